@@ -1,0 +1,20 @@
+//! What every other crate stands on: bytes and texts, the kinds of fault and their order, the encoding of a
+//! file, the classes of bytes, and the one meaning of "longest viable prefix" that all grammars share.
+#![tactic(auto)]
+
+mod classes;
+mod encoding;
+mod faults;
+mod memory;
+mod prefixes;
+mod texts;
+
+pub use classes::{is_digit, is_run, is_space};
+pub use encoding::{base_of, utf8_fault};
+pub use faults::{Fault, FaultKind, first_fault};
+pub use memory::Memory;
+pub use prefixes::Taken;
+pub use texts::{Bytes, Span, Word};
+
+#[cfg(test)]
+mod tests;
