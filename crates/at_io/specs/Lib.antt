@@ -1,0 +1,7 @@
+pub mod Counts
+pub mod Files
+pub mod NamedFiles
+pub mod MemShelves
+pub mod Sinks
+pub mod PutFails
+pub mod MemSinks

@@ -1,0 +1,126 @@
+ghost use Rattle.std.specs.Prelude.{◌≡◌, ◌≤◌, length, IfOk};
+ghost use Rattle.at_io.specs.Counts.{Rose};
+
+use crate::counts;
+use crate::shelf::{Failed, Shelf};
+use std::fs;
+use std::io::Read;
+use std::rt::Files;
+
+/// The name under which the shelf has the standard input.
+const INPUT_NAME: &str = "@in";
+
+/// What is read now.
+#[derive(Drop)]
+enum Source<F, I> {
+    Nothing,
+    File(F),
+    Input(I),
+}
+
+/// A shelf over the files of the disk and, under the name `@in`, the standard input. It tells no content: what
+/// the system gives can't be known. What std's calls refuse is a fault.
+#[derive(Drop)]
+pub struct DiskShelf<'r, R: Files + Input> {
+    rt: &'r R,
+    source: Source<R::File, R::Reader>,
+    taken: u64,
+    begins: u64,
+    broken: u64,
+    faults: u64,
+}
+
+impl<'r, R: Files + Input> DiskShelf<'r, R> {
+    /// A shelf over the runtime's files, of which nothing is begun yet.
+    pub fn new(rt: &'r R) -> Self
+        ensures taken { result.taken ≡ 0 }
+        ensures begins { result.begins ≡ 0 }
+        ensures broken { result.broken ≡ 0 }
+        ensures faults { result.faults ≡ 0 }
+    {
+        DiskShelf {
+            rt,
+            source: Source::Nothing,
+            taken: 0,
+            begins: 0,
+            broken: 0,
+            faults: 0,
+        }
+    }
+
+    /// Counts a fault.
+    fn fail(&mut self) -> Failed
+        ensures faults { Rose self.old.faults self.new.faults }
+        ensures counted { self.old.faults ≤ self.new.faults }
+        ensures broken { self.new.broken ≡ self.new.begins }
+        ensures begins { self.new.begins ≡ self.old.begins }
+        ensures taken { self.new.taken ≡ self.old.taken }
+    {
+        self.faults = counts::next(self.faults);
+        self.broken = self.begins;
+        Failed
+    }
+}
+
+impl<F: Read, I: Read> Source<F, I> {
+    /// Reads as std's `read`; nothing is at its end.
+    fn read(&mut self, room: &mut [u8]) -> std::io::Result<usize>
+        ensures bound { IfOk result (λ n. n ≤ length room.new) }
+    {
+        match self {
+            Source::Nothing => Ok(0),
+            Source::File(file) => file.read(room),
+            Source::Input(input) => input.read(room),
+        }
+    }
+}
+
+impl<R: Files + Input> Shelf for DiskShelf<'_, R> {
+    ghost use Rattle.std.specs.Prelude.{None};
+
+    ghost files = { λ _. None };
+
+    ghost left = { λ _. None };
+
+    ghost taken = { λ s. s.taken };
+
+    ghost begins = { λ s. s.begins };
+
+    ghost named = { λ _. None };
+
+    ghost broken = { λ s. s.broken };
+
+    ghost faults = { λ s. s.faults };
+
+    fn begin(&mut self, name: &str) -> Result<(), Failed> {
+        self.begins = counts::next(self.begins);
+        if name == INPUT_NAME {
+            self.source = Source::Input(self.rt.reader());
+            return Ok(());
+        }
+        match fs::open(self.rt, name) {
+            Ok(file) => {
+                self.source = Source::File(file);
+                Ok(())
+            }
+            Err(_) => {
+                self.source = Source::Nothing;
+                Err(self.fail())
+            }
+        }
+    }
+
+    fn read(&mut self, room: &mut [u8]) -> Result<usize, Failed> {
+        if self.begins == 0 {
+            return Ok(0);
+        }
+        let Ok(given) = self.source.read(room) else {
+            return Err(self.fail());
+        };
+        let Some(taken) = self.taken.checked_add(given as u64) else {
+            return Err(self.fail());
+        };
+        self.taken = taken;
+        Ok(given)
+    }
+}

@@ -1,0 +1,26 @@
+//! Where bytes come from and where they go: shelves of files and sinks, each with its content where it tells
+//! that, and with a count of its own faults, so that a call that answers `Failed` has a cause that it can't make up.
+//!
+//! `MemShelf` and `MemSink` tell all that they hold and fail where they are told to. `DiskShelf` and `StdSink`
+//! stand over the real files and streams, of which nothing can be proved but the counts.
+#![tactic(auto)]
+
+mod counts;
+mod disk;
+mod mem_shelf;
+mod mem_sink;
+mod shelf;
+mod sink;
+mod streams;
+mod whole;
+
+pub use disk::DiskShelf;
+pub use mem_shelf::{MemShelf, NamedFile};
+pub use mem_sink::{MemSink, PutFail};
+pub use shelf::{Failed, Shelf};
+pub use sink::Sink;
+pub use streams::StdSink;
+pub use whole::{LARGEST_FILE, ReadError, TURN, read_whole};
+
+#[cfg(test)]
+mod tests;
