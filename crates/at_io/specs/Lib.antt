@@ -1,4 +1,5 @@
 pub mod Counts
+pub mod Distinct
 pub mod Files
 pub mod NamedFiles
 pub mod MemShelves

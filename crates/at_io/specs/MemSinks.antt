@@ -1,5 +1,5 @@
 -- What a sink in memory holds, and what its puts keep.
-use Rattle.std.specs.Prelude.{◌⊎◌, ℕ, ◌-◌, ◌<◌, ◌==◌, min, if◌then◌else◌, List, [], ◌∷◌, length, vec_len, Option, Some, None, IsSome, unwrap_or, map}
+use Rattle.std.specs.Prelude.{◌⊎◌, ℕ, ◌-◌, ◌<◌, min, List, length, vec_len, IsSome, unwrap_or}
 use Rattle.at_io.specs.declared.mem_sink.PutFail.{PutFail}
 use Rattle.at_io.specs.PutFails.{limit_at}
 use Rattle.at_io.specs.declared.mem_sink.MemSink.{MemSink}

@@ -1,5 +1,5 @@
 ghost use Rattle.std.specs.Prelude.{false, ◌≡◌, ◌+◌, ◌^◌, ◌<◌, ◌≤◌, ◌↔◌, ℕ, [], length, take, drop, map, None, Some, slice_get, Contains, IsOk, IsErr, IfOk, OnOk, OnErr, IfSome, MatchOption, IsTrue, bytes_eq};
-ghost use Rattle.std.specs.List.{IsDistinct};
+ghost use Rattle.at_io.specs.Distinct.{all_differ};
 ghost use Rattle.at_io.specs.Counts.{next_count, last_count, Rose};
 ghost use Rattle.at_io.specs.Files.{bytes_named, name_among};
 ghost use Rattle.at_io.specs.NamedFiles.{entries_of};
@@ -41,7 +41,7 @@ impl MemShelf {
     /// A shelf with these files, whose names differ, whose calls of the listed numbers fail, and each read of
     /// which gives at most `piece` bytes.
     pub fn new(files: Vec<NamedFile>, fails: Vec<u32>, piece: u32) -> Self
-        requires names { IsDistinct bytes_eq (map (λ (f : _). f.name) files.items) }
+        requires names { IsTrue (all_differ bytes_eq (map (λ (f : _). f.name) files.items)) }
         requires piece { 1 ≤ piece }
         ensures files { files_of result ≡ entries_of files.items }
         ensures fails { failing_calls result ≡ fails.items }

@@ -1,5 +1,5 @@
 ghost use Rattle.std.specs.Prelude.{◌≡◌, ◌+◌, ◌-◌, ◌<◌, ◌≤◌, ◌↔◌, ◌++◌, ℕ, [], length, take, map, None, Some, vec_len, vec_capacity, IfOk, IsErr, MatchOption, nat_eq, IsTrue};
-ghost use Rattle.std.specs.List.{IsDistinct};
+ghost use Rattle.at_io.specs.Distinct.{all_differ};
 ghost use Rattle.at_io.specs.Counts.{next_count};
 ghost use Rattle.at_io.specs.PutFails.{limit_at};
 
@@ -47,7 +47,7 @@ impl MemSink {
 
     /// A sink with room for so many bytes, of whose puts the listed ones fail. The numbers listed differ.
     pub fn new(alloc: Global, room: u32, fails: Vec<PutFail>) -> Result<Self, Memory>
-        requires { IsDistinct nat_eq (map (λ (f : _). f.call) fails.items) }
+        requires { IsTrue (all_differ nat_eq (map (λ (f : _). f.call) fails.items)) }
         ensures empty { IfOk result (λ s. written_of s ≡ []) }
         ensures room { IfOk result (λ s. room_left s ≡ room) }
         ensures fails { IfOk result (λ s. failing_puts s ≡ fails.items) }
