@@ -1,0 +1,42 @@
+-- The ends that a run can come to before anything is written.
+use Rattle.std.specs.Prelude.{◌≡◌, ◌⊎◌, ℕ, List, [], Option, Some, IfSome, string_bytes}
+use Rattle.at_io.specs.Files.{Files}
+use Rattle.at_cli.specs.Outcomes.{Outcome, outcome_of}
+use Rattle.at_cli.specs.Texts.{usage_line, fault_line, read_line, size_line, memory_line}
+use Rattle.at_cli.specs.declared.ending.Ending.{Ending}
+use Rattle.at_cli.specs.declared.ending.Ending.TheVariants.{Usage, Faulty, ReadFailed, TooLarge, NoMemory, Answered}
+
+-- the status of the end, if an answer can be written
+abbrev pub status_of : Ending → ℕ
+status_of (Answered text) = 0
+status_of (Faulty name fault) = 1
+status_of Usage = 2
+status_of (ReadFailed name) = 3
+status_of NoMemory = 5
+status_of (TooLarge name) = 6
+
+-- what goes to the output
+abbrev pub text_of : Ending → List ℕ
+text_of (Answered text) = string_bytes text
+text_of _ = []
+
+-- what goes to the error output
+abbrev pub line_of : Ending → List ℕ
+line_of (Answered text) = []
+line_of (Faulty name fault) = fault_line name.now fault
+line_of Usage = usage_line
+line_of (ReadFailed name) = read_line name.now
+line_of NoMemory = memory_line
+line_of (TooLarge name) = size_line name.now
+
+-- the outcome that the end stands for
+abbrev pub outcome_by : Ending → Outcome
+outcome_by e = record { status = status_of e; out = text_of e; err = line_of e }
+
+-- the end is the outcome over the bytes of a file, but for want of memory
+abbrev pub EndsFile : Outcome → Ending → Type 0
+EndsFile outcome e = (status_of e ≡ 5) ⊎ (outcome ≡ outcome_by e)
+
+-- the end is the outcome over the words and the files where these are told, but for a failed shelf and want of memory
+abbrev pub EndsRun : List (List ℕ) → Option Files → Ending → Type 0
+EndsRun words files e = (status_of e ≡ 3) ⊎ ((status_of e ≡ 5) ⊎ IfSome files (λ told. outcome_of words told ≡ Some (outcome_by e)))

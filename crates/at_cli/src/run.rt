@@ -1,0 +1,134 @@
+ghost use Rattle.std.specs.Prelude.{◌≡◌, ◌≢◌, ◌⊎◌, ◌+◌, ◌≤◌, ◌^◌, ◌↔◌, ℕ, List, length, map, Option, Some, None, IfSome, string_bytes};
+ghost use Rattle.at_io.specs.Counts.{Rose};
+ghost use Rattle.at_io.specs.Sinks.{Grows, GrowsByPrefix};
+ghost use Rattle.at_wkt.specs.PlainPoints.{count_of};
+ghost use Rattle.at_cli.specs.Words.{accepted_name as name_accepted};
+ghost use Rattle.at_cli.specs.Texts.{usage_line, read_line, write_line, memory_line};
+ghost use Rattle.at_cli.specs.Outcomes.{Outcome, stopped, answered, counted_outcome, outcome_of};
+ghost use Rattle.at_cli.specs.Telling.{Tells};
+ghost use Rattle.at_cli.specs.Failures.{FailedOn};
+ghost use Rattle.at_cli.specs.Endings.{status_of, text_of, line_of, outcome_by, EndsFile, EndsRun};
+
+use crate::ending::Ending;
+use crate::lines::{put_pieces, tell_line, tell_write_failed};
+use crate::words::accepted_name;
+use at_io::{ReadError, Shelf, Sink, read_whole};
+use at_wkt::count_points;
+use std::alloc::Global;
+
+/// The end over the bytes of the file of that name, which are within the limit.
+fn count_file<'w>(alloc: Global, name: &'w str, bytes: &[u8]) -> Ending<'w>
+    requires { length bytes.now ≤ 2 ^ 28 }
+    ensures outcome { EndsFile (counted_outcome name.now (count_of bytes.now)) result }
+    ensures read { status_of result ≢ 3 }
+{
+    match count_points(bytes) {
+        Ok(count) => match format!(in alloc; "{count}\n") {
+            Ok(text) => Ending::Answered(text),
+            Err(_) => Ending::NoMemory,
+        },
+        Err(fault) => Ending::Faulty(name, fault),
+    }
+}
+
+/// The end over the words and the shelf, with its cause.
+fn decide<'w, S: Shelf>(alloc: Global, words: &'w [String], shelf: &mut S) -> Ending<'w>
+    ensures outcome { EndsRun (map string_bytes words.now) (S.files shelf.old) result }
+    ensures usage { (status_of result ≡ 2) ↔ (name_accepted (map string_bytes words.now) ≡ None) }
+    ensures untouched { status_of result ≡ 2 → shelf.new ≡ shelf.old }
+    ensures failed { status_of result ≡ 3 → (name : List ℕ) × (name_accepted (map string_bytes words.now) ≡ Some name) × (line_of result ≡ read_line name)
+        × FailedOn name (S.files shelf.old) (S.faults shelf.old) (S.faults shelf.new) (S.begins shelf.old) (S.begins shelf.new) (S.broken shelf.new) (S.named shelf.new) }
+    ensures large { status_of result ≡ 6 → S.taken shelf.old + (2 ^ 28 + 1) ≤ S.taken shelf.new }
+    ensures same_files { S.files shelf.new ≡ S.files shelf.old }
+{
+    let Some(name) = accepted_name(words) else {
+        return Ending::Usage;
+    };
+    match read_whole(alloc, shelf, name) {
+        Ok(bytes) => count_file(alloc, name, &bytes),
+        Err(ReadError::Failed) => Ending::ReadFailed(name),
+        Err(ReadError::TooLarge) => Ending::TooLarge(name),
+        Err(ReadError::Memory) => Ending::NoMemory,
+    }
+}
+
+/// Writes what the end says, and answers the status.
+fn tell<O: Sink, E: Sink>(ending: &Ending<'_>, out: &mut O, err: &mut E) -> u8
+    ensures status { (result ≡ status_of ending.now) ⊎ ((result ≡ 4) × (status_of ending.now ≡ 0)) }
+    ensures answered { result ≡ 0 → Grows (O.written out.old) (O.written out.new) (text_of ending.now) × (err.new ≡ err.old) }
+    ensures write_failed { result ≡ 4 → Rose (O.faults out.old) (O.faults out.new) × GrowsByPrefix (O.written out.old) (O.written out.new) (text_of ending.now)
+        × Tells (E.faults err.old) (E.faults err.new) (E.written err.old) (E.written err.new) write_line }
+    ensures told { result ≢ 0 → result ≢ 4 → (out.new ≡ out.old) × Tells (E.faults err.old) (E.faults err.new) (E.written err.old) (E.written err.new) (line_of ending.now) }
+{
+    if let Ending::Answered(text) = ending {
+        if put_pieces(out, text.as_bytes()).is_ok() {
+            return 0;
+        }
+        tell_write_failed(err);
+        return 4;
+    }
+    tell_line(err, ending);
+    ending.status()
+}
+
+/// Runs the program over the words behind its name: reads what they ask for from the shelf, writes the answer to
+/// `out` or one line to `err`, and answers the status.
+///
+/// | Status | Comes |
+/// |---|---|
+/// | 0 | the answer is written |
+/// | 1 | the file has a fault |
+/// | 2 | exactly where the words are refused |
+/// | 3 | only where the shelf failed on the file |
+/// | 4 | only where the output failed |
+/// | 5 | want of memory |
+/// | 6 | the file has more than 2^28 bytes |
+///
+/// What is said of content holds where the shelf tells its files and the sinks what is written.
+pub fn top<R, S: Shelf, O: Sink, E: Sink>(
+    _rt: &R,
+    alloc: Global,
+    words: &[String],
+    shelf: &mut S,
+    out: &mut O,
+    err: &mut E,
+) -> u8
+    ensures status { result ≤ 6 }
+
+    // 0: the answer of the words and the files is written, and nothing else.
+    ensures answered { result ≡ 0 → (text : List ℕ) × Grows (O.written out.old) (O.written out.new) text × (err.new ≡ err.old)
+        × IfSome (S.files shelf.old) (λ told. outcome_of (map string_bytes words.now) told ≡ Some (answered text)) }
+
+    // 1 and 6: the line of the words and the files is told.
+    ensures stopped { ((result ≡ 1) ⊎ (result ≡ 6)) → (line : List ℕ) × Tells (E.faults err.old) (E.faults err.new) (E.written err.old) (E.written err.new) line
+        × IfSome (S.files shelf.old) (λ told. outcome_of (map string_bytes words.now) told ≡ Some (stopped result line)) }
+    ensures too_large { result ≡ 6 → S.taken shelf.old + (2 ^ 28 + 1) ≤ S.taken shelf.new }
+
+    // 2: exactly where the words are refused, want of memory aside; nothing is read.
+    ensures refused { result ≡ 2 → (name_accepted (map string_bytes words.now) ≡ None) × (shelf.new ≡ shelf.old)
+        × Tells (E.faults err.old) (E.faults err.new) (E.written err.old) (E.written err.new) usage_line }
+    ensures refuses { name_accepted (map string_bytes words.now) ≡ None → (result ≡ 2) ⊎ (result ≡ 5) }
+
+    // 3: only where the shelf failed on the file that the words name.
+    ensures read_failed { result ≡ 3 → (name : List ℕ) × (name_accepted (map string_bytes words.now) ≡ Some name)
+        × FailedOn name (S.files shelf.old) (S.faults shelf.old) (S.faults shelf.new) (S.begins shelf.old) (S.begins shelf.new) (S.broken shelf.new) (S.named shelf.new)
+        × Tells (E.faults err.old) (E.faults err.new) (E.written err.old) (E.written err.new) (read_line name) }
+
+    // 4: only where the output failed on the answer, of which a prefix is written.
+    ensures write_failed { result ≡ 4 → (text : List ℕ) × Rose (O.faults out.old) (O.faults out.new) × GrowsByPrefix (O.written out.old) (O.written out.new) text
+        × Tells (E.faults err.old) (E.faults err.new) (E.written err.old) (E.written err.new) write_line
+        × IfSome (S.files shelf.old) (λ told. outcome_of (map string_bytes words.now) told ≡ Some (answered text)) }
+
+    // 5: want of memory.
+    ensures no_memory { result ≡ 5 → Tells (E.faults err.old) (E.faults err.new) (E.written err.old) (E.written err.new) memory_line }
+
+    // The output is as before but for an answer, and the status is that of the words and the files, but for a
+    // failed shelf, a failed output and want of memory.
+    ensures same_out { result ≢ 0 → result ≢ 4 → out.new ≡ out.old }
+    ensures same_files { S.files shelf.new ≡ S.files shelf.old }
+    ensures complete { (result ≡ 5) ⊎ (Rose (S.faults shelf.old) (S.faults shelf.new) ⊎ (Rose (O.faults out.old) (O.faults out.new)
+        ⊎ IfSome (S.files shelf.old) (λ told. (outcome : Outcome) × (outcome_of (map string_bytes words.now) told ≡ Some outcome) × (result ≡ outcome.status)))) }
+{
+    let ending = decide(alloc, words, shelf);
+    tell(&ending, out, err)
+}

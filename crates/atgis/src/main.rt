@@ -1,0 +1,45 @@
+//! The program `atgis`: its words, the disk and the standard streams, handed to the top call.
+#![tactic(auto)]
+
+use at_cli::{tell_no_memory, top};
+use at_io::{DiskShelf, StdSink};
+use std::process::ExitCode;
+use std::rt::{Env, Files};
+use std::{env, io, process};
+
+/// The words behind the program's name.
+fn words<R: Env + AllocGlobal>(rt: &R) -> io::Result<Vec<String>> {
+    let mut words = Vec::new(rt.alloc());
+    for word in env::args(rt)?.skip(1) {
+        words.push(word)?;
+    }
+    Ok(words)
+}
+
+/// Runs the program over the runtime's files, its standard input, and two streams. Words that are no UTF-8 are
+/// refused as no words are.
+fn run<R: Env + Files + Input + AllocGlobal, O: Print + Drop, E: Print + Drop>(
+    rt: &R,
+    out: O,
+    err: E,
+) -> u8 {
+    let mut out = StdSink::new(out);
+    let mut err = StdSink::new(err);
+    let words = match words(rt) {
+        Ok(words) => words,
+        Err(error) if error.kind() == io::ErrorKind::InvalidData => Vec::new(rt.alloc()),
+        Err(_) => return tell_no_memory(&mut err),
+    };
+    top(
+        rt,
+        rt.alloc(),
+        &words,
+        &mut DiskShelf::new(rt),
+        &mut out,
+        &mut err,
+    )
+}
+
+fn main(rt: HostRuntime) -> ExitCode {
+    ExitCode::from(run(&rt, rt.stdout(), rt.stderr()))
+}
