@@ -48,3 +48,16 @@ calls_of s = s.calls
 -- the most bytes that one read gives
 abbrev pub piece_of : MemShelf → ℕ
 piece_of s = s.piece
+
+-- its counts: of bytes given, of begins, of the begins at the last failure, of failures
+abbrev pub taken_of : MemShelf → ℕ
+taken_of s = s.taken
+
+abbrev pub begins_of : MemShelf → ℕ
+begins_of s = s.begins
+
+abbrev pub broken_of : MemShelf → ℕ
+broken_of s = s.broken
+
+abbrev pub faults_of : MemShelf → ℕ
+faults_of s = s.faults

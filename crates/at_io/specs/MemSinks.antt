@@ -26,3 +26,7 @@ PutFails s piece = IsSome (limit_at (failing_puts s) s.puts) ⊎ (room_left s < 
 -- how many puts there were
 abbrev pub puts_of : MemSink → ℕ
 puts_of s = s.puts
+
+-- how often it has failed
+abbrev pub faults_of : MemSink → ℕ
+faults_of s = s.faults

@@ -33,10 +33,10 @@ pub struct DiskShelf<'r, R: Files + Input> {
 impl<'r, R: Files + Input> DiskShelf<'r, R> {
     /// A shelf over the runtime's files, of which nothing is begun yet.
     pub fn new(rt: &'r R) -> Self
-        ensures taken { result.taken ≡ 0 }
-        ensures begins { result.begins ≡ 0 }
-        ensures broken { result.broken ≡ 0 }
-        ensures faults { result.faults ≡ 0 }
+        ensures taken { ⟦<DiskShelf<'r, R> as Shelf>⟧.taken result ≡ 0 }
+        ensures begins { ⟦<DiskShelf<'r, R> as Shelf>⟧.begins result ≡ 0 }
+        ensures broken { ⟦<DiskShelf<'r, R> as Shelf>⟧.broken result ≡ 0 }
+        ensures faults { ⟦<DiskShelf<'r, R> as Shelf>⟧.faults result ≡ 0 }
     {
         DiskShelf {
             rt,

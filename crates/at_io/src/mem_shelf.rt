@@ -123,33 +123,33 @@ impl Shelf for MemShelf {
     ghost use Rattle.std.specs.Prelude.{◌≡◌, ◌+◌, ◌<◌, ◌≤◌, ◌↔◌, [], length, take, drop, Some, IsSome, IsErr, IfOk, OnOk, OnErr};
     ghost use Rattle.at_io.specs.Counts.{next_count, Rose};
     ghost use Rattle.at_io.specs.Files.{bytes_named, name_among};
-    ghost use Rattle.at_io.specs.MemShelves.{files_of, failing_calls, left_of, named_of, calls_of, piece_of, given_of, BeginFails, ReadFails};
+    ghost use Rattle.at_io.specs.MemShelves.{files_of, failing_calls, left_of, named_of, calls_of, piece_of, given_of, taken_of, begins_of, broken_of, faults_of, BeginFails, ReadFails};
 
     ghost files = { λ s. Some (files_of s) };
 
     ghost left = { λ s. Some (left_of s) };
 
-    ghost taken = { λ s. s.taken };
+    ghost taken = { taken_of };
 
-    ghost begins = { λ s. s.begins };
+    ghost begins = { begins_of };
 
-    ghost named = { λ s. named_of s };
+    ghost named = { named_of };
 
-    ghost broken = { λ s. s.broken };
+    ghost broken = { broken_of };
 
-    ghost faults = { λ s. s.faults };
+    ghost faults = { faults_of };
 
     fn begin(&mut self, name: &str) -> Result<(), Failed>
         ensures ok { OnOk result (IsSome (bytes_named (files_of self.old) name.now) × (Some (left_of self.new) ≡ bytes_named (files_of self.old) name.now)) }
         ensures named { named_of self.new ≡ name_among (files_of self.old) name.now }
-        ensures begins { self.new.begins ≡ next_count self.old.begins }
-        ensures failed { OnErr result (Rose self.old.faults self.new.faults) }
-        ensures broken { OnErr result (self.new.broken ≡ self.new.begins) }
+        ensures begins { begins_of self.new ≡ next_count (begins_of self.old) }
+        ensures failed { OnErr result (Rose (faults_of self.old) (faults_of self.new)) }
+        ensures broken { OnErr result (broken_of self.new ≡ begins_of self.new) }
         ensures nothing_left { OnErr result (left_of self.new ≡ []) }
-        ensures unbroken { OnOk result (self.new.broken ≡ self.old.broken) }
+        ensures unbroken { OnOk result (broken_of self.new ≡ broken_of self.old) }
         ensures same_files { files_of self.new ≡ files_of self.old }
-        ensures same_taken { self.new.taken ≡ self.old.taken }
-        ensures counted { self.old.faults ≤ self.new.faults }
+        ensures same_taken { taken_of self.new ≡ taken_of self.old }
+        ensures counted { faults_of self.old ≤ faults_of self.new }
 
         // Exactly when it fails, and what else stays.
         ensures cause { IsErr result ↔ BeginFails self.old name.now }
@@ -173,16 +173,16 @@ impl Shelf for MemShelf {
         ensures bound { IfOk result (λ n. n ≤ length room.new) }
         ensures bytes { IfOk result (λ n. (take n room.new ≡ take n (left_of self.old)) × (Some (left_of self.new) ≡ Some (drop n (left_of self.old)))) }
         ensures end { IfOk result (λ n. 0 < length room.new → (n ≡ 0) ↔ (left_of self.old ≡ [])) }
-        ensures unbegun { IfOk result (λ n. self.old.begins ≡ 0 → n ≡ 0) }
-        ensures taken { IfOk result (λ n. self.new.taken ≡ self.old.taken + n) }
-        ensures failed { OnErr result (Rose self.old.faults self.new.faults) }
-        ensures broken { OnErr result (self.new.broken ≡ self.new.begins) }
-        ensures untaken { OnErr result (self.new.taken ≡ self.old.taken) }
-        ensures unbroken { OnOk result (self.new.broken ≡ self.old.broken) }
+        ensures unbegun { IfOk result (λ n. begins_of self.old ≡ 0 → n ≡ 0) }
+        ensures taken { IfOk result (λ n. taken_of self.new ≡ taken_of self.old + n) }
+        ensures failed { OnErr result (Rose (faults_of self.old) (faults_of self.new)) }
+        ensures broken { OnErr result (broken_of self.new ≡ begins_of self.new) }
+        ensures untaken { OnErr result (taken_of self.new ≡ taken_of self.old) }
+        ensures unbroken { OnOk result (broken_of self.new ≡ broken_of self.old) }
         ensures same_files { files_of self.new ≡ files_of self.old }
-        ensures same_begins { self.new.begins ≡ self.old.begins }
+        ensures same_begins { begins_of self.new ≡ begins_of self.old }
         ensures same_named { named_of self.new ≡ named_of self.old }
-        ensures counted { self.old.faults ≤ self.new.faults }
+        ensures counted { faults_of self.old ≤ faults_of self.new }
 
         // Exactly when it fails, how many bytes it gives, and what else stays.
         ensures cause { IsErr result ↔ ReadFails self.old (length room.old) }

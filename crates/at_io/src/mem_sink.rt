@@ -75,17 +75,17 @@ impl Sink for MemSink {
     ghost use Rattle.std.specs.Prelude.{Some, ◌-◌, ◌≡◌, ◌↔◌, ◌++◌, ◌≤◌, ◌<◌, take, OnOk, OnErr, IsErr};
     ghost use Rattle.at_io.specs.Counts.{next_count, Rose};
     ghost use Rattle.at_io.specs.Sinks.{Grows, GrowsByPrefix};
-    ghost use Rattle.at_io.specs.MemSinks.{written_of, failing_puts, puts_of, kept_length, PutFails, room_left};
+    ghost use Rattle.at_io.specs.MemSinks.{written_of, failing_puts, puts_of, faults_of, kept_length, PutFails, room_left};
 
     ghost written = { λ s. Some (written_of s) };
 
-    ghost faults = { λ s. s.faults };
+    ghost faults = { faults_of };
 
     fn put(&mut self, piece: &[u8]) -> Result<(), Failed>
         ensures ok { OnOk result (Grows (Some (written_of self.old)) (Some (written_of self.new)) piece.now) }
-        ensures failed { OnErr result (Rose self.old.faults self.new.faults) }
+        ensures failed { OnErr result (Rose (faults_of self.old) (faults_of self.new)) }
         ensures kept { OnErr result (GrowsByPrefix (Some (written_of self.old)) (Some (written_of self.new)) piece.now) }
-        ensures counted { self.old.faults ≤ self.new.faults }
+        ensures counted { faults_of self.old ≤ faults_of self.new }
 
         // Exactly when it fails, and what it keeps then.
         ensures cause { IsErr result ↔ PutFails self.old piece.now }

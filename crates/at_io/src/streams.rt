@@ -15,7 +15,7 @@ pub struct StdSink<P> {
 impl<P: Print> StdSink<P> {
     /// A sink over the stream, with no fault so far.
     pub fn new(stream: P) -> Self
-        ensures { result.faults ≡ 0 }
+        ensures { ⟦<StdSink<P> as Sink>⟧.faults result ≡ 0 }
     {
         StdSink { stream, faults: 0 }
     }

@@ -105,6 +105,7 @@ fn files_of_the_disk(rt: HostRuntime) -> Result<(), Fail> {
     for name in [path.as_str(), folder, ""] {
         assert!(rt; read_whole(rt.alloc(), &mut shelf, name).is_err(), "{name}");
     }
+    assert_eq!(rt; shelf.begin("@in"), Ok(()), "the standard input");
     Ok(())
 }
 
