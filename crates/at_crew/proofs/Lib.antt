@@ -1,0 +1,18 @@
+mod Tree
+mod Above
+mod Sums
+mod Claims
+mod Turns
+mod Firsts
+mod Seconds
+mod Roots
+mod Deposits
+mod Hires
+mod Opens
+mod Closes
+mod Pairs
+mod Told
+pub mod Powers
+mod Leaves
+mod Rows
+mod Rising

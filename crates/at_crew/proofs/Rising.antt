@@ -1,0 +1,51 @@
+-- A pass's numbers rise: what it claimed is at most its last number, and less than the next.
+use Rattle.std.proofs.Common.{◌≡◌, ◌∙◌, ℕ, ◌+◌, ◌-◌, ◌<◌, ◌≤◌, List, [], ◌∷◌, ◌++◌, All, Option, Some, None, refl, ap, sym, subst, ⊎_elim, arith}
+use Rattle.std.proofs.lemmas.List.Elements.{All-push}
+use Rattle.atomic_table.specs.Table.{Me, Step}
+use Rattle.at_crew.specs.declared.view.View.{View}
+use Rattle.at_crew.specs.declared.view.View.TheVariants.{Spent, Climbs, Leads}
+use Rattle.at_crew.specs.Steps.{ClaimTells}
+use Rattle.at_crew.specs.Views.{claimed, last_of, adds, rests}
+use Rattle.at_crew.proofs.Deposits.{me_of}
+
+-- how many numbers below k are above the last one
+abbrev pub left_to : ℕ → Option ℕ → ℕ
+left_to k None = k + 1
+left_to k (Some n) = k - n
+
+module _ {P F : Type 0} (count : F → ℕ) (s : Step (Option P)) (m : List (ℕ × Option P)) (n : ℕ) (w' : Me (Option P) (View F)) where
+  pub claim_last : (w : View F) → ClaimTells count s (w, m) n w' → (x : ℕ) → last_of w ≡ Some x → x < n
+  claim_last Spent told = absurd told
+  claim_last (Climbs v) told = told.2
+  claim_last (Leads h) told = absurd told
+
+  pub claim_below : (w : View F) → ClaimTells count s (w, m) n w' → n < s.slots → claimed w'.0 ≡ claimed w ++ n ∷ []
+  claim_below Spent told lt = absurd told
+  claim_below (Climbs v) told lt = ⊎_elim (λ y. ap (λ q. claimed q.0) y.1) (λ y. absurd (omega (arith, y.0, lt))) told.3
+  claim_below (Leads h) told lt = absurd told
+
+  pub claim_past : (w : View F) → ClaimTells count s (w, m) n w' → s.slots ≤ n → claimed w'.0 ≡ claimed w
+  claim_past Spent told le = absurd told
+  claim_past (Climbs v) told le = ⊎_elim (λ y. absurd (omega (arith, y.0, le))) (λ y. ap (λ q. claimed q.0) y.1) told.3
+  claim_past (Leads h) told le = absurd told
+
+-- all are less than what is more than the last
+pub all_less : (last : Option ℕ) (cs : List ℕ) (n : ℕ) → ((x : ℕ) → last ≡ Some x → All (λ m. m ≤ x) cs) → (last ≡ None → cs ≡ []) → ((x : ℕ) → last ≡ Some x → x < n) → All (λ m. m < n) cs
+all_less None cs n rising none more = subst (All (λ m. m < n)) (sym (none refl)) (λ k d lt. absurd (omega (arith, lt)))
+all_less (Some x) cs n rising none more = λ k d lt. (let a = rising x refl k d lt in let b = more x refl in omega (arith, a, b))
+
+pub all_at_most : (n : ℕ) (cs : List ℕ) → All (λ m. m < n) cs → All (λ m. m ≤ n) cs
+all_at_most n cs all = λ k d lt. (let a = all k d lt in omega (arith, a))
+
+-- the claimed number joins those below it
+pub rises_with : (n : ℕ) (cs cs' : List ℕ) → All (λ m. m < n) cs → cs' ≡ cs ++ n ∷ [] → All (λ m. m ≤ n) cs'
+rises_with n cs cs' all e = subst (All (λ m. m ≤ n)) (sym e) (All-push (λ m. m ≤ n) cs n (all_at_most n cs all) (omega arith))
+
+-- what settles a part claims nothing
+pub settled_same : {P F : Type 0} (old put new : Me (Option P) (View F)) (ns : List ℕ) {slots : List (ℕ × Option P)} → put ≡ me_of old.0 slots → new.0 ≡ adds ns (rests put.0) → claimed new.0 ≡ claimed old.0
+settled_same {F = F} old put new ns e e' = ap claimed e' ∙ adds_none_claimed ns put.0 ∙ ap (λ m. claimed m.0) e
+  where
+    adds_none_claimed : (ns : List ℕ) (w : View F) → claimed (adds ns (rests w)) ≡ claimed w
+    adds_none_claimed ns Spent = refl
+    adds_none_claimed ns (Climbs v) = refl
+    adds_none_claimed ns (Leads h) = refl
