@@ -11,7 +11,7 @@ import measure
 GOAL = 1.5
 WORKERS = (1, 2, 4)
 WORK = (("no work", 600, 0), ("10 microseconds of work", 15, 5000))
-ROUNDS = 15
+ROUNDS = 11
 
 
 def runs():
