@@ -1,0 +1,4 @@
+mod Examples
+pub mod FixedLaws
+pub mod NumberMachine
+pub mod NumeralParts
