@@ -1,5 +1,7 @@
 mod Examples
+pub mod DigitParts
 pub mod FixedLaws
 pub mod NumberMachine
 pub mod NumeralParts
 pub mod Quotients
+pub mod Sizes

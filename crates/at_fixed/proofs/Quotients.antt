@@ -12,16 +12,16 @@ use Rattle.at_fixed.specs.Fixed.{largest, exact_quotient, nearest, rounded_quoti
 
 -- ---- tests
 
-lt_true : (a b : ℕ) → a < b → nat_lt a b ≡ true
+pub lt_true : (a b : ℕ) → a < b → nat_lt a b ≡ true
 lt_true a b h = grind (arith, h)
 
-lt_false : (a b : ℕ) → b ≤ a → nat_lt a b ≡ false
+pub lt_false : (a b : ℕ) → b ≤ a → nat_lt a b ≡ false
 lt_false a b h = grind (arith, h)
 
-eq_true : (a b : ℕ) → a ≡ b → (a == b) ≡ true
+pub eq_true : (a b : ℕ) → a ≡ b → (a == b) ≡ true
 eq_true a b h = grind (arith, h)
 
-eq_false : (a b : ℕ) → a ≢ b → (a == b) ≡ false
+pub eq_false : (a b : ℕ) → a ≢ b → (a == b) ≡ false
 eq_false a b h = grind (arith, h)
 
 positive_rest : (r : ℕ) → (r == 0) ≡ false → 0 < r

@@ -1,3 +1,5 @@
 pub mod Numerals
 pub mod Fixed
 pub mod States
+pub mod Kept
+pub mod Decimals

@@ -1,3 +1,8 @@
+ghost use Rattle.std.specs.Prelude.{◌≡◌, ℕ, ◌+◌, ◌^◌, ◌<◌, ◌≤◌, Bool, true, false, nat_lt, length, slice_index};
+ghost use Rattle.at_text.specs.Texts.{is_digit as digit_test};
+ghost use Rattle.at_fixed.specs.Numerals.{AreDigits};
+ghost use Rattle.at_fixed.specs.Kept.{part, digits_behind, Keeps, SameOrHuge};
+
 use at_text::is_digit;
 
 /// A further digit is kept while the digits kept so far are below this.
@@ -23,7 +28,19 @@ pub struct DigitsRun {
 }
 
 /// Reads digits while there is room to keep them.
-fn keep_digits(text: &[u8], from: usize, before: u64) -> (usize, u64) {
+fn keep_digits(text: &[u8], from: usize, before: u64) -> (usize, u64)
+    requires from_within { from ≤ length text.now }
+    requires before_fits { before < 10 ^ 19 }
+    ensures order { from ≤ result.0 }
+    ensures within { result.0 ≤ length text.now }
+    ensures digits { AreDigits (part text.now from result.0) }
+    ensures value { result.1 ≡ digits_behind before (part text.now from result.0) }
+    ensures fits { result.1 < 10 ^ 19 }
+    ensures stops {
+        result.0 < length text.now → digit_test (slice_index text.now result.0) ≡ true → 10 ^ 18 ≤ result.1
+    }
+    ensures full { 10 ^ 18 ≤ before → result.0 ≡ from }
+{
     let mut kept = before;
     let mut end = from;
     while end < text.len() && is_digit(text[end]) && kept < FULL {
@@ -34,7 +51,16 @@ fn keep_digits(text: &[u8], from: usize, before: u64) -> (usize, u64) {
 }
 
 /// Passes over digits, and tells whether one of them is other than 0.
-fn drop_digits(text: &[u8], from: usize, before: bool) -> (usize, bool) {
+fn drop_digits(text: &[u8], from: usize, before: bool) -> (usize, bool)
+    requires { from ≤ length text.now }
+    ensures order { from ≤ result.0 }
+    ensures within { result.0 ≤ length text.now }
+    ensures digits { AreDigits (part text.now from result.0) }
+    ensures stops { result.0 < length text.now → digit_test (slice_index text.now result.0) ≡ false }
+    ensures cut {
+        (rest : ℕ) → before ≡ nat_lt 0 rest → result.1 ≡ nat_lt 0 (digits_behind rest (part text.now from result.0))
+    }
+{
     let mut is_cut = before;
     let mut end = from;
     while end < text.len() && is_digit(text[end]) {
@@ -45,7 +71,22 @@ fn drop_digits(text: &[u8], from: usize, before: bool) -> (usize, bool) {
 }
 
 /// Reads the digits that stand at an offset, behind the digits read before.
-pub fn read_digits(text: &[u8], from: usize, before: Digits) -> DigitsRun {
+pub fn read_digits(text: &[u8], from: usize, before: Digits) -> DigitsRun
+    requires from_within { from ≤ length text.now }
+    requires before_fits { before.kept < 10 ^ 19 }
+    requires before_dropped { before.dropped ≤ from }
+    ensures order { from ≤ result.end }
+    ensures within { result.end ≤ length text.now }
+    ensures digits { AreDigits (part text.now from result.end) }
+    ensures stops { result.end < length text.now → digit_test (slice_index text.now result.end) ≡ false }
+    ensures fits { result.digits.kept < 10 ^ 19 }
+    ensures dropped { result.digits.dropped ≤ result.end }
+    ensures keeps {
+        (m : ℕ) → Keeps before.kept before.dropped before.is_cut m
+            → Keeps result.digits.kept result.digits.dropped result.digits.is_cut
+                (digits_behind m (part text.now from result.end))
+    }
+{
     let (stop, kept) = keep_digits(text, from, before.kept);
     let (end, is_cut) = drop_digits(text, stop, before.is_cut);
     DigitsRun {
@@ -60,7 +101,15 @@ pub fn read_digits(text: &[u8], from: usize, before: Digits) -> DigitsRun {
 
 /// Where the digits of an exponent end, and the number that they spell; one too large is told as some number
 /// of at least `HUGE`.
-pub fn read_power(text: &[u8], from: usize) -> (usize, u64) {
+pub fn read_power(text: &[u8], from: usize) -> (usize, u64)
+    requires { from ≤ length text.now }
+    ensures order { from ≤ result.0 }
+    ensures within { result.0 ≤ length text.now }
+    ensures digits { AreDigits (part text.now from result.0) }
+    ensures stops { result.0 < length text.now → digit_test (slice_index text.now result.0) ≡ false }
+    ensures size { SameOrHuge result.1 (digits_behind 0 (part text.now from result.0)) }
+    ensures fits { result.1 < 2 ^ 40 }
+{
     let mut size = 0;
     let mut end = from;
     while end < text.len() && is_digit(text[end]) {
