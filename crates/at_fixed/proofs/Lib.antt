@@ -3,5 +3,7 @@ pub mod DigitParts
 pub mod FixedLaws
 pub mod NumberMachine
 pub mod NumeralParts
+pub mod Phases
+pub mod Points
 pub mod Quotients
 pub mod Sizes

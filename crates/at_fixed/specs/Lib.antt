@@ -2,4 +2,5 @@ pub mod Numerals
 pub mod Fixed
 pub mod States
 pub mod Kept
+pub mod Scans
 pub mod Decimals

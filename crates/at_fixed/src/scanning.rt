@@ -1,33 +1,39 @@
+ghost use Rattle.std.specs.Prelude.{◌≡◌, ℕ, ◌^◌, ◌<◌, ◌≤◌, ◌&&◌, ◌||◌, IsTrue, length, take};
+ghost use Rattle.at_text.specs.Prefix.{TakesLongest};
+ghost use Rattle.at_fixed.specs.Numerals.{Numeral, numeral_text, IsNumeralOf, NumberOf};
+ghost use Rattle.at_fixed.specs.Scans.{ReadsSign, ReadsLead, ReadsWhole, ReadsMantissa, ReadsPower, may_take_point, is_wkt};
+ghost use Rattle.at_fixed.specs.Decimals.{IsDecimalOf};
+
 use crate::digits::{Digits, DigitsRun, read_digits, read_power};
 use crate::notation::Notation;
 
-/// A sign or none at the beginning of a number or of an exponent's digits.
+/// A sign or none, before a number or before an exponent's digits.
 #[derive(Clone, Copy)]
-struct Sign {
-    end: usize,
-    is_minus: bool,
+pub struct Sign {
+    pub end: usize,
+    pub is_minus: bool,
 }
 
-/// A number up to its exponent.
+/// A number up to its exponent: where it ends, whether a number may end there, and what it is so far.
 #[derive(Clone, Copy)]
-struct Mantissa {
-    end: usize,
-    is_number: bool,
-    is_minus: bool,
-    digits: Digits,
-    fraction: usize,
+pub struct Mantissa {
+    pub end: usize,
+    pub is_number: bool,
+    pub is_minus: bool,
+    pub digits: Digits,
+    pub fraction: usize,
 }
 
-/// A number's exponent, where it has one.
+/// An exponent, or nothing where there is none: where it ends, and whether a number may end there.
 #[derive(Clone, Copy)]
-struct Power {
-    end: usize,
-    is_number: bool,
-    is_minus: bool,
-    size: u64,
+pub struct Power {
+    pub end: usize,
+    pub is_number: bool,
+    pub is_minus: bool,
+    pub size: u64,
 }
 
-/// A number as the fraction `digits * 10^up / 10^down`.
+/// A number as `kept * 10^up / 10^down`, where `is_cut` says that further digits of it aren't 0.
 #[derive(Clone, Copy)]
 pub struct Decimal {
     pub is_minus: bool,
@@ -45,13 +51,17 @@ pub struct Scanned {
     pub decimal: Decimal,
 }
 
-fn read_sign(text: &[u8], from: usize, has_plus: bool) -> Sign {
+/// Reads the sign that a number may have at an offset.
+fn read_sign(text: &[u8], from: usize, notation: Notation) -> Sign
+    requires { from ≤ length text.now }
+    ensures { ReadsSign notation text.now from result }
+{
     if from < text.len() && text[from] == b'-' {
         Sign {
             end: from + 1,
             is_minus: true,
         }
-    } else if from < text.len() && text[from] == b'+' && has_plus {
+    } else if from < text.len() && text[from] == b'+' && matches!(notation, Notation::Wkt) {
         Sign {
             end: from + 1,
             is_minus: false,
@@ -64,52 +74,89 @@ fn read_sign(text: &[u8], from: usize, has_plus: bool) -> Sign {
     }
 }
 
-const NO_DIGITS: Digits = Digits {
-    kept: 0,
-    dropped: 0,
-    is_cut: false,
-};
-
 /// Reads the digits before the point. In JSON a 0 at their beginning stands alone.
-fn read_whole(text: &[u8], from: usize, notation: Notation) -> DigitsRun {
-    if notation == Notation::Json && from < text.len() && text[from] == b'0' {
+fn read_lead(text: &[u8], from: usize, notation: Notation) -> DigitsRun
+    requires { from ≤ length text.now }
+    ensures { ReadsLead notation text.now from result }
+{
+    let none = Digits {
+        kept: 0,
+        dropped: 0,
+        is_cut: false,
+    };
+    if matches!(notation, Notation::Json) && from < text.len() && text[from] == b'0' {
         DigitsRun {
             end: from + 1,
-            digits: NO_DIGITS,
+            digits: none,
         }
     } else {
-        read_digits(text, from, NO_DIGITS)
+        read_digits(text, from, none)
     }
 }
 
-fn read_mantissa(text: &[u8], notation: Notation) -> Mantissa {
-    let sign = read_sign(text, 0, notation == Notation::Wkt);
-    let whole = read_whole(text, sign.end, notation);
-    let is_led = sign.end < whole.end;
-    if whole.end < text.len() && text[whole.end] == b'.' && (is_led || notation == Notation::Wkt) {
-        let point = whole.end + 1;
-        let fraction = read_digits(text, point, whole.digits);
-        Mantissa {
-            end: fraction.end,
-            is_number: point < fraction.end || (is_led && notation == Notation::Wkt),
-            is_minus: sign.is_minus,
-            digits: fraction.digits,
-            fraction: fraction.end - point,
-        }
-    } else {
-        Mantissa {
-            end: whole.end,
-            is_number: is_led,
-            is_minus: sign.is_minus,
-            digits: whole.digits,
-            fraction: 0,
-        }
+/// Reads the sign and the digits before the point.
+fn read_whole(text: &[u8], notation: Notation) -> Mantissa
+    ensures { ReadsWhole notation text.now result }
+{
+    let sign = read_sign(text, 0, notation);
+    let lead = read_lead(text, sign.end, notation);
+    Mantissa {
+        end: lead.end,
+        is_number: sign.end < lead.end,
+        is_minus: sign.is_minus,
+        digits: lead.digits,
+        fraction: 0,
     }
 }
 
-fn read_exponent(text: &[u8], from: usize, is_number: bool) -> Power {
-    if is_number && from < text.len() && (text[from] == b'e' || text[from] == b'E') {
-        let sign = read_sign(text, from + 1, true);
+/// Whether a point stands behind the digits and may stand there.
+fn has_point(text: &[u8], whole: Mantissa, notation: Notation) -> bool
+    ensures { result ≡ may_take_point notation text.now whole }
+{
+    whole.end < text.len() && text[whole.end] == b'.'
+        && (whole.is_number || matches!(notation, Notation::Wkt))
+}
+
+/// Whether a number may end behind a point, where digits stand on either side of it or not.
+fn may_end(has_fraction: bool, has_whole: bool, notation: Notation) -> bool
+    ensures { result ≡ (has_fraction || (has_whole && is_wkt notation)) }
+{
+    has_fraction || (has_whole && matches!(notation, Notation::Wkt))
+}
+
+/// Reads the point, and the digits behind it.
+fn read_fraction(text: &[u8], whole: Mantissa, notation: Notation) -> Mantissa
+    requires reads { ReadsWhole notation text.now whole }
+    requires point { IsTrue (may_take_point notation text.now whole) }
+    ensures { ReadsMantissa notation text.now result }
+{
+    let point = whole.end + 1;
+    let fraction = read_digits(text, point, whole.digits);
+    Mantissa {
+        end: fraction.end,
+        is_number: may_end(point < fraction.end, whole.is_number, notation),
+        is_minus: whole.is_minus,
+        digits: fraction.digits,
+        fraction: fraction.end - point,
+    }
+}
+
+/// Reads a number up to its exponent.
+fn read_mantissa(text: &[u8], notation: Notation) -> Mantissa
+    ensures { ReadsMantissa notation text.now result }
+{
+    let whole = read_whole(text, notation);
+    if has_point(text, whole, notation) { read_fraction(text, whole, notation) } else { whole }
+}
+
+/// Reads the exponent that a number may have.
+fn read_exponent(text: &[u8], mantissa: Mantissa) -> Power
+    requires { mantissa.end ≤ length text.now }
+    ensures { ReadsPower text.now mantissa result }
+{
+    let from = mantissa.end;
+    if mantissa.is_number && from < text.len() && (text[from] == b'e' || text[from] == b'E') {
+        let sign = read_sign(text, from + 1, Notation::Wkt);
         let (end, size) = read_power(text, sign.end);
         Power {
             end,
@@ -120,17 +167,30 @@ fn read_exponent(text: &[u8], from: usize, is_number: bool) -> Power {
     } else {
         Power {
             end: from,
-            is_number,
+            is_number: mantissa.is_number,
             is_minus: false,
             size: 0,
         }
     }
 }
 
-pub fn scan(text: &[u8], notation: Notation) -> Scanned {
+/// Reads the number that begins a text.
+pub fn scan(text: &[u8], notation: Notation) -> Scanned
+    requires { length text.now ≤ 2 ^ 28 }
+    ensures taken {
+        TakesLongest (NumberOf notation) text.now (record { len = result.len; whole = result.is_number })
+    }
+    ensures value {
+        IsTrue result.is_number → (n : Numeral) × IsNumeralOf notation n
+            × (take result.len text.now ≡ numeral_text n) × IsDecimalOf result.decimal n
+    }
+    ensures small { result.decimal.up < 2 ^ 50 }
+    ensures fits { result.decimal.kept < 10 ^ 19 }
+{
     let front = read_mantissa(text, notation);
-    let power = read_exponent(text, front.end, front.is_number);
-    let (above, below) = if power.is_minus { (0, power.size) } else { (power.size, 0) };
+    let power = read_exponent(text, front);
+    let above = if power.is_minus { 0 } else { power.size };
+    let below = if power.is_minus { power.size } else { 0 };
     Scanned {
         len: power.end,
         is_number: power.is_number,
