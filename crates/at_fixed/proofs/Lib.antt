@@ -1,5 +1,6 @@
 mod Examples
 pub mod DigitParts
+pub mod Endings
 pub mod FixedLaws
 pub mod NumberMachine
 pub mod NumeralParts

@@ -24,10 +24,10 @@ and_after : (a b : Bool) → a ≡ true → (a && b) ≡ false → b ≡ false
 and_after true b h k = k
 and_after false b h k = absurd (true≢false (sym h))
 
-lt_true : (a b : ℕ) → a < b → nat_lt a b ≡ true
+pub lt_true : (a b : ℕ) → a < b → nat_lt a b ≡ true
 lt_true a b h = grind (arith, h)
 
-from_lt : (a b : ℕ) → nat_lt a b ≡ true → a < b
+pub from_lt : (a b : ℕ) → nat_lt a b ≡ true → a < b
 from_lt a b h = grind (arith, h)
 
 from_eq : (a b : ℕ) → (a == b) ≡ true → a ≡ b
@@ -107,7 +107,7 @@ record Behind (g : Notation) (w : List ℕ) (end : ℕ) (is_number : Bool) : Typ
   ends : accepts state ≡ is_number
   next : end < length w → step g state (slice_index w end) ≡ after_mantissa is_number (slice_index w end)
 
-not_above : (i : ℕ) → nat_lt i i ≡ false
+pub not_above : (i : ℕ) → nat_lt i i ≡ false
 not_above i = grind arith
 
 behind_by : (g : Notation) (w : List ℕ) (i end : ℕ) (led : Bool) → Reads g w i (after_point g led) → i ≤ end → end ≤ length w → AreDigits (part w i end)
@@ -131,7 +131,14 @@ behind_by g w i end led r order within digits stops = elim (cases_lt i end) [
       }))
 ]
 
-some_digits : (ds : List ℕ) → AreDigits ds → 0 < length ds → AreSomeDigits ds
+point_text : (w : List ℕ) (e : ℕ) (s ws fs t : List ℕ) → e < length w → slice_index w e ≡ 0x2E → take e w ≡ s ++ ws → t ≡ take (e + 1) w ++ fs
+    → t ≡ s ++ (ws ++ (0x2E ∷ fs))
+point_text w e s ws fs t h byte text k =
+    let next : take (e + 1) w ≡ (s ++ ws) ++ (0x2E ∷ []) = (rw (add-one e, take-suc w e 0 h, text, byte) refl) in
+    let all : ((s ++ ws) ++ (0x2E ∷ [])) ++ fs ≡ s ++ (ws ++ (0x2E ∷ fs)) = append_assoc (s ++ ws) (0x2E ∷ []) fs ∙ append_assoc s ws (0x2E ∷ fs) in
+    k ∙ (ap (λ x. x ++ fs) next ∙ all)
+
+pub some_digits : (ds : List ℕ) → AreDigits ds → 0 < length ds → AreSomeDigits ds
 some_digits [] h k = absurd (omega arith)
 some_digits (d ∷ ds) h k = h
 
@@ -172,7 +179,7 @@ fraction_by g w whole run is_number h may order within digits stops fits dropped
         sign = h.sign;
         whole = h.whole;
         fraction = Some fs;
-        text = ?;
+        text = point_text w whole.end h.sign h.whole fs (take run.end w) inside byte h.text (part-place w (whole.end + 1) run.end order);
         is_front = point_front g whole.is_number (nat_lt (whole.end + 1) run.end) h.sign h.whole fs h.sign_is h.whole_is digits led_test
             (λ some. some_digits fs digits (omega (arith, count, from_lt (whole.end + 1) run.end some))) (sym e ∙ ok);
         minus = h.minus;

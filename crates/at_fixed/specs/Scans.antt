@@ -78,8 +78,7 @@ IsFrontOf Json sign whole fraction = IsAtMostOneOf (0x2D ∷ []) sign × IsJsonW
 IsFrontOf Wkt sign whole fraction = IsAtMostOneOf (0x2B ∷ 0x2D ∷ []) sign × AreWktDigits whole fraction
 
 abbrev pub digits_of : Option (List ℕ) → List ℕ
-digits_of None = []
-digits_of (Some digits) = digits
+digits_of fraction = elim fraction [ None ↦ [] | Some digits ↦ digits ]
 
 -- what is read of a number before its exponent
 pub record IsMantissaOf (notation : Notation) (w : List ℕ) (read : Mantissa) : Type 0 where

@@ -1,4 +1,4 @@
-ghost use Rattle.std.specs.Prelude.{◌≡◌, ℕ, ◌^◌, ◌<◌, ◌≤◌, ◌&&◌, ◌||◌, IsTrue, length, take};
+ghost use Rattle.std.specs.Prelude.{◌≡◌, ℕ, ◌^◌, ◌<◌, ◌≤◌, ◌&&◌, ◌||◌, IsTrue, if◌then◌else◌, length, take};
 ghost use Rattle.at_text.specs.Prefix.{TakesLongest};
 ghost use Rattle.at_fixed.specs.Numerals.{Numeral, numeral_text, IsNumeralOf, NumberOf};
 ghost use Rattle.at_fixed.specs.Scans.{ReadsSign, ReadsLead, ReadsWhole, ReadsMantissa, ReadsPower, may_take_point, is_wkt};
@@ -174,6 +174,20 @@ fn read_exponent(text: &[u8], mantissa: Mantissa) -> Power
     }
 }
 
+/// The exponent where it is 0 or above, else 0.
+fn size_above(power: Power) -> u64
+    ensures { result ≡ (if power.is_minus then 0 else power.size) }
+{
+    if power.is_minus { 0 } else { power.size }
+}
+
+/// The size of the exponent where it is below 0, else 0.
+fn size_below(power: Power) -> u64
+    ensures { result ≡ (if power.is_minus then power.size else 0) }
+{
+    if power.is_minus { power.size } else { 0 }
+}
+
 /// Reads the number that begins a text.
 pub fn scan(text: &[u8], notation: Notation) -> Scanned
     requires { length text.now ≤ 2 ^ 28 }
@@ -189,8 +203,6 @@ pub fn scan(text: &[u8], notation: Notation) -> Scanned
 {
     let front = read_mantissa(text, notation);
     let power = read_exponent(text, front);
-    let above = if power.is_minus { 0 } else { power.size };
-    let below = if power.is_minus { power.size } else { 0 };
     Scanned {
         len: power.end,
         is_number: power.is_number,
@@ -198,8 +210,8 @@ pub fn scan(text: &[u8], notation: Notation) -> Scanned
             is_minus: front.is_minus,
             kept: front.digits.kept,
             is_cut: front.digits.is_cut,
-            up: front.digits.dropped + above,
-            down: front.fraction as u64 + below,
+            up: front.digits.dropped + size_above(power),
+            down: front.fraction as u64 + size_below(power),
         },
     }
 }
