@@ -155,3 +155,72 @@ value_by g w read p e up down small h m q text u d =
       few_dropped = omega (arith, h.dropped, h.reads.fits, small);
       few_digits = omega (arith, m.count, h.count, h.reads.fits, small);
     })
+
+no_power : (p : Power) → p.is_minus ≡ false → p.size ≡ 0 → IsPowerOf p None
+no_power p m s = record { is_exponent = tt; above = rw (m, s) (inl refl); below = rw (m) (inl refl) }
+
+-- the sign of an exponent
+record IsExponentSign (w : List ℕ) (i : ℕ) (sign : Sign) : Type 0 where
+  is_sign : IsAtMostOneOf (0x2B ∷ 0x2D ∷ []) (part w i sign.end)
+  minus : sign.is_minus ≡ has_minus (part w i sign.end)
+  order : i ≤ sign.end
+
+or_false : (b : Bool) → (b || false) ≡ b
+or_false true = refl
+or_false false = refl
+
+sign_by : (w : List ℕ) (i : ℕ) (sign : Sign) → i ≤ length w → ReadsSign Wkt w i sign → IsExponentSign w i sign
+sign_by w i sign inside (inl (e, m, h)) =
+    let none : part w i sign.end ≡ [] = ap (part w i) e ∙ part-none w i inside in
+    record { is_sign = rw none tt; minus = rw (none, m) refl; order = omega (arith, e) }
+sign_by w i sign inside (inr (e, more, h, m)) =
+    let one : part w i sign.end ≡ slice_index w i ∷ [] =
+        ap (part w i) e ∙ (part-more w i i (omega arith) more ∙ ap (λ x. x ++ (slice_index w i ∷ [])) (part-none w i inside)) in
+    record { is_sign = rw one h; minus = rw (one, m) (sym (or_false (slice_index w i == 0x2D))); order = omega (arith, e) }
+
+above_same : (m k : Bool) (size v : ℕ) → m ≡ k → SameOrHuge size v → SameOrHuge (cond m 0 size) (cond k 0 v)
+above_same true k size v e h = let P : Bool → Type 0 = λ b. SameOrHuge 0 (cond b 0 v) in subst P e (inl refl)
+above_same false k size v e h = let P : Bool → Type 0 = λ b. SameOrHuge size (cond b 0 v) in subst P e h
+
+below_same : (m k : Bool) (size v : ℕ) → m ≡ k → SameOrHuge size v → SameOrHuge (cond m size 0) (cond k v 0)
+below_same true k size v e h = let P : Bool → Type 0 = λ b. SameOrHuge size (cond b v 0) in subst P e h
+below_same false k size v e h = let P : Bool → Type 0 = λ b. SameOrHuge 0 (cond b v 0) in subst P e (inl refl)
+
+-- the exponent that is read at a place
+abbrev exponent_at : List ℕ → ℕ → Sign → Power → Exponent
+exponent_at w from sign p = record { letter = slice_index w from; sign = part w (from + 1) sign.end; digits = part w sign.end p.end }
+
+power_by : (w : List ℕ) (from : ℕ) (p : Power) (x : ReadsExponent w from p) → IsTrue p.is_number → IsPowerOf p (Some (exponent_at w from x.sign p))
+power_by w from p x e =
+    let sign = sign_by w (from + 1) x.sign (omega (arith, x.inside)) x.reads_sign in
+    let minus : p.is_minus ≡ has_minus (part w (from + 1) x.sign.end) = x.minus ∙ sign.minus in
+    let some : x.sign.end < p.end = from_lt x.sign.end p.end (sym x.ends ∙ e) in
+    record {
+      is_exponent = record {
+        letter = x.letter;
+        sign = sign.is_sign;
+        digits = some_digits (part w x.sign.end p.end) x.digits (omega (arith, part-length w x.sign.end p.end x.order x.within, some));
+      };
+      above = above_same p.is_minus (has_minus (part w (from + 1) x.sign.end)) p.size (digits_value (part w x.sign.end p.end)) minus x.size;
+      below = below_same p.is_minus (has_minus (part w (from + 1) x.sign.end)) p.size (digits_value (part w x.sign.end p.end)) minus x.size;
+    }
+
+exponent_place : (w : List ℕ) (from : ℕ) (p : Power) (x : ReadsExponent w from p)
+    → take p.end w ≡ take from w ++ (slice_index w from ∷ (part w (from + 1) x.sign.end ++ part w x.sign.end p.end))
+exponent_place w from p x =
+    let sign = sign_by w (from + 1) x.sign (omega (arith, x.inside)) x.reads_sign in
+    let b : ℕ = slice_index w from in let s : List ℕ = part w (from + 1) x.sign.end in let d : List ℕ = part w x.sign.end p.end in
+    let one : take (from + 1) w ≡ take from w ++ (b ∷ []) = (rw (add-one from, take-suc w from 0 x.inside) refl) in
+    let two : take x.sign.end w ≡ (take from w ++ (b ∷ [])) ++ s = part-place w (from + 1) x.sign.end sign.order ∙ ap (λ y. y ++ s) one in
+    part-place w x.sign.end p.end x.order ∙ (ap (λ y. y ++ d) two
+    ∙ (append_assoc (take from w ++ (b ∷ [])) s d ∙ append_assoc (take from w) (b ∷ []) (s ++ d)))
+
+pub read_value : (g : Notation) (w : List ℕ) (read : Mantissa) (p : Power) (up down : ℕ) → length w ≤ 2 ^ 28 → ReadsMantissa g w read → ReadsPower w read p
+    → up ≡ read.digits.dropped + cond p.is_minus 0 p.size → down ≡ read.fraction + cond p.is_minus p.size 0
+    → IsTrue p.is_number → Value g w read p up down
+read_value g w read p up down small h k u d e = elim k.cases [
+  | inl n ↦ value_by g w read p None up down small h (h.parts (sym n.ends ∙ e)) (no_power p n.minus n.size)
+      (ap (λ i. take i w) n.same ∙ sym (append-nil (take read.end w))) u d
+  | inr (led, x) ↦ value_by g w read p (Some (exponent_at w read.end x.sign p)) up down small h (h.parts led) (power_by w read.end p x e)
+      (exponent_place w read.end p x) u d
+]

@@ -1,11 +1,11 @@
 -- The value of a number's text in units of 10 ^ -digits, and the text of a value.
-use Rattle.std.specs.Prelude.{ℕ, zero, suc, ◌+◌, ◌*◌, ◌/◌, ◌%◌, ◌^◌, ℤ, pos, negsuc, neg_ℤ, Bool, nat_lt, ◌==◌, if◌then◌else◌, List, [], ◌∷◌, ◌++◌, length, Option, Some, None, Result, Ok, Err, decimal}
+use Rattle.std.specs.Prelude.{◌≡◌, ℕ, zero, suc, ◌+◌, ◌*◌, ◌/◌, ◌%◌, ◌^◌, ℤ, pos, negsuc, neg_ℤ, Bool, nat_lt, ◌==◌, if◌then◌else◌, List, [], ◌∷◌, ◌++◌, length, Option, Some, None, Result, Ok, Err, decimal}
 use Rattle.std.specs.List.{list_any}
 use Rattle.at_fixed.specs.declared.rounding.Coords.{Coords}
 use Rattle.at_fixed.specs.declared.rounding.Coords.TheVariants.{Exact, Round}
 use Rattle.at_fixed.specs.declared.rounding.FixedFault.{FixedFault}
 use Rattle.at_fixed.specs.declared.rounding.FixedFault.TheVariants.{Scale, Range}
-use Rattle.at_fixed.specs.Numerals.{Exponent, Numeral, digits_value}
+use Rattle.at_fixed.specs.Numerals.{Exponent, Numeral, SpellsNumeral, digits_value}
 
 abbrev pub fraction_digits : Numeral → List ℕ
 fraction_digits n = elim n.fraction [ None ↦ [] | Some digits ↦ digits ]
@@ -58,6 +58,13 @@ signed minus (Err fault) = Err fault
 abbrev pub fixed_of : Numeral → ℕ → Coords → Result ℤ FixedFault
 fixed_of n digits how = signed (has_minus n.sign)
     (size_of how (mantissa n) (digits + exponent_above n.exponent) (length (fraction_digits n) + exponent_below n.exponent))
+
+-- the answer is the value of the one number that the text spells
+pub record IsFixedOf (text : List ℕ) (digits : ℕ) (how : Coords) (answer : Result ℤ FixedFault) : Type 0 where
+  pub numeral : Numeral
+  pub spelled : SpellsNumeral text numeral
+  pub only : (other : Numeral) → SpellsNumeral text other → other ≡ numeral
+  pub value : answer ≡ fixed_of numeral digits how
 
 -- the last count digits of a number
 abbrev pub last_digits : ℕ → ℕ → List ℕ

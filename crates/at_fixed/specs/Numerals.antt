@@ -89,6 +89,10 @@ abbrev pub NumberOf : Notation → List ℕ → Type 0
 NumberOf Json text = JsonNumber text
 NumberOf Wkt text = WktNumber text
 
+-- the text is the spelling of the number, which is one of JSON or of WKT
+abbrev pub SpellsNumeral : List ℕ → Numeral → Type 0
+SpellsNumeral text n = (IsJsonNumeral n ⊎ IsWktNumeral n) × (text ≡ numeral_text n)
+
 -- the number that decimal digits spell
 abbrev pub digits_value : List ℕ → ℕ
 digits_value digits = fold (λ n d. 10 * n + (d - 0x30)) 0 digits
