@@ -6,5 +6,6 @@ pub mod NumberMachine
 pub mod NumeralParts
 pub mod Phases
 pub mod Points
+pub mod PowersOfTen
 pub mod Quotients
 pub mod Sizes

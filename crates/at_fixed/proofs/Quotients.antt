@@ -1,6 +1,6 @@
 -- The whole number of a fraction, exact or rounded, found from a part of its digits: what is left of them only has to be known
 -- to be nothing or not.
-use Rattle.std.proofs.Common.{◌≡◌, ◌≢◌, ℕ, ◌+◌, ◌-◌, ◌*◌, ◌/◌, ◌%◌, ◌^◌, ◌<◌, ◌≤◌, ◌⊎◌, inl, inr, Bool, true, false, cond, nat_lt, ◌==◌, ◌||◌, ◌&&◌, not, Result, Ok, Err, refl, sym, ◌∙◌, ap, subst, arith, mod-lt, lit<}
+use Rattle.std.proofs.Common.{◌≡◌, ◌≢◌, ℕ, ◌+◌, ◌-◌, ◌*◌, ◌/◌, ◌%◌, ◌^◌, ◌<◌, ◌≤◌, ◌⊎◌, inl, inr, Bool, true, false, cond, nat_lt, ◌==◌, ◌||◌, ◌&&◌, not, Result, Ok, Err, refl, sym, ◌∙◌, ap, subst, arith, mod-lt, div-add-mod', lit<}
 use Rattle.std.proofs.lemmas.Nat.{div-mul-add, mod-mul-add, mul-add-lt, le-div}
 use Rattle.std.proofs.lemmas.Bool.{cases_order, cases_lt, cases_eq}
 use Rattle.std.proofs.Math.Nat.{mul-le-mul_right, mul_comm}
@@ -181,3 +181,57 @@ rounded_near d r half D R cut h k e =
     rw e (rounded_by ((d * (2 * half) + r) * D + R) (2 * half * D) (cond (nat_lt half r || ((r == half) && (nat_lt 0 R || (d % 2 == 1)))) (d + 1) d)
         (rw p (nearest_by (d * q + rest) q d rest (nat_lt half r || ((r == half) && nat_lt 0 R)) ((r == half) && not (nat_lt 0 R)) (split_at d q rest below) (over_by half r D R k) (tie_by half r D R k)
         ∙ chosen (nat_lt half r) (r == half) (nat_lt 0 R) (d % 2 == 1) d (d % 2) (parity d))))
+
+some_of : (r D R : ℕ) → R < D → (nat_lt 0 R || nat_lt 0 r) ≡ nat_lt 0 (r * D + R)
+some_of r D R h = elim (cases_eq R 0) [
+  | inl none ↦ elim (cases_eq r 0) [
+    | inl zero ↦ (let all : 0 * D + 0 ≡ 0 = omega arith in rw (none, zero, all) refl)
+    | inr some ↦ (let positive : 0 < r = omega arith in let least : 1 * D ≤ r * D = mul-le-mul_right D positive in
+        rw (lt_true 0 r positive, lt_true 0 (r * D + R) (omega (arith, least, h)), none) refl)
+  ]
+  | inr some ↦ (let positive : 0 < R = omega arith in rw (lt_true 0 R positive, lt_true 0 (r * D + R) (omega (arith, positive))) refl)
+]
+
+divided : (K Q D R : ℕ) → K * D + R ≡ (K / Q) * (Q * D) + ((K % Q) * D + R)
+divided K Q D R =
+    let split : K ≡ K / Q * Q + K % Q = sym (div-add-mod' K Q) in
+    ap (λ n. n * D + R) split ∙ grind arith
+
+rest_fits : (K Q D R : ℕ) → 0 < Q → R < D → (K % Q) * D + R < Q * D
+rest_fits K Q D R positive h = subst (λ n. (K % Q) * D + R < n) (mul_comm D Q) (mul-add-lt (K % Q) D R Q (mod-lt K positive) h)
+
+-- the exact number of a fraction from the quotient of what is kept of it
+pub reduced_exact : (K Q D R : ℕ) (cut : Bool) → 0 < Q → R < D → cut ≡ nat_lt 0 R
+    → exact_quotient (K * D + R) (Q * D)
+    ≡ (let some = cut || nat_lt 0 (K % Q) in cond (nat_lt largest (K / Q) || ((K / Q == largest) && some)) (Err Range) (cond some (Err Scale) (Ok (K / Q))))
+reduced_exact K Q D R cut positive h e =
+    let some : (cut || nat_lt 0 (K % Q)) ≡ nat_lt 0 ((K % Q) * D + R) = ap (λ b. b || nat_lt 0 (K % Q)) e ∙ some_of (K % Q) D R h in
+    ap (λ n. exact_quotient n (Q * D)) (divided K Q D R)
+    ∙ exact_near (K / Q) (Q * D) ((K % Q) * D + R) (cut || nat_lt 0 (K % Q)) (rest_fits K Q D R positive h) some
+
+reduced_half : (K half D R : ℕ) (cut : Bool) → 0 < half → R < D → cut ≡ nat_lt 0 R
+    → rounded_quotient (K * D + R) (2 * half * D)
+    ≡ (let Q = 2 * half in let n = cond (nat_lt half (K % Q) || ((K % Q == half) && (cut || ((K / Q) % 2 == 1)))) (K / Q + 1) (K / Q) in
+      cond (nat_lt largest n) (Err Range) (Ok n))
+reduced_half K half D R cut positive h e =
+    let Q : ℕ = 2 * half in let some : 0 < 2 * half = omega arith in
+    let split : K ≡ K / Q * Q + K % Q = sym (div-add-mod' K Q) in
+    ap (λ n. rounded_quotient (n * D + R) (2 * half * D)) split
+    ∙ rounded_near (K / Q) (K % Q) half D R cut (mod-lt K some) h e
+
+-- the number nearest to a fraction from the quotient of what is kept of it
+pub reduced_rounded : (K Q half D R : ℕ) (cut : Bool) → 2 * half ≡ Q → 0 < half → R < D → cut ≡ nat_lt 0 R
+    → rounded_quotient (K * D + R) (Q * D)
+    ≡ (let n = cond (nat_lt half (K % Q) || ((K % Q == half) && (cut || ((K / Q) % 2 == 1)))) (K / Q + 1) (K / Q) in
+      cond (nat_lt largest n) (Err Range) (Ok n))
+reduced_rounded K Q half D R cut same positive h e =
+    let P : ℕ → Type 0 = λ q. rounded_quotient (K * D + R) (q * D)
+        ≡ (let n = cond (nat_lt half (K % q) || ((K % q == half) && (cut || ((K / q) % 2 == 1)))) (K / q + 1) (K / q) in cond (nat_lt largest n) (Err Range) (Ok n)) in
+    subst P same (reduced_half K half D R cut positive h e)
+
+-- a quotient is below a number exactly where the whole product is
+pub beyond : (most p k : ℕ) → 0 < p → most / p < k → most < k * p
+beyond most p k positive h = elim (cases_lt most (k * p)) [
+  | inl less ↦ less
+  | inr more ↦ absurd (omega (arith, le-div k most p positive more, h))
+]

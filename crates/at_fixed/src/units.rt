@@ -105,6 +105,13 @@ fn vanishing(how: Coords) -> Result<u64, FixedFault>
     }
 }
 
+/// Whether something is left of a number behind its whole part.
+fn is_partial(rest: u64, is_cut: bool) -> bool
+    ensures { result ≡ (is_cut || nat_lt 0 rest) }
+{
+    is_cut || rest > 0
+}
+
 /// `kept / 10^shift` as a whole number of units, where `is_cut` says that further digits follow those of `kept`.
 fn reduced(kept: u64, is_cut: bool, shift: u64, how: Coords) -> Result<u64, FixedFault>
     requires fits { kept < 10 ^ 19 }
@@ -123,7 +130,7 @@ fn reduced(kept: u64, is_cut: bool, shift: u64, how: Coords) -> Result<u64, Fixe
     let whole = kept / power;
     let rest = kept % power;
     match how {
-        Coords::Exact => exact(whole, is_cut || rest != 0),
+        Coords::Exact => exact(whole, is_partial(rest, is_cut)),
         Coords::Round => rounded(whole, rest, power / 2, is_cut),
     }
 }
