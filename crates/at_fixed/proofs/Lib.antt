@@ -9,3 +9,4 @@ pub mod Points
 pub mod PowersOfTen
 pub mod Quotients
 pub mod Sizes
+pub mod Spelled

@@ -59,10 +59,17 @@ pub fn leading_number(text: &[u8], notation: Notation, digits: u8, how: Coords) 
     ensures value { IfSome result.value (λ value. IsFixedOf (take result.len text.now) digits how value) }
 {
     let scanned = scan(text, notation);
-    let value = if scanned.is_number { Some(value_of(scanned.decimal, digits, how)) } else { None };
-    LeadingNumber {
-        len: scanned.len as u32,
-        value,
+    let len = scanned.len as u32;
+    if scanned.is_number {
+        LeadingNumber {
+            len,
+            value: Some(value_of(scanned.decimal, digits, how)),
+        }
+    } else {
+        LeadingNumber {
+            len,
+            value: None,
+        }
     }
 }
 
