@@ -10,3 +10,4 @@ pub mod PowersOfTen
 pub mod Quotients
 pub mod Sizes
 pub mod Spelled
+pub mod Written

@@ -5,13 +5,16 @@
 mod digits;
 mod notation;
 mod numbers;
+mod powers;
 mod rounding;
 mod scanning;
 mod units;
+mod writing;
 
 pub use notation::Notation;
 pub use numbers::{LeadingNumber, json_number, leading_number, read_fixed, wkt_number};
 pub use rounding::{Coords, FixedFault};
+pub use writing::write_fixed;
 
 #[cfg(test)]
 mod tests;

@@ -3,43 +3,12 @@ ghost use Rattle.at_fixed.specs.Numerals.{Numeral};
 ghost use Rattle.at_fixed.specs.Fixed.{largest, quotient, size_of as the_size, fixed_of, mantissa, fraction_digits, exponent_above, exponent_below};
 ghost use Rattle.at_fixed.specs.Decimals.{IsDecimalOf};
 
+use crate::powers::power_of_ten;
 use crate::rounding::{Coords, FixedFault};
 use crate::scanning::Decimal;
 
 /// The largest size of a coordinate, in units.
 const LARGEST: u64 = 300_000_000_000_000;
-
-/// The powers of ten that fit 64 bits.
-const POWERS: [u64; 20] = [
-    1,
-    10,
-    100,
-    1_000,
-    10_000,
-    100_000,
-    1_000_000,
-    10_000_000,
-    100_000_000,
-    1_000_000_000,
-    10_000_000_000,
-    100_000_000_000,
-    1_000_000_000_000,
-    10_000_000_000_000,
-    100_000_000_000_000,
-    1_000_000_000_000_000,
-    10_000_000_000_000_000,
-    100_000_000_000_000_000,
-    1_000_000_000_000_000_000,
-    10_000_000_000_000_000_000,
-];
-
-/// A power of ten.
-fn power_of_ten(exponent: u64) -> u64
-    requires { exponent < 20 }
-    ensures { result ≡ 10 ^ exponent }
-{
-    POWERS[exponent as usize]
-}
 
 /// `kept * 10^shift`, where that is at most the largest size.
 fn enlarged(kept: u64, shift: u64) -> Result<u64, FixedFault>
