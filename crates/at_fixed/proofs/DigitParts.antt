@@ -114,7 +114,7 @@ pub keeps_more : (K d m next : ℕ) (cut after : Bool) (ps qs : List ℕ) → Ke
 keeps_more K d m next cut after ps qs h e fits none are_digits full cuts =
     let first : Keeps next d cut (digits_behind m ps) = kept_more K d m next cut ps h e fits none in
     subst (Keeps next (d + length qs) after) (sym (behind-both m ps qs))
-        (dropped_more next d (digits_behind m ps) cut after qs first are_digits full (cuts first.rest first.cut))
+    (dropped_more next d (digits_behind m ps) cut after qs first are_digits full (cuts first.rest first.cut))
 
 -- the same over the bytes of a text: digits are kept up to `stop`, and dropped from there on
 pub run_keeps : (w : List ℕ) (from stop to K d m next : ℕ) (cut after : Bool) → from ≤ stop → stop ≤ to → to ≤ length w
@@ -126,11 +126,11 @@ run_keeps w from stop to K d m next cut after order more within h e fits full ar
     let count : length (part w stop to) ≡ to - stop = omega (arith, part-length w stop to more within) in
     let none : 10 ^ 18 ≤ K → part w from stop ≡ [] = λ big. ap (part w from) (full big) ∙ part-none w from (omega arith) in
     let room : 0 < length (part w stop to) → 10 ^ 18 ≤ next = λ some.
-        let before : stop < to = omega (arith, count, some) in
-        let inside : stop < length w = omega (arith, before, within) in
-        stops inside (part-first w stop to before within are_digits) in
+    let before : stop < to = omega (arith, count, some) in
+    let inside : stop < length w = omega (arith, before, within) in
+    stops inside (part-first w stop to before within are_digits) in
     let whole : part w from to ≡ part w from stop ++ part w stop to = part-part w from stop to order more within in
     let all : Keeps next (d + length (part w stop to)) after (digits_behind m (part w from stop ++ part w stop to)) =
-        keeps_more K d m next cut after (part w from stop) (part w stop to) h e fits none are_digits room cuts in
+    keeps_more K d m next cut after (part w from stop) (part w stop to) h e fits none are_digits room cuts in
     let P : ℕ → Type 0 = λ n. Keeps next (d + n) after (digits_behind m (part w from to)) in
     subst P count (subst (λ x. Keeps next (d + length (part w stop to)) after (digits_behind m x)) (sym whole) all)

@@ -100,7 +100,7 @@ letter_read : (g : Notation) (w : List ℕ) (read : Mantissa) → ReadsMantissa 
     → is_letter (slice_index w read.end) ≡ true → Reads g w (read.end + 1) letter
 letter_read g w read h e inside l =
     reads_byte g w read.end h.state letter h.reads inside
-        (h.next inside ∙ (ap (λ c. after_mantissa c (slice_index w read.end)) e ∙ ap (λ c. cond c (Some letter) None) l))
+    (h.next inside ∙ (ap (λ c. after_mantissa c (slice_index w read.end)) e ∙ ap (λ c. cond c (Some letter) None) l))
 
 finished_by : (g : Notation) (w : List ℕ) (read : Mantissa) (p : Power) → ReadsMantissa g w read
     → (ReadsNone w read p ⊎ ((read.is_number ≡ true) × ReadsExponent w read.end p)) → Finished g w p.end p.is_number
@@ -138,23 +138,24 @@ value_by : (g : Notation) (w : List ℕ) (read : Mantissa) (p : Power) (e : Opti
     → ReadsMantissa g w read → IsMantissaOf g w read → IsPowerOf p e → take p.end w ≡ take read.end w ++ exponent_text e
     → up ≡ read.digits.dropped + cond p.is_minus 0 p.size → down ≡ read.fraction + cond p.is_minus p.size 0
     → Value g w read p up down
-value_by g w read p e up down small h m q text u d =
-    (record { sign = m.sign; whole = m.whole; fraction = m.fraction; exponent = e },
-    numeral_by g m.sign m.whole m.fraction e m.is_front q.is_exponent,
-    text_by m.sign m.whole (fraction_text m.fraction) (exponent_text e) (take read.end w) (take p.end w) m.text text,
-    record {
-      minus = m.minus;
-      dropped = read.digits.dropped;
-      above = cond p.is_minus 0 p.size;
-      below = cond p.is_minus p.size 0;
-      keeps = m.keeps;
-      up = u;
-      down = d ∙ ap (λ n. n + cond p.is_minus p.size 0) m.count;
-      above_is = q.above;
-      below_is = q.below;
-      few_dropped = omega (arith, h.dropped, h.reads.fits, small);
-      few_digits = omega (arith, m.count, h.count, h.reads.fits, small);
-    })
+value_by g w read p e up down small h m q text u d = (
+  record { sign = m.sign; whole = m.whole; fraction = m.fraction; exponent = e },
+  numeral_by g m.sign m.whole m.fraction e m.is_front q.is_exponent,
+  text_by m.sign m.whole (fraction_text m.fraction) (exponent_text e) (take read.end w) (take p.end w) m.text text,
+  record {
+    minus = m.minus;
+    dropped = read.digits.dropped;
+    above = cond p.is_minus 0 p.size;
+    below = cond p.is_minus p.size 0;
+    keeps = m.keeps;
+    up = u;
+    down = d ∙ ap (λ n. n + cond p.is_minus p.size 0) m.count;
+    above_is = q.above;
+    below_is = q.below;
+    few_dropped = omega (arith, h.dropped, h.reads.fits, small);
+    few_digits = omega (arith, m.count, h.count, h.reads.fits, small);
+  },
+)
 
 no_power : (p : Power) → p.is_minus ≡ false → p.size ≡ 0 → IsPowerOf p None
 no_power p m s = record { is_exponent = tt; above = rw (m, s) (inl refl); below = rw (m) (inl refl) }
@@ -175,7 +176,7 @@ sign_by w i sign inside (inl (e, m, h)) =
     record { is_sign = rw none tt; minus = rw (none, m) refl; order = omega (arith, e) }
 sign_by w i sign inside (inr (e, more, h, m)) =
     let one : part w i sign.end ≡ slice_index w i ∷ [] =
-        ap (part w i) e ∙ (part-more w i i (omega arith) more ∙ ap (λ x. x ++ (slice_index w i ∷ [])) (part-none w i inside)) in
+    ap (part w i) e ∙ (part-more w i i (omega arith) more ∙ ap (λ x. x ++ (slice_index w i ∷ [])) (part-none w i inside)) in
     record { is_sign = rw one h; minus = rw (one, m) (sym (or_false (slice_index w i == 0x2D))); order = omega (arith, e) }
 
 above_same : (m k : Bool) (size v : ℕ) → m ≡ k → SameOrHuge size v → SameOrHuge (cond m 0 size) (cond k 0 v)

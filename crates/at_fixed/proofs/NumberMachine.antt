@@ -310,9 +310,11 @@ wkt_from s b ds w h d (f, e, p, q, eq) =
 
 wkt_point_from : (s : List ℕ) (b : ℕ) (w : List ℕ) → IsAtMostOneOf (0x2B ∷ 0x2D ∷ []) s → b ≡ 0x2E → Rest Wkt point w → WktNumber (s ++ (b ∷ w))
 wkt_point_from s b [] h eb r = absurd r
-wkt_point_from s b (c ∷ w) h eb (d, r) = let (ds, e, hs, p, eq) = fraction_from Wkt w r in
-    (record { sign = s; whole = []; fraction = Some (c ∷ ds); exponent = e }, record { sign = h; digits = (d, hs); exponent = p },
-    ap (λ x. s ++ (x ∷ c ∷ w)) eb ∙ ap (λ x. s ++ (0x2E ∷ c ∷ x)) eq)
+wkt_point_from s b (c ∷ w) h eb (d, r) = let (ds, e, hs, p, eq) = fraction_from Wkt w r in (
+  record { sign = s; whole = []; fraction = Some (c ∷ ds); exponent = e },
+  record { sign = h; digits = (d, hs); exponent = p },
+  ap (λ x. s ++ (x ∷ c ∷ w)) eb ∙ ap (λ x. s ++ (0x2E ∷ c ∷ x)) eq,
+)
 
 wkt_signed_from : (s w : List ℕ) → IsAtMostOneOf (0x2B ∷ 0x2D ∷ []) s → Rest Wkt signed w → WktNumber (s ++ w)
 wkt_signed_from s [] h r = absurd r

@@ -65,7 +65,7 @@ reads_digits g w i j s t r h k digits first stays =
     let all : AreDigits (slice_index w i ∷ part w (i + 1) j) = subst AreDigits cells digits in
     let rest : run (step g) t (part w (i + 1) j) ≡ Some t = run-digits g t stays (part w (i + 1) j) all.1 in
     reads_part g w i j s t r (omega arith) k
-        (rw cells (ap (option_and_then (λ x. run (step g) x (part w (i + 1) j))) first ∙ rest))
+    (rw cells (ap (option_and_then (λ x. run (step g) x (part w (i + 1) j))) first ∙ rest))
 
 -- ---- the sign and the digits before the point
 

@@ -155,7 +155,7 @@ pub fraction_by : (g : Notation) (w : List ℕ) (whole : Mantissa) (run : Digits
     → whole.end + 1 ≤ run.end → run.end ≤ length w → AreDigits (part w (whole.end + 1) run.end)
     → (run.end < length w → is_digit (slice_index w run.end) ≡ false) → run.digits.kept < 10 ^ 19 → run.digits.dropped ≤ run.end
     → ((m : ℕ) → Keeps whole.digits.kept whole.digits.dropped whole.digits.is_cut m
-        → Keeps run.digits.kept run.digits.dropped run.digits.is_cut (digits_behind m (part w (whole.end + 1) run.end)))
+    → Keeps run.digits.kept run.digits.dropped run.digits.is_cut (digits_behind m (part w (whole.end + 1) run.end)))
     → is_number ≡ (nat_lt (whole.end + 1) run.end || (whole.is_number && is_wkt g))
     → ReadsMantissa g w (record { end = run.end; is_number = is_number; is_minus = whole.is_minus; digits = run.digits; fraction = run.end - (whole.end + 1) })
 fraction_by g w whole run is_number h may order within digits stops fits dropped keeps e =

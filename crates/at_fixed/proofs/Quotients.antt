@@ -179,8 +179,8 @@ rounded_near d r half D R cut h k e =
     let p : (d * (2 * half) + r) * D + R ≡ d * (2 * half * D) + (r * D + R) = grind arith in
     let below : r * D + R < 2 * half * D = subst (λ n. r * D + R < n) (mul_comm D (2 * half)) (mul-add-lt r D R (2 * half) h k) in
     rw e (rounded_by ((d * (2 * half) + r) * D + R) (2 * half * D) (cond (nat_lt half r || ((r == half) && (nat_lt 0 R || (d % 2 == 1)))) (d + 1) d)
-        (rw p (nearest_by (d * q + rest) q d rest (nat_lt half r || ((r == half) && nat_lt 0 R)) ((r == half) && not (nat_lt 0 R)) (split_at d q rest below) (over_by half r D R k) (tie_by half r D R k)
-        ∙ chosen (nat_lt half r) (r == half) (nat_lt 0 R) (d % 2 == 1) d (d % 2) (parity d))))
+    (rw p (nearest_by (d * q + rest) q d rest (nat_lt half r || ((r == half) && nat_lt 0 R)) ((r == half) && not (nat_lt 0 R)) (split_at d q rest below) (over_by half r D R k) (tie_by half r D R k)
+    ∙ chosen (nat_lt half r) (r == half) (nat_lt 0 R) (d % 2 == 1) d (d % 2) (parity d))))
 
 some_of : (r D R : ℕ) → R < D → (nat_lt 0 R || nat_lt 0 r) ≡ nat_lt 0 (r * D + R)
 some_of r D R h = elim (cases_eq R 0) [
@@ -212,7 +212,7 @@ reduced_exact K Q D R cut positive h e =
 reduced_half : (K half D R : ℕ) (cut : Bool) → 0 < half → R < D → cut ≡ nat_lt 0 R
     → rounded_quotient (K * D + R) (2 * half * D)
     ≡ (let Q = 2 * half in let n = cond (nat_lt half (K % Q) || ((K % Q == half) && (cut || ((K / Q) % 2 == 1)))) (K / Q + 1) (K / Q) in
-      cond (nat_lt largest n) (Err Range) (Ok n))
+    cond (nat_lt largest n) (Err Range) (Ok n))
 reduced_half K half D R cut positive h e =
     let Q : ℕ = 2 * half in let some : 0 < 2 * half = omega arith in
     let split : K ≡ K / Q * Q + K % Q = sym (div-add-mod' K Q) in
@@ -223,15 +223,8 @@ reduced_half K half D R cut positive h e =
 pub reduced_rounded : (K Q half D R : ℕ) (cut : Bool) → 2 * half ≡ Q → 0 < half → R < D → cut ≡ nat_lt 0 R
     → rounded_quotient (K * D + R) (Q * D)
     ≡ (let n = cond (nat_lt half (K % Q) || ((K % Q == half) && (cut || ((K / Q) % 2 == 1)))) (K / Q + 1) (K / Q) in
-      cond (nat_lt largest n) (Err Range) (Ok n))
+    cond (nat_lt largest n) (Err Range) (Ok n))
 reduced_rounded K Q half D R cut same positive h e =
     let P : ℕ → Type 0 = λ q. rounded_quotient (K * D + R) (q * D)
-        ≡ (let n = cond (nat_lt half (K % q) || ((K % q == half) && (cut || ((K / q) % 2 == 1)))) (K / q + 1) (K / q) in cond (nat_lt largest n) (Err Range) (Ok n)) in
+    ≡ (let n = cond (nat_lt half (K % q) || ((K % q == half) && (cut || ((K / q) % 2 == 1)))) (K / q + 1) (K / q) in cond (nat_lt largest n) (Err Range) (Ok n)) in
     subst P same (reduced_half K half D R cut positive h e)
-
--- a quotient is below a number exactly where the whole product is
-pub beyond : (most p k : ℕ) → 0 < p → most / p < k → most < k * p
-beyond most p k positive h = elim (cases_lt most (k * p)) [
-  | inl less ↦ less
-  | inr more ↦ absurd (omega (arith, le-div k most p positive more, h))
-]

@@ -143,12 +143,12 @@ sized_up how K d M digits f above below A B cut h order =
     let E : ℕ = d + above + digits - (f + below) in
     let k = h.keeps in
     let main : cond (nat_lt largest (K * 10 ^ E)) (Err Range) (Ok (K * 10 ^ E)) ≡ quotient how (M * 10 ^ (digits + A)) (10 ^ (f + B)) =
-        (elim (side_by above below A B h.above_is h.below_is h.one_side) [
-          | both_kept e g ↦ kept_up how K d k.rest M (digits + A) (f + B) E k.split k.small k.full (omega (arith, e, g, order))
-          | above_huge a b e g ↦ out_by how K d k.rest M (digits + A) (f + B) E 0 k.split h.positive
-              (omega (arith, a, e, h.few_digits)) (omega (arith, b, g, h.few_digits))
-          | below_huge a b e g ↦ absurd (omega (arith, a, e, order, h.few_dropped, h.few_places))
-        ]) in
+    (elim (side_by above below A B h.above_is h.below_is h.one_side) [
+      | both_kept e g ↦ kept_up how K d k.rest M (digits + A) (f + B) E k.split k.small k.full (omega (arith, e, g, order))
+      | above_huge a b e g ↦ out_by how K d k.rest M (digits + A) (f + B) E 0 k.split h.positive
+          (omega (arith, a, e, h.few_digits)) (omega (arith, b, g, h.few_digits))
+      | below_huge a b e g ↦ absurd (omega (arith, a, e, order, h.few_dropped, h.few_places))
+    ]) in
     main ∙ sym (size_positive how M (digits + A) (f + B) (least_kept K d k.rest M k.split h.positive))
 
 far_down : (how : Coords) (K d R M A B : ℕ) (answer : Result ℕ FixedFault) → M ≡ K * 10 ^ d + R → R < 10 ^ d → K < 10 ^ 19 → 0 < M → A + d + 20 ≤ B
@@ -166,7 +166,7 @@ near_down how K d R M A B k cut answer split small e h near =
 pub sized_down : (how : Coords) (K d M digits f above below A B : ℕ) (cut : Bool) (answer : Result ℕ FixedFault) → Sized K d cut M digits f above below A B
     → d + above + digits < f + below
     → (f + below - (d + above + digits) < 20 → (unit rest : ℕ) → rest < unit → cut ≡ nat_lt 0 rest
-        → answer ≡ quotient how (K * unit + rest) (10 ^ (f + below - (d + above + digits)) * unit))
+    → answer ≡ quotient how (K * unit + rest) (10 ^ (f + below - (d + above + digits)) * unit))
     → (20 ≤ f + below - (d + above + digits) → (p q : ℕ) → 0 < p → 2 * p < q → answer ≡ quotient how p q)
     → answer ≡ size_of how M (digits + A) (f + B)
 sized_down how K d M digits f above below A B cut answer h order near far =
@@ -174,13 +174,26 @@ sized_down how K d M digits f above below A B cut answer h order near far =
     let s = h.keeps in
     let positive : 0 < M = least_kept K d s.rest M s.split h.positive in
     let main : answer ≡ quotient how (M * 10 ^ (digits + A)) (10 ^ (f + B)) =
-        (elim (side_by above below A B h.above_is h.below_is h.one_side) [
-          | both_kept e g ↦ elim (cases_lt k 20) [
-            | inl few ↦ near_down how K d s.rest M (digits + A) (f + B) k cut answer s.split s.small s.cut (omega (arith, e, g, order)) (near few)
-            | inr many ↦ far_down how K d s.rest M (digits + A) (f + B) answer s.split s.small s.fits positive (omega (arith, e, g, order, many)) (far many)
-          ]
-          | above_huge a b e g ↦ absurd (omega (arith, a, e, order, h.few_digits))
-          | below_huge a b e g ↦ far_down how K d s.rest M (digits + A) (f + B) answer s.split s.small s.fits positive
-              (omega (arith, b, g, h.few_dropped, h.few_places)) (far (omega (arith, a, e, h.few_dropped, h.few_places)))
-        ]) in
+    (elim (side_by above below A B h.above_is h.below_is h.one_side) [
+      | both_kept e g ↦ elim (cases_lt k 20) [
+        | inl few ↦ near_down how K d s.rest M (digits + A) (f + B) k cut answer s.split s.small s.cut (omega (arith, e, g, order)) (near few)
+        | inr many ↦ far_down how K d s.rest M (digits + A) (f + B) answer s.split s.small s.fits positive (omega (arith, e, g, order, many)) (far many)
+      ]
+      | above_huge a b e g ↦ absurd (omega (arith, a, e, order, h.few_digits))
+      | below_huge a b e g ↦ far_down how K d s.rest M (digits + A) (f + B) answer s.split s.small s.fits positive
+          (omega (arith, b, g, h.few_dropped, h.few_places)) (far (omega (arith, a, e, h.few_dropped, h.few_places)))
+    ]) in
     main ∙ sym (size_positive how M (digits + A) (f + B) positive)
+
+-- 3 * 10 ^ 14 with its zeros parted in two
+pub limit_by : (s : ℕ) → s ≤ 14 → 3 * 10 ^ (14 - s) * 10 ^ s ≡ largest
+limit_by s h =
+    let all : 14 - s + s ≡ 14 = omega arith in
+    let both : 10 ^ (14 - s) * 10 ^ s ≡ 10 ^ 14 = sym (pow-add 10 (14 - s) s) ∙ ap (λ n. 10 ^ n) all in
+    mul_assoc 3 (10 ^ (14 - s)) (10 ^ s) ∙ ap (λ n. 3 * n) both
+
+pub above_limit : (K s : ℕ) → s ≤ 14 → 3 * 10 ^ (14 - s) < K → nat_lt largest (K * 10 ^ s) ≡ true
+above_limit K s h k = lt_true largest (K * 10 ^ s) (subst (λ n. n < K * 10 ^ s) (limit_by s h) (mul-lt-mul_of_pos_right k (pow_positive s)))
+
+pub within_limit : (K s : ℕ) → s ≤ 14 → K ≤ 3 * 10 ^ (14 - s) → K * 10 ^ s ≤ largest
+within_limit K s h k = subst (λ n. K * 10 ^ s ≤ n) (limit_by s h) (mul-le-mul_right (10 ^ s) k)

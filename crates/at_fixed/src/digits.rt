@@ -28,6 +28,7 @@ pub struct DigitsRun {
 }
 
 /// Reads digits while there is room to keep them.
+#[inline(always)]
 fn keep_digits(text: &[u8], from: usize, before: u64) -> (usize, u64)
     requires from_within { from ≤ length text.now }
     requires before_fits { before < 10 ^ 19 }
@@ -36,9 +37,7 @@ fn keep_digits(text: &[u8], from: usize, before: u64) -> (usize, u64)
     ensures digits { AreDigits (part text.now from result.0) }
     ensures value { result.1 ≡ digits_behind before (part text.now from result.0) }
     ensures fits { result.1 < 10 ^ 19 }
-    ensures stops {
-        result.0 < length text.now → digit_test (slice_index text.now result.0) ≡ true → 10 ^ 18 ≤ result.1
-    }
+    ensures stops { result.0 < length text.now → digit_test (slice_index text.now result.0) ≡ true → 10 ^ 18 ≤ result.1 }
     ensures full { 10 ^ 18 ≤ before → result.0 ≡ from }
 {
     let mut kept = before;
@@ -51,15 +50,14 @@ fn keep_digits(text: &[u8], from: usize, before: u64) -> (usize, u64)
 }
 
 /// Passes over digits, and tells whether one of them is other than 0.
+#[inline(always)]
 fn drop_digits(text: &[u8], from: usize, before: bool) -> (usize, bool)
     requires { from ≤ length text.now }
     ensures order { from ≤ result.0 }
     ensures within { result.0 ≤ length text.now }
     ensures digits { AreDigits (part text.now from result.0) }
     ensures stops { result.0 < length text.now → digit_test (slice_index text.now result.0) ≡ false }
-    ensures cut {
-        (rest : ℕ) → before ≡ nat_lt 0 rest → result.1 ≡ nat_lt 0 (digits_behind rest (part text.now from result.0))
-    }
+    ensures cut { (rest : ℕ) → before ≡ nat_lt 0 rest → result.1 ≡ nat_lt 0 (digits_behind rest (part text.now from result.0)) }
 {
     let mut is_cut = before;
     let mut end = from;
@@ -71,6 +69,7 @@ fn drop_digits(text: &[u8], from: usize, before: bool) -> (usize, bool)
 }
 
 /// Reads the digits that stand at an offset, behind the digits read before.
+#[inline(always)]
 pub fn read_digits(text: &[u8], from: usize, before: Digits) -> DigitsRun
     requires from_within { from ≤ length text.now }
     requires before_fits { before.kept < 10 ^ 19 }
@@ -81,11 +80,9 @@ pub fn read_digits(text: &[u8], from: usize, before: Digits) -> DigitsRun
     ensures stops { result.end < length text.now → digit_test (slice_index text.now result.end) ≡ false }
     ensures fits { result.digits.kept < 10 ^ 19 }
     ensures dropped { result.digits.dropped ≤ result.end }
-    ensures keeps {
-        (m : ℕ) → Keeps before.kept before.dropped before.is_cut m
-            → Keeps result.digits.kept result.digits.dropped result.digits.is_cut
-                (digits_behind m (part text.now from result.end))
-    }
+    ensures keeps { (m : ℕ) → Keeps before.kept before.dropped before.is_cut m
+        → Keeps result.digits.kept result.digits.dropped result.digits.is_cut
+        (digits_behind m (part text.now from result.end)) }
 {
     let (stop, kept) = keep_digits(text, from, before.kept);
     let (end, is_cut) = drop_digits(text, stop, before.is_cut);

@@ -3,12 +3,11 @@ ghost use Rattle.at_text.specs.Prefix.{TakesLongest};
 ghost use Rattle.at_fixed.specs.Numerals.{JsonNumber, WktNumber, NumberOf};
 ghost use Rattle.at_fixed.specs.Fixed.{IsFixedOf};
 
-use at_text::Taken;
-
 use crate::notation::Notation;
 use crate::rounding::{Coords, FixedFault};
 use crate::scanning::{Scanned, scan};
 use crate::units::value_of;
+use at_text::Taken;
 
 /// The number that begins a text.
 #[derive(Clone, Copy, Debug, PartialEq, Eq)]
@@ -53,9 +52,7 @@ pub fn wkt_number(text: &[u8]) -> Taken
 /// prefix, tell in two passes. It takes no memory.
 pub fn leading_number(text: &[u8], notation: Notation, digits: u8, how: Coords) -> LeadingNumber
     requires { length text.now ≤ 2 ^ 28 }
-    ensures taken {
-        TakesLongest (NumberOf notation) text.now (record { len = result.len; whole = is_some result.value })
-    }
+    ensures taken { TakesLongest (NumberOf notation) text.now (record { len = result.len; whole = is_some result.value }) }
     ensures value { IfSome result.value (λ value. IsFixedOf (take result.len text.now) digits how value) }
 {
     let scanned = scan(text, notation);
@@ -66,10 +63,7 @@ pub fn leading_number(text: &[u8], notation: Notation, digits: u8, how: Coords) 
             value: Some(value_of(scanned.decimal, digits, how)),
         }
     } else {
-        LeadingNumber {
-            len,
-            value: None,
-        }
+        LeadingNumber { len, value: None }
     }
 }
 

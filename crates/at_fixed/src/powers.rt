@@ -25,6 +25,7 @@ const POWERS: [u64; 20] = [
 ];
 
 /// A power of ten.
+#[inline(always)]
 pub fn power_of_ten(exponent: u64) -> u64
     requires { exponent < 20 }
     ensures { result ≡ 10 ^ exponent }

@@ -52,6 +52,7 @@ pub struct Scanned {
 }
 
 /// Reads the sign that a number may have at an offset.
+#[inline(always)]
 fn read_sign(text: &[u8], from: usize, notation: Notation) -> Sign
     requires { from ≤ length text.now }
     ensures { ReadsSign notation text.now from result }
@@ -75,6 +76,7 @@ fn read_sign(text: &[u8], from: usize, notation: Notation) -> Sign
 }
 
 /// Reads the digits before the point. In JSON a 0 at their beginning stands alone.
+#[inline(always)]
 fn read_lead(text: &[u8], from: usize, notation: Notation) -> DigitsRun
     requires { from ≤ length text.now }
     ensures { ReadsLead notation text.now from result }
@@ -95,6 +97,7 @@ fn read_lead(text: &[u8], from: usize, notation: Notation) -> DigitsRun
 }
 
 /// Reads the sign and the digits before the point.
+#[inline(always)]
 fn read_whole(text: &[u8], notation: Notation) -> Mantissa
     ensures { ReadsWhole notation text.now result }
 {
@@ -110,14 +113,17 @@ fn read_whole(text: &[u8], notation: Notation) -> Mantissa
 }
 
 /// Whether a point stands behind the digits and may stand there.
+#[inline(always)]
 fn has_point(text: &[u8], whole: Mantissa, notation: Notation) -> bool
     ensures { result ≡ may_take_point notation text.now whole }
 {
-    whole.end < text.len() && text[whole.end] == b'.'
+    whole.end < text.len()
+        && text[whole.end] == b'.'
         && (whole.is_number || matches!(notation, Notation::Wkt))
 }
 
 /// Whether a number may end behind a point, where digits stand on either side of it or not.
+#[inline(always)]
 fn may_end(has_fraction: bool, has_whole: bool, notation: Notation) -> bool
     ensures { result ≡ (has_fraction || (has_whole && is_wkt notation)) }
 {
@@ -125,6 +131,7 @@ fn may_end(has_fraction: bool, has_whole: bool, notation: Notation) -> bool
 }
 
 /// Reads the point, and the digits behind it.
+#[inline(always)]
 fn read_fraction(text: &[u8], whole: Mantissa, notation: Notation) -> Mantissa
     requires reads { ReadsWhole notation text.now whole }
     requires point { IsTrue (may_take_point notation text.now whole) }
@@ -142,14 +149,20 @@ fn read_fraction(text: &[u8], whole: Mantissa, notation: Notation) -> Mantissa
 }
 
 /// Reads a number up to its exponent.
+#[inline(always)]
 fn read_mantissa(text: &[u8], notation: Notation) -> Mantissa
     ensures { ReadsMantissa notation text.now result }
 {
     let whole = read_whole(text, notation);
-    if has_point(text, whole, notation) { read_fraction(text, whole, notation) } else { whole }
+    if has_point(text, whole, notation) {
+        read_fraction(text, whole, notation)
+    } else {
+        whole
+    }
 }
 
 /// Reads the exponent that a number may have.
+#[inline(always)]
 fn read_exponent(text: &[u8], mantissa: Mantissa) -> Power
     requires { mantissa.end ≤ length text.now }
     ensures { ReadsPower text.now mantissa result }
@@ -175,6 +188,7 @@ fn read_exponent(text: &[u8], mantissa: Mantissa) -> Power
 }
 
 /// The exponent where it is 0 or above, else 0.
+#[inline(always)]
 fn size_above(power: Power) -> u64
     ensures { result ≡ (if power.is_minus then 0 else power.size) }
 {
@@ -182,6 +196,7 @@ fn size_above(power: Power) -> u64
 }
 
 /// The size of the exponent where it is below 0, else 0.
+#[inline(always)]
 fn size_below(power: Power) -> u64
     ensures { result ≡ (if power.is_minus then power.size else 0) }
 {
@@ -189,15 +204,12 @@ fn size_below(power: Power) -> u64
 }
 
 /// Reads the number that begins a text.
+#[inline(always)]
 pub fn scan(text: &[u8], notation: Notation) -> Scanned
     requires { length text.now ≤ 2 ^ 28 }
-    ensures taken {
-        TakesLongest (NumberOf notation) text.now (record { len = result.len; whole = result.is_number })
-    }
-    ensures value {
-        IsTrue result.is_number → (n : Numeral) × IsNumeralOf notation n
-            × (take result.len text.now ≡ numeral_text n) × IsDecimalOf result.decimal n
-    }
+    ensures taken { TakesLongest (NumberOf notation) text.now (record { len = result.len; whole = result.is_number }) }
+    ensures value { IsTrue result.is_number → (n : Numeral) × IsNumeralOf notation n
+        × (take result.len text.now ≡ numeral_text n) × IsDecimalOf result.decimal n }
     ensures small { result.decimal.up < 2 ^ 50 }
     ensures fits { result.decimal.kept < 10 ^ 19 }
 {

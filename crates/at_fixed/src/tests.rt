@@ -19,7 +19,11 @@ fn viable(rt: HostRuntime) {
         (false, b"1-2", 1, true),
     ];
     for (is_json, text, len, whole) in rows {
-        let taken = if is_json { json_number(text) } else { wkt_number(text) };
+        let taken = if is_json {
+            json_number(text)
+        } else {
+            wkt_number(text)
+        };
         assert_eq!(rt; taken, Taken { len, whole }, "{text:?}");
     }
 }
@@ -36,10 +40,22 @@ fn values(rt: HostRuntime) {
         (b"1e-99", Err(FixedFault::Scale), Ok(0)),
         (b"0e999999999999", Ok(0), Ok(0)),
         (b"3e7", Ok(300000000000000), Ok(300000000000000)),
-        (b"30000000.00000005", Err(FixedFault::Range), Ok(300000000000000)),
-        (b"30000000.00000015", Err(FixedFault::Range), Err(FixedFault::Range)),
+        (
+            b"30000000.00000005",
+            Err(FixedFault::Range),
+            Ok(300000000000000),
+        ),
+        (
+            b"30000000.00000015",
+            Err(FixedFault::Range),
+            Err(FixedFault::Range),
+        ),
         (b"1e99", Err(FixedFault::Range), Err(FixedFault::Range)),
-        (b"1.25000000000000000000000000000001", Err(FixedFault::Scale), Ok(12500000)),
+        (
+            b"1.25000000000000000000000000000001",
+            Err(FixedFault::Scale),
+            Ok(12500000),
+        ),
     ];
     for (text, exact, round) in rows {
         assert_eq!(rt; read_fixed(text, 7, Coords::Exact), exact, "{text:?}");

@@ -1,17 +1,19 @@
 ghost use Rattle.std.specs.Prelude.{◌≡◌, ◌+◌, ◌/◌, ◌%◌, ◌^◌, [], ◌∷◌, ◌++◌, true, false, IfOk, OnOk, string_bytes, decimal};
 ghost use Rattle.at_fixed.specs.Fixed.{last_digits, written};
 
-use std::alloc::{AllocError, Global};
-
-use at_text::Memory;
-
 use crate::powers::power_of_ten;
+use at_text::Memory;
+use std::alloc::{AllocError, Global};
 
 /// A number without its last digits.
 fn shifted(n: u64, places: u8) -> u64
     ensures { result ≡ n / 10 ^ places }
 {
-    if places < 20 { n / power_of_ten(places as u64) } else { 0 }
+    if places < 20 {
+        n / power_of_ten(places as u64)
+    } else {
+        0
+    }
 }
 
 /// The digit of a number at a place from its end, as a byte.

@@ -19,7 +19,7 @@ returns-in-Exact-clause-near c near unit rest small cut =
     let power = c.power_of_ten-power.result in
     let positive : 0 < power = rw c.power_of_ten-power.ensures (pow_positive c.args.shift) in
     let at_power : c.exact.result ≡ exact_quotient (c.args.kept * unit + rest) (power * unit) =
-        (rw c.is_partial.ensures at c.exact.ensures.value) ∙ sym (reduced_exact c.args.kept power unit rest c.args.is_cut positive small cut) in
+    (rw c.is_partial.ensures at c.exact.ensures.value) ∙ sym (reduced_exact c.args.kept power unit rest c.args.is_cut positive small cut) in
     let P : ℕ → Type 0 = λ q. c.exact.result ≡ exact_quotient (c.args.kept * unit + rest) (q * unit) in
     let R : Coords → Type 0 = λ how. c.exact.result ≡ quotient how (c.args.kept * unit + rest) (10 ^ c.args.shift * unit) in
     subst R (sym c.in-Exact.is) (subst P c.power_of_ten-power.ensures at_power)
@@ -31,7 +31,7 @@ returns-in-Round-clause-near c near unit rest small cut =
     let some : 0 < power = rw c.power_of_ten-power.ensures (pow_positive c.args.shift) in
     let positive : 0 < power / 2 = omega (arith, even, some) in
     let at_power : c.rounded.result ≡ rounded_quotient (c.args.kept * unit + rest) (power * unit) =
-        c.rounded.ensures.value ∙ sym (reduced_rounded c.args.kept power (power / 2) unit rest c.args.is_cut even positive small cut) in
+    c.rounded.ensures.value ∙ sym (reduced_rounded c.args.kept power (power / 2) unit rest c.args.is_cut even positive small cut) in
     let P : ℕ → Type 0 = λ q. c.rounded.result ≡ rounded_quotient (c.args.kept * unit + rest) (q * unit) in
     let R : Coords → Type 0 = λ how. c.rounded.result ≡ quotient how (c.args.kept * unit + rest) (10 ^ c.args.shift * unit) in
     subst R (sym c.in-Round.is) (subst P c.power_of_ten-power.ensures at_power)

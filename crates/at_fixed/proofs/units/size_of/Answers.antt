@@ -37,7 +37,7 @@ returns-else-decimal-up-clause-value c n h =
     let sized = sized_of c.args.decimal n c.args.digits h (omega arith) (omega arith) in
     let order : h.dropped + h.above + c.args.digits < f + h.below = omega (arith, h.up, h.down, c.if-decimal-up.false) in
     let Near : ℕ → Type 0 = λ k. k < 20 → (unit rest : ℕ) → rest < unit → c.args.decimal.is_cut ≡ nat_lt 0 rest
-        → c.reduced.result ≡ quotient c.args.how (K * unit + rest) (10 ^ k * unit) in
+    → c.reduced.result ≡ quotient c.args.how (K * unit + rest) (10 ^ k * unit) in
     let Far : ℕ → Type 0 = λ k. 20 ≤ k → (p q : ℕ) → 0 < p → 2 * p < q → c.reduced.result ≡ quotient c.args.how p q in
     sized_down c.args.how K h.dropped (mantissa n) c.args.digits f h.above h.below (exponent_above n.exponent) (exponent_below n.exponent) c.args.decimal.is_cut
-        c.reduced.result sized order (subst Near shift c.reduced.ensures.near) (subst Far shift c.reduced.ensures.far)
+    c.reduced.result sized order (subst Near shift c.reduced.ensures.near) (subst Far shift c.reduced.ensures.far)

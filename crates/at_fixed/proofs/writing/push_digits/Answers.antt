@@ -9,4 +9,4 @@ loop-left-preserved c =
     let byte : c.from.result ≡ 0x30 + digit = c.from.ensures ∙ c.digit_at.ensures in
     let ascii : c.from.result < 128 = omega (arith, byte, mod-lt (c.args.n / 10 ^ (c.loop-left.left - 1)) ten) in
     written_more (string_bytes c.loop-left.text) (string_bytes c.push.new.self) c.from.result c.args.n c.loop-left.left (omega arith)
-        (c.in_ok-push.ensures.bytes ∙ ap (λ w. string_bytes c.loop-left.text ++ w) (c.in_ok-push.ensures.ascii ascii)) byte ∙ c.loop-left.invariant
+    (c.in_ok-push.ensures.bytes ∙ ap (λ w. string_bytes c.loop-left.text ++ w) (c.in_ok-push.ensures.ascii ascii)) byte ∙ c.loop-left.invariant
