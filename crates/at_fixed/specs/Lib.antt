@@ -1,5 +1,6 @@
 pub mod Numerals
 pub mod Fixed
+pub mod Products
 pub mod States
 pub mod Kept
 pub mod Scans

@@ -1,7 +1,8 @@
 ghost use Rattle.std.specs.Prelude.{◌≡◌, ◌⊎◌, ◌^◌, ◌<◌, ◌≤◌, length, take, is_some, IfSome};
 ghost use Rattle.at_text.specs.Prefix.{TakesLongest};
-ghost use Rattle.at_fixed.specs.Numerals.{JsonNumber, WktNumber, NumberOf};
+ghost use Rattle.at_fixed.specs.Numerals.{Numeral, SpellsNumeral, JsonNumber, WktNumber, NumberOf};
 ghost use Rattle.at_fixed.specs.Fixed.{IsFixedOf};
+ghost use Rattle.at_fixed.specs.Products.{IsValue};
 
 use crate::notation::Notation;
 use crate::rounding::{Coords, FixedFault};
@@ -75,7 +76,8 @@ pub fn leading_number(text: &[u8], notation: Notation, digits: u8, how: Coords) 
 pub fn read_fixed(text: &[u8], digits: u8, how: Coords) -> Result<i64, FixedFault>
     requires short { length text.now ≤ 2 ^ 28 }
     requires number { JsonNumber text.now ⊎ WktNumber text.now }
-    ensures { IsFixedOf text.now digits how result }
+    ensures value { IsFixedOf text.now digits how result }
+    ensures products { (n : Numeral) → SpellsNumeral text.now n → IsValue n digits how result }
 {
     value_of(scan(text, Notation::Wkt).decimal, digits, how)
 }
