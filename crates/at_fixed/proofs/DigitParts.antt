@@ -1,12 +1,12 @@
 -- Digits read one by one: the bytes passed so far, the number that they spell, and what is kept of it.
-use Rattle.std.proofs.Common.{◌≡◌, ◌≢◌, ℕ, zero, suc, lit<, ◌+◌, ◌-◌, ◌*◌, ◌^◌, ◌<◌, ◌≤◌, ◌⊎◌, inl, inr, Bool, true, false, nat_lt, IsTrue, List, [], ◌∷◌, ◌++◌, length, take, drop, slice_index, fold, refl, sym, ◌∙◌, ap, subst, arith, add-one, take-suc, append-nil, append_assoc, length-take, length-drop, take-append-drop, take-take}
-use Rattle.std.proofs.lemmas.Bool.{cases_eq, cases_lt}
+use Rattle.std.proofs.Common.{◌≡◌, ℕ, zero, suc, lit<, ◌+◌, ◌-◌, ◌*◌, ◌^◌, ◌<◌, ◌≤◌, inl, inr, Bool, true, false, nat_lt, List, [], ◌∷◌, ◌++◌, length, take, drop, slice_index, refl, sym, ◌∙◌, ap, subst, arith, add-one, take-suc, length-take, length-drop, take-append-drop, take-take}
+use Rattle.std.proofs.lemmas.Bool.{cases_eq}
 use Rattle.std.proofs.lemmas.Nat.{pow-add}
 use Rattle.std.proofs.lemmas.List.{drop-append-le, drop_all}
 use Rattle.std.proofs.Math.Nat.{pow-suc}
 use Rattle.at_text.specs.Texts.{is_digit}
 use Rattle.at_fixed.specs.Numerals.{AreDigits}
-use Rattle.at_fixed.specs.Kept.{part, digits_behind, Keeps, huge, SameOrHuge}
+use Rattle.at_fixed.specs.Kept.{part, digits_behind, Keeps}
 
 pub part-none : (w : List ℕ) (from : ℕ) → from ≤ length w → part w from from ≡ []
 part-none w from h = drop_all from (take from w) (omega (arith, length-take from w))

@@ -1,20 +1,19 @@
 -- The end of a number, with an exponent or without one: its longest viable prefix, its parts, and what is kept of them.
-use Rattle.std.proofs.Common.{◌≡◌, ◌≢◌, ℕ, zero, suc, ◌+◌, ◌-◌, ◌*◌, ◌^◌, ◌<◌, ◌≤◌, ◌⊎◌, inl, inr, Bool, true, false, cond, nat_lt, ◌==◌, ◌&&◌, ◌||◌, IsTrue, Option, Some, None, IfSome, List, [], ◌∷◌, ◌++◌, length, take, slice_index, refl, sym, ◌∙◌, ap, subst, arith, add-one, take-suc, append-nil, append_assoc, true≢false}
-use Rattle.std.proofs.lemmas.Bool.{cases_eq, cases_lt, cases_Bool}
-use Rattle.at_text.specs.declared.prefixes.Taken.{Taken}
+use Rattle.std.proofs.Common.{◌≡◌, ℕ, ◌+◌, ◌^◌, ◌<◌, ◌≤◌, ◌⊎◌, inl, inr, Bool, true, false, cond, nat_lt, ◌==◌, ◌||◌, IsTrue, Option, Some, None, IfSome, List, [], ◌∷◌, ◌++◌, length, take, slice_index, refl, sym, ◌∙◌, ap, subst, arith, add-one, take-suc, append-nil, append_assoc}
+use Rattle.std.proofs.lemmas.Bool.{cases_lt}
 use Rattle.at_text.specs.Prefix.{TakesLongest}
-use Rattle.at_text.specs.Texts.{is_digit, is_one_of}
+use Rattle.at_text.specs.Texts.{is_digit}
 use Rattle.at_fixed.specs.declared.notation.Notation.{Notation}
 use Rattle.at_fixed.specs.declared.notation.Notation.TheVariants.{Json, Wkt}
 use Rattle.at_fixed.specs.declared.scanning.Sign.{Sign}
 use Rattle.at_fixed.specs.declared.scanning.Mantissa.{Mantissa}
 use Rattle.at_fixed.specs.declared.scanning.Power.{Power}
-use Rattle.at_fixed.specs.Numerals.{Exponent, Numeral, fraction_text, exponent_text, numeral_text, AreDigits, AreSomeDigits, IsAtMostOneOf, IsExponent, IsNumeralOf, NumberOf, digits_value}
+use Rattle.at_fixed.specs.Numerals.{Exponent, Numeral, fraction_text, exponent_text, numeral_text, AreDigits, IsAtMostOneOf, IsExponent, IsNumeralOf, NumberOf, digits_value}
 use Rattle.at_fixed.specs.Fixed.{has_minus, exponent_above, exponent_below}
 use Rattle.at_fixed.specs.Kept.{part, SameOrHuge}
 use Rattle.at_fixed.specs.Decimals.{IsDecimalOf}
-use Rattle.at_fixed.specs.States.{State, Reads, letter, power_sign, power, is_letter, is_sign, after_fraction, step, accepts}
-use Rattle.at_fixed.specs.Scans.{ReadsSign, IsFrontOf, digits_of, IsMantissaOf, after_mantissa, ReadsMantissa, ReadsExponent, ReadsNone, ReadsPower}
+use Rattle.at_fixed.specs.States.{State, Reads, letter, power_sign, power, is_letter, is_sign, step, accepts}
+use Rattle.at_fixed.specs.Scans.{ReadsSign, IsFrontOf, IsMantissaOf, after_mantissa, ReadsMantissa, ReadsExponent, ReadsNone, ReadsPower}
 use Rattle.at_fixed.proofs.DigitParts.{part-none, part-place, part-cons, part-more, part-length}
 use Rattle.at_fixed.proofs.NumberMachine.{number_at}
 use Rattle.at_fixed.proofs.Phases.{reads_byte, reads_digits, power_stays}

@@ -1,12 +1,12 @@
 -- The value of a number without division: what each answer says by products alone.
-use Rattle.std.proofs.Common.{◌≡◌, ◌≢◌, ℕ, zero, suc, length, ◌^◌, ◌+◌, ◌*◌, ◌/◌, ◌%◌, ◌<◌, ◌≤◌, ◌⊎◌, Bool, true, false, cond, nat_lt, ◌==◌, Result, Ok, Err, refl, sym, ◌∙◌, ap, arith, div-add-mod', mod-lt, add-zero, mul-le-mul_right, one-mul, lit<}
+use Rattle.std.proofs.Common.{◌≡◌, ◌≢◌, ℕ, zero, suc, length, ◌^◌, ◌+◌, ◌*◌, ◌/◌, ◌%◌, ◌<◌, ◌≤◌, Bool, true, false, cond, nat_lt, ◌==◌, Result, Ok, Err, refl, sym, ◌∙◌, ap, arith, div-add-mod', mod-lt, add-zero, mul-le-mul_right, one-mul, lit<}
 use Rattle.std.proofs.Math.Nat.{mul-mod_left}
 use Rattle.at_fixed.specs.declared.rounding.FixedFault.{FixedFault}
 use Rattle.at_fixed.specs.declared.rounding.FixedFault.TheVariants.{Scale, Range}
 use Rattle.at_fixed.specs.declared.rounding.Coords.{Coords}
 use Rattle.at_fixed.specs.declared.rounding.Coords.TheVariants.{Exact, Round}
 use Rattle.at_fixed.specs.Numerals.{Numeral}
-use Rattle.at_fixed.specs.Fixed.{largest, exact_quotient, nearest, rounded_quotient, quotient, size_of, has_minus, mantissa, fraction_digits, exponent_above, exponent_below, signed, fixed_of}
+use Rattle.at_fixed.specs.Fixed.{largest, exact_quotient, nearest, quotient, size_of, mantissa, fraction_digits, exponent_above, exponent_below, fixed_of}
 use Rattle.at_fixed.specs.Products.{IsExact, IsNearest, IsRounded, IsQuotient, IsSize, IsValue}
 use Rattle.at_fixed.proofs.Sizes.{pow_positive}
 

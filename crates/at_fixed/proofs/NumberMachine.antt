@@ -1,5 +1,5 @@
 -- A machine for the numbers of JSON and of WKT, and that it is one for their grammars.
-use Rattle.std.proofs.Common.{◌≡◌, ℕ, ◌⊎◌, inl, inr, ◌↔◌, List, [], ◌∷◌, ◌++◌, Option, Some, None, IfSome, IsTrue, Bool, true, false, cond, ◌&&◌, nat_le, ◌==◌, refl, sym, ◌∙◌, ap, subst, arith, true≢false, ◌<◌, ◌≤◌, length, take, slice_index}
+use Rattle.std.proofs.Common.{◌≡◌, ℕ, ◌⊎◌, inl, inr, ◌↔◌, List, [], ◌∷◌, ◌++◌, Option, Some, None, IfSome, IsTrue, Bool, true, false, cond, ◌==◌, refl, sym, ◌∙◌, ap, subst, arith, true≢false, ◌<◌, ◌≤◌, length, take, slice_index}
 use Rattle.std.proofs.lemmas.Option.{none-some, same_Some}
 use Rattle.std.specs.Bool.{⊤}
 use Rattle.at_text.specs.Texts.{is_digit, is_one_of}
@@ -7,8 +7,8 @@ use Rattle.at_text.specs.Prefix.{TakesLongest}
 use Rattle.at_text.proofs.Machine.{IsMachine, run, longest_at, TakesLongest-same}
 use Rattle.at_fixed.specs.declared.notation.Notation.{Notation}
 use Rattle.at_fixed.specs.declared.notation.Notation.TheVariants.{Json, Wkt}
-use Rattle.at_fixed.specs.Numerals.{Exponent, Numeral, fraction_text, exponent_text, numeral_text, IsAtMostOneOf, AreDigits, AreSomeDigits, IsExponent, IsJsonWhole, IsJsonNumeral, JsonNumber, AreWktDigits, IsWktNumeral, WktNumber, NumberOf}
-use Rattle.at_fixed.specs.States.{State, start, signed, zero_digit, whole, point, fraction, letter, power_sign, power, is_letter, is_sign, is_first_digit, is_lead_sign, behind_digits, after_fraction, after_whole, lone_point, lead, step, accepts}
+use Rattle.at_fixed.specs.Numerals.{Exponent, fraction_text, exponent_text, IsAtMostOneOf, AreDigits, AreSomeDigits, IsExponent, IsJsonWhole, JsonNumber, AreWktDigits, WktNumber, NumberOf}
+use Rattle.at_fixed.specs.States.{State, start, signed, zero_digit, whole, point, fraction, letter, power_sign, power, is_letter, is_sign, is_first_digit, behind_digits, after_fraction, after_whole, lone_point, lead, step, accepts}
 
 -- what may follow, cell by cell
 abbrev pub Rest : Notation → State → List ℕ → Type 0

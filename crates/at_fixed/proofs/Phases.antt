@@ -1,20 +1,17 @@
 -- The steps of reading a number follow the machine.
-use Rattle.std.proofs.Common.{◌≡◌, ◌≢◌, ℕ, zero, suc, ◌+◌, ◌-◌, ◌*◌, ◌^◌, ◌<◌, ◌≤◌, ◌⊎◌, inl, inr, Bool, true, false, cond, nat_le, nat_lt, ◌==◌, ◌&&◌, ◌||◌, IsTrue, Option, Some, None, IfSome, option_and_then, List, [], ◌∷◌, ◌++◌, length, take, drop, slice_index, refl, sym, ◌∙◌, ap, subst, arith, add-one, take-suc, append-nil, append_assoc}
+use Rattle.std.proofs.Common.{◌≡◌, ℕ, ◌+◌, ◌<◌, ◌≤◌, inl, inr, Bool, true, false, cond, nat_lt, ◌==◌, ◌||◌, Option, Some, None, option_and_then, List, [], ◌∷◌, ◌++◌, length, take, slice_index, refl, sym, ◌∙◌, ap, subst, arith, add-one, take-suc}
 use Rattle.std.proofs.lemmas.Option.{same_Some, option_and_then_some}
-use Rattle.std.proofs.lemmas.Bool.{cases_eq, cases_lt, cases_Bool}
-use Rattle.at_text.specs.Texts.{is_digit, is_one_of}
+use Rattle.at_text.specs.Texts.{is_digit}
 use Rattle.at_text.proofs.Machine.{run, run_more}
 use Rattle.at_fixed.specs.declared.notation.Notation.{Notation}
 use Rattle.at_fixed.specs.declared.notation.Notation.TheVariants.{Json, Wkt}
 use Rattle.at_fixed.specs.declared.digits.DigitsRun.{DigitsRun}
 use Rattle.at_fixed.specs.declared.scanning.Sign.{Sign}
-use Rattle.at_fixed.specs.declared.scanning.Mantissa.{Mantissa}
-use Rattle.at_fixed.specs.declared.scanning.Power.{Power}
-use Rattle.at_fixed.specs.Numerals.{AreDigits, AreSomeDigits, IsAtMostOneOf, IsJsonWhole, digits_value}
+use Rattle.at_fixed.specs.Numerals.{AreDigits, IsJsonWhole}
 use Rattle.at_fixed.specs.Fixed.{has_minus}
-use Rattle.at_fixed.specs.Kept.{part, Keeps}
-use Rattle.at_fixed.specs.States.{State, Reads, start, signed, zero_digit, whole, point, fraction, letter, power_sign, power, is_letter, is_sign, is_first_digit, is_lead_sign, behind_digits, after_fraction, after_whole, lone_point, lead, step, accepts}
-use Rattle.at_fixed.specs.Scans.{ReadsSign, IsLead, ReadsLead, IsSignOf, IsWholeOf, after_lead, ReadsWhole, may_take_point, is_wkt, IsFrontOf, digits_of, IsMantissaOf, after_mantissa, ReadsMantissa}
+use Rattle.at_fixed.specs.Kept.{part}
+use Rattle.at_fixed.specs.States.{State, Reads, start, signed, zero_digit, whole, fraction, power, is_first_digit, is_lead_sign, after_fraction, after_whole, lone_point, lead, step, accepts}
+use Rattle.at_fixed.specs.Scans.{ReadsSign, IsLead, ReadsLead, IsSignOf, IsWholeOf, after_lead, ReadsWhole}
 use Rattle.at_fixed.proofs.DigitParts.{part-none, part-place, part-cons, part-more}
 use Rattle.at_fixed.proofs.NumberMachine.{machine}
 

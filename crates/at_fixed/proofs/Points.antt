@@ -1,17 +1,16 @@
 -- The point of a number and the digits behind it follow the machine.
-use Rattle.std.proofs.Common.{◌≡◌, ◌≢◌, ℕ, zero, suc, ◌+◌, ◌-◌, ◌*◌, ◌^◌, ◌<◌, ◌≤◌, ◌⊎◌, inl, inr, Bool, true, false, cond, nat_lt, ◌==◌, ◌&&◌, ◌||◌, IsTrue, Option, Some, None, IfSome, List, [], ◌∷◌, ◌++◌, length, take, slice_index, refl, sym, ◌∙◌, ap, subst, arith, add-one, take-suc, append-nil, append_assoc, true≢false}
-use Rattle.std.proofs.lemmas.Bool.{cases_eq, cases_lt, cases_Bool}
-use Rattle.at_text.specs.Texts.{is_digit, is_one_of}
+use Rattle.std.proofs.Common.{◌≡◌, ℕ, ◌+◌, ◌-◌, ◌^◌, ◌<◌, ◌≤◌, inl, inr, Bool, true, false, cond, nat_lt, ◌==◌, ◌&&◌, ◌||◌, IsTrue, Option, Some, None, IfSome, List, [], ◌∷◌, ◌++◌, length, take, slice_index, refl, sym, ◌∙◌, ap, subst, arith, add-one, take-suc, append-nil, append_assoc, true≢false}
+use Rattle.std.proofs.lemmas.Bool.{cases_lt}
+use Rattle.at_text.specs.Texts.{is_digit}
 use Rattle.at_fixed.specs.declared.notation.Notation.{Notation}
 use Rattle.at_fixed.specs.declared.notation.Notation.TheVariants.{Json, Wkt}
 use Rattle.at_fixed.specs.declared.digits.DigitsRun.{DigitsRun}
 use Rattle.at_fixed.specs.declared.scanning.Mantissa.{Mantissa}
-use Rattle.at_fixed.specs.Numerals.{fraction_text, AreDigits, AreSomeDigits, IsAtMostOneOf, IsJsonWhole, AreWktDigits, digits_value}
-use Rattle.at_fixed.specs.Fixed.{has_minus}
+use Rattle.at_fixed.specs.Numerals.{AreDigits, AreSomeDigits, AreWktDigits, digits_value}
 use Rattle.at_fixed.specs.Kept.{part, digits_behind, Keeps}
-use Rattle.at_fixed.specs.States.{State, Reads, point, fraction, behind_digits, after_fraction, after_whole, lone_point, step, accepts}
-use Rattle.at_fixed.specs.Scans.{IsSignOf, IsWholeOf, after_lead, ReadsWhole, may_take_point, is_wkt, IsFrontOf, digits_of, IsMantissaOf, after_mantissa, ReadsMantissa}
-use Rattle.at_fixed.proofs.DigitParts.{part-none, part-place, part-cons, part-length, behind-both}
+use Rattle.at_fixed.specs.States.{State, Reads, point, fraction, behind_digits, after_fraction, step, accepts}
+use Rattle.at_fixed.specs.Scans.{IsSignOf, IsWholeOf, after_lead, ReadsWhole, may_take_point, is_wkt, IsFrontOf, after_mantissa, ReadsMantissa}
+use Rattle.at_fixed.proofs.DigitParts.{part-place, part-cons, part-length, behind-both}
 use Rattle.at_fixed.proofs.Phases.{reads_byte, reads_digits, fraction_stays}
 
 -- ---- tests

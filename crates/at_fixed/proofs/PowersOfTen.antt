@@ -1,5 +1,5 @@
 -- A table of powers of ten.
-use Rattle.std.proofs.Common.{◌≡◌, ℕ, zero, suc, ◌+◌, ◌*◌, ◌/◌, ◌^◌, ◌<◌, ◌≤◌, List, [], ◌∷◌, slice_index, refl, sym, ◌∙◌, ap, subst, arith, lit<}
+use Rattle.std.proofs.Common.{◌≡◌, ℕ, zero, suc, ◌*◌, ◌/◌, ◌^◌, ◌<◌, List, [], ◌∷◌, slice_index, sym, ◌∙◌, ap, arith, lit<}
 use Rattle.std.proofs.Math.Nat.{pow-suc, mul-div_cancel}
 
 -- n numbers from p on, each ten times the one before

@@ -1,16 +1,15 @@
 -- The size of a number from what is kept of it.
-use Rattle.std.proofs.Common.{◌≡◌, ◌≢◌, ℕ, zero, suc, ◌+◌, ◌-◌, ◌*◌, ◌^◌, ◌<◌, ◌≤◌, ◌⊎◌, inl, inr, Bool, true, false, cond, nat_lt, ◌==◌, Option, Some, None, Result, Ok, Err, refl, sym, ◌∙◌, ap, subst, arith, lit<, lit≤, length}
-use Rattle.std.proofs.lemmas.Nat.{pow-add, mul-le, mul-lt}
-use Rattle.std.proofs.lemmas.Bool.{cases_order, cases_lt, cases_eq}
-use Rattle.std.proofs.Math.Nat.{mul-le-mul_right, pow-le-pow_right, mul-lt-mul_of_pos_right, le-mul_of_pos_right, mul-pos, one-le-pow, mul_comm, mul_assoc}
+use Rattle.std.proofs.Common.{◌≡◌, ℕ, zero, suc, ◌+◌, ◌-◌, ◌*◌, ◌^◌, ◌<◌, ◌≤◌, ◌⊎◌, inl, inr, Bool, true, false, cond, nat_lt, Option, Some, None, Result, Ok, Err, refl, sym, ◌∙◌, ap, subst, arith, lit<}
+use Rattle.std.proofs.lemmas.Nat.{pow-add}
+use Rattle.std.proofs.lemmas.Bool.{cases_lt, cases_eq}
+use Rattle.std.proofs.Math.Nat.{mul-le-mul_right, pow-le-pow_right, mul-lt-mul_of_pos_right, le-mul_of_pos_right, mul-pos, one-le-pow, mul_assoc}
 use Rattle.at_fixed.specs.declared.rounding.Coords.{Coords}
-use Rattle.at_fixed.specs.declared.rounding.Coords.TheVariants.{Exact, Round}
 use Rattle.at_fixed.specs.declared.rounding.FixedFault.{FixedFault}
-use Rattle.at_fixed.specs.declared.rounding.FixedFault.TheVariants.{Scale, Range}
+use Rattle.at_fixed.specs.declared.rounding.FixedFault.TheVariants.{Range}
 use Rattle.at_fixed.specs.Numerals.{Exponent, digits_value}
 use Rattle.at_fixed.specs.Fixed.{largest, quotient, size_of, has_minus, exponent_above, exponent_below}
 use Rattle.at_fixed.specs.Kept.{Keeps, huge, SameOrHuge}
-use Rattle.at_fixed.proofs.Quotients.{lt_true, lt_false, far_below, far_above, whole_quotient}
+use Rattle.at_fixed.proofs.Quotients.{lt_true, far_above, whole_quotient}
 
 ten : 0 < 10
 ten = lit< tt

@@ -1,15 +1,15 @@
 -- A text spells at most one number, of JSON or of WKT, and a reader that takes the longest viable prefix takes a number whole.
-use Rattle.std.proofs.Common.{◌≡◌, ℕ, ◌+◌, ◌<◌, ◌≤◌, ◌⊎◌, inl, inr, List, [], ◌∷◌, ◌++◌, length, take, Option, Some, None, IfSome, IsTrue, Bool, true, false, ◌==◌, ◌&&◌, nat_le, Result, ℤ, refl, sym, ◌∙◌, ap, subst, arith, append-nil}
+use Rattle.std.proofs.Common.{◌≡◌, ℕ, ◌⊎◌, inl, inr, List, [], ◌∷◌, ◌++◌, length, take, Option, Some, None, IfSome, IsTrue, ◌&&◌, nat_le, Result, ℤ, refl, sym, ◌∙◌, ap, subst, arith, append-nil}
 use Rattle.std.proofs.Math.Seq.{take-length}
 use Rattle.at_text.specs.declared.prefixes.Taken.{Taken}
 use Rattle.at_text.specs.Prefix.{LongestViable, TakesLongest}
-use Rattle.at_text.specs.Texts.{is_digit, is_one_of}
+use Rattle.at_text.specs.Texts.{is_digit}
 use Rattle.at_text.proofs.Machine.{longest_unique}
 use Rattle.at_fixed.specs.declared.notation.Notation.{Notation}
 use Rattle.at_fixed.specs.declared.notation.Notation.TheVariants.{Json, Wkt}
 use Rattle.at_fixed.specs.declared.rounding.Coords.{Coords}
 use Rattle.at_fixed.specs.declared.rounding.FixedFault.{FixedFault}
-use Rattle.at_fixed.specs.Numerals.{Exponent, Numeral, numeral_text, IsAtMostOneOf, AreDigits, AreSomeDigits, IsExponent, IsJsonWhole, IsJsonNumeral, AreWktDigits, IsWktNumeral, IsNumeralOf, SpellsNumeral, JsonNumber, WktNumber}
+use Rattle.at_fixed.specs.Numerals.{Numeral, numeral_text, IsAtMostOneOf, AreDigits, AreSomeDigits, IsJsonWhole, IsJsonNumeral, AreWktDigits, IsWktNumeral, IsNumeralOf, SpellsNumeral, JsonNumber, WktNumber}
 use Rattle.at_fixed.specs.Fixed.{fixed_of, IsFixedOf}
 use Rattle.at_fixed.proofs.NumeralParts.{one_numeral, some_are_digits}
 

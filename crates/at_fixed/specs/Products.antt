@@ -1,10 +1,10 @@
 -- The value of a number without division: what each answer says of whole numbers, by products alone.
-use Rattle.std.specs.Prelude.{◌≡◌, ◌≢◌, ℕ, zero, suc, ◌+◌, ◌*◌, ◌%◌, ◌^◌, ◌<◌, ◌≤◌, ◌⊎◌, ℤ, List, length, Result, Ok, Err}
+use Rattle.std.specs.Prelude.{◌≡◌, ◌≢◌, ℕ, zero, suc, ◌+◌, ◌*◌, ◌%◌, ◌^◌, ◌<◌, ◌≤◌, ◌⊎◌, ℤ, length, Result, Ok, Err}
 use Rattle.at_fixed.specs.declared.rounding.Coords.{Coords}
 use Rattle.at_fixed.specs.declared.rounding.Coords.TheVariants.{Exact, Round}
 use Rattle.at_fixed.specs.declared.rounding.FixedFault.{FixedFault}
 use Rattle.at_fixed.specs.declared.rounding.FixedFault.TheVariants.{Scale, Range}
-use Rattle.at_fixed.specs.Numerals.{Numeral, SpellsNumeral}
+use Rattle.at_fixed.specs.Numerals.{Numeral}
 use Rattle.at_fixed.specs.Fixed.{largest, has_minus, mantissa, fraction_digits, exponent_above, exponent_below, signed}
 
 -- the exact value of p over q: it is a whole number of at most the largest size, or it is larger, or no whole number

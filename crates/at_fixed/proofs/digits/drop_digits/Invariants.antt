@@ -1,4 +1,4 @@
-use Rattle.std.proofs.Common.{ℕ, length, ◌-◌, ◌≡◌, ◌≤◌, ◌<◌, ◌^◌, ◌+◌, nat_lt}
+use Rattle.std.proofs.Common.{ℕ, length, ◌-◌, ◌≡◌, ◌≤◌, nat_lt}
 use Rattle.at_fixed.specs.Numerals.{AreDigits}
 use Rattle.at_fixed.specs.Kept.{part, digits_behind}
 use Rattle.at_fixed.proofs.digits.drop_digits.Given as goal

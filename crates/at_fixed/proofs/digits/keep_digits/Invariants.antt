@@ -1,4 +1,4 @@
-use Rattle.std.proofs.Common.{length, ◌-◌, ◌≡◌, ◌≤◌, ◌<◌, ◌^◌, ◌+◌}
+use Rattle.std.proofs.Common.{length, ◌-◌, ◌≡◌, ◌≤◌, ◌<◌, ◌^◌}
 use Rattle.at_fixed.specs.Numerals.{AreDigits}
 use Rattle.at_fixed.specs.Kept.{part, digits_behind}
 use Rattle.at_fixed.proofs.digits.keep_digits.Given as goal

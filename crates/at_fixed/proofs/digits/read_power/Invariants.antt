@@ -1,4 +1,4 @@
-use Rattle.std.proofs.Common.{ℕ, length, ◌-◌, ◌≡◌, ◌≤◌, ◌<◌, ◌^◌, ◌+◌}
+use Rattle.std.proofs.Common.{length, ◌-◌, ◌≤◌, ◌<◌, ◌^◌}
 use Rattle.at_fixed.specs.Numerals.{AreDigits}
 use Rattle.at_fixed.specs.Kept.{part, digits_behind, SameOrHuge}
 use Rattle.at_fixed.proofs.digits.read_power.Given as goal

@@ -1,7 +1,5 @@
-use Rattle.std.proofs.Common.{◌≡◌, ℕ, ◌+◌, ◌*◌, ◌/◌, ◌%◌, ◌^◌, ◌<◌, Bool, ◌||◌, nat_lt, Result, refl, sym, ◌∙◌, ap, subst, arith}
+use Rattle.std.proofs.Common.{◌≡◌, ℕ, ◌+◌, ◌*◌, ◌/◌, ◌^◌, ◌<◌, sym, ◌∙◌, subst, arith}
 use Rattle.at_fixed.specs.declared.rounding.Coords.{Coords}
-use Rattle.at_fixed.specs.declared.rounding.Coords.TheVariants.{Exact, Round}
-use Rattle.at_fixed.specs.declared.rounding.FixedFault.{FixedFault}
 use Rattle.at_fixed.specs.Fixed.{exact_quotient, rounded_quotient, quotient}
 use Rattle.at_fixed.proofs.Sizes.{pow_positive}
 use Rattle.at_fixed.proofs.PowersOfTen.{half_power}

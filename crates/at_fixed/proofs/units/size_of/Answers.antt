@@ -1,5 +1,4 @@
-use Rattle.std.proofs.Common.{◌≡◌, ℕ, ◌+◌, ◌-◌, ◌*◌, ◌^◌, ◌<◌, ◌≤◌, cond, nat_lt, length, Result, Ok, Err, sym, ◌∙◌, ap, subst, arith}
-use Rattle.at_fixed.specs.declared.rounding.FixedFault.{FixedFault}
+use Rattle.std.proofs.Common.{◌≡◌, ℕ, ◌+◌, ◌-◌, ◌*◌, ◌^◌, ◌<◌, ◌≤◌, cond, nat_lt, length, Ok, Err, ◌∙◌, ap, subst, arith}
 use Rattle.at_fixed.specs.declared.rounding.FixedFault.TheVariants.{Range}
 use Rattle.at_fixed.specs.declared.scanning.Decimal.{Decimal}
 use Rattle.at_fixed.specs.Numerals.{Numeral}

@@ -1,4 +1,4 @@
-use Rattle.std.proofs.Common.{ℕ, ◌≡◌, ◌+◌, ◌-◌, ◌/◌, ◌%◌, ◌^◌, ◌<◌, mod-lt, lit<, ◌∷◌, ◌++◌, [], string_bytes, arith, ◌∙◌, ap}
+use Rattle.std.proofs.Common.{ℕ, ◌≡◌, ◌+◌, ◌-◌, ◌/◌, ◌%◌, ◌^◌, ◌<◌, mod-lt, lit<, ◌++◌, string_bytes, arith, ◌∙◌, ap}
 use Rattle.at_fixed.proofs.Written.{written_more}
 use Rattle.at_fixed.proofs.writing.push_digits.Goals as goal
 

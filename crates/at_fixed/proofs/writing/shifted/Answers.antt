@@ -1,4 +1,4 @@
-use Rattle.std.proofs.Common.{◌≡◌, ◌<◌, ◌≤◌, ◌^◌, sym, arith, lit<}
+use Rattle.std.proofs.Common.{◌<◌, ◌≤◌, ◌^◌, sym, arith, lit<}
 use Rattle.std.proofs.Math.Nat.{pow-le-pow_right}
 use Rattle.at_fixed.proofs.Sizes.{pow_positive}
 use Rattle.at_fixed.proofs.Written.{small_div}
