@@ -1,0 +1,13 @@
+mod Examples
+pub mod DigitParts
+pub mod Endings
+pub mod FixedLaws
+pub mod NumberMachine
+pub mod NumeralParts
+pub mod Phases
+pub mod Points
+pub mod PowersOfTen
+pub mod Quotients
+pub mod Sizes
+pub mod Spelled
+pub mod Written

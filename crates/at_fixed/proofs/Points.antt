@@ -1,0 +1,191 @@
+-- The point of a number and the digits behind it follow the machine.
+use Rattle.std.proofs.Common.{◌≡◌, ℕ, ◌+◌, ◌-◌, ◌^◌, ◌<◌, ◌≤◌, inl, inr, Bool, true, false, cond, nat_lt, ◌==◌, ◌&&◌, ◌||◌, IsTrue, Option, Some, None, IfSome, List, [], ◌∷◌, ◌++◌, length, take, slice_index, refl, sym, ◌∙◌, ap, subst, arith, add-one, take-suc, append-nil, append_assoc, true≢false}
+use Rattle.std.proofs.lemmas.Bool.{cases_lt}
+use Rattle.at_text.specs.Texts.{is_digit}
+use Rattle.at_fixed.specs.declared.notation.Notation.{Notation}
+use Rattle.at_fixed.specs.declared.notation.Notation.TheVariants.{Json, Wkt}
+use Rattle.at_fixed.specs.declared.digits.DigitsRun.{DigitsRun}
+use Rattle.at_fixed.specs.declared.scanning.Mantissa.{Mantissa}
+use Rattle.at_fixed.specs.Numerals.{AreDigits, AreSomeDigits, AreWktDigits, digits_value}
+use Rattle.at_fixed.specs.Kept.{part, digits_behind, Keeps}
+use Rattle.at_fixed.specs.States.{State, Reads, point, fraction, behind_digits, after_fraction, step, accepts}
+use Rattle.at_fixed.specs.Scans.{IsSignOf, IsWholeOf, after_lead, ReadsWhole, may_take_point, is_wkt, IsFrontOf, after_mantissa, ReadsMantissa}
+use Rattle.at_fixed.proofs.DigitParts.{part-place, part-cons, part-length, behind-both}
+use Rattle.at_fixed.proofs.Phases.{reads_byte, reads_digits, fraction_stays}
+
+-- ---- tests
+
+and_true : (a b : Bool) → (a && b) ≡ true → (a ≡ true) × (b ≡ true)
+and_true true b h = (refl, h)
+and_true false b h = absurd (true≢false (sym h))
+
+and_after : (a b : Bool) → a ≡ true → (a && b) ≡ false → b ≡ false
+and_after true b h k = k
+and_after false b h k = absurd (true≢false (sym h))
+
+pub lt_true : (a b : ℕ) → a < b → nat_lt a b ≡ true
+lt_true a b h = grind (arith, h)
+
+pub from_lt : (a b : ℕ) → nat_lt a b ≡ true → a < b
+from_lt a b h = grind (arith, h)
+
+from_eq : (a b : ℕ) → (a == b) ≡ true → a ≡ b
+from_eq a b h = grind (arith, h)
+
+-- ---- no point
+
+and_one : (a : Bool) → (a && true) ≡ false → a ≡ false
+and_one true h = h
+and_one false h = refl
+
+plain_next : (g : Notation) (led : Bool) (b : ℕ) → ((b == 0x2E) && (led || is_wkt g)) ≡ false → after_lead g led b ≡ after_mantissa led b
+plain_next g true b h = ap (λ c. cond c (Some (behind_digits g)) (after_fraction b)) (and_one (b == 0x2E) h)
+plain_next Json false b h = refl
+plain_next Wkt false b h = ap (λ c. cond c (Some point) None) (and_one (b == 0x2E) h)
+
+wkt_whole : (whole : List ℕ) (f : Option (List ℕ)) → AreSomeDigits whole → IfSome f AreDigits → AreWktDigits whole f
+wkt_whole [] f h k = absurd h
+wkt_whole (b ∷ w) f h k = (h, k)
+
+plain_front : (g : Notation) (led : Bool) (sign whole : List ℕ) → IsSignOf g sign → IsWholeOf g led whole → led ≡ true → IsFrontOf g sign whole None
+plain_front g false sign whole h k e = absurd (true≢false (sym e))
+plain_front Json true sign whole h k e = (h, k, tt)
+plain_front Wkt true sign whole h k e = (h, wkt_whole whole None k tt)
+
+pub plain_by : (g : Notation) (w : List ℕ) (read : Mantissa) → ReadsWhole g w read → may_take_point g w read ≡ false → ReadsMantissa g w read
+plain_by g w read h none = record {
+  state = h.state;
+  reads = h.reads;
+  ends = h.ends;
+  next = λ inside. h.next inside ∙ plain_next g read.is_number (slice_index w read.end) (and_after (nat_lt read.end (length w)) _ (lt_true read.end (length w) inside) none);
+  parts = λ led. record {
+    sign = h.sign;
+    whole = h.whole;
+    fraction = None;
+    text = h.text ∙ ap (λ x. h.sign ++ x) (sym (append-nil h.whole));
+    is_front = plain_front g read.is_number h.sign h.whole h.sign_is h.whole_is led;
+    minus = h.minus;
+    keeps = subst (λ x. Keeps read.digits.kept read.digits.dropped read.digits.is_cut (digits_value x)) (sym (append-nil h.whole)) h.keeps;
+    count = h.count;
+  };
+  dropped = h.dropped;
+  fits = h.keeps.fits;
+  count = omega (arith, h.count);
+}
+
+-- ---- a point
+
+-- the place behind the point
+abbrev after_point : Notation → Bool → State
+after_point g led = cond led (behind_digits g) point
+
+point_step : (g : Notation) (led : Bool) → (led || is_wkt g) ≡ true → after_lead g led 0x2E ≡ Some (after_point g led)
+point_step g true h = refl
+point_step Json false h = absurd (true≢false (sym h))
+point_step Wkt false h = refl
+
+digit_behind : (g : Notation) (led : Bool) (b : ℕ) → is_digit b ≡ true → step g (after_point g led) b ≡ Some fraction
+digit_behind Json true b h = ap (λ c. cond c (Some fraction) None) h
+digit_behind Wkt true b h = ap (λ c. cond c (Some fraction) (after_fraction b)) h
+digit_behind g false b h = ap (λ c. cond c (Some fraction) None) h
+
+bare_ends : (g : Notation) (led : Bool) → accepts (after_point g led) ≡ (led && is_wkt g)
+bare_ends Json true = refl
+bare_ends Wkt true = refl
+bare_ends g false = refl
+
+bare_next : (g : Notation) (led : Bool) (b : ℕ) → is_digit b ≡ false → step g (after_point g led) b ≡ after_mantissa (led && is_wkt g) b
+bare_next Json true b h = ap (λ c. cond c (Some fraction) None) h
+bare_next Wkt true b h = ap (λ c. cond c (Some fraction) (after_fraction b)) h
+bare_next g false b h = ap (λ c. cond c (Some fraction) None) h
+
+-- where a number stands behind the point and its digits
+record Behind (g : Notation) (w : List ℕ) (end : ℕ) (is_number : Bool) : Type 0 where
+  state : State
+  reads : Reads g w end state
+  ends : accepts state ≡ is_number
+  next : end < length w → step g state (slice_index w end) ≡ after_mantissa is_number (slice_index w end)
+
+pub not_above : (i : ℕ) → nat_lt i i ≡ false
+not_above i = grind arith
+
+behind_by : (g : Notation) (w : List ℕ) (i end : ℕ) (led : Bool) → Reads g w i (after_point g led) → i ≤ end → end ≤ length w → AreDigits (part w i end)
+    → (end < length w → is_digit (slice_index w end) ≡ false) → Behind g w end (nat_lt i end || (led && is_wkt g))
+behind_by g w i end led r order within digits stops = elim (cases_lt i end) [
+  | inl some ↦ rw (lt_true i end some) (let cells = part-cons w i end some within in
+      let all : AreDigits (slice_index w i ∷ part w (i + 1) end) = subst AreDigits cells digits in
+      record {
+        state = fraction;
+        reads = reads_digits g w i end (after_point g led) fraction r some within digits (digit_behind g led (slice_index w i) all.0) (fraction_stays g);
+        ends = refl;
+        next = λ more. ap (λ c. cond c (Some fraction) (after_fraction (slice_index w end))) (stops more);
+      })
+  | inr none ↦ (let same : i ≡ end = omega arith in
+      let P : ℕ → Type 0 = λ n. Reads g w n (after_point g led) in
+      rw (same, not_above end) (record {
+        state = after_point g led;
+        reads = subst P same r;
+        ends = bare_ends g led;
+        next = λ more. bare_next g led (slice_index w end) (stops more);
+      }))
+]
+
+point_text : (w : List ℕ) (e : ℕ) (s ws fs t : List ℕ) → e < length w → slice_index w e ≡ 0x2E → take e w ≡ s ++ ws → t ≡ take (e + 1) w ++ fs
+    → t ≡ s ++ (ws ++ (0x2E ∷ fs))
+point_text w e s ws fs t h byte text k =
+    let next : take (e + 1) w ≡ (s ++ ws) ++ (0x2E ∷ []) = (rw (add-one e, take-suc w e 0 h, text, byte) refl) in
+    let all : ((s ++ ws) ++ (0x2E ∷ [])) ++ fs ≡ s ++ (ws ++ (0x2E ∷ fs)) = append_assoc (s ++ ws) (0x2E ∷ []) fs ∙ append_assoc s ws (0x2E ∷ fs) in
+    k ∙ (ap (λ x. x ++ fs) next ∙ all)
+
+pub some_digits : (ds : List ℕ) → AreDigits ds → 0 < length ds → AreSomeDigits ds
+some_digits [] h k = absurd (omega arith)
+some_digits (d ∷ ds) h k = h
+
+point_front : (g : Notation) (led some : Bool) (sign whole fs : List ℕ) → IsSignOf g sign → IsWholeOf g led whole → AreDigits fs → (led || is_wkt g) ≡ true
+    → (some ≡ true → AreSomeDigits fs) → (some || (led && is_wkt g)) ≡ true → IsFrontOf g sign whole (Some fs)
+point_front Json true true sign whole fs h k digits m more e = (h, k, more refl)
+point_front Json true false sign whole fs h k digits m more e = absurd (true≢false (sym e))
+point_front Json false some sign whole fs h k digits m more e = absurd (true≢false (sym m))
+point_front Wkt true some sign whole fs h k digits m more e = (h, wkt_whole whole (Some fs) k digits)
+point_front Wkt false true sign whole fs h k digits m more e = (h, let P : List ℕ → Type 0 = λ x. AreWktDigits x (Some fs) in subst P (sym k) (more refl))
+point_front Wkt false false sign whole fs h k digits m more e = absurd (true≢false (sym e))
+
+pub fraction_by : (g : Notation) (w : List ℕ) (whole : Mantissa) (run : DigitsRun) (is_number : Bool) → ReadsWhole g w whole → IsTrue (may_take_point g w whole)
+    → whole.end + 1 ≤ run.end → run.end ≤ length w → AreDigits (part w (whole.end + 1) run.end)
+    → (run.end < length w → is_digit (slice_index w run.end) ≡ false) → run.digits.kept < 10 ^ 19 → run.digits.dropped ≤ run.end
+    → ((m : ℕ) → Keeps whole.digits.kept whole.digits.dropped whole.digits.is_cut m
+    → Keeps run.digits.kept run.digits.dropped run.digits.is_cut (digits_behind m (part w (whole.end + 1) run.end)))
+    → is_number ≡ (nat_lt (whole.end + 1) run.end || (whole.is_number && is_wkt g))
+    → ReadsMantissa g w (record { end = run.end; is_number = is_number; is_minus = whole.is_minus; digits = run.digits; fraction = run.end - (whole.end + 1) })
+fraction_by g w whole run is_number h may order within digits stops fits dropped keeps e =
+    let (inside_test, rest_test) = and_true (nat_lt whole.end (length w)) _ may in
+    let (byte_test, led_test) = and_true (slice_index w whole.end == 0x2E) _ rest_test in
+    let inside : whole.end < length w = from_lt whole.end (length w) inside_test in
+    let byte : slice_index w whole.end ≡ 0x2E = from_eq (slice_index w whole.end) 0x2E byte_test in
+    let fs : List ℕ = part w (whole.end + 1) run.end in
+    let goes = h.next inside ∙ (ap (after_lead g whole.is_number) byte ∙ point_step g whole.is_number led_test) in
+    let r : Reads g w (whole.end + 1) (after_point g whole.is_number) = reads_byte g w whole.end h.state (after_point g whole.is_number) h.reads inside goes in
+    let behind = behind_by g w (whole.end + 1) run.end whole.is_number r order within digits stops in
+    let count : whole.end + 1 + length fs ≡ run.end = part-length w (whole.end + 1) run.end order within in
+    let P : Bool → Type 0 = λ b. Behind g w run.end b in
+    let there : Behind g w run.end is_number = subst P (sym e) behind in
+    record {
+      state = there.state;
+      reads = there.reads;
+      ends = there.ends;
+      next = there.next;
+      parts = λ ok. record {
+        sign = h.sign;
+        whole = h.whole;
+        fraction = Some fs;
+        text = point_text w whole.end h.sign h.whole fs (take run.end w) inside byte h.text (part-place w (whole.end + 1) run.end order);
+        is_front = point_front g whole.is_number (nat_lt (whole.end + 1) run.end) h.sign h.whole fs h.sign_is h.whole_is digits led_test
+            (λ some. some_digits fs digits (omega (arith, count, from_lt (whole.end + 1) run.end some))) (sym e ∙ ok);
+        minus = h.minus;
+        keeps = subst (λ n. Keeps run.digits.kept run.digits.dropped run.digits.is_cut n) (sym (behind-both 0 h.whole fs)) (keeps (digits_value h.whole) h.keeps);
+        count = omega (arith, count);
+      };
+      dropped = dropped;
+      fits = fits;
+      count = omega arith;
+    }

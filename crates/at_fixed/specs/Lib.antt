@@ -1,0 +1,7 @@
+pub mod Numerals
+pub mod Fixed
+pub mod Products
+pub mod States
+pub mod Kept
+pub mod Scans
+pub mod Decimals
