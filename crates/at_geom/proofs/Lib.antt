@@ -1,0 +1,4 @@
+pub mod Bounds
+mod Examples
+pub mod Covering
+pub mod RingLaws

@@ -1,0 +1,22 @@
+//! Exact geometry in the plane: positions on a grid of whole units, the shapes that are made of them, and
+//! predicates that answer without rounding.
+//!
+//! A coordinate is a count of units of 10^-7 (or of another power of ten that the caller keeps to), and is at
+//! most 300,000,000,000,000 in size where a call asks for it. Differences then fit 64 bits and products of two
+//! differences fit 128 bits, so every answer is exact. No call takes memory.
+#![tactic(auto)]
+
+mod extents;
+mod integers;
+mod orientation;
+mod positions;
+mod rectangles;
+mod rules;
+mod shapes;
+
+pub use extents::{all_in, extent};
+pub use orientation::orient;
+pub use positions::{Path, Paths, Pos};
+pub use rectangles::Extent;
+pub use rules::{line_fault, ring_fault};
+pub use shapes::{Polygon, Polygons, Shape};
