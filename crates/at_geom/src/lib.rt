@@ -12,6 +12,7 @@ mod orientation;
 mod positions;
 mod rectangles;
 mod rules;
+mod segments;
 mod shapes;
 
 pub use extents::{all_in, extent};
@@ -19,4 +20,5 @@ pub use orientation::orient;
 pub use positions::{Path, Paths, Pos};
 pub use rectangles::Extent;
 pub use rules::{line_fault, ring_fault};
+pub use segments::segments_meet;
 pub use shapes::{Polygon, Polygons, Shape};
