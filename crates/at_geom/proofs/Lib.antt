@@ -1,6 +1,8 @@
 pub mod Bounds
 pub mod CommonPoint
+pub mod Elements
 mod Examples
 pub mod Covering
+pub mod Crossings
 pub mod RingLaws
 pub mod Tests

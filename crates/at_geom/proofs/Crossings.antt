@@ -1,0 +1,119 @@
+-- Where a position is against an edge and a ring: the two tests of heights, the side of the edge's line, and parity.
+use Rattle.std.proofs.Common.{◌≡◌, ℕ, suc, ℤ, pos, ◌+◌, ◌<◌, ◌-ℤ◌, ◌≤ℤ◌, ◌<ℤ◌, inl, inr, Bool, true, false, not, cond, List, ◌∷◌, length, get_or, drop, zero-add, arith, refl, sym, ap, subst, ◌∙◌}
+use Rattle.std.specs.Prelude.{int_le, int_lt, ◌%◌, ◌==◌, if◌then◌else◌, count_by, All}
+use Rattle.std.proofs.Math.IntN.{*ℤ_comm}
+use Rattle.std.proofs.lemmas.Int.{ints, clamps, by_lt_z}
+use Rattle.at_geom.specs.declared.positions.Pos.{Pos}
+use Rattle.std.proofs.lemmas.List.{drop_more}
+use Rattle.std.proofs.lemmas.List.Sums.{sum_by-cons}
+use Rattle.at_geom.specs.Segments.{IsInRange, IsOn, edges, turn}
+use Rattle.at_geom.specs.Regions.{is_crossed, run_of_edge, run_to_point, is_odd_for, IsOnRing}
+use Rattle.at_geom.proofs.CommonPoint.{Between, on_out}
+use Rattle.at_geom.proofs.Tests.{le_true, le_false, lt_true, lt_false}
+
+pick_up : (u v f g : Bool) → u ≡ true → v ≡ false → (if u then (if v then false else f) else (if v then g else false)) ≡ f
+pick_up u v f g d e = rw (d, e) refl
+
+pick_down : (u v f g : Bool) → u ≡ false → v ≡ true → (if u then (if v then false else f) else (if v then g else false)) ≡ g
+pick_down u v f g d e = rw (d, e) refl
+
+pick_none : (u v f g : Bool) → u ≡ v → (if u then (if v then false else f) else (if v then g else false)) ≡ false
+pick_none true true f g e = refl
+pick_none true false f g e = absurd (cc)
+pick_none false true f g e = absurd (cc)
+pick_none false false f g e = refl
+
+-- an edge that rises past p, and one that falls past it
+pub crossed_up : (p a b : Pos) → a.y ≤ℤ p.y → p.y <ℤ b.y → is_crossed p (a, b) ≡ int_lt (run_to_point p a b) (run_of_edge p a b)
+crossed_up p a b h k = pick_up (int_le a.y p.y) (int_le b.y p.y) (int_lt (run_to_point p a b) (run_of_edge p a b)) (int_lt (run_of_edge p a b) (run_to_point p a b)) (le_true a.y p.y h) (le_false b.y p.y k)
+
+pub crossed_down : (p a b : Pos) → p.y <ℤ a.y → b.y ≤ℤ p.y → is_crossed p (a, b) ≡ int_lt (run_of_edge p a b) (run_to_point p a b)
+crossed_down p a b h k = pick_down (int_le a.y p.y) (int_le b.y p.y) (int_lt (run_to_point p a b) (run_of_edge p a b)) (int_lt (run_of_edge p a b) (run_to_point p a b)) (le_false a.y p.y h) (le_true b.y p.y k)
+
+pub not_crossed : (p a b : Pos) → int_le a.y p.y ≡ int_le b.y p.y → is_crossed p (a, b) ≡ false
+not_crossed p a b e = pick_none (int_le a.y p.y) (int_le b.y p.y) (int_lt (run_to_point p a b) (run_of_edge p a b)) (int_lt (run_of_edge p a b) (run_to_point p a b)) e
+
+-- by the four cases of the heights
+by_heights : {P : Type 0} (p a b : Pos) → (a.y ≤ℤ p.y → p.y <ℤ b.y → P) → (p.y <ℤ a.y → b.y ≤ℤ p.y → P) → (int_le a.y p.y ≡ int_le b.y p.y → P) → P
+by_heights p a b up down level =
+    by_lt_z p.y a.y
+    (λ h. by_lt_z p.y b.y (λ k. level (le_false a.y p.y h ∙ sym (le_false b.y p.y k))) (λ k. down h k))
+    (λ h. by_lt_z p.y b.y (λ k. up h k) (λ k. level (le_true a.y p.y h ∙ sym (le_true b.y p.y k))))
+
+-- ---- the side
+
+run_difference : (p a b : Pos) → turn a b p ≡ run_of_edge p a b -ℤ run_to_point p a b
+run_difference p a b = omega (arith, ints, *ℤ_comm (b.x -ℤ a.x) (p.y -ℤ a.y), *ℤ_comm (b.y -ℤ a.y) (p.x -ℤ a.x))
+
+lt_of_difference : (s x y : ℤ) → s ≡ y -ℤ x → int_lt (pos 0) s ≡ int_lt x y
+lt_of_difference s x y e =
+    by_lt_z x y (λ h. lt_true (pos 0) s (omega (arith, ints)) ∙ sym (lt_true x y h)) (λ h. lt_false (pos 0) s (omega (arith, ints)) ∙ sym (lt_false x y h))
+
+gt_of_difference : (s x y : ℤ) → s ≡ y -ℤ x → int_lt s (pos 0) ≡ int_lt y x
+gt_of_difference s x y e =
+    by_lt_z y x (λ h. lt_true s (pos 0) (omega (arith, ints)) ∙ sym (lt_true y x h)) (λ h. lt_false s (pos 0) (omega (arith, ints)) ∙ sym (lt_false y x h))
+
+pub side_up : (p a b : Pos) (s : ℤ) → s ≡ turn a b p → a.y ≤ℤ p.y → p.y <ℤ b.y → int_lt (pos 0) s ≡ is_crossed p (a, b)
+side_up p a b s e h k = lt_of_difference s (run_to_point p a b) (run_of_edge p a b) (e ∙ run_difference p a b) ∙ sym (crossed_up p a b h k)
+
+pub side_down : (p a b : Pos) (s : ℤ) → s ≡ turn a b p → p.y <ℤ a.y → b.y ≤ℤ p.y → int_lt s (pos 0) ≡ is_crossed p (a, b)
+side_down p a b s e h k = gt_of_difference s (run_to_point p a b) (run_of_edge p a b) (e ∙ run_difference p a b) ∙ sym (crossed_down p a b h k)
+
+pub zero_not_crossed : (p a b : Pos) → turn a b p ≡ pos 0 → is_crossed p (a, b) ≡ false
+zero_not_crossed p a b e =
+    by_heights p a b
+    (λ h k. sym (side_up p a b (pos 0) (sym e) h k))
+    (λ h k. sym (side_down p a b (pos 0) (sym e) h k))
+    (not_crossed p a b)
+
+pub not_level : (p a b : Pos) → ¬ Between a.y b.y p.y → (¬ IsOn p a b) × (is_crossed p (a, b) ≡ false)
+not_level p a b f = (
+  λ h. f (on_out p a b h).between_y,
+  by_heights p a b
+      (λ h k. absurd (f (omega (arith, ints, clamps), omega (arith, ints, clamps))))
+      (λ h k. absurd (f (omega (arith, ints, clamps), omega (arith, ints, clamps))))
+      (not_crossed p a b),
+)
+
+-- ---- parity
+
+abbrev pub flip : Bool → Bool → Bool
+flip true b = not b
+flip false b = b
+
+parity_step : (n : ℕ) → ((1 + n) % 2 == 1) ≡ not (n % 2 == 1)
+parity_step n = grind arith
+
+by_crossing : (c : Bool) (n : ℕ) → ((cond c 1 0 + n) % 2 == 1) ≡ flip c (n % 2 == 1)
+by_crossing true n = parity_step n
+by_crossing false n = ap (λ k. k % 2 == 1) (zero-add n)
+
+off_edge : (p a b : Pos) (r : List Pos) → ¬ IsOn p a b → IsOnRing p (a ∷ b ∷ r) → IsOnRing p (b ∷ r)
+off_edge p a b r f (inl h) = absurd (f h)
+off_edge p a b r f (inr h) = h
+
+pub odd_step : (p a b : Pos) (r : List Pos) → is_odd_for p (a ∷ b ∷ r) ≡ flip (is_crossed p (a, b)) (is_odd_for p (b ∷ r))
+odd_step p a b r = rw (sum_by-cons (λ e. cond (is_crossed p e) 1 0) (a, b) (edges (b ∷ r))) (by_crossing (is_crossed p (a, b)) (count_by (is_crossed p) (edges (b ∷ r))))
+
+pub flip_more : (o x : Bool) → flip o (not x) ≡ flip (not o) x
+flip_more true true = refl
+flip_more true false = refl
+flip_more false x = refl
+
+-- one edge on
+pub in_rest_step : (p a : Pos) (rest : List Pos) (i : ℕ) (d : Pos) → i < length rest → ¬ IsOn p a (get_or rest i d) → IsOnRing p (a ∷ drop i rest) → IsOnRing p (get_or rest i d ∷ drop (i + 1) rest)
+in_rest_step p a rest i d lt f h = off_edge p a (get_or rest i d) (drop (i + 1) rest) f (subst (λ (r : List Pos). IsOnRing p (a ∷ r)) (drop_more rest i d lt) h)
+
+pub from_rest_step : (p a : Pos) (rest : List Pos) (i : ℕ) (d : Pos) → i < length rest → IsOnRing p (get_or rest i d ∷ drop (i + 1) rest) → IsOnRing p (a ∷ drop i rest)
+from_rest_step p a rest i d lt h = subst (λ (r : List Pos). IsOnRing p (a ∷ r)) (sym (drop_more rest i d lt)) (inr h)
+
+pub parity_at : (p a : Pos) (rest : List Pos) (i : ℕ) (d : Pos) → i < length rest → is_odd_for p (a ∷ drop i rest) ≡ flip (is_crossed p (a, get_or rest i d)) (is_odd_for p (get_or rest i d ∷ drop (i + 1) rest))
+parity_at p a rest i d lt = ap (λ (r : List Pos). is_odd_for p (a ∷ r)) (drop_more rest i d lt) ∙ odd_step p a (get_or rest i d) (drop (i + 1) rest)
+
+pub rest_in_range : (ring : List Pos) (first : Pos) (rest : List Pos) (i : ℕ) (d : Pos) → ring ≡ first ∷ rest → All IsInRange ring → i < length rest → IsInRange (get_or rest i d)
+rest_in_range ring first rest i d e h lt = (subst (λ (r : List Pos). All IsInRange r) e h) (suc i) d (omega arith)
+
+-- the parity so far and that of what is left, one edge on
+pub parity_kept : (whole o o' c here rest : Bool) → whole ≡ flip o here → here ≡ flip c rest → o' ≡ cond c (not o) o → whole ≡ flip o' rest
+parity_kept whole o o' true here rest e f g = e ∙ (ap (flip o) f ∙ (flip_more o rest ∙ ap (λ k. flip k rest) (sym g)))
+parity_kept whole o o' false here rest e f g = e ∙ (ap (flip o) f ∙ ap (λ k. flip k rest) (sym g))
