@@ -5,4 +5,5 @@ mod Examples
 pub mod Covering
 pub mod Crossings
 pub mod RingLaws
+pub mod Shoelace
 pub mod Tests

@@ -1,5 +1,6 @@
 -- The region of a polygon: its exterior and what it encloses, without the insides of its holes (OGC 06-103r4 section 6.1.11; RFC 7946 section 3.1.6).
 use Rattle.std.specs.Prelude.{◌%◌, ℤ, pos, ◌+ℤ◌, ◌-ℤ◌, ◌*ℤ◌, nat_abs, Bool, false, not, ◌==◌, if◌then◌else◌, int_le, int_lt, IsTrue, ◌⊎◌, List, [], ◌∷◌, count_by, map, fold}
+use Rattle.std.specs.Int.{w128, int_wrap}
 use Rattle.std.specs.List.{AllByRecursion}
 use Rattle.at_text.specs.Lists.{SomeOf}
 use Rattle.at_geom.specs.declared.positions.Pos.{Pos}
@@ -57,3 +58,14 @@ doubled_area_of_rings (exterior ∷ holes) = ring_size exterior -ℤ sum_of (map
 -- twice the area of a polygon: the size of the exterior's sum less the sizes of its holes' sums
 abbrev pub doubled_area : Polygon → ℤ
 doubled_area polygon = doubled_area_of_rings polygon.rings
+
+-- the same with each sum, size and difference wrapped into 128 bits
+abbrev pub wrapped_ring_size : List Pos → ℤ
+wrapped_ring_size ring = int_wrap w128 (pos (nat_abs (int_wrap w128 (shoelace ring))))
+
+abbrev pub wrapped_area_of_rings : List (List Pos) → ℤ
+wrapped_area_of_rings [] = pos 0
+wrapped_area_of_rings (exterior ∷ holes) = int_wrap w128 (wrapped_ring_size exterior -ℤ sum_of (map wrapped_ring_size holes))
+
+abbrev pub wrapped_area : Polygon → ℤ
+wrapped_area polygon = wrapped_area_of_rings polygon.rings

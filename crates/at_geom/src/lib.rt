@@ -6,6 +6,7 @@
 //! differences fit 128 bits, so every answer is exact. No call takes memory.
 #![tactic(auto)]
 
+mod areas;
 mod extents;
 mod integers;
 mod orientation;
@@ -16,6 +17,7 @@ mod rules;
 mod segments;
 mod shapes;
 
+pub use areas::doubled_area;
 pub use extents::{all_in, extent};
 pub use orientation::orient;
 pub use positions::{Path, Paths, Pos};
