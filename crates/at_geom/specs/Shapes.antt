@@ -1,5 +1,5 @@
 -- Shapes: their positions and segments, where two of them meet, their extents, and what is wrong with a line or ring.
-use Rattle.std.specs.Prelude.{ℕ, ◌⊎◌, Bool, false, not, ◌&&◌, ◌||◌, nat_lt, int_le, if◌then◌else◌, List, [], ◌∷◌, ◌++◌, map, flat_map, Option, Some, None}
+use Rattle.std.specs.Prelude.{ℕ, ◌⊎◌, Bool, false, not, ◌&&◌, ◌||◌, nat_lt, int_le, if◌then◌else◌, List, [], ◌∷◌, ◌++◌, All, map, flat_map, Option, Some, None}
 use Rattle.std.specs.Int.{int_min, int_max}
 use Rattle.std.specs.List.{list_all}
 use Rattle.at_text.specs.declared.faults.Fault.{Fault}
@@ -10,8 +10,20 @@ use Rattle.at_geom.specs.declared.positions.Pos.{Pos}
 use Rattle.at_geom.specs.declared.shapes.Polygon.{Polygon}
 use Rattle.at_geom.specs.declared.shapes.Shape.{Shape}
 use Rattle.at_geom.specs.declared.rectangles.Extent.{Extent}
-use Rattle.at_geom.specs.Segments.{HaveCommonPoint, edges}
+use Rattle.at_geom.specs.Segments.{HaveCommonPoint, IsInRange, edges}
 use Rattle.at_geom.specs.Regions.{IsInPolygon}
+
+-- every coordinate is in range
+abbrev pub ArePathsInRange : List (List Pos) → Type 0
+ArePathsInRange paths = All (All IsInRange) paths
+
+abbrev pub ArePolygonsInRange : List Polygon → Type 0
+ArePolygonsInRange polygons = All (λ (polygon : Polygon). ArePathsInRange polygon.rings) polygons
+
+pub record IsShapeInRange (s : Shape) : Type 0 where
+  pub points : All IsInRange s.points
+  pub lines : ArePathsInRange s.lines
+  pub polygons : ArePolygonsInRange s.polygons
 
 abbrev pub joined : List (List Pos) → List Pos
 joined paths = flat_map (λ (path : List Pos). path) paths
@@ -23,21 +35,36 @@ positions_of_polygons polygons = flat_map (λ (polygon : Polygon). joined polygo
 abbrev pub positions : Shape → List Pos
 positions s = (s.points ++ joined s.lines) ++ positions_of_polygons s.polygons
 
+-- each position as a segment to itself
+abbrev pub segments_of_points : List Pos → List (Pos × Pos)
+segments_of_points points = map (λ (p : Pos). (p, p)) points
+
+abbrev pub segments_of_polygons : List Polygon → List (Pos × Pos)
+segments_of_polygons polygons = flat_map (λ (polygon : Polygon). flat_map edges polygon.rings) polygons
+
 -- its points, each as a segment to itself, and the edges of its lines and rings
 abbrev pub segments : Shape → List (Pos × Pos)
-segments s = (map (λ (p : Pos). (p, p)) s.points ++ flat_map edges s.lines)
-    ++ flat_map (λ (polygon : Polygon). flat_map edges polygon.rings) s.polygons
+segments s = (segments_of_points s.points ++ flat_map edges s.lines) ++ segments_of_polygons s.polygons
 
--- some segment of the one and some segment of the other have a common point
-abbrev pub HaveMeetingSegments : Shape → Shape → Type 0
-HaveMeetingSegments s u = SomeOf (λ (e : Pos × Pos). SomeOf (λ (f : Pos × Pos). HaveCommonPoint e.0 e.1 f.0 f.1) (segments u)) (segments s)
+-- the segment ab and some of the segments have a common point
+abbrev pub MeetsSome : Pos → Pos → List (Pos × Pos) → Type 0
+MeetsSome a b others = SomeOf (λ (f : Pos × Pos). HaveCommonPoint a b f.0 f.1) others
 
--- some position of s is in a polygon of u
-abbrev pub ReachesInto : Shape → Shape → Type 0
-ReachesInto s u = SomeOf (λ (p : Pos). SomeOf (IsInPolygon p) u.polygons) (positions s)
+-- some segment of the one list and some segment of the other have a common point
+abbrev pub SomeMeet : List (Pos × Pos) → List (Pos × Pos) → Type 0
+SomeMeet ones others = SomeOf (λ (e : Pos × Pos). MeetsSome e.0 e.1 others) ones
 
+-- p is in one of the polygons
+abbrev pub IsInSome : Pos → List Polygon → Type 0
+IsInSome p polygons = SomeOf (IsInPolygon p) polygons
+
+-- some position is in one of the polygons
+abbrev pub SomeIsIn : List Pos → List Polygon → Type 0
+SomeIsIn ps polygons = SomeOf (λ (p : Pos). IsInSome p polygons) ps
+
+-- some segment of the one and some segment of the other have a common point, or some position of one is in a polygon of the other
 abbrev pub Meet : Shape → Shape → Type 0
-Meet s u = HaveMeetingSegments s u ⊎ (ReachesInto s u ⊎ ReachesInto u s)
+Meet s u = SomeMeet (segments s) (segments u) ⊎ (SomeIsIn (positions s) u.polygons ⊎ SomeIsIn (positions u) s.polygons)
 
 -- the least extent round a position and an extent, where there is one
 abbrev pub widened : Pos → Option Extent → Extent

@@ -9,6 +9,7 @@
 mod areas;
 mod extents;
 mod integers;
+mod meetings;
 mod orientation;
 mod positions;
 mod rectangles;
