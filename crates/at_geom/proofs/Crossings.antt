@@ -34,7 +34,7 @@ pub not_crossed : (p a b : Pos) → int_le a.y p.y ≡ int_le b.y p.y → is_cro
 not_crossed p a b e = pick_none (int_le a.y p.y) (int_le b.y p.y) (int_lt (run_to_point p a b) (run_of_edge p a b)) (int_lt (run_of_edge p a b) (run_to_point p a b)) e
 
 -- by the four cases of the heights
-by_heights : {P : Type 0} (p a b : Pos) → (a.y ≤ℤ p.y → p.y <ℤ b.y → P) → (p.y <ℤ a.y → b.y ≤ℤ p.y → P) → (int_le a.y p.y ≡ int_le b.y p.y → P) → P
+pub by_heights : {P : Type 0} (p a b : Pos) → (a.y ≤ℤ p.y → p.y <ℤ b.y → P) → (p.y <ℤ a.y → b.y ≤ℤ p.y → P) → (int_le a.y p.y ≡ int_le b.y p.y → P) → P
 by_heights p a b up down level =
     by_lt_z p.y a.y
     (λ h. by_lt_z p.y b.y (λ k. level (le_false a.y p.y h ∙ sym (le_false b.y p.y k))) (λ k. down h k))

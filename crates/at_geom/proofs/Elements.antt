@@ -62,3 +62,21 @@ not_first P x xs f (inr h) = h
 
 pub not_edge_here : (P : Pos × Pos → Type 0) (a : Pos) (rest : List Pos) (i : ℕ) (d : Pos) → i < length rest → ¬ P (a, get_or rest i d) → SomeOf P (edges (a ∷ drop i rest)) → SomeOf P (edges (get_or rest i d ∷ drop (i + 1) rest))
 not_edge_here P a rest i d lt f h = not_first P (a, get_or rest i d) (edges (get_or rest i d ∷ drop (i + 1) rest)) f (subst (λ (r : List Pos). SomeOf P (edges (a ∷ r))) (drop_more rest i d lt) h)
+
+-- ---- lists in three parts
+
+pub first_of_three : {X : Type 0} (P : X → Type 0) (xs ys zs : List X) → SomeOf P xs → SomeOf P ((xs ++ ys) ++ zs)
+first_of_three P xs ys zs h = some_left P (xs ++ ys) zs (some_left P xs ys h)
+
+pub second_of_three : {X : Type 0} (P : X → Type 0) (xs ys zs : List X) → SomeOf P ys → SomeOf P ((xs ++ ys) ++ zs)
+second_of_three P xs ys zs h = some_left P (xs ++ ys) zs (some_right P xs ys h)
+
+pub third_of_three : {X : Type 0} (P : X → Type 0) (xs ys zs : List X) → SomeOf P zs → SomeOf P ((xs ++ ys) ++ zs)
+third_of_three P xs ys zs h = some_right P (xs ++ ys) zs h
+
+pub only_third : {X : Type 0} (P : X → Type 0) (xs ys zs : List X) → ¬ SomeOf P xs → ¬ SomeOf P ys → SomeOf P ((xs ++ ys) ++ zs) → SomeOf P zs
+only_third P xs ys zs f g h =
+    elim (some_of_parts P (xs ++ ys) zs h) [
+      | inr k ↦ k
+      | inl k ↦ elim (some_of_parts P xs ys k) [ inl m ↦ absurd (f m) | inr m ↦ absurd (g m) ]
+    ]

@@ -4,6 +4,8 @@ pub mod Elements
 mod Examples
 pub mod Covering
 pub mod Crossings
+pub mod Found
+pub mod ClosedRings
 pub mod RingLaws
 pub mod Shoelace
 pub mod Tests

@@ -12,6 +12,7 @@ mod integers;
 mod meetings;
 mod orientation;
 mod positions;
+mod reaches;
 mod rectangles;
 mod regions;
 mod rules;

@@ -1,8 +1,9 @@
 ghost use Rattle.std.specs.Prelude.{◌≡◌, IsTrue, ◌↔◌, Some, All, flat_map};
 ghost use Rattle.at_geom.specs.Segments.{IsInRange, edges};
-ghost use Rattle.at_geom.specs.Shapes.{ArePathsInRange, ArePolygonsInRange, IsShapeInRange, MeetsSome, segments, segments_of_points, segments_of_polygons};
+ghost use Rattle.at_geom.specs.Shapes.{ArePathsInRange, ArePolygonsInRange, IsShapeInRange, MeetsSome, SomeMeet, segments, segments_of_points, segments_of_polygons, positions, extent_of};
 
 use crate::positions::{Path, Pos};
+use crate::rectangles::Extent;
 use crate::segments::segments_meet;
 use crate::shapes::{Polygon, Shape};
 
@@ -66,4 +67,101 @@ fn segment_meets_polygons(a: Pos, b: Pos, polygons: &[Polygon]) -> bool
         }
     }
     false
+}
+
+/// Whether the segment `ab` and some point or edge of a shape have a common point, where the shape's extent is `around`.
+fn segment_meets_shape(a: Pos, b: Pos, shape: &Shape, around: Extent) -> bool
+    requires a_in_range { IsInRange a }
+    requires b_in_range { IsInRange b }
+    requires shape_in_range { IsShapeInRange shape.now }
+    requires covered { extent_of (positions shape.now) ≡ Some around }
+    ensures { IsTrue result ↔ MeetsSome a b (segments shape.now) }
+{
+    if !around.touches_box(a, b) {
+        return false;
+    }
+    if segment_meets_points(a, b, shape.points.as_slice()) {
+        return true;
+    }
+    if segment_meets_paths(a, b, shape.lines.as_slice()) {
+        return true;
+    }
+    segment_meets_polygons(a, b, shape.polygons.as_slice())
+}
+
+fn points_meet_shape(points: &[Pos], shape: &Shape, around: Extent) -> bool
+    requires points_in_range { All IsInRange points.now }
+    requires shape_in_range { IsShapeInRange shape.now }
+    requires covered { extent_of (positions shape.now) ≡ Some around }
+    ensures { IsTrue result ↔ SomeMeet (segments_of_points points.now) (segments shape.now) }
+{
+    for p in points {
+        if segment_meets_shape(*p, *p, shape, around) {
+            return true;
+        }
+    }
+    false
+}
+
+fn path_meets_shape(path: &[Pos], shape: &Shape, around: Extent) -> bool
+    requires path_in_range { All IsInRange path.now }
+    requires shape_in_range { IsShapeInRange shape.now }
+    requires covered { extent_of (positions shape.now) ≡ Some around }
+    ensures { IsTrue result ↔ SomeMeet (edges path.now) (segments shape.now) }
+{
+    let Some((first, rest)) = path.split_first() else {
+        return false;
+    };
+    let mut from = *first;
+    for to in rest {
+        if segment_meets_shape(from, *to, shape, around) {
+            return true;
+        }
+        from = *to;
+    }
+    false
+}
+
+fn paths_meet_shape(paths: &[Path], shape: &Shape, around: Extent) -> bool
+    requires paths_in_range { ArePathsInRange paths.now }
+    requires shape_in_range { IsShapeInRange shape.now }
+    requires covered { extent_of (positions shape.now) ≡ Some around }
+    ensures { IsTrue result ↔ SomeMeet (flat_map edges paths.now) (segments shape.now) }
+{
+    for path in paths {
+        if path_meets_shape(path.as_slice(), shape, around) {
+            return true;
+        }
+    }
+    false
+}
+
+fn polygons_meet_shape(polygons: &[Polygon], shape: &Shape, around: Extent) -> bool
+    requires polygons_in_range { ArePolygonsInRange polygons.now }
+    requires shape_in_range { IsShapeInRange shape.now }
+    requires covered { extent_of (positions shape.now) ≡ Some around }
+    ensures { IsTrue result ↔ SomeMeet (segments_of_polygons polygons.now) (segments shape.now) }
+{
+    for polygon in polygons {
+        if paths_meet_shape(polygon.rings.as_slice(), shape, around) {
+            return true;
+        }
+    }
+    false
+}
+
+/// Whether some segments of two shapes have a common point, where the extent of the second is `around`.
+fn segments_of_shapes_meet(a: &Shape, b: &Shape, around: Extent) -> bool
+    requires a_in_range { IsShapeInRange a.now }
+    requires b_in_range { IsShapeInRange b.now }
+    requires covered { extent_of (positions b.now) ≡ Some around }
+    ensures { IsTrue result ↔ SomeMeet (segments a.now) (segments b.now) }
+{
+    if points_meet_shape(a.points.as_slice(), b, around) {
+        return true;
+    }
+    if paths_meet_shape(a.lines.as_slice(), b, around) {
+        return true;
+    }
+    polygons_meet_shape(a.polygons.as_slice(), b, around)
 }

@@ -1,4 +1,5 @@
-ghost use Rattle.std.specs.Prelude.{◌≡◌, ◌&&◌, int_le};
+ghost use Rattle.std.specs.Prelude.{◌≡◌, ◌&&◌, ◌↔◌, ◌≤ℤ◌, IsTrue, int_le};
+ghost use Rattle.std.specs.Int.{int_min, int_max};
 
 use crate::positions::Pos;
 
@@ -11,8 +12,9 @@ pub struct Extent {
 }
 
 impl Extent {
-    ghost use Rattle.std.specs.Prelude.{◌≡◌};
-    ghost use Rattle.at_geom.specs.Shapes.{encloses as encloses_of, widened as widened_of};
+    ghost use Rattle.std.specs.Prelude.{◌≡◌, ◌↔◌, ◌≤ℤ◌, IsTrue};
+    ghost use Rattle.std.specs.Int.{int_min, int_max};
+    ghost use Rattle.at_geom.specs.Shapes.{encloses as encloses_of, widened as widened_of, is_within};
 
     /// The least extent round this one and a position.
     pub(crate) fn widened(self, p: Pos) -> Extent
@@ -38,6 +40,32 @@ impl Extent {
         let along_y = lies_between(self.low.y, self.high.y, other.low.y, other.high.y);
         along_x && along_y
     }
+
+    /// Whether the position is in this extent.
+    pub(crate) fn contains(self, p: Pos) -> bool
+        ensures { result ≡ is_within self p }
+    {
+        let along_x = lies_between(self.low.x, self.high.x, p.x, p.x);
+        let along_y = lies_between(self.low.y, self.high.y, p.y, p.y);
+        along_x && along_y
+    }
+
+    /// Whether this extent and the box round the segment `ab` have a common point.
+    pub(crate) fn touches_box(self, a: Pos, b: Pos) -> bool
+        ensures { IsTrue result
+            ↔ ((int_min a.x b.x ≤ℤ self.high.x) × (self.low.x ≤ℤ int_max a.x b.x)
+            × (int_min a.y b.y ≤ℤ self.high.y) × (self.low.y ≤ℤ int_max a.y b.y)) }
+    {
+        span_touches(self.low.x, self.high.x, a.x, b.x)
+            && span_touches(self.low.y, self.high.y, a.y, b.y)
+    }
+}
+
+/// Whether the span from `low` to `high` and the span between `a` and `b` have a common number.
+fn span_touches(low: i64, high: i64, a: i64, b: i64) -> bool
+    ensures { IsTrue result ↔ ((int_min a b ≤ℤ high) × (low ≤ℤ int_max a b)) }
+{
+    a.min(b) <= high && low <= a.max(b)
 }
 
 /// Whether the span from `low` to `high` lies in the span from `least` to `greatest`.

@@ -1,0 +1,20 @@
+-- Rings that end where they begin: no position outside the extent of such a ring is in it. No public clause cites this.
+use Rattle.std.specs.Prelude.{◌≡◌, List, [], ◌∷◌}
+use Rattle.at_geom.specs.declared.positions.Pos.{Pos}
+use Rattle.at_geom.specs.declared.shapes.Polygon.{Polygon}
+
+-- the last of a and what follows
+abbrev pub last_of : Pos → List Pos → Pos
+last_of a [] = a
+last_of a (b ∷ rest) = last_of b rest
+
+abbrev pub IsClosed : List Pos → Type 0
+IsClosed [] = Unit {0}
+IsClosed (a ∷ rest) = last_of a rest ≡ a
+
+abbrev pub HasClosedFirst : List (List Pos) → Type 0
+HasClosedFirst [] = Unit {0}
+HasClosedFirst (exterior ∷ holes) = IsClosed exterior
+
+abbrev pub HasClosedExterior : Polygon → Type 0
+HasClosedExterior polygon = HasClosedFirst polygon.rings
