@@ -1,20 +1,20 @@
 -- No position outside the extent of a closed ring is in the ring: beside it no edge is crossed, and to the left of it
 -- the ray crosses each edge that passes the position's height, of which a closed ring has an even number.
-use Rattle.std.proofs.Common.{◌≡◌, ℕ, suc, ℤ, pos, negsuc, ◌+◌, ◌-ℤ◌, ◌*ℤ◌, ◌+ℤ◌, ◌≤ℤ◌, ◌<ℤ◌, ◌⊎◌, inl, inr, Bool, true, false, List, [], ◌∷◌, length, get_or, ◌-◌, arith, refl, sym, ap, ◌∙◌}
-use Rattle.std.specs.Prelude.{int_le, int_lt, IsTrue}
+use Rattle.std.proofs.Common.{◌≡◌, ℕ, suc, ℤ, pos, negsuc, ◌+◌, ◌-ℤ◌, ◌*ℤ◌, ◌+ℤ◌, ◌≤ℤ◌, ◌<ℤ◌, inl, inr, Bool, true, false, ◌&&◌, int_eq, List, [], ◌∷◌, length, get_or, ◌-◌, arith, refl, sym, ap, ◌∙◌}
+use Rattle.std.specs.Prelude.{int_le, IsTrue}
 use Rattle.std.specs.List.{AllByRecursion}
+use Rattle.std.proofs.lemmas.Bool.Decides.{Decides-int_eq}
 use Rattle.std.proofs.lemmas.Int.{ints, clamps, by_lt_z}
-use Rattle.at_text.specs.Lists.{SomeOf}
 use Rattle.at_geom.specs.declared.positions.Pos.{Pos}
 use Rattle.at_geom.specs.declared.shapes.Polygon.{Polygon}
 use Rattle.at_geom.specs.declared.rectangles.Extent.{Extent}
 use Rattle.at_geom.specs.Closed.{last_of, IsClosed, HasClosedFirst, HasClosedExterior}
-use Rattle.at_geom.specs.Segments.{IsOn, edges}
-use Rattle.at_geom.specs.Regions.{is_crossed, run_of_edge, run_to_point, is_odd_for, IsOnRing, IsInRings, IsInPolygon}
+use Rattle.at_geom.specs.Segments.{IsOn}
+use Rattle.at_geom.specs.Regions.{is_crossed, run_of_edge, run_to_point, is_odd_for, IsInRings}
 use Rattle.at_geom.specs.Shapes.{joined, is_within, positions_of_polygons, IsInSome}
 use Rattle.at_geom.proofs.CommonPoint.{Between, on_out, above_by}
 use Rattle.at_geom.proofs.Crossings.{flip, odd_step, not_level, not_crossed, crossed_up, crossed_down, by_heights}
-use Rattle.at_geom.proofs.Found.{AreWithin, IsInside, sides, from_sides, found_edges, first_within, second_within}
+use Rattle.at_geom.proofs.Found.{left_true, right_true, AreWithin, sides, from_sides, found_edges, first_within, second_within}
 use Rattle.at_geom.proofs.RingLaws.{expand}
 use Rattle.at_geom.proofs.Tests.{le_true, le_false, lt_true, lt_false}
 
@@ -155,16 +155,20 @@ on_if_between : (p : Pos) (x : Extent) (a b : Pos) → IsOn p a b → IsTrue (is
 on_if_between p x a b h s t =
     let o = on_out p a b h in let u = sides x a s in let v = sides x b t in
     from_sides x p (record {
-      left = omega (arith, ints, clamps, o.between_x, u.left, v.left); right = omega (arith, ints, clamps, o.between_x, u.right, v.right);
-      below = omega (arith, ints, clamps, o.between_y, u.below, v.below); above = omega (arith, ints, clamps, o.between_y, u.above, v.above) })
+      left = omega (arith, ints, clamps, o.between_x, u.left, v.left);
+      right = omega (arith, ints, clamps, o.between_x, u.right, v.right);
+      below = omega (arith, ints, clamps, o.between_y, u.below, v.below);
+      above = omega (arith, ints, clamps, o.between_y, u.above, v.above);
+    })
 
 in_rings : (p : Pos) (x : Extent) (rings : List (List Pos)) → AreWithin x (joined rings) → HasClosedFirst rings → IsInRings p rings → IsTrue (is_within x p)
 in_rings p x [] w c h = absurd h
 in_rings p x (exterior ∷ holes) w c h =
     let v = first_within x exterior (joined holes) w in
     elim h.0 [
-      inl on ↦ (let (e, found) = found_edges x (λ (e : Pos × Pos). IsOn p e.0 e.1) exterior v on in on_if_between p x e.0 e.1 found.0 found.1 found.2)
-      | inr odd ↦ in_if_odd p x exterior v c odd ]
+      | inl on ↦ (let (e, found) = found_edges x (λ (e : Pos × Pos). IsOn p e.0 e.1) exterior v on in on_if_between p x e.0 e.1 found.0 found.1 found.2)
+      | inr odd ↦ in_if_odd p x exterior v c odd
+    ]
 
 -- a position in one of the polygons of closed rings lies in any extent round the polygons
 pub in_some_closed : (x : Extent) (p : Pos) (polygons : List Polygon) → AreWithin x (positions_of_polygons polygons) → AllByRecursion HasClosedExterior polygons → IsInSome p polygons → IsTrue (is_within x p)
@@ -179,3 +183,12 @@ last_of-get a (b ∷ rest) d = last_of-get b rest d
 pub closed_by : (ring : List Pos) (d : Pos) → get_or ring 0 d ≡ get_or ring (length ring - 1) d → IsClosed ring
 closed_by [] d h = tt
 closed_by (a ∷ rest) d h = let e : suc (length rest) - 1 ≡ length rest = omega arith in last_of-get a rest d ∙ sym (h ∙ ap (λ (n : ℕ). get_or (a ∷ rest) n d) e)
+
+same_coordinates : (a b c d : ℤ) → a ≡ b → c ≡ d → ◌≡◌ {A = Pos} (record { x = a; y = c }) (record { x = b; y = d })
+same_coordinates a b c d e f = rw (e, f) refl
+
+pub same_position : (a b : Pos) → (int_eq a.x b.x && int_eq a.y b.y) ≡ true → a ≡ b
+same_position a b h =
+    let x = (Decides-int_eq a.x b.x).0 (left_true (int_eq a.x b.x) (int_eq a.y b.y) h) in
+    let y = (Decides-int_eq a.y b.y).0 (right_true (int_eq a.x b.x) (int_eq a.y b.y) h) in
+    same_coordinates a.x b.x a.y b.y x y

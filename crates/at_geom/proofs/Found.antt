@@ -1,5 +1,5 @@
 -- Where a shape's positions and segments lie: within its extent.
-use Rattle.std.proofs.Common.{◌≡◌, ℤ, Bool, true, false, ◌&&◌, ◌≤ℤ◌, ◌⊎◌, inl, inr, List, [], ◌∷◌, ◌++◌, Option, Some, arith, refl, sym, ◌∙◌}
+use Rattle.std.proofs.Common.{◌≡◌, Bool, true, false, ◌&&◌, ◌≤ℤ◌, inl, inr, List, [], ◌∷◌, ◌++◌, Some, arith, refl, sym, ◌∙◌}
 use Rattle.std.specs.Prelude.{flat_map, int_le, IsTrue}
 use Rattle.std.specs.Int.{int_min, int_max}
 use Rattle.std.specs.List.{AllByRecursion, list_all}

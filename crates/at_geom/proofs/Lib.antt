@@ -1,3 +1,4 @@
+pub mod ApartShapes
 pub mod Bounds
 pub mod CommonPoint
 pub mod Elements

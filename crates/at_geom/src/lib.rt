@@ -21,6 +21,7 @@ mod shapes;
 
 pub use areas::doubled_area;
 pub use extents::{all_in, extent};
+pub use meetings::shapes_meet;
 pub use orientation::orient;
 pub use positions::{Path, Paths, Pos};
 pub use rectangles::Extent;

@@ -92,6 +92,19 @@ fn is_in_any(p: Pos, polygons: &[Polygon]) -> bool
     false
 }
 
+/// Where the positions in the polygons of a shape with the extent `around` lie, if it can be told: in that extent, where
+/// each exterior is closed. An open exterior may have positions far to its left in it.
+pub(crate) fn reach(shape: &Shape, around: Extent) -> Option<Extent>
+    requires { extent_of (positions shape.now) ≡ Some around }
+    ensures { IfSome result (λ e. (p : Pos) → IsInSome p shape.now.polygons → IsTrue (is_within e p)) }
+{
+    if are_closed(shape.polygons.as_slice()) {
+        Some(around)
+    } else {
+        None
+    }
+}
+
 /// Whether the exterior of each polygon is closed.
 pub(crate) fn are_closed(polygons: &[Polygon]) -> bool
     ensures { IsTrue result → AllByRecursion HasClosedExterior polygons.now }

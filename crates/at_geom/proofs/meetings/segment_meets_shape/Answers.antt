@@ -1,4 +1,4 @@
-use Rattle.std.proofs.Common.{refl, inl, inr, sym, ◌∙◌}
+use Rattle.std.proofs.Common.{refl, sym, ◌∙◌}
 use Rattle.at_geom.specs.declared.positions.Pos.{Pos}
 use Rattle.std.specs.Prelude.{flat_map}
 use Rattle.at_geom.specs.Segments.{HaveCommonPoint, edges}

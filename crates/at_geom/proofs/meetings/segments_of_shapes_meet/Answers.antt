@@ -1,9 +1,8 @@
-use Rattle.std.proofs.Common.{refl, inl, inr, sym, ◌∙◌}
+use Rattle.std.proofs.Common.{refl}
 use Rattle.at_geom.specs.declared.positions.Pos.{Pos}
 use Rattle.std.specs.Prelude.{flat_map}
 use Rattle.at_geom.specs.Segments.{edges}
 use Rattle.at_geom.specs.Shapes.{MeetsSome, segments, segments_of_points, segments_of_polygons}
-use Rattle.std.proofs.lemmas.Bool.{false≢true}
 use Rattle.at_geom.proofs.Elements.{untrue, first_of_three, second_of_three, third_of_three, only_third}
 use Rattle.at_geom.proofs.meetings.segments_of_shapes_meet.Goals as goal
 

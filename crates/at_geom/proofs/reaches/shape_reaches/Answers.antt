@@ -1,7 +1,6 @@
-use Rattle.std.proofs.Common.{refl, inl, inr, sym, ◌∙◌}
+use Rattle.std.proofs.Common.{refl}
 use Rattle.at_geom.specs.declared.positions.Pos.{Pos}
 use Rattle.at_geom.specs.Shapes.{IsInSome, joined, positions_of_polygons}
-use Rattle.std.proofs.lemmas.Bool.{false≢true}
 use Rattle.at_geom.proofs.Elements.{untrue, first_of_three, second_of_three, third_of_three, only_third}
 use Rattle.at_geom.proofs.reaches.shape_reaches.Goals as goal
 
