@@ -16,7 +16,7 @@ use Rattle.at_geom.proofs.CommonPoint.{Between, on_out, above_by}
 use Rattle.at_geom.proofs.Crossings.{flip, odd_step, not_level, not_crossed, crossed_up, crossed_down, by_heights}
 use Rattle.at_geom.proofs.Found.{left_true, right_true, AreWithin, sides, from_sides, found_edges, first_within, second_within}
 use Rattle.at_geom.proofs.RingLaws.{expand}
-use Rattle.at_geom.proofs.Tests.{le_true, le_false, lt_true, lt_false}
+use Rattle.at_geom.proofs.Comparisons.{le_true, le_false, lt_true, lt_false}
 
 -- ---- products beside and to the left of an edge, by how far apart things are
 

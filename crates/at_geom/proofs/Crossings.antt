@@ -1,5 +1,6 @@
 -- Where a position is against an edge and a ring: the two tests of heights, the side of the edge's line, and parity.
-use Rattle.std.proofs.Common.{◌≡◌, ℕ, suc, ℤ, pos, ◌+◌, ◌<◌, ◌-ℤ◌, ◌≤ℤ◌, ◌<ℤ◌, inl, inr, Bool, true, false, not, cond, List, ◌∷◌, length, get_or, drop, zero-add, arith, refl, sym, ap, subst, ◌∙◌}
+use Rattle.std.proofs.Common.{◌≡◌, ◌≢◌, ℕ, suc, ℤ, pos, ◌+◌, ◌<◌, ◌-ℤ◌, ◌≤ℤ◌, ◌<ℤ◌, inl, inr, Bool, true, false, not, cond, List, ◌∷◌, length, get_or, drop, zero-add, arith, refl, sym, ap, subst, ◌∙◌}
+use mathlib.Core.Bool.{beq}
 use Rattle.std.specs.Prelude.{int_le, int_lt, ◌%◌, ◌==◌, if◌then◌else◌, count_by, All}
 use Rattle.std.proofs.Math.IntN.{*ℤ_comm}
 use Rattle.std.proofs.lemmas.Int.{ints, clamps, by_lt_z}
@@ -9,7 +10,7 @@ use Rattle.std.proofs.lemmas.List.Sums.{sum_by-cons}
 use Rattle.at_geom.specs.Segments.{IsInRange, IsOn, edges, turn}
 use Rattle.at_geom.specs.Regions.{is_crossed, run_of_edge, run_to_point, is_odd_for, IsOnRing}
 use Rattle.at_geom.proofs.CommonPoint.{Between, on_out}
-use Rattle.at_geom.proofs.Tests.{le_true, le_false, lt_true, lt_false}
+use Rattle.at_geom.proofs.Comparisons.{le_true, le_false, lt_true, lt_false}
 
 pick_up : (u v f g : Bool) → u ≡ true → v ≡ false → (if u then (if v then false else f) else (if v then g else false)) ≡ f
 pick_up u v f g d e = rw (d, e) refl
@@ -117,3 +118,43 @@ rest_in_range ring first rest i d e h lt = (subst (λ (r : List Pos). All IsInRa
 pub parity_kept : (whole o o' c here rest : Bool) → whole ≡ flip o here → here ≡ flip c rest → o' ≡ cond c (not o) o → whole ≡ flip o' rest
 parity_kept whole o o' true here rest e f g = e ∙ (ap (flip o) f ∙ (flip_more o rest ∙ ap (λ k. flip k rest) (sym g)))
 parity_kept whole o o' false here rest e f g = e ∙ (ap (flip o) f ∙ ap (λ k. flip k rest) (sym g))
+
+-- ---- the test as the code has it: the ends lie on two sides of the height, and the position to the left of a rising edge or to the right of a falling one
+
+same_tests : (u v : Bool) → not (beq u v) ≡ false → u ≡ v
+same_tests true true h = refl
+same_tests true false h = absurd (cc)
+same_tests false true h = absurd (cc)
+same_tests false false h = refl
+
+pub no_pass : (p a b : Pos) → not (beq (int_le a.y p.y) (int_le b.y p.y)) ≡ false → not (beq (int_le a.y p.y) (int_le b.y p.y)) ≡ is_crossed p (a, b)
+no_pass p a b h = h ∙ sym (not_crossed p a b (same_tests (int_le a.y p.y) (int_le b.y p.y) h))
+
+beq_true : (x u : Bool) → u ≡ true → beq x u ≡ x
+beq_true true true e = refl
+beq_true false true e = refl
+beq_true x false e = absurd (cc)
+
+beq_false : (x u : Bool) → u ≡ false → beq x u ≡ not x
+beq_false true false e = refl
+beq_false false false e = refl
+beq_false x true e = absurd (cc)
+
+two_sides : (u v : Bool) → not (beq u v) ≡ true → u ≡ v → ⊥
+two_sides true true h e = cc
+two_sides true false h e = cc
+two_sides false true h e = cc
+two_sides false false h e = cc
+
+not_above : (s : ℤ) → s ≢ pos 0 → not (int_lt (pos 0) s) ≡ int_lt s (pos 0)
+not_above s ne =
+    by_lt_z (pos 0) s
+    (λ h. ap not (lt_true (pos 0) s h) ∙ sym (lt_false s (pos 0) (omega (arith, ints))))
+    (λ h. ap not (lt_false (pos 0) s h) ∙ sym (lt_true s (pos 0) (omega (arith, ints))))
+
+pub passes : (p a b : Pos) (s : ℤ) → s ≡ turn a b p → s ≢ pos 0 → not (beq (int_le a.y p.y) (int_le b.y p.y)) ≡ true → beq (int_lt (pos 0) s) (int_le a.y p.y) ≡ is_crossed p (a, b)
+passes p a b s e ne h =
+    by_heights p a b
+    (λ u v. beq_true (int_lt (pos 0) s) (int_le a.y p.y) (le_true a.y p.y u) ∙ side_up p a b s e u v)
+    (λ u v. beq_false (int_lt (pos 0) s) (int_le a.y p.y) (le_false a.y p.y u) ∙ (not_above s ne ∙ side_down p a b s e u v))
+    (λ same. absurd (two_sides (int_le a.y p.y) (int_le b.y p.y) h same))

@@ -14,7 +14,7 @@ use Rattle.at_geom.specs.Shapes.{joined, positions, positions_of_polygons, segme
 use Rattle.at_geom.proofs.CommonPoint.{common_point_out}
 use Rattle.at_geom.proofs.Covering.{encloses_extent}
 use Rattle.at_geom.proofs.Elements.{some_of_parts}
-use Rattle.at_geom.proofs.Tests.{le_true, le_from}
+use Rattle.at_geom.proofs.Comparisons.{le_true, le_from}
 
 -- each position is in the extent
 abbrev pub AreWithin : Extent → List Pos → Type 0

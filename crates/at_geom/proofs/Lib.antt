@@ -9,4 +9,4 @@ pub mod Found
 pub mod ClosedRings
 pub mod RingLaws
 pub mod Shoelace
-pub mod Tests
+pub mod Comparisons

@@ -8,9 +8,10 @@ use crate::integers::product;
 use crate::positions::{Path, Pos};
 use crate::shapes::Polygon;
 
-/// Twice the area of a polygon, in squares of a unit: the size of the exterior's shoelace sum less the sizes of the
-/// holes' sums (OGC 06-103r4 section 6.1.10.2, "Area"). Each sum, size and difference is taken by wrapping in 128 bits; with
-/// fewer than 2^26 positions none of them wraps. It is below 0 where the holes are larger than the exterior.
+/// Twice the area of a polygon, in squares of a unit: the size of the exterior's shoelace sum less the sizes of
+/// the holes' sums (OGC 06-103r4 section 6.1.10.2, "Area"). Each sum, size and difference is taken by wrapping in
+/// 128 bits; with fewer than 2^26 positions none of them wraps. It is below 0 where the holes are larger than the
+/// exterior.
 pub fn doubled_area(polygon: &Polygon) -> i128
     requires { All (All IsInRange) polygon.now.rings }
     ensures wrapped { result ≡ wrapped_area polygon.now }

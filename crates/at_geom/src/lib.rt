@@ -29,3 +29,6 @@ pub use regions::in_polygon;
 pub use rules::{line_fault, ring_fault};
 pub use segments::segments_meet;
 pub use shapes::{Polygon, Polygons, Shape};
+
+#[cfg(test)]
+mod tests;

@@ -9,9 +9,10 @@ use crate::rectangles::Extent;
 use crate::segments::segments_meet;
 use crate::shapes::{Polygon, Shape};
 
-/// Whether two shapes have something in common: some point or segment of the one and some point or segment of the other
-/// have a common point, or some position of one is in a polygon of the other (OGC 06-103r4 section 6.1.15.3,
-/// "intersects"). Segments join consecutive positions of lines and rings, which are as in `in_polygon`.
+/// Whether two shapes have something in common: some point or segment of the one and some point or segment of the
+/// other have a common point, or some position of one is in a polygon of the other (OGC 06-103r4
+/// section 6.1.15.3, "intersects"). Segments join consecutive positions of lines and rings, which are as in
+/// `in_polygon`.
 pub fn shapes_meet(a: &Shape, b: &Shape) -> bool
     requires a_in_range { IsShapeInRange a.now }
     requires b_in_range { IsShapeInRange b.now }
@@ -35,7 +36,8 @@ pub fn shapes_meet(a: &Shape, b: &Shape) -> bool
     shape_reaches(b, a.polygons.as_slice(), reach(a, around_a))
 }
 
-/// Whether the extents of two shapes show that they don't meet: where the extents are apart, and no exterior is open.
+/// Whether the extents of two shapes show that they don't meet: where the extents are apart, and no exterior is
+/// open.
 fn are_clear(a: &Shape, around_a: Extent, b: &Shape, around_b: Extent) -> bool
     requires a_covered { extent_of (positions a.now) ≡ Some around_a }
     requires b_covered { extent_of (positions b.now) ≡ Some around_b }
@@ -109,7 +111,8 @@ fn segment_meets_polygons(a: Pos, b: Pos, polygons: &[Polygon]) -> bool
     false
 }
 
-/// Whether the segment `ab` and some point or edge of a shape have a common point, where the shape's extent is `around`.
+/// Whether the segment `ab` and some point or edge of a shape have a common point, where the shape's extent is
+/// `around`.
 fn segment_meets_shape(a: Pos, b: Pos, shape: &Shape, around: Extent) -> bool
     requires a_in_range { IsInRange a }
     requires b_in_range { IsInRange b }

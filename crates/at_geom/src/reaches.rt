@@ -9,7 +9,8 @@ use crate::rectangles::Extent;
 use crate::regions::in_polygon;
 use crate::shapes::{Polygon, Shape};
 
-/// Whether some position of the shape is in one of the polygons. Where `reach` is told, no position outside it is.
+/// Whether some position of the shape is in one of the polygons. Where `reach` is told, no position outside it
+/// is.
 pub(crate) fn shape_reaches(shape: &Shape, polygons: &[Polygon], reach: Option<Extent>) -> bool
     requires shape_in_range { IsShapeInRange shape.now }
     requires polygons_in_range { ArePolygonsInRange polygons.now }
@@ -92,8 +93,8 @@ fn is_in_any(p: Pos, polygons: &[Polygon]) -> bool
     false
 }
 
-/// Where the positions in the polygons of a shape with the extent `around` lie, if it can be told: in that extent, where
-/// each exterior is closed. An open exterior may have positions far to its left in it.
+/// Where the positions in the polygons of a shape with the extent `around` lie, if it can be told: in that
+/// extent, where each exterior is closed. An open exterior may have positions far to its left in it.
 pub(crate) fn reach(shape: &Shape, around: Extent) -> Option<Extent>
     requires { extent_of (positions shape.now) ≡ Some around }
     ensures { IfSome result (λ e. (p : Pos) → IsInSome p shape.now.polygons → IsTrue (is_within e p)) }

@@ -1,4 +1,4 @@
-ghost use Rattle.std.specs.Prelude.{◌≡◌, IsTrue, ◌↔◌, ◌≤ℤ◌, All};
+ghost use Rattle.std.specs.Prelude.{◌≡◌, IsTrue, ◌↔◌, ◌≤ℤ◌, ◌≢◌, pos, All};
 ghost use Rattle.std.specs.Int.{int_min, int_max};
 ghost use Rattle.std.specs.List.{AllByRecursion};
 ghost use Rattle.at_geom.specs.Segments.{IsInRange, turn as turn_of};
@@ -31,9 +31,10 @@ enum RingPlace {
     Outside,
 }
 
-/// Whether a position belongs to the region of a polygon: it is on the exterior or in it, and strictly in none of the
-/// holes, so that the edge of a hole belongs to the region (OGC 06-103r4 section 6.1.11.1, RFC 7946 section 3.1.6).
-/// A ring need not be closed: its edges join the positions that it has.
+/// Whether a position belongs to the region of a polygon: it is on the exterior or in it, and strictly in none of
+/// the holes, so that the edge of a hole belongs to the region (OGC 06-103r4 section 6.1.11.1, RFC 7946
+/// section 3.1.6). In it means that a ray to the right crosses an odd number of edges. A ring need not be closed:
+/// its edges join the positions that it has.
 pub fn in_polygon(p: Pos, polygon: &Polygon) -> bool
     requires p_in_range { IsInRange p }
     requires polygon_in_range { All (All IsInRange) polygon.now.rings }
@@ -113,21 +114,18 @@ fn place_at_edge(p: Pos, a: Pos, b: Pos) -> EdgePlace
 fn is_between(a: i64, b: i64, c: i64) -> bool
     ensures { IsTrue result ↔ ((int_min a b ≤ℤ c) × (c ≤ℤ int_max a b)) }
 {
-    if a <= b {
-        a <= c && c <= b
-    } else {
-        b <= c && c <= a
-    }
+    a.min(b) <= c && c <= a.max(b)
 }
 
-/// Whether the ray to the right of `p` crosses the edge `ab`, where `side` says on which side of the edge's line `p` is.
+/// Whether the ray to the right of `p`, which isn't on the line of the edge `ab`, crosses the edge. `side` says on which
+/// side of that line `p` is.
 fn is_crossed(p: Pos, a: Pos, b: Pos, side: i128) -> bool
-    requires { side ≡ turn_of a b p }
+    requires side_of_line { side ≡ turn_of a b p }
+    requires off_line { side ≢ pos 0 }
     ensures { result ≡ is_crossed_by p (a, b) }
 {
-    if a.y <= p.y {
-        p.y < b.y && side > 0
-    } else {
-        b.y <= p.y && side < 0
-    }
+    let begins_low = a.y <= p.y;
+    let ends_low = b.y <= p.y;
+    let is_left = side > 0;
+    begins_low != ends_low && is_left == begins_low
 }

@@ -5,8 +5,8 @@ ghost use Rattle.at_geom.specs.Segments.{IsInRange, HaveCommonPoint, turn as tur
 use crate::orientation::turn;
 use crate::positions::Pos;
 
-/// Whether the closed segments `ab` and `cd` have a common point, ends included (OGC 06-103r4
-/// section 6.1.15.3, "intersects"). A segment may be one position. The answer is exact: the common point need not lie on whole
+/// Whether the closed segments `ab` and `cd` have a common point, ends included (OGC 06-103r4 section 6.1.15.3,
+/// "intersects"). A segment may be one position. The answer is exact: the common point need not lie on whole
 /// units.
 pub fn segments_meet(a: Pos, b: Pos, c: Pos, d: Pos) -> bool
     requires a_in_range { IsInRange a }

@@ -1,7 +1,7 @@
 use Rattle.std.specs.Int.{w64, cast_signed, cast_unsigned}
 use Rattle.std.proofs.Common.{arith}
 use Rattle.std.proofs.lemmas.Int.{ints, clamps}
-use Rattle.at_geom.proofs.Tests.{le_true}
+use Rattle.at_geom.proofs.Comparisons.{le_true}
 use Rattle.at_geom.proofs.rectangles.span_touches.Goals as goal
 
 pub returns-then-min-high : goal.returns-then-min-high

@@ -1,26 +1,21 @@
 use Rattle.std.specs.Prelude.{FitsSigned}
 use Rattle.std.specs.Int.{w64, w128}
-use Rattle.std.proofs.Common.{◌≤ℤ◌, ◌<ℤ◌, arith, rules}
-use Rattle.std.proofs.lemmas.Int.{ints, to_z-of_z}
-use Rattle.at_geom.proofs.Crossings.{side_up, side_down}
+use Rattle.std.proofs.Common.{rules}
+use Rattle.std.proofs.lemmas.Int.{to_z-of_z}
+use Rattle.at_geom.proofs.Crossings.{no_pass, passes}
 use Rattle.at_geom.proofs.regions.is_crossed.Goals as goal
 
-pub returns-then-p-b : goal.returns-then-p-b
-returns-then-p-b c =
+pub returns-then-begins_low-ends_low : goal.returns-then-begins_low-ends_low
+returns-then-begins_low-ends_low c =
     let f : FitsSigned w128 c.args.side = c.ranges.side in
     let a : FitsSigned w64 c.args.a.y = search rules in
     let b : FitsSigned w64 c.args.b.y = search rules in
     let p : FitsSigned w64 c.args.p.y = search rules in
-    let h : c.args.a.y ≤ℤ c.args.p.y = omega (arith, ints) in
-    let k : c.args.p.y <ℤ c.args.b.y = omega (arith, ints) in
-    simp to_z-of_z (side_up c.args.p c.args.a c.args.b c.args.side c.requires h k)
+    simp to_z-of_z (passes c.args.p c.args.a c.args.b c.args.side c.requires.side_of_line c.requires.off_line (simp to_z-of_z at c.if-begins_low-ends_low.true))
 
-pub returns-then-b-p : goal.returns-then-b-p
-returns-then-b-p c =
-    let f : FitsSigned w128 c.args.side = c.ranges.side in
+pub returns-else-begins_low-ends_low : goal.returns-else-begins_low-ends_low
+returns-else-begins_low-ends_low c =
     let a : FitsSigned w64 c.args.a.y = search rules in
     let b : FitsSigned w64 c.args.b.y = search rules in
     let p : FitsSigned w64 c.args.p.y = search rules in
-    let h : c.args.p.y <ℤ c.args.a.y = omega (arith, ints) in
-    let k : c.args.b.y ≤ℤ c.args.p.y = omega (arith, ints) in
-    simp to_z-of_z (side_down c.args.p c.args.a c.args.b c.args.side c.requires h k)
+    simp to_z-of_z (no_pass c.args.p c.args.a c.args.b (simp to_z-of_z at c.if-begins_low-ends_low.false))

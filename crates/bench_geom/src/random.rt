@@ -1,0 +1,35 @@
+ghost use Rattle.std.specs.Prelude.{◌<◌, ◌^◌};
+ghost use Rattle.at_geom.specs.Segments.{IsInRange};
+
+use at_geom::Pos;
+
+/// A linear congruential generator, the same as in the baseline.
+#[derive(Drop)]
+pub struct Random {
+    seed: u64,
+}
+
+impl Random {
+    pub fn new() -> Self {
+        Random { seed: 20 }
+    }
+
+    fn coordinate(&mut self) -> u32
+        ensures { result < 2 ^ 20 }
+    {
+        self.seed = self
+            .seed
+            .wrapping_mul(6_364_136_223_846_793_005)
+            .wrapping_add(1_442_695_040_888_963_407);
+        (self.seed >> 44) as u32
+    }
+
+    pub fn position(&mut self) -> Pos
+        ensures { IsInRange result }
+    {
+        Pos {
+            x: i64::from(self.coordinate()),
+            y: i64::from(self.coordinate()),
+        }
+    }
+}
