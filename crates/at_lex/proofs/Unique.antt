@@ -1,0 +1,404 @@
+-- A piece has one list of items from a state: its bytes can be split in one way.
+use Rattle.std.proofs.Common.{◌≡◌, ◌≢◌, ℕ, ◌+◌, ◌⊎◌, inl, inr, List, [], ◌∷◌, ◌++◌, length, Bool, true, false, cond, ◌==◌, ◌||◌, not, IsTrue, refl, sym, ◌∙◌, ap, subst, arith, true≢false, append-nil}
+use Rattle.std.specs.List.{AllByRecursion}
+use Rattle.at_text.specs.Texts.{is_space, is_run, is_one_of}
+use Rattle.at_text.proofs.Machine.{longest_unique}
+use Rattle.at_lex.specs.declared.tokens.Start.{Start}
+use Rattle.at_lex.specs.declared.tokens.Start.TheVariants.{Out, InString, InEscape}
+use Rattle.at_lex.specs.declared.tokens.Bracket.TheVariants.{Brace, Square}
+use Rattle.at_lex.specs.declared.tokens.Lead.{Lead}
+use Rattle.at_lex.specs.declared.tokens.Lead.TheVariants as leads
+use Rattle.at_lex.specs.declared.tokens.Pend.{Pend}
+use Rattle.at_lex.specs.declared.tokens.Pend.TheVariants as pends
+use Rattle.at_lex.specs.declared.tokens.Token.{Token}
+use Rattle.at_lex.specs.declared.tokens.TokenKind.{TokenKind}
+use Rattle.at_lex.specs.declared.tokens.TokenKind.TheVariants.{Opens, Closes, Comma, Colon, Text, Run, Broken}
+use Rattle.at_lex.specs.declared.tokens.Item.{Item}
+use Rattle.at_lex.specs.declared.tokens.Item.TheVariants.{Whole, End}
+use Rattle.at_lex.specs.Stream.{Left, IsBegun, GivesItem}
+use Rattle.at_lex.specs.declared.tokens.Lexed.{Lexed}
+use Rattle.at_lex.specs.Strings.{JsonString}
+use Rattle.at_lex.specs.Runs.{JsonRun}
+use Rattle.at_lex.specs.Spans.{after_byte, end_of, ClosesText, StaysInText, AreSpaces, AreRun, EndsRun, IsText, IsRefused, begins_space, begins_run, IsKind, IsToken, IsPend, AreTokens, IsLead, left_behind, end_behind, HasItems}
+
+-- ---- fronts
+
+head_same : (b c : ℕ) (v w : List ℕ) → b ∷ v ≡ c ∷ w → b ≡ c
+head_same b c v w e = cc
+
+tail_same : (b c : ℕ) (v w : List ℕ) → b ∷ v ≡ c ∷ w → v ≡ w
+tail_same b c v w e = cc
+
+not-false : (b : Bool) → IsTrue (not b) → b ≡ false
+not-false false h = refl
+not-false true h = absurd (true≢false (sym h))
+
+abbrev Same : (u v x y : List ℕ) → Type 0
+Same u v x y = (u ≡ v) × (x ≡ y)
+
+cons_same : (b c : ℕ) (u v x y : List ℕ) → b ≡ c → Same u v x y → Same (b ∷ u) (c ∷ v) x y
+cons_same b c u v x y e (f, g) = (ap (λ z. z ∷ u) e ∙ ap (λ z. c ∷ z) f, g)
+
+spaces_one : (a b x y : List ℕ) → AreSpaces a → AreSpaces b → begins_space x ≡ false → begins_space y ≡ false → a ++ x ≡ b ++ y → Same a b x y
+spaces_one [] [] x y h k p q e = (refl, e)
+spaces_one [] (c ∷ b) x y h (k, ks) p q e = absurd (true≢false (sym k ∙ (sym (ap begins_space e) ∙ p)))
+spaces_one (c ∷ a) [] x y (h, hs) k p q e = absurd (true≢false (sym h ∙ (ap begins_space e ∙ q)))
+spaces_one (c ∷ a) (d ∷ b) x y (h, hs) (k, ks) p q e = cons_same c d a b x y (head_same c d _ _ e) (spaces_one a b x y hs ks p q (tail_same c d _ _ e))
+
+runs_one : (a b x y : List ℕ) → AreRun a → AreRun b → begins_run x ≡ false → begins_run y ≡ false → a ++ x ≡ b ++ y → Same a b x y
+runs_one [] [] x y h k p q e = (refl, e)
+runs_one [] (c ∷ b) x y h (k, ks) p q e = absurd (true≢false (sym k ∙ (sym (ap begins_run e) ∙ p)))
+runs_one (c ∷ a) [] x y (h, hs) k p q e = absurd (true≢false (sym h ∙ (ap begins_run e ∙ q)))
+runs_one (c ∷ a) (d ∷ b) x y (h, hs) (k, ks) p q e = cons_same c d a b x y (head_same c d _ _ e) (runs_one a b x y hs ks p q (tail_same c d _ _ e))
+
+closes_one : (s : Start) (u v x y : List ℕ) → ClosesText s u → ClosesText s v → u ++ x ≡ v ++ y → Same u v x y
+closes_one Out [] [] x y h k e = (refl, e)
+closes_one Out [] (c ∷ v) x y h k e = absurd k
+closes_one Out (b ∷ u) v x y h k e = absurd h
+closes_one InString [] v x y h k e = absurd h
+closes_one InString (b ∷ u) [] x y h k e = absurd k
+closes_one InString (b ∷ u) (c ∷ v) x y h k e = let f = head_same b c _ _ e in
+    cons_same b c u v x y f (closes_one (after_byte InString b) u v x y h (subst (λ z. ClosesText (after_byte InString z) v) (sym f) k) (tail_same b c _ _ e))
+closes_one InEscape [] v x y h k e = absurd h
+closes_one InEscape (b ∷ u) [] x y h k e = absurd k
+closes_one InEscape (b ∷ u) (c ∷ v) x y h k e = cons_same b c u v x y (head_same b c _ _ e) (closes_one InString u v x y h k (tail_same b c _ _ e))
+
+closes_stays : (s : Start) (u v x : List ℕ) → ClosesText s u → StaysInText s v → u ++ x ≡ v → ⊥
+closes_stays Out u v x h k e = k
+closes_stays InString [] v x h k e = h
+closes_stays InString (b ∷ u) [] x h k e = absurd (omega (arith, ap length e))
+closes_stays InString (b ∷ u) (c ∷ v) x h k e = closes_stays (after_byte InString b) u v x h (subst (λ z. StaysInText (after_byte InString z) v) (sym (head_same b c _ _ e)) k) (tail_same b c _ _ e)
+closes_stays InEscape [] v x h k e = h
+closes_stays InEscape (b ∷ u) [] x h k e = absurd (omega (arith, ap length e))
+closes_stays InEscape (b ∷ u) (c ∷ v) x h k e = closes_stays InString u v x h k (tail_same b c _ _ e)
+
+-- ---- the shape of a token
+
+is_mark : ℕ → Bool
+is_mark b = is_one_of (0x7B ∷ 0x7D ∷ 0x5B ∷ 0x5D ∷ 0x2C ∷ 0x3A ∷ []) b
+
+mark_of : ℕ → TokenKind
+mark_of b = cond (b == 0x7B) (Opens Brace) (cond (b == 0x5B) (Opens Square) (cond (b == 0x7D) (Closes Brace) (cond (b == 0x5D) (Closes Square) (cond (b == 0x2C) Comma Colon))))
+
+data Shape : List ℕ → List ℕ → Type 0 where
+  marked : {v r : List ℕ} (b : ℕ) → is_mark b ≡ true → v ≡ b ∷ [] → Shape v r
+  quoted : {v r : List ℕ} → IsText v → Shape v r
+  bare : {v r : List ℕ} → EndsRun v r → Shape v r
+
+kind_shape : (at : ℕ) (v r : List ℕ) (k : TokenKind) → IsKind at v r k → Shape v r
+unfolding is_mark
+kind_shape at v r (Opens Brace) e = marked 0x7B refl e
+kind_shape at v r (Opens Square) e = marked 0x5B refl e
+kind_shape at v r (Closes Brace) e = marked 0x7D refl e
+kind_shape at v r (Closes Square) e = marked 0x5D refl e
+kind_shape at v r Comma e = marked 0x2C refl e
+kind_shape at v r Colon e = marked 0x3A refl e
+kind_shape at v r Text (h, k) = quoted h
+kind_shape at v r Run (h, k) = bare h
+kind_shape at v r (Broken p) (n, e, inl (h, k, l)) = quoted h
+kind_shape at v r (Broken p) (n, e, inr (h, k)) = bare h
+
+one_of_cons : (x b : ℕ) (xs : List ℕ) → is_one_of (x ∷ xs) b ≡ true → (b ≡ x) ⊎ (is_one_of xs b ≡ true)
+one_of_cons x b xs h = by_test (x == b) refl h
+  where
+    by_test : (p : Bool) → (x == b) ≡ p → (p || is_one_of xs b) ≡ true → (b ≡ x) ⊎ (is_one_of xs b ≡ true)
+    by_test true e k = inl (grind (arith, e))
+    by_test false e k = inr k
+
+one_of_all : (P : ℕ → Type 0) (xs : List ℕ) (b : ℕ) → AllByRecursion P xs → is_one_of xs b ≡ true → P b
+one_of_all P [] b h k = absurd (true≢false (sym k))
+one_of_all P (x ∷ xs) b (h, hs) k = elim (one_of_cons x b xs k) [ inl e ↦ subst P (sym e) h | inr e ↦ one_of_all P xs b hs e ]
+
+mark_no_run : (b : ℕ) → is_mark b ≡ true → is_run b ≡ true → ⊥
+unfolding is_mark
+mark_no_run b h k = absurd (grind (arith, h, k))
+
+abbrev first_is : (ℕ → Bool) → List ℕ → Bool
+first_is p [] = false
+first_is p (b ∷ w) = p b
+
+run_first : (v r : List ℕ) → EndsRun v r → first_is is_run (v ++ r) ≡ true
+run_first [] r ((h, hs), k, l) = absurd (true≢false (sym h))
+run_first (b ∷ v) r ((h, hs), k, l) = h
+
+mark_first : (v r : List ℕ) (b : ℕ) → is_mark b ≡ true → v ≡ b ∷ [] → v ++ r ≡ b ∷ r
+mark_first v r b h e = ap (λ z. z ++ r) e
+
+shapes_one : (v r w s : List ℕ) → Shape v r → Shape w s → v ++ r ≡ w ++ s → Same v w r s
+unfolding is_mark
+shapes_one v r w s (marked b h e) (marked c k f) g = let j = sym (mark_first v r b h e) ∙ (g ∙ mark_first w s c k f) in
+    (e ∙ (ap (λ z. z ∷ []) (head_same b c r s j) ∙ sym f), tail_same b c r s j)
+shapes_one v r w s (marked b h e) (quoted (u, f, k)) g = let j : b ∷ r ≡ 0x22 ∷ (u ++ s) = sym (mark_first v r b h e) ∙ (g ∙ ap (λ z. z ++ s) f) in
+    absurd (true≢false (sym h ∙ ap is_mark (head_same b 0x22 r (u ++ s) j)))
+shapes_one v r w s (marked b h e) (bare k) g = absurd (mark_no_run b h (ap (first_is is_run) (sym (mark_first v r b h e) ∙ g) ∙ run_first w s k))
+shapes_one v r w s (quoted (u, f, k)) (marked b h e) g = let j : b ∷ s ≡ 0x22 ∷ (u ++ r) = sym (mark_first w s b h e) ∙ (sym g ∙ ap (λ z. z ++ r) f) in
+    absurd (true≢false (sym h ∙ ap is_mark (head_same b 0x22 s (u ++ r) j)))
+shapes_one v r w s (quoted (u, e, h)) (quoted (x, f, k)) g =
+    let j : 0x22 ∷ (u ++ r) ≡ 0x22 ∷ (x ++ s) = sym (ap (λ z. z ++ r) e) ∙ (g ∙ ap (λ z. z ++ s) f) in
+    let (p, q) = closes_one InString u x r s h k (tail_same 0x22 0x22 (u ++ r) (x ++ s) j) in
+    (e ∙ (ap (λ z. 0x22 ∷ z) p ∙ sym f), q)
+shapes_one v r w s (quoted (u, e, h)) (bare k) g = absurd (true≢false (sym (run_first w s k) ∙ sym (ap (first_is is_run) (sym (ap (λ z. z ++ r) e) ∙ g))))
+shapes_one v r w s (bare h) (marked b k f) g = absurd (mark_no_run b k (sym (ap (first_is is_run) (g ∙ mark_first w s b k f)) ∙ run_first v r h))
+shapes_one v r w s (bare h) (quoted (u, f, k)) g = absurd (true≢false (sym (run_first v r h) ∙ ap (first_is is_run) (g ∙ ap (λ z. z ++ s) f)))
+shapes_one v r w s (bare ((h, hs), k, l)) (bare ((i, is), m, n)) g = runs_one v w r s hs is (not-false _ l) (not-false _ n) g
+
+-- ---- the kind of a token
+
+-- what is known of the bytes of a token of each kind
+data Known (at : ℕ) (v r : List ℕ) : TokenKind → Type 0 where
+  known_mark : {k : TokenKind} (b : ℕ) → v ≡ b ∷ [] → is_mark b ≡ true → k ≡ mark_of b → Known at v r k
+  known_text : {k : TokenKind} → IsText v → JsonString v → k ≡ Text → Known at v r k
+  bad_text : {k : TokenKind} (n : ℕ) → IsText v → IsRefused JsonString v n → k ≡ Broken (at + n) → Known at v r k
+  known_run : {k : TokenKind} → EndsRun v r → JsonRun v → k ≡ Run → Known at v r k
+  bad_run : {k : TokenKind} (n : ℕ) → EndsRun v r → IsRefused JsonRun v n → k ≡ Broken (at + n) → Known at v r k
+
+kind_known : (at : ℕ) (v r : List ℕ) (k : TokenKind) → IsKind at v r k → Known at v r k
+unfolding is_mark mark_of
+kind_known at v r (Opens Brace) e = known_mark 0x7B e refl refl
+kind_known at v r (Opens Square) e = known_mark 0x5B e refl refl
+kind_known at v r (Closes Brace) e = known_mark 0x7D e refl refl
+kind_known at v r (Closes Square) e = known_mark 0x5D e refl refl
+kind_known at v r Comma e = known_mark 0x2C e refl refl
+kind_known at v r Colon e = known_mark 0x3A e refl refl
+kind_known at v r Text (h, k) = known_text h k refl
+kind_known at v r Run (h, k) = known_run h k refl
+kind_known at v r (Broken p) (n, e, inl (h, k, l)) = bad_text n h k (ap Broken e)
+kind_known at v r (Broken p) (n, e, inr (h, k)) = bad_run n h k (ap Broken e)
+
+text_no_run : (v r : List ℕ) → IsText v → EndsRun v r → ⊥
+text_no_run v r (u, e, h) ((k, ks), l, m) = true≢false (sym k ∙ ap begins_run e)
+
+mark_no_text : (v : List ℕ) (b : ℕ) → v ≡ b ∷ [] → is_mark b ≡ true → IsText v → ⊥
+unfolding is_mark
+mark_no_text v b e h (u, f, k) = true≢false (sym h ∙ ap is_mark (head_same b 0x22 [] u (sym e ∙ f)))
+
+mark_no_bare : (v r : List ℕ) (b : ℕ) → v ≡ b ∷ [] → is_mark b ≡ true → EndsRun v r → ⊥
+mark_no_bare v r b e h ((k, ks), l, m) = mark_no_run b h (sym (ap begins_run e) ∙ k)
+
+refused_one : (L : List ℕ → Type 0) (v : List ℕ) (at m n : ℕ) → IsRefused L v m → IsRefused L v n → at + m ≡ at + n
+refused_one L v at m n h k = ap (λ z. at + z) (longest_unique L v m n h.1 k.1)
+
+known_one : (at : ℕ) (v r : List ℕ) (k l : TokenKind) → Known at v r k → Known at v r l → k ≡ l
+known_one at v r k l (known_mark b e h f) (known_mark c g i j) = f ∙ (ap mark_of (head_same b c [] [] (sym e ∙ g)) ∙ sym j)
+known_one at v r k l (known_mark b e h f) (known_text i j g) = absurd (mark_no_text v b e h i)
+known_one at v r k l (known_mark b e h f) (bad_text n i j g) = absurd (mark_no_text v b e h i)
+known_one at v r k l (known_mark b e h f) (known_run i j g) = absurd (mark_no_bare v r b e h i)
+known_one at v r k l (known_mark b e h f) (bad_run n i j g) = absurd (mark_no_bare v r b e h i)
+known_one at v r k l (known_text h i e) (known_mark b f g j) = absurd (mark_no_text v b f g h)
+known_one at v r k l (known_text h i e) (known_text j m f) = e ∙ sym f
+known_one at v r k l (known_text h i e) (bad_text n j m f) = absurd (m.0 i)
+known_one at v r k l (known_text h i e) (known_run j m f) = absurd (text_no_run v r h j)
+known_one at v r k l (known_text h i e) (bad_run n j m f) = absurd (text_no_run v r h j)
+known_one at v r k l (bad_text n h i e) (known_mark b f g j) = absurd (mark_no_text v b f g h)
+known_one at v r k l (bad_text n h i e) (known_text j m f) = absurd (i.0 m)
+known_one at v r k l (bad_text n h i e) (bad_text x j m f) = e ∙ (ap Broken (refused_one JsonString v at n x i m) ∙ sym f)
+known_one at v r k l (bad_text n h i e) (known_run j m f) = absurd (text_no_run v r h j)
+known_one at v r k l (bad_text n h i e) (bad_run x j m f) = absurd (text_no_run v r h j)
+known_one at v r k l (known_run h i e) (known_mark b f g j) = absurd (mark_no_bare v r b f g h)
+known_one at v r k l (known_run h i e) (known_text j m f) = absurd (text_no_run v r j h)
+known_one at v r k l (known_run h i e) (bad_text n j m f) = absurd (text_no_run v r j h)
+known_one at v r k l (known_run h i e) (known_run j m f) = e ∙ sym f
+known_one at v r k l (known_run h i e) (bad_run n j m f) = absurd (m.0 i)
+known_one at v r k l (bad_run n h i e) (known_mark b f g j) = absurd (mark_no_bare v r b f g h)
+known_one at v r k l (bad_run n h i e) (known_text j m f) = absurd (text_no_run v r j h)
+known_one at v r k l (bad_run n h i e) (bad_text x j m f) = absurd (text_no_run v r j h)
+known_one at v r k l (bad_run n h i e) (known_run j m f) = absurd (i.0 m)
+known_one at v r k l (bad_run n h i e) (bad_run x j m f) = e ∙ (ap Broken (refused_one JsonRun v at n x i m) ∙ sym f)
+
+-- ---- what may go on
+
+shape_space : (v r : List ℕ) → Shape v r → begins_space (v ++ r) ≡ false
+unfolding is_mark
+shape_space v r (marked b h e) = ap begins_space (mark_first v r b h e) ∙ mark_no_space b h
+  where
+    mark_no_space : (c : ℕ) → is_mark c ≡ true → is_space c ≡ false
+    mark_no_space c k = one_of_all (λ x. is_space x ≡ false) (0x7B ∷ 0x7D ∷ 0x5B ∷ 0x5D ∷ 0x2C ∷ 0x3A ∷ []) c (refl, (refl, (refl, (refl, (refl, (refl, tt)))))) k
+shape_space v r (quoted (u, e, h)) = ap (λ z. begins_space (z ++ r)) e
+shape_space v r (bare k) = run_spaces (v ++ r) (run_first v r k)
+  where
+    run_no_space : (c : ℕ) → is_run c ≡ true → is_space c ≡ false
+    run_no_space c h = grind (arith, h)
+
+    run_spaces : (w : List ℕ) → first_is is_run w ≡ true → begins_space w ≡ false
+    run_spaces [] h = refl
+    run_spaces (c ∷ w) h = run_no_space c h
+
+pend_space : (at : ℕ) (v : List ℕ) (p : Pend) → IsPend at v p → begins_space v ≡ false
+pend_space at v pends.Nothing e = ap begins_space e
+pend_space at v (pends.Run i) (e, (h, hs)) = run_spaces v h
+  where
+    run_no_space : (c : ℕ) → is_run c ≡ true → is_space c ≡ false
+    run_no_space c k = grind (arith, k)
+
+    run_spaces : (w : List ℕ) → begins_run w ≡ true → begins_space w ≡ false
+    run_spaces [] k = refl
+    run_spaces (c ∷ w) k = run_no_space c k
+pend_space at v (pends.Text i) (e, u, f, h) = ap begins_space f
+
+some_first : (w : List ℕ) → begins_run w ≡ true → w ≢ []
+some_first w h e = true≢false (sym h ∙ ap begins_run e)
+
+-- what may go on is no token
+pend_no_token : (at : ℕ) (v r w : List ℕ) (p : Pend) → Shape v r → IsPend at w p → v ++ r ≡ w → ⊥
+unfolding is_mark
+pend_no_token at v r w pends.Nothing (marked b h e) k g = absurd (omega (arith, ap length (sym (mark_first v r b h e) ∙ (g ∙ k))))
+pend_no_token at v r w pends.Nothing (quoted (u, e, h)) k g = absurd (omega (arith, ap length (sym (ap (λ z. z ++ r) e) ∙ (g ∙ k))))
+pend_no_token at v r w pends.Nothing (bare h) k g = true≢false (sym (run_first v r h) ∙ ap (first_is is_run) (g ∙ k))
+pend_no_token at v r w (pends.Run i) (marked b h e) (f, (k, ks)) g = mark_no_run b h (ap begins_run (sym (mark_first v r b h e) ∙ g) ∙ k)
+pend_no_token at v r w (pends.Run i) (quoted (u, e, h)) (f, (k, ks)) g = true≢false (sym k ∙ ap begins_run (sym g ∙ ap (λ z. z ++ r) e))
+pend_no_token at v r w (pends.Run i) (bare ((h, hs), l, m)) (f, (k, ks)) g = l (runs_one v w r [] hs ks (not-false _ m) refl (g ∙ sym (append-nil w))).1
+pend_no_token at v r w (pends.Text i) (marked b h e) (f, u, j, k) g = true≢false (sym h ∙ ap is_mark (head_same b 0x22 r u (sym (mark_first v r b h e) ∙ (g ∙ j))))
+pend_no_token at v r w (pends.Text i) (quoted (u, e, h)) (f, x, j, k) g = closes_stays InString u x r h k (tail_same 0x22 0x22 (u ++ r) x (sym (ap (λ z. z ++ r) e) ∙ (g ∙ j)))
+pend_no_token at v r w (pends.Text i) (bare h) (f, u, j, k) g = true≢false (sym (run_first v r h) ∙ ap (first_is is_run) (g ∙ j))
+
+pends_one : (at : ℕ) (v : List ℕ) (p q : Pend) → IsPend at v p → IsPend at v q → p ≡ q
+pends_one at v pends.Nothing pends.Nothing h k = refl
+pends_one at v pends.Nothing (pends.Run i) h (e, (k, ks)) = absurd (some_first v k h)
+pends_one at v pends.Nothing (pends.Text i) h (e, u, f, k) = absurd (omega (arith, ap length (sym h ∙ f)))
+pends_one at v (pends.Run i) pends.Nothing (e, (h, hs)) k = absurd (some_first v h k)
+pends_one at v (pends.Run i) (pends.Run j) (e, h) (f, k) = ap pends.Run (e ∙ sym f)
+pends_one at v (pends.Run i) (pends.Text j) (e, (h, hs)) (f, u, g, k) = absurd (true≢false (sym h ∙ ap begins_run g))
+pends_one at v (pends.Text i) pends.Nothing (e, u, f, h) k = absurd (omega (arith, ap length (sym k ∙ f)))
+pends_one at v (pends.Text i) (pends.Run j) (e, u, f, h) (g, (k, ks)) = absurd (true≢false (sym k ∙ ap begins_run f))
+pends_one at v (pends.Text i) (pends.Text j) (e, u, f, h) (g, x, m, k) = ap pends.Text (e ∙ sym g)
+
+-- ---- lists of items
+
+token_one : (at : ℕ) (v r : List ℕ) (t u : Token) → IsToken at v r t → IsToken at v r u → t ≡ u
+token_one at v r t u (e, f, h) (g, i, k) = same_token t.kind u.kind t.from u.from t.to u.to (known_one at v r t.kind u.kind (kind_known at v r t.kind h) (kind_known at v r u.kind k)) (e ∙ sym g) (f ∙ sym i)
+  where
+    same_token : (k l : TokenKind) (a b x y : ℕ) → k ≡ l → a ≡ b → x ≡ y → ◌≡◌ {A = Token} (record { kind = k; from = a; to = x }) (record { kind = l; from = b; to = y })
+    same_token k l a b x y p q r = cc
+
+abbrev SameItems : (ts us : List Token) (p q : Pend) → Type 0
+SameItems ts us p q = (ts ≡ us) × (p ≡ q)
+
+-- the white space, the token and what is behind it
+split_one : (at : ℕ) (a v r b w s : List ℕ) (t u : Token) → AreSpaces a → AreSpaces b → IsToken (at + length a) v r t → IsToken (at + length b) w s u → a ++ (v ++ r) ≡ b ++ (w ++ s) → (t ≡ u) × (r ≡ s)
+split_one at a v r b w s t u h k (e, f, i) (g, j, l) z =
+    let x = kind_shape (at + length a) v r t.kind i in let y = kind_shape (at + length b) w s u.kind l in
+    let (p, q) = spaces_one a b (v ++ r) (w ++ s) h k (shape_space v r x) (shape_space w s y) z in
+    let (m, n) = shapes_one v r w s x y q in
+    let P : List ℕ → List ℕ → List ℕ → Type 0 = λ c d o. IsToken (at + length c) d o u in
+    (token_one (at + length a) v r t u (e, f, i) (subst (λ c. P c v r) (sym p) (subst (λ d. P b d r) (sym m) (subst (λ o. P b w o) (sym n) (g, j, l)))), n)
+
+pub tokens_one : (at : ℕ) (w : List ℕ) (ts us : List Token) (p q : Pend) → AreTokens at w ts p → AreTokens at w us q → SameItems ts us p q
+tokens_one at w [] [] p q (a, v, e, h, i) (b, x, f, k, j) =
+    let (m, n) = spaces_one a b v x h k (pend_space (at + length a) v p i) (pend_space (at + length b) x q j) (sym e ∙ f) in
+    (refl, pends_one (at + length a) v p q i (subst (λ c. IsPend (at + length c) v q) (sym m) (subst (λ d. IsPend (at + length b) d q) (sym n) j)))
+tokens_one at w [] (u ∷ us) p q (a, v, e, h, i) (b, x, s, f, k, (g, j, l), z) =
+    let y = kind_shape (at + length b) x s u.kind l in
+    let (m, n) = spaces_one a b v (x ++ s) h k (pend_space (at + length a) v p i) (shape_space x s y) (sym e ∙ f) in
+    absurd (pend_no_token (at + length a) x s v p y i (sym n))
+tokens_one at w (t ∷ ts) [] p q (b, x, s, f, k, (g, j, l), z) (a, v, e, h, i) =
+    let y = kind_shape (at + length b) x s t.kind l in
+    let (m, n) = spaces_one a b v (x ++ s) h k (pend_space (at + length a) v q i) (shape_space x s y) (sym e ∙ f) in
+    absurd (pend_no_token (at + length a) x s v q y i (sym n))
+tokens_one at w (t ∷ ts) (u ∷ us) p q (a, v, r, e, h, i, z) (b, x, s, f, k, j, y) =
+    let (m, n) = split_one at a v r b x s t u h k i j (sym e ∙ f) in
+    let P : Token → List ℕ → Type 0 = λ c d. AreTokens c.to (left_behind c.kind d) us q in
+    let (o, l) = tokens_one t.to (left_behind t.kind r) ts us p q z (subst (λ c. P c r) (sym m) (subst (P u) (sym n) y)) in
+    (ap (λ c. c ∷ ts) m ∙ ap (λ c. u ∷ c) o, l)
+
+-- ---- leads
+
+out_lead : (at : ℕ) (u : List ℕ) (l : Lead) (r : List ℕ) → IsLead Out at u l r → AreRun u × (begins_run r ≡ false)
+out_lead at u leads.Nothing r (e, h) = (subst AreRun (sym e) tt, not-false _ h)
+out_lead at u (leads.RunEnds i) r (e, ((h, hs), k, l)) = (hs, not-false _ l)
+out_lead at u leads.AllRun r ((h, hs), e) = (hs, ap begins_run e)
+out_lead at u (leads.TextEnds i) r h = absurd h
+out_lead at u leads.AllText r h = absurd h
+
+out_leads : (at : ℕ) (u r : List ℕ) (k l : Lead) → IsLead Out at u k r → IsLead Out at u l r → k ≡ l
+out_leads at u r leads.Nothing leads.Nothing h k = refl
+out_leads at u r leads.Nothing (leads.RunEnds i) (e, h) (f, ((k, ks), m, n)) = absurd (some_first u k e)
+out_leads at u r leads.Nothing leads.AllRun (e, h) ((k, ks), m) = absurd (some_first u k e)
+out_leads at u r (leads.RunEnds i) leads.Nothing (f, ((k, ks), m, n)) (e, h) = absurd (some_first u k e)
+out_leads at u r (leads.RunEnds i) (leads.RunEnds j) (e, h) (f, k) = ap leads.RunEnds (e ∙ sym f)
+out_leads at u r (leads.RunEnds i) leads.AllRun (e, (h, m, n)) (k, f) = absurd (m f)
+out_leads at u r leads.AllRun leads.Nothing ((k, ks), m) (e, h) = absurd (some_first u k e)
+out_leads at u r leads.AllRun (leads.RunEnds i) (k, f) (e, (h, m, n)) = absurd (m f)
+out_leads at u r leads.AllRun leads.AllRun h k = refl
+out_leads at u r (leads.TextEnds i) l h k = absurd h
+out_leads at u r leads.AllText l h k = absurd h
+out_leads at u r k (leads.TextEnds i) h j = absurd j
+out_leads at u r k leads.AllText h j = absurd j
+
+-- in a string there are two leads
+data InTextLead (s : Start) (at : ℕ) (u r : List ℕ) : Lead → Type 0 where
+  ends_there : {l : Lead} (i : ℕ) → l ≡ leads.TextEnds i → i ≡ at + length u → ClosesText s u → InTextLead s at u r l
+  all_there : {l : Lead} → l ≡ leads.AllText → StaysInText s u → r ≡ [] → InTextLead s at u r l
+
+text_lead : (s : Start) (at : ℕ) (u : List ℕ) (l : Lead) (r : List ℕ) → s ≢ Out → IsLead s at u l r → InTextLead s at u r l
+text_lead Out at u l r n h = absurd (n refl)
+text_lead InString at u (leads.TextEnds i) r n (e, h) = ends_there i refl e h
+text_lead InString at u leads.AllText r n (h, e) = all_there refl h e
+text_lead InString at u leads.Nothing r n h = absurd h
+text_lead InString at u (leads.RunEnds i) r n h = absurd h
+text_lead InString at u leads.AllRun r n h = absurd h
+text_lead InEscape at u (leads.TextEnds i) r n (e, h) = ends_there i refl e h
+text_lead InEscape at u leads.AllText r n (h, e) = all_there refl h e
+text_lead InEscape at u leads.Nothing r n h = absurd h
+text_lead InEscape at u (leads.RunEnds i) r n h = absurd h
+text_lead InEscape at u leads.AllRun r n h = absurd h
+
+abbrev SameLead : (u v r s : List ℕ) (k l : Lead) → Type 0
+SameLead u v r s k l = (u ≡ v) × (r ≡ s) × (k ≡ l)
+
+text_leads : (s : Start) (at : ℕ) (u v x y : List ℕ) (k l : Lead) → InTextLead s at u x k → InTextLead s at v y l → u ++ x ≡ v ++ y → SameLead u v x y k l
+text_leads s at u v x y k l (ends_there i e f h) (ends_there j g m n) z = let (p, q) = closes_one s u v x y h n z in
+    (p, q, e ∙ (ap leads.TextEnds (f ∙ (ap (λ c. at + length c) p ∙ sym m)) ∙ sym g))
+text_leads s at u v x y k l (ends_there i e f h) (all_there g m n) z = absurd (closes_stays s u v x h m (z ∙ (ap (λ c. v ++ c) n ∙ append-nil v)))
+text_leads s at u v x y k l (all_there g m n) (ends_there i e f h) z = absurd (closes_stays s v u y h m (sym z ∙ (ap (λ c. u ++ c) n ∙ append-nil u)))
+text_leads s at u v x y k l (all_there g m n) (all_there e f h) z =
+    (sym (append-nil u) ∙ (ap (λ c. u ++ c) (sym n) ∙ (z ∙ (ap (λ c. v ++ c) h ∙ append-nil v))), n ∙ sym h, g ∙ sym e)
+
+leads_one : (s : Start) (at : ℕ) (u v x y : List ℕ) (k l : Lead) → IsLead s at u k x → IsLead s at v l y → u ++ x ≡ v ++ y → SameLead u v x y k l
+leads_one Out at u v x y k l h i z =
+    let (p, q) = out_lead at u k x h in let (m, n) = out_lead at v l y i in
+    let (e, f) = runs_one u v x y p m q n z in
+    (e, f, out_leads at u x k l h (subst (λ c. IsLead Out at c l x) (sym e) (subst (λ c. IsLead Out at v l c) (sym f) i)))
+leads_one InString at u v x y k l h i z = text_leads InString at u v x y k l (text_lead InString at u k x (λ e. cc) h) (text_lead InString at v l y (λ e. cc) i) z
+leads_one InEscape at u v x y k l h i z = text_leads InEscape at u v x y k l (text_lead InEscape at u k x (λ e. cc) h) (text_lead InEscape at v l y (λ e. cc) i) z
+
+-- a piece has one list of items
+pub items_one : (s : Start) (at : ℕ) (w : List ℕ) (a b : Lexed) → HasItems s at w a → HasItems s at w b → a ≡ b
+items_one s at w a b h k =
+    let (p, q, lead) = leads_one s at h.first k.first h.others k.others a.lead b.lead h.lead k.lead (sym h.split ∙ k.split) in
+    let P : List ℕ → List ℕ → Type 0 = λ u r. AreTokens (at + length u) r b.tokens b.pend in
+    let (tokens, pend) = tokens_one (at + length h.first) h.others a.tokens b.tokens a.pend b.pend h.tokens (subst (λ u. P u h.others) (sym p) (subst (P k.first) (sym q) k.tokens)) in
+    same_lexed a.lead b.lead a.tokens b.tokens a.pend b.pend a.end b.end lead tokens pend (h.end ∙ (ap (λ (ts : List Token). end_behind ts (end_of s w)) tokens ∙ sym k.end))
+  where
+    same_lexed : (k l : Lead) (ts us : List Token) (p q : Pend) (x y : Start) → k ≡ l → ts ≡ us → p ≡ q → x ≡ y
+        → ◌≡◌ {A = Lexed} (record { lead = k; tokens = ts; pend = p; end = x }) (record { lead = l; tokens = us; pend = q; end = y })
+    same_lexed k l ts us p q x y e f g i = cc
+
+-- ---- the steps of a reader
+
+same_left : (a b : ℕ) (r s : List ℕ) (x y : Start) → a ≡ b → r ≡ s → x ≡ y → ◌≡◌ {A = Left} (record { at = a; rest = r; state = x }) (record { at = b; rest = s; state = y })
+same_left a b r s x y e f g = cc
+
+pub begun_one : (s : Start) (at : ℕ) (w : List ℕ) (k l : Lead) (m n : Left) → IsBegun s at w k m → IsBegun s at w l n → (k ≡ l) × (m ≡ n)
+begun_one s at w k l m n (u, e, lead, place, state) (v, f, other, there, last) =
+    let (p, q, same) = leads_one s at u v m.rest n.rest k l lead other (sym e ∙ f) in
+    (same, same_left m.at n.at m.rest n.rest m.state n.state (place ∙ (ap (λ c. at + length c) p ∙ sym there)) q (state ∙ (ap (end_of s) p ∙ sym last)))
+
+pub gives_one : (old : Left) (i j : Item) (m n : Left) → GivesItem old i m → GivesItem old j n → (i ≡ j) × (m ≡ n)
+gives_one old (Whole t) (Whole u) m n (a, v, r, out, e, h, i, z) (b, x, s, outer, f, k, j, y) =
+    let (p, q) = split_one old.at a v r b x s t u h k i j (sym e ∙ f) in
+    (ap Whole p, z ∙ (same_left t.to u.to (left_behind t.kind r) (left_behind u.kind s) Out Out (ap (λ (c : Token). c.to) p) (ap (λ (c : Token). left_behind c.kind r) p ∙ ap (left_behind u.kind) q) refl ∙ sym y))
+gives_one old (Whole t) (End q d) m n (b, x, s, out, f, k, (g, j, l), z) (a, v, e, h, i, state, y) =
+    let c = kind_shape (old.at + length b) x s t.kind l in
+    let (o, p) = spaces_one a b v (x ++ s) h k (pend_space (old.at + length a) v q i) (shape_space x s c) (sym e ∙ f) in
+    absurd (pend_no_token (old.at + length a) x s v q c i (sym p))
+gives_one old (End q d) (Whole t) m n (a, v, e, h, i, state, y) (b, x, s, out, f, k, (g, j, l), z) =
+    let c = kind_shape (old.at + length b) x s t.kind l in
+    let (o, p) = spaces_one a b v (x ++ s) h k (pend_space (old.at + length a) v q i) (shape_space x s c) (sym e ∙ f) in
+    absurd (pend_no_token (old.at + length a) x s v q c i (sym p))
+gives_one old (End p c) (End q d) m n (a, v, e, h, i, state, z) (b, x, f, k, j, last, y) =
+    let (o, l) = spaces_one a b v x h k (pend_space (old.at + length a) v p i) (pend_space (old.at + length b) x q j) (sym e ∙ f) in
+    let same : p ≡ q = pends_one (old.at + length a) v p q i (subst (λ g. IsPend (old.at + length g) v q) (sym o) (subst (λ g. IsPend (old.at + length b) g q) (sym l) j)) in
+    (same_item p q c d same (state ∙ sym last), z ∙ sym y)
+  where
+    same_item : (x y : Pend) (s t : Start) → x ≡ y → s ≡ t → End x s ≡ End y t
+    same_item x y s t e f = cc

@@ -1,0 +1,6 @@
+use Rattle.std.proofs.Common.{◌≡◌, ℕ, ◌<◌, true, slice_index}
+use Rattle.at_text.specs.Texts.{is_space}
+use Rattle.at_lex.proofs.fronts.space_len.Given as goal
+
+abbrev pub invariant-loop-i : goal.invariant-loop-i
+invariant-loop-i l = (k : ℕ) → k < l.i → is_space (slice_index l.text k) ≡ true

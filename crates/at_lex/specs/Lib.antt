@@ -1,0 +1,10 @@
+pub mod Strings
+pub mod Runs
+pub mod Beginnings
+pub mod EndedNumbers
+pub mod StringStates
+pub mod Fronts
+pub mod Spans
+pub mod UnitSteps
+pub mod Endings
+pub mod Stream
