@@ -1,7 +1,7 @@
 -- The ends that a run can come to before anything is written.
-use Rattle.std.specs.Prelude.{◌≡◌, ◌⊎◌, ℕ, List, [], Option, Some, IfSome, string_bytes}
+use Rattle.std.specs.Prelude.{◌≡◌, ◌⊎◌, ℕ, List, [], Option, IfSome, string_bytes}
 use Rattle.at_io.specs.Files.{Files}
-use Rattle.at_cli.specs.Outcomes.{Outcome, outcome_of}
+use Rattle.at_cli.specs.Outcomes.{Outcome, HasCountOutcome, HasOutcome}
 use Rattle.at_cli.specs.Texts.{usage_line, fault_line, read_line, size_line, memory_line}
 use Rattle.at_cli.specs.declared.ending.Ending.{Ending}
 use Rattle.at_cli.specs.declared.ending.Ending.TheVariants.{Usage, Faulty, ReadFailed, TooLarge, NoMemory, Answered}
@@ -33,10 +33,10 @@ line_of (TooLarge name) = size_line name.now
 abbrev pub outcome_by : Ending → Outcome
 outcome_by e = record { status = status_of e; out = text_of e; err = line_of e }
 
--- the end is the outcome over the bytes of a file, but for want of memory
-abbrev pub EndsFile : Outcome → Ending → Type 0
-EndsFile outcome e = (status_of e ≡ 5) ⊎ (outcome ≡ outcome_by e)
+-- the end is the outcome over a file of that name, but for want of memory
+abbrev pub EndsFile : List ℕ → List ℕ → Ending → Type 0
+EndsFile name bytes e = (status_of e ≡ 5) ⊎ HasCountOutcome name bytes (outcome_by e)
 
 -- the end is the outcome over the words and the files where these are told, but for a failed shelf and want of memory
 abbrev pub EndsRun : List (List ℕ) → Option Files → Ending → Type 0
-EndsRun words files e = (status_of e ≡ 3) ⊎ ((status_of e ≡ 5) ⊎ IfSome files (λ told. outcome_of words told ≡ Some (outcome_by e)))
+EndsRun words files e = (status_of e ≡ 3) ⊎ ((status_of e ≡ 5) ⊎ IfSome files (λ told. HasOutcome words told (outcome_by e)))

@@ -1,10 +1,9 @@
 ghost use Rattle.std.specs.Prelude.{◌≡◌, ◌≢◌, ◌⊎◌, ◌+◌, ◌≤◌, ◌^◌, ◌↔◌, ℕ, List, length, map, Option, Some, None, IfSome, string_bytes};
 ghost use Rattle.at_io.specs.Counts.{Rose};
 ghost use Rattle.at_io.specs.Sinks.{Grows, GrowsByPrefix};
-ghost use Rattle.at_wkt.specs.PlainPoints.{count_of};
 ghost use Rattle.at_cli.specs.Words.{accepted_name as name_accepted};
 ghost use Rattle.at_cli.specs.Texts.{usage_line, read_line, write_line, memory_line};
-ghost use Rattle.at_cli.specs.Outcomes.{Outcome, stopped, answered, counted_outcome, outcome_of};
+ghost use Rattle.at_cli.specs.Outcomes.{Outcome, stopped, answered, HasOutcome};
 ghost use Rattle.at_cli.specs.Telling.{Tells};
 ghost use Rattle.at_cli.specs.Failures.{FailedOn};
 ghost use Rattle.at_cli.specs.Endings.{status_of, text_of, line_of, outcome_by, EndsFile, EndsRun};
@@ -12,22 +11,27 @@ ghost use Rattle.at_cli.specs.Endings.{status_of, text_of, line_of, outcome_by, 
 use crate::ending::Ending;
 use crate::lines::{put_pieces, tell_line, tell_write_failed};
 use crate::words::accepted_name;
+use at_fixed::Coords;
 use at_io::{ReadError, Shelf, Sink, read_whole};
-use at_wkt::count_points;
+use at_wkt::{LineFault, count_lines};
 use std::alloc::Global;
+
+/// The decimal digits of a coordinate: a unit is 10^-7.
+const UNITS: u8 = 7;
 
 /// The end over the bytes of the file of that name, which are within the limit.
 fn count_file<'w>(alloc: Global, name: &'w str, bytes: &[u8]) -> Ending<'w>
     requires { length bytes.now ≤ 2 ^ 28 }
-    ensures outcome { EndsFile (counted_outcome name.now (count_of bytes.now)) result }
+    ensures outcome { EndsFile name.now bytes.now result }
     ensures read { status_of result ≢ 3 }
 {
-    match count_points(bytes) {
+    match count_lines(alloc, bytes, UNITS, Coords::Round) {
         Ok(count) => match format!(in alloc; "{count}\n") {
             Ok(text) => Ending::Answered(text),
             Err(_) => Ending::NoMemory,
         },
-        Err(fault) => Ending::Faulty(name, fault),
+        Err(LineFault::Found(fault)) => Ending::Faulty(name, fault),
+        Err(LineFault::Memory) => Ending::NoMemory,
     }
 }
 
@@ -97,11 +101,11 @@ pub fn top<R, S: Shelf, O: Sink, E: Sink>(
 
     // 0: the answer of the words and the files is written, and nothing else.
     ensures answered { result ≡ 0 → (text : List ℕ) × Grows (O.written out.old) (O.written out.new) text × (err.new ≡ err.old)
-        × IfSome (S.files shelf.old) (λ told. outcome_of (map string_bytes words.now) told ≡ Some (answered text)) }
+        × IfSome (S.files shelf.old) (λ told. HasOutcome (map string_bytes words.now) told (answered text)) }
 
     // 1 and 6: the line of the words and the files is told.
     ensures stopped { ((result ≡ 1) ⊎ (result ≡ 6)) → (line : List ℕ) × Tells (E.faults err.old) (E.faults err.new) (E.written err.old) (E.written err.new) line
-        × IfSome (S.files shelf.old) (λ told. outcome_of (map string_bytes words.now) told ≡ Some (stopped result line)) }
+        × IfSome (S.files shelf.old) (λ told. HasOutcome (map string_bytes words.now) told (stopped result line)) }
     ensures too_large { result ≡ 6 → S.taken shelf.old + (2 ^ 28 + 1) ≤ S.taken shelf.new }
 
     // 2: exactly where the words are refused, want of memory aside; nothing is read.
@@ -117,7 +121,7 @@ pub fn top<R, S: Shelf, O: Sink, E: Sink>(
     // 4: only where the output failed on the answer, of which a prefix is written.
     ensures write_failed { result ≡ 4 → (text : List ℕ) × Rose (O.faults out.old) (O.faults out.new) × GrowsByPrefix (O.written out.old) (O.written out.new) text
         × Tells (E.faults err.old) (E.faults err.new) (E.written err.old) (E.written err.new) write_line
-        × IfSome (S.files shelf.old) (λ told. outcome_of (map string_bytes words.now) told ≡ Some (answered text)) }
+        × IfSome (S.files shelf.old) (λ told. HasOutcome (map string_bytes words.now) told (answered text)) }
 
     // 5: want of memory.
     ensures no_memory { result ≡ 5 → Tells (E.faults err.old) (E.faults err.new) (E.written err.old) (E.written err.new) memory_line }
@@ -127,7 +131,7 @@ pub fn top<R, S: Shelf, O: Sink, E: Sink>(
     ensures same_out { result ≢ 0 → result ≢ 4 → out.new ≡ out.old }
     ensures same_files { S.files shelf.new ≡ S.files shelf.old }
     ensures complete { (result ≡ 5) ⊎ (Rose (S.faults shelf.old) (S.faults shelf.new) ⊎ (Rose (O.faults out.old) (O.faults out.new)
-        ⊎ IfSome (S.files shelf.old) (λ told. (outcome : Outcome) × (outcome_of (map string_bytes words.now) told ≡ Some outcome) × (result ≡ outcome.status)))) }
+        ⊎ IfSome (S.files shelf.old) (λ told. (outcome : Outcome) × HasOutcome (map string_bytes words.now) told outcome × (result ≡ outcome.status)))) }
 {
     let ending = decide(alloc, words, shelf);
     tell(&ending, out, err)
