@@ -2,6 +2,7 @@ use super::*;
 use at_io::{Failed, MemShelf, MemSink, NamedFile, PutFail, Shelf, Sink};
 use at_text::{Bytes, Word};
 use std::alloc::Global;
+use std::process::Abort;
 use std::test::Fail;
 
 /// One run of the program over a shelf with the one file `p.wkt`, of which a read gives two bytes.
@@ -65,9 +66,32 @@ fn words_of(alloc: Global, words: &[&str]) -> Result<Vec<String>, Fail> {
     Ok(all)
 }
 
+/// Runs each row, and compares what it writes.
+fn run_rows(rt: &impl Abort, alloc: Global, rows: &[Run<'_>]) -> Result<(), Fail> {
+    for row in rows {
+        let words = words_of(alloc, row.words)?;
+        let mut shelf = shelf_of(alloc, row)?;
+        let mut out = sink_of(alloc, row.failing_put)?;
+        let mut err = sink_of(alloc, row.failing_line)?;
+        let status = top(rt, alloc, &words, &mut shelf, &mut out, &mut err);
+        let file = row.file;
+        assert_eq!(rt; status, row.status, "the status over {file:?}");
+        assert_eq!(rt;
+            out.written(),
+            row.out.as_bytes(),
+            "the output over {file:?}"
+        );
+        assert_eq!(rt;
+            err.written(),
+            row.err.as_bytes(),
+            "the error output over {file:?}"
+        );
+    }
+    Ok(())
+}
+
 #[test]
 fn runs_over_memory(rt: HostRuntime) -> Result<(), Fail> {
-    let alloc = rt.alloc();
     let rows = [
         Run { ..PLAIN },
         Run {
@@ -82,9 +106,7 @@ fn runs_over_memory(rt: HostRuntime) -> Result<(), Fail> {
         },
         Run {
             file: b"POINT (1 2)\nPOINT (1.5 2)",
-            status: 1,
-            out: "",
-            err: "p.wkt: Syntax at 12\n",
+            out: "2\n",
             ..PLAIN
         },
         Run {
@@ -143,26 +165,44 @@ fn runs_over_memory(rt: HostRuntime) -> Result<(), Fail> {
             ..PLAIN
         },
     ];
-    for row in &rows {
-        let words = words_of(alloc, row.words)?;
-        let mut shelf = shelf_of(alloc, row)?;
-        let mut out = sink_of(alloc, row.failing_put)?;
-        let mut err = sink_of(alloc, row.failing_line)?;
-        let status = top(&rt, alloc, &words, &mut shelf, &mut out, &mut err);
-        let file = row.file;
-        assert_eq!(rt; status, row.status, "the status over {file:?}");
-        assert_eq!(rt;
-            out.written(),
-            row.out.as_bytes(),
-            "the output over {file:?}"
-        );
-        assert_eq!(rt;
-            err.written(),
-            row.err.as_bytes(),
-            "the error output over {file:?}"
-        );
+    run_rows(&rt, rt.alloc(), &rows)
+}
+
+/// A run over that file, which ends with this count.
+const fn counted<'a>(file: &'a [u8], out: &'a str) -> Run<'a> {
+    Run { file, out, ..PLAIN }
+}
+
+/// A run over that file, which ends with this line of its first fault.
+const fn faulty<'a>(file: &'a [u8], err: &'a str) -> Run<'a> {
+    Run {
+        file,
+        status: 1,
+        out: "",
+        err,
+        ..PLAIN
     }
-    Ok(())
+}
+
+/// Files of the whole profile, with their counts and first faults.
+#[test]
+fn files_of_the_profile(rt: HostRuntime) -> Result<(), Fail> {
+    let rows = [
+        counted(b"POINT (1 2)\r\n \t\nPOINT (3 4)\r", "2\n"),
+        counted(b"POINT (30000000 0)", "1\n"),
+        counted(b"POINT (0e999999999999 0)", "1\n"),
+        counted(b"multipoint z ((1 2 3),EMPTY,(4 5 6))", "1\n"),
+        faulty(b"POINT (\xFF", "p.wkt: NotUtf8 at 7\n"),
+        faulty(b"\xEF\xBB\xBFPOINT (x)", "p.wkt: Syntax at 10\n"),
+        faulty(b"POINT (30000000.0000001 0)", "p.wkt: Range at 7\n"),
+        faulty(b"POLYGON ((0 0,1 0,1 1))", "p.wkt: Ring at 9\n"),
+        faulty(b"LINESTRING (1 2)", "p.wkt: Short at 11\n"),
+        faulty(b"POINT (1 2\nPOINT (3 4)", "p.wkt: Ended at 10\n"),
+        faulty(b"POINT Z (1 2)", "p.wkt: Syntax at 12\n"),
+        faulty(b"LINESTRING (1 2,3 4 5)", "p.wkt: Syntax at 20\n"),
+        faulty(b"LINESTRING (1 2)\nPOINT (1 2", "p.wkt: Ended at 27\n"),
+    ];
+    run_rows(&rt, rt.alloc(), &rows)
 }
 
 /// Words that are refused, each with the usage line and nothing else.
