@@ -1,2 +1,25 @@
 pub mod Places
 pub mod Pieces
+pub mod Leads
+pub mod Steps
+pub mod NumberSteps
+pub mod Lists
+pub mod PositionSteps
+pub mod ItemSteps
+pub mod ListSteps
+pub mod WordSteps
+pub mod LetterSteps
+pub mod ByteSteps
+pub mod Exits
+pub mod PositionAnswers
+pub mod PathAnswers
+pub mod BodySteps
+pub mod GeometrySteps
+pub mod KindAnswers
+pub mod CollectionSteps
+pub mod PartAnswers
+pub mod GeometryAnswers
+pub mod ProgressAnswers
+pub mod LineAnswers
+pub mod FileAnswers
+mod Examples

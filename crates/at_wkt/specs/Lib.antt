@@ -1,2 +1,7 @@
+pub mod Positions
+pub mod Geometry
+pub mod Meaning
 pub mod Lines
-pub mod PlainPoints
+pub mod Files
+pub mod Answers
+pub mod Reading

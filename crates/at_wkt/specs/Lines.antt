@@ -1,6 +1,13 @@
--- The pieces of a file between its line feeds, each with its offset.
-use Rattle.std.specs.Prelude.{ℕ, ◌+◌, ◌==◌, Bool, List, [], ◌∷◌, length}
-use Rattle.std.specs.List.{slice_split}
+-- The lines of a file, and what each of them says.
+use Rattle.std.specs.Prelude.{◌≡◌, ℕ, ◌+◌, ◌⊎◌, ◌==◌, not, Bool, if◌then◌else◌, List, [], ◌∷◌, ◌++◌, length, drop, filter, map}
+use Rattle.std.specs.List.{list_all, slice_split}
+use Rattle.at_text.specs.declared.faults.Fault.{Fault}
+use Rattle.at_text.specs.Syntax.{IsSyntaxFault}
+use Rattle.at_text.specs.Texts.{base_of}
+use Rattle.at_fixed.specs.declared.rounding.Coords.{Coords}
+use Rattle.at_geom.specs.declared.shapes.Shape.{Shape}
+use Rattle.at_wkt.specs.Geometry.{Geometry, is_blank, IsLineOf, WktLine}
+use Rattle.at_wkt.specs.Meaning.{shape_of, faults_of}
 
 -- a line without its end, and the offset of its first byte
 pub record FileLine : Type 0 where
@@ -18,3 +25,36 @@ is_line_feed b = b == 0x0A
 -- the pieces between the line feeds of bytes that begin at the offset, the last one included
 abbrev pub pieces_from : ℕ → List ℕ → List FileLine
 pieces_from at bytes = placed at (slice_split is_line_feed bytes)
+
+-- one carriage return at the end of a piece belongs to the line's end
+abbrev pub without_return : List ℕ → List ℕ
+without_return [] = []
+without_return (b ∷ []) = if b == 0x0D then [] else b ∷ []
+without_return (b ∷ c ∷ w) = b ∷ without_return (c ∷ w)
+
+abbrev pub line_of : FileLine → FileLine
+line_of piece = record { at = piece.at; text = without_return piece.text }
+
+abbrev pub is_blank_text : List ℕ → Bool
+is_blank_text text = list_all is_blank text
+
+-- the lines of pieces that are not blank
+abbrev pub lines_in : List FileLine → List FileLine
+lines_in pieces = filter (λ (l : FileLine). not (is_blank_text l.text)) (map line_of pieces)
+
+-- the lines of a file that are not blank; a byte order mark stands before the first
+abbrev pub lines_of : List ℕ → List FileLine
+lines_of bytes = lines_in (pieces_from (base_of bytes) (drop (base_of bytes) bytes))
+
+module _ (digits : ℕ) (how : Coords) where
+  -- the one syntax fault of a line, or else all faults of its geometry
+  abbrev pub HasLineFaults : FileLine → List Fault → Type 0
+  HasLineFaults l faults = ((fault : Fault) × IsSyntaxFault (WktLine l.at) l.at l.text fault × (faults ≡ fault ∷ []))
+      ⊎ ((g : Geometry) × IsLineOf l.at l.text g × (faults ≡ faults_of digits how g))
+
+  abbrev pub HaveLineFaults : List FileLine → List Fault → Type 0
+  HaveLineFaults [] faults = faults ≡ []
+  HaveLineFaults (l ∷ ls) faults = (first others : List Fault) × HasLineFaults l first × HaveLineFaults ls others × (faults ≡ first ++ others)
+
+  abbrev pub HasShape : FileLine → Shape → Type 0
+  HasShape l shape = (g : Geometry) × IsLineOf l.at l.text g × (shape ≡ shape_of digits how g)

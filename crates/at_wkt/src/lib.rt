@@ -1,10 +1,25 @@
-//! Well-Known Text files, read line by line (OGC 06-103r4 section 7). So far a file's lines are plain points.
+//! Well-Known Text: geometries, and files of them read line by line (OGC 06-103r4 section 7).
 #![tactic(auto)]
 
-mod points;
+mod answers;
+mod bytes;
+mod dimension;
+mod files;
+mod geometries;
+mod halts;
+mod kinds;
+mod numbers;
+mod parts;
+mod paths;
+mod positions;
+mod reading;
+mod rules;
 mod searches;
+mod words;
 
-pub use points::count_points;
+pub use answers::{LineFault, Prefix};
+pub use files::count_lines;
+pub use reading::{read_geometry, read_line};
 
 #[cfg(test)]
 mod tests;

@@ -1,0 +1,133 @@
+-- The exits of `?`, and the order in which faults are told.
+use Rattle.std.proofs.Common.{◌≡◌, ◌≢◌, ℕ, ◌+◌, ◌<◌, ◌≤◌, ◌⊎◌, inl, inr, Bool, true, false, not, ◌&&◌, ◌||◌, ◌==◌, nat_lt, nat_le, if◌then◌else◌, List, [], ◌∷◌, ◌++◌, Option, Some, None, Result, Ok, Err, refl, sym, ◌∙◌, ap, subst, arith, true≢false}
+use native.Mathlib.Decide.{dec_lt}
+use Rattle.std.specs.Result.{MatchResult, IsErrAnd}
+use Rattle.at_text.specs.declared.faults.Fault.{Fault}
+use Rattle.at_text.specs.Faults.{comes_first, first_fault, first_of, tier_of, number_of}
+use Rattle.at_wkt.specs.declared.halts.Halt.{Halt}
+use Rattle.at_wkt.specs.declared.halts.Halt.TheVariants.{At, Memory}
+use Rattle.at_wkt.specs.Reading.{IfStopped}
+
+pub stopped_by : (h : Halt) (Q R : ℕ → Type 0) → ((n : ℕ) → Q n → R n) → IfStopped h Q → IfStopped h R
+stopped_by (At n) Q R f q = f n q
+stopped_by Memory Q R f q = tt
+
+-- the halt of a callee goes on as it is
+pub exits : {X : Type 0} (r : Result X Halt) (h : Halt) (P : X → Type 0) (Q R : ℕ → Type 0) → IsErrAnd r (λ y. y ≡ h) → ((n : ℕ) → Q n → R n) → IfStopped h Q → MatchResult r P (λ e. IfStopped e R)
+exits (Ok x) h P Q R e f q = absurd e
+exits (Err g) h P Q R e f q = let G : Halt → Type 0 = λ z. IfStopped z R in subst G (sym e) (stopped_by h Q R f q)
+
+-- want of memory
+pub exits_memory : {X : Type 0} (r : Result X Halt) (P : X → Type 0) (R : ℕ → Type 0) → IsErrAnd r (λ y. y ≡ Memory) → MatchResult r P (λ e. IfStopped e R)
+exits_memory (Ok x) P R e = absurd e
+exits_memory (Err g) P R e = let G : Halt → Type 0 = λ z. IfStopped z R in subst G (sym e) tt
+
+-- what a call answers, said in another way
+pub answers_by : {X : Type 0} (r : Result X Halt) (P P' : X → Type 0) (Q Q' : ℕ → Type 0) → MatchResult r P (λ e. IfStopped e Q) → ((x : X) → P x → P' x) → ((n : ℕ) → Q n → Q' n) → MatchResult r P' (λ e. IfStopped e Q')
+answers_by (Ok x) P P' Q Q' h f g = f x h
+answers_by (Err e) P P' Q Q' h f g = stopped_by e Q Q' g h
+
+-- ---- the order of faults
+
+-- a comes before b or is told with it, by three numbers each
+abbrev Earlier : ℕ → ℕ → ℕ → ℕ → ℕ → ℕ → Type 0
+Earlier t a n u b m = (t < u) ⊎ ((t ≡ u) × ((a < b) ⊎ ((a ≡ b) × (n ≤ m))))
+
+abbrev earlier : ℕ → ℕ → ℕ → ℕ → ℕ → ℕ → Bool
+earlier t a n u b m = nat_lt t u || ((t == u) && (nat_lt a b || ((a == b) && nat_le n m)))
+
+earlier_true : (t a n u b m : ℕ) → earlier t a n u b m ≡ true → Earlier t a n u b m
+earlier_true t a n u b m h = elim (dec_lt t u) [
+  | yes l ↦ inl l
+  | no f ↦ elim (dec_lt u t) [
+      | yes l ↦ absurd (let bad : ⊥ = grind (arith, l, h) in bad)
+      | no g ↦ elim (dec_lt a b) [
+          | yes l ↦ inr (omega arith, inl l)
+          | no k ↦ elim (dec_lt b a) [
+              | yes l ↦ absurd (let bad : ⊥ = grind (arith, l, h, f) in bad)
+              | no q ↦ (let low : n ≤ m = grind (arith, h, f, k) in inr (omega arith, inr (omega arith, low)))
+            ]
+        ]
+    ]
+]
+
+true_earlier : (t a n u b m : ℕ) → Earlier t a n u b m → earlier t a n u b m ≡ true
+true_earlier t a n u b m (inl l) = grind (arith, l)
+true_earlier t a n u b m (inr (e, inl l)) = grind (arith, e, l)
+true_earlier t a n u b m (inr (e, inr (f, l))) = grind (arith, e, f, l)
+
+trans_earlier : (t a n u b m v c k : ℕ) → Earlier t a n u b m → Earlier u b m v c k → Earlier t a n v c k
+trans_earlier t a n u b m v c k (inl l) (inl h) = inl (omega arith)
+trans_earlier t a n u b m v c k (inl l) (inr (e, h)) = inl (omega (arith, e))
+trans_earlier t a n u b m v c k (inr (e, p)) (inl h) = inl (omega (arith, e))
+trans_earlier t a n u b m v c k (inr (e, inl l)) (inr (f, inl h)) = inr (e ∙ f, inl (omega arith))
+trans_earlier t a n u b m v c k (inr (e, inl l)) (inr (f, inr (g, h))) = inr (e ∙ f, inl (omega (arith, g)))
+trans_earlier t a n u b m v c k (inr (e, inr (g, l))) (inr (f, inl h)) = inr (e ∙ f, inl (omega (arith, g)))
+trans_earlier t a n u b m v c k (inr (e, inr (g, l))) (inr (f, inr (o, h))) = inr (e ∙ f, inr (g ∙ o, omega arith))
+
+later : (t a n u b m : ℕ) → earlier t a n u b m ≡ false → Earlier u b m t a n
+later t a n u b m h = elim (dec_lt u t) [
+  | yes l ↦ inl l
+  | no f ↦ elim (dec_lt t u) [
+      | yes l ↦ absurd (true≢false (sym (true_earlier t a n u b m (inl l)) ∙ h))
+      | no g ↦ elim (dec_lt b a) [
+          | yes l ↦ inr (omega arith, inl l)
+          | no k ↦ elim (dec_lt a b) [
+              | yes l ↦ absurd (true≢false (sym (true_earlier t a n u b m (inr (omega arith, inl l))) ∙ h))
+              | no q ↦ elim (dec_lt m n) [
+                  | yes l ↦ inr (omega arith, inr (omega arith, omega arith))
+                  | no w ↦ absurd (true≢false (sym (true_earlier t a n u b m (inr (omega arith, inr (omega arith, omega arith)))) ∙ h))
+                ]
+            ]
+        ]
+    ]
+]
+
+first_trans : (a b c : Fault) → comes_first a b ≡ true → comes_first b c ≡ true → comes_first a c ≡ true
+first_trans a b c h k = true_earlier (tier_of a.kind) a.at (number_of a.kind) (tier_of c.kind) c.at (number_of c.kind)
+    (trans_earlier (tier_of a.kind) a.at (number_of a.kind) (tier_of b.kind) b.at (number_of b.kind) (tier_of c.kind) c.at (number_of c.kind)
+    (earlier_true (tier_of a.kind) a.at (number_of a.kind) (tier_of b.kind) b.at (number_of b.kind) h) (earlier_true (tier_of b.kind) b.at (number_of b.kind) (tier_of c.kind) c.at (number_of c.kind) k))
+
+pub later_first : (a b : Fault) → comes_first a b ≡ false → comes_first b a ≡ true
+later_first a b h = true_earlier (tier_of b.kind) b.at (number_of b.kind) (tier_of a.kind) a.at (number_of a.kind) (later (tier_of a.kind) a.at (number_of a.kind) (tier_of b.kind) b.at (number_of b.kind) h)
+
+module _ (a b c : Fault) where
+  left : (x : Bool) → comes_first a b ≡ x → first_fault (first_fault (Some a) (Some b)) (Some c) ≡ first_fault (if x then Some a else Some b) (Some c)
+  left x e = ap (λ t. first_fault (if t then Some a else Some b) (Some c)) e
+
+  right : (y : Bool) → comes_first b c ≡ y → first_fault (Some a) (first_fault (Some b) (Some c)) ≡ first_fault (Some a) (if y then Some b else Some c)
+  right y e = ap (λ t. first_fault (Some a) (if t then Some b else Some c)) e
+
+  three : (x y z : Bool) → comes_first a b ≡ x → comes_first b c ≡ y → comes_first a c ≡ z
+      → first_fault (first_fault (Some a) (Some b)) (Some c) ≡ first_fault (Some a) (first_fault (Some b) (Some c))
+  three true true z e f g =
+      let first : comes_first a c ≡ true = first_trans a b c e f in
+      left true e ∙ (ap (λ t. if t then Some a else Some c) first ∙ sym (right true f ∙ ap (λ t. if t then Some a else Some b) e))
+  three true false z e f g = left true e ∙ sym (right false f)
+  three false true z e f g = left false e ∙ (ap (λ t. if t then Some b else Some c) f ∙ sym (right true f ∙ ap (λ t. if t then Some a else Some b) e))
+  three false false true e f g = absurd (true≢false (sym (first_trans a c b g (later_first b c f)) ∙ e))
+  three false false false e f g = left false e ∙ (ap (λ t. if t then Some b else Some c) f ∙ sym (right false f ∙ ap (λ t. if t then Some a else Some c) g))
+
+none_right : (o : Option Fault) → first_fault o None ≡ o
+none_right None = refl
+none_right (Some a) = refl
+
+pub first_fault-assoc : (a b c : Option Fault) → first_fault (first_fault a b) c ≡ first_fault a (first_fault b c)
+first_fault-assoc None b c = refl
+first_fault-assoc (Some a) None c = refl
+first_fault-assoc (Some a) (Some b) None = none_right (first_fault (Some a) (Some b))
+first_fault-assoc (Some a) (Some b) (Some c) = three a b c (comes_first a b) (comes_first b c) (comes_first a c) refl refl refl
+
+-- the first of joined lists
+pub first_of-append : (fs gs : List Fault) → first_of (fs ++ gs) ≡ first_fault (first_of fs) (first_of gs)
+first_of-append [] gs = refl
+first_of-append (f ∷ fs) gs = ap (first_fault (Some f)) (first_of-append fs gs) ∙ sym (first_fault-assoc (Some f) (first_of fs) (first_of gs))
+
+-- a flag that is negated
+pub flag_off : (b : Bool) → not b ≡ true → b ≡ false
+flag_off true h = absurd (true≢false (sym h))
+flag_off false h = refl
+
+pub flag_on : (b : Bool) → not b ≡ false → b ≡ true
+flag_on true h = refl
+flag_on false h = absurd (true≢false h)

@@ -1,0 +1,238 @@
+-- What the functions that read parts in brackets answer.
+use Rattle.std.proofs.Common.{◌≡◌, ◌≢◌, ℕ, ◌+◌, ◌-◌, ◌<◌, ◌≤◌, ◌⊎◌, inl, inr, Bool, true, false, not, ◌==◌, List, [], ◌∷◌, ◌++◌, length, map, flat_map, codes, Option, Some, None, Result, Ok, Err, refl, sym, ◌∙◌, ap, subst, arith, true≢false, append-nil, append_assoc, length-append}
+use native.Mathlib.Decide.{dec_lt}
+use Rattle.std.proofs.lemmas.List.{get_or_past}
+use Rattle.std.specs.Result.{MatchResult}
+use Rattle.at_text.specs.declared.faults.Fault.{Fault}
+use Rattle.at_text.specs.Faults.{first_fault, first_of}
+use Rattle.at_fixed.specs.declared.rounding.Coords.{Coords}
+use Rattle.at_geom.specs.declared.positions.Pos.{Pos}
+use Rattle.at_geom.specs.declared.shapes.Polygon.{Polygon as PolygonOf}
+use Rattle.at_wkt.specs.declared.dimension.Dimension.{Dimension}
+use Rattle.at_wkt.specs.declared.halts.Halt.{Halt}
+use Rattle.at_wkt.specs.declared.rules.Rules.{Rules}
+use Rattle.at_wkt.specs.declared.positions.PositionRead.{PositionRead}
+use Rattle.at_wkt.specs.declared.positions.DelimiterRead.{DelimiterRead}
+use Rattle.at_wkt.specs.declared.paths.PathRead.{PathRead}
+use Rattle.at_wkt.specs.declared.paths.Role.{Role}
+use Rattle.at_wkt.specs.declared.parts.Read.{Read}
+use Rattle.at_wkt.specs.declared.parts.ItemRead.{ItemRead}
+use Rattle.at_wkt.specs.Positions.{Position, Positions, pos_of, position_faults, path_of, faults_of_ring}
+use Rattle.at_wkt.specs.Meaning.{polygons_of, faults_of_area}
+use Rattle.at_wkt.specs.Geometry.{SpellsPosition, SpellsRing, SpellsPoint, SpellsPointMember, EmptyOrParted}
+use Rattle.at_wkt.specs.Reading.{part, next, Allows, Spelt, Stuck, Leads, SkipsBlanks, delimiter, Delimiter, is_delimiter, Item, Items, HasCount, WordStands, WordBreaks, DelimiterStands, DelimiterBreaks, IfStopped, opens, PositionStands, PathStands, PartStands, ItemStands, ItemsSoFar, Grows, EnclosedPosition, added_position, added_path, added_point, point_faults, faults_of_path}
+use Rattle.at_wkt.proofs.Leads.{part-none, part-length, part-part, part-cons, Begins, Inhabited, counts}
+use Rattle.at_wkt.proofs.Steps.{no_blank, AreBlanks, blank_at, not_blank, stuck_first, when_leads}
+use Rattle.at_wkt.proofs.ItemSteps.{delimiter_spelt, delimiter_stuck}
+use Rattle.at_wkt.proofs.ListSteps.{ItemLives, item_stuck, item_spelt, item_unended, bracket_leads, enclosed_leads, last_spelt, last_stuck, comma_stuck, position_inhabited, ended_begins, inhabited_lives}
+use Rattle.at_wkt.proofs.PositionSteps.{begins_number}
+use Rattle.at_wkt.proofs.BodySteps.{Choice, is_open, choice_open, choice_empty, choice_broken, choice_begins, parted_choice, point_choice, Bracketed, ring_begins, ring_inhabited, member_when, member_begins, bare_spelt, bare_stuck}
+use Rattle.at_wkt.proofs.PathAnswers.{so_far_end}
+use Rattle.at_wkt.proofs.Exits.{answers_by}
+
+-- ---- EMPTY or brackets
+
+module _ {X Y Z : Type 0} (P : ℕ → Y → ℕ → List ℕ → Type 0) (Q : ℕ → X → ℕ → List ℕ → Type 0) (f : X → Y) (none : Y) (choice : Choice P Q f none)
+    (faults : Y → List Fault) (added : Y → List Z) (base : ℕ) (w : List ℕ) (i : ℕ) (c : Dimension) where
+  pub nothing_stands : faults none ≡ [] → added none ≡ [] → (list : List Z) → is_open (next w i) ≡ false → HasCount c → (r : Result Read Halt)
+      → MatchResult r (λ read. WordStands w i read.end (codes "EMPTY") × (read.fault ≡ None) × (read.dimension ≡ c)) (λ halt. IfStopped halt (λ n. WordBreaks w i n (codes "EMPTY")))
+      → MatchResult r (PartStands P faults (Grows added list list) base w i c) (λ halt. IfStopped halt (Stuck P base w i c))
+  nothing_stands hf ha list shut some r h = answers_by r _ (PartStands P faults (Grows added list list) base w i c) _ (Stuck P base w i c) h
+      (λ read (word, ef, ed). record {
+        value = none;
+        spelt = subst (λ z. Spelt P base w i c read.end z none) (sym ed) (choice_empty P Q f none choice base w i c read.end shut word some);
+        fault = ef ∙ sym (ap first_of hf);
+        added = sym (ap (λ z. list ++ z) ha ∙ append-nil list);
+      })
+      (λ n word. choice_broken P Q f none choice base w i c n shut word some)
+
+  pub opened_stands : (faultsQ : X → List Fault) (addedQ : X → List Z) → ((x : X) → faults (f x) ≡ faultsQ x) → ((x : X) → added (f x) ≡ addedQ x) → (old new : List Z) → i ≤ length w → is_open (next w i) ≡ true
+      → (r : Result Read Halt) → MatchResult r (PartStands Q faultsQ (Grows addedQ old new) base w i c) (λ halt. IfStopped halt (Stuck Q base w i c))
+      → MatchResult r (PartStands P faults (Grows added old new) base w i c) (λ halt. IfStopped halt (Stuck P base w i c))
+  opened_stands faultsQ addedQ ef ea old new inside here r h = answers_by r _ (PartStands P faults (Grows added old new) base w i c) _ (Stuck P base w i c) h
+      (λ read q. record {
+        value = f q.value;
+        spelt = (choice_open P Q f none choice base w i c inside here).spelt read.end read.dimension q.value q.spelt;
+        fault = q.fault ∙ sym (ap first_of (ef q.value));
+        added = q.added ∙ ap (λ z. old ++ z) (sym (ea q.value));
+      })
+      (λ n q. (choice_open P Q f none choice base w i c inside here).stuck n q)
+
+-- items behind the bracket are the part
+pub bracketed_stands : {X Z : Type 0} (P : ℕ → X → ℕ → List ℕ → Type 0) (faults : List X → List Fault) (added : List X → List Z) (base : ℕ) (w : List ℕ) (i : ℕ) (c : Dimension) (old new : List Z) → i < length w → next w i ≡ 0x28
+    → (r : Result Read Halt) → MatchResult r (PartStands (Items P) faults (Grows added old new) base w (i + 1) c) (λ halt. IfStopped halt (Stuck (Items P) base w (i + 1) c))
+    → MatchResult r (PartStands (λ d xs. EmptyOrParted (P d) xs) faults (Grows added old new) base w i c) (λ halt. IfStopped halt (Stuck (λ d xs. EmptyOrParted (P d) xs) base w i c))
+bracketed_stands P faults added base w i c old new inside here r h =
+    opened_stands (λ d xs. EmptyOrParted (P d) xs) (Bracketed P) (λ xs. xs) [] (parted_choice P) faults added base w i c faults added (λ x. refl) (λ x. refl) old new (omega arith) (ap is_open here) r
+    (answers_by r _ (PartStands (Bracketed P) faults (Grows added old new) base w i c) _ (Stuck (Bracketed P) base w i c) h
+    (λ read q. record {
+      value = q.value;
+      spelt = (bracket_leads P base w i c inside here).spelt read.end read.dimension q.value q.spelt;
+      fault = q.fault;
+      added = q.added;
+    })
+    (λ n q. (bracket_leads P base w i c inside here).stuck n q))
+
+-- ---- items
+
+module _ {X Z : Type 0} (P : ℕ → X → ℕ → List ℕ → Type 0) (faults : X → List Fault) (added : X → List Z) (base : ℕ) (w : List ℕ) (i a : ℕ) (c : Dimension) (skips : SkipsBlanks w i a) (begins : Begins no_blank P) where
+  pub ended_item : (old new : List Z) (read : Read) → PartStands P faults (Grows added old new) base w a c read → (r : Result ItemRead Halt)
+      → MatchResult r (λ item. (item.fault ≡ read.fault) × (item.dimension ≡ read.dimension) × DelimiterStands w read.end (record { is_last = item.is_last; end = item.end })) (λ halt. IfStopped halt (DelimiterBreaks w read.end))
+      → MatchResult r (ItemStands P faults (Grows added old new) base w i c) (λ halt. IfStopped halt (Stuck (Item P) base w i c))
+  ended_item old new read h r q = answers_by r _ (ItemStands P faults (Grows added old new) base w i c) _ (Stuck (Item P) base w i c) q
+      (λ item (ef, ed, d).
+          let ends : Spelt Delimiter base w read.end read.dimension (d.at + 1) read.dimension item.is_last = delimiter_spelt base w read.end d.at d.blanks item.is_last d.byte d.inside read.dimension h.spelt.some in
+          let whole : Spelt (Item P) base w i c (d.at + 1) read.dimension (h.value, item.is_last) = item_spelt P base w i a c skips begins read.end read.dimension h.value h.spelt (d.at + 1) item.is_last ends in
+          record {
+            value = h.value;
+            spelt = subst (λ z. Spelt (Item P) base w i c item.end z (h.value, item.is_last)) (sym ed) (subst (λ z. Spelt (Item P) base w i c z read.dimension (h.value, item.is_last)) (sym d.end_is) whole);
+            fault = ef ∙ h.fault;
+            added = h.added;
+            longer = omega (arith, skips.order, h.spelt.order, d.blanks.order, d.end_is);
+          })
+      (λ n d. item_unended P base w i a c skips begins read.end read.dimension h.value h.spelt n (delimiter_stuck base w read.end n d.blanks read.dimension h.spelt.some d.byte))
+
+-- all items of a loop
+pub items_stand : {X Z : Type 0} (P : ℕ → X → ℕ → List ℕ → Type 0) (faults : X → List Fault) (added : X → List Z) (old new : List Z) (base : ℕ) (w : List ℕ) (i : ℕ) (c : Dimension) (last : ItemRead) (read : Read)
+    → ItemsSoFar P faults added old new base w i c last → last.is_last ≡ true → read ≡ record { fault = last.fault; end = last.end; dimension = last.dimension }
+    → PartStands (Items P) (flat_map faults) (Grows (flat_map added) old new) base w i c read
+items_stand P faults added old new base w i c last read h ended is = subst (PartStands (Items P) (flat_map faults) (Grows (flat_map added) old new) base w i c) (sym is) (record {
+  value = h.values;
+  spelt = so_far_end P faults added old base w i c last new h ended;
+  fault = h.fault;
+  added = h.grown;
+})
+
+-- ---- one position in brackets
+
+module _ (rules : Rules) (w : List ℕ) (i : ℕ) (c : Dimension) (inside : i < length w) (here : next w i ≡ 0x28) where
+  pub enclosed_stuck : (n : ℕ) → Stuck (Item SpellsPosition) rules.base w (i + 1) c n → Stuck EnclosedPosition rules.base w i c n
+  enclosed_stuck n h = (enclosed_leads rules.base w i c inside here).stuck n (last_stuck rules.base w (i + 1) n c h)
+
+  pub enclosed_comma : (read : PositionRead) → PositionStands rules w (i + 1) c read → read.is_last ≡ false → Stuck EnclosedPosition rules.base w i c (read.end - 1)
+  enclosed_comma read h more = (enclosed_leads rules.base w i c inside here).stuck (read.end - 1)
+      (comma_stuck rules.base w (i + 1) read.end (read.end - 1) c read.dimension h.position (omega (arith, h.longer))
+      (subst (λ z. Spelt (Item SpellsPosition) rules.base w (i + 1) c read.end read.dimension (h.position, z)) more h.spelt) (omega (arith, h.longer)))
+
+  pub enclosed_stands : (read : PositionRead) (old new : List Pos) → PositionStands rules w (i + 1) c read → read.is_last ≡ true → new ≡ old ++ (read.pos ∷ [])
+      → PartStands EnclosedPosition (position_faults rules.digits rules.how) (Grows (added_position rules.digits rules.how) old new) rules.base w i c (record { fault = read.fault; end = read.end; dimension = read.dimension })
+  enclosed_stands read old new h ended e = record {
+    value = h.position;
+    spelt = (enclosed_leads rules.base w i c inside here).spelt read.end read.dimension h.position
+        (last_spelt rules.base w (i + 1) read.end c read.dimension h.position (subst (λ z. Spelt (Item SpellsPosition) rules.base w (i + 1) c read.end read.dimension (h.position, z)) ended h.spelt));
+    fault = h.fault;
+    added = e ∙ ap (λ z. old ++ (z ∷ [])) h.pos;
+  }
+
+pub added_stands : (rules : Rules) (w : List ℕ) (i : ℕ) (c : Dimension) (role : Role) (read : PathRead) (path : List Pos) (old new : List (List Pos)) → PathStands rules w i c role read → path ≡ read.path.items → new ≡ old ++ (path ∷ [])
+    → PartStands SpellsRing (faults_of_path rules.digits rules.how role) (Grows (added_path rules.digits rules.how) old new) rules.base w i c (record { fault = read.fault; end = read.end; dimension = read.dimension })
+added_stands rules w i c role read path old new h ep e = record {
+  value = h.positions;
+  spelt = h.spelt;
+  fault = h.fault;
+  added = e ∙ ap (λ z. old ++ (z ∷ [])) (ep ∙ h.path);
+}
+
+-- no ring begins with this byte
+pub ring_missing : (base : ℕ) (w : List ℕ) (i a : ℕ) (c : Dimension) → SkipsBlanks w i a → HasCount c → is_open (next w a) ≡ false → (begins : Begins no_blank SpellsRing) → Stuck (Item SpellsRing) base w i c a
+ring_missing base w i a c skips (d, allowed) shut begins = item_stuck SpellsRing base w i a c skips begins a (stuck_first SpellsRing is_open base w a c ring_begins ring_inhabited d allowed skips.within shut)
+
+-- a polygon of these rings
+pub area_stands : (rules : Rules) (w : List ℕ) (i : ℕ) (c : Dimension) (read : Read) (rings : List (List Pos)) (old new : List PolygonOf) (polygon : PolygonOf)
+    → PartStands (Items SpellsRing) (flat_map (faults_of_ring rules.digits rules.how)) (Grows (flat_map (added_path rules.digits rules.how)) [] rings) rules.base w i c read
+    → polygon ≡ record { rings = rings } → new ≡ old ++ (polygon ∷ [])
+    → PartStands (Items SpellsRing) (faults_of_area rules.digits rules.how) (Grows (polygons_of rules.digits rules.how) old new) rules.base w i c read
+area_stands rules w i c read rings old new polygon h ep e = record {
+  value = h.value;
+  spelt = h.spelt;
+  fault = h.fault;
+  added = e ∙ ap (λ z. old ++ z) (ap (λ z. z ∷ []) (ep ∙ ap (λ z. record { rings = z }) h.added) ∙ (let (d, a) = h.spelt.some in one h.value d (rules.base + i) (part w i read.end) (h.spelt.sound d a)));
+} where
+  paths : (xs : List Positions) → flat_map (added_path rules.digits rules.how) xs ≡ map (path_of rules.digits rules.how) xs
+  paths [] = refl
+  paths (x ∷ xs) = ap (λ z. path_of rules.digits rules.how x ∷ z) (paths xs)
+  one : (xs : List Positions) (d at : ℕ) (v : List ℕ) → Items SpellsRing d xs at v → record { rings = flat_map (added_path rules.digits rules.how) xs } ∷ [] ≡ polygons_of rules.digits rules.how xs
+  one [] d at v h = absurd h
+  one (x ∷ xs) d at v h = ap (λ z. record { rings = z } ∷ []) (paths (x ∷ xs))
+
+-- ---- members of a MULTIPOINT
+
+module _ (rules : Rules) (w : List ℕ) (i a : ℕ) (c : Dimension) (skips : SkipsBlanks w i a) where
+  -- where an opener stands, the member is EMPTY or in brackets
+  pub member_stands : (old new : List Pos) (read : Read) → opens (next w a) ≡ true
+      → PartStands SpellsPoint (point_faults rules.digits rules.how) (Grows (added_point rules.digits rules.how) old new) rules.base w a c read
+      → PartStands SpellsPointMember (point_faults rules.digits rules.how) (Grows (added_point rules.digits rules.how) old new) rules.base w a c read
+  member_stands old new read here h = record {
+    value = h.value;
+    spelt = (when_leads SpellsPointMember SpellsPoint (λ at p. p) opens opens rules.base w a c member_when (choice_begins SpellsPoint EnclosedPosition (λ p. Some p) None point_choice) skips.within here).spelt read.end read.dimension h.value h.spelt;
+    fault = h.fault;
+    added = h.added;
+  }
+
+  pub member_stuck : (n : ℕ) → opens (next w a) ≡ true → Stuck SpellsPoint rules.base w a c n → Stuck (Item SpellsPointMember) rules.base w i c n
+  member_stuck n here h = item_stuck SpellsPointMember rules.base w i a c skips member_begins n
+      ((when_leads SpellsPointMember SpellsPoint (λ at p. p) opens opens rules.base w a c member_when (choice_begins SpellsPoint EnclosedPosition (λ p. Some p) None point_choice) skips.within here).stuck n h)
+
+  -- a bare position reaches beyond the blanks
+  bare_longer : (j : ℕ) (c' : Dimension) (p : Position) (last : Bool) → Spelt (Item SpellsPosition) rules.base w i c j c' (p, last) → a < j
+  bare_longer j c' p last h = elim (dec_lt a j) [
+    | yes l ↦ l
+    | no f ↦ absurd (
+          let (d, allowed) = h.some in
+          let (b1, r, e, hb, q) = h.sound d allowed in
+          let (b, t, eb, hn) = ended_begins d (p, last) _ r q in
+          let low : j ≤ a = omega arith in
+          let blanks : AreBlanks (part w i j ++ part w j a) = subst AreBlanks (part-part w i j a h.order low skips.within) skips.blanks in
+          let here : part w i j ++ part w j a ≡ b1 ++ (b ∷ (t ++ part w j a)) = ap (λ z. z ++ part w j a) (e ∙ ap (λ z. b1 ++ z) eb) ∙ append_assoc b1 (b ∷ t) (part w j a) in
+          not_blank b (number_no_blank b hn) (blank_at b1 b (t ++ part w j a) (subst AreBlanks here blanks)))
+  ] where
+    number_no_blank : (b : ℕ) → begins_number b ≡ true → no_blank b ≡ true
+    number_no_blank b h = grind (arith, h)
+
+  bare_low : (n : ℕ) → HasCount c → Stuck (Item SpellsPosition) rules.base w i c n → a ≤ n
+  bare_low n (d, allowed) h = elim (dec_lt n a) [
+    | no f ↦ omega arith
+    | yes less ↦ absurd (
+          let (x, v, q) = position_inhabited d (rules.base + i + length (part w i a)) (counts c d allowed) true in
+          let text : part w i a ++ v ≡ part w i n ++ (next w n ∷ (part w (n + 1) a ++ v)) =
+              ap (λ z. z ++ v) (part-part w i n a h.order (let l : n ≤ a = omega arith in l) skips.within ∙ ap (λ z. part w i n ++ z) (part-cons w n a less skips.within)) ∙ append_assoc (part w i n) (next w n ∷ part w (n + 1) a) v in
+          h.dead d (x, true) (part w i a ++ v) [] (part w (n + 1) a ++ v) allowed (part w i a, v, refl, skips.blanks, q) (append-nil (part w i a ++ v) ∙ text))
+  ]
+
+  pub bare_stands : (old new : List Pos) (r : Result ItemRead Halt) → HasCount c → opens (next w a) ≡ false
+      → MatchResult r (ItemStands SpellsPosition (position_faults rules.digits rules.how) (Grows (added_position rules.digits rules.how) old new) rules.base w i c) (λ halt. IfStopped halt (Stuck (Item SpellsPosition) rules.base w i c))
+      → MatchResult r (ItemStands SpellsPointMember (point_faults rules.digits rules.how) (Grows (added_point rules.digits rules.how) old new) rules.base w i c) (λ halt. IfStopped halt (Stuck (Item SpellsPointMember) rules.base w i c))
+  bare_stands old new r some bare h = answers_by r _ (ItemStands SpellsPointMember (point_faults rules.digits rules.how) (Grows (added_point rules.digits rules.how) old new) rules.base w i c) _ (Stuck (Item SpellsPointMember) rules.base w i c) h
+      (λ item q. record {
+        value = Some q.value;
+        spelt = bare_spelt rules.base w i a c skips bare item.end item.dimension q.value item.is_last (bare_longer item.end item.dimension q.value item.is_last q.spelt) q.spelt;
+        fault = q.fault ∙ ap first_of (sym (append-nil (position_faults rules.digits rules.how q.value)));
+        added = q.added;
+        longer = q.longer;
+      })
+      (λ n q. bare_stuck rules.base w i a c skips bare n (bare_low n some q) q)
+
+pub position_item : (rules : Rules) (w : List ℕ) (i : ℕ) (c : Dimension) (read : PositionRead) (old new : List Pos) → PositionStands rules w i c read → new ≡ old ++ (read.pos ∷ [])
+    → ItemStands SpellsPosition (position_faults rules.digits rules.how) (Grows (added_position rules.digits rules.how) old new) rules.base w i c (record { fault = read.fault; is_last = read.is_last; end = read.end; dimension = read.dimension })
+position_item rules w i c read old new h e = record {
+  value = h.position;
+  spelt = h.spelt;
+  fault = h.fault;
+  added = e ∙ ap (λ z. old ++ (z ∷ [])) h.pos;
+  longer = h.longer;
+}
+
+pub none_faults : (fs : List Fault) → fs ++ [] ≡ fs
+none_faults fs = append-nil fs
+
+byte_test : (b : ℕ) (t : Bool) → t ≡ (b == 0x28) → t ≡ true → b ≡ 0x28
+byte_test b t e h = grind (arith, e, h)
+
+open_end : (b : ℕ) → b ≡ 256 → b ≡ 0x28 → ⊥
+open_end b e f = omega (arith, e, f)
+
+-- where the opening bracket stands, the text has it
+pub open_byte : (w : List ℕ) (i : ℕ) (t : Bool) → t ≡ (next w i == 0x28) → t ≡ true → (i < length w) × (next w i ≡ 0x28)
+open_byte w i t e h =
+    let here : next w i ≡ 0x28 = byte_test (next w i) t e h in
+    (elim (dec_lt i (length w)) [ yes l ↦ l | no f ↦ absurd (open_end (next w i) (get_or_past w i 256 (omega arith)) here) ], here)

@@ -1,0 +1,175 @@
+-- What the functions that read lists of positions, and items of other kinds, answer.
+use Rattle.std.proofs.Common.{◌≡◌, ◌≢◌, ℕ, ◌+◌, ◌-◌, ◌<◌, ◌≤◌, ◌⊎◌, inl, inr, Bool, true, false, not, ◌&&◌, ◌||◌, if◌then◌else◌, List, [], ◌∷◌, ◌++◌, length, map, flat_map, option_to_list, Option, Some, None, is_none, Result, Ok, Err, refl, sym, ◌∙◌, ap, subst, arith, true≢false, append-nil, append_assoc, length-append}
+use Rattle.std.specs.Ordering.{int_eq}
+use Rattle.std.proofs.lemmas.List.{map-append, length-map}
+use Rattle.std.proofs.lemmas.Grind.{flat_map-append}
+use Rattle.at_text.specs.declared.faults.Fault.{Fault}
+use Rattle.at_text.specs.Faults.{first_fault, first_of, comes_first}
+use Rattle.at_geom.specs.declared.positions.Pos.{Pos}
+use Rattle.at_wkt.specs.declared.dimension.Dimension.{Dimension}
+use Rattle.at_wkt.specs.declared.rules.Rules.{Rules}
+use Rattle.at_wkt.specs.declared.positions.PositionRead.{PositionRead}
+use Rattle.at_wkt.specs.declared.paths.PathRead.{PathRead}
+use Rattle.at_wkt.specs.declared.paths.Role.{Role}
+use Rattle.at_wkt.specs.declared.paths.Role.TheVariants.{Line, Ring}
+use Rattle.at_wkt.specs.declared.parts.ItemRead.{ItemRead}
+use Rattle.at_wkt.specs.Positions.{Position, Positions, pos_of, position_faults, items_faults, last_of, is_faultless, are_same, closes_with, is_closed}
+use Rattle.at_wkt.specs.Geometry.{SpellsPosition, SpellsRing}
+use Rattle.at_wkt.specs.Reading.{part, next, Spelt, Stuck, Leads, Item, Items, RestOf, ItemsRead, HasCount, PositionStands, PositionsSoFar, PositionsStand, ItemsSoFar, ItemStands, Grows, PathStands, fault_of_path, faults_of_path}
+use Rattle.at_wkt.proofs.ListSteps.{ItemLives, items_start, items_more, items_stuck, items_end, position_lives, ring_leads}
+use Rattle.at_wkt.proofs.Exits.{first_of-append}
+
+last_of-append : (p : Position) (ps : List Position) (q : Position) → last_of p (ps ++ (q ∷ [])) ≡ q
+last_of-append p [] q = refl
+last_of-append p (x ∷ ps) q = last_of-append x ps q
+
+-- whether there is a first fault tells whether there is one
+some_first : (f : Fault) (o : Option Fault) → is_none (first_fault (Some f) o) ≡ false
+some_first f None = refl
+some_first f (Some g) = go (comes_first f g) refl where
+  go : (t : Bool) → comes_first f g ≡ t → is_none (first_fault (Some f) (Some g)) ≡ false
+  go true e = ap (λ t. is_none (if t then Some f else Some g)) e
+  go false e = ap (λ t. is_none (if t then Some f else Some g)) e
+
+faultless_by : (fs : List Fault) → is_none (first_of fs) ≡ (elim fs [ [] ↦ true | f ∷ gs ↦ false ])
+faultless_by [] = refl
+faultless_by (f ∷ fs) = some_first f (first_of fs)
+
+module _ (rules : Rules) (w : List ℕ) (i : ℕ) (c : Dimension) where
+  digits : ℕ
+  digits = rules.digits
+
+  pub positions_start : (first : PositionRead) → PositionStands rules w i c first → PositionsSoFar rules w i c first first (first.pos ∷ []) first.fault
+  positions_start first h = record {
+    head = h.position;
+    rest = [];
+    reads = items_more SpellsPosition rules.base w i c i first.end c first.dimension [] h.position first.is_last (items_start SpellsPosition rules.base w i c) h.spelt;
+    some = h.spelt.some;
+    within = h.spelt.within;
+    path_is = ap (λ z. z ∷ []) h.pos;
+    fault_is = h.fault ∙ ap first_of (sym (append-nil (position_faults rules.digits rules.how h.position)));
+    first_pos = h.pos;
+    first_faulty = h.fault;
+    last_pos = h.pos;
+    last_faulty = h.fault;
+    few = omega (arith, h.longer);
+  }
+
+  pub positions_more : (first last new : PositionRead) (path path' : List Pos) (fault fault' : Option Fault) → PositionsSoFar rules w i c first last path fault → last.is_last ≡ false
+      → PositionStands rules w last.end last.dimension new → path' ≡ path ++ (new.pos ∷ []) → fault' ≡ first_fault fault new.fault → PositionsSoFar rules w i c first new path' fault'
+  positions_more first last new path path' fault fault' h more n ep ef =
+      let xs = h.head ∷ h.rest in
+      let reads : ItemsRead SpellsPosition rules.base w i c last.end last.dimension false xs = subst (λ z. ItemsRead SpellsPosition rules.base w i c last.end last.dimension z xs) more h.reads in
+      let faults : flat_map (position_faults rules.digits rules.how) (n.position ∷ []) ≡ position_faults rules.digits rules.how n.position = append-nil (position_faults rules.digits rules.how n.position) in
+      record {
+        head = h.head;
+        rest = h.rest ++ (n.position ∷ []);
+        reads = items_more SpellsPosition rules.base w i c last.end new.end last.dimension new.dimension xs n.position new.is_last reads n.spelt;
+        some = n.spelt.some;
+        within = n.spelt.within;
+        path_is = ep ∙ (ap (λ z. z ++ (new.pos ∷ [])) h.path_is ∙ (ap (λ z. map (pos_of rules.digits rules.how) xs ++ (z ∷ [])) n.pos ∙ sym (map-append (pos_of rules.digits rules.how) xs (n.position ∷ []))));
+        fault_is = ef ∙ (ap (λ z. first_fault z new.fault) h.fault_is ∙ (ap (first_fault (first_of (items_faults rules.digits rules.how xs))) n.fault
+          ∙ (sym (first_of-append (items_faults rules.digits rules.how xs) (position_faults rules.digits rules.how n.position))
+          ∙ ap first_of (ap (λ z. items_faults rules.digits rules.how xs ++ z) (sym faults) ∙ sym (flat_map-append (position_faults rules.digits rules.how) xs (n.position ∷ []))))));
+        first_pos = h.first_pos;
+        first_faulty = h.first_faulty;
+        last_pos = n.pos ∙ ap (pos_of rules.digits rules.how) (sym (last_of-append h.head h.rest n.position));
+        last_faulty = n.fault ∙ ap (λ z. first_of (position_faults rules.digits rules.how z)) (sym (last_of-append h.head h.rest n.position));
+        few = omega (arith, h.few, n.longer, length-append h.rest (n.position ∷ []));
+      }
+
+  pub positions_stuck : (first last : PositionRead) (path : List Pos) (fault : Option Fault) (n : ℕ) → PositionsSoFar rules w i c first last path fault → last.is_last ≡ false
+      → Stuck (Item SpellsPosition) rules.base w last.end last.dimension n → Stuck (Items SpellsPosition) rules.base w i c n
+  positions_stuck first last path fault n h more q = items_stuck SpellsPosition rules.base w i c position_lives last.end n last.dimension (h.head ∷ h.rest)
+      (subst (λ z. ItemsRead SpellsPosition rules.base w i c last.end last.dimension z (h.head ∷ h.rest)) more h.reads) q
+
+  pub positions_stuck_first : (n : ℕ) → Stuck (Item SpellsPosition) rules.base w i c n → Stuck (Items SpellsPosition) rules.base w i c n
+  positions_stuck_first n q = items_stuck SpellsPosition rules.base w i c position_lives i n c [] (items_start SpellsPosition rules.base w i c) q
+
+  abbrev pub ends_same : PositionRead → PositionRead → Bool
+  ends_same first last = not (is_none first.fault && is_none last.fault) || (int_eq first.pos.x last.pos.x && int_eq first.pos.y last.pos.y)
+
+  pub positions_end : (first last : PositionRead) (path : List Pos) (fault : Option Fault) (read : PathRead) → PositionsSoFar rules w i c first last path fault → last.is_last ≡ true
+      → read.path.items ≡ path → read.fault ≡ fault → read.closes ≡ ends_same first last → read.end ≡ last.end → read.dimension ≡ last.dimension → PositionsStand rules w i c read
+  positions_end first last path fault read h ended ep ef ec ee ed =
+      let xs = h.head ∷ h.rest in
+      let q = last_of h.head h.rest in
+      let spelt : Spelt (Items SpellsPosition) rules.base w i c last.end last.dimension xs = items_end SpellsPosition rules.base w i c last.end last.dimension xs
+          (subst (λ z. ItemsRead SpellsPosition rules.base w i c last.end last.dimension z xs) ended h.reads) h.within h.some in
+      let none_first : is_none first.fault ≡ is_faultless rules.digits rules.how h.head = ap is_none h.first_faulty ∙ faultless_by (position_faults rules.digits rules.how h.head) in
+      let none_last : is_none last.fault ≡ is_faultless rules.digits rules.how q = ap is_none h.last_faulty ∙ faultless_by (position_faults rules.digits rules.how q) in
+      record {
+        positions = xs;
+        spelt = subst (λ z. Spelt (Items SpellsPosition) rules.base w i c read.end z xs) (sym ed) (subst (λ z. Spelt (Items SpellsPosition) rules.base w i c z last.dimension xs) (sym ee) spelt);
+        path = ep ∙ h.path_is;
+        fault = ef ∙ h.fault_is;
+        closes = ec ∙ (ap (λ z. not (z && is_none last.fault) || (int_eq first.pos.x last.pos.x && int_eq first.pos.y last.pos.y)) none_first
+          ∙ (ap (λ z. not (is_faultless rules.digits rules.how h.head && z) || (int_eq first.pos.x last.pos.x && int_eq first.pos.y last.pos.y)) none_last
+          ∙ (ap (λ (z : Pos). not (is_faultless rules.digits rules.how h.head && is_faultless rules.digits rules.how q) || (int_eq z.x last.pos.x && int_eq z.y last.pos.y)) h.first_pos
+          ∙ ap (λ (z : Pos). not (is_faultless rules.digits rules.how h.head && is_faultless rules.digits rules.how q) || (int_eq (pos_of rules.digits rules.how h.head).x z.x && int_eq (pos_of rules.digits rules.how h.head).y z.y)) h.last_pos)));
+        few = omega (arith, h.few, ee);
+      }
+
+-- ---- items of any kind
+
+module _ {X Y : Type 0} (P : ℕ → X → ℕ → List ℕ → Type 0) (faults : X → List Fault) (added : X → List Y) (old : List Y) (base : ℕ) (w : List ℕ) (i : ℕ) (c : Dimension) where
+  pub so_far_start : (first : ItemRead) → first.fault ≡ None → first.is_last ≡ false → first.end ≡ i → first.dimension ≡ c → i ≤ length w → HasCount c → ItemsSoFar P faults added old old base w i c first
+  so_far_start first ef el ee ed inside some = record {
+    values = [];
+    reads = subst (λ z. ItemsRead P base w i c first.end first.dimension z []) (sym el) (subst (λ z. ItemsRead P base w i c first.end z false []) (sym ed) (subst (λ z. ItemsRead P base w i c z c false []) (sym ee) (items_start P base w i c)));
+    some = subst HasCount (sym ed) some;
+    within = omega (arith, ee, inside);
+    fault = ef;
+    grown = sym (append-nil old);
+  }
+
+  pub so_far_more : (last item new : ItemRead) (list list' : List Y) → ItemsSoFar P faults added old list base w i c last → last.is_last ≡ false → ItemStands P faults (Grows added list list') base w last.end last.dimension item
+      → new ≡ record { fault = first_fault last.fault item.fault; is_last = item.is_last; end = item.end; dimension = item.dimension } → ItemsSoFar P faults added old list' base w i c new
+  so_far_more last item new list list' h more q is = subst (ItemsSoFar P faults added old list' base w i c) (sym is) (record {
+    values = h.values ++ (q.value ∷ []);
+    reads = items_more P base w i c last.end item.end last.dimension item.dimension h.values q.value item.is_last (subst (λ z. ItemsRead P base w i c last.end last.dimension z h.values) more h.reads) q.spelt;
+    some = q.spelt.some;
+    within = q.spelt.within;
+    fault = ap (λ z. first_fault z item.fault) h.fault ∙ (ap (first_fault (first_of (flat_map faults h.values))) q.fault ∙ (sym (first_of-append (flat_map faults h.values) (faults q.value))
+      ∙ ap first_of (ap (λ z. flat_map faults h.values ++ z) (sym (append-nil (faults q.value))) ∙ sym (flat_map-append faults h.values (q.value ∷ [])))));
+    grown = q.added ∙ (ap (λ z. z ++ added q.value) h.grown ∙ (append_assoc old (flat_map added h.values) (added q.value)
+      ∙ ap (λ z. old ++ z) (ap (λ z. flat_map added h.values ++ z) (sym (append-nil (added q.value))) ∙ sym (flat_map-append added h.values (q.value ∷ [])))));
+  })
+
+  pub so_far_stuck : ItemLives P → (last : ItemRead) (list : List Y) (n : ℕ) → ItemsSoFar P faults added old list base w i c last → last.is_last ≡ false → Stuck (Item P) base w last.end last.dimension n → Stuck (Items P) base w i c n
+  so_far_stuck lives last list n h more q = items_stuck P base w i c lives last.end n last.dimension h.values (subst (λ z. ItemsRead P base w i c last.end last.dimension z h.values) more h.reads) q
+
+  pub so_far_end : (last : ItemRead) (list : List Y) → (h : ItemsSoFar P faults added old list base w i c last) → last.is_last ≡ true → Spelt (Items P) base w i c last.end last.dimension h.values
+  so_far_end last list h ended = items_end P base w i c last.end last.dimension h.values (subst (λ z. ItemsRead P base w i c last.end last.dimension z h.values) ended h.reads) h.within h.some
+
+-- ---- lines and rings
+
+first_of-option : (o : Option Fault) → first_of (option_to_list o) ≡ o
+first_of-option None = refl
+first_of-option (Some f) = refl
+
+module _ (rules : Rules) (w : List ℕ) (i : ℕ) (c : Dimension) (inside : i < length w) (here : next w i ≡ 0x28) where
+  pub path_stuck : (n : ℕ) → Stuck (Items SpellsPosition) rules.base w (i + 1) c n → Stuck SpellsRing rules.base w i c n
+  path_stuck n h = (ring_leads rules.base w i c inside here).stuck n h
+
+  faults_by : (role : Role) (own : Option Fault) (ps : Positions) (fs : Option Fault) → own ≡ fault_of_path role (length ps.items) (is_closed rules.digits rules.how ps.items) ps.at
+      → fs ≡ first_of (items_faults rules.digits rules.how ps.items) → first_fault own fs ≡ first_of (faults_of_path rules.digits rules.how role ps)
+  faults_by Line own ps fs eo ef = ap (λ z. first_fault z fs) (eo ∙ sym (first_of-option (fault_of_path Line (length ps.items) (is_closed rules.digits rules.how ps.items) ps.at)))
+      ∙ (ap (first_fault (first_of (option_to_list (fault_of_path Line (length ps.items) (is_closed rules.digits rules.how ps.items) ps.at)))) ef
+      ∙ sym (first_of-append (option_to_list (fault_of_path Line (length ps.items) (is_closed rules.digits rules.how ps.items) ps.at)) (items_faults rules.digits rules.how ps.items)))
+  faults_by Ring own ps fs eo ef = ap (λ z. first_fault z fs) (eo ∙ sym (first_of-option (fault_of_path Ring (length ps.items) (is_closed rules.digits rules.how ps.items) ps.at)))
+      ∙ (ap (first_fault (first_of (option_to_list (fault_of_path Ring (length ps.items) (is_closed rules.digits rules.how ps.items) ps.at)))) ef
+      ∙ sym (first_of-append (option_to_list (fault_of_path Ring (length ps.items) (is_closed rules.digits rules.how ps.items) ps.at)) (items_faults rules.digits rules.how ps.items)))
+
+  pub path_stands : (role : Role) (read : PathRead) → PositionsStand rules w (i + 1) c read → (own : Option Fault) → own ≡ fault_of_path role (length read.path.items) read.closes (rules.base + i)
+      → (fault : Option Fault) → fault ≡ first_fault own read.fault
+      → PathStands rules w i c role (record { path = read.path; fault = fault; closes = read.closes; end = read.end; dimension = read.dimension })
+  path_stands role read h own eo fault ef =
+      let ps : Positions = record { at = rules.base + i; items = h.positions } in
+      let count : length read.path.items ≡ length h.positions = ap length h.path ∙ length-map h.positions (pos_of rules.digits rules.how) in
+      record {
+        positions = ps;
+        spelt = (ring_leads rules.base w i c inside here).spelt read.end read.dimension h.positions h.spelt;
+        path = h.path;
+        fault = ef ∙ faults_by role own ps read.fault (eo ∙ (ap (λ z. fault_of_path role z read.closes (rules.base + i)) count ∙ ap (λ z. fault_of_path role (length h.positions) z (rules.base + i)) h.closes)) h.fault;
+      }

@@ -1,0 +1,224 @@
+-- The word EMPTY, the words of the kinds with their letters, and parts that are EMPTY or in brackets.
+use Rattle.std.proofs.Common.{◌≡◌, ◌≢◌, ℕ, zero, suc, ◌+◌, ◌-◌, ◌<◌, ◌≤◌, ◌⊎◌, inl, inr, Bool, true, false, not, ◌&&◌, ◌||◌, ◌==◌, IsTrue, List, [], ◌∷◌, ◌++◌, length, map, take, drop, slice_index, get_or, codes, Option, Some, None, refl, sym, ◌∙◌, ap, subst, arith, append-nil, append_assoc, length-append, length-take, true≢false, lit≤, lit<, take-append-drop}
+use Rattle.std.specs.Str.{str_to_ascii_uppercase}
+use Rattle.std.specs.Char.{to_ascii_uppercase}
+use Rattle.std.proofs.lemmas.List.{append_cancel_left, length-map, map-append, drop-map}
+use Rattle.std.proofs.Math.Seq.{get_or-append_seam}
+use Rattle.at_text.specs.Parts.{Many, OneOrMore, Exactly, AnyCase, At, ◌▸◌}
+use Rattle.at_wkt.specs.declared.dimension.Dimension.{Dimension}
+use Rattle.at_wkt.specs.declared.dimension.Dimension.TheVariants.{Open, Fixed}
+use Rattle.at_wkt.specs.declared.kinds.Kind.{Kind}
+use Rattle.at_wkt.specs.declared.kinds.Kind.TheVariants.{Point, LineString, Polygon, MultiPoint, MultiLineString, MultiPolygon, GeometryCollection}
+use Rattle.at_wkt.specs.declared.kinds.Head.{Head}
+use Rattle.at_wkt.specs.Geometry.{is_blank, Letter, EmptyWord}
+use Rattle.at_wkt.specs.Reading.{part, next, Allows, Spelt, Stuck, Leads, SkipsBlanks, WordStands, WordBreaks, word_of, KindBreaks, LetterAt, LetterStands, HeadStands, opens}
+use Rattle.at_wkt.proofs.Leads.{part-none, part-one, part-more, part-place, part-length, part-part, part-cons, offset, Ahead, ahead_stuck, Begins, Inhabited, append_cases, same_length, leads_plain, leads_ahead, counts, same_or_less}
+use Rattle.at_wkt.proofs.Steps.{Then, then_leads, then_stuck, trans_leads, no_blank, AreBlanks, one_blanks, not_blank, blank_at}
+
+abbrev capitals : List ℕ → List ℕ
+capitals w = str_to_ascii_uppercase w
+
+capitals-length : (v : List ℕ) → length (capitals v) ≡ length v
+capitals-length v = length-map v to_ascii_uppercase
+
+capitals-append : (a b : List ℕ) → capitals (a ++ b) ≡ capitals a ++ capitals b
+capitals-append a b = map-append to_ascii_uppercase a b
+
+-- ---- words
+
+-- the word in any case, which stands for one value
+abbrev pub Word : {X : Type 0} → List ℕ → X → ℕ → X → ℕ → List ℕ → Type 0
+Word word x d y at w = (y ≡ x) × AnyCase word at w
+
+pub word_spelt : {X : Type 0} (word : List ℕ) (x : X) (base : ℕ) (w : List ℕ) (i j : ℕ) (c : Dimension) → WordStands w i j word → (d : ℕ) × Allows c d → Spelt (Word word x) base w i c j c x
+word_spelt word x base w i j c h some = record {
+  order = h.order;
+  within = h.within;
+  some = some;
+  narrows = λ d a. a;
+  sound = λ d a. (refl, h.text);
+  only = λ d y v r s a (ey, ev) e.
+      let long : length v ≡ length (part w i j) = sym (capitals-length v) ∙ (ap length (ev ∙ sym h.text) ∙ capitals-length (part w i j)) in
+      (ey, same_length v r (part w i j) s long e, a);
+}
+
+-- a word that agrees with letters that stand has none that differs
+pub word_dead : (word : List ℕ) (w : List ℕ) (i n m : ℕ) (v r s : List ℕ) → WordBreaks w i n word → n ≤ m → m ≤ length w → capitals v ≡ word → v ++ r ≡ part w i m ++ (next w m ∷ s) → ⊥
+word_dead word w i n m v r s h low high ev e =
+    let (t, et) = ahead_stuck w n m s low high (same_or_less n m low) in
+    let line : v ++ r ≡ part w i n ++ (next w n ∷ t) = e ∙ (ap (λ z. z ++ (next w m ∷ s)) (part-part w i n m h.order low high) ∙ (append_assoc (part w i n) (part w n m) (next w m ∷ s) ∙ ap (λ z. part w i n ++ z) et)) in
+    let count : length (part w i n) ≡ n - i = omega (arith, part-length w i n h.order h.within) in
+    elim (append_cases v r (part w i n) (next w n ∷ t) line) [
+      | inl (same, rest) ↦ omega (arith, h.short, ap length same, capitals-length v, ap length ev)
+      | inr (inl (x, xs, f, g)) ↦ omega (arith, h.short, ap length f, length-append v (x ∷ xs), capitals-length v, ap length ev)
+      | inr (inr (x, xs, f, g)) ↦ (
+            let first : next w n ≡ x = cc in
+            let letters : word ≡ capitals (part w i n) ++ (to_ascii_uppercase x ∷ capitals xs) = sym ev ∙ (ap capitals f ∙ capitals-append (part w i n) (x ∷ xs)) in
+            let place : n - i ≡ length (capitals (part w i n)) = sym (capitals-length (part w i n) ∙ count) in
+            let here : slice_index word (n - i) ≡ to_ascii_uppercase x = ap (λ z. slice_index z (n - i)) letters ∙ (ap (slice_index (capitals (part w i n) ++ (to_ascii_uppercase x ∷ capitals xs))) place
+                ∙ get_or-append_seam (capitals (part w i n)) (to_ascii_uppercase x) (capitals xs) 0) in
+            h.differs (ap to_ascii_uppercase first ∙ sym here))
+    ]
+
+-- letters of a word that stand go on to the word
+pub word_viable : (word u : List ℕ) (n : ℕ) → capitals word ≡ word → capitals u ≡ take n word → capitals (u ++ drop n word) ≡ word
+word_viable word u n whole e = capitals-append u (drop n word) ∙ (ap (λ z. z ++ capitals (drop n word)) e ∙ (ap (λ z. take n word ++ z) (sym (drop-map to_ascii_uppercase n word) ∙ ap (drop n) whole) ∙ take-append-drop n word))
+
+pub word_stuck : {X : Type 0} (word : List ℕ) (x : X) (base : ℕ) (w : List ℕ) (i n : ℕ) (c : Dimension) → capitals word ≡ word → WordBreaks w i n word → (d : ℕ) × Allows c d → Stuck (Word word x) base w i c n
+word_stuck word x base w i n c whole h (d0, a0) = record {
+  order = h.order;
+  within = h.within;
+  viable = (d0, x, drop (n - i) word, a0, (refl, word_viable word (part w i n) (n - i) whole h.text));
+  dead = λ d y v r s a (ey, ev) e. word_dead word w i n n v r s h (omega arith) h.within ev e;
+}
+
+-- ---- kinds
+
+abbrev begins_with : List ℕ → List ℕ → Bool
+begins_with [] w = true
+begins_with (b ∷ v) [] = false
+begins_with (b ∷ v) (c ∷ w) = (b == c) && begins_with v w
+
+equal_true : (b : ℕ) → (b == b) ≡ true
+equal_true b = grind arith
+
+begins_append : (v w : List ℕ) → begins_with v (v ++ w) ≡ true
+begins_append [] w = refl
+begins_append (b ∷ v) w = rw (equal_true b) (begins_append v w)
+
+-- no kind's word is the beginning of another's
+one_kind : (k m : Kind) → begins_with (word_of k) (word_of m) ≡ true → k ≡ m
+one_kind Point Point h = refl
+one_kind Point LineString h = absurd (true≢false (sym h))
+one_kind Point Polygon h = absurd (true≢false (sym h))
+one_kind Point MultiPoint h = absurd (true≢false (sym h))
+one_kind Point MultiLineString h = absurd (true≢false (sym h))
+one_kind Point MultiPolygon h = absurd (true≢false (sym h))
+one_kind Point GeometryCollection h = absurd (true≢false (sym h))
+one_kind LineString Point h = absurd (true≢false (sym h))
+one_kind LineString LineString h = refl
+one_kind LineString Polygon h = absurd (true≢false (sym h))
+one_kind LineString MultiPoint h = absurd (true≢false (sym h))
+one_kind LineString MultiLineString h = absurd (true≢false (sym h))
+one_kind LineString MultiPolygon h = absurd (true≢false (sym h))
+one_kind LineString GeometryCollection h = absurd (true≢false (sym h))
+one_kind Polygon Point h = absurd (true≢false (sym h))
+one_kind Polygon LineString h = absurd (true≢false (sym h))
+one_kind Polygon Polygon h = refl
+one_kind Polygon MultiPoint h = absurd (true≢false (sym h))
+one_kind Polygon MultiLineString h = absurd (true≢false (sym h))
+one_kind Polygon MultiPolygon h = absurd (true≢false (sym h))
+one_kind Polygon GeometryCollection h = absurd (true≢false (sym h))
+one_kind MultiPoint Point h = absurd (true≢false (sym h))
+one_kind MultiPoint LineString h = absurd (true≢false (sym h))
+one_kind MultiPoint Polygon h = absurd (true≢false (sym h))
+one_kind MultiPoint MultiPoint h = refl
+one_kind MultiPoint MultiLineString h = absurd (true≢false (sym h))
+one_kind MultiPoint MultiPolygon h = absurd (true≢false (sym h))
+one_kind MultiPoint GeometryCollection h = absurd (true≢false (sym h))
+one_kind MultiLineString Point h = absurd (true≢false (sym h))
+one_kind MultiLineString LineString h = absurd (true≢false (sym h))
+one_kind MultiLineString Polygon h = absurd (true≢false (sym h))
+one_kind MultiLineString MultiPoint h = absurd (true≢false (sym h))
+one_kind MultiLineString MultiLineString h = refl
+one_kind MultiLineString MultiPolygon h = absurd (true≢false (sym h))
+one_kind MultiLineString GeometryCollection h = absurd (true≢false (sym h))
+one_kind MultiPolygon Point h = absurd (true≢false (sym h))
+one_kind MultiPolygon LineString h = absurd (true≢false (sym h))
+one_kind MultiPolygon Polygon h = absurd (true≢false (sym h))
+one_kind MultiPolygon MultiPoint h = absurd (true≢false (sym h))
+one_kind MultiPolygon MultiLineString h = absurd (true≢false (sym h))
+one_kind MultiPolygon MultiPolygon h = refl
+one_kind MultiPolygon GeometryCollection h = absurd (true≢false (sym h))
+one_kind GeometryCollection Point h = absurd (true≢false (sym h))
+one_kind GeometryCollection LineString h = absurd (true≢false (sym h))
+one_kind GeometryCollection Polygon h = absurd (true≢false (sym h))
+one_kind GeometryCollection MultiPoint h = absurd (true≢false (sym h))
+one_kind GeometryCollection MultiLineString h = absurd (true≢false (sym h))
+one_kind GeometryCollection MultiPolygon h = absurd (true≢false (sym h))
+one_kind GeometryCollection GeometryCollection h = refl
+
+kind_from : (k m : Kind) (w : List ℕ) → word_of m ≡ word_of k ++ w → k ≡ m
+kind_from k m w e = one_kind k m (ap (begins_with (word_of k)) e ∙ begins_append (word_of k) w)
+
+kind_capitals : (k : Kind) → capitals (word_of k) ≡ word_of k
+kind_capitals Point = refl
+kind_capitals LineString = refl
+kind_capitals Polygon = refl
+kind_capitals MultiPoint = refl
+kind_capitals MultiLineString = refl
+kind_capitals MultiPolygon = refl
+kind_capitals GeometryCollection = refl
+
+-- the word of a kind, in any case
+abbrev pub KindWord : ℕ → Kind → ℕ → List ℕ → Type 0
+KindWord d k = AnyCase (word_of k)
+
+no_more : (v : List ℕ) (x : ℕ) (xs : List ℕ) → v ≡ v ++ (x ∷ xs) → ⊥
+no_more v x xs e = omega (arith, ap length e, length-append v (x ∷ xs))
+
+kind_only : (k m : Kind) (v u r s : List ℕ) → capitals u ≡ word_of k → capitals v ≡ word_of m → v ++ r ≡ u ++ s → (m ≡ k) × (v ≡ u)
+kind_only k m v u r s eu ev e = elim (append_cases v r u s e) [
+  | inl (same, rest) ↦ (sym (kind_from k m [] (sym ev ∙ (ap capitals same ∙ (eu ∙ sym (append-nil (word_of k)))))), same)
+  | inr (inl (x, xs, f, g)) ↦ absurd (
+        let line : word_of k ≡ word_of m ++ capitals (x ∷ xs) = sym eu ∙ (ap capitals f ∙ (capitals-append v (x ∷ xs) ∙ ap (λ z. z ++ capitals (x ∷ xs)) ev)) in
+        let same : m ≡ k = kind_from m k (capitals (x ∷ xs)) line in
+        no_more (word_of m) (to_ascii_uppercase x) (capitals xs) (ap word_of same ∙ line))
+  | inr (inr (x, xs, f, g)) ↦ absurd (
+        let line : word_of m ≡ word_of k ++ capitals (x ∷ xs) = sym ev ∙ (ap capitals f ∙ (capitals-append u (x ∷ xs) ∙ ap (λ z. z ++ capitals (x ∷ xs)) eu)) in
+        let same : k ≡ m = kind_from k m (capitals (x ∷ xs)) line in
+        no_more (word_of k) (to_ascii_uppercase x) (capitals xs) (ap word_of same ∙ line))
+]
+
+pub kind_spelt : (k : Kind) (base : ℕ) (w : List ℕ) (i j : ℕ) (c : Dimension) → WordStands w i j (word_of k) → (d : ℕ) × Allows c d → Spelt KindWord base w i c j c k
+kind_spelt k base w i j c h some = record {
+  order = h.order;
+  within = h.within;
+  some = some;
+  narrows = λ d a. a;
+  sound = λ d a. h.text;
+  only = λ d m v r s a ev e. let (em, same) = kind_only k m v (part w i j) r s h.text ev e in (em, same, a);
+}
+
+pub kind_stuck : (base : ℕ) (w : List ℕ) (i n : ℕ) (c : Dimension) → KindBreaks w i n → (d : ℕ) × Allows c d → Stuck KindWord base w i c n
+kind_stuck base w i n c h (d0, a0) = record {
+  order = h.order;
+  within = h.within;
+  viable = (d0, h.kind, drop (n - i) (word_of h.kind), a0, word_viable (word_of h.kind) (part w i n) (n - i) (kind_capitals h.kind) h.text);
+  dead = λ d m v r s a ev e. let (q, low, breaks) = h.breaks m in word_dead (word_of m) w i q n v r s breaks low h.within ev e;
+}
+
+-- ---- letters
+
+pub opens_no_blank : (b : ℕ) → opens b ≡ true → no_blank b ≡ true
+opens_no_blank b h = grind (arith, h)
+
+pub letter_no_blank : (b : ℕ) → (to_ascii_uppercase b ≡ 0x5A) ⊎ (to_ascii_uppercase b ≡ 0x4D) → no_blank b ≡ true
+letter_no_blank b (inl h) = grind (arith, h)
+letter_no_blank b (inr h) = grind (arith, h)
+
+pub opens_no_letter : (b : ℕ) → opens b ≡ true → (to_ascii_uppercase b ≡ 0x5A) ⊎ (to_ascii_uppercase b ≡ 0x4D) → ⊥
+opens_no_letter b h (inl k) = grind (arith, h, k)
+opens_no_letter b h (inr k) = grind (arith, h, k)
+
+pub blank_no_letter : (b : ℕ) → is_blank b ≡ true → to_ascii_uppercase b ≡ 0x4D → ⊥
+blank_no_letter b h k = grind (arith, h, k)
+
+-- the text from a place on begins with its byte
+pub stream : (w : List ℕ) (i j : ℕ) (s : List ℕ) → i ≤ j → j ≤ length w → Ahead w j s → (t : List ℕ) × (part w i j ++ s ≡ next w i ∷ t) × (i < j → t ≡ part w (i + 1) j ++ s)
+stream w i j s low high (t, e) = elim (same_or_less i j low) [
+  | inl same ↦ (t, ap (λ z. part w i z ++ s) (sym same) ∙ (ap (λ z. z ++ s) (part-none w i (omega (arith, same))) ∙ (e ∙ ap (λ z. next w z ∷ t) (sym same))), (λ less. absurd (omega (arith, same, less))))
+  | inr less ↦ (part w (i + 1) j ++ s, ap (λ z. z ++ s) (part-cons w i j less high), (λ l. refl))
+]
+
+-- what the letter and what stands behind it is: a word of one, two or no letters
+pub one_letter : (l word : List ℕ) (z : ℕ) → capitals l ≡ z ∷ [] → (b : ℕ) × (l ≡ b ∷ []) × (to_ascii_uppercase b ≡ z)
+one_letter [] word z e = absurd (omega (arith, ap length e))
+one_letter (b ∷ []) word z e = (b, refl, cc)
+one_letter (b ∷ c ∷ l) word z e = absurd (omega (arith, ap length e))
+
+pub two_letters : (l : List ℕ) (y z : ℕ) → capitals l ≡ y ∷ (z ∷ []) → (b c : ℕ) × (l ≡ b ∷ (c ∷ [])) × (to_ascii_uppercase b ≡ y) × (to_ascii_uppercase c ≡ z)
+two_letters [] y z e = absurd (omega (arith, ap length e))
+two_letters (b ∷ []) y z e = absurd (omega (arith, ap length e))
+two_letters (b ∷ c ∷ []) y z e = (b, c, refl, cc, cc)
+two_letters (b ∷ c ∷ d ∷ l) y z e = absurd (omega (arith, ap length e))

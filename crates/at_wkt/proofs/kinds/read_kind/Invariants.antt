@@ -1,0 +1,6 @@
+use Rattle.std.proofs.Common.{take}
+use Rattle.at_wkt.specs.Reading.{KindsTried}
+use Rattle.at_wkt.proofs.kinds.read_kind.Given as goal
+
+abbrev pub invariant-loop-kind : goal.invariant-loop-kind
+invariant-loop-kind l = KindsTried l.text l.at l.longest (take l.kind-index l.kind-items)

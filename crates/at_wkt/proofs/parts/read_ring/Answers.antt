@@ -1,0 +1,22 @@
+use Rattle.std.proofs.Common.{◌≡◌, ◌+◌, ◌-◌, ◌<◌, ◌≤◌, ◌==◌, ℕ, Bool, true, false, List, [], ◌∷◌, ◌++◌, Some, None, flat_map, codes, refl, sym, ◌∙◌, ap, subst, arith}
+use Rattle.at_wkt.specs.Positions.{position_faults, faults_of_ring}
+use Rattle.at_wkt.specs.Meaning.{polygons_of, faults_of_area}
+use Rattle.at_wkt.specs.Geometry.{SpellsPosition, SpellsRing, SpellsList, SpellsPoint, SpellsPointMember, SpellsArea, EmptyOrParted}
+use Rattle.at_wkt.specs.declared.paths.Role.TheVariants.{Line, Ring}
+use Rattle.at_wkt.specs.Reading.{next, Stuck, HasCount, Item, Items, EnclosedPosition, faults_of_path, added_point, point_faults, added_line, line_faults, added_path, added_position, opens, Grows, PartStands, ItemStands, ItemsSoFar, SkipsBlanks}
+use Rattle.at_wkt.proofs.BodySteps.{is_open, point_choice, list_choice, parted_choice, Bracketed, ring_begins, ring_no_blank, ring_inhabited, member_begins, member_inhabited, blankless, choice_begins, choice_inhabited}
+use Rattle.at_wkt.proofs.ListSteps.{inhabited_lives, item_stuck}
+use Rattle.at_wkt.proofs.PathAnswers.{so_far_start, so_far_more, so_far_stuck}
+use Rattle.at_wkt.proofs.PartAnswers.{nothing_stands, opened_stands, bracketed_stands, ended_item, items_stand, enclosed_stuck, enclosed_comma, enclosed_stands, added_stands, ring_missing, area_stands, member_stands, member_stuck, bare_stands, position_item, none_faults, open_byte}
+use Rattle.at_wkt.proofs.Exits.{exits, answers_by, flag_off, flag_on}
+use Rattle.at_wkt.proofs.parts.read_ring.Goals as goal
+
+pub returns-then-not-stands : goal.returns-then-not-stands
+returns-then-not-stands c = ring_missing c.args.rules.base c.args.text.now c.args.at c.skip_blanks-start.result c.args.dimension c.skip_blanks-start.ensures c.requires.count (sym c.stands.ensures ∙ c.if-not-stands.true) ring_no_blank
+
+pub returns-in_err-ring : goal.returns-in_err-ring
+returns-in_err-ring c = exits c.from_residual.result c.in_err-ring.field-0.0 _ (Stuck SpellsRing c.args.rules.base c.args.text.now c.skip_blanks-start.result c.args.dimension) _ c.from_residual.ensures.1
+    (item_stuck SpellsRing c.args.rules.base c.args.text.now c.args.at c.skip_blanks-start.result c.args.dimension c.skip_blanks-start.ensures ring_no_blank) c.in_err-ring.ensures
+
+pub returns : goal.returns
+returns c = ended_item SpellsRing (faults_of_ring c.args.rules.digits c.args.rules.how) (added_path c.args.rules.digits c.args.rules.how) c.args.rules.base c.args.text.now c.args.at c.skip_blanks-start.result c.args.dimension c.skip_blanks-start.ensures ring_no_blank _ _ c.in_ok-ring.ring c.in_ok-ring.ensures c.end_item.result c.end_item.ensures

@@ -1,0 +1,30 @@
+use Rattle.std.proofs.Common.{◌≡◌, ◌+◌, ◌-◌, ◌<◌, ◌≤◌, ◌==◌, ℕ, Bool, true, false, List, [], ◌∷◌, ◌++◌, Some, None, flat_map, codes, refl, sym, ◌∙◌, ap, subst, arith}
+use Rattle.at_wkt.specs.Positions.{position_faults, faults_of_ring}
+use Rattle.at_wkt.specs.Meaning.{polygons_of, faults_of_area}
+use Rattle.at_wkt.specs.Geometry.{SpellsPosition, SpellsRing, SpellsList, SpellsPoint, SpellsPointMember, SpellsArea, EmptyOrParted}
+use Rattle.at_wkt.specs.declared.paths.Role.TheVariants.{Line, Ring}
+use Rattle.at_wkt.specs.Reading.{next, Stuck, HasCount, Item, Items, EnclosedPosition, faults_of_path, added_point, point_faults, added_line, line_faults, added_path, added_position, opens, Grows, PartStands, ItemStands, ItemsSoFar, SkipsBlanks}
+use Rattle.at_wkt.proofs.BodySteps.{is_open, point_choice, list_choice, parted_choice, Bracketed, ring_begins, ring_no_blank, ring_inhabited, member_begins, member_inhabited, blankless, choice_begins, choice_inhabited}
+use Rattle.at_wkt.proofs.ListSteps.{inhabited_lives, item_stuck}
+use Rattle.at_wkt.proofs.PathAnswers.{so_far_start, so_far_more, so_far_stuck}
+use Rattle.at_wkt.proofs.PartAnswers.{nothing_stands, opened_stands, bracketed_stands, ended_item, items_stand, enclosed_stuck, enclosed_comma, enclosed_stands, added_stands, ring_missing, area_stands, member_stands, member_stuck, bare_stands, position_item, none_faults, open_byte}
+use Rattle.at_wkt.proofs.Exits.{exits, answers_by, flag_off, flag_on}
+use Rattle.at_wkt.proofs.parts.read_rings.Goals as goal
+
+pub rings-init : goal.rings-init
+rings-init c = so_far_start SpellsRing (faults_of_ring c.args.rules.digits c.args.rules.how) (added_path c.args.rules.digits c.args.rules.how) c.args.rings.now.items c.args.rules.base c.args.text.now c.args.at c.args.dimension c.first_item-last.result (ap (λ z. z.fault) c.first_item-last.ensures) (ap (λ z. z.is_last) c.first_item-last.ensures)
+    (ap (λ z. z.end) c.first_item-last.ensures) (ap (λ z. z.dimension) c.first_item-last.ensures) c.requires.inside c.requires.count
+
+pub rings-preserved : goal.rings-preserved
+rings-preserved c = so_far_more SpellsRing (faults_of_ring c.args.rules.digits c.args.rules.how) (added_path c.args.rules.digits c.args.rules.how) c.args.rings.now.items c.args.rules.base c.args.text.now c.args.at c.args.dimension c.rings.last c.in_ok-ring.ring c.next_item-last.result _ _
+    c.rings.invariant (flag_off c.rings.last.is_last c.rings-test.true) c.in_ok-ring.ensures c.next_item-last.ensures
+
+pub rings-smaller : goal.rings-smaller
+rings-smaller c = omega (arith, c.in_ok-ring.ensures.longer, c.in_ok-ring.ensures.spelt.within, ap (λ z. z.end) c.next_item-last.ensures)
+
+pub returns-in_err-ring : goal.returns-in_err-ring
+returns-in_err-ring c = exits c.from_residual.result c.in_err-ring.field-0.0 _ (Stuck (Item SpellsRing) c.args.rules.base c.args.text.now c.rings.last.end c.rings.last.dimension) _ c.from_residual.ensures.1
+    (λ n h. so_far_stuck SpellsRing (faults_of_ring c.args.rules.digits c.args.rules.how) (added_path c.args.rules.digits c.args.rules.how) c.args.rings.now.items c.args.rules.base c.args.text.now c.args.at c.args.dimension (inhabited_lives SpellsRing ring_inhabited) c.rings.last _ n c.rings.invariant (flag_off c.rings.last.is_last c.rings-test.true) h) c.in_err-ring.ensures
+
+pub returns : goal.returns
+returns c = items_stand SpellsRing (faults_of_ring c.args.rules.digits c.args.rules.how) (added_path c.args.rules.digits c.args.rules.how) c.args.rings.now.items _ c.args.rules.base c.args.text.now c.args.at c.args.dimension c.rings.last c.items_read.result c.rings.invariant (flag_on c.rings.last.is_last c.rings-test.false) c.items_read.ensures

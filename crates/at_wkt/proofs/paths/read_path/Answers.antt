@@ -1,0 +1,13 @@
+use Rattle.std.proofs.Common.{◌≡◌, ◌+◌, length, refl, sym, ◌∙◌, ap, subst, arith}
+use Rattle.at_wkt.specs.Geometry.{SpellsPosition, SpellsRing}
+use Rattle.at_wkt.specs.Reading.{Items, Stuck, fault_of_path}
+use Rattle.at_wkt.proofs.PathAnswers.{path_stands, path_stuck}
+use Rattle.at_wkt.proofs.Exits.{exits}
+use Rattle.at_wkt.proofs.paths.read_path.Goals as goal
+
+pub returns-in_err-read : goal.returns-in_err-read
+returns-in_err-read c = exits c.from_residual.result c.in_err-read.field-0.0 _ (Stuck (Items SpellsPosition) c.args.rules.base c.args.text.now (c.args.at + 1) c.args.dimension) _ c.from_residual.ensures.1
+    (path_stuck c.args.rules c.args.text.now c.args.at c.args.dimension c.requires.inside c.requires.opener) c.in_err-read.ensures
+
+pub returns : goal.returns
+returns c = path_stands c.args.rules c.args.text.now c.args.at c.args.dimension c.requires.inside c.requires.opener c.args.role c.in_ok-read.read c.in_ok-read.ensures c.path_fault-own.result (c.path_fault-own.ensures ∙ ap (λ z. fault_of_path c.args.role z c.in_ok-read.read.closes (c.args.rules.base + c.args.at)) (ap length c.as_slice.ensures.value)) c.first_fault.result c.first_fault.ensures

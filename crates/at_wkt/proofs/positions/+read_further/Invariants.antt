@@ -1,0 +1,5 @@
+use Rattle.std.proofs.Common.{length, ◌-◌}
+use Rattle.at_wkt.proofs.positions.+read_further.Given as goal
+
+abbrev pub decreases-read_further : goal.decreases-read_further
+decreases-read_further l = length l.text.now - l.at

@@ -1,0 +1,41 @@
+use Rattle.std.proofs.Common.{◌≡◌, ◌≤◌, ◌+◌, ℕ, refl, sym, ◌∙◌, ap, subst, arith}
+use Rattle.at_wkt.specs.Geometry.{SpellsPosition}
+use Rattle.at_wkt.specs.Reading.{Item, Stuck, FurtherNumbers, NumberBreaks, SkipsBlanks}
+use Rattle.at_wkt.proofs.PositionAnswers.{position_stands, apart}
+use Rattle.at_wkt.proofs.ListSteps.{position_broken_first, position_joined, position_broken_second, position_further}
+use Rattle.at_wkt.proofs.Exits.{exits}
+use Rattle.at_wkt.proofs.positions.read_position.Goals as goal
+
+pub returns-in_err-x : goal.returns-in_err-x
+returns-in_err-x c = exits c.from_residual.result c.in_err-x.field-0.0 _ (NumberBreaks c.args.text.now c.skip_blanks-start.result) _ c.from_residual.ensures.1
+    (λ n h. position_broken_first c.args.rules.base c.args.text.now c.args.at c.skip_blanks-start.result c.args.dimension c.skip_blanks-start.ensures n c.requires.count h) c.in_err-x.ensures
+
+pub returns-then-gap-x : goal.returns-then-gap-x
+returns-then-gap-x c =
+    let (n, stands, is) = c.in_ok-x.ensures in
+    let none : SkipsBlanks c.args.text.now c.in_ok-x.x.end c.in_ok-x.x.end = subst (SkipsBlanks c.args.text.now c.in_ok-x.x.end) c.if-gap-x.true c.skip_blanks-gap.ensures in
+    subst (Stuck (Item SpellsPosition) c.args.rules.base c.args.text.now c.args.at c.args.dimension) (sym c.if-gap-x.true)
+    (position_joined c.args.rules.base c.args.text.now c.args.at c.skip_blanks-start.result c.args.dimension c.skip_blanks-start.ensures c.in_ok-x.x.end n stands c.requires.count none)
+
+pub returns-in_err-y : goal.returns-in_err-y
+returns-in_err-y c =
+    let (n, stands, is) = c.in_ok-x.ensures in
+    exits c.from_residual-in_err-y.result c.in_err-y.field-0.0 _ (NumberBreaks c.args.text.now c.skip_blanks-gap.result) _ c.from_residual-in_err-y.ensures.1
+    (λ k h. position_broken_second c.args.rules.base c.args.text.now c.args.at c.skip_blanks-start.result c.args.dimension c.skip_blanks-start.ensures c.in_ok-x.x.end n stands
+    c.skip_blanks-gap.result c.skip_blanks-gap.ensures (apart c.in_ok-x.x.end c.skip_blanks-gap.result c.skip_blanks-gap.ensures.order c.if-gap-x.false) k c.requires.count h) c.in_err-y.ensures
+
+pub returns-in_err-behind : goal.returns-in_err-behind
+returns-in_err-behind c =
+    let (n, stands, is) = c.in_ok-x.ensures in
+    let (m, stands2, is2) = c.in_ok-y.ensures in
+    exits c.from_residual-in_err-behind.result c.in_err-behind.field-0.0 _ (λ k. (base : ℕ) → Stuck (FurtherNumbers 2) base c.args.text.now c.in_ok-y.y.end c.args.dimension k) _ c.from_residual-in_err-behind.ensures.1
+    (λ k h. (position_further c.args.rules.base c.args.text.now c.args.at c.skip_blanks-start.result c.args.dimension c.skip_blanks-start.ensures c.in_ok-x.x.end n stands
+    c.skip_blanks-gap.result c.skip_blanks-gap.ensures (apart c.in_ok-x.x.end c.skip_blanks-gap.result c.skip_blanks-gap.ensures.order c.if-gap-x.false) c.in_ok-y.y.end m stands2).stuck k (h c.args.rules.base)) c.in_err-behind.ensures
+
+pub returns : goal.returns
+returns c =
+    let (n, stands, is) = c.in_ok-x.ensures in
+    let (m, stands2, is2) = c.in_ok-y.ensures in
+    position_stands c.args.rules c.args.text.now c.args.at c.skip_blanks-start.result c.in_ok-x.x.end c.skip_blanks-gap.result c.in_ok-y.y.end c.args.dimension n m c.in_ok-x.x c.in_ok-y.y c.in_ok-behind.behind
+    c.pos_at.result c.first_fault.result c.skip_blanks-start.ensures stands c.skip_blanks-gap.ensures (apart c.in_ok-x.x.end c.skip_blanks-gap.result c.skip_blanks-gap.ensures.order c.if-gap-x.false) stands2 is is2
+    (c.in_ok-behind.ensures c.args.rules.base) c.pos_at.ensures c.first_fault.ensures

@@ -1,0 +1,159 @@
+ghost use Rattle.std.specs.Prelude.{◌≡◌, ℕ, ◌+◌, ◌^◌, ◌≤◌, false, zero, length, MatchResult};
+ghost use Rattle.at_fixed.specs.declared.rounding.Coords.{Coords};
+ghost use Rattle.at_wkt.specs.declared.dimension.Dimension.TheVariants.{Open};
+ghost use Rattle.at_wkt.specs.Reading.{Stuck, HasCount, Body, After, Expected, Advances, BodyStands, StepStands, WholeStands, HeadStands, IfStopped, no_meaning, opens_at};
+
+use crate::bytes::{skip_blanks, stands};
+use crate::halts::Halt;
+use crate::kinds::{Head, Kind, read_head};
+use crate::parts::{Read, read_line_string, read_line_strings, read_nothing, read_point, read_points, read_polygon, read_polygons};
+use crate::positions::read_delimiter;
+use crate::rules::Rules;
+use at_geom::{Path, Polygon, Pos};
+use at_text::{Fault, first_fault};
+use std::alloc::Global;
+
+/// What the geometries that were read cover, and their first fault.
+#[derive(Drop)]
+pub struct Gathered {
+    pub points: Vec<Pos>,
+    pub lines: Vec<Path>,
+    pub polygons: Vec<Polygon>,
+    pub fault: Option<Fault>,
+}
+
+/// How far reading has come: the place, how many collections are open there, and whether the outermost geometry
+/// has ended.
+#[derive(Clone, Copy)]
+pub struct Progress {
+    pub at: usize,
+    pub depth: usize,
+    pub is_over: bool,
+}
+
+/// Reads what stands behind the head of a geometry that is no collection with members.
+fn read_body(gathered: &mut Gathered, alloc: Global, text: &[u8], head: Head, rules: Rules) -> Result<Read, Halt>
+    requires inside { head.end ≤ length text.now }
+    requires short { rules.base + length text.now ≤ 2 ^ 28 }
+    requires count { HasCount head.dimension }
+    requires simple { opens_at text.now head ≡ false }
+    ensures {
+        MatchResult result (BodyStands rules.digits rules.how rules.base text.now head gathered.old gathered.new)
+            (λ halt. IfStopped halt (Stuck (Body head.kind) rules.base text.now head.end head.dimension))
+    }
+{
+    match head.kind {
+        Kind::Point => read_point(&mut gathered.points, text, head.end, head.dimension, rules),
+        Kind::LineString => read_line_string(&mut gathered.lines, alloc, text, head.end, head.dimension, rules),
+        Kind::Polygon => read_polygon(&mut gathered.polygons, alloc, text, head.end, head.dimension, rules),
+        Kind::MultiPoint => read_points(&mut gathered.points, text, head.end, head.dimension, rules),
+        Kind::MultiLineString => read_line_strings(&mut gathered.lines, alloc, text, head.end, head.dimension, rules),
+        Kind::MultiPolygon => read_polygons(&mut gathered.polygons, alloc, text, head.end, head.dimension, rules),
+        Kind::GeometryCollection => read_nothing(text, head.end, head.dimension),
+    }
+}
+
+/// Reads what stands behind a geometry within so many open collections, up to the next geometry or the end of all.
+fn read_closings(text: &[u8], from: usize, opened: usize) -> Result<Progress, Halt>
+    requires inside { from ≤ length text.now }
+    requires deep { opened ≤ from }
+    ensures {
+        MatchResult result (λ progress. (progress.depth ≤ progress.at) × ((base digits : ℕ) (how : Coords)
+                → Advances digits how (λ d. After digits how opened) base text.now from progress no_meaning))
+            (λ halt. IfStopped halt (λ n. (base digits : ℕ) (how : Coords)
+                → Stuck (λ d. After digits how opened) base text.now from Open n))
+    }
+{
+    let mut at = from;
+    let mut depth = opened;
+    while depth > 0 {
+        let delimiter = read_delimiter(text, at)?;
+        if !delimiter.is_last {
+            let next = skip_blanks(text, delimiter.end);
+            return Ok(Progress {
+                at: next,
+                depth,
+                is_over: false,
+            });
+        }
+        at = delimiter.end;
+        depth -= 1;
+    }
+    Ok(Progress {
+        at,
+        depth,
+        is_over: true,
+    })
+}
+
+/// Reads a geometry without members behind its head, and what stands behind it.
+fn read_simple(gathered: &mut Gathered, alloc: Global, text: &[u8], from: Progress, head: Head, rules: Rules) -> Result<Progress, Halt>
+    requires stands { HeadStands text.now from.at head }
+    requires short { rules.base + length text.now ≤ 2 ^ 28 }
+    requires count { HasCount head.dimension }
+    requires simple { opens_at text.now head ≡ false }
+    requires deep { from.depth ≤ from.at }
+    ensures {
+        MatchResult result (StepStands rules.digits rules.how (λ d. Expected rules.digits rules.how from.depth)
+                rules.base text.now from.at gathered.old gathered.new)
+            (λ halt. IfStopped halt (Stuck (λ d. Expected rules.digits rules.how from.depth) rules.base text.now from.at Open))
+    }
+{
+    let read = read_body(gathered, alloc, text, head, rules)?;
+    gathered.fault = first_fault(gathered.fault, read.fault);
+    read_closings(text, read.end, from.depth)
+}
+
+/// Whether a head is that of a collection, and its bracket opens behind it.
+fn opens_collection(text: &[u8], head: Head) -> bool
+    ensures { result ≡ opens_at text.now head }
+{
+    match head.kind {
+        Kind::GeometryCollection => stands(text, head.end, b'('),
+        _ => false,
+    }
+}
+
+/// Reads the head of a geometry, and with it either the bracket that opens a collection or the whole geometry.
+fn read_next(gathered: &mut Gathered, alloc: Global, text: &[u8], from: Progress, rules: Rules) -> Result<Progress, Halt>
+    requires inside { from.at ≤ length text.now }
+    requires short { rules.base + length text.now ≤ 2 ^ 28 }
+    requires deep { from.depth ≤ from.at }
+    ensures {
+        MatchResult result (StepStands rules.digits rules.how (λ d. Expected rules.digits rules.how from.depth)
+                rules.base text.now from.at gathered.old gathered.new)
+            (λ halt. IfStopped halt (Stuck (λ d. Expected rules.digits rules.how from.depth) rules.base text.now from.at Open))
+    }
+{
+    let head = read_head(text, from.at)?;
+    if opens_collection(text, head) {
+        let next = skip_blanks(text, head.end + 1);
+        Ok(Progress {
+            at: next,
+            depth: from.depth + 1,
+            is_over: false,
+        })
+    } else {
+        read_simple(gathered, alloc, text, from, head, rules)
+    }
+}
+
+/// Reads the geometry that begins at a place of the text, and tells the place behind it.
+pub fn read_whole(gathered: &mut Gathered, alloc: Global, text: &[u8], at: usize, rules: Rules) -> Result<usize, Halt>
+    requires inside { at ≤ length text.now }
+    requires short { rules.base + length text.now ≤ 2 ^ 28 }
+    ensures {
+        MatchResult result (WholeStands rules.digits rules.how rules.base text.now at gathered.old gathered.new)
+            (λ halt. IfStopped halt (Stuck (λ d. Expected rules.digits rules.how zero) rules.base text.now at Open))
+    }
+{
+    let mut progress = Progress {
+        at,
+        depth: 0,
+        is_over: false,
+    };
+    'geometries: while !progress.is_over {
+        progress = read_next(gathered, alloc, text, progress, rules)?;
+    }
+    Ok(progress.at)
+}

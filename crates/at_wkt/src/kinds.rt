@@ -1,0 +1,146 @@
+ghost use Rattle.std.specs.Prelude.{◌≡◌, ◌≤◌, ◌+◌, ◌⊎◌, length, MatchResult};
+ghost use Rattle.at_wkt.specs.Reading.{word_of, WordStands, KindBreaks, LetterStands, HeadStands, IfStopped};
+
+use crate::bytes::{letter_stands, skip_blanks};
+use crate::dimension::Dimension;
+use crate::halts::Halt;
+use crate::words::matching;
+
+/// The kinds of geometry (OGC 06-103r4 section 7.2.2).
+#[derive(Clone, Copy, Debug, PartialEq, Eq)]
+pub enum Kind {
+    Point,
+    LineString,
+    Polygon,
+    MultiPoint,
+    MultiLineString,
+    MultiPolygon,
+    GeometryCollection,
+}
+
+/// All kinds.
+const KINDS: [Kind; 7] = [
+    Kind::Point,
+    Kind::LineString,
+    Kind::Polygon,
+    Kind::MultiPoint,
+    Kind::MultiLineString,
+    Kind::MultiPolygon,
+    Kind::GeometryCollection,
+];
+
+impl Kind {
+    /// The word that tells the kind, in capitals.
+    fn word(self) -> &'static [u8]
+        ensures { result.now ≡ word_of self }
+    {
+        match self {
+            Kind::Point => b"POINT",
+            Kind::LineString => b"LINESTRING",
+            Kind::Polygon => b"POLYGON",
+            Kind::MultiPoint => b"MULTIPOINT",
+            Kind::MultiLineString => b"MULTILINESTRING",
+            Kind::MultiPolygon => b"MULTIPOLYGON",
+            Kind::GeometryCollection => b"GEOMETRYCOLLECTION",
+        }
+    }
+}
+
+/// A kind word, and the place behind it.
+#[derive(Clone, Copy)]
+pub struct KindRead {
+    pub kind: Kind,
+    pub end: usize,
+}
+
+/// The larger of two numbers.
+fn larger(a: usize, b: usize) -> usize
+    ensures first { a ≤ result }
+    ensures second { b ≤ result }
+    ensures either { (result ≡ a) ⊎ (result ≡ b) }
+{
+    if a < b { b } else { a }
+}
+
+/// Reads the word of a kind.
+fn read_kind(text: &[u8], at: usize) -> Result<KindRead, Halt>
+    requires { at ≤ length text.now }
+    ensures {
+        MatchResult result (λ read. WordStands text.now at read.end (word_of read.kind))
+            (λ halt. IfStopped halt (KindBreaks text.now at))
+    }
+{
+    let mut longest = 0;
+    for kind in KINDS {
+        let word = kind.word();
+        let count = matching(text, at, word);
+        if count == word.len() {
+            return Ok(KindRead {
+                kind,
+                end: at + count,
+            });
+        }
+        longest = larger(longest, count);
+    }
+    Err(Halt::At(at + longest))
+}
+
+/// How many numbers the letters Z and M, or none of them, give to positions, and the place behind them.
+#[derive(Clone, Copy)]
+pub struct LetterRead {
+    pub dimension: Dimension,
+    pub end: usize,
+}
+
+/// Reads Z, M, ZM or nothing.
+fn read_letter(text: &[u8], at: usize) -> LetterRead
+    requires { at ≤ length text.now }
+    ensures stands { LetterStands text.now at result.end result.dimension }
+    ensures within { result.end ≤ length text.now }
+{
+    if letter_stands(text, at, b'M') {
+        LetterRead {
+            dimension: Dimension::Fixed(3),
+            end: at + 1,
+        }
+    } else if !letter_stands(text, at, b'Z') {
+        LetterRead {
+            dimension: Dimension::Open,
+            end: at,
+        }
+    } else if letter_stands(text, at + 1, b'M') {
+        LetterRead {
+            dimension: Dimension::Fixed(4),
+            end: at + 2,
+        }
+    } else {
+        LetterRead {
+            dimension: Dimension::Fixed(3),
+            end: at + 1,
+        }
+    }
+}
+
+/// What stands before a geometry's positions: its kind, how many numbers its positions have, and the place behind.
+#[derive(Clone, Copy)]
+pub struct Head {
+    pub kind: Kind,
+    pub dimension: Dimension,
+    pub end: usize,
+}
+
+/// Reads the word of a kind, its letter, and the blanks behind them.
+pub fn read_head(text: &[u8], at: usize) -> Result<Head, Halt>
+    requires { at ≤ length text.now }
+    ensures {
+        MatchResult result (HeadStands text.now at) (λ halt. IfStopped halt (KindBreaks text.now at))
+    }
+{
+    let word = read_kind(text, at)?;
+    let letter = read_letter(text, skip_blanks(text, word.end));
+    Ok(Head {
+        kind: word.kind,
+        dimension: letter.dimension,
+        end: skip_blanks(text, letter.end),
+    })
+}

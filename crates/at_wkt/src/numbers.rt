@@ -1,0 +1,83 @@
+ghost use Rattle.std.specs.Prelude.{◌≡◌, ◌≤◌, ◌+◌, ◌^◌, Some, length, MatchResult};
+ghost use Rattle.at_fixed.specs.Numerals.{Numeral};
+ghost use Rattle.at_text.specs.Faults.{first_of};
+ghost use Rattle.at_wkt.specs.Positions.{fault_of as the_fault, value_in, faults_in};
+ghost use Rattle.at_wkt.specs.Reading.{NumberStands, NumberSkips, NumberBreaks, IsCoordinate, IfStopped};
+
+use crate::halts::Halt;
+use crate::rules::Rules;
+use at_fixed::{FixedFault, Notation, leading_number, wkt_number};
+use at_text::{Fault, FaultKind};
+
+/// A coordinate: its value, 0 where it has a fault, and the place behind it.
+#[derive(Clone, Copy)]
+pub struct Coordinate {
+    pub value: i64,
+    pub fault: Option<Fault>,
+    pub end: usize,
+}
+
+/// The fault at an offset of a number that has no value.
+fn fault_of(fault: FixedFault, at: u32) -> Fault
+    ensures { result ≡ the_fault fault at }
+{
+    match fault {
+        FixedFault::Scale => Fault {
+            kind: FaultKind::Scale,
+            at,
+        },
+        FixedFault::Range => Fault {
+            kind: FaultKind::Range,
+            at,
+        },
+    }
+}
+
+/// The coordinate that a number of this value is, which begins at the offset.
+fn coordinate_of(number: Result<i64, FixedFault>, at: u32, end: usize) -> Coordinate
+    ensures value { result.value ≡ value_in number }
+    ensures fault { result.fault ≡ first_of (faults_in number at) }
+    ensures end { result.end ≡ end }
+{
+    match number {
+        Ok(value) => Coordinate {
+            value,
+            fault: None,
+            end,
+        },
+        Err(fault) => Coordinate {
+            value: 0,
+            fault: Some(fault_of(fault, at)),
+            end,
+        },
+    }
+}
+
+/// Reads a number whose value is used.
+pub fn read_number(text: &[u8], at: usize, rules: Rules) -> Result<Coordinate, Halt>
+    requires inside { at ≤ length text.now }
+    requires short { rules.base + length text.now ≤ 2 ^ 28 }
+    ensures {
+        MatchResult result (λ read. (n : Numeral) × NumberStands text.now at read.end n
+                × IsCoordinate rules.digits rules.how n (rules.base + at) read)
+            (λ halt. IfStopped halt (NumberBreaks text.now at))
+    }
+{
+    let number = leading_number(&text[at..], Notation::Wkt, rules.digits, rules.how);
+    let end = at + number.len as usize;
+    match number.value {
+        None => Err(Halt::At(end)),
+        Some(value) => Ok(coordinate_of(value, rules.base + at as u32, end)),
+    }
+}
+
+/// The place behind a number whose value isn't used.
+pub fn skip_number(text: &[u8], at: usize) -> Result<usize, Halt>
+    requires inside { at ≤ length text.now }
+    requires short { length text.now ≤ 2 ^ 28 }
+    ensures { MatchResult result (NumberSkips text.now at) (λ halt. IfStopped halt (NumberBreaks text.now at)) }
+{
+    let taken = wkt_number(&text[at..]);
+    let end = at + taken.len as usize;
+    if taken.whole { Ok(end) } else { Err(Halt::At(end)) }
+}

@@ -1,0 +1,103 @@
+ghost use Rattle.std.specs.Prelude.{◌≡◌, ◌+◌, ◌<◌, ◌≤◌, ◌^◌, ◌&&◌, ◌||◌, not, is_none, length, MatchResult};
+ghost use Rattle.std.specs.Ordering.{int_eq};
+ghost use Rattle.at_wkt.specs.Geometry.{SpellsPosition, SpellsRing};
+ghost use Rattle.at_wkt.specs.Reading.{next, Stuck, HasCount, Items, PositionsStand, PathStands, fault_of_path, IfStopped};
+
+use crate::dimension::Dimension;
+use crate::halts::Halt;
+use crate::positions::{PositionRead, read_position};
+use crate::rules::Rules;
+use at_geom::{Pos, line_fault, ring_fault};
+use at_text::{Fault, first_fault};
+use std::alloc::Global;
+
+/// What a list of positions is.
+#[derive(Clone, Copy, Debug, PartialEq, Eq)]
+pub enum Role {
+    /// A line, of two positions at least.
+    Line,
+    /// A ring of a polygon, of four positions at least, the last of which is the first.
+    Ring,
+}
+
+/// A list of positions that was read.
+#[derive(Drop)]
+pub struct PathRead {
+    pub path: Vec<Pos>,
+    pub fault: Option<Fault>,
+    pub closes: bool,
+    pub end: usize,
+    pub dimension: Dimension,
+}
+
+/// Whether two positions are the same, or one of them has a fault, so that this isn't tested.
+fn closes_with(first: PositionRead, last: PositionRead) -> bool
+    ensures {
+        result ≡ (not (is_none first.fault && is_none last.fault)
+            || (int_eq first.pos.x last.pos.x && int_eq first.pos.y last.pos.y))
+    }
+{
+    !(first.fault.is_none() && last.fault.is_none())
+        || (first.pos.x == last.pos.x && first.pos.y == last.pos.y)
+}
+
+/// Reads positions up to the closing bracket.
+fn read_positions(alloc: Global, text: &[u8], at: usize, dimension: Dimension, rules: Rules) -> Result<PathRead, Halt>
+    requires inside { at ≤ length text.now }
+    requires short { rules.base + length text.now ≤ 2 ^ 28 }
+    requires count { HasCount dimension }
+    ensures {
+        MatchResult result (PositionsStand rules text.now at dimension)
+            (λ halt. IfStopped halt (Stuck (Items SpellsPosition) rules.base text.now at dimension))
+    }
+{
+    let first = read_position(text, at, dimension, rules)?;
+    let mut path = Vec::new(alloc);
+    path.push(first.pos)?;
+    let mut last = first;
+    let mut fault = first.fault;
+    'positions: while !last.is_last {
+        last = read_position(text, last.end, last.dimension, rules)?;
+        path.push(last.pos)?;
+        fault = first_fault(fault, last.fault);
+    }
+    Ok(PathRead {
+        path,
+        fault,
+        closes: closes_with(first, last),
+        end: last.end,
+        dimension: last.dimension,
+    })
+}
+
+/// What is wrong with a line or a ring as a whole.
+fn path_fault(role: Role, count: u32, closes: bool, at: u32) -> Option<Fault>
+    ensures { result ≡ fault_of_path role count closes at }
+{
+    match role {
+        Role::Line => line_fault(count, at),
+        Role::Ring => ring_fault(count, closes, at),
+    }
+}
+
+/// Reads a line or a ring from its opening bracket, which stands at the place, to its closing one.
+pub fn read_path(alloc: Global, text: &[u8], at: usize, dimension: Dimension, rules: Rules, role: Role) -> Result<PathRead, Halt>
+    requires inside { at < length text.now }
+    requires opener { next text.now at ≡ 0x28 }
+    requires short { rules.base + length text.now ≤ 2 ^ 28 }
+    requires count { HasCount dimension }
+    ensures {
+        MatchResult result (PathStands rules text.now at dimension role)
+            (λ halt. IfStopped halt (Stuck SpellsRing rules.base text.now at dimension))
+    }
+{
+    let read = read_positions(alloc, text, at + 1, dimension, rules)?;
+    let own = path_fault(role, read.path.as_slice().len() as u32, read.closes, rules.base + at as u32);
+    Ok(PathRead {
+        path: read.path,
+        fault: first_fault(own, read.fault),
+        closes: read.closes,
+        end: read.end,
+        dimension: read.dimension,
+    })
+}

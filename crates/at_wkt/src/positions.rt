@@ -1,0 +1,151 @@
+ghost use Rattle.std.specs.Prelude.{◌≡◌, ℕ, ◌+◌, ◌<◌, ◌≤◌, ◌^◌, true, false, length, MatchResult};
+ghost use Rattle.at_wkt.specs.Geometry.{SpellsPosition};
+ghost use Rattle.at_wkt.specs.Reading.{next, allows, Spelt, Stuck, HasCount, Reaches, Item, FurtherNumbers, delimiter, is_delimiter, DelimiterStands, DelimiterBreaks, PositionStands, IfStopped};
+ghost use Rattle.at_wkt.specs.declared.dimension.Dimension.TheVariants.{Fixed};
+
+use crate::bytes::{skip_blanks, stands};
+use crate::dimension::Dimension;
+use crate::halts::Halt;
+use crate::numbers::{Coordinate, read_number, skip_number};
+use crate::rules::Rules;
+use at_geom::Pos;
+use at_text::{Fault, first_fault};
+
+/// What stands behind an item in brackets: whether it was the last, and the place behind the comma or the bracket.
+#[derive(Clone, Copy)]
+pub struct DelimiterRead {
+    pub is_last: bool,
+    pub end: usize,
+}
+
+/// Reads blanks, and a comma or a closing bracket.
+pub fn read_delimiter(text: &[u8], at: usize) -> Result<DelimiterRead, Halt>
+    requires { at ≤ length text.now }
+    ensures {
+        MatchResult result (DelimiterStands text.now at) (λ halt. IfStopped halt (DelimiterBreaks text.now at))
+    }
+{
+    let end = skip_blanks(text, at);
+    if stands(text, end, b',') {
+        Ok(DelimiterRead {
+            is_last: false,
+            end: end + 1,
+        })
+    } else if stands(text, end, b')') {
+        Ok(DelimiterRead {
+            is_last: true,
+            end: end + 1,
+        })
+    } else {
+        Err(Halt::At(end))
+    }
+}
+
+/// The end of a position: whether it was the last, the place behind its delimiter, and how many numbers positions have.
+#[derive(Clone, Copy)]
+pub struct NumbersRead {
+    pub is_last: bool,
+    pub end: usize,
+    pub dimension: Dimension,
+}
+
+/// Whether a comma or a closing bracket stands at a place of the text.
+fn delimiter_stands(text: &[u8], at: usize) -> bool
+    ensures { result ≡ is_delimiter (next text.now at) }
+{
+    stands(text, at, b',') || stands(text, at, b')')
+}
+
+/// Ends a position of so many numbers at its delimiter.
+fn end_position(text: &[u8], at: usize, count: u8, dimension: Dimension) -> Result<NumbersRead, Halt>
+    requires inside { at < length text.now }
+    requires delimiter { is_delimiter (next text.now at) ≡ true }
+    ensures {
+        MatchResult result (λ read. (allows dimension count ≡ true) × (read.end ≡ at + 1)
+                × (read.dimension ≡ Fixed count) × (next text.now at ≡ delimiter read.is_last))
+            (λ halt. IfStopped halt (λ n. (n ≡ at) × (allows dimension count ≡ false)))
+    }
+{
+    if dimension.allows(count) {
+        Ok(NumbersRead {
+            is_last: stands(text, at, b')'),
+            end: at + 1,
+            dimension: Dimension::Fixed(count),
+        })
+    } else {
+        Err(Halt::At(at))
+    }
+}
+
+/// Reads the numbers behind the first `count` of a position, and its delimiter.
+fn read_further(text: &[u8], at: usize, count: u8, dimension: Dimension) -> Result<NumbersRead, Halt>
+    requires inside { at ≤ length text.now }
+    requires short { length text.now ≤ 2 ^ 28 }
+    requires two { 2 ≤ count }
+    requires reaches { Reaches dimension count }
+    ensures {
+        MatchResult result (λ read. (base : ℕ)
+                → Spelt (FurtherNumbers count) base text.now at dimension read.end read.dimension read.is_last)
+            (λ halt. IfStopped halt (λ n. (base : ℕ) → Stuck (FurtherNumbers count) base text.now at dimension n))
+    }
+{
+    let next = skip_blanks(text, at);
+    if delimiter_stands(text, next) {
+        return end_position(text, next, count, dimension);
+    }
+    if next == at {
+        return Err(Halt::At(next));
+    }
+    if !dimension.allows_more(count) {
+        return Err(Halt::At(next));
+    }
+    let end = skip_number(text, next)?;
+    read_further(text, end, count + 1, dimension)
+}
+
+/// The position of two coordinates.
+fn pos_at(x: Coordinate, y: Coordinate) -> Pos
+    ensures { result ≡ record { x = x.value; y = y.value } }
+{
+    Pos {
+        x: x.value,
+        y: y.value,
+    }
+}
+
+/// A position that was read, with what stands behind it.
+#[derive(Clone, Copy)]
+pub struct PositionRead {
+    pub pos: Pos,
+    pub fault: Option<Fault>,
+    pub is_last: bool,
+    pub end: usize,
+    pub dimension: Dimension,
+}
+
+/// Reads blanks, a position and its delimiter.
+pub fn read_position(text: &[u8], at: usize, dimension: Dimension, rules: Rules) -> Result<PositionRead, Halt>
+    requires inside { at ≤ length text.now }
+    requires short { rules.base + length text.now ≤ 2 ^ 28 }
+    requires count { HasCount dimension }
+    ensures {
+        MatchResult result (PositionStands rules text.now at dimension)
+            (λ halt. IfStopped halt (Stuck (Item SpellsPosition) rules.base text.now at dimension))
+    }
+{
+    let start = skip_blanks(text, at);
+    let x = read_number(text, start, rules)?;
+    let gap = skip_blanks(text, x.end);
+    if gap == x.end {
+        return Err(Halt::At(gap));
+    }
+    let y = read_number(text, gap, rules)?;
+    let behind = read_further(text, y.end, 2, dimension)?;
+    Ok(PositionRead {
+        pos: pos_at(x, y),
+        fault: first_fault(x.fault, y.fault),
+        is_last: behind.is_last,
+        end: behind.end,
+        dimension: behind.dimension,
+    })
+}

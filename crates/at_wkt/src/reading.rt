@@ -1,0 +1,153 @@
+ghost use Rattle.std.specs.Prelude.{◌≡◌, [], None, ◌+◌, ◌^◌, ◌≤◌, length, MatchResult};
+ghost use Rattle.at_text.specs.Syntax.{stop_fault};
+ghost use Rattle.at_wkt.specs.Reading.{refusal as refusal_at, gathered_shape, kept_shape as shape_kept, line_answer as answer_of, LineStands, LineStops, IfStopped};
+ghost use Rattle.at_wkt.specs.Answers.{IfFound, HasLineShape, HasFirstLineFault, IsPrefixOf, IsPrefixFault};
+
+use crate::answers::{LineFault, Prefix};
+use crate::bytes::skip_blanks;
+use crate::geometries::{Gathered, read_whole};
+use crate::halts::Halt;
+use crate::rules::Rules;
+use at_fixed::Coords;
+use at_geom::{Path, Paths, Polygons, Shape};
+use at_text::{Fault, FaultKind};
+use std::alloc::Global;
+
+/// Nothing, before anything is read.
+fn nothing_gathered(alloc: Global) -> Gathered
+    ensures points { result.points.items ≡ [] }
+    ensures lines { result.lines.items ≡ [] }
+    ensures polygons { result.polygons.items ≡ [] }
+    ensures fault { result.fault ≡ None }
+{
+    Gathered {
+        points: Vec::new(alloc),
+        lines: Vec::new(alloc),
+        polygons: Vec::new(alloc),
+        fault: None,
+    }
+}
+
+/// The shape of what was gathered.
+fn shape_of(gathered: Gathered) -> Shape
+    ensures { result ≡ gathered_shape gathered }
+{
+    Shape {
+        points: Path::from_vec(gathered.points),
+        lines: Paths::from_vec(gathered.lines),
+        polygons: Polygons::from_vec(gathered.polygons),
+    }
+}
+
+/// The shape of what was gathered, and the empty one where it has a fault.
+fn kept_shape(alloc: Global, gathered: Gathered) -> Shape
+    ensures { result ≡ shape_kept gathered }
+{
+    match gathered.fault {
+        None => shape_of(gathered),
+        Some(_) => shape_of(nothing_gathered(alloc)),
+    }
+}
+
+/// The shape of a line, or its first fault.
+fn line_answer(gathered: Gathered) -> Result<Shape, LineFault>
+    ensures { result ≡ answer_of gathered }
+{
+    match gathered.fault {
+        None => Ok(shape_of(gathered)),
+        Some(fault) => Err(LineFault::Found(fault)),
+    }
+}
+
+/// The fault of syntax at a place of a text.
+fn stop_at(text: &[u8], base: u32, at: usize) -> Fault
+    requires inside { at ≤ length text.now }
+    requires short { base + length text.now ≤ 2 ^ 28 }
+    ensures { result ≡ stop_fault base text.now at }
+{
+    let offset = base + at as u32;
+    if at < text.len() {
+        Fault {
+            kind: FaultKind::Syntax,
+            at: offset,
+        }
+    } else {
+        Fault {
+            kind: FaultKind::Ended,
+            at: offset,
+        }
+    }
+}
+
+/// The refusal of a text where reading it stopped.
+fn refusal_of(text: &[u8], base: u32, halt: Halt) -> LineFault
+    requires inside { IfStopped halt (λ n. n ≤ length text.now) }
+    requires short { base + length text.now ≤ 2 ^ 28 }
+    ensures { result ≡ refusal_at base text.now halt }
+{
+    match halt {
+        Halt::At(at) => LineFault::Found(stop_at(text, base, at)),
+        Halt::Memory => LineFault::Memory,
+    }
+}
+
+/// Reads the geometry that begins a text, whose first byte has the offset `base` in its file.
+///
+/// `Found` is the fault of syntax at the end of the longest prefix that some geometry begins with, exactly where
+/// no geometry begins the text: Syntax before a byte, Ended at the text's end. Faults of the geometry itself are
+/// told in `Prefix`. Nothing recurses on the depth of collections.
+pub fn read_geometry(alloc: Global, text: &[u8], base: u32, digits: u8, how: Coords) -> Result<Prefix, LineFault>
+    requires { base + length text.now ≤ 2 ^ 28 }
+    ensures {
+        MatchResult result (IsPrefixOf digits how base text.now)
+            (λ refusal. IfFound refusal (IsPrefixFault base text.now))
+    }
+{
+    let mut gathered = nothing_gathered(alloc);
+    let rules = Rules { base, digits, how };
+    match read_whole(&mut gathered, alloc, text, 0, rules) {
+        Ok(end) => {
+            let fault = gathered.fault;
+            Ok(Prefix {
+                shape: kept_shape(alloc, gathered),
+                taken: end as u32,
+                fault,
+            })
+        }
+        Err(halt) => Err(refusal_of(text, base, halt)),
+    }
+}
+
+/// Reads blanks, a geometry and blanks, up to the text's end.
+fn read_between(gathered: &mut Gathered, alloc: Global, text: &[u8], rules: Rules) -> Result<(), Halt>
+    requires { rules.base + length text.now ≤ 2 ^ 28 }
+    ensures {
+        MatchResult result (λ _. LineStands rules.digits rules.how rules.base text.now gathered.old gathered.new)
+            (λ halt. IfStopped halt (LineStops rules.base text.now))
+    }
+{
+    let start = skip_blanks(text, 0);
+    let end = read_whole(gathered, alloc, text, start, rules)?;
+    let last = skip_blanks(text, end);
+    if last < text.len() { Err(Halt::At(last)) } else { Ok(()) }
+}
+
+/// Reads a line without its end, whose first byte has the offset `base` in its file: blanks, a geometry, blanks.
+///
+/// `Found` is the line's first fault, exactly where it has one: that of its syntax, or else the first of the
+/// geometry's Short, Ring, Scale and Range faults by offset, then by number. Nothing recurses on the depth of
+/// collections.
+pub fn read_line(alloc: Global, text: &[u8], base: u32, digits: u8, how: Coords) -> Result<Shape, LineFault>
+    requires { base + length text.now ≤ 2 ^ 28 }
+    ensures {
+        MatchResult result (HasLineShape digits how base text.now)
+            (λ refusal. IfFound refusal (HasFirstLineFault digits how base text.now))
+    }
+{
+    let mut gathered = nothing_gathered(alloc);
+    let rules = Rules { base, digits, how };
+    match read_between(&mut gathered, alloc, text, rules) {
+        Err(halt) => Err(refusal_of(text, base, halt)),
+        Ok(()) => line_answer(gathered),
+    }
+}

@@ -1,0 +1,29 @@
+ghost use Rattle.std.specs.Prelude.{◌≤◌, codes, length, MatchResult};
+ghost use Rattle.at_wkt.specs.Reading.{Matches, WordStands, WordBreaks, IfStopped};
+
+use crate::bytes::letter_stands;
+use crate::halts::Halt;
+
+/// How many letters of the word, which is in capitals, stand at a place of the text in either case.
+pub fn matching(text: &[u8], at: usize, word: &[u8]) -> usize
+    requires { at ≤ length text.now }
+    ensures { Matches text.now at word.now result }
+{
+    let mut count = 0;
+    while count < word.len() && letter_stands(text, at + count, word[count]) {
+        count += 1;
+    }
+    count
+}
+
+/// The place behind the word EMPTY.
+pub fn read_empty(text: &[u8], at: usize) -> Result<usize, Halt>
+    requires { at ≤ length text.now }
+    ensures {
+        MatchResult result (λ end. WordStands text.now at end (codes "EMPTY"))
+            (λ halt. IfStopped halt (λ n. WordBreaks text.now at n (codes "EMPTY")))
+    }
+{
+    let count = matching(text, at, b"EMPTY");
+    if count == 5 { Ok(at + count) } else { Err(Halt::At(at + count)) }
+}
