@@ -39,8 +39,10 @@ kind_first k [] e = absurd (no_word k e) where
 kind_first k (b ∷ t) e = (b, t, refl, letter k e) where
   blank_up : (x : ℕ) → is_blank x ≡ true → (to_ascii_uppercase x ≡ x) × ((x ≡ 0x20) ⊎ (x ≡ 0x09))
   blank_up x h = grind (arith, h)
+
   clear : (c : ℕ) → 0x41 ≤ c → to_ascii_uppercase b ≡ c → no_blank b ≡ true
   clear c low h = grind (arith, low, h)
+
   letter : (k : Kind) → str_to_ascii_uppercase (b ∷ t) ≡ word_of k → no_blank b ≡ true
   letter Point e = let h : to_ascii_uppercase b ≡ 0x50 = cc in clear 0x50 (lit≤ tt) h
   letter LineString e = let h : to_ascii_uppercase b ≡ 0x4C = cc in clear 0x4C (lit≤ tt) h
@@ -88,6 +90,7 @@ module _ (digits : ℕ) (how : Coords) where
     to d (true, m) at v h = (no_geometries, m, refl, h)
     to d (false, m) at v (a, b, e, dl, (x, y, f, hx, (g, n, em, (l, r, el, hg, (gs, n', en, q))))) =
         (geometry_and g gs, n', em ∙ (ap (joined (meaning_of digits how g)) en ∙ sym (joined-assoc (meaning_of digits how g) (meaning_of_all digits how gs) n')), (a, b, e, dl, (x, y, f, hx, (l, r, el, hg, q))))
+
     from : (d : ℕ) (m : Meaning) (at : ℕ) (v : List ℕ) → After digits how (suc k) m at v → (p : Bool × Meaning) × (m ≡ p.1) × Then Delimiter (Ended k) d p at v
     from d m at v (no_geometries, n, em, h) = ((true, n), em, h)
     from d m at v (geometry_and g gs, n, em, (a, b, e, dl, (x, y, f, hx, (l, r, el, hg, q)))) =
@@ -204,6 +207,7 @@ module _ (digits : ℕ) (how : Coords) where
         let three : (O ▸ ((M ▸ ((G ▸ F) ▸ X)) ▸ K)) at v = behind O (M ▸ (((G ▸ F) ▸ X) ▸ K)) ((M ▸ ((G ▸ F) ▸ X)) ▸ K) (λ i1 u1 q1. to_left M ((G ▸ F) ▸ X) K i1 u1 q1) at v two in
         let (c1, c2, c3, c4, c5) = to_left O (M ▸ ((G ▸ F) ▸ X)) K at v three in
         (collection (geometry_and g gs), n', em ∙ (ap (joined (meaning_of digits how g)) en ∙ sym (joined-assoc (meaning_of digits how g) (meaning_of_all digits how gs) n')), (c1, c2, c3, (geometry_and g gs, refl, c4), c5))
+
     from : (d : ℕ) (m : Meaning) (at : ℕ) (v : List ℕ) → BodyAfter digits how GeometryCollection k d m at v → ((y : Meaning) × (m ≡ y) × Opening k d y at v) ⊎ ((b : ℕ) × (t : List ℕ) × (v ≡ b ∷ t) × (is_open b ≡ false))
     from d m at v (g0, n, em, (c1, c2, c3, (no_geometries, eg, h), c5)) = inr (let (b, t, f, up) = empty_first c1 h in (b, t ++ c2, c3 ∙ ap (λ z. z ++ c2) f, shut b up)) where
       shut : (b : ℕ) → to_ascii_uppercase b ≡ 0x45 → is_open b ≡ false
@@ -215,9 +219,28 @@ module _ (digits : ℕ) (how : Coords) where
         let one : (O ▸ (M ▸ ((G ▸ F) ▸ (X ▸ K)))) at v = behind O (M ▸ (((G ▸ F) ▸ X) ▸ K)) (M ▸ ((G ▸ F) ▸ (X ▸ K))) (λ i1 u1 q1. behind M (((G ▸ F) ▸ X) ▸ K) ((G ▸ F) ▸ (X ▸ K)) (λ i2 u2 q2. to_right (G ▸ F) X K i2 u2 q2) i1 u1 q1) at v two in
         let flat : (O ▸ (M ▸ (G ▸ (F ▸ (X ▸ K))))) at v = behind O (M ▸ ((G ▸ F) ▸ (X ▸ K))) (M ▸ (G ▸ (F ▸ (X ▸ K)))) (λ i1 u1 q1. behind M ((G ▸ F) ▸ (X ▸ K)) (G ▸ (F ▸ (X ▸ K))) (λ i2 u2 q2. to_right G F (X ▸ K) i2 u2 q2) i1 u1 q1) at v one in
         let (a, r, e, here, (x, y, f, hx, (l, s, el, hg, q))) = flat in
-        inl (m, refl, (a, r, e, here, (x, y, f, hx, (g, joined (meaning_of_all digits how gs) n,
-          em ∙ (ap (λ z. joined (meaning_of digits how z) n) eg ∙ joined-assoc (meaning_of digits how g) (meaning_of_all digits how gs) n),
-          (l, s, el, hg, (gs, n, refl, further_join gs K _ s q))))))
+        inl (
+          m,
+          refl,
+          (
+            a,
+            r,
+            e,
+            here,
+            (
+              x,
+              y,
+              f,
+              hx,
+              (
+                g,
+                joined (meaning_of_all digits how gs) n,
+                em ∙ (ap (λ z. joined (meaning_of digits how z) n) eg ∙ joined-assoc (meaning_of digits how g) (meaning_of_all digits how gs) n),
+                (l, s, el, hg, (gs, n, refl, further_join gs K _ s q)),
+              ),
+            ),
+          ),
+        )
 
   opening_begins : (k : ℕ) → Begins is_open (Opening k)
   opening_begins k d m at v (a, b, e, here, q) = (0x28, b, e ∙ ap (λ z. z ++ b) here, refl)

@@ -169,6 +169,7 @@ module _ (digits : ℕ) (how : Coords) (base : ℕ) (w : List ℕ) (e : ℕ) (c 
   empty_begins d y at v (e, k) = let (b, t, eb, up) = empty_first v k in (b, t, eb, shut b up) where
     letter_not_open : (b : ℕ) → to_ascii_uppercase b ≡ 0x45 → (b == 0x28) ≡ false
     letter_not_open b h = grind (arith, h)
+
     shut : (b : ℕ) → to_ascii_uppercase b ≡ 0x45 → is_shut b ≡ true
     shut b h = ap not (letter_not_open b h)
 
@@ -187,4 +188,4 @@ module _ (digits : ℕ) (how : Coords) (base : ℕ) (w : List ℕ) (e : ℕ) (c 
         fault = ef;
       })
       (λ n word. (when_leads (Body GeometryCollection) (Word (codes "EMPTY") (collection no_geometries)) (λ at g. g) is_shut is_shut base w e c empty_when empty_begins inside (ap not shut)).stuck n
-        (word_stuck (codes "EMPTY") (collection no_geometries) base w e n c refl word some))
+      (word_stuck (codes "EMPTY") (collection no_geometries) base w e n c refl word some))

@@ -114,7 +114,7 @@ further_join (geometry_and g gs) K at w h =
     let four : (M ▸ (C ▸ ((M ▸ (G ▸ F)) ▸ T))) at w = behind M ((C ▸ (M ▸ (G ▸ F))) ▸ T) (C ▸ ((M ▸ (G ▸ F)) ▸ T)) (λ i u q. to_right C (M ▸ (G ▸ F)) T i u q) at w five in
     let three : (M ▸ (C ▸ (M ▸ ((G ▸ F) ▸ T)))) at w = behind M (C ▸ ((M ▸ (G ▸ F)) ▸ T)) (C ▸ (M ▸ ((G ▸ F) ▸ T))) (λ i u q. behind C ((M ▸ (G ▸ F)) ▸ T) (M ▸ ((G ▸ F) ▸ T)) (λ i2 u2 q2. to_right M (G ▸ F) T i2 u2 q2) i u q) at w four in
     let one : (M ▸ (C ▸ (M ▸ (G ▸ FurtherThen gs K)))) at w = behind M (C ▸ (M ▸ ((G ▸ F) ▸ T))) (C ▸ (M ▸ (G ▸ FurtherThen gs K))) (λ i u q. behind C (M ▸ ((G ▸ F) ▸ T)) (M ▸ (G ▸ FurtherThen gs K)) (λ i2 u2 q2. behind M ((G ▸ F) ▸ T) (G ▸ FurtherThen gs K)
-        (λ i3 u3 q3. behind G (F ▸ T) (FurtherThen gs K) (λ i4 u4 q4. further_join gs K i4 u4 q4) i3 u3 (to_right G F T i3 u3 q3)) i2 u2 q2) i u q) at w three in
+    (λ i3 u3 q3. behind G (F ▸ T) (FurtherThen gs K) (λ i4 u4 q4. further_join gs K i4 u4 q4) i3 u3 (to_right G F T i3 u3 q3)) i2 u2 q2) i u q) at w three in
     to_left M C (M ▸ (G ▸ FurtherThen gs K)) at w one
 
 module _ (digits : ℕ) (how : Coords) where

@@ -42,17 +42,17 @@ module _ (w : List ℕ) (i : ℕ) where
       let all : AreBroken longest' (ks ++ (k ∷ [])) = one_more longest' ks k (farther longest longest' low ks h.breaks) (i + count, omega (arith, high), broken) in
       elim which [
         | inl e ↦ record {
-            within = omega (arith, h.within, e);
-            kind = h.kind;
-            text = subst (λ z. str_to_ascii_uppercase (part w i (i + z)) ≡ take z (word_of h.kind)) (sym e) h.text;
-            breaks = subst (AreBroken longest') (sym ek) all;
-          }
+          within = omega (arith, h.within, e);
+          kind = h.kind;
+          text = subst (λ z. str_to_ascii_uppercase (part w i (i + z)) ≡ take z (word_of h.kind)) (sym e) h.text;
+          breaks = subst (AreBroken longest') (sym ek) all;
+        }
         | inr e ↦ record {
-            within = omega (arith, found.within, e);
-            kind = k;
-            text = subst (λ z. str_to_ascii_uppercase (part w i (i + z)) ≡ take z (word_of k)) (sym e) found.text;
-            breaks = subst (AreBroken longest') (sym ek) all;
-          }
+          within = omega (arith, found.within, e);
+          kind = k;
+          text = subst (λ z. str_to_ascii_uppercase (part w i (i + z)) ≡ take z (word_of k)) (sym e) found.text;
+          breaks = subst (AreBroken longest') (sym ek) all;
+        }
       ]
 
   pub tried_all : (longest : ℕ) → KindsTried w i longest (Point ∷ LineString ∷ Polygon ∷ MultiPoint ∷ MultiLineString ∷ MultiPolygon ∷ GeometryCollection ∷ []) → KindBreaks w i (i + longest)

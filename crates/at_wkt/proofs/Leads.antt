@@ -151,8 +151,8 @@ module _ {X Y : Type 0} (P : ℕ → X → ℕ → List ℕ → Type 0) (Q : ℕ
       → Goes P Q base w i c j c' f (Ahead w j) → Comes P Q base w i c j c' f (Ahead w j) → Leads P Q base w i c j c' f
   leads_ahead test begins order within narrows goes comes = leads_by P Q base w i c j c' f (Ahead w j) order within narrows goes comes
       (λ k c'' y s q.
-          let (d, a) = q.some in
-          let (b, t, e, h) = begins d y (base + j) (part w j k) (q.sound d a) in
-          let long : j < k = omega (arith, part-length w j k q.order q.within, ap length e) in
-          (part w (j + 1) k ++ s, ap (λ z. z ++ s) (part-cons w j k long q.within)))
+      let (d, a) = q.some in
+      let (b, t, e, h) = begins d y (base + j) (part w j k) (q.sound d a) in
+      let long : j < k = omega (arith, part-length w j k q.order q.within, ap length e) in
+      (part w (j + 1) k ++ s, ap (λ z. z ++ s) (part-cons w j k long q.within)))
       (λ n s h k. ahead_stuck w j n s h k (same_or_less j n h))

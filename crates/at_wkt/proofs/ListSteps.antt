@@ -29,6 +29,7 @@ gap_stops : Begins stops_number (Gap SecondNumber)
 gap_stops d y at v (x, r, e, (some, hx), q) = go x some hx e where
   blank_stop : (b : ℕ) → is_blank b ≡ true → stops_number b ≡ true
   blank_stop b h = grind (arith, h)
+
   go : (x : List ℕ) → x ≢ [] → AreBlanks x → v ≡ x ++ r → (b : ℕ) × (t : List ℕ) × (v ≡ b ∷ t) × (stops_number b ≡ true)
   go [] some hx e = absurd (some refl)
   go (b ∷ x) some (h, hs) e = (b, x ++ r, e, blank_stop b h)
@@ -68,6 +69,7 @@ module _ (base : ℕ) (w : List ℕ) (i a : ℕ) (c : Dimension) (skips : SkipsB
         go : (x : List ℕ) → x ≢ [] → AreBlanks x → v ≡ x ++ r → (b : ℕ) × (t : List ℕ) × (v ≡ b ∷ t) × (is_blank b ≡ true)
         go [] some hx e = absurd (some refl)
         go (b ∷ x) some (h, hs) e = (b, x ++ r, e, h)
+
       no_to_false : (b : ℕ) → no_blank b ≡ true → is_blank b ≡ false
       no_to_false b h = grind (arith, h)
 
@@ -85,10 +87,12 @@ module _ (base : ℕ) (w : List ℕ) (i a : ℕ) (c : Dimension) (skips : SkipsB
 
 pub position_inhabited : (d at : ℕ) → (2 ≤ d) × (d ≤ 4) → (last : Bool) → (x : Position) × (v : List ℕ) × EndedPosition d (x, last) at v
 position_inhabited d at (low, high) last =
-    let (v, q) = further_lives (d - 2) 2 d (omega arith) last (((at + 1) + 1) + 1) in
-    (record { x = nought; x_at = at; y = nought; y_at = (at + 1) + 1 }, 0x30 ∷ (0x20 ∷ (0x30 ∷ v)),
+    let (v, q) = further_lives (d - 2) 2 d (omega arith) last (((at + 1) + 1) + 1) in (
+      record { x = nought; x_at = at; y = nought; y_at = (at + 1) + 1 },
+      0x30 ∷ (0x20 ∷ (0x30 ∷ v)),
       position_same.to d ((nought, at), ((nought, (at + 1) + 1), last)) at (0x30 ∷ (0x20 ∷ (0x30 ∷ v)))
-      (0x30 ∷ [], 0x20 ∷ (0x30 ∷ v), refl, (refl, (nought_numeral, refl)), (0x20 ∷ [], 0x30 ∷ v, refl, ((λ e. cc), (refl, tt)), (0x30 ∷ [], v, refl, (refl, (nought_numeral, refl)), q))))
+          (0x30 ∷ [], 0x20 ∷ (0x30 ∷ v), refl, (refl, (nought_numeral, refl)), (0x20 ∷ [], 0x30 ∷ v, refl, ((λ e. cc), (refl, tt)), (0x30 ∷ [], v, refl, (refl, (nought_numeral, refl)), q))),
+    )
 
 -- ---- items
 
@@ -203,9 +207,11 @@ ends_or (b ∷ more) = elim (ends_or more) [
 -- a delimited position may be the last
 pub item_closes : (d : ℕ) (p : Position) (last : Bool) (at : ℕ) (v : List ℕ) → Item SpellsPosition d (p, last) at v
     → (z : List ℕ) × (v ≡ z ++ (delimiter last ∷ [])) × LastPosition d p at (z ++ (0x29 ∷ []))
-item_closes d p last at v (a, r, e, ha, (b, s, f, hp, (x, y, g, hx, hy))) =
-    (a ++ (b ++ x), e ∙ (ap (λ z. a ++ z) (f ∙ ap (λ z. b ++ z) (g ∙ ap (λ z. x ++ z) hy)) ∙ regroup (delimiter last)),
-      (a, b ++ (x ++ (0x29 ∷ [])), sym (regroup 0x29), ha, (b, x ++ (0x29 ∷ []), refl, hp, (x, 0x29 ∷ [], refl, hx, refl)))) where
+item_closes d p last at v (a, r, e, ha, (b, s, f, hp, (x, y, g, hx, hy))) = (
+  a ++ (b ++ x),
+  e ∙ (ap (λ z. a ++ z) (f ∙ ap (λ z. b ++ z) (g ∙ ap (λ z. x ++ z) hy)) ∙ regroup (delimiter last)),
+  (a, b ++ (x ++ (0x29 ∷ [])), sym (regroup 0x29), ha, (b, x ++ (0x29 ∷ []), refl, hp, (x, 0x29 ∷ [], refl, hx, refl))),
+) where
   regroup : (c : ℕ) → a ++ (b ++ (x ++ (c ∷ []))) ≡ (a ++ (b ++ x)) ++ (c ∷ [])
   regroup c = sym (append_assoc a (b ++ x) (c ∷ []) ∙ ap (λ z. a ++ z) (append_assoc b x (c ∷ [])))
 
@@ -214,10 +220,10 @@ closes_from d p last at u more q some = elim (ends_or more) [
   | inl e ↦ absurd (some e)
   | inr (m, x, e) ↦
       (let (z, ez, h) = item_closes d p last at (u ++ more) q in
-          let line : (u ++ m) ++ (x ∷ []) ≡ z ++ (delimiter last ∷ []) = append_assoc u m (x ∷ []) ∙ (ap (λ y. u ++ y) (sym e) ∙ ez) in
-          let long : length (u ++ m) ≡ length z = omega (arith, ap length line, length-append (u ++ m) (x ∷ []), length-append z (delimiter last ∷ [])) in
-          let same : u ++ m ≡ z = same_length (u ++ m) (x ∷ []) z (delimiter last ∷ []) long line in
-          (m ++ (0x29 ∷ []), subst (LastPosition d p at) (ap (λ y. y ++ (0x29 ∷ [])) (sym same) ∙ append_assoc u m (0x29 ∷ [])) h))
+      let line : (u ++ m) ++ (x ∷ []) ≡ z ++ (delimiter last ∷ []) = append_assoc u m (x ∷ []) ∙ (ap (λ y. u ++ y) (sym e) ∙ ez) in
+      let long : length (u ++ m) ≡ length z = omega (arith, ap length line, length-append (u ++ m) (x ∷ []), length-append z (delimiter last ∷ [])) in
+      let same : u ++ m ≡ z = same_length (u ++ m) (x ∷ []) z (delimiter last ∷ []) long line in
+      (m ++ (0x29 ∷ []), subst (LastPosition d p at) (ap (λ y. y ++ (0x29 ∷ [])) (sym same) ∙ append_assoc u m (0x29 ∷ [])) h))
 ]
 
 pub last_stuck : (base : ℕ) (w : List ℕ) (i n : ℕ) (c : Dimension) → Stuck (Item SpellsPosition) base w i c n → Stuck LastPosition base w i c n

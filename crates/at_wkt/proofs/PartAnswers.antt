@@ -81,15 +81,15 @@ module _ {X Z : Type 0} (P : ℕ → X → ℕ → List ℕ → Type 0) (faults 
       → MatchResult r (ItemStands P faults (Grows added old new) base w i c) (λ halt. IfStopped halt (Stuck (Item P) base w i c))
   ended_item old new read h r q = answers_by r _ (ItemStands P faults (Grows added old new) base w i c) _ (Stuck (Item P) base w i c) q
       (λ item (ef, ed, d).
-          let ends : Spelt Delimiter base w read.end read.dimension (d.at + 1) read.dimension item.is_last = delimiter_spelt base w read.end d.at d.blanks item.is_last d.byte d.inside read.dimension h.spelt.some in
-          let whole : Spelt (Item P) base w i c (d.at + 1) read.dimension (h.value, item.is_last) = item_spelt P base w i a c skips begins read.end read.dimension h.value h.spelt (d.at + 1) item.is_last ends in
-          record {
-            value = h.value;
-            spelt = subst (λ z. Spelt (Item P) base w i c item.end z (h.value, item.is_last)) (sym ed) (subst (λ z. Spelt (Item P) base w i c z read.dimension (h.value, item.is_last)) (sym d.end_is) whole);
-            fault = ef ∙ h.fault;
-            added = h.added;
-            longer = omega (arith, skips.order, h.spelt.order, d.blanks.order, d.end_is);
-          })
+      let ends : Spelt Delimiter base w read.end read.dimension (d.at + 1) read.dimension item.is_last = delimiter_spelt base w read.end d.at d.blanks item.is_last d.byte d.inside read.dimension h.spelt.some in
+      let whole : Spelt (Item P) base w i c (d.at + 1) read.dimension (h.value, item.is_last) = item_spelt P base w i a c skips begins read.end read.dimension h.value h.spelt (d.at + 1) item.is_last ends in
+      record {
+        value = h.value;
+        spelt = subst (λ z. Spelt (Item P) base w i c item.end z (h.value, item.is_last)) (sym ed) (subst (λ z. Spelt (Item P) base w i c z read.dimension (h.value, item.is_last)) (sym d.end_is) whole);
+        fault = ef ∙ h.fault;
+        added = h.added;
+        longer = omega (arith, skips.order, h.spelt.order, d.blanks.order, d.end_is);
+      })
       (λ n d. item_unended P base w i a c skips begins read.end read.dimension h.value h.spelt n (delimiter_stuck base w read.end n d.blanks read.dimension h.spelt.some d.byte))
 
 -- all items of a loop
@@ -151,6 +151,7 @@ area_stands rules w i c read rings old new polygon h ep e = record {
   paths : (xs : List Positions) → flat_map (added_path rules.digits rules.how) xs ≡ map (path_of rules.digits rules.how) xs
   paths [] = refl
   paths (x ∷ xs) = ap (λ z. path_of rules.digits rules.how x ∷ z) (paths xs)
+
   one : (xs : List Positions) (d at : ℕ) (v : List ℕ) → Items SpellsRing d xs at v → record { rings = flat_map (added_path rules.digits rules.how) xs } ∷ [] ≡ polygons_of rules.digits rules.how xs
   one [] d at v h = absurd h
   one (x ∷ xs) d at v h = ap (λ z. record { rings = z } ∷ []) (paths (x ∷ xs))
@@ -178,13 +179,13 @@ module _ (rules : Rules) (w : List ℕ) (i a : ℕ) (c : Dimension) (skips : Ski
   bare_longer j c' p last h = elim (dec_lt a j) [
     | yes l ↦ l
     | no f ↦ absurd (
-          let (d, allowed) = h.some in
-          let (b1, r, e, hb, q) = h.sound d allowed in
-          let (b, t, eb, hn) = ended_begins d (p, last) _ r q in
-          let low : j ≤ a = omega arith in
-          let blanks : AreBlanks (part w i j ++ part w j a) = subst AreBlanks (part-part w i j a h.order low skips.within) skips.blanks in
-          let here : part w i j ++ part w j a ≡ b1 ++ (b ∷ (t ++ part w j a)) = ap (λ z. z ++ part w j a) (e ∙ ap (λ z. b1 ++ z) eb) ∙ append_assoc b1 (b ∷ t) (part w j a) in
-          not_blank b (number_no_blank b hn) (blank_at b1 b (t ++ part w j a) (subst AreBlanks here blanks)))
+        let (d, allowed) = h.some in
+        let (b1, r, e, hb, q) = h.sound d allowed in
+        let (b, t, eb, hn) = ended_begins d (p, last) _ r q in
+        let low : j ≤ a = omega arith in
+        let blanks : AreBlanks (part w i j ++ part w j a) = subst AreBlanks (part-part w i j a h.order low skips.within) skips.blanks in
+        let here : part w i j ++ part w j a ≡ b1 ++ (b ∷ (t ++ part w j a)) = ap (λ z. z ++ part w j a) (e ∙ ap (λ z. b1 ++ z) eb) ∙ append_assoc b1 (b ∷ t) (part w j a) in
+        not_blank b (number_no_blank b hn) (blank_at b1 b (t ++ part w j a) (subst AreBlanks here blanks)))
   ] where
     number_no_blank : (b : ℕ) → begins_number b ≡ true → no_blank b ≡ true
     number_no_blank b h = grind (arith, h)
@@ -193,10 +194,10 @@ module _ (rules : Rules) (w : List ℕ) (i a : ℕ) (c : Dimension) (skips : Ski
   bare_low n (d, allowed) h = elim (dec_lt n a) [
     | no f ↦ omega arith
     | yes less ↦ absurd (
-          let (x, v, q) = position_inhabited d (rules.base + i + length (part w i a)) (counts c d allowed) true in
-          let text : part w i a ++ v ≡ part w i n ++ (next w n ∷ (part w (n + 1) a ++ v)) =
-              ap (λ z. z ++ v) (part-part w i n a h.order (let l : n ≤ a = omega arith in l) skips.within ∙ ap (λ z. part w i n ++ z) (part-cons w n a less skips.within)) ∙ append_assoc (part w i n) (next w n ∷ part w (n + 1) a) v in
-          h.dead d (x, true) (part w i a ++ v) [] (part w (n + 1) a ++ v) allowed (part w i a, v, refl, skips.blanks, q) (append-nil (part w i a ++ v) ∙ text))
+        let (x, v, q) = position_inhabited d (rules.base + i + length (part w i a)) (counts c d allowed) true in
+        let text : part w i a ++ v ≡ part w i n ++ (next w n ∷ (part w (n + 1) a ++ v)) =
+        ap (λ z. z ++ v) (part-part w i n a h.order (let l : n ≤ a = omega arith in l) skips.within ∙ ap (λ z. part w i n ++ z) (part-cons w n a less skips.within)) ∙ append_assoc (part w i n) (next w n ∷ part w (n + 1) a) v in
+        h.dead d (x, true) (part w i a ++ v) [] (part w (n + 1) a ++ v) allowed (part w i a, v, refl, skips.blanks, q) (append-nil (part w i a ++ v) ∙ text))
   ]
 
   pub bare_stands : (old new : List Pos) (r : Result ItemRead Halt) → HasCount c → opens (next w a) ≡ false

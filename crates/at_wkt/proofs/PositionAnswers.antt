@@ -37,8 +37,8 @@ module _ (w : List ℕ) (j m : ℕ) (c : Dimension) (k : ℕ) (skips : SkipsBlan
       → MatchResult r (λ read. (base : ℕ) → Spelt (FurtherNumbers k) base w j c read.end read.dimension read.is_last) (λ halt. IfStopped halt (λ n. (base : ℕ) → Stuck (FurtherNumbers k) base w j c n))
   further_ended inside here r h = answers_by r _ (λ read. (base : ℕ) → Spelt (FurtherNumbers k) base w j c read.end read.dimension read.is_last) _ (λ n. (base : ℕ) → Stuck (FurtherNumbers k) base w j c n) h
       (λ read (may, ends, fixed, byte) base.
-          let at_end : Spelt (FurtherNumbers k) base w j c (m + 1) (Fixed k) read.is_last = further_spelt base w j m skips read.is_last byte inside c k (allows_by c k reaches two may) in
-          subst (λ z. Spelt (FurtherNumbers k) base w j c read.end z read.is_last) (sym fixed) (subst (λ z. Spelt (FurtherNumbers k) base w j c z (Fixed k) read.is_last) (sym ends) at_end))
+      let at_end : Spelt (FurtherNumbers k) base w j c (m + 1) (Fixed k) read.is_last = further_spelt base w j m skips read.is_last byte inside c k (allows_by c k reaches two may) in
+      subst (λ z. Spelt (FurtherNumbers k) base w j c read.end z read.is_last) (sym fixed) (subst (λ z. Spelt (FurtherNumbers k) base w j c z (Fixed k) read.is_last) (sym ends) at_end))
       (λ n (same, few) base. subst (λ z. Stuck (FurtherNumbers k) base w j c z) (sym same) (further_few base w j m c k skips reaches here few))
 
   module _ (long : j < m) (none : is_delimiter (next w m) ≡ false) (more : allows_more c k ≡ true) where

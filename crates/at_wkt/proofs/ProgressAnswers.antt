@@ -85,7 +85,6 @@ word_long w i j kind h =
     let (b, t, e, n) = kind_first kind (part w i j) h.text in
     omega (arith, part-length w i j h.order h.within, ap length e)
 
-
 module _ (digits : ℕ) (how : Coords) (base : ℕ) (w : List ℕ) (i : ℕ) (k : ℕ) (head : Head) (h : HeadStands w i head) (old new after : Gathered) where
   pub simple_stuck : (n : ℕ) → Stuck (Body head.kind) base w head.end head.dimension n → Stuck (Awaited digits how k) base w i Open n
   simple_stuck n q = head_stuck digits how base w i k head h n (body_stuck digits how base w head.end head.dimension head.kind k n q)
@@ -114,6 +113,7 @@ module _ (digits : ℕ) (how : Coords) (base : ℕ) (w : List ℕ) (i : ℕ) (k 
   } where
     letters : h.letter_at ≤ h.letter_end
     letters = elim h.letter [ inl q ↦ omega (arith, q.0) | inr (inl q) ↦ omega (arith, q.0) | inr (inr (inl q)) ↦ omega (arith, q.0) | inr (inr (inr q)) ↦ omega (arith, q.0) ]
+
     some : i < h.word_end
     some = word_long w i h.word_end head.kind h.word
 
@@ -134,12 +134,15 @@ module _ (digits : ℕ) (how : Coords) (base : ℕ) (w : List ℕ) (i : ℕ) (k 
   } where
     letters : h.letter_at ≤ h.letter_end
     letters = elim h.letter [ inl q ↦ omega (arith, q.0) | inr (inl q) ↦ omega (arith, q.0) | inr (inr (inl q)) ↦ omega (arith, q.0) | inr (inr (inr q)) ↦ omega (arith, q.0) ]
+
     no_fault : (f : Option Fault) → f ≡ first_fault f None
     no_fault None = refl
     no_fault (Some f) = refl
+
     opens_to : (j : ℕ) (n : Meaning) → Spelt (λ d. Expected digits how (k + 1)) base w a Open j Open n → Spelt (BodyAfter digits how head.kind k) base w head.end head.dimension j head.dimension n
     opens_to j n q = subst (λ z. Spelt (BodyAfter digits how z k) base w head.end head.dimension j head.dimension n) (sym ek)
         (opened_spelt digits how base w head.end a head.dimension k inside here skips some j n (subst (λ z. Spelt (Awaited digits how z) base w a Open j Open n) (add-one k) q))
+
     stuck_to : (n : ℕ) → Stuck (λ d. Expected digits how (k + 1)) base w a Open n → Stuck (BodyAfter digits how head.kind k) base w head.end head.dimension n
     stuck_to n q = subst (λ z. Stuck (BodyAfter digits how z k) base w head.end head.dimension n) (sym ek)
         (opened_stuck digits how base w head.end a head.dimension k inside here skips some n (subst (λ z. Stuck (Awaited digits how z) base w a Open n) (add-one k) q))

@@ -52,12 +52,12 @@ word_dead word w i n m v r s h low high ev e =
       | inl (same, rest) ↦ omega (arith, h.short, ap length same, capitals-length v, ap length ev)
       | inr (inl (x, xs, f, g)) ↦ omega (arith, h.short, ap length f, length-append v (x ∷ xs), capitals-length v, ap length ev)
       | inr (inr (x, xs, f, g)) ↦ (
-            let first : next w n ≡ x = cc in
-            let letters : word ≡ capitals (part w i n) ++ (to_ascii_uppercase x ∷ capitals xs) = sym ev ∙ (ap capitals f ∙ capitals-append (part w i n) (x ∷ xs)) in
-            let place : n - i ≡ length (capitals (part w i n)) = sym (capitals-length (part w i n) ∙ count) in
-            let here : slice_index word (n - i) ≡ to_ascii_uppercase x = ap (λ z. slice_index z (n - i)) letters ∙ (ap (slice_index (capitals (part w i n) ++ (to_ascii_uppercase x ∷ capitals xs))) place
-                ∙ get_or-append_seam (capitals (part w i n)) (to_ascii_uppercase x) (capitals xs) 0) in
-            h.differs (ap to_ascii_uppercase first ∙ sym here))
+          let first : next w n ≡ x = cc in
+          let letters : word ≡ capitals (part w i n) ++ (to_ascii_uppercase x ∷ capitals xs) = sym ev ∙ (ap capitals f ∙ capitals-append (part w i n) (x ∷ xs)) in
+          let place : n - i ≡ length (capitals (part w i n)) = sym (capitals-length (part w i n) ∙ count) in
+          let here : slice_index word (n - i) ≡ to_ascii_uppercase x = ap (λ z. slice_index z (n - i)) letters ∙ (ap (slice_index (capitals (part w i n) ++ (to_ascii_uppercase x ∷ capitals xs))) place
+          ∙ get_or-append_seam (capitals (part w i n)) (to_ascii_uppercase x) (capitals xs) 0) in
+          h.differs (ap to_ascii_uppercase first ∙ sym here))
     ]
 
 -- letters of a word that stand go on to the word
@@ -161,13 +161,13 @@ kind_only : (k m : Kind) (v u r s : List ℕ) → capitals u ≡ word_of k → c
 kind_only k m v u r s eu ev e = elim (append_cases v r u s e) [
   | inl (same, rest) ↦ (sym (kind_from k m [] (sym ev ∙ (ap capitals same ∙ (eu ∙ sym (append-nil (word_of k)))))), same)
   | inr (inl (x, xs, f, g)) ↦ absurd (
-        let line : word_of k ≡ word_of m ++ capitals (x ∷ xs) = sym eu ∙ (ap capitals f ∙ (capitals-append v (x ∷ xs) ∙ ap (λ z. z ++ capitals (x ∷ xs)) ev)) in
-        let same : m ≡ k = kind_from m k (capitals (x ∷ xs)) line in
-        no_more (word_of m) (to_ascii_uppercase x) (capitals xs) (ap word_of same ∙ line))
+      let line : word_of k ≡ word_of m ++ capitals (x ∷ xs) = sym eu ∙ (ap capitals f ∙ (capitals-append v (x ∷ xs) ∙ ap (λ z. z ++ capitals (x ∷ xs)) ev)) in
+      let same : m ≡ k = kind_from m k (capitals (x ∷ xs)) line in
+      no_more (word_of m) (to_ascii_uppercase x) (capitals xs) (ap word_of same ∙ line))
   | inr (inr (x, xs, f, g)) ↦ absurd (
-        let line : word_of m ≡ word_of k ++ capitals (x ∷ xs) = sym ev ∙ (ap capitals f ∙ (capitals-append u (x ∷ xs) ∙ ap (λ z. z ++ capitals (x ∷ xs)) eu)) in
-        let same : k ≡ m = kind_from k m (capitals (x ∷ xs)) line in
-        no_more (word_of k) (to_ascii_uppercase x) (capitals xs) (ap word_of same ∙ line))
+      let line : word_of m ≡ word_of k ++ capitals (x ∷ xs) = sym ev ∙ (ap capitals f ∙ (capitals-append u (x ∷ xs) ∙ ap (λ z. z ++ capitals (x ∷ xs)) eu)) in
+      let same : k ≡ m = kind_from k m (capitals (x ∷ xs)) line in
+      no_more (word_of k) (to_ascii_uppercase x) (capitals xs) (ap word_of same ∙ line))
 ]
 
 pub kind_spelt : (k : Kind) (base : ℕ) (w : List ℕ) (i j : ℕ) (c : Dimension) → WordStands w i j (word_of k) → (d : ℕ) × Allows c d → Spelt KindWord base w i c j c k
