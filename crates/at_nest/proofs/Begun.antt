@@ -1,0 +1,171 @@
+-- An item that is only begun: where the machine goes in it, and where it stops at its first byte.
+use Rattle.std.proofs.Common.{◌≡◌, ℕ, inl, inr, List, [], ◌∷◌, ◌++◌, Some, None, option_map, option_and_then, Bool, true, false, cond, not, ◌&&◌, ◌==◌, refl, sym, ◌∙◌, ap, true≢false, codes}
+use Rattle.std.proofs.lemmas.Option.{none-some, same_Some, option_and_then_some}
+use Rattle.at_text.specs.Texts.{is_space, is_run, is_one_of}
+use Rattle.at_text.proofs.Machine.{run}
+use Rattle.at_nest.proofs.JsonNumber as num
+use Rattle.at_lex.specs.Runs.{Literal, literal_text, the_null, the_true, the_false}
+use Rattle.at_lex.proofs.JsonString as str
+use Rattle.at_nest.proofs.JsonMachine.{State, Frame, in_array, in_object, value, items, members, name, colon, after, in_number, in_string, in_name, in_word, step, within, begin_value, after_step, colon_step, eq_of_test, same_byte, chosen}
+use Rattle.at_nest.proofs.Steps.{IsStill}
+use Rattle.at_nest.proofs.Values.{go, run_byte}
+use Rattle.at_nest.specs.Walks.{value_kind, text_kind, next}
+use Rattle.at_nest.proofs.PieceSteps.{Unmarked, unmarked_halts, some_none, first}
+use Rattle.at_nest.proofs.Pushes.{IsRunBegun, IsTextBegun}
+
+pub unlike : (P : ℕ → Bool) (b c : ℕ) → P c ≡ false → P b ≡ true → (b == c) ≡ false
+unlike P b c h e = by_bool (b == c) refl
+  where
+    by_bool : (p : Bool) → (b == c) ≡ p → (b == c) ≡ false
+    by_bool false f = f
+    by_bool true f = absurd (true≢false (sym e ∙ (ap P (eq_of_test b c f) ∙ h)))
+
+pub run_no_space : (b : ℕ) → is_run b ≡ true → is_space b ≡ false
+run_no_space b h = by_bool (is_space b) refl
+  where
+    by_bool : (p : Bool) → is_space b ≡ p → is_space b ≡ false
+    by_bool false f = f
+    by_bool true f = absurd (true≢false (sym h ∙ ap (λ p. not p && not (is_one_of (0x7B ∷ 0x7D ∷ 0x5B ∷ 0x5D ∷ 0x2C ∷ 0x3A ∷ 0x22 ∷ []) b)) f))
+
+pub run_unmarked : (b : ℕ) → is_run b ≡ true → Unmarked b
+run_unmarked b h = record { space = run_no_space b h; quote = unlike is_run b 0x22 refl h; comma_byte = unlike is_run b 0x2C refl h; colon_byte = unlike is_run b 0x3A refl h; square = unlike is_run b 0x5D refl h; brace = unlike is_run b 0x7D refl h }
+
+-- ---- runs
+
+pub number_run : (s n : num.State) (st : List Frame) (u : List ℕ) → run num.step s u ≡ Some n → go (in_number s st) u ≡ Some (in_number n st)
+number_run s n st [] e = ap (λ x. Some (in_number x st)) (same_Some s n e)
+number_run s n st (c ∷ u) e = option_and_then_some (λ x. run num.step x u) (num.step s c) n e (λ v f g.
+    ap (option_and_then (λ x. go x u)) (ap (λ o. within (option_map (λ t. in_number t st) o) (num.accepts s) (after_step st c)) f) ∙ number_run v n st u g)
+
+pub word_run : (u r : List ℕ) (st : List Frame) → go (in_word (u ++ r) st) u ≡ Some (in_word r st)
+word_run [] r st = refl
+word_run (c ∷ u) r st = ap (option_and_then (λ x. go x u)) (ap (λ t. cond t (Some (in_word (u ++ r) st)) None) (same_byte c)) ∙ word_run u r st
+
+-- the value that the run begins
+pub record RunBegins (st : List Frame) (b : ℕ) (v : List ℕ) : Type 0 where
+  pub next_state : State
+  pub last : State
+  pub begins : begin_value st b ≡ Some next_state
+  pub goes : go next_state v ≡ Some last
+  pub is_run_byte : is_run b ≡ true
+
+-- a byte that begins a number is none of these
+not_this : (b c : ℕ) (s : num.State) → num.step num.start c ≡ None → num.step num.start b ≡ Some s → (b == c) ≡ false
+not_this b c s h e = by_bool (b == c) refl
+  where
+    by_bool : (p : Bool) → (b == c) ≡ p → (b == c) ≡ false
+    by_bool false f = f
+    by_bool true f = absurd (none-some s (sym h ∙ (ap (num.step num.start) (sym (eq_of_test b c f)) ∙ e)))
+
+pub pass : {A : Type 0} (p : Bool) (x y z : A) → p ≡ false → y ≡ z → cond p x y ≡ z
+pass p x y z e f = ap (λ c. cond c x y) e ∙ f
+
+pub number_begins : (st : List Frame) (b : ℕ) (s : num.State) → num.step num.start b ≡ Some s → begin_value st b ≡ Some (in_number s st)
+number_begins st b s e =
+    pass (b == 0x5B) _ _ _ (not_this b 0x5B s refl e) (pass (b == 0x7B) _ _ _ (not_this b 0x7B s refl e) (pass (b == 0x22) _ _ _ (not_this b 0x22 s refl e)
+    (pass (b == 0x6E) _ _ _ (not_this b 0x6E s refl e) (pass (b == 0x74) _ _ _ (not_this b 0x74 s refl e) (pass (b == 0x66) _ _ _ (not_this b 0x66 s refl e)
+    (ap (option_map (λ v. in_number v st)) e))))))
+
+tail_of : List ℕ → List ℕ
+tail_of [] = []
+tail_of (b ∷ w) = w
+
+word_at : (st : List Frame) (b c : ℕ) (v r w : List ℕ) → b ≡ c → v ++ r ≡ w → begin_value st c ≡ Some (in_word w st) → is_run c ≡ true → RunBegins st b v
+word_at st b c v r w e f h k = record {
+  next_state = in_word w st;
+  last = in_word r st;
+  begins = ap (begin_value st) e ∙ h;
+  goes = ap (λ z. go (in_word z st) v) (sym f) ∙ word_run v r st;
+  is_run_byte = ap is_run e ∙ k;
+}
+
+pub literal_begins : (st : List Frame) (l : Literal) (b : ℕ) (v r : List ℕ) → b ∷ (v ++ r) ≡ literal_text l → RunBegins st b v
+unfolding tail_of
+literal_begins st the_null b v r e = word_at st b 0x6E v r (codes "ull") (ap first e) (ap tail_of e) refl refl
+literal_begins st the_true b v r e = word_at st b 0x74 v r (codes "rue") (ap first e) (ap tail_of e) refl refl
+literal_begins st the_false b v r e = word_at st b 0x66 v r (codes "alse") (ap first e) (ap tail_of e) refl refl
+
+pub run_begins : (st : List Frame) (b : ℕ) (v : List ℕ) → IsRunBegun (b ∷ v) → RunBegins st b v
+run_begins st b v (inl (n, e)) = option_and_then_some (λ x. run num.step x v) (num.step num.start b) n e (λ s f g. record {
+  next_state = in_number s st;
+  last = in_number n st;
+  begins = number_begins st b s f;
+  goes = number_run s n st v g;
+  is_run_byte = run_byte num.start s b f;
+})
+run_begins st b v (inr (l, r, e)) = literal_begins st l b v r e
+
+pub from_value : (st : List Frame) (b : ℕ) (v : List ℕ) (h : RunBegins st b v) → go (value st) (b ∷ v) ≡ Some h.last
+from_value st b v h = ap (option_and_then (λ x. go x v)) (pass (is_space b) _ _ _ (run_no_space b h.is_run_byte) h.begins) ∙ h.goes
+
+pub from_items : (st : List Frame) (b : ℕ) (v : List ℕ) (h : RunBegins (in_array ∷ st) b v) → go (items st) (b ∷ v) ≡ Some h.last
+from_items st b v h = ap (option_and_then (λ x. go x v)) (pass (is_space b) _ _ _ (run_no_space b h.is_run_byte) (pass (b == 0x5D) _ _ _ (unlike is_run b 0x5D refl h.is_run_byte) h.begins)) ∙ h.goes
+
+pub run_goes : (s t : State) (b : ℕ) (v : List ℕ) → IsRunBegun (b ∷ v) → next s value_kind ≡ Some t → (l : State) × (go s (b ∷ v) ≡ Some l)
+run_goes (value st) t b v h e = let k : RunBegins st b v = run_begins st b v h in (k.last, from_value st b v k)
+run_goes (items st) t b v h e = let k : RunBegins (in_array ∷ st) b v = run_begins (in_array ∷ st) b v h in (k.last, from_items st b v k)
+run_goes (members st) t b v h e = absurd (none-some t e)
+run_goes (name st) t b v h e = absurd (none-some t e)
+run_goes (colon st) t b v h e = absurd (none-some t e)
+run_goes (after []) t b v h e = absurd (none-some t e)
+run_goes (after (in_array ∷ st)) t b v h e = absurd (none-some t e)
+run_goes (after (in_object ∷ st)) t b v h e = absurd (none-some t e)
+run_goes (in_number n st) t b v h e = absurd (none-some t e)
+run_goes (in_string n st) t b v h e = absurd (none-some t e)
+run_goes (in_name n st) t b v h e = absurd (none-some t e)
+run_goes (in_word n st) t b v h e = absurd (none-some t e)
+
+pub run_halts : (s : State) (b : ℕ) (v : List ℕ) → IsStill s → IsRunBegun (b ∷ v) → next s value_kind ≡ None → step s b ≡ None
+run_halts s b v i h e = let k : RunBegins [] b v = run_begins [] b v h in unmarked_halts s b i (run_unmarked b k.is_run_byte) e
+
+-- ---- strings
+
+pub string_run : (s n : str.State) (st : List Frame) (u : List ℕ) → run str.step s u ≡ Some n → go (in_string s st) u ≡ Some (in_string n st)
+string_run s n st [] e = ap (λ x. Some (in_string x st)) (same_Some s n e)
+string_run s n st (c ∷ u) e = option_and_then_some (λ x. run str.step x u) (str.step s c) n e (λ v f g.
+    ap (option_and_then (λ x. go x u)) (ap (λ o. within (option_map (λ t. in_string t st) o) (str.accepts s) (after_step st c)) f) ∙ string_run v n st u g)
+
+pub name_run : (s n : str.State) (st : List Frame) (u : List ℕ) → run str.step s u ≡ Some n → go (in_name s st) u ≡ Some (in_name n st)
+name_run s n st [] e = ap (λ x. Some (in_name x st)) (same_Some s n e)
+name_run s n st (c ∷ u) e = option_and_then_some (λ x. run str.step x u) (str.step s c) n e (λ v f g.
+    ap (option_and_then (λ x. go x u)) (ap (λ o. within (option_map (λ t. in_name t st) o) (str.accepts s) (colon_step st c)) f) ∙ name_run v n st u g)
+
+pub text_first : (b : ℕ) (v : List ℕ) → IsTextBegun (b ∷ v) → (b ≡ 0x22) × (n : str.State) × (run str.step str.inside v ≡ Some n)
+text_first b v (n, e) = option_and_then_some (λ x. run str.step x v) (str.step str.opening b) n e (λ s f g. elim (chosen (b == 0x22) (Some str.inside) None (Some s) f) [
+  | inl q ↦ (eq_of_test b 0x22 q.0, n, ap (λ x. run str.step x v) (same_Some str.inside s q.1) ∙ g)
+  | inr q ↦ absurd (none-some s q.1)
+])
+
+at_quote : (s t : State) (b : ℕ) (v : List ℕ) → b ≡ 0x22 → go s (0x22 ∷ v) ≡ Some t → go s (b ∷ v) ≡ Some t
+at_quote s t b v e h = ap (λ c. go s (c ∷ v)) e ∙ h
+
+pub text_goes_on : (s t : State) (b : ℕ) (v : List ℕ) → IsTextBegun (b ∷ v) → next s text_kind ≡ Some t → (l : State) × (go s (b ∷ v) ≡ Some l)
+text_goes_on (value st) t b v h e = let (f, n, g) = text_first b v h in (in_string n st, at_quote (value st) (in_string n st) b v f (string_run str.inside n st v g))
+text_goes_on (items st) t b v h e = let (f, n, g) = text_first b v h in (in_string n (in_array ∷ st), at_quote (items st) (in_string n (in_array ∷ st)) b v f (string_run str.inside n (in_array ∷ st) v g))
+text_goes_on (members st) t b v h e = let (f, n, g) = text_first b v h in (in_name n st, at_quote (members st) (in_name n st) b v f (name_run str.inside n st v g))
+text_goes_on (name st) t b v h e = let (f, n, g) = text_first b v h in (in_name n st, at_quote (name st) (in_name n st) b v f (name_run str.inside n st v g))
+text_goes_on (colon st) t b v h e = absurd (none-some t e)
+text_goes_on (after []) t b v h e = absurd (none-some t e)
+text_goes_on (after (in_array ∷ st)) t b v h e = absurd (none-some t e)
+text_goes_on (after (in_object ∷ st)) t b v h e = absurd (none-some t e)
+text_goes_on (in_number n st) t b v h e = absurd (none-some t e)
+text_goes_on (in_string n st) t b v h e = absurd (none-some t e)
+text_goes_on (in_name n st) t b v h e = absurd (none-some t e)
+text_goes_on (in_word n st) t b v h e = absurd (none-some t e)
+
+quote_halts : (s : State) → IsStill s → next s text_kind ≡ None → step s 0x22 ≡ None
+quote_halts (value st) i e = absurd (some_none _ e)
+quote_halts (items st) i e = absurd (some_none _ e)
+quote_halts (members st) i e = absurd (some_none _ e)
+quote_halts (name st) i e = absurd (some_none _ e)
+quote_halts (colon st) i e = refl
+quote_halts (after []) i e = refl
+quote_halts (after (in_array ∷ st)) i e = refl
+quote_halts (after (in_object ∷ st)) i e = refl
+quote_halts (in_number n st) i e = absurd i
+quote_halts (in_string n st) i e = absurd i
+quote_halts (in_name n st) i e = absurd i
+quote_halts (in_word n st) i e = absurd i
+
+pub text_stops : (s : State) (b : ℕ) (v : List ℕ) → IsStill s → IsTextBegun (b ∷ v) → next s text_kind ≡ None → step s b ≡ None
+text_stops s b v i h e = let (f, n, g) = text_first b v h in ap (step s) f ∙ quote_halts s i e

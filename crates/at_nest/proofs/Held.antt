@@ -1,0 +1,267 @@
+-- What an item does to what is kept, and to the items that it stands for: the two go on standing for each other.
+use Rattle.std.proofs.Common.{◌≡◌, ℕ, true, false, Option, Some, None, List, [], ◌∷◌, ◌++◌, refl, sym, ◌∙◌, ap, subst, All, append-nil, true≢false}
+use Rattle.std.proofs.lemmas.List.Elements.{All-nil, All-cons}
+use Rattle.std.specs.Bool.{⊤}
+use Rattle.at_lex.specs.Strings.{Character, units_of}
+use Rattle.at_lex.specs.declared.tokens.Bracket.{Bracket}
+use Rattle.at_lex.specs.declared.tokens.Bracket.TheVariants.{Brace, Square}
+use Rattle.at_nest.specs.declared.algebra.Member.{Member}
+use Rattle.at_nest.specs.declared.levels.ArrayState.{ArrayState}
+use Rattle.at_nest.specs.declared.levels.ArrayState.TheVariants as array
+use Rattle.at_nest.specs.declared.levels.ObjectState.{ObjectState}
+use Rattle.at_nest.specs.declared.levels.ObjectState.TheVariants as object
+use Rattle.at_nest.specs.declared.levels.MemberName.{MemberName}
+use Rattle.at_nest.specs.Tree.{Tree, text, array as array_tree, object as object_tree, Trees, Members}
+use Rattle.at_nest.specs.Folds.{AreFolds, AreMemberFolds}
+use Rattle.at_nest.specs.Forms.{Mark, comma, colon, quoted, entry}
+use Rattle.at_nest.specs.Walks.{mark_kind, comma_kind, colon_kind, text_kind, value_kind}
+use Rattle.at_nest.specs.Levels.{Mode, at_items, at_value, at_after, at_members, at_name, at_colon, at_member, at_further, Level, values_in, pairs_in, built, move, closes_at, first_mode}
+use Rattle.at_nest.specs.Shown.{Held, array_level, object_level, AreOwn, comma_next, colon_next, value_next, name_next, takes_name, closes_with, opened_as}
+use Rattle.at_nest.specs.Holding.{trees, tree_members, free, Kept, Each, EachMember, IsNamed, IsHeld, pending_in}
+
+-- ---- a level that is closed
+
+each_folds : {X : Type 0} (IsOwn : X → Type 0) (IsFold : X → Tree → Type 0) (xs : List X) (ts : List Tree) → Each (Kept IsOwn IsFold) xs ts → AreFolds IsFold xs (trees ts)
+each_folds IsOwn IsFold [] [] h = tt
+each_folds IsOwn IsFold (x ∷ xs) (t ∷ ts) h = (h.0.1, each_folds IsOwn IsFold xs ts h.1)
+each_folds IsOwn IsFold [] (t ∷ ts) h = absurd h
+each_folds IsOwn IsFold (x ∷ xs) [] h = absurd h
+
+each_member_folds : {X : Type 0} (IsOwn : X → Type 0) (IsFold : X → Tree → Type 0) (xs : List (Member X)) (ps : List (List Character × ℕ × Tree)) → EachMember (Kept IsOwn IsFold) xs ps → AreMemberFolds IsFold xs (tree_members ps)
+each_member_folds IsOwn IsFold [] [] h = tt
+each_member_folds IsOwn IsFold (x ∷ xs) (p ∷ ps) h = (h.0, h.1, h.2.1, each_member_folds IsOwn IsFold xs ps h.3)
+each_member_folds IsOwn IsFold [] (p ∷ ps) h = absurd h
+each_member_folds IsOwn IsFold (x ∷ xs) [] h = absurd h
+
+each_own : {X : Type 0} (IsOwn : X → Type 0) (IsFold : X → Tree → Type 0) (xs : List X) (ts : List Tree) → Each (Kept IsOwn IsFold) xs ts → All IsOwn xs
+each_own IsOwn IsFold [] [] h = All-nil IsOwn
+each_own IsOwn IsFold (x ∷ xs) (t ∷ ts) h = All-cons IsOwn x xs h.0.0 (each_own IsOwn IsFold xs ts h.1)
+each_own IsOwn IsFold [] (t ∷ ts) h = absurd h
+each_own IsOwn IsFold (x ∷ xs) [] h = absurd h
+
+each_member_own : {X : Type 0} (IsOwn : X → Type 0) (IsFold : X → Tree → Type 0) (xs : List (Member X)) (ps : List (List Character × ℕ × Tree)) → EachMember (Kept IsOwn IsFold) xs ps → All (λ m. IsOwn m.value) xs
+each_member_own IsOwn IsFold [] [] h = All-nil (λ m. IsOwn m.value)
+each_member_own IsOwn IsFold (x ∷ xs) (p ∷ ps) h = All-cons (λ m. IsOwn m.value) x xs h.2.0 (each_member_own IsOwn IsFold xs ps h.3)
+each_member_own IsOwn IsFold [] (p ∷ ps) h = absurd h
+each_member_own IsOwn IsFold (x ∷ xs) [] h = absurd h
+
+pub held_own : {X : Type 0} (IsOwn : X → Type 0) (IsFold : X → Tree → Type 0) (h : Held X) (l : Level Tree) → IsHeld (Kept IsOwn IsFold) h l → AreOwn IsOwn h
+held_own IsOwn IsFold (array_level i s xs) l k = each_own IsOwn IsFold xs (values_in free l.inside) k.3
+held_own IsOwn IsFold (object_level i s ms) l k = each_member_own IsOwn IsFold ms (pairs_in free None l.inside) k.3
+
+built_square : (b : Bracket) (i j : ℕ) (xs : List (Mark Tree)) → b ≡ Square → j ≡ i → array_tree i (trees (values_in free xs)) ≡ built free b j xs
+built_square b i j xs e f = ap (λ n. array_tree n (trees (values_in free xs))) (sym f) ∙ ap (λ c. built free c j xs) (sym e)
+
+built_brace : (b : Bracket) (i j : ℕ) (xs : List (Mark Tree)) → b ≡ Brace → j ≡ i → object_tree i (tree_members (pairs_in free None xs)) ≡ built free b j xs
+built_brace b i j xs e f = ap (λ n. object_tree n (tree_members (pairs_in free None xs))) (sym f) ∙ ap (λ c. built free c j xs) (sym e)
+
+pub array_built : {X : Type 0} (IsOwn : X → Type 0) (IsFold : X → Tree → Type 0) (i : ℕ) (s : ArrayState) (xs : List X) (x : X) (l : Level Tree) → ((ts : Trees) → AreFolds IsFold xs ts → IsFold x (array_tree i ts))
+    → IsHeld (Kept IsOwn IsFold) (array_level i s xs) l → IsFold x (built free l.bracket l.from l.inside)
+array_built IsOwn IsFold i s xs x l f h = subst (IsFold x) (built_square l.bracket i l.from l.inside h.0 h.1) (f (trees (values_in free l.inside)) (each_folds IsOwn IsFold xs (values_in free l.inside) h.3))
+
+pub object_built : {X : Type 0} (IsOwn : X → Type 0) (IsFold : X → Tree → Type 0) (i : ℕ) (s : ObjectState) (ms : List (Member X)) (x : X) (l : Level Tree) → ((ts : Members) → AreMemberFolds IsFold ms ts → IsFold x (object_tree i ts))
+    → IsHeld (Kept IsOwn IsFold) (object_level i s ms) l → IsFold x (built free l.bracket l.from l.inside)
+object_built IsOwn IsFold i s ms x l f h =
+    subst (IsFold x) (built_brace l.bracket i l.from l.inside h.0 h.1) (f (tree_members (pairs_in free None l.inside)) (each_member_folds IsOwn IsFold ms (pairs_in free None l.inside) h.3))
+
+-- ---- one mark more
+
+values_append : (xs ys : List (Mark Tree)) → values_in free (xs ++ ys) ≡ values_in free xs ++ values_in free ys
+values_append [] ys = refl
+values_append (comma i ∷ xs) ys = values_append xs ys
+values_append (colon i ∷ xs) ys = values_append xs ys
+values_append (quoted i cs ∷ xs) ys = ap (λ z. text i cs ∷ z) (values_append xs ys)
+values_append (entry i x ∷ xs) ys = ap (λ z. x ∷ z) (values_append xs ys)
+
+pairs_append : (o : Option (List Character × ℕ)) (xs ys : List (Mark Tree)) → pairs_in free o (xs ++ ys) ≡ pairs_in free o xs ++ pairs_in free (pending_in o xs) ys
+pairs_append o [] ys = refl
+pairs_append o (comma i ∷ xs) ys = pairs_append o xs ys
+pairs_append o (colon i ∷ xs) ys = pairs_append o xs ys
+pairs_append None (quoted i cs ∷ xs) ys = pairs_append (Some (cs, i)) xs ys
+pairs_append (Some p) (quoted i cs ∷ xs) ys = ap (λ z. (p.0, p.1, text i cs) ∷ z) (pairs_append None xs ys)
+pairs_append None (entry i x ∷ xs) ys = pairs_append None xs ys
+pairs_append (Some p) (entry i x ∷ xs) ys = ap (λ z. (p.0, p.1, x) ∷ z) (pairs_append None xs ys)
+
+pending_append : (o : Option (List Character × ℕ)) (xs ys : List (Mark Tree)) → pending_in o (xs ++ ys) ≡ pending_in (pending_in o xs) ys
+pending_append o [] ys = refl
+pending_append o (comma i ∷ xs) ys = pending_append o xs ys
+pending_append o (colon i ∷ xs) ys = pending_append o xs ys
+pending_append None (quoted i cs ∷ xs) ys = pending_append (Some (cs, i)) xs ys
+pending_append (Some p) (quoted i cs ∷ xs) ys = pending_append None xs ys
+pending_append None (entry i x ∷ xs) ys = pending_append None xs ys
+pending_append (Some p) (entry i x ∷ xs) ys = pending_append None xs ys
+
+abbrev pub with_one : Level Tree → Mark Tree → Mode → Level Tree
+with_one l x n = record { bracket = l.bracket; from = l.from; inside = l.inside ++ (x ∷ []); mode = n }
+
+module _ {X : Type 0} (IsKept : X → Tree → Type 0) where
+  each_append : (xs : List X) (ts : List Tree) (x : X) (t : Tree) → Each IsKept xs ts → IsKept x t → Each IsKept (xs ++ x ∷ []) (ts ++ t ∷ [])
+  each_append [] [] x t h k = (k, tt)
+  each_append (y ∷ xs) (u ∷ ts) x t h k = (h.0, each_append xs ts x t h.1 k)
+  each_append [] (u ∷ ts) x t h k = absurd h
+  each_append (y ∷ xs) [] x t h k = absurd h
+
+  each_member_append : (xs : List (Member X)) (ps : List (List Character × ℕ × Tree)) (x : Member X) (p : List Character × ℕ × Tree) → EachMember IsKept xs ps → x.name ≡ units_of p.0 → x.name_at ≡ p.1 → IsKept x.value p.2
+      → EachMember IsKept (xs ++ x ∷ []) (ps ++ p ∷ [])
+  each_member_append [] [] x p h e f k = (e, f, k, tt)
+  each_member_append (y ∷ xs) (q ∷ ps) x p h e f k = (h.0, h.1, h.2, each_member_append xs ps x p h.3 e f k)
+  each_member_append [] (q ∷ ps) x p h e f k = absurd h
+  each_member_append (y ∷ xs) [] x p h e f k = absurd h
+
+  -- what a mark makes of what is kept, and of the level: both go on, or neither
+  abbrev pub IsMoved : Option (Held X) → Option Mode → Level Tree → Mark Tree → Type 0
+  IsMoved (Some h) (Some n) l x = IsHeld IsKept h (with_one l x n)
+  IsMoved None None l x = ⊤
+  IsMoved _ _ l x = ⊥
+
+  moved_by : (o : Option (Held X)) (l : Level Tree) (x : Mark Tree) (md : Mode) → l.mode ≡ md → IsMoved o (move md (mark_kind x)) l x → IsMoved o (move l.mode (mark_kind x)) l x
+  moved_by o l x md e h = subst (λ n. IsMoved o (move n (mark_kind x)) l x) (sym e) h
+
+  -- an array's values and an object's members and name, behind a mark that is no value
+  same_values : (xs : List X) (l : Level Tree) (i : ℕ) → Each IsKept xs (values_in free l.inside) → Each IsKept xs (values_in free (l.inside ++ comma i ∷ []))
+  same_values xs l i h = subst (Each IsKept xs) (sym (values_append l.inside (comma i ∷ []) ∙ append-nil (values_in free l.inside))) h
+
+  same_members : (ms : List (Member X)) (l : Level Tree) (x : Mark Tree) → ((o : Option (List Character × ℕ)) → pairs_in free o (x ∷ []) ≡ []) → EachMember IsKept ms (pairs_in free None l.inside) → EachMember IsKept ms (pairs_in free None (l.inside ++ x ∷ []))
+  same_members ms l x e h = subst (EachMember IsKept ms) (sym (pairs_append None l.inside (x ∷ []) ∙ (ap (λ z. pairs_in free None l.inside ++ z) (e (pending_in None l.inside)) ∙ append-nil (pairs_in free None l.inside)))) h
+
+  same_name : (s s2 : ObjectState) (l : Level Tree) (x : Mark Tree) → ((o : Option (List Character × ℕ)) → pending_in o (x ∷ []) ≡ o) → IsNamed IsKept s2 (pending_in None l.inside) → IsNamed IsKept s2 (pending_in None (l.inside ++ x ∷ []))
+  same_name s s2 l x e h = subst (IsNamed IsKept s2) (sym (pending_append None l.inside (x ∷ []) ∙ e (pending_in None l.inside))) h
+
+  none_of : (s : ObjectState) (o : Option (List Character × ℕ)) → IsNamed IsKept object.Value o → o ≡ None
+  none_of s None h = refl
+  none_of s (Some p) h = absurd h
+
+  pub comma_moves : (h : Held X) (l : Level Tree) (i : ℕ) → IsHeld IsKept h l → IsMoved (comma_next h) (move l.mode comma_kind) l (comma i)
+  comma_moves (array_level j array.Empty xs) l i k = moved_by None l (comma i) at_items k.2 tt
+  comma_moves (array_level j array.Comma xs) l i k = moved_by None l (comma i) at_value k.2 tt
+  comma_moves (array_level j array.Value xs) l i k = moved_by (Some (array_level j array.Comma xs)) l (comma i) at_after k.2 (k.0, k.1, refl, same_values xs l i k.3)
+  comma_moves (object_level j object.Empty ms) l i k = moved_by None l (comma i) at_members k.2 tt
+  comma_moves (object_level j object.Comma ms) l i k = moved_by None l (comma i) at_name k.2 tt
+  comma_moves (object_level j (object.Named n) ms) l i k = moved_by None l (comma i) at_colon k.2 tt
+  comma_moves (object_level j (object.Colon n) ms) l i k = moved_by None l (comma i) at_member k.2 tt
+  comma_moves (object_level j object.Value ms) l i k = moved_by (Some (object_level j object.Comma ms)) l (comma i) at_further k.2
+      (k.0, k.1, refl, same_members ms l (comma i) (λ o. refl) k.3, same_name object.Value object.Comma l (comma i) (λ o. refl) (as_comma (pending_in None l.inside) k.4))
+    where
+      as_comma : (o : Option (List Character × ℕ)) → IsNamed IsKept object.Value o → IsNamed IsKept object.Comma o
+      as_comma None h = tt
+      as_comma (Some p) h = absurd h
+
+  pub colon_moves : (h : Held X) (l : Level Tree) (i : ℕ) → IsHeld IsKept h l → IsMoved (colon_next h) (move l.mode colon_kind) l (colon i)
+  colon_moves (array_level j array.Empty xs) l i k = moved_by None l (colon i) at_items k.2 tt
+  colon_moves (array_level j array.Comma xs) l i k = moved_by None l (colon i) at_value k.2 tt
+  colon_moves (array_level j array.Value xs) l i k = moved_by None l (colon i) at_after k.2 tt
+  colon_moves (object_level j object.Empty ms) l i k = moved_by None l (colon i) at_members k.2 tt
+  colon_moves (object_level j object.Comma ms) l i k = moved_by None l (colon i) at_name k.2 tt
+  colon_moves (object_level j (object.Named n) ms) l i k = moved_by (Some (object_level j (object.Colon n) ms)) l (colon i) at_colon k.2
+      (k.0, k.1, refl, same_members ms l (colon i) (λ o. refl) k.3, same_name (object.Named n) (object.Colon n) l (colon i) (λ o. refl) (as_colon (pending_in None l.inside) k.4))
+    where
+      as_colon : (o : Option (List Character × ℕ)) → IsNamed IsKept (object.Named n) o → IsNamed IsKept (object.Colon n) o
+      as_colon None h = absurd h
+      as_colon (Some p) h = h
+  colon_moves (object_level j (object.Colon n) ms) l i k = moved_by None l (colon i) at_member k.2 tt
+  colon_moves (object_level j object.Value ms) l i k = moved_by None l (colon i) at_further k.2 tt
+
+  -- a value, which is a mark of one value
+  more_values : (xs : List X) (l : Level Tree) (x : X) (m : Mark Tree) (t : Tree) → values_in free (m ∷ []) ≡ t ∷ [] → Each IsKept xs (values_in free l.inside) → IsKept x t → Each IsKept (xs ++ x ∷ []) (values_in free (l.inside ++ m ∷ []))
+  more_values xs l x m t e h k = subst (Each IsKept (xs ++ x ∷ [])) (sym (values_append l.inside (m ∷ []) ∙ ap (λ z. values_in free l.inside ++ z) e)) (each_append xs (values_in free l.inside) x t h k)
+
+  -- the mark is a value, of the tree
+  pub record IsValueMark (m : Mark Tree) (t : Tree) : Type 0 where
+    pub alone : values_in free (m ∷ []) ≡ t ∷ []
+    pub named : (p : List Character × ℕ) → pairs_in free (Some p) (m ∷ []) ≡ (p.0, p.1, t) ∷ []
+    pub ends : (p : List Character × ℕ) → pending_in (Some p) (m ∷ []) ≡ None
+
+  pub entry_value : (i : ℕ) (t : Tree) → IsValueMark (entry i t) t
+  entry_value i t = record { alone = refl; named = λ p. refl; ends = λ p. refl }
+
+  pub text_value : (i : ℕ) (cs : List Character) → IsValueMark (quoted i cs) (text i cs)
+  text_value i cs = record { alone = refl; named = λ p. refl; ends = λ p. refl }
+
+  array_value : (j : ℕ) (s : ArrayState) (xs : List X) (l : Level Tree) (x : X) (m : Mark Tree) (t : Tree) → IsHeld IsKept (array_level j s xs) l → IsValueMark m t → IsKept x t → IsHeld IsKept (array_level j array.Value (xs ++ x ∷ [])) (with_one l m at_after)
+  array_value j s xs l x m t k v p = (k.0, k.1, refl, more_values xs l x m t v.alone k.3 p)
+
+  object_value : (j : ℕ) (n : MemberName) (ms : List (Member X)) (l : Level Tree) (x : X) (m : Mark Tree) (t : Tree) → IsHeld IsKept (object_level j (object.Colon n) ms) l → IsValueMark m t → IsKept x t
+      → IsHeld IsKept (object_level j object.Value (ms ++ record { name = n.units; name_at = n.at; value = x } ∷ [])) (with_one l m at_further)
+  object_value j n ms l x m t k v p = let b = by_name (pending_in None l.inside) refl k.4 in (k.0, k.1, refl, b.0, b.1)
+    where
+      by_name : (o : Option (List Character × ℕ)) → pending_in None l.inside ≡ o → IsNamed IsKept (object.Colon n) o
+          → EachMember IsKept (ms ++ record { name = n.units; name_at = n.at; value = x } ∷ []) (pairs_in free None (l.inside ++ m ∷ [])) × IsNamed IsKept object.Value (pending_in None (l.inside ++ m ∷ []))
+      by_name None e h = absurd h
+      by_name (Some q) e h = (
+        subst (EachMember IsKept (ms ++ record { name = n.units; name_at = n.at; value = x } ∷ [])) (sym (pairs_append None l.inside (m ∷ []) ∙ ap (λ z. pairs_in free None l.inside ++ z) (ap (λ o. pairs_in free o (m ∷ [])) e ∙ v.named q)))
+            (each_member_append ms (pairs_in free None l.inside) (record { name = n.units; name_at = n.at; value = x }) (q.0, q.1, t) k.3 h.0 h.1 p),
+        subst (IsNamed IsKept object.Value) (sym (pending_append None l.inside (m ∷ []) ∙ (ap (λ o. pending_in o (m ∷ [])) e ∙ v.ends q))) tt,
+      )
+
+  pub value_moves : (h : Held X) (l : Level Tree) (i : ℕ) (x : X) (t : Tree) → IsHeld IsKept h l → IsKept x t → IsMoved (value_next h x) (move l.mode value_kind) l (entry i t)
+  value_moves (array_level j array.Empty xs) l i x t k p = moved_by (Some (array_level j array.Value (xs ++ x ∷ []))) l (entry i t) at_items k.2 (array_value j array.Empty xs l x (entry i t) t k (entry_value i t) p)
+  value_moves (array_level j array.Comma xs) l i x t k p = moved_by (Some (array_level j array.Value (xs ++ x ∷ []))) l (entry i t) at_value k.2 (array_value j array.Comma xs l x (entry i t) t k (entry_value i t) p)
+  value_moves (array_level j array.Value xs) l i x t k p = moved_by None l (entry i t) at_after k.2 tt
+  value_moves (object_level j object.Empty ms) l i x t k p = moved_by None l (entry i t) at_members k.2 tt
+  value_moves (object_level j object.Comma ms) l i x t k p = moved_by None l (entry i t) at_name k.2 tt
+  value_moves (object_level j (object.Named n) ms) l i x t k p = moved_by None l (entry i t) at_colon k.2 tt
+  value_moves (object_level j (object.Colon n) ms) l i x t k p =
+      moved_by (Some (object_level j object.Value (ms ++ record { name = n.units; name_at = n.at; value = x } ∷ []))) l (entry i t) at_member k.2 (object_value j n ms l x (entry i t) t k (entry_value i t) p)
+  value_moves (object_level j object.Value ms) l i x t k p = moved_by None l (entry i t) at_further k.2 tt
+
+  -- a string that is no name
+  pub text_moves : (h : Held X) (l : Level Tree) (i : ℕ) (x : X) (cs : List Character) → takes_name h ≡ false → IsHeld IsKept h l → IsKept x (text i cs) → IsMoved (value_next h x) (move l.mode text_kind) l (quoted i cs)
+  text_moves (array_level j array.Empty xs) l i x cs n k p = moved_by (Some (array_level j array.Value (xs ++ x ∷ []))) l (quoted i cs) at_items k.2 (array_value j array.Empty xs l x (quoted i cs) (text i cs) k (text_value i cs) p)
+  text_moves (array_level j array.Comma xs) l i x cs n k p = moved_by (Some (array_level j array.Value (xs ++ x ∷ []))) l (quoted i cs) at_value k.2 (array_value j array.Comma xs l x (quoted i cs) (text i cs) k (text_value i cs) p)
+  text_moves (array_level j array.Value xs) l i x cs n k p = moved_by None l (quoted i cs) at_after k.2 tt
+  text_moves (object_level j object.Empty ms) l i x cs n k p = absurd (true≢false n)
+  text_moves (object_level j object.Comma ms) l i x cs n k p = absurd (true≢false n)
+  text_moves (object_level j (object.Named q) ms) l i x cs n k p = moved_by None l (quoted i cs) at_colon k.2 tt
+  text_moves (object_level j (object.Colon q) ms) l i x cs n k p =
+      moved_by (Some (object_level j object.Value (ms ++ record { name = q.units; name_at = q.at; value = x } ∷ []))) l (quoted i cs) at_member k.2 (object_value j q ms l x (quoted i cs) (text i cs) k (text_value i cs) p)
+  text_moves (object_level j object.Value ms) l i x cs n k p = moved_by None l (quoted i cs) at_further k.2 tt
+
+  -- a name
+  named : (j : ℕ) (s : ObjectState) (ms : List (Member X)) (l : Level Tree) (i : ℕ) (q : MemberName) (cs : List Character) → IsNamed IsKept object.Value (pending_in None l.inside) → IsHeld IsKept (object_level j s ms) l → q.units ≡ units_of cs → q.at ≡ i
+      → IsHeld IsKept (object_level j (object.Named q) ms) (with_one l (quoted i cs) at_colon)
+  named j s ms l i q cs free_of k e f = let o : pending_in None l.inside ≡ None = none_of s (pending_in None l.inside) free_of in (
+    k.0,
+    k.1,
+    refl,
+    subst (EachMember IsKept ms) (sym (pairs_append None l.inside (quoted i cs ∷ []) ∙ (ap (λ z. pairs_in free None l.inside ++ pairs_in {X = Tree} free z (quoted i cs ∷ [])) o ∙ append-nil (pairs_in free None l.inside)))) k.3,
+    subst (IsNamed IsKept (object.Named q)) (sym (pending_append None l.inside (quoted i cs ∷ []) ∙ ap (λ z. pending_in {X = Tree} z (quoted i cs ∷ [])) o)) (e, f),
+  )
+
+  empty_value : (o : Option (List Character × ℕ)) → IsNamed IsKept object.Empty o → IsNamed IsKept object.Value o
+  empty_value None h = tt
+  empty_value (Some p) h = absurd h
+
+  comma_value : (o : Option (List Character × ℕ)) → IsNamed IsKept object.Comma o → IsNamed IsKept object.Value o
+  comma_value None h = tt
+  comma_value (Some p) h = absurd h
+
+  pub name_moves : (h : Held X) (l : Level Tree) (i : ℕ) (q : MemberName) (cs : List Character) → takes_name h ≡ true → IsHeld IsKept h l → q.units ≡ units_of cs → q.at ≡ i → IsMoved (name_next h q) (move l.mode text_kind) l (quoted i cs)
+  name_moves (array_level j s xs) l i q cs n k e f = absurd (true≢false (sym n))
+  name_moves (object_level j object.Empty ms) l i q cs n k e f = moved_by (Some (object_level j (object.Named q) ms)) l (quoted i cs) at_members k.2 (named j object.Empty ms l i q cs (empty_value (pending_in None l.inside) k.4) k e f)
+  name_moves (object_level j object.Comma ms) l i q cs n k e f = moved_by (Some (object_level j (object.Named q) ms)) l (quoted i cs) at_name k.2 (named j object.Comma ms l i q cs (comma_value (pending_in None l.inside) k.4) k e f)
+  name_moves (object_level j (object.Named r) ms) l i q cs n k e f = absurd (true≢false (sym n))
+  name_moves (object_level j (object.Colon r) ms) l i q cs n k e f = absurd (true≢false (sym n))
+  name_moves (object_level j object.Value ms) l i q cs n k e f = absurd (true≢false (sym n))
+
+  -- the closing bracket
+  pub closes_same : (h : Held X) (l : Level Tree) (b : Bracket) → IsHeld IsKept h l → closes_with h b ≡ closes_at l.mode b
+  closes_same (array_level j array.Empty xs) l Square k = ap (λ n. closes_at n Square) (sym k.2)
+  closes_same (array_level j array.Comma xs) l Square k = ap (λ n. closes_at n Square) (sym k.2)
+  closes_same (array_level j array.Value xs) l Square k = ap (λ n. closes_at n Square) (sym k.2)
+  closes_same (array_level j array.Empty xs) l Brace k = ap (λ n. closes_at n Brace) (sym k.2)
+  closes_same (array_level j array.Comma xs) l Brace k = ap (λ n. closes_at n Brace) (sym k.2)
+  closes_same (array_level j array.Value xs) l Brace k = ap (λ n. closes_at n Brace) (sym k.2)
+  closes_same (object_level j object.Empty ms) l Square k = ap (λ n. closes_at n Square) (sym k.2)
+  closes_same (object_level j object.Comma ms) l Square k = ap (λ n. closes_at n Square) (sym k.2)
+  closes_same (object_level j (object.Named n) ms) l Square k = ap (λ n. closes_at n Square) (sym k.2)
+  closes_same (object_level j (object.Colon n) ms) l Square k = ap (λ n. closes_at n Square) (sym k.2)
+  closes_same (object_level j object.Value ms) l Square k = ap (λ n. closes_at n Square) (sym k.2)
+  closes_same (object_level j object.Empty ms) l Brace k = ap (λ n. closes_at n Brace) (sym k.2)
+  closes_same (object_level j object.Comma ms) l Brace k = ap (λ n. closes_at n Brace) (sym k.2)
+  closes_same (object_level j (object.Named n) ms) l Brace k = ap (λ n. closes_at n Brace) (sym k.2)
+  closes_same (object_level j (object.Colon n) ms) l Brace k = ap (λ n. closes_at n Brace) (sym k.2)
+  closes_same (object_level j object.Value ms) l Brace k = ap (λ n. closes_at n Brace) (sym k.2)
+
+  pub opened_is : (b : Bracket) (i : ℕ) → IsHeld IsKept (opened_as b i) (record { bracket = b; from = i; inside = []; mode = first_mode b })
+  opened_is Square i = (refl, refl, refl, tt)
+  opened_is Brace i = (refl, refl, refl, tt, tt)

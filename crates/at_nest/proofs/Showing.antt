@@ -1,0 +1,140 @@
+-- What an item does to all that is kept of a span, and to the form that it stands for.
+use Rattle.std.proofs.Common.{◌≡◌, ℕ, ◌+◌, ◌-◌, ◌≤◌, true, false, Option, Some, None, List, [], ◌∷◌, ◌++◌, refl, sym, ◌∙◌, ap, subst, arith, append_assoc, append-nil, length, length-append, take, drop, MatchOption, option_to_list}
+use Rattle.std.proofs.Math.Seq.{take-append_seam, drop-append_seam}
+use Rattle.at_text.specs.declared.texts.Span.{Span}
+use Rattle.at_lex.specs.Strings.{Character, string_text}
+use Rattle.at_lex.specs.declared.tokens.Bracket.{Bracket}
+use Rattle.at_nest.specs.declared.levels.Level.{Level as CodeLevel}
+use Rattle.at_nest.specs.declared.pieces.Piece.{Piece as CodePiece}
+use Rattle.at_nest.specs.declared.pieces.Piece.TheVariants.{Closes, Comma, Colon, Text, Value}
+use Rattle.at_nest.specs.declared.pieces.Halt.{Halt as CodeHalt}
+use Rattle.at_nest.specs.Tree.{Tree, text}
+use Rattle.at_nest.specs.Forms.{Mark, Piece, opens, closes, mark, comma, colon, quoted, entry}
+use Rattle.at_nest.specs.Walks.{mark_kind, mark_at}
+use Rattle.at_nest.specs.Levels.{Mode, Level, Form, built, move, with_mark, push_mark, push_close, close_level, push}
+use Rattle.at_nest.specs.Shown.{Held, Shown, held_of, open_levels, show_as, put_back, kept_outside, comma_added, colon_added, value_added, comma_next, colon_next, value_next, closes_with, from_of, opened_as, stop_at}
+use Rattle.at_nest.specs.Holding.{free, IsHeld, EachHeld, EachPiece, IsHeldPiece, IsShown, IsPushedAs, IsTextAt, IsPartOf, halt_of}
+use Rattle.at_nest.specs.Shown.{array_level, object_level}
+use Rattle.at_nest.proofs.Held.{IsMoved, comma_moves, colon_moves, value_moves, closes_same, opened_is}
+
+pub open_last : {X : Type 0} (ls : List (CodeLevel X)) (l : CodeLevel X) → open_levels (ls ++ l ∷ []) ≡ held_of l ∷ open_levels ls
+open_last [] l = refl
+open_last (k ∷ ls) l = ap (λ z. z ++ held_of k ∷ []) (open_last ls l)
+
+pub innermost_is : {X : Type 0} (o : Option (CodeLevel X)) (old new : List (CodeLevel X)) (m n : ℕ) (Q : CodeLevel X → Type 0) → length old ≡ m → length new ≡ n → old ≡ new ++ option_to_list o → MatchOption o ((m ≡ 0) × (n ≡ 0)) Q
+    → MatchOption o ((open_levels old ≡ []) × (open_levels new ≡ [])) (λ l. open_levels old ≡ held_of l ∷ open_levels new)
+innermost_is None old new m n Q a b e h = (none old (a ∙ h.0), none new (b ∙ h.1))
+  where
+    none : {X : Type 0} (ls : List (CodeLevel X)) → length ls ≡ 0 → open_levels ls ≡ []
+    none [] e = refl
+    none (l ∷ ls) e = absurd (omega (arith, e))
+innermost_is (Some l) old new m n Q a b e h = ap open_levels e ∙ open_last new l
+
+-- open levels of a list of which a second one is put behind
+pub open_append : {X : Type 0} (xs ys : List (CodeLevel X)) → open_levels (xs ++ ys) ≡ open_levels ys ++ open_levels xs
+open_append [] ys = sym (append-nil (open_levels ys))
+open_append (x ∷ xs) ys = ap (λ z. z ++ held_of x ∷ []) (open_append xs ys) ∙ append_assoc (open_levels ys) (open_levels xs) (held_of x ∷ [])
+
+module _ {X : Type 0} (IsKept : X → Tree → Type 0) (base : ℕ) (w : List ℕ) where
+  pub piece_append : (cs : List (CodePiece X)) (ps : List (Piece Tree)) (c : CodePiece X) (p : Piece Tree) → EachPiece IsKept base w cs ps → IsHeldPiece IsKept base w c p → EachPiece IsKept base w (cs ++ c ∷ []) (ps ++ p ∷ [])
+  piece_append [] [] c p h k = (k, tt)
+  piece_append (d ∷ cs) (q ∷ ps) c p h k = (h.0, piece_append cs ps c p h.1 k)
+  piece_append [] (q ∷ ps) c p h k = absurd h
+  piece_append (d ∷ cs) [] c p h k = absurd h
+
+  -- a mark, put into the innermost level
+  pub put_pushes : (outer : List (CodePiece X)) (fo : List (Piece Tree)) (hs : List (Held X)) (ls : List (Level Tree)) (h : Held X) (l : Level Tree) (x : Mark Tree) (i : ℕ) (o : Option (Held X)) (n : Option Mode) → EachPiece IsKept base w outer fo
+      → EachHeld IsKept hs ls → IsHeld IsKept h l → i ≡ mark_at x → IsMoved IsKept o n l x → IsPushedAs IsKept base w (put_back outer hs i h o).0 (put_back outer hs i h o).1 (with_mark fo ls l x n)
+  put_pushes outer fo hs ls h l x i (Some k) (Some n) ho hl hh e m = (ho, (m, hl))
+  put_pushes outer fo hs ls h l x i None None ho hl hh e m = ((ho, (hh, hl)), ap (λ j. halt_of (stop_at j)) e)
+  put_pushes outer fo hs ls h l x i (Some k) None ho hl hh e m = absurd m
+  put_pushes outer fo hs ls h l x i None (Some n) ho hl hh e m = absurd m
+
+  pub comma_pushes : (outer : List (CodePiece X)) (hs : List (Held X)) (fo : List (Piece Tree)) (ls : List (Level Tree)) (i : ℕ) → EachPiece IsKept base w outer fo → EachHeld IsKept hs ls
+      → IsPushedAs IsKept base w (comma_added i outer hs).0 (comma_added i outer hs).1 (push_mark fo ls (comma i))
+  comma_pushes outer [] fo [] i ho hl = (piece_append outer fo (Comma i) (mark (comma i)) ho refl, tt)
+  comma_pushes outer (h ∷ hs) fo (l ∷ ls) i ho hl = put_pushes outer fo hs ls h l (comma i) i (comma_next h) (move l.mode (mark_kind {X = Tree} (comma i))) ho hl.1 hl.0 refl (comma_moves IsKept h l i hl.0)
+  comma_pushes outer [] fo (l ∷ ls) i ho hl = absurd hl
+  comma_pushes outer (h ∷ hs) fo [] i ho hl = absurd hl
+
+  pub colon_pushes : (outer : List (CodePiece X)) (hs : List (Held X)) (fo : List (Piece Tree)) (ls : List (Level Tree)) (i : ℕ) → EachPiece IsKept base w outer fo → EachHeld IsKept hs ls
+      → IsPushedAs IsKept base w (colon_added i outer hs).0 (colon_added i outer hs).1 (push_mark fo ls (colon i))
+  colon_pushes outer [] fo [] i ho hl = (piece_append outer fo (Colon i) (mark (colon i)) ho refl, tt)
+  colon_pushes outer (h ∷ hs) fo (l ∷ ls) i ho hl = put_pushes outer fo hs ls h l (colon i) i (colon_next h) (move l.mode (mark_kind {X = Tree} (colon i))) ho hl.1 hl.0 refl (colon_moves IsKept h l i hl.0)
+  colon_pushes outer [] fo (l ∷ ls) i ho hl = absurd hl
+  colon_pushes outer (h ∷ hs) fo [] i ho hl = absurd hl
+
+  pub value_pushes : (outer : List (CodePiece X)) (hs : List (Held X)) (fo : List (Piece Tree)) (ls : List (Level Tree)) (i : ℕ) (x : X) (t : Tree) → EachPiece IsKept base w outer fo → EachHeld IsKept hs ls → IsKept x t
+      → IsPushedAs IsKept base w (value_added i x outer hs).0 (value_added i x outer hs).1 (push_mark fo ls (entry i t))
+  value_pushes outer [] fo [] i x t ho hl k = (piece_append outer fo (Value i x) (mark (entry i t)) ho (refl, k), tt)
+  value_pushes outer (h ∷ hs) fo (l ∷ ls) i x t ho hl k = put_pushes outer fo hs ls h l (entry i t) i (value_next h x) (move l.mode (mark_kind (entry i t))) ho hl.1 hl.0 refl (value_moves IsKept h l i x t hl.0 k)
+  value_pushes outer [] fo (l ∷ ls) i x t ho hl k = absurd hl
+  value_pushes outer (h ∷ hs) fo [] i x t ho hl k = absurd hl
+
+  -- a string before the first open level
+  pub text_outside : (old : Shown X) (outer : List (CodePiece X)) (new : Shown X) (r : Option CodeHalt) (span : Span) (cs : List Character) (x : X) (f : Form Tree) → old.levels ≡ [] → old.outer ≡ outer → (new, r) ≡ kept_outside outer (Text span x) → IsShown IsKept base w old f → IsTextAt base w span cs
+      → IsKept x (text span.from cs) → IsPushedAs IsKept base w new r (push free f (mark (quoted span.from cs)))
+  text_outside old outer new r span cs x f e e2 d h t k = subst (λ a. IsPushedAs IsKept base w a.0 a.1 (push free f (mark (quoted span.from cs)))) (sym d) (here f.levels (subst (λ z. EachHeld IsKept z f.levels) e h.1))
+    where
+      here : (ls : List (Level Tree)) → EachHeld IsKept [] ls → IsPushedAs IsKept base w (show_as (outer ++ Text span x ∷ []) []) None (push_mark f.outer ls (quoted span.from cs))
+      here [] u = (piece_append outer f.outer (Text span x) (mark (quoted span.from cs)) (subst (λ z. EachPiece IsKept base w z f.outer) e2 h.0) (refl, t, k), tt)
+      here (l ∷ ls) u = absurd u
+
+  -- a string put into the innermost level
+  pub text_put : (old : Shown X) (outer : List (CodePiece X)) (hs : List (Held X)) (new : Shown X) (r : Option CodeHalt) (h : Held X) (i : ℕ) (o : Option (Held X)) (cs : List Character) (f : Form Tree) → old.levels ≡ h ∷ hs → old.outer ≡ outer → (new, r) ≡ put_back outer hs i h o
+      → IsShown IsKept base w old f → ((l : Level Tree) → IsHeld IsKept h l → IsMoved IsKept o (move l.mode (mark_kind {X = Tree} (quoted i cs))) l (quoted i cs)) → IsPushedAs IsKept base w new r (push free f (mark (quoted i cs)))
+  text_put old outer hs new r h i o cs f e e2 d k moves = subst (λ a. IsPushedAs IsKept base w a.0 a.1 (push free f (mark (quoted i cs)))) (sym d) (here f.levels (subst (λ z. EachHeld IsKept z f.levels) e k.1))
+    where
+      here : (ls : List (Level Tree)) → EachHeld IsKept (h ∷ hs) ls → IsPushedAs IsKept base w (put_back outer hs i h o).0 (put_back outer hs i h o).1 (push_mark f.outer ls (quoted i cs))
+      here [] u = absurd u
+      here (l ∷ ls) u = put_pushes outer f.outer hs ls h l (quoted i cs) i o (move l.mode (mark_kind {X = Tree} (quoted i cs))) (subst (λ z. EachPiece IsKept base w z f.outer) e2 k.0) u.1 u.0 refl (moves l u.0)
+
+  -- a closing bracket before the first open level
+  pub close_outside : (old : Shown X) (outer : List (CodePiece X)) (new : Shown X) (r : Option CodeHalt) (b : Bracket) (i : ℕ) (f : Form Tree) → old.levels ≡ [] → old.outer ≡ outer → (new, r) ≡ kept_outside outer (Closes b i) → IsShown IsKept base w old f → IsPushedAs IsKept base w new r (push free f (closes b i))
+  close_outside old outer new r b i f e e2 d h = subst (λ a. IsPushedAs IsKept base w a.0 a.1 (push free f (closes b i))) (sym d) (here f.levels (subst (λ z. EachHeld IsKept z f.levels) e h.1))
+    where
+      here : (ls : List (Level Tree)) → EachHeld IsKept [] ls → IsPushedAs IsKept base w (show_as (outer ++ Closes b i ∷ []) []) None (push_close free f.outer ls b i)
+      here [] u = (piece_append outer f.outer (Closes b i) (closes b i) (subst (λ z. EachPiece IsKept base w z f.outer) e2 h.0) (refl, refl), tt)
+      here (l ∷ ls) u = absurd u
+
+  -- one that may not stand where it does
+  pub close_refused : (old : Shown X) (outer : List (CodePiece X)) (hs : List (Held X)) (new : Shown X) (r : Option CodeHalt) (h : Held X) (b : Bracket) (i : ℕ) (f : Form Tree) → old.levels ≡ h ∷ hs → old.outer ≡ outer → closes_with h b ≡ false → (new, r) ≡ put_back outer hs i h None
+      → IsShown IsKept base w old f → IsPushedAs IsKept base w new r (push free f (closes b i))
+  close_refused old outer hs new r h b i f e e2 n d k = subst (λ a. IsPushedAs IsKept base w a.0 a.1 (push free f (closes b i))) (sym d) (here f.levels (subst (λ z. EachHeld IsKept z f.levels) e k.1))
+    where
+      here : (ls : List (Level Tree)) → EachHeld IsKept (h ∷ hs) ls → IsPushedAs IsKept base w (show_as outer (h ∷ hs)) (Some (stop_at i)) (push_close free f.outer ls b i)
+      here [] u = absurd u
+      here (l ∷ ls) u = subst (λ z. IsPushedAs IsKept base w (show_as outer (h ∷ hs)) (Some (stop_at i)) (close_level free f.outer ls l i z)) (sym n ∙ closes_same IsKept h l b u.0) ((subst (λ z. EachPiece IsKept base w z f.outer) e2 k.0, u), refl)
+
+  held_from : (h : Held X) (l : Level Tree) → IsHeld IsKept h l → l.from ≡ from_of h
+  held_from (array_level i s xs) l k = k.1
+  held_from (object_level i s xs) l k = k.1
+
+  -- one that closes the innermost level, which has become an atom
+  pub close_closes : (old : Shown X) (outer : List (CodePiece X)) (hs : List (Held X)) (new : Shown X) (r : Option CodeHalt) (h : Held X) (b : Bracket) (i : ℕ) (x : X) (f : Form Tree) → old.levels ≡ h ∷ hs → old.outer ≡ outer → closes_with h b ≡ true
+      → (new, r) ≡ value_added (from_of h) x outer hs → IsShown IsKept base w old f → ((l : Level Tree) → IsHeld IsKept h l → IsKept x (built free l.bracket l.from l.inside)) → IsPushedAs IsKept base w new r (push free f (closes b i))
+  close_closes old outer hs new r h b i x f e e2 n d k folds = subst (λ a. IsPushedAs IsKept base w a.0 a.1 (push free f (closes b i))) (sym d) (here f.levels (subst (λ z. EachHeld IsKept z f.levels) e k.1))
+    where
+      here : (ls : List (Level Tree)) → EachHeld IsKept (h ∷ hs) ls → IsPushedAs IsKept base w (value_added (from_of h) x outer hs).0 (value_added (from_of h) x outer hs).1 (push_close free f.outer ls b i)
+      here [] u = absurd u
+      here (l ∷ ls) u = subst (λ z. IsPushedAs IsKept base w (value_added (from_of h) x outer hs).0 (value_added (from_of h) x outer hs).1 (close_level free f.outer ls l i z)) (sym n ∙ closes_same IsKept h l b u.0)
+          (subst (λ j. IsPushedAs IsKept base w (value_added (from_of h) x outer hs).0 (value_added (from_of h) x outer hs).1 (push_mark f.outer ls (entry j (built free l.bracket l.from l.inside)))) (sym (held_from h l u.0))
+          (value_pushes outer hs f.outer ls (from_of h) x (built free l.bracket l.from l.inside) (subst (λ z. EachPiece IsKept base w z f.outer) e2 k.0) u.1 (folds l u.0)))
+
+  -- an opening bracket
+  pub open_pushes : (old new : Shown X) (b : Bracket) (i : ℕ) (f : Form Tree) → new ≡ show_as old.outer (opened_as b i ∷ old.levels) → IsShown IsKept base w old f → IsPushedAs IsKept base w new None (push free f (opens b i))
+  open_pushes old new b i f e h = subst (λ z. IsPushedAs IsKept base w z None (push free f (opens b i))) (sym e) (h.0, (opened_is IsKept b i, h.1))
+
+-- the bytes of a string that a span of all bytes has
+pub text_bytes : (bytes : List ℕ) (base : ℕ) (w : List ℕ) (span : Span) (cs : List Character) → IsPartOf bytes base w → IsTextAt base w span cs → take (span.to - span.from) (drop span.from bytes) ≡ string_text cs
+text_bytes bytes base w span cs (y, z, e, b) (ok, a, q, d, i, j) =
+    let whole : bytes ≡ (y ++ a) ++ (string_text cs ++ (q ++ z)) = e ∙ (ap (λ v. y ++ (v ++ z)) d ∙ (ap (λ v. y ++ v) (append_assoc a (string_text cs ++ q) z ∙ ap (λ v. a ++ v) (append_assoc (string_text cs) q z)) ∙ sym (append_assoc y a (string_text cs ++ (q ++ z))))) in
+    let at : span.from ≡ length (y ++ a) = omega (arith, i, b, length-append y a) in
+    let size : span.to - span.from ≡ length (string_text cs) = omega (arith, j) in
+    ap (λ n. take n (drop span.from bytes)) size ∙ (ap (λ v. take (length (string_text cs)) v) (ap (λ n. drop n bytes) at ∙ (ap (drop (length (y ++ a))) whole ∙ drop-append_seam (y ++ a) (string_text cs ++ (q ++ z)))) ∙ take-append_seam (string_text cs) (q ++ z))
+
+pub text_fits : (bytes : List ℕ) (base : ℕ) (w : List ℕ) (span : Span) (cs : List Character) → IsPartOf bytes base w → IsTextAt base w span cs → (span.from ≤ span.to) × (span.to ≤ length bytes)
+text_fits bytes base w span cs (y, z, e, b) (ok, a, q, d, i, j) =
+    let n : length bytes ≡ length y + (length w + length z) = ap (λ v. length v) e ∙ (length-append y (w ++ z) ∙ ap (λ k. length y + k) (length-append w z)) in
+    let k : length w ≡ length a + (length (string_text cs) + length q) = ap (λ v. length v) d ∙ (length-append a (string_text cs ++ q) ∙ ap (λ k. length a + k) (length-append (string_text cs) q)) in
+    (omega (arith, j), omega (arith, n, k, i, j, b))

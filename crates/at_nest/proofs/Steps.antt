@@ -1,0 +1,180 @@
+-- The machine for JSON texts, token by token: what a token leads to, whatever byte comes next.
+use Rattle.std.proofs.Common.{◌≡◌, ℕ, ◌⊎◌, inl, inr, List, [], ◌∷◌, ◌++◌, Some, None, option_map, option_and_then, Bool, true, false, cond, not, ◌&&◌, refl, sym, ◌∙◌, ap, subst, arith, true≢false}
+use Rattle.std.specs.Bool.{⊤}
+use Rattle.at_text.specs.Texts.{is_space, is_run, is_one_of}
+use Rattle.at_text.proofs.Machine.{run}
+use Rattle.at_nest.proofs.JsonNumber as num
+use Rattle.at_lex.proofs.JsonString as str
+use Rattle.at_lex.specs.Spans.{AreSpaces, begins_run}
+use Rattle.at_nest.proofs.JsonMachine.{State, Frame, value, items, members, name, colon, after, in_number, in_string, in_name, in_word, step, within, after_step, wrong, chosen_by, space_is}
+
+-- ---- bytes that are in no run
+
+-- a number goes on with none of them
+abbrev StopsAll : ℕ → Type 0
+StopsAll b = (num.step num.start b ≡ None) × (num.step num.signed b ≡ None) × (num.step num.zero_digit b ≡ None) × (num.step num.whole b ≡ None) × (num.step num.point b ≡ None) × (num.step num.fraction b ≡ None) × (num.step num.letter b ≡ None) × (num.step num.power_sign b ≡ None) × (num.step num.power b ≡ None)
+
+one_of_marks : (b : ℕ) → is_one_of (0x7B ∷ 0x7D ∷ 0x5B ∷ 0x5D ∷ 0x2C ∷ 0x3A ∷ 0x22 ∷ []) b ≡ true → (b ≡ 0x7B) ⊎ ((b ≡ 0x7D) ⊎ ((b ≡ 0x5B) ⊎ ((b ≡ 0x5D) ⊎ ((b ≡ 0x2C) ⊎ ((b ≡ 0x3A) ⊎ (b ≡ 0x22))))))
+one_of_marks b h = grind (arith, h)
+
+no_run : (b : ℕ) → is_run b ≡ false → (is_space b ≡ true) ⊎ (is_one_of (0x7B ∷ 0x7D ∷ 0x5B ∷ 0x5D ∷ 0x2C ∷ 0x3A ∷ 0x22 ∷ []) b ≡ true)
+no_run b h = go (is_space b) (is_one_of (0x7B ∷ 0x7D ∷ 0x5B ∷ 0x5D ∷ 0x2C ∷ 0x3A ∷ 0x22 ∷ []) b) h
+  where
+    go : (p q : Bool) → (not p && not q) ≡ false → (p ≡ true) ⊎ (q ≡ true)
+    go true q e = inl refl
+    go false true e = inr refl
+    go false false e = absurd (true≢false e)
+
+-- what holds of each byte that is in no run
+by_no_run : (P : ℕ → Type 0) → P 0x20 → P 0x09 → P 0x0A → P 0x0D → P 0x7B → P 0x7D → P 0x5B → P 0x5D → P 0x2C → P 0x3A → P 0x22 → (b : ℕ) → is_run b ≡ false → P b
+by_no_run P s1 s2 s3 s4 m1 m2 m3 m4 m5 m6 m7 b h = elim (no_run b h) [
+  | inl s ↦ elim (space_is b s) [ inl e ↦ subst P (sym e) s1 | inr f ↦ elim f [ inl e ↦ subst P (sym e) s2 | inr g ↦ elim g [ inl e ↦ subst P (sym e) s3 | inr e ↦ subst P (sym e) s4 ] ] ]
+  | inr m ↦ elim (one_of_marks b m) [
+    | inl e ↦ subst P (sym e) m1
+    | inr f ↦ elim f [
+      | inl e ↦ subst P (sym e) m2
+      | inr g ↦ elim g [
+        | inl e ↦ subst P (sym e) m3
+        | inr k ↦ elim k [ inl e ↦ subst P (sym e) m4 | inr l ↦ elim l [ inl e ↦ subst P (sym e) m5 | inr n ↦ elim n [ inl e ↦ subst P (sym e) m6 | inr e ↦ subst P (sym e) m7 ] ] ]
+      ]
+    ]
+  ]
+]
+
+pub stops_number : (b : ℕ) → is_run b ≡ false → StopsAll b
+stops_number b h = by_no_run StopsAll (refl, refl, refl, refl, refl, refl, refl, refl, refl) (refl, refl, refl, refl, refl, refl, refl, refl, refl) (refl, refl, refl, refl, refl, refl, refl, refl, refl) (refl, refl, refl, refl, refl, refl, refl, refl, refl) (refl, refl, refl, refl, refl, refl, refl, refl, refl) (refl, refl, refl, refl, refl, refl, refl, refl, refl) (refl, refl, refl, refl, refl, refl, refl, refl, refl) (refl, refl, refl, refl, refl, refl, refl, refl, refl) (refl, refl, refl, refl, refl, refl, refl, refl, refl) (refl, refl, refl, refl, refl, refl, refl, refl, refl) (refl, refl, refl, refl, refl, refl, refl, refl, refl) b h
+
+pub number_none : (s : num.State) (b : ℕ) → is_run b ≡ false → num.step s b ≡ None
+number_none num.start b h = (stops_number b h).0
+number_none num.signed b h = (stops_number b h).1
+number_none num.zero_digit b h = (stops_number b h).2
+number_none num.whole b h = (stops_number b h).3
+number_none num.point b h = (stops_number b h).4
+number_none num.fraction b h = (stops_number b h).5
+number_none num.letter b h = (stops_number b h).6
+number_none num.power_sign b h = (stops_number b h).7
+number_none num.power b h = (stops_number b h).8
+
+-- ---- a state that is past a token
+
+-- the state is between tokens
+abbrev pub IsStill : State → Type 0
+IsStill (in_number n st) = ⊥
+IsStill (in_string s st) = ⊥
+IsStill (in_name s st) = ⊥
+IsStill (in_word w st) = ⊥
+IsStill _ = ⊤
+
+-- the state is at the end of a whole token, and goes on as t
+abbrev pub Settled : State → State → Type 0
+Settled (in_number n st) t = (num.accepts n ≡ true) × (t ≡ after st)
+Settled (in_string s st) t = (str.accepts s ≡ true) × (t ≡ after st)
+Settled (in_name s st) t = (str.accepts s ≡ true) × (t ≡ colon st)
+Settled (in_word w st) t = (w ≡ []) × (t ≡ after st)
+Settled s t = t ≡ s
+
+-- the state is at the end of a run
+abbrev pub run_ended : State → Bool
+run_ended (in_number n st) = true
+run_ended (in_word w st) = true
+run_ended _ = false
+
+pub still_settled : (t : State) → IsStill t → Settled t t
+still_settled (value st) h = refl
+still_settled (items st) h = refl
+still_settled (members st) h = refl
+still_settled (name st) h = refl
+still_settled (colon st) h = refl
+still_settled (after st) h = refl
+still_settled (in_number n st) h = absurd h
+still_settled (in_string n st) h = absurd h
+still_settled (in_name n st) h = absurd h
+still_settled (in_word n st) h = absurd h
+
+pub settled_still : (s t : State) → Settled s t → IsStill t
+settled_still (in_number n st) t (p, e) = subst IsStill (sym e) tt
+settled_still (in_string n st) t (p, e) = subst IsStill (sym e) tt
+settled_still (in_name n st) t (p, e) = subst IsStill (sym e) tt
+settled_still (in_word n st) t (p, e) = subst IsStill (sym e) tt
+settled_still (value st) t e = subst IsStill (sym e) tt
+settled_still (items st) t e = subst IsStill (sym e) tt
+settled_still (members st) t e = subst IsStill (sym e) tt
+settled_still (name st) t e = subst IsStill (sym e) tt
+settled_still (colon st) t e = subst IsStill (sym e) tt
+settled_still (after st) t e = subst IsStill (sym e) tt
+
+pub still_space : (t : State) (b : ℕ) → IsStill t → is_space b ≡ true → step t b ≡ Some t
+still_space (value st) b h e = chosen_by _ _ b e
+still_space (items st) b h e = chosen_by _ _ b e
+still_space (members st) b h e = chosen_by _ _ b e
+still_space (name st) b h e = chosen_by _ _ b e
+still_space (colon st) b h e = chosen_by _ _ b e
+still_space (after st) b h e = chosen_by _ _ b e
+still_space (in_number n st) b h e = absurd h
+still_space (in_string n st) b h e = absurd h
+still_space (in_name n st) b h e = absurd h
+still_space (in_word n st) b h e = absurd h
+
+closed_string : (s : str.State) (st : List Frame) (b : ℕ) → str.accepts s ≡ true → step (in_string s st) b ≡ step (after st) b
+closed_string str.closed st b p = refl
+closed_string str.opening st b p = wrong p
+closed_string str.inside st b p = wrong p
+closed_string str.escaped st b p = wrong p
+closed_string str.hex4 st b p = wrong p
+closed_string str.hex3 st b p = wrong p
+closed_string str.hex2 st b p = wrong p
+closed_string str.hex1 st b p = wrong p
+
+closed_name : (s : str.State) (st : List Frame) (b : ℕ) → str.accepts s ≡ true → step (in_name s st) b ≡ step (colon st) b
+closed_name str.closed st b p = refl
+closed_name str.opening st b p = wrong p
+closed_name str.inside st b p = wrong p
+closed_name str.escaped st b p = wrong p
+closed_name str.hex4 st b p = wrong p
+closed_name str.hex3 st b p = wrong p
+closed_name str.hex2 st b p = wrong p
+closed_name str.hex1 st b p = wrong p
+
+ended_number : (n : num.State) (st : List Frame) (b : ℕ) → num.accepts n ≡ true → is_run b ≡ false → step (in_number n st) b ≡ step (after st) b
+ended_number n st b p g = ap (λ o. within (option_map (λ v. in_number v st) o) (num.accepts n) (after_step st b)) (number_none n b g) ∙ ap (λ c. cond c (after_step st b) None) p
+
+ended_word : (w : List ℕ) (st : List Frame) (b : ℕ) → w ≡ [] → step (in_word w st) b ≡ step (after st) b
+ended_word w st b e = ap (λ x. step (in_word x st) b) e
+
+-- the next byte does the same in both
+pub settled_step : (s t : State) (b : ℕ) → Settled s t → (run_ended s && is_run b) ≡ false → step s b ≡ step t b
+settled_step (in_number n st) t b (p, e) g = ended_number n st b p g ∙ sym (ap (λ x. step x b) e)
+settled_step (in_string s st) t b (p, e) g = closed_string s st b p ∙ sym (ap (λ x. step x b) e)
+settled_step (in_name s st) t b (p, e) g = closed_name s st b p ∙ sym (ap (λ x. step x b) e)
+settled_step (in_word w st) t b (p, e) g = ended_word w st b p ∙ sym (ap (λ x. step x b) e)
+settled_step (value st) t b e g = sym (ap (λ x. step x b) e)
+settled_step (items st) t b e g = sym (ap (λ x. step x b) e)
+settled_step (members st) t b e g = sym (ap (λ x. step x b) e)
+settled_step (name st) t b e g = sym (ap (λ x. step x b) e)
+settled_step (colon st) t b e g = sym (ap (λ x. step x b) e)
+settled_step (after st) t b e g = sym (ap (λ x. step x b) e)
+
+-- no run goes on from the state into the bytes
+abbrev pub is_clear : State → List ℕ → Bool
+is_clear s w = not (run_ended s && begins_run w)
+
+pub not_true : (c : Bool) → not c ≡ true → c ≡ false
+not_true false h = refl
+not_true true h = absurd (true≢false (sym h))
+
+pub space_no_run : (b : ℕ) → is_space b ≡ true → is_run b ≡ false
+space_no_run b h = ap (λ p. not p && not (is_one_of (0x7B ∷ 0x7D ∷ 0x5B ∷ 0x5D ∷ 0x2C ∷ 0x3A ∷ 0x22 ∷ []) b)) h
+
+pub still_spaces : (t : State) (a w : List ℕ) → IsStill t → AreSpaces a → run step t (a ++ w) ≡ run step t w
+still_spaces t [] w h s = refl
+still_spaces t (b ∷ a) w h (s, r) = ap (option_and_then (λ x. run step x (a ++ w))) (still_space t b h s) ∙ still_spaces t a w h r
+
+pub and_false : (a b : Bool) → b ≡ false → (a && b) ≡ false
+and_false true b h = h
+and_false false b h = refl
+
+-- white space, and then a byte, do the same in both
+pub settled_run : (s t : State) (a : List ℕ) (c : ℕ) (r : List ℕ) → Settled s t → AreSpaces a → is_clear s (a ++ (c ∷ r)) ≡ true → run step s (a ++ (c ∷ r)) ≡ run step t (c ∷ r)
+settled_run s t [] c r h sp g = ap (option_and_then (λ x. run step x r)) (settled_step s t c h (not_true _ g))
+settled_run s t (b ∷ a) c r h (e, sp) g = ap (option_and_then (λ x. run step x (a ++ (c ∷ r)))) (settled_step s t b h (and_false (run_ended s) _ (space_no_run b e)))
+    ∙ (ap (option_and_then (λ x. run step x (a ++ (c ∷ r)))) (still_space t b (settled_still s t h) e) ∙ still_spaces t a (c ∷ r) (settled_still s t h) sp)

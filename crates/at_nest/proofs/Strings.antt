@@ -1,0 +1,78 @@
+-- A string that is cut in two and closed: either its text is a JSON string, or a byte in it stops.
+use Rattle.std.proofs.Common.{◌≡◌, ℕ, List, [], ◌∷◌, ◌++◌, Some, None, Bool, true, false, refl, sym, ap, subst, ◌+◌, length, true≢false, append-nil}
+use Rattle.std.proofs.lemmas.Option.{same_Some, option_and_then_some}
+use Rattle.std.specs.Bool.{⊤}
+use Rattle.at_text.proofs.Machine.{run, run-rest}
+use Rattle.at_lex.specs.declared.tokens.Start.{Start}
+use Rattle.at_lex.specs.declared.tokens.Start.TheVariants.{Out, InString, InEscape}
+use Rattle.at_lex.specs.Strings.{JsonString}
+use Rattle.at_lex.proofs.JsonString as str
+use Rattle.at_lex.specs.Spans.{after_byte, end_of, ClosesText}
+use Rattle.at_nest.specs.Forms.{Meaning}
+use Rattle.at_nest.proofs.Lexical.{InText, text_step}
+use Rattle.at_nest.proofs.Unions.{closes_out}
+use Rattle.at_nest.specs.Levels.{in_text}
+use Rattle.at_nest.proofs.Pushes.{IsStop}
+use Rattle.at_nest.proofs.TokenStops.{empty_form, text_stops_at}
+
+text_run : (q n : str.State) (v : List ℕ) (s : Start) → InText q s → run str.step q v ≡ Some n → InText n (end_of s v)
+text_run q n [] s h e = subst (λ z. InText z s) (same_Some q n e) h
+text_run q n (b ∷ v) s h e = option_and_then_some (λ x. run str.step x v) (str.step q b) n e (λ t f g. text_run t n v (after_byte s b) (text_step q t b s h f) g)
+
+-- a closed string is outside text nowhere before its end
+closes_once : (s : Start) (v : List ℕ) (c : ℕ) (o : List ℕ) → ClosesText s (v ++ (c ∷ o)) → end_of s v ≡ Out → ⊥
+closes_once Out [] c o h e = h
+closes_once Out (b ∷ v) c o h e = h
+closes_once InString [] c o h e = let P : Start → Type 0 = λ z. ClosesText z (c ∷ o) in subst P e h
+closes_once InString (b ∷ v) c o h e = closes_once (after_byte InString b) v c o h e
+closes_once InEscape [] c o h e = let P : Start → Type 0 = λ z. ClosesText z (c ∷ o) in subst P e h
+closes_once InEscape (b ∷ v) c o h e = closes_once InString v c o h e
+
+closed_is : (n : str.State) (s : Start) → InText n s → str.accepts n ≡ true → s ≡ Out
+closed_is str.closed s h a = h
+closed_is str.opening s h a = absurd h
+closed_is str.inside s h a = absurd (true≢false (sym a))
+closed_is str.escaped s h a = absurd (true≢false (sym a))
+closed_is str.hex4 s h a = absurd (true≢false (sym a))
+closed_is str.hex3 s h a = absurd (true≢false (sym a))
+closed_is str.hex2 s h a = absurd (true≢false (sym a))
+closed_is str.hex1 s h a = absurd (true≢false (sym a))
+
+no_string : InString ≡ Out → ⊥
+no_string e = let P : Start → Type 0 = λ x. elim x [ Out ↦ ⊥ | InString ↦ ⊤ | InEscape ↦ ⊤ ] in subst P e tt
+
+no_escape : InEscape ≡ Out → ⊥
+no_escape e = let P : Start → Type 0 = λ x. elim x [ Out ↦ ⊥ | InString ↦ ⊤ | InEscape ↦ ⊤ ] in subst P e tt
+
+out_is : (n : str.State) → InText n Out → str.accepts n ≡ true
+out_is str.closed h = refl
+out_is str.opening h = absurd h
+out_is str.inside h = absurd (no_string (sym h))
+out_is str.escaped h = absurd (no_escape (sym h))
+out_is str.hex4 h = absurd (no_string (sym h))
+out_is str.hex3 h = absurd (no_string (sym h))
+out_is str.hex2 h = absurd (no_string (sym h))
+out_is str.hex1 h = absurd (no_string (sym h))
+
+-- a byte in a closed string stops it before it is whole
+unfinished : (v : List ℕ) (byte : ℕ) (o : List ℕ) (n : str.State) → ClosesText InString (v ++ (byte ∷ o)) → run str.step str.inside v ≡ Some n → str.accepts n ≡ false
+unfinished v byte o n h e = by_bool (str.accepts n) refl
+  where
+    by_bool : (p : Bool) → str.accepts n ≡ p → str.accepts n ≡ false
+    by_bool false f = f
+    by_bool true f = absurd (closes_once InString v byte o h (closed_is n (end_of InString v) (text_run str.inside n v InString refl e) f))
+
+-- the machine goes through a closed string: it is a JSON string
+pub whole_string : (u : List ℕ) (n : str.State) → ClosesText InString u → run str.step str.inside u ≡ Some n → JsonString (0x22 ∷ u)
+whole_string u n h e =
+    let out : InText n Out = subst (InText n) (closes_out InString u h) (text_run str.inside n u InString refl e) in
+    (str.opening-JsonString (0x22 ∷ u)).0 (subst (str.Rest str.opening) (append-nil (0x22 ∷ u)) (run-rest str.machine str.opening n (0x22 ∷ u) [] e ((str.machine.ends n).1 (out_is n out))))
+
+-- a closed string that stops at a byte
+pub string_token : {X : Type 0} (m : Meaning X) (at : ℕ) (v : List ℕ) (byte : ℕ) (o more : List ℕ) (n : str.State) → ClosesText InString (v ++ (byte ∷ o)) → run str.step str.inside v ≡ Some n → str.step n byte ≡ None
+    → IsStop {X = X} m at ((0x22 ∷ (v ++ (byte ∷ o))) ++ more) empty_form (record { kind = in_text; item = at; place = at + length (0x22 ∷ v) })
+string_token m at v byte o more n h e f = text_stops_at m at ((0x22 ∷ (v ++ (byte ∷ o))) ++ more) n 0x22 v byte (o ++ more) (ap (λ z. 0x22 ∷ z) (assoc v)) e f (unfinished v byte o n h e)
+  where
+    assoc : (v : List ℕ) → (v ++ (byte ∷ o)) ++ more ≡ v ++ (byte ∷ (o ++ more))
+    assoc [] = refl
+    assoc (c ∷ v) = ap (λ z. c ∷ z) (assoc v)

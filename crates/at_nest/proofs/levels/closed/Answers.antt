@@ -1,0 +1,15 @@
+-- What the algebra makes of a closed level stands for the level's tree.
+use Rattle.std.proofs.Common.{subst}
+use Rattle.std.proofs.lemmas.Result.{IfOk-weaker}
+use Rattle.at_nest.proofs.Held.{array_built, object_built}
+use Rattle.at_nest.specs.Shown.{held_of}
+use Rattle.at_nest.specs.Holding.{IsHeld, Kept}
+use Rattle.at_nest.proofs.levels.closed.Goals as goal
+
+pub returns-in-Array-clause-fold : goal.returns-in-Array-clause-fold
+returns-in-Array-clause-fold g c = let own = g.A.Algebra.is_own c.args.algebra.now in let fold = g.A.Algebra.is_fold c.args.algebra.now in
+    IfOk-weaker c.array.result _ _ (λ atom h l k. array_built own fold c.in-Array.field-0.from c.in-Array.field-0.state c.in-Array.field-0.items.items atom l h (subst (λ z. IsHeld (Kept own fold) (held_of z) l) c.in-Array.is k)) c.array.ensures.fold
+
+pub returns-clause-fold : goal.returns-clause-fold
+returns-clause-fold g c = let own = g.A.Algebra.is_own c.args.algebra.now in let fold = g.A.Algebra.is_fold c.args.algebra.now in
+    IfOk-weaker c.object.result _ _ (λ atom h l k. object_built own fold c.in-Object.field-0.from c.in-Object.field-0.state c.in-Object.field-0.members.items atom l h (subst (λ z. IsHeld (Kept own fold) (held_of z) l) c.in-Object.is k)) c.object.ensures.fold

@@ -1,0 +1,45 @@
+-- Each token goes on with what has been read, or stops the piece.
+use Rattle.std.proofs.Common.{Option, None, Some, sym, ◌∙◌, subst}
+use Rattle.at_lex.specs.Spans.{IsToken as IsLexed}
+use Rattle.at_nest.specs.declared.pieces.Halt.{Halt}
+use Rattle.at_nest.specs.declared.variants.Variant.TheVariants.{Whole}
+use Rattle.at_nest.specs.Shown.{Shown, shown}
+use Rattle.at_nest.specs.Unions.{empty_form}
+use Rattle.at_nest.specs.Holding.{Kept, IsShown}
+use Rattle.at_nest.specs.Reading.{ReadsToken}
+use Rattle.at_nest.specs.Stands.{HoldsBehind}
+use Rattle.at_nest.proofs.Items.{consumed_none, consumed_on, consumed_stop, consumed_end, token_bytes}
+use Rattle.at_nest.proofs.variants.read_items.Goals as goal
+
+pub loop-token-init : goal.loop-token-init
+loop-token-init g c = let own = g.A.Algebra.is_own c.args.algebra.now in let fold = g.A.Algebra.is_fold c.args.algebra.now in
+    consumed_none (Kept own fold) c.args.base c.args.piece.now (shown c.new-body.result) c.args.lexer
+    (subst (λ (z : Shown g.row.A-Atom.Denot). IsShown (Kept own fold) c.args.base c.args.piece.now z empty_form) (sym c.new-body.ensures) (tt, tt)) c.requires.out
+
+pub read_token-requires-clause-token : goal.read_token-requires-clause-token
+read_token-requires-clause-token g c κs within = let own = g.A.Algebra.is_own c.args.algebra.now in let fold = g.A.Algebra.is_fold c.args.algebra.now in
+    let gives = c.in-Whole.ensures.gives in
+    let bytes = token_bytes (Kept own fold) c.args.base c.args.piece.now c.args.lexer.at c.args.lexer.rest (shown c.loop-token.body) c.loop-token.lexer c.next_item.new.self c.in-Whole.token c.requires.behind c.loop-token.invariant gives in
+    (gives.2, subst (λ v. IsLexed c.in-Whole.token.from v gives.2 c.in-Whole.token) (sym (c.part-text.ensures ∙ bytes.0)) (subst (λ n. IsLexed n gives.1 gives.2 c.in-Whole.token) (sym gives.6.0) gives.6))
+
+pub returns-in-Some : goal.returns-in-Some
+returns-in-Some g c = let own = g.A.Algebra.is_own c.args.algebra.now in let fold = g.A.Algebra.is_fold c.args.algebra.now in
+    let gives = c.in-Whole.ensures.gives in
+    let bytes = token_bytes (Kept own fold) c.args.base c.args.piece.now c.args.lexer.at c.args.lexer.rest (shown c.loop-token.body) c.loop-token.lexer c.next_item.new.self c.in-Whole.token c.requires.behind c.loop-token.invariant gives in
+    consumed_stop (Kept own fold) c.args.base c.args.piece.now c.args.lexer.at c.args.lead c.args.lexer.rest c.read_token.new.body (shown c.loop-token.body) c.loop-token.lexer c.next_item.new.self c.in-Whole.token c.in-Some.halt c.requires.behind c.loop-token.invariant gives
+    (subst (λ v. ReadsToken (Kept own fold) (shown c.loop-token.body) (shown c.read_token.new.body) (Some c.in-Some.halt) v c.in-Whole.token) (c.part-text.ensures ∙ bytes.0)
+    (subst (λ (z : Option Halt). ReadsToken (Kept own fold) (shown c.loop-token.body) (shown c.read_token.new.body) z c.part-text.result.now c.in-Whole.token) c.in-Some.is c.in_ok-read_token-in-Whole.ensures.reads))
+
+pub loop-token-preserved : goal.loop-token-preserved
+loop-token-preserved g c = let own = g.A.Algebra.is_own c.args.algebra.now in let fold = g.A.Algebra.is_fold c.args.algebra.now in
+    let gives = c.in-Whole.ensures.gives in
+    let bytes = token_bytes (Kept own fold) c.args.base c.args.piece.now c.args.lexer.at c.args.lexer.rest (shown c.loop-token.body) c.loop-token.lexer c.next_item.new.self c.in-Whole.token c.requires.behind c.loop-token.invariant gives in
+    consumed_on (Kept own fold) c.args.base c.args.piece.now c.args.lexer.at c.args.lexer.rest (shown c.loop-token.body) (shown c.read_token.new.body) c.loop-token.lexer c.next_item.new.self c.in-Whole.token c.requires.behind c.loop-token.invariant gives
+    (c.in_ok-read_token-in-Whole.ensures.whole c.in-None.is)
+    (subst (λ v. ReadsToken (Kept own fold) (shown c.loop-token.body) (shown c.read_token.new.body) None v c.in-Whole.token) (c.part-text.ensures ∙ bytes.0)
+    (subst (λ (z : Option Halt). ReadsToken (Kept own fold) (shown c.loop-token.body) (shown c.read_token.new.body) z c.part-text.result.now c.in-Whole.token) c.in-None.is c.in_ok-read_token-in-Whole.ensures.reads))
+
+pub returns-in-End : goal.returns-in-End
+returns-in-End g c = let own = g.A.Algebra.is_own c.args.algebra.now in let fold = g.A.Algebra.is_fold c.args.algebra.now in
+    subst (λ n. HoldsBehind (Kept own fold) c.args.base c.args.piece.now c.args.lexer.at c.args.lexer.rest c.args.lead (Whole c.args.lead c.loop-token.body n c.in-End.end)) (sym c.pend_of-pend.ensures)
+    (consumed_end (Kept own fold) c.args.base c.args.piece.now c.args.lexer.at c.args.lead c.args.lexer.rest c.loop-token.body c.loop-token.lexer c.next_item.new.self c.in-End.pend c.in-End.end c.requires.behind c.loop-token.invariant c.in-End.ensures.gives)

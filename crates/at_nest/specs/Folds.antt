@@ -1,0 +1,24 @@
+-- What an algebra makes of a tree, from the leaves up: relations between what it holds and the trees for which that stands.
+use Rattle.std.specs.Prelude.{◌≡◌, ℕ, ◌⊎◌, List, [], ◌∷◌}
+use Rattle.std.specs.Bool.{⊤}
+use Rattle.at_lex.specs.Strings.{JsonString, units_of}
+use Rattle.at_lex.specs.Runs.{JsonRun}
+use Rattle.at_nest.specs.declared.algebra.Member.{Member}
+use Rattle.at_nest.specs.Tree.{Tree, Trees, no_trees, tree_and, Members, no_members, member_and}
+
+-- the bytes are a whole string, literal or number (RFC 8259 section 3)
+abbrev pub IsScalarText : List ℕ → Type 0
+IsScalarText text = JsonString text ⊎ JsonRun text
+
+-- one by one, the values stand for the trees
+abbrev pub AreFolds : {X : Type 0} → (X → Tree → Type 0) → List X → Trees → Type 0
+AreFolds IsFold [] no_trees = ⊤
+AreFolds IsFold (x ∷ xs) (tree_and t ts) = IsFold x t × AreFolds IsFold xs ts
+AreFolds IsFold _ _ = ⊥
+
+-- one by one, the members have the names of the tree's members, by their code units, with the offsets of the names, and their values
+-- stand for the trees
+abbrev pub AreMemberFolds : {X : Type 0} → (X → Tree → Type 0) → List (Member X) → Members → Type 0
+AreMemberFolds IsFold [] no_members = ⊤
+AreMemberFolds IsFold (x ∷ xs) (member_and name i t ms) = (x.name ≡ units_of name) × (x.name_at ≡ i) × IsFold x.value t × AreMemberFolds IsFold xs ms
+AreMemberFolds IsFold _ _ = ⊥

@@ -1,0 +1,176 @@
+-- What the code keeps of a span's items, and the items that it stands for. The fold is that of the trees themselves, and each atom stands
+-- for its tree.
+use Rattle.std.specs.Prelude.{◌≡◌, ℕ, ◌+◌, Option, Some, None, List, [], ◌∷◌, ◌++◌, length}
+use Rattle.std.specs.Bool.{⊤}
+use Rattle.at_text.specs.declared.texts.Span.{Span}
+use Rattle.at_lex.specs.Strings.{Character, AreCharacters, string_text, units_of}
+use Rattle.at_lex.specs.declared.tokens.Bracket.TheVariants.{Brace, Square}
+use Rattle.at_nest.specs.declared.algebra.Member.{Member}
+use Rattle.at_nest.specs.declared.levels.ArrayState.{ArrayState}
+use Rattle.at_nest.specs.declared.levels.ArrayState.TheVariants as array
+use Rattle.at_nest.specs.declared.levels.ObjectState.{ObjectState}
+use Rattle.at_nest.specs.declared.levels.ObjectState.TheVariants as object
+use Rattle.at_nest.specs.declared.pieces.Piece.{Piece as CodePiece}
+use Rattle.at_nest.specs.declared.pieces.Piece.TheVariants.{Closes, Comma, Colon, Text, Value}
+use Rattle.at_nest.specs.declared.pieces.Halt.{Halt as CodeHalt}
+use Rattle.at_nest.specs.declared.pieces.Within.{Within as CodeWithin}
+use Rattle.at_nest.specs.declared.pieces.Within.TheVariants.{First as FirstByte, Run as RunByte, Text as TextByte}
+use Rattle.at_nest.specs.Tree.{Tree, literal, number, text, array as array_tree, object as object_tree, Trees, no_trees, tree_and, Members, no_members, member_and}
+use Rattle.at_nest.specs.Forms.{Meaning, Mark, Piece, closes, mark, comma, colon, quoted, entry}
+use Rattle.at_nest.specs.Levels.{Mode, at_items, at_value, at_after, at_members, at_name, at_colon, at_member, at_further, Level, Form, values_in, pairs_in, pieces_of, push, push_all, Within, at_first, in_run, in_text, Halt, Pushed, further, stopped}
+use Rattle.at_nest.specs.Stops.{AreLevels}
+use Rattle.at_nest.specs.Shown.{Held, array_level, object_level, Shown}
+
+abbrev pub trees : List Tree → Trees
+trees [] = no_trees
+trees (t ∷ ts) = tree_and t (trees ts)
+
+abbrev pub tree_members : List (List Character × ℕ × Tree) → Members
+tree_members [] = no_members
+tree_members (p ∷ ps) = member_and p.0 p.1 p.2 (tree_members ps)
+
+-- the fold that gives the tree itself
+abbrev pub free : Meaning Tree
+free = record { of_literal = literal; of_number = number; of_text = text; of_array = λ i ts. array_tree i (trees ts); of_object = λ i ps. object_tree i (tree_members ps) }
+
+-- an atom of the algebra's own that is what it makes of the tree
+abbrev pub Kept : {X : Type 0} → (X → Type 0) → (X → Tree → Type 0) → X → Tree → Type 0
+Kept IsOwn IsFold x t = IsOwn x × IsFold x t
+
+abbrev pub array_mode : ArrayState → Mode
+array_mode array.Empty = at_items
+array_mode array.Comma = at_value
+array_mode array.Value = at_after
+
+abbrev pub object_mode : ObjectState → Mode
+object_mode object.Empty = at_members
+object_mode object.Comma = at_name
+object_mode (object.Named n) = at_colon
+object_mode (object.Colon n) = at_member
+object_mode object.Value = at_further
+
+-- the name that has no value yet
+abbrev pub pending_in : {X : Type 0} → Option (List Character × ℕ) → List (Mark X) → Option (List Character × ℕ)
+pending_in o [] = o
+pending_in o (comma i ∷ xs) = pending_in o xs
+pending_in o (colon i ∷ xs) = pending_in o xs
+pending_in None (quoted i cs ∷ xs) = pending_in (Some (cs, i)) xs
+pending_in (Some p) (quoted i cs ∷ xs) = pending_in None xs
+pending_in o (entry i x ∷ xs) = pending_in None xs
+
+-- in the bytes w, which stand at `at`, the string stands where the span says
+abbrev pub IsTextAt : ℕ → List ℕ → Span → List Character → Type 0
+IsTextAt at w span cs = AreCharacters cs × (a z : List ℕ) × (w ≡ a ++ (string_text cs ++ z)) × (span.from ≡ at + length a) × (span.to ≡ span.from + length (string_text cs))
+
+abbrev pub within_of : CodeWithin → Within
+within_of FirstByte = at_first
+within_of RunByte = in_run
+within_of TextByte = in_text
+
+abbrev pub halt_of : CodeHalt → Halt
+halt_of h = record { kind = within_of h.within; item = h.item; place = h.place }
+
+-- the bytes w stand at `base` in all bytes
+abbrev pub IsPartOf : List ℕ → ℕ → List ℕ → Type 0
+IsPartOf bytes base w = (y z : List ℕ) × (bytes ≡ y ++ (w ++ z)) × (base ≡ length y)
+
+module _ {X : Type 0} (IsKept : X → Tree → Type 0) where
+  -- one by one, the atoms stand for the trees
+  abbrev pub Each : List X → List Tree → Type 0
+  Each [] [] = ⊤
+  Each (x ∷ xs) (t ∷ ts) = IsKept x t × Each xs ts
+  Each _ _ = ⊥
+
+  abbrev pub EachMember : List (Member X) → List (List Character × ℕ × Tree) → Type 0
+  EachMember [] [] = ⊤
+  EachMember (m ∷ ms) (p ∷ ps) = (m.name ≡ units_of p.0) × (m.name_at ≡ p.1) × IsKept m.value p.2 × EachMember ms ps
+  EachMember _ _ = ⊥
+
+  -- the name that is kept is the one that has no value yet
+  abbrev pub IsNamed : ObjectState → Option (List Character × ℕ) → Type 0
+  IsNamed (object.Named n) (Some p) = (n.units ≡ units_of p.0) × (n.at ≡ p.1)
+  IsNamed (object.Colon n) (Some p) = (n.units ≡ units_of p.0) × (n.at ≡ p.1)
+  IsNamed object.Empty None = ⊤
+  IsNamed object.Comma None = ⊤
+  IsNamed object.Value None = ⊤
+  IsNamed _ _ = ⊥
+
+  abbrev pub IsHeld : Held X → Level Tree → Type 0
+  IsHeld (array_level i s xs) l = (l.bracket ≡ Square) × (l.from ≡ i) × (l.mode ≡ array_mode s) × Each xs (values_in free l.inside)
+  IsHeld (object_level i s ms) l = (l.bracket ≡ Brace) × (l.from ≡ i) × (l.mode ≡ object_mode s) × EachMember ms (pairs_in free None l.inside) × IsNamed s (pending_in None l.inside)
+
+  abbrev pub EachHeld : List (Held X) → List (Level Tree) → Type 0
+  EachHeld [] [] = ⊤
+  EachHeld (h ∷ hs) (l ∷ ls) = IsHeld h l × EachHeld hs ls
+  EachHeld _ _ = ⊥
+
+  abbrev pub IsHeldPiece : ℕ → List ℕ → CodePiece X → Piece Tree → Type 0
+  IsHeldPiece at w (Closes b i) (closes c j) = (b ≡ c) × (i ≡ j)
+  IsHeldPiece at w (Comma i) (mark (comma j)) = i ≡ j
+  IsHeldPiece at w (Colon i) (mark (colon j)) = i ≡ j
+  IsHeldPiece at w (Text span x) (mark (quoted j cs)) = (span.from ≡ j) × IsTextAt at w span cs × IsKept x (text j cs)
+  IsHeldPiece at w (Value i x) (mark (entry j t)) = (i ≡ j) × IsKept x t
+  IsHeldPiece at w _ _ = ⊥
+
+  abbrev pub EachPiece : ℕ → List ℕ → List (CodePiece X) → List (Piece Tree) → Type 0
+  EachPiece at w [] [] = ⊤
+  EachPiece at w (c ∷ cs) (p ∷ ps) = IsHeldPiece at w c p × EachPiece at w cs ps
+  EachPiece at w _ _ = ⊥
+
+  abbrev pub IsShown : ℕ → List ℕ → Shown X → Form Tree → Type 0
+  IsShown at w s f = EachPiece at w s.outer f.outer × EachHeld s.levels f.levels
+
+  -- what is kept, and where the span stops, stand for what the items push
+  abbrev pub IsPushedAs : ℕ → List ℕ → Shown X → Option CodeHalt → Pushed Tree → Type 0
+  IsPushedAs at w s None (further f) = IsShown at w s f
+  IsPushedAs at w s (Some h) (stopped f i) = IsShown at w s f × (halt_of h ≡ i)
+  IsPushedAs at w s _ _ = ⊥
+
+  -- it stands for some items
+  abbrev pub IsOfItems : Shown X → Type 0
+  IsOfItems s = (base : ℕ) × (w : List ℕ) × (f : Form Tree) × IsShown base w s f
+
+  -- what is kept behind the item, and where the span stops
+  abbrev pub Pushes : Shown X → Shown X → Option CodeHalt → Piece Tree → Type 0
+  Pushes old new r p = (base : ℕ) (w : List ℕ) (f : Form Tree) → IsShown base w old f → IsPushedAs base w new r (push free f p)
+
+  abbrev pub PushesText : Shown X → Shown X → Option CodeHalt → Span → List Character → Type 0
+  PushesText old new r span cs = (base : ℕ) (w : List ℕ) (f : Form Tree) → IsShown base w old f → IsTextAt base w span cs → IsPushedAs base w new r (push free f (mark (quoted span.from cs)))
+
+  -- the item may be put behind what is kept: both stand for items of the bytes
+  abbrev pub CanAdd : List ℕ → Shown X → CodePiece X → Type 0
+  CanAdd bytes s c = (base : ℕ) × (w : List ℕ) × (f : Form Tree) × (p : Piece Tree) × IsPartOf bytes base w × IsShown base w s f × IsHeldPiece base w c p
+
+  abbrev pub Adds : List ℕ → Shown X → CodePiece X → Shown X → Option CodeHalt → Type 0
+  Adds bytes old c new r = (base : ℕ) (w : List ℕ) (f : Form Tree) (p : Piece Tree) → IsPartOf bytes base w → IsShown base w old f → IsHeldPiece base w c p → IsPushedAs base w new r (push free f p)
+
+  abbrev pub CanJoin : List ℕ → Shown X → Shown X → Type 0
+  CanJoin bytes s t = (base : ℕ) × (w : List ℕ) × (f : Form Tree) × (g : Form Tree) × IsPartOf bytes base w × IsShown base w s f × IsShown base w t g
+
+  abbrev pub Joins : List ℕ → Shown X → Shown X → Shown X → Option CodeHalt → Type 0
+  Joins bytes old behind new r = (base : ℕ) (w : List ℕ) (f g : Form Tree) → IsPartOf bytes base w → IsShown base w old f → IsShown base w behind g → AreLevels g.levels → IsPushedAs base w new r (push_all free (pieces_of g) f)
+
+  -- what is copied stands for all that the first stands for
+  abbrev pub CopiesItems : List X → List X → Type 0
+  CopiesItems xs ys = (ts : List Tree) → Each xs ts → Each ys ts
+
+  abbrev pub CopiesMember : Member X → Member X → Type 0
+  CopiesMember m n = (n.name ≡ m.name) × (n.name_at ≡ m.name_at) × ((t : Tree) → IsKept m.value t → IsKept n.value t)
+
+  abbrev pub CopiesMembers : List (Member X) → List (Member X) → Type 0
+  CopiesMembers ms ns = (ps : List (List Character × ℕ × Tree)) → EachMember ms ps → EachMember ns ps
+
+  abbrev pub CopiesHeld : Held X → Held X → Type 0
+  CopiesHeld h k = (l : Level Tree) → IsHeld h l → IsHeld k l
+
+  abbrev pub CopiesLevels : List (Held X) → List (Held X) → Type 0
+  CopiesLevels hs ks = (ls : List (Level Tree)) → EachHeld hs ls → EachHeld ks ls
+
+  abbrev pub CopiesPiece : CodePiece X → CodePiece X → Type 0
+  CopiesPiece c d = (base : ℕ) (w : List ℕ) (p : Piece Tree) → IsHeldPiece base w c p → IsHeldPiece base w d p
+
+  abbrev pub CopiesPieces : List (CodePiece X) → List (CodePiece X) → Type 0
+  CopiesPieces cs ds = (base : ℕ) (w : List ℕ) (ps : List (Piece Tree)) → EachPiece base w cs ps → EachPiece base w ds ps
+
+  abbrev pub CopiesShown : Shown X → Shown X → Type 0
+  CopiesShown s t = (base : ℕ) (w : List ℕ) (f : Form Tree) → IsShown base w s f → IsShown base w t f

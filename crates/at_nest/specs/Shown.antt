@@ -1,0 +1,154 @@
+-- What the code keeps of a span's items, as plain lists, and what each item does to it.
+use Rattle.std.specs.Prelude.{◌≡◌, ℕ, Bool, true, false, Option, Some, None, List, [], ◌∷◌, ◌++◌, All}
+use Rattle.std.specs.Bool.{⊤}
+use Rattle.at_lex.specs.declared.tokens.Bracket.{Bracket}
+use Rattle.at_lex.specs.declared.tokens.Bracket.TheVariants.{Brace, Square}
+use Rattle.at_nest.specs.declared.algebra.Member.{Member}
+use Rattle.at_nest.specs.declared.levels.ArrayState.{ArrayState}
+use Rattle.at_nest.specs.declared.levels.ArrayState.TheVariants as array
+use Rattle.at_nest.specs.declared.levels.ObjectState.{ObjectState}
+use Rattle.at_nest.specs.declared.levels.ObjectState.TheVariants as object
+use Rattle.at_nest.specs.declared.levels.MemberName.{MemberName}
+use Rattle.at_nest.specs.declared.levels.Level.{Level}
+use Rattle.at_nest.specs.declared.levels.Level.TheVariants.{Array, Object}
+use Rattle.at_nest.specs.declared.levels.Step.{Step}
+use Rattle.at_nest.specs.declared.levels.Step.TheVariants.{On, Refused}
+use Rattle.at_nest.specs.declared.pieces.Piece.{Piece}
+use Rattle.at_nest.specs.declared.pieces.Piece.TheVariants.{Closes, Comma, Colon, Text, Value}
+use Rattle.at_nest.specs.declared.pieces.Halt.{Halt}
+use Rattle.at_nest.specs.declared.pieces.Within.TheVariants.{First}
+use Rattle.at_nest.specs.declared.bodies.Body.{Body}
+
+-- an open level: its offset, what it ends in, and its values or members
+pub data Held (X : Type 0) : Type 0 where
+  array_level : ℕ → ArrayState → List X → Held X
+  object_level : ℕ → ObjectState → List (Member X) → Held X
+
+abbrev pub held_of : {X : Type 0} → Level X → Held X
+held_of (Array l) = array_level l.from l.state l.items.items
+held_of (Object l) = object_level l.from l.state l.members.items
+
+abbrev pub opened_as : {X : Type 0} → Bracket → ℕ → Held X
+opened_as Square i = array_level i array.Empty []
+opened_as Brace i = object_level i object.Empty []
+
+abbrev pub from_of : {X : Type 0} → Held X → ℕ
+from_of (array_level i s xs) = i
+from_of (object_level i s ms) = i
+
+-- the level behind what comes next, where that may stand there
+abbrev pub comma_next : {X : Type 0} → Held X → Option (Held X)
+comma_next (array_level i array.Value xs) = Some (array_level i array.Comma xs)
+comma_next (object_level i object.Value ms) = Some (object_level i object.Comma ms)
+comma_next _ = None
+
+abbrev pub colon_next : {X : Type 0} → Held X → Option (Held X)
+colon_next (object_level i (object.Named n) ms) = Some (object_level i (object.Colon n) ms)
+colon_next _ = None
+
+abbrev pub value_next : {X : Type 0} → Held X → X → Option (Held X)
+value_next (array_level i array.Empty xs) x = Some (array_level i array.Value (xs ++ x ∷ []))
+value_next (array_level i array.Comma xs) x = Some (array_level i array.Value (xs ++ x ∷ []))
+value_next (object_level i (object.Colon n) ms) x = Some (object_level i object.Value (ms ++ record { name = n.units; name_at = n.at; value = x } ∷ []))
+value_next _ x = None
+
+abbrev pub name_next : {X : Type 0} → Held X → MemberName → Option (Held X)
+name_next (object_level i object.Empty ms) n = Some (object_level i (object.Named n) ms)
+name_next (object_level i object.Comma ms) n = Some (object_level i (object.Named n) ms)
+name_next _ n = None
+
+abbrev pub takes_name : {X : Type 0} → Held X → Bool
+takes_name (object_level i object.Empty ms) = true
+takes_name (object_level i object.Comma ms) = true
+takes_name _ = false
+
+abbrev pub takes_value : {X : Type 0} → Held X → Bool
+takes_value (array_level i array.Empty xs) = true
+takes_value (array_level i array.Comma xs) = true
+takes_value (object_level i (object.Colon n) ms) = true
+takes_value _ = false
+
+abbrev pub closes_with : {X : Type 0} → Held X → Bracket → Bool
+closes_with (array_level i array.Empty xs) Square = true
+closes_with (array_level i array.Value xs) Square = true
+closes_with (object_level i object.Empty ms) Brace = true
+closes_with (object_level i object.Value ms) Brace = true
+closes_with _ _ = false
+
+-- a step: the level behind what came next, or the level as it was, where that may not stand there
+abbrev pub IsStep : {X : Type 0} → Held X → Option (Held X) → Step X → Type 0
+IsStep old (Some h) (On l) = held_of l ≡ h
+IsStep old None (Refused l) = held_of l ≡ old
+IsStep old _ _ = ⊥
+
+-- each atom of the level is the algebra's own
+abbrev pub AreOwn : {X : Type 0} → (X → Type 0) → Held X → Type 0
+AreOwn IsOwn (array_level i s xs) = All IsOwn xs
+AreOwn IsOwn (object_level i s ms) = All (λ m. IsOwn m.value) ms
+
+-- the open levels, the innermost first
+abbrev pub open_levels : {X : Type 0} → List (Level X) → List (Held X)
+open_levels [] = []
+open_levels (l ∷ ls) = open_levels ls ++ held_of l ∷ []
+
+pub record Shown (X : Type 0) : Type 0 where
+  pub outer : List (Piece X)
+  pub levels : List (Held X)
+
+abbrev pub shown : {X : Type 0} → Body X → Shown X
+shown b = record { outer = b.outer.items; levels = open_levels b.levels.items }
+
+abbrev pub show_as : {X : Type 0} → List (Piece X) → List (Held X) → Shown X
+show_as outer levels = record { outer = outer; levels = levels }
+
+-- what is kept behind an item, and where the span stops, if it does
+abbrev pub Added : Type 0 → Type 0
+Added X = Shown X × Option Halt
+
+abbrev pub stop_at : ℕ → Halt
+stop_at i = record { within = First; item = i; place = i }
+
+abbrev pub kept_outside : {X : Type 0} → List (Piece X) → Piece X → Added X
+kept_outside outer p = (show_as (outer ++ p ∷ []) [], None)
+
+abbrev pub put_back : {X : Type 0} → List (Piece X) → List (Held X) → ℕ → Held X → Option (Held X) → Added X
+put_back outer hs i old (Some h) = (show_as outer (h ∷ hs), None)
+put_back outer hs i old None = (show_as outer (old ∷ hs), Some (stop_at i))
+
+abbrev pub comma_added : {X : Type 0} → ℕ → List (Piece X) → List (Held X) → Added X
+comma_added i outer [] = kept_outside outer (Comma i)
+comma_added i outer (h ∷ hs) = put_back outer hs i h (comma_next h)
+
+abbrev pub colon_added : {X : Type 0} → ℕ → List (Piece X) → List (Held X) → Added X
+colon_added i outer [] = kept_outside outer (Colon i)
+colon_added i outer (h ∷ hs) = put_back outer hs i h (colon_next h)
+
+abbrev pub value_added : {X : Type 0} → ℕ → X → List (Piece X) → List (Held X) → Added X
+value_added i x outer [] = kept_outside outer (Value i x)
+value_added i x outer (h ∷ hs) = put_back outer hs i h (value_next h x)
+
+abbrev pub first_of_piece : {X : Type 0} → Piece X → ℕ
+first_of_piece (Closes b i) = i
+first_of_piece (Comma i) = i
+first_of_piece (Colon i) = i
+first_of_piece (Text span x) = span.from
+first_of_piece (Value i x) = i
+
+abbrev pub is_value_piece : {X : Type 0} → Piece X → Bool
+is_value_piece (Text span x) = true
+is_value_piece (Value i x) = true
+is_value_piece _ = false
+
+-- each atom that is kept is the algebra's own
+module _ {X : Type 0} (IsOwn : X → Type 0) where
+  abbrev pub OwnPiece : Piece X → Type 0
+  OwnPiece (Text span x) = IsOwn x
+  OwnPiece (Value i x) = IsOwn x
+  OwnPiece _ = ⊤
+
+-- each level's atoms are the algebra's own
+abbrev pub OwnLevel : {X : Type 0} → (X → Type 0) → Level X → Type 0
+OwnLevel IsOwn l = AreOwn IsOwn (held_of l)
+
+abbrev pub OwnBody : {X : Type 0} → (X → Type 0) → Body X → Type 0
+OwnBody IsOwn b = All (OwnPiece IsOwn) b.outer.items × All (OwnLevel IsOwn) b.levels.items

@@ -1,0 +1,40 @@
+-- A fragment stands for bytes of a file: from each of the three start states its variant is theirs. A lost one stands for any.
+use Rattle.std.specs.Prelude.{◌≡◌, ◌≢◌, ℕ, ◌+◌, Option, Some, None, Box, List, ◌∷◌, length}
+use Rattle.std.specs.Bool.{⊤}
+use Rattle.std.specs.Global.{Global}
+use Rattle.at_lex.specs.declared.tokens.Start.TheVariants.{Out, InString, InEscape}
+use Rattle.at_nest.specs.declared.fragments.Escape.{Escape}
+use Rattle.at_nest.specs.declared.fragments.Escape.TheVariants.{AsString, Own}
+use Rattle.at_nest.specs.declared.fragments.Parts.{Parts}
+use Rattle.at_nest.specs.declared.fragments.Fragment.{Fragment}
+use Rattle.at_nest.specs.Tree.{Tree}
+use Rattle.at_nest.specs.Stands.{HoldsVariant}
+
+abbrev pub parts_in : {X : Type 0} → Option (Box (Parts X) Global) → Option (Parts X)
+parts_in None = None
+parts_in (Some b) = Some b.value
+
+module _ {X : Type 0} (IsKept : X → Tree → Type 0) where
+  -- what the bytes are where the first of them is escaped; where it is no quote and no backslash, that is as in a string
+  abbrev pub HoldsEscape : ℕ → List ℕ → Escape X → Type 0
+  HoldsEscape at w AsString = (b : ℕ) × (o : List ℕ) × (w ≡ b ∷ o) × (b ≢ 0x22) × (b ≢ 0x5C)
+  HoldsEscape at w (Own v) = HoldsVariant IsKept InEscape at w v
+
+  pub record HoldsParts (at : ℕ) (w : List ℕ) (parts : Parts X) : Type 0 where
+    pub from : parts.from ≡ at
+    pub to : parts.to ≡ at + length w
+    pub out : HoldsVariant IsKept Out at w parts.out
+    pub string : HoldsVariant IsKept InString at w parts.string
+    pub escape : HoldsEscape at w parts.escape
+
+  -- what is kept, if anything, is of these bytes
+  abbrev pub HoldsSome : ℕ → List ℕ → Option (Parts X) → Type 0
+  HoldsSome at w None = ⊤
+  HoldsSome at w (Some parts) = HoldsParts at w parts
+
+module _ {A X : Type 0} where
+  abbrev pub parts_of : Fragment A X → Option (Parts X)
+  parts_of f = parts_in f.parts
+
+  abbrev pub StandsFor : (X → Tree → Type 0) → ℕ → List ℕ → Fragment A X → Type 0
+  StandsFor IsKept at w f = HoldsSome IsKept at w (parts_of f)

@@ -1,0 +1,63 @@
+//! What is made of a JSON tree, from the leaves up.
+
+ghost use Rattle.std.specs.Prelude.{◌+◌, ◌≤◌, ◌^◌, length, All, IfOk};
+ghost use Rattle.at_nest.specs.Tree.{Tree, Trees, Members, Spells, array as array_tree, object as object_tree};
+ghost use Rattle.at_nest.specs.Folds.{IsScalarText, AreFolds, AreMemberFolds};
+
+use at_lex::Units;
+use at_text::Memory;
+use std::alloc::Global;
+
+/// A member of an object: its name, the offset of the name's opening quote, and what its value became.
+#[derive(Drop)]
+pub struct Member<T> {
+    pub name: Units,
+    pub name_at: u32,
+    pub value: T,
+}
+
+/// A way to make something of JSON texts: an atom of each value, from the atoms of the values in it.
+///
+/// `is_fold` says which tree an atom stands for, and each call is one step of the fold of a tree: where what is handed
+/// in stands for the parts of a tree, what it answers stands for the tree. Offsets are of the file.
+pub trait Algebra: Sync {
+    type Atom: Send + Drop;
+
+    /// The atom is one that this algebra made.
+    ghost is_own: { Self → Self.Atom → Type 0 };
+
+    /// The atom is what the algebra makes of the tree.
+    ghost is_fold: { Self → Self.Atom → Tree → Type 0 };
+
+    /// The atom of a whole string, literal or number, which begins at the offset. The one refusal is want of memory.
+    fn scalar(&self, alloc: Global, text: &[u8], at: u32) -> Result<Self::Atom, Memory>
+        requires whole { IsScalarText text.now }
+        requires fits { at + length text.now ≤ 2 ^ 28 }
+        ensures own { IfOk result (is_own self.now) }
+        ensures fold { IfOk result (λ atom. (t : Tree) → Spells at text.now t → is_fold self.now atom t) };
+
+    /// The atom of an array, which begins at the offset, from those of its items. The one refusal is want of memory.
+    fn array(&self, alloc: Global, at: u32, items: Vec<Self::Atom>) -> Result<Self::Atom, Memory>
+        requires { All (is_own self.now) items.items }
+        ensures own { IfOk result (is_own self.now) }
+        ensures fold { IfOk result (λ atom. (ts : Trees) → AreFolds (is_fold self.now) items.items ts
+            → is_fold self.now atom (array_tree at ts)) };
+
+    /// The atom of an object, which begins at the offset, from its members. The one refusal is want of memory.
+    fn object(
+        &self,
+        alloc: Global,
+        at: u32,
+        members: Vec<Member<Self::Atom>>,
+    ) -> Result<Self::Atom, Memory>
+        requires { All (λ m. is_own self.now m.value) members.items }
+        ensures own { IfOk result (is_own self.now) }
+        ensures fold { IfOk result (λ atom. (ms : Members) → AreMemberFolds (is_fold self.now) members.items ms
+            → is_fold self.now atom (object_tree at ms)) };
+
+    /// A second atom that stands for the trees of the first. The one refusal is want of memory.
+    fn copy(&self, alloc: Global, atom: &Self::Atom) -> Result<Self::Atom, Memory>
+        requires { is_own self.now atom.now }
+        ensures own { IfOk result (is_own self.now) }
+        ensures fold { IfOk result (λ copied. (t : Tree) → is_fold self.now atom.now t → is_fold self.now copied t) };
+}

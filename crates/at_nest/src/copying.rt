@@ -1,0 +1,209 @@
+//! A second variant that is equal to the first, for two spans before that end in one state.
+
+ghost use Rattle.std.specs.Prelude.{◌≡◌, ℕ, All, List, IfOk};
+ghost use Rattle.at_lex.specs.declared.tokens.Start.{Start};
+ghost use Rattle.at_nest.specs.Shown.{held_of, shown, open_levels, AreOwn, OwnPiece, OwnLevel, OwnBody};
+ghost use Rattle.at_nest.specs.Holding.{Kept, CopiesItems, CopiesMember, CopiesMembers, CopiesHeld, CopiesLevels, CopiesPiece, CopiesPieces, CopiesShown};
+ghost use Rattle.at_nest.specs.Stands.{HoldsVariant};
+
+use crate::algebra::{Algebra, Member};
+use crate::bodies::Body;
+use crate::levels::{ArrayLevel, Level, MemberName, ObjectLevel, ObjectState};
+use crate::pieces::Piece;
+use crate::variants::Variant;
+use at_lex::Units;
+use at_text::Memory;
+use std::alloc::Global;
+
+fn copy_units(alloc: Global, units: &Units) -> Result<Units, Memory>
+    ensures { IfOk result (λ u. u ≡ units.now) }
+{
+    let mut items = Vec::with_capacity(alloc, units.as_slice().len())?;
+    items.extend_from_slice(units.as_slice())?;
+    Ok(Units::from_vec(items))
+}
+
+fn copy_name(alloc: Global, name: &MemberName) -> Result<MemberName, Memory>
+    ensures { IfOk result (λ n. n ≡ name.now) }
+{
+    Ok(MemberName {
+        units: copy_units(alloc, &name.units)?,
+        at: name.at,
+    })
+}
+
+fn copy_state(alloc: Global, state: &ObjectState) -> Result<ObjectState, Memory>
+    ensures { IfOk result (λ s. s ≡ state.now) }
+{
+    match state {
+        ObjectState::Empty => Ok(ObjectState::Empty),
+        ObjectState::Comma => Ok(ObjectState::Comma),
+        ObjectState::Named(name) => Ok(ObjectState::Named(copy_name(alloc, name)?)),
+        ObjectState::Colon(name) => Ok(ObjectState::Colon(copy_name(alloc, name)?)),
+        ObjectState::Value => Ok(ObjectState::Value),
+    }
+}
+
+fn copy_items<A: Algebra>(
+    alloc: Global,
+    algebra: &A,
+    items: &Vec<A::Atom>,
+) -> Result<Vec<A::Atom>, Memory>
+    requires { All (A.is_own algebra.now) items.now.items }
+    ensures { IfOk result (λ v. CopiesItems (Kept (A.is_own algebra.now) (A.is_fold algebra.now)) items.now.items v.items) }
+{
+    let mut copied = Vec::with_capacity(alloc, items.len())?;
+    for item in items {
+        copied.push(algebra.copy(alloc, item)?)?;
+    }
+    Ok(copied)
+}
+
+fn copy_member<A: Algebra>(
+    alloc: Global,
+    algebra: &A,
+    member: &Member<A::Atom>,
+) -> Result<Member<A::Atom>, Memory>
+    requires { A.is_own algebra.now member.now.value }
+    ensures { IfOk result (CopiesMember (Kept (A.is_own algebra.now) (A.is_fold algebra.now)) member.now) }
+{
+    Ok(Member {
+        name: copy_units(alloc, &member.name)?,
+        name_at: member.name_at,
+        value: algebra.copy(alloc, &member.value)?,
+    })
+}
+
+fn copy_members<A: Algebra>(
+    alloc: Global,
+    algebra: &A,
+    members: &Vec<Member<A::Atom>>,
+) -> Result<Vec<Member<A::Atom>>, Memory>
+    requires { All (λ m. A.is_own algebra.now m.value) members.now.items }
+    ensures { IfOk result (λ v. CopiesMembers (Kept (A.is_own algebra.now) (A.is_fold algebra.now)) members.now.items v.items) }
+{
+    let mut copied = Vec::with_capacity(alloc, members.len())?;
+    for member in members {
+        copied.push(copy_member(alloc, algebra, member)?)?;
+    }
+    Ok(copied)
+}
+
+fn copy_level<A: Algebra>(
+    alloc: Global,
+    algebra: &A,
+    level: &Level<A::Atom>,
+) -> Result<Level<A::Atom>, Memory>
+    requires { AreOwn (A.is_own algebra.now) (held_of level.now) }
+    ensures { IfOk result (λ l. CopiesHeld (Kept (A.is_own algebra.now) (A.is_fold algebra.now)) (held_of level.now) (held_of l)) }
+{
+    match level {
+        Level::Array(level) => Ok(Level::Array(ArrayLevel {
+            from: level.from,
+            state: level.state,
+            items: copy_items(alloc, algebra, &level.items)?,
+        })),
+        Level::Object(level) => Ok(Level::Object(ObjectLevel {
+            from: level.from,
+            state: copy_state(alloc, &level.state)?,
+            members: copy_members(alloc, algebra, &level.members)?,
+        })),
+    }
+}
+
+fn copy_piece<A: Algebra>(
+    alloc: Global,
+    algebra: &A,
+    piece: &Piece<A::Atom>,
+) -> Result<Piece<A::Atom>, Memory>
+    requires { OwnPiece (A.is_own algebra.now) piece.now }
+    ensures { IfOk result (CopiesPiece (Kept (A.is_own algebra.now) (A.is_fold algebra.now)) piece.now) }
+{
+    match piece {
+        Piece::Closes(bracket, at) => Ok(Piece::Closes(*bracket, *at)),
+        Piece::Comma(at) => Ok(Piece::Comma(*at)),
+        Piece::Colon(at) => Ok(Piece::Colon(*at)),
+        Piece::Text { span, atom } => Ok(Piece::Text {
+            span: *span,
+            atom: algebra.copy(alloc, atom)?,
+        }),
+        Piece::Value { from, atom } => Ok(Piece::Value {
+            from: *from,
+            atom: algebra.copy(alloc, atom)?,
+        }),
+    }
+}
+
+fn copy_pieces<A: Algebra>(
+    alloc: Global,
+    algebra: &A,
+    pieces: &Vec<Piece<A::Atom>>,
+) -> Result<Vec<Piece<A::Atom>>, Memory>
+    requires { All (OwnPiece (A.is_own algebra.now)) pieces.now.items }
+    ensures { IfOk result (λ v. CopiesPieces (Kept (A.is_own algebra.now) (A.is_fold algebra.now)) pieces.now.items v.items) }
+{
+    let mut copied = Vec::with_capacity(alloc, pieces.len())?;
+    for piece in pieces {
+        copied.push(copy_piece(alloc, algebra, piece)?)?;
+    }
+    Ok(copied)
+}
+
+fn copy_levels<A: Algebra>(
+    alloc: Global,
+    algebra: &A,
+    levels: &Vec<Level<A::Atom>>,
+) -> Result<Vec<Level<A::Atom>>, Memory>
+    requires { All (OwnLevel (A.is_own algebra.now)) levels.now.items }
+    ensures { IfOk result (λ v. CopiesLevels (Kept (A.is_own algebra.now) (A.is_fold algebra.now)) (open_levels levels.now.items) (open_levels v.items)) }
+{
+    let mut copied = Vec::with_capacity(alloc, levels.len())?;
+    for level in levels {
+        copied.push(copy_level(alloc, algebra, level)?)?;
+    }
+    Ok(copied)
+}
+
+fn copy_body<A: Algebra>(
+    alloc: Global,
+    algebra: &A,
+    body: &Body<A::Atom>,
+) -> Result<Body<A::Atom>, Memory>
+    requires { OwnBody (A.is_own algebra.now) body.now }
+    ensures { IfOk result (λ b. CopiesShown (Kept (A.is_own algebra.now) (A.is_fold algebra.now)) (shown body.now) (shown b)) }
+{
+    Ok(Body {
+        outer: copy_pieces(alloc, algebra, &body.outer)?,
+        levels: copy_levels(alloc, algebra, &body.levels)?,
+    })
+}
+
+/// A second variant of the same meaning.
+pub fn copy_variant<A: Algebra>(
+    alloc: Global,
+    algebra: &A,
+    variant: &Variant<A::Atom>,
+) -> Result<Variant<A::Atom>, Memory>
+    requires { (s : Start) × (at : ℕ) × (w : List ℕ) × HoldsVariant (Kept (A.is_own algebra.now) (A.is_fold algebra.now)) s at w variant.now }
+    ensures { IfOk result (λ v. (s : Start) (at : ℕ) (w : List ℕ) → HoldsVariant (Kept (A.is_own algebra.now) (A.is_fold algebra.now)) s at w variant.now → HoldsVariant (Kept (A.is_own algebra.now) (A.is_fold algebra.now)) s at w v) }
+{
+    match variant {
+        Variant::AllLead { end } => Ok(Variant::AllLead { end: *end }),
+        Variant::Whole {
+            lead,
+            body,
+            pend,
+            end,
+        } => Ok(Variant::Whole {
+            lead: *lead,
+            body: copy_body(alloc, algebra, body)?,
+            pend: *pend,
+            end: *end,
+        }),
+        Variant::Broken { lead, body, halt } => Ok(Variant::Broken {
+            lead: *lead,
+            body: copy_body(alloc, algebra, body)?,
+            halt: *halt,
+        }),
+    }
+}

@@ -1,0 +1,74 @@
+//! What stands in a span before its first open level, and where a span stops.
+
+ghost use Rattle.std.specs.Prelude.{◌≡◌};
+ghost use Rattle.at_nest.specs.Shown.{stop_at, first_of_piece, is_value_piece};
+
+use at_lex::Bracket;
+use at_text::Span;
+
+/// An item of a span whose level was opened before the span.
+#[derive(Drop)]
+pub enum Piece<T> {
+    Closes(Bracket, u32),
+    Comma(u32),
+    Colon(u32),
+    /// A string, which may turn out to be a name or a value, with the atom that it is as a value.
+    Text { span: Span, atom: T },
+    /// Any other value, with the offset of its first byte.
+    Value { from: u32, atom: T },
+}
+
+impl<T: Drop> Piece<T> {
+    /// The offset of the first byte.
+    pub fn first(&self) -> u32
+        ensures { result ≡ first_of_piece self.now }
+    {
+        match self {
+            Piece::Closes(_, at) => *at,
+            Piece::Comma(at) => *at,
+            Piece::Colon(at) => *at,
+            Piece::Text { span, .. } => span.from,
+            Piece::Value { from, .. } => *from,
+        }
+    }
+
+    /// Whether it is a value, or can be one.
+    pub fn is_value(&self) -> bool
+        ensures { result ≡ is_value_piece self.now }
+    {
+        match self {
+            Piece::Text { .. } | Piece::Value { .. } => true,
+            _ => false,
+        }
+    }
+}
+
+/// How far a span reads on in the item at which it stops.
+#[derive(Clone, Copy, Debug, PartialEq, Eq)]
+pub enum Within {
+    /// Not past its first byte, whatever stands before.
+    First,
+    /// In a literal or a number, or at its end.
+    Run,
+    /// In a string.
+    Text,
+}
+
+/// Where a span stops: its item, and the first byte that no bytes before the span can make viable.
+#[derive(Clone, Copy, Debug, PartialEq, Eq)]
+pub struct Halt {
+    pub within: Within,
+    pub item: u32,
+    pub place: u32,
+}
+
+/// A stop at an item's first byte.
+pub fn first_byte(at: u32) -> Halt
+    ensures { result ≡ stop_at at }
+{
+    Halt {
+        within: Within::First,
+        item: at,
+        place: at,
+    }
+}

@@ -1,0 +1,249 @@
+//! What a span is from one start state.
+
+ghost use Rattle.std.specs.Prelude.{◌≡◌, ℕ, ◌+◌, ◌-◌, ◌≤◌, ◌^◌, ◌++◌, List, [], length, take, drop, IfOk};
+ghost use Rattle.at_lex.specs.declared.tokens.Start.{Start};
+ghost use Rattle.at_nest.specs.Shown.{shown};
+ghost use Rattle.at_nest.specs.Holding.{Kept};
+ghost use Rattle.at_nest.specs.Reading.{HasBytes, pend_from};
+ghost use Rattle.at_nest.specs.Stands.{HoldsVariant, HoldsBehind, CanMeet, Meets, Neighbours, HaveUnion};
+
+use crate::algebra::Algebra;
+use crate::bodies::{Body, join};
+use crate::pieces::Halt;
+use crate::tokens::{cut_token, read_token};
+use at_lex::{Item, Lead, Lexer, Pend, Start};
+use at_text::Memory;
+use std::alloc::Global;
+
+/// A span from one start state. Offsets are of the file.
+#[derive(Drop)]
+pub enum Variant<T> {
+    /// All of it belongs to a token that began before it, if there is one.
+    AllLead {
+        end: Start,
+    },
+    /// What belongs to a token that began before it ends before `lead`; what may go on behind it begins at `pend`, which
+    /// is the span's end where nothing may.
+    Whole {
+        lead: u32,
+        body: Body<T>,
+        pend: u32,
+        end: Start,
+    },
+    /// Nothing that stands before the span makes the place of the halt viable.
+    Broken {
+        lead: u32,
+        body: Body<T>,
+        halt: Halt,
+    },
+}
+
+/// The bytes of the token, which a piece with this base has.
+fn part<'a>(piece: &'a [u8], base: u32, from: u32, to: u32) -> &'a [u8]
+    requires base { base ≤ from }
+    requires from { from ≤ to }
+    requires to { to ≤ base + length piece.now }
+    ensures { result.now ≡ take (to - from) (drop (from - base) piece.now) }
+{
+    &piece[(from - base) as usize..(to - base) as usize]
+}
+
+/// Where what may go on begins.
+fn pend_of(pend: Pend, end: u32) -> u32
+    ensures { result ≡ pend_from pend end }
+{
+    match pend {
+        Pend::Nothing => end,
+        Pend::Run(from) => from,
+        Pend::Text(from) => from,
+    }
+}
+
+/// Reads what stands behind the lead.
+fn read_items<A: Algebra>(
+    alloc: Global,
+    algebra: &A,
+    piece: &[u8],
+    base: u32,
+    lead: u32,
+    mut lexer: Lexer<'_>,
+) -> Result<Variant<A::Atom>, Memory>
+    requires fits { base + length piece.now ≤ 2 ^ 28 }
+    requires behind { HasBytes base piece.now lexer.at lexer.rest }
+    requires out { lexer.state ≡ Start.Out }
+    ensures { IfOk result (HoldsBehind (Kept (A.is_own algebra.now) (A.is_fold algebra.now)) base piece.now
+        lexer.entry.at lexer.entry.rest lead) }
+{
+    let mut body = Body::new(alloc);
+    loop {
+        match lexer.next_item() {
+            Item::Whole(token) => {
+                let text = part(piece, base, token.from, token.to);
+                match read_token(&mut body, alloc, algebra, text, token)? {
+                    None => {}
+                    Some(halt) => return Ok(Variant::Broken { lead, body, halt }),
+                }
+            }
+            Item::End { pend, end } => {
+                let pend = pend_of(pend, base + piece.len() as u32);
+                return Ok(Variant::Whole {
+                    lead,
+                    body,
+                    pend,
+                    end,
+                });
+            }
+        }
+    }
+}
+
+/// The state behind a piece that is all lead.
+fn end_of(mut lexer: Lexer<'_>) -> Start
+    requires { lexer.rest ≡ [] }
+    ensures { result ≡ lexer.entry.state }
+{
+    match lexer.next_item() {
+        Item::End { end, .. } => end,
+        Item::Whole(_) => Start::Out,
+    }
+}
+
+/// A piece from one start state.
+pub fn read_variant<A: Algebra>(
+    alloc: Global,
+    algebra: &A,
+    piece: &[u8],
+    base: u32,
+    start: Start,
+) -> Result<Variant<A::Atom>, Memory>
+    requires { base + length piece.now ≤ 2 ^ 28 }
+    ensures { IfOk result (HoldsVariant (Kept (A.is_own algebra.now) (A.is_fold algebra.now)) start base piece.now) }
+{
+    let (lead, lexer) = Lexer::new(piece, base, start);
+    match lead {
+        Lead::AllRun | Lead::AllText => Ok(Variant::AllLead { end: end_of(lexer) }),
+        Lead::Nothing => if piece.is_empty() {
+            Ok(Variant::AllLead { end: Start::Out })
+        } else {
+            read_items(alloc, algebra, piece, base, base, lexer)
+        },
+        Lead::RunEnds(at) => read_items(alloc, algebra, piece, base, at, lexer),
+        Lead::TextEnds(at) => read_items(alloc, algebra, piece, base, at, lexer),
+    }
+}
+
+impl<T: Drop> Variant<T> {
+    /// The state in which what stands behind the span begins; none where the span stops.
+    pub fn end(&self) -> Option<Start> {
+        match self {
+            Variant::AllLead { end } => Some(*end),
+            Variant::Whole { end, .. } => Some(*end),
+            Variant::Broken { .. } => None,
+        }
+    }
+}
+
+/// Behind the items of the left span: the token from `from` up to `to`, which the two spans give together, and the
+/// items of the right one.
+pub fn join_items<A: Algebra>(
+    body: &mut Body<A::Atom>,
+    alloc: Global,
+    algebra: &A,
+    bytes: &[u8],
+    from: u32,
+    to: u32,
+    behind: Body<A::Atom>,
+) -> Result<Option<Halt>, Memory>
+    requires fits { length bytes.now ≤ 2 ^ 28 }
+    requires order { from ≤ to }
+    requires end { to ≤ length bytes.now }
+    requires held { CanMeet (Kept (A.is_own algebra.now) (A.is_fold algebra.now)) bytes.now (shown body.old) (shown behind)
+        from (take (to - from) (drop from bytes.now)) }
+    ensures { IfOk result (λ r. Meets (Kept (A.is_own algebra.now) (A.is_fold algebra.now)) bytes.now
+        (shown body.old) (shown behind) (shown body.new) r from (take (to - from) (drop from bytes.now))) }
+{
+    let text = &bytes[from as usize..to as usize];
+    match cut_token(body, alloc, algebra, text, from)? {
+        None => join(body, alloc, algebra, bytes, behind),
+        Some(halt) => Ok(Some(halt)),
+    }
+}
+
+/// Two spans that stand one behind the other. The right one is read from the state in which the left one ends.
+pub fn join_variants<A: Algebra>(
+    alloc: Global,
+    algebra: &A,
+    bytes: &[u8],
+    left: Variant<A::Atom>,
+    right: Variant<A::Atom>,
+) -> Result<Variant<A::Atom>, Memory>
+    requires fits { length bytes.now ≤ 2 ^ 28 }
+    requires held { (s : Start) × (at : ℕ) × (w : List ℕ) × (x : List ℕ)
+        × HaveUnion (Kept (A.is_own algebra.now) (A.is_fold algebra.now)) bytes.now s at w x left right }
+    ensures { IfOk result (λ v. (s : Start) (at : ℕ) (w x : List ℕ)
+        → HaveUnion (Kept (A.is_own algebra.now) (A.is_fold algebra.now)) bytes.now s at w x left right
+        → HoldsVariant (Kept (A.is_own algebra.now) (A.is_fold algebra.now)) s at (w ++ x) v) }
+{
+    match left {
+        Variant::AllLead { .. } => Ok(right),
+        Variant::Broken { .. } => Ok(left),
+        Variant::Whole {
+            lead,
+            body,
+            pend,
+            ..
+        } => join_behind(alloc, algebra, bytes, lead, body, pend, right),
+    }
+}
+
+fn join_behind<A: Algebra>(
+    alloc: Global,
+    algebra: &A,
+    bytes: &[u8],
+    lead: u32,
+    mut body: Body<A::Atom>,
+    from: u32,
+    right: Variant<A::Atom>,
+) -> Result<Variant<A::Atom>, Memory>
+    requires fits { length bytes.now ≤ 2 ^ 28 }
+    requires held { (s : Start) × (at : ℕ) × (w : List ℕ) × (x : List ℕ)
+        × Neighbours (Kept (A.is_own algebra.now) (A.is_fold algebra.now)) bytes.now s at w x lead (shown body) from right }
+    ensures { IfOk result (λ v. (s : Start) (at : ℕ) (w x : List ℕ)
+        → Neighbours (Kept (A.is_own algebra.now) (A.is_fold algebra.now)) bytes.now s at w x lead (shown body) from right
+        → HoldsVariant (Kept (A.is_own algebra.now) (A.is_fold algebra.now)) s at (w ++ x) v) }
+{
+    match right {
+        Variant::AllLead { end } => Ok(Variant::Whole {
+            lead,
+            body,
+            pend: from,
+            end,
+        }),
+        Variant::Whole {
+            lead: to,
+            body: behind,
+            pend,
+            end,
+        } => match join_items(&mut body, alloc, algebra, bytes, from, to, behind)? {
+            None => Ok(Variant::Whole {
+                lead,
+                body,
+                pend,
+                end,
+            }),
+            Some(halt) => Ok(Variant::Broken { lead, body, halt }),
+        },
+        Variant::Broken {
+            lead: to,
+            body: behind,
+            halt: last,
+        } => match join_items(&mut body, alloc, algebra, bytes, from, to, behind)? {
+            None => Ok(Variant::Broken {
+                lead,
+                body,
+                halt: last,
+            }),
+            Some(halt) => Ok(Variant::Broken { lead, body, halt }),
+        },
+    }
+}
