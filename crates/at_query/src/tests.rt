@@ -1,0 +1,422 @@
+ghost use Rattle.std.specs.Prelude.{IfOk, IfSome, All, IsTrue};
+ghost use Rattle.at_geom.specs.Segments.{IsInRange};
+ghost use Rattle.at_geom.specs.Shapes.{ArePathsInRange, ArePolygonsInRange, IsShapeInRange};
+ghost use Rattle.at_query.specs.Ranges.{IsTestInRange, IsQueryInRange, IsFeatureInRange};
+ghost use Rattle.at_query.specs.Parts.{AreAlike, IsAnswerable};
+
+use super::*;
+use at_geom::{Extent, Path, Paths, Polygon, Polygons, Pos, Shape};
+use at_lex::Units;
+use std::alloc::{AllocError, Global};
+use std::test::Fail;
+
+/// A shape: points, and at most one line and one ring.
+#[derive(Drop)]
+struct Outline {
+    at: u32,
+    points: &'static [(i32, i32)],
+    line: &'static [(i32, i32)],
+    ring: &'static [(i32, i32)],
+    is_in: bool,
+    meets: bool,
+}
+
+/// Shapes, and whether they are in the box (0, 0) to (10, 10), and meet it.
+static AROUND_BOX: [Outline; 10] = [
+    Outline {
+        at: 0,
+        points: &[(5, 5)],
+        line: &[],
+        ring: &[],
+        is_in: true,
+        meets: true,
+    },
+    // a corner
+    Outline {
+        at: 9,
+        points: &[(10, 10)],
+        line: &[],
+        ring: &[],
+        is_in: true,
+        meets: true,
+    },
+    Outline {
+        at: 21,
+        points: &[(11, 5)],
+        line: &[],
+        ring: &[],
+        is_in: false,
+        meets: false,
+    },
+    // one of two points
+    Outline {
+        at: 32,
+        points: &[(5, 5), (11, 5)],
+        line: &[],
+        ring: &[],
+        is_in: false,
+        meets: true,
+    },
+    Outline {
+        at: 50,
+        points: &[],
+        line: &[(1, 1), (9, 9)],
+        ring: &[],
+        is_in: true,
+        meets: true,
+    },
+    // a line across
+    Outline {
+        at: 77,
+        points: &[],
+        line: &[(-5, 5), (15, 5)],
+        ring: &[],
+        is_in: false,
+        meets: true,
+    },
+    Outline {
+        at: 99,
+        points: &[],
+        line: &[(20, 0), (20, 9)],
+        ring: &[],
+        is_in: false,
+        meets: false,
+    },
+    Outline {
+        at: 120,
+        points: &[],
+        line: &[],
+        ring: &[(2, 2), (4, 2), (4, 4), (2, 2)],
+        is_in: true,
+        meets: true,
+    },
+    // a polygon around the box
+    Outline {
+        at: 150,
+        points: &[],
+        line: &[],
+        ring: &[(-9, -9), (30, -9), (30, 30), (-9, 30), (-9, -9)],
+        is_in: false,
+        meets: true,
+    },
+    // nothing
+    Outline {
+        at: 200,
+        points: &[],
+        line: &[],
+        ring: &[],
+        is_in: false,
+        meets: false,
+    },
+];
+
+/// What each verb prints of those shapes with no test, with one digit behind the point.
+const OF_ALL: [(Verb, &str); 4] = [
+    (Verb::Select, "0\n9\n21\n32\n50\n77\n99\n120\n150\n200\n"),
+    (Verb::Count, "10\n"),
+    (Verb::Area, "3046\n"),
+    (Verb::Extent, "-0.9 -0.9 3.0 3.0\n"),
+];
+
+/// The same of those in the box.
+const OF_INNER: [(Verb, &str); 4] = [
+    (Verb::Select, "0\n9\n50\n120\n"),
+    (Verb::Count, "4\n"),
+    (Verb::Area, "4\n"),
+    (Verb::Extent, "0.1 0.1 1.0 1.0\n"),
+];
+
+/// The same of those in a box that none is in.
+const OF_NONE: [(Verb, &str); 4] = [
+    (Verb::Select, ""),
+    (Verb::Count, "0\n"),
+    (Verb::Area, "0\n"),
+    (Verb::Extent, "empty\n"),
+];
+
+fn place(x: i32, y: i32) -> Pos
+    ensures { IsInRange result }
+{
+    Pos {
+        x: i64::from(x),
+        y: i64::from(y),
+    }
+}
+
+fn box_of(low: i32, high: i32) -> Extent {
+    Extent {
+        low: place(low, low),
+        high: place(high, high),
+    }
+}
+
+fn path(alloc: Global, places: &[(i32, i32)]) -> Result<Path, AllocError>
+    ensures { IfOk result (λ p. All IsInRange p) }
+{
+    let mut items = Vec::new(alloc);
+    for at in places {
+        items.push(place(at.0, at.1))?;
+    }
+    Ok(Path::from_vec(items))
+}
+
+fn paths(alloc: Global, places: &[(i32, i32)]) -> Result<Paths, AllocError>
+    ensures { IfOk result ArePathsInRange }
+{
+    let mut items = Vec::new(alloc);
+    if !places.is_empty() {
+        items.push(path(alloc, places)?)?;
+    }
+    Ok(Paths::from_vec(items))
+}
+
+fn polygons(alloc: Global, ring: &[(i32, i32)]) -> Result<Polygons, AllocError>
+    ensures { IfOk result ArePolygonsInRange }
+{
+    let mut items = Vec::new(alloc);
+    if !ring.is_empty() {
+        items.push(Polygon {
+            rings: paths(alloc, ring)?,
+        })?;
+    }
+    Ok(Polygons::from_vec(items))
+}
+
+fn shape(alloc: Global, outline: &Outline) -> Result<Shape, AllocError>
+    ensures { IfOk result IsShapeInRange }
+{
+    Ok(Shape {
+        points: path(alloc, outline.points)?,
+        lines: paths(alloc, outline.line)?,
+        polygons: polygons(alloc, outline.ring)?,
+    })
+}
+
+fn units(alloc: Global, text: &str) -> Result<Units, AllocError> {
+    let mut items = Vec::new(alloc);
+    for b in text.as_bytes() {
+        items.push(u16::from(*b))?;
+    }
+    Ok(Units::from_vec(items))
+}
+
+fn pair(alloc: Global, name: &str, value: &str) -> Result<TextPair, AllocError> {
+    Ok(TextPair {
+        name: units(alloc, name)?,
+        value: units(alloc, value)?,
+    })
+}
+
+/// A feature with two texts.
+fn feature(alloc: Global, outline: &Outline) -> Result<Feature, AllocError>
+    ensures { IfOk result IsFeatureInRange }
+{
+    let mut texts = Vec::new(alloc);
+    texts.push(pair(alloc, "name", "Rhine")?)?;
+    texts.push(pair(alloc, "kind", "river")?)?;
+    Ok(Feature {
+        at: outline.at,
+        shape: shape(alloc, outline)?,
+        texts: TextPairs::from_vec(texts),
+    })
+}
+
+/// A query with at most one test.
+fn query(alloc: Global, verb: Verb, test: Option<Test>) -> Result<Query, AllocError>
+    requires { IfSome test IsTestInRange }
+    ensures { IfOk result IsQueryInRange }
+{
+    let mut items = Vec::new(alloc);
+    if let Some(only) = test {
+        items.push(only)?;
+    }
+    Ok(Query {
+        verb,
+        tests: Tests::from_vec(items),
+    })
+}
+
+/// The shape of the box from (0, 0) to (10, 10).
+fn box_shape(alloc: Global) -> Result<Shape, AllocError>
+    ensures { IfOk result IsShapeInRange }
+{
+    Ok(Shape {
+        points: path(alloc, &[])?,
+        lines: paths(alloc, &[])?,
+        polygons: polygons(alloc, &[(0, 0), (10, 0), (10, 10), (0, 10), (0, 0)])?,
+    })
+}
+
+fn are_alike(left: &Part, right: &Part) -> bool
+    ensures { IsTrue result → AreAlike left.now right.now }
+{
+    match (left, right) {
+        (Part::Offsets(_), Part::Offsets(_)) => true,
+        (Part::Count(_), Part::Count(_)) => true,
+        (Part::Area(_), Part::Area(_)) => true,
+        (Part::Spread(_), Part::Spread(_)) => true,
+        (Part::Entries(_), Part::Entries(_)) => true,
+        _ => false,
+    }
+}
+
+fn merged(left: Part, right: Part) -> Result<Part, Fail> {
+    if !are_alike(&left, &right) {
+        return Err(Fail::from("parts of two verbs"));
+    }
+    Ok(part_merge(left, right)?)
+}
+
+fn answered(part: Part) -> Result<Answer, Fail> {
+    if let Part::Entries(_) = part {
+        return Err(Fail::from("a join has no answer of its own"));
+    }
+    Ok(answer_of(part))
+}
+
+/// The part of all shapes, joined from the left or from the right.
+fn part_of_all(alloc: Global, query: &Query, from_left: bool) -> Result<Part, Fail>
+    requires { IsQueryInRange query.now }
+{
+    let mut all = part_none(alloc, query);
+    for index in 0..AROUND_BOX.len() {
+        let number = if from_left {
+            index
+        } else {
+            AROUND_BOX.len() - 1 - index
+        };
+        let one = part_of(alloc, query, feature(alloc, &AROUND_BOX[number])?)?;
+        all = if from_left {
+            merged(all, one)?
+        } else {
+            merged(one, all)?
+        };
+    }
+    Ok(all)
+}
+
+fn printed_of_all(alloc: Global, query: &Query, from_left: bool) -> Result<String, Fail>
+    requires { IsQueryInRange query.now }
+{
+    let answer = answered(part_of_all(alloc, query, from_left)?)?;
+    Ok(answer_text(alloc, &answer, 1)?)
+}
+
+/// Whether each verb prints what its row says, with at most one box that the shapes are to be in.
+fn print_as_told(
+    alloc: Global,
+    extent: Option<Extent>,
+    rows: &[(Verb, &str)],
+) -> Result<bool, Fail> {
+    for row in rows {
+        let asked = query(alloc, row.0, extent.map(|e| Test::InBox(e)))?;
+        if printed_of_all(alloc, &asked, true)?.as_str() != row.1 {
+            return Ok(false);
+        }
+        if printed_of_all(alloc, &asked, false)?.as_str() != row.1 {
+            return Ok(false);
+        }
+    }
+    Ok(true)
+}
+
+#[test]
+fn shapes_and_a_box(rt: HostRuntime) -> Result<(), Fail> {
+    let inner = query(rt.alloc(), Verb::Select, Some(Test::InBox(box_of(0, 10))))?;
+    let meeting = query(
+        rt.alloc(),
+        Verb::Select,
+        Some(Test::MeetsShape(box_shape(rt.alloc())?)),
+    )?;
+    for outline in &AROUND_BOX {
+        let found = feature(rt.alloc(), outline)?;
+        assert_eq!(rt; holds(&inner, &found), outline.is_in);
+        assert_eq!(rt; holds(&meeting, &found), outline.meets);
+    }
+    Ok(())
+}
+
+#[test]
+fn texts(rt: HostRuntime) -> Result<(), Fail> {
+    let rows = [
+        ("name", "Rhine", true),
+        ("kind", "river", true),
+        ("name", "river", false),
+        ("kind", "Rhine", false),
+        ("nam", "Rhine", false),
+        ("name", "Rhin", false),
+        ("name", "rhine", false),
+        ("", "", false),
+    ];
+    let found = feature(rt.alloc(), &AROUND_BOX[0])?;
+    for (name, value, expected) in rows {
+        let test = Test::Has(units(rt.alloc(), name)?, units(rt.alloc(), value)?);
+        let asked = query(rt.alloc(), Verb::Count, Some(test))?;
+        assert_eq!(rt; holds(&asked, &found), expected);
+    }
+    Ok(())
+}
+
+#[test]
+fn answers_of_parts(rt: HostRuntime) -> Result<(), Fail> {
+    assert!(rt; print_as_told(rt.alloc(), None, &OF_ALL)?);
+    assert!(rt; print_as_told(rt.alloc(), Some(box_of(0, 10)), &OF_INNER)?);
+    assert!(rt; print_as_told(rt.alloc(), Some(box_of(500, 900)), &OF_NONE)?);
+    Ok(())
+}
+
+#[test]
+fn entries_of_a_join(rt: HostRuntime) -> Result<(), Fail> {
+    let asked = query(rt.alloc(), Verb::Join, Some(Test::InBox(box_of(0, 10))))?;
+    let Part::Entries(entries) = part_of_all(rt.alloc(), &asked, true)? else {
+        return Err(Fail::from("no entries"));
+    };
+    let rows = [(0, 5, 5), (9, 10, 10), (50, 1, 9), (120, 2, 4)];
+    assert_eq!(rt; entries.as_slice().len(), rows.len());
+    for (entry, (at, low, high)) in entries.as_slice().iter().zip(rows) {
+        assert_eq!(rt; entry.at, at);
+        assert_eq!(rt; entry.extent, Some(box_of(low, high)));
+    }
+    Ok(())
+}
+
+#[test]
+fn printed_answers(rt: HostRuntime) -> Result<(), Fail> {
+    let pairs = vec![in rt.alloc();
+        Pair {
+            first: 0,
+            second: 7
+        },
+        Pair {
+            first: 12,
+            second: 4_000_000_000
+        },
+    ]?;
+    let rows = [
+        (
+            Answer::Offsets(Offsets::from_vec(vec![in rt.alloc(); 0, 12, 268_435_456]?)),
+            "0\n12\n268435456\n",
+        ),
+        (Answer::Offsets(Offsets::from_vec(Vec::new(rt.alloc()))), ""),
+        (Answer::Number(0), "0\n"),
+        (Answer::Number(750_000_000_000_000), "750000000000000\n"),
+        (
+            Answer::Number(-18_446_744_073_709_551_617),
+            "-18446744073709551617\n",
+        ),
+        (Answer::Spread(None), "empty\n"),
+        (
+            Answer::Spread(Some(box_of(-15_000_000, 5))),
+            "-1.5000000 -1.5000000 0.0000005 0.0000005\n",
+        ),
+        (
+            Answer::Pairs(Pairs::from_vec(pairs)),
+            "0 7\n12 4000000000\n",
+        ),
+    ];
+    for (answer, expected) in rows {
+        let text = answer_text(rt.alloc(), &answer, 7)?;
+        assert_eq!(rt; text.as_str(), expected);
+    }
+    Ok(())
+}
