@@ -1,19 +1,19 @@
 -- Parts that are EMPTY or in brackets.
-use Rattle.std.proofs.Common.{◌≡◌, ◌≢◌, ℕ, ◌+◌, ◌-◌, ◌<◌, ◌≤◌, ◌⊎◌, inl, inr, Bool, true, false, not, ◌&&◌, ◌||◌, ◌==◌, List, [], ◌∷◌, ◌++◌, length, codes, Option, Some, None, refl, sym, ◌∙◌, ap, subst, arith, true≢false, append-nil, append_assoc, length-append}
+use Rattle.std.proofs.Common.{◌≡◌, ℕ, ◌+◌, ◌<◌, ◌≤◌, ◌⊎◌, inl, inr, Bool, true, false, not, ◌==◌, List, [], ◌∷◌, ◌++◌, length, codes, Option, Some, None, refl, sym, ◌∙◌, ap, subst, arith, true≢false, append_assoc}
 use Rattle.std.specs.Char.{to_ascii_uppercase}
 use Rattle.std.specs.Str.{str_to_ascii_uppercase}
 use Rattle.std.proofs.lemmas.List.{append_cancel_left}
-use Rattle.at_text.specs.Parts.{Many, OneOrMore, Exactly, AnyCase, At, ◌▸◌}
+use Rattle.at_text.specs.Parts.{Many, Exactly, ◌▸◌}
 use Rattle.at_wkt.specs.declared.dimension.Dimension.{Dimension}
 use Rattle.at_wkt.specs.Positions.{Position, Positions}
-use Rattle.at_wkt.specs.Geometry.{is_blank, ◌‿◌, SpellsPosition, InBrackets, Parted, EmptyWord, EmptyOrParted, SpellsRing, SpellsList, SpellsPoint, SpellsPointMember, SpellsArea}
-use Rattle.at_wkt.specs.Reading.{opens, part, next, Allows, Spelt, Stuck, Leads, SkipsBlanks, delimiter, Delimiter, Item, Items, WordStands, WordBreaks, HasCount, EnclosedPosition}
-use Rattle.at_wkt.proofs.Leads.{part-none, part-one, part-more, part-length, part-part, part-cons, offset, Ahead, ahead_stuck, Begins, Inhabited, append_cases, counts, same_or_less}
-use Rattle.at_wkt.proofs.Steps.{Then, Same, When, when_leads, same_leads, trans_leads, no_blank, AreBlanks, one_blanks, not_blank}
+use Rattle.at_wkt.specs.Geometry.{is_blank, SpellsPosition, InBrackets, Parted, EmptyWord, EmptyOrParted, SpellsRing, SpellsList, SpellsPoint, SpellsPointMember}
+use Rattle.at_wkt.specs.Reading.{opens, part, next, Spelt, Stuck, Leads, SkipsBlanks, Item, WordStands, WordBreaks, HasCount, EnclosedPosition}
+use Rattle.at_wkt.proofs.Leads.{part-part, part-cons, ahead_stuck, Begins, Inhabited, same_or_less}
+use Rattle.at_wkt.proofs.Steps.{When, when_leads, no_blank, one_blanks}
 use Rattle.at_wkt.proofs.WordSteps.{Word, word_spelt, word_stuck}
 use Rattle.at_wkt.proofs.PositionSteps.{begins_number}
-use Rattle.at_wkt.proofs.ListSteps.{ItemLives, inhabited_lives, position_lives, position_inhabited, items_inhabited, ended_begins, ring_leads, bracket_leads, enclosed_leads}
-use Rattle.at_wkt.proofs.Lists.{brackets_same, parted_to}
+use Rattle.at_wkt.proofs.ListSteps.{position_lives, items_inhabited, ended_begins}
+use Rattle.at_wkt.proofs.Lists.{brackets_same}
 
 abbrev pub is_open : ℕ → Bool
 is_open b = b == 0x28
@@ -133,6 +133,7 @@ parted_choice {X} P = record {
   opened : (d : ℕ) (xs : List X) (at : ℕ) (v : List ℕ) → Bracketed P d xs at v → EmptyOrParted (P d) xs at v
   opened d [] at v (a, b, e, h, (x, y, f, k, (p, q, g, none, m))) = absurd none
   opened d (x ∷ xs) at v h = h
+
   parted_cases : (d : ℕ) (xs : List X) (at : ℕ) (v : List ℕ) → EmptyOrParted (P d) xs at v → ((xs ≡ []) × EmptyWord at v) ⊎ ((ys : List X) × (xs ≡ ys) × Bracketed P d ys at v)
   parted_cases d [] at v h = inl (refl, h)
   parted_cases d (x ∷ xs) at v h = inr (x ∷ xs, refl, h)
@@ -167,19 +168,21 @@ module _ where
   } where
     number_shut : (b : ℕ) → begins_number b ≡ true → opens b ≡ false
     number_shut b h = grind (arith, h)
+
     to : (d : ℕ) (y : Option Position) (at : ℕ) (v : List ℕ) → SpellsPoint d y at v → SpellsPointMember d y at v
     to d None at v h = h
     to d (Some p) at v h = inr h
+
     from : (d : ℕ) (y : Option Position) (at : ℕ) (v : List ℕ) → SpellsPointMember d y at v → ((z : Option Position) × (y ≡ z) × SpellsPoint d z at v) ⊎ ((b : ℕ) × (t : List ℕ) × (v ≡ b ∷ t) × (opens b ≡ false))
     from d None at v h = inl (None, refl, h)
     from d (Some p) at v (inr h) = inl (Some p, refl, h)
     from d (Some p) at v (inl h) = inr (
-      let (b, t, e, k) = ended_begins d (p, true) at (v ++ (0x29 ∷ [])) (v, 0x29 ∷ [], refl, h, ([], 0x29 ∷ [], refl, tt, refl)) in
-      first_of v b t e (number_shut b k) h) where
-      first_of : (v : List ℕ) (b : ℕ) (t : List ℕ) → v ++ (0x29 ∷ []) ≡ b ∷ t → opens b ≡ false → SpellsPosition d p at v → (b : ℕ) × (t : List ℕ) × (v ≡ b ∷ t) × (opens b ≡ false)
-      first_of [] b t e k h = absurd (let (b2, t2, e2, k2) = ended_begins d (p, true) at (0x29 ∷ []) ([], 0x29 ∷ [], refl, h, ([], 0x29 ∷ [], refl, tt, refl)) in
-          let same : 0x29 ≡ b2 = cc in true≢false (sym (ap begins_number same ∙ k2)))
-      first_of (x ∷ v) b t e k h = let same : x ≡ b = cc in (x, v, refl, ap opens same ∙ k)
+        let (b, t, e, k) = ended_begins d (p, true) at (v ++ (0x29 ∷ [])) (v, 0x29 ∷ [], refl, h, ([], 0x29 ∷ [], refl, tt, refl)) in
+        first_of v b t e (number_shut b k) h) where
+          first_of : (v : List ℕ) (b : ℕ) (t : List ℕ) → v ++ (0x29 ∷ []) ≡ b ∷ t → opens b ≡ false → SpellsPosition d p at v → (b : ℕ) × (t : List ℕ) × (v ≡ b ∷ t) × (opens b ≡ false)
+          first_of [] b t e k h = absurd (let (b2, t2, e2, k2) = ended_begins d (p, true) at (0x29 ∷ []) ([], 0x29 ∷ [], refl, h, ([], 0x29 ∷ [], refl, tt, refl)) in
+              let same : 0x29 ≡ b2 = cc in true≢false (sym (ap begins_number same ∙ k2)))
+          first_of (x ∷ v) b t e k h = let same : x ≡ b = cc in (x, v, refl, ap opens same ∙ k)
 
 pub member_inhabited : Inhabited SpellsPointMember
 member_inhabited d at h = (None, codes "EMPTY", refl)
@@ -191,6 +194,7 @@ member_begins d y at v h = elim (member_when.from d y at v h) [
 ] where
   number_no_blank : (b : ℕ) → begins_number b ≡ true → no_blank b ≡ true
   number_no_blank b h = grind (arith, h)
+
   go : (y : Option Position) → SpellsPointMember d y at v → (b : ℕ) × (t : List ℕ) × (v ≡ b ∷ t) × (no_blank b ≡ true)
   go None h = blankless SpellsPoint (choice_begins SpellsPoint EnclosedPosition (λ p. Some p) None point_choice) d None at v h
   go (Some p) (inr h) = blankless SpellsPoint (choice_begins SpellsPoint EnclosedPosition (λ p. Some p) None point_choice) d (Some p) at v h
@@ -215,6 +219,7 @@ module _ (base : ℕ) (w : List ℕ) (i a : ℕ) (c : Dimension) (skips : SkipsB
         let rest : b ∷ ((u ++ z) ++ r) ≡ next w a ∷ t = append_cancel_left (part w i a) _ _ (ap (λ q. q ++ (b ∷ ((u ++ z) ++ r))) (sym same) ∙ line) in
         let byte : b ≡ next w a = cc in
         true≢false (sym ob ∙ (ap opens byte ∙ bare))
+
     go : (y : Option Position) → SpellsPointMember d y (at + length b1) x → (p : Position) × (y ≡ Some p) × Item SpellsPosition d (p, last) at v
     go None h = absurd (let (b, u, eb, o) = choice_begins SpellsPoint EnclosedPosition (λ p. Some p) None point_choice d None (at + length b1) x h in no_opener b u eb o)
     go (Some p) (inl h) = (p, refl, (b1, r1, e1, hb, (x, z, ez, h, hd)))
@@ -247,7 +252,7 @@ module _ (base : ℕ) (w : List ℕ) (i a : ℕ) (c : Dimension) (skips : SkipsB
     sound = λ d b. member_of d p last (base + i) (part w i j) (h.sound d b);
     only = λ d y v r s b q e.
         let joint : part w i j ++ s ≡ part w i a ++ (next w a ∷ (part w (a + 1) j ++ s)) =
-            ap (λ z. z ++ s) (part-part w i a j skips.order (let l : a ≤ j = omega arith in l) h.within ∙ ap (λ z. part w i a ++ z) (part-cons w a j low h.within)) ∙ append_assoc (part w i a) (next w a ∷ part w (a + 1) j) s in
+        ap (λ z. z ++ s) (part-part w i a j skips.order (let l : a ≤ j = omega arith in l) h.within ∙ ap (λ z. part w i a ++ z) (part-cons w a j low h.within)) ∙ append_assoc (part w i a) (next w a ∷ part w (a + 1) j) s in
         let (q0, ey, q') = bare_item d y.0 y.1 (base + i) v r (part w (a + 1) j ++ s) q (e ∙ joint) in
         let (ep, ev, b') = h.only d (q0, y.1) v r s b q' e in
         (ap (λ z. (z, y.1)) ey ∙ ap (λ (z : Position × Bool). (Some z.0, z.1)) ep, ev, b');

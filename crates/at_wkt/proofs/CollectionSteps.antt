@@ -1,25 +1,23 @@
 -- What stands behind a head or a geometry within open collections, read on.
-use Rattle.std.proofs.Common.{◌≡◌, ◌≢◌, ℕ, zero, suc, ◌+◌, ◌-◌, ◌<◌, ◌≤◌, ◌⊎◌, inl, inr, Bool, true, false, not, ◌==◌, List, [], ◌∷◌, ◌++◌, length, codes, Option, Some, None, refl, sym, ◌∙◌, ap, subst, arith, true≢false, append-nil, append_assoc, length-append, lit≤}
+use Rattle.std.proofs.Common.{◌≡◌, ℕ, zero, suc, ◌+◌, ◌<◌, ◌≤◌, ◌⊎◌, inl, inr, Bool, true, false, List, [], ◌∷◌, ◌++◌, length, codes, Some, None, refl, sym, ◌∙◌, ap, arith, lit≤}
 use Rattle.std.specs.Str.{str_to_ascii_uppercase}
 use Rattle.std.specs.Char.{to_ascii_uppercase}
-use Rattle.at_text.specs.Parts.{Many, OneOrMore, Exactly, AnyCase, At, ◌▸◌}
+use Rattle.at_text.specs.Parts.{Many, Exactly, ◌▸◌}
 use Rattle.at_fixed.specs.declared.rounding.Coords.{Coords}
 use Rattle.at_wkt.specs.declared.dimension.Dimension.{Dimension}
-use Rattle.at_wkt.specs.declared.dimension.Dimension.TheVariants.{Open, Fixed}
+use Rattle.at_wkt.specs.declared.dimension.Dimension.TheVariants.{Open}
 use Rattle.at_wkt.specs.declared.kinds.Kind.{Kind}
 use Rattle.at_wkt.specs.declared.kinds.Kind.TheVariants.{Point, LineString, Polygon, MultiPoint, MultiLineString, MultiPolygon, GeometryCollection}
 use Rattle.at_wkt.specs.declared.kinds.Head.{Head}
-use Rattle.at_wkt.specs.Positions.{Position, Positions}
-use Rattle.at_wkt.specs.Geometry.{Geometry, point, collection, Geometries, no_geometries, geometry_and, is_blank, ◌‿◌, Letter, EmptyWord, SpellsGeometry, SpellsGeometries, SpellsFurtherGeometries, InBrackets, SpellsPoint, SpellsList, SpellsArea, EmptyOrParted, SpellsPointMember, SpellsRing}
-use Rattle.at_wkt.specs.Reading.{opens, part, next, Allows, Spelt, Stuck, Leads, SkipsBlanks, delimiter, Delimiter, WordStands, WordBreaks, HasCount, word_of, KindBreaks, LetterStands, HeadStands, Meaning, joined, no_meaning, Body, FurtherThen, meaning_of, meaning_of_all, After, Expected, EnclosedPosition}
-use Rattle.at_wkt.proofs.Leads.{part-none, part-one, part-length, offset, Begins, Inhabited, counts}
-use Rattle.at_wkt.proofs.Steps.{Then, Same, When, when_leads, same_leads, trans_leads, then_leads, then_stuck, fixed_leads, pad_leads, spelt_over, no_blank}
+use Rattle.at_wkt.specs.Geometry.{Geometry, point, collection, no_geometries, geometry_and, is_blank, SpellsGeometry, SpellsFurtherGeometries, SpellsPoint, SpellsList, SpellsArea, SpellsPointMember, SpellsRing}
+use Rattle.at_wkt.specs.Reading.{opens, next, Spelt, Stuck, Leads, SkipsBlanks, delimiter, Delimiter, HasCount, word_of, KindBreaks, HeadStands, Meaning, joined, no_meaning, Body, meaning_of, meaning_of_all, After, Expected, EnclosedPosition}
+use Rattle.at_wkt.proofs.Leads.{part-one, Begins, Inhabited}
+use Rattle.at_wkt.proofs.Steps.{Then, Same, When, when_leads, same_leads, trans_leads, then_leads, then_stuck, fixed_leads, pad_leads, no_blank}
 use Rattle.at_wkt.proofs.Lists.{to_left, to_right, behind}
-use Rattle.at_wkt.proofs.ListSteps.{leads_value}
-use Rattle.at_wkt.proofs.WordSteps.{KindWord, kind_spelt, kind_stuck, Word, word_spelt, word_stuck}
+use Rattle.at_wkt.proofs.WordSteps.{KindWord, kind_spelt, kind_stuck}
 use Rattle.at_wkt.proofs.LetterSteps.{Lettered, Encloses, letter_encloses}
-use Rattle.at_wkt.proofs.BodySteps.{is_open, is_shut, empty_first, choice_begins, point_choice, list_choice, parted_choice}
-use Rattle.at_wkt.proofs.GeometrySteps.{joined-assoc, joined-none, free_spelt, free_stuck, open_count, Spelling, further_split, further_join, Awaited, Behind, BodyAfter, expected_same, geometry_parts}
+use Rattle.at_wkt.proofs.BodySteps.{is_open, empty_first, choice_begins, point_choice, list_choice, parted_choice}
+use Rattle.at_wkt.proofs.GeometrySteps.{joined-assoc, free_spelt, free_stuck, open_count, Spelling, further_split, further_join, Awaited, Behind, BodyAfter, expected_same, geometry_parts}
 
 delimiter_no_blank : (last : Bool) → no_blank (delimiter last) ≡ true
 delimiter_no_blank true = refl
@@ -39,8 +37,10 @@ kind_first k [] e = absurd (no_word k e) where
 kind_first k (b ∷ t) e = (b, t, refl, letter k e) where
   blank_up : (x : ℕ) → is_blank x ≡ true → (to_ascii_uppercase x ≡ x) × ((x ≡ 0x20) ⊎ (x ≡ 0x09))
   blank_up x h = grind (arith, h)
+
   clear : (c : ℕ) → 0x41 ≤ c → to_ascii_uppercase b ≡ c → no_blank b ≡ true
   clear c low h = grind (arith, low, h)
+
   letter : (k : Kind) → str_to_ascii_uppercase (b ∷ t) ≡ word_of k → no_blank b ≡ true
   letter Point e = let h : to_ascii_uppercase b ≡ 0x50 = cc in clear 0x50 (lit≤ tt) h
   letter LineString e = let h : to_ascii_uppercase b ≡ 0x4C = cc in clear 0x4C (lit≤ tt) h
@@ -88,6 +88,7 @@ module _ (digits : ℕ) (how : Coords) where
     to d (true, m) at v h = (no_geometries, m, refl, h)
     to d (false, m) at v (a, b, e, dl, (x, y, f, hx, (g, n, em, (l, r, el, hg, (gs, n', en, q))))) =
         (geometry_and g gs, n', em ∙ (ap (joined (meaning_of digits how g)) en ∙ sym (joined-assoc (meaning_of digits how g) (meaning_of_all digits how gs) n')), (a, b, e, dl, (x, y, f, hx, (l, r, el, hg, q))))
+
     from : (d : ℕ) (m : Meaning) (at : ℕ) (v : List ℕ) → After digits how (suc k) m at v → (p : Bool × Meaning) × (m ≡ p.1) × Then Delimiter (Ended k) d p at v
     from d m at v (no_geometries, n, em, h) = ((true, n), em, h)
     from d m at v (geometry_and g gs, n, em, (a, b, e, dl, (x, y, f, hx, (l, r, el, hg, q)))) =
@@ -204,6 +205,7 @@ module _ (digits : ℕ) (how : Coords) where
         let three : (O ▸ ((M ▸ ((G ▸ F) ▸ X)) ▸ K)) at v = behind O (M ▸ (((G ▸ F) ▸ X) ▸ K)) ((M ▸ ((G ▸ F) ▸ X)) ▸ K) (λ i1 u1 q1. to_left M ((G ▸ F) ▸ X) K i1 u1 q1) at v two in
         let (c1, c2, c3, c4, c5) = to_left O (M ▸ ((G ▸ F) ▸ X)) K at v three in
         (collection (geometry_and g gs), n', em ∙ (ap (joined (meaning_of digits how g)) en ∙ sym (joined-assoc (meaning_of digits how g) (meaning_of_all digits how gs) n')), (c1, c2, c3, (geometry_and g gs, refl, c4), c5))
+
     from : (d : ℕ) (m : Meaning) (at : ℕ) (v : List ℕ) → BodyAfter digits how GeometryCollection k d m at v → ((y : Meaning) × (m ≡ y) × Opening k d y at v) ⊎ ((b : ℕ) × (t : List ℕ) × (v ≡ b ∷ t) × (is_open b ≡ false))
     from d m at v (g0, n, em, (c1, c2, c3, (no_geometries, eg, h), c5)) = inr (let (b, t, f, up) = empty_first c1 h in (b, t ++ c2, c3 ∙ ap (λ z. z ++ c2) f, shut b up)) where
       shut : (b : ℕ) → to_ascii_uppercase b ≡ 0x45 → is_open b ≡ false
@@ -215,9 +217,28 @@ module _ (digits : ℕ) (how : Coords) where
         let one : (O ▸ (M ▸ ((G ▸ F) ▸ (X ▸ K)))) at v = behind O (M ▸ (((G ▸ F) ▸ X) ▸ K)) (M ▸ ((G ▸ F) ▸ (X ▸ K))) (λ i1 u1 q1. behind M (((G ▸ F) ▸ X) ▸ K) ((G ▸ F) ▸ (X ▸ K)) (λ i2 u2 q2. to_right (G ▸ F) X K i2 u2 q2) i1 u1 q1) at v two in
         let flat : (O ▸ (M ▸ (G ▸ (F ▸ (X ▸ K))))) at v = behind O (M ▸ ((G ▸ F) ▸ (X ▸ K))) (M ▸ (G ▸ (F ▸ (X ▸ K)))) (λ i1 u1 q1. behind M ((G ▸ F) ▸ (X ▸ K)) (G ▸ (F ▸ (X ▸ K))) (λ i2 u2 q2. to_right G F (X ▸ K) i2 u2 q2) i1 u1 q1) at v one in
         let (a, r, e, here, (x, y, f, hx, (l, s, el, hg, q))) = flat in
-        inl (m, refl, (a, r, e, here, (x, y, f, hx, (g, joined (meaning_of_all digits how gs) n,
-          em ∙ (ap (λ z. joined (meaning_of digits how z) n) eg ∙ joined-assoc (meaning_of digits how g) (meaning_of_all digits how gs) n),
-          (l, s, el, hg, (gs, n, refl, further_join gs K _ s q))))))
+        inl (
+          m,
+          refl,
+          (
+            a,
+            r,
+            e,
+            here,
+            (
+              x,
+              y,
+              f,
+              hx,
+              (
+                g,
+                joined (meaning_of_all digits how gs) n,
+                em ∙ (ap (λ z. joined (meaning_of digits how z) n) eg ∙ joined-assoc (meaning_of digits how g) (meaning_of_all digits how gs) n),
+                (l, s, el, hg, (gs, n, refl, further_join gs K _ s q)),
+              ),
+            ),
+          ),
+        )
 
   opening_begins : (k : ℕ) → Begins is_open (Opening k)
   opening_begins k d m at v (a, b, e, here, q) = (0x28, b, e ∙ ap (λ z. z ++ b) here, refl)

@@ -1,5 +1,5 @@
 -- The exits of `?`, and the order in which faults are told.
-use Rattle.std.proofs.Common.{◌≡◌, ◌≢◌, ℕ, ◌+◌, ◌<◌, ◌≤◌, ◌⊎◌, inl, inr, Bool, true, false, not, ◌&&◌, ◌||◌, ◌==◌, nat_lt, nat_le, if◌then◌else◌, List, [], ◌∷◌, ◌++◌, Option, Some, None, Result, Ok, Err, refl, sym, ◌∙◌, ap, subst, arith, true≢false}
+use Rattle.std.proofs.Common.{◌≡◌, ℕ, ◌<◌, ◌≤◌, ◌⊎◌, inl, inr, Bool, true, false, not, ◌&&◌, ◌||◌, ◌==◌, nat_lt, nat_le, if◌then◌else◌, List, [], ◌∷◌, ◌++◌, Option, Some, None, Result, Ok, Err, refl, sym, ◌∙◌, ap, subst, arith, true≢false}
 use native.Mathlib.Decide.{dec_lt}
 use Rattle.std.specs.Result.{MatchResult, IsErrAnd}
 use Rattle.at_text.specs.declared.faults.Fault.{Fault}
@@ -40,15 +40,15 @@ earlier_true : (t a n u b m : ℕ) → earlier t a n u b m ≡ true → Earlier 
 earlier_true t a n u b m h = elim (dec_lt t u) [
   | yes l ↦ inl l
   | no f ↦ elim (dec_lt u t) [
-      | yes l ↦ absurd (let bad : ⊥ = grind (arith, l, h) in bad)
-      | no g ↦ elim (dec_lt a b) [
-          | yes l ↦ inr (omega arith, inl l)
-          | no k ↦ elim (dec_lt b a) [
-              | yes l ↦ absurd (let bad : ⊥ = grind (arith, l, h, f) in bad)
-              | no q ↦ (let low : n ≤ m = grind (arith, h, f, k) in inr (omega arith, inr (omega arith, low)))
-            ]
-        ]
+    | yes l ↦ absurd (let bad : ⊥ = grind (arith, l, h) in bad)
+    | no g ↦ elim (dec_lt a b) [
+      | yes l ↦ inr (omega arith, inl l)
+      | no k ↦ elim (dec_lt b a) [
+        | yes l ↦ absurd (let bad : ⊥ = grind (arith, l, h, f) in bad)
+        | no q ↦ (let low : n ≤ m = grind (arith, h, f, k) in inr (omega arith, inr (omega arith, low)))
+      ]
     ]
+  ]
 ]
 
 true_earlier : (t a n u b m : ℕ) → Earlier t a n u b m → earlier t a n u b m ≡ true
@@ -69,18 +69,18 @@ later : (t a n u b m : ℕ) → earlier t a n u b m ≡ false → Earlier u b m 
 later t a n u b m h = elim (dec_lt u t) [
   | yes l ↦ inl l
   | no f ↦ elim (dec_lt t u) [
-      | yes l ↦ absurd (true≢false (sym (true_earlier t a n u b m (inl l)) ∙ h))
-      | no g ↦ elim (dec_lt b a) [
-          | yes l ↦ inr (omega arith, inl l)
-          | no k ↦ elim (dec_lt a b) [
-              | yes l ↦ absurd (true≢false (sym (true_earlier t a n u b m (inr (omega arith, inl l))) ∙ h))
-              | no q ↦ elim (dec_lt m n) [
-                  | yes l ↦ inr (omega arith, inr (omega arith, omega arith))
-                  | no w ↦ absurd (true≢false (sym (true_earlier t a n u b m (inr (omega arith, inr (omega arith, omega arith)))) ∙ h))
-                ]
-            ]
+    | yes l ↦ absurd (true≢false (sym (true_earlier t a n u b m (inl l)) ∙ h))
+    | no g ↦ elim (dec_lt b a) [
+      | yes l ↦ inr (omega arith, inl l)
+      | no k ↦ elim (dec_lt a b) [
+        | yes l ↦ absurd (true≢false (sym (true_earlier t a n u b m (inr (omega arith, inl l))) ∙ h))
+        | no q ↦ elim (dec_lt m n) [
+          | yes l ↦ inr (omega arith, inr (omega arith, omega arith))
+          | no w ↦ absurd (true≢false (sym (true_earlier t a n u b m (inr (omega arith, inr (omega arith, omega arith)))) ∙ h))
         ]
+      ]
     ]
+  ]
 ]
 
 first_trans : (a b c : Fault) → comes_first a b ≡ true → comes_first b c ≡ true → comes_first a c ≡ true

@@ -1,5 +1,5 @@
 -- The lines of a file counted piece by piece.
-use Rattle.std.proofs.Common.{◌≡◌, ◌≢◌, ℕ, ◌+◌, ◌-◌, ◌<◌, ◌≤◌, ◌==◌, ◌⊎◌, inl, inr, Bool, true, false, not, if◌then◌else◌, ◌&&◌, nat_lt, slice_index, List, [], ◌∷◌, ◌++◌, length, map, filter, take, drop, Option, Some, None, Result, Ok, Err, refl, sym, ◌∙◌, ap, subst, arith, true≢false, append-nil, append_assoc, length-append, length-take}
+use Rattle.std.proofs.Common.{◌≡◌, ℕ, ◌+◌, ◌-◌, ◌<◌, ◌≤◌, ◌==◌, inl, inr, Bool, true, false, not, if◌then◌else◌, ◌&&◌, nat_lt, slice_index, List, [], ◌∷◌, ◌++◌, length, map, filter, take, drop, Option, Some, None, Result, Ok, Err, refl, sym, ◌∙◌, ap, subst, arith, append-nil, append_assoc, length-append, length-take}
 use Rattle.std.specs.Result.{MatchResult, IsErrAnd}
 use Rattle.std.proofs.Math.Seq.{take-length}
 use Rattle.std.proofs.lemmas.List.{map-append, take_more}
@@ -12,8 +12,8 @@ use Rattle.at_wkt.specs.declared.answers.LineFault.{LineFault}
 use Rattle.at_wkt.specs.declared.answers.LineFault.TheVariants.{Found, Memory}
 use Rattle.at_wkt.specs.declared.files.Counted.{Counted}
 use Rattle.at_wkt.specs.Meaning.{faults_of}
-use Rattle.at_wkt.specs.Answers.{IfFound, SpellsLine, HasLineShape, HasFirstLineFault, unspelled, faulty}
-use Rattle.at_wkt.specs.Lines.{FileLine, without_return, line_of, is_blank_text, lines_in, lines_of, pieces_from, HasLineFaults, HaveLineFaults}
+use Rattle.at_wkt.specs.Answers.{IfFound, HasLineShape, HasFirstLineFault, unspelled, faulty}
+use Rattle.at_wkt.specs.Lines.{FileLine, without_return, line_of, is_blank_text, lines_in, lines_of, pieces_from, HaveLineFaults}
 use Rattle.at_wkt.specs.Files.{HasFaultBehind, HasFileFault}
 use Rattle.at_wkt.specs.Reading.{HasLineFault, Counts, file_answer}
 use Rattle.at_wkt.proofs.Exits.{first_of-append}
@@ -95,11 +95,12 @@ module _ (digits : ℕ) (how : Coords) where
   file_answers bytes counted answer none h e =
       let P : Result ℕ LineFault → Type 0 = λ z. MatchResult z (λ count. HasFileFault digits how bytes None × (count ≡ length (lines_of bytes))) (λ r. IfFound r (λ fault. HasFileFault digits how bytes (Some fault))) in
       subst P (sym e) (go counted.fault h.fault) where
-    has : (first : Option Fault) → first ≡ first_of h.faults → HasFileFault digits how bytes first
-    has first ef = let Q : Option Fault → Type 0 = λ z. HasFaultBehind digits how z bytes first in subst Q (sym none) (h.faults, h.have, ef)
-    go : (f : Option Fault) → f ≡ first_of h.faults → MatchResult (elim f [ None ↦ Ok counted.count | Some fault ↦ Err (Found fault) ]) (λ count. HasFileFault digits how bytes None × (count ≡ length (lines_of bytes))) (λ r. IfFound r (λ fault. HasFileFault digits how bytes (Some fault)))
-    go None ef = (has None ef, h.count)
-    go (Some f) ef = has (Some f) ef
+        has : (first : Option Fault) → first ≡ first_of h.faults → HasFileFault digits how bytes first
+        has first ef = let Q : Option Fault → Type 0 = λ z. HasFaultBehind digits how z bytes first in subst Q (sym none) (h.faults, h.have, ef)
+
+        go : (f : Option Fault) → f ≡ first_of h.faults → MatchResult (elim f [ None ↦ Ok counted.count | Some fault ↦ Err (Found fault) ]) (λ count. HasFileFault digits how bytes None × (count ≡ length (lines_of bytes))) (λ r. IfFound r (λ fault. HasFileFault digits how bytes (Some fault)))
+        go None ef = (has None ef, h.count)
+        go (Some f) ef = has (Some f) ef
 
   pub encoding_fault : (bytes : List ℕ) (fault : Fault) → utf8_fault bytes ≡ Some fault → HasFileFault digits how bytes (Some fault)
   encoding_fault bytes fault e = let Q : Option Fault → Type 0 = λ z. HasFaultBehind digits how z bytes (Some fault) in subst Q (sym e) refl
@@ -126,8 +127,8 @@ return_taken w h =
     let same : slice_index w (length w - 1) ≡ 0x0D = eq_of (slice_index w (length w - 1)) byte in
     let text : w ≡ take (length w - 1) w ++ (0x0D ∷ []) = last_byte w some ∙ ap (λ z. take (length w - 1) w ++ (z ∷ [])) same in
     sym (ap without_return text ∙ return_end (take (length w - 1) w)) where
-  eq_of : (a : ℕ) → (a == 0x0D) ≡ true → a ≡ 0x0D
-  eq_of a h = grind (arith, h)
+      eq_of : (a : ℕ) → (a == 0x0D) ≡ true → a ≡ 0x0D
+      eq_of a h = grind (arith, h)
 
 pub return_kept : (w : List ℕ) → (nat_lt 0 (length w) && (slice_index w (length w - 1) == 0x0D)) ≡ false → w ≡ without_return w
 return_kept [] h = refl
@@ -137,9 +138,9 @@ return_kept (b ∷ v) h =
     let text : w ≡ take (length w - 1) w ++ (slice_index w (length w - 1) ∷ []) = last_byte w some in
     let off : (slice_index w (length w - 1) == 0x0D) ≡ false = byte_off (length w) (slice_index w (length w - 1) == 0x0D) some h in
     text ∙ (sym (no_return (take (length w - 1) w) (slice_index w (length w - 1)) off) ∙ ap without_return (sym text)) where
-  byte_off : (a : ℕ) (b : Bool) → 0 < a → (nat_lt 0 a && b) ≡ false → b ≡ false
-  byte_off a true l h = absurd (grind (arith, l, h))
-  byte_off a false l h = refl
+      byte_off : (a : ℕ) (b : Bool) → 0 < a → (nat_lt 0 a && b) ≡ false → b ≡ false
+      byte_off a true l h = absurd (grind (arith, l, h))
+      byte_off a false l h = refl
 
 pub exits_found : {X : Type 0} (r : Result X LineFault) (e : LineFault) (P : X → Type 0) (Q : Fault → Type 0) → IsErrAnd r (λ y. y ≡ e) → e ≡ Memory → MatchResult r P (λ z. IfFound z Q)
 exits_found (Ok x) e P Q h k = absurd h

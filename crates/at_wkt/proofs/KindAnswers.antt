@@ -1,12 +1,10 @@
 -- The words of the kinds tried one after another.
-use Rattle.std.proofs.Common.{◌≡◌, ◌≢◌, ℕ, ◌+◌, ◌-◌, ◌<◌, ◌≤◌, ◌⊎◌, inl, inr, Bool, true, false, List, [], ◌∷◌, ◌++◌, length, take, get_or, refl, sym, ◌∙◌, ap, subst, arith}
-use native.Mathlib.Decide.{dec_lt}
+use Rattle.std.proofs.Common.{◌≡◌, ◌≢◌, ℕ, ◌+◌, ◌-◌, ◌≤◌, ◌⊎◌, inl, inr, List, [], ◌∷◌, ◌++◌, length, take, sym, ◌∙◌, ap, subst, arith}
 use Rattle.std.specs.List.{AllByRecursion}
 use Rattle.std.specs.Str.{str_to_ascii_uppercase}
-use Rattle.std.proofs.Math.Seq.{take-length}
 use Rattle.at_wkt.specs.declared.kinds.Kind.{Kind}
 use Rattle.at_wkt.specs.declared.kinds.Kind.TheVariants.{Point, LineString, Polygon, MultiPoint, MultiLineString, MultiPolygon, GeometryCollection}
-use Rattle.at_wkt.specs.Reading.{part, next, word_of, Matches, WordStands, WordBreaks, KindBreaks, KindsTried}
+use Rattle.at_wkt.specs.Reading.{part, word_of, Matches, WordBreaks, KindBreaks, KindsTried}
 use Rattle.at_wkt.proofs.Leads.{part-none}
 use Rattle.at_wkt.proofs.ByteSteps.{word_broken}
 
@@ -42,17 +40,17 @@ module _ (w : List ℕ) (i : ℕ) where
       let all : AreBroken longest' (ks ++ (k ∷ [])) = one_more longest' ks k (farther longest longest' low ks h.breaks) (i + count, omega (arith, high), broken) in
       elim which [
         | inl e ↦ record {
-            within = omega (arith, h.within, e);
-            kind = h.kind;
-            text = subst (λ z. str_to_ascii_uppercase (part w i (i + z)) ≡ take z (word_of h.kind)) (sym e) h.text;
-            breaks = subst (AreBroken longest') (sym ek) all;
-          }
+          within = omega (arith, h.within, e);
+          kind = h.kind;
+          text = subst (λ z. str_to_ascii_uppercase (part w i (i + z)) ≡ take z (word_of h.kind)) (sym e) h.text;
+          breaks = subst (AreBroken longest') (sym ek) all;
+        }
         | inr e ↦ record {
-            within = omega (arith, found.within, e);
-            kind = k;
-            text = subst (λ z. str_to_ascii_uppercase (part w i (i + z)) ≡ take z (word_of k)) (sym e) found.text;
-            breaks = subst (AreBroken longest') (sym ek) all;
-          }
+          within = omega (arith, found.within, e);
+          kind = k;
+          text = subst (λ z. str_to_ascii_uppercase (part w i (i + z)) ≡ take z (word_of k)) (sym e) found.text;
+          breaks = subst (AreBroken longest') (sym ek) all;
+        }
       ]
 
   pub tried_all : (longest : ℕ) → KindsTried w i longest (Point ∷ LineString ∷ Polygon ∷ MultiPoint ∷ MultiLineString ∷ MultiPolygon ∷ GeometryCollection ∷ []) → KindBreaks w i (i + longest)

@@ -1,12 +1,10 @@
 -- How what a text spells from a place on follows from what it spells from a later place on.
-use Rattle.std.proofs.Common.{◌≡◌, ◌≢◌, ℕ, zero, suc, ◌+◌, ◌-◌, ◌<◌, ◌≤◌, ◌⊎◌, inl, inr, Bool, true, false, IsTrue, List, [], ◌∷◌, ◌++◌, length, take, drop, get_or, refl, sym, ◌∙◌, ap, subst, arith, add-one, take-suc, append-nil, append_assoc, length-append, length-take, length-drop, take-append-drop, take-take}
-use Rattle.std.specs.List.{AllByRecursion}
+use Rattle.std.proofs.Common.{◌≡◌, ℕ, ◌+◌, ◌<◌, ◌≤◌, ◌⊎◌, inl, inr, Bool, true, List, [], ◌∷◌, ◌++◌, length, take, drop, refl, sym, ◌∙◌, ap, subst, arith, add-one, take-suc, append_assoc, length-append, length-take, length-drop, take-append-drop, take-take}
 use native.Mathlib.Decide.{dec_lt}
 use Rattle.std.proofs.lemmas.List.{drop-append-le, drop_all, append_cancel_left}
-use Rattle.at_text.specs.Parts.{Many, OneOrMore, ◌▸◌}
 use Rattle.at_wkt.specs.declared.dimension.Dimension.{Dimension}
 use Rattle.at_wkt.specs.declared.dimension.Dimension.TheVariants.{Open, Fixed}
-use Rattle.at_wkt.specs.Reading.{part, next, Allows, Spelt, Stuck, Leads}
+use Rattle.at_wkt.specs.Reading.{part, next, Allows, Spelt, Leads}
 
 -- ---- parts of a list
 
@@ -151,8 +149,8 @@ module _ {X Y : Type 0} (P : ℕ → X → ℕ → List ℕ → Type 0) (Q : ℕ
       → Goes P Q base w i c j c' f (Ahead w j) → Comes P Q base w i c j c' f (Ahead w j) → Leads P Q base w i c j c' f
   leads_ahead test begins order within narrows goes comes = leads_by P Q base w i c j c' f (Ahead w j) order within narrows goes comes
       (λ k c'' y s q.
-          let (d, a) = q.some in
-          let (b, t, e, h) = begins d y (base + j) (part w j k) (q.sound d a) in
-          let long : j < k = omega (arith, part-length w j k q.order q.within, ap length e) in
-          (part w (j + 1) k ++ s, ap (λ z. z ++ s) (part-cons w j k long q.within)))
+      let (d, a) = q.some in
+      let (b, t, e, h) = begins d y (base + j) (part w j k) (q.sound d a) in
+      let long : j < k = omega (arith, part-length w j k q.order q.within, ap length e) in
+      (part w (j + 1) k ++ s, ap (λ z. z ++ s) (part-cons w j k long q.within)))
       (λ n s h k. ahead_stuck w j n s h k (same_or_less j n h))

@@ -1,14 +1,14 @@
 -- The letter behind a kind's word: which counts of numbers it allows, whatever the blanks on either side of it.
-use Rattle.std.proofs.Common.{◌≡◌, ◌≢◌, ℕ, zero, suc, ◌+◌, ◌-◌, ◌<◌, ◌≤◌, ◌⊎◌, inl, inr, Bool, true, false, not, ◌&&◌, ◌||◌, ◌==◌, IsTrue, List, [], ◌∷◌, ◌++◌, length, map, take, drop, codes, refl, sym, ◌∙◌, ap, subst, arith, append-nil, append_assoc, length-append, true≢false, lit≤, lit<}
+use Rattle.std.proofs.Common.{◌≡◌, ℕ, ◌+◌, ◌<◌, ◌≤◌, ◌⊎◌, inl, inr, true, false, ◌==◌, List, [], ◌∷◌, ◌++◌, length, refl, sym, ◌∙◌, ap, subst, arith, append_assoc, length-append, lit≤}
 use Rattle.std.specs.Str.{str_to_ascii_uppercase}
 use Rattle.std.specs.Char.{to_ascii_uppercase}
 use Rattle.std.proofs.lemmas.List.{append_cancel_left}
-use Rattle.at_text.specs.Parts.{Many, OneOrMore, Exactly, AnyCase, At, ◌▸◌}
+use Rattle.at_text.specs.Parts.{Many, ◌▸◌}
 use Rattle.at_wkt.specs.declared.dimension.Dimension.{Dimension}
 use Rattle.at_wkt.specs.declared.dimension.Dimension.TheVariants.{Open, Fixed}
 use Rattle.at_wkt.specs.Geometry.{is_blank, Letter}
 use Rattle.at_wkt.specs.Reading.{opens, part, next, Allows, Spelt, Stuck, SkipsBlanks, LetterAt, LetterStands}
-use Rattle.at_wkt.proofs.Leads.{part-none, part-one, part-more, part-length, part-part, part-cons, offset, Ahead, ahead_stuck, Begins, Inhabited, append_cases, same_length, counts, same_or_less}
+use Rattle.at_wkt.proofs.Leads.{part-none, part-one, part-length, part-part, part-cons, Ahead, ahead_stuck, Begins, same_or_less}
 use Rattle.at_wkt.proofs.Steps.{no_blank, AreBlanks, one_blanks, not_blank}
 use Rattle.at_wkt.proofs.WordSteps.{opens_no_blank, letter_no_blank, opens_no_letter, blank_no_letter, stream, one_letter, two_letters}
 
@@ -33,10 +33,13 @@ module _ (w : List ℕ) (h i e j : ℕ) (c : Dimension) (pad : SkipsBlanks w h i
   letter_sound d at a = go letter where
     none : (same : e ≡ i) → part w i e ≡ []
     none same = ap (part w i) same ∙ part-none w i (omega (arith, fits, same))
+
     one : (same : e ≡ i + 1) → part w i e ≡ next w i ∷ []
     one same = ap (part w i) same ∙ part-one w i (omega (arith, fits, same))
+
     two : (same : e ≡ i + 2) → part w i e ≡ next w i ∷ (next w (i + 1) ∷ [])
     two same = part-cons w i e (omega (arith, same)) fits ∙ ap (λ z. next w i ∷ z) (ap (part w (i + 1)) (let more : e ≡ (i + 1) + 1 = omega (arith, same) in more) ∙ part-one w (i + 1) (omega (arith, fits, same)))
+
     go : LetterStands w i e c → Letter d at (part w i e)
     go (inl (same, ec, nz, nm)) = let f = subst (λ z. Allows z d) ec a in inl (none same, f.0, f.1)
     go (inr (inl (same, ec, m))) = let f = subst (λ z. Allows z d) ec a in inr (inl (inr (ap str_to_ascii_uppercase (one same) ∙ ap (λ b. b ∷ []) m), f.0))
@@ -63,8 +66,8 @@ module _ (w : List ℕ) (h i e j : ℕ) (c : Dimension) (pad : SkipsBlanks w h i
         let byte : b ≡ next w i = cc in
         elim letter [
           | inl (ee, ec, nz, nm) ↦ (
-                let stays : j ≡ i = no_gap w i j (subst (λ z. SkipsBlanks w z j) ee gap) pad.stops in
-                (same ∙ ap (part w h) (sym stays), subst (λ z. Allows z d) (sym ec) bounds))
+              let stays : j ≡ i = no_gap w i j (subst (λ z. SkipsBlanks w z j) ee gap) pad.stops in
+              (same ∙ ap (part w h) (sym stays), subst (λ z. Allows z d) (sym ec) bounds))
           | inr (inl (ee, ec, m)) ↦ absurd (opens_no_letter b ob (inr (ap to_ascii_uppercase byte ∙ m)))
           | inr (inr (inl (ee, ec, z, m))) ↦ absurd (opens_no_letter b ob (inl (ap to_ascii_uppercase byte ∙ z)))
           | inr (inr (inr (ee, ec, z, m))) ↦ absurd (opens_no_letter b ob (inl (ap to_ascii_uppercase byte ∙ z)))
@@ -101,16 +104,16 @@ module _ (w : List ℕ) (h i e j : ℕ) (c : Dimension) (pad : SkipsBlanks w h i
         let (same, byte, rest) = first_letter y (b2 ++ (b ∷ x)) (letter_no_blank y kind) f in
         let upper : to_ascii_uppercase (next w i) ≡ z = ap to_ascii_uppercase (sym byte) ∙ up in
         let three : (e ≡ i + 1) → (c ≡ Fixed 3) → (b1 ++ ((y ∷ []) ++ b2) ≡ part w h j) × Allows c d = (λ ee ec.
-            let less : i < j = omega (arith, ee, gap.order) in
-            let tail : b2 ++ (b ∷ x) ≡ part w e j ++ s = rest less ∙ ap (λ z. part w z j ++ s) (sym ee) in
-            (one_text y same byte ee (tail_blanks b2 b x s hb2 ob ahead tail), subst (λ z. Allows z d) (sym ec) (ed, omega (arith, ed), omega (arith, ed)))) in
+        let less : i < j = omega (arith, ee, gap.order) in
+        let tail : b2 ++ (b ∷ x) ≡ part w e j ++ s = rest less ∙ ap (λ z. part w z j ++ s) (sym ee) in
+        (one_text y same byte ee (tail_blanks b2 b x s hb2 ob ahead tail), subst (λ z. Allows z d) (sym ec) (ed, omega (arith, ed), omega (arith, ed)))) in
         elim letter [
           | inl (ee, ec, nz, nm) ↦ absurd (elim which [ inl k ↦ nz (upper ∙ k) | inr k ↦ nm (upper ∙ k) ])
           | inr (inl (ee, ec, m)) ↦ three ee ec
           | inr (inr (inl (ee, ec, zz, m))) ↦ absurd (
-                let less : i + 1 < j = omega (arith, ee, gap.order) in
-                let two : i < j = omega arith in
-                behind_one (part w ((i + 1) + 1) j ++ s) (rest two ∙ ap (λ z. z ++ s) (part-cons w (i + 1) j less gap.within)) m)
+              let less : i + 1 < j = omega (arith, ee, gap.order) in
+              let two : i < j = omega arith in
+              behind_one (part w ((i + 1) + 1) j ++ s) (rest two ∙ ap (λ z. z ++ s) (part-cons w (i + 1) j less gap.within)) m)
           | inr (inr (inr (ee, ec, zz, m))) ↦ three ee ec
         ]
 
@@ -123,31 +126,32 @@ module _ (w : List ℕ) (h i e j : ℕ) (c : Dimension) (pad : SkipsBlanks w h i
           | inl (ee, ec, nz, nm) ↦ absurd (nz upper)
           | inr (inl (ee, ec, m)) ↦ absurd (unlike (to_ascii_uppercase (next w i)) 0x5A 0x4D upper m refl)
           | inr (inr (inl (ee, ec, zz, m))) ↦ (
-                let less : i + 1 < j = omega (arith, ee, gap.order) in
+              let less : i + 1 < j = omega (arith, ee, gap.order) in
+              let two : i < j = omega arith in
+              let line : z ∷ (b2 ++ (b ∷ x)) ≡ next w (i + 1) ∷ (part w ((i + 1) + 1) j ++ s) = rest two ∙ ap (λ z. z ++ s) (part-cons w (i + 1) j less gap.within) in
+              let second : z ≡ next w (i + 1) = cc in
+              let there : (i + 1) + 1 ≡ e = omega (arith, ee) in
+              let tails : b2 ++ (b ∷ x) ≡ part w ((i + 1) + 1) j ++ s = cc in
+              let tail : b2 ++ (b ∷ x) ≡ part w e j ++ s = tails ∙ ap (λ z. part w z j ++ s) there in
+              let blanks : b2 ≡ part w e j = tail_blanks b2 b x s hb2 ob ahead tail in (
+                ap (λ u. u ++ (y ∷ (z ∷ b2))) same ∙ (ap (λ u. part w h i ++ (u ∷ (z ∷ b2))) byte ∙ (ap (λ u. part w h i ++ (next w i ∷ (u ∷ b2))) second
+                    ∙ (ap (λ u. part w h i ++ (next w i ∷ (next w (i + 1) ∷ u))) (blanks ∙ ap (λ z. part w z j) (sym there))
+                    ∙ (ap (λ u. part w h i ++ (next w i ∷ u)) (sym (part-cons w (i + 1) j less gap.within)) ∙ (ap (λ u. part w h i ++ u) (sym (part-cons w i j two gap.within)) ∙ sym joint))))),
+                subst (λ z. Allows z d) (sym ec) (ed, omega (arith, ed), omega (arith, ed)),
+              ))
+          | inr (inr (inr (ee, ec, zz, m))) ↦ absurd (elim (same_or_less (i + 1) j (omega (arith, ee, gap.order))) [
+            | inl last ↦ (
+                let (t, es) = ahead in
+                let two : i < j = omega (arith, last) in
+                let line : z ∷ (b2 ++ (b ∷ x)) ≡ next w (i + 1) ∷ t = rest two ∙ (ap (λ u. part w (i + 1) u ++ s) (sym last) ∙ (ap (λ u. u ++ s) (part-none w (i + 1) (omega (arith, last, gap.within))) ∙ (es ∙ ap (λ u. next w u ∷ t) (sym last)))) in
+                let second : z ≡ next w (i + 1) = cc in
+                m (ap to_ascii_uppercase (sym second) ∙ uz))
+            | inr less ↦ (
                 let two : i < j = omega arith in
                 let line : z ∷ (b2 ++ (b ∷ x)) ≡ next w (i + 1) ∷ (part w ((i + 1) + 1) j ++ s) = rest two ∙ ap (λ z. z ++ s) (part-cons w (i + 1) j less gap.within) in
                 let second : z ≡ next w (i + 1) = cc in
-                let there : (i + 1) + 1 ≡ e = omega (arith, ee) in
-                let tails : b2 ++ (b ∷ x) ≡ part w ((i + 1) + 1) j ++ s = cc in
-                let tail : b2 ++ (b ∷ x) ≡ part w e j ++ s = tails ∙ ap (λ z. part w z j ++ s) there in
-                let blanks : b2 ≡ part w e j = tail_blanks b2 b x s hb2 ob ahead tail in
-                (ap (λ u. u ++ (y ∷ (z ∷ b2))) same ∙ (ap (λ u. part w h i ++ (u ∷ (z ∷ b2))) byte ∙ (ap (λ u. part w h i ++ (next w i ∷ (u ∷ b2))) second
-                  ∙ (ap (λ u. part w h i ++ (next w i ∷ (next w (i + 1) ∷ u))) (blanks ∙ ap (λ z. part w z j) (sym there))
-                  ∙ (ap (λ u. part w h i ++ (next w i ∷ u)) (sym (part-cons w (i + 1) j less gap.within)) ∙ (ap (λ u. part w h i ++ u) (sym (part-cons w i j two gap.within)) ∙ sym joint))))),
-                  subst (λ z. Allows z d) (sym ec) (ed, omega (arith, ed), omega (arith, ed))))
-          | inr (inr (inr (ee, ec, zz, m))) ↦ absurd (elim (same_or_less (i + 1) j (omega (arith, ee, gap.order))) [
-                | inl last ↦ (
-                      let (t, es) = ahead in
-                      let two : i < j = omega (arith, last) in
-                      let line : z ∷ (b2 ++ (b ∷ x)) ≡ next w (i + 1) ∷ t = rest two ∙ (ap (λ u. part w (i + 1) u ++ s) (sym last) ∙ (ap (λ u. u ++ s) (part-none w (i + 1) (omega (arith, last, gap.within))) ∙ (es ∙ ap (λ u. next w u ∷ t) (sym last)))) in
-                      let second : z ≡ next w (i + 1) = cc in
-                      m (ap to_ascii_uppercase (sym second) ∙ uz))
-                | inr less ↦ (
-                      let two : i < j = omega arith in
-                      let line : z ∷ (b2 ++ (b ∷ x)) ≡ next w (i + 1) ∷ (part w ((i + 1) + 1) j ++ s) = rest two ∙ ap (λ z. z ++ s) (part-cons w (i + 1) j less gap.within) in
-                      let second : z ≡ next w (i + 1) = cc in
-                      m (ap to_ascii_uppercase (sym second) ∙ uz))
-              ])
+                m (ap to_ascii_uppercase (sym second) ∙ uz))
+          ])
         ]
 
     -- blanks, a letter or none, and blanks that agree with the text are those that stand there
@@ -186,10 +190,10 @@ module _ {Y : Type 0} (Q : ℕ → Y → ℕ → List ℕ → Type 0) (begins : 
   goes : (d : ℕ) (y : Y) (r : List ℕ) → Allows c d → Q d y (base + j) r → (Many is_blank ▸ (Letter d ▸ (Many is_blank ▸ Q d y))) (base + h) (part w h j ++ r)
   goes d y r a q =
       let text : part w h j ++ r ≡ part w h i ++ (part w i e ++ (part w e j ++ r)) =
-          ap (λ z. z ++ r) (part-part w h i j pad.order (omega (arith, middle, gap.order)) gap.within ∙ ap (λ z. part w h i ++ z) (part-part w i e j middle gap.order gap.within))
-          ∙ (append_assoc (part w h i) (part w i e ++ part w e j) r ∙ ap (λ z. part w h i ++ z) (append_assoc (part w i e) (part w e j) r)) in
+      ap (λ z. z ++ r) (part-part w h i j pad.order (omega (arith, middle, gap.order)) gap.within ∙ ap (λ z. part w h i ++ z) (part-part w i e j middle gap.order gap.within))
+      ∙ (append_assoc (part w h i) (part w i e ++ part w e j) r ∙ ap (λ z. part w h i ++ z) (append_assoc (part w i e) (part w e j) r)) in
       let place : base + j ≡ (((base + h) + length (part w h i)) + length (part w i e)) + length (part w e j) =
-          omega (arith, part-length w h i pad.order pad.within, part-length w i e middle fits, part-length w e j gap.order gap.within) in
+      omega (arith, part-length w h i pad.order pad.within, part-length w i e middle fits, part-length w e j gap.order gap.within) in
       (part w h i, part w i e ++ (part w e j ++ r), text, pad.blanks, (part w i e, part w e j ++ r, refl, letter_sound w h i e j c pad letter fits gap d 0 a, (part w e j, r, refl, gap.blanks, subst (λ o. Q d y o r) place q)))
 
   comes : (d : ℕ) (y : Y) (v r s : List ℕ) → (Many is_blank ▸ (Letter d ▸ (Many is_blank ▸ Q d y))) (base + h) v → Ahead w j s → v ++ r ≡ part w h j ++ s
@@ -198,11 +202,11 @@ module _ {Y : Type 0} (Q : ℕ → Y → ℕ → List ℕ → Type 0) (begins : 
       let (b, x, eu, ob) = begins d y _ u q in
       let whole : v ≡ b1 ++ (l ++ (b2 ++ u)) = e1 ∙ ap (λ z. b1 ++ z) (e2 ∙ ap (λ z. l ++ z) e3) in
       let line : b1 ++ (l ++ (b2 ++ (b ∷ (x ++ r)))) ≡ part w h j ++ s =
-          sym (ap (λ z. z ++ r) whole ∙ (append_assoc b1 (l ++ (b2 ++ u)) r ∙ ap (λ z. b1 ++ z) (append_assoc l (b2 ++ u) r ∙ ap (λ z. l ++ z) (append_assoc b2 u r ∙ ap (λ z. b2 ++ (z ++ r)) eu)))) ∙ f in
+      sym (ap (λ z. z ++ r) whole ∙ (append_assoc b1 (l ++ (b2 ++ u)) r ∙ ap (λ z. b1 ++ z) (append_assoc l (b2 ++ u) r ∙ ap (λ z. l ++ z) (append_assoc b2 u r ∙ ap (λ z. b2 ++ (z ++ r)) eu)))) ∙ f in
       let (same, a) = letter_agrees w h i e j c pad letter fits gap b1 b2 b (x ++ r) s hb1 hb2 ob ahead d 0 l hl line in
       let regroup : b1 ++ (l ++ (b2 ++ u)) ≡ (b1 ++ (l ++ b2)) ++ u = sym (append_assoc b1 (l ++ b2) u ∙ ap (λ z. b1 ++ z) (append_assoc l b2 u)) in
       let place : (((base + h) + length b1) + length l) + length b2 ≡ base + j =
-          omega (arith, ap length same, length-append b1 (l ++ b2), length-append l b2, part-length w h j order gap.within) in
+      omega (arith, ap length same, length-append b1 (l ++ b2), length-append l b2, part-length w h j order gap.within) in
       (u, whole ∙ (regroup ∙ ap (λ z. z ++ u) same), subst (λ o. Q d y o u) place q, a)
 
   pub letter_encloses : Encloses (Lettered Q) Q base w h j c (λ y. y)

@@ -1,16 +1,13 @@
 -- What reading a whole text, or a line, answers.
-use Rattle.std.proofs.Common.{◌≡◌, ◌≢◌, ℕ, zero, suc, ◌+◌, ◌-◌, ◌<◌, ◌≤◌, ◌⊎◌, inl, inr, Bool, true, false, not, List, [], ◌∷◌, ◌++◌, length, take, drop, Option, Some, None, is_none, Result, Ok, Err, refl, sym, ◌∙◌, ap, subst, arith, true≢false, append-nil, append_assoc, length-append, take-append-drop, length-take-le, nat_lt, if◌then◌else◌}
+use Rattle.std.proofs.Common.{◌≡◌, ℕ, zero, ◌+◌, ◌<◌, ◌≤◌, List, [], ◌∷◌, ◌++◌, length, take, drop, Option, Some, None, is_none, Result, Ok, Err, refl, sym, ◌∙◌, ap, subst, arith, append-nil, append_assoc, take-append-drop, length-take-le, if◌then◌else◌}
 use native.Mathlib.Decide.{dec_lt}
 use Rattle.std.proofs.Math.Seq.{take-length}
 use Rattle.std.proofs.lemmas.List.{append_cancel_left, get_or_past}
 use Rattle.at_text.specs.declared.faults.Fault.{Fault}
 use Rattle.at_text.specs.Faults.{first_fault, first_of}
-use Rattle.at_text.specs.Parts.{Many, ◌▸◌}
-use Rattle.at_text.specs.Prefix.{Viable, LongestViable}
 use Rattle.at_text.specs.Syntax.{IsSyntaxFault, stop_fault}
 use Rattle.at_fixed.specs.declared.rounding.Coords.{Coords}
 use Rattle.at_geom.specs.declared.shapes.Shape.{Shape}
-use Rattle.at_wkt.specs.declared.dimension.Dimension.{Dimension}
 use Rattle.at_wkt.specs.declared.dimension.Dimension.TheVariants.{Open}
 use Rattle.std.specs.Result.{MatchResult}
 use Rattle.at_wkt.specs.declared.answers.Prefix.{Prefix}
@@ -19,28 +16,28 @@ use Rattle.at_wkt.specs.declared.answers.LineFault.TheVariants.{Found}
 use Rattle.at_wkt.specs.declared.halts.Halt.{Halt}
 use Rattle.at_wkt.specs.declared.halts.Halt.TheVariants.{At, Memory as NoMemory}
 use Rattle.at_wkt.specs.declared.geometries.Gathered.{Gathered}
-use Rattle.at_wkt.specs.Meaning.{shape_of, faults_of, empty_shape}
-use Rattle.at_wkt.specs.Geometry.{Geometry, is_blank, SpellsGeometry, IsLineOf, WktGeometry, WktLine}
+use Rattle.at_wkt.specs.Meaning.{empty_shape}
+use Rattle.at_wkt.specs.Geometry.{Geometry, SpellsGeometry, IsLineOf, WktLine}
 use Rattle.at_wkt.specs.Answers.{IsPrefixOf, IsPrefixFault, SpellsLine, IfFound, HasFirstLineFault, unspelled, faulty, HasLineShape}
-use Rattle.at_wkt.specs.Reading.{part, next, Spelt, Stuck, SkipsBlanks, Meaning, joined, no_meaning, meaning_of, After, Expected, WholeStands, Gathers, IfStopped, refusal, gathered_shape, kept_shape, line_answer, LineStops}
-use Rattle.at_wkt.proofs.Leads.{part-none, part-one, part-more, part-length, part-part, part-cons, Ahead, ahead_stuck, same_or_less, append_cases}
-use Rattle.at_wkt.proofs.Steps.{no_blank, AreBlanks, one_blanks, not_blank, blank_at}
-use Rattle.at_wkt.proofs.GeometrySteps.{Awaited, joined-none, open_count}
+use Rattle.at_wkt.specs.Reading.{part, next, Spelt, Stuck, SkipsBlanks, Meaning, joined, no_meaning, meaning_of, Expected, Gathers, IfStopped, refusal, gathered_shape, kept_shape, line_answer, LineStops}
+use Rattle.at_wkt.proofs.Leads.{part-more, part-length, part-part, part-cons, Ahead, ahead_stuck, same_or_less}
+use Rattle.at_wkt.proofs.Steps.{AreBlanks, one_blanks, not_blank, blank_at}
+use Rattle.at_wkt.proofs.GeometrySteps.{Awaited, joined-none}
 use Rattle.at_wkt.proofs.CollectionSteps.{geometry_first}
 
 -- the whole text, with what stands at its end, goes on from a place with its byte
 pub whole_stream : (w : List ℕ) (n : ℕ) → n ≤ length w → (r t : List ℕ) × (w ++ r ≡ part w 0 n ++ (next w n ∷ t))
 whole_stream w n h = elim (dec_lt n (length w)) [
   | yes l ↦ (
-        let text : w ≡ take n w ++ drop n w = sym (take-append-drop n w) in
-        let beyond : part w 0 (n + 1) ≡ part w 0 n ++ (next w n ∷ []) = part-more w 0 n (omega arith) l in
-        let all : w ≡ part w 0 (n + 1) ++ drop (n + 1) w = sym (take-append-drop (n + 1) w) in
-        ([], drop (n + 1) w, append-nil w ∙ (all ∙ (ap (λ z. z ++ drop (n + 1) w) beyond ∙ append_assoc (part w 0 n) (next w n ∷ []) (drop (n + 1) w)))))
+      let text : w ≡ take n w ++ drop n w = sym (take-append-drop n w) in
+      let beyond : part w 0 (n + 1) ≡ part w 0 n ++ (next w n ∷ []) = part-more w 0 n (omega arith) l in
+      let all : w ≡ part w 0 (n + 1) ++ drop (n + 1) w = sym (take-append-drop (n + 1) w) in
+      ([], drop (n + 1) w, append-nil w ∙ (all ∙ (ap (λ z. z ++ drop (n + 1) w) beyond ∙ append_assoc (part w 0 n) (next w n ∷ []) (drop (n + 1) w)))))
   | no f ↦ (
-        let same : n ≡ length w = omega arith in
-        let end : next w n ≡ 256 = get_or_past w n 256 (omega arith) in
-        let text : part w 0 n ≡ w = ap (λ z. take z w) same ∙ take-length w in
-        (256 ∷ [], [], ap (λ z. w ++ (z ∷ [])) (sym end) ∙ ap (λ z. z ++ (next w n ∷ [])) (sym text)))
+      let same : n ≡ length w = omega arith in
+      let end : next w n ≡ 256 = get_or_past w n 256 (omega arith) in
+      let text : part w 0 n ≡ w = ap (λ z. take z w) same ∙ take-length w in
+      (256 ∷ [], [], ap (λ z. w ++ (z ∷ [])) (sym end) ∙ ap (λ z. z ++ (next w n ∷ [])) (sym text)))
 ]
 
 module _ (digits : ℕ) (how : Coords) (base : ℕ) (w : List ℕ) where
@@ -129,7 +126,7 @@ module _ (digits : ℕ) (how : Coords) (base : ℕ) (w : List ℕ) where
         let (s, es) = ahead_stuck w i n t h.order h.within (same_or_less i n h.order) in
         let joint : part w 0 n ≡ part w 0 i ++ part w i n = part-part w 0 i n skips.order h.order h.within in
         let all : a ++ (x ++ (b ++ r)) ≡ part w 0 i ++ (part w i n ++ (next w n ∷ t)) =
-            sym (ap (λ z. z ++ r) (e ∙ ap (λ z. a ++ z) f) ∙ (append_assoc a (x ++ b) r ∙ ap (λ z. a ++ z) (append_assoc x b r))) ∙ (line ∙ (ap (λ z. z ++ (next w n ∷ t)) joint ∙ append_assoc (part w 0 i) (part w i n) (next w n ∷ t))) in
+        sym (ap (λ z. z ++ r) (e ∙ ap (λ z. a ++ z) f) ∙ (append_assoc a (x ++ b) r ∙ ap (λ z. a ++ z) (append_assoc x b r))) ∙ (line ∙ (ap (λ z. z ++ (next w n ∷ t)) joint ∙ append_assoc (part w 0 i) (part w i n) (next w n ∷ t))) in
         let same : a ≡ part w 0 i = line_blanks g a x b (b ++ r) (part w i n ++ (next w n ∷ t)) (base + length a) ha hg (s, es) all in
         let rest : x ++ (b ++ r) ≡ part w i n ++ (next w n ∷ t) = append_cancel_left (part w 0 i) _ _ (ap (λ z. z ++ (x ++ (b ++ r))) (sym same) ∙ all) in
         let (d, y0, m0, al, p0) = h.viable in
@@ -170,7 +167,7 @@ module _ (digits : ℕ) (how : Coords) (base : ℕ) (w : List ℕ) where
           → (meaning_of digits how g ≡ m) × ((b : List ℕ) × AreBlanks b × (b ++ r ≡ s))
       line_agrees g v r s (a, y, e, ha, (x, b, f, hg, hb)) line =
           let all : a ++ (x ++ (b ++ r)) ≡ part w 0 i ++ (part w i j ++ s) =
-              sym (ap (λ z. z ++ r) (e ∙ ap (λ z. a ++ z) f) ∙ (append_assoc a (x ++ b) r ∙ ap (λ z. a ++ z) (append_assoc x b r))) ∙ line in
+          sym (ap (λ z. z ++ r) (e ∙ ap (λ z. a ++ z) f) ∙ (append_assoc a (x ++ b) r ∙ ap (λ z. a ++ z) (append_assoc x b r))) ∙ line in
           let same : a ≡ part w 0 i = line_blanks g a x b (b ++ r) (part w i j ++ s) (base + length a) ha hg (first_here s) all in
           let rest : x ++ (b ++ r) ≡ part w i j ++ s = append_cancel_left (part w 0 i) _ _ (ap (λ z. z ++ (x ++ (b ++ r))) (sym same) ∙ all) in
           let (d, al) = h.some in
@@ -179,9 +176,13 @@ module _ (digits : ℕ) (how : Coords) (base : ℕ) (w : List ℕ) where
           (ey, (b, hb, last))
 
       line_of_text : (g : Geometry) (more : List ℕ) → SpellsGeometry (base + i) (part w i j) g → AreBlanks (part w j k ++ more) → IsLineOf base (part w 0 k ++ more) g
-      line_of_text g more q blanks = (part w 0 i, part w i j ++ (part w j k ++ more),
-          ap (λ z. z ++ more) joint3 ∙ (append_assoc (part w 0 i) (part w i j ++ part w j k) more ∙ ap (λ z. part w 0 i ++ z) (append_assoc (part w i j) (part w j k) more)),
-          skips.blanks, (part w i j, part w j k ++ more, refl, subst (λ o. SpellsGeometry o (part w i j) g) (sym (place (part w 0 i) refl)) q, blanks))
+      line_of_text g more q blanks = (
+        part w 0 i,
+        part w i j ++ (part w j k ++ more),
+        ap (λ z. z ++ more) joint3 ∙ (append_assoc (part w 0 i) (part w i j ++ part w j k) more ∙ ap (λ z. part w 0 i ++ z) (append_assoc (part w i j) (part w j k) more)),
+        skips.blanks,
+        (part w i j, part w j k ++ more, refl, subst (λ o. SpellsGeometry o (part w i j) g) (sym (place (part w 0 i) refl)) q, blanks),
+      )
 
       -- blanks up to the end: the line is spelled, and nothing else
       pub line_spelled : k ≡ length w → (fault : Option Fault) (shape : Shape) → fault ≡ first_of m.faults → shape ≡ m.shape → SpellsLine digits how base w fault shape
@@ -218,7 +219,7 @@ module _ (digits : ℕ) (how : Coords) (base : ℕ) (w : List ℕ) where
         exactly : (g : Geometry) (v s : List ℕ) → IsLineOf base v g → v ≡ part w 0 k ++ (next w k ∷ s) → ⊥
         exactly g v s l e =
             let line : v ++ [] ≡ part w 0 i ++ (part w i j ++ (part w j k ++ (next w k ∷ s))) =
-                append-nil v ∙ (e ∙ (ap (λ z. z ++ (next w k ∷ s)) joint3 ∙ (append_assoc (part w 0 i) (part w i j ++ part w j k) (next w k ∷ s) ∙ ap (λ z. part w 0 i ++ z) (append_assoc (part w i j) (part w j k) (next w k ∷ s))))) in
+            append-nil v ∙ (e ∙ (ap (λ z. z ++ (next w k ∷ s)) joint3 ∙ (append_assoc (part w 0 i) (part w i j ++ part w j k) (next w k ∷ s) ∙ ap (λ z. part w 0 i ++ z) (append_assoc (part w i j) (part w j k) (next w k ∷ s))))) in
             let (eo, (b, hb, rest)) = line_agrees g v [] (part w j k ++ (next w k ∷ s)) l line in
             no_blanks_there b s hb rest
 
@@ -259,6 +260,6 @@ module _ (nothing new : Gathered) (m : Meaning) (ep : nothing.points.items ≡ [
       let spells : SpellsLine digits how base w new.fault (gathered_shape new) = subst (λ z. SpellsLine digits how base w z (gathered_shape new)) (sym gathered_fault) (subst (SpellsLine digits how base w (first_of m.faults)) (sym all_gathered) s) in
       let P : Result Shape LineFault → Type 0 = λ z. MatchResult z (HasLineShape digits how base w) (λ r. IfFound r (HasFirstLineFault digits how base w)) in
       subst P (sym e) (go new.fault spells) where
-    go : (f : Option Fault) → SpellsLine digits how base w f (gathered_shape new) → MatchResult (elim f [ None ↦ Ok (gathered_shape new) | Some fault ↦ Err (Found fault) ]) (HasLineShape digits how base w) (λ r. IfFound r (HasFirstLineFault digits how base w))
-    go None s = s
-    go (Some f) s = faulty (gathered_shape new) s
+        go : (f : Option Fault) → SpellsLine digits how base w f (gathered_shape new) → MatchResult (elim f [ None ↦ Ok (gathered_shape new) | Some fault ↦ Err (Found fault) ]) (HasLineShape digits how base w) (λ r. IfFound r (HasFirstLineFault digits how base w))
+        go None s = s
+        go (Some f) s = faulty (gathered_shape new) s

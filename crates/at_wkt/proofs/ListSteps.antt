@@ -1,21 +1,17 @@
 -- Positions and items read on, lists of them in brackets, and the word EMPTY.
-use Rattle.std.proofs.Common.{◌≡◌, ◌≢◌, ℕ, zero, suc, ◌+◌, ◌-◌, ◌<◌, ◌≤◌, ◌⊎◌, inl, inr, Bool, true, false, not, ◌&&◌, ◌||◌, ◌==◌, IsTrue, List, [], ◌∷◌, ◌++◌, length, map, take, drop, slice_index, codes, Option, Some, None, refl, sym, ◌∙◌, ap, subst, arith, append-nil, append_assoc, length-append, length-take, true≢false, lit≤, lit<}
-use Rattle.std.specs.Str.{str_to_ascii_uppercase}
-use Rattle.std.specs.Char.{to_ascii_uppercase}
-use Rattle.std.proofs.lemmas.List.{append_cancel_left}
-use Rattle.at_text.specs.Parts.{Many, OneOrMore, Exactly, AnyCase, At, ◌▸◌}
+use Rattle.std.proofs.Common.{◌≡◌, ◌≢◌, ℕ, ◌+◌, ◌-◌, ◌<◌, ◌≤◌, ◌⊎◌, inl, inr, Bool, true, false, List, [], ◌∷◌, ◌++◌, length, codes, refl, sym, ◌∙◌, ap, subst, arith, append-nil, append_assoc, length-append, true≢false}
+use Rattle.at_text.specs.Parts.{Exactly}
 use Rattle.at_fixed.specs.Numerals.{Numeral}
 use Rattle.at_wkt.specs.declared.dimension.Dimension.{Dimension}
-use Rattle.at_wkt.specs.declared.dimension.Dimension.TheVariants.{Open, Fixed}
-use Rattle.at_wkt.specs.Positions.{Position, Positions}
-use Rattle.at_wkt.specs.Geometry.{is_blank, ◌‿◌, SpellsNumber, SpellsFurther, SpellsPosition, InBrackets, Parted, EmptyWord, EmptyOrParted, SpellsRing, SpellsList, SpellsPoint, SpellsPointMember, SpellsArea}
-use Rattle.at_wkt.specs.Reading.{part, next, allows, allows_more, Allows, Spelt, Stuck, Leads, SkipsBlanks, NumberStands, NumberBreaks, NumberSkips, delimiter, Delimiter, Item, Items, RestOf, ItemsRead, FurtherNumbers, is_delimiter, Reaches, WordStands, WordBreaks}
-use Rattle.at_wkt.proofs.Leads.{part-none, part-one, part-more, part-place, part-length, part-part, offset, Ahead, Begins, Inhabited, append_cases, same_length, leads_plain, leads_ahead, counts, ahead_stuck, same_or_less}
-use Rattle.at_wkt.proofs.Steps.{Then, Same, When, when_leads, same_leads, trans_leads, then_leads, then_stuck, fixed_leads, pad_leads, gap_leads, stuck_first, no_blank, AreBlanks, one_blanks, not_blank, spelt_over, Over}
-use Rattle.at_wkt.proofs.NumberSteps.{Number, stops_number, number_leads, number_stuck}
-use Rattle.at_wkt.proofs.Lists.{to_left, to_right, behind, Rest, items_same, brackets_same, Opened}
-use Rattle.at_wkt.proofs.PositionSteps.{begins_number, number_first, number_begins, nought, nought_numeral, further_begins, further_inhabited, further_lives}
-use Rattle.at_wkt.proofs.ItemSteps.{Gap, SecondNumber, TwoNumbers, position_of, EndedPosition, position_same, delimiter_same}
+use Rattle.at_wkt.specs.Positions.{Position}
+use Rattle.at_wkt.specs.Geometry.{is_blank, SpellsPosition, InBrackets, Parted, SpellsRing}
+use Rattle.at_wkt.specs.Reading.{part, next, Allows, Spelt, Stuck, Leads, SkipsBlanks, NumberStands, NumberBreaks, delimiter, Delimiter, Item, Items, ItemsRead, FurtherNumbers}
+use Rattle.at_wkt.proofs.Leads.{part-one, part-more, Begins, Inhabited, same_length}
+use Rattle.at_wkt.proofs.Steps.{Then, same_leads, trans_leads, then_leads, then_stuck, fixed_leads, pad_leads, gap_leads, stuck_first, no_blank, AreBlanks, spelt_over}
+use Rattle.at_wkt.proofs.NumberSteps.{stops_number, number_leads, number_stuck}
+use Rattle.at_wkt.proofs.Lists.{Rest, items_same, brackets_same, Opened}
+use Rattle.at_wkt.proofs.PositionSteps.{begins_number, number_begins, nought, nought_numeral, further_begins, further_inhabited, further_lives}
+use Rattle.at_wkt.proofs.ItemSteps.{Gap, SecondNumber, TwoNumbers, position_of, EndedPosition, position_same}
 
 -- ---- a position
 
@@ -29,6 +25,7 @@ gap_stops : Begins stops_number (Gap SecondNumber)
 gap_stops d y at v (x, r, e, (some, hx), q) = go x some hx e where
   blank_stop : (b : ℕ) → is_blank b ≡ true → stops_number b ≡ true
   blank_stop b h = grind (arith, h)
+
   go : (x : List ℕ) → x ≢ [] → AreBlanks x → v ≡ x ++ r → (b : ℕ) × (t : List ℕ) × (v ≡ b ∷ t) × (stops_number b ≡ true)
   go [] some hx e = absurd (some refl)
   go (b ∷ x) some (h, hs) e = (b, x ++ r, e, blank_stop b h)
@@ -68,6 +65,7 @@ module _ (base : ℕ) (w : List ℕ) (i a : ℕ) (c : Dimension) (skips : SkipsB
         go : (x : List ℕ) → x ≢ [] → AreBlanks x → v ≡ x ++ r → (b : ℕ) × (t : List ℕ) × (v ≡ b ∷ t) × (is_blank b ≡ true)
         go [] some hx e = absurd (some refl)
         go (b ∷ x) some (h, hs) e = (b, x ++ r, e, h)
+
       no_to_false : (b : ℕ) → no_blank b ≡ true → is_blank b ≡ false
       no_to_false b h = grind (arith, h)
 
@@ -85,10 +83,12 @@ module _ (base : ℕ) (w : List ℕ) (i a : ℕ) (c : Dimension) (skips : SkipsB
 
 pub position_inhabited : (d at : ℕ) → (2 ≤ d) × (d ≤ 4) → (last : Bool) → (x : Position) × (v : List ℕ) × EndedPosition d (x, last) at v
 position_inhabited d at (low, high) last =
-    let (v, q) = further_lives (d - 2) 2 d (omega arith) last (((at + 1) + 1) + 1) in
-    (record { x = nought; x_at = at; y = nought; y_at = (at + 1) + 1 }, 0x30 ∷ (0x20 ∷ (0x30 ∷ v)),
+    let (v, q) = further_lives (d - 2) 2 d (omega arith) last (((at + 1) + 1) + 1) in (
+      record { x = nought; x_at = at; y = nought; y_at = (at + 1) + 1 },
+      0x30 ∷ (0x20 ∷ (0x30 ∷ v)),
       position_same.to d ((nought, at), ((nought, (at + 1) + 1), last)) at (0x30 ∷ (0x20 ∷ (0x30 ∷ v)))
-      (0x30 ∷ [], 0x20 ∷ (0x30 ∷ v), refl, (refl, (nought_numeral, refl)), (0x20 ∷ [], 0x30 ∷ v, refl, ((λ e. cc), (refl, tt)), (0x30 ∷ [], v, refl, (refl, (nought_numeral, refl)), q))))
+          (0x30 ∷ [], 0x20 ∷ (0x30 ∷ v), refl, (refl, (nought_numeral, refl)), (0x20 ∷ [], 0x30 ∷ v, refl, ((λ e. cc), (refl, tt)), (0x30 ∷ [], v, refl, (refl, (nought_numeral, refl)), q))),
+    )
 
 -- ---- items
 
@@ -203,9 +203,11 @@ ends_or (b ∷ more) = elim (ends_or more) [
 -- a delimited position may be the last
 pub item_closes : (d : ℕ) (p : Position) (last : Bool) (at : ℕ) (v : List ℕ) → Item SpellsPosition d (p, last) at v
     → (z : List ℕ) × (v ≡ z ++ (delimiter last ∷ [])) × LastPosition d p at (z ++ (0x29 ∷ []))
-item_closes d p last at v (a, r, e, ha, (b, s, f, hp, (x, y, g, hx, hy))) =
-    (a ++ (b ++ x), e ∙ (ap (λ z. a ++ z) (f ∙ ap (λ z. b ++ z) (g ∙ ap (λ z. x ++ z) hy)) ∙ regroup (delimiter last)),
-      (a, b ++ (x ++ (0x29 ∷ [])), sym (regroup 0x29), ha, (b, x ++ (0x29 ∷ []), refl, hp, (x, 0x29 ∷ [], refl, hx, refl)))) where
+item_closes d p last at v (a, r, e, ha, (b, s, f, hp, (x, y, g, hx, hy))) = (
+  a ++ (b ++ x),
+  e ∙ (ap (λ z. a ++ z) (f ∙ ap (λ z. b ++ z) (g ∙ ap (λ z. x ++ z) hy)) ∙ regroup (delimiter last)),
+  (a, b ++ (x ++ (0x29 ∷ [])), sym (regroup 0x29), ha, (b, x ++ (0x29 ∷ []), refl, hp, (x, 0x29 ∷ [], refl, hx, refl))),
+) where
   regroup : (c : ℕ) → a ++ (b ++ (x ++ (c ∷ []))) ≡ (a ++ (b ++ x)) ++ (c ∷ [])
   regroup c = sym (append_assoc a (b ++ x) (c ∷ []) ∙ ap (λ z. a ++ z) (append_assoc b x (c ∷ [])))
 
@@ -214,10 +216,10 @@ closes_from d p last at u more q some = elim (ends_or more) [
   | inl e ↦ absurd (some e)
   | inr (m, x, e) ↦
       (let (z, ez, h) = item_closes d p last at (u ++ more) q in
-          let line : (u ++ m) ++ (x ∷ []) ≡ z ++ (delimiter last ∷ []) = append_assoc u m (x ∷ []) ∙ (ap (λ y. u ++ y) (sym e) ∙ ez) in
-          let long : length (u ++ m) ≡ length z = omega (arith, ap length line, length-append (u ++ m) (x ∷ []), length-append z (delimiter last ∷ [])) in
-          let same : u ++ m ≡ z = same_length (u ++ m) (x ∷ []) z (delimiter last ∷ []) long line in
-          (m ++ (0x29 ∷ []), subst (LastPosition d p at) (ap (λ y. y ++ (0x29 ∷ [])) (sym same) ∙ append_assoc u m (0x29 ∷ [])) h))
+      let line : (u ++ m) ++ (x ∷ []) ≡ z ++ (delimiter last ∷ []) = append_assoc u m (x ∷ []) ∙ (ap (λ y. u ++ y) (sym e) ∙ ez) in
+      let long : length (u ++ m) ≡ length z = omega (arith, ap length line, length-append (u ++ m) (x ∷ []), length-append z (delimiter last ∷ [])) in
+      let same : u ++ m ≡ z = same_length (u ++ m) (x ∷ []) z (delimiter last ∷ []) long line in
+      (m ++ (0x29 ∷ []), subst (LastPosition d p at) (ap (λ y. y ++ (0x29 ∷ [])) (sym same) ∙ append_assoc u m (0x29 ∷ [])) h))
 ]
 
 pub last_stuck : (base : ℕ) (w : List ℕ) (i n : ℕ) (c : Dimension) → Stuck (Item SpellsPosition) base w i c n → Stuck LastPosition base w i c n

@@ -1,11 +1,9 @@
 -- Items in brackets, one after another.
-use Rattle.std.proofs.Common.{◌≡◌, ◌≢◌, ℕ, zero, suc, ◌+◌, ◌-◌, ◌<◌, ◌≤◌, ◌⊎◌, inl, inr, Bool, true, false, not, IsTrue, List, [], ◌∷◌, ◌++◌, length, codes, refl, sym, ◌∙◌, ap, subst, arith, append-nil, append_assoc, length-append, true≢false}
-use Rattle.at_text.specs.Parts.{Many, OneOrMore, Exactly, ◌▸◌}
-use Rattle.at_wkt.specs.declared.dimension.Dimension.{Dimension}
+use Rattle.std.proofs.Common.{◌≡◌, ℕ, ◌+◌, Bool, true, false, List, [], ◌∷◌, ◌++◌, length, codes, refl, sym, ◌∙◌, ap, subst, arith, append-nil, append_assoc, length-append}
+use Rattle.at_text.specs.Parts.{Many, Exactly, ◌▸◌}
 use Rattle.at_wkt.specs.Geometry.{is_blank, ◌‿◌, InBrackets, Parted}
-use Rattle.at_wkt.specs.Reading.{part, next, Allows, Spelt, Stuck, Leads, delimiter, Delimiter, Item, Items, RestOf}
-use Rattle.at_wkt.proofs.Leads.{Begins, Inhabited}
-use Rattle.at_wkt.proofs.Steps.{Then, Over, Same, same_leads, then_leads, then_stuck, trans_leads, spelt_over}
+use Rattle.at_wkt.specs.Reading.{Delimiter, Item, Items, RestOf}
+use Rattle.at_wkt.proofs.Steps.{Then, Same}
 
 -- ---- parts regrouped
 
@@ -50,24 +48,24 @@ module _ {X : Type 0} (P : ℕ → X → ℕ → List ℕ → Type 0) where
       let inner : (Item P d (x, false) ▸ (Many is_blank ▸ (Parted (P d) (y ∷ rest) ‿ Exactly (codes ")")))) at v = (a, b, e, p, parted_to d (y ∷ rest) (at + length a) b q) in
       let one = to_right (Many is_blank) (P d x ▸ Delimiter d false) (Many is_blank ▸ (Parted (P d) (y ∷ rest) ‿ Exactly (codes ")"))) at v inner in
       behind (Many is_blank) _ _ (λ i u t.
-          let two = to_right (P d x) (Delimiter d false) (Many is_blank ▸ (Parted (P d) (y ∷ rest) ‿ Exactly (codes ")"))) i u t in
-          let three = behind (P d x) _ _ (λ j z s. behind (Many is_blank) _ _ (λ k y2 s2. behind (Exactly (codes ",")) _ _ (λ m y3 s3. to_left (Many is_blank) (Parted (P d) (y ∷ rest)) (Many is_blank ▸ Exactly (codes ")")) m y3 s3) k y2 s2) j z
-              (to_right (Many is_blank) (Exactly (codes ",")) (Many is_blank ▸ (Parted (P d) (y ∷ rest) ‿ Exactly (codes ")"))) j z s)) i u two in
-          let four = behind (P d x) _ _ (λ j z s. behind (Many is_blank) _ _ (λ k y2 s2. to_left (Exactly (codes ",")) (Many is_blank ▸ Parted (P d) (y ∷ rest)) (Many is_blank ▸ Exactly (codes ")")) k y2 s2) j z s) i u three in
-          let five = behind (P d x) _ _ (λ j z s. to_left (Many is_blank) (Exactly (codes ",") ▸ (Many is_blank ▸ Parted (P d) (y ∷ rest))) (Many is_blank ▸ Exactly (codes ")")) j z s) i u four in
-          to_left (P d x) (Many is_blank ▸ (Exactly (codes ",") ▸ (Many is_blank ▸ Parted (P d) (y ∷ rest)))) (Many is_blank ▸ Exactly (codes ")")) i u five) at v one
+      let two = to_right (P d x) (Delimiter d false) (Many is_blank ▸ (Parted (P d) (y ∷ rest) ‿ Exactly (codes ")"))) i u t in
+      let three = behind (P d x) _ _ (λ j z s. behind (Many is_blank) _ _ (λ k y2 s2. behind (Exactly (codes ",")) _ _ (λ m y3 s3. to_left (Many is_blank) (Parted (P d) (y ∷ rest)) (Many is_blank ▸ Exactly (codes ")")) m y3 s3) k y2 s2) j z
+      (to_right (Many is_blank) (Exactly (codes ",")) (Many is_blank ▸ (Parted (P d) (y ∷ rest) ‿ Exactly (codes ")"))) j z s)) i u two in
+      let four = behind (P d x) _ _ (λ j z s. behind (Many is_blank) _ _ (λ k y2 s2. to_left (Exactly (codes ",")) (Many is_blank ▸ Parted (P d) (y ∷ rest)) (Many is_blank ▸ Exactly (codes ")")) k y2 s2) j z s) i u three in
+      let five = behind (P d x) _ _ (λ j z s. to_left (Many is_blank) (Exactly (codes ",") ▸ (Many is_blank ▸ Parted (P d) (y ∷ rest))) (Many is_blank ▸ Exactly (codes ")")) j z s) i u four in
+      to_left (P d x) (Many is_blank ▸ (Exactly (codes ",") ▸ (Many is_blank ▸ Parted (P d) (y ∷ rest)))) (Many is_blank ▸ Exactly (codes ")")) i u five) at v one
 
   pub parted_from : (d : ℕ) (xs : List X) (at : ℕ) (v : List ℕ) → (Many is_blank ▸ (Parted (P d) xs ‿ Exactly (codes ")"))) at v → Items P d xs at v
   parted_from d [] at v (a, b, e, p, (s, t, f, q, r)) = q
   parted_from d (x ∷ []) at v h = h
   parted_from d (x ∷ y ∷ rest) at v h =
       let one = behind (Many is_blank) _ _ (λ i u t.
-          let five = to_right (P d x) (Many is_blank ▸ (Exactly (codes ",") ▸ (Many is_blank ▸ Parted (P d) (y ∷ rest)))) (Many is_blank ▸ Exactly (codes ")")) i u t in
-          let four = behind (P d x) _ _ (λ j z s. to_right (Many is_blank) (Exactly (codes ",") ▸ (Many is_blank ▸ Parted (P d) (y ∷ rest))) (Many is_blank ▸ Exactly (codes ")")) j z s) i u five in
-          let three = behind (P d x) _ _ (λ j z s. behind (Many is_blank) _ _ (λ k y2 s2. to_right (Exactly (codes ",")) (Many is_blank ▸ Parted (P d) (y ∷ rest)) (Many is_blank ▸ Exactly (codes ")")) k y2 s2) j z s) i u four in
-          let two = behind (P d x) _ _ (λ j z s. to_left (Many is_blank) (Exactly (codes ",")) (Many is_blank ▸ (Parted (P d) (y ∷ rest) ‿ Exactly (codes ")"))) j z
-              (behind (Many is_blank) _ _ (λ k y2 s2. behind (Exactly (codes ",")) _ _ (λ m y3 s3. to_right (Many is_blank) (Parted (P d) (y ∷ rest)) (Many is_blank ▸ Exactly (codes ")")) m y3 s3) k y2 s2) j z s)) i u three in
-          to_left (P d x) (Delimiter d false) (Many is_blank ▸ (Parted (P d) (y ∷ rest) ‿ Exactly (codes ")"))) i u two) at v h in
+      let five = to_right (P d x) (Many is_blank ▸ (Exactly (codes ",") ▸ (Many is_blank ▸ Parted (P d) (y ∷ rest)))) (Many is_blank ▸ Exactly (codes ")")) i u t in
+      let four = behind (P d x) _ _ (λ j z s. to_right (Many is_blank) (Exactly (codes ",") ▸ (Many is_blank ▸ Parted (P d) (y ∷ rest))) (Many is_blank ▸ Exactly (codes ")")) j z s) i u five in
+      let three = behind (P d x) _ _ (λ j z s. behind (Many is_blank) _ _ (λ k y2 s2. to_right (Exactly (codes ",")) (Many is_blank ▸ Parted (P d) (y ∷ rest)) (Many is_blank ▸ Exactly (codes ")")) k y2 s2) j z s) i u four in
+      let two = behind (P d x) _ _ (λ j z s. to_left (Many is_blank) (Exactly (codes ",")) (Many is_blank ▸ (Parted (P d) (y ∷ rest) ‿ Exactly (codes ")"))) j z
+      (behind (Many is_blank) _ _ (λ k y2 s2. behind (Exactly (codes ",")) _ _ (λ m y3 s3. to_right (Many is_blank) (Parted (P d) (y ∷ rest)) (Many is_blank ▸ Exactly (codes ")")) m y3 s3) k y2 s2) j z s)) i u three in
+      to_left (P d x) (Delimiter d false) (Many is_blank ▸ (Parted (P d) (y ∷ rest) ‿ Exactly (codes ")"))) i u two) at v h in
       let inner = to_left (Many is_blank) (P d x ▸ Delimiter d false) (Many is_blank ▸ (Parted (P d) (y ∷ rest) ‿ Exactly (codes ")"))) at v one in
       let (a, b, e, p, q) = inner in (a, b, e, p, parted_from d (y ∷ rest) (at + length a) b q)
 

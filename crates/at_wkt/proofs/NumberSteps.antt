@@ -1,21 +1,21 @@
 -- Numbers in a text: a number stands as far as the longest beginning of one, where a byte that no number has stands behind it.
-use Rattle.std.proofs.Common.{◌≡◌, ◌≢◌, ℕ, zero, suc, ◌+◌, ◌-◌, ◌<◌, ◌≤◌, ◌⊎◌, inl, inr, Bool, true, false, not, ◌&&◌, ◌||◌, ◌==◌, IsTrue, List, [], ◌∷◌, ◌++◌, length, take, drop, get_or, Option, Some, None, IfSome, is_some, Result, ℤ, refl, sym, ◌∙◌, ap, subst, arith, add-one, take-suc, append-nil, append_assoc, length-append, length-drop, true≢false}
+use Rattle.std.proofs.Common.{◌≡◌, ℕ, ◌+◌, ◌-◌, ◌≤◌, inl, inr, Bool, true, false, not, ◌||◌, IsTrue, List, [], ◌∷◌, ◌++◌, length, take, drop, Option, Some, None, IfSome, is_some, Result, ℤ, refl, sym, ◌∙◌, ap, subst, arith, append_assoc, length-drop, true≢false}
 use native.Mathlib.Decide.{dec_lt}
 use Rattle.std.specs.List.{AllByRecursion}
 use Rattle.std.proofs.lemmas.List.{drop-take, get_or_past, take_rest}
 use Rattle.std.proofs.lemmas.Option.{none-some, same_Some}
 use Rattle.at_text.specs.Texts.{is_digit, is_one_of}
-use Rattle.at_text.specs.Prefix.{Viable, LongestViable, TakesLongest}
+use Rattle.at_text.specs.Prefix.{LongestViable, TakesLongest}
 use Rattle.at_fixed.specs.declared.notation.Notation.TheVariants.{Wkt}
 use Rattle.at_fixed.specs.declared.rounding.Coords.{Coords}
 use Rattle.at_fixed.specs.declared.rounding.FixedFault.{FixedFault}
 use Rattle.at_fixed.specs.Fixed.{fixed_of, IsFixedOf}
-use Rattle.at_text.specs.Parts.{Many, OneOrMore, At, ◌▸◌}
+use Rattle.at_text.specs.Parts.{At}
 use Rattle.at_fixed.specs.Numerals.{Exponent, Numeral, fraction_text, exponent_text, numeral_text, IsAtMostOneOf, AreDigits, AreSomeDigits, IsExponent, AreWktDigits, IsWktNumeral, WktNumber, NumberOf, SpellsNumeral}
 use Rattle.at_wkt.specs.declared.dimension.Dimension.{Dimension}
-use Rattle.at_wkt.specs.Geometry.{is_blank, SpellsNumber}
-use Rattle.at_wkt.specs.Reading.{part, next, Allows, Spelt, Stuck, Leads, NumberStands, NumberBreaks, NumberSkips}
-use Rattle.at_wkt.proofs.Leads.{part-none, part-one, part-more, part-place, part-length, offset, Ahead, Begins, Inhabited, append_cases, leads_ahead, counts, ahead_stuck, same_or_less}
+use Rattle.at_wkt.specs.Geometry.{SpellsNumber}
+use Rattle.at_wkt.specs.Reading.{part, next, Allows, Stuck, Leads, NumberStands, NumberBreaks, NumberSkips}
+use Rattle.at_wkt.proofs.Leads.{part-more, offset, Ahead, Begins, Inhabited, append_cases, leads_ahead, counts}
 use Rattle.at_wkt.proofs.Steps.{Then}
 
 -- the bytes that numbers have
@@ -102,14 +102,14 @@ number_ends w i j h k l v b x s word stops (t, es) e =
     elim (append_cases v (b ∷ x) (part w i j) s e) [
       | inl (same, rest) ↦ same
       | inr (inl (m, ms, f, g)) ↦ absurd (
-            let (more, (n, hn, en)) = front_viable w i j h l in
-            let first : b ≡ m = cc in
-            let line : v ++ (m ∷ (ms ++ more)) ≡ numeral_text n = sym (append_assoc v (m ∷ ms) more) ∙ (ap (λ z. z ++ more) (sym f) ∙ en) in
-            true≢false (sym (byte_in v m (ms ++ more) (subst AreNumberBytes (sym line) (number_bytes n hn))) ∙ (ap in_number (sym first) ∙ stops)))
+          let (more, (n, hn, en)) = front_viable w i j h l in
+          let first : b ≡ m = cc in
+          let line : v ++ (m ∷ (ms ++ more)) ≡ numeral_text n = sym (append_assoc v (m ∷ ms) more) ∙ (ap (λ z. z ++ more) (sym f) ∙ en) in
+          true≢false (sym (byte_in v m (ms ++ more) (subst AreNumberBytes (sym line) (number_bytes n hn))) ∙ (ap in_number (sym first) ∙ stops)))
       | inr (inr (m, ms, f, g)) ↦ absurd (
-            let line : m ∷ (ms ++ (b ∷ x)) ≡ next w j ∷ t = sym g ∙ es in
-            let first : m ≡ next w j = cc in
-            nothing_beyond w i j ms h k l (subst WktNumber (f ∙ ap (λ z. part w i j ++ (z ∷ ms)) first) word))
+          let line : m ∷ (ms ++ (b ∷ x)) ≡ next w j ∷ t = sym g ∙ es in
+          let first : m ≡ next w j = cc in
+          nothing_beyond w i j ms h k l (subst WktNumber (f ∙ ap (λ z. part w i j ++ (z ∷ ms)) first) word))
     ]
 
 -- a number with its offset
@@ -134,11 +134,11 @@ module _ {Y : Type 0} (Q : ℕ → Y → ℕ → List ℕ → Type 0) (begins : 
   number_leads n h = leads_ahead (Then Number (λ p. Q)) Q base w i c j c (λ y. ((n, base + i), y)) stops_number begins h.order h.within (λ d a. a)
       (λ d y r a q. (part w i j, r, refl, (refl, (h.numeral, h.text)), subst (λ o. Q d y o r) (sym (offset base w i j h.order h.within)) q))
       (λ d p v r s a (v1, v2, ev, (ei, (hm, em)), q) t e.
-          let line : v1 ++ (v2 ++ r) ≡ part w i j ++ s = sym (append_assoc v1 v2 r) ∙ (ap (λ z. z ++ r) (sym ev) ∙ e) in
-          let same : v1 ≡ part w i j = ends_there h.order h.within h.longest d p.1 v1 v2 r s ((base + i) + length v1) (p.0.0, hm, em) q t line in
-          let en : p.0.0 ≡ n = h.only p.0.0 hm (sym same ∙ em) in
-          let place : (base + i) + length v1 ≡ base + j = ap (λ z. (base + i) + length z) same ∙ offset base w i j h.order h.within in
-          (p.1, v2, ev ∙ ap (λ z. z ++ v2) same, ap (λ z. ((z, p.0.1), p.1)) en ∙ ap (λ z. ((n, z), p.1)) ei, subst (λ o. Q d p.1 o v2) place q, a))
+      let line : v1 ++ (v2 ++ r) ≡ part w i j ++ s = sym (append_assoc v1 v2 r) ∙ (ap (λ z. z ++ r) (sym ev) ∙ e) in
+      let same : v1 ≡ part w i j = ends_there h.order h.within h.longest d p.1 v1 v2 r s ((base + i) + length v1) (p.0.0, hm, em) q t line in
+      let en : p.0.0 ≡ n = h.only p.0.0 hm (sym same ∙ em) in
+      let place : (base + i) + length v1 ≡ base + j = ap (λ z. (base + i) + length z) same ∙ offset base w i j h.order h.within in
+      (p.1, v2, ev ∙ ap (λ z. z ++ v2) same, ap (λ z. ((z, p.0.1), p.1)) en ∙ ap (λ z. ((n, z), p.1)) ei, subst (λ o. Q d p.1 o v2) place q, a))
 
   pub number_stuck : Inhabited Q → (d : ℕ) → Allows c d → NumberBreaks w i j → Stuck (Then Number (λ p. Q)) base w i c j
   number_stuck lives d0 a0 h = record {
@@ -191,12 +191,15 @@ module _ (w : List ℕ) (at len : ℕ) (inside : at ≤ length w) where
       let word : WktNumber (part w at (at + len)) = subst WktNumber rest_word (h.whole.0 refl) in
       let spelled : SpellsNumeral (part w at (at + len)) f.numeral = subst (λ z. SpellsNumeral z f.numeral) rest_word f.spelled in
       let only : (m : Numeral) → IsWktNumeral m → part w at (at + len) ≡ numeral_text m → m ≡ f.numeral = (λ m hm em. f.only m (inr hm, rest_word ∙ em)) in
-      let same : word.0 ≡ f.numeral = only word.0 word.1 word.2 in
-      (f.numeral, record {
+      let same : word.0 ≡ f.numeral = only word.0 word.1 word.2 in (
+        f.numeral,
+        record {
           order = omega arith;
           within = rest_fits h.longest;
           numeral = subst IsWktNumeral same word.1;
           text = spelled.1;
           longest = rest_longest h.longest;
           only = only;
-        }, sym (same_Some v answer e) ∙ f.value)
+        },
+        sym (same_Some v answer e) ∙ f.value,
+      )

@@ -1,30 +1,28 @@
 -- What the functions that read parts in brackets answer.
-use Rattle.std.proofs.Common.{◌≡◌, ◌≢◌, ℕ, ◌+◌, ◌-◌, ◌<◌, ◌≤◌, ◌⊎◌, inl, inr, Bool, true, false, not, ◌==◌, List, [], ◌∷◌, ◌++◌, length, map, flat_map, codes, Option, Some, None, Result, Ok, Err, refl, sym, ◌∙◌, ap, subst, arith, true≢false, append-nil, append_assoc, length-append}
+use Rattle.std.proofs.Common.{◌≡◌, ℕ, ◌+◌, ◌-◌, ◌<◌, ◌≤◌, Bool, true, false, ◌==◌, List, [], ◌∷◌, ◌++◌, length, map, flat_map, codes, Some, None, Result, refl, sym, ◌∙◌, ap, subst, arith, append-nil, append_assoc}
 use native.Mathlib.Decide.{dec_lt}
 use Rattle.std.proofs.lemmas.List.{get_or_past}
 use Rattle.std.specs.Result.{MatchResult}
 use Rattle.at_text.specs.declared.faults.Fault.{Fault}
-use Rattle.at_text.specs.Faults.{first_fault, first_of}
-use Rattle.at_fixed.specs.declared.rounding.Coords.{Coords}
+use Rattle.at_text.specs.Faults.{first_of}
 use Rattle.at_geom.specs.declared.positions.Pos.{Pos}
 use Rattle.at_geom.specs.declared.shapes.Polygon.{Polygon as PolygonOf}
 use Rattle.at_wkt.specs.declared.dimension.Dimension.{Dimension}
 use Rattle.at_wkt.specs.declared.halts.Halt.{Halt}
 use Rattle.at_wkt.specs.declared.rules.Rules.{Rules}
 use Rattle.at_wkt.specs.declared.positions.PositionRead.{PositionRead}
-use Rattle.at_wkt.specs.declared.positions.DelimiterRead.{DelimiterRead}
 use Rattle.at_wkt.specs.declared.paths.PathRead.{PathRead}
 use Rattle.at_wkt.specs.declared.paths.Role.{Role}
 use Rattle.at_wkt.specs.declared.parts.Read.{Read}
 use Rattle.at_wkt.specs.declared.parts.ItemRead.{ItemRead}
-use Rattle.at_wkt.specs.Positions.{Position, Positions, pos_of, position_faults, path_of, faults_of_ring}
+use Rattle.at_wkt.specs.Positions.{Position, Positions, position_faults, path_of, faults_of_ring}
 use Rattle.at_wkt.specs.Meaning.{polygons_of, faults_of_area}
 use Rattle.at_wkt.specs.Geometry.{SpellsPosition, SpellsRing, SpellsPoint, SpellsPointMember, EmptyOrParted}
-use Rattle.at_wkt.specs.Reading.{part, next, Allows, Spelt, Stuck, Leads, SkipsBlanks, delimiter, Delimiter, is_delimiter, Item, Items, HasCount, WordStands, WordBreaks, DelimiterStands, DelimiterBreaks, IfStopped, opens, PositionStands, PathStands, PartStands, ItemStands, ItemsSoFar, Grows, EnclosedPosition, added_position, added_path, added_point, point_faults, faults_of_path}
-use Rattle.at_wkt.proofs.Leads.{part-none, part-length, part-part, part-cons, Begins, Inhabited, counts}
+use Rattle.at_wkt.specs.Reading.{part, next, Spelt, Stuck, SkipsBlanks, Delimiter, Item, Items, HasCount, WordStands, WordBreaks, DelimiterStands, DelimiterBreaks, IfStopped, opens, PositionStands, PathStands, PartStands, ItemStands, ItemsSoFar, Grows, EnclosedPosition, added_position, added_path, added_point, point_faults, faults_of_path}
+use Rattle.at_wkt.proofs.Leads.{part-part, part-cons, Begins, counts}
 use Rattle.at_wkt.proofs.Steps.{no_blank, AreBlanks, blank_at, not_blank, stuck_first, when_leads}
 use Rattle.at_wkt.proofs.ItemSteps.{delimiter_spelt, delimiter_stuck}
-use Rattle.at_wkt.proofs.ListSteps.{ItemLives, item_stuck, item_spelt, item_unended, bracket_leads, enclosed_leads, last_spelt, last_stuck, comma_stuck, position_inhabited, ended_begins, inhabited_lives}
+use Rattle.at_wkt.proofs.ListSteps.{item_stuck, item_spelt, item_unended, bracket_leads, enclosed_leads, last_spelt, last_stuck, comma_stuck, position_inhabited, ended_begins}
 use Rattle.at_wkt.proofs.PositionSteps.{begins_number}
 use Rattle.at_wkt.proofs.BodySteps.{Choice, is_open, choice_open, choice_empty, choice_broken, choice_begins, parted_choice, point_choice, Bracketed, ring_begins, ring_inhabited, member_when, member_begins, bare_spelt, bare_stuck}
 use Rattle.at_wkt.proofs.PathAnswers.{so_far_end}
@@ -81,15 +79,15 @@ module _ {X Z : Type 0} (P : ℕ → X → ℕ → List ℕ → Type 0) (faults 
       → MatchResult r (ItemStands P faults (Grows added old new) base w i c) (λ halt. IfStopped halt (Stuck (Item P) base w i c))
   ended_item old new read h r q = answers_by r _ (ItemStands P faults (Grows added old new) base w i c) _ (Stuck (Item P) base w i c) q
       (λ item (ef, ed, d).
-          let ends : Spelt Delimiter base w read.end read.dimension (d.at + 1) read.dimension item.is_last = delimiter_spelt base w read.end d.at d.blanks item.is_last d.byte d.inside read.dimension h.spelt.some in
-          let whole : Spelt (Item P) base w i c (d.at + 1) read.dimension (h.value, item.is_last) = item_spelt P base w i a c skips begins read.end read.dimension h.value h.spelt (d.at + 1) item.is_last ends in
-          record {
-            value = h.value;
-            spelt = subst (λ z. Spelt (Item P) base w i c item.end z (h.value, item.is_last)) (sym ed) (subst (λ z. Spelt (Item P) base w i c z read.dimension (h.value, item.is_last)) (sym d.end_is) whole);
-            fault = ef ∙ h.fault;
-            added = h.added;
-            longer = omega (arith, skips.order, h.spelt.order, d.blanks.order, d.end_is);
-          })
+      let ends : Spelt Delimiter base w read.end read.dimension (d.at + 1) read.dimension item.is_last = delimiter_spelt base w read.end d.at d.blanks item.is_last d.byte d.inside read.dimension h.spelt.some in
+      let whole : Spelt (Item P) base w i c (d.at + 1) read.dimension (h.value, item.is_last) = item_spelt P base w i a c skips begins read.end read.dimension h.value h.spelt (d.at + 1) item.is_last ends in
+      record {
+        value = h.value;
+        spelt = subst (λ z. Spelt (Item P) base w i c item.end z (h.value, item.is_last)) (sym ed) (subst (λ z. Spelt (Item P) base w i c z read.dimension (h.value, item.is_last)) (sym d.end_is) whole);
+        fault = ef ∙ h.fault;
+        added = h.added;
+        longer = omega (arith, skips.order, h.spelt.order, d.blanks.order, d.end_is);
+      })
       (λ n d. item_unended P base w i a c skips begins read.end read.dimension h.value h.spelt n (delimiter_stuck base w read.end n d.blanks read.dimension h.spelt.some d.byte))
 
 -- all items of a loop
@@ -151,6 +149,7 @@ area_stands rules w i c read rings old new polygon h ep e = record {
   paths : (xs : List Positions) → flat_map (added_path rules.digits rules.how) xs ≡ map (path_of rules.digits rules.how) xs
   paths [] = refl
   paths (x ∷ xs) = ap (λ z. path_of rules.digits rules.how x ∷ z) (paths xs)
+
   one : (xs : List Positions) (d at : ℕ) (v : List ℕ) → Items SpellsRing d xs at v → record { rings = flat_map (added_path rules.digits rules.how) xs } ∷ [] ≡ polygons_of rules.digits rules.how xs
   one [] d at v h = absurd h
   one (x ∷ xs) d at v h = ap (λ z. record { rings = z } ∷ []) (paths (x ∷ xs))
@@ -178,13 +177,13 @@ module _ (rules : Rules) (w : List ℕ) (i a : ℕ) (c : Dimension) (skips : Ski
   bare_longer j c' p last h = elim (dec_lt a j) [
     | yes l ↦ l
     | no f ↦ absurd (
-          let (d, allowed) = h.some in
-          let (b1, r, e, hb, q) = h.sound d allowed in
-          let (b, t, eb, hn) = ended_begins d (p, last) _ r q in
-          let low : j ≤ a = omega arith in
-          let blanks : AreBlanks (part w i j ++ part w j a) = subst AreBlanks (part-part w i j a h.order low skips.within) skips.blanks in
-          let here : part w i j ++ part w j a ≡ b1 ++ (b ∷ (t ++ part w j a)) = ap (λ z. z ++ part w j a) (e ∙ ap (λ z. b1 ++ z) eb) ∙ append_assoc b1 (b ∷ t) (part w j a) in
-          not_blank b (number_no_blank b hn) (blank_at b1 b (t ++ part w j a) (subst AreBlanks here blanks)))
+        let (d, allowed) = h.some in
+        let (b1, r, e, hb, q) = h.sound d allowed in
+        let (b, t, eb, hn) = ended_begins d (p, last) _ r q in
+        let low : j ≤ a = omega arith in
+        let blanks : AreBlanks (part w i j ++ part w j a) = subst AreBlanks (part-part w i j a h.order low skips.within) skips.blanks in
+        let here : part w i j ++ part w j a ≡ b1 ++ (b ∷ (t ++ part w j a)) = ap (λ z. z ++ part w j a) (e ∙ ap (λ z. b1 ++ z) eb) ∙ append_assoc b1 (b ∷ t) (part w j a) in
+        not_blank b (number_no_blank b hn) (blank_at b1 b (t ++ part w j a) (subst AreBlanks here blanks)))
   ] where
     number_no_blank : (b : ℕ) → begins_number b ≡ true → no_blank b ≡ true
     number_no_blank b h = grind (arith, h)
@@ -193,10 +192,10 @@ module _ (rules : Rules) (w : List ℕ) (i a : ℕ) (c : Dimension) (skips : Ski
   bare_low n (d, allowed) h = elim (dec_lt n a) [
     | no f ↦ omega arith
     | yes less ↦ absurd (
-          let (x, v, q) = position_inhabited d (rules.base + i + length (part w i a)) (counts c d allowed) true in
-          let text : part w i a ++ v ≡ part w i n ++ (next w n ∷ (part w (n + 1) a ++ v)) =
-              ap (λ z. z ++ v) (part-part w i n a h.order (let l : n ≤ a = omega arith in l) skips.within ∙ ap (λ z. part w i n ++ z) (part-cons w n a less skips.within)) ∙ append_assoc (part w i n) (next w n ∷ part w (n + 1) a) v in
-          h.dead d (x, true) (part w i a ++ v) [] (part w (n + 1) a ++ v) allowed (part w i a, v, refl, skips.blanks, q) (append-nil (part w i a ++ v) ∙ text))
+        let (x, v, q) = position_inhabited d (rules.base + i + length (part w i a)) (counts c d allowed) true in
+        let text : part w i a ++ v ≡ part w i n ++ (next w n ∷ (part w (n + 1) a ++ v)) =
+        ap (λ z. z ++ v) (part-part w i n a h.order (let l : n ≤ a = omega arith in l) skips.within ∙ ap (λ z. part w i n ++ z) (part-cons w n a less skips.within)) ∙ append_assoc (part w i n) (next w n ∷ part w (n + 1) a) v in
+        h.dead d (x, true) (part w i a ++ v) [] (part w (n + 1) a ++ v) allowed (part w i a, v, refl, skips.blanks, q) (append-nil (part w i a ++ v) ∙ text))
   ]
 
   pub bare_stands : (old new : List Pos) (r : Result ItemRead Halt) → HasCount c → opens (next w a) ≡ false

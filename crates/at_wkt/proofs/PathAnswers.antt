@@ -1,5 +1,5 @@
 -- What the functions that read lists of positions, and items of other kinds, answer.
-use Rattle.std.proofs.Common.{◌≡◌, ◌≢◌, ℕ, ◌+◌, ◌-◌, ◌<◌, ◌≤◌, ◌⊎◌, inl, inr, Bool, true, false, not, ◌&&◌, ◌||◌, if◌then◌else◌, List, [], ◌∷◌, ◌++◌, length, map, flat_map, option_to_list, Option, Some, None, is_none, Result, Ok, Err, refl, sym, ◌∙◌, ap, subst, arith, true≢false, append-nil, append_assoc, length-append}
+use Rattle.std.proofs.Common.{◌≡◌, ℕ, ◌+◌, ◌<◌, ◌≤◌, Bool, true, false, not, ◌&&◌, ◌||◌, if◌then◌else◌, List, [], ◌∷◌, ◌++◌, length, map, flat_map, option_to_list, Option, Some, None, is_none, refl, sym, ◌∙◌, ap, subst, arith, append-nil, append_assoc, length-append}
 use Rattle.std.specs.Ordering.{int_eq}
 use Rattle.std.proofs.lemmas.List.{map-append, length-map}
 use Rattle.std.proofs.lemmas.Grind.{flat_map-append}
@@ -13,9 +13,9 @@ use Rattle.at_wkt.specs.declared.paths.PathRead.{PathRead}
 use Rattle.at_wkt.specs.declared.paths.Role.{Role}
 use Rattle.at_wkt.specs.declared.paths.Role.TheVariants.{Line, Ring}
 use Rattle.at_wkt.specs.declared.parts.ItemRead.{ItemRead}
-use Rattle.at_wkt.specs.Positions.{Position, Positions, pos_of, position_faults, items_faults, last_of, is_faultless, are_same, closes_with, is_closed}
+use Rattle.at_wkt.specs.Positions.{Position, Positions, pos_of, position_faults, items_faults, last_of, is_faultless, is_closed}
 use Rattle.at_wkt.specs.Geometry.{SpellsPosition, SpellsRing}
-use Rattle.at_wkt.specs.Reading.{part, next, Spelt, Stuck, Leads, Item, Items, RestOf, ItemsRead, HasCount, PositionStands, PositionsSoFar, PositionsStand, ItemsSoFar, ItemStands, Grows, PathStands, fault_of_path, faults_of_path}
+use Rattle.at_wkt.specs.Reading.{next, Spelt, Stuck, Item, Items, ItemsRead, HasCount, PositionStands, PositionsSoFar, PositionsStand, ItemsSoFar, ItemStands, Grows, PathStands, fault_of_path, faults_of_path}
 use Rattle.at_wkt.proofs.ListSteps.{ItemLives, items_start, items_more, items_stuck, items_end, position_lives, ring_leads}
 use Rattle.at_wkt.proofs.Exits.{first_of-append}
 
@@ -69,8 +69,8 @@ module _ (rules : Rules) (w : List ℕ) (i : ℕ) (c : Dimension) where
         within = n.spelt.within;
         path_is = ep ∙ (ap (λ z. z ++ (new.pos ∷ [])) h.path_is ∙ (ap (λ z. map (pos_of rules.digits rules.how) xs ++ (z ∷ [])) n.pos ∙ sym (map-append (pos_of rules.digits rules.how) xs (n.position ∷ []))));
         fault_is = ef ∙ (ap (λ z. first_fault z new.fault) h.fault_is ∙ (ap (first_fault (first_of (items_faults rules.digits rules.how xs))) n.fault
-          ∙ (sym (first_of-append (items_faults rules.digits rules.how xs) (position_faults rules.digits rules.how n.position))
-          ∙ ap first_of (ap (λ z. items_faults rules.digits rules.how xs ++ z) (sym faults) ∙ sym (flat_map-append (position_faults rules.digits rules.how) xs (n.position ∷ []))))));
+            ∙ (sym (first_of-append (items_faults rules.digits rules.how xs) (position_faults rules.digits rules.how n.position))
+            ∙ ap first_of (ap (λ z. items_faults rules.digits rules.how xs ++ z) (sym faults) ∙ sym (flat_map-append (position_faults rules.digits rules.how) xs (n.position ∷ []))))));
         first_pos = h.first_pos;
         first_faulty = h.first_faulty;
         last_pos = n.pos ∙ ap (pos_of rules.digits rules.how) (sym (last_of-append h.head h.rest n.position));
@@ -95,7 +95,7 @@ module _ (rules : Rules) (w : List ℕ) (i : ℕ) (c : Dimension) where
       let xs = h.head ∷ h.rest in
       let q = last_of h.head h.rest in
       let spelt : Spelt (Items SpellsPosition) rules.base w i c last.end last.dimension xs = items_end SpellsPosition rules.base w i c last.end last.dimension xs
-          (subst (λ z. ItemsRead SpellsPosition rules.base w i c last.end last.dimension z xs) ended h.reads) h.within h.some in
+      (subst (λ z. ItemsRead SpellsPosition rules.base w i c last.end last.dimension z xs) ended h.reads) h.within h.some in
       let none_first : is_none first.fault ≡ is_faultless rules.digits rules.how h.head = ap is_none h.first_faulty ∙ faultless_by (position_faults rules.digits rules.how h.head) in
       let none_last : is_none last.fault ≡ is_faultless rules.digits rules.how q = ap is_none h.last_faulty ∙ faultless_by (position_faults rules.digits rules.how q) in
       record {
@@ -104,9 +104,9 @@ module _ (rules : Rules) (w : List ℕ) (i : ℕ) (c : Dimension) where
         path = ep ∙ h.path_is;
         fault = ef ∙ h.fault_is;
         closes = ec ∙ (ap (λ z. not (z && is_none last.fault) || (int_eq first.pos.x last.pos.x && int_eq first.pos.y last.pos.y)) none_first
-          ∙ (ap (λ z. not (is_faultless rules.digits rules.how h.head && z) || (int_eq first.pos.x last.pos.x && int_eq first.pos.y last.pos.y)) none_last
-          ∙ (ap (λ (z : Pos). not (is_faultless rules.digits rules.how h.head && is_faultless rules.digits rules.how q) || (int_eq z.x last.pos.x && int_eq z.y last.pos.y)) h.first_pos
-          ∙ ap (λ (z : Pos). not (is_faultless rules.digits rules.how h.head && is_faultless rules.digits rules.how q) || (int_eq (pos_of rules.digits rules.how h.head).x z.x && int_eq (pos_of rules.digits rules.how h.head).y z.y)) h.last_pos)));
+            ∙ (ap (λ z. not (is_faultless rules.digits rules.how h.head && z) || (int_eq first.pos.x last.pos.x && int_eq first.pos.y last.pos.y)) none_last
+            ∙ (ap (λ (z : Pos). not (is_faultless rules.digits rules.how h.head && is_faultless rules.digits rules.how q) || (int_eq z.x last.pos.x && int_eq z.y last.pos.y)) h.first_pos
+            ∙ ap (λ (z : Pos). not (is_faultless rules.digits rules.how h.head && is_faultless rules.digits rules.how q) || (int_eq (pos_of rules.digits rules.how h.head).x z.x && int_eq (pos_of rules.digits rules.how h.head).y z.y)) h.last_pos)));
         few = omega (arith, h.few, ee);
       }
 
@@ -131,9 +131,9 @@ module _ {X Y : Type 0} (P : ℕ → X → ℕ → List ℕ → Type 0) (faults 
     some = q.spelt.some;
     within = q.spelt.within;
     fault = ap (λ z. first_fault z item.fault) h.fault ∙ (ap (first_fault (first_of (flat_map faults h.values))) q.fault ∙ (sym (first_of-append (flat_map faults h.values) (faults q.value))
-      ∙ ap first_of (ap (λ z. flat_map faults h.values ++ z) (sym (append-nil (faults q.value))) ∙ sym (flat_map-append faults h.values (q.value ∷ [])))));
+        ∙ ap first_of (ap (λ z. flat_map faults h.values ++ z) (sym (append-nil (faults q.value))) ∙ sym (flat_map-append faults h.values (q.value ∷ [])))));
     grown = q.added ∙ (ap (λ z. z ++ added q.value) h.grown ∙ (append_assoc old (flat_map added h.values) (added q.value)
-      ∙ ap (λ z. old ++ z) (ap (λ z. flat_map added h.values ++ z) (sym (append-nil (added q.value))) ∙ sym (flat_map-append added h.values (q.value ∷ [])))));
+        ∙ ap (λ z. old ++ z) (ap (λ z. flat_map added h.values ++ z) (sym (append-nil (added q.value))) ∙ sym (flat_map-append added h.values (q.value ∷ [])))));
   })
 
   pub so_far_stuck : ItemLives P → (last : ItemRead) (list : List Y) (n : ℕ) → ItemsSoFar P faults added old list base w i c last → last.is_last ≡ false → Stuck (Item P) base w last.end last.dimension n → Stuck (Items P) base w i c n

@@ -1,20 +1,15 @@
 -- Positions: two numbers, further ones, and the delimiter behind them.
-use Rattle.std.proofs.Common.{◌≡◌, ◌≢◌, ℕ, zero, suc, ◌+◌, ◌-◌, ◌<◌, ◌≤◌, ◌⊎◌, inl, inr, Bool, true, false, not, ◌&&◌, ◌||◌, ◌==◌, IsTrue, List, [], ◌∷◌, ◌++◌, length, take, drop, codes, Option, Some, None, IfSome, refl, sym, ◌∙◌, ap, subst, arith, append-nil, append_assoc, length-append, true≢false, lit≤, lit<}
-use Rattle.std.specs.List.{AllByRecursion}
+use Rattle.std.proofs.Common.{◌≡◌, ◌≢◌, ℕ, zero, suc, ◌+◌, ◌-◌, ◌<◌, ◌⊎◌, inl, inr, Bool, true, false, ◌||◌, List, [], ◌∷◌, ◌++◌, length, codes, Option, Some, None, refl, sym, ◌∙◌, ap, subst, arith, append_assoc, length-append, true≢false}
 use Rattle.std.proofs.lemmas.List.{append_cancel_left}
 use Rattle.at_text.specs.Texts.{is_digit, is_one_of}
-use Rattle.at_text.specs.Prefix.{Viable, LongestViable}
-use Rattle.at_text.specs.Parts.{Many, OneOrMore, Exactly, At, ◌▸◌}
-use Rattle.at_fixed.specs.Numerals.{Exponent, Numeral, fraction_text, exponent_text, numeral_text, IsAtMostOneOf, AreDigits, AreSomeDigits, IsExponent, AreWktDigits, IsWktNumeral, WktNumber}
+use Rattle.at_text.specs.Parts.{◌▸◌}
+use Rattle.at_fixed.specs.Numerals.{Numeral, fraction_text, exponent_text, numeral_text, IsAtMostOneOf, AreWktDigits, IsWktNumeral, WktNumber}
 use Rattle.at_wkt.specs.declared.dimension.Dimension.{Dimension}
-use Rattle.at_wkt.specs.declared.dimension.Dimension.TheVariants.{Open, Fixed}
-use Rattle.at_wkt.specs.Positions.{Position}
-use Rattle.at_wkt.specs.Geometry.{is_blank, SpellsNumber, SpellsFurther, SpellsPosition}
-use Rattle.at_wkt.specs.Reading.{part, next, allows, allows_more, Allows, Spelt, Stuck, Leads, SkipsBlanks, NumberStands, NumberBreaks, NumberSkips, delimiter, Delimiter, Item, FurtherNumbers, Reaches, is_delimiter}
-use Rattle.at_wkt.proofs.Leads.{part-none, part-one, part-more, part-place, part-length, part-part, offset, Ahead, Begins, Inhabited, append_cases, leads_ahead, counts, ahead_stuck, same_or_less}
-use Rattle.at_wkt.proofs.Steps.{Then, Same, same_leads, trans_leads, pad_leads, gap_leads, no_blank, AreBlanks, one_blanks, not_blank}
-use Rattle.at_wkt.proofs.NumberSteps.{in_number, AreNumberBytes, number_bytes, Number, stops_number, number_leads, number_stuck, ends_there, front_viable}
-use Rattle.at_wkt.proofs.Lists.{to_left, to_right}
+use Rattle.at_wkt.specs.Geometry.{is_blank, SpellsNumber, SpellsFurther}
+use Rattle.at_wkt.specs.Reading.{part, next, Allows, Stuck, Leads, SkipsBlanks, NumberBreaks, NumberSkips, delimiter, Delimiter, FurtherNumbers, Reaches, is_delimiter}
+use Rattle.at_wkt.proofs.Leads.{part-length, offset, Ahead, Begins, Inhabited, leads_ahead}
+use Rattle.at_wkt.proofs.Steps.{Then, no_blank, AreBlanks, one_blanks}
+use Rattle.at_wkt.proofs.NumberSteps.{Number, stops_number, ends_there, front_viable}
 
 -- ---- first bytes
 
@@ -123,8 +118,10 @@ further_begins k d last at v h = go (further_word k d last at v h) where
   first_of_word b [] t h (inl s) = (b, t, refl, s)
   first_of_word b [] t h (inr no_one) = absurd (no_one refl)
   first_of_word b (y ∷ ys) t (h, hs) s = (y, ys ++ (b ∷ t), refl, blank_stops y h)
+
   stop_of : (b : ℕ) → is_delimiter b ≡ true → stops_number b ≡ true
   stop_of b h = grind (arith, h)
+
   go : FurtherWord k d v → (y : ℕ) × (u : List ℕ) × (v ≡ y ∷ u) × (stops_number y ≡ true)
   go f =
       let s : (stops_number f.byte ≡ true) ⊎ (f.blanks ≢ []) = elim f.cases [ inl (h, e) ↦ inl (stop_of f.byte h) | inr (h, e, n) ↦ inr n ] in
@@ -141,29 +138,37 @@ Skipped Q d y = AnyNumber ▸ Q d y
 
 pub further_more : (k d : ℕ) (last : Bool) (at : ℕ) (a v : List ℕ) → a ≢ [] → AreBlanks a → Skipped (FurtherNumbers (k + 1)) d last (at + length a) v → FurtherNumbers k d last at (a ++ v)
 further_more k d last at a v some ha (x, y, e, (n, hn, en), (ns, el, (s, t, f, hs, q))) =
-  let place : ((at + length a) + length x) + length s ≡ at + length (a ++ (x ++ s)) = omega (arith, length-append a (x ++ s), length-append x s) in (
-  n ∷ ns,
-  omega (arith, el),
-  (a ++ (x ++ s), t, ap (λ z. a ++ z) (e ∙ (ap (λ z. x ++ z) f ∙ sym (append_assoc x s t))) ∙ sym (append_assoc a (x ++ s) t),
-    (a, x ++ s, refl, (some, ha), (x, s, refl, (hn, en), hs)),
-    subst (λ o. Delimiter d last o t) place q),
-)
+    let place : ((at + length a) + length x) + length s ≡ at + length (a ++ (x ++ s)) = omega (arith, length-append a (x ++ s), length-append x s) in (
+      n ∷ ns,
+      omega (arith, el),
+      (
+        a ++ (x ++ s),
+        t,
+        ap (λ z. a ++ z) (e ∙ (ap (λ z. x ++ z) f ∙ sym (append_assoc x s t))) ∙ sym (append_assoc a (x ++ s) t),
+        (a, x ++ s, refl, (some, ha), (x, s, refl, (hn, en), hs)),
+        subst (λ o. Delimiter d last o t) place q,
+      ),
+    )
 
 pub further_pad : (k d : ℕ) (last : Bool) (at : ℕ) (a v : List ℕ) → AreBlanks a → FurtherNumbers k d last (at + length a) v → FurtherNumbers k d last at (a ++ v)
 further_pad k d last at a v ha ([], en, (x, y, e, none, (b, z, f, hb, hz))) =
     ([], en, ([], a ++ v, refl, refl, (a ++ b, z, ap (λ u. a ++ u) (e ∙ (ap (λ u. u ++ y) none ∙ f)) ∙ sym (append_assoc a b z), all_both a b ha hb, hz)))
 further_pad k d last at a v ha (n ∷ ns, en, (x, y, e, (b, z, f, (some, hb), more), q)) =
-  let one : (at + length a) + length b ≡ at + length (a ++ b) = omega (arith, length-append a b) in
-  let two : (at + length a) + length x ≡ at + length (a ++ x) = omega (arith, length-append a x) in (
-  n ∷ ns,
-  en,
-  (a ++ x, y, ap (λ u. a ++ u) e ∙ sym (append_assoc a x y),
-    (a ++ b, z, ap (λ u. a ++ u) f ∙ sym (append_assoc a b z), ((λ none. some (append_none a b none)), all_both a b ha hb), subst (λ o. (SpellsNumber n ▸ SpellsFurther ns) o z) one more),
-    subst (λ o. Delimiter d last o y) two q),
-) where
-  append_none : (a b : List ℕ) → a ++ b ≡ [] → b ≡ []
-  append_none [] b e = e
-  append_none (c ∷ a) b e = cc
+    let one : (at + length a) + length b ≡ at + length (a ++ b) = omega (arith, length-append a b) in
+    let two : (at + length a) + length x ≡ at + length (a ++ x) = omega (arith, length-append a x) in (
+      n ∷ ns,
+      en,
+      (
+        a ++ x,
+        y,
+        ap (λ u. a ++ u) e ∙ sym (append_assoc a x y),
+        (a ++ b, z, ap (λ u. a ++ u) f ∙ sym (append_assoc a b z), ((λ none. some (append_none a b none)), all_both a b ha hb), subst (λ o. (SpellsNumber n ▸ SpellsFurther ns) o z) one more),
+        subst (λ o. Delimiter d last o y) two q,
+      ),
+    ) where
+      append_none : (a b : List ℕ) → a ++ b ≡ [] → b ≡ []
+      append_none [] b e = e
+      append_none (c ∷ a) b e = cc
 
 -- a word of further numbers where positions have d, at least k
 pub further_lives : (m k d : ℕ) → k + m ≡ d → (last : Bool) (at : ℕ) → (v : List ℕ) × FurtherNumbers k d last at v
@@ -211,26 +216,33 @@ module _ (base : ℕ) (w : List ℕ) (j m : ℕ) (c : Dimension) (k : ℕ) (skip
   further_leads long none = leads_ahead (FurtherNumbers k) (Skipped (FurtherNumbers (k + 1))) base w j c m c (λ y. y) begins_number begins skips.order skips.within (λ d a. a)
       (λ d y r a q. further_more k d y (base + j) (part w j m) r some skips.blanks (subst (λ o. Skipped (FurtherNumbers (k + 1)) d y o r) (sym (offset base w j m skips.order skips.within)) q))
       comes where
-    some : part w j m ≢ []
-    some e = absurd (omega (arith, part-length w j m skips.order skips.within, ap length e))
-    begins : Begins begins_number (Skipped (FurtherNumbers (k + 1)))
-    begins d last at v (a, b, e, (n, hn, en), q) = let (x, t, f, h) = number_first n hn in (x, t ++ b, e ∙ ap (λ z. z ++ b) (en ∙ f), h)
-    comes : (d : ℕ) (x : Bool) (v r s : List ℕ) → Allows c d → FurtherNumbers k d x (base + j) v → Ahead w m s → v ++ r ≡ part w j m ++ s
-        → (y : Bool) × (u : List ℕ) × (v ≡ part w j m ++ u) × (x ≡ y) × Skipped (FurtherNumbers (k + 1)) d y (base + m) u × Allows c d
-    comes d x v r s a ([], en, q) t e = absurd (elim (further_agrees d x (base + j) v r s ([], en, q) t e) [
-      | inl (h, f) ↦ true≢false (sym h ∙ none)
-      | inr (h, less, f) ↦ omega (arith, en)
-    ])
-    comes d x v r s a (n ∷ ns, en, (p, y, ev, (b, z, f, (sb, hb), (num, fs, g, hn, more)), q)) (t, es) e =
-        let (c0, t0, tf, hc) = number_first n hn.0 in
-        let text : v ≡ b ++ (c0 ∷ (t0 ++ (fs ++ y))) = ev ∙ (ap (λ z. z ++ y) (f ∙ ap (λ z. b ++ z) (g ∙ ap (λ z. z ++ fs) (hn.1 ∙ tf))) ∙ (append_assoc b ((c0 ∷ t0) ++ fs) y ∙ ap (λ z. b ++ (c0 ∷ z)) (append_assoc t0 fs y))) in
-        let line : b ++ (c0 ∷ ((t0 ++ (fs ++ y)) ++ r)) ≡ part w j m ++ (next w m ∷ t) = sym (append_assoc b (c0 ∷ (t0 ++ (fs ++ y))) r) ∙ (ap (λ z. z ++ r) (sym text) ∙ (e ∙ ap (λ z. part w j m ++ z) es)) in
-        let same : b ≡ part w j m = one_blanks b (part w j m) c0 (next w m) _ t hb skips.blanks (begin_no_blank c0 hc) skips.stops line in
-        let place : (base + j) + length b ≡ base + m = ap (λ z. (base + j) + length z) same ∙ offset base w j m skips.order skips.within in
-        let one : ((base + j) + length b) + length num ≡ (base + m) + length num = ap (λ z. z + length num) place in
-        let two : (base + j) + length p ≡ ((base + m) + length num) + length fs = omega (arith, place, ap length f, ap length g, length-append b z, length-append num fs) in
-        (x, num ++ (fs ++ y), ev ∙ (ap (λ u. u ++ y) (f ∙ ap (λ u. b ++ u) g) ∙ (append_assoc b (num ++ fs) y ∙ (ap (λ u. b ++ u) (append_assoc num fs y) ∙ ap (λ u. u ++ (num ++ (fs ++ y))) same))), refl,
-          (num, fs ++ y, refl, (n, hn.0, hn.1), (ns, omega (arith, en), (fs, y, refl, subst (λ o. SpellsFurther ns o fs) one more, subst (λ o. Delimiter d x o y) two q))), a)
+        some : part w j m ≢ []
+        some e = absurd (omega (arith, part-length w j m skips.order skips.within, ap length e))
+
+        begins : Begins begins_number (Skipped (FurtherNumbers (k + 1)))
+        begins d last at v (a, b, e, (n, hn, en), q) = let (x, t, f, h) = number_first n hn in (x, t ++ b, e ∙ ap (λ z. z ++ b) (en ∙ f), h)
+
+        comes : (d : ℕ) (x : Bool) (v r s : List ℕ) → Allows c d → FurtherNumbers k d x (base + j) v → Ahead w m s → v ++ r ≡ part w j m ++ s
+            → (y : Bool) × (u : List ℕ) × (v ≡ part w j m ++ u) × (x ≡ y) × Skipped (FurtherNumbers (k + 1)) d y (base + m) u × Allows c d
+        comes d x v r s a ([], en, q) t e = absurd (elim (further_agrees d x (base + j) v r s ([], en, q) t e) [
+          | inl (h, f) ↦ true≢false (sym h ∙ none)
+          | inr (h, less, f) ↦ omega (arith, en)
+        ])
+        comes d x v r s a (n ∷ ns, en, (p, y, ev, (b, z, f, (sb, hb), (num, fs, g, hn, more)), q)) (t, es) e =
+            let (c0, t0, tf, hc) = number_first n hn.0 in
+            let text : v ≡ b ++ (c0 ∷ (t0 ++ (fs ++ y))) = ev ∙ (ap (λ z. z ++ y) (f ∙ ap (λ z. b ++ z) (g ∙ ap (λ z. z ++ fs) (hn.1 ∙ tf))) ∙ (append_assoc b ((c0 ∷ t0) ++ fs) y ∙ ap (λ z. b ++ (c0 ∷ z)) (append_assoc t0 fs y))) in
+            let line : b ++ (c0 ∷ ((t0 ++ (fs ++ y)) ++ r)) ≡ part w j m ++ (next w m ∷ t) = sym (append_assoc b (c0 ∷ (t0 ++ (fs ++ y))) r) ∙ (ap (λ z. z ++ r) (sym text) ∙ (e ∙ ap (λ z. part w j m ++ z) es)) in
+            let same : b ≡ part w j m = one_blanks b (part w j m) c0 (next w m) _ t hb skips.blanks (begin_no_blank c0 hc) skips.stops line in
+            let place : (base + j) + length b ≡ base + m = ap (λ z. (base + j) + length z) same ∙ offset base w j m skips.order skips.within in
+            let one : ((base + j) + length b) + length num ≡ (base + m) + length num = ap (λ z. z + length num) place in
+            let two : (base + j) + length p ≡ ((base + m) + length num) + length fs = omega (arith, place, ap length f, ap length g, length-append b z, length-append num fs) in (
+              x,
+              num ++ (fs ++ y),
+              ev ∙ (ap (λ u. u ++ y) (f ∙ ap (λ u. b ++ u) g) ∙ (append_assoc b (num ++ fs) y ∙ (ap (λ u. b ++ u) (append_assoc num fs y) ∙ ap (λ u. u ++ (num ++ (fs ++ y))) same))),
+              refl,
+              (num, fs ++ y, refl, (n, hn.0, hn.1), (ns, omega (arith, en), (fs, y, refl, subst (λ o. SpellsFurther ns o fs) one more, subst (λ o. Delimiter d x o y) two q))),
+              a,
+            )
 
 -- where a number whose value isn't used stands, the text goes on behind it
 module _ {Y : Type 0} (Q : ℕ → Y → ℕ → List ℕ → Type 0) (begins : Begins stops_number Q) (base : ℕ) (w : List ℕ) (i : ℕ) (c : Dimension) (j : ℕ) where
@@ -238,10 +250,10 @@ module _ {Y : Type 0} (Q : ℕ → Y → ℕ → List ℕ → Type 0) (begins : 
   skip_leads h = leads_ahead (Skipped Q) Q base w i c j c (λ y. y) stops_number begins h.order h.within (λ d a. a)
       (λ d y r a q. (part w i j, r, refl, h.number, subst (λ o. Q d y o r) (sym (offset base w i j h.order h.within)) q))
       (λ d p v r s a (v1, v2, ev, word, q) t e.
-          let line : v1 ++ (v2 ++ r) ≡ part w i j ++ s = sym (append_assoc v1 v2 r) ∙ (ap (λ z. z ++ r) (sym ev) ∙ e) in
-          let same : v1 ≡ part w i j = ends_there Q begins base w i c j h.order h.within h.longest d p v1 v2 r s ((base + i) + length v1) word q t line in
-          let place : (base + i) + length v1 ≡ base + j = ap (λ z. (base + i) + length z) same ∙ offset base w i j h.order h.within in
-          (p, v2, ev ∙ ap (λ z. z ++ v2) same, refl, subst (λ o. Q d p o v2) place q, a))
+      let line : v1 ++ (v2 ++ r) ≡ part w i j ++ s = sym (append_assoc v1 v2 r) ∙ (ap (λ z. z ++ r) (sym ev) ∙ e) in
+      let same : v1 ≡ part w i j = ends_there Q begins base w i c j h.order h.within h.longest d p v1 v2 r s ((base + i) + length v1) word q t line in
+      let place : (base + i) + length v1 ≡ base + j = ap (λ z. (base + i) + length z) same ∙ offset base w i j h.order h.within in
+      (p, v2, ev ∙ ap (λ z. z ++ v2) same, refl, subst (λ o. Q d p o v2) place q, a))
 
   pub skip_stuck : (d : ℕ) → Allows c d → ((at : ℕ) → (y : Y) × (u : List ℕ) × Q d y at u) → NumberBreaks w i j → Stuck (Skipped Q) base w i c j
   skip_stuck d0 a0 lives h = record {

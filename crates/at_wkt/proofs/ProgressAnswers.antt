@@ -1,5 +1,5 @@
 -- How far reading has come, step by step, over collections of any depth.
-use Rattle.std.proofs.Common.{◌≡◌, ◌≢◌, ℕ, zero, suc, ◌+◌, ◌-◌, ◌<◌, ◌≤◌, ◌⊎◌, inl, inr, Bool, true, false, not, ◌==◌, List, [], ◌∷◌, ◌++◌, length, Option, Some, None, Result, Ok, Err, refl, sym, ◌∙◌, ap, subst, arith, true≢false, append-nil, append_assoc, add-one, lit≤}
+use Rattle.std.proofs.Common.{◌≡◌, ℕ, zero, suc, ◌+◌, ◌-◌, ◌<◌, ◌≤◌, inl, inr, Bool, true, false, ◌==◌, List, ◌++◌, length, Option, Some, None, Result, refl, sym, ◌∙◌, ap, subst, arith, true≢false, append-nil, append_assoc, add-one, lit≤}
 use Rattle.std.specs.Result.{MatchResult}
 use Rattle.at_text.specs.declared.faults.Fault.{Fault}
 use Rattle.at_text.specs.Faults.{first_fault, first_of}
@@ -14,16 +14,14 @@ use Rattle.at_wkt.specs.declared.positions.DelimiterRead.{DelimiterRead}
 use Rattle.at_wkt.specs.declared.parts.Read.{Read}
 use Rattle.at_wkt.specs.declared.geometries.Gathered.{Gathered}
 use Rattle.at_wkt.specs.declared.geometries.Progress.{Progress}
-use Rattle.at_wkt.specs.Meaning.{shape_of, faults_of}
-use Rattle.at_wkt.specs.Geometry.{Geometry}
-use Rattle.at_wkt.specs.Reading.{part, next, Spelt, Stuck, Leads, SkipsBlanks, Delimiter, delimiter, is_delimiter, HasCount, IfStopped, HeadStands, LetterStands, opens_at, KindBreaks, WordStands, word_of, DelimiterStands, DelimiterBreaks, Meaning, joined, no_meaning, Body, meaning_of, After, Expected, Onward, Advances, BodyStands, StepStands, WholeStands, Gathers}
+use Rattle.at_wkt.specs.Reading.{part, next, Spelt, Stuck, Leads, SkipsBlanks, Delimiter, delimiter, HasCount, IfStopped, HeadStands, LetterStands, opens_at, WordStands, word_of, DelimiterStands, DelimiterBreaks, Meaning, joined, no_meaning, Body, meaning_of, Expected, Onward, Advances, BodyStands, StepStands, WholeStands, Gathers}
 use Rattle.at_wkt.proofs.Leads.{part-length}
 use Rattle.at_wkt.proofs.Steps.{spelt_over, trans_leads}
 use Rattle.at_wkt.proofs.ItemSteps.{delimiter_spelt, delimiter_stuck}
 use Rattle.at_wkt.proofs.GeometrySteps.{joined-assoc, joined-none, Behind, Awaited, BodyAfter, open_count}
-use Rattle.at_wkt.proofs.CollectionSteps.{kind_first, after_stuck, after_closes, after_goes_on, kind_broken, head_spelt, head_stuck, body_stuck, body_spelt, body_behind, opened_spelt, opened_stuck}
+use Rattle.at_wkt.proofs.CollectionSteps.{kind_first, after_stuck, after_closes, after_goes_on, head_spelt, head_stuck, body_stuck, body_spelt, body_behind, opened_spelt, opened_stuck}
 use Rattle.at_wkt.proofs.PartAnswers.{open_byte}
-use Rattle.at_wkt.proofs.Exits.{answers_by, first_of-append, first_fault-assoc}
+use Rattle.at_wkt.proofs.Exits.{first_of-append, first_fault-assoc}
 
 -- ---- behind a geometry
 
@@ -85,7 +83,6 @@ word_long w i j kind h =
     let (b, t, e, n) = kind_first kind (part w i j) h.text in
     omega (arith, part-length w i j h.order h.within, ap length e)
 
-
 module _ (digits : ℕ) (how : Coords) (base : ℕ) (w : List ℕ) (i : ℕ) (k : ℕ) (head : Head) (h : HeadStands w i head) (old new after : Gathered) where
   pub simple_stuck : (n : ℕ) → Stuck (Body head.kind) base w head.end head.dimension n → Stuck (Awaited digits how k) base w i Open n
   simple_stuck n q = head_stuck digits how base w i k head h n (body_stuck digits how base w head.end head.dimension head.kind k n q)
@@ -114,6 +111,7 @@ module _ (digits : ℕ) (how : Coords) (base : ℕ) (w : List ℕ) (i : ℕ) (k 
   } where
     letters : h.letter_at ≤ h.letter_end
     letters = elim h.letter [ inl q ↦ omega (arith, q.0) | inr (inl q) ↦ omega (arith, q.0) | inr (inr (inl q)) ↦ omega (arith, q.0) | inr (inr (inr q)) ↦ omega (arith, q.0) ]
+
     some : i < h.word_end
     some = word_long w i h.word_end head.kind h.word
 
@@ -134,12 +132,15 @@ module _ (digits : ℕ) (how : Coords) (base : ℕ) (w : List ℕ) (i : ℕ) (k 
   } where
     letters : h.letter_at ≤ h.letter_end
     letters = elim h.letter [ inl q ↦ omega (arith, q.0) | inr (inl q) ↦ omega (arith, q.0) | inr (inr (inl q)) ↦ omega (arith, q.0) | inr (inr (inr q)) ↦ omega (arith, q.0) ]
+
     no_fault : (f : Option Fault) → f ≡ first_fault f None
     no_fault None = refl
     no_fault (Some f) = refl
+
     opens_to : (j : ℕ) (n : Meaning) → Spelt (λ d. Expected digits how (k + 1)) base w a Open j Open n → Spelt (BodyAfter digits how head.kind k) base w head.end head.dimension j head.dimension n
     opens_to j n q = subst (λ z. Spelt (BodyAfter digits how z k) base w head.end head.dimension j head.dimension n) (sym ek)
         (opened_spelt digits how base w head.end a head.dimension k inside here skips some j n (subst (λ z. Spelt (Awaited digits how z) base w a Open j Open n) (add-one k) q))
+
     stuck_to : (n : ℕ) → Stuck (λ d. Expected digits how (k + 1)) base w a Open n → Stuck (BodyAfter digits how head.kind k) base w head.end head.dimension n
     stuck_to n q = subst (λ z. Stuck (BodyAfter digits how z k) base w head.end head.dimension n) (sym ek)
         (opened_stuck digits how base w head.end a head.dimension k inside here skips some n (subst (λ z. Stuck (Awaited digits how z) base w a Open n) (add-one k) q))

@@ -1,11 +1,11 @@
 -- What leads on to what: blanks, words, numbers, parts behind one another, and parts told in another way.
-use Rattle.std.proofs.Common.{◌≡◌, ◌≢◌, ℕ, zero, suc, ◌+◌, ◌-◌, ◌<◌, ◌≤◌, ◌⊎◌, inl, inr, Bool, true, false, not, IsTrue, List, [], ◌∷◌, ◌++◌, length, take, drop, get_or, refl, sym, ◌∙◌, ap, subst, arith, append-nil, append_assoc, length-append, true≢false}
+use Rattle.std.proofs.Common.{◌≡◌, ℕ, ◌+◌, ◌<◌, ◌≤◌, ◌⊎◌, inl, inr, Bool, true, false, not, IsTrue, List, [], ◌∷◌, ◌++◌, length, refl, sym, ◌∙◌, ap, subst, arith, append_assoc, true≢false}
 use Rattle.std.specs.List.{AllByRecursion}
 use Rattle.at_text.specs.Parts.{Many, OneOrMore, ◌▸◌}
 use Rattle.at_wkt.specs.declared.dimension.Dimension.{Dimension}
 use Rattle.at_wkt.specs.Geometry.{is_blank}
 use Rattle.at_wkt.specs.Reading.{part, next, Allows, Spelt, Stuck, Leads}
-use Rattle.at_wkt.proofs.Leads.{part-none, part-one, offset, Ahead, Always, Begins, Inhabited, append_cases, same_length, leads_plain, leads_ahead, counts}
+use Rattle.at_wkt.proofs.Leads.{part-none, offset, Ahead, Begins, Inhabited, append_cases, same_length, leads_plain, leads_ahead, counts}
 
 pub trans_leads : {X Y Z : Type 0} {P : ℕ → X → ℕ → List ℕ → Type 0} {Q : ℕ → Y → ℕ → List ℕ → Type 0} {R : ℕ → Z → ℕ → List ℕ → Type 0} {base : ℕ} {w : List ℕ}
     {i j k : ℕ} {c c' c'' : Dimension} {f : Y → X} {g : Z → Y} → Leads P Q base w i c j c' f → Leads Q R base w j c' k c'' g → Leads P R base w i c k c'' (λ z. f (g z))
@@ -22,9 +22,9 @@ module _ {Y : Type 0} (E : ℕ → List ℕ → Type 0) (Q : ℕ → Y → ℕ �
   fixed_leads order within here long = leads_plain (λ d y. E ▸ Q d y) Q base w i c j c (λ y. y) order within (λ d a. a)
       (λ d y r a q. (part w i j, r, refl, here, subst (λ o. Q d y o r) (sym (offset base w i j order within)) q))
       (λ d y v r s a (v1, v2, ev, p, q) t e.
-          let same : v1 ≡ part w i j = same_length v1 (v2 ++ r) (part w i j) s (long v1 p) (sym (append_assoc v1 v2 r) ∙ (ap (λ z. z ++ r) (sym ev) ∙ e)) in
-          let place : (base + i) + length v1 ≡ base + j = ap (λ z. (base + i) + length z) same ∙ offset base w i j order within in
-          (y, v2, ev ∙ ap (λ z. z ++ v2) same, refl, subst (λ o. Q d y o v2) place q, a))
+      let same : v1 ≡ part w i j = same_length v1 (v2 ++ r) (part w i j) s (long v1 p) (sym (append_assoc v1 v2 r) ∙ (ap (λ z. z ++ r) (sym ev) ∙ e)) in
+      let place : (base + i) + length v1 ≡ base + j = ap (λ z. (base + i) + length z) same ∙ offset base w i j order within in
+      (y, v2, ev ∙ ap (λ z. z ++ v2) same, refl, subst (λ o. Q d y o v2) place q, a))
 
 -- ---- blanks
 
@@ -63,9 +63,9 @@ module _ {Y : Type 0} (Q : ℕ → Y → ℕ → List ℕ → Type 0) (base : �
   pad_leads order within blanks stops begins = leads_ahead (λ d y. Many is_blank ▸ Q d y) Q base w i c j c (λ y. y) no_blank begins order within (λ d a. a)
       (λ d y r a q. (part w i j, r, refl, blanks, subst (λ o. Q d y o r) (sym (offset base w i j order within)) q))
       (λ d y v r s a (v1, v2, ev, p, q) t e.
-          let same : v1 ≡ part w i j = same_blanks blanks begins stops d y v1 v2 r s ((base + i) + length v1) p q t (sym (append_assoc v1 v2 r) ∙ (ap (λ z. z ++ r) (sym ev) ∙ e)) in
-          let place : (base + i) + length v1 ≡ base + j = ap (λ z. (base + i) + length z) same ∙ offset base w i j order within in
-          (y, v2, ev ∙ ap (λ z. z ++ v2) same, refl, subst (λ o. Q d y o v2) place q, a))
+      let same : v1 ≡ part w i j = same_blanks blanks begins stops d y v1 v2 r s ((base + i) + length v1) p q t (sym (append_assoc v1 v2 r) ∙ (ap (λ z. z ++ r) (sym ev) ∙ e)) in
+      let place : (base + i) + length v1 ≡ base + j = ap (λ z. (base + i) + length z) same ∙ offset base w i j order within in
+      (y, v2, ev ∙ ap (λ z. z ++ v2) same, refl, subst (λ o. Q d y o v2) place q, a))
 
   pub gap_leads : i < j → j ≤ length w → AreBlanks (part w i j) → no_blank (next w j) ≡ true → Begins no_blank Q
       → Leads (λ d y. OneOrMore is_blank ▸ Q d y) Q base w i c j c (λ y. y)
@@ -74,9 +74,9 @@ module _ {Y : Type 0} (Q : ℕ → Y → ℕ → List ℕ → Type 0) (base : �
       leads_ahead (λ d y. OneOrMore is_blank ▸ Q d y) Q base w i c j c (λ y. y) no_blank begins low within (λ d a. a)
       (λ d y r a q. (part w i j, r, refl, ((λ none. absurd (omega (arith, offset base w i j low within, ap length none))), blanks), subst (λ o. Q d y o r) (sym (offset base w i j low within)) q))
       (λ d y v r s a (v1, v2, ev, p, q) t e.
-          let same : v1 ≡ part w i j = same_blanks blanks begins stops d y v1 v2 r s ((base + i) + length v1) p.1 q t (sym (append_assoc v1 v2 r) ∙ (ap (λ z. z ++ r) (sym ev) ∙ e)) in
-          let place : (base + i) + length v1 ≡ base + j = ap (λ z. (base + i) + length z) same ∙ offset base w i j low within in
-          (y, v2, ev ∙ ap (λ z. z ++ v2) same, refl, subst (λ o. Q d y o v2) place q, a))
+      let same : v1 ≡ part w i j = same_blanks blanks begins stops d y v1 v2 r s ((base + i) + length v1) p.1 q t (sym (append_assoc v1 v2 r) ∙ (ap (λ z. z ++ r) (sym ev) ∙ e)) in
+      let place : (base + i) + length v1 ≡ base + j = ap (λ z. (base + i) + length z) same ∙ offset base w i j low within in
+      (y, v2, ev ∙ ap (λ z. z ++ v2) same, refl, subst (λ o. Q d y o v2) place q, a))
 
 -- ---- a part, and behind it another that may depend on its value
 
@@ -88,9 +88,9 @@ module _ {X Y : Type 0} (P : ℕ → X → ℕ → List ℕ → Type 0) (Q : X �
   then_leads h = leads_plain (Then P Q) (Q x) base w i c j c' (λ y. (x, y)) h.order h.within h.narrows
       (λ d y r a q. (part w i j, r, refl, h.sound d a, subst (λ o. Q x d y o r) (sym (offset base w i j h.order h.within)) q))
       (λ d p v r s a (v1, v2, ev, p1, q) t e.
-          let (ex, same, a') = h.only d p.0 v1 (v2 ++ r) s a p1 (sym (append_assoc v1 v2 r) ∙ (ap (λ z. z ++ r) (sym ev) ∙ e)) in
-          let place : (base + i) + length v1 ≡ base + j = ap (λ z. (base + i) + length z) same ∙ offset base w i j h.order h.within in
-          (p.1, v2, ev ∙ ap (λ z. z ++ v2) same, ap (λ z. (z, p.1)) ex, subst (λ o. Q x d p.1 o v2) place (subst (λ z. Q z d p.1 ((base + i) + length v1) v2) ex q), a'))
+      let (ex, same, a') = h.only d p.0 v1 (v2 ++ r) s a p1 (sym (append_assoc v1 v2 r) ∙ (ap (λ z. z ++ r) (sym ev) ∙ e)) in
+      let place : (base + i) + length v1 ≡ base + j = ap (λ z. (base + i) + length z) same ∙ offset base w i j h.order h.within in
+      (p.1, v2, ev ∙ ap (λ z. z ++ v2) same, ap (λ z. (z, p.1)) ex, subst (λ o. Q x d p.1 o v2) place (subst (λ z. Q z d p.1 ((base + i) + length v1) v2) ex q), a'))
 
 pub then_stuck : {X Y : Type 0} (P : ℕ → X → ℕ → List ℕ → Type 0) (Q : X → ℕ → Y → ℕ → List ℕ → Type 0) (base : ℕ) (w : List ℕ) (i : ℕ) (c : Dimension) (n : ℕ)
     → ((x : X) → Inhabited (Q x)) → Stuck P base w i c n → Stuck (Then P Q) base w i c n
@@ -117,13 +117,13 @@ when_leads {X} {Y} P Q f test some base w i c h begins within here =
     leads_ahead P Q base w i c i c (f (base + i)) some begins (omega arith) within (λ d a. a)
     (λ d y r a q. subst (P d (f (base + i) y) (base + i)) (ap (λ z. z ++ r) (sym none)) (h.to d y (base + i) r q))
     (λ d x v r s a p (t, es) e.
-        elim (h.from d x (base + i) v p) [
-          | inl (y, ex, q) ↦ (y, v, ap (λ z. z ++ v) (sym none), ex, q, a)
-          | inr (b, u, ev, fails) ↦ absurd (
-                let line : (b ∷ u) ++ r ≡ next w i ∷ t = ap (λ z. z ++ r) (sym ev) ∙ (e ∙ (ap (λ z. z ++ s) none ∙ es)) in
-                let first : b ≡ next w i = cc in
-                true≢false (sym here ∙ (ap test (sym first) ∙ fails)))
-        ])
+    elim (h.from d x (base + i) v p) [
+      | inl (y, ex, q) ↦ (y, v, ap (λ z. z ++ v) (sym none), ex, q, a)
+      | inr (b, u, ev, fails) ↦ absurd (
+          let line : (b ∷ u) ++ r ≡ next w i ∷ t = ap (λ z. z ++ r) (sym ev) ∙ (e ∙ (ap (λ z. z ++ s) none ∙ es)) in
+          let first : b ≡ next w i = cc in
+          true≢false (sym here ∙ (ap test (sym first) ∙ fails)))
+    ])
 
 -- the words of P are those of Q, with other values
 pub record Same {X Y : Type 0} (P : ℕ → X → ℕ → List ℕ → Type 0) (Q : ℕ → Y → ℕ → List ℕ → Type 0) (f : ℕ → Y → X) : Type 0 where

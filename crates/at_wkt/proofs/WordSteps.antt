@@ -1,19 +1,17 @@
 -- The word EMPTY, the words of the kinds with their letters, and parts that are EMPTY or in brackets.
-use Rattle.std.proofs.Common.{◌≡◌, ◌≢◌, ℕ, zero, suc, ◌+◌, ◌-◌, ◌<◌, ◌≤◌, ◌⊎◌, inl, inr, Bool, true, false, not, ◌&&◌, ◌||◌, ◌==◌, IsTrue, List, [], ◌∷◌, ◌++◌, length, map, take, drop, slice_index, get_or, codes, Option, Some, None, refl, sym, ◌∙◌, ap, subst, arith, append-nil, append_assoc, length-append, length-take, true≢false, lit≤, lit<, take-append-drop}
+use Rattle.std.proofs.Common.{◌≡◌, ℕ, ◌+◌, ◌-◌, ◌<◌, ◌≤◌, ◌⊎◌, inl, inr, Bool, true, false, ◌&&◌, ◌==◌, List, [], ◌∷◌, ◌++◌, length, take, drop, slice_index, refl, sym, ◌∙◌, ap, arith, append-nil, append_assoc, length-append, true≢false, take-append-drop}
 use Rattle.std.specs.Str.{str_to_ascii_uppercase}
 use Rattle.std.specs.Char.{to_ascii_uppercase}
-use Rattle.std.proofs.lemmas.List.{append_cancel_left, length-map, map-append, drop-map}
+use Rattle.std.proofs.lemmas.List.{length-map, map-append, drop-map}
 use Rattle.std.proofs.Math.Seq.{get_or-append_seam}
-use Rattle.at_text.specs.Parts.{Many, OneOrMore, Exactly, AnyCase, At, ◌▸◌}
+use Rattle.at_text.specs.Parts.{AnyCase}
 use Rattle.at_wkt.specs.declared.dimension.Dimension.{Dimension}
-use Rattle.at_wkt.specs.declared.dimension.Dimension.TheVariants.{Open, Fixed}
 use Rattle.at_wkt.specs.declared.kinds.Kind.{Kind}
 use Rattle.at_wkt.specs.declared.kinds.Kind.TheVariants.{Point, LineString, Polygon, MultiPoint, MultiLineString, MultiPolygon, GeometryCollection}
-use Rattle.at_wkt.specs.declared.kinds.Head.{Head}
-use Rattle.at_wkt.specs.Geometry.{is_blank, Letter, EmptyWord}
-use Rattle.at_wkt.specs.Reading.{part, next, Allows, Spelt, Stuck, Leads, SkipsBlanks, WordStands, WordBreaks, word_of, KindBreaks, LetterAt, LetterStands, HeadStands, opens}
-use Rattle.at_wkt.proofs.Leads.{part-none, part-one, part-more, part-place, part-length, part-part, part-cons, offset, Ahead, ahead_stuck, Begins, Inhabited, append_cases, same_length, leads_plain, leads_ahead, counts, same_or_less}
-use Rattle.at_wkt.proofs.Steps.{Then, then_leads, then_stuck, trans_leads, no_blank, AreBlanks, one_blanks, not_blank, blank_at}
+use Rattle.at_wkt.specs.Geometry.{is_blank}
+use Rattle.at_wkt.specs.Reading.{part, next, Allows, Spelt, Stuck, WordStands, WordBreaks, word_of, KindBreaks, opens}
+use Rattle.at_wkt.proofs.Leads.{part-none, part-length, part-part, part-cons, Ahead, ahead_stuck, append_cases, same_length, same_or_less}
+use Rattle.at_wkt.proofs.Steps.{no_blank}
 
 abbrev capitals : List ℕ → List ℕ
 capitals w = str_to_ascii_uppercase w
@@ -52,12 +50,12 @@ word_dead word w i n m v r s h low high ev e =
       | inl (same, rest) ↦ omega (arith, h.short, ap length same, capitals-length v, ap length ev)
       | inr (inl (x, xs, f, g)) ↦ omega (arith, h.short, ap length f, length-append v (x ∷ xs), capitals-length v, ap length ev)
       | inr (inr (x, xs, f, g)) ↦ (
-            let first : next w n ≡ x = cc in
-            let letters : word ≡ capitals (part w i n) ++ (to_ascii_uppercase x ∷ capitals xs) = sym ev ∙ (ap capitals f ∙ capitals-append (part w i n) (x ∷ xs)) in
-            let place : n - i ≡ length (capitals (part w i n)) = sym (capitals-length (part w i n) ∙ count) in
-            let here : slice_index word (n - i) ≡ to_ascii_uppercase x = ap (λ z. slice_index z (n - i)) letters ∙ (ap (slice_index (capitals (part w i n) ++ (to_ascii_uppercase x ∷ capitals xs))) place
-                ∙ get_or-append_seam (capitals (part w i n)) (to_ascii_uppercase x) (capitals xs) 0) in
-            h.differs (ap to_ascii_uppercase first ∙ sym here))
+          let first : next w n ≡ x = cc in
+          let letters : word ≡ capitals (part w i n) ++ (to_ascii_uppercase x ∷ capitals xs) = sym ev ∙ (ap capitals f ∙ capitals-append (part w i n) (x ∷ xs)) in
+          let place : n - i ≡ length (capitals (part w i n)) = sym (capitals-length (part w i n) ∙ count) in
+          let here : slice_index word (n - i) ≡ to_ascii_uppercase x = ap (λ z. slice_index z (n - i)) letters ∙ (ap (slice_index (capitals (part w i n) ++ (to_ascii_uppercase x ∷ capitals xs))) place
+          ∙ get_or-append_seam (capitals (part w i n)) (to_ascii_uppercase x) (capitals xs) 0) in
+          h.differs (ap to_ascii_uppercase first ∙ sym here))
     ]
 
 -- letters of a word that stand go on to the word
@@ -161,13 +159,13 @@ kind_only : (k m : Kind) (v u r s : List ℕ) → capitals u ≡ word_of k → c
 kind_only k m v u r s eu ev e = elim (append_cases v r u s e) [
   | inl (same, rest) ↦ (sym (kind_from k m [] (sym ev ∙ (ap capitals same ∙ (eu ∙ sym (append-nil (word_of k)))))), same)
   | inr (inl (x, xs, f, g)) ↦ absurd (
-        let line : word_of k ≡ word_of m ++ capitals (x ∷ xs) = sym eu ∙ (ap capitals f ∙ (capitals-append v (x ∷ xs) ∙ ap (λ z. z ++ capitals (x ∷ xs)) ev)) in
-        let same : m ≡ k = kind_from m k (capitals (x ∷ xs)) line in
-        no_more (word_of m) (to_ascii_uppercase x) (capitals xs) (ap word_of same ∙ line))
+      let line : word_of k ≡ word_of m ++ capitals (x ∷ xs) = sym eu ∙ (ap capitals f ∙ (capitals-append v (x ∷ xs) ∙ ap (λ z. z ++ capitals (x ∷ xs)) ev)) in
+      let same : m ≡ k = kind_from m k (capitals (x ∷ xs)) line in
+      no_more (word_of m) (to_ascii_uppercase x) (capitals xs) (ap word_of same ∙ line))
   | inr (inr (x, xs, f, g)) ↦ absurd (
-        let line : word_of m ≡ word_of k ++ capitals (x ∷ xs) = sym ev ∙ (ap capitals f ∙ (capitals-append u (x ∷ xs) ∙ ap (λ z. z ++ capitals (x ∷ xs)) eu)) in
-        let same : k ≡ m = kind_from k m (capitals (x ∷ xs)) line in
-        no_more (word_of k) (to_ascii_uppercase x) (capitals xs) (ap word_of same ∙ line))
+      let line : word_of m ≡ word_of k ++ capitals (x ∷ xs) = sym ev ∙ (ap capitals f ∙ (capitals-append u (x ∷ xs) ∙ ap (λ z. z ++ capitals (x ∷ xs)) eu)) in
+      let same : k ≡ m = kind_from k m (capitals (x ∷ xs)) line in
+      no_more (word_of k) (to_ascii_uppercase x) (capitals xs) (ap word_of same ∙ line))
 ]
 
 pub kind_spelt : (k : Kind) (base : ℕ) (w : List ℕ) (i j : ℕ) (c : Dimension) → WordStands w i j (word_of k) → (d : ℕ) × Allows c d → Spelt KindWord base w i c j c k

@@ -54,11 +54,14 @@ fn is_blank_line(line: &[u8]) -> bool
 }
 
 /// The first fault of a line, where it has one.
-fn fault_of_line(alloc: Global, line: &[u8], at: u32, reading: Reading) -> Result<Option<Fault>, LineFault>
+fn fault_of_line(
+    alloc: Global,
+    line: &[u8],
+    at: u32,
+    reading: Reading,
+) -> Result<Option<Fault>, LineFault>
     requires { at + length line.now ≤ 2 ^ 28 }
-    ensures {
-        MatchResult result (HasLineFault reading.digits reading.how at line.now) (λ refusal. refusal ≡ NoMemory)
-    }
+    ensures { MatchResult result (HasLineFault reading.digits reading.how at line.now) (λ refusal. refusal ≡ NoMemory) }
 {
     match read_line(alloc, line, at, reading.digits, reading.how) {
         Ok(_) => Ok(None),
@@ -68,15 +71,19 @@ fn fault_of_line(alloc: Global, line: &[u8], at: u32, reading: Reading) -> Resul
 }
 
 /// The lines so far and one more piece, which begins at the offset.
-fn count_piece(alloc: Global, counted: Counted, piece: &[u8], at: u32, reading: Reading) -> Result<Counted, LineFault>
+fn count_piece(
+    alloc: Global,
+    counted: Counted,
+    piece: &[u8],
+    at: u32,
+    reading: Reading,
+) -> Result<Counted, LineFault>
     requires short { at + length piece.now ≤ 2 ^ 28 }
     requires few { counted.count ≤ 2 ^ 28 }
-    ensures {
-        MatchResult result (λ next. (next.count ≤ counted.count + 1) × ((pieces : List FileLine)
-                → Counts reading.digits reading.how pieces counted
-                → Counts reading.digits reading.how (pieces ++ record { at = at; text = piece.now } ∷ []) next))
-            (λ refusal. refusal ≡ NoMemory)
-    }
+    ensures { MatchResult result (λ next. (next.count ≤ counted.count + 1) × ((pieces : List FileLine)
+        → Counts reading.digits reading.how pieces counted
+        → Counts reading.digits reading.how (pieces ++ record { at = at; text = piece.now } ∷ []) next))
+        (λ refusal. refusal ≡ NoMemory) }
 {
     let line = without_return(piece);
     if is_blank_line(line) {
@@ -90,13 +97,16 @@ fn count_piece(alloc: Global, counted: Counted, piece: &[u8], at: u32, reading: 
 }
 
 /// Counts the lines from a place of a file on.
-fn count_from(alloc: Global, bytes: &[u8], from: usize, reading: Reading) -> Result<Counted, LineFault>
+fn count_from(
+    alloc: Global,
+    bytes: &[u8],
+    from: usize,
+    reading: Reading,
+) -> Result<Counted, LineFault>
     requires inside { from ≤ length bytes.now }
     requires short { length bytes.now ≤ 2 ^ 28 }
-    ensures {
-        MatchResult result (Counts reading.digits reading.how (pieces_from from (drop from bytes.now)))
-            (λ refusal. refusal ≡ NoMemory)
-    }
+    ensures { MatchResult result (Counts reading.digits reading.how (pieces_from from (drop from bytes.now)))
+        (λ refusal. refusal ≡ NoMemory) }
 {
     let mut counted = Counted {
         count: 0,
@@ -131,14 +141,17 @@ fn answer_of(counted: Counted) -> Result<u64, LineFault>
 /// the line's end.
 pub fn count_lines(alloc: Global, bytes: &[u8], digits: u8, how: Coords) -> Result<u64, LineFault>
     requires { length bytes.now ≤ 2 ^ 28 }
-    ensures {
-        MatchResult result (λ count. HasFileFault digits how bytes.now None × (count ≡ length (lines_of bytes.now)))
-            (λ refusal. IfFound refusal (λ fault. HasFileFault digits how bytes.now (Some fault)))
-    }
+    ensures { MatchResult result (λ count. HasFileFault digits how bytes.now None × (count ≡ length (lines_of bytes.now)))
+        (λ refusal. IfFound refusal (λ fault. HasFileFault digits how bytes.now (Some fault))) }
 {
     if let Some(fault) = utf8_fault(bytes) {
         return Err(LineFault::Found(fault));
     }
-    let counted = count_from(alloc, bytes, base_of(bytes) as usize, Reading { digits, how })?;
+    let counted = count_from(
+        alloc,
+        bytes,
+        base_of(bytes) as usize,
+        Reading { digits, how },
+    )?;
     answer_of(counted)
 }

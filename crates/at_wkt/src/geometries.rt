@@ -6,7 +6,10 @@ ghost use Rattle.at_wkt.specs.Reading.{Stuck, HasCount, Body, After, Expected, A
 use crate::bytes::{skip_blanks, stands};
 use crate::halts::Halt;
 use crate::kinds::{Head, Kind, read_head};
-use crate::parts::{Read, read_line_string, read_line_strings, read_nothing, read_point, read_points, read_polygon, read_polygons};
+use crate::parts::{
+    Read, read_line_string, read_line_strings, read_nothing, read_point, read_points, read_polygon,
+    read_polygons,
+};
 use crate::positions::read_delimiter;
 use crate::rules::Rules;
 use at_geom::{Path, Polygon, Pos};
@@ -32,23 +35,61 @@ pub struct Progress {
 }
 
 /// Reads what stands behind the head of a geometry that is no collection with members.
-fn read_body(gathered: &mut Gathered, alloc: Global, text: &[u8], head: Head, rules: Rules) -> Result<Read, Halt>
+fn read_body(
+    gathered: &mut Gathered,
+    alloc: Global,
+    text: &[u8],
+    head: Head,
+    rules: Rules,
+) -> Result<Read, Halt>
     requires inside { head.end ≤ length text.now }
     requires short { rules.base + length text.now ≤ 2 ^ 28 }
     requires count { HasCount head.dimension }
     requires simple { opens_at text.now head ≡ false }
-    ensures {
-        MatchResult result (BodyStands rules.digits rules.how rules.base text.now head gathered.old gathered.new)
-            (λ halt. IfStopped halt (Stuck (Body head.kind) rules.base text.now head.end head.dimension))
-    }
+    ensures { MatchResult result (BodyStands rules.digits rules.how rules.base text.now head gathered.old gathered.new)
+        (λ halt. IfStopped halt (Stuck (Body head.kind) rules.base text.now head.end head.dimension)) }
 {
     match head.kind {
         Kind::Point => read_point(&mut gathered.points, text, head.end, head.dimension, rules),
-        Kind::LineString => read_line_string(&mut gathered.lines, alloc, text, head.end, head.dimension, rules),
-        Kind::Polygon => read_polygon(&mut gathered.polygons, alloc, text, head.end, head.dimension, rules),
-        Kind::MultiPoint => read_points(&mut gathered.points, text, head.end, head.dimension, rules),
-        Kind::MultiLineString => read_line_strings(&mut gathered.lines, alloc, text, head.end, head.dimension, rules),
-        Kind::MultiPolygon => read_polygons(&mut gathered.polygons, alloc, text, head.end, head.dimension, rules),
+        Kind::LineString => read_line_string(
+            &mut gathered.lines,
+            alloc,
+            text,
+            head.end,
+            head.dimension,
+            rules,
+        ),
+        Kind::Polygon => read_polygon(
+            &mut gathered.polygons,
+            alloc,
+            text,
+            head.end,
+            head.dimension,
+            rules,
+        ),
+        Kind::MultiPoint => read_points(
+            &mut gathered.points,
+            text,
+            head.end,
+            head.dimension,
+            rules,
+        ),
+        Kind::MultiLineString => read_line_strings(
+            &mut gathered.lines,
+            alloc,
+            text,
+            head.end,
+            head.dimension,
+            rules,
+        ),
+        Kind::MultiPolygon => read_polygons(
+            &mut gathered.polygons,
+            alloc,
+            text,
+            head.end,
+            head.dimension,
+            rules,
+        ),
         Kind::GeometryCollection => read_nothing(text, head.end, head.dimension),
     }
 }
@@ -57,12 +98,10 @@ fn read_body(gathered: &mut Gathered, alloc: Global, text: &[u8], head: Head, ru
 fn read_closings(text: &[u8], from: usize, opened: usize) -> Result<Progress, Halt>
     requires inside { from ≤ length text.now }
     requires deep { opened ≤ from }
-    ensures {
-        MatchResult result (λ progress. (progress.depth ≤ progress.at) × ((base digits : ℕ) (how : Coords)
-                → Advances digits how (λ d. After digits how opened) base text.now from progress no_meaning))
-            (λ halt. IfStopped halt (λ n. (base digits : ℕ) (how : Coords)
-                → Stuck (λ d. After digits how opened) base text.now from Open n))
-    }
+    ensures { MatchResult result (λ progress. (progress.depth ≤ progress.at) × ((base digits : ℕ) (how : Coords)
+        → Advances digits how (λ d. After digits how opened) base text.now from progress no_meaning))
+        (λ halt. IfStopped halt (λ n. (base digits : ℕ) (how : Coords)
+        → Stuck (λ d. After digits how opened) base text.now from Open n)) }
 {
     let mut at = from;
     let mut depth = opened;
@@ -87,17 +126,22 @@ fn read_closings(text: &[u8], from: usize, opened: usize) -> Result<Progress, Ha
 }
 
 /// Reads a geometry without members behind its head, and what stands behind it.
-fn read_simple(gathered: &mut Gathered, alloc: Global, text: &[u8], from: Progress, head: Head, rules: Rules) -> Result<Progress, Halt>
+fn read_simple(
+    gathered: &mut Gathered,
+    alloc: Global,
+    text: &[u8],
+    from: Progress,
+    head: Head,
+    rules: Rules,
+) -> Result<Progress, Halt>
     requires stands { HeadStands text.now from.at head }
     requires short { rules.base + length text.now ≤ 2 ^ 28 }
     requires count { HasCount head.dimension }
     requires simple { opens_at text.now head ≡ false }
     requires deep { from.depth ≤ from.at }
-    ensures {
-        MatchResult result (StepStands rules.digits rules.how (λ d. Expected rules.digits rules.how from.depth)
-                rules.base text.now from.at gathered.old gathered.new)
-            (λ halt. IfStopped halt (Stuck (λ d. Expected rules.digits rules.how from.depth) rules.base text.now from.at Open))
-    }
+    ensures { MatchResult result (StepStands rules.digits rules.how (λ d. Expected rules.digits rules.how from.depth)
+        rules.base text.now from.at gathered.old gathered.new)
+        (λ halt. IfStopped halt (Stuck (λ d. Expected rules.digits rules.how from.depth) rules.base text.now from.at Open)) }
 {
     let read = read_body(gathered, alloc, text, head, rules)?;
     gathered.fault = first_fault(gathered.fault, read.fault);
@@ -115,15 +159,19 @@ fn opens_collection(text: &[u8], head: Head) -> bool
 }
 
 /// Reads the head of a geometry, and with it either the bracket that opens a collection or the whole geometry.
-fn read_next(gathered: &mut Gathered, alloc: Global, text: &[u8], from: Progress, rules: Rules) -> Result<Progress, Halt>
+fn read_next(
+    gathered: &mut Gathered,
+    alloc: Global,
+    text: &[u8],
+    from: Progress,
+    rules: Rules,
+) -> Result<Progress, Halt>
     requires inside { from.at ≤ length text.now }
     requires short { rules.base + length text.now ≤ 2 ^ 28 }
     requires deep { from.depth ≤ from.at }
-    ensures {
-        MatchResult result (StepStands rules.digits rules.how (λ d. Expected rules.digits rules.how from.depth)
-                rules.base text.now from.at gathered.old gathered.new)
-            (λ halt. IfStopped halt (Stuck (λ d. Expected rules.digits rules.how from.depth) rules.base text.now from.at Open))
-    }
+    ensures { MatchResult result (StepStands rules.digits rules.how (λ d. Expected rules.digits rules.how from.depth)
+        rules.base text.now from.at gathered.old gathered.new)
+        (λ halt. IfStopped halt (Stuck (λ d. Expected rules.digits rules.how from.depth) rules.base text.now from.at Open)) }
 {
     let head = read_head(text, from.at)?;
     if opens_collection(text, head) {
@@ -139,13 +187,17 @@ fn read_next(gathered: &mut Gathered, alloc: Global, text: &[u8], from: Progress
 }
 
 /// Reads the geometry that begins at a place of the text, and tells the place behind it.
-pub fn read_whole(gathered: &mut Gathered, alloc: Global, text: &[u8], at: usize, rules: Rules) -> Result<usize, Halt>
+pub fn read_whole(
+    gathered: &mut Gathered,
+    alloc: Global,
+    text: &[u8],
+    at: usize,
+    rules: Rules,
+) -> Result<usize, Halt>
     requires inside { at ≤ length text.now }
     requires short { rules.base + length text.now ≤ 2 ^ 28 }
-    ensures {
-        MatchResult result (WholeStands rules.digits rules.how rules.base text.now at gathered.old gathered.new)
-            (λ halt. IfStopped halt (Stuck (λ d. Expected rules.digits rules.how zero) rules.base text.now at Open))
-    }
+    ensures { MatchResult result (WholeStands rules.digits rules.how rules.base text.now at gathered.old gathered.new)
+        (λ halt. IfStopped halt (Stuck (λ d. Expected rules.digits rules.how zero) rules.base text.now at Open)) }
 {
     let mut progress = Progress {
         at,

@@ -65,10 +65,8 @@ fn larger(a: usize, b: usize) -> usize
 /// Reads the word of a kind.
 fn read_kind(text: &[u8], at: usize) -> Result<KindRead, Halt>
     requires { at ≤ length text.now }
-    ensures {
-        MatchResult result (λ read. WordStands text.now at read.end (word_of read.kind))
-            (λ halt. IfStopped halt (KindBreaks text.now at))
-    }
+    ensures { MatchResult result (λ read. WordStands text.now at read.end (word_of read.kind))
+        (λ halt. IfStopped halt (KindBreaks text.now at)) }
 {
     let mut longest = 0;
     for kind in KINDS {
@@ -132,9 +130,7 @@ pub struct Head {
 /// Reads the word of a kind, its letter, and the blanks behind them.
 pub fn read_head(text: &[u8], at: usize) -> Result<Head, Halt>
     requires { at ≤ length text.now }
-    ensures {
-        MatchResult result (HeadStands text.now at) (λ halt. IfStopped halt (KindBreaks text.now at))
-    }
+    ensures { MatchResult result (HeadStands text.now at) (λ halt. IfStopped halt (KindBreaks text.now at)) }
 {
     let word = read_kind(text, at)?;
     let letter = read_letter(text, skip_blanks(text, word.end));

@@ -57,11 +57,9 @@ fn coordinate_of(number: Result<i64, FixedFault>, at: u32, end: usize) -> Coordi
 pub fn read_number(text: &[u8], at: usize, rules: Rules) -> Result<Coordinate, Halt>
     requires inside { at ≤ length text.now }
     requires short { rules.base + length text.now ≤ 2 ^ 28 }
-    ensures {
-        MatchResult result (λ read. (n : Numeral) × NumberStands text.now at read.end n
-                × IsCoordinate rules.digits rules.how n (rules.base + at) read)
-            (λ halt. IfStopped halt (NumberBreaks text.now at))
-    }
+    ensures { MatchResult result (λ read. (n : Numeral) × NumberStands text.now at read.end n
+        × IsCoordinate rules.digits rules.how n (rules.base + at) read)
+        (λ halt. IfStopped halt (NumberBreaks text.now at)) }
 {
     let number = leading_number(&text[at..], Notation::Wkt, rules.digits, rules.how);
     let end = at + number.len as usize;
@@ -79,5 +77,9 @@ pub fn skip_number(text: &[u8], at: usize) -> Result<usize, Halt>
 {
     let taken = wkt_number(&text[at..]);
     let end = at + taken.len as usize;
-    if taken.whole { Ok(end) } else { Err(Halt::At(end)) }
+    if taken.whole {
+        Ok(end)
+    } else {
+        Err(Halt::At(end))
+    }
 }

@@ -36,11 +36,9 @@ pub struct ItemRead {
 /// Reads the word EMPTY, which adds nothing.
 pub fn read_nothing(text: &[u8], at: usize, dimension: Dimension) -> Result<Read, Halt>
     requires { at ≤ length text.now }
-    ensures {
-        MatchResult result (λ read. WordStands text.now at read.end (codes "EMPTY") × (read.fault ≡ None)
-                × (read.dimension ≡ dimension))
-            (λ halt. IfStopped halt (λ n. WordBreaks text.now at n (codes "EMPTY")))
-    }
+    ensures { MatchResult result (λ read. WordStands text.now at read.end (codes "EMPTY") × (read.fault ≡ None)
+        × (read.dimension ≡ dimension))
+        (λ halt. IfStopped halt (λ n. WordBreaks text.now at n (codes "EMPTY"))) }
 {
     let end = read_empty(text, at)?;
     Ok(Read {
@@ -51,16 +49,20 @@ pub fn read_nothing(text: &[u8], at: usize, dimension: Dimension) -> Result<Read
 }
 
 /// Reads a position in brackets, the opening one of which stands at the place, and adds it to the points.
-fn read_enclosed(points: &mut Vec<Pos>, text: &[u8], at: usize, dimension: Dimension, rules: Rules) -> Result<Read, Halt>
+fn read_enclosed(
+    points: &mut Vec<Pos>,
+    text: &[u8],
+    at: usize,
+    dimension: Dimension,
+    rules: Rules,
+) -> Result<Read, Halt>
     requires inside { at < length text.now }
     requires opener { next text.now at ≡ 0x28 }
     requires short { rules.base + length text.now ≤ 2 ^ 28 }
     requires count { HasCount dimension }
-    ensures {
-        MatchResult result (PartStands EnclosedPosition (position_faults rules.digits rules.how)
-                (Grows (added_position rules.digits rules.how) points.old.items points.new.items) rules.base text.now at dimension)
-            (λ halt. IfStopped halt (Stuck EnclosedPosition rules.base text.now at dimension))
-    }
+    ensures { MatchResult result (PartStands EnclosedPosition (position_faults rules.digits rules.how)
+        (Grows (added_position rules.digits rules.how) points.old.items points.new.items) rules.base text.now at dimension)
+        (λ halt. IfStopped halt (Stuck EnclosedPosition rules.base text.now at dimension)) }
 {
     let read = read_position(text, at + 1, dimension, rules)?;
     if !read.is_last {
@@ -75,15 +77,19 @@ fn read_enclosed(points: &mut Vec<Pos>, text: &[u8], at: usize, dimension: Dimen
 }
 
 /// Reads EMPTY or a position in brackets.
-pub fn read_point(points: &mut Vec<Pos>, text: &[u8], at: usize, dimension: Dimension, rules: Rules) -> Result<Read, Halt>
+pub fn read_point(
+    points: &mut Vec<Pos>,
+    text: &[u8],
+    at: usize,
+    dimension: Dimension,
+    rules: Rules,
+) -> Result<Read, Halt>
     requires inside { at ≤ length text.now }
     requires short { rules.base + length text.now ≤ 2 ^ 28 }
     requires count { HasCount dimension }
-    ensures {
-        MatchResult result (PartStands SpellsPoint (point_faults rules.digits rules.how)
-                (Grows (added_point rules.digits rules.how) points.old.items points.new.items) rules.base text.now at dimension)
-            (λ halt. IfStopped halt (Stuck SpellsPoint rules.base text.now at dimension))
-    }
+    ensures { MatchResult result (PartStands SpellsPoint (point_faults rules.digits rules.how)
+        (Grows (added_point rules.digits rules.how) points.old.items points.new.items) rules.base text.now at dimension)
+        (λ halt. IfStopped halt (Stuck SpellsPoint rules.base text.now at dimension)) }
 {
     if stands(text, at, b'(') {
         read_enclosed(points, text, at, dimension, rules)
@@ -93,16 +99,22 @@ pub fn read_point(points: &mut Vec<Pos>, text: &[u8], at: usize, dimension: Dime
 }
 
 /// Reads a line or a ring, whose opening bracket stands at the place, and adds it.
-fn read_added(paths: &mut Vec<Path>, alloc: Global, text: &[u8], at: usize, dimension: Dimension, rules: Rules, role: Role) -> Result<Read, Halt>
+fn read_added(
+    paths: &mut Vec<Path>,
+    alloc: Global,
+    text: &[u8],
+    at: usize,
+    dimension: Dimension,
+    rules: Rules,
+    role: Role,
+) -> Result<Read, Halt>
     requires inside { at < length text.now }
     requires opener { next text.now at ≡ 0x28 }
     requires short { rules.base + length text.now ≤ 2 ^ 28 }
     requires count { HasCount dimension }
-    ensures {
-        MatchResult result (PartStands SpellsRing (faults_of_path rules.digits rules.how role)
-                (Grows (added_path rules.digits rules.how) paths.old.items paths.new.items) rules.base text.now at dimension)
-            (λ halt. IfStopped halt (Stuck SpellsRing rules.base text.now at dimension))
-    }
+    ensures { MatchResult result (PartStands SpellsRing (faults_of_path rules.digits rules.how role)
+        (Grows (added_path rules.digits rules.how) paths.old.items paths.new.items) rules.base text.now at dimension)
+        (λ halt. IfStopped halt (Stuck SpellsRing rules.base text.now at dimension)) }
 {
     let read = read_path(alloc, text, at, dimension, rules, role)?;
     paths.push(Path::from_vec(read.path))?;
@@ -114,15 +126,20 @@ fn read_added(paths: &mut Vec<Path>, alloc: Global, text: &[u8], at: usize, dime
 }
 
 /// Reads EMPTY or a line.
-pub fn read_line_string(lines: &mut Vec<Path>, alloc: Global, text: &[u8], at: usize, dimension: Dimension, rules: Rules) -> Result<Read, Halt>
+pub fn read_line_string(
+    lines: &mut Vec<Path>,
+    alloc: Global,
+    text: &[u8],
+    at: usize,
+    dimension: Dimension,
+    rules: Rules,
+) -> Result<Read, Halt>
     requires inside { at ≤ length text.now }
     requires short { rules.base + length text.now ≤ 2 ^ 28 }
     requires count { HasCount dimension }
-    ensures {
-        MatchResult result (PartStands SpellsList (line_faults rules.digits rules.how)
-                (Grows (added_line rules.digits rules.how) lines.old.items lines.new.items) rules.base text.now at dimension)
-            (λ halt. IfStopped halt (Stuck SpellsList rules.base text.now at dimension))
-    }
+    ensures { MatchResult result (PartStands SpellsList (line_faults rules.digits rules.how)
+        (Grows (added_line rules.digits rules.how) lines.old.items lines.new.items) rules.base text.now at dimension)
+        (λ halt. IfStopped halt (Stuck SpellsList rules.base text.now at dimension)) }
 {
     if stands(text, at, b'(') {
         read_added(lines, alloc, text, at, dimension, rules, Role::Line)
@@ -134,11 +151,9 @@ pub fn read_line_string(lines: &mut Vec<Path>, alloc: Global, text: &[u8], at: u
 /// The item that a part is with the delimiter behind it.
 fn end_item(text: &[u8], read: Read) -> Result<ItemRead, Halt>
     requires { read.end ≤ length text.now }
-    ensures {
-        MatchResult result (λ item. (item.fault ≡ read.fault) × (item.dimension ≡ read.dimension)
-                × DelimiterStands text.now read.end (record { is_last = item.is_last; end = item.end }))
-            (λ halt. IfStopped halt (DelimiterBreaks text.now read.end))
-    }
+    ensures { MatchResult result (λ item. (item.fault ≡ read.fault) × (item.dimension ≡ read.dimension)
+        × DelimiterStands text.now read.end (record { is_last = item.is_last; end = item.end }))
+        (λ halt. IfStopped halt (DelimiterBreaks text.now read.end)) }
 {
     let delimiter = read_delimiter(text, read.end)?;
     Ok(ItemRead {
@@ -150,15 +165,20 @@ fn end_item(text: &[u8], read: Read) -> Result<ItemRead, Halt>
 }
 
 /// Reads a ring and its delimiter.
-fn read_ring(rings: &mut Vec<Path>, alloc: Global, text: &[u8], at: usize, dimension: Dimension, rules: Rules) -> Result<ItemRead, Halt>
+fn read_ring(
+    rings: &mut Vec<Path>,
+    alloc: Global,
+    text: &[u8],
+    at: usize,
+    dimension: Dimension,
+    rules: Rules,
+) -> Result<ItemRead, Halt>
     requires inside { at ≤ length text.now }
     requires short { rules.base + length text.now ≤ 2 ^ 28 }
     requires count { HasCount dimension }
-    ensures {
-        MatchResult result (ItemStands SpellsRing (faults_of_ring rules.digits rules.how)
-                (Grows (added_path rules.digits rules.how) rings.old.items rings.new.items) rules.base text.now at dimension)
-            (λ halt. IfStopped halt (Stuck (Item SpellsRing) rules.base text.now at dimension))
-    }
+    ensures { MatchResult result (ItemStands SpellsRing (faults_of_ring rules.digits rules.how)
+        (Grows (added_path rules.digits rules.how) rings.old.items rings.new.items) rules.base text.now at dimension)
+        (λ halt. IfStopped halt (Stuck (Item SpellsRing) rules.base text.now at dimension)) }
 {
     let start = skip_blanks(text, at);
     if !stands(text, start, b'(') {
@@ -182,9 +202,7 @@ fn first_item(at: usize, dimension: Dimension) -> ItemRead
 
 /// The items so far and one more.
 fn next_item(last: ItemRead, item: ItemRead) -> ItemRead
-    ensures {
-        result ≡ record { fault = the_first last.fault item.fault; is_last = item.is_last; end = item.end; dimension = item.dimension }
-    }
+    ensures { result ≡ record { fault = the_first last.fault item.fault; is_last = item.is_last; end = item.end; dimension = item.dimension } }
 {
     ItemRead {
         fault: first_fault(last.fault, item.fault),
@@ -206,15 +224,20 @@ fn items_read(last: ItemRead) -> Read
 }
 
 /// Reads the rings of a polygon behind its opening bracket.
-fn read_rings(rings: &mut Vec<Path>, alloc: Global, text: &[u8], at: usize, dimension: Dimension, rules: Rules) -> Result<Read, Halt>
+fn read_rings(
+    rings: &mut Vec<Path>,
+    alloc: Global,
+    text: &[u8],
+    at: usize,
+    dimension: Dimension,
+    rules: Rules,
+) -> Result<Read, Halt>
     requires inside { at ≤ length text.now }
     requires short { rules.base + length text.now ≤ 2 ^ 28 }
     requires count { HasCount dimension }
-    ensures {
-        MatchResult result (PartStands (Items SpellsRing) (flat_map (faults_of_ring rules.digits rules.how))
-                (Grows (flat_map (added_path rules.digits rules.how)) rings.old.items rings.new.items) rules.base text.now at dimension)
-            (λ halt. IfStopped halt (Stuck (Items SpellsRing) rules.base text.now at dimension))
-    }
+    ensures { MatchResult result (PartStands (Items SpellsRing) (flat_map (faults_of_ring rules.digits rules.how))
+        (Grows (flat_map (added_path rules.digits rules.how)) rings.old.items rings.new.items) rules.base text.now at dimension)
+        (λ halt. IfStopped halt (Stuck (Items SpellsRing) rules.base text.now at dimension)) }
 {
     let mut last = first_item(at, dimension);
     'rings: while !last.is_last {
@@ -225,15 +248,20 @@ fn read_rings(rings: &mut Vec<Path>, alloc: Global, text: &[u8], at: usize, dime
 }
 
 /// Reads a polygon behind its opening bracket, and adds it.
-fn read_area(polygons: &mut Vec<Polygon>, alloc: Global, text: &[u8], at: usize, dimension: Dimension, rules: Rules) -> Result<Read, Halt>
+fn read_area(
+    polygons: &mut Vec<Polygon>,
+    alloc: Global,
+    text: &[u8],
+    at: usize,
+    dimension: Dimension,
+    rules: Rules,
+) -> Result<Read, Halt>
     requires inside { at ≤ length text.now }
     requires short { rules.base + length text.now ≤ 2 ^ 28 }
     requires count { HasCount dimension }
-    ensures {
-        MatchResult result (PartStands (Items SpellsRing) (faults_of_area rules.digits rules.how)
-                (Grows (polygons_of rules.digits rules.how) polygons.old.items polygons.new.items) rules.base text.now at dimension)
-            (λ halt. IfStopped halt (Stuck (Items SpellsRing) rules.base text.now at dimension))
-    }
+    ensures { MatchResult result (PartStands (Items SpellsRing) (faults_of_area rules.digits rules.how)
+        (Grows (polygons_of rules.digits rules.how) polygons.old.items polygons.new.items) rules.base text.now at dimension)
+        (λ halt. IfStopped halt (Stuck (Items SpellsRing) rules.base text.now at dimension)) }
 {
     let mut rings = Vec::new(alloc);
     let read = read_rings(&mut rings, alloc, text, at, dimension, rules)?;
@@ -244,15 +272,20 @@ fn read_area(polygons: &mut Vec<Polygon>, alloc: Global, text: &[u8], at: usize,
 }
 
 /// Reads EMPTY or a polygon.
-pub fn read_polygon(polygons: &mut Vec<Polygon>, alloc: Global, text: &[u8], at: usize, dimension: Dimension, rules: Rules) -> Result<Read, Halt>
+pub fn read_polygon(
+    polygons: &mut Vec<Polygon>,
+    alloc: Global,
+    text: &[u8],
+    at: usize,
+    dimension: Dimension,
+    rules: Rules,
+) -> Result<Read, Halt>
     requires inside { at ≤ length text.now }
     requires short { rules.base + length text.now ≤ 2 ^ 28 }
     requires count { HasCount dimension }
-    ensures {
-        MatchResult result (PartStands SpellsArea (faults_of_area rules.digits rules.how)
-                (Grows (polygons_of rules.digits rules.how) polygons.old.items polygons.new.items) rules.base text.now at dimension)
-            (λ halt. IfStopped halt (Stuck SpellsArea rules.base text.now at dimension))
-    }
+    ensures { MatchResult result (PartStands SpellsArea (faults_of_area rules.digits rules.how)
+        (Grows (polygons_of rules.digits rules.how) polygons.old.items polygons.new.items) rules.base text.now at dimension)
+        (λ halt. IfStopped halt (Stuck SpellsArea rules.base text.now at dimension)) }
 {
     if stands(text, at, b'(') {
         read_area(polygons, alloc, text, at + 1, dimension, rules)
@@ -262,15 +295,19 @@ pub fn read_polygon(polygons: &mut Vec<Polygon>, alloc: Global, text: &[u8], at:
 }
 
 /// Reads a position without brackets and its delimiter.
-fn read_bare(points: &mut Vec<Pos>, text: &[u8], at: usize, dimension: Dimension, rules: Rules) -> Result<ItemRead, Halt>
+fn read_bare(
+    points: &mut Vec<Pos>,
+    text: &[u8],
+    at: usize,
+    dimension: Dimension,
+    rules: Rules,
+) -> Result<ItemRead, Halt>
     requires inside { at ≤ length text.now }
     requires short { rules.base + length text.now ≤ 2 ^ 28 }
     requires count { HasCount dimension }
-    ensures {
-        MatchResult result (ItemStands SpellsPosition (position_faults rules.digits rules.how)
-                (Grows (added_position rules.digits rules.how) points.old.items points.new.items) rules.base text.now at dimension)
-            (λ halt. IfStopped halt (Stuck (Item SpellsPosition) rules.base text.now at dimension))
-    }
+    ensures { MatchResult result (ItemStands SpellsPosition (position_faults rules.digits rules.how)
+        (Grows (added_position rules.digits rules.how) points.old.items points.new.items) rules.base text.now at dimension)
+        (λ halt. IfStopped halt (Stuck (Item SpellsPosition) rules.base text.now at dimension)) }
 {
     let read = read_position(text, at, dimension, rules)?;
     points.push(read.pos)?;
@@ -290,15 +327,19 @@ fn opener_stands(text: &[u8], at: usize) -> bool
 }
 
 /// Reads a member of a MULTIPOINT and its delimiter.
-fn read_point_member(points: &mut Vec<Pos>, text: &[u8], at: usize, dimension: Dimension, rules: Rules) -> Result<ItemRead, Halt>
+fn read_point_member(
+    points: &mut Vec<Pos>,
+    text: &[u8],
+    at: usize,
+    dimension: Dimension,
+    rules: Rules,
+) -> Result<ItemRead, Halt>
     requires inside { at ≤ length text.now }
     requires short { rules.base + length text.now ≤ 2 ^ 28 }
     requires count { HasCount dimension }
-    ensures {
-        MatchResult result (ItemStands SpellsPointMember (point_faults rules.digits rules.how)
-                (Grows (added_point rules.digits rules.how) points.old.items points.new.items) rules.base text.now at dimension)
-            (λ halt. IfStopped halt (Stuck (Item SpellsPointMember) rules.base text.now at dimension))
-    }
+    ensures { MatchResult result (ItemStands SpellsPointMember (point_faults rules.digits rules.how)
+        (Grows (added_point rules.digits rules.how) points.old.items points.new.items) rules.base text.now at dimension)
+        (λ halt. IfStopped halt (Stuck (Item SpellsPointMember) rules.base text.now at dimension)) }
 {
     let start = skip_blanks(text, at);
     if opener_stands(text, start) {
@@ -310,15 +351,19 @@ fn read_point_member(points: &mut Vec<Pos>, text: &[u8], at: usize, dimension: D
 }
 
 /// Reads the members of a MULTIPOINT behind its opening bracket.
-fn read_point_members(points: &mut Vec<Pos>, text: &[u8], at: usize, dimension: Dimension, rules: Rules) -> Result<Read, Halt>
+fn read_point_members(
+    points: &mut Vec<Pos>,
+    text: &[u8],
+    at: usize,
+    dimension: Dimension,
+    rules: Rules,
+) -> Result<Read, Halt>
     requires inside { at ≤ length text.now }
     requires short { rules.base + length text.now ≤ 2 ^ 28 }
     requires count { HasCount dimension }
-    ensures {
-        MatchResult result (PartStands (Items SpellsPointMember) (flat_map (point_faults rules.digits rules.how))
-                (Grows (flat_map (added_point rules.digits rules.how)) points.old.items points.new.items) rules.base text.now at dimension)
-            (λ halt. IfStopped halt (Stuck (Items SpellsPointMember) rules.base text.now at dimension))
-    }
+    ensures { MatchResult result (PartStands (Items SpellsPointMember) (flat_map (point_faults rules.digits rules.how))
+        (Grows (flat_map (added_point rules.digits rules.how)) points.old.items points.new.items) rules.base text.now at dimension)
+        (λ halt. IfStopped halt (Stuck (Items SpellsPointMember) rules.base text.now at dimension)) }
 {
     let mut last = first_item(at, dimension);
     'members: while !last.is_last {
@@ -329,15 +374,19 @@ fn read_point_members(points: &mut Vec<Pos>, text: &[u8], at: usize, dimension: 
 }
 
 /// Reads EMPTY or the members of a MULTIPOINT.
-pub fn read_points(points: &mut Vec<Pos>, text: &[u8], at: usize, dimension: Dimension, rules: Rules) -> Result<Read, Halt>
+pub fn read_points(
+    points: &mut Vec<Pos>,
+    text: &[u8],
+    at: usize,
+    dimension: Dimension,
+    rules: Rules,
+) -> Result<Read, Halt>
     requires inside { at ≤ length text.now }
     requires short { rules.base + length text.now ≤ 2 ^ 28 }
     requires count { HasCount dimension }
-    ensures {
-        MatchResult result (PartStands (λ d ps. EmptyOrParted (SpellsPointMember d) ps) (flat_map (point_faults rules.digits rules.how))
-                (Grows (flat_map (added_point rules.digits rules.how)) points.old.items points.new.items) rules.base text.now at dimension)
-            (λ halt. IfStopped halt (Stuck (λ d ps. EmptyOrParted (SpellsPointMember d) ps) rules.base text.now at dimension))
-    }
+    ensures { MatchResult result (PartStands (λ d ps. EmptyOrParted (SpellsPointMember d) ps) (flat_map (point_faults rules.digits rules.how))
+        (Grows (flat_map (added_point rules.digits rules.how)) points.old.items points.new.items) rules.base text.now at dimension)
+        (λ halt. IfStopped halt (Stuck (λ d ps. EmptyOrParted (SpellsPointMember d) ps) rules.base text.now at dimension)) }
 {
     if stands(text, at, b'(') {
         read_point_members(points, text, at + 1, dimension, rules)
@@ -347,15 +396,20 @@ pub fn read_points(points: &mut Vec<Pos>, text: &[u8], at: usize, dimension: Dim
 }
 
 /// Reads a member of a MULTILINESTRING and its delimiter.
-fn read_line_member(lines: &mut Vec<Path>, alloc: Global, text: &[u8], at: usize, dimension: Dimension, rules: Rules) -> Result<ItemRead, Halt>
+fn read_line_member(
+    lines: &mut Vec<Path>,
+    alloc: Global,
+    text: &[u8],
+    at: usize,
+    dimension: Dimension,
+    rules: Rules,
+) -> Result<ItemRead, Halt>
     requires inside { at ≤ length text.now }
     requires short { rules.base + length text.now ≤ 2 ^ 28 }
     requires count { HasCount dimension }
-    ensures {
-        MatchResult result (ItemStands SpellsList (line_faults rules.digits rules.how)
-                (Grows (added_line rules.digits rules.how) lines.old.items lines.new.items) rules.base text.now at dimension)
-            (λ halt. IfStopped halt (Stuck (Item SpellsList) rules.base text.now at dimension))
-    }
+    ensures { MatchResult result (ItemStands SpellsList (line_faults rules.digits rules.how)
+        (Grows (added_line rules.digits rules.how) lines.old.items lines.new.items) rules.base text.now at dimension)
+        (λ halt. IfStopped halt (Stuck (Item SpellsList) rules.base text.now at dimension)) }
 {
     let start = skip_blanks(text, at);
     let line = read_line_string(lines, alloc, text, start, dimension, rules)?;
@@ -363,15 +417,20 @@ fn read_line_member(lines: &mut Vec<Path>, alloc: Global, text: &[u8], at: usize
 }
 
 /// Reads the members of a MULTILINESTRING behind its opening bracket.
-fn read_line_members(lines: &mut Vec<Path>, alloc: Global, text: &[u8], at: usize, dimension: Dimension, rules: Rules) -> Result<Read, Halt>
+fn read_line_members(
+    lines: &mut Vec<Path>,
+    alloc: Global,
+    text: &[u8],
+    at: usize,
+    dimension: Dimension,
+    rules: Rules,
+) -> Result<Read, Halt>
     requires inside { at ≤ length text.now }
     requires short { rules.base + length text.now ≤ 2 ^ 28 }
     requires count { HasCount dimension }
-    ensures {
-        MatchResult result (PartStands (Items SpellsList) (flat_map (line_faults rules.digits rules.how))
-                (Grows (flat_map (added_line rules.digits rules.how)) lines.old.items lines.new.items) rules.base text.now at dimension)
-            (λ halt. IfStopped halt (Stuck (Items SpellsList) rules.base text.now at dimension))
-    }
+    ensures { MatchResult result (PartStands (Items SpellsList) (flat_map (line_faults rules.digits rules.how))
+        (Grows (flat_map (added_line rules.digits rules.how)) lines.old.items lines.new.items) rules.base text.now at dimension)
+        (λ halt. IfStopped halt (Stuck (Items SpellsList) rules.base text.now at dimension)) }
 {
     let mut last = first_item(at, dimension);
     'members: while !last.is_last {
@@ -382,15 +441,20 @@ fn read_line_members(lines: &mut Vec<Path>, alloc: Global, text: &[u8], at: usiz
 }
 
 /// Reads EMPTY or the members of a MULTILINESTRING.
-pub fn read_line_strings(lines: &mut Vec<Path>, alloc: Global, text: &[u8], at: usize, dimension: Dimension, rules: Rules) -> Result<Read, Halt>
+pub fn read_line_strings(
+    lines: &mut Vec<Path>,
+    alloc: Global,
+    text: &[u8],
+    at: usize,
+    dimension: Dimension,
+    rules: Rules,
+) -> Result<Read, Halt>
     requires inside { at ≤ length text.now }
     requires short { rules.base + length text.now ≤ 2 ^ 28 }
     requires count { HasCount dimension }
-    ensures {
-        MatchResult result (PartStands (λ d ls. EmptyOrParted (SpellsList d) ls) (flat_map (line_faults rules.digits rules.how))
-                (Grows (flat_map (added_line rules.digits rules.how)) lines.old.items lines.new.items) rules.base text.now at dimension)
-            (λ halt. IfStopped halt (Stuck (λ d ls. EmptyOrParted (SpellsList d) ls) rules.base text.now at dimension))
-    }
+    ensures { MatchResult result (PartStands (λ d ls. EmptyOrParted (SpellsList d) ls) (flat_map (line_faults rules.digits rules.how))
+        (Grows (flat_map (added_line rules.digits rules.how)) lines.old.items lines.new.items) rules.base text.now at dimension)
+        (λ halt. IfStopped halt (Stuck (λ d ls. EmptyOrParted (SpellsList d) ls) rules.base text.now at dimension)) }
 {
     if stands(text, at, b'(') {
         read_line_members(lines, alloc, text, at + 1, dimension, rules)
@@ -400,15 +464,20 @@ pub fn read_line_strings(lines: &mut Vec<Path>, alloc: Global, text: &[u8], at: 
 }
 
 /// Reads a member of a MULTIPOLYGON and its delimiter.
-fn read_polygon_member(polygons: &mut Vec<Polygon>, alloc: Global, text: &[u8], at: usize, dimension: Dimension, rules: Rules) -> Result<ItemRead, Halt>
+fn read_polygon_member(
+    polygons: &mut Vec<Polygon>,
+    alloc: Global,
+    text: &[u8],
+    at: usize,
+    dimension: Dimension,
+    rules: Rules,
+) -> Result<ItemRead, Halt>
     requires inside { at ≤ length text.now }
     requires short { rules.base + length text.now ≤ 2 ^ 28 }
     requires count { HasCount dimension }
-    ensures {
-        MatchResult result (ItemStands SpellsArea (faults_of_area rules.digits rules.how)
-                (Grows (polygons_of rules.digits rules.how) polygons.old.items polygons.new.items) rules.base text.now at dimension)
-            (λ halt. IfStopped halt (Stuck (Item SpellsArea) rules.base text.now at dimension))
-    }
+    ensures { MatchResult result (ItemStands SpellsArea (faults_of_area rules.digits rules.how)
+        (Grows (polygons_of rules.digits rules.how) polygons.old.items polygons.new.items) rules.base text.now at dimension)
+        (λ halt. IfStopped halt (Stuck (Item SpellsArea) rules.base text.now at dimension)) }
 {
     let start = skip_blanks(text, at);
     let polygon = read_polygon(polygons, alloc, text, start, dimension, rules)?;
@@ -416,15 +485,20 @@ fn read_polygon_member(polygons: &mut Vec<Polygon>, alloc: Global, text: &[u8], 
 }
 
 /// Reads the members of a MULTIPOLYGON behind its opening bracket.
-fn read_polygon_members(polygons: &mut Vec<Polygon>, alloc: Global, text: &[u8], at: usize, dimension: Dimension, rules: Rules) -> Result<Read, Halt>
+fn read_polygon_members(
+    polygons: &mut Vec<Polygon>,
+    alloc: Global,
+    text: &[u8],
+    at: usize,
+    dimension: Dimension,
+    rules: Rules,
+) -> Result<Read, Halt>
     requires inside { at ≤ length text.now }
     requires short { rules.base + length text.now ≤ 2 ^ 28 }
     requires count { HasCount dimension }
-    ensures {
-        MatchResult result (PartStands (Items SpellsArea) (flat_map (faults_of_area rules.digits rules.how))
-                (Grows (flat_map (polygons_of rules.digits rules.how)) polygons.old.items polygons.new.items) rules.base text.now at dimension)
-            (λ halt. IfStopped halt (Stuck (Items SpellsArea) rules.base text.now at dimension))
-    }
+    ensures { MatchResult result (PartStands (Items SpellsArea) (flat_map (faults_of_area rules.digits rules.how))
+        (Grows (flat_map (polygons_of rules.digits rules.how)) polygons.old.items polygons.new.items) rules.base text.now at dimension)
+        (λ halt. IfStopped halt (Stuck (Items SpellsArea) rules.base text.now at dimension)) }
 {
     let mut last = first_item(at, dimension);
     'members: while !last.is_last {
@@ -435,15 +509,20 @@ fn read_polygon_members(polygons: &mut Vec<Polygon>, alloc: Global, text: &[u8],
 }
 
 /// Reads EMPTY or the members of a MULTIPOLYGON.
-pub fn read_polygons(polygons: &mut Vec<Polygon>, alloc: Global, text: &[u8], at: usize, dimension: Dimension, rules: Rules) -> Result<Read, Halt>
+pub fn read_polygons(
+    polygons: &mut Vec<Polygon>,
+    alloc: Global,
+    text: &[u8],
+    at: usize,
+    dimension: Dimension,
+    rules: Rules,
+) -> Result<Read, Halt>
     requires inside { at ≤ length text.now }
     requires short { rules.base + length text.now ≤ 2 ^ 28 }
     requires count { HasCount dimension }
-    ensures {
-        MatchResult result (PartStands (λ d areas. EmptyOrParted (SpellsArea d) areas) (flat_map (faults_of_area rules.digits rules.how))
-                (Grows (flat_map (polygons_of rules.digits rules.how)) polygons.old.items polygons.new.items) rules.base text.now at dimension)
-            (λ halt. IfStopped halt (Stuck (λ d areas. EmptyOrParted (SpellsArea d) areas) rules.base text.now at dimension))
-    }
+    ensures { MatchResult result (PartStands (λ d areas. EmptyOrParted (SpellsArea d) areas) (flat_map (faults_of_area rules.digits rules.how))
+        (Grows (flat_map (polygons_of rules.digits rules.how)) polygons.old.items polygons.new.items) rules.base text.now at dimension)
+        (λ halt. IfStopped halt (Stuck (λ d areas. EmptyOrParted (SpellsArea d) areas) rules.base text.now at dimension)) }
 {
     if stands(text, at, b'(') {
         read_polygon_members(polygons, alloc, text, at + 1, dimension, rules)

@@ -32,24 +32,26 @@ pub struct PathRead {
 
 /// Whether two positions are the same, or one of them has a fault, so that this isn't tested.
 fn closes_with(first: PositionRead, last: PositionRead) -> bool
-    ensures {
-        result ≡ (not (is_none first.fault && is_none last.fault)
-            || (int_eq first.pos.x last.pos.x && int_eq first.pos.y last.pos.y))
-    }
+    ensures { result ≡ (not (is_none first.fault && is_none last.fault)
+        || (int_eq first.pos.x last.pos.x && int_eq first.pos.y last.pos.y)) }
 {
     !(first.fault.is_none() && last.fault.is_none())
         || (first.pos.x == last.pos.x && first.pos.y == last.pos.y)
 }
 
 /// Reads positions up to the closing bracket.
-fn read_positions(alloc: Global, text: &[u8], at: usize, dimension: Dimension, rules: Rules) -> Result<PathRead, Halt>
+fn read_positions(
+    alloc: Global,
+    text: &[u8],
+    at: usize,
+    dimension: Dimension,
+    rules: Rules,
+) -> Result<PathRead, Halt>
     requires inside { at ≤ length text.now }
     requires short { rules.base + length text.now ≤ 2 ^ 28 }
     requires count { HasCount dimension }
-    ensures {
-        MatchResult result (PositionsStand rules text.now at dimension)
-            (λ halt. IfStopped halt (Stuck (Items SpellsPosition) rules.base text.now at dimension))
-    }
+    ensures { MatchResult result (PositionsStand rules text.now at dimension)
+        (λ halt. IfStopped halt (Stuck (Items SpellsPosition) rules.base text.now at dimension)) }
 {
     let first = read_position(text, at, dimension, rules)?;
     let mut path = Vec::new(alloc);
@@ -81,18 +83,28 @@ fn path_fault(role: Role, count: u32, closes: bool, at: u32) -> Option<Fault>
 }
 
 /// Reads a line or a ring from its opening bracket, which stands at the place, to its closing one.
-pub fn read_path(alloc: Global, text: &[u8], at: usize, dimension: Dimension, rules: Rules, role: Role) -> Result<PathRead, Halt>
+pub fn read_path(
+    alloc: Global,
+    text: &[u8],
+    at: usize,
+    dimension: Dimension,
+    rules: Rules,
+    role: Role,
+) -> Result<PathRead, Halt>
     requires inside { at < length text.now }
     requires opener { next text.now at ≡ 0x28 }
     requires short { rules.base + length text.now ≤ 2 ^ 28 }
     requires count { HasCount dimension }
-    ensures {
-        MatchResult result (PathStands rules text.now at dimension role)
-            (λ halt. IfStopped halt (Stuck SpellsRing rules.base text.now at dimension))
-    }
+    ensures { MatchResult result (PathStands rules text.now at dimension role)
+        (λ halt. IfStopped halt (Stuck SpellsRing rules.base text.now at dimension)) }
 {
     let read = read_positions(alloc, text, at + 1, dimension, rules)?;
-    let own = path_fault(role, read.path.as_slice().len() as u32, read.closes, rules.base + at as u32);
+    let own = path_fault(
+        role,
+        read.path.as_slice().len() as u32,
+        read.closes,
+        rules.base + at as u32,
+    );
     Ok(PathRead {
         path: read.path,
         fault: first_fault(own, read.fault),

@@ -21,9 +21,7 @@ pub struct DelimiterRead {
 /// Reads blanks, and a comma or a closing bracket.
 pub fn read_delimiter(text: &[u8], at: usize) -> Result<DelimiterRead, Halt>
     requires { at ≤ length text.now }
-    ensures {
-        MatchResult result (DelimiterStands text.now at) (λ halt. IfStopped halt (DelimiterBreaks text.now at))
-    }
+    ensures { MatchResult result (DelimiterStands text.now at) (λ halt. IfStopped halt (DelimiterBreaks text.now at)) }
 {
     let end = skip_blanks(text, at);
     if stands(text, end, b',') {
@@ -57,14 +55,17 @@ fn delimiter_stands(text: &[u8], at: usize) -> bool
 }
 
 /// Ends a position of so many numbers at its delimiter.
-fn end_position(text: &[u8], at: usize, count: u8, dimension: Dimension) -> Result<NumbersRead, Halt>
+fn end_position(
+    text: &[u8],
+    at: usize,
+    count: u8,
+    dimension: Dimension,
+) -> Result<NumbersRead, Halt>
     requires inside { at < length text.now }
     requires delimiter { is_delimiter (next text.now at) ≡ true }
-    ensures {
-        MatchResult result (λ read. (allows dimension count ≡ true) × (read.end ≡ at + 1)
-                × (read.dimension ≡ Fixed count) × (next text.now at ≡ delimiter read.is_last))
-            (λ halt. IfStopped halt (λ n. (n ≡ at) × (allows dimension count ≡ false)))
-    }
+    ensures { MatchResult result (λ read. (allows dimension count ≡ true) × (read.end ≡ at + 1)
+        × (read.dimension ≡ Fixed count) × (next text.now at ≡ delimiter read.is_last))
+        (λ halt. IfStopped halt (λ n. (n ≡ at) × (allows dimension count ≡ false))) }
 {
     if dimension.allows(count) {
         Ok(NumbersRead {
@@ -78,16 +79,19 @@ fn end_position(text: &[u8], at: usize, count: u8, dimension: Dimension) -> Resu
 }
 
 /// Reads the numbers behind the first `count` of a position, and its delimiter.
-fn read_further(text: &[u8], at: usize, count: u8, dimension: Dimension) -> Result<NumbersRead, Halt>
+fn read_further(
+    text: &[u8],
+    at: usize,
+    count: u8,
+    dimension: Dimension,
+) -> Result<NumbersRead, Halt>
     requires inside { at ≤ length text.now }
     requires short { length text.now ≤ 2 ^ 28 }
     requires two { 2 ≤ count }
     requires reaches { Reaches dimension count }
-    ensures {
-        MatchResult result (λ read. (base : ℕ)
-                → Spelt (FurtherNumbers count) base text.now at dimension read.end read.dimension read.is_last)
-            (λ halt. IfStopped halt (λ n. (base : ℕ) → Stuck (FurtherNumbers count) base text.now at dimension n))
-    }
+    ensures { MatchResult result (λ read. (base : ℕ)
+        → Spelt (FurtherNumbers count) base text.now at dimension read.end read.dimension read.is_last)
+        (λ halt. IfStopped halt (λ n. (base : ℕ) → Stuck (FurtherNumbers count) base text.now at dimension n)) }
 {
     let next = skip_blanks(text, at);
     if delimiter_stands(text, next) {
@@ -124,14 +128,17 @@ pub struct PositionRead {
 }
 
 /// Reads blanks, a position and its delimiter.
-pub fn read_position(text: &[u8], at: usize, dimension: Dimension, rules: Rules) -> Result<PositionRead, Halt>
+pub fn read_position(
+    text: &[u8],
+    at: usize,
+    dimension: Dimension,
+    rules: Rules,
+) -> Result<PositionRead, Halt>
     requires inside { at ≤ length text.now }
     requires short { rules.base + length text.now ≤ 2 ^ 28 }
     requires count { HasCount dimension }
-    ensures {
-        MatchResult result (PositionStands rules text.now at dimension)
-            (λ halt. IfStopped halt (Stuck (Item SpellsPosition) rules.base text.now at dimension))
-    }
+    ensures { MatchResult result (PositionStands rules text.now at dimension)
+        (λ halt. IfStopped halt (Stuck (Item SpellsPosition) rules.base text.now at dimension)) }
 {
     let start = skip_blanks(text, at);
     let x = read_number(text, start, rules)?;

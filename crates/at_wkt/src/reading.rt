@@ -96,12 +96,16 @@ fn refusal_of(text: &[u8], base: u32, halt: Halt) -> LineFault
 /// `Found` is the fault of syntax at the end of the longest prefix that some geometry begins with, exactly where
 /// no geometry begins the text: Syntax before a byte, Ended at the text's end. Faults of the geometry itself are
 /// told in `Prefix`. Nothing recurses on the depth of collections.
-pub fn read_geometry(alloc: Global, text: &[u8], base: u32, digits: u8, how: Coords) -> Result<Prefix, LineFault>
+pub fn read_geometry(
+    alloc: Global,
+    text: &[u8],
+    base: u32,
+    digits: u8,
+    how: Coords,
+) -> Result<Prefix, LineFault>
     requires { base + length text.now ≤ 2 ^ 28 }
-    ensures {
-        MatchResult result (IsPrefixOf digits how base text.now)
-            (λ refusal. IfFound refusal (IsPrefixFault base text.now))
-    }
+    ensures { MatchResult result (IsPrefixOf digits how base text.now)
+        (λ refusal. IfFound refusal (IsPrefixFault base text.now)) }
 {
     let mut gathered = nothing_gathered(alloc);
     let rules = Rules { base, digits, how };
@@ -119,17 +123,24 @@ pub fn read_geometry(alloc: Global, text: &[u8], base: u32, digits: u8, how: Coo
 }
 
 /// Reads blanks, a geometry and blanks, up to the text's end.
-fn read_between(gathered: &mut Gathered, alloc: Global, text: &[u8], rules: Rules) -> Result<(), Halt>
+fn read_between(
+    gathered: &mut Gathered,
+    alloc: Global,
+    text: &[u8],
+    rules: Rules,
+) -> Result<(), Halt>
     requires { rules.base + length text.now ≤ 2 ^ 28 }
-    ensures {
-        MatchResult result (λ _. LineStands rules.digits rules.how rules.base text.now gathered.old gathered.new)
-            (λ halt. IfStopped halt (LineStops rules.base text.now))
-    }
+    ensures { MatchResult result (λ _. LineStands rules.digits rules.how rules.base text.now gathered.old gathered.new)
+        (λ halt. IfStopped halt (LineStops rules.base text.now)) }
 {
     let start = skip_blanks(text, 0);
     let end = read_whole(gathered, alloc, text, start, rules)?;
     let last = skip_blanks(text, end);
-    if last < text.len() { Err(Halt::At(last)) } else { Ok(()) }
+    if last < text.len() {
+        Err(Halt::At(last))
+    } else {
+        Ok(())
+    }
 }
 
 /// Reads a line without its end, whose first byte has the offset `base` in its file: blanks, a geometry, blanks.
@@ -137,12 +148,16 @@ fn read_between(gathered: &mut Gathered, alloc: Global, text: &[u8], rules: Rule
 /// `Found` is the line's first fault, exactly where it has one: that of its syntax, or else the first of the
 /// geometry's Short, Ring, Scale and Range faults by offset, then by number. Nothing recurses on the depth of
 /// collections.
-pub fn read_line(alloc: Global, text: &[u8], base: u32, digits: u8, how: Coords) -> Result<Shape, LineFault>
+pub fn read_line(
+    alloc: Global,
+    text: &[u8],
+    base: u32,
+    digits: u8,
+    how: Coords,
+) -> Result<Shape, LineFault>
     requires { base + length text.now ≤ 2 ^ 28 }
-    ensures {
-        MatchResult result (HasLineShape digits how base text.now)
-            (λ refusal. IfFound refusal (HasFirstLineFault digits how base text.now))
-    }
+    ensures { MatchResult result (HasLineShape digits how base text.now)
+        (λ refusal. IfFound refusal (HasFirstLineFault digits how base text.now)) }
 {
     let mut gathered = nothing_gathered(alloc);
     let rules = Rules { base, digits, how };

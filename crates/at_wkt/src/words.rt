@@ -19,11 +19,13 @@ pub fn matching(text: &[u8], at: usize, word: &[u8]) -> usize
 /// The place behind the word EMPTY.
 pub fn read_empty(text: &[u8], at: usize) -> Result<usize, Halt>
     requires { at ≤ length text.now }
-    ensures {
-        MatchResult result (λ end. WordStands text.now at end (codes "EMPTY"))
-            (λ halt. IfStopped halt (λ n. WordBreaks text.now at n (codes "EMPTY")))
-    }
+    ensures { MatchResult result (λ end. WordStands text.now at end (codes "EMPTY"))
+        (λ halt. IfStopped halt (λ n. WordBreaks text.now at n (codes "EMPTY"))) }
 {
     let count = matching(text, at, b"EMPTY");
-    if count == 5 { Ok(at + count) } else { Err(Halt::At(at + count)) }
+    if count == 5 {
+        Ok(at + count)
+    } else {
+        Err(Halt::At(at + count))
+    }
 }

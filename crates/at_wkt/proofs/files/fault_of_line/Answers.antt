@@ -15,7 +15,7 @@ returns c =
     elim c.match-read_line.branch [
       | in-Ok w ↦ subst P (sym w.result-is) (line_without_fault c.args.reading.digits c.args.reading.how c.args.at c.args.line.now _ w.in-Ok.ensures)
       | in-Err-Found w ↦ subst P (sym w.result-is) (
-            let Q : LineFault → Type 0 = λ z. IfFound z (HasFirstLineFault c.args.reading.digits c.args.reading.how c.args.at c.args.line.now) in
-            line_with_fault c.args.reading.digits c.args.reading.how c.args.at c.args.line.now w.in-Err-Found.fault (subst Q w.in-Err-Found.field-0-is w.in-Err-Found.ensures))
+          let Q : LineFault → Type 0 = λ z. IfFound z (HasFirstLineFault c.args.reading.digits c.args.reading.how c.args.at c.args.line.now) in
+          line_with_fault c.args.reading.digits c.args.reading.how c.args.at c.args.line.now w.in-Err-Found.fault (subst Q w.in-Err-Found.field-0-is w.in-Err-Found.ensures))
       | in-Err-Memory w ↦ subst P (sym w.result-is) refl
     ]

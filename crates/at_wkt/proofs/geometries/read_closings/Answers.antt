@@ -1,4 +1,4 @@
-use Rattle.std.proofs.Common.{◌≡◌, ◌<◌, ◌≤◌, arith}
+use Rattle.std.proofs.Common.{arith}
 use Rattle.at_wkt.specs.Reading.{DelimiterBreaks}
 use Rattle.at_wkt.proofs.ProgressAnswers.{closes_start, closes_more, closes_stuck, closes_next, closes_over}
 use Rattle.at_wkt.proofs.Exits.{exits, flag_off, flag_on}
@@ -24,10 +24,11 @@ returns-in_err-delimiter c = exits c.from_residual.result c.in_err-delimiter.fie
 pub returns-then-not-delimiter : goal.returns-then-not-delimiter
 returns-then-not-delimiter c =
     let d = c.in_ok-delimiter.ensures in
-    let s = c.skip_blanks-next.ensures in
-    (omega (arith, c.loop-depth.invariant.deep, d.blanks.order, d.end_is, s.order),
+    let s = c.skip_blanks-next.ensures in (
+      omega (arith, c.loop-depth.invariant.deep, d.blanks.order, d.end_is, s.order),
       closes_next c.args.text.now c.args.from c.args.opened c.loop-depth.at c.loop-depth.depth c.loop-depth.invariant.closes c.loop-depth-test.true c.in_ok-delimiter.delimiter c.skip_blanks-next.result d
-      (flag_off c.in_ok-delimiter.delimiter.is_last c.if-not-delimiter.true) s c.loop-depth.invariant.low)
+          (flag_off c.in_ok-delimiter.delimiter.is_last c.if-not-delimiter.true) s c.loop-depth.invariant.low,
+    )
 
 pub returns : goal.returns
 returns c = (c.loop-depth.invariant.deep, closes_over c.args.text.now c.args.from c.args.opened c.loop-depth.at c.loop-depth.depth c.loop-depth.invariant.closes (omega arith) c.loop-depth.invariant.low c.loop-depth.invariant.inside)

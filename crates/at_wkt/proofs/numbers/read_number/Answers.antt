@@ -1,4 +1,4 @@
-use Rattle.std.proofs.Common.{◌≡◌, ◌+◌, Option, Some, None, Ok, Err, Result, ℤ, Bool, false, is_some, sym, ◌∙◌, ap, subst}
+use Rattle.std.proofs.Common.{◌≡◌, ◌+◌, Option, None, Result, ℤ, false, is_some, sym, ◌∙◌, ap, subst}
 use Rattle.at_fixed.specs.declared.rounding.FixedFault.{FixedFault}
 use Rattle.at_wkt.specs.Positions.{value_in, faults_in}
 use Rattle.at_wkt.specs.Reading.{NumberStands}
@@ -16,8 +16,11 @@ returns-in-None c = number_breaks c.args.text.now c.args.at c.leading_number-num
 pub returns-in-Some : goal.returns-in-Some
 returns-in-Some c =
     let (n, stands, e) = number_stands c.args.text.now c.args.at c.leading_number-number.result.len c.requires.inside c.args.rules.digits c.args.rules.how
-        c.leading_number-number.result.value c.in-Some.value c.in-Some.is c.leading_number-number.ensures.taken c.leading_number-number.ensures.value in
-    (n, subst (λ j. NumberStands c.args.text.now c.args.at j n) (sym c.coordinate_of.ensures.end) stands, record {
-      value = c.coordinate_of.ensures.value ∙ ap value_in e;
-      fault = c.coordinate_of.ensures.fault ∙ ap (λ r. first_of (faults_in r (c.args.rules.base + c.args.at))) e;
-    })
+    c.leading_number-number.result.value c.in-Some.value c.in-Some.is c.leading_number-number.ensures.taken c.leading_number-number.ensures.value in (
+      n,
+      subst (λ j. NumberStands c.args.text.now c.args.at j n) (sym c.coordinate_of.ensures.end) stands,
+      record {
+        value = c.coordinate_of.ensures.value ∙ ap value_in e;
+        fault = c.coordinate_of.ensures.fault ∙ ap (λ r. first_of (faults_in r (c.args.rules.base + c.args.at))) e;
+      },
+    )
