@@ -1,19 +1,19 @@
 -- Parts that are EMPTY or in brackets.
-use Rattle.std.proofs.Common.{◌≡◌, ◌≢◌, ℕ, ◌+◌, ◌-◌, ◌<◌, ◌≤◌, ◌⊎◌, inl, inr, Bool, true, false, not, ◌&&◌, ◌||◌, ◌==◌, List, [], ◌∷◌, ◌++◌, length, codes, Option, Some, None, refl, sym, ◌∙◌, ap, subst, arith, true≢false, append-nil, append_assoc, length-append}
+use Rattle.std.proofs.Common.{◌≡◌, ℕ, ◌+◌, ◌<◌, ◌≤◌, ◌⊎◌, inl, inr, Bool, true, false, not, ◌==◌, List, [], ◌∷◌, ◌++◌, length, codes, Option, Some, None, refl, sym, ◌∙◌, ap, subst, arith, true≢false, append_assoc}
 use Rattle.std.specs.Char.{to_ascii_uppercase}
 use Rattle.std.specs.Str.{str_to_ascii_uppercase}
 use Rattle.std.proofs.lemmas.List.{append_cancel_left}
-use Rattle.at_text.specs.Parts.{Many, OneOrMore, Exactly, AnyCase, At, ◌▸◌}
+use Rattle.at_text.specs.Parts.{Many, Exactly, ◌▸◌}
 use Rattle.at_wkt.specs.declared.dimension.Dimension.{Dimension}
 use Rattle.at_wkt.specs.Positions.{Position, Positions}
-use Rattle.at_wkt.specs.Geometry.{is_blank, ◌‿◌, SpellsPosition, InBrackets, Parted, EmptyWord, EmptyOrParted, SpellsRing, SpellsList, SpellsPoint, SpellsPointMember, SpellsArea}
-use Rattle.at_wkt.specs.Reading.{opens, part, next, Allows, Spelt, Stuck, Leads, SkipsBlanks, delimiter, Delimiter, Item, Items, WordStands, WordBreaks, HasCount, EnclosedPosition}
-use Rattle.at_wkt.proofs.Leads.{part-none, part-one, part-more, part-length, part-part, part-cons, offset, Ahead, ahead_stuck, Begins, Inhabited, append_cases, counts, same_or_less}
-use Rattle.at_wkt.proofs.Steps.{Then, Same, When, when_leads, same_leads, trans_leads, no_blank, AreBlanks, one_blanks, not_blank}
+use Rattle.at_wkt.specs.Geometry.{is_blank, SpellsPosition, InBrackets, Parted, EmptyWord, EmptyOrParted, SpellsRing, SpellsList, SpellsPoint, SpellsPointMember}
+use Rattle.at_wkt.specs.Reading.{opens, part, next, Spelt, Stuck, Leads, SkipsBlanks, Item, WordStands, WordBreaks, HasCount, EnclosedPosition}
+use Rattle.at_wkt.proofs.Leads.{part-part, part-cons, ahead_stuck, Begins, Inhabited, same_or_less}
+use Rattle.at_wkt.proofs.Steps.{When, when_leads, no_blank, one_blanks}
 use Rattle.at_wkt.proofs.WordSteps.{Word, word_spelt, word_stuck}
 use Rattle.at_wkt.proofs.PositionSteps.{begins_number}
-use Rattle.at_wkt.proofs.ListSteps.{ItemLives, inhabited_lives, position_lives, position_inhabited, items_inhabited, ended_begins, ring_leads, bracket_leads, enclosed_leads}
-use Rattle.at_wkt.proofs.Lists.{brackets_same, parted_to}
+use Rattle.at_wkt.proofs.ListSteps.{position_lives, items_inhabited, ended_begins}
+use Rattle.at_wkt.proofs.Lists.{brackets_same}
 
 abbrev pub is_open : ℕ → Bool
 is_open b = b == 0x28

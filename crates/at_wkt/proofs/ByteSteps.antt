@@ -1,13 +1,13 @@
 -- What loops over bytes keep true.
-use Rattle.std.proofs.Common.{◌≡◌, ◌≢◌, ℕ, ◌+◌, ◌-◌, ◌<◌, ◌≤◌, ◌==◌, Bool, true, false, not, IsTrue, List, [], ◌∷◌, ◌++◌, length, take, slice_index, get_or, refl, sym, ◌∙◌, ap, subst, arith, append-nil, append_assoc, true≢false}
+use Rattle.std.proofs.Common.{◌≡◌, ◌≢◌, ℕ, ◌+◌, ◌-◌, ◌<◌, ◌≤◌, ◌==◌, Bool, true, false, not, List, [], ◌∷◌, ◌++◌, length, take, slice_index, sym, ◌∙◌, ap, subst, arith, true≢false}
 use Rattle.std.proofs.Math.Seq.{take-length}
 use Rattle.std.specs.Str.{str_to_ascii_uppercase}
 use Rattle.std.specs.Char.{to_ascii_uppercase}
 use native.Mathlib.Decide.{dec_lt}
 use Rattle.std.proofs.lemmas.List.{map-append, take_more, get_or_past, get_or_default}
 use Rattle.at_wkt.specs.Geometry.{is_blank}
-use Rattle.at_wkt.specs.Reading.{part, next, SkipsBlanks, Matches, WordStands, WordBreaks}
-use Rattle.at_wkt.proofs.Leads.{part-none, part-more}
+use Rattle.at_wkt.specs.Reading.{part, next, Matches, WordStands, WordBreaks}
+use Rattle.at_wkt.proofs.Leads.{part-more}
 use Rattle.at_wkt.proofs.Steps.{AreBlanks}
 
 pub next_in : (w : List ℕ) (j : ℕ) → j < length w → next w j ≡ slice_index w j

@@ -1,25 +1,23 @@
 -- What stands behind a head or a geometry within open collections, read on.
-use Rattle.std.proofs.Common.{◌≡◌, ◌≢◌, ℕ, zero, suc, ◌+◌, ◌-◌, ◌<◌, ◌≤◌, ◌⊎◌, inl, inr, Bool, true, false, not, ◌==◌, List, [], ◌∷◌, ◌++◌, length, codes, Option, Some, None, refl, sym, ◌∙◌, ap, subst, arith, true≢false, append-nil, append_assoc, length-append, lit≤}
+use Rattle.std.proofs.Common.{◌≡◌, ℕ, zero, suc, ◌+◌, ◌<◌, ◌≤◌, ◌⊎◌, inl, inr, Bool, true, false, List, [], ◌∷◌, ◌++◌, length, codes, Some, None, refl, sym, ◌∙◌, ap, arith, lit≤}
 use Rattle.std.specs.Str.{str_to_ascii_uppercase}
 use Rattle.std.specs.Char.{to_ascii_uppercase}
-use Rattle.at_text.specs.Parts.{Many, OneOrMore, Exactly, AnyCase, At, ◌▸◌}
+use Rattle.at_text.specs.Parts.{Many, Exactly, ◌▸◌}
 use Rattle.at_fixed.specs.declared.rounding.Coords.{Coords}
 use Rattle.at_wkt.specs.declared.dimension.Dimension.{Dimension}
-use Rattle.at_wkt.specs.declared.dimension.Dimension.TheVariants.{Open, Fixed}
+use Rattle.at_wkt.specs.declared.dimension.Dimension.TheVariants.{Open}
 use Rattle.at_wkt.specs.declared.kinds.Kind.{Kind}
 use Rattle.at_wkt.specs.declared.kinds.Kind.TheVariants.{Point, LineString, Polygon, MultiPoint, MultiLineString, MultiPolygon, GeometryCollection}
 use Rattle.at_wkt.specs.declared.kinds.Head.{Head}
-use Rattle.at_wkt.specs.Positions.{Position, Positions}
-use Rattle.at_wkt.specs.Geometry.{Geometry, point, collection, Geometries, no_geometries, geometry_and, is_blank, ◌‿◌, Letter, EmptyWord, SpellsGeometry, SpellsGeometries, SpellsFurtherGeometries, InBrackets, SpellsPoint, SpellsList, SpellsArea, EmptyOrParted, SpellsPointMember, SpellsRing}
-use Rattle.at_wkt.specs.Reading.{opens, part, next, Allows, Spelt, Stuck, Leads, SkipsBlanks, delimiter, Delimiter, WordStands, WordBreaks, HasCount, word_of, KindBreaks, LetterStands, HeadStands, Meaning, joined, no_meaning, Body, FurtherThen, meaning_of, meaning_of_all, After, Expected, EnclosedPosition}
-use Rattle.at_wkt.proofs.Leads.{part-none, part-one, part-length, offset, Begins, Inhabited, counts}
-use Rattle.at_wkt.proofs.Steps.{Then, Same, When, when_leads, same_leads, trans_leads, then_leads, then_stuck, fixed_leads, pad_leads, spelt_over, no_blank}
+use Rattle.at_wkt.specs.Geometry.{Geometry, point, collection, no_geometries, geometry_and, is_blank, SpellsGeometry, SpellsFurtherGeometries, SpellsPoint, SpellsList, SpellsArea, SpellsPointMember, SpellsRing}
+use Rattle.at_wkt.specs.Reading.{opens, next, Spelt, Stuck, Leads, SkipsBlanks, delimiter, Delimiter, HasCount, word_of, KindBreaks, HeadStands, Meaning, joined, no_meaning, Body, meaning_of, meaning_of_all, After, Expected, EnclosedPosition}
+use Rattle.at_wkt.proofs.Leads.{part-one, Begins, Inhabited}
+use Rattle.at_wkt.proofs.Steps.{Then, Same, When, when_leads, same_leads, trans_leads, then_leads, then_stuck, fixed_leads, pad_leads, no_blank}
 use Rattle.at_wkt.proofs.Lists.{to_left, to_right, behind}
-use Rattle.at_wkt.proofs.ListSteps.{leads_value}
-use Rattle.at_wkt.proofs.WordSteps.{KindWord, kind_spelt, kind_stuck, Word, word_spelt, word_stuck}
+use Rattle.at_wkt.proofs.WordSteps.{KindWord, kind_spelt, kind_stuck}
 use Rattle.at_wkt.proofs.LetterSteps.{Lettered, Encloses, letter_encloses}
-use Rattle.at_wkt.proofs.BodySteps.{is_open, is_shut, empty_first, choice_begins, point_choice, list_choice, parted_choice}
-use Rattle.at_wkt.proofs.GeometrySteps.{joined-assoc, joined-none, free_spelt, free_stuck, open_count, Spelling, further_split, further_join, Awaited, Behind, BodyAfter, expected_same, geometry_parts}
+use Rattle.at_wkt.proofs.BodySteps.{is_open, empty_first, choice_begins, point_choice, list_choice, parted_choice}
+use Rattle.at_wkt.proofs.GeometrySteps.{joined-assoc, free_spelt, free_stuck, open_count, Spelling, further_split, further_join, Awaited, Behind, BodyAfter, expected_same, geometry_parts}
 
 delimiter_no_blank : (last : Bool) → no_blank (delimiter last) ≡ true
 delimiter_no_blank true = refl

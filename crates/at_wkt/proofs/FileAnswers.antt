@@ -1,5 +1,5 @@
 -- The lines of a file counted piece by piece.
-use Rattle.std.proofs.Common.{◌≡◌, ◌≢◌, ℕ, ◌+◌, ◌-◌, ◌<◌, ◌≤◌, ◌==◌, ◌⊎◌, inl, inr, Bool, true, false, not, if◌then◌else◌, ◌&&◌, nat_lt, slice_index, List, [], ◌∷◌, ◌++◌, length, map, filter, take, drop, Option, Some, None, Result, Ok, Err, refl, sym, ◌∙◌, ap, subst, arith, true≢false, append-nil, append_assoc, length-append, length-take}
+use Rattle.std.proofs.Common.{◌≡◌, ℕ, ◌+◌, ◌-◌, ◌<◌, ◌≤◌, ◌==◌, inl, inr, Bool, true, false, not, if◌then◌else◌, ◌&&◌, nat_lt, slice_index, List, [], ◌∷◌, ◌++◌, length, map, filter, take, drop, Option, Some, None, Result, Ok, Err, refl, sym, ◌∙◌, ap, subst, arith, append-nil, append_assoc, length-append, length-take}
 use Rattle.std.specs.Result.{MatchResult, IsErrAnd}
 use Rattle.std.proofs.Math.Seq.{take-length}
 use Rattle.std.proofs.lemmas.List.{map-append, take_more}
@@ -12,8 +12,8 @@ use Rattle.at_wkt.specs.declared.answers.LineFault.{LineFault}
 use Rattle.at_wkt.specs.declared.answers.LineFault.TheVariants.{Found, Memory}
 use Rattle.at_wkt.specs.declared.files.Counted.{Counted}
 use Rattle.at_wkt.specs.Meaning.{faults_of}
-use Rattle.at_wkt.specs.Answers.{IfFound, SpellsLine, HasLineShape, HasFirstLineFault, unspelled, faulty}
-use Rattle.at_wkt.specs.Lines.{FileLine, without_return, line_of, is_blank_text, lines_in, lines_of, pieces_from, HasLineFaults, HaveLineFaults}
+use Rattle.at_wkt.specs.Answers.{IfFound, HasLineShape, HasFirstLineFault, unspelled, faulty}
+use Rattle.at_wkt.specs.Lines.{FileLine, without_return, line_of, is_blank_text, lines_in, lines_of, pieces_from, HaveLineFaults}
 use Rattle.at_wkt.specs.Files.{HasFaultBehind, HasFileFault}
 use Rattle.at_wkt.specs.Reading.{HasLineFault, Counts, file_answer}
 use Rattle.at_wkt.proofs.Exits.{first_of-append}

@@ -1,37 +1,28 @@
 -- What the functions that read geometries answer.
-use Rattle.std.proofs.Common.{◌≡◌, ◌≢◌, ℕ, zero, suc, ◌+◌, ◌-◌, ◌<◌, ◌≤◌, ◌⊎◌, inl, inr, Bool, true, false, not, ◌==◌, List, [], ◌∷◌, ◌++◌, length, map, flat_map, option_to_list, codes, Option, Some, None, Result, Ok, Err, refl, sym, ◌∙◌, ap, subst, arith, true≢false, append-nil, append_assoc, add-one}
+use Rattle.std.proofs.Common.{◌≡◌, ℕ, ◌≤◌, ◌⊎◌, inl, inr, true, false, not, ◌==◌, List, [], ◌∷◌, ◌++◌, length, map, flat_map, option_to_list, codes, Option, Some, None, Result, refl, sym, ◌∙◌, ap, subst, arith, append-nil}
 use Rattle.std.specs.Char.{to_ascii_uppercase}
 use Rattle.std.specs.Result.{MatchResult}
-use Rattle.std.proofs.lemmas.List.{map-append}
-use Rattle.std.proofs.lemmas.Grind.{flat_map-append}
 use Rattle.at_text.specs.declared.faults.Fault.{Fault}
-use Rattle.at_text.specs.Faults.{first_fault, first_of}
-use Rattle.at_text.specs.Parts.{At}
+use Rattle.at_text.specs.Faults.{first_of}
 use Rattle.at_fixed.specs.declared.rounding.Coords.{Coords}
 use Rattle.at_geom.specs.declared.positions.Pos.{Pos}
 use Rattle.at_geom.specs.declared.shapes.Polygon.{Polygon as PolygonOf}
 use Rattle.at_wkt.specs.declared.dimension.Dimension.{Dimension}
-use Rattle.at_wkt.specs.declared.dimension.Dimension.TheVariants.{Open}
 use Rattle.at_wkt.specs.declared.halts.Halt.{Halt}
 use Rattle.at_wkt.specs.declared.kinds.Kind.{Kind}
 use Rattle.at_wkt.specs.declared.kinds.Kind.TheVariants.{Point, LineString, Polygon, MultiPoint, MultiLineString, MultiPolygon, GeometryCollection}
 use Rattle.at_wkt.specs.declared.kinds.Head.{Head}
-use Rattle.at_wkt.specs.declared.positions.DelimiterRead.{DelimiterRead}
 use Rattle.at_wkt.specs.declared.parts.Read.{Read}
 use Rattle.at_wkt.specs.declared.geometries.Gathered.{Gathered}
-use Rattle.at_wkt.specs.declared.geometries.Progress.{Progress}
-use Rattle.at_wkt.specs.Positions.{Position, Positions, pos_of, path_of, position_faults, faults_of_line}
+use Rattle.at_wkt.specs.Positions.{pos_of, path_of, position_faults, faults_of_line}
 use Rattle.at_wkt.specs.Meaning.{present, shape_of, faults_of, polygons_of, faults_of_area}
-use Rattle.at_wkt.specs.Geometry.{Geometry, point, line_string, polygon, multi_point, multi_line_string, multi_polygon, collection, no_geometries, SpellsPoint, SpellsList, SpellsArea, EmptyOrParted, SpellsPointMember, EmptyWord, SpellsGeometries, geometry_and}
-use Rattle.at_wkt.specs.Reading.{part, next, Spelt, Stuck, Leads, SkipsBlanks, Delimiter, delimiter, is_delimiter, HasCount, IfStopped, HeadStands, KindBreaks, WordStands, WordBreaks, DelimiterStands, DelimiterBreaks, Meaning, joined, no_meaning, Body, meaning_of, After, Expected, Onward, Advances, BodyStands, StepStands, WholeStands, Gathers, PartStands, Grows, point_faults, added_point, line_faults, added_line}
+use Rattle.at_wkt.specs.Geometry.{Geometry, point, line_string, polygon, multi_point, multi_line_string, multi_polygon, collection, no_geometries, SpellsPoint, SpellsList, SpellsArea, EmptyOrParted, SpellsPointMember, geometry_and}
+use Rattle.at_wkt.specs.Reading.{next, Spelt, Stuck, HasCount, IfStopped, WordStands, WordBreaks, Body, BodyStands, PartStands, Grows, point_faults, added_point, line_faults, added_line}
 use Rattle.at_wkt.proofs.Leads.{Begins}
-use Rattle.at_wkt.proofs.Steps.{Same, When, when_leads, same_leads, spelt_over}
-use Rattle.at_wkt.proofs.ItemSteps.{delimiter_spelt, delimiter_stuck}
+use Rattle.at_wkt.proofs.Steps.{Same, When, when_leads, same_leads}
 use Rattle.at_wkt.proofs.WordSteps.{Word, word_spelt, word_stuck}
 use Rattle.at_wkt.proofs.BodySteps.{is_open, is_shut, empty_first}
-use Rattle.at_wkt.proofs.GeometrySteps.{joined-assoc, joined-none, Behind, Awaited, BodyAfter, open_count}
-use Rattle.at_wkt.proofs.CollectionSteps.{after_stuck, after_closes, after_goes_on, kind_broken, head_spelt, head_stuck, body_stuck, body_spelt, body_behind, opened_spelt, opened_stuck}
-use Rattle.at_wkt.proofs.Exits.{answers_by, first_of-append, first_fault-assoc}
+use Rattle.at_wkt.proofs.Exits.{answers_by}
 
 -- ---- what the members of a list give together
 

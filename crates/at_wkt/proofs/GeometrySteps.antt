@@ -1,26 +1,20 @@
 -- Geometries, collections of them, and what stands behind them.
-use Rattle.std.proofs.Common.{◌≡◌, ◌≢◌, ℕ, zero, suc, ◌+◌, ◌-◌, ◌<◌, ◌≤◌, ◌⊎◌, inl, inr, Bool, true, false, not, ◌==◌, List, [], ◌∷◌, ◌++◌, length, codes, Option, Some, None, refl, sym, ◌∙◌, ap, subst, arith, true≢false, append-nil, append_assoc, length-append, lit≤}
-use Rattle.std.specs.Char.{to_ascii_uppercase}
-use Rattle.at_text.specs.Parts.{Many, OneOrMore, Exactly, AnyCase, At, ◌▸◌}
+use Rattle.std.proofs.Common.{◌≡◌, ℕ, ◌+◌, true, List, [], ◌++◌, length, codes, refl, sym, ◌∙◌, ap, subst, arith, append-nil, append_assoc, lit≤}
+use Rattle.at_text.specs.Parts.{Many, Exactly, AnyCase, ◌▸◌}
 use Rattle.at_text.specs.declared.faults.Fault.{Fault}
 use Rattle.at_fixed.specs.declared.rounding.Coords.{Coords}
 use Rattle.at_geom.specs.declared.positions.Pos.{Pos}
 use Rattle.at_geom.specs.declared.shapes.Polygon.{Polygon as PolygonOf}
 use Rattle.at_wkt.specs.declared.dimension.Dimension.{Dimension}
-use Rattle.at_wkt.specs.declared.dimension.Dimension.TheVariants.{Open, Fixed}
+use Rattle.at_wkt.specs.declared.dimension.Dimension.TheVariants.{Open}
 use Rattle.at_wkt.specs.declared.kinds.Kind.{Kind}
 use Rattle.at_wkt.specs.declared.kinds.Kind.TheVariants.{Point, LineString, Polygon, MultiPoint, MultiLineString, MultiPolygon, GeometryCollection}
-use Rattle.at_wkt.specs.declared.kinds.Head.{Head}
-use Rattle.at_wkt.specs.Positions.{Position, Positions}
-use Rattle.at_wkt.specs.Geometry.{Geometry, point, line_string, polygon, multi_point, multi_line_string, multi_polygon, collection, Geometries, no_geometries, geometry_and, is_blank, ◌‿◌, Letter, EmptyWord, SpellsGeometry, SpellsGeometries, SpellsFurtherGeometries, InBrackets}
-use Rattle.at_wkt.specs.Meaning.{empty_shape}
-use Rattle.at_wkt.specs.Reading.{opens, part, next, Allows, Spelt, Stuck, Leads, SkipsBlanks, delimiter, Delimiter, WordStands, WordBreaks, HasCount, word_of, KindBreaks, LetterStands, HeadStands, Meaning, joined, no_meaning, Body, FurtherThen, meaning_of, meaning_of_all, After, Expected}
-use Rattle.at_wkt.proofs.Leads.{part-none, part-one, part-length, offset, Begins, Inhabited, counts}
-use Rattle.at_wkt.proofs.Steps.{Then, Same, When, when_leads, same_leads, trans_leads, then_leads, then_stuck, fixed_leads, pad_leads, spelt_over, no_blank}
+use Rattle.at_wkt.specs.Geometry.{Geometry, point, line_string, polygon, multi_point, multi_line_string, multi_polygon, collection, Geometries, no_geometries, geometry_and, is_blank, Letter, SpellsGeometry, SpellsFurtherGeometries}
+use Rattle.at_wkt.specs.Reading.{Spelt, Stuck, Delimiter, HasCount, word_of, Meaning, joined, no_meaning, Body, FurtherThen, meaning_of, After, Expected}
+use Rattle.at_wkt.proofs.Steps.{Then, Same}
 use Rattle.at_wkt.proofs.Lists.{to_left, to_right, behind}
-use Rattle.at_wkt.proofs.WordSteps.{KindWord, kind_spelt, kind_stuck, Word}
-use Rattle.at_wkt.proofs.LetterSteps.{Lettered, Encloses, letter_encloses}
-use Rattle.at_wkt.proofs.BodySteps.{is_open, is_shut, empty_first, choice_begins, point_choice, list_choice, parted_choice}
+use Rattle.at_wkt.proofs.WordSteps.{KindWord}
+use Rattle.at_wkt.proofs.LetterSteps.{Lettered}
 
 -- ---- meanings
 

@@ -1,18 +1,18 @@
 -- Items with their delimiters, one behind another, in brackets.
-use Rattle.std.proofs.Common.{◌≡◌, ◌≢◌, ℕ, zero, suc, ◌+◌, ◌-◌, ◌<◌, ◌≤◌, ◌⊎◌, inl, inr, Bool, true, false, not, ◌&&◌, ◌||◌, ◌==◌, nat_le, nat_lt, IsTrue, List, [], ◌∷◌, ◌++◌, length, take, drop, codes, Option, Some, None, refl, sym, ◌∙◌, ap, subst, arith, append-nil, append_assoc, length-append, true≢false, lit≤, lit<}
+use Rattle.std.proofs.Common.{◌≡◌, ℕ, ◌+◌, ◌<◌, ◌≤◌, inl, inr, Bool, true, false, ◌==◌, List, [], ◌∷◌, ◌++◌, length, refl, sym, ◌∙◌, ap, subst, arith, append_assoc, true≢false, lit≤}
 use Rattle.std.proofs.lemmas.List.{append_cancel_left}
-use Rattle.at_text.specs.Parts.{Many, OneOrMore, Exactly, At, ◌▸◌}
+use Rattle.at_text.specs.Parts.{OneOrMore, At, ◌▸◌}
 use Rattle.at_fixed.specs.Numerals.{Numeral}
 use Rattle.at_wkt.specs.declared.dimension.Dimension.{Dimension}
 use Rattle.at_wkt.specs.declared.dimension.Dimension.TheVariants.{Open, Fixed}
-use Rattle.at_wkt.specs.Positions.{Position, Positions}
-use Rattle.at_wkt.specs.Geometry.{is_blank, ◌‿◌, SpellsNumber, SpellsFurther, SpellsPosition, InBrackets, Parted, SpellsRing}
-use Rattle.at_wkt.specs.Reading.{part, next, allows, allows_more, Allows, Spelt, Stuck, Leads, SkipsBlanks, NumberStands, NumberBreaks, NumberSkips, delimiter, Delimiter, Item, Items, FurtherNumbers, is_delimiter, Reaches}
-use Rattle.at_wkt.proofs.Leads.{part-none, part-one, part-more, part-place, part-length, part-part, offset, Ahead, Begins, Inhabited, append_cases, same_length, leads_plain, leads_ahead, counts, ahead_stuck, same_or_less}
-use Rattle.at_wkt.proofs.Steps.{Then, Same, same_leads, trans_leads, then_leads, then_stuck, fixed_leads, pad_leads, gap_leads, no_blank, AreBlanks, one_blanks, not_blank, spelt_over, Over}
-use Rattle.at_wkt.proofs.NumberSteps.{Number, stops_number, number_leads, number_stuck}
-use Rattle.at_wkt.proofs.Lists.{to_left, to_right, behind, Rest, items_same, brackets_same, Opened}
-use Rattle.at_wkt.proofs.PositionSteps.{begins_number, number_first, number_begins, nought, nought_numeral, further_begins, further_inhabited, further_agrees, further_dead}
+use Rattle.at_wkt.specs.Positions.{Position}
+use Rattle.at_wkt.specs.Geometry.{is_blank, SpellsNumber, SpellsFurther, SpellsPosition}
+use Rattle.at_wkt.specs.Reading.{part, next, allows, allows_more, Allows, Spelt, Stuck, SkipsBlanks, delimiter, Delimiter, FurtherNumbers, is_delimiter, Reaches}
+use Rattle.at_wkt.proofs.Leads.{part-none, part-more, Ahead, counts}
+use Rattle.at_wkt.proofs.Steps.{Then, Same, no_blank, AreBlanks, one_blanks}
+use Rattle.at_wkt.proofs.NumberSteps.{Number}
+use Rattle.at_wkt.proofs.Lists.{to_left, to_right, behind}
+use Rattle.at_wkt.proofs.PositionSteps.{further_agrees, further_dead}
 
 -- ---- counts of numbers
 

@@ -1,12 +1,10 @@
 -- How what a text spells from a place on follows from what it spells from a later place on.
-use Rattle.std.proofs.Common.{◌≡◌, ◌≢◌, ℕ, zero, suc, ◌+◌, ◌-◌, ◌<◌, ◌≤◌, ◌⊎◌, inl, inr, Bool, true, false, IsTrue, List, [], ◌∷◌, ◌++◌, length, take, drop, get_or, refl, sym, ◌∙◌, ap, subst, arith, add-one, take-suc, append-nil, append_assoc, length-append, length-take, length-drop, take-append-drop, take-take}
-use Rattle.std.specs.List.{AllByRecursion}
+use Rattle.std.proofs.Common.{◌≡◌, ℕ, ◌+◌, ◌<◌, ◌≤◌, ◌⊎◌, inl, inr, Bool, true, List, [], ◌∷◌, ◌++◌, length, take, drop, refl, sym, ◌∙◌, ap, subst, arith, add-one, take-suc, append_assoc, length-append, length-take, length-drop, take-append-drop, take-take}
 use native.Mathlib.Decide.{dec_lt}
 use Rattle.std.proofs.lemmas.List.{drop-append-le, drop_all, append_cancel_left}
-use Rattle.at_text.specs.Parts.{Many, OneOrMore, ◌▸◌}
 use Rattle.at_wkt.specs.declared.dimension.Dimension.{Dimension}
 use Rattle.at_wkt.specs.declared.dimension.Dimension.TheVariants.{Open, Fixed}
-use Rattle.at_wkt.specs.Reading.{part, next, Allows, Spelt, Stuck, Leads}
+use Rattle.at_wkt.specs.Reading.{part, next, Allows, Spelt, Leads}
 
 -- ---- parts of a list
 

@@ -1,14 +1,14 @@
 -- The letter behind a kind's word: which counts of numbers it allows, whatever the blanks on either side of it.
-use Rattle.std.proofs.Common.{◌≡◌, ◌≢◌, ℕ, zero, suc, ◌+◌, ◌-◌, ◌<◌, ◌≤◌, ◌⊎◌, inl, inr, Bool, true, false, not, ◌&&◌, ◌||◌, ◌==◌, IsTrue, List, [], ◌∷◌, ◌++◌, length, map, take, drop, codes, refl, sym, ◌∙◌, ap, subst, arith, append-nil, append_assoc, length-append, true≢false, lit≤, lit<}
+use Rattle.std.proofs.Common.{◌≡◌, ℕ, ◌+◌, ◌<◌, ◌≤◌, ◌⊎◌, inl, inr, true, false, ◌==◌, List, [], ◌∷◌, ◌++◌, length, refl, sym, ◌∙◌, ap, subst, arith, append_assoc, length-append, lit≤}
 use Rattle.std.specs.Str.{str_to_ascii_uppercase}
 use Rattle.std.specs.Char.{to_ascii_uppercase}
 use Rattle.std.proofs.lemmas.List.{append_cancel_left}
-use Rattle.at_text.specs.Parts.{Many, OneOrMore, Exactly, AnyCase, At, ◌▸◌}
+use Rattle.at_text.specs.Parts.{Many, ◌▸◌}
 use Rattle.at_wkt.specs.declared.dimension.Dimension.{Dimension}
 use Rattle.at_wkt.specs.declared.dimension.Dimension.TheVariants.{Open, Fixed}
 use Rattle.at_wkt.specs.Geometry.{is_blank, Letter}
 use Rattle.at_wkt.specs.Reading.{opens, part, next, Allows, Spelt, Stuck, SkipsBlanks, LetterAt, LetterStands}
-use Rattle.at_wkt.proofs.Leads.{part-none, part-one, part-more, part-length, part-part, part-cons, offset, Ahead, ahead_stuck, Begins, Inhabited, append_cases, same_length, counts, same_or_less}
+use Rattle.at_wkt.proofs.Leads.{part-none, part-one, part-length, part-part, part-cons, Ahead, ahead_stuck, Begins, same_or_less}
 use Rattle.at_wkt.proofs.Steps.{no_blank, AreBlanks, one_blanks, not_blank}
 use Rattle.at_wkt.proofs.WordSteps.{opens_no_blank, letter_no_blank, opens_no_letter, blank_no_letter, stream, one_letter, two_letters}
 

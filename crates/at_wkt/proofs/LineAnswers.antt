@@ -1,16 +1,13 @@
 -- What reading a whole text, or a line, answers.
-use Rattle.std.proofs.Common.{◌≡◌, ◌≢◌, ℕ, zero, suc, ◌+◌, ◌-◌, ◌<◌, ◌≤◌, ◌⊎◌, inl, inr, Bool, true, false, not, List, [], ◌∷◌, ◌++◌, length, take, drop, Option, Some, None, is_none, Result, Ok, Err, refl, sym, ◌∙◌, ap, subst, arith, true≢false, append-nil, append_assoc, length-append, take-append-drop, length-take-le, nat_lt, if◌then◌else◌}
+use Rattle.std.proofs.Common.{◌≡◌, ℕ, zero, ◌+◌, ◌<◌, ◌≤◌, List, [], ◌∷◌, ◌++◌, length, take, drop, Option, Some, None, is_none, Result, Ok, Err, refl, sym, ◌∙◌, ap, subst, arith, append-nil, append_assoc, take-append-drop, length-take-le, if◌then◌else◌}
 use native.Mathlib.Decide.{dec_lt}
 use Rattle.std.proofs.Math.Seq.{take-length}
 use Rattle.std.proofs.lemmas.List.{append_cancel_left, get_or_past}
 use Rattle.at_text.specs.declared.faults.Fault.{Fault}
 use Rattle.at_text.specs.Faults.{first_fault, first_of}
-use Rattle.at_text.specs.Parts.{Many, ◌▸◌}
-use Rattle.at_text.specs.Prefix.{Viable, LongestViable}
 use Rattle.at_text.specs.Syntax.{IsSyntaxFault, stop_fault}
 use Rattle.at_fixed.specs.declared.rounding.Coords.{Coords}
 use Rattle.at_geom.specs.declared.shapes.Shape.{Shape}
-use Rattle.at_wkt.specs.declared.dimension.Dimension.{Dimension}
 use Rattle.at_wkt.specs.declared.dimension.Dimension.TheVariants.{Open}
 use Rattle.std.specs.Result.{MatchResult}
 use Rattle.at_wkt.specs.declared.answers.Prefix.{Prefix}
@@ -19,13 +16,13 @@ use Rattle.at_wkt.specs.declared.answers.LineFault.TheVariants.{Found}
 use Rattle.at_wkt.specs.declared.halts.Halt.{Halt}
 use Rattle.at_wkt.specs.declared.halts.Halt.TheVariants.{At, Memory as NoMemory}
 use Rattle.at_wkt.specs.declared.geometries.Gathered.{Gathered}
-use Rattle.at_wkt.specs.Meaning.{shape_of, faults_of, empty_shape}
-use Rattle.at_wkt.specs.Geometry.{Geometry, is_blank, SpellsGeometry, IsLineOf, WktGeometry, WktLine}
+use Rattle.at_wkt.specs.Meaning.{empty_shape}
+use Rattle.at_wkt.specs.Geometry.{Geometry, SpellsGeometry, IsLineOf, WktLine}
 use Rattle.at_wkt.specs.Answers.{IsPrefixOf, IsPrefixFault, SpellsLine, IfFound, HasFirstLineFault, unspelled, faulty, HasLineShape}
-use Rattle.at_wkt.specs.Reading.{part, next, Spelt, Stuck, SkipsBlanks, Meaning, joined, no_meaning, meaning_of, After, Expected, WholeStands, Gathers, IfStopped, refusal, gathered_shape, kept_shape, line_answer, LineStops}
-use Rattle.at_wkt.proofs.Leads.{part-none, part-one, part-more, part-length, part-part, part-cons, Ahead, ahead_stuck, same_or_less, append_cases}
-use Rattle.at_wkt.proofs.Steps.{no_blank, AreBlanks, one_blanks, not_blank, blank_at}
-use Rattle.at_wkt.proofs.GeometrySteps.{Awaited, joined-none, open_count}
+use Rattle.at_wkt.specs.Reading.{part, next, Spelt, Stuck, SkipsBlanks, Meaning, joined, no_meaning, meaning_of, Expected, Gathers, IfStopped, refusal, gathered_shape, kept_shape, line_answer, LineStops}
+use Rattle.at_wkt.proofs.Leads.{part-more, part-length, part-part, part-cons, Ahead, ahead_stuck, same_or_less}
+use Rattle.at_wkt.proofs.Steps.{AreBlanks, one_blanks, not_blank, blank_at}
+use Rattle.at_wkt.proofs.GeometrySteps.{Awaited, joined-none}
 use Rattle.at_wkt.proofs.CollectionSteps.{geometry_first}
 
 -- the whole text, with what stands at its end, goes on from a place with its byte

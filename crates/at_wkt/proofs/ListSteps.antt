@@ -1,21 +1,17 @@
 -- Positions and items read on, lists of them in brackets, and the word EMPTY.
-use Rattle.std.proofs.Common.{◌≡◌, ◌≢◌, ℕ, zero, suc, ◌+◌, ◌-◌, ◌<◌, ◌≤◌, ◌⊎◌, inl, inr, Bool, true, false, not, ◌&&◌, ◌||◌, ◌==◌, IsTrue, List, [], ◌∷◌, ◌++◌, length, map, take, drop, slice_index, codes, Option, Some, None, refl, sym, ◌∙◌, ap, subst, arith, append-nil, append_assoc, length-append, length-take, true≢false, lit≤, lit<}
-use Rattle.std.specs.Str.{str_to_ascii_uppercase}
-use Rattle.std.specs.Char.{to_ascii_uppercase}
-use Rattle.std.proofs.lemmas.List.{append_cancel_left}
-use Rattle.at_text.specs.Parts.{Many, OneOrMore, Exactly, AnyCase, At, ◌▸◌}
+use Rattle.std.proofs.Common.{◌≡◌, ◌≢◌, ℕ, ◌+◌, ◌-◌, ◌<◌, ◌≤◌, ◌⊎◌, inl, inr, Bool, true, false, List, [], ◌∷◌, ◌++◌, length, codes, refl, sym, ◌∙◌, ap, subst, arith, append-nil, append_assoc, length-append, true≢false}
+use Rattle.at_text.specs.Parts.{Exactly}
 use Rattle.at_fixed.specs.Numerals.{Numeral}
 use Rattle.at_wkt.specs.declared.dimension.Dimension.{Dimension}
-use Rattle.at_wkt.specs.declared.dimension.Dimension.TheVariants.{Open, Fixed}
-use Rattle.at_wkt.specs.Positions.{Position, Positions}
-use Rattle.at_wkt.specs.Geometry.{is_blank, ◌‿◌, SpellsNumber, SpellsFurther, SpellsPosition, InBrackets, Parted, EmptyWord, EmptyOrParted, SpellsRing, SpellsList, SpellsPoint, SpellsPointMember, SpellsArea}
-use Rattle.at_wkt.specs.Reading.{part, next, allows, allows_more, Allows, Spelt, Stuck, Leads, SkipsBlanks, NumberStands, NumberBreaks, NumberSkips, delimiter, Delimiter, Item, Items, RestOf, ItemsRead, FurtherNumbers, is_delimiter, Reaches, WordStands, WordBreaks}
-use Rattle.at_wkt.proofs.Leads.{part-none, part-one, part-more, part-place, part-length, part-part, offset, Ahead, Begins, Inhabited, append_cases, same_length, leads_plain, leads_ahead, counts, ahead_stuck, same_or_less}
-use Rattle.at_wkt.proofs.Steps.{Then, Same, When, when_leads, same_leads, trans_leads, then_leads, then_stuck, fixed_leads, pad_leads, gap_leads, stuck_first, no_blank, AreBlanks, one_blanks, not_blank, spelt_over, Over}
-use Rattle.at_wkt.proofs.NumberSteps.{Number, stops_number, number_leads, number_stuck}
-use Rattle.at_wkt.proofs.Lists.{to_left, to_right, behind, Rest, items_same, brackets_same, Opened}
-use Rattle.at_wkt.proofs.PositionSteps.{begins_number, number_first, number_begins, nought, nought_numeral, further_begins, further_inhabited, further_lives}
-use Rattle.at_wkt.proofs.ItemSteps.{Gap, SecondNumber, TwoNumbers, position_of, EndedPosition, position_same, delimiter_same}
+use Rattle.at_wkt.specs.Positions.{Position}
+use Rattle.at_wkt.specs.Geometry.{is_blank, SpellsPosition, InBrackets, Parted, SpellsRing}
+use Rattle.at_wkt.specs.Reading.{part, next, Allows, Spelt, Stuck, Leads, SkipsBlanks, NumberStands, NumberBreaks, delimiter, Delimiter, Item, Items, ItemsRead, FurtherNumbers}
+use Rattle.at_wkt.proofs.Leads.{part-one, part-more, Begins, Inhabited, same_length}
+use Rattle.at_wkt.proofs.Steps.{Then, same_leads, trans_leads, then_leads, then_stuck, fixed_leads, pad_leads, gap_leads, stuck_first, no_blank, AreBlanks, spelt_over}
+use Rattle.at_wkt.proofs.NumberSteps.{stops_number, number_leads, number_stuck}
+use Rattle.at_wkt.proofs.Lists.{Rest, items_same, brackets_same, Opened}
+use Rattle.at_wkt.proofs.PositionSteps.{begins_number, number_begins, nought, nought_numeral, further_begins, further_inhabited, further_lives}
+use Rattle.at_wkt.proofs.ItemSteps.{Gap, SecondNumber, TwoNumbers, position_of, EndedPosition, position_same}
 
 -- ---- a position
 

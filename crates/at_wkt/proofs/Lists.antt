@@ -1,11 +1,9 @@
 -- Items in brackets, one after another.
-use Rattle.std.proofs.Common.{◌≡◌, ◌≢◌, ℕ, zero, suc, ◌+◌, ◌-◌, ◌<◌, ◌≤◌, ◌⊎◌, inl, inr, Bool, true, false, not, IsTrue, List, [], ◌∷◌, ◌++◌, length, codes, refl, sym, ◌∙◌, ap, subst, arith, append-nil, append_assoc, length-append, true≢false}
-use Rattle.at_text.specs.Parts.{Many, OneOrMore, Exactly, ◌▸◌}
-use Rattle.at_wkt.specs.declared.dimension.Dimension.{Dimension}
+use Rattle.std.proofs.Common.{◌≡◌, ℕ, ◌+◌, Bool, true, false, List, [], ◌∷◌, ◌++◌, length, codes, refl, sym, ◌∙◌, ap, subst, arith, append-nil, append_assoc, length-append}
+use Rattle.at_text.specs.Parts.{Many, Exactly, ◌▸◌}
 use Rattle.at_wkt.specs.Geometry.{is_blank, ◌‿◌, InBrackets, Parted}
-use Rattle.at_wkt.specs.Reading.{part, next, Allows, Spelt, Stuck, Leads, delimiter, Delimiter, Item, Items, RestOf}
-use Rattle.at_wkt.proofs.Leads.{Begins, Inhabited}
-use Rattle.at_wkt.proofs.Steps.{Then, Over, Same, same_leads, then_leads, then_stuck, trans_leads, spelt_over}
+use Rattle.at_wkt.specs.Reading.{Delimiter, Item, Items, RestOf}
+use Rattle.at_wkt.proofs.Steps.{Then, Same}
 
 -- ---- parts regrouped
 

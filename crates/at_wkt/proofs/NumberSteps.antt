@@ -1,21 +1,21 @@
 -- Numbers in a text: a number stands as far as the longest beginning of one, where a byte that no number has stands behind it.
-use Rattle.std.proofs.Common.{◌≡◌, ◌≢◌, ℕ, zero, suc, ◌+◌, ◌-◌, ◌<◌, ◌≤◌, ◌⊎◌, inl, inr, Bool, true, false, not, ◌&&◌, ◌||◌, ◌==◌, IsTrue, List, [], ◌∷◌, ◌++◌, length, take, drop, get_or, Option, Some, None, IfSome, is_some, Result, ℤ, refl, sym, ◌∙◌, ap, subst, arith, add-one, take-suc, append-nil, append_assoc, length-append, length-drop, true≢false}
+use Rattle.std.proofs.Common.{◌≡◌, ℕ, ◌+◌, ◌-◌, ◌≤◌, inl, inr, Bool, true, false, not, ◌||◌, IsTrue, List, [], ◌∷◌, ◌++◌, length, take, drop, Option, Some, None, IfSome, is_some, Result, ℤ, refl, sym, ◌∙◌, ap, subst, arith, append_assoc, length-drop, true≢false}
 use native.Mathlib.Decide.{dec_lt}
 use Rattle.std.specs.List.{AllByRecursion}
 use Rattle.std.proofs.lemmas.List.{drop-take, get_or_past, take_rest}
 use Rattle.std.proofs.lemmas.Option.{none-some, same_Some}
 use Rattle.at_text.specs.Texts.{is_digit, is_one_of}
-use Rattle.at_text.specs.Prefix.{Viable, LongestViable, TakesLongest}
+use Rattle.at_text.specs.Prefix.{LongestViable, TakesLongest}
 use Rattle.at_fixed.specs.declared.notation.Notation.TheVariants.{Wkt}
 use Rattle.at_fixed.specs.declared.rounding.Coords.{Coords}
 use Rattle.at_fixed.specs.declared.rounding.FixedFault.{FixedFault}
 use Rattle.at_fixed.specs.Fixed.{fixed_of, IsFixedOf}
-use Rattle.at_text.specs.Parts.{Many, OneOrMore, At, ◌▸◌}
+use Rattle.at_text.specs.Parts.{At}
 use Rattle.at_fixed.specs.Numerals.{Exponent, Numeral, fraction_text, exponent_text, numeral_text, IsAtMostOneOf, AreDigits, AreSomeDigits, IsExponent, AreWktDigits, IsWktNumeral, WktNumber, NumberOf, SpellsNumeral}
 use Rattle.at_wkt.specs.declared.dimension.Dimension.{Dimension}
-use Rattle.at_wkt.specs.Geometry.{is_blank, SpellsNumber}
-use Rattle.at_wkt.specs.Reading.{part, next, Allows, Spelt, Stuck, Leads, NumberStands, NumberBreaks, NumberSkips}
-use Rattle.at_wkt.proofs.Leads.{part-none, part-one, part-more, part-place, part-length, offset, Ahead, Begins, Inhabited, append_cases, leads_ahead, counts, ahead_stuck, same_or_less}
+use Rattle.at_wkt.specs.Geometry.{SpellsNumber}
+use Rattle.at_wkt.specs.Reading.{part, next, Allows, Stuck, Leads, NumberStands, NumberBreaks, NumberSkips}
+use Rattle.at_wkt.proofs.Leads.{part-more, offset, Ahead, Begins, Inhabited, append_cases, leads_ahead, counts}
 use Rattle.at_wkt.proofs.Steps.{Then}
 
 -- the bytes that numbers have

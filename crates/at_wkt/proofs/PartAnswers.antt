@@ -1,30 +1,28 @@
 -- What the functions that read parts in brackets answer.
-use Rattle.std.proofs.Common.{◌≡◌, ◌≢◌, ℕ, ◌+◌, ◌-◌, ◌<◌, ◌≤◌, ◌⊎◌, inl, inr, Bool, true, false, not, ◌==◌, List, [], ◌∷◌, ◌++◌, length, map, flat_map, codes, Option, Some, None, Result, Ok, Err, refl, sym, ◌∙◌, ap, subst, arith, true≢false, append-nil, append_assoc, length-append}
+use Rattle.std.proofs.Common.{◌≡◌, ℕ, ◌+◌, ◌-◌, ◌<◌, ◌≤◌, Bool, true, false, ◌==◌, List, [], ◌∷◌, ◌++◌, length, map, flat_map, codes, Some, None, Result, refl, sym, ◌∙◌, ap, subst, arith, append-nil, append_assoc}
 use native.Mathlib.Decide.{dec_lt}
 use Rattle.std.proofs.lemmas.List.{get_or_past}
 use Rattle.std.specs.Result.{MatchResult}
 use Rattle.at_text.specs.declared.faults.Fault.{Fault}
-use Rattle.at_text.specs.Faults.{first_fault, first_of}
-use Rattle.at_fixed.specs.declared.rounding.Coords.{Coords}
+use Rattle.at_text.specs.Faults.{first_of}
 use Rattle.at_geom.specs.declared.positions.Pos.{Pos}
 use Rattle.at_geom.specs.declared.shapes.Polygon.{Polygon as PolygonOf}
 use Rattle.at_wkt.specs.declared.dimension.Dimension.{Dimension}
 use Rattle.at_wkt.specs.declared.halts.Halt.{Halt}
 use Rattle.at_wkt.specs.declared.rules.Rules.{Rules}
 use Rattle.at_wkt.specs.declared.positions.PositionRead.{PositionRead}
-use Rattle.at_wkt.specs.declared.positions.DelimiterRead.{DelimiterRead}
 use Rattle.at_wkt.specs.declared.paths.PathRead.{PathRead}
 use Rattle.at_wkt.specs.declared.paths.Role.{Role}
 use Rattle.at_wkt.specs.declared.parts.Read.{Read}
 use Rattle.at_wkt.specs.declared.parts.ItemRead.{ItemRead}
-use Rattle.at_wkt.specs.Positions.{Position, Positions, pos_of, position_faults, path_of, faults_of_ring}
+use Rattle.at_wkt.specs.Positions.{Position, Positions, position_faults, path_of, faults_of_ring}
 use Rattle.at_wkt.specs.Meaning.{polygons_of, faults_of_area}
 use Rattle.at_wkt.specs.Geometry.{SpellsPosition, SpellsRing, SpellsPoint, SpellsPointMember, EmptyOrParted}
-use Rattle.at_wkt.specs.Reading.{part, next, Allows, Spelt, Stuck, Leads, SkipsBlanks, delimiter, Delimiter, is_delimiter, Item, Items, HasCount, WordStands, WordBreaks, DelimiterStands, DelimiterBreaks, IfStopped, opens, PositionStands, PathStands, PartStands, ItemStands, ItemsSoFar, Grows, EnclosedPosition, added_position, added_path, added_point, point_faults, faults_of_path}
-use Rattle.at_wkt.proofs.Leads.{part-none, part-length, part-part, part-cons, Begins, Inhabited, counts}
+use Rattle.at_wkt.specs.Reading.{part, next, Spelt, Stuck, SkipsBlanks, Delimiter, Item, Items, HasCount, WordStands, WordBreaks, DelimiterStands, DelimiterBreaks, IfStopped, opens, PositionStands, PathStands, PartStands, ItemStands, ItemsSoFar, Grows, EnclosedPosition, added_position, added_path, added_point, point_faults, faults_of_path}
+use Rattle.at_wkt.proofs.Leads.{part-part, part-cons, Begins, counts}
 use Rattle.at_wkt.proofs.Steps.{no_blank, AreBlanks, blank_at, not_blank, stuck_first, when_leads}
 use Rattle.at_wkt.proofs.ItemSteps.{delimiter_spelt, delimiter_stuck}
-use Rattle.at_wkt.proofs.ListSteps.{ItemLives, item_stuck, item_spelt, item_unended, bracket_leads, enclosed_leads, last_spelt, last_stuck, comma_stuck, position_inhabited, ended_begins, inhabited_lives}
+use Rattle.at_wkt.proofs.ListSteps.{item_stuck, item_spelt, item_unended, bracket_leads, enclosed_leads, last_spelt, last_stuck, comma_stuck, position_inhabited, ended_begins}
 use Rattle.at_wkt.proofs.PositionSteps.{begins_number}
 use Rattle.at_wkt.proofs.BodySteps.{Choice, is_open, choice_open, choice_empty, choice_broken, choice_begins, parted_choice, point_choice, Bracketed, ring_begins, ring_inhabited, member_when, member_begins, bare_spelt, bare_stuck}
 use Rattle.at_wkt.proofs.PathAnswers.{so_far_end}

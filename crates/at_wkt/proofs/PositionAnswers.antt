@@ -1,5 +1,5 @@
 -- What the functions that read positions answer.
-use Rattle.std.proofs.Common.{◌≡◌, ◌≢◌, ℕ, ◌+◌, ◌<◌, ◌≤◌, ◌⊎◌, inl, inr, Bool, true, false, ◌-◌, List, [], ◌∷◌, ◌++◌, length, Option, Result, Ok, Err, refl, sym, ◌∙◌, ap, subst, arith, true≢false}
+use Rattle.std.proofs.Common.{◌≡◌, ◌≢◌, ℕ, ◌+◌, ◌<◌, ◌≤◌, true, false, ◌-◌, List, length, Option, Result, sym, ◌∙◌, ap, subst, arith, true≢false}
 use native.Mathlib.Decide.{dec_lt}
 use Rattle.std.proofs.lemmas.List.{get_or_past}
 use Rattle.std.specs.Result.{MatchResult}
@@ -8,19 +8,16 @@ use Rattle.at_text.specs.Faults.{first_fault, first_of}
 use Rattle.at_fixed.specs.Numerals.{Numeral}
 use Rattle.at_geom.specs.declared.positions.Pos.{Pos}
 use Rattle.at_wkt.specs.declared.dimension.Dimension.{Dimension}
-use Rattle.at_wkt.specs.declared.dimension.Dimension.TheVariants.{Open, Fixed}
+use Rattle.at_wkt.specs.declared.dimension.Dimension.TheVariants.{Fixed}
 use Rattle.at_wkt.specs.declared.halts.Halt.{Halt}
 use Rattle.at_wkt.specs.declared.rules.Rules.{Rules}
 use Rattle.at_wkt.specs.declared.numbers.Coordinate.{Coordinate}
 use Rattle.at_wkt.specs.declared.positions.NumbersRead.{NumbersRead}
-use Rattle.at_wkt.specs.declared.positions.PositionRead.{PositionRead}
-use Rattle.at_wkt.specs.Positions.{Position, value_of, number_fault, pos_of, position_faults}
-use Rattle.at_wkt.specs.Geometry.{SpellsPosition}
-use Rattle.at_wkt.specs.Reading.{part, next, allows, allows_more, Allows, Spelt, Stuck, Leads, SkipsBlanks, NumberStands, NumberBreaks, NumberSkips, delimiter, is_delimiter, Item, FurtherNumbers, Reaches, HasCount, IfStopped, IsCoordinate, PositionStands}
-use Rattle.at_wkt.proofs.Leads.{counts}
+use Rattle.at_wkt.specs.Positions.{value_of, number_fault}
+use Rattle.at_wkt.specs.Reading.{next, allows, allows_more, Spelt, Stuck, Leads, SkipsBlanks, NumberStands, NumberBreaks, NumberSkips, delimiter, is_delimiter, FurtherNumbers, Reaches, IfStopped, IsCoordinate, PositionStands}
 use Rattle.at_wkt.proofs.Steps.{trans_leads}
-use Rattle.at_wkt.proofs.PositionSteps.{further_begins, further_leads, skip_leads, skip_stuck, further_lives, Skipped}
-use Rattle.at_wkt.proofs.ItemSteps.{further_spelt, further_few, further_joined, further_many, allows_by, more_by}
+use Rattle.at_wkt.proofs.PositionSteps.{further_begins, further_leads, skip_leads, skip_stuck, further_lives}
+use Rattle.at_wkt.proofs.ItemSteps.{further_spelt, further_few, allows_by, more_by}
 use Rattle.at_wkt.proofs.ListSteps.{position_further}
 use Rattle.at_wkt.proofs.Exits.{answers_by, first_of-append}
 

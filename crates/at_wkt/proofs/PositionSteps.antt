@@ -1,20 +1,15 @@
 -- Positions: two numbers, further ones, and the delimiter behind them.
-use Rattle.std.proofs.Common.{◌≡◌, ◌≢◌, ℕ, zero, suc, ◌+◌, ◌-◌, ◌<◌, ◌≤◌, ◌⊎◌, inl, inr, Bool, true, false, not, ◌&&◌, ◌||◌, ◌==◌, IsTrue, List, [], ◌∷◌, ◌++◌, length, take, drop, codes, Option, Some, None, IfSome, refl, sym, ◌∙◌, ap, subst, arith, append-nil, append_assoc, length-append, true≢false, lit≤, lit<}
-use Rattle.std.specs.List.{AllByRecursion}
+use Rattle.std.proofs.Common.{◌≡◌, ◌≢◌, ℕ, zero, suc, ◌+◌, ◌-◌, ◌<◌, ◌⊎◌, inl, inr, Bool, true, false, ◌||◌, List, [], ◌∷◌, ◌++◌, length, codes, Option, Some, None, refl, sym, ◌∙◌, ap, subst, arith, append_assoc, length-append, true≢false}
 use Rattle.std.proofs.lemmas.List.{append_cancel_left}
 use Rattle.at_text.specs.Texts.{is_digit, is_one_of}
-use Rattle.at_text.specs.Prefix.{Viable, LongestViable}
-use Rattle.at_text.specs.Parts.{Many, OneOrMore, Exactly, At, ◌▸◌}
-use Rattle.at_fixed.specs.Numerals.{Exponent, Numeral, fraction_text, exponent_text, numeral_text, IsAtMostOneOf, AreDigits, AreSomeDigits, IsExponent, AreWktDigits, IsWktNumeral, WktNumber}
+use Rattle.at_text.specs.Parts.{◌▸◌}
+use Rattle.at_fixed.specs.Numerals.{Numeral, fraction_text, exponent_text, numeral_text, IsAtMostOneOf, AreWktDigits, IsWktNumeral, WktNumber}
 use Rattle.at_wkt.specs.declared.dimension.Dimension.{Dimension}
-use Rattle.at_wkt.specs.declared.dimension.Dimension.TheVariants.{Open, Fixed}
-use Rattle.at_wkt.specs.Positions.{Position}
-use Rattle.at_wkt.specs.Geometry.{is_blank, SpellsNumber, SpellsFurther, SpellsPosition}
-use Rattle.at_wkt.specs.Reading.{part, next, allows, allows_more, Allows, Spelt, Stuck, Leads, SkipsBlanks, NumberStands, NumberBreaks, NumberSkips, delimiter, Delimiter, Item, FurtherNumbers, Reaches, is_delimiter}
-use Rattle.at_wkt.proofs.Leads.{part-none, part-one, part-more, part-place, part-length, part-part, offset, Ahead, Begins, Inhabited, append_cases, leads_ahead, counts, ahead_stuck, same_or_less}
-use Rattle.at_wkt.proofs.Steps.{Then, Same, same_leads, trans_leads, pad_leads, gap_leads, no_blank, AreBlanks, one_blanks, not_blank}
-use Rattle.at_wkt.proofs.NumberSteps.{in_number, AreNumberBytes, number_bytes, Number, stops_number, number_leads, number_stuck, ends_there, front_viable}
-use Rattle.at_wkt.proofs.Lists.{to_left, to_right}
+use Rattle.at_wkt.specs.Geometry.{is_blank, SpellsNumber, SpellsFurther}
+use Rattle.at_wkt.specs.Reading.{part, next, Allows, Stuck, Leads, SkipsBlanks, NumberBreaks, NumberSkips, delimiter, Delimiter, FurtherNumbers, Reaches, is_delimiter}
+use Rattle.at_wkt.proofs.Leads.{part-length, offset, Ahead, Begins, Inhabited, leads_ahead}
+use Rattle.at_wkt.proofs.Steps.{Then, no_blank, AreBlanks, one_blanks}
+use Rattle.at_wkt.proofs.NumberSteps.{Number, stops_number, ends_there, front_viable}
 
 -- ---- first bytes
 

@@ -1,5 +1,5 @@
 -- How far reading has come, step by step, over collections of any depth.
-use Rattle.std.proofs.Common.{◌≡◌, ◌≢◌, ℕ, zero, suc, ◌+◌, ◌-◌, ◌<◌, ◌≤◌, ◌⊎◌, inl, inr, Bool, true, false, not, ◌==◌, List, [], ◌∷◌, ◌++◌, length, Option, Some, None, Result, Ok, Err, refl, sym, ◌∙◌, ap, subst, arith, true≢false, append-nil, append_assoc, add-one, lit≤}
+use Rattle.std.proofs.Common.{◌≡◌, ℕ, zero, suc, ◌+◌, ◌-◌, ◌<◌, ◌≤◌, inl, inr, Bool, true, false, ◌==◌, List, ◌++◌, length, Option, Some, None, Result, refl, sym, ◌∙◌, ap, subst, arith, true≢false, append-nil, append_assoc, add-one, lit≤}
 use Rattle.std.specs.Result.{MatchResult}
 use Rattle.at_text.specs.declared.faults.Fault.{Fault}
 use Rattle.at_text.specs.Faults.{first_fault, first_of}
@@ -14,16 +14,14 @@ use Rattle.at_wkt.specs.declared.positions.DelimiterRead.{DelimiterRead}
 use Rattle.at_wkt.specs.declared.parts.Read.{Read}
 use Rattle.at_wkt.specs.declared.geometries.Gathered.{Gathered}
 use Rattle.at_wkt.specs.declared.geometries.Progress.{Progress}
-use Rattle.at_wkt.specs.Meaning.{shape_of, faults_of}
-use Rattle.at_wkt.specs.Geometry.{Geometry}
-use Rattle.at_wkt.specs.Reading.{part, next, Spelt, Stuck, Leads, SkipsBlanks, Delimiter, delimiter, is_delimiter, HasCount, IfStopped, HeadStands, LetterStands, opens_at, KindBreaks, WordStands, word_of, DelimiterStands, DelimiterBreaks, Meaning, joined, no_meaning, Body, meaning_of, After, Expected, Onward, Advances, BodyStands, StepStands, WholeStands, Gathers}
+use Rattle.at_wkt.specs.Reading.{part, next, Spelt, Stuck, Leads, SkipsBlanks, Delimiter, delimiter, HasCount, IfStopped, HeadStands, LetterStands, opens_at, WordStands, word_of, DelimiterStands, DelimiterBreaks, Meaning, joined, no_meaning, Body, meaning_of, Expected, Onward, Advances, BodyStands, StepStands, WholeStands, Gathers}
 use Rattle.at_wkt.proofs.Leads.{part-length}
 use Rattle.at_wkt.proofs.Steps.{spelt_over, trans_leads}
 use Rattle.at_wkt.proofs.ItemSteps.{delimiter_spelt, delimiter_stuck}
 use Rattle.at_wkt.proofs.GeometrySteps.{joined-assoc, joined-none, Behind, Awaited, BodyAfter, open_count}
-use Rattle.at_wkt.proofs.CollectionSteps.{kind_first, after_stuck, after_closes, after_goes_on, kind_broken, head_spelt, head_stuck, body_stuck, body_spelt, body_behind, opened_spelt, opened_stuck}
+use Rattle.at_wkt.proofs.CollectionSteps.{kind_first, after_stuck, after_closes, after_goes_on, head_spelt, head_stuck, body_stuck, body_spelt, body_behind, opened_spelt, opened_stuck}
 use Rattle.at_wkt.proofs.PartAnswers.{open_byte}
-use Rattle.at_wkt.proofs.Exits.{answers_by, first_of-append, first_fault-assoc}
+use Rattle.at_wkt.proofs.Exits.{first_of-append, first_fault-assoc}
 
 -- ---- behind a geometry
 

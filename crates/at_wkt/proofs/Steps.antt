@@ -1,11 +1,11 @@
 -- What leads on to what: blanks, words, numbers, parts behind one another, and parts told in another way.
-use Rattle.std.proofs.Common.{◌≡◌, ◌≢◌, ℕ, zero, suc, ◌+◌, ◌-◌, ◌<◌, ◌≤◌, ◌⊎◌, inl, inr, Bool, true, false, not, IsTrue, List, [], ◌∷◌, ◌++◌, length, take, drop, get_or, refl, sym, ◌∙◌, ap, subst, arith, append-nil, append_assoc, length-append, true≢false}
+use Rattle.std.proofs.Common.{◌≡◌, ℕ, ◌+◌, ◌<◌, ◌≤◌, ◌⊎◌, inl, inr, Bool, true, false, not, IsTrue, List, [], ◌∷◌, ◌++◌, length, refl, sym, ◌∙◌, ap, subst, arith, append_assoc, true≢false}
 use Rattle.std.specs.List.{AllByRecursion}
 use Rattle.at_text.specs.Parts.{Many, OneOrMore, ◌▸◌}
 use Rattle.at_wkt.specs.declared.dimension.Dimension.{Dimension}
 use Rattle.at_wkt.specs.Geometry.{is_blank}
 use Rattle.at_wkt.specs.Reading.{part, next, Allows, Spelt, Stuck, Leads}
-use Rattle.at_wkt.proofs.Leads.{part-none, part-one, offset, Ahead, Always, Begins, Inhabited, append_cases, same_length, leads_plain, leads_ahead, counts}
+use Rattle.at_wkt.proofs.Leads.{part-none, offset, Ahead, Begins, Inhabited, append_cases, same_length, leads_plain, leads_ahead, counts}
 
 pub trans_leads : {X Y Z : Type 0} {P : ℕ → X → ℕ → List ℕ → Type 0} {Q : ℕ → Y → ℕ → List ℕ → Type 0} {R : ℕ → Z → ℕ → List ℕ → Type 0} {base : ℕ} {w : List ℕ}
     {i j k : ℕ} {c c' c'' : Dimension} {f : Y → X} {g : Z → Y} → Leads P Q base w i c j c' f → Leads Q R base w j c' k c'' g → Leads P R base w i c k c'' (λ z. f (g z))

@@ -1,19 +1,17 @@
 -- The word EMPTY, the words of the kinds with their letters, and parts that are EMPTY or in brackets.
-use Rattle.std.proofs.Common.{◌≡◌, ◌≢◌, ℕ, zero, suc, ◌+◌, ◌-◌, ◌<◌, ◌≤◌, ◌⊎◌, inl, inr, Bool, true, false, not, ◌&&◌, ◌||◌, ◌==◌, IsTrue, List, [], ◌∷◌, ◌++◌, length, map, take, drop, slice_index, get_or, codes, Option, Some, None, refl, sym, ◌∙◌, ap, subst, arith, append-nil, append_assoc, length-append, length-take, true≢false, lit≤, lit<, take-append-drop}
+use Rattle.std.proofs.Common.{◌≡◌, ℕ, ◌+◌, ◌-◌, ◌<◌, ◌≤◌, ◌⊎◌, inl, inr, Bool, true, false, ◌&&◌, ◌==◌, List, [], ◌∷◌, ◌++◌, length, take, drop, slice_index, refl, sym, ◌∙◌, ap, arith, append-nil, append_assoc, length-append, true≢false, take-append-drop}
 use Rattle.std.specs.Str.{str_to_ascii_uppercase}
 use Rattle.std.specs.Char.{to_ascii_uppercase}
-use Rattle.std.proofs.lemmas.List.{append_cancel_left, length-map, map-append, drop-map}
+use Rattle.std.proofs.lemmas.List.{length-map, map-append, drop-map}
 use Rattle.std.proofs.Math.Seq.{get_or-append_seam}
-use Rattle.at_text.specs.Parts.{Many, OneOrMore, Exactly, AnyCase, At, ◌▸◌}
+use Rattle.at_text.specs.Parts.{AnyCase}
 use Rattle.at_wkt.specs.declared.dimension.Dimension.{Dimension}
-use Rattle.at_wkt.specs.declared.dimension.Dimension.TheVariants.{Open, Fixed}
 use Rattle.at_wkt.specs.declared.kinds.Kind.{Kind}
 use Rattle.at_wkt.specs.declared.kinds.Kind.TheVariants.{Point, LineString, Polygon, MultiPoint, MultiLineString, MultiPolygon, GeometryCollection}
-use Rattle.at_wkt.specs.declared.kinds.Head.{Head}
-use Rattle.at_wkt.specs.Geometry.{is_blank, Letter, EmptyWord}
-use Rattle.at_wkt.specs.Reading.{part, next, Allows, Spelt, Stuck, Leads, SkipsBlanks, WordStands, WordBreaks, word_of, KindBreaks, LetterAt, LetterStands, HeadStands, opens}
-use Rattle.at_wkt.proofs.Leads.{part-none, part-one, part-more, part-place, part-length, part-part, part-cons, offset, Ahead, ahead_stuck, Begins, Inhabited, append_cases, same_length, leads_plain, leads_ahead, counts, same_or_less}
-use Rattle.at_wkt.proofs.Steps.{Then, then_leads, then_stuck, trans_leads, no_blank, AreBlanks, one_blanks, not_blank, blank_at}
+use Rattle.at_wkt.specs.Geometry.{is_blank}
+use Rattle.at_wkt.specs.Reading.{part, next, Allows, Spelt, Stuck, WordStands, WordBreaks, word_of, KindBreaks, opens}
+use Rattle.at_wkt.proofs.Leads.{part-none, part-length, part-part, part-cons, Ahead, ahead_stuck, append_cases, same_length, same_or_less}
+use Rattle.at_wkt.proofs.Steps.{no_blank}
 
 abbrev capitals : List ℕ → List ℕ
 capitals w = str_to_ascii_uppercase w

@@ -1,5 +1,5 @@
 -- What a reader answers of a line, and of a text that a geometry begins.
-use Rattle.std.specs.Prelude.{◌≡◌, ℕ, ◌≤◌, if◌then◌else◌, List, [], length, take, Option, Some, None, is_none}
+use Rattle.std.specs.Prelude.{◌≡◌, ℕ, ◌≤◌, if◌then◌else◌, List, length, take, Option, Some, None, is_none}
 use Rattle.at_text.specs.declared.faults.Fault.{Fault}
 use Rattle.at_text.specs.Faults.{first_of}
 use Rattle.at_text.specs.Prefix.{LongestViable}

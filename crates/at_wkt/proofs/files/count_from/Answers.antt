@@ -1,5 +1,4 @@
-use Rattle.std.proofs.Common.{◌≡◌, ◌+◌, ◌<◌, ◌≤◌, length, drop, refl, sym, ◌∙◌, arith, length-drop}
-use Rattle.std.proofs.lemmas.Result.{err_from_is_err_and}
+use Rattle.std.proofs.Common.{◌≤◌, length, drop, refl, arith, length-drop}
 use Rattle.at_wkt.proofs.FileAnswers.{counts_none, exits_refusal}
 use Rattle.at_wkt.proofs.Pieces.{counted_more, counted_all, left_is}
 use Rattle.at_wkt.proofs.files.count_from.Goals as goal

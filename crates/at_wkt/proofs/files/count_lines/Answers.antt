@@ -1,4 +1,4 @@
-use Rattle.std.proofs.Common.{◌≡◌, drop, sym, subst, ◌∙◌}
+use Rattle.std.proofs.Common.{drop, sym, subst, ◌∙◌}
 use Rattle.at_wkt.specs.Lines.{pieces_from}
 use Rattle.at_wkt.specs.Reading.{Counts}
 use Rattle.at_wkt.proofs.FileAnswers.{file_answers, encoding_fault, exits_found, no_fault}

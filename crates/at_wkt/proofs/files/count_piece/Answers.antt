@@ -1,4 +1,4 @@
-use Rattle.std.proofs.Common.{◌≡◌, ◌≤◌, ◌+◌, sym, ◌∙◌, ap, subst, arith}
+use Rattle.std.proofs.Common.{sym, ◌∙◌, ap, subst, arith}
 use Rattle.at_wkt.specs.Reading.{HasLineFault}
 use Rattle.at_wkt.specs.Lines.{is_blank_text}
 use Rattle.at_wkt.proofs.FileAnswers.{counts_blank, counts_line, exits_refusal}

@@ -1,4 +1,4 @@
-use Rattle.std.proofs.Common.{◌≡◌, ◌≤◌, ◌-◌, length, sym, ◌∙◌, ap, arith, length-take}
+use Rattle.std.proofs.Common.{sym, ◌∙◌, arith}
 use Rattle.at_wkt.proofs.FileAnswers.{return_taken, return_kept, shorter_take}
 use Rattle.at_wkt.proofs.files.without_return.Goals as goal
 

@@ -1,4 +1,4 @@
-use Rattle.std.proofs.Common.{◌≡◌, refl, sym, ◌∙◌}
+use Rattle.std.proofs.Common.{refl}
 use Rattle.at_wkt.specs.declared.kinds.Kind.TheVariants.{Point, LineString, Polygon, MultiPoint, MultiLineString, MultiPolygon, GeometryCollection}
 use Rattle.at_wkt.proofs.GeometryAnswers.{point_body, line_body, polygon_body, multi_point_body, multi_line_body, multi_polygon_body, empty_body}
 use Rattle.at_wkt.proofs.ProgressAnswers.{for_head, shut_by}

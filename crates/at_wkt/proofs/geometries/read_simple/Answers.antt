@@ -1,4 +1,4 @@
-use Rattle.std.proofs.Common.{◌≡◌, refl}
+use Rattle.std.proofs.Common.{refl}
 use Rattle.at_wkt.specs.Reading.{Stuck, Body}
 use Rattle.at_wkt.proofs.ProgressAnswers.{simple_stuck, simple_stands, simple_behind}
 use Rattle.at_wkt.proofs.Exits.{exits, answers_by}

@@ -1,4 +1,4 @@
-use Rattle.std.proofs.Common.{◌≡◌, zero, arith}
+use Rattle.std.proofs.Common.{arith}
 use Rattle.at_wkt.specs.declared.dimension.Dimension.TheVariants.{Open}
 use Rattle.at_wkt.specs.Reading.{Stuck, Expected}
 use Rattle.at_wkt.proofs.ProgressAnswers.{steps_start, steps_more, steps_stuck, steps_end}

@@ -1,4 +1,4 @@
-use Rattle.std.proofs.Common.{◌≡◌, ◌+◌, ◌<◌, take, get_or, arith}
+use Rattle.std.proofs.Common.{◌+◌, take, get_or, arith}
 use Rattle.std.proofs.lemmas.List.{take_more}
 use Rattle.at_wkt.specs.declared.kinds.Kind.TheVariants.{Point}
 use Rattle.at_wkt.proofs.KindAnswers.{kinds, tried_none, tried_more, tried_end}

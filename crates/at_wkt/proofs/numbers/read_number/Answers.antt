@@ -1,4 +1,4 @@
-use Rattle.std.proofs.Common.{◌≡◌, ◌+◌, Option, Some, None, Ok, Err, Result, ℤ, Bool, false, is_some, sym, ◌∙◌, ap, subst}
+use Rattle.std.proofs.Common.{◌≡◌, ◌+◌, Option, None, Result, ℤ, false, is_some, sym, ◌∙◌, ap, subst}
 use Rattle.at_fixed.specs.declared.rounding.FixedFault.{FixedFault}
 use Rattle.at_wkt.specs.Positions.{value_in, faults_in}
 use Rattle.at_wkt.specs.Reading.{NumberStands}

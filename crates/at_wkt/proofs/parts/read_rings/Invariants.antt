@@ -1,8 +1,7 @@
 use Rattle.std.proofs.Common.{length, ◌-◌}
 use Rattle.at_wkt.specs.Positions.{faults_of_ring}
-use Rattle.at_wkt.specs.Meaning.{polygons_of, faults_of_area}
-use Rattle.at_wkt.specs.Geometry.{SpellsRing, SpellsList, SpellsPointMember, SpellsArea}
-use Rattle.at_wkt.specs.Reading.{ItemsSoFar, added_point, point_faults, added_line, line_faults, added_path}
+use Rattle.at_wkt.specs.Geometry.{SpellsRing}
+use Rattle.at_wkt.specs.Reading.{ItemsSoFar, added_path}
 use Rattle.at_wkt.proofs.parts.read_rings.Given as goal
 
 abbrev pub invariant-rings : goal.invariant-rings

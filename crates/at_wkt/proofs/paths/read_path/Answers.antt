@@ -1,5 +1,5 @@
-use Rattle.std.proofs.Common.{◌≡◌, ◌+◌, length, refl, sym, ◌∙◌, ap, subst, arith}
-use Rattle.at_wkt.specs.Geometry.{SpellsPosition, SpellsRing}
+use Rattle.std.proofs.Common.{◌+◌, length, ◌∙◌, ap}
+use Rattle.at_wkt.specs.Geometry.{SpellsPosition}
 use Rattle.at_wkt.specs.Reading.{Items, Stuck, fault_of_path}
 use Rattle.at_wkt.proofs.PathAnswers.{path_stands, path_stuck}
 use Rattle.at_wkt.proofs.Exits.{exits}

@@ -1,4 +1,4 @@
-use Rattle.std.proofs.Common.{◌≡◌, ◌≤◌, ◌+◌, ℕ, refl, sym, ◌∙◌, ap, subst, arith}
+use Rattle.std.proofs.Common.{ℕ, sym, subst}
 use Rattle.at_wkt.specs.Geometry.{SpellsPosition}
 use Rattle.at_wkt.specs.Reading.{Item, Stuck, FurtherNumbers, NumberBreaks, SkipsBlanks}
 use Rattle.at_wkt.proofs.PositionAnswers.{position_stands, apart}

@@ -1,6 +1,3 @@
-use Rattle.std.proofs.Common.{◌≡◌, zero, arith}
-use Rattle.at_wkt.specs.declared.dimension.Dimension.TheVariants.{Open}
-use Rattle.at_wkt.specs.Reading.{Stuck, Expected}
 use Rattle.at_wkt.proofs.LineAnswers.{stopped_inside, refused_prefix, whole_prefix}
 use Rattle.at_wkt.proofs.reading.read_geometry.Goals as goal
 

@@ -1,4 +1,3 @@
-use Rattle.std.proofs.Common.{◌≡◌, arith}
 use Rattle.at_wkt.proofs.LineAnswers.{stopped_inside, refused_line, line_answers}
 use Rattle.at_wkt.proofs.reading.read_line.Goals as goal
 
