@@ -16,21 +16,24 @@ DATA = os.path.join(BENCH, "data")
 OUT = os.path.join(BENCH, "out")
 
 
-def build_rattle(crate):
-    """Proves and builds the program crates/CRATE, and returns the path of its executable."""
+def build_rattle(crate, *arguments):
+    """Proves and builds the program crates/CRATE, and returns the path of its executable.
+
+    The build ends with a run of it in its folder, to which the arguments are given; it has to succeed.
+    """
     folder = os.path.join(ROOT, "crates", crate)
-    done = subprocess.run(["rt", "run"], cwd=folder, capture_output=True, text=True)
+    done = subprocess.run(["rt", "run", *(["--", *arguments] if arguments else [])], cwd=folder, capture_output=True, text=True)
     path = os.path.join(folder, "out", crate)
     if done.returncode != 0 or not os.path.exists(path):
         sys.exit(f"{crate} was not built:\n{done.stdout}{done.stderr}")
     return path
 
 
-def build(command, source, name):
+def build(command, source, name, libraries=()):
     """Builds a baseline by a compiler's command, and returns the path of its executable."""
     os.makedirs(OUT, exist_ok=True)
     path = os.path.join(OUT, name)
-    subprocess.run(command + [os.path.join(BENCH, "baselines", source), "-o", path], check=True)
+    subprocess.run(command + [os.path.join(BENCH, "baselines", source), "-o", path, *libraries], check=True)
     return path
 
 

@@ -1,5 +1,7 @@
 """Lines of Well-Known Text counted by `atgis count` against a plain loop in Rust that reads the same lines into vectors of
-pairs, over 200 MB each of points, of lines of 50 positions, and of polygons of 200 positions with 15 digits."""
+pairs, over 200 MB each of points, of lines of 50 positions, and of polygons of 200 positions with 15 digits; and, where its
+headers are installed, against the reader of GEOS, which reads one line after another."""
+import os
 import random
 import sys
 
@@ -35,10 +37,15 @@ def writer(feature):
 
 
 if __name__ == "__main__":
-    ours = measure.build_rattle("atgis")
+    ours = measure.build_rattle("atgis", "count", "data/points.wkt")
     theirs = measure.build_rust("wkt.rs")
+    geos = measure.build(["cc", "-O2"], "geos.c", "geos", ["-lgeos_c"]) if os.path.exists("/usr/include/geos_c.h") else None
     good = True
     for name, feature in (("points", point), ("lines", line), ("polygons", polygon)):
         data = measure.input_file(f"wkt_{name}.wkt", writer(feature))
         good = measure.compare(f"{name} counted", [ours, "count", data], [theirs, data], 2.5) and good
+        if geos:
+            good = measure.compare(f"{name} counted, against GEOS", [ours, "count", data], [geos, data], 0.1, rounds=3) and good
+    if not geos:
+        print("GEOS isn't installed (Debian's libgeos-dev), so nothing was compared with it")
     sys.exit(0 if good else 1)
