@@ -57,7 +57,7 @@ part-first w from to h k ds = let both : AreDigits (slice_index w from ∷ part 
 digit_below : (b : ℕ) → is_digit b ≡ true → b - 0x30 < 10
 digit_below b h = grind (arith, h)
 
-behind_split : (x r : ℕ) (ds : List ℕ) → digits_behind (x + r) ds ≡ x * 10 ^ length ds + digits_behind r ds
+pub behind_split : (x r : ℕ) (ds : List ℕ) → digits_behind (x + r) ds ≡ x * 10 ^ length ds + digits_behind r ds
 behind_split x r [] = grind arith
 behind_split x r (d ∷ ds) =
     let c : ℕ = d - 0x30 in
@@ -65,7 +65,7 @@ behind_split x r (d ∷ ds) =
     let power : 10 * x * 10 ^ length ds ≡ x * 10 ^ suc (length ds) = rw (pow-suc 10 (length ds)) (grind arith) in
     ap (λ n. digits_behind n ds) next ∙ (behind_split (10 * x) (10 * r + c) ds ∙ ap (λ n. n + digits_behind (10 * r + c) ds) power)
 
-behind_small : (r t : ℕ) (ds : List ℕ) → r < t → AreDigits ds → digits_behind r ds < t * 10 ^ length ds
+pub behind_small : (r t : ℕ) (ds : List ℕ) → r < t → AreDigits ds → digits_behind r ds < t * 10 ^ length ds
 behind_small r t [] h ds = grind (arith, h)
 behind_small r t (d ∷ ds) h (k, hs) =
     let c : ℕ = d - 0x30 in
@@ -134,3 +134,10 @@ run_keeps w from stop to K d m next cut after order more within h e fits full ar
     keeps_more K d m next cut after (part w from stop) (part w stop to) h e fits none are_digits room cuts in
     let P : ℕ → Type 0 = λ n. Keeps next (d + n) after (digits_behind m (part w from to)) in
     subst P count (subst (λ x. Keeps next (d + length (part w stop to)) after (digits_behind m x)) (sym whole) all)
+
+-- the same where all of them are kept
+pub run_whole : (w : List ℕ) (from stop K d m next : ℕ) (cut : Bool) → from ≤ stop → stop ≤ length w
+    → Keeps K d cut m → next ≡ digits_behind K (part w from stop) → next < 10 ^ 19 → (10 ^ 18 ≤ K → stop ≡ from)
+    → Keeps next d cut (digits_behind m (part w from stop))
+run_whole w from stop K d m next cut order within h e fits full =
+    kept_more K d m next cut (part w from stop) h e fits (λ big. ap (part w from) (full big) ∙ part-none w from (omega arith))

@@ -1,7 +1,9 @@
 mod Examples
 pub mod DigitParts
+pub mod EightDigits
 pub mod Endings
 pub mod FixedLaws
+pub mod Lanes
 pub mod NumberMachine
 pub mod NumeralParts
 pub mod Phases

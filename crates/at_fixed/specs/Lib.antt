@@ -3,5 +3,6 @@ pub mod Fixed
 pub mod Products
 pub mod States
 pub mod Kept
+pub mod Eights
 pub mod Scans
 pub mod Decimals

@@ -1,9 +1,14 @@
-ghost use Rattle.std.specs.Prelude.{◌≡◌, ℕ, ◌+◌, ◌^◌, ◌<◌, ◌≤◌, Bool, true, false, nat_lt, length, slice_index};
+ghost use Rattle.std.specs.Prelude.{◌≡◌, ℕ, ◌+◌, ◌-◌, ◌^◌, ◌<◌, ◌≤◌, Bool, IsTrue, true, false, nat_lt, length, slice_index};
 ghost use Rattle.at_text.specs.Texts.{is_digit as digit_test};
 ghost use Rattle.at_fixed.specs.Numerals.{AreDigits};
 ghost use Rattle.at_fixed.specs.Kept.{part, digits_behind, Keeps, SameOrHuge};
 
+use crate::eights::leading_digits;
+use crate::powers::power_of_ten;
 use at_text::is_digit;
+
+/// Eight further digits can be kept behind a number below this.
+const SMALL: u64 = 10_000_000_000;
 
 /// A further digit is kept while the digits kept so far are below this.
 const FULL: u64 = 1_000_000_000_000_000_000;
@@ -27,9 +32,9 @@ pub struct DigitsRun {
     pub digits: Digits,
 }
 
-/// Reads digits while there is room to keep them.
-#[inline(always)]
-fn keep_digits(text: &[u8], from: usize, before: u64) -> (usize, u64)
+/// Reads digits one by one while there is room to keep them.
+#[inline(never)]
+fn keep_single_digits(text: &[u8], from: usize, before: u64) -> (usize, u64)
     requires from_within { from ≤ length text.now }
     requires before_fits { before < 10 ^ 19 }
     ensures order { from ≤ result.0 }
@@ -47,6 +52,94 @@ fn keep_digits(text: &[u8], from: usize, before: u64) -> (usize, u64)
         end += 1;
     }
     (end, kept)
+}
+
+/// Whether so many further digits can be kept behind a number.
+#[inline(always)]
+fn has_room(before: u64, count: usize) -> bool
+    requires { count ≤ 8 }
+    ensures { IsTrue result → before < 10 ^ (19 - count) }
+{
+    before < SMALL || before < power_of_ten(19 - count as u64)
+}
+
+/// Reads digits while there is room to keep them, eight bytes at once where as many are left.
+#[inline(never)]
+fn keep_more_digits(text: &[u8], from: usize, before: u64) -> (usize, u64)
+    requires from_within { from ≤ length text.now }
+    requires before_fits { before < 10 ^ 19 }
+    ensures order { from ≤ result.0 }
+    ensures within { result.0 ≤ length text.now }
+    ensures digits { AreDigits (part text.now from result.0) }
+    ensures value { result.1 ≡ digits_behind before (part text.now from result.0) }
+    ensures fits { result.1 < 10 ^ 19 }
+    ensures stops { result.0 < length text.now → digit_test (slice_index text.now result.0) ≡ true → 10 ^ 18 ≤ result.1 }
+    ensures full { 10 ^ 18 ≤ before → result.0 ≡ from }
+{
+    let mut kept = before;
+    let mut end = from;
+    while text.len() - end >= 8 {
+        let (count, value) = leading_digits(text, end);
+        if !has_room(kept, count) {
+            break;
+        }
+        kept = kept * power_of_ten(count as u64) + value;
+        end += count;
+        if count < 8 {
+            return (end, kept);
+        }
+    }
+    keep_single_digits(text, end, kept)
+}
+
+/// Where digits that were kept end, and whether surely none stands there.
+#[derive(Clone, Copy)]
+struct KeptRun {
+    end: usize,
+    kept: u64,
+    is_whole: bool,
+}
+
+/// Reads digits while there is room to keep them. The first eight bytes are looked at here, since they have all
+/// digits of most numbers.
+#[inline(always)]
+fn keep_digits(text: &[u8], from: usize, before: u64) -> KeptRun
+    requires from_within { from ≤ length text.now }
+    requires before_fits { before < 10 ^ 19 }
+    ensures order { from ≤ result.end }
+    ensures within { result.end ≤ length text.now }
+    ensures digits { AreDigits (part text.now from result.end) }
+    ensures value { result.kept ≡ digits_behind before (part text.now from result.end) }
+    ensures fits { result.kept < 10 ^ 19 }
+    ensures stops { result.end < length text.now → digit_test (slice_index text.now result.end) ≡ true → 10 ^ 18 ≤ result.kept }
+    ensures full { 10 ^ 18 ≤ before → result.end ≡ from }
+    ensures whole { IsTrue result.is_whole → result.end < length text.now → digit_test (slice_index text.now result.end) ≡ false }
+{
+    if text.len() - from >= 8 {
+        let (count, value) = leading_digits(text, from);
+        if has_room(before, count) {
+            let kept = before * power_of_ten(count as u64) + value;
+            if count < 8 {
+                return KeptRun {
+                    end: from + count,
+                    kept,
+                    is_whole: true,
+                };
+            }
+            let (end, all) = keep_more_digits(text, from + 8, kept);
+            return KeptRun {
+                end,
+                kept: all,
+                is_whole: false,
+            };
+        }
+    }
+    let (end, kept) = keep_single_digits(text, from, before);
+    KeptRun {
+        end,
+        kept,
+        is_whole: false,
+    }
 }
 
 /// Passes over digits, and tells whether one of them is other than 0.
@@ -84,13 +177,23 @@ pub fn read_digits(text: &[u8], from: usize, before: Digits) -> DigitsRun
         → Keeps result.digits.kept result.digits.dropped result.digits.is_cut
         (digits_behind m (part text.now from result.end)) }
 {
-    let (stop, kept) = keep_digits(text, from, before.kept);
-    let (end, is_cut) = drop_digits(text, stop, before.is_cut);
+    let run = keep_digits(text, from, before.kept);
+    if run.is_whole {
+        return DigitsRun {
+            end: run.end,
+            digits: Digits {
+                kept: run.kept,
+                dropped: before.dropped,
+                is_cut: before.is_cut,
+            },
+        };
+    }
+    let (end, is_cut) = drop_digits(text, run.end, before.is_cut);
     DigitsRun {
         end,
         digits: Digits {
-            kept,
-            dropped: before.dropped + (end - stop) as u64,
+            kept: run.kept,
+            dropped: before.dropped + (end - run.end) as u64,
             is_cut,
         },
     }
@@ -98,6 +201,7 @@ pub fn read_digits(text: &[u8], from: usize, before: Digits) -> DigitsRun
 
 /// Where the digits of an exponent end, and the number that they spell; one too large is told as some number
 /// of at least `HUGE`.
+#[inline(never)]
 pub fn read_power(text: &[u8], from: usize) -> (usize, u64)
     requires { from ≤ length text.now }
     ensures order { from ≤ result.0 }

@@ -3,6 +3,7 @@
 #![tactic(auto)]
 
 mod digits;
+mod eights;
 mod notation;
 mod numbers;
 mod powers;

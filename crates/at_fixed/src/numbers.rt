@@ -51,6 +51,7 @@ pub fn wkt_number(text: &[u8]) -> Taken
 /// The longest prefix of the text that is the beginning of some number, and the number's value in units of
 /// 10^-digits where that prefix is a number: what `json_number` or `wkt_number`, and then `read_fixed` of the
 /// prefix, tell in two passes. It takes no memory.
+#[inline(always)]
 pub fn leading_number(text: &[u8], notation: Notation, digits: u8, how: Coords) -> LeadingNumber
     requires { length text.now ≤ 2 ^ 28 }
     ensures taken { TakesLongest (NumberOf notation) text.now (record { len = result.len; whole = is_some result.value }) }

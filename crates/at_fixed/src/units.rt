@@ -93,6 +93,46 @@ fn is_partial(rest: u64, is_cut: bool) -> bool
     is_cut || rest > 0
 }
 
+/// A number over a power of ten as its whole part and its rest: each divisor is known where it is compiled.
+#[inline(always)]
+fn parted(kept: u64, shift: u64) -> (u64, u64)
+    requires some { 0 < shift }
+    requires few { shift < 20 }
+    ensures whole { result.0 ≡ kept / 10 ^ shift }
+    ensures rest { result.1 ≡ kept % 10 ^ shift }
+{
+    match shift {
+        1 => (kept / 10, kept % 10),
+        2 => (kept / 100, kept % 100),
+        3 => (kept / 1_000, kept % 1_000),
+        4 => (kept / 10_000, kept % 10_000),
+        5 => (kept / 100_000, kept % 100_000),
+        6 => (kept / 1_000_000, kept % 1_000_000),
+        7 => (kept / 10_000_000, kept % 10_000_000),
+        8 => (kept / 100_000_000, kept % 100_000_000),
+        9 => (kept / 1_000_000_000, kept % 1_000_000_000),
+        10 => (kept / 10_000_000_000, kept % 10_000_000_000),
+        11 => (kept / 100_000_000_000, kept % 100_000_000_000),
+        12 => (kept / 1_000_000_000_000, kept % 1_000_000_000_000),
+        13 => (kept / 10_000_000_000_000, kept % 10_000_000_000_000),
+        14 => (kept / 100_000_000_000_000, kept % 100_000_000_000_000),
+        15 => (kept / 1_000_000_000_000_000, kept % 1_000_000_000_000_000),
+        16 => (kept / 10_000_000_000_000_000, kept % 10_000_000_000_000_000),
+        17 => (
+            kept / 100_000_000_000_000_000,
+            kept % 100_000_000_000_000_000,
+        ),
+        18 => (
+            kept / 1_000_000_000_000_000_000,
+            kept % 1_000_000_000_000_000_000,
+        ),
+        _ => (
+            kept / 10_000_000_000_000_000_000,
+            kept % 10_000_000_000_000_000_000,
+        ),
+    }
+}
+
 /// `kept / 10^shift` as a whole number of units, where `is_cut` says that further digits follow those of `kept`.
 #[inline(always)]
 fn reduced(kept: u64, is_cut: bool, shift: u64, how: Coords) -> Result<u64, FixedFault>
@@ -106,12 +146,10 @@ fn reduced(kept: u64, is_cut: bool, shift: u64, how: Coords) -> Result<u64, Fixe
     if shift >= 20 {
         return vanishing(how);
     }
-    let power = power_of_ten(shift);
-    let whole = kept / power;
-    let rest = kept % power;
+    let (whole, rest) = parted(kept, shift);
     match how {
         Coords::Exact => exact(whole, is_partial(rest, is_cut)),
-        Coords::Round => rounded(whole, rest, power / 2, is_cut),
+        Coords::Round => rounded(whole, rest, power_of_ten(shift) / 2, is_cut),
     }
 }
 
