@@ -12,6 +12,7 @@ pub mod LetterSteps
 pub mod ByteSteps
 pub mod Exits
 pub mod PositionAnswers
+pub mod PlainAnswers
 pub mod PathAnswers
 pub mod BodySteps
 pub mod GeometrySteps
@@ -22,4 +23,6 @@ pub mod GeometryAnswers
 pub mod ProgressAnswers
 pub mod LineAnswers
 pub mod FileAnswers
+pub mod LinePieces
+pub mod LineMerges
 mod Examples

@@ -1,5 +1,5 @@
 -- What reading a whole text, or a line, answers.
-use Rattle.std.proofs.Common.{◌≡◌, ℕ, zero, ◌+◌, ◌<◌, ◌≤◌, List, [], ◌∷◌, ◌++◌, length, take, drop, Option, Some, None, is_none, Result, Ok, Err, refl, sym, ◌∙◌, ap, subst, arith, append-nil, append_assoc, take-append-drop, length-take-le, if◌then◌else◌}
+use Rattle.std.proofs.Common.{◌≡◌, ℕ, zero, ◌+◌, ◌<◌, ◌≤◌, List, [], ◌∷◌, ◌++◌, length, take, drop, Option, Some, None, is_none, Result, Ok, Err, refl, sym, ◌∙◌, ap, subst, arith, append-nil, append_assoc, take-append-drop, if◌then◌else◌}
 use native.Mathlib.Decide.{dec_lt}
 use Rattle.std.proofs.Math.Seq.{take-length}
 use Rattle.std.proofs.lemmas.List.{append_cancel_left, get_or_past}
@@ -61,13 +61,11 @@ module _ (digits : ℕ) (how : Coords) (base : ℕ) (w : List ℕ) where
         let (g, em, s) = from_expected m (base + 0) (part w 0 end) (h.sound d a) in
         (g, em, subst (λ o. SpellsGeometry o (take end w) g) at_base s)
 
-    pub prefix_only : (other : Geometry) (n : ℕ) → n ≤ length w → SpellsGeometry base (take n w) other → (n ≡ end) × (meaning_of digits how other ≡ m)
-    prefix_only other n low s =
+    pub prefix_only : (other : Geometry) (v r s : List ℕ) → SpellsGeometry base v other → v ++ r ≡ take end w ++ s → (v ≡ take end w) × (meaning_of digits how other ≡ m)
+    prefix_only other v r s q line =
         let (d, a) = h.some in
-        let b = h.narrows d a in
-        let line : take n w ++ drop n w ≡ part w 0 end ++ drop end w = take-append-drop n w ∙ sym (take-append-drop end w) in
-        let (ey, ev, a') = h.only d (meaning_of digits how other) (take n w) (drop n w) (drop end w) b (subst (λ o. Expected digits how zero (meaning_of digits how other) o (take n w)) (sym at_base) (as_expected other base (take n w) s)) line in
-        (sym (length-take-le n w low) ∙ (ap length ev ∙ length-take-le end w h.within), ey)
+        let (ey, ev, a') = h.only d (meaning_of digits how other) v r s (h.narrows d a) (subst (λ o. Expected digits how zero (meaning_of digits how other) o v) (sym at_base) (as_expected other base v q)) line in
+        (ev, ey)
 
   pub prefix_stands : (prefix : Prefix) (m : Meaning) → Spelt (Awaited digits how zero) base w 0 Open prefix.taken Open m → prefix.fault ≡ first_of m.faults
       → prefix.shape ≡ (if is_none prefix.fault then m.shape else empty_shape) → IsPrefixOf digits how base w prefix
@@ -79,9 +77,9 @@ module _ (digits : ℕ) (how : Coords) (base : ℕ) (w : List ℕ) where
         spelled = s;
         fault_is = ef ∙ ap (λ (z : Meaning). first_of z.faults) em;
         shape_is = es ∙ ap (λ (z : Meaning). if is_none prefix.fault then z.shape else empty_shape) em;
-        only = λ other n low q.
-            let (en, eo) = prefix_only prefix.taken m h other n low q in
-            (en, ap (λ (z : Meaning). z.shape) (eo ∙ em), ap (λ (z : Meaning). first_of z.faults) eo ∙ sym ef);
+        only = λ other v r s q line.
+            let (ev, eo) = prefix_only prefix.taken m h other v r s q line in
+            (ev, ap (λ (z : Meaning). z.shape) (eo ∙ em), ap (λ (z : Meaning). first_of z.faults) eo ∙ sym ef);
       }
 
   pub prefix_fault : (n : ℕ) → Stuck (Awaited digits how zero) base w 0 Open n → IsPrefixFault base w (stop_fault base w n)
@@ -253,6 +251,9 @@ module _ (nothing new : Gathered) (m : Meaning) (ep : nothing.points.items ≡ [
       → IsPrefixOf digits how base w (record { shape = shape; taken = end; fault = new.fault })
   whole_prefix digits how base w end shape q es = prefix_stands digits how base w (record { shape = shape; taken = end; fault = new.fault }) m q gathered_fault
       (es ∙ ap (λ z. if is_none new.fault then z else empty_shape) all_gathered)
+
+  pub line_gathered : (digits : ℕ) (how : Coords) (base : ℕ) (w : List ℕ) → SpellsLine digits how base w (first_of m.faults) m.shape → SpellsLine digits how base w new.fault (gathered_shape new)
+  line_gathered digits how base w s = subst (λ z. SpellsLine digits how base w z (gathered_shape new)) (sym gathered_fault) (subst (SpellsLine digits how base w (first_of m.faults)) (sym all_gathered) s)
 
   pub line_answers : (digits : ℕ) (how : Coords) (base : ℕ) (w : List ℕ) (answer : Result Shape LineFault) → SpellsLine digits how base w (first_of m.faults) m.shape → answer ≡ line_answer new
       → MatchResult answer (HasLineShape digits how base w) (λ e. IfFound e (HasFirstLineFault digits how base w))

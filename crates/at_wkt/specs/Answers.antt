@@ -1,5 +1,5 @@
 -- What a reader answers of a line, and of a text that a geometry begins.
-use Rattle.std.specs.Prelude.{◌≡◌, ℕ, ◌≤◌, if◌then◌else◌, List, length, take, Option, Some, None, is_none}
+use Rattle.std.specs.Prelude.{◌≡◌, ℕ, ◌≤◌, if◌then◌else◌, List, ◌++◌, length, take, Option, Some, None, is_none}
 use Rattle.at_text.specs.declared.faults.Fault.{Fault}
 use Rattle.at_text.specs.Faults.{first_of}
 use Rattle.at_text.specs.Prefix.{LongestViable}
@@ -35,15 +35,16 @@ module _ (digits : ℕ) (how : Coords) where
     unspelled : IsSyntaxFault (WktLine at) at text fault → HasFirstLineFault at text fault
     faulty : (shape : Shape) → SpellsLine at text (Some fault) shape → HasFirstLineFault at text fault
 
-  -- a geometry begins the text, which begins at the offset: it has that length, first fault and shape, and no other geometry
-  -- begins the text. With a fault the shape is empty
+  -- a geometry begins the text, which begins at the offset: it has that length, first fault and shape. With a fault the shape is
+  -- empty. Whatever spelling of a geometry agrees with these bytes, as far as both go, is these bytes, with that shape and fault: no
+  -- other geometry begins the text, and no spelling is a proper prefix of another
   pub record IsPrefixOf (at : ℕ) (text : List ℕ) (prefix : Prefix) : Type 0 where
     pub fits : prefix.taken ≤ length text
     pub geometry : Geometry
     pub spelled : SpellsGeometry at (take prefix.taken text) geometry
     pub fault_is : prefix.fault ≡ first_of (faults_of digits how geometry)
     pub shape_is : prefix.shape ≡ (if is_none prefix.fault then shape_of digits how geometry else empty_shape)
-    pub only : (other : Geometry) (n : ℕ) → n ≤ length text → SpellsGeometry at (take n text) other → (n ≡ prefix.taken)
+    pub only : (other : Geometry) (v r s : List ℕ) → SpellsGeometry at v other → v ++ r ≡ take prefix.taken text ++ s → (v ≡ take prefix.taken text)
         × (shape_of digits how other ≡ shape_of digits how geometry) × (first_of (faults_of digits how other) ≡ prefix.fault)
 
 -- no geometry begins the text, and the fault stands at the end of its longest prefix that a geometry may begin with

@@ -15,3 +15,7 @@ module _ (digits : ℕ) (how : Coords) where
   -- the first fault of a file, or none: that of its encoding, or else the first of the faults of all its lines
   abbrev pub HasFileFault : List ℕ → Option Fault → Type 0
   HasFileFault bytes first = HasFaultBehind (utf8_fault bytes) bytes first
+
+  -- no other is the file's first fault
+  abbrev pub TheFileFault : List ℕ → Option Fault → Type 0
+  TheFileFault bytes first = (other : Option Fault) → HasFileFault bytes other → other ≡ first

@@ -5,3 +5,4 @@ pub mod Lines
 pub mod Files
 pub mod Answers
 pub mod Reading
+pub mod Folding

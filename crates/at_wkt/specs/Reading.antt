@@ -456,6 +456,11 @@ abbrev pub refusal : ℕ → List ℕ → Halt → LineFault
 refusal base w (At n) = Found (stop_fault base w n)
 refusal base w Memory = NoMemory
 
+-- the fault of a line where reading it stopped
+abbrev pub stopped_fault : ℕ → List ℕ → Halt → Result (Option Fault) LineFault
+stopped_fault base w (At n) = Ok (Some (stop_fault base w n))
+stopped_fault base w Memory = Err NoMemory
+
 abbrev pub gathered_shape : Gathered → Shape
 gathered_shape g = record { points = g.points.items; lines = g.lines.items; polygons = g.polygons.items }
 
@@ -478,9 +483,12 @@ line_answer g = elim g.fault [ None ↦ Ok (gathered_shape g) | Some fault ↦ E
 abbrev pub kept_shape : Gathered → Shape
 kept_shape g = if is_none g.fault then gathered_shape g else empty_shape
 
--- some list of the line's faults, of which this is the first
-abbrev pub HasLineFault : ℕ → Coords → ℕ → List ℕ → Option Fault → Type 0
-HasLineFault digits how at text first = (faults : List Fault) × HasLineFaults digits how (record { at = at; text = text }) faults × (first ≡ first_of faults)
+-- the first of the line's faults, and no other is
+pub record HasLineFault (digits : ℕ) (how : Coords) (at : ℕ) (text : List ℕ) (first : Option Fault) : Type 0 where
+  pub faults : List Fault
+  pub have : HasLineFaults digits how (record { at = at; text = text }) faults
+  pub first_is : first ≡ first_of faults
+  pub only : (others : List Fault) → HasLineFaults digits how (record { at = at; text = text }) others → first_of others ≡ first
 
 -- so many of the pieces are lines that are not blank, and this is the first of their faults
 pub record Counts (digits : ℕ) (how : Coords) (pieces : List FileLine) (counted : Counted) : Type 0 where
@@ -488,6 +496,7 @@ pub record Counts (digits : ℕ) (how : Coords) (pieces : List FileLine) (counte
   pub have : HaveLineFaults digits how (lines_in pieces) faults
   pub fault : counted.fault ≡ first_of faults
   pub count : counted.count ≡ length (lines_in pieces)
+  pub only : (others : List Fault) → HaveLineFaults digits how (lines_in pieces) others → first_of others ≡ counted.fault
 
 -- the count, or the first fault
 abbrev pub file_answer : Counted → Result ℕ LineFault

@@ -4,6 +4,7 @@ ghost use Rattle.at_wkt.specs.Geometry.{is_blank as blank_test};
 ghost use Rattle.at_wkt.specs.Reading.{next, SkipsBlanks};
 
 /// Whether a byte is a space or a tab.
+#[inline(always)]
 pub fn is_blank(byte: u8) -> bool
     ensures { result ≡ blank_test byte }
 {
@@ -11,6 +12,7 @@ pub fn is_blank(byte: u8) -> bool
 }
 
 /// Whether a blank stands at a place of the text.
+#[inline(always)]
 fn blank_stands(text: &[u8], at: usize) -> bool
     ensures { result ≡ blank_test (next text.now at) }
 {
@@ -18,6 +20,7 @@ fn blank_stands(text: &[u8], at: usize) -> bool
 }
 
 /// The first place from `at` on where no blank stands.
+#[inline(always)]
 pub fn skip_blanks(text: &[u8], at: usize) -> usize
     requires { at ≤ length text.now }
     ensures { SkipsBlanks text.now at result }
@@ -30,6 +33,7 @@ pub fn skip_blanks(text: &[u8], at: usize) -> usize
 }
 
 /// Whether the byte stands at a place of the text.
+#[inline(always)]
 pub fn stands(text: &[u8], at: usize, byte: u8) -> bool
     ensures { result ≡ (next text.now at == byte) }
 {
@@ -37,6 +41,7 @@ pub fn stands(text: &[u8], at: usize, byte: u8) -> bool
 }
 
 /// Whether the letter, a capital, stands at a place of the text in either case.
+#[inline(always)]
 pub fn letter_stands(text: &[u8], at: usize, letter: u8) -> bool
     ensures { result ≡ (to_ascii_uppercase (next text.now at) == letter) }
 {

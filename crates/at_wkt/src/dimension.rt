@@ -12,6 +12,7 @@ pub enum Dimension {
 
 impl Dimension {
     /// Whether a position may have so many numbers.
+    #[inline(always)]
     pub fn allows(self, count: u8) -> bool
         ensures { result ≡ allowed self count }
     {
@@ -22,6 +23,7 @@ impl Dimension {
     }
 
     /// Whether a position may have more numbers than these.
+    #[inline(always)]
     pub fn allows_more(self, count: u8) -> bool
         ensures { result ≡ more_allowed self count }
     {

@@ -1,13 +1,16 @@
 ghost use Rattle.std.specs.Prelude.{◌≡◌, ◌==◌, ◌&&◌, ◌-◌, nat_lt, slice_index, ◌+◌, ◌^◌, ◌<◌, ◌≤◌, Some, None, Ok, Err, List, [], ◌∷◌, ◌++◌, drop, length, MatchResult};
 ghost use Rattle.at_wkt.specs.Answers.{IfFound};
-ghost use Rattle.at_wkt.specs.Files.{HasFileFault};
+ghost use Rattle.at_wkt.specs.Files.{HasFileFault, TheFileFault};
 ghost use Rattle.at_wkt.specs.declared.answers.LineFault.TheVariants.{Memory as NoMemory};
 ghost use Rattle.at_wkt.specs.Lines.{FileLine, lines_of, pieces_from, without_return as line_text, is_blank_text};
-ghost use Rattle.at_wkt.specs.Reading.{HasLineFault, Counts, file_answer};
+ghost use Rattle.at_wkt.specs.Reading.{HasLineFault, Counts, IfStopped, file_answer, stopped_fault};
 
 use crate::answers::LineFault;
 use crate::bytes::is_blank;
-use crate::reading::read_line;
+use crate::geometries::{Gathered, clear};
+use crate::halts::Halt;
+use crate::reading::{nothing_gathered, read_between, stop_at};
+use crate::rules::Rules;
 use crate::searches::first_place;
 use at_fixed::Coords;
 use at_text::{Fault, base_of, first_fault, utf8_fault};
@@ -35,7 +38,7 @@ fn ends_in_return(piece: &[u8]) -> bool
 }
 
 /// A line without the carriage return that belongs to its end.
-fn without_return(piece: &[u8]) -> &[u8]
+pub fn without_return(piece: &[u8]) -> &[u8]
     ensures value { result.now ≡ line_text piece.now }
     ensures shorter { length result.now ≤ length piece.now }
 {
@@ -47,14 +50,27 @@ fn without_return(piece: &[u8]) -> &[u8]
 }
 
 /// Whether a line has nothing but blanks.
-fn is_blank_line(line: &[u8]) -> bool
+pub fn is_blank_line(line: &[u8]) -> bool
     ensures { result ≡ is_blank_text line.now }
 {
     line.iter().all(|byte| is_blank(*byte))
 }
 
-/// The first fault of a line, where it has one.
+/// The fault of a line where reading it stopped.
+fn stopped_line(text: &[u8], base: u32, halt: Halt) -> Result<Option<Fault>, LineFault>
+    requires inside { IfStopped halt (λ n. n ≤ length text.now) }
+    requires short { base + length text.now ≤ 2 ^ 28 }
+    ensures { result ≡ stopped_fault base text.now halt }
+{
+    match halt {
+        Halt::At(at) => Ok(Some(stop_at(text, base, at))),
+        Halt::Memory => Err(LineFault::Memory),
+    }
+}
+
+/// The first fault of a line, where it has one. The line is read into the room of what was gathered before.
 fn fault_of_line(
+    room: &mut Gathered,
     alloc: Global,
     line: &[u8],
     at: u32,
@@ -63,15 +79,21 @@ fn fault_of_line(
     requires { at + length line.now ≤ 2 ^ 28 }
     ensures { MatchResult result (HasLineFault reading.digits reading.how at line.now) (λ refusal. refusal ≡ NoMemory) }
 {
-    match read_line(alloc, line, at, reading.digits, reading.how) {
-        Ok(_) => Ok(None),
-        Err(LineFault::Found(fault)) => Ok(Some(fault)),
-        Err(LineFault::Memory) => Err(LineFault::Memory),
+    clear(room);
+    let rules = Rules {
+        base: at,
+        digits: reading.digits,
+        how: reading.how,
+    };
+    match read_between(room, alloc, line, rules) {
+        Ok(()) => Ok(room.fault),
+        Err(halt) => stopped_line(line, at, halt),
     }
 }
 
 /// The lines so far and one more piece, which begins at the offset.
 fn count_piece(
+    room: &mut Gathered,
     alloc: Global,
     counted: Counted,
     piece: &[u8],
@@ -89,7 +111,7 @@ fn count_piece(
     if is_blank_line(line) {
         return Ok(counted);
     }
-    let fault = fault_of_line(alloc, line, at, reading)?;
+    let fault = fault_of_line(room, alloc, line, at, reading)?;
     Ok(Counted {
         count: counted.count + 1,
         fault: first_fault(counted.fault, fault),
@@ -112,10 +134,18 @@ fn count_from(
         count: 0,
         fault: None,
     };
+    let mut room = nothing_gathered(alloc);
     let mut at = from;
     'pieces: loop {
         let end = at + first_place(b'\n', &bytes[at..]);
-        counted = count_piece(alloc, counted, &bytes[at..end], at as u32, reading)?;
+        counted = count_piece(
+            &mut room,
+            alloc,
+            counted,
+            &bytes[at..end],
+            at as u32,
+            reading,
+        )?;
         if end == bytes.len() {
             return Ok(counted);
         }
@@ -141,8 +171,10 @@ fn answer_of(counted: Counted) -> Result<u64, LineFault>
 /// the line's end.
 pub fn count_lines(alloc: Global, bytes: &[u8], digits: u8, how: Coords) -> Result<u64, LineFault>
     requires { length bytes.now ≤ 2 ^ 28 }
-    ensures { MatchResult result (λ count. HasFileFault digits how bytes.now None × (count ≡ length (lines_of bytes.now)))
+    ensures answer { MatchResult result (λ count. HasFileFault digits how bytes.now None × (count ≡ length (lines_of bytes.now)))
         (λ refusal. IfFound refusal (λ fault. HasFileFault digits how bytes.now (Some fault))) }
+    ensures only { MatchResult result (λ count. TheFileFault digits how bytes.now None)
+        (λ refusal. IfFound refusal (λ fault. TheFileFault digits how bytes.now (Some fault))) }
 {
     if let Some(fault) = utf8_fault(bytes) {
         return Err(LineFault::Found(fault));

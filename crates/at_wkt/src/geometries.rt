@@ -1,4 +1,4 @@
-ghost use Rattle.std.specs.Prelude.{◌≡◌, ℕ, ◌+◌, ◌^◌, ◌≤◌, false, zero, length, MatchResult};
+ghost use Rattle.std.specs.Prelude.{◌≡◌, ℕ, ◌+◌, ◌^◌, ◌≤◌, false, zero, None, [], length, MatchResult};
 ghost use Rattle.at_fixed.specs.declared.rounding.Coords.{Coords};
 ghost use Rattle.at_wkt.specs.declared.dimension.Dimension.TheVariants.{Open};
 ghost use Rattle.at_wkt.specs.Reading.{Stuck, HasCount, Body, After, Expected, Advances, BodyStands, StepStands, WholeStands, HeadStands, IfStopped, no_meaning, opens_at};
@@ -23,6 +23,19 @@ pub struct Gathered {
     pub lines: Vec<Path>,
     pub polygons: Vec<Polygon>,
     pub fault: Option<Fault>,
+}
+
+/// Forgets what was gathered, and keeps its room.
+pub fn clear(gathered: &mut Gathered)
+    ensures points { gathered.new.points.items ≡ [] }
+    ensures lines { gathered.new.lines.items ≡ [] }
+    ensures polygons { gathered.new.polygons.items ≡ [] }
+    ensures fault { gathered.new.fault ≡ None }
+{
+    gathered.points.clear();
+    gathered.lines.clear();
+    gathered.polygons.clear();
+    gathered.fault = None;
 }
 
 /// How far reading has come: the place, how many collections are open there, and whether the outermost geometry

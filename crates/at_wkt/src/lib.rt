@@ -5,6 +5,8 @@ mod answers;
 mod bytes;
 mod dimension;
 mod files;
+mod folding;
+mod fragments;
 mod geometries;
 mod halts;
 mod kinds;
@@ -19,7 +21,11 @@ mod words;
 
 pub use answers::{LineFault, Prefix};
 pub use files::count_lines;
+pub use folding::Fold;
+pub use fragments::{LineFragment, WholeLines, finish_lines, merge_lines, run_lines};
 pub use reading::{read_geometry, read_line};
 
+#[cfg(test)]
+mod cut_tests;
 #[cfg(test)]
 mod tests;

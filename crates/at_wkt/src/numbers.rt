@@ -1,4 +1,4 @@
-ghost use Rattle.std.specs.Prelude.{◌≡◌, ◌≤◌, ◌+◌, ◌^◌, Some, length, MatchResult};
+ghost use Rattle.std.specs.Prelude.{◌≡◌, ◌≤◌, ◌+◌, ◌^◌, Some, None, IfSome, length, MatchResult};
 ghost use Rattle.at_fixed.specs.Numerals.{Numeral};
 ghost use Rattle.at_text.specs.Faults.{first_of};
 ghost use Rattle.at_wkt.specs.Positions.{fault_of as the_fault, value_in, faults_in};
@@ -34,6 +34,7 @@ fn fault_of(fault: FixedFault, at: u32) -> Fault
 }
 
 /// The coordinate that a number of this value is, which begins at the offset.
+#[inline(always)]
 fn coordinate_of(number: Result<i64, FixedFault>, at: u32, end: usize) -> Coordinate
     ensures value { result.value ≡ value_in number }
     ensures fault { result.fault ≡ first_of (faults_in number at) }
@@ -53,7 +54,35 @@ fn coordinate_of(number: Result<i64, FixedFault>, at: u32, end: usize) -> Coordi
     }
 }
 
+/// A coordinate, where it has no fault.
+#[inline(always)]
+fn faultless(read: Coordinate) -> Option<Coordinate>
+    ensures { IfSome result (λ kept. (kept.fault ≡ None) × (kept.fault ≡ read.fault) × (kept.value ≡ read.value) × (kept.end ≡ read.end)) }
+{
+    match read.fault {
+        None => Some(read),
+        Some(_) => None,
+    }
+}
+
+/// Reads a number whose value is used, where one stands that has a value.
+#[inline(always)]
+pub fn read_plain_number(text: &[u8], at: usize, rules: Rules) -> Option<Coordinate>
+    requires inside { at ≤ length text.now }
+    requires short { rules.base + length text.now ≤ 2 ^ 28 }
+    ensures { IfSome result (λ read. (read.fault ≡ None) × ((n : Numeral) × NumberStands text.now at read.end n
+        × IsCoordinate rules.digits rules.how n (rules.base + at) read)) }
+{
+    let number = leading_number(&text[at..], Notation::Wkt, rules.digits, rules.how);
+    let end = at + number.len as usize;
+    match number.value {
+        None => None,
+        Some(value) => faultless(coordinate_of(value, rules.base + at as u32, end)),
+    }
+}
+
 /// Reads a number whose value is used.
+#[inline(never)]
 pub fn read_number(text: &[u8], at: usize, rules: Rules) -> Result<Coordinate, Halt>
     requires inside { at ≤ length text.now }
     requires short { rules.base + length text.now ≤ 2 ^ 28 }

@@ -8,8 +8,8 @@ ghost use Rattle.at_wkt.specs.Reading.{next, Stuck, HasCount, Item, Items, Enclo
 use crate::bytes::{letter_stands, skip_blanks, stands};
 use crate::dimension::Dimension;
 use crate::halts::Halt;
-use crate::paths::{Role, read_path};
-use crate::positions::{read_delimiter, read_position};
+use crate::paths::{Role, first_position, read_path};
+use crate::positions::read_delimiter;
 use crate::rules::Rules;
 use crate::words::read_empty;
 use at_geom::{Path, Paths, Polygon, Pos};
@@ -64,7 +64,7 @@ fn read_enclosed(
         (Grows (added_position rules.digits rules.how) points.old.items points.new.items) rules.base text.now at dimension)
         (λ halt. IfStopped halt (Stuck EnclosedPosition rules.base text.now at dimension)) }
 {
-    let read = read_position(text, at + 1, dimension, rules)?;
+    let read = first_position(text, at + 1, dimension, rules)?;
     if !read.is_last {
         return Err(Halt::At(read.end - 1));
     }
@@ -309,7 +309,7 @@ fn read_bare(
         (Grows (added_position rules.digits rules.how) points.old.items points.new.items) rules.base text.now at dimension)
         (λ halt. IfStopped halt (Stuck (Item SpellsPosition) rules.base text.now at dimension)) }
 {
-    let read = read_position(text, at, dimension, rules)?;
+    let read = first_position(text, at, dimension, rules)?;
     points.push(read.pos)?;
     Ok(ItemRead {
         fault: read.fault,

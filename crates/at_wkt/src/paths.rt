@@ -1,7 +1,8 @@
 ghost use Rattle.std.specs.Prelude.{◌≡◌, ◌+◌, ◌<◌, ◌≤◌, ◌^◌, ◌&&◌, ◌||◌, not, is_none, length, MatchResult};
 ghost use Rattle.std.specs.Ordering.{int_eq};
+ghost use Rattle.at_text.specs.Faults.{first_fault as the_first};
 ghost use Rattle.at_wkt.specs.Geometry.{SpellsPosition, SpellsRing};
-ghost use Rattle.at_wkt.specs.Reading.{next, Stuck, HasCount, Items, PositionsStand, PathStands, fault_of_path, IfStopped};
+ghost use Rattle.at_wkt.specs.Reading.{next, Stuck, HasCount, Item, Items, PositionStands, PositionsStand, PathStands, fault_of_path, IfStopped};
 
 use crate::dimension::Dimension;
 use crate::halts::Halt;
@@ -39,6 +40,35 @@ fn closes_with(first: PositionRead, last: PositionRead) -> bool
         || (first.pos.x == last.pos.x && first.pos.y == last.pos.y)
 }
 
+/// Reads the first position of a list. Only the further ones, which are most, are read in place.
+#[inline(never)]
+pub fn first_position(
+    text: &[u8],
+    at: usize,
+    dimension: Dimension,
+    rules: Rules,
+) -> Result<PositionRead, Halt>
+    requires inside { at ≤ length text.now }
+    requires short { rules.base + length text.now ≤ 2 ^ 28 }
+    requires count { HasCount dimension }
+    ensures { MatchResult result (PositionStands rules text.now at dimension)
+        (λ halt. IfStopped halt (Stuck (Item SpellsPosition) rules.base text.now at dimension)) }
+{
+    read_position(text, at, dimension, rules)
+}
+
+/// The first of a fault and the one of what was read behind it, which has mostly none.
+#[inline(always)]
+pub fn add_fault(before: Option<Fault>, fault: Option<Fault>) -> Option<Fault>
+    ensures { result ≡ the_first before fault }
+{
+    if fault.is_none() {
+        before
+    } else {
+        first_fault(before, fault)
+    }
+}
+
 /// Reads positions up to the closing bracket.
 fn read_positions(
     alloc: Global,
@@ -53,7 +83,7 @@ fn read_positions(
     ensures { MatchResult result (PositionsStand rules text.now at dimension)
         (λ halt. IfStopped halt (Stuck (Items SpellsPosition) rules.base text.now at dimension)) }
 {
-    let first = read_position(text, at, dimension, rules)?;
+    let first = first_position(text, at, dimension, rules)?;
     let mut path = Vec::new(alloc);
     path.push(first.pos)?;
     let mut last = first;
@@ -61,7 +91,7 @@ fn read_positions(
     'positions: while !last.is_last {
         last = read_position(text, last.end, last.dimension, rules)?;
         path.push(last.pos)?;
-        fault = first_fault(fault, last.fault);
+        fault = add_fault(fault, last.fault);
     }
     Ok(PathRead {
         path,

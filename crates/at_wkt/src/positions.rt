@@ -1,4 +1,4 @@
-ghost use Rattle.std.specs.Prelude.{◌≡◌, ℕ, ◌+◌, ◌<◌, ◌≤◌, ◌^◌, true, false, length, MatchResult};
+ghost use Rattle.std.specs.Prelude.{◌≡◌, ℕ, ◌+◌, ◌<◌, ◌≤◌, ◌^◌, ◌⊎◌, true, false, IfSome, length, MatchResult};
 ghost use Rattle.at_wkt.specs.Geometry.{SpellsPosition};
 ghost use Rattle.at_wkt.specs.Reading.{next, allows, Spelt, Stuck, HasCount, Reaches, Item, FurtherNumbers, delimiter, is_delimiter, DelimiterStands, DelimiterBreaks, PositionStands, IfStopped};
 ghost use Rattle.at_wkt.specs.declared.dimension.Dimension.TheVariants.{Fixed};
@@ -6,7 +6,7 @@ ghost use Rattle.at_wkt.specs.declared.dimension.Dimension.TheVariants.{Fixed};
 use crate::bytes::{skip_blanks, stands};
 use crate::dimension::Dimension;
 use crate::halts::Halt;
-use crate::numbers::{Coordinate, read_number, skip_number};
+use crate::numbers::{Coordinate, read_number, read_plain_number, skip_number};
 use crate::rules::Rules;
 use at_geom::Pos;
 use at_text::{Fault, first_fault};
@@ -48,6 +48,7 @@ pub struct NumbersRead {
 }
 
 /// Whether a comma or a closing bracket stands at a place of the text.
+#[inline(always)]
 fn delimiter_stands(text: &[u8], at: usize) -> bool
     ensures { result ≡ is_delimiter (next text.now at) }
 {
@@ -55,6 +56,7 @@ fn delimiter_stands(text: &[u8], at: usize) -> bool
 }
 
 /// Ends a position of so many numbers at its delimiter.
+#[inline(always)]
 fn end_position(
     text: &[u8],
     at: usize,
@@ -108,6 +110,7 @@ fn read_further(
 }
 
 /// The position of two coordinates.
+#[inline(always)]
 fn pos_at(x: Coordinate, y: Coordinate) -> Pos
     ensures { result ≡ record { x = x.value; y = y.value } }
 {
@@ -127,8 +130,65 @@ pub struct PositionRead {
     pub dimension: Dimension,
 }
 
-/// Reads blanks, a position and its delimiter.
-pub fn read_position(
+/// The place behind the space that may stand at a place.
+#[inline(always)]
+fn skip_space(text: &[u8], at: usize) -> usize
+    ensures { ((result ≡ at + 1) × (next text.now at ≡ 0x20)) ⊎ (result ≡ at) }
+{
+    if stands(text, at, b' ') { at + 1 } else { at }
+}
+
+/// Reads what stands behind the second number of a position.
+#[inline(always)]
+fn read_behind(text: &[u8], at: usize, dimension: Dimension) -> Result<NumbersRead, Halt>
+    requires inside { at ≤ length text.now }
+    requires short { length text.now ≤ 2 ^ 28 }
+    requires reaches { Reaches dimension 2 }
+    ensures { MatchResult result (λ read. (base : ℕ)
+        → Spelt (FurtherNumbers 2) base text.now at dimension read.end read.dimension read.is_last)
+        (λ halt. IfStopped halt (λ n. (base : ℕ) → Stuck (FurtherNumbers 2) base text.now at dimension n)) }
+{
+    if delimiter_stands(text, at) {
+        end_position(text, at, 2, dimension)
+    } else {
+        read_further(text, at, 2, dimension)
+    }
+}
+
+/// Reads a position and its delimiter where its numbers have values and one space stands between them.
+#[inline(always)]
+fn plain_position(
+    text: &[u8],
+    at: usize,
+    dimension: Dimension,
+    rules: Rules,
+) -> Option<PositionRead>
+    requires inside { at ≤ length text.now }
+    requires short { rules.base + length text.now ≤ 2 ^ 28 }
+    requires count { HasCount dimension }
+    ensures { IfSome result (PositionStands rules text.now at dimension) }
+{
+    let start = skip_space(text, at);
+    let x = read_plain_number(text, start, rules)?;
+    if !stands(text, x.end, b' ') {
+        return None;
+    }
+    let y = read_plain_number(text, x.end + 1, rules)?;
+    match read_behind(text, y.end, dimension) {
+        Ok(behind) => Some(PositionRead {
+            pos: pos_at(x, y),
+            fault: None,
+            is_last: behind.is_last,
+            end: behind.end,
+            dimension: behind.dimension,
+        }),
+        Err(_) => None,
+    }
+}
+
+/// Reads blanks, a position and its delimiter, whatever its numbers are and how they are set apart.
+#[inline(never)]
+fn any_position(
     text: &[u8],
     at: usize,
     dimension: Dimension,
@@ -155,4 +215,24 @@ pub fn read_position(
         end: behind.end,
         dimension: behind.dimension,
     })
+}
+
+/// Reads blanks, a position and its delimiter.
+#[inline(always)]
+pub fn read_position(
+    text: &[u8],
+    at: usize,
+    dimension: Dimension,
+    rules: Rules,
+) -> Result<PositionRead, Halt>
+    requires inside { at ≤ length text.now }
+    requires short { rules.base + length text.now ≤ 2 ^ 28 }
+    requires count { HasCount dimension }
+    ensures { MatchResult result (PositionStands rules text.now at dimension)
+        (λ halt. IfStopped halt (Stuck (Item SpellsPosition) rules.base text.now at dimension)) }
+{
+    match plain_position(text, at, dimension, rules) {
+        Some(read) => Ok(read),
+        None => any_position(text, at, dimension, rules),
+    }
 }

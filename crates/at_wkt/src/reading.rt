@@ -14,7 +14,7 @@ use at_text::{Fault, FaultKind};
 use std::alloc::Global;
 
 /// Nothing, before anything is read.
-fn nothing_gathered(alloc: Global) -> Gathered
+pub fn nothing_gathered(alloc: Global) -> Gathered
     ensures points { result.points.items ≡ [] }
     ensures lines { result.lines.items ≡ [] }
     ensures polygons { result.polygons.items ≡ [] }
@@ -60,7 +60,7 @@ fn line_answer(gathered: Gathered) -> Result<Shape, LineFault>
 }
 
 /// The fault of syntax at a place of a text.
-fn stop_at(text: &[u8], base: u32, at: usize) -> Fault
+pub fn stop_at(text: &[u8], base: u32, at: usize) -> Fault
     requires inside { at ≤ length text.now }
     requires short { base + length text.now ≤ 2 ^ 28 }
     ensures { result ≡ stop_fault base text.now at }
@@ -123,7 +123,7 @@ pub fn read_geometry(
 }
 
 /// Reads blanks, a geometry and blanks, up to the text's end.
-fn read_between(
+pub fn read_between(
     gathered: &mut Gathered,
     alloc: Global,
     text: &[u8],

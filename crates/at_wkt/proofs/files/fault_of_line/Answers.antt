@@ -1,21 +1,17 @@
-use Rattle.std.proofs.Common.{◌≡◌, Option, Result, refl, sym, subst}
-use Rattle.std.specs.Result.{MatchResult}
-use Rattle.at_text.specs.declared.faults.Fault.{Fault}
-use Rattle.at_wkt.specs.declared.answers.LineFault.{LineFault}
-use Rattle.at_wkt.specs.declared.answers.LineFault.TheVariants.{Memory as NoMemory}
-use Rattle.at_wkt.specs.Answers.{IfFound, HasFirstLineFault}
-use Rattle.at_wkt.specs.Reading.{HasLineFault}
-use Rattle.at_wkt.proofs.FileAnswers.{line_without_fault, line_with_fault}
+use Rattle.at_wkt.specs.Reading.{gathered_shape}
+use Rattle.at_wkt.proofs.LineAnswers.{line_gathered, stopped_inside}
+use Rattle.at_wkt.proofs.FileAnswers.{line_read, line_stopped}
 use Rattle.at_wkt.proofs.files.fault_of_line.Goals as goal
-use Rattle.at_wkt.proofs.files.fault_of_line.Goals.{in-Ok, in-Err-Found, in-Err-Memory}
 
-pub returns : goal.returns
-returns c =
-    let P : Result (Option Fault) LineFault → Type 0 = λ z. MatchResult z (HasLineFault c.args.reading.digits c.args.reading.how c.args.at c.args.line.now) (λ refusal. refusal ≡ NoMemory) in
-    elim c.match-read_line.branch [
-      | in-Ok w ↦ subst P (sym w.result-is) (line_without_fault c.args.reading.digits c.args.reading.how c.args.at c.args.line.now _ w.in-Ok.ensures)
-      | in-Err-Found w ↦ subst P (sym w.result-is) (
-          let Q : LineFault → Type 0 = λ z. IfFound z (HasFirstLineFault c.args.reading.digits c.args.reading.how c.args.at c.args.line.now) in
-          line_with_fault c.args.reading.digits c.args.reading.how c.args.at c.args.line.now w.in-Err-Found.fault (subst Q w.in-Err-Found.field-0-is w.in-Err-Found.ensures))
-      | in-Err-Memory w ↦ subst P (sym w.result-is) refl
-    ]
+pub stopped_line-requires-clause-inside : goal.stopped_line-requires-clause-inside
+stopped_line-requires-clause-inside c = stopped_inside c.args.line.now c.in-Err.halt (λ n h. h.within) c.in-Err.ensures
+
+pub returns-in-Ok : goal.returns-in-Ok
+returns-in-Ok c =
+    let s = c.in-Ok.ensures in
+    line_read c.args.reading.digits c.args.reading.how c.args.at c.args.line.now c.read_between.new.gathered.fault (gathered_shape c.read_between.new.gathered)
+    (line_gathered c.clear.new.gathered c.read_between.new.gathered s.meaning c.clear.ensures.points c.clear.ensures.lines c.clear.ensures.polygons c.clear.ensures.fault s.gathers
+    c.args.reading.digits c.args.reading.how c.args.at c.args.line.now s.spells)
+
+pub returns-in-Err : goal.returns-in-Err
+returns-in-Err c = line_stopped c.args.reading.digits c.args.reading.how c.args.at c.args.line.now c.in-Err.halt c.stopped_line.result c.stopped_line.ensures c.in-Err.ensures

@@ -18,7 +18,7 @@ positions-init c =
 
 pub positions-preserved : goal.positions-preserved
 positions-preserved c = positions_more c.args.rules c.args.text.now c.args.at c.args.dimension c.in_ok-first.first c.positions.last c.in_ok-last.last c.positions.path.items c.push-in-positions.new.self.items
-    c.positions.fault c.first_fault-fault.result c.positions.invariant (flag_off c.positions.last.is_last c.positions-test.true) c.in_ok-last.ensures c.in_ok-push-2.ensures.items c.first_fault-fault.ensures
+    c.positions.fault c.add_fault-fault.result c.positions.invariant (flag_off c.positions.last.is_last c.positions-test.true) c.in_ok-last.ensures c.in_ok-push-2.ensures.items c.add_fault-fault.ensures
 
 pub positions-smaller : goal.positions-smaller
 positions-smaller c = omega (arith, c.in_ok-last.ensures.longer, c.in_ok-last.ensures.spelt.within)

@@ -4,7 +4,7 @@ use Rattle.at_wkt.specs.Reading.{Item, Stuck, FurtherNumbers, NumberBreaks, Skip
 use Rattle.at_wkt.proofs.PositionAnswers.{position_stands, apart}
 use Rattle.at_wkt.proofs.ListSteps.{position_broken_first, position_joined, position_broken_second, position_further}
 use Rattle.at_wkt.proofs.Exits.{exits}
-use Rattle.at_wkt.proofs.positions.read_position.Goals as goal
+use Rattle.at_wkt.proofs.positions.any_position.Goals as goal
 
 pub returns-in_err-x : goal.returns-in_err-x
 returns-in_err-x c = exits c.from_residual.result c.in_err-x.field-0.0 _ (NumberBreaks c.args.text.now c.skip_blanks-start.result) _ c.from_residual.ensures.1

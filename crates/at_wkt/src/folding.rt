@@ -1,0 +1,69 @@
+//! What is made of the lines of a file, one behind another.
+
+ghost use Rattle.std.specs.Prelude.{◌≡◌, ◌+◌, ◌≤◌, ◌^◌, false, List, [], ◌∷◌, ◌++◌, length, IfOk};
+ghost use Rattle.std.specs.List.{list_any};
+ghost use Rattle.at_wkt.specs.Lines.{FileLine, is_line_feed, is_blank_text, lines_in};
+ghost use Rattle.at_wkt.specs.Folding.{AddsLines};
+
+use crate::files::{is_blank_line, without_return};
+use at_text::Memory;
+use std::alloc::Global;
+
+/// A way to make something of the lines of a file: a part of any list of them.
+///
+/// `is_fold` says of which lines, each with its offset and its text, a part is the fold. The part of no line, of one
+/// line and of joined lists are all that the fold of a file is made from, so it comes out the same wherever the file
+/// is cut. Offsets are of the file.
+pub trait Fold: Sync {
+    type Part: Send + Drop;
+
+    /// The part is one that this fold made.
+    ghost is_own: { Self → Self.Part → Type 0 };
+
+    /// The part is the fold of the lines.
+    ghost is_fold: { Self → Self.Part → List FileLine → Type 0 };
+
+    /// The part of no line. It takes no memory.
+    fn none(&self, alloc: Global) -> Self::Part
+        ensures own { is_own self.now result }
+        ensures fold { is_fold self.now result [] };
+
+    /// The part of one line, without its end, which begins at the offset and has more than blanks. The one refusal is
+    /// want of memory.
+    fn line(&self, alloc: Global, text: &[u8], at: u32) -> Result<Self::Part, Memory>
+        requires short { at + length text.now ≤ 2 ^ 28 }
+        requires one { list_any is_line_feed text.now ≡ false }
+        requires some { is_blank_text text.now ≡ false }
+        ensures own { IfOk result (is_own self.now) }
+        ensures fold { IfOk result (λ part. is_fold self.now part (record { at = at; text = text.now } ∷ [])) };
+
+    /// The part of the lines of the one, and behind them those of the other. The one refusal is want of memory.
+    fn join(&self, alloc: Global, left: Self::Part, right: Self::Part) -> Result<Self::Part, Memory>
+        requires left { is_own self.now left }
+        requires right { is_own self.now right }
+        ensures own { IfOk result (is_own self.now) }
+        ensures fold { IfOk result (λ part. (before behind : List FileLine) → is_fold self.now left before
+            → is_fold self.now right behind → is_fold self.now part (before ++ behind)) };
+}
+
+/// The part, and behind it a piece between two line feeds, which is passed over where it has nothing but blanks.
+pub fn fold_piece<F: Fold>(
+    alloc: Global,
+    fold: &F,
+    part: F::Part,
+    piece: &[u8],
+    at: u32,
+) -> Result<F::Part, Memory>
+    requires short { at + length piece.now ≤ 2 ^ 28 }
+    requires one { list_any is_line_feed piece.now ≡ false }
+    requires own { F.is_own fold.now part }
+    ensures own { IfOk result (F.is_own fold.now) }
+    ensures fold { IfOk result (AddsLines (F.is_fold fold.now) part (lines_in (record { at = at; text = piece.now } ∷ []))) }
+{
+    let line = without_return(piece);
+    if is_blank_line(line) {
+        return Ok(part);
+    }
+    let one = fold.line(alloc, line, at)?;
+    fold.join(alloc, part, one)
+}
