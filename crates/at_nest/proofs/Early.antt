@@ -1,6 +1,7 @@
 -- An early stop before an unmatched closer: where each state between tokens refuses the pieces by one place, no bytes before make that place viable.
 use Rattle.std.proofs.Common.{◌≡◌, ℕ, List, [], ◌∷◌, ◌++◌, Some, None, Bool, true, false, cond, not, ◌&&◌, refl, sym, ◌∙◌, ap, subst, arith, ◌+◌, ◌≤◌, length, true≢false}
 use Rattle.std.proofs.lemmas.Option.{none-some, same_Some, option_and_then_some}
+use Rattle.std.proofs.lemmas.Bool.{not-true}
 use Rattle.std.specs.Bool.{⊤}
 use Rattle.at_text.specs.Texts.{is_run}
 use Rattle.at_nest.proofs.JsonNumber as num
@@ -37,11 +38,7 @@ not_escape : Out ≡ InEscape → ⊥
 not_escape e = let P : Start → Type 0 = λ x. elim x [ Out ↦ ⊤ | InString ↦ ⊤ | InEscape ↦ ⊥ ] in subst P e tt
 
 no_run_behind : (p : Bool) (c : ℕ) → p ≡ true → not (p && is_run c) ≡ true → is_run c ≡ false
-no_run_behind true c e h = not_true (is_run c) h
-  where
-    not_true : (q : Bool) → not q ≡ true → q ≡ false
-    not_true false h = refl
-    not_true true h = absurd (true≢false (sym h))
+no_run_behind true c e h = not-true (is_run c) h
 no_run_behind false c e h = absurd (true≢false (sym e))
 
 run_clear : (c : ℕ) → is_run c ≡ false → not (true && is_run c) ≡ true

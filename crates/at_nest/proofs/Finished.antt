@@ -1,5 +1,6 @@
 -- What the form of a whole text answers: the fold of its tree, or the end of the longest viable prefix.
 use Rattle.std.proofs.Common.{◌≡◌, ℕ, suc, ◌⊎◌, inl, inr, List, [], ◌∷◌, ◌++◌, Some, None, option_and_then, Bool, true, false, cond, ◌&&◌, refl, sym, ◌∙◌, ap, subst, arith, append_assoc, append-nil, ◌+◌, ◌<◌, ◌≤◌, length, length-append, take, drop, slice_index, take-append-drop, true≢false}
+use Rattle.std.proofs.lemmas.Bool.{not-true}
 use Rattle.std.proofs.Math.Seq.{take-append_seam, take-length, get_or-append_seam}
 use Rattle.std.proofs.lemmas.Option.{none-some, same_Some}
 use Rattle.std.specs.Bool.{⊤}
@@ -11,7 +12,7 @@ use Rattle.at_nest.specs.Tree.{text}
 use Rattle.at_nest.specs.Syntax.{JsonText}
 use Rattle.at_nest.proofs.JsonMachine.{State, Frame, in_array, in_object, value, items, members, name, colon, after, in_number, in_string, in_name, in_word, step, accepts, is_nil, text_at, lives, Acc, accepted-JsonText}
 use Rattle.at_nest.specs.Forms.{Meaning, Mark, Piece, comma as a_comma, colon as a_colon, quoted, entry, opens, closes, mark, Formed}
-use Rattle.at_nest.proofs.Steps.{Settled, is_clear, settled_step, settled_still, not_true}
+use Rattle.at_nest.proofs.Steps.{Settled, is_clear, settled_step, settled_still}
 use Rattle.at_nest.proofs.Values.{go, run_then}
 use Rattle.at_nest.specs.Walks.{an_opener, value_kind, text_kind, kind_of, at_of, next, walks, walk_on, Walk, reached, refused}
 use Rattle.at_nest.proofs.Walks.{Reads, Halted, walk_reads, walk_halts, spaces_read, no_walk, reached_is, cases, spaces_apart, swap}
@@ -233,7 +234,7 @@ item_halts m at w f i t h b v e n = record {
   split = h.split ∙ ap (λ z. h.front ++ (z ++ (h.byte ∷ h.others))) e;
   place = h.item;
   goes = h.goes;
-  halts = settled_step h.last t b h.settled (not_true _ (ap (λ z. is_clear h.last (z ++ (h.byte ∷ h.others))) (sym e) ∙ h.clear)) ∙ n;
+  halts = settled_step h.last t b h.settled (not-true _ (ap (λ z. is_clear h.last (z ++ (h.byte ∷ h.others))) (sym e) ∙ h.clear)) ∙ n;
 }
 
 -- in the item, or at its end

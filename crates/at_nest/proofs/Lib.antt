@@ -15,7 +15,6 @@ pub mod Unions
 pub mod Ran
 pub mod TokenStops
 pub mod Reduced
-pub mod Whole
 pub mod Open
 pub mod Longest
 pub mod Texts
@@ -33,3 +32,9 @@ pub mod Items
 pub mod Neighbours
 pub mod UnionsHeld
 pub mod Copies
+pub mod Nexts
+pub mod OneTree
+pub mod Told
+pub mod Lasts
+pub mod WholeTexts
+pub mod Behind

@@ -1,5 +1,6 @@
 -- A text that ends in a run or a string that could go on.
 use Rattle.std.proofs.Common.{◌≡◌, ℕ, ◌⊎◌, inl, inr, List, [], ◌∷◌, ◌++◌, Option, Some, None, option_and_then, Bool, true, false, ◌&&◌, ◌==◌, refl, sym, ◌∙◌, ap, subst, arith, append-nil, codes, ◌+◌, length, true≢false}
+use Rattle.std.proofs.lemmas.Bool.{not-true}
 use Rattle.std.proofs.Math.Seq.{take-length}
 use Rattle.std.proofs.lemmas.Option.{none-some, same_Some, option_and_then_some}
 use Rattle.at_text.specs.Prefix.{TakesLongest}
@@ -12,7 +13,7 @@ use Rattle.at_nest.specs.Syntax.{JsonText}
 use Rattle.at_nest.proofs.JsonMachine.{State, Frame, in_array, in_object, value, items, members, name, colon, after, in_number, in_string, in_name, in_word, step, accepts, is_nil, begin_value, text_at}
 use Rattle.at_nest.specs.Borders.{are_apart}
 use Rattle.at_nest.specs.Forms.{Meaning}
-use Rattle.at_nest.proofs.Steps.{IsStill, is_clear, settled_step, settled_still, not_true}
+use Rattle.at_nest.proofs.Steps.{IsStill, is_clear, settled_step, settled_still}
 use Rattle.at_nest.proofs.Values.{go, run_then, run_byte}
 use Rattle.at_nest.specs.Walks.{Kind, value_kind, text_kind, next, walks, Walk, reached, refused}
 use Rattle.at_nest.proofs.PieceSteps.{first}
@@ -166,7 +167,7 @@ open_answer m c at x f b v h ap1 is_open = elim (walk_cases (walks (value []) (p
         split = refl;
         place = refl;
         goes = r.goes;
-        halts = settled_step r.last t b r.settled (not_true _ clear1) ∙ halts_open c t b v (settled_still r.last t r.settled) is_open n;
+        halts = settled_step r.last t b r.settled (not-true _ clear1) ∙ halts_open c t b v (settled_still r.last t r.settled) is_open n;
       }))
       | inr (q, n) ↦ subst (λ o. IsAnswer m at (x ++ (b ∷ v)) (open_or (at + length x) o)) (sym n) (let k : GoesOpen t (b ∷ v) = goes_open c t q b v is_open n in open_ended m at (x ++ (b ∷ v)) (record {
         last = k.last;

@@ -18,10 +18,10 @@ use Rattle.at_nest.proofs.TokenStops.{RunStops, WordStops, empty_form, run_stops
 number_viable : (u : List ℕ) (n : num.State) → run num.step num.start u ≡ Some n → Viable JsonRun u
 number_viable u n e = let (v, r) = num.machine.lives n in (v, inr ((num.start-JsonNumber (u ++ v)).0 (run-rest num.machine num.start n u v e r)))
 
-number_whole : (u : List ℕ) (n : num.State) → run num.step num.start u ≡ Some n → num.accepts n ≡ true → JsonRun u
+pub number_whole : (u : List ℕ) (n : num.State) → run num.step num.start u ≡ Some n → num.accepts n ≡ true → JsonRun u
 number_whole u n e a = inr ((num.start-JsonNumber u).0 (subst (num.Rest num.start) (append-nil u) (run-rest num.machine num.start n u [] e ((num.machine.ends n).1 a))))
 
-begun_of : (u : List ℕ) → Viable JsonRun u → IsRunBegun u
+pub begun_of : (u : List ℕ) → Viable JsonRun u → IsRunBegun u
 begun_of u (v, inl (l, e)) = inr (l, v, e)
 begun_of u (v, inr h) = let (n, e, r) = rest_runs num.machine num.start u v ((num.start-JsonNumber (u ++ v)).1 h) in inl (n, e)
 
@@ -29,7 +29,7 @@ begun_of u (v, inr h) = let (n, e, r) = rest_runs num.machine num.start u v ((nu
 abbrev pub IsBehind : List ℕ → ℕ → Type 0
 IsBehind u byte = ((is_run byte ≡ true) × (¬ (Viable JsonRun (u ++ byte ∷ [])))) ⊎ ((is_run byte ≡ false) × (¬ JsonRun u))
 
-literal_runs : (l : Literal) → AreRun (literal_text l)
+pub literal_runs : (l : Literal) → AreRun (literal_text l)
 literal_runs the_null = (refl, (refl, (refl, (refl, tt))))
 literal_runs the_true = (refl, (refl, (refl, (refl, tt))))
 literal_runs the_false = (refl, (refl, (refl, (refl, (refl, tt)))))

@@ -1,5 +1,6 @@
 -- The machine for JSON texts, token by token: what a token leads to, whatever byte comes next.
 use Rattle.std.proofs.Common.{◌≡◌, ℕ, ◌⊎◌, inl, inr, List, [], ◌∷◌, ◌++◌, Some, None, option_map, option_and_then, Bool, true, false, cond, not, ◌&&◌, refl, sym, ◌∙◌, ap, subst, arith, true≢false}
+use Rattle.std.proofs.lemmas.Bool.{not-true}
 use Rattle.std.specs.Bool.{⊤}
 use Rattle.at_text.specs.Texts.{is_space, is_run, is_one_of}
 use Rattle.at_text.proofs.Machine.{run}
@@ -158,10 +159,6 @@ settled_step (after st) t b e g = sym (ap (λ x. step x b) e)
 abbrev pub is_clear : State → List ℕ → Bool
 is_clear s w = not (run_ended s && begins_run w)
 
-pub not_true : (c : Bool) → not c ≡ true → c ≡ false
-not_true false h = refl
-not_true true h = absurd (true≢false (sym h))
-
 pub space_no_run : (b : ℕ) → is_space b ≡ true → is_run b ≡ false
 space_no_run b h = ap (λ p. not p && not (is_one_of (0x7B ∷ 0x7D ∷ 0x5B ∷ 0x5D ∷ 0x2C ∷ 0x3A ∷ 0x22 ∷ []) b)) h
 
@@ -175,6 +172,6 @@ and_false false b h = refl
 
 -- white space, and then a byte, do the same in both
 pub settled_run : (s t : State) (a : List ℕ) (c : ℕ) (r : List ℕ) → Settled s t → AreSpaces a → is_clear s (a ++ (c ∷ r)) ≡ true → run step s (a ++ (c ∷ r)) ≡ run step t (c ∷ r)
-settled_run s t [] c r h sp g = ap (option_and_then (λ x. run step x r)) (settled_step s t c h (not_true _ g))
+settled_run s t [] c r h sp g = ap (option_and_then (λ x. run step x r)) (settled_step s t c h (not-true _ g))
 settled_run s t (b ∷ a) c r h (e, sp) g = ap (option_and_then (λ x. run step x (a ++ (c ∷ r)))) (settled_step s t b h (and_false (run_ended s) _ (space_no_run b e)))
     ∙ (ap (option_and_then (λ x. run step x (a ++ (c ∷ r)))) (still_space t b (settled_still s t h) e) ∙ still_spaces t a (c ∷ r) (settled_still s t h) sp)

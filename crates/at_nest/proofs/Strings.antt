@@ -15,7 +15,7 @@ use Rattle.at_nest.specs.Levels.{in_text}
 use Rattle.at_nest.proofs.Pushes.{IsStop}
 use Rattle.at_nest.proofs.TokenStops.{empty_form, text_stops_at}
 
-text_run : (q n : str.State) (v : List ℕ) (s : Start) → InText q s → run str.step q v ≡ Some n → InText n (end_of s v)
+pub text_run : (q n : str.State) (v : List ℕ) (s : Start) → InText q s → run str.step q v ≡ Some n → InText n (end_of s v)
 text_run q n [] s h e = subst (λ z. InText z s) (same_Some q n e) h
 text_run q n (b ∷ v) s h e = option_and_then_some (λ x. run str.step x v) (str.step q b) n e (λ t f g. text_run t n v (after_byte s b) (text_step q t b s h f) g)
 
@@ -28,7 +28,7 @@ closes_once InString (b ∷ v) c o h e = closes_once (after_byte InString b) v c
 closes_once InEscape [] c o h e = let P : Start → Type 0 = λ z. ClosesText z (c ∷ o) in subst P e h
 closes_once InEscape (b ∷ v) c o h e = closes_once InString v c o h e
 
-closed_is : (n : str.State) (s : Start) → InText n s → str.accepts n ≡ true → s ≡ Out
+pub closed_is : (n : str.State) (s : Start) → InText n s → str.accepts n ≡ true → s ≡ Out
 closed_is str.closed s h a = h
 closed_is str.opening s h a = absurd h
 closed_is str.inside s h a = absurd (true≢false (sym a))

@@ -1,20 +1,18 @@
 -- The answer of a whole text, with what is pending at its end.
-use Rattle.std.proofs.Common.{◌≡◌, ℕ, List, [], ◌∷◌, ◌++◌, Bool, true, refl, sym, ◌∙◌, ap, subst, arith, append_assoc, append-nil, ◌+◌, length}
-use Rattle.at_lex.specs.declared.tokens.Start.TheVariants.{Out}
+use Rattle.std.proofs.Common.{◌≡◌, ℕ, List, [], ◌∷◌, ◌++◌, Bool, true, sym, ◌∙◌, ap, subst, arith, append-nil, ◌+◌, length}
 use Rattle.at_nest.proofs.JsonMachine.{value}
 use Rattle.at_nest.specs.Borders.{are_apart}
 use Rattle.at_nest.specs.Forms.{Meaning, Mark, mark, IsMark, Formed}
 use Rattle.at_nest.proofs.Joins.{apart_nothing, formed_append, formed_out}
 use Rattle.at_nest.specs.Walks.{walks}
-use Rattle.at_nest.specs.Levels.{Form, pieces_of, Pushed, further, stopped, Halt, push}
+use Rattle.at_nest.specs.Levels.{pieces_of, Pushed, further, stopped, Halt, push}
 use Rattle.at_nest.proofs.Pushes.{IsForm, IsStop, push_ok}
-use Rattle.at_nest.proofs.Merges.{merged, merged_ok}
+use Rattle.at_nest.proofs.Merges.{merged_ok}
 use Rattle.at_nest.proofs.Finished.{IsReduced, Answer, IsAnswer, finished, finished_ok}
-use Rattle.at_nest.proofs.Unions.{Variant, all_lead, whole, broken, IsWhole, IsToken, TokenOk, Ends, with_token, token_apart, both_apart}
-use Rattle.at_nest.proofs.TokenStops.{empty_form, nothing_is}
-use Rattle.at_nest.proofs.Reduced.{push_reduced, merged_reduced}
+use Rattle.at_nest.proofs.Unions.{Ends}
+use Rattle.at_nest.proofs.TokenStops.{empty_form}
+use Rattle.at_nest.proofs.Reduced.{push_reduced}
 use Rattle.at_nest.proofs.Open.{IsOpen, open_by, open_answer}
-use Rattle.at_nest.proofs.Whole.{text_ends, then_reduced, lead_token}
 
 -- how the bytes at the text's end are read: nothing, a mark, a stop in them, or a run or string that could go on
 pub data Last (X : Type 0) : Type 0 where
@@ -36,7 +34,7 @@ finish_last m (further k) (last_mark x) = finished m (push m k (mark x))
 finish_last m (further k) (last_stop h) = finished m (stopped k h)
 finish_last m (further k) (last_open c i) = open_by c i (walks (value []) (pieces_of k))
 
-mark_formed : {X : Type 0} (m : Meaning X) (at : ℕ) (v : List ℕ) (x : Mark X) → IsMark m at v x → Formed m at v (mark x ∷ [])
+pub mark_formed : {X : Type 0} (m : Meaning X) (at : ℕ) (v : List ℕ) (x : Mark X) → IsMark m at v x → Formed m at v (mark x ∷ [])
 mark_formed m at v x h = ([], v, [], sym (append-nil v), tt, (let e : at ≡ at + 0 = omega arith in subst (λ n. IsMark m n v x) e h), apart_nothing v, tt)
 
 pub last_answer : {X : Type 0} (m : Meaning X) (at : ℕ) (x v : List ℕ) (p : Pushed X) (last : Last X) → Ends m at x v p → IsReduced p → are_apart x v ≡ true → IsLast m (at + length x) v last → IsAnswer m at (x ++ v) (finish_last m p last)
@@ -49,24 +47,3 @@ last_answer m at x v (further k) (last_stop i) h r a l =
 last_answer m at x v (further k) (last_open c i) h r a (e, b, u, f, o) =
     subst (λ z. IsAnswer m at (x ++ z) (open_by c i (walks (value []) (pieces_of k)))) (sym f)
     (subst (λ n. IsAnswer m at (x ++ (b ∷ u)) (open_by c n (walks (value []) (pieces_of k)))) (sym e) (open_answer m c at x k b u h (ap (are_apart x) (sym f) ∙ a) o))
-
-module _ {X : Type 0} (m : Meaning X) (token : ℕ → List ℕ → Pushed X) (token_ok : TokenOk m token) (last : ℕ → List ℕ → Last X) (last_ok : (at : ℕ) (w u v : List ℕ) (f : Form X) → IsWhole m Out at w u f v → (i : ℕ) → IsLast m i v (last i v)) where
-  -- the answer of a text's variant from the state outside text; `at` is where the text begins, `end` where it ends
-  abbrev pub answered : ℕ → (ℕ → ℕ) → Variant X → Answer X
-  answered at place (all_lead u) = finish_last m (further empty_form) (last at u)
-  answered at place (whole u f v) = finish_last m (with_token m token empty_form at u (further f)) (last (place (length v)) v)
-  answered at place (broken u f i) = finished m (with_token m token empty_form at u (stopped f i))
-
-  pub answer_whole : (at : ℕ) (w u : List ℕ) (f : Form X) (v : List ℕ) (h : IsWhole m Out at w u f v) → IsAnswer m at w (finish_last m (with_token m token empty_form at u (further f)) (last (at + length (u ++ h.middle)) v))
-  answer_whole at w u f v h =
-      let bytes : (u ++ h.middle) ++ v ≡ w = append_assoc u h.middle v ∙ sym h.split in
-      let p : Pushed X = with_token m token empty_form at u (further f) in
-      let t : IsToken u (h.middle ++ v) = lead_token u (h.middle ++ v) h.lead in
-      let i : ℕ = at + length (u ++ h.middle) in
-      subst (λ z. IsAnswer m at z (finish_last m p (last i v))) bytes
-      (last_answer m at (u ++ h.middle) v p (last i v) (text_ends m token token_ok at w u f v h) (then_reduced m token token_ok (merged m (further empty_form) (token at u)) (further f) (merged_reduced m (further empty_form) (token at u) tt))
-      (both_apart u h.middle v (token_apart u (h.middle ++ v) t) h.apart) (last_ok at w u v f h i))
-
-  -- a text that is one run, or nothing
-  pub answer_lead : (at : ℕ) (u : List ℕ) → IsLast m (at + length {A = ℕ} []) u (last at u) → IsAnswer m at u (finish_last m (further empty_form) (last at u))
-  answer_lead at u h = last_answer m at [] u (further empty_form) (last at u) (nothing_is m at) tt refl h

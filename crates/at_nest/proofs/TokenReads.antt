@@ -46,10 +46,10 @@ cut_or_end (b ∷ t) (suc n) h = elim (cut_or_end t n (omega (arith, h))) [
   | inr e ↦ inr (ap suc e)
 ]
 
-take_is : (t a : List ℕ) (byte : ℕ) (o : List ℕ) (n : ℕ) → t ≡ a ++ (byte ∷ o) → length a ≡ n → take n t ≡ a
+pub take_is : (t a : List ℕ) (byte : ℕ) (o : List ℕ) (n : ℕ) → t ≡ a ++ (byte ∷ o) → length a ≡ n → take n t ≡ a
 take_is t a byte o n e l = ap (λ k. take k t) (sym l) ∙ (ap (take (length a)) e ∙ take-append_seam a (byte ∷ o))
 
-there_is : (t a : List ℕ) (byte : ℕ) (o : List ℕ) (n : ℕ) → t ≡ a ++ (byte ∷ o) → length a ≡ n → slice_index t n ≡ byte
+pub there_is : (t a : List ℕ) (byte : ℕ) (o : List ℕ) (n : ℕ) → t ≡ a ++ (byte ∷ o) → length a ≡ n → slice_index t n ≡ byte
 there_is t a byte o n e l = ap (λ k. slice_index t k) (sym l) ∙ (ap (λ z. slice_index z (length a)) e ∙ get_or-append_seam a byte o 0)
 
 take_one_more : (t a : List ℕ) (byte : ℕ) (o : List ℕ) (n : ℕ) → t ≡ a ++ (byte ∷ o) → length a ≡ n → take (n + 1) t ≡ a ++ byte ∷ []
@@ -106,12 +106,9 @@ run_byte_at : (a : List ℕ) (byte : ℕ) (o : List ℕ) → AreRun (a ++ (byte 
 run_byte_at [] byte o h = h.0
 run_byte_at (b ∷ a) byte o h = run_byte_at a byte o h.1
 
-pub run_refused : {X : Type 0} (m : Meaning X) (at : ℕ) (t more : List ℕ) (b : ℕ) (o : List ℕ) (n : ℕ) → AreRun t → begins_run t ≡ true → more ≡ b ∷ o → begins_run more ≡ false → ¬ (JsonRun t) → LongestViable JsonRun t n
-    → IsReading m at t more (stopped empty_form (run_halt at n))
-run_refused m at t more b o n are begins e ends none_such longest = elim (cut_or_end t n longest.fits) [
-  | inl r ↦ (let (a, byte, y, s, l) = r in in_run_at a byte y s l)
-  | inr l ↦ at_end t refl l
-]
+-- a byte in the run stops it
+pub run_refused_inside : {X : Type 0} (m : Meaning X) (at : ℕ) (t more : List ℕ) (n : ℕ) → AreRun t → LongestViable JsonRun t n → n < length t → IsReading m at t more (stopped empty_form (run_halt at n))
+run_refused_inside m at t more n are longest below = let (a, byte, y, s, l) = cut_at t n below in in_run_at a byte y s l
   where
     in_run_at : (a : List ℕ) (byte : ℕ) (y : List ℕ) → t ≡ a ++ (byte ∷ y) → length a ≡ n → IsReading m at t more (stopped empty_form (run_halt at n))
     in_run_at [] byte y s l = subst (λ z. IsReading m at t more (stopped empty_form (run_halt at z))) l
@@ -120,6 +117,13 @@ run_refused m at t more b o n are begins e ends none_such longest = elim (cut_or
         (run_stops c v byte (y ++ more) (ap (λ z. z ++ more) s ∙ append_assoc (c ∷ v) (byte ∷ y) more) (subst AreRun s are).0 (subst (Viable JsonRun) (take_is t (c ∷ v) byte y n s l) longest.front)
         (inl (run_byte_at (c ∷ v) byte y (subst AreRun s are), λ x. longest.longest (below_length t (c ∷ v) byte y n s l) (subst (Viable JsonRun) (sym (take_one_more t (c ∷ v) byte y n s l)) x))))
 
+pub run_refused : {X : Type 0} (m : Meaning X) (at : ℕ) (t more : List ℕ) (b : ℕ) (o : List ℕ) (n : ℕ) → AreRun t → begins_run t ≡ true → more ≡ b ∷ o → begins_run more ≡ false → ¬ (JsonRun t) → LongestViable JsonRun t n
+    → IsReading m at t more (stopped empty_form (run_halt at n))
+run_refused m at t more b o n are begins e ends none_such longest = elim (cut_or_end t n longest.fits) [
+  | inl r ↦ (let (a, byte, y, s, l) = r in run_refused_inside m at t more n are longest (below_length t a byte y n s l))
+  | inr l ↦ at_end t refl l
+]
+  where
     at_end : (z : List ℕ) → t ≡ z → length t ≡ n → IsReading m at t more (stopped empty_form (run_halt at n))
     at_end [] s l = absurd (true≢false (sym begins ∙ ap begins_run s))
     at_end (c ∷ v) s l = subst (λ z. IsReading m at t more (stopped empty_form (run_halt at z))) (sym (ap (λ z. length z) s) ∙ l)
@@ -169,11 +173,11 @@ open_ends at v more b e = record { formed = one_formed at v (opens b at) (refl, 
 pub stop_pushed : {X : Type 0} (IsKept : X → Tree → Type 0) (base : ℕ) (w : List ℕ) (s : Shown X) (h : CodeHalt) (f : Form Tree) (i : Halt) → IsShown IsKept base w s f → halt_of h ≡ i → IsPushedAs IsKept base w s (Some h) (merged free (further f) (stopped empty_form i))
 stop_pushed IsKept base w s h f i k e = (k, e)
 
-run_halt_is : (at n : ℕ) → halt_of (stop_within code.Run at n) ≡ run_halt at n
+pub run_halt_is : (at n : ℕ) → halt_of (stop_within code.Run at n) ≡ run_halt at n
 run_halt_is at zero = refl
 run_halt_is at (suc n) = refl
 
-text_halt_is : (at n : ℕ) → 0 < n → halt_of (stop_within code.Text at n) ≡ record { kind = in_text; item = at; place = at + n }
+pub text_halt_is : (at n : ℕ) → 0 < n → halt_of (stop_within code.Text at n) ≡ record { kind = in_text; item = at; place = at + n }
 text_halt_is at zero h = absurd (omega (arith, h))
 text_halt_is at (suc n) h = refl
 
@@ -185,7 +189,7 @@ not_of : (b : Bool) → IsTrue (not b) → b ≡ false
 not_of false h = refl
 not_of true h = absurd (true≢false (sym h))
 
-run_no_quote : (b : ℕ) → is_run b ≡ true → (b == 0x22) ≡ false
+pub run_no_quote : (b : ℕ) → is_run b ≡ true → (b == 0x22) ≡ false
 run_no_quote b h = by_test (b == 0x22) refl
   where
     by_test : (p : Bool) → (b == 0x22) ≡ p → (b == 0x22) ≡ false

@@ -1,5 +1,5 @@
 -- A span from a start state: its lead, a form or a stop, and what is pending; and the merge of two neighbours.
-use Rattle.std.proofs.Common.{◌≡◌, ℕ, ◌⊎◌, inl, inr, List, [], ◌∷◌, ◌++◌, Bool, true, false, cond, ◌==◌, not, ◌&&◌, refl, sym, ◌∙◌, ap, subst, arith, append_assoc, append-nil, ◌+◌, ◌-◌, length, true≢false}
+use Rattle.std.proofs.Common.{◌≡◌, ℕ, ◌⊎◌, inl, inr, List, [], ◌∷◌, ◌++◌, Bool, true, false, cond, ◌==◌, not, ◌&&◌, refl, sym, ◌∙◌, ap, subst, arith, append_assoc, append-nil, ◌+◌, length, true≢false}
 use Rattle.std.specs.Bool.{⊤}
 use Rattle.at_text.specs.Texts.{is_run}
 use Rattle.at_lex.specs.declared.tokens.Start.{Start}
@@ -142,9 +142,6 @@ broken_left m s at w x u f i h = record {
 
 -- ---- what is pending on the left, and a lead on the right
 
-pend_state : (v : List ℕ) → IsPending v → Start
-pend_state v h = end_of Out v
-
 pub apart_pending : (middle v x : List ℕ) → are_apart middle v ≡ true → (v ≡ [] → ends_run middle ≡ false) → are_apart middle (v ++ x) ≡ true
 apart_pending middle [] x h k = ap (λ b. not (b && begins_run x)) (k refl)
 apart_pending middle (b ∷ v) x h k = h
@@ -192,28 +189,6 @@ token_of v x more (text_pending u e k) h = a_text (u ++ x) (ap (λ z. z ++ x) e)
 ends_pushed : {X : Type 0} (m : Meaning X) (at : ℕ) (x more : List ℕ) (p : Pushed X) → IsPushed m at x p → Ends m at x more p
 ends_pushed m at x more (further k) h = h
 ends_pushed m at x more (stopped k i) h = stop_right m at x more k i h
-
--- how a token that was cut in two is read: a piece, nothing, or a stop
-abbrev pub TokenOk : {X : Type 0} → Meaning X → (ℕ → List ℕ → Pushed X) → Type 0
-TokenOk m token = (at : ℕ) (t more : List ℕ) → IsToken t more → Ends m at t more (token at t)
-
--- behind the left form the token, and behind it the right side
-abbrev pub with_token : {X : Type 0} → Meaning X → (ℕ → List ℕ → Pushed X) → Form X → ℕ → List ℕ → Pushed X → Pushed X
-with_token m token f at t right = push_then (λ k. merged m (further k) right) (merged m (further f) (token at t))
-
-abbrev pub merged_variants : {X : Type 0} → Meaning X → (ℕ → List ℕ → Pushed X) → (ℕ → ℕ) → Variant X → Variant X → Variant X
-merged_variants m token place (all_lead w) (all_lead x) = all_lead (w ++ x)
-merged_variants m token place (all_lead w) (whole u g v) = whole (w ++ u) g v
-merged_variants m token place (all_lead w) (broken u g h) = broken (w ++ u) g h
-merged_variants m token place (broken u f h) right = broken u f h
-merged_variants m token place (whole u f v) (all_lead x) = whole u f (v ++ x)
-merged_variants m token place (whole u f v) (whole x g y) = variant_of u y (with_token m token f (place (length v)) (v ++ x) (further g))
-merged_variants m token place (whole u f v) (broken x g h) = variant_of u [] (with_token m token f (place (length v)) (v ++ x) (stopped g h))
-
-token_out : (t more : List ℕ) → IsToken t more → end_of Out t ≡ Out
-token_out t more (no_token e b o f) = ap (end_of Out) e
-token_out t more (a_run r b k c o e) = run_out t r
-token_out t more (a_text u e k) = ap (end_of Out) e ∙ closes_out InString u k
 
 last_quote : (b : ℕ) → ClosesText (after_byte InString b) [] → is_run b ≡ false
 last_quote b h = by_tests (b == 0x5C) (b == 0x22) refl h
@@ -329,75 +304,3 @@ right_stops m g i (stopped k j) = tt
 pub ends_broken : {X : Type 0} (m : Meaning X) (s : Start) (at : ℕ) (w u x : List ℕ) (p : Pushed X) → IsStopped p → Ends m (at + length u) x [] p → w ≡ u ++ x → IsLeadEnd s u x → IsVariant m s at w (variant_of u [] p)
 ends_broken m s at w u x (further k) n h e l = absurd n
 ends_broken m s at w u x (stopped k i) n h e l = record { more = x; split = e; lead = l; stop = subst (λ z. IsStop m (at + length u) z k i) (append-nil x) h }
-
-module _ {X : Type 0} (m : Meaning X) (token : ℕ → List ℕ → Pushed X) (token_ok : TokenOk m token) where
-  -- behind the left side's form, what is pending and the right side's lead make a token
-  left_token : (s : Start) (at : ℕ) (w u : List ℕ) (f : Form X) (v x more : List ℕ) (h : IsWhole m s at w u f v) → IsToken (v ++ x) more
-      → Ends m (at + length u) (h.middle ++ (v ++ x)) more (merged m (further f) (token (at + length u + length h.middle) (v ++ x)))
-  left_token s at w u f v x more h k = ends_token m (at + length u) h.middle (v ++ x) more f (token (at + length u + length h.middle) (v ++ x)) h.form (token_ok (at + length u + length h.middle) (v ++ x) more k)
-      (ap (are_apart h.middle) (append_assoc v x more) ∙ apart_pending h.middle v (x ++ more) h.apart h.ended)
-
-  pub whole_whole : (s : Start) (at : ℕ) (w1 w2 u : List ℕ) (f : Form X) (v x : List ℕ) (g : Form X) (y : List ℕ) (h : IsWhole m s at w1 u f v) → IsWhole m (end_of s w1) (at + length w1) w2 x g y
-      → IsVariant m s at (w1 ++ w2) (variant_of u y (with_token m token f (at + length u + length h.middle) (v ++ x) (further g)))
-  whole_whole s at w1 w2 u f v x g y h k =
-      let more : List ℕ = k.middle ++ y in
-      let is_token : IsToken (v ++ x) more = token_of v x more h.pending (subst (λ t. IsLeadEnd t x more) (whole_end m s at w1 u f v h) k.lead) in
-      let left : List ℕ = h.middle ++ (v ++ x) in
-      let apart1 : are_apart left more ≡ true = joined_apart h.middle v x more h.apart h.ended (token_apart (v ++ x) more is_token) in
-      let places : at + length w1 + length x ≡ at + length u + length left = right_place at w1 u h.middle v x h.split in
-      ends_variant m s at (w1 ++ w2) u (left ++ k.middle) y (with_token m token f (at + length u + length h.middle) (v ++ x) (further g))
-      (ends_right m (at + length u) left k.middle y (merged m (further f) (token (at + length u + length h.middle) (v ++ x))) (further g) (left_token s at w1 u f v x more h is_token)
-      (subst (λ n. IsForm m n k.middle g) places k.form) (apart_front left k.middle y apart1))
-      (record {
-        split = union_split w1 w2 u h.middle v x more h.split k.split ∙ ap (λ z. u ++ z) (sym (append_assoc left k.middle y));
-        lead = subst (IsLeadEnd s u) (lead_bytes h.middle v x k.middle y) (lead_more s u (h.middle ++ v) (x ++ more) h.lead);
-        pending = k.pending;
-        apart = both_apart left k.middle y apart1 k.apart;
-        ended = λ n. ended_by h.middle (v ++ x) k.middle y is_token (k.ended n) n;
-      })
-
-  pub whole_all : (s : Start) (at : ℕ) (w1 x u : List ℕ) (f : Form X) (v : List ℕ) → IsWhole m s at w1 u f v → IsAllLead (end_of s w1) x → IsWhole m s at (w1 ++ x) u f (v ++ x)
-  whole_all s at w1 x u f v h k = record {
-    middle = h.middle;
-    split = ap (λ z. z ++ x) h.split ∙ (append_assoc u (h.middle ++ v) x ∙ ap (λ z. u ++ z) (append_assoc h.middle v x));
-    lead = subst (IsLeadEnd s u) (append_assoc h.middle v x) (lead_more s u (h.middle ++ v) x h.lead);
-    form = h.form;
-    pending = pending_on v x h.pending (subst (λ t. IsAllLead t x) (whole_end m s at w1 u f v h) k);
-    apart = apart_pending h.middle v x h.apart h.ended;
-    ended = λ n. h.ended (left_nil v x n);
-  }
-
-  pub whole_broken : (s : Start) (at : ℕ) (w1 w2 u : List ℕ) (f : Form X) (v x : List ℕ) (g : Form X) (i : Halt) (h : IsWhole m s at w1 u f v) → IsBroken m (end_of s w1) (at + length w1) w2 x g i
-      → IsVariant m s at (w1 ++ w2) (variant_of u [] (with_token m token f (at + length u + length h.middle) (v ++ x) (stopped g i)))
-  whole_broken s at w1 w2 u f v x g i h k =
-      let is_token : IsToken (v ++ x) k.more = token_of v x k.more h.pending (subst (λ t. IsLeadEnd t x k.more) (whole_end m s at w1 u f v h) k.lead) in
-      let left : List ℕ = h.middle ++ (v ++ x) in
-      let apart1 : are_apart left k.more ≡ true = joined_apart h.middle v x k.more h.apart h.ended (token_apart (v ++ x) k.more is_token) in
-      let places : at + length w1 + length x ≡ at + length u + length left = right_place at w1 u h.middle v x h.split in
-      let first_end : Ends m (at + length u) left k.more (merged m (further f) (token (at + length u + length h.middle) (v ++ x))) = left_token s at w1 u f v x k.more h is_token in
-      let q : Pushed X = merged m (further f) (token (at + length u + length h.middle) (v ++ x)) in
-      ends_broken m s at (w1 ++ w2) u (left ++ k.more) (with_token m token f (at + length u + length h.middle) (v ++ x) (stopped g i)) (right_stops m g i q)
-      (ends_right m (at + length u) left k.more [] q (stopped g i) (subst (λ z. Ends m (at + length u) left z q) (sym (append-nil k.more)) first_end) (subst (λ n. IsStop m n k.more g i) places k.stop) apart1)
-      (union_split w1 w2 u h.middle v x k.more h.split k.split)
-      (subst (IsLeadEnd s u) (append_assoc h.middle v (x ++ k.more) ∙ (ap (λ z. h.middle ++ z) (sym (append_assoc v x k.more)) ∙ sym (append_assoc h.middle (v ++ x) k.more))) (lead_more s u (h.middle ++ v) (x ++ k.more) h.lead))
-
-  -- where the left side's middle ends
-  pub place_of : (s : Start) (at : ℕ) (w : List ℕ) (u : List ℕ) (f : Form X) (v : List ℕ) → IsWhole m s at w u f v → ℕ
-  place_of s at w u f v h = at + length u + length h.middle
-
-  place_is : (at : ℕ) (w u a v : List ℕ) → w ≡ u ++ (a ++ v) → at + length u + length a ≡ (at + length w) - length v
-  place_is at w u a v e = minus (at + length w) (at + length u + length a) (length v) (token_place at w u a v e)
-    where
-      minus : (x y z : ℕ) → x ≡ y + z → y ≡ x - z
-      minus x y z e = omega (arith, e)
-
-  -- the merge of two variants, the right one of the state in which the left span ends, stands for both spans
-  pub variants_ok : (s : Start) (at : ℕ) (w x : List ℕ) (l r : Variant X) → IsVariant m s at w l → IsVariant m (end_of s w) (at + length w) x r
-      → IsVariant m s at (w ++ x) (merged_variants m token (λ n. (at + length w) - n) l r)
-  variants_ok s at w x (all_lead u) (all_lead v) (e, h) (f, k) = (ap (λ z. z ++ x) e ∙ ap (λ z. u ++ z) f, lead_goes_on s w x h k)
-  variants_ok s at w x (all_lead u) (whole v g y) (e, h) k = subst (λ z. IsWhole m s at (w ++ x) (z ++ v) g y) e (all_lead_left m s at w x v g y h k)
-  variants_ok s at w x (all_lead u) (broken v g i) (e, h) k = subst (λ z. IsBroken m s at (w ++ x) (z ++ v) g i) e (all_lead_broken m s at w x v g i h k)
-  variants_ok s at w x (broken u f i) r h k = broken_left m s at w x u f i h
-  variants_ok s at w x (whole u f v) (all_lead y) h (e, k) = subst (λ z. IsWhole m s at (w ++ x) u f (v ++ z)) e (whole_all s at w x u f v h k)
-  variants_ok s at w x (whole u f v) (whole y g z) h k = subst (λ n. IsVariant m s at (w ++ x) (variant_of u z (with_token m token f n (v ++ y) (further g)))) (place_is at w u h.middle v h.split) (whole_whole s at w x u f v y g z h k)
-  variants_ok s at w x (whole u f v) (broken y g i) h k = subst (λ n. IsVariant m s at (w ++ x) (variant_of u [] (with_token m token f n (v ++ y) (stopped g i)))) (place_is at w u h.middle v h.split) (whole_broken s at w x u f v y g i h k)

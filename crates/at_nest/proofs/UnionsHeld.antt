@@ -101,7 +101,7 @@ module _ {X : Type 0} (IsKept : X → Tree → Type 0) where
   together_broken None s at w u lead kept last (stopped k j) h q l = absurd q
   together_broken (Some i) s at w u lead kept last (further k) h q l = absurd q
 
-  stops_behind : (g : Form Tree) (i : Halt) (o : Pushed Tree) → push_then (λ q. merged free (further q) (stopped g i)) o ≡ push_then (λ q. stopped q i) (push_then (λ q. merged free (further q) (further g)) o)
+  pub stops_behind : (g : Form Tree) (i : Halt) (o : Pushed Tree) → push_then (λ q. merged free (further q) (stopped g i)) o ≡ push_then (λ q. stopped q i) (push_then (λ q. merged free (further q) (further g)) o)
   stops_behind g i (further k) = refl
   stops_behind g i (stopped k j) = refl
 

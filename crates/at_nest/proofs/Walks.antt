@@ -1,11 +1,12 @@
 -- Where the pieces of a form lead, the machine for bytes goes; where a piece has no place, it stops at the first byte of the piece.
 use Rattle.std.proofs.Common.{◌≡◌, ℕ, ◌⊎◌, inl, inr, List, [], ◌∷◌, ◌++◌, Option, Some, None, option_and_then, true, false, not, ◌&&◌, refl, sym, ◌∙◌, ap, subst, arith, append_assoc, append-nil, ◌+◌, length, length-append}
+use Rattle.std.proofs.lemmas.Bool.{not-true}
 use Rattle.std.specs.Bool.{⊤}
 use Rattle.at_lex.specs.Spans.{AreSpaces, begins_run}
 use Rattle.at_nest.proofs.JsonMachine.{State, step}
 use Rattle.at_nest.specs.Borders.{ends_run, are_apart}
 use Rattle.at_nest.specs.Forms.{Meaning, Piece, Formed}
-use Rattle.at_nest.proofs.Steps.{Settled, IsStill, is_clear, settled_run, settled_step, settled_still, still_space, still_settled, not_true, space_no_run, and_false, run_ended}
+use Rattle.at_nest.proofs.Steps.{Settled, IsStill, is_clear, settled_run, settled_step, settled_still, still_space, still_settled, space_no_run, and_false, run_ended}
 use Rattle.at_nest.proofs.Values.{go, run_then}
 use Rattle.at_nest.specs.Walks.{next, kind_of, at_of, walks, walk_on, Walk, reached, refused}
 use Rattle.at_nest.proofs.PieceSteps.{Goes, Halts, piece_goes, piece_halts, piece_first, piece_at, still_clear}
@@ -110,7 +111,7 @@ halts_here s s1 at a v r ha q h k = record {
   split = ap (λ z. a ++ (z ++ r)) k.split;
   place = refl;
   goes = h.goes;
-  halts = settled_step h.last s1 k.byte h.settled (not_true _ (h.clear ((k.byte ∷ k.others) ++ r) (spaces_apart a ((k.byte ∷ k.others) ++ r) ha) (ap (λ z. is_clear s (a ++ (z ++ r))) (sym k.split) ∙ q))) ∙ k.halts;
+  halts = settled_step h.last s1 k.byte h.settled (not-true _ (h.clear ((k.byte ∷ k.others) ++ r) (spaces_apart a ((k.byte ∷ k.others) ++ r) ha) (ap (λ z. is_clear s (a ++ (z ++ r))) (sym k.split) ∙ q))) ∙ k.halts;
 }
 
 shift : (at i : ℕ) (a v b : List ℕ) → i ≡ at + length a + length v + length b → i ≡ at + length (a ++ (v ++ b))

@@ -7,6 +7,7 @@ pub mod Holding
 pub mod Reading
 pub mod Stands
 pub mod Standing
+pub mod Slots
 pub mod NumberStates
 pub mod States
 pub mod Borders
@@ -17,3 +18,6 @@ pub mod Stops
 pub mod Variants
 pub mod Unions
 pub mod Answers
+pub mod Ending
+pub mod Nexts
+pub mod Lasts

@@ -34,6 +34,7 @@ impl<T: Drop> Body<T> {
     }
 
     /// Takes the innermost open level out.
+    #[inline(always)]
     pub fn innermost(&mut self) -> Option<Level<T>>
         ensures outer { (shown self.new).outer ≡ (shown self.old).outer }
         ensures levels { MatchOption result
@@ -44,6 +45,7 @@ impl<T: Drop> Body<T> {
     }
 
     /// Puts a level back.
+    #[inline(always)]
     fn push(&mut self, level: Level<T>) -> Result<(), Memory>
         ensures { IfOk result (λ u. shown self.new ≡ show_as (shown self.old).outer (held_of level ∷ (shown self.old).levels)) }
     {
@@ -52,6 +54,7 @@ impl<T: Drop> Body<T> {
     }
 
     /// Puts a level back behind what came next at the offset; where that is refused, the span stops there.
+    #[inline(always)]
     pub fn put(&mut self, step: Step<T>, at: u32) -> Result<Option<Halt>, Memory>
         ensures { IfOk result (λ r. (old : Held T) (o : Option (Held T)) → IsStep old o step
             → (shown self.new, r) ≡ put_back (shown self.old).outer (shown self.old).levels at old o) }
@@ -69,6 +72,7 @@ impl<T: Drop> Body<T> {
     }
 
     /// Puts an item behind those of the outermost level.
+    #[inline(always)]
     pub fn keep(&mut self, piece: Piece<T>) -> Result<Option<Halt>, Memory>
         requires { (shown self.old).levels ≡ [] }
         ensures { IfOk result (λ r. (shown self.new, r) ≡ kept_outside (shown self.old).outer piece) }
@@ -77,6 +81,7 @@ impl<T: Drop> Body<T> {
         Ok(None)
     }
 
+    #[inline(always)]
     pub fn open(&mut self, alloc: Global, bracket: Bracket, at: u32) -> Result<(), Memory>
         ensures { IfOk result (λ u. shown self.new
             ≡ show_as (shown self.old).outer (opened_as bracket at ∷ (shown self.old).levels)) }
@@ -84,6 +89,7 @@ impl<T: Drop> Body<T> {
         self.push(Level::opened(alloc, bracket, at))
     }
 
+    #[inline(always)]
     pub fn comma(&mut self, at: u32) -> Result<Option<Halt>, Memory>
         ensures { IfOk result (λ r. (shown self.new, r) ≡ comma_added at (shown self.old).outer (shown self.old).levels) }
     {
@@ -93,6 +99,7 @@ impl<T: Drop> Body<T> {
         }
     }
 
+    #[inline(always)]
     pub fn colon(&mut self, at: u32) -> Result<Option<Halt>, Memory>
         ensures { IfOk result (λ r. (shown self.new, r) ≡ colon_added at (shown self.old).outer (shown self.old).levels) }
     {
@@ -103,6 +110,7 @@ impl<T: Drop> Body<T> {
     }
 
     /// A value that is no string.
+    #[inline(always)]
     pub fn value(&mut self, from: u32, atom: T) -> Result<Option<Halt>, Memory>
         ensures { IfOk result (λ r. (shown self.new, r)
             ≡ value_added from atom (shown self.old).outer (shown self.old).levels) }
@@ -115,6 +123,7 @@ impl<T: Drop> Body<T> {
 }
 
 /// A string that was just read: a name where the innermost level wants one, else a value.
+#[inline(always)]
 pub fn read_text<A: Algebra>(
     body: &mut Body<A::Atom>,
     alloc: Global,
@@ -151,6 +160,7 @@ pub fn read_text<A: Algebra>(
 }
 
 /// A closing bracket: where its level was opened in the span, the level becomes an atom.
+#[inline(always)]
 pub fn close<A: Algebra>(
     body: &mut Body<A::Atom>,
     alloc: Global,

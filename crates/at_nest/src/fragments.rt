@@ -1,14 +1,19 @@
 //! Fragments: what a span of JSON is from each start state.
 
-ghost use Rattle.std.specs.Prelude.{◌≡◌, ℕ, ◌+◌, ◌≤◌, ◌^◌, List, length, IfOk};
+ghost use Rattle.std.specs.Prelude.{◌≡◌, ℕ, ◌+◌, ◌≤◌, ◌^◌, ◌++◌, true, List, length, IfOk};
+ghost use Rattle.at_lex.specs.declared.tokens.Start.{Start};
 ghost use Rattle.at_nest.specs.Holding.{Kept};
-ghost use Rattle.at_nest.specs.Standing.{HoldsEscape, HoldsParts, HoldsSome, StandsFor, parts_of};
+ghost use Rattle.at_nest.specs.Stands.{HoldsVariant};
+ghost use Rattle.at_nest.specs.Slots.{HoldsSome, StandsAs, GoesOn, EscapeGoesOn, AreBeside, Stays, slot_in, escape_end, variant_in, no_items};
+ghost use Rattle.at_nest.specs.Standing.{HoldsEscape, HoldsParts, StandsFor, AreNeighbours, part_of, parts_of};
 
 use crate::algebra::Algebra;
-use crate::variants::{Variant, read_variant};
+use crate::copying::copy_variant;
+use crate::variants::{Variant, join_variants, read_variant};
 use at_lex::Start;
 use at_text::Memory;
 use std::alloc::Global;
+use std::mem;
 
 /// What a span is where its first byte is escaped.
 #[derive(Drop)]
@@ -118,4 +123,236 @@ pub fn run_block<A: Algebra>(alloc: Global, algebra: &A, piece: &[u8], base: u32
 {
     let parts = read_parts(alloc, algebra, piece, base);
     fragment_of(alloc, algebra, parts)
+}
+
+/// Which of the kept variants is meant.
+#[derive(Clone, Copy)]
+enum Slot {
+    Out,
+    String,
+    Escape,
+}
+
+impl<T: Drop> Escape<T> {
+    /// The state in which what stands behind the span begins; none where it stops or is as in a string.
+    fn end(&self) -> Option<Start>
+        ensures { result ≡ escape_end self.now }
+    {
+        match self {
+            Escape::AsString => None,
+            Escape::Own(variant) => variant.end(),
+        }
+    }
+}
+
+impl<T: Drop> Parts<T> {
+    /// The kept variant from the state; none where what stands before stops.
+    fn slot_from(&self, state: Option<Start>) -> Option<Slot>
+        ensures { result ≡ slot_in self.now.escape state }
+    {
+        match state {
+            None => None,
+            Some(Start::Out) => Some(Slot::Out),
+            Some(Start::InString) => Some(Slot::String),
+            Some(Start::InEscape) => match &self.escape {
+                Escape::AsString => Some(Slot::String),
+                Escape::Own(_) => Some(Slot::Escape),
+            },
+        }
+    }
+}
+
+/// A variant that holds nothing, left where one was taken.
+fn nothing<T>() -> Variant<T>
+    ensures { result ≡ no_items }
+{
+    Variant::AllLead { end: Start::Out }
+}
+
+/// The variant: moved out, or copied where it is wanted again.
+fn taken_from<A: Algebra>(
+    alloc: Global,
+    algebra: &A,
+    variant: &mut Variant<A::Atom>,
+    again: bool,
+) -> Result<Variant<A::Atom>, Memory>
+    requires { HoldsSome (Kept (A.is_own algebra.now) (A.is_fold algebra.now)) variant.old }
+    ensures same { IfOk result (StandsAs (Kept (A.is_own algebra.now) (A.is_fold algebra.now)) variant.old) }
+    ensures stays { again ≡ true → variant.new ≡ variant.old }
+{
+    if again {
+        copy_variant(alloc, algebra, variant)
+    } else {
+        Ok(mem::replace(variant, nothing()))
+    }
+}
+
+/// The kept variant: moved out, or copied where it is wanted again.
+fn taken<A: Algebra>(
+    alloc: Global,
+    algebra: &A,
+    parts: &mut Parts<A::Atom>,
+    slot: Slot,
+    again: bool,
+) -> Result<Variant<A::Atom>, Memory>
+    requires { HoldsSome (Kept (A.is_own algebra.now) (A.is_fold algebra.now)) (variant_in parts.old slot) }
+    ensures same { IfOk result (StandsAs (Kept (A.is_own algebra.now) (A.is_fold algebra.now)) (variant_in parts.old slot)) }
+    ensures stays { Stays (Some slot) again parts.old parts.new }
+{
+    match slot {
+        Slot::Out => taken_from(alloc, algebra, &mut parts.out, again),
+        Slot::String => taken_from(alloc, algebra, &mut parts.string, again),
+        Slot::Escape => match &mut parts.escape {
+            Escape::AsString => Ok(nothing()),
+            Escape::Own(variant) => taken_from(alloc, algebra, variant, again),
+        },
+    }
+}
+
+/// The left variant with the right one that goes on behind it.
+fn joined<A: Algebra>(
+    alloc: Global,
+    algebra: &A,
+    bytes: &[u8],
+    left: Variant<A::Atom>,
+    right: &mut Parts<A::Atom>,
+    wanted: Option<Slot>,
+    again: bool,
+) -> Result<Variant<A::Atom>, Memory>
+    requires fits { length bytes.now ≤ 2 ^ 28 }
+    requires held { (s : Start) × (at : ℕ) × (w : List ℕ) × (x : List ℕ)
+        × GoesOn (Kept (A.is_own algebra.now) (A.is_fold algebra.now)) bytes.now s at w x left right.old wanted }
+    ensures union { IfOk result (λ v. (s : Start) (at : ℕ) (w x : List ℕ)
+        → GoesOn (Kept (A.is_own algebra.now) (A.is_fold algebra.now)) bytes.now s at w x left right.old wanted
+        → HoldsVariant (Kept (A.is_own algebra.now) (A.is_fold algebra.now)) s at (w ++ x) v) }
+    ensures stays { Stays wanted again right.old right.new }
+{
+    match wanted {
+        None => Ok(left),
+        Some(slot) => {
+            let behind = taken(alloc, algebra, right, slot, again)?;
+            join_variants(alloc, algebra, bytes, left, behind)
+        }
+    }
+}
+
+/// The same from behind a backslash. What it takes is not wanted again.
+fn joined_escape<A: Algebra>(
+    alloc: Global,
+    algebra: &A,
+    bytes: &[u8],
+    left: Escape<A::Atom>,
+    right: &mut Parts<A::Atom>,
+    wanted: Option<Slot>,
+) -> Result<Escape<A::Atom>, Memory>
+    requires fits { length bytes.now ≤ 2 ^ 28 }
+    requires held { (at : ℕ) × (w : List ℕ) × (x : List ℕ)
+        × EscapeGoesOn (Kept (A.is_own algebra.now) (A.is_fold algebra.now)) bytes.now at w x left right.old wanted }
+    ensures union { IfOk result (λ e. (at : ℕ) (w x : List ℕ)
+        → EscapeGoesOn (Kept (A.is_own algebra.now) (A.is_fold algebra.now)) bytes.now at w x left right.old wanted
+        → HoldsEscape (Kept (A.is_own algebra.now) (A.is_fold algebra.now)) at (w ++ x) e) }
+{
+    match left {
+        Escape::AsString => Ok(Escape::AsString),
+        Escape::Own(variant) => {
+            let own = joined(alloc, algebra, bytes, variant, right, wanted, false)?;
+            Ok(Escape::Own(own))
+        }
+    }
+}
+
+fn is_same(wanted: Option<Slot>, other: Option<Slot>) -> bool
+    ensures { wanted ≡ other → result ≡ true }
+{
+    match (wanted, other) {
+        (Some(Slot::Out), Some(Slot::Out)) => true,
+        (Some(Slot::String), Some(Slot::String)) => true,
+        (Some(Slot::Escape), Some(Slot::Escape)) => true,
+        (None, None) => true,
+        _ => false,
+    }
+}
+
+/// Whether the variant is wanted as one of the two others, too.
+fn is_either(wanted: Option<Slot>, first: Option<Slot>, second: Option<Slot>) -> bool
+    ensures first { wanted ≡ first → result ≡ true }
+    ensures second { wanted ≡ second → result ≡ true }
+{
+    if is_same(wanted, first) {
+        return true;
+    }
+    is_same(wanted, second)
+}
+
+/// What is kept of two neighbouring spans, put together.
+fn merge_parts<A: Algebra>(
+    alloc: Global,
+    algebra: &A,
+    bytes: &[u8],
+    left: Parts<A::Atom>,
+    mut right: Parts<A::Atom>,
+) -> Result<Parts<A::Atom>, Memory>
+    requires fits { length bytes.now ≤ 2 ^ 28 }
+    requires beside { (at : ℕ) × (w : List ℕ) × (x : List ℕ)
+        × AreBeside (Kept (A.is_own algebra.now) (A.is_fold algebra.now)) bytes.now at w x left right }
+    ensures { IfOk result (λ p. (at : ℕ) (w x : List ℕ)
+        → AreBeside (Kept (A.is_own algebra.now) (A.is_fold algebra.now)) bytes.now at w x left right
+        → HoldsParts (Kept (A.is_own algebra.now) (A.is_fold algebra.now)) at (w ++ x) p) }
+{
+    let Parts {
+        from,
+        out,
+        string,
+        escape,
+        ..
+    } = left;
+    let to = right.to;
+    let for_out = right.slot_from(out.end());
+    let for_string = right.slot_from(string.end());
+    let for_escape = right.slot_from(escape.end());
+    let out_again = is_either(for_out, for_string, for_escape);
+    let string_again = is_same(for_string, for_escape);
+    let out = joined(alloc, algebra, bytes, out, &mut right, for_out, out_again)?;
+    let string = joined(
+        alloc,
+        algebra,
+        bytes,
+        string,
+        &mut right,
+        for_string,
+        string_again,
+    )?;
+    let escape = joined_escape(alloc, algebra, bytes, escape, &mut right, for_escape)?;
+    Ok(Parts {
+        from,
+        to,
+        out,
+        string,
+        escape,
+    })
+}
+
+/// The fragment of two neighbouring spans of the bytes. A merge with a lost fragment is lost, and so is one that finds
+/// no memory.
+pub fn merge<A: Algebra>(
+    alloc: Global,
+    algebra: &A,
+    bytes: &[u8],
+    left: Fragment<A>,
+    right: Fragment<A>,
+) -> Fragment<A>
+    requires fits { length bytes.now ≤ 2 ^ 28 }
+    requires neighbours { (i : ℕ) × (j : ℕ) × (k : ℕ) × AreNeighbours (Kept (A.is_own algebra.now) (A.is_fold algebra.now)) bytes.now i j k left right }
+    ensures union { (i j k : ℕ) → AreNeighbours (Kept (A.is_own algebra.now) (A.is_fold algebra.now)) bytes.now i j k left right
+        → StandsFor (Kept (A.is_own algebra.now) (A.is_fold algebra.now)) i (part_of bytes.now i k) result }
+    ensures left_lost { parts_of left ≡ None → parts_of result ≡ None }
+    ensures right_lost { parts_of right ≡ None → parts_of result ≡ None }
+{
+    match (left.into_parts(), right.into_parts()) {
+        (Some(left), Some(right)) => {
+            let parts = merge_parts(alloc, algebra, bytes, left, right);
+            fragment_of(alloc, algebra, parts)
+        }
+        _ => lost(),
+    }
 }

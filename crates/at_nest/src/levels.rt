@@ -74,12 +74,14 @@ pub enum Step<T> {
     Refused(Level<T>),
 }
 
+#[inline(always)]
 fn array<T>(from: u32, state: ArrayState, items: Vec<T>) -> Level<T>
     ensures { result ≡ Level.Array (record { from = from; state = state; items = items }) }
 {
     Level::Array(ArrayLevel { from, state, items })
 }
 
+#[inline(always)]
 fn object<T>(from: u32, state: ObjectState, members: Vec<Member<T>>) -> Level<T>
     ensures { result ≡ Level.Object (record { from = from; state = state; members = members }) }
 {
@@ -91,6 +93,7 @@ fn object<T>(from: u32, state: ObjectState, members: Vec<Member<T>>) -> Level<T>
 }
 
 impl<T: Drop> ArrayLevel<T> {
+    #[inline(always)]
     fn comma(self) -> Step<T>
         ensures { IsStep (held_of (Level.Array self)) (comma_next (held_of (Level.Array self))) result }
     {
@@ -101,6 +104,7 @@ impl<T: Drop> ArrayLevel<T> {
         }
     }
 
+    #[inline(always)]
     fn value(self, atom: T) -> Result<Step<T>, Memory>
         ensures { IfOk result (IsStep (held_of (Level.Array self)) (value_next (held_of (Level.Array self)) atom)) }
     {
@@ -120,6 +124,7 @@ impl<T: Drop> ArrayLevel<T> {
 }
 
 impl<T: Drop> ObjectLevel<T> {
+    #[inline(always)]
     fn comma(self) -> Step<T>
         ensures { IsStep (held_of (Level.Object self)) (comma_next (held_of (Level.Object self))) result }
     {
@@ -134,6 +139,7 @@ impl<T: Drop> ObjectLevel<T> {
         }
     }
 
+    #[inline(always)]
     fn colon(self) -> Step<T>
         ensures { IsStep (held_of (Level.Object self)) (colon_next (held_of (Level.Object self))) result }
     {
@@ -148,6 +154,7 @@ impl<T: Drop> ObjectLevel<T> {
         }
     }
 
+    #[inline(always)]
     fn value(self, atom: T) -> Result<Step<T>, Memory>
         ensures { IfOk result (IsStep (held_of (Level.Object self)) (value_next (held_of (Level.Object self)) atom)) }
     {
@@ -170,6 +177,7 @@ impl<T: Drop> ObjectLevel<T> {
         }
     }
 
+    #[inline(always)]
     fn name(self, name: MemberName) -> Step<T>
         ensures { IsStep (held_of (Level.Object self)) (name_next (held_of (Level.Object self)) name) result }
     {
@@ -191,6 +199,7 @@ impl<T: Drop> ObjectLevel<T> {
 
 impl<T: Drop> Level<T> {
     /// A level with nothing in it.
+    #[inline(always)]
     pub fn opened(alloc: Global, bracket: Bracket, from: u32) -> Self
         ensures { held_of result ≡ opened_as bracket from }
     {
@@ -201,6 +210,7 @@ impl<T: Drop> Level<T> {
     }
 
     /// The offset of the opening bracket.
+    #[inline(always)]
     pub fn first(&self) -> u32
         ensures { result ≡ from_of (held_of self.now) }
     {
@@ -211,6 +221,7 @@ impl<T: Drop> Level<T> {
     }
 
     /// Behind a comma.
+    #[inline(always)]
     pub fn comma(self) -> Step<T>
         ensures { IsStep (held_of self) (comma_next (held_of self)) result }
     {
@@ -221,6 +232,7 @@ impl<T: Drop> Level<T> {
     }
 
     /// Behind a colon.
+    #[inline(always)]
     pub fn colon(self) -> Step<T>
         ensures { IsStep (held_of self) (colon_next (held_of self)) result }
     {
@@ -231,6 +243,7 @@ impl<T: Drop> Level<T> {
     }
 
     /// Behind a value, which has become the atom.
+    #[inline(always)]
     pub fn value(self, atom: T) -> Result<Step<T>, Memory>
         ensures { IfOk result (IsStep (held_of self) (value_next (held_of self) atom)) }
     {
@@ -241,6 +254,7 @@ impl<T: Drop> Level<T> {
     }
 
     /// Behind a name.
+    #[inline(always)]
     pub fn name(self, name: MemberName) -> Step<T>
         ensures { IsStep (held_of self) (name_next (held_of self) name) result }
     {
@@ -251,6 +265,7 @@ impl<T: Drop> Level<T> {
     }
 
     /// Whether a name may come next.
+    #[inline(always)]
     pub fn wants_name(&self) -> bool
         ensures { result ≡ takes_name (held_of self.now) }
     {
@@ -264,6 +279,7 @@ impl<T: Drop> Level<T> {
     }
 
     /// Whether a value may come next.
+    #[inline(always)]
     pub fn wants_value(&self) -> bool
         ensures { result ≡ takes_value (held_of self.now) }
     {
@@ -280,6 +296,7 @@ impl<T: Drop> Level<T> {
     }
 
     /// Whether the closing bracket may come next.
+    #[inline(always)]
     pub fn can_close(&self, bracket: Bracket) -> bool
         ensures { result ≡ closes_with (held_of self.now) bracket }
     {

@@ -1,13 +1,14 @@
 //! Fragments of JSON texts (RFC 8259), and how they are merged.
 //!
 //! A file may be cut at any byte. [`run_block`] reads one piece of it without knowing what stands before: from outside
-//! text, from a string, and from behind a backslash in one. What an [`Algebra`] makes of the values that lie whole in
-//! the piece is kept, and what may belong to values around it.
+//! text, from a string, and from behind a backslash in one. [`merge`] joins what two neighbouring pieces gave, and
+//! [`finish`] answers what an [`Algebra`] makes of the file's tree, or the first place at which no JSON text goes on.
 #![tactic(auto)]
 
 mod algebra;
 mod bodies;
 mod copying;
+mod finishing;
 mod fragments;
 mod levels;
 mod pieces;
@@ -15,4 +16,8 @@ mod tokens;
 mod variants;
 
 pub use algebra::{Algebra, Member};
-pub use fragments::{Fragment, lost, run_block};
+pub use finishing::{NestEnd, finish, finish_span};
+pub use fragments::{Fragment, lost, merge, run_block};
+
+#[cfg(test)]
+mod tests;

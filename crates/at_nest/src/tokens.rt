@@ -42,6 +42,7 @@ fn within_of(text: &[u8]) -> Within
 }
 
 /// A whole literal or number.
+#[inline(always)]
 fn read_run<A: Algebra>(
     body: &mut Body<A::Atom>,
     alloc: Global,
@@ -59,6 +60,7 @@ fn read_run<A: Algebra>(
 }
 
 /// A token of a piece, with its bytes.
+#[inline(always)]
 pub fn read_token<A: Algebra>(
     body: &mut Body<A::Atom>,
     alloc: Global,

@@ -5,6 +5,7 @@ ghost use Rattle.at_lex.specs.declared.tokens.Start.{Start};
 ghost use Rattle.at_nest.specs.Shown.{shown};
 ghost use Rattle.at_nest.specs.Holding.{Kept};
 ghost use Rattle.at_nest.specs.Reading.{HasBytes, pend_from};
+ghost use Rattle.at_nest.specs.Slots.{end_in};
 ghost use Rattle.at_nest.specs.Stands.{HoldsVariant, HoldsBehind, CanMeet, Meets, Neighbours, HaveUnion};
 
 use crate::algebra::Algebra;
@@ -39,6 +40,7 @@ pub enum Variant<T> {
 }
 
 /// The bytes of the token, which a piece with this base has.
+#[inline(always)]
 fn part<'a>(piece: &'a [u8], base: u32, from: u32, to: u32) -> &'a [u8]
     requires base { base ≤ from }
     requires from { from ≤ to }
@@ -134,7 +136,9 @@ pub fn read_variant<A: Algebra>(
 
 impl<T: Drop> Variant<T> {
     /// The state in which what stands behind the span begins; none where the span stops.
-    pub fn end(&self) -> Option<Start> {
+    pub fn end(&self) -> Option<Start>
+        ensures { result ≡ end_in self.now }
+    {
         match self {
             Variant::AllLead { end } => Some(*end),
             Variant::Whole { end, .. } => Some(*end),
@@ -243,7 +247,11 @@ fn join_behind<A: Algebra>(
                 body,
                 halt: last,
             }),
-            Some(halt) => Ok(Variant::Broken { lead, body, halt }),
+            Some(earlier) => Ok(Variant::Broken {
+                lead,
+                body,
+                halt: earlier,
+            }),
         },
     }
 }

@@ -1,0 +1,358 @@
+ghost use Rattle.std.specs.Prelude.{◌≡◌, ◌≤◌, ◌<◌, ◌^◌, drop, length};
+ghost use Rattle.at_text.specs.Texts.{base_of as base_in};
+ghost use Rattle.at_nest.specs.Holding.{Kept};
+ghost use Rattle.at_nest.specs.Standing.{StandsFor, part_of};
+
+mod slow;
+mod tally;
+
+use super::*;
+use at_text::{Span, base_of};
+use slow::slow_nest;
+use std::alloc::Global;
+use std::process::Abort;
+use std::test::Fail;
+use tally::{Counted, Tally};
+
+fn piece<A: Algebra>(alloc: Global, algebra: &A, bytes: &[u8], from: u32, to: u32) -> Fragment<A>
+    requires fits { length bytes.now ≤ 2 ^ 28 }
+    requires order { from ≤ to }
+    requires end { to ≤ length bytes.now }
+    ensures { StandsFor (Kept (A.is_own algebra.now) (A.is_fold algebra.now)) from (part_of bytes.now from to) result }
+{
+    run_block(alloc, algebra, &bytes[from as usize..to as usize], from)
+}
+
+/// The fragment of the span, from those of its two parts.
+fn joined<A: Algebra>(
+    alloc: Global,
+    algebra: &A,
+    bytes: &[u8],
+    span: Span,
+    at: u32,
+    left: Fragment<A>,
+    right: Fragment<A>,
+) -> Fragment<A>
+    requires fits { length bytes.now ≤ 2 ^ 28 }
+    requires before { span.from ≤ at }
+    requires order { at ≤ span.to }
+    requires end { span.to ≤ length bytes.now }
+    requires left { StandsFor (Kept (A.is_own algebra.now) (A.is_fold algebra.now)) span.from (part_of bytes.now span.from at) left }
+    requires right { StandsFor (Kept (A.is_own algebra.now) (A.is_fold algebra.now)) at (part_of bytes.now at span.to) right }
+    ensures { StandsFor (Kept (A.is_own algebra.now) (A.is_fold algebra.now)) span.from (part_of bytes.now span.from span.to) result }
+{
+    merge(alloc, algebra, bytes, left, right)
+}
+
+/// The fragment of the span, of which that up to `at` is read already.
+fn with_piece<A: Algebra>(
+    alloc: Global,
+    algebra: &A,
+    bytes: &[u8],
+    span: Span,
+    at: u32,
+    whole: Fragment<A>,
+) -> Fragment<A>
+    requires fits { length bytes.now ≤ 2 ^ 28 }
+    requires before { span.from ≤ at }
+    requires order { at ≤ span.to }
+    requires end { span.to ≤ length bytes.now }
+    requires whole { StandsFor (Kept (A.is_own algebra.now) (A.is_fold algebra.now)) span.from (part_of bytes.now span.from at) whole }
+    ensures { StandsFor (Kept (A.is_own algebra.now) (A.is_fold algebra.now)) span.from (part_of bytes.now span.from span.to) result }
+{
+    let next = piece(alloc, algebra, bytes, at, span.to);
+    joined(alloc, algebra, bytes, span, at, whole, next)
+}
+
+/// The fragment of the span, cut at those of the places that lie in it, in their order.
+fn cut_at<A: Algebra>(
+    alloc: Global,
+    algebra: &A,
+    bytes: &[u8],
+    span: Span,
+    places: &[u32],
+) -> Fragment<A>
+    requires fits { length bytes.now ≤ 2 ^ 28 }
+    requires order { span.from ≤ span.to }
+    requires end { span.to ≤ length bytes.now }
+    ensures { StandsFor (Kept (A.is_own algebra.now) (A.is_fold algebra.now)) span.from (part_of bytes.now span.from span.to) result }
+{
+    let mut at = span.from;
+    let mut whole = piece(alloc, algebra, bytes, at, at);
+    for place in places {
+        if at <= *place && *place <= span.to {
+            let front = Span {
+                from: span.from,
+                to: *place,
+            };
+            whole = with_piece(alloc, algebra, bytes, front, at, whole);
+            at = *place;
+        }
+    }
+    with_piece(alloc, algebra, bytes, span, at, whole)
+}
+
+/// The answer of a span that is cut at the places.
+fn span_answer(
+    alloc: Global,
+    bytes: &[u8],
+    from: u32,
+    to: u32,
+    places: &[u32],
+) -> Result<u64, NestEnd>
+    requires fits { length bytes.now ≤ 2 ^ 28 }
+    requires order { from ≤ to }
+    requires end { to ≤ length bytes.now }
+{
+    let span = Span { from, to };
+    let whole = cut_at(alloc, &Tally, bytes, span, places);
+    finish_span(alloc, &Tally, bytes, span, whole)
+}
+
+/// The answer of a file that is cut at the places.
+fn answer(alloc: Global, bytes: &[u8], places: &[u32]) -> Result<u64, NestEnd>
+    requires { length bytes.now ≤ 2 ^ 28 }
+{
+    let span = Span {
+        from: base_of(bytes),
+        to: bytes.len() as u32,
+    };
+    let whole = cut_at(alloc, &Tally, bytes, span, places);
+    finish(alloc, &Tally, bytes, whole)
+}
+
+/// A text, where it is cut, and its answer.
+type Row = (&'static [u8], &'static [u32], Result<u64, NestEnd>);
+
+fn compare_rows<R: Abort + AllocGlobal>(rt: &R, rows: &[Row]) {
+    for (text, places, expected) in rows {
+        assert!(rt; text.len() < 100);
+        assert_eq!(rt;
+            answer(rt.alloc(), text, places),
+            *expected,
+            "{text:?} at {places:?}"
+        );
+    }
+}
+
+/// Texts with the number of their nodes, or why they have none.
+#[test]
+fn answers(rt: HostRuntime) {
+    let rows: [Row; 16] = [
+        (b"{\"a\":[1,2]}", &[], Ok(4)),
+        (b"{1 tru", &[0, 1, 6], Err(NestEnd::Syntax(1))),
+        (
+            b"{\"type\":\"Feature\",\"properties\":{\"k\":\"a\\\"b}]{\"},\"geometry\":null}",
+            &[0, 38, 39, 40, 63],
+            Ok(5),
+        ),
+        (b"", &[], Err(NestEnd::Ended)),
+        (b" \t\r\n", &[2], Err(NestEnd::Ended)),
+        (b"\xEF\xBB\xBF[]", &[4], Ok(1)),
+        (b"\xEF\xBB\xBF]", &[3], Err(NestEnd::Syntax(3))),
+        (b" \xEF\xBB\xBF[]", &[1, 2, 3], Err(NestEnd::Syntax(1))),
+        (b"tru", &[1], Err(NestEnd::Ended)),
+        (b"nulx", &[3], Err(NestEnd::Syntax(3))),
+        (b"-1.5e3", &[1, 2, 3, 4, 5], Ok(1)),
+        (b"-1.5e", &[3], Err(NestEnd::Ended)),
+        (b"[1 2]", &[2], Err(NestEnd::Syntax(3))),
+        (b"{\"a\":1,}", &[4], Err(NestEnd::Syntax(7))),
+        (b"\"a\\u00", &[3], Err(NestEnd::Ended)),
+        (b"[1}", &[1], Err(NestEnd::Syntax(2))),
+    ];
+    compare_rows(&rt, rows.as_slice());
+}
+
+fn compare_cuts<R: Abort + AllocGlobal>(rt: &R, text: &[u8], expected: Result<u64, NestEnd>) {
+    assert!(rt; text.len() < 100);
+    let end = text.len() as u32;
+    for first in 0..=end {
+        for second in first..=end {
+            assert_eq!(rt;
+                answer(rt.alloc(), text, &[first, second]),
+                expected,
+                "{text:?} at {first} and {second}"
+            );
+        }
+    }
+}
+
+fn compare_each<R: Abort + AllocGlobal>(rt: &R, texts: &[&'static [u8]]) {
+    for text in texts {
+        assert!(rt; text.len() < 100);
+        let whole = answer(rt.alloc(), text, &[]);
+        compare_cuts(rt, text, whole);
+    }
+}
+
+/// Every cut and every pair of cuts of a text has the answer of one piece.
+#[test]
+fn every_cut(rt: HostRuntime) {
+    let texts: [&'static [u8]; 26] = [
+        b"{\"a\":[1,2]}",
+        b"{1 tru",
+        b"{\"type\":\"Feature\",\"properties\":{\"k\":\"a\\\"b}]{\"},\"geometry\":null}",
+        b"",
+        b"  ",
+        b"\xEF\xBB\xBF{\"\":null}",
+        b"[\"\\\\\",\"\\\"\",\"\\u00e9\\n\",\"\\\\\\\"]\"]",
+        b"[-0.5e+10,1e5,12345678901,0]",
+        b"[true,false,null,nul]",
+        b" [ 1 , { } , [ ] ] ",
+        b"[[[[[[[[1]]]]]]]]",
+        b"{\"a\":{\"b\":{\"c\":{\"d\":[{}]}}}}",
+        b"[[1,2],[3,4]}",
+        b"{\"a\":[1,2}]",
+        b"[1,,2]",
+        b"[1 \"a\"]",
+        b"{\"a\" 1}",
+        b"{\"a\"::1}",
+        b"{\"a\":1,\"b\"}",
+        b"[1]2",
+        b"1e5x",
+        b"[\"a\nb\"]",
+        b"[\"\\x\"]",
+        b"{\"a\":\"b\",\"c\":\"d\"",
+        b"[01]",
+        b"\"a string, {not} [a] \\\"text\\\": \\\\",
+    ];
+    compare_each(&rt, texts.as_slice());
+}
+
+const ALPHABET: [u8; 8] = [b'[', b']', b'{', b'}', b',', b':', b'"', b'1'];
+
+/// How many texts of each length there are over the alphabet.
+const COUNTS: [usize; 6] = [1, 8, 64, 512, 4096, 32768];
+
+fn compare_slow<R: Abort + AllocGlobal>(rt: &R, text: &[u8]) -> Result<(), Fail>
+    requires { length text.now < 9 }
+{
+    let slow = slow_nest(rt.alloc(), text)?;
+    assert_eq!(rt; answer(rt.alloc(), text, &[1, 3]), slow, "{text:?}");
+    Ok(())
+}
+
+/// All texts of up to five bytes over a small alphabet, in pieces of one, two and two bytes.
+#[test]
+fn all_short_texts(rt: HostRuntime) -> Result<(), Fail> {
+    for (len, count) in COUNTS.iter().enumerate() {
+        for number in 0..*count {
+            let mut rest = number;
+            let mut text = [0; 8];
+            for b in text.iter_mut().take(len) {
+                *b = ALPHABET[rest % 8];
+                rest /= 8;
+            }
+            compare_slow(&rt, text.get(..len).unwrap_or(b""))?;
+        }
+    }
+    Ok(())
+}
+
+/// A million opening brackets in 64 blocks.
+#[test]
+fn a_million_brackets(rt: HostRuntime) -> Result<(), Fail> {
+    let mut text = Vec::new(rt.alloc());
+    for _ in 0..1_000_000 {
+        text.push(b'[')?;
+    }
+    let mut places = Vec::new(rt.alloc());
+    for block in 1..64u32 {
+        places.push(block * 15_625)?;
+    }
+    assert!(rt; text.len() <= 1_000_000);
+    let found = answer(rt.alloc(), text.as_slice(), places.as_slice());
+    assert_eq!(rt; found, Err(NestEnd::Ended));
+    Ok(())
+}
+
+fn compare_calls<R: Abort + AllocGlobal>(rt: &R, text: &[u8], cut: u32, nodes: u64) {
+    assert!(rt; text.len() < 100);
+    let algebra = Counted::new();
+    let span = Span {
+        from: base_of(text),
+        to: text.len() as u32,
+    };
+    let whole = cut_at(rt.alloc(), &algebra, text, span, &[cut]);
+    let before = algebra.calls();
+    assert_eq!(rt;
+        finish(rt.alloc(), &algebra, text, whole),
+        Ok(nodes),
+        "cut at {cut}"
+    );
+    assert_eq!(rt; algebra.calls(), before, "cut at {cut}");
+}
+
+/// Where nothing is pending at a text's end, its answer takes no call of the algebra.
+#[test]
+fn no_call_at_the_end(rt: HostRuntime) {
+    for cut in 0..12 {
+        compare_calls(&rt, b"{\"a\":[1,2]}", cut, 4);
+    }
+}
+
+/// A merge makes the atoms of what closes over the cut, and no others.
+#[test]
+fn calls_of_a_merge(rt: HostRuntime) -> Result<(), Fail> {
+    let mut text = Vec::new(rt.alloc());
+    text.push(b'[')?;
+    for item in 0..1_000 {
+        if item > 0 {
+            text.push(b',')?;
+        }
+        text.extend_from_slice(b"[1]")?;
+    }
+    text.push(b']')?;
+    assert_eq!(rt; text.len(), 4_001);
+    let bytes = text.as_slice();
+    assert!(rt; bytes.len() <= 4_001);
+    assert!(rt; 2_001 <= bytes.len());
+    let algebra = Counted::new();
+    let end = bytes.len() as u32;
+    let left = piece(rt.alloc(), &algebra, bytes, 0, 2_001);
+    let right = piece(rt.alloc(), &algebra, bytes, 2_001, end);
+    let before = algebra.calls();
+    let span = Span { from: 0, to: end };
+    let whole = joined(rt.alloc(), &algebra, bytes, span, 2_001, left, right);
+    assert!(rt; algebra.calls() <= before.wrapping_add(4));
+    assert_eq!(rt;
+        finish_span(rt.alloc(), &algebra, bytes, span, whole),
+        Ok(2_001)
+    );
+    Ok(())
+}
+
+/// Spans of a file, as texts of their own.
+#[test]
+fn spans(rt: HostRuntime) {
+    let bytes: &[u8] = b"x{}x";
+    assert_eq!(rt; span_answer(rt.alloc(), bytes, 1, 3, &[]), Ok(1));
+    assert_eq!(rt;
+        span_answer(rt.alloc(), bytes, 1, 4, &[2]),
+        Err(NestEnd::Syntax(3))
+    );
+    assert_eq!(rt;
+        span_answer(rt.alloc(), bytes, 1, 2, &[]),
+        Err(NestEnd::Ended)
+    );
+    assert_eq!(rt;
+        span_answer(rt.alloc(), bytes, 4, 4, &[]),
+        Err(NestEnd::Ended)
+    );
+}
+
+/// A lost fragment has no answer, and makes lost what it is merged with.
+#[test]
+fn lost_fragments(rt: HostRuntime) {
+    let bytes: &[u8] = b"[1]";
+    let span = Span { from: 0, to: 3 };
+    assert_eq!(rt;
+        finish_span(rt.alloc(), &Tally, bytes, span, lost()),
+        Err(NestEnd::Memory)
+    );
+    let whole = with_piece(rt.alloc(), &Tally, bytes, span, 1, lost());
+    assert_eq!(rt;
+        finish_span(rt.alloc(), &Tally, bytes, span, whole),
+        Err(NestEnd::Memory)
+    );
+}
