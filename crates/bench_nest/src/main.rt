@@ -1,0 +1,69 @@
+//! Counts the values of a JSON file: `bench_nest FILE BLOCKS ROUNDS` reads the file once, and counts so many times,
+//! each time in so many blocks that are merged. With no blocks it counts by the tokens alone.
+#![tactic(auto)]
+
+ghost use Rattle.std.specs.Prelude.{◌≤◌, ◌<◌, ◌^◌, length};
+ghost use Rattle.at_nest.specs.Ending.{Answers};
+ghost use Rattle.bench_nest.specs.Nodes.{IsCount};
+
+mod blocks;
+mod nodes;
+mod tokens;
+
+use at_nest::NestEnd;
+use blocks::count_nodes;
+use std::alloc::Global;
+use std::rt::{Env, Files};
+use std::{fs, io};
+use tokens::count_tokens;
+
+/// What one round gives.
+fn count(alloc: Global, bytes: &[u8], blocks: usize) -> Result<u64, NestEnd>
+    requires { length bytes.now ≤ 2 ^ 28 }
+    ensures { 0 < blocks → Answers IsCount 0 bytes.now result }
+{
+    if blocks == 0 {
+        return Ok(count_tokens(bytes));
+    }
+    count_nodes(alloc, bytes, blocks)
+}
+
+/// What the last of so many rounds gives.
+fn count_rounds(alloc: Global, bytes: &[u8], blocks: usize, rounds: u8) -> Result<u64, NestEnd>
+    requires { length bytes.now ≤ 2 ^ 28 }
+{
+    let mut last = Err(NestEnd::Ended);
+    for _ in 0..rounds {
+        last = count(alloc, bytes, blocks);
+    }
+    last
+}
+
+/// The file's bytes, where the words name one of at most 2^28 bytes.
+fn run<R: Env + Files + Print + AllocGlobal>(rt: &R) -> io::Result<()> {
+    let mut words = std::env::args(rt)?;
+    let _program = words.next();
+    let Some(name) = words.next() else {
+        return Ok(());
+    };
+    let blocks = match words.next() {
+        Some(word) => word.as_str().parse::<u16>().unwrap_or(1),
+        None => 1,
+    };
+    let rounds = match words.next() {
+        Some(word) => word.as_str().parse::<u8>().unwrap_or(1),
+        None => 1,
+    };
+    let bytes = fs::read(rt, name.as_str())?;
+    if bytes.len() > 1 << 28 {
+        return Ok(());
+    }
+    match count_rounds(rt.alloc(), bytes.as_slice(), blocks as usize, rounds) {
+        Ok(count) => println!(rt; "{count}"),
+        Err(_) => println!(rt; "no JSON text"),
+    }
+}
+
+fn main(rt: HostRuntime) -> io::Result<()> {
+    run(&rt)
+}
