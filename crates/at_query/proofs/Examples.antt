@@ -1,5 +1,5 @@
--- Worked values: printed answers, and features of which a query holds.
-use Rattle.std.proofs.Common.{◌≡◌, ℕ, pos, List, [], ◌∷◌, Some, None, refl, codes, inl, inr, arith}
+-- Worked values: query lines, printed answers, and features of which a query holds.
+use Rattle.std.proofs.Common.{◌≡◌, ℕ, pos, List, [], ◌∷◌, Some, None, IsTrue, refl, codes, inl, inr, arith}
 use Rattle.std.specs.Fmt.{digits}
 use Rattle.at_geom.specs.declared.positions.Pos.{Pos}
 use Rattle.at_geom.specs.declared.shapes.Shape.{Shape}
@@ -9,8 +9,48 @@ use Rattle.at_query.specs.declared.features.Feature.{Feature}
 use Rattle.at_query.specs.declared.answers.Answer.TheVariants.{Offsets, Number, Spread}
 use Rattle.at_query.specs.declared.queries.Verb.TheVariants as verbs
 use Rattle.at_query.specs.declared.queries.Test.TheVariants.{InBox}
+use Rattle.at_fixed.specs.declared.rounding.Coords.TheVariants.{Round}
+use Rattle.at_text.specs.Texts.{is_digit}
+use Rattle.at_query.specs.Spelling.{Placed, SpellsPlaced, SpelledBox, SpellsBox, SpelledQuery, in_box, meets_box, IsSpelled}
+use Rattle.at_query.specs.Queries.{spelled_fault}
 use Rattle.at_query.specs.Results.{IsResult}
 use Rattle.at_query.specs.Printing.{printed}
+
+abbrev whole_at : List ℕ → ℕ → Placed
+whole_at ds i = record { number = record { sign = []; whole = ds; fraction = None; exponent = None }; at = i }
+
+abbrev turned_box : SpelledBox
+turned_box = record { at = 18; low_x = whole_at (codes "2") 22; low_y = whole_at (codes "2") 24; high_x = whole_at (codes "1") 26; high_y = whole_at (codes "1") 28 }
+
+abbrev turned : SpelledQuery
+turned = record { verb = verbs.Count; tests = meets_box turned_box ∷ [] }
+
+corner : (d i : ℕ) (delimiter : List ℕ) → IsTrue (is_digit d) → SpellsPlaced (whole_at (d ∷ []) i) delimiter i (d ∷ delimiter)
+corner d i delimiter h = (d ∷ [], delimiter, refl, (refl, (record { sign = tt; digits = ((h, tt), tt); exponent = tt }, refl)), refl)
+
+turned_box_is_spelled : SpellsBox turned_box 18 (codes "box(2 2,1 1)")
+turned_box_is_spelled =
+    (refl, (codes "box(", codes "2 2,1 1)", refl, refl, (codes "2 ", codes "2,1 1)", refl, corner 0x32 22 (codes " ") refl, (codes "2,", codes "1 1)", refl, corner 0x32 24 (codes ",") refl, (codes "1 ", codes "1)", refl, corner 0x31 26 (codes " ") refl, corner 0x31 28 (codes ")") refl)))))
+
+-- the word `box` stands at 18
+turned_is_spelled : IsSpelled (codes "count where meets box(2 2,1 1)") turned
+turned_is_spelled = (
+  codes "count",
+  codes " where meets box(2 2,1 1)",
+  refl,
+  refl,
+  (codes " where ", codes "meets box(2 2,1 1)", refl, refl, (codes "meets box(2 2,1 1)", [], refl, (codes "meets ", codes "box(2 2,1 1)", refl, refl, turned_box_is_spelled), refl)),
+)
+
+turned_is_refused : spelled_fault 7 Round turned ≡ Some 18
+turned_is_refused = refl
+
+-- count where in box(0 0,300001 1) with nine digits: at the number
+too_large : spelled_fault 9 Round (record {
+  verb = verbs.Count;
+  tests = in_box (record { at = 15; low_x = whole_at (codes "0") 19; low_y = whole_at (codes "0") 21; high_x = whole_at (codes "300001") 23; high_y = whole_at (codes "1") 30 }) ∷ [];
+}) ≡ Some 23
+too_large = refl
 
 some_offsets : printed 7 (Offsets (0 ∷ 12 ∷ [])) ≡ codes "0\n12\n"
 unfolding digits

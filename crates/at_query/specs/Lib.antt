@@ -4,3 +4,6 @@ pub mod Ranges
 pub mod Parts
 pub mod Joined
 pub mod Printing
+pub mod Spelling
+pub mod Queries
+pub mod Reading

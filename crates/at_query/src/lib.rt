@@ -1,19 +1,27 @@
 //! Queries over features: of which features a query holds, and the answers that are gathered from features in
 //! parts.
 //!
-//! [`part_of`] gives what one feature adds to an answer, [`part_merge`] joins what two neighbouring lists of
+//! [`read_query`] reads a query line. [`part_of`] gives what one feature adds to an answer, [`part_merge`] joins what two neighbouring lists of
 //! features give, in any grouping, and [`answer_of`] and [`answer_text`] make the answer and its printed text of
 //! the whole list's part.
 #![tactic(auto)]
 
 mod answers;
+mod boxes;
+mod bytes;
+mod coordinates;
 mod features;
+mod filters;
+mod halts;
 mod holding;
 mod merging;
 mod parts;
 mod printing;
 mod queries;
+mod reading;
 mod results;
+mod strings;
+mod targets;
 
 pub use answers::{Answer, Offsets, Pair, Pairs};
 pub use features::{Feature, TextPair, TextPairs};
@@ -22,6 +30,7 @@ pub use merging::part_merge;
 pub use parts::{Entries, Entry, Part};
 pub use printing::answer_text;
 pub use queries::{Query, Test, Tests, Verb};
+pub use reading::{QueryEnd, read_query};
 pub use results::{answer_of, part_none, part_of};
 
 #[cfg(test)]

@@ -4,6 +4,8 @@ ghost use Rattle.at_geom.specs.Shapes.{ArePathsInRange, ArePolygonsInRange, IsSh
 ghost use Rattle.at_query.specs.Ranges.{IsTestInRange, IsQueryInRange, IsFeatureInRange};
 ghost use Rattle.at_query.specs.Parts.{AreAlike, IsAnswerable};
 
+mod lines;
+
 use super::*;
 use at_geom::{Extent, Path, Paths, Polygon, Polygons, Pos, Shape};
 use at_lex::Units;

@@ -1,0 +1,102 @@
+ghost use Rattle.std.specs.Prelude.{◌≡◌, ◌∷◌, [], ◌^◌, ◌≤◌, length, option_map, IfOk, MatchResult};
+ghost use Rattle.at_text.specs.declared.faults.Fault.{Fault};
+ghost use Rattle.at_query.specs.Queries.{ring_of as ring_from, box_shape as shape_of_box};
+ghost use Rattle.at_query.specs.Reading.{Ends, Stops, Target, GeometryTarget, BoxTarget, test_in, IfStopped};
+
+use crate::boxes::read_box;
+use crate::bytes::stands;
+use crate::filters::TestRead;
+use crate::halts::{Halt, Rules};
+use crate::queries::Test;
+use at_geom::{Extent, Path, Paths, Polygon, Polygons, Pos, Shape};
+use at_text::Fault;
+use at_wkt::{LineFault, read_geometry};
+use std::alloc::{AllocError, Global};
+
+/// The ring of a box, from its low corner.
+fn ring_of(alloc: Global, extent: Extent) -> Result<Path, AllocError>
+    ensures { IfOk result (λ path. path ≡ ring_from extent) }
+{
+    let a = extent.low;
+    let c = extent.high;
+    let ring = vec![in alloc; a, Pos { x: c.x, y: a.y }, c, Pos { x: a.x, y: c.y }, a]?;
+    Ok(Path::from_vec(ring))
+}
+
+/// The polygon of that ring.
+fn box_shape(alloc: Global, extent: Extent) -> Result<Shape, AllocError>
+    ensures { IfOk result (λ shape. shape ≡ shape_of_box extent) }
+{
+    let rings = vec![in alloc; ring_of(alloc, extent)?]?;
+    let polygons = vec![in alloc;
+        Polygon {
+            rings: Paths::from_vec(rings)
+        },
+    ]?;
+    Ok(Shape {
+        points: Path::from_vec(Vec::new(alloc)),
+        lines: Paths::from_vec(Vec::new(alloc)),
+        polygons: Polygons::from_vec(polygons),
+    })
+}
+
+/// Reads a box that a shape is to meet.
+fn read_met_box(alloc: Global, text: &[u8], at: usize, rules: Rules) -> Result<TestRead, Halt>
+    requires inside { at ≤ length text.now }
+    requires short { length text.now ≤ 2 ^ 28 }
+    ensures { MatchResult result
+        (λ read. Ends (BoxTarget rules.digits rules.how) text.now at read.end (test_in read))
+        (λ halt. IfStopped halt (Stops (BoxTarget rules.digits rules.how) text.now at)) }
+{
+    let found = read_box(text, at, rules)?;
+    let shape = box_shape(alloc, found.extent)?;
+    Ok(TestRead {
+        end: found.end,
+        test: Test::MeetsShape(shape),
+        fault: found.fault,
+    })
+}
+
+/// The offset of a fault, where there is one.
+fn offset_of(fault: Option<Fault>) -> Option<u32>
+    ensures { result ≡ option_map (λ (f : Fault). f.at) fault }
+{
+    match fault {
+        None => None,
+        Some(found) => Some(found.at),
+    }
+}
+
+/// Reads a geometry that a shape is to meet.
+fn read_met_geometry(alloc: Global, text: &[u8], at: usize, rules: Rules) -> Result<TestRead, Halt>
+    requires inside { at ≤ length text.now }
+    requires short { length text.now ≤ 2 ^ 28 }
+    ensures { MatchResult result
+        (λ read. Ends (GeometryTarget rules.digits rules.how) text.now at read.end (test_in read))
+        (λ halt. IfStopped halt (Stops (GeometryTarget rules.digits rules.how) text.now at)) }
+{
+    match read_geometry(alloc, &text[at..], at as u32, rules.digits, rules.how) {
+        Ok(prefix) => Ok(TestRead {
+            end: at + prefix.taken as usize,
+            test: Test::MeetsShape(prefix.shape),
+            fault: offset_of(prefix.fault),
+        }),
+        Err(LineFault::Found(fault)) => Err(Halt::At(fault.at as usize)),
+        Err(LineFault::Memory) => Err(Halt::Memory),
+    }
+}
+
+/// Reads a box or a geometry that a shape is to meet.
+pub fn read_target(alloc: Global, text: &[u8], at: usize, rules: Rules) -> Result<TestRead, Halt>
+    requires inside { at ≤ length text.now }
+    requires short { length text.now ≤ 2 ^ 28 }
+    ensures { MatchResult result
+        (λ read. Ends (Target rules.digits rules.how) text.now at read.end (test_in read))
+        (λ halt. IfStopped halt (Stops (Target rules.digits rules.how) text.now at)) }
+{
+    if stands(text, at, b'b') {
+        read_met_box(alloc, text, at, rules)
+    } else {
+        read_met_geometry(alloc, text, at, rules)
+    }
+}
