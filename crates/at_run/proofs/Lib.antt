@@ -1,0 +1,9 @@
+pub mod Falls
+pub mod Powers
+pub mod EvenPlaces
+pub mod LineParts
+pub mod ShapeRanges
+pub mod Covered
+pub mod LineSizes
+pub mod FileSizes
+pub mod Results

@@ -1,0 +1,124 @@
+-- What is gathered of one line, and of joined lines.
+use Rattle.std.proofs.Common.{◌≡◌, ℕ, List, [], ◌∷◌, ◌++◌, Option, Some, None, Result, Ok, Err, refl, sym, ap, ◌∙◌, subst, append-nil, append_assoc}
+use Rattle.std.specs.Result.{IfOk}
+use Rattle.at_text.specs.declared.faults.Fault.{Fault}
+use Rattle.at_text.specs.declared.memory.Memory.{Memory}
+use Rattle.at_text.specs.Faults.{first_fault, first_of}
+use Rattle.at_fixed.specs.declared.rounding.Coords.{Coords}
+use Rattle.at_geom.specs.declared.shapes.Shape.{Shape}
+use Rattle.at_wkt.specs.declared.answers.LineFault.{LineFault}
+use Rattle.at_wkt.specs.declared.answers.LineFault.TheVariants.{Found, Memory as NoMemory}
+use Rattle.at_wkt.specs.Answers.{IfFound, HasLineShape, HasFirstLineFault}
+use Rattle.at_wkt.specs.Lines.{FileLine, HaveLineFaults}
+use Rattle.at_wkt.specs.Reading.{HasLineFault}
+use Rattle.at_wkt.proofs.Exits.{first_of-append}
+use Rattle.at_wkt.proofs.FileAnswers.{line_without_fault, line_with_fault}
+use Rattle.at_query.specs.declared.features.Feature.{Feature}
+use Rattle.at_query.specs.declared.parts.Part.{Part}
+use Rattle.at_query.specs.Parts.{IsPart, JoinsParts}
+use Rattle.at_query.proofs.Joining.{parts_are_alike}
+use Rattle.at_run.specs.declared.gathered.Gathered.{Gathered}
+use Rattle.at_run.specs.declared.gathered.Gathered.TheVariants.{Kept, Failed}
+use Rattle.at_run.specs.Features.{IsLineFeature, AreLineFeatures}
+use Rattle.at_run.specs.Gathering.{Asked, IsFirstOfLines, IsOwn, IsGathered, AreJoinable, JoinsGathered, KeepsOwn, IsLineEnd}
+
+module _ (digits : ℕ) (how : Coords) where
+  -- ---- faults
+
+  have_more : (ls ms : List FileLine) (fs gs : List Fault) → HaveLineFaults digits how ls fs → HaveLineFaults digits how ms gs → HaveLineFaults digits how (ls ++ ms) (fs ++ gs)
+  have_more [] ms fs gs e h = let P : List Fault → Type 0 = λ z. HaveLineFaults digits how ms (z ++ gs) in subst P (sym e) h
+  have_more (l ∷ ls) ms fs gs (first, others, hf, ho, e) h = (first, others ++ gs, hf, have_more ls ms others gs ho h, ap (λ z. z ++ gs) e ∙ append_assoc first others gs)
+
+  have_split : (ls ms : List FileLine) (hs : List Fault) → HaveLineFaults digits how (ls ++ ms) hs → (fs gs : List Fault) × HaveLineFaults digits how ls fs × HaveLineFaults digits how ms gs × (hs ≡ fs ++ gs)
+  have_split [] ms hs h = ([], hs, refl, h, refl)
+  have_split (l ∷ ls) ms hs (first, others, hf, ho, e) =
+      let (fs, gs, h, k, f) = have_split ls ms others ho in
+      (first ++ fs, gs, (first, fs, hf, h, refl), k, e ∙ (ap (λ z. first ++ z) f ∙ sym (append_assoc first fs gs)))
+
+  pub first_joined : (ls ms : List FileLine) (a b c : Option Fault) → IsFirstOfLines digits how ls a → IsFirstOfLines digits how ms b → c ≡ first_fault a b → IsFirstOfLines digits how (ls ++ ms) c
+  first_joined ls ms a b c h k e = record {
+    faults = h.faults ++ k.faults;
+    have = have_more ls ms h.faults k.faults h.have k.have;
+    first_is = e ∙ (ap (λ z. first_fault z b) h.first_is ∙ (ap (first_fault (first_of h.faults)) k.first_is ∙ sym (first_of-append h.faults k.faults)));
+    only = λ others o.
+        let (fs, gs, hf, hg, eo) = have_split ls ms others o in
+        ap first_of eo ∙ (first_of-append fs gs ∙ (ap (λ z. first_fault z (first_of gs)) (h.only fs hf) ∙ (ap (first_fault a) (k.only gs hg) ∙ sym e)));
+  }
+
+  pub first_none : IsFirstOfLines digits how [] None
+  first_none = record { faults = []; have = refl; first_is = refl; only = λ others o. ap first_of o }
+
+  first_one : (at : ℕ) (text : List ℕ) (first : Option Fault) → HasLineFault digits how at text first → IsFirstOfLines digits how (record { at = at; text = text } ∷ []) first
+  first_one at text first h = record {
+    faults = h.faults;
+    have = (h.faults, [], h.have, refl, sym (append-nil h.faults));
+    first_is = h.first_is;
+    only = λ others o. let (fs, gs, hf, hg, eo) = o in ap first_of (eo ∙ (ap (λ z. fs ++ z) hg ∙ append-nil fs)) ∙ h.only fs hf;
+  }
+
+  -- ---- features
+
+  features_joined : (ls ms : List FileLine) (fs gs : List Feature) → AreLineFeatures digits how ls fs → AreLineFeatures digits how ms gs → AreLineFeatures digits how (ls ++ ms) (fs ++ gs)
+  features_joined [] ms fs gs e k = let P : List Feature → Type 0 = λ z. AreLineFeatures digits how ms (z ++ gs) in subst P (sym e) k
+  features_joined (l ∷ ls) ms fs gs (f, rest, e, is, more) k = (f, rest ++ gs, ap (λ z. z ++ gs) e, is, features_joined ls ms rest gs more k)
+
+  feature_one : (at : ℕ) (text : List ℕ) (shape : Shape) → HasLineShape digits how at text shape → IsLineFeature digits how (record { at = at; text = text }) (record { at = at; shape = shape; texts = [] })
+  feature_one at text shape h = record { at = refl; shape = (h.geometry, h.spelled, h.shape_is); texts = refl }
+
+-- ---- what is gathered
+
+module _ (asked : Asked) where
+  pub gathered_none : (part : Part) → IsPart asked.query [] part → IsGathered asked (Kept part) []
+  gathered_none part is = (first_none asked.digits asked.how, ([], refl, is))
+
+  pub gathered_line : (at : ℕ) (text : List ℕ) (shape : Shape) (part : Part) → HasLineShape asked.digits asked.how at text shape
+      → IsPart asked.query (record { at = at; shape = shape; texts = [] } ∷ []) part → IsGathered asked (Kept part) (record { at = at; text = text } ∷ [])
+  gathered_line at text shape part h is = (
+    first_one asked.digits asked.how at text None (line_without_fault asked.digits asked.how at text shape h),
+    (
+      record { at = at; shape = shape; texts = [] } ∷ [],
+      (record { at = at; shape = shape; texts = [] }, [], refl, feature_one asked.digits asked.how at text shape h, refl),
+      is,
+    ),
+  )
+
+  pub gathered_fault : (at : ℕ) (text : List ℕ) (fault : Fault) → HasFirstLineFault asked.digits asked.how at text fault → IsGathered asked (Failed fault) (record { at = at; text = text } ∷ [])
+  gathered_fault at text fault h = first_one asked.digits asked.how at text (Some fault) (line_with_fault asked.digits asked.how at text fault h)
+
+  pub own_are_joinable : (left right : Gathered) → IsOwn asked left → IsOwn asked right → AreJoinable left right
+  own_are_joinable (Kept a) (Kept b) (fs, h) (gs, k) = parts_are_alike asked.query fs gs a b h k
+  own_are_joinable (Kept a) (Failed f) h k = tt
+  own_are_joinable (Failed f) (Kept b) h k = tt
+  own_are_joinable (Failed f) (Failed g) h k = tt
+
+  both_kept : (a b c : Part) (ls ms : List FileLine) → JoinsParts a b c → IsGathered asked (Kept a) ls → IsGathered asked (Kept b) ms → IsGathered asked (Kept c) (ls ++ ms)
+  both_kept a b c ls ms joins (h, (fs, hf, pa)) (k, (gs, kg, pb)) =
+      (first_joined asked.digits asked.how ls ms None None None h k refl, (fs ++ gs, features_joined asked.digits asked.how ls ms fs gs hf kg, joins asked.query fs gs pa pb))
+
+pub joins_kept : (left : Part) (right : Gathered) (b c : Part) → right ≡ Kept b → JoinsParts left b c → JoinsGathered (Kept left) right (Kept c)
+joins_kept left right b c q joins = rw (q) (λ asked ls ms h k. both_kept asked left b c ls ms joins h k)
+
+pub owns_kept : (left : Part) (right : Gathered) (b c : Part) → right ≡ Kept b → JoinsParts left b c → KeepsOwn (Kept left) right (Kept c)
+owns_kept left right b c q joins = rw (q) (λ asked h k. (h.0 ++ k.0, joins asked.query h.0 k.0 h.1 k.1))
+
+pub joins_right : (left : Part) (right : Gathered) (f : Fault) → right ≡ Failed f → JoinsGathered (Kept left) right (Failed f)
+joins_right left right f q = rw (q) (λ asked ls ms h k. first_joined asked.digits asked.how ls ms None (Some f) (Some f) h.0 k refl)
+
+pub joins_left : (f : Fault) (right : Gathered) (b : Part) → right ≡ Kept b → JoinsGathered (Failed f) right (Failed f)
+joins_left f right b q = rw (q) (λ asked ls ms h k. first_joined asked.digits asked.how ls ms (Some f) None (Some f) h k.0 refl)
+
+pub joins_failed : (f : Fault) (right : Gathered) (g first : Fault) → right ≡ Failed g → Some first ≡ first_fault (Some f) (Some g) → JoinsGathered (Failed f) right (Failed first)
+joins_failed f right g first q e = rw (q) (λ asked ls ms h k. first_joined asked.digits asked.how ls ms (Some f) (Some g) (Some first) h k e)
+
+-- ---- what a line's refusal becomes
+
+pub end_gathered : (asked : Asked) (at : ℕ) (text : List ℕ) (end : LineFault) (result : Result Gathered Memory) → IfFound end (HasFirstLineFault asked.digits asked.how at text) → IsLineEnd end result
+    → IfOk result (λ gathered. IsGathered asked gathered (record { at = at; text = text } ∷ []))
+end_gathered asked at text (Found fault) result h e = let P : Result Gathered Memory → Type 0 = λ z. IfOk z (λ gathered. IsGathered asked gathered (record { at = at; text = text } ∷ [])) in subst P (sym e) (gathered_fault asked at text fault h)
+end_gathered asked at text NoMemory (Err e) h is = tt
+end_gathered asked at text NoMemory (Ok gathered) h is = absurd (cc)
+
+pub end_owned : (asked : Asked) (end : LineFault) (result : Result Gathered Memory) → IsLineEnd end result → IfOk result (IsOwn asked)
+end_owned asked (Found fault) result e = let P : Result Gathered Memory → Type 0 = λ z. IfOk z (IsOwn asked) in subst P (sym e) tt
+end_owned asked NoMemory (Err e) is = tt
+end_owned asked NoMemory (Ok gathered) is = absurd (cc)

@@ -1,0 +1,112 @@
+-- The coordinates of what a line spells are in range: a number without a value counts as 0 in a shape.
+use Rattle.std.proofs.Common.{◌≡◌, ℕ, zero, suc, ◌+◌, ◌*◌, ◌^◌, ◌≤◌, ℤ, pos, nat_abs, Bool, true, false, List, [], ◌∷◌, length, map, flat_map, All, Result, Ok, Err, option_to_list, refl, sym, ◌∙◌, subst, arith}
+use Rattle.std.specs.Prelude.{neg_ℤ}
+use Rattle.std.proofs.lemmas.List.Elements.{All-nil, All-cons, All-append}
+use Rattle.std.proofs.Math.Nat.{le_of_mul-le-mul_right}
+use Rattle.at_fixed.specs.declared.rounding.Coords.{Coords}
+use Rattle.at_fixed.specs.declared.rounding.Coords.TheVariants.{Exact, Round}
+use Rattle.at_fixed.specs.declared.rounding.FixedFault.{FixedFault}
+use Rattle.at_fixed.specs.Numerals.{Numeral}
+use Rattle.at_fixed.specs.Fixed.{largest, signed, mantissa, has_minus, fraction_digits, exponent_above, exponent_below}
+use Rattle.at_fixed.specs.Products.{IsQuotient, IsSize}
+use Rattle.at_fixed.proofs.FixedLaws.{value_means}
+use Rattle.at_fixed.proofs.Sizes.{pow_positive}
+use Rattle.at_geom.specs.declared.positions.Pos.{Pos}
+use Rattle.at_geom.specs.declared.shapes.Polygon.{Polygon}
+use Rattle.at_geom.specs.declared.shapes.Shape.{Shape}
+use Rattle.at_geom.specs.Segments.{IsInRange}
+use Rattle.at_geom.specs.Shapes.{ArePathsInRange, ArePolygonsInRange, IsShapeInRange}
+use Rattle.at_wkt.specs.Positions.{Position, Positions, value_in, value_of, pos_of, path_of}
+use Rattle.at_wkt.specs.Geometry.{Geometry, point, line_string, polygon, multi_point, multi_line_string, multi_polygon, collection, Geometries, no_geometries, geometry_and}
+use Rattle.at_wkt.specs.Meaning.{both, of_points, of_lines, of_polygons, present, polygons_of, shape_of, shape_of_all}
+use Rattle.at_wkt.specs.Answers.{HasLineShape}
+
+-- ---- numbers
+
+quotient_small : (how : Coords) (p b : ℕ) (size : Result ℕ FixedFault) → IsQuotient how p (10 ^ b) size → (r : ℕ) → size ≡ Ok r → r ≤ largest
+quotient_small Exact p b size h r e = let (product, small) = h.value r e in let t = pow_positive b in le_of_mul-le-mul_right (omega (arith, product, small)) t
+quotient_small Round p b size h r e = (h.value r e).1
+
+size_small : (how : Coords) (m a b : ℕ) (size : Result ℕ FixedFault) → IsSize how m a b size → (r : ℕ) → size ≡ Ok r → r ≤ largest
+size_small how zero a b size h r e = let z : r ≡ 0 = (let both_are : Ok r ≡ Ok 0 = sym e ∙ h in cc) in omega (arith, z)
+size_small how (suc m) a b size h r e = quotient_small how (suc m * 10 ^ a) b size h r e
+
+negated : (r : ℕ) → nat_abs (neg_ℤ (pos r)) ≡ r
+negated zero = refl
+negated (suc r) = refl
+
+signed_small : (minus : Bool) (size : Result ℕ FixedFault) → ((r : ℕ) → size ≡ Ok r → r ≤ largest) → nat_abs (value_in (signed minus size)) ≤ 300000000000000
+signed_small true (Ok r) h = let l = h r refl in let n = negated r in omega (arith, l, n)
+signed_small false (Ok r) h = h r refl
+signed_small minus (Err e) h = omega arith
+
+module _ (digits : ℕ) (how : Coords) where
+  value_small : (n : Numeral) → nat_abs (value_of digits how n) ≤ 300000000000000
+  value_small n =
+      let v = value_means n digits how in
+      let s = signed_small (has_minus n.sign) v.size (size_small how (mantissa n) (digits + exponent_above n.exponent) (length (fraction_digits n) + exponent_below n.exponent) v.size v.is_size) in
+      let P : Result ℤ FixedFault → Type 0 = λ z. nat_abs (value_in z) ≤ 300000000000000 in subst P (sym v.sign) s
+
+  pos_small : (p : Position) → IsInRange (pos_of digits how p)
+  pos_small p = (value_small p.x, value_small p.y)
+
+  -- ---- lists
+
+  all_map : {X Y : Type 0} (P : Y → Type 0) (f : X → Y) → ((x : X) → P (f x)) → (xs : List X) → All P (map f xs)
+  all_map P f h [] = All-nil P
+  all_map P f h (x ∷ xs) = All-cons P (f x) (map f xs) (h x) (all_map P f h xs)
+
+  all_flat : {X Y : Type 0} (P : Y → Type 0) (f : X → List Y) → ((x : X) → All P (f x)) → (xs : List X) → All P (flat_map f xs)
+  all_flat P f h [] = All-nil P
+  all_flat P f h (x ∷ xs) = All-append P (f x) (flat_map f xs) (h x) (all_flat P f h xs)
+
+  points_small : (ps : List Position) → All IsInRange (map (pos_of digits how) ps)
+  points_small ps = all_map IsInRange (pos_of digits how) pos_small ps
+
+  path_small : (ps : Positions) → All IsInRange (path_of digits how ps)
+  path_small ps = points_small ps.items
+
+  paths_small : (ls : List Positions) → ArePathsInRange (map (path_of digits how) ls)
+  paths_small ls = all_map (All IsInRange) (path_of digits how) path_small ls
+
+  area_small : (rings : List Positions) → ArePolygonsInRange (polygons_of digits how rings)
+  area_small [] = All-nil (λ (polygon : Polygon). ArePathsInRange polygon.rings)
+  area_small (exterior ∷ holes) = All-cons (λ (polygon : Polygon). ArePathsInRange polygon.rings) (record { rings = map (path_of digits how) (exterior ∷ holes) }) [] (paths_small (exterior ∷ holes)) (All-nil (λ (polygon : Polygon). ArePathsInRange polygon.rings))
+
+  areas_small : (areas : List (List Positions)) → ArePolygonsInRange (flat_map (polygons_of digits how) areas)
+  areas_small areas = all_flat (λ (polygon : Polygon). ArePathsInRange polygon.rings) (polygons_of digits how) area_small areas
+
+  -- ---- shapes
+
+  with_points : (ps : List Pos) → All IsInRange ps → IsShapeInRange (of_points ps)
+  with_points ps h = record { points = h; lines = All-nil (All IsInRange); polygons = All-nil (λ (polygon : Polygon). ArePathsInRange polygon.rings) }
+
+  with_lines : (ls : List (List Pos)) → ArePathsInRange ls → IsShapeInRange (of_lines ls)
+  with_lines ls h = record { points = All-nil IsInRange; lines = h; polygons = All-nil (λ (polygon : Polygon). ArePathsInRange polygon.rings) }
+
+  with_polygons : (ps : List Polygon) → ArePolygonsInRange ps → IsShapeInRange (of_polygons ps)
+  with_polygons ps h = record { points = All-nil IsInRange; lines = All-nil (All IsInRange); polygons = h }
+
+  with_both : (s u : Shape) → IsShapeInRange s → IsShapeInRange u → IsShapeInRange (both s u)
+  with_both s u h k = record {
+    points = All-append IsInRange s.points u.points h.points k.points;
+    lines = All-append (All IsInRange) s.lines u.lines h.lines k.lines;
+    polygons = All-append (λ (polygon : Polygon). ArePathsInRange polygon.rings) s.polygons u.polygons h.polygons k.polygons;
+  }
+
+  mutual
+    pub geometry_in_range : (g : Geometry) → IsShapeInRange (shape_of digits how g)
+    geometry_in_range (point p) = with_points _ (points_small (option_to_list p))
+    geometry_in_range (line_string ps) = with_lines _ (paths_small (option_to_list ps))
+    geometry_in_range (polygon rings) = with_polygons _ (area_small rings)
+    geometry_in_range (multi_point ps) = with_points _ (points_small (present ps))
+    geometry_in_range (multi_line_string ls) = with_lines _ (paths_small (present ls))
+    geometry_in_range (multi_polygon areas) = with_polygons _ (areas_small areas)
+    geometry_in_range (collection gs) = geometries_in_range gs
+
+    geometries_in_range : (gs : Geometries) → IsShapeInRange (shape_of_all digits how gs)
+    geometries_in_range no_geometries = with_points [] (All-nil IsInRange)
+    geometries_in_range (geometry_and g gs) = with_both _ _ (geometry_in_range g) (geometries_in_range gs)
+
+  pub line_in_range : (at : ℕ) (text : List ℕ) (shape : Shape) → HasLineShape digits how at text shape → IsShapeInRange shape
+  line_in_range at text shape h = subst IsShapeInRange (sym h.shape_is) (geometry_in_range h.geometry)

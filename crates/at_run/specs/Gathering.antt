@@ -1,0 +1,69 @@
+-- What is kept of the lines of a file as they are read: the part of a query, or the first fault so far. Only contracts of private functions cite this.
+use Rattle.std.specs.Prelude.{◌≡◌, ℕ, List, ◌++◌, Option, Some, None, Result, Ok, Err, IsErr}
+use Rattle.at_text.specs.declared.faults.Fault.{Fault}
+use Rattle.at_text.specs.declared.memory.Memory.{Memory}
+use Rattle.at_text.specs.Faults.{first_of}
+use Rattle.at_fixed.specs.declared.rounding.Coords.{Coords}
+use Rattle.at_wkt.specs.declared.answers.LineFault.{LineFault}
+use Rattle.at_wkt.specs.declared.answers.LineFault.TheVariants as ends
+use Rattle.at_wkt.specs.Lines.{FileLine, HaveLineFaults}
+use Rattle.at_query.specs.declared.queries.Query.{Query}
+use Rattle.at_query.specs.declared.features.Feature.{Feature}
+use Rattle.at_query.specs.declared.parts.Part.{Part}
+use Rattle.at_query.specs.Parts.{IsPart, AreAlike}
+use Rattle.at_run.specs.declared.gathered.Gathered.{Gathered}
+use Rattle.at_run.specs.declared.gathered.Gathered.TheVariants.{Kept, Failed}
+use Rattle.at_run.specs.declared.faults.RunFault.{RunFault}
+use Rattle.at_run.specs.declared.faults.RunFault.TheVariants.{Found, Memory as NoMemory}
+use Rattle.at_run.specs.Features.{AreLineFeatures}
+
+-- a query, and how the numbers of the lines are read
+pub record Asked : Type 0 where
+  pub query : Query
+  pub digits : ℕ
+  pub how : Coords
+
+-- the first fault of the lines, or none, and no other is
+pub record IsFirstOfLines (digits : ℕ) (how : Coords) (lines : List FileLine) (first : Option Fault) : Type 0 where
+  pub faults : List Fault
+  pub have : HaveLineFaults digits how lines faults
+  pub first_is : first ≡ first_of faults
+  pub only : (others : List Fault) → HaveLineFaults digits how lines others → first_of others ≡ first
+
+-- the part of the lines' features
+abbrev pub IsLinesPart : Asked → List FileLine → Part → Type 0
+IsLinesPart asked lines part = (features : List Feature) × AreLineFeatures asked.digits asked.how lines features × IsPart asked.query features part
+
+-- the part of some features, or a fault
+abbrev pub IsOwn : Asked → Gathered → Type 0
+IsOwn asked (Kept part) = (features : List Feature) × IsPart asked.query features part
+IsOwn asked (Failed fault) = Unit {0}
+
+-- the part of the lines where none of them has a fault, and else the first of their faults
+abbrev pub IsGathered : Asked → Gathered → List FileLine → Type 0
+IsGathered asked (Kept part) lines = IsFirstOfLines asked.digits asked.how lines None × IsLinesPart asked lines part
+IsGathered asked (Failed fault) lines = IsFirstOfLines asked.digits asked.how lines (Some fault)
+
+-- where both are parts, they are of one verb
+abbrev pub AreJoinable : Gathered → Gathered → Type 0
+AreJoinable (Kept left) (Kept right) = AreAlike left right
+AreJoinable _ _ = Unit {0}
+
+-- whatever is asked, and of whatever lines these were gathered, it is what is gathered of the joined lines
+abbrev pub JoinsGathered : Gathered → Gathered → Gathered → Type 0
+JoinsGathered left right both = (asked : Asked) (before behind : List FileLine) → IsGathered asked left before → IsGathered asked right behind → IsGathered asked both (before ++ behind)
+
+-- whatever is asked that both are own of, it is own of
+abbrev pub KeepsOwn : Gathered → Gathered → Gathered → Type 0
+KeepsOwn left right both = (asked : Asked) → IsOwn asked left → IsOwn asked right → IsOwn asked both
+
+-- the part, or why there is none
+abbrev pub run_end : Result Gathered Memory → Result Part RunFault
+run_end (Ok (Kept part)) = Ok part
+run_end (Ok (Failed fault)) = Err (Found fault)
+run_end (Err refused) = Err NoMemory
+
+-- what is gathered of a line that has no shape
+abbrev pub IsLineEnd : LineFault → Result Gathered Memory → Type 0
+IsLineEnd (ends.Found fault) result = result ≡ Ok (Failed fault)
+IsLineEnd ends.Memory result = IsErr result

@@ -1,0 +1,4 @@
+pub mod Places
+pub mod Features
+pub mod Answers
+pub mod Gathering

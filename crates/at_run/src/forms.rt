@@ -1,0 +1,8 @@
+/// How the bytes of a file are read.
+#[derive(Clone, Copy, Debug, PartialEq, Eq)]
+pub enum Form {
+    /// One JSON text (RFC 7946).
+    GeoJson,
+    /// A geometry a line (OGC 06-103r4 section 7).
+    Wkt,
+}
