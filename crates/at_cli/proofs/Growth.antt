@@ -1,10 +1,10 @@
 -- How the content of a sink grows by one text after another.
-use Rattle.std.proofs.Common.{◌≡◌, ℕ, ◌+◌, ◌-◌, ◌<◌, ◌≤◌, ◌⊎◌, inl, inr, List, [], ◌++◌, length, take, drop, get_or, take-append-drop, drop-drop, ◌∷◌, suc, Option, Some, None, refl, sym, ◌∙◌, ap, append_assoc, append-nil, arith, length-append, subst}
+use Rattle.std.proofs.Common.{◌≡◌, ℕ, ◌+◌, ◌-◌, ◌<◌, ◌≤◌, inl, inr, List, [], ◌++◌, length, take, drop, get_or, take-append-drop, suc, Option, Some, None, sym, ◌∙◌, ap, append_assoc, append-nil, arith, length-append, subst}
 use Rattle.std.proofs.lemmas.List.{take-append-le}
 use Rattle.std.proofs.Math.Seq.{take-append-add, take-add, drop-cons}
 use Rattle.std.proofs.lemmas.Grind.{flat_map-append}
 use Rattle.std.specs.List.{flat_map}
-use Rattle.at_io.specs.Counts.{Rose, last_count}
+use Rattle.at_io.specs.Counts.{Rose}
 use Rattle.at_io.specs.Sinks.{Grows, GrowsByPrefix}
 use Rattle.at_cli.specs.Telling.{Tells}
 

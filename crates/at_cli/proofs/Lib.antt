@@ -1,2 +1,9 @@
 pub mod Growth
 pub mod Runs
+pub mod Prefixes
+pub mod Spelled
+pub mod OneLine
+pub mod Numbers
+pub mod FileNames
+pub mod FlagLaws
+pub mod SaidLines

@@ -1,15 +1,133 @@
--- The end over a file is the end of the run.
-use Rattle.std.proofs.Common.{◌≡◌, ◌⊎◌, ℕ, ◌≤◌, ◌^◌, List, length, Option, Some, None, IfSome, inl, inr, sym, subst}
+-- The end of a run is the outcome of what the words say, over the files.
+use Rattle.std.proofs.Common.{◌≡◌, ◌≢◌, ◌↔◌, ◌⊎◌, ◌∙◌, sym, ap, Result, Err, ℕ, ◌≤◌, ◌^◌, List, [], ◌∷◌, length, Option, Some, None, IfSome, inl, inr, refl, subst, arith}
 use Rattle.at_io.specs.Files.{Files, bytes_named}
+use Rattle.at_query.specs.declared.queries.Query.{Query}
 use Rattle.at_cli.specs.declared.ending.Ending.{Ending}
-use Rattle.at_cli.specs.Words.{accepted_name}
-use Rattle.at_cli.specs.Outcomes.{HasNamedOutcome}
-use Rattle.at_cli.specs.Endings.{outcome_by, EndsFile, EndsRun}
+use Rattle.at_cli.specs.declared.line.Line.{Line}
+use Rattle.at_cli.specs.Values.{IsWhole}
+use Rattle.at_cli.specs.LineOf.{IsChosen, SaysLine, KeepsLimits}
+use Rattle.at_query.specs.Queries.{HasQueryFault}
+use Rattle.at_cli.specs.declared.ending.Ending.TheVariants.{Usage, QueryFault, Names, Faulty, ReadFailed, TooLarge, NoMemory, Answered}
+use Rattle.at_cli.specs.declared.line.WordsEnd.{WordsEnd}
+use Rattle.at_cli.specs.declared.line.WordsEnd.TheVariants.{Refused}
+use Rattle.at_cli.specs.Outcomes.{Outcome, stopped, answered, units, HasFileOutcome, HasLineOutcome, SayNoLine, IsLineRefused, AreRefused}
+use Rattle.at_cli.specs.Endings.{status_of, text_of, line_of, outcome_by, EndsBytes, Ends}
 
-pub ends_run : (words : List (List ℕ)) (files : Option Files) (name bytes : List ℕ) (e : Ending) → accepted_name words ≡ Some name
-    → IfSome files (λ told. bytes_named told name ≡ Some bytes) → length bytes ≤ 2 ^ 28 → EndsFile name bytes e → EndsRun words files e
-ends_run words files name bytes e accepted named small (inl no_memory) = inr (inl no_memory)
-ends_run words None name bytes e accepted named small (inr outcome) = inr (inr tt)
-ends_run words (Some told) name bytes e accepted named small (inr outcome) =
-    let P : Option (List ℕ) → Type 0 = λ o. HasNamedOutcome o told (outcome_by e) in
-    inr (inr (subst P (sym accepted) (bytes, named, inr (small, outcome))))
+-- what holds over all files holds over these
+pub ends_any : (Has : Files → Outcome → Type 0) (files : Option Files) (e : Ending) → ((told : Files) → Has told (outcome_by e)) → Ends Has files e
+ends_any Has None e h = inr (inr tt)
+ends_any Has (Some told) e h = inr (inr (h told))
+
+-- the end over the file's bytes is the end over the files that have them
+pub ends_file : (line : Line) (query : Query) (files : Option Files) (bytes : List ℕ) (e : Ending) → IfSome files (λ told. bytes_named told line.first ≡ Some bytes) → length bytes ≤ 2 ^ 28
+    → EndsBytes line query bytes e → Ends (λ told. HasFileOutcome line query told) files e
+ends_file line query files bytes e named small (inl no_memory) = inr (inl no_memory)
+ends_file line query None bytes e named small (inr outcome) = inr (inr tt)
+ends_file line query (Some told) bytes e named small (inr outcome) = inr (inr (bytes, named, inr (small, outcome)))
+
+-- a query with a fault ends the run
+pub ends_query : (line : Line) (files : Option Files) (text : List ℕ) (at : ℕ) → text ≡ line.query → HasQueryFault units line.how text at → Ends (HasLineOutcome line) files (QueryFault at)
+ends_query line files text at same h =
+    let P : List ℕ → Type 0 = λ w. HasQueryFault units line.how w at in
+    ends_any (HasLineOutcome line) files (QueryFault at) (λ told. inl (at, subst P same h, refl))
+
+-- ---- the words
+
+-- words that are refused say no line
+pub said_none : (words : List (List ℕ)) (read : Result Line WordsEnd) (end : WordsEnd) → ((read ≡ Err Refused) ↔ SayNoLine words) → read ≡ Err end → end ≡ Refused → SayNoLine words
+said_none words read end exactly is refused = exactly.0 (is ∙ ap Err refused)
+
+-- words that say one line are refused where the line is
+pub refused_by_line : (words : List (List ℕ)) (line : Line) (refusal : List ℕ) → SaysLine words line → ((other : Line) → SaysLine words other → other ≡ line) → AreRefused words refusal → IsLineRefused line refusal
+refused_by_line words line refusal says only (inl (none, e)) = absurd (none line says)
+refused_by_line words line refusal says only (inr (other, also, h)) = let P : Line → Type 0 = λ l. IsLineRefused l refusal in subst P (only other also) h
+
+-- ---- what is told of an end
+
+outcome_answered : (e : Ending) → status_of e ≡ 0 → outcome_by e ≡ answered (text_of e)
+outcome_answered (Answered text) h = refl
+outcome_answered Usage h = absurd (omega (arith, h))
+outcome_answered (QueryFault at) h = absurd (omega (arith, h))
+outcome_answered Names h = absurd (omega (arith, h))
+outcome_answered (Faulty name fault) h = absurd (omega (arith, h))
+outcome_answered (ReadFailed name) h = absurd (omega (arith, h))
+outcome_answered (TooLarge name) h = absurd (omega (arith, h))
+outcome_answered NoMemory h = absurd (omega (arith, h))
+
+outcome_stopped : (e : Ending) → status_of e ≢ 0 → outcome_by e ≡ stopped (status_of e) (line_of e)
+outcome_stopped (Answered text) h = absurd (h refl)
+outcome_stopped Usage h = refl
+outcome_stopped (QueryFault at) h = refl
+outcome_stopped Names h = refl
+outcome_stopped (Faulty name fault) h = refl
+outcome_stopped (ReadFailed name) h = refl
+outcome_stopped (TooLarge name) h = refl
+outcome_stopped NoMemory h = refl
+
+ended : (Has : Files → Outcome → Type 0) (files : Option Files) (e : Ending) (outcome : Outcome) → status_of e ≢ 3 → status_of e ≢ 5 → outcome_by e ≡ outcome → Ends Has files e → IfSome files (λ told. Has told outcome)
+ended Has files e outcome n3 n5 is (inl three) = absurd (n3 three)
+ended Has files e outcome n3 n5 is (inr (inl five)) = absurd (n5 five)
+ended Has None e outcome n3 n5 is (inr (inr h)) = tt
+ended Has (Some told) e outcome n3 n5 is (inr (inr h)) = let P : Outcome → Type 0 = λ o. Has told o in subst P is h
+
+module _ (Has : Files → Outcome → Type 0) (files : Option Files) (e : Ending) (status : ℕ) (ends : Ends Has files e) (tells : (status ≡ status_of e) ⊎ ((status ≡ 4) × (status_of e ≡ 0))) where
+  answered_at_zero : status_of e ≡ 0 → IfSome files (λ told. Has told (answered (text_of e)))
+  answered_at_zero zero = ended Has files e (answered (text_of e)) (λ h. absurd (omega (arith, zero, h))) (λ h. absurd (omega (arith, zero, h))) (outcome_answered e zero) ends
+
+  pub told_answer : status ≡ 0 → IfSome files (λ told. Has told (answered (text_of e)))
+  told_answer h = answered_at_zero (go tells) where
+    go : (status ≡ status_of e) ⊎ ((status ≡ 4) × (status_of e ≡ 0)) → status_of e ≡ 0
+    go (inl same) = omega (arith, h, same)
+    go (inr (four, zero)) = zero
+
+  pub told_prefix : status ≡ 4 → status_of e ≢ 4 → IfSome files (λ told. Has told (answered (text_of e)))
+  told_prefix h never = answered_at_zero (go tells) where
+    go : (status ≡ status_of e) ⊎ ((status ≡ 4) × (status_of e ≡ 0)) → status_of e ≡ 0
+    go (inl same) = absurd (never (sym same ∙ h))
+    go (inr (four, zero)) = zero
+
+  pub told_line : (status ≡ 1) ⊎ (status ≡ 6) → IfSome files (λ told. Has told (stopped status (line_of e)))
+  told_line h = go h tells where
+    go : (status ≡ 1) ⊎ (status ≡ 6) → (status ≡ status_of e) ⊎ ((status ≡ 4) × (status_of e ≡ 0)) → IfSome files (λ told. Has told (stopped status (line_of e)))
+    go (inl one) (inl same) = ended Has files e (stopped status (line_of e)) (λ z. omega (arith, one, same, z)) (λ z. omega (arith, one, same, z)) (outcome_stopped e (λ z. omega (arith, one, same, z)) ∙ ap (λ n. stopped n (line_of e)) (sym same)) ends
+    go (inr six) (inl same) = ended Has files e (stopped status (line_of e)) (λ z. omega (arith, six, same, z)) (λ z. omega (arith, six, same, z)) (outcome_stopped e (λ z. omega (arith, six, same, z)) ∙ ap (λ n. stopped n (line_of e)) (sym same)) ends
+    go (inl one) (inr (four, zero)) = absurd (omega (arith, one, four))
+    go (inr six) (inr (four, zero)) = absurd (omega (arith, six, four))
+
+never_four : (e : Ending) → status_of e ≢ 4
+never_four (Answered text) h = omega (arith, h)
+never_four Usage h = omega (arith, h)
+never_four (QueryFault at) h = omega (arith, h)
+never_four Names h = omega (arith, h)
+never_four (Faulty name fault) h = omega (arith, h)
+never_four (ReadFailed name) h = omega (arith, h)
+never_four (TooLarge name) h = omega (arith, h)
+never_four NoMemory h = omega (arith, h)
+
+pub told_prefix_of : (Has : Files → Outcome → Type 0) (files : Option Files) (e : Ending) (status : ℕ) → Ends Has files e → (status ≡ status_of e) ⊎ ((status ≡ 4) × (status_of e ≡ 0)) → status ≡ 4
+    → IfSome files (λ told. Has told (answered (text_of e)))
+told_prefix_of Has files e status ends tells four = told_prefix Has files e status ends tells four (never_four e)
+
+-- a status of a refusal is told as it is
+pub told_refusal : (status own : ℕ) → (status ≡ own) ⊎ ((status ≡ 4) × (own ≡ 0)) → (own ≡ 2) ⊎ (own ≡ 5) → (status ≡ 2) ⊎ (status ≡ 5)
+told_refusal status own (inl same) (inl two) = inl (same ∙ two)
+told_refusal status own (inl same) (inr five) = inr (same ∙ five)
+told_refusal status own (inr (four, zero)) (inl two) = absurd (omega (arith, zero, two))
+told_refusal status own (inr (four, zero)) (inr five) = absurd (omega (arith, zero, five))
+
+-- a line is told of each status but 0 and 4
+pub is_no_answer : (status : ℕ) → (status ≡ 1) ⊎ (status ≡ 6) → (status ≢ 0) × (status ≢ 4)
+is_no_answer status (inl one) = ((λ z. omega (arith, one, z)), (λ z. omega (arith, one, z)))
+is_no_answer status (inr six) = ((λ z. omega (arith, six, z)), (λ z. omega (arith, six, z)))
+
+-- ---- what words say keeps the limits
+
+chosen_blocks : (values : List (List ℕ)) (blocks : ℕ) → IsChosen 64 (IsWhole 1 4096) values blocks → (1 ≤ blocks) × (blocks ≤ 4096)
+chosen_blocks [] blocks e = (omega (arith, e), omega (arith, e))
+chosen_blocks (value ∷ []) blocks h = (h.least, h.most)
+chosen_blocks (value ∷ second ∷ more) blocks h = absurd h
+
+pub said_keeps : (words : List (List ℕ)) (line : Line) → SaysLine words line → KeepsLimits line
+said_keeps words line (pieces, after, spelled, values) =
+    let (some, few) = chosen_blocks _ line.blocks values.blocks in
+    record { some_blocks = some; few_blocks = few; query_fits = values.names.query_fits }

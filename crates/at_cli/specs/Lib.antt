@@ -1,4 +1,9 @@
 pub mod Words
+pub mod Pieces
+pub mod Values
+pub mod LineOf
+pub mod Steps
+pub mod Said
 pub mod Texts
 pub mod Outcomes
 pub mod Telling

@@ -1,12 +1,21 @@
--- What the program writes and how it ends, by its words and the files. It knows nothing of how they are read.
-use Rattle.std.specs.Prelude.{◌≡◌, ◌⊎◌, ℕ, ◌^◌, ◌<◌, ◌≤◌, codes, decimal, List, [], ◌++◌, length, Option, Some, None}
+-- What the program writes and how it ends, by its words and the files. It knows nothing of how they are read, of blocks, or of workers.
+use Rattle.std.specs.Prelude.{◌≡◌, ◌⊎◌, ℕ, ◌^◌, ◌<◌, ◌≤◌, Bool, true, false, not, ◌&&◌, ◌||◌, codes, List, [], length, Option, Some, None}
 use Rattle.at_text.specs.declared.faults.Fault.{Fault}
 use Rattle.at_io.specs.Files.{Files, bytes_named}
-use Rattle.at_fixed.specs.declared.rounding.Coords.TheVariants.{Round}
 use Rattle.at_wkt.specs.Files.{HasFileFault}
-use Rattle.at_wkt.specs.Lines.{lines_of}
-use Rattle.at_cli.specs.Words.{accepted_name}
-use Rattle.at_cli.specs.Texts.{usage_line, size_line, fault_line}
+use Rattle.at_query.specs.declared.queries.Verb.{Verb}
+use Rattle.at_query.specs.declared.queries.Verb.TheVariants as verbs
+use Rattle.at_query.specs.declared.queries.Query.{Query}
+use Rattle.at_query.specs.declared.answers.Answer.{Answer}
+use Rattle.at_query.specs.Queries.{IsQueryOf, HasQueryFault}
+use Rattle.at_query.specs.Printing.{printed}
+use Rattle.at_run.specs.declared.forms.Form.{Form}
+use Rattle.at_run.specs.declared.forms.Form.TheVariants.{GeoJson, Wkt}
+use Rattle.at_run.specs.Answers.{IsFileAnswer}
+use Rattle.at_cli.specs.declared.line.Line.{Line}
+use Rattle.at_cli.specs.Words.{begins_with}
+use Rattle.at_cli.specs.LineOf.{SaysLine, form_of}
+use Rattle.at_cli.specs.Texts.{usage_line, query_line, files_line, size_line, fault_line}
 
 -- the status, and what is written to the output and to the error output
 pub record Outcome : Type 0 where
@@ -26,24 +35,83 @@ answered text = record { status = 0; out = text; err = [] }
 abbrev pub units : ℕ
 units = 7
 
--- a whole number on a line
-abbrev pub number_text : ℕ → List ℕ
-number_text n = decimal n ++ codes "\n"
+-- two names for a join, and one for every other verb
+abbrev pub has_right_count : Verb → Option (List ℕ) → Bool
+has_right_count verbs.Join None = false
+has_right_count verbs.Join (Some second) = true
+has_right_count _ None = true
+has_right_count _ (Some second) = false
 
--- the outcome over a file of that name and within the limit: its first fault, or else the count of its lines
-abbrev pub HasCountOutcome : List ℕ → List ℕ → Outcome → Type 0
-HasCountOutcome name bytes outcome = ((fault : Fault) × HasFileFault units Round bytes (Some fault) × (outcome ≡ stopped 1 (fault_line name fault)))
-    ⊎ (HasFileFault units Round bytes None × (outcome ≡ answered (number_text (length (lines_of bytes)))))
+abbrev pub is_wkt : Form → Bool
+is_wkt Wkt = true
+is_wkt GeoJson = false
 
--- the outcome over the bytes of the file of that name: they are too many, or else it is that of the file
-abbrev pub HasFileOutcome : List ℕ → List ℕ → Outcome → Type 0
-HasFileOutcome name bytes outcome = ((2 ^ 28 < length bytes) × (outcome ≡ stopped 6 (size_line name)))
-    ⊎ ((length bytes ≤ 2 ^ 28) × HasCountOutcome name bytes outcome)
+-- the name is a made file's
+abbrev pub is_made : List ℕ → Bool
+is_made name = begins_with (codes "@g:") name || begins_with (codes "@w:") name
 
-abbrev pub HasNamedOutcome : Option (List ℕ) → Files → Outcome → Type 0
-HasNamedOutcome None files outcome = outcome ≡ stopped 2 usage_line
-HasNamedOutcome (Some name) files outcome = (bytes : List ℕ) × (bytes_named files name ≡ Some bytes) × HasFileOutcome name bytes outcome
+-- joins, files in GeoJSON and made files aren't answered yet
+abbrev pub is_served : Line → Verb → Bool
+is_served line verbs.Join = false
+is_served line _ = is_wkt (form_of line line.first) && not (is_made line.first)
 
--- how the program ends over the words and files; it has no such end where the files lack the name
+-- ---- the first case that applies
+
+-- the outcome over a file within the limit: its first fault, or else the answer to the query
+abbrev pub HasBytesOutcome : Line → Query → List ℕ → Outcome → Type 0
+HasBytesOutcome line query bytes outcome =
+    ((fault : Fault) × HasFileFault units line.how bytes (Some fault) × (outcome ≡ stopped 1 (fault_line line.first fault)))
+    ⊎ ((answer : Answer) × IsFileAnswer units line.how query bytes answer × (outcome ≡ answered (printed units answer)))
+
+-- the file has too many bytes, or else its outcome
+abbrev pub HasSizedOutcome : Line → Query → List ℕ → Outcome → Type 0
+HasSizedOutcome line query bytes outcome = ((2 ^ 28 < length bytes) × (outcome ≡ stopped 6 (size_line line.first)))
+    ⊎ ((length bytes ≤ 2 ^ 28) × HasBytesOutcome line query bytes outcome)
+
+-- the shelf has the name, and its file has the outcome
+abbrev pub HasFileOutcome : Line → Query → Files → Outcome → Type 0
+HasFileOutcome line query files outcome = (bytes : List ℕ) × (bytes_named files line.first ≡ Some bytes) × HasSizedOutcome line query bytes outcome
+
+abbrev pub HasServedOutcome : Bool → Line → Query → Files → Outcome → Type 0
+HasServedOutcome false line query files outcome = outcome ≡ stopped 2 usage_line
+HasServedOutcome true line query files outcome = HasFileOutcome line query files outcome
+
+abbrev pub HasCountedOutcome : Bool → Line → Query → Files → Outcome → Type 0
+HasCountedOutcome false line query files outcome = outcome ≡ stopped 2 files_line
+HasCountedOutcome true line query files outcome = HasServedOutcome (is_served line query.verb) line query files outcome
+
+abbrev pub HasLineOutcome : Line → Files → Outcome → Type 0
+HasLineOutcome line files outcome = ((at : ℕ) × HasQueryFault units line.how line.query at × (outcome ≡ stopped 2 (query_line at)))
+    ⊎ ((query : Query) × IsQueryOf units line.how line.query query × HasCountedOutcome (has_right_count query.verb line.second) line query files outcome)
+
+-- the words say no line
+abbrev pub SayNoLine : List (List ℕ) → Type 0
+SayNoLine words = (line : Line) → SaysLine words line → ⊥
+
+-- how the program ends over the words and files; it has no such end where it asks the files for a name that they lack
 abbrev pub HasOutcome : List (List ℕ) → Files → Outcome → Type 0
-HasOutcome words files outcome = HasNamedOutcome (accepted_name words) files outcome
+HasOutcome words files outcome = (SayNoLine words × (outcome ≡ stopped 2 usage_line)) ⊎ ((line : Line) × SaysLine words line × HasLineOutcome line files outcome)
+
+-- ---- what is refused before a file is read
+
+abbrev pub IsQueryRefused : Line → Query → List ℕ → Type 0
+IsQueryRefused line query refusal = ((has_right_count query.verb line.second ≡ false) × (refusal ≡ files_line))
+    ⊎ ((has_right_count query.verb line.second ≡ true) × (is_served line query.verb ≡ false) × (refusal ≡ usage_line))
+
+abbrev pub IsLineRefused : Line → List ℕ → Type 0
+IsLineRefused line refusal = ((at : ℕ) × HasQueryFault units line.how line.query at × (refusal ≡ query_line at))
+    ⊎ ((query : Query) × IsQueryOf units line.how line.query query × IsQueryRefused line query refusal)
+
+-- the words, the query or the count of names are refused with this line
+abbrev pub AreRefused : List (List ℕ) → List ℕ → Type 0
+AreRefused words refusal = (SayNoLine words × (refusal ≡ usage_line)) ⊎ ((line : Line) × SaysLine words line × IsLineRefused line refusal)
+
+abbrev pub IsQueryAccepted : Line → Query → Type 0
+IsQueryAccepted line query = (has_right_count query.verb line.second ≡ true) × (is_served line query.verb ≡ true)
+
+abbrev pub IsLineAccepted : Line → Type 0
+IsLineAccepted line = (query : Query) × IsQueryOf units line.how line.query query × IsQueryAccepted line query
+
+-- the words, the query and the count of names are accepted, and the file has this name
+abbrev pub AreAccepted : List (List ℕ) → List ℕ → Type 0
+AreAccepted words name = (line : Line) × SaysLine words line × IsLineAccepted line × (name ≡ line.first)

@@ -18,6 +18,13 @@ kind_name Range = codes "Range"
 abbrev pub usage_line : List ℕ
 usage_line = codes "usage: atgis [--form geojson|wkt] [--coords exact|round] [--blocks 1..4096] [--workers 1..64] QUERY FILE [SECOND]\n"
 
+-- the offset of a query's fault
+abbrev pub query_line : ℕ → List ℕ
+query_line at = codes "query: at " ++ decimal at ++ codes "\n"
+
+abbrev pub files_line : List ℕ
+files_line = codes "files: join takes two, every other verb one\n"
+
 abbrev pub fault_line : List ℕ → Fault → List ℕ
 fault_line name fault = name ++ codes ": " ++ kind_name fault.kind ++ codes " at " ++ decimal fault.at ++ codes "\n"
 

@@ -1,13 +1,25 @@
 //! The program's words, its outcome, and its top call.
 #![tactic(auto)]
 
+mod deciding;
 mod ending;
+mod flags;
+mod form;
+mod line;
 mod lines;
+mod names;
+mod pieces;
 mod run;
-mod words;
+mod said;
+mod values;
 
+pub use at_run::Form;
+pub use form::form_of;
+pub use line::{Line, WordsEnd, read_words};
 pub use lines::tell_no_memory;
 pub use run::top;
 
+#[cfg(test)]
+mod line_tests;
 #[cfg(test)]
 mod tests;

@@ -2,7 +2,7 @@ ghost use Rattle.std.specs.Prelude.{◌≡◌, ◌≤◌, ◌++◌, codes, OnOk,
 ghost use Rattle.std.specs.List.{flat_map};
 ghost use Rattle.at_io.specs.Counts.{Rose};
 ghost use Rattle.at_io.specs.Sinks.{Grows, GrowsByPrefix};
-ghost use Rattle.at_cli.specs.Texts.{kind_name as name_of_kind, fault_line, memory_line, write_line};
+ghost use Rattle.at_cli.specs.Texts.{kind_name as name_of_kind, query_line, fault_line, memory_line, write_line};
 ghost use Rattle.at_cli.specs.Telling.{Tells};
 ghost use Rattle.at_cli.specs.Endings.{line_of};
 
@@ -77,16 +77,34 @@ fn tell_fault<E: Sink>(err: &mut E, name: &str, fault: Fault)
     put_fault(err, name, kind_name(fault.kind), at);
 }
 
+/// Tells the fault of a query.
+fn tell_query_fault<E: Sink>(err: &mut E, at: u32)
+    ensures { Tells (E.faults err.old) (E.faults err.new) (E.written err.old) (E.written err.new) (query_line at) }
+{
+    let mut digits = itoa::Buffer::new();
+    let at = digits.format(at);
+    put_query_fault(err, at);
+}
+
+/// Puts `query: at place` as a line.
+fn put_query_fault<E: Sink>(err: &mut E, at: &str)
+    ensures { Tells (E.faults err.old) (E.faults err.new) (E.written err.old) (E.written err.new) (codes "query: at " ++ at.now ++ codes "\n") }
+{
+    put_parts(err, &["query: at ", at, "\n"]);
+}
+
 /// Tells the line of an end. It takes no memory.
-pub fn tell_line<E: Sink>(err: &mut E, ending: &Ending<'_>)
+pub fn tell_line<E: Sink>(err: &mut E, ending: &Ending)
     ensures { Tells (E.faults err.old) (E.faults err.new) (E.written err.old) (E.written err.new) (line_of ending.now) }
 {
     match ending {
         Ending::Answered(_) => {}
         Ending::Usage => put_parts(err, &[USAGE]),
-        Ending::Faulty(name, fault) => tell_fault(err, name, *fault),
-        Ending::ReadFailed(name) => put_parts(err, &[name, ": read failed\n"]),
-        Ending::TooLarge(name) => put_parts(err, &[name, ": more than 268435456 bytes\n"]),
+        Ending::QueryFault(at) => tell_query_fault(err, *at),
+        Ending::Names => put_parts(err, &["files: join takes two, every other verb one\n"]),
+        Ending::Faulty(name, fault) => tell_fault(err, name.as_str(), *fault),
+        Ending::ReadFailed(name) => put_parts(err, &[name.as_str(), ": read failed\n"]),
+        Ending::TooLarge(name) => put_parts(err, &[name.as_str(), ": more than 268435456 bytes\n"]),
         Ending::NoMemory => put_parts(err, &["out of memory\n"]),
     }
 }

@@ -1,63 +1,39 @@
-ghost use Rattle.std.specs.Prelude.{◌≡◌, ◌≢◌, ◌⊎◌, ◌+◌, ◌≤◌, ◌^◌, ◌↔◌, ℕ, List, length, map, Option, Some, None, IfSome, string_bytes};
+ghost use Rattle.std.specs.Prelude.{◌≡◌, ◌≢◌, ◌⊎◌, ◌+◌, ◌≤◌, ◌^◌, ℕ, List, map, IfSome, string_bytes};
 ghost use Rattle.at_io.specs.Counts.{Rose};
 ghost use Rattle.at_io.specs.Sinks.{Grows, GrowsByPrefix};
-ghost use Rattle.at_cli.specs.Words.{accepted_name as name_accepted};
-ghost use Rattle.at_cli.specs.Texts.{usage_line, read_line, write_line, memory_line};
-ghost use Rattle.at_cli.specs.Outcomes.{Outcome, stopped, answered, HasOutcome};
+ghost use Rattle.at_cli.specs.Texts.{read_line, write_line, memory_line};
+ghost use Rattle.at_cli.specs.Outcomes.{Outcome, stopped, answered, HasOutcome, AreRefused, AreAccepted};
 ghost use Rattle.at_cli.specs.Telling.{Tells};
 ghost use Rattle.at_cli.specs.Failures.{FailedOn};
-ghost use Rattle.at_cli.specs.Endings.{status_of, text_of, line_of, outcome_by, EndsFile, EndsRun};
+ghost use Rattle.at_cli.specs.Endings.{status_of, text_of, line_of, Ends};
 
+use crate::deciding::end_of_line;
 use crate::ending::Ending;
+use crate::line::{WordsEnd, read_words};
 use crate::lines::{put_pieces, tell_line, tell_write_failed};
-use crate::words::accepted_name;
-use at_fixed::Coords;
-use at_io::{ReadError, Shelf, Sink, read_whole};
-use at_wkt::{LineFault, count_lines};
+use at_io::{Shelf, Sink};
 use std::alloc::Global;
 
-/// The decimal digits of a coordinate: a unit is 10^-7.
-const UNITS: u8 = 7;
-
-/// The end over the bytes of the file of that name, which are within the limit.
-fn count_file<'w>(alloc: Global, name: &'w str, bytes: &[u8]) -> Ending<'w>
-    requires { length bytes.now ≤ 2 ^ 28 }
-    ensures outcome { EndsFile name.now bytes.now result }
-    ensures read { status_of result ≢ 3 }
-{
-    match count_lines(alloc, bytes, UNITS, Coords::Round) {
-        Ok(count) => match format!(in alloc; "{count}\n") {
-            Ok(text) => Ending::Answered(text),
-            Err(_) => Ending::NoMemory,
-        },
-        Err(LineFault::Found(fault)) => Ending::Faulty(name, fault),
-        Err(LineFault::Memory) => Ending::NoMemory,
-    }
-}
-
 /// The end over the words and the shelf, with its cause.
-fn decide<'w, S: Shelf>(alloc: Global, words: &'w [String], shelf: &mut S) -> Ending<'w>
-    ensures outcome { EndsRun (map string_bytes words.now) (S.files shelf.old) result }
-    ensures usage { (status_of result ≡ 2) ↔ (name_accepted (map string_bytes words.now) ≡ None) }
+fn decide<S: Shelf>(alloc: Global, words: &[String], shelf: &mut S) -> Ending
+    ensures outcome { Ends (HasOutcome (map string_bytes words.now)) (S.files shelf.old) result }
+    ensures refused { status_of result ≡ 2 → AreRefused (map string_bytes words.now) (line_of result) }
+    ensures refuses { (refusal : List ℕ) → AreRefused (map string_bytes words.now) refusal → (status_of result ≡ 2) ⊎ (status_of result ≡ 5) }
     ensures untouched { status_of result ≡ 2 → shelf.new ≡ shelf.old }
-    ensures failed { status_of result ≡ 3 → (name : List ℕ) × (name_accepted (map string_bytes words.now) ≡ Some name) × (line_of result ≡ read_line name)
+    ensures failed { status_of result ≡ 3 → (name : List ℕ) × AreAccepted (map string_bytes words.now) name × (line_of result ≡ read_line name)
         × FailedOn name (S.files shelf.old) (S.faults shelf.old) (S.faults shelf.new) (S.begins shelf.old) (S.begins shelf.new) (S.broken shelf.new) (S.named shelf.new) }
     ensures large { status_of result ≡ 6 → S.taken shelf.old + (2 ^ 28 + 1) ≤ S.taken shelf.new }
     ensures same_files { S.files shelf.new ≡ S.files shelf.old }
 {
-    let Some(name) = accepted_name(words) else {
-        return Ending::Usage;
-    };
-    match read_whole(alloc, shelf, name) {
-        Ok(bytes) => count_file(alloc, name, &bytes),
-        Err(ReadError::Failed) => Ending::ReadFailed(name),
-        Err(ReadError::TooLarge) => Ending::TooLarge(name),
-        Err(ReadError::Memory) => Ending::NoMemory,
+    match read_words(alloc, words) {
+        Ok(line) => end_of_line(alloc, line, shelf),
+        Err(WordsEnd::Refused) => Ending::Usage,
+        Err(WordsEnd::Memory) => Ending::NoMemory,
     }
 }
 
 /// Writes what the end says, and answers the status.
-fn tell<O: Sink, E: Sink>(ending: &Ending<'_>, out: &mut O, err: &mut E) -> u8
+fn tell<O: Sink, E: Sink>(ending: &Ending, out: &mut O, err: &mut E) -> u8
     ensures status { (result ≡ status_of ending.now) ⊎ ((result ≡ 4) × (status_of ending.now ≡ 0)) }
     ensures answered { result ≡ 0 → Grows (O.written out.old) (O.written out.new) (text_of ending.now) × (err.new ≡ err.old) }
     ensures write_failed { result ≡ 4 → Rose (O.faults out.old) (O.faults out.new) × GrowsByPrefix (O.written out.old) (O.written out.new) (text_of ending.now)
@@ -82,7 +58,7 @@ fn tell<O: Sink, E: Sink>(ending: &Ending<'_>, out: &mut O, err: &mut E) -> u8
 /// |---|---|
 /// | 0 | the answer is written |
 /// | 1 | the file has a fault |
-/// | 2 | exactly where the words are refused |
+/// | 2 | exactly where the words, the query or the count of names are refused |
 /// | 3 | only where the shelf failed on the file |
 /// | 4 | only where the output failed |
 /// | 5 | want of memory |
@@ -108,13 +84,14 @@ pub fn top<R, S: Shelf, O: Sink, E: Sink>(
         × IfSome (S.files shelf.old) (λ told. HasOutcome (map string_bytes words.now) told (stopped result line)) }
     ensures too_large { result ≡ 6 → S.taken shelf.old + (2 ^ 28 + 1) ≤ S.taken shelf.new }
 
-    // 2: exactly where the words are refused, want of memory aside; nothing is read.
-    ensures refused { result ≡ 2 → (name_accepted (map string_bytes words.now) ≡ None) × (shelf.new ≡ shelf.old)
-        × Tells (E.faults err.old) (E.faults err.new) (E.written err.old) (E.written err.new) usage_line }
-    ensures refuses { name_accepted (map string_bytes words.now) ≡ None → (result ≡ 2) ⊎ (result ≡ 5) }
+    // 2: exactly where the words, the query or the count of names are refused, want of memory aside, with the line of
+    // what is refused; nothing is read.
+    ensures refused { result ≡ 2 → (refusal : List ℕ) × AreRefused (map string_bytes words.now) refusal × (shelf.new ≡ shelf.old)
+        × Tells (E.faults err.old) (E.faults err.new) (E.written err.old) (E.written err.new) refusal }
+    ensures refuses { (refusal : List ℕ) → AreRefused (map string_bytes words.now) refusal → (result ≡ 2) ⊎ (result ≡ 5) }
 
     // 3: only where the shelf failed on the file that the words name.
-    ensures read_failed { result ≡ 3 → (name : List ℕ) × (name_accepted (map string_bytes words.now) ≡ Some name)
+    ensures read_failed { result ≡ 3 → (name : List ℕ) × AreAccepted (map string_bytes words.now) name
         × FailedOn name (S.files shelf.old) (S.faults shelf.old) (S.faults shelf.new) (S.begins shelf.old) (S.begins shelf.new) (S.broken shelf.new) (S.named shelf.new)
         × Tells (E.faults err.old) (E.faults err.new) (E.written err.old) (E.written err.new) (read_line name) }
 

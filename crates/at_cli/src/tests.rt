@@ -5,10 +5,11 @@ use std::alloc::Global;
 use std::process::Abort;
 use std::test::Fail;
 
-/// One run of the program over a shelf with the one file `p.wkt`, of which a read gives two bytes.
+/// One run of the program over a shelf with one file, of which a read gives two bytes.
 #[derive(Clone, Copy)]
 struct Run<'a> {
     words: &'a [&'a str],
+    name: &'a str,
     file: &'a [u8],
     /// The calls on the shelf that fail.
     failing_calls: &'a [u32],
@@ -23,6 +24,7 @@ struct Run<'a> {
 /// A run over one point, which each row changes.
 const PLAIN: Run<'static> = Run {
     words: &["count", "p.wkt"],
+    name: "p.wkt",
     file: b"POINT (1 2)",
     failing_calls: &[],
     failing_put: None,
@@ -38,9 +40,11 @@ const AMPLE: u32 = 1 << 20;
 const USAGE: &str =
     "usage: atgis [--form geojson|wkt] [--coords exact|round] [--blocks 1..4096] [--workers 1..64] QUERY FILE [SECOND]\n";
 
+const NAMES: &str = "files: join takes two, every other verb one\n";
+
 fn shelf_of(alloc: Global, row: &Run<'_>) -> Result<MemShelf, Fail> {
     let file = NamedFile {
-        name: Word::from_string(String::from_str(alloc, "p.wkt")?),
+        name: Word::from_string(String::from_str(alloc, row.name)?),
         bytes: Bytes::from_vec(Vec::from_slice(alloc, row.file)?),
     };
     let mut files = Vec::new(alloc);
@@ -69,53 +73,31 @@ fn words_of(alloc: Global, words: &[&str]) -> Result<Vec<String>, Fail> {
 /// Runs each row, and compares what it writes.
 fn run_rows(rt: &impl Abort, alloc: Global, rows: &[Run<'_>]) -> Result<(), Fail> {
     for row in rows {
-        let words = words_of(alloc, row.words)?;
+        let asked = row.words;
+        let words = words_of(alloc, asked)?;
         let mut shelf = shelf_of(alloc, row)?;
         let mut out = sink_of(alloc, row.failing_put)?;
         let mut err = sink_of(alloc, row.failing_line)?;
         let status = top(rt, alloc, &words, &mut shelf, &mut out, &mut err);
-        let file = row.file;
-        assert_eq!(rt; status, row.status, "the status over {file:?}");
-        assert_eq!(rt;
-            out.written(),
-            row.out.as_bytes(),
-            "the output over {file:?}"
-        );
         assert_eq!(rt;
             err.written(),
             row.err.as_bytes(),
-            "the error output over {file:?}"
+            "the error output of {asked:?}"
         );
+        assert_eq!(rt;
+            out.written(),
+            row.out.as_bytes(),
+            "the output of {asked:?}"
+        );
+        assert_eq!(rt; status, row.status, "the status of {asked:?}");
     }
     Ok(())
 }
 
+/// What happens where the shelf or a sink fails.
 #[test]
-fn runs_over_memory(rt: HostRuntime) -> Result<(), Fail> {
+fn failing_files_and_sinks(rt: HostRuntime) -> Result<(), Fail> {
     let rows = [
-        Run { ..PLAIN },
-        Run {
-            file: b"",
-            out: "0\n",
-            ..PLAIN
-        },
-        Run {
-            file: b"POINT (1 2)\n\nPOINT (3 4)\n",
-            out: "2\n",
-            ..PLAIN
-        },
-        Run {
-            file: b"POINT (1 2)\nPOINT (1.5 2)",
-            out: "2\n",
-            ..PLAIN
-        },
-        Run {
-            words: &["counts", "p.wkt"],
-            status: 2,
-            out: "",
-            err: USAGE,
-            ..PLAIN
-        },
         Run {
             failing_put: Some(PutFail { call: 0, kept: 1 }),
             status: 4,
@@ -168,74 +150,180 @@ fn runs_over_memory(rt: HostRuntime) -> Result<(), Fail> {
     run_rows(&rt, rt.alloc(), &rows)
 }
 
-/// A run over that file, which ends with this count.
-const fn counted<'a>(file: &'a [u8], out: &'a str) -> Run<'a> {
-    Run { file, out, ..PLAIN }
+// A row of a table has the words with a bar between each two, the file's name, its text, and the status with what is written: to
+// the output where it is 0, and else to the error output. `~` stands for a line feed, `^` for a carriage return, `%` for the byte FF.
+
+/// Each verb with its printed text, with tests and without.
+const ANSWERS: &str = "count|e.wkt => e.wkt =>  => 0 0~
+--form=wkt|count|--|-e => -e =>  => 0 0~
+select|f.wkt => f.wkt => POINT (1 2) => 0 0~
+extent|f.wkt => f.wkt => POINT (1.00000001 2) => 0 1.0000000 2.0000000 1.0000000 2.0000000~
+count|f.wkt => f.wkt => POINT (30000000 0) => 0 1~
+count|f.wkt => f.wkt => POINT (0e999999999999 0) => 0 1~
+select where meets POLYGON ((0 0,10 0,10 10,0 10,0 0),(4 4,6 4,6 6,4 6,4 4))|f.wkt => f.wkt => POINT (1 1)~POINT (0 5)~POINT (4 5)~POINT (5 5)~ => 0 0~12~24~
+select where meets LINESTRING (0 0,2 2)|f.wkt => f.wkt => LINESTRING (2 2,3 0)~LINESTRING (1 1,5 5)~LINESTRING (3 3,5 5)~ => 0 0~21~
+area|f.wkt => f.wkt => POLYGON ((0 0,2 0,2 2,0 2,0 0),(0.5 0.5,1 0.5,1 1,0.5 1,0.5 0.5)) => 0 750000000000000~
+select where in box(0 0,1 1)|f.wkt => f.wkt => POINT (1 1)~POINT EMPTY~POINT (1.0000001 0)~ => 0 0~
+select|f.wkt => f.wkt => POINT (1 2)^~ \t~POINT (3 4)^ => 0 0~16~
+count|f.wkt => f.wkt => POINT (1 2)^~ \t~POINT (3 4)^ => 0 2~
+extent|f.wkt => f.wkt => multipoint z ((1 2 3),EMPTY,(4 5 6)) => 0 1.0000000 2.0000000 4.0000000 5.0000000~
+extent|f.wkt => f.wkt => MULTIPOINT (1 2,4 5) => 0 1.0000000 2.0000000 4.0000000 5.0000000~
+extent|f.wkt => f.wkt => POINT EMPTY => 0 empty~
+extent where in box(0 0,2 2)|f.wkt => f.wkt => POINT (3 3) => 0 empty~
+area where meets box(9 9,10 10)|f.wkt => f.wkt => POLYGON ((0 0,2 0,2 2,0 2,0 0)) => 0 0~
+count where has \"a\" = \"b\"|f.wkt => f.wkt => POINT (1 2) => 0 0~
+count where in box(0 0,5 5) and meets box(1 2,9 9)|f.wkt => f.wkt => POINT (1 2)~POINT (0 0) => 0 1~
+select|f.wkt => f.wkt => \u{FEFF}POINT (1 2)~POINT (3 4) => 0 3~15~
+--form|wkt|select|f => f => POINT (1 2) => 0 0~
+";
+
+/// Files with faults, each with its first one.
+const FAULTS: &str =
+    "--coords|exact|count|f.wkt => f.wkt => POINT (1.00000001 2) => 1 f.wkt: Scale at 7~
+count|f.wkt => f.wkt => POINT (30000000.0000001 0) => 1 f.wkt: Range at 7~
+count|f.wkt => f.wkt => POLYGON ((0 0,1 0,1 1)) => 1 f.wkt: Ring at 9~
+count|f.wkt => f.wkt => LINESTRING (1 2) => 1 f.wkt: Short at 11~
+count|f.wkt => f.wkt => POINT (1 2~POINT (3 4) => 1 f.wkt: Ended at 10~
+count|f.wkt => f.wkt => POINT Z (1 2) => 1 f.wkt: Syntax at 12~
+count|f.wkt => f.wkt => LINESTRING (1 2,3 4 5) => 1 f.wkt: Syntax at 20~
+select|f.wkt => f.wkt => POINT (% => 1 f.wkt: NotUtf8 at 7~
+area|f.wkt => f.wkt => \u{FEFF}POINT (x) => 1 f.wkt: Syntax at 10~
+extent where in box(0 0,1 1)|f.wkt => f.wkt => LINESTRING (1 2)~POINT (1 2 => 1 f.wkt: Ended at 27~
+";
+
+/// Words, queries and counts of names that are refused. The name on the shelf is none that is asked for.
+const REFUSALS: &str = "count => x =>  => 2 usage
+-h|count|e.wkt => x =>  => 2 usage
+--form|wkt|--form=wkt|count|e.wkt => x =>  => 2 usage
+count|e.wkt|--blocks => x =>  => 2 usage
+--blocks|0|count|e.wkt => x =>  => 2 usage
+count|@g:01 => x =>  => 2 usage
+--coords=|count|e.wkt => x =>  => 2 usage
+count where meets box(2 2,1 1)|e.wkt => x =>  => 2 query: at 18~
+counts|e.wkt => x =>  => 2 query: at 5~
+count where|e.wkt => x =>  => 2 query: at 11~
+|e.wkt => x =>  => 2 query: at 0~
+counts|e.wkt|e.wkt => x =>  => 2 query: at 5~
+counts|e.json => x =>  => 2 query: at 5~
+@g:x|e.wkt => x =>  => 2 query: at 0~
+join|e.wkt => x =>  => 2 files
+count|e.wkt|e.wkt => x =>  => 2 files
+count|e.json|e.json => x =>  => 2 files
+join|e.wkt|e.wkt => x =>  => 2 usage
+count|e.json => x =>  => 2 usage
+--form|geojson|count|e.wkt => x =>  => 2 usage
+count|@w:1 => x =>  => 2 usage
+--form|wkt|count|@g:1 => x =>  => 2 usage
+";
+
+/// Any count of blocks and workers gives the same answer.
+const BLOCKS: &str =
+    "--blocks|1|select|f.wkt => f.wkt => POINT (1 1)~POINT (0 5)~POINT (4 5)~POINT (5 5)~ => 0 0~12~24~36~
+--blocks|3|select|f.wkt => f.wkt => POINT (1 1)~POINT (0 5)~POINT (4 5)~POINT (5 5)~ => 0 0~12~24~36~
+--blocks=64|select|f.wkt => f.wkt => POINT (1 1)~POINT (0 5)~POINT (4 5)~POINT (5 5)~ => 0 0~12~24~36~
+--blocks|4096|--workers|64|select|f.wkt => f.wkt => POINT (1 1)~POINT (0 5)~POINT (4 5)~POINT (5 5)~ => 0 0~12~24~36~
+--blocks|4096|count|f.wkt => f.wkt =>  => 0 0~
+--blocks|4096|count|f.wkt => f.wkt => POINT (1 2~POINT (3 4) => 1 f.wkt: Ended at 10~
+";
+
+/// The bytes that a text of a table stands for.
+fn bytes_of(alloc: Global, text: &str) -> Result<Vec<u8>, Fail> {
+    let mut bytes = Vec::new(alloc);
+    for byte in text.as_bytes() {
+        bytes.push(match *byte {
+            b'~' => b'\n',
+            b'^' => b'\r',
+            b'%' => 0xFF,
+            other => other,
+        })?;
+    }
+    Ok(bytes)
 }
 
-/// A run over that file, which ends with this line of its first fault.
-const fn faulty<'a>(file: &'a [u8], err: &'a str) -> Run<'a> {
-    Run {
-        file,
-        status: 1,
-        out: "",
-        err,
-        ..PLAIN
+/// The words of a row.
+fn words_in(alloc: Global, text: &str) -> Result<Vec<String>, Fail> {
+    let mut words = Vec::new(alloc);
+    for word in text.split('|') {
+        words.push(String::from_str(alloc, word)?)?;
+    }
+    Ok(words)
+}
+
+/// The line that a row stands for.
+fn line_in(alloc: Global, text: &str) -> Result<Vec<u8>, Fail> {
+    match text {
+        "usage" => Ok(Vec::from_slice(alloc, USAGE.as_bytes())?),
+        "files" => Ok(Vec::from_slice(alloc, NAMES.as_bytes())?),
+        _ => bytes_of(alloc, text),
     }
 }
 
-/// Files of the whole profile, with their counts and first faults.
-#[test]
-fn files_of_the_profile(rt: HostRuntime) -> Result<(), Fail> {
-    let rows = [
-        counted(b"POINT (1 2)\r\n \t\nPOINT (3 4)\r", "2\n"),
-        counted(b"POINT (30000000 0)", "1\n"),
-        counted(b"POINT (0e999999999999 0)", "1\n"),
-        counted(b"multipoint z ((1 2 3),EMPTY,(4 5 6))", "1\n"),
-        faulty(b"POINT (\xFF", "p.wkt: NotUtf8 at 7\n"),
-        faulty(b"\xEF\xBB\xBFPOINT (x)", "p.wkt: Syntax at 10\n"),
-        faulty(b"POINT (30000000.0000001 0)", "p.wkt: Range at 7\n"),
-        faulty(b"POLYGON ((0 0,1 0,1 1))", "p.wkt: Ring at 9\n"),
-        faulty(b"LINESTRING (1 2)", "p.wkt: Short at 11\n"),
-        faulty(b"POINT (1 2\nPOINT (3 4)", "p.wkt: Ended at 10\n"),
-        faulty(b"POINT Z (1 2)", "p.wkt: Syntax at 12\n"),
-        faulty(b"LINESTRING (1 2,3 4 5)", "p.wkt: Syntax at 20\n"),
-        faulty(b"LINESTRING (1 2)\nPOINT (1 2", "p.wkt: Ended at 27\n"),
-    ];
-    run_rows(&rt, rt.alloc(), &rows)
+/// A shelf with the one file.
+fn shelf_with(alloc: Global, name: &str, text: &str) -> Result<MemShelf, Fail> {
+    let file = NamedFile {
+        name: Word::from_string(String::from_str(alloc, name)?),
+        bytes: Bytes::from_vec(bytes_of(alloc, text)?),
+    };
+    let mut files = Vec::new(alloc);
+    files.push(file)?;
+    Ok(MemShelf::new(files, Vec::new(alloc), 2))
 }
 
-/// Words that are refused, each with the usage line and nothing else.
-#[test]
-fn refused_words(rt: HostRuntime) -> Result<(), Fail> {
-    let alloc = rt.alloc();
-    let rows: [&[&str]; 14] = [
-        &[],
-        &["count"],
-        &["p.wkt"],
-        &["count", "p.wkt", "p.wkt"],
-        &["Count", "p.wkt"],
-        &["count ", "p.wkt"],
-        &["count", "p.WKT"],
-        &["count", "p.json"],
-        &["count", "wkt"],
-        &["count", "-p.wkt"],
-        &["count", "@g:1.wkt"],
-        &["count", "@w:1.wkt"],
-        &["p.wkt", "count"],
-        &["", ""],
-    ];
-    for row in rows {
-        let words = words_of(alloc, row)?;
-        let mut shelf = shelf_of(alloc, &PLAIN)?;
-        let mut out = sink_of(alloc, None)?;
-        let mut err = sink_of(alloc, None)?;
-        let status = top(&rt, alloc, &words, &mut shelf, &mut out, &mut err);
-        assert_eq!(rt; status, 2, "{row:?}");
-        assert_eq!(rt; out.written(), b"".as_slice());
-        assert_eq!(rt; err.written(), USAGE.as_bytes());
+/// Runs the words over the shelf, and compares the status and what is written.
+fn compare_run(
+    rt: &impl Abort,
+    alloc: Global,
+    words: &[String],
+    shelf: &mut MemShelf,
+    wanted: &str,
+) -> Result<(), Fail> {
+    let (status, text) = wanted.split_once(' ').ok_or("a status")?;
+    let line = line_in(alloc, text)?;
+    let mut out = sink_of(alloc, None)?;
+    let mut err = sink_of(alloc, None)?;
+    let got = top(rt, alloc, words, shelf, &mut out, &mut err);
+    assert!(rt; format!(in alloc; "{got}")?.as_str() == status, "{words:?}");
+    let (told, silent) = if got == 0 {
+        (out.written(), err.written())
+    } else {
+        (err.written(), out.written())
+    };
+    assert!(rt; told == line.as_slice(), "{words:?}");
+    assert!(rt; silent.is_empty(), "{words:?}");
+    Ok(())
+}
+
+/// Runs each row of a table.
+fn run_table(rt: &impl Abort, alloc: Global, table: &str) -> Result<(), Fail> {
+    for row in table.lines() {
+        let (words, rest) = row.split_once(" => ").ok_or("words")?;
+        let (name, rest) = rest.split_once(" => ").ok_or("a name")?;
+        let (text, wanted) = rest.split_once(" => ").ok_or("a text")?;
+        let words = words_in(alloc, words)?;
+        let mut shelf = shelf_with(alloc, name, text)?;
+        compare_run(rt, alloc, &words, &mut shelf, wanted)?;
     }
     Ok(())
+}
+
+#[test]
+fn answers_of_queries(rt: HostRuntime) -> Result<(), Fail> {
+    run_table(&rt, rt.alloc(), ANSWERS)
+}
+
+#[test]
+fn files_with_faults(rt: HostRuntime) -> Result<(), Fail> {
+    run_table(&rt, rt.alloc(), FAULTS)
+}
+
+#[test]
+fn refusals(rt: HostRuntime) -> Result<(), Fail> {
+    run_table(&rt, rt.alloc(), REFUSALS)
+}
+
+#[test]
+fn any_blocks_and_workers(rt: HostRuntime) -> Result<(), Fail> {
+    run_table(&rt, rt.alloc(), BLOCKS)
 }
 
 /// A shelf whose files never end and don't tell what they hold.

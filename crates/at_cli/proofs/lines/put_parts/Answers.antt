@@ -1,4 +1,4 @@
-use Rattle.std.proofs.Common.{ℕ, List, [], inr, arith}
+use Rattle.std.proofs.Common.{ℕ, List, [], inr}
 use Rattle.std.specs.Borrow.{Bor}
 use Rattle.at_io.specs.Counts.{Rose}
 use Rattle.at_cli.proofs.Growth.{prefix_at_part, rose_on}

@@ -1,4 +1,4 @@
-use Rattle.std.proofs.Common.{ℕ, ◌≤◌, length, arith}
+use Rattle.std.proofs.Common.{arith}
 use Rattle.std.proofs.lemmas.Result.{err_from_is_err_and}
 use Rattle.at_cli.proofs.Growth.{grows_to, prefix_to}
 use Rattle.at_cli.proofs.lines.put_pieces.Goals as goal

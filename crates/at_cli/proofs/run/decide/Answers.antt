@@ -1,13 +1,22 @@
-use Rattle.std.proofs.Common.{◌≡◌, ◌≤◌, ◌^◌, List, ℕ, length, map, Some, IfSome, string_bytes, sym, subst, arith}
-use Rattle.at_io.specs.Files.{bytes_named}
-use Rattle.at_cli.proofs.Runs.{ends_run}
+use Rattle.std.proofs.Common.{List, ℕ, map, string_bytes, refl, inl, inr}
+use Rattle.at_cli.specs.Outcomes.{HasOutcome, SayNoLine}
+use Rattle.at_cli.specs.declared.ending.Ending.TheVariants.{Usage}
+use Rattle.at_cli.proofs.Runs.{ends_any, said_none, refused_by_line}
 use Rattle.at_cli.proofs.run.decide.Goals as goal
 
-pub returns-in-Ok-clause-outcome : goal.returns-in-Ok-clause-outcome
-returns-in-Ok-clause-outcome g c =
-    let files = g.S.Shelf.files c.args.shelf.now in
-    let name = c.in-Some.name.now in
-    let small : length c.deref.result.now ≤ 2 ^ 28 = omega (arith, c.deref.ensures.len, c.in-Ok.ensures.size.0) in
-    let P : List ℕ → Type 0 = λ bytes. IfSome files (λ told. bytes_named told name ≡ Some bytes) in
-    let named : P c.deref.result.now = subst P (sym c.deref.ensures.value) c.in-Ok.ensures.bytes in
-    ends_run (map string_bytes c.args.words.now) files name c.deref.result.now c.count_file.result (sym c.in-Some.ensures) named small c.count_file.ensures.outcome
+pub returns-in-Ok-clause-refused : goal.returns-in-Ok-clause-refused
+returns-in-Ok-clause-refused g c e = inr (c.in-Ok.line, c.in-Ok.ensures.line, (c.end_of_line.ensures.refused e).0)
+
+pub returns-in-Ok-clause-refuses : goal.returns-in-Ok-clause-refuses
+returns-in-Ok-clause-refuses g c refusal h =
+    c.end_of_line.ensures.refuses refusal (refused_by_line (map string_bytes c.args.words.now) c.in-Ok.line refusal c.in-Ok.ensures.line c.in-Ok.ensures.only h)
+
+pub returns-in-Err-Refused-clause-outcome : goal.returns-in-Err-Refused-clause-outcome
+returns-in-Err-Refused-clause-outcome g c =
+    let words = map string_bytes c.args.words.now in
+    let none : SayNoLine words = said_none words c.read_words.result c.in-Err-Refused.field-0 c.read_words.ensures.refused c.in-Err-Refused.is c.in-Err-Refused.field-0-is in
+    ends_any (HasOutcome words) (g.S.Shelf.files c.args.shelf.now) Usage (λ told. inl (none, refl))
+
+pub returns-in-Err-Refused-clause-refused : goal.returns-in-Err-Refused-clause-refused
+returns-in-Err-Refused-clause-refused g c e =
+    inl (said_none (map string_bytes c.args.words.now) c.read_words.result c.in-Err-Refused.field-0 c.read_words.ensures.refused c.in-Err-Refused.is c.in-Err-Refused.field-0-is, refl)

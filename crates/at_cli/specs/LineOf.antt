@@ -1,0 +1,48 @@
+-- What a list of words says: the line that it spells, of which there is at most one.
+use Rattle.std.specs.Prelude.{◌≡◌, ℕ, ◌^◌, ◌≤◌, List, [], ◌∷◌, length, Option, Some, None, IfSome, option_to_list, unwrap_or}
+use Rattle.at_fixed.specs.declared.rounding.Coords.TheVariants.{Round}
+use Rattle.at_run.specs.declared.forms.Form.{Form}
+use Rattle.at_cli.specs.declared.flags.Setting.{Setting}
+use Rattle.at_cli.specs.declared.flags.Setting.TheVariants as settings
+use Rattle.at_cli.specs.declared.line.Line.{Line}
+use Rattle.at_cli.specs.Pieces.{Piece, SpellPieces, values_of, positionals_of}
+use Rattle.at_cli.specs.Values.{form_text, coords_text, IsWhole, IsFileName, form_by_name}
+
+-- an option that isn't given has its default, one that is given has what its value spells, and none is given twice
+abbrev pub IsChosen : {X : Type 0} → X → (List ℕ → X → Type 0) → List (List ℕ) → X → Type 0
+IsChosen default Spells [] x = x ≡ default
+IsChosen default Spells (value ∷ []) x = Spells value x
+IsChosen default Spells (value ∷ second ∷ more) x = ⊥
+
+abbrev pub SpellsForm : List ℕ → Option Form → Type 0
+SpellsForm text chosen = (form : Form) × (chosen ≡ Some form) × (text ≡ form_text form)
+
+-- the query, the file and the second file where there is one, in this order
+pub record HasNames (positionals : List (List ℕ)) (query first : List ℕ) (second : Option (List ℕ)) : Type 0 where
+  pub places : positionals ≡ query ∷ first ∷ option_to_list second
+  pub query_fits : length query ≤ 2 ^ 28
+  pub first_names : IsFileName first
+  pub second_names : IfSome second IsFileName
+
+-- the line of these values of options and these positionals
+pub record HasValues (values : Setting → List (List ℕ)) (positionals : List (List ℕ)) (line : Line) : Type 0 where
+  pub form : IsChosen None SpellsForm (values settings.Form) line.form
+  pub how : IsChosen Round (λ text how. text ≡ coords_text how) (values settings.Coords) line.how
+  pub blocks : IsChosen 64 (IsWhole 1 4096) (values settings.Blocks) line.blocks
+  pub workers : IsChosen 4 (IsWhole 1 64) (values settings.Workers) line.workers
+  pub names : HasNames positionals line.query line.first line.second
+
+-- the words spell pieces of which the line is made; words that say no line are refused
+abbrev pub SaysLine : List (List ℕ) → Line → Type 0
+SaysLine words line = (pieces : List Piece) × (after : Option (List (List ℕ))) × SpellPieces words pieces after
+    × HasValues (values_of pieces) (positionals_of pieces after) line
+
+-- what holds of each line that words say
+pub record KeepsLimits (line : Line) : Type 0 where
+  pub some_blocks : 1 ≤ line.blocks
+  pub few_blocks : line.blocks ≤ 4096
+  pub query_fits : length line.query ≤ 2 ^ 28
+
+-- the form of a name's file: the one that the line says, or else the one that the name says
+abbrev pub form_of : Line → List ℕ → Form
+form_of line name = unwrap_or line.form (form_by_name name)

@@ -1,0 +1,214 @@
+use super::*;
+use at_fixed::Coords;
+use std::alloc::Global;
+use std::process::Abort;
+use std::test::Fail;
+
+// A row of a table has words with a bar between each two, an arrow, and what they say: form, coordinates, blocks and
+// workers, and behind bars the positionals.
+
+/// Positionals, and the end word.
+const POSITIONALS: &str = "count|e.wkt => none round 64 4|count|e.wkt
+join|a.wkt|b.wkt => none round 64 4|join|a.wkt|b.wkt
+count => refused
+ => refused
+join|a|b|c => refused
+| => none round 64 4||
+||=> => none round 64 4|||=>
+--|count|-e => none round 64 4|count|-e
+count|--|-e => none round 64 4|count|-e
+count|e.wkt|-- => none round 64 4|count|e.wkt
+count|--|-- => none round 64 4|count|--
+count|--|--form => none round 64 4|count|--form
+count|--|--blocks=0 => none round 64 4|count|--blocks=0
+--|--|--|-- => none round 64 4|--|--|--
+--|--|--|--|-- => refused
+-- => refused
+--|count => refused
+--form=wkt|count|--|-e => wkt round 64 4|count|-e
+count|--|e.wkt|--form|wkt => refused
+-h|count|e.wkt => refused
+--help => refused
+--version|count|e.wkt => refused
+count|- => refused
+-|count|e.wkt => refused
+count|e.wkt|--- => refused
+--=|count|e.wkt => refused
+count|e.wkt|-x => refused
+count|a-b => none round 64 4|count|a-b
+count|=--form => none round 64 4|count|=--form
+count| -e => none round 64 4|count| -e
+";
+
+/// Options: their names, their two forms, and how often they are given.
+const OPTIONS: &str = "--form|wkt|count|e => wkt round 64 4|count|e
+--form|geojson|count|e => geojson round 64 4|count|e
+--form=geojson|count|e => geojson round 64 4|count|e
+count|--form=wkt|e => wkt round 64 4|count|e
+count|e|--form|wkt => wkt round 64 4|count|e
+--form|wkt|--form=wkt|count|e => refused
+--form|wkt|--form|geojson|count|e => refused
+--blocks=1|--blocks=1|count|e => refused
+count|e|--blocks => refused
+count|e|--form => refused
+--form|--|count|e => refused
+--form|--blocks|count|e => refused
+--form=|count|e => refused
+--form||count|e => refused
+--form=wkt=|count|e => refused
+--form=WKT|count|e => refused
+--form|seq|count|e => refused
+--Form|wkt|count|e => refused
+--for|wkt|count|e => refused
+--forms|wkt|count|e => refused
+--form:wkt|count|e => refused
+-form|wkt|count|e => refused
+--coords|exact|count|e => none exact 64 4|count|e
+--coords=round|count|e => none round 64 4|count|e
+--coords|nearest|count|e => refused
+--coords=|count|e => refused
+--workers=64|--blocks|4096|select|--coords=exact|f|--form|wkt => wkt exact 4096 64|select|f
+";
+
+/// The numbers of blocks and workers, and the names of made files.
+const NUMBERS: &str = "--blocks|1|count|e => none round 1 4|count|e
+--blocks=4096|count|e => none round 4096 4|count|e
+--blocks|0|count|e => refused
+--blocks|4097|count|e => refused
+--blocks|01|count|e => refused
+--blocks|+1|count|e => refused
+--blocks|-1|count|e => refused
+--blocks=|count|e => refused
+--blocks| 1|count|e => refused
+--blocks|1.0|count|e => refused
+--blocks|4294967297|count|e => refused
+--blocks|18446744073709551617|count|e => refused
+--workers=1|count|e => none round 64 1|count|e
+--workers|64|count|e => none round 64 64|count|e
+--workers|0|count|e => refused
+--workers|65|count|e => refused
+count|@g:0 => none round 64 4|count|@g:0
+count|@w:1000000 => none round 64 4|count|@w:1000000
+count|@g:1000001 => refused
+count|@g:01 => refused
+count|@g:00 => refused
+count|@g: => refused
+count|@w:-1 => refused
+count|@w:5.wkt => refused
+count|--|@w:x => refused
+count|@G:x => none round 64 4|count|@G:x
+count|@in => none round 64 4|count|@in
+join|a.wkt|@g:1e3 => refused
+join|@w:2|@g:2 => none round 64 4|join|@w:2|@g:2
+@g:x|e => none round 64 4|@g:x|e
+";
+
+fn form_name(form: Form) -> &'static str {
+    match form {
+        Form::GeoJson => "geojson",
+        Form::Wkt => "wkt",
+    }
+}
+
+/// A line as a row has it.
+fn line_text(alloc: Global, line: &Line) -> Result<String, Fail> {
+    let form = line.form.map_or("none", form_name);
+    let how = if line.how == Coords::Exact {
+        "exact"
+    } else {
+        "round"
+    };
+    let blocks = line.blocks;
+    let workers = line.workers;
+    let query = line.query.as_str();
+    let first = line.first.as_str();
+    let mut text = format!(in alloc; "{form} {how} {blocks} {workers}|{query}|{first}")?;
+    if let Some(second) = &line.second {
+        text.push_str("|")?;
+        text.push_str(second.as_str())?;
+    }
+    Ok(text)
+}
+
+/// The words of a row.
+fn words_in(alloc: Global, text: &str) -> Result<Vec<String>, Fail> {
+    let mut words = Vec::new(alloc);
+    for word in text.split('|') {
+        words.push(String::from_str(alloc, word)?)?;
+    }
+    Ok(words)
+}
+
+/// What the words say, as a row has it.
+fn answer_text(alloc: Global, words: &[String]) -> Result<String, Fail> {
+    match read_words(alloc, words) {
+        Ok(line) => line_text(alloc, &line),
+        Err(WordsEnd::Refused) => Ok(String::from_str(alloc, "refused")?),
+        Err(WordsEnd::Memory) => Ok(String::from_str(alloc, "memory")?),
+    }
+}
+
+/// Reads the words of each row, and compares what they say.
+fn read_rows(rt: &impl Abort, alloc: Global, table: &str) -> Result<(), Fail> {
+    for row in table.lines() {
+        let (words, wanted) = row.split_once(" => ").ok_or("no row")?;
+        let words = words_in(alloc, words)?;
+        let answer = answer_text(alloc, &words)?;
+        assert!(rt; answer.as_str() == wanted, "{row}");
+    }
+    Ok(())
+}
+
+#[test]
+fn positionals(rt: HostRuntime) -> Result<(), Fail> {
+    let none = answer_text(rt.alloc(), &[])?;
+    assert!(rt; none.as_str() == "refused");
+    read_rows(&rt, rt.alloc(), POSITIONALS)
+}
+
+#[test]
+fn options(rt: HostRuntime) -> Result<(), Fail> {
+    read_rows(&rt, rt.alloc(), OPTIONS)
+}
+
+#[test]
+fn numbers(rt: HostRuntime) -> Result<(), Fail> {
+    read_rows(&rt, rt.alloc(), NUMBERS)
+}
+
+/// Names and their forms where none is said.
+const FORMS: &str = "e.wkt => wkt
+.wkt => wkt
+e.WKT => geojson
+e.wkt| => geojson
+wkt => geojson
+e.json => geojson
+@w:7 => wkt
+@g:7 => geojson
+x@w:7 => geojson
+ => geojson
+";
+
+/// Compares the form of each name.
+fn compare_forms(rt: &impl Abort, line: &Line, table: &str) -> Result<(), Fail> {
+    for row in table.lines() {
+        let (name, wanted) = row.split_once(" => ").ok_or("no row")?;
+        assert!(rt; form_name(form_of(line, name)) == wanted, "{row}");
+    }
+    Ok(())
+}
+
+/// The line that the words of a row say.
+fn line_in(alloc: Global, text: &str) -> Result<Line, Fail> {
+    Ok(read_words(alloc, &words_in(alloc, text)?)?)
+}
+
+#[test]
+fn forms_of_files(rt: HostRuntime) -> Result<(), Fail> {
+    let alloc = rt.alloc();
+    compare_forms(&rt, &line_in(alloc, "count|e")?, FORMS)?;
+    let wkt = line_in(alloc, "--form=wkt|count|e")?;
+    compare_forms(&rt, &wkt, "e.json => wkt\n@g:7 => wkt\ne.wkt => wkt\n")?;
+    let geojson = line_in(alloc, "--form=geojson|count|e")?;
+    compare_forms(&rt, &geojson, "e.wkt => geojson\n@w:7 => geojson\n")
+}
