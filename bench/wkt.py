@@ -36,14 +36,16 @@ def writer(feature):
     return write
 
 
+FEATURES = (("points", point), ("lines", line), ("polygons", polygon))
+
 if __name__ == "__main__":
     ours = measure.build_rattle("atgis", "count", "data/points.wkt")
     theirs = measure.build_rust("wkt.rs")
     geos = measure.build(["cc", "-O2"], "geos.c", "geos", ["-lgeos_c"]) if os.path.exists("/usr/include/geos_c.h") else None
     good = True
-    for name, feature in (("points", point), ("lines", line), ("polygons", polygon)):
+    for name, feature in FEATURES:
         data = measure.input_file(f"wkt_{name}.wkt", writer(feature))
-        good = measure.compare(f"{name} counted", [ours, "count", data], [theirs, data], 2.5) and good
+        good = measure.compare(f"{name} counted", [ours, "count", data], [theirs, "count", data], 2.5) and good
         if geos:
             good = measure.compare(f"{name} counted, against GEOS", [ours, "count", data], [geos, data], 0.1, rounds=3) and good
     if not geos:
