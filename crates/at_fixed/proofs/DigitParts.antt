@@ -87,7 +87,7 @@ dropped_more K d m cut next ds h are_digits full e =
     }
 
 -- nothing was dropped, and what is kept is the whole number
-none_dropped : (K m : ℕ) (cut : Bool) → Keeps K 0 cut m → (m ≡ K) × (cut ≡ false)
+pub none_dropped : (K m : ℕ) (cut : Bool) → Keeps K 0 cut m → (m ≡ K) × (cut ≡ false)
 none_dropped K m cut h =
     let zero : h.rest ≡ 0 = omega (arith, h.small) in
     (omega (arith, h.split, zero), h.cut ∙ ap (nat_lt 0) zero)

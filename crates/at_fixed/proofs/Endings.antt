@@ -13,6 +13,7 @@ use Rattle.at_fixed.specs.Fixed.{has_minus, exponent_above, exponent_below}
 use Rattle.at_fixed.specs.Kept.{part, SameOrHuge}
 use Rattle.at_fixed.specs.Decimals.{IsDecimalOf}
 use Rattle.at_fixed.specs.States.{State, Reads, letter, power_sign, power, is_letter, is_sign, step, accepts}
+use Rattle.at_fixed.specs.Scanned.{IsScanned, both_halves}
 use Rattle.at_fixed.specs.Scans.{ReadsSign, IsFrontOf, IsMantissaOf, after_mantissa, ReadsMantissa, ReadsExponent, ReadsNone, ReadsPower}
 use Rattle.at_fixed.proofs.DigitParts.{part-none, part-place, part-cons, part-more, part-length}
 use Rattle.at_fixed.proofs.NumberMachine.{number_at}
@@ -114,7 +115,7 @@ longest_by g w read p h k = taken_by g w p.end p.is_number (finished_by g w read
 
 -- ---- the parts of a number
 
-numeral_by : (g : Notation) (s ws : List ℕ) (f : Option (List ℕ)) (e : Option Exponent) → IsFrontOf g s ws f → IfSome e IsExponent
+pub numeral_by : (g : Notation) (s ws : List ℕ) (f : Option (List ℕ)) (e : Option Exponent) → IsFrontOf g s ws f → IfSome e IsExponent
     → IsNumeralOf g (record { sign = s; whole = ws; fraction = f; exponent = e })
 numeral_by Json s ws f e (h, k, l) p = record { sign = h; whole = k; fraction = l; exponent = p }
 numeral_by Wkt s ws f e (h, k) p = record { sign = h; digits = k; exponent = p }
@@ -224,3 +225,15 @@ read_value g w read p up down small h k u d e = elim k.cases [
   | inr (led, x) ↦ value_by g w read p (Some (exponent_at w read.end x.sign p)) up down small h (h.parts led) (power_by w read.end p x e)
       (exponent_place w read.end p x) u d
 ]
+
+-- what is read, by its two halves
+pub scanned_by : (g : Notation) (w : List ℕ) (read : Mantissa) (p : Power) → length w ≤ 2 ^ 28 → ReadsMantissa g w read → ReadsPower w read p → IsScanned g w (both_halves read p)
+scanned_by g w read p small h k = record {
+  taken = longest_by g w read p h k;
+  value = read_value g w read p (read.digits.dropped + cond p.is_minus 0 p.size) (read.fraction + cond p.is_minus p.size 0) small h k refl refl;
+  small = few p.is_minus;
+  fits = h.fits;
+} where
+  few : (b : Bool) → read.digits.dropped + cond b 0 p.size < 2 ^ 50
+  few true = omega (arith, small, h.dropped, h.reads.fits)
+  few false = omega (arith, small, h.dropped, h.reads.fits, k.fits)

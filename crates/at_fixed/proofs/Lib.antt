@@ -7,9 +7,12 @@ pub mod Lanes
 pub mod NumberMachine
 pub mod NumeralParts
 pub mod Phases
+pub mod PlainRuns
 pub mod Points
 pub mod PowersOfTen
 pub mod Quotients
+pub mod DigitMasks
 pub mod Sizes
 pub mod Spelled
+pub mod Valued
 pub mod Written

@@ -52,7 +52,7 @@ nearest_by : (p q d rest : ℕ) (over tie : Bool) → IsSplit p q d rest → nat
     → nearest p q ≡ cond over (d + 1) (cond tie (d + d % 2) d)
 nearest_by p q d rest over tie (e, f) g h = rw (nearest, f, e, g, h) refl
 
-rounded_by : (p q n : ℕ) → nearest p q ≡ n → rounded_quotient p q ≡ range_shape (nat_lt largest n) n
+pub rounded_by : (p q n : ℕ) → nearest p q ≡ n → rounded_quotient p q ≡ range_shape (nat_lt largest n) n
 rounded_by p q n e = rw (rounded_quotient, e) refl
 
 more_than : (x rest : ℕ) → nat_lt x (x + rest) ≡ nat_lt 0 rest

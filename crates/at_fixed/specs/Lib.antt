@@ -6,3 +6,5 @@ pub mod Kept
 pub mod Eights
 pub mod Scans
 pub mod Decimals
+pub mod Scanned
+pub mod Sixteens

@@ -1,15 +1,18 @@
 -- What the steps of reading a number promise each other. Only contracts of private functions cite this.
-use Rattle.std.specs.Prelude.{◌≡◌, ℕ, ◌+◌, ◌^◌, ◌<◌, ◌≤◌, ◌⊎◌, List, [], ◌∷◌, ◌++◌, length, take, slice_index, Bool, true, false, nat_lt, ◌==◌, ◌&&◌, ◌||◌, Option, Some, None, IfSome}
+use Rattle.std.specs.Prelude.{◌≡◌, ℕ, ◌+◌, ◌-◌, ◌^◌, ◌<◌, ◌≤◌, ◌⊎◌, List, [], ◌∷◌, ◌++◌, length, take, slice_index, Bool, true, false, nat_lt, ◌==◌, ◌&&◌, ◌||◌, Option, Some, None, IfSome}
 use Rattle.at_text.specs.Texts.{is_digit}
 use Rattle.at_fixed.specs.declared.notation.Notation.{Notation}
 use Rattle.at_fixed.specs.declared.notation.Notation.TheVariants.{Json, Wkt}
+use Rattle.at_fixed.specs.declared.rounding.Coords.{Coords}
+use Rattle.at_fixed.specs.declared.rounding.Coords.TheVariants.{Round}
 use Rattle.at_fixed.specs.declared.digits.DigitsRun.{DigitsRun}
+use Rattle.at_fixed.specs.declared.digits.KeptRun.{KeptRun}
 use Rattle.at_fixed.specs.declared.scanning.Sign.{Sign}
 use Rattle.at_fixed.specs.declared.scanning.Mantissa.{Mantissa}
 use Rattle.at_fixed.specs.declared.scanning.Power.{Power}
 use Rattle.at_fixed.specs.Numerals.{fraction_text, IsAtMostOneOf, AreDigits, AreSomeDigits, IsJsonWhole, AreWktDigits, digits_value}
 use Rattle.at_fixed.specs.Fixed.{has_minus}
-use Rattle.at_fixed.specs.Kept.{part, Keeps, SameOrHuge}
+use Rattle.at_fixed.specs.Kept.{part, digits_behind, Keeps, SameOrHuge}
 use Rattle.at_fixed.specs.States.{State, Reads, step, accepts, is_letter, is_lead_sign, after_fraction, after_whole, lone_point}
 
 abbrev pub is_wkt : Notation → Bool
@@ -21,6 +24,41 @@ abbrev pub ReadsSign : Notation → List ℕ → ℕ → Sign → Type 0
 ReadsSign notation w from sign =
     ((sign.end ≡ from) × (sign.is_minus ≡ false) × (from < length w → is_lead_sign notation (slice_index w from) ≡ false))
     ⊎ ((sign.end ≡ from + 1) × (from < length w) × (is_lead_sign notation (slice_index w from) ≡ true) × (sign.is_minus ≡ (slice_index w from == 0x2D)))
+
+-- all digits from a place on up to another, behind a number: what they spell is kept, and none stands there where the run is whole
+pub record KeepsRun (w : List ℕ) (from before : ℕ) (run : KeptRun) : Type 0 where
+  pub order : from ≤ run.end
+  pub within : run.end ≤ length w
+  pub digits : AreDigits (part w from run.end)
+  pub value : run.kept ≡ digits_behind before (part w from run.end)
+  pub fits : run.kept < 10 ^ 19
+  pub full : 10 ^ 18 ≤ before → run.end ≡ from
+  pub stops : run.is_whole ≡ true → run.end < length w → is_digit (slice_index w run.end) ≡ false
+  pub filled : run.is_whole ≡ false → run.end ≡ from + 8
+
+-- digits stand up to a place, and none there
+pub record EndsRun (w : List ℕ) (from to : ℕ) : Type 0 where
+  pub order : from ≤ to
+  pub within : to < length w
+  pub digits : AreDigits (part w from to)
+  pub stops : is_digit (slice_index w to) ≡ false
+
+-- what is kept of the digits up to a place, behind a number
+pub record KeepsTo (w : List ℕ) (from to before kept : ℕ) : Type 0 where
+  pub value : kept ≡ digits_behind before (part w from to)
+  pub full : 10 ^ 18 ≤ before → to ≡ from
+  pub fits : kept < 10 ^ 19
+
+-- all digits from a place on, of which there are at most sixteen, behind a number with room for so many
+pub record KeepsFar (w : List ℕ) (from before room : ℕ) (run : KeptRun) : Type 0 where
+  pub keeps : KeepsRun w from before run
+  pub whole : run.is_whole ≡ true
+  pub near : run.end ≤ from + 16
+  pub small : run.kept < 10 ^ (19 - room + (run.end - from))
+
+-- in JSON no digit may stand behind a 0 at the beginning
+abbrev pub IsLoneZero : Notation → ℕ → Bool → Type 0
+IsLoneZero notation b lone = (lone ≡ true → (notation ≡ Json) × (b ≡ 0x30)) × (lone ≡ false → notation ≡ Json → (b == 0x30) ≡ false)
 
 -- how the digits before the point stand
 abbrev pub IsLead : Notation → List ℕ → ℕ → ℕ → Type 0
@@ -105,6 +143,17 @@ pub record ReadsMantissa (notation : Notation) (w : List ℕ) (read : Mantissa) 
   pub dropped : read.digits.dropped ≤ read.end
   pub fits : read.digits.kept < 10 ^ 19
   pub count : read.fraction ≤ read.end
+
+-- a number up to its exponent, all digits of which are kept
+pub record IsFarFront (notation : Notation) (w : List ℕ) (read : Mantissa) : Type 0 where
+  pub reads : ReadsMantissa notation w read
+  pub is_number : read.is_number ≡ true
+  pub dropped : read.digits.dropped ≡ 0
+  pub small : read.digits.kept < 10 ^ read.end
+
+-- a number of so many bytes, of which so many are digits behind its point, is not out of range, and is whole or rounded
+abbrev pub SurelyFits : ℕ → ℕ → ℕ → Coords → Type 0
+SurelyFits end fraction digits how = (end + digits ≤ 14 + fraction) × ((how ≡ Round) ⊎ (fraction ≤ digits))
 
 -- an exponent that begins at a place, up to where it can go on
 pub record ReadsExponent (w : List ℕ) (from : ℕ) (power : Power) : Type 0 where

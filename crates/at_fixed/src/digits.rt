@@ -11,7 +11,7 @@ use at_text::is_digit;
 const SMALL: u64 = 10_000_000_000;
 
 /// A further digit is kept while the digits kept so far are below this.
-const FULL: u64 = 1_000_000_000_000_000_000;
+pub const FULL: u64 = 1_000_000_000_000_000_000;
 
 /// A further digit of an exponent counts while the exponent is below this: larger ones decide alike.
 const HUGE: u64 = 10_000_000_000;
@@ -34,7 +34,7 @@ pub struct DigitsRun {
 
 /// Reads digits one by one while there is room to keep them.
 #[inline(never)]
-fn keep_single_digits(text: &[u8], from: usize, before: u64) -> (usize, u64)
+pub fn keep_single_digits(text: &[u8], from: usize, before: u64) -> (usize, u64)
     requires from_within { from ≤ length text.now }
     requires before_fits { before < 10 ^ 19 }
     ensures order { from ≤ result.0 }
@@ -56,7 +56,7 @@ fn keep_single_digits(text: &[u8], from: usize, before: u64) -> (usize, u64)
 
 /// Whether so many further digits can be kept behind a number.
 #[inline(always)]
-fn has_room(before: u64, count: usize) -> bool
+pub fn has_room(before: u64, count: usize) -> bool
     requires { count ≤ 8 }
     ensures { IsTrue result → before < 10 ^ (19 - count) }
 {
@@ -94,10 +94,10 @@ fn keep_more_digits(text: &[u8], from: usize, before: u64) -> (usize, u64)
 
 /// Where digits that were kept end, and whether surely none stands there.
 #[derive(Clone, Copy)]
-struct KeptRun {
-    end: usize,
-    kept: u64,
-    is_whole: bool,
+pub struct KeptRun {
+    pub end: usize,
+    pub kept: u64,
+    pub is_whole: bool,
 }
 
 /// Reads digits while there is room to keep them. The first eight bytes are looked at here, since they have all

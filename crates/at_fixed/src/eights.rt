@@ -60,6 +60,18 @@ fn number_of(word: u64, count: usize) -> u64
     (10_000 * fours + (fours >> 32)) & 0xFFFF_FFFF
 }
 
+/// The number that so many digits at a place spell.
+#[inline(always)]
+pub fn spelled_number(text: &[u8], at: usize, count: usize) -> u64
+    requires inside { at + 8 ≤ length text.now }
+    requires some { 0 < count }
+    requires few { count ≤ 8 }
+    requires digits { AreDigits (part text.now at (at + count)) }
+    ensures { result ≡ digits_behind 0 (part text.now at (at + count)) }
+{
+    number_of(word_at(text, at), count)
+}
+
 /// How many digits begin the eight bytes at a place, and the number that they spell.
 #[inline(always)]
 pub fn leading_digits(text: &[u8], at: usize) -> (usize, u64)
@@ -73,6 +85,6 @@ pub fn leading_digits(text: &[u8], at: usize) -> (usize, u64)
     if count == 0 {
         (0, 0)
     } else {
-        (count, number_of(word_at(text, at), count))
+        (count, spelled_number(text, at, count))
     }
 }

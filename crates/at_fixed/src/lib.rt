@@ -6,14 +6,19 @@ mod digits;
 mod eights;
 mod notation;
 mod numbers;
+mod plain_numbers;
 mod powers;
 mod rounding;
 mod scanning;
+mod sixteens;
 mod units;
 mod writing;
 
 pub use notation::Notation;
-pub use numbers::{LeadingNumber, json_number, leading_number, read_fixed, wkt_number};
+pub use numbers::{
+    LeadingNumber, PlainNumber, json_number, leading_number, plain_len, plain_number, read_fixed,
+    wkt_number,
+};
 pub use rounding::{Coords, FixedFault};
 pub use writing::write_fixed;
 

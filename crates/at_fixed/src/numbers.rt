@@ -1,10 +1,11 @@
-ghost use Rattle.std.specs.Prelude.{◌≡◌, ◌⊎◌, ◌^◌, ◌<◌, ◌≤◌, length, take, is_some, IfSome};
+ghost use Rattle.std.specs.Prelude.{◌≡◌, ◌⊎◌, ◌^◌, ◌<◌, ◌≤◌, length, take, is_some, IfSome, Ok, true, ℤ};
 ghost use Rattle.at_text.specs.Prefix.{TakesLongest};
 ghost use Rattle.at_fixed.specs.Numerals.{Numeral, SpellsNumeral, JsonNumber, WktNumber, NumberOf};
 ghost use Rattle.at_fixed.specs.Fixed.{IsFixedOf};
 ghost use Rattle.at_fixed.specs.Products.{IsValue};
 
 use crate::notation::Notation;
+use crate::plain_numbers::{scan_far, scan_near, valued_end};
 use crate::rounding::{Coords, FixedFault};
 use crate::scanning::{Scanned, scan};
 use crate::units::value_of;
@@ -17,6 +18,15 @@ pub struct LeadingNumber {
     pub len: u32,
     /// The value of the number, or None where that prefix isn't a number yet.
     pub value: Option<Result<i64, FixedFault>>,
+}
+
+/// A number that begins a text and has a value.
+#[derive(Clone, Copy, Debug, PartialEq, Eq)]
+pub struct PlainNumber {
+    /// The length of the number in bytes.
+    pub len: u32,
+    /// Its value.
+    pub value: i64,
 }
 
 /// The end of a number, and whether it is one.
@@ -48,11 +58,9 @@ pub fn wkt_number(text: &[u8]) -> Taken
     taken_of(scan(text, Notation::Wkt))
 }
 
-/// The longest prefix of the text that is the beginning of some number, and the number's value in units of
-/// 10^-digits where that prefix is a number: what `json_number` or `wkt_number`, and then `read_fixed` of the
-/// prefix, tell in two passes. It takes no memory.
-#[inline(always)]
-pub fn leading_number(text: &[u8], notation: Notation, digits: u8, how: Coords) -> LeadingNumber
+/// The number that begins a text, however it is written.
+#[inline(never)]
+fn any_number(text: &[u8], notation: Notation, digits: u8, how: Coords) -> LeadingNumber
     requires { length text.now ≤ 2 ^ 28 }
     ensures taken { TakesLongest (NumberOf notation) text.now (record { len = result.len; whole = is_some result.value }) }
     ensures value { IfSome result.value (λ value. IsFixedOf (take result.len text.now) digits how value) }
@@ -66,6 +74,90 @@ pub fn leading_number(text: &[u8], notation: Notation, digits: u8, how: Coords) 
         }
     } else {
         LeadingNumber { len, value: None }
+    }
+}
+
+/// `plain_number` where sixteen bytes are left.
+#[inline(always)]
+fn far_number(text: &[u8], notation: Notation, digits: u8, how: Coords) -> Option<PlainNumber>
+    requires short { length text.now ≤ 2 ^ 28 }
+    requires long { 16 ≤ length text.now }
+    ensures taken { IfSome result (λ number. TakesLongest (NumberOf notation) text.now (record { len = number.len; whole = true })) }
+    ensures value { IfSome result (λ number. IsFixedOf (take number.len text.now) digits how (Ok number.value)) }
+{
+    let scanned = scan_far(text, notation)?;
+    match value_of(scanned.decimal, digits, how) {
+        Ok(value) => Some(PlainNumber {
+            len: scanned.len as u32,
+            value,
+        }),
+        Err(_) => None,
+    }
+}
+
+/// `plain_number` near the end of a text.
+#[inline(never)]
+fn near_number(text: &[u8], notation: Notation, digits: u8, how: Coords) -> Option<PlainNumber>
+    requires { length text.now ≤ 2 ^ 28 }
+    ensures taken { IfSome result (λ number. TakesLongest (NumberOf notation) text.now (record { len = number.len; whole = true })) }
+    ensures value { IfSome result (λ number. IsFixedOf (take number.len text.now) digits how (Ok number.value)) }
+{
+    let scanned = scan_near(text, notation)?;
+    match value_of(scanned.decimal, digits, how) {
+        Ok(value) => Some(PlainNumber {
+            len: scanned.len as u32,
+            value,
+        }),
+        Err(_) => None,
+    }
+}
+
+/// The number that begins a text, where it has a value and is written plainly: some digits, a point with some digits behind
+/// it or none, and no exponent. For some numbers it answers None. It takes no memory.
+#[inline(always)]
+pub fn plain_number(text: &[u8], notation: Notation, digits: u8, how: Coords) -> Option<PlainNumber>
+    requires { length text.now ≤ 2 ^ 28 }
+    ensures taken { IfSome result (λ number. TakesLongest (NumberOf notation) text.now (record { len = number.len; whole = true })) }
+    ensures value { IfSome result (λ number. IsFixedOf (take number.len text.now) digits how (Ok number.value)) }
+{
+    if text.len() >= 16
+        && let Some(number) = far_number(text, notation, digits, how)
+    {
+        return Some(number);
+    }
+    near_number(text, notation, digits, how)
+}
+
+/// The length of the number that begins a text, where it is written plainly and surely has a value: what `plain_number` tells
+/// of it but for the value, which isn't computed. For some numbers it answers None. It takes no memory.
+#[inline(always)]
+pub fn plain_len(text: &[u8], notation: Notation, digits: u8, how: Coords) -> Option<u32>
+    requires { length text.now ≤ 2 ^ 28 }
+    ensures taken { IfSome result (λ len. TakesLongest (NumberOf notation) text.now (record { len = len; whole = true })) }
+    ensures value { IfSome result (λ len. (value : ℤ) × IsFixedOf (take len text.now) digits how (Ok value)) }
+{
+    if text.len() < 16 {
+        return None;
+    }
+    let end = valued_end(text, notation, digits, how)?;
+    Some(end as u32)
+}
+
+/// The longest prefix of the text that is the beginning of some number, and the number's value in units of
+/// 10^-digits where that prefix is a number: what `json_number` or `wkt_number`, and then `read_fixed` of the
+/// prefix, tell in two passes. It takes no memory.
+#[inline(always)]
+pub fn leading_number(text: &[u8], notation: Notation, digits: u8, how: Coords) -> LeadingNumber
+    requires { length text.now ≤ 2 ^ 28 }
+    ensures taken { TakesLongest (NumberOf notation) text.now (record { len = result.len; whole = is_some result.value }) }
+    ensures value { IfSome result.value (λ value. IsFixedOf (take result.len text.now) digits how value) }
+{
+    match plain_number(text, notation, digits, how) {
+        Some(plain) => LeadingNumber {
+            len: plain.len,
+            value: Some(Ok(plain.value)),
+        },
+        None => any_number(text, notation, digits, how),
     }
 }
 

@@ -1,8 +1,6 @@
-ghost use Rattle.std.specs.Prelude.{◌≡◌, ℕ, ◌^◌, ◌<◌, ◌≤◌, ◌&&◌, ◌||◌, IsTrue, if◌then◌else◌, length, take};
-ghost use Rattle.at_text.specs.Prefix.{TakesLongest};
-ghost use Rattle.at_fixed.specs.Numerals.{Numeral, numeral_text, IsNumeralOf, NumberOf};
+ghost use Rattle.std.specs.Prelude.{◌≡◌, ℕ, ◌^◌, ◌<◌, ◌≤◌, ◌==◌, ◌&&◌, ◌||◌, nat_lt, IsTrue, if◌then◌else◌, length, slice_index, take};
 ghost use Rattle.at_fixed.specs.Scans.{ReadsSign, ReadsLead, ReadsWhole, ReadsMantissa, ReadsPower, may_take_point, is_wkt};
-ghost use Rattle.at_fixed.specs.Decimals.{IsDecimalOf};
+ghost use Rattle.at_fixed.specs.Scanned.{IsScanned, both_halves};
 
 use crate::digits::{Digits, DigitsRun, read_digits, read_power};
 use crate::notation::Notation;
@@ -51,27 +49,25 @@ pub struct Scanned {
     pub decimal: Decimal,
 }
 
-/// Reads the sign that a number may have at an offset.
+/// Whether the byte stands at a place of the text.
 #[inline(always)]
-fn read_sign(text: &[u8], from: usize, notation: Notation) -> Sign
+fn stands(text: &[u8], at: usize, byte: u8) -> bool
+    ensures { result ≡ (nat_lt at (length text.now) && (slice_index text.now at == byte)) }
+{
+    at < text.len() && text[at] == byte
+}
+
+/// Reads the sign that a number may have at an offset. Signs come at random, so nothing is chosen by a branch.
+#[inline(always)]
+pub fn read_sign(text: &[u8], from: usize, notation: Notation) -> Sign
     requires { from ≤ length text.now }
     ensures { ReadsSign notation text.now from result }
 {
-    if from < text.len() && text[from] == b'-' {
-        Sign {
-            end: from + 1,
-            is_minus: true,
-        }
-    } else if from < text.len() && text[from] == b'+' && matches!(notation, Notation::Wkt) {
-        Sign {
-            end: from + 1,
-            is_minus: false,
-        }
-    } else {
-        Sign {
-            end: from,
-            is_minus: false,
-        }
+    let is_minus = stands(text, from, b'-');
+    let is_plus = stands(text, from, b'+') && matches!(notation, Notation::Wkt);
+    Sign {
+        end: from + usize::from(is_minus || is_plus),
+        is_minus,
     }
 }
 
@@ -114,7 +110,7 @@ fn read_whole(text: &[u8], notation: Notation) -> Mantissa
 
 /// Whether a point stands behind the digits and may stand there.
 #[inline(always)]
-fn has_point(text: &[u8], whole: Mantissa, notation: Notation) -> bool
+pub fn has_point(text: &[u8], whole: Mantissa, notation: Notation) -> bool
     ensures { result ≡ may_take_point notation text.now whole }
 {
     whole.end < text.len()
@@ -203,18 +199,14 @@ fn size_below(power: Power) -> u64
     if power.is_minus { power.size } else { 0 }
 }
 
-/// Reads the number that begins a text.
+/// What is read of a number by its two halves.
 #[inline(always)]
-pub fn scan(text: &[u8], notation: Notation) -> Scanned
-    requires { length text.now ≤ 2 ^ 28 }
-    ensures taken { TakesLongest (NumberOf notation) text.now (record { len = result.len; whole = result.is_number }) }
-    ensures value { IsTrue result.is_number → (n : Numeral) × IsNumeralOf notation n
-        × (take result.len text.now ≡ numeral_text n) × IsDecimalOf result.decimal n }
-    ensures small { result.decimal.up < 2 ^ 50 }
-    ensures fits { result.decimal.kept < 10 ^ 19 }
+pub fn scanned_of(front: Mantissa, power: Power) -> Scanned
+    requires dropped { front.digits.dropped ≤ 2 ^ 28 }
+    requires count { front.fraction ≤ 2 ^ 28 }
+    requires size { power.size < 2 ^ 40 }
+    ensures { result ≡ both_halves front power }
 {
-    let front = read_mantissa(text, notation);
-    let power = read_exponent(text, front);
     Scanned {
         len: power.end,
         is_number: power.is_number,
@@ -226,4 +218,15 @@ pub fn scan(text: &[u8], notation: Notation) -> Scanned
             down: front.fraction as u64 + size_below(power),
         },
     }
+}
+
+/// Reads the number that begins a text.
+#[inline(always)]
+pub fn scan(text: &[u8], notation: Notation) -> Scanned
+    requires { length text.now ≤ 2 ^ 28 }
+    ensures { IsScanned notation text.now result }
+{
+    let front = read_mantissa(text, notation);
+    let power = read_exponent(text, front);
+    scanned_of(front, power)
 }

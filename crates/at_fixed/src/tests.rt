@@ -121,6 +121,102 @@ fn values(rt: HostRuntime) {
     check_cases(&rt, &OTHER_CASES);
 }
 
+/// Numbers with further bytes behind them: a length and a value for each notation, and whether the number is plain.
+#[test]
+fn numbers_before_bytes(rt: HostRuntime) {
+    let rows: [(&[u8], Notation, u32, Answer, bool); 16] = [
+        (
+            b"-180.1234567 -90.5000000",
+            Notation::Wkt,
+            12,
+            Ok(-1801234567),
+            true,
+        ),
+        (b"+1.5,4.5,5.5,6.5", Notation::Wkt, 4, Ok(15000000), true),
+        (
+            b"98.7654321098765 12.3456789",
+            Notation::Wkt,
+            16,
+            Ok(987654321),
+            true,
+        ),
+        (b"0.00000005 00000000", Notation::Wkt, 10, Ok(0), true),
+        (b"0.00000015 00000000", Notation::Wkt, 10, Ok(2), true),
+        (
+            b"-0.000000149999999 0000000",
+            Notation::Wkt,
+            18,
+            Ok(-1),
+            true,
+        ),
+        (
+            b"1234567.1234567,0",
+            Notation::Wkt,
+            15,
+            Ok(12345671234567),
+            true,
+        ),
+        (
+            b"9999999.5 0000000",
+            Notation::Wkt,
+            9,
+            Ok(99999995000000),
+            true,
+        ),
+        (b"1.5e1,0000000000", Notation::Wkt, 5, Ok(150000000), false),
+        (
+            b"1.e5 00000000000",
+            Notation::Wkt,
+            4,
+            Ok(1000000000000),
+            false,
+        ),
+        (b"007.25 000000000", Notation::Wkt, 6, Ok(72500000), true),
+        (
+            b"1.1234567890123456789 00000000",
+            Notation::Wkt,
+            21,
+            Ok(11234568),
+            false,
+        ),
+        (b"30000000.5 000000", Notation::Wkt, 10, RANGE, false),
+        (b"01.5,0000000000", Notation::Json, 1, Ok(0), false),
+        (b"0.5,00000000000", Notation::Json, 3, Ok(5000000), true),
+        (
+            b"-10.25]0000000000",
+            Notation::Json,
+            6,
+            Ok(-102500000),
+            true,
+        ),
+    ];
+    for (text, notation, len, value, is_plain) in rows {
+        let number = leading_number(text, notation, 7, Coords::Round);
+        let plain = plain_number(text, notation, 7, Coords::Round);
+        let told = LeadingNumber {
+            len,
+            value: Some(value),
+        };
+        assert_eq!(rt; number, told, "{text:?}");
+        assert_eq!(rt; plain.is_some(), is_plain, "{text:?}");
+        if let Some(plain) = plain {
+            assert_eq!(rt; plain.len, len, "{text:?}");
+            assert_eq!(rt; Ok(plain.value), value, "{text:?}");
+        }
+    }
+}
+
+/// Lengths of numbers whose values aren't computed.
+#[test]
+fn lengths_of_plain_numbers(rt: HostRuntime) {
+    let text = b"98.7654321098765 12.3456789 12.5";
+    assert_eq!(rt; plain_len(text, Notation::Wkt, 7, Coords::Round), Some(16));
+    assert_eq!(rt; plain_len(text, Notation::Wkt, 7, Coords::Exact), None);
+    let short = b"-180.1234567 -90.5";
+    assert_eq!(rt; plain_len(short, Notation::Wkt, 7, Coords::Exact), Some(12));
+    assert_eq!(rt; plain_len(short, Notation::Wkt, 11, Coords::Round), None);
+}
+
 /// Values with nine digits.
 #[test]
 fn values_with_nine_digits(rt: HostRuntime) {

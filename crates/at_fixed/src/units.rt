@@ -48,15 +48,18 @@ fn exact(whole: u64, is_cut: bool) -> Result<u64, FixedFault>
 /// more behind it or the number is odd.
 #[inline(always)]
 fn is_up(whole: u64, rest: u64, half: u64, is_cut: bool) -> bool
+    requires { rest < 10 ^ 19 }
     ensures { result ≡ (nat_lt half rest || ((rest == half) && (is_cut || (whole % 2 == 1)))) }
 {
-    rest > half || (rest == half && (is_cut || whole % 2 == 1))
+    let tie_breaker = u64::from(is_cut || whole % 2 == 1);
+    rest + tie_breaker > half
 }
 
 /// The whole number of units nearest to one with a rest, and the even one of two.
 #[inline(always)]
 fn rounded(whole: u64, rest: u64, half: u64, is_cut: bool) -> Result<u64, FixedFault>
-    requires { whole < 10 ^ 19 }
+    requires whole_fits { whole < 10 ^ 19 }
+    requires rest_fits { rest < 10 ^ 19 }
     ensures value { let near = if nat_lt half rest || ((rest == half) && (is_cut || (whole % 2 == 1))) then whole + 1 else whole in
         result ≡ (if nat_lt largest near then Err FixedFault.Range else Ok near) }
     ensures bound { IfOk result (λ size. size ≤ largest) }

@@ -1,12 +1,8 @@
-use Rattle.std.proofs.Common.{◌+◌, ap}
-use Rattle.at_fixed.proofs.Endings.{longest_by, read_value}
+use Rattle.std.proofs.Common.{sym, subst}
+use Rattle.at_fixed.specs.Scanned.{IsScanned}
+use Rattle.at_fixed.proofs.Endings.{scanned_by}
 use Rattle.at_fixed.proofs.scanning.scan.Goals as goal
 
-pub returns-clause-taken : goal.returns-clause-taken
-returns-clause-taken c = longest_by c.args.notation c.args.text.now c.read_mantissa-front.result c.read_exponent-power.result c.read_mantissa-front.ensures c.read_exponent-power.ensures
-
-pub returns-clause-value : goal.returns-clause-value
-returns-clause-value c = read_value c.args.notation c.args.text.now c.read_mantissa-front.result c.read_exponent-power.result _ _ c.requires
-    c.read_mantissa-front.ensures c.read_exponent-power.ensures
-    (ap (λ n. c.read_mantissa-front.result.digits.dropped + n) c.size_above.ensures)
-    (ap (λ n. c.read_mantissa-front.result.fraction + n) c.size_below.ensures)
+pub returns : goal.returns
+returns c = subst (IsScanned c.args.notation c.args.text.now) (sym c.scanned_of.ensures)
+    (scanned_by c.args.notation c.args.text.now c.read_mantissa-front.result c.read_exponent-power.result c.requires c.read_mantissa-front.ensures c.read_exponent-power.ensures)

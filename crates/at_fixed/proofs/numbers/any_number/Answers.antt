@@ -1,5 +1,5 @@
 use Rattle.at_fixed.proofs.Spelled.{fixed_by}
-use Rattle.at_fixed.proofs.numbers.leading_number.Goals as goal
+use Rattle.at_fixed.proofs.numbers.any_number.Goals as goal
 
 pub returns-then-scanned-clause-value : goal.returns-then-scanned-clause-value
 returns-then-scanned-clause-value c =

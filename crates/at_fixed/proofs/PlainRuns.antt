@@ -1,0 +1,71 @@
+-- Digits that are read eight at a time, and all kept.
+use Rattle.std.proofs.Common.{◌≡◌, ◌^◌, ℕ, ◌+◌, true, false, arith, List, [], ◌∷◌, ◌++◌, ◌≤◌, ◌<◌, ◌-◌, ◌*◌, length, subst, sym, ap, ◌∙◌, lit<, pow-add}
+use Rattle.std.proofs.Math.Nat.{pow-le-pow_right}
+use Rattle.at_fixed.specs.declared.digits.KeptRun.{KeptRun}
+use Rattle.at_fixed.specs.Numerals.{AreDigits}
+use Rattle.at_fixed.specs.Kept.{part}
+use Rattle.at_fixed.specs.Scans.{EndsRun, KeepsRun, KeepsTo}
+use Rattle.at_fixed.specs.Kept.{digits_behind}
+use Rattle.at_fixed.proofs.DigitParts.{part-part, part-length, behind_small}
+use Rattle.at_fixed.proofs.EightDigits.{kept_both}
+
+-- eight digits, and the further ones behind them
+pub both_runs : (w : List ℕ) (from before : ℕ) (first second : KeptRun) → KeepsRun w from before first → first.is_whole ≡ false → KeepsRun w first.end first.kept second → second.is_whole ≡ true
+    → KeepsRun w from before second
+both_runs w from before first second h more k whole =
+    let eight : first.end ≡ from + 8 = h.filled more in
+    let (digits, value) = kept_both w from first.end second.end before first.kept second.kept h.order k.order k.within h.digits k.digits h.value k.value in
+    record {
+      order = omega (arith, h.order, k.order);
+      within = k.within;
+      digits = digits;
+      value = value;
+      fits = k.fits;
+      full = λ big. let same : first.end ≡ from = h.full big in absurd (omega (arith, eight, same));
+      stops = k.stops;
+      filled = λ e. absurd (cc);
+    }
+
+-- ---- digits whose end is known
+
+digits_split : (ds es : List ℕ) → AreDigits (ds ++ es) → AreDigits ds × AreDigits es
+digits_split [] es h = (tt, h)
+digits_split (d ∷ ds) es (first, h) = let (front, back) = digits_split ds es h in ((first, front), back)
+
+pub first_digits : (w : List ℕ) (from mid to : ℕ) → from ≤ mid → mid ≤ to → to ≤ length w → AreDigits (part w from to) → AreDigits (part w from mid) × AreDigits (part w mid to)
+first_digits w from mid to order more within h = digits_split (part w from mid) (part w mid to) (subst AreDigits (part-part w from mid to order more within) h)
+
+-- digits behind those that were kept
+pub kept_on : (w : List ℕ) (from mid to before kept next : ℕ) → from < mid → mid ≤ to → to ≤ length w → AreDigits (part w from to) → KeepsTo w from mid before kept → KeepsTo w mid to kept next → KeepsTo w from to before next
+kept_on w from mid to before kept next order more within digits h k =
+    let (front, back) = first_digits w from mid to (omega (arith, order)) more within digits in
+    record {
+      value = (kept_both w from mid to before kept next (omega (arith, order)) more within front back h.value k.value).1;
+      full = λ big. let same : mid ≡ from = h.full big in absurd (omega (arith, order, same));
+      fits = k.fits;
+    }
+
+pub run_to : (w : List ℕ) (from to before kept : ℕ) → EndsRun w from to → KeepsTo w from to before kept → KeepsRun w from before (record { end = to; kept = kept; is_whole = true })
+run_to w from to before kept h k = record {
+  order = h.order;
+  within = omega (arith, h.within);
+  digits = h.digits;
+  value = k.value;
+  fits = k.fits;
+  full = k.full;
+  stops = λ _ _. h.stops;
+  filled = λ e. absurd (cc);
+}
+
+-- ---- how large what is kept may be
+
+pub room_more : (n k l : ℕ) → n < 10 ^ k → k ≤ l → n < 10 ^ l
+room_more n k l small more = let ten : 0 < 10 = lit< tt in let least : 10 ^ k ≤ 10 ^ l = pow-le-pow_right ten more in omega (arith, small, least)
+
+pub kept_small : (w : List ℕ) (from to before kept k : ℕ) → from ≤ to → to ≤ length w → AreDigits (part w from to) → kept ≡ digits_behind before (part w from to) → before < 10 ^ k → kept < 10 ^ (k + (to - from))
+kept_small w from to before kept k order within digits value small =
+    let ds : List ℕ = part w from to in
+    let count : length ds ≡ to - from = omega (arith, part-length w from to order within) in
+    let below : digits_behind before ds < 10 ^ k * 10 ^ length ds = behind_small before (10 ^ k) ds small digits in
+    let top : 10 ^ k * 10 ^ length ds ≡ 10 ^ (k + (to - from)) = ap (λ n. 10 ^ k * 10 ^ n) count ∙ sym (pow-add 10 k (to - from)) in
+    subst (λ n. kept < n) top (subst (λ n. n < 10 ^ k * 10 ^ length ds) (sym value) below)
