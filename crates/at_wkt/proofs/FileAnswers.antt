@@ -15,12 +15,10 @@ use Rattle.at_wkt.specs.declared.answers.LineFault.{LineFault}
 use Rattle.at_wkt.specs.declared.answers.LineFault.TheVariants.{Found, Memory}
 use Rattle.at_wkt.specs.declared.files.Counted.{Counted}
 use Rattle.at_wkt.specs.Meaning.{faults_of}
-use Rattle.at_wkt.specs.Answers.{IfFound, SpellsLine, HasLineShape, HasFirstLineFault, unspelled, faulty}
+use Rattle.at_wkt.specs.Answers.{IfFound, SpellsLine, HasLineShape, HasFirstLineFault, HasFaultOrShape, unspelled, faulty}
 use Rattle.at_wkt.specs.Lines.{FileLine, without_return, line_of, is_blank_text, lines_in, lines_of, pieces_from, HasLineFaults, HaveLineFaults}
 use Rattle.at_wkt.specs.Files.{HasFaultBehind, HasFileFault, TheFileFault}
-use Rattle.at_wkt.specs.declared.halts.Halt.{Halt}
-use Rattle.at_wkt.specs.declared.halts.Halt.TheVariants.{At as StopAt, Memory as NoRoom}
-use Rattle.at_wkt.specs.Reading.{HasLineFault, Counts, IfStopped, LineStops, file_answer, stopped_fault}
+use Rattle.at_wkt.specs.Reading.{HasLineFault, Counts, file_answer}
 use Rattle.at_wkt.proofs.Exits.{first_of-append}
 
 -- ---- the end of a line
@@ -55,20 +53,15 @@ module _ (digits : ℕ) (how : Coords) where
   line_with_fault at text fault (unspelled s) = record { faults = fault ∷ []; have = inl (fault, s, refl); first_is = refl; only = unspelled_only at text fault s }
   line_with_fault at text fault (faulty shape h) = record { faults = faults_of digits how h.geometry; have = inr (h.geometry, h.spelled, refl); first_is = h.fault_is; only = spelled_only at text (Some fault) shape h }
 
-  -- the fault where reading a line stopped
-  pub line_stopped : (at : ℕ) (text : List ℕ) (halt : Halt) (answer : Result (Option Fault) LineFault) → answer ≡ stopped_fault at text halt → IfStopped halt (LineStops at text)
-      → MatchResult answer (HasLineFault digits how at text) (λ refusal. refusal ≡ Memory)
-  line_stopped at text (StopAt n) answer e h =
-      let P : Result (Option Fault) LineFault → Type 0 = λ z. MatchResult z (HasLineFault digits how at text) (λ refusal. refusal ≡ Memory) in
-      subst P (sym e) (line_with_fault at text (stop_fault at text n) (unspelled h.fault))
-  line_stopped at text NoRoom answer e h =
-      let P : Result (Option Fault) LineFault → Type 0 = λ z. MatchResult z (HasLineFault digits how at text) (λ refusal. refusal ≡ Memory) in
-      subst P (sym e) refl
+  -- the fault of a line that was checked
+  pub line_checked : (at : ℕ) (text : List ℕ) (fault : Option Fault) → HasFaultOrShape digits how at text fault → HasLineFault digits how at text fault
+  line_checked at text None (shape, h) = line_without_fault at text shape h
+  line_checked at text (Some fault) h = line_with_fault at text fault h
 
-  -- the fault of a line that was read to its end
-  pub line_read : (at : ℕ) (text : List ℕ) (fault : Option Fault) (shape : Shape) → SpellsLine digits how at text fault shape → HasLineFault digits how at text fault
-  line_read at text None shape s = line_without_fault at text shape s
-  line_read at text (Some f) shape s = line_with_fault at text f (faulty shape s)
+  -- a line that was read to its end
+  pub line_read : (at : ℕ) (text : List ℕ) (fault : Option Fault) (shape : Shape) → SpellsLine digits how at text fault shape → HasFaultOrShape digits how at text fault
+  line_read at text None shape s = (shape, s)
+  line_read at text (Some f) shape s = faulty shape s
 
   -- ---- pieces
 

@@ -23,6 +23,7 @@ pub mod GeometryAnswers
 pub mod ProgressAnswers
 pub mod LineAnswers
 pub mod FileAnswers
+pub mod CheckAnswers
 pub mod LinePieces
 pub mod LineMerges
 mod Examples

@@ -1,11 +1,11 @@
 -- Fragments of lines: what is read of a span, what two of them make, and what a whole one makes.
-use Rattle.std.proofs.Common.{◌≡◌, ℕ, ◌+◌, ◌-◌, ◌<◌, ◌≤◌, Bool, true, false, not, ◌&&◌, if◌then◌else◌, nat_eq, List, [], ◌∷◌, ◌++◌, length, map, filter, take, drop, refl, sym, ◌∙◌, ap, subst, arith, append-nil, append_assoc, length-append, length-take, length-drop, drop-drop, take_all}
+use Rattle.std.proofs.Common.{◌≡◌, ℕ, ◌+◌, ◌-◌, ◌<◌, ◌≤◌, Bool, true, false, not, ◌&&◌, if◌then◌else◌, nat_eq, List, [], ◌∷◌, ◌++◌, length, map, filter, take, drop, refl, sym, ◌∙◌, ap, subst, arith, append-nil, append_assoc, length-append, length-take, length-drop, drop-drop}
 use Rattle.std.specs.List.{list_any, position_or_len, starts_with}
 use Rattle.std.proofs.Math.Seq.{take-add, take-append_seam, drop-append_seam}
 use Rattle.std.proofs.lemmas.List.{map-append, take-append-drop}
 use Rattle.at_text.specs.declared.texts.Span.{Span}
 use Rattle.at_text.specs.Texts.{base_of, byte_order_mark}
-use Rattle.at_wkt.specs.Lines.{FileLine, pieces_from, is_line_feed, line_of, is_blank_text, lines_in, lines_of}
+use Rattle.at_wkt.specs.Lines.{FileLine, pieces_from, is_line_feed, line_of, is_blank_text, lines_in}
 use Rattle.at_wkt.specs.declared.fragments.WholeLines.{WholeLines}
 use Rattle.at_wkt.specs.declared.fragments.Inner.{Inner}
 use Rattle.at_wkt.specs.declared.fragments.LineFragment.{LineFragment}

@@ -9,13 +9,15 @@ use Rattle.at_geom.specs.declared.positions.Pos.{Pos}
 use Rattle.at_wkt.specs.declared.dimension.Dimension.{Dimension}
 use Rattle.at_wkt.specs.declared.rules.Rules.{Rules}
 use Rattle.at_wkt.specs.declared.positions.PositionRead.{PositionRead}
+use Rattle.at_wkt.specs.declared.paths.ListRead.{ListRead}
 use Rattle.at_wkt.specs.declared.paths.PathRead.{PathRead}
+use Rattle.at_wkt.specs.declared.parts.Read.{Read}
 use Rattle.at_wkt.specs.declared.paths.Role.{Role}
 use Rattle.at_wkt.specs.declared.paths.Role.TheVariants.{Line, Ring}
 use Rattle.at_wkt.specs.declared.parts.ItemRead.{ItemRead}
 use Rattle.at_wkt.specs.Positions.{Position, Positions, pos_of, position_faults, items_faults, last_of, is_faultless, is_closed}
 use Rattle.at_wkt.specs.Geometry.{SpellsPosition, SpellsRing}
-use Rattle.at_wkt.specs.Reading.{next, Spelt, Stuck, Item, Items, ItemsRead, HasCount, PositionStands, PositionsSoFar, PositionsStand, ItemsSoFar, ItemStands, Grows, PathStands, fault_of_path, faults_of_path}
+use Rattle.at_wkt.specs.Reading.{PartStands, next, Spelt, Stuck, Item, Items, ItemsRead, HasCount, PositionStands, PositionsSoFar, ends_same, PositionsStand, ItemsSoFar, ItemStands, Grows, PathStands, fault_of_path, faults_of_path}
 use Rattle.at_wkt.proofs.ListSteps.{ItemLives, items_start, items_more, items_stuck, items_end, position_lives, ring_leads}
 use Rattle.at_wkt.proofs.Exits.{first_of-append}
 
@@ -86,12 +88,9 @@ module _ (rules : Rules) (w : List ℕ) (i : ℕ) (c : Dimension) where
   pub positions_stuck_first : (n : ℕ) → Stuck (Item SpellsPosition) rules.base w i c n → Stuck (Items SpellsPosition) rules.base w i c n
   positions_stuck_first n q = items_stuck SpellsPosition rules.base w i c position_lives i n c [] (items_start SpellsPosition rules.base w i c) q
 
-  abbrev pub ends_same : PositionRead → PositionRead → Bool
-  ends_same first last = not (is_none first.fault && is_none last.fault) || (int_eq first.pos.x last.pos.x && int_eq first.pos.y last.pos.y)
-
-  pub positions_end : (first last : PositionRead) (path : List Pos) (fault : Option Fault) (read : PathRead) → PositionsSoFar rules w i c first last path fault → last.is_last ≡ true
-      → read.path.items ≡ path → read.fault ≡ fault → read.closes ≡ ends_same first last → read.end ≡ last.end → read.dimension ≡ last.dimension → PositionsStand rules w i c read
-  positions_end first last path fault read h ended ep ef ec ee ed =
+  pub positions_end : (first last : PositionRead) (path : List Pos) (fault : Option Fault) (read : ListRead) → PositionsSoFar rules w i c first last path fault → last.is_last ≡ true
+      → read.fault ≡ fault → read.closes ≡ ends_same first last → read.end ≡ last.end → read.dimension ≡ last.dimension → PositionsStand rules w i c path read
+  positions_end first last path fault read h ended ef ec ee ed =
       let xs = h.head ∷ h.rest in
       let q = last_of h.head h.rest in
       let spelt : Spelt (Items SpellsPosition) rules.base w i c last.end last.dimension xs = items_end SpellsPosition rules.base w i c last.end last.dimension xs
@@ -101,7 +100,7 @@ module _ (rules : Rules) (w : List ℕ) (i : ℕ) (c : Dimension) where
       record {
         positions = xs;
         spelt = subst (λ z. Spelt (Items SpellsPosition) rules.base w i c read.end z xs) (sym ed) (subst (λ z. Spelt (Items SpellsPosition) rules.base w i c z last.dimension xs) (sym ee) spelt);
-        path = ep ∙ h.path_is;
+        list_is = h.path_is;
         fault = ef ∙ h.fault_is;
         closes = ec ∙ (ap (λ z. not (z && is_none last.fault) || (int_eq first.pos.x last.pos.x && int_eq first.pos.y last.pos.y)) none_first
             ∙ (ap (λ z. not (is_faultless rules.digits rules.how h.head && z) || (int_eq first.pos.x last.pos.x && int_eq first.pos.y last.pos.y)) none_last
@@ -161,15 +160,33 @@ module _ (rules : Rules) (w : List ℕ) (i : ℕ) (c : Dimension) (inside : i < 
       ∙ (ap (first_fault (first_of (option_to_list (fault_of_path Ring (length ps.items) (is_closed rules.digits rules.how ps.items) ps.at)))) ef
       ∙ sym (first_of-append (option_to_list (fault_of_path Ring (length ps.items) (is_closed rules.digits rules.how ps.items) ps.at)) (items_faults rules.digits rules.how ps.items)))
 
-  pub path_stands : (role : Role) (read : PathRead) → PositionsStand rules w (i + 1) c read → (own : Option Fault) → own ≡ fault_of_path role (length read.path.items) read.closes (rules.base + i)
-      → (fault : Option Fault) → fault ≡ first_fault own read.fault
-      → PathStands rules w i c role (record { path = read.path; fault = fault; closes = read.closes; end = read.end; dimension = read.dimension })
-  path_stands role read h own eo fault ef =
+  pub path_stands : (role : Role) (list : List Pos) (read : ListRead) (path : PathRead) → PositionsStand rules w (i + 1) c list read → path.path.items ≡ list → (own : Option Fault)
+      → own ≡ fault_of_path role (length list) read.closes (rules.base + i) → path.fault ≡ first_fault own read.fault → path.end ≡ read.end → path.dimension ≡ read.dimension
+      → PathStands rules w i c role path
+  path_stands role list read path h ep own eo ef ee ed =
       let ps : Positions = record { at = rules.base + i; items = h.positions } in
-      let count : length read.path.items ≡ length h.positions = ap length h.path ∙ length-map h.positions (pos_of rules.digits rules.how) in
+      let count : length list ≡ length h.positions = ap length h.list_is ∙ length-map h.positions (pos_of rules.digits rules.how) in
       record {
         positions = ps;
-        spelt = (ring_leads rules.base w i c inside here).spelt read.end read.dimension h.positions h.spelt;
-        path = h.path;
+        spelt =
+            subst (λ z. Spelt SpellsRing rules.base w i c path.end z ps) (sym ed)
+            (subst (λ z. Spelt SpellsRing rules.base w i c z read.dimension ps) (sym ee) ((ring_leads rules.base w i c inside here).spelt read.end read.dimension h.positions h.spelt));
+        path = ep ∙ h.list_is;
         fault = ef ∙ faults_by role own ps read.fault (eo ∙ (ap (λ z. fault_of_path role z read.closes (rules.base + i)) count ∙ ap (λ z. fault_of_path role (length h.positions) z (rules.base + i)) h.closes)) h.fault;
+      }
+
+  -- the same, where the path isn't kept
+  pub path_passed : (role : Role) (list : List Pos) (read : ListRead) (path : Read) → PositionsStand rules w (i + 1) c list read → (own : Option Fault)
+      → own ≡ fault_of_path role (length list) read.closes (rules.base + i) → path.fault ≡ first_fault own read.fault → path.end ≡ read.end → path.dimension ≡ read.dimension
+      → PartStands SpellsRing (faults_of_path rules.digits rules.how role) (λ _. Unit {0}) rules.base w i c path
+  path_passed role list read path h own eo ef ee ed =
+      let ps : Positions = record { at = rules.base + i; items = h.positions } in
+      let count : length list ≡ length h.positions = ap length h.list_is ∙ length-map h.positions (pos_of rules.digits rules.how) in
+      record {
+        value = ps;
+        spelt =
+            subst (λ z. Spelt SpellsRing rules.base w i c path.end z ps) (sym ed)
+            (subst (λ z. Spelt SpellsRing rules.base w i c z read.dimension ps) (sym ee) ((ring_leads rules.base w i c inside here).spelt read.end read.dimension h.positions h.spelt));
+        fault = ef ∙ faults_by role own ps read.fault (eo ∙ (ap (λ z. fault_of_path role z read.closes (rules.base + i)) count ∙ ap (λ z. fault_of_path role (length h.positions) z (rules.base + i)) h.closes)) h.fault;
+        added = tt;
       }

@@ -1,10 +1,8 @@
 -- Positions whose numbers have values and are set apart by one space.
-use Rattle.std.proofs.Common.{◌≡◌, ℕ, ◌+◌, ◌<◌, ◌≤◌, ◌⊎◌, inl, inr, true, not, List, [], ◌∷◌, length, Option, None, Some, IfSome, sym, ◌∙◌, ap, subst, arith}
+use Rattle.std.proofs.Common.{◌≡◌, ℕ, ◌+◌, ◌<◌, ◌≤◌, ◌⊎◌, inl, inr, true, not, List, [], ◌∷◌, length, sym, ◌∙◌, ap, subst, arith}
 use Rattle.at_fixed.specs.Numerals.{Numeral}
 use Rattle.at_wkt.specs.Geometry.{is_blank}
-use Rattle.at_wkt.specs.Reading.{part, next, is_delimiter, SkipsBlanks, NumberStands, IsCoordinate}
-use Rattle.at_wkt.specs.declared.numbers.Coordinate.{Coordinate}
-use Rattle.at_fixed.specs.declared.rounding.Coords.{Coords}
+use Rattle.at_wkt.specs.Reading.{part, next, is_delimiter, SkipsBlanks, NumberStands}
 use Rattle.at_wkt.proofs.Leads.{part-none, part-one, part-cons, same_or_less}
 use Rattle.at_wkt.proofs.Steps.{AreBlanks}
 use Rattle.at_wkt.proofs.PositionSteps.{begins_number, number_first}
@@ -51,13 +49,3 @@ space_skipped w i a j n (inl (e, byte)) h =
     subst (SkipsBlanks w i) (sym e) (one_skipped w i j n (omega (arith, e, h.order, h.within)) byte (subst P e h))
 space_skipped w i a j n (inr e) h =
     subst (λ k. SkipsBlanks w k a) e (none_skipped w a (omega (arith, h.order, h.within)) (number_free w a j n h))
-
--- a coordinate that was kept since it has no fault
-pub kept_coordinate : (w : List ℕ) (at digits : ℕ) (how : Coords) (offset : ℕ) (n : Numeral) (read : Coordinate) → NumberStands w at read.end n → IsCoordinate digits how n offset read
-    → (r : Option Coordinate) → IfSome r (λ kept. (kept.fault ≡ None) × (kept.fault ≡ read.fault) × (kept.value ≡ read.value) × (kept.end ≡ read.end))
-    → IfSome r (λ kept. (kept.fault ≡ None) × ((n : Numeral) × NumberStands w at kept.end n × IsCoordinate digits how n offset kept))
-kept_coordinate w at digits how offset n read stands is None h = h
-kept_coordinate w at digits how offset n read stands is (Some kept) (none, fault, value, end) = (
-  none,
-  (n, subst (λ j. NumberStands w at j n) (sym end) stands, record { value = value ∙ is.value; fault = fault ∙ is.fault }),
-)

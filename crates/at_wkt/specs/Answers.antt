@@ -35,6 +35,11 @@ module _ (digits : ℕ) (how : Coords) where
     unspelled : IsSyntaxFault (WktLine at) at text fault → HasFirstLineFault at text fault
     faulty : (shape : Shape) → SpellsLine at text (Some fault) shape → HasFirstLineFault at text fault
 
+  -- the first fault of the line, or None where it has a shape
+  abbrev pub HasFaultOrShape : ℕ → List ℕ → Option Fault → Type 0
+  HasFaultOrShape at text None = (shape : Shape) × HasLineShape at text shape
+  HasFaultOrShape at text (Some fault) = HasFirstLineFault at text fault
+
   -- a geometry begins the text, which begins at the offset: it has that length, first fault and shape. With a fault the shape is
   -- empty. Whatever spelling of a geometry agrees with these bytes, as far as both go, is these bytes, with that shape and fault: no
   -- other geometry begins the text, and no spelling is a proper prefix of another

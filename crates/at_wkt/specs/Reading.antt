@@ -1,5 +1,6 @@
 -- What the functions that read the parts of a text promise each other. Only contracts of private functions cite this.
 use Rattle.std.specs.Prelude.{Result, Ok, Err, Some, None, is_none, if◌then◌else◌, zero, suc, map, flat_map, option_to_list, Option, ◌≡◌, ◌≢◌, ℕ, ◌+◌, ◌-◌, not, slice_index, codes, ◌⊎◌, ◌||◌, ◌<◌, ◌≤◌, ◌&&◌, ◌==◌, nat_le, nat_lt, Bool, true, false, IsTrue, List, [], ◌∷◌, ◌++◌, length, take, drop, slice_index_or}
+use Rattle.std.specs.Ordering.{int_eq}
 use Rattle.std.specs.Str.{str_to_ascii_uppercase}
 use Rattle.std.specs.Char.{to_ascii_uppercase}
 use Rattle.std.specs.List.{AllByRecursion}
@@ -21,8 +22,11 @@ use Rattle.at_wkt.specs.declared.rules.Rules.{Rules}
 use Rattle.at_wkt.specs.declared.numbers.Coordinate.{Coordinate}
 use Rattle.at_wkt.specs.declared.positions.DelimiterRead.{DelimiterRead}
 use Rattle.at_wkt.specs.declared.positions.PositionRead.{PositionRead}
+use Rattle.at_wkt.specs.declared.positions.NumbersRead.{NumbersRead}
+use Rattle.at_wkt.specs.declared.checks.ListPassed.{ListPassed}
 use Rattle.at_wkt.specs.declared.paths.Role.{Role}
 use Rattle.at_wkt.specs.declared.paths.Role.TheVariants.{Line, Ring}
+use Rattle.at_wkt.specs.declared.paths.ListRead.{ListRead}
 use Rattle.at_wkt.specs.declared.paths.PathRead.{PathRead}
 use Rattle.at_wkt.specs.declared.parts.Read.{Read}
 use Rattle.at_wkt.specs.declared.parts.ItemRead.{ItemRead}
@@ -257,6 +261,10 @@ pub record PositionStands (rules : Rules) (w : List ℕ) (i : ℕ) (c : Dimensio
   pub fault : read.fault ≡ first_of (position_faults rules.digits rules.how position)
   pub longer : i < read.end
 
+-- a position without a fault stands, with its delimiter
+abbrev pub IsPassed : Rules → List ℕ → ℕ → Dimension → NumbersRead → Type 0
+IsPassed rules w i c passed = (read : PositionRead) × PositionStands rules w i c read × (read.fault ≡ None) × (passed ≡ record { is_last = read.is_last; end = read.end; dimension = read.dimension })
+
 -- what is wrong with a line or a ring as a whole
 abbrev pub fault_of_path : Role → ℕ → Bool → ℕ → Option Fault
 fault_of_path Line count closes at = line_fault count at
@@ -268,13 +276,27 @@ faults_of_path digits how Line ps = faults_of_line digits how ps
 faults_of_path digits how Ring ps = faults_of_ring digits how ps
 
 -- positions stand up to the closing bracket
-pub record PositionsStand (rules : Rules) (w : List ℕ) (i : ℕ) (c : Dimension) (read : PathRead) : Type 0 where
+pub record PositionsStand (rules : Rules) (w : List ℕ) (i : ℕ) (c : Dimension) (list : List Pos) (read : ListRead) : Type 0 where
   pub positions : List Position
   pub spelt : Spelt (Items SpellsPosition) rules.base w i c read.end read.dimension positions
-  pub path : read.path.items ≡ map (pos_of rules.digits rules.how) positions
+  pub list_is : list ≡ map (pos_of rules.digits rules.how) positions
   pub fault : read.fault ≡ first_of (items_faults rules.digits rules.how positions)
   pub closes : read.closes ≡ is_closed rules.digits rules.how positions
   pub few : i + length positions ≤ read.end
+
+-- two positions are the same, or one of them has a fault
+abbrev pub ends_same : PositionRead → PositionRead → Bool
+ends_same first last = not (is_none first.fault && is_none last.fault) || (int_eq first.pos.x last.pos.x && int_eq first.pos.y last.pos.y)
+
+-- the last of so many positions stands, which closes with the first or not
+abbrev pub IsEndedList : Rules → List ℕ → ℕ → Dimension → PositionRead → ℕ → ListPassed → Type 0
+IsEndedList rules w i c first count passed = (last : PositionRead) × PositionStands rules w i c last × (last.fault ≡ None) × (last.is_last ≡ true)
+    × (passed ≡ record { count = count; closes = ends_same first last; end = last.end; dimension = last.dimension })
+
+-- so many positions without a fault stand up to the closing bracket
+abbrev pub IsPassedList : Rules → List ℕ → ℕ → Dimension → ListPassed → Type 0
+IsPassedList rules w i c passed = (list : List Pos) × (length list ≡ passed.count)
+    × PositionsStand rules w i c list (record { fault = None; closes = passed.closes; end = passed.end; dimension = passed.dimension })
 
 -- a line or a ring stands
 pub record PathStands (rules : Rules) (w : List ℕ) (i : ℕ) (c : Dimension) (role : Role) (read : PathRead) : Type 0 where
@@ -297,6 +319,13 @@ pub record ItemStands {X : Type 0} (P : ℕ → X → ℕ → List ℕ → Type 
   pub fault : read.fault ≡ first_of (faults value)
   pub added : IsAdded value
   pub longer : i < read.end
+
+-- the same without a fault; what it adds isn't kept
+abbrev pub IsPassedPart : {X : Type 0} → (ℕ → X → ℕ → List ℕ → Type 0) → (X → List Fault) → ℕ → List ℕ → ℕ → Dimension → Read → Type 0
+IsPassedPart P faults base w i c read = (read.fault ≡ None) × PartStands P faults (λ _. Unit {0}) base w i c read
+
+abbrev pub IsPassedItem : {X : Type 0} → (ℕ → X → ℕ → List ℕ → Type 0) → (X → List Fault) → ℕ → List ℕ → ℕ → Dimension → ItemRead → Type 0
+IsPassedItem P faults base w i c read = (read.fault ≡ None) × ItemStands P faults (λ _. Unit {0}) base w i c read
 
 module _ (digits : ℕ) (how : Coords) where
   -- what a point, or none for EMPTY, adds, and its faults
@@ -433,6 +462,10 @@ module _ (digits : ℕ) (how : Coords) where
     pub same : new.fault ≡ old.fault
     pub fault : read.fault ≡ first_of (faults_of digits how geometry)
 
+  -- a body without a fault stands
+  abbrev pub IsPassedBody : ℕ → List ℕ → Head → Read → Type 0
+  IsPassedBody base w head read = (read.fault ≡ None) × ((g : Geometry) × Spelt (Body head.kind) base w head.end head.dimension read.end read.dimension g × (read.fault ≡ first_of (faults_of digits how g)))
+
   -- what reading one step gave
   pub record StepStands (P : ℕ → Meaning → ℕ → List ℕ → Type 0) (base : ℕ) (w : List ℕ) (i : ℕ) (old new : Gathered) (progress : Progress) : Type 0 where
     pub meaning : Meaning
@@ -447,6 +480,10 @@ module _ (digits : ℕ) (how : Coords) where
     pub spelt : Spelt (λ d. Expected digits how zero) base w i Open end Open meaning
     pub gathers : Gathers old new meaning
 
+-- a geometry without a fault stands
+abbrev pub IsPassedGeometry : Rules → List ℕ → ℕ → ℕ → Type 0
+IsPassedGeometry rules w i end = (m : Meaning) × (first_of m.faults ≡ None) × Spelt (λ d. Expected rules.digits rules.how zero) rules.base w i Open end Open m
+
 -- whether the head is that of a collection, and its bracket opens behind it
 abbrev pub opens_at : List ℕ → Head → Bool
 opens_at w head = elim head.kind [ GeometryCollection ↦ next w head.end == 0x28 | _ ↦ false ]
@@ -455,11 +492,6 @@ opens_at w head = elim head.kind [ GeometryCollection ↦ next w head.end == 0x2
 abbrev pub refusal : ℕ → List ℕ → Halt → LineFault
 refusal base w (At n) = Found (stop_fault base w n)
 refusal base w Memory = NoMemory
-
--- the fault of a line where reading it stopped
-abbrev pub stopped_fault : ℕ → List ℕ → Halt → Result (Option Fault) LineFault
-stopped_fault base w (At n) = Ok (Some (stop_fault base w n))
-stopped_fault base w Memory = Err NoMemory
 
 abbrev pub gathered_shape : Gathered → Shape
 gathered_shape g = record { points = g.points.items; lines = g.lines.items; polygons = g.polygons.items }

@@ -1,5 +1,8 @@
+ghost use Rattle.std.specs.Prelude.{◌≡◌};
+ghost use Rattle.at_wkt.specs.declared.answers.LineFault.TheVariants.{Memory as NoMemory};
+
 use at_geom::Shape;
-use at_text::Fault;
+use at_text::{Fault, Memory};
 
 /// Why a line, a geometry or a file is refused.
 #[derive(Clone, Copy, Debug, PartialEq, Eq)]
@@ -8,6 +11,14 @@ pub enum LineFault {
     Found(Fault),
     /// An allocation was refused.
     Memory,
+}
+
+impl From<Memory> for LineFault {
+    ghost from_gives = { λ refused fault. fault ≡ NoMemory };
+
+    fn from(_refused: Memory) -> LineFault {
+        LineFault::Memory
+    }
 }
 
 /// The geometry that begins a text.

@@ -3,14 +3,11 @@ ghost use Rattle.at_wkt.specs.Answers.{IfFound};
 ghost use Rattle.at_wkt.specs.Files.{HasFileFault, TheFileFault};
 ghost use Rattle.at_wkt.specs.declared.answers.LineFault.TheVariants.{Memory as NoMemory};
 ghost use Rattle.at_wkt.specs.Lines.{FileLine, lines_of, pieces_from, without_return as line_text, is_blank_text};
-ghost use Rattle.at_wkt.specs.Reading.{HasLineFault, Counts, IfStopped, file_answer, stopped_fault};
+ghost use Rattle.at_wkt.specs.Reading.{Counts, file_answer};
 
 use crate::answers::LineFault;
 use crate::bytes::is_blank;
-use crate::geometries::{Gathered, clear};
-use crate::halts::Halt;
-use crate::reading::{nothing_gathered, read_between, stop_at};
-use crate::rules::Rules;
+use crate::rooms::Room;
 use crate::searches::first_place;
 use at_fixed::Coords;
 use at_text::{Fault, base_of, first_fault, utf8_fault};
@@ -56,44 +53,9 @@ pub fn is_blank_line(line: &[u8]) -> bool
     line.iter().all(|byte| is_blank(*byte))
 }
 
-/// The fault of a line where reading it stopped.
-fn stopped_line(text: &[u8], base: u32, halt: Halt) -> Result<Option<Fault>, LineFault>
-    requires inside { IfStopped halt (λ n. n ≤ length text.now) }
-    requires short { base + length text.now ≤ 2 ^ 28 }
-    ensures { result ≡ stopped_fault base text.now halt }
-{
-    match halt {
-        Halt::At(at) => Ok(Some(stop_at(text, base, at))),
-        Halt::Memory => Err(LineFault::Memory),
-    }
-}
-
-/// The first fault of a line, where it has one. The line is read into the room of what was gathered before.
-fn fault_of_line(
-    room: &mut Gathered,
-    alloc: Global,
-    line: &[u8],
-    at: u32,
-    reading: Reading,
-) -> Result<Option<Fault>, LineFault>
-    requires { at + length line.now ≤ 2 ^ 28 }
-    ensures { MatchResult result (HasLineFault reading.digits reading.how at line.now) (λ refusal. refusal ≡ NoMemory) }
-{
-    clear(room);
-    let rules = Rules {
-        base: at,
-        digits: reading.digits,
-        how: reading.how,
-    };
-    match read_between(room, alloc, line, rules) {
-        Ok(()) => Ok(room.fault),
-        Err(halt) => stopped_line(line, at, halt),
-    }
-}
-
 /// The lines so far and one more piece, which begins at the offset.
 fn count_piece(
-    room: &mut Gathered,
+    room: &mut Room,
     alloc: Global,
     counted: Counted,
     piece: &[u8],
@@ -111,7 +73,7 @@ fn count_piece(
     if is_blank_line(line) {
         return Ok(counted);
     }
-    let fault = fault_of_line(room, alloc, line, at, reading)?;
+    let fault = room.check_line(alloc, line, at, reading.digits, reading.how)?;
     Ok(Counted {
         count: counted.count + 1,
         fault: first_fault(counted.fault, fault),
@@ -134,7 +96,7 @@ fn count_from(
         count: 0,
         fault: None,
     };
-    let mut room = nothing_gathered(alloc);
+    let mut room = Room::new(alloc);
     let mut at = from;
     'pieces: loop {
         let end = at + first_place(b'\n', &bytes[at..]);

@@ -6,8 +6,10 @@ ghost use Rattle.at_wkt.specs.Lines.{FileLine, is_line_feed, is_blank_text, line
 ghost use Rattle.at_wkt.specs.Folding.{AddsLines};
 
 use crate::files::{is_blank_line, without_return};
+use crate::rooms::Room;
 use at_text::Memory;
 use std::alloc::Global;
+use std::mem;
 
 /// A way to make something of the lines of a file: a part of any list of them.
 ///
@@ -44,26 +46,49 @@ pub trait Fold: Sync {
         ensures own { IfOk result (is_own self.now) }
         ensures fold { IfOk result (λ part. (before behind : List FileLine) → is_fold self.now left before
             → is_fold self.now right behind → is_fold self.now part (before ++ behind)) };
+
+    /// Puts one line behind those of the part, as `line` and `join` would: a fold that can do it in less has its own body.
+    /// The room serves one line after another. The one refusal is want of memory.
+    fn add(
+        &self,
+        alloc: Global,
+        _room: &mut Room,
+        part: &mut Self::Part,
+        text: &[u8],
+        at: u32,
+    ) -> Result<(), Memory>
+        requires own { is_own self.now part.old }
+        requires short { at + length text.now ≤ 2 ^ 28 }
+        requires one { list_any is_line_feed text.now ≡ false }
+        requires some { is_blank_text text.now ≡ false }
+        ensures own { IfOk result (λ _. is_own self.now part.new) }
+        ensures fold { IfOk result (λ _. AddsLines (is_fold self.now) part.old (record { at = at; text = text.now } ∷ []) part.new) }
+    {
+        let one = self.line(alloc, text, at)?;
+        let before = mem::replace(part, self.none(alloc));
+        *part = self.join(alloc, before, one)?;
+        Ok(())
+    }
 }
 
-/// The part, and behind it a piece between two line feeds, which is passed over where it has nothing but blanks.
+/// Puts a piece between two line feeds behind the lines of the part; it is passed over where it has nothing but blanks.
 pub fn fold_piece<F: Fold>(
     alloc: Global,
     fold: &F,
-    part: F::Part,
+    room: &mut Room,
+    part: &mut F::Part,
     piece: &[u8],
     at: u32,
-) -> Result<F::Part, Memory>
+) -> Result<(), Memory>
     requires short { at + length piece.now ≤ 2 ^ 28 }
     requires one { list_any is_line_feed piece.now ≡ false }
-    requires own { F.is_own fold.now part }
-    ensures own { IfOk result (F.is_own fold.now) }
-    ensures fold { IfOk result (AddsLines (F.is_fold fold.now) part (lines_in (record { at = at; text = piece.now } ∷ []))) }
+    requires own { F.is_own fold.now part.old }
+    ensures own { IfOk result (λ _. F.is_own fold.now part.new) }
+    ensures fold { IfOk result (λ _. AddsLines (F.is_fold fold.now) part.old (lines_in (record { at = at; text = piece.now } ∷ [])) part.new) }
 {
     let line = without_return(piece);
     if is_blank_line(line) {
-        return Ok(part);
+        return Ok(());
     }
-    let one = fold.line(alloc, line, at)?;
-    fold.join(alloc, part, one)
+    fold.add(alloc, room, part, line, at)
 }

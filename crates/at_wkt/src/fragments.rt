@@ -7,6 +7,7 @@ ghost use Rattle.at_wkt.specs.Lines.{lines_of, lines_in, is_line_feed};
 ghost use Rattle.at_wkt.specs.Folding.{AddsLines, AreNeighbours, HoldsInner, HoldsLines, IsLost, IsMerged, Kept, StandsFor, fragment_of, part_of};
 
 use crate::folding::{Fold, fold_piece};
+use crate::rooms::Room;
 use crate::searches::first_place;
 use at_text::{Memory, Span, base_of};
 use std::alloc::Global;
@@ -49,13 +50,15 @@ fn read_inner<F: Fold>(
     ensures { IfOk result (HoldsInner (Kept (F.is_own fold.now) (F.is_fold fold.now)) at bytes.now) }
 {
     let mut part = fold.none(alloc);
+    let mut room = Room::new(alloc);
     let mut start = 0;
     'lines: loop {
         let end = start + first_place(b'\n', &bytes[start..]);
         if end == bytes.len() {
             return Ok(Inner { part, end: start });
         }
-        part = fold_piece(alloc, fold, part, &bytes[start..end], at + start as u32)?;
+        let piece = &bytes[start..end];
+        fold_piece(alloc, fold, &mut room, &mut part, piece, at + start as u32)?;
         start = end + 1;
     }
 }
@@ -143,7 +146,10 @@ fn fold_span<F: Fold>(
     ensures fold { IfOk result (AddsLines (F.is_fold fold.now) part (lines_in (record { at = span.from; text = part_of bytes.now span.from span.to } ∷ []))) }
 {
     let piece = &bytes[span.from as usize..span.to as usize];
-    fold_piece(alloc, fold, part, piece, span.from)
+    let mut room = Room::new(alloc);
+    let mut both = part;
+    fold_piece(alloc, fold, &mut room, &mut both, piece, span.from)?;
+    Ok(both)
 }
 
 /// The lines of two neighbouring spans: the line that lies in both is read, and nothing else.

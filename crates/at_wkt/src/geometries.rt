@@ -10,10 +10,11 @@ use crate::parts::{
     Read, read_line_string, read_line_strings, read_nothing, read_point, read_points, read_polygon,
     read_polygons,
 };
+use crate::paths::add_fault;
 use crate::positions::read_delimiter;
 use crate::rules::Rules;
 use at_geom::{Path, Polygon, Pos};
-use at_text::{Fault, first_fault};
+use at_text::Fault;
 use std::alloc::Global;
 
 /// What the geometries that were read cover, and their first fault.
@@ -23,6 +24,8 @@ pub struct Gathered {
     pub lines: Vec<Path>,
     pub polygons: Vec<Polygon>,
     pub fault: Option<Fault>,
+    /// Room for the positions of the line or ring that is read.
+    pub list: Vec<Pos>,
 }
 
 /// Forgets what was gathered, and keeps its room.
@@ -67,6 +70,7 @@ fn read_body(
         Kind::LineString => read_line_string(
             &mut gathered.lines,
             alloc,
+            &mut gathered.list,
             text,
             head.end,
             head.dimension,
@@ -75,6 +79,7 @@ fn read_body(
         Kind::Polygon => read_polygon(
             &mut gathered.polygons,
             alloc,
+            &mut gathered.list,
             text,
             head.end,
             head.dimension,
@@ -90,6 +95,7 @@ fn read_body(
         Kind::MultiLineString => read_line_strings(
             &mut gathered.lines,
             alloc,
+            &mut gathered.list,
             text,
             head.end,
             head.dimension,
@@ -98,6 +104,7 @@ fn read_body(
         Kind::MultiPolygon => read_polygons(
             &mut gathered.polygons,
             alloc,
+            &mut gathered.list,
             text,
             head.end,
             head.dimension,
@@ -157,7 +164,7 @@ fn read_simple(
         (λ halt. IfStopped halt (Stuck (λ d. Expected rules.digits rules.how from.depth) rules.base text.now from.at Open)) }
 {
     let read = read_body(gathered, alloc, text, head, rules)?;
-    gathered.fault = first_fault(gathered.fault, read.fault);
+    gathered.fault = add_fault(gathered.fault, read.fault);
     read_closings(text, read.end, from.depth)
 }
 

@@ -3,6 +3,7 @@
 
 mod answers;
 mod bytes;
+mod checks;
 mod dimension;
 mod files;
 mod folding;
@@ -15,6 +16,7 @@ mod parts;
 mod paths;
 mod positions;
 mod reading;
+mod rooms;
 mod rules;
 mod searches;
 mod words;
@@ -24,6 +26,7 @@ pub use files::count_lines;
 pub use folding::Fold;
 pub use fragments::{LineFragment, WholeLines, finish_lines, merge_lines, run_lines};
 pub use reading::{read_geometry, read_line};
+pub use rooms::Room;
 
 #[cfg(test)]
 mod cut_tests;

@@ -1,12 +1,13 @@
 ghost use Rattle.std.specs.Prelude.{◌≡◌, ◌≤◌, ◌+◌, ◌^◌, Some, None, IfSome, length, MatchResult};
 ghost use Rattle.at_fixed.specs.Numerals.{Numeral};
 ghost use Rattle.at_text.specs.Faults.{first_of};
+ghost use Rattle.at_wkt.specs.declared.numbers.Coordinate.{Coordinate as CoordinateRead};
 ghost use Rattle.at_wkt.specs.Positions.{fault_of as the_fault, value_in, faults_in};
 ghost use Rattle.at_wkt.specs.Reading.{NumberStands, NumberSkips, NumberBreaks, IsCoordinate, IfStopped};
 
 use crate::halts::Halt;
 use crate::rules::Rules;
-use at_fixed::{FixedFault, Notation, leading_number, wkt_number};
+use at_fixed::{FixedFault, Notation, leading_number, plain_len, plain_number, wkt_number};
 use at_text::{Fault, FaultKind};
 
 /// A coordinate: its value, 0 where it has a fault, and the place behind it.
@@ -54,18 +55,7 @@ fn coordinate_of(number: Result<i64, FixedFault>, at: u32, end: usize) -> Coordi
     }
 }
 
-/// A coordinate, where it has no fault.
-#[inline(always)]
-fn faultless(read: Coordinate) -> Option<Coordinate>
-    ensures { IfSome result (λ kept. (kept.fault ≡ None) × (kept.fault ≡ read.fault) × (kept.value ≡ read.value) × (kept.end ≡ read.end)) }
-{
-    match read.fault {
-        None => Some(read),
-        Some(_) => None,
-    }
-}
-
-/// Reads a number whose value is used, where one stands that has a value.
+/// Reads a number whose value is used, where one stands that is written plainly and has a value.
 #[inline(always)]
 pub fn read_plain_number(text: &[u8], at: usize, rules: Rules) -> Option<Coordinate>
     requires inside { at ≤ length text.now }
@@ -73,11 +63,29 @@ pub fn read_plain_number(text: &[u8], at: usize, rules: Rules) -> Option<Coordin
     ensures { IfSome result (λ read. (read.fault ≡ None) × ((n : Numeral) × NumberStands text.now at read.end n
         × IsCoordinate rules.digits rules.how n (rules.base + at) read)) }
 {
-    let number = leading_number(&text[at..], Notation::Wkt, rules.digits, rules.how);
-    let end = at + number.len as usize;
-    match number.value {
-        None => None,
-        Some(value) => faultless(coordinate_of(value, rules.base + at as u32, end)),
+    let number = plain_number(&text[at..], Notation::Wkt, rules.digits, rules.how)?;
+    Some(Coordinate {
+        value: number.value,
+        fault: None,
+        end: at + number.len as usize,
+    })
+}
+
+/// Passes over a number whose value is used, where one stands that is written plainly and has a value; mostly without
+/// computing it.
+#[inline(always)]
+pub fn pass_plain_number(text: &[u8], at: usize, rules: Rules) -> Option<usize>
+    requires inside { at ≤ length text.now }
+    requires short { rules.base + length text.now ≤ 2 ^ 28 }
+    ensures { IfSome result (λ end. (read : CoordinateRead) × (read.fault ≡ None) × ((n : Numeral) × NumberStands text.now at end n
+        × IsCoordinate rules.digits rules.how n (rules.base + at) read)) }
+{
+    match plain_len(&text[at..], Notation::Wkt, rules.digits, rules.how) {
+        Some(len) => Some(at + len as usize),
+        None => {
+            let read = read_plain_number(text, at, rules)?;
+            Some(read.end)
+        }
     }
 }
 

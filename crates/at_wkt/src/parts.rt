@@ -8,12 +8,12 @@ ghost use Rattle.at_wkt.specs.Reading.{next, Stuck, HasCount, Item, Items, Enclo
 use crate::bytes::{letter_stands, skip_blanks, stands};
 use crate::dimension::Dimension;
 use crate::halts::Halt;
-use crate::paths::{Role, first_position, read_path};
-use crate::positions::read_delimiter;
+use crate::paths::{Role, add_fault, read_path};
+use crate::positions::{read_delimiter, read_position};
 use crate::rules::Rules;
 use crate::words::read_empty;
 use at_geom::{Path, Paths, Polygon, Pos};
-use at_text::{Fault, first_fault};
+use at_text::Fault;
 use std::alloc::Global;
 
 /// A part of a geometry that was read: its first fault, the place behind it, and how many numbers positions have.
@@ -64,7 +64,7 @@ fn read_enclosed(
         (Grows (added_position rules.digits rules.how) points.old.items points.new.items) rules.base text.now at dimension)
         (λ halt. IfStopped halt (Stuck EnclosedPosition rules.base text.now at dimension)) }
 {
-    let read = first_position(text, at + 1, dimension, rules)?;
+    let read = read_position::<2>(text, at + 1, dimension, rules)?;
     if !read.is_last {
         return Err(Halt::At(read.end - 1));
     }
@@ -102,6 +102,7 @@ pub fn read_point(
 fn read_added(
     paths: &mut Vec<Path>,
     alloc: Global,
+    list: &mut Vec<Pos>,
     text: &[u8],
     at: usize,
     dimension: Dimension,
@@ -116,7 +117,7 @@ fn read_added(
         (Grows (added_path rules.digits rules.how) paths.old.items paths.new.items) rules.base text.now at dimension)
         (λ halt. IfStopped halt (Stuck SpellsRing rules.base text.now at dimension)) }
 {
-    let read = read_path(alloc, text, at, dimension, rules, role)?;
+    let read = read_path(alloc, list, text, at, dimension, rules, role)?;
     paths.push(Path::from_vec(read.path))?;
     Ok(Read {
         fault: read.fault,
@@ -129,6 +130,7 @@ fn read_added(
 pub fn read_line_string(
     lines: &mut Vec<Path>,
     alloc: Global,
+    list: &mut Vec<Pos>,
     text: &[u8],
     at: usize,
     dimension: Dimension,
@@ -142,14 +144,14 @@ pub fn read_line_string(
         (λ halt. IfStopped halt (Stuck SpellsList rules.base text.now at dimension)) }
 {
     if stands(text, at, b'(') {
-        read_added(lines, alloc, text, at, dimension, rules, Role::Line)
+        read_added(lines, alloc, list, text, at, dimension, rules, Role::Line)
     } else {
         read_nothing(text, at, dimension)
     }
 }
 
 /// The item that a part is with the delimiter behind it.
-fn end_item(text: &[u8], read: Read) -> Result<ItemRead, Halt>
+pub fn end_item(text: &[u8], read: Read) -> Result<ItemRead, Halt>
     requires { read.end ≤ length text.now }
     ensures { MatchResult result (λ item. (item.fault ≡ read.fault) × (item.dimension ≡ read.dimension)
         × DelimiterStands text.now read.end (record { is_last = item.is_last; end = item.end }))
@@ -168,6 +170,7 @@ fn end_item(text: &[u8], read: Read) -> Result<ItemRead, Halt>
 fn read_ring(
     rings: &mut Vec<Path>,
     alloc: Global,
+    list: &mut Vec<Pos>,
     text: &[u8],
     at: usize,
     dimension: Dimension,
@@ -184,12 +187,21 @@ fn read_ring(
     if !stands(text, start, b'(') {
         return Err(Halt::At(start));
     }
-    let ring = read_added(rings, alloc, text, start, dimension, rules, Role::Ring)?;
+    let ring = read_added(
+        rings,
+        alloc,
+        list,
+        text,
+        start,
+        dimension,
+        rules,
+        Role::Ring,
+    )?;
     end_item(text, ring)
 }
 
 /// Where items begin: none was read yet.
-fn first_item(at: usize, dimension: Dimension) -> ItemRead
+pub fn first_item(at: usize, dimension: Dimension) -> ItemRead
     ensures { result ≡ record { fault = None; is_last = false; end = at; dimension = dimension } }
 {
     ItemRead {
@@ -201,11 +213,11 @@ fn first_item(at: usize, dimension: Dimension) -> ItemRead
 }
 
 /// The items so far and one more.
-fn next_item(last: ItemRead, item: ItemRead) -> ItemRead
+pub fn next_item(last: ItemRead, item: ItemRead) -> ItemRead
     ensures { result ≡ record { fault = the_first last.fault item.fault; is_last = item.is_last; end = item.end; dimension = item.dimension } }
 {
     ItemRead {
-        fault: first_fault(last.fault, item.fault),
+        fault: add_fault(last.fault, item.fault),
         is_last: item.is_last,
         end: item.end,
         dimension: item.dimension,
@@ -213,7 +225,7 @@ fn next_item(last: ItemRead, item: ItemRead) -> ItemRead
 }
 
 /// The part that all items are.
-fn items_read(last: ItemRead) -> Read
+pub fn items_read(last: ItemRead) -> Read
     ensures { result ≡ record { fault = last.fault; end = last.end; dimension = last.dimension } }
 {
     Read {
@@ -227,6 +239,7 @@ fn items_read(last: ItemRead) -> Read
 fn read_rings(
     rings: &mut Vec<Path>,
     alloc: Global,
+    list: &mut Vec<Pos>,
     text: &[u8],
     at: usize,
     dimension: Dimension,
@@ -241,7 +254,7 @@ fn read_rings(
 {
     let mut last = first_item(at, dimension);
     'rings: while !last.is_last {
-        let ring = read_ring(rings, alloc, text, last.end, last.dimension, rules)?;
+        let ring = read_ring(rings, alloc, list, text, last.end, last.dimension, rules)?;
         last = next_item(last, ring);
     }
     Ok(items_read(last))
@@ -251,6 +264,7 @@ fn read_rings(
 fn read_area(
     polygons: &mut Vec<Polygon>,
     alloc: Global,
+    list: &mut Vec<Pos>,
     text: &[u8],
     at: usize,
     dimension: Dimension,
@@ -264,7 +278,7 @@ fn read_area(
         (λ halt. IfStopped halt (Stuck (Items SpellsRing) rules.base text.now at dimension)) }
 {
     let mut rings = Vec::new(alloc);
-    let read = read_rings(&mut rings, alloc, text, at, dimension, rules)?;
+    let read = read_rings(&mut rings, alloc, list, text, at, dimension, rules)?;
     polygons.push(Polygon {
         rings: Paths::from_vec(rings),
     })?;
@@ -275,6 +289,7 @@ fn read_area(
 pub fn read_polygon(
     polygons: &mut Vec<Polygon>,
     alloc: Global,
+    list: &mut Vec<Pos>,
     text: &[u8],
     at: usize,
     dimension: Dimension,
@@ -288,7 +303,7 @@ pub fn read_polygon(
         (λ halt. IfStopped halt (Stuck SpellsArea rules.base text.now at dimension)) }
 {
     if stands(text, at, b'(') {
-        read_area(polygons, alloc, text, at + 1, dimension, rules)
+        read_area(polygons, alloc, list, text, at + 1, dimension, rules)
     } else {
         read_nothing(text, at, dimension)
     }
@@ -309,7 +324,7 @@ fn read_bare(
         (Grows (added_position rules.digits rules.how) points.old.items points.new.items) rules.base text.now at dimension)
         (λ halt. IfStopped halt (Stuck (Item SpellsPosition) rules.base text.now at dimension)) }
 {
-    let read = first_position(text, at, dimension, rules)?;
+    let read = read_position::<3>(text, at, dimension, rules)?;
     points.push(read.pos)?;
     Ok(ItemRead {
         fault: read.fault,
@@ -399,6 +414,7 @@ pub fn read_points(
 fn read_line_member(
     lines: &mut Vec<Path>,
     alloc: Global,
+    list: &mut Vec<Pos>,
     text: &[u8],
     at: usize,
     dimension: Dimension,
@@ -412,7 +428,7 @@ fn read_line_member(
         (λ halt. IfStopped halt (Stuck (Item SpellsList) rules.base text.now at dimension)) }
 {
     let start = skip_blanks(text, at);
-    let line = read_line_string(lines, alloc, text, start, dimension, rules)?;
+    let line = read_line_string(lines, alloc, list, text, start, dimension, rules)?;
     end_item(text, line)
 }
 
@@ -420,6 +436,7 @@ fn read_line_member(
 fn read_line_members(
     lines: &mut Vec<Path>,
     alloc: Global,
+    list: &mut Vec<Pos>,
     text: &[u8],
     at: usize,
     dimension: Dimension,
@@ -434,7 +451,7 @@ fn read_line_members(
 {
     let mut last = first_item(at, dimension);
     'members: while !last.is_last {
-        let member = read_line_member(lines, alloc, text, last.end, last.dimension, rules)?;
+        let member = read_line_member(lines, alloc, list, text, last.end, last.dimension, rules)?;
         last = next_item(last, member);
     }
     Ok(items_read(last))
@@ -444,6 +461,7 @@ fn read_line_members(
 pub fn read_line_strings(
     lines: &mut Vec<Path>,
     alloc: Global,
+    list: &mut Vec<Pos>,
     text: &[u8],
     at: usize,
     dimension: Dimension,
@@ -457,7 +475,7 @@ pub fn read_line_strings(
         (λ halt. IfStopped halt (Stuck (λ d ls. EmptyOrParted (SpellsList d) ls) rules.base text.now at dimension)) }
 {
     if stands(text, at, b'(') {
-        read_line_members(lines, alloc, text, at + 1, dimension, rules)
+        read_line_members(lines, alloc, list, text, at + 1, dimension, rules)
     } else {
         read_nothing(text, at, dimension)
     }
@@ -467,6 +485,7 @@ pub fn read_line_strings(
 fn read_polygon_member(
     polygons: &mut Vec<Polygon>,
     alloc: Global,
+    list: &mut Vec<Pos>,
     text: &[u8],
     at: usize,
     dimension: Dimension,
@@ -480,7 +499,7 @@ fn read_polygon_member(
         (λ halt. IfStopped halt (Stuck (Item SpellsArea) rules.base text.now at dimension)) }
 {
     let start = skip_blanks(text, at);
-    let polygon = read_polygon(polygons, alloc, text, start, dimension, rules)?;
+    let polygon = read_polygon(polygons, alloc, list, text, start, dimension, rules)?;
     end_item(text, polygon)
 }
 
@@ -488,6 +507,7 @@ fn read_polygon_member(
 fn read_polygon_members(
     polygons: &mut Vec<Polygon>,
     alloc: Global,
+    list: &mut Vec<Pos>,
     text: &[u8],
     at: usize,
     dimension: Dimension,
@@ -502,7 +522,15 @@ fn read_polygon_members(
 {
     let mut last = first_item(at, dimension);
     'members: while !last.is_last {
-        let member = read_polygon_member(polygons, alloc, text, last.end, last.dimension, rules)?;
+        let member = read_polygon_member(
+            polygons,
+            alloc,
+            list,
+            text,
+            last.end,
+            last.dimension,
+            rules,
+        )?;
         last = next_item(last, member);
     }
     Ok(items_read(last))
@@ -512,6 +540,7 @@ fn read_polygon_members(
 pub fn read_polygons(
     polygons: &mut Vec<Polygon>,
     alloc: Global,
+    list: &mut Vec<Pos>,
     text: &[u8],
     at: usize,
     dimension: Dimension,
@@ -525,7 +554,7 @@ pub fn read_polygons(
         (λ halt. IfStopped halt (Stuck (λ d areas. EmptyOrParted (SpellsArea d) areas) rules.base text.now at dimension)) }
 {
     if stands(text, at, b'(') {
-        read_polygon_members(polygons, alloc, text, at + 1, dimension, rules)
+        read_polygon_members(polygons, alloc, list, text, at + 1, dimension, rules)
     } else {
         read_nothing(text, at, dimension)
     }

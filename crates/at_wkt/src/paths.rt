@@ -21,40 +21,32 @@ pub enum Role {
     Ring,
 }
 
-/// A list of positions that was read.
-#[derive(Drop)]
-pub struct PathRead {
-    pub path: Vec<Pos>,
+/// How a list of positions was read: its first fault, whether it closes, the place behind it, and how many numbers positions
+/// have.
+#[derive(Clone, Copy)]
+pub struct ListRead {
     pub fault: Option<Fault>,
     pub closes: bool,
     pub end: usize,
     pub dimension: Dimension,
 }
 
+/// A line or a ring that was read.
+#[derive(Drop)]
+pub struct PathRead {
+    pub path: Vec<Pos>,
+    pub fault: Option<Fault>,
+    pub end: usize,
+    pub dimension: Dimension,
+}
+
 /// Whether two positions are the same, or one of them has a fault, so that this isn't tested.
-fn closes_with(first: PositionRead, last: PositionRead) -> bool
+pub fn closes_with(first: PositionRead, last: PositionRead) -> bool
     ensures { result ≡ (not (is_none first.fault && is_none last.fault)
         || (int_eq first.pos.x last.pos.x && int_eq first.pos.y last.pos.y)) }
 {
     !(first.fault.is_none() && last.fault.is_none())
         || (first.pos.x == last.pos.x && first.pos.y == last.pos.y)
-}
-
-/// Reads the first position of a list. Only the further ones, which are most, are read in place.
-#[inline(never)]
-pub fn first_position(
-    text: &[u8],
-    at: usize,
-    dimension: Dimension,
-    rules: Rules,
-) -> Result<PositionRead, Halt>
-    requires inside { at ≤ length text.now }
-    requires short { rules.base + length text.now ≤ 2 ^ 28 }
-    requires count { HasCount dimension }
-    ensures { MatchResult result (PositionStands rules text.now at dimension)
-        (λ halt. IfStopped halt (Stuck (Item SpellsPosition) rules.base text.now at dimension)) }
-{
-    read_position(text, at, dimension, rules)
 }
 
 /// The first of a fault and the one of what was read behind it, which has mostly none.
@@ -69,32 +61,31 @@ pub fn add_fault(before: Option<Fault>, fault: Option<Fault>) -> Option<Fault>
     }
 }
 
-/// Reads positions up to the closing bracket.
+/// Reads positions up to the closing bracket, in place of what the list holds.
 fn read_positions(
-    alloc: Global,
+    list: &mut Vec<Pos>,
     text: &[u8],
     at: usize,
     dimension: Dimension,
     rules: Rules,
-) -> Result<PathRead, Halt>
+) -> Result<ListRead, Halt>
     requires inside { at ≤ length text.now }
     requires short { rules.base + length text.now ≤ 2 ^ 28 }
     requires count { HasCount dimension }
-    ensures { MatchResult result (PositionsStand rules text.now at dimension)
+    ensures { MatchResult result (PositionsStand rules text.now at dimension list.new.items)
         (λ halt. IfStopped halt (Stuck (Items SpellsPosition) rules.base text.now at dimension)) }
 {
-    let first = first_position(text, at, dimension, rules)?;
-    let mut path = Vec::new(alloc);
-    path.push(first.pos)?;
+    let first = read_position::<0>(text, at, dimension, rules)?;
+    list.clear();
+    list.push(first.pos)?;
     let mut last = first;
     let mut fault = first.fault;
     'positions: while !last.is_last {
-        last = read_position(text, last.end, last.dimension, rules)?;
-        path.push(last.pos)?;
+        last = read_position::<1>(text, last.end, last.dimension, rules)?;
+        list.push(last.pos)?;
         fault = add_fault(fault, last.fault);
     }
-    Ok(PathRead {
-        path,
+    Ok(ListRead {
         fault,
         closes: closes_with(first, last),
         end: last.end,
@@ -103,7 +94,7 @@ fn read_positions(
 }
 
 /// What is wrong with a line or a ring as a whole.
-fn path_fault(role: Role, count: u32, closes: bool, at: u32) -> Option<Fault>
+pub fn path_fault(role: Role, count: u32, closes: bool, at: u32) -> Option<Fault>
     ensures { result ≡ fault_of_path role count closes at }
 {
     match role {
@@ -112,9 +103,11 @@ fn path_fault(role: Role, count: u32, closes: bool, at: u32) -> Option<Fault>
     }
 }
 
-/// Reads a line or a ring from its opening bracket, which stands at the place, to its closing one.
+/// Reads a line or a ring from its opening bracket, which stands at the place, to its closing one. The list is room for its
+/// positions while they are read; the path takes as much memory as they need.
 pub fn read_path(
     alloc: Global,
+    list: &mut Vec<Pos>,
     text: &[u8],
     at: usize,
     dimension: Dimension,
@@ -128,17 +121,14 @@ pub fn read_path(
     ensures { MatchResult result (PathStands rules text.now at dimension role)
         (λ halt. IfStopped halt (Stuck SpellsRing rules.base text.now at dimension)) }
 {
-    let read = read_positions(alloc, text, at + 1, dimension, rules)?;
-    let own = path_fault(
-        role,
-        read.path.as_slice().len() as u32,
-        read.closes,
-        rules.base + at as u32,
-    );
+    let read = read_positions(list, text, at + 1, dimension, rules)?;
+    let positions = list.as_slice();
+    let count = positions.len() as u32;
+    let own = path_fault(role, count, read.closes, rules.base + at as u32);
+    let path = Vec::from_slice(alloc, positions)?;
     Ok(PathRead {
-        path: read.path,
+        path,
         fault: first_fault(own, read.fault),
-        closes: read.closes,
         end: read.end,
         dimension: read.dimension,
     })

@@ -1,12 +1,12 @@
-ghost use Rattle.std.specs.Prelude.{◌≡◌, ℕ, ◌+◌, ◌<◌, ◌≤◌, ◌^◌, ◌⊎◌, true, false, IfSome, length, MatchResult};
+ghost use Rattle.std.specs.Prelude.{◌≡◌, ℕ, ◌+◌, ◌<◌, ◌≤◌, ◌^◌, ◌⊎◌, true, false, IfSome, length, None, MatchResult};
 ghost use Rattle.at_wkt.specs.Geometry.{SpellsPosition};
-ghost use Rattle.at_wkt.specs.Reading.{next, allows, Spelt, Stuck, HasCount, Reaches, Item, FurtherNumbers, delimiter, is_delimiter, DelimiterStands, DelimiterBreaks, PositionStands, IfStopped};
+ghost use Rattle.at_wkt.specs.Reading.{next, allows, Spelt, Stuck, HasCount, Reaches, Item, FurtherNumbers, delimiter, is_delimiter, DelimiterStands, DelimiterBreaks, PositionStands, IfStopped, IsPassed};
 ghost use Rattle.at_wkt.specs.declared.dimension.Dimension.TheVariants.{Fixed};
 
 use crate::bytes::{skip_blanks, stands};
 use crate::dimension::Dimension;
 use crate::halts::Halt;
-use crate::numbers::{Coordinate, read_number, read_plain_number, skip_number};
+use crate::numbers::{Coordinate, pass_plain_number, read_number, read_plain_number, skip_number};
 use crate::rules::Rules;
 use at_geom::Pos;
 use at_text::{Fault, first_fault};
@@ -157,7 +157,7 @@ fn read_behind(text: &[u8], at: usize, dimension: Dimension) -> Result<NumbersRe
 
 /// Reads a position and its delimiter where its numbers have values and one space stands between them.
 #[inline(always)]
-fn plain_position(
+pub fn plain_position<const SITE: usize>(
     text: &[u8],
     at: usize,
     dimension: Dimension,
@@ -166,7 +166,8 @@ fn plain_position(
     requires inside { at ≤ length text.now }
     requires short { rules.base + length text.now ≤ 2 ^ 28 }
     requires count { HasCount dimension }
-    ensures { IfSome result (PositionStands rules text.now at dimension) }
+    ensures stands { IfSome result (PositionStands rules text.now at dimension) }
+    ensures faultless { IfSome result (λ read. read.fault ≡ None) }
 {
     let start = skip_space(text, at);
     let x = read_plain_number(text, start, rules)?;
@@ -182,6 +183,31 @@ fn plain_position(
             end: behind.end,
             dimension: behind.dimension,
         }),
+        Err(_) => None,
+    }
+}
+
+/// Passes over a position and its delimiter where its numbers have values and one space stands between them.
+#[inline(always)]
+pub fn pass_position(
+    text: &[u8],
+    at: usize,
+    dimension: Dimension,
+    rules: Rules,
+) -> Option<NumbersRead>
+    requires inside { at ≤ length text.now }
+    requires short { rules.base + length text.now ≤ 2 ^ 28 }
+    requires count { HasCount dimension }
+    ensures { IfSome result (IsPassed rules text.now at dimension) }
+{
+    let start = skip_space(text, at);
+    let x = pass_plain_number(text, start, rules)?;
+    if !stands(text, x, b' ') {
+        return None;
+    }
+    let y = pass_plain_number(text, x + 1, rules)?;
+    match read_behind(text, y, dimension) {
+        Ok(behind) => Some(behind),
         Err(_) => None,
     }
 }
@@ -217,9 +243,10 @@ fn any_position(
     })
 }
 
-/// Reads blanks, a position and its delimiter.
+/// Reads blanks, a position and its delimiter. Each place that calls it gives another SITE: then the compiler reads plain
+/// positions in place, where a shared copy would hand each of them on through memory.
 #[inline(always)]
-pub fn read_position(
+pub fn read_position<const SITE: usize>(
     text: &[u8],
     at: usize,
     dimension: Dimension,
@@ -231,7 +258,7 @@ pub fn read_position(
     ensures { MatchResult result (PositionStands rules text.now at dimension)
         (λ halt. IfStopped halt (Stuck (Item SpellsPosition) rules.base text.now at dimension)) }
 {
-    match plain_position(text, at, dimension, rules) {
+    match plain_position::<SITE>(text, at, dimension, rules) {
         Some(read) => Ok(read),
         None => any_position(text, at, dimension, rules),
     }

@@ -181,6 +181,52 @@ fn faulty_lines(rt: HostRuntime) -> Result<(), Fail> {
     Ok(())
 }
 
+/// What a line that begins at the offset 100 is found to be in a room that served others, with exact coordinates.
+fn told_in_room(room: &mut Room, alloc: Global, line: &[u8]) -> Result<String, AllocError>
+    requires { length line.now ≤ 2 ^ 27 }
+{
+    match room.check_line(alloc, line, 100, 7, Coords::Exact) {
+        Ok(None) => String::from_str(alloc, "none"),
+        Ok(Some(fault)) => {
+            let kind = fault.kind;
+            let at = fault.at;
+            format!(in alloc; "{kind:?} {at}")
+        }
+        Err(_) => String::from_str(alloc, "memory"),
+    }
+}
+
+/// Lines that one room serves one after another: none or the first fault, a bar, the line.
+const SERVED: &str = "none|POINT (1 2)
+Syntax 109|POINT (1 x
+none|LINESTRING (1 2,3 4)
+Ring 109|POLYGON ((0 0,1 1,0 0))
+Ended 110|POINT (1 2
+none|MULTIPOINT EMPTY
+Short 111|LINESTRING (1 2)
+Ended 130|GEOMETRYCOLLECTION (POINT (1 2
+Scale 107|POINT (0.12345678 2)
+none|POLYGON ((0 0,1 0,1 1,0 0))
+none|POLYGON ((0.5 0.5,40.5 0.5,40.5 40.5,0.5 0.5),(20.5 10.5,30.5 10.5,30.5 20.5,20.5 10.5))
+Ring 135|POLYGON ((0 0,40 0,40 40,0 40,0 0),(20.5 10.5,30.5 10.5,30.5 20.5,20.5 10.25))
+none|LINESTRING (0.1234567 -1.1234567,2.1234567 -3.1234567,4.1234567 5.1234567)
+Short 111|LINESTRING (0.1234567 -1.1234567)";
+
+#[test]
+fn lines_in_one_room(rt: HostRuntime) -> Result<(), Fail> {
+    let mut room = Room::new(rt.alloc());
+    let mut count = 0u32;
+    for row in SERVED.lines() {
+        let (expected, line) = row.split_once('|').ok_or("a bar")?;
+        assert!(rt; line.len() < 100);
+        let told = told_in_room(&mut room, rt.alloc(), line.as_bytes())?;
+        assert_eq!(rt; told.as_str(), expected, "{line}");
+        count = count.wrapping_add(1);
+    }
+    assert_eq!(rt; count, 14);
+    Ok(())
+}
+
 /// What a shape holds: how many points, lines, polygons, and positions of rings.
 fn told_of_shape(alloc: Global, shape: &Shape) -> Result<String, AllocError> {
     let mut positions = 0usize;

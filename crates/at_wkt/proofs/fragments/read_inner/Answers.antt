@@ -1,6 +1,6 @@
-use Rattle.std.proofs.Common.{◌≡◌, ◌+◌, ◌<◌, ◌≤◌, length, drop, arith, length-drop}
+use Rattle.std.proofs.Common.{◌≤◌, length, drop, arith, length-drop}
 use Rattle.at_wkt.proofs.Pieces.{left_is}
-use Rattle.at_wkt.proofs.LineMerges.{folded_none, next_has_one, folded_more, folded_all}
+use Rattle.at_wkt.proofs.LineMerges.{next_has_one, folded_more, folded_all}
 use Rattle.at_wkt.proofs.fragments.read_inner.Goals as goal
 
 pub returns-then-end-bytes : goal.returns-then-end-bytes
@@ -18,4 +18,4 @@ lines-preserved g c =
     let short : c.first_place.result ≤ length (drop c.lines.start c.args.bytes.now) = rw (left_is c.args.bytes.now c.lines.start) at c.first_place.ensures.within in
     folded_more (g.F.Fold.is_own c.args.fold.now) (g.F.Fold.is_fold c.args.fold.now) c.args.at c.args.bytes.now c.lines.start c.lines.part c.lines.invariant
     c.first_place.result c.first_place.ensures.first (omega (arith, length-drop c.lines.start c.args.bytes.now, c.lines.invariant.within))
-    c.in_ok-part.part c.in_ok-part.ensures.own c.in_ok-part.ensures.fold
+    c.fold_piece.new.part c.in_ok-fold_piece.ensures.own c.in_ok-fold_piece.ensures.fold

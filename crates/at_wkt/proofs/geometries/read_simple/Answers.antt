@@ -11,5 +11,5 @@ returns-in_err-read c = exits c.from_residual.result c.in_err-read.field-0.0 _ (
 pub returns : goal.returns
 returns c = answers_by c.read_closings.result _ _ _ _ c.read_closings.ensures
     (λ progress (deep, goes). simple_stands c.args.rules.digits c.args.rules.how c.args.rules.base c.args.text.now c.args.from.at c.args.from.depth c.args.head c.requires.stands c.args.gathered.now c.read_body.new.gathered _ c.in_ok-read.read progress c.in_ok-read.ensures
-    (goes c.args.rules.base c.args.rules.digits c.args.rules.how) refl refl refl c.first_fault-gathered.ensures deep)
+    (goes c.args.rules.base c.args.rules.digits c.args.rules.how) refl refl refl c.add_fault-gathered.ensures deep)
     (λ n h. simple_behind c.args.rules.digits c.args.rules.how c.args.rules.base c.args.text.now c.args.from.at c.args.from.depth c.args.head c.requires.stands c.args.gathered.now c.read_body.new.gathered c.in_ok-read.read c.in_ok-read.ensures n (h c.args.rules.base c.args.rules.digits c.args.rules.how))

@@ -1,19 +1,16 @@
-use Rattle.std.proofs.Common.{◌+◌, sym, ◌∙◌, ap, subst}
+use Rattle.std.specs.Prelude.{FitsSigned}
+use Rattle.std.specs.Int.{w64}
+use Rattle.std.proofs.Common.{rules, ◌+◌, Some, Ok, refl, ap, ◌∙◌}
+use Rattle.std.proofs.lemmas.Int.{to_z-of_z}
 use Rattle.at_wkt.specs.Positions.{value_in, faults_in}
-use Rattle.at_wkt.specs.Reading.{NumberStands}
 use Rattle.at_text.specs.Faults.{first_of}
 use Rattle.at_wkt.proofs.NumberSteps.{number_stands}
-use Rattle.at_wkt.proofs.PlainAnswers.{kept_coordinate}
 use Rattle.at_wkt.proofs.numbers.read_plain_number.Goals as goal
 
-pub returns-in-Some : goal.returns-in-Some
-returns-in-Some c =
-    let (n, stands, e) = number_stands c.args.text.now c.args.at c.leading_number-number.result.len c.requires.inside c.args.rules.digits c.args.rules.how
-    c.leading_number-number.result.value c.in-Some.value c.in-Some.is c.leading_number-number.ensures.taken c.leading_number-number.ensures.value in
-    kept_coordinate c.args.text.now c.args.at c.args.rules.digits c.args.rules.how (c.args.rules.base + c.args.at) n c.coordinate_of.result
-    (subst (λ j. NumberStands c.args.text.now c.args.at j n) (sym c.coordinate_of.ensures.end) stands)
-    (record {
-      value = c.coordinate_of.ensures.value ∙ ap value_in e;
-      fault = c.coordinate_of.ensures.fault ∙ ap (λ r. first_of (faults_in r (c.args.rules.base + c.args.at))) e;
-    })
-    c.faultless.result c.faultless.ensures
+pub returns : goal.returns
+returns c =
+    let number = c.in_ok-number.number in
+    let fits : FitsSigned w64 number.value = search rules in
+    let (n, stands, e) = number_stands c.args.text.now c.args.at number.len c.requires.inside c.args.rules.digits c.args.rules.how
+    (Some (Ok number.value)) (Ok number.value) refl c.in_ok-number.ensures.taken c.in_ok-number.ensures.value in
+    (refl, (n, stands, record { value = to_z-of_z w64 number.value fits ∙ ap value_in e; fault = ap (λ r. first_of (faults_in r (c.args.rules.base + c.args.at))) e }))

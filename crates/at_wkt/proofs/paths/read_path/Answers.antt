@@ -1,4 +1,4 @@
-use Rattle.std.proofs.Common.{◌+◌, length, ◌∙◌, ap}
+use Rattle.std.proofs.Common.{◌+◌, length, ◌∙◌, ap, refl}
 use Rattle.at_wkt.specs.Geometry.{SpellsPosition}
 use Rattle.at_wkt.specs.Reading.{Items, Stuck, fault_of_path}
 use Rattle.at_wkt.proofs.PathAnswers.{path_stands, path_stuck}
@@ -10,4 +10,7 @@ returns-in_err-read c = exits c.from_residual.result c.in_err-read.field-0.0 _ (
     (path_stuck c.args.rules c.args.text.now c.args.at c.args.dimension c.requires.inside c.requires.opener) c.in_err-read.ensures
 
 pub returns : goal.returns
-returns c = path_stands c.args.rules c.args.text.now c.args.at c.args.dimension c.requires.inside c.requires.opener c.args.role c.in_ok-read.read c.in_ok-read.ensures c.path_fault-own.result (c.path_fault-own.ensures ∙ ap (λ z. fault_of_path c.args.role z c.in_ok-read.read.closes (c.args.rules.base + c.args.at)) (ap length c.as_slice.ensures.value)) c.first_fault.result c.first_fault.ensures
+returns c =
+    path_stands c.args.rules c.args.text.now c.args.at c.args.dimension c.requires.inside c.requires.opener c.args.role c.read_positions.new.list.items c.in_ok-read.read _ c.in_ok-read.ensures
+    (c.in_ok-path.ensures.items ∙ c.as_slice-positions.ensures.value) c.path_fault-own.result
+    (c.path_fault-own.ensures ∙ ap (λ z. fault_of_path c.args.role z c.in_ok-read.read.closes (c.args.rules.base + c.args.at)) (ap length c.as_slice-positions.ensures.value)) c.first_fault.ensures refl refl

@@ -6,8 +6,8 @@ use Rattle.at_wkt.proofs.PositionAnswers.{position_stands}
 use Rattle.at_wkt.proofs.PlainAnswers.{one_skipped, space_skipped}
 use Rattle.at_wkt.proofs.positions.plain_position.Goals as goal
 
-pub returns-in-Ok : goal.returns-in-Ok
-returns-in-Ok c =
+pub returns-in-Ok-clause-stands : goal.returns-in-Ok-clause-stands
+returns-in-Ok-clause-stands g c =
     let w = c.args.text.now in
     let (none, (n, stands, is)) = c.in_ok-x.ensures in
     let (none2, (m, stands2, is2)) = c.in_ok-y.ensures in

@@ -1,0 +1,170 @@
+-- Geometries that are passed over.
+use Rattle.std.proofs.Common.{◌≡◌, ℕ, ◌+◌, ◌<◌, ◌≤◌, true, false, List, [], ◌∷◌, ◌++◌, flat_map, length, Option, Some, None, Result, Ok, refl, sym, ap, ◌∙◌, subst, arith, length-append}
+use Rattle.std.specs.Result.{MatchResult}
+use Rattle.at_text.specs.declared.faults.Fault.{Fault}
+use Rattle.at_text.specs.Faults.{first_fault, first_of}
+use Rattle.at_fixed.specs.declared.rounding.Coords.{Coords}
+use Rattle.at_geom.specs.declared.positions.Pos.{Pos}
+use Rattle.at_wkt.specs.declared.dimension.Dimension.{Dimension}
+use Rattle.at_wkt.specs.declared.halts.Halt.{Halt}
+use Rattle.at_wkt.specs.declared.rules.Rules.{Rules}
+use Rattle.at_wkt.specs.declared.positions.PositionRead.{PositionRead}
+use Rattle.at_wkt.specs.declared.positions.NumbersRead.{NumbersRead}
+use Rattle.at_wkt.specs.declared.parts.Read.{Read}
+use Rattle.at_wkt.specs.declared.parts.ItemRead.{ItemRead}
+use Rattle.at_wkt.specs.declared.checks.ListPassed.{ListPassed}
+use Rattle.at_wkt.specs.Reading.{ends_same, Grows, IsPassed, IsPassedList, IsPassedPart, IsPassedItem, PartStands, ItemStands, PositionStands, PositionsSoFar, PositionsStand, HeadStands, IsPassedBody, IsPassedGeometry, Meaning, Spelt, joined, no_meaning, meaning_of, point_faults, line_faults}
+use Rattle.at_wkt.specs.declared.kinds.Head.{Head}
+use Rattle.at_wkt.specs.declared.kinds.Kind.{Kind}
+use Rattle.at_wkt.specs.declared.kinds.Kind.TheVariants.{Point, LineString, Polygon}
+use Rattle.at_wkt.specs.declared.dimension.Dimension.TheVariants.{Open}
+use Rattle.at_wkt.specs.Geometry.{point, line_string, polygon, SpellsPoint, SpellsList, SpellsArea}
+use Rattle.at_wkt.specs.Meaning.{faults_of, faults_of_area}
+use Rattle.at_wkt.proofs.GeometryAnswers.{body_of}
+use Rattle.at_wkt.proofs.Steps.{spelt_over}
+use Rattle.at_wkt.proofs.GeometrySteps.{joined-none, Awaited, open_count}
+use Rattle.at_wkt.proofs.CollectionSteps.{head_spelt, body_spelt}
+use Rattle.at_wkt.proofs.ProgressAnswers.{closes_start, closes_over}
+use Rattle.at_wkt.proofs.PathAnswers.{positions_start, positions_more, positions_end}
+
+-- ---- positions
+
+-- so many positions stand before a place, none of which has a fault or is the last
+pub record PassedSoFar (rules : Rules) (w : List ℕ) (i : ℕ) (c : Dimension) (first : PositionRead) (end : ℕ) (before : Dimension) (count : ℕ) : Type 0 where
+  pub list : List Pos
+  pub last : PositionRead
+  pub reads : PositionsSoFar rules w i c first last list None
+  pub more : last.is_last ≡ false
+  pub end_is : last.end ≡ end
+  pub before_is : last.dimension ≡ before
+  pub count_is : length list ≡ count
+  pub few : count ≤ end
+
+module _ (rules : Rules) (w : List ℕ) (i : ℕ) (c : Dimension) (first : PositionRead) where
+  pub passed_start : PositionStands rules w i c first → first.fault ≡ None → first.is_last ≡ false → PassedSoFar rules w i c first first.end first.dimension 1
+  passed_start h none more = record {
+    list = first.pos ∷ [];
+    last = first;
+    reads = let P : Option Fault → Type 0 = λ z. PositionsSoFar rules w i c first first (first.pos ∷ []) z in subst P none (positions_start rules w i c first h);
+    more = more;
+    end_is = refl;
+    before_is = refl;
+    count_is = refl;
+    few = omega (arith, h.longer);
+  }
+
+  module _ (end : ℕ) (before : Dimension) (count : ℕ) (h : PassedSoFar rules w i c first end before count) where
+    here : (next : PositionRead) → PositionStands rules w end before next → PositionStands rules w h.last.end h.last.dimension next
+    here next s = let P : ℕ → Type 0 = λ z. PositionStands rules w z h.last.dimension next in subst P (sym h.end_is) (let Q : Dimension → Type 0 = λ z. PositionStands rules w end z next in subst Q (sym h.before_is) s)
+
+    longer_list : (next : PositionRead) → length (h.list ++ (next.pos ∷ [])) ≡ count + 1
+    longer_list next = length-append h.list (next.pos ∷ []) ∙ ap (λ z. z + 1) h.count_is
+
+    with_next : (next : PositionRead) → PositionStands rules w end before next → next.fault ≡ None → PositionsSoFar rules w i c first next (h.list ++ (next.pos ∷ [])) None
+    with_next next s none = positions_more rules w i c first h.last next h.list (h.list ++ (next.pos ∷ [])) None None h.reads h.more (here next s) refl (sym (ap (first_fault None) none))
+
+    pub passed_more : (passed : NumbersRead) → IsPassed rules w end before passed → passed.is_last ≡ false → PassedSoFar rules w i c first passed.end passed.dimension (count + 1)
+    passed_more passed (next, s, none, same) more = record {
+      list = h.list ++ (next.pos ∷ []);
+      last = next;
+      reads = with_next next s none;
+      more = sym (ap (λ z. z.is_last) same) ∙ more;
+      end_is = sym (ap (λ z. z.end) same);
+      before_is = sym (ap (λ z. z.dimension) same);
+      count_is = longer_list next;
+      few = omega (arith, h.few, s.longer, ap (λ z. z.end) same);
+    }
+
+    pub passed_end : (last : PositionRead) (passed : ListPassed) → PositionStands rules w end before last → last.fault ≡ None → last.is_last ≡ true
+        → passed ≡ record { count = count + 1; closes = ends_same first last; end = last.end; dimension = last.dimension } → IsPassedList rules w i c passed
+    passed_end last passed s none ended same =
+        let P : ListPassed → Type 0 = λ z. IsPassedList rules w i c z in
+        subst P (sym same) (
+          h.list ++ (last.pos ∷ []),
+          longer_list last,
+          positions_end rules w i c first last (h.list ++ (last.pos ∷ [])) None _ (with_next last s none) ended refl refl refl refl,
+        )
+
+  pub passed_one : (passed : ListPassed) → PositionStands rules w i c first → first.fault ≡ None → first.is_last ≡ true
+      → passed ≡ record { count = 1; closes = ends_same first first; end = first.end; dimension = first.dimension } → IsPassedList rules w i c passed
+  passed_one passed h none ended same =
+      let P : ListPassed → Type 0 = λ z. IsPassedList rules w i c z in
+      let Q : Option Fault → Type 0 = λ z. PositionsSoFar rules w i c first first (first.pos ∷ []) z in
+      subst P (sym same) (
+        first.pos ∷ [],
+        refl,
+        positions_end rules w i c first first (first.pos ∷ []) None _ (subst Q none (positions_start rules w i c first h)) ended refl refl refl refl,
+      )
+
+-- ---- parts of which nothing is kept
+
+abbrev pub nothing_of : {X : Type 0} → X → List Pos
+nothing_of x = []
+
+module _ {X : Type 0} (P : ℕ → X → ℕ → List ℕ → Type 0) (faults : X → List Fault) (base : ℕ) (w : List ℕ) (i : ℕ) (c : Dimension) where
+  -- nothing was added to no list
+  pub adds_nothing : (read : Read) → PartStands P faults (λ _. Unit {0}) base w i c read → PartStands P faults (Grows nothing_of [] []) base w i c read
+  adds_nothing read h = record { value = h.value; spelt = h.spelt; fault = h.fault; added = refl }
+
+  pub part_passed : {A : X → Type 0} (read : Read) → PartStands P faults A base w i c read → PartStands P faults (λ _. Unit {0}) base w i c read
+  part_passed read h = record { value = h.value; spelt = h.spelt; fault = h.fault; added = tt }
+
+  pub item_passed : {A : X → Type 0} (item : ItemRead) → ItemStands P faults A base w i c item → ItemStands P faults (λ _. Unit {0}) base w i c item
+  item_passed item h = record { value = h.value; spelt = h.spelt; fault = h.fault; added = tt; longer = h.longer }
+
+  pub item_adds_nothing : (item : ItemRead) → ItemStands P faults (λ _. Unit {0}) base w i c item → ItemStands P faults (Grows nothing_of [] []) base w i c item
+  item_adds_nothing item h = record { value = h.value; spelt = h.spelt; fault = h.fault; added = refl; longer = h.longer }
+
+-- ---- bodies
+
+module _ (digits : ℕ) (how : Coords) (base : ℕ) (w : List ℕ) where
+  for_kind : (head : Head) (kind : Kind) (read : Read) → head.kind ≡ kind → IsPassedBody digits how base w (record { kind = kind; dimension = head.dimension; end = head.end }) read → IsPassedBody digits how base w head read
+  for_kind head kind read e h = let P : Kind → Type 0 = λ z. IsPassedBody digits how base w (record { kind = z; dimension = head.dimension; end = head.end }) read in subst P (sym e) h
+
+  pub point_passed : (head : Head) (read : Read) → head.kind ≡ Point → IsPassedPart SpellsPoint (point_faults digits how) base w head.end head.dimension read → IsPassedBody digits how base w head read
+  point_passed head read e (none, part) =
+      for_kind head Point read e (
+        none,
+        (
+          point part.value,
+          body_of digits how base w (record { kind = Point; dimension = head.dimension; end = head.end }) SpellsPoint point (λ d at v. ((λ x q. (x, refl, q)), (λ g q. q))) read.end read.dimension part.value part.spelt,
+          part.fault,
+        ),
+      )
+
+  pub line_passed : (head : Head) (read : Read) → head.kind ≡ LineString → IsPassedPart SpellsList (line_faults digits how) base w head.end head.dimension read → IsPassedBody digits how base w head read
+  line_passed head read e (none, part) =
+      for_kind head LineString read e (
+        none,
+        (
+          line_string part.value,
+          body_of digits how base w (record { kind = LineString; dimension = head.dimension; end = head.end }) SpellsList line_string (λ d at v. ((λ x q. (x, refl, q)), (λ g q. q))) read.end read.dimension part.value part.spelt,
+          part.fault,
+        ),
+      )
+
+  pub polygon_passed : (head : Head) (read : Read) → head.kind ≡ Polygon → IsPassedPart SpellsArea (faults_of_area digits how) base w head.end head.dimension read → IsPassedBody digits how base w head read
+  polygon_passed head read e (none, part) =
+      for_kind head Polygon read e (
+        none,
+        (
+          polygon part.value,
+          body_of digits how base w (record { kind = Polygon; dimension = head.dimension; end = head.end }) SpellsArea polygon (λ d at v. ((λ x q. (x, refl, q)), (λ g q. q))) read.end read.dimension part.value part.spelt,
+          part.fault,
+        ),
+      )
+
+-- ---- the geometry
+
+pub geometry_passed : (rules : Rules) (w : List ℕ) (i : ℕ) (head : Head) (read : Read) → HeadStands w i head → IsPassedBody rules.digits rules.how rules.base w head read → IsPassedGeometry rules w i read.end
+geometry_passed rules w i head read h (none, (g, spelt, fault)) =
+    let digits = rules.digits in let how = rules.how in let base = rules.base in
+    let m : Meaning = meaning_of digits how g in
+    let over = closes_over w read.end 0 read.end 0 (closes_start w read.end 0) refl (omega arith) spelt.within base digits how in
+    let ended = spelt_over no_meaning base w read.end Open spelt.within open_count in (
+      m,
+      sym fault ∙ none,
+      subst (Spelt (Awaited digits how 0) base w i Open read.end Open) (joined-none m)
+          (head_spelt digits how base w i 0 head h read.end read.dimension (joined m no_meaning)
+          (body_spelt digits how base w head.end head.dimension head.kind 0 read.end read.dimension g spelt read.end no_meaning (over.spelt read.end no_meaning ended))),
+    )

@@ -1,0 +1,12 @@
+use Rattle.std.proofs.Common.{[], ◌≡◌, None, length, ◌-◌}
+use Rattle.at_wkt.specs.Positions.{faults_of_ring}
+use Rattle.at_wkt.specs.Geometry.{SpellsRing}
+use Rattle.at_wkt.specs.Reading.{ItemsSoFar}
+use Rattle.at_wkt.proofs.CheckAnswers.{nothing_of}
+use Rattle.at_wkt.proofs.checks.pass_rings.Given as goal
+
+abbrev pub invariant-rings : goal.invariant-rings
+invariant-rings l = (l.last.fault ≡ None) × ItemsSoFar SpellsRing (faults_of_ring l.rules.digits l.rules.how) nothing_of [] [] l.rules.base l.text l.fn.at l.fn.dimension l.last
+
+abbrev pub decreases-rings : goal.decreases-rings
+decreases-rings l = length l.text - l.last.end
