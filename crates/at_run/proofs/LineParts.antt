@@ -1,5 +1,6 @@
 -- What is gathered of one line, and of joined lines.
-use Rattle.std.proofs.Common.{◌≡◌, ℕ, List, [], ◌∷◌, ◌++◌, Option, Some, None, Result, Ok, Err, refl, sym, ap, ◌∙◌, subst, append-nil, append_assoc}
+use Rattle.std.proofs.Common.{◌≡◌, ℕ, List, [], ◌∷◌, ◌++◌, Option, Some, None, Result, Ok, Err, refl, sym, ap, ◌∙◌, subst, append-nil, append_assoc, inl}
+use Rattle.std.specs.List.{AllByRecursion}
 use Rattle.std.specs.Result.{IfOk}
 use Rattle.at_text.specs.declared.faults.Fault.{Fault}
 use Rattle.at_text.specs.declared.memory.Memory.{Memory}
@@ -8,19 +9,23 @@ use Rattle.at_fixed.specs.declared.rounding.Coords.{Coords}
 use Rattle.at_geom.specs.declared.shapes.Shape.{Shape}
 use Rattle.at_wkt.specs.declared.answers.LineFault.{LineFault}
 use Rattle.at_wkt.specs.declared.answers.LineFault.TheVariants.{Found, Memory as NoMemory}
-use Rattle.at_wkt.specs.Answers.{IfFound, HasLineShape, HasFirstLineFault}
+use Rattle.at_wkt.specs.Answers.{IfFound, HasLineShape, HasFirstLineFault, HasFaultOrShape}
 use Rattle.at_wkt.specs.Lines.{FileLine, HaveLineFaults}
 use Rattle.at_wkt.specs.Reading.{HasLineFault}
 use Rattle.at_wkt.proofs.Exits.{first_of-append}
 use Rattle.at_wkt.proofs.FileAnswers.{line_without_fault, line_with_fault}
 use Rattle.at_query.specs.declared.features.Feature.{Feature}
 use Rattle.at_query.specs.declared.parts.Part.{Part}
-use Rattle.at_query.specs.Parts.{IsPart, JoinsParts}
+use Rattle.at_query.specs.declared.parts.Part.TheVariants.{Count}
+use Rattle.at_query.specs.declared.queries.Verb.{Verb}
+use Rattle.at_query.specs.declared.queries.Test.{Test}
+use Rattle.at_query.specs.Holding.{TestHolds}
+use Rattle.at_query.specs.Parts.{kept_of, IsPart, JoinsParts}
 use Rattle.at_query.proofs.Joining.{parts_are_alike}
 use Rattle.at_run.specs.declared.gathered.Gathered.{Gathered}
 use Rattle.at_run.specs.declared.gathered.Gathered.TheVariants.{Kept, Failed}
 use Rattle.at_run.specs.Features.{IsLineFeature, AreLineFeatures}
-use Rattle.at_run.specs.Gathering.{Asked, IsFirstOfLines, IsOwn, IsGathered, AreJoinable, JoinsGathered, KeepsOwn, IsLineEnd}
+use Rattle.at_run.specs.Gathering.{Asked, IsFirstOfLines, IsOwn, IsGathered, CountsAll, counted_of, AreJoinable, JoinsGathered, KeepsOwn, IsLineEnd}
 
 module _ (digits : ℕ) (how : Coords) where
   -- ---- faults
@@ -82,6 +87,22 @@ module _ (asked : Asked) where
     ),
   )
 
+  count_part : (f : Feature) → CountsAll asked.query → IsPart asked.query (f ∷ []) (Count 1)
+  count_part f (is_count, no_tests) =
+      let P : List Test → Type 0 = λ tests. AllByRecursion (λ t. TestHolds t f) tests in
+      let Q : Verb → Type 0 = λ verb. Count 1 ≡ kept_of verb (f ∷ []) in
+      (f ∷ [], inl (subst P (sym no_tests) tt, ([], refl, refl)), subst Q (sym is_count) refl)
+
+  -- a line that is only counted
+  pub counted_line : (at : ℕ) (text : List ℕ) (fault : Option Fault) → CountsAll asked.query → HasFaultOrShape asked.digits asked.how at text fault
+      → IsGathered asked (counted_of fault) (record { at = at; text = text } ∷ [])
+  counted_line at text None counts (shape, h) = gathered_line at text shape (Count 1) h (count_part (record { at = at; shape = shape; texts = [] }) counts)
+  counted_line at text (Some fault) counts h = first_one asked.digits asked.how at text (Some fault) (line_with_fault asked.digits asked.how at text fault h)
+
+  pub counted_own : (at : ℕ) (text : List ℕ) (fault : Option Fault) → CountsAll asked.query → HasFaultOrShape asked.digits asked.how at text fault → IsOwn asked (counted_of fault)
+  counted_own at text None counts (shape, h) = let f : Feature = record { at = at; shape = shape; texts = [] } in (f ∷ [], count_part f counts)
+  counted_own at text (Some fault) counts h = tt
+
   pub gathered_fault : (at : ℕ) (text : List ℕ) (fault : Fault) → HasFirstLineFault asked.digits asked.how at text fault → IsGathered asked (Failed fault) (record { at = at; text = text } ∷ [])
   gathered_fault at text fault h = first_one asked.digits asked.how at text (Some fault) (line_with_fault asked.digits asked.how at text fault h)
 
@@ -109,6 +130,23 @@ joins_left f right b q = rw (q) (λ asked ls ms h k. first_joined asked.digits a
 
 pub joins_failed : (f : Fault) (right : Gathered) (g first : Fault) → right ≡ Failed g → Some first ≡ first_fault (Some f) (Some g) → JoinsGathered (Failed f) right (Failed first)
 joins_failed f right g first q e = rw (q) (λ asked ls ms h k. first_joined asked.digits asked.how ls ms (Some f) (Some g) (Some first) h k e)
+
+-- ---- a line that is put behind those before it
+
+pub owns_more : (old : Gathered) (a b c : Part) → old ≡ Kept a → JoinsParts a b c → KeepsOwn old (Kept b) (Kept c)
+owns_more old a b c e joins = rw (e) (owns_kept a (Kept b) b c refl joins)
+
+pub joins_more : (old : Gathered) (a b c : Part) → old ≡ Kept a → JoinsParts a b c → JoinsGathered old (Kept b) (Kept c)
+joins_more old a b c e joins = rw (e) (joins_kept a (Kept b) b c refl joins)
+
+pub stays_failed : (old : Gathered) (f : Fault) (b : Part) → old ≡ Failed f → JoinsGathered old (Kept b) old
+stays_failed old f b e = rw (e) (joins_left f (Kept b) b refl)
+
+pub fails_first : (old : Gathered) (a : Part) (f : Fault) → old ≡ Kept a → JoinsGathered old (Failed f) (Failed f)
+fails_first old a f e = rw (e) (joins_right a (Failed f) f refl)
+
+pub fails_again : (old : Gathered) (g f first : Fault) → old ≡ Failed g → Some first ≡ first_fault (Some g) (Some f) → JoinsGathered old (Failed f) (Failed first)
+fails_again old g f first e first_is = rw (e) (joins_failed g (Failed f) f first refl first_is)
 
 -- ---- what a line's refusal becomes
 

@@ -10,7 +10,6 @@ use Rattle.at_query.specs.declared.answers.Answer.{Answer}
 use Rattle.at_query.specs.Ranges.{AreFeaturesInRange}
 use Rattle.at_query.specs.Results.{IsResult}
 use Rattle.at_query.specs.Parts.{kept_of, IsPart, IsAnswerable, AreFew}
-use Rattle.at_run.specs.Features.{AreFileFeatures}
 use Rattle.at_run.specs.Answers.{IsFilePart, IsFileAnswer}
 use Rattle.at_run.proofs.FileSizes.{file_features_few, file_features_in_range}
 

@@ -1,5 +1,5 @@
 -- What is kept of the lines of a file as they are read: the part of a query, or the first fault so far. Only contracts of private functions cite this.
-use Rattle.std.specs.Prelude.{◌≡◌, ℕ, List, ◌++◌, Option, Some, None, Result, Ok, Err, IsErr}
+use Rattle.std.specs.Prelude.{◌≡◌, ℕ, List, [], ◌++◌, Option, Some, None, Result, Ok, Err, IsErr}
 use Rattle.at_text.specs.declared.faults.Fault.{Fault}
 use Rattle.at_text.specs.declared.memory.Memory.{Memory}
 use Rattle.at_text.specs.Faults.{first_of}
@@ -9,7 +9,9 @@ use Rattle.at_wkt.specs.declared.answers.LineFault.TheVariants as ends
 use Rattle.at_wkt.specs.Lines.{FileLine, HaveLineFaults}
 use Rattle.at_query.specs.declared.queries.Query.{Query}
 use Rattle.at_query.specs.declared.features.Feature.{Feature}
+use Rattle.at_query.specs.declared.queries.Verb.TheVariants as verbs
 use Rattle.at_query.specs.declared.parts.Part.{Part}
+use Rattle.at_query.specs.declared.parts.Part.TheVariants.{Count}
 use Rattle.at_query.specs.Parts.{IsPart, AreAlike}
 use Rattle.at_run.specs.declared.gathered.Gathered.{Gathered}
 use Rattle.at_run.specs.declared.gathered.Gathered.TheVariants.{Kept, Failed}
@@ -43,6 +45,15 @@ IsOwn asked (Failed fault) = Unit {0}
 abbrev pub IsGathered : Asked → Gathered → List FileLine → Type 0
 IsGathered asked (Kept part) lines = IsFirstOfLines asked.digits asked.how lines None × IsLinesPart asked lines part
 IsGathered asked (Failed fault) lines = IsFirstOfLines asked.digits asked.how lines (Some fault)
+
+-- nothing but the count of all features is asked for
+abbrev pub CountsAll : Query → Type 0
+CountsAll query = (query.verb ≡ verbs.Count) × (query.tests ≡ [])
+
+-- what is then kept of a line with this first fault, or with none
+abbrev pub counted_of : Option Fault → Gathered
+counted_of None = Kept (Count 1)
+counted_of (Some fault) = Failed fault
 
 -- where both are parts, they are of one verb
 abbrev pub AreJoinable : Gathered → Gathered → Type 0

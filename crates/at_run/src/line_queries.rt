@@ -1,15 +1,15 @@
-ghost use Rattle.std.specs.Prelude.{◌≡◌, ◌∷◌, [], IfOk};
+ghost use Rattle.std.specs.Prelude.{◌≡◌, ◌∷◌, [], IsTrue, IfOk};
 ghost use Rattle.at_geom.specs.Shapes.{IsShapeInRange};
 ghost use Rattle.at_query.specs.Ranges.{IsQueryInRange};
 ghost use Rattle.at_query.specs.Parts.{IsPart};
-ghost use Rattle.at_run.specs.Gathering.{Asked, IsOwn, IsGathered};
+ghost use Rattle.at_run.specs.Gathering.{Asked, CountsAll, IsOwn, IsGathered};
 
-use crate::gathered::{Gathered, joined, kept_of_end};
+use crate::gathered::{Gathered, count_line, join_into, joined, kept_of_end};
 use at_fixed::Coords;
 use at_geom::Shape;
-use at_query::{Feature, Part, Query, TextPairs, part_none, part_of};
+use at_query::{Feature, Part, Query, TextPairs, Verb, part_none, part_of};
 use at_text::Memory;
-use at_wkt::{Fold, read_line};
+use at_wkt::{Fold, Room, read_line};
 use std::alloc::Global;
 use std::marker::Model;
 
@@ -50,6 +50,13 @@ impl<'a> LineQuery<'a> {
         };
         part_of(alloc, self.query, feature)
     }
+
+    /// Whether nothing but the count of all features is asked for.
+    fn counts_all(&self) -> bool
+        ensures { IsTrue result → CountsAll self.now.query }
+    {
+        matches!(self.query.verb, Verb::Count) && self.query.tests.as_slice().is_empty()
+    }
 }
 
 impl<'a> Fold for LineQuery<'a> {
@@ -72,5 +79,24 @@ impl<'a> Fold for LineQuery<'a> {
 
     fn join(&self, _alloc: Global, left: Gathered, right: Gathered) -> Result<Gathered, Memory> {
         joined(left, right)
+    }
+
+    fn add(
+        &self,
+        alloc: Global,
+        room: &mut Room,
+        part: &mut Gathered,
+        text: &[u8],
+        at: u32,
+    ) -> Result<(), Memory> {
+        if self.counts_all() {
+            let fault = room.check_line(alloc, text, at, self.digits, self.how)?;
+            count_line(part, fault);
+            Ok(())
+        } else {
+            let one = self.line(alloc, text, at)?;
+            join_into(part, one)?;
+            Ok(())
+        }
     }
 }
