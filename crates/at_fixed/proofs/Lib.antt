@@ -3,6 +3,7 @@ pub mod DigitParts
 pub mod EightDigits
 pub mod Endings
 pub mod FixedLaws
+pub mod GapMasks
 pub mod Lanes
 pub mod NumberMachine
 pub mod NumeralParts
@@ -11,7 +12,7 @@ pub mod PlainRuns
 pub mod Points
 pub mod PowersOfTen
 pub mod Quotients
-pub mod DigitMasks
+pub mod Reaches
 pub mod Sizes
 pub mod Spelled
 pub mod Valued

@@ -1,5 +1,5 @@
 -- Numbers that surely have a value.
-use Rattle.std.proofs.Common.{◌≡◌, ℕ, zero, suc, ◌+◌, ◌-◌, ◌*◌, ◌/◌, ◌%◌, ◌^◌, ◌<◌, ◌≤◌, ◌⊎◌, inl, inr, pos, neg_ℤ, if◌then◌else◌, mul-le-mul_right, Bool, true, false, cond, nat_lt, ◌==◌, ℤ, Option, Some, None, IfSome, Result, Ok, Err, List, [], ◌++◌, length, take, refl, sym, ap, ◌∙◌, subst, arith, lit<, mod-lt, pow-add, append-nil, add-zero}
+use Rattle.std.proofs.Common.{◌≡◌, ℕ, zero, suc, ◌+◌, ◌-◌, ◌*◌, ◌/◌, ◌%◌, ◌^◌, ◌<◌, ◌≤◌, ◌⊎◌, inl, inr, pos, neg_ℤ, if◌then◌else◌, mul-le-mul_right, Bool, true, false, cond, nat_lt, ◌==◌, ℤ, None, Result, Ok, Err, List, ◌++◌, length, take, refl, sym, ap, ◌∙◌, subst, arith, lit<, mod-lt, pow-add, append-nil}
 use Rattle.std.proofs.Math.Nat.{div-lt_iff_lt-mul}
 use Rattle.std.proofs.lemmas.Bool.{cases_lt}
 use Rattle.at_fixed.specs.declared.notation.Notation.{Notation}
@@ -8,10 +8,10 @@ use Rattle.at_fixed.specs.declared.rounding.Coords.TheVariants.{Exact, Round}
 use Rattle.at_fixed.specs.declared.rounding.FixedFault.{FixedFault}
 use Rattle.at_fixed.specs.declared.rounding.FixedFault.TheVariants.{Range}
 use Rattle.at_fixed.specs.declared.scanning.Mantissa.{Mantissa}
-use Rattle.at_fixed.specs.Numerals.{Numeral, fraction_text, numeral_text, IsNumeralOf, digits_value}
+use Rattle.at_fixed.specs.Numerals.{Numeral, fraction_text, numeral_text, IsNumeralOf}
 use Rattle.at_fixed.specs.Fixed.{has_minus, largest, nearest, quotient, size_of, signed, fixed_of, mantissa}
 use Rattle.at_fixed.specs.Kept.{Keeps}
-use Rattle.at_fixed.specs.Scans.{digits_of, IsMantissaOf, ReadsMantissa, IsFarFront, SurelyFits}
+use Rattle.at_fixed.specs.Scans.{digits_of, IsKeptFront, SurelyFits}
 use Rattle.at_fixed.proofs.DigitParts.{none_dropped}
 use Rattle.at_fixed.proofs.Endings.{numeral_by}
 use Rattle.at_fixed.proofs.PlainRuns.{room_more}
@@ -59,7 +59,7 @@ signed_ok : (minus : Bool) (r : Result ℕ FixedFault) (s : ℕ) → r ≡ Ok s 
 signed_ok minus r s e = (if minus then neg_ℤ (pos s) else pos s, ap (signed minus) e)
 
 -- a number up to its exponent, and none behind it
-pub valued : (g : Notation) (w : List ℕ) (front : Mantissa) (digits : ℕ) (how : Coords) → IsFarFront g w front → SurelyFits front.end front.fraction digits how
+pub valued : (g : Notation) (w : List ℕ) (front : Mantissa) (digits : ℕ) (how : Coords) → IsKeptFront g w front → SurelyFits front.end front.fraction digits how
     → (n : Numeral) × IsNumeralOf g n × (take front.end w ≡ numeral_text n) × ((v : ℤ) × (fixed_of n digits how ≡ Ok v))
 valued g w front digits how h (few, sure) =
     let m = h.reads.parts h.is_number in

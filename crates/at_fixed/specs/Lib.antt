@@ -1,5 +1,6 @@
 pub mod Numerals
 pub mod Fixed
+pub mod Gaps
 pub mod Products
 pub mod States
 pub mod Kept
@@ -7,4 +8,3 @@ pub mod Eights
 pub mod Scans
 pub mod Decimals
 pub mod Scanned
-pub mod Sixteens

@@ -7,6 +7,7 @@ use Rattle.at_fixed.specs.declared.rounding.Coords.{Coords}
 use Rattle.at_fixed.specs.declared.rounding.Coords.TheVariants.{Round}
 use Rattle.at_fixed.specs.declared.digits.DigitsRun.{DigitsRun}
 use Rattle.at_fixed.specs.declared.digits.KeptRun.{KeptRun}
+use Rattle.at_fixed.specs.declared.extents.Extent.{Extent}
 use Rattle.at_fixed.specs.declared.scanning.Sign.{Sign}
 use Rattle.at_fixed.specs.declared.scanning.Mantissa.{Mantissa}
 use Rattle.at_fixed.specs.declared.scanning.Power.{Power}
@@ -145,11 +146,15 @@ pub record ReadsMantissa (notation : Notation) (w : List ℕ) (read : Mantissa) 
   pub count : read.fraction ≤ read.end
 
 -- a number up to its exponent, all digits of which are kept
-pub record IsFarFront (notation : Notation) (w : List ℕ) (read : Mantissa) : Type 0 where
+pub record IsKeptFront (notation : Notation) (w : List ℕ) (read : Mantissa) : Type 0 where
   pub reads : ReadsMantissa notation w read
   pub is_number : read.is_number ≡ true
   pub dropped : read.digits.dropped ≡ 0
   pub small : read.digits.kept < 10 ^ read.end
+
+-- a number up to its exponent ends there, with so many digits behind its point
+abbrev pub IsExtent : Notation → List ℕ → Extent → Type 0
+IsExtent notation w extent = (front : Mantissa) × IsKeptFront notation w front × (front.end ≡ extent.end) × (front.fraction ≡ extent.fraction) × (extent.end < 32)
 
 -- a number of so many bytes, of which so many are digits behind its point, is not out of range, and is whole or rounded
 abbrev pub SurelyFits : ℕ → ℕ → ℕ → Coords → Type 0

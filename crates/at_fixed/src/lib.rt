@@ -4,13 +4,14 @@
 
 mod digits;
 mod eights;
+mod extents;
+mod gaps;
 mod notation;
 mod numbers;
 mod plain_numbers;
 mod powers;
 mod rounding;
 mod scanning;
-mod sixteens;
 mod units;
 mod writing;
 

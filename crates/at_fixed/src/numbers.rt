@@ -4,8 +4,9 @@ ghost use Rattle.at_fixed.specs.Numerals.{Numeral, SpellsNumeral, JsonNumber, Wk
 ghost use Rattle.at_fixed.specs.Fixed.{IsFixedOf};
 ghost use Rattle.at_fixed.specs.Products.{IsValue};
 
+use crate::extents::valued_end;
 use crate::notation::Notation;
-use crate::plain_numbers::{scan_far, scan_near, valued_end};
+use crate::plain_numbers::{scan_far, scan_near};
 use crate::rounding::{Coords, FixedFault};
 use crate::scanning::{Scanned, scan};
 use crate::units::value_of;
@@ -136,7 +137,7 @@ pub fn plain_len(text: &[u8], notation: Notation, digits: u8, how: Coords) -> Op
     ensures taken { IfSome result (λ len. TakesLongest (NumberOf notation) text.now (record { len = len; whole = true })) }
     ensures value { IfSome result (λ len. (value : ℤ) × IsFixedOf (take len text.now) digits how (Ok value)) }
 {
-    if text.len() < 16 {
+    if text.len() < 32 {
         return None;
     }
     let end = valued_end(text, notation, digits, how)?;

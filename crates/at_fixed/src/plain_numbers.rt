@@ -4,18 +4,17 @@
 ghost use Rattle.std.specs.Prelude.{◌≡◌, ◌+◌, ◌^◌, ◌<◌, ◌≤◌, ◌&&◌, ◌-◌, IfSome, IsTrue, true, false, nat_lt, length, slice_index};
 ghost use Rattle.at_fixed.specs.Numerals.{AreDigits};
 ghost use Rattle.at_fixed.specs.Kept.{part};
-ghost use Rattle.at_fixed.specs.Scans.{EndsRun, IsFarFront, IsLoneZero, KeepsFar, KeepsRun, KeepsTo, SurelyFits, ReadsSign, ReadsLead, ReadsWhole, ReadsMantissa, ReadsPower, may_take_point};
-ghost use Rattle.at_fixed.specs.Scanned.{IsScanned, IsValued};
-ghost use Rattle.at_fixed.specs.Sixteens.{MarksGaps};
+ghost use Rattle.at_fixed.specs.Scans.{EndsRun, IsLoneZero, KeepsFar, KeepsRun, KeepsTo, ReadsSign, ReadsLead, ReadsWhole, ReadsMantissa, ReadsPower, may_take_point};
+ghost use Rattle.at_fixed.specs.Scanned.{IsScanned};
+ghost use Rattle.at_fixed.specs.Gaps.{MarksGaps};
 ghost use Rattle.at_fixed.specs.States.{is_letter};
 
 use crate::digits::{Digits, DigitsRun, FULL, KeptRun, has_room, keep_single_digits};
 use crate::eights::{leading_digits, spelled_number};
+use crate::gaps::{next_set, sixteen_gaps};
 use crate::notation::Notation;
 use crate::powers::power_of_ten;
-use crate::rounding::Coords;
 use crate::scanning::{Mantissa, Power, Scanned, Sign, has_point, read_sign, scanned_of};
-use crate::sixteens::{next_set, non_digits};
 
 /// Whether the letter of an exponent stands at a place of the text.
 #[inline(always)]
@@ -82,7 +81,7 @@ fn keep_sixteen(text: &[u8], from: usize, before: u64) -> Option<KeptRun>
 
 /// Whether a 0 stands at the place, behind which no digit of a JSON number before its point may stand.
 #[inline(always)]
-fn is_lone_zero(text: &[u8], at: usize, notation: Notation) -> bool
+pub fn is_lone_zero(text: &[u8], at: usize, notation: Notation) -> bool
     requires { at < length text.now }
     ensures { IsLoneZero notation (slice_index text.now at) result }
 {
@@ -176,21 +175,20 @@ fn near_front(text: &[u8], notation: Notation) -> Option<Mantissa>
 #[inline(always)]
 fn run_end(text: &[u8], gaps: u64, from: usize) -> Option<usize>
     requires long { 16 ≤ length text.now }
-    requires gaps { MarksGaps text.now 0 gaps }
+    requires gaps { MarksGaps text.now 0 16 gaps }
     ensures { IfSome result (EndsRun text.now from) }
 {
     if from > 16 {
         return None;
     }
-    let end = next_set(gaps, from);
-    if end < 16 {
+    if let Some(end) = next_set(gaps, from) {
         return Some(end);
     }
     if text.len() < 32 {
         return None;
     }
-    let more = next_set(non_digits(text, 16), 0);
-    if more < 16 { Some(16 + more) } else { None }
+    let more = next_set(sixteen_gaps(text, 16), 0)?;
+    Some(16 + more)
 }
 
 /// What is kept of so many digits behind the number before them.
@@ -247,7 +245,7 @@ fn keep_to(text: &[u8], from: usize, to: usize, before: u64, room: usize) -> Opt
 #[inline(always)]
 fn far_run(text: &[u8], gaps: u64, from: usize, before: u64, room: usize) -> Option<KeptRun>
     requires long { 16 ≤ length text.now }
-    requires gaps { MarksGaps text.now 0 gaps }
+    requires gaps { MarksGaps text.now 0 16 gaps }
     requires room { before < 10 ^ (19 - room) }
     requires few { room ≤ 19 }
     ensures { IfSome result (KeepsFar text.now from before room) }
@@ -266,9 +264,9 @@ fn far_run(text: &[u8], gaps: u64, from: usize, before: u64, room: usize) -> Opt
 #[inline(always)]
 fn far_front(text: &[u8], notation: Notation) -> Option<Mantissa>
     requires { 16 ≤ length text.now }
-    ensures { IfSome result (IsFarFront notation text.now) }
+    ensures { IfSome result (λ front. ReadsMantissa notation text.now front × (front.is_number ≡ true)) }
 {
-    let gaps = non_digits(text, 0);
+    let gaps = sixteen_gaps(text, 0);
     let sign = read_sign(text, 0, notation);
     let lead = far_run(text, gaps, sign.end, 0, 19)?;
     let whole = whole_of(text, sign, lead, notation)?;
@@ -319,31 +317,4 @@ pub fn scan_near(text: &[u8], notation: Notation) -> Option<Scanned>
     let front = near_front(text, notation)?;
     let power = no_power(text, front)?;
     Some(scanned_of(front, power))
-}
-
-/// Whether a number of so many bytes, of which so many are digits behind its point, surely has a value.
-#[inline(always)]
-fn surely_fits(end: usize, fraction: usize, digits: u8, how: Coords) -> bool
-    requires order { fraction ≤ end }
-    requires few { end ≤ 2 ^ 28 }
-    ensures { IsTrue result → SurelyFits end fraction digits how }
-{
-    end - fraction + digits as usize <= 14
-        && (matches!(how, Coords::Round) || fraction <= digits as usize)
-}
-
-/// Where the number ends that begins a text, where it is written plainly and surely has a value, which isn't computed.
-#[inline(always)]
-pub fn valued_end(text: &[u8], notation: Notation, digits: u8, how: Coords) -> Option<usize>
-    requires short { length text.now ≤ 2 ^ 28 }
-    requires long { 16 ≤ length text.now }
-    ensures { IfSome result (IsValued notation text.now digits how) }
-{
-    let front = far_front(text, notation)?;
-    let power = no_power(text, front)?;
-    if surely_fits(front.end, front.fraction, digits, how) {
-        Some(power.end)
-    } else {
-        None
-    }
 }

@@ -209,12 +209,25 @@ fn numbers_before_bytes(rt: HostRuntime) {
 /// Lengths of numbers whose values aren't computed.
 #[test]
 fn lengths_of_plain_numbers(rt: HostRuntime) {
-    let text = b"98.7654321098765 12.3456789 12.5";
-    assert_eq!(rt; plain_len(text, Notation::Wkt, 7, Coords::Round), Some(16));
-    assert_eq!(rt; plain_len(text, Notation::Wkt, 7, Coords::Exact), None);
-    let short = b"-180.1234567 -90.5";
-    assert_eq!(rt; plain_len(short, Notation::Wkt, 7, Coords::Exact), Some(12));
-    assert_eq!(rt; plain_len(short, Notation::Wkt, 11, Coords::Round), None);
+    let long = b"98.7654321098765 12.3456789 12.5";
+    assert_eq!(rt; plain_len(long, Notation::Wkt, 7, Coords::Round), Some(16));
+    assert_eq!(rt; plain_len(long, Notation::Wkt, 7, Coords::Exact), None);
+    let signed = b"-180.1234567 -90.5) and more bytes";
+    assert_eq!(rt;
+        plain_len(signed, Notation::Wkt, 7, Coords::Exact),
+        Some(12)
+    );
+    assert_eq!(rt; plain_len(signed, Notation::Wkt, 11, Coords::Round), None);
+    let whole = b"+922337,and twenty-four more bytes";
+    assert_eq!(rt; plain_len(whole, Notation::Wkt, 7, Coords::Exact), Some(7));
+    assert_eq!(rt; plain_len(whole, Notation::Json, 7, Coords::Exact), None);
+    let power = b"1.5e3,2.5,and twenty more bytes or so";
+    assert_eq!(rt; plain_len(power, Notation::Wkt, 7, Coords::Exact), None);
+    let zeros = b"007.5,and some twenty-six more bytes";
+    assert_eq!(rt; plain_len(zeros, Notation::Wkt, 7, Coords::Exact), Some(5));
+    assert_eq!(rt; plain_len(zeros, Notation::Json, 7, Coords::Exact), None);
+    let endless = b"1.23456789012345678901234567890123";
+    assert_eq!(rt; plain_len(endless, Notation::Wkt, 7, Coords::Round), None);
 }
 
 /// Values with nine digits.

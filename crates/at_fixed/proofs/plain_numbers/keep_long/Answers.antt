@@ -1,4 +1,4 @@
-use Rattle.std.proofs.Common.{◌+◌, ◌-◌, ◌≡◌, ◌≤◌, ◌<◌, ◌^◌, length, sym, subst, arith}
+use Rattle.std.proofs.Common.{◌+◌, ◌-◌, ◌≡◌, subst, arith}
 use Rattle.at_fixed.specs.Numerals.{AreDigits}
 use Rattle.at_fixed.specs.Kept.{part}
 use Rattle.at_fixed.specs.Scans.{KeepsTo}

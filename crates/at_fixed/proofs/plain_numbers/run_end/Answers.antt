@@ -1,13 +1,16 @@
-use Rattle.std.proofs.Common.{◌≤◌, arith}
-use Rattle.at_fixed.proofs.DigitMasks.{ends_near, ends_far}
+use Rattle.std.proofs.Common.{◌<◌, refl, arith}
+use Rattle.at_fixed.proofs.GapMasks.{ends_within, ends_behind, set_within}
 use Rattle.at_fixed.proofs.plain_numbers.run_end.Goals as goal
 
-pub returns-then-end-lt16 : goal.returns-then-end-lt16
-returns-then-end-lt16 c = ends_near c.args.text.now c.args.from c.next_set-end.result c.args.gaps c.requires.long c.requires.gaps c.next_set-end.ensures c.if-end-lt16.true
+pub returns-in-Some : goal.returns-in-Some
+returns-in-Some c = ends_within c.args.text.now 16 c.args.from c.in-Some.end c.args.gaps c.requires.long c.requires.gaps c.in-Some.ensures.some
 
-pub returns-then-more-lt16 : goal.returns-then-more-lt16
-returns-then-more-lt16 c =
-    let far : 16 ≤ c.next_set-end.result = omega (arith, c.if-end-lt16.false) in
-    let few : c.args.from ≤ 16 = omega (arith, c.if-from-gt16.false) in
-    ends_far c.args.text.now c.args.from c.next_set-end.result c.args.gaps c.next_set-more.result c.non_digits.result (omega (arith, c.if-text-lt32.false)) few c.requires.gaps c.next_set-end.ensures far
-    c.non_digits.ensures c.next_set-more.ensures c.if-more-lt16.true
+pub overflow_add-result : goal.overflow_add-result
+overflow_add-result c =
+    let near : c.in_ok-more.more < 16 = set_within c.args.text.now 16 16 c.sixteen_gaps.result c.in_ok-more.more c.sixteen_gaps.ensures c.in_ok-more.ensures.some.set in
+    record { fits = omega (arith, near) }
+
+pub returns : goal.returns
+returns c =
+    ends_behind c.args.text.now c.args.from c.args.gaps c.in_ok-more.more c.sixteen_gaps.result (omega (arith, c.if-text-lt32.false)) (omega (arith, c.if-from-gt16.false)) c.requires.gaps
+    (c.in_default.ensures.none refl) c.sixteen_gaps.ensures c.in_ok-more.ensures.some

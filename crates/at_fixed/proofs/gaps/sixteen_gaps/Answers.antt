@@ -1,13 +1,13 @@
-use Rattle.std.proofs.Common.{leb, cond, refl}
+use Rattle.std.proofs.Common.{leb, cond, refl, arith}
 use Rattle.std.proofs.lemmas.Simd.{zip2_splat, length-chunk}
 use lib.Lanes.{chunk}
 use Rattle.at_fixed.proofs.Lanes.{joined, splat_is}
-use Rattle.at_fixed.proofs.DigitMasks.{gaps_marked}
-use Rattle.at_fixed.proofs.sixteens.non_digits.Goals as goal
+use Rattle.at_fixed.proofs.GapMasks.{gaps_marked}
+use Rattle.at_fixed.proofs.gaps.sixteen_gaps.Goals as goal
 
 pub returns : goal.returns
 returns c =
     let v = chunk c.args.at 16 c.args.text.now in
     let long = length-chunk c.args.at 16 c.args.text.now c.requires in
-    gaps_marked c.args.text.now c.args.at _ _ c.requires c.type_inv.text
+    gaps_marked c.args.text.now c.args.at 16 _ _ (omega arith) c.requires c.type_inv.text
     (joined (λ a b. cond (leb a b) 255 0) _ _ v (splat_is v 16 10 long) (zip2_splat _ v 16 48 long)) refl

@@ -1,0 +1,64 @@
+//! Which bytes of a text are no digits: a bit for each byte, the lowest for the first.
+
+ghost use Rattle.std.specs.Prelude.{◌≡◌, ℕ, ◌+◌, ◌^◌, ◌<◌, ◌≤◌, None, IfSome, length};
+ghost use Rattle.at_fixed.specs.Gaps.{IsClearFrom, IsClearedTo, IsFirstSet, MarksGaps};
+
+use std::simd::prelude::*;
+
+/// Which of the sixteen bytes at a place are no digits.
+#[inline(always)]
+pub fn sixteen_gaps(text: &[u8], at: usize) -> u64
+    requires { at + 16 ≤ length text.now }
+    ensures { MarksGaps text.now at 16 result }
+{
+    let from_zero = u8x16::from_slice(&text[at..]) - u8x16::splat(b'0');
+    from_zero.simd_ge(u8x16::splat(10)).to_bitmask()
+}
+
+/// Which of the first thirty-two bytes are no digits.
+#[inline(always)]
+pub fn first_gaps(text: &[u8]) -> u64
+    requires { 32 ≤ length text.now }
+    ensures { MarksGaps text.now 0 32 result }
+{
+    let from_zero = u8x32::from_slice(text) - u8x32::splat(b'0');
+    from_zero.simd_ge(u8x32::splat(10)).to_bitmask()
+}
+
+/// The place of the lowest bit that is set, where one is.
+#[inline(always)]
+pub fn first_set(mask: u64) -> Option<usize>
+    ensures { IfSome result (λ place. IsFirstSet mask 0 place × (0 < mask)) }
+{
+    if mask == 0 {
+        None
+    } else {
+        Some(mask.trailing_zeros() as usize)
+    }
+}
+
+/// The mask without its lowest bit that is set.
+#[inline(always)]
+pub fn without_first(mask: u64) -> u64
+    requires { 0 < mask }
+    ensures bits { (place : ℕ) → IsFirstSet mask 0 place → IsClearedTo mask place result }
+    ensures less { result ≤ mask }
+{
+    mask & (mask - 1)
+}
+
+/// The place of the lowest bit that is set, from a place on, where one is.
+#[inline(always)]
+pub fn next_set(mask: u64, from: usize) -> Option<usize>
+    requires few { from ≤ 32 }
+    requires small { mask < 2 ^ 32 }
+    ensures some { IfSome result (IsFirstSet mask from) }
+    ensures none { result ≡ None → IsClearFrom mask from }
+{
+    let rest = mask >> from as u32;
+    if rest == 0 {
+        None
+    } else {
+        Some(from + rest.trailing_zeros() as usize)
+    }
+}
