@@ -86,15 +86,16 @@ impl<'a> Fold for LineQuery<'a> {
         alloc: Global,
         room: &mut Room,
         part: &mut Gathered,
-        text: &[u8],
+        ahead: &[u8],
+        len: usize,
         at: u32,
     ) -> Result<(), Memory> {
         if self.counts_all() {
-            let fault = room.check_line(alloc, text, at, self.digits, self.how)?;
+            let fault = room.check_line(alloc, ahead, len, at, self.digits, self.how)?;
             count_line(part, fault);
             Ok(())
         } else {
-            let one = self.line(alloc, text, at)?;
+            let one = self.line(alloc, &ahead[..len], at)?;
             join_into(part, one)?;
             Ok(())
         }

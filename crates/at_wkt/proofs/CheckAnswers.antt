@@ -1,25 +1,23 @@
 -- Geometries that are passed over.
-use Rattle.std.proofs.Common.{◌≡◌, ℕ, ◌+◌, ◌<◌, ◌≤◌, true, false, List, [], ◌∷◌, ◌++◌, flat_map, length, Option, Some, None, Result, Ok, refl, sym, ap, ◌∙◌, subst, arith, length-append}
-use Rattle.std.specs.Result.{MatchResult}
+use Rattle.std.proofs.Common.{◌≡◌, ℕ, ◌+◌, ◌≤◌, true, false, List, [], ◌∷◌, ◌++◌, length, Option, None, refl, sym, ap, ◌∙◌, subst, arith, length-append}
 use Rattle.at_text.specs.declared.faults.Fault.{Fault}
-use Rattle.at_text.specs.Faults.{first_fault, first_of}
+use Rattle.at_text.specs.Faults.{first_fault}
 use Rattle.at_fixed.specs.declared.rounding.Coords.{Coords}
 use Rattle.at_geom.specs.declared.positions.Pos.{Pos}
 use Rattle.at_wkt.specs.declared.dimension.Dimension.{Dimension}
-use Rattle.at_wkt.specs.declared.halts.Halt.{Halt}
 use Rattle.at_wkt.specs.declared.rules.Rules.{Rules}
 use Rattle.at_wkt.specs.declared.positions.PositionRead.{PositionRead}
 use Rattle.at_wkt.specs.declared.positions.NumbersRead.{NumbersRead}
 use Rattle.at_wkt.specs.declared.parts.Read.{Read}
 use Rattle.at_wkt.specs.declared.parts.ItemRead.{ItemRead}
 use Rattle.at_wkt.specs.declared.checks.ListPassed.{ListPassed}
-use Rattle.at_wkt.specs.Reading.{ends_same, Grows, IsPassed, IsPassedList, IsPassedPart, IsPassedItem, PartStands, ItemStands, PositionStands, PositionsSoFar, PositionsStand, HeadStands, IsPassedBody, IsPassedGeometry, Meaning, Spelt, joined, no_meaning, meaning_of, point_faults, line_faults}
+use Rattle.at_wkt.specs.Reading.{ends_same, Grows, IsPassed, IsPassedList, IsPassedPart, PartStands, ItemStands, PositionStands, PositionsSoFar, HeadStands, IsPassedBody, IsPassedGeometry, Meaning, Spelt, joined, no_meaning, meaning_of, point_faults, line_faults}
 use Rattle.at_wkt.specs.declared.kinds.Head.{Head}
 use Rattle.at_wkt.specs.declared.kinds.Kind.{Kind}
 use Rattle.at_wkt.specs.declared.kinds.Kind.TheVariants.{Point, LineString, Polygon}
 use Rattle.at_wkt.specs.declared.dimension.Dimension.TheVariants.{Open}
 use Rattle.at_wkt.specs.Geometry.{point, line_string, polygon, SpellsPoint, SpellsList, SpellsArea}
-use Rattle.at_wkt.specs.Meaning.{faults_of, faults_of_area}
+use Rattle.at_wkt.specs.Meaning.{faults_of_area}
 use Rattle.at_wkt.proofs.GeometryAnswers.{body_of}
 use Rattle.at_wkt.proofs.Steps.{spelt_over}
 use Rattle.at_wkt.proofs.GeometrySteps.{joined-none, Awaited, open_count}

@@ -25,5 +25,6 @@ pub mod LineAnswers
 pub mod FileAnswers
 pub mod CheckAnswers
 pub mod LinePieces
+pub mod LineFronts
 pub mod LineMerges
 mod Examples

@@ -263,7 +263,7 @@ module _ {P : Type 0} (IsOwn : P → Type 0) (IsFold : P → List FileLine → T
 
     -- what the code takes for a piece
     abbrev next_piece : FileLine
-    next_piece = record { at = at + start; text = take (start + p - start) (drop start bytes) }
+    next_piece = record { at = at + start; text = take (start + p - start) (take (length bytes - start) (drop start bytes)) }
 
     next_pieces : start + p < length bytes → pieces_from (at + start) (drop start bytes) ≡ next_piece ∷ pieces_from (at + (start + p + 1)) (drop (start + p + 1) bytes)
     next_pieces inside =
@@ -274,9 +274,10 @@ module _ {P : Type 0} (IsOwn : P → Type 0) (IsFold : P → List FileLine → T
         pieces_first (at + start) (drop start bytes) p first_left short
         ∙ (ap (λ n. record { at = at + start; text = take p (drop start bytes) } ∷ pieces_from n (drop (p + 1) (drop start bytes))) place
         ∙ (ap (λ z. record { at = at + start; text = take p (drop start bytes) } ∷ pieces_from (at + (start + p + 1)) z) further
-        ∙ ap (λ n. record { at = at + start; text = take n (drop start bytes) } ∷ pieces_from (at + (start + p + 1)) (drop (start + p + 1) bytes)) width))
+        ∙ (ap (λ n. record { at = at + start; text = take n (drop start bytes) } ∷ pieces_from (at + (start + p + 1)) (drop (start + p + 1) bytes)) width
+        ∙ ap (λ z. record { at = at + start; text = take (start + p - start) z } ∷ pieces_from (at + (start + p + 1)) (drop (start + p + 1) bytes)) (sym (left_is bytes start)))))
 
-    pub next_has_one : start + p < length bytes → list_any is_line_feed (take (start + p - start) (drop start bytes)) ≡ false
+    pub next_has_one : start + p < length bytes → list_any is_line_feed (take (start + p - start) (take (length bytes - start) (drop start bytes))) ≡ false
     next_has_one inside = (piece_of (at + start) (drop start bytes) [] next_piece (pieces_from (at + (start + p + 1)) (drop (start + p + 1) bytes)) (next_pieces inside)).one
 
     pub folded_more : start + p < length bytes → (next : P) → IsOwn next → AddsLines IsFold part (lines_in (next_piece ∷ [])) next → FoldedSoFar at bytes (start + p + 1) next

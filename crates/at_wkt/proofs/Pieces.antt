@@ -31,9 +31,13 @@ pieces_first at bytes p e h =
 pub pieces_last : (at : ℕ) (bytes : List ℕ) → position_or_len is_line_feed bytes ≡ length bytes → pieces_from at bytes ≡ record { at = at; text = bytes } ∷ []
 pieces_last at bytes e = ap (placed at) (split_whole is_line_feed bytes e)
 
+-- what is left, as the code's slice shows it
+pub left_is : (bytes : List ℕ) (at : ℕ) → take (length bytes - at) (drop at bytes) ≡ drop at bytes
+left_is bytes at = take_all (length bytes - at) (drop at bytes) (omega (arith, length-drop at bytes))
+
 -- what the code takes for a piece, from the place `at` up to the place p behind it
 abbrev pub piece_at : List ℕ → ℕ → ℕ → FileLine
-piece_at bytes at p = record { at = at; text = take (at + p - at) (drop at bytes) }
+piece_at bytes at p = record { at = at; text = take (at + p - at) (take (length bytes - at) (drop at bytes)) }
 
 pub pieces_at : (bytes : List ℕ) (at p : ℕ) → p ≡ position_or_len is_line_feed (drop at bytes) → at + p < length bytes
     → pieces_from at (drop at bytes) ≡ piece_at bytes at p ∷ pieces_from (at + p + 1) (drop (at + p + 1) bytes)
@@ -44,17 +48,14 @@ pieces_at bytes at p e h =
     pieces_first at (drop at bytes) p e inside
     ∙ ap (λ rest. record { at = at; text = take p (drop at bytes) } ∷ pieces_from (at + p + 1) rest) further
     ∙ ap (λ n. record { at = at; text = take n (drop at bytes) } ∷ pieces_from (at + p + 1) (drop (at + p + 1) bytes)) width
+    ∙ ap (λ z. record { at = at; text = take (at + p - at) z } ∷ pieces_from (at + p + 1) (drop (at + p + 1) bytes)) (sym (left_is bytes at))
 
 pub pieces_end : (bytes : List ℕ) (at p : ℕ) → p ≡ position_or_len is_line_feed (drop at bytes) → at ≤ length bytes → at + p ≡ length bytes
     → pieces_from at (drop at bytes) ≡ piece_at bytes at p ∷ []
 pieces_end bytes at p e within h =
     let size : length (drop at bytes) ≡ at + p - at = omega (arith, length-drop at bytes) in
     pieces_last at (drop at bytes) (sym e ∙ omega (arith, length-drop at bytes))
-    ∙ ap (λ text. record { at = at; text = text } ∷ []) (sym (take_all (at + p - at) (drop at bytes) (omega arith)))
-
--- what is left, as the code's slice shows it
-pub left_is : (bytes : List ℕ) (at : ℕ) → take (length bytes - at) (drop at bytes) ≡ drop at bytes
-left_is bytes at = take_all (length bytes - at) (drop at bytes) (omega (arith, length-drop at bytes))
+    ∙ ap (λ text. record { at = at; text = text } ∷ []) (sym (ap (take (at + p - at)) (left_is bytes at) ∙ take_all (at + p - at) (drop at bytes) (omega arith)))
 
 -- the pieces counted so far, and what is left of the file
 pub record CountedSoFar (digits : ℕ) (how : Coords) (from : ℕ) (bytes : List ℕ) (at : ℕ) (counted : Counted) : Type 0 where

@@ -1,6 +1,6 @@
 //! Plain geometries without a fault: they are passed over, and what they cover isn't kept. For all others the answer is None.
 
-ghost use Rattle.std.specs.Prelude.{◌≡◌, ◌+◌, ◌<◌, ◌≤◌, ◌^◌, IsTrue, IfSome, None, length, flat_map};
+ghost use Rattle.std.specs.Prelude.{◌≡◌, ◌+◌, ◌<◌, ◌≤◌, ◌^◌, IsTrue, IfSome, None, length, take, flat_map};
 ghost use Rattle.at_geom.specs.declared.shapes.Shape.{Shape};
 ghost use Rattle.at_wkt.specs.Answers.{HasLineShape};
 ghost use Rattle.at_wkt.specs.Geometry.{SpellsArea, SpellsList, SpellsPoint, SpellsRing};
@@ -229,14 +229,16 @@ fn pass_geometry(text: &[u8], at: usize, rules: Rules) -> Option<usize>
     }
 }
 
-/// Whether a line is a plain geometry without a fault. For some such lines it says no.
-pub fn is_plain_line(text: &[u8], rules: Rules) -> bool
-    requires { rules.base + length text.now ≤ 2 ^ 28 }
-    ensures { IsTrue result → (shape : Shape) × HasLineShape rules.digits rules.how rules.base text.now shape }
+/// Whether the line that has the first `len` of the bytes is a plain geometry without a fault. For some such lines it says
+/// no. What stands behind the line is looked at together with its last bytes.
+pub fn is_plain_line(ahead: &[u8], len: usize, rules: Rules) -> bool
+    requires inside { len ≤ length ahead.now }
+    requires short { rules.base + length ahead.now ≤ 2 ^ 28 }
+    ensures { IsTrue result → (shape : Shape) × HasLineShape rules.digits rules.how rules.base (take len ahead.now) shape }
 {
-    let start = skip_blanks(text, 0);
-    match pass_geometry(text, start, rules) {
-        Some(end) => skip_blanks(text, end) == text.len(),
+    let start = skip_blanks(ahead, 0);
+    match pass_geometry(ahead, start, rules) {
+        Some(end) => skip_blanks(ahead, end) == len,
         None => false,
     }
 }

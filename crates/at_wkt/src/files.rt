@@ -1,8 +1,8 @@
-ghost use Rattle.std.specs.Prelude.{◌≡◌, ◌==◌, ◌&&◌, ◌-◌, nat_lt, slice_index, ◌+◌, ◌^◌, ◌<◌, ◌≤◌, Some, None, Ok, Err, List, [], ◌∷◌, ◌++◌, drop, length, MatchResult};
+ghost use Rattle.std.specs.Prelude.{◌≡◌, ◌==◌, ◌&&◌, ◌-◌, nat_lt, slice_index, ◌+◌, ◌^◌, ◌<◌, ◌≤◌, Some, None, Ok, Err, List, [], ◌∷◌, ◌++◌, drop, length, take, MatchResult};
 ghost use Rattle.at_wkt.specs.Answers.{IfFound};
 ghost use Rattle.at_wkt.specs.Files.{HasFileFault, TheFileFault};
 ghost use Rattle.at_wkt.specs.declared.answers.LineFault.TheVariants.{Memory as NoMemory};
-ghost use Rattle.at_wkt.specs.Lines.{FileLine, lines_of, pieces_from, without_return as line_text, is_blank_text};
+ghost use Rattle.at_wkt.specs.Lines.{FileLine, lines_of, pieces_from, without_return, is_blank_text};
 ghost use Rattle.at_wkt.specs.Reading.{Counts, file_answer};
 
 use crate::answers::LineFault;
@@ -34,15 +34,15 @@ fn ends_in_return(piece: &[u8]) -> bool
     !piece.is_empty() && piece[piece.len() - 1] == b'\r'
 }
 
-/// A line without the carriage return that belongs to its end.
-pub fn without_return(piece: &[u8]) -> &[u8]
-    ensures value { result.now ≡ line_text piece.now }
-    ensures shorter { length result.now ≤ length piece.now }
+/// How many bytes of a piece are its line, without the carriage return that belongs to the line's end.
+pub fn line_len(piece: &[u8]) -> usize
+    ensures text { take result piece.now ≡ without_return piece.now }
+    ensures shorter { result ≤ length piece.now }
 {
     if ends_in_return(piece) {
-        &piece[..piece.len() - 1]
+        piece.len() - 1
     } else {
-        piece
+        piece.len()
     }
 }
 
@@ -53,27 +53,29 @@ pub fn is_blank_line(line: &[u8]) -> bool
     line.iter().all(|byte| is_blank(*byte))
 }
 
-/// The lines so far and one more piece, which begins at the offset.
+/// The lines so far and one more piece: the first `len` of the bytes ahead, which begin at the offset.
 fn count_piece(
     room: &mut Room,
     alloc: Global,
     counted: Counted,
-    piece: &[u8],
+    ahead: &[u8],
+    len: usize,
     at: u32,
     reading: Reading,
 ) -> Result<Counted, LineFault>
-    requires short { at + length piece.now ≤ 2 ^ 28 }
+    requires inside { len ≤ length ahead.now }
+    requires short { at + length ahead.now ≤ 2 ^ 28 }
     requires few { counted.count ≤ 2 ^ 28 }
     ensures { MatchResult result (λ next. (next.count ≤ counted.count + 1) × ((pieces : List FileLine)
         → Counts reading.digits reading.how pieces counted
-        → Counts reading.digits reading.how (pieces ++ record { at = at; text = piece.now } ∷ []) next))
+        → Counts reading.digits reading.how (pieces ++ record { at = at; text = take len ahead.now } ∷ []) next))
         (λ refusal. refusal ≡ NoMemory) }
 {
-    let line = without_return(piece);
-    if is_blank_line(line) {
+    let line = line_len(&ahead[..len]);
+    if is_blank_line(&ahead[..line]) {
         return Ok(counted);
     }
-    let fault = room.check_line(alloc, line, at, reading.digits, reading.how)?;
+    let fault = room.check_line(alloc, ahead, line, at, reading.digits, reading.how)?;
     Ok(Counted {
         count: counted.count + 1,
         fault: first_fault(counted.fault, fault),
@@ -104,7 +106,8 @@ fn count_from(
             &mut room,
             alloc,
             counted,
-            &bytes[at..end],
+            &bytes[at..],
+            end - at,
             at as u32,
             reading,
         )?;

@@ -1,11 +1,11 @@
 //! What is made of the lines of a file, one behind another.
 
-ghost use Rattle.std.specs.Prelude.{◌≡◌, ◌+◌, ◌≤◌, ◌^◌, false, List, [], ◌∷◌, ◌++◌, length, IfOk};
+ghost use Rattle.std.specs.Prelude.{◌≡◌, ◌+◌, ◌≤◌, ◌^◌, false, List, [], ◌∷◌, ◌++◌, length, take, IfOk};
 ghost use Rattle.std.specs.List.{list_any};
 ghost use Rattle.at_wkt.specs.Lines.{FileLine, is_line_feed, is_blank_text, lines_in};
 ghost use Rattle.at_wkt.specs.Folding.{AddsLines};
 
-use crate::files::{is_blank_line, without_return};
+use crate::files::{is_blank_line, line_len};
 use crate::rooms::Room;
 use at_text::Memory;
 use std::alloc::Global;
@@ -48,47 +48,53 @@ pub trait Fold: Sync {
             → is_fold self.now right behind → is_fold self.now part (before ++ behind)) };
 
     /// Puts one line behind those of the part, as `line` and `join` would: a fold that can do it in less has its own body.
-    /// The room serves one line after another. The one refusal is want of memory.
+    /// The line is the first `len` of the bytes ahead; those behind it may be looked at, and change nothing. The room
+    /// serves one line after another. The one refusal is want of memory.
     fn add(
         &self,
         alloc: Global,
         _room: &mut Room,
         part: &mut Self::Part,
-        text: &[u8],
+        ahead: &[u8],
+        len: usize,
         at: u32,
     ) -> Result<(), Memory>
         requires own { is_own self.now part.old }
-        requires short { at + length text.now ≤ 2 ^ 28 }
-        requires one { list_any is_line_feed text.now ≡ false }
-        requires some { is_blank_text text.now ≡ false }
+        requires inside { len ≤ length ahead.now }
+        requires short { at + length ahead.now ≤ 2 ^ 28 }
+        requires one { list_any is_line_feed (take len ahead.now) ≡ false }
+        requires some { is_blank_text (take len ahead.now) ≡ false }
         ensures own { IfOk result (λ _. is_own self.now part.new) }
-        ensures fold { IfOk result (λ _. AddsLines (is_fold self.now) part.old (record { at = at; text = text.now } ∷ []) part.new) }
+        ensures fold { IfOk result (λ _. AddsLines (is_fold self.now) part.old (record { at = at; text = take len ahead.now } ∷ []) part.new) }
     {
-        let one = self.line(alloc, text, at)?;
+        let one = self.line(alloc, &ahead[..len], at)?;
         let before = mem::replace(part, self.none(alloc));
         *part = self.join(alloc, before, one)?;
         Ok(())
     }
 }
 
-/// Puts a piece between two line feeds behind the lines of the part; it is passed over where it has nothing but blanks.
+/// Puts a piece between two line feeds behind the lines of the part: the first `len` of the bytes ahead. It is passed over
+/// where it has nothing but blanks.
 pub fn fold_piece<F: Fold>(
     alloc: Global,
     fold: &F,
     room: &mut Room,
     part: &mut F::Part,
-    piece: &[u8],
+    ahead: &[u8],
+    len: usize,
     at: u32,
 ) -> Result<(), Memory>
-    requires short { at + length piece.now ≤ 2 ^ 28 }
-    requires one { list_any is_line_feed piece.now ≡ false }
+    requires inside { len ≤ length ahead.now }
+    requires short { at + length ahead.now ≤ 2 ^ 28 }
+    requires one { list_any is_line_feed (take len ahead.now) ≡ false }
     requires own { F.is_own fold.now part.old }
     ensures own { IfOk result (λ _. F.is_own fold.now part.new) }
-    ensures fold { IfOk result (λ _. AddsLines (F.is_fold fold.now) part.old (lines_in (record { at = at; text = piece.now } ∷ [])) part.new) }
+    ensures fold { IfOk result (λ _. AddsLines (F.is_fold fold.now) part.old (lines_in (record { at = at; text = take len ahead.now } ∷ [])) part.new) }
 {
-    let line = without_return(piece);
-    if is_blank_line(line) {
+    let line = line_len(&ahead[..len]);
+    if is_blank_line(&ahead[..line]) {
         return Ok(());
     }
-    fold.add(alloc, room, part, line, at)
+    fold.add(alloc, room, part, ahead, line, at)
 }

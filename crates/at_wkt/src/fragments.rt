@@ -57,8 +57,15 @@ fn read_inner<F: Fold>(
         if end == bytes.len() {
             return Ok(Inner { part, end: start });
         }
-        let piece = &bytes[start..end];
-        fold_piece(alloc, fold, &mut room, &mut part, piece, at + start as u32)?;
+        fold_piece(
+            alloc,
+            fold,
+            &mut room,
+            &mut part,
+            &bytes[start..],
+            end - start,
+            at + start as u32,
+        )?;
         start = end + 1;
     }
 }
@@ -148,7 +155,15 @@ fn fold_span<F: Fold>(
     let piece = &bytes[span.from as usize..span.to as usize];
     let mut room = Room::new(alloc);
     let mut both = part;
-    fold_piece(alloc, fold, &mut room, &mut both, piece, span.from)?;
+    fold_piece(
+        alloc,
+        fold,
+        &mut room,
+        &mut both,
+        piece,
+        piece.len(),
+        span.from,
+    )?;
     Ok(both)
 }
 

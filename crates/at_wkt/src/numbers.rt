@@ -71,6 +71,18 @@ pub fn read_plain_number(text: &[u8], at: usize, rules: Rules) -> Option<Coordin
     })
 }
 
+/// Passes over a number whose value is used, where one stands that is written plainly and has a value, by reading it.
+#[inline(never)]
+fn pass_read_number(text: &[u8], at: usize, rules: Rules) -> Option<usize>
+    requires inside { at ≤ length text.now }
+    requires short { rules.base + length text.now ≤ 2 ^ 28 }
+    ensures { IfSome result (λ end. (read : CoordinateRead) × (read.fault ≡ None) × ((n : Numeral) × NumberStands text.now at end n
+        × IsCoordinate rules.digits rules.how n (rules.base + at) read)) }
+{
+    let read = read_plain_number(text, at, rules)?;
+    Some(read.end)
+}
+
 /// Passes over a number whose value is used, where one stands that is written plainly and has a value; mostly without
 /// computing it.
 #[inline(always)]
@@ -82,10 +94,7 @@ pub fn pass_plain_number(text: &[u8], at: usize, rules: Rules) -> Option<usize>
 {
     match plain_len(&text[at..], Notation::Wkt, rules.digits, rules.how) {
         Some(len) => Some(at + len as usize),
-        None => {
-            let read = read_plain_number(text, at, rules)?;
-            Some(read.end)
-        }
+        None => pass_read_number(text, at, rules),
     }
 }
 

@@ -1,4 +1,4 @@
-ghost use Rattle.std.specs.Prelude.{◌≡◌, ℕ, ◌+◌, ◌≤◌, ◌^◌, length, IfOk};
+ghost use Rattle.std.specs.Prelude.{◌≡◌, ℕ, ◌+◌, ◌≤◌, ◌^◌, length, take, IfOk};
 ghost use Rattle.at_fixed.specs.declared.rounding.Coords.{Coords};
 ghost use Rattle.at_wkt.specs.Answers.{HasFaultOrShape};
 ghost use Rattle.at_wkt.specs.Reading.{IfStopped, LineStops};
@@ -38,27 +38,31 @@ impl Room {
         }
     }
 
-    /// The first fault of a line, where it has one: the fault that `read_line` tells. A plain line is passed over, and the
-    /// shape of another is let go. The one refusal is want of memory.
+    /// The first fault of a line, where it has one: the fault that `read_line` tells. The line is the first `len` of the
+    /// bytes ahead; those behind it may be looked at, and change nothing. A plain line is passed over, and the shape of
+    /// another is let go. The one refusal is want of memory.
     pub fn check_line(
         &mut self,
         alloc: Global,
-        line: &[u8],
+        ahead: &[u8],
+        len: usize,
         at: u32,
         digits: u8,
         how: Coords,
     ) -> Result<Option<Fault>, Memory>
-        requires { at + length line.now ≤ 2 ^ 28 }
-        ensures { IfOk result (HasFaultOrShape digits how at line.now) }
+        requires inside { len ≤ length ahead.now }
+        requires short { at + length ahead.now ≤ 2 ^ 28 }
+        ensures { IfOk result (HasFaultOrShape digits how at (take len ahead.now)) }
     {
         let rules = Rules {
             base: at,
             digits,
             how,
         };
-        if is_plain_line(line, rules) {
+        if is_plain_line(ahead, len, rules) {
             return Ok(None);
         }
+        let line = &ahead[..len];
         clear(&mut self.gathered);
         match read_between(&mut self.gathered, alloc, line, rules) {
             Ok(()) => Ok(self.gathered.fault),

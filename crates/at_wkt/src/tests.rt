@@ -181,11 +181,18 @@ fn faulty_lines(rt: HostRuntime) -> Result<(), Fail> {
     Ok(())
 }
 
-/// What a line that begins at the offset 100 is found to be in a room that served others, with exact coordinates.
-fn told_in_room(room: &mut Room, alloc: Global, line: &[u8]) -> Result<String, AllocError>
-    requires { length line.now ≤ 2 ^ 27 }
+/// What a line that begins at the offset 100 is found to be in a room that served others, with exact coordinates. The line is
+/// the first bytes of those ahead.
+fn told_in_room(
+    room: &mut Room,
+    alloc: Global,
+    ahead: &[u8],
+    len: usize,
+) -> Result<String, AllocError>
+    requires inside { len ≤ length ahead.now }
+    requires short { length ahead.now ≤ 2 ^ 27 }
 {
-    match room.check_line(alloc, line, 100, 7, Coords::Exact) {
+    match room.check_line(alloc, ahead, len, 100, 7, Coords::Exact) {
         Ok(None) => String::from_str(alloc, "none"),
         Ok(Some(fault)) => {
             let kind = fault.kind;
@@ -219,11 +226,38 @@ fn lines_in_one_room(rt: HostRuntime) -> Result<(), Fail> {
     for row in SERVED.lines() {
         let (expected, line) = row.split_once('|').ok_or("a bar")?;
         assert!(rt; line.len() < 100);
-        let told = told_in_room(&mut room, rt.alloc(), line.as_bytes())?;
+        let told = told_in_room(&mut room, rt.alloc(), line.as_bytes(), line.len())?;
         assert_eq!(rt; told.as_str(), expected, "{line}");
         count = count.wrapping_add(1);
     }
     assert_eq!(rt; count, 14);
+    Ok(())
+}
+
+/// Lines behind which something stands that is no part of them: none or the first fault, a bar, the line, a bar, what stands
+/// behind it.
+const FOLLOWED: &str = "none|POINT (1.5 -2.25)|POINT (3.5 4.5)
+none|POINT (1.5 -2.25)| x
+none|LINESTRING (0.5 0.5,1.5 1.5)|,2 2)
+Ended 110|POINT (1 2|5)
+Ended 111|POINT (1 2 |) and more
+Ended 129|LINESTRING (0.25 -1.5,2.5 3.5|,4.5 5.5) and more
+Ended 108|POINT (1|.5 2.5) and more
+Ended 100||POINT (1.5 2.5)
+none|POLYGON ((0 0,1 0,1 1,0 0))|,(0 0,1 0,1 1,0 0))
+Syntax 111|POINT (1 2))|and more";
+
+#[test]
+fn followed_lines(rt: HostRuntime) -> Result<(), Fail> {
+    let mut room = Room::new(rt.alloc());
+    for row in FOLLOWED.lines() {
+        let (expected, both) = row.split_once('|').ok_or("a bar")?;
+        let (line, behind) = both.split_once('|').ok_or("a second bar")?;
+        let ahead = format!(in rt.alloc(); "{line}{behind}")?;
+        assert!(rt; ahead.len() < 100 && line.len() <= ahead.len());
+        let told = told_in_room(&mut room, rt.alloc(), ahead.as_bytes(), line.len())?;
+        assert_eq!(rt; told.as_str(), expected, "{row}");
+    }
     Ok(())
 }
 

@@ -1,4 +1,4 @@
-use Rattle.std.proofs.Common.{[], refl, sym, ◌∙◌, ap, ap₂, arith}
+use Rattle.std.proofs.Common.{[], ◌∙◌, ap, ap₂, arith}
 use Rattle.at_text.specs.Faults.{first_fault}
 use Rattle.at_wkt.specs.Positions.{faults_of_ring}
 use Rattle.at_wkt.specs.Geometry.{SpellsRing}
