@@ -1,5 +1,5 @@
 -- What is gathered of one line, and of joined lines.
-use Rattle.std.proofs.Common.{◌≡◌, ℕ, List, [], ◌∷◌, ◌++◌, Option, Some, None, Result, Ok, Err, refl, sym, ap, ◌∙◌, subst, append-nil, append_assoc, inl}
+use Rattle.std.proofs.Common.{◌≡◌, ℕ, List, [], ◌∷◌, ◌++◌, Option, Some, None, Result, Ok, Err, refl, sym, ap, ◌∙◌, subst, append-nil, inl}
 use Rattle.std.specs.List.{AllByRecursion}
 use Rattle.std.specs.Result.{IfOk}
 use Rattle.at_text.specs.declared.faults.Fault.{Fault}
@@ -10,10 +10,10 @@ use Rattle.at_geom.specs.declared.shapes.Shape.{Shape}
 use Rattle.at_wkt.specs.declared.answers.LineFault.{LineFault}
 use Rattle.at_wkt.specs.declared.answers.LineFault.TheVariants.{Found, Memory as NoMemory}
 use Rattle.at_wkt.specs.Answers.{IfFound, HasLineShape, HasFirstLineFault, HasFaultOrShape}
-use Rattle.at_wkt.specs.Lines.{FileLine, HaveLineFaults}
+use Rattle.at_wkt.specs.Lines.{FileLine}
 use Rattle.at_wkt.specs.Reading.{HasLineFault}
 use Rattle.at_wkt.proofs.Exits.{first_of-append}
-use Rattle.at_wkt.proofs.FileAnswers.{line_without_fault, line_with_fault}
+use Rattle.at_wkt.proofs.FileAnswers.{have_more, have_split, line_without_fault, line_with_fault}
 use Rattle.at_query.specs.declared.features.Feature.{Feature}
 use Rattle.at_query.specs.declared.parts.Part.{Part}
 use Rattle.at_query.specs.declared.parts.Part.TheVariants.{Count}
@@ -30,23 +30,13 @@ use Rattle.at_run.specs.Gathering.{Asked, IsFirstOfLines, IsOwn, IsGathered, Cou
 module _ (digits : ℕ) (how : Coords) where
   -- ---- faults
 
-  have_more : (ls ms : List FileLine) (fs gs : List Fault) → HaveLineFaults digits how ls fs → HaveLineFaults digits how ms gs → HaveLineFaults digits how (ls ++ ms) (fs ++ gs)
-  have_more [] ms fs gs e h = let P : List Fault → Type 0 = λ z. HaveLineFaults digits how ms (z ++ gs) in subst P (sym e) h
-  have_more (l ∷ ls) ms fs gs (first, others, hf, ho, e) h = (first, others ++ gs, hf, have_more ls ms others gs ho h, ap (λ z. z ++ gs) e ∙ append_assoc first others gs)
-
-  have_split : (ls ms : List FileLine) (hs : List Fault) → HaveLineFaults digits how (ls ++ ms) hs → (fs gs : List Fault) × HaveLineFaults digits how ls fs × HaveLineFaults digits how ms gs × (hs ≡ fs ++ gs)
-  have_split [] ms hs h = ([], hs, refl, h, refl)
-  have_split (l ∷ ls) ms hs (first, others, hf, ho, e) =
-      let (fs, gs, h, k, f) = have_split ls ms others ho in
-      (first ++ fs, gs, (first, fs, hf, h, refl), k, e ∙ (ap (λ z. first ++ z) f ∙ sym (append_assoc first fs gs)))
-
   pub first_joined : (ls ms : List FileLine) (a b c : Option Fault) → IsFirstOfLines digits how ls a → IsFirstOfLines digits how ms b → c ≡ first_fault a b → IsFirstOfLines digits how (ls ++ ms) c
   first_joined ls ms a b c h k e = record {
     faults = h.faults ++ k.faults;
-    have = have_more ls ms h.faults k.faults h.have k.have;
+    have = have_more digits how ls ms h.faults k.faults h.have k.have;
     first_is = e ∙ (ap (λ z. first_fault z b) h.first_is ∙ (ap (first_fault (first_of h.faults)) k.first_is ∙ sym (first_of-append h.faults k.faults)));
     only = λ others o.
-        let (fs, gs, hf, hg, eo) = have_split ls ms others o in
+        let (fs, gs, hf, hg, eo) = have_split digits how ls ms others o in
         ap first_of eo ∙ (first_of-append fs gs ∙ (ap (λ z. first_fault z (first_of gs)) (h.only fs hf) ∙ (ap (first_fault a) (k.only gs hg) ∙ sym e)));
   }
 

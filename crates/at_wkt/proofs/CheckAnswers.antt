@@ -11,7 +11,7 @@ use Rattle.at_wkt.specs.declared.positions.NumbersRead.{NumbersRead}
 use Rattle.at_wkt.specs.declared.parts.Read.{Read}
 use Rattle.at_wkt.specs.declared.parts.ItemRead.{ItemRead}
 use Rattle.at_wkt.specs.declared.checks.ListPassed.{ListPassed}
-use Rattle.at_wkt.specs.Reading.{ends_same, Grows, IsPassed, IsPassedList, IsPassedPart, PartStands, ItemStands, PositionStands, PositionsSoFar, HeadStands, IsPassedBody, IsPassedGeometry, Meaning, Spelt, joined, no_meaning, meaning_of, point_faults, line_faults}
+use Rattle.at_wkt.specs.Reading.{ends_same, Grows, IsPassed, HasCount, IsPassedList, IsPassedRow, IsPassedPart, PartStands, ItemStands, PositionStands, PositionsSoFar, HeadStands, IsPassedBody, IsPassedGeometry, Meaning, Spelt, joined, no_meaning, meaning_of, point_faults, line_faults}
 use Rattle.at_wkt.specs.declared.kinds.Head.{Head}
 use Rattle.at_wkt.specs.declared.kinds.Kind.{Kind}
 use Rattle.at_wkt.specs.declared.kinds.Kind.TheVariants.{Point, LineString, Polygon}
@@ -93,6 +93,64 @@ module _ (rules : Rules) (w : List ℕ) (i : ℕ) (c : Dimension) (first : Posit
         refl,
         positions_end rules w i c first first (first.pos ∷ []) None _ (subst Q none (positions_start rules w i c first h)) ended refl refl refl refl,
       )
+
+-- ---- positions that are only counted
+
+abbrev numbers_of : PositionRead → NumbersRead
+numbers_of read = record { is_last = read.is_last; end = read.end; dimension = read.dimension }
+
+-- so many positions stand up to the last that was passed over, none of which has a fault
+pub record RowSoFar (rules : Rules) (w : List ℕ) (i : ℕ) (c : Dimension) (passed : NumbersRead) (count : ℕ) : Type 0 where
+  pub first : PositionRead
+  pub last : PositionRead
+  pub list : List Pos
+  pub reads : PositionsSoFar rules w i c first last list None
+  pub passed_is : passed ≡ numbers_of last
+  pub count_is : length list ≡ count
+  pub few : count ≤ passed.end
+  pub within : passed.end ≤ length w
+  pub some : HasCount passed.dimension
+
+module _ (rules : Rules) (w : List ℕ) (i : ℕ) (c : Dimension) where
+  pub row_start : (passed : NumbersRead) → IsPassed rules w i c passed → RowSoFar rules w i c passed 1
+  row_start passed (first, h, none, same) = subst (λ z. RowSoFar rules w i c z 1) (sym same) (record {
+    first = first;
+    last = first;
+    list = first.pos ∷ [];
+    reads = let P : Option Fault → Type 0 = λ z. PositionsSoFar rules w i c first first (first.pos ∷ []) z in subst P none (positions_start rules w i c first h);
+    passed_is = refl;
+    count_is = refl;
+    few = omega (arith, h.longer);
+    within = h.spelt.within;
+    some = h.spelt.some;
+  })
+
+  module _ (passed : NumbersRead) (count : ℕ) (h : RowSoFar rules w i c passed count) where
+    pub row_more : passed.is_last ≡ false → (next : NumbersRead) → IsPassed rules w passed.end passed.dimension next → RowSoFar rules w i c next (count + 1)
+    row_more more next (read, s, none, same) =
+        let P : NumbersRead → Type 0 = λ z. PositionStands rules w z.end z.dimension read in
+        subst (λ z. RowSoFar rules w i c z (count + 1)) (sym same) (record {
+          first = h.first;
+          last = read;
+          list = h.list ++ (read.pos ∷ []);
+          reads = positions_more rules w i c h.first h.last read h.list (h.list ++ (read.pos ∷ [])) None None h.reads (sym (ap (λ (z : NumbersRead). z.is_last) h.passed_is) ∙ more) (subst P h.passed_is s) refl (sym (ap (first_fault None) none));
+          passed_is = refl;
+          count_is = length-append h.list (read.pos ∷ []) ∙ ap (λ z. z + 1) h.count_is;
+          few = omega (arith, h.few, s.longer);
+          within = s.spelt.within;
+          some = s.spelt.some;
+        })
+
+    pub row_end : passed.is_last ≡ true → IsPassedRow rules w i c (record { last = passed; count = count })
+    row_end ended = (
+      ends_same h.first h.last,
+      (
+        h.list,
+        h.count_is,
+        positions_end rules w i c h.first h.last h.list None _ h.reads (sym (ap (λ (z : NumbersRead). z.is_last) h.passed_is) ∙ ended) refl refl
+            (ap (λ (z : NumbersRead). z.end) h.passed_is) (ap (λ (z : NumbersRead). z.dimension) h.passed_is),
+      ),
+    )
 
 -- ---- parts of which nothing is kept
 

@@ -1,8 +1,8 @@
 -- The lines of a file counted piece by piece.
-use Rattle.std.proofs.Common.{◌≡◌, ℕ, ◌+◌, ◌-◌, ◌<◌, ◌≤◌, ◌==◌, inl, inr, Bool, true, false, not, if◌then◌else◌, ◌&&◌, nat_lt, slice_index, List, [], ◌∷◌, ◌++◌, length, map, filter, take, drop, Option, Some, None, Result, Ok, Err, refl, sym, ◌∙◌, ap, subst, arith, append-nil, append_assoc, length-append, length-take}
+use Rattle.std.proofs.Common.{◌≡◌, ℕ, ◌+◌, ◌-◌, ◌<◌, ◌≤◌, ◌==◌, inl, inr, Bool, true, false, if◌then◌else◌, ◌&&◌, nat_lt, slice_index, List, [], ◌∷◌, ◌++◌, length, take, drop, Option, Some, None, Result, Ok, Err, refl, sym, ◌∙◌, ap, subst, arith, append-nil, append_assoc, length-append, length-take}
 use Rattle.std.specs.Result.{MatchResult, IsErrAnd}
 use Rattle.std.proofs.Math.Seq.{take-length}
-use Rattle.std.proofs.lemmas.List.{map-append, take_more}
+use Rattle.std.proofs.lemmas.List.{take_more}
 use Rattle.at_text.specs.declared.faults.Fault.{Fault}
 use Rattle.at_text.specs.Faults.{first_fault, first_of}
 use Rattle.at_text.specs.Syntax.{IsSyntaxFault, stop_fault}
@@ -16,10 +16,11 @@ use Rattle.at_wkt.specs.declared.answers.LineFault.TheVariants.{Found, Memory}
 use Rattle.at_wkt.specs.declared.files.Counted.{Counted}
 use Rattle.at_wkt.specs.Meaning.{faults_of}
 use Rattle.at_wkt.specs.Answers.{IfFound, SpellsLine, HasLineShape, HasFirstLineFault, HasFaultOrShape, unspelled, faulty}
-use Rattle.at_wkt.specs.Lines.{FileLine, without_return, line_of, is_blank_text, lines_in, lines_of, pieces_from, HasLineFaults, HaveLineFaults}
+use Rattle.at_wkt.specs.Lines.{FileLine, without_return, is_blank_text, lines_in, lines_of, pieces_from, HasLineFaults, HaveLineFaults}
 use Rattle.at_wkt.specs.Files.{HasFaultBehind, HasFileFault, TheFileFault}
 use Rattle.at_wkt.specs.Reading.{HasLineFault, Counts, file_answer}
 use Rattle.at_wkt.proofs.Exits.{first_of-append}
+use Rattle.at_wkt.proofs.LineMerges.{lines_in-append}
 
 -- ---- the end of a line
 
@@ -65,25 +66,11 @@ module _ (digits : ℕ) (how : Coords) where
 
   -- ---- pieces
 
-  filter_step : {X : Type 0} (p : X → Bool) (x : X) (xs ys : List X) (t : Bool) → p x ≡ t → filter p (xs ++ ys) ≡ filter p xs ++ filter p ys → filter p ((x ∷ xs) ++ ys) ≡ filter p (x ∷ xs) ++ filter p ys
-  filter_step p x xs ys true e h = rw (e) (ap (λ z. x ∷ z) h)
-  filter_step p x xs ys false e h = rw (e) h
-
-  filter_append : {X : Type 0} (p : X → Bool) (xs ys : List X) → filter p (xs ++ ys) ≡ filter p xs ++ filter p ys
-  filter_append p [] ys = refl
-  filter_append p (x ∷ xs) ys = filter_step p x xs ys (p x) refl (filter_append p xs ys)
-
-  abbrev some_line : FileLine → Bool
-  some_line l = not (is_blank_text l.text)
-
-  lines_more : (ps qs : List FileLine) → lines_in (ps ++ qs) ≡ lines_in ps ++ lines_in qs
-  lines_more ps qs = ap (filter some_line) (map-append line_of ps qs) ∙ filter_append some_line (map line_of ps) (map line_of qs)
-
-  have_more : (ls ms : List FileLine) (fs gs : List Fault) → HaveLineFaults digits how ls fs → HaveLineFaults digits how ms gs → HaveLineFaults digits how (ls ++ ms) (fs ++ gs)
+  pub have_more : (ls ms : List FileLine) (fs gs : List Fault) → HaveLineFaults digits how ls fs → HaveLineFaults digits how ms gs → HaveLineFaults digits how (ls ++ ms) (fs ++ gs)
   have_more [] ms fs gs e h = let P : List Fault → Type 0 = λ z. HaveLineFaults digits how ms (z ++ gs) in subst P (sym e) h
   have_more (l ∷ ls) ms fs gs (first, others, hf, ho, e) h = (first, others ++ gs, hf, have_more ls ms others gs ho h, ap (λ z. z ++ gs) e ∙ append_assoc first others gs)
 
-  have_split : (ls ms : List FileLine) (hs : List Fault) → HaveLineFaults digits how (ls ++ ms) hs → (fs gs : List Fault) × HaveLineFaults digits how ls fs × HaveLineFaults digits how ms gs × (hs ≡ fs ++ gs)
+  pub have_split : (ls ms : List FileLine) (hs : List Fault) → HaveLineFaults digits how (ls ++ ms) hs → (fs gs : List Fault) × HaveLineFaults digits how ls fs × HaveLineFaults digits how ms gs × (hs ≡ fs ++ gs)
   have_split [] ms hs h = ([], hs, refl, h, refl)
   have_split (l ∷ ls) ms hs (first, others, hf, ho, e) =
       let (fs, gs, h, k, f) = have_split ls ms others ho in
@@ -96,7 +83,7 @@ module _ (digits : ℕ) (how : Coords) where
   pub counts_blank : (pieces : List FileLine) (counted : Counted) (at : ℕ) (text : List ℕ) → is_blank_text (without_return text) ≡ true → Counts digits how pieces counted → Counts digits how (pieces ++ (record { at = at; text = text } ∷ [])) counted
   counts_blank pieces counted at text blank h =
       let one : lines_in (record { at = at; text = text } ∷ []) ≡ [] = rw (blank) refl in
-      let all : lines_in (pieces ++ (record { at = at; text = text } ∷ [])) ≡ lines_in pieces = lines_more pieces (record { at = at; text = text } ∷ []) ∙ (ap (λ z. lines_in pieces ++ z) one ∙ append-nil (lines_in pieces)) in
+      let all : lines_in (pieces ++ (record { at = at; text = text } ∷ [])) ≡ lines_in pieces = lines_in-append pieces (record { at = at; text = text } ∷ []) ∙ (ap (λ z. lines_in pieces ++ z) one ∙ append-nil (lines_in pieces)) in
       record {
         faults = h.faults;
         have = subst (λ z. HaveLineFaults digits how z h.faults) (sym all) h.have;
@@ -110,7 +97,7 @@ module _ (digits : ℕ) (how : Coords) where
   counts_line pieces counted at text fault first some hl eo h =
       let line : FileLine = record { at = at; text = without_return text } in
       let one : lines_in (record { at = at; text = text } ∷ []) ≡ line ∷ [] = rw (some) refl in
-      let all : lines_in (pieces ++ (record { at = at; text = text } ∷ [])) ≡ lines_in pieces ++ (line ∷ []) = lines_more pieces (record { at = at; text = text } ∷ []) ∙ ap (λ z. lines_in pieces ++ z) one in
+      let all : lines_in (pieces ++ (record { at = at; text = text } ∷ [])) ≡ lines_in pieces ++ (line ∷ []) = lines_in-append pieces (record { at = at; text = text } ∷ []) ∙ ap (λ z. lines_in pieces ++ z) one in
       record {
         faults = h.faults ++ hl.faults;
         have = subst (λ z. HaveLineFaults digits how z (h.faults ++ hl.faults)) (sym all) (have_more (lines_in pieces) (line ∷ []) h.faults hl.faults h.have (hl.faults, [], hl.have, refl, sym (append-nil hl.faults)));

@@ -24,6 +24,7 @@ use Rattle.at_wkt.specs.declared.positions.DelimiterRead.{DelimiterRead}
 use Rattle.at_wkt.specs.declared.positions.PositionRead.{PositionRead}
 use Rattle.at_wkt.specs.declared.positions.NumbersRead.{NumbersRead}
 use Rattle.at_wkt.specs.declared.checks.ListPassed.{ListPassed}
+use Rattle.at_wkt.specs.declared.checks.RowPassed.{RowPassed}
 use Rattle.at_wkt.specs.declared.paths.Role.{Role}
 use Rattle.at_wkt.specs.declared.paths.Role.TheVariants.{Line, Ring}
 use Rattle.at_wkt.specs.declared.paths.ListRead.{ListRead}
@@ -297,6 +298,10 @@ IsEndedList rules w i c first count passed = (last : PositionRead) × PositionSt
 abbrev pub IsPassedList : Rules → List ℕ → ℕ → Dimension → ListPassed → Type 0
 IsPassedList rules w i c passed = (list : List Pos) × (length list ≡ passed.count)
     × PositionsStand rules w i c list (record { fault = None; closes = passed.closes; end = passed.end; dimension = passed.dimension })
+
+-- so many positions without a fault stand up to the closing bracket, whether they close or not
+abbrev pub IsPassedRow : Rules → List ℕ → ℕ → Dimension → RowPassed → Type 0
+IsPassedRow rules w i c row = (closes : Bool) × IsPassedList rules w i c (record { count = row.count; closes = closes; end = row.last.end; dimension = row.last.dimension })
 
 -- a line or a ring stands
 pub record PathStands (rules : Rules) (w : List ℕ) (i : ℕ) (c : Dimension) (role : Role) (read : PathRead) : Type 0 where

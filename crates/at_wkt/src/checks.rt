@@ -2,19 +2,21 @@
 
 ghost use Rattle.std.specs.Prelude.{◌≡◌, ◌+◌, ◌<◌, ◌≤◌, ◌^◌, IsTrue, IfSome, None, length, take, flat_map};
 ghost use Rattle.at_geom.specs.declared.shapes.Shape.{Shape};
+ghost use Rattle.at_wkt.specs.declared.paths.Role.TheVariants as Role;
 ghost use Rattle.at_wkt.specs.Answers.{HasLineShape};
 ghost use Rattle.at_wkt.specs.Geometry.{SpellsArea, SpellsList, SpellsPoint, SpellsRing};
 ghost use Rattle.at_wkt.specs.Meaning.{faults_of_area};
 ghost use Rattle.at_wkt.specs.Positions.{faults_of_ring};
-ghost use Rattle.at_wkt.specs.Reading.{next, ends_same, HasCount, IsEndedList, IsPassedGeometry, IsPassedBody, IsPassedItem, IsPassedList, IsPassedPart, Items, faults_of_path, line_faults, point_faults};
+ghost use Rattle.at_wkt.specs.Reading.{next, ends_same, HasCount, IsEndedList, IsPassedGeometry, IsPassedBody, IsPassedItem, IsPassedList, IsPassedRow, IsPassedPart, Items, faults_of_path, line_faults, point_faults};
 
 use crate::bytes::{skip_blanks, stands};
 use crate::dimension::Dimension;
 use crate::kinds::{Head, Kind, read_head};
 use crate::parts::{ItemRead, Read, end_item, first_item, items_read, next_item};
-use crate::paths::{Role, closes_with, path_fault};
-use crate::positions::{PositionRead, pass_position, plain_position};
+use crate::paths::closes_with;
+use crate::positions::{NumbersRead, PositionRead, pass_position, plain_position};
 use crate::rules::Rules;
+use at_geom::{line_fault, ring_fault};
 
 /// A list of positions that was passed over: how many, whether it closes, the place behind it, and how many numbers positions
 /// have.
@@ -77,7 +79,7 @@ fn pass_positions(text: &[u8], at: usize, dimension: Dimension, rules: Rules) ->
     let mut before = first.dimension;
     let mut count = 1;
     'positions: loop {
-        let passed = pass_position(text, end, before, rules)?;
+        let passed = pass_position::<4>(text, end, before, rules)?;
         if passed.is_last {
             let list = end_list(text, end, before, rules, first, count + 1)?;
             return Some(list);
@@ -88,16 +90,58 @@ fn pass_positions(text: &[u8], at: usize, dimension: Dimension, rules: Rules) ->
     }
 }
 
-/// Passes over a line or a ring from its opening bracket, which stands at the place, to its closing one.
-fn pass_path(text: &[u8], at: usize, dimension: Dimension, rules: Rules, role: Role) -> Option<Read>
+/// Positions that were passed over up to the closing bracket: the last of them, and how many.
+#[derive(Clone, Copy)]
+struct RowPassed {
+    last: NumbersRead,
+    count: u32,
+}
+
+/// Passes over positions up to the closing bracket, whether they close or not.
+fn pass_row(text: &[u8], at: usize, dimension: Dimension, rules: Rules) -> Option<RowPassed>
+    requires inside { at ≤ length text.now }
+    requires short { rules.base + length text.now ≤ 2 ^ 28 }
+    requires count { HasCount dimension }
+    ensures { IfSome result (IsPassedRow rules text.now at dimension) }
+{
+    let mut last = pass_position::<6>(text, at, dimension, rules)?;
+    let mut count = 1;
+    'positions: while !last.is_last {
+        last = pass_position::<7>(text, last.end, last.dimension, rules)?;
+        count += 1;
+    }
+    Some(RowPassed { last, count })
+}
+
+/// Passes over a line from its opening bracket, which stands at the place, to its closing one.
+fn pass_line(text: &[u8], at: usize, dimension: Dimension, rules: Rules) -> Option<Read>
     requires inside { at < length text.now }
     requires opener { next text.now at ≡ 0x28 }
     requires short { rules.base + length text.now ≤ 2 ^ 28 }
     requires count { HasCount dimension }
-    ensures { IfSome result (IsPassedPart SpellsRing (faults_of_path rules.digits rules.how role) rules.base text.now at dimension) }
+    ensures { IfSome result (IsPassedPart SpellsRing (faults_of_path rules.digits rules.how Role.Line) rules.base text.now at dimension) }
+{
+    let row = pass_row(text, at + 1, dimension, rules)?;
+    match line_fault(row.count, rules.base + at as u32) {
+        None => Some(Read {
+            fault: None,
+            end: row.last.end,
+            dimension: row.last.dimension,
+        }),
+        Some(_) => None,
+    }
+}
+
+/// Passes over a ring from its opening bracket, which stands at the place, to its closing one.
+fn pass_closed(text: &[u8], at: usize, dimension: Dimension, rules: Rules) -> Option<Read>
+    requires inside { at < length text.now }
+    requires opener { next text.now at ≡ 0x28 }
+    requires short { rules.base + length text.now ≤ 2 ^ 28 }
+    requires count { HasCount dimension }
+    ensures { IfSome result (IsPassedPart SpellsRing (faults_of_path rules.digits rules.how Role.Ring) rules.base text.now at dimension) }
 {
     let list = pass_positions(text, at + 1, dimension, rules)?;
-    match path_fault(role, list.count, list.closes, rules.base + at as u32) {
+    match ring_fault(list.count, list.closes, rules.base + at as u32) {
         None => Some(Read {
             fault: None,
             end: list.end,
@@ -118,7 +162,7 @@ fn pass_ring(text: &[u8], at: usize, dimension: Dimension, rules: Rules) -> Opti
     if !stands(text, start, b'(') {
         return None;
     }
-    let ring = pass_path(text, start, dimension, rules, Role::Ring)?;
+    let ring = pass_closed(text, start, dimension, rules)?;
     match end_item(text, ring) {
         Ok(item) => Some(item),
         Err(_) => None,
@@ -150,7 +194,7 @@ fn pass_point(text: &[u8], at: usize, dimension: Dimension, rules: Rules) -> Opt
     if !stands(text, at, b'(') {
         return None;
     }
-    let position = pass_position(text, at + 1, dimension, rules)?;
+    let position = pass_position::<5>(text, at + 1, dimension, rules)?;
     if position.is_last {
         Some(Read {
             fault: None,
@@ -172,7 +216,7 @@ fn pass_line_string(text: &[u8], at: usize, dimension: Dimension, rules: Rules) 
     if !stands(text, at, b'(') {
         return None;
     }
-    let line = pass_path(text, at, dimension, rules, Role::Line)?;
+    let line = pass_line(text, at, dimension, rules)?;
     Some(line)
 }
 

@@ -189,7 +189,7 @@ pub fn plain_position<const SITE: usize>(
 
 /// Passes over a position and its delimiter where its numbers have values and one space stands between them.
 #[inline(always)]
-pub fn pass_position(
+pub fn pass_position<const SITE: usize>(
     text: &[u8],
     at: usize,
     dimension: Dimension,

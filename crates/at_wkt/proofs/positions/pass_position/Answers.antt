@@ -7,7 +7,7 @@ use Rattle.at_wkt.proofs.PlainAnswers.{one_skipped, space_skipped}
 use Rattle.at_wkt.proofs.positions.pass_position.Goals as goal
 
 pub returns-in-Ok : goal.returns-in-Ok
-returns-in-Ok c =
+returns-in-Ok g c =
     let w = c.args.text.now in
     let (rx, none, (n, stands, is)) = c.in_ok-x.ensures in
     let (ry, none2, (m, stands2, is2)) = c.in_ok-y.ensures in

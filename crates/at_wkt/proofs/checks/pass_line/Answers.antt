@@ -1,0 +1,13 @@
+use Rattle.std.proofs.Common.{◌+◌, None, refl, sym, ◌∙◌, ap}
+use Rattle.at_wkt.specs.declared.paths.Role.TheVariants.{Line}
+use Rattle.at_wkt.specs.Reading.{fault_of_path}
+use Rattle.at_wkt.proofs.PathAnswers.{path_passed}
+use Rattle.at_wkt.proofs.checks.pass_line.Goals as goal
+
+pub returns-in-None : goal.returns-in-None
+returns-in-None c =
+    let (closes, (list, count, stands)) = c.in_ok-row.ensures in (
+      refl,
+      path_passed c.args.rules c.args.text.now c.args.at c.args.dimension c.requires.inside c.requires.opener Line list _ _ stands None
+          (sym c.in-None.is ∙ (c.line_fault.ensures ∙ ap (λ z. fault_of_path Line z closes (c.args.rules.base + c.args.at)) (sym count))) refl refl refl,
+    )
