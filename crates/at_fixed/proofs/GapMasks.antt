@@ -11,7 +11,11 @@ use lib.Lanes.{chunk, mask_l, top}
 use Rattle.at_text.specs.Texts.{is_digit}
 use Rattle.at_fixed.specs.Numerals.{AreDigits}
 use Rattle.at_fixed.specs.Kept.{part}
-use Rattle.at_fixed.specs.Scans.{EndsRun}
+use Rattle.at_fixed.specs.Scans.{EndsRun, ReadsSign}
+use Rattle.at_fixed.specs.declared.notation.Notation.{Notation}
+use Rattle.at_fixed.specs.declared.notation.Notation.TheVariants.{Json, Wkt}
+use Rattle.at_fixed.specs.declared.scanning.Sign.{Sign}
+use Rattle.at_fixed.specs.States.{is_lead_sign}
 use Rattle.at_fixed.specs.Gaps.{MarksGaps, MarksGapsFrom, IsClearFrom, IsClearedTo, IsFirstSet}
 use Rattle.at_fixed.proofs.EightDigits.{run_digits}
 
@@ -129,18 +133,33 @@ each_first : (w : List ℕ) (count gaps k : ℕ) → MarksGaps w 0 count gaps �
 each_first w count gaps k marks before = let P : ℕ → Type 0 = λ n. bit_at gaps k ≡ bit (is_digit (slice_index w n)) in subst P (omega arith) (marks.each k before)
 
 -- a sign takes the first place, or none does
-pub marks_behind : (w : List ℕ) (count gaps sign : ℕ) → MarksGaps w 0 count gaps → bit_at gaps 0 ≡ sign → sign ≤ 1 → MarksGapsFrom w count sign (gaps - sign)
+marks_behind : (w : List ℕ) (count gaps sign : ℕ) → MarksGaps w 0 count gaps → (sign ≡ 1 → bit_at gaps 0 ≡ 1) → sign ≤ 1 → MarksGapsFrom w count sign (gaps - sign)
 marks_behind w count gaps zero marks first few =
     let none : gaps - 0 ≡ gaps = omega arith in
     let P : ℕ → Type 0 = λ n. MarksGapsFrom w count 0 n in
     subst P (sym none) (record { each = λ k after before. each_first w count gaps k marks before; clear = λ k less. absurd (omega (arith, less)); small = marks.small })
 marks_behind w count gaps (suc zero) marks first few = record {
-  each = λ k after before. less_above gaps 0 first (λ i less. absurd (omega (arith, less))) k after ∙ each_first w count gaps k marks before;
+  each = λ k after before. less_above gaps 0 (first refl) (λ i less. absurd (omega (arith, less))) k after ∙ each_first w count gaps k marks before;
   clear = λ k less. let same : 0 ≡ k = omega (arith, less) in
-      let P : ℕ → Type 0 = λ z. bit_at (gaps - 1) z ≡ 0 in subst P same (less_here gaps 0 first (λ i none. absurd (omega (arith, none))));
+      let P : ℕ → Type 0 = λ z. bit_at (gaps - 1) z ≡ 0 in subst P same (less_here gaps 0 (first refl) (λ i none. absurd (omega (arith, none))));
   small = omega (arith, marks.small);
 }
 marks_behind w count gaps (suc (suc n)) marks first few = absurd (omega (arith, few))
+
+sign_no_digit : (g : Notation) (b : ℕ) → is_lead_sign g b ≡ true → is_digit b ≡ false
+sign_no_digit Json b h = grind (arith, h)
+sign_no_digit Wkt b h = grind (arith, h)
+
+-- behind the sign that a number may have
+pub marks_behind_sign : (g : Notation) (w : List ℕ) (count gaps : ℕ) (sign : Sign) → 0 < count → MarksGaps w 0 count gaps → ReadsSign g w 0 sign → MarksGapsFrom w count sign.end (gaps - sign.end) × (sign.end ≤ gaps)
+marks_behind_sign g w count gaps sign some marks (inl (e, m, h)) =
+    let P : ℕ → Type 0 = λ n. MarksGapsFrom w count n (gaps - n) × (n ≤ gaps) in subst P (sym e) (marks_behind w count gaps 0 marks (λ none. absurd (cc)) (omega arith), omega arith)
+marks_behind_sign g w count gaps sign some marks (inr (e, inside, lead, m)) =
+    let first : bit_at gaps 0 ≡ 1 = each_first w count gaps 0 marks some ∙ ap bit (sign_no_digit g (slice_index w 0) lead) in
+    let P : ℕ → Type 0 = λ n. MarksGapsFrom w count n (gaps - n) × (n ≤ gaps) in subst P (sym e) (marks_behind w count gaps 1 marks (λ one. first) (omega arith), odd_some gaps first) where
+      odd_some : (n : ℕ) → bit_at n 0 ≡ 1 → 1 ≤ n
+      odd_some zero h = absurd (cc (sym (bit_at-zero 0) ∙ h))
+      odd_some (suc n) h = omega arith
 
 -- behind the first place that is marked
 pub marks_further : (w : List ℕ) (count from gaps place rest : ℕ) → MarksGapsFrom w count from gaps → IsFirstSet gaps 0 place → from ≤ place → IsClearedTo gaps place rest → rest ≤ gaps → MarksGapsFrom w count (place + 1) rest

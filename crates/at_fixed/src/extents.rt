@@ -2,7 +2,7 @@
 
 ghost use Rattle.std.specs.Prelude.{◌≡◌, ◌+◌, ◌^◌, ◌<◌, ◌≤◌, IfSome, IsTrue, length, slice_index};
 ghost use Rattle.at_fixed.specs.Gaps.{IsFirstSet, MarksGaps, MarksGapsFrom};
-ghost use Rattle.at_fixed.specs.Scans.{EndsRun, IsExtent, IsLead, SurelyFits};
+ghost use Rattle.at_fixed.specs.Scans.{EndsRun, IsExtent, IsLead, ReadsSign, SurelyFits};
 ghost use Rattle.at_fixed.specs.Scanned.{IsValued};
 ghost use Rattle.at_fixed.specs.States.{is_letter};
 
@@ -22,19 +22,14 @@ pub struct Extent {
     pub fraction: usize,
 }
 
-/// The marks behind the sign that a number may have: none where its first byte is neither a sign nor a digit.
+/// The marks behind the sign that a number may have. A sign is marked itself, by the lowest bit, since it is no digit.
 #[inline(always)]
-fn behind_sign(text: &[u8], gaps: u64, sign: Sign) -> Option<u64>
+fn behind_sign(gaps: u64, text: &[u8], sign: Sign, notation: Notation) -> u64
     requires gaps { MarksGaps text.now 0 32 gaps }
-    requires few { sign.end ≤ 1 }
-    ensures { IfSome result (MarksGapsFrom text.now 32 sign.end) }
+    requires sign { ReadsSign notation text.now 0 sign }
+    ensures { MarksGapsFrom text.now 32 sign.end result }
 {
-    let first = sign.end as u64;
-    if gaps & 1 == first {
-        Some(gaps - first)
-    } else {
-        None
-    }
+    gaps - sign.end as u64
 }
 
 /// Where the digits end that stand from a place on, within the first thirty-two bytes.
@@ -91,7 +86,7 @@ fn extent_of(text: &[u8], notation: Notation) -> Option<Extent>
     ensures { IfSome result (IsExtent notation text.now) }
 {
     let sign = read_sign(text, 0, notation);
-    let gaps = behind_sign(text, first_gaps(text), sign)?;
+    let gaps = behind_sign(first_gaps(text), text, sign, notation);
     let end = lead_end(text, gaps, sign.end, notation)?;
     if text[end] == b'.' {
         let pointed = pointed_extent(text, without_first(gaps), end)?;
@@ -110,8 +105,13 @@ fn surely_fits(extent: Extent, digits: u8, how: Coords) -> bool
     requires few { extent.end ≤ 2 ^ 28 }
     ensures { IsTrue result → SurelyFits extent.end extent.fraction digits how }
 {
-    extent.end - extent.fraction + digits as usize <= 14
-        && (matches!(how, Coords::Round) || extent.fraction <= digits as usize)
+    if extent.end - extent.fraction + digits as usize > 14 {
+        return false;
+    }
+    match how {
+        Coords::Exact => extent.fraction <= digits as usize,
+        Coords::Round => true,
+    }
 }
 
 /// Whether the letter of an exponent stands at a place of the text.

@@ -130,12 +130,26 @@ pub struct PositionRead {
     pub dimension: Dimension,
 }
 
-/// The place behind the space that may stand at a place.
+/// The place behind a byte of the text. Out of line, so that what leads to it stays a branch.
+#[inline(never)]
+fn behind_byte(text: &[u8], at: usize) -> usize
+    requires { at < length text.now }
+    ensures { result ≡ at + 1 }
+{
+    at + 1
+}
+
+/// The place behind the space that may stand at a place. All over a file it mostly stands or mostly doesn't, and a place that is
+/// computed from the byte would make the next number wait for it.
 #[inline(always)]
 fn skip_space(text: &[u8], at: usize) -> usize
     ensures { ((result ≡ at + 1) × (next text.now at ≡ 0x20)) ⊎ (result ≡ at) }
 {
-    if stands(text, at, b' ') { at + 1 } else { at }
+    if stands(text, at, b' ') {
+        behind_byte(text, at)
+    } else {
+        at
+    }
 }
 
 /// Reads what stands behind the second number of a position.

@@ -1,10 +1,6 @@
-use Rattle.std.proofs.Common.{◌≡◌, arith}
-use Rattle.std.specs.Int.{bit_at}
-use Rattle.std.proofs.lemmas.Nat.Bits.{and_pow}
-use Rattle.at_fixed.proofs.GapMasks.{marks_behind}
+use Rattle.std.proofs.Common.{lit<}
+use Rattle.at_fixed.proofs.GapMasks.{marks_behind_sign}
 use Rattle.at_fixed.proofs.extents.behind_sign.Goals as goal
 
-pub returns-then-gaps-first : goal.returns-then-gaps-first
-returns-then-gaps-first c =
-    let first : bit_at c.args.gaps 0 ≡ c.args.sign.end = omega (arith, and_pow c.args.gaps 0, c.if-gaps-first.true) in
-    marks_behind c.args.text.now 32 c.args.gaps c.args.sign.end c.requires.gaps first c.requires.few
+pub returns : goal.returns
+returns c = (marks_behind_sign c.args.notation c.args.text.now 32 c.args.gaps c.args.sign (lit< tt) c.requires.gaps c.requires.sign).0
