@@ -24,8 +24,8 @@ pub struct Gathered {
     pub lines: Vec<Path>,
     pub polygons: Vec<Polygon>,
     pub fault: Option<Fault>,
-    /// Room for the positions of the line or ring that is read.
-    pub list: Vec<Pos>,
+    /// How many positions the line or ring has that was read last: the next one is expected to have as many.
+    pub expected: usize,
 }
 
 /// Forgets what was gathered, and keeps its room.
@@ -70,7 +70,7 @@ fn read_body(
         Kind::LineString => read_line_string(
             &mut gathered.lines,
             alloc,
-            &mut gathered.list,
+            &mut gathered.expected,
             text,
             head.end,
             head.dimension,
@@ -79,7 +79,7 @@ fn read_body(
         Kind::Polygon => read_polygon(
             &mut gathered.polygons,
             alloc,
-            &mut gathered.list,
+            &mut gathered.expected,
             text,
             head.end,
             head.dimension,
@@ -95,7 +95,7 @@ fn read_body(
         Kind::MultiLineString => read_line_strings(
             &mut gathered.lines,
             alloc,
-            &mut gathered.list,
+            &mut gathered.expected,
             text,
             head.end,
             head.dimension,
@@ -104,7 +104,7 @@ fn read_body(
         Kind::MultiPolygon => read_polygons(
             &mut gathered.polygons,
             alloc,
-            &mut gathered.list,
+            &mut gathered.expected,
             text,
             head.end,
             head.dimension,

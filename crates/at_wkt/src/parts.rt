@@ -102,7 +102,7 @@ pub fn read_point(
 fn read_added(
     paths: &mut Vec<Path>,
     alloc: Global,
-    list: &mut Vec<Pos>,
+    expected: &mut usize,
     text: &[u8],
     at: usize,
     dimension: Dimension,
@@ -117,7 +117,7 @@ fn read_added(
         (Grows (added_path rules.digits rules.how) paths.old.items paths.new.items) rules.base text.now at dimension)
         (λ halt. IfStopped halt (Stuck SpellsRing rules.base text.now at dimension)) }
 {
-    let read = read_path(alloc, list, text, at, dimension, rules, role)?;
+    let read = read_path(alloc, expected, text, at, dimension, rules, role)?;
     paths.push(Path::from_vec(read.path))?;
     Ok(Read {
         fault: read.fault,
@@ -130,7 +130,7 @@ fn read_added(
 pub fn read_line_string(
     lines: &mut Vec<Path>,
     alloc: Global,
-    list: &mut Vec<Pos>,
+    expected: &mut usize,
     text: &[u8],
     at: usize,
     dimension: Dimension,
@@ -144,7 +144,16 @@ pub fn read_line_string(
         (λ halt. IfStopped halt (Stuck SpellsList rules.base text.now at dimension)) }
 {
     if stands(text, at, b'(') {
-        read_added(lines, alloc, list, text, at, dimension, rules, Role::Line)
+        read_added(
+            lines,
+            alloc,
+            expected,
+            text,
+            at,
+            dimension,
+            rules,
+            Role::Line,
+        )
     } else {
         read_nothing(text, at, dimension)
     }
@@ -170,7 +179,7 @@ pub fn end_item(text: &[u8], read: Read) -> Result<ItemRead, Halt>
 fn read_ring(
     rings: &mut Vec<Path>,
     alloc: Global,
-    list: &mut Vec<Pos>,
+    expected: &mut usize,
     text: &[u8],
     at: usize,
     dimension: Dimension,
@@ -190,7 +199,7 @@ fn read_ring(
     let ring = read_added(
         rings,
         alloc,
-        list,
+        expected,
         text,
         start,
         dimension,
@@ -239,7 +248,7 @@ pub fn items_read(last: ItemRead) -> Read
 fn read_rings(
     rings: &mut Vec<Path>,
     alloc: Global,
-    list: &mut Vec<Pos>,
+    expected: &mut usize,
     text: &[u8],
     at: usize,
     dimension: Dimension,
@@ -254,7 +263,15 @@ fn read_rings(
 {
     let mut last = first_item(at, dimension);
     'rings: while !last.is_last {
-        let ring = read_ring(rings, alloc, list, text, last.end, last.dimension, rules)?;
+        let ring = read_ring(
+            rings,
+            alloc,
+            expected,
+            text,
+            last.end,
+            last.dimension,
+            rules,
+        )?;
         last = next_item(last, ring);
     }
     Ok(items_read(last))
@@ -264,7 +281,7 @@ fn read_rings(
 fn read_area(
     polygons: &mut Vec<Polygon>,
     alloc: Global,
-    list: &mut Vec<Pos>,
+    expected: &mut usize,
     text: &[u8],
     at: usize,
     dimension: Dimension,
@@ -278,7 +295,7 @@ fn read_area(
         (λ halt. IfStopped halt (Stuck (Items SpellsRing) rules.base text.now at dimension)) }
 {
     let mut rings = Vec::new(alloc);
-    let read = read_rings(&mut rings, alloc, list, text, at, dimension, rules)?;
+    let read = read_rings(&mut rings, alloc, expected, text, at, dimension, rules)?;
     polygons.push(Polygon {
         rings: Paths::from_vec(rings),
     })?;
@@ -289,7 +306,7 @@ fn read_area(
 pub fn read_polygon(
     polygons: &mut Vec<Polygon>,
     alloc: Global,
-    list: &mut Vec<Pos>,
+    expected: &mut usize,
     text: &[u8],
     at: usize,
     dimension: Dimension,
@@ -303,7 +320,7 @@ pub fn read_polygon(
         (λ halt. IfStopped halt (Stuck SpellsArea rules.base text.now at dimension)) }
 {
     if stands(text, at, b'(') {
-        read_area(polygons, alloc, list, text, at + 1, dimension, rules)
+        read_area(polygons, alloc, expected, text, at + 1, dimension, rules)
     } else {
         read_nothing(text, at, dimension)
     }
@@ -414,7 +431,7 @@ pub fn read_points(
 fn read_line_member(
     lines: &mut Vec<Path>,
     alloc: Global,
-    list: &mut Vec<Pos>,
+    expected: &mut usize,
     text: &[u8],
     at: usize,
     dimension: Dimension,
@@ -428,7 +445,7 @@ fn read_line_member(
         (λ halt. IfStopped halt (Stuck (Item SpellsList) rules.base text.now at dimension)) }
 {
     let start = skip_blanks(text, at);
-    let line = read_line_string(lines, alloc, list, text, start, dimension, rules)?;
+    let line = read_line_string(lines, alloc, expected, text, start, dimension, rules)?;
     end_item(text, line)
 }
 
@@ -436,7 +453,7 @@ fn read_line_member(
 fn read_line_members(
     lines: &mut Vec<Path>,
     alloc: Global,
-    list: &mut Vec<Pos>,
+    expected: &mut usize,
     text: &[u8],
     at: usize,
     dimension: Dimension,
@@ -451,7 +468,15 @@ fn read_line_members(
 {
     let mut last = first_item(at, dimension);
     'members: while !last.is_last {
-        let member = read_line_member(lines, alloc, list, text, last.end, last.dimension, rules)?;
+        let member = read_line_member(
+            lines,
+            alloc,
+            expected,
+            text,
+            last.end,
+            last.dimension,
+            rules,
+        )?;
         last = next_item(last, member);
     }
     Ok(items_read(last))
@@ -461,7 +486,7 @@ fn read_line_members(
 pub fn read_line_strings(
     lines: &mut Vec<Path>,
     alloc: Global,
-    list: &mut Vec<Pos>,
+    expected: &mut usize,
     text: &[u8],
     at: usize,
     dimension: Dimension,
@@ -475,7 +500,7 @@ pub fn read_line_strings(
         (λ halt. IfStopped halt (Stuck (λ d ls. EmptyOrParted (SpellsList d) ls) rules.base text.now at dimension)) }
 {
     if stands(text, at, b'(') {
-        read_line_members(lines, alloc, list, text, at + 1, dimension, rules)
+        read_line_members(lines, alloc, expected, text, at + 1, dimension, rules)
     } else {
         read_nothing(text, at, dimension)
     }
@@ -485,7 +510,7 @@ pub fn read_line_strings(
 fn read_polygon_member(
     polygons: &mut Vec<Polygon>,
     alloc: Global,
-    list: &mut Vec<Pos>,
+    expected: &mut usize,
     text: &[u8],
     at: usize,
     dimension: Dimension,
@@ -499,7 +524,7 @@ fn read_polygon_member(
         (λ halt. IfStopped halt (Stuck (Item SpellsArea) rules.base text.now at dimension)) }
 {
     let start = skip_blanks(text, at);
-    let polygon = read_polygon(polygons, alloc, list, text, start, dimension, rules)?;
+    let polygon = read_polygon(polygons, alloc, expected, text, start, dimension, rules)?;
     end_item(text, polygon)
 }
 
@@ -507,7 +532,7 @@ fn read_polygon_member(
 fn read_polygon_members(
     polygons: &mut Vec<Polygon>,
     alloc: Global,
-    list: &mut Vec<Pos>,
+    expected: &mut usize,
     text: &[u8],
     at: usize,
     dimension: Dimension,
@@ -525,7 +550,7 @@ fn read_polygon_members(
         let member = read_polygon_member(
             polygons,
             alloc,
-            list,
+            expected,
             text,
             last.end,
             last.dimension,
@@ -540,7 +565,7 @@ fn read_polygon_members(
 pub fn read_polygons(
     polygons: &mut Vec<Polygon>,
     alloc: Global,
-    list: &mut Vec<Pos>,
+    expected: &mut usize,
     text: &[u8],
     at: usize,
     dimension: Dimension,
@@ -554,7 +579,7 @@ pub fn read_polygons(
         (λ halt. IfStopped halt (Stuck (λ d areas. EmptyOrParted (SpellsArea d) areas) rules.base text.now at dimension)) }
 {
     if stands(text, at, b'(') {
-        read_polygon_members(polygons, alloc, list, text, at + 1, dimension, rules)
+        read_polygon_members(polygons, alloc, expected, text, at + 1, dimension, rules)
     } else {
         read_nothing(text, at, dimension)
     }

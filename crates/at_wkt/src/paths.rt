@@ -1,4 +1,4 @@
-ghost use Rattle.std.specs.Prelude.{◌≡◌, ◌+◌, ◌<◌, ◌≤◌, ◌^◌, ◌&&◌, ◌||◌, not, is_none, length, MatchResult};
+ghost use Rattle.std.specs.Prelude.{◌≡◌, ◌+◌, ◌<◌, ◌≤◌, ◌^◌, ◌&&◌, ◌||◌, [], not, is_none, length, MatchResult};
 ghost use Rattle.std.specs.Ordering.{int_eq};
 ghost use Rattle.at_text.specs.Faults.{first_fault as the_first};
 ghost use Rattle.at_wkt.specs.Geometry.{SpellsPosition, SpellsRing};
@@ -61,28 +61,28 @@ pub fn add_fault(before: Option<Fault>, fault: Option<Fault>) -> Option<Fault>
     }
 }
 
-/// Reads positions up to the closing bracket, in place of what the list holds.
+/// Reads positions up to the closing bracket into a path that has none.
 fn read_positions(
-    list: &mut Vec<Pos>,
+    path: &mut Vec<Pos>,
     text: &[u8],
     at: usize,
     dimension: Dimension,
     rules: Rules,
 ) -> Result<ListRead, Halt>
+    requires none { path.old.items ≡ [] }
     requires inside { at ≤ length text.now }
     requires short { rules.base + length text.now ≤ 2 ^ 28 }
     requires count { HasCount dimension }
-    ensures { MatchResult result (PositionsStand rules text.now at dimension list.new.items)
+    ensures { MatchResult result (PositionsStand rules text.now at dimension path.new.items)
         (λ halt. IfStopped halt (Stuck (Items SpellsPosition) rules.base text.now at dimension)) }
 {
     let first = read_position::<0>(text, at, dimension, rules)?;
-    list.clear();
-    list.push(first.pos)?;
+    path.push(first.pos)?;
     let mut last = first;
     let mut fault = first.fault;
     'positions: while !last.is_last {
         last = read_position::<1>(text, last.end, last.dimension, rules)?;
-        list.push(last.pos)?;
+        path.push(last.pos)?;
         fault = add_fault(fault, last.fault);
     }
     Ok(ListRead {
@@ -103,11 +103,11 @@ pub fn path_fault(role: Role, count: u32, closes: bool, at: u32) -> Option<Fault
     }
 }
 
-/// Reads a line or a ring from its opening bracket, which stands at the place, to its closing one. The list is room for its
-/// positions while they are read; the path takes as much memory as they need.
+/// Reads a line or a ring from its opening bracket, which stands at the place, to its closing one. It first takes room for as
+/// many positions as are expected, which are those that the path before had.
 pub fn read_path(
     alloc: Global,
-    list: &mut Vec<Pos>,
+    expected: &mut usize,
     text: &[u8],
     at: usize,
     dimension: Dimension,
@@ -121,11 +121,12 @@ pub fn read_path(
     ensures { MatchResult result (PathStands rules text.now at dimension role)
         (λ halt. IfStopped halt (Stuck SpellsRing rules.base text.now at dimension)) }
 {
-    let read = read_positions(list, text, at + 1, dimension, rules)?;
-    let positions = list.as_slice();
+    let mut path = Vec::with_capacity(alloc, *expected)?;
+    let read = read_positions(&mut path, text, at + 1, dimension, rules)?;
+    let positions = path.as_slice();
     let count = positions.len() as u32;
+    *expected = positions.len();
     let own = path_fault(role, count, read.closes, rules.base + at as u32);
-    let path = Vec::from_slice(alloc, positions)?;
     Ok(PathRead {
         path,
         fault: first_fault(own, read.fault),

@@ -25,7 +25,7 @@ pub fn nothing_gathered(alloc: Global) -> Gathered
         lines: Vec::new(alloc),
         polygons: Vec::new(alloc),
         fault: None,
-        list: Vec::new(alloc),
+        expected: 0,
     }
 }
 
