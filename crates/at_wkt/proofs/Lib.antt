@@ -27,4 +27,8 @@ pub mod CheckAnswers
 pub mod LinePieces
 pub mod LineFronts
 pub mod LineMerges
+pub mod Agreement
+pub mod OneBody
+pub mod OneGeometry
+pub mod OneFile
 mod Examples

@@ -155,7 +155,7 @@ KindWord d k = AnyCase (word_of k)
 no_more : (v : List ℕ) (x : ℕ) (xs : List ℕ) → v ≡ v ++ (x ∷ xs) → ⊥
 no_more v x xs e = omega (arith, ap length e, length-append v (x ∷ xs))
 
-kind_only : (k m : Kind) (v u r s : List ℕ) → capitals u ≡ word_of k → capitals v ≡ word_of m → v ++ r ≡ u ++ s → (m ≡ k) × (v ≡ u)
+pub kind_only : (k m : Kind) (v u r s : List ℕ) → capitals u ≡ word_of k → capitals v ≡ word_of m → v ++ r ≡ u ++ s → (m ≡ k) × (v ≡ u)
 kind_only k m v u r s eu ev e = elim (append_cases v r u s e) [
   | inl (same, rest) ↦ (sym (kind_from k m [] (sym ev ∙ (ap capitals same ∙ (eu ∙ sym (append-nil (word_of k)))))), same)
   | inr (inl (x, xs, f, g)) ↦ absurd (
