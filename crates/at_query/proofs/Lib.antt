@@ -15,3 +15,6 @@ pub mod TestLists
 pub mod QueryParts
 pub mod QueryRanges
 pub mod Exits
+pub mod OneAnswer
+pub mod OneQuery
+pub mod OneSpelled

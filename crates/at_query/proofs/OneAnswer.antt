@@ -1,0 +1,36 @@
+-- A query over a list of features has one answer and one part: laws of the definitions, which no function's contract is needed for.
+use Rattle.std.proofs.Common.{◌≡◌, inl, inr, List, [], ◌∷◌, map, sym, ◌∙◌, ap}
+use Rattle.at_query.specs.declared.queries.Query.{Query}
+use Rattle.at_query.specs.declared.features.Feature.{Feature}
+use Rattle.at_query.specs.declared.answers.Answer.{Answer}
+use Rattle.at_query.specs.declared.answers.Answer.TheVariants as answers
+use Rattle.at_query.specs.declared.parts.Part.{Part}
+use Rattle.at_query.specs.declared.parts.Part.TheVariants.{Offsets, Count, Area, Spread, Entries}
+use Rattle.at_query.specs.Holding.{Holds}
+use Rattle.at_query.specs.Results.{Keeps, asked_of, IsResult, pairs_of, Joins, at_pair, IsJoined}
+use Rattle.at_query.specs.Parts.{kept_of, IsPart, IsSaid}
+
+-- whatever the property is, it keeps one list of the elements of a list
+pub one_kept : {X : Type 0} (P : X → Type 0) (xs ys zs : List X) → Keeps P xs ys → Keeps P xs zs → ys ≡ zs
+one_kept P [] ys zs h k = h ∙ sym k
+one_kept P (x ∷ xs) ys zs (inl (p, (us, e, h))) (inl (q, (vs, f, k))) = e ∙ (ap (λ l. x ∷ l) (one_kept P xs us vs h k) ∙ sym f)
+one_kept P (x ∷ xs) ys zs (inl (p, h)) (inr (n, k)) = absurd (n p)
+one_kept P (x ∷ xs) ys zs (inr (n, h)) (inl (q, k)) = absurd (n q)
+one_kept P (x ∷ xs) ys zs (inr (n, h)) (inr (m, k)) = one_kept P xs ys zs h k
+
+pub one_result : (query : Query) (fs : List Feature) (a b : Answer) → IsResult query fs a → IsResult query fs b → a ≡ b
+one_result query fs a b (ys, h, e) (zs, k, f) = e ∙ (ap (asked_of query.verb) (one_kept (Holds query) fs ys zs h k) ∙ sym f)
+
+pub one_part : (query : Query) (fs : List Feature) (a b : Part) → IsPart query fs a → IsPart query fs b → a ≡ b
+one_part query fs a b (ys, h, e) (zs, k, f) = e ∙ (ap (kept_of query.verb) (one_kept (Holds query) fs ys zs h k) ∙ sym f)
+
+pub one_join : (query : Query) (fs gs : List Feature) (a b : Answer) → IsJoined query fs gs a → IsJoined query fs gs b → a ≡ b
+one_join query fs gs a b (ys, h, e) (zs, k, f) = e ∙ (ap (λ ps. answers.Pairs (map at_pair ps)) (one_kept (Joins query) (pairs_of fs gs) ys zs h k) ∙ sym f)
+
+-- and a part says one answer
+pub one_said : (part : Part) (a b : Answer) → IsSaid part a → IsSaid part b → a ≡ b
+one_said (Offsets x) a b e f = e ∙ sym f
+one_said (Count x) a b e f = e ∙ sym f
+one_said (Area x) a b e f = e ∙ sym f
+one_said (Spread x) a b e f = e ∙ sym f
+one_said (Entries x) a b e f = absurd e
