@@ -7,3 +7,4 @@ pub mod Covered
 pub mod LineSizes
 pub mod FileSizes
 pub mod Results
+pub mod OneAnswer
