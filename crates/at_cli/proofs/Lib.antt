@@ -1,8 +1,10 @@
+mod Examples
 pub mod Growth
 pub mod Runs
 pub mod Prefixes
 pub mod Spelled
 pub mod OneLine
+pub mod OneOutcome
 pub mod Numbers
 pub mod FileNames
 pub mod FlagLaws

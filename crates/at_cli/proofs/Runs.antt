@@ -108,6 +108,15 @@ pub told_prefix_of : (Has : Files → Outcome → Type 0) (files : Option Files)
     → IfSome files (λ told. Has told (answered (text_of e)))
 told_prefix_of Has files e status ends tells four = told_prefix Has files e status ends tells four (never_four e)
 
+-- the status is that of what holds of the end, but for a failed shelf, a failed output and want of memory
+pub told_complete : (Has : Files → Outcome → Type 0) (files : Option Files) (e : Ending) (status : ℕ) → Ends Has files e → (status ≡ status_of e) ⊎ ((status ≡ 4) × (status_of e ≡ 0))
+    → (status ≡ 3) ⊎ ((status ≡ 4) ⊎ ((status ≡ 5) ⊎ IfSome files (λ told. (outcome : Outcome) × Has told outcome × (status ≡ outcome.status))))
+told_complete Has files e status ends (inr (four, zero)) = inr (inl four)
+told_complete Has files e status (inl three) (inl same) = inl (same ∙ three)
+told_complete Has files e status (inr (inl five)) (inl same) = inr (inr (inl (same ∙ five)))
+told_complete Has None e status (inr (inr h)) (inl same) = inr (inr (inr tt))
+told_complete Has (Some told) e status (inr (inr h)) (inl same) = inr (inr (inr (outcome_by e, h, same)))
+
 -- a status of a refusal is told as it is
 pub told_refusal : (status own : ℕ) → (status ≡ own) ⊎ ((status ≡ 4) × (own ≡ 0)) → (own ≡ 2) ⊎ (own ≡ 5) → (status ≡ 2) ⊎ (status ≡ 5)
 told_refusal status own (inl same) (inl two) = inl (same ∙ two)

@@ -92,6 +92,11 @@ SayNoLine words = (line : Line) → SaysLine words line → ⊥
 abbrev pub HasOutcome : List (List ℕ) → Files → Outcome → Type 0
 HasOutcome words files outcome = (SayNoLine words × (outcome ≡ stopped 2 usage_line)) ⊎ ((line : Line) × SaysLine words line × HasLineOutcome line files outcome)
 
+-- the words and files have the outcome, and no other
+pub record TheOutcome (words : List (List ℕ)) (files : Files) (outcome : Outcome) : Type 0 where
+  pub has : HasOutcome words files outcome
+  pub only : (other : Outcome) → HasOutcome words files other → other ≡ outcome
+
 -- ---- what is refused before a file is read
 
 abbrev pub IsQueryRefused : Line → Query → List ℕ → Type 0

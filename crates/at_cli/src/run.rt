@@ -2,7 +2,7 @@ ghost use Rattle.std.specs.Prelude.{◌≡◌, ◌≢◌, ◌⊎◌, ◌+◌, �
 ghost use Rattle.at_io.specs.Counts.{Rose};
 ghost use Rattle.at_io.specs.Sinks.{Grows, GrowsByPrefix};
 ghost use Rattle.at_cli.specs.Texts.{read_line, write_line, memory_line};
-ghost use Rattle.at_cli.specs.Outcomes.{Outcome, stopped, answered, HasOutcome, AreRefused, AreAccepted};
+ghost use Rattle.at_cli.specs.Outcomes.{Outcome, stopped, answered, HasOutcome, TheOutcome, AreRefused, AreAccepted};
 ghost use Rattle.at_cli.specs.Telling.{Tells};
 ghost use Rattle.at_cli.specs.Failures.{FailedOn};
 ghost use Rattle.at_cli.specs.Endings.{status_of, text_of, line_of, Ends};
@@ -64,7 +64,8 @@ fn tell<O: Sink, E: Sink>(ending: &Ending, out: &mut O, err: &mut E) -> u8
 /// | 5 | want of memory |
 /// | 6 | the file has more than 2^28 bytes |
 ///
-/// What is said of content holds where the shelf tells its files and the sinks what is written.
+/// What is said of content holds where the shelf tells its files and the sinks what is written. The words and the files
+/// have at most one outcome, so what is written where nothing fails is a function of them.
 pub fn top<R, S: Shelf, O: Sink, E: Sink>(
     _rt: &R,
     alloc: Global,
@@ -77,11 +78,11 @@ pub fn top<R, S: Shelf, O: Sink, E: Sink>(
 
     // 0: the answer of the words and the files is written, and nothing else.
     ensures answered { result ≡ 0 → (text : List ℕ) × Grows (O.written out.old) (O.written out.new) text × (err.new ≡ err.old)
-        × IfSome (S.files shelf.old) (λ told. HasOutcome (map string_bytes words.now) told (answered text)) }
+        × IfSome (S.files shelf.old) (λ told. TheOutcome (map string_bytes words.now) told (answered text)) }
 
     // 1 and 6: the line of the words and the files is told.
     ensures stopped { ((result ≡ 1) ⊎ (result ≡ 6)) → (line : List ℕ) × Tells (E.faults err.old) (E.faults err.new) (E.written err.old) (E.written err.new) line
-        × IfSome (S.files shelf.old) (λ told. HasOutcome (map string_bytes words.now) told (stopped result line)) }
+        × IfSome (S.files shelf.old) (λ told. TheOutcome (map string_bytes words.now) told (stopped result line)) }
     ensures too_large { result ≡ 6 → S.taken shelf.old + (2 ^ 28 + 1) ≤ S.taken shelf.new }
 
     // 2: exactly where the words, the query or the count of names are refused, want of memory aside, with the line of
@@ -98,17 +99,17 @@ pub fn top<R, S: Shelf, O: Sink, E: Sink>(
     // 4: only where the output failed on the answer, of which a prefix is written.
     ensures write_failed { result ≡ 4 → (text : List ℕ) × Rose (O.faults out.old) (O.faults out.new) × GrowsByPrefix (O.written out.old) (O.written out.new) text
         × Tells (E.faults err.old) (E.faults err.new) (E.written err.old) (E.written err.new) write_line
-        × IfSome (S.files shelf.old) (λ told. HasOutcome (map string_bytes words.now) told (answered text)) }
+        × IfSome (S.files shelf.old) (λ told. TheOutcome (map string_bytes words.now) told (answered text)) }
 
     // 5: want of memory.
     ensures no_memory { result ≡ 5 → Tells (E.faults err.old) (E.faults err.new) (E.written err.old) (E.written err.new) memory_line }
 
-    // The output is as before but for an answer, and the status is that of the words and the files, but for a
-    // failed shelf, a failed output and want of memory.
+    // The output is as before but for an answer. The status is that of the one outcome of the words and the files, but
+    // for 3, 4 and 5, whose causes are told above; so what writes nothing to the output is no other where the output fails.
     ensures same_out { result ≢ 0 → result ≢ 4 → out.new ≡ out.old }
     ensures same_files { S.files shelf.new ≡ S.files shelf.old }
-    ensures complete { (result ≡ 5) ⊎ (Rose (S.faults shelf.old) (S.faults shelf.new) ⊎ (Rose (O.faults out.old) (O.faults out.new)
-        ⊎ IfSome (S.files shelf.old) (λ told. (outcome : Outcome) × HasOutcome (map string_bytes words.now) told outcome × (result ≡ outcome.status)))) }
+    ensures complete { (result ≡ 3) ⊎ ((result ≡ 4) ⊎ ((result ≡ 5)
+        ⊎ IfSome (S.files shelf.old) (λ told. (outcome : Outcome) × TheOutcome (map string_bytes words.now) told outcome × (result ≡ outcome.status)))) }
 {
     let ending = decide(alloc, words, shelf);
     tell(&ending, out, err)

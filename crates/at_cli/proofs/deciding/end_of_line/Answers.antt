@@ -1,4 +1,4 @@
-use Rattle.std.proofs.Common.{◌≤◌, ◌^◌, List, ℕ, length, sym, subst, ◌∙◌, refl}
+use Rattle.std.proofs.Common.{◌≤◌, ◌^◌, List, ℕ, length, sym, subst, ◌∙◌}
 use Rattle.at_query.specs.declared.reading.QueryEnd.{QueryEnd}
 use Rattle.at_query.specs.Queries.{HasQueryFault, IfFaultAt}
 use Rattle.at_cli.specs.Outcomes.{units}

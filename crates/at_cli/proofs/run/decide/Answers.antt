@@ -1,4 +1,4 @@
-use Rattle.std.proofs.Common.{List, ℕ, map, string_bytes, refl, inl, inr}
+use Rattle.std.proofs.Common.{map, string_bytes, refl, inl, inr}
 use Rattle.at_cli.specs.Outcomes.{HasOutcome, SayNoLine}
 use Rattle.at_cli.specs.declared.ending.Ending.TheVariants.{Usage}
 use Rattle.at_cli.proofs.Runs.{ends_any, said_none, refused_by_line}

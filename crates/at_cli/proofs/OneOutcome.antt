@@ -1,0 +1,159 @@
+-- The words and the files have at most one outcome: a law of the definitions, which no function's contract is needed for.
+use Rattle.std.proofs.Common.{◌≡◌, inl, inr, ℕ, ◌<◌, ◌≤◌, ◌^◌, Bool, true, false, List, [], length, Option, Some, None, refl, sym, ◌∙◌, ap, subst, arith, true≢false}
+use Rattle.std.proofs.lemmas.Option.{same_Some}
+use Rattle.at_io.specs.Files.{Files}
+use Rattle.at_wkt.proofs.OneFile.{one_file_fault}
+use Rattle.at_query.specs.declared.queries.Query.{Query}
+use Rattle.at_query.specs.Printing.{printed}
+use Rattle.at_query.proofs.OneQuery.{one_query, one_query_fault, query_or_fault}
+use Rattle.at_run.proofs.OneAnswer.{one_file_answer, answer_or_fault}
+use Rattle.at_cli.specs.declared.line.Line.{Line}
+use Rattle.at_cli.specs.Texts.{usage_line, query_line, files_line, size_line, fault_line}
+use Rattle.at_cli.specs.Outcomes.{Outcome, stopped, answered, units, has_right_count, is_served, HasBytesOutcome, HasSizedOutcome, HasFileOutcome, HasServedOutcome, HasCountedOutcome, HasLineOutcome, HasOutcome, TheOutcome, IsQueryRefused, IsLineRefused, AreRefused, IsLineAccepted, AreAccepted}
+use Rattle.at_cli.specs.declared.ending.Ending.{Ending}
+use Rattle.at_cli.specs.Endings.{outcome_by, Ends}
+use Rattle.at_cli.proofs.OneLine.{one_line}
+
+-- ---- one outcome of what is the same
+
+module _ (line : Line) where
+  module _ (query : Query) where
+    one_of_bytes : (bytes : List ℕ) (a b : Outcome) → HasBytesOutcome line query bytes a → HasBytesOutcome line query bytes b → a ≡ b
+    one_of_bytes bytes a b (inl (f, h, e)) (inl (g, k, i)) =
+        let same : f ≡ g = same_Some f g (one_file_fault units line.how bytes (Some f) (Some g) h k) in
+        e ∙ (ap (λ z. stopped 1 (fault_line line.first z)) same ∙ sym i)
+    one_of_bytes bytes a b (inl (f, h, e)) (inr (answer, k, i)) = absurd (answer_or_fault units line.how query bytes answer f k h)
+    one_of_bytes bytes a b (inr (answer, h, e)) (inl (g, k, i)) = absurd (answer_or_fault units line.how query bytes answer g h k)
+    one_of_bytes bytes a b (inr (x, h, e)) (inr (y, k, i)) = e ∙ (ap (λ z. answered (printed units z)) (one_file_answer units line.how query bytes x y h k) ∙ sym i)
+
+    too_long : (n limit : ℕ) → limit < n → n ≤ limit → ⊥
+    too_long n limit h k = omega arith
+
+    one_sized : (bytes : List ℕ) (a b : Outcome) → HasSizedOutcome line query bytes a → HasSizedOutcome line query bytes b → a ≡ b
+    one_sized bytes a b (inl (h, e)) (inl (k, i)) = e ∙ sym i
+    one_sized bytes a b (inl (h, e)) (inr (k, more)) = absurd (too_long (length bytes) (2 ^ 28) h k)
+    one_sized bytes a b (inr (h, more)) (inl (k, i)) = absurd (too_long (length bytes) (2 ^ 28) k h)
+    one_sized bytes a b (inr (h, more)) (inr (k, others)) = one_of_bytes bytes a b more others
+
+    module _ (files : Files) where
+      one_of_file : (a b : Outcome) → HasFileOutcome line query files a → HasFileOutcome line query files b → a ≡ b
+      one_of_file a b (bytes, named, h) (others, also, k) =
+          let same : bytes ≡ others = same_Some bytes others (sym named ∙ also) in
+          one_sized others a b (subst (λ w. HasSizedOutcome line query w a) same h) k
+
+      one_served : (served : Bool) (a b : Outcome) → HasServedOutcome served line query files a → HasServedOutcome served line query files b → a ≡ b
+      one_served false a b h k = h ∙ sym k
+      one_served true a b h k = one_of_file a b h k
+
+      one_counted : (right : Bool) (a b : Outcome) → HasCountedOutcome right line query files a → HasCountedOutcome right line query files b → a ≡ b
+      one_counted false a b h k = h ∙ sym k
+      one_counted true a b h k = one_served (is_served line query.verb) a b h k
+
+  one_of_line : (files : Files) (a b : Outcome) → HasLineOutcome line files a → HasLineOutcome line files b → a ≡ b
+  one_of_line files a b (inl (m, h, e)) (inl (n, k, i)) = e ∙ (ap (λ z. stopped 2 (query_line z)) (one_query_fault units line.how line.query m n h k) ∙ sym i)
+  one_of_line files a b (inl (m, h, e)) (inr (q, k, i)) = absurd (query_or_fault units line.how line.query q m k h)
+  one_of_line files a b (inr (p, h, e)) (inl (n, k, i)) = absurd (query_or_fault units line.how line.query p n h k)
+  one_of_line files a b (inr (p, h, e)) (inr (q, k, i)) =
+      let same : p ≡ q = one_query units line.how line.query p q h k in
+      one_counted q files (has_right_count q.verb line.second) a b (subst (λ (z : Query). HasCountedOutcome (has_right_count z.verb line.second) line z files a) same e) i
+
+  one_refused_query : (query : Query) (a b : List ℕ) → IsQueryRefused line query a → IsQueryRefused line query b → a ≡ b
+  one_refused_query query a b (inl (h, e)) (inl (k, i)) = e ∙ sym i
+  one_refused_query query a b (inl (h, e)) (inr (k, n, i)) = absurd (true≢false (sym k ∙ h))
+  one_refused_query query a b (inr (h, n, e)) (inl (k, i)) = absurd (true≢false (sym h ∙ k))
+  one_refused_query query a b (inr (h, n, e)) (inr (k, m, i)) = e ∙ sym i
+
+  one_refused_line : (a b : List ℕ) → IsLineRefused line a → IsLineRefused line b → a ≡ b
+  one_refused_line a b (inl (m, h, e)) (inl (n, k, i)) = e ∙ (ap query_line (one_query_fault units line.how line.query m n h k) ∙ sym i)
+  one_refused_line a b (inl (m, h, e)) (inr (q, k, i)) = absurd (query_or_fault units line.how line.query q m k h)
+  one_refused_line a b (inr (p, h, e)) (inl (n, k, i)) = absurd (query_or_fault units line.how line.query p n h k)
+  one_refused_line a b (inr (p, h, e)) (inr (q, k, i)) = one_refused_query q a b (subst (λ z. IsQueryRefused line z a) (one_query units line.how line.query p q h k) e) i
+
+  refused_not_accepted : (refusal : List ℕ) → IsLineRefused line refusal → IsLineAccepted line → ⊥
+  refused_not_accepted refusal (inl (m, h, e)) (q, k, i) = query_or_fault units line.how line.query q m k h
+  refused_not_accepted refusal (inr (p, h, e)) (q, k, (right, served)) = never (subst (λ z. IsQueryRefused line z refusal) (one_query units line.how line.query p q h k) e) where
+    never : IsQueryRefused line q refusal → ⊥
+    never (inl (wrong, i)) = true≢false (sym right ∙ wrong)
+    never (inr (also, unserved, i)) = true≢false (sym served ∙ unserved)
+
+  -- ---- what is refused is the outcome
+
+  served_as : (query : Query) (files : Files) (t : Bool) (o : Outcome) → is_served line query.verb ≡ t → HasServedOutcome t line query files o → HasServedOutcome (is_served line query.verb) line query files o
+  served_as query files t o e h = subst (λ z. HasServedOutcome z line query files o) (sym e) h
+
+  refused_outcome_of : (query : Query) (files : Files) (refusal : List ℕ) → IsQueryRefused line query refusal → HasCountedOutcome (has_right_count query.verb line.second) line query files (stopped 2 refusal)
+  refused_outcome_of query files refusal (inl (wrong, e)) = subst (λ z. HasCountedOutcome z line query files (stopped 2 refusal)) (sym wrong) (ap (stopped 2) e)
+  refused_outcome_of query files refusal (inr (right, unserved, e)) =
+      subst (λ z. HasCountedOutcome z line query files (stopped 2 refusal)) (sym right) (served_as query files false (stopped 2 refusal) unserved (ap (stopped 2) e))
+
+  refused_outcome : (files : Files) (refusal : List ℕ) → IsLineRefused line refusal → HasLineOutcome line files (stopped 2 refusal)
+  refused_outcome files refusal (inl (m, h, e)) = inl (m, h, ap (stopped 2) e)
+  refused_outcome files refusal (inr (q, h, e)) = inr (q, h, refused_outcome_of q files refusal e)
+
+  -- ---- an outcome of status 2 is what is refused
+
+  never_two : (o : Outcome) (status : ℕ) (text out : List ℕ) → o ≡ record { status = status; out = out; err = text } → o.status ≡ 2 → (status ≡ 2 → ⊥) → ⊥
+  never_two o status text out e h n = n (sym (ap (λ (z : Outcome). z.status) e) ∙ h)
+
+  file_not_two : (query : Query) (files : Files) (o : Outcome) → HasFileOutcome line query files o → o.status ≡ 2 → ⊥
+  file_not_two query files o (bytes, named, inl (large, e)) h = never_two o 6 (size_line line.first) [] e h (λ z. cc)
+  file_not_two query files o (bytes, named, inr (small, inl (f, k, e))) h = never_two o 1 (fault_line line.first f) [] e h (λ z. cc)
+  file_not_two query files o (bytes, named, inr (small, inr (answer, k, e))) h = never_two o 0 [] (printed units answer) e h (λ z. cc)
+
+  refused_of_served : (query : Query) (files : Files) (o : Outcome) (t : Bool) → is_served line query.verb ≡ t → has_right_count query.verb line.second ≡ true → HasServedOutcome t line query files o → o.status ≡ 2
+      → (refusal : List ℕ) × IsQueryRefused line query refusal × (o ≡ stopped 2 refusal)
+  refused_of_served query files o false unserved right e h = (usage_line, inr (right, unserved, refl), e)
+  refused_of_served query files o true served right k h = absurd (file_not_two query files o k h)
+
+  refused_of_counted : (query : Query) (files : Files) (o : Outcome) (t : Bool) → has_right_count query.verb line.second ≡ t → HasCountedOutcome t line query files o → o.status ≡ 2
+      → (refusal : List ℕ) × IsQueryRefused line query refusal × (o ≡ stopped 2 refusal)
+  refused_of_counted query files o false wrong e h = (files_line, inl (wrong, refl), e)
+  refused_of_counted query files o true right k h = refused_of_served query files o (is_served line query.verb) refl right k h
+
+  refused_of_line : (files : Files) (o : Outcome) → HasLineOutcome line files o → o.status ≡ 2 → (refusal : List ℕ) × IsLineRefused line refusal × (o ≡ stopped 2 refusal)
+  refused_of_line files o (inl (m, k, e)) h = (query_line m, inl (m, k, refl), e)
+  refused_of_line files o (inr (q, k, e)) h = let (refusal, refused, same) = refused_of_counted q files o (has_right_count q.verb line.second) refl e h in (refusal, inr (q, k, refused), same)
+
+-- ---- the laws
+
+-- the words and the files have at most one outcome: one status, one text to the output, one text to the error output
+pub one_outcome : (words : List (List ℕ)) (files : Files) (a b : Outcome) → HasOutcome words files a → HasOutcome words files b → a ≡ b
+one_outcome words files a b (inl (none, e)) (inl (also, i)) = e ∙ sym i
+one_outcome words files a b (inl (none, e)) (inr (line, says, k)) = absurd (none line says)
+one_outcome words files a b (inr (line, says, h)) (inl (none, i)) = absurd (none line says)
+one_outcome words files a b (inr (line, says, h)) (inr (other, also, k)) = one_of_line other files a b (subst (λ z. HasLineOutcome z files a) (one_line words line other says also) h) k
+
+-- so an outcome is the only one, and an end that stands for one stands for the only one
+pub the_outcome : (words : List (List ℕ)) (files : Files) (o : Outcome) → HasOutcome words files o → TheOutcome words files o
+the_outcome words files o h = record { has = h; only = λ other k. one_outcome words files other o k h }
+
+pub ends_only : (words : List (List ℕ)) (files : Option Files) (e : Ending) → Ends (HasOutcome words) files e → Ends (TheOutcome words) files e
+ends_only words files e (inl three) = inl three
+ends_only words files e (inr (inl five)) = inr (inl five)
+ends_only words None e (inr (inr h)) = inr (inr tt)
+ends_only words (Some told) e (inr (inr h)) = inr (inr (the_outcome words told (outcome_by e) h))
+
+-- the words are refused with at most one line
+pub one_refusal : (words : List (List ℕ)) (a b : List ℕ) → AreRefused words a → AreRefused words b → a ≡ b
+one_refusal words a b (inl (none, e)) (inl (also, i)) = e ∙ sym i
+one_refusal words a b (inl (none, e)) (inr (line, says, k)) = absurd (none line says)
+one_refusal words a b (inr (line, says, h)) (inl (none, i)) = absurd (none line says)
+one_refusal words a b (inr (line, says, h)) (inr (other, also, k)) = one_refused_line other a b (subst (λ z. IsLineRefused z a) (one_line words line other says also) h) k
+
+-- or accepted with at most one name, and not both
+pub one_name : (words : List (List ℕ)) (a b : List ℕ) → AreAccepted words a → AreAccepted words b → a ≡ b
+one_name words a b (line, says, h, e) (other, also, k, i) = e ∙ (ap (λ (z : Line). z.first) (one_line words line other says also) ∙ sym i)
+
+pub refused_or_accepted : (words : List (List ℕ)) (refusal name : List ℕ) → AreRefused words refusal → AreAccepted words name → ⊥
+refused_or_accepted words refusal name (inl (none, e)) (line, says, k, i) = none line says
+refused_or_accepted words refusal name (inr (line, says, h)) (other, also, k, i) = refused_not_accepted other refusal (subst (λ z. IsLineRefused z refusal) (one_line words line other says also) h) k
+
+-- words that are refused have the refusal as their outcome, whatever the files are
+pub refusal_is_outcome : (words : List (List ℕ)) (files : Files) (refusal : List ℕ) → AreRefused words refusal → HasOutcome words files (stopped 2 refusal)
+refusal_is_outcome words files refusal (inl (none, e)) = inl (none, ap (stopped 2) e)
+refusal_is_outcome words files refusal (inr (line, says, h)) = inr (line, says, refused_outcome line files refusal h)
+
+-- and an outcome of that status is a refusal
+pub outcome_is_refusal : (words : List (List ℕ)) (files : Files) (o : Outcome) → HasOutcome words files o → o.status ≡ 2 → (refusal : List ℕ) × AreRefused words refusal × (o ≡ stopped 2 refusal)
+outcome_is_refusal words files o (inl (none, e)) h = (usage_line, inl (none, refl), e)
+outcome_is_refusal words files o (inr (line, says, k)) h = let (refusal, refused, same) = refused_of_line line files o k h in (refusal, inr (line, says, refused), same)
