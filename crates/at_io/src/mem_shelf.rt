@@ -178,6 +178,7 @@ impl Shelf for MemShelf {
         ensures failed { OnErr result (Rose (faults_of self.old) (faults_of self.new)) }
         ensures broken { OnErr result (broken_of self.new ≡ begins_of self.new) }
         ensures untaken { OnErr result (taken_of self.new ≡ taken_of self.old) }
+        ensures unread { OnErr result (Some (left_of self.new) ≡ Some (left_of self.old)) }
         ensures unbroken { OnOk result (broken_of self.new ≡ broken_of self.old) }
         ensures same_files { files_of self.new ≡ files_of self.old }
         ensures same_begins { begins_of self.new ≡ begins_of self.old }

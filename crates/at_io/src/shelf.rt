@@ -55,6 +55,7 @@ pub trait Shelf {
         ensures failed { OnErr result (Rose (faults self.old) (faults self.new)) }
         ensures broken { OnErr result (broken self.new ≡ begins self.new) }
         ensures untaken { OnErr result (taken self.new ≡ taken self.old) }
+        ensures unread { OnErr result (left self.new ≡ left self.old) }
 
         // What stays, and what doesn't fall.
         ensures unbroken { OnOk result (broken self.new ≡ broken self.old) }
