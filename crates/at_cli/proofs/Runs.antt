@@ -10,7 +10,7 @@ use Rattle.at_query.specs.Queries.{HasQueryFault}
 use Rattle.at_cli.specs.declared.ending.Ending.TheVariants.{Usage, QueryFault, Names, Faulty, ReadFailed, TooLarge, NoMemory, Answered}
 use Rattle.at_cli.specs.declared.line.WordsEnd.{WordsEnd}
 use Rattle.at_cli.specs.declared.line.WordsEnd.TheVariants.{Refused}
-use Rattle.at_cli.specs.Outcomes.{Outcome, stopped, answered, units, HasFileOutcome, HasLineOutcome, SayNoLine, IsLineRefused, AreRefused}
+use Rattle.at_cli.specs.Outcomes.{Outcome, stopped, answered, units, HasFileOutcome, HasLineOutcome, SayNoLine, IsLineRefused, IsLineAccepted, AreRefused, AreAccepted}
 use Rattle.at_cli.specs.Endings.{status_of, text_of, line_of, outcome_by, EndsBytes, Ends}
 
 -- what holds over all files holds over these
@@ -116,6 +116,12 @@ told_complete Has files e status (inl three) (inl same) = inl (same ∙ three)
 told_complete Has files e status (inr (inl five)) (inl same) = inr (inr (inl (same ∙ five)))
 told_complete Has None e status (inr (inr h)) (inl same) = inr (inr (inr tt))
 told_complete Has (Some told) e status (inr (inr h)) (inl same) = inr (inr (inr (outcome_by e, h, same)))
+
+-- a line that is accepted makes what is asked of the shelf that of the words
+pub asked_of : (words : List (List ℕ)) (line : Line) (Same : Type 0) (Asks : List ℕ → Type 0) → SaysLine words line → Same ⊎ (IsLineAccepted line × Asks line.first)
+    → Same ⊎ ((name : List ℕ) × AreAccepted words name × Asks name)
+asked_of words line Same Asks says (inl same) = inl same
+asked_of words line Same Asks says (inr (accepted, asks)) = inr (line.first, (line, says, accepted, refl), asks)
 
 -- a status of a refusal is told as it is
 pub told_refusal : (status own : ℕ) → (status ≡ own) ⊎ ((status ≡ 4) × (own ≡ 0)) → (own ≡ 2) ⊎ (own ≡ 5) → (status ≡ 2) ⊎ (status ≡ 5)

@@ -4,7 +4,7 @@ ghost use Rattle.at_query.specs.Ranges.{IsQueryInRange};
 ghost use Rattle.at_run.specs.Answers.{IfFound, IsFileAnswer};
 ghost use Rattle.at_cli.specs.LineOf.{KeepsLimits};
 ghost use Rattle.at_cli.specs.Texts.{read_line};
-ghost use Rattle.at_cli.specs.Failures.{FailedOn};
+ghost use Rattle.at_cli.specs.Failures.{AsksFor, FailedOn};
 ghost use Rattle.at_cli.specs.Outcomes.{has_right_count as count_is_right, is_made as made, is_served as served, units, HasFileOutcome, HasCountedOutcome, HasLineOutcome, IsLineRefused, IsQueryRefused, IsQueryAccepted, IsLineAccepted};
 ghost use Rattle.at_cli.specs.Endings.{status_of, line_of, EndsBytes, Ends};
 
@@ -64,6 +64,7 @@ fn end_of_file<S: Shelf>(alloc: Global, line: Line, query: &Query, shelf: &mut S
     ensures failed { status_of result ≡ 3 → (line_of result ≡ read_line line.first)
         × FailedOn line.first (S.files shelf.old) (S.faults shelf.old) (S.faults shelf.new) (S.begins shelf.old) (S.begins shelf.new) (S.broken shelf.new) (S.named shelf.new) }
     ensures large { status_of result ≡ 6 → S.taken shelf.old + (2 ^ 28 + 1) ≤ S.taken shelf.new }
+    ensures asked { AsksFor line.first (S.files shelf.old) (S.begins shelf.old) (S.begins shelf.new) (S.taken shelf.old) (S.taken shelf.new) (S.named shelf.new) }
     ensures same_files { S.files shelf.new ≡ S.files shelf.old }
 {
     match read_whole(alloc, shelf, line.first.as_str()) {
@@ -114,6 +115,8 @@ fn end_of_query<S: Shelf>(alloc: Global, line: Line, query: &Query, shelf: &mut 
     ensures failed { status_of result ≡ 3 → (line_of result ≡ read_line line.first)
         × FailedOn line.first (S.files shelf.old) (S.faults shelf.old) (S.faults shelf.new) (S.begins shelf.old) (S.begins shelf.new) (S.broken shelf.new) (S.named shelf.new) }
     ensures large { status_of result ≡ 6 → S.taken shelf.old + (2 ^ 28 + 1) ≤ S.taken shelf.new }
+    ensures asked { (shelf.new ≡ shelf.old) ⊎ (IsQueryAccepted line query.now
+        × AsksFor line.first (S.files shelf.old) (S.begins shelf.old) (S.begins shelf.new) (S.taken shelf.old) (S.taken shelf.new) (S.named shelf.new)) }
     ensures same_files { S.files shelf.new ≡ S.files shelf.old }
 {
     if !has_right_count(query.verb, &line.second) {
@@ -134,6 +137,8 @@ pub fn end_of_line<S: Shelf>(alloc: Global, line: Line, shelf: &mut S) -> Ending
     ensures failed { status_of result ≡ 3 → IsLineAccepted line × (line_of result ≡ read_line line.first)
         × FailedOn line.first (S.files shelf.old) (S.faults shelf.old) (S.faults shelf.new) (S.begins shelf.old) (S.begins shelf.new) (S.broken shelf.new) (S.named shelf.new) }
     ensures large { status_of result ≡ 6 → S.taken shelf.old + (2 ^ 28 + 1) ≤ S.taken shelf.new }
+    ensures asked { (shelf.new ≡ shelf.old) ⊎ (IsLineAccepted line
+        × AsksFor line.first (S.files shelf.old) (S.begins shelf.old) (S.begins shelf.new) (S.taken shelf.old) (S.taken shelf.new) (S.named shelf.new)) }
     ensures same_files { S.files shelf.new ≡ S.files shelf.old }
 {
     match read_query(alloc, line.query.as_str().as_bytes(), UNITS, line.how) {

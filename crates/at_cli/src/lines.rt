@@ -1,4 +1,4 @@
-ghost use Rattle.std.specs.Prelude.{◌≡◌, ◌≤◌, ◌++◌, codes, OnOk, OnErr};
+ghost use Rattle.std.specs.Prelude.{◌≡◌, ◌≤◌, ◌++◌, [], codes, OnOk, OnErr};
 ghost use Rattle.std.specs.List.{flat_map};
 ghost use Rattle.at_io.specs.Counts.{Rose};
 ghost use Rattle.at_io.specs.Sinks.{Grows, GrowsByPrefix};
@@ -33,6 +33,7 @@ pub fn put_pieces<O: Sink>(out: &mut O, text: &[u8]) -> Result<(), Failed>
     ensures ok { OnOk result (Grows (O.written out.old) (O.written out.new) text.now) }
     ensures failed { OnErr result (Rose (O.faults out.old) (O.faults out.new)) }
     ensures kept { OnErr result (GrowsByPrefix (O.written out.old) (O.written out.new) text.now) }
+    ensures empty { text.now ≡ [] → out.new ≡ out.old }
 {
     let mut at = 0;
     while at < text.len() {

@@ -1,10 +1,10 @@
-ghost use Rattle.std.specs.Prelude.{◌≡◌, ◌≢◌, ◌⊎◌, ◌+◌, ◌≤◌, ◌^◌, ℕ, List, map, IfSome, string_bytes};
+ghost use Rattle.std.specs.Prelude.{◌≡◌, ◌≢◌, ◌⊎◌, ◌+◌, ◌≤◌, ◌^◌, ℕ, List, [], map, IfSome, string_bytes};
 ghost use Rattle.at_io.specs.Counts.{Rose};
 ghost use Rattle.at_io.specs.Sinks.{Grows, GrowsByPrefix};
 ghost use Rattle.at_cli.specs.Texts.{read_line, write_line, memory_line};
-ghost use Rattle.at_cli.specs.Outcomes.{Outcome, stopped, answered, HasOutcome, TheOutcome, AreRefused, AreAccepted};
+ghost use Rattle.at_cli.specs.Outcomes.{Outcome, stopped, answered, HasOutcome, TheOutcome, SayNoLine, AreRefused, AreAccepted};
 ghost use Rattle.at_cli.specs.Telling.{Tells};
-ghost use Rattle.at_cli.specs.Failures.{FailedOn};
+ghost use Rattle.at_cli.specs.Failures.{AsksFor, FailedOn};
 ghost use Rattle.at_cli.specs.Endings.{status_of, text_of, line_of, Ends};
 
 use crate::deciding::end_of_line;
@@ -19,10 +19,13 @@ fn decide<S: Shelf>(alloc: Global, words: &[String], shelf: &mut S) -> Ending
     ensures outcome { Ends (HasOutcome (map string_bytes words.now)) (S.files shelf.old) result }
     ensures refused { status_of result ≡ 2 → AreRefused (map string_bytes words.now) (line_of result) }
     ensures refuses { (refusal : List ℕ) → AreRefused (map string_bytes words.now) refusal → (status_of result ≡ 2) ⊎ (status_of result ≡ 5) }
+    ensures usage { SayNoLine (map string_bytes words.now) → status_of result ≡ 2 }
     ensures untouched { status_of result ≡ 2 → shelf.new ≡ shelf.old }
     ensures failed { status_of result ≡ 3 → (name : List ℕ) × AreAccepted (map string_bytes words.now) name × (line_of result ≡ read_line name)
         × FailedOn name (S.files shelf.old) (S.faults shelf.old) (S.faults shelf.new) (S.begins shelf.old) (S.begins shelf.new) (S.broken shelf.new) (S.named shelf.new) }
     ensures large { status_of result ≡ 6 → S.taken shelf.old + (2 ^ 28 + 1) ≤ S.taken shelf.new }
+    ensures asked { (shelf.new ≡ shelf.old) ⊎ ((name : List ℕ) × AreAccepted (map string_bytes words.now) name
+        × AsksFor name (S.files shelf.old) (S.begins shelf.old) (S.begins shelf.new) (S.taken shelf.old) (S.taken shelf.new) (S.named shelf.new)) }
     ensures same_files { S.files shelf.new ≡ S.files shelf.old }
 {
     match read_words(alloc, words) {
@@ -36,6 +39,7 @@ fn decide<S: Shelf>(alloc: Global, words: &[String], shelf: &mut S) -> Ending
 fn tell<O: Sink, E: Sink>(ending: &Ending, out: &mut O, err: &mut E) -> u8
     ensures status { (result ≡ status_of ending.now) ⊎ ((result ≡ 4) × (status_of ending.now ≡ 0)) }
     ensures answered { result ≡ 0 → Grows (O.written out.old) (O.written out.new) (text_of ending.now) × (err.new ≡ err.old) }
+    ensures empty { result ≡ 0 → text_of ending.now ≡ [] → out.new ≡ out.old }
     ensures write_failed { result ≡ 4 → Rose (O.faults out.old) (O.faults out.new) × GrowsByPrefix (O.written out.old) (O.written out.new) (text_of ending.now)
         × Tells (E.faults err.old) (E.faults err.new) (E.written err.old) (E.written err.new) write_line }
     ensures told { result ≢ 0 → result ≢ 4 → (out.new ≡ out.old) × Tells (E.faults err.old) (E.faults err.new) (E.written err.old) (E.written err.new) (line_of ending.now) }
@@ -77,7 +81,7 @@ pub fn top<R, S: Shelf, O: Sink, E: Sink>(
     ensures status { result ≤ 6 }
 
     // 0: the answer of the words and the files is written, and nothing else.
-    ensures answered { result ≡ 0 → (text : List ℕ) × Grows (O.written out.old) (O.written out.new) text × (err.new ≡ err.old)
+    ensures answered { result ≡ 0 → (text : List ℕ) × Grows (O.written out.old) (O.written out.new) text × (err.new ≡ err.old) × (text ≡ [] → out.new ≡ out.old)
         × IfSome (S.files shelf.old) (λ told. TheOutcome (map string_bytes words.now) told (answered text)) }
 
     // 1 and 6: the line of the words and the files is told.
@@ -86,10 +90,11 @@ pub fn top<R, S: Shelf, O: Sink, E: Sink>(
     ensures too_large { result ≡ 6 → S.taken shelf.old + (2 ^ 28 + 1) ≤ S.taken shelf.new }
 
     // 2: exactly where the words, the query or the count of names are refused, want of memory aside, with the line of
-    // what is refused; nothing is read.
+    // what is refused; nothing is read. The words are refused whatever memory there is.
     ensures refused { result ≡ 2 → (refusal : List ℕ) × AreRefused (map string_bytes words.now) refusal × (shelf.new ≡ shelf.old)
         × Tells (E.faults err.old) (E.faults err.new) (E.written err.old) (E.written err.new) refusal }
     ensures refuses { (refusal : List ℕ) → AreRefused (map string_bytes words.now) refusal → (result ≡ 2) ⊎ (result ≡ 5) }
+    ensures usage { SayNoLine (map string_bytes words.now) → result ≡ 2 }
 
     // 3: only where the shelf failed on the file that the words name.
     ensures read_failed { result ≡ 3 → (name : List ℕ) × AreAccepted (map string_bytes words.now) name
@@ -104,9 +109,12 @@ pub fn top<R, S: Shelf, O: Sink, E: Sink>(
     // 5: want of memory.
     ensures no_memory { result ≡ 5 → Tells (E.faults err.old) (E.faults err.new) (E.written err.old) (E.written err.new) memory_line }
 
-    // The output is as before but for an answer. The status is that of the one outcome of the words and the files, but
-    // for 3, 4 and 5, whose causes are told above; so what writes nothing to the output is no other where the output fails.
+    // The output is as before but for an answer, and of the shelf no file is begun but the one that the words name. The
+    // status is that of the one outcome of the words and the files, but for 3, 4 and 5, whose causes are told above; so
+    // what writes nothing to the output is no other where the output fails.
     ensures same_out { result ≢ 0 → result ≢ 4 → out.new ≡ out.old }
+    ensures asked { (shelf.new ≡ shelf.old) ⊎ ((name : List ℕ) × AreAccepted (map string_bytes words.now) name
+        × AsksFor name (S.files shelf.old) (S.begins shelf.old) (S.begins shelf.new) (S.taken shelf.old) (S.taken shelf.new) (S.named shelf.new)) }
     ensures same_files { S.files shelf.new ≡ S.files shelf.old }
     ensures complete { (result ≡ 3) ⊎ ((result ≡ 4) ⊎ ((result ≡ 5)
         ⊎ IfSome (S.files shelf.old) (λ told. (outcome : Outcome) × TheOutcome (map string_bytes words.now) told outcome × (result ≡ outcome.status)))) }

@@ -16,4 +16,5 @@ loop-at-preserved g c = let o = g.O.Sink in record {
   grown = grows_to c.args.text.now c.loop-at.at c.min-end.result (o.written c.args.out.now) (o.written c.loop-at.out) (o.written c.put.new.self)
       (omega arith) c.loop-at.invariant.grown c.in_ok-put.ensures.ok;
   counted = omega (arith, c.in_ok-put.ensures.counted, c.loop-at.invariant.counted);
+  fresh = λ z. let bad : ⊥ = omega (arith, z) in elim bad [ ];
 }

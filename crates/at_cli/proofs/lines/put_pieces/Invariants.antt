@@ -1,4 +1,4 @@
-use Rattle.std.proofs.Common.{◌≤◌, ◌-◌, length, take}
+use Rattle.std.proofs.Common.{◌≡◌, ◌≤◌, ◌-◌, length, take}
 use Rattle.at_io.specs.Sinks.{Grows}
 use Rattle.at_cli.proofs.lines.put_pieces.Given as goal
 
@@ -8,6 +8,7 @@ invariant-loop-at g l = let o = g.O.Sink in record {
   within : l.at ≤ length l.text;
   grown : Grows (o.written l.fn.out) (o.written l.out) (take l.at l.text);
   counted : o.faults l.fn.out ≤ o.faults l.out;
+  fresh : l.at ≡ 0 → l.out ≡ l.fn.out;
 }
 
 abbrev pub decreases-loop-at : goal.decreases-loop-at

@@ -1,7 +1,8 @@
-use Rattle.std.proofs.Common.{map, string_bytes, refl, inl, inr}
+use Rattle.std.proofs.Common.{◌≡◌, map, string_bytes, refl, inl, inr}
 use Rattle.at_cli.specs.Outcomes.{HasOutcome, SayNoLine}
+use Rattle.at_cli.specs.Failures.{AsksFor}
 use Rattle.at_cli.specs.declared.ending.Ending.TheVariants.{Usage}
-use Rattle.at_cli.proofs.Runs.{ends_any, said_none, refused_by_line}
+use Rattle.at_cli.proofs.Runs.{ends_any, said_none, refused_by_line, asked_of}
 use Rattle.at_cli.proofs.run.decide.Goals as goal
 
 pub returns-in-Ok-clause-refused : goal.returns-in-Ok-clause-refused
@@ -20,3 +21,11 @@ returns-in-Err-Refused-clause-outcome g c =
 pub returns-in-Err-Refused-clause-refused : goal.returns-in-Err-Refused-clause-refused
 returns-in-Err-Refused-clause-refused g c e =
     inl (said_none (map string_bytes c.args.words.now) c.read_words.result c.in-Err-Refused.field-0 c.read_words.ensures.refused c.in-Err-Refused.is c.in-Err-Refused.field-0-is, refl)
+
+pub returns-in-Ok-clause-asked : goal.returns-in-Ok-clause-asked
+returns-in-Ok-clause-asked g c =
+    let o = g.S.Shelf in
+    let before = c.args.shelf.now in
+    let after = c.end_of_line.new.shelf in
+    asked_of (map string_bytes c.args.words.now) c.in-Ok.line (after ≡ before) (λ name. AsksFor name (o.files before) (o.begins before) (o.begins after) (o.taken before) (o.taken after) (o.named after))
+    c.in-Ok.ensures.line c.end_of_line.ensures.asked

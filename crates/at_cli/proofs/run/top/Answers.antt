@@ -9,7 +9,7 @@ pub returns-clause-answered : goal.returns-clause-answered
 returns-clause-answered g c e =
     let ending = c.decide-ending.result in
     let (grows, same) = c.tell.ensures.answered e in
-    (text_of ending, grows, same, told_answer (TheOutcome (map string_bytes c.args.words.now)) (g.S.Shelf.files c.args.shelf.now) ending c.tell.result (ends_only (map string_bytes c.args.words.now) (g.S.Shelf.files c.args.shelf.now) ending c.decide-ending.ensures.outcome) c.tell.ensures.status e)
+    (text_of ending, grows, same, c.tell.ensures.empty e, told_answer (TheOutcome (map string_bytes c.args.words.now)) (g.S.Shelf.files c.args.shelf.now) ending c.tell.result (ends_only (map string_bytes c.args.words.now) (g.S.Shelf.files c.args.shelf.now) ending c.decide-ending.ensures.outcome) c.tell.ensures.status e)
 
 pub returns-clause-stopped : goal.returns-clause-stopped
 returns-clause-stopped g c h =
