@@ -19,7 +19,7 @@ mod tokens;
 pub use code_units::Units;
 pub use decoding::units;
 pub use pieces::lex;
-pub use runs::{RunEnd, check_run};
+pub use runs::{RunEnd, check_run, take_run};
 pub use stream::Lexer;
 pub use strings::take_text;
 pub use tokens::{Bracket, Item, Lead, Lexed, Pend, Start, Token, TokenKind, Tokens};

@@ -206,6 +206,18 @@ impl<'a> Lexer<'a> {
         }
     }
 
+    /// Goes on at the offset: the bytes up to it were read otherwise, and leave no string open.
+    #[inline(always)]
+    pub fn skip_to(&mut self, to: u32)
+        requires out { self.old.state ≡ Start.Out }
+        requires order { self.old.at ≤ to }
+        requires inside { to ≤ self.old.at + length self.old.rest }
+        ensures { self.new ≡ record { at = to; rest = drop (to - self.old.at) self.old.rest; state = Start.Out } }
+    {
+        self.rest = &self.rest[(to - self.at) as usize..];
+        self.at = to;
+    }
+
     /// The next item: a whole token, or the end of the piece. It passes the white space before a token and the
     /// token's bytes. A run counts as whole where a byte stands behind it, and a string where its closing quote
     /// does; what they spell is checked on the way. Behind a broken token nothing is read: the end comes next.
