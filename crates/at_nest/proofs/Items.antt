@@ -1,12 +1,13 @@
 -- The items of a piece, read one by one: what has been read stands in a form, and what is left is with the reader.
-use Rattle.std.proofs.Common.{◌≡◌, ◌≢◌, ℕ, Option, Some, None, List, [], ◌∷◌, ◌++◌, Bool, true, false, not, ◌&&◌, IsTrue, refl, sym, ◌∙◌, ap, subst, arith, append_assoc, append-nil, ◌+◌, ◌-◌, ◌≤◌, length, length-append, take, drop, if◌then◌else◌}
+use Rattle.std.proofs.Common.{◌≡◌, ◌≢◌, ℕ, Option, Some, None, List, [], ◌∷◌, ◌++◌, Bool, true, false, not, ◌&&◌, IsTrue, refl, sym, ◌∙◌, ap, subst, arith, append_assoc, append-nil, ◌+◌, ◌-◌, ◌≤◌, ◌<◌, suc, length, length-append, take, drop, if◌then◌else◌}
 use Rattle.std.proofs.Math.Seq.{take-append_seam, drop-append_seam}
 use Rattle.std.specs.Bool.{⊤}
 use Rattle.at_text.specs.Texts.{is_run}
-use Rattle.at_lex.specs.Spans.{AreSpaces, end_of, begins_run, StaysInText, AreRun, is_broken, IsKind, IsToken as IsLexed, IsPend as IsLexedPend}
+use Rattle.at_lex.specs.Spans.{AreSpaces, opening, end_of, begins_run, StaysInText, AreRun, is_broken, IsKind, IsToken as IsLexed, IsPend as IsLexedPend}
 use Rattle.at_lex.specs.Stream.{Left, GivesItem, IsBegun}
 use Rattle.at_lex.specs.declared.tokens.Start.{Start}
 use Rattle.at_lex.specs.declared.tokens.Start.TheVariants.{Out, InString, InEscape}
+use Rattle.at_lex.specs.declared.tokens.Bracket.{Bracket}
 use Rattle.at_lex.specs.declared.tokens.Bracket.TheVariants.{Brace, Square}
 use Rattle.at_lex.specs.declared.tokens.Token.{Token}
 use Rattle.at_lex.specs.declared.tokens.TokenKind.{TokenKind}
@@ -28,7 +29,7 @@ use Rattle.at_nest.specs.Unions.{Ends, merged, empty_form}
 use Rattle.at_nest.specs.Variants.{IsAllLead, IsLeadEnd, IsPending, none_pending, run_pending, text_pending}
 use Rattle.at_nest.specs.Shown.{Shown, shown}
 use Rattle.at_nest.specs.Holding.{free, IsShown, IsPushedAs, IsOfItems, halt_of}
-use Rattle.at_nest.specs.Reading.{IsPlaced, ReadsToken, HasBytes, pend_from}
+use Rattle.at_nest.specs.Reading.{IsPlaced, ReadsToken, ReadsAhead, HasBytes, pend_from}
 use Rattle.at_nest.specs.Stands.{HoldsVariant, HoldsBehind}
 use Rattle.at_nest.proofs.Steps.{and_false}
 use Rattle.at_nest.proofs.Walks.{ends_append, spaces_apart}
@@ -190,6 +191,94 @@ module _ {X : Type 0} (IsKept : X → Tree → Type 0) where
       let q = token_pushed base piece from bytes kept (shown body) old new t (Some i) hb h g reads in
       let k = did_break base piece from ((h.read ++ g.0) ++ g.1) g.2 (shown body) i (merged free (further h.form) q.0) q.2 q.1 in
       let all : ((h.read ++ g.0) ++ g.1) ++ g.2 ≡ bytes = append_assoc (h.read ++ g.0) g.1 g.2 ∙ (append_assoc h.read g.0 (g.1 ++ g.2) ∙ (ap (λ z. h.read ++ z) (sym g.4) ∙ sym h.split)) in
+      record {
+        first = u;
+        form = k.0;
+        is_broken = record { more = bytes; split = e; lead = l; stop = subst (λ n. IsStop free n bytes k.0 (halt_of i)) at (subst (λ z. IsStop free from z k.0 (halt_of i)) all k.1) };
+        is_shown = k.2;
+        lead_at = at2;
+      }
+
+  -- ---- from an opening bracket on
+
+  -- the bytes from the bracket to the piece's end
+  pub ahead_bytes : (base : ℕ) (piece : List ℕ) (from : ℕ) (bytes : List ℕ) (kept : Shown X) (old mid : Left) (t : Token) → HasBytes base piece from bytes → Consumed base piece from bytes kept old → (g : GivesItem old (WholeItem t) mid)
+      → (drop (t.from - base) piece ≡ g.1 ++ g.2) × (base ≤ t.from) × (t.from ≤ base + length piece)
+  ahead_bytes base piece from bytes kept old mid t hb h g = let (y, z, e, i) = placed base piece from bytes kept old mid t hb h g in
+      let (u, whole, j) = hb in
+      let all : piece ≡ (u ++ (h.read ++ g.0)) ++ (g.1 ++ g.2) = split_item u h.read g.0 g.1 g.2 bytes old.rest piece whole h.split g.4 in
+      let here : t.from ≡ base + length (u ++ (h.read ++ g.0)) = item_place base from old.at t.from u h.read g.0 j h.place g.6.0 in
+      let off : t.from - base ≡ length (u ++ (h.read ++ g.0)) = omega (arith, here) in
+      let size : length piece ≡ length (u ++ (h.read ++ g.0)) + length (g.1 ++ g.2) = ap (λ x. length x) all ∙ length-append (u ++ (h.read ++ g.0)) (g.1 ++ g.2) in
+      (ap (λ n. drop n piece) off ∙ (ap (drop (length (u ++ (h.read ++ g.0)))) all ∙ drop-append_seam (u ++ (h.read ++ g.0)) (g.1 ++ g.2)), omega (arith, here), omega (arith, here, size))
+
+  ahead_pushed : (base : ℕ) (piece : List ℕ) (from : ℕ) (bytes : List ℕ) (kept kept2 : Shown X) (old mid : Left) (t : Token) (o : Option CodeHalt) (to : ℕ) → (h : Consumed base piece from bytes kept old) → (g : GivesItem old (WholeItem t) mid)
+      → (q : ReadsAhead IsKept kept kept2 o t.from (g.1 ++ g.2) to) → (p : Pushed Tree) × Ends free from ((h.read ++ g.0) ++ q.0) q.1 (merged free (further h.form) p) × IsPushedAs IsKept base piece kept2 o (merged free (further h.form) p)
+  ahead_pushed base piece from bytes kept kept2 old mid t o to h g q =
+      let a : List ℕ = g.0 in let v : List ℕ = q.0 in let r : List ℕ = q.1 in
+      let here : t.from ≡ from + length (h.read ++ a) = omega (arith, g.6.0, h.place, length-append h.read a) in
+      let apart : are_apart h.read (a ++ (v ++ r)) ≡ true = ap (λ z. are_apart h.read (a ++ z)) (sym q.2) ∙ (ap (are_apart h.read) (sym g.4) ∙ h.apart) in
+      let p = q.6 base piece h.form h.is_shown in (
+        p.0,
+        ends_token free from (h.read ++ a) v r h.form p.0 (spaces_form from h.read a h.form h.is_form g.5 (apart_front h.read a (v ++ r) apart))
+            (subst (λ n. Ends free n v r p.0) here p.1) (apart_spaces h.read a (v ++ r) apart g.5),
+        p.2,
+      )
+
+  behind_first : (v r w : List ℕ) (b : ℕ) → 0 < length v → b ∷ w ≡ v ++ r → (u : List ℕ) × (v ≡ b ∷ u) × (w ≡ u ++ r)
+  behind_first [] r w b h e = absurd (omega (arith, h))
+  behind_first (c ∷ u) r w b h e = let (same, more) = heads c b w (u ++ r) e in (u, ap (λ z. z ∷ u) (sym same), more)
+    where
+      heads : (c b : ℕ) (w x : List ℕ) → b ∷ w ≡ c ∷ x → (b ≡ c) × (w ≡ x)
+      heads c b w x e = (cc, cc)
+
+  pub opens_bytes : (old mid : Left) (t : Token) (b : Bracket) → t.kind ≡ kinds.Opens b → (g : GivesItem old (WholeItem t) mid) → g.1 ++ g.2 ≡ opening b ∷ g.2
+  opens_bytes old mid t b k g = ap (λ z. z ++ g.2) (subst (IsKind (old.at + length g.0) g.1 g.2) k g.6.2)
+
+  -- what is left behind the bytes that were read
+  pub ahead_left : (old mid : Left) (t : Token) (b : Bracket) (v r : List ℕ) (to : ℕ) → t.kind ≡ kinds.Opens b → (g : GivesItem old (WholeItem t) mid) → g.1 ++ g.2 ≡ v ++ r → to ≡ t.from + length v → 0 < length v
+      → (mid.state ≡ Out) × (mid.at ≤ to) × (to ≤ mid.at + length mid.rest) × (drop (to - mid.at) mid.rest ≡ r)
+  ahead_left old mid t b v r to k g e i some =
+      let one : g.1 ≡ opening b ∷ [] = subst (IsKind (old.at + length g.0) g.1 g.2) k g.6.2 in
+      let (u, first, more) = behind_first v r g.2 (opening b) some (ap (λ z. z ++ g.2) (sym one) ∙ e) in
+      let rest : mid.rest ≡ g.2 = next_left old mid t g (ap is_broken k) in
+      let at : mid.at ≡ t.from + 1 = ap (λ z. z.at) g.7 ∙ omega (arith, g.6.1, g.6.0, ap (λ z. length z) one) in
+      let size : length v ≡ suc (length u) = ap (λ z. length z) first in
+      let off : to - mid.at ≡ length u = omega (arith, i, at, size) in
+      let left : length mid.rest ≡ length u + length r = ap (λ z. length z) (rest ∙ more) ∙ length-append u r in
+      (ap (λ z. z.state) g.7, omega (arith, i, at, size), omega (arith, i, at, size, left), ap (λ n. drop n mid.rest) off ∙ (ap (drop (length u)) (rest ∙ more) ∙ drop-append_seam u r))
+
+  pub consumed_ahead : (base : ℕ) (piece : List ℕ) (from : ℕ) (bytes : List ℕ) (kept kept2 : Shown X) (old mid new : Left) (t : Token) (b : Bracket) (to : ℕ) → Consumed base piece from bytes kept old → t.kind ≡ kinds.Opens b → (g : GivesItem old (WholeItem t) mid)
+      → ReadsAhead IsKept kept kept2 None t.from (g.1 ++ g.2) to → new ≡ record { at = to; rest = drop (to - mid.at) mid.rest; state = Out } → Consumed base piece from bytes kept2 new
+  consumed_ahead base piece from bytes kept kept2 old mid new t b to h k g q n =
+      let p = ahead_pushed base piece from bytes kept kept2 old mid t None to h g q in
+      let f = whole_further base piece from ((h.read ++ g.0) ++ q.0) q.1 kept2 (merged free (further h.form) p.0) p.2 p.1 in
+      let (out, low, high, dropped) = ahead_left old mid t b q.0 q.1 to k g q.2 q.3 q.4 in
+      let left : new.rest ≡ q.1 = ap (λ z. z.rest) n ∙ dropped in
+      let (c, u, some) = first_of q.0 q.4 in
+      let last : ends_run ((h.read ++ g.0) ++ q.0) ≡ false = ap (λ z. ends_run ((h.read ++ g.0) ++ z)) some ∙ (ends_append (h.read ++ g.0) c u ∙ (ap ends_run (sym some) ∙ q.5)) in
+      record {
+        read = (h.read ++ g.0) ++ q.0;
+        form = f.0;
+        split = h.split ∙ (ap (λ z. h.read ++ z) (g.4 ∙ ap (λ z. g.0 ++ z) q.2) ∙ (sym (append_assoc h.read g.0 (q.0 ++ q.1)) ∙ (sym (append_assoc (h.read ++ g.0) q.0 q.1) ∙ ap (λ z. ((h.read ++ g.0) ++ q.0) ++ z) (sym left))));
+        is_form = f.1;
+        is_shown = f.2;
+        apart = open_end ((h.read ++ g.0) ++ q.0) new.rest last;
+        ended = λ m. last;
+        place = ap (λ z. z.at) n ∙ omega (arith, q.3, g.6.0, h.place, length-append (h.read ++ g.0) q.0, length-append h.read g.0);
+        out = ap (λ z. z.state) n;
+      }
+    where
+      first_of : (v : List ℕ) → 0 < length v → (c : ℕ) × (u : List ℕ) × (v ≡ c ∷ u)
+      first_of [] i = absurd (omega (arith, i))
+      first_of (c ∷ u) i = (c, u, refl)
+
+  pub consumed_ahead_stop : (base : ℕ) (piece : List ℕ) (from lead : ℕ) (bytes : List ℕ) (body : Body X) (kept : Shown X) (old mid : Left) (t : Token) (i : CodeHalt) (to : ℕ) → Consumed base piece from bytes kept old → (g : GivesItem old (WholeItem t) mid)
+      → ReadsAhead IsKept kept (shown body) (Some i) t.from (g.1 ++ g.2) to → HoldsBehind IsKept base piece from bytes lead (Broken lead body i)
+  consumed_ahead_stop base piece from lead bytes body kept old mid t i to h g q s u e l at at2 =
+      let p = ahead_pushed base piece from bytes kept (shown body) old mid t (Some i) to h g q in
+      let k = did_break base piece from ((h.read ++ g.0) ++ q.0) q.1 (shown body) i (merged free (further h.form) p.0) p.2 p.1 in
+      let all : ((h.read ++ g.0) ++ q.0) ++ q.1 ≡ bytes = append_assoc (h.read ++ g.0) q.0 q.1 ∙ (append_assoc h.read g.0 (q.0 ++ q.1) ∙ (ap (λ z. h.read ++ z) (sym (g.4 ∙ ap (λ z. g.0 ++ z) q.2)) ∙ sym h.split)) in
       record {
         first = u;
         form = k.0;

@@ -29,6 +29,8 @@ pub mod Joining
 pub mod TokenReads
 pub mod TokenMarks
 pub mod Items
+pub mod Ahead
+pub mod Passed
 pub mod Neighbours
 pub mod UnionsHeld
 pub mod Copies
@@ -38,3 +40,4 @@ pub mod Told
 pub mod Lasts
 pub mod WholeTexts
 pub mod Behind
+mod Leaps

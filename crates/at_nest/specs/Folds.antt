@@ -1,10 +1,12 @@
 -- What an algebra makes of a tree, from the leaves up: relations between what it holds and the trees for which that stands.
-use Rattle.std.specs.Prelude.{◌≡◌, ℕ, ◌⊎◌, List, [], ◌∷◌}
+use Rattle.std.specs.Prelude.{◌≡◌, ℕ, ◌⊎◌, List, [], ◌∷◌, ◌++◌, length}
 use Rattle.std.specs.Bool.{⊤}
 use Rattle.at_lex.specs.Strings.{JsonString, units_of}
 use Rattle.at_lex.specs.Runs.{JsonRun}
 use Rattle.at_nest.specs.declared.algebra.Member.{Member}
-use Rattle.at_nest.specs.Tree.{Tree, Trees, no_trees, tree_and, Members, no_members, member_and}
+use Rattle.at_nest.specs.declared.algebra.Attempt.{Attempt}
+use Rattle.at_nest.specs.declared.algebra.Attempt.TheVariants.{Whole, Unsaid}
+use Rattle.at_nest.specs.Tree.{Tree, Spells, Trees, no_trees, tree_and, Members, no_members, member_and}
 
 -- the bytes are a whole string, literal or number (RFC 8259 section 3)
 abbrev pub IsScalarText : List ℕ → Type 0
@@ -22,3 +24,8 @@ abbrev pub AreMemberFolds : {X : Type 0} → (X → Tree → Type 0) → List (M
 AreMemberFolds IsFold [] no_members = ⊤
 AreMemberFolds IsFold (x ∷ xs) (member_and name i t ms) = (x.name ≡ units_of name) × (x.name_at ≡ i) × IsFold x.value t × AreMemberFolds IsFold xs ms
 AreMemberFolds IsFold _ _ = ⊥
+
+-- the first bytes of w, which stand at `at`, spell a tree, and the atom is the algebra's own and stands for it; or nothing is said
+abbrev pub IsAttempt : {X : Type 0} → (X → Type 0) → (X → Tree → Type 0) → ℕ → List ℕ → Attempt X → Type 0
+IsAttempt IsOwn IsFold at w (Whole len atom) = (v r : List ℕ) × (w ≡ v ++ r) × (len ≡ length v) × (t : Tree) × Spells at v t × IsOwn atom × IsFold atom t
+IsAttempt IsOwn IsFold at w (Unsaid looked) = ⊤

@@ -2,6 +2,7 @@ pub mod Tree
 pub mod Syntax
 pub mod Twins
 pub mod Folds
+pub mod Passing
 pub mod Shown
 pub mod Holding
 pub mod Reading

@@ -1,5 +1,5 @@
 -- What a token makes of what is kept.
-use Rattle.std.specs.Prelude.{◌≡◌, ℕ, ◌+◌, ◌==◌, zero, suc, if◌then◌else◌, Option, List, [], ◌∷◌, ◌++◌, length}
+use Rattle.std.specs.Prelude.{◌≡◌, ℕ, ◌+◌, ◌<◌, ◌==◌, false, zero, suc, if◌then◌else◌, Option, List, [], ◌∷◌, ◌++◌, length}
 use Rattle.at_lex.specs.Spans.{IsToken as IsLexed}
 use Rattle.at_lex.specs.declared.tokens.Token.{Token}
 use Rattle.at_lex.specs.declared.tokens.Pend.{Pend}
@@ -8,6 +8,7 @@ use Rattle.at_nest.specs.declared.pieces.Within.{Within}
 use Rattle.at_nest.specs.declared.pieces.Within.TheVariants.{Run, Text}
 use Rattle.at_nest.specs.declared.pieces.Halt.{Halt}
 use Rattle.at_nest.specs.Tree.{Tree, Spells}
+use Rattle.at_nest.specs.Borders.{ends_run}
 use Rattle.at_nest.specs.Forms.{mark, entry}
 use Rattle.at_nest.specs.Levels.{Form, Pushed, further, push}
 use Rattle.at_nest.specs.Shown.{Shown, stop_at}
@@ -52,3 +53,8 @@ module _ {X : Type 0} (IsKept : X → Tree → Type 0) where
   -- a whole run
   abbrev pub ReadsRun : Shown X → Shown X → Option Halt → ℕ → List ℕ → Type 0
   ReadsRun old new r at v = (base : ℕ) (w : List ℕ) (f : Form Tree) (t : Tree) → IsShown IsKept base w old f → Spells at v t → IsPushedAs IsKept base w new r (push free f (mark (entry at t)))
+
+  -- what was read of the bytes that begin with an opening bracket, up to the offset `to`: the bracket alone, or a whole value
+  abbrev pub ReadsAhead : Shown X → Shown X → Option Halt → ℕ → List ℕ → ℕ → Type 0
+  ReadsAhead old new r at ahead to = (v : List ℕ) × (more : List ℕ) × (ahead ≡ v ++ more) × (to ≡ at + length v) × (0 < length v) × (ends_run v ≡ false)
+      × ((base : ℕ) (w : List ℕ) (f : Form Tree) → IsShown IsKept base w old f → (p : Pushed Tree) × Ends free at v more p × IsPushedAs IsKept base w new r (merged free (further f) p))

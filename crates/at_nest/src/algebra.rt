@@ -2,7 +2,7 @@
 
 ghost use Rattle.std.specs.Prelude.{◌+◌, ◌≤◌, ◌^◌, length, All, IfOk};
 ghost use Rattle.at_nest.specs.Tree.{Tree, Trees, Members, Spells, array as array_tree, object as object_tree};
-ghost use Rattle.at_nest.specs.Folds.{IsScalarText, AreFolds, AreMemberFolds};
+ghost use Rattle.at_nest.specs.Folds.{IsScalarText, AreFolds, AreMemberFolds, IsAttempt};
 
 use at_lex::Units;
 use at_text::Memory;
@@ -14,6 +14,15 @@ pub struct Member<T> {
     pub name: Units,
     pub name_at: u32,
     pub value: T,
+}
+
+/// What an algebra gives of the bytes from an opening bracket on.
+#[derive(Drop)]
+pub enum Attempt<T> {
+    /// The first `len` bytes are a whole value, and this is its atom.
+    Whole { len: u32, atom: T },
+    /// Nothing is said of them. So many bytes were looked at.
+    Unsaid { looked: u32 },
 }
 
 /// A way to make something of JSON texts: an atom of each value, from the atoms of the values in it.
@@ -54,6 +63,19 @@ pub trait Algebra: Sync {
         ensures own { IfOk result (is_own self.now) }
         ensures fold { IfOk result (λ atom. (ms : Members) → AreMemberFolds (is_fold self.now) members.items ms
             → is_fold self.now atom (object_tree at ms)) };
+
+    /// The atom of a whole array or object, read at once: the text begins with its opening bracket, which stands at the
+    /// offset, and may end before the value does. No clause says where the answer is `Whole`: what is left out is read
+    /// item by item, and comes to the same. Where the answer is `Unsaid` it tells how many bytes were looked at, by which
+    /// the reader of a piece bounds what is looked at in vain. The one refusal is want of memory.
+    fn value(&self, _alloc: Global, text: &[u8], at: u32) -> Result<Attempt<Self::Atom>, Memory>
+        requires fits { at + length text.now ≤ 2 ^ 28 }
+        ensures { IfOk result (IsAttempt (is_own self.now) (is_fold self.now) at text.now) }
+    {
+        let _ = text;
+        let _ = at;
+        Ok(Attempt::Unsaid { looked: 0 })
+    }
 
     /// A second atom that stands for the trees of the first. The one refusal is want of memory.
     fn copy(&self, alloc: Global, atom: &Self::Atom) -> Result<Self::Atom, Memory>

@@ -11,11 +11,12 @@ mod copying;
 mod finishing;
 mod fragments;
 mod levels;
+mod openings;
 mod pieces;
 mod tokens;
 mod variants;
 
-pub use algebra::{Algebra, Member};
+pub use algebra::{Algebra, Attempt, Member};
 pub use finishing::{NestEnd, finish, finish_span};
 pub use fragments::{Fragment, lost, merge, run_block};
 

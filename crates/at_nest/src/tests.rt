@@ -3,11 +3,13 @@ ghost use Rattle.at_text.specs.Texts.{base_of as base_in};
 ghost use Rattle.at_nest.specs.Holding.{Kept};
 ghost use Rattle.at_nest.specs.Standing.{StandsFor, part_of};
 
+mod leaping;
 mod slow;
 mod tally;
 
 use super::*;
 use at_text::{Span, base_of};
+use leaping::Leaping;
 use slow::slow_nest;
 use std::alloc::Global;
 use std::process::Abort;
@@ -121,6 +123,18 @@ fn answer(alloc: Global, bytes: &[u8], places: &[u32]) -> Result<u64, NestEnd>
     finish(alloc, &Tally, bytes, whole)
 }
 
+/// The same by an algebra that reads empty arrays at once.
+fn leaping_answer(alloc: Global, bytes: &[u8], places: &[u32]) -> Result<u64, NestEnd>
+    requires { length bytes.now ≤ 2 ^ 28 }
+{
+    let span = Span {
+        from: base_of(bytes),
+        to: bytes.len() as u32,
+    };
+    let whole = cut_at(alloc, &Leaping, bytes, span, places);
+    finish(alloc, &Leaping, bytes, whole)
+}
+
 /// A text, where it is cut, and its answer.
 type Row = (&'static [u8], &'static [u32], Result<u64, NestEnd>);
 
@@ -217,6 +231,44 @@ fn every_cut(rt: HostRuntime) {
         b"\"a string, {not} [a] \\\"text\\\": \\\\",
     ];
     compare_each(&rt, texts.as_slice());
+}
+
+fn compare_leaps<R: Abort + AllocGlobal>(rt: &R, texts: &[&'static [u8]]) {
+    for text in texts {
+        assert!(rt; text.len() < 100);
+        let whole = answer(rt.alloc(), text, &[]);
+        for cut in 0..=text.len() as u32 {
+            assert_eq!(rt;
+                leaping_answer(rt.alloc(), text, &[cut]),
+                whole,
+                "{text:?} at {cut}"
+            );
+        }
+    }
+}
+
+/// Values that are read at once change no answer: they stand where values may, where none may, and over a cut.
+#[test]
+fn values_at_once(rt: HostRuntime) {
+    let texts: [&'static [u8]; 16] = [
+        b"[]",
+        b" [] ",
+        b"[[],[ ],[[]]]",
+        b"[[],[]",
+        b"{\"a\":[],\"b\":[[]]}",
+        b"{\"a\":[]]",
+        b"{[]:1}",
+        b"{\"a\"[]}",
+        b"[[][]]",
+        b"[1[]]",
+        b"[][]",
+        b"[],",
+        b"[]1",
+        b"[\"[]\",\"\\\"[]\"]",
+        b"[[]",
+        b"[[]}",
+    ];
+    compare_leaps(&rt, texts.as_slice());
 }
 
 const ALPHABET: [u8; 8] = [b'[', b']', b'{', b'}', b',', b':', b'"', b'1'];

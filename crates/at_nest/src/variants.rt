@@ -10,9 +10,10 @@ ghost use Rattle.at_nest.specs.Stands.{HoldsVariant, HoldsBehind, CanMeet, Meets
 
 use crate::algebra::Algebra;
 use crate::bodies::{Body, join};
+use crate::openings::{Tries, read_opening};
 use crate::pieces::Halt;
 use crate::tokens::{cut_token, read_token};
-use at_lex::{Item, Lead, Lexer, Pend, Start};
+use at_lex::{Item, Lead, Lexer, Pend, Start, TokenKind};
 use at_text::Memory;
 use std::alloc::Global;
 
@@ -50,6 +51,16 @@ fn part<'a>(piece: &'a [u8], base: u32, from: u32, to: u32) -> &'a [u8]
     &piece[(from - base) as usize..(to - base) as usize]
 }
 
+/// The bytes from the offset on, which a piece with this base has.
+#[inline(always)]
+fn from_place<'a>(piece: &'a [u8], base: u32, from: u32) -> &'a [u8]
+    requires base { base ≤ from }
+    requires from { from ≤ base + length piece.now }
+    ensures { result.now ≡ drop (from - base) piece.now }
+{
+    &piece[(from - base) as usize..]
+}
+
 /// Where what may go on begins.
 fn pend_of(pend: Pend, end: u32) -> u32
     ensures { result ≡ pend_from pend end }
@@ -77,15 +88,28 @@ fn read_items<A: Algebra>(
         lexer.entry.at lexer.entry.rest lead) }
 {
     let mut body = Body::new(alloc);
+    let mut tries = Tries::new(base);
     loop {
         match lexer.next_item() {
-            Item::Whole(token) => {
-                let text = part(piece, base, token.from, token.to);
-                match read_token(&mut body, alloc, algebra, text, token)? {
-                    None => {}
-                    Some(halt) => return Ok(Variant::Broken { lead, body, halt }),
+            Item::Whole(token) => match token.kind {
+                TokenKind::Opens(bracket) => {
+                    let ahead = from_place(piece, base, token.from);
+                    let read = read_opening(
+                        &mut body, alloc, algebra, &mut tries, ahead, bracket, token.from,
+                    )?;
+                    match read.halt {
+                        None => lexer.skip_to(read.to),
+                        Some(halt) => return Ok(Variant::Broken { lead, body, halt }),
+                    }
                 }
-            }
+                _ => {
+                    let text = part(piece, base, token.from, token.to);
+                    match read_token(&mut body, alloc, algebra, text, token)? {
+                        None => {}
+                        Some(halt) => return Ok(Variant::Broken { lead, body, halt }),
+                    }
+                }
+            },
             Item::End { pend, end } => {
                 let pend = pend_of(pend, base + piece.len() as u32);
                 return Ok(Variant::Whole {

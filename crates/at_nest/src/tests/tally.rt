@@ -7,7 +7,7 @@ use at_text::Memory;
 use std::alloc::Global;
 use std::sync::atomic::{AtomicU64, Ordering};
 
-fn nodes_of_items(items: Vec<u64>) -> u64 {
+pub fn nodes_of_items(items: Vec<u64>) -> u64 {
     let mut nodes: u64 = 1;
     for item in items {
         nodes = nodes.wrapping_add(item);
@@ -15,7 +15,7 @@ fn nodes_of_items(items: Vec<u64>) -> u64 {
     nodes
 }
 
-fn nodes_of_members(members: Vec<Member<u64>>) -> u64 {
+pub fn nodes_of_members(members: Vec<Member<u64>>) -> u64 {
     let mut nodes: u64 = 1;
     for member in members {
         nodes = nodes.wrapping_add(member.value);

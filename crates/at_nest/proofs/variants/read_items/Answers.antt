@@ -6,9 +6,9 @@ use Rattle.at_nest.specs.declared.variants.Variant.TheVariants.{Whole}
 use Rattle.at_nest.specs.Shown.{Shown, shown}
 use Rattle.at_nest.specs.Unions.{empty_form}
 use Rattle.at_nest.specs.Holding.{Kept, IsShown}
-use Rattle.at_nest.specs.Reading.{ReadsToken}
+use Rattle.at_nest.specs.Reading.{ReadsToken, ReadsAhead}
 use Rattle.at_nest.specs.Stands.{HoldsBehind}
-use Rattle.at_nest.proofs.Items.{consumed_none, consumed_on, consumed_stop, consumed_end, token_bytes}
+use Rattle.at_nest.proofs.Items.{consumed_none, consumed_on, consumed_stop, consumed_end, token_bytes, ahead_bytes, opens_bytes, consumed_ahead, consumed_ahead_stop}
 use Rattle.at_nest.proofs.variants.read_items.Goals as goal
 
 pub loop-token-init : goal.loop-token-init
@@ -22,22 +22,46 @@ read_token-requires-clause-token g c κs within = let own = g.A.Algebra.is_own c
     let bytes = token_bytes (Kept own fold) c.args.base c.args.piece.now c.args.lexer.at c.args.lexer.rest (shown c.loop-token.body) c.loop-token.lexer c.next_item.new.self c.in-Whole.token c.requires.behind c.loop-token.invariant gives in
     (gives.2, subst (λ v. IsLexed c.in-Whole.token.from v gives.2 c.in-Whole.token) (sym (c.part-text.ensures ∙ bytes.0)) (subst (λ n. IsLexed n gives.1 gives.2 c.in-Whole.token) (sym gives.6.0) gives.6))
 
-pub returns-in-Some : goal.returns-in-Some
-returns-in-Some g c = let own = g.A.Algebra.is_own c.args.algebra.now in let fold = g.A.Algebra.is_fold c.args.algebra.now in
+pub returns-in-Some-2 : goal.returns-in-Some-2
+returns-in-Some-2 g c = let own = g.A.Algebra.is_own c.args.algebra.now in let fold = g.A.Algebra.is_fold c.args.algebra.now in
     let gives = c.in-Whole.ensures.gives in
     let bytes = token_bytes (Kept own fold) c.args.base c.args.piece.now c.args.lexer.at c.args.lexer.rest (shown c.loop-token.body) c.loop-token.lexer c.next_item.new.self c.in-Whole.token c.requires.behind c.loop-token.invariant gives in
-    consumed_stop (Kept own fold) c.args.base c.args.piece.now c.args.lexer.at c.args.lead c.args.lexer.rest c.read_token.new.body (shown c.loop-token.body) c.loop-token.lexer c.next_item.new.self c.in-Whole.token c.in-Some.halt c.requires.behind c.loop-token.invariant gives
-    (subst (λ v. ReadsToken (Kept own fold) (shown c.loop-token.body) (shown c.read_token.new.body) (Some c.in-Some.halt) v c.in-Whole.token) (c.part-text.ensures ∙ bytes.0)
-    (subst (λ (z : Option Halt). ReadsToken (Kept own fold) (shown c.loop-token.body) (shown c.read_token.new.body) z c.part-text.result.now c.in-Whole.token) c.in-Some.is c.in_ok-read_token-in-Whole.ensures.reads))
+    consumed_stop (Kept own fold) c.args.base c.args.piece.now c.args.lexer.at c.args.lead c.args.lexer.rest c.read_token.new.body (shown c.loop-token.body) c.loop-token.lexer c.next_item.new.self c.in-Whole.token c.in-Some-2.halt c.requires.behind c.loop-token.invariant gives
+    (subst (λ v. ReadsToken (Kept own fold) (shown c.loop-token.body) (shown c.read_token.new.body) (Some c.in-Some-2.halt) v c.in-Whole.token) (c.part-text.ensures ∙ bytes.0)
+    (subst (λ (z : Option Halt). ReadsToken (Kept own fold) (shown c.loop-token.body) (shown c.read_token.new.body) z c.part-text.result.now c.in-Whole.token) c.in-Some-2.is c.in_ok-read_token-in_default.ensures.reads))
 
 pub loop-token-preserved : goal.loop-token-preserved
 loop-token-preserved g c = let own = g.A.Algebra.is_own c.args.algebra.now in let fold = g.A.Algebra.is_fold c.args.algebra.now in
     let gives = c.in-Whole.ensures.gives in
     let bytes = token_bytes (Kept own fold) c.args.base c.args.piece.now c.args.lexer.at c.args.lexer.rest (shown c.loop-token.body) c.loop-token.lexer c.next_item.new.self c.in-Whole.token c.requires.behind c.loop-token.invariant gives in
     consumed_on (Kept own fold) c.args.base c.args.piece.now c.args.lexer.at c.args.lexer.rest (shown c.loop-token.body) (shown c.read_token.new.body) c.loop-token.lexer c.next_item.new.self c.in-Whole.token c.requires.behind c.loop-token.invariant gives
-    (c.in_ok-read_token-in-Whole.ensures.whole c.in-None.is)
+    (c.in_ok-read_token-in_default.ensures.whole c.in-None-2.is)
     (subst (λ v. ReadsToken (Kept own fold) (shown c.loop-token.body) (shown c.read_token.new.body) None v c.in-Whole.token) (c.part-text.ensures ∙ bytes.0)
-    (subst (λ (z : Option Halt). ReadsToken (Kept own fold) (shown c.loop-token.body) (shown c.read_token.new.body) z c.part-text.result.now c.in-Whole.token) c.in-None.is c.in_ok-read_token-in-Whole.ensures.reads))
+    (subst (λ (z : Option Halt). ReadsToken (Kept own fold) (shown c.loop-token.body) (shown c.read_token.new.body) z c.part-text.result.now c.in-Whole.token) c.in-None-2.is c.in_ok-read_token-in_default.ensures.reads))
+
+-- an opening bracket, or a whole value
+pub read_opening-requires-clause-begins : goal.read_opening-requires-clause-begins
+read_opening-requires-clause-begins g c κs within = let own = g.A.Algebra.is_own c.args.algebra.now in let fold = g.A.Algebra.is_fold c.args.algebra.now in
+    let gives = c.in-Whole.ensures.gives in
+    let bytes = ahead_bytes (Kept own fold) c.args.base c.args.piece.now c.args.lexer.at c.args.lexer.rest (shown c.loop-token.body) c.loop-token.lexer c.next_item.new.self c.in-Whole.token c.requires.behind c.loop-token.invariant gives in
+    (gives.2, c.from_place-ahead.ensures ∙ (bytes.0 ∙ opens_bytes (Kept own fold) c.loop-token.lexer c.next_item.new.self c.in-Whole.token c.in-Opens.bracket c.in-Opens.is gives))
+
+pub returns-in-Some : goal.returns-in-Some
+returns-in-Some g c = let own = g.A.Algebra.is_own c.args.algebra.now in let fold = g.A.Algebra.is_fold c.args.algebra.now in
+    let gives = c.in-Whole.ensures.gives in
+    let bytes = ahead_bytes (Kept own fold) c.args.base c.args.piece.now c.args.lexer.at c.args.lexer.rest (shown c.loop-token.body) c.loop-token.lexer c.next_item.new.self c.in-Whole.token c.requires.behind c.loop-token.invariant gives in
+    consumed_ahead_stop (Kept own fold) c.args.base c.args.piece.now c.args.lexer.at c.args.lead c.args.lexer.rest c.read_opening.new.body (shown c.loop-token.body) c.loop-token.lexer c.next_item.new.self c.in-Whole.token c.in-Some.halt c.in_ok-read-in-Opens.read.to c.loop-token.invariant gives
+    (subst (λ v. ReadsAhead (Kept own fold) (shown c.loop-token.body) (shown c.read_opening.new.body) (Some c.in-Some.halt) c.in-Whole.token.from v c.in_ok-read-in-Opens.read.to) (c.from_place-ahead.ensures ∙ bytes.0)
+    (subst (λ (z : Option Halt). ReadsAhead (Kept own fold) (shown c.loop-token.body) (shown c.read_opening.new.body) z c.in-Whole.token.from c.from_place-ahead.result.now c.in_ok-read-in-Opens.read.to) c.in-Some.is c.in_ok-read-in-Opens.ensures))
+
+pub loop-token-preserved-in-None : goal.loop-token-preserved-in-None
+loop-token-preserved-in-None g c = let own = g.A.Algebra.is_own c.args.algebra.now in let fold = g.A.Algebra.is_fold c.args.algebra.now in
+    let gives = c.in-Whole.ensures.gives in
+    let bytes = ahead_bytes (Kept own fold) c.args.base c.args.piece.now c.args.lexer.at c.args.lexer.rest (shown c.loop-token.body) c.loop-token.lexer c.next_item.new.self c.in-Whole.token c.requires.behind c.loop-token.invariant gives in
+    consumed_ahead (Kept own fold) c.args.base c.args.piece.now c.args.lexer.at c.args.lexer.rest (shown c.loop-token.body) (shown c.read_opening.new.body) c.loop-token.lexer c.next_item.new.self c.skip_to.new.self c.in-Whole.token c.in-Opens.bracket c.in_ok-read-in-Opens.read.to c.loop-token.invariant c.in-Opens.is gives
+    (subst (λ v. ReadsAhead (Kept own fold) (shown c.loop-token.body) (shown c.read_opening.new.body) (None) c.in-Whole.token.from v c.in_ok-read-in-Opens.read.to) (c.from_place-ahead.ensures ∙ bytes.0)
+    (subst (λ (z : Option Halt). ReadsAhead (Kept own fold) (shown c.loop-token.body) (shown c.read_opening.new.body) z c.in-Whole.token.from c.from_place-ahead.result.now c.in_ok-read-in-Opens.read.to) c.in-None.is c.in_ok-read-in-Opens.ensures))
+    c.skip_to.ensures
 
 pub returns-in-End : goal.returns-in-End
 returns-in-End g c = let own = g.A.Algebra.is_own c.args.algebra.now in let fold = g.A.Algebra.is_fold c.args.algebra.now in

@@ -1,0 +1,113 @@
+//! Opening brackets of a piece: the value behind one is read at once, where the algebra can, and else item by item.
+
+ghost use Rattle.std.specs.Prelude.{◌≡◌, ℕ, ◌+◌, ◌≤◌, ◌^◌, List, ◌∷◌, length, IfOk};
+ghost use Rattle.at_lex.specs.Spans.{opening};
+ghost use Rattle.at_nest.specs.Shown.{shown};
+ghost use Rattle.at_nest.specs.Holding.{Kept};
+ghost use Rattle.at_nest.specs.Reading.{ReadsAhead};
+
+use crate::algebra::{Algebra, Attempt};
+use crate::bodies::Body;
+use crate::pieces::Halt;
+use at_lex::Bracket;
+use at_text::Memory;
+use std::alloc::Global;
+
+/// An attempt to read a value at once sees so many bytes at least, where the piece has them.
+const WINDOW: u32 = 1 << 16;
+
+/// How many bytes of a piece were looked at in vain, by attempts to read a value at once.
+#[derive(Drop)]
+pub struct Tries {
+    base: u32,
+    vain: u32,
+}
+
+impl Tries {
+    pub fn new(base: u32) -> Self {
+        Tries { base, vain: 0 }
+    }
+
+    /// How many of the bytes ahead of the offset an attempt may see: none while more were looked at in vain than twice
+    /// what was passed and four windows, else a window and a quarter of what was passed.
+    #[inline(always)]
+    fn window(&self, at: u32, ahead: usize) -> usize
+        ensures { result ≤ ahead }
+    {
+        let passed = at.wrapping_sub(self.base);
+        if self.vain > passed.wrapping_mul(2).wrapping_add(4 * WINDOW) {
+            return 0;
+        }
+        ahead.min((passed / 4).wrapping_add(WINDOW) as usize)
+    }
+
+    /// One more attempt was in vain.
+    #[inline(always)]
+    fn failed(&mut self, looked: u32) {
+        self.vain = self.vain.saturating_add(looked);
+    }
+}
+
+/// How far a piece was read from an opening bracket on, and where it stops, if it does.
+#[derive(Clone, Copy)]
+pub struct Read {
+    pub to: u32,
+    pub halt: Option<Halt>,
+}
+
+/// Behind the bracket alone.
+#[inline(always)]
+fn opened<A: Algebra>(
+    body: &mut Body<A::Atom>,
+    alloc: Global,
+    algebra: &A,
+    ahead: &[u8],
+    bracket: Bracket,
+    at: u32,
+) -> Result<Read, Memory>
+    requires begins { (more : List ℕ) × (ahead.now ≡ opening bracket ∷ more) }
+    requires fits { at + length ahead.now ≤ 2 ^ 28 }
+    ensures { IfOk result (λ r. ReadsAhead (Kept (A.is_own algebra.now) (A.is_fold algebra.now))
+        (shown body.old) (shown body.new) r.halt at ahead.now r.to) }
+{
+    let _ = algebra;
+    let _ = ahead;
+    body.open(alloc, bracket, at)?;
+    Ok(Read {
+        to: at + 1,
+        halt: None,
+    })
+}
+
+/// Reads the bytes from an opening bracket on: the value that it opens, where the algebra reads it at once, or the
+/// bracket alone.
+#[inline(always)]
+pub fn read_opening<A: Algebra>(
+    body: &mut Body<A::Atom>,
+    alloc: Global,
+    algebra: &A,
+    tries: &mut Tries,
+    ahead: &[u8],
+    bracket: Bracket,
+    at: u32,
+) -> Result<Read, Memory>
+    requires begins { (more : List ℕ) × (ahead.now ≡ opening bracket ∷ more) }
+    requires fits { at + length ahead.now ≤ 2 ^ 28 }
+    ensures { IfOk result (λ r. ReadsAhead (Kept (A.is_own algebra.now) (A.is_fold algebra.now))
+        (shown body.old) (shown body.new) r.halt at ahead.now r.to) }
+{
+    let seen = tries.window(at, ahead.len());
+    if seen == 0 {
+        return opened(body, alloc, algebra, ahead, bracket, at);
+    }
+    match algebra.value(alloc, &ahead[..seen], at)? {
+        Attempt::Whole { len, atom } => {
+            let halt = body.value(at, atom)?;
+            Ok(Read { to: at + len, halt })
+        }
+        Attempt::Unsaid { looked } => {
+            tries.failed(looked);
+            opened(body, alloc, algebra, ahead, bracket, at)
+        }
+    }
+}
