@@ -8,6 +8,7 @@ ghost use Rattle.bench_nest.specs.Nodes.{IsCount};
 
 mod blocks;
 mod nodes;
+mod passing;
 mod tokens;
 
 use at_nest::NestEnd;

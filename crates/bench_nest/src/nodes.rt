@@ -5,9 +5,13 @@ ghost use Rattle.at_nest.specs.Tree.{Trees, Members, array as array_tree, object
 ghost use Rattle.at_nest.specs.Folds.{AreFolds, AreMemberFolds};
 ghost use Rattle.bench_nest.specs.Nodes.{IsAny, CountsNodes};
 
-use at_nest::{Algebra, Member};
+use crate::passing::pass_opening;
+use at_nest::{Algebra, Attempt, Member};
 use at_text::Memory;
 use std::alloc::Global;
+
+/// Brackets stand at most so deep in a value that is read at once.
+const DEEPEST: u8 = 12;
 
 #[derive(Drop)]
 pub struct Nodes {}
@@ -61,6 +65,19 @@ impl Algebra for Nodes {
     {
         let _ = at;
         Ok(sum_of_members(members.as_slice()).wrapping_add(1))
+    }
+
+    fn value(&self, _alloc: Global, text: &[u8], at: u32) -> Result<Attempt<u64>, Memory> {
+        let _ = at;
+        match pass_opening(text, DEEPEST) {
+            Ok(passed) => Ok(Attempt::Whole {
+                len: passed.end as u32,
+                atom: passed.count,
+            }),
+            Err(place) => Ok(Attempt::Unsaid {
+                looked: place.min(text.len()) as u32,
+            }),
+        }
     }
 
     fn copy(&self, _alloc: Global, atom: &u64) -> Result<u64, Memory> {
