@@ -6,6 +6,7 @@ mod classes;
 mod encoding;
 mod faults;
 mod memory;
+mod pieces;
 mod prefixes;
 mod texts;
 
@@ -13,6 +14,7 @@ pub use classes::{is_digit, is_run, is_space};
 pub use encoding::{base_of, utf8_fault};
 pub use faults::{Fault, FaultKind, first_fault};
 pub use memory::Memory;
+pub use pieces::Pieces;
 pub use prefixes::Taken;
 pub use texts::{Bytes, Span, Word};
 
