@@ -1,5 +1,6 @@
 mod Examples
 pub mod Growth
+pub mod GatesPassed
 pub mod Runs
 pub mod Prefixes
 pub mod Spelled

@@ -137,12 +137,13 @@ is_no_answer status (inr six) = ((λ z. omega (arith, six, z)), (λ z. omega (ar
 
 -- ---- what words say keeps the limits
 
-chosen_blocks : (values : List (List ℕ)) (blocks : ℕ) → IsChosen 64 (IsWhole 1 4096) values blocks → (1 ≤ blocks) × (blocks ≤ 4096)
-chosen_blocks [] blocks e = (omega (arith, e), omega (arith, e))
-chosen_blocks (value ∷ []) blocks h = (h.least, h.most)
-chosen_blocks (value ∷ second ∷ more) blocks h = absurd h
+chosen_within : (default most : ℕ) (values : List (List ℕ)) (n : ℕ) → 1 ≤ default → default ≤ most → IsChosen default (IsWhole 1 most) values n → (1 ≤ n) × (n ≤ most)
+chosen_within default most [] n low high e = (omega (arith, low, e), omega (arith, high, e))
+chosen_within default most (value ∷ []) n low high h = (h.least, h.most)
+chosen_within default most (value ∷ second ∷ more) n low high h = absurd h
 
 pub said_keeps : (words : List (List ℕ)) (line : Line) → SaysLine words line → KeepsLimits line
 said_keeps words line (pieces, after, spelled, values) =
-    let (some, few) = chosen_blocks _ line.blocks values.blocks in
-    record { some_blocks = some; few_blocks = few; query_fits = values.names.query_fits }
+    let (some, few) = chosen_within 64 4096 _ line.blocks (omega arith) (omega arith) values.blocks in
+    let (one, most) = chosen_within 4 64 _ line.workers (omega arith) (omega arith) values.workers in
+    record { some_blocks = some; few_blocks = few; some_workers = one; few_workers = most; query_fits = values.names.query_fits }

@@ -41,6 +41,8 @@ SaysLine words line = (pieces : List Piece) × (after : Option (List (List ℕ))
 pub record KeepsLimits (line : Line) : Type 0 where
   pub some_blocks : 1 ≤ line.blocks
   pub few_blocks : line.blocks ≤ 4096
+  pub some_workers : 1 ≤ line.workers
+  pub few_workers : line.workers ≤ 64
   pub query_fits : length line.query ≤ 2 ^ 28
 
 -- the form of a name's file: the one that the line says, or else the one that the name says

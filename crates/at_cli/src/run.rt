@@ -1,6 +1,7 @@
 ghost use Rattle.std.specs.Prelude.{◌≡◌, ◌≢◌, ◌⊎◌, ◌+◌, ◌≤◌, ◌^◌, ℕ, List, [], map, IfSome, string_bytes};
 ghost use Rattle.at_io.specs.Counts.{Rose};
 ghost use Rattle.at_io.specs.Sinks.{Grows, GrowsByPrefix};
+ghost use Rattle.at_cli.specs.Gates.{PassesSaid};
 ghost use Rattle.at_cli.specs.Texts.{read_line, write_line, memory_line};
 ghost use Rattle.at_cli.specs.Outcomes.{Outcome, stopped, answered, HasOutcome, TheOutcome, SayNoLine, AreRefused, AreAccepted};
 ghost use Rattle.at_cli.specs.Telling.{Tells};
@@ -11,11 +12,19 @@ use crate::deciding::end_of_line;
 use crate::ending::Ending;
 use crate::line::{WordsEnd, read_words};
 use crate::lines::{put_pieces, tell_line, tell_write_failed};
+use at_crew::Gate;
 use at_io::{Shelf, Sink};
 use std::alloc::Global;
+use std::thread::Threads;
 
 /// The end over the words and the shelf, with its cause.
-fn decide<S: Shelf>(alloc: Global, words: &[String], shelf: &mut S) -> Ending
+fn decide<S: Shelf, G: Gate, R: Threads + Sync>(
+    rt: &R,
+    alloc: Global,
+    words: &[String],
+    shelf: &mut S,
+    gate: &G,
+) -> Ending
     ensures outcome { Ends (HasOutcome (map string_bytes words.now)) (S.files shelf.old) result }
     ensures refused { status_of result ≡ 2 → AreRefused (map string_bytes words.now) (line_of result) }
     ensures refuses { (refusal : List ℕ) → AreRefused (map string_bytes words.now) refusal → (status_of result ≡ 2) ⊎ (status_of result ≡ 5) }
@@ -27,9 +36,10 @@ fn decide<S: Shelf>(alloc: Global, words: &[String], shelf: &mut S) -> Ending
     ensures asked { (shelf.new ≡ shelf.old) ⊎ ((name : List ℕ) × AreAccepted (map string_bytes words.now) name
         × AsksFor name (S.files shelf.old) (S.begins shelf.old) (S.begins shelf.new) (S.taken shelf.old) (S.taken shelf.new) (S.named shelf.new)) }
     ensures same_files { S.files shelf.new ≡ S.files shelf.old }
+    ensures passes { status_of result ≡ 0 → PassesSaid (G.given_up gate.now) (map string_bytes words.now) }
 {
     match read_words(alloc, words) {
-        Ok(line) => end_of_line(alloc, line, shelf),
+        Ok(line) => end_of_line(rt, alloc, line, shelf, gate),
         Err(WordsEnd::Refused) => Ending::Usage,
         Err(WordsEnd::Memory) => Ending::NoMemory,
     }
@@ -56,7 +66,8 @@ fn tell<O: Sink, E: Sink>(ending: &Ending, out: &mut O, err: &mut E) -> u8
 }
 
 /// Runs the program over the words behind its name: reads what they ask for from the shelf, writes the answer to
-/// `out` or one line to `err`, and answers the status.
+/// `out` or one line to `err`, and answers the status. The blocks of the file are run by as many passes as the words ask
+/// for, each of which enters the gate with a block before it runs it; no clause knows of an order of their steps.
 ///
 /// | Status | Comes |
 /// |---|---|
@@ -70,19 +81,23 @@ fn tell<O: Sink, E: Sink>(ending: &Ending, out: &mut O, err: &mut E) -> u8
 ///
 /// What is said of content holds where the shelf tells its files and the sinks what is written. The words and the files
 /// have at most one outcome, so what is written where nothing fails is a function of them.
-pub fn top<R, S: Shelf, O: Sink, E: Sink>(
-    _rt: &R,
+pub fn top<R: Threads + Sync, S: Shelf, O: Sink, E: Sink, G: Gate>(
+    rt: &R,
     alloc: Global,
     words: &[String],
     shelf: &mut S,
     out: &mut O,
     err: &mut E,
+    gate: &G,
 ) -> u8
     ensures status { result ≤ 6 }
 
     // 0: the answer of the words and the files is written, and nothing else.
     ensures answered { result ≡ 0 → (text : List ℕ) × Grows (O.written out.old) (O.written out.new) text × (err.new ≡ err.old) × (text ≡ [] → out.new ≡ out.old)
         × IfSome (S.files shelf.old) (λ told. TheOutcome (map string_bytes words.now) told (answered text)) }
+
+    // 0: the gate gave up no block of the file that was read.
+    ensures passes { result ≡ 0 → PassesSaid (G.given_up gate.now) (map string_bytes words.now) }
 
     // 1 and 6: the line of the words and the files is told.
     ensures stopped { ((result ≡ 1) ⊎ (result ≡ 6)) → (line : List ℕ) × Tells (E.faults err.old) (E.faults err.new) (E.written err.old) (E.written err.new) line
@@ -119,6 +134,6 @@ pub fn top<R, S: Shelf, O: Sink, E: Sink>(
     ensures complete { (result ≡ 3) ⊎ ((result ≡ 4) ⊎ ((result ≡ 5)
         ⊎ IfSome (S.files shelf.old) (λ told. (outcome : Outcome) × TheOutcome (map string_bytes words.now) told outcome × (result ≡ outcome.status)))) }
 {
-    let ending = decide(alloc, words, shelf);
+    let ending = decide(rt, alloc, words, shelf, gate);
     tell(&ending, out, err)
 }

@@ -1,9 +1,11 @@
 use super::*;
+use at_crew::Free;
 use at_io::{Failed, MemShelf, MemSink, NamedFile, PutFail, Shelf, Sink};
 use at_text::{Bytes, Word};
 use std::alloc::Global;
 use std::process::Abort;
 use std::test::Fail;
+use std::thread::Threads;
 
 /// One run of the program over a shelf with one file, of which a read gives two bytes.
 #[derive(Clone, Copy)]
@@ -71,14 +73,18 @@ fn words_of(alloc: Global, words: &[&str]) -> Result<Vec<String>, Fail> {
 }
 
 /// Runs each row, and compares what it writes.
-fn run_rows(rt: &impl Abort, alloc: Global, rows: &[Run<'_>]) -> Result<(), Fail> {
+fn run_rows<R: Abort + Threads + Sync>(
+    rt: &R,
+    alloc: Global,
+    rows: &[Run<'_>],
+) -> Result<(), Fail> {
     for row in rows {
         let asked = row.words;
         let words = words_of(alloc, asked)?;
         let mut shelf = shelf_of(alloc, row)?;
         let mut out = sink_of(alloc, row.failing_put)?;
         let mut err = sink_of(alloc, row.failing_line)?;
-        let status = top(rt, alloc, &words, &mut shelf, &mut out, &mut err);
+        let status = top(rt, alloc, &words, &mut shelf, &mut out, &mut err, &Free);
         assert_eq!(rt;
             err.written(),
             row.err.as_bytes(),
@@ -270,8 +276,8 @@ fn shelf_with(alloc: Global, name: &str, text: &str) -> Result<MemShelf, Fail> {
 }
 
 /// Runs the words over the shelf, and compares the status and what is written.
-fn compare_run(
-    rt: &impl Abort,
+fn compare_run<R: Abort + Threads + Sync>(
+    rt: &R,
     alloc: Global,
     words: &[String],
     shelf: &mut MemShelf,
@@ -281,7 +287,7 @@ fn compare_run(
     let line = line_in(alloc, text)?;
     let mut out = sink_of(alloc, None)?;
     let mut err = sink_of(alloc, None)?;
-    let got = top(rt, alloc, words, shelf, &mut out, &mut err);
+    let got = top(rt, alloc, words, shelf, &mut out, &mut err, &Free);
     assert!(rt; format!(in alloc; "{got}")?.as_str() == status, "{words:?}");
     let (told, silent) = if got == 0 {
         (out.written(), err.written())
@@ -294,7 +300,7 @@ fn compare_run(
 }
 
 /// Runs each row of a table.
-fn run_table(rt: &impl Abort, alloc: Global, table: &str) -> Result<(), Fail> {
+fn run_table<R: Abort + Threads + Sync>(rt: &R, alloc: Global, table: &str) -> Result<(), Fail> {
     for row in table.lines() {
         let (words, rest) = row.split_once(" => ").ok_or("words")?;
         let (name, rest) = rest.split_once(" => ").ok_or("a name")?;
@@ -384,7 +390,7 @@ fn a_file_too_large(rt: HostRuntime) -> Result<(), Fail> {
     };
     let mut out = sink_of(alloc, None)?;
     let mut err = sink_of(alloc, None)?;
-    let status = top(&rt, alloc, &words, &mut shelf, &mut out, &mut err);
+    let status = top(&rt, alloc, &words, &mut shelf, &mut out, &mut err, &Free);
     assert_eq!(rt; status, 6);
     assert_eq!(rt; shelf.taken, (1 << 28) + 1);
     assert_eq!(rt;

@@ -2,6 +2,7 @@
 use Rattle.std.proofs.Common.{◌≡◌, ◌≢◌, ℕ, ◌+◌, ◌-◌, ◌≤◌, ◌==◌, Bool, true, false, Option, Some, None, List, [], ◌∷◌, ◌++◌, refl, sym, ◌∙◌, ap, subst, arith, length, length-append, take, drop}
 use Rattle.std.proofs.lemmas.Bool.{ne_eqb}
 use Rattle.std.proofs.lemmas.List.{take-append-drop, take-take, drop-take, drop-drop, length-take-le, length-drop}
+use Rattle.at_text.specs.Spans.{part_of, AreNeighbours}
 use Rattle.at_lex.specs.Spans.{after_byte, end_of, ClosesText, StaysInText}
 use Rattle.at_lex.specs.declared.tokens.Start.{Start}
 use Rattle.at_lex.specs.declared.tokens.Start.TheVariants.{Out, InString, InEscape}
@@ -16,7 +17,7 @@ use Rattle.at_nest.specs.declared.variants.Variant.TheVariants.{AllLead, Whole, 
 use Rattle.at_nest.specs.Tree.{Tree}
 use Rattle.at_nest.specs.Holding.{IsPartOf}
 use Rattle.at_nest.specs.Stands.{HoldsVariant, HaveUnion}
-use Rattle.at_nest.specs.Standing.{HoldsEscape, HoldsParts, HoldsSome, AreNeighbours, parts_of, part_of}
+use Rattle.at_nest.specs.Standing.{HoldsEscape, HoldsParts, HoldsSome, StandsFor, parts_of}
 use Rattle.at_nest.specs.Slots.{end_in, escape_end, slot_in, variant_in, Stays, StandsAs, GoesOn, EscapeGoesOn, AreBeside}
 use Rattle.at_nest.proofs.UnionsHeld.{broken_union}
 
@@ -150,7 +151,7 @@ pub is_part : (bytes : List ℕ) (i k : ℕ) → i ≤ k → k ≤ length bytes 
 is_part bytes i k h g = (take i bytes, drop (k - i) (drop i bytes), sym (ap (λ z. take i bytes ++ z) (take-append-drop (k - i) (drop i bytes)) ∙ take-append-drop i bytes), sym (length-take-le i bytes (omega arith)))
 
 module _ {A X : Type 0} (IsKept : X → Tree → Type 0) where
-  pub parts_beside : (bytes : List ℕ) (i j k : ℕ) (left right : Fragment A X) (l r : Parts X) → parts_of left ≡ Some l → parts_of right ≡ Some r → AreNeighbours IsKept bytes i j k left right → AreBeside IsKept bytes i (part_of bytes i j) (part_of bytes j k) l r
+  pub parts_beside : (bytes : List ℕ) (i j k : ℕ) (left right : Fragment A X) (l r : Parts X) → parts_of left ≡ Some l → parts_of right ≡ Some r → AreNeighbours (StandsFor IsKept) bytes i j k left right → AreBeside IsKept bytes i (part_of bytes i j) (part_of bytes j k) l r
   parts_beside bytes i j k left right l r e f (h, g, m, hl, hr) = (
     subst (IsPartOf bytes i) (sym (part_joined bytes i j k h g)) (is_part bytes i k (omega (arith, h, g)) m),
     subst (HoldsSome IsKept i (part_of bytes i j)) e hl,

@@ -1,6 +1,7 @@
 -- A span that is read as a whole text: its lead is a run of its own, and behind it stand the items that are kept.
 use Rattle.std.proofs.Common.{◌≡◌, ℕ, inl, inr, Option, Some, None, List, [], ◌∷◌, ◌++◌, true, Result, Err, refl, sym, ◌∙◌, ap, subst, arith, append_assoc, append-nil, ◌+◌, ◌-◌, ◌≤◌, length, length-append, length-drop, length-take, take, drop, take-append-drop}
 use Rattle.std.proofs.Math.Seq.{take-append_seam, take-length, drop-append_seam}
+use Rattle.at_text.specs.Spans.{part_of}
 use Rattle.at_lex.specs.Spans.{AreRun}
 use Rattle.at_lex.specs.declared.tokens.Start.{Start}
 use Rattle.at_lex.specs.declared.tokens.Start.TheVariants.{Out}
@@ -15,7 +16,6 @@ use Rattle.at_nest.specs.Variants.{IsLeadEnd, IsPending, none_pending, run_pendi
 use Rattle.at_nest.specs.Answers.{finished}
 use Rattle.at_nest.specs.Shown.{Shown, show_as}
 use Rattle.at_nest.specs.Holding.{free, halt_of, IsShown, IsPushedAs, IsPartOf}
-use Rattle.at_nest.specs.Standing.{part_of}
 use Rattle.at_nest.specs.Stands.{HoldsWhole, HoldsBroken, CanMeet, Meets}
 use Rattle.at_nest.specs.Nexts.{next_of, stop_of}
 use Rattle.at_nest.specs.Lasts.{EndsSo}

@@ -1,5 +1,5 @@
 -- A fragment stands for bytes of a file: from each of the three start states its variant is theirs. A lost one stands for any.
-use Rattle.std.specs.Prelude.{◌≡◌, ◌≢◌, ℕ, ◌+◌, Option, Some, None, Box, List, ◌∷◌, length, ◌-◌, ◌≤◌, take, drop}
+use Rattle.std.specs.Prelude.{◌≡◌, ◌≢◌, ℕ, ◌+◌, Option, Some, None, Box, List, ◌∷◌, length}
 use Rattle.std.specs.Bool.{⊤}
 use Rattle.std.specs.Global.{Global}
 use Rattle.at_lex.specs.declared.tokens.Start.TheVariants.{Out, InString, InEscape}
@@ -38,11 +38,3 @@ module _ {A X : Type 0} where
 
   abbrev pub StandsFor : (X → Tree → Type 0) → ℕ → List ℕ → Fragment A X → Type 0
   StandsFor IsKept at w f = HoldsSome IsKept at w (parts_of f)
-
--- the bytes from i up to, not including, k
-abbrev pub part_of : List ℕ → ℕ → ℕ → List ℕ
-part_of bytes i k = take (k - i) (drop i bytes)
-
--- two fragments stand for neighbouring spans of the bytes
-abbrev pub AreNeighbours : {A X : Type 0} → (X → Tree → Type 0) → List ℕ → ℕ → ℕ → ℕ → Fragment A X → Fragment A X → Type 0
-AreNeighbours IsKept bytes i j k left right = (i ≤ j) × (j ≤ k) × (k ≤ length bytes) × StandsFor IsKept i (part_of bytes i j) left × StandsFor IsKept j (part_of bytes j k) right

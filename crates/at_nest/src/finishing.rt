@@ -1,12 +1,13 @@
 //! The answer of a whole text.
 
 ghost use Rattle.std.specs.Prelude.{◌≡◌, ◌+◌, ◌≤◌, ◌^◌, true, drop, length, Ok, Err, None};
+ghost use Rattle.at_text.specs.Spans.{part_of};
 ghost use Rattle.at_text.specs.Texts.{base_of as base_in};
 ghost use Rattle.at_lex.specs.Runs.{JsonRun};
 ghost use Rattle.at_lex.specs.Spans.{begins_run};
 ghost use Rattle.at_nest.specs.Shown.{held_of, shown, open_levels};
 ghost use Rattle.at_nest.specs.Holding.{Kept};
-ghost use Rattle.at_nest.specs.Standing.{StandsFor, part_of, parts_of};
+ghost use Rattle.at_nest.specs.Standing.{StandsFor, parts_of};
 ghost use Rattle.at_nest.specs.Stands.{HoldsVariant};
 ghost use Rattle.at_nest.specs.Variants.{IsPending};
 ghost use Rattle.at_nest.specs.Nexts.{takes, level_next, levels_next as levels_end, outer_next as outer_end, next_of as next_behind, value_of, only_of, answer_of as answer_behind, stop_of as stop_behind, open_of as open_behind};

@@ -1,11 +1,12 @@
 //! Fragments: what a span of JSON is from each start state.
 
 ghost use Rattle.std.specs.Prelude.{◌≡◌, ℕ, ◌+◌, ◌≤◌, ◌^◌, ◌++◌, true, List, length, IfOk};
+ghost use Rattle.at_text.specs.Spans.{AreNeighbours, IsMerged};
 ghost use Rattle.at_lex.specs.declared.tokens.Start.{Start};
 ghost use Rattle.at_nest.specs.Holding.{Kept};
 ghost use Rattle.at_nest.specs.Stands.{HoldsVariant};
 ghost use Rattle.at_nest.specs.Slots.{HoldsSome, StandsAs, GoesOn, EscapeGoesOn, AreBeside, Stays, slot_in, escape_end, variant_in, no_items};
-ghost use Rattle.at_nest.specs.Standing.{HoldsEscape, HoldsParts, StandsFor, AreNeighbours, part_of, parts_of};
+ghost use Rattle.at_nest.specs.Standing.{HoldsEscape, HoldsParts, StandsFor, parts_of};
 
 use crate::algebra::Algebra;
 use crate::copying::copy_variant;
@@ -342,9 +343,8 @@ pub fn merge<A: Algebra>(
     right: Fragment<A>,
 ) -> Fragment<A>
     requires fits { length bytes.now ≤ 2 ^ 28 }
-    requires neighbours { (i : ℕ) × (j : ℕ) × (k : ℕ) × AreNeighbours (Kept (A.is_own algebra.now) (A.is_fold algebra.now)) bytes.now i j k left right }
-    ensures union { (i j k : ℕ) → AreNeighbours (Kept (A.is_own algebra.now) (A.is_fold algebra.now)) bytes.now i j k left right
-        → StandsFor (Kept (A.is_own algebra.now) (A.is_fold algebra.now)) i (part_of bytes.now i k) result }
+    requires neighbours { (i : ℕ) × (j : ℕ) × (k : ℕ) × AreNeighbours (StandsFor (Kept (A.is_own algebra.now) (A.is_fold algebra.now))) bytes.now i j k left right }
+    ensures union { IsMerged (StandsFor (Kept (A.is_own algebra.now) (A.is_fold algebra.now))) bytes.now left right result }
     ensures left_lost { parts_of left ≡ None → parts_of result ≡ None }
     ensures right_lost { parts_of right ≡ None → parts_of result ≡ None }
 {

@@ -2,9 +2,7 @@
 use Rattle.std.proofs.Common.{ℕ, ◌+◌, ◌-◌, ◌<◌, ◌≤◌, List, length, arith}
 use Rattle.std.specs.Prelude.{slice_index}
 use Rattle.std.specs.List.Sorted.{IsNonDecreasing}
-use Rattle.at_wkt.specs.Lines.{FileLine}
-use Rattle.at_wkt.specs.declared.fragments.LineFragment.{LineFragment}
-use Rattle.at_wkt.specs.Folding.{StandsFor, AreNeighbours, part_of}
+use Rattle.at_text.specs.Spans.{StandsAt, AreNeighbours}
 use Rattle.at_run.specs.Places.{first_place, last_place}
 
 -- neighbouring places, and how far they go
@@ -15,18 +13,14 @@ pub place_within : (places : List ℕ) (i size : ℕ) → IsNonDecreasing places
 place_within places i size h inside le = let o = h i (length places - 1) 0 (omega (arith, inside)) (omega (arith, inside)) in omega (arith, o, le)
 
 -- the blocks so far and the next one are neighbours
-pub next_neighbours : {P : Type 0} (IsKept : P → List FileLine → Type 0) (bytes places : List ℕ) (i : ℕ) (whole block : LineFragment P) → IsNonDecreasing places → last_place places ≤ length bytes → i + 1 < length places
-    → StandsFor IsKept (first_place places) (part_of bytes (first_place places) (slice_index places i)) whole
-    → StandsFor IsKept (slice_index places i) (part_of bytes (slice_index places i) (slice_index places (i + 1))) block
-    → AreNeighbours IsKept bytes (first_place places) (slice_index places i) (slice_index places (i + 1)) whole block
-next_neighbours IsKept bytes places i whole block order within inside h k = (
+pub next_neighbours : {F : Type 0} (Stands : ℕ → List ℕ → F → Type 0) (bytes places : List ℕ) (i : ℕ) (whole block : F) → IsNonDecreasing places → last_place places ≤ length bytes → i + 1 < length places
+    → StandsAt Stands bytes (first_place places) (slice_index places i) whole
+    → StandsAt Stands bytes (slice_index places i) (slice_index places (i + 1)) block
+    → AreNeighbours Stands bytes (first_place places) (slice_index places i) (slice_index places (i + 1)) whole block
+next_neighbours Stands bytes places i whole block order within inside h k = (
   place_order places 0 i order (omega arith) (omega (arith, inside)),
   place_order places i (i + 1) order (omega arith) inside,
   place_within places (i + 1) (length bytes) order inside within,
   h,
   k,
 )
-
-pub some_neighbours : {P : Type 0} (IsKept : P → List FileLine → Type 0) (bytes : List ℕ) (i j k : ℕ) (left right : LineFragment P) → AreNeighbours IsKept bytes i j k left right
-    → (i j k : ℕ) × AreNeighbours IsKept bytes i j k left right
-some_neighbours IsKept bytes i j k left right h = (i, j, k, h)

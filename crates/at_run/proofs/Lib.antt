@@ -4,6 +4,7 @@ pub mod EvenPlaces
 pub mod LineParts
 pub mod ShapeRanges
 pub mod Covered
+pub mod BlockParts
 pub mod LineSizes
 pub mod FileSizes
 pub mod Results

@@ -1,8 +1,11 @@
 //! A query over the bytes of a file, cut into blocks anywhere.
 //!
 //! [`answer`] reads each block without knowing what stands before it, merges the results of neighbours, and gives the
-//! part of the file's features or the file's first fault. Its contract says so without a word of the [`Cuts`]: that is
-//! what "for every cut" means.
+//! part of the file's features or the file's first fault. Its contract says so without a word of the [`Cuts`], of the
+//! passes that run at once, or of the order of their steps: that is what "for every cut" and "for every order" mean.
+//!
+//! What is done with a block is a reader's own (`Pieces` of at_text). [`run_file`] has a crew run the blocks of any
+//! reader, and [`run_blocks`] runs them one after another.
 #![tactic(auto)]
 
 mod answers;
@@ -11,12 +14,15 @@ mod cuts;
 mod faults;
 mod forms;
 mod gathered;
+mod jobs;
 mod line_queries;
 
 pub use answers::answer;
+pub use blocks::run_blocks;
 pub use cuts::Cuts;
 pub use faults::RunFault;
 pub use forms::Form;
+pub use jobs::run_file;
 
 #[cfg(test)]
 mod tests;

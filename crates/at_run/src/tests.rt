@@ -1,13 +1,16 @@
-ghost use Rattle.std.specs.Prelude.{◌≡◌, ◌≢◌, ◌≤◌, ◌^◌, length, IfSome, IfOk};
+ghost use Rattle.std.specs.Prelude.{◌≡◌, ◌≢◌, ◌∷◌, ◌≤◌, ◌^◌, [], length, IfSome, IfOk};
 ghost use Rattle.at_query.specs.Ranges.{IsTestInRange, IsQueryInRange};
 
 use super::*;
+use at_crew::{Free, Gate};
 use at_fixed::Coords;
 use at_geom::{Extent, Pos};
 use at_query::{Query, Test, Tests, Verb, answer_text};
 use at_text::base_of;
 use std::alloc::{AllocError, Global};
+use std::sync::atomic::{AtomicU64, Ordering};
 use std::test::Fail;
+use std::thread::Threads;
 
 /// Texts whose bytes are written with `~` for a line feed, `^` for a carriage return and `%` for the byte FF.
 fn bytes_of(alloc: Global, text: &str) -> Result<Vec<u8>, AllocError> {
@@ -40,10 +43,21 @@ fn asked(alloc: Global, verb: Verb, test: Option<Test>) -> Result<Query, AllocEr
 }
 
 /// What a file is found to be under cuts: the printed answer, or its first fault. Coordinates are read exactly.
-fn told(alloc: Global, bytes: &[u8], cuts: &Cuts, query: &Query) -> Result<String, Fail>
+fn told<R: Threads + Sync, G: Gate>(
+    rt: &R,
+    alloc: Global,
+    bytes: &[u8],
+    cuts: &Cuts,
+    query: &Query,
+    workers: u32,
+    gate: &G,
+) -> Result<String, Fail>
     requires in_range { IsQueryInRange query.now }
     requires no_join { query.now.verb ≢ Verb.Join }
 {
+    if workers == 0 || workers > 64 {
+        return Err(Fail::from("no such passes"));
+    }
     if bytes.len() > 100 {
         return Err(Fail::from("too many bytes"));
     }
@@ -53,7 +67,18 @@ fn told(alloc: Global, bytes: &[u8], cuts: &Cuts, query: &Query) -> Result<Strin
     if cuts.last() as usize != bytes.len() {
         return Err(Fail::from("another last place"));
     }
-    match answer(alloc, bytes, Form::Wkt, cuts, query, 7, Coords::Exact) {
+    match answer(
+        rt,
+        alloc,
+        bytes,
+        Form::Wkt,
+        cuts,
+        query,
+        7,
+        Coords::Exact,
+        workers,
+        gate,
+    ) {
         Ok(answer) => Ok(answer_text(alloc, &answer, 7)?),
         Err(RunFault::Found(fault)) => {
             let kind = fault.kind;
@@ -65,18 +90,29 @@ fn told(alloc: Global, bytes: &[u8], cuts: &Cuts, query: &Query) -> Result<Strin
 }
 
 /// What a file is found to be, cut at these places.
-fn told_at(alloc: Global, bytes: &[u8], places: Vec<u32>, query: &Query) -> Result<String, Fail>
+fn told_at<R: Threads + Sync>(
+    rt: &R,
+    alloc: Global,
+    bytes: &[u8],
+    places: Vec<u32>,
+    query: &Query,
+) -> Result<String, Fail>
     requires in_range { IsQueryInRange query.now }
     requires no_join { query.now.verb ≢ Verb.Join }
 {
     match Cuts::from_places(places) {
-        Some(cuts) => told(alloc, bytes, &cuts, query),
+        Some(cuts) => told(rt, alloc, bytes, &cuts, query, 1, &Free),
         None => Err(Fail::from("no cuts")),
     }
 }
 
 /// What every pair of cuts finds a file to be, where all agree; the blocks are four, of which one is empty.
-fn told_of_pairs(alloc: Global, bytes: &[u8], query: &Query) -> Result<String, Fail>
+fn told_of_pairs<R: Threads + Sync>(
+    rt: &R,
+    alloc: Global,
+    bytes: &[u8],
+    query: &Query,
+) -> Result<String, Fail>
     requires in_range { IsQueryInRange query.now }
     requires no_join { query.now.verb ≢ Verb.Join }
 {
@@ -85,11 +121,11 @@ fn told_of_pairs(alloc: Global, bytes: &[u8], query: &Query) -> Result<String, F
     }
     let base = base_of(bytes);
     let end = bytes.len() as u32;
-    let uncut = told_at(alloc, bytes, vec![in alloc; base, end]?, query)?;
+    let uncut = told_at(rt, alloc, bytes, vec![in alloc; base, end]?, query)?;
     for first in base..end + 1 {
         for second in first..end + 1 {
             let places = vec![in alloc; base, first, second, second, end]?;
-            let cut = told_at(alloc, bytes, places, query)?;
+            let cut = told_at(rt, alloc, bytes, places, query)?;
             if cut.as_str() != uncut.as_str() {
                 return Err(Fail::from("cuts that tell otherwise"));
             }
@@ -98,8 +134,15 @@ fn told_of_pairs(alloc: Global, bytes: &[u8], query: &Query) -> Result<String, F
     Ok(uncut)
 }
 
-/// What a file is found to be in so many blocks.
-fn told_evenly(alloc: Global, bytes: &[u8], blocks: u32, query: &Query) -> Result<String, Fail>
+/// What a file is found to be in so many blocks, by so many passes.
+fn told_evenly<R: Threads + Sync>(
+    rt: &R,
+    alloc: Global,
+    bytes: &[u8],
+    blocks: u32,
+    query: &Query,
+    workers: u32,
+) -> Result<String, Fail>
     requires in_range { IsQueryInRange query.now }
     requires no_join { query.now.verb ≢ Verb.Join }
 {
@@ -108,7 +151,7 @@ fn told_evenly(alloc: Global, bytes: &[u8], blocks: u32, query: &Query) -> Resul
         return Err(Fail::from("no such blocks"));
     }
     let cuts = Cuts::even(alloc, base, bytes.len() as u32, blocks)?;
-    told(alloc, bytes, &cuts, query)
+    told(rt, alloc, bytes, &cuts, query, workers, &Free)
 }
 
 /// What `select` prints over a file, with a comma behind each offset, or the file's first fault; a bar; and the file.
@@ -135,20 +178,22 @@ Ring 9|POLYGON ((0 0,1 0,1 1))~
 NotUtf8 14|x~POINT (1 2)~%
 NotUtf8 7|POINT (%~x";
 
-/// A file of the table under all pairs of cuts, and in up to 64 blocks.
-fn check_row(alloc: Global, row: &str, query: &Query) -> Result<(), Fail>
+/// A file of the table under all pairs of cuts, and in 64 blocks by one pass, by four and by 64.
+fn check_row<R: Threads + Sync>(rt: &R, alloc: Global, row: &str, query: &Query) -> Result<(), Fail>
     requires in_range { IsQueryInRange query.now }
     requires no_join { query.now.verb ≢ Verb.Join }
 {
     let (expected, file) = row.split_once('|').ok_or("a bar")?;
     let bytes = bytes_of(alloc, file)?;
-    let told = told_of_pairs(alloc, bytes.as_slice(), query)?;
+    let told = told_of_pairs(rt, alloc, bytes.as_slice(), query)?;
     if told.replace(alloc, "\n", ",")?.as_str() != expected {
         return Err(Fail::from("another answer"));
     }
-    let evenly = told_evenly(alloc, bytes.as_slice(), 64, query)?;
-    if evenly.as_str() != told.as_str() {
-        return Err(Fail::from("even blocks that tell otherwise"));
+    for workers in [1, 4, 64] {
+        let evenly = told_evenly(rt, alloc, bytes.as_slice(), 64, query, workers)?;
+        if evenly.as_str() != told.as_str() {
+            return Err(Fail::from("even blocks that tell otherwise"));
+        }
     }
     Ok(())
 }
@@ -157,13 +202,18 @@ fn check_row(alloc: Global, row: &str, query: &Query) -> Result<(), Fail>
 fn every_cut(rt: HostRuntime) -> Result<(), Fail> {
     let query = asked(rt.alloc(), Verb::Select, None)?;
     for row in FILES.lines() {
-        check_row(rt.alloc(), row, &query)?;
+        check_row(&rt, rt.alloc(), row, &query)?;
     }
     Ok(())
 }
 
 /// One cut of a file, at each place from its first to its last.
-fn told_of_places(alloc: Global, bytes: &[u8], query: &Query) -> Result<String, Fail>
+fn told_of_places<R: Threads + Sync>(
+    rt: &R,
+    alloc: Global,
+    bytes: &[u8],
+    query: &Query,
+) -> Result<String, Fail>
     requires in_range { IsQueryInRange query.now }
     requires no_join { query.now.verb ≢ Verb.Join }
 {
@@ -174,7 +224,7 @@ fn told_of_places(alloc: Global, bytes: &[u8], query: &Query) -> Result<String, 
     let end = bytes.len() as u32;
     let mut all = String::new(alloc);
     for place in base..end + 1 {
-        let told = told_at(alloc, bytes, vec![in alloc; base, place, end]?, query)?;
+        let told = told_at(rt, alloc, bytes, vec![in alloc; base, place, end]?, query)?;
         if all.is_empty() {
             all = told;
         } else if all.as_str() != told.as_str() {
@@ -189,37 +239,40 @@ fn one_cut(rt: HostRuntime) -> Result<(), Fail> {
     let query = asked(rt.alloc(), Verb::Select, None)?;
     let plain = bytes_of(rt.alloc(), "POINT (1 2)^~ \t~POINT (3 4)^")?;
     assert_eq!(rt; plain.len(), 28);
-    let told = told_of_places(rt.alloc(), plain.as_slice(), &query)?;
+    let told = told_of_places(&rt, rt.alloc(), plain.as_slice(), &query)?;
     assert_eq!(rt; told.as_str(), "0\n16\n");
     let marked = bytes_of(rt.alloc(), "\u{FEFF}POINT (1 2)^~ \t~POINT (3 4)^")?;
     assert_eq!(rt; marked.len(), 31);
-    let told = told_of_places(rt.alloc(), marked.as_slice(), &query)?;
+    let told = told_of_places(&rt, rt.alloc(), marked.as_slice(), &query)?;
     assert_eq!(rt; told.as_str(), "3\n19\n");
     Ok(())
 }
 
 /// A square of the side 2 and a point beside it, under every pair of cuts.
-fn told_of_square(alloc: Global, verb: Verb) -> Result<String, Fail>
+fn told_of_square<R: Threads + Sync>(rt: &R, alloc: Global, verb: Verb) -> Result<String, Fail>
     requires { verb ≢ Verb.Join }
 {
     let query = asked(alloc, verb, None)?;
     let bytes = bytes_of(alloc, "POLYGON ((0 0,2 0,2 2,0 2,0 0))~POINT (5 -1)~")?;
-    told_of_pairs(alloc, bytes.as_slice(), &query)
+    told_of_pairs(rt, alloc, bytes.as_slice(), &query)
 }
 
 #[test]
 fn other_verbs(rt: HostRuntime) -> Result<(), Fail> {
     assert_eq!(rt;
-        told_of_square(rt.alloc(), Verb::Select)?.as_str(),
+        told_of_square(&rt, rt.alloc(), Verb::Select)?.as_str(),
         "0\n32\n"
     );
-    assert_eq!(rt; told_of_square(rt.alloc(), Verb::Count)?.as_str(), "2\n");
     assert_eq!(rt;
-        told_of_square(rt.alloc(), Verb::Area)?.as_str(),
+        told_of_square(&rt, rt.alloc(), Verb::Count)?.as_str(),
+        "2\n"
+    );
+    assert_eq!(rt;
+        told_of_square(&rt, rt.alloc(), Verb::Area)?.as_str(),
         "800000000000000\n"
     );
     assert_eq!(rt;
-        told_of_square(rt.alloc(), Verb::Extent)?.as_str(),
+        told_of_square(&rt, rt.alloc(), Verb::Extent)?.as_str(),
         "0.0000000 -1.0000000 5.0000000 2.0000000\n"
     );
     Ok(())
@@ -240,7 +293,7 @@ fn tests_of_queries(rt: HostRuntime) -> Result<(), Fail> {
         rt.alloc(),
         "POINT (1 1)~POINT EMPTY~POINT (1.0000001 0)~POINT (0 1)",
     )?;
-    let told = told_of_pairs(rt.alloc(), bytes.as_slice(), &query)?;
+    let told = told_of_pairs(&rt, rt.alloc(), bytes.as_slice(), &query)?;
     assert_eq!(rt; told.as_str(), "0\n44\n");
     Ok(())
 }
@@ -272,5 +325,105 @@ fn lists_of_places(rt: HostRuntime) -> Result<(), Fail> {
     assert!(rt; is_accepted(vec![in rt.alloc(); 0, 5, 5]?));
     assert!(rt; is_accepted(vec![in rt.alloc(); 0; 4097]?));
     assert!(rt; !is_accepted(vec![in rt.alloc(); 0; 8193]?));
+    Ok(())
+}
+
+/// A gate that gives up one block.
+#[derive(Drop)]
+struct Without {
+    block: u32,
+}
+
+impl Gate for Without {
+    ghost given_up = { λ gate. gate.block ∷ [] };
+
+    fn enter(&self, _block: u32) {}
+
+    fn gives_up(&self, block: u32) -> bool {
+        block == self.block
+    }
+}
+
+/// Two lines, one in each of two blocks, where the gate gives up a block.
+fn told_without<R: Threads + Sync>(rt: &R, alloc: Global, block: u32) -> Result<String, Fail> {
+    let query = asked(alloc, Verb::Select, None)?;
+    let bytes = bytes_of(alloc, "POINT (1 2)~POINT (3 4)")?;
+    let Some(cuts) = Cuts::from_places(vec![in alloc; 0, 12, 23]?) else {
+        return Err(Fail::from("no cuts"));
+    };
+    told(
+        rt,
+        alloc,
+        bytes.as_slice(),
+        &cuts,
+        &query,
+        2,
+        &Without { block },
+    )
+}
+
+#[test]
+fn blocks_given_up(rt: HostRuntime) -> Result<(), Fail> {
+    assert_eq!(rt; told_without(&rt, rt.alloc(), 0)?.as_str(), "memory");
+    assert_eq!(rt; told_without(&rt, rt.alloc(), 1)?.as_str(), "memory");
+    assert_eq!(rt; told_without(&rt, rt.alloc(), 2)?.as_str(), "0\n12\n");
+    Ok(())
+}
+
+/// A gate that counts how often each of two blocks is entered, and holds block 0 until block 1 was entered, for some time.
+#[derive(Drop)]
+struct Held {
+    entries: [AtomicU64; 2],
+    gave_up_waiting: AtomicU64,
+}
+
+impl Held {
+    fn sees_block_1(&self) -> bool {
+        for _ in 0..100_000_000u64 {
+            if self.entries[1].load(Ordering::SeqCst) > 0 {
+                return true;
+            }
+        }
+        false
+    }
+}
+
+impl Gate for Held {
+    ghost given_up = { λ _. [] };
+
+    fn enter(&self, block: u32) {
+        if block < 2 {
+            self.entries[block as usize].fetch_add(1, Ordering::SeqCst);
+        }
+        if block == 0 && !self.sees_block_1() {
+            self.gave_up_waiting.store(1, Ordering::SeqCst);
+        }
+    }
+
+    fn gives_up(&self, _block: u32) -> bool {
+        false
+    }
+}
+
+/// What a file of two lines is found to be, in two blocks by two passes at once.
+fn told_held<R: Threads + Sync>(rt: &R, alloc: Global, gate: &Held) -> Result<String, Fail> {
+    let query = asked(alloc, Verb::Select, None)?;
+    let bytes = bytes_of(alloc, "POINT (1 2)~POINT (3 4)")?;
+    let Some(cuts) = Cuts::from_places(vec![in alloc; 0, 5, 23]?) else {
+        return Err(Fail::from("no cuts"));
+    };
+    told(rt, alloc, bytes.as_slice(), &cuts, &query, 2, gate)
+}
+
+#[test]
+fn two_blocks_at_once(rt: HostRuntime) -> Result<(), Fail> {
+    let gate = Held {
+        entries: [AtomicU64::new(0), AtomicU64::new(0)],
+        gave_up_waiting: AtomicU64::new(0),
+    };
+    assert_eq!(rt; told_held(&rt, rt.alloc(), &gate)?.as_str(), "0\n12\n");
+    assert_eq!(rt; gate.entries[0].load(Ordering::SeqCst), 1);
+    assert_eq!(rt; gate.entries[1].load(Ordering::SeqCst), 1);
+    assert_eq!(rt; gate.gave_up_waiting.load(Ordering::SeqCst), 0);
     Ok(())
 }

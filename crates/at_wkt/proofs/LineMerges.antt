@@ -5,12 +5,13 @@ use Rattle.std.proofs.Math.Seq.{take-add, take-append_seam, drop-append_seam}
 use Rattle.std.proofs.lemmas.List.{map-append, take-append-drop}
 use Rattle.at_text.specs.declared.texts.Span.{Span}
 use Rattle.at_text.specs.Texts.{base_of, byte_order_mark}
+use Rattle.at_text.specs.Spans.{part_of, AreNeighbours}
 use Rattle.at_wkt.specs.Lines.{FileLine, pieces_from, is_line_feed, line_of, is_blank_text, lines_in}
 use Rattle.at_wkt.specs.declared.fragments.WholeLines.{WholeLines}
 use Rattle.at_wkt.specs.declared.fragments.Inner.{Inner}
 use Rattle.at_wkt.specs.declared.fragments.LineFragment.{LineFragment}
 use Rattle.at_wkt.specs.declared.fragments.LineFragment.TheVariants.{Piece, Lines}
-use Rattle.at_wkt.specs.Folding.{part_of, IsSpanOf, Kept, AddsLines, HoldsPiece, HoldsLines, HoldsInner, StandsFor, AreNeighbours}
+use Rattle.at_wkt.specs.Folding.{IsSpanOf, Kept, AddsLines, HoldsPiece, HoldsLines, HoldsInner, StandsFor}
 use Rattle.at_wkt.proofs.Pieces.{pieces_first, pieces_last, left_is}
 use Rattle.at_wkt.proofs.LinePieces.{pieces_joined, glued, glued_end, first_begins, last_ends, IsPieceOf, piece_of}
 
@@ -108,13 +109,13 @@ module _ {P : Type 0} (IsOwn : P → Type 0) (IsFold : P → List FileLine → T
   IsKept = Kept IsOwn IsFold
 
   module _ (bytes : List ℕ) (i j k : ℕ) where
-    pub neighbours_are : (a b c d : LineFragment P) → a ≡ c → b ≡ d → AreNeighbours IsKept bytes i j k a b → AreNeighbours IsKept bytes i j k c d
+    pub neighbours_are : (a b c d : LineFragment P) → a ≡ c → b ≡ d → AreNeighbours (StandsFor IsKept) bytes i j k a b → AreNeighbours (StandsFor IsKept) bytes i j k c d
     neighbours_are a b c d e f h =
-        let P1 : LineFragment P → Type 0 = λ z. AreNeighbours IsKept bytes i j k z b in
-        let P2 : LineFragment P → Type 0 = λ z. AreNeighbours IsKept bytes i j k c z in
+        let P1 : LineFragment P → Type 0 = λ z. AreNeighbours (StandsFor IsKept) bytes i j k z b in
+        let P2 : LineFragment P → Type 0 = λ z. AreNeighbours (StandsFor IsKept) bytes i j k c z in
         subst P2 f (subst P1 e h)
 
-    pub pieces_merged : (left right both : Span) → AreNeighbours IsKept bytes i j k (Piece left) (Piece right) → both.from ≡ left.from → both.to ≡ right.to → HoldsPiece i (part_of bytes i k) both
+    pub pieces_merged : (left right both : Span) → AreNeighbours (StandsFor IsKept) bytes i j k (Piece left) (Piece right) → both.from ≡ left.from → both.to ≡ right.to → HoldsPiece i (part_of bytes i k) both
     pieces_merged left right both (h, g, l, (p, (pf, pt)), (q, (qf, qt))) ef et =
         let size = length-part_of bytes i k (omega arith) l in
         let far = length-part_of bytes j k g l in (
@@ -123,7 +124,7 @@ module _ {P : Type 0} (IsOwn : P → Type 0) (IsFold : P → List FileLine → T
           (ef ∙ pf, et ∙ (qt ∙ (far ∙ sym size))),
         )
 
-    pub piece_lines_merged : (left : Span) (right : WholeLines P) (before : Span) → AreNeighbours IsKept bytes i j k (Piece left) (Lines right) → before.from ≡ left.from → before.to ≡ right.before.to
+    pub piece_lines_merged : (left : Span) (right : WholeLines P) (before : Span) → AreNeighbours (StandsFor IsKept) bytes i j k (Piece left) (Lines right) → before.from ≡ left.from → before.to ≡ right.before.to
         → HoldsLines IsKept i (part_of bytes i k) (record { before = before; part = right.part; behind = right.behind })
     piece_lines_merged left right before (h, g, l, (p, (pf, pt)), r) ef et =
         let near = length-part_of bytes i j h (omega arith) in
@@ -140,7 +141,7 @@ module _ {P : Type 0} (IsOwn : P → Type 0) (IsFold : P → List FileLine → T
           behind = r.behind;
         }
 
-    pub lines_piece_merged : (left : WholeLines P) (right : Span) (behind : Span) → AreNeighbours IsKept bytes i j k (Lines left) (Piece right) → behind.from ≡ left.behind.from → behind.to ≡ right.to
+    pub lines_piece_merged : (left : WholeLines P) (right : Span) (behind : Span) → AreNeighbours (StandsFor IsKept) bytes i j k (Lines left) (Piece right) → behind.from ≡ left.behind.from → behind.to ≡ right.to
         → HoldsLines IsKept i (part_of bytes i k) (record { before = left.before; part = left.part; behind = behind })
     lines_piece_merged left right behind (h, g, l, r, (q, (qf, qt))) ef et =
         let near = length-part_of bytes i j h (omega arith) in
@@ -158,7 +159,7 @@ module _ {P : Type 0} (IsOwn : P → Type 0) (IsFold : P → List FileLine → T
         }
 
     -- two with lines: the line that lies in both
-    module _ (left right : WholeLines P) (n : AreNeighbours IsKept bytes i j k (Lines left) (Lines right)) where
+    module _ (left right : WholeLines P) (n : AreNeighbours (StandsFor IsKept) bytes i j k (Lines left) (Lines right)) where
       abbrev hl : HoldsLines IsKept i (part_of bytes i j) left
       hl = n.3
 

@@ -1,5 +1,5 @@
 -- What a fragment of a file that is read line by line stands for: the two pieces at its ends, and the fold of the lines between them.
-use Rattle.std.specs.Prelude.{◌≡◌, ℕ, ◌+◌, ◌-◌, ◌≤◌, List, [], ◌∷◌, ◌++◌, length, take, drop, Result, Ok, Err}
+use Rattle.std.specs.Prelude.{◌≡◌, ℕ, ◌+◌, ◌≤◌, List, [], ◌∷◌, ◌++◌, length, drop, Result, Ok, Err}
 use Rattle.std.specs.Bool.{⊤}
 use Rattle.at_text.specs.declared.memory.Memory.{Memory}
 use Rattle.at_text.specs.declared.texts.Span.{Span}
@@ -8,10 +8,6 @@ use Rattle.at_wkt.specs.declared.fragments.Inner.{Inner}
 use Rattle.at_wkt.specs.declared.fragments.WholeLines.{WholeLines}
 use Rattle.at_wkt.specs.declared.fragments.LineFragment.{LineFragment}
 use Rattle.at_wkt.specs.declared.fragments.LineFragment.TheVariants.{Lost, Piece, Lines}
-
--- the bytes from the place i up to the place k
-abbrev pub part_of : List ℕ → ℕ → ℕ → List ℕ
-part_of bytes i k = take (k - i) (drop i bytes)
 
 -- the span has the piece's bytes
 abbrev pub IsSpanOf : FileLine → Span → Type 0
@@ -54,14 +50,6 @@ module _ {P : Type 0} (IsKept : P → List FileLine → Type 0) where
   StandsFor at bytes Lost = ⊤
   StandsFor at bytes (Piece span) = HoldsPiece at bytes span
   StandsFor at bytes (Lines whole) = HoldsLines at bytes whole
-
-  -- the fragments stand for the bytes from i up to j, and from j up to k
-  abbrev pub AreNeighbours : List ℕ → ℕ → ℕ → ℕ → LineFragment P → LineFragment P → Type 0
-  AreNeighbours bytes i j k left right = (i ≤ j) × (j ≤ k) × (k ≤ length bytes) × StandsFor i (part_of bytes i j) left × StandsFor j (part_of bytes j k) right
-
-  -- wherever the fragments are neighbours, the third stands for both
-  abbrev pub IsMerged : List ℕ → LineFragment P → LineFragment P → LineFragment P → Type 0
-  IsMerged bytes left right both = (i j k : ℕ) → AreNeighbours bytes i j k left right → StandsFor i (part_of bytes i k) both
 
   -- the pieces of bytes up to the last line feed are folded, and the last one begins at a place of them
   pub record HoldsInner (at : ℕ) (bytes : List ℕ) (read : Inner P) : Type 0 where

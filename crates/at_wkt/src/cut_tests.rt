@@ -4,7 +4,8 @@ ghost use Rattle.std.specs.Prelude.{◌≡◌, ◌+◌, ◌≤◌, ◌^◌, ◌�
 ghost use Rattle.std.specs.List.{flat_map};
 ghost use Rattle.at_text.specs.Texts.{base_of as base_in};
 ghost use Rattle.at_wkt.specs.Lines.{FileLine, lines_of};
-ghost use Rattle.at_wkt.specs.Folding.{Kept, StandsFor, part_of};
+ghost use Rattle.at_text.specs.Spans.{part_of};
+ghost use Rattle.at_wkt.specs.Folding.{Kept, StandsFor};
 
 use super::*;
 use at_text::{Memory, Span, base_of};

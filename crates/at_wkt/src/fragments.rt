@@ -3,8 +3,9 @@
 ghost use Rattle.std.specs.Prelude.{◌≡◌, ℕ, ◌+◌, ◌≤◌, ◌^◌, ◌<◌, false, IsErr, [], ◌∷◌, length, drop, IfOk};
 ghost use Rattle.std.specs.List.{list_any, position_or_len};
 ghost use Rattle.at_text.specs.Texts.{base_of as base_in};
+ghost use Rattle.at_text.specs.Spans.{AreNeighbours, IsMerged, part_of};
 ghost use Rattle.at_wkt.specs.Lines.{lines_of, lines_in, is_line_feed};
-ghost use Rattle.at_wkt.specs.Folding.{AddsLines, AreNeighbours, HoldsInner, HoldsLines, IsLost, IsMerged, Kept, StandsFor, fragment_of, part_of};
+ghost use Rattle.at_wkt.specs.Folding.{AddsLines, HoldsInner, HoldsLines, IsLost, Kept, StandsFor, fragment_of};
 
 use crate::folding::{Fold, fold_piece};
 use crate::rooms::Room;
@@ -176,8 +177,8 @@ fn merge_whole<F: Fold>(
     right: WholeLines<F::Part>,
 ) -> Result<WholeLines<F::Part>, Memory>
     requires fits { length bytes.now ≤ 2 ^ 28 }
-    requires neighbours { (i : ℕ) × (j : ℕ) × (k : ℕ) × AreNeighbours (Kept (F.is_own fold.now) (F.is_fold fold.now)) bytes.now i j k (LineFragment.Lines left) (LineFragment.Lines right) }
-    ensures { IfOk result (λ both. IsMerged (Kept (F.is_own fold.now) (F.is_fold fold.now)) bytes.now (LineFragment.Lines left) (LineFragment.Lines right) (LineFragment.Lines both)) }
+    requires neighbours { (i : ℕ) × (j : ℕ) × (k : ℕ) × AreNeighbours (StandsFor (Kept (F.is_own fold.now) (F.is_fold fold.now))) bytes.now i j k (LineFragment.Lines left) (LineFragment.Lines right) }
+    ensures { IfOk result (λ both. IsMerged (StandsFor (Kept (F.is_own fold.now) (F.is_fold fold.now))) bytes.now (LineFragment.Lines left) (LineFragment.Lines right) (LineFragment.Lines both)) }
 {
     let broken = joined(left.behind, right.before);
     let added = fold_span(alloc, fold, left.part, bytes, broken)?;
@@ -199,8 +200,8 @@ pub fn merge_lines<F: Fold>(
     right: LineFragment<F::Part>,
 ) -> LineFragment<F::Part>
     requires fits { length bytes.now ≤ 2 ^ 28 }
-    requires neighbours { (i : ℕ) × (j : ℕ) × (k : ℕ) × AreNeighbours (Kept (F.is_own fold.now) (F.is_fold fold.now)) bytes.now i j k left right }
-    ensures merged { IsMerged (Kept (F.is_own fold.now) (F.is_fold fold.now)) bytes.now left right result }
+    requires neighbours { (i : ℕ) × (j : ℕ) × (k : ℕ) × AreNeighbours (StandsFor (Kept (F.is_own fold.now) (F.is_fold fold.now))) bytes.now i j k left right }
+    ensures merged { IsMerged (StandsFor (Kept (F.is_own fold.now) (F.is_fold fold.now))) bytes.now left right result }
     ensures left_lost { IsLost left → IsLost result }
     ensures right_lost { IsLost right → IsLost result }
 {

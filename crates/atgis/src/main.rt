@@ -2,9 +2,11 @@
 #![tactic(auto)]
 
 use at_cli::{tell_no_memory, top};
+use at_crew::Free;
 use at_io::{DiskShelf, StdSink};
 use std::process::ExitCode;
 use std::rt::{Env, Files};
+use std::thread::Threads;
 use std::{env, io, process};
 
 /// The words behind the program's name.
@@ -18,7 +20,7 @@ fn words<R: Env + AllocGlobal>(rt: &R) -> io::Result<Vec<String>> {
 
 /// Runs the program over the runtime's files, its standard input, and two streams. Words that are no UTF-8 are
 /// refused as no words are.
-fn run<R: Env + Files + Input + AllocGlobal, O: Print + Drop, E: Print + Drop>(
+fn run<R: Env + Files + Input + AllocGlobal + Threads + Sync, O: Print + Drop, E: Print + Drop>(
     rt: &R,
     out: O,
     err: E,
@@ -37,6 +39,7 @@ fn run<R: Env + Files + Input + AllocGlobal, O: Print + Drop, E: Print + Drop>(
         &mut DiskShelf::new(rt),
         &mut out,
         &mut err,
+        &Free,
     )
 }
 

@@ -1,63 +1,65 @@
 //! A text read in blocks.
 
 ghost use Rattle.std.specs.Prelude.{◌≤◌, ◌<◌, ◌^◌, length};
-ghost use Rattle.at_nest.specs.Standing.{StandsFor, part_of};
+ghost use Rattle.at_nest.specs.Standing.{StandsFor};
 ghost use Rattle.at_nest.specs.Ending.{Answers};
 ghost use Rattle.bench_nest.specs.Nodes.{IsCount};
 
 use crate::nodes::Nodes;
+use at_crew::Free;
 use at_nest::{Fragment, NestEnd, finish_span, merge, run_block};
-use at_text::Span;
+use at_run::{Cuts, run_file};
+use at_text::{Pieces, Span};
 use std::alloc::Global;
+use std::thread::Threads;
 
-/// The fragment of the first bytes, with that of the block behind them, up to `to`.
-fn further(
-    alloc: Global,
-    bytes: &[u8],
-    front: Fragment<Nodes>,
-    at: usize,
-    to: usize,
-) -> Fragment<Nodes>
-    requires fits { length bytes.now ≤ 2 ^ 28 }
-    requires order { at ≤ to }
-    requires end { to ≤ length bytes.now }
-    requires front { StandsFor IsCount 0 (part_of bytes.now 0 at) front }
-    ensures { StandsFor IsCount 0 (part_of bytes.now 0 to) result }
-{
-    let block = run_block(alloc, &Nodes {}, &bytes[at..to], at as u32);
-    merge(alloc, &Nodes {}, bytes, front, block)
-}
+/// JSON is read in pieces by its fragments.
+impl Pieces for Nodes {
+    type Fragment = Fragment<Nodes>;
 
-/// The fragment of all bytes, read in so many blocks.
-fn whole_of(alloc: Global, bytes: &[u8], blocks: usize) -> Fragment<Nodes>
-    requires fits { length bytes.now ≤ 2 ^ 28 }
-    requires some { 0 < blocks }
-    ensures { StandsFor IsCount 0 (part_of bytes.now 0 (length bytes.now)) result }
-{
-    let size = bytes.len() / blocks + 1;
-    let mut at = size.min(bytes.len());
-    let mut whole = run_block(alloc, &Nodes {}, &bytes[0..at], 0);
-    while at < bytes.len() {
-        let to = (at + size).min(bytes.len());
-        whole = further(alloc, bytes, whole, at, to);
-        at = to;
+    ghost stands = { λ _ at bytes fragment. StandsFor IsCount at bytes fragment };
+
+    fn run_piece(&self, alloc: Global, piece: &[u8], base: u32) -> Fragment<Nodes> {
+        run_block(alloc, self, piece, base)
     }
-    whole
+
+    fn merge_pieces(
+        &self,
+        alloc: Global,
+        bytes: &[u8],
+        left: Fragment<Nodes>,
+        right: Fragment<Nodes>,
+    ) -> Fragment<Nodes> {
+        merge(alloc, self, bytes, left, right)
+    }
 }
 
-/// How many values the JSON text has, counted in so many blocks.
+/// How many values the JSON text has, counted in so many blocks by so many passes at once.
 ///
 /// # Errors
 /// Where the bytes are no JSON text, and want of memory.
-pub fn count_nodes(alloc: Global, bytes: &[u8], blocks: usize) -> Result<u64, NestEnd>
+pub fn count_nodes<R: Threads + Sync>(
+    rt: &R,
+    alloc: Global,
+    bytes: &[u8],
+    blocks: u32,
+    workers: u32,
+) -> Result<u64, NestEnd>
     requires fits { length bytes.now ≤ 2 ^ 28 }
-    requires some { 0 < blocks }
+    requires blocks { (0 < blocks) × (blocks ≤ 4096) }
+    requires workers { (0 < workers) × (workers ≤ 64) }
     ensures { Answers IsCount 0 bytes.now result }
 {
-    let whole = whole_of(alloc, bytes, blocks);
+    let nodes = Nodes {};
+    let Ok(cuts) = Cuts::even(alloc, 0, bytes.len() as u32, blocks) else {
+        return Err(NestEnd::Memory);
+    };
+    let Ok(whole) = run_file(rt, alloc, &nodes, bytes, &cuts, workers, &Free) else {
+        return Err(NestEnd::Memory);
+    };
     let span = Span {
         from: 0,
         to: bytes.len() as u32,
     };
-    finish_span(alloc, &Nodes {}, bytes, span, whole)
+    finish_span(alloc, &nodes, bytes, span, whole)
 }

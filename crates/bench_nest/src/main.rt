@@ -1,5 +1,6 @@
-//! Counts the values of a JSON file: `bench_nest FILE BLOCKS ROUNDS` reads the file once, and counts so many times,
-//! each time in so many blocks that are merged. With no blocks it counts by the tokens alone.
+//! Counts the values of a JSON file: `bench_nest FILE BLOCKS ROUNDS WORKERS` reads the file once, and counts so many
+//! times, each time in so many blocks that are merged, by so many passes at once. With no blocks it counts by the tokens
+//! alone.
 #![tactic(auto)]
 
 ghost use Rattle.std.specs.Prelude.{◌≤◌, ◌<◌, ◌^◌, length};
@@ -15,33 +16,51 @@ use at_nest::NestEnd;
 use blocks::count_nodes;
 use std::alloc::Global;
 use std::rt::{Env, Files};
+use std::thread::Threads;
 use std::{fs, io};
 use tokens::count_tokens;
 
 /// What one round gives.
-fn count(alloc: Global, bytes: &[u8], blocks: usize) -> Result<u64, NestEnd>
-    requires { length bytes.now ≤ 2 ^ 28 }
+fn count<R: Threads + Sync>(
+    rt: &R,
+    alloc: Global,
+    bytes: &[u8],
+    blocks: u32,
+    workers: u32,
+) -> Result<u64, NestEnd>
+    requires fits { length bytes.now ≤ 2 ^ 28 }
+    requires blocks { blocks ≤ 4096 }
+    requires workers { (0 < workers) × (workers ≤ 64) }
     ensures { 0 < blocks → Answers IsCount 0 bytes.now result }
 {
     if blocks == 0 {
         return Ok(count_tokens(bytes));
     }
-    count_nodes(alloc, bytes, blocks)
+    count_nodes(rt, alloc, bytes, blocks, workers)
 }
 
 /// What the last of so many rounds gives.
-fn count_rounds(alloc: Global, bytes: &[u8], blocks: usize, rounds: u8) -> Result<u64, NestEnd>
-    requires { length bytes.now ≤ 2 ^ 28 }
+fn count_rounds<R: Threads + Sync>(
+    rt: &R,
+    alloc: Global,
+    bytes: &[u8],
+    blocks: u32,
+    rounds: u8,
+    workers: u32,
+) -> Result<u64, NestEnd>
+    requires fits { length bytes.now ≤ 2 ^ 28 }
+    requires blocks { blocks ≤ 4096 }
+    requires workers { (0 < workers) × (workers ≤ 64) }
 {
     let mut last = Err(NestEnd::Ended);
     for _ in 0..rounds {
-        last = count(alloc, bytes, blocks);
+        last = count(rt, alloc, bytes, blocks, workers);
     }
     last
 }
 
 /// The file's bytes, where the words name one of at most 2^28 bytes.
-fn run<R: Env + Files + Print + AllocGlobal>(rt: &R) -> io::Result<()> {
+fn run<R: Env + Files + Print + AllocGlobal + Threads + Sync>(rt: &R) -> io::Result<()> {
     let mut words = std::env::args(rt)?;
     let _program = words.next();
     let Some(name) = words.next() else {
@@ -55,11 +74,22 @@ fn run<R: Env + Files + Print + AllocGlobal>(rt: &R) -> io::Result<()> {
         Some(word) => word.as_str().parse::<u8>().unwrap_or(1),
         None => 1,
     };
+    let workers = match words.next() {
+        Some(word) => word.as_str().parse::<u8>().unwrap_or(1),
+        None => 1,
+    };
     let bytes = fs::read(rt, name.as_str())?;
     if bytes.len() > 1 << 28 {
         return Ok(());
     }
-    match count_rounds(rt.alloc(), bytes.as_slice(), blocks as usize, rounds) {
+    match count_rounds(
+        rt,
+        rt.alloc(),
+        bytes.as_slice(),
+        u32::from(blocks).min(4096),
+        rounds,
+        u32::from(workers).clamp(1, 64),
+    ) {
         Ok(count) => println!(rt; "{count}"),
         Err(_) => println!(rt; "no JSON text"),
     }

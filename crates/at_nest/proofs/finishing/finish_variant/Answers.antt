@@ -1,11 +1,11 @@
 -- The lead is put behind nothing, and behind it the items; then the text ends in what is pending, or stops.
 use Rattle.std.proofs.Common.{sym, subst, ap, Option, Err}
+use Rattle.at_text.specs.Spans.{part_of}
 use Rattle.at_lex.specs.declared.tokens.Start.TheVariants.{Out}
 use Rattle.at_nest.specs.declared.finishing.NestEnd.{NestEnd}
 use Rattle.at_nest.specs.declared.pieces.Halt.{Halt}
 use Rattle.at_nest.specs.Shown.{shown}
 use Rattle.at_nest.specs.Holding.{Kept}
-use Rattle.at_nest.specs.Standing.{part_of}
 use Rattle.at_nest.specs.Stands.{HoldsVariant}
 use Rattle.at_nest.specs.Ending.{Answers}
 use Rattle.at_nest.proofs.WholeTexts.{lead_pends, answers_lead, opens_whole, opens_broken, pends_whole, whole_goes, whole_stops, broken_stops, first_halt}

@@ -1,8 +1,9 @@
 -- What is kept of the two stands for the bytes of both.
 use Rattle.std.proofs.Common.{sym, ◌∙◌, subst}
 use Rattle.std.proofs.lemmas.Result.{IfOk-weaker}
+use Rattle.at_text.specs.Spans.{part_of}
 use Rattle.at_nest.specs.Holding.{Kept}
-use Rattle.at_nest.specs.Standing.{HoldsParts, part_of}
+use Rattle.at_nest.specs.Standing.{HoldsParts}
 use Rattle.at_nest.proofs.Behind.{parts_beside, part_joined}
 use Rattle.at_nest.proofs.fragments.merge.Goals as goal
 

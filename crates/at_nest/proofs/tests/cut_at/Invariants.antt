@@ -1,7 +1,8 @@
 -- What is read so far stands for its bytes.
 use Rattle.std.proofs.Common.{◌≤◌}
+use Rattle.at_text.specs.Spans.{part_of}
 use Rattle.at_nest.specs.Holding.{Kept}
-use Rattle.at_nest.specs.Standing.{StandsFor, part_of}
+use Rattle.at_nest.specs.Standing.{StandsFor}
 use Rattle.at_nest.proofs.tests.cut_at.Given as goal
 
 abbrev pub invariant-loop-place : goal.invariant-loop-place

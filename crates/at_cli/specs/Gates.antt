@@ -1,0 +1,14 @@
+-- The gate that the blocks of a file pass: where an answer is written, it gave up none of them.
+use Rattle.std.specs.Prelude.{ℕ, List}
+use Rattle.at_run.specs.Places.{IsLeastCount}
+use Rattle.at_run.specs.Blocks.{NoneGivenUp}
+use Rattle.at_cli.specs.declared.line.Line.{Line}
+use Rattle.at_cli.specs.LineOf.{SaysLine}
+
+-- the gate gives up no block of a file that is cut as the line asks
+abbrev pub PassesGate : List ℕ → Line → Type 0
+PassesGate given_up line = (count : ℕ) × IsLeastCount line.blocks count × NoneGivenUp given_up 0 count
+
+-- the same of the line that the words say
+abbrev pub PassesSaid : List ℕ → List (List ℕ) → Type 0
+PassesSaid given_up words = (line : Line) × SaysLine words line × PassesGate given_up line

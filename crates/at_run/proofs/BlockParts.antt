@@ -1,0 +1,55 @@
+-- Parts of the blocks of a file: what is merged of two neighbouring stretches, and what a block gives.
+use Rattle.std.proofs.Common.{◌≡◌, ℕ, ◌+◌, ◌-◌, ◌^◌, ◌<◌, ◌≤◌, ◌⊎◌, inl, inr, List, length, Contains, subst, arith}
+use Rattle.std.proofs.lemmas.Bool.{cases_lt}
+use Rattle.std.specs.Prelude.{slice_index}
+use Rattle.std.specs.List.Sorted.{IsNonDecreasing}
+use Rattle.at_crew.specs.Nodes.{IsBlockCount as IsCrewCount}
+use Rattle.at_crew.proofs.Powers.{block_count as crew_count}
+use Rattle.at_text.specs.Spans.{StandsAt, AreNeighbours, IsMerged}
+use Rattle.at_run.specs.Places.{IsBlockCount, last_place}
+use Rattle.at_run.specs.declared.jobs.FilePart.{FilePart}
+use Rattle.at_run.specs.declared.jobs.FilePart.TheVariants.{Read}
+use Rattle.at_run.specs.Blocks.{NoneGivenUp, StandsForBlocks}
+use Rattle.at_run.proofs.Powers.{some_blocks}
+use Rattle.at_run.proofs.Covered.{place_order, place_within}
+
+-- a crew can have as many blocks as cuts make
+pub crew_blocks : (count : ℕ) → IsBlockCount count → IsCrewCount count
+crew_blocks count is = crew_count count (is.0, is.2) (some_blocks count is).1
+
+module _ {F : Type 0} (Stands : ℕ → List ℕ → F → Type 0) (bytes places given_up : List ℕ) where
+  abbrev Blocks : FilePart F → ℕ → ℕ → Type 0
+  Blocks = StandsForBlocks Stands bytes places given_up
+
+  neither : (a b c : ℕ) → NoneGivenUp given_up a b → NoneGivenUp given_up b c → NoneGivenUp given_up a c
+  neither a b c f g n low high = by_side (cases_lt n b) where
+    by_side : (n < b) ⊎ (b ≤ n) → ¬ (Contains given_up n)
+    by_side (inl left) = f n low left
+    by_side (inr right) = g n right high
+
+  -- of two parts that are read
+  module _ (order : IsNonDecreasing places) (within : last_place places ≤ length bytes) (some : 1 < length places) where
+    parts_beside : (l r : FilePart F) (left right : F) → l ≡ Read left → r ≡ Read right → (a b c : ℕ) → Blocks l a b → Blocks r b c → c ≤ length places - 1
+        → AreNeighbours Stands bytes (slice_index places a) (slice_index places b) (slice_index places c) left right
+    parts_beside l r left right e f a b c hl hr last =
+        let h : Blocks (Read left) a b = subst (λ z. Blocks z a b) e hl in
+        let k : Blocks (Read right) b c = subst (λ z. Blocks z b c) f hr in (
+          place_order places a b order h.0 (let q = k.0 in omega (arith, q, last, some)),
+          place_order places b c order k.0 (omega (arith, last, some)),
+          place_within places c (length bytes) order (omega (arith, last, some)) within,
+          h.2,
+          k.2,
+        )
+
+    pub read_merged : (l r : FilePart F) (left right both : F) → l ≡ Read left → r ≡ Read right → IsMerged Stands bytes left right both → (a b c : ℕ) → Blocks l a b → Blocks r b c → c ≤ length places - 1 → Blocks (Read both) a c
+    read_merged l r left right both e f merged a b c hl hr last =
+        let h : Blocks (Read left) a b = subst (λ z. Blocks z a b) e hl in
+        let k : Blocks (Read right) b c = subst (λ z. Blocks z b c) f hr in (
+          (let p = h.0 in let q = k.0 in omega (arith, p, q)),
+          neither a b c h.1 k.1,
+          merged _ _ _ (parts_beside l r left right e f a b c hl hr last),
+        )
+
+  -- of a part that is read
+  pub none_given_up : (part : FilePart F) (fragment : F) → part ≡ Read fragment → (from to : ℕ) → Blocks part from to → NoneGivenUp given_up from to
+  none_given_up part fragment e from to h = let k : Blocks (Read fragment) from to = subst (λ z. Blocks z from to) e h in k.1
