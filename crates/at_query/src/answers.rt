@@ -76,6 +76,13 @@ impl Pairs {
     {
         self.items.as_slice()
     }
+
+    /// The `Vec` back. It takes no memory.
+    pub fn into_vec(self) -> Vec<Pair>
+        ensures { result.items ≡ self }
+    {
+        self.items
+    }
 }
 
 /// The answer to a query.
