@@ -1,0 +1,357 @@
+-- The pairs of all cells, put in order, are all pairs that meet.
+use Rattle.std.proofs.Common.{◌≡◌, ℕ, zero, suc, ◌+◌, ◌<◌, ◌≤◌, ◌==◌, Bool, true, false, ◌&&◌, cond, List, [], ◌∷◌, ◌++◌, get_or, Option, Some, None, map, inl, inr, ◌⊎◌, arith, refl, sym, ap, subst, ◌∙◌}
+use Rattle.std.specs.Prelude.{All, count_by, filter}
+use Rattle.std.specs.List.{AllByRecursion}
+use Rattle.std.specs.List.Sorted.{IsPermutation, IsNonDecreasingBy}
+use Rattle.std.proofs.lemmas.Bool.{cases_lt, eqb-true, eq-eqb, ne_eqb}
+use Rattle.std.proofs.lemmas.Int.{ints, clamps}
+use Rattle.std.proofs.lemmas.List.{map-append}
+use Rattle.std.proofs.lemmas.List.Sums.{sum_by-append, sum_by-cons}
+use Rattle.std.proofs.lemmas.List.Sorted.{sum_by-IsPermutation, All-permutation}
+use Rattle.std.proofs.lemmas.List.Elements.{recursion_from_All, All-head, All-tail}
+use Rattle.at_geom.specs.declared.positions.Pos.{Pos}
+use Rattle.at_geom.specs.declared.shapes.Polygon.{Polygon}
+use Rattle.at_geom.specs.declared.rectangles.Extent.{Extent}
+use Rattle.at_geom.specs.Closed.{HasClosedFirst, HasClosedExterior}
+use Rattle.at_geom.specs.Closed as geom
+use Rattle.at_geom.specs.Shapes.{Meet}
+use Rattle.at_geom.proofs.ApartShapes.{empty_first, empty_second, meet_touches}
+use Rattle.at_geom.proofs.Found.{both_true}
+use Rattle.at_query.specs.declared.parts.Entry.{Entry}
+use Rattle.at_query.specs.declared.answers.Pair.{Pair}
+use Rattle.at_query.specs.Joined.{upper}
+use Rattle.at_query.specs.Parts.{last_of, IsClosed, IsProperEntry, AreProper}
+use Rattle.at_query.specs.Results.{Keeps}
+use Rattle.at_query.proofs.KeptLists.{kept_all}
+use Rattle.at_join.specs.Boxes.{touch_of}
+use Rattle.at_join.specs.Meetings.{Meeting, at_entries, pairs_of, IsAllPairs}
+use Rattle.at_join.specs.Cells.{cell_of, spread_of, is_pair_of, InCells, is_pair, times, ListsEach}
+use Rattle.at_join.specs.Parts.{rank_of}
+use Rattle.at_join.proofs.FoundLists.{count_mapped}
+use Rattle.at_join.proofs.Extents.{from_touching, reference_inside, shape_span}
+use Rattle.at_join.proofs.CellRects.{cell_below}
+use Rattle.at_join.proofs.Offsets.{In, Rises, in_from, contains_from, of_all, one_entry, above, rest_rises, AreAbove}
+use Rattle.at_join.proofs.CellPairs.{gone, spread_round, pair_is, kept_times, same_pair, each_joined, keeps_have, both_all}
+use Rattle.at_join.proofs.PartLists.{times_none, times_cons}
+use Rattle.at_geom.proofs.Elements.{some_left, some_right}
+
+-- ---- entries that meet belong to a cell
+
+same_last : (a : Pos) (ps : List Pos) → last_of a ps ≡ geom.last_of a ps
+same_last a [] = refl
+same_last a (p ∷ ps) = same_last p ps
+
+closed_first : (rings : List (List Pos)) → AllByRecursion IsClosed rings → HasClosedFirst rings
+closed_first [] h = tt
+closed_first ([] ∷ rings) h = tt
+closed_first ((a ∷ rest) ∷ rings) h = sym (same_last a rest) ∙ h.0
+
+closed_all : (polygons : List Polygon) → AllByRecursion (λ (polygon : Polygon). AllByRecursion IsClosed polygon.rings) polygons → AllByRecursion HasClosedExterior polygons
+closed_all [] h = tt
+closed_all (polygon ∷ polygons) h = (closed_first polygon.rings h.0, closed_all polygons h.1)
+
+some_cell : (a b : List Entry) (e f : Entry) (x y : Extent) (o : Option Extent) → In e a → In f b → IsProperEntry e → IsProperEntry f → Meet e.shape f.shape → e.extent ≡ Some x → f.extent ≡ Some y → spread_of (a ++ b) ≡ o
+    → (cell : ℕ) × (cell < 64) × (is_pair_of o (Some x) (Some y) cell ≡ true)
+some_cell a b e f x y None he hf pe pf meet ex fy joint = absurd (gone (a ++ b) e x joint (some_left (λ (z : Entry). z ≡ e) a b he) ex)
+some_cell a b e f x y (Some j) he hf pe pf meet ex fy joint =
+    let sx = shape_span e.shape x pe.in_range (sym pe.extent ∙ ex) in
+    let sy = shape_span f.shape y pf.in_range (sym pf.extent ∙ fy) in
+    let t = meet_touches e.shape f.shape x y (sym pe.extent ∙ ex) (sym pf.extent ∙ fy) (closed_all e.shape.polygons pe.closed) (closed_all f.shape.polygons pf.closed) meet in
+    let touches = from_touching x y (record {
+      left = omega (arith, ints, clamps, t.left, sy.wide.along_x);
+      right = omega (arith, ints, clamps, t.right, sy.wide.along_x);
+      below = omega (arith, ints, clamps, t.below, sy.wide.along_y);
+      above = omega (arith, ints, clamps, t.above, sy.wide.along_y);
+    }) in
+    let round_x = spread_round (a ++ b) j x e joint (some_left (λ (z : Entry). z ≡ e) a b he) ex in
+    let round_y = spread_round (a ++ b) j y f joint (some_right (λ (z : Entry). z ≡ f) a b hf) fy in
+    let cell = cell_of j (upper x.low y.low) in
+    (cell, cell_below j (upper x.low y.low) (reference_inside j x y sx.wide sy.wide round_x round_y), both_true (touch_of x y) (cell == cell) touches (eq-eqb cell cell refl))
+
+with_extents : (a b : List Entry) (e f : Entry) (o t : Option Extent) → In e a → In f b → IsProperEntry e → IsProperEntry f → Meet e.shape f.shape → e.extent ≡ o → f.extent ≡ t → InCells a b 0 64 (at_entries (e, f))
+with_extents a b e f None t he hf pe pf meet ex fy = absurd (empty_first e.shape f.shape (sym pe.extent ∙ ex) meet)
+with_extents a b e f (Some x) None he hf pe pf meet ex fy = absurd (empty_second e.shape f.shape (sym pf.extent ∙ fy) meet)
+with_extents a b e f (Some x) (Some y) he hf pe pf meet ex fy =
+    let (cell, few, is) = some_cell a b e f x y (spread_of (a ++ b)) he hf pe pf meet ex fy refl in
+    record {
+      first = e;
+      second = f;
+      of_first = contains_from a e he;
+      of_second = contains_from b f hf;
+      is = refl;
+      meet = meet;
+      cell = cell;
+      at_least = omega (arith);
+      below = few;
+      here = ap (λ o. is_pair_of (spread_of (a ++ b)) o f.extent cell) ex ∙ ap (λ o. is_pair_of (spread_of (a ++ b)) (Some x) o cell) fy ∙ is;
+    }
+
+meets_in : (a b : List Entry) (e f : Entry) → AreProper a → AreProper b → In e a → In f b → Meet e.shape f.shape → InCells a b 0 64 (at_entries (e, f))
+meets_in a b e f pa pb he hf meet = with_extents a b e f e.extent f.extent he hf (of_all IsProperEntry a e pa.entries he) (of_all IsProperEntry b f pb.entries hf) meet refl refl
+
+-- two entries with the offsets of a pair of a cell meet
+in_meets : (a b : List Entry) (e f : Entry) (p : Pair) → AreProper a → AreProper b → In e a → In f b → at_entries (e, f) ≡ p → InCells a b 0 64 p → Meet e.shape f.shape
+in_meets a b e f p pa pb he hf same w =
+    let first = one_entry a e w.first pa.rising he (in_from a w.first w.of_first) (ap (λ (z : Pair). z.first) (same ∙ w.is)) in
+    let second = one_entry b f w.second pb.rising hf (in_from b w.second w.of_second) (ap (λ (z : Pair). z.second) (same ∙ w.is)) in
+    subst (λ (z : Entry). Meet z.shape f.shape) (sym first) (subst (λ (z : Entry). Meet w.first.shape z.shape) (sym second) w.meet)
+
+-- ---- how often a pair stands among all pairs of entries
+
+none_named : (n : ℕ) (es : List Entry) → AreAbove n es → count_by (λ (e : Entry). e.at == n) es ≡ 0
+none_named n [] h = refl
+none_named n (e ∷ es) h =
+    let off = ap {B = ℕ} (λ b. cond b 1 0) (ne_eqb e.at n (λ s. let lt = h.0 in omega (arith, lt, s))) in
+    omega (arith, sum_by-cons (λ (z : Entry). cond (z.at == n) 1 0) e es, off, none_named n es h.1)
+
+entry_once : (n : ℕ) (es : List Entry) (e : Entry) → Rises es → In e es → e.at ≡ n → count_by (λ (z : Entry). z.at == n) es ≡ 1
+entry_once n [] e r h at = absurd h
+entry_once n (y ∷ es) e r (inl h) at =
+    let here : y.at ≡ n = ap (λ (z : Entry). z.at) h ∙ at in
+    let one = ap {B = ℕ} (λ b. cond b 1 0) (eq-eqb y.at n here) in
+    let rest = none_named n es (subst (λ m. AreAbove m es) here (above y es r)) in
+    omega (arith, sum_by-cons (λ (z : Entry). cond (z.at == n) 1 0) y es, one, rest)
+entry_once n (y ∷ es) e r (inr h) at =
+    let lt = of_all (λ (z : Entry). y.at < z.at) es e (above y es r) h in
+    let off = ap {B = ℕ} (λ b. cond b 1 0) (ne_eqb y.at n (λ s. omega (arith, lt, s, at))) in
+    omega (arith, sum_by-cons (λ (z : Entry). cond (z.at == n) 1 0) y es, off, entry_once n es e (rest_rises y es r) h at)
+
+row_true : (p : Pair) (q : Entry) (ys : List Entry) → (q.at == p.first) ≡ true → count_by (λ (y : Entry). is_pair p (at_entries (q, y))) ys ≡ count_by (λ (z : Entry). z.at == p.second) ys
+row_true p q [] e = refl
+row_true p q (y ∷ ys) e =
+    sum_by-cons (λ (z : Entry). cond (is_pair p (at_entries (q, z))) 1 0) y ys
+    ∙ ap (λ n. cond (is_pair p (at_entries (q, y))) 1 0 + n) (row_true p q ys e)
+    ∙ ap (λ b. cond (b && (y.at == p.second)) 1 0 + count_by (λ (z : Entry). z.at == p.second) ys) e
+    ∙ sym (sum_by-cons (λ (z : Entry). cond (z.at == p.second) 1 0) y ys)
+
+row_false : (p : Pair) (q : Entry) (ys : List Entry) → (q.at == p.first) ≡ false → count_by (λ (y : Entry). is_pair p (at_entries (q, y))) ys ≡ 0
+row_false p q [] e = refl
+row_false p q (y ∷ ys) e =
+    sum_by-cons (λ (z : Entry). cond (is_pair p (at_entries (q, z))) 1 0) y ys
+    ∙ ap (λ n. cond (is_pair p (at_entries (q, y))) 1 0 + n) (row_false p q ys e)
+    ∙ ap (λ b. cond (b && (y.at == p.second)) 1 0 + 0) e
+
+row_by : (p : Pair) (q : Entry) (ys : List Entry) (b : Bool) → (q.at == p.first) ≡ b → count_by (λ (z : Entry). z.at == p.second) ys ≡ 1 → count_by (λ (y : Entry). is_pair p (at_entries (q, y))) ys ≡ cond b 1 0
+row_by p q ys true e one = row_true p q ys e ∙ one
+row_by p q ys false e one = row_false p q ys e
+
+entry_times : (p : Pair) (xs ys : List Entry) → count_by (λ (z : Entry). z.at == p.second) ys ≡ 1 → times p (map at_entries (pairs_of xs ys)) ≡ count_by (λ (z : Entry). z.at == p.first) xs
+entry_times p [] ys one = refl
+entry_times p (q ∷ xs) ys one =
+    let row : List (Entry × Entry) = map (λ (y : Entry). (q, y)) ys in
+    let whole = count_mapped (is_pair p) at_entries (row ++ pairs_of xs ys) in
+    let parts = sum_by-append (λ (z : Entry × Entry). cond (is_pair p (at_entries z)) 1 0) row (pairs_of xs ys) in
+    let first = count_mapped (λ (z : Entry × Entry). is_pair p (at_entries z)) (λ (y : Entry). (q, y)) ys ∙ row_by p q ys (q.at == p.first) refl one in
+    let rest = sym (count_mapped (is_pair p) at_entries (pairs_of xs ys)) ∙ entry_times p xs ys one in
+    let goal = sum_by-cons (λ (z : Entry). cond (z.at == p.first) 1 0) q xs in
+    omega (arith, whole, parts, first, rest, goal)
+
+-- ---- what is kept of all pairs
+
+two_ways : (b : Bool) → b ≡ true → b ≡ false → ⊥
+two_ways true e f = cc
+two_ways false e f = cc
+
+filter_by : {X : Type 0} (P : X → Type 0) (x : X) (xs ks : List X) (b : Bool) → (b ≡ true → P x) → (P x → b ≡ true) → Keeps P xs ks → Keeps P (x ∷ xs) (cond b (x ∷ ks) ks)
+filter_by P x xs ks true to from k = inl (to refl, (ks, refl, k))
+filter_by P x xs ks false to from k = inr ((λ p. two_ways false (from p) refl), k)
+
+keeps_filter : {X : Type 0} (P : X → Type 0) (test : X → Bool) (xs : List X) → AllByRecursion (λ (x : X). (test x ≡ true → P x) × (P x → test x ≡ true)) xs → Keeps P xs (filter test xs)
+keeps_filter P test [] h = refl
+keeps_filter P test (x ∷ xs) h = filter_by P x xs (filter test xs) (test x) h.0.0 h.0.1 (keeps_filter P test xs h.1)
+
+-- both are entries of the lists
+abbrev AreIn : List Entry → List Entry → Entry × Entry → Type 0
+AreIn a b (e, f) = In e a × In f b
+
+in_row : (a b : List Entry) (e : Entry) (fs : List Entry) → In e a → AllByRecursion (λ (f : Entry). In f b) fs → AllByRecursion (AreIn a b) (map (λ (f : Entry). (e, f)) fs)
+in_row a b e [] h k = tt
+in_row a b e (f ∷ fs) h k = ((h, k.0), in_row a b e fs h k.1)
+
+in_rows : (a b es fs : List Entry) → AllByRecursion (λ (e : Entry). In e a) es → AllByRecursion (λ (f : Entry). In f b) fs → AllByRecursion (AreIn a b) (pairs_of es fs)
+in_rows a b [] fs h k = tt
+in_rows a b (e ∷ es) fs h k = each_joined (AreIn a b) (map (λ (f : Entry). (e, f)) fs) (pairs_of es fs) (in_row a b e fs h.0 k) (in_rows a b es fs h.1 k)
+
+each_weaker : {X : Type 0} (P Q : X → Type 0) → ((x : X) → P x → Q x) → (xs : List X) → AllByRecursion P xs → AllByRecursion Q xs
+each_weaker P Q to [] h = tt
+each_weaker P Q to (x ∷ xs) h = (to x h.0, each_weaker P Q to xs h.1)
+
+in_itself : {X : Type 0} (xs : List X) → AllByRecursion (λ (x : X). In x xs) xs
+in_itself [] = tt
+in_itself {X} (x ∷ xs) = (inl refl, each_weaker (λ (y : X). In y xs) (λ (y : X). In y (x ∷ xs)) (λ y k. inr k) xs (in_itself xs))
+
+-- ---- order
+
+-- not behind, by the first and then the second
+abbrev Before : Pair → Pair → Type 0
+Before p q = (p.first < q.first) ⊎ ((p.first ≡ q.first) × (p.second ≤ q.second))
+
+abbrev Ascends : List Pair → Type 0
+Ascends [] = Unit {0}
+Ascends (p ∷ ps) = AllByRecursion (Before p) ps × Ascends ps
+
+both_before : (p q : Pair) → Before p q → Before q p → p ≡ q
+both_before p q (inl a) (inl b) = absurd (omega (arith, a, b))
+both_before p q (inl a) (inr b) = absurd (omega (arith, a, b.0))
+both_before p q (inr a) (inl b) = absurd (omega (arith, a.0, b))
+both_before p q (inr a) (inr b) = same_pair p.first p.second q.first q.second a.0 (omega (arith, a.1, b.1))
+
+-- what stands in a list has what all have
+has_by : (Q : Pair → Type 0) (p q : Pair) (n : ℕ) (b : Bool) → is_pair p q ≡ b → 0 < cond b 1 0 + n → Q q → (0 < n → Q p) → Q p
+has_by Q p q n true e h here rest = subst Q (pair_is p q e) here
+has_by Q p q n false e h here rest = rest (omega (arith, h))
+
+times_has : (Q : Pair → Type 0) (p : Pair) (ps : List Pair) → 0 < times p ps → AllByRecursion Q ps → Q p
+times_has Q p [] h all = absurd (omega (arith, h))
+times_has Q p (q ∷ ps) h all = has_by Q p q (times p ps) (is_pair p q) refl (omega (arith, h, times_cons p q ps)) all.0 (λ more. times_has Q p ps more all.1)
+
+itself : (p : Pair) → is_pair p p ≡ true
+itself p = both_true (p.first == p.first) (p.second == p.second) (eq-eqb p.first p.first refl) (eq-eqb p.second p.second refl)
+
+one_here : (p : Pair) (ps : List Pair) → times p (p ∷ ps) ≡ 1 + times p ps
+one_here p ps = let e = ap {B = ℕ} (λ b. cond b 1 0) (itself p) in omega (arith, times_cons p p ps, e)
+
+-- the first of a list is before or equal to what the list has
+first_before : (p q : Pair) (qs : List Pair) → AllByRecursion (Before q) qs → 0 < times p (q ∷ qs) → Before q p
+first_before p q qs all h = has_by (Before q) p q (times p qs) (is_pair p q) refl (omega (arith, h, times_cons p q qs)) (inr (refl, omega (arith))) (λ more. times_has (Before q) p qs more all)
+
+-- two lists in order that have the same pairs as often are one
+same_lists : (ps qs : List Pair) → Ascends ps → Ascends qs → ((p : Pair) → times p ps ≡ times p qs) → ps ≡ qs
+same_lists [] [] a b same = refl
+same_lists [] (q ∷ qs) a b same = absurd (let e = same q in omega (arith, e, one_here q qs))
+same_lists (p ∷ ps) [] a b same = absurd (let e = same p in omega (arith, e, one_here p ps))
+same_lists (p ∷ ps) (q ∷ qs) a b same =
+    let e_p = same p in
+    let e_q = same q in
+    let to = first_before p q qs b.0 (omega (arith, e_p, one_here p ps)) in
+    let from = first_before q p ps a.0 (omega (arith, e_q, one_here q qs)) in
+    let head = both_before p q from to in
+    let rest = same_lists ps qs a.1 b.1 (λ r. let e = same r in let f = ap {B = ℕ} (λ (z : Pair). cond (is_pair r z) 1 0) head in omega (arith, e, times_cons r p ps, times_cons r q qs, f)) in
+    ap (λ z. z ∷ ps) head ∙ ap (λ l. q ∷ l) rest
+
+-- ---- all pairs of rising offsets are in order
+
+row_before : (e f : Entry) (fs : List Entry) → AreAbove f.at fs → AllByRecursion (Before (at_entries (e, f))) (map at_entries (map (λ (g : Entry). (e, g)) fs))
+row_before e f [] h = tt
+row_before e f (g ∷ fs) h = (inr (refl, omega (arith, h.0)), row_before e f fs h.1)
+
+-- a row has the first offset of its entry, and the later rows have greater ones
+abbrev Has : ℕ → Pair → Type 0
+Has n p = p.first ≡ n
+
+abbrev Past : ℕ → Pair → Type 0
+Past n p = n < p.first
+
+row_first : (e : Entry) (fs : List Entry) → AllByRecursion (Has e.at) (map at_entries (map (λ (f : Entry). (e, f)) fs))
+row_first e [] = tt
+row_first e (f ∷ fs) = (refl, row_first e fs)
+
+row_past : (n : ℕ) (e : Entry) (fs : List Entry) → n < e.at → AllByRecursion (Past n) (map at_entries (map (λ (f : Entry). (e, f)) fs))
+row_past n e [] h = tt
+row_past n e (f ∷ fs) h = (h, row_past n e fs h)
+
+rows_later : (n : ℕ) (es fs : List Entry) → AreAbove n es → AllByRecursion (Past n) (map at_entries (pairs_of es fs))
+rows_later n [] fs h = tt
+rows_later n (e ∷ es) fs h =
+    subst (AllByRecursion (Past n)) (sym (map-append at_entries (map (λ (f : Entry). (e, f)) fs) (pairs_of es fs)))
+    (each_joined (Past n) (map at_entries (map (λ (f : Entry). (e, f)) fs)) (map at_entries (pairs_of es fs)) (row_past n e fs h.0) (rows_later n es fs h.1))
+
+past_before : (n : ℕ) (p : Pair) (qs : List Pair) → p.first ≡ n → AllByRecursion (Past n) qs → AllByRecursion (Before p) qs
+past_before n p [] e h = tt
+past_before n p (q ∷ qs) e h = (inl (omega (arith, e, h.0)), past_before n p qs e h.1)
+
+ascends_both : (n : ℕ) (ps qs : List Pair) → Ascends ps → Ascends qs → AllByRecursion (Has n) ps → AllByRecursion (Past n) qs → Ascends (ps ++ qs)
+ascends_both n [] qs a b h k = b
+ascends_both n (p ∷ ps) qs a b h k = (each_joined (Before p) ps qs a.0 (past_before n p qs h.0 k), ascends_both n ps qs a.1 b h.1 k)
+
+kept_by : (Q : Pair → Type 0) (x : Entry × Entry) (ks : List (Entry × Entry)) (b : Bool) → Q (at_entries x) → AllByRecursion Q (map at_entries ks) → AllByRecursion Q (map at_entries (cond b (x ∷ ks) ks))
+kept_by Q x ks true h k = (h, k)
+kept_by Q x ks false h k = k
+
+ascends_by : (x : Entry × Entry) (ks : List (Entry × Entry)) (b : Bool) → AllByRecursion (Before (at_entries x)) (map at_entries ks) → Ascends (map at_entries ks) → Ascends (map at_entries (cond b (x ∷ ks) ks))
+ascends_by x ks true h k = (h, k)
+ascends_by x ks false h k = k
+
+ascends_row : (e : Entry) (fs : List Entry) → Rises fs → Ascends (map at_entries (map (λ (f : Entry). (e, f)) fs))
+ascends_row e [] r = tt
+ascends_row e (f ∷ fs) r = (row_before e f fs (above f fs r), ascends_row e fs (rest_rises f fs r))
+
+ascends_rows : (es fs : List Entry) → Rises es → Rises fs → Ascends (map at_entries (pairs_of es fs))
+ascends_rows [] fs r s = tt
+ascends_rows (e ∷ es) fs r s =
+    subst Ascends (sym (map-append at_entries (map (λ (f : Entry). (e, f)) fs) (pairs_of es fs)))
+    (ascends_both e.at (map at_entries (map (λ (f : Entry). (e, f)) fs)) (map at_entries (pairs_of es fs)) (ascends_row e fs s) (ascends_rows es fs (rest_rises e es r) s) (row_first e fs) (rows_later e.at es fs (above e es r)))
+
+-- what is kept of a list in order is in order
+kept_mapped : (Q : Pair → Type 0) (test : Entry × Entry → Bool) (xs : List (Entry × Entry)) → AllByRecursion Q (map at_entries xs) → AllByRecursion Q (map at_entries (filter test xs))
+kept_mapped Q test [] h = tt
+kept_mapped Q test (x ∷ xs) h = kept_by Q x (filter test xs) (test x) h.0 (kept_mapped Q test xs h.1)
+
+ascends_filter : (test : Entry × Entry → Bool) (xs : List (Entry × Entry)) → Ascends (map at_entries xs) → Ascends (map at_entries (filter test xs))
+ascends_filter test [] h = tt
+ascends_filter test (x ∷ xs) h = ascends_by x (filter test xs) (test x) (kept_mapped (Before (at_entries x)) test xs h.0) (ascends_filter test xs h.1)
+
+-- ---- a list that is sorted by rank is in order
+
+rank_before : (p q : Pair) → p.second < 4294967296 → q.second < 4294967296 → rank_of p ≤ rank_of q → Before p q
+rank_before p q hp hq h = elim (cases_lt p.first q.first) [
+  | inl lt ↦ inl lt
+  | inr ge ↦ elim (cases_lt q.first p.first) [
+    | inl lt ↦ absurd (omega (arith, hp, hq, h, lt))
+    | inr le ↦ inr (omega (arith, ge, le), omega (arith, h, ge, le))
+  ]
+]
+
+abbrev pub Fits : Pair → Type 0
+Fits p = p.second < 4294967296
+
+sorted_rest : (q : Pair) (qs : List Pair) → IsNonDecreasingBy rank_of (q ∷ qs) → IsNonDecreasingBy rank_of qs
+sorted_rest q qs h = λ i j d le lt. h (suc i) (suc j) d (omega (arith, le)) (omega (arith, lt))
+
+sorted_first : (q : Pair) (qs : List Pair) → IsNonDecreasingBy rank_of (q ∷ qs) → Fits q → All Fits qs → All (Before q) qs
+sorted_first q qs h f all = λ k d lt. rank_before q (get_or qs k d) f (all k d lt) (h 0 (suc k) d (omega (arith)) (omega (arith, lt)))
+
+sorted_ascends : (qs : List Pair) → IsNonDecreasingBy rank_of qs → All Fits qs → Ascends qs
+sorted_ascends [] h all = tt
+sorted_ascends (q ∷ qs) h all =
+    let rest = All-tail Fits q qs all in
+    (recursion_from_All (Before q) qs (sorted_first q qs h (All-head Fits q qs all) rest), sorted_ascends qs (sorted_rest q qs h) rest)
+
+-- ---- the whole
+
+-- a pair stands in both lists as often
+times_by : (a b : List Entry) (p : Pair) (qs : List Pair) (X kept : List (Entry × Entry)) → X ≡ pairs_of a b → AreProper a → AreProper b → Keeps Meeting X kept → AllByRecursion (AreIn a b) X → AllByRecursion (InCells a b 0 64) qs
+    → AllByRecursion (InCells a b 0 64) (map at_entries kept) → ((p : Pair) → InCells a b 0 64 p → times p qs ≡ 1) → (n : ℕ) → times p qs ≡ n → times p qs ≡ times p (map at_entries kept)
+times_by a b p qs X kept eX pa pb keeps inside all all_kept once zero is =
+    is ∙ sym (times_none (InCells a b 0 64) p (map at_entries kept) all_kept (λ w. let e = once p w in omega (arith, e, is)))
+times_by a b p qs X kept eX pa pb keeps inside all all_kept once (suc n) is =
+    let w = times_has (InCells a b 0 64) p qs (omega (arith, is)) all in
+    let meets = each_weaker (AreIn a b) (λ (z : Entry × Entry). at_entries z ≡ p → Meeting z) (λ z k same. in_meets a b z.0 z.1 p pa pb k.0 k.1 same w) X inside in
+    let one_b = entry_once p.second b w.second pb.rising (in_from b w.second w.of_second) (sym (ap (λ (z : Pair). z.second) w.is)) in
+    let one_a = entry_once p.first a w.first pa.rising (in_from a w.first w.of_first) (sym (ap (λ (z : Pair). z.first) w.is)) in
+    once p w ∙ sym (kept_times Meeting at_entries p X kept keeps meets ∙ ap (λ l. times p (map at_entries l)) eX ∙ entry_times p a b one_b ∙ one_a)
+
+pub all_pairs : (a b : List Entry) (ps qs : List Pair) → AreProper a → AreProper b → ListsEach (InCells a b 0 64) ps → IsPermutation ps qs → IsNonDecreasingBy rank_of qs → All Fits qs → IsAllPairs a b qs
+all_pairs a b ps qs pa pb each moved sorted fits =
+    let W = InCells a b 0 64 in
+    let X = pairs_of a b in
+    let test : Entry × Entry → Bool = λ z. times (at_entries z) qs == 1 in
+    let once : (p : Pair) → W p → times p qs ≡ 1 = λ p w. sum_by-IsPermutation (λ q. cond (is_pair p q) 1 0) ps qs moved ∙ each.once p w in
+    let all = recursion_from_All W qs (All-permutation W ps qs moved each.no_other) in
+    let inside = in_rows a b a b (in_itself a) (in_itself b) in
+    let known : AllByRecursion (λ (z : Entry × Entry). (test z ≡ true → Meeting z) × (Meeting z → test z ≡ true)) X =
+    each_weaker (AreIn a b) (λ (z : Entry × Entry). (test z ≡ true → Meeting z) × (Meeting z → test z ≡ true))
+    (λ z k. (
+      λ t. in_meets a b z.0 z.1 (at_entries z) pa pb k.0 k.1 refl (times_has W (at_entries z) qs (let n = eqb-true (times (at_entries z) qs) 1 t in omega (arith, n)) all),
+      λ m. eq-eqb (times (at_entries z) qs) 1 (once (at_entries z) (meets_in a b z.0 z.1 pa pb k.0 k.1 m)),
+    )) X inside in
+    let kept = filter test X in
+    let keeps = keeps_filter Meeting test X known in
+    let in_kept = kept_all Meeting (AreIn a b) X kept keeps inside in
+    let all_kept = both_all (AreIn a b) Meeting W at_entries (λ z k m. meets_in a b z.0 z.1 pa pb k.0 k.1 m) kept in_kept (keeps_have Meeting X kept keeps) in
+    let same = λ (p : Pair). times_by a b p qs X kept refl pa pb keeps inside all all_kept once (times p qs) refl in
+    (kept, keeps, same_lists qs (map at_entries kept) (sorted_ascends qs sorted fits) (ascends_filter test X (ascends_rows a b pa.rising pb.rising)) same)
+
+-- what stands where a list has no pair
+abbrev pub no_pair : Pair
+no_pair = record { first = 0; second = 0 }

@@ -1,0 +1,88 @@
+-- Extents round stretches of places.
+use Rattle.std.proofs.Common.{◌≡◌, ℕ, ◌+◌, ◌-◌, ◌*◌, ◌<◌, ◌≤◌, min, pos, true, false, List, [], ◌∷◌, ◌++◌, length, get_or, take, drop, inl, inr, arith, sym, ap, subst, ◌∙◌}
+use Rattle.std.proofs.Math.Nat.{mul-le-mul_right}
+use Rattle.std.proofs.Math.ListN.{get_or-append}
+use Rattle.std.proofs.Math.Seq.{get_or-append_seam}
+use Rattle.std.proofs.lemmas.List.{get_or-drop, get_or-take, length-take-le, length-drop}
+use Rattle.std.proofs.lemmas.Bool.{cases_lt}
+use Rattle.at_geom.specs.declared.rectangles.Extent.{Extent}
+use Rattle.at_geom.specs.Shapes.{encloses}
+use Rattle.at_query.specs.Joined.{around}
+use Rattle.at_join.specs.declared.places.Place.{Place}
+use Rattle.at_join.specs.Boxes.{touch_of}
+use Rattle.at_join.specs.Sides.{Cover}
+use Rattle.at_join.proofs.Extents.{covered_off, around_first, around_second}
+
+-- what stands where a list has no place
+abbrev pub no_extent : Extent
+no_extent = record { low = record { x = pos 0; y = pos 0 }; high = record { x = pos 0; y = pos 0 } }
+
+abbrev pub no_place : Place
+no_place = record { extent = no_extent; at = 0; index = 0 }
+
+-- the first k places of a list lie in the extent
+abbrev pub IsRound : Extent → List Place → ℕ → Type 0
+IsRound x places n = (k : ℕ) (e : Place) → k < n → encloses x (get_or places k e).extent ≡ true
+
+pub round_more : (x : Extent) (places : List Place) (i : ℕ) (q : Place) → ((e : Place) → get_or places i e ≡ q) → IsRound x places i → IsRound (around x q.extent) places (i + 1)
+round_more x places i q is h = λ k e lt. elim (cases_lt k i) [
+  | inl below ↦ around_first x q.extent (get_or places k e).extent (h k e below)
+  | inr from ↦
+      let same : k ≡ i = omega (arith, lt, from) in
+      subst (λ (j : ℕ). encloses (around x q.extent) (get_or places j e).extent ≡ true) (sym same)
+      (subst (λ (p : Place). encloses (around x q.extent) p.extent ≡ true) (sym (is e)) (around_second x q.extent))
+]
+
+-- the covers of the first places, up to a number
+abbrev pub CoverTo : ℕ → List Extent → List Place → ℕ → Type 0
+CoverTo size covers places n = (c j : ℕ) (d : Extent) (e : Place) → j < size → c * size + j < n → encloses (get_or covers c d) (get_or places (c * size + j) e).extent ≡ true
+
+-- c is below l where its stretch begins below that of l
+earlier : (c l j size : ℕ) → c * size + j < l * size → c < l
+earlier c l j size h = elim (cases_lt c l) [ inl lt ↦ lt | inr ge ↦ absurd (let m = mul-le-mul_right size ge in omega (arith, h, m)) ]
+
+only_here : (c l j size : ℕ) → j < size → l * size ≤ c * size + j → c * size + j < l * size + size → c ≡ l
+only_here c l j size small from to = elim (cases_lt c l) [
+  | inl lt ↦ absurd (let m = mul-le-mul_right {m = c + 1} {n = l} size (omega (arith, lt)) in let e : (c + 1) * size ≡ c * size + size = omega (arith) in omega (arith, m, e, small, from))
+  | inr ge ↦ elim (cases_lt l c) [
+    | inl lt ↦ absurd (let m = mul-le-mul_right {m = l + 1} {n = c} size (omega (arith, lt)) in let e : (l + 1) * size ≡ l * size + size = omega (arith) in omega (arith, m, e, to))
+    | inr le ↦ omega (arith, ge, le)
+  ]
+]
+
+-- one cover more
+pub cover_more : (size : ℕ) (covers : List Extent) (x : Extent) (places : List Place) (from to : ℕ) → from ≡ length covers * size → from ≤ to → to ≤ from + size
+    → IsRound x (take (to - from) (drop from places)) (to - from) → CoverTo size covers places from → CoverTo size (covers ++ x ∷ []) places to
+cover_more size covers x places from to at up far round h = λ c j d e small lt. elim (cases_lt (c * size + j) from) [
+  | inl before ↦
+      let below = earlier c (length covers) j size (omega (arith, before, at)) in
+      subst (λ (y : Extent). encloses y (get_or places (c * size + j) e).extent ≡ true) (sym (get_or-append covers (x ∷ []) d c below)) (h c j d e small before)
+  | inr behind ↦
+      let same = only_here c (length covers) j size small (omega (arith, behind, at)) (omega (arith, lt, far, at)) in
+      let k : ℕ = (c * size + j) - from in
+      let within : k < to - from = omega (arith, lt, behind) in
+      let there : get_or (take (to - from) (drop from places)) k e ≡ get_or places (c * size + j) e =
+      get_or-take (to - from) (drop from places) k e within ∙ get_or-drop from places k e ∙ ap (λ m. get_or places m e) (omega (arith, behind)) in
+      subst (λ (y : Extent). encloses y (get_or places (c * size + j) e).extent ≡ true) (sym (ap (λ m. get_or (covers ++ x ∷ []) m d) same ∙ get_or-append_seam covers x [] d))
+      (subst (λ (p : Place). encloses x p.extent ≡ true) there (round k e within))
+]
+
+-- the places of a stretch whose cover is off a window
+pub stretch_off : (size c at : ℕ) (covers : List Extent) (places : List Place) (w : Extent) → Cover size covers places → at ≡ c * size → ((d : Extent) → touch_of (get_or covers c d) w ≡ false)
+    → (k : ℕ) (e : Place) → at ≤ k → k < at + size → k < length places → touch_of (get_or places k e).extent w ≡ false
+stretch_off size c at covers places w cover is off k e from to lt =
+    let j : ℕ = k - at in
+    let here : c * size + j ≡ k = omega (arith, is, from) in
+    let small : j < size = omega (arith, from, to) in
+    let d : Extent = e.extent in
+    subst (λ (m : ℕ). touch_of (get_or places m e).extent w ≡ false) here
+    (covered_off (get_or covers c d) (get_or places (c * size + j) e).extent w (cover c j d e small (omega (arith, here, lt))) (off d))
+
+-- where the stretch behind this one begins
+pub next_at : (size l n from to : ℕ) → from ≡ l * size → to ≡ min n (from + size) → to < n → to ≡ (l + 1) * size
+next_at size l n from to at is lt =
+    let e : (l + 1) * size ≡ l * size + size = omega (arith) in
+    omega (arith, at, is, lt, e)
+
+pub part_length : {X : Type 0} (xs : List X) (from to : ℕ) → from ≤ to → to ≤ length xs → length (take (to - from) (drop from xs)) ≡ to - from
+part_length xs from to le lt = length-take-le (to - from) (drop from xs) (omega (arith, length-drop from xs, le, lt))

@@ -1,0 +1,201 @@
+-- Extents that touch, enclose one another, and are round the positions of a shape.
+use Rattle.std.proofs.Common.{◌≡◌, Bool, true, false, ◌&&◌, ◌≤ℤ◌, List, [], ◌∷◌, ◌++◌, Option, Some, None, arith, refl, sym, subst}
+use Rattle.std.specs.Prelude.{int_le, IsTrue, All}
+use Rattle.std.specs.List.{AllByRecursion}
+use Rattle.std.proofs.lemmas.Int.{ints, clamps}
+use Rattle.std.proofs.lemmas.List.Elements.{All-append, recursion_from_All, All-from_recursion}
+use Rattle.at_geom.specs.declared.positions.Pos.{Pos}
+use Rattle.at_geom.specs.declared.shapes.Polygon.{Polygon}
+use Rattle.at_geom.specs.declared.shapes.Shape.{Shape}
+use Rattle.at_geom.specs.declared.rectangles.Extent.{Extent}
+use Rattle.at_geom.specs.Segments.{IsInRange}
+use Rattle.at_geom.specs.Shapes.{IsShapeInRange, joined, positions, positions_of_polygons, extent_of, widened, is_within, encloses}
+use Rattle.at_geom.proofs.Comparisons.{le_true, le_from}
+use Rattle.at_geom.proofs.Found.{left_true, right_true, IsInside, sides, from_sides}
+use Rattle.at_query.specs.Joined.{upper, around, around_both}
+use Rattle.at_join.specs.Boxes.{touch_of, common_of, is_here_of, IsWide, IsSpan}
+
+pub not_true : (b : Bool) → (b ≡ true → ⊥) → b ≡ false
+not_true true h = absurd (h refl)
+not_true false h = refl
+
+pub two_differ : (b : Bool) → b ≡ true → b ≡ false → ⊥
+two_differ true e f = cc
+two_differ false e f = cc
+
+pub four_true : (a b c d : Bool) → ((a && b) && (c && d)) ≡ true → (a ≡ true) × (b ≡ true) × (c ≡ true) × (d ≡ true)
+four_true true true true true h = (refl, refl, refl, refl)
+four_true true true true false h = absurd (cc)
+four_true true true false d h = absurd (cc)
+four_true true false c d h = absurd (cc)
+four_true false b c d h = absurd (cc)
+
+from_four : (a b c d : Bool) → a ≡ true → b ≡ true → c ≡ true → d ≡ true → ((a && b) && (c && d)) ≡ true
+from_four a b c d e f g h = rw (e, f, g, h) refl
+
+-- a span from a to b and a span from c to d have a common number
+pub record Touching (x y : Extent) : Type 0 where
+  pub left : x.low.x ≤ℤ y.high.x
+  pub right : y.low.x ≤ℤ x.high.x
+  pub below : x.low.y ≤ℤ y.high.y
+  pub above : y.low.y ≤ℤ x.high.y
+
+pub touching : (x y : Extent) → touch_of x y ≡ true → Touching x y
+touching x y h =
+    let t = four_true (int_le x.low.x y.high.x) (int_le y.low.x x.high.x) (int_le x.low.y y.high.y) (int_le y.low.y x.high.y) h in
+    record { left = le_from _ _ t.0; right = le_from _ _ t.1; below = le_from _ _ t.2; above = le_from _ _ t.3 }
+
+pub from_touching : (x y : Extent) → Touching x y → touch_of x y ≡ true
+from_touching x y t =
+    from_four (int_le x.low.x y.high.x) (int_le y.low.x x.high.x) (int_le x.low.y y.high.y) (int_le y.low.y x.high.y)
+    (le_true _ _ t.left) (le_true _ _ t.right) (le_true _ _ t.below) (le_true _ _ t.above)
+
+pub record Enclosing (x y : Extent) : Type 0 where
+  pub left : x.low.x ≤ℤ y.low.x
+  pub right : y.high.x ≤ℤ x.high.x
+  pub below : x.low.y ≤ℤ y.low.y
+  pub above : y.high.y ≤ℤ x.high.y
+
+enclosing : (x y : Extent) → encloses x y ≡ true → Enclosing x y
+enclosing x y h =
+    let t = four_true (int_le x.low.x y.low.x) (int_le y.high.x x.high.x) (int_le x.low.y y.low.y) (int_le y.high.y x.high.y) h in
+    record { left = le_from _ _ t.0; right = le_from _ _ t.1; below = le_from _ _ t.2; above = le_from _ _ t.3 }
+
+from_enclosing : (x y : Extent) → Enclosing x y → encloses x y ≡ true
+from_enclosing x y t =
+    from_four (int_le x.low.x y.low.x) (int_le y.high.x x.high.x) (int_le x.low.y y.low.y) (int_le y.high.y x.high.y)
+    (le_true _ _ t.left) (le_true _ _ t.right) (le_true _ _ t.below) (le_true _ _ t.above)
+
+-- what is in an extent that is off a window is off the window
+pub covered_off : (c y w : Extent) → encloses c y ≡ true → touch_of c w ≡ false → touch_of y w ≡ false
+covered_off c y w h off = not_true (touch_of y w) (λ t.
+    let e = enclosing c y h in
+    let i = touching y w t in
+    two_differ (touch_of c w) (from_touching c w (record {
+      left = omega (arith, ints, e.left, i.left);
+      right = omega (arith, ints, e.right, i.right);
+      below = omega (arith, ints, e.below, i.below);
+      above = omega (arith, ints, e.above, i.above);
+    })) off)
+
+pub around_second : (x y : Extent) → encloses (around x y) y ≡ true
+around_second x y = from_enclosing (around x y) y (record {
+  left = omega (arith, ints, clamps);
+  right = omega (arith, ints, clamps);
+  below = omega (arith, ints, clamps);
+  above = omega (arith, ints, clamps);
+})
+
+pub around_first : (x y z : Extent) → encloses x z ≡ true → encloses (around x y) z ≡ true
+around_first x y z h = let e = enclosing x z h in from_enclosing (around x y) z (record {
+  left = omega (arith, ints, clamps, e.left);
+  right = omega (arith, ints, clamps, e.right);
+  below = omega (arith, ints, clamps, e.below);
+  above = omega (arith, ints, clamps, e.above);
+})
+
+pub encloses_itself : (x : Extent) → encloses x x ≡ true
+encloses_itself x = from_enclosing x x (record {
+  left = omega (arith, ints);
+  right = omega (arith, ints);
+  below = omega (arith, ints);
+  above = omega (arith, ints);
+})
+
+-- ---- pairs of the rectangle
+
+pub here_touches : (rect x y : Extent) → is_here_of rect x y ≡ true → Touching x y
+here_touches rect x y h = touching x y (left_true (touch_of x y) (is_within rect (upper x.low y.low)) h)
+
+pub here_inside : (rect x y : Extent) → is_here_of rect x y ≡ true → IsInside rect (upper x.low y.low)
+here_inside rect x y h = sides rect (upper x.low y.low) (right_true (touch_of x y) (is_within rect (upper x.low y.low)) h)
+
+-- the first of the two touches the rectangle
+pub off_rect : (rect x y : Extent) → IsWide x → touch_of x rect ≡ false → is_here_of rect x y ≡ true → ⊥
+off_rect rect x y w off h =
+    let t = here_touches rect x y h in
+    let i = here_inside rect x y h in
+    two_differ (touch_of x rect) (from_touching x rect (record {
+      left = omega (arith, ints, clamps, i.right);
+      right = omega (arith, ints, clamps, i.left, w.along_x, t.right);
+      below = omega (arith, ints, clamps, i.above);
+      above = omega (arith, ints, clamps, i.below, w.along_y, t.above);
+    })) off
+
+-- the second touches what the first and the rectangle have in common
+pub off_window : (rect x y : Extent) → IsWide y → touch_of y (common_of x rect) ≡ false → is_here_of rect x y ≡ true → ⊥
+off_window rect x y w off h =
+    let t = here_touches rect x y h in
+    let i = here_inside rect x y h in
+    two_differ (touch_of y (common_of x rect)) (from_touching y (common_of x rect) (record {
+      left = omega (arith, ints, clamps, i.right, t.right);
+      right = omega (arith, ints, clamps, i.left, w.along_x, t.left);
+      below = omega (arith, ints, clamps, i.above, t.above);
+      above = omega (arith, ints, clamps, i.below, w.along_y, t.below);
+    })) off
+
+-- ---- the extent of positions in range
+
+widened_span : (p : Pos) (o : Option Extent) → IsInRange p → ((e : Extent) → o ≡ Some e → IsSpan e) → IsSpan (widened p o)
+widened_span p None r h = record {
+  wide = record { along_x = omega (arith, ints); along_y = omega (arith, ints) };
+  low = r;
+  high = r;
+}
+widened_span p (Some e) r h = let s = h e refl in record {
+  wide = record { along_x = omega (arith, ints, clamps, s.wide.along_x); along_y = omega (arith, ints, clamps, s.wide.along_y) };
+  low = (omega (arith, ints, clamps, r.0, s.low.0), omega (arith, ints, clamps, r.1, s.low.1));
+  high = (omega (arith, ints, clamps, r.0, s.high.0), omega (arith, ints, clamps, r.1, s.high.1));
+}
+
+spans : (ps : List Pos) (x : Extent) → AllByRecursion IsInRange ps → extent_of ps ≡ Some x → IsSpan x
+spans [] x r e = absurd (cc)
+spans (p ∷ ps) x r e =
+    let same : widened p (extent_of ps) ≡ x = cc in
+    subst IsSpan same (widened_span p (extent_of ps) r.0 (λ y f. spans ps y r.1 f))
+
+all_joined : (paths : List (List Pos)) → AllByRecursion (All IsInRange) paths → All IsInRange (joined paths)
+all_joined [] h = All-from_recursion IsInRange [] tt
+all_joined (path ∷ paths) h = All-append IsInRange path (joined paths) h.0 (all_joined paths h.1)
+
+all_polygons : (polygons : List Polygon) → AllByRecursion (λ (polygon : Polygon). All (All IsInRange) polygon.rings) polygons → All IsInRange (positions_of_polygons polygons)
+all_polygons [] h = All-from_recursion IsInRange [] tt
+all_polygons (polygon ∷ polygons) h = All-append IsInRange (joined polygon.rings) (positions_of_polygons polygons) (all_joined polygon.rings (recursion_from_All (All IsInRange) polygon.rings h.0)) (all_polygons polygons h.1)
+
+pub shape_span : (s : Shape) (x : Extent) → IsShapeInRange s → extent_of (positions s) ≡ Some x → IsSpan x
+shape_span s x r e = spans (positions s) x (recursion_from_All IsInRange (positions s)
+    (All-append IsInRange (s.points ++ joined s.lines) (positions_of_polygons s.polygons)
+    (All-append IsInRange s.points (joined s.lines) r.points (all_joined s.lines (recursion_from_All (All IsInRange) s.lines r.lines)))
+    (all_polygons s.polygons (recursion_from_All (λ (polygon : Polygon). All (All IsInRange) polygon.rings) s.polygons r.polygons)))) e
+
+-- ---- the extent round two, where there are any
+
+pub around_left : (x y : Extent) → encloses (around x y) x ≡ true
+around_left x y = around_first x y x (encloses_itself x)
+
+pub encloses_through : (x y z : Extent) → encloses x y ≡ true → encloses y z ≡ true → encloses x z ≡ true
+encloses_through x y z h k = let e = enclosing x y h in let f = enclosing y z k in from_enclosing x z (record {
+  left = omega (arith, ints, e.left, f.left);
+  right = omega (arith, ints, e.right, f.right);
+  below = omega (arith, ints, e.below, f.below);
+  above = omega (arith, ints, e.above, f.above);
+})
+
+pub head_round : (o t : Option Extent) (j x : Extent) → around_both o t ≡ Some j → o ≡ Some x → encloses j x ≡ true
+head_round None t j x e f = absurd (cc)
+head_round (Some y) None j x e f = let s : x ≡ j = cc in rw s (encloses_itself j)
+head_round (Some y) (Some z) j x e f = let s : around y z ≡ j = cc in let t : y ≡ x = cc in subst (λ w. encloses w x ≡ true) s (subst (λ w. encloses (around w z) x ≡ true) (sym t) (around_left x z))
+
+pub tail_round : (o t : Option Extent) (j x : Extent) → around_both o t ≡ Some j → t ≡ Some x → encloses j x ≡ true
+tail_round None t j x e f = let s : x ≡ j = cc in rw s (encloses_itself j)
+tail_round (Some y) None j x e f = absurd (cc)
+tail_round (Some y) (Some z) j x e f = let s : around y z ≡ j = cc in let t : z ≡ x = cc in subst (λ w. encloses w x ≡ true) s (subst (λ w. encloses (around y w) x ≡ true) (sym t) (around_second y x))
+
+-- the reference point of two extents lies in an extent round both
+pub reference_inside : (j x y : Extent) → IsWide x → IsWide y → encloses j x ≡ true → encloses j y ≡ true → IsTrue (is_within j (upper x.low y.low))
+reference_inside j x y v w h k = let e = enclosing j x h in let f = enclosing j y k in from_sides j (upper x.low y.low) (record {
+  left = omega (arith, ints, clamps, e.left, f.left);
+  right = omega (arith, ints, clamps, e.right, f.right, v.along_x, w.along_x);
+  below = omega (arith, ints, clamps, e.below, f.below);
+  above = omega (arith, ints, clamps, e.above, f.above, v.along_y, w.along_y);
+})

@@ -1,0 +1,11 @@
+pub mod FoundLists
+pub mod Extents
+pub mod Covering
+pub mod Rows
+pub mod CellRects
+pub mod Offsets
+pub mod CellPairs
+pub mod Spreads
+pub mod PartLists
+pub mod AllPairs
+pub mod Squares

@@ -1,0 +1,15 @@
+use Rattle.std.proofs.Common.{◌+◌, ◌-◌, ◌≤◌, length, take}
+use Rattle.std.specs.Prelude.{count_by}
+use Rattle.at_join.specs.Meetings.{Finds}
+use Rattle.at_join.specs.Sides.{RowHit, row_pair, is_row_here}
+use Rattle.at_join.proofs.finding.push_row.Given as goal
+
+-- the places so far are those of which the pairs were found and the steps taken
+abbrev pub invariant-loop-at : goal.invariant-loop-at
+invariant-loop-at g l = record {
+  pairs : Finds (RowHit l.rect l.place l.shape l.b.entries) (row_pair l.place) (take l.at l.b.places.items) l.fn.pairs.items l.pairs.items;
+  steps : l.steps ≤ l.fn.steps + count_by (is_row_here l.rect l.place) (take l.at l.b.places.items);
+}
+
+abbrev pub decreases-loop-at : goal.decreases-loop-at
+decreases-loop-at g l = length l.b.places.items - l.at

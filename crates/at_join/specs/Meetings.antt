@@ -1,0 +1,37 @@
+-- The pairs of two lists of entries of which the shapes meet.
+use Rattle.std.specs.Prelude.{◌≡◌, List, [], ◌++◌, All, map, flat_map}
+use Rattle.at_geom.specs.Shapes.{IsShapeInRange, Meet}
+use Rattle.at_query.specs.declared.parts.Entry.{Entry}
+use Rattle.at_query.specs.declared.answers.Pair.{Pair}
+use Rattle.at_query.specs.Results.{Keeps}
+
+-- all coordinates are in range
+abbrev pub AreInRange : List Entry → Type 0
+AreInRange es = All (λ (e : Entry). IsShapeInRange e.shape) es
+
+-- all pairs of an element of the one list and an element of the other, in order of the first, then the second
+abbrev pub pairs_of : {X : Type 0} → List X → List X → List (X × X)
+pairs_of {X} xs ys = flat_map (λ (x : X). map (λ (y : X). (x, y)) ys) xs
+
+-- the two shapes meet
+abbrev pub Meeting : Entry × Entry → Type 0
+Meeting (e, f) = Meet e.shape f.shape
+
+-- the offsets of two entries
+abbrev pub at_entries : Entry × Entry → Pair
+at_entries (e, f) = record { first = e.at; second = f.at }
+
+-- new is old with what f makes of those of the elements that have the property behind it, in order
+abbrev pub Finds : {X Y : Type 0} → (X → Type 0) → (X → Y) → List X → List Y → List Y → Type 0
+Finds {X} P f xs old new = (kept : List X) × Keeps P xs kept × (new ≡ old ++ map f kept)
+
+-- all pairs that meet, in order of the first list, then the second
+abbrev pub IsAllPairs : List Entry → List Entry → List Pair → Type 0
+IsAllPairs a b ps = Finds Meeting at_entries (pairs_of a b) [] ps
+
+-- what one entry of the first list has
+abbrev pub MeetsWith : Entry → Entry → Type 0
+MeetsWith e f = Meet e.shape f.shape
+
+abbrev pub pair_with : Entry → Entry → Pair
+pair_with e f = record { first = e.at; second = f.at }

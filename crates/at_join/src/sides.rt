@@ -1,0 +1,70 @@
+ghost use Rattle.std.specs.Prelude.{◌≡◌, ℕ, ◌<◌, ◌≤◌, IfOk, false, length, slice_index_or};
+ghost use Rattle.std.specs.List.{AllByRecursion};
+ghost use Rattle.at_query.specs.Parts.{IsProperEntry};
+ghost use Rattle.at_join.specs.declared.places.Place.{Place};
+ghost use Rattle.at_join.specs.Boxes.{touch_of};
+ghost use Rattle.at_join.specs.Sides.{IsSide};
+
+use crate::covers::{covers_of, is_clear};
+use crate::keys::key_of;
+use crate::places::{Place, places_of};
+use at_geom::{Extent, Pos};
+use at_query::Entries;
+use at_text::Memory;
+use std::alloc::Global;
+
+/// A list of entries, the places of those that have an extent, in an order in which near ones mostly are neighbours, and the
+/// extents round each 16, 256 and 4,096 of these.
+#[derive(Drop)]
+pub(crate) struct Side {
+    pub(crate) entries: Entries,
+    pub(crate) places: Vec<Place>,
+    runs: Vec<Extent>,
+    blocks: Vec<Extent>,
+    fields: Vec<Extent>,
+}
+
+impl Side {
+    /// The side of a list of entries, whose order begins at a position.
+    pub(crate) fn new(alloc: Global, entries: Entries, low: Pos) -> Result<Side, Memory>
+        requires { AllByRecursion IsProperEntry entries }
+        ensures side { IfOk result IsSide }
+        ensures entries { IfOk result (λ side. side.entries ≡ entries) }
+    {
+        let mut places = places_of(alloc, entries.as_slice())?;
+        places.sort_by_cached_key(|place: &Place| key_of(low, place.extent.low))?;
+        let runs = covers_of(alloc, places.as_slice(), 16)?;
+        let blocks = covers_of(alloc, places.as_slice(), 256)?;
+        let fields = covers_of(alloc, places.as_slice(), 4096)?;
+        Ok(Side {
+            entries,
+            places,
+            runs,
+            blocks,
+            fields,
+        })
+    }
+
+    /// A place at or behind this one; those before it, from this one on, have no common point with the window.
+    pub(crate) fn ahead(&self, at: usize, window: Extent) -> usize
+        requires side { IsSide self.now }
+        requires at { at < length self.now.places.items }
+        ensures ahead { at ≤ result }
+        ensures clear { (k : ℕ) (e : Place) → at ≤ k → k < result → k < length self.now.places.items
+            → touch_of (slice_index_or self.now.places.items k e).extent window ≡ false }
+    {
+        if at % 16 != 0 {
+            return at;
+        }
+        if is_clear(self.fields.as_slice(), 4096, at, window) {
+            return at + 4096;
+        }
+        if is_clear(self.blocks.as_slice(), 256, at, window) {
+            return at + 256;
+        }
+        if is_clear(self.runs.as_slice(), 16, at, window) {
+            return at + 16;
+        }
+        at
+    }
+}
