@@ -1,0 +1,86 @@
+-- The atom of an array by the sort of its items.
+use Rattle.std.proofs.Common.{◌≡◌, ◌≢◌, ◌⊎◌, inl, inr, ℕ, Bool, true, false, List, [], ◌∷◌, Option, Some, None, refl, sym, ◌∙◌, ap, subst}
+use Rattle.std.specs.List.{list_any}
+use Rattle.at_nest.specs.Folds.{AreFolds}
+use Rattle.at_nest.specs.Tree.{array, Trees, no_trees, tree_and}
+use Rattle.at_geojson.specs.declared.atoms.GeoAtom.{GeoAtom}
+use Rattle.at_geojson.specs.declared.atoms.GeoAtom.TheVariants as atoms
+use Rattle.at_geojson.specs.declared.sorts.Sort.{Sort}
+use Rattle.at_geojson.specs.declared.sorts.Sort.TheVariants as sorts
+use Rattle.at_geojson.specs.Keeping.{Asked, needs_shapes}
+use Rattle.at_geojson.specs.Atoms.{twin_of, IsOwn, IsRead, IsFold, HaveItems}
+use Rattle.at_geojson.specs.Gathering.{firsts, is_object, least_of, rank, sort_of_all, pair_atom, MakesPoints, MakesLists, MakesAreas}
+use Rattle.at_geojson.specs.Arrays.{MakesItems, MakesNumbers}
+use Rattle.at_geojson.proofs.Each.{reads}
+use Rattle.at_geojson.proofs.ArrayFolds.{points_read, lists_read, areas_read, position_read, no_form, one_number, other_read, items_read, read_folds, HasNoForm, twin_of_pair, empty_read}
+
+module _ (asked : Asked) (at : ℕ) where
+  pub empty_folds : (ts : Trees) → AreFolds (IsFold asked) [] ts → IsFold asked (atoms.Empty at) (array at ts)
+  empty_folds no_trees h = record { twins = refl; read = λ _. empty_read asked at }
+  empty_folds (tree_and t ts) h = absurd h
+
+  module _ (items : List GeoAtom) (some : items ≢ []) (twins : firsts twin_of items ≡ None) where
+    pub points_fold : (b : Bool) (least : ℕ) (r : GeoAtom) → b ≡ needs_shapes asked.query → least ≡ least_of items → sort_of_all items ≡ sorts.Position → MakesPoints b at least items r
+        → (ts : Trees) → AreFolds (IsFold asked) items ts → IsFold asked r (array at ts)
+    points_fold b least r eb el es m ts h = go items refl where
+      m2 : MakesPoints (needs_shapes asked.query) at (least_of items) items r
+      m2 = subst (λ z. MakesPoints z at (least_of items) items r) eb (subst (λ z. MakesPoints b at z items r) el m)
+
+      go : (aa : List GeoAtom) → items ≡ aa → IsFold asked r (array at ts)
+      go [] e = absurd (some e)
+      go (a ∷ aa) e = read_folds asked at items ts r h twins (ap twin_of m.result_is)
+          (points_read asked at a aa ts (reads asked (a ∷ aa) ts (subst (λ z. AreFolds (IsFold asked) z ts) e h) (ap (firsts twin_of) (sym e) ∙ twins)) (ap (λ z. rank (sort_of_all z)) (sym e) ∙ ap rank es) r
+          (subst (λ z. MakesPoints (needs_shapes asked.query) at (least_of z) z r) e m2))
+
+    pub lists_fold : (b : Bool) (least : ℕ) (r : GeoAtom) → b ≡ needs_shapes asked.query → least ≡ least_of items → sort_of_all items ≡ sorts.Points → MakesLists b at least items r
+        → (ts : Trees) → AreFolds (IsFold asked) items ts → IsFold asked r (array at ts)
+    lists_fold b least r eb el es m ts h = go items refl where
+      m2 : MakesLists (needs_shapes asked.query) at (least_of items) items r
+      m2 = subst (λ z. MakesLists z at (least_of items) items r) eb (subst (λ z. MakesLists b at z items r) el m)
+
+      go : (aa : List GeoAtom) → items ≡ aa → IsFold asked r (array at ts)
+      go [] e = absurd (some e)
+      go (a ∷ aa) e = read_folds asked at items ts r h twins (ap twin_of m.result_is)
+          (lists_read asked at a aa ts (reads asked (a ∷ aa) ts (subst (λ z. AreFolds (IsFold asked) z ts) e h) (ap (firsts twin_of) (sym e) ∙ twins)) (ap (λ z. rank (sort_of_all z)) (sym e) ∙ ap rank es) r
+          (subst (λ z. MakesLists (needs_shapes asked.query) at (least_of z) z r) e m2))
+
+    pub areas_fold : (b : Bool) (least : ℕ) (r : GeoAtom) → b ≡ needs_shapes asked.query → least ≡ least_of items → sort_of_all items ≡ sorts.Lists → MakesAreas b at least items r
+        → (ts : Trees) → AreFolds (IsFold asked) items ts → IsFold asked r (array at ts)
+    areas_fold b least r eb el es m ts h = go items refl where
+      m2 : MakesAreas (needs_shapes asked.query) at (least_of items) items r
+      m2 = subst (λ z. MakesAreas z at (least_of items) items r) eb (subst (λ z. MakesAreas b at z items r) el m)
+
+      go : (aa : List GeoAtom) → items ≡ aa → IsFold asked r (array at ts)
+      go [] e = absurd (some e)
+      go (a ∷ aa) e = read_folds asked at items ts r h twins (ap twin_of m.result_is)
+          (areas_read asked at a aa ts (reads asked (a ∷ aa) ts (subst (λ z. AreFolds (IsFold asked) z ts) e h) (ap (firsts twin_of) (sym e) ∙ twins)) (ap (λ z. rank (sort_of_all z)) (sym e) ∙ ap rank es) r
+          (subst (λ z. MakesAreas (needs_shapes asked.query) at (least_of z) z r) e m2))
+
+    made_twin : (r : GeoAtom) → MakesItems asked at items r → twin_of r ≡ None
+    made_twin r (inl h) = ap twin_of h.1
+    made_twin r (inr m) = ap twin_of m.1
+
+    made_read : (r : GeoAtom) (a : GeoAtom) (aa : List GeoAtom) (ts : Trees) (h : AreFolds (IsRead asked) (a ∷ aa) ts) → HasNoForm asked at a aa ts h → MakesItems asked at (a ∷ aa) r → IsRead asked r (array at ts)
+    made_read r a aa ts h f (inl m) = subst (λ z. IsRead asked z (array at ts)) (sym m.1) (other_read asked at a aa ts h f m.0)
+    made_read r a aa ts h f (inr m) = let have = m.3 ts h in subst (λ z. IsRead asked z (array at ts)) (sym m.1) (items_read asked at a aa ts h m.0 m.2 f have.0 have.1)
+
+    pub items_fold : (r : GeoAtom) → sort_of_all items ≡ sorts.Other → MakesItems asked at items r → (ts : Trees) → AreFolds (IsFold asked) items ts → IsFold asked r (array at ts)
+    items_fold r es m ts h = go items refl where
+      go : (aa : List GeoAtom) → items ≡ aa → IsFold asked r (array at ts)
+      go [] e = absurd (some e)
+      go (a ∷ aa) e =
+          let read = reads asked (a ∷ aa) ts (subst (λ z. AreFolds (IsFold asked) z ts) e h) (ap (firsts twin_of) (sym e) ∙ twins) in
+          read_folds asked at items ts r h twins (made_twin r m) (made_read r a aa ts read (no_form asked at a aa ts read (ap (λ z. rank (sort_of_all z)) (sym e) ∙ ap rank es)) (subst (λ z. MakesItems asked at z r) e m))
+
+    pub numbers_fold : (r : GeoAtom) → sort_of_all items ≡ sorts.Number → MakesNumbers asked at items r → (ts : Trees) → AreFolds (IsFold asked) items ts → IsFold asked r (array at ts)
+    numbers_fold r es m ts h = go items refl m where
+      go : (aa : List GeoAtom) → items ≡ aa → MakesNumbers asked at items r → IsFold asked r (array at ts)
+      go [] e n = absurd (some e)
+      go (a ∷ aa) e (inl p) =
+          let read = reads asked (a ∷ aa) ts (subst (λ z. AreFolds (IsFold asked) z ts) e h) (ap (firsts twin_of) (sym e) ∙ twins) in
+          read_folds asked at items ts r h twins (twin_of_pair at (least_of items) items r p)
+          (position_read asked at a aa ts read (ap (λ z. rank (sort_of_all z)) (sym e) ∙ ap rank es) r (subst (λ z. pair_atom at (least_of z) z ≡ Some r) e p))
+      go (a ∷ aa) e (inr p) =
+          let read = reads asked (a ∷ aa) ts (subst (λ z. AreFolds (IsFold asked) z ts) e h) (ap (firsts twin_of) (sym e) ∙ twins) in
+          read_folds asked at items ts r h twins (made_twin r p.1)
+          (made_read r a aa ts read (one_number asked at a aa ts read (ap (λ z. rank (sort_of_all z)) (sym e) ∙ ap rank es) (subst (λ z. pair_atom at (least_of z) z ≡ None) e p.0)) (subst (λ z. MakesItems asked at z r) e p.1))

@@ -1,0 +1,31 @@
+-- The first of the faults that a pass over a list finds, and the first fault of joined lists.
+use Rattle.std.proofs.Common.{◌≡◌, ℕ, ◌+◌, ◌≤◌, Bool, true, false, if◌then◌else◌, List, [], ◌∷◌, ◌++◌, fold, min, map, flat_map, length, take, drop, Option, Some, None, refl, sym, ◌∙◌, ap, subst, arith}
+use Rattle.std.proofs.lemmas.Option.{none-some}
+use Rattle.at_text.specs.Faults.{comes_first, first_fault, first_of, fault_at}
+use Rattle.at_text.specs.declared.faults.Fault.{Fault}
+use Rattle.at_wkt.proofs.Exits.{first_fault-assoc, first_of-append}
+use Rattle.at_geojson.specs.Gathering.{firsts}
+
+pub none_right : (o : Option Fault) → first_fault o None ≡ o
+none_right None = refl
+none_right (Some a) = refl
+
+module _ {X : Type 0} (f : X → Option Fault) where
+  pub firsts_from : (xs : List X) (o : Option Fault) → fold (λ first x. first_fault first (f x)) o xs ≡ first_fault o (firsts f xs)
+  firsts_from [] o = sym (none_right o)
+  firsts_from (x ∷ xs) o = firsts_from xs (first_fault o (f x)) ∙ (first_fault-assoc o (f x) (firsts f xs) ∙ sym (ap (first_fault o) (firsts_from xs (f x))))
+
+  pub firsts-cons : (x : X) (xs : List X) → firsts f (x ∷ xs) ≡ first_fault (f x) (firsts f xs)
+  firsts-cons x xs = firsts_from xs (f x)
+
+-- a list has no first fault where it has none
+pub none_first : (fs : List Fault) → first_of fs ≡ None → fs ≡ []
+none_first [] e = refl
+none_first (f ∷ fs) e = absurd (has (first_of fs) e) where
+  some : (b : Bool) (g : Fault) → (if b then Some f else Some g) ≡ None → ⊥
+  some true g h = none-some f (sym h)
+  some false g h = none-some g (sym h)
+
+  has : (o : Option Fault) → first_fault (Some f) o ≡ None → ⊥
+  has None h = none-some f (sym h)
+  has (Some g) h = some (comes_first f g) g h

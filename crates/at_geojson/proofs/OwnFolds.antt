@@ -1,0 +1,212 @@
+-- The algebra's own atoms: coordinates in range, and parts of the query.
+use Rattle.std.proofs.Common.{◌≡◌, ℕ, ◌≤◌, nat_abs, Bool, true, false, List, [], ◌∷◌, ◌++◌, map, slice_get, Option, Some, None, Result, Ok, Err, All, refl, sym, ◌∙◌, ap, subst, arith}
+use Rattle.std.proofs.lemmas.List.Elements.{All-nil, All-cons, All-head, All-tail, All-append}
+use Rattle.std.proofs.lemmas.Option.{none-some}
+use Rattle.at_text.specs.Faults.{first_fault}
+use Rattle.at_text.specs.declared.faults.Fault.{Fault}
+use Rattle.at_geom.specs.declared.positions.Pos.{Pos}
+use Rattle.at_geom.specs.declared.shapes.Polygon.{Polygon}
+use Rattle.at_geom.specs.declared.shapes.Shape.{Shape}
+use Rattle.at_geom.specs.Segments.{IsInRange}
+use Rattle.at_geom.specs.Shapes.{ArePathsInRange, ArePolygonsInRange, IsShapeInRange}
+use Rattle.at_query.specs.declared.parts.Part.{Part}
+use Rattle.at_query.specs.Parts.{AreAlike}
+use Rattle.at_query.proofs.Joining.{parts_are_alike}
+use Rattle.at_wkt.specs.Meaning.{both}
+use Rattle.at_geojson.specs.declared.atoms.GeoAtom.{GeoAtom}
+use Rattle.at_geojson.specs.declared.atoms.GeoAtom.TheVariants as atoms
+use Rattle.at_geojson.specs.declared.atoms.Role.{Role}
+use Rattle.at_geojson.specs.declared.atoms.Role.TheVariants as roles
+use Rattle.at_geojson.specs.Keeping.{Asked, needs_shapes, kept}
+use Rattle.at_geojson.specs.Atoms.{nowhere, at_of, role_of, role_geometry, role_item, IfOwnShape, IfOwnPart, IsOwnRole, IsOwn}
+use Rattle.at_geojson.specs.Gathering.{number_value, number_fault, position_value, path_in, rings_in, polygon_in, position_atom, position_made, pair_atom, pair_at, MakesPoints, MakesLists, MakesAreas, JoinsShapes, JoinsFound, AreJoinable}
+
+pub all_mapped : {X Y : Type 0} (P : X → Type 0) (Q : Y → Type 0) (f : X → Y) → ((x : X) → P x → Q (f x)) → (xs : List X) → All P xs → All Q (map f xs)
+all_mapped P Q f g [] h = All-nil Q
+all_mapped P Q f g (x ∷ xs) h = All-cons Q (f x) (map f xs) (g x (All-head P x xs h)) (all_mapped P Q f g xs (All-tail P x xs h))
+
+pub all_kept : {X : Type 0} (P : X → Type 0) (b : Bool) (xs : List X) → All P xs → All P (kept b xs)
+all_kept P true xs h = h
+all_kept P false xs h = All-nil P
+
+pub nowhere_in : IsInRange nowhere
+nowhere_in = (omega arith, omega arith)
+
+some_is : (x y : GeoAtom) → Some x ≡ Some y → x ≡ y
+some_is x y e = ap (λ o. elim o [ None ↦ x | Some z ↦ z ]) e
+
+module _ (asked : Asked) where
+  role_shape : (at : ℕ) (r : Role) → IsOwnRole asked r → IfOwnShape asked (role_geometry at r)
+  role_shape at roles.Nothing h = tt
+  role_shape at (roles.Geometry g) h = h
+  role_shape at (roles.Feature p) h = tt
+  role_shape at (roles.Collection p) h = tt
+
+  role_part : (at : ℕ) (r : Role) → IsOwnRole asked r → IfOwnPart asked (role_item at r)
+  role_part at roles.Nothing h = tt
+  role_part at (roles.Geometry g) h = tt
+  role_part at (roles.Feature p) h = h
+  role_part at (roles.Collection p) h = tt
+
+  number_small : (a : GeoAtom) → IsOwn asked a → nat_abs (number_value a) ≤ 300000000000000
+  number_small (atoms.Twin f) h = omega arith
+  number_small (atoms.Null n) h = omega arith
+  number_small (atoms.Plain n) h = omega arith
+  number_small (atoms.Text x) h = omega arith
+  number_small (atoms.Number x) h = h.0
+  number_small (atoms.BadNumber f) h = omega arith
+  number_small (atoms.Empty n) h = omega arith
+  number_small (atoms.Position x) h = omega arith
+  number_small (atoms.BadPosition x) h = omega arith
+  number_small (atoms.Points x) h = omega arith
+  number_small (atoms.Lists x) h = omega arith
+  number_small (atoms.Areas x) h = omega arith
+  number_small (atoms.Other x) h = omega arith
+  number_small (atoms.Items x) h = omega arith
+  number_small (atoms.Void n) h = omega arith
+  number_small (atoms.Object x) h = omega arith
+
+  pub position_in : (a : GeoAtom) → IsOwn asked a → IsInRange (position_value a)
+  position_in (atoms.Twin f) h = nowhere_in
+  position_in (atoms.Null n) h = nowhere_in
+  position_in (atoms.Plain n) h = nowhere_in
+  position_in (atoms.Text x) h = nowhere_in
+  position_in (atoms.Number x) h = nowhere_in
+  position_in (atoms.BadNumber f) h = nowhere_in
+  position_in (atoms.Empty n) h = nowhere_in
+  position_in (atoms.Position x) h = h
+  position_in (atoms.BadPosition x) h = nowhere_in
+  position_in (atoms.Points x) h = nowhere_in
+  position_in (atoms.Lists x) h = nowhere_in
+  position_in (atoms.Areas x) h = nowhere_in
+  position_in (atoms.Other x) h = nowhere_in
+  position_in (atoms.Items x) h = nowhere_in
+  position_in (atoms.Void n) h = nowhere_in
+  position_in (atoms.Object x) h = nowhere_in
+
+  pub path_in_range : (a : GeoAtom) → IsOwn asked a → All IsInRange (path_in a)
+  path_in_range (atoms.Twin f) h = All-nil IsInRange
+  path_in_range (atoms.Null n) h = All-nil IsInRange
+  path_in_range (atoms.Plain n) h = All-nil IsInRange
+  path_in_range (atoms.Text x) h = All-nil IsInRange
+  path_in_range (atoms.Number x) h = All-nil IsInRange
+  path_in_range (atoms.BadNumber f) h = All-nil IsInRange
+  path_in_range (atoms.Empty n) h = All-nil IsInRange
+  path_in_range (atoms.Position x) h = All-nil IsInRange
+  path_in_range (atoms.BadPosition x) h = All-nil IsInRange
+  path_in_range (atoms.Points x) h = h
+  path_in_range (atoms.Lists x) h = All-nil IsInRange
+  path_in_range (atoms.Areas x) h = All-nil IsInRange
+  path_in_range (atoms.Other x) h = All-nil IsInRange
+  path_in_range (atoms.Items x) h = All-nil IsInRange
+  path_in_range (atoms.Void n) h = All-nil IsInRange
+  path_in_range (atoms.Object x) h = All-nil IsInRange
+
+  pub rings_in_range : (a : GeoAtom) → IsOwn asked a → ArePathsInRange (rings_in a)
+  rings_in_range (atoms.Twin f) h = All-nil (All IsInRange)
+  rings_in_range (atoms.Null n) h = All-nil (All IsInRange)
+  rings_in_range (atoms.Plain n) h = All-nil (All IsInRange)
+  rings_in_range (atoms.Text x) h = All-nil (All IsInRange)
+  rings_in_range (atoms.Number x) h = All-nil (All IsInRange)
+  rings_in_range (atoms.BadNumber f) h = All-nil (All IsInRange)
+  rings_in_range (atoms.Empty n) h = All-nil (All IsInRange)
+  rings_in_range (atoms.Position x) h = All-nil (All IsInRange)
+  rings_in_range (atoms.BadPosition x) h = All-nil (All IsInRange)
+  rings_in_range (atoms.Points x) h = All-nil (All IsInRange)
+  rings_in_range (atoms.Lists x) h = h
+  rings_in_range (atoms.Areas x) h = All-nil (All IsInRange)
+  rings_in_range (atoms.Other x) h = All-nil (All IsInRange)
+  rings_in_range (atoms.Items x) h = All-nil (All IsInRange)
+  rings_in_range (atoms.Void n) h = All-nil (All IsInRange)
+  rings_in_range (atoms.Object x) h = All-nil (All IsInRange)
+
+  pub own_geometry : (a : GeoAtom) → IsOwn asked a → IfOwnShape asked (role_geometry (at_of a) (role_of a))
+  own_geometry (atoms.Twin f) h = tt
+  own_geometry (atoms.Null n) h = tt
+  own_geometry (atoms.Plain n) h = tt
+  own_geometry (atoms.Text x) h = tt
+  own_geometry (atoms.Number x) h = tt
+  own_geometry (atoms.BadNumber f) h = tt
+  own_geometry (atoms.Empty n) h = tt
+  own_geometry (atoms.Position x) h = tt
+  own_geometry (atoms.BadPosition x) h = tt
+  own_geometry (atoms.Points x) h = tt
+  own_geometry (atoms.Lists x) h = tt
+  own_geometry (atoms.Areas x) h = tt
+  own_geometry (atoms.Other x) h = tt
+  own_geometry (atoms.Items x) h = tt
+  own_geometry (atoms.Void n) h = tt
+  own_geometry (atoms.Object x) h = role_shape x.at x.roles.value.role h
+
+  pub own_item : (a : GeoAtom) → IsOwn asked a → IfOwnPart asked (role_item (at_of a) (role_of a))
+  own_item (atoms.Twin f) h = tt
+  own_item (atoms.Null n) h = tt
+  own_item (atoms.Plain n) h = tt
+  own_item (atoms.Text x) h = tt
+  own_item (atoms.Number x) h = tt
+  own_item (atoms.BadNumber f) h = tt
+  own_item (atoms.Empty n) h = tt
+  own_item (atoms.Position x) h = tt
+  own_item (atoms.BadPosition x) h = tt
+  own_item (atoms.Points x) h = tt
+  own_item (atoms.Lists x) h = tt
+  own_item (atoms.Areas x) h = tt
+  own_item (atoms.Other x) h = tt
+  own_item (atoms.Items x) h = tt
+  own_item (atoms.Void n) h = tt
+  own_item (atoms.Object x) h = role_part x.at x.roles.value.role h
+
+  pub own_middle : (items xs : List GeoAtom) (a : GeoAtom) (rest : List GeoAtom) → items ≡ xs ++ a ∷ rest → All (IsOwn asked) items → IsOwn asked a
+  own_middle items xs a rest e h = go xs (subst (All (IsOwn asked)) e h) where
+    go : (ys : List GeoAtom) → All (IsOwn asked) (ys ++ a ∷ rest) → IsOwn asked a
+    go [] k = All-head (IsOwn asked) a rest k
+    go (y ∷ ys) k = go ys (All-tail (IsOwn asked) y (ys ++ a ∷ rest) k)
+
+  -- ---- arrays of coordinates
+
+  pub points_own : (at least : ℕ) (items : List GeoAtom) (r : GeoAtom) → All (IsOwn asked) items → MakesPoints (needs_shapes asked.query) at least items r → IsOwn asked r
+  points_own at least items r h m = subst (IsOwn asked) (sym m.result_is) (subst (All IsInRange) (sym m.path) (all_kept IsInRange (needs_shapes asked.query) (map position_value items) (all_mapped (IsOwn asked) IsInRange position_value position_in items h)))
+
+  pub lists_own : (at least : ℕ) (items : List GeoAtom) (r : GeoAtom) → All (IsOwn asked) items → MakesLists (needs_shapes asked.query) at least items r → IsOwn asked r
+  lists_own at least items r h m = subst (IsOwn asked) (sym m.result_is) (subst ArePathsInRange (sym m.paths) (all_kept (All IsInRange) (needs_shapes asked.query) (map path_in items) (all_mapped (IsOwn asked) (All IsInRange) path_in path_in_range items h)))
+
+  pub areas_own : (at least : ℕ) (items : List GeoAtom) (r : GeoAtom) → All (IsOwn asked) items → MakesAreas (needs_shapes asked.query) at least items r → IsOwn asked r
+  areas_own at least items r h m = subst (IsOwn asked) (sym m.result_is) (subst ArePolygonsInRange (sym m.polygons) (all_kept (λ (polygon : Polygon). ArePathsInRange polygon.rings) (needs_shapes asked.query) (map polygon_in items)
+      (all_mapped (IsOwn asked) (λ (polygon : Polygon). ArePathsInRange polygon.rings) polygon_in rings_in_range items h)))
+
+  pub pair_own : (at least : ℕ) (items : List GeoAtom) (r : GeoAtom) → All (IsOwn asked) items → pair_atom at least items ≡ Some r → IsOwn asked r
+  pair_own at least [] r h e = absurd (none-some r e)
+  pair_own at least (x ∷ []) r h e = absurd (none-some r e)
+  pair_own at least (x ∷ y ∷ rest) r h e = subst (IsOwn asked) (some_is (position_atom at least x y) r e) (go (first_fault (number_fault x) (number_fault y))) where
+    hx : IsOwn asked x
+    hx = All-head (IsOwn asked) x (y ∷ rest) h
+
+    hy : IsOwn asked y
+    hy = All-head (IsOwn asked) y rest (All-tail (IsOwn asked) x (y ∷ rest) h)
+
+    go : (o : Option Fault) → IsOwn asked (position_made at least x y o)
+    go None = (number_small x hx, number_small y hy)
+    go (Some f) = tt
+
+  -- ---- shapes and parts, joined
+
+  pub joinable : (l g : Result Part Fault) → IfOwnPart asked l → IfOwnPart asked g → AreJoinable l g
+  joinable (Ok a) (Ok b) (fs, h) (gs, k) = parts_are_alike asked.query fs gs a b h k
+  joinable (Ok a) (Err f) h k = tt
+  joinable (Err e) g h k = tt
+
+  pub shapes_own : (l g n : Result Shape Fault) → JoinsShapes l g n → IfOwnShape asked l → IfOwnShape asked g → IfOwnShape asked n
+  shapes_own (Ok a) (Ok b) n j h k = subst (IfOwnShape asked) (sym j) (record {
+    points = All-append IsInRange a.points b.points h.points k.points;
+    lines = All-append (All IsInRange) a.lines b.lines h.lines k.lines;
+    polygons = All-append (λ (polygon : Polygon). ArePathsInRange polygon.rings) a.polygons b.polygons h.polygons k.polygons;
+  })
+  shapes_own (Ok a) (Err f) n j h k = subst (IfOwnShape asked) (sym j) tt
+  shapes_own (Err e) (Ok b) n j h k = subst (IfOwnShape asked) (sym j) tt
+  shapes_own (Err e) (Err f) n j h k = subst (IfOwnShape asked) (sym j.1) tt
+
+  pub parts_own : (l g n : Result Part Fault) → JoinsFound l g n → IfOwnPart asked l → IfOwnPart asked g → IfOwnPart asked n
+  parts_own (Ok a) (Ok b) n j (fs, h) (gs, k) = subst (IfOwnPart asked) (sym j.1) (fs ++ gs, j.2 asked.query fs gs h k)
+  parts_own (Ok a) (Err f) n j h k = subst (IfOwnPart asked) (sym j) tt
+  parts_own (Err e) (Ok b) n j h k = subst (IfOwnPart asked) (sym j) tt
+  parts_own (Err e) (Err f) n j h k = subst (IfOwnPart asked) (sym j.1) tt

@@ -1,0 +1,114 @@
+-- A feature whose shape and texts are kept only as far as the query looks at them gives the part of the feature itself.
+use Rattle.std.proofs.Common.{◌≡◌, ◌⊎◌, inl, inr, ℕ, Bool, true, false, ◌&&◌, ◌||◌, cond, bytes_eq, List, [], ◌∷◌, ◌++◌, map, flat_map, refl, sym, ◌∙◌, ap, subst}
+use Rattle.std.specs.List.{AllByRecursion, list_any}
+use Rattle.std.proofs.lemmas.Bool.{true≢false}
+use Rattle.std.proofs.lemmas.Slice.Eq.{bytes_eq-Decides}
+use Rattle.std.proofs.lemmas.List.Concat.{flat_map-cons}
+use Rattle.at_geom.specs.declared.shapes.Shape.{Shape}
+use Rattle.at_query.specs.declared.queries.Query.{Query}
+use Rattle.at_query.specs.declared.queries.Test.{Test}
+use Rattle.at_query.specs.declared.queries.Test.TheVariants.{InBox, MeetsShape, Has}
+use Rattle.at_query.specs.declared.features.TextPair.{TextPair}
+use Rattle.at_geojson.specs.Keeping.{looks_at_shapes, needs_shapes, tells_shapes, wants_value, wants_pair, asks_value, asks_pair, asked_texts, kept_shape}
+use Rattle.at_query.specs.Holding.{has_text, TestHolds, Holds}
+use Rattle.std.specs.Prelude.{IsTrue}
+use Rattle.at_geom.specs.Shapes.{positions, are_all_within, Meet, extent_of}
+use Rattle.at_query.specs.declared.features.Feature.{Feature}
+use Rattle.at_query.specs.declared.parts.Entry.{Entry}
+use Rattle.at_query.specs.declared.parts.Part.{Part}
+use Rattle.at_query.specs.declared.parts.Part.TheVariants.{Offsets, Count, Area, Spread, Entries}
+use Rattle.at_query.specs.declared.queries.Verb.{Verb}
+use Rattle.at_query.specs.declared.queries.Verb.TheVariants as verbs
+use Rattle.at_query.specs.Parts.{wrapped_sum, kept_of, IsPart}
+
+abbrev entry_at : ℕ → Shape → Entry
+entry_at at shape = record { at = at; shape = shape; extent = extent_of (positions shape) }
+
+or_here : (a b : Bool) → a ≡ true → (a || b) ≡ true
+or_here true b e = refl
+or_here false b e = absurd (true≢false (sym e))
+
+or_right : (a b : Bool) → b ≡ true → (a || b) ≡ true
+or_right true b e = refl
+or_right false b e = e
+
+and_left : (a b : Bool) → (a && b) ≡ true → a ≡ true
+and_left true b e = refl
+and_left false b e = e
+
+and_right : (a b : Bool) → (a && b) ≡ true → b ≡ true
+and_right true b e = e
+and_right false b e = absurd (true≢false (sym e))
+
+both_true : (a b : Bool) → a ≡ true → b ≡ true → (a && b) ≡ true
+both_true true b e f = f
+both_true false b e f = e
+
+-- where nothing of shapes is left out
+pub kept_whole : (b : Bool) (s : Shape) → b ≡ true → kept_shape b s ≡ s
+kept_whole b s e = subst (λ c. kept_shape c s ≡ s) (sym e) refl
+
+-- a text for whose value nothing asks is asked for by no name
+pub no_value : (name value : List ℕ) (tests : List Test) → asks_value tests value ≡ false → asks_pair tests name value ≡ false
+no_value name value [] e = refl
+no_value name value (t ∷ ts) e = go t e (no_value name value ts) where
+  pick : (a b c : Bool) → (b || c) ≡ false → ((a && b) ≡ false) × (c ≡ false)
+  pick true true c h = absurd (true≢false h)
+  pick false true c h = absurd (true≢false h)
+  pick true false c h = (refl, h)
+  pick false false c h = (refl, h)
+
+  go : (u : Test) → (wants_value value u || asks_value ts value) ≡ false → (asks_value ts value ≡ false → asks_pair ts name value ≡ false) → (wants_pair name value u || asks_pair ts name value) ≡ false
+  go (InBox x) h more = more h
+  go (MeetsShape s) h more = more h
+  go (Has n v) h more = let p = pick (bytes_eq n name) (bytes_eq v value) (asks_value ts value) h in ap (λ b. b || asks_pair ts name value) p.0 ∙ more p.1
+
+-- the texts that are asked for are among those that are kept
+pub has_same : (tests : List Test) (name value : List ℕ) → asks_pair tests name value ≡ true → (pairs : List TextPair) → has_text (asked_texts tests pairs) name value ≡ has_text pairs name value
+has_same tests name value asks [] = refl
+has_same tests name value asks (p ∷ ps) = go (asks_pair tests p.name p.value) refl (has_same tests name value asks ps) where
+  other : (b : Bool) → (bytes_eq p.name name && bytes_eq p.value value) ≡ b → asks_pair tests p.name p.value ≡ false → b ≡ false
+  other false e n = refl
+  other true e n =
+      let en = (bytes_eq-Decides p.name name).0 (and_left (bytes_eq p.name name) (bytes_eq p.value value) e) in
+      let ev = (bytes_eq-Decides p.value value).0 (and_right (bytes_eq p.name name) (bytes_eq p.value value) e) in
+      absurd (true≢false (sym asks ∙ (ap (λ z. asks_pair tests z value) (sym en) ∙ (ap (asks_pair tests p.name) (sym ev) ∙ n))))
+
+  go : (b : Bool) → asks_pair tests p.name p.value ≡ b → has_text (asked_texts tests ps) name value ≡ has_text ps name value → has_text (asked_texts tests (p ∷ ps)) name value ≡ has_text (p ∷ ps) name value
+  go true e more = ap (λ c. has_text (cond c (p ∷ asked_texts tests ps) (asked_texts tests ps)) name value) e ∙ ap (λ z. (bytes_eq p.name name && bytes_eq p.value value) || z) more
+  go false e more = ap (λ c. has_text (cond c (p ∷ asked_texts tests ps) (asked_texts tests ps)) name value) e ∙ (more
+      ∙ ap (λ z. z || has_text ps name value) (sym (other (bytes_eq p.name name && bytes_eq p.value value) refl e)))
+
+module _ (query : Query) (f g : Feature) (at_same : g.at ≡ f.at) (shape_kept : g.shape ≡ kept_shape (needs_shapes query) f.shape) (texts_kept : g.texts ≡ asked_texts query.tests f.texts) where
+  -- a test of the query holds of both or of neither
+  one_test : (t : Test) → (looks_at_shapes t ≡ true → needs_shapes query ≡ true) → ((name value : List ℕ) → wants_pair name value t ≡ true → asks_pair query.tests name value ≡ true) → (TestHolds t g → TestHolds t f) × (TestHolds t f → TestHolds t g)
+  one_test (InBox e) looks asks = let s = shape_kept ∙ kept_whole (needs_shapes query) f.shape (looks refl) in let P : Shape → Type 0 = λ z. IsTrue (are_all_within e (positions z)) in (subst P s, subst P (sym s))
+  one_test (MeetsShape u) looks asks = let s = shape_kept ∙ kept_whole (needs_shapes query) f.shape (looks refl) in let P : Shape → Type 0 = λ z. Meet z u in (subst P s, subst P (sym s))
+  one_test (Has n v) looks asks =
+      let e = ap (λ z. has_text z n v) texts_kept ∙ has_same query.tests n v (asks n v (both_true (bytes_eq n n) (bytes_eq v v) ((bytes_eq-Decides n n).1 refl) ((bytes_eq-Decides v v).1 refl))) f.texts in
+      (subst IsTrue e, subst IsTrue (sym e))
+
+  all_tests : (ts : List Test) → (list_any looks_at_shapes ts ≡ true → needs_shapes query ≡ true) → ((name value : List ℕ) → asks_pair ts name value ≡ true → asks_pair query.tests name value ≡ true)
+      → (AllByRecursion (λ t. TestHolds t g) ts → AllByRecursion (λ t. TestHolds t f) ts) × (AllByRecursion (λ t. TestHolds t f) ts → AllByRecursion (λ t. TestHolds t g) ts)
+  all_tests [] looks asks = (λ h. h, λ h. h)
+  all_tests (t ∷ ts) looks asks =
+      let one = one_test t (λ e. looks (or_here (looks_at_shapes t) (list_any looks_at_shapes ts) e)) (λ n v e. asks n v (or_here (wants_pair n v t) (asks_pair ts n v) e)) in
+      let more = all_tests ts (λ e. looks (or_right (looks_at_shapes t) (list_any looks_at_shapes ts) e)) (λ n v e. asks n v (or_right (wants_pair n v t) (asks_pair ts n v) e)) in
+      (λ h. (one.0 h.0, more.0 h.1), λ h. (one.1 h.0, more.1 h.1))
+
+  holds_both : (Holds query g → Holds query f) × (Holds query f → Holds query g)
+  holds_both = all_tests query.tests (λ e. or_right (tells_shapes query.verb) (list_any looks_at_shapes query.tests) e) (λ n v e. e)
+
+  shape_told : tells_shapes query.verb ≡ true → g.shape ≡ f.shape
+  shape_told e = shape_kept ∙ kept_whole (needs_shapes query) f.shape (or_here (tells_shapes query.verb) (list_any looks_at_shapes query.tests) e)
+
+  one_kept : (v : Verb) → (tells_shapes v ≡ true → g.shape ≡ f.shape) → kept_of v (g ∷ []) ≡ kept_of v (f ∷ [])
+  one_kept verbs.Select h = ap (λ z. Offsets (z ∷ [])) at_same
+  one_kept verbs.Count h = refl
+  one_kept verbs.Area h = ap (λ z. Area (wrapped_sum z)) (flat_map-cons (λ (x : Feature). x.shape.polygons) g [] ∙ (ap (λ (z : Shape). z.polygons ++ []) (h refl) ∙ sym (flat_map-cons (λ (x : Feature). x.shape.polygons) f [])))
+  one_kept verbs.Extent h = ap (λ z. Spread (extent_of z)) (flat_map-cons (λ (x : Feature). positions x.shape) g [] ∙ (ap (λ (z : Shape). positions z ++ []) (h refl) ∙ sym (flat_map-cons (λ (x : Feature). positions x.shape) f [])))
+  one_kept verbs.Join h = ap (λ z. Entries (entry_at z g.shape ∷ [])) at_same ∙ ap (λ z. Entries (entry_at f.at z ∷ [])) (h refl)
+
+  pub same_part : (part : Part) → IsPart query (g ∷ []) part → IsPart query (f ∷ []) part
+  same_part part (kept, inl (h, (zs, e, k)), p) = (f ∷ [], inl (holds_both.0 h, ([], refl, refl)), p ∙ (ap (kept_of query.verb) (e ∙ ap (λ z. g ∷ z) k) ∙ one_kept query.verb shape_told))
+  same_part part (kept, inr (n, k), p) = ([], inr (λ h. n (holds_both.1 h), refl), p ∙ ap (kept_of query.verb) k)

@@ -1,0 +1,167 @@
+-- Which items have which role, told by the sort of all of them.
+use Rattle.std.proofs.Common.{◌≡◌, ℕ, zero, suc, ◌==◌, Bool, true, false, ◌&&◌, ◌||◌, if◌then◌else◌, List, [], ◌∷◌, Option, Some, None, is_some, refl, sym, ◌∙◌, ap, subst, arith}
+use Rattle.std.specs.List.{list_all, list_any}
+use Rattle.std.proofs.lemmas.Bool.{true≢false, eqb-true, eq-eqb}
+use Rattle.at_geojson.specs.declared.atoms.GeoAtom.{GeoAtom}
+use Rattle.at_geojson.specs.declared.atoms.GeoAtom.TheVariants as atoms
+use Rattle.at_geojson.specs.declared.atoms.Role.TheVariants as roles
+use Rattle.at_geojson.specs.declared.sorts.Sort.{Sort}
+use Rattle.at_geojson.specs.declared.sorts.Sort.TheVariants as sorts
+use Rattle.at_geojson.specs.Atoms.{as_number, as_position, as_points, as_area, role_of, is_empty}
+use Rattle.at_geojson.specs.Gathering.{rank, sort_of, are_all, first_sort, sort_of_all, is_object}
+
+-- ---- one item
+
+pub is_number : (a : GeoAtom) → is_some (as_number a) ≡ (rank (sort_of a) == 1)
+is_number (atoms.Twin f) = refl
+is_number (atoms.Null n) = refl
+is_number (atoms.Plain n) = refl
+is_number (atoms.Text x) = refl
+is_number (atoms.Number x) = refl
+is_number (atoms.BadNumber f) = refl
+is_number (atoms.Empty n) = refl
+is_number (atoms.Position x) = refl
+is_number (atoms.BadPosition x) = refl
+is_number (atoms.Points x) = refl
+is_number (atoms.Lists x) = refl
+is_number (atoms.Areas x) = refl
+is_number (atoms.Other x) = refl
+is_number (atoms.Items x) = refl
+is_number (atoms.Void n) = refl
+is_number (atoms.Object x) = refl
+
+pub is_position : (a : GeoAtom) → is_some (as_position a) ≡ (rank (sort_of a) == 2)
+is_position (atoms.Twin f) = refl
+is_position (atoms.Null n) = refl
+is_position (atoms.Plain n) = refl
+is_position (atoms.Text x) = refl
+is_position (atoms.Number x) = refl
+is_position (atoms.BadNumber f) = refl
+is_position (atoms.Empty n) = refl
+is_position (atoms.Position x) = refl
+is_position (atoms.BadPosition x) = refl
+is_position (atoms.Points x) = refl
+is_position (atoms.Lists x) = refl
+is_position (atoms.Areas x) = refl
+is_position (atoms.Other x) = refl
+is_position (atoms.Items x) = refl
+is_position (atoms.Void n) = refl
+is_position (atoms.Object x) = refl
+
+pub is_points : (a : GeoAtom) → is_some (as_points a) ≡ (rank (sort_of a) == 3)
+is_points (atoms.Twin f) = refl
+is_points (atoms.Null n) = refl
+is_points (atoms.Plain n) = refl
+is_points (atoms.Text x) = refl
+is_points (atoms.Number x) = refl
+is_points (atoms.BadNumber f) = refl
+is_points (atoms.Empty n) = refl
+is_points (atoms.Position x) = refl
+is_points (atoms.BadPosition x) = refl
+is_points (atoms.Points x) = refl
+is_points (atoms.Lists x) = refl
+is_points (atoms.Areas x) = refl
+is_points (atoms.Other x) = refl
+is_points (atoms.Items x) = refl
+is_points (atoms.Void n) = refl
+is_points (atoms.Object x) = refl
+
+pub is_area : (a : GeoAtom) → is_some (as_area a) ≡ (rank (sort_of a) == 4)
+is_area (atoms.Twin f) = refl
+is_area (atoms.Null n) = refl
+is_area (atoms.Plain n) = refl
+is_area (atoms.Text x) = refl
+is_area (atoms.Number x) = refl
+is_area (atoms.BadNumber f) = refl
+is_area (atoms.Empty n) = refl
+is_area (atoms.Position x) = refl
+is_area (atoms.BadPosition x) = refl
+is_area (atoms.Points x) = refl
+is_area (atoms.Lists x) = refl
+is_area (atoms.Areas x) = refl
+is_area (atoms.Other x) = refl
+is_area (atoms.Items x) = refl
+is_area (atoms.Void n) = refl
+is_area (atoms.Object x) = refl
+
+-- no sort but Other has objects
+pub sorted_no_object : (a : GeoAtom) → is_object a ≡ true → rank (sort_of a) ≡ 0
+sorted_no_object (atoms.Object x) e = refl
+sorted_no_object (atoms.Twin f) e = refl
+sorted_no_object (atoms.Null n) e = refl
+sorted_no_object (atoms.Plain n) e = refl
+sorted_no_object (atoms.Text x) e = refl
+sorted_no_object (atoms.Number x) e = absurd (true≢false (sym e))
+sorted_no_object (atoms.BadNumber f) e = absurd (true≢false (sym e))
+sorted_no_object (atoms.Empty n) e = absurd (true≢false (sym e))
+sorted_no_object (atoms.Position x) e = absurd (true≢false (sym e))
+sorted_no_object (atoms.BadPosition x) e = absurd (true≢false (sym e))
+sorted_no_object (atoms.Points x) e = absurd (true≢false (sym e))
+sorted_no_object (atoms.Lists x) e = absurd (true≢false (sym e))
+sorted_no_object (atoms.Areas x) e = refl
+sorted_no_object (atoms.Other x) e = refl
+sorted_no_object (atoms.Items x) e = refl
+sorted_no_object (atoms.Void n) e = refl
+
+pub no_role : (a : GeoAtom) → is_object a ≡ false → role_of a ≡ roles.Nothing
+no_role (atoms.Object x) e = absurd (true≢false e)
+no_role (atoms.Twin f) e = refl
+no_role (atoms.Null n) e = refl
+no_role (atoms.Plain n) e = refl
+no_role (atoms.Text x) e = refl
+no_role (atoms.Number x) e = refl
+no_role (atoms.BadNumber f) e = refl
+no_role (atoms.Empty n) e = refl
+no_role (atoms.Position x) e = refl
+no_role (atoms.BadPosition x) e = refl
+no_role (atoms.Points x) e = refl
+no_role (atoms.Lists x) e = refl
+no_role (atoms.Areas x) e = refl
+no_role (atoms.Other x) e = refl
+no_role (atoms.Items x) e = refl
+no_role (atoms.Void n) e = refl
+
+-- ---- all items
+
+pub all_same : (p q : GeoAtom → Bool) → ((a : GeoAtom) → p a ≡ q a) → (aa : List GeoAtom) → list_all p aa ≡ list_all q aa
+all_same p q h [] = refl
+all_same p q h (a ∷ aa) = ap (λ b. b && list_all p aa) (h a) ∙ ap (λ b. q a && b) (all_same p q h aa)
+
+and_left : (a b : Bool) → (a && b) ≡ true → a ≡ true
+and_left true b e = refl
+and_left false b e = e
+
+and_right : (a b : Bool) → (a && b) ≡ true → b ≡ true
+and_right true b e = e
+and_right false b e = absurd (true≢false (sym e))
+
+pub first_of_all : (k : ℕ) (a : GeoAtom) (aa : List GeoAtom) → are_all k (a ∷ aa) ≡ true → rank (sort_of a) ≡ k
+first_of_all k a aa e = eqb-true (rank (sort_of a)) k (and_left (rank (sort_of a) == k) (are_all k aa) e)
+
+-- the items are all of the sort that all of them have
+pub all_sorted : (k : ℕ) (a : GeoAtom) (aa : List GeoAtom) → rank (sort_of_all (a ∷ aa)) ≡ suc k → are_all (suc k) (a ∷ aa) ≡ true
+all_sorted k a aa e = go (are_all (rank (sort_of a)) (a ∷ aa)) refl where
+  go : (b : Bool) → are_all (rank (sort_of a)) (a ∷ aa) ≡ b → are_all (suc k) (a ∷ aa) ≡ true
+  go true h = let s : rank (sort_of a) ≡ suc k = ap (λ b. rank (if b then sort_of a else sorts.Other)) (sym h) ∙ e in ap (λ r. are_all r (a ∷ aa)) (sym s) ∙ h
+  go false h = absurd (let z : 0 ≡ suc k = ap (λ b. rank (if b then sort_of a else sorts.Other)) (sym h) ∙ e in omega (arith, z))
+
+-- and of no other
+pub sort_is : (k : ℕ) (a : GeoAtom) (aa : List GeoAtom) → are_all k (a ∷ aa) ≡ true → rank (sort_of_all (a ∷ aa)) ≡ k
+sort_is k a aa e =
+    let first = first_of_all k a aa e in
+    let all : are_all (rank (sort_of a)) (a ∷ aa) ≡ true = ap (λ r. are_all r (a ∷ aa)) first ∙ e in
+    ap (λ b. rank (if b then sort_of a else sorts.Other)) all ∙ first
+
+pub no_other : (k : ℕ) (a : GeoAtom) (aa : List GeoAtom) → (rank (sort_of_all (a ∷ aa)) ≡ k → ⊥) → are_all k (a ∷ aa) ≡ false
+no_other k a aa n = go (are_all k (a ∷ aa)) refl where
+  go : (b : Bool) → are_all k (a ∷ aa) ≡ b → are_all k (a ∷ aa) ≡ false
+  go true h = absurd (n (sort_is k a aa h))
+  go false h = h
+
+-- items of a sort are no objects
+pub no_objects : (k : ℕ) (aa : List GeoAtom) → are_all (suc k) aa ≡ true → list_any is_object aa ≡ false
+no_objects k [] e = refl
+no_objects k (a ∷ aa) e = go (is_object a) refl (no_objects k aa (and_right (rank (sort_of a) == suc k) (are_all (suc k) aa) e)) where
+  go : (b : Bool) → is_object a ≡ b → list_any is_object aa ≡ false → list_any is_object (a ∷ aa) ≡ false
+  go true h n = absurd (let z : 0 ≡ suc k = sym (sorted_no_object a h) ∙ eqb-true (rank (sort_of a)) (suc k) (and_left (rank (sort_of a) == suc k) (are_all (suc k) aa) e) in omega (arith, z))
+  go false h n = ap (λ b. b || list_any is_object aa) h ∙ n

@@ -1,0 +1,11 @@
+pub mod Names
+pub mod Coordinates
+pub mod Roles
+pub mod Keeping
+pub mod Atoms
+pub mod Gathering
+pub mod Arrays
+pub mod Objects
+pub mod Ends
+pub mod Copies
+pub mod Wholes

@@ -1,0 +1,51 @@
+ghost use Rattle.std.specs.Prelude.{◌≡◌, All, IfOk};
+ghost use Rattle.at_nest.specs.Tree.{Trees, Members, array as array_tree, object as object_tree};
+ghost use Rattle.at_nest.specs.Folds.{AreFolds, AreMemberFolds};
+ghost use Rattle.at_geojson.specs.Atoms.{IsOwn, IsFold};
+
+use crate::asked::GeoAlgebra;
+use crate::atoms::GeoAtom;
+use crate::copying::copy_atom;
+use crate::lists::array_atom;
+use crate::object_atoms::object_atom;
+use crate::scalars::scalar_atom;
+use at_nest::{Algebra, Member};
+use at_text::Memory;
+use std::alloc::Global;
+
+impl Algebra for GeoAlgebra {
+    type Atom = GeoAtom;
+
+    ghost is_own = { λ asked. IsOwn asked };
+
+    ghost is_fold = { λ asked. IsFold asked };
+
+    fn scalar(&self, alloc: Global, text: &[u8], at: u32) -> Result<GeoAtom, Memory> {
+        scalar_atom(self, alloc, text, at)
+    }
+
+    fn array(&self, alloc: Global, at: u32, items: Vec<GeoAtom>) -> Result<GeoAtom, Memory>
+        requires { All (IsOwn self.now) items.items }
+        ensures own { IfOk result (IsOwn self.now) }
+        ensures fold { IfOk result (λ atom. (ts : Trees) → AreFolds (IsFold self.now) items.items ts → IsFold self.now atom (array_tree at ts)) }
+    {
+        array_atom(alloc, self, at, items)
+    }
+
+    fn object(
+        &self,
+        alloc: Global,
+        at: u32,
+        members: Vec<Member<GeoAtom>>,
+    ) -> Result<GeoAtom, Memory>
+        requires { All (λ m. IsOwn self.now m.value) members.items }
+        ensures own { IfOk result (IsOwn self.now) }
+        ensures fold { IfOk result (λ atom. (ms : Members) → AreMemberFolds (IsFold self.now) members.items ms → IsFold self.now atom (object_tree at ms)) }
+    {
+        object_atom(alloc, self, at, members)
+    }
+
+    fn copy(&self, alloc: Global, atom: &GeoAtom) -> Result<GeoAtom, Memory> {
+        copy_atom(alloc, atom)
+    }
+}

@@ -1,0 +1,149 @@
+ghost use Rattle.std.specs.Prelude.{◌≡◌};
+ghost use Rattle.at_query.specs.Ranges.{IsQueryInRange};
+ghost use Rattle.at_geojson.specs.Keeping.{Asked, needs_shapes as needs_of, tells_shapes as tells_of, looks_at_shapes as looks_of, asks_value as value_asked, asks_pair as pair_asked, wants_value as value_wanted, wants_pair as pair_wanted};
+
+use at_fixed::Coords;
+use at_query::{Query, Test, Verb};
+use std::marker::Model;
+
+/// A query that is asked of a GeoJSON text, and how its coordinates are read.
+#[derive(Drop)]
+pub struct GeoAlgebra {
+    query: Query,
+    digits: u8,
+    how: Coords,
+    needs_shapes: bool,
+}
+
+impl Model for GeoAlgebra {
+    ghost Value = { Asked };
+
+    ghost view = { λ a. record { query = a.query; digits = a.digits; how = a.how } };
+
+    ghost invariant = { λ a. IsQueryInRange a.query × (a.needs_shapes ≡ needs_of a.query) };
+}
+
+/// Whether a verb tells something of shapes.
+fn tells_shapes(verb: Verb) -> bool
+    ensures { result ≡ tells_of verb }
+{
+    match verb {
+        Verb::Select | Verb::Count => false,
+        Verb::Area | Verb::Extent | Verb::Join => true,
+    }
+}
+
+/// Whether a test looks at shapes.
+fn looks_at_shapes(test: &Test) -> bool
+    ensures { result ≡ looks_of test.now }
+{
+    match test {
+        Test::InBox(_) | Test::MeetsShape(_) => true,
+        Test::Has(_, _) => false,
+    }
+}
+
+/// Whether the verb or a test looks at shapes.
+fn needs_shapes(query: &Query) -> bool
+    ensures { result ≡ needs_of query.now }
+{
+    if tells_shapes(query.verb) {
+        return true;
+    }
+    for test in query.tests.as_slice() {
+        if looks_at_shapes(test) {
+            return true;
+        }
+    }
+    false
+}
+
+/// Whether a test asks for a text of this value.
+fn wants_value(test: &Test, value: &[u16]) -> bool
+    ensures { result ≡ value_wanted value.now test.now }
+{
+    match test {
+        Test::InBox(_) | Test::MeetsShape(_) => false,
+        Test::Has(_, wanted) => wanted.as_slice() == value,
+    }
+}
+
+/// Whether a test asks for a text of this name and this value.
+fn wants_pair(test: &Test, name: &[u16], value: &[u16]) -> bool
+    ensures { result ≡ pair_wanted name.now value.now test.now }
+{
+    match test {
+        Test::InBox(_) | Test::MeetsShape(_) => false,
+        Test::Has(wanted_name, wanted) => wanted_name.as_slice() == name
+            && wanted.as_slice() == value,
+    }
+}
+
+/// Whether some test asks for a text of this value.
+pub fn asks_value(tests: &[Test], value: &[u16]) -> bool
+    ensures { result ≡ value_asked tests.now value.now }
+{
+    for test in tests {
+        if wants_value(test, value) {
+            return true;
+        }
+    }
+    false
+}
+
+/// Whether some test asks for a text of this name and this value.
+pub fn asks_pair(tests: &[Test], name: &[u16], value: &[u16]) -> bool
+    ensures { result ≡ pair_asked tests.now name.now value.now }
+{
+    for test in tests {
+        if wants_pair(test, name, value) {
+            return true;
+        }
+    }
+    false
+}
+
+impl GeoAlgebra {
+    /// The algebra of a query, for coordinates in units of 10^-digits.
+    pub fn new(query: Query, digits: u8, how: Coords) -> GeoAlgebra
+        requires { IsQueryInRange query }
+        ensures { result ≡ record { query = query; digits = digits; how = how } }
+    {
+        let needs_shapes = needs_shapes(&query);
+        GeoAlgebra {
+            query,
+            digits,
+            how,
+            needs_shapes,
+        }
+    }
+
+    /// The query.
+    pub fn query(&self) -> &Query
+        ensures same { result.now ≡ self.now.query }
+        ensures in_range { IsQueryInRange self.now.query }
+    {
+        &self.query
+    }
+
+    /// The digits.
+    pub fn digits(&self) -> u8
+        ensures { result ≡ self.now.digits }
+    {
+        self.digits
+    }
+
+    /// What becomes of a coordinate that is no whole number of units.
+    pub fn how(&self) -> Coords
+        ensures { result ≡ self.now.how }
+    {
+        self.how
+    }
+
+    /// Whether shapes are kept.
+    pub fn needs_shapes(&self) -> bool
+        ensures { result ≡ needs_of self.now.query }
+    {
+        self.needs_shapes
+    }
+}

@@ -1,0 +1,27 @@
+//! GeoJSON (RFC 7946): the part of a query that the features of a JSON text give, or the text's first fault beyond its syntax.
+#![tactic(auto)]
+
+mod algebra;
+mod asked;
+mod atoms;
+mod coordinates;
+mod copying;
+mod kinds;
+mod lists;
+mod members;
+mod object_atoms;
+mod objects;
+mod readings;
+mod root;
+mod scalars;
+mod shapes;
+mod sorts;
+mod texts;
+mod twins;
+
+pub use asked::GeoAlgebra;
+pub use atoms::GeoAtom;
+pub use root::{RootEnd, root_part};
+
+#[cfg(test)]
+mod tests;

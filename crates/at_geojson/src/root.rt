@@ -1,0 +1,106 @@
+ghost use Rattle.std.specs.Prelude.{◌≡◌, []};
+ghost use Rattle.at_geom.specs.Shapes.{IsShapeInRange};
+ghost use Rattle.at_nest.specs.Tree.{Tree};
+ghost use Rattle.at_geojson.specs.Atoms.{IsOwn, IsOwnRole, IfOwnShape, IsFold};
+ghost use Rattle.at_geojson.specs.Wholes.{IsAnswer};
+ghost use Rattle.at_geojson.specs.Ends.{found_end, EndsLone, EndsGeometry, EndsRole, EndsAtom};
+
+use crate::asked::GeoAlgebra;
+use crate::atoms::{GeoAtom, Role};
+use crate::lists::form_at;
+use crate::objects::feature_part;
+use crate::sorts::at_of;
+use at_geom::Shape;
+use at_query::{Part, TextPairs};
+use at_text::{Fault, Memory};
+use std::alloc::Global;
+
+/// Why a text has no part.
+#[derive(Clone, Copy, Debug, PartialEq, Eq)]
+pub enum RootEnd {
+    /// The text's first fault.
+    Found(Fault),
+    /// Want of memory.
+    Memory,
+}
+
+/// The part, or the fault.
+fn part_or_fault(found: Result<Part, Fault>) -> Result<Part, RootEnd>
+    ensures { result ≡ found_end found }
+{
+    match found {
+        Ok(part) => Ok(part),
+        Err(fault) => Err(RootEnd::Found(fault)),
+    }
+}
+
+/// The part of a geometry that is a feature without texts.
+fn lone_part(alloc: Global, algebra: &GeoAlgebra, at: u32, shape: Shape) -> Result<Part, RootEnd>
+    requires { IsShapeInRange shape }
+    ensures { EndsLone algebra.now.query (record { at = at; shape = shape; texts = [] }) result }
+{
+    match feature_part(
+        alloc,
+        algebra,
+        at,
+        shape,
+        TextPairs::from_vec(Vec::new(alloc)),
+    ) {
+        Ok(part) => Ok(part),
+        Err(Memory) => Err(RootEnd::Memory),
+    }
+}
+
+/// The part of a geometry that is the whole text.
+fn geometry_part(
+    alloc: Global,
+    algebra: &GeoAlgebra,
+    at: u32,
+    geometry: Result<Shape, Fault>,
+) -> Result<Part, RootEnd>
+    requires { IfOwnShape algebra.now geometry }
+    ensures { EndsGeometry algebra.now.query at geometry result }
+{
+    match geometry {
+        Ok(shape) => lone_part(alloc, algebra, at, shape),
+        Err(fault) => Err(RootEnd::Found(fault)),
+    }
+}
+
+/// The part of an object at the offset, by its role.
+fn role_part(alloc: Global, algebra: &GeoAlgebra, at: u32, role: Role) -> Result<Part, RootEnd>
+    requires { IsOwnRole algebra.now role }
+    ensures { EndsRole algebra.now.query at role result }
+{
+    match role {
+        Role::Nothing => Err(RootEnd::Found(form_at(at))),
+        Role::Geometry(geometry) => geometry_part(alloc, algebra, at, geometry),
+        Role::Feature(found) => part_or_fault(found),
+        Role::Collection(found) => part_or_fault(found),
+    }
+}
+
+/// What the atom ends in as a whole text.
+fn atom_part(alloc: Global, algebra: &GeoAlgebra, atom: GeoAtom) -> Result<Part, RootEnd>
+    requires { IsOwn algebra.now atom }
+    ensures { EndsAtom algebra.now.query atom result }
+{
+    match atom {
+        GeoAtom::Twin(fault) => Err(RootEnd::Found(fault)),
+        GeoAtom::Object(object) => role_part(
+            alloc,
+            algebra,
+            object.at,
+            Box::into_inner(object.roles).role,
+        ),
+        other => Err(RootEnd::Found(form_at(at_of(&other)))),
+    }
+}
+
+/// The part of a query that the features of a text give, or the text's first fault beyond its syntax.
+pub fn root_part(alloc: Global, algebra: &GeoAlgebra, atom: GeoAtom) -> Result<Part, RootEnd>
+    requires { IsOwn algebra.now atom }
+    ensures { (t : Tree) → IsFold algebra.now atom t → IsAnswer algebra.now t result }
+{
+    atom_part(alloc, algebra, atom)
+}

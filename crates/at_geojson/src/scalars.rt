@@ -1,0 +1,125 @@
+ghost use Rattle.std.specs.Prelude.{◌≡◌, ℕ, ◌+◌, ◌≤◌, ◌^◌, length, get_or, true, Some, None, IfOk};
+ghost use Rattle.at_fixed.specs.Numerals.{JsonNumber};
+ghost use Rattle.at_lex.specs.Strings.{JsonString};
+ghost use Rattle.at_lex.specs.Runs.{JsonRun};
+ghost use Rattle.at_text.specs.Faults.{fault_at};
+ghost use Rattle.at_wkt.specs.Positions.{fault_of};
+ghost use Rattle.at_nest.specs.Tree.{Tree, Spells};
+ghost use Rattle.at_nest.specs.Folds.{IsScalarText};
+ghost use Rattle.at_geojson.specs.Atoms.{unboxed, asked_units as units_asked, IsOwn, IsFold};
+
+use crate::asked::{GeoAlgebra, asks_value};
+use crate::atoms::{GeoAtom, NumberAtom, TextAtom};
+use crate::kinds::kind_of_units;
+use at_fixed::{FixedFault, read_fixed};
+use at_lex::{RunEnd, Units, check_run, units};
+use at_query::Test;
+use at_text::{Fault, FaultKind, Memory};
+use std::alloc::Global;
+
+/// The fault of a number at the offset that has no value.
+fn number_fault(why: FixedFault, at: u32) -> Fault
+    ensures { result ≡ fault_of why at }
+{
+    match why {
+        FixedFault::Scale => Fault {
+            kind: FaultKind::Scale,
+            at,
+        },
+        FixedFault::Range => Fault {
+            kind: FaultKind::Range,
+            at,
+        },
+    }
+}
+
+/// The units, where a test asks for them.
+fn asked_units(alloc: Global, tests: &[Test], units: Units) -> Result<Option<Box<Units>>, Memory>
+    ensures { IfOk result (λ kept. unboxed kept ≡ units_asked tests.now units) }
+{
+    if asks_value(tests, units.as_slice()) {
+        Ok(Some(Box::new(alloc, units)?))
+    } else {
+        Ok(None)
+    }
+}
+
+/// A string that begins at the offset.
+fn text_atom(algebra: &GeoAlgebra, alloc: Global, text: &[u8], at: u32) -> Result<GeoAtom, Memory>
+    requires string { JsonString text.now }
+    requires fits { length text.now ≤ 2 ^ 28 }
+    ensures own { IfOk result (IsOwn algebra.now) }
+    ensures fold { IfOk result (λ atom. (t : Tree) → Spells at text.now t → IsFold algebra.now atom t) }
+{
+    let found = units(alloc, text)?;
+    let kind = kind_of_units(found.as_slice());
+    let units = asked_units(alloc, algebra.query().tests.as_slice(), found)?;
+    Ok(GeoAtom::Text(TextAtom { at, kind, units }))
+}
+
+/// A number that begins at the offset.
+fn number_atom(algebra: &GeoAlgebra, text: &[u8], at: u32) -> GeoAtom
+    requires number { JsonNumber text.now }
+    requires fits { length text.now ≤ 2 ^ 28 }
+    ensures own { IsOwn algebra.now result }
+    ensures fold { (t : Tree) → Spells at text.now t → IsFold algebra.now result t }
+{
+    match read_fixed(text, algebra.digits(), algebra.how()) {
+        Ok(value) => GeoAtom::Number(NumberAtom { at, value }),
+        Err(why) => GeoAtom::BadNumber(number_fault(why, at)),
+    }
+}
+
+/// A literal that begins at the offset, or a number.
+fn run_atom(algebra: &GeoAlgebra, text: &[u8], at: u32) -> GeoAtom
+    requires run { JsonRun text.now }
+    requires fits { length text.now ≤ 2 ^ 28 }
+    ensures own { IsOwn algebra.now result }
+    ensures fold { (t : Tree) → Spells at text.now t → IsFold algebra.now result t }
+{
+    match check_run(text) {
+        RunEnd::Null => GeoAtom::Null(at),
+        RunEnd::True => GeoAtom::Plain(at),
+        RunEnd::False => GeoAtom::Plain(at),
+        RunEnd::Number => number_atom(algebra, text, at),
+        RunEnd::BadAt(_) => unreachable!(),
+    }
+}
+
+/// The first byte, or 0.
+fn first_byte(text: &[u8]) -> u8
+    ensures { result ≡ get_or text.now 0 0 }
+{
+    if text.is_empty() { 0 } else { text[0] }
+}
+
+/// Whether a literal begins with the byte.
+fn begins_literal(b: u8) -> bool
+    ensures n { b ≡ 0x6E → result ≡ true }
+    ensures t { b ≡ 0x74 → result ≡ true }
+    ensures f { b ≡ 0x66 → result ≡ true }
+{
+    b == b'n' || b == b't' || b == b'f'
+}
+
+/// A string, literal or number that begins at the offset.
+pub fn scalar_atom(
+    algebra: &GeoAlgebra,
+    alloc: Global,
+    text: &[u8],
+    at: u32,
+) -> Result<GeoAtom, Memory>
+    requires whole { IsScalarText text.now }
+    requires fits { length text.now ≤ 2 ^ 28 }
+    ensures own { IfOk result (IsOwn algebra.now) }
+    ensures fold { IfOk result (λ atom. (t : Tree) → Spells at text.now t → IsFold algebra.now atom t) }
+{
+    let first = first_byte(text);
+    if first == b'"' {
+        text_atom(algebra, alloc, text, at)
+    } else if begins_literal(first) {
+        Ok(run_atom(algebra, text, at))
+    } else {
+        Ok(number_atom(algebra, text, at))
+    }
+}

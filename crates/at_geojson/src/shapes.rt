@@ -1,0 +1,154 @@
+ghost use Rattle.std.specs.Prelude.{◌≡◌, ◌++◌, [], ◌∷◌, Some, IfOk};
+ghost use Rattle.at_text.specs.Faults.{first_fault as the_first};
+ghost use Rattle.at_wkt.specs.Meaning.{both, of_points as points_shape, of_lines as lines_shape, of_polygons as polygons_shape, empty_shape as nothing};
+ghost use Rattle.at_geojson.specs.Keeping.{kept};
+ghost use Rattle.at_geojson.specs.Gathering.{JoinsShapes};
+
+use at_geom::{Path, Paths, Polygon, Polygons, Pos, Shape};
+use at_text::{Fault, Memory, first_fault};
+use std::alloc::Global;
+
+/// The shape of points.
+pub fn of_points(alloc: Global, points: Vec<Pos>) -> Shape
+    ensures { result ≡ points_shape points.items }
+{
+    Shape {
+        points: Path::from_vec(points),
+        lines: Paths::from_vec(Vec::new(alloc)),
+        polygons: Polygons::from_vec(Vec::new(alloc)),
+    }
+}
+
+/// The shape of lines.
+pub fn of_lines(alloc: Global, lines: Vec<Path>) -> Shape
+    ensures { result ≡ lines_shape lines.items }
+{
+    Shape {
+        points: Path::from_vec(Vec::new(alloc)),
+        lines: Paths::from_vec(lines),
+        polygons: Polygons::from_vec(Vec::new(alloc)),
+    }
+}
+
+/// The shape of polygons.
+pub fn of_polygons(alloc: Global, polygons: Vec<Polygon>) -> Shape
+    ensures { result ≡ polygons_shape polygons.items }
+{
+    Shape {
+        points: Path::from_vec(Vec::new(alloc)),
+        lines: Paths::from_vec(Vec::new(alloc)),
+        polygons: Polygons::from_vec(polygons),
+    }
+}
+
+/// The shape of nothing.
+pub fn empty_shape(alloc: Global) -> Shape
+    ensures { result ≡ nothing }
+{
+    of_points(alloc, Vec::new(alloc))
+}
+
+/// A list of one point, where shapes are kept.
+pub fn one_point(alloc: Global, needs: bool, pos: Pos) -> Result<Vec<Pos>, Memory>
+    ensures { IfOk result (λ points. points.items ≡ kept needs (pos ∷ [])) }
+{
+    if !needs {
+        return Ok(Vec::new(alloc));
+    }
+    let mut points = Vec::with_capacity(alloc, 1)?;
+    points.push(pos)?;
+    Ok(points)
+}
+
+/// A list of one line, where shapes are kept.
+pub fn one_line(alloc: Global, needs: bool, path: Vec<Pos>) -> Result<Vec<Path>, Memory>
+    ensures { IfOk result (λ lines. lines.items ≡ kept needs (path.items ∷ [])) }
+{
+    if !needs {
+        return Ok(Vec::new(alloc));
+    }
+    let mut lines = Vec::with_capacity(alloc, 1)?;
+    lines.push(Path::from_vec(path))?;
+    Ok(lines)
+}
+
+/// A list of one polygon, where shapes are kept.
+pub fn one_polygon(alloc: Global, needs: bool, rings: Vec<Path>) -> Result<Vec<Polygon>, Memory>
+    ensures { IfOk result (λ polygons. polygons.items ≡ kept needs (record { rings = rings.items } ∷ [])) }
+{
+    if !needs {
+        return Ok(Vec::new(alloc));
+    }
+    let mut polygons = Vec::with_capacity(alloc, 1)?;
+    polygons.push(Polygon {
+        rings: Paths::from_vec(rings),
+    })?;
+    Ok(polygons)
+}
+
+fn joined_points(left: Path, right: Path) -> Result<Path, Memory>
+    ensures { IfOk result (λ path. path ≡ left ++ right) }
+{
+    let mut items = left.into_vec();
+    let mut others = right.into_vec();
+    items.append(&mut others)?;
+    Ok(Path::from_vec(items))
+}
+
+fn joined_lines(left: Paths, right: Paths) -> Result<Paths, Memory>
+    ensures { IfOk result (λ paths. paths ≡ left ++ right) }
+{
+    let mut items = left.into_vec();
+    let mut others = right.into_vec();
+    items.append(&mut others)?;
+    Ok(Paths::from_vec(items))
+}
+
+fn joined_polygons(left: Polygons, right: Polygons) -> Result<Polygons, Memory>
+    ensures { IfOk result (λ polygons. polygons ≡ left ++ right) }
+{
+    let mut items = left.into_vec();
+    let mut others = right.into_vec();
+    items.append(&mut others)?;
+    Ok(Polygons::from_vec(items))
+}
+
+/// The parts of both shapes, in order.
+pub fn both_shapes(left: Shape, right: Shape) -> Result<Shape, Memory>
+    ensures { IfOk result (λ shape. shape ≡ both left right) }
+{
+    Ok(Shape {
+        points: joined_points(left.points, right.points)?,
+        lines: joined_lines(left.lines, right.lines)?,
+        polygons: joined_polygons(left.polygons, right.polygons)?,
+    })
+}
+
+/// The first of two faults.
+pub fn first_of_two(left: Fault, right: Fault) -> Fault
+    ensures { Some result ≡ the_first (Some left) (Some right) }
+{
+    match first_fault(Some(left), Some(right)) {
+        Some(first) => first,
+        None => left,
+    }
+}
+
+/// Shapes one behind another: both, where neither has a fault, and else the first fault.
+pub fn joined_shapes(
+    left: Result<Shape, Fault>,
+    right: Result<Shape, Fault>,
+) -> Result<Result<Shape, Fault>, Memory>
+    ensures { IfOk result (JoinsShapes left right) }
+{
+    match left {
+        Ok(before) => match right {
+            Ok(behind) => Ok(Ok(both_shapes(before, behind)?)),
+            Err(fault) => Ok(Err(fault)),
+        },
+        Err(fault) => match right {
+            Ok(_) => Ok(Err(fault)),
+            Err(other) => Ok(Err(first_of_two(fault, other))),
+        },
+    }
+}

@@ -1,0 +1,124 @@
+ghost use Rattle.std.specs.Prelude.{◌≡◌, ◌++◌, [], IfOk, codes};
+ghost use Rattle.at_geojson.specs.Atoms.{as_text};
+ghost use Rattle.at_geojson.specs.Objects.{value_named, texts_in as texts_inside, texts_named, pair_kept, kept_texts as the_kept_texts};
+
+use crate::asked::asks_pair;
+use crate::atoms::GeoAtom;
+use crate::lists::form_at;
+use crate::sorts::at_of;
+use at_lex::Units;
+use at_nest::Member;
+use at_query::{Test, TextPair, TextPairs};
+use at_text::{Fault, Memory};
+use std::alloc::Global;
+
+const PROPERTIES: &[u16] = &[112, 114, 111, 112, 101, 114, 116, 105, 101, 115];
+
+/// A second list of the same units.
+pub fn copy_units(alloc: Global, units: &Units) -> Result<Units, Memory>
+    ensures { IfOk result (λ u. u ≡ units.now) }
+{
+    let mut items = Vec::with_capacity(alloc, units.as_slice().len())?;
+    items.extend_from_slice(units.as_slice())?;
+    Ok(Units::from_vec(items))
+}
+
+/// A second text that is equal to the first.
+fn copy_pair(alloc: Global, pair: &TextPair) -> Result<TextPair, Memory>
+    ensures { IfOk result (λ p. p ≡ pair.now) }
+{
+    Ok(TextPair {
+        name: copy_units(alloc, &pair.name)?,
+        value: copy_units(alloc, &pair.value)?,
+    })
+}
+
+/// A second list of the same texts.
+pub fn copy_texts(alloc: Global, texts: &TextPairs) -> Result<TextPairs, Memory>
+    ensures { IfOk result (λ t. t ≡ texts.now) }
+{
+    let pairs = texts.as_slice();
+    let mut items = Vec::with_capacity(alloc, pairs.len())?;
+    for pair in pairs {
+        items.push(copy_pair(alloc, pair)?)?;
+    }
+    Ok(TextPairs::from_vec(items))
+}
+
+/// The texts of a value as properties; Form where it is neither null nor an object.
+fn texts_in(alloc: Global, atom: &GeoAtom) -> Result<Result<TextPairs, Fault>, Memory>
+    ensures { IfOk result (λ r. r ≡ texts_inside atom.now) }
+{
+    match atom {
+        GeoAtom::Null(_) | GeoAtom::Void(_) => Ok(Ok(TextPairs::from_vec(Vec::new(alloc)))),
+        GeoAtom::Object(object) => Ok(Ok(copy_texts(alloc, &object.roles.texts)?)),
+        other => Ok(Err(form_at(at_of(other)))),
+    }
+}
+
+/// A feature's texts, of its member `properties`.
+pub fn feature_texts(
+    alloc: Global,
+    members: &[Member<GeoAtom>],
+) -> Result<Result<TextPairs, Fault>, Memory>
+    ensures { IfOk result (λ r. r ≡ texts_named (value_named (codes "properties") members.now)) }
+{
+    for member in members {
+        if member.name.as_slice() == PROPERTIES {
+            return texts_in(alloc, &member.value);
+        }
+    }
+    Ok(Ok(TextPairs::from_vec(Vec::new(alloc))))
+}
+
+/// Puts a text behind the others, where the query asks for it.
+fn add_text(
+    texts: &mut Vec<TextPair>,
+    alloc: Global,
+    tests: &[Test],
+    name: &Units,
+    value: &Units,
+) -> Result<(), Memory>
+    ensures { IfOk result (λ _. texts.new.items ≡ texts.old.items ++ pair_kept tests.now name.now (Some value.now) []) }
+{
+    if asks_pair(tests, name.as_slice(), value.as_slice()) {
+        texts.push(TextPair {
+            name: copy_units(alloc, name)?,
+            value: copy_units(alloc, value)?,
+        })?;
+    }
+    Ok(())
+}
+
+/// Puts the text of a member behind the others, where it has one and the query asks for it.
+fn add_member(
+    texts: &mut Vec<TextPair>,
+    alloc: Global,
+    tests: &[Test],
+    member: &Member<GeoAtom>,
+) -> Result<(), Memory>
+    ensures { IfOk result (λ _. texts.new.items ≡ texts.old.items ++ pair_kept tests.now member.now.name (as_text member.now.value) []) }
+{
+    match &member.value {
+        GeoAtom::Text(text) => match &text.units {
+            Some(units) => add_text(texts, alloc, tests, &member.name, &**units),
+            None => Ok(()),
+        },
+        _ => Ok(()),
+    }
+}
+
+/// The texts of members for which the query asks.
+pub fn kept_texts(
+    alloc: Global,
+    tests: &[Test],
+    members: &[Member<GeoAtom>],
+) -> Result<TextPairs, Memory>
+    ensures { IfOk result (λ t. t ≡ the_kept_texts tests.now members.now) }
+{
+    let mut texts = Vec::new(alloc);
+    for member in members {
+        add_member(&mut texts, alloc, tests, member)?;
+    }
+    Ok(TextPairs::from_vec(texts))
+}
