@@ -8,4 +8,6 @@ pub mod BlockParts
 pub mod LineSizes
 pub mod FileSizes
 pub mod Results
+pub mod FormMerges
+pub mod JsonEnds
 pub mod OneAnswer

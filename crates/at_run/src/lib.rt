@@ -15,7 +15,9 @@ mod faults;
 mod forms;
 mod gathered;
 mod jobs;
+mod json_files;
 mod line_queries;
+mod readers;
 
 pub use answers::answer;
 pub use blocks::run_blocks;
@@ -23,6 +25,8 @@ pub use cuts::Cuts;
 pub use faults::RunFault;
 pub use forms::Form;
 pub use jobs::run_file;
+pub use json_files::finish_json;
+pub use readers::{FileFragment, Reader};
 
 #[cfg(test)]
 mod tests;

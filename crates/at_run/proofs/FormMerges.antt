@@ -1,0 +1,62 @@
+-- The merged fragment of one form stands for both spans in the reader's form.
+use Rattle.std.proofs.Common.{◌≡◌, ℕ, List, sym, subst}
+use Rattle.at_text.specs.Spans.{part_of, AreNeighbours, IsMerged}
+use Rattle.at_wkt.specs.Folding.{Kept, StandsFor}
+use Rattle.at_wkt.specs.declared.fragments.LineFragment.{LineFragment}
+use Rattle.at_nest.specs.Holding.{Kept as KeptOfTree}
+use Rattle.at_nest.specs.Standing.{StandsFor as StandsForJson}
+use Rattle.at_nest.specs.declared.fragments.Fragment.{Fragment}
+use Rattle.at_geojson.specs.declared.asked.GeoAlgebra.{GeoAlgebra}
+use Rattle.at_geojson.specs.declared.atoms.GeoAtom.{GeoAtom}
+use Rattle.at_geojson.specs.Keeping.{Asked as JsonAsked}
+use Rattle.at_geojson.specs.Atoms.{IsOwn as IsOwnAtom, IsFold}
+use Rattle.at_run.specs.declared.forms.Form.TheVariants.{GeoJson, Wkt}
+use Rattle.at_run.specs.declared.gathered.Gathered.{Gathered}
+use Rattle.at_run.specs.declared.readers.FileFragment.{FileFragment}
+use Rattle.at_run.specs.declared.readers.FileFragment.TheVariants.{Lines, Json}
+use Rattle.at_run.specs.Gathering.{Asked, IsOwn, IsGathered}
+use Rattle.at_run.specs.Readers.{Asks, of_lines, of_json, StandsInForm}
+
+module _ (asks : Asks) (bytes : List ℕ) where
+  lines_merged : (l r both : LineFragment Gathered) → IsMerged (StandsFor (Kept (IsOwn (of_lines asks)) (IsGathered (of_lines asks)))) bytes l r both → IsMerged (StandsInForm asks) bytes (Lines l) (Lines r) (Lines both)
+  lines_merged l r both h i j k (ij, jk, end, (form, stands), (again, beside)) = (form, h i j k (ij, jk, end, stands, beside))
+
+  json_merged : (l r both : Fragment GeoAlgebra GeoAtom) → IsMerged (StandsForJson (KeptOfTree (IsOwnAtom (of_json asks)) (IsFold (of_json asks)))) bytes l r both → IsMerged (StandsInForm asks) bytes (Json l) (Json r) (Json both)
+  json_merged l r both h i j k (ij, jk, end, (form, stands), (again, beside)) = (form, h i j k (ij, jk, end, stands, beside))
+
+  abbrev NeighboursInForm : FileFragment → FileFragment → Type 0
+  NeighboursInForm left right = (i : ℕ) × (j : ℕ) × (k : ℕ) × AreNeighbours (StandsInForm asks) bytes i j k left right
+
+  json_beside : (l r : Fragment GeoAlgebra GeoAtom) → NeighboursInForm (Json l) (Json r) → (i : ℕ) × (j : ℕ) × (k : ℕ) × AreNeighbours (StandsForJson (KeptOfTree (IsOwnAtom (of_json asks)) (IsFold (of_json asks)))) bytes i j k l r
+  json_beside l r (i, j, k, (ij, jk, end, (form, stands), (again, beside))) = (i, j, k, (ij, jk, end, stands, beside))
+
+pub merged_lines : (asks : Asks) (asked : Asked) (bytes : List ℕ) (left right : FileFragment) (l r both : LineFragment Gathered) → left ≡ Lines l → right ≡ Lines r → asked ≡ of_lines asks
+    → IsMerged (StandsFor (Kept (IsOwn asked) (IsGathered asked))) bytes l r both → IsMerged (StandsInForm asks) bytes left right (Lines both)
+merged_lines asks asked bytes left right l r both left_is right_is same h =
+    let A : Asked → Type 0 = λ a. IsMerged (StandsFor (Kept (IsOwn a) (IsGathered a))) bytes l r both in
+    let L : FileFragment → Type 0 = λ x. IsMerged (StandsInForm asks) bytes x (Lines r) (Lines both) in
+    let R : FileFragment → Type 0 = λ x. IsMerged (StandsInForm asks) bytes left x (Lines both) in
+    subst R (sym right_is) (subst L (sym left_is) (lines_merged asks bytes l r both (subst A same h)))
+
+pub merged_json : (asks : Asks) (asked : JsonAsked) (bytes : List ℕ) (left right : FileFragment) (l r both : Fragment GeoAlgebra GeoAtom) → left ≡ Json l → right ≡ Json r → asked ≡ of_json asks
+    → IsMerged (StandsForJson (KeptOfTree (IsOwnAtom asked) (IsFold asked))) bytes l r both → IsMerged (StandsInForm asks) bytes left right (Json both)
+merged_json asks asked bytes left right l r both left_is right_is same h =
+    let A : JsonAsked → Type 0 = λ a. IsMerged (StandsForJson (KeptOfTree (IsOwnAtom a) (IsFold a))) bytes l r both in
+    let L : FileFragment → Type 0 = λ x. IsMerged (StandsInForm asks) bytes x (Json r) (Json both) in
+    let R : FileFragment → Type 0 = λ x. IsMerged (StandsInForm asks) bytes left x (Json both) in
+    subst R (sym right_is) (subst L (sym left_is) (json_merged asks bytes l r both (subst A same h)))
+
+pub json_neighbours : (asks : Asks) (asked : JsonAsked) (bytes : List ℕ) (left right : FileFragment) (l r : Fragment GeoAlgebra GeoAtom) → left ≡ Json l → right ≡ Json r → asked ≡ of_json asks
+    → ((i : ℕ) × (j : ℕ) × (k : ℕ) × AreNeighbours (StandsInForm asks) bytes i j k left right)
+    → (i : ℕ) × (j : ℕ) × (k : ℕ) × AreNeighbours (StandsForJson (KeptOfTree (IsOwnAtom asked) (IsFold asked))) bytes i j k l r
+json_neighbours asks asked bytes left right l r left_is right_is same h =
+    let A : JsonAsked → Type 0 = λ a. (i : ℕ) × (j : ℕ) × (k : ℕ) × AreNeighbours (StandsForJson (KeptOfTree (IsOwnAtom a) (IsFold a))) bytes i j k l r in
+    let L : FileFragment → Type 0 = λ x. NeighboursInForm asks bytes x right in
+    let R : FileFragment → Type 0 = λ x. NeighboursInForm asks bytes (Json l) x in
+    subst A (sym same) (json_beside asks bytes l r (subst R right_is (subst L left_is h)))
+
+pub json_piece : (asks : Asks) (asked : JsonAsked) (base : ℕ) (piece : List ℕ) (l : Fragment GeoAlgebra GeoAtom) → asks.form ≡ GeoJson → asked ≡ of_json asks
+    → StandsForJson (KeptOfTree (IsOwnAtom asked) (IsFold asked)) base piece l → StandsInForm asks base piece (Json l)
+json_piece asks asked base piece l form same h =
+    let A : JsonAsked → Type 0 = λ a. StandsForJson (KeptOfTree (IsOwnAtom a) (IsFold a)) base piece l in
+    (form, subst A same h)

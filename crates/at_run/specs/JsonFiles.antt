@@ -1,0 +1,58 @@
+-- The first fault of a file of GeoJSON, and the part of its features where it has none. Nothing here knows of blocks.
+use Rattle.std.specs.Prelude.{◌≡◌, ◌⊎◌, ℕ, List, [], ◌∷◌, length, Option, Some, None, Result, Ok, Err}
+use Rattle.std.specs.Bool.{⊤}
+use Rattle.at_text.specs.Faults.{fault_at, first_of}
+use Rattle.at_text.specs.Texts.{utf8_fault}
+use Rattle.at_text.specs.declared.faults.Fault.{Fault}
+use Rattle.at_text.specs.declared.faults.FaultKind.TheVariants as kinds
+use Rattle.at_fixed.specs.declared.rounding.Coords.{Coords}
+use Rattle.at_nest.specs.Tree.{Tree}
+use Rattle.at_nest.specs.Syntax.{IsFileOf, HasJsonFault}
+use Rattle.at_nest.specs.declared.finishing.NestEnd.{NestEnd}
+use Rattle.at_nest.specs.declared.finishing.NestEnd.TheVariants as texts
+use Rattle.at_query.specs.declared.queries.Query.{Query}
+use Rattle.at_query.specs.declared.parts.Part.{Part}
+use Rattle.at_query.specs.Parts.{IsPart}
+use Rattle.at_geojson.specs.declared.root.RootEnd.{RootEnd}
+use Rattle.at_geojson.specs.declared.root.RootEnd.TheVariants as roots
+use Rattle.at_geojson.specs.Roles.{features_of}
+use Rattle.at_geojson.specs.Wholes.{faults_of}
+use Rattle.at_run.specs.declared.faults.RunFault.{RunFault}
+use Rattle.at_run.specs.declared.faults.RunFault.TheVariants.{Found, Memory}
+
+module _ (digits : ℕ) (how : Coords) where
+  -- the one syntax fault, or else all equal names and all that the roles find wrong
+  abbrev pub HaveJsonFaults : List ℕ → List Fault → Type 0
+  HaveJsonFaults bytes faults = ((fault : Fault) × HasJsonFault bytes (Some fault) × (faults ≡ fault ∷ [])) ⊎ ((t : Tree) × IsFileOf bytes t × (faults ≡ faults_of digits how t))
+
+  abbrev pub HasJsonFaultBehind : Option Fault → List ℕ → Option Fault → Type 0
+  HasJsonFaultBehind (Some fault) bytes first = first ≡ Some fault
+  HasJsonFaultBehind None bytes first = (faults : List Fault) × HaveJsonFaults bytes faults × (first ≡ first_of faults)
+
+  -- the first fault of a file, or none: that of its encoding, or else the first of all others
+  abbrev pub HasJsonFileFault : List ℕ → Option Fault → Type 0
+  HasJsonFileFault bytes first = HasJsonFaultBehind (utf8_fault bytes) bytes first
+
+  -- the file has no fault, and the part is that of its features
+  pub record IsJsonPart (query : Query) (bytes : List ℕ) (part : Part) : Type 0 where
+    pub faultless : HasJsonFileFault bytes None
+    pub tree : Tree
+    pub is_tree : IsFileOf bytes tree
+    pub is_part : IsPart query (features_of digits how tree) part
+
+  -- what a file whose encoding has no fault ends in
+  abbrev pub EndsJson : Query → List ℕ → Result Part RunFault → Type 0
+  EndsJson query bytes (Ok part) = (t : Tree) × IsFileOf bytes t × (faults_of digits how t ≡ []) × IsPart query (features_of digits how t) part
+  EndsJson query bytes (Err (Found fault)) = (faults : List Fault) × HaveJsonFaults bytes faults × (Some fault ≡ first_of faults)
+  EndsJson query bytes (Err Memory) = ⊤
+
+-- the fault of a text of so many bytes, and what a whole text ends in, as a file's
+abbrev pub text_end : ℕ → NestEnd → RunFault
+text_end len (texts.Syntax place) = Found (fault_at kinds.Syntax place)
+text_end len texts.Ended = Found (fault_at kinds.Ended len)
+text_end len texts.Memory = Memory
+
+abbrev pub root_end : Result Part RootEnd → Result Part RunFault
+root_end (Ok part) = Ok part
+root_end (Err (roots.Found fault)) = Err (Found fault)
+root_end (Err roots.Memory) = Err Memory

@@ -1,0 +1,81 @@
+ghost use Rattle.std.specs.Prelude.{◌≡◌, ◌≤◌, ◌^◌, length, drop, MatchResult, Some};
+ghost use Rattle.at_text.specs.Texts.{base_of as text_begin};
+ghost use Rattle.at_nest.specs.Holding.{Kept};
+ghost use Rattle.at_nest.specs.Standing.{StandsFor};
+ghost use Rattle.at_geojson.specs.Atoms.{IsOwn, IsFold};
+ghost use Rattle.at_run.specs.Answers.{IfFound};
+ghost use Rattle.at_run.specs.JsonFiles.{HasJsonFileFault, IsJsonPart, EndsJson, text_end, root_end};
+
+use crate::faults::RunFault;
+use at_geojson::{GeoAlgebra, RootEnd, root_part};
+use at_nest::{Fragment, NestEnd, finish};
+use at_query::Part;
+use at_text::{Fault, FaultKind, utf8_fault};
+use std::alloc::Global;
+
+/// The fault of a file of so many bytes that is no JSON text.
+fn end_of_text(end: NestEnd, len: u32) -> RunFault
+    ensures { result ≡ text_end len end }
+{
+    match end {
+        NestEnd::Syntax(at) => RunFault::Found(Fault {
+            kind: FaultKind::Syntax,
+            at,
+        }),
+        NestEnd::Ended => RunFault::Found(Fault {
+            kind: FaultKind::Ended,
+            at: len,
+        }),
+        NestEnd::Memory => RunFault::Memory,
+    }
+}
+
+/// What a whole text ends in, as a file's end.
+fn end_of_root(end: Result<Part, RootEnd>) -> Result<Part, RunFault>
+    ensures { result ≡ root_end end }
+{
+    match end {
+        Ok(part) => Ok(part),
+        Err(RootEnd::Found(fault)) => Err(RunFault::Found(fault)),
+        Err(RootEnd::Memory) => Err(RunFault::Memory),
+    }
+}
+
+/// The part of a file whose encoding has no fault, or the first of all its other faults.
+fn tree_part(
+    alloc: Global,
+    algebra: &GeoAlgebra,
+    bytes: &[u8],
+    whole: Fragment<GeoAlgebra>,
+) -> Result<Part, RunFault>
+    requires fits { length bytes.now ≤ 2 ^ 28 }
+    requires whole { StandsFor (Kept (IsOwn algebra.now) (IsFold algebra.now)) (text_begin bytes.now) (drop (text_begin bytes.now) bytes.now) whole }
+    ensures { EndsJson algebra.now.digits algebra.now.how algebra.now.query bytes.now result }
+{
+    match finish(alloc, algebra, bytes, whole) {
+        Ok(atom) => end_of_root(root_part(alloc, algebra, atom)),
+        Err(end) => Err(end_of_text(end, bytes.len() as u32)),
+    }
+}
+
+/// The part of the features of a file of GeoJSON under the algebra's query, from the fragment of its text.
+///
+/// # Errors
+/// `Found` is the file's first fault, exactly where it has one: that of its encoding, of its syntax, or else the first of
+/// equal names and of what the roles find wrong. `Memory` comes where an allocation was refused.
+pub fn finish_json(
+    alloc: Global,
+    algebra: &GeoAlgebra,
+    bytes: &[u8],
+    whole: Fragment<GeoAlgebra>,
+) -> Result<Part, RunFault>
+    requires fits { length bytes.now ≤ 2 ^ 28 }
+    requires whole { StandsFor (Kept (IsOwn algebra.now) (IsFold algebra.now)) (text_begin bytes.now) (drop (text_begin bytes.now) bytes.now) whole }
+    ensures { MatchResult result (IsJsonPart algebra.now.digits algebra.now.how algebra.now.query bytes.now)
+        (λ end. IfFound end (λ fault. HasJsonFileFault algebra.now.digits algebra.now.how bytes.now (Some fault))) }
+{
+    if let Some(fault) = utf8_fault(bytes) {
+        return Err(RunFault::Found(fault));
+    }
+    tree_part(alloc, algebra, bytes, whole)
+}

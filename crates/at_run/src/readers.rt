@@ -1,0 +1,98 @@
+ghost use Rattle.std.specs.Prelude.{◌≡◌};
+ghost use Rattle.at_query.specs.Ranges.{IsQueryInRange};
+ghost use Rattle.at_run.specs.Readers.{Asks, of_lines, of_json, StandsInForm};
+
+use crate::forms::Form;
+use crate::gathered::Gathered;
+use crate::line_queries::LineQuery;
+use at_fixed::Coords;
+use at_geojson::GeoAlgebra;
+use at_nest::{Fragment, merge, run_block};
+use at_query::Query;
+use at_text::Pieces;
+use at_wkt::{LineFragment, merge_lines, run_lines};
+use std::alloc::Global;
+use std::marker::Model;
+
+/// A query that is asked of a file in its form.
+#[derive(Drop)]
+pub struct Reader {
+    form: Form,
+    algebra: GeoAlgebra,
+}
+
+/// What a piece of a file gives, in the file's form.
+#[derive(Drop)]
+pub enum FileFragment {
+    Lines(LineFragment<Gathered>),
+    Json(Fragment<GeoAlgebra>),
+}
+
+impl Model for Reader {
+    ghost Value = { Asks };
+
+    ghost view = { λ r. record { form = r.form; query = r.algebra.query; digits = r.algebra.digits; how = r.algebra.how } };
+}
+
+impl Reader {
+    /// The query, the form of the files, and how their numbers are read.
+    pub fn new(form: Form, query: Query, digits: u8, how: Coords) -> Reader
+        requires { IsQueryInRange query }
+        ensures { result ≡ record { form = form; query = query; digits = digits; how = how } }
+    {
+        Reader {
+            form,
+            algebra: GeoAlgebra::new(query, digits, how),
+        }
+    }
+
+    /// The query as it is asked of lines.
+    fn of_lines(&self) -> LineQuery<'_>
+        ensures { result ≡ of_lines self.now }
+    {
+        LineQuery::new(
+            self.algebra.query(),
+            self.algebra.digits(),
+            self.algebra.how(),
+        )
+    }
+
+    /// The algebra of JSON texts.
+    fn of_json(&self) -> &GeoAlgebra
+        ensures { result.now ≡ of_json self.now }
+    {
+        &self.algebra
+    }
+}
+
+impl Pieces for Reader {
+    type Fragment = FileFragment;
+
+    ghost stands = { λ asks at bytes fragment. StandsInForm asks at bytes fragment };
+
+    fn run_piece(&self, alloc: Global, piece: &[u8], base: u32) -> FileFragment {
+        match self.form {
+            Form::Wkt => FileFragment::Lines(run_lines(alloc, &self.of_lines(), piece, base)),
+            Form::GeoJson => FileFragment::Json(run_block(alloc, self.of_json(), piece, base)),
+        }
+    }
+
+    fn merge_pieces(
+        &self,
+        alloc: Global,
+        bytes: &[u8],
+        left: FileFragment,
+        right: FileFragment,
+    ) -> FileFragment {
+        match (left, right) {
+            (FileFragment::Lines(left), FileFragment::Lines(right)) => {
+                FileFragment::Lines(merge_lines(alloc, &self.of_lines(), bytes, left, right))
+            }
+            (FileFragment::Json(left), FileFragment::Json(right)) => {
+                FileFragment::Json(merge(alloc, self.of_json(), bytes, left, right))
+            }
+            (FileFragment::Lines(_), FileFragment::Json(_)) => unreachable!(),
+            (FileFragment::Json(_), FileFragment::Lines(_)) => unreachable!(),
+        }
+    }
+}
