@@ -11,7 +11,7 @@ use crate::shapes::{Polygon, Shape};
 
 /// Whether some position of the shape is in one of the polygons. Where `reach` is told, no position outside it
 /// is.
-pub(crate) fn shape_reaches(shape: &Shape, polygons: &[Polygon], reach: Option<Extent>) -> bool
+pub fn shape_reaches(shape: &Shape, polygons: &[Polygon], reach: Option<Extent>) -> bool
     requires shape_in_range { IsShapeInRange shape.now }
     requires polygons_in_range { ArePolygonsInRange polygons.now }
     requires reached { IfSome reach (λ e. (p : Pos) → IsInSome p polygons.now → IsTrue (is_within e p)) }
@@ -80,7 +80,7 @@ fn is_in_some(p: Pos, polygons: &[Polygon], reach: Option<Extent>) -> bool
     }
 }
 
-fn is_in_any(p: Pos, polygons: &[Polygon]) -> bool
+pub fn is_in_any(p: Pos, polygons: &[Polygon]) -> bool
     requires p_in_range { IsInRange p }
     requires polygons_in_range { ArePolygonsInRange polygons.now }
     ensures { IsTrue result ↔ IsInSome p polygons.now }
@@ -95,7 +95,7 @@ fn is_in_any(p: Pos, polygons: &[Polygon]) -> bool
 
 /// Where the positions in the polygons of a shape with the extent `around` lie, if it can be told: in that
 /// extent, where each exterior is closed. An open exterior may have positions far to its left in it.
-pub(crate) fn reach(shape: &Shape, around: Extent) -> Option<Extent>
+pub fn reach(shape: &Shape, around: Extent) -> Option<Extent>
     requires { extent_of (positions shape.now) ≡ Some around }
     ensures { IfSome result (λ e. (p : Pos) → IsInSome p shape.now.polygons → IsTrue (is_within e p)) }
 {
@@ -107,7 +107,7 @@ pub(crate) fn reach(shape: &Shape, around: Extent) -> Option<Extent>
 }
 
 /// Whether the exterior of each polygon is closed.
-pub(crate) fn are_closed(polygons: &[Polygon]) -> bool
+pub fn are_closed(polygons: &[Polygon]) -> bool
     ensures { IsTrue result → AllByRecursion HasClosedExterior polygons.now }
 {
     for polygon in polygons {

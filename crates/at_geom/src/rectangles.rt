@@ -42,7 +42,7 @@ impl Extent {
     }
 
     /// Whether the position is in this extent.
-    pub(crate) fn contains(self, p: Pos) -> bool
+    pub fn contains(self, p: Pos) -> bool
         ensures { result ≡ is_within self p }
     {
         let along_x = lies_between(self.low.x, self.high.x, p.x, p.x);
@@ -51,7 +51,7 @@ impl Extent {
     }
 
     /// Whether this extent and the box round the segment `ab` have a common point.
-    pub(crate) fn touches_box(self, a: Pos, b: Pos) -> bool
+    pub fn touches_box(self, a: Pos, b: Pos) -> bool
         ensures { IsTrue result
             ↔ ((int_min a.x b.x ≤ℤ self.high.x) × (self.low.x ≤ℤ int_max a.x b.x)
             × (int_min a.y b.y ≤ℤ self.high.y) × (self.low.y ≤ℤ int_max a.y b.y)) }

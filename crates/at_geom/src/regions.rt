@@ -22,7 +22,7 @@ enum EdgePlace {
 
 /// Where a position is against a ring.
 #[derive(Clone, Copy)]
-enum RingPlace {
+pub enum RingPlace {
     /// On one of its edges.
     Boundary,
     /// On none, with an odd number of crossings.
@@ -49,7 +49,7 @@ pub fn in_polygon(p: Pos, polygon: &Polygon) -> bool
     }
 }
 
-fn is_in_no_hole(p: Pos, holes: &[Path]) -> bool
+pub fn is_in_no_hole(p: Pos, holes: &[Path]) -> bool
     requires p_in_range { IsInRange p }
     requires holes_in_range { All (All IsInRange) holes.now }
     ensures { IsTrue result ↔ AllByRecursion (IsNotInHole p) holes.now }
@@ -62,7 +62,7 @@ fn is_in_no_hole(p: Pos, holes: &[Path]) -> bool
     true
 }
 
-fn place_in_ring(p: Pos, ring: &[Pos]) -> RingPlace
+pub fn place_in_ring(p: Pos, ring: &[Pos]) -> RingPlace
     requires p_in_range { IsInRange p }
     requires ring_in_range { All IsInRange ring.now }
     ensures { IsPlaceIn p ring.now result }
