@@ -5,7 +5,7 @@ ghost use Rattle.at_query.specs.Holding.{has_text, TestHolds, Holds};
 
 use crate::features::{Feature, TextPair};
 use crate::queries::{Query, Test};
-use at_geom::{all_in, shapes_meet};
+use at_geom::all_in;
 
 /// Whether one of the texts has the name and the value.
 fn has_pair(texts: &[TextPair], name: &[u16], value: &[u16]) -> bool
@@ -27,7 +27,7 @@ fn test_holds(test: &Test, feature: &Feature) -> bool
 {
     match test {
         Test::InBox(extent) => all_in(&feature.shape, *extent),
-        Test::MeetsShape(shape) => shapes_meet(&feature.shape, shape),
+        Test::MeetsShape(bands) => bands.meets(&feature.shape),
         Test::Has(name, value) => has_pair(
             feature.texts.as_slice(),
             name.as_slice(),

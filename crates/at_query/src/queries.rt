@@ -1,6 +1,7 @@
 ghost use Rattle.std.specs.Prelude.{◌≡◌};
 
-use at_geom::{Extent, Shape};
+use at_band::Bands;
+use at_geom::Extent;
 use at_lex::Units;
 use std::marker::Model;
 
@@ -24,8 +25,8 @@ pub enum Verb {
 pub enum Test {
     /// Its shape has a position, and all its positions are in the closed extent.
     InBox(Extent),
-    /// Its shape and this one meet.
-    MeetsShape(Shape),
+    /// Its shape and the kept one meet.
+    MeetsShape(Bands),
     /// One of its texts has this name and this value.
     Has(Units, Units),
 }

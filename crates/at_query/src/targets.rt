@@ -1,5 +1,7 @@
 ghost use Rattle.std.specs.Prelude.{◌≡◌, ◌∷◌, [], ◌^◌, ◌≤◌, length, option_map, IfOk, MatchResult};
 ghost use Rattle.at_text.specs.declared.faults.Fault.{Fault};
+ghost use Rattle.at_query.specs.declared.queries.Test.TheVariants.{MeetsShape};
+ghost use Rattle.at_query.specs.declared.halts.Halt.TheVariants as halts;
 ghost use Rattle.at_query.specs.Queries.{ring_of as ring_from, box_shape as shape_of_box};
 ghost use Rattle.at_query.specs.Reading.{Ends, Stops, Target, GeometryTarget, BoxTarget, test_in, IfStopped};
 
@@ -8,6 +10,7 @@ use crate::bytes::stands;
 use crate::filters::TestRead;
 use crate::halts::{Halt, Rules};
 use crate::queries::Test;
+use at_band::Bands;
 use at_geom::{Extent, Path, Paths, Polygon, Polygons, Pos, Shape};
 use at_text::Fault;
 use at_wkt::{LineFault, read_geometry};
@@ -50,9 +53,10 @@ fn read_met_box(alloc: Global, text: &[u8], at: usize, rules: Rules) -> Result<T
 {
     let found = read_box(text, at, rules)?;
     let shape = box_shape(alloc, found.extent)?;
+    let bands = Bands::new(alloc, &shape)?;
     Ok(TestRead {
         end: found.end,
-        test: Test::MeetsShape(shape),
+        test: Test::MeetsShape(bands),
         fault: found.fault,
     })
 }
@@ -67,6 +71,20 @@ fn offset_of(fault: Option<Fault>) -> Option<u32>
     }
 }
 
+/// The test that shapes meet this one, read up to `end`.
+fn met_read(alloc: Global, end: usize, shape: &Shape, fault: Option<u32>) -> Result<TestRead, Halt>
+    ensures { MatchResult result
+        (λ read. read ≡ record { end = end; test = MeetsShape shape.now; fault = fault })
+        (λ halt. halt ≡ halts.Memory) }
+{
+    let bands = Bands::new(alloc, shape)?;
+    Ok(TestRead {
+        end,
+        test: Test::MeetsShape(bands),
+        fault,
+    })
+}
+
 /// Reads a geometry that a shape is to meet.
 fn read_met_geometry(alloc: Global, text: &[u8], at: usize, rules: Rules) -> Result<TestRead, Halt>
     requires inside { at ≤ length text.now }
@@ -76,11 +94,10 @@ fn read_met_geometry(alloc: Global, text: &[u8], at: usize, rules: Rules) -> Res
         (λ halt. IfStopped halt (Stops (GeometryTarget rules.digits rules.how) text.now at)) }
 {
     match read_geometry(alloc, &text[at..], at as u32, rules.digits, rules.how) {
-        Ok(prefix) => Ok(TestRead {
-            end: at + prefix.taken as usize,
-            test: Test::MeetsShape(prefix.shape),
-            fault: offset_of(prefix.fault),
-        }),
+        Ok(prefix) => {
+            let end = at + prefix.taken as usize;
+            met_read(alloc, end, &prefix.shape, offset_of(prefix.fault))
+        }
         Err(LineFault::Found(fault)) => Err(Halt::At(fault.at as usize)),
         Err(LineFault::Memory) => Err(Halt::Memory),
     }

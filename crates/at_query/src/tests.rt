@@ -7,6 +7,7 @@ ghost use Rattle.at_query.specs.Parts.{AreAlike, IsAnswerable};
 mod lines;
 
 use super::*;
+use at_band::Bands;
 use at_geom::{Extent, Path, Paths, Polygon, Polygons, Pos, Shape};
 use at_lex::Units;
 use std::alloc::{AllocError, Global};
@@ -328,7 +329,7 @@ fn shapes_and_a_box(rt: HostRuntime) -> Result<(), Fail> {
     let meeting = query(
         rt.alloc(),
         Verb::Select,
-        Some(Test::MeetsShape(box_shape(rt.alloc())?)),
+        Some(Test::MeetsShape(Bands::new(rt.alloc(), &box_shape(rt.alloc())?)?)),
     )?;
     for outline in &AROUND_BOX {
         let found = feature(rt.alloc(), outline)?;

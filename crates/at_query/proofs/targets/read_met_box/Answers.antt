@@ -1,4 +1,4 @@
-use Rattle.std.proofs.Common.{sym, subst}
+use Rattle.std.proofs.Common.{sym, subst, ◌∙◌}
 use Rattle.at_query.specs.declared.queries.Test.TheVariants.{MeetsShape}
 use Rattle.at_query.specs.Reading.{Ends, Stops, Box, BoxTarget, box_in}
 use Rattle.at_query.proofs.GeometryParts.{met_box_stops, met_box_ends}
@@ -12,5 +12,5 @@ returns-in_err-found c =
 
 pub returns : goal.returns
 returns c =
-    subst (λ z. Ends (BoxTarget c.args.rules.digits c.args.rules.how) c.args.text.now c.args.at c.in_ok-found.found.end (record { test = MeetsShape z; fault = c.in_ok-found.found.fault })) (sym c.in_ok-shape.ensures)
+    subst (λ z. Ends (BoxTarget c.args.rules.digits c.args.rules.how) c.args.text.now c.args.at c.in_ok-found.found.end (record { test = MeetsShape z; fault = c.in_ok-found.found.fault })) (sym (c.in_ok-bands.ensures ∙ c.in_ok-shape.ensures))
     (met_box_ends c.args.rules.digits c.args.rules.how c.args.text.now c.args.at c.in_ok-found.found.end (box_in c.in_ok-found.found) c.in_ok-found.ensures)
