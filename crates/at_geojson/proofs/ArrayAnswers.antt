@@ -1,15 +1,13 @@
 -- The atom of an array by the sort of its items.
-use Rattle.std.proofs.Common.{◌≡◌, ◌≢◌, ◌⊎◌, inl, inr, ℕ, Bool, true, false, List, [], ◌∷◌, Option, Some, None, refl, sym, ◌∙◌, ap, subst}
-use Rattle.std.specs.List.{list_any}
+use Rattle.std.proofs.Common.{◌≡◌, ◌≢◌, inl, inr, ℕ, Bool, List, [], ◌∷◌, Some, None, refl, sym, ◌∙◌, ap, subst}
 use Rattle.at_nest.specs.Folds.{AreFolds}
 use Rattle.at_nest.specs.Tree.{array, Trees, no_trees, tree_and}
 use Rattle.at_geojson.specs.declared.atoms.GeoAtom.{GeoAtom}
 use Rattle.at_geojson.specs.declared.atoms.GeoAtom.TheVariants as atoms
-use Rattle.at_geojson.specs.declared.sorts.Sort.{Sort}
 use Rattle.at_geojson.specs.declared.sorts.Sort.TheVariants as sorts
 use Rattle.at_geojson.specs.Keeping.{Asked, needs_shapes}
-use Rattle.at_geojson.specs.Atoms.{twin_of, IsOwn, IsRead, IsFold, HaveItems}
-use Rattle.at_geojson.specs.Gathering.{firsts, is_object, least_of, rank, sort_of_all, pair_atom, MakesPoints, MakesLists, MakesAreas}
+use Rattle.at_geojson.specs.Atoms.{twin_of, IsRead, IsFold}
+use Rattle.at_geojson.specs.Gathering.{firsts, least_of, rank, sort_of_all, pair_atom, MakesPoints, MakesLists, MakesAreas}
 use Rattle.at_geojson.specs.Arrays.{MakesItems, MakesNumbers}
 use Rattle.at_geojson.proofs.Each.{reads}
 use Rattle.at_geojson.proofs.ArrayFolds.{points_read, lists_read, areas_read, position_read, no_form, one_number, other_read, items_read, read_folds, HasNoForm, twin_of_pair, empty_read}

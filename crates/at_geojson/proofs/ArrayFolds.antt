@@ -1,5 +1,5 @@
 -- Arrays: what is made of their items is what the definitions read of the array in each role.
-use Rattle.std.proofs.Common.{◌≡◌, ℕ, suc, ◌+◌, ◌<◌, ◌≤◌, ◌==◌, min, fold, Bool, true, false, ◌&&◌, ◌||◌, if◌then◌else◌, List, [], ◌∷◌, ◌++◌, length, map, nat_lt, slice_get, Option, Some, None, Ok, Err, refl, sym, ◌∙◌, ap, subst, arith}
+use Rattle.std.proofs.Common.{◌≡◌, ℕ, ◌<◌, ◌≤◌, ◌==◌, min, fold, Bool, true, false, ◌&&◌, ◌||◌, if◌then◌else◌, List, [], ◌∷◌, nat_lt, slice_get, Option, Some, None, refl, sym, ◌∙◌, ap, subst, arith}
 use Rattle.std.specs.List.{list_any}
 use Rattle.std.proofs.lemmas.Bool.{true≢false, ltb-true, ltb-false, eqb-true}
 use Rattle.std.proofs.Math.Nat.{min-eq_left, min-eq_right}
@@ -9,31 +9,23 @@ use Rattle.at_text.specs.declared.faults.FaultKind.TheVariants.{Form}
 use Rattle.at_wkt.proofs.Exits.{first_of-append}
 use Rattle.at_nest.specs.Folds.{AreFolds}
 use Rattle.at_nest.specs.Tree.{Tree, array, Trees, no_trees, tree_and}
-use Rattle.at_nest.specs.Twins.{twins_of_items}
-use Rattle.at_geom.specs.declared.shapes.Shape.{Shape}
-use Rattle.at_query.specs.declared.parts.Part.{Part}
-use Rattle.at_query.specs.declared.queries.Query.{Query}
 use Rattle.at_geojson.specs.declared.atoms.GeoAtom.{GeoAtom}
 use Rattle.at_geojson.specs.declared.atoms.GeoAtom.TheVariants as atoms
-use Rattle.at_geojson.specs.declared.atoms.PositionAtom.{PositionAtom}
-use Rattle.at_geojson.specs.declared.atoms.FaultyAtom.{FaultyAtom}
-use Rattle.at_geojson.specs.declared.atoms.OtherAtom.{OtherAtom}
 use Rattle.at_geojson.specs.declared.atoms.ItemsAtom.{ItemsAtom}
 use Rattle.at_fixed.specs.Numerals.{Numeral}
 use Rattle.at_wkt.specs.Positions.{Positions}
 use Rattle.std.proofs.lemmas.Option.{none-some}
-use Rattle.at_geojson.specs.declared.atoms.Role.{Role}
 use Rattle.at_geojson.specs.declared.atoms.Role.TheVariants as roles
 use Rattle.at_geojson.specs.Names.{items_of}
 use Rattle.at_geojson.specs.Coordinates.{each, number_at, position_of, position_of_numbers, positions_of, lists_of, area_of, areas_of, if_some_items}
-use Rattle.at_geojson.specs.Roles.{texts_of, geometry_reading, items_reading, item_reading, all_features}
+use Rattle.at_geojson.specs.Roles.{texts_of, geometry_reading, items_reading, item_reading}
 use Rattle.std.proofs.Common.{option_map, option_and_then}
 use Rattle.at_geojson.specs.Keeping.{Asked, needs_shapes, asked_texts, kept, kept_shape}
 use Rattle.at_wkt.specs.Meaning.{empty_shape}
-use Rattle.at_geojson.specs.Atoms.{twin_of, at_of, is_null, is_empty, as_kind, as_text, as_geometries, as_features, both_forms, IsNumber, as_number, as_position, as_points, as_lists, as_area, as_areas, role_of, role_geometry, role_item, as_texts, HasShape, HasPart, Alike, IsPosition, IsPoints, IsLists, IsArea, IsAreas, AreCoordinates, AreItems, IsObject, IsScalar, IsRoot, items_features, IsRead, IsFold}
-use Rattle.at_geojson.specs.Gathering.{firsts, form_fault, is_object, first_at, least_of, are_all, rank, sort_of_all, position_atom, position_made, pair_at, pair_atom, number_fault, MakesPoints, MakesLists, MakesAreas}
-use Rattle.at_geojson.proofs.Firsts.{firsts-cons, none_first}
-use Rattle.at_geojson.proofs.Each.{EachIs, twins_items, reads}
+use Rattle.at_geojson.specs.Atoms.{twin_of, at_of, is_null, is_empty, as_kind, as_text, as_geometries, as_features, both_forms, IsNumber, as_number, as_position, as_points, as_lists, as_area, as_areas, role_of, role_geometry, role_item, as_texts, HasShape, HasPart, Alike, IsPosition, IsPoints, IsLists, IsArea, IsAreas, IsObject, IsScalar, IsRoot, items_features, IsRead, IsFold}
+use Rattle.at_geojson.specs.Gathering.{firsts, form_fault, is_object, least_of, are_all, rank, sort_of_all, position_atom, position_made, pair_at, pair_atom, number_fault, MakesPoints, MakesLists, MakesAreas}
+use Rattle.at_geojson.proofs.Firsts.{firsts-cons}
+use Rattle.at_geojson.proofs.Each.{EachIs, twins_items}
 use Rattle.at_geojson.proofs.SortFacts.{no_role, all_sorted, no_other, no_objects}
 use Rattle.at_geojson.proofs.CoordinateFolds.{alike_at, some_numbers, some_positions, some_lines, some_areas, no_position, no_points, no_lists, no_area, no_areas, position_is, points_are, lists_are, areas_are}
 

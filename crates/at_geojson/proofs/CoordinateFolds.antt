@@ -1,6 +1,5 @@
 -- Arrays of coordinates: what they are made of items that are all of one sort is what the definitions read of the array.
-use Rattle.std.proofs.Common.{◌≡◌, ℕ, zero, suc, ◌+◌, ◌-◌, ◌≤◌, ◌==◌, ℤ, pos, Bool, true, false, not, ◌&&◌, ◌||◌, if◌then◌else◌, List, [], ◌∷◌, ◌++◌, length, map, flat_map, slice_get, Option, Some, None, is_some, is_none, option_map, option_and_then, option_to_list, refl, sym, ◌∙◌, ap, subst, arith}
-use Rattle.std.specs.List.{list_all}
+use Rattle.std.proofs.Common.{◌≡◌, ℕ, zero, suc, ◌-◌, ◌≤◌, pos, Bool, true, false, not, ◌&&◌, ◌||◌, if◌then◌else◌, List, [], ◌∷◌, ◌++◌, length, map, flat_map, slice_get, Option, Some, None, is_some, is_none, option_map, option_and_then, option_to_list, refl, sym, ◌∙◌, ap, subst, arith}
 use Rattle.std.specs.Ordering.{int_eq}
 use Rattle.std.proofs.lemmas.Bool.{true≢false, le-ltb}
 use Rattle.std.proofs.lemmas.Option.{none-some}
@@ -10,23 +9,22 @@ use Rattle.at_text.specs.declared.faults.FaultKind.TheVariants.{Short, Ring}
 use Rattle.at_text.specs.declared.faults.Fault.{Fault}
 use Rattle.at_fixed.specs.Numerals.{Numeral}
 use Rattle.at_geom.specs.declared.positions.Pos.{Pos}
-use Rattle.at_geom.specs.declared.shapes.Polygon.{Polygon}
 use Rattle.at_geom.specs.Shapes.{line_fault, ring_fault}
 use Rattle.at_wkt.proofs.Exits.{first_of-append}
 use Rattle.at_wkt.specs.Positions.{Position, Positions, last_of, number_fault as fault_at_number, position_faults, items_faults, faults_of_line, faults_of_ring, pos_of, path_of, is_faultless, closes_with as positions_close, is_closed}
 use Rattle.at_wkt.specs.Meaning.{polygons_of, faults_of_area}
 use Rattle.at_nest.specs.Folds.{AreFolds}
-use Rattle.at_nest.specs.Tree.{Tree, array, Trees}
+use Rattle.at_nest.specs.Tree.{array, Trees}
 use Rattle.at_geojson.specs.declared.atoms.GeoAtom.{GeoAtom}
 use Rattle.at_geojson.specs.declared.atoms.GeoAtom.TheVariants as atoms
 use Rattle.at_geojson.specs.Names.{items_of}
 use Rattle.at_geojson.specs.Coordinates.{each, number_at, position_of, position_of_numbers, positions_of, lists_of, area_of, areas_of, if_some_items}
 use Rattle.at_geojson.specs.Keeping.{Asked, needs_shapes, kept}
-use Rattle.at_geojson.specs.Atoms.{nowhere, NumberView, PositionView, PointsView, ListsView, AreasView, as_number, as_position, as_points, as_area, as_lists, as_areas, Alike, IsNumber, IsPosition, IsPoints, IsLists, IsArea, IsAreas, AreCoordinates, IsRead}
-use Rattle.at_geojson.specs.Gathering.{seen, firsts, sort_of_all, rank, are_all, number_value, number_fault, position_value, position_fault, position_atom, position_made, closes, closes_at, closes_with, to_four, MakesPoints, fault_as_line, fault_as_ring, path_in, MakesLists, area_fault, rings_in, polygon_in, MakesAreas}
-use Rattle.at_geojson.proofs.Firsts.{firsts-cons, none_first}
+use Rattle.at_geojson.specs.Atoms.{nowhere, NumberView, PositionView, PointsView, ListsView, as_number, as_position, as_points, as_area, as_areas, Alike, IsNumber, IsPosition, IsPoints, IsLists, IsArea, IsAreas, IsRead}
+use Rattle.at_geojson.specs.Gathering.{seen, firsts, are_all, number_value, number_fault, position_value, position_fault, position_atom, position_made, closes, closes_at, closes_with, to_four, MakesPoints, fault_as_line, fault_as_ring, path_in, MakesLists, area_fault, rings_in, polygon_in, MakesAreas}
+use Rattle.at_geojson.proofs.Firsts.{firsts-cons}
 use Rattle.at_geojson.proofs.Each.{folds_map, none_left, none_behind, Is, EachIs, all_some, some_none, firsts_each, values_each, length_each}
-use Rattle.at_geojson.proofs.SortFacts.{is_number, is_position, is_points, is_area, all_same, all_sorted, no_other}
+use Rattle.at_geojson.proofs.SortFacts.{is_number, is_position, is_points, is_area, all_same}
 
 -- ---- small facts
 

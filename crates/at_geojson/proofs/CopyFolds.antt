@@ -1,5 +1,5 @@
 -- What a copy is in each role is what the atom is.
-use Rattle.std.proofs.Common.{◌≡◌, ℕ, Bool, true, false, List, Option, Some, None, All, refl, sym, ◌∙◌, ap, subst}
+use Rattle.std.proofs.Common.{◌≡◌, List, Option, Some, All, refl, sym, ◌∙◌, ap, subst}
 use Rattle.at_text.specs.declared.faults.Fault.{Fault}
 use Rattle.at_geom.specs.declared.positions.Pos.{Pos}
 use Rattle.at_geom.specs.declared.shapes.Polygon.{Polygon}
@@ -11,11 +11,10 @@ use Rattle.at_geojson.specs.declared.atoms.GeoAtom.TheVariants as atoms
 use Rattle.at_geojson.specs.declared.atoms.Items.{Items}
 use Rattle.at_geojson.specs.declared.atoms.Roles.{Roles}
 use Rattle.at_geojson.specs.Keeping.{Asked, needs_shapes}
-use Rattle.at_geojson.specs.Names.{items_of, units_of_text, kind_of_text}
 use Rattle.at_geojson.specs.Coordinates.{number_at, position_of, positions_of, lists_of, area_of, areas_of}
 use Rattle.at_geojson.specs.Roles.{geometry_reading, items_reading, item_reading, texts_of}
 use Rattle.at_geojson.specs.Keeping.{asked_texts}
-use Rattle.at_geojson.specs.Atoms.{NumberView, PositionView, PointsView, ListsView, AreasView, both_forms, unboxed, array_trees, object_members, is_null_tree, asked_text, Alike, HasShape, HasPart, IsNumber, IsPosition, IsPoints, IsLists, IsArea, IsAreas, items_features, IsRoot, role_geometry, role_item, IsOwnRole, AreOwnItems, IsRead, IsFold, IsOwn, twin_of, at_of, is_null, is_empty, as_kind, as_text, as_number, as_position, as_points, as_lists, as_area, as_areas, as_geometries, as_features, role_of, as_texts}
+use Rattle.at_geojson.specs.Atoms.{PointsView, ListsView, AreasView, both_forms, array_trees, object_members, Alike, HasShape, HasPart, IsNumber, IsPosition, IsPoints, IsLists, IsArea, IsAreas, items_features, IsRoot, role_geometry, role_item, IsOwnRole, AreOwnItems, IsRead, IsFold, IsOwn, twin_of, at_of, is_null, is_empty, as_kind, as_text, as_number, as_position, as_points, as_lists, as_area, as_areas, as_geometries, as_features, role_of, as_texts}
 use Rattle.at_geojson.specs.Copies.{IsCopy}
 
 abbrev points_view : List Pos → Option Fault → Option Fault → Option Fault → PointsView

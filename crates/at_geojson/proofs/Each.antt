@@ -1,6 +1,6 @@
 -- Lists of atoms beside the trees for which they stand: what each item is in a role, and when one has not the role.
-use Rattle.std.proofs.Common.{◌≡◌, ℕ, suc, ◌+◌, Bool, true, false, ◌&&◌, if◌then◌else◌, List, [], ◌∷◌, ◌++◌, length, map, flat_map, Option, Some, None, is_some, option_map, option_and_then, refl, sym, ◌∙◌, ap, subst, arith}
-use Rattle.std.specs.List.{list_all, list_any}
+use Rattle.std.proofs.Common.{◌≡◌, suc, Bool, true, false, ◌&&◌, if◌then◌else◌, List, [], ◌∷◌, length, map, flat_map, Option, Some, None, is_some, option_map, option_and_then, refl, sym, ◌∙◌, ap}
+use Rattle.std.specs.List.{list_all}
 use Rattle.std.proofs.lemmas.Bool.{true≢false}
 use Rattle.std.proofs.lemmas.Option.{none-some}
 use Rattle.std.proofs.lemmas.List.Concat.{flat_map-cons}
@@ -16,7 +16,7 @@ use Rattle.at_geojson.specs.Coordinates.{each}
 use Rattle.at_geojson.specs.Keeping.{Asked}
 use Rattle.at_geojson.specs.Atoms.{Alike, twin_of, IsRead, IsFold}
 use Rattle.at_geojson.specs.Gathering.{firsts}
-use Rattle.at_geojson.proofs.Firsts.{firsts-cons, none_right}
+use Rattle.at_geojson.proofs.Firsts.{firsts-cons}
 
 -- ---- relations of lists
 

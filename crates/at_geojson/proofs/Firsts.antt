@@ -1,9 +1,9 @@
 -- The first of the faults that a pass over a list finds, and the first fault of joined lists.
-use Rattle.std.proofs.Common.{◌≡◌, ℕ, ◌+◌, ◌≤◌, Bool, true, false, if◌then◌else◌, List, [], ◌∷◌, ◌++◌, fold, min, map, flat_map, length, take, drop, Option, Some, None, refl, sym, ◌∙◌, ap, subst, arith}
+use Rattle.std.proofs.Common.{◌≡◌, Bool, true, false, if◌then◌else◌, List, [], ◌∷◌, fold, Option, Some, None, refl, sym, ◌∙◌, ap}
 use Rattle.std.proofs.lemmas.Option.{none-some}
-use Rattle.at_text.specs.Faults.{comes_first, first_fault, first_of, fault_at}
+use Rattle.at_text.specs.Faults.{comes_first, first_fault, first_of}
 use Rattle.at_text.specs.declared.faults.Fault.{Fault}
-use Rattle.at_wkt.proofs.Exits.{first_fault-assoc, first_of-append}
+use Rattle.at_wkt.proofs.Exits.{first_fault-assoc}
 use Rattle.at_geojson.specs.Gathering.{firsts}
 
 pub none_right : (o : Option Fault) → first_fault o None ≡ o

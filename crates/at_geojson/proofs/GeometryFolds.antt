@@ -1,5 +1,5 @@
 -- What an atom is as the coordinates of each kind of geometry is what the definitions read of its tree.
-use Rattle.std.proofs.Common.{◌≡◌, ℕ, Bool, true, false, if◌then◌else◌, List, [], ◌∷◌, ◌++◌, length, map, flat_map, filter_map, Option, Some, None, Result, Ok, Err, option_map, option_and_then, option_to_list, refl, sym, ◌∙◌, ap, subst, append-nil}
+use Rattle.std.proofs.Common.{◌≡◌, ℕ, Bool, true, false, if◌then◌else◌, List, [], ◌∷◌, length, map, flat_map, Option, Some, None, Result, Ok, Err, option_map, option_and_then, refl, sym, ◌∙◌, ap, subst, append-nil}
 use Rattle.std.proofs.lemmas.Bool.{true≢false}
 use Rattle.std.proofs.lemmas.List.Concat.{flat_map-cons}
 use Rattle.at_text.specs.Faults.{first_of, fault_at}
@@ -8,7 +8,7 @@ use Rattle.at_text.specs.declared.faults.FaultKind.TheVariants.{Form}
 use Rattle.at_geom.specs.declared.positions.Pos.{Pos}
 use Rattle.at_geom.specs.declared.shapes.Polygon.{Polygon}
 use Rattle.at_geom.specs.declared.shapes.Shape.{Shape}
-use Rattle.at_wkt.specs.Positions.{Position, Positions, items_faults, position_faults, faults_of_line, faults_of_ring, pos_of, path_of}
+use Rattle.at_wkt.specs.Positions.{Positions, items_faults, position_faults, faults_of_line, faults_of_ring, pos_of, path_of}
 use Rattle.at_wkt.specs.Geometry as wkt
 use Rattle.at_wkt.specs.Meaning.{empty_shape, of_points, of_lines, of_polygons, present, polygons_of, faults_of_area, shape_of, faults_of}
 use Rattle.at_nest.specs.Tree.{Tree, literal, number, text, array, object, Trees, no_trees, tree_and, offset_of}

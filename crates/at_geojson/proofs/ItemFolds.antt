@@ -1,5 +1,5 @@
 -- Items one behind another: what they are as geometries and as features, one item more.
-use Rattle.std.proofs.Common.{◌≡◌, ℕ, Bool, true, false, List, [], ◌∷◌, ◌++◌, map, Option, Some, None, Result, Ok, Err, refl, sym, ◌∙◌, ap, subst, append-nil, append_assoc}
+use Rattle.std.proofs.Common.{◌≡◌, Bool, true, false, List, [], ◌∷◌, ◌++◌, Some, Result, Ok, Err, refl, sym, ◌∙◌, ap, subst, append-nil, append_assoc}
 use Rattle.std.specs.Vec.Iter.{into_iter_items, into_iter_steps}
 use Rattle.std.specs.declared.vec.IntoIter.{IntoIter}
 use Rattle.std.specs.Iterator.{Yields}
@@ -15,12 +15,10 @@ use Rattle.at_nest.specs.Tree.{Tree, Trees, no_trees, tree_and}
 use Rattle.at_query.specs.declared.features.Feature.{Feature}
 use Rattle.at_query.specs.declared.parts.Part.{Part}
 use Rattle.at_query.specs.declared.queries.Query.{Query}
-use Rattle.at_query.specs.Parts.{IsPart}
 use Rattle.at_geojson.specs.declared.atoms.GeoAtom.{GeoAtom}
 use Rattle.at_geojson.specs.declared.atoms.Items.{Items}
-use Rattle.at_geojson.specs.Names.{items_of}
-use Rattle.at_geojson.specs.Roles.{Reading, Features, both_read, geometry_reading, items_reading, item_reading, all_features}
-use Rattle.at_geojson.specs.Keeping.{Asked, needs_shapes, kept, kept_shape}
+use Rattle.at_geojson.specs.Roles.{Reading, Features, both_read, geometry_reading, items_reading, item_reading}
+use Rattle.at_geojson.specs.Keeping.{Asked, needs_shapes, kept_shape}
 use Rattle.at_geojson.specs.Atoms.{HasShape, HasPart, HaveItems, items_features, IsRead, at_of, role_of, role_geometry, role_item}
 use Rattle.at_geojson.specs.Gathering.{JoinsShapes, JoinsFound}
 

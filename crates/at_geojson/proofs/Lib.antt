@@ -19,3 +19,4 @@ pub mod ObjectReads
 pub mod CopyFolds
 pub mod Tiers
 pub mod Roots
+pub mod SimpleTexts

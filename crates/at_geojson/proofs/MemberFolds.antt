@@ -1,6 +1,5 @@
 -- Members of an object: equal names among them, and the value of a name.
 use Rattle.std.proofs.Common.{◌≡◌, ℕ, Bool, true, false, ◌||◌, if◌then◌else◌, bytes_eq, codes, List, [], ◌∷◌, ◌++◌, Option, Some, None, option_and_then, refl, sym, ◌∙◌, ap, subst}
-use Rattle.std.specs.List.{list_any}
 use Rattle.std.proofs.lemmas.List.Folds.{list_any-append}
 use Rattle.at_text.specs.Faults.{first_fault, first_of, fault_at}
 use Rattle.at_text.specs.declared.faults.Fault.{Fault}
@@ -9,10 +8,10 @@ use Rattle.at_wkt.proofs.Exits.{first_fault-assoc, first_of-append}
 use Rattle.at_lex.specs.Strings.{units_of}
 use Rattle.at_nest.specs.declared.algebra.Member.{Member}
 use Rattle.at_nest.specs.Folds.{AreMemberFolds}
-use Rattle.at_nest.specs.Tree.{Tree, Members, no_members, member_and, object}
+use Rattle.at_nest.specs.Tree.{Tree, Members, no_members, member_and}
 use Rattle.at_nest.specs.Twins.{twins_of, twins_of_members, is_among as named_before}
 use Rattle.at_geojson.specs.declared.atoms.GeoAtom.{GeoAtom}
-use Rattle.at_geojson.specs.Names.{member_named, type_of, kind_of, kind_of_text, units_of_text}
+use Rattle.at_geojson.specs.Names.{member_named, kind_of, kind_of_text, units_of_text}
 use Rattle.at_geojson.specs.Keeping.{Asked}
 use Rattle.at_geojson.specs.Atoms.{Alike, twin_of, as_kind, IsRead, IsFold}
 use Rattle.at_geojson.specs.Gathering.{seen, is_among, own_twin, twin_at, member_twins}

@@ -1,21 +1,19 @@
 -- The atom of an object, by the kind that it says it is.
-use Rattle.std.proofs.Common.{◌≡◌, ◌⊎◌, inl, inr, ℕ, Bool, true, false, codes, List, [], ◌∷◌, ◌++◌, Option, Some, None, Result, Ok, Err, refl, sym, ◌∙◌, ap, subst}
-use Rattle.std.proofs.lemmas.Bool.{true≢false}
+use Rattle.std.proofs.Common.{◌≡◌, ℕ, codes, List, Option, Some, None, Result, refl, sym, subst}
 use Rattle.at_text.specs.Faults.{first_of, fault_at}
 use Rattle.at_text.specs.declared.faults.Fault.{Fault}
 use Rattle.at_text.specs.declared.faults.FaultKind.TheVariants.{Form}
 use Rattle.at_geom.specs.declared.shapes.Shape.{Shape}
 use Rattle.at_nest.specs.declared.algebra.Member.{Member}
 use Rattle.at_nest.specs.Folds.{AreMemberFolds}
-use Rattle.at_nest.specs.Tree.{Tree, object, Members}
-use Rattle.at_query.specs.declared.parts.Part.{Part}
+use Rattle.at_nest.specs.Tree.{Members}
 use Rattle.at_geojson.specs.declared.atoms.GeoAtom.{GeoAtom}
 use Rattle.at_geojson.specs.declared.atoms.Role.{Role}
 use Rattle.at_geojson.specs.declared.atoms.Role.TheVariants as roles
 use Rattle.at_geojson.specs.declared.kinds.Kind.{Kind}
 use Rattle.at_geojson.specs.declared.kinds.Kind.TheVariants as kinds
 use Rattle.at_geojson.specs.Names.{member_named}
-use Rattle.at_geojson.specs.Roles.{Reading, Features, kind_reading, collection_reading, if_feature, root_of_kind}
+use Rattle.at_geojson.specs.Roles.{Reading, Features, kind_reading, collection_reading, if_feature}
 use Rattle.at_geojson.specs.Keeping.{Asked, needs_shapes}
 use Rattle.at_geojson.specs.Atoms.{Alike, HasShape, HasPart, role_geometry, role_item, IsRead}
 use Rattle.at_geojson.specs.Objects.{value_named, coordinates_shape, IsRoleOf}

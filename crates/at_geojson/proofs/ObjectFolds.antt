@@ -1,5 +1,5 @@
 -- An object in each role, from what its members are.
-use Rattle.std.proofs.Common.{◌≡◌, ℕ, Bool, true, false, ◌||◌, cond, if◌then◌else◌, bytes_eq, codes, List, [], ◌∷◌, ◌++◌, Option, Some, None, Result, Ok, Err, option_and_then, refl, sym, ◌∙◌, ap, subst, append-nil}
+use Rattle.std.proofs.Common.{◌≡◌, ℕ, Bool, true, false, cond, if◌then◌else◌, codes, List, [], ◌∷◌, ◌++◌, Option, Some, None, Result, Ok, Err, refl, sym, ◌∙◌, ap, subst, append-nil}
 use Rattle.std.proofs.lemmas.Bool.{true≢false}
 use Rattle.at_text.specs.Faults.{first_fault, first_of, fault_at}
 use Rattle.at_text.specs.declared.faults.Fault.{Fault}
@@ -11,20 +11,17 @@ use Rattle.at_lex.specs.Strings.{Character, units_of}
 use Rattle.at_lex.specs.Runs.{the_null, the_true, the_false}
 use Rattle.at_nest.specs.declared.algebra.Member.{Member}
 use Rattle.at_nest.specs.Folds.{AreMemberFolds}
-use Rattle.at_nest.specs.Tree.{Tree, literal, number, text, array, object, Trees, Members, no_members, member_and, offset_of}
-use Rattle.at_query.specs.declared.queries.Test.{Test}
+use Rattle.at_nest.specs.Tree.{Tree, literal, number, text, array, object, Members, no_members, member_and, offset_of}
 use Rattle.at_query.specs.declared.features.TextPair.{TextPair}
 use Rattle.at_query.specs.declared.parts.Part.{Part}
 use Rattle.at_geojson.specs.declared.atoms.GeoAtom.{GeoAtom}
 use Rattle.at_geojson.specs.declared.kinds.Kind.{Kind}
-use Rattle.at_geojson.specs.declared.kinds.Kind.TheVariants as kinds
 use Rattle.at_geojson.specs.Names.{is_named, member_named, units_of_text}
-use Rattle.at_geojson.specs.Roles.{Reading, Features, not_geometry, not_features, texts_of, properties_texts, properties_faults, feature_of, coordinates_reading, geometry_reading, items_reading, collection_reading, geometries_reading, geometry_member_reading, feature_reading}
+use Rattle.at_geojson.specs.Roles.{Reading, not_geometry, texts_of, properties_texts, properties_faults, feature_of, coordinates_reading, geometry_reading, items_reading, collection_reading, geometries_reading, geometry_member_reading, feature_reading}
 use Rattle.at_geojson.specs.Keeping.{Asked, needs_shapes, asks_value, asks_pair, asked_texts, kept_shape}
-use Rattle.at_geojson.specs.Atoms.{at_of, is_null, is_null_tree, as_text, as_texts, as_geometries, asked_text, asked_units, role_of, role_geometry, object_members, array_trees, Alike, HasShape, HasPart, IsRead}
+use Rattle.at_geojson.specs.Atoms.{at_of, is_null, is_null_tree, as_texts, as_geometries, asked_text, asked_units, role_of, role_geometry, object_members, array_trees, Alike, HasShape, HasPart, IsRead}
 use Rattle.at_geojson.specs.Gathering.{seen}
 use Rattle.at_geojson.specs.Objects.{value_named, kind_shape, coordinates_shape, geometries_shape, feature_shape, texts_in, texts_named, pair_kept, kept_texts, JoinsFeature}
-use Rattle.at_geojson.proofs.GeometryFolds.{point_is, points_is, line_is, lines_is, polygon_is, polygons_is}
 use Rattle.at_geojson.proofs.QueryFacts.{no_value, same_part}
 
 kept_nothing : (b : Bool) → empty_shape ≡ kept_shape b empty_shape

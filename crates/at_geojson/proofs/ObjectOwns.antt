@@ -1,5 +1,5 @@
 -- What an object is made of is the algebra's own.
-use Rattle.std.proofs.Common.{◌≡◌, ℕ, Bool, true, false, if◌then◌else◌, bytes_eq, codes, List, [], ◌∷◌, Option, Some, None, Result, Ok, Err, All, refl, sym, ◌∙◌, ap, subst}
+use Rattle.std.proofs.Common.{◌≡◌, ℕ, Bool, true, false, if◌then◌else◌, bytes_eq, List, [], ◌∷◌, Option, Some, None, Result, Ok, Err, All, refl, sym, ap, subst}
 use Rattle.std.specs.Bool.{⊤}
 use Rattle.std.proofs.lemmas.List.Elements.{All-nil, All-cons, All-head, All-tail}
 use Rattle.at_text.specs.Faults.{fault_at}
@@ -19,7 +19,7 @@ use Rattle.at_geojson.specs.declared.kinds.Kind.{Kind}
 use Rattle.at_geojson.specs.declared.kinds.Kind.TheVariants as kinds
 use Rattle.at_geojson.specs.Keeping.{Asked, needs_shapes, kept}
 use Rattle.at_geojson.specs.Atoms.{nowhere, at_of, is_empty, is_null, role_of, role_geometry, as_position, as_points, as_lists, as_area, as_areas, as_geometries, as_features, PositionView, PointsView, ListsView, AreasView, IfOwnShape, IfOwnPart, IsOwn}
-use Rattle.at_geojson.specs.Gathering.{seen, position_value, path_in, rings_in}
+use Rattle.at_geojson.specs.Gathering.{seen}
 use Rattle.at_geojson.specs.Objects.{value_named, unless, shape_seen, kind_shape, coordinates_shape, geometries_shape, feature_shape, FeaturesSeen}
 use Rattle.at_geojson.proofs.OwnFolds.{all_kept, position_in, path_in_range, rings_in_range, own_geometry}
 

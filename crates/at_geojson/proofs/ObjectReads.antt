@@ -1,5 +1,5 @@
 -- An object in every role, and its equal names.
-use Rattle.std.proofs.Common.{◌≡◌, ◌⊎◌, inl, inr, ℕ, Bool, true, false, codes, List, [], ◌∷◌, Option, Some, None, Result, Ok, Err, refl, sym, ◌∙◌, ap, subst}
+use Rattle.std.proofs.Common.{◌≡◌, inl, inr, ℕ, Bool, true, false, codes, List, [], ◌∷◌, Option, Some, None, Result, Ok, Err, refl, sym, ◌∙◌, ap, subst}
 use Rattle.std.proofs.lemmas.Bool.{true≢false}
 use Rattle.std.proofs.lemmas.Option.{none-some}
 use Rattle.at_text.specs.Faults.{first_of, fault_at}
@@ -10,11 +10,9 @@ use Rattle.at_nest.specs.declared.algebra.Member.{Member}
 use Rattle.at_nest.specs.Folds.{AreMemberFolds}
 use Rattle.at_nest.specs.Tree.{Tree, literal, number, text, array, object, Trees, no_trees, tree_and, Members}
 use Rattle.at_query.specs.declared.parts.Part.{Part}
-use Rattle.at_query.specs.Parts.{IsPart}
 use Rattle.at_query.specs.declared.features.TextPair.{TextPair}
 use Rattle.at_geojson.specs.declared.atoms.GeoAtom.{GeoAtom}
 use Rattle.at_geojson.specs.declared.atoms.GeoAtom.TheVariants as atoms
-use Rattle.at_geojson.specs.declared.atoms.ObjectAtom.{ObjectAtom}
 use Rattle.at_geojson.specs.declared.atoms.Role.{Role}
 use Rattle.at_geojson.specs.declared.atoms.Role.TheVariants as roles
 use Rattle.at_geojson.specs.declared.kinds.Kind.{Kind}

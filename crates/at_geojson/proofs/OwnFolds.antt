@@ -1,25 +1,22 @@
 -- The algebra's own atoms: coordinates in range, and parts of the query.
-use Rattle.std.proofs.Common.{◌≡◌, ℕ, ◌≤◌, nat_abs, Bool, true, false, List, [], ◌∷◌, ◌++◌, map, slice_get, Option, Some, None, Result, Ok, Err, All, refl, sym, ◌∙◌, ap, subst, arith}
+use Rattle.std.proofs.Common.{◌≡◌, ℕ, ◌≤◌, nat_abs, Bool, true, false, List, [], ◌∷◌, ◌++◌, map, Option, Some, None, Result, Ok, Err, All, sym, ap, subst, arith}
 use Rattle.std.proofs.lemmas.List.Elements.{All-nil, All-cons, All-head, All-tail, All-append}
 use Rattle.std.proofs.lemmas.Option.{none-some}
 use Rattle.at_text.specs.Faults.{first_fault}
 use Rattle.at_text.specs.declared.faults.Fault.{Fault}
-use Rattle.at_geom.specs.declared.positions.Pos.{Pos}
 use Rattle.at_geom.specs.declared.shapes.Polygon.{Polygon}
 use Rattle.at_geom.specs.declared.shapes.Shape.{Shape}
 use Rattle.at_geom.specs.Segments.{IsInRange}
-use Rattle.at_geom.specs.Shapes.{ArePathsInRange, ArePolygonsInRange, IsShapeInRange}
+use Rattle.at_geom.specs.Shapes.{ArePathsInRange, ArePolygonsInRange}
 use Rattle.at_query.specs.declared.parts.Part.{Part}
-use Rattle.at_query.specs.Parts.{AreAlike}
 use Rattle.at_query.proofs.Joining.{parts_are_alike}
-use Rattle.at_wkt.specs.Meaning.{both}
 use Rattle.at_geojson.specs.declared.atoms.GeoAtom.{GeoAtom}
 use Rattle.at_geojson.specs.declared.atoms.GeoAtom.TheVariants as atoms
 use Rattle.at_geojson.specs.declared.atoms.Role.{Role}
 use Rattle.at_geojson.specs.declared.atoms.Role.TheVariants as roles
 use Rattle.at_geojson.specs.Keeping.{Asked, needs_shapes, kept}
 use Rattle.at_geojson.specs.Atoms.{nowhere, at_of, role_of, role_geometry, role_item, IfOwnShape, IfOwnPart, IsOwnRole, IsOwn}
-use Rattle.at_geojson.specs.Gathering.{number_value, number_fault, position_value, path_in, rings_in, polygon_in, position_atom, position_made, pair_atom, pair_at, MakesPoints, MakesLists, MakesAreas, JoinsShapes, JoinsFound, AreJoinable}
+use Rattle.at_geojson.specs.Gathering.{number_value, number_fault, position_value, path_in, rings_in, polygon_in, position_atom, position_made, pair_atom, MakesPoints, MakesLists, MakesAreas, JoinsShapes, JoinsFound, AreJoinable}
 
 pub all_mapped : {X Y : Type 0} (P : X → Type 0) (Q : Y → Type 0) (f : X → Y) → ((x : X) → P x → Q (f x)) → (xs : List X) → All P xs → All Q (map f xs)
 all_mapped P Q f g [] h = All-nil Q

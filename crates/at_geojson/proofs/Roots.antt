@@ -1,12 +1,11 @@
 -- What an atom ends in as a whole text is the answer of each tree for which it stands.
-use Rattle.std.proofs.Common.{◌≡◌, ℕ, List, [], ◌∷◌, ◌++◌, Option, Some, None, Result, Ok, Err, refl, sym, ◌∙◌, ap, subst}
+use Rattle.std.proofs.Common.{◌≡◌, ℕ, [], ◌++◌, Option, Some, None, Result, Ok, Err, refl, sym, ◌∙◌, ap, subst}
 use Rattle.at_text.specs.Faults.{first_of, fault_at}
 use Rattle.at_text.specs.declared.faults.Fault.{Fault}
 use Rattle.at_text.specs.declared.faults.FaultKind.TheVariants.{Form}
 use Rattle.at_geom.specs.declared.shapes.Shape.{Shape}
 use Rattle.at_nest.specs.Tree.{Tree}
 use Rattle.at_nest.specs.Twins.{twins_of}
-use Rattle.at_query.specs.declared.features.Feature.{Feature}
 use Rattle.at_query.specs.declared.parts.Part.{Part}
 use Rattle.at_query.specs.Parts.{IsPart}
 use Rattle.at_geojson.specs.declared.atoms.GeoAtom.{GeoAtom}
@@ -15,9 +14,9 @@ use Rattle.at_geojson.specs.declared.atoms.Role.TheVariants as roles
 use Rattle.at_geojson.specs.declared.root.RootEnd.{RootEnd}
 use Rattle.at_geojson.specs.declared.root.RootEnd.TheVariants.{Found, Memory}
 use Rattle.at_geojson.specs.Keeping.{Asked, asked_texts}
-use Rattle.at_geojson.specs.Roles.{Features, root_reading, role_faults_of}
+use Rattle.at_geojson.specs.Roles.{Features, root_reading}
 use Rattle.at_geojson.specs.Atoms.{twin_of, at_of, role_of, HasPart, IsRoot, IsFold}
-use Rattle.at_geojson.specs.Ends.{found_end, EndsLone, EndsGeometry, EndsRole, EndsBy, EndsAtom}
+use Rattle.at_geojson.specs.Ends.{found_end, EndsGeometry, EndsRole, EndsBy, EndsAtom}
 use Rattle.at_geojson.specs.Wholes.{faults_of, IsAnswer}
 use Rattle.at_geojson.proofs.Firsts.{none_first}
 use Rattle.at_geojson.proofs.QueryFacts.{same_part}

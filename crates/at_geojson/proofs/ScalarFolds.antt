@@ -1,8 +1,8 @@
 -- What atoms of scalars are in each role.
-use Rattle.std.proofs.Common.{◌≡◌, ℕ, ◌+◌, ◌≤◌, ◌⊎◌, inl, inr, ℤ, pos, nat_abs, Bool, true, false, List, [], ◌∷◌, ◌++◌, Option, Some, None, Result, Ok, Err, option_and_then, refl, sym, ◌∙◌, ap, subst, arith, get_or}
+use Rattle.std.proofs.Common.{◌≡◌, ℕ, ◌+◌, ◌≤◌, inl, inr, ℤ, nat_abs, List, [], ◌∷◌, ◌++◌, Some, None, Result, Ok, Err, refl, sym, ◌∙◌, ap, subst, arith, get_or}
 use Rattle.std.proofs.lemmas.Bool.{true≢false}
 use Rattle.std.proofs.lemmas.Option.{none-some}
-use Rattle.at_text.specs.Faults.{fault_at, first_of}
+use Rattle.at_text.specs.Faults.{first_of}
 use Rattle.at_text.specs.Texts.{is_run}
 use Rattle.at_text.specs.declared.faults.Fault.{Fault}
 use Rattle.at_fixed.specs.declared.rounding.Coords.{Coords}
@@ -10,23 +10,21 @@ use Rattle.at_fixed.specs.declared.rounding.FixedFault.{FixedFault}
 use Rattle.at_fixed.specs.declared.rounding.FixedFault.TheVariants.{Scale, Range}
 use Rattle.at_fixed.specs.Numerals.{Numeral, JsonNumber}
 use Rattle.at_fixed.specs.Fixed.{fixed_of, IsFixedOf}
-use Rattle.at_geom.specs.Segments.{IsInRange}
 use Rattle.at_lex.specs.Strings.{Character, JsonString, units_of}
-use Rattle.at_lex.specs.Runs.{Literal, the_null, the_true, the_false, JsonRun, JsonLiteral, literal_text}
+use Rattle.at_lex.specs.Runs.{Literal, the_null, the_true, the_false, JsonRun, literal_text}
 use Rattle.at_lex.specs.Spans.{AreRun}
 use Rattle.at_lex.proofs.RunBytes.{word_run}
-use Rattle.at_wkt.specs.Positions.{value_in, faults_in, fault_of, number_fault, value_of}
+use Rattle.at_wkt.specs.Positions.{value_in, faults_in, fault_of, value_of}
 use Rattle.at_nest.specs.Folds.{IsScalarText}
 use Rattle.at_nest.specs.Tree.{Tree, literal, number, text, Spells}
 use Rattle.at_nest.proofs.OneTree.{one_tree}
-use Rattle.at_geojson.specs.declared.kinds.Kind.{Kind}
 use Rattle.at_geojson.specs.declared.atoms.GeoAtom.{GeoAtom}
 use Rattle.at_geojson.specs.declared.atoms.GeoAtom.TheVariants as atoms
 use Rattle.at_geojson.specs.declared.atoms.TextAtom.{TextAtom}
 use Rattle.at_geojson.specs.declared.atoms.NumberAtom.{NumberAtom}
 use Rattle.at_geojson.specs.Names.{kind_of_text}
 use Rattle.at_geojson.specs.Keeping.{Asked}
-use Rattle.at_geojson.specs.Atoms.{as_text, asked_text, IsRead, IsFold, IsOwn}
+use Rattle.at_geojson.specs.Atoms.{as_text, asked_text, IsFold, IsOwn}
 use Rattle.at_geojson.proofs.Ranges.{value_small}
 
 -- ---- one tree for the bytes

@@ -1,14 +1,13 @@
 -- Which items have which role, told by the sort of all of them.
-use Rattle.std.proofs.Common.{◌≡◌, ℕ, zero, suc, ◌==◌, Bool, true, false, ◌&&◌, ◌||◌, if◌then◌else◌, List, [], ◌∷◌, Option, Some, None, is_some, refl, sym, ◌∙◌, ap, subst, arith}
+use Rattle.std.proofs.Common.{◌≡◌, ℕ, suc, ◌==◌, Bool, true, false, ◌&&◌, ◌||◌, if◌then◌else◌, List, [], ◌∷◌, is_some, refl, sym, ◌∙◌, ap, arith}
 use Rattle.std.specs.List.{list_all, list_any}
-use Rattle.std.proofs.lemmas.Bool.{true≢false, eqb-true, eq-eqb}
+use Rattle.std.proofs.lemmas.Bool.{true≢false, eqb-true}
 use Rattle.at_geojson.specs.declared.atoms.GeoAtom.{GeoAtom}
 use Rattle.at_geojson.specs.declared.atoms.GeoAtom.TheVariants as atoms
 use Rattle.at_geojson.specs.declared.atoms.Role.TheVariants as roles
-use Rattle.at_geojson.specs.declared.sorts.Sort.{Sort}
 use Rattle.at_geojson.specs.declared.sorts.Sort.TheVariants as sorts
-use Rattle.at_geojson.specs.Atoms.{as_number, as_position, as_points, as_area, role_of, is_empty}
-use Rattle.at_geojson.specs.Gathering.{rank, sort_of, are_all, first_sort, sort_of_all, is_object}
+use Rattle.at_geojson.specs.Atoms.{as_number, as_position, as_points, as_area, role_of}
+use Rattle.at_geojson.specs.Gathering.{rank, sort_of, are_all, sort_of_all, is_object}
 
 -- ---- one item
 

@@ -1,9 +1,9 @@
 -- Faults of equal names are of the third tier and faults of roles of the fourth: of both, the first is the first of equal names where there is one.
-use Rattle.std.proofs.Common.{◌≡◌, ℕ, Bool, true, false, not, ◌||◌, nat_lt, if◌then◌else◌, codes, List, [], ◌∷◌, ◌++◌, length, map, flat_map, Option, Some, None, Result, Ok, Err, option_to_list, IfSome, ℤ, refl, sym, ◌∙◌, ap, subst}
+use Rattle.std.proofs.Common.{◌≡◌, ℕ, Bool, true, false, not, ◌||◌, nat_lt, if◌then◌else◌, codes, List, [], ◌∷◌, ◌++◌, length, map, flat_map, Option, Some, None, Result, Ok, Err, option_to_list, IfSome, ℤ, refl, ◌∙◌, ap, subst}
 use Rattle.std.specs.List.{AllByRecursion}
 use Rattle.at_text.specs.Faults.{comes_first, first_fault, first_of, tier_of, fault_at}
 use Rattle.at_text.specs.declared.faults.Fault.{Fault}
-use Rattle.at_text.specs.declared.faults.FaultKind.TheVariants.{Twin, Form, Short, Ring}
+use Rattle.at_text.specs.declared.faults.FaultKind.TheVariants.{Twin, Short, Ring}
 use Rattle.at_fixed.specs.declared.rounding.Coords.{Coords}
 use Rattle.at_fixed.specs.declared.rounding.FixedFault.{FixedFault}
 use Rattle.at_fixed.specs.declared.rounding.FixedFault.TheVariants.{Scale, Range}
@@ -21,7 +21,7 @@ use Rattle.at_geojson.specs.declared.kinds.Kind.{Kind}
 use Rattle.at_geojson.specs.declared.kinds.Kind.TheVariants as kinds
 use Rattle.at_geojson.specs.Names.{is_named, member_named, kind_of, items_of}
 use Rattle.at_geojson.specs.Coordinates.{geometry_of}
-use Rattle.at_geojson.specs.Roles.{Reading, not_geometry, properties_faults, coordinates_reading, kind_reading, geometry_reading, collection_reading, geometries_reading, items_reading, geometry_member_reading, feature_reading, if_feature, item_reading, all_features, features_reading, root_of_kind, root_reading, role_faults_of}
+use Rattle.at_geojson.specs.Roles.{Reading, not_geometry, properties_faults, coordinates_reading, kind_reading, geometry_reading, collection_reading, geometries_reading, items_reading, geometry_member_reading, feature_reading, if_feature, item_reading, all_features, features_reading, root_of_kind, role_faults_of}
 
 -- every fault is of the tier
 abbrev AreOf : ℕ → List Fault → Type 0

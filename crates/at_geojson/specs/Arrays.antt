@@ -1,5 +1,5 @@
 -- What is made of an array whose items are of no one sort of coordinates. Only contracts of private functions cite this.
-use Rattle.std.specs.Prelude.{◌≡◌, ℕ, ◌⊎◌, false, List, Option, Some, None}
+use Rattle.std.specs.Prelude.{◌≡◌, ℕ, ◌⊎◌, false, List, Some, None}
 use Rattle.std.specs.List.{list_any}
 use Rattle.at_nest.specs.Tree.{Trees}
 use Rattle.at_nest.specs.Folds.{AreFolds}

@@ -1,15 +1,12 @@
 -- What is kept of a value of a text in each role, and that it is what the definitions read of the value in that role.
-use Rattle.std.specs.Prelude.{◌≡◌, ℕ, ℤ, pos, Bool, true, false, if◌then◌else◌, List, [], ◌∷◌, All, map, flat_map, length, Option, Some, None, option_and_then, Result, Ok, Err}
+use Rattle.std.specs.Prelude.{◌≡◌, ℕ, ℤ, pos, Bool, true, false, if◌then◌else◌, List, [], ◌∷◌, All, map, flat_map, Option, Some, None, option_and_then, Result, Ok, Err}
 use Rattle.std.specs.Bool.{⊤}
 use Rattle.std.specs.declared.boxed.Box.{Box}
 use Rattle.std.specs.declared.alloc.Global.{Global}
-use Rattle.at_text.specs.Faults.{fault_at, first_fault, first_of}
+use Rattle.at_text.specs.Faults.{fault_at, first_of}
 use Rattle.at_text.specs.declared.faults.Fault.{Fault}
 use Rattle.at_text.specs.declared.faults.FaultKind.TheVariants.{Form}
-use Rattle.at_fixed.specs.declared.rounding.Coords.{Coords}
-use Rattle.at_fixed.specs.declared.rounding.FixedFault.{FixedFault}
 use Rattle.at_fixed.specs.Numerals.{Numeral}
-use Rattle.at_fixed.specs.Fixed.{fixed_of}
 use Rattle.at_geom.specs.declared.positions.Pos.{Pos}
 use Rattle.at_geom.specs.declared.shapes.Polygon.{Polygon}
 use Rattle.at_geom.specs.declared.shapes.Shape.{Shape}
@@ -17,9 +14,9 @@ use Rattle.at_geom.specs.Segments.{IsInRange}
 use Rattle.at_geom.specs.Shapes.{line_fault, ring_fault, ArePathsInRange, ArePolygonsInRange, IsShapeInRange}
 use Rattle.at_wkt.specs.Positions.{Position, Positions, number_fault, value_of, position_faults, items_faults, faults_of_line, faults_of_ring, pos_of, path_of}
 use Rattle.at_wkt.specs.Meaning.{empty_shape, polygons_of, faults_of_area}
-use Rattle.at_nest.specs.Tree.{Tree, literal, number, text, array, object, Trees, Members, offset_of}
+use Rattle.at_nest.specs.Tree.{Tree, literal, array, object, Trees, Members, offset_of}
 use Rattle.at_nest.specs.Twins.{twins_of}
-use Rattle.at_lex.specs.Runs.{Literal, the_null, the_true, the_false}
+use Rattle.at_lex.specs.Runs.{the_null}
 use Rattle.at_query.specs.declared.queries.Query.{Query}
 use Rattle.at_query.specs.declared.queries.Test.{Test}
 use Rattle.at_query.specs.declared.features.TextPair.{TextPair}
@@ -31,7 +28,6 @@ use Rattle.at_geojson.specs.declared.atoms.GeoAtom.{GeoAtom}
 use Rattle.at_geojson.specs.declared.atoms.GeoAtom.TheVariants as atoms
 use Rattle.at_geojson.specs.declared.atoms.Role.{Role}
 use Rattle.at_geojson.specs.declared.atoms.Role.TheVariants as roles
-use Rattle.at_geojson.specs.declared.atoms.Roles.{Roles}
 use Rattle.at_geojson.specs.declared.atoms.Items.{Items}
 use Rattle.at_geojson.specs.Names.{units_of_text, kind_of_text, items_of}
 use Rattle.at_geojson.specs.Coordinates.{number_at, position_of, positions_of, lists_of, areas_of, area_of}

@@ -1,5 +1,5 @@
 -- What is answered of the atom of a whole text, by its role.
-use Rattle.std.specs.Prelude.{◌≡◌, ℕ, List, [], ◌∷◌, Option, Some, None, Result, Ok, Err}
+use Rattle.std.specs.Prelude.{◌≡◌, ℕ, [], ◌∷◌, Option, Some, None, Result, Ok, Err}
 use Rattle.std.specs.Bool.{⊤}
 use Rattle.at_text.specs.Faults.{fault_at}
 use Rattle.at_text.specs.declared.faults.Fault.{Fault}

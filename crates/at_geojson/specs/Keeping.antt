@@ -1,5 +1,5 @@
 -- What is asked, and what has to be kept of a text to answer it: shapes and texts that no test and no verb looks at are left out.
-use Rattle.std.specs.Prelude.{ℕ, Bool, true, false, ◌&&◌, ◌||◌, if◌then◌else◌, bytes_eq, List, [], ◌∷◌, filter}
+use Rattle.std.specs.Prelude.{ℕ, Bool, true, false, ◌&&◌, ◌||◌, bytes_eq, List, [], filter}
 use Rattle.std.specs.List.{list_any}
 use Rattle.at_fixed.specs.declared.rounding.Coords.{Coords}
 use Rattle.at_geom.specs.declared.shapes.Shape.{Shape}
@@ -20,6 +20,11 @@ abbrev pub looks_at_shapes : Test → Bool
 looks_at_shapes (InBox e) = true
 looks_at_shapes (MeetsShape s) = true
 looks_at_shapes (Has name value) = false
+
+abbrev pub looks_at_texts : Test → Bool
+looks_at_texts (InBox e) = false
+looks_at_texts (MeetsShape s) = false
+looks_at_texts (Has name value) = true
 
 abbrev pub tells_shapes : Verb → Bool
 tells_shapes verbs.Select = false

@@ -1,7 +1,6 @@
 -- What the private functions make of the members of an object. Only contracts of private functions cite this.
 use Rattle.std.specs.Prelude.{◌≡◌, ◌⊎◌, ℕ, Bool, true, false, if◌then◌else◌, bytes_eq, codes, List, [], ◌∷◌, Option, Some, None, Result, Ok, Err}
-use Rattle.std.specs.Bool.{⊤}
-use Rattle.at_text.specs.Faults.{fault_at, first_fault}
+use Rattle.at_text.specs.Faults.{fault_at}
 use Rattle.at_text.specs.declared.faults.Fault.{Fault}
 use Rattle.at_text.specs.declared.faults.FaultKind.TheVariants.{Form}
 use Rattle.at_geom.specs.declared.shapes.Shape.{Shape}

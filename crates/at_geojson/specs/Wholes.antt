@@ -1,5 +1,5 @@
 -- The answer of a whole text: the part of its features where it has no fault beyond its syntax, and else the first such fault.
-use Rattle.std.specs.Prelude.{◌≡◌, ℕ, List, [], ◌++◌, Option, Some, Result, Ok, Err}
+use Rattle.std.specs.Prelude.{◌≡◌, ℕ, List, [], ◌++◌, Some, Result, Ok, Err}
 use Rattle.std.specs.Bool.{⊤}
 use Rattle.at_text.specs.Faults.{first_of}
 use Rattle.at_text.specs.declared.faults.Fault.{Fault}

@@ -1,6 +1,7 @@
 ghost use Rattle.std.specs.Prelude.{◌≡◌};
+ghost use Rattle.std.specs.List.{list_any};
 ghost use Rattle.at_query.specs.Ranges.{IsQueryInRange};
-ghost use Rattle.at_geojson.specs.Keeping.{Asked, needs_shapes as needs_of, tells_shapes as tells_of, looks_at_shapes as looks_of, asks_value as value_asked, asks_pair as pair_asked, wants_value as value_wanted, wants_pair as pair_wanted};
+ghost use Rattle.at_geojson.specs.Keeping.{Asked, needs_shapes as needs_of, tells_shapes as tells_of, looks_at_shapes as looks_of, looks_at_texts as texts_looked_at, asks_value as value_asked, asks_pair as pair_asked, wants_value as value_wanted, wants_pair as pair_wanted};
 
 use at_fixed::Coords;
 use at_query::{Query, Test, Verb};
@@ -52,6 +53,28 @@ fn needs_shapes(query: &Query) -> bool
     }
     for test in query.tests.as_slice() {
         if looks_at_shapes(test) {
+            return true;
+        }
+    }
+    false
+}
+
+/// Whether a test looks at texts.
+fn looks_at_texts(test: &Test) -> bool
+    ensures { result ≡ texts_looked_at test.now }
+{
+    match test {
+        Test::InBox(_) | Test::MeetsShape(_) => false,
+        Test::Has(_, _) => true,
+    }
+}
+
+/// Whether some test looks at texts.
+pub fn needs_texts(tests: &[Test]) -> bool
+    ensures { result ≡ list_any texts_looked_at tests.now }
+{
+    for test in tests {
+        if looks_at_texts(test) {
             return true;
         }
     }

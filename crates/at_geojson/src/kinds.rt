@@ -65,3 +65,30 @@ pub fn kind_of_units(units: &[u16]) -> Option<Kind>
         None
     }
 }
+
+/// The kind of which this is the name, in ASCII.
+pub fn kind_of_bytes(name: &[u8]) -> Option<Kind>
+    ensures { result ≡ kind_of_text name.now }
+{
+    if name == b"Point".as_slice() {
+        Some(Kind::Point)
+    } else if name == b"Feature".as_slice() {
+        Some(Kind::Feature)
+    } else if name == b"Polygon".as_slice() {
+        Some(Kind::Polygon)
+    } else if name == b"MultiPoint".as_slice() {
+        Some(Kind::MultiPoint)
+    } else if name == b"LineString".as_slice() {
+        Some(Kind::LineString)
+    } else if name == b"MultiPolygon".as_slice() {
+        Some(Kind::MultiPolygon)
+    } else if name == b"MultiLineString".as_slice() {
+        Some(Kind::MultiLineString)
+    } else if name == b"FeatureCollection".as_slice() {
+        Some(Kind::FeatureCollection)
+    } else if name == b"GeometryCollection".as_slice() {
+        Some(Kind::GeometryCollection)
+    } else {
+        None
+    }
+}

@@ -1,17 +1,21 @@
-ghost use Rattle.std.specs.Prelude.{◌≡◌, ℕ, ◌+◌, ◌≤◌, ◌^◌, length, get_or, true, Some, None, IfOk};
+ghost use Rattle.std.specs.Prelude.{◌≡◌, ℕ, ◌+◌, ◌≤◌, ◌^◌, length, get_or, true, false, Some, None, IfOk};
+ghost use Rattle.std.specs.List.{list_all, list_any};
 ghost use Rattle.at_fixed.specs.Numerals.{JsonNumber};
+ghost use Rattle.at_fixed.specs.Fixed.{IsFixedOf};
 ghost use Rattle.at_lex.specs.Strings.{JsonString};
 ghost use Rattle.at_lex.specs.Runs.{JsonRun};
 ghost use Rattle.at_text.specs.Faults.{fault_at};
 ghost use Rattle.at_wkt.specs.Positions.{fault_of};
 ghost use Rattle.at_nest.specs.Tree.{Tree, Spells};
 ghost use Rattle.at_nest.specs.Folds.{IsScalarText};
+ghost use Rattle.at_geojson.specs.Keeping.{looks_at_texts};
+ghost use Rattle.at_geojson.specs.Gathering.{is_simple as simple_byte};
 ghost use Rattle.at_geojson.specs.Atoms.{unboxed, asked_units as units_asked, IsOwn, IsFold};
 
-use crate::asked::{GeoAlgebra, asks_value};
+use crate::asked::{GeoAlgebra, asks_value, needs_texts};
 use crate::atoms::{GeoAtom, NumberAtom, TextAtom};
-use crate::kinds::kind_of_units;
-use at_fixed::{FixedFault, read_fixed};
+use crate::kinds::{kind_of_bytes, kind_of_units};
+use at_fixed::{Coords, FixedFault, Notation, plain_number, read_fixed};
 use at_lex::{RunEnd, Units, check_run, units};
 use at_query::Test;
 use at_text::{Fault, FaultKind, Memory};
@@ -44,8 +48,13 @@ fn asked_units(alloc: Global, tests: &[Test], units: Units) -> Result<Option<Box
     }
 }
 
-/// A string that begins at the offset.
-fn text_atom(algebra: &GeoAlgebra, alloc: Global, text: &[u8], at: u32) -> Result<GeoAtom, Memory>
+/// A string that begins at the offset, by its units.
+fn decoded_atom(
+    algebra: &GeoAlgebra,
+    alloc: Global,
+    text: &[u8],
+    at: u32,
+) -> Result<GeoAtom, Memory>
     requires string { JsonString text.now }
     requires fits { length text.now ≤ 2 ^ 28 }
     ensures own { IfOk result (IsOwn algebra.now) }
@@ -57,6 +66,60 @@ fn text_atom(algebra: &GeoAlgebra, alloc: Global, text: &[u8], at: u32) -> Resul
     Ok(GeoAtom::Text(TextAtom { at, kind, units }))
 }
 
+/// Whether each byte stands for the unit of its own number.
+fn is_simple(text: &[u8]) -> bool
+    ensures { result ≡ list_all simple_byte text.now }
+{
+    for b in text {
+        if *b >= 0x80 || *b == b'\\' {
+            return false;
+        }
+    }
+    true
+}
+
+/// A string of ASCII without escapes that begins at the offset, where no test looks at texts.
+fn simple_atom(algebra: &GeoAlgebra, text: &[u8], at: u32) -> GeoAtom
+    requires string { JsonString text.now }
+    requires simple { list_all simple_byte text.now ≡ true }
+    requires unasked { list_any looks_at_texts algebra.now.query.tests ≡ false }
+    ensures own { IsOwn algebra.now result }
+    ensures fold { (t : Tree) → Spells at text.now t → IsFold algebra.now result t }
+{
+    GeoAtom::Text(TextAtom {
+        at,
+        kind: kind_of_bytes(&text[1..text.len() - 1]),
+        units: None,
+    })
+}
+
+/// A string that begins at the offset.
+fn text_atom(algebra: &GeoAlgebra, alloc: Global, text: &[u8], at: u32) -> Result<GeoAtom, Memory>
+    requires string { JsonString text.now }
+    requires fits { length text.now ≤ 2 ^ 28 }
+    ensures own { IfOk result (IsOwn algebra.now) }
+    ensures fold { IfOk result (λ atom. (t : Tree) → Spells at text.now t → IsFold algebra.now atom t) }
+{
+    if !needs_texts(algebra.query().tests.as_slice()) && is_simple(text) {
+        return Ok(simple_atom(algebra, text, at));
+    }
+    decoded_atom(algebra, alloc, text, at)
+}
+
+/// The value of a number.
+fn number_value(text: &[u8], digits: u8, how: Coords) -> Result<i64, FixedFault>
+    requires number { JsonNumber text.now }
+    requires fits { length text.now ≤ 2 ^ 28 }
+    ensures { IsFixedOf text.now digits how result }
+{
+    if let Some(plain) = plain_number(text, Notation::Json, digits, how)
+        && plain.len as usize == text.len()
+    {
+        return Ok(plain.value);
+    }
+    read_fixed(text, digits, how)
+}
+
 /// A number that begins at the offset.
 fn number_atom(algebra: &GeoAlgebra, text: &[u8], at: u32) -> GeoAtom
     requires number { JsonNumber text.now }
@@ -64,7 +127,7 @@ fn number_atom(algebra: &GeoAlgebra, text: &[u8], at: u32) -> GeoAtom
     ensures own { IsOwn algebra.now result }
     ensures fold { (t : Tree) → Spells at text.now t → IsFold algebra.now result t }
 {
-    match read_fixed(text, algebra.digits(), algebra.how()) {
+    match number_value(text, algebra.digits(), algebra.how()) {
         Ok(value) => GeoAtom::Number(NumberAtom { at, value }),
         Err(why) => GeoAtom::BadNumber(number_fault(why, at)),
     }

@@ -1,11 +1,81 @@
+ghost use Rattle.std.specs.Prelude.{◌≡◌, ◌≤◌, ◌<◌, ◌^◌, length, IfOk};
+ghost use Rattle.at_query.specs.Ranges.{IsQueryInRange};
+ghost use Rattle.at_nest.specs.Holding.{Kept};
+ghost use Rattle.at_nest.specs.Standing.{StandsFor, part_of};
+ghost use Rattle.at_geojson.specs.Atoms.{IsOwn, IsFold};
+
 use super::*;
 use at_fixed::Coords;
-use at_nest::{NestEnd, finish_span, merge, run_block};
-use at_query::{Query, answer_of, answer_text, read_query};
+use at_nest::{Fragment, NestEnd, finish_span, merge, run_block};
+use at_query::{Part, Query, answer_of, answer_text, read_query};
 use at_text::{Fault, Span};
 use std::alloc::Global;
 use std::process::Abort;
 use std::test::Fail;
+
+fn read(alloc: Global, line: &[u8]) -> Result<Query, Fail>
+    requires { length line.now < 100 }
+    ensures { IfOk result IsQueryInRange }
+{
+    match read_query(alloc, line, 7, Coords::Round) {
+        Ok(query) => Ok(query),
+        Err(_) => Err(Fail::from("the line is refused")),
+    }
+}
+
+fn piece(
+    alloc: Global,
+    algebra: &GeoAlgebra,
+    bytes: &[u8],
+    from: u32,
+    to: u32,
+) -> Fragment<GeoAlgebra>
+    requires fits { length bytes.now ≤ 2 ^ 28 }
+    requires order { from ≤ to }
+    requires end { to ≤ length bytes.now }
+    ensures { StandsFor (Kept (IsOwn algebra.now) (IsFold algebra.now)) from (part_of bytes.now from to) result }
+{
+    run_block(alloc, algebra, &bytes[from as usize..to as usize], from)
+}
+
+/// The fragment of a text, from those of its two parts.
+fn joined(
+    alloc: Global,
+    algebra: &GeoAlgebra,
+    bytes: &[u8],
+    at: u32,
+    to: u32,
+    left: Fragment<GeoAlgebra>,
+    right: Fragment<GeoAlgebra>,
+) -> Fragment<GeoAlgebra>
+    requires fits { length bytes.now ≤ 2 ^ 28 }
+    requires order { at ≤ to }
+    requires end { to ≤ length bytes.now }
+    requires left { StandsFor (Kept (IsOwn algebra.now) (IsFold algebra.now)) 0 (part_of bytes.now 0 at) left }
+    requires right { StandsFor (Kept (IsOwn algebra.now) (IsFold algebra.now)) at (part_of bytes.now at to) right }
+    ensures { StandsFor (Kept (IsOwn algebra.now) (IsFold algebra.now)) 0 (part_of bytes.now 0 to) result }
+{
+    merge(alloc, algebra, bytes, left, right)
+}
+
+/// What stands for a text that is cut at the place.
+fn cut_at(
+    alloc: Global,
+    algebra: &GeoAlgebra,
+    bytes: &[u8],
+    at: u32,
+    to: u32,
+) -> Result<GeoAtom, NestEnd>
+    requires fits { length bytes.now ≤ 2 ^ 28 }
+    requires order { at ≤ to }
+    requires end { to ≤ length bytes.now }
+    ensures { IfOk result (IsOwn algebra.now) }
+{
+    let left = piece(alloc, algebra, bytes, 0, at);
+    let right = piece(alloc, algebra, bytes, at, to);
+    let whole = joined(alloc, algebra, bytes, at, to, left, right);
+    finish_span(alloc, algebra, bytes, Span { from: 0, to }, whole)
+}
 
 fn fault_text(alloc: Global, fault: Fault) -> Result<String, Fail> {
     let kind = fault.kind;
@@ -13,237 +83,240 @@ fn fault_text(alloc: Global, fault: Fault) -> Result<String, Fail> {
     Ok(format!(in alloc; "{kind:?} at {at}")?)
 }
 
-fn read(alloc: Global, line: &str) -> Result<Query, Fail> {
-    match read_query(alloc, line.as_bytes(), 7, Coords::Round) {
-        Ok(query) => Ok(query),
-        Err(_) => Err(Fail::from("the line is refused")),
+fn part_text(alloc: Global, part: Part) -> Result<String, Fail> {
+    if let Part::Entries(_) = part {
+        return Err(Fail::from("a join has no answer of its own"));
+    }
+    Ok(answer_text(alloc, &answer_of(part), 7)?)
+}
+
+fn root_text(alloc: Global, algebra: &GeoAlgebra, atom: GeoAtom) -> Result<String, Fail>
+    requires { IsOwn algebra.now atom }
+{
+    match root_part(alloc, algebra, atom) {
+        Ok(part) => part_text(alloc, part),
+        Err(RootEnd::Found(fault)) => fault_text(alloc, fault),
+        Err(RootEnd::Memory) => Err(Fail::from("no memory")),
     }
 }
 
-/// What a text is found to be, cut at the place.
-fn told(alloc: Global, line: &str, bytes: &[u8], how: Coords, cut: usize) -> Result<String, Fail> {
+/// What is told of a text that is cut at the place.
+fn told(alloc: Global, line: &[u8], bytes: &[u8], how: Coords, at: u32) -> Result<String, Fail>
+    requires line { length line.now < 100 }
+    requires fits { length bytes.now < 1000 }
+    requires end { at ≤ length bytes.now }
+{
     let algebra = GeoAlgebra::new(read(alloc, line)?, 7, how);
-    let left = run_block(alloc, &algebra, &bytes[..cut], 0);
-    let right = run_block(alloc, &algebra, &bytes[cut..], cut as u32);
-    let whole = merge(alloc, &algebra, bytes, left, right);
-    let span = Span {
-        from: 0,
-        to: bytes.len() as u32,
-    };
-    match finish_span(alloc, &algebra, bytes, span, whole) {
-        Ok(atom) => match root_part(alloc, &algebra, atom) {
-            Ok(part) => Ok(answer_text(alloc, &answer_of(part), 7)?),
-            Err(RootEnd::Found(fault)) => fault_text(alloc, fault),
-            Err(RootEnd::Memory) => Err(Fail::from("no memory")),
-        },
+    match cut_at(alloc, &algebra, bytes, at, bytes.len() as u32) {
+        Ok(atom) => root_text(alloc, &algebra, atom),
         Err(NestEnd::Ended) => Ok(String::from_str(alloc, "Ended")?),
         Err(NestEnd::Syntax(at)) => Ok(format!(in alloc; "Syntax at {at}")?),
         Err(NestEnd::Memory) => Err(Fail::from("no memory")),
     }
 }
 
-/// A row: the query line, the text, whether coordinates are exact, and what is told.
-type Row = (&'static str, &'static str, bool, &'static str);
+/// A query, a text, and what is told of it, wherever it is cut.
+type Row = (&'static [u8], &'static [u8], &'static str);
 
 fn compare<R: Abort + AllocGlobal>(rt: &R, row: Row) -> Result<(), Fail> {
-    let how = if row.2 { Coords::Exact } else { Coords::Round };
-    let bytes = row.1.as_bytes();
-    for cut in 0..bytes.len() + 1 {
-        let found = told(rt.alloc(), row.0, bytes, how, cut)?;
-        assert_eq!(rt; found.as_str(), row.3, "{cut} of {}", row.1);
+    assert!(rt; row.0.len() < 100);
+    assert!(rt; row.1.len() < 1000);
+    for at in 0..row.1.len() as u32 + 1 {
+        let found = told(rt.alloc(), row.0, row.1, Coords::Round, at)?;
+        assert_eq!(rt; found.as_str(), row.2, "{at}");
     }
     Ok(())
 }
 
-fn compare_all<R: Abort + AllocGlobal>(rt: &R, rows: &[Row]) -> Result<(), Fail> {
+fn compare_rows<R: Abort + AllocGlobal>(rt: &R, rows: &[Row]) -> Result<(), Fail> {
     for row in rows {
         compare(rt, *row)?;
     }
     Ok(())
 }
 
+/// Texts that are no JSON.
 #[test]
-fn small(rt: HostRuntime) -> Result<(), Fail> {
-    compare_all(
-        &rt,
-        &[
-            (
-                "count",
-                "{\"type\":\"FeatureCollection\",\"features\":[",
-                false,
-                "Ended",
-            ),
-            (
-                "select",
-                "{\"type\":\"FeatureCollection\",\"features\":[{\"type\":\"Feature\",\"geometry\":null,\"properties\":null}]}",
-                false,
-                "40\n",
-            ),
-            ("count", "{\"a\":1,\"\\u0061\":2}", false, "Twin at 7"),
-            ("count", "{}", false, "Form at 0"),
-            (
-                "select where has \"k\" = \"a\\\"b}]{\"",
-                "{\"type\":\"Feature\",\"properties\":{\"k\":\"a\\\"b}]{\"},\"geometry\":null}",
-                false,
-                "0\n",
-            ),
-            (
-                "select where has \"k\" = \"other\"",
-                "{\"type\":\"Feature\",\"properties\":{\"k\":\"a\\\"b}]{\"},\"geometry\":null}",
-                false,
-                "",
-            ),
-            (
-                "count",
-                "{\"type\":\"Feature\",\"properties\":{\"x\":{\"type\":\"Feature\",\"geometry\":{\"type\":\"Point\",\"coordinates\":[1]},\"properties\":null}},\"geometry\":null}",
-                false,
-                "1\n",
-            ),
-            (
-                "count",
-                "{\"type\":\"FeatureCollection\",\"features\":[{\"geometry\":{\"coordinates\":[],\"type\":\"Polygon\"},\"type\":\"Feature\"},{\"type\":\"Feature\",\"geometry\":null}]}",
-                false,
-                "2\n",
-            ),
-            (
-                "extent",
-                "{\"type\":\"FeatureCollection\",\"features\":[{\"geometry\":{\"coordinates\":[],\"type\":\"Polygon\"},\"type\":\"Feature\"},{\"type\":\"Feature\",\"geometry\":null}]}",
-                false,
-                "empty\n",
-            ),
-            (
-                "count",
-                "{\"type\":\"Polygon\",\"coordinates\":[[[0,0],[1,0],[1,1],[0,1]]]}",
-                false,
-                "Ring at 33",
-            ),
-            (
-                "count",
-                "{\"type\":\"Point\",\"coordinates\":[1]}",
-                false,
-                "Form at 30",
-            ),
-        ],
-    )
+fn syntax(rt: HostRuntime) -> Result<(), Fail> {
+    let rows: [Row; 5] = [
+        (
+            b"count",
+            b"{\"type\":\"FeatureCollection\",\"features\":[",
+            "Ended",
+        ),
+        (b"count", b"{\"a\":tru}", "Syntax at 8"),
+        (b"count", b"{\"a\":-}", "Syntax at 6"),
+        (b"count", b"01", "Syntax at 1"),
+        (b"count", b"tru", "Ended"),
+    ];
+    compare_rows(&rt, &rows)
 }
 
+/// Equal names, also among many.
 #[test]
-fn forms(rt: HostRuntime) -> Result<(), Fail> {
-    compare_all(
-        &rt,
-        &[
-            (
-                "count",
-                "{\"type\":\"MultiPolygon\",\"coordinates\":[[]]}",
-                false,
-                "Form at 37",
-            ),
-            (
-                "count",
-                "{\"type\":\"MultiPolygon\",\"coordinates\":[[[]]]}",
-                false,
-                "Ring at 39",
-            ),
-            (
-                "count",
-                "{\"type\":\"MultiLineString\",\"coordinates\":[[]]}",
-                false,
-                "Short at 41",
-            ),
-            (
-                "count",
-                "{\"type\":\"LineString\",\"coordinates\":[[]]}",
-                false,
-                "Form at 35",
-            ),
-            (
-                "area",
-                "{\"type\":\"Polygon\",\"coordinates\":[[[0,0],[1,0],[1,1],[0,1],[0,0]]]}",
-                false,
-                "200000000000000\n",
-            ),
-            (
-                "extent",
-                "{\"type\":\"GeometryCollection\",\"geometries\":[{\"type\":\"LineString\",\"coordinates\":[[1,2],[3,4]]},{\"type\":\"Point\",\"coordinates\":[9,-1,7]}]}",
-                false,
-                "1.0000000 -1.0000000 9.0000000 4.0000000\n",
-            ),
-            (
-                "count",
-                "{\"type\":\"GeometryCollection\",\"geometries\":[{\"type\":\"LineString\",\"coordinates\":[[1,2]]},{\"type\":\"Point\"}]}",
-                false,
-                "Short at 78",
-            ),
-            (
-                "count",
-                "{\"type\":\"GeometryCollection\",\"geometries\":[1,{}]}",
-                false,
-                "Form at 43",
-            ),
-            (
-                "count",
-                "{\"type\":\"FeatureCollection\",\"features\":{}}",
-                false,
-                "Form at 0",
-            ),
-            (
-                "count",
-                "{\"type\":\"FeatureCollection\",\"features\":[{\"type\":\"Point\",\"coordinates\":[]}]}",
-                false,
-                "Form at 40",
-            ),
-            (
-                "count",
-                "{\"type\":\"Feature\",\"properties\":[],\"geometry\":3}",
-                false,
-                "Form at 31",
-            ),
-            (
-                "count",
-                "[{\"a\":[{\"b\":1,\"b\":2}]},{\"c\":1,\"c\":2}]",
-                false,
-                "Twin at 14",
-            ),
-        ],
-    )
+fn names(rt: HostRuntime) -> Result<(), Fail> {
+    let rows: [Row; 5] = [
+        (b"count", b"{\"a\":1,\"\\u0061\":2}", "Twin at 7"),
+        (b"count", b"{}", "Form at 0"),
+        (
+            b"count",
+            b"[{\"a\":[{\"b\":1,\"b\":2}]},{\"c\":1,\"c\":2}]",
+            "Twin at 14",
+        ),
+        (
+            b"count",
+            b"{\"a\":0,\"b\":0,\"c\":0,\"d\":0,\"e\":0,\"f\":0,\"g\":0,\"h\":0,\"i\":0,\"j\":0,\"k\":0,\"l\":0,\"m\":0,\"n\":0,\"o\":0,\"p\":0,\"q\":0}",
+            "Form at 0",
+        ),
+        (
+            b"count",
+            b"{\"a\":0,\"b\":0,\"c\":0,\"d\":0,\"e\":0,\"f\":0,\"g\":0,\"h\":0,\"i\":0,\"j\":0,\"k\":0,\"l\":0,\"m\":0,\"n\":0,\"o\":0,\"p\":0,\"q\":0,\"b\":1,\"a\":{\"x\":1,\"x\":2}}",
+            "Twin at 103",
+        ),
+    ];
+    compare_rows(&rt, &rows)
 }
 
-const PLACES: &str =
-    "{\n\"type\": \"FeatureCollection\",\n\"name\": \"places\",\n\"crs\": { \"type\": \"name\", \"properties\": { \"name\": \"urn:ogc:def:crs:OGC:1.3:CRS84\" } },\n\"features\": [\n{ \"type\": \"Feature\", \"properties\": { \"name\": \"Ulm\" }, \"geometry\": { \"type\": \"Point\", \"coordinates\": [ 9.987654321012345, 48.4 ] } },\n{ \"type\": \"Feature\", \"properties\": { \"name\": \"Bonn\" }, \"geometry\": { \"type\": \"Point\", \"coordinates\": [ 7.1, 50.733333333333334 ] } },\n{ \"type\": \"Feature\", \"properties\": { \"name\": \"Jena\" }, \"geometry\": null }\n]\n}\n";
+/// Features and what they are not.
+#[test]
+fn features(rt: HostRuntime) -> Result<(), Fail> {
+    let rows: [Row; 9] = [
+        (
+            b"select",
+            b"{\"type\":\"FeatureCollection\",\"features\":[{\"type\":\"Feature\",\"geometry\":null,\"properties\":null}]}",
+            "40\n",
+        ),
+        (
+            b"select where has \"k\" = \"a\\\"b}]{\"",
+            b"{\"type\":\"Feature\",\"properties\":{\"k\":\"a\\\"b}]{\"},\"geometry\":null}",
+            "0\n",
+        ),
+        (
+            b"select where has \"k\" = \"other\"",
+            b"{\"type\":\"Feature\",\"properties\":{\"k\":\"a\\\"b}]{\"},\"geometry\":null}",
+            "",
+        ),
+        (
+            b"count",
+            b"{\"type\":\"Feature\",\"properties\":{\"x\":{\"type\":\"Feature\",\"geometry\":{\"type\":\"Point\",\"coordinates\":[1]},\"properties\":null}},\"geometry\":null}",
+            "1\n",
+        ),
+        (
+            b"count",
+            b"{\"type\":\"FeatureCollection\",\"features\":[{\"geometry\":{\"coordinates\":[],\"type\":\"Polygon\"},\"type\":\"Feature\"},{\"type\":\"Feature\",\"geometry\":null}]}",
+            "2\n",
+        ),
+        (
+            b"extent",
+            b"{\"type\":\"FeatureCollection\",\"features\":[{\"geometry\":{\"coordinates\":[],\"type\":\"Polygon\"},\"type\":\"Feature\"},{\"type\":\"Feature\",\"geometry\":null}]}",
+            "empty\n",
+        ),
+        (
+            b"count",
+            b"{\"type\":\"FeatureCollection\",\"features\":{}}",
+            "Form at 0",
+        ),
+        (
+            b"count",
+            b"{\"type\":\"FeatureCollection\",\"features\":[{\"type\":\"Point\",\"coordinates\":[]}]}",
+            "Form at 40",
+        ),
+        (
+            b"count",
+            b"{\"type\":\"Feature\",\"properties\":[],\"geometry\":3}",
+            "Form at 31",
+        ),
+    ];
+    compare_rows(&rt, &rows)
+}
 
-fn compare_few<R: Abort + AllocGlobal>(rt: &R, row: Row) -> Result<(), Fail> {
-    let how = if row.2 { Coords::Exact } else { Coords::Round };
-    for cut in [0, 100, 200, 254, 300, 494] {
-        let found = told(rt.alloc(), row.0, row.1.as_bytes(), how, cut)?;
-        assert_eq!(rt; found.as_str(), row.3, "{cut}");
+/// Geometries and what is wrong with them.
+#[test]
+fn shapes(rt: HostRuntime) -> Result<(), Fail> {
+    let rows: [Row; 10] = [
+        (
+            b"count",
+            b"{\"type\":\"Polygon\",\"coordinates\":[[[0,0],[1,0],[1,1],[0,1]]]}",
+            "Ring at 33",
+        ),
+        (
+            b"count",
+            b"{\"type\":\"Point\",\"coordinates\":[1]}",
+            "Form at 30",
+        ),
+        (
+            b"count",
+            b"{\"type\":\"MultiPolygon\",\"coordinates\":[[]]}",
+            "Form at 37",
+        ),
+        (
+            b"count",
+            b"{\"type\":\"MultiPolygon\",\"coordinates\":[[[]]]}",
+            "Ring at 39",
+        ),
+        (
+            b"count",
+            b"{\"type\":\"MultiLineString\",\"coordinates\":[[]]}",
+            "Short at 41",
+        ),
+        (
+            b"count",
+            b"{\"type\":\"LineString\",\"coordinates\":[[]]}",
+            "Form at 35",
+        ),
+        (
+            b"area",
+            b"{\"type\":\"Polygon\",\"coordinates\":[[[0,0],[1,0],[1,1],[0,1],[0,0]]]}",
+            "200000000000000\n",
+        ),
+        (
+            b"extent",
+            b"{\"type\":\"GeometryCollection\",\"geometries\":[{\"type\":\"LineString\",\"coordinates\":[[1,2],[3,4]]},{\"type\":\"\\u0050oint\",\"coordinates\":[90e-1,-1,7]}]}",
+            "1.0000000 -1.0000000 9.0000000 4.0000000\n",
+        ),
+        (
+            b"count",
+            b"{\"type\":\"GeometryCollection\",\"geometries\":[{\"type\":\"LineString\",\"coordinates\":[[1,2]]},{\"type\":\"Point\"}]}",
+            "Short at 78",
+        ),
+        (
+            b"count",
+            b"{\"type\":\"GeometryCollection\",\"geometries\":[1,{}]}",
+            "Form at 43",
+        ),
+    ];
+    compare_rows(&rt, &rows)
+}
+
+/// A file in the layout of a common converter.
+const PLACES: &[u8] =
+    b"{\n\"type\": \"FeatureCollection\",\n\"name\": \"places\",\n\"crs\": { \"type\": \"name\", \"properties\": { \"name\": \"urn:ogc:def:crs:OGC:1.3:CRS84\" } },\n\"features\": [\n{ \"type\": \"Feature\", \"properties\": { \"name\": \"Ulm\" }, \"geometry\": { \"type\": \"Point\", \"coordinates\": [ 9.987654321012345, 48.4 ] } },\n{ \"type\": \"Feature\", \"properties\": { \"name\": \"Bonn\" }, \"geometry\": { \"type\": \"Point\", \"coordinates\": [ 7.1, 50.733333333333334 ] } },\n{ \"type\": \"Feature\", \"properties\": { \"name\": \"Jena\" }, \"geometry\": null }\n]\n}\n";
+
+/// Whether the file is told so, cut at each of the places.
+fn compare_places<R: Abort + AllocGlobal>(
+    rt: &R,
+    how: Coords,
+    rows: &[(&'static [u8], &'static str)],
+) -> Result<(), Fail> {
+    for row in rows {
+        assert!(rt; row.0.len() < 100);
+        for at in [0, 100, 200, 254, 300, 494] {
+            let found = told(rt.alloc(), row.0, PLACES, how, at)?;
+            assert_eq!(rt; found.as_str(), row.1, "{at}");
+        }
     }
     Ok(())
 }
 
 #[test]
 fn places(rt: HostRuntime) -> Result<(), Fail> {
-    compare_few(&rt, ("select", PLACES, false, "149\n282\n416\n"))?;
-    compare_few(
-        &rt,
-        (
-            "extent",
-            PLACES,
-            false,
-            "7.1000000 48.4000000 9.9876543 50.7333333\n",
-        ),
-    )?;
-    compare_few(
-        &rt,
-        (
-            "select where has \"name\" = \"Bonn\"",
-            PLACES,
-            false,
-            "282\n",
-        ),
-    )?;
-    compare_few(
-        &rt,
-        ("select where in box(7 48,10 49)", PLACES, false, "149\n"),
-    )?;
-    compare_few(&rt, ("select", PLACES, true, "Scale at 251"))
+    let rows: [(&'static [u8], &'static str); 4] = [
+        (b"select", "149\n282\n416\n"),
+        (b"extent", "7.1000000 48.4000000 9.9876543 50.7333333\n"),
+        (b"select where has \"name\" = \"Bonn\"", "282\n"),
+        (b"select where in box(7 48,10 49)", "149\n"),
+    ];
+    compare_places(&rt, Coords::Round, &rows)?;
+    let exact: [(&'static [u8], &'static str); 1] = [(b"select", "Scale at 251")];
+    compare_places(&rt, Coords::Exact, &exact)
 }

@@ -1,4 +1,4 @@
-use Rattle.std.proofs.Common.{◌≡◌, take, drop, map}
+use Rattle.std.proofs.Common.{◌≡◌, take}
 use Rattle.at_geojson.specs.Gathering.{firsts}
 use Rattle.at_geojson.specs.Gathering.{area_fault}
 use Rattle.at_geojson.proofs.coordinates.areas_fault.Given as goal

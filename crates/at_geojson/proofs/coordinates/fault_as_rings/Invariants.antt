@@ -1,4 +1,4 @@
-use Rattle.std.proofs.Common.{◌≡◌, take, drop, map}
+use Rattle.std.proofs.Common.{◌≡◌, take}
 use Rattle.at_geojson.specs.Gathering.{firsts}
 use Rattle.at_geojson.specs.Gathering.{fault_as_ring}
 use Rattle.at_geojson.proofs.coordinates.fault_as_rings.Given as goal

@@ -1,4 +1,4 @@
-use Rattle.std.proofs.Common.{◌≡◌, take, drop, map}
+use Rattle.std.proofs.Common.{◌≡◌, map}
 use Rattle.at_geojson.specs.Gathering.{path_in}
 use Rattle.at_geojson.proofs.coordinates.into_paths.Given as goal
 

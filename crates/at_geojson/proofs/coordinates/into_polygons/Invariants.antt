@@ -1,4 +1,4 @@
-use Rattle.std.proofs.Common.{◌≡◌, take, drop, map}
+use Rattle.std.proofs.Common.{◌≡◌, map}
 use Rattle.at_geojson.specs.Gathering.{polygon_in}
 use Rattle.at_geojson.proofs.coordinates.into_polygons.Given as goal
 

@@ -1,4 +1,4 @@
-use Rattle.std.proofs.Common.{◌≡◌, take, drop, map}
+use Rattle.std.proofs.Common.{◌≡◌, take, map}
 use Rattle.at_geojson.specs.Gathering.{position_value}
 use Rattle.at_geojson.proofs.coordinates.path_of.Given as goal
 

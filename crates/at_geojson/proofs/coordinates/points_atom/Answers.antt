@@ -1,4 +1,4 @@
-use Rattle.std.proofs.Common.{◌≡◌, length, refl, sym, ◌∙◌, ap}
+use Rattle.std.proofs.Common.{length, refl, ◌∙◌, ap}
 use Rattle.at_text.specs.Faults.{first_fault}
 use Rattle.at_geom.specs.Shapes.{line_fault, ring_fault}
 use Rattle.at_geojson.specs.declared.atoms.Points.{Points}

@@ -1,7 +1,7 @@
-use Rattle.std.proofs.Common.{◌≡◌, ◌∷◌, ◌++◌, List, refl, sym, ◌∙◌, ap, subst}
+use Rattle.std.proofs.Common.{◌++◌, List, sym, ◌∙◌, ap, subst}
 use Rattle.std.specs.Vec.Iter.{into_iter_items}
 use Rattle.at_geojson.specs.declared.atoms.GeoAtom.{GeoAtom}
-use Rattle.at_geojson.specs.Atoms.{IsOwn, IfOwnShape, IfOwnPart}
+use Rattle.at_geojson.specs.Atoms.{IfOwnShape, IfOwnPart}
 use Rattle.at_geojson.proofs.OwnFolds.{own_geometry, own_item, own_middle, joinable, shapes_own, parts_own}
 use Rattle.at_geojson.proofs.ItemFolds.{taken_front, one_item_more}
 use Rattle.at_geojson.proofs.lists.all_items.Goals as goal

@@ -1,8 +1,5 @@
-use Rattle.std.proofs.Common.{◌≡◌, refl, sym, ◌∙◌, ap, subst}
+use Rattle.std.proofs.Common.{sym, ◌∙◌, ap, subst}
 use Rattle.std.proofs.lemmas.Result.{IfOk-weaker}
-use Rattle.at_query.specs.declared.queries.Query.{Query}
-use Rattle.at_geojson.specs.declared.sorts.Sort.TheVariants as sorts
-use Rattle.at_geojson.specs.Keeping.{needs_shapes}
 use Rattle.at_geojson.specs.Gathering.{least_of, sort_of_all, MakesPoints, MakesLists, MakesAreas}
 use Rattle.at_geojson.proofs.OwnFolds.{points_own, lists_own, areas_own}
 use Rattle.at_geojson.proofs.ArrayAnswers.{points_fold, lists_fold, areas_fold, items_fold, numbers_fold}

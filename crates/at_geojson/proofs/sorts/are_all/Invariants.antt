@@ -1,4 +1,4 @@
-use Rattle.std.proofs.Common.{◌≡◌, take, drop, map}
+use Rattle.std.proofs.Common.{◌≡◌, drop}
 use Rattle.at_geojson.specs.Gathering.{are_all}
 use Rattle.at_geojson.proofs.sorts.are_all.Given as goal
 

@@ -1,4 +1,4 @@
-use Rattle.std.proofs.Common.{◌≡◌, take, drop, map}
+use Rattle.std.proofs.Common.{◌≡◌, take}
 use Rattle.at_geojson.specs.Gathering.{firsts}
 use Rattle.at_geojson.specs.Atoms.{twin_of}
 use Rattle.at_geojson.proofs.twins.first_twin.Given as goal

@@ -1,4 +1,4 @@
-use Rattle.std.proofs.Common.{◌≡◌, ◌+◌, not, [], drop, take, sym, ◌∙◌, ap}
+use Rattle.std.proofs.Common.{◌+◌, drop, take, ◌∙◌, ap}
 use Rattle.at_text.specs.Faults.{first_fault}
 use Rattle.at_geojson.specs.Gathering.{is_among, twin_at, member_twins}
 use Rattle.at_geojson.proofs.TwinSteps.{one_member_more, set_more, negated}

@@ -1,4 +1,4 @@
-use Rattle.std.proofs.Common.{◌≡◌, take, drop, map}
+use Rattle.std.proofs.Common.{◌≡◌, drop}
 use Rattle.at_geojson.specs.Gathering.{is_among}
 use Rattle.at_geojson.proofs.twins.is_among.Given as goal
 

@@ -1,5 +1,4 @@
-use Rattle.std.proofs.Common.{◌≡◌, refl, sym, ◌∙◌, ap}
-use Rattle.at_lex.specs.Strings.{units_of}
+use Rattle.std.proofs.Common.{refl, ◌∙◌, ap}
 use Rattle.at_nest.specs.Tree.{text}
 use Rattle.at_geojson.specs.declared.atoms.GeoAtom.TheVariants.{Text}
 use Rattle.at_geojson.specs.declared.atoms.TextAtom.{TextAtom}
@@ -7,7 +6,7 @@ use Rattle.at_query.specs.declared.queries.Query.{Query}
 use Rattle.at_geojson.specs.Names.{kind_of_text}
 use Rattle.at_geojson.specs.Atoms.{asked_units}
 use Rattle.at_geojson.proofs.ScalarFolds.{folds_one, text_folds}
-use Rattle.at_geojson.proofs.scalars.text_atom.Goals as goal
+use Rattle.at_geojson.proofs.scalars.decoded_atom.Goals as goal
 
 pub returns-clause-fold : goal.returns-clause-fold
 returns-clause-fold c =
