@@ -1,5 +1,5 @@
 -- What is known of the bytes of a front, and of the byte behind them.
-use Rattle.std.proofs.Common.{◌≡◌, ℕ, zero, suc, ◌+◌, ◌-◌, ◌<◌, ◌≤◌, List, [], ◌∷◌, length, take, drop, slice_index, Bool, true, false, IsTrue, refl, sym, ◌∙◌, ap, subst, arith, length-drop, get_or-take, get_or-drop}
+use Rattle.std.proofs.Common.{◌≡◌, ℕ, zero, suc, ◌+◌, ◌-◌, ◌<◌, ◌≤◌, List, [], ◌∷◌, length, take, drop, slice_index, Bool, true, false, IsTrue, refl, sym, ◌∙◌, ap, subst, arith, length-drop, get_or-drop}
 use native.Mathlib.Decide.{dec_lt}
 use Rattle.std.proofs.lemmas.List.{take_all}
 use Rattle.std.specs.List.{AllByRecursion}
@@ -39,14 +39,14 @@ pub front_behind : (test : ℕ → Bool) (w : List ℕ) (n k : ℕ) → IsFront 
 front_behind test w n k h = subst (λ v. IsFront test v k) (suffix_is w n) h
 
 -- bytes that all pass, and a front behind them
-pub front_join : (test : ℕ → Bool) (w : List ℕ) (a b : ℕ) → a ≤ length w → ((k : ℕ) → k < a → test (slice_index (take a w) k) ≡ true) → IsFront test (take (length w - a) (drop a w)) b → IsFront test w (a + b)
+pub front_join : (test : ℕ → Bool) (w : List ℕ) (a b : ℕ) → a ≤ length w → ((k : ℕ) → k < a → test (slice_index w k) ≡ true) → IsFront test (take (length w - a) (drop a w)) b → IsFront test w (a + b)
 front_join test w a b fits near far =
     let g = front_behind test w a b far in
     let left = length-drop a w in
     record {
       fits = (let f = g.fits in omega (arith, f, left, fits));
       passes = λ k h. elim (dec_lt k a) [
-        | yes below ↦ ap test (sym (get_or-take a w k 0 below)) ∙ near k below
+        | yes below ↦ near k below
         | no above ↦ (let past : k ≡ a + (k - a) = omega (arith, above) in ap test (ap (slice_index w) past ∙ sym (get_or-drop a w (k - a) 0)) ∙ g.passes (k - a) (omega (arith, h, above)))
       ];
       stops = λ h. ap test (sym (get_or-drop a w b 0)) ∙ g.stops (omega (arith, h, left));

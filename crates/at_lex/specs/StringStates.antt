@@ -1,6 +1,6 @@
 -- The states of a reader of JSON strings, and what each byte does to them (RFC 8259 section 7). That such a reader finds the longest
 -- viable prefix is proved; no public clause cites it.
-use Rattle.std.specs.Prelude.{◌≡◌, ℕ, ◌<◌, ◌≤◌, Option, Some, None, Bool, true, false, cond, ◌==◌, List, length, take, slice_index}
+use Rattle.std.specs.Prelude.{◌≡◌, ◌≢◌, ℕ, ◌<◌, ◌≤◌, Option, Some, None, Bool, true, false, cond, ◌==◌, List, length, take, slice_index}
 use Rattle.std.specs.List.{list_any}
 use Rattle.std.specs.Char.{is_ascii_hexdigit}
 use Rattle.at_text.proofs.Machine.{run}
@@ -54,3 +54,10 @@ pub record StopsAt (w : List ℕ) (n : ℕ) (s : State) : Type 0 where
   pub fits : n ≤ length w
   pub goes : run step opening (take n w) ≡ Some s
   pub stops : n < length w → step s (slice_index w n) ≡ None
+
+-- the reader goes on from a place, and stops only inside a string or where it can't go on
+pub record GoesTo (w : List ℕ) (from n : ℕ) (s : State) : Type 0 where
+  pub order : from ≤ n
+  pub fits : n ≤ length w
+  pub goes : run step opening (take n w) ≡ Some s
+  pub stops : s ≢ inside → n < length w → step s (slice_index w n) ≡ None

@@ -34,4 +34,4 @@ IsTextOf bytes n (Some text) = (is_utf8 (take n bytes) ≡ true) × (text ≡ ta
 -- the character in UTF-8 that begins the bytes, where one does
 abbrev pub IsFirstChar : List ℕ → Option (List ℕ) → Type 0
 IsFirstChar bytes None = char_len bytes ≡ None
-IsFirstChar bytes (Some text) = (n : ℕ) × (0 < n) × (char_len bytes ≡ Some n) × (text ≡ take n bytes)
+IsFirstChar bytes (Some text) = (n : ℕ) × (0 < n) × (n < 5) × (char_len bytes ≡ Some n) × (text ≡ take n bytes)

@@ -1,6 +1,6 @@
 //! What a string stands for: the UTF-16 code units of its characters (RFC 8259 sections 7 and 8).
 
-ghost use Rattle.std.specs.Prelude.{◌≡◌, ◌≢◌, ◌++◌, ◌<◌, ◌≤◌, ◌^◌, List, length, flat_map, slice_index, true, IfOk, OnOk};
+ghost use Rattle.std.specs.Prelude.{◌≡◌, ◌≢◌, ◌++◌, ◌<◌, ◌≤◌, ◌^◌, List, length, take, flat_map, slice_index, true, IfOk, OnOk};
 ghost use Rattle.std.specs.Char.{digit_value, is_ascii_hexdigit};
 ghost use Rattle.std.specs.Char.Escape.{encode_utf16};
 ghost use Rattle.std.specs.Str.{chars};
@@ -77,6 +77,14 @@ fn first_char(bytes: &[u8]) -> Option<&str>
     None
 }
 
+/// The first bytes, as many as a character in UTF-8 may have: what is ahead of a long string isn't looked at again for
+/// each of its characters.
+fn first_four(text: &[u8]) -> &[u8]
+    ensures { result.now ≡ take 4 text.now }
+{
+    &text[..text.len().min(4)]
+}
+
 /// Puts the units of the text's characters behind the others.
 fn push_chars(items: &mut Vec<u16>, text: &str) -> Result<(), Memory>
     ensures { OnOk result (items.new.items ≡ items.old.items ++ flat_map encode_utf16 (chars text.now)) }
@@ -127,8 +135,8 @@ fn push_wide(items: &mut Vec<u16>, text: &[u8]) -> Result<usize, Memory>
     requires plain { slice_index text.now 0 ≢ 0x5C }
     ensures { IfOk result (λ n. PushesUnits text.now n items.old.items items.new.items) }
 {
-    let ahead = &text[..plain_len(text)];
-    let Some(character) = first_char(ahead) else {
+    let near = first_four(text);
+    let Some(character) = first_char(&near[..plain_len(near)]) else {
         items.push(0xFFFD)?;
         return Ok(1);
     };

@@ -1,15 +1,17 @@
 //! How far the bytes of a class go from the beginning of a text.
 
-ghost use Rattle.std.specs.Prelude.{◌≡◌, ◌≤◌, EachIndex, slice_index};
+ghost use Rattle.std.specs.Prelude.{◌≡◌, ◌+◌, ◌≤◌, length};
 ghost use Rattle.at_text.specs.Texts.{is_space as space_test, is_digit as digit_test, is_run as run_test};
 ghost use Rattle.at_lex.specs.Strings.{is_plain as plain_test};
-ghost use Rattle.at_lex.specs.Fronts.{IsFront, is_quiet};
+ghost use Rattle.at_lex.specs.Fronts.{IsFront, IsFrontAt, is_quiet};
+ghost use Rattle.at_fixed.specs.Eights.{first_set as lowest_set};
 
 use at_text::{is_digit, is_run, is_space};
 use memchr::memchr2;
+use std::simd::prelude::*;
 
-/// So many bytes of a string are looked at one by one before a search begins.
-const NEAR: usize = 32;
+/// So many bytes of a string are looked at together.
+const LANES: usize = 32;
 
 /// How many bytes of white space the text begins with.
 pub fn space_len(text: &[u8]) -> usize
@@ -77,36 +79,43 @@ pub fn quiet_len(text: &[u8]) -> usize
     }
 }
 
-/// A bound of the bytes from below, which is the least one.
-fn least(text: &[u8]) -> u8
-    ensures { EachIndex text.now (λ k. result ≤ slice_index text.now k) }
+/// The place of the lowest bit of a mask of thirty-two that is set, or 32 where none is.
+#[inline(always)]
+fn first_set(mask: u64) -> usize
+    ensures { result ≡ lowest_set mask 32 }
 {
-    let mut least = u8::MAX;
-    for b in text {
-        least = least.min(*b);
+    if mask == 0 {
+        32
+    } else {
+        mask.trailing_zeros() as usize
     }
-    least
 }
 
-/// The same as `near_plain_len`, by a search for the quote or backslash that ends most such fronts.
-fn far_plain_len(text: &[u8]) -> usize
-    ensures { IsFront plain_test text.now result }
+/// How many bytes that stand for themselves in a string the thirty-two bytes at a place begin with. With bit 1 turned
+/// over, a quote and the control characters are the bytes up to 20.
+#[inline(always)]
+fn plain_lanes(text: &[u8], at: usize) -> usize
+    requires { at + 32 ≤ length text.now }
+    ensures { IsFrontAt plain_test text.now at 32 result }
 {
-    let quiet = quiet_len(text);
-    if least(&text[..quiet]) < 0x20 {
-        return near_plain_len(text);
-    }
-    quiet
+    let bytes = u8x32::from_slice(&text[at..]);
+    let low = (bytes ^ u8x32::splat(2)).simd_le(u8x32::splat(0x20));
+    let slash = bytes.simd_eq(u8x32::splat(b'\\'));
+    first_set((low | slash).to_bitmask())
 }
 
 /// How many bytes that stand for themselves in a string the text begins with.
+#[inline(always)]
 pub fn plain_len(text: &[u8]) -> usize
     ensures { IsFront plain_test text.now result }
 {
-    let near = text.len().min(NEAR);
-    let front = near_plain_len(&text[..near]);
-    if front < near {
-        return front;
+    let mut len: usize = 0;
+    while text.len() - len >= LANES {
+        let more = plain_lanes(text, len);
+        if more < LANES {
+            return len + more;
+        }
+        len += LANES;
     }
-    near + far_plain_len(&text[near..])
+    len + near_plain_len(&text[len..])
 }

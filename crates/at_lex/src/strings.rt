@@ -1,11 +1,11 @@
 //! Strings, read by a reader whose every state can still come to an end (RFC 8259 section 7).
 
-ghost use Rattle.std.specs.Prelude.{◌≡◌, ◌≢◌, ◌≤◌, ◌-◌, ◌^◌, length, take, drop, cond, option_map};
+ghost use Rattle.std.specs.Prelude.{◌≡◌, ◌≢◌, ◌≤◌, ◌^◌, Some, true, length, take, cond, option_map};
 ghost use Rattle.std.specs.Char.{is_ascii_hexdigit};
 ghost use Rattle.at_text.specs.Prefix.{TakesLongest};
 ghost use Rattle.at_text.proofs.Machine.{run};
 ghost use Rattle.at_lex.specs.Strings.{JsonString};
-ghost use Rattle.at_lex.specs.StringStates.{State, inside, step, accepts, is_escape as escape_test, state_of, lexical_of, StopsAt};
+ghost use Rattle.at_lex.specs.StringStates.{inside, opening, escaped, step, accepts, is_escape as escape_test, state_of, lexical_of, StopsAt, GoesTo};
 ghost use Rattle.at_lex.specs.Endings.{IsTextEnd};
 
 use crate::fronts::{is_plain, plain_len, quiet_len};
@@ -90,6 +90,16 @@ impl TextState {
         }
     }
 
+    /// Whether the reader is between the quotes, and in no escape.
+    fn is_inside(self) -> bool
+        ensures { result ≡ true → state_of self ≡ inside }
+    {
+        match self {
+            TextState::Inside => true,
+            _ => false,
+        }
+    }
+
     /// The lexical state.
     pub fn lexical(self) -> Start
         ensures { result ≡ lexical_of (state_of self) }
@@ -117,30 +127,21 @@ fn inside_next(b: u8) -> Option<TextState>
     }
 }
 
-/// Past the bytes that stand for themselves, where the reader is in a string; else past none.
-fn past_plain(text: &[u8], len: usize, state: TextState) -> usize
-    requires { len ≤ length text.now }
-    ensures from { len ≤ result }
-    ensures fits { result ≤ length text.now }
-    ensures goes { run step (state_of state) (take (result - len) (drop len text.now)) ≡ Some (state_of state) }
-{
-    match state {
-        TextState::Inside => len + plain_len(&text[len..]),
-        _ => len,
-    }
+/// Whether the byte stands at the place.
+fn stands(text: &[u8], at: usize, b: u8) -> bool {
+    at < text.len() && text[at] == b
 }
 
-/// How far a reader of a string goes through the text.
-pub fn scan_text(text: &[u8]) -> Scanned
-    ensures { StopsAt text.now result.len (state_of result.state) }
+/// The rest of an escape, whose backslash was read, and the escapes that stand right behind it: to the string behind
+/// them, or to what stops the reader.
+fn scan_escape(text: &[u8], from: usize) -> Scanned
+    requires fits { from ≤ length text.now }
+    requires goes { run step opening (take from text.now) ≡ Some escaped }
+    ensures { GoesTo text.now from result.len (state_of result.state) }
 {
-    let mut state = TextState::Opening;
-    let mut len: usize = 0;
+    let mut state = TextState::Escaped;
+    let mut len = from;
     while len < text.len() {
-        len = past_plain(text, len, state);
-        if len == text.len() {
-            break;
-        }
         match state.next(text[len]) {
             Some(found) => {
                 state = found;
@@ -148,8 +149,50 @@ pub fn scan_text(text: &[u8]) -> Scanned
             }
             None => return Scanned { len, state },
         }
+        if state.is_inside() && !stands(text, len, b'\\') {
+            return Scanned { len, state };
+        }
     }
     Scanned { len, state }
+}
+
+/// How far a reader of a string goes through the text. It goes from escape to escape, and from byte to byte in one alone.
+pub fn scan_text(text: &[u8]) -> Scanned
+    ensures { StopsAt text.now result.len (state_of result.state) }
+{
+    if text.is_empty() || text[0] != b'"' {
+        return Scanned {
+            len: 0,
+            state: TextState::Opening,
+        };
+    }
+    let mut len: usize = 1;
+    loop {
+        let end = len + plain_len(&text[len..]);
+        if end == text.len() {
+            return Scanned {
+                len: end,
+                state: TextState::Inside,
+            };
+        }
+        if text[end] == b'"' {
+            return Scanned {
+                len: end + 1,
+                state: TextState::Closed,
+            };
+        }
+        if text[end] != b'\\' {
+            return Scanned {
+                len: end,
+                state: TextState::Inside,
+            };
+        }
+        let escape = scan_escape(text, end + 1);
+        match escape.state {
+            TextState::Inside => len = escape.len,
+            _ => return escape,
+        }
+    }
 }
 
 /// The longest prefix of the text that is a prefix of some JSON string, and whether it is one (RFC 8259

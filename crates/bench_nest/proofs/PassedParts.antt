@@ -72,6 +72,13 @@ item_passed w at first end p h spaces (order, fits, value) k fits2 more = (
   λ base. let v = value base in (v.0, record { first = first; last = p.end; before = h; order = omega (arith, order); behind = k; spaces = spaces; is_part = v.1; more_spaces = more }, v.2),
 )
 
+no_spaces : (w : List ℕ) (at : ℕ) → AreSpaces (part w at at)
+no_spaces w at = subst AreSpaces (front_part w at 0 ∙ ap (part w at) (let e : at + 0 ≡ at = omega arith in e)) tt
+
+-- with no white space behind the value
+pub item_ended : (w : List ℕ) (at first end : ℕ) (count : ℕ) → at ≤ first → AreSpaces (part w at first) → IsPassed w first (record { end = end; count = count }) → IsPassedItem w at (record { end = end; count = count })
+item_ended w at first end count h spaces passed = item_passed w at first end (record { end = end; count = count }) h spaces passed (omega arith) passed.1 (no_spaces w end)
+
 pub name_passed : (w : List ℕ) (at first end colon : ℕ) → at ≤ first → AreSpaces (part w at first) → IsPassedText w first end → end ≤ colon → AreSpaces (part w end colon) → colon < length w → slice_index w colon ≡ 0x3A → IsPassedName w at colon
 name_passed w at first end colon h spaces (order, fits, j) k more inside byte = (
   omega (arith, h, order, k),

@@ -1,6 +1,6 @@
 //! Values passed over from place to place, and how many values there are in them.
 
-ghost use Rattle.std.specs.Prelude.{◌≡◌, ◌+◌, ◌<◌, ◌≤◌, ◌^◌, ◌&&◌, length, slice_index, nat_lt, nat_eq, true, IfOk};
+ghost use Rattle.std.specs.Prelude.{◌≡◌, ◌+◌, ◌<◌, ◌≤◌, ◌^◌, ◌&&◌, length, slice_index, nat_lt, nat_eq, true, IfOk, IfSome};
 ghost use Rattle.at_fixed.specs.Kept.{part};
 ghost use Rattle.at_lex.specs.Spans.{AreSpaces};
 ghost use Rattle.bench_nest.specs.Passed.{IsPassed, IsPassedText, IsPassedItem, IsPassedName};
@@ -92,6 +92,62 @@ fn pass_string(text: &[u8], at: usize) -> Result<Passed, usize>
     Ok(Passed { end, count: 1 })
 }
 
+/// White space and a number that is written plainly.
+#[inline(always)]
+fn pass_plain(text: &[u8], at: usize) -> Option<Passed>
+    requires inside { at ≤ length text.now }
+    requires short { length text.now ≤ 2 ^ 28 }
+    ensures { IfSome result (IsPassedItem text.now at) }
+{
+    let first = skip_spaces(text, at);
+    let len = plain_len(&text[first..], Notation::Json, 0, Coords::Round)?;
+    Some(Passed {
+        end: first + len as usize,
+        count: 1,
+    })
+}
+
+/// An array of numbers that are written plainly, as a position is, with white space before them alone.
+#[inline(always)]
+fn pass_numbers(text: &[u8], at: usize) -> Option<Passed>
+    requires { length text.now ≤ 2 ^ 28 }
+    ensures { IfSome result (IsPassed text.now at) }
+{
+    if !stands(text, at, b'[') {
+        return None;
+    }
+    let mut place = at + 1;
+    let mut count = 1u64;
+    'numbers: loop {
+        let number = pass_plain(text, place)?;
+        count = count.wrapping_add(number.count);
+        if stands(text, number.end, b']') {
+            return Some(Passed {
+                end: number.end + 1,
+                count,
+            });
+        }
+        if !stands(text, number.end, b',') {
+            return None;
+        }
+        place = number.end + 1;
+    }
+}
+
+/// A value in which brackets stand at most so deep, but for an array of numbers.
+#[cycle(passing)]
+#[inline(always)]
+fn pass_any(text: &[u8], at: usize, depth: u8) -> Result<Passed, usize>
+    requires inside { at ≤ length text.now }
+    requires short { length text.now ≤ 2 ^ 28 }
+    ensures { IfOk result (IsPassed text.now at) }
+{
+    match pass_numbers(text, at) {
+        Some(passed) => Ok(passed),
+        None => pass_value(text, at, depth),
+    }
+}
+
 /// A value in which brackets stand at most so deep.
 #[cycle(passing)]
 fn pass_value(text: &[u8], at: usize, depth: u8) -> Result<Passed, usize>
@@ -120,7 +176,7 @@ fn pass_item(text: &[u8], at: usize, depth: u8) -> Result<Passed, usize>
     ensures { IfOk result (IsPassedItem text.now at) }
 {
     let first = skip_spaces(text, at);
-    let passed = pass_value(text, first, depth)?;
+    let passed = pass_any(text, first, depth)?;
     let end = skip_spaces(text, passed.end);
     Ok(Passed {
         end,

@@ -1,38 +1,40 @@
-use Rattle.std.proofs.Common.{◌≡◌, ◌+◌, ◌-◌, ◌<◌, ◌≤◌, Some, length, take, drop, slice_index, arith, ap, ◌∙◌, sym, add-one, take-suc, List, ℕ, ◌++◌}
-use Rattle.std.proofs.Math.Seq.{take-add}
-use Rattle.at_text.proofs.Machine.{run, run_more}
-use Rattle.at_lex.specs.StringStates.{State, step, opening, state_of}
-use Rattle.at_lex.proofs.JsonString as str
-use Rattle.at_lex.proofs.Texts.{run_on}
+use Rattle.std.proofs.Common.{◌<◌, ◌+◌, length, arith, ap, refl}
+use Rattle.at_lex.specs.StringStates.{inside, escaped, closed, step}
+use Rattle.at_lex.proofs.TextScans.{goes_one, goes_plain, within_plain, stops_plain}
 use Rattle.at_lex.proofs.strings.scan_text.Goals as goal
 
--- past the bytes that stand for themselves
-past : (w : List ℕ) (n m : ℕ) (s : State) → n ≤ m → run step opening (take n w) ≡ Some s → run step s (take (m - n) (drop n w)) ≡ Some s → run step opening (take m w) ≡ Some s
-past w n m s h e f =
-    let all : take m w ≡ take n w ++ take (m - n) (drop n w) = ap (λ k. take k w) (let q : m ≡ n + (m - n) = omega arith in q) ∙ take-add n (m - n) w in
-    ap (run step opening) all ∙ run_on step opening s s (take n w) (take (m - n) (drop n w)) e f
-
-pub loop-len-preserved : goal.loop-len-preserved
-loop-len-preserved c =
-    let w = c.args.text.now in let m = c.past_plain-len.result in
-    let below : m < length w = omega arith in
+pub returns-then-end-text : goal.returns-then-end-text
+returns-then-end-text c =
+    let w = c.args.text.now in let n = c.loop-len.len in let k = c.plain_len.result in
     record {
       fits = omega arith;
-      goes = rw (add-one m, take-suc w m 0 below)
-          (run_more str.machine opening (state_of c.loop-len.state) (state_of c.in-Some.found) (take m w) (slice_index w m)
-          (past w c.loop-len.len m (state_of c.loop-len.state) c.past_plain-len.ensures.from c.loop-len.invariant.goes c.past_plain-len.ensures.goes) (sym c.in-Some.ensures));
+      goes = goes_plain w n k c.loop-len.invariant.goes c.plain_len.ensures;
+      stops = λ less. absurd (omega arith);
     }
 
-pub returns-in-None : goal.returns-in-None
-returns-in-None c = record {
-  fits = c.past_plain-len.ensures.fits;
-  goes = past c.args.text.now c.loop-len.len c.past_plain-len.result (state_of c.loop-len.state) c.past_plain-len.ensures.from c.loop-len.invariant.goes c.past_plain-len.ensures.goes;
-  stops = λ h. sym c.in-None.ensures;
-}
+pub returns-then-text-end-eq34 : goal.returns-then-text-end-eq34
+returns-then-text-end-eq34 c =
+    let w = c.args.text.now in let n = c.loop-len.len in let k = c.plain_len.result in
+    let within = within_plain w n k c.loop-len.invariant.fits c.plain_len.ensures in
+    let below : n + k < length w = omega (arith, within, c.if-end-text.false) in
+    record {
+      fits = omega (arith, below);
+      goes = goes_one w (n + k) inside closed below (goes_plain w n k c.loop-len.invariant.goes c.plain_len.ensures) (ap (step inside) c.if-text-end-eq34.true);
+      stops = λ less. refl;
+    }
 
-pub returns-then-len-text : goal.returns-then-len-text
-returns-then-len-text c = record {
-  fits = c.past_plain-len.ensures.fits;
-  goes = past c.args.text.now c.loop-len.len c.past_plain-len.result (state_of c.loop-len.state) c.past_plain-len.ensures.from c.loop-len.invariant.goes c.past_plain-len.ensures.goes;
-  stops = λ h. absurd (omega arith);
-}
+pub returns-then-text-end-ne92 : goal.returns-then-text-end-ne92
+returns-then-text-end-ne92 c =
+    let w = c.args.text.now in let n = c.loop-len.len in let k = c.plain_len.result in
+    let within = within_plain w n k c.loop-len.invariant.fits c.plain_len.ensures in
+    record {
+      fits = within;
+      goes = goes_plain w n k c.loop-len.invariant.goes c.plain_len.ensures;
+      stops = λ below. stops_plain w n k c.loop-len.invariant.fits c.plain_len.ensures below c.if-text-end-eq34.false c.if-text-end-ne92.true;
+    }
+
+pub scan_escape-escape-requires-clause-goes : goal.scan_escape-escape-requires-clause-goes
+scan_escape-escape-requires-clause-goes c =
+    let w = c.args.text.now in let n = c.loop-len.len in let k = c.plain_len.result in
+    let within = within_plain w n k c.loop-len.invariant.fits c.plain_len.ensures in
+    goes_one w (n + k) inside escaped (omega (arith, within, c.if-end-text.false)) (goes_plain w n k c.loop-len.invariant.goes c.plain_len.ensures) (ap (step inside) c.if-text-end-ne92.false)
