@@ -1,11 +1,11 @@
 -- Parts of the blocks of a file: what is merged of two neighbouring stretches, and what a block gives.
-use Rattle.std.proofs.Common.{◌≡◌, ℕ, ◌+◌, ◌-◌, ◌^◌, ◌<◌, ◌≤◌, ◌⊎◌, inl, inr, List, length, Contains, subst, arith}
+use Rattle.std.proofs.Common.{◌≡◌, ℕ, ◌-◌, ◌<◌, ◌≤◌, ◌⊎◌, inl, inr, List, length, Contains, subst, arith}
 use Rattle.std.proofs.lemmas.Bool.{cases_lt}
 use Rattle.std.specs.Prelude.{slice_index}
 use Rattle.std.specs.List.Sorted.{IsNonDecreasing}
 use Rattle.at_crew.specs.Nodes.{IsBlockCount as IsCrewCount}
 use Rattle.at_crew.proofs.Powers.{block_count as crew_count}
-use Rattle.at_text.specs.Spans.{StandsAt, AreNeighbours, IsMerged}
+use Rattle.at_text.specs.Spans.{AreNeighbours, IsMerged}
 use Rattle.at_run.specs.Places.{IsBlockCount, last_place}
 use Rattle.at_run.specs.declared.jobs.FilePart.{FilePart}
 use Rattle.at_run.specs.declared.jobs.FilePart.TheVariants.{Read}

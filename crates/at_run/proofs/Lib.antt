@@ -11,3 +11,5 @@ pub mod Results
 pub mod FormMerges
 pub mod JsonEnds
 pub mod OneAnswer
+pub mod ProperFeatures
+pub mod JoinedFiles

@@ -10,12 +10,12 @@ use Rattle.at_query.specs.declared.queries.Query.{Query}
 use Rattle.at_query.specs.declared.features.Feature.{Feature}
 use Rattle.at_query.specs.declared.parts.Part.{Part}
 use Rattle.at_query.specs.declared.answers.Answer.{Answer}
-use Rattle.at_query.specs.Results.{IsResult}
+use Rattle.at_query.specs.Results.{IsResult, IsJoined}
 use Rattle.at_query.specs.Parts.{IsPart}
-use Rattle.at_query.proofs.OneAnswer.{one_result, one_part}
+use Rattle.at_query.proofs.OneAnswer.{one_result, one_part, one_join}
 use Rattle.at_run.specs.Places.{IsLeastCount}
 use Rattle.at_run.specs.Features.{IsLineFeature, AreLineFeatures, AreFileFeatures}
-use Rattle.at_run.specs.Answers.{IsFilePart, IsFileAnswer}
+use Rattle.at_run.specs.Answers.{IsFilePart, IsFileAnswer, IsJoinAnswer}
 
 -- the least count of blocks that serves is one
 pub one_least_count : (blocks m n : ℕ) → IsLeastCount blocks m → IsLeastCount blocks n → m ≡ n
@@ -55,3 +55,17 @@ module _ (digits : ℕ) (how : Coords) where
 
     pub part_or_fault : (a : Part) (f : Fault) → IsFilePart digits how query bytes a → HasFileFault digits how bytes (Some f) → ⊥
     part_or_fault a f h k = none-some f (one_file_fault digits how bytes None (Some f) h.faultless k)
+
+  -- two files have one join, or a fault
+  module _ (query : Query) (first second : List ℕ) where
+    pub one_join_answer : (a b : Answer) → IsJoinAnswer digits how query first second a → IsJoinAnswer digits how query first second b → a ≡ b
+    one_join_answer a b h k =
+        let one : h.first ≡ k.first = one_file_features first h.first k.first h.are_first k.are_first in
+        let other : h.second ≡ k.second = one_file_features second h.second k.second h.are_second k.are_second in
+        one_join query k.first k.second a b (subst (λ gs. IsJoined query k.first gs a) other (subst (λ fs. IsJoined query fs h.second a) one h.is_joined)) k.is_joined
+
+    pub join_or_first_fault : (a : Answer) (f : Fault) → IsJoinAnswer digits how query first second a → HasFileFault digits how first (Some f) → ⊥
+    join_or_first_fault a f h k = none-some f (one_file_fault digits how first None (Some f) h.first_faultless k)
+
+    pub join_or_second_fault : (a : Answer) (f : Fault) → IsJoinAnswer digits how query first second a → HasFileFault digits how second (Some f) → ⊥
+    join_or_second_fault a f h k = none-some f (one_file_fault digits how second None (Some f) h.second_faultless k)

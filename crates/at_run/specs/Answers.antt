@@ -1,5 +1,5 @@
--- The answer to a query over a file, and why there is none. Nothing here knows of blocks.
-use Rattle.std.specs.Prelude.{ℕ, List, None}
+-- The answer to a query over a file, or to a join over two, and why there is none. Nothing here knows of blocks.
+use Rattle.std.specs.Prelude.{ℕ, List, Some, None}
 use Rattle.at_text.specs.declared.faults.Fault.{Fault}
 use Rattle.at_fixed.specs.declared.rounding.Coords.{Coords}
 use Rattle.at_wkt.specs.Files.{HasFileFault}
@@ -7,10 +7,12 @@ use Rattle.at_query.specs.declared.queries.Query.{Query}
 use Rattle.at_query.specs.declared.features.Feature.{Feature}
 use Rattle.at_query.specs.declared.parts.Part.{Part}
 use Rattle.at_query.specs.declared.answers.Answer.{Answer}
-use Rattle.at_query.specs.Results.{IsResult}
+use Rattle.at_query.specs.Results.{IsResult, IsJoined}
 use Rattle.at_query.specs.Parts.{IsPart}
 use Rattle.at_run.specs.declared.faults.RunFault.{RunFault}
 use Rattle.at_run.specs.declared.faults.RunFault.TheVariants.{Found, Memory}
+use Rattle.at_run.specs.declared.faults.JoinFault.{JoinFault}
+use Rattle.at_run.specs.declared.faults.JoinFault.TheVariants.{First, Second, Memory as NoMemory}
 use Rattle.at_run.specs.Features.{AreFileFeatures}
 
 -- a fact of the fault that was found; want of memory has no cause in the file
@@ -31,3 +33,24 @@ pub record IsFileAnswer (digits : ℕ) (how : Coords) (query : Query) (bytes : L
   pub features : List Feature
   pub are_features : AreFileFeatures digits how bytes features
   pub is_result : IsResult query features answer
+
+module _ (digits : ℕ) (how : Coords) where
+  -- neither file has a fault, and the answer is that of the join over their features; the query's tests are of the first file's
+  pub record IsJoinAnswer (query : Query) (a b : List ℕ) (answer : Answer) : Type 0 where
+    pub first_faultless : HasFileFault digits how a None
+    pub second_faultless : HasFileFault digits how b None
+    pub first : List Feature
+    pub are_first : AreFileFeatures digits how a first
+    pub second : List Feature
+    pub are_second : AreFileFeatures digits how b second
+    pub is_joined : IsJoined query first second answer
+
+  -- the first file has no fault, and the second has this one
+  abbrev pub SecondFails : List ℕ → List ℕ → Fault → Type 0
+  SecondFails a b fault = HasFileFault digits how a None × HasFileFault digits how b (Some fault)
+
+  -- the first file has this fault, or it has none and the second has this one; want of memory has no cause in the files
+  abbrev pub IsJoinFault : List ℕ → List ℕ → JoinFault → Type 0
+  IsJoinFault a b (First fault) = HasFileFault digits how a (Some fault)
+  IsJoinFault a b (Second fault) = SecondFails a b fault
+  IsJoinFault a b NoMemory = Unit {0}

@@ -33,7 +33,7 @@ fn end_of(gathered: Result<Gathered, Memory>) -> Result<Part, RunFault>
 }
 
 /// The part of a file's features under a query, or the file's first fault.
-fn part<G: Gate, R: Threads + Sync>(
+pub(crate) fn part<G: Gate, R: Threads + Sync>(
     rt: &R,
     alloc: Global,
     bytes: &[u8],
@@ -47,7 +47,6 @@ fn part<G: Gate, R: Threads + Sync>(
     requires short { length bytes.now ≤ 2 ^ 28 }
     requires first { first_place cuts.now ≡ text_begin bytes.now }
     requires last { last_place cuts.now ≡ length bytes.now }
-    requires no_join { query.now.verb ≢ Verb.Join }
     requires in_range { IsQueryInRange query.now }
     requires workers { (0 < workers) × (workers ≤ 64) }
     ensures answer { MatchResult result (IsFilePart digits how query.now bytes.now)

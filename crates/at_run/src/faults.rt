@@ -8,3 +8,14 @@ pub enum RunFault {
     /// An allocation was refused.
     Memory,
 }
+
+/// Why two files have no join.
+#[derive(Clone, Copy, Debug, PartialEq, Eq)]
+pub enum JoinFault {
+    /// The first file's first fault, at its offset.
+    First(Fault),
+    /// The first file has no fault, and this is the second file's first.
+    Second(Fault),
+    /// An allocation was refused.
+    Memory,
+}

@@ -4,6 +4,8 @@
 //! part of the file's features or the file's first fault. Its contract says so without a word of the [`Cuts`], of the
 //! passes that run at once, or of the order of their steps: that is what "for every cut" and "for every order" mean.
 //!
+//! [`answer_join`] does so for two files whose features are joined.
+//!
 //! What is done with a block is a reader's own (`Pieces` of at_text). [`run_file`] has a crew run the blocks of any
 //! reader, and [`run_blocks`] runs them one after another.
 #![tactic(auto)]
@@ -15,6 +17,7 @@ mod faults;
 mod forms;
 mod gathered;
 mod jobs;
+mod joins;
 mod json_files;
 mod line_queries;
 mod readers;
@@ -22,9 +25,10 @@ mod readers;
 pub use answers::answer;
 pub use blocks::run_blocks;
 pub use cuts::Cuts;
-pub use faults::RunFault;
+pub use faults::{JoinFault, RunFault};
 pub use forms::Form;
 pub use jobs::run_file;
+pub use joins::answer_join;
 pub use json_files::finish_json;
 pub use readers::{FileFragment, Reader};
 

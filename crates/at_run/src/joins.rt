@@ -1,0 +1,130 @@
+ghost use Rattle.std.specs.Prelude.{◌≡◌, ◌-◌, ◌<◌, ◌≤◌, ◌^◌, [], length, MatchResult, None, Some, IfOk};
+ghost use Rattle.at_text.specs.Texts.{base_of as text_begin};
+ghost use Rattle.at_wkt.specs.Files.{HasFileFault, TheFileFault};
+ghost use Rattle.at_query.specs.Ranges.{IsQueryInRange};
+ghost use Rattle.at_query.specs.Parts.{IsPart, AreProper};
+ghost use Rattle.at_query.specs.declared.features.Feature.{Feature};
+ghost use Rattle.at_run.specs.Places.{first_place, last_place};
+ghost use Rattle.at_run.specs.Blocks.{NoneGivenUp};
+ghost use Rattle.at_run.specs.Answers.{IfFound, IsFilePart, IsJoinAnswer, IsJoinFault};
+
+use crate::answers::part;
+use crate::cuts::Cuts;
+use crate::faults::{JoinFault, RunFault};
+use crate::forms::Form;
+use at_crew::Gate;
+use at_fixed::Coords;
+use at_join::pairs_grid;
+use at_query::{Answer, Entries, Part, Query, Tests, Verb};
+use std::alloc::Global;
+use std::thread::Threads;
+
+/// The entries that are the part of a join.
+fn entries_of(part: Part) -> Entries
+    requires { (entries : Entries) × (part ≡ Part.Entries entries) }
+    ensures { part ≡ Part.Entries result }
+{
+    match part {
+        Part::Entries(entries) => entries,
+        _ => unreachable!(),
+    }
+}
+
+/// The query that asks for all features.
+fn of_all(alloc: Global) -> Query
+    ensures verb { result.verb ≡ Verb.Join }
+    ensures tests { result.tests ≡ [] }
+{
+    Query {
+        verb: Verb::Join,
+        tests: Tests::from_vec(Vec::new(alloc)),
+    }
+}
+
+/// The entries of a file's features under a query, or the file's first fault.
+fn entries<G: Gate, R: Threads + Sync>(
+    rt: &R,
+    alloc: Global,
+    bytes: &[u8],
+    cuts: &Cuts,
+    query: &Query,
+    digits: u8,
+    how: Coords,
+    workers: u32,
+    gate: &G,
+) -> Result<Entries, RunFault>
+    requires short { length bytes.now ≤ 2 ^ 28 }
+    requires first { first_place cuts.now ≡ text_begin bytes.now }
+    requires last { last_place cuts.now ≡ length bytes.now }
+    requires join { query.now.verb ≡ Verb.Join }
+    requires in_range { IsQueryInRange query.now }
+    requires workers { (0 < workers) × (workers ≤ 64) }
+    ensures part { MatchResult result (λ (entries : _). IsFilePart digits how query.now bytes.now (Part.Entries entries))
+        (λ end. IfFound end (λ fault. HasFileFault digits how bytes.now (Some fault))) }
+    ensures proper { IfOk result AreProper }
+    ensures given_up { IfOk result (λ _. NoneGivenUp (G.given_up gate.now) 0 (length cuts.now - 1)) }
+{
+    match part(rt, alloc, bytes, cuts, query, digits, how, workers, gate) {
+        Ok(part) => Ok(entries_of(part)),
+        Err(end) => Err(end),
+    }
+}
+
+/// The answer to a join over the features of two files, or the first fault of the first file that has one.
+///
+/// The query's tests are of the features of `a`: those of which all tests hold are joined with all features of `b`. Each file
+/// is read in the blocks that its cuts make of it, and then the 64 cells of a grid over both are searched, by so many
+/// passes at once; the gate is entered with each block of `a`, each of `b`, and each cell. Whatever the cuts, the passes
+/// and the order of their steps are, the answer is that of the whole bytes.
+///
+/// # Errors
+/// `First` comes exactly where `a` has a fault, and `Second` exactly where `a` has none and `b` has one, each with the first
+/// of them. `Memory` comes where an allocation was refused, and in the place of an answer wherever the gate gives up a
+/// block or a cell.
+pub fn answer_join<G: Gate, R: Threads + Sync>(
+    rt: &R,
+    alloc: Global,
+    a: &[u8],
+    form_a: Form,
+    b: &[u8],
+    form_b: Form,
+    cuts_a: &Cuts,
+    cuts_b: &Cuts,
+    query: &Query,
+    digits: u8,
+    how: Coords,
+    workers: u32,
+    gate: &G,
+) -> Result<Answer, JoinFault>
+    requires short_a { length a.now ≤ 2 ^ 28 }
+    requires short_b { length b.now ≤ 2 ^ 28 }
+    requires form_a { form_a ≡ Form.Wkt }
+    requires form_b { form_b ≡ Form.Wkt }
+    requires first_a { first_place cuts_a.now ≡ text_begin a.now }
+    requires last_a { last_place cuts_a.now ≡ length a.now }
+    requires first_b { first_place cuts_b.now ≡ text_begin b.now }
+    requires last_b { last_place cuts_b.now ≡ length b.now }
+    requires join { query.now.verb ≡ Verb.Join }
+    requires in_range { IsQueryInRange query.now }
+    requires workers { (0 < workers) × (workers ≤ 64) }
+    ensures answer { MatchResult result (IsJoinAnswer digits how query.now a.now b.now) (IsJoinFault digits how a.now b.now) }
+    ensures gate_a { IfOk result (λ _. NoneGivenUp (G.given_up gate.now) 0 (length cuts_a.now - 1)) }
+    ensures gate_b { IfOk result (λ _. NoneGivenUp (G.given_up gate.now) 0 (length cuts_b.now - 1)) }
+    ensures gate_cells { IfOk result (λ _. NoneGivenUp (G.given_up gate.now) 0 64) }
+{
+    let first = match entries(rt, alloc, a, cuts_a, query, digits, how, workers, gate) {
+        Ok(entries) => entries,
+        Err(RunFault::Found(fault)) => return Err(JoinFault::First(fault)),
+        Err(RunFault::Memory) => return Err(JoinFault::Memory),
+    };
+    let all = of_all(alloc);
+    let second = match entries(rt, alloc, b, cuts_b, &all, digits, how, workers, gate) {
+        Ok(entries) => entries,
+        Err(RunFault::Found(fault)) => return Err(JoinFault::Second(fault)),
+        Err(RunFault::Memory) => return Err(JoinFault::Memory),
+    };
+    match pairs_grid(rt, alloc, first, second, workers, gate) {
+        Ok(pairs) => Ok(Answer::Pairs(pairs)),
+        Err(_) => Err(JoinFault::Memory),
+    }
+}
