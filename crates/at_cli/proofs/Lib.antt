@@ -10,3 +10,5 @@ pub mod Numbers
 pub mod FileNames
 pub mod FlagLaws
 pub mod SaidLines
+pub mod MadeSizes
+pub mod OneMade

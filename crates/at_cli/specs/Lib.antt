@@ -10,3 +10,4 @@ pub mod Outcomes
 pub mod Telling
 pub mod Endings
 pub mod Failures
+pub mod Made

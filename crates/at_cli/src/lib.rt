@@ -7,6 +7,7 @@ mod flags;
 mod form;
 mod line;
 mod lines;
+mod made;
 mod names;
 mod pieces;
 mod run;
@@ -17,6 +18,7 @@ pub use at_run::Form;
 pub use form::form_of;
 pub use line::{Line, WordsEnd, read_words};
 pub use lines::tell_no_memory;
+pub use made::made_file;
 pub use run::top;
 
 #[cfg(test)]

@@ -10,7 +10,7 @@ use at_fixed::Coords;
 use at_run::Form;
 
 /// The most features that a made file has.
-const MOST_MADE: u32 = 1_000_000;
+pub const MOST_MADE: u32 = 1_000_000;
 
 /// Whether the text begins with a plus, or with a zero before other bytes.
 fn is_padded(text: &str) -> bool
@@ -32,7 +32,7 @@ fn number(text: &str) -> Option<u32>
 }
 
 /// The number from `least` to `most` that the text is.
-fn number_within(text: &str, least: u32, most: u32) -> Option<u32>
+pub fn number_within(text: &str, least: u32, most: u32) -> Option<u32>
     ensures { MatchOption result ((n : ℕ) → IsWhole least most text.now n → ⊥) (IsWhole least most text.now) }
 {
     let number = number(text)?;

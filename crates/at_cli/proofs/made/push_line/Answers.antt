@@ -1,0 +1,4 @@
+use Rattle.at_cli.proofs.made.push_line.Goals as goal
+
+pub returns : goal.returns
+returns c = c.push_all.ensures

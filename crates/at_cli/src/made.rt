@@ -1,0 +1,228 @@
+ghost use Rattle.std.specs.Prelude.{◌≡◌, ◌++◌, ◌≤◌, ◌<◌, ◌^◌, ℕ, false, true, length, OnOk, IfOk, IfSome, MatchOption};
+ghost use Rattle.std.specs.List.{flat_map, range_with_len};
+ghost use Rattle.at_cli.specs.Made.{line_by, wkt_line, feature_by, before_feature as text_before, feature_line, wkt_text as text_of_wkt, geojson_text as text_of_geojson, IsMadeText};
+ghost use Rattle.at_cli.specs.Outcomes.{is_made};
+ghost use Rattle.at_cli.specs.Values.{IsWhole, IsFileName};
+
+use crate::flags::text_behind;
+use crate::values::{MOST_MADE, number_within};
+use at_text::Memory;
+use itoa::Buffer;
+use std::alloc::{AllocError, Global};
+
+/// The columns of squares.
+const COLUMNS: u32 = 360;
+
+/// The most bytes of a line, and of a feature.
+const LINE: usize = 57;
+
+const FEATURE: usize = 165;
+
+/// Puts texts behind the text.
+fn push_all(text: &mut Vec<u8>, parts: &[&str]) -> Result<(), AllocError>
+    ensures { OnOk result (text.new.items ≡ text.old.items ++ flat_map (λ (part : _). part.now) parts.now) }
+{
+    for part in parts {
+        text.extend_from_slice(part.as_bytes())?;
+    }
+    Ok(())
+}
+
+/// Puts the line of a square with these digits behind the text.
+fn push_line(
+    text: &mut Vec<u8>,
+    left: &str,
+    right: &str,
+    low: &str,
+    high: &str,
+) -> Result<(), AllocError>
+    ensures { OnOk result (text.new.items ≡ text.old.items ++ line_by left.now right.now low.now high.now) }
+{
+    push_all(
+        text,
+        &[
+            "POLYGON ((",
+            left,
+            " ",
+            low,
+            ",",
+            right,
+            " ",
+            low,
+            ",",
+            right,
+            " ",
+            high,
+            ",",
+            left,
+            " ",
+            high,
+            ",",
+            left,
+            " ",
+            low,
+            "))\n",
+        ],
+    )
+}
+
+/// Puts the feature of a square with these digits behind the text.
+fn push_feature(
+    text: &mut Vec<u8>,
+    before: &str,
+    number: &str,
+    left: &str,
+    right: &str,
+    low: &str,
+    high: &str,
+) -> Result<(), AllocError>
+    ensures { OnOk result (text.new.items ≡ text.old.items ++ (before.now ++ feature_by number.now left.now right.now low.now high.now)) }
+{
+    push_all(
+        text,
+        &[
+            before,
+            "{\"type\":\"Feature\",\"properties\":{\"name\":\"g",
+            number,
+            "\"},\"geometry\":{\"type\":\"Polygon\",\"coordinates\":[[[",
+            left,
+            ".5,",
+            low,
+            "],[",
+            right,
+            ".5,",
+            low,
+            "],[",
+            right,
+            ".5,",
+            high,
+            "],[",
+            left,
+            ".5,",
+            high,
+            "],[",
+            left,
+            ".5,",
+            low,
+            "]]]}}",
+        ],
+    )
+}
+
+/// Puts the line of square `index` behind the text.
+fn push_square(text: &mut Vec<u8>, index: u32) -> Result<(), AllocError>
+    requires { index < 1000000 }
+    ensures { OnOk result (text.new.items ≡ text.old.items ++ wkt_line index) }
+{
+    let mut left = Buffer::new();
+    let mut right = Buffer::new();
+    let mut low = Buffer::new();
+    let mut high = Buffer::new();
+    push_line(
+        text,
+        left.format(index % COLUMNS),
+        right.format(index % COLUMNS + 1),
+        low.format(index / COLUMNS),
+        high.format(index / COLUMNS + 1),
+    )
+}
+
+/// What stands before feature `index`.
+fn before_feature(index: u32) -> &'static str
+    ensures { result.now ≡ text_before index }
+{
+    if index == 0 { "\n" } else { ",\n" }
+}
+
+/// Puts feature `index` behind the text.
+fn push_numbered(text: &mut Vec<u8>, index: u32) -> Result<(), AllocError>
+    requires { index < 1000000 }
+    ensures { OnOk result (text.new.items ≡ text.old.items ++ feature_line index) }
+{
+    let mut number = Buffer::new();
+    let mut left = Buffer::new();
+    let mut right = Buffer::new();
+    let mut low = Buffer::new();
+    let mut high = Buffer::new();
+    push_feature(
+        text,
+        before_feature(index),
+        number.format(index),
+        left.format(index % COLUMNS),
+        right.format(index % COLUMNS + 1),
+        low.format(index / COLUMNS),
+        high.format(index / COLUMNS + 1),
+    )
+}
+
+/// Puts the lines of so many squares behind the text.
+fn push_squares(text: &mut Vec<u8>, count: u32) -> Result<(), AllocError>
+    requires { count ≤ 1000000 }
+    ensures { OnOk result (text.new.items ≡ text.old.items ++ flat_map wkt_line (range_with_len 0 count)) }
+{
+    for index in 0..count {
+        push_square(text, index)?;
+    }
+    Ok(())
+}
+
+/// Puts so many features behind the text.
+fn push_features(text: &mut Vec<u8>, count: u32) -> Result<(), AllocError>
+    requires { count ≤ 1000000 }
+    ensures { OnOk result (text.new.items ≡ text.old.items ++ flat_map feature_line (range_with_len 0 count)) }
+{
+    for index in 0..count {
+        push_numbered(text, index)?;
+    }
+    Ok(())
+}
+
+/// So many squares in Well-Known Text.
+fn wkt_text(alloc: Global, count: u32) -> Result<Vec<u8>, AllocError>
+    requires { count ≤ 1000000 }
+    ensures { IfOk result (λ text. text.items ≡ text_of_wkt count) }
+{
+    let mut text = Vec::with_capacity(alloc, count as usize * LINE)?;
+    push_squares(&mut text, count)?;
+    Ok(text)
+}
+
+/// So many squares in GeoJSON.
+fn geojson_text(alloc: Global, count: u32) -> Result<Vec<u8>, AllocError>
+    requires { count ≤ 1000000 }
+    ensures { IfOk result (λ text. text.items ≡ text_of_geojson count) }
+{
+    let mut text = Vec::with_capacity(alloc, count as usize * FEATURE + 45)?;
+    text.extend_from_slice(b"{\"type\":\"FeatureCollection\",\"features\":[")?;
+    push_features(&mut text, count)?;
+    text.extend_from_slice(b"\n]}\n")?;
+    Ok(text)
+}
+
+/// The count that a made file's name goes on with.
+fn made_count(text: &str) -> u32
+    requires { (count : ℕ) × IsWhole 0 1000000 text.now count }
+    ensures { IsWhole 0 1000000 text.now result }
+{
+    match number_within(text, 0, MOST_MADE) {
+        Some(count) => count,
+        None => unreachable!(),
+    }
+}
+
+/// The text of the made file of that name, which has at most 2^28 bytes: squares of one unit in rows of 360. None exactly where
+/// the name begins with neither `@g:` nor `@w:`.
+pub fn made_file(alloc: Global, name: &str) -> Result<Option<Vec<u8>>, Memory>
+    requires { IsFileName name.now }
+    ensures made { IfOk result (λ (made : _). MatchOption made (is_made name.now ≡ false) (λ (text : _). (is_made name.now ≡ true) × IsMadeText name.now text.items)) }
+    ensures short { IfOk result (λ (made : _). IfSome made (λ (text : _). length text.items ≤ 2 ^ 28)) }
+{
+    let squares = text_behind(name, "@w:");
+    match text_behind(name, "@g:") {
+        Some(count) => Ok(Some(geojson_text(alloc, made_count(count))?)),
+        None => match squares {
+            Some(count) => Ok(Some(wkt_text(alloc, made_count(count))?)),
+            None => Ok(None),
+        },
+    }
+}
