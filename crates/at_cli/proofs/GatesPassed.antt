@@ -1,15 +1,26 @@
--- Where a file has an answer, the gate gave up none of its blocks.
-use Rattle.std.proofs.Common.{◌≡◌, ℕ, ◌-◌, List, length, Result, Ok, Err, IfOk, arith}
+-- Where files have an answer, the gate gave up none of their blocks, and no cell.
+use Rattle.std.proofs.Common.{◌≡◌, ℕ, ◌-◌, List, length, Option, Some, None, Result, Ok, Err, IfOk, sym, subst, arith}
 use Rattle.at_query.specs.declared.answers.Answer.{Answer}
 use Rattle.at_run.specs.declared.faults.RunFault.{RunFault}
 use Rattle.at_run.specs.declared.faults.RunFault.TheVariants.{Memory}
+use Rattle.at_run.specs.declared.faults.JoinFault.{JoinFault}
 use Rattle.at_run.specs.Places.{AreEven}
-use Rattle.at_run.specs.Blocks.{SomeGivenUp}
+use Rattle.at_run.specs.Blocks.{NoneGivenUp, SomeGivenUp}
 use Rattle.at_cli.specs.declared.line.Line.{Line}
-use Rattle.at_cli.specs.Gates.{PassesGate}
+use Rattle.at_cli.specs.Gates.{PassesCells, PassesGate}
 
 pub gate_passed : (line : Line) (given_up places : List ℕ) (base len : ℕ) (result : Result Answer RunFault) → AreEven base len line.blocks places
-    → (SomeGivenUp given_up 0 (length places - 1) → result ≡ Err Memory) → IfOk result (λ _. PassesGate given_up line)
-gate_passed line given_up places base len (Ok answer) even f =
-    (even.count, even.least, (λ n low high h. absurd (let c = even.counted in let e = f (n, low, omega (arith, c, high), h) in cc)))
-gate_passed line given_up places base len (Err end) even f = tt
+    → (SomeGivenUp given_up 0 (length places - 1) → result ≡ Err Memory) → line.second ≡ None → IfOk result (λ _. PassesGate given_up line)
+gate_passed line given_up places base len (Ok answer) even f none =
+    (even.count, even.least, (λ n low high h. absurd (let c = even.counted in let e = f (n, low, omega (arith, c, high), h) in cc)), subst (PassesCells given_up) (sym none) tt)
+gate_passed line given_up places base len (Err end) even f none = tt
+
+no_cell : (given_up : List ℕ) (second : Option (List ℕ)) → NoneGivenUp given_up 0 64 → PassesCells given_up second
+no_cell given_up None h = tt
+no_cell given_up (Some second) h = h
+
+pub pair_passed : (line : Line) (given_up places : List ℕ) (base len : ℕ) (result : Result Answer JoinFault) → AreEven base len line.blocks places
+    → IfOk result (λ _. NoneGivenUp given_up 0 (length places - 1)) → IfOk result (λ _. NoneGivenUp given_up 0 64) → IfOk result (λ _. PassesGate given_up line)
+pair_passed line given_up places base len (Ok answer) even blocks cells =
+    (even.count, even.least, (λ n low high h. let c = even.counted in blocks n low (omega (arith, c, high)) h), no_cell given_up line.second cells)
+pair_passed line given_up places base len (Err end) even blocks cells = tt

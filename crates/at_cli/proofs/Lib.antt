@@ -12,3 +12,4 @@ pub mod FlagLaws
 pub mod SaidLines
 pub mod MadeSizes
 pub mod OneMade
+pub mod ShelfUses

@@ -1,20 +1,40 @@
 -- The words and the files have at most one outcome: a law of the definitions, which no function's contract is needed for.
 use Rattle.std.proofs.Common.{◌≡◌, inl, inr, ℕ, ◌<◌, ◌≤◌, ◌^◌, Bool, true, false, List, [], length, Option, Some, None, refl, sym, ◌∙◌, ap, subst, arith, true≢false}
-use Rattle.std.proofs.lemmas.Option.{same_Some}
+use Rattle.std.proofs.lemmas.Option.{none-some, same_Some}
 use Rattle.at_io.specs.Files.{Files}
 use Rattle.at_wkt.proofs.OneFile.{one_file_fault}
 use Rattle.at_query.specs.declared.queries.Query.{Query}
 use Rattle.at_query.specs.Printing.{printed}
 use Rattle.at_query.proofs.OneQuery.{one_query, one_query_fault, query_or_fault}
-use Rattle.at_run.proofs.OneAnswer.{one_file_answer, answer_or_fault}
+use Rattle.at_run.proofs.OneAnswer.{one_file_answer, answer_or_fault, one_join_answer, join_or_first_fault, join_or_second_fault}
 use Rattle.at_cli.specs.declared.line.Line.{Line}
+use Rattle.at_cli.specs.Made.{is_made, IsMadeText}
+use Rattle.at_cli.proofs.OneMade.{one_made_text}
 use Rattle.at_cli.specs.Texts.{usage_line, query_line, files_line, size_line, fault_line}
-use Rattle.at_cli.specs.Outcomes.{Outcome, stopped, answered, units, has_right_count, is_served, HasBytesOutcome, HasSizedOutcome, HasFileOutcome, HasServedOutcome, HasCountedOutcome, HasLineOutcome, HasOutcome, TheOutcome, IsQueryRefused, IsLineRefused, AreRefused, IsLineAccepted, AreAccepted}
+use Rattle.at_cli.specs.Outcomes.{Outcome, stopped, answered, units, has_right_count, is_served, HasBytesBy, HasBytes, Sized, HasBytesOutcome, HasPairOutcome, HasFilesOutcome, HasServedOutcome, HasCountedOutcome, HasLineOutcome, HasOutcome, TheOutcome, IsQueryRefused, IsLineRefused, AreRefused, IsLineAccepted, AreAccepted}
 use Rattle.at_cli.specs.declared.ending.Ending.{Ending}
 use Rattle.at_cli.specs.Endings.{outcome_by, Ends}
 use Rattle.at_cli.proofs.OneLine.{one_line}
 
 -- ---- one outcome of what is the same
+
+too_long : (n limit : ℕ) → limit < n → n ≤ limit → ⊥
+too_long n limit h k = omega arith
+
+-- a name has at most one list of bytes
+one_bytes_by : (t : Bool) (files : Files) (name a b : List ℕ) → HasBytesBy t files name a → HasBytesBy t files name b → a ≡ b
+one_bytes_by true files name a b h k = one_made_text name a b h k
+one_bytes_by false files name a b h k = same_Some a b (sym h ∙ k)
+
+one_sized : (files : Files) (name : List ℕ) (Rest : List ℕ → Outcome → Type 0) → ((bytes : List ℕ) (x y : Outcome) → Rest bytes x → Rest bytes y → x ≡ y)
+    → (a b : Outcome) → Sized files name Rest a → Sized files name Rest b → a ≡ b
+one_sized files name Rest one a b (bytes, named, inl (h, e)) (others, also, inl (k, i)) = e ∙ sym i
+one_sized files name Rest one a b (bytes, named, inl (h, e)) (others, also, inr (k, more)) =
+    absurd (too_long (length others) (2 ^ 28) (let P : List ℕ → Type 0 = λ w. 2 ^ 28 < length w in subst P (one_bytes_by (is_made name) files name bytes others named also) h) k)
+one_sized files name Rest one a b (bytes, named, inr (h, more)) (others, also, inl (k, i)) =
+    absurd (too_long (length others) (2 ^ 28) k (let P : List ℕ → Type 0 = λ w. length w ≤ 2 ^ 28 in subst P (one_bytes_by (is_made name) files name bytes others named also) h))
+one_sized files name Rest one a b (bytes, named, inr (h, more)) (others, also, inr (k, further)) =
+    one others a b (let P : List ℕ → Type 0 = λ w. Rest w a in subst P (one_bytes_by (is_made name) files name bytes others named also) more) further
 
 module _ (line : Line) where
   module _ (query : Query) where
@@ -26,28 +46,36 @@ module _ (line : Line) where
     one_of_bytes bytes a b (inr (answer, h, e)) (inl (g, k, i)) = absurd (answer_or_fault units line.how query bytes answer g h k)
     one_of_bytes bytes a b (inr (x, h, e)) (inr (y, k, i)) = e ∙ (ap (λ z. answered (printed units z)) (one_file_answer units line.how query bytes x y h k) ∙ sym i)
 
-    too_long : (n limit : ℕ) → limit < n → n ≤ limit → ⊥
-    too_long n limit h k = omega arith
-
-    one_sized : (bytes : List ℕ) (a b : Outcome) → HasSizedOutcome line query bytes a → HasSizedOutcome line query bytes b → a ≡ b
-    one_sized bytes a b (inl (h, e)) (inl (k, i)) = e ∙ sym i
-    one_sized bytes a b (inl (h, e)) (inr (k, more)) = absurd (too_long (length bytes) (2 ^ 28) h k)
-    one_sized bytes a b (inr (h, more)) (inl (k, i)) = absurd (too_long (length bytes) (2 ^ 28) k h)
-    one_sized bytes a b (inr (h, more)) (inr (k, others)) = one_of_bytes bytes a b more others
+    -- the first fault of the first file that has one, or the join
+    one_of_pair : (second a b : List ℕ) (x y : Outcome) → HasPairOutcome line query second a b x → HasPairOutcome line query second a b y → x ≡ y
+    one_of_pair second a b x y (inl (f, h, e)) (inl (g, k, i)) =
+        let same : f ≡ g = same_Some f g (one_file_fault units line.how a (Some f) (Some g) h k) in
+        e ∙ (ap (λ z. stopped 1 (fault_line line.first z)) same ∙ sym i)
+    one_of_pair second a b x y (inl (f, h, e)) (inr (inl (g, (k, l), i))) = absurd (none-some f (one_file_fault units line.how a None (Some f) k h))
+    one_of_pair second a b x y (inl (f, h, e)) (inr (inr (answer, k, i))) = absurd (join_or_first_fault units line.how query a b answer f k h)
+    one_of_pair second a b x y (inr (inl (f, (h, l), e))) (inl (g, k, i)) = absurd (none-some g (one_file_fault units line.how a None (Some g) h k))
+    one_of_pair second a b x y (inr (inl (f, (h, l), e))) (inr (inl (g, (k, m), i))) =
+        let same : f ≡ g = same_Some f g (one_file_fault units line.how b (Some f) (Some g) l m) in
+        e ∙ (ap (λ z. stopped 1 (fault_line second z)) same ∙ sym i)
+    one_of_pair second a b x y (inr (inl (f, (h, l), e))) (inr (inr (answer, k, i))) = absurd (join_or_second_fault units line.how query a b answer f k l)
+    one_of_pair second a b x y (inr (inr (answer, h, e))) (inl (g, k, i)) = absurd (join_or_first_fault units line.how query a b answer g h k)
+    one_of_pair second a b x y (inr (inr (answer, h, e))) (inr (inl (g, (k, l), i))) = absurd (join_or_second_fault units line.how query a b answer g h l)
+    one_of_pair second a b x y (inr (inr (one, h, e))) (inr (inr (other, k, i))) = e ∙ (ap (λ z. answered (printed units z)) (one_join_answer units line.how query a b one other h k) ∙ sym i)
 
     module _ (files : Files) where
-      one_of_file : (a b : Outcome) → HasFileOutcome line query files a → HasFileOutcome line query files b → a ≡ b
-      one_of_file a b (bytes, named, h) (others, also, k) =
-          let same : bytes ≡ others = same_Some bytes others (sym named ∙ also) in
-          one_sized others a b (subst (λ w. HasSizedOutcome line query w a) same h) k
+      one_of_files : (second : Option (List ℕ)) (a b : Outcome) → HasFilesOutcome second line query files a → HasFilesOutcome second line query files b → a ≡ b
+      one_of_files None a b h k = one_sized files line.first (HasBytesOutcome line query) (λ bytes x y p q. one_of_bytes bytes x y p q) a b h k
+      one_of_files (Some second) a b h k =
+          one_sized files line.first (λ bytes. Sized files second (HasPairOutcome line query second bytes))
+          (λ bytes x y p q. one_sized files second (HasPairOutcome line query second bytes) (λ others z w r t. one_of_pair second bytes others z w r t) x y p q) a b h k
 
       one_served : (served : Bool) (a b : Outcome) → HasServedOutcome served line query files a → HasServedOutcome served line query files b → a ≡ b
       one_served false a b h k = h ∙ sym k
-      one_served true a b h k = one_of_file a b h k
+      one_served true a b h k = one_of_files line.second a b h k
 
       one_counted : (right : Bool) (a b : Outcome) → HasCountedOutcome right line query files a → HasCountedOutcome right line query files b → a ≡ b
       one_counted false a b h k = h ∙ sym k
-      one_counted true a b h k = one_served (is_served line query.verb) a b h k
+      one_counted true a b h k = one_served (is_served line) a b h k
 
   one_of_line : (files : Files) (a b : Outcome) → HasLineOutcome line files a → HasLineOutcome line files b → a ≡ b
   one_of_line files a b (inl (m, h, e)) (inl (n, k, i)) = e ∙ (ap (λ z. stopped 2 (query_line z)) (one_query_fault units line.how line.query m n h k) ∙ sym i)
@@ -78,7 +106,7 @@ module _ (line : Line) where
 
   -- ---- what is refused is the outcome
 
-  served_as : (query : Query) (files : Files) (t : Bool) (o : Outcome) → is_served line query.verb ≡ t → HasServedOutcome t line query files o → HasServedOutcome (is_served line query.verb) line query files o
+  served_as : (query : Query) (files : Files) (t : Bool) (o : Outcome) → is_served line ≡ t → HasServedOutcome t line query files o → HasServedOutcome (is_served line) line query files o
   served_as query files t o e h = subst (λ z. HasServedOutcome z line query files o) (sym e) h
 
   refused_outcome_of : (query : Query) (files : Files) (refusal : List ℕ) → IsQueryRefused line query refusal → HasCountedOutcome (has_right_count query.verb line.second) line query files (stopped 2 refusal)
@@ -95,20 +123,34 @@ module _ (line : Line) where
   never_two : (o : Outcome) (status : ℕ) (text out : List ℕ) → o ≡ record { status = status; out = out; err = text } → o.status ≡ 2 → (status ≡ 2 → ⊥) → ⊥
   never_two o status text out e h n = n (sym (ap (λ (z : Outcome). z.status) e) ∙ h)
 
-  file_not_two : (query : Query) (files : Files) (o : Outcome) → HasFileOutcome line query files o → o.status ≡ 2 → ⊥
-  file_not_two query files o (bytes, named, inl (large, e)) h = never_two o 6 (size_line line.first) [] e h (λ z. cc)
-  file_not_two query files o (bytes, named, inr (small, inl (f, k, e))) h = never_two o 1 (fault_line line.first f) [] e h (λ z. cc)
-  file_not_two query files o (bytes, named, inr (small, inr (answer, k, e))) h = never_two o 0 [] (printed units answer) e h (λ z. cc)
+  sized_not_two : (files : Files) (name : List ℕ) (Rest : List ℕ → Outcome → Type 0) → ((bytes : List ℕ) (o : Outcome) → Rest bytes o → o.status ≡ 2 → ⊥) → (o : Outcome) → Sized files name Rest o → o.status ≡ 2 → ⊥
+  sized_not_two files name Rest never o (bytes, named, inl (large, e)) h = never_two o 6 (size_line name) [] e h (λ z. cc)
+  sized_not_two files name Rest never o (bytes, named, inr (small, rest)) h = never bytes o rest h
 
-  refused_of_served : (query : Query) (files : Files) (o : Outcome) (t : Bool) → is_served line query.verb ≡ t → has_right_count query.verb line.second ≡ true → HasServedOutcome t line query files o → o.status ≡ 2
+  bytes_not_two : (query : Query) (bytes : List ℕ) (o : Outcome) → HasBytesOutcome line query bytes o → o.status ≡ 2 → ⊥
+  bytes_not_two query bytes o (inl (f, k, e)) h = never_two o 1 (fault_line line.first f) [] e h (λ z. cc)
+  bytes_not_two query bytes o (inr (answer, k, e)) h = never_two o 0 [] (printed units answer) e h (λ z. cc)
+
+  pair_not_two : (query : Query) (second a b : List ℕ) (o : Outcome) → HasPairOutcome line query second a b o → o.status ≡ 2 → ⊥
+  pair_not_two query second a b o (inl (f, k, e)) h = never_two o 1 (fault_line line.first f) [] e h (λ z. cc)
+  pair_not_two query second a b o (inr (inl (f, k, e))) h = never_two o 1 (fault_line second f) [] e h (λ z. cc)
+  pair_not_two query second a b o (inr (inr (answer, k, e))) h = never_two o 0 [] (printed units answer) e h (λ z. cc)
+
+  files_not_two : (query : Query) (files : Files) (second : Option (List ℕ)) (o : Outcome) → HasFilesOutcome second line query files o → o.status ≡ 2 → ⊥
+  files_not_two query files None o k h = sized_not_two files line.first (HasBytesOutcome line query) (λ bytes x r t. bytes_not_two query bytes x r t) o k h
+  files_not_two query files (Some second) o k h =
+      sized_not_two files line.first (λ a. Sized files second (HasPairOutcome line query second a))
+      (λ a x r t. sized_not_two files second (HasPairOutcome line query second a) (λ b y u v. pair_not_two query second a b y u v) x r t) o k h
+
+  refused_of_served : (query : Query) (files : Files) (o : Outcome) (t : Bool) → is_served line ≡ t → has_right_count query.verb line.second ≡ true → HasServedOutcome t line query files o → o.status ≡ 2
       → (refusal : List ℕ) × IsQueryRefused line query refusal × (o ≡ stopped 2 refusal)
   refused_of_served query files o false unserved right e h = (usage_line, inr (right, unserved, refl), e)
-  refused_of_served query files o true served right k h = absurd (file_not_two query files o k h)
+  refused_of_served query files o true served right k h = absurd (files_not_two query files line.second o k h)
 
   refused_of_counted : (query : Query) (files : Files) (o : Outcome) (t : Bool) → has_right_count query.verb line.second ≡ t → HasCountedOutcome t line query files o → o.status ≡ 2
       → (refusal : List ℕ) × IsQueryRefused line query refusal × (o ≡ stopped 2 refusal)
   refused_of_counted query files o false wrong e h = (files_line, inl (wrong, refl), e)
-  refused_of_counted query files o true right k h = refused_of_served query files o (is_served line query.verb) refl right k h
+  refused_of_counted query files o true right k h = refused_of_served query files o (is_served line) refl right k h
 
   refused_of_line : (files : Files) (o : Outcome) → HasLineOutcome line files o → o.status ≡ 2 → (refusal : List ℕ) × IsLineRefused line refusal × (o ≡ stopped 2 refusal)
   refused_of_line files o (inl (m, k, e)) h = (query_line m, inl (m, k, refl), e)
@@ -140,13 +182,13 @@ one_refusal words a b (inl (none, e)) (inr (line, says, k)) = absurd (none line 
 one_refusal words a b (inr (line, says, h)) (inl (none, i)) = absurd (none line says)
 one_refusal words a b (inr (line, says, h)) (inr (other, also, k)) = one_refused_line other a b (subst (λ z. IsLineRefused z a) (one_line words line other says also) h) k
 
--- or accepted with at most one name, and not both
-pub one_name : (words : List (List ℕ)) (a b : List ℕ) → AreAccepted words a → AreAccepted words b → a ≡ b
-one_name words a b (line, says, h, e) (other, also, k, i) = e ∙ (ap (λ (z : Line). z.first) (one_line words line other says also) ∙ sym i)
+-- or accepted with at most one line, and not both
+pub one_accepted : (words : List (List ℕ)) (a b : Line) → AreAccepted words a → AreAccepted words b → a ≡ b
+one_accepted words a b (says, h) (also, k) = one_line words a b says also
 
-pub refused_or_accepted : (words : List (List ℕ)) (refusal name : List ℕ) → AreRefused words refusal → AreAccepted words name → ⊥
-refused_or_accepted words refusal name (inl (none, e)) (line, says, k, i) = none line says
-refused_or_accepted words refusal name (inr (line, says, h)) (other, also, k, i) = refused_not_accepted other refusal (subst (λ z. IsLineRefused z refusal) (one_line words line other says also) h) k
+pub refused_or_accepted : (words : List (List ℕ)) (refusal : List ℕ) (other : Line) → AreRefused words refusal → AreAccepted words other → ⊥
+refused_or_accepted words refusal other (inl (none, e)) (says, k) = none other says
+refused_or_accepted words refusal other (inr (line, says, h)) (also, k) = refused_not_accepted other refusal (subst (λ z. IsLineRefused z refusal) (one_line words line other says also) h) k
 
 -- words that are refused have the refusal as their outcome, whatever the files are
 pub refusal_is_outcome : (words : List (List ℕ)) (files : Files) (refusal : List ℕ) → AreRefused words refusal → HasOutcome words files (stopped 2 refusal)

@@ -1,7 +1,6 @@
 -- The end of a run is the outcome of what the words say, over the files.
 use Rattle.std.proofs.Common.{◌≡◌, ◌≢◌, ◌↔◌, ◌⊎◌, ◌∙◌, sym, ap, Result, Err, ℕ, ◌≤◌, ◌^◌, List, [], ◌∷◌, length, Option, Some, None, IfSome, inl, inr, refl, subst, arith}
-use Rattle.at_io.specs.Files.{Files, bytes_named}
-use Rattle.at_query.specs.declared.queries.Query.{Query}
+use Rattle.at_io.specs.Files.{Files}
 use Rattle.at_cli.specs.declared.ending.Ending.{Ending}
 use Rattle.at_cli.specs.declared.line.Line.{Line}
 use Rattle.at_cli.specs.Values.{IsWhole}
@@ -10,20 +9,13 @@ use Rattle.at_query.specs.Queries.{HasQueryFault}
 use Rattle.at_cli.specs.declared.ending.Ending.TheVariants.{Usage, QueryFault, Names, Faulty, ReadFailed, TooLarge, NoMemory, Answered}
 use Rattle.at_cli.specs.declared.line.WordsEnd.{WordsEnd}
 use Rattle.at_cli.specs.declared.line.WordsEnd.TheVariants.{Refused}
-use Rattle.at_cli.specs.Outcomes.{Outcome, stopped, answered, units, HasFileOutcome, HasLineOutcome, SayNoLine, IsLineRefused, IsLineAccepted, AreRefused, AreAccepted}
-use Rattle.at_cli.specs.Endings.{status_of, text_of, line_of, outcome_by, EndsBytes, Ends}
+use Rattle.at_cli.specs.Outcomes.{Outcome, stopped, answered, units, HasLineOutcome, SayNoLine, IsLineRefused, IsLineAccepted, AreRefused, AreAccepted}
+use Rattle.at_cli.specs.Endings.{status_of, text_of, line_of, outcome_by, Ends}
 
 -- what holds over all files holds over these
 pub ends_any : (Has : Files → Outcome → Type 0) (files : Option Files) (e : Ending) → ((told : Files) → Has told (outcome_by e)) → Ends Has files e
 ends_any Has None e h = inr (inr tt)
 ends_any Has (Some told) e h = inr (inr (h told))
-
--- the end over the file's bytes is the end over the files that have them
-pub ends_file : (line : Line) (query : Query) (files : Option Files) (bytes : List ℕ) (e : Ending) → IfSome files (λ told. bytes_named told line.first ≡ Some bytes) → length bytes ≤ 2 ^ 28
-    → EndsBytes line query bytes e → Ends (λ told. HasFileOutcome line query told) files e
-ends_file line query files bytes e named small (inl no_memory) = inr (inl no_memory)
-ends_file line query None bytes e named small (inr outcome) = inr (inr tt)
-ends_file line query (Some told) bytes e named small (inr outcome) = inr (inr (bytes, named, inr (small, outcome)))
 
 -- a query with a fault ends the run
 pub ends_query : (line : Line) (files : Option Files) (text : List ℕ) (at : ℕ) → text ≡ line.query → HasQueryFault units line.how text at → Ends (HasLineOutcome line) files (QueryFault at)
@@ -118,10 +110,10 @@ told_complete Has None e status (inr (inr h)) (inl same) = inr (inr (inr tt))
 told_complete Has (Some told) e status (inr (inr h)) (inl same) = inr (inr (inr (outcome_by e, h, same)))
 
 -- a line that is accepted makes what is asked of the shelf that of the words
-pub asked_of : (words : List (List ℕ)) (line : Line) (Same : Type 0) (Asks : List ℕ → Type 0) → SaysLine words line → Same ⊎ (IsLineAccepted line × Asks line.first)
-    → Same ⊎ ((name : List ℕ) × AreAccepted words name × Asks name)
+pub asked_of : (words : List (List ℕ)) (line : Line) (Same : Type 0) (Asks : Line → Type 0) → SaysLine words line → Same ⊎ (IsLineAccepted line × Asks line)
+    → Same ⊎ ((line : Line) × AreAccepted words line × Asks line)
 asked_of words line Same Asks says (inl same) = inl same
-asked_of words line Same Asks says (inr (accepted, asks)) = inr (line.first, (line, says, accepted, refl), asks)
+asked_of words line Same Asks says (inr (accepted, asks)) = inr (line, (says, accepted), asks)
 
 -- a status of a refusal is told as it is
 pub told_refusal : (status own : ℕ) → (status ≡ own) ⊎ ((status ≡ 4) × (own ≡ 0)) → (own ≡ 2) ⊎ (own ≡ 5) → (status ≡ 2) ⊎ (status ≡ 5)
@@ -146,4 +138,4 @@ pub said_keeps : (words : List (List ℕ)) (line : Line) → SaysLine words line
 said_keeps words line (pieces, after, spelled, values) =
     let (some, few) = chosen_within 64 4096 _ line.blocks (omega arith) (omega arith) values.blocks in
     let (one, most) = chosen_within 4 64 _ line.workers (omega arith) (omega arith) values.workers in
-    record { some_blocks = some; few_blocks = few; some_workers = one; few_workers = most; query_fits = values.names.query_fits }
+    record { some_blocks = some; few_blocks = few; some_workers = one; few_workers = most; query_fits = values.names.query_fits; first_names = values.names.first_names; second_names = values.names.second_names }

@@ -3,7 +3,7 @@ use Rattle.std.specs.Prelude.{◌≡◌, ◌⊎◌, ℕ, List, [], Option, IfSom
 use Rattle.at_io.specs.Files.{Files}
 use Rattle.at_query.specs.declared.queries.Query.{Query}
 use Rattle.at_cli.specs.declared.line.Line.{Line}
-use Rattle.at_cli.specs.Outcomes.{Outcome, HasBytesOutcome}
+use Rattle.at_cli.specs.Outcomes.{Outcome, HasBytesOutcome, HasPairOutcome}
 use Rattle.at_cli.specs.Texts.{usage_line, query_line, files_line, fault_line, read_line, size_line, memory_line}
 use Rattle.at_cli.specs.declared.ending.Ending.{Ending}
 use Rattle.at_cli.specs.declared.ending.Ending.TheVariants.{Usage, QueryFault, Names, Faulty, ReadFailed, TooLarge, NoMemory, Answered}
@@ -42,6 +42,10 @@ outcome_by e = record { status = status_of e; out = text_of e; err = line_of e }
 -- the end is the outcome over the bytes of the line's file, but for want of memory
 abbrev pub EndsBytes : Line → Query → List ℕ → Ending → Type 0
 EndsBytes line query bytes e = (status_of e ≡ 5) ⊎ HasBytesOutcome line query bytes (outcome_by e)
+
+-- the same over two files
+abbrev pub EndsPair : Line → Query → List ℕ → List ℕ → List ℕ → Ending → Type 0
+EndsPair line query second a b e = (status_of e ≡ 5) ⊎ HasPairOutcome line query second a b (outcome_by e)
 
 -- but for a failed shelf and want of memory, and where the files are told, the end has the property over them
 abbrev pub Ends : (Files → Outcome → Type 0) → Option Files → Ending → Type 0

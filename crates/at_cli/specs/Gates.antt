@@ -1,13 +1,18 @@
 -- The gate that the blocks of a file pass: where an answer is written, it gave up none of them.
-use Rattle.std.specs.Prelude.{ℕ, List}
+use Rattle.std.specs.Prelude.{ℕ, List, Option, Some, None}
 use Rattle.at_run.specs.Places.{IsLeastCount}
 use Rattle.at_run.specs.Blocks.{NoneGivenUp}
 use Rattle.at_cli.specs.declared.line.Line.{Line}
 use Rattle.at_cli.specs.LineOf.{SaysLine}
 
--- the gate gives up no block of a file that is cut as the line asks
+-- nor any cell of a join
+abbrev pub PassesCells : List ℕ → Option (List ℕ) → Type 0
+PassesCells given_up None = Unit {0}
+PassesCells given_up (Some second) = NoneGivenUp given_up 0 64
+
+-- the gate gives up no block of a file that is cut as the line asks, and no cell of the join of two
 abbrev pub PassesGate : List ℕ → Line → Type 0
-PassesGate given_up line = (count : ℕ) × IsLeastCount line.blocks count × NoneGivenUp given_up 0 count
+PassesGate given_up line = (count : ℕ) × IsLeastCount line.blocks count × NoneGivenUp given_up 0 count × PassesCells given_up line.second
 
 -- the same of the line that the words say
 abbrev pub PassesSaid : List ℕ → List (List ℕ) → Type 0

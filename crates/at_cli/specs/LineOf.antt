@@ -44,6 +44,8 @@ pub record KeepsLimits (line : Line) : Type 0 where
   pub some_workers : 1 ≤ line.workers
   pub few_workers : line.workers ≤ 64
   pub query_fits : length line.query ≤ 2 ^ 28
+  pub first_names : IsFileName line.first
+  pub second_names : IfSome line.second IsFileName
 
 -- the form of a name's file: the one that the line says, or else the one that the name says
 abbrev pub form_of : Line → List ℕ → Form

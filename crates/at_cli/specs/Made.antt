@@ -1,6 +1,7 @@
 -- The made files, whose names begin with `@g:` and `@w:`: squares of one unit in rows of 360.
-use Rattle.std.specs.Prelude.{◌≡◌, ◌⊎◌, ℕ, ◌+◌, ◌/◌, ◌%◌, ◌≤◌, nat_eq, if◌then◌else◌, codes, decimal, List, [], ◌∷◌, ◌++◌, flat_map}
+use Rattle.std.specs.Prelude.{◌≡◌, ◌⊎◌, ℕ, ◌+◌, ◌/◌, ◌%◌, ◌≤◌, Bool, ◌||◌, nat_eq, if◌then◌else◌, codes, decimal, List, [], ◌∷◌, ◌++◌, flat_map}
 use Rattle.std.specs.List.{range_with_len}
+use Rattle.at_cli.specs.Words.{begins_with}
 
 -- texts, one behind another
 abbrev pub texts : List (List ℕ) → List ℕ
@@ -40,6 +41,10 @@ wkt_text count = flat_map wkt_line (range_with_len 0 count)
 
 abbrev pub geojson_text : ℕ → List ℕ
 geojson_text count = texts (codes "{\"type\":\"FeatureCollection\",\"features\":[" ∷ flat_map feature_line (range_with_len 0 count) ∷ codes "\n]}\n" ∷ [])
+
+-- the name is a made file's
+abbrev pub is_made : List ℕ → Bool
+is_made name = begins_with (codes "@g:") name || begins_with (codes "@w:") name
 
 -- the name is that of the made file with this text, of at most a million squares
 abbrev pub IsMadeText : List ℕ → List ℕ → Type 0

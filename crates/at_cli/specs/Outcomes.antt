@@ -1,5 +1,5 @@
 -- What the program writes and how it ends, by its words and the files. It knows nothing of how they are read, of blocks, or of workers.
-use Rattle.std.specs.Prelude.{◌≡◌, ◌⊎◌, ℕ, ◌^◌, ◌<◌, ◌≤◌, Bool, true, false, not, ◌&&◌, ◌||◌, codes, List, [], length, Option, Some, None}
+use Rattle.std.specs.Prelude.{◌≡◌, ◌⊎◌, ℕ, ◌^◌, ◌<◌, ◌≤◌, Bool, true, false, ◌&&◌, List, [], length, Option, Some, None}
 use Rattle.at_text.specs.declared.faults.Fault.{Fault}
 use Rattle.at_io.specs.Files.{Files, bytes_named}
 use Rattle.at_wkt.specs.Files.{HasFileFault}
@@ -11,10 +11,10 @@ use Rattle.at_query.specs.Queries.{IsQueryOf, HasQueryFault}
 use Rattle.at_query.specs.Printing.{printed}
 use Rattle.at_run.specs.declared.forms.Form.{Form}
 use Rattle.at_run.specs.declared.forms.Form.TheVariants.{GeoJson, Wkt}
-use Rattle.at_run.specs.Answers.{IsFileAnswer}
+use Rattle.at_run.specs.Answers.{IsFileAnswer, IsJoinAnswer, SecondFails}
 use Rattle.at_cli.specs.declared.line.Line.{Line}
-use Rattle.at_cli.specs.Words.{begins_with}
 use Rattle.at_cli.specs.LineOf.{SaysLine, form_of}
+use Rattle.at_cli.specs.Made.{is_made, IsMadeText}
 use Rattle.at_cli.specs.Texts.{usage_line, query_line, files_line, size_line, fault_line}
 
 -- the status, and what is written to the output and to the error output
@@ -46,16 +46,28 @@ abbrev pub is_wkt : Form → Bool
 is_wkt Wkt = true
 is_wkt GeoJson = false
 
--- the name is a made file's
-abbrev pub is_made : List ℕ → Bool
-is_made name = begins_with (codes "@g:") name || begins_with (codes "@w:") name
+-- files in GeoJSON aren't read yet
+abbrev pub is_second_served : Line → Option (List ℕ) → Bool
+is_second_served line None = true
+is_second_served line (Some second) = is_wkt (form_of line second)
 
--- joins, files in GeoJSON and made files aren't answered yet
-abbrev pub is_served : Line → Verb → Bool
-is_served line verbs.Join = false
-is_served line _ = is_wkt (form_of line line.first) && not (is_made line.first)
+abbrev pub is_served : Line → Bool
+is_served line = is_wkt (form_of line line.first) && is_second_served line line.second
 
 -- ---- the first case that applies
+
+-- the bytes of a name: a made file's text, or those that the files have under it
+abbrev pub HasBytesBy : Bool → Files → List ℕ → List ℕ → Type 0
+HasBytesBy true files name bytes = IsMadeText name bytes
+HasBytesBy false files name bytes = bytes_named files name ≡ Some bytes
+
+abbrev pub HasBytes : Files → List ℕ → List ℕ → Type 0
+HasBytes files name bytes = HasBytesBy (is_made name) files name bytes
+
+-- the name has bytes; where they are too many, that is the outcome, and else what is said of them
+abbrev pub Sized : Files → List ℕ → (List ℕ → Outcome → Type 0) → Outcome → Type 0
+Sized files name Rest outcome = (bytes : List ℕ) × HasBytes files name bytes
+    × (((2 ^ 28 < length bytes) × (outcome ≡ stopped 6 (size_line name))) ⊎ ((length bytes ≤ 2 ^ 28) × Rest bytes outcome))
 
 -- the outcome over a file within the limit: its first fault, or else the answer to the query
 abbrev pub HasBytesOutcome : Line → Query → List ℕ → Outcome → Type 0
@@ -63,22 +75,25 @@ HasBytesOutcome line query bytes outcome =
     ((fault : Fault) × HasFileFault units line.how bytes (Some fault) × (outcome ≡ stopped 1 (fault_line line.first fault)))
     ⊎ ((answer : Answer) × IsFileAnswer units line.how query bytes answer × (outcome ≡ answered (printed units answer)))
 
--- the file has too many bytes, or else its outcome
-abbrev pub HasSizedOutcome : Line → Query → List ℕ → Outcome → Type 0
-HasSizedOutcome line query bytes outcome = ((2 ^ 28 < length bytes) × (outcome ≡ stopped 6 (size_line line.first)))
-    ⊎ ((length bytes ≤ 2 ^ 28) × HasBytesOutcome line query bytes outcome)
+-- the outcome over two files within the limit: the first fault of the first that has one, or else the answer to the join
+abbrev pub HasPairOutcome : Line → Query → List ℕ → List ℕ → List ℕ → Outcome → Type 0
+HasPairOutcome line query second a b outcome =
+    ((fault : Fault) × HasFileFault units line.how a (Some fault) × (outcome ≡ stopped 1 (fault_line line.first fault)))
+    ⊎ (((fault : Fault) × SecondFails units line.how a b fault × (outcome ≡ stopped 1 (fault_line second fault)))
+    ⊎ ((answer : Answer) × IsJoinAnswer units line.how query a b answer × (outcome ≡ answered (printed units answer))))
 
--- the shelf has the name, and its file has the outcome
-abbrev pub HasFileOutcome : Line → Query → Files → Outcome → Type 0
-HasFileOutcome line query files outcome = (bytes : List ℕ) × (bytes_named files line.first ≡ Some bytes) × HasSizedOutcome line query bytes outcome
+-- the names have bytes in their turn, and the files have the outcome
+abbrev pub HasFilesOutcome : Option (List ℕ) → Line → Query → Files → Outcome → Type 0
+HasFilesOutcome None line query files outcome = Sized files line.first (HasBytesOutcome line query) outcome
+HasFilesOutcome (Some second) line query files outcome = Sized files line.first (λ a. Sized files second (HasPairOutcome line query second a)) outcome
 
 abbrev pub HasServedOutcome : Bool → Line → Query → Files → Outcome → Type 0
 HasServedOutcome false line query files outcome = outcome ≡ stopped 2 usage_line
-HasServedOutcome true line query files outcome = HasFileOutcome line query files outcome
+HasServedOutcome true line query files outcome = HasFilesOutcome line.second line query files outcome
 
 abbrev pub HasCountedOutcome : Bool → Line → Query → Files → Outcome → Type 0
 HasCountedOutcome false line query files outcome = outcome ≡ stopped 2 files_line
-HasCountedOutcome true line query files outcome = HasServedOutcome (is_served line query.verb) line query files outcome
+HasCountedOutcome true line query files outcome = HasServedOutcome (is_served line) line query files outcome
 
 abbrev pub HasLineOutcome : Line → Files → Outcome → Type 0
 HasLineOutcome line files outcome = ((at : ℕ) × HasQueryFault units line.how line.query at × (outcome ≡ stopped 2 (query_line at)))
@@ -101,7 +116,7 @@ pub record TheOutcome (words : List (List ℕ)) (files : Files) (outcome : Outco
 
 abbrev pub IsQueryRefused : Line → Query → List ℕ → Type 0
 IsQueryRefused line query refusal = ((has_right_count query.verb line.second ≡ false) × (refusal ≡ files_line))
-    ⊎ ((has_right_count query.verb line.second ≡ true) × (is_served line query.verb ≡ false) × (refusal ≡ usage_line))
+    ⊎ ((has_right_count query.verb line.second ≡ true) × (is_served line ≡ false) × (refusal ≡ usage_line))
 
 abbrev pub IsLineRefused : Line → List ℕ → Type 0
 IsLineRefused line refusal = ((at : ℕ) × HasQueryFault units line.how line.query at × (refusal ≡ query_line at))
@@ -112,11 +127,11 @@ abbrev pub AreRefused : List (List ℕ) → List ℕ → Type 0
 AreRefused words refusal = (SayNoLine words × (refusal ≡ usage_line)) ⊎ ((line : Line) × SaysLine words line × IsLineRefused line refusal)
 
 abbrev pub IsQueryAccepted : Line → Query → Type 0
-IsQueryAccepted line query = (has_right_count query.verb line.second ≡ true) × (is_served line query.verb ≡ true)
+IsQueryAccepted line query = (has_right_count query.verb line.second ≡ true) × (is_served line ≡ true)
 
 abbrev pub IsLineAccepted : Line → Type 0
 IsLineAccepted line = (query : Query) × IsQueryOf units line.how line.query query × IsQueryAccepted line query
 
--- the words, the query and the count of names are accepted, and the file has this name
-abbrev pub AreAccepted : List (List ℕ) → List ℕ → Type 0
-AreAccepted words name = (line : Line) × SaysLine words line × IsLineAccepted line × (name ≡ line.first)
+-- the words say the line, and its query and its count of names are accepted
+abbrev pub AreAccepted : List (List ℕ) → Line → Type 0
+AreAccepted words line = SaysLine words line × IsLineAccepted line

@@ -1,21 +1,21 @@
-ghost use Rattle.std.specs.Prelude.{◌≡◌, ◌≢◌, ◌⊎◌, ◌+◌, ◌≤◌, ◌^◌, List, ℕ, length, true, Some, IfOk, MatchResult};
+ghost use Rattle.std.specs.Prelude.{◌≡◌, ◌≢◌, ◌⊎◌, ◌+◌, ◌≤◌, ◌^◌, List, ℕ, length, true, Some, None, IsSome, IfOk, MatchBool, MatchResult};
 ghost use Rattle.at_wkt.specs.Files.{HasFileFault};
 ghost use Rattle.at_query.specs.Ranges.{IsQueryInRange};
-ghost use Rattle.at_run.specs.Answers.{IfFound, IsFileAnswer};
-ghost use Rattle.at_cli.specs.LineOf.{KeepsLimits};
+ghost use Rattle.at_run.specs.Answers.{IfFound, IsFileAnswer, IsJoinAnswer, IsJoinFault};
+ghost use Rattle.at_cli.specs.LineOf.{form_of as form_told, KeepsLimits};
 ghost use Rattle.at_cli.specs.Gates.{PassesGate};
-ghost use Rattle.at_cli.specs.Texts.{read_line};
-ghost use Rattle.at_cli.specs.Failures.{AsksFor, FailedOn};
-ghost use Rattle.at_cli.specs.Outcomes.{has_right_count as count_is_right, is_made as made, is_served as served, units, HasFileOutcome, HasCountedOutcome, HasLineOutcome, IsLineRefused, IsQueryRefused, IsQueryAccepted, IsLineAccepted};
-ghost use Rattle.at_cli.specs.Endings.{status_of, line_of, EndsBytes, Ends};
+ghost use Rattle.at_cli.specs.Failures.{asked_names, asked_second, WasAsked, AsksFor, FailedOn};
+ghost use Rattle.at_cli.specs.Outcomes.{has_right_count as count_is_right, is_wkt as wkt, is_second_served as second_served, is_served as served, units, Sized, HasPairOutcome, HasFilesOutcome, HasCountedOutcome, HasLineOutcome, IsLineRefused, IsQueryRefused, IsQueryAccepted, IsLineAccepted};
+ghost use Rattle.at_cli.specs.Endings.{status_of, line_of, EndsBytes, EndsPair, Ends};
 
 use crate::ending::Ending;
 use crate::form::form_of;
 use crate::line::Line;
+use crate::reading::named_bytes;
 use at_crew::Gate;
-use at_io::{ReadError, Shelf, read_whole};
+use at_io::{ReadError, Shelf};
 use at_query::{Answer, Query, QueryEnd, Verb, answer_text, read_query};
-use at_run::{Cuts, Form, RunFault, answer};
+use at_run::{Cuts, Form, JoinFault, RunFault, answer, answer_join};
 use at_text::{Word, base_of};
 use std::alloc::Global;
 use std::thread::Threads;
@@ -36,6 +36,7 @@ fn answer_file<G: Gate, R: Threads + Sync>(
     requires line { KeepsLimits line.now }
     requires in_range { IsQueryInRange query.now }
     requires verb { query.now.verb ≢ Verb.Join }
+    requires second { line.now.second ≡ None }
     ensures answer { MatchResult result (IsFileAnswer units line.now.how query.now bytes.now)
         (λ end. IfFound end (λ fault. HasFileFault units line.now.how bytes.now (Some fault))) }
     ensures passes { IfOk result (λ _. PassesGate (G.given_up gate.now) line.now) }
@@ -70,6 +71,7 @@ fn end_of_bytes<G: Gate, R: Threads + Sync>(
     requires line { KeepsLimits line }
     requires in_range { IsQueryInRange query.now }
     requires verb { query.now.verb ≢ Verb.Join }
+    requires second { line.second ≡ None }
     ensures outcome { EndsBytes line query.now bytes.now result }
     ensures status { (status_of result ≢ 2) × (status_of result ≢ 3) × (status_of result ≢ 6) }
     ensures passes { status_of result ≡ 0 → PassesGate (G.given_up gate.now) line }
@@ -84,8 +86,163 @@ fn end_of_bytes<G: Gate, R: Threads + Sync>(
     }
 }
 
-/// The end over the line's file, which is read from the shelf.
-fn end_of_file<S: Shelf, G: Gate, R: Threads + Sync>(
+/// The answer to a join over the bytes of two files in Well-Known Text, each cut into the blocks that the words ask for.
+fn join_files<G: Gate, R: Threads + Sync>(
+    rt: &R,
+    alloc: Global,
+    line: &Line,
+    query: &Query,
+    a: &[u8],
+    b: &[u8],
+    gate: &G,
+) -> Result<Answer, JoinFault>
+    requires limit_a { length a.now ≤ 2 ^ 28 }
+    requires limit_b { length b.now ≤ 2 ^ 28 }
+    requires line { KeepsLimits line.now }
+    requires in_range { IsQueryInRange query.now }
+    requires verb { query.now.verb ≡ Verb.Join }
+    ensures answer { MatchResult result (IsJoinAnswer units line.now.how query.now a.now b.now) (IsJoinFault units line.now.how a.now b.now) }
+    ensures passes { IfOk result (λ _. PassesGate (G.given_up gate.now) line.now) }
+{
+    let Ok(cuts_a) = Cuts::even(alloc, base_of(a), a.len() as u32, line.blocks) else {
+        return Err(JoinFault::Memory);
+    };
+    let Ok(cuts_b) = Cuts::even(alloc, base_of(b), b.len() as u32, line.blocks) else {
+        return Err(JoinFault::Memory);
+    };
+    answer_join(
+        rt,
+        alloc,
+        a,
+        Form::Wkt,
+        b,
+        Form::Wkt,
+        &cuts_a,
+        &cuts_b,
+        query,
+        UNITS,
+        line.how,
+        line.workers,
+        gate,
+    )
+}
+
+/// The name of the line's second file.
+fn second_of(line: Line) -> Word
+    requires { IsSome line.second }
+    ensures { Some result ≡ line.second }
+{
+    let Line { second, .. } = line;
+    match second {
+        Some(second) => second,
+        None => unreachable!(),
+    }
+}
+
+/// The end over the bytes of two files, which are within the limit.
+fn end_of_pair<G: Gate, R: Threads + Sync>(
+    rt: &R,
+    alloc: Global,
+    line: Line,
+    query: &Query,
+    a: &[u8],
+    b: &[u8],
+    gate: &G,
+) -> Ending
+    requires limit_a { length a.now ≤ 2 ^ 28 }
+    requires limit_b { length b.now ≤ 2 ^ 28 }
+    requires line { KeepsLimits line }
+    requires second { IsSome line.second }
+    requires in_range { IsQueryInRange query.now }
+    requires verb { query.now.verb ≡ Verb.Join }
+    ensures outcome { (second : List ℕ) → line.second ≡ Some second → EndsPair line query.now second a.now b.now result }
+    ensures status { (status_of result ≢ 2) × (status_of result ≢ 3) × (status_of result ≢ 6) }
+    ensures passes { status_of result ≡ 0 → PassesGate (G.given_up gate.now) line }
+{
+    match join_files(rt, alloc, &line, query, a, b, gate) {
+        Ok(answer) => match answer_text(alloc, &answer, UNITS) {
+            Ok(text) => Ending::Answered(text),
+            Err(_) => Ending::NoMemory,
+        },
+        Err(JoinFault::First(fault)) => Ending::Faulty(line.first, fault),
+        Err(JoinFault::Second(fault)) => Ending::Faulty(second_of(line), fault),
+        Err(JoinFault::Memory) => Ending::NoMemory,
+    }
+}
+
+/// The end over the line's second file, beside the bytes of the first.
+fn end_of_second<S: Shelf, G: Gate, R: Threads + Sync>(
+    rt: &R,
+    alloc: Global,
+    line: Line,
+    query: &Query,
+    a: &[u8],
+    shelf: &mut S,
+    gate: &G,
+) -> Ending
+    requires limit { length a.now ≤ 2 ^ 28 }
+    requires line { KeepsLimits line }
+    requires second { IsSome line.second }
+    requires in_range { IsQueryInRange query.now }
+    requires verb { query.now.verb ≡ Verb.Join }
+    ensures outcome { (second : List ℕ) → line.second ≡ Some second → Ends (λ told. Sized told second (HasPairOutcome line query.now second a.now)) (S.files shelf.old) result }
+    ensures status { status_of result ≢ 2 }
+    ensures failed { status_of result ≡ 3 → FailedOn (asked_second line.second) (line_of result) (S.files shelf.old) (S.faults shelf.old) (S.faults shelf.new) (S.begins shelf.old) (S.begins shelf.new) (S.broken shelf.new) (S.taken shelf.old) (S.taken shelf.new) (S.named shelf.old) (S.named shelf.new) }
+    ensures large { status_of result ≡ 6 → S.taken shelf.old + (2 ^ 28 + 1) ≤ S.taken shelf.new }
+    ensures asked { WasAsked (asked_second line.second) (S.files shelf.old) (S.begins shelf.old) (S.begins shelf.new) (S.taken shelf.old) (S.taken shelf.new) (S.named shelf.old) (S.named shelf.new) }
+    ensures same_files { S.files shelf.new ≡ S.files shelf.old }
+    ensures passes { status_of result ≡ 0 → PassesGate (G.given_up gate.now) line }
+{
+    match named_bytes(alloc, shelf, second_text(&line)) {
+        Ok(b) => end_of_pair(rt, alloc, line, query, a, &b, gate),
+        Err(ReadError::Failed) => Ending::ReadFailed(second_of(line)),
+        Err(ReadError::TooLarge) => Ending::TooLarge(second_of(line)),
+        Err(ReadError::Memory) => Ending::NoMemory,
+    }
+}
+
+/// The name of the line's second file, lent.
+fn second_text(line: &Line) -> &str
+    requires { IsSome line.now.second }
+    ensures { Some result.now ≡ line.now.second }
+{
+    match &line.second {
+        Some(second) => second.as_str(),
+        None => unreachable!(),
+    }
+}
+
+/// The end over the line's two files.
+fn end_of_two<S: Shelf, G: Gate, R: Threads + Sync>(
+    rt: &R,
+    alloc: Global,
+    line: Line,
+    query: &Query,
+    shelf: &mut S,
+    gate: &G,
+) -> Ending
+    requires line { KeepsLimits line }
+    requires second { IsSome line.second }
+    requires in_range { IsQueryInRange query.now }
+    requires verb { query.now.verb ≡ Verb.Join }
+    ensures outcome { (second : List ℕ) → line.second ≡ Some second → Ends (HasFilesOutcome (Some second) line query.now) (S.files shelf.old) result }
+    ensures status { status_of result ≢ 2 }
+    ensures failed { status_of result ≡ 3 → FailedOn (asked_names line) (line_of result) (S.files shelf.old) (S.faults shelf.old) (S.faults shelf.new) (S.begins shelf.old) (S.begins shelf.new) (S.broken shelf.new) (S.taken shelf.old) (S.taken shelf.new) (S.named shelf.old) (S.named shelf.new) }
+    ensures large { status_of result ≡ 6 → S.taken shelf.old + (2 ^ 28 + 1) ≤ S.taken shelf.new }
+    ensures asked { AsksFor (asked_names line) (S.files shelf.old) (S.begins shelf.old) (S.begins shelf.new) (S.taken shelf.old) (S.taken shelf.new) (S.named shelf.old) (S.named shelf.new) }
+    ensures same_files { S.files shelf.new ≡ S.files shelf.old }
+    ensures passes { status_of result ≡ 0 → PassesGate (G.given_up gate.now) line }
+{
+    match named_bytes(alloc, shelf, line.first.as_str()) {
+        Ok(a) => end_of_second(rt, alloc, line, query, &a, shelf, gate),
+        Err(ReadError::Failed) => Ending::ReadFailed(line.first),
+        Err(ReadError::TooLarge) => Ending::TooLarge(line.first),
+        Err(ReadError::Memory) => Ending::NoMemory,
+    }
+}
+
+/// The end over the line's one file.
+fn end_of_one<S: Shelf, G: Gate, R: Threads + Sync>(
     rt: &R,
     alloc: Global,
     line: Line,
@@ -96,20 +253,59 @@ fn end_of_file<S: Shelf, G: Gate, R: Threads + Sync>(
     requires line { KeepsLimits line }
     requires in_range { IsQueryInRange query.now }
     requires verb { query.now.verb ≢ Verb.Join }
-    ensures outcome { Ends (λ told. HasFileOutcome line query.now told) (S.files shelf.old) result }
+    requires second { line.second ≡ None }
+    ensures outcome { Ends (HasFilesOutcome None line query.now) (S.files shelf.old) result }
     ensures status { status_of result ≢ 2 }
-    ensures failed { status_of result ≡ 3 → (line_of result ≡ read_line line.first)
-        × FailedOn line.first (S.files shelf.old) (S.faults shelf.old) (S.faults shelf.new) (S.begins shelf.old) (S.begins shelf.new) (S.broken shelf.new) (S.named shelf.new) }
+    ensures failed { status_of result ≡ 3 → FailedOn (asked_names line) (line_of result) (S.files shelf.old) (S.faults shelf.old) (S.faults shelf.new) (S.begins shelf.old) (S.begins shelf.new) (S.broken shelf.new) (S.taken shelf.old) (S.taken shelf.new) (S.named shelf.old) (S.named shelf.new) }
     ensures large { status_of result ≡ 6 → S.taken shelf.old + (2 ^ 28 + 1) ≤ S.taken shelf.new }
-    ensures asked { AsksFor line.first (S.files shelf.old) (S.begins shelf.old) (S.begins shelf.new) (S.taken shelf.old) (S.taken shelf.new) (S.named shelf.new) }
+    ensures asked { AsksFor (asked_names line) (S.files shelf.old) (S.begins shelf.old) (S.begins shelf.new) (S.taken shelf.old) (S.taken shelf.new) (S.named shelf.old) (S.named shelf.new) }
     ensures same_files { S.files shelf.new ≡ S.files shelf.old }
     ensures passes { status_of result ≡ 0 → PassesGate (G.given_up gate.now) line }
 {
-    match read_whole(alloc, shelf, line.first.as_str()) {
+    match named_bytes(alloc, shelf, line.first.as_str()) {
         Ok(bytes) => end_of_bytes(rt, alloc, line, query, &bytes, gate),
         Err(ReadError::Failed) => Ending::ReadFailed(line.first),
         Err(ReadError::TooLarge) => Ending::TooLarge(line.first),
         Err(ReadError::Memory) => Ending::NoMemory,
+    }
+}
+
+/// The end over the line's files, of which there are as many as the verb takes.
+fn end_of_files<S: Shelf, G: Gate, R: Threads + Sync>(
+    rt: &R,
+    alloc: Global,
+    line: Line,
+    query: &Query,
+    shelf: &mut S,
+    gate: &G,
+) -> Ending
+    requires line { KeepsLimits line }
+    requires in_range { IsQueryInRange query.now }
+    requires right { count_is_right query.now.verb line.second ≡ true }
+    ensures outcome { Ends (HasFilesOutcome line.second line query.now) (S.files shelf.old) result }
+    ensures status { status_of result ≢ 2 }
+    ensures failed { status_of result ≡ 3 → FailedOn (asked_names line) (line_of result) (S.files shelf.old) (S.faults shelf.old) (S.faults shelf.new) (S.begins shelf.old) (S.begins shelf.new) (S.broken shelf.new) (S.taken shelf.old) (S.taken shelf.new) (S.named shelf.old) (S.named shelf.new) }
+    ensures large { status_of result ≡ 6 → S.taken shelf.old + (2 ^ 28 + 1) ≤ S.taken shelf.new }
+    ensures asked { AsksFor (asked_names line) (S.files shelf.old) (S.begins shelf.old) (S.begins shelf.new) (S.taken shelf.old) (S.taken shelf.new) (S.named shelf.old) (S.named shelf.new) }
+    ensures same_files { S.files shelf.new ≡ S.files shelf.old }
+    ensures passes { status_of result ≡ 0 → PassesGate (G.given_up gate.now) line }
+{
+    if is_join(query.verb) {
+        return end_of_two(rt, alloc, line, query, shelf, gate);
+    }
+    end_of_one(rt, alloc, line, query, shelf, gate)
+}
+
+/// Whether two files are joined.
+fn is_join(verb: Verb) -> bool
+    ensures { MatchBool result (verb ≡ Verb.Join) (verb ≢ Verb.Join) }
+{
+    match verb {
+        Verb::Join => true,
+        Verb::Select => false,
+        Verb::Count => false,
+        Verb::Area => false,
+        Verb::Extent => false,
     }
 }
 
@@ -123,24 +319,31 @@ fn has_right_count(verb: Verb, second: &Option<Word>) -> bool
     }
 }
 
-/// Whether the name is a made file's.
-fn is_made(name: &str) -> bool
-    ensures { result ≡ made name.now }
+/// Whether the file of that name is in Well-Known Text.
+fn is_wkt(line: &Line, name: &str) -> bool
+    ensures { result ≡ wkt (form_told line.now name.now) }
 {
-    let name = name.as_bytes();
-    name.starts_with(b"@g:") || name.starts_with(b"@w:")
+    match form_of(line, name) {
+        Form::Wkt => true,
+        Form::GeoJson => false,
+    }
 }
 
-/// Whether the query over the line's file is answered today.
-fn is_served(line: &Line, verb: Verb) -> bool
-    ensures { result ≡ served line.now verb }
+/// Whether the second file, where there is one, is in Well-Known Text.
+fn is_second_served(line: &Line) -> bool
+    ensures { result ≡ second_served line.now line.now.second }
 {
-    let name = line.first.as_str();
-    match verb {
-        Verb::Join => false,
-        Verb::Select | Verb::Count | Verb::Area | Verb::Extent => form_of(line, name) == Form::Wkt
-            && !is_made(name),
+    match &line.second {
+        None => true,
+        Some(second) => is_wkt(line, second.as_str()),
     }
+}
+
+/// Whether the line's files are read today.
+fn is_served(line: &Line) -> bool
+    ensures { result ≡ served line.now }
+{
+    is_wkt(line, line.first.as_str()) && is_second_served(line)
 }
 
 /// The end over a query that has no fault.
@@ -157,21 +360,20 @@ fn end_of_query<S: Shelf, G: Gate, R: Threads + Sync>(
     ensures outcome { Ends (λ told. HasCountedOutcome (count_is_right query.now.verb line.second) line query.now told) (S.files shelf.old) result }
     ensures refused { status_of result ≡ 2 → IsQueryRefused line query.now (line_of result) × (shelf.new ≡ shelf.old) }
     ensures accepted { status_of result ≢ 2 → IsQueryAccepted line query.now }
-    ensures failed { status_of result ≡ 3 → (line_of result ≡ read_line line.first)
-        × FailedOn line.first (S.files shelf.old) (S.faults shelf.old) (S.faults shelf.new) (S.begins shelf.old) (S.begins shelf.new) (S.broken shelf.new) (S.named shelf.new) }
+    ensures failed { status_of result ≡ 3 → FailedOn (asked_names line) (line_of result) (S.files shelf.old) (S.faults shelf.old) (S.faults shelf.new) (S.begins shelf.old) (S.begins shelf.new) (S.broken shelf.new) (S.taken shelf.old) (S.taken shelf.new) (S.named shelf.old) (S.named shelf.new) }
     ensures large { status_of result ≡ 6 → S.taken shelf.old + (2 ^ 28 + 1) ≤ S.taken shelf.new }
     ensures asked { (shelf.new ≡ shelf.old) ⊎ (IsQueryAccepted line query.now
-        × AsksFor line.first (S.files shelf.old) (S.begins shelf.old) (S.begins shelf.new) (S.taken shelf.old) (S.taken shelf.new) (S.named shelf.new)) }
+        × AsksFor (asked_names line) (S.files shelf.old) (S.begins shelf.old) (S.begins shelf.new) (S.taken shelf.old) (S.taken shelf.new) (S.named shelf.old) (S.named shelf.new)) }
     ensures same_files { S.files shelf.new ≡ S.files shelf.old }
     ensures passes { status_of result ≡ 0 → PassesGate (G.given_up gate.now) line }
 {
     if !has_right_count(query.verb, &line.second) {
         return Ending::Names;
     }
-    if !is_served(&line, query.verb) {
+    if !is_served(&line) {
         return Ending::Usage;
     }
-    end_of_file(rt, alloc, line, query, shelf, gate)
+    end_of_files(rt, alloc, line, query, shelf, gate)
 }
 
 /// The end over a line that the words say, and the shelf, with its cause.
@@ -186,11 +388,11 @@ pub fn end_of_line<S: Shelf, G: Gate, R: Threads + Sync>(
     ensures outcome { Ends (λ told. HasLineOutcome line told) (S.files shelf.old) result }
     ensures refused { status_of result ≡ 2 → IsLineRefused line (line_of result) × (shelf.new ≡ shelf.old) }
     ensures refuses { (refusal : List ℕ) → IsLineRefused line refusal → (status_of result ≡ 2) ⊎ (status_of result ≡ 5) }
-    ensures failed { status_of result ≡ 3 → IsLineAccepted line × (line_of result ≡ read_line line.first)
-        × FailedOn line.first (S.files shelf.old) (S.faults shelf.old) (S.faults shelf.new) (S.begins shelf.old) (S.begins shelf.new) (S.broken shelf.new) (S.named shelf.new) }
+    ensures failed { status_of result ≡ 3 → IsLineAccepted line
+        × FailedOn (asked_names line) (line_of result) (S.files shelf.old) (S.faults shelf.old) (S.faults shelf.new) (S.begins shelf.old) (S.begins shelf.new) (S.broken shelf.new) (S.taken shelf.old) (S.taken shelf.new) (S.named shelf.old) (S.named shelf.new) }
     ensures large { status_of result ≡ 6 → S.taken shelf.old + (2 ^ 28 + 1) ≤ S.taken shelf.new }
     ensures asked { (shelf.new ≡ shelf.old) ⊎ (IsLineAccepted line
-        × AsksFor line.first (S.files shelf.old) (S.begins shelf.old) (S.begins shelf.new) (S.taken shelf.old) (S.taken shelf.new) (S.named shelf.new)) }
+        × AsksFor (asked_names line) (S.files shelf.old) (S.begins shelf.old) (S.begins shelf.new) (S.taken shelf.old) (S.taken shelf.new) (S.named shelf.old) (S.named shelf.new)) }
     ensures same_files { S.files shelf.new ≡ S.files shelf.old }
     ensures passes { status_of result ≡ 0 → PassesGate (G.given_up gate.now) line }
 {

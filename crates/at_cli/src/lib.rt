@@ -10,6 +10,7 @@ mod lines;
 mod made;
 mod names;
 mod pieces;
+mod reading;
 mod run;
 mod said;
 mod values;

@@ -2,11 +2,12 @@ ghost use Rattle.std.specs.Prelude.{◌≡◌, ◌≢◌, ◌⊎◌, ◌+◌, �
 ghost use Rattle.at_io.specs.Counts.{Rose};
 ghost use Rattle.at_io.specs.Sinks.{Grows, GrowsByPrefix};
 ghost use Rattle.at_cli.specs.Gates.{PassesSaid};
-ghost use Rattle.at_cli.specs.Texts.{read_line, write_line, memory_line};
+ghost use Rattle.at_cli.specs.Texts.{write_line, memory_line};
 ghost use Rattle.at_cli.specs.Outcomes.{Outcome, stopped, answered, HasOutcome, TheOutcome, SayNoLine, AreRefused, AreAccepted};
 ghost use Rattle.at_cli.specs.Telling.{Tells};
-ghost use Rattle.at_cli.specs.Failures.{AsksFor, FailedOn};
+ghost use Rattle.at_cli.specs.Failures.{asked_names, AsksFor, FailedOn};
 ghost use Rattle.at_cli.specs.Endings.{status_of, text_of, line_of, Ends};
+ghost use Rattle.at_cli.specs.declared.line.Line.{Line};
 
 use crate::deciding::end_of_line;
 use crate::ending::Ending;
@@ -30,11 +31,11 @@ fn decide<S: Shelf, G: Gate, R: Threads + Sync>(
     ensures refuses { (refusal : List ℕ) → AreRefused (map string_bytes words.now) refusal → (status_of result ≡ 2) ⊎ (status_of result ≡ 5) }
     ensures usage { SayNoLine (map string_bytes words.now) → status_of result ≡ 2 }
     ensures untouched { status_of result ≡ 2 → shelf.new ≡ shelf.old }
-    ensures failed { status_of result ≡ 3 → (name : List ℕ) × AreAccepted (map string_bytes words.now) name × (line_of result ≡ read_line name)
-        × FailedOn name (S.files shelf.old) (S.faults shelf.old) (S.faults shelf.new) (S.begins shelf.old) (S.begins shelf.new) (S.broken shelf.new) (S.named shelf.new) }
+    ensures failed { status_of result ≡ 3 → (line : Line) × AreAccepted (map string_bytes words.now) line
+        × FailedOn (asked_names line) (line_of result) (S.files shelf.old) (S.faults shelf.old) (S.faults shelf.new) (S.begins shelf.old) (S.begins shelf.new) (S.broken shelf.new) (S.taken shelf.old) (S.taken shelf.new) (S.named shelf.old) (S.named shelf.new) }
     ensures large { status_of result ≡ 6 → S.taken shelf.old + (2 ^ 28 + 1) ≤ S.taken shelf.new }
-    ensures asked { (shelf.new ≡ shelf.old) ⊎ ((name : List ℕ) × AreAccepted (map string_bytes words.now) name
-        × AsksFor name (S.files shelf.old) (S.begins shelf.old) (S.begins shelf.new) (S.taken shelf.old) (S.taken shelf.new) (S.named shelf.new)) }
+    ensures asked { (shelf.new ≡ shelf.old) ⊎ ((line : Line) × AreAccepted (map string_bytes words.now) line
+        × AsksFor (asked_names line) (S.files shelf.old) (S.begins shelf.old) (S.begins shelf.new) (S.taken shelf.old) (S.taken shelf.new) (S.named shelf.old) (S.named shelf.new)) }
     ensures same_files { S.files shelf.new ≡ S.files shelf.old }
     ensures passes { status_of result ≡ 0 → PassesSaid (G.given_up gate.now) (map string_bytes words.now) }
 {
@@ -72,12 +73,12 @@ fn tell<O: Sink, E: Sink>(ending: &Ending, out: &mut O, err: &mut E) -> u8
 /// | Status | Comes |
 /// |---|---|
 /// | 0 | the answer is written |
-/// | 1 | the file has a fault |
+/// | 1 | a file has a fault |
 /// | 2 | exactly where the words, the query or the count of names are refused |
-/// | 3 | only where the shelf failed on the file |
+/// | 3 | only where the shelf failed on a file |
 /// | 4 | only where the output failed |
 /// | 5 | want of memory |
-/// | 6 | the file has more than 2^28 bytes |
+/// | 6 | a file has more than 2^28 bytes |
 ///
 /// What is said of content holds where the shelf tells its files and the sinks what is written. The words and the files
 /// have at most one outcome, so what is written where nothing fails is a function of them.
@@ -96,7 +97,7 @@ pub fn top<R: Threads + Sync, S: Shelf, O: Sink, E: Sink, G: Gate>(
     ensures answered { result ≡ 0 → (text : List ℕ) × Grows (O.written out.old) (O.written out.new) text × (err.new ≡ err.old) × (text ≡ [] → out.new ≡ out.old)
         × IfSome (S.files shelf.old) (λ told. TheOutcome (map string_bytes words.now) told (answered text)) }
 
-    // 0: the gate gave up no block of the file that was read.
+    // 0: the gate gave up no block of the files that were read, and no cell of a join.
     ensures passes { result ≡ 0 → PassesSaid (G.given_up gate.now) (map string_bytes words.now) }
 
     // 1 and 6: the line of the words and the files is told.
@@ -111,10 +112,10 @@ pub fn top<R: Threads + Sync, S: Shelf, O: Sink, E: Sink, G: Gate>(
     ensures refuses { (refusal : List ℕ) → AreRefused (map string_bytes words.now) refusal → (result ≡ 2) ⊎ (result ≡ 5) }
     ensures usage { SayNoLine (map string_bytes words.now) → result ≡ 2 }
 
-    // 3: only where the shelf failed on the file that the words name.
-    ensures read_failed { result ≡ 3 → (name : List ℕ) × AreAccepted (map string_bytes words.now) name
-        × FailedOn name (S.files shelf.old) (S.faults shelf.old) (S.faults shelf.new) (S.begins shelf.old) (S.begins shelf.new) (S.broken shelf.new) (S.named shelf.new)
-        × Tells (E.faults err.old) (E.faults err.new) (E.written err.old) (E.written err.new) (read_line name) }
+    // 3: only where the shelf failed on a file that the words name, in its turn; the line told is that of its name.
+    ensures read_failed { result ≡ 3 → (line : Line) × AreAccepted (map string_bytes words.now) line × ((told : List ℕ)
+        × FailedOn (asked_names line) told (S.files shelf.old) (S.faults shelf.old) (S.faults shelf.new) (S.begins shelf.old) (S.begins shelf.new) (S.broken shelf.new) (S.taken shelf.old) (S.taken shelf.new) (S.named shelf.old) (S.named shelf.new)
+        × Tells (E.faults err.old) (E.faults err.new) (E.written err.old) (E.written err.new) told) }
 
     // 4: only where the output failed on the answer, of which a prefix is written.
     ensures write_failed { result ≡ 4 → (text : List ℕ) × Rose (O.faults out.old) (O.faults out.new) × GrowsByPrefix (O.written out.old) (O.written out.new) text
@@ -124,12 +125,12 @@ pub fn top<R: Threads + Sync, S: Shelf, O: Sink, E: Sink, G: Gate>(
     // 5: want of memory.
     ensures no_memory { result ≡ 5 → Tells (E.faults err.old) (E.faults err.new) (E.written err.old) (E.written err.new) memory_line }
 
-    // The output is as before but for an answer, and of the shelf no file is begun but the one that the words name. The
+    // The output is as before but for an answer, and of the shelf no file is begun but those that the words name, in turn, without those that are made. The
     // status is that of the one outcome of the words and the files, but for 3, 4 and 5, whose causes are told above; so
     // what writes nothing to the output is no other where the output fails.
     ensures same_out { result ≢ 0 → result ≢ 4 → out.new ≡ out.old }
-    ensures asked { (shelf.new ≡ shelf.old) ⊎ ((name : List ℕ) × AreAccepted (map string_bytes words.now) name
-        × AsksFor name (S.files shelf.old) (S.begins shelf.old) (S.begins shelf.new) (S.taken shelf.old) (S.taken shelf.new) (S.named shelf.new)) }
+    ensures asked { (shelf.new ≡ shelf.old) ⊎ ((line : Line) × AreAccepted (map string_bytes words.now) line
+        × AsksFor (asked_names line) (S.files shelf.old) (S.begins shelf.old) (S.begins shelf.new) (S.taken shelf.old) (S.taken shelf.new) (S.named shelf.old) (S.named shelf.new)) }
     ensures same_files { S.files shelf.new ≡ S.files shelf.old }
     ensures complete { (result ≡ 3) ⊎ ((result ≡ 4) ⊎ ((result ≡ 5)
         ⊎ IfSome (S.files shelf.old) (λ told. (outcome : Outcome) × TheOutcome (map string_bytes words.now) told outcome × (result ≡ outcome.status)))) }

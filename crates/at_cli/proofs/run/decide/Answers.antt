@@ -1,6 +1,6 @@
 use Rattle.std.proofs.Common.{◌≡◌, map, string_bytes, refl, inl, inr}
 use Rattle.at_cli.specs.Outcomes.{HasOutcome, SayNoLine}
-use Rattle.at_cli.specs.Failures.{AsksFor}
+use Rattle.at_cli.specs.Failures.{asked_names, AsksFor}
 use Rattle.at_cli.specs.declared.ending.Ending.TheVariants.{Usage}
 use Rattle.at_cli.proofs.Runs.{ends_any, said_none, refused_by_line, asked_of}
 use Rattle.at_cli.proofs.run.decide.Goals as goal
@@ -27,5 +27,5 @@ returns-in-Ok-clause-asked g c =
     let o = g.S.Shelf in
     let before = c.args.shelf.now in
     let after = c.end_of_line.new.shelf in
-    asked_of (map string_bytes c.args.words.now) c.in-Ok.line (after ≡ before) (λ name. AsksFor name (o.files before) (o.begins before) (o.begins after) (o.taken before) (o.taken after) (o.named after))
+    asked_of (map string_bytes c.args.words.now) c.in-Ok.line (after ≡ before) (λ line. AsksFor (asked_names line) (o.files before) (o.begins before) (o.begins after) (o.taken before) (o.taken after) (o.named before) (o.named after))
     c.in-Ok.ensures.line c.end_of_line.ensures.asked

@@ -1,0 +1,166 @@
+-- What the shelf was asked for, name after name, and what the end is over the names' bytes.
+use Rattle.std.proofs.Common.{◌≡◌, ℕ, ◌+◌, ◌*◌, ◌^◌, ◌<◌, ◌≤◌, ◌⊎◌, inl, inr, Bool, true, false, if◌then◌else◌, List, [], ◌∷◌, ◌++◌, length, Option, Some, None, IfSome, is_some, Result, Err, refl, sym, ◌∙◌, ap, subst, arith, append-nil, append_assoc, length-append, true≢false}
+use Rattle.std.proofs.lemmas.Option.{none-some, same_Some}
+use Rattle.std.specs.Prelude.{IsSome}
+use Rattle.at_io.specs.Counts.{next_count, Rose}
+use Rattle.at_io.specs.declared.whole.ReadError.{ReadError}
+use Rattle.at_io.specs.declared.whole.ReadError.TheVariants.{Failed, TooLarge as Large}
+use Rattle.at_io.specs.Files.{Files, bytes_named, name_among}
+use Rattle.at_query.specs.declared.queries.Verb.{Verb}
+use Rattle.at_query.specs.declared.queries.Verb.TheVariants as verbs
+use Rattle.at_cli.specs.declared.ending.Ending.{Ending}
+use Rattle.at_cli.specs.declared.ending.Ending.TheVariants.{ReadFailed, TooLarge}
+use Rattle.at_cli.specs.declared.line.Line.{Line}
+use Rattle.at_cli.specs.Made.{is_made, IsMadeText}
+use Rattle.at_cli.specs.Texts.{read_line, size_line}
+use Rattle.at_cli.specs.Outcomes.{Outcome, stopped, has_right_count, HasBytesBy, HasBytes, Sized}
+use Rattle.at_cli.specs.Failures.{asked_name, asked_second, asked_names, begun_with, last_begun, WasAsked, AsksFor, FailedOn}
+use Rattle.at_cli.specs.Endings.{status_of, line_of, outcome_by, Ends}
+
+-- ---- the bytes of a name
+
+pub by_shelf : (files : Option Files) (name bytes : List ℕ) → is_made name ≡ false → IfSome files (λ told. bytes_named told name ≡ Some bytes) → IfSome files (λ told. HasBytes told name bytes)
+by_shelf None name bytes e h = tt
+by_shelf (Some told) name bytes e h = let P : Bool → Type 0 = λ t. HasBytesBy t told name bytes in subst P (sym e) h
+
+pub by_making : (files : Option Files) (name bytes : List ℕ) → is_made name ≡ true → IsMadeText name bytes → IfSome files (λ told. HasBytes told name bytes)
+by_making None name bytes e h = tt
+by_making (Some told) name bytes e h = let P : Bool → Type 0 = λ t. HasBytesBy t told name bytes in subst P (sym e) h
+
+abbrev pub IsLarge : Option Files → List ℕ → Type 0
+IsLarge files name = IfSome files (λ told. (bytes : List ℕ) × HasBytes told name bytes × (2 ^ 28 < length bytes))
+
+large_of : (o : Option (List ℕ)) → IsSome o → IfSome o (λ bytes. 2 ^ 28 < length bytes) → (bytes : List ℕ) × (o ≡ Some bytes) × (2 ^ 28 < length bytes)
+large_of (Some bytes) there large = (bytes, refl, large)
+large_of None there large = absurd (true≢false (sym there))
+
+pub large_by_shelf : (files : Option Files) (name : List ℕ) → is_made name ≡ false → IfSome files (λ told. IsSome (bytes_named told name)) → IfSome files (λ told. IfSome (bytes_named told name) (λ bytes. 2 ^ 28 < length bytes)) → IsLarge files name
+large_by_shelf None name e there large = tt
+large_by_shelf (Some told) name e there large =
+    let (bytes, is, h) = large_of (bytes_named told name) there large in
+    (bytes, (let P : Bool → Type 0 = λ t. HasBytesBy t told name bytes in subst P (sym e) is), h)
+
+-- a file that is too large is there
+pub there_of : {X : Type 0} (r : Result X ReadError) (P : Type 0) → r ≡ Err Large → (r ≡ Err Failed) ⊎ P → P
+there_of r P e (inr h) = h
+there_of {X} r P e (inl failed) = absurd (let clash : ◌≡◌ {A = Result X ReadError} (Err Large) (Err Failed) = sym e ∙ failed in cc)
+
+-- ---- what was asked
+
+nothing : (files : Option Files) (begins taken : ℕ) (named : Option (List ℕ)) → WasAsked [] files begins begins taken taken named named
+nothing files begins taken named = record { begun = refl; least = omega arith; limit = omega arith; last = same files } where
+  same : (files : Option Files) → IfSome files (λ told. named ≡ last_begun told [] named)
+  same None = tt
+  same (Some told) = refl
+
+pub made_unasked : (name : List ℕ) (files : Option Files) (begins taken : ℕ) (named : Option (List ℕ)) → is_made name ≡ true → WasAsked (asked_name name) files begins begins taken taken named named
+made_unasked name files begins taken named e =
+    let P : Bool → Type 0 = λ t. WasAsked (if t then [] else name ∷ []) files begins begins taken taken named named in subst P (sym e) (nothing files begins taken named)
+
+asked_is : (name : List ℕ) → is_made name ≡ false → asked_name name ≡ name ∷ []
+asked_is name e = ap (λ t. if t then [] else name ∷ []) e
+
+pub name_asked : (name : List ℕ) (files : Option Files) (begins begins' taken taken' : ℕ) (named named' : Option (List ℕ)) → is_made name ≡ false
+    → begins' ≡ next_count begins → taken ≤ taken' → taken' ≤ taken + (2 ^ 28 + 1) → IfSome files (λ told. named' ≡ name_among told name) → WasAsked (asked_name name) files begins begins' taken taken' named named'
+name_asked name files begins begins' taken taken' named named' e begun least limit last =
+    let P : List (List ℕ) → Type 0 = λ l. WasAsked l files begins begins' taken taken' named named' in
+    subst P (sym (asked_is name e)) (record { begun = begun; least = least; limit = omega (arith, limit); last = last })
+
+begun_both : (ns ms : List (List ℕ)) (n : ℕ) → begun_with ms (begun_with ns n) ≡ begun_with (ns ++ ms) n
+begun_both [] ms n = refl
+begun_both (x ∷ ns) ms n = begun_both ns ms (next_count n)
+
+last_both : (told : Files) (ns ms : List (List ℕ)) (named : Option (List ℕ)) → last_begun told ms (last_begun told ns named) ≡ last_begun told (ns ++ ms) named
+last_both told [] ms named = refl
+last_both told (x ∷ ns) ms named = last_both told ns ms (name_among told x)
+
+pub both_asked : (ns ms : List (List ℕ)) (files : Option Files) (b b1 b2 t t1 t2 : ℕ) (n n1 n2 : Option (List ℕ)) → WasAsked ns files b b1 t t1 n n1 → WasAsked ms files b1 b2 t1 t2 n1 n2 → WasAsked (ns ++ ms) files b b2 t t2 n n2
+both_asked ns ms files b b1 b2 t t1 t2 n n1 n2 h k = record {
+  begun = k.begun ∙ (ap (begun_with ms) h.begun ∙ begun_both ns ms b);
+  least = (let l = h.least in let m = k.least in omega (arith, l, m));
+  limit = (let l = h.limit in let m = k.limit in omega (arith, l, m, length-append ns ms));
+  last = last files h.last k.last;
+} where
+  last : (files : Option Files) → IfSome files (λ told. n1 ≡ last_begun told ns n) → IfSome files (λ told. n2 ≡ last_begun told ms n1) → IfSome files (λ told. n2 ≡ last_begun told (ns ++ ms) n)
+  last None p q = tt
+  last (Some told) p q = q ∙ (ap (last_begun told ms) p ∙ last_both told ns ms n)
+
+pub asks_front : (ns ms : List (List ℕ)) (files : Option Files) (b b1 t t1 : ℕ) (n n1 : Option (List ℕ)) → WasAsked ns files b b1 t t1 n n1 → AsksFor (ns ++ ms) files b b1 t t1 n n1
+asks_front ns ms files b b1 t t1 n n1 h = record { front = ns; behind = ms; in_turn = refl; was_asked = h }
+
+pub asks_all : (ns : List (List ℕ)) (files : Option Files) (b b1 t t1 : ℕ) (n n1 : Option (List ℕ)) → WasAsked ns files b b1 t t1 n n1 → AsksFor ns files b b1 t t1 n n1
+asks_all ns files b b1 t t1 n n1 h = record { front = ns; behind = []; in_turn = sym (append-nil ns); was_asked = h }
+
+-- ---- failures
+
+pub failed_name : (name : List ℕ) (more : List (List ℕ)) (files : Option Files) (f f1 b b1 k t t1 : ℕ) (n n1 : Option (List ℕ)) → is_made name ≡ false → Rose f f1 → k ≡ b1
+    → WasAsked (asked_name name) files b b1 t t1 n n1 → FailedOn (asked_name name ++ more) (read_line name) files f f1 b b1 k t t1 n n1
+failed_name name more files f f1 b b1 k t t1 n n1 e rose broken asked = record {
+  before = [];
+  name = name;
+  behind = more;
+  in_turn = ap (λ l. l ++ more) (asked_is name e);
+  told = refl;
+  cause = rose;
+  broken = broken;
+  was_asked = (let P : List (List ℕ) → Type 0 = λ l. WasAsked l files b b1 t t1 n n1 in subst P (asked_is name e) asked);
+}
+
+rose_since : (f f1 f2 : ℕ) → f ≤ f1 → Rose f1 f2 → Rose f f2
+rose_since f f1 f2 le (inl lt) = inl (omega (arith, le, lt))
+rose_since f f1 f2 le (inr e) = inr e
+
+pub failed_behind : (ns ms : List (List ℕ)) (line : List ℕ) (files : Option Files) (f f1 f2 b b1 b2 k t t1 t2 : ℕ) (n n1 n2 : Option (List ℕ)) → WasAsked ns files b b1 t t1 n n1 → f ≤ f1
+    → FailedOn ms line files f1 f2 b1 b2 k t1 t2 n1 n2 → FailedOn (ns ++ ms) line files f f2 b b2 k t t2 n n2
+failed_behind ns ms line files f f1 f2 b b1 b2 k t t1 t2 n n1 n2 h le failed = record {
+  before = ns ++ failed.before;
+  name = failed.name;
+  behind = failed.behind;
+  in_turn = ap (λ l. ns ++ l) failed.in_turn ∙ sym (append_assoc ns failed.before (failed.name ∷ failed.behind));
+  told = failed.told;
+  cause = rose_since f f1 f2 le failed.cause;
+  broken = failed.broken;
+  was_asked = (let P : List (List ℕ) → Type 0 = λ l. WasAsked l files b b2 t t2 n n2 in
+      subst P (sym (append_assoc ns failed.before (failed.name ∷ []))) (both_asked ns (failed.before ++ (failed.name ∷ [])) files b b1 b2 t t1 t2 n n1 n2 h failed.was_asked));
+}
+
+-- ---- ends
+
+pub ends_more : (files : Option Files) (name bytes : List ℕ) (Rest : Files → List ℕ → Outcome → Type 0) (e : Ending) → IfSome files (λ told. HasBytes told name bytes) → length bytes ≤ 2 ^ 28
+    → Ends (λ told. Rest told bytes) files e → Ends (λ told. Sized told name (Rest told)) files e
+ends_more files name bytes Rest e named small (inl three) = inl three
+ends_more files name bytes Rest e named small (inr (inl five)) = inr (inl five)
+ends_more None name bytes Rest e named small (inr (inr h)) = inr (inr tt)
+ends_more (Some told) name bytes Rest e named small (inr (inr h)) = inr (inr (bytes, named, inr (small, h)))
+
+pub ends_sized : (files : Option Files) (name bytes : List ℕ) (Rest : List ℕ → Outcome → Type 0) (e : Ending) → IfSome files (λ told. HasBytes told name bytes) → length bytes ≤ 2 ^ 28
+    → (status_of e ≡ 5) ⊎ Rest bytes (outcome_by e) → Ends (λ told. Sized told name Rest) files e
+ends_sized files name bytes Rest e named small (inl five) = inr (inl five)
+ends_sized None name bytes Rest e named small (inr h) = inr (inr tt)
+ends_sized (Some told) name bytes Rest e named small (inr h) = inr (inr (bytes, named, inr (small, h)))
+
+pub ends_large : (files : Option Files) (name : List ℕ) (Rest : Files → List ℕ → Outcome → Type 0) → IsLarge files name → Ends (λ told. Sized told name (Rest told)) files (TooLarge name)
+ends_large None name Rest h = inr (inr tt)
+ends_large (Some told) name Rest (bytes, named, large) = inr (inr (bytes, named, inl (large, refl)))
+
+-- ---- counts of names
+
+pub join_has_second : (verb : Verb) (second : Option (List ℕ)) → has_right_count verb second ≡ true → verb ≡ verbs.Join → is_some second ≡ true
+join_has_second verb (Some second) right e = refl
+join_has_second verb None right e = absurd (true≢false (sym right ∙ ap (λ v. has_right_count v None) e))
+
+pub other_has_none : (verb : Verb) (second : Option (List ℕ)) → has_right_count verb second ≡ true → (verb ≡ verbs.Join → ⊥) → second ≡ None
+other_has_none verb None right n = refl
+other_has_none verbs.Join (Some second) right n = absurd (n refl)
+other_has_none verbs.Select (Some second) right n = absurd (true≢false (sym right))
+other_has_none verbs.Count (Some second) right n = absurd (true≢false (sym right))
+other_has_none verbs.Area (Some second) right n = absurd (true≢false (sym right))
+other_has_none verbs.Extent (Some second) right n = absurd (true≢false (sym right))
+
+-- what holds where there is a second name holds of the names that there are
+pub with_second : (second : Option (List ℕ)) (P : Option (List ℕ) → Type 0) → is_some second ≡ true → ((name : List ℕ) → second ≡ Some name → P (Some name)) → P second
+with_second (Some name) P there h = h name refl
+with_second None P there h = absurd (true≢false (sym there))
+
+pub with_none : (second : Option (List ℕ)) (P : Option (List ℕ) → Type 0) → second ≡ None → P None → P second
+with_none second P none h = subst P (sym none) h
