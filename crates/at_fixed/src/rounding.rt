@@ -11,7 +11,7 @@ pub enum Coords {
 #[derive(Clone, Copy, Debug, PartialEq, Eq)]
 pub enum FixedFault {
     /// The number is no whole number of units.
-    Scale,
+    Scale = 1,
     /// The number is larger than the largest coordinate, 3 * 10^14 units.
-    Range,
+    Range = 2,
 }

@@ -1,4 +1,4 @@
--- Rings that end where they begin: no position outside the extent of such a ring is in it. No public clause cites this.
+-- Rings that end where they begin: no position outside the extent of such a ring is in it.
 use Rattle.std.specs.Prelude.{◌≡◌, List, [], ◌∷◌}
 use Rattle.at_geom.specs.declared.positions.Pos.{Pos}
 use Rattle.at_geom.specs.declared.shapes.Polygon.{Polygon}

@@ -1,4 +1,4 @@
--- Where a position is against an edge and against a ring: what the parts of `in_polygon` answer. No public clause cites it.
+-- Where a position is against an edge and against a ring: what `place_in_ring` and the parts of `in_polygon` answer.
 use Rattle.std.specs.Prelude.{◌≡◌, true, false, not, IsTrue, List}
 use Rattle.at_geom.specs.declared.positions.Pos.{Pos}
 use Rattle.at_geom.specs.declared.regions.EdgePlace.{EdgePlace}
