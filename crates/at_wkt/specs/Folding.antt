@@ -26,6 +26,11 @@ abbrev pub IsLost : {P : Type 0} → LineFragment P → Type 0
 IsLost Lost = ⊤
 IsLost _ = ⊥
 
+-- it is of a span without a line feed
+abbrev pub IsPiece : {P : Type 0} → LineFragment P → Type 0
+IsPiece (Piece _) = ⊤
+IsPiece _ = ⊥
+
 -- the fragment of lines, or the lost one where they found no memory
 abbrev pub fragment_of : {P : Type 0} → Result (WholeLines P) Memory → LineFragment P
 fragment_of (Ok whole) = Lines whole

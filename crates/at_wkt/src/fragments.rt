@@ -1,11 +1,11 @@
 //! Fragments: what a span of a file is that is read line by line, whatever stands before it.
 
-ghost use Rattle.std.specs.Prelude.{◌≡◌, ℕ, ◌+◌, ◌≤◌, ◌^◌, ◌<◌, false, IsErr, [], ◌∷◌, length, drop, IfOk};
+ghost use Rattle.std.specs.Prelude.{◌≡◌, ℕ, ◌+◌, ◌≤◌, ◌^◌, ◌<◌, ◌⊎◌, false, IsErr, [], ◌∷◌, length, drop, IfOk};
 ghost use Rattle.std.specs.List.{list_any, position_or_len};
 ghost use Rattle.at_text.specs.Texts.{base_of as base_in};
 ghost use Rattle.at_text.specs.Spans.{AreNeighbours, IsMerged, part_of};
 ghost use Rattle.at_wkt.specs.Lines.{lines_of, lines_in, is_line_feed};
-ghost use Rattle.at_wkt.specs.Folding.{AddsLines, HoldsInner, HoldsLines, IsLost, Kept, StandsFor, fragment_of};
+ghost use Rattle.at_wkt.specs.Folding.{AddsLines, HoldsInner, HoldsLines, IsLost, IsPiece, Kept, StandsFor, fragment_of};
 
 use crate::folding::{Fold, fold_piece};
 use crate::rooms::Room;
@@ -191,7 +191,8 @@ fn merge_whole<F: Fold>(
 }
 
 /// The fragment of two neighbouring spans of the bytes. Of the bytes it touches those of the one line that lies in both
-/// spans. A merge with a lost fragment is lost, and so is one that finds no memory.
+/// spans. A merge with a lost fragment is lost, and so is one that finds no memory. Where one of the two has no line
+/// feed, no memory is asked for.
 pub fn merge_lines<F: Fold>(
     alloc: Global,
     fold: &F,
@@ -204,6 +205,9 @@ pub fn merge_lines<F: Fold>(
     ensures merged { IsMerged (StandsFor (Kept (F.is_own fold.now) (F.is_fold fold.now))) bytes.now left right result }
     ensures left_lost { IsLost left → IsLost result }
     ensures right_lost { IsLost right → IsLost result }
+
+    // where one of the two has no line feed it takes no memory, so it is lost only with one of them
+    ensures kept { IsPiece left ⊎ IsPiece right → IsLost result → IsLost left ⊎ IsLost right }
 {
     match (left, right) {
         (LineFragment::Piece(left), LineFragment::Piece(right)) => {
