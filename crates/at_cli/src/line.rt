@@ -31,9 +31,9 @@ pub struct Line {
 #[derive(Clone, Copy, Debug, PartialEq, Eq)]
 pub enum WordsEnd {
     /// They say none.
-    Refused,
+    Refused = 1,
     /// Want of memory.
-    Memory,
+    Memory = 2,
 }
 
 impl From<AllocError> for WordsEnd {

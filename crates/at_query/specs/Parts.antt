@@ -48,6 +48,14 @@ AreAlike (Spread a) (Spread b) = Unit {0}
 AreAlike (Entries a) (Entries b) = Unit {0}
 AreAlike _ _ = ⊥
 
+-- the part is a number or an extent, and no list: it has one size whatever the features are
+abbrev pub IsOfOneSize : Part → Type 0
+IsOfOneSize (Offsets a) = ⊥
+IsOfOneSize (Count n) = Unit {0}
+IsOfOneSize (Area z) = Unit {0}
+IsOfOneSize (Spread e) = Unit {0}
+IsOfOneSize (Entries es) = ⊥
+
 -- whatever the lists and the query are of which these are the parts, it is the part of the joined lists
 abbrev pub JoinsParts : Part → Part → Part → Type 0
 JoinsParts left right part = (query : Query) (fs gs : List Feature) → IsPart query fs left → IsPart query gs right → IsPart query (fs ++ gs) part

@@ -1,5 +1,5 @@
-ghost use Rattle.std.specs.Prelude.{◌≡◌, ◌++◌, OnOk, IfOk};
-ghost use Rattle.at_query.specs.Parts.{AreAlike, JoinsParts};
+ghost use Rattle.std.specs.Prelude.{◌≡◌, ◌++◌, OnOk, IfOk, IsOk};
+ghost use Rattle.at_query.specs.Parts.{AreAlike, IsOfOneSize, JoinsParts};
 ghost use Rattle.at_query.specs.Joined.{lower, upper, around, around_both};
 
 use crate::answers::Offsets;
@@ -69,10 +69,12 @@ fn joined_spread(left: Option<Extent>, right: Option<Extent>) -> Option<Extent>
 }
 
 /// The part of two neighbouring lists of features, joined. What the parts hold is moved: the right one's items are
-/// put behind the left one's, in steps that grow with the right one's count alone. Both parts are of one query.
+/// put behind the left one's, in steps that grow with the right one's count alone. Both parts are of one query. Counts,
+/// areas and extents are joined without memory.
 pub fn part_merge(left: Part, right: Part) -> Result<Part, Memory>
     requires { AreAlike left right }
-    ensures { IfOk result (JoinsParts left right) }
+    ensures joined { IfOk result (JoinsParts left right) }
+    ensures kept { IsOfOneSize left → IsOk result }
 {
     match (left, right) {
         (Part::Offsets(a), Part::Offsets(b)) => Ok(Part::Offsets(joined_offsets(a, b)?)),

@@ -2,10 +2,10 @@ use Rattle.at_run.proofs.LineParts.{joins_kept, owns_kept, joins_right}
 use Rattle.at_run.proofs.gathered.joined_part.Goals as goal
 
 pub returns-in_ok-part_merge-in-Kept-clause-own : goal.returns-in_ok-part_merge-in-Kept-clause-own
-returns-in_ok-part_merge-in-Kept-clause-own c = owns_kept c.args.left c.args.right c.in-Kept.right c.in_ok-part_merge-in-Kept.field-0 c.in-Kept.is c.in_ok-part_merge-in-Kept.ensures
+returns-in_ok-part_merge-in-Kept-clause-own c = owns_kept c.args.left c.args.right c.in-Kept.right c.in_ok-part_merge-in-Kept.field-0 c.in-Kept.is c.in_ok-part_merge-in-Kept.ensures.joined
 
 pub returns-in_ok-part_merge-in-Kept-clause-joins : goal.returns-in_ok-part_merge-in-Kept-clause-joins
-returns-in_ok-part_merge-in-Kept-clause-joins c = joins_kept c.args.left c.args.right c.in-Kept.right c.in_ok-part_merge-in-Kept.field-0 c.in-Kept.is c.in_ok-part_merge-in-Kept.ensures
+returns-in_ok-part_merge-in-Kept-clause-joins c = joins_kept c.args.left c.args.right c.in-Kept.right c.in_ok-part_merge-in-Kept.field-0 c.in-Kept.is c.in_ok-part_merge-in-Kept.ensures.joined
 
 pub returns-in-Failed-clause-joins : goal.returns-in-Failed-clause-joins
 returns-in-Failed-clause-joins c = joins_right c.args.left c.args.right c.in-Failed.fault c.in-Failed.is
