@@ -1,8 +1,9 @@
 //! A query over the bytes of a file, cut into blocks anywhere.
 //!
 //! [`answer`] reads each block without knowing what stands before it, merges the results of neighbours, and gives the
-//! part of the file's features or the file's first fault. Its contract says so without a word of the [`Cuts`], of the
-//! passes that run at once, or of the order of their steps: that is what "for every cut" and "for every order" mean.
+//! answer over the file's features or the file's first fault. What its contract says of the two has no word of the
+//! [`Cuts`], of the passes that run at once, or of the order of their steps: that is what "for every cut" and "for every
+//! order" mean.
 //!
 //! [`answer_join`] does so for two files whose features are joined.
 //!
