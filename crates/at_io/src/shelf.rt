@@ -8,7 +8,8 @@ pub struct Failed;
 
 /// Files that are begun by name and read from their first byte on, one at a time.
 ///
-/// A count never falls and stands still at 2^64 - 1. What a shelf doesn't tell, nothing is claimed of.
+/// A count never falls. Those of begins and of failures stand still at 2^64 - 1; that of bytes is the sum of all that was
+/// given. What a shelf doesn't tell, nothing is claimed of.
 pub trait Shelf {
     /// The names with the bytes under them, where the shelf tells that. No call changes it.
     ghost files: { Self → Option Files };

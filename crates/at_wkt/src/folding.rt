@@ -13,9 +13,9 @@ use std::mem;
 
 /// A way to make something of the lines of a file: a part of any list of them.
 ///
-/// `is_fold` says of which lines, each with its offset and its text, a part is the fold. The part of no line, of one
-/// line and of joined lists are all that the fold of a file is made from, so it comes out the same wherever the file
-/// is cut. Offsets are of the file.
+/// `is_fold` says of which lines, each with its offset and its text, a part is a fold. The parts of no line, of one
+/// line and of joined lists are all that a fold of a file is made from, so wherever the file is cut, what comes out is
+/// a fold of the same lines. Offsets are of the file.
 pub trait Fold: Sync {
     type Part: Send + Drop;
 
