@@ -28,8 +28,8 @@ abbrev pub last_begun : Files → List (List ℕ) → Option (List ℕ) → Opti
 last_begun told [] named = named
 last_begun told (name ∷ names) named = last_begun told names (name_among told name)
 
--- of a shelf with these files the files of these names were asked for in turn and no other: each was begun once and by its
--- name, and no more was taken than tells that each is too large
+-- of a shelf with these files the files of these names were asked for in turn: as many were begun, the last by the last name,
+-- and in all no more was taken than tells that each is too large
 pub record WasAsked (names : List (List ℕ)) (files : Option Files) (begins begins' taken taken' : ℕ) (named named' : Option (List ℕ)) : Type 0 where
   pub begun : begins' ≡ begun_with names begins
   pub least : taken ≤ taken'

@@ -56,7 +56,7 @@ pub record ListsEach (Wanted : Pair → Type 0) (ps : List Pair) : Type 0 where
   pub once : (p : Pair) → Wanted p → times p ps ≡ 1
   pub no_other : All Wanted ps
 
--- two lists of entries, and the cells that are given up
+-- two lists of entries
 pub record Lists : Type 0 where
   pub first : List Entry
   pub second : List Entry
