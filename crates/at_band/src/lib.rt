@@ -15,3 +15,6 @@ mod thinning;
 mod touches;
 
 pub use bands::Bands;
+
+#[cfg(test)]
+mod tests;
