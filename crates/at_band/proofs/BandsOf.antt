@@ -1,17 +1,15 @@
 -- What the bands of a shape decide of the shape.
-use Rattle.std.proofs.Common.{◌≡◌, ℕ, ℤ, ◌+◌, ◌<◌, length, drop, get_or, ◌≤ℤ◌, ◌<ℤ◌, ◌⊎◌, inl, inr, Bool, true, List, [], ◌∷◌, ◌++◌, Option, Some, None, arith, refl, sym, ap, subst, ◌∙◌}
-use Rattle.std.specs.Prelude.{IsTrue, All}
+use Rattle.std.proofs.Common.{◌≡◌, ℕ, ℤ, ◌+◌, ◌<◌, length, drop, get_or, ◌≤ℤ◌, ◌<ℤ◌, inl, inr, true, List, [], ◌∷◌, ◌++◌, Option, None, arith, sym, ap, subst}
+use Rattle.std.specs.Prelude.{All}
 use Rattle.std.specs.Int.{int_min, int_max}
 use Rattle.std.proofs.lemmas.Int.{ints, clamps, by_lt_z}
 use Rattle.std.proofs.lemmas.List.{drop_more}
 use Rattle.std.proofs.lemmas.List.Elements.{All-nil, All-cons, All-append}
 use Rattle.at_text.specs.Lists.{SomeOf}
 use Rattle.at_geom.specs.declared.positions.Pos.{Pos}
-use Rattle.at_geom.specs.declared.shapes.Polygon.{Polygon}
 use Rattle.at_geom.specs.declared.shapes.Shape.{Shape}
-use Rattle.at_geom.specs.declared.rectangles.Extent.{Extent}
 use Rattle.at_geom.specs.Segments.{HaveCommonPoint}
-use Rattle.at_geom.specs.Shapes.{IsShapeInRange, IsInSome, MeetsSome, segments, positions, extent_of, is_within}
+use Rattle.at_geom.specs.Shapes.{IsShapeInRange, IsInSome, MeetsSome, segments, positions, extent_of}
 use Rattle.at_geom.proofs.CommonPoint.{common_point_out}
 use Rattle.at_geom.proofs.Elements.{some_left, some_right}
 use Rattle.at_geom.proofs.Found.{found_segment, extent_covers, sides}

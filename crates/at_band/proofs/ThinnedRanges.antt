@@ -1,5 +1,5 @@
 -- What is true of all positions of a shape is true of all that are kept.
-use Rattle.std.proofs.Common.{◌≡◌, ℤ, Bool, true, false, List, [], ◌∷◌, ◌++◌, refl, sym, subst}
+use Rattle.std.proofs.Common.{◌≡◌, ℤ, Bool, true, false, List, [], ◌∷◌, refl, sym, subst}
 use Rattle.std.specs.Prelude.{All}
 use Rattle.std.specs.List.{filter}
 use Rattle.std.proofs.lemmas.List.Elements.{All-nil, All-cons, All-append}
@@ -9,7 +9,7 @@ use Rattle.at_geom.specs.declared.shapes.Shape.{Shape}
 use Rattle.at_geom.specs.Segments.{IsInRange}
 use Rattle.at_geom.specs.Shapes.{ArePathsInRange, ArePolygonsInRange, IsShapeInRange}
 use Rattle.at_geom.proofs.Elements.{head_of_all, tail_of_all}
-use Rattle.at_band.specs.Thinned.{spans, edge_ends, thinned_from, thinned, thinned_points, path_if_some, thinned_paths, polygon_if_some, thinned_rings, thinned_polygons, thinned_shape}
+use Rattle.at_band.specs.Thinned.{spans, edge_ends, thinned_from, thinned, path_if_some, thinned_paths, polygon_if_some, thinned_rings, thinned_polygons, thinned_shape}
 use Rattle.at_band.proofs.Filtered.{keep_head, drop_head}
 
 pub all_first : {X : Type 0} (P : X → Type 0) (x : X) (xs : List X) → All P (x ∷ xs) → P x

@@ -4,11 +4,10 @@ use Rattle.std.specs.Prelude.{IsTrue, ◌%◌, ◌==◌}
 use Rattle.std.specs.List.{AllByRecursion}
 use Rattle.std.proofs.lemmas.Int.{ints, clamps}
 use Rattle.std.proofs.lemmas.Bool.{false≢true}
-use Rattle.at_text.specs.Lists.{SomeOf}
 use Rattle.at_geom.specs.declared.positions.Pos.{Pos}
 use Rattle.at_geom.specs.declared.shapes.Polygon.{Polygon}
 use Rattle.at_geom.specs.Segments.{IsOn, edges}
-use Rattle.at_geom.specs.Regions.{IsOnRing, is_crossed, is_odd_for, IsNotInHole, IsInRings, IsInPolygon}
+use Rattle.at_geom.specs.Regions.{IsOnRing, is_crossed, is_odd_for, IsNotInHole, IsInRings}
 use Rattle.at_geom.specs.Shapes.{IsInSome}
 use Rattle.at_geom.proofs.CommonPoint.{Between, on_out}
 use Rattle.at_geom.proofs.Crossings.{not_level}

@@ -1,12 +1,12 @@
 -- Positions that lie on a shape, by its parts, and by what is kept of it for a band.
-use Rattle.std.proofs.Common.{◌≡◌, ℤ, ◌⊎◌, inl, inr, Bool, true, false, not, Some, List, [], ◌∷◌, ◌++◌, refl, sym, subst}
+use Rattle.std.proofs.Common.{◌≡◌, ℤ, ◌⊎◌, inl, inr, Bool, true, false, not, Some, List, [], ◌∷◌, ◌++◌, sym, subst}
 use Rattle.std.specs.Prelude.{IsTrue, flat_map}
 use Rattle.std.specs.List.{AllByRecursion}
 use Rattle.at_text.specs.Lists.{SomeOf}
 use Rattle.at_geom.specs.declared.positions.Pos.{Pos}
 use Rattle.at_geom.specs.declared.shapes.Polygon.{Polygon}
 use Rattle.at_geom.specs.declared.shapes.Shape.{Shape}
-use Rattle.at_geom.specs.Segments.{IsOn, HaveCommonPoint, edges}
+use Rattle.at_geom.specs.Segments.{HaveCommonPoint, edges}
 use Rattle.at_geom.specs.declared.rectangles.Extent.{Extent}
 use Rattle.at_geom.specs.Regions.{IsOnRing, is_odd_for, IsNotInHole}
 use Rattle.at_geom.proofs.Found.{TouchesBox, touches}
@@ -18,7 +18,7 @@ use Rattle.at_band.specs.Banded.{IsAt, IsBandOf, IsOfPoints}
 use Rattle.at_band.specs.Touched.{IsOnRings, IsOnPolygon, IsOnShape, SomeIsOn}
 use Rattle.at_band.proofs.Filtered.{same_some}
 use Rattle.at_band.proofs.ThinnedEdges.{thinned_segments}
-use Rattle.at_band.proofs.ThinnedRegions.{IsLevel, ordered, on_spans}
+use Rattle.at_band.proofs.ThinnedRegions.{IsLevel, on_spans}
 use Rattle.at_band.proofs.BandsOf.{level_of, in_band_part, in_band_whole}
 
 -- ---- polygons

@@ -3,7 +3,6 @@ use Rattle.std.specs.Prelude.{◌≡◌, ℤ, ◌≤ℤ◌, List, [], All, Optio
 use Rattle.at_text.specs.Lists.{SomeOf}
 use Rattle.at_geom.specs.declared.positions.Pos.{Pos}
 use Rattle.at_geom.specs.declared.shapes.Shape.{Shape}
-use Rattle.at_geom.specs.declared.rectangles.Extent.{Extent}
 use Rattle.at_geom.specs.Segments.{HaveCommonPoint}
 use Rattle.at_geom.specs.Shapes.{segments, positions, extent_of, is_within, IsInSome}
 use Rattle.at_band.specs.declared.bands.Band.{Band}

@@ -1,5 +1,4 @@
-use Rattle.std.proofs.Common.{refl, sym, ◌∙◌}
-use Rattle.at_geom.specs.declared.positions.Pos.{Pos}
+use Rattle.std.proofs.Common.{refl}
 use Rattle.std.specs.Prelude.{flat_map}
 use Rattle.at_geom.specs.Segments.{edges}
 use Rattle.at_geom.specs.Shapes.{segments_of_points, segments_of_polygons}

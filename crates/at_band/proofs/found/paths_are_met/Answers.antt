@@ -1,6 +1,5 @@
 use Rattle.std.proofs.Common.{refl, ◌∙◌, arith}
 use Rattle.at_geom.specs.Segments.{edges}
-use Rattle.at_geom.specs.declared.positions.Pos.{Pos}
 use Rattle.at_geom.proofs.Elements.{untrue, some_here, some_later, not_here}
 use Rattle.at_band.specs.Banded.{MeetsWithin}
 use Rattle.at_band.proofs.found.paths_are_met.Goals as goal
