@@ -10,6 +10,7 @@ mod answers;
 mod boxes;
 mod bytes;
 mod coordinates;
+mod copying;
 mod features;
 mod filters;
 mod halts;
