@@ -24,13 +24,13 @@ use Rattle.at_run.proofs.ShapeRanges.{geometry_in_range}
 
 -- ---- how many positions a shape has
 
-abbrev size : Shape → ℕ
+abbrev pub size : Shape → ℕ
 size s = length s.points + length (joined s.lines) + length (positions_of_polygons s.polygons)
 
-positions_size : (s : Shape) → length (positions s) ≡ size s
+pub positions_size : (s : Shape) → length (positions s) ≡ size s
 positions_size s = length-append (s.points ++ joined s.lines) (positions_of_polygons s.polygons) ∙ ap (λ n. n + length (positions_of_polygons s.polygons)) (length-append s.points (joined s.lines))
 
-both_size : (s u : Shape) → size (both s u) ≡ size s + size u
+pub both_size : (s u : Shape) → size (both s u) ≡ size s + size u
 both_size s u =
     let p = length-append s.points u.points in
     let l = ap length (flat_map-append (λ (path : List Pos). path) s.lines u.lines) ∙ length-append (joined s.lines) (joined u.lines) in
@@ -74,7 +74,7 @@ module _ (digits : ℕ) (how : Coords) where
   list_size (Some ps) = let p = path_size ps in let s = length-append (path_of digits how ps) [] in omega (arith, p, s)
 
   mutual
-    shape_size : (g : Geometry) → size (shape_of digits how g) ≡ weight_of g
+    pub shape_size : (g : Geometry) → size (shape_of digits how g) ≡ weight_of g
     shape_size (point p) = let e = point_size p in omega (arith, e)
     shape_size (line_string ps) = let e = list_size ps in omega (arith, e)
     shape_size (polygon rings) = let e = area_size rings in omega (arith, e)
@@ -164,7 +164,7 @@ module _ (digits : ℕ) (how : Coords) where
       subst AreFeaturesInRange (sym e) (All-cons IsFeatureInRange f rest one (features_in_range ls rest more))
 
   -- no feature without a byte, so the bound is strict where there are positions
-  few_of_size : (fs : List Feature) (n : ℕ) → 4 * length (all_positions fs) + length fs ≤ n → n ≤ 2 ^ 28 → AreFew fs
+  pub few_of_size : (fs : List Feature) (n : ℕ) → 4 * length (all_positions fs) + length fs ≤ n → n ≤ 2 ^ 28 → AreFew fs
   few_of_size [] n h le = record { features = omega arith; positions = omega arith }
   few_of_size (f ∷ fs) n h le = record { features = omega (arith, h, le); positions = omega (arith, h, le) }
 

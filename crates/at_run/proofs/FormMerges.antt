@@ -1,6 +1,8 @@
 -- The merged fragment of one form stands for both spans in the reader's form.
-use Rattle.std.proofs.Common.{◌≡◌, ℕ, List, sym, subst}
-use Rattle.at_text.specs.Spans.{part_of, AreNeighbours, IsMerged}
+use Rattle.std.proofs.Common.{◌≡◌, ℕ, List, length, drop, sym, subst}
+use Rattle.std.proofs.lemmas.List.{take_rest}
+use Rattle.at_text.specs.Spans.{part_of, StandsAt, AreNeighbours, IsMerged}
+use Rattle.at_text.specs.Texts.{base_of}
 use Rattle.at_wkt.specs.Folding.{Kept, StandsFor}
 use Rattle.at_wkt.specs.declared.fragments.LineFragment.{LineFragment}
 use Rattle.at_nest.specs.Holding.{Kept as KeptOfTree}
@@ -60,3 +62,13 @@ pub json_piece : (asks : Asks) (asked : JsonAsked) (base : ℕ) (piece : List �
 json_piece asks asked base piece l form same h =
     let A : JsonAsked → Type 0 = λ a. StandsForJson (KeptOfTree (IsOwnAtom a) (IsFold a)) base piece l in
     (form, subst A same h)
+
+-- of all bytes from the text's first on
+pub json_whole : (asks : Asks) (asked : JsonAsked) (bytes : List ℕ) (whole : FileFragment) (l : Fragment GeoAlgebra GeoAtom) → whole ≡ Json l → asked ≡ of_json asks
+    → StandsAt (StandsInForm asks) bytes (base_of bytes) (length bytes) whole → StandsForJson (KeptOfTree (IsOwnAtom asked) (IsFold asked)) (base_of bytes) (drop (base_of bytes) bytes) l
+json_whole asks asked bytes whole l is same h =
+    let F : FileFragment → Type 0 = λ x. StandsAt (StandsInForm asks) bytes (base_of bytes) (length bytes) x in
+    let W : List ℕ → Type 0 = λ w. StandsForJson (KeptOfTree (IsOwnAtom (of_json asks)) (IsFold (of_json asks))) (base_of bytes) w l in
+    let A : JsonAsked → Type 0 = λ a. StandsForJson (KeptOfTree (IsOwnAtom a) (IsFold a)) (base_of bytes) (drop (base_of bytes) bytes) l in
+    let stands : F (Json l) = subst F is h in
+    subst A (sym same) (subst W (take_rest bytes (base_of bytes)) stands.1)

@@ -1,5 +1,5 @@
 -- The pairs of the entries of two files are the answer to a join over the files' features.
-use Rattle.std.proofs.Common.{◌≡◌, ℕ, inl, inr, List, [], ◌∷◌, ◌++◌, map, refl, sym, ap, ◌∙◌, subst}
+use Rattle.std.proofs.Common.{◌≡◌, ℕ, inl, inr, List, [], ◌∷◌, ◌++◌, map, None, refl, sym, ap, ◌∙◌, subst}
 use Rattle.std.proofs.lemmas.List.{map-append}
 use Rattle.at_fixed.specs.declared.rounding.Coords.{Coords}
 use Rattle.at_query.specs.declared.queries.Verb.TheVariants as verbs
@@ -11,13 +11,17 @@ use Rattle.at_query.specs.declared.answers.Pair.{Pair}
 use Rattle.at_query.specs.declared.answers.Answer.TheVariants.{Pairs}
 use Rattle.at_query.specs.Holding.{Holds}
 use Rattle.at_query.specs.Results.{Keeps, pairs_of, Joins, at_pair, IsJoined}
-use Rattle.at_query.specs.Parts.{entry_of, kept_of, IsPart, AreProper}
+use Rattle.at_query.specs.Parts.{entry_of, kept_of, IsPart, AreProper, AreProperFeatures}
 use Rattle.at_query.proofs.KeptLists.{keeps-append}
 use Rattle.at_query.proofs.ProperEntries.{entries_are_proper}
 use Rattle.at_join.specs.Meetings.{Meeting, at_entries, IsAllPairs}
 use Rattle.at_join.specs.Meetings as join
+use Rattle.at_run.specs.declared.forms.Form.{Form}
+use Rattle.at_run.specs.declared.forms.Form.TheVariants.{GeoJson, Wkt}
+use Rattle.at_run.specs.Files.{HasFileFaultIn, AreFileFeaturesIn}
 use Rattle.at_run.specs.Answers.{IsFilePart, IsJoinAnswer}
 use Rattle.at_run.proofs.ProperFeatures.{file_features_proper}
+use Rattle.at_run.proofs.JsonFeatures.{json_features_proper}
 
 -- ---- what is kept of lists
 
@@ -98,14 +102,19 @@ module _ (query : Query) where
       (js, pairs_kept fs kept gs js keeps met, ap Pairs (is ∙ (ap (map at_entries) mapped ∙ offsets_of_entries js)))
 
 module _ (digits : ℕ) (how : Coords) where
+  -- the features of a file without a fault are proper
+  features_proper : (form : Form) (bytes : List ℕ) (fs : List Feature) → HasFileFaultIn form digits how bytes None → AreFileFeaturesIn form digits how bytes fs → AreProperFeatures fs
+  features_proper Wkt bytes fs h are = file_features_proper digits how bytes fs h are
+  features_proper GeoJson bytes fs h (t, is, same) = subst AreProperFeatures (sym same) (json_features_proper digits how bytes t h is)
+
   -- the entries of a file are proper
-  pub file_entries_proper : (query : Query) (bytes : List ℕ) (es : List Entry) → query.verb ≡ verbs.Join → IsFilePart digits how query bytes (Entries es) → AreProper es
-  file_entries_proper query bytes es join h = entries_are_proper query h.features es join h.is_part (file_features_proper digits how bytes h.features h.faultless h.are_features)
+  pub file_entries_proper : (form : Form) (query : Query) (bytes : List ℕ) (es : List Entry) → query.verb ≡ verbs.Join → IsFilePart form digits how query bytes (Entries es) → AreProper es
+  file_entries_proper form query bytes es join h = entries_are_proper query h.features es join h.is_part (features_proper form bytes h.features h.faultless h.are_features)
 
   -- the pairs of the entries of two files are their joined answer
-  pub files_joined : (query all : Query) (a b : List ℕ) (es hs : List Entry) (ps : List Pair) → query.verb ≡ verbs.Join → all.verb ≡ verbs.Join → all.tests ≡ []
-      → IsFilePart digits how query a (Entries es) → IsFilePart digits how all b (Entries hs) → IsAllPairs es hs ps → IsJoinAnswer digits how query a b (Pairs ps)
-  files_joined query all a b es hs ps join_first join_second none h k found = record {
+  pub files_joined : (form_a form_b : Form) (query all : Query) (a b : List ℕ) (es hs : List Entry) (ps : List Pair) → query.verb ≡ verbs.Join → all.verb ≡ verbs.Join → all.tests ≡ []
+      → IsFilePart form_a digits how query a (Entries es) → IsFilePart form_b digits how all b (Entries hs) → IsAllPairs es hs ps → IsJoinAnswer form_a form_b digits how query a b (Pairs ps)
+  files_joined form_a form_b query all a b es hs ps join_first join_second none h k found = record {
     first_faultless = h.faultless;
     second_faultless = k.faultless;
     first = h.features;

@@ -19,11 +19,13 @@ use Rattle.at_geojson.specs.declared.root.RootEnd.{RootEnd}
 use Rattle.at_geojson.specs.declared.root.RootEnd.TheVariants as roots
 use Rattle.at_geojson.specs.Keeping.{Asked}
 use Rattle.at_geojson.specs.Atoms.{IsOwn, IsFold}
+use Rattle.at_geojson.specs.Roles.{features_of}
 use Rattle.at_geojson.specs.Wholes.{faults_of, IsAnswer}
 use Rattle.at_run.specs.declared.faults.RunFault.{RunFault}
 use Rattle.at_run.specs.declared.faults.RunFault.TheVariants.{Found, Memory}
-use Rattle.at_run.specs.Answers.{IfFound}
-use Rattle.at_run.specs.JsonFiles.{HasJsonFaultBehind, HasJsonFileFault, IsJsonPart, EndsJson, text_end, root_end}
+use Rattle.at_run.specs.declared.forms.Form.TheVariants.{GeoJson}
+use Rattle.at_run.specs.Answers.{IfFound, IsFilePart}
+use Rattle.at_run.specs.JsonFiles.{HasJsonFaultBehind, HasJsonFileFault, EndsJson, text_end, root_end}
 
 module _ (asked : Asked) (bytes : List ℕ) where
   abbrev Ends : Result Part RunFault → Type 0
@@ -49,10 +51,15 @@ module _ (asked : Asked) (bytes : List ℕ) where
   text_ended texts.Memory len same h = tt
 
   pub json_ended : (end : Result Part RunFault) → utf8_fault bytes ≡ None → EndsJson asked.digits asked.how asked.query bytes end
-      → MatchResult end (IsJsonPart asked.digits asked.how asked.query bytes) (λ run. IfFound run (λ fault. HasJsonFileFault asked.digits asked.how bytes (Some fault)))
+      → MatchResult end (IsFilePart GeoJson asked.digits asked.how asked.query bytes) (λ run. IfFound run (λ fault. HasJsonFileFault asked.digits asked.how bytes (Some fault)))
   json_ended (Ok part) valid (t, is, none, part_is) =
       let P : Option Fault → Type 0 = λ o. HasJsonFaultBehind asked.digits asked.how o bytes None in
-      record { faultless = subst P (sym valid) (faults_of asked.digits asked.how t, inr (t, is, refl), sym (ap first_of none)); tree = t; is_tree = is; is_part = part_is }
+      record {
+        faultless = subst P (sym valid) (faults_of asked.digits asked.how t, inr (t, is, refl), sym (ap first_of none));
+        features = features_of asked.digits asked.how t;
+        are_features = (t, is, refl);
+        is_part = part_is;
+      }
   json_ended (Err (Found fault)) valid h =
       let P : Option Fault → Type 0 = λ o. HasJsonFaultBehind asked.digits asked.how o bytes (Some fault) in
       subst P (sym valid) h

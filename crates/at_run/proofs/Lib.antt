@@ -7,9 +7,11 @@ pub mod Covered
 pub mod BlockParts
 pub mod LineSizes
 pub mod FileSizes
+pub mod ProperFeatures
+pub mod JsonSizes
+pub mod JsonFeatures
 pub mod Results
 pub mod FormMerges
 pub mod JsonEnds
 pub mod OneAnswer
-pub mod ProperFeatures
 pub mod JoinedFiles

@@ -6,7 +6,7 @@ use Rattle.at_wkt.specs.Positions.{Position, Positions}
 use Rattle.at_wkt.specs.Geometry.{Geometry, point, line_string, polygon, multi_point, multi_line_string, multi_polygon, collection, Geometries, no_geometries, geometry_and, is_blank, SpellsNumber, SpellsFurther, SpellsPosition, InBrackets, EmptyWord, Parted, EmptyOrParted, SpellsRing, SpellsList, SpellsPoint, SpellsPointMember, SpellsArea, Letter, Kind, SpellsGeometry, SpellsGeometries, SpellsFurtherGeometries, IsLineOf}
 
 -- what the part says is said in at least so many bytes
-abbrev AtLeast : ℕ → (ℕ → List ℕ → Type 0) → Type 0
+abbrev pub AtLeast : ℕ → (ℕ → List ℕ → Type 0) → Type 0
 AtLeast a P = (at : ℕ) (w : List ℕ) → P at w → a ≤ length w
 
 nothing_less : (P : ℕ → List ℕ → Type 0) → AtLeast 0 P
@@ -41,7 +41,7 @@ digits_size [] None h = absurd h
 digits_size [] (Some f) h = omega arith
 digits_size (b ∷ w) f h = omega arith
 
-number_size : (n : Numeral) → AtLeast 1 (SpellsNumber n)
+pub number_size : (n : Numeral) → AtLeast 1 (SpellsNumber n)
 number_size n at w (is, e) =
     let d = digits_size n.whole n.fraction is.digits in
     let f = length-append (fraction_text n.fraction) (exponent_text n.exponent) in
@@ -97,9 +97,9 @@ listed_of (Some ps) = items_of ps
 abbrev pub rings_of : List Positions → ℕ
 rings_of rings = total items_of rings
 
-each_one : (ps : List Position) → total (λ p. 1) ps ≡ length ps
+pub each_one : {X : Type 0} (xs : List X) → total (λ x. 1) xs ≡ length xs
 each_one [] = refl
-each_one (p ∷ ps) = let e = each_one ps in omega (arith, e)
+each_one (x ∷ xs) = let e = each_one xs in omega (arith, e)
 
 ring_size : (d : ℕ) (ps : Positions) → AtLeast (4 * items_of ps + 1) (SpellsRing d ps)
 ring_size d ps at w (i, h) =

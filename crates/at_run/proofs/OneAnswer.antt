@@ -1,11 +1,14 @@
 -- A file has one list of features, one part and one answer to a query, and where it has one it has no fault: laws of the definitions, which no function's contract is needed for.
-use Rattle.std.proofs.Common.{◌≡◌, ℕ, List, [], ◌∷◌, Some, None, sym, ◌∙◌, ap, subst, arith}
+use Rattle.std.proofs.Common.{◌≡◌, ℕ, inl, inr, List, [], ◌∷◌, drop, Option, Some, None, sym, ◌∙◌, ap, subst, arith}
 use Rattle.std.proofs.lemmas.Option.{none-some}
 use Rattle.at_text.specs.declared.faults.Fault.{Fault}
+use Rattle.at_text.specs.Faults.{first_of}
+use Rattle.at_text.specs.Texts.{base_of, utf8_fault}
 use Rattle.at_fixed.specs.declared.rounding.Coords.{Coords}
 use Rattle.at_wkt.specs.Lines.{FileLine, lines_of}
-use Rattle.at_wkt.specs.Files.{HasFileFault}
-use Rattle.at_wkt.proofs.OneFile.{one_shape, one_file_fault}
+use Rattle.at_wkt.proofs.OneFile.{one_shape, one_syntax_fault, one_file_fault}
+use Rattle.at_nest.specs.Syntax.{JsonText}
+use Rattle.at_nest.proofs.OneTree.{one_tree}
 use Rattle.at_query.specs.declared.queries.Query.{Query}
 use Rattle.at_query.specs.declared.features.Feature.{Feature}
 use Rattle.at_query.specs.declared.parts.Part.{Part}
@@ -13,9 +16,17 @@ use Rattle.at_query.specs.declared.answers.Answer.{Answer}
 use Rattle.at_query.specs.Results.{IsResult, IsJoined}
 use Rattle.at_query.specs.Parts.{IsPart}
 use Rattle.at_query.proofs.OneAnswer.{one_result, one_part, one_join}
+use Rattle.at_geojson.specs.Roles.{features_of}
+use Rattle.at_geojson.specs.Wholes.{faults_of}
+use Rattle.at_run.specs.declared.faults.RunFault.{RunFault}
+use Rattle.at_run.specs.declared.faults.RunFault.TheVariants.{Found, Memory}
+use Rattle.at_run.specs.declared.forms.Form.{Form}
+use Rattle.at_run.specs.declared.forms.Form.TheVariants.{GeoJson, Wkt}
 use Rattle.at_run.specs.Places.{IsLeastCount}
 use Rattle.at_run.specs.Features.{IsLineFeature, AreLineFeatures, AreFileFeatures}
-use Rattle.at_run.specs.Answers.{IsFilePart, IsFileAnswer, IsJoinAnswer}
+use Rattle.at_run.specs.JsonFiles.{HaveJsonFaults, HasJsonFaultBehind}
+use Rattle.at_run.specs.Files.{HasFileFaultIn, TheFileFaultIn, AreJsonFeatures, AreFileFeaturesIn}
+use Rattle.at_run.specs.Answers.{IfFound, IsFilePart, IsFileAnswer, IsJoinAnswer}
 
 -- the least count of blocks that serves is one
 pub one_least_count : (blocks m n : ℕ) → IsLeastCount blocks m → IsLeastCount blocks n → m ≡ n
@@ -37,35 +48,75 @@ module _ (digits : ℕ) (how : Coords) where
   pub one_file_features : (bytes : List ℕ) (fs gs : List Feature) → AreFileFeatures digits how bytes fs → AreFileFeatures digits how bytes gs → fs ≡ gs
   one_file_features bytes fs gs h k = one_features (lines_of bytes) fs gs h k
 
+  -- ---- a file of GeoJSON
+
+  one_json_faults : (bytes : List ℕ) (fs gs : List Fault) → HaveJsonFaults digits how bytes fs → HaveJsonFaults digits how bytes gs → fs ≡ gs
+  one_json_faults bytes fs gs (inl (f, p, e)) (inl (g, q, k)) = e ∙ (ap (λ z. z ∷ []) (one_syntax_fault (JsonText (base_of bytes)) (base_of bytes) (drop (base_of bytes) bytes) f g p q) ∙ sym k)
+  one_json_faults bytes fs gs (inl (f, p, e)) (inr (t, q, k)) = absurd (p.no_word (t, q))
+  one_json_faults bytes fs gs (inr (t, p, e)) (inl (f, q, k)) = absurd (q.no_word (t, p))
+  one_json_faults bytes fs gs (inr (t, p, e)) (inr (u, q, k)) = e ∙ (ap (faults_of digits how) (sym (one_tree (base_of bytes) (drop (base_of bytes) bytes) t u p q)) ∙ sym k)
+
+  one_json_behind : (encoding : Option Fault) (bytes : List ℕ) (f g : Option Fault) → HasJsonFaultBehind digits how encoding bytes f → HasJsonFaultBehind digits how encoding bytes g → f ≡ g
+  one_json_behind (Some fault) bytes f g p q = p ∙ sym q
+  one_json_behind None bytes f g (fs, p, e) (gs, q, k) = e ∙ (ap first_of (one_json_faults bytes fs gs p q) ∙ sym k)
+
+  one_json_features : (bytes : List ℕ) (fs gs : List Feature) → AreJsonFeatures digits how bytes fs → AreJsonFeatures digits how bytes gs → fs ≡ gs
+  one_json_features bytes fs gs (t, p, e) (u, q, k) = e ∙ (ap (features_of digits how) (sym (one_tree (base_of bytes) (drop (base_of bytes) bytes) t u p q)) ∙ sym k)
+
+-- ---- a file of either form
+
+module _ (form : Form) (digits : ℕ) (how : Coords) where
+  -- at most one first fault, or none, and not both
+  pub one_file_fault_in : (bytes : List ℕ) (f g : Option Fault) → HasFileFaultIn form digits how bytes f → HasFileFaultIn form digits how bytes g → f ≡ g
+  one_file_fault_in bytes f g p q = by_form form p q where
+    by_form : (form : Form) → HasFileFaultIn form digits how bytes f → HasFileFaultIn form digits how bytes g → f ≡ g
+    by_form Wkt h k = one_file_fault digits how bytes f g h k
+    by_form GeoJson h k = one_json_behind digits how (utf8_fault bytes) bytes f g h k
+
+  pub one_file_features_in : (bytes : List ℕ) (fs gs : List Feature) → AreFileFeaturesIn form digits how bytes fs → AreFileFeaturesIn form digits how bytes gs → fs ≡ gs
+  one_file_features_in bytes fs gs p q = by_form form p q where
+    by_form : (form : Form) → AreFileFeaturesIn form digits how bytes fs → AreFileFeaturesIn form digits how bytes gs → fs ≡ gs
+    by_form Wkt h k = one_file_features digits how bytes fs gs h k
+    by_form GeoJson h k = one_json_features digits how bytes fs gs h k
+
+  -- so the first fault of a file is the only one
+  pub the_file_fault_in : (bytes : List ℕ) (f : Option Fault) → HasFileFaultIn form digits how bytes f → TheFileFaultIn form digits how bytes f
+  the_file_fault_in bytes f p other q = one_file_fault_in bytes other f q p
+
+  -- the fault that is found is the only first one
+  pub found_only : (bytes : List ℕ) (end : RunFault) → IfFound end (λ fault. HasFileFaultIn form digits how bytes (Some fault)) → IfFound end (λ fault. TheFileFaultIn form digits how bytes (Some fault))
+  found_only bytes (Found fault) h = the_file_fault_in bytes (Some fault) h
+  found_only bytes Memory h = tt
+
   module _ (query : Query) (bytes : List ℕ) where
-    pub one_file_part : (a b : Part) → IsFilePart digits how query bytes a → IsFilePart digits how query bytes b → a ≡ b
+    pub one_file_part : (a b : Part) → IsFilePart form digits how query bytes a → IsFilePart form digits how query bytes b → a ≡ b
     one_file_part a b h k =
-        let same : h.features ≡ k.features = one_file_features bytes h.features k.features h.are_features k.are_features in
+        let same : h.features ≡ k.features = one_file_features_in bytes h.features k.features h.are_features k.are_features in
         one_part query k.features a b (subst (λ fs. IsPart query fs a) same h.is_part) k.is_part
 
     -- a file has one answer to a query
-    pub one_file_answer : (a b : Answer) → IsFileAnswer digits how query bytes a → IsFileAnswer digits how query bytes b → a ≡ b
+    pub one_file_answer : (a b : Answer) → IsFileAnswer form digits how query bytes a → IsFileAnswer form digits how query bytes b → a ≡ b
     one_file_answer a b h k =
-        let same : h.features ≡ k.features = one_file_features bytes h.features k.features h.are_features k.are_features in
+        let same : h.features ≡ k.features = one_file_features_in bytes h.features k.features h.are_features k.are_features in
         one_result query k.features a b (subst (λ fs. IsResult query fs a) same h.is_result) k.is_result
 
     -- an answer, or a fault
-    pub answer_or_fault : (a : Answer) (f : Fault) → IsFileAnswer digits how query bytes a → HasFileFault digits how bytes (Some f) → ⊥
-    answer_or_fault a f h k = none-some f (one_file_fault digits how bytes None (Some f) h.faultless k)
+    pub answer_or_fault : (a : Answer) (f : Fault) → IsFileAnswer form digits how query bytes a → HasFileFaultIn form digits how bytes (Some f) → ⊥
+    answer_or_fault a f h k = none-some f (one_file_fault_in bytes None (Some f) h.faultless k)
 
-    pub part_or_fault : (a : Part) (f : Fault) → IsFilePart digits how query bytes a → HasFileFault digits how bytes (Some f) → ⊥
-    part_or_fault a f h k = none-some f (one_file_fault digits how bytes None (Some f) h.faultless k)
+    pub part_or_fault : (a : Part) (f : Fault) → IsFilePart form digits how query bytes a → HasFileFaultIn form digits how bytes (Some f) → ⊥
+    part_or_fault a f h k = none-some f (one_file_fault_in bytes None (Some f) h.faultless k)
 
-  -- two files have one join, or a fault
-  module _ (query : Query) (first second : List ℕ) where
-    pub one_join_answer : (a b : Answer) → IsJoinAnswer digits how query first second a → IsJoinAnswer digits how query first second b → a ≡ b
-    one_join_answer a b h k =
-        let one : h.first ≡ k.first = one_file_features first h.first k.first h.are_first k.are_first in
-        let other : h.second ≡ k.second = one_file_features second h.second k.second h.are_second k.are_second in
-        one_join query k.first k.second a b (subst (λ gs. IsJoined query k.first gs a) other (subst (λ fs. IsJoined query fs h.second a) one h.is_joined)) k.is_joined
+-- two files have one join, or a fault
+module _ (form_a form_b : Form) (digits : ℕ) (how : Coords) (query : Query) (first second : List ℕ) where
+  pub one_join_answer : (a b : Answer) → IsJoinAnswer form_a form_b digits how query first second a → IsJoinAnswer form_a form_b digits how query first second b → a ≡ b
+  one_join_answer a b h k =
+      let one : h.first ≡ k.first = one_file_features_in form_a digits how first h.first k.first h.are_first k.are_first in
+      let other : h.second ≡ k.second = one_file_features_in form_b digits how second h.second k.second h.are_second k.are_second in
+      one_join query k.first k.second a b (subst (λ gs. IsJoined query k.first gs a) other (subst (λ fs. IsJoined query fs h.second a) one h.is_joined)) k.is_joined
 
-    pub join_or_first_fault : (a : Answer) (f : Fault) → IsJoinAnswer digits how query first second a → HasFileFault digits how first (Some f) → ⊥
-    join_or_first_fault a f h k = none-some f (one_file_fault digits how first None (Some f) h.first_faultless k)
+  pub join_or_first_fault : (a : Answer) (f : Fault) → IsJoinAnswer form_a form_b digits how query first second a → HasFileFaultIn form_a digits how first (Some f) → ⊥
+  join_or_first_fault a f h k = none-some f (one_file_fault_in form_a digits how first None (Some f) h.first_faultless k)
 
-    pub join_or_second_fault : (a : Answer) (f : Fault) → IsJoinAnswer digits how query first second a → HasFileFault digits how second (Some f) → ⊥
-    join_or_second_fault a f h k = none-some f (one_file_fault digits how second None (Some f) h.second_faultless k)
+  pub join_or_second_fault : (a : Answer) (f : Fault) → IsJoinAnswer form_a form_b digits how query first second a → HasFileFaultIn form_b digits how second (Some f) → ⊥
+  join_or_second_fault a f h k = none-some f (one_file_fault_in form_b digits how second None (Some f) h.second_faultless k)

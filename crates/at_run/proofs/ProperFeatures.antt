@@ -23,14 +23,14 @@ use Rattle.at_run.proofs.ShapeRanges.{geometry_in_range}
 
 -- ---- lists without an element
 
-empties : {X : Type 0} (xs ys : List X) → xs ++ ys ≡ [] → (xs ≡ []) × (ys ≡ [])
+pub empties : {X : Type 0} (xs ys : List X) → xs ++ ys ≡ [] → (xs ≡ []) × (ys ≡ [])
 empties [] ys e = (refl, e)
 empties (x ∷ xs) ys e = absurd (let n = ap length e in omega (arith, n))
 
-not_empty : {X : Type 0} (x : X) (xs : List X) → x ∷ xs ≡ [] → ⊥
+pub not_empty : {X : Type 0} (x : X) (xs : List X) → x ∷ xs ≡ [] → ⊥
 not_empty x xs e = let n = ap length e in omega (arith, n)
 
-all_joined : {X : Type 0} (P : X → Type 0) (xs ys : List X) → AllByRecursion P xs → AllByRecursion P ys → AllByRecursion P (xs ++ ys)
+pub all_joined : {X : Type 0} (P : X → Type 0) (xs ys : List X) → AllByRecursion P xs → AllByRecursion P ys → AllByRecursion P (xs ++ ys)
 all_joined P [] ys h k = k
 all_joined P (x ∷ xs) ys h k = (h.0, all_joined P xs ys h.1 k)
 
@@ -41,7 +41,7 @@ first_is_some a (Some b) e = go (comes_first a b) e where
   go true h = none-some a (sym h)
   go false h = none-some b (sym h)
 
-no_first : (fs : List Fault) → None ≡ first_of fs → fs ≡ []
+pub no_first : (fs : List Fault) → None ≡ first_of fs → fs ≡ []
 no_first [] e = refl
 no_first (f ∷ fs) e = absurd (first_is_some f (first_of fs) (sym e))
 
@@ -57,7 +57,7 @@ same_of true true same e f h = h
 same_of true false same e f h = absurd (cc)
 same_of false last same e f h = absurd (cc)
 
-abbrev HasClosedRings : Polygon → Type 0
+abbrev pub HasClosedRings : Polygon → Type 0
 HasClosedRings area = AllByRecursion IsClosed area.rings
 
 module _ (digits : ℕ) (how : Coords) where
@@ -104,7 +104,7 @@ module _ (digits : ℕ) (how : Coords) where
       all_joined HasClosedRings (polygons_of digits how rings) (flat_map (polygons_of digits how) areas) (area_closed rings a) (areas_closed areas b)
 
   mutual
-    geometry_closed : (g : Geometry) → faults_of digits how g ≡ [] → AreRingsClosed (shape_of digits how g)
+    pub geometry_closed : (g : Geometry) → faults_of digits how g ≡ [] → AreRingsClosed (shape_of digits how g)
     geometry_closed (point p) e = tt
     geometry_closed (line_string ps) e = tt
     geometry_closed (polygon rings) e = area_closed rings e
@@ -152,7 +152,7 @@ lines_from bytes =
     kept_from (λ (l : FileLine). not (is_blank_text l.text)) 0 (map line_of pieces)
     (ends_from 0 pieces (from_less 0 at pieces (omega arith) (placed_from at (slice_split is_line_feed (drop at bytes)))))
 
-abbrev at_of : Feature → ℕ
+abbrev pub at_of : Feature → ℕ
 at_of f = f.at
 
 module _ (digits : ℕ) (how : Coords) where

@@ -10,8 +10,14 @@ use Rattle.at_query.specs.declared.answers.Answer.{Answer}
 use Rattle.at_query.specs.Ranges.{AreFeaturesInRange}
 use Rattle.at_query.specs.Results.{IsResult}
 use Rattle.at_query.specs.Parts.{kept_of, IsPart, IsAnswerable, AreFew}
+use Rattle.at_geojson.specs.Roles.{features_of}
+use Rattle.at_run.specs.declared.forms.Form.{Form}
+use Rattle.at_run.specs.declared.forms.Form.TheVariants.{GeoJson, Wkt}
+use Rattle.at_run.specs.Files.{AreFileFeaturesIn}
 use Rattle.at_run.specs.Answers.{IsFilePart, IsFileAnswer}
-use Rattle.at_run.proofs.FileSizes.{file_features_few, file_features_in_range}
+use Rattle.at_run.proofs.FileSizes.{few_of_size, file_features_few, file_features_in_range}
+use Rattle.at_run.proofs.JsonSizes.{json_features_size}
+use Rattle.at_run.proofs.JsonFeatures.{json_features_in_range}
 
 kept_answerable : (verb : Verb) (fs : List Feature) → verb ≢ Join → IsAnswerable (kept_of verb fs)
 kept_answerable Select fs h = tt
@@ -23,17 +29,27 @@ kept_answerable Join fs h = absurd (h refl)
 part_answerable : (query : Query) (fs : List Feature) (part : Part) → query.verb ≢ Join → IsPart query fs part → IsAnswerable part
 part_answerable query fs part h (kept, keeps, e) = subst IsAnswerable (sym e) (kept_answerable query.verb kept h)
 
-module _ (digits : ℕ) (how : Coords) (query : Query) (bytes : List ℕ) (part : Part) (h : IsFilePart digits how query bytes part) where
+module _ (digits : ℕ) (how : Coords) (bytes : List ℕ) (fs : List Feature) where
+  -- a file has few features
+  features_few : (form : Form) → length bytes ≤ 2 ^ 28 → AreFileFeaturesIn form digits how bytes fs → AreFew fs
+  features_few Wkt short are = file_features_few digits how bytes fs short are
+  features_few GeoJson short (t, is, same) = subst AreFew (sym same) (few_of_size digits how (features_of digits how t) (length bytes) (json_features_size digits how bytes t is) short)
+
+  features_in_range : (form : Form) → AreFileFeaturesIn form digits how bytes fs → AreFeaturesInRange fs
+  features_in_range Wkt are = file_features_in_range digits how bytes fs are
+  features_in_range GeoJson (t, is, same) = subst AreFeaturesInRange (sym same) (json_features_in_range digits how t)
+
+module _ (form : Form) (digits : ℕ) (how : Coords) (query : Query) (bytes : List ℕ) (part : Part) (h : IsFilePart form digits how query bytes part) where
   -- it can be handed to `answer_of`
   pub file_answerable : query.verb ≢ Join → IsAnswerable part
   file_answerable no_join = part_answerable query h.features part no_join h.is_part
 
   -- what `answer_of` ensures of its answer, over the features of the file
   pub file_result : (answer : Answer) → length bytes ≤ 2 ^ 28 → ((query : Query) (fs : List Feature) → IsPart query fs part → AreFeaturesInRange fs → AreFew fs → IsResult query fs answer)
-      → IsFileAnswer digits how query bytes answer
+      → IsFileAnswer form digits how query bytes answer
   file_result answer short exact = record {
     faultless = h.faultless;
     features = h.features;
     are_features = h.are_features;
-    is_result = exact query h.features h.is_part (file_features_in_range digits how bytes h.features h.are_features) (file_features_few digits how bytes h.features short h.are_features);
+    is_result = exact query h.features h.is_part (features_in_range digits how bytes h.features form h.are_features) (features_few digits how bytes h.features form short h.are_features);
   }

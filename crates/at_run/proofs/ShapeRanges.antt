@@ -40,6 +40,24 @@ signed_small true (Ok r) h = let l = h r refl in let n = negated r in omega (ari
 signed_small false (Ok r) h = h r refl
 signed_small minus (Err e) h = omega arith
 
+-- ---- shapes
+
+pub with_points : (ps : List Pos) → All IsInRange ps → IsShapeInRange (of_points ps)
+with_points ps h = record { points = h; lines = All-nil (All IsInRange); polygons = All-nil (λ (polygon : Polygon). ArePathsInRange polygon.rings) }
+
+with_lines : (ls : List (List Pos)) → ArePathsInRange ls → IsShapeInRange (of_lines ls)
+with_lines ls h = record { points = All-nil IsInRange; lines = h; polygons = All-nil (λ (polygon : Polygon). ArePathsInRange polygon.rings) }
+
+with_polygons : (ps : List Polygon) → ArePolygonsInRange ps → IsShapeInRange (of_polygons ps)
+with_polygons ps h = record { points = All-nil IsInRange; lines = All-nil (All IsInRange); polygons = h }
+
+pub with_both : (s u : Shape) → IsShapeInRange s → IsShapeInRange u → IsShapeInRange (both s u)
+with_both s u h k = record {
+  points = All-append IsInRange s.points u.points h.points k.points;
+  lines = All-append (All IsInRange) s.lines u.lines h.lines k.lines;
+  polygons = All-append (λ (polygon : Polygon). ArePathsInRange polygon.rings) s.polygons u.polygons h.polygons k.polygons;
+}
+
 module _ (digits : ℕ) (how : Coords) where
   value_small : (n : Numeral) → nat_abs (value_of digits how n) ≤ 300000000000000
   value_small n =
@@ -76,23 +94,7 @@ module _ (digits : ℕ) (how : Coords) where
   areas_small : (areas : List (List Positions)) → ArePolygonsInRange (flat_map (polygons_of digits how) areas)
   areas_small areas = all_flat (λ (polygon : Polygon). ArePathsInRange polygon.rings) (polygons_of digits how) area_small areas
 
-  -- ---- shapes
-
-  with_points : (ps : List Pos) → All IsInRange ps → IsShapeInRange (of_points ps)
-  with_points ps h = record { points = h; lines = All-nil (All IsInRange); polygons = All-nil (λ (polygon : Polygon). ArePathsInRange polygon.rings) }
-
-  with_lines : (ls : List (List Pos)) → ArePathsInRange ls → IsShapeInRange (of_lines ls)
-  with_lines ls h = record { points = All-nil IsInRange; lines = h; polygons = All-nil (λ (polygon : Polygon). ArePathsInRange polygon.rings) }
-
-  with_polygons : (ps : List Polygon) → ArePolygonsInRange ps → IsShapeInRange (of_polygons ps)
-  with_polygons ps h = record { points = All-nil IsInRange; lines = All-nil (All IsInRange); polygons = h }
-
-  with_both : (s u : Shape) → IsShapeInRange s → IsShapeInRange u → IsShapeInRange (both s u)
-  with_both s u h k = record {
-    points = All-append IsInRange s.points u.points h.points k.points;
-    lines = All-append (All IsInRange) s.lines u.lines h.lines k.lines;
-    polygons = All-append (λ (polygon : Polygon). ArePathsInRange polygon.rings) s.polygons u.polygons h.polygons k.polygons;
-  }
+  -- ---- geometries
 
   mutual
     pub geometry_in_range : (g : Geometry) → IsShapeInRange (shape_of digits how g)

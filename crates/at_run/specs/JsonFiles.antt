@@ -33,13 +33,6 @@ module _ (digits : ℕ) (how : Coords) where
   abbrev pub HasJsonFileFault : List ℕ → Option Fault → Type 0
   HasJsonFileFault bytes first = HasJsonFaultBehind (utf8_fault bytes) bytes first
 
-  -- the file has no fault, and the part is that of its features
-  pub record IsJsonPart (query : Query) (bytes : List ℕ) (part : Part) : Type 0 where
-    pub faultless : HasJsonFileFault bytes None
-    pub tree : Tree
-    pub is_tree : IsFileOf bytes tree
-    pub is_part : IsPart query (features_of digits how tree) part
-
   -- what a file whose encoding has no fault ends in
   abbrev pub EndsJson : Query → List ℕ → Result Part RunFault → Type 0
   EndsJson query bytes (Ok part) = (t : Tree) × IsFileOf bytes t × (faults_of digits how t ≡ []) × IsPart query (features_of digits how t) part

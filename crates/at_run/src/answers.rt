@@ -1,42 +1,29 @@
 ghost use Rattle.std.specs.Prelude.{◌≡◌, ◌≢◌, ◌-◌, ◌<◌, ◌≤◌, ◌^◌, length, MatchResult, None, Some, Err};
 ghost use Rattle.at_text.specs.Texts.{base_of as text_begin};
-ghost use Rattle.at_wkt.specs.Files.{HasFileFault, TheFileFault};
 ghost use Rattle.at_query.specs.Ranges.{IsQueryInRange};
 ghost use Rattle.at_run.specs.Places.{first_place, last_place};
 ghost use Rattle.at_run.specs.Blocks.{SomeGivenUp};
+ghost use Rattle.at_run.specs.Files.{HasFileFaultIn, TheFileFaultIn};
 ghost use Rattle.at_run.specs.Answers.{IfFound, IsFilePart, IsFileAnswer};
-ghost use Rattle.at_run.specs.Gathering.{run_end};
 
+use crate::copying::copy_query;
 use crate::cuts::Cuts;
 use crate::faults::RunFault;
 use crate::forms::Form;
-use crate::gathered::Gathered;
 use crate::jobs::run_file;
-use crate::line_queries::LineQuery;
+use crate::readers::Reader;
 use at_crew::Gate;
 use at_fixed::Coords;
 use at_query::{Answer, Part, Query, Verb, answer_of};
-use at_text::{Memory, utf8_fault};
-use at_wkt::finish_lines;
 use std::alloc::Global;
 use std::thread::Threads;
-
-/// The part of a file's lines, or their first fault.
-fn end_of(gathered: Result<Gathered, Memory>) -> Result<Part, RunFault>
-    ensures { result ≡ run_end gathered }
-{
-    match gathered {
-        Ok(Gathered::Kept(part)) => Ok(part),
-        Ok(Gathered::Failed(fault)) => Err(RunFault::Found(fault)),
-        Err(_) => Err(RunFault::Memory),
-    }
-}
 
 /// The part of a file's features under a query, or the file's first fault.
 pub(crate) fn part<G: Gate, R: Threads + Sync>(
     rt: &R,
     alloc: Global,
     bytes: &[u8],
+    form: Form,
     cuts: &Cuts,
     query: &Query,
     digits: u8,
@@ -49,20 +36,18 @@ pub(crate) fn part<G: Gate, R: Threads + Sync>(
     requires last { last_place cuts.now ≡ length bytes.now }
     requires in_range { IsQueryInRange query.now }
     requires workers { (0 < workers) × (workers ≤ 64) }
-    ensures answer { MatchResult result (IsFilePart digits how query.now bytes.now)
-        (λ end. IfFound end (λ fault. HasFileFault digits how bytes.now (Some fault))) }
-    ensures only { MatchResult result (λ part. TheFileFault digits how bytes.now None)
-        (λ end. IfFound end (λ fault. TheFileFault digits how bytes.now (Some fault))) }
+    ensures answer { MatchResult result (IsFilePart form digits how query.now bytes.now)
+        (λ end. IfFound end (λ fault. HasFileFaultIn form digits how bytes.now (Some fault))) }
     ensures given_up { SomeGivenUp (G.given_up gate.now) 0 (length cuts.now - 1) → result ≡ Err RunFault.Memory }
 {
-    let fold = LineQuery::new(query, digits, how);
-    let Ok(whole) = run_file(rt, alloc, &fold, bytes, cuts, workers, gate) else {
+    let Ok(copy) = copy_query(alloc, query) else {
         return Err(RunFault::Memory);
     };
-    if let Some(fault) = utf8_fault(bytes) {
-        return Err(RunFault::Found(fault));
-    }
-    end_of(finish_lines(alloc, &fold, bytes, whole))
+    let reader = Reader::new(form, copy, digits, how);
+    let Ok(whole) = run_file(rt, alloc, &reader, bytes, cuts, workers, gate) else {
+        return Err(RunFault::Memory);
+    };
+    reader.finish_pieces(alloc, bytes, whole)
 }
 
 /// The answer to a query over a file's features, or the file's first fault.
@@ -72,7 +57,7 @@ pub(crate) fn part<G: Gate, R: Threads + Sync>(
 /// steps: whatever they are, the answer is that of the whole bytes.
 ///
 /// # Errors
-/// `Found` is the file's first fault, exactly where it has one: that of its encoding, or else the first of its lines' by
+/// `Found` is the file's first fault, exactly where it has one: that of its encoding, or else the first of all others by
 /// tiers, then by offset, then by number. `Memory` comes where an allocation was refused, and wherever the gate gives up
 /// a block.
 pub fn answer<G: Gate, R: Threads + Sync>(
@@ -88,19 +73,20 @@ pub fn answer<G: Gate, R: Threads + Sync>(
     gate: &G,
 ) -> Result<Answer, RunFault>
     requires short { length bytes.now ≤ 2 ^ 28 }
-    requires form { form ≡ Form.Wkt }
     requires first { first_place cuts.now ≡ text_begin bytes.now }
     requires last { last_place cuts.now ≡ length bytes.now }
     requires no_join { query.now.verb ≢ Verb.Join }
     requires in_range { IsQueryInRange query.now }
     requires workers { (0 < workers) × (workers ≤ 64) }
-    ensures answer { MatchResult result (IsFileAnswer digits how query.now bytes.now)
-        (λ end. IfFound end (λ fault. HasFileFault digits how bytes.now (Some fault))) }
-    ensures only { MatchResult result (λ answer. TheFileFault digits how bytes.now None)
-        (λ end. IfFound end (λ fault. TheFileFault digits how bytes.now (Some fault))) }
+    ensures answer { MatchResult result (IsFileAnswer form digits how query.now bytes.now)
+        (λ end. IfFound end (λ fault. HasFileFaultIn form digits how bytes.now (Some fault))) }
+    ensures only { MatchResult result (λ answer. TheFileFaultIn form digits how bytes.now None)
+        (λ end. IfFound end (λ fault. TheFileFaultIn form digits how bytes.now (Some fault))) }
     ensures given_up { SomeGivenUp (G.given_up gate.now) 0 (length cuts.now - 1) → result ≡ Err RunFault.Memory }
 {
-    match part(rt, alloc, bytes, cuts, query, digits, how, workers, gate) {
+    match part(
+        rt, alloc, bytes, form, cuts, query, digits, how, workers, gate,
+    ) {
         Ok(part) => Ok(answer_of(part)),
         Err(end) => Err(end),
     }

@@ -1,11 +1,11 @@
 ghost use Rattle.std.specs.Prelude.{◌≡◌, ◌-◌, ◌<◌, ◌≤◌, ◌^◌, [], length, MatchResult, None, Some, IfOk};
 ghost use Rattle.at_text.specs.Texts.{base_of as text_begin};
-ghost use Rattle.at_wkt.specs.Files.{HasFileFault, TheFileFault};
 ghost use Rattle.at_query.specs.Ranges.{IsQueryInRange};
 ghost use Rattle.at_query.specs.Parts.{IsPart, AreProper};
 ghost use Rattle.at_query.specs.declared.features.Feature.{Feature};
 ghost use Rattle.at_run.specs.Places.{first_place, last_place};
 ghost use Rattle.at_run.specs.Blocks.{NoneGivenUp};
+ghost use Rattle.at_run.specs.Files.{HasFileFaultIn};
 ghost use Rattle.at_run.specs.Answers.{IfFound, IsFilePart, IsJoinAnswer, IsJoinFault};
 
 use crate::answers::part;
@@ -46,6 +46,7 @@ fn entries<G: Gate, R: Threads + Sync>(
     rt: &R,
     alloc: Global,
     bytes: &[u8],
+    form: Form,
     cuts: &Cuts,
     query: &Query,
     digits: u8,
@@ -59,12 +60,14 @@ fn entries<G: Gate, R: Threads + Sync>(
     requires join { query.now.verb ≡ Verb.Join }
     requires in_range { IsQueryInRange query.now }
     requires workers { (0 < workers) × (workers ≤ 64) }
-    ensures part { MatchResult result (λ (entries : _). IsFilePart digits how query.now bytes.now (Part.Entries entries))
-        (λ end. IfFound end (λ fault. HasFileFault digits how bytes.now (Some fault))) }
+    ensures part { MatchResult result (λ (entries : _). IsFilePart form digits how query.now bytes.now (Part.Entries entries))
+        (λ end. IfFound end (λ fault. HasFileFaultIn form digits how bytes.now (Some fault))) }
     ensures proper { IfOk result AreProper }
     ensures given_up { IfOk result (λ _. NoneGivenUp (G.given_up gate.now) 0 (length cuts.now - 1)) }
 {
-    match part(rt, alloc, bytes, cuts, query, digits, how, workers, gate) {
+    match part(
+        rt, alloc, bytes, form, cuts, query, digits, how, workers, gate,
+    ) {
         Ok(part) => Ok(entries_of(part)),
         Err(end) => Err(end),
     }
@@ -98,8 +101,6 @@ pub fn answer_join<G: Gate, R: Threads + Sync>(
 ) -> Result<Answer, JoinFault>
     requires short_a { length a.now ≤ 2 ^ 28 }
     requires short_b { length b.now ≤ 2 ^ 28 }
-    requires form_a { form_a ≡ Form.Wkt }
-    requires form_b { form_b ≡ Form.Wkt }
     requires first_a { first_place cuts_a.now ≡ text_begin a.now }
     requires last_a { last_place cuts_a.now ≡ length a.now }
     requires first_b { first_place cuts_b.now ≡ text_begin b.now }
@@ -107,18 +108,22 @@ pub fn answer_join<G: Gate, R: Threads + Sync>(
     requires join { query.now.verb ≡ Verb.Join }
     requires in_range { IsQueryInRange query.now }
     requires workers { (0 < workers) × (workers ≤ 64) }
-    ensures answer { MatchResult result (IsJoinAnswer digits how query.now a.now b.now) (IsJoinFault digits how a.now b.now) }
+    ensures answer { MatchResult result (IsJoinAnswer form_a form_b digits how query.now a.now b.now) (IsJoinFault form_a form_b digits how a.now b.now) }
     ensures gate_a { IfOk result (λ _. NoneGivenUp (G.given_up gate.now) 0 (length cuts_a.now - 1)) }
     ensures gate_b { IfOk result (λ _. NoneGivenUp (G.given_up gate.now) 0 (length cuts_b.now - 1)) }
     ensures gate_cells { IfOk result (λ _. NoneGivenUp (G.given_up gate.now) 0 64) }
 {
-    let first = match entries(rt, alloc, a, cuts_a, query, digits, how, workers, gate) {
+    let first = match entries(
+        rt, alloc, a, form_a, cuts_a, query, digits, how, workers, gate,
+    ) {
         Ok(entries) => entries,
         Err(RunFault::Found(fault)) => return Err(JoinFault::First(fault)),
         Err(RunFault::Memory) => return Err(JoinFault::Memory),
     };
     let all = of_all(alloc);
-    let second = match entries(rt, alloc, b, cuts_b, &all, digits, how, workers, gate) {
+    let second = match entries(
+        rt, alloc, b, form_b, cuts_b, &all, digits, how, workers, gate,
+    ) {
         Ok(entries) => entries,
         Err(RunFault::Found(fault)) => return Err(JoinFault::Second(fault)),
         Err(RunFault::Memory) => return Err(JoinFault::Memory),

@@ -3,8 +3,10 @@ ghost use Rattle.at_text.specs.Texts.{base_of as text_begin};
 ghost use Rattle.at_nest.specs.Holding.{Kept};
 ghost use Rattle.at_nest.specs.Standing.{StandsFor};
 ghost use Rattle.at_geojson.specs.Atoms.{IsOwn, IsFold};
-ghost use Rattle.at_run.specs.Answers.{IfFound};
-ghost use Rattle.at_run.specs.JsonFiles.{HasJsonFileFault, IsJsonPart, EndsJson, text_end, root_end};
+ghost use Rattle.at_run.specs.declared.forms.Form.TheVariants.{GeoJson};
+ghost use Rattle.at_run.specs.Files.{HasFileFaultIn};
+ghost use Rattle.at_run.specs.Answers.{IfFound, IsFilePart};
+ghost use Rattle.at_run.specs.JsonFiles.{EndsJson, text_end, root_end};
 
 use crate::faults::RunFault;
 use at_geojson::{GeoAlgebra, RootEnd, root_part};
@@ -71,8 +73,8 @@ pub fn finish_json(
 ) -> Result<Part, RunFault>
     requires fits { length bytes.now ≤ 2 ^ 28 }
     requires whole { StandsFor (Kept (IsOwn algebra.now) (IsFold algebra.now)) (text_begin bytes.now) (drop (text_begin bytes.now) bytes.now) whole }
-    ensures { MatchResult result (IsJsonPart algebra.now.digits algebra.now.how algebra.now.query bytes.now)
-        (λ end. IfFound end (λ fault. HasJsonFileFault algebra.now.digits algebra.now.how bytes.now (Some fault))) }
+    ensures { MatchResult result (IsFilePart GeoJson algebra.now.digits algebra.now.how algebra.now.query bytes.now)
+        (λ end. IfFound end (λ fault. HasFileFaultIn GeoJson algebra.now.digits algebra.now.how bytes.now (Some fault))) }
 {
     if let Some(fault) = utf8_fault(bytes) {
         return Err(RunFault::Found(fault));

@@ -13,6 +13,7 @@
 
 mod answers;
 mod blocks;
+mod copying;
 mod cuts;
 mod faults;
 mod forms;
@@ -20,6 +21,7 @@ mod gathered;
 mod jobs;
 mod joins;
 mod json_files;
+mod line_files;
 mod line_queries;
 mod readers;
 

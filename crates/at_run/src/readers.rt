@@ -1,14 +1,21 @@
-ghost use Rattle.std.specs.Prelude.{◌≡◌};
+ghost use Rattle.std.specs.Prelude.{◌≡◌, ◌≤◌, ◌^◌, length, MatchResult, Some};
+ghost use Rattle.at_text.specs.Spans.{StandsAt};
+ghost use Rattle.at_text.specs.Texts.{base_of as text_begin};
 ghost use Rattle.at_query.specs.Ranges.{IsQueryInRange};
+ghost use Rattle.at_run.specs.Files.{HasFileFaultIn};
+ghost use Rattle.at_run.specs.Answers.{IfFound, IsFilePart};
 ghost use Rattle.at_run.specs.Readers.{Asks, of_lines, of_json, StandsInForm};
 
+use crate::faults::RunFault;
 use crate::forms::Form;
 use crate::gathered::Gathered;
+use crate::json_files::finish_json;
+use crate::line_files::finish_line_file;
 use crate::line_queries::LineQuery;
 use at_fixed::Coords;
 use at_geojson::GeoAlgebra;
 use at_nest::{Fragment, merge, run_block};
-use at_query::Query;
+use at_query::{Part, Query};
 use at_text::Pieces;
 use at_wkt::{LineFragment, merge_lines, run_lines};
 use std::alloc::Global;
@@ -62,6 +69,27 @@ impl Reader {
         ensures { result.now ≡ of_json self.now }
     {
         &self.algebra
+    }
+
+    /// The part of a file's features under the query, from the fragment of all bytes from its text's first on.
+    ///
+    /// # Errors
+    /// `Found` is the file's first fault, exactly where it has one. `Memory` comes where an allocation was refused.
+    pub fn finish_pieces(
+        &self,
+        alloc: Global,
+        bytes: &[u8],
+        whole: FileFragment,
+    ) -> Result<Part, RunFault>
+        requires fits { length bytes.now ≤ 2 ^ 28 }
+        requires whole { StandsAt (StandsInForm self.now) bytes.now (text_begin bytes.now) (length bytes.now) whole }
+        ensures { MatchResult result (IsFilePart self.now.form self.now.digits self.now.how self.now.query bytes.now)
+            (λ end. IfFound end (λ fault. HasFileFaultIn self.now.form self.now.digits self.now.how bytes.now (Some fault))) }
+    {
+        match whole {
+            FileFragment::Lines(whole) => finish_line_file(alloc, &self.of_lines(), bytes, whole),
+            FileFragment::Json(whole) => finish_json(alloc, self.of_json(), bytes, whole),
+        }
     }
 }
 

@@ -5,6 +5,7 @@ use super::*;
 use at_crew::{Free, Gate};
 use at_fixed::Coords;
 use at_geom::{Extent, Pos};
+use at_lex::Units;
 use at_query::{Query, Test, Tests, Verb, answer_text};
 use at_text::base_of;
 use std::alloc::{AllocError, Global};
@@ -47,6 +48,7 @@ fn told<R: Threads + Sync, G: Gate>(
     rt: &R,
     alloc: Global,
     bytes: &[u8],
+    form: Form,
     cuts: &Cuts,
     query: &Query,
     workers: u32,
@@ -71,7 +73,7 @@ fn told<R: Threads + Sync, G: Gate>(
         rt,
         alloc,
         bytes,
-        Form::Wkt,
+        form,
         cuts,
         query,
         7,
@@ -94,6 +96,7 @@ fn told_at<R: Threads + Sync>(
     rt: &R,
     alloc: Global,
     bytes: &[u8],
+    form: Form,
     places: Vec<u32>,
     query: &Query,
 ) -> Result<String, Fail>
@@ -101,7 +104,7 @@ fn told_at<R: Threads + Sync>(
     requires no_join { query.now.verb ≢ Verb.Join }
 {
     match Cuts::from_places(places) {
-        Some(cuts) => told(rt, alloc, bytes, &cuts, query, 1, &Free),
+        Some(cuts) => told(rt, alloc, bytes, form, &cuts, query, 1, &Free),
         None => Err(Fail::from("no cuts")),
     }
 }
@@ -121,11 +124,12 @@ fn told_of_pairs<R: Threads + Sync>(
     }
     let base = base_of(bytes);
     let end = bytes.len() as u32;
-    let uncut = told_at(rt, alloc, bytes, vec![in alloc; base, end]?, query)?;
+    let whole = vec![in alloc; base, end]?;
+    let uncut = told_at(rt, alloc, bytes, Form::Wkt, whole, query)?;
     for first in base..end + 1 {
         for second in first..end + 1 {
             let places = vec![in alloc; base, first, second, second, end]?;
-            let cut = told_at(rt, alloc, bytes, places, query)?;
+            let cut = told_at(rt, alloc, bytes, Form::Wkt, places, query)?;
             if cut.as_str() != uncut.as_str() {
                 return Err(Fail::from("cuts that tell otherwise"));
             }
@@ -151,7 +155,7 @@ fn told_evenly<R: Threads + Sync>(
         return Err(Fail::from("no such blocks"));
     }
     let cuts = Cuts::even(alloc, base, bytes.len() as u32, blocks)?;
-    told(rt, alloc, bytes, &cuts, query, workers, &Free)
+    told(rt, alloc, bytes, Form::Wkt, &cuts, query, workers, &Free)
 }
 
 /// What `select` prints over a file, with a comma behind each offset, or the file's first fault; a bar; and the file.
@@ -212,6 +216,7 @@ fn told_of_places<R: Threads + Sync>(
     rt: &R,
     alloc: Global,
     bytes: &[u8],
+    form: Form,
     query: &Query,
 ) -> Result<String, Fail>
     requires in_range { IsQueryInRange query.now }
@@ -224,7 +229,8 @@ fn told_of_places<R: Threads + Sync>(
     let end = bytes.len() as u32;
     let mut all = String::new(alloc);
     for place in base..end + 1 {
-        let told = told_at(rt, alloc, bytes, vec![in alloc; base, place, end]?, query)?;
+        let places = vec![in alloc; base, place, end]?;
+        let told = told_at(rt, alloc, bytes, form, places, query)?;
         if all.is_empty() {
             all = told;
         } else if all.as_str() != told.as_str() {
@@ -239,12 +245,76 @@ fn one_cut(rt: HostRuntime) -> Result<(), Fail> {
     let query = asked(rt.alloc(), Verb::Select, None)?;
     let plain = bytes_of(rt.alloc(), "POINT (1 2)^~ \t~POINT (3 4)^")?;
     assert_eq!(rt; plain.len(), 28);
-    let told = told_of_places(&rt, rt.alloc(), plain.as_slice(), &query)?;
+    let told = told_of_places(&rt, rt.alloc(), plain.as_slice(), Form::Wkt, &query)?;
     assert_eq!(rt; told.as_str(), "0\n16\n");
     let marked = bytes_of(rt.alloc(), "\u{FEFF}POINT (1 2)^~ \t~POINT (3 4)^")?;
     assert_eq!(rt; marked.len(), 31);
-    let told = told_of_places(&rt, rt.alloc(), marked.as_slice(), &query)?;
+    let told = told_of_places(&rt, rt.alloc(), marked.as_slice(), Form::Wkt, &query)?;
     assert_eq!(rt; told.as_str(), "3\n19\n");
+    Ok(())
+}
+
+/// What `select` prints over a text of GeoJSON, with a comma behind each offset, or the text's first fault; a bar; and the
+/// text.
+const TEXTS: &str =
+    r#"40,|{"type":"FeatureCollection","features":[{"type":"Feature","geometry":null,"properties":null}]}
+1,| {"type":"LineString","coordinates":[[1,2],[3,4]]}
+Syntax 1|{1 tru
+Ended 8|{"type":
+Twin 9|{"a":"a","a":1}
+Form 0|{"type":"point"}
+Ring 33|{"type":"Polygon","coordinates":[[[0,0],[1,0],[1,1]]]}
+NotUtf8 6|{"a":"%"}"#;
+
+/// A text of the table, cut once at each place.
+fn check_text<R: Threads + Sync>(
+    rt: &R,
+    alloc: Global,
+    row: &str,
+    query: &Query,
+) -> Result<(), Fail>
+    requires in_range { IsQueryInRange query.now }
+    requires no_join { query.now.verb ≢ Verb.Join }
+{
+    let (expected, text) = row.split_once('|').ok_or("a bar")?;
+    let bytes = bytes_of(alloc, text)?;
+    let told = told_of_places(rt, alloc, bytes.as_slice(), Form::GeoJson, query)?;
+    if told.replace(alloc, "\n", ",")?.as_str() != expected {
+        return Err(Fail::from("another answer"));
+    }
+    Ok(())
+}
+
+#[test]
+fn one_cut_of_a_text(rt: HostRuntime) -> Result<(), Fail> {
+    let query = asked(rt.alloc(), Verb::Select, None)?;
+    for row in TEXTS.lines() {
+        check_text(&rt, rt.alloc(), row, &query)?;
+    }
+    Ok(())
+}
+
+/// A feature that has the text of which a test asks, cut before its escape, within it and behind it.
+#[test]
+fn cuts_round_an_escape(rt: HostRuntime) -> Result<(), Fail> {
+    let name = vec![in rt.alloc(); 0x6B]?;
+    let value = vec![in rt.alloc(); 0x61, 0x22, 0x62, 0x7D, 0x5D, 0x7B]?;
+    let has = Test::Has(Units::from_vec(name), Units::from_vec(value));
+    let query = asked(rt.alloc(), Verb::Select, Some(has))?;
+    let bytes = bytes_of(
+        rt.alloc(),
+        r#"{"type":"Feature","properties":{"k":"a\"b}]{"},"geometry":null}"#,
+    )?;
+    let places = vec![in rt.alloc(); 0, 38, 39, 40, 63]?;
+    let told = told_at(
+        &rt,
+        rt.alloc(),
+        bytes.as_slice(),
+        Form::GeoJson,
+        places,
+        &query,
+    )?;
+    assert_eq!(rt; told.as_str(), "0\n");
     Ok(())
 }
 
@@ -355,6 +425,7 @@ fn told_without<R: Threads + Sync>(rt: &R, alloc: Global, block: u32) -> Result<
         rt,
         alloc,
         bytes.as_slice(),
+        Form::Wkt,
         &cuts,
         &query,
         2,
@@ -412,7 +483,16 @@ fn told_held<R: Threads + Sync>(rt: &R, alloc: Global, gate: &Held) -> Result<St
     let Some(cuts) = Cuts::from_places(vec![in alloc; 0, 5, 23]?) else {
         return Err(Fail::from("no cuts"));
     };
-    told(rt, alloc, bytes.as_slice(), &cuts, &query, 2, gate)
+    told(
+        rt,
+        alloc,
+        bytes.as_slice(),
+        Form::Wkt,
+        &cuts,
+        &query,
+        2,
+        gate,
+    )
 }
 
 #[test]

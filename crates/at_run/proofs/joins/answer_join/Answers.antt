@@ -3,7 +3,7 @@ use Rattle.at_run.proofs.joins.answer_join.Goals as goal
 
 pub returns-in-Ok-pairs_grid-clause-answer : goal.returns-in-Ok-pairs_grid-clause-answer
 returns-in-Ok-pairs_grid-clause-answer g c =
-    files_joined c.args.digits c.args.how c.args.query.now c.of_all-all.result c.args.a.now c.args.b.now c.in-Ok.entries c.in-Ok-entries.entries c.in-Ok-pairs_grid.pairs
+    files_joined c.args.digits c.args.how c.args.form_a c.args.form_b c.args.query.now c.of_all-all.result c.args.a.now c.args.b.now c.in-Ok.entries c.in-Ok-entries.entries c.in-Ok-pairs_grid.pairs
     c.requires.join c.of_all-all.ensures.verb c.of_all-all.ensures.tests c.in-Ok.ensures.part c.in-Ok-entries.ensures.part c.in-Ok-pairs_grid.ensures.pairs
 
 pub returns-in-Ok-pairs_grid-clause-gate_cells : goal.returns-in-Ok-pairs_grid-clause-gate_cells

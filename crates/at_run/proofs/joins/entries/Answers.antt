@@ -6,5 +6,5 @@ use Rattle.at_run.proofs.joins.entries.Goals as goal
 
 pub returns-in-Ok-clause-proper : goal.returns-in-Ok-clause-proper
 returns-in-Ok-clause-proper g c =
-    let P : Part → Type 0 = IsFilePart c.args.digits c.args.how c.args.query.now c.args.bytes.now in
-    file_entries_proper c.args.digits c.args.how c.args.query.now c.args.bytes.now c.entries_of.result c.requires.join (subst P c.entries_of.ensures c.in-Ok.ensures.answer)
+    let P : Part → Type 0 = IsFilePart c.args.form c.args.digits c.args.how c.args.query.now c.args.bytes.now in
+    file_entries_proper c.args.digits c.args.how c.args.form c.args.query.now c.args.bytes.now c.entries_of.result c.requires.join (subst P c.entries_of.ensures c.in-Ok.ensures.answer)

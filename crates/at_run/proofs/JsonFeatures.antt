@@ -1,0 +1,314 @@
+-- The features of a file of GeoJSON have coordinates in range, and those of one without a fault are proper: rings are closed, and offsets rise.
+use Rattle.std.proofs.Common.{◌≡◌, ℕ, ◌+◌, ◌<◌, ◌≤◌, inl, inr, Bool, true, false, if◌then◌else◌, codes, List, [], ◌∷◌, ◌++◌, length, map, Option, Some, None, refl, sym, ap, ◌∙◌, subst, arith}
+use Rattle.std.specs.List.{AllByRecursion}
+use Rattle.std.proofs.lemmas.Option.{none-some}
+use Rattle.std.proofs.lemmas.List.{map-append}
+use Rattle.std.proofs.lemmas.List.Elements.{All-nil, All-cons, All-append}
+use Rattle.at_text.specs.declared.faults.Fault.{Fault}
+use Rattle.at_text.specs.declared.faults.FaultKind.TheVariants.{Form}
+use Rattle.at_text.specs.Faults.{fault_at}
+use Rattle.at_text.specs.Texts.{utf8_fault}
+use Rattle.at_fixed.specs.declared.rounding.Coords.{Coords}
+use Rattle.at_geom.specs.Segments.{IsInRange}
+use Rattle.at_geom.specs.Shapes.{IsShapeInRange}
+use Rattle.at_lex.specs.Runs.{the_null, the_true, the_false}
+use Rattle.at_wkt.specs.Geometry as wkt
+use Rattle.at_wkt.specs.Meaning.{empty_shape, shape_of, faults_of as geometry_faults}
+use Rattle.at_nest.specs.Tree.{Tree, literal, number, text, array, object, Trees, no_trees, tree_and, Members, no_members, member_and, offset_of, Spells, SpellsItems, SpellsFurtherItems, SpellsMembers, SpellsFurtherMembers, IsTextOf}
+use Rattle.at_nest.specs.Syntax.{IsFileOf}
+use Rattle.at_nest.specs.Twins.{twins_of}
+use Rattle.at_nest.proofs.OneTree.{one_tree}
+use Rattle.at_query.specs.declared.features.Feature.{Feature}
+use Rattle.at_query.specs.Ranges.{IsFeatureInRange, AreFeaturesInRange}
+use Rattle.at_query.specs.Parts.{AreRingsClosed, AreRising, IsProperFeature, AreProperFeatures}
+use Rattle.at_geojson.specs.declared.kinds.Kind.{Kind}
+use Rattle.at_geojson.specs.declared.kinds.Kind.TheVariants as kinds
+use Rattle.at_geojson.specs.Names.{is_named, member_named, kind_of, items_of}
+use Rattle.at_geojson.specs.Coordinates.{geometry_of}
+use Rattle.at_geojson.specs.Roles.{Reading, not_geometry, both_read, Features, not_features, all_features, feature_of, properties_texts, properties_faults, coordinates_reading, kind_reading, geometry_reading, collection_reading, geometries_reading, items_reading, geometry_member_reading, feature_reading, if_feature, item_reading, features_reading, root_of_kind, root_reading, features_of, role_faults_of}
+use Rattle.at_geojson.specs.Wholes.{faults_of}
+use Rattle.at_run.specs.JsonFiles.{HaveJsonFaults, HasJsonFaultBehind, HasJsonFileFault}
+use Rattle.at_run.proofs.ShapeRanges.{with_points, with_both, geometry_in_range}
+use Rattle.at_run.proofs.ProperFeatures.{empties, not_empty, all_joined, no_first, HasClosedRings, geometry_closed, at_of}
+
+-- ---- what is read of geometries
+
+-- the coordinates are in range, and the rings are closed where nothing is wrong
+abbrev IsProper : Reading → Type 0
+IsProper r = IsShapeInRange r.shape × (r.faults ≡ [] → AreRingsClosed r.shape)
+
+nothing_in_range : IsShapeInRange empty_shape
+nothing_in_range = with_points [] (All-nil IsInRange)
+
+no_geometry : (at : ℕ) → IsProper (not_geometry at)
+no_geometry at = (nothing_in_range, λ e. tt)
+
+both_proper : (r q : Reading) → IsProper r → IsProper q → IsProper (both_read r q)
+both_proper r q (in_range, closed) (also, shut) = (
+  with_both r.shape q.shape in_range also,
+  λ e. let (a, b) = empties r.faults q.faults e in all_joined HasClosedRings r.shape.polygons q.shape.polygons (closed a) (shut b),
+)
+
+either_proper : (b : Bool) (r q : Reading) → IsProper r → IsProper q → IsProper (if b then r else q)
+either_proper true r q h k = h
+either_proper false r q h k = k
+
+module _ (digits : ℕ) (how : Coords) where
+  spelled_proper : (o : Option wkt.Geometry) (at : ℕ) → IsProper (elim o [ None ↦ not_geometry at | Some g ↦ record { shape = shape_of digits how g; faults = geometry_faults digits how g } ])
+  spelled_proper None at = no_geometry at
+  spelled_proper (Some g) at = (geometry_in_range digits how g, geometry_closed digits how g)
+
+  coordinates_proper : (at : ℕ) (kind : Kind) (o : Option Tree) → IsProper (coordinates_reading digits how at kind o)
+  coordinates_proper at kind None = no_geometry at
+  coordinates_proper at kind (Some t) = spelled_proper (geometry_of kind t) (offset_of t)
+
+  kind_proper : (at : ℕ) (ms : Members) (collected : Reading) (kind : Option Kind) → IsProper collected → IsProper (kind_reading digits how at ms collected kind)
+  kind_proper at ms collected None h = no_geometry at
+  kind_proper at ms collected (Some kinds.FeatureCollection) h = no_geometry at
+  kind_proper at ms collected (Some kinds.Feature) h = no_geometry at
+  kind_proper at ms collected (Some kinds.GeometryCollection) h = h
+  kind_proper at ms collected (Some kinds.Point) h = coordinates_proper at kinds.Point (member_named (codes "coordinates") ms)
+  kind_proper at ms collected (Some kinds.MultiPoint) h = coordinates_proper at kinds.MultiPoint (member_named (codes "coordinates") ms)
+  kind_proper at ms collected (Some kinds.LineString) h = coordinates_proper at kinds.LineString (member_named (codes "coordinates") ms)
+  kind_proper at ms collected (Some kinds.MultiLineString) h = coordinates_proper at kinds.MultiLineString (member_named (codes "coordinates") ms)
+  kind_proper at ms collected (Some kinds.Polygon) h = coordinates_proper at kinds.Polygon (member_named (codes "coordinates") ms)
+  kind_proper at ms collected (Some kinds.MultiPolygon) h = coordinates_proper at kinds.MultiPolygon (member_named (codes "coordinates") ms)
+
+  mutual
+    reading_proper : (t : Tree) → IsProper (geometry_reading digits how t)
+    reading_proper (object at ms) = kind_proper at ms (collection_reading digits how at ms) (kind_of ms) (collection_proper at ms)
+    reading_proper (array at ts) = no_geometry at
+    reading_proper (text at cs) = no_geometry at
+    reading_proper (number at n) = no_geometry at
+    reading_proper (literal at l) = no_geometry at
+
+    collection_proper : (at : ℕ) (ms : Members) → IsProper (collection_reading digits how at ms)
+    collection_proper at no_members = no_geometry at
+    collection_proper at (member_and name i t ms) = either_proper (is_named (codes "geometries") name) (geometries_reading digits how at t) (collection_reading digits how at ms) (geometries_proper at t) (collection_proper at ms)
+
+    geometries_proper : (at : ℕ) (t : Tree) → IsProper (geometries_reading digits how at t)
+    geometries_proper at (array i ts) = items_proper ts
+    geometries_proper at (object i ms) = no_geometry at
+    geometries_proper at (text i cs) = no_geometry at
+    geometries_proper at (number i n) = no_geometry at
+    geometries_proper at (literal i l) = no_geometry at
+
+    items_proper : (ts : Trees) → IsProper (items_reading digits how ts)
+    items_proper no_trees = (nothing_in_range, λ e. tt)
+    items_proper (tree_and t ts) = both_proper (geometry_reading digits how t) (items_reading digits how ts) (reading_proper t) (items_proper ts)
+
+  member_proper : (o : Option Tree) → IsProper (geometry_member_reading digits how o)
+  member_proper None = (nothing_in_range, λ e. tt)
+  member_proper (Some (literal i the_null)) = (nothing_in_range, λ e. tt)
+  member_proper (Some (literal i the_true)) = no_geometry i
+  member_proper (Some (literal i the_false)) = no_geometry i
+  member_proper (Some (number i n)) = no_geometry i
+  member_proper (Some (text i cs)) = no_geometry i
+  member_proper (Some (array i ts)) = no_geometry i
+  member_proper (Some (object i ms)) = reading_proper (object i ms)
+
+  -- ---- features
+
+  -- the coordinates are in range, and the features are proper where nothing is wrong
+  abbrev AreProper : Features → Type 0
+  AreProper f = AreFeaturesInRange f.features × (f.faults ≡ [] → AllByRecursion IsProperFeature f.features)
+
+  no_features : (at : ℕ) → AreProper (not_features at)
+  no_features at = (All-nil IsFeatureInRange, λ e. tt)
+
+  one_proper : (f : Feature) (r : Reading) (faults : List Fault) → f.shape ≡ r.shape → IsProper r → (faults ≡ [] → r.faults ≡ []) → AreProper (record { features = f ∷ []; faults = faults })
+  one_proper f r faults same (in_range, closed) none =
+      let here : IsShapeInRange f.shape = subst IsShapeInRange (sym same) in_range in (
+        All-cons IsFeatureInRange f [] here (All-nil IsFeatureInRange),
+        λ e. (record { closed = subst AreRingsClosed (sym same) (closed (none e)); in_range = here }, tt),
+      )
+
+  feature_proper : (at : ℕ) (ms : Members) → AreProper (feature_reading digits how at ms)
+  feature_proper at ms =
+      let geometry = geometry_member_reading digits how (member_named (codes "geometry") ms) in
+      let properties = member_named (codes "properties") ms in
+      one_proper (feature_of at geometry (properties_texts properties)) geometry (geometry.faults ++ properties_faults properties) refl (member_proper (member_named (codes "geometry") ms))
+      (λ e. (empties geometry.faults (properties_faults properties) e).0)
+
+  if_feature_proper : (at : ℕ) (ms : Members) (kind : Option Kind) → AreProper (if_feature digits how at ms kind)
+  if_feature_proper at ms None = no_features at
+  if_feature_proper at ms (Some kinds.Feature) = feature_proper at ms
+  if_feature_proper at ms (Some kinds.FeatureCollection) = no_features at
+  if_feature_proper at ms (Some kinds.Point) = no_features at
+  if_feature_proper at ms (Some kinds.MultiPoint) = no_features at
+  if_feature_proper at ms (Some kinds.LineString) = no_features at
+  if_feature_proper at ms (Some kinds.MultiLineString) = no_features at
+  if_feature_proper at ms (Some kinds.Polygon) = no_features at
+  if_feature_proper at ms (Some kinds.MultiPolygon) = no_features at
+  if_feature_proper at ms (Some kinds.GeometryCollection) = no_features at
+
+  item_proper : (t : Tree) → AreProper (item_reading digits how t)
+  item_proper (object at ms) = if_feature_proper at ms (kind_of ms)
+  item_proper (literal i l) = no_features i
+  item_proper (number i n) = no_features i
+  item_proper (text i cs) = no_features i
+  item_proper (array i ts) = no_features i
+
+  all_proper : (ts : Trees) → AreProper (all_features (map (item_reading digits how) (items_of ts)))
+  all_proper no_trees = (All-nil IsFeatureInRange, λ e. tt)
+  all_proper (tree_and t ts) =
+      let a = item_reading digits how t in
+      let b = all_features (map (item_reading digits how) (items_of ts)) in
+      let (in_range, good) = item_proper t in
+      let (also, sound) = all_proper ts in (
+        All-append IsFeatureInRange a.features b.features in_range also,
+        λ e. let (x, y) = empties a.faults b.faults e in all_joined IsProperFeature a.features b.features (good x) (sound y),
+      )
+
+  listed_proper : (at : ℕ) (o : Option Tree) → AreProper (features_reading digits how at o)
+  listed_proper at None = no_features at
+  listed_proper at (Some (literal i l)) = no_features at
+  listed_proper at (Some (number i n)) = no_features at
+  listed_proper at (Some (text i cs)) = no_features at
+  listed_proper at (Some (object i ms)) = no_features at
+  listed_proper at (Some (array i ts)) = all_proper ts
+
+  lone_proper : (at : ℕ) (r : Reading) → IsProper r → AreProper (record { features = feature_of at r [] ∷ []; faults = r.faults })
+  lone_proper at r h = one_proper (feature_of at r []) r r.faults refl h (λ e. e)
+
+  root_proper : (at : ℕ) (ms : Members) (kind : Option Kind) → AreProper (root_of_kind digits how at ms kind)
+  root_proper at ms None = no_features at
+  root_proper at ms (Some kinds.FeatureCollection) = listed_proper at (member_named (codes "features") ms)
+  root_proper at ms (Some kinds.Feature) = feature_proper at ms
+  root_proper at ms (Some kinds.Point) = lone_proper at (geometry_reading digits how (object at ms)) (reading_proper (object at ms))
+  root_proper at ms (Some kinds.MultiPoint) = lone_proper at (geometry_reading digits how (object at ms)) (reading_proper (object at ms))
+  root_proper at ms (Some kinds.LineString) = lone_proper at (geometry_reading digits how (object at ms)) (reading_proper (object at ms))
+  root_proper at ms (Some kinds.MultiLineString) = lone_proper at (geometry_reading digits how (object at ms)) (reading_proper (object at ms))
+  root_proper at ms (Some kinds.Polygon) = lone_proper at (geometry_reading digits how (object at ms)) (reading_proper (object at ms))
+  root_proper at ms (Some kinds.MultiPolygon) = lone_proper at (geometry_reading digits how (object at ms)) (reading_proper (object at ms))
+  root_proper at ms (Some kinds.GeometryCollection) = lone_proper at (geometry_reading digits how (object at ms)) (reading_proper (object at ms))
+
+  features_proper : (t : Tree) → AreProper (root_reading digits how t)
+  features_proper (object at ms) = root_proper at ms (kind_of ms)
+  features_proper (literal i l) = no_features i
+  features_proper (number i n) = no_features i
+  features_proper (text i cs) = no_features i
+  features_proper (array i ts) = no_features i
+
+  pub json_features_in_range : (t : Tree) → AreFeaturesInRange (features_of digits how t)
+  json_features_in_range t = (features_proper t).0
+
+-- ---- offsets
+
+-- a value that is spelled somewhere
+abbrev IsSpelled : Option Tree → Type 0
+IsSpelled None = Unit {0}
+IsSpelled (Some t) = (at : ℕ) × (w : List ℕ) × Spells at w t
+
+spelled_at : (t : Tree) (at : ℕ) (w : List ℕ) → Spells at w t → offset_of t ≡ at
+spelled_at (literal i l) at w h = h.0
+spelled_at (number i n) at w h = h.0
+spelled_at (text i cs) at w h = h.0
+spelled_at (array i ts) at w h = h.0
+spelled_at (object i ms) at w h = h.0
+
+either_spelled : (b : Bool) (o p : Option Tree) → IsSpelled o → IsSpelled p → IsSpelled (if b then o else p)
+either_spelled true o p h k = h
+either_spelled false o p h k = k
+
+module _ (name : List ℕ) where
+  further_spelled : (ms : Members) (at : ℕ) (w : List ℕ) → SpellsFurtherMembers at w ms → IsSpelled (member_named name ms)
+  further_spelled no_members at w h = tt
+  further_spelled (member_and n i t ms) at w (w1, e1, (a, v, b, r, e, ha, hb, hv, (w2, e2, (c, x, d, q, f, hc, hd, hx, hq)))) =
+      either_spelled (is_named name n) (Some t) (member_named name ms) (at + 1 + length a + length v + length b + 1 + length c, x, hx)
+      (further_spelled ms (at + 1 + length a + length v + length b + 1 + length c + length x + length d) q hq)
+
+  member_spelled : (ms : Members) (at : ℕ) (w : List ℕ) → SpellsMembers at w ms → IsSpelled (member_named name ms)
+  member_spelled no_members at w h = tt
+  member_spelled (member_and n i t ms) at w (a, v, b, r, e, ha, hb, hv, (w2, e2, (c, x, d, q, f, hc, hd, hx, hq))) =
+      either_spelled (is_named name n) (Some t) (member_named name ms) (at + length a + length v + length b + 1 + length c, x, hx)
+      (further_spelled ms (at + length a + length v + length b + 1 + length c + length x + length d) q hq)
+
+-- items lie one behind another
+further_rise : (ts : Trees) (at : ℕ) (w : List ℕ) (n : ℕ) → n ≤ at → SpellsFurtherItems at w ts → AreRising (n ∷ map offset_of (items_of ts))
+further_rise no_trees at w n le h = tt
+further_rise (tree_and t ts) at w n le (w1, e1, (a, v, b, r, e, ha, hb, hv, hr)) =
+    let o = spelled_at t (at + 1 + length a) v hv in (
+      (omega (arith, le, o)),
+      further_rise ts (at + 1 + length a + length v + length b) r (offset_of t) (omega (arith, o)) hr,
+    )
+
+items_rise : (ts : Trees) (at : ℕ) (w : List ℕ) → SpellsItems at w ts → AreRising (map offset_of (items_of ts))
+items_rise no_trees at w h = tt
+items_rise (tree_and t ts) at w (a, v, b, r, e, ha, hb, hv, hr) =
+    let o = spelled_at t (at + length a) v hv in further_rise ts (at + length a + length v + length b) r (offset_of t) (omega (arith, o)) hr
+
+module _ (digits : ℕ) (how : Coords) where
+  no_feature_at : (at : ℕ) (xs : List ℕ) → fault_at Form at ∷ [] ≡ [] → [] ≡ xs
+  no_feature_at at xs e = absurd (not_empty (fault_at Form at) [] e)
+
+  kind_at : (at : ℕ) (ms : Members) (kind : Option Kind) → (if_feature digits how at ms kind).faults ≡ [] → map at_of (if_feature digits how at ms kind).features ≡ at ∷ []
+  kind_at at ms None e = no_feature_at at (at ∷ []) e
+  kind_at at ms (Some kinds.Feature) e = refl
+  kind_at at ms (Some kinds.FeatureCollection) e = no_feature_at at (at ∷ []) e
+  kind_at at ms (Some kinds.Point) e = no_feature_at at (at ∷ []) e
+  kind_at at ms (Some kinds.MultiPoint) e = no_feature_at at (at ∷ []) e
+  kind_at at ms (Some kinds.LineString) e = no_feature_at at (at ∷ []) e
+  kind_at at ms (Some kinds.MultiLineString) e = no_feature_at at (at ∷ []) e
+  kind_at at ms (Some kinds.Polygon) e = no_feature_at at (at ∷ []) e
+  kind_at at ms (Some kinds.MultiPolygon) e = no_feature_at at (at ∷ []) e
+  kind_at at ms (Some kinds.GeometryCollection) e = no_feature_at at (at ∷ []) e
+
+  -- an item that is a feature lies where the item does
+  item_at : (t : Tree) → (item_reading digits how t).faults ≡ [] → map at_of (item_reading digits how t).features ≡ offset_of t ∷ []
+  item_at (object at ms) e = kind_at at ms (kind_of ms) e
+  item_at (literal i l) e = no_feature_at i (i ∷ []) e
+  item_at (number i n) e = no_feature_at i (i ∷ []) e
+  item_at (text i cs) e = no_feature_at i (i ∷ []) e
+  item_at (array i ts) e = no_feature_at i (i ∷ []) e
+
+  items_at : (ts : Trees) → (all_features (map (item_reading digits how) (items_of ts))).faults ≡ [] → map at_of (all_features (map (item_reading digits how) (items_of ts))).features ≡ map offset_of (items_of ts)
+  items_at no_trees e = refl
+  items_at (tree_and t ts) e =
+      let a = item_reading digits how t in
+      let b = all_features (map (item_reading digits how) (items_of ts)) in
+      let (x, y) = empties a.faults b.faults e in
+      map-append at_of a.features b.features ∙ (ap (λ z. z ++ map at_of b.features) (item_at t x) ∙ ap (λ z. offset_of t ∷ z) (items_at ts y))
+
+  listed_rising : (at : ℕ) (o : Option Tree) → IsSpelled o → (features_reading digits how at o).faults ≡ [] → AreRising (map at_of (features_reading digits how at o).features)
+  listed_rising at None h e = tt
+  listed_rising at (Some (literal i l)) h e = tt
+  listed_rising at (Some (number i n)) h e = tt
+  listed_rising at (Some (text i cs)) h e = tt
+  listed_rising at (Some (object i ms)) h e = tt
+  listed_rising at (Some (array i ts)) (j, w, (o, (v, same, h))) e = subst AreRising (sym (items_at ts e)) (items_rise ts (j + 1) v h)
+
+  root_rising : (at : ℕ) (ms : Members) (kind : Option Kind) → IsSpelled (member_named (codes "features") ms) → (root_of_kind digits how at ms kind).faults ≡ [] → AreRising (map at_of (root_of_kind digits how at ms kind).features)
+  root_rising at ms None h e = tt
+  root_rising at ms (Some kinds.FeatureCollection) h e = listed_rising at (member_named (codes "features") ms) h e
+  root_rising at ms (Some kinds.Feature) h e = tt
+  root_rising at ms (Some kinds.Point) h e = tt
+  root_rising at ms (Some kinds.MultiPoint) h e = tt
+  root_rising at ms (Some kinds.LineString) h e = tt
+  root_rising at ms (Some kinds.MultiLineString) h e = tt
+  root_rising at ms (Some kinds.Polygon) h e = tt
+  root_rising at ms (Some kinds.MultiPolygon) h e = tt
+  root_rising at ms (Some kinds.GeometryCollection) h e = tt
+
+  tree_rising : (t : Tree) (at : ℕ) (w : List ℕ) → Spells at w t → role_faults_of digits how t ≡ [] → AreRising (map at_of (features_of digits how t))
+  tree_rising (object i ms) at w (o, (v, same, h)) e = root_rising i ms (kind_of ms) (member_spelled (codes "features") ms (at + 1) v h) e
+  tree_rising (literal i l) at w h e = tt
+  tree_rising (number i n) at w h e = tt
+  tree_rising (text i cs) at w h e = tt
+  tree_rising (array i ts) at w h e = tt
+
+  text_rising : (t : Tree) (at : ℕ) (w : List ℕ) → IsTextOf at w t → role_faults_of digits how t ≡ [] → AreRising (map at_of (features_of digits how t))
+  text_rising t at w (a, v, b, r, e, ha, hb, hv, hr) none = tree_rising t (at + length a) v hv none
+
+  -- ---- a file
+
+  -- the tree of a file without a fault has none
+  none_behind : (encoding : Option Fault) (bytes : List ℕ) (t : Tree) → HasJsonFaultBehind digits how encoding bytes None → IsFileOf bytes t → faults_of digits how t ≡ []
+  none_behind (Some fault) bytes t h is = absurd (none-some fault h)
+  none_behind None bytes t (faults, inl (fault, h, k), e) is = absurd (not_empty fault [] (sym k ∙ no_first faults e))
+  none_behind None bytes t (faults, inr (u, also, k), e) is = ap (faults_of digits how) (sym (one_tree _ _ t u is also)) ∙ (sym k ∙ no_first faults e)
+
+  pub json_features_proper : (bytes : List ℕ) (t : Tree) → HasJsonFileFault digits how bytes None → IsFileOf bytes t → AreProperFeatures (features_of digits how t)
+  json_features_proper bytes t h is =
+      let none = (empties (twins_of t) (role_faults_of digits how t) (none_behind (utf8_fault bytes) bytes t h is)).1 in
+      record { rising = text_rising t _ _ is none; features = (features_proper digits how t).1 none }

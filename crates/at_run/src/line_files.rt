@@ -1,0 +1,48 @@
+ghost use Rattle.std.specs.Prelude.{◌≡◌, ◌≤◌, ◌^◌, length, drop, MatchResult, Some};
+ghost use Rattle.at_text.specs.Texts.{base_of as text_begin};
+ghost use Rattle.at_wkt.specs.Folding.{Kept, StandsFor};
+ghost use Rattle.at_run.specs.declared.forms.Form.TheVariants.{Wkt};
+ghost use Rattle.at_run.specs.Gathering.{IsOwn, IsGathered, run_end};
+ghost use Rattle.at_run.specs.Files.{HasFileFaultIn};
+ghost use Rattle.at_run.specs.Answers.{IfFound, IsFilePart};
+
+use crate::faults::RunFault;
+use crate::gathered::Gathered;
+use crate::line_queries::LineQuery;
+use at_query::Part;
+use at_text::{Memory, utf8_fault};
+use at_wkt::{LineFragment, finish_lines};
+use std::alloc::Global;
+
+/// The part of a file's lines, or their first fault.
+fn end_of(gathered: Result<Gathered, Memory>) -> Result<Part, RunFault>
+    ensures { result ≡ run_end gathered }
+{
+    match gathered {
+        Ok(Gathered::Kept(part)) => Ok(part),
+        Ok(Gathered::Failed(fault)) => Err(RunFault::Found(fault)),
+        Err(_) => Err(RunFault::Memory),
+    }
+}
+
+/// The part of the features of a file of lines under the query, from the fragment of its text.
+///
+/// # Errors
+/// `Found` is the file's first fault, exactly where it has one: that of its encoding, or else the first of its lines'.
+/// `Memory` comes where an allocation was refused.
+pub fn finish_line_file(
+    alloc: Global,
+    query: &LineQuery<'_>,
+    bytes: &[u8],
+    whole: LineFragment<Gathered>,
+) -> Result<Part, RunFault>
+    requires fits { length bytes.now ≤ 2 ^ 28 }
+    requires whole { StandsFor (Kept (IsOwn query.now) (IsGathered query.now)) (text_begin bytes.now) (drop (text_begin bytes.now) bytes.now) whole }
+    ensures { MatchResult result (IsFilePart Wkt query.now.digits query.now.how query.now.query bytes.now)
+        (λ end. IfFound end (λ fault. HasFileFaultIn Wkt query.now.digits query.now.how bytes.now (Some fault))) }
+{
+    if let Some(fault) = utf8_fault(bytes) {
+        return Err(RunFault::Found(fault));
+    }
+    end_of(finish_lines(alloc, query, bytes, whole))
+}
