@@ -6,7 +6,6 @@ ghost use Rattle.at_run.specs.Blocks.{SomeGivenUp};
 ghost use Rattle.at_run.specs.Files.{HasFileFaultIn, TheFileFaultIn};
 ghost use Rattle.at_run.specs.Answers.{IfFound, IsFilePart, IsFileAnswer};
 
-use crate::copying::copy_query;
 use crate::cuts::Cuts;
 use crate::faults::RunFault;
 use crate::forms::Form;
@@ -40,7 +39,7 @@ pub(crate) fn part<G: Gate, R: Threads + Sync>(
         (λ end. IfFound end (λ fault. HasFileFaultIn form digits how bytes.now (Some fault))) }
     ensures given_up { SomeGivenUp (G.given_up gate.now) 0 (length cuts.now - 1) → result ≡ Err RunFault.Memory }
 {
-    let Ok(copy) = copy_query(alloc, query) else {
+    let Ok(copy) = query.copy(alloc) else {
         return Err(RunFault::Memory);
     };
     let reader = Reader::new(form, copy, digits, how);

@@ -13,7 +13,6 @@
 
 mod answers;
 mod blocks;
-mod copying;
 mod cuts;
 mod faults;
 mod forms;
