@@ -2,16 +2,17 @@
 use Rattle.std.proofs.Common.{◌≡◌, inl, inr, ℕ, ◌<◌, ◌≤◌, ◌^◌, Bool, true, false, List, [], length, Option, Some, None, refl, sym, ◌∙◌, ap, subst, arith, true≢false}
 use Rattle.std.proofs.lemmas.Option.{none-some, same_Some}
 use Rattle.at_io.specs.Files.{Files}
-use Rattle.at_wkt.proofs.OneFile.{one_file_fault}
 use Rattle.at_query.specs.declared.queries.Query.{Query}
 use Rattle.at_query.specs.Printing.{printed}
 use Rattle.at_query.proofs.OneQuery.{one_query, one_query_fault, query_or_fault}
-use Rattle.at_run.proofs.OneAnswer.{one_file_answer, answer_or_fault, one_join_answer, join_or_first_fault, join_or_second_fault}
+use Rattle.at_run.specs.declared.forms.Form.{Form}
+use Rattle.at_run.proofs.OneAnswer.{one_file_fault_in, one_file_answer, answer_or_fault, one_join_answer, join_or_first_fault, join_or_second_fault}
 use Rattle.at_cli.specs.declared.line.Line.{Line}
+use Rattle.at_cli.specs.LineOf.{form_of}
 use Rattle.at_cli.specs.Made.{is_made, IsMadeText}
 use Rattle.at_cli.proofs.OneMade.{one_made_text}
 use Rattle.at_cli.specs.Texts.{usage_line, query_line, files_line, size_line, fault_line}
-use Rattle.at_cli.specs.Outcomes.{Outcome, stopped, answered, units, has_right_count, is_served, HasBytesBy, HasBytes, Sized, HasBytesOutcome, HasPairOutcome, HasFilesOutcome, HasServedOutcome, HasCountedOutcome, HasLineOutcome, HasOutcome, TheOutcome, IsQueryRefused, IsLineRefused, AreRefused, IsLineAccepted, AreAccepted}
+use Rattle.at_cli.specs.Outcomes.{Outcome, stopped, answered, units, has_right_count, HasBytesBy, HasBytes, Sized, HasBytesOutcome, HasPairOutcome, HasFilesOutcome, HasCountedOutcome, HasLineOutcome, HasOutcome, TheOutcome, IsQueryRefused, IsLineRefused, AreRefused, IsLineAccepted, AreAccepted}
 use Rattle.at_cli.specs.declared.ending.Ending.{Ending}
 use Rattle.at_cli.specs.Endings.{outcome_by, Ends}
 use Rattle.at_cli.proofs.OneLine.{one_line}
@@ -37,30 +38,35 @@ one_sized files name Rest one a b (bytes, named, inr (h, more)) (others, also, i
     one others a b (let P : List ℕ → Type 0 = λ w. Rest w a in subst P (one_bytes_by (is_made name) files name bytes others named also) more) further
 
 module _ (line : Line) where
+  -- the form of the first file
+  abbrev form : Form
+  form = form_of line line.first
+
   module _ (query : Query) where
     one_of_bytes : (bytes : List ℕ) (a b : Outcome) → HasBytesOutcome line query bytes a → HasBytesOutcome line query bytes b → a ≡ b
     one_of_bytes bytes a b (inl (f, h, e)) (inl (g, k, i)) =
-        let same : f ≡ g = same_Some f g (one_file_fault units line.how bytes (Some f) (Some g) h k) in
+        let same : f ≡ g = same_Some f g (one_file_fault_in form units line.how bytes (Some f) (Some g) h k) in
         e ∙ (ap (λ z. stopped 1 (fault_line line.first z)) same ∙ sym i)
-    one_of_bytes bytes a b (inl (f, h, e)) (inr (answer, k, i)) = absurd (answer_or_fault units line.how query bytes answer f k h)
-    one_of_bytes bytes a b (inr (answer, h, e)) (inl (g, k, i)) = absurd (answer_or_fault units line.how query bytes answer g h k)
-    one_of_bytes bytes a b (inr (x, h, e)) (inr (y, k, i)) = e ∙ (ap (λ z. answered (printed units z)) (one_file_answer units line.how query bytes x y h k) ∙ sym i)
+    one_of_bytes bytes a b (inl (f, h, e)) (inr (answer, k, i)) = absurd (answer_or_fault form units line.how query bytes answer f k h)
+    one_of_bytes bytes a b (inr (answer, h, e)) (inl (g, k, i)) = absurd (answer_or_fault form units line.how query bytes answer g h k)
+    one_of_bytes bytes a b (inr (x, h, e)) (inr (y, k, i)) = e ∙ (ap (λ z. answered (printed units z)) (one_file_answer form units line.how query bytes x y h k) ∙ sym i)
 
     -- the first fault of the first file that has one, or the join
     one_of_pair : (second a b : List ℕ) (x y : Outcome) → HasPairOutcome line query second a b x → HasPairOutcome line query second a b y → x ≡ y
     one_of_pair second a b x y (inl (f, h, e)) (inl (g, k, i)) =
-        let same : f ≡ g = same_Some f g (one_file_fault units line.how a (Some f) (Some g) h k) in
+        let same : f ≡ g = same_Some f g (one_file_fault_in form units line.how a (Some f) (Some g) h k) in
         e ∙ (ap (λ z. stopped 1 (fault_line line.first z)) same ∙ sym i)
-    one_of_pair second a b x y (inl (f, h, e)) (inr (inl (g, (k, l), i))) = absurd (none-some f (one_file_fault units line.how a None (Some f) k h))
-    one_of_pair second a b x y (inl (f, h, e)) (inr (inr (answer, k, i))) = absurd (join_or_first_fault units line.how query a b answer f k h)
-    one_of_pair second a b x y (inr (inl (f, (h, l), e))) (inl (g, k, i)) = absurd (none-some g (one_file_fault units line.how a None (Some g) h k))
+    one_of_pair second a b x y (inl (f, h, e)) (inr (inl (g, (k, l), i))) = absurd (none-some f (one_file_fault_in form units line.how a None (Some f) k h))
+    one_of_pair second a b x y (inl (f, h, e)) (inr (inr (answer, k, i))) = absurd (join_or_first_fault form (form_of line second) units line.how query a b answer f k h)
+    one_of_pair second a b x y (inr (inl (f, (h, l), e))) (inl (g, k, i)) = absurd (none-some g (one_file_fault_in form units line.how a None (Some g) h k))
     one_of_pair second a b x y (inr (inl (f, (h, l), e))) (inr (inl (g, (k, m), i))) =
-        let same : f ≡ g = same_Some f g (one_file_fault units line.how b (Some f) (Some g) l m) in
+        let same : f ≡ g = same_Some f g (one_file_fault_in (form_of line second) units line.how b (Some f) (Some g) l m) in
         e ∙ (ap (λ z. stopped 1 (fault_line second z)) same ∙ sym i)
-    one_of_pair second a b x y (inr (inl (f, (h, l), e))) (inr (inr (answer, k, i))) = absurd (join_or_second_fault units line.how query a b answer f k l)
-    one_of_pair second a b x y (inr (inr (answer, h, e))) (inl (g, k, i)) = absurd (join_or_first_fault units line.how query a b answer g h k)
-    one_of_pair second a b x y (inr (inr (answer, h, e))) (inr (inl (g, (k, l), i))) = absurd (join_or_second_fault units line.how query a b answer g h l)
-    one_of_pair second a b x y (inr (inr (one, h, e))) (inr (inr (other, k, i))) = e ∙ (ap (λ z. answered (printed units z)) (one_join_answer units line.how query a b one other h k) ∙ sym i)
+    one_of_pair second a b x y (inr (inl (f, (h, l), e))) (inr (inr (answer, k, i))) = absurd (join_or_second_fault form (form_of line second) units line.how query a b answer f k l)
+    one_of_pair second a b x y (inr (inr (answer, h, e))) (inl (g, k, i)) = absurd (join_or_first_fault form (form_of line second) units line.how query a b answer g h k)
+    one_of_pair second a b x y (inr (inr (answer, h, e))) (inr (inl (g, (k, l), i))) = absurd (join_or_second_fault form (form_of line second) units line.how query a b answer g h l)
+    one_of_pair second a b x y (inr (inr (one, h, e))) (inr (inr (other, k, i))) =
+        e ∙ (ap (λ z. answered (printed units z)) (one_join_answer form (form_of line second) units line.how query a b one other h k) ∙ sym i)
 
     module _ (files : Files) where
       one_of_files : (second : Option (List ℕ)) (a b : Outcome) → HasFilesOutcome second line query files a → HasFilesOutcome second line query files b → a ≡ b
@@ -69,13 +75,9 @@ module _ (line : Line) where
           one_sized files line.first (λ bytes. Sized files second (HasPairOutcome line query second bytes))
           (λ bytes x y p q. one_sized files second (HasPairOutcome line query second bytes) (λ others z w r t. one_of_pair second bytes others z w r t) x y p q) a b h k
 
-      one_served : (served : Bool) (a b : Outcome) → HasServedOutcome served line query files a → HasServedOutcome served line query files b → a ≡ b
-      one_served false a b h k = h ∙ sym k
-      one_served true a b h k = one_of_files line.second a b h k
-
       one_counted : (right : Bool) (a b : Outcome) → HasCountedOutcome right line query files a → HasCountedOutcome right line query files b → a ≡ b
       one_counted false a b h k = h ∙ sym k
-      one_counted true a b h k = one_served (is_served line) a b h k
+      one_counted true a b h k = one_of_files line.second a b h k
 
   one_of_line : (files : Files) (a b : Outcome) → HasLineOutcome line files a → HasLineOutcome line files b → a ≡ b
   one_of_line files a b (inl (m, h, e)) (inl (n, k, i)) = e ∙ (ap (λ z. stopped 2 (query_line z)) (one_query_fault units line.how line.query m n h k) ∙ sym i)
@@ -86,10 +88,7 @@ module _ (line : Line) where
       one_counted q files (has_right_count q.verb line.second) a b (subst (λ (z : Query). HasCountedOutcome (has_right_count z.verb line.second) line z files a) same e) i
 
   one_refused_query : (query : Query) (a b : List ℕ) → IsQueryRefused line query a → IsQueryRefused line query b → a ≡ b
-  one_refused_query query a b (inl (h, e)) (inl (k, i)) = e ∙ sym i
-  one_refused_query query a b (inl (h, e)) (inr (k, n, i)) = absurd (true≢false (sym k ∙ h))
-  one_refused_query query a b (inr (h, n, e)) (inl (k, i)) = absurd (true≢false (sym h ∙ k))
-  one_refused_query query a b (inr (h, n, e)) (inr (k, m, i)) = e ∙ sym i
+  one_refused_query query a b (h, e) (k, i) = e ∙ sym i
 
   one_refused_line : (a b : List ℕ) → IsLineRefused line a → IsLineRefused line b → a ≡ b
   one_refused_line a b (inl (m, h, e)) (inl (n, k, i)) = e ∙ (ap query_line (one_query_fault units line.how line.query m n h k) ∙ sym i)
@@ -99,20 +98,13 @@ module _ (line : Line) where
 
   refused_not_accepted : (refusal : List ℕ) → IsLineRefused line refusal → IsLineAccepted line → ⊥
   refused_not_accepted refusal (inl (m, h, e)) (q, k, i) = query_or_fault units line.how line.query q m k h
-  refused_not_accepted refusal (inr (p, h, e)) (q, k, (right, served)) = never (subst (λ z. IsQueryRefused line z refusal) (one_query units line.how line.query p q h k) e) where
-    never : IsQueryRefused line q refusal → ⊥
-    never (inl (wrong, i)) = true≢false (sym right ∙ wrong)
-    never (inr (also, unserved, i)) = true≢false (sym served ∙ unserved)
+  refused_not_accepted refusal (inr (p, h, e)) (q, k, right) =
+      let (wrong, i) = subst (λ z. IsQueryRefused line z refusal) (one_query units line.how line.query p q h k) e in true≢false (sym right ∙ wrong)
 
   -- ---- what is refused is the outcome
 
-  served_as : (query : Query) (files : Files) (t : Bool) (o : Outcome) → is_served line ≡ t → HasServedOutcome t line query files o → HasServedOutcome (is_served line) line query files o
-  served_as query files t o e h = subst (λ z. HasServedOutcome z line query files o) (sym e) h
-
   refused_outcome_of : (query : Query) (files : Files) (refusal : List ℕ) → IsQueryRefused line query refusal → HasCountedOutcome (has_right_count query.verb line.second) line query files (stopped 2 refusal)
-  refused_outcome_of query files refusal (inl (wrong, e)) = subst (λ z. HasCountedOutcome z line query files (stopped 2 refusal)) (sym wrong) (ap (stopped 2) e)
-  refused_outcome_of query files refusal (inr (right, unserved, e)) =
-      subst (λ z. HasCountedOutcome z line query files (stopped 2 refusal)) (sym right) (served_as query files false (stopped 2 refusal) unserved (ap (stopped 2) e))
+  refused_outcome_of query files refusal (wrong, e) = subst (λ z. HasCountedOutcome z line query files (stopped 2 refusal)) (sym wrong) (ap (stopped 2) e)
 
   refused_outcome : (files : Files) (refusal : List ℕ) → IsLineRefused line refusal → HasLineOutcome line files (stopped 2 refusal)
   refused_outcome files refusal (inl (m, h, e)) = inl (m, h, ap (stopped 2) e)
@@ -142,15 +134,10 @@ module _ (line : Line) where
       sized_not_two files line.first (λ a. Sized files second (HasPairOutcome line query second a))
       (λ a x r t. sized_not_two files second (HasPairOutcome line query second a) (λ b y u v. pair_not_two query second a b y u v) x r t) o k h
 
-  refused_of_served : (query : Query) (files : Files) (o : Outcome) (t : Bool) → is_served line ≡ t → has_right_count query.verb line.second ≡ true → HasServedOutcome t line query files o → o.status ≡ 2
-      → (refusal : List ℕ) × IsQueryRefused line query refusal × (o ≡ stopped 2 refusal)
-  refused_of_served query files o false unserved right e h = (usage_line, inr (right, unserved, refl), e)
-  refused_of_served query files o true served right k h = absurd (files_not_two query files line.second o k h)
-
   refused_of_counted : (query : Query) (files : Files) (o : Outcome) (t : Bool) → has_right_count query.verb line.second ≡ t → HasCountedOutcome t line query files o → o.status ≡ 2
       → (refusal : List ℕ) × IsQueryRefused line query refusal × (o ≡ stopped 2 refusal)
-  refused_of_counted query files o false wrong e h = (files_line, inl (wrong, refl), e)
-  refused_of_counted query files o true right k h = refused_of_served query files o (is_served line) refl right k h
+  refused_of_counted query files o false wrong e h = (files_line, (wrong, refl), e)
+  refused_of_counted query files o true right k h = absurd (files_not_two query files line.second o k h)
 
   refused_of_line : (files : Files) (o : Outcome) → HasLineOutcome line files o → o.status ≡ 2 → (refusal : List ℕ) × IsLineRefused line refusal × (o ≡ stopped 2 refusal)
   refused_of_line files o (inl (m, k, e)) h = (query_line m, inl (m, k, refl), e)

@@ -14,7 +14,7 @@ use Rattle.at_cli.specs.declared.line.Line.{Line}
 use Rattle.at_cli.specs.Made.{is_made, IsMadeText}
 use Rattle.at_cli.specs.Texts.{read_line, size_line}
 use Rattle.at_cli.specs.Outcomes.{Outcome, stopped, has_right_count, HasBytesBy, HasBytes, Sized}
-use Rattle.at_cli.specs.Failures.{asked_name, asked_second, asked_names, begun_with, last_begun, WasAsked, AsksFor, FailedOn}
+use Rattle.at_cli.specs.Failures.{asked_name, asked_second, asked_names, begun_with, last_begun, WasAsked, AsksFor, HaveSized, FailedOn}
 use Rattle.at_cli.specs.Endings.{status_of, line_of, outcome_by, Ends}
 
 -- ---- the bytes of a name
@@ -93,6 +93,25 @@ asks_all ns files b b1 t t1 n n1 h = record { front = ns; behind = []; in_turn =
 
 -- ---- failures
 
+none_before : (files : Option Files) → IfSome files (λ told. HaveSized told [])
+none_before None = tt
+none_before (Some told) = tt
+
+-- a name of which the shelf is asked has bytes within the limit
+sized_by : (t made : Bool) (told : Files) (name bytes : List ℕ) → t ≡ made → HasBytesBy made told name bytes → length bytes ≤ 2 ^ 28 → HaveSized told (if t then [] else name ∷ [])
+sized_by true made told name bytes e h small = tt
+sized_by false true told name bytes e h small = absurd (true≢false (sym e))
+sized_by false false told name bytes e h small = ((bytes, h, small), tt)
+
+pub name_sized : (files : Option Files) (name bytes : List ℕ) → IfSome files (λ told. HasBytes told name bytes) → length bytes ≤ 2 ^ 28 → IfSome files (λ told. HaveSized told (asked_name name))
+name_sized None name bytes h small = tt
+name_sized (Some told) name bytes h small = sized_by (is_made name) (is_made name) told name bytes refl h small
+
+both_sized : (files : Option Files) (ns ms : List (List ℕ)) → IfSome files (λ told. HaveSized told ns) → IfSome files (λ told. HaveSized told ms) → IfSome files (λ told. HaveSized told (ns ++ ms))
+both_sized None ns ms h k = tt
+both_sized (Some told) [] ms h k = k
+both_sized (Some told) (n ∷ ns) ms (one, h) k = (one, both_sized (Some told) ns ms h k)
+
 pub failed_name : (name : List ℕ) (more : List (List ℕ)) (files : Option Files) (f f1 b b1 k t t1 : ℕ) (n n1 : Option (List ℕ)) → is_made name ≡ false → Rose f f1 → k ≡ b1
     → WasAsked (asked_name name) files b b1 t t1 n n1 → FailedOn (asked_name name ++ more) (read_line name) files f f1 b b1 k t t1 n n1
 failed_name name more files f f1 b b1 k t t1 n n1 e rose broken asked = record {
@@ -104,6 +123,7 @@ failed_name name more files f f1 b b1 k t t1 n n1 e rose broken asked = record {
   cause = rose;
   broken = broken;
   was_asked = (let P : List (List ℕ) → Type 0 = λ l. WasAsked l files b b1 t t1 n n1 in subst P (asked_is name e) asked);
+  before_sized = none_before files;
 }
 
 rose_since : (f f1 f2 : ℕ) → f ≤ f1 → Rose f1 f2 → Rose f f2
@@ -111,8 +131,8 @@ rose_since f f1 f2 le (inl lt) = inl (omega (arith, le, lt))
 rose_since f f1 f2 le (inr e) = inr e
 
 pub failed_behind : (ns ms : List (List ℕ)) (line : List ℕ) (files : Option Files) (f f1 f2 b b1 b2 k t t1 t2 : ℕ) (n n1 n2 : Option (List ℕ)) → WasAsked ns files b b1 t t1 n n1 → f ≤ f1
-    → FailedOn ms line files f1 f2 b1 b2 k t1 t2 n1 n2 → FailedOn (ns ++ ms) line files f f2 b b2 k t t2 n n2
-failed_behind ns ms line files f f1 f2 b b1 b2 k t t1 t2 n n1 n2 h le failed = record {
+    → IfSome files (λ told. HaveSized told ns) → FailedOn ms line files f1 f2 b1 b2 k t1 t2 n1 n2 → FailedOn (ns ++ ms) line files f f2 b b2 k t t2 n n2
+failed_behind ns ms line files f f1 f2 b b1 b2 k t t1 t2 n n1 n2 h le sized failed = record {
   before = ns ++ failed.before;
   name = failed.name;
   behind = failed.behind;
@@ -122,6 +142,7 @@ failed_behind ns ms line files f f1 f2 b b1 b2 k t t1 t2 n n1 n2 h le failed = r
   broken = failed.broken;
   was_asked = (let P : List (List ℕ) → Type 0 = λ l. WasAsked l files b b2 t t2 n n2 in
       subst P (sym (append_assoc ns failed.before (failed.name ∷ []))) (both_asked ns (failed.before ++ (failed.name ∷ [])) files b b1 b2 t t1 t2 n n1 n2 h failed.was_asked));
+  before_sized = both_sized files ns failed.before sized failed.before_sized;
 }
 
 -- ---- ends

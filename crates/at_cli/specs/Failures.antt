@@ -1,7 +1,7 @@
 -- What is asked of the shelf, and what is known where the program ends since the shelf failed.
 use Rattle.std.specs.Prelude.{◌≡◌, ◌+◌, ◌*◌, ◌≤◌, ◌^◌, ℕ, if◌then◌else◌, List, [], ◌∷◌, ◌++◌, length, Option, Some, None, IfSome}
 use Rattle.at_io.specs.Counts.{next_count, Rose}
-use Rattle.at_io.specs.Files.{Files, name_among}
+use Rattle.at_io.specs.Files.{Files, bytes_named, name_among}
 use Rattle.at_cli.specs.declared.line.Line.{Line}
 use Rattle.at_cli.specs.Made.{is_made}
 use Rattle.at_cli.specs.Texts.{read_line}
@@ -43,8 +43,13 @@ pub record AsksFor (names : List (List ℕ)) (files : Option Files) (begins begi
   pub in_turn : names ≡ front ++ behind
   pub was_asked : WasAsked front files begins begins' taken taken' named named'
 
+-- the files have each of these names, with at most 2^28 bytes
+abbrev pub HaveSized : Files → List (List ℕ) → Type 0
+HaveSized told [] = Unit {0}
+HaveSized told (name ∷ names) = ((bytes : List ℕ) × (bytes_named told name ≡ Some bytes) × (length bytes ≤ 2 ^ 28)) × HaveSized told names
+
 -- a shelf with these files failed on the file of one of these names, which the line tells: its count of faults rose, the file was begun in its turn,
--- once and by that name, and the last call that failed came after that
+-- once and by that name, and the last call that failed came after that; the files have the names before it, within the limit
 pub record FailedOn (names : List (List ℕ)) (line : List ℕ) (files : Option Files) (faults faults' begins begins' broken' taken taken' : ℕ) (named named' : Option (List ℕ)) : Type 0 where
   pub before : List (List ℕ)
   pub name : List ℕ
@@ -54,3 +59,4 @@ pub record FailedOn (names : List (List ℕ)) (line : List ℕ) (files : Option 
   pub cause : Rose faults faults'
   pub broken : broken' ≡ begins'
   pub was_asked : WasAsked (before ++ (name ∷ [])) files begins begins' taken taken' named named'
+  pub before_sized : IfSome files (λ told. HaveSized told before)

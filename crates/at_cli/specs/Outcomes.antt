@@ -1,16 +1,14 @@
 -- What the program writes and how it ends, by its words and the files. It knows nothing of how they are read, of blocks, or of workers.
-use Rattle.std.specs.Prelude.{◌≡◌, ◌⊎◌, ℕ, ◌^◌, ◌<◌, ◌≤◌, Bool, true, false, ◌&&◌, List, [], length, Option, Some, None}
+use Rattle.std.specs.Prelude.{◌≡◌, ◌⊎◌, ℕ, ◌^◌, ◌<◌, ◌≤◌, Bool, true, false, List, [], length, Option, Some, None}
 use Rattle.at_text.specs.declared.faults.Fault.{Fault}
 use Rattle.at_io.specs.Files.{Files, bytes_named}
-use Rattle.at_wkt.specs.Files.{HasFileFault}
 use Rattle.at_query.specs.declared.queries.Verb.{Verb}
 use Rattle.at_query.specs.declared.queries.Verb.TheVariants as verbs
 use Rattle.at_query.specs.declared.queries.Query.{Query}
 use Rattle.at_query.specs.declared.answers.Answer.{Answer}
 use Rattle.at_query.specs.Queries.{IsQueryOf, HasQueryFault}
 use Rattle.at_query.specs.Printing.{printed}
-use Rattle.at_run.specs.declared.forms.Form.{Form}
-use Rattle.at_run.specs.declared.forms.Form.TheVariants.{GeoJson, Wkt}
+use Rattle.at_run.specs.Files.{HasFileFaultIn}
 use Rattle.at_run.specs.Answers.{IsFileAnswer, IsJoinAnswer, SecondFails}
 use Rattle.at_cli.specs.declared.line.Line.{Line}
 use Rattle.at_cli.specs.LineOf.{SaysLine, form_of}
@@ -42,18 +40,6 @@ has_right_count verbs.Join (Some second) = true
 has_right_count _ None = true
 has_right_count _ (Some second) = false
 
-abbrev pub is_wkt : Form → Bool
-is_wkt Wkt = true
-is_wkt GeoJson = false
-
--- files in GeoJSON aren't read yet
-abbrev pub is_second_served : Line → Option (List ℕ) → Bool
-is_second_served line None = true
-is_second_served line (Some second) = is_wkt (form_of line second)
-
-abbrev pub is_served : Line → Bool
-is_served line = is_wkt (form_of line line.first) && is_second_served line line.second
-
 -- ---- the first case that applies
 
 -- the bytes of a name: a made file's text, or those that the files have under it
@@ -72,28 +58,24 @@ Sized files name Rest outcome = (bytes : List ℕ) × HasBytes files name bytes
 -- the outcome over a file within the limit: its first fault, or else the answer to the query
 abbrev pub HasBytesOutcome : Line → Query → List ℕ → Outcome → Type 0
 HasBytesOutcome line query bytes outcome =
-    ((fault : Fault) × HasFileFault units line.how bytes (Some fault) × (outcome ≡ stopped 1 (fault_line line.first fault)))
-    ⊎ ((answer : Answer) × IsFileAnswer units line.how query bytes answer × (outcome ≡ answered (printed units answer)))
+    ((fault : Fault) × HasFileFaultIn (form_of line line.first) units line.how bytes (Some fault) × (outcome ≡ stopped 1 (fault_line line.first fault)))
+    ⊎ ((answer : Answer) × IsFileAnswer (form_of line line.first) units line.how query bytes answer × (outcome ≡ answered (printed units answer)))
 
 -- the outcome over two files within the limit: the first fault of the first that has one, or else the answer to the join
 abbrev pub HasPairOutcome : Line → Query → List ℕ → List ℕ → List ℕ → Outcome → Type 0
 HasPairOutcome line query second a b outcome =
-    ((fault : Fault) × HasFileFault units line.how a (Some fault) × (outcome ≡ stopped 1 (fault_line line.first fault)))
-    ⊎ (((fault : Fault) × SecondFails units line.how a b fault × (outcome ≡ stopped 1 (fault_line second fault)))
-    ⊎ ((answer : Answer) × IsJoinAnswer units line.how query a b answer × (outcome ≡ answered (printed units answer))))
+    ((fault : Fault) × HasFileFaultIn (form_of line line.first) units line.how a (Some fault) × (outcome ≡ stopped 1 (fault_line line.first fault)))
+    ⊎ (((fault : Fault) × SecondFails (form_of line line.first) (form_of line second) units line.how a b fault × (outcome ≡ stopped 1 (fault_line second fault)))
+    ⊎ ((answer : Answer) × IsJoinAnswer (form_of line line.first) (form_of line second) units line.how query a b answer × (outcome ≡ answered (printed units answer))))
 
 -- the names have bytes in their turn, and the files have the outcome
 abbrev pub HasFilesOutcome : Option (List ℕ) → Line → Query → Files → Outcome → Type 0
 HasFilesOutcome None line query files outcome = Sized files line.first (HasBytesOutcome line query) outcome
 HasFilesOutcome (Some second) line query files outcome = Sized files line.first (λ a. Sized files second (HasPairOutcome line query second a)) outcome
 
-abbrev pub HasServedOutcome : Bool → Line → Query → Files → Outcome → Type 0
-HasServedOutcome false line query files outcome = outcome ≡ stopped 2 usage_line
-HasServedOutcome true line query files outcome = HasFilesOutcome line.second line query files outcome
-
 abbrev pub HasCountedOutcome : Bool → Line → Query → Files → Outcome → Type 0
 HasCountedOutcome false line query files outcome = outcome ≡ stopped 2 files_line
-HasCountedOutcome true line query files outcome = HasServedOutcome (is_served line) line query files outcome
+HasCountedOutcome true line query files outcome = HasFilesOutcome line.second line query files outcome
 
 abbrev pub HasLineOutcome : Line → Files → Outcome → Type 0
 HasLineOutcome line files outcome = ((at : ℕ) × HasQueryFault units line.how line.query at × (outcome ≡ stopped 2 (query_line at)))
@@ -115,8 +97,7 @@ pub record TheOutcome (words : List (List ℕ)) (files : Files) (outcome : Outco
 -- ---- what is refused before a file is read
 
 abbrev pub IsQueryRefused : Line → Query → List ℕ → Type 0
-IsQueryRefused line query refusal = ((has_right_count query.verb line.second ≡ false) × (refusal ≡ files_line))
-    ⊎ ((has_right_count query.verb line.second ≡ true) × (is_served line ≡ false) × (refusal ≡ usage_line))
+IsQueryRefused line query refusal = (has_right_count query.verb line.second ≡ false) × (refusal ≡ files_line)
 
 abbrev pub IsLineRefused : Line → List ℕ → Type 0
 IsLineRefused line refusal = ((at : ℕ) × HasQueryFault units line.how line.query at × (refusal ≡ query_line at))
@@ -127,7 +108,7 @@ abbrev pub AreRefused : List (List ℕ) → List ℕ → Type 0
 AreRefused words refusal = (SayNoLine words × (refusal ≡ usage_line)) ⊎ ((line : Line) × SaysLine words line × IsLineRefused line refusal)
 
 abbrev pub IsQueryAccepted : Line → Query → Type 0
-IsQueryAccepted line query = (has_right_count query.verb line.second ≡ true) × (is_served line ≡ true)
+IsQueryAccepted line query = has_right_count query.verb line.second ≡ true
 
 abbrev pub IsLineAccepted : Line → Type 0
 IsLineAccepted line = (query : Query) × IsQueryOf units line.how line.query query × IsQueryAccepted line query

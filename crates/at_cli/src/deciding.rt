@@ -1,11 +1,11 @@
 ghost use Rattle.std.specs.Prelude.{◌≡◌, ◌≢◌, ◌⊎◌, ◌+◌, ◌≤◌, ◌^◌, List, ℕ, length, true, Some, None, IsSome, IfOk, MatchBool, MatchResult};
-ghost use Rattle.at_wkt.specs.Files.{HasFileFault};
 ghost use Rattle.at_query.specs.Ranges.{IsQueryInRange};
+ghost use Rattle.at_run.specs.Files.{HasFileFaultIn};
 ghost use Rattle.at_run.specs.Answers.{IfFound, IsFileAnswer, IsJoinAnswer, IsJoinFault};
 ghost use Rattle.at_cli.specs.LineOf.{form_of as form_told, KeepsLimits};
 ghost use Rattle.at_cli.specs.Gates.{PassesGate};
 ghost use Rattle.at_cli.specs.Failures.{asked_names, asked_second, WasAsked, AsksFor, FailedOn};
-ghost use Rattle.at_cli.specs.Outcomes.{has_right_count as count_is_right, is_wkt as wkt, is_second_served as second_served, is_served as served, units, Sized, HasPairOutcome, HasFilesOutcome, HasCountedOutcome, HasLineOutcome, IsLineRefused, IsQueryRefused, IsQueryAccepted, IsLineAccepted};
+ghost use Rattle.at_cli.specs.Outcomes.{has_right_count as count_is_right, units, Sized, HasPairOutcome, HasFilesOutcome, HasCountedOutcome, HasLineOutcome, IsLineRefused, IsQueryRefused, IsQueryAccepted, IsLineAccepted};
 ghost use Rattle.at_cli.specs.Endings.{status_of, line_of, EndsBytes, EndsPair, Ends};
 
 use crate::ending::Ending;
@@ -15,7 +15,7 @@ use crate::reading::named_bytes;
 use at_crew::Gate;
 use at_io::{ReadError, Shelf};
 use at_query::{Answer, Query, QueryEnd, Verb, answer_text, read_query};
-use at_run::{Cuts, Form, JoinFault, RunFault, answer, answer_join};
+use at_run::{Cuts, JoinFault, RunFault, answer, answer_join};
 use at_text::{Word, base_of};
 use std::alloc::Global;
 use std::thread::Threads;
@@ -23,7 +23,7 @@ use std::thread::Threads;
 /// The decimal digits of a coordinate: a unit is 10^-7.
 const UNITS: u8 = 7;
 
-/// The answer to a query over the bytes of a file in Well-Known Text, cut into the blocks that the words ask for.
+/// The answer to a query over the bytes of the line's file, cut into the blocks that the words ask for.
 fn answer_file<G: Gate, R: Threads + Sync>(
     rt: &R,
     alloc: Global,
@@ -37,8 +37,8 @@ fn answer_file<G: Gate, R: Threads + Sync>(
     requires in_range { IsQueryInRange query.now }
     requires verb { query.now.verb ≢ Verb.Join }
     requires second { line.now.second ≡ None }
-    ensures answer { MatchResult result (IsFileAnswer units line.now.how query.now bytes.now)
-        (λ end. IfFound end (λ fault. HasFileFault units line.now.how bytes.now (Some fault))) }
+    ensures answer { MatchResult result (IsFileAnswer (form_told line.now line.now.first) units line.now.how query.now bytes.now)
+        (λ end. IfFound end (λ fault. HasFileFaultIn (form_told line.now line.now.first) units line.now.how bytes.now (Some fault))) }
     ensures passes { IfOk result (λ _. PassesGate (G.given_up gate.now) line.now) }
 {
     let Ok(cuts) = Cuts::even(alloc, base_of(bytes), bytes.len() as u32, line.blocks) else {
@@ -48,7 +48,7 @@ fn answer_file<G: Gate, R: Threads + Sync>(
         rt,
         alloc,
         bytes,
-        Form::Wkt,
+        form_of(line, line.first.as_str()),
         &cuts,
         query,
         UNITS,
@@ -86,7 +86,7 @@ fn end_of_bytes<G: Gate, R: Threads + Sync>(
     }
 }
 
-/// The answer to a join over the bytes of two files in Well-Known Text, each cut into the blocks that the words ask for.
+/// The answer to a join over the bytes of the line's two files, each cut into the blocks that the words ask for.
 fn join_files<G: Gate, R: Threads + Sync>(
     rt: &R,
     alloc: Global,
@@ -99,9 +99,12 @@ fn join_files<G: Gate, R: Threads + Sync>(
     requires limit_a { length a.now ≤ 2 ^ 28 }
     requires limit_b { length b.now ≤ 2 ^ 28 }
     requires line { KeepsLimits line.now }
+    requires second { IsSome line.now.second }
     requires in_range { IsQueryInRange query.now }
     requires verb { query.now.verb ≡ Verb.Join }
-    ensures answer { MatchResult result (IsJoinAnswer units line.now.how query.now a.now b.now) (IsJoinFault units line.now.how a.now b.now) }
+    ensures answer { (second : List ℕ) → line.now.second ≡ Some second
+        → MatchResult result (IsJoinAnswer (form_told line.now line.now.first) (form_told line.now second) units line.now.how query.now a.now b.now)
+          (IsJoinFault (form_told line.now line.now.first) (form_told line.now second) units line.now.how a.now b.now) }
     ensures passes { IfOk result (λ _. PassesGate (G.given_up gate.now) line.now) }
 {
     let Ok(cuts_a) = Cuts::even(alloc, base_of(a), a.len() as u32, line.blocks) else {
@@ -114,9 +117,9 @@ fn join_files<G: Gate, R: Threads + Sync>(
         rt,
         alloc,
         a,
-        Form::Wkt,
+        form_of(line, line.first.as_str()),
         b,
-        Form::Wkt,
+        form_of(line, second_text(line)),
         &cuts_a,
         &cuts_b,
         query,
@@ -319,33 +322,6 @@ fn has_right_count(verb: Verb, second: &Option<Word>) -> bool
     }
 }
 
-/// Whether the file of that name is in Well-Known Text.
-fn is_wkt(line: &Line, name: &str) -> bool
-    ensures { result ≡ wkt (form_told line.now name.now) }
-{
-    match form_of(line, name) {
-        Form::Wkt => true,
-        Form::GeoJson => false,
-    }
-}
-
-/// Whether the second file, where there is one, is in Well-Known Text.
-fn is_second_served(line: &Line) -> bool
-    ensures { result ≡ second_served line.now line.now.second }
-{
-    match &line.second {
-        None => true,
-        Some(second) => is_wkt(line, second.as_str()),
-    }
-}
-
-/// Whether the line's files are read today.
-fn is_served(line: &Line) -> bool
-    ensures { result ≡ served line.now }
-{
-    is_wkt(line, line.first.as_str()) && is_second_served(line)
-}
-
 /// The end over a query that has no fault.
 fn end_of_query<S: Shelf, G: Gate, R: Threads + Sync>(
     rt: &R,
@@ -369,9 +345,6 @@ fn end_of_query<S: Shelf, G: Gate, R: Threads + Sync>(
 {
     if !has_right_count(query.verb, &line.second) {
         return Ending::Names;
-    }
-    if !is_served(&line) {
-        return Ending::Usage;
     }
     end_of_files(rt, alloc, line, query, shelf, gate)
 }

@@ -183,7 +183,7 @@ select|f.wkt => f.wkt => \u{FEFF}POINT (1 2)~POINT (3 4) => 0 3~15~
 --form|wkt|select|f => f => POINT (1 2) => 0 0~
 ";
 
-/// Files with faults, each with its first one.
+/// Files of lines with faults, each with its first one.
 const FAULTS: &str =
     "--coords|exact|count|f.wkt => f.wkt => POINT (1.00000001 2) => 1 f.wkt: Scale at 7~
 count|f.wkt => f.wkt => POINT (30000000.0000001 0) => 1 f.wkt: Range at 7~
@@ -215,11 +215,54 @@ counts|e.json => x =>  => 2 query: at 5~
 join|e.wkt => x =>  => 2 files
 count|e.wkt|e.wkt => x =>  => 2 files
 count|e.json|e.json => x =>  => 2 files
-join|e.wkt|e.wkt => x =>  => 2 usage
-count|e.json => x =>  => 2 usage
---form|geojson|count|e.wkt => x =>  => 2 usage
-count|@w:1 => x =>  => 2 usage
---form|wkt|count|@g:1 => x =>  => 2 usage
+";
+
+/// Files in GeoJSON, each with its answer or its first fault.
+const GEOJSON: &str = "count|e.json => e.json =>  => 1 e.json: Ended at 0~
+count|f.json => f.json => {\"type\":\"FeatureCollection\",\"features\":[ => 1 f.json: Ended at 40~
+select|f.json => f.json => {\"type\":\"FeatureCollection\",\"features\":[{\"type\":\"Feature\",\"geometry\":null,\"properties\":null}]} => 0 40~
+count|f.json => f.json => {\"a\":tru} => 1 f.json: Syntax at 8~
+count|f.json => f.json => {\"a\":-} => 1 f.json: Syntax at 6~
+count|f.json => f.json => 01 => 1 f.json: Syntax at 1~
+count|f.json => f.json => tru => 1 f.json: Ended at 3~
+count|f.json => f.json => {\"a\":1,\"\\u0061\":2} => 1 f.json: Twin at 7~
+count|f.json => f.json => {} => 1 f.json: Form at 0~
+select where has \"k\" = \"a\\\"b}]{\"|f.json => f.json => {\"type\":\"Feature\",\"properties\":{\"k\":\"a\\\"b}]{\"},\"geometry\":null} => 0 0~
+count|f.json => f.json => {\"type\":\"Feature\",\"properties\":{\"x\":{\"type\":\"Feature\",\"geometry\":{\"type\":\"Point\",\"coordinates\":[1]},\"properties\":null}},\"geometry\":null} => 0 1~
+count|f.json => f.json => {\"type\":\"FeatureCollection\",\"features\":[{\"geometry\":{\"coordinates\":[],\"type\":\"Polygon\"},\"type\":\"Feature\"},{\"type\":\"Feature\",\"geometry\":null}]} => 0 2~
+extent|f.json => f.json => {\"type\":\"FeatureCollection\",\"features\":[{\"geometry\":{\"coordinates\":[],\"type\":\"Polygon\"},\"type\":\"Feature\"},{\"type\":\"Feature\",\"geometry\":null}]} => 0 empty~
+count|f.json => f.json => {\"type\":\"Polygon\",\"coordinates\":[[[0,0],[1,0],[1,1],[0,1]]]} => 1 f.json: Ring at 33~
+count|f.json => f.json => {\"type\":\"Point\",\"coordinates\":[1]} => 1 f.json: Form at 30~
+count|f.json => f.json => {}x       % => 1 f.json: NotUtf8 at 10~
+count|f.json => f.json => \u{FEFF}{}x       % => 1 f.json: NotUtf8 at 13~
+count|f.json => f.json => \u{FEFF}{}x => 1 f.json: Syntax at 5~
+--form|geojson|count|p.wkt => p.wkt => {\"type\":\"Point\",\"coordinates\":[1,2]} => 0 1~
+--blocks|4096|--workers|64|count|f.json => f.json => {}x => 1 f.json: Syntax at 2~
+select|g.json => g.json => {~\"type\": \"FeatureCollection\",~\"name\": \"places\",~\"crs\": { \"type\": \"name\", \"properties\": { \"name\": \"urn:ogc:def:crs:OGC:1.3:CRS84\" } },~\"features\": [~{ \"type\": \"Feature\", \"properties\": { \"name\": \"Ulm\" }, \"geometry\": { \"type\": \"Point\", \"coordinates\": [ 9.987654321012345, 48.4 ] } },~{ \"type\": \"Feature\", \"properties\": { \"name\": \"Bonn\" }, \"geometry\": { \"type\": \"Point\", \"coordinates\": [ 7.1, 50.733333333333334 ] } },~{ \"type\": \"Feature\", \"properties\": { \"name\": \"Jena\" }, \"geometry\": null }~]~}~ => 0 149~282~416~
+extent|g.json => g.json => {~\"type\": \"FeatureCollection\",~\"name\": \"places\",~\"crs\": { \"type\": \"name\", \"properties\": { \"name\": \"urn:ogc:def:crs:OGC:1.3:CRS84\" } },~\"features\": [~{ \"type\": \"Feature\", \"properties\": { \"name\": \"Ulm\" }, \"geometry\": { \"type\": \"Point\", \"coordinates\": [ 9.987654321012345, 48.4 ] } },~{ \"type\": \"Feature\", \"properties\": { \"name\": \"Bonn\" }, \"geometry\": { \"type\": \"Point\", \"coordinates\": [ 7.1, 50.733333333333334 ] } },~{ \"type\": \"Feature\", \"properties\": { \"name\": \"Jena\" }, \"geometry\": null }~]~}~ => 0 7.1000000 48.4000000 9.9876543 50.7333333~
+select where has \"name\" = \"Bonn\"|g.json => g.json => {~\"type\": \"FeatureCollection\",~\"name\": \"places\",~\"crs\": { \"type\": \"name\", \"properties\": { \"name\": \"urn:ogc:def:crs:OGC:1.3:CRS84\" } },~\"features\": [~{ \"type\": \"Feature\", \"properties\": { \"name\": \"Ulm\" }, \"geometry\": { \"type\": \"Point\", \"coordinates\": [ 9.987654321012345, 48.4 ] } },~{ \"type\": \"Feature\", \"properties\": { \"name\": \"Bonn\" }, \"geometry\": { \"type\": \"Point\", \"coordinates\": [ 7.1, 50.733333333333334 ] } },~{ \"type\": \"Feature\", \"properties\": { \"name\": \"Jena\" }, \"geometry\": null }~]~}~ => 0 282~
+--coords|exact|select|g.json => g.json => {~\"type\": \"FeatureCollection\",~\"name\": \"places\",~\"crs\": { \"type\": \"name\", \"properties\": { \"name\": \"urn:ogc:def:crs:OGC:1.3:CRS84\" } },~\"features\": [~{ \"type\": \"Feature\", \"properties\": { \"name\": \"Ulm\" }, \"geometry\": { \"type\": \"Point\", \"coordinates\": [ 9.987654321012345, 48.4 ] } },~{ \"type\": \"Feature\", \"properties\": { \"name\": \"Bonn\" }, \"geometry\": { \"type\": \"Point\", \"coordinates\": [ 7.1, 50.733333333333334 ] } },~{ \"type\": \"Feature\", \"properties\": { \"name\": \"Jena\" }, \"geometry\": null }~]~}~ => 1 g.json: Scale at 251~
+";
+
+/// Files that the program makes, and joins.
+const MADE: &str = "count|@g:720 => p.wkt => POINT (1 2) => 0 720~
+area|@g:720 => p.wkt => POINT (1 2) => 0 144000000000000000~
+extent|@g:720 => p.wkt => POINT (1 2) => 0 0.5000000 0.0000000 360.5000000 2.0000000~
+select|@g:2 => p.wkt => POINT (1 2) => 0 41~176~
+count|@w:0 => p.wkt => POINT (1 2) => 0 0~
+join|@w:0|@g:2 => p.wkt => POINT (1 2) => 0 
+join|@w:2|@g:2 => p.wkt => POINT (1 2) => 0 0 41~32 41~32 176~
+--form|wkt|count|@g:1 => p.wkt => POINT (1 2) => 1 @g:1: Syntax at 0~
+join|@w:1|x.wkt => p.wkt => POINT (1 2) => 3 x.wkt: read failed~
+join|x.wkt|@w:1 => p.wkt => POINT (1 2) => 3 x.wkt: read failed~
+count|@g:1000 => p.wkt => POINT (1 2) => 0 1000~
+join|f.wkt|f.wkt => f.wkt => POINT (0 0)~POINT (5 5)~ => 0 0 0~12 12~
+join where in box(0 0,1 1)|f.wkt|f.wkt => f.wkt => POINT (0 0)~LINESTRING (0 0,5 5)~ => 0 0 0~0 12~
+join|f.wkt|@w:1 => f.wkt => LINESTRING (1 2) => 1 f.wkt: Short at 11~
+join|@w:1|f.wkt => f.wkt => POINT (x) => 1 f.wkt: Syntax at 7~
+join|f.wkt|f.wkt => f.wkt => POINT (x) => 1 f.wkt: Syntax at 7~
+join|e.json|f.wkt => f.wkt => POINT (x) => 3 e.json: read failed~
+join|f.wkt|@g:1 => f.wkt => POINT (1 1)~POINT (2 2)~ => 0 0 41~
 ";
 
 /// Any count of blocks and workers gives the same answer.
@@ -325,6 +368,16 @@ fn files_with_faults(rt: HostRuntime) -> Result<(), Fail> {
 #[test]
 fn refusals(rt: HostRuntime) -> Result<(), Fail> {
     run_table(&rt, rt.alloc(), REFUSALS)
+}
+
+#[test]
+fn geojson_files(rt: HostRuntime) -> Result<(), Fail> {
+    run_table(&rt, rt.alloc(), GEOJSON)
+}
+
+#[test]
+fn made_files_and_joins(rt: HostRuntime) -> Result<(), Fail> {
+    run_table(&rt, rt.alloc(), MADE)
 }
 
 #[test]
