@@ -1,0 +1,35 @@
+"""The program that is tested: where it is built, and what it writes."""
+import os
+import shutil
+import subprocess
+import sys
+
+TESTS = os.path.dirname(os.path.abspath(__file__))
+REPOSITORY = os.path.dirname(TESTS)
+NOBODY = 65534
+
+
+def built():
+    """Builds the program, and returns the path of its executable."""
+    folder = os.path.join(REPOSITORY, "crates", "atgis")
+    done = subprocess.run(["rt", "run", "--", "count", "data/points.wkt"], cwd=folder, capture_output=True, text=True)
+    path = os.path.join(folder, "out", "atgis")
+    if done.returncode != 0 or not os.path.exists(path):
+        sys.exit(f"the program was not built:\n{done.stdout}{done.stderr}")
+    return path
+
+
+def copied(source, folder):
+    """A copy of the program in a folder, which anybody may run."""
+    os.chmod(folder, 0o755)
+    binary = shutil.copy(source, os.path.join(folder, "atgis"))
+    os.chmod(binary, 0o755)
+    return binary
+
+
+def written(binary, words, folder, stdin=b"", out=subprocess.PIPE, is_nobody=False):
+    """What the program writes to its output and its error output, and its status."""
+    done = subprocess.run(
+        [binary] + words, cwd=folder, input=stdin, stdout=out, stderr=subprocess.PIPE, timeout=60,
+        **({"user": NOBODY} if is_nobody else {}))
+    return (done.stdout or b"").decode("latin-1"), done.stderr.decode("latin-1"), done.returncode
