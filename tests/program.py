@@ -29,7 +29,9 @@ def copied(source, folder):
 
 def written(binary, words, folder, stdin=b"", out=subprocess.PIPE, is_nobody=False):
     """What the program writes to its output and its error output, and its status."""
-    done = subprocess.run(
-        [binary] + words, cwd=folder, input=stdin, stdout=out, stderr=subprocess.PIPE, timeout=60,
-        **({"user": NOBODY} if is_nobody else {}))
+    user = {"user": NOBODY} if is_nobody else {}
+    try:
+        done = subprocess.run([binary] + words, cwd=folder, input=stdin, stdout=out, stderr=subprocess.PIPE, timeout=60, **user)
+    except subprocess.TimeoutExpired:
+        return "", "stopped after 60 seconds", -1
     return (done.stdout or b"").decode("latin-1"), done.stderr.decode("latin-1"), done.returncode
