@@ -31,7 +31,8 @@ def written(binary, words, folder, stdin=b"", out=subprocess.PIPE, is_nobody=Fal
     """What the program writes to its output and its error output, and its status."""
     user = {"user": NOBODY} if is_nobody else {}
     try:
-        done = subprocess.run([binary] + words, cwd=folder, input=stdin, stdout=out, stderr=subprocess.PIPE, timeout=60, **user)
+        done = subprocess.run(
+            [binary] + words, cwd=folder, input=stdin, stdout=out, stderr=subprocess.PIPE, timeout=60, **user)
     except subprocess.TimeoutExpired:
         return "", "stopped after 60 seconds", -1
     return (done.stdout or b"").decode("latin-1"), done.stderr.decode("latin-1"), done.returncode
