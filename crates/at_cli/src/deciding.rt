@@ -104,7 +104,7 @@ fn join_files<G: Gate, R: Threads + Sync>(
     requires verb { query.now.verb ≡ Verb.Join }
     ensures answer { (second : List ℕ) → line.now.second ≡ Some second
         → MatchResult result (IsJoinAnswer (form_told line.now line.now.first) (form_told line.now second) units line.now.how query.now a.now b.now)
-          (IsJoinFault (form_told line.now line.now.first) (form_told line.now second) units line.now.how a.now b.now) }
+        (IsJoinFault (form_told line.now line.now.first) (form_told line.now second) units line.now.how a.now b.now) }
     ensures passes { IfOk result (λ _. PassesGate (G.given_up gate.now) line.now) }
 {
     let Ok(cuts_a) = Cuts::even(alloc, base_of(a), a.len() as u32, line.blocks) else {
