@@ -7,7 +7,7 @@ import wkt
 GOALS = ((64, 1.1), (4096, 1.3))
 
 if __name__ == "__main__":
-    ours = measure.build_rattle("atgis", "count", "data/points.wkt")
+    ours = measure.build_atgis()
     good = True
     for name, feature in wkt.FEATURES:
         data = measure.input_file(f"wkt_{name}.wkt", wkt.writer(feature))

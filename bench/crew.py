@@ -3,7 +3,6 @@
 With more than one worker the steps contend for the claim word and the nodes' words, most of all where the blocks have no work.
 Last it prints what a cache line of its own for the claim word would change, by the plain Rust crew with and without one.
 """
-import statistics
 import sys
 
 import measure
@@ -24,12 +23,8 @@ def runs():
 def claim_word_apart(crew):
     """Prints the ratio of the times with the claim word in a line of its own and with it beside the first nodes' words."""
     for name, arguments in runs():
-        times = ([], [])
-        for _ in range(ROUNDS):
-            for side, more in enumerate((["apart"], [])):
-                times[side].append(measure.seconds([crew] + arguments + more)[0])
-        ratio = statistics.median(times[0]) / statistics.median(times[1])
-        print(f"claim word in a line of its own, {name}: {ratio:.2f} of the time without", flush=True)
+        apart, beside = measure.alternate(([crew] + arguments + ["apart"], [crew] + arguments), ROUNDS)
+        measure.tell(f"claim word in a line of its own, {name}", measure.clocks(apart), measure.clocks(beside))
 
 
 def main():

@@ -1,7 +1,6 @@
 """The fragments of pieces of GeoJSON under an algebra that counts values, over the two inputs of lex.py: in one block against
 the stream of tokens alone, in 64 blocks that are merged against one block, and in one block against a walk by simdjson, where
 its headers are installed. All count the values of the file, twice over."""
-import os
 import sys
 
 import lex
@@ -9,11 +8,7 @@ import measure
 
 if __name__ == "__main__":
     ours = measure.build_rattle("bench_nest", "data/point.json", "3", "2")
-    simdjson = None
-    if os.path.exists("/usr/include/simdjson.h"):
-        simdjson = measure.build(["g++", "-O3", "-std=c++17", "-march=x86-64-v2"], "nest.cpp", "nest", ["-lsimdjson"])
-    else:
-        print("simdjson isn't installed (Debian's libsimdjson-dev), so nothing was compared with it")
+    simdjson = measure.build_simdjson("nest.cpp")
     good = True
     for name, feature in (("coordinates", lex.many_coordinates), ("texts", lex.many_texts)):
         data = measure.input_file(f"lex_{name}.json", lex.writer(feature))

@@ -8,7 +8,7 @@ import wkt
 QUERIES = (("extent", "extent"), ("area", "area"), ("select", "select where meets box(10 10,20 20)"))
 
 if __name__ == "__main__":
-    ours = measure.build_rattle("atgis", "count", "data/points.wkt")
+    ours = measure.build_atgis()
     theirs = measure.build_rust("wkt.rs")
     good = True
     for name, feature in wkt.FEATURES:

@@ -1,7 +1,6 @@
 """Lines of Well-Known Text counted by `atgis count` against a plain loop in Rust that reads the same lines into vectors of
 pairs, over 200 MB each of points, of lines of 50 positions, and of polygons of 200 positions with 15 digits; and, where its
 headers are installed, against the reader of GEOS, which reads one line after another."""
-import os
 import random
 import sys
 
@@ -39,15 +38,13 @@ def writer(feature):
 FEATURES = (("points", point), ("lines", line), ("polygons", polygon))
 
 if __name__ == "__main__":
-    ours = measure.build_rattle("atgis", "count", "data/points.wkt")
+    ours = measure.build_atgis()
     theirs = measure.build_rust("wkt.rs")
-    geos = measure.build(["cc", "-O2"], "geos.c", "geos", ["-lgeos_c"]) if os.path.exists("/usr/include/geos_c.h") else None
+    geos = measure.build_geos("geos.c")
     good = True
     for name, feature in FEATURES:
         data = measure.input_file(f"wkt_{name}.wkt", writer(feature))
         good = measure.compare(f"{name} counted", [ours, "count", data], [theirs, "count", data], 2.5) and good
         if geos:
             good = measure.compare(f"{name} counted, against GEOS", [ours, "count", data], [geos, data], 0.1, rounds=3) and good
-    if not geos:
-        print("GEOS isn't installed (Debian's libgeos-dev), so nothing was compared with it")
     sys.exit(0 if good else 1)
