@@ -9,13 +9,20 @@ use Rattle.at_query.specs.Queries.{HasQueryFault}
 use Rattle.at_cli.specs.declared.ending.Ending.TheVariants.{Usage, QueryFault, Names, Faulty, ReadFailed, TooLarge, NoMemory, Answered}
 use Rattle.at_cli.specs.declared.line.WordsEnd.{WordsEnd}
 use Rattle.at_cli.specs.declared.line.WordsEnd.TheVariants.{Refused}
-use Rattle.at_cli.specs.Outcomes.{Outcome, stopped, answered, units, HasLineOutcome, SayNoLine, IsLineRefused, IsLineAccepted, AreRefused, AreAccepted}
+use Rattle.at_cli.specs.Outcomes.{Outcome, stopped, answered, units, HasLineOutcome, HasOutcome, SayNoLine, IsLineRefused, IsLineAccepted, AreRefused, AreAccepted}
 use Rattle.at_cli.specs.Endings.{status_of, text_of, line_of, outcome_by, Ends}
 
 -- what holds over all files holds over these
 pub ends_any : (Has : Files → Outcome → Type 0) (files : Option Files) (e : Ending) → ((told : Files) → Has told (outcome_by e)) → Ends Has files e
 ends_any Has None e h = inr (inr tt)
 ends_any Has (Some told) e h = inr (inr (h told))
+
+-- the end over the line that the words say is that over the words
+pub ends_said : (words : List (List ℕ)) (line : Line) (files : Option Files) (e : Ending) → SaysLine words line → Ends (HasLineOutcome line) files e → Ends (HasOutcome words) files e
+ends_said words line files e says (inl three) = inl three
+ends_said words line files e says (inr (inl five)) = inr (inl five)
+ends_said words line None e says (inr (inr h)) = inr (inr tt)
+ends_said words line (Some told) e says (inr (inr h)) = inr (inr (inr (line, says, h)))
 
 -- a query with a fault ends the run
 pub ends_query : (line : Line) (files : Option Files) (text : List ℕ) (at : ℕ) → text ≡ line.query → HasQueryFault units line.how text at → Ends (HasLineOutcome line) files (QueryFault at)

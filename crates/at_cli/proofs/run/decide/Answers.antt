@@ -2,8 +2,11 @@ use Rattle.std.proofs.Common.{◌≡◌, map, string_bytes, refl, inl, inr}
 use Rattle.at_cli.specs.Outcomes.{HasOutcome, SayNoLine}
 use Rattle.at_cli.specs.Failures.{asked_names, AsksFor}
 use Rattle.at_cli.specs.declared.ending.Ending.TheVariants.{Usage}
-use Rattle.at_cli.proofs.Runs.{ends_any, said_none, refused_by_line, asked_of}
+use Rattle.at_cli.proofs.Runs.{ends_any, ends_said, said_none, refused_by_line, asked_of}
 use Rattle.at_cli.proofs.run.decide.Goals as goal
+
+pub returns-in-Ok-clause-outcome : goal.returns-in-Ok-clause-outcome
+returns-in-Ok-clause-outcome g c = ends_said (map string_bytes c.args.words.now) c.in-Ok.line (g.S.Shelf.files c.args.shelf.now) c.end_of_line.result c.in-Ok.ensures.line c.end_of_line.ensures.outcome
 
 pub returns-in-Ok-clause-refused : goal.returns-in-Ok-clause-refused
 returns-in-Ok-clause-refused g c e = inr (c.in-Ok.line, c.in-Ok.ensures.line, (c.end_of_line.ensures.refused e).0)
