@@ -6,6 +6,7 @@ pub mod ShapeRanges
 pub mod Covered
 pub mod BlockParts
 pub mod LineSizes
+pub mod AsciiLines
 pub mod FileSizes
 pub mod ProperFeatures
 pub mod JsonSizes

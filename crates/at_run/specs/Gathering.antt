@@ -1,5 +1,5 @@
 -- What is kept of the lines of a file as they are read: the part of a query, or the first fault so far. Only contracts of private functions cite this.
-use Rattle.std.specs.Prelude.{◌≡◌, ℕ, List, [], ◌++◌, Option, Some, None, Result, Ok, Err, IsErr}
+use Rattle.std.specs.Prelude.{◌≡◌, ℕ, List, [], ◌++◌, Option, Some, None, Result, Ok, IsErr}
 use Rattle.at_text.specs.declared.faults.Fault.{Fault}
 use Rattle.at_text.specs.declared.memory.Memory.{Memory}
 use Rattle.at_text.specs.Faults.{first_of}
@@ -15,8 +15,6 @@ use Rattle.at_query.specs.declared.parts.Part.TheVariants.{Count}
 use Rattle.at_query.specs.Parts.{IsPart, AreAlike}
 use Rattle.at_run.specs.declared.gathered.Gathered.{Gathered}
 use Rattle.at_run.specs.declared.gathered.Gathered.TheVariants.{Kept, Failed}
-use Rattle.at_run.specs.declared.faults.RunFault.{RunFault}
-use Rattle.at_run.specs.declared.faults.RunFault.TheVariants.{Found, Memory as NoMemory}
 use Rattle.at_run.specs.Features.{AreLineFeatures}
 
 -- a query, and how the numbers of the lines are read
@@ -67,12 +65,6 @@ JoinsGathered left right both = (asked : Asked) (before behind : List FileLine) 
 -- whatever is asked that both are own of, it is own of
 abbrev pub KeepsOwn : Gathered → Gathered → Gathered → Type 0
 KeepsOwn left right both = (asked : Asked) → IsOwn asked left → IsOwn asked right → IsOwn asked both
-
--- the part, or why there is none
-abbrev pub run_end : Result Gathered Memory → Result Part RunFault
-run_end (Ok (Kept part)) = Ok part
-run_end (Ok (Failed fault)) = Err (Found fault)
-run_end (Err refused) = Err NoMemory
 
 -- what is gathered of a line that has no shape
 abbrev pub IsLineEnd : LineFault → Result Gathered Memory → Type 0

@@ -1,8 +1,9 @@
 ghost use Rattle.std.specs.Prelude.{◌≡◌, ◌≤◌, ◌^◌, length, drop, MatchResult, Some};
 ghost use Rattle.at_text.specs.Texts.{base_of as text_begin};
 ghost use Rattle.at_wkt.specs.Folding.{Kept, StandsFor};
+ghost use Rattle.at_wkt.specs.Lines.{lines_of};
 ghost use Rattle.at_run.specs.declared.forms.Form.TheVariants.{Wkt};
-ghost use Rattle.at_run.specs.Gathering.{IsOwn, IsGathered, run_end};
+ghost use Rattle.at_run.specs.Gathering.{Asked, IsOwn, IsGathered};
 ghost use Rattle.at_run.specs.Files.{HasFileFaultIn};
 ghost use Rattle.at_run.specs.Answers.{IfFound, IsFilePart};
 
@@ -10,18 +11,22 @@ use crate::faults::RunFault;
 use crate::gathered::Gathered;
 use crate::line_queries::LineQuery;
 use at_query::Part;
-use at_text::{Memory, utf8_fault};
+use at_text::utf8_fault;
 use at_wkt::{LineFragment, finish_lines};
 use std::alloc::Global;
 
-/// The part of a file's lines, or their first fault.
-fn end_of(gathered: Result<Gathered, Memory>) -> Result<Part, RunFault>
-    ensures { result ≡ run_end gathered }
+/// The part of a file's lines, or the file's first fault.
+///
+/// The encoding is looked at only where a line has a fault: what lines without one spell is ASCII.
+fn end_of(bytes: &[u8], gathered: Gathered) -> Result<Part, RunFault>
+    requires fits { length bytes.now ≤ 2 ^ 28 }
+    ensures { (asked : Asked) → IsGathered asked gathered (lines_of bytes.now)
+        → MatchResult result (IsFilePart Wkt asked.digits asked.how asked.query bytes.now)
+        (λ end. IfFound end (λ fault. HasFileFaultIn Wkt asked.digits asked.how bytes.now (Some fault))) }
 {
     match gathered {
-        Ok(Gathered::Kept(part)) => Ok(part),
-        Ok(Gathered::Failed(fault)) => Err(RunFault::Found(fault)),
-        Err(_) => Err(RunFault::Memory),
+        Gathered::Kept(part) => Ok(part),
+        Gathered::Failed(fault) => Err(RunFault::Found(utf8_fault(bytes).unwrap_or(fault))),
     }
 }
 
@@ -41,8 +46,8 @@ pub fn finish_line_file(
     ensures { MatchResult result (IsFilePart Wkt query.now.digits query.now.how query.now.query bytes.now)
         (λ end. IfFound end (λ fault. HasFileFaultIn Wkt query.now.digits query.now.how bytes.now (Some fault))) }
 {
-    if let Some(fault) = utf8_fault(bytes) {
-        return Err(RunFault::Found(fault));
+    match finish_lines(alloc, query, bytes, whole) {
+        Ok(gathered) => end_of(bytes, gathered),
+        Err(_) => Err(RunFault::Memory),
     }
-    end_of(finish_lines(alloc, query, bytes, whole))
 }
