@@ -1,7 +1,7 @@
 -- The merged fragment of one form stands for both spans in the reader's form.
 use Rattle.std.proofs.Common.{◌≡◌, ℕ, List, length, drop, sym, subst}
 use Rattle.std.proofs.lemmas.List.{take_rest}
-use Rattle.at_text.specs.Spans.{part_of, StandsAt, AreNeighbours, IsMerged}
+use Rattle.at_text.specs.Spans.{StandsAt, AreNeighbours, IsMerged}
 use Rattle.at_text.specs.Texts.{base_of}
 use Rattle.at_wkt.specs.Folding.{Kept, StandsFor}
 use Rattle.at_wkt.specs.declared.fragments.LineFragment.{LineFragment}
@@ -12,7 +12,7 @@ use Rattle.at_geojson.specs.declared.asked.GeoAlgebra.{GeoAlgebra}
 use Rattle.at_geojson.specs.declared.atoms.GeoAtom.{GeoAtom}
 use Rattle.at_geojson.specs.Keeping.{Asked as JsonAsked}
 use Rattle.at_geojson.specs.Atoms.{IsOwn as IsOwnAtom, IsFold}
-use Rattle.at_run.specs.declared.forms.Form.TheVariants.{GeoJson, Wkt}
+use Rattle.at_run.specs.declared.forms.Form.TheVariants.{GeoJson}
 use Rattle.at_run.specs.declared.gathered.Gathered.{Gathered}
 use Rattle.at_run.specs.declared.readers.FileFragment.{FileFragment}
 use Rattle.at_run.specs.declared.readers.FileFragment.TheVariants.{Lines, Json}

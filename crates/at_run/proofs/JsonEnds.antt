@@ -1,10 +1,9 @@
 -- What a file of GeoJSON ends in, from what its text and its tree end in.
-use Rattle.std.proofs.Common.{◌≡◌, ◌≤◌, ℕ, ◌+◌, List, ◌∷◌, [], length, drop, Option, Some, None, Result, Ok, Err, MatchResult, inl, inr, refl, sym, ◌∙◌, ap, subst, arith, length-drop}
+use Rattle.std.proofs.Common.{◌≡◌, ℕ, ◌+◌, List, ◌∷◌, [], length, drop, Option, Some, None, Result, Ok, Err, MatchResult, inl, inr, refl, sym, ap, subst, arith, length-drop}
 use Rattle.at_text.specs.Faults.{fault_at, first_of}
 use Rattle.at_text.specs.Texts.{base_of, utf8_fault}
 use Rattle.at_text.specs.declared.faults.Fault.{Fault}
 use Rattle.at_text.specs.declared.faults.FaultKind.TheVariants as kinds
-use Rattle.at_fixed.specs.declared.rounding.Coords.{Coords}
 use Rattle.at_nest.specs.Tree.{Tree}
 use Rattle.at_nest.specs.Holding.{Kept}
 use Rattle.at_nest.specs.Ending.{Answers, IsEnd}
@@ -12,7 +11,6 @@ use Rattle.at_nest.specs.Syntax.{HasJsonFault}
 use Rattle.at_nest.specs.declared.finishing.NestEnd.{NestEnd}
 use Rattle.at_nest.specs.declared.finishing.NestEnd.TheVariants as texts
 use Rattle.at_query.specs.declared.parts.Part.{Part}
-use Rattle.at_query.specs.declared.queries.Query.{Query}
 use Rattle.at_wkt.proofs.LineMerges.{base_within}
 use Rattle.at_geojson.specs.declared.atoms.GeoAtom.{GeoAtom}
 use Rattle.at_geojson.specs.declared.root.RootEnd.{RootEnd}

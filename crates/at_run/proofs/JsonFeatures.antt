@@ -1,5 +1,5 @@
 -- The features of a file of GeoJSON have coordinates in range, and those of one without a fault are proper: rings are closed, and offsets rise.
-use Rattle.std.proofs.Common.{◌≡◌, ℕ, ◌+◌, ◌<◌, ◌≤◌, inl, inr, Bool, true, false, if◌then◌else◌, codes, List, [], ◌∷◌, ◌++◌, length, map, Option, Some, None, refl, sym, ap, ◌∙◌, subst, arith}
+use Rattle.std.proofs.Common.{◌≡◌, ℕ, ◌+◌, ◌≤◌, inl, inr, Bool, true, false, if◌then◌else◌, codes, List, [], ◌∷◌, ◌++◌, length, map, Option, Some, None, refl, sym, ap, ◌∙◌, subst, arith}
 use Rattle.std.specs.List.{AllByRecursion}
 use Rattle.std.proofs.lemmas.Option.{none-some}
 use Rattle.std.proofs.lemmas.List.{map-append}
@@ -27,7 +27,7 @@ use Rattle.at_geojson.specs.Names.{is_named, member_named, kind_of, items_of}
 use Rattle.at_geojson.specs.Coordinates.{geometry_of}
 use Rattle.at_geojson.specs.Roles.{Reading, not_geometry, both_read, Features, not_features, all_features, feature_of, properties_texts, properties_faults, coordinates_reading, kind_reading, geometry_reading, collection_reading, geometries_reading, items_reading, geometry_member_reading, feature_reading, if_feature, item_reading, features_reading, root_of_kind, root_reading, features_of, role_faults_of}
 use Rattle.at_geojson.specs.Wholes.{faults_of}
-use Rattle.at_run.specs.JsonFiles.{HaveJsonFaults, HasJsonFaultBehind, HasJsonFileFault}
+use Rattle.at_run.specs.JsonFiles.{HasJsonFaultBehind, HasJsonFileFault}
 use Rattle.at_run.proofs.ShapeRanges.{with_points, with_both, geometry_in_range}
 use Rattle.at_run.proofs.ProperFeatures.{empties, not_empty, all_joined, no_first, HasClosedRings, geometry_closed, at_of}
 

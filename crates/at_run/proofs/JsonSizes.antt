@@ -1,5 +1,5 @@
 -- A file of GeoJSON has no more features and positions than its bytes have room for: a position takes at least four bytes, with its brackets.
-use Rattle.std.proofs.Common.{◌≡◌, ℕ, ◌+◌, ◌*◌, ◌≤◌, Bool, true, false, if◌then◌else◌, codes, List, [], ◌∷◌, ◌++◌, length, map, drop, Option, Some, None, option_map, option_and_then, refl, sym, ap, ◌∙◌, subst, arith, length-append, length-drop}
+use Rattle.std.proofs.Common.{◌≡◌, ℕ, ◌+◌, ◌*◌, ◌≤◌, Bool, true, false, if◌then◌else◌, codes, List, [], ◌∷◌, ◌++◌, length, map, drop, Option, Some, None, option_map, option_and_then, refl, ap, ◌∙◌, subst, arith, length-append, length-drop}
 use Rattle.std.proofs.lemmas.Option.{none-some, same_Some}
 use Rattle.std.proofs.lemmas.Grind.{flat_map-append}
 use Rattle.at_text.specs.Texts.{base_of}
@@ -11,7 +11,7 @@ use Rattle.at_lex.specs.Strings.{Character}
 use Rattle.at_lex.specs.Runs.{the_null, the_true, the_false}
 use Rattle.at_wkt.specs.Positions.{Position, Positions}
 use Rattle.at_wkt.specs.Geometry as wkt
-use Rattle.at_wkt.specs.Meaning.{empty_shape, both, shape_of, faults_of}
+use Rattle.at_wkt.specs.Meaning.{shape_of, faults_of}
 use Rattle.at_nest.specs.Tree.{Tree, literal, number, text, array, object, Trees, no_trees, tree_and, Members, no_members, member_and, offset_of, Padded, After, IsEnd, Spells, SpellsItems, SpellsFurtherItems, SpellsName, SpellsMembers, SpellsFurtherMembers}
 use Rattle.at_nest.specs.Syntax.{IsFileOf}
 use Rattle.at_query.specs.declared.features.Feature.{Feature}
@@ -20,7 +20,7 @@ use Rattle.at_geojson.specs.declared.kinds.Kind.{Kind}
 use Rattle.at_geojson.specs.declared.kinds.Kind.TheVariants as kinds
 use Rattle.at_geojson.specs.Names.{is_named, member_named, kind_of, items_of}
 use Rattle.at_geojson.specs.Coordinates.{each, array_items, number_at, position_of_numbers, position_of, positions_of, lists_of, if_some_items, area_of, areas_of, geometry_of_form, geometry_of}
-use Rattle.at_geojson.specs.Roles.{Reading, not_geometry, both_read, Features, all_features, feature_of, properties_texts, coordinates_reading, kind_reading, geometry_reading, collection_reading, geometries_reading, items_reading, geometry_member_reading, feature_reading, if_feature, item_reading, features_reading, root_of_kind, features_of}
+use Rattle.at_geojson.specs.Roles.{Reading, not_geometry, both_read, all_features, feature_of, properties_texts, coordinates_reading, kind_reading, geometry_reading, collection_reading, geometries_reading, items_reading, geometry_member_reading, feature_reading, if_feature, item_reading, features_reading, root_of_kind, features_of}
 use Rattle.at_run.proofs.LineSizes.{AtLeast, number_size, total, each_one, one_of, items_of as count_of, listed_of, rings_of, weight_of}
 use Rattle.at_run.proofs.FileSizes.{size, positions_size, both_size, shape_size}
 

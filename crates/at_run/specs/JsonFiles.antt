@@ -1,5 +1,5 @@
--- The first fault of a file of GeoJSON, and the part of its features where it has none. Nothing here knows of blocks.
-use Rattle.std.specs.Prelude.{◌≡◌, ◌⊎◌, ℕ, List, [], ◌∷◌, length, Option, Some, None, Result, Ok, Err}
+-- The first fault of a file of GeoJSON, and what such a file ends in. Nothing here knows of blocks.
+use Rattle.std.specs.Prelude.{◌≡◌, ◌⊎◌, ℕ, List, [], ◌∷◌, Option, Some, None, Result, Ok, Err}
 use Rattle.std.specs.Bool.{⊤}
 use Rattle.at_text.specs.Faults.{fault_at, first_of}
 use Rattle.at_text.specs.Texts.{utf8_fault}

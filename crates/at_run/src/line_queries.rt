@@ -1,7 +1,6 @@
 ghost use Rattle.std.specs.Prelude.{◌≡◌, ◌∷◌, [], IsTrue, IfOk};
 ghost use Rattle.at_geom.specs.Shapes.{IsShapeInRange};
 ghost use Rattle.at_query.specs.Ranges.{IsQueryInRange};
-ghost use Rattle.at_wkt.specs.Folding.{Kept, StandsFor};
 ghost use Rattle.at_query.specs.Parts.{IsPart};
 ghost use Rattle.at_run.specs.Gathering.{Asked, CountsAll, IsOwn, IsGathered};
 
@@ -9,8 +8,8 @@ use crate::gathered::{Gathered, count_line, join_into, joined, kept_of_end};
 use at_fixed::Coords;
 use at_geom::Shape;
 use at_query::{Feature, Part, Query, TextPairs, Verb, part_none, part_of};
-use at_text::{Memory, Pieces};
-use at_wkt::{Fold, LineFragment, Room, merge_lines, read_line, run_lines};
+use at_text::Memory;
+use at_wkt::{Fold, Room, read_line};
 use std::alloc::Global;
 use std::marker::Model;
 
@@ -100,25 +99,5 @@ impl<'a> Fold for LineQuery<'a> {
             join_into(part, one)?;
             Ok(())
         }
-    }
-}
-
-impl<'a> Pieces for LineQuery<'a> {
-    type Fragment = LineFragment<Gathered>;
-
-    ghost stands = { λ asked at bytes fragment. StandsFor (Kept (IsOwn asked) (IsGathered asked)) at bytes fragment };
-
-    fn run_piece(&self, alloc: Global, piece: &[u8], base: u32) -> LineFragment<Gathered> {
-        run_lines(alloc, self, piece, base)
-    }
-
-    fn merge_pieces(
-        &self,
-        alloc: Global,
-        bytes: &[u8],
-        left: LineFragment<Gathered>,
-        right: LineFragment<Gathered>,
-    ) -> LineFragment<Gathered> {
-        merge_lines(alloc, self, bytes, left, right)
     }
 }
