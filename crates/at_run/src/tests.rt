@@ -1,5 +1,7 @@
 ghost use Rattle.std.specs.Prelude.{◌≡◌, ◌≢◌, ◌∷◌, ◌≤◌, ◌^◌, [], length, IfSome, IfOk};
+ghost use Rattle.at_text.specs.Texts.{base_of as text_begin};
 ghost use Rattle.at_query.specs.Ranges.{IsTestInRange, IsQueryInRange};
+ghost use Rattle.at_run.specs.Places.{first_place, last_place};
 
 use super::*;
 use at_crew::{Free, Gate};
@@ -315,6 +317,66 @@ fn cuts_round_an_escape(rt: HostRuntime) -> Result<(), Fail> {
         &query,
     )?;
     assert_eq!(rt; told.as_str(), "0\n");
+    Ok(())
+}
+
+/// Two blocks of a short file.
+fn halves(alloc: Global, bytes: &[u8]) -> Result<Cuts, Fail>
+    ensures short { IfOk result (λ cuts. length bytes.now ≤ 100) }
+    ensures first { IfOk result (λ cuts. first_place cuts ≡ text_begin bytes.now) }
+    ensures last { IfOk result (λ cuts. last_place cuts ≡ length bytes.now) }
+{
+    let base = base_of(bytes);
+    if bytes.len() > 100 || base as usize > bytes.len() {
+        return Err(Fail::from("too many bytes"));
+    }
+    Ok(Cuts::even(alloc, base, bytes.len() as u32, 2)?)
+}
+
+/// What the join of two files prints, or which of them has a fault.
+fn told_joined<R: Threads + Sync>(
+    rt: &R,
+    alloc: Global,
+    a: &str,
+    form_a: Form,
+    b: &str,
+    form_b: Form,
+) -> Result<String, Fail> {
+    let query = asked(alloc, Verb::Join, None)?;
+    let first = bytes_of(alloc, a)?;
+    let second = bytes_of(alloc, b)?;
+    let cuts_a = halves(alloc, first.as_slice())?;
+    let cuts_b = halves(alloc, second.as_slice())?;
+    match answer_join(
+        rt,
+        alloc,
+        first.as_slice(),
+        form_a,
+        second.as_slice(),
+        form_b,
+        &cuts_a,
+        &cuts_b,
+        &query,
+        7,
+        Coords::Exact,
+        2,
+        &Free,
+    ) {
+        Ok(answer) => Ok(answer_text(alloc, &answer, 7)?),
+        Err(fault) => Ok(format!(in alloc; "{fault:?}")?),
+    }
+}
+
+#[test]
+fn joins_of_two_forms(rt: HostRuntime) -> Result<(), Fail> {
+    let lines = "POINT (1 2)~POINT (3 4)";
+    let text = r#"{"type":"Point","coordinates":[3,4]}"#;
+    let told = told_joined(&rt, rt.alloc(), lines, Form::Wkt, text, Form::GeoJson)?;
+    assert_eq!(rt; told.as_str(), "12 0\n");
+    let told = told_joined(&rt, rt.alloc(), text, Form::GeoJson, lines, Form::Wkt)?;
+    assert_eq!(rt; told.as_str(), "0 12\n");
+    let told = told_joined(&rt, rt.alloc(), lines, Form::Wkt, lines, Form::GeoJson)?;
+    assert_eq!(rt; told.as_str(), "Second(Fault { kind: Syntax, at: 0 })");
     Ok(())
 }
 
