@@ -1,4 +1,4 @@
-use Rattle.std.proofs.Common.{◌≡◌, ℕ, ◌+◌, ◌-◌, ◌<◌, ◌≤◌, ◌^◌, ◌∙◌, List, length, sym, ap, subst, arith}
+use Rattle.std.proofs.Common.{◌≡◌, ◌+◌, ◌-◌, ◌<◌, ◌≤◌, ◌^◌, ◌∙◌, length, sym, ap, subst, arith}
 use Rattle.std.specs.List.{AllZip, range_with_len}
 use Rattle.std.specs.List.Sorted.{IsNonDecreasing}
 use Rattle.rayon.specs.Numbers.{nat_range}
