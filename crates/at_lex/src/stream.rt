@@ -12,7 +12,7 @@ use crate::tokens::{Bracket, Item, Lead, Pend, Start, Token, TokenKind};
 use at_text::is_run;
 use std::marker::Model;
 
-/// Reads a piece of JSON, one item at a time, without memory: each byte is looked at once.
+/// Reads a piece of JSON, one item at a time, without memory.
 ///
 /// Contracts see of it what is still to be read: the file offset of the next byte, the bytes from there to the
 /// piece's end, and the lexical state before them.
