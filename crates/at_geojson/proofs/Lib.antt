@@ -20,3 +20,4 @@ pub mod CopyFolds
 pub mod Tiers
 pub mod Roots
 pub mod SimpleTexts
+pub mod ValueParts

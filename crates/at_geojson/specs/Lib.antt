@@ -9,3 +9,5 @@ pub mod Objects
 pub mod Ends
 pub mod Copies
 pub mod Wholes
+pub mod Places
+pub mod Values

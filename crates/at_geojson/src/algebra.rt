@@ -8,8 +8,10 @@ use crate::atoms::GeoAtom;
 use crate::copying::copy_atom;
 use crate::lists::array_atom;
 use crate::object_atoms::object_atom;
+use crate::places::Stop;
 use crate::scalars::scalar_atom;
-use at_nest::{Algebra, Member};
+use crate::values::{Whole, whole_value};
+use at_nest::{Algebra, Attempt, Member};
 use at_text::Memory;
 use std::alloc::Global;
 
@@ -43,6 +45,19 @@ impl Algebra for GeoAlgebra {
         ensures fold { IfOk result (λ atom. (ms : Members) → AreMemberFolds (IsFold self.now) members.items ms → IsFold self.now atom (object_tree at ms)) }
     {
         object_atom(alloc, self, at, members)
+    }
+
+    fn value(&self, alloc: Global, text: &[u8], at: u32) -> Result<Attempt<GeoAtom>, Memory> {
+        match whole_value(self, alloc, text, at) {
+            Ok(Whole { end, atom }) => Ok(Attempt::Whole {
+                len: end as u32,
+                atom,
+            }),
+            Err(Stop::At(place)) => Ok(Attempt::Unsaid {
+                looked: place.min(text.len()) as u32,
+            }),
+            Err(Stop::Memory) => Err(Memory),
+        }
     }
 
     fn copy(&self, alloc: Global, atom: &GeoAtom) -> Result<GeoAtom, Memory> {

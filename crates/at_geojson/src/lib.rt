@@ -11,6 +11,7 @@ mod lists;
 mod members;
 mod object_atoms;
 mod objects;
+mod places;
 mod readings;
 mod root;
 mod scalars;
@@ -18,6 +19,7 @@ mod shapes;
 mod sorts;
 mod texts;
 mod twins;
+mod values;
 
 pub use asked::GeoAlgebra;
 pub use atoms::GeoAtom;

@@ -1,0 +1,310 @@
+-- What the readers of whole values find of a text: the parts that they read spell trees, for which the atoms stand.
+use Rattle.std.proofs.Common.{◌≡◌, ℕ, zero, suc, ◌+◌, ◌-◌, ◌<◌, ◌≤◌, min, inl, inr, ℤ, true, Some, Ok, List, [], ◌∷◌, ◌++◌, All, length, take, drop, slice_index, take-append-drop, refl, sym, ◌∙◌, ap, subst, arith}
+use Rattle.std.proofs.Math.Nat.{min-eq_left}
+use Rattle.std.proofs.lemmas.List.{drop-take, length-drop}
+use Rattle.std.proofs.lemmas.List.Elements.{All-nil, All-cons, All-append}
+use Rattle.at_text.specs.Prefix.{TakesLongest}
+use Rattle.at_text.specs.declared.prefixes.Taken.{Taken}
+use Rattle.at_fixed.specs.declared.rounding.Coords.{Coords}
+use Rattle.at_fixed.specs.Kept.{part}
+use Rattle.at_fixed.specs.Numerals.{Numeral, JsonNumber}
+use Rattle.at_fixed.specs.Fixed.{IsFixedOf, fixed_of}
+use Rattle.at_fixed.proofs.DigitParts.{part-length}
+use Rattle.at_lex.specs.Strings.{JsonString, AreUnitsOf}
+use Rattle.at_lex.specs.Runs.{JsonRun}
+use Rattle.at_lex.specs.Spans.{AreSpaces}
+use Rattle.at_lex.proofs.FrontLemmas.{suffix_is}
+use Rattle.at_nest.specs.declared.algebra.Member.{Member}
+use Rattle.at_nest.specs.declared.algebra.Attempt.TheVariants.{Whole as WholeAttempt}
+use Rattle.at_nest.specs.Folds.{IsScalarText, IsAttempt, AreFolds, AreMemberFolds}
+use Rattle.at_nest.specs.Tree.{Tree, literal, number, text, array, object, no_trees, Spells, SpellsName}
+use Rattle.at_nest.specs.Passing.{IsPadded, items_of, Named, members_of}
+use Rattle.at_nest.proofs.Ahead.{no_nil}
+use Rattle.at_nest.proofs.Passed.{items_none, items_on, items_end, items_empty, members_none, members_on, members_end, members_empty}
+use Rattle.at_geojson.specs.declared.atoms.GeoAtom.{GeoAtom}
+use Rattle.at_geojson.specs.declared.atoms.GeoAtom.TheVariants as atoms
+use Rattle.at_geojson.specs.declared.atoms.NumberAtom.{NumberAtom}
+use Rattle.at_geojson.specs.declared.places.NamePlace.{NamePlace}
+use Rattle.at_geojson.specs.declared.values.Whole.{Whole}
+use Rattle.at_geojson.specs.declared.values.Plain.{Plain}
+use Rattle.at_geojson.specs.Keeping.{Asked}
+use Rattle.at_geojson.specs.Atoms.{IsOwn, IsFold}
+use Rattle.at_geojson.specs.Gathering.{least_of, pair_atom}
+use Rattle.at_geojson.specs.Places.{IsTextAt, IsNameAt}
+use Rattle.at_geojson.specs.Values.{IsPlain, IsWhole, IsItem, AreItemsRead, AreMembersRead, EndsArray, EndsObject}
+use Rattle.at_geojson.proofs.ScalarFolds.{number_found, number_folds, own_number}
+use Rattle.at_geojson.proofs.OwnFolds.{pair_own}
+use Rattle.at_geojson.proofs.ArrayAnswers.{numbers_fold, empty_folds}
+
+-- ---- bytes that were taken from a place on
+
+-- what a reader of the bytes ahead takes as a whole word
+pub taken_whole : (L : List ℕ → Type 0) (w : List ℕ) (at : ℕ) (taken : Taken) → TakesLongest L (take (length w - at) (drop at w)) taken → taken.whole ≡ true → (taken.len ≤ length (drop at w)) × L (take taken.len (drop at w))
+taken_whole L w at taken h e =
+    let k : TakesLongest L (drop at w) taken = subst (λ z. TakesLongest L z taken) (suffix_is w at) h in
+    (k.longest.fits, (k.whole).0 e)
+
+pub front_part : (w : List ℕ) (at n : ℕ) → take n (drop at w) ≡ part w at (at + n)
+front_part w at n = sym (drop-take at n w)
+
+some_bytes : (L : List ℕ → Type 0) (w : List ℕ) (at n : ℕ) → (L [] → ⊥) → L (take n (drop at w)) → at < at + n
+some_bytes L w at n none h = by_count n h
+  where
+    by_count : (n : ℕ) → L (take n (drop at w)) → at < at + n
+    by_count zero h = absurd (none h)
+    by_count (suc n) h = omega arith
+
+end_fits : (w : List ℕ) (at n : ℕ) → at ≤ length w → n ≤ length (drop at w) → at + n ≤ length w
+end_fits w at n h k = omega (arith, h, k, length-drop at w)
+
+no_empty_number : JsonNumber [] → ⊥
+no_empty_number h = no_nil (inr h)
+
+no_empty_string : JsonString [] → ⊥
+no_empty_string (cs, ok, e) = cc
+
+-- a word of the bytes ahead, from its place to its end
+pub record IsTaken (L : List ℕ → Type 0) (w : List ℕ) (at end : ℕ) : Type 0 where
+  pub order : at < end
+  pub within : end ≤ length w
+  pub word : L (part w at end)
+
+pub word_taken : (L : List ℕ → Type 0) (w : List ℕ) (at : ℕ) (taken : Taken) → (L [] → ⊥) → at ≤ length w → TakesLongest L (take (length w - at) (drop at w)) taken → taken.whole ≡ true → IsTaken L w at (at + taken.len)
+word_taken L w at taken none inside h e =
+    let (fits, word) = taken_whole L w at taken h e in
+    record { order = some_bytes L w at taken.len none word; within = end_fits w at taken.len inside fits; word = subst L (front_part w at taken.len) word }
+
+pub number_taken : (w : List ℕ) (at : ℕ) (taken : Taken) → at ≤ length w → TakesLongest JsonNumber (take (length w - at) (drop at w)) taken → taken.whole ≡ true → IsTaken JsonNumber w at (at + taken.len)
+number_taken w at taken inside h e = word_taken JsonNumber w at taken no_empty_number inside h e
+
+pub run_taken : (w : List ℕ) (at : ℕ) (taken : Taken) → at ≤ length w → TakesLongest JsonRun (take (length w - at) (drop at w)) taken → taken.whole ≡ true → IsTaken JsonRun w at (at + taken.len)
+run_taken w at taken inside h e = word_taken JsonRun w at taken no_nil inside h e
+
+pub text_taken : (w : List ℕ) (at : ℕ) (taken : Taken) → at ≤ length w → TakesLongest JsonString (take (length w - at) (drop at w)) taken → taken.whole ≡ true → IsTextAt w at (at + taken.len)
+text_taken w at taken inside h e = let t = word_taken JsonString w at taken no_empty_string inside h e in (t.order, t.within, t.word)
+
+-- the value of a number that was taken
+pub value_taken : (w : List ℕ) (at n digits : ℕ) (how : Coords) (asked : Asked) (v : ℤ) → digits ≡ asked.digits → how ≡ asked.how
+    → IsFixedOf (take n (take (length w - at) (drop at w))) digits how (Ok v) → IsFixedOf (part w at (at + n)) asked.digits asked.how (Ok v)
+value_taken w at n digits how asked v ed eh h =
+    subst (λ d. IsFixedOf (part w at (at + n)) d asked.how (Ok v)) ed (subst (λ k. IsFixedOf (part w at (at + n)) digits k (Ok v)) eh
+    (subst (λ z. IsFixedOf z digits how (Ok v)) (ap (take n) (suffix_is w at) ∙ front_part w at n) h))
+
+pub slice_part : (w : List ℕ) (at end : ℕ) → at ≤ end → take (end - at) (drop at w) ≡ part w at end
+slice_part w at end h = front_part w at (end - at) ∙ ap (part w at) (let e : at + (end - at) ≡ end = omega (arith, h) in e)
+
+-- the bytes of a whole scalar
+pub run_text : (w : List ℕ) (at end : ℕ) → IsTaken JsonRun w at end → IsScalarText (take (end - at) (drop at w))
+run_text w at end t = subst IsScalarText (sym (slice_part w at end (omega (arith, t.order)))) (inr t.word)
+
+pub string_text : (w : List ℕ) (at end : ℕ) → IsTextAt w at end → IsScalarText (take (end - at) (drop at w))
+string_text w at end (order, within, s) = subst IsScalarText (sym (slice_part w at end (omega (arith, order)))) (inl s)
+
+-- the bytes of a name, and its units
+pub name_text : (w : List ℕ) (at : ℕ) (n : NamePlace) → IsNameAt w at n → JsonString (take (n.end - n.first) (drop n.first w))
+name_text w at n h = subst JsonString (sym (slice_part w n.first n.end (omega (arith, h.text.0)))) h.text.2
+
+pub name_units : (w : List ℕ) (at : ℕ) (n : NamePlace) (units : List ℕ) → IsNameAt w at n → AreUnitsOf (take (n.end - n.first) (drop n.first w)) units → AreUnitsOf (part w n.first n.end) units
+name_units w at n units h u = subst (λ z. AreUnitsOf z units) (slice_part w n.first n.end (omega (arith, h.text.0))) u
+
+no_spaces : (w : List ℕ) (at : ℕ) → AreSpaces (part w at at)
+no_spaces w at = subst AreSpaces (front_part w at 0 ∙ ap (part w at) (let e : at + 0 ≡ at = omega arith in e)) tt
+
+-- ---- scalars
+
+module _ (asked : Asked) (base : ℕ) (w : List ℕ) where
+  -- an atom of all trees that the bytes spell
+  abbrev StandsAt : ℕ → ℕ → GeoAtom → Type 0
+  StandsAt at end a = (t : Tree) → Spells (base + at) (take (end - at) (drop at w)) t → IsFold asked a t
+
+  spelled : (at end : ℕ) (a : GeoAtom) → at < end → StandsAt at end a → (t : Tree) → Spells (base + at) (part w at end) t → IsFold asked a t
+  spelled at end a h fold t s = fold t (subst (λ z. Spells (base + at) z t) (sym (slice_part w at end (omega (arith, h)))) s)
+
+  pub run_read : (at end : ℕ) (a : GeoAtom) → IsTaken JsonRun w at end → IsOwn asked a → StandsAt at end a → IsWhole asked base w at (record { end = end; atom = a })
+  run_read at end a taken own fold = go taken.word where
+    whole : (t : Tree) → Spells (base + at) (part w at end) t → IsWhole asked base w at (record { end = end; atom = a })
+    whole t s = record { order = taken.order; within = taken.within; own = own; tree = t; spells = s; fold = spelled at end a taken.order fold t s }
+
+    go : JsonRun (part w at end) → IsWhole asked base w at (record { end = end; atom = a })
+    go (inl (l, e)) = whole (literal (base + at) l) (refl, e)
+    go (inr (n, j, e)) = whole (number (base + at) n) (refl, j, e)
+
+  pub string_read : (at end : ℕ) (a : GeoAtom) → IsTextAt w at end → IsOwn asked a → StandsAt at end a → IsWhole asked base w at (record { end = end; atom = a })
+  string_read at end a (order, within, (cs, j, e)) own fold =
+      let s : Spells (base + at) (part w at end) (text (base + at) cs) = (refl, j, e) in
+      record { order = order; within = within; own = own; tree = text (base + at) cs; spells = s; fold = spelled at end a order fold (text (base + at) cs) s }
+
+  -- a number that has a value
+  record IsValued (at end : ℕ) (v : ℤ) : Type 0 where
+    pub numeral : Numeral
+    pub spells : Spells (base + at) (part w at end) (number (base + at) numeral)
+    pub value : Ok v ≡ fixed_of numeral asked.digits asked.how
+
+  valued : (at end : ℕ) (v u : ℤ) → v ≡ u → JsonNumber (part w at end) → IsFixedOf (part w at end) asked.digits asked.how (Ok u) → IsValued at end v
+  valued at end v u same j f = let (n, s, e) = number_found asked (base + at) (part w at end) (Ok u) asked.digits asked.how refl refl j f in record { numeral = n; spells = s; value = ap Ok same ∙ e }
+
+  pub number_read : (at end : ℕ) (v u : ℤ) → v ≡ u → IsTaken JsonNumber w at end → IsFixedOf (part w at end) asked.digits asked.how (Ok u)
+      → IsWhole asked base w at (record { end = end; atom = atoms.Number (record { at = base + at; value = v }) })
+  number_read at end v u e taken f =
+      let n = valued at end v u e taken.word f in let a : NumberAtom = record { at = base + at; value = v } in
+      record { order = taken.order; within = taken.within; own = own_number asked a n.numeral n.value; tree = number (base + at) n.numeral; spells = n.spells; fold = number_folds asked a n.numeral n.value }
+
+  -- ---- positions
+
+  pub pair_read : (at : ℕ) (x y : Plain) (left right : ℤ) → left ≡ x.number.value → right ≡ y.number.value → at < length w → slice_index w at ≡ 0x5B → IsPlain asked w (at + 1) x → x.end < length w → slice_index w x.end ≡ 0x2C
+      → IsPlain asked w (x.end + 1) y → y.end < length w → slice_index w y.end ≡ 0x5D
+      → IsWhole asked base w at (record { end = y.end + 1; atom = atoms.Position (record { at = base + at; least = base + x.first; pos = record { x = left; y = right } }) })
+  pair_read at x y left right el er inside opens px ix comma py iy closes =
+      let nx = valued x.first x.end left x.number.value el px.number px.value in
+      let ny = valued y.first y.end right y.number.value er py.number py.value in
+      let a : NumberAtom = record { at = base + x.first; value = left } in
+      let b : NumberAtom = record { at = base + y.first; value = right } in
+      let items : List GeoAtom = atoms.Number a ∷ atoms.Number b ∷ [] in
+      let tx = number (base + x.first) nx.numeral in let ty = number (base + y.first) ny.numeral in
+      let r : GeoAtom = atoms.Position (record { at = base + at; least = base + x.first; pos = record { x = left; y = right } }) in
+      let l1 : a.at ≤ a.at = omega arith in
+      let l2 : a.at ≤ b.at = omega (arith, px.order, py.before) in
+      let least : least_of items ≡ base + x.first = ap (λ z. min z b.at) (min-eq_left l1) ∙ min-eq_left l2 in
+      let made : pair_atom (base + at) (least_of items) items ≡ Some r = ap (λ n. Some (atoms.Position (record { at = base + at; least = n; pos = record { x = left; y = right } }))) least in
+      let one : IsPadded (λ j v. Spells j v tx) base w (at + 1) x.end = record { first = x.first; last = x.end; before = px.before; order = omega (arith, px.order); behind = omega arith; spaces = px.spaces; is_part = nx.spells; more_spaces = no_spaces w x.end } in
+      let two : IsPadded (λ j v. Spells j v ty) base w (x.end + 1) y.end = record { first = y.first; last = y.end; before = py.before; order = omega (arith, py.order); behind = omega arith; spaces = py.spaces; is_part = ny.spells; more_spaces = no_spaces w y.end } in
+      let first = items_on base w at (at + 1) x.end [] tx (omega arith) (omega (arith, px.before, px.order)) ix comma (items_none base w at inside) one in
+      record {
+        order = omega (arith, px.before, px.order, py.before, py.order);
+        within = omega (arith, iy);
+        own = pair_own asked (base + at) (least_of items) items r (All-cons (IsOwn asked) (atoms.Number a) (atoms.Number b ∷ []) (own_number asked a nx.numeral nx.value) (All-cons (IsOwn asked) (atoms.Number b) [] (own_number asked b ny.numeral ny.value) (All-nil (IsOwn asked)))) made;
+        tree = array (base + at) (items_of (tx ∷ ty ∷ []));
+        spells = items_end base w at (x.end + 1) y.end (tx ∷ []) ty (omega (arith, px.before, px.order)) (omega (arith, py.before, py.order)) iy opens closes first two;
+        fold = numbers_fold asked (base + at) items (λ e. cc) refl r refl (inl made) (items_of (tx ∷ ty ∷ [])) (number_folds asked a nx.numeral nx.value, (number_folds asked b ny.numeral ny.value, tt));
+      }
+
+  -- ---- values with white space round them
+
+  pub item_read : (at first end : ℕ) (p : Whole) → at ≤ first → AreSpaces (part w at first) → IsWhole asked base w first p → p.end ≤ end → end ≤ length w → AreSpaces (part w p.end end) → IsItem asked base w at (record { end = end; atom = p.atom })
+  item_read at first end p h spaces whole k fits more = record {
+    order = omega (arith, h, whole.order, k);
+    within = fits;
+    own = whole.own;
+    tree = whole.tree;
+    spells = record { first = first; last = p.end; before = h; order = omega (arith, whole.order); behind = k; spaces = spaces; is_part = whole.spells; more_spaces = more };
+    fold = whole.fold;
+  }
+
+  -- ---- arrays
+
+  folds_last : (xs : List GeoAtom) (x : GeoAtom) (done : List Tree) (t : Tree) → AreFolds (IsFold asked) xs (items_of done) → IsFold asked x t → AreFolds (IsFold asked) (xs ++ x ∷ []) (items_of (done ++ t ∷ []))
+  folds_last [] x [] t h k = (k, tt)
+  folds_last (y ∷ xs) x (u ∷ done) t h k = (h.0, folds_last xs x done t h.1 k)
+  folds_last [] x (u ∷ done) t h k = absurd h
+  folds_last (y ∷ xs) x [] t h k = absurd h
+
+  pub items_begin : (at : ℕ) → at < length w → AreItemsRead asked base w at (at + 1) []
+  items_begin at h = record { own = All-nil (IsOwn asked); done = []; before = items_none base w at h; folds = tt }
+
+  pub items_own : (at place : ℕ) (items : List GeoAtom) (p : Whole) → AreItemsRead asked base w at place items → IsItem asked base w place p → All (IsOwn asked) (items ++ p.atom ∷ [])
+  items_own at place items p read item = All-append (IsOwn asked) items (p.atom ∷ []) read.own (All-cons (IsOwn asked) p.atom [] item.own (All-nil (IsOwn asked)))
+
+  pub items_go_on : (at place : ℕ) (items : List GeoAtom) (p : Whole) → at < place → AreItemsRead asked base w at place items → IsItem asked base w place p → p.end < length w → slice_index w p.end ≡ 0x2C → AreItemsRead asked base w at (p.end + 1) (items ++ p.atom ∷ [])
+  items_go_on at place items p h read item inside byte = record {
+    own = items_own at place items p read item;
+    done = read.done ++ item.tree ∷ [];
+    before = items_on base w at place p.end read.done item.tree h (omega (arith, item.order)) inside byte read.before item.spells;
+    folds = folds_last items p.atom read.done item.tree read.folds item.fold;
+  }
+
+  pub array_read : (at place : ℕ) (items : List GeoAtom) (p q : Whole) → at < place → slice_index w at ≡ 0x5B → AreItemsRead asked base w at place items → IsItem asked base w place p → p.end < length w → slice_index w p.end ≡ 0x5D
+      → EndsArray asked (base + at) (p.end + 1) (items ++ p.atom ∷ []) q → IsWhole asked base w at q
+  array_read at place items p q h opens read item inside byte ends = record {
+    order = omega (arith, h, item.order, ends.behind);
+    within = omega (arith, inside, ends.behind);
+    own = ends.own;
+    tree = array (base + at) (items_of (read.done ++ item.tree ∷ []));
+    spells = subst (λ e. Spells (base + at) (part w at e) (array (base + at) (items_of (read.done ++ item.tree ∷ [])))) (sym ends.behind)
+        (items_end base w at place p.end read.done item.tree h (omega (arith, item.order)) inside opens byte read.before item.spells);
+    fold = ends.fold (items_of (read.done ++ item.tree ∷ [])) (folds_last items p.atom read.done item.tree read.folds item.fold);
+  }
+
+  pub empty_read : (at end : ℕ) → at < end → end < length w → slice_index w at ≡ 0x5B → slice_index w end ≡ 0x5D → AreSpaces (part w (at + 1) end) → IsWhole asked base w at (record { end = end + 1; atom = atoms.Empty (base + at) })
+  empty_read at end h inside opens byte spaces = record {
+    order = omega (arith, h);
+    within = omega (arith, inside);
+    own = tt;
+    tree = array (base + at) (items_of []);
+    spells = items_empty base w at end h inside opens byte spaces;
+    fold = empty_folds asked (base + at) no_trees tt;
+  }
+
+  -- ---- objects
+
+  members_last : (xs : List (Member GeoAtom)) (x : Member GeoAtom) (done : List Named) (n : Named) → AreMemberFolds (IsFold asked) xs (members_of done) → AreMemberFolds (IsFold asked) (x ∷ []) (members_of (n ∷ []))
+      → AreMemberFolds (IsFold asked) (xs ++ x ∷ []) (members_of (done ++ n ∷ []))
+  members_last [] x [] n h k = k
+  members_last (y ∷ xs) x (u ∷ done) n h k = (h.0, h.1, h.2, members_last xs x done n h.3 k)
+  members_last [] x (u ∷ done) n h k = absurd h
+  members_last (y ∷ xs) x [] n h k = absurd h
+
+  pub members_begin : (at : ℕ) → at < length w → AreMembersRead asked base w at (at + 1) []
+  members_begin at h = record { own = All-nil (λ (m : Member GeoAtom). IsOwn asked m.value); done = []; before = members_none base w at h; folds = tt }
+
+  named : (place : ℕ) (n : NamePlace) (h : IsNameAt w place n) → IsPadded (SpellsName h.text.2.0 (base + n.first)) base w place n.colon
+  named place n h = record { first = n.first; last = n.end; before = h.before; order = omega (arith, h.text.0); behind = h.behind; spaces = h.spaces; is_part = (refl, h.text.2.1, h.text.2.2); more_spaces = h.more_spaces }
+
+  -- a member as the code makes it
+  abbrev pub member_of : NamePlace → List ℕ → GeoAtom → Member GeoAtom
+  member_of n units a = record { name = units; name_at = base + n.first; value = a }
+
+  member_folds : (place : ℕ) (n : NamePlace) (units : List ℕ) (p : Whole) (h : IsNameAt w place n) → AreUnitsOf (part w n.first n.end) units → (item : IsItem asked base w (n.colon + 1) p)
+      → AreMemberFolds (IsFold asked) (member_of n units p.atom ∷ []) (members_of (record { name = h.text.2.0; at = base + n.first; tree = item.tree } ∷ []))
+  member_folds place n units p h u item = (u h.text.2.0 h.text.2.1 h.text.2.2, refl, item.fold, tt)
+
+  pub members_own : (at place : ℕ) (members : List (Member GeoAtom)) (n : NamePlace) (units : List ℕ) (p : Whole) → AreMembersRead asked base w at place members → IsItem asked base w (n.colon + 1) p → All (λ (m : Member GeoAtom). IsOwn asked m.value) (members ++ member_of n units p.atom ∷ [])
+  members_own at place members n units p read item = All-append (λ (m : Member GeoAtom). IsOwn asked m.value) members (member_of n units p.atom ∷ []) read.own (All-cons (λ (m : Member GeoAtom). IsOwn asked m.value) (member_of n units p.atom) [] item.own (All-nil (λ (m : Member GeoAtom). IsOwn asked m.value)))
+
+  pub members_go_on : (at place : ℕ) (members : List (Member GeoAtom)) (n : NamePlace) (units : List ℕ) (p : Whole) → at < place → AreMembersRead asked base w at place members → IsNameAt w place n → AreUnitsOf (part w n.first n.end) units
+      → IsItem asked base w (n.colon + 1) p → p.end < length w → slice_index w p.end ≡ 0x2C → AreMembersRead asked base w at (p.end + 1) (members ++ member_of n units p.atom ∷ [])
+  members_go_on at place members n units p h read name u item inside byte =
+      let m : Named = record { name = name.text.2.0; at = base + n.first; tree = item.tree } in
+      record {
+        own = members_own at place members n units p read item;
+        done = read.done ++ m ∷ [];
+        before = members_on base w at place n.colon p.end read.done m h (omega (arith, name.before, name.text.0, name.behind)) (omega (arith, item.order)) inside name.byte byte read.before (named place n name) item.spells;
+        folds = members_last members (member_of n units p.atom) read.done m read.folds (member_folds place n units p name u item);
+      }
+
+  pub object_read : (at place : ℕ) (members : List (Member GeoAtom)) (n : NamePlace) (units : List ℕ) (p q : Whole) → at < place → slice_index w at ≡ 0x7B → AreMembersRead asked base w at place members → IsNameAt w place n → AreUnitsOf (part w n.first n.end) units
+      → IsItem asked base w (n.colon + 1) p → p.end < length w → slice_index w p.end ≡ 0x7D → EndsObject asked (base + at) (p.end + 1) (members ++ member_of n units p.atom ∷ []) q → IsWhole asked base w at q
+  object_read at place members n units p q h opens read name u item inside byte ends =
+      let m : Named = record { name = name.text.2.0; at = base + n.first; tree = item.tree } in
+      record {
+        order = omega (arith, h, name.before, name.text.0, name.behind, item.order, ends.behind);
+        within = omega (arith, inside, ends.behind);
+        own = ends.own;
+        tree = object (base + at) (members_of (read.done ++ m ∷ []));
+        spells = subst (λ e. Spells (base + at) (part w at e) (object (base + at) (members_of (read.done ++ m ∷ [])))) (sym ends.behind)
+            (members_end base w at place n.colon p.end read.done m h (omega (arith, name.before, name.text.0, name.behind)) (omega (arith, item.order)) inside opens name.byte byte read.before (named place n name) item.spells);
+        fold = ends.fold (members_of (read.done ++ m ∷ [])) (members_last members (member_of n units p.atom) read.done m read.folds (member_folds place n units p name u item));
+      }
+
+  pub void_read : (at end : ℕ) (q : Whole) → at < end → end < length w → slice_index w at ≡ 0x7B → slice_index w end ≡ 0x7D → AreSpaces (part w (at + 1) end) → EndsObject asked (base + at) (end + 1) [] q → IsWhole asked base w at q
+  void_read at end q h inside opens byte spaces ends = record {
+    order = omega (arith, h, ends.behind);
+    within = omega (arith, inside, ends.behind);
+    own = ends.own;
+    tree = object (base + at) (members_of []);
+    spells = subst (λ e. Spells (base + at) (part w at e) (object (base + at) (members_of []))) (sym ends.behind) (members_empty base w at end h inside opens byte spaces);
+    fold = ends.fold (members_of []) tt;
+  }
+
+-- ---- what the algebra answers
+
+pub attempt_of : (asked : Asked) (at : ℕ) (w : List ℕ) (p : Whole) → IsWhole asked at w 0 p → IsAttempt (IsOwn asked) (IsFold asked) at w (WholeAttempt p.end p.atom)
+attempt_of asked at w p h = (
+  part w 0 p.end,
+  drop p.end w,
+  sym (take-append-drop p.end w) ∙ ap (λ z. z ++ drop p.end w) (front_part w 0 p.end ∙ ap (part w 0) (let e : 0 + p.end ≡ p.end = omega arith in e)),
+  omega (arith, part-length w 0 p.end (omega arith) h.within),
+  h.tree,
+  subst (λ n. Spells n (part w 0 p.end) h.tree) (let e : at + 0 ≡ at = omega arith in e) h.spells,
+  h.own,
+  h.fold,
+)

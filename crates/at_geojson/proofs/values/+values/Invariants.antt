@@ -1,0 +1,31 @@
+-- Between items: those before were read. Brackets stand less deep in a part.
+use Rattle.std.proofs.Common.{◌+◌, ◌*◌, ◌-◌, ◌<◌, ◌≤◌, length}
+use Rattle.at_geojson.specs.Values.{AreItemsRead, AreMembersRead}
+use Rattle.at_geojson.proofs.values.+values.Given as goal
+
+abbrev pub decreases-read_value : goal.decreases-read_value
+decreases-read_value l = 4 * l.depth + 1
+
+abbrev pub decreases-read_any : goal.decreases-read_any
+decreases-read_any l = 4 * l.depth + 2
+
+abbrev pub decreases-read_item : goal.decreases-read_item
+decreases-read_item l = 4 * l.depth + 3
+
+abbrev pub decreases-read_array : goal.decreases-read_array
+decreases-read_array l = 4 * l.depth
+
+abbrev pub decreases-read_object : goal.decreases-read_object
+decreases-read_object l = 4 * l.depth
+
+abbrev pub invariant-read_array-items : goal.invariant-read_array-items
+invariant-read_array-items l = record { order : l.at < l.place; within : l.place ≤ length l.text; read : AreItemsRead l.algebra l.base l.text l.at l.place l.items.items }
+
+abbrev pub decreases-read_array-items : goal.decreases-read_array-items
+decreases-read_array-items l = length l.text - l.place
+
+abbrev pub invariant-read_object-members : goal.invariant-read_object-members
+invariant-read_object-members l = record { order : l.at < l.place; within : l.place ≤ length l.text; read : AreMembersRead l.algebra l.base l.text l.at l.place l.members.items }
+
+abbrev pub decreases-read_object-members : goal.decreases-read_object-members
+decreases-read_object-members l = length l.text - l.place

@@ -1,0 +1,99 @@
+//! What stands at the places of a text: bytes, white space, strings and the names of members.
+
+ghost use Rattle.std.specs.Prelude.{◌≡◌, ◌+◌, ◌<◌, ◌≤◌, ◌^◌, length, slice_index, true, IfOk};
+ghost use Rattle.at_fixed.specs.Kept.{part};
+ghost use Rattle.at_lex.specs.Spans.{AreSpaces};
+ghost use Rattle.at_geojson.specs.Places.{IsTextAt, IsNameAt};
+
+use at_lex::take_text;
+use at_text::{Memory, is_space};
+use std::alloc::{AllocError, AllocFailed};
+
+/// Why a value of a text was not read at once.
+#[derive(Clone, Copy)]
+pub enum Stop {
+    /// Nothing is said of it. The text was looked at up to this place.
+    At(usize),
+    Memory,
+}
+
+impl From<Memory> for Stop {
+    fn from(_refused: Memory) -> Stop {
+        Stop::Memory
+    }
+}
+
+impl From<AllocError> for Stop {
+    fn from(_refused: AllocError) -> Stop {
+        Stop::Memory
+    }
+}
+
+impl<T: Drop> From<AllocFailed<T>> for Stop {
+    fn from(_refused: AllocFailed<T>) -> Stop {
+        Stop::Memory
+    }
+}
+
+/// Where a member's name stands: the place of its opening quote, the place behind it, and the place of its colon.
+#[derive(Clone, Copy)]
+pub struct NamePlace {
+    pub first: usize,
+    pub end: usize,
+    pub colon: usize,
+}
+
+/// Whether the byte stands at the place.
+#[inline(always)]
+pub fn stands(text: &[u8], at: usize, b: u8) -> bool
+    ensures inside { result ≡ true → at < length text.now }
+    ensures byte { result ≡ true → slice_index text.now at ≡ b }
+{
+    at < text.len() && text[at] == b
+}
+
+/// The place behind the white space that begins at the place.
+#[inline(always)]
+pub fn skip_spaces(text: &[u8], at: usize) -> usize
+    requires { at ≤ length text.now }
+    ensures order { at ≤ result }
+    ensures within { result ≤ length text.now }
+    ensures spaces { AreSpaces (part text.now at result) }
+{
+    let mut end = at;
+    while end < text.len() && is_space(text[end]) {
+        end += 1;
+    }
+    end
+}
+
+/// The place behind the string that begins at the place.
+pub fn text_end(text: &[u8], at: usize) -> Result<usize, Stop>
+    requires inside { at ≤ length text.now }
+    requires short { length text.now ≤ 2 ^ 28 }
+    ensures { IfOk result (IsTextAt text.now at) }
+{
+    let taken = take_text(&text[at..]);
+    let end = at + taken.len as usize;
+    if taken.whole {
+        Ok(end)
+    } else {
+        Err(Stop::At(end))
+    }
+}
+
+/// White space, a name, white space and a colon.
+pub fn name_place(text: &[u8], at: usize) -> Result<NamePlace, Stop>
+    requires inside { at ≤ length text.now }
+    requires short { length text.now ≤ 2 ^ 28 }
+    ensures { IfOk result (IsNameAt text.now at) }
+{
+    let first = skip_spaces(text, at);
+    let end = text_end(text, first)?;
+    let colon = skip_spaces(text, end);
+    if stands(text, colon, b':') {
+        Ok(NamePlace { first, end, colon })
+    } else {
+        Err(Stop::At(colon))
+    }
+}

@@ -1,0 +1,351 @@
+//! Whole values of a text, read at once by descent: the same atoms as of the same values read item by item.
+
+ghost use Rattle.std.specs.Prelude.{◌≡◌, ◌+◌, ◌<◌, ◌≤◌, ◌^◌, length, slice_index, All, IfOk, IfSome};
+ghost use Rattle.at_geojson.specs.Atoms.{IsOwn};
+ghost use Rattle.at_geojson.specs.Values.{IsWhole, IsPlain, IsItem, AreItemsRead, AreMembersRead, EndsArray, EndsObject};
+
+use crate::asked::GeoAlgebra;
+use crate::atoms::{GeoAtom, NumberAtom, PositionAtom};
+use crate::lists::array_atom;
+use crate::object_atoms::object_atom;
+use crate::places::{Stop, name_place, skip_spaces, stands, text_end};
+use crate::scalars::scalar_atom;
+use at_fixed::{Notation, PlainNumber, plain_number};
+use at_geom::Pos;
+use at_lex::{take_run, units};
+use at_nest::Member;
+use std::alloc::Global;
+
+/// A value that was read: the place behind it, and its atom.
+#[derive(Drop)]
+pub struct Whole {
+    pub end: usize,
+    pub atom: GeoAtom,
+}
+
+/// A number that is written plainly: the place of its first byte and the one behind it.
+#[derive(Clone, Copy)]
+pub struct Plain {
+    pub first: usize,
+    pub end: usize,
+    pub number: PlainNumber,
+}
+
+/// Room that a list of items or members is given at first.
+const ROOM: usize = 8;
+
+/// White space and a number that is written plainly.
+#[inline(always)]
+fn read_plain(algebra: &GeoAlgebra, text: &[u8], at: usize) -> Option<Plain>
+    requires inside { at ≤ length text.now }
+    requires short { length text.now ≤ 2 ^ 28 }
+    ensures { IfSome result (IsPlain algebra.now text.now at) }
+{
+    let first = skip_spaces(text, at);
+    let number = plain_number(
+        &text[first..],
+        Notation::Json,
+        algebra.digits(),
+        algebra.how(),
+    )?;
+    Some(Plain {
+        first,
+        end: first + number.len as usize,
+        number,
+    })
+}
+
+/// A position of two numbers that are written plainly.
+#[inline(always)]
+fn read_pair(algebra: &GeoAlgebra, text: &[u8], base: u32, at: usize) -> Option<Whole>
+    requires fits { base + length text.now ≤ 2 ^ 28 }
+    ensures { IfSome result (IsWhole algebra.now base text.now at) }
+{
+    if !stands(text, at, b'[') {
+        return None;
+    }
+    let x = read_plain(algebra, text, at + 1)?;
+    if !stands(text, x.end, b',') {
+        return None;
+    }
+    let y = read_plain(algebra, text, x.end + 1)?;
+    if !stands(text, y.end, b']') {
+        return None;
+    }
+    Some(Whole {
+        end: y.end + 1,
+        atom: GeoAtom::Position(PositionAtom {
+            at: base + at as u32,
+            least: base + x.first as u32,
+            pos: Pos {
+                x: x.number.value,
+                y: y.number.value,
+            },
+        }),
+    })
+}
+
+/// A number that is written plainly, or another one, or a literal.
+fn read_number(
+    algebra: &GeoAlgebra,
+    alloc: Global,
+    text: &[u8],
+    base: u32,
+    at: usize,
+) -> Result<Whole, Stop>
+    requires inside { at ≤ length text.now }
+    requires fits { base + length text.now ≤ 2 ^ 28 }
+    ensures { IfOk result (IsWhole algebra.now base text.now at) }
+{
+    match plain_number(&text[at..], Notation::Json, algebra.digits(), algebra.how()) {
+        Some(number) => Ok(Whole {
+            end: at + number.len as usize,
+            atom: GeoAtom::Number(NumberAtom {
+                at: base + at as u32,
+                value: number.value,
+            }),
+        }),
+        None => read_run(algebra, alloc, text, base, at),
+    }
+}
+
+/// A literal, or a number however it is written.
+fn read_run(
+    algebra: &GeoAlgebra,
+    alloc: Global,
+    text: &[u8],
+    base: u32,
+    at: usize,
+) -> Result<Whole, Stop>
+    requires inside { at ≤ length text.now }
+    requires fits { base + length text.now ≤ 2 ^ 28 }
+    ensures { IfOk result (IsWhole algebra.now base text.now at) }
+{
+    let taken = take_run(&text[at..]);
+    let end = at + taken.len as usize;
+    if !taken.whole {
+        return Err(Stop::At(end));
+    }
+    let atom = scalar_atom(algebra, alloc, &text[at..end], base + at as u32)?;
+    Ok(Whole { end, atom })
+}
+
+/// A string.
+fn read_string(
+    algebra: &GeoAlgebra,
+    alloc: Global,
+    text: &[u8],
+    base: u32,
+    at: usize,
+) -> Result<Whole, Stop>
+    requires inside { at ≤ length text.now }
+    requires fits { base + length text.now ≤ 2 ^ 28 }
+    ensures { IfOk result (IsWhole algebra.now base text.now at) }
+{
+    let end = text_end(text, at)?;
+    let atom = scalar_atom(algebra, alloc, &text[at..end], base + at as u32)?;
+    Ok(Whole { end, atom })
+}
+
+/// A value in which brackets stand at most so deep.
+#[cycle(values)]
+fn read_value(
+    algebra: &GeoAlgebra,
+    alloc: Global,
+    text: &[u8],
+    base: u32,
+    at: usize,
+    depth: u8,
+) -> Result<Whole, Stop>
+    requires inside { at ≤ length text.now }
+    requires fits { base + length text.now ≤ 2 ^ 28 }
+    ensures { IfOk result (IsWhole algebra.now base text.now at) }
+{
+    if at == text.len() {
+        return Err(Stop::At(at));
+    }
+    match text[at] {
+        b'[' => read_array(algebra, alloc, text, base, at, depth),
+        b'{' => read_object(algebra, alloc, text, base, at, depth),
+        b'"' => read_string(algebra, alloc, text, base, at),
+        b't' | b'f' | b'n' => read_run(algebra, alloc, text, base, at),
+        _ => read_number(algebra, alloc, text, base, at),
+    }
+}
+
+/// A position of two numbers that are written plainly, or a value in which brackets stand at most so deep.
+#[cycle(values)]
+#[inline(always)]
+fn read_any(
+    algebra: &GeoAlgebra,
+    alloc: Global,
+    text: &[u8],
+    base: u32,
+    at: usize,
+    depth: u8,
+) -> Result<Whole, Stop>
+    requires inside { at ≤ length text.now }
+    requires fits { base + length text.now ≤ 2 ^ 28 }
+    ensures { IfOk result (IsWhole algebra.now base text.now at) }
+{
+    match read_pair(algebra, text, base, at) {
+        Some(whole) => Ok(whole),
+        None => read_value(algebra, alloc, text, base, at, depth),
+    }
+}
+
+/// White space, a value and white space.
+#[cycle(values)]
+#[inline(always)]
+fn read_item(
+    algebra: &GeoAlgebra,
+    alloc: Global,
+    text: &[u8],
+    base: u32,
+    at: usize,
+    depth: u8,
+) -> Result<Whole, Stop>
+    requires inside { at ≤ length text.now }
+    requires fits { base + length text.now ≤ 2 ^ 28 }
+    ensures { IfOk result (IsItem algebra.now base text.now at) }
+{
+    let first = skip_spaces(text, at);
+    let Whole { end, atom } = read_any(algebra, alloc, text, base, first, depth)?;
+    let end = skip_spaces(text, end);
+    Ok(Whole { end, atom })
+}
+
+/// An array, of its items, whose closing bracket stands before the place.
+fn ended_array(
+    algebra: &GeoAlgebra,
+    alloc: Global,
+    at: u32,
+    end: usize,
+    items: Vec<GeoAtom>,
+) -> Result<Whole, Stop>
+    requires { All (IsOwn algebra.now) items.items }
+    ensures { IfOk result (EndsArray algebra.now at end items.items) }
+{
+    let atom = array_atom(alloc, algebra, at, items)?;
+    Ok(Whole { end, atom })
+}
+
+/// An array from its opening bracket on, which stands at the place.
+#[cycle(values)]
+fn read_array(
+    algebra: &GeoAlgebra,
+    alloc: Global,
+    text: &[u8],
+    base: u32,
+    at: usize,
+    depth: u8,
+) -> Result<Whole, Stop>
+    requires inside { at < length text.now }
+    requires opens { slice_index text.now at ≡ 0x5B }
+    requires fits { base + length text.now ≤ 2 ^ 28 }
+    ensures { IfOk result (IsWhole algebra.now base text.now at) }
+{
+    if depth == 0 {
+        return Err(Stop::At(at));
+    }
+    let first = skip_spaces(text, at + 1);
+    if stands(text, first, b']') {
+        return Ok(Whole {
+            end: first + 1,
+            atom: GeoAtom::Empty(base + at as u32),
+        });
+    }
+    let mut items = Vec::with_capacity(alloc, ROOM)?;
+    let mut place = at + 1;
+    'items: loop {
+        let Whole { end, atom } = read_item(algebra, alloc, text, base, place, depth - 1)?;
+        items.push(atom)?;
+        if stands(text, end, b']') {
+            return ended_array(algebra, alloc, base + at as u32, end + 1, items);
+        }
+        if !stands(text, end, b',') {
+            return Err(Stop::At(end));
+        }
+        place = end + 1;
+    }
+}
+
+/// An object, of its members, whose closing bracket stands before the place.
+fn ended_object(
+    algebra: &GeoAlgebra,
+    alloc: Global,
+    at: u32,
+    end: usize,
+    members: Vec<Member<GeoAtom>>,
+) -> Result<Whole, Stop>
+    requires { All (λ m. IsOwn algebra.now m.value) members.items }
+    ensures { IfOk result (EndsObject algebra.now at end members.items) }
+{
+    let atom = object_atom(alloc, algebra, at, members)?;
+    Ok(Whole { end, atom })
+}
+
+/// An object from its opening bracket on, which stands at the place.
+#[cycle(values)]
+fn read_object(
+    algebra: &GeoAlgebra,
+    alloc: Global,
+    text: &[u8],
+    base: u32,
+    at: usize,
+    depth: u8,
+) -> Result<Whole, Stop>
+    requires inside { at < length text.now }
+    requires opens { slice_index text.now at ≡ 0x7B }
+    requires fits { base + length text.now ≤ 2 ^ 28 }
+    ensures { IfOk result (IsWhole algebra.now base text.now at) }
+{
+    if depth == 0 {
+        return Err(Stop::At(at));
+    }
+    let first = skip_spaces(text, at + 1);
+    let mut members = Vec::with_capacity(alloc, ROOM)?;
+    if stands(text, first, b'}') {
+        return ended_object(algebra, alloc, base + at as u32, first + 1, members);
+    }
+    let mut place = at + 1;
+    'members: loop {
+        let name = name_place(text, place)?;
+        let units = units(alloc, &text[name.first..name.end])?;
+        let Whole { end, atom } = read_item(algebra, alloc, text, base, name.colon + 1, depth - 1)?;
+        members.push(Member {
+            name: units,
+            name_at: base + name.first as u32,
+            value: atom,
+        })?;
+        if stands(text, end, b'}') {
+            return ended_object(algebra, alloc, base + at as u32, end + 1, members);
+        }
+        if !stands(text, end, b',') {
+            return Err(Stop::At(end));
+        }
+        place = end + 1;
+    }
+}
+
+/// Brackets stand at most so deep in a value that is read at once.
+const DEEPEST: u8 = 12;
+
+/// The array or object that begins the text, whose first byte stands at the offset.
+pub fn whole_value(
+    algebra: &GeoAlgebra,
+    alloc: Global,
+    text: &[u8],
+    base: u32,
+) -> Result<Whole, Stop>
+    requires { base + length text.now ≤ 2 ^ 28 }
+    ensures { IfOk result (IsWhole algebra.now base text.now 0) }
+{
+    if stands(text, 0, b'[') {
+        return read_array(algebra, alloc, text, base, 0, DEEPEST);
+    }
+    if stands(text, 0, b'{') {
+        return read_object(algebra, alloc, text, base, 0, DEEPEST);
+    }
+    Err(Stop::At(0))
+}
