@@ -21,7 +21,7 @@ use Rattle.at_geojson.specs.Names.{items_of}
 use Rattle.at_geojson.specs.Coordinates.{each, number_at, position_of, position_of_numbers, positions_of, lists_of, area_of, areas_of, if_some_items}
 use Rattle.at_geojson.specs.Keeping.{Asked, needs_shapes, kept}
 use Rattle.at_geojson.specs.Atoms.{nowhere, NumberView, PositionView, PointsView, ListsView, as_number, as_position, as_points, as_area, as_areas, Alike, IsNumber, IsPosition, IsPoints, IsLists, IsArea, IsAreas, IsRead}
-use Rattle.at_geojson.specs.Gathering.{seen, firsts, are_all, number_value, number_fault, position_value, position_fault, position_atom, position_made, closes, closes_at, closes_with, to_four, MakesPoints, fault_as_line, fault_as_ring, path_in, MakesLists, area_fault, rings_in, polygon_in, MakesAreas}
+use Rattle.at_geojson.specs.Gathering.{seen, firsts, are_all, number_value, number_fault, position_value, position_fault, position_atom, position_made, closes, closes_at, closes_with, last_atom, to_four, MakesPoints, fault_as_line, fault_as_ring, path_in, MakesLists, area_fault, rings_in, polygon_in, MakesAreas}
 use Rattle.at_geojson.proofs.Firsts.{firsts-cons}
 use Rattle.at_geojson.proofs.Each.{folds_map, none_left, none_behind, Is, EachIs, all_some, some_none, firsts_each, values_each, length_each}
 use Rattle.at_geojson.proofs.SortFacts.{is_number, is_position, is_points, is_area, all_same}
@@ -72,15 +72,11 @@ none_tells (f ∷ fs) = go (first_of fs) where
   go None = refl
   go (Some g) = pick (comes_first f g) g
 
-abbrev last_atom : GeoAtom → List GeoAtom → GeoAtom
-last_atom a [] = a
-last_atom a (b ∷ rest) = last_atom b rest
-
 last_got : (aa : List GeoAtom) (a : GeoAtom) → slice_get (a ∷ aa) (length aa) ≡ Some (last_atom a aa)
 last_got [] a = refl
 last_got (b ∷ rest) a = last_got rest b
 
-closes_is : (a : GeoAtom) (aa : List GeoAtom) → closes (a ∷ aa) ≡ closes_with a (last_atom a aa)
+pub closes_is : (a : GeoAtom) (aa : List GeoAtom) → closes (a ∷ aa) ≡ closes_with a (last_atom a aa)
 closes_is a aa = let e : length (a ∷ aa) - 1 ≡ length aa = omega arith in ap (λ k. closes_at (Some a) (slice_get (a ∷ aa) k)) e ∙ ap (closes_at (Some a)) (last_got aa a)
 
 -- a list that is kept, of lists that are

@@ -21,3 +21,4 @@ pub mod Tiers
 pub mod Roots
 pub mod SimpleTexts
 pub mod ValueParts
+pub mod RowFolds

@@ -25,13 +25,14 @@ use Rattle.at_geojson.specs.declared.atoms.GeoAtom.{GeoAtom}
 use Rattle.at_geojson.specs.declared.atoms.GeoAtom.TheVariants as atoms
 use Rattle.at_geojson.specs.declared.atoms.NumberAtom.{NumberAtom}
 use Rattle.at_geojson.specs.declared.places.NamePlace.{NamePlace}
-use Rattle.at_geojson.specs.declared.values.Whole.{Whole}
-use Rattle.at_geojson.specs.declared.values.Plain.{Plain}
+use Rattle.at_geojson.specs.declared.pairs.Whole.{Whole}
+use Rattle.at_geojson.specs.declared.pairs.Plain.{Plain}
+use Rattle.at_geojson.specs.declared.pairs.PairRead.{PairRead}
 use Rattle.at_geojson.specs.Keeping.{Asked}
 use Rattle.at_geojson.specs.Atoms.{IsOwn, IsFold}
 use Rattle.at_geojson.specs.Gathering.{least_of, pair_atom}
 use Rattle.at_geojson.specs.Places.{IsTextAt, IsNameAt}
-use Rattle.at_geojson.specs.Values.{IsPlain, IsWhole, IsItem, AreItemsRead, AreMembersRead, EndsArray, EndsObject}
+use Rattle.at_geojson.specs.Values.{IsPlain, IsPair, IsSpacedPair, IsWhole, IsItem, AreItemsRead, AreMembersRead, EndsArray, EndsObject}
 use Rattle.at_geojson.proofs.ScalarFolds.{number_found, number_folds, own_number}
 use Rattle.at_geojson.proofs.OwnFolds.{pair_own}
 use Rattle.at_geojson.proofs.ArrayAnswers.{numbers_fold, empty_folds}
@@ -107,9 +108,6 @@ name_text w at n h = subst JsonString (sym (slice_part w n.first n.end (omega (a
 pub name_units : (w : List ℕ) (at : ℕ) (n : NamePlace) (units : List ℕ) → IsNameAt w at n → AreUnitsOf (take (n.end - n.first) (drop n.first w)) units → AreUnitsOf (part w n.first n.end) units
 name_units w at n units h u = subst (λ z. AreUnitsOf z units) (slice_part w n.first n.end (omega (arith, h.text.0))) u
 
-no_spaces : (w : List ℕ) (at : ℕ) → AreSpaces (part w at at)
-no_spaces w at = subst AreSpaces (front_part w at 0 ∙ ap (part w at) (let e : at + 0 ≡ at = omega arith in e)) tt
-
 -- ---- scalars
 
 module _ (asked : Asked) (base : ℕ) (w : List ℕ) where
@@ -153,30 +151,46 @@ module _ (asked : Asked) (base : ℕ) (w : List ℕ) where
 
   pub pair_read : (at : ℕ) (x y : Plain) (left right : ℤ) → left ≡ x.number.value → right ≡ y.number.value → at < length w → slice_index w at ≡ 0x5B → IsPlain asked w (at + 1) x → x.end < length w → slice_index w x.end ≡ 0x2C
       → IsPlain asked w (x.end + 1) y → y.end < length w → slice_index w y.end ≡ 0x5D
-      → IsWhole asked base w at (record { end = y.end + 1; atom = atoms.Position (record { at = base + at; least = base + x.first; pos = record { x = left; y = right } }) })
+      → IsPair asked base w at (record { end = y.end + 1; pair = record { at = base + at; least = base + x.first; pos = record { x = left; y = right } } })
   pair_read at x y left right el er inside opens px ix comma py iy closes =
-      let nx = valued x.first x.end left x.number.value el px.number px.value in
-      let ny = valued y.first y.end right y.number.value er py.number py.value in
+      let nx = valued x.first x.last left x.number.value el px.number px.value in
+      let ny = valued y.first y.last right y.number.value er py.number py.value in
       let a : NumberAtom = record { at = base + x.first; value = left } in
       let b : NumberAtom = record { at = base + y.first; value = right } in
       let items : List GeoAtom = atoms.Number a ∷ atoms.Number b ∷ [] in
       let tx = number (base + x.first) nx.numeral in let ty = number (base + y.first) ny.numeral in
       let r : GeoAtom = atoms.Position (record { at = base + at; least = base + x.first; pos = record { x = left; y = right } }) in
       let l1 : a.at ≤ a.at = omega arith in
-      let l2 : a.at ≤ b.at = omega (arith, px.order, py.before) in
+      let l2 : a.at ≤ b.at = omega (arith, px.order, px.behind, py.before) in
       let least : least_of items ≡ base + x.first = ap (λ z. min z b.at) (min-eq_left l1) ∙ min-eq_left l2 in
       let made : pair_atom (base + at) (least_of items) items ≡ Some r = ap (λ n. Some (atoms.Position (record { at = base + at; least = n; pos = record { x = left; y = right } }))) least in
-      let one : IsPadded (λ j v. Spells j v tx) base w (at + 1) x.end = record { first = x.first; last = x.end; before = px.before; order = omega (arith, px.order); behind = omega arith; spaces = px.spaces; is_part = nx.spells; more_spaces = no_spaces w x.end } in
-      let two : IsPadded (λ j v. Spells j v ty) base w (x.end + 1) y.end = record { first = y.first; last = y.end; before = py.before; order = omega (arith, py.order); behind = omega arith; spaces = py.spaces; is_part = ny.spells; more_spaces = no_spaces w y.end } in
-      let first = items_on base w at (at + 1) x.end [] tx (omega arith) (omega (arith, px.before, px.order)) ix comma (items_none base w at inside) one in
+      let one : IsPadded (λ j v. Spells j v tx) base w (at + 1) x.end = record { first = x.first; last = x.last; before = px.before; order = omega (arith, px.order); behind = px.behind; spaces = px.spaces; is_part = nx.spells; more_spaces = px.more_spaces } in
+      let two : IsPadded (λ j v. Spells j v ty) base w (x.end + 1) y.end = record { first = y.first; last = y.last; before = py.before; order = omega (arith, py.order); behind = py.behind; spaces = py.spaces; is_part = ny.spells; more_spaces = py.more_spaces } in
+      let first = items_on base w at (at + 1) x.end [] tx (omega arith) (omega (arith, px.before, px.order, px.behind)) ix comma (items_none base w at inside) one in
       record {
-        order = omega (arith, px.before, px.order, py.before, py.order);
+        order = omega (arith, px.before, px.order, px.behind, py.before, py.order, py.behind);
         within = omega (arith, iy);
+        at_is = refl;
         own = pair_own asked (base + at) (least_of items) items r (All-cons (IsOwn asked) (atoms.Number a) (atoms.Number b ∷ []) (own_number asked a nx.numeral nx.value) (All-cons (IsOwn asked) (atoms.Number b) [] (own_number asked b ny.numeral ny.value) (All-nil (IsOwn asked)))) made;
         tree = array (base + at) (items_of (tx ∷ ty ∷ []));
-        spells = items_end base w at (x.end + 1) y.end (tx ∷ []) ty (omega (arith, px.before, px.order)) (omega (arith, py.before, py.order)) iy opens closes first two;
+        spells = items_end base w at (x.end + 1) y.end (tx ∷ []) ty (omega (arith, px.before, px.order, px.behind)) (omega (arith, py.before, py.order, py.behind)) iy opens closes first two;
         fold = numbers_fold asked (base + at) items (λ e. cc) refl r refl (inl made) (items_of (tx ∷ ty ∷ [])) (number_folds asked a nx.numeral nx.value, (number_folds asked b ny.numeral ny.value, tt));
       }
+
+  pub pair_whole : (at : ℕ) (p : PairRead) → IsPair asked base w at p → IsWhole asked base w at (record { end = p.end; atom = atoms.Position p.pair })
+  pair_whole at p h = record { order = h.order; within = h.within; own = h.own; tree = h.tree; spells = h.spells; fold = h.fold }
+
+  pub pair_spaced : (at first end : ℕ) (p : PairRead) → at ≤ first → AreSpaces (part w at first) → IsPair asked base w first p → p.end ≤ end → end ≤ length w → AreSpaces (part w p.end end) → IsSpacedPair asked base w at (record { end = end; pair = p.pair })
+  pair_spaced at first end p h spaces pair k fits more = record {
+    order = omega (arith, h, pair.order, k);
+    within = fits;
+    begins = omega (arith, h, pair.at_is);
+    ends = omega (arith, pair.at_is, pair.order, k);
+    own = pair.own;
+    tree = pair.tree;
+    spells = record { first = first; last = p.end; before = h; order = omega (arith, pair.order); behind = k; spaces = spaces; is_part = pair.spells; more_spaces = more };
+    fold = pair.fold;
+  }
 
   -- ---- values with white space round them
 
@@ -192,7 +206,7 @@ module _ (asked : Asked) (base : ℕ) (w : List ℕ) where
 
   -- ---- arrays
 
-  folds_last : (xs : List GeoAtom) (x : GeoAtom) (done : List Tree) (t : Tree) → AreFolds (IsFold asked) xs (items_of done) → IsFold asked x t → AreFolds (IsFold asked) (xs ++ x ∷ []) (items_of (done ++ t ∷ []))
+  pub folds_last : (xs : List GeoAtom) (x : GeoAtom) (done : List Tree) (t : Tree) → AreFolds (IsFold asked) xs (items_of done) → IsFold asked x t → AreFolds (IsFold asked) (xs ++ x ∷ []) (items_of (done ++ t ∷ []))
   folds_last [] x [] t h k = (k, tt)
   folds_last (y ∷ xs) x (u ∷ done) t h k = (h.0, folds_last xs x done t h.1 k)
   folds_last [] x (u ∷ done) t h k = absurd h

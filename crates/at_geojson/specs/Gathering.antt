@@ -134,6 +134,10 @@ closes_at _ _ = true
 abbrev pub closes : List GeoAtom → Bool
 closes items = closes_at (slice_get items 0) (slice_get items (length items - 1))
 
+abbrev pub last_atom : GeoAtom → List GeoAtom → GeoAtom
+last_atom a [] = a
+last_atom a (b ∷ rest) = last_atom b rest
+
 abbrev pub to_four : ℕ → ℕ
 to_four n = if nat_lt n 4 then n else 4
 

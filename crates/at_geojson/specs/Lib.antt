@@ -11,3 +11,4 @@ pub mod Copies
 pub mod Wholes
 pub mod Places
 pub mod Values
+pub mod Rows

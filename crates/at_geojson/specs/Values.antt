@@ -9,19 +9,23 @@ use Rattle.at_nest.specs.Tree.{Tree, Trees, Members, array, object, Spells}
 use Rattle.at_nest.specs.Folds.{AreFolds, AreMemberFolds}
 use Rattle.at_nest.specs.Passing.{IsPadded, ItemsBefore, Named, MembersBefore, items_of, members_of}
 use Rattle.at_geojson.specs.declared.atoms.GeoAtom.{GeoAtom}
-use Rattle.at_geojson.specs.declared.values.Whole.{Whole}
-use Rattle.at_geojson.specs.declared.values.Plain.{Plain}
+use Rattle.at_geojson.specs.declared.atoms.GeoAtom.TheVariants as atoms
+use Rattle.at_geojson.specs.declared.pairs.Whole.{Whole}
+use Rattle.at_geojson.specs.declared.pairs.Plain.{Plain}
+use Rattle.at_geojson.specs.declared.pairs.PairRead.{PairRead}
 use Rattle.at_geojson.specs.Keeping.{Asked}
 use Rattle.at_geojson.specs.Atoms.{IsOwn, IsFold}
 
--- white space and a number that has a value
+-- white space, a number that has a value, and white space
 pub record IsPlain (asked : Asked) (w : List ℕ) (at : ℕ) (p : Plain) : Type 0 where
   pub before : at ≤ p.first
   pub spaces : AreSpaces (part w at p.first)
-  pub order : p.first < p.end
+  pub order : p.first < p.last
+  pub behind : p.last ≤ p.end
+  pub more_spaces : AreSpaces (part w p.last p.end)
   pub within : p.end ≤ length w
-  pub number : JsonNumber (part w p.first p.end)
-  pub value : IsFixedOf (part w p.first p.end) asked.digits asked.how (Ok p.number.value)
+  pub number : JsonNumber (part w p.first p.last)
+  pub value : IsFixedOf (part w p.first p.last) asked.digits asked.how (Ok p.number.value)
 
 -- a value from the place on: the bytes spell a tree for which the atom stands
 pub record IsWhole (asked : Asked) (base : ℕ) (w : List ℕ) (at : ℕ) (p : Whole) : Type 0 where
@@ -31,6 +35,27 @@ pub record IsWhole (asked : Asked) (base : ℕ) (w : List ℕ) (at : ℕ) (p : W
   pub tree : Tree
   pub spells : Spells (base + at) (part w at p.end) tree
   pub fold : IsFold asked p.atom tree
+
+-- a position from the place on
+pub record IsPair (asked : Asked) (base : ℕ) (w : List ℕ) (at : ℕ) (p : PairRead) : Type 0 where
+  pub order : at < p.end
+  pub within : p.end ≤ length w
+  pub at_is : p.pair.at ≡ base + at
+  pub own : IsOwn asked (atoms.Position p.pair)
+  pub tree : Tree
+  pub spells : Spells (base + at) (part w at p.end) tree
+  pub fold : IsFold asked (atoms.Position p.pair) tree
+
+-- white space, a position, white space
+pub record IsSpacedPair (asked : Asked) (base : ℕ) (w : List ℕ) (at : ℕ) (p : PairRead) : Type 0 where
+  pub order : at < p.end
+  pub within : p.end ≤ length w
+  pub begins : base + at ≤ p.pair.at
+  pub ends : p.pair.at < base + p.end
+  pub own : IsOwn asked (atoms.Position p.pair)
+  pub tree : Tree
+  pub spells : IsPadded (λ j v. Spells j v tree) base w at p.end
+  pub fold : IsFold asked (atoms.Position p.pair) tree
 
 -- white space, a value, white space
 pub record IsItem (asked : Asked) (base : ℕ) (w : List ℕ) (at : ℕ) (p : Whole) : Type 0 where

@@ -101,7 +101,7 @@ fn path_of(alloc: Global, atoms: &[GeoAtom]) -> Result<Vec<Pos>, Memory>
 }
 
 /// Whether two positions are the same, or one of them has a fault, so that this isn't tested.
-fn same_or_faulty(
+pub fn same_or_faulty(
     first_fault: Option<Fault>,
     first: Pos,
     last_fault: Option<Fault>,

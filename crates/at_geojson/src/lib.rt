@@ -11,6 +11,7 @@ mod lists;
 mod members;
 mod object_atoms;
 mod objects;
+mod pairs;
 mod places;
 mod readings;
 mod root;

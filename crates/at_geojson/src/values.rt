@@ -1,89 +1,23 @@
 //! Whole values of a text, read at once by descent: the same atoms as of the same values read item by item.
 
-ghost use Rattle.std.specs.Prelude.{◌≡◌, ◌+◌, ◌<◌, ◌≤◌, ◌^◌, length, slice_index, All, IfOk, IfSome};
+ghost use Rattle.std.specs.Prelude.{◌≡◌, ◌+◌, ◌<◌, ◌≤◌, ◌^◌, length, slice_index, All, IfOk};
 ghost use Rattle.at_geojson.specs.Atoms.{IsOwn};
-ghost use Rattle.at_geojson.specs.Values.{IsWhole, IsPlain, IsItem, AreItemsRead, AreMembersRead, EndsArray, EndsObject};
+ghost use Rattle.at_geojson.specs.Values.{IsWhole, IsItem, AreItemsRead, AreMembersRead, EndsArray, EndsObject};
 
 use crate::asked::GeoAlgebra;
-use crate::atoms::{GeoAtom, NumberAtom, PositionAtom};
+use crate::atoms::{GeoAtom, NumberAtom};
 use crate::lists::array_atom;
 use crate::object_atoms::object_atom;
+use crate::pairs::{PairRead, Whole, read_pair, read_points};
 use crate::places::{Stop, name_place, skip_spaces, stands, text_end};
 use crate::scalars::scalar_atom;
-use at_fixed::{Notation, PlainNumber, plain_number};
-use at_geom::Pos;
+use at_fixed::{Notation, plain_number};
 use at_lex::{take_run, units};
 use at_nest::Member;
 use std::alloc::Global;
 
-/// A value that was read: the place behind it, and its atom.
-#[derive(Drop)]
-pub struct Whole {
-    pub end: usize,
-    pub atom: GeoAtom,
-}
-
-/// A number that is written plainly: the place of its first byte and the one behind it.
-#[derive(Clone, Copy)]
-pub struct Plain {
-    pub first: usize,
-    pub end: usize,
-    pub number: PlainNumber,
-}
-
 /// Room that a list of items or members is given at first.
 const ROOM: usize = 8;
-
-/// White space and a number that is written plainly.
-#[inline(always)]
-fn read_plain(algebra: &GeoAlgebra, text: &[u8], at: usize) -> Option<Plain>
-    requires inside { at ≤ length text.now }
-    requires short { length text.now ≤ 2 ^ 28 }
-    ensures { IfSome result (IsPlain algebra.now text.now at) }
-{
-    let first = skip_spaces(text, at);
-    let number = plain_number(
-        &text[first..],
-        Notation::Json,
-        algebra.digits(),
-        algebra.how(),
-    )?;
-    Some(Plain {
-        first,
-        end: first + number.len as usize,
-        number,
-    })
-}
-
-/// A position of two numbers that are written plainly.
-#[inline(always)]
-fn read_pair(algebra: &GeoAlgebra, text: &[u8], base: u32, at: usize) -> Option<Whole>
-    requires fits { base + length text.now ≤ 2 ^ 28 }
-    ensures { IfSome result (IsWhole algebra.now base text.now at) }
-{
-    if !stands(text, at, b'[') {
-        return None;
-    }
-    let x = read_plain(algebra, text, at + 1)?;
-    if !stands(text, x.end, b',') {
-        return None;
-    }
-    let y = read_plain(algebra, text, x.end + 1)?;
-    if !stands(text, y.end, b']') {
-        return None;
-    }
-    Some(Whole {
-        end: y.end + 1,
-        atom: GeoAtom::Position(PositionAtom {
-            at: base + at as u32,
-            least: base + x.first as u32,
-            pos: Pos {
-                x: x.number.value,
-                y: y.number.value,
-            },
-        }),
-    })
-}
 
 /// A number that is written plainly, or another one, or a literal.
 fn read_number(
@@ -165,7 +99,7 @@ fn read_value(
         return Err(Stop::At(at));
     }
     match text[at] {
-        b'[' => read_array(algebra, alloc, text, base, at, depth),
+        b'[' => read_list(algebra, alloc, text, base, at, depth),
         b'{' => read_object(algebra, alloc, text, base, at, depth),
         b'"' => read_string(algebra, alloc, text, base, at),
         b't' | b'f' | b'n' => read_run(algebra, alloc, text, base, at),
@@ -189,7 +123,10 @@ fn read_any(
     ensures { IfOk result (IsWhole algebra.now base text.now at) }
 {
     match read_pair(algebra, text, base, at) {
-        Some(whole) => Ok(whole),
+        Some(PairRead { end, pair }) => Ok(Whole {
+            end,
+            atom: GeoAtom::Position(pair),
+        }),
         None => read_value(algebra, alloc, text, base, at, depth),
     }
 }
@@ -270,6 +207,28 @@ fn read_array(
     }
 }
 
+/// A list of positions of two numbers that are written plainly, or another array, which stands at the place.
+#[cycle(values)]
+fn read_list(
+    algebra: &GeoAlgebra,
+    alloc: Global,
+    text: &[u8],
+    base: u32,
+    at: usize,
+    depth: u8,
+) -> Result<Whole, Stop>
+    requires inside { at < length text.now }
+    requires opens { slice_index text.now at ≡ 0x5B }
+    requires fits { base + length text.now ≤ 2 ^ 28 }
+    ensures { IfOk result (IsWhole algebra.now base text.now at) }
+{
+    match read_points(algebra, alloc, text, base, at) {
+        Ok(whole) => Ok(whole),
+        Err(Stop::Memory) => Err(Stop::Memory),
+        Err(Stop::At(_)) => read_array(algebra, alloc, text, base, at, depth),
+    }
+}
+
 /// An object, of its members, whose closing bracket stands before the place.
 fn ended_object(
     algebra: &GeoAlgebra,
@@ -342,7 +301,7 @@ pub fn whole_value(
     ensures { IfOk result (IsWhole algebra.now base text.now 0) }
 {
     if stands(text, 0, b'[') {
-        return read_array(algebra, alloc, text, base, 0, DEEPEST);
+        return read_list(algebra, alloc, text, base, 0, DEEPEST);
     }
     if stands(text, 0, b'{') {
         return read_object(algebra, alloc, text, base, 0, DEEPEST);

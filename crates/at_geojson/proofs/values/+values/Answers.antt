@@ -5,7 +5,7 @@ use Rattle.at_nest.specs.declared.algebra.Member.{Member}
 use Rattle.at_geojson.specs.declared.atoms.GeoAtom.{GeoAtom}
 use Rattle.at_geojson.specs.Atoms.{IsOwn}
 use Rattle.at_geojson.specs.Values.{AreItemsRead, AreMembersRead, EndsArray, EndsObject}
-use Rattle.at_geojson.proofs.ValueParts.{items_begin, items_go_on, items_own, array_read, empty_read, name_text, name_units, members_begin, members_go_on, members_own, object_read, void_read}
+use Rattle.at_geojson.proofs.ValueParts.{pair_whole, items_begin, items_go_on, items_own, array_read, empty_read, name_text, name_units, members_begin, members_go_on, members_own, object_read, void_read}
 use Rattle.at_geojson.proofs.values.+values.Goals as goal
 
 pub read_array-returns-then-stands : goal.read_array-returns-then-stands
@@ -65,3 +65,6 @@ read_object-members-preserved t c =
           (members_go_on c.args.algebra.now c.args.base c.args.text.now c.args.at c.members.place c.members.members.items c.in_ok-name.name c.in_ok-units.units c.in_ok-end.field-0 c.members.invariant.order c.members.invariant.read c.in_ok-name.ensures
           (name_units c.args.text.now c.members.place c.in_ok-name.name c.in_ok-units.units c.in_ok-name.ensures c.in_ok-units.ensures) c.in_ok-end.ensures inside (c.stands-in-members-2.ensures.byte here));
     }
+
+pub read_any-returns-in-Some : goal.read_any-returns-in-Some
+read_any-returns-in-Some t c = pair_whole c.args.algebra.now c.args.base c.args.text.now c.args.at c.in-Some.field-0 c.in-Some.ensures

@@ -1,7 +1,7 @@
 -- A number behind white space.
 use Rattle.std.proofs.Common.{true, refl}
 use Rattle.at_geojson.proofs.ValueParts.{number_taken, value_taken}
-use Rattle.at_geojson.proofs.values.read_plain.Goals as goal
+use Rattle.at_geojson.proofs.pairs.read_plain.Goals as goal
 
 pub returns : goal.returns
 returns c =
@@ -11,7 +11,9 @@ returns c =
       before = c.skip_spaces-first.ensures.order;
       spaces = c.skip_spaces-first.ensures.spaces;
       order = t.order;
-      within = t.within;
+      behind = c.skip_spaces.ensures.order;
+      more_spaces = c.skip_spaces.ensures.spaces;
+      within = c.skip_spaces.ensures.within;
       number = t.word;
       value = value_taken w first number.len c.digits.result c.how.result c.args.algebra.now number.value c.digits.ensures c.how.ensures c.in_ok-number.ensures.value;
     }

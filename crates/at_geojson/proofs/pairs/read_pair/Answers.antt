@@ -3,7 +3,7 @@ use Rattle.std.proofs.Common.{rules, w64}
 use Rattle.std.specs.Prelude.{FitsSigned}
 use Rattle.std.proofs.lemmas.Int.{to_z-of_z}
 use Rattle.at_geojson.proofs.ValueParts.{pair_read}
-use Rattle.at_geojson.proofs.values.read_pair.Goals as goal
+use Rattle.at_geojson.proofs.pairs.read_pair.Goals as goal
 
 pub returns : goal.returns
 returns c =

@@ -1,0 +1,54 @@
+-- Positions that were read one behind another. Only contracts of private functions cite this.
+use Rattle.std.specs.Prelude.{◌≡◌, ℕ, ◌+◌, ◌<◌, ◌≤◌, Bool, List, [], ◌∷◌, ◌++◌, All, map, length}
+use Rattle.std.specs.Bool.{⊤}
+use Rattle.at_nest.specs.Tree.{Tree, Spells}
+use Rattle.at_nest.specs.Folds.{AreFolds}
+use Rattle.at_nest.specs.Passing.{IsPadded, ItemsBefore, items_of}
+use Rattle.at_geojson.specs.declared.atoms.GeoAtom.{GeoAtom}
+use Rattle.at_geojson.specs.declared.atoms.GeoAtom.TheVariants as atoms
+use Rattle.at_geojson.specs.declared.atoms.PositionAtom.{PositionAtom}
+use Rattle.at_geojson.specs.declared.pairs.Row.{Row}
+use Rattle.at_geojson.specs.declared.pairs.Whole.{Whole}
+use Rattle.at_geojson.specs.Keeping.{Asked, kept, needs_shapes}
+use Rattle.at_geojson.specs.Atoms.{IsOwn, IsFold}
+use Rattle.at_geojson.specs.Gathering.{last_atom, position_value, to_four, MakesPoints}
+
+-- positions that have values, at the offset or behind it
+abbrev pub AreNext : ℕ → List GeoAtom → Type 0
+AreNext from [] = ⊤
+AreNext from (a ∷ rest) = (p : PositionAtom) × (a ≡ atoms.Position p) × (from ≤ p.at) × AreNext from rest
+
+-- the row is of its first position and the rest
+pub record IsRow (needs : Bool) (row : Row) (rest : List GeoAtom) : Type 0 where
+  pub next : AreNext row.first.at rest
+  pub path : row.path.items ≡ kept needs (map position_value (atoms.Position row.first ∷ rest))
+  pub count : row.count ≡ to_four (length (atoms.Position row.first ∷ rest))
+  pub last : row.last ≡ position_value (last_atom (atoms.Position row.first) rest)
+
+-- one more position, which stands behind the first
+pub record LengthensRow (needs : Bool) (row : Row) (last : PositionAtom) (longer : Row) : Type 0 where
+  pub first : longer.first ≡ row.first
+  pub more : (rest : List GeoAtom) → IsRow needs row rest → row.first.at ≤ last.at → IsRow needs longer (rest ++ atoms.Position last ∷ [])
+
+abbrev pub EndsRow : Bool → ℕ → Row → GeoAtom → Type 0
+EndsRow needs at row a = (rest : List GeoAtom) → IsRow needs row rest → MakesPoints needs at row.first.at (atoms.Position row.first ∷ rest) a
+
+-- the atom of the row's positions, and the place behind the bracket
+pub record EndsPoints (asked : Asked) (at end : ℕ) (row : Row) (p : Whole) : Type 0 where
+  pub behind : p.end ≡ end
+  pub made : EndsRow (needs_shapes asked.query) at row p.atom
+
+-- the positions from the bracket up to the place, behind the last of them, are the row's
+pub record ArePointsRead (asked : Asked) (base : ℕ) (w : List ℕ) (at end : ℕ) (row : Row) : Type 0 where
+  pub rest : List GeoAtom
+  pub is_row : IsRow (needs_shapes asked.query) row rest
+  pub own : All (IsOwn asked) (atoms.Position row.first ∷ rest)
+  pub begins : row.first.at < base + end
+  pub place : ℕ
+  pub order : at < place
+  pub behind : place ≤ end
+  pub done : List Tree
+  pub last : Tree
+  pub before : ItemsBefore base w at place done
+  pub spells : IsPadded (λ j v. Spells j v last) base w place end
+  pub folds : AreFolds (IsFold asked) (atoms.Position row.first ∷ rest) (items_of (done ++ last ∷ []))
