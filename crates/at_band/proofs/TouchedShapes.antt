@@ -12,14 +12,13 @@ use Rattle.at_geom.specs.Regions.{IsOnRing, is_odd_for, IsNotInHole}
 use Rattle.at_geom.proofs.Found.{TouchesBox, touches}
 use Rattle.at_geom.specs.Shapes.{extent_of, MeetsSome, SomeMeet, IsInSome, SomeIsIn, Meet, segments, segments_of_points, segments_of_polygons, positions, joined, positions_of_polygons}
 use Rattle.at_geom.proofs.Elements.{some_left, some_right, some_of_parts, first_of_three, second_of_three, third_of_three}
-use Rattle.at_band.specs.declared.bands.Band.{Band}
-use Rattle.at_band.specs.Thinned.{spans, thinned_shape}
+use Rattle.at_band.specs.declared.zones.Band.{Band}
+use Rattle.at_band.specs.Thinned.{spans}
 use Rattle.at_band.specs.Banded.{IsAt, IsBandOf, IsOfPoints}
 use Rattle.at_band.specs.Touched.{IsOnRings, IsOnPolygon, IsOnShape, SomeIsOn}
 use Rattle.at_band.proofs.Filtered.{same_some}
-use Rattle.at_band.proofs.ThinnedEdges.{thinned_segments}
 use Rattle.at_band.proofs.ThinnedRegions.{IsLevel, on_spans}
-use Rattle.at_band.proofs.BandsOf.{level_of, in_band_part, in_band_whole}
+use Rattle.at_band.proofs.BandsOf.{level_of}
 
 -- ---- polygons
 
@@ -77,17 +76,15 @@ by_parts p s f g (inl h) =
 on_level : (low high : ℤ) (p : Pos) → IsLevel low high p → (e : Pos × Pos) → HaveCommonPoint p p e.0 e.1 → spans low high e ≡ true
 on_level low high p v e h = on_spans low high p v e h
 
-pub on_band_part : (s : Shape) (band : Band) (p : Pos) → IsBandOf s band → IsAt p.y band → IsOnShape p s → IsOnShape p band.part
-on_band_part s band p h k (inr m) = inr (in_band_part s band p h k m)
+pub on_band_part : (s : Shape) (band : Band) (p : Pos) → IsBandOf s band → IsAt p.y band.heights → IsOnShape p s → IsOnShape p band.part
+on_band_part s band p h k (inr m) = inr (h.in_part p k m)
 on_band_part s band p h k (inl m) =
-    inl (subst (λ (u : Shape). MeetsSome p p (segments u)) (sym h.1)
-    (same_some (λ (f : Pos × Pos). HaveCommonPoint p p f.0 f.1) (spans band.heights.low band.heights.high) (on_level band.heights.low band.heights.high p (level_of p band k)) (segments s) (segments (thinned_shape band.heights.low band.heights.high s)) (sym (thinned_segments band.heights.low band.heights.high h.0 s)) m))
+    inl (same_some (λ (f : Pos × Pos). HaveCommonPoint p p f.0 f.1) (spans band.heights.low band.heights.high) (on_level band.heights.low band.heights.high p (level_of p band k)) (segments s) (segments band.part) (sym h.same_edges) m)
 
-pub on_band_whole : (s : Shape) (band : Band) (p : Pos) → IsBandOf s band → IsAt p.y band → IsOnShape p band.part → IsOnShape p s
-on_band_whole s band p h k (inr m) = inr (in_band_whole s band p h k m)
+pub on_band_whole : (s : Shape) (band : Band) (p : Pos) → IsBandOf s band → IsAt p.y band.heights → IsOnShape p band.part → IsOnShape p s
+on_band_whole s band p h k (inr m) = inr (h.in_whole p k m)
 on_band_whole s band p h k (inl m) =
-    inl (same_some (λ (f : Pos × Pos). HaveCommonPoint p p f.0 f.1) (spans band.heights.low band.heights.high) (on_level band.heights.low band.heights.high p (level_of p band k)) (segments (thinned_shape band.heights.low band.heights.high s)) (segments s) (thinned_segments band.heights.low band.heights.high h.0 s)
-    (subst (λ (u : Shape). MeetsSome p p (segments u)) h.1 m))
+    inl (same_some (λ (f : Pos × Pos). HaveCommonPoint p p f.0 f.1) (spans band.heights.low band.heights.high) (on_level band.heights.low band.heights.high p (level_of p band k)) (segments band.part) (segments s) h.same_edges m)
 
 -- ---- a shape of points
 
@@ -107,7 +104,7 @@ some_in_on [] s h = absurd h
 some_in_on (p ∷ ps) s (inl h) = inl (inr h)
 some_in_on (p ∷ ps) s (inr h) = inr (some_in_on ps s h)
 
-nothing_in_none : (ps : List Pos) → SomeIsIn ps [] → ⊥
+pub nothing_in_none : (ps : List Pos) → SomeIsIn ps [] → ⊥
 nothing_in_none [] h = h
 nothing_in_none (p ∷ ps) (inl h) = h
 nothing_in_none (p ∷ ps) (inr h) = nothing_in_none ps h

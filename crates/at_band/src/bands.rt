@@ -1,33 +1,34 @@
 //! The bands of a shape, and what meets the shape.
+//!
+//! A shape's heights are cut into zones, and each zone's into bands, at most 64 at a time, so there are at most 4,096
+//! bands. Each keeps the edges that reach into it, and a position is tested against these alone.
+//!
+//! Let a shape have n segments, of which m lie at a height on the average. There are no more bands than positions for
+//! four to each, and at each cut no more than together hold some three times as many segments as are cut. So a band has
+//! about m + n / 4,096 segments, or m + 4 where that is more, and some 2 m at most where segments are so long that many
+//! bands would hold each. To make the bands takes at most 64 passes over the shape, and 64 over what the zones hold.
+//! The bands hold about n segments where m is small, and some nine times n at worst. In a comb, whose teeth have all
+//! heights, m is n: it stays whole, in one band, and a position costs a pass over it.
 
-ghost use Rattle.std.specs.Prelude.{◌≡◌, IsTrue, ◌↔◌, ◌≤ℤ◌, ◌<ℤ◌, IfOk, IfSome, All, Some, None};
+ghost use Rattle.std.specs.Prelude.{◌≡◌, IsTrue, ◌↔◌, ◌≤ℤ◌, IfOk, IfSome, All, Some, None};
 ghost use Rattle.at_text.specs.Lists.{SomeOf};
 ghost use Rattle.at_geom.specs.declared.positions.Pos.{Pos};
 ghost use Rattle.at_geom.specs.Segments.{IsInRange};
-ghost use Rattle.at_geom.specs.Shapes.{IsShapeInRange, IsInSome, MeetsSome, Meet, segments, positions, extent_of, is_within};
-ghost use Rattle.at_band.specs.Banded.{IsAt, IsBandOf, AreCovering, AreBandsOf, IsOfPoints, MeetsSomeWithin, IsMetIn};
+ghost use Rattle.at_geom.specs.Shapes.{IsShapeInRange, IsInSome, SomeIsIn, MeetsSome, Meet, segments, positions, extent_of};
+ghost use Rattle.at_band.specs.Banded.{IsAt, IsBandOf, IsZoneOf, AreZonesOf, IsOfPoints, MeetsSomeWithin, IsMetIn, IsMetInZone};
 ghost use Rattle.at_band.specs.Touched.{IsOnShape, SomeIsOn};
 
 use crate::copies::copied_shape;
 use crate::found::part_is_met;
 use crate::meetings::segments_meet_kept;
 use crate::positions::positions_are_in;
-use crate::thinning::{Heights, shape_within, spans};
+use crate::thinning::{Heights, spans};
 use crate::touches::shape_is_touched;
+use crate::zones::{Band, Zone, heights_of, zones_of};
 use at_geom::{Extent, Pos, Shape, are_closed, extent, is_in_any, reach, shape_reaches};
 use at_text::Memory;
 use std::alloc::Global;
 use std::marker::Model;
-
-/// How many bands there are.
-const COUNT: u64 = 64;
-
-/// What of a shape reaches into some heights.
-#[derive(Drop)]
-pub(crate) struct Band {
-    pub heights: Heights,
-    pub part: Shape,
-}
 
 /// Where a shape lies.
 #[derive(Clone, Copy)]
@@ -38,12 +39,12 @@ pub(crate) struct Frame {
     pub reach: Option<Extent>,
 }
 
-/// A shape, with what of it reaches into each of 64 bands of its heights.
+/// A shape, with what of it reaches into each band of its heights.
 #[derive(Drop)]
 pub struct Bands {
     shape: Shape,
     frame: Option<Frame>,
-    bands: Vec<Band>,
+    zones: Vec<Zone>,
 }
 
 impl Model for Bands {
@@ -54,7 +55,7 @@ impl Model for Bands {
 
     ghost view = { λ b. b.shape };
 
-    ghost invariant = { λ b. AreKept b.shape b.frame b.bands.items };
+    ghost invariant = { λ b. AreKept b.shape b.frame b.zones.items };
 }
 
 impl Bands {
@@ -70,10 +71,10 @@ impl Bands {
             return Ok(Bands {
                 shape: kept,
                 frame: None,
-                bands: Vec::new(alloc),
+                zones: Vec::new(alloc),
             });
         };
-        let bands = bands_of(alloc, shape, around)?;
+        let zones = zones_of(alloc, shape, around)?;
         let frame = Frame {
             around,
             reach: reach(shape, around),
@@ -81,7 +82,7 @@ impl Bands {
         Ok(Bands {
             shape: kept,
             frame: Some(frame),
-            bands,
+            zones,
         })
     }
 
@@ -101,14 +102,14 @@ impl Bands {
         let Some(frame) = self.frame else {
             return false;
         };
-        meets_kept(other, &self.shape, frame, self.bands.as_slice())
+        meets_kept(other, &self.shape, frame, self.zones.as_slice())
     }
 }
 
-fn meets_kept(other: &Shape, shape: &Shape, frame: Frame, bands: &[Band]) -> bool
+fn meets_kept(other: &Shape, shape: &Shape, frame: Frame, zones: &[Zone]) -> bool
     requires other_in_range { IsShapeInRange other.now }
     requires shape_in_range { IsShapeInRange shape.now }
-    requires kept { AreBandsOf shape.now frame bands.now }
+    requires kept { AreZonesOf shape.now frame zones.now }
     ensures { IsTrue result ↔ Meet other.now shape.now }
 {
     let Some(around) = extent(other) else {
@@ -118,15 +119,29 @@ fn meets_kept(other: &Shape, shape: &Shape, frame: Frame, bands: &[Band]) -> boo
         return false;
     }
     if is_of_points(other) {
-        return points_are_on(other.points.as_slice(), shape, frame, bands);
+        return points_are_on(other.points.as_slice(), shape, frame, zones);
     }
-    if positions_are_in(other, shape, frame, bands) {
+    if positions_are_in(other, shape, frame, zones) {
         return true;
     }
-    if segments_meet_kept(other, shape, frame, bands) {
+    if segments_meet_kept(other, shape, frame, zones) {
         return true;
     }
-    shape_reaches(shape, other.polygons.as_slice(), reach(other, around))
+    shape_is_reached(shape, other, around)
+}
+
+/// Whether one of the shape's positions is in a polygon of the other shape.
+fn shape_is_reached(shape: &Shape, other: &Shape, around: Extent) -> bool
+    requires shape_in_range { IsShapeInRange shape.now }
+    requires other_in_range { IsShapeInRange other.now }
+    requires covered { extent_of (positions other.now) ≡ Some around }
+    ensures { IsTrue result ↔ SomeIsIn (positions shape.now) other.now.polygons }
+{
+    let polygons = other.polygons.as_slice();
+    if polygons.is_empty() {
+        return false;
+    }
+    shape_reaches(shape, polygons, reach(other, around))
 }
 
 /// Whether a shape has neither lines nor polygons.
@@ -137,14 +152,14 @@ fn is_of_points(shape: &Shape) -> bool
 }
 
 /// Whether one of the positions lies on the shape.
-fn points_are_on(points: &[Pos], shape: &Shape, frame: Frame, bands: &[Band]) -> bool
+fn points_are_on(points: &[Pos], shape: &Shape, frame: Frame, zones: &[Zone]) -> bool
     requires points_in_range { All IsInRange points.now }
     requires shape_in_range { IsShapeInRange shape.now }
-    requires kept { AreBandsOf shape.now frame bands.now }
+    requires kept { AreZonesOf shape.now frame zones.now }
     ensures { IsTrue result ↔ SomeIsOn points.now shape.now }
 {
     for p in points {
-        if is_on(*p, shape, frame, bands) {
+        if is_on(*p, shape, frame, zones) {
             return true;
         }
     }
@@ -152,130 +167,93 @@ fn points_are_on(points: &[Pos], shape: &Shape, frame: Frame, bands: &[Band]) ->
 }
 
 /// Whether a position lies on one of the shape's segments or in one of its polygons.
-fn is_on(p: Pos, shape: &Shape, frame: Frame, bands: &[Band]) -> bool
+fn is_on(p: Pos, shape: &Shape, frame: Frame, zones: &[Zone]) -> bool
     requires p_in_range { IsInRange p }
     requires shape_in_range { IsShapeInRange shape.now }
-    requires kept { AreBandsOf shape.now frame bands.now }
+    requires kept { AreZonesOf shape.now frame zones.now }
     ensures { IsTrue result ↔ IsOnShape p shape.now }
 {
     if !frame.around.touches_box(p, p) {
-        return position_is_in(p, shape, frame, bands);
+        return position_is_in(p, shape, frame, zones);
     }
-    let Some(band) = band_at(p, shape, frame.around, bands) else {
+    let Some(band) = band_at(p, shape, frame.around, zones) else {
         return shape_is_touched(p, shape);
     };
     shape_is_touched(p, &band.part)
 }
 
-/// The height at which a band of a shape with the extent begins.
-fn cut(around: Extent, index: u64) -> i64 {
-    let height = around.high.y.abs_diff(around.low.y).saturating_add(1);
-    around
-        .low
-        .y
-        .saturating_add_unsigned(height.saturating_mul(index) / COUNT)
-}
-
-/// The heights of the first band.
-fn first_heights(around: Extent) -> Heights
-    ensures begins { result.low ≡ around.low.y }
-    ensures ordered { result.low ≤ℤ result.high }
-{
-    let low = around.low.y;
-    let high = cut(around, 1).max(low);
-    Heights { low, high }
-}
-
-/// The heights of a band behind another.
-fn next_heights(before: Heights, around: Extent, index: u64) -> Heights
-    ensures begins { result.low ≡ before.high }
-    ensures ordered { result.low ≤ℤ result.high }
-{
-    let low = before.high;
-    let high = cut(around, index).max(low);
-    Heights { low, high }
-}
-
-/// The heights of the last band, behind another.
-fn last_heights(before: Heights, around: Extent) -> Heights
-    ensures begins { result.low ≡ before.high }
-    ensures ordered { result.low ≤ℤ result.high }
-    ensures ends { around.high.y ≤ℤ result.high }
-{
-    let low = before.high;
-    let high = around.high.y.max(low);
-    Heights { low, high }
-}
-
-fn band_of(alloc: Global, shape: &Shape, heights: Heights) -> Result<Band, Memory>
-    requires ordered { heights.low ≤ℤ heights.high }
-    ensures thinned { IfOk result (λ band. IsBandOf shape.now band) }
-    ensures same { IfOk result (λ band. band.heights ≡ heights) }
-{
-    let part = shape_within(alloc, shape, heights)?;
-    Ok(Band { heights, part })
-}
-
-/// The bands of a shape.
-fn bands_of(alloc: Global, shape: &Shape, around: Extent) -> Result<Vec<Band>, Memory>
-    ensures thinned { IfOk result (λ bands. All (IsBandOf shape.now) bands.items) }
-    ensures covering { IfOk result (λ bands. AreCovering around.low.y around.high.y bands.items) }
-{
-    let mut bands = Vec::with_capacity(alloc, COUNT as usize)?;
-    let mut heights = first_heights(around);
-    for index in 2..COUNT {
-        bands.push(band_of(alloc, shape, heights)?)?;
-        heights = next_heights(heights, around, index);
+/// Which of so many parts of the heights has a position, counted from the lowest.
+fn part_at(p: Pos, heights: Heights, count: usize) -> usize {
+    if count == 1 {
+        return 0;
     }
-    bands.push(band_of(alloc, shape, heights)?)?;
-    bands.push(band_of(alloc, shape, last_heights(heights, around))?)?;
-    Ok(bands)
+    let height = heights.high.abs_diff(heights.low).saturating_add(1);
+    let above = p.y.abs_diff(heights.low);
+    (above.saturating_mul(count as u64) / height) as usize
 }
 
-/// A band that has the height of a position, where one is found.
-fn band_at<'a>(p: Pos, shape: &Shape, around: Extent, bands: &'a [Band]) -> Option<&'a Band>
-    requires { All (IsBandOf shape.now) bands.now }
-    ensures { IfSome result (λ band. IsAt p.y band.now × IsBandOf shape.now band.now) }
+/// The zone in which a position is looked for, where there is one.
+fn zone_at<'a>(p: Pos, shape: &Shape, around: Extent, zones: &'a [Zone]) -> Option<&'a Zone>
+    requires { All (IsZoneOf shape.now) zones.now }
+    ensures { IfSome result (λ zone. IsZoneOf shape.now zone.now) }
 {
-    let height = around.high.y.abs_diff(around.low.y).saturating_add(1);
-    let index = p.y.abs_diff(around.low.y).saturating_mul(COUNT) / height;
-    let Some(band) = bands.get(index as usize) else {
+    zones.get(part_at(p, heights_of(around), zones.len()))
+}
+
+/// A band of the zone that has the height of a position, where one is found.
+fn band_in<'a>(p: Pos, shape: &Shape, zone: &'a Zone) -> Option<&'a Band>
+    requires { IsZoneOf shape.now zone.now }
+    ensures { IfSome result (λ band. IsAt p.y band.now.heights × IsBandOf shape.now band.now) }
+{
+    let bands = zone.bands.as_slice();
+    let Some(band) = bands.get(part_at(p, zone.heights, bands.len())) else {
         return None;
     };
-    if has_height(band, p) {
+    if has_height(band.heights, p) {
         Some(band)
     } else {
         None
     }
 }
 
-/// Whether the band has the height of a position.
-fn has_height(band: &Band, p: Pos) -> bool
-    ensures { IsTrue result ↔ IsAt p.y band.now }
+/// A band that has the height of a position, where one is found.
+fn band_at<'a>(p: Pos, shape: &Shape, around: Extent, zones: &'a [Zone]) -> Option<&'a Band>
+    requires { All (IsZoneOf shape.now) zones.now }
+    ensures { IfSome result (λ band. IsAt p.y band.now.heights × IsBandOf shape.now band.now) }
 {
-    band.heights.low <= p.y && p.y <= band.heights.high
+    let Some(zone) = zone_at(p, shape, around, zones) else {
+        return None;
+    };
+    band_in(p, shape, zone)
+}
+
+/// Whether the height of a position is one of the heights.
+fn has_height(heights: Heights, p: Pos) -> bool
+    ensures { IsTrue result ↔ IsAt p.y heights }
+{
+    heights.low <= p.y && p.y <= heights.high
 }
 
 /// Whether a position is in one of the shape's polygons.
-pub(crate) fn position_is_in(p: Pos, shape: &Shape, frame: Frame, bands: &[Band]) -> bool
+pub(crate) fn position_is_in(p: Pos, shape: &Shape, frame: Frame, zones: &[Zone]) -> bool
     requires p_in_range { IsInRange p }
     requires shape_in_range { IsShapeInRange shape.now }
-    requires kept { AreBandsOf shape.now frame bands.now }
+    requires kept { AreZonesOf shape.now frame zones.now }
     ensures { IsTrue result ↔ IsInSome p shape.now.polygons }
 {
     match frame.reach {
-        None => is_in_bands(p, shape, frame, bands),
-        Some(around) => around.contains(p) && is_in_bands(p, shape, frame, bands),
+        None => is_in_bands(p, shape, frame, zones),
+        Some(around) => around.contains(p) && is_in_bands(p, shape, frame, zones),
     }
 }
 
-fn is_in_bands(p: Pos, shape: &Shape, frame: Frame, bands: &[Band]) -> bool
+fn is_in_bands(p: Pos, shape: &Shape, frame: Frame, zones: &[Zone]) -> bool
     requires p_in_range { IsInRange p }
     requires shape_in_range { IsShapeInRange shape.now }
-    requires kept { AreBandsOf shape.now frame bands.now }
+    requires kept { AreZonesOf shape.now frame zones.now }
     ensures { IsTrue result ↔ IsInSome p shape.now.polygons }
 {
-    match band_at(p, shape, frame.around, bands) {
+    match band_at(p, shape, frame.around, zones) {
         Some(band) => is_in_any(p, band.part.polygons.as_slice()),
         None => is_in_any(p, shape.polygons.as_slice()),
     }
@@ -287,22 +265,41 @@ pub(crate) fn segment_meets_kept(
     b: Pos,
     shape: &Shape,
     frame: Frame,
-    bands: &[Band],
+    zones: &[Zone],
 ) -> bool
     requires a_in_range { IsInRange a }
     requires b_in_range { IsInRange b }
     requires shape_in_range { IsShapeInRange shape.now }
-    requires kept { AreBandsOf shape.now frame bands.now }
+    requires kept { AreZonesOf shape.now frame zones.now }
     ensures { IsTrue result ↔ MeetsSome a b (segments shape.now) }
 {
     if !frame.around.touches_box(a, b) {
         return false;
     }
-    let Some(band) = band_at(a, shape, frame.around, bands) else {
-        return segment_meets_bands(a, b, shape, frame, bands);
+    let Some(zone) = zone_at(a, shape, frame.around, zones) else {
+        return segment_meets_zones(a, b, shape, frame, zones);
     };
-    if !has_height(band, b) {
-        return segment_meets_bands(a, b, shape, frame, bands);
+    if has_height(zone.heights, a) && has_height(zone.heights, b) {
+        return segment_meets_zone(a, b, shape, zone);
+    }
+    segment_meets_zones(a, b, shape, frame, zones)
+}
+
+/// Whether the segment `ab`, whose ends are at heights of the zone, meets one of the shape's.
+fn segment_meets_zone(a: Pos, b: Pos, shape: &Shape, zone: &Zone) -> bool
+    requires a_in_range { IsInRange a }
+    requires b_in_range { IsInRange b }
+    requires shape_in_range { IsShapeInRange shape.now }
+    requires kept { IsZoneOf shape.now zone.now }
+    requires a_within { IsAt a.y zone.now.heights }
+    requires b_within { IsAt b.y zone.now.heights }
+    ensures { IsTrue result ↔ MeetsSome a b (segments shape.now) }
+{
+    let Some(band) = band_in(a, shape, zone) else {
+        return bands_are_met(a, b, shape, zone.bands.as_slice());
+    };
+    if !has_height(band.heights, b) {
+        return bands_are_met(a, b, shape, zone.bands.as_slice());
     }
     segment_meets_band(a, b, shape, band)
 }
@@ -311,18 +308,47 @@ fn segment_meets_band(a: Pos, b: Pos, shape: &Shape, band: &Band) -> bool
     requires a_in_range { IsInRange a }
     requires b_in_range { IsInRange b }
     requires shape_in_range { IsShapeInRange shape.now }
-    requires thinned { IsBandOf shape.now band.now }
+    requires kept { IsBandOf shape.now band.now }
     ensures { IsTrue result ↔ MeetsSomeWithin band.now.heights.low band.now.heights.high a b (segments shape.now) }
 {
     part_is_met(a, b, &band.part, band.heights)
 }
 
-fn segment_meets_bands(a: Pos, b: Pos, shape: &Shape, frame: Frame, bands: &[Band]) -> bool
+fn segment_meets_zones(a: Pos, b: Pos, shape: &Shape, frame: Frame, zones: &[Zone]) -> bool
     requires a_in_range { IsInRange a }
     requires b_in_range { IsInRange b }
     requires shape_in_range { IsShapeInRange shape.now }
-    requires kept { AreBandsOf shape.now frame bands.now }
+    requires kept { AreZonesOf shape.now frame zones.now }
     ensures { IsTrue result ↔ MeetsSome a b (segments shape.now) }
+{
+    for zone in zones {
+        if is_met_in_zone(a, b, shape, zone) {
+            return true;
+        }
+    }
+    false
+}
+
+/// Whether the segment `ab` reaches into the zone's heights, and meets one of the shape's segments in its bands.
+fn is_met_in_zone(a: Pos, b: Pos, shape: &Shape, zone: &Zone) -> bool
+    requires a_in_range { IsInRange a }
+    requires b_in_range { IsInRange b }
+    requires shape_in_range { IsShapeInRange shape.now }
+    requires kept { IsZoneOf shape.now zone.now }
+    ensures { IsTrue result ↔ IsMetInZone a b shape.now zone.now }
+{
+    if !spans(zone.heights, a, b) {
+        return false;
+    }
+    bands_are_met(a, b, shape, zone.bands.as_slice())
+}
+
+fn bands_are_met(a: Pos, b: Pos, shape: &Shape, bands: &[Band]) -> bool
+    requires a_in_range { IsInRange a }
+    requires b_in_range { IsInRange b }
+    requires shape_in_range { IsShapeInRange shape.now }
+    requires kept { All (IsBandOf shape.now) bands.now }
+    ensures { IsTrue result ↔ SomeOf (IsMetIn a b shape.now) bands.now }
 {
     for band in bands {
         if is_met_in(a, b, shape, band) {
@@ -337,7 +363,7 @@ fn is_met_in(a: Pos, b: Pos, shape: &Shape, band: &Band) -> bool
     requires a_in_range { IsInRange a }
     requires b_in_range { IsInRange b }
     requires shape_in_range { IsShapeInRange shape.now }
-    requires thinned { IsBandOf shape.now band.now }
+    requires kept { IsBandOf shape.now band.now }
     ensures { IsTrue result ↔ IsMetIn a b shape.now band.now }
 {
     if !spans(band.heights, a, b) {

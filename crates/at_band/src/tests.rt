@@ -102,6 +102,45 @@ true||35,5 60,5||
 true|||-9,-9 300,-9 -9,300 -9,-9|
 false|||0,0 19,0 19,19 0,0|";
 
+/// Whether shapes meet the tower of 10,000 floors, a bar, the shape. These are points in it, on its upright side, beside
+/// that, on and between the ends of its ragged side, on its top, above and beneath it; lines over all of its heights,
+/// across, beside and along its side, a short one to its ragged side and two off that, one into it and one in it; polygons
+/// around it, in it and beside it, and one whose hole it is in.
+const AROUND_TOWER: &str = "true|50,5000|||
+true|100,7777|||
+false|101,7777|||
+true|0,5000|||
+false|-1,5000|||
+false|9,5001|||
+true|10,5001|||
+true|50,10000|||
+false|50,10001|||
+false|50,-1|||
+true||5,-10 5,10010||
+false||-1,-10 -1,10010||
+true||100,-10 100,10010||
+false||101,0 101,10000||
+true||9,5001 10,5001||
+false||0,5001 9,5001||
+false||8,5001 1,5001||
+true||-5,2500 5,2502||
+true||40,100 60,9000||
+true|||-9,-9 200,-9 200,20000 -9,20000 -9,-9|
+true|||50,50 60,50 60,60 50,50|
+false|||-50,50 -10,9000 -60,60 -50,50|
+false|||-99,-99 300,-99 300,20000 -99,20000 -99,-99|-9,-9 200,-9 200,10009 -9,10009 -9,-9";
+
+/// Whether shapes meet the line of 10,000 positions at the height 7, a bar, the shape. These are points on it, above it
+/// and behind it; lines across, before it, over its end and behind it; a polygon around it.
+const AROUND_FLAT: &str = "true|3,7|||
+false|3,8|||
+false|20000,7|||
+true||5,0 5,20||
+false||-5,0 -5,20||
+true||19990,7 30000,7||
+false||20000,7 30000,7||
+true|||-9,-9 90000,-9 0,90 -9,-9|";
+
 fn at(x: i32, y: i32) -> Pos
     ensures { IsInRange result }
 {
@@ -184,6 +223,90 @@ fn shape(alloc: Global, text: &str) -> Result<Shape, Fail>
     })
 }
 
+fn of_line(alloc: Global, items: Vec<Pos>) -> Result<Shape, Fail>
+    requires { All IsInRange items.items }
+    ensures { IfOk result IsShapeInRange }
+{
+    let mut lines = Vec::new(alloc);
+    push(&mut lines, Path::from_vec(items))?;
+    Ok(Shape {
+        points: path(alloc, "")?,
+        lines: Paths::from_vec(lines),
+        polygons: Polygons::from_vec(Vec::new(alloc)),
+    })
+}
+
+fn of_exterior(alloc: Global, items: Vec<Pos>) -> Result<Shape, Fail>
+    requires { All IsInRange items.items }
+    ensures { IfOk result IsShapeInRange }
+{
+    let mut rings = Vec::new(alloc);
+    push(&mut rings, Path::from_vec(items))?;
+    let mut polygons = Vec::new(alloc);
+    polygons.push(Polygon {
+        rings: Paths::from_vec(rings),
+    })?;
+    Ok(Shape {
+        points: path(alloc, "")?,
+        lines: paths(alloc, "", "")?,
+        polygons: Polygons::from_vec(polygons),
+    })
+}
+
+fn add(items: &mut Vec<Pos>, x: i32, y: i32) -> Result<(), AllocError>
+    requires { All IsInRange items.old.items }
+    ensures { OnOk result (All IsInRange items.new.items) }
+{
+    items.push(at(x, y))?;
+    Ok(())
+}
+
+/// A comb: teeth that are 4 wide and 1,000 high, side by side on a bar that is 10 high.
+fn comb(alloc: Global, teeth: i32) -> Result<Shape, Fail>
+    ensures { IfOk result IsShapeInRange }
+{
+    let mut items = Vec::new(alloc);
+    add(&mut items, 0, -10)?;
+    for tooth in 0..teeth {
+        let x = tooth.wrapping_mul(4);
+        add(&mut items, x, 0)?;
+        add(&mut items, x.wrapping_add(2), 1000)?;
+    }
+    let x = teeth.wrapping_mul(4);
+    add(&mut items, x, 0)?;
+    add(&mut items, x, -10)?;
+    add(&mut items, 0, -10)?;
+    of_exterior(alloc, items)
+}
+
+/// A tower that is 100 wide, with a ragged side of segments that go to and fro by 10, one on each floor, and an
+/// upright side of one segment.
+fn tower(alloc: Global, floors: i32) -> Result<Shape, Fail>
+    ensures { IfOk result IsShapeInRange }
+{
+    let mut items = Vec::new(alloc);
+    for floor in 0..floors {
+        let x = if floor % 2 == 0 { 0 } else { 10 };
+        add(&mut items, x, floor)?;
+    }
+    add(&mut items, 0, floors)?;
+    add(&mut items, 100, floors)?;
+    add(&mut items, 100, 0)?;
+    add(&mut items, 0, 0)?;
+    of_exterior(alloc, items)
+}
+
+/// A line of so many positions at the height 7.
+fn flat(alloc: Global, count: i32) -> Result<Shape, Fail>
+    ensures { IfOk result IsShapeInRange }
+{
+    let mut items = Vec::new(alloc);
+    for index in 0..count {
+        add(&mut items, index.wrapping_mul(2), 7)?;
+    }
+    of_line(alloc, items)
+}
+
 fn kept(alloc: Global, text: &str) -> Result<Bands, Fail>
     ensures { IfOk result IsShapeInRange }
 {
@@ -207,6 +330,47 @@ fn count_as_told(alloc: Global, bands: &Bands, rows: &str) -> Result<u32, Fail>
     let mut count = 0u32;
     for row in rows.lines() {
         if !is_as_told(alloc, bands, row)? {
+            return Ok(count);
+        }
+        count = count.wrapping_add(1);
+    }
+    Ok(count)
+}
+
+fn meets_point(alloc: Global, bands: &Bands, x: i32, y: i32) -> Result<bool, Fail>
+    requires { IsShapeInRange bands.now }
+{
+    let mut items = Vec::new(alloc);
+    add(&mut items, x, y)?;
+    let point = Shape {
+        points: Path::from_vec(items),
+        lines: Paths::from_vec(Vec::new(alloc)),
+        polygons: Polygons::from_vec(Vec::new(alloc)),
+    };
+    Ok(bands.meets(&point))
+}
+
+/// Whether points in the middle of a comb's tooth and in the bar meet it, one on the tooth's side does, and those
+/// beside that and between the teeth don't.
+fn tooth_is_as_built(alloc: Global, bands: &Bands, tooth: i32) -> Result<bool, Fail>
+    requires { IsShapeInRange bands.now }
+{
+    let x = tooth.wrapping_mul(4);
+    let in_tooth = meets_point(alloc, bands, x.wrapping_add(2), 500)?;
+    let in_bar = meets_point(alloc, bands, x, -5)?;
+    let on_side = meets_point(alloc, bands, x.wrapping_add(1), 500)?;
+    let beside = meets_point(alloc, bands, x.wrapping_add(1), 501)?;
+    let between = meets_point(alloc, bands, x, 500)?;
+    Ok(in_tooth && in_bar && on_side && !beside && !between)
+}
+
+/// How many of a hundred of a comb's teeth are as they were built, up to the first that isn't.
+fn count_as_built(alloc: Global, bands: &Bands) -> Result<u32, Fail>
+    requires { IsShapeInRange bands.now }
+{
+    let mut count = 0u32;
+    for index in 0..100i32 {
+        if !tooth_is_as_built(alloc, bands, index.wrapping_mul(101))? {
             return Ok(count);
         }
         count = count.wrapping_add(1);
@@ -249,5 +413,26 @@ fn lines(rt: HostRuntime) -> Result<(), Fail> {
 fn mixed(rt: HostRuntime) -> Result<(), Fail> {
     let bands = kept(rt.alloc(), MIXED)?;
     assert_eq!(rt; count_as_told(rt.alloc(), &bands, AROUND_MIXED)?, 15);
+    Ok(())
+}
+
+#[test]
+fn teeth(rt: HostRuntime) -> Result<(), Fail> {
+    let bands = Bands::new(rt.alloc(), &comb(rt.alloc(), 10_000)?)?;
+    assert_eq!(rt; count_as_built(rt.alloc(), &bands)?, 100);
+    Ok(())
+}
+
+#[test]
+fn floors(rt: HostRuntime) -> Result<(), Fail> {
+    let bands = Bands::new(rt.alloc(), &tower(rt.alloc(), 10_000)?)?;
+    assert_eq!(rt; count_as_told(rt.alloc(), &bands, AROUND_TOWER)?, 23);
+    Ok(())
+}
+
+#[test]
+fn one_height(rt: HostRuntime) -> Result<(), Fail> {
+    let bands = Bands::new(rt.alloc(), &flat(rt.alloc(), 10_000)?)?;
+    assert_eq!(rt; count_as_told(rt.alloc(), &bands, AROUND_FLAT)?, 8);
     Ok(())
 }

@@ -1,6 +1,5 @@
 use Rattle.std.proofs.Common.{inr, sym, ◌∙◌}
 use Rattle.std.proofs.lemmas.Bool.{false≢true}
-use Rattle.at_band.proofs.BandsOf.{part_ranged}
 use Rattle.at_band.proofs.TouchedShapes.{only_in, on_band_part, on_band_whole}
 use Rattle.at_band.proofs.bands.is_on.Goals as goal
 
@@ -11,7 +10,7 @@ returns-then-not-touches_box c = (
 )
 
 pub shape_is_touched-requires-2-clause-shape_in_range : goal.shape_is_touched-requires-2-clause-shape_in_range
-shape_is_touched-requires-2-clause-shape_in_range c = part_ranged c.args.shape.now c.in-Some.band.now c.requires.shape_in_range c.in-Some.ensures.1
+shape_is_touched-requires-2-clause-shape_in_range c = c.in-Some.ensures.1.ranged c.requires.shape_in_range
 
 pub returns : goal.returns
 returns c = (

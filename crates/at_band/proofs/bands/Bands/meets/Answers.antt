@@ -9,5 +9,5 @@ use Rattle.at_band.proofs.bands.Bands.meets.Goals as goal
 pub returns-in_default : goal.returns-in_default
 returns-in_default c = (
   λ t. absurd (false≢true t),
-  λ m. absurd (empty_second c.args.other.now c.self.inside.shape (kept_none c.self.inside.shape c.self.inside.frame c.self.inside.bands.items c.in_default.is c.self.invariant) (subst (λ (z : Shape). Meet c.args.other.now z) (sym c.self.view_is) m)),
+  λ m. absurd (empty_second c.args.other.now c.self.inside.shape (kept_none c.self.inside.shape c.self.inside.frame c.self.inside.zones.items c.in_default.is c.self.invariant) (subst (λ (z : Shape). Meet c.args.other.now z) (sym c.self.view_is) m)),
 )

@@ -1,0 +1,24 @@
+-- Heights that are cut: each height is one of a part's.
+use Rattle.std.proofs.Common.{◌≡◌, ℤ, ◌≤ℤ◌, ◌<ℤ◌, inl, List, [], ◌∷◌, ◌++◌, arith, sym, subst}
+use Rattle.std.proofs.lemmas.Int.{ints, by_lt_z}
+use Rattle.at_text.specs.Lists.{SomeOf}
+use Rattle.at_geom.proofs.Elements.{some_left, some_right}
+use Rattle.at_band.specs.declared.thinning.Heights.{Heights}
+use Rattle.at_band.specs.Banded.{IsAt}
+
+-- the parts have each height from low that is below the end
+abbrev pub AreCoveringBelow : ℤ → ℤ → List Heights → Type 0
+AreCoveringBelow low end parts = (y : ℤ) → low ≤ℤ y → y <ℤ end → SomeOf (IsAt y) parts
+
+pub covering_more : (low end : ℤ) (parts : List Heights) (next : Heights) → next.low ≡ end → AreCoveringBelow low end parts
+    → (y : ℤ) → low ≤ℤ y → y ≤ℤ next.high → SomeOf (IsAt y) (parts ++ next ∷ [])
+covering_more low end parts next e f y h k =
+    by_lt_z y end
+    (λ m. some_left (IsAt y) parts (next ∷ []) (f y h m))
+    (λ m. some_right (IsAt y) parts (next ∷ []) (inl (subst (λ z. z ≤ℤ y) (sym e) m, k)))
+
+pub covering_next : (low end : ℤ) (parts : List Heights) (next : Heights) → next.low ≡ end → AreCoveringBelow low end parts → AreCoveringBelow low next.high (parts ++ next ∷ [])
+covering_next low end parts next e f y h k = covering_more low end parts next e f y h (omega (arith, ints, k))
+
+pub covering_none : (low end : ℤ) → end ≡ low → AreCoveringBelow low end []
+covering_none low end e y h k = absurd (omega (arith, ints, e, h, k))
