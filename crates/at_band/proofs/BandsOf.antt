@@ -118,7 +118,7 @@ met_in_zone s zone a b v h k m =
 
 pub met_zones : (s : Shape) (frame : Frame) (zones : List Zone) (a b : Pos) → AreZonesOf s frame zones → MeetsSome a b (segments s) → SomeOf (IsMetInZone a b s) zones
 met_zones s frame zones a b kept h =
-    let (f, found) = found_segment frame.around (IsMemberMet a b (segments s)) s (extent_covers frame.around (positions s) kept.extent_is) (members_met a b (segments s) h) in
+    let (f, found) = found_segment frame.around (IsMemberMet a b (segments s)) s (extent_covers frame.around (positions s) kept.framed.extent_is) (members_met a b (segments s) h) in
     let o = (common_point_out a b f.0 f.1 found.0.0).overlap_y in
     let u = sides frame.around f.0 found.1 in let v = sides frame.around f.1 found.2 in
     let ub = u.below in let ua = u.above in let vb = v.below in let va = v.above in

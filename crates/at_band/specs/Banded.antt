@@ -1,10 +1,11 @@
 -- What is true of the zones and bands that are kept of a shape.
 use Rattle.std.specs.Prelude.{◌≡◌, ℤ, ◌≤ℤ◌, List, [], All, map, Option, Some, None, IfSome, IsTrue}
-use Rattle.std.specs.List.{filter}
+use Rattle.std.specs.List.{filter, AllByRecursion}
 use Rattle.at_text.specs.Lists.{SomeOf}
 use Rattle.at_geom.specs.declared.positions.Pos.{Pos}
 use Rattle.at_geom.specs.declared.shapes.Shape.{Shape}
 use Rattle.at_geom.specs.Segments.{HaveCommonPoint}
+use Rattle.at_geom.specs.Closed.{HasClosedExterior}
 use Rattle.at_geom.specs.Shapes.{IsShapeInRange, segments, positions, extent_of, is_within, IsInSome}
 use Rattle.at_band.specs.declared.thinning.Heights.{Heights}
 use Rattle.at_band.specs.declared.zones.Band.{Band}
@@ -49,10 +50,14 @@ pub record IsZoneOf (s : Shape) (zone : Zone) : Type 0 where
 abbrev pub heights_of_zone : Zone → Heights
 heights_of_zone zone = zone.heights
 
--- the zones of a shape that has positions
-pub record AreZonesOf (s : Shape) (frame : Frame) (zones : List Zone) : Type 0 where
+-- the frame of a shape that has positions
+pub record IsFrameOf (s : Shape) (frame : Frame) : Type 0 where
   pub extent_is : extent_of (positions s) ≡ Some frame.around
   pub reached : IfSome frame.reach (λ e. (p : Pos) → IsInSome p s.polygons → IsTrue (is_within e p))
+  pub closed : IsTrue frame.is_closed → AllByRecursion HasClosedExterior s.polygons
+
+pub record AreZonesOf (s : Shape) (frame : Frame) (zones : List Zone) : Type 0 where
+  pub framed : IsFrameOf s frame
   pub kept : All (IsZoneOf s) zones
   pub covering : AreCovering frame.around.low.y frame.around.high.y (map heights_of_zone zones)
 

@@ -15,7 +15,7 @@ ghost use Rattle.at_text.specs.Lists.{SomeOf};
 ghost use Rattle.at_geom.specs.declared.positions.Pos.{Pos};
 ghost use Rattle.at_geom.specs.Segments.{IsInRange};
 ghost use Rattle.at_geom.specs.Shapes.{IsShapeInRange, IsInSome, SomeIsIn, MeetsSome, Meet, segments, positions, extent_of};
-ghost use Rattle.at_band.specs.Banded.{IsAt, IsBandOf, IsZoneOf, AreZonesOf, IsOfPoints, MeetsSomeWithin, IsMetIn, IsMetInZone};
+ghost use Rattle.at_band.specs.Banded.{IsAt, IsBandOf, IsZoneOf, IsFrameOf, AreZonesOf, IsOfPoints, MeetsSomeWithin, IsMetIn, IsMetInZone};
 ghost use Rattle.at_band.specs.Touched.{IsOnShape, SomeIsOn};
 
 use crate::copies::copied_shape;
@@ -37,6 +37,8 @@ pub(crate) struct Frame {
     pub around: Extent,
     /// Where the positions in its polygons lie, if it can be told.
     pub reach: Option<Extent>,
+    /// Whether the exterior of each of its polygons is known to be closed.
+    pub is_closed: bool,
 }
 
 /// A shape, with what of it reaches into each band of its heights.
@@ -78,6 +80,7 @@ impl Bands {
         let frame = Frame {
             around,
             reach: reach(shape, around),
+            is_closed: are_closed(shape.polygons.as_slice()),
         };
         Ok(Bands {
             shape: kept,
@@ -115,7 +118,7 @@ fn meets_kept(other: &Shape, shape: &Shape, frame: Frame, zones: &[Zone]) -> boo
     let Some(around) = extent(other) else {
         return false;
     };
-    if are_clear(other, around, shape, frame.around) {
+    if are_clear(other, around, shape, frame) {
         return false;
     }
     if is_of_points(other) {
@@ -374,13 +377,13 @@ fn is_met_in(a: Pos, b: Pos, shape: &Shape, band: &Band) -> bool
 
 /// Whether the extents of two shapes show that they don't meet: where the extents are apart, and no exterior is
 /// open.
-fn are_clear(a: &Shape, around_a: Extent, b: &Shape, around_b: Extent) -> bool
-    requires a_covered { extent_of (positions a.now) ≡ Some around_a }
-    requires b_covered { extent_of (positions b.now) ≡ Some around_b }
+fn are_clear(a: &Shape, around: Extent, b: &Shape, frame: Frame) -> bool
+    requires covered { extent_of (positions a.now) ≡ Some around }
+    requires framed { IsFrameOf b.now frame }
     ensures { IsTrue result → ¬ Meet a.now b.now }
 {
-    if around_a.touches_box(around_b.low, around_b.high) {
+    if around.touches_box(frame.around.low, frame.around.high) {
         return false;
     }
-    are_closed(a.polygons.as_slice()) && are_closed(b.polygons.as_slice())
+    frame.is_closed && are_closed(a.polygons.as_slice())
 }

@@ -6,7 +6,7 @@ use Rattle.at_band.proofs.bands.is_on.Goals as goal
 pub returns-then-not-touches_box : goal.returns-then-not-touches_box
 returns-then-not-touches_box c = (
   λ t. inr (c.position_is_in.ensures.0 t),
-  λ m. c.position_is_in.ensures.1 (only_in c.args.frame.around c.args.p c.args.shape.now c.requires.kept.extent_is (λ t. false≢true (sym c.if-not-touches_box.true ∙ c.touches_box.ensures.1 (t.right, t.left, t.above, t.below))) m),
+  λ m. c.position_is_in.ensures.1 (only_in c.args.frame.around c.args.p c.args.shape.now c.requires.kept.framed.extent_is (λ t. false≢true (sym c.if-not-touches_box.true ∙ c.touches_box.ensures.1 (t.right, t.left, t.above, t.below))) m),
 )
 
 pub shape_is_touched-requires-2-clause-shape_in_range : goal.shape_is_touched-requires-2-clause-shape_in_range
