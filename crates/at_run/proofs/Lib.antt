@@ -12,6 +12,8 @@ pub mod ProperFeatures
 pub mod JsonSizes
 pub mod JsonFeatures
 pub mod Results
+pub mod ValidSpans
+pub mod JsonMerges
 pub mod FormMerges
 pub mod JsonEnds
 pub mod OneAnswer

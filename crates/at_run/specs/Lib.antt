@@ -1,6 +1,8 @@
 pub mod Places
 pub mod Features
 pub mod JsonFiles
+pub mod Encodings
+pub mod JsonFragments
 pub mod Files
 pub mod Answers
 pub mod Gathering

@@ -2,16 +2,14 @@
 use Rattle.std.specs.Prelude.{◌≡◌, ℕ, List}
 use Rattle.at_fixed.specs.declared.rounding.Coords.{Coords}
 use Rattle.at_wkt.specs.Folding.{Kept, StandsFor}
-use Rattle.at_nest.specs.Holding.{Kept as KeptOfTree}
-use Rattle.at_nest.specs.Standing.{StandsFor as StandsForJson}
 use Rattle.at_query.specs.declared.queries.Query.{Query}
 use Rattle.at_geojson.specs.Keeping.{Asked as JsonAsked}
-use Rattle.at_geojson.specs.Atoms.{IsOwn as IsOwnAtom, IsFold}
 use Rattle.at_run.specs.declared.forms.Form.{Form}
 use Rattle.at_run.specs.declared.forms.Form.TheVariants.{GeoJson, Wkt}
 use Rattle.at_run.specs.declared.readers.FileFragment.{FileFragment}
 use Rattle.at_run.specs.declared.readers.FileFragment.TheVariants.{Lines, Json}
 use Rattle.at_run.specs.Gathering.{Asked, IsOwn, IsGathered}
+use Rattle.at_run.specs.JsonFragments.{StandsForText}
 
 -- the form of a file, a query, and how the file's numbers are read
 pub record Asks : Type 0 where
@@ -29,4 +27,4 @@ of_json asks = record { query = asks.query; digits = asks.digits; how = asks.how
 -- the fragment is of the reader's form, and stands for the bytes as one of that form does
 abbrev pub StandsInForm : Asks → ℕ → List ℕ → FileFragment → Type 0
 StandsInForm asks at bytes (Lines fragment) = (asks.form ≡ Wkt) × StandsFor (Kept (IsOwn (of_lines asks)) (IsGathered (of_lines asks))) at bytes fragment
-StandsInForm asks at bytes (Json fragment) = (asks.form ≡ GeoJson) × StandsForJson (KeptOfTree (IsOwnAtom (of_json asks)) (IsFold (of_json asks))) at bytes fragment
+StandsInForm asks at bytes (Json fragment) = (asks.form ≡ GeoJson) × StandsForText (of_json asks) at bytes fragment

@@ -7,8 +7,11 @@ ghost use Rattle.at_run.specs.declared.forms.Form.TheVariants.{GeoJson};
 ghost use Rattle.at_run.specs.Files.{HasFileFaultIn};
 ghost use Rattle.at_run.specs.Answers.{IfFound, IsFilePart};
 ghost use Rattle.at_run.specs.JsonFiles.{EndsJson, text_end, root_end};
+ghost use Rattle.at_run.specs.JsonFragments.{StandsForText};
 
+use crate::encodings::is_valid_around;
 use crate::faults::RunFault;
+use crate::json_fragments::JsonFragment;
 use at_geojson::{GeoAlgebra, RootEnd, root_part};
 use at_nest::{Fragment, NestEnd, finish};
 use at_query::Part;
@@ -60,7 +63,8 @@ fn tree_part(
     }
 }
 
-/// The part of the features of a file of GeoJSON under the algebra's query, from the fragment of its text.
+/// The part of the features of a file of GeoJSON under the algebra's query, from the fragment of its text. The encoding of the
+/// whole file is tested.
 ///
 /// # Errors
 /// `Found` is the file's first fault, exactly where it has one: that of its encoding, of its syntax, or else the first of
@@ -80,4 +84,27 @@ pub fn finish_json(
         return Err(RunFault::Found(fault));
     }
     tree_part(alloc, algebra, bytes, whole)
+}
+
+/// The part of the features of a file of GeoJSON under the algebra's query, from what its pieces gave. The encoding of the
+/// whole file is tested only where that of its pieces doesn't show it to be valid.
+///
+/// # Errors
+/// As of [`finish_json`].
+pub fn finish_json_file(
+    alloc: Global,
+    algebra: &GeoAlgebra,
+    bytes: &[u8],
+    whole: JsonFragment,
+) -> Result<Part, RunFault>
+    requires fits { length bytes.now ≤ 2 ^ 28 }
+    requires whole { StandsForText algebra.now (text_begin bytes.now) (drop (text_begin bytes.now) bytes.now) whole }
+    ensures { MatchResult result (IsFilePart GeoJson algebra.now.digits algebra.now.how algebra.now.query bytes.now)
+        (λ end. IfFound end (λ fault. HasFileFaultIn GeoJson algebra.now.digits algebra.now.how bytes.now (Some fault))) }
+{
+    if is_valid_around(bytes, whole.valid) {
+        tree_part(alloc, algebra, bytes, whole.text)
+    } else {
+        finish_json(alloc, algebra, bytes, whole.text)
+    }
 }

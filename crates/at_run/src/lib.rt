@@ -14,12 +14,14 @@
 mod answers;
 mod blocks;
 mod cuts;
+mod encodings;
 mod faults;
 mod forms;
 mod gathered;
 mod jobs;
 mod joins;
 mod json_files;
+mod json_fragments;
 mod line_files;
 mod line_queries;
 mod readers;
@@ -32,6 +34,7 @@ pub use forms::Form;
 pub use jobs::run_file;
 pub use joins::answer_join;
 pub use json_files::finish_json;
+pub use json_fragments::JsonFragment;
 pub use readers::{FileFragment, Reader};
 
 #[cfg(test)]

@@ -9,12 +9,12 @@ ghost use Rattle.at_run.specs.Readers.{Asks, of_lines, of_json, StandsInForm};
 use crate::faults::RunFault;
 use crate::forms::Form;
 use crate::gathered::Gathered;
-use crate::json_files::finish_json;
+use crate::json_files::finish_json_file;
+use crate::json_fragments::{JsonFragment, merge_json, run_json};
 use crate::line_files::finish_line_file;
 use crate::line_queries::LineQuery;
 use at_fixed::Coords;
 use at_geojson::GeoAlgebra;
-use at_nest::{Fragment, merge, run_block};
 use at_query::{Part, Query};
 use at_text::Pieces;
 use at_wkt::{LineFragment, merge_lines, run_lines};
@@ -32,7 +32,7 @@ pub struct Reader {
 #[derive(Drop)]
 pub enum FileFragment {
     Lines(LineFragment<Gathered>),
-    Json(Fragment<GeoAlgebra>),
+    Json(JsonFragment),
 }
 
 impl Model for Reader {
@@ -88,7 +88,7 @@ impl Reader {
     {
         match whole {
             FileFragment::Lines(whole) => finish_line_file(alloc, &self.of_lines(), bytes, whole),
-            FileFragment::Json(whole) => finish_json(alloc, self.of_json(), bytes, whole),
+            FileFragment::Json(whole) => finish_json_file(alloc, self.of_json(), bytes, whole),
         }
     }
 }
@@ -101,7 +101,7 @@ impl Pieces for Reader {
     fn run_piece(&self, alloc: Global, piece: &[u8], base: u32) -> FileFragment {
         match self.form {
             Form::Wkt => FileFragment::Lines(run_lines(alloc, &self.of_lines(), piece, base)),
-            Form::GeoJson => FileFragment::Json(run_block(alloc, self.of_json(), piece, base)),
+            Form::GeoJson => FileFragment::Json(run_json(alloc, self.of_json(), piece, base)),
         }
     }
 
@@ -117,7 +117,7 @@ impl Pieces for Reader {
                 FileFragment::Lines(merge_lines(alloc, &self.of_lines(), bytes, left, right))
             }
             (FileFragment::Json(left), FileFragment::Json(right)) => {
-                FileFragment::Json(merge(alloc, self.of_json(), bytes, left, right))
+                FileFragment::Json(merge_json(alloc, self.of_json(), bytes, left, right))
             }
             (FileFragment::Lines(_), FileFragment::Json(_)) => unreachable!(),
             (FileFragment::Json(_), FileFragment::Lines(_)) => unreachable!(),

@@ -15,7 +15,8 @@ use std::sync::atomic::{AtomicU64, Ordering};
 use std::test::Fail;
 use std::thread::Threads;
 
-/// Texts whose bytes are written with `~` for a line feed, `^` for a carriage return and `%` for the byte FF.
+/// Texts whose bytes are written with `~` for a line feed, `^` for a carriage return, `%` for the byte FF, `$` for one that
+/// begins a character of three bytes and `@` for one that goes on with a character.
 fn bytes_of(alloc: Global, text: &str) -> Result<Vec<u8>, AllocError> {
     let mut bytes = Vec::new(alloc);
     for byte in text.as_bytes() {
@@ -23,6 +24,8 @@ fn bytes_of(alloc: Global, text: &str) -> Result<Vec<u8>, AllocError> {
             b'~' => b'\n',
             b'^' => b'\r',
             b'%' => 0xFF,
+            b'$' => 0xE2,
+            b'@' => 0x82,
             other => other,
         })?;
     }
@@ -266,7 +269,12 @@ Ended 8|{"type":
 Twin 9|{"a":"a","a":1}
 Form 0|{"type":"point"}
 Ring 33|{"type":"Polygon","coordinates":[[[0,0],[1,0],[1,1]]]}
-NotUtf8 6|{"a":"%"}"#;
+0,|{"type":"Point","é€😀":"é€😀","coordinates":[1,2]}
+NotUtf8 6|{"a":"%"}
+NotUtf8 2|{"@":"é€😀"}
+NotUtf8 15|{"a":"é€😀$"}
+NotUtf8 16|{"é€😀":"é$@é"}
+NotUtf8 25|{"é€😀":"é€😀"}@"#;
 
 /// A text of the table, cut once at each place.
 fn check_text<R: Threads + Sync>(

@@ -1,0 +1,28 @@
+-- The merged fragment of a file of GeoJSON, from what is merged of its text and the joined span of its valid bytes.
+use Rattle.std.proofs.Common.{ℕ, List}
+use Rattle.at_text.specs.Spans.{AreNeighbours, IsMerged}
+use Rattle.at_text.specs.declared.texts.Span.{Span}
+use Rattle.at_nest.specs.Holding.{Kept}
+use Rattle.at_nest.specs.Standing.{StandsFor}
+use Rattle.at_nest.specs.declared.fragments.Fragment.{Fragment}
+use Rattle.at_geojson.specs.declared.asked.GeoAlgebra.{GeoAlgebra}
+use Rattle.at_geojson.specs.declared.atoms.GeoAtom.{GeoAtom}
+use Rattle.at_geojson.specs.Keeping.{Asked}
+use Rattle.at_geojson.specs.Atoms.{IsOwn, IsFold}
+use Rattle.at_run.specs.declared.json_fragments.JsonFragment.{JsonFragment}
+use Rattle.at_run.specs.Encodings.{IsValidIn}
+use Rattle.at_run.specs.JsonFragments.{StandsForText}
+
+module _ (asked : Asked) (bytes : List ℕ) (left right : JsonFragment) where
+  abbrev AreBeside : Type 0
+  AreBeside = (i : ℕ) × (j : ℕ) × (k : ℕ) × AreNeighbours (StandsForText asked) bytes i j k left right
+
+  pub texts_beside : AreBeside → (i : ℕ) × (j : ℕ) × (k : ℕ) × AreNeighbours (StandsFor (Kept (IsOwn asked) (IsFold asked))) bytes i j k left.text right.text
+  texts_beside (i, j, k, (ij, jk, end, l, r)) = (i, j, k, (ij, jk, end, l.0, r.0))
+
+  pub spans_beside : AreBeside → (i : ℕ) × (j : ℕ) × (k : ℕ) × AreNeighbours IsValidIn bytes i j k left.valid right.valid
+  spans_beside (i, j, k, (ij, jk, end, l, r)) = (i, j, k, (ij, jk, end, l.1, r.1))
+
+  pub fragments_merged : (text : Fragment GeoAlgebra GeoAtom) (valid : Span) → IsMerged (StandsFor (Kept (IsOwn asked) (IsFold asked))) bytes left.text right.text text → IsMerged IsValidIn bytes left.valid right.valid valid
+      → IsMerged (StandsForText asked) bytes left right (record { text = text; valid = valid })
+  fragments_merged text valid texts spans i j k (ij, jk, end, l, r) = (texts i j k (ij, jk, end, l.0, r.0), spans i j k (ij, jk, end, l.1, r.1))

@@ -1,0 +1,143 @@
+-- Spans of a file's bytes that are UTF-8, how two of neighbouring parts are joined, and the file around one.
+use Rattle.std.proofs.Common.{◌≡◌, ℕ, zero, suc, ◌+◌, ◌-◌, ◌≤◌, Bool, true, false, if◌then◌else◌, List, ◌++◌, length, take, drop, Option, Some, None, is_some, not, IsTrue, ◌↔◌, refl, sym, ap, subst, ◌∙◌, arith, drop-drop, take-take, take-append-drop, length-drop}
+use Rattle.std.specs.Str.{IsUtf8, is_utf8}
+use Rattle.std.specs.Str.Lossy.{utf8_valid_len, valid_len_up_to}
+use Rattle.std.proofs.lemmas.List.{drop-take, take_rest}
+use Rattle.std.proofs.lemmas.Str.{IsUtf8-nil, IsUtf8-append, IsUtf8-from_is_utf8, is_utf8-from_IsUtf8, utf8_valid_len_le, utf8_valid_len-IsUtf8}
+use Rattle.at_text.specs.Faults.{fault_at}
+use Rattle.at_text.specs.Spans.{part_of, StandsAt, AreNeighbours, IsMerged}
+use Rattle.at_text.specs.Texts.{utf8_fault}
+use Rattle.at_text.specs.declared.faults.Fault.{Fault}
+use Rattle.at_text.specs.declared.faults.FaultKind.TheVariants.{NotUtf8}
+use Rattle.at_text.specs.declared.texts.Span.{Span}
+use Rattle.at_nest.proofs.Behind.{part_length, part_joined}
+use Rattle.at_run.specs.Encodings.{IsValidIn}
+
+-- ---- what a fault of the encoding says
+
+front_by : (bytes : List ℕ) (m n : ℕ) (b : Bool) → is_utf8 (take m bytes) ≡ b → IsUtf8 (take n bytes) → IsUtf8 (take (if b then m else n) bytes)
+front_by bytes m n true is below = IsUtf8-from_is_utf8 (take m bytes) is
+front_by bytes m n false is below = below
+
+front_up_to : (bytes : List ℕ) (n : ℕ) → IsUtf8 (take (valid_len_up_to bytes n) bytes)
+front_up_to bytes zero = IsUtf8-nil
+front_up_to bytes (suc n) = front_by bytes (suc n) (valid_len_up_to bytes n) (is_utf8 (take (suc n) bytes)) refl (front_up_to bytes n)
+
+valid_front : (bytes : List ℕ) → IsUtf8 (take (utf8_valid_len bytes) bytes)
+unfolding utf8_valid_len
+valid_front bytes = front_up_to bytes (length bytes)
+
+none_by : (b : Bool) (fault : Fault) → None ≡ (if b then None else Some fault) → b ≡ true
+none_by true fault e = refl
+none_by false fault e = absurd (cc)
+
+some_by : (b : Bool) (one other : Fault) → Some other ≡ (if b then None else Some one) → one ≡ other
+some_by true one other e = absurd (cc)
+some_by false one other e = cc
+
+faultless : (bytes : List ℕ) → None ≡ utf8_fault bytes → IsUtf8 bytes
+faultless bytes none = IsUtf8-from_is_utf8 bytes (none_by (is_utf8 bytes) (fault_at NotUtf8 (utf8_valid_len bytes)) none)
+
+valid_faultless : (bytes : List ℕ) → IsUtf8 bytes → utf8_fault bytes ≡ None
+valid_faultless bytes valid = rw (is_utf8-from_IsUtf8 bytes valid)
+
+-- what a test for no fault says
+pub faultless_iff : (bytes : List ℕ) (found : Option Fault) (tested : Bool) → found ≡ utf8_fault bytes → is_some found ≡ not tested → IsTrue tested ↔ IsUtf8 bytes
+faultless_iff bytes None true is same = (λ passed. faultless bytes is, λ valid. refl)
+faultless_iff bytes None false is same = absurd (cc)
+faultless_iff bytes (Some fault) true is same = absurd (cc)
+faultless_iff bytes (Some fault) false is same = (λ passed. absurd (cc), λ valid. absurd (let none = valid_faultless bytes valid in cc))
+
+-- where the longest front ends
+pub faultless_len : (bytes : List ℕ) → None ≡ utf8_fault bytes → length bytes ≡ utf8_valid_len bytes
+faultless_len bytes none = sym (utf8_valid_len-IsUtf8 bytes (faultless bytes none))
+
+pub fault_place : (bytes : List ℕ) (fault : Fault) → Some fault ≡ utf8_fault bytes → fault.at ≡ utf8_valid_len bytes
+fault_place bytes fault some = sym (ap (λ (f : Fault). f.at) (some_by (is_utf8 bytes) (fault_at NotUtf8 (utf8_valid_len bytes)) fault some))
+
+pub fault_within : (bytes : List ℕ) (fault : Fault) → Some fault ≡ utf8_fault bytes → fault.at ≤ length bytes
+fault_within bytes fault some = let e = fault_place bytes fault some in let h = utf8_valid_len_le bytes in omega (arith, e, h)
+
+-- ---- a part of a part
+
+part_within : (bytes : List ℕ) (i k m n : ℕ) → i ≤ m → m ≤ n → n ≤ k → part_of (part_of bytes i k) (m - i) (n - i) ≡ part_of bytes m n
+part_within bytes i k m n low order high =
+    let e : k - i ≡ (m - i) + (k - m) = omega arith in
+    let f : i + (m - i) ≡ m = omega arith in
+    let g : n - i - (m - i) ≡ n - m = omega arith in
+    ap (λ z. take (n - i - (m - i)) (drop (m - i) (take z (drop i bytes)))) e
+    ∙ (ap (take (n - i - (m - i))) (drop-take (m - i) (k - m) (drop i bytes) ∙ ap (take (k - m)) (drop-drop (m - i) i bytes ∙ ap (λ z. drop z bytes) f))
+    ∙ (ap (λ z. take z (take (k - m) (drop m bytes))) g ∙ take-take (n - m) (k - m) (drop m bytes) (omega arith)))
+
+-- the longest front of what stands behind the first bytes of a piece
+pub span_stands : (piece : List ℕ) (base skipped len : ℕ) → skipped ≤ length piece → len ≡ utf8_valid_len (part_of piece skipped (length piece)) → IsValidIn base piece (record { from = base + skipped; to = base + skipped + len })
+span_stands piece base skipped len within longest =
+    let rest : List ℕ = drop skipped piece in
+    let is : len ≡ utf8_valid_len rest = longest ∙ ap utf8_valid_len (take_rest piece skipped) in
+    let short : utf8_valid_len rest ≤ length rest = utf8_valid_len_le rest in
+    let left : length rest ≡ length piece - skipped = length-drop skipped piece in
+    let from : base + skipped - base ≡ skipped = omega arith in
+    let count : base + skipped + len - base - (base + skipped - base) ≡ utf8_valid_len rest = omega (arith, is) in
+    record {
+      begins = omega arith;
+      order = omega arith;
+      ends = omega (arith, is, short, left, within);
+      utf8 = subst IsUtf8 (sym (ap (λ z. take (base + skipped + len - base - (base + skipped - base)) (drop z piece)) from ∙ ap (λ z. take z rest) count)) (valid_front rest);
+    }
+
+module _ (bytes : List ℕ) where
+  ends_in : (i k : ℕ) (valid : Span) → i ≤ k → k ≤ length bytes → StandsAt IsValidIn bytes i k valid → valid.to ≤ k
+  ends_in i k valid order within h = let n = part_length bytes i k order within in let e = h.ends in omega (arith, n, e)
+
+  utf8_in : (i k : ℕ) (valid : Span) → i ≤ k → k ≤ length bytes → StandsAt IsValidIn bytes i k valid → IsUtf8 (part_of bytes valid.from valid.to)
+  utf8_in i k valid order within h = subst IsUtf8 (part_within bytes i k valid.from valid.to h.begins h.order (ends_in i k valid order within h)) h.utf8
+
+  stands_in : (i k : ℕ) (valid : Span) → k ≤ length bytes → i ≤ valid.from → valid.from ≤ valid.to → valid.to ≤ k → IsUtf8 (part_of bytes valid.from valid.to) → StandsAt IsValidIn bytes i k valid
+  stands_in i k valid within begins order ends utf8 = record {
+    begins = begins;
+    order = order;
+    ends = (let n = part_length bytes i k (omega arith) within in omega (arith, n));
+    utf8 = subst IsUtf8 (sym (part_within bytes i k valid.from valid.to begins order ends)) utf8;
+  }
+
+  utf8_joined : (i j k : ℕ) → i ≤ j → j ≤ k → IsUtf8 (part_of bytes i j) → IsUtf8 (part_of bytes j k) → IsUtf8 (part_of bytes i k)
+  utf8_joined i j k low high left right = subst IsUtf8 (part_joined bytes i j k low high) (IsUtf8-append (part_of bytes i j) (part_of bytes j k) left right)
+
+  -- ---- two neighbours
+
+  pub spans_joined : (left right : Span) → IsUtf8 (part_of bytes left.to right.from) → IsMerged IsValidIn bytes left right (record { from = left.from; to = right.to })
+  spans_joined left right between i j k (ij, jk, end, l, r) =
+      let l_ends : left.to ≤ j = ends_in i j left ij (omega (arith, jk, end)) l in
+      let r_ends : right.to ≤ k = ends_in j k right jk end r in
+      let l_order = l.order in let r_begins = r.begins in let r_order = r.order in
+      let front : IsUtf8 (part_of bytes left.from right.from) = utf8_joined left.from left.to right.from l_order (omega (arith, l_ends, r_begins)) (utf8_in i j left ij (omega (arith, jk, end)) l) between in
+      stands_in i k (record { from = left.from; to = right.to }) end l.begins (omega (arith, l_order, l_ends, r_begins, r_order)) r_ends
+      (utf8_joined left.from right.from right.to (omega (arith, l_order, l_ends, r_begins)) r_order front (utf8_in j k right jk end r))
+
+  pub left_alone : (left right : Span) → IsMerged IsValidIn bytes left right left
+  left_alone left right i j k (ij, jk, end, l, r) =
+      let l_ends : left.to ≤ j = ends_in i j left ij (omega (arith, jk, end)) l in
+      stands_in i k left end l.begins l.order (omega (arith, l_ends, jk)) (utf8_in i j left ij (omega (arith, jk, end)) l)
+
+  -- between two neighbours
+  pub between_order : (left right : Span) → ((i : ℕ) × (j : ℕ) × (k : ℕ) × AreNeighbours IsValidIn bytes i j k left right) → left.to ≤ right.from
+  between_order left right (i, j, k, (ij, jk, end, l, r)) =
+      let l_ends : left.to ≤ j = ends_in i j left ij (omega (arith, jk, end)) l in let r_begins = r.begins in omega (arith, l_ends, r_begins)
+
+  pub between_ends : (left right : Span) → ((i : ℕ) × (j : ℕ) × (k : ℕ) × AreNeighbours IsValidIn bytes i j k left right) → right.from ≤ length bytes
+  between_ends left right (i, j, k, (ij, jk, end, l, r)) =
+      let r_ends : right.to ≤ k = ends_in j k right jk end r in let r_order = r.order in omega (arith, r_ends, r_order, end)
+
+  -- ---- the whole file
+
+  pub span_ends : (at : ℕ) (valid : Span) → at ≤ length bytes → IsValidIn at (drop at bytes) valid → valid.to ≤ length bytes
+  span_ends at valid within h = let n = length-drop at bytes in let e = h.ends in omega (arith, n, e)
+
+  pub valid_around : (at : ℕ) (valid : Span) → at ≤ length bytes → IsValidIn at (drop at bytes) valid → IsUtf8 (take valid.from bytes) → IsUtf8 (part_of bytes valid.to (length bytes)) → utf8_fault bytes ≡ None
+  valid_around at valid within h front back =
+      let P : List ℕ → Type 0 = λ w. IsValidIn at w valid in
+      let own : IsUtf8 (part_of bytes valid.from valid.to) = utf8_in at (length bytes) valid within (omega arith) (subst P (sym (take_rest bytes at)) h) in
+      let rest : IsUtf8 (part_of bytes valid.from (length bytes)) = utf8_joined valid.from valid.to (length bytes) h.order (span_ends at valid within h) own back in
+      let split : take valid.from bytes ++ part_of bytes valid.from (length bytes) ≡ bytes = ap (λ z. take valid.from bytes ++ z) (take_rest bytes valid.from) ∙ take-append-drop valid.from bytes in
+      let whole : IsUtf8 bytes = subst IsUtf8 split (IsUtf8-append (take valid.from bytes) (part_of bytes valid.from (length bytes)) front rest) in
+      valid_faultless bytes whole
