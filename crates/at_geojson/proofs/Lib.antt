@@ -14,6 +14,7 @@ pub mod MemberFolds
 pub mod QueryFacts
 pub mod ObjectFolds
 pub mod ObjectOwns
+pub mod FieldFolds
 pub mod ObjectAnswers
 pub mod ObjectReads
 pub mod CopyFolds
@@ -22,3 +23,4 @@ pub mod Roots
 pub mod SimpleTexts
 pub mod ValueParts
 pub mod RowFolds
+pub mod MemberReads

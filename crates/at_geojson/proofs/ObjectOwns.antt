@@ -1,6 +1,5 @@
 -- What an object is made of is the algebra's own.
 use Rattle.std.proofs.Common.{◌≡◌, ℕ, Bool, true, false, if◌then◌else◌, bytes_eq, List, [], ◌∷◌, Option, Some, None, Result, Ok, Err, All, refl, sym, ap, subst}
-use Rattle.std.specs.Bool.{⊤}
 use Rattle.std.proofs.lemmas.List.Elements.{All-nil, All-cons, All-head, All-tail}
 use Rattle.at_text.specs.Faults.{fault_at}
 use Rattle.at_text.specs.declared.faults.Fault.{Fault}
@@ -17,6 +16,7 @@ use Rattle.at_geojson.specs.declared.atoms.GeoAtom.{GeoAtom}
 use Rattle.at_geojson.specs.declared.atoms.GeoAtom.TheVariants as atoms
 use Rattle.at_geojson.specs.declared.kinds.Kind.{Kind}
 use Rattle.at_geojson.specs.declared.kinds.Kind.TheVariants as kinds
+use Rattle.at_geojson.specs.Fields.{IfOwnValue}
 use Rattle.at_geojson.specs.Keeping.{Asked, needs_shapes, kept}
 use Rattle.at_geojson.specs.Atoms.{nowhere, at_of, is_empty, is_null, role_of, role_geometry, as_position, as_points, as_lists, as_area, as_areas, as_geometries, as_features, PositionView, PointsView, ListsView, AreasView, IfOwnShape, IfOwnPart, IsOwn}
 use Rattle.at_geojson.specs.Gathering.{seen}
@@ -46,8 +46,7 @@ areas_in a = seen [] (λ (v : AreasView). v.polygons) (as_areas a)
 
 module _ (asked : Asked) where
   abbrev pub IfOwn : Option GeoAtom → Type 0
-  IfOwn None = ⊤
-  IfOwn (Some a) = IsOwn asked a
+  IfOwn o = IfOwnValue asked o
 
   pub own_named : (name : List ℕ) (xs : List (Member GeoAtom)) → All (λ (m : Member GeoAtom). IsOwn asked m.value) xs → IfOwn (value_named name xs)
   own_named name [] h = tt

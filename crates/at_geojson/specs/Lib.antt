@@ -6,9 +6,11 @@ pub mod Atoms
 pub mod Gathering
 pub mod Arrays
 pub mod Objects
+pub mod Fields
 pub mod Ends
 pub mod Copies
 pub mod Wholes
 pub mod Places
 pub mod Values
 pub mod Rows
+pub mod Members

@@ -6,6 +6,7 @@ mod asked;
 mod atoms;
 mod coordinates;
 mod copying;
+mod fields;
 mod kinds;
 mod lists;
 mod members;

@@ -1,42 +1,41 @@
-ghost use Rattle.std.specs.Prelude.{◌≡◌, All, IfOk, Some, None, codes};
+ghost use Rattle.std.specs.Prelude.{◌≡◌, All, IfOk, Some};
 ghost use Rattle.at_nest.specs.Tree.{Members, object as object_tree};
 ghost use Rattle.at_nest.specs.Folds.{AreMemberFolds};
 ghost use Rattle.at_geojson.specs.Atoms.{IsOwn, IsOwnRole, IsFold};
 ghost use Rattle.at_geojson.specs.Keeping.{needs_shapes as needs_of};
-ghost use Rattle.at_geojson.specs.Objects.{kind_in, value_named, coordinates_shape, IsRoleOf, MakesObject};
+ghost use Rattle.at_geojson.specs.Objects.{coordinates_shape, MakesObject};
+ghost use Rattle.at_geojson.specs.Fields.{AreOwnFields, IsRoleIn, MakesFields};
 
 use crate::asked::GeoAlgebra;
 use crate::atoms::{GeoAtom, ObjectAtom, Role, Roles};
+use crate::fields::{Fields, fields_of};
 use crate::kinds::Kind;
-use crate::members::{kind_of, take};
 use crate::objects::{feature_shape, of_coordinates, of_feature, of_features, of_geometries};
 use crate::texts::{feature_texts, kept_texts};
 use crate::twins::first_twin_of_members;
 use at_nest::Member;
+use at_query::TextPairs;
 use at_text::Memory;
 use std::alloc::Global;
-
-const COORDINATES: &[u16] = &[99, 111, 111, 114, 100, 105, 110, 97, 116, 101, 115];
-
-const GEOMETRIES: &[u16] = &[103, 101, 111, 109, 101, 116, 114, 105, 101, 115];
-
-const GEOMETRY: &[u16] = &[103, 101, 111, 109, 101, 116, 114, 121];
-
-const FEATURES: &[u16] = &[102, 101, 97, 116, 117, 114, 101, 115];
 
 /// A feature at the offset.
 fn feature_role(
     alloc: Global,
     algebra: &GeoAlgebra,
     at: u32,
-    members: Vec<Member<GeoAtom>>,
+    fields: Fields,
 ) -> Result<Role, Memory>
-    requires { All (λ m. IsOwn algebra.now m.value) members.items }
+    requires { AreOwnFields algebra.now fields }
     ensures own { IfOk result (IsOwnRole algebra.now) }
-    ensures role { IfOk result (IsRoleOf algebra.now.query at (Some Kind.Feature) members.items) }
+    ensures role { IfOk result (IsRoleIn algebra.now.query at (Some Kind.Feature) fields) }
 {
-    let texts = feature_texts(alloc, members.as_slice())?;
-    let shape = feature_shape(alloc, take(members, GEOMETRY));
+    let Fields {
+        geometry,
+        properties,
+        ..
+    } = fields;
+    let texts = feature_texts(alloc, &properties)?;
+    let shape = feature_shape(alloc, geometry);
     Ok(Role::Feature(of_feature(alloc, algebra, at, shape, texts)?))
 }
 
@@ -46,14 +45,14 @@ fn coordinates_role(
     algebra: &GeoAlgebra,
     at: u32,
     kind: Kind,
-    members: Vec<Member<GeoAtom>>,
+    fields: Fields,
 ) -> Result<Role, Memory>
-    requires { All (λ m. IsOwn algebra.now m.value) members.items }
+    requires { AreOwnFields algebra.now fields }
     ensures own { IfOk result (IsOwnRole algebra.now) }
-    ensures role { IfOk result (λ role. role ≡ Role.Geometry (coordinates_shape (needs_of algebra.now.query) at kind (value_named (codes "coordinates") members.items))) }
+    ensures role { IfOk result (λ role. role ≡ Role.Geometry (coordinates_shape (needs_of algebra.now.query) at kind fields.coordinates)) }
 {
-    let coordinates = take(members, COORDINATES);
-    Ok(Role::Geometry(of_coordinates(alloc, algebra.needs_shapes(), at, kind, coordinates)?))
+    let needs = algebra.needs_shapes();
+    Ok(Role::Geometry(of_coordinates(alloc, needs, at, kind, fields.coordinates)?))
 }
 
 /// What an object at the offset is by its kind.
@@ -62,11 +61,11 @@ fn role_of(
     algebra: &GeoAlgebra,
     at: u32,
     kind: Option<Kind>,
-    members: Vec<Member<GeoAtom>>,
+    fields: Fields,
 ) -> Result<Role, Memory>
-    requires { All (λ m. IsOwn algebra.now m.value) members.items }
+    requires { AreOwnFields algebra.now fields }
     ensures own { IfOk result (IsOwnRole algebra.now) }
-    ensures role { IfOk result (IsRoleOf algebra.now.query at kind members.items) }
+    ensures role { IfOk result (IsRoleIn algebra.now.query at kind fields) }
 {
     match kind {
         None => Ok(Role::Nothing),
@@ -74,33 +73,56 @@ fn role_of(
             alloc,
             algebra.query(),
             at,
-            take(members, FEATURES),
+            fields.features,
         ))),
-        Some(Kind::Feature) => feature_role(alloc, algebra, at, members),
+        Some(Kind::Feature) => feature_role(alloc, algebra, at, fields),
         Some(Kind::GeometryCollection) => Ok(Role::Geometry(of_geometries(
             alloc,
             at,
-            take(members, GEOMETRIES),
+            fields.geometries,
         ))),
-        Some(Kind::Point) => coordinates_role(alloc, algebra, at, Kind::Point, members),
-        Some(Kind::MultiPoint) => coordinates_role(alloc, algebra, at, Kind::MultiPoint, members),
-        Some(Kind::LineString) => coordinates_role(alloc, algebra, at, Kind::LineString, members),
+        Some(Kind::Point) => coordinates_role(alloc, algebra, at, Kind::Point, fields),
+        Some(Kind::MultiPoint) => coordinates_role(alloc, algebra, at, Kind::MultiPoint, fields),
+        Some(Kind::LineString) => coordinates_role(alloc, algebra, at, Kind::LineString, fields),
         Some(Kind::MultiLineString) => coordinates_role(
             alloc,
             algebra,
             at,
             Kind::MultiLineString,
-            members,
+            fields,
         ),
-        Some(Kind::Polygon) => coordinates_role(alloc, algebra, at, Kind::Polygon, members),
+        Some(Kind::Polygon) => coordinates_role(alloc, algebra, at, Kind::Polygon, fields),
         Some(Kind::MultiPolygon) => coordinates_role(
             alloc,
             algebra,
             at,
             Kind::MultiPolygon,
-            members,
+            fields,
         ),
     }
+}
+
+/// An object at the offset in which no name stands twice, with the texts for which the query asks.
+pub fn fields_atom(
+    alloc: Global,
+    algebra: &GeoAlgebra,
+    at: u32,
+    fields: Fields,
+    texts: TextPairs,
+) -> Result<GeoAtom, Memory>
+    requires { AreOwnFields algebra.now fields }
+    ensures own { IfOk result (IsOwn algebra.now) }
+    ensures made { IfOk result (MakesFields algebra.now.query at fields texts) }
+{
+    let kind = fields.kind();
+    if kind.is_none() && texts.as_slice().is_empty() {
+        return Ok(GeoAtom::Void(at));
+    }
+    let role = role_of(alloc, algebra, at, kind, fields)?;
+    Ok(GeoAtom::Object(ObjectAtom {
+        at,
+        roles: Box::new(alloc, Roles { role, texts })?,
+    }))
 }
 
 /// An object at the offset in which no name stands twice.
@@ -114,16 +136,8 @@ fn members_atom(
     ensures own { IfOk result (IsOwn algebra.now) }
     ensures made { IfOk result (MakesObject algebra.now.query at members.items) }
 {
-    let kind = kind_of(members.as_slice());
     let texts = kept_texts(alloc, algebra.query().tests.as_slice(), members.as_slice())?;
-    if kind.is_none() && texts.as_slice().is_empty() {
-        return Ok(GeoAtom::Void(at));
-    }
-    let role = role_of(alloc, algebra, at, kind, members)?;
-    Ok(GeoAtom::Object(ObjectAtom {
-        at,
-        roles: Box::new(alloc, Roles { role, texts })?,
-    }))
+    fields_atom(alloc, algebra, at, fields_of(members), texts)
 }
 
 /// An object that begins at the offset.

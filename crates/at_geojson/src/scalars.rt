@@ -67,7 +67,7 @@ fn decoded_atom(
 }
 
 /// Whether each byte stands for the unit of its own number.
-fn is_simple(text: &[u8]) -> bool
+pub fn is_simple(text: &[u8]) -> bool
     ensures { result ≡ list_all simple_byte text.now }
 {
     for b in text {

@@ -1,6 +1,6 @@
-ghost use Rattle.std.specs.Prelude.{◌≡◌, ◌++◌, [], IfOk, codes};
+ghost use Rattle.std.specs.Prelude.{◌≡◌, ◌++◌, [], IfOk};
 ghost use Rattle.at_geojson.specs.Atoms.{as_text};
-ghost use Rattle.at_geojson.specs.Objects.{value_named, texts_in as texts_inside, texts_named, pair_kept, kept_texts as the_kept_texts};
+ghost use Rattle.at_geojson.specs.Objects.{texts_in as texts_inside, texts_named, pair_kept, kept_texts as the_kept_texts};
 
 use crate::asked::asks_pair;
 use crate::atoms::GeoAtom;
@@ -11,8 +11,6 @@ use at_nest::Member;
 use at_query::{Test, TextPair, TextPairs};
 use at_text::{Fault, Memory};
 use std::alloc::Global;
-
-const PROPERTIES: &[u16] = &[112, 114, 111, 112, 101, 114, 116, 105, 101, 115];
 
 /// A second list of the same units.
 pub fn copy_units(alloc: Global, units: &Units) -> Result<Units, Memory>
@@ -59,16 +57,14 @@ fn texts_in(alloc: Global, atom: &GeoAtom) -> Result<Result<TextPairs, Fault>, M
 /// A feature's texts, of its member `properties`.
 pub fn feature_texts(
     alloc: Global,
-    members: &[Member<GeoAtom>],
+    properties: &Option<GeoAtom>,
 ) -> Result<Result<TextPairs, Fault>, Memory>
-    ensures { IfOk result (λ r. r ≡ texts_named (value_named (codes "properties") members.now)) }
+    ensures { IfOk result (λ r. r ≡ texts_named properties.now) }
 {
-    for member in members {
-        if member.name.as_slice() == PROPERTIES {
-            return texts_in(alloc, &member.value);
-        }
+    match properties {
+        Some(atom) => texts_in(alloc, atom),
+        None => Ok(Ok(TextPairs::from_vec(Vec::new(alloc)))),
     }
-    Ok(Ok(TextPairs::from_vec(Vec::new(alloc))))
 }
 
 /// Puts a text behind the others, where the query asks for it.

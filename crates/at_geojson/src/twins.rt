@@ -1,4 +1,4 @@
-ghost use Rattle.std.specs.Prelude.{◌≡◌, [], IfOk};
+ghost use Rattle.std.specs.Prelude.{◌≡◌, [], IfOk, is_some};
 ghost use Rattle.at_geojson.specs.Atoms.{twin_of as the_twin};
 ghost use Rattle.at_geojson.specs.Gathering.{firsts, is_among as name_among, twin_at, member_twins};
 
@@ -16,6 +16,13 @@ fn twin_of(atom: &GeoAtom) -> Option<Fault>
         GeoAtom::Twin(fault) => Some(*fault),
         _ => None,
     }
+}
+
+/// Whether a value has equal names in it.
+pub fn is_twin(atom: &GeoAtom) -> bool
+    ensures { result ≡ is_some (the_twin atom.now) }
+{
+    twin_of(atom).is_some()
 }
 
 /// The first fault of equal names in values.

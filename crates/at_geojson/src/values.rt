@@ -1,19 +1,27 @@
 //! Whole values of a text, read at once by descent: the same atoms as of the same values read item by item.
 
-ghost use Rattle.std.specs.Prelude.{◌≡◌, ◌+◌, ◌<◌, ◌≤◌, ◌^◌, length, slice_index, All, IfOk};
+ghost use Rattle.std.specs.Prelude.{◌≡◌, ◌+◌, ◌<◌, ◌≤◌, ◌^◌, length, slice_index, All, false, IfOk};
+ghost use Rattle.std.specs.List.{list_any};
+ghost use Rattle.at_geojson.specs.Keeping.{looks_at_texts};
 ghost use Rattle.at_geojson.specs.Atoms.{IsOwn};
+ghost use Rattle.at_geojson.specs.Fields.{AreOwnFields};
+ghost use Rattle.at_geojson.specs.Members.{EndsFields};
 ghost use Rattle.at_geojson.specs.Values.{IsWhole, IsItem, AreItemsRead, AreMembersRead, EndsArray, EndsObject};
 
-use crate::asked::GeoAlgebra;
+use crate::asked::{GeoAlgebra, needs_texts};
 use crate::atoms::{GeoAtom, NumberAtom};
+use crate::fields::{Fields, field_of_bytes};
 use crate::lists::array_atom;
-use crate::object_atoms::object_atom;
+use crate::members::new_name;
+use crate::object_atoms::{fields_atom, object_atom};
 use crate::pairs::{PairRead, Whole, read_pair, read_points};
 use crate::places::{Stop, name_place, skip_spaces, stands, text_end};
 use crate::scalars::scalar_atom;
+use crate::twins::is_twin;
 use at_fixed::{Notation, plain_number};
 use at_lex::{take_run, units};
 use at_nest::Member;
+use at_query::TextPairs;
 use std::alloc::Global;
 
 /// Room that a list of items or members is given at first.
@@ -247,6 +255,88 @@ fn ended_object(
 /// An object from its opening bracket on, which stands at the place.
 #[cycle(values)]
 fn read_object(
+    algebra: &GeoAlgebra,
+    alloc: Global,
+    text: &[u8],
+    base: u32,
+    at: usize,
+    depth: u8,
+) -> Result<Whole, Stop>
+    requires inside { at < length text.now }
+    requires opens { slice_index text.now at ≡ 0x7B }
+    requires fits { base + length text.now ≤ 2 ^ 28 }
+    ensures { IfOk result (IsWhole algebra.now base text.now at) }
+{
+    if needs_texts(algebra.query().tests.as_slice()) {
+        read_members(algebra, alloc, text, base, at, depth)
+    } else {
+        read_fields(algebra, alloc, text, base, at, depth)
+    }
+}
+
+/// An object without the texts of its members, of its fields, whose closing bracket stands before the place.
+fn ended_fields(
+    algebra: &GeoAlgebra,
+    alloc: Global,
+    at: u32,
+    end: usize,
+    fields: Fields,
+) -> Result<Whole, Stop>
+    requires { AreOwnFields algebra.now fields }
+    ensures { IfOk result (EndsFields algebra.now at end fields) }
+{
+    let texts = TextPairs::from_vec(Vec::new(alloc));
+    let atom = fields_atom(alloc, algebra, at, fields, texts)?;
+    Ok(Whole { end, atom })
+}
+
+/// An object where no test looks at texts, from its opening bracket on, which stands at the place.
+#[cycle(values)]
+fn read_fields(
+    algebra: &GeoAlgebra,
+    alloc: Global,
+    text: &[u8],
+    base: u32,
+    at: usize,
+    depth: u8,
+) -> Result<Whole, Stop>
+    requires inside { at < length text.now }
+    requires opens { slice_index text.now at ≡ 0x7B }
+    requires fits { base + length text.now ≤ 2 ^ 28 }
+    requires unasked { list_any looks_at_texts algebra.now.query.tests ≡ false }
+    ensures { IfOk result (IsWhole algebra.now base text.now at) }
+{
+    if depth == 0 {
+        return Err(Stop::At(at));
+    }
+    let first = skip_spaces(text, at + 1);
+    let mut fields = Fields::none();
+    if stands(text, first, b'}') {
+        return ended_fields(algebra, alloc, base + at as u32, first + 1, fields);
+    }
+    let mut names = Vec::with_capacity(alloc, ROOM)?;
+    let mut place = at + 1;
+    'fields: loop {
+        let name = new_name(text, names.as_slice(), place)?;
+        names.push(name)?;
+        let Whole { end, atom } = read_item(algebra, alloc, text, base, name.colon + 1, depth - 1)?;
+        if is_twin(&atom) {
+            return Err(Stop::At(end));
+        }
+        fields.put(field_of_bytes(&text[name.first + 1..name.end - 1]), atom);
+        if stands(text, end, b'}') {
+            return ended_fields(algebra, alloc, base + at as u32, end + 1, fields);
+        }
+        if !stands(text, end, b',') {
+            return Err(Stop::At(end));
+        }
+        place = end + 1;
+    }
+}
+
+/// An object with the texts of its members, from its opening bracket on, which stands at the place.
+#[cycle(values)]
+fn read_members(
     algebra: &GeoAlgebra,
     alloc: Global,
     text: &[u8],

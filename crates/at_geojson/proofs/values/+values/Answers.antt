@@ -1,11 +1,14 @@
 -- Each item and each member is read behind those before it.
-use Rattle.std.proofs.Common.{All, sym, subst, arith, ◌+◌}
+use Rattle.std.proofs.Common.{[], All, refl, sym, subst, arith, ◌+◌}
 use Rattle.std.proofs.lemmas.Result.{IfOk-weaker}
 use Rattle.at_nest.specs.declared.algebra.Member.{Member}
 use Rattle.at_geojson.specs.declared.atoms.GeoAtom.{GeoAtom}
 use Rattle.at_geojson.specs.Atoms.{IsOwn}
 use Rattle.at_geojson.specs.Values.{AreItemsRead, AreMembersRead, EndsArray, EndsObject}
+use Rattle.at_geojson.specs.Members.{name_in, AreFieldsRead}
 use Rattle.at_geojson.proofs.ValueParts.{pair_whole, items_begin, items_go_on, items_own, array_read, empty_read, name_text, name_units, members_begin, members_go_on, members_own, object_read, void_read}
+use Rattle.at_geojson.proofs.FieldFolds.{own_fields}
+use Rattle.at_geojson.proofs.MemberReads.{fields_begin, longer_fields, fields_go_on, ends_fields, ends_longer}
 use Rattle.at_geojson.proofs.values.+values.Goals as goal
 
 pub read_array-returns-then-stands : goal.read_array-returns-then-stands
@@ -34,28 +37,28 @@ read_array-items-preserved t c =
           (items_go_on c.args.algebra.now c.args.base c.args.text.now c.args.at c.items.place c.items.items.items c.in_ok-end.field-0 c.items.invariant.order c.items.invariant.read c.in_ok-end.ensures inside (c.stands-in-items-2.ensures.byte here));
     }
 
-pub read_object-returns-then-stands : goal.read_object-returns-then-stands
-read_object-returns-then-stands t c = IfOk-weaker c.ended_object.result _ _ (λ q e. void_read c.args.algebra.now c.args.base c.args.text.now c.args.at c.skip_spaces-first.result q (omega (arith, c.skip_spaces-first.ensures.order)) (c.stands.ensures.inside c.if-stands.true) c.requires.opens
+pub read_members-returns-then-stands : goal.read_members-returns-then-stands
+read_members-returns-then-stands t c = IfOk-weaker c.ended_object.result _ _ (λ q e. void_read c.args.algebra.now c.args.base c.args.text.now c.args.at c.skip_spaces-first.result q (omega (arith, c.skip_spaces-first.ensures.order)) (c.stands.ensures.inside c.if-stands.true) c.requires.opens
     (c.stands.ensures.byte c.if-stands.true) c.skip_spaces-first.ensures.spaces (subst (λ z. EndsObject c.args.algebra.now (c.args.base + c.args.at) (c.skip_spaces-first.result + 1) z q) c.in_ok-members.ensures.items e)) c.ended_object.ensures
 
-pub read_object-members-init : goal.read_object-members-init
-read_object-members-init t c = record { order = omega arith; within = omega (arith, c.requires.inside); read = subst (AreMembersRead c.args.algebra.now c.args.base c.args.text.now c.args.at (c.args.at + 1)) (sym c.in_ok-members.ensures.items) (members_begin c.args.algebra.now c.args.base c.args.text.now c.args.at c.requires.inside) }
+pub read_members-members-init : goal.read_members-members-init
+read_members-members-init t c = record { order = omega arith; within = omega (arith, c.requires.inside); read = subst (AreMembersRead c.args.algebra.now c.args.base c.args.text.now c.args.at (c.args.at + 1)) (sym c.in_ok-members.ensures.items) (members_begin c.args.algebra.now c.args.base c.args.text.now c.args.at c.requires.inside) }
 
-pub read_object-units-requires-clause-whole : goal.read_object-units-requires-clause-whole
-read_object-units-requires-clause-whole t c = name_text c.args.text.now c.members.place c.in_ok-name.name c.in_ok-name.ensures
+pub read_members-units-requires-clause-whole : goal.read_members-units-requires-clause-whole
+read_members-units-requires-clause-whole t c = name_text c.args.text.now c.members.place c.in_ok-name.name c.in_ok-name.ensures
 
-pub read_object-ended_object-requires-then-stands-2 : goal.read_object-ended_object-requires-then-stands-2
-read_object-ended_object-requires-then-stands-2 t c = subst (All (λ (m : Member GeoAtom). IsOwn c.args.algebra.now m.value)) (sym c.in_ok-push.ensures.items)
+pub read_members-ended_object-requires-then-stands-2 : goal.read_members-ended_object-requires-then-stands-2
+read_members-ended_object-requires-then-stands-2 t c = subst (All (λ (m : Member GeoAtom). IsOwn c.args.algebra.now m.value)) (sym c.in_ok-push.ensures.items)
     (members_own c.args.algebra.now c.args.base c.args.text.now c.args.at c.members.place c.members.members.items c.in_ok-name.name c.in_ok-units.units c.in_ok-end.field-0 c.members.invariant.read c.in_ok-end.ensures)
 
-pub read_object-returns-then-stands-2 : goal.read_object-returns-then-stands-2
-read_object-returns-then-stands-2 t c = IfOk-weaker c.ended_object-then-stands-2.result _ _ (λ q e. object_read c.args.algebra.now c.args.base c.args.text.now c.args.at c.members.place c.members.members.items c.in_ok-name.name c.in_ok-units.units c.in_ok-end.field-0 q
+pub read_members-returns-then-stands-2 : goal.read_members-returns-then-stands-2
+read_members-returns-then-stands-2 t c = IfOk-weaker c.ended_object-then-stands-2.result _ _ (λ q e. object_read c.args.algebra.now c.args.base c.args.text.now c.args.at c.members.place c.members.members.items c.in_ok-name.name c.in_ok-units.units c.in_ok-end.field-0 q
     c.members.invariant.order c.requires.opens c.members.invariant.read c.in_ok-name.ensures (name_units c.args.text.now c.members.place c.in_ok-name.name c.in_ok-units.units c.in_ok-name.ensures c.in_ok-units.ensures) c.in_ok-end.ensures
     (c.stands-in-members.ensures.inside c.if-stands-2.true) (c.stands-in-members.ensures.byte c.if-stands-2.true)
     (subst (λ z. EndsObject c.args.algebra.now (c.args.base + c.args.at) (c.in_ok-end.field-0.end + 1) z q) c.in_ok-push.ensures.items e)) c.ended_object-then-stands-2.ensures
 
-pub read_object-members-preserved : goal.read_object-members-preserved
-read_object-members-preserved t c =
+pub read_members-members-preserved : goal.read_members-members-preserved
+read_members-members-preserved t c =
     let here = c.if-not-stands.false in
     let inside = c.stands-in-members-2.ensures.inside here in
     record {
@@ -68,3 +71,45 @@ read_object-members-preserved t c =
 
 pub read_any-returns-in-Some : goal.read_any-returns-in-Some
 read_any-returns-in-Some t c = pair_whole c.args.algebra.now c.args.base c.args.text.now c.args.at c.in-Some.field-0 c.in-Some.ensures
+
+pub read_fields-returns-then-stands : goal.read_fields-returns-then-stands
+read_fields-returns-then-stands t c = IfOk-weaker c.ended_fields.result _ _ (λ q e. void_read c.args.algebra.now c.args.base c.args.text.now c.args.at c.skip_spaces-first.result q (omega (arith, c.skip_spaces-first.ensures.order)) (c.stands.ensures.inside c.if-stands.true) c.requires.opens
+    (c.stands.ensures.byte c.if-stands.true) c.skip_spaces-first.ensures.spaces (ends_fields c.args.algebra.now c.args.base c.args.text.now (c.args.base + c.args.at) (c.skip_spaces-first.result + 1) c.none-fields.result [] q e c.none-fields.ensures refl c.requires.unasked)) c.ended_fields.ensures
+
+pub read_fields-fields-init : goal.read_fields-fields-init
+read_fields-fields-init t c = record {
+  order = omega arith;
+  within = omega (arith, c.requires.inside);
+  read = subst (λ z. AreFieldsRead c.args.algebra.now c.args.base c.args.text.now c.args.at (c.args.at + 1) z c.none-fields.result) (sym c.in_ok-names.ensures.items)
+      (fields_begin c.args.algebra.now c.args.base c.args.text.now c.args.at c.none-fields.result c.requires.inside c.none-fields.ensures);
+}
+
+pub read_fields-ended_fields-requires-then-stands-2 : goal.read_fields-ended_fields-requires-then-stands-2
+read_fields-ended_fields-requires-then-stands-2 t c =
+    let l = longer_fields c.args.algebra.now c.args.base c.args.text.now c.args.at c.fields.place c.fields.names.items c.as_slice.result.now c.fields.fields c.in_ok-name.name c.in_ok-end.field-0 c.put.new.self c.field_of_bytes.result c.is_twin.result
+    c.fields.invariant.read c.in_ok-name.ensures.plain c.as_slice.ensures.value c.in_ok-name.ensures.new c.is_twin.ensures c.if-is_twin.false c.field_of_bytes.ensures
+    c.put.ensures.kind c.put.ensures.coordinates c.put.ensures.geometry c.put.ensures.properties c.put.ensures.features c.put.ensures.geometries in
+    own_fields c.args.algebra.now c.put.new.self _ l.are (members_own c.args.algebra.now c.args.base c.args.text.now c.args.at c.fields.place l.before.members c.in_ok-name.name (name_in c.args.text.now c.in_ok-name.name) c.in_ok-end.field-0 l.before.read c.in_ok-end.ensures)
+
+pub read_fields-returns-then-stands-2 : goal.read_fields-returns-then-stands-2
+read_fields-returns-then-stands-2 t c =
+    let l = longer_fields c.args.algebra.now c.args.base c.args.text.now c.args.at c.fields.place c.fields.names.items c.as_slice.result.now c.fields.fields c.in_ok-name.name c.in_ok-end.field-0 c.put.new.self c.field_of_bytes.result c.is_twin.result
+    c.fields.invariant.read c.in_ok-name.ensures.plain c.as_slice.ensures.value c.in_ok-name.ensures.new c.is_twin.ensures c.if-is_twin.false c.field_of_bytes.ensures
+    c.put.ensures.kind c.put.ensures.coordinates c.put.ensures.geometry c.put.ensures.properties c.put.ensures.features c.put.ensures.geometries in
+    IfOk-weaker c.ended_fields-then-stands-2.result _ _ (λ q e. object_read c.args.algebra.now c.args.base c.args.text.now c.args.at c.fields.place l.before.members c.in_ok-name.name (name_in c.args.text.now c.in_ok-name.name) c.in_ok-end.field-0 q
+    c.fields.invariant.order c.requires.opens l.before.read c.in_ok-name.ensures.place l.plain.units c.in_ok-end.ensures (c.stands-in-fields.ensures.inside c.if-stands-2.true) (c.stands-in-fields.ensures.byte c.if-stands-2.true)
+    (ends_longer c.args.algebra.now c.args.base c.args.text.now c.args.at c.fields.place (c.in_ok-end.field-0.end + 1) c.fields.names.items c.fields.fields c.in_ok-name.name c.in_ok-end.field-0 c.put.new.self q l e c.requires.unasked)) c.ended_fields-then-stands-2.ensures
+
+pub read_fields-fields-preserved : goal.read_fields-fields-preserved
+read_fields-fields-preserved t c =
+    let l = longer_fields c.args.algebra.now c.args.base c.args.text.now c.args.at c.fields.place c.fields.names.items c.as_slice.result.now c.fields.fields c.in_ok-name.name c.in_ok-end.field-0 c.put.new.self c.field_of_bytes.result c.is_twin.result
+    c.fields.invariant.read c.in_ok-name.ensures.plain c.as_slice.ensures.value c.in_ok-name.ensures.new c.is_twin.ensures c.if-is_twin.false c.field_of_bytes.ensures
+    c.put.ensures.kind c.put.ensures.coordinates c.put.ensures.geometry c.put.ensures.properties c.put.ensures.features c.put.ensures.geometries in
+    let here = c.if-not-stands.false in
+    let inside = c.stands-in-fields-2.ensures.inside here in
+    record {
+      order = omega (arith, c.fields.invariant.order, c.in_ok-name.ensures.place.before, c.in_ok-name.ensures.place.text.0, c.in_ok-name.ensures.place.behind, c.in_ok-end.ensures.order);
+      within = omega (arith, inside);
+      read = subst (λ z. AreFieldsRead c.args.algebra.now c.args.base c.args.text.now c.args.at (c.in_ok-end.field-0.end + 1) z c.put.new.self) (sym c.in_ok-push.ensures.items)
+          (fields_go_on c.args.algebra.now c.args.base c.args.text.now c.args.at c.fields.place c.fields.names.items c.fields.fields c.in_ok-name.name c.in_ok-end.field-0 c.put.new.self c.fields.invariant.order l c.in_ok-name.ensures.place c.in_ok-end.ensures inside (c.stands-in-fields-2.ensures.byte here));
+    }

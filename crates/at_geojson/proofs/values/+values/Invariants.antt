@@ -1,6 +1,7 @@
 -- Between items: those before were read. Brackets stand less deep in a part.
 use Rattle.std.proofs.Common.{◌+◌, ◌*◌, ◌-◌, ◌<◌, ◌≤◌, length}
 use Rattle.at_geojson.specs.Values.{AreItemsRead, AreMembersRead}
+use Rattle.at_geojson.specs.Members.{AreFieldsRead}
 use Rattle.at_geojson.proofs.values.+values.Given as goal
 
 abbrev pub decreases-read_value : goal.decreases-read_value
@@ -19,7 +20,13 @@ abbrev pub decreases-read_array : goal.decreases-read_array
 decreases-read_array l = 5 * l.depth
 
 abbrev pub decreases-read_object : goal.decreases-read_object
-decreases-read_object l = 5 * l.depth
+decreases-read_object l = 5 * l.depth + 1
+
+abbrev pub decreases-read_members : goal.decreases-read_members
+decreases-read_members l = 5 * l.depth
+
+abbrev pub decreases-read_fields : goal.decreases-read_fields
+decreases-read_fields l = 5 * l.depth
 
 abbrev pub invariant-read_array-items : goal.invariant-read_array-items
 invariant-read_array-items l = record { order : l.at < l.place; within : l.place ≤ length l.text; read : AreItemsRead l.algebra l.base l.text l.at l.place l.items.items }
@@ -27,8 +34,14 @@ invariant-read_array-items l = record { order : l.at < l.place; within : l.place
 abbrev pub decreases-read_array-items : goal.decreases-read_array-items
 decreases-read_array-items l = length l.text - l.place
 
-abbrev pub invariant-read_object-members : goal.invariant-read_object-members
-invariant-read_object-members l = record { order : l.at < l.place; within : l.place ≤ length l.text; read : AreMembersRead l.algebra l.base l.text l.at l.place l.members.items }
+abbrev pub invariant-read_members-members : goal.invariant-read_members-members
+invariant-read_members-members l = record { order : l.at < l.place; within : l.place ≤ length l.text; read : AreMembersRead l.algebra l.base l.text l.at l.place l.members.items }
 
-abbrev pub decreases-read_object-members : goal.decreases-read_object-members
-decreases-read_object-members l = length l.text - l.place
+abbrev pub decreases-read_members-members : goal.decreases-read_members-members
+decreases-read_members-members l = length l.text - l.place
+
+abbrev pub invariant-read_fields-fields : goal.invariant-read_fields-fields
+invariant-read_fields-fields l = record { order : l.at < l.place; within : l.place ≤ length l.text; read : AreFieldsRead l.algebra l.base l.text l.at l.place l.names.items l.fields }
+
+abbrev pub decreases-read_fields-fields : goal.decreases-read_fields-fields
+decreases-read_fields-fields l = length l.text - l.place

@@ -1,0 +1,175 @@
+-- The members for which some kind of object asks: of each name the first, and what is made of them is what is made of all members.
+use Rattle.std.proofs.Common.{◌≡◌, inl, inr, ℕ, Bool, true, false, if◌then◌else◌, bytes_eq, codes, List, [], ◌∷◌, ◌++◌, All, Option, Some, None, refl, sym, ◌∙◌, ap, subst}
+use Rattle.std.proofs.lemmas.Slice.Eq.{bytes_eq-Decides}
+use Rattle.at_text.specs.declared.faults.Fault.{Fault}
+use Rattle.std.specs.Prelude.{Result, Ok, Err}
+use Rattle.at_nest.specs.declared.algebra.Member.{Member}
+use Rattle.at_query.specs.declared.features.TextPair.{TextPair}
+use Rattle.at_query.specs.declared.queries.Query.{Query}
+use Rattle.at_query.specs.declared.parts.Part.{Part}
+use Rattle.at_geojson.specs.declared.kinds.Kind.{Kind}
+use Rattle.at_geojson.specs.declared.kinds.Kind.TheVariants as kinds
+use Rattle.at_geojson.specs.declared.atoms.GeoAtom.{GeoAtom}
+use Rattle.at_geojson.specs.declared.atoms.Role.{Role}
+use Rattle.at_geojson.specs.declared.atoms.Role.TheVariants as roles
+use Rattle.at_geojson.specs.declared.fields.Field.{Field}
+use Rattle.at_geojson.specs.declared.fields.Fields.{Fields}
+use Rattle.at_geom.specs.declared.shapes.Shape.{Shape}
+use Rattle.at_geojson.specs.Keeping.{Asked, needs_shapes}
+use Rattle.at_geojson.specs.Atoms.{as_kind, IsOwn, IfOwnPart}
+use Rattle.at_geojson.specs.Gathering.{seen}
+use Rattle.at_geojson.specs.Objects.{value_named, kind_in, coordinates_shape, geometries_shape, feature_shape, texts_named, kept_texts, FeaturesSeen, JoinsFeature, IsRoleOf, MakesObject}
+use Rattle.at_geojson.specs.Fields.{first_field, field_of, is_kind, is_coordinates, is_geometry, is_properties, is_features, is_geometries, put_if, AreFields, AreOwnFields, kind_in_fields, IfOwnValue, IsRoleIn, MakesFields}
+use Rattle.at_geojson.proofs.ObjectOwns.{own_named}
+
+-- ---- one member more
+
+kept_value : {X : Type 0} (b : Bool) (x y : X) → Some x ≡ put_if b (Some x) y
+kept_value true x y = refl
+kept_value false x y = refl
+
+value_more : (wanted : List ℕ) (ms : List (Member GeoAtom)) (m : Member GeoAtom) → value_named wanted (ms ++ m ∷ []) ≡ put_if (bytes_eq m.name wanted) (value_named wanted ms) m.value
+value_more wanted [] m = go (bytes_eq m.name wanted) where
+  go : (b : Bool) → (if b then Some m.value else None) ≡ put_if b None m.value
+  go true = refl
+  go false = refl
+value_more wanted (x ∷ ms) m = go (bytes_eq x.name wanted) (value_more wanted ms m) where
+  go : (b : Bool) → value_named wanted (ms ++ m ∷ []) ≡ put_if (bytes_eq m.name wanted) (value_named wanted ms) m.value
+      → (if b then Some x.value else value_named wanted (ms ++ m ∷ [])) ≡ put_if (bytes_eq m.name wanted) (if b then Some x.value else value_named wanted ms) m.value
+  go true e = kept_value (bytes_eq m.name wanted) x.value m.value
+  go false e = e
+
+-- ---- the member of a name
+
+-- a name that is one text is no other
+no_other_name : (name a b : List ℕ) → bytes_eq a b ≡ false → bytes_eq name a ≡ true → bytes_eq name b ≡ false
+no_other_name name a b e h = ap (λ z. bytes_eq z b) ((bytes_eq-Decides name a).0 h) ∙ e
+
+kind_first : (a b c d e f : Bool) → is_kind (first_field a b c d e f) ≡ a
+kind_first true b c d e f = refl
+kind_first false true c d e f = refl
+kind_first false false true d e f = refl
+kind_first false false false true e f = refl
+kind_first false false false false true f = refl
+kind_first false false false false false true = refl
+kind_first false false false false false false = refl
+
+coordinates_first : (a b c d e f : Bool) → (a ≡ true → b ≡ false) → is_coordinates (first_field a b c d e f) ≡ b
+coordinates_first true b c d e f h0 = sym (h0 refl)
+coordinates_first false true c d e f h0 = refl
+coordinates_first false false true d e f h0 = refl
+coordinates_first false false false true e f h0 = refl
+coordinates_first false false false false true f h0 = refl
+coordinates_first false false false false false true h0 = refl
+coordinates_first false false false false false false h0 = refl
+
+geometry_first : (a b c d e f : Bool) → (a ≡ true → c ≡ false) → (b ≡ true → c ≡ false) → is_geometry (first_field a b c d e f) ≡ c
+geometry_first true b c d e f h0 h1 = sym (h0 refl)
+geometry_first false true c d e f h0 h1 = sym (h1 refl)
+geometry_first false false true d e f h0 h1 = refl
+geometry_first false false false true e f h0 h1 = refl
+geometry_first false false false false true f h0 h1 = refl
+geometry_first false false false false false true h0 h1 = refl
+geometry_first false false false false false false h0 h1 = refl
+
+properties_first : (a b c d e f : Bool) → (a ≡ true → d ≡ false) → (b ≡ true → d ≡ false) → (c ≡ true → d ≡ false) → is_properties (first_field a b c d e f) ≡ d
+properties_first true b c d e f h0 h1 h2 = sym (h0 refl)
+properties_first false true c d e f h0 h1 h2 = sym (h1 refl)
+properties_first false false true d e f h0 h1 h2 = sym (h2 refl)
+properties_first false false false true e f h0 h1 h2 = refl
+properties_first false false false false true f h0 h1 h2 = refl
+properties_first false false false false false true h0 h1 h2 = refl
+properties_first false false false false false false h0 h1 h2 = refl
+
+features_first : (a b c d e f : Bool) → (a ≡ true → e ≡ false) → (b ≡ true → e ≡ false) → (c ≡ true → e ≡ false) → (d ≡ true → e ≡ false) → is_features (first_field a b c d e f) ≡ e
+features_first true b c d e f h0 h1 h2 h3 = sym (h0 refl)
+features_first false true c d e f h0 h1 h2 h3 = sym (h1 refl)
+features_first false false true d e f h0 h1 h2 h3 = sym (h2 refl)
+features_first false false false true e f h0 h1 h2 h3 = sym (h3 refl)
+features_first false false false false true f h0 h1 h2 h3 = refl
+features_first false false false false false true h0 h1 h2 h3 = refl
+features_first false false false false false false h0 h1 h2 h3 = refl
+
+geometries_first : (a b c d e f : Bool) → (a ≡ true → f ≡ false) → (b ≡ true → f ≡ false) → (c ≡ true → f ≡ false) → (d ≡ true → f ≡ false) → (e ≡ true → f ≡ false) → is_geometries (first_field a b c d e f) ≡ f
+geometries_first true b c d e f h0 h1 h2 h3 h4 = sym (h0 refl)
+geometries_first false true c d e f h0 h1 h2 h3 h4 = sym (h1 refl)
+geometries_first false false true d e f h0 h1 h2 h3 h4 = sym (h2 refl)
+geometries_first false false false true e f h0 h1 h2 h3 h4 = sym (h3 refl)
+geometries_first false false false false true f h0 h1 h2 h3 h4 = sym (h4 refl)
+geometries_first false false false false false true h0 h1 h2 h3 h4 = refl
+geometries_first false false false false false false h0 h1 h2 h3 h4 = refl
+
+kind_field : (name : List ℕ) → is_kind (field_of name) ≡ bytes_eq name (codes "type")
+kind_field name = kind_first (bytes_eq name (codes "type")) (bytes_eq name (codes "coordinates")) (bytes_eq name (codes "geometry")) (bytes_eq name (codes "properties")) (bytes_eq name (codes "features")) (bytes_eq name (codes "geometries"))
+
+coordinates_field : (name : List ℕ) → is_coordinates (field_of name) ≡ bytes_eq name (codes "coordinates")
+coordinates_field name = coordinates_first (bytes_eq name (codes "type")) (bytes_eq name (codes "coordinates")) (bytes_eq name (codes "geometry")) (bytes_eq name (codes "properties")) (bytes_eq name (codes "features")) (bytes_eq name (codes "geometries")) (no_other_name name (codes "type") (codes "coordinates") refl)
+
+geometry_field : (name : List ℕ) → is_geometry (field_of name) ≡ bytes_eq name (codes "geometry")
+geometry_field name = geometry_first (bytes_eq name (codes "type")) (bytes_eq name (codes "coordinates")) (bytes_eq name (codes "geometry")) (bytes_eq name (codes "properties")) (bytes_eq name (codes "features")) (bytes_eq name (codes "geometries")) (no_other_name name (codes "type") (codes "geometry") refl) (no_other_name name (codes "coordinates") (codes "geometry") refl)
+
+properties_field : (name : List ℕ) → is_properties (field_of name) ≡ bytes_eq name (codes "properties")
+properties_field name = properties_first (bytes_eq name (codes "type")) (bytes_eq name (codes "coordinates")) (bytes_eq name (codes "geometry")) (bytes_eq name (codes "properties")) (bytes_eq name (codes "features")) (bytes_eq name (codes "geometries")) (no_other_name name (codes "type") (codes "properties") refl) (no_other_name name (codes "coordinates") (codes "properties") refl) (no_other_name name (codes "geometry") (codes "properties") refl)
+
+features_field : (name : List ℕ) → is_features (field_of name) ≡ bytes_eq name (codes "features")
+features_field name = features_first (bytes_eq name (codes "type")) (bytes_eq name (codes "coordinates")) (bytes_eq name (codes "geometry")) (bytes_eq name (codes "properties")) (bytes_eq name (codes "features")) (bytes_eq name (codes "geometries")) (no_other_name name (codes "type") (codes "features") refl) (no_other_name name (codes "coordinates") (codes "features") refl) (no_other_name name (codes "geometry") (codes "features") refl) (no_other_name name (codes "properties") (codes "features") refl)
+
+geometries_field : (name : List ℕ) → is_geometries (field_of name) ≡ bytes_eq name (codes "geometries")
+geometries_field name = geometries_first (bytes_eq name (codes "type")) (bytes_eq name (codes "coordinates")) (bytes_eq name (codes "geometry")) (bytes_eq name (codes "properties")) (bytes_eq name (codes "features")) (bytes_eq name (codes "geometries")) (no_other_name name (codes "type") (codes "geometries") refl) (no_other_name name (codes "coordinates") (codes "geometries") refl) (no_other_name name (codes "geometry") (codes "geometries") refl) (no_other_name name (codes "properties") (codes "geometries") refl) (no_other_name name (codes "features") (codes "geometries") refl)
+
+-- one member more
+pub fields_more : (f g : Fields) (ms : List (Member GeoAtom)) (m : Member GeoAtom) (field : Field) → field ≡ field_of m.name → AreFields f ms
+    → g.kind ≡ put_if (is_kind field) f.kind m.value
+    → g.coordinates ≡ put_if (is_coordinates field) f.coordinates m.value
+    → g.geometry ≡ put_if (is_geometry field) f.geometry m.value
+    → g.properties ≡ put_if (is_properties field) f.properties m.value
+    → g.features ≡ put_if (is_features field) f.features m.value
+    → g.geometries ≡ put_if (is_geometries field) f.geometries m.value
+    → AreFields g (ms ++ m ∷ [])
+fields_more f g ms m field same h e0 e1 e2 e3 e4 e5 = record {
+  kind = e0 ∙ (ap (λ b. put_if b f.kind m.value) (ap is_kind same ∙ kind_field m.name) ∙ (ap (λ o. put_if (bytes_eq m.name (codes "type")) o m.value) h.kind ∙ sym (value_more (codes "type") ms m)));
+  coordinates = e1 ∙ (ap (λ b. put_if b f.coordinates m.value) (ap is_coordinates same ∙ coordinates_field m.name) ∙ (ap (λ o. put_if (bytes_eq m.name (codes "coordinates")) o m.value) h.coordinates ∙ sym (value_more (codes "coordinates") ms m)));
+  geometry = e2 ∙ (ap (λ b. put_if b f.geometry m.value) (ap is_geometry same ∙ geometry_field m.name) ∙ (ap (λ o. put_if (bytes_eq m.name (codes "geometry")) o m.value) h.geometry ∙ sym (value_more (codes "geometry") ms m)));
+  properties = e3 ∙ (ap (λ b. put_if b f.properties m.value) (ap is_properties same ∙ properties_field m.name) ∙ (ap (λ o. put_if (bytes_eq m.name (codes "properties")) o m.value) h.properties ∙ sym (value_more (codes "properties") ms m)));
+  features = e4 ∙ (ap (λ b. put_if b f.features m.value) (ap is_features same ∙ features_field m.name) ∙ (ap (λ o. put_if (bytes_eq m.name (codes "features")) o m.value) h.features ∙ sym (value_more (codes "features") ms m)));
+  geometries = e5 ∙ (ap (λ b. put_if b f.geometries m.value) (ap is_geometries same ∙ geometries_field m.name) ∙ (ap (λ o. put_if (bytes_eq m.name (codes "geometries")) o m.value) h.geometries ∙ sym (value_more (codes "geometries") ms m)));
+}
+
+-- ---- what is made of them
+
+pub own_fields : (asked : Asked) (f : Fields) (ms : List (Member GeoAtom)) → AreFields f ms → All (λ (m : Member GeoAtom). IsOwn asked m.value) ms → AreOwnFields asked f
+own_fields asked f ms h own = record {
+  coordinates = subst (IfOwnValue asked) (sym h.coordinates) (own_named asked (codes "coordinates") ms own);
+  geometry = subst (IfOwnValue asked) (sym h.geometry) (own_named asked (codes "geometry") ms own);
+  features = subst (IfOwnValue asked) (sym h.features) (own_named asked (codes "features") ms own);
+  geometries = subst (IfOwnValue asked) (sym h.geometries) (own_named asked (codes "geometries") ms own);
+}
+
+pub kind_of_fields : (f : Fields) (ms : List (Member GeoAtom)) → AreFields f ms → kind_in_fields f ≡ kind_in ms
+kind_of_fields f ms h = ap (seen None as_kind) h.kind
+
+coordinates_role : (query : Query) (at : ℕ) (kind : Kind) (f : Fields) (ms : List (Member GeoAtom)) (role : Role) → AreFields f ms → role ≡ roles.Geometry (coordinates_shape (needs_shapes query) at kind f.coordinates)
+    → role ≡ roles.Geometry (coordinates_shape (needs_shapes query) at kind (value_named (codes "coordinates") ms))
+coordinates_role query at kind f ms role h e = e ∙ ap (λ o. roles.Geometry (coordinates_shape (needs_shapes query) at kind o)) h.coordinates
+
+pub role_of_fields : (query : Query) (at : ℕ) (kind : Option Kind) (f : Fields) (ms : List (Member GeoAtom)) (role : Role) → AreFields f ms → IsRoleIn query at kind f role → IsRoleOf query at kind ms role
+role_of_fields query at None f ms role h e = e
+role_of_fields query at (Some kinds.FeatureCollection) f ms role h (p, e, s) = (p, e, subst (λ o. FeaturesSeen query at o p) h.features s)
+role_of_fields query at (Some kinds.Feature) f ms role h (p, e, j) = (p, e, subst (λ o. JoinsFeature query at (feature_shape o) (texts_named (value_named (codes "properties") ms)) p) h.geometry (subst (λ o. JoinsFeature query at (feature_shape f.geometry) (texts_named o) p) h.properties j))
+role_of_fields query at (Some kinds.GeometryCollection) f ms role h e = e ∙ ap (λ o. roles.Geometry (geometries_shape at o)) h.geometries
+role_of_fields query at (Some kinds.Point) f ms role h e = coordinates_role query at kinds.Point f ms role h e
+role_of_fields query at (Some kinds.MultiPoint) f ms role h e = coordinates_role query at kinds.MultiPoint f ms role h e
+role_of_fields query at (Some kinds.LineString) f ms role h e = coordinates_role query at kinds.LineString f ms role h e
+role_of_fields query at (Some kinds.MultiLineString) f ms role h e = coordinates_role query at kinds.MultiLineString f ms role h e
+role_of_fields query at (Some kinds.Polygon) f ms role h e = coordinates_role query at kinds.Polygon f ms role h e
+role_of_fields query at (Some kinds.MultiPolygon) f ms role h e = coordinates_role query at kinds.MultiPolygon f ms role h e
+
+pub object_of_fields : (query : Query) (at : ℕ) (f : Fields) (ms : List (Member GeoAtom)) (texts : List TextPair) (r : GeoAtom) → AreFields f ms → texts ≡ kept_texts query.tests ms → MakesFields query at f texts r → MakesObject query at ms r
+object_of_fields query at f ms texts r h t (inl (k, e, q)) = inl (sym (kind_of_fields f ms h) ∙ k, sym t ∙ e, q)
+object_of_fields query at f ms texts r h t (inr (o, q, a, e, i)) = inr (o, q, a, e ∙ t, role_of_fields query at (kind_in ms) f ms o.roles.value.role h (subst (λ k. IsRoleIn query at k f o.roles.value.role) (kind_of_fields f ms h) i))
+
+pub own_feature : (asked : Asked) (at : ℕ) (shape : Result Shape Fault) (texts : Result (List TextPair) Fault) (r : Result Part Fault) → JoinsFeature asked.query at shape texts r → IfOwnPart asked r
+own_feature asked at (Ok shape) (Ok texts) r (part, e, p) = subst (IfOwnPart asked) (sym e) (record { at = at; shape = shape; texts = texts } ∷ [], p)
+own_feature asked at (Ok shape) (Err g) r e = subst (IfOwnPart asked) (sym e) tt
+own_feature asked at (Err f) (Ok texts) r e = subst (IfOwnPart asked) (sym e) tt
+own_feature asked at (Err f) (Err g) r (first, e, n) = subst (IfOwnPart asked) (sym e) tt

@@ -1,0 +1,43 @@
+-- The members of an object that is read at once. Only contracts of private functions cite this.
+use Rattle.std.specs.Prelude.{◌≡◌, ℕ, ◌+◌, ◌-◌, ◌≤◌, Bool, bytes_eq, List, [], All, map, length, take, drop, None}
+use Rattle.std.specs.List.{list_any}
+use Rattle.at_fixed.specs.Kept.{part}
+use Rattle.at_lex.specs.Strings.{AreUnitsOf}
+use Rattle.at_nest.specs.declared.algebra.Member.{Member}
+use Rattle.at_geojson.specs.declared.atoms.GeoAtom.{GeoAtom}
+use Rattle.at_geojson.specs.declared.fields.Fields.{Fields}
+use Rattle.at_geojson.specs.declared.places.NamePlace.{NamePlace}
+use Rattle.at_geojson.specs.declared.pairs.Whole.{Whole}
+use Rattle.at_geojson.specs.Keeping.{Asked}
+use Rattle.at_geojson.specs.Atoms.{IsOwn}
+use Rattle.at_geojson.specs.Gathering.{member_twins}
+use Rattle.at_geojson.specs.Fields.{AreFields, MakesFields}
+use Rattle.at_geojson.specs.Values.{AreMembersRead}
+
+-- the bytes between the quotes
+abbrev pub name_in : List ℕ → NamePlace → List ℕ
+name_in w n = take (n.end - 1 - (n.first + 1)) (drop (n.first + 1) w)
+
+-- the bytes between the quotes are the name's units
+pub record IsPlainName (w : List ℕ) (n : NamePlace) : Type 0 where
+  pub order : n.first + 1 ≤ n.end - 1
+  pub within : n.end ≤ length w
+  pub units : AreUnitsOf (part w n.first n.end) (name_in w n)
+
+abbrev pub is_named_among : List ℕ → List NamePlace → List ℕ → Bool
+is_named_among w names name = list_any (λ n. bytes_eq name (name_in w n)) names
+
+-- the atom of the fields of an object without texts, and the place behind the bracket
+pub record EndsFields (asked : Asked) (at end : ℕ) (fields : Fields) (p : Whole) : Type 0 where
+  pub behind : p.end ≡ end
+  pub own : IsOwn asked p.atom
+  pub made : MakesFields asked.query at fields [] p.atom
+
+-- between the members of an object: those before the place were read, and no name stands twice
+pub record AreFieldsRead (asked : Asked) (base : ℕ) (w : List ℕ) (at place : ℕ) (names : List NamePlace) (fields : Fields) : Type 0 where
+  pub members : List (Member GeoAtom)
+  pub read : AreMembersRead asked base w at place members
+  pub are : AreFields fields members
+  pub named : map (λ (m : Member GeoAtom). m.name) members ≡ map (name_in w) names
+  pub plain : All (IsPlainName w) names
+  pub no_twin : member_twins [] members ≡ None

@@ -1,0 +1,166 @@
+//! The members of an object for which some kind of object asks, by their names (RFC 7946 section 3).
+
+ghost use Rattle.std.specs.Prelude.{◌≡◌, [], IfOk};
+ghost use Rattle.at_geojson.specs.Atoms.{as_kind};
+ghost use Rattle.at_geojson.specs.Fields.{field_of, put_if, put_first as first_put, is_kind, is_coordinates, is_geometry, is_geometries, is_properties, is_features, AreFields, kind_in_fields};
+
+use crate::atoms::GeoAtom;
+use crate::kinds::Kind;
+use at_nest::Member;
+
+/// Which member of an object has a name.
+#[derive(Clone, Copy, Debug, PartialEq, Eq)]
+pub enum Field {
+    /// `type`
+    Kind,
+    Coordinates,
+    Geometry,
+    Properties,
+    Features,
+    Geometries,
+    /// A member for which no kind asks.
+    Other,
+}
+
+/// Of an object's members, the value of the first of each name for which some kind asks.
+#[derive(Drop)]
+pub struct Fields {
+    pub kind: Option<GeoAtom>,
+    pub coordinates: Option<GeoAtom>,
+    pub geometry: Option<GeoAtom>,
+    pub properties: Option<GeoAtom>,
+    pub features: Option<GeoAtom>,
+    pub geometries: Option<GeoAtom>,
+}
+
+const KIND: &[u16] = &[116, 121, 112, 101];
+
+const COORDINATES: &[u16] = &[99, 111, 111, 114, 100, 105, 110, 97, 116, 101, 115];
+
+const GEOMETRY: &[u16] = &[103, 101, 111, 109, 101, 116, 114, 121];
+
+const PROPERTIES: &[u16] = &[112, 114, 111, 112, 101, 114, 116, 105, 101, 115];
+
+const FEATURES: &[u16] = &[102, 101, 97, 116, 117, 114, 101, 115];
+
+const GEOMETRIES: &[u16] = &[103, 101, 111, 109, 101, 116, 114, 105, 101, 115];
+
+/// The member that has the name.
+fn field_of_units(name: &[u16]) -> Field
+    ensures { result ≡ field_of name.now }
+{
+    if name == KIND {
+        Field::Kind
+    } else if name == COORDINATES {
+        Field::Coordinates
+    } else if name == GEOMETRY {
+        Field::Geometry
+    } else if name == PROPERTIES {
+        Field::Properties
+    } else if name == FEATURES {
+        Field::Features
+    } else if name == GEOMETRIES {
+        Field::Geometries
+    } else {
+        Field::Other
+    }
+}
+
+/// The member that has the name, in ASCII.
+pub fn field_of_bytes(name: &[u8]) -> Field
+    ensures { result ≡ field_of name.now }
+{
+    if name == b"type".as_slice() {
+        Field::Kind
+    } else if name == b"coordinates".as_slice() {
+        Field::Coordinates
+    } else if name == b"geometry".as_slice() {
+        Field::Geometry
+    } else if name == b"properties".as_slice() {
+        Field::Properties
+    } else if name == b"features".as_slice() {
+        Field::Features
+    } else if name == b"geometries".as_slice() {
+        Field::Geometries
+    } else {
+        Field::Other
+    }
+}
+
+/// Puts a value in its place, unless one is there.
+#[inline(always)]
+fn put_first(place: &mut Option<GeoAtom>, value: GeoAtom)
+    ensures { place.new ≡ first_put place.old value }
+{
+    if place.is_none() {
+        *place = Some(value);
+    }
+}
+
+/// The kind that a value names.
+fn kind_named(atom: &GeoAtom) -> Option<Kind>
+    ensures { result ≡ as_kind atom.now }
+{
+    match atom {
+        GeoAtom::Text(text) => text.kind,
+        _ => None,
+    }
+}
+
+impl Fields {
+    /// No members.
+    pub fn none() -> Fields
+        ensures { AreFields result [] }
+    {
+        Fields {
+            kind: None,
+            coordinates: None,
+            geometry: None,
+            properties: None,
+            features: None,
+            geometries: None,
+        }
+    }
+
+    /// One more member.
+    #[inline(always)]
+    pub fn put(&mut self, field: Field, value: GeoAtom)
+        ensures kind { self.new.kind ≡ put_if (is_kind field) self.old.kind value }
+        ensures coordinates { self.new.coordinates ≡ put_if (is_coordinates field) self.old.coordinates value }
+        ensures geometry { self.new.geometry ≡ put_if (is_geometry field) self.old.geometry value }
+        ensures properties { self.new.properties ≡ put_if (is_properties field) self.old.properties value }
+        ensures features { self.new.features ≡ put_if (is_features field) self.old.features value }
+        ensures geometries { self.new.geometries ≡ put_if (is_geometries field) self.old.geometries value }
+    {
+        match field {
+            Field::Kind => put_first(&mut self.kind, value),
+            Field::Coordinates => put_first(&mut self.coordinates, value),
+            Field::Geometry => put_first(&mut self.geometry, value),
+            Field::Properties => put_first(&mut self.properties, value),
+            Field::Features => put_first(&mut self.features, value),
+            Field::Geometries => put_first(&mut self.geometries, value),
+            Field::Other => {}
+        }
+    }
+
+    /// The kind that the object says it is.
+    pub fn kind(&self) -> Option<Kind>
+        ensures { result ≡ kind_in_fields self.now }
+    {
+        match &self.kind {
+            Some(atom) => kind_named(atom),
+            None => None,
+        }
+    }
+}
+
+/// The members for which some kind asks.
+pub fn fields_of(members: Vec<Member<GeoAtom>>) -> Fields
+    ensures { AreFields result members.items }
+{
+    let mut fields = Fields::none();
+    for member in members {
+        fields.put(field_of_units(member.name.as_slice()), member.value);
+    }
+    fields
+}
