@@ -23,18 +23,14 @@ fn feature_role(
     alloc: Global,
     algebra: &GeoAlgebra,
     at: u32,
-    fields: Fields,
+    fields: &mut Fields,
 ) -> Result<Role, Memory>
-    requires { AreOwnFields algebra.now fields }
+    requires { AreOwnFields algebra.now fields.old }
     ensures own { IfOk result (IsOwnRole algebra.now) }
-    ensures role { IfOk result (IsRoleIn algebra.now.query at (Some Kind.Feature) fields) }
+    ensures role { IfOk result (IsRoleIn algebra.now.query at (Some Kind.Feature) fields.old) }
 {
-    let Fields {
-        geometry,
-        properties,
-        ..
-    } = fields;
-    let texts = feature_texts(alloc, &properties)?;
+    let texts = feature_texts(alloc, &fields.properties)?;
+    let geometry = fields.geometry.take();
     let shape = feature_shape(alloc, geometry);
     Ok(Role::Feature(of_feature(alloc, algebra, at, shape, texts)?))
 }
@@ -45,14 +41,15 @@ fn coordinates_role(
     algebra: &GeoAlgebra,
     at: u32,
     kind: Kind,
-    fields: Fields,
+    fields: &mut Fields,
 ) -> Result<Role, Memory>
-    requires { AreOwnFields algebra.now fields }
+    requires { AreOwnFields algebra.now fields.old }
     ensures own { IfOk result (IsOwnRole algebra.now) }
-    ensures role { IfOk result (λ role. role ≡ Role.Geometry (coordinates_shape (needs_of algebra.now.query) at kind fields.coordinates)) }
+    ensures role { IfOk result (λ role. role ≡ Role.Geometry (coordinates_shape (needs_of algebra.now.query) at kind fields.old.coordinates)) }
 {
     let needs = algebra.needs_shapes();
-    Ok(Role::Geometry(of_coordinates(alloc, needs, at, kind, fields.coordinates)?))
+    let coordinates = fields.coordinates.take();
+    Ok(Role::Geometry(of_coordinates(alloc, needs, at, kind, coordinates)?))
 }
 
 /// What an object at the offset is by its kind.
@@ -61,11 +58,11 @@ fn role_of(
     algebra: &GeoAlgebra,
     at: u32,
     kind: Option<Kind>,
-    fields: Fields,
+    fields: &mut Fields,
 ) -> Result<Role, Memory>
-    requires { AreOwnFields algebra.now fields }
+    requires { AreOwnFields algebra.now fields.old }
     ensures own { IfOk result (IsOwnRole algebra.now) }
-    ensures role { IfOk result (IsRoleIn algebra.now.query at kind fields) }
+    ensures role { IfOk result (IsRoleIn algebra.now.query at kind fields.old) }
 {
     match kind {
         None => Ok(Role::Nothing),
@@ -73,13 +70,13 @@ fn role_of(
             alloc,
             algebra.query(),
             at,
-            fields.features,
+            fields.features.take(),
         ))),
         Some(Kind::Feature) => feature_role(alloc, algebra, at, fields),
         Some(Kind::GeometryCollection) => Ok(Role::Geometry(of_geometries(
             alloc,
             at,
-            fields.geometries,
+            fields.geometries.take(),
         ))),
         Some(Kind::Point) => coordinates_role(alloc, algebra, at, Kind::Point, fields),
         Some(Kind::MultiPoint) => coordinates_role(alloc, algebra, at, Kind::MultiPoint, fields),
@@ -107,12 +104,12 @@ pub fn fields_atom(
     alloc: Global,
     algebra: &GeoAlgebra,
     at: u32,
-    fields: Fields,
+    fields: &mut Fields,
     texts: TextPairs,
 ) -> Result<GeoAtom, Memory>
-    requires { AreOwnFields algebra.now fields }
+    requires { AreOwnFields algebra.now fields.old }
     ensures own { IfOk result (IsOwn algebra.now) }
-    ensures made { IfOk result (MakesFields algebra.now.query at fields texts) }
+    ensures made { IfOk result (MakesFields algebra.now.query at fields.old texts) }
 {
     let kind = fields.kind();
     if kind.is_none() && texts.as_slice().is_empty() {
@@ -137,7 +134,8 @@ fn members_atom(
     ensures made { IfOk result (MakesObject algebra.now.query at members.items) }
 {
     let texts = kept_texts(alloc, algebra.query().tests.as_slice(), members.as_slice())?;
-    fields_atom(alloc, algebra, at, fields_of(members), texts)
+    let mut fields = fields_of(members);
+    fields_atom(alloc, algebra, at, &mut fields, texts)
 }
 
 /// An object that begins at the offset.

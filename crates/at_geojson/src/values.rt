@@ -280,10 +280,10 @@ fn ended_fields(
     alloc: Global,
     at: u32,
     end: usize,
-    fields: Fields,
+    fields: &mut Fields,
 ) -> Result<Whole, Stop>
-    requires { AreOwnFields algebra.now fields }
-    ensures { IfOk result (EndsFields algebra.now at end fields) }
+    requires { AreOwnFields algebra.now fields.old }
+    ensures { IfOk result (EndsFields algebra.now at end fields.old) }
 {
     let texts = TextPairs::from_vec(Vec::new(alloc));
     let atom = fields_atom(alloc, algebra, at, fields, texts)?;
@@ -312,7 +312,7 @@ fn read_fields(
     let first = skip_spaces(text, at + 1);
     let mut fields = Fields::none();
     if stands(text, first, b'}') {
-        return ended_fields(algebra, alloc, base + at as u32, first + 1, fields);
+        return ended_fields(algebra, alloc, base + at as u32, first + 1, &mut fields);
     }
     let mut names = Vec::with_capacity(alloc, ROOM)?;
     let mut place = at + 1;
@@ -325,7 +325,7 @@ fn read_fields(
         }
         fields.put(field_of_bytes(&text[name.first + 1..name.end - 1]), atom);
         if stands(text, end, b'}') {
-            return ended_fields(algebra, alloc, base + at as u32, end + 1, fields);
+            return ended_fields(algebra, alloc, base + at as u32, end + 1, &mut fields);
         }
         if !stands(text, end, b',') {
             return Err(Stop::At(end));
