@@ -3,6 +3,7 @@ pub mod Distinct
 pub mod Files
 pub mod NamedFiles
 pub mod MemShelves
+pub mod RepeatShelves
 pub mod Sinks
 pub mod PutFails
 pub mod MemSinks

@@ -1,14 +1,16 @@
 //! Where bytes come from and where they go: shelves of files and sinks, each with its content where it tells
 //! that, and with a count of its own faults, so that a call that answers `Failed` has a cause that it can't make up.
 //!
-//! `MemShelf` and `MemSink` tell all that they hold and fail where they are told to. `DiskShelf` and `StdSink`
-//! stand over the real files and streams, of which nothing can be proved but the counts.
+//! `MemShelf` and `MemSink` tell all that they hold and fail where they are told to. `RepeatShelf` tells one file of
+//! equal bytes, of any length, and stores none of them. `DiskShelf` and `StdSink` stand over the real files and
+//! streams, of which nothing can be proved but the counts.
 #![tactic(auto)]
 
 mod counts;
 mod disk;
 mod mem_shelf;
 mod mem_sink;
+mod repeat_shelf;
 mod shelf;
 mod sink;
 mod streams;
@@ -17,6 +19,7 @@ mod whole;
 pub use disk::DiskShelf;
 pub use mem_shelf::{MemShelf, NamedFile};
 pub use mem_sink::{MemSink, PutFail};
+pub use repeat_shelf::RepeatShelf;
 pub use shelf::{Failed, Shelf};
 pub use sink::Sink;
 pub use streams::StdSink;

@@ -62,6 +62,42 @@ fn whole_files(rt: HostRuntime) -> Result<(), Fail> {
     Ok(())
 }
 
+/// A file of equal bytes: whole in turns, in short reads to its end, again from its first byte, and by another name.
+#[test]
+fn equal_bytes(rt: HostRuntime) -> Result<(), Fail> {
+    let name = String::from_str(rt.alloc(), "b.wkt")?;
+    let mut shelf = RepeatShelf::new(name, b' ', 70_001);
+    let mut room = [0u8; 4];
+    assert_eq!(rt; shelf.read(&mut room), Ok(0), "nothing is begun");
+    match read_whole(rt.alloc(), &mut shelf, "b.wkt") {
+        Ok(bytes) => {
+            assert_eq!(rt; bytes.len(), 70_001);
+            assert!(rt; bytes.iter().all(|byte| *byte == b' '));
+        }
+        Err(error) => panic!(rt; "{error:?}"),
+    }
+    assert_eq!(rt; shelf.read(&mut room), Ok(0), "nothing is left");
+    let another = read_whole(rt.alloc(), &mut shelf, "b.wk");
+    assert!(rt; matches!(&another, Err(ReadError::Failed)), "another name");
+    assert_eq!(rt; shelf.read(&mut room), Ok(0), "nothing is begun now");
+    assert_eq!(rt; shelf.begin("b.wkt"), Ok(()));
+    assert_eq!(rt; shelf.read(&mut room[1..3]), Ok(2));
+    assert_eq!(rt; room, [0, b' ', b' ', 0]);
+    Ok(())
+}
+
+/// A file of as many bytes as a `u64` counts, of which a few are read.
+#[test]
+fn the_longest_file(rt: HostRuntime) -> Result<(), Fail> {
+    let name = String::from_str(rt.alloc(), "")?;
+    let mut shelf = RepeatShelf::new(name, 255, u64::MAX);
+    let mut room = [0u8; 3];
+    assert_eq!(rt; shelf.begin(""), Ok(()));
+    assert_eq!(rt; shelf.read(&mut room), Ok(3));
+    assert_eq!(rt; room, [255, 255, 255]);
+    Ok(())
+}
+
 /// Puts into a sink with room for five bytes, whose put 1 keeps at most two: the piece, whether it fails, and
 /// what is written after it.
 #[test]
