@@ -1,24 +1,20 @@
--- A file each of whose lines spells a geometry is valid UTF-8: what the grammar of lines spells is ASCII, and so are the ends of lines.
-use Rattle.std.proofs.Common.{◌≡◌, ℕ, ◌+◌, ◌<◌, ◌==◌, inl, inr, Bool, true, false, not, nat_eq, cond, if◌then◌else◌, IsTrue, List, [], ◌∷◌, ◌++◌, length, take, drop, map, Option, Some, None, codes, refl, sym, subst, arith, take-append-drop}
-use Rattle.std.specs.List.{AllByRecursion, list_all, starts_with, slice_split, onto_first}
+-- What the grammar of lines spells is ASCII, but for labels, and so it is valid UTF-8.
+use Rattle.std.proofs.Common.{◌≡◌, ℕ, ◌+◌, ◌<◌, ◌==◌, inl, inr, Bool, true, IsTrue, List, [], ◌∷◌, ◌++◌, length, map, Option, Some, None, codes, refl, sym, subst, arith}
+use Rattle.std.specs.List.{AllByRecursion, list_all}
 use Rattle.std.specs.Option.{IfSome}
 use Rattle.std.specs.Char.{to_ascii_uppercase, is_ascii}
 use Rattle.std.specs.Str.{IsUtf8, IsAscii}
-use Rattle.std.proofs.lemmas.Str.{IsUtf8-nil, IsUtf8-append, IsUtf8-from_ascii, is_utf8-from_IsUtf8}
+use Rattle.std.proofs.lemmas.Str.{IsUtf8-from_ascii}
 use Rattle.std.proofs.lemmas.Str.Ascii.{IsAscii-nil, IsAscii-cons, uppercase_is}
 use Rattle.std.proofs.lemmas.List.Sums.{AllPass-from_list_all}
 use Rattle.std.proofs.lemmas.List.Elements.{recursion_from_All}
-use Rattle.std.proofs.lemmas.Slice.Eq.{bytes_eq-Decides}
 use Rattle.at_text.specs.Parts.{Exactly, AnyCase, Many, OneOrMore, ◌▸◌, At}
-use Rattle.at_text.specs.Texts.{utf8_fault, base_of, byte_order_mark, is_digit, is_one_of}
+use Rattle.at_text.specs.Texts.{is_digit, is_one_of}
 use Rattle.at_fixed.specs.Numerals.{Numeral, Exponent, IsExponent, IsAtMostOneOf, AreDigits, AreSomeDigits, AreWktDigits, fraction_text, exponent_text}
-use Rattle.at_fixed.specs.declared.rounding.Coords.{Coords}
 use Rattle.at_wkt.specs.Positions.{Position, Positions}
 use Rattle.at_wkt.specs.Geometry.{Geometry, point, line_string, polygon, multi_point, multi_line_string, multi_polygon, collection, Geometries, no_geometries, geometry_and, is_blank, SpellsNumber, SpellsFurther, SpellsPosition, InBrackets, EmptyWord, Parted, EmptyOrParted, SpellsRing, SpellsList, SpellsPoint, SpellsPointMember, SpellsArea, Letter, Kind, SpellsGeometry, SpellsGeometries, SpellsFurtherGeometries, WktLine}
-use Rattle.at_wkt.specs.Lines.{FileLine, placed, pieces_from, is_line_feed, without_return, line_of, is_blank_text, lines_in, lines_of}
-use Rattle.at_query.specs.declared.features.Feature.{Feature}
+use Rattle.at_wkt.specs.Lines.{is_line_feed, is_blank_text}
 use Rattle.at_join.proofs.CellPairs.{each_joined}
-use Rattle.at_run.specs.Features.{AreLineFeatures, AreFileFeatures}
 
 -- each byte is below 0x80
 abbrev AreAscii : List ℕ → Type 0
@@ -51,10 +47,10 @@ sign_ascii b h = grind (arith, h)
 letter_ascii : (b : ℕ) → IsTrue (is_one_of (0x65 ∷ 0x45 ∷ []) b) → b < 128
 letter_ascii b h = grind (arith, h)
 
-feed_ascii : (b : ℕ) → is_line_feed b ≡ true → b < 128
+pub feed_ascii : (b : ℕ) → is_line_feed b ≡ true → b < 128
 feed_ascii b h = grind (arith, h)
 
-return_byte : (b : ℕ) → (b == 0x0D) ≡ true → b < 128
+pub return_byte : (b : ℕ) → (b == 0x0D) ≡ true → b < 128
 return_byte b h = grind (arith, h)
 
 many_ascii : (test : ℕ → Bool) → ((b : ℕ) → IsTrue (test b) → b < 128) → Ascii (Many test)
@@ -215,82 +211,21 @@ line_ascii at w (g, h) =
     both_parts (Many is_blank) ((λ i v. SpellsGeometry i v g) ▸ Many is_blank) blanks
     (both_parts (λ i v. SpellsGeometry i v g) (Many is_blank) (λ i v k. geometry_ascii g i v k) blanks) at w h
 
--- ---- the bytes of lines
-
-abbrev IsSpelled : FileLine → Type 0
-IsSpelled l = WktLine l.at l.text
-
-abbrev IsAsciiPiece : FileLine → Type 0
-IsAsciiPiece piece = AreAscii piece.text
-
-blank_text_ascii : (w : List ℕ) → is_blank_text w ≡ true → AreAscii w
-blank_text_ascii w h = blanks 0 w (all_pass is_blank w h)
-
--- with the carriage return that belongs to a line's end
-return_ascii : (w : List ℕ) → AreAscii (without_return w) → AreAscii w
-return_ascii [] h = tt
-return_ascii (b ∷ []) h = go (b == 0x0D) refl h where
-  go : (t : Bool) → (b == 0x0D) ≡ t → AreAscii (if t then [] else b ∷ []) → AreAscii (b ∷ [])
-  go true e k = (return_byte b e, tt)
-  go false e k = k
-return_ascii (b ∷ c ∷ w) h = (h.0, return_ascii (c ∷ w) h.1)
-
--- a piece is a line, or has nothing but blanks
-pieces_ascii : (ps : List FileLine) → AllByRecursion IsSpelled (lines_in ps) → AllByRecursion IsAsciiPiece ps
-pieces_ascii [] h = tt
-pieces_ascii (p ∷ ps) h = go (is_blank_text (without_return p.text)) refl h (pieces_ascii ps) where
-  go : (t : Bool) → is_blank_text (without_return p.text) ≡ t → AllByRecursion IsSpelled (cond (not t) (line_of p ∷ lines_in ps) (lines_in ps)) → (AllByRecursion IsSpelled (lines_in ps) → AllByRecursion IsAsciiPiece ps)
-      → AllByRecursion IsAsciiPiece (p ∷ ps)
-  go true e k rest = (return_ascii p.text (blank_text_ascii (without_return p.text) e), rest k)
-  go false e k rest = (return_ascii p.text (line_ascii p.at (without_return p.text) k.0), rest k.1)
-
-placed_ascii : (at : ℕ) (ts : List (List ℕ)) → AllByRecursion IsAsciiPiece (placed at ts) → AllByRecursion AreAscii ts
-placed_ascii at [] h = tt
-placed_ascii at (t ∷ ts) h = (h.0, placed_ascii (at + length t + 1) ts h.1)
-
-first_byte : (b : ℕ) (ts : List (List ℕ)) → AllByRecursion AreAscii (onto_first b ts) → (b < 128) × AllByRecursion AreAscii ts
-first_byte b [] h = (h.0.0, tt)
-first_byte b (t ∷ ts) h = (h.0.0, (h.0.1, h.1))
-
--- the pieces between line feeds, with these
-split_ascii : (w : List ℕ) → AllByRecursion AreAscii (slice_split is_line_feed w) → AreAscii w
-split_ascii [] h = tt
-split_ascii (b ∷ w) h = go (is_line_feed b) refl h (split_ascii w) where
-  go : (t : Bool) → is_line_feed b ≡ t → AllByRecursion AreAscii (cond t ([] ∷ slice_split is_line_feed w) (onto_first b (slice_split is_line_feed w))) → (AllByRecursion AreAscii (slice_split is_line_feed w) → AreAscii w) → AreAscii (b ∷ w)
-  go true e k rest = (feed_ascii b e, rest k.1)
-  go false e k rest = let (h, more) = first_byte b (slice_split is_line_feed w) k in (h, rest more)
-
-text_ascii : (at : ℕ) (w : List ℕ) → AllByRecursion IsSpelled (lines_in (pieces_from at w)) → AreAscii w
-text_ascii at w h = split_ascii w (placed_ascii at (slice_split is_line_feed w) (pieces_ascii (pieces_from at w) h))
-
 -- ---- the encoding
 
-ascii_bytes : (w : List ℕ) → AreAscii w → IsAscii w
+pub ascii_bytes : (w : List ℕ) → AreAscii w → IsAscii w
 ascii_bytes [] h = IsAscii-nil
 ascii_bytes (b ∷ w) h = IsAscii-cons b w h.0 (ascii_bytes w h.1)
 
--- a byte order mark is one character
-mark_is_text : IsUtf8 byte_order_mark
-unfolding lib.Utf8.encode
-mark_is_text = (0xFEFF ∷ [], (refl, refl))
+-- a line without a label
+pub plain_valid : (at : ℕ) (w : List ℕ) → WktLine at w → IsUtf8 w
+plain_valid at w h = IsUtf8-from_ascii w (ascii_bytes w (line_ascii at w h))
 
-mark_valid : (bytes : List ℕ) (t : Bool) → starts_with nat_eq bytes byte_order_mark ≡ t → IsUtf8 (take (if t then 3 else 0) bytes)
-mark_valid bytes true e = subst IsUtf8 ((bytes_eq-Decides byte_order_mark (take 3 bytes)).0 e) mark_is_text
-mark_valid bytes false e = IsUtf8-nil
+pub blanks_valid : (w : List ℕ) → AllByRecursion (λ b. IsTrue (is_blank b)) w → IsUtf8 w
+blanks_valid w h = IsUtf8-from_ascii w (ascii_bytes w (blanks 0 w h))
 
--- where each line of a file spells a geometry, its encoding has no fault
-lines_valid : (bytes : List ℕ) → AllByRecursion IsSpelled (lines_of bytes) → utf8_fault bytes ≡ None
-lines_valid bytes h =
-    let n = base_of bytes in
-    let text : IsUtf8 (drop n bytes) = IsUtf8-from_ascii (drop n bytes) (ascii_bytes (drop n bytes) (text_ascii n (drop n bytes) h)) in
-    let front : IsUtf8 (take n bytes) = mark_valid bytes (starts_with nat_eq bytes byte_order_mark) refl in
-    let whole : IsUtf8 bytes = subst IsUtf8 (take-append-drop n bytes) (IsUtf8-append (take n bytes) (drop n bytes) front text) in
-    rw (is_utf8-from_IsUtf8 bytes whole) refl
+pub blank_text_valid : (w : List ℕ) → is_blank_text w ≡ true → IsUtf8 w
+blank_text_valid w h = blanks_valid w (all_pass is_blank w h)
 
-module _ (digits : ℕ) (how : Coords) where
-  features_spelled : (ls : List FileLine) (fs : List Feature) → AreLineFeatures digits how ls fs → AllByRecursion IsSpelled ls
-  features_spelled [] fs e = tt
-  features_spelled (l ∷ ls) fs (f, rest, e, is, more) = let (g, line, shape) = is.shape in ((g, line), features_spelled ls rest more)
-
-  pub features_valid : (bytes : List ℕ) (fs : List Feature) → AreFileFeatures digits how bytes fs → utf8_fault bytes ≡ None
-  features_valid bytes fs are = lines_valid bytes (features_spelled (lines_of bytes) fs are)
+pub byte_valid : (b : ℕ) → b < 128 → IsUtf8 (b ∷ [])
+byte_valid b h = IsUtf8-from_ascii (b ∷ []) (IsAscii-cons b [] h IsAscii-nil)

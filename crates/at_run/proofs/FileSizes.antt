@@ -18,6 +18,8 @@ use Rattle.at_query.specs.declared.features.Feature.{Feature}
 use Rattle.at_query.specs.Ranges.{IsFeatureInRange, AreFeaturesInRange}
 use Rattle.at_query.specs.Results.{all_positions}
 use Rattle.at_query.specs.Parts.{AreFew}
+use Rattle.at_lex.specs.Strings.{Character}
+use Rattle.at_run.specs.Labels.{SpellsLabelled}
 use Rattle.at_run.specs.Features.{AreLineFeatures, AreFileFeatures}
 use Rattle.at_run.proofs.LineSizes.{total, one_of, items_of, listed_of, rings_of, weight_of, weight_of_all, line_size}
 use Rattle.at_run.proofs.ShapeRanges.{geometry_in_range}
@@ -144,13 +146,21 @@ lines_size bytes =
 
 -- ---- features
 
+-- a line has the bytes of its geometry at least
+labelled_size : (label : Option (List Character)) (g : Geometry) (at : ℕ) (w : List ℕ) → SpellsLabelled label g at w → 4 * weight_of g + 1 ≤ length w
+labelled_size None g at w h = line_size g at w h
+labelled_size (Some cs) g at w (a, v, e, ha, (s, r, f, hs, hr)) =
+    let k = line_size g ((at + length a) + length s) r hr in
+    let m = ap length e ∙ length-append a v in
+    let n = ap length f ∙ length-append s r in
+    omega (arith, k, m, n)
+
 module _ (digits : ℕ) (how : Coords) where
   features_size : (ls : List FileLine) (fs : List Feature) → AreLineFeatures digits how ls fs → 4 * length (all_positions fs) + length fs ≤ text_size ls
   features_size [] fs e = let a = ap (λ z. 4 * length (all_positions z) + length z) e in omega (arith, a)
   features_size (l ∷ ls) fs (f, rest, e, is, more) =
-      let (g, line, shape) = is.shape in
-      let s = line_size g l.at l.text line in
-      let w = positions_size f.shape ∙ ap size shape ∙ shape_size digits how g in
+      let s = labelled_size is.label is.geometry l.at l.text is.spelled in
+      let w = positions_size f.shape ∙ ap size is.shape ∙ shape_size digits how is.geometry in
       let r = features_size ls rest more in
       let a = ap (λ z. 4 * length (all_positions z) + length z) e in
       let j = length-append (positions f.shape) (all_positions rest) in
@@ -159,8 +169,7 @@ module _ (digits : ℕ) (how : Coords) where
   pub features_in_range : (ls : List FileLine) (fs : List Feature) → AreLineFeatures digits how ls fs → AreFeaturesInRange fs
   features_in_range [] fs e = subst AreFeaturesInRange (sym e) (All-nil IsFeatureInRange)
   features_in_range (l ∷ ls) fs (f, rest, e, is, more) =
-      let (g, line, shape) = is.shape in
-      let one : IsShapeInRange f.shape = subst IsShapeInRange (sym shape) (geometry_in_range digits how g) in
+      let one : IsShapeInRange f.shape = subst IsShapeInRange (sym is.shape) (geometry_in_range digits how is.geometry) in
       subst AreFeaturesInRange (sym e) (All-cons IsFeatureInRange f rest one (features_in_range ls rest more))
 
   -- no feature without a byte, so the bound is strict where there are positions

@@ -1,6 +1,10 @@
 pub mod Falls
 pub mod Powers
 pub mod EvenPlaces
+pub mod LabelledLines
+pub mod LabelSteps
+pub mod FaultLists
+pub mod KeptLabels
 pub mod LineParts
 pub mod ShapeRanges
 pub mod Covered
@@ -13,6 +17,7 @@ pub mod JsonSizes
 pub mod JsonFeatures
 pub mod Results
 pub mod ValidSpans
+pub mod ValidLines
 pub mod JsonMerges
 pub mod FormMerges
 pub mod JsonEnds

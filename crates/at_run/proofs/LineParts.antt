@@ -1,20 +1,25 @@
 -- What is gathered of one line, and of joined lines.
-use Rattle.std.proofs.Common.{◌≡◌, ℕ, List, [], ◌∷◌, ◌++◌, Option, Some, None, Result, Ok, Err, refl, sym, ap, ◌∙◌, subst, append-nil, inl}
-use Rattle.std.specs.List.{AllByRecursion}
+use Rattle.std.proofs.Common.{◌≡◌, ℕ, ◌+◌, List, [], ◌∷◌, ◌++◌, take, drop, Option, Some, None, Result, Ok, Err, refl, sym, ap, subst, inl, inr, if◌then◌else◌}
+use Rattle.std.specs.List.{AllByRecursion, list_any}
 use Rattle.std.specs.Result.{IfOk}
+use Rattle.std.specs.Str.{IsUtf8}
+use Rattle.std.proofs.lemmas.Str.{IsUtf8-append}
 use Rattle.at_text.specs.declared.faults.Fault.{Fault}
 use Rattle.at_text.specs.declared.memory.Memory.{Memory}
 use Rattle.at_text.specs.Faults.{first_fault, first_of}
+use Rattle.at_text.specs.Spans.{part_of}
+use Rattle.at_text.specs.Syntax.{IsSyntaxFault}
 use Rattle.at_fixed.specs.declared.rounding.Coords.{Coords}
 use Rattle.at_geom.specs.declared.shapes.Shape.{Shape}
+use Rattle.at_lex.specs.Strings.{Character}
 use Rattle.at_wkt.specs.declared.answers.LineFault.{LineFault}
 use Rattle.at_wkt.specs.declared.answers.LineFault.TheVariants.{Found, Memory as NoMemory}
-use Rattle.at_wkt.specs.Answers.{IfFound, HasLineShape, HasFirstLineFault, HasFaultOrShape}
+use Rattle.at_wkt.specs.Geometry.{Geometry}
+use Rattle.at_wkt.specs.Meaning.{shape_of, faults_of}
+use Rattle.at_wkt.specs.Answers.{IfFound, HasLineShape, HasFirstLineFault, HasFaultOrShape, unspelled, faulty}
 use Rattle.at_wkt.specs.Lines.{FileLine}
-use Rattle.at_wkt.specs.Reading.{HasLineFault}
-use Rattle.at_wkt.proofs.Exits.{first_of-append}
-use Rattle.at_wkt.proofs.FileAnswers.{have_more, have_split, line_without_fault, line_with_fault}
 use Rattle.at_query.specs.declared.features.Feature.{Feature}
+use Rattle.at_query.specs.declared.features.TextPair.{TextPair}
 use Rattle.at_query.specs.declared.parts.Part.{Part}
 use Rattle.at_query.specs.declared.parts.Part.TheVariants.{Count}
 use Rattle.at_query.specs.declared.queries.Verb.{Verb}
@@ -24,58 +29,111 @@ use Rattle.at_query.specs.Parts.{kept_of, IsPart, JoinsParts}
 use Rattle.at_query.proofs.Joining.{parts_are_alike}
 use Rattle.at_run.specs.declared.gathered.Gathered.{Gathered}
 use Rattle.at_run.specs.declared.gathered.Gathered.TheVariants.{Kept, Failed}
-use Rattle.at_run.specs.Features.{IsLineFeature, AreLineFeatures}
-use Rattle.at_run.specs.Gathering.{Asked, IsFirstOfLines, IsOwn, IsGathered, CountsAll, counted_of, AreJoinable, JoinsGathered, KeepsOwn, IsLineEnd}
+use Rattle.at_run.specs.Labels.{SpellsLabelled, LabelledLine, texts_of}
+use Rattle.at_run.specs.Labelling.{QuoteIs, LabelStands, AreKeptTexts, asks_label}
+use Rattle.at_run.specs.Features.{AreLineFeatures}
+use Rattle.at_run.specs.Gathering.{Asked, IsOwn, IsGathered, CountsAll, IsChecked, AreJoinable, JoinsGathered, KeepsOwn, IsLineEnd}
+use Rattle.at_run.proofs.AsciiLines.{plain_valid, blanks_valid}
+use Rattle.at_run.proofs.LabelSteps.{without_quote, plain_syntax, label_front, label_spelled, label_syntax, label_valid}
+use Rattle.at_run.proofs.FaultLists.{first_none, first_one, first_joined}
+use Rattle.at_run.proofs.KeptLabels.{kept_label}
+
+-- ---- lists of lines
+
+abbrev IsValidLine : FileLine → Type 0
+IsValidLine l = IsUtf8 l.text
+
+each_joined : (P : FileLine → Type 0) (ls ms : List FileLine) → AllByRecursion P ls → AllByRecursion P ms → AllByRecursion P (ls ++ ms)
+each_joined P [] ms h k = k
+each_joined P (l ∷ ls) ms (h, hs) k = (h, each_joined P ls ms hs k)
+
+each_before : (P : FileLine → Type 0) (ls ms : List FileLine) → AllByRecursion P (ls ++ ms) → AllByRecursion P ls
+each_before P [] ms h = tt
+each_before P (l ∷ ls) ms (h, hs) = (h, each_before P ls ms hs)
+
+each_behind : (P : FileLine → Type 0) (ls ms : List FileLine) → AllByRecursion P (ls ++ ms) → AllByRecursion P ms
+each_behind P [] ms h = h
+each_behind P (l ∷ ls) ms (h, hs) = each_behind P ls ms hs
 
 module _ (digits : ℕ) (how : Coords) where
-  -- ---- faults
-
-  pub first_joined : (ls ms : List FileLine) (a b c : Option Fault) → IsFirstOfLines digits how ls a → IsFirstOfLines digits how ms b → c ≡ first_fault a b → IsFirstOfLines digits how (ls ++ ms) c
-  first_joined ls ms a b c h k e = record {
-    faults = h.faults ++ k.faults;
-    have = have_more digits how ls ms h.faults k.faults h.have k.have;
-    first_is = e ∙ (ap (λ z. first_fault z b) h.first_is ∙ (ap (first_fault (first_of h.faults)) k.first_is ∙ sym (first_of-append h.faults k.faults)));
-    only = λ others o.
-        let (fs, gs, hf, hg, eo) = have_split digits how ls ms others o in
-        ap first_of eo ∙ (first_of-append fs gs ∙ (ap (λ z. first_fault z (first_of gs)) (h.only fs hf) ∙ (ap (first_fault a) (k.only gs hg) ∙ sym e)));
-  }
-
-  pub first_none : IsFirstOfLines digits how [] None
-  first_none = record { faults = []; have = refl; first_is = refl; only = λ others o. ap first_of o }
-
-  first_one : (at : ℕ) (text : List ℕ) (first : Option Fault) → HasLineFault digits how at text first → IsFirstOfLines digits how (record { at = at; text = text } ∷ []) first
-  first_one at text first h = record {
-    faults = h.faults;
-    have = (h.faults, [], h.have, refl, sym (append-nil h.faults));
-    first_is = h.first_is;
-    only = λ others o. let (fs, gs, hf, hg, eo) = o in ap first_of (eo ∙ (ap (λ z. fs ++ z) hg ∙ append-nil fs)) ∙ h.only fs hf;
-  }
-
-  -- ---- features
-
   features_joined : (ls ms : List FileLine) (fs gs : List Feature) → AreLineFeatures digits how ls fs → AreLineFeatures digits how ms gs → AreLineFeatures digits how (ls ++ ms) (fs ++ gs)
   features_joined [] ms fs gs e k = let P : List Feature → Type 0 = λ z. AreLineFeatures digits how ms (z ++ gs) in subst P (sym e) k
   features_joined (l ∷ ls) ms fs gs (f, rest, e, is, more) k = (f, rest ++ gs, ap (λ z. z ++ gs) e, is, features_joined ls ms rest gs more k)
-
-  feature_one : (at : ℕ) (text : List ℕ) (shape : Shape) → HasLineShape digits how at text shape → IsLineFeature digits how (record { at = at; text = text }) (record { at = at; shape = shape; texts = [] })
-  feature_one at text shape h = record { at = refl; shape = (h.geometry, h.spelled, h.shape_is); texts = refl }
 
 -- ---- what is gathered
 
 module _ (asked : Asked) where
   pub gathered_none : (part : Part) → IsPart asked.query [] part → IsGathered asked (Kept part) []
-  gathered_none part is = (first_none asked.digits asked.how, ([], refl, is))
+  gathered_none part is = (tt, first_none asked.digits asked.how, ([], refl, is))
 
-  pub gathered_line : (at : ℕ) (text : List ℕ) (shape : Shape) (part : Part) → HasLineShape asked.digits asked.how at text shape
-      → IsPart asked.query (record { at = at; shape = shape; texts = [] } ∷ []) part → IsGathered asked (Kept part) (record { at = at; text = text } ∷ [])
-  gathered_line at text shape part h is = (
-    first_one asked.digits asked.how at text None (line_without_fault asked.digits asked.how at text shape h),
+  -- of a line that spells a label or none, and a geometry without a fault
+  gathered_line : (at : ℕ) (text : List ℕ) (label : Option (List Character)) (g : Geometry) (part : Part) → IsUtf8 text → SpellsLabelled label g at text → None ≡ first_of (faults_of asked.digits asked.how g)
+      → IsPart asked.query (record { at = at; shape = shape_of asked.digits asked.how g; texts = texts_of label } ∷ []) part → IsGathered asked (Kept part) (record { at = at; text = text } ∷ [])
+  gathered_line at text label g part valid spelled none is = (
+    (valid, tt),
+    first_one asked.digits asked.how (record { at = at; text = text }) (faults_of asked.digits asked.how g) None (inr (label, g, spelled, refl)) none,
     (
-      record { at = at; shape = shape; texts = [] } ∷ [],
-      (record { at = at; shape = shape; texts = [] }, [], refl, feature_one asked.digits asked.how at text shape h, refl),
+      record { at = at; shape = shape_of asked.digits asked.how g; texts = texts_of label } ∷ [],
+      (
+        record { at = at; shape = shape_of asked.digits asked.how g; texts = texts_of label },
+        [],
+        refl,
+        record { label = label; geometry = g; spelled = spelled; at = refl; shape = refl; texts = refl },
+        refl,
+      ),
       is,
     ),
   )
+
+  pub gathered_plain : (at : ℕ) (text : List ℕ) (shape : Shape) (texts : List TextPair) (part : Part) → HasLineShape asked.digits asked.how at text shape → texts ≡ []
+      → IsPart asked.query (record { at = at; shape = shape; texts = texts } ∷ []) part → IsGathered asked (Kept part) (record { at = at; text = text } ∷ [])
+  gathered_plain at text shape texts part h none is =
+      let P : Shape → Type 0 = λ s. IsPart asked.query (record { at = at; shape = s; texts = texts } ∷ []) part in
+      let Q : List TextPair → Type 0 = λ ts. IsPart asked.query (record { at = at; shape = shape_of asked.digits asked.how h.geometry; texts = ts } ∷ []) part in
+      gathered_line at text None h.geometry part (plain_valid at text (h.geometry, h.spelled)) h.spelled h.fault_is (subst Q none (subst P h.shape_is is))
+
+  -- of a line with a label, of which only the texts that are asked for are kept
+  pub gathered_labelled : (at : ℕ) (text : List ℕ) (quote end : ℕ) (shape : Shape) (texts : List TextPair) (part : Part) → LabelStands text quote end → IsUtf8 (part_of text quote end)
+      → HasLineShape asked.digits asked.how (at + end) (drop end text) shape → AreKeptTexts asked.query.tests (part_of text quote end) texts
+      → IsPart asked.query (record { at = at; shape = shape; texts = texts } ∷ []) part → IsGathered asked (Kept part) (record { at = at; text = text } ∷ [])
+  gathered_labelled at text quote end shape texts part label valid h kept is =
+      let (cs, are, same) = label.string in
+      let P : Shape → Type 0 = λ s. IsPart asked.query (record { at = at; shape = s; texts = texts } ∷ []) part in
+      let behind : IsUtf8 (drop end text) = plain_valid (at + end) (drop end text) (h.geometry, h.spelled) in
+      let front : IsUtf8 (take quote text) = blanks_valid (take quote text) label.begins.blanks in
+      let whole : IsUtf8 text = subst IsUtf8 (sym (label_front at text quote end label)) (IsUtf8-append (take quote text) (part_of text quote end ++ drop end text) front (IsUtf8-append (part_of text quote end) (drop end text) valid behind)) in
+      gathered_line at text (Some cs) h.geometry part whole (label_spelled at text quote end label cs (are, same) h.geometry h.spelled) h.fault_is
+      (kept_label asked.query at (shape_of asked.digits asked.how h.geometry) cs texts part (kept cs are same) (subst P h.shape_is is))
+
+  -- ---- faults
+
+  -- of a line without a label
+  pub gathered_fault : (at : ℕ) (text : List ℕ) (fault : Fault) → QuoteIs text None → HasFirstLineFault asked.digits asked.how at text fault → IsGathered asked (Failed fault) (record { at = at; text = text } ∷ [])
+  gathered_fault at text fault none (unspelled s) valid =
+      first_one asked.digits asked.how (record { at = at; text = text }) (fault ∷ []) (Some fault) (inl (fault, plain_syntax at text fault (without_quote text none) s, refl)) refl
+  gathered_fault at text fault none (faulty shape h) valid =
+      first_one asked.digits asked.how (record { at = at; text = text }) (faults_of asked.digits asked.how h.geometry) (Some fault) (inr (None, h.geometry, h.spelled, refl)) h.fault_is
+
+  -- of a line whose label doesn't end
+  pub gathered_syntax : (at : ℕ) (text : List ℕ) (fault : Fault) → IsSyntaxFault (LabelledLine at) at text fault → IsGathered asked (Failed fault) (record { at = at; text = text } ∷ [])
+  gathered_syntax at text fault h valid = first_one asked.digits asked.how (record { at = at; text = text }) (fault ∷ []) (Some fault) (inl (fault, h, refl)) refl
+
+  -- behind a label
+  pub gathered_behind : (at : ℕ) (text : List ℕ) (quote end : ℕ) (fault : Fault) → LabelStands text quote end → HasFirstLineFault asked.digits asked.how (at + end) (drop end text) fault
+      → IsGathered asked (Failed fault) (record { at = at; text = text } ∷ [])
+  gathered_behind at text quote end fault label (unspelled s) =
+      let (cs, are, same) = label.string in gathered_syntax at text fault (label_syntax at text quote end label cs (are, same) fault s)
+  gathered_behind at text quote end fault label (faulty shape h) =
+      let (cs, are, same) = label.string in
+      λ valid. first_one asked.digits asked.how (record { at = at; text = text }) (faults_of asked.digits asked.how h.geometry) (Some fault)
+      (inr (Some cs, h.geometry, label_spelled at text quote end label cs (are, same) h.geometry h.spelled, refl)) h.fault_is
+
+  -- of a line whose label isn't UTF-8
+  pub gathered_broken : (at : ℕ) (text : List ℕ) (quote end : ℕ) (shape : Shape) (fault : Fault) → LabelStands text quote end → HasLineShape asked.digits asked.how (at + end) (drop end text) shape → ¬ IsUtf8 (part_of text quote end)
+      → IsGathered asked (Failed fault) (record { at = at; text = text } ∷ [])
+  gathered_broken at text quote end shape fault label h broken valid = absurd (broken (label_valid at text quote end label (h.geometry, h.spelled) valid.0))
+
+  -- ---- a line that is only counted
 
   count_part : (f : Feature) → CountsAll asked.query → IsPart asked.query (f ∷ []) (Count 1)
   count_part f (is_count, no_tests) =
@@ -83,18 +141,41 @@ module _ (asked : Asked) where
       let Q : Verb → Type 0 = λ verb. Count 1 ≡ kept_of verb (f ∷ []) in
       (f ∷ [], inl (subst P (sym no_tests) tt, ([], refl, refl)), subst Q (sym is_count) refl)
 
-  -- a line that is only counted
-  pub counted_line : (at : ℕ) (text : List ℕ) (fault : Option Fault) → CountsAll asked.query → HasFaultOrShape asked.digits asked.how at text fault
-      → IsGathered asked (counted_of fault) (record { at = at; text = text } ∷ [])
-  counted_line at text None counts (shape, h) = gathered_line at text shape (Count 1) h (count_part (record { at = at; shape = shape; texts = [] }) counts)
-  counted_line at text (Some fault) counts h = first_one asked.digits asked.how at text (Some fault) (line_with_fault asked.digits asked.how at text fault h)
+  -- without a fault, and with the fault that is gathered
+  counted_none : (line : FileLine) → (f : Feature) → (CountsAll asked.query → IsGathered asked (Kept (Count 1)) (line ∷ [])) → IsChecked asked line None
+  counted_none line f h counts = ((f ∷ [], count_part f counts), h counts)
 
-  pub counted_own : (at : ℕ) (text : List ℕ) (fault : Option Fault) → CountsAll asked.query → HasFaultOrShape asked.digits asked.how at text fault → IsOwn asked (counted_of fault)
-  counted_own at text None counts (shape, h) = let f : Feature = record { at = at; shape = shape; texts = [] } in (f ∷ [], count_part f counts)
-  counted_own at text (Some fault) counts h = tt
+  pub counted_some : (line : FileLine) (fault : Fault) → IsGathered asked (Failed fault) (line ∷ []) → IsChecked asked line (Some fault)
+  counted_some line fault h counts = (tt, h)
 
-  pub gathered_fault : (at : ℕ) (text : List ℕ) (fault : Fault) → HasFirstLineFault asked.digits asked.how at text fault → IsGathered asked (Failed fault) (record { at = at; text = text } ∷ [])
-  gathered_fault at text fault h = first_one asked.digits asked.how at text (Some fault) (line_with_fault asked.digits asked.how at text fault h)
+  pub checked_plain : (at : ℕ) (text : List ℕ) (found : Option Fault) → found ≡ None → HasFaultOrShape asked.digits asked.how at text found → IsChecked asked (record { at = at; text = text }) None
+  checked_plain at text found none h =
+      let (shape, has) = subst (HasFaultOrShape asked.digits asked.how at text) none h in
+      counted_none (record { at = at; text = text }) (record { at = at; shape = shape; texts = [] })
+      (λ counts. gathered_plain at text shape [] (Count 1) has refl (count_part (record { at = at; shape = shape; texts = [] }) counts))
+
+  -- a line with a label
+  pub checked_labelled : (at : ℕ) (text : List ℕ) (quote end : ℕ) (found : Option Fault) → LabelStands text quote end → IsUtf8 (part_of text quote end) → found ≡ None → HasFaultOrShape asked.digits asked.how (at + end) (drop end text) found
+      → IsChecked asked (record { at = at; text = text }) None
+  checked_labelled at text quote end found label valid none h =
+      let (shape, has) = subst (HasFaultOrShape asked.digits asked.how (at + end) (drop end text)) none h in
+      counted_none (record { at = at; text = text }) (record { at = at; shape = shape; texts = [] })
+      (λ counts. gathered_labelled at text quote end shape [] (Count 1) label valid has (none_asked counts) (count_part (record { at = at; shape = shape; texts = [] }) counts)) where
+        none_asked : CountsAll asked.query → AreKeptTexts asked.query.tests (part_of text quote end) []
+        none_asked counts cs are same = let P : List Test → Type 0 = λ tests. [] ≡ (if list_any asks_label tests then texts_of (Some cs) else []) in subst P (sym counts.1) refl
+
+  pub checked_broken : (at : ℕ) (text : List ℕ) (quote end : ℕ) (found : Option Fault) (fault : Fault) → LabelStands text quote end → (¬ IsUtf8 (part_of text quote end)) → found ≡ None → HasFaultOrShape asked.digits asked.how (at + end) (drop end text) found
+      → IsChecked asked (record { at = at; text = text }) (Some fault)
+  checked_broken at text quote end found fault label broken none h =
+      let (shape, has) = subst (HasFaultOrShape asked.digits asked.how (at + end) (drop end text)) none h in
+      counted_some (record { at = at; text = text }) fault (gathered_broken at text quote end shape fault label has broken)
+
+  pub checked_behind : (at : ℕ) (text : List ℕ) (quote end : ℕ) (found : Option Fault) (fault : Fault) → LabelStands text quote end → found ≡ Some fault → HasFaultOrShape asked.digits asked.how (at + end) (drop end text) found
+      → IsChecked asked (record { at = at; text = text }) (Some fault)
+  checked_behind at text quote end found fault label some h =
+      counted_some (record { at = at; text = text }) fault (gathered_behind at text quote end fault label (subst (HasFaultOrShape asked.digits asked.how (at + end) (drop end text)) some h))
+
+  -- ---- joined lines
 
   pub own_are_joinable : (left right : Gathered) → IsOwn asked left → IsOwn asked right → AreJoinable left right
   own_are_joinable (Kept a) (Kept b) (fs, h) (gs, k) = parts_are_alike asked.query fs gs a b h k
@@ -103,8 +184,8 @@ module _ (asked : Asked) where
   own_are_joinable (Failed f) (Failed g) h k = tt
 
   both_kept : (a b c : Part) (ls ms : List FileLine) → JoinsParts a b c → IsGathered asked (Kept a) ls → IsGathered asked (Kept b) ms → IsGathered asked (Kept c) (ls ++ ms)
-  both_kept a b c ls ms joins (h, (fs, hf, pa)) (k, (gs, kg, pb)) =
-      (first_joined asked.digits asked.how ls ms None None None h k refl, (fs ++ gs, features_joined asked.digits asked.how ls ms fs gs hf kg, joins asked.query fs gs pa pb))
+  both_kept a b c ls ms joins (v, h, (fs, hf, pa)) (w, k, (gs, kg, pb)) =
+      (each_joined IsValidLine ls ms v w, first_joined asked.digits asked.how ls ms None None None h k refl, (fs ++ gs, features_joined asked.digits asked.how ls ms fs gs hf kg, joins asked.query fs gs pa pb))
 
 pub joins_kept : (left : Part) (right : Gathered) (b c : Part) → right ≡ Kept b → JoinsParts left b c → JoinsGathered (Kept left) right (Kept c)
 joins_kept left right b c q joins = rw (q) (λ asked ls ms h k. both_kept asked left b c ls ms joins h k)
@@ -113,13 +194,13 @@ pub owns_kept : (left : Part) (right : Gathered) (b c : Part) → right ≡ Kept
 owns_kept left right b c q joins = rw (q) (λ asked h k. (h.0 ++ k.0, joins asked.query h.0 k.0 h.1 k.1))
 
 pub joins_right : (left : Part) (right : Gathered) (f : Fault) → right ≡ Failed f → JoinsGathered (Kept left) right (Failed f)
-joins_right left right f q = rw (q) (λ asked ls ms h k. first_joined asked.digits asked.how ls ms None (Some f) (Some f) h.0 k refl)
+joins_right left right f q = rw (q) (λ asked ls ms h k valid. first_joined asked.digits asked.how ls ms None (Some f) (Some f) h.1 (k (each_behind IsValidLine ls ms valid)) refl)
 
 pub joins_left : (f : Fault) (right : Gathered) (b : Part) → right ≡ Kept b → JoinsGathered (Failed f) right (Failed f)
-joins_left f right b q = rw (q) (λ asked ls ms h k. first_joined asked.digits asked.how ls ms (Some f) None (Some f) h k.0 refl)
+joins_left f right b q = rw (q) (λ asked ls ms h k valid. first_joined asked.digits asked.how ls ms (Some f) None (Some f) (h (each_before IsValidLine ls ms valid)) k.1 refl)
 
 pub joins_failed : (f : Fault) (right : Gathered) (g first : Fault) → right ≡ Failed g → Some first ≡ first_fault (Some f) (Some g) → JoinsGathered (Failed f) right (Failed first)
-joins_failed f right g first q e = rw (q) (λ asked ls ms h k. first_joined asked.digits asked.how ls ms (Some f) (Some g) (Some first) h k e)
+joins_failed f right g first q e = rw (q) (λ asked ls ms h k valid. first_joined asked.digits asked.how ls ms (Some f) (Some g) (Some first) (h (each_before IsValidLine ls ms valid)) (k (each_behind IsValidLine ls ms valid)) e)
 
 -- ---- a line that is put behind those before it
 
@@ -140,11 +221,14 @@ fails_again old g f first e first_is = rw (e) (joins_failed g (Failed f) f first
 
 -- ---- what a line's refusal becomes
 
-pub end_gathered : (asked : Asked) (at : ℕ) (text : List ℕ) (end : LineFault) (result : Result Gathered Memory) → IfFound end (HasFirstLineFault asked.digits asked.how at text) → IsLineEnd end result
-    → IfOk result (λ gathered. IsGathered asked gathered (record { at = at; text = text } ∷ []))
-end_gathered asked at text (Found fault) result h e = let P : Result Gathered Memory → Type 0 = λ z. IfOk z (λ gathered. IsGathered asked gathered (record { at = at; text = text } ∷ [])) in subst P (sym e) (gathered_fault asked at text fault h)
-end_gathered asked at text NoMemory (Err e) h is = tt
-end_gathered asked at text NoMemory (Ok gathered) h is = absurd (cc)
+pub end_gathered : (asked : Asked) (lines : List FileLine) (end : LineFault) (result : Result Gathered Memory) → IfFound end (λ fault. IsGathered asked (Failed fault) lines) → IsLineEnd end result → IfOk result (λ gathered. IsGathered asked gathered lines)
+end_gathered asked lines (Found fault) result h e = let P : Result Gathered Memory → Type 0 = λ z. IfOk z (λ gathered. IsGathered asked gathered lines) in subst P (sym e) h
+end_gathered asked lines NoMemory (Err e) h is = tt
+end_gathered asked lines NoMemory (Ok gathered) h is = absurd (cc)
+
+pub found_weaker : (end : LineFault) (P Q : Fault → Type 0) → ((fault : Fault) → P fault → Q fault) → IfFound end P → IfFound end Q
+found_weaker (Found fault) P Q f h = f fault h
+found_weaker NoMemory P Q f h = tt
 
 pub end_owned : (asked : Asked) (end : LineFault) (result : Result Gathered Memory) → IsLineEnd end result → IfOk result (IsOwn asked)
 end_owned asked (Found fault) result e = let P : Result Gathered Memory → Type 0 = λ z. IfOk z (IsOwn asked) in subst P (sym e) tt

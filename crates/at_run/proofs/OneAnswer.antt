@@ -6,7 +6,7 @@ use Rattle.at_text.specs.Faults.{first_of}
 use Rattle.at_text.specs.Texts.{base_of, utf8_fault}
 use Rattle.at_fixed.specs.declared.rounding.Coords.{Coords}
 use Rattle.at_wkt.specs.Lines.{FileLine, lines_of}
-use Rattle.at_wkt.proofs.OneFile.{one_shape, one_syntax_fault, one_file_fault}
+use Rattle.at_wkt.proofs.OneFile.{one_syntax_fault}
 use Rattle.at_nest.specs.Syntax.{JsonText}
 use Rattle.at_nest.proofs.OneTree.{one_tree}
 use Rattle.at_query.specs.declared.queries.Query.{Query}
@@ -24,6 +24,10 @@ use Rattle.at_run.specs.declared.forms.Form.{Form}
 use Rattle.at_run.specs.declared.forms.Form.TheVariants.{GeoJson, Wkt}
 use Rattle.at_run.specs.Places.{IsLeastCount}
 use Rattle.at_run.specs.Features.{IsLineFeature, AreLineFeatures, AreFileFeatures}
+use Rattle.at_wkt.specs.Meaning.{shape_of}
+use Rattle.at_run.specs.Labels.{texts_of}
+use Rattle.at_run.proofs.LabelledLines.{one_labelled}
+use Rattle.at_run.proofs.FaultLists.{one_lines_fault}
 use Rattle.at_run.specs.JsonFiles.{HaveJsonFaults, HasJsonFaultBehind}
 use Rattle.at_run.specs.Files.{HasFileFaultIn, TheFileFaultIn, AreJsonFeatures, AreFileFeaturesIn}
 use Rattle.at_run.specs.Answers.{IfFound, IsFilePart, IsFileAnswer, IsJoinAnswer}
@@ -36,8 +40,9 @@ module _ (digits : ℕ) (how : Coords) where
   pub one_feature : (line : FileLine) (f g : Feature) → IsLineFeature digits how line f → IsLineFeature digits how line g → f ≡ g
   one_feature line f g h k =
       let at : f.at ≡ g.at = h.at ∙ sym k.at in
-      let shape : f.shape ≡ g.shape = one_shape digits how line f.shape g.shape h.shape k.shape in
-      let texts : f.texts ≡ g.texts = h.texts ∙ sym k.texts in
+      let (label, geometry) = one_labelled line.at line.text h.label k.label h.geometry k.geometry h.spelled k.spelled in
+      let shape : f.shape ≡ g.shape = h.shape ∙ (ap (shape_of digits how) geometry ∙ sym k.shape) in
+      let texts : f.texts ≡ g.texts = h.texts ∙ (ap texts_of label ∙ sym k.texts) in
       ap (λ z. record { at = z; shape = f.shape; texts = f.texts }) at ∙ (ap (λ z. record { at = g.at; shape = z; texts = f.texts }) shape ∙ ap (λ z. record { at = g.at; shape = g.shape; texts = z }) texts)
 
   pub one_features : (lines : List FileLine) (fs gs : List Feature) → AreLineFeatures digits how lines fs → AreLineFeatures digits how lines gs → fs ≡ gs
@@ -70,7 +75,7 @@ module _ (form : Form) (digits : ℕ) (how : Coords) where
   pub one_file_fault_in : (bytes : List ℕ) (f g : Option Fault) → HasFileFaultIn form digits how bytes f → HasFileFaultIn form digits how bytes g → f ≡ g
   one_file_fault_in bytes f g p q = by_form form p q where
     by_form : (form : Form) → HasFileFaultIn form digits how bytes f → HasFileFaultIn form digits how bytes g → f ≡ g
-    by_form Wkt h k = one_file_fault digits how bytes f g h k
+    by_form Wkt h k = one_lines_fault digits how bytes f g h k
     by_form GeoJson h k = one_json_behind digits how (utf8_fault bytes) bytes f g h k
 
   pub one_file_features_in : (bytes : List ℕ) (fs gs : List Feature) → AreFileFeaturesIn form digits how bytes fs → AreFileFeaturesIn form digits how bytes gs → fs ≡ gs

@@ -13,12 +13,12 @@ use Rattle.at_geom.proofs.ClosedRings.{same_position}
 use Rattle.at_wkt.specs.Positions.{Position, Positions, position_faults, is_faultless, are_same, is_closed, items_faults, faults_of_ring, pos_of, path_of, last_of}
 use Rattle.at_wkt.specs.Geometry.{Geometry, point, line_string, polygon, multi_point, multi_line_string, multi_polygon, collection, Geometries, no_geometries, geometry_and}
 use Rattle.at_wkt.specs.Meaning.{polygons_of, faults_of_area, shape_of, shape_of_all, faults_of, faults_of_all}
-use Rattle.at_wkt.specs.Lines.{FileLine, placed, pieces_from, is_line_feed, line_of, is_blank_text, lines_of, HasLineFaults, HaveLineFaults}
-use Rattle.at_wkt.specs.Files.{HasFaultBehind, HasFileFault}
-use Rattle.at_wkt.proofs.OneFile.{one_meaning}
+use Rattle.at_wkt.specs.Lines.{FileLine, placed, pieces_from, is_line_feed, line_of, is_blank_text, lines_of}
 use Rattle.at_query.specs.declared.features.Feature.{Feature}
 use Rattle.at_query.specs.Parts.{last_of as last_pos, IsClosed, AreRingsClosed, AreRising, IsProperFeature, AreProperFeatures}
 use Rattle.at_run.specs.Features.{IsLineFeature, AreLineFeatures, AreFileFeatures}
+use Rattle.at_run.specs.LineFaults.{HasFaults, HaveFaults, HasLinesFaultBehind, HasLinesFault}
+use Rattle.at_run.proofs.LabelledLines.{one_labelled}
 use Rattle.at_run.proofs.ShapeRanges.{geometry_in_range}
 
 -- ---- lists without an element
@@ -173,27 +173,26 @@ module _ (digits : ℕ) (how : Coords) where
 
   -- ---- features
 
-  proper_feature : (l : FileLine) (f : Feature) (faults : List Fault) → IsLineFeature digits how l f → HasLineFaults digits how l faults → faults ≡ [] → IsProperFeature f
+  proper_feature : (l : FileLine) (f : Feature) (faults : List Fault) → IsLineFeature digits how l f → HasFaults digits how l faults → faults ≡ [] → IsProperFeature f
   proper_feature l f faults is (inl (fault, h, e)) none = absurd (not_empty fault [] (sym e ∙ none))
-  proper_feature l f faults is (inr (g, p, e)) none =
-      let (k, q, shape) = is.shape in
-      let same : f.shape ≡ shape_of digits how g = shape ∙ (one_meaning digits how l.at l.text k g q p).0 in
+  proper_feature l f faults is (inr (label, g, p, e)) none =
+      let same : f.shape ≡ shape_of digits how g = is.shape ∙ ap (shape_of digits how) (one_labelled l.at l.text is.label label is.geometry g is.spelled p).1 in
       record {
         closed = subst AreRingsClosed (sym same) (geometry_closed digits how g (sym e ∙ none));
         in_range = subst IsShapeInRange (sym same) (geometry_in_range digits how g);
       }
 
-  proper_lines : (ls : List FileLine) (fs : List Feature) (faults : List Fault) → AreLineFeatures digits how ls fs → HaveLineFaults digits how ls faults → faults ≡ [] → AllByRecursion IsProperFeature fs
+  proper_lines : (ls : List FileLine) (fs : List Feature) (faults : List Fault) → AreLineFeatures digits how ls fs → HaveFaults digits how ls faults → faults ≡ [] → AllByRecursion IsProperFeature fs
   proper_lines [] fs faults e have none = subst (AllByRecursion IsProperFeature) (sym e) tt
   proper_lines (l ∷ ls) fs faults (f, rest, e, is, more) (first, others, h, hs, j) none =
       let (a, b) = empties first others (sym j ∙ none) in
       subst (AllByRecursion IsProperFeature) (sym e) (proper_feature l f first is h a, proper_lines ls rest others more hs b)
 
-  proper_behind : (encoding : Option Fault) (bytes : List ℕ) (fs : List Feature) → HasFaultBehind digits how encoding bytes None → AreFileFeatures digits how bytes fs → AllByRecursion IsProperFeature fs
+  proper_behind : (encoding : Option Fault) (bytes : List ℕ) (fs : List Feature) → HasLinesFaultBehind digits how encoding bytes None → AreFileFeatures digits how bytes fs → AllByRecursion IsProperFeature fs
   proper_behind (Some fault) bytes fs h are = absurd (none-some fault h)
   proper_behind None bytes fs (faults, have, e) are = proper_lines (lines_of bytes) fs faults are have (no_first faults e)
 
-  pub file_features_proper : (bytes : List ℕ) (fs : List Feature) → HasFileFault digits how bytes None → AreFileFeatures digits how bytes fs → AreProperFeatures fs
+  pub file_features_proper : (bytes : List ℕ) (fs : List Feature) → HasLinesFault digits how bytes None → AreFileFeatures digits how bytes fs → AreProperFeatures fs
   file_features_proper bytes fs h are = record {
     rising = rising 0 (lines_of bytes) fs (lines_from bytes) are;
     features = proper_behind (utf8_fault bytes) bytes fs h are;

@@ -35,10 +35,10 @@ some_by : (b : Bool) (one other : Fault) → Some other ≡ (if b then None else
 some_by true one other e = absurd (cc)
 some_by false one other e = cc
 
-faultless : (bytes : List ℕ) → None ≡ utf8_fault bytes → IsUtf8 bytes
+pub faultless : (bytes : List ℕ) → None ≡ utf8_fault bytes → IsUtf8 bytes
 faultless bytes none = IsUtf8-from_is_utf8 bytes (none_by (is_utf8 bytes) (fault_at NotUtf8 (utf8_valid_len bytes)) none)
 
-valid_faultless : (bytes : List ℕ) → IsUtf8 bytes → utf8_fault bytes ≡ None
+pub valid_faultless : (bytes : List ℕ) → IsUtf8 bytes → utf8_fault bytes ≡ None
 valid_faultless bytes valid = rw (is_utf8-from_IsUtf8 bytes valid)
 
 -- what a test for no fault says

@@ -2,7 +2,6 @@
 use Rattle.std.specs.Prelude.{◌≡◌, ℕ, List, Option}
 use Rattle.at_text.specs.declared.faults.Fault.{Fault}
 use Rattle.at_fixed.specs.declared.rounding.Coords.{Coords}
-use Rattle.at_wkt.specs.Files.{HasFileFault}
 use Rattle.at_nest.specs.Tree.{Tree}
 use Rattle.at_nest.specs.Syntax.{IsFileOf}
 use Rattle.at_query.specs.declared.features.Feature.{Feature}
@@ -10,12 +9,13 @@ use Rattle.at_geojson.specs.Roles.{features_of}
 use Rattle.at_run.specs.declared.forms.Form.{Form}
 use Rattle.at_run.specs.declared.forms.Form.TheVariants.{GeoJson, Wkt}
 use Rattle.at_run.specs.Features.{AreFileFeatures}
+use Rattle.at_run.specs.LineFaults.{HasLinesFault}
 use Rattle.at_run.specs.JsonFiles.{HasJsonFileFault}
 
 -- the first fault of a file of the form, or none
 abbrev pub HasFileFaultIn : Form → ℕ → Coords → List ℕ → Option Fault → Type 0
 HasFileFaultIn GeoJson digits how bytes first = HasJsonFileFault digits how bytes first
-HasFileFaultIn Wkt digits how bytes first = HasFileFault digits how bytes first
+HasFileFaultIn Wkt digits how bytes first = HasLinesFault digits how bytes first
 
 -- no other is the file's first fault
 abbrev pub TheFileFaultIn : Form → ℕ → Coords → List ℕ → Option Fault → Type 0

@@ -1,12 +1,14 @@
 -- What is kept of the lines of a file as they are read: the part of a query, or the first fault so far. Only contracts of private functions cite this.
-use Rattle.std.specs.Prelude.{◌≡◌, ℕ, List, [], ◌++◌, Option, Some, None, Result, Ok, IsErr}
+use Rattle.std.specs.Prelude.{◌≡◌, ℕ, List, [], ◌∷◌, ◌++◌, Option, Some, None, Result, Ok, IsErr}
+use Rattle.std.specs.List.{AllByRecursion}
+use Rattle.std.specs.Str.{IsUtf8}
 use Rattle.at_text.specs.declared.faults.Fault.{Fault}
 use Rattle.at_text.specs.declared.memory.Memory.{Memory}
 use Rattle.at_text.specs.Faults.{first_of}
 use Rattle.at_fixed.specs.declared.rounding.Coords.{Coords}
 use Rattle.at_wkt.specs.declared.answers.LineFault.{LineFault}
 use Rattle.at_wkt.specs.declared.answers.LineFault.TheVariants as ends
-use Rattle.at_wkt.specs.Lines.{FileLine, HaveLineFaults}
+use Rattle.at_wkt.specs.Lines.{FileLine}
 use Rattle.at_query.specs.declared.queries.Query.{Query}
 use Rattle.at_query.specs.declared.features.Feature.{Feature}
 use Rattle.at_query.specs.declared.queries.Verb.TheVariants as verbs
@@ -16,6 +18,7 @@ use Rattle.at_query.specs.Parts.{IsPart, AreAlike}
 use Rattle.at_run.specs.declared.gathered.Gathered.{Gathered}
 use Rattle.at_run.specs.declared.gathered.Gathered.TheVariants.{Kept, Failed}
 use Rattle.at_run.specs.Features.{AreLineFeatures}
+use Rattle.at_run.specs.LineFaults.{HaveFaults}
 
 -- a query, and how the numbers of the lines are read
 pub record Asked : Type 0 where
@@ -26,9 +29,9 @@ pub record Asked : Type 0 where
 -- the first fault of the lines, or none, and no other is
 pub record IsFirstOfLines (digits : ℕ) (how : Coords) (lines : List FileLine) (first : Option Fault) : Type 0 where
   pub faults : List Fault
-  pub have : HaveLineFaults digits how lines faults
+  pub have : HaveFaults digits how lines faults
   pub first_is : first ≡ first_of faults
-  pub only : (others : List Fault) → HaveLineFaults digits how lines others → first_of others ≡ first
+  pub only : (others : List Fault) → HaveFaults digits how lines others → first_of others ≡ first
 
 -- the part of the lines' features
 abbrev pub IsLinesPart : Asked → List FileLine → Part → Type 0
@@ -39,10 +42,14 @@ abbrev pub IsOwn : Asked → Gathered → Type 0
 IsOwn asked (Kept part) = (features : List Feature) × IsPart asked.query features part
 IsOwn asked (Failed fault) = Unit {0}
 
--- the part of the lines where none of them has a fault, and else the first of their faults
+-- the text of each line is UTF-8 (RFC 3629)
+abbrev pub AreValid : List FileLine → Type 0
+AreValid lines = AllByRecursion (λ (l : FileLine). IsUtf8 l.text) lines
+
+-- the lines are UTF-8, none of them has a fault, and the part is that of their features; or, where they are UTF-8, this is the first of their faults
 abbrev pub IsGathered : Asked → Gathered → List FileLine → Type 0
-IsGathered asked (Kept part) lines = IsFirstOfLines asked.digits asked.how lines None × IsLinesPart asked lines part
-IsGathered asked (Failed fault) lines = IsFirstOfLines asked.digits asked.how lines (Some fault)
+IsGathered asked (Kept part) lines = AreValid lines × IsFirstOfLines asked.digits asked.how lines None × IsLinesPart asked lines part
+IsGathered asked (Failed fault) lines = AreValid lines → IsFirstOfLines asked.digits asked.how lines (Some fault)
 
 -- nothing but the count of all features is asked for
 abbrev pub CountsAll : Query → Type 0
@@ -65,6 +72,10 @@ JoinsGathered left right both = (asked : Asked) (before behind : List FileLine) 
 -- whatever is asked that both are own of, it is own of
 abbrev pub KeepsOwn : Gathered → Gathered → Gathered → Type 0
 KeepsOwn left right both = (asked : Asked) → IsOwn asked left → IsOwn asked right → IsOwn asked both
+
+-- where nothing but the count of all features is asked for, this is what is kept of the line
+abbrev pub IsChecked : Asked → FileLine → Option Fault → Type 0
+IsChecked asked line found = CountsAll asked.query → IsOwn asked (counted_of found) × IsGathered asked (counted_of found) (line ∷ [])
 
 -- what is gathered of a line that has no shape
 abbrev pub IsLineEnd : LineFault → Result Gathered Memory → Type 0

@@ -1,4 +1,7 @@
 pub mod Places
+pub mod Labels
+pub mod LineFaults
+pub mod Labelling
 pub mod Features
 pub mod JsonFiles
 pub mod Encodings

@@ -32,7 +32,7 @@ fn valid_len(bytes: &[u8]) -> u32
 }
 
 /// Whether the bytes are valid UTF-8.
-fn is_valid(bytes: &[u8]) -> bool
+pub fn is_valid(bytes: &[u8]) -> bool
     requires { length bytes.now ≤ 2 ^ 28 }
     ensures { IsTrue result ↔ IsUtf8 bytes.now }
 {

@@ -3,6 +3,6 @@
 pub enum Form {
     /// One JSON text (RFC 7946).
     GeoJson,
-    /// A geometry a line (OGC 06-103r4 section 7).
+    /// A geometry a line, with or without a label (OGC 06-103r4 section 7).
     Wkt,
 }

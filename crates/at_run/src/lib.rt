@@ -5,6 +5,8 @@
 //! [`Cuts`], of the passes that run at once, or of the order of their steps: that is what "for every cut" and "for every
 //! order" mean.
 //!
+//! A file of Well-Known Text has a geometry a line, and a line may begin with a label (RFC 8259 section 7).
+//!
 //! [`answer_join`] does so for two files whose features are joined.
 //!
 //! What is done with a block is a reader's own (`Pieces` of at_text). [`run_file`] has a crew run the blocks of any
@@ -22,6 +24,7 @@ mod jobs;
 mod joins;
 mod json_files;
 mod json_fragments;
+mod labels;
 mod line_files;
 mod line_queries;
 mod readers;

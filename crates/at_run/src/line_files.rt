@@ -17,7 +17,8 @@ use std::alloc::Global;
 
 /// The part of a file's lines, or the file's first fault.
 ///
-/// The encoding is looked at only where a line has a fault: what lines without one spell is ASCII.
+/// The encoding of the whole file is looked at only where a line has a fault: without labels, what lines without one spell
+/// is ASCII, and the encoding of a label is looked at with its line.
 fn end_of(bytes: &[u8], gathered: Gathered) -> Result<Part, RunFault>
     requires fits { length bytes.now ≤ 2 ^ 28 }
     ensures { (asked : Asked) → IsGathered asked gathered (lines_of bytes.now)

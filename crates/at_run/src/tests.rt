@@ -15,7 +15,7 @@ use std::sync::atomic::{AtomicU64, Ordering};
 use std::test::Fail;
 use std::thread::Threads;
 
-/// Texts whose bytes are written with `~` for a line feed, `^` for a carriage return, `%` for the byte FF, `$` for one that
+/// Texts whose bytes are written with `~` for a line feed, `^` for a carriage return, `_` for a tab, `%` for the byte FF, `$` for one that
 /// begins a character of three bytes and `@` for one that goes on with a character.
 fn bytes_of(alloc: Global, text: &str) -> Result<Vec<u8>, AllocError> {
     let mut bytes = Vec::new(alloc);
@@ -23,6 +23,7 @@ fn bytes_of(alloc: Global, text: &str) -> Result<Vec<u8>, AllocError> {
         bytes.push(match *byte {
             b'~' => b'\n',
             b'^' => b'\r',
+            b'_' => b'\t',
             b'%' => 0xFF,
             b'$' => 0xE2,
             b'@' => 0x82,
@@ -169,6 +170,7 @@ const FILES: &str = "|
 0,16,|POINT (1 2)^~ \t~POINT (3 4)^
 3,19,|\u{FEFF}POINT (1 2)^~ \t~POINT (3 4)^
 3,15,|\u{FEFF}POINT (1 2)~POINT (3 4)
+3,19,|\u{FEFF}\"a\" POINT (1 2)~POINT (3 4)
 |\u{FEFF}
 |~~^~ ~
 0,12,|POINT EMPTY~LINESTRING (1 2,3 4)~
@@ -256,6 +258,70 @@ fn one_cut(rt: HostRuntime) -> Result<(), Fail> {
     assert_eq!(rt; marked.len(), 31);
     let told = told_of_places(&rt, rt.alloc(), marked.as_slice(), Form::Wkt, &query)?;
     assert_eq!(rt; told.as_str(), "3\n19\n");
+    Ok(())
+}
+
+/// What `select` prints over a file with labels, with a comma behind each offset, or the file's first fault; a bar; and the
+/// file.
+const LABELLED: &str = r#"0,24,43,|"Bonn"_POINT (7.1 50.7)~"Ulm" POINT (9 48)~POINT (1 2)~
+0,|"a"POINT(1 2)
+0,| _"a" _POINT (1 2)_ ^~
+0,39,|"\"\\\/\b\f\n\r\t\u00e9" POINT EMPTY ^~"" POINT EMPTY
+0,|"é€😀" POINT (1 2)
+Ended 6|"Bonn"~
+Ended 5|"a"  ^~x
+Ended 3|"Bo~POINT (1 2)
+Ended 3|"a\
+Ended 6|"a\u00~
+Syntax 2|"\q" POINT (1 2)
+Syntax 4|"a" "b" POINT (1 2)
+Syntax 3|"a"x
+Syntax 2|"a^b" POINT (1 2)
+Syntax 0|a" POINT (1 2)
+Syntax 6|POINT "a"
+Syntax 12|POINT (1 2) "a"
+Ended 12|"a" POINT (1
+Short 15|"a" LINESTRING (1 2)
+Ring 13|"a" POLYGON ((0 0,1 0,1 1))
+Range 11|"a" POINT (1e99 2)
+Scale 11|"a" POINT (1.00000001 2)
+NotUtf8 1|"%" POINT (1 2)~"a" POINT (1 2)
+NotUtf8 3|"é$" POINT (1 2)~x
+NotUtf8 19|"a" POINT (1e99 2~"$@" POINT (1 2)
+NotUtf8 4|"a" % POINT (1 2)"#;
+
+#[test]
+fn labels_at_every_cut(rt: HostRuntime) -> Result<(), Fail> {
+    let query = asked(rt.alloc(), Verb::Select, None)?;
+    for row in LABELLED.lines() {
+        check_row(&rt, rt.alloc(), row, &query)?;
+    }
+    Ok(())
+}
+
+/// What `select` prints of the lines of a file that have this label.
+fn told_of_label<R: Threads + Sync>(
+    rt: &R,
+    alloc: Global,
+    label: Vec<u16>,
+    file: &str,
+) -> Result<String, Fail> {
+    let name = vec![in alloc; 0x6C, 0x61, 0x62, 0x65, 0x6C]?;
+    let test = Test::Has(Units::from_vec(name), Units::from_vec(label));
+    let query = asked(alloc, Verb::Select, Some(test))?;
+    let bytes = bytes_of(alloc, file)?;
+    told_of_places(rt, alloc, bytes.as_slice(), Form::Wkt, &query)
+}
+
+#[test]
+fn lines_of_a_label(rt: HostRuntime) -> Result<(), Fail> {
+    let file = r#""Bonn" POINT (7.1 50.7)~"\u0042onn" POINT EMPTY~POINT (1 2)~"Ulm" POINT (9 48)"#;
+    let bonn = vec![in rt.alloc(); 0x42, 0x6F, 0x6E, 0x6E]?;
+    let told = told_of_label(&rt, rt.alloc(), bonn, file)?;
+    assert_eq!(rt; told.as_str(), "0\n24\n");
+    let ulm = vec![in rt.alloc(); 0x55, 0x6C, 0x6D]?;
+    let told = told_of_label(&rt, rt.alloc(), ulm, file)?;
+    assert_eq!(rt; told.as_str(), "60\n");
     Ok(())
 }
 

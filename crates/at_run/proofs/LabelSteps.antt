@@ -1,0 +1,258 @@
+-- What the reader of a label finds of a line: where a label stands, and that no line goes on where none does.
+use Rattle.std.proofs.Common.{◌≡◌, ℕ, zero, suc, ◌+◌, ◌-◌, ◌<◌, ◌≤◌, inl, inr, true, List, [], ◌∷◌, ◌++◌, length, take, drop, slice_index, codes, Option, Some, None, refl, sym, ◌∙◌, ap, subst, arith, append-nil, append_assoc, length-append, length-take, length-drop, take-append-drop, take-take, drop-drop, lit≤}
+use native.Mathlib.Decide.{dec_lt}
+use Rattle.std.proofs.Math.Seq.{take-length}
+use Rattle.std.proofs.lemmas.List.{drop_more, drop-take, get_or-take}
+use Rattle.std.specs.Str.{IsUtf8}
+use Rattle.std.proofs.lemmas.Str.{IsUtf8-take, IsUtf8-drop, IsCharBoundary-before_ascii, IsCharBoundary-at_seam}
+use Rattle.at_text.specs.declared.faults.Fault.{Fault}
+use Rattle.at_text.specs.Prefix.{Viable, LongestViable}
+use Rattle.at_text.specs.Spans.{part_of}
+use Rattle.at_text.specs.Syntax.{IsSyntaxFault, stop_fault}
+use Rattle.at_lex.specs.Fronts.{IsFront}
+use Rattle.at_lex.specs.Strings.{Character, SpellsString}
+use Rattle.at_lex.proofs.FrontLemmas.{front_all, suffix_is}
+use Rattle.at_wkt.specs.Geometry.{Geometry, point, is_blank, SpellsGeometry, IsLineOf, WktLine}
+use Rattle.at_wkt.proofs.Leads.{append_cases}
+use Rattle.at_query.specs.Reading.{part, Text, Stops, past, over}
+use Rattle.at_run.specs.Labels.{SpellsLabelled, LabelledLine}
+use Rattle.at_run.specs.Labelling.{QuoteStands, QuoteIs, LabelStands}
+use Rattle.at_run.proofs.AsciiLines.{plain_valid}
+use Rattle.at_run.proofs.LabelledLines.{AreBlanks, BeginsQuoted, string_begins, quoted_on, quoted_front, same_blanks, quote_stops, quoted_not_plain, label_added, line_with_label, label_taken, longest_behind, stop_behind}
+
+-- ---- lists
+
+front_of : (a v : List ℕ) → take (length a) (a ++ v) ≡ a
+front_of [] v = refl
+front_of (b ∷ a) v = ap (λ z. b ∷ z) (front_of a v)
+
+byte_behind : (a t : List ℕ) (b : ℕ) → slice_index (a ++ b ∷ t) (length a) ≡ b
+byte_behind [] t b = refl
+byte_behind (c ∷ a) t b = byte_behind a t b
+
+front_blanks : (a u : List ℕ) → AreBlanks (a ++ u) → AreBlanks a
+front_blanks [] u h = tt
+front_blanks (b ∷ a) u h = (h.0, front_blanks a u h.1)
+
+rest_split : (text : List ℕ) (i j : ℕ) → i ≤ j → part_of text i j ++ drop j text ≡ drop i text
+rest_split text i j h =
+    let e : i + (j - i) ≡ j = omega arith in
+    let rest : drop (j - i) (drop i text) ≡ drop j text = drop-drop (j - i) i text ∙ ap (λ z. drop z text) e in
+    ap (λ z. take (j - i) (drop i text) ++ z) (sym rest) ∙ take-append-drop (j - i) (drop i text)
+
+-- a text up to a place, from there up to another, and from there on
+split_text : (text : List ℕ) (i j : ℕ) → i ≤ j → text ≡ take i text ++ (part_of text i j ++ drop j text)
+split_text text i j h = sym (ap (λ z. take i text ++ z) (rest_split text i j h) ∙ take-append-drop i text)
+
+front_length : (text : List ℕ) (i : ℕ) → i ≤ length text → length (take i text) ≡ i
+front_length text i h = omega (arith, length-take i text, h)
+
+-- a line behind a place, as it is taken of the bytes ahead
+pub rest_is : (w : List ℕ) (len end : ℕ) → end ≤ len → take (len - end) (take (length w - end) (drop end w)) ≡ drop end (take len w)
+rest_is w len end h =
+    let e : end + (len - end) ≡ len = omega arith in
+    ap (take (len - end)) (suffix_is w end) ∙ (sym (drop-take end (len - end) w) ∙ ap (λ n. drop end (take n w)) e)
+
+-- and a part of it
+pub part_front : (w : List ℕ) (len i j : ℕ) → i ≤ j → j ≤ len → part_of w i j ≡ part_of (take len w) i j
+part_front w len i j h k =
+    let e : i + (len - i) ≡ len = omega arith in
+    let cut : drop i (take len w) ≡ take (len - i) (drop i w) = ap (λ n. drop i (take n w)) (sym e) ∙ drop-take i (len - i) w in
+    sym (ap (take (j - i)) cut ∙ take-take (j - i) (len - i) (drop i w) (omega arith))
+
+pub line_end : (w : List ℕ) (len quote end : ℕ) → len ≤ length w → LabelStands (take len w) quote end → end ≤ len
+line_end w len quote end h label = let e = front_length w len h in let k = label.within in omega (arith, e, k)
+
+-- ---- the quote
+
+-- no quote begins the text past its blanks
+abbrev pub Unquoted : List ℕ → Type 0
+Unquoted text = (a v : List ℕ) → AreBlanks a → BeginsQuoted v → text ≡ a ++ v → ⊥
+
+pub without_quote : (text : List ℕ) → QuoteIs text None → Unquoted text
+without_quote text none a v ha (t, q) e =
+    let whole : text ≡ a ++ 0x22 ∷ t = e ∙ ap (λ z. a ++ z) q in
+    none (length a) (record {
+      inside = (let n = ap length whole ∙ length-append a (0x22 ∷ t) in omega (arith, n));
+      blanks = subst AreBlanks (sym (ap (take (length a)) whole ∙ front_of a (0x22 ∷ t))) ha;
+      byte = ap (λ z. slice_index z (length a)) whole ∙ byte_behind a t 0x22;
+    })
+
+pub quote_here : (text : List ℕ) (n : ℕ) → IsFront is_blank text n → n < length text → slice_index text n ≡ 0x22 → QuoteStands text n
+quote_here text n h inside byte = record { inside = inside; blanks = front_all is_blank text n h; byte = byte }
+
+-- blanks end where a byte stands that is none
+one_place : (text : List ℕ) (n : ℕ) → IsFront is_blank text n → (quote : ℕ) → QuoteStands text quote → quote ≡ n
+one_place text n h quote q = elim (dec_lt quote n) [
+  | yes less ↦ absurd (let blank = h.passes quote less in let e = ap is_blank q.byte in cc)
+  | no far ↦ elim (dec_lt n quote) [
+    | yes less ↦ absurd (let b = passed (take quote text) n q.blanks (omega (arith, less, front_length text quote (let i = q.inside in omega (arith, i)))) in
+        let same = taken_byte text quote n less in
+        let stop = h.stops (let i = q.inside in omega (arith, i, less)) in cc)
+    | no near ↦ omega (arith, far, near)
+  ]
+] where
+  passed : (w : List ℕ) (k : ℕ) → AreBlanks w → k < length w → is_blank (slice_index w k) ≡ true
+  passed [] k hw less = absurd (omega (arith, less))
+  passed (b ∷ w) zero hw less = hw.0
+  passed (b ∷ w) (suc k) hw less = passed w k hw.1 (omega (arith, less))
+
+  taken_byte : (w : List ℕ) (n k : ℕ) → k < n → slice_index (take n w) k ≡ slice_index w k
+  taken_byte w n k less = get_or-take n w k 0 less
+
+pub no_quote_here : (text : List ℕ) (n : ℕ) → IsFront is_blank text n → (slice_index text n ≡ 0x22 → ⊥) → QuoteIs text None
+no_quote_here text n h other quote q = let e = one_place text n h quote q in other (ap (slice_index text) (sym e) ∙ q.byte)
+
+pub no_quote_at_end : (text : List ℕ) (n : ℕ) → IsFront is_blank text n → n ≡ length text → QuoteIs text None
+no_quote_at_end text n h end quote q = let e = one_place text n h quote q in let i = q.inside in omega (arith, e, end, i)
+
+-- ---- a line without a label
+
+no_label : (text : List ℕ) (at : ℕ) (cs : List Character) (g : Geometry) → Unquoted text → SpellsLabelled (Some cs) g at text → ⊥
+no_label text at cs g none (a, v, e, ha, (s, r, f, hs, hr)) = none a v ha (quoted_front s r v (string_begins cs (at + length a) s hs) f) e
+
+some_geometry : (at : ℕ) → SpellsGeometry at (codes "POINTEMPTY") (point None)
+some_geometry at = (2, (codes "POINT", codes "EMPTY", refl, refl, ([], codes "EMPTY", refl, tt, ([], codes "EMPTY", refl, inl (refl, lit≤ tt, lit≤ tt), ([], codes "EMPTY", refl, tt, refl)))))
+
+some_line : (at : ℕ) (a : List ℕ) → AreBlanks a → WktLine at (a ++ codes "POINTEMPTY")
+some_line at a h = (point None, (a, codes "POINTEMPTY", refl, h, (codes "POINTEMPTY", [], refl, some_geometry (at + length a), tt)))
+
+-- the longest beginning of a plain text is that of a line where no label begins it
+pub plain_syntax : (at : ℕ) (text : List ℕ) (fault : Fault) → Unquoted text → IsSyntaxFault (WktLine at) at text fault → IsSyntaxFault (LabelledLine at) at text fault
+plain_syntax at text fault none h = record {
+  no_word = λ (l, g, p). by_label l g p;
+  taken = h.taken;
+  longest = record {
+    fits = h.longest.fits;
+    front = (let (more, (g, line)) = h.longest.front in (more, (None, g, line)));
+    longest = λ below (more, (l, g, p)). h.longest.longest below (by_front (take (h.taken + 1) text) (drop (h.taken + 1) text) more (sym (take-append-drop (h.taken + 1) text)) l g p);
+  };
+  place = h.place;
+} where
+  by_label : (l : Option (List Character)) (g : Geometry) → SpellsLabelled l g at text → ⊥
+  by_label None g p = h.no_word (g, p)
+  by_label (Some cs) g p = no_label text at cs g none p
+
+  by_front : (u rest more : List ℕ) → text ≡ u ++ rest → (l : Option (List Character)) (g : Geometry) → SpellsLabelled l g at (u ++ more) → Viable (WktLine at) u
+  by_front u rest more whole None g p = (more, (g, p))
+  by_front u rest more whole (Some cs) g (a, v, e, ha, (s, r, f, hs, hr)) = elim (append_cases u more a v e) [
+    | inl (same, behind) ↦ (codes "POINTEMPTY", some_line at u (subst AreBlanks (sym same) ha))
+    | inr (inl (m, ms, i, j)) ↦ (codes "POINTEMPTY", some_line at u (front_blanks u (m ∷ ms) (subst AreBlanks i ha)))
+    | inr (inr (m, ms, i, j)) ↦ absurd (
+        let (t, q) = quoted_front s r v (string_begins cs (at + length a) s hs) f in
+        let first : m ≡ 0x22 = (let both_are : m ∷ (ms ++ more) ≡ 0x22 ∷ t = sym j ∙ q in cc) in
+        none a ((m ∷ ms) ++ rest) ha (ms ++ rest, ap (λ z. z ∷ (ms ++ rest)) first) (whole ∙ (ap (λ z. z ++ rest) i ∙ append_assoc a (m ∷ ms) rest)))
+  ]
+
+-- ---- a label that doesn't end
+
+regrouped : (a p m e : List ℕ) → (a ++ p) ++ (m ++ e) ≡ a ++ ((p ++ m) ++ e)
+regrouped a p m e = append_assoc a p (m ++ e) ∙ ap (λ z. a ++ z) (sym (append_assoc p m e))
+
+module _ (at : ℕ) (text : List ℕ) (quote n : ℕ) (q : QuoteStands text quote) (stops : Stops Text text quote n) where
+  front_is : (m : ℕ) → quote ≤ m → take m text ≡ take quote text ++ part text quote m
+  front_is m h = sym (ap (λ z. z ++ part text quote m) (sym (take-take quote m text h)) ∙ take-append-drop quote (take m text))
+
+  quoted_rest : (m : ℕ) → quote < m → BeginsQuoted (part text quote m)
+  quoted_rest m h =
+      let i = q.inside in
+      let size : m ≡ quote + suc (m - quote - 1) = omega (arith, h) in
+      let cut : part text quote m ≡ take (suc (m - quote - 1)) (drop quote text) = ap (part text quote) size ∙ drop-take quote (suc (m - quote - 1)) text in
+      let byte : drop quote text ≡ 0x22 ∷ drop (quote + 1) text = drop_more text quote 0 i ∙ ap (λ z. z ∷ drop (quote + 1) text) q.byte in
+      (take (m - quote - 1) (drop (quote + 1) text), cut ∙ ap (take (suc (m - quote - 1))) byte)
+
+  -- the words of lines that go on with a beginning of the text beyond the quote begin with a label
+  beyond : (m : ℕ) (more : List ℕ) → quote < m → LabelledLine at (take m text ++ more) → (cs : List Character) × (v r : List ℕ) × SpellsString cs quote v × (v ++ r ≡ part text quote m ++ more)
+  beyond m more h (l, g, p) = go l g (subst (SpellsLabelled l g at) whole p) where
+    whole : take m text ++ more ≡ take quote text ++ (part text quote m ++ more)
+    whole = ap (λ z. z ++ more) (front_is m (omega (arith, h))) ∙ append_assoc (take quote text) (part text quote m) more
+
+    go : (l : Option (List Character)) (g : Geometry) → SpellsLabelled l g at (take quote text ++ (part text quote m ++ more)) → (cs : List Character) × (v r : List ℕ) × SpellsString cs quote v × (v ++ r ≡ part text quote m ++ more)
+    go None g p = absurd (quoted_not_plain (take quote text) (part text quote m ++ more) at (take quote text ++ (part text quote m ++ more)) g q.blanks (quoted_on (part text quote m) more (quoted_rest m h)) refl p)
+    go (Some cs) g (a, v, e, ha, (s, r, f, hs, hr)) =
+        let (same, behind) = same_blanks (take quote text) a (part text quote m ++ more) v q.blanks ha (quote_stops (part text quote m ++ more) (quoted_on (part text quote m) more (quoted_rest m h)))
+        (quote_stops v (quoted_front s r v (string_begins cs (at + length a) s hs) f)) e in
+        (cs, s, r, hs, sym f ∙ sym behind)
+
+  pub label_stops : IsSyntaxFault (LabelledLine at) at text (stop_fault at text n)
+  label_stops = record {
+    no_word = λ word. (elim (dec_lt n (length text)) [
+      | yes below ↦ no_further below (drop (n + 1) text) (subst (LabelledLine at) (sym (take-append-drop (n + 1) text)) word)
+      | no f ↦ (
+          let within = stops.within in
+          let end : n ≡ length text = omega (arith, f, within) in
+          let all : take n text ++ [] ≡ text = append-nil (take n text) ∙ (ap (λ z. take z text) end ∙ take-length text) in
+          let (cs, v, r, hs, e) = beyond n [] (omega (arith, end, q.inside)) (subst (LabelledLine at) (sym all) word) in
+          stops.dead _ v r (cs, refl, hs) (over end (e ∙ append-nil (part text quote n))))
+    ]);
+    taken = n;
+    longest = record {
+      fits = stops.within;
+      front = (let (units, more, (cs, e, hs)) = stops.viable in
+          let label : SpellsString cs (at + length (take quote text)) (part text quote n ++ more) = hs in
+          let (g, line) = some_line ((at + length (take quote text)) + length (part text quote n ++ more)) [] tt in
+          let word : LabelledLine at (take quote text ++ ((part text quote n ++ more) ++ codes "POINTEMPTY")) = line_with_label at (take quote text) (part text quote n ++ more) cs q.blanks label (codes "POINTEMPTY") (g, line) in
+          let whole = ap (λ z. z ++ (more ++ codes "POINTEMPTY")) (front_is n stops.order) ∙ regrouped (take quote text) (part text quote n) more (codes "POINTEMPTY") in
+          (more ++ codes "POINTEMPTY", subst (LabelledLine at) (sym whole) word));
+      longest = λ below (more, word). no_further below more word;
+    };
+    place = refl;
+  } where
+    no_further : n < length text → (more : List ℕ) → LabelledLine at (take (n + 1) text ++ more) → ⊥
+    no_further below more word =
+        let order = stops.order in
+        let (cs, v, r, hs, e) = beyond (n + 1) more (omega (arith, order)) word in
+        stops.dead _ v r (cs, refl, hs) (past below more e)
+
+-- ---- a label, and the text behind it
+
+module _ (at : ℕ) (text : List ℕ) (quote end : ℕ) (label : LabelStands text quote end) where
+  pub label_front : text ≡ take quote text ++ (part_of text quote end ++ drop end text)
+  label_front = split_text text quote end label.order
+
+  pub label_place : (at + length (take quote text)) + length (part_of text quote end) ≡ at + end
+  label_place =
+      let order = label.order in let within = label.within in
+      let m = front_length text quote (omega (arith, order, within)) in
+      let n = length-take (end - quote) (drop quote text) in
+      let k = length-drop quote text in
+      omega (arith, m, n, k, order, within)
+
+  -- the label of a line that is UTF-8 is
+  pub label_valid : WktLine (at + end) (drop end text) → IsUtf8 text → IsUtf8 (part_of text quote end)
+  label_valid line valid =
+      let inside = label.begins.inside in
+      let label_bytes : List ℕ = part_of text quote end in
+      let small : slice_index text quote < 128 = subst (λ z. z < 128) (sym label.begins.byte) (omega arith) in
+      let rest : IsUtf8 (label_bytes ++ drop end text) = subst IsUtf8 (sym (rest_split text quote end label.order)) (IsUtf8-drop text quote valid (IsCharBoundary-before_ascii text quote inside small)) in
+      subst IsUtf8 (front_of label_bytes (drop end text))
+      (IsUtf8-take (label_bytes ++ drop end text) (length label_bytes) rest (IsCharBoundary-at_seam (label_bytes ++ drop end text) label_bytes (drop end text) refl (plain_valid (at + end) (drop end text) line)))
+
+  module _ (cs : List Character) (hs : SpellsString cs quote (part_of text quote end)) where
+    pub label_spelled : (g : Geometry) → IsLineOf (at + end) (drop end text) g → SpellsLabelled (Some cs) g at text
+    label_spelled g h = subst (SpellsLabelled (Some cs) g at) (sym label_front)
+        (label_added at (take quote text) (part_of text quote end) cs label.begins.blanks hs g (drop end text) (subst (λ i. IsLineOf i (drop end text) g) (sym label_place) h))
+
+    pub label_syntax : (fault : Fault) → IsSyntaxFault (WktLine (at + end)) (at + end) (drop end text) fault → IsSyntaxFault (LabelledLine at) at text fault
+    label_syntax fault h = record {
+      no_word = λ word. h.no_word (taken (drop end text) (subst (LabelledLine at) label_front word));
+      taken = length front + h.taken;
+      longest = subst (λ w. LongestViable (LabelledLine at) w (length front + h.taken)) (sym whole)
+          (longest_behind (LabelledLine at) (WktLine (at + end)) front (drop end text) h.taken (λ u m. subst (LabelledLine at) (sym (append_assoc (take quote text) (part_of text quote end) u)) (put u m))
+          (λ more l. taken (take (h.taken + 1) (drop end text) ++ more) (subst (LabelledLine at) (append_assoc (take quote text) (part_of text quote end) (take (h.taken + 1) (drop end text) ++ more)) l)) h.longest);
+      place = h.place ∙ (ap (λ z. stop_fault z (drop end text) h.taken) size ∙ (stop_behind at front (drop end text) h.taken ∙ ap (λ w. stop_fault at w (length front + h.taken)) (sym whole)));
+    } where
+      front : List ℕ
+      front = take quote text ++ part_of text quote end
+
+      whole : text ≡ front ++ drop end text
+      whole = label_front ∙ sym (append_assoc (take quote text) (part_of text quote end) (drop end text))
+
+      size : at + end ≡ at + length front
+      size = let e = label_place in let n = length-append (take quote text) (part_of text quote end) in omega (arith, e, n)
+
+      put : (u : List ℕ) → WktLine (at + end) u → LabelledLine at (take quote text ++ (part_of text quote end ++ u))
+      put u m = line_with_label at (take quote text) (part_of text quote end) cs label.begins.blanks hs u (subst (λ i. WktLine i u) (sym label_place) m)
+
+      taken : (u : List ℕ) → LabelledLine at (take quote text ++ (part_of text quote end ++ u)) → WktLine (at + end) u
+      taken u l = subst (λ i. WktLine i u) label_place (label_taken at (take quote text) (part_of text quote end) cs label.begins.blanks hs u l)

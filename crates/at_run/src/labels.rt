@@ -1,0 +1,136 @@
+//! Labels: JSON strings at the beginning of lines (RFC 8259 section 7).
+
+ghost use Rattle.std.specs.Prelude.{◌≡◌, ◌+◌, ◌≤◌, ◌^◌, length, IfOk, MatchResult};
+ghost use Rattle.std.specs.List.{list_any};
+ghost use Rattle.at_text.specs.Syntax.{IsSyntaxFault, stop_fault};
+ghost use Rattle.at_lex.specs.Fronts.{IsFront};
+ghost use Rattle.at_lex.specs.Strings.{JsonString};
+ghost use Rattle.at_wkt.specs.Geometry.{is_blank as blank_test};
+ghost use Rattle.at_run.specs.Labels.{LabelledLine, label_name as the_label_name};
+ghost use Rattle.at_run.specs.Labelling.{QuoteStands, QuoteIs, LabelStands, asks_label as label_asked, AreKeptTexts};
+
+use at_lex::{Units, take_text, units};
+use at_query::{Test, TextPair, TextPairs};
+use at_text::{Fault, FaultKind, Memory};
+use std::alloc::Global;
+
+/// The code units of the name that a label has among the texts of its feature.
+const LABEL: &[u16] = &[108, 97, 98, 101, 108];
+
+/// Whether a byte is a space or a tab.
+fn is_blank(byte: u8) -> bool
+    ensures { result ≡ blank_test byte }
+{
+    byte == b' ' || byte == b'\t'
+}
+
+/// How many blanks a text begins with.
+fn blank_len(text: &[u8]) -> usize
+    ensures { IsFront blank_test text.now result }
+{
+    for (index, byte) in text.iter().enumerate() {
+        if !is_blank(*byte) {
+            return index;
+        }
+    }
+    text.len()
+}
+
+/// The place of the quote that begins a text past its blanks, where one does.
+pub fn quote_place(text: &[u8]) -> Option<usize>
+    ensures { QuoteIs text.now result }
+{
+    let place = blank_len(text);
+    if place == text.len() {
+        return None;
+    }
+    if text[place] == b'"' {
+        return Some(place);
+    }
+    None
+}
+
+/// The syntax fault of a line where no line goes on: before the byte at the place, or at the text's end.
+fn stop_at(text: &[u8], at: u32, place: usize) -> Fault
+    requires inside { place ≤ length text.now }
+    requires short { at + length text.now ≤ 2 ^ 28 }
+    ensures { result ≡ stop_fault at text.now place }
+{
+    let offset = at + place as u32;
+    if place < text.len() {
+        Fault {
+            kind: FaultKind::Syntax,
+            at: offset,
+        }
+    } else {
+        Fault {
+            kind: FaultKind::Ended,
+            at: offset,
+        }
+    }
+}
+
+/// Where the label that begins with the quote of a line ends.
+///
+/// # Errors
+/// The line's syntax fault, exactly where no label begins with the quote.
+pub fn label_end(text: &[u8], at: u32, quote: usize) -> Result<usize, Fault>
+    requires quote { QuoteStands text.now quote }
+    requires short { at + length text.now ≤ 2 ^ 28 }
+    ensures { MatchResult result (LabelStands text.now quote) (IsSyntaxFault (LabelledLine at) at text.now) }
+{
+    let taken = take_text(&text[quote..]);
+    let end = quote + taken.len as usize;
+    if !taken.whole {
+        return Err(stop_at(text, at, end));
+    }
+    Ok(end)
+}
+
+/// Whether a test asks for a text of the name that labels have.
+fn asks_label(test: &Test) -> bool
+    ensures { result ≡ label_asked test.now }
+{
+    match test {
+        Test::InBox(_) | Test::MeetsShape(_) => false,
+        Test::Has(name, _) => name.as_slice() == LABEL,
+    }
+}
+
+/// Whether some test does.
+fn ask_label(tests: &[Test]) -> bool
+    ensures { result ≡ list_any label_asked tests.now }
+{
+    for test in tests {
+        if asks_label(test) {
+            return true;
+        }
+    }
+    false
+}
+
+/// The name of labels.
+fn label_name(alloc: Global) -> Result<Units, Memory>
+    ensures { IfOk result (λ name. name ≡ the_label_name) }
+{
+    let mut items = Vec::with_capacity(alloc, LABEL.len())?;
+    items.extend_from_slice(LABEL)?;
+    Ok(Units::from_vec(items))
+}
+
+/// The texts that are kept of a feature with this label: the label under its name where a test asks for that name, and
+/// else none. The one refusal is want of memory.
+pub fn label_texts(alloc: Global, label: &[u8], tests: &[Test]) -> Result<TextPairs, Memory>
+    requires whole { JsonString label.now }
+    requires fits { length label.now ≤ 2 ^ 28 }
+    ensures { IfOk result (AreKeptTexts tests.now label.now) }
+{
+    if !ask_label(tests) {
+        return Ok(TextPairs::from_vec(Vec::new(alloc)));
+    }
+    let name = label_name(alloc)?;
+    let value = units(alloc, label)?;
+    let mut items = Vec::with_capacity(alloc, 1)?;
+    items.push(TextPair { name, value })?;
+    Ok(TextPairs::from_vec(items))
+}
