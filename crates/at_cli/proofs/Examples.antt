@@ -3,7 +3,7 @@ use Rattle.std.proofs.Common.{◌≡◌, ◌==◌, ℕ, Bool, false, List, [], �
 use Rattle.std.specs.Fmt.{digits}
 use Rattle.at_fixed.specs.declared.rounding.Coords.TheVariants.{Exact, Round}
 use Rattle.at_run.specs.declared.forms.Form.TheVariants.{GeoJson, Wkt}
-use Rattle.at_cli.specs.declared.flags.Setting.TheVariants.{Form, Coords, Blocks, Workers}
+use Rattle.at_cli.specs.declared.flags.Setting.TheVariants.{Form, Coords, Digits, Blocks, Workers}
 use Rattle.at_cli.specs.declared.line.Line.{Line}
 use Rattle.at_cli.specs.Pieces.{apart, joined, positional}
 use Rattle.at_cli.specs.Values.{IsFileName}
@@ -26,22 +26,23 @@ plain_name = plain 0x61 (codes ".wkt") refl
 other_name : IsFileName (codes "b.wkt")
 other_name = plain 0x62 (codes ".wkt") refl
 
--- all four options in the order of the usage line, some apart and some joined; no two values are the same
+-- all five options in the order of the usage line, some apart and some joined; no two values are the same
 abbrev all_words : List (List ℕ)
-all_words = codes "--form" ∷ codes "wkt" ∷ codes "--coords=exact" ∷ codes "--blocks=2" ∷ codes "--workers" ∷ codes "3" ∷ codes "count" ∷ codes "a.wkt" ∷ []
+all_words = codes "--form" ∷ codes "wkt" ∷ codes "--coords=exact" ∷ codes "--digits=9" ∷ codes "--blocks=2" ∷ codes "--workers" ∷ codes "3" ∷ codes "count" ∷ codes "a.wkt" ∷ []
 
 abbrev all_line : Line
-all_line = record { form = Some Wkt; how = Exact; blocks = 2; workers = 3; query = codes "count"; first = codes "a.wkt"; second = None }
+all_line = record { form = Some Wkt; how = Exact; digits = 9; blocks = 2; workers = 3; query = codes "count"; first = codes "a.wkt"; second = None }
 
 all_said : SaysLine all_words all_line
 unfolding digits
 all_said = (
-  apart Form (codes "wkt") ∷ joined Coords (codes "exact") ∷ joined Blocks (codes "2") ∷ apart Workers (codes "3") ∷ positional (codes "count") ∷ positional (codes "a.wkt") ∷ [],
+  apart Form (codes "wkt") ∷ joined Coords (codes "exact") ∷ joined Digits (codes "9") ∷ joined Blocks (codes "2") ∷ apart Workers (codes "3") ∷ positional (codes "count") ∷ positional (codes "a.wkt") ∷ [],
   None,
-  record { spelled = refl; are_pieces = (tt, (tt, (tt, (tt, (refl, (refl, tt)))))) },
+  record { spelled = refl; are_pieces = (tt, (tt, (tt, (tt, (tt, (refl, (refl, tt))))))) },
   record {
     form = (Wkt, refl, refl);
     how = refl;
+    digits = inr (refl, refl);
     blocks = record { least = lit≤ tt; most = lit≤ tt; written = refl };
     workers = record { least = lit≤ tt; most = lit≤ tt; written = refl };
     names = record { places = refl; query_fits = lit≤ tt; first_names = plain_name; second_names = tt };
@@ -54,20 +55,21 @@ all_only line h = one_line all_words line all_line h all_said
 
 -- in another order, behind the positionals, with a second file behind the end word
 abbrev turned_words : List (List ℕ)
-turned_words = codes "join" ∷ codes "a.wkt" ∷ codes "--workers=2" ∷ codes "--blocks" ∷ codes "3" ∷ codes "--coords" ∷ codes "round" ∷ codes "--form=geojson" ∷ codes "--" ∷ codes "b.wkt" ∷ []
+turned_words = codes "join" ∷ codes "a.wkt" ∷ codes "--workers=2" ∷ codes "--blocks" ∷ codes "3" ∷ codes "--digits" ∷ codes "7" ∷ codes "--coords" ∷ codes "round" ∷ codes "--form=geojson" ∷ codes "--" ∷ codes "b.wkt" ∷ []
 
 abbrev turned_line : Line
-turned_line = record { form = Some GeoJson; how = Round; blocks = 3; workers = 2; query = codes "join"; first = codes "a.wkt"; second = Some (codes "b.wkt") }
+turned_line = record { form = Some GeoJson; how = Round; digits = 7; blocks = 3; workers = 2; query = codes "join"; first = codes "a.wkt"; second = Some (codes "b.wkt") }
 
 turned_said : SaysLine turned_words turned_line
 unfolding digits
 turned_said = (
-  positional (codes "join") ∷ positional (codes "a.wkt") ∷ joined Workers (codes "2") ∷ apart Blocks (codes "3") ∷ apart Coords (codes "round") ∷ joined Form (codes "geojson") ∷ [],
+  positional (codes "join") ∷ positional (codes "a.wkt") ∷ joined Workers (codes "2") ∷ apart Blocks (codes "3") ∷ apart Digits (codes "7") ∷ apart Coords (codes "round") ∷ joined Form (codes "geojson") ∷ [],
   Some (codes "b.wkt" ∷ []),
-  record { spelled = refl; are_pieces = (refl, (refl, (tt, (tt, (tt, (tt, tt)))))) },
+  record { spelled = refl; are_pieces = (refl, (refl, (tt, (tt, (tt, (tt, (tt, tt))))))) },
   record {
     form = (GeoJson, refl, refl);
     how = refl;
+    digits = inl (refl, refl);
     blocks = record { least = lit≤ tt; most = lit≤ tt; written = refl };
     workers = record { least = lit≤ tt; most = lit≤ tt; written = refl };
     names = record { places = refl; query_fits = lit≤ tt; first_names = plain_name; second_names = other_name };
@@ -82,7 +84,7 @@ abbrev plain_words : List (List ℕ)
 plain_words = codes "count" ∷ codes "a.wkt" ∷ []
 
 abbrev plain_line : Line
-plain_line = record { form = None; how = Round; blocks = 64; workers = 4; query = codes "count"; first = codes "a.wkt"; second = None }
+plain_line = record { form = None; how = Round; digits = 7; blocks = 64; workers = 4; query = codes "count"; first = codes "a.wkt"; second = None }
 
 plain_said : SaysLine plain_words plain_line
 plain_said = (
@@ -92,6 +94,7 @@ plain_said = (
   record {
     form = refl;
     how = refl;
+    digits = refl;
     blocks = refl;
     workers = refl;
     names = record { places = refl; query_fits = lit≤ tt; first_names = plain_name; second_names = tt };

@@ -1,5 +1,5 @@
 -- Each list of words says at most one line: the one of what is gathered from it.
-use Rattle.std.proofs.Common.{◌≡◌, ℕ, ◌^◌, ◌<◌, ◌≤◌, List, [], ◌∷◌, ◌++◌, get_or, length, refl, sym, ◌∙◌, ap, subst, Option, Some, None, Result, Ok, Err, IfOk, IfErr, ◌↔◌, option_and_then, option_to_list, lit<, arith}
+use Rattle.std.proofs.Common.{◌≡◌, ℕ, ◌^◌, ◌<◌, ◌≤◌, List, [], ◌∷◌, ◌++◌, get_or, length, refl, sym, ◌∙◌, ap, subst, Option, Some, None, Result, Ok, Err, IfOk, IfErr, ◌↔◌, option_and_then, option_to_list, codes, lit<, arith, inl, inr}
 use Rattle.std.proofs.lemmas.Option.{none-some, same_Some, option_and_then_some}
 use Rattle.std.proofs.lemmas.Fmt.{decimal_injective}
 use Rattle.at_fixed.specs.declared.rounding.Coords.{Coords}
@@ -14,7 +14,7 @@ use Rattle.at_cli.specs.declared.line.WordsEnd.TheVariants.{Refused, Memory}
 use Rattle.at_cli.specs.declared.pieces.Next.{Next}
 use Rattle.at_cli.specs.declared.pieces.Next.TheVariants as nexts
 use Rattle.at_cli.specs.Pieces.{Piece, SpellPieces, values_of, positionals_of}
-use Rattle.at_cli.specs.Values.{form_text, coords_text, IsWhole}
+use Rattle.at_cli.specs.Values.{form_text, coords_text, SpellsDigits, IsWhole}
 use Rattle.at_cli.specs.LineOf.{IsChosen, SpellsForm, HasNames, HasValues, SaysLine}
 use Rattle.at_cli.specs.Steps.{State, start, walk, unless_waiting, gathered, given_in}
 use Rattle.at_cli.proofs.Spelled.{IsEnded, end_next, ReadsAs, walked, pieces_read, list_same}
@@ -24,12 +24,14 @@ values_same : (values others : Setting → List (List ℕ)) (positionals places 
 values_same values others positionals places line same moved h =
     let P : List (List ℕ) → Type 0 = λ x. IsChosen None SpellsForm x line.form in
     let Q : List (List ℕ) → Type 0 = λ x. IsChosen Round (λ text how. text ≡ coords_text how) x line.how in
+    let D : List (List ℕ) → Type 0 = λ x. IsChosen 7 SpellsDigits x line.digits in
     let R : List (List ℕ) → Type 0 = λ x. IsChosen 64 (IsWhole 1 4096) x line.blocks in
     let S : List (List ℕ) → Type 0 = λ x. IsChosen 4 (IsWhole 1 64) x line.workers in
     let N : List (List ℕ) → Type 0 = λ x. HasNames x line.query line.first line.second in
     record {
       form = subst P (same settings.Form) h.form;
       how = subst Q (same settings.Coords) h.how;
+      digits = subst D (same settings.Digits) h.digits;
       blocks = subst R (same settings.Blocks) h.blocks;
       workers = subst S (same settings.Workers) h.workers;
       names = subst N moved h.names;
@@ -38,6 +40,7 @@ values_same values others positionals places line same moved h =
 given_at_start : (s : Setting) → given_in start s ≡ []
 given_at_start settings.Form = refl
 given_at_start settings.Coords = refl
+given_at_start settings.Digits = refl
 given_at_start settings.Blocks = refl
 given_at_start settings.Workers = refl
 
@@ -84,6 +87,7 @@ abbrev state_for : List Piece → Option (List (List ℕ)) → State
 state_for pieces after = record {
   form = first_of (values_of pieces settings.Form);
   coords = first_of (values_of pieces settings.Coords);
+  digits = first_of (values_of pieces settings.Digits);
   blocks = first_of (values_of pieces settings.Blocks);
   workers = first_of (values_of pieces settings.Workers);
   places = positionals_of pieces after;
@@ -94,6 +98,7 @@ given_for : (pieces : List Piece) (after : Option (List (List ℕ))) (line : Lin
     → (s : Setting) → given_in (state_for pieces after) s ≡ values_of pieces s
 given_for pieces after line h settings.Form = at_most_one None SpellsForm (values_of pieces settings.Form) line.form h.form
 given_for pieces after line h settings.Coords = at_most_one Round (λ text how. text ≡ coords_text how) (values_of pieces settings.Coords) line.how h.how
+given_for pieces after line h settings.Digits = at_most_one 7 SpellsDigits (values_of pieces settings.Digits) line.digits h.digits
 given_for pieces after line h settings.Blocks = at_most_one 64 (IsWhole 1 4096) (values_of pieces settings.Blocks) line.blocks h.blocks
 given_for pieces after line h settings.Workers = at_most_one 4 (IsWhole 1 64) (values_of pieces settings.Workers) line.workers h.workers
 
@@ -153,13 +158,23 @@ one_text Round Round e = refl
 pub one_coords : (text : List ℕ) (a b : Coords) → text ≡ coords_text a → text ≡ coords_text b → a ≡ b
 one_coords text a b e f = one_text a b (sym e ∙ f)
 
+not_both : (text : List ℕ) → text ≡ codes "7" → text ≡ codes "9" → ⊥
+not_both text seven nine = apart 55 57 (lit< tt) (ap (λ (t : List ℕ). get_or t 0 0) (sym seven ∙ nine))
+
+one_digits : (text : List ℕ) (a b : ℕ) → SpellsDigits text a → SpellsDigits text b → a ≡ b
+one_digits text a b (inl (seven, e)) (inl (also, f)) = e ∙ sym f
+one_digits text a b (inl (seven, e)) (inr (nine, f)) = absurd (not_both text seven nine)
+one_digits text a b (inr (nine, e)) (inl (seven, f)) = absurd (not_both text seven nine)
+one_digits text a b (inr (nine, e)) (inr (also, f)) = e ∙ sym f
+
 pub one_whole : (low high : ℕ) → high < 2 ^ 32 → (text : List ℕ) (a b : ℕ) → IsWhole low high text a → IsWhole low high text b → a ≡ b
 one_whole low high small text a b g h = decimal_injective a b (omega (arith, g.most)) (omega (arith, h.most)) (sym g.written ∙ h.written)
 
-make_line : Option Form → Coords → ℕ → ℕ → List ℕ → List ℕ → Option (List ℕ) → Line
-make_line form how blocks workers query first second = record {
+make_line : Option Form → Coords → ℕ → ℕ → ℕ → List ℕ → List ℕ → Option (List ℕ) → Line
+make_line form how digits blocks workers query first second = record {
   form = form;
   how = how;
+  digits = digits;
   blocks = blocks;
   workers = workers;
   query = query;
@@ -167,14 +182,14 @@ make_line form how blocks workers query first second = record {
   second = second;
 }
 
-made_same : (f g : Option Form) (h k : Coords) (b c w v : ℕ) (q p x y : List ℕ) (s t : Option (List ℕ))
-    → f ≡ g → h ≡ k → b ≡ c → w ≡ v → q ≡ p → x ≡ y → s ≡ t → make_line f h b w q x s ≡ make_line g k c v p y t
-made_same f g h k b c w v q p x y s t e1 e2 e3 e4 e5 e6 e7 = cc
+made_same : (f g : Option Form) (h k : Coords) (d e b c w v : ℕ) (q p x y : List ℕ) (s t : Option (List ℕ))
+    → f ≡ g → h ≡ k → d ≡ e → b ≡ c → w ≡ v → q ≡ p → x ≡ y → s ≡ t → make_line f h d b w q x s ≡ make_line g k e c v p y t
+made_same f g h k d e b c w v q p x y s t e1 e2 e3 e4 e5 e6 e7 e8 = cc
 
-line_same : (a b : Line) → a.form ≡ b.form → a.how ≡ b.how → a.blocks ≡ b.blocks → a.workers ≡ b.workers → a.query ≡ b.query → a.first ≡ b.first → a.second ≡ b.second → a ≡ b
+line_same : (a b : Line) → a.form ≡ b.form → a.how ≡ b.how → a.digits ≡ b.digits → a.blocks ≡ b.blocks → a.workers ≡ b.workers → a.query ≡ b.query → a.first ≡ b.first → a.second ≡ b.second → a ≡ b
 unfolding make_line
-line_same a b form how blocks workers query first second =
-    made_same a.form b.form a.how b.how a.blocks b.blocks a.workers b.workers a.query b.query a.first b.first a.second b.second form how blocks workers query first second
+line_same a b form how digits blocks workers query first second =
+    made_same a.form b.form a.how b.how a.digits b.digits a.blocks b.blocks a.workers b.workers a.query b.query a.first b.first a.second b.second form how digits blocks workers query first second
 
 one_line_of : (values : Setting → List (List ℕ)) (positionals : List (List ℕ)) (a b : Line) → HasValues values positionals a → HasValues values positionals b → a ≡ b
 one_line_of values positionals a b g h =
@@ -183,6 +198,7 @@ one_line_of values positionals a b g h =
     line_same a b
     (chosen_once None SpellsForm (values settings.Form) a.form b.form one_said_form g.form h.form)
     (chosen_once Round (λ text how. text ≡ coords_text how) (values settings.Coords) a.how b.how one_coords g.how h.how)
+    (chosen_once 7 SpellsDigits (values settings.Digits) a.digits b.digits one_digits g.digits h.digits)
     (chosen_once 64 (IsWhole 1 4096) (values settings.Blocks) a.blocks b.blocks (one_whole 1 4096 (lit< tt)) g.blocks h.blocks)
     (chosen_once 4 (IsWhole 1 64) (values settings.Workers) a.workers b.workers (one_whole 1 64 (lit< tt)) g.workers h.workers)
     (cc) (cc) (list_same a.second b.second last)

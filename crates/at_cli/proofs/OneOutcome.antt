@@ -12,7 +12,7 @@ use Rattle.at_cli.specs.LineOf.{form_of}
 use Rattle.at_cli.specs.Made.{is_made, IsMadeText}
 use Rattle.at_cli.proofs.OneMade.{one_made_text}
 use Rattle.at_cli.specs.Texts.{usage_line, query_line, files_line, size_line, fault_line}
-use Rattle.at_cli.specs.Outcomes.{Outcome, stopped, answered, units, has_right_count, HasBytesBy, HasBytes, Sized, HasBytesOutcome, HasPairOutcome, HasFilesOutcome, HasCountedOutcome, HasLineOutcome, HasOutcome, TheOutcome, IsQueryRefused, IsLineRefused, AreRefused, IsLineAccepted, AreAccepted}
+use Rattle.at_cli.specs.Outcomes.{Outcome, stopped, answered, has_right_count, HasBytesBy, HasBytes, Sized, HasBytesOutcome, HasPairOutcome, HasFilesOutcome, HasCountedOutcome, HasLineOutcome, HasOutcome, TheOutcome, IsQueryRefused, IsLineRefused, AreRefused, IsLineAccepted, AreAccepted}
 use Rattle.at_cli.specs.declared.ending.Ending.{Ending}
 use Rattle.at_cli.specs.Endings.{outcome_by, Ends}
 use Rattle.at_cli.proofs.OneLine.{one_line}
@@ -45,28 +45,28 @@ module _ (line : Line) where
   module _ (query : Query) where
     one_of_bytes : (bytes : List ℕ) (a b : Outcome) → HasBytesOutcome line query bytes a → HasBytesOutcome line query bytes b → a ≡ b
     one_of_bytes bytes a b (inl (f, h, e)) (inl (g, k, i)) =
-        let same : f ≡ g = same_Some f g (one_file_fault_in form units line.how bytes (Some f) (Some g) h k) in
+        let same : f ≡ g = same_Some f g (one_file_fault_in form line.digits line.how bytes (Some f) (Some g) h k) in
         e ∙ (ap (λ z. stopped 1 (fault_line line.first z)) same ∙ sym i)
-    one_of_bytes bytes a b (inl (f, h, e)) (inr (answer, k, i)) = absurd (answer_or_fault form units line.how query bytes answer f k h)
-    one_of_bytes bytes a b (inr (answer, h, e)) (inl (g, k, i)) = absurd (answer_or_fault form units line.how query bytes answer g h k)
-    one_of_bytes bytes a b (inr (x, h, e)) (inr (y, k, i)) = e ∙ (ap (λ z. answered (printed units z)) (one_file_answer form units line.how query bytes x y h k) ∙ sym i)
+    one_of_bytes bytes a b (inl (f, h, e)) (inr (answer, k, i)) = absurd (answer_or_fault form line.digits line.how query bytes answer f k h)
+    one_of_bytes bytes a b (inr (answer, h, e)) (inl (g, k, i)) = absurd (answer_or_fault form line.digits line.how query bytes answer g h k)
+    one_of_bytes bytes a b (inr (x, h, e)) (inr (y, k, i)) = e ∙ (ap (λ z. answered (printed line.digits z)) (one_file_answer form line.digits line.how query bytes x y h k) ∙ sym i)
 
     -- the first fault of the first file that has one, or the join
     one_of_pair : (second a b : List ℕ) (x y : Outcome) → HasPairOutcome line query second a b x → HasPairOutcome line query second a b y → x ≡ y
     one_of_pair second a b x y (inl (f, h, e)) (inl (g, k, i)) =
-        let same : f ≡ g = same_Some f g (one_file_fault_in form units line.how a (Some f) (Some g) h k) in
+        let same : f ≡ g = same_Some f g (one_file_fault_in form line.digits line.how a (Some f) (Some g) h k) in
         e ∙ (ap (λ z. stopped 1 (fault_line line.first z)) same ∙ sym i)
-    one_of_pair second a b x y (inl (f, h, e)) (inr (inl (g, (k, l), i))) = absurd (none-some f (one_file_fault_in form units line.how a None (Some f) k h))
-    one_of_pair second a b x y (inl (f, h, e)) (inr (inr (answer, k, i))) = absurd (join_or_first_fault form (form_of line second) units line.how query a b answer f k h)
-    one_of_pair second a b x y (inr (inl (f, (h, l), e))) (inl (g, k, i)) = absurd (none-some g (one_file_fault_in form units line.how a None (Some g) h k))
+    one_of_pair second a b x y (inl (f, h, e)) (inr (inl (g, (k, l), i))) = absurd (none-some f (one_file_fault_in form line.digits line.how a None (Some f) k h))
+    one_of_pair second a b x y (inl (f, h, e)) (inr (inr (answer, k, i))) = absurd (join_or_first_fault form (form_of line second) line.digits line.how query a b answer f k h)
+    one_of_pair second a b x y (inr (inl (f, (h, l), e))) (inl (g, k, i)) = absurd (none-some g (one_file_fault_in form line.digits line.how a None (Some g) h k))
     one_of_pair second a b x y (inr (inl (f, (h, l), e))) (inr (inl (g, (k, m), i))) =
-        let same : f ≡ g = same_Some f g (one_file_fault_in (form_of line second) units line.how b (Some f) (Some g) l m) in
+        let same : f ≡ g = same_Some f g (one_file_fault_in (form_of line second) line.digits line.how b (Some f) (Some g) l m) in
         e ∙ (ap (λ z. stopped 1 (fault_line second z)) same ∙ sym i)
-    one_of_pair second a b x y (inr (inl (f, (h, l), e))) (inr (inr (answer, k, i))) = absurd (join_or_second_fault form (form_of line second) units line.how query a b answer f k l)
-    one_of_pair second a b x y (inr (inr (answer, h, e))) (inl (g, k, i)) = absurd (join_or_first_fault form (form_of line second) units line.how query a b answer g h k)
-    one_of_pair second a b x y (inr (inr (answer, h, e))) (inr (inl (g, (k, l), i))) = absurd (join_or_second_fault form (form_of line second) units line.how query a b answer g h l)
+    one_of_pair second a b x y (inr (inl (f, (h, l), e))) (inr (inr (answer, k, i))) = absurd (join_or_second_fault form (form_of line second) line.digits line.how query a b answer f k l)
+    one_of_pair second a b x y (inr (inr (answer, h, e))) (inl (g, k, i)) = absurd (join_or_first_fault form (form_of line second) line.digits line.how query a b answer g h k)
+    one_of_pair second a b x y (inr (inr (answer, h, e))) (inr (inl (g, (k, l), i))) = absurd (join_or_second_fault form (form_of line second) line.digits line.how query a b answer g h l)
     one_of_pair second a b x y (inr (inr (one, h, e))) (inr (inr (other, k, i))) =
-        e ∙ (ap (λ z. answered (printed units z)) (one_join_answer form (form_of line second) units line.how query a b one other h k) ∙ sym i)
+        e ∙ (ap (λ z. answered (printed line.digits z)) (one_join_answer form (form_of line second) line.digits line.how query a b one other h k) ∙ sym i)
 
     module _ (files : Files) where
       one_of_files : (second : Option (List ℕ)) (a b : Outcome) → HasFilesOutcome second line query files a → HasFilesOutcome second line query files b → a ≡ b
@@ -80,26 +80,26 @@ module _ (line : Line) where
       one_counted true a b h k = one_of_files line.second a b h k
 
   one_of_line : (files : Files) (a b : Outcome) → HasLineOutcome line files a → HasLineOutcome line files b → a ≡ b
-  one_of_line files a b (inl (m, h, e)) (inl (n, k, i)) = e ∙ (ap (λ z. stopped 2 (query_line z)) (one_query_fault units line.how line.query m n h k) ∙ sym i)
-  one_of_line files a b (inl (m, h, e)) (inr (q, k, i)) = absurd (query_or_fault units line.how line.query q m k h)
-  one_of_line files a b (inr (p, h, e)) (inl (n, k, i)) = absurd (query_or_fault units line.how line.query p n h k)
+  one_of_line files a b (inl (m, h, e)) (inl (n, k, i)) = e ∙ (ap (λ z. stopped 2 (query_line z)) (one_query_fault line.digits line.how line.query m n h k) ∙ sym i)
+  one_of_line files a b (inl (m, h, e)) (inr (q, k, i)) = absurd (query_or_fault line.digits line.how line.query q m k h)
+  one_of_line files a b (inr (p, h, e)) (inl (n, k, i)) = absurd (query_or_fault line.digits line.how line.query p n h k)
   one_of_line files a b (inr (p, h, e)) (inr (q, k, i)) =
-      let same : p ≡ q = one_query units line.how line.query p q h k in
+      let same : p ≡ q = one_query line.digits line.how line.query p q h k in
       one_counted q files (has_right_count q.verb line.second) a b (subst (λ (z : Query). HasCountedOutcome (has_right_count z.verb line.second) line z files a) same e) i
 
   one_refused_query : (query : Query) (a b : List ℕ) → IsQueryRefused line query a → IsQueryRefused line query b → a ≡ b
   one_refused_query query a b (h, e) (k, i) = e ∙ sym i
 
   one_refused_line : (a b : List ℕ) → IsLineRefused line a → IsLineRefused line b → a ≡ b
-  one_refused_line a b (inl (m, h, e)) (inl (n, k, i)) = e ∙ (ap query_line (one_query_fault units line.how line.query m n h k) ∙ sym i)
-  one_refused_line a b (inl (m, h, e)) (inr (q, k, i)) = absurd (query_or_fault units line.how line.query q m k h)
-  one_refused_line a b (inr (p, h, e)) (inl (n, k, i)) = absurd (query_or_fault units line.how line.query p n h k)
-  one_refused_line a b (inr (p, h, e)) (inr (q, k, i)) = one_refused_query q a b (subst (λ z. IsQueryRefused line z a) (one_query units line.how line.query p q h k) e) i
+  one_refused_line a b (inl (m, h, e)) (inl (n, k, i)) = e ∙ (ap query_line (one_query_fault line.digits line.how line.query m n h k) ∙ sym i)
+  one_refused_line a b (inl (m, h, e)) (inr (q, k, i)) = absurd (query_or_fault line.digits line.how line.query q m k h)
+  one_refused_line a b (inr (p, h, e)) (inl (n, k, i)) = absurd (query_or_fault line.digits line.how line.query p n h k)
+  one_refused_line a b (inr (p, h, e)) (inr (q, k, i)) = one_refused_query q a b (subst (λ z. IsQueryRefused line z a) (one_query line.digits line.how line.query p q h k) e) i
 
   refused_not_accepted : (refusal : List ℕ) → IsLineRefused line refusal → IsLineAccepted line → ⊥
-  refused_not_accepted refusal (inl (m, h, e)) (q, k, i) = query_or_fault units line.how line.query q m k h
+  refused_not_accepted refusal (inl (m, h, e)) (q, k, i) = query_or_fault line.digits line.how line.query q m k h
   refused_not_accepted refusal (inr (p, h, e)) (q, k, right) =
-      let (wrong, i) = subst (λ z. IsQueryRefused line z refusal) (one_query units line.how line.query p q h k) e in true≢false (sym right ∙ wrong)
+      let (wrong, i) = subst (λ z. IsQueryRefused line z refusal) (one_query line.digits line.how line.query p q h k) e in true≢false (sym right ∙ wrong)
 
   -- ---- what is refused is the outcome
 
@@ -121,12 +121,12 @@ module _ (line : Line) where
 
   bytes_not_two : (query : Query) (bytes : List ℕ) (o : Outcome) → HasBytesOutcome line query bytes o → o.status ≡ 2 → ⊥
   bytes_not_two query bytes o (inl (f, k, e)) h = never_two o 1 (fault_line line.first f) [] e h (λ z. cc)
-  bytes_not_two query bytes o (inr (answer, k, e)) h = never_two o 0 [] (printed units answer) e h (λ z. cc)
+  bytes_not_two query bytes o (inr (answer, k, e)) h = never_two o 0 [] (printed line.digits answer) e h (λ z. cc)
 
   pair_not_two : (query : Query) (second a b : List ℕ) (o : Outcome) → HasPairOutcome line query second a b o → o.status ≡ 2 → ⊥
   pair_not_two query second a b o (inl (f, k, e)) h = never_two o 1 (fault_line line.first f) [] e h (λ z. cc)
   pair_not_two query second a b o (inr (inl (f, k, e))) h = never_two o 1 (fault_line second f) [] e h (λ z. cc)
-  pair_not_two query second a b o (inr (inr (answer, k, e))) h = never_two o 0 [] (printed units answer) e h (λ z. cc)
+  pair_not_two query second a b o (inr (inr (answer, k, e))) h = never_two o 0 [] (printed line.digits answer) e h (λ z. cc)
 
   files_not_two : (query : Query) (files : Files) (second : Option (List ℕ)) (o : Outcome) → HasFilesOutcome second line query files o → o.status ≡ 2 → ⊥
   files_not_two query files None o k h = sized_not_two files line.first (HasBytesOutcome line query) (λ bytes x r t. bytes_not_two query bytes x r t) o k h

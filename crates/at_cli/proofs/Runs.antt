@@ -3,13 +3,13 @@ use Rattle.std.proofs.Common.{◌≡◌, ◌≢◌, ◌↔◌, ◌⊎◌, ◌∙
 use Rattle.at_io.specs.Files.{Files}
 use Rattle.at_cli.specs.declared.ending.Ending.{Ending}
 use Rattle.at_cli.specs.declared.line.Line.{Line}
-use Rattle.at_cli.specs.Values.{IsWhole}
+use Rattle.at_cli.specs.Values.{SpellsDigits, IsWhole}
 use Rattle.at_cli.specs.LineOf.{IsChosen, SaysLine, KeepsLimits}
 use Rattle.at_query.specs.Queries.{HasQueryFault}
 use Rattle.at_cli.specs.declared.ending.Ending.TheVariants.{Usage, QueryFault, Names, Faulty, ReadFailed, TooLarge, NoMemory, Answered}
 use Rattle.at_cli.specs.declared.line.WordsEnd.{WordsEnd}
 use Rattle.at_cli.specs.declared.line.WordsEnd.TheVariants.{Refused}
-use Rattle.at_cli.specs.Outcomes.{Outcome, stopped, answered, units, HasLineOutcome, HasOutcome, SayNoLine, IsLineRefused, IsLineAccepted, AreRefused, AreAccepted}
+use Rattle.at_cli.specs.Outcomes.{Outcome, stopped, answered, HasLineOutcome, HasOutcome, SayNoLine, IsLineRefused, IsLineAccepted, AreRefused, AreAccepted}
 use Rattle.at_cli.specs.Endings.{status_of, text_of, line_of, outcome_by, Ends}
 
 -- what holds over all files holds over these
@@ -25,9 +25,9 @@ ends_said words line None e says (inr (inr h)) = inr (inr tt)
 ends_said words line (Some told) e says (inr (inr h)) = inr (inr (inr (line, says, h)))
 
 -- a query with a fault ends the run
-pub ends_query : (line : Line) (files : Option Files) (text : List ℕ) (at : ℕ) → text ≡ line.query → HasQueryFault units line.how text at → Ends (HasLineOutcome line) files (QueryFault at)
+pub ends_query : (line : Line) (files : Option Files) (text : List ℕ) (at : ℕ) → text ≡ line.query → HasQueryFault line.digits line.how text at → Ends (HasLineOutcome line) files (QueryFault at)
 ends_query line files text at same h =
-    let P : List ℕ → Type 0 = λ w. HasQueryFault units line.how w at in
+    let P : List ℕ → Type 0 = λ w. HasQueryFault line.digits line.how w at in
     ends_any (HasLineOutcome line) files (QueryFault at) (λ told. inl (at, subst P same h, refl))
 
 -- ---- the words
@@ -141,8 +141,14 @@ chosen_within default most [] n low high e = (omega (arith, low, e), omega (arit
 chosen_within default most (value ∷ []) n low high h = (h.least, h.most)
 chosen_within default most (value ∷ second ∷ more) n low high h = absurd h
 
+digits_within : (values : List (List ℕ)) (n : ℕ) → IsChosen 7 SpellsDigits values n → (n ≡ 7) ⊎ (n ≡ 9)
+digits_within [] n e = inl e
+digits_within (value ∷ []) n (inl (text, seven)) = inl seven
+digits_within (value ∷ []) n (inr (text, nine)) = inr nine
+digits_within (value ∷ second ∷ more) n h = absurd h
+
 pub said_keeps : (words : List (List ℕ)) (line : Line) → SaysLine words line → KeepsLimits line
 said_keeps words line (pieces, after, spelled, values) =
     let (some, few) = chosen_within 64 4096 _ line.blocks (omega arith) (omega arith) values.blocks in
     let (one, most) = chosen_within 4 64 _ line.workers (omega arith) (omega arith) values.workers in
-    record { some_blocks = some; few_blocks = few; some_workers = one; few_workers = most; query_fits = values.names.query_fits; first_names = values.names.first_names; second_names = values.names.second_names }
+    record { digits = digits_within _ line.digits values.digits; some_blocks = some; few_blocks = few; some_workers = one; few_workers = most; query_fits = values.names.query_fits; first_names = values.names.first_names; second_names = values.names.second_names }

@@ -1,12 +1,12 @@
 -- What a list of words says: the line that it spells, of which there is at most one.
-use Rattle.std.specs.Prelude.{◌≡◌, ℕ, ◌^◌, ◌≤◌, List, [], ◌∷◌, length, Option, Some, None, IfSome, option_to_list, unwrap_or}
+use Rattle.std.specs.Prelude.{◌≡◌, ◌⊎◌, ℕ, ◌^◌, ◌≤◌, List, [], ◌∷◌, length, Option, Some, None, IfSome, option_to_list, unwrap_or}
 use Rattle.at_fixed.specs.declared.rounding.Coords.TheVariants.{Round}
 use Rattle.at_run.specs.declared.forms.Form.{Form}
 use Rattle.at_cli.specs.declared.flags.Setting.{Setting}
 use Rattle.at_cli.specs.declared.flags.Setting.TheVariants as settings
 use Rattle.at_cli.specs.declared.line.Line.{Line}
 use Rattle.at_cli.specs.Pieces.{Piece, SpellPieces, values_of, positionals_of}
-use Rattle.at_cli.specs.Values.{form_text, coords_text, IsWhole, IsFileName, form_by_name}
+use Rattle.at_cli.specs.Values.{form_text, coords_text, SpellsDigits, IsWhole, IsFileName, form_by_name}
 
 -- an option that isn't given has its default, one that is given has what its value spells, and none is given twice
 abbrev pub IsChosen : {X : Type 0} → X → (List ℕ → X → Type 0) → List (List ℕ) → X → Type 0
@@ -28,6 +28,7 @@ pub record HasNames (positionals : List (List ℕ)) (query first : List ℕ) (se
 pub record HasValues (values : Setting → List (List ℕ)) (positionals : List (List ℕ)) (line : Line) : Type 0 where
   pub form : IsChosen None SpellsForm (values settings.Form) line.form
   pub how : IsChosen Round (λ text how. text ≡ coords_text how) (values settings.Coords) line.how
+  pub digits : IsChosen 7 SpellsDigits (values settings.Digits) line.digits
   pub blocks : IsChosen 64 (IsWhole 1 4096) (values settings.Blocks) line.blocks
   pub workers : IsChosen 4 (IsWhole 1 64) (values settings.Workers) line.workers
   pub names : HasNames positionals line.query line.first line.second
@@ -39,6 +40,7 @@ SaysLine words line = (pieces : List Piece) × (after : Option (List (List ℕ))
 
 -- what holds of each line that words say
 pub record KeepsLimits (line : Line) : Type 0 where
+  pub digits : (line.digits ≡ 7) ⊎ (line.digits ≡ 9)
   pub some_blocks : 1 ≤ line.blocks
   pub few_blocks : line.blocks ≤ 4096
   pub some_workers : 1 ≤ line.workers

@@ -29,10 +29,6 @@ stopped status line = record { status = status; out = []; err = line }
 abbrev pub answered : List ℕ → Outcome
 answered text = record { status = 0; out = text; err = [] }
 
--- the decimal digits of a coordinate: a unit is 10 ^ -7
-abbrev pub units : ℕ
-units = 7
-
 -- two names for a join, and one for every other verb
 abbrev pub has_right_count : Verb → Option (List ℕ) → Bool
 has_right_count verbs.Join None = false
@@ -58,15 +54,15 @@ Sized files name Rest outcome = (bytes : List ℕ) × HasBytes files name bytes
 -- the outcome over a file within the limit: its first fault, or else the answer to the query
 abbrev pub HasBytesOutcome : Line → Query → List ℕ → Outcome → Type 0
 HasBytesOutcome line query bytes outcome =
-    ((fault : Fault) × HasFileFaultIn (form_of line line.first) units line.how bytes (Some fault) × (outcome ≡ stopped 1 (fault_line line.first fault)))
-    ⊎ ((answer : Answer) × IsFileAnswer (form_of line line.first) units line.how query bytes answer × (outcome ≡ answered (printed units answer)))
+    ((fault : Fault) × HasFileFaultIn (form_of line line.first) line.digits line.how bytes (Some fault) × (outcome ≡ stopped 1 (fault_line line.first fault)))
+    ⊎ ((answer : Answer) × IsFileAnswer (form_of line line.first) line.digits line.how query bytes answer × (outcome ≡ answered (printed line.digits answer)))
 
 -- the outcome over two files within the limit: the first fault of the first that has one, or else the answer to the join
 abbrev pub HasPairOutcome : Line → Query → List ℕ → List ℕ → List ℕ → Outcome → Type 0
 HasPairOutcome line query second a b outcome =
-    ((fault : Fault) × HasFileFaultIn (form_of line line.first) units line.how a (Some fault) × (outcome ≡ stopped 1 (fault_line line.first fault)))
-    ⊎ (((fault : Fault) × SecondFails (form_of line line.first) (form_of line second) units line.how a b fault × (outcome ≡ stopped 1 (fault_line second fault)))
-    ⊎ ((answer : Answer) × IsJoinAnswer (form_of line line.first) (form_of line second) units line.how query a b answer × (outcome ≡ answered (printed units answer))))
+    ((fault : Fault) × HasFileFaultIn (form_of line line.first) line.digits line.how a (Some fault) × (outcome ≡ stopped 1 (fault_line line.first fault)))
+    ⊎ (((fault : Fault) × SecondFails (form_of line line.first) (form_of line second) line.digits line.how a b fault × (outcome ≡ stopped 1 (fault_line second fault)))
+    ⊎ ((answer : Answer) × IsJoinAnswer (form_of line line.first) (form_of line second) line.digits line.how query a b answer × (outcome ≡ answered (printed line.digits answer))))
 
 -- the names have bytes in their turn, and the files have the outcome
 abbrev pub HasFilesOutcome : Option (List ℕ) → Line → Query → Files → Outcome → Type 0
@@ -78,8 +74,8 @@ HasCountedOutcome false line query files outcome = outcome ≡ stopped 2 files_l
 HasCountedOutcome true line query files outcome = HasFilesOutcome line.second line query files outcome
 
 abbrev pub HasLineOutcome : Line → Files → Outcome → Type 0
-HasLineOutcome line files outcome = ((at : ℕ) × HasQueryFault units line.how line.query at × (outcome ≡ stopped 2 (query_line at)))
-    ⊎ ((query : Query) × IsQueryOf units line.how line.query query × HasCountedOutcome (has_right_count query.verb line.second) line query files outcome)
+HasLineOutcome line files outcome = ((at : ℕ) × HasQueryFault line.digits line.how line.query at × (outcome ≡ stopped 2 (query_line at)))
+    ⊎ ((query : Query) × IsQueryOf line.digits line.how line.query query × HasCountedOutcome (has_right_count query.verb line.second) line query files outcome)
 
 -- the words say no line
 abbrev pub SayNoLine : List (List ℕ) → Type 0
@@ -100,8 +96,8 @@ abbrev pub IsQueryRefused : Line → Query → List ℕ → Type 0
 IsQueryRefused line query refusal = (has_right_count query.verb line.second ≡ false) × (refusal ≡ files_line)
 
 abbrev pub IsLineRefused : Line → List ℕ → Type 0
-IsLineRefused line refusal = ((at : ℕ) × HasQueryFault units line.how line.query at × (refusal ≡ query_line at))
-    ⊎ ((query : Query) × IsQueryOf units line.how line.query query × IsQueryRefused line query refusal)
+IsLineRefused line refusal = ((at : ℕ) × HasQueryFault line.digits line.how line.query at × (refusal ≡ query_line at))
+    ⊎ ((query : Query) × IsQueryOf line.digits line.how line.query query × IsQueryRefused line query refusal)
 
 -- the words, the query or the count of names are refused with this line
 abbrev pub AreRefused : List (List ℕ) → List ℕ → Type 0
@@ -111,7 +107,7 @@ abbrev pub IsQueryAccepted : Line → Query → Type 0
 IsQueryAccepted line query = has_right_count query.verb line.second ≡ true
 
 abbrev pub IsLineAccepted : Line → Type 0
-IsLineAccepted line = (query : Query) × IsQueryOf units line.how line.query query × IsQueryAccepted line query
+IsLineAccepted line = (query : Query) × IsQueryOf line.digits line.how line.query query × IsQueryAccepted line query
 
 -- the words say the line, and its query and its count of names are accepted
 abbrev pub AreAccepted : List (List ℕ) → Line → Type 0

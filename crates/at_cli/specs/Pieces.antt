@@ -8,6 +8,7 @@ use Rattle.at_cli.specs.declared.flags.Setting.TheVariants as settings
 abbrev pub setting_name : Setting → List ℕ
 setting_name settings.Form = codes "--form"
 setting_name settings.Coords = codes "--coords"
+setting_name settings.Digits = codes "--digits"
 setting_name settings.Blocks = codes "--blocks"
 setting_name settings.Workers = codes "--workers"
 

@@ -7,6 +7,7 @@ abbrev pub line_said : Said → Line
 line_said s = record {
   form = s.form;
   how = s.how;
+  digits = s.digits;
   blocks = s.blocks;
   workers = s.workers;
   query = s.names.query.now;

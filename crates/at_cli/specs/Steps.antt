@@ -34,12 +34,14 @@ abbrev pub flag_for : Setting → List ℕ → Option FlagWord
 flag_for s word = option_and_then (flag_behind s) (behind (setting_name s) word)
 
 abbrev pub flag_in : List ℕ → Option FlagWord
-flag_in word = option_or (option_or (option_or (flag_for settings.Form word) (flag_for settings.Coords word)) (flag_for settings.Blocks word)) (flag_for settings.Workers word)
+flag_in word = option_or (option_or (option_or (option_or (flag_for settings.Form word) (flag_for settings.Coords word)) (flag_for settings.Digits word)) (flag_for settings.Blocks word))
+    (flag_for settings.Workers word)
 
 -- what the words so far say
 pub record State : Type 0 where
   pub form : Option (List ℕ)
   pub coords : Option (List ℕ)
+  pub digits : Option (List ℕ)
   pub blocks : Option (List ℕ)
   pub workers : Option (List ℕ)
   pub places : List (List ℕ)
@@ -55,6 +57,7 @@ abbrev pub shown : Pieces → State
 shown p = record {
   form = option_copied p.form;
   coords = option_copied p.coords;
+  digits = option_copied p.digits;
   blocks = option_copied p.blocks;
   workers = option_copied p.workers;
   places = places_shown p.places;
@@ -62,17 +65,19 @@ shown p = record {
 }
 
 abbrev pub start : State
-start = record { form = None; coords = None; blocks = None; workers = None; places = []; next = nexts.Any }
+start = record { form = None; coords = None; digits = None; blocks = None; workers = None; places = []; next = nexts.Any }
 
 abbrev pub value_at : State → Setting → Option (List ℕ)
 value_at st settings.Form = st.form
 value_at st settings.Coords = st.coords
+value_at st settings.Digits = st.digits
 value_at st settings.Blocks = st.blocks
 value_at st settings.Workers = st.workers
 
 abbrev pub set_value : Setting → List ℕ → State → State
 set_value settings.Form value st = record st { form = Some value; next = nexts.Any }
 set_value settings.Coords value st = record st { coords = Some value; next = nexts.Any }
+set_value settings.Digits value st = record st { digits = Some value; next = nexts.Any }
 set_value settings.Blocks value st = record st { blocks = Some value; next = nexts.Any }
 set_value settings.Workers value st = record st { workers = Some value; next = nexts.Any }
 

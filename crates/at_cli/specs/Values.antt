@@ -15,6 +15,10 @@ abbrev pub coords_text : Coords → List ℕ
 coords_text Exact = codes "exact"
 coords_text Round = codes "round"
 
+-- the decimal digits of a coordinate
+abbrev pub SpellsDigits : List ℕ → ℕ → Type 0
+SpellsDigits text digits = ((text ≡ codes "7") × (digits ≡ 7)) ⊎ ((text ≡ codes "9") × (digits ≡ 9))
+
 -- the text is that number from low to high in decimal digits, which has no sign and no leading zero
 pub record IsWhole (low high : ℕ) (text : List ℕ) (number : ℕ) : Type 0 where
   pub least : low ≤ number

@@ -5,7 +5,7 @@ ghost use Rattle.at_run.specs.Answers.{IfFound, IsFileAnswer, IsJoinAnswer, IsJo
 ghost use Rattle.at_cli.specs.LineOf.{form_of as form_told, KeepsLimits};
 ghost use Rattle.at_cli.specs.Gates.{PassesGate};
 ghost use Rattle.at_cli.specs.Failures.{asked_names, asked_second, WasAsked, AsksFor, FailedOn};
-ghost use Rattle.at_cli.specs.Outcomes.{has_right_count as count_is_right, units, Sized, HasPairOutcome, HasFilesOutcome, HasCountedOutcome, HasLineOutcome, IsLineRefused, IsQueryRefused, IsQueryAccepted, IsLineAccepted};
+ghost use Rattle.at_cli.specs.Outcomes.{has_right_count as count_is_right, Sized, HasPairOutcome, HasFilesOutcome, HasCountedOutcome, HasLineOutcome, IsLineRefused, IsQueryRefused, IsQueryAccepted, IsLineAccepted};
 ghost use Rattle.at_cli.specs.Endings.{status_of, line_of, EndsBytes, EndsPair, Ends};
 
 use crate::ending::Ending;
@@ -19,9 +19,6 @@ use at_run::{Cuts, JoinFault, RunFault, answer, answer_join};
 use at_text::{Word, base_of};
 use std::alloc::Global;
 use std::thread::Threads;
-
-/// The decimal digits of a coordinate: a unit is 10^-7.
-const UNITS: u8 = 7;
 
 /// The answer to a query over the bytes of the line's file, cut into the blocks that the words ask for.
 fn answer_file<G: Gate, R: Threads + Sync>(
@@ -37,8 +34,8 @@ fn answer_file<G: Gate, R: Threads + Sync>(
     requires in_range { IsQueryInRange query.now }
     requires verb { query.now.verb ≢ Verb.Join }
     requires second { line.now.second ≡ None }
-    ensures answer { MatchResult result (IsFileAnswer (form_told line.now line.now.first) units line.now.how query.now bytes.now)
-        (λ end. IfFound end (λ fault. HasFileFaultIn (form_told line.now line.now.first) units line.now.how bytes.now (Some fault))) }
+    ensures answer { MatchResult result (IsFileAnswer (form_told line.now line.now.first) line.now.digits line.now.how query.now bytes.now)
+        (λ end. IfFound end (λ fault. HasFileFaultIn (form_told line.now line.now.first) line.now.digits line.now.how bytes.now (Some fault))) }
     ensures passes { IfOk result (λ _. PassesGate (G.given_up gate.now) line.now) }
 {
     let Ok(cuts) = Cuts::even(alloc, base_of(bytes), bytes.len() as u32, line.blocks) else {
@@ -51,7 +48,7 @@ fn answer_file<G: Gate, R: Threads + Sync>(
         form_of(line, line.first.as_str()),
         &cuts,
         query,
-        UNITS,
+        line.digits,
         line.how,
         line.workers,
         gate,
@@ -77,7 +74,7 @@ fn end_of_bytes<G: Gate, R: Threads + Sync>(
     ensures passes { status_of result ≡ 0 → PassesGate (G.given_up gate.now) line }
 {
     match answer_file(rt, alloc, &line, query, bytes, gate) {
-        Ok(answer) => match answer_text(alloc, &answer, UNITS) {
+        Ok(answer) => match answer_text(alloc, &answer, line.digits) {
             Ok(text) => Ending::Answered(text),
             Err(_) => Ending::NoMemory,
         },
@@ -103,8 +100,8 @@ fn join_files<G: Gate, R: Threads + Sync>(
     requires in_range { IsQueryInRange query.now }
     requires verb { query.now.verb ≡ Verb.Join }
     ensures answer { (second : List ℕ) → line.now.second ≡ Some second
-        → MatchResult result (IsJoinAnswer (form_told line.now line.now.first) (form_told line.now second) units line.now.how query.now a.now b.now)
-        (IsJoinFault (form_told line.now line.now.first) (form_told line.now second) units line.now.how a.now b.now) }
+        → MatchResult result (IsJoinAnswer (form_told line.now line.now.first) (form_told line.now second) line.now.digits line.now.how query.now a.now b.now)
+        (IsJoinFault (form_told line.now line.now.first) (form_told line.now second) line.now.digits line.now.how a.now b.now) }
     ensures passes { IfOk result (λ _. PassesGate (G.given_up gate.now) line.now) }
 {
     let Ok(cuts_a) = Cuts::even(alloc, base_of(a), a.len() as u32, line.blocks) else {
@@ -123,7 +120,7 @@ fn join_files<G: Gate, R: Threads + Sync>(
         &cuts_a,
         &cuts_b,
         query,
-        UNITS,
+        line.digits,
         line.how,
         line.workers,
         gate,
@@ -163,7 +160,7 @@ fn end_of_pair<G: Gate, R: Threads + Sync>(
     ensures passes { status_of result ≡ 0 → PassesGate (G.given_up gate.now) line }
 {
     match join_files(rt, alloc, &line, query, a, b, gate) {
-        Ok(answer) => match answer_text(alloc, &answer, UNITS) {
+        Ok(pairs) => match answer_text(alloc, &pairs, line.digits) {
             Ok(text) => Ending::Answered(text),
             Err(_) => Ending::NoMemory,
         },
@@ -369,7 +366,7 @@ pub fn end_of_line<S: Shelf, G: Gate, R: Threads + Sync>(
     ensures same_files { S.files shelf.new ≡ S.files shelf.old }
     ensures passes { status_of result ≡ 0 → PassesGate (G.given_up gate.now) line }
 {
-    match read_query(alloc, line.query.as_str().as_bytes(), UNITS, line.how) {
+    match read_query(alloc, line.query.as_str().as_bytes(), line.digits, line.how) {
         Ok(query) => end_of_query(rt, alloc, line, &query, shelf, gate),
         Err(QueryEnd::Fault(at)) => Ending::QueryFault(at),
         Err(QueryEnd::Memory) => Ending::NoMemory,

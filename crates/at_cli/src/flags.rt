@@ -8,6 +8,7 @@ ghost use Rattle.at_cli.specs.Steps.{behind, flag_shown, flag_behind as flag_of_
 pub enum Setting {
     Form,
     Coords,
+    Digits,
     Blocks,
     Workers,
 }
@@ -20,6 +21,7 @@ impl Setting {
         match self {
             Setting::Form => "--form",
             Setting::Coords => "--coords",
+            Setting::Digits => "--digits",
             Setting::Blocks => "--blocks",
             Setting::Workers => "--workers",
         }
@@ -71,6 +73,7 @@ pub fn flag_in(word: &str) -> Option<Flag<'_>>
 {
     flag_for(word, Setting::Form)
         .or(flag_for(word, Setting::Coords))
+        .or(flag_for(word, Setting::Digits))
         .or(flag_for(word, Setting::Blocks))
         .or(flag_for(word, Setting::Workers))
 }

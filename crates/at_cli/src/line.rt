@@ -15,6 +15,8 @@ pub struct Line {
     pub form: Option<Form>,
     /// How numbers are taken.
     pub how: Coords,
+    /// The decimal digits of a coordinate, 7 or 9: a unit is 10^-7 or 10^-9.
+    pub digits: u8,
     /// The blocks that a file is cut into, 1 to 4096.
     pub blocks: u32,
     /// The workers that read them, 1 to 64.
@@ -48,10 +50,10 @@ impl From<AllocError> for WordsEnd {
 
 /// The line that the words say.
 ///
-/// The words are read from left to right. An option is `--form`, `--coords`, `--blocks` or `--workers`, with its
-/// value as the next word, whatever that is, or behind `=` in the same word. The end word is the first `--` that is
-/// no option's value; it says nothing itself, and each word after it is a positional. Before it, a positional is a
-/// word that doesn't begin with `-`. The positionals are the query, the file and, where there is one, the second
+/// The words are read from left to right. An option is `--form`, `--coords`, `--digits`, `--blocks` or `--workers`,
+/// with its value as the next word, whatever that is, or behind `=` in the same word. The end word is the first `--`
+/// that is no option's value; it says nothing itself, and each word after it is a positional. Before it, a positional
+/// is a word that doesn't begin with `-`. The positionals are the query, the file and, where there is one, the second
 /// file.
 ///
 /// Words that say no line are refused, whatever memory there is: where an option is given twice or lacks its value,

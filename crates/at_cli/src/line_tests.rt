@@ -4,28 +4,28 @@ use std::alloc::Global;
 use std::process::Abort;
 use std::test::Fail;
 
-// A row of a table has words with a bar between each two, an arrow, and what they say: form, coordinates, blocks and
-// workers, and behind bars the positionals.
+// A row of a table has words with a bar between each two, an arrow, and what they say: form, coordinates, digits, blocks
+// and workers, and behind bars the positionals.
 
 /// Positionals, and the end word.
-const POSITIONALS: &str = "count|e.wkt => none round 64 4|count|e.wkt
-join|a.wkt|b.wkt => none round 64 4|join|a.wkt|b.wkt
+const POSITIONALS: &str = "count|e.wkt => none round 7 64 4|count|e.wkt
+join|a.wkt|b.wkt => none round 7 64 4|join|a.wkt|b.wkt
 count => refused
  => refused
 join|a|b|c => refused
-| => none round 64 4||
-||=> => none round 64 4|||=>
---|count|-e => none round 64 4|count|-e
-count|--|-e => none round 64 4|count|-e
-count|e.wkt|-- => none round 64 4|count|e.wkt
-count|--|-- => none round 64 4|count|--
-count|--|--form => none round 64 4|count|--form
-count|--|--blocks=0 => none round 64 4|count|--blocks=0
---|--|--|-- => none round 64 4|--|--|--
+| => none round 7 64 4||
+||=> => none round 7 64 4|||=>
+--|count|-e => none round 7 64 4|count|-e
+count|--|-e => none round 7 64 4|count|-e
+count|e.wkt|-- => none round 7 64 4|count|e.wkt
+count|--|-- => none round 7 64 4|count|--
+count|--|--form => none round 7 64 4|count|--form
+count|--|--blocks=0 => none round 7 64 4|count|--blocks=0
+--|--|--|-- => none round 7 64 4|--|--|--
 --|--|--|--|-- => refused
 -- => refused
 --|count => refused
---form=wkt|count|--|-e => wkt round 64 4|count|-e
+--form=wkt|count|--|-e => wkt round 7 64 4|count|-e
 count|--|e.wkt|--form|wkt => refused
 -h|count|e.wkt => refused
 --help => refused
@@ -35,17 +35,17 @@ count|- => refused
 count|e.wkt|--- => refused
 --=|count|e.wkt => refused
 count|e.wkt|-x => refused
-count|a-b => none round 64 4|count|a-b
-count|=--form => none round 64 4|count|=--form
-count| -e => none round 64 4|count| -e
+count|a-b => none round 7 64 4|count|a-b
+count|=--form => none round 7 64 4|count|=--form
+count| -e => none round 7 64 4|count| -e
 ";
 
 /// Options: their names, their two forms, and how often they are given.
-const OPTIONS: &str = "--form|wkt|count|e => wkt round 64 4|count|e
---form|geojson|count|e => geojson round 64 4|count|e
---form=geojson|count|e => geojson round 64 4|count|e
-count|--form=wkt|e => wkt round 64 4|count|e
-count|e|--form|wkt => wkt round 64 4|count|e
+const OPTIONS: &str = "--form|wkt|count|e => wkt round 7 64 4|count|e
+--form|geojson|count|e => geojson round 7 64 4|count|e
+--form=geojson|count|e => geojson round 7 64 4|count|e
+count|--form=wkt|e => wkt round 7 64 4|count|e
+count|e|--form|wkt => wkt round 7 64 4|count|e
 --form|wkt|--form=wkt|count|e => refused
 --form|wkt|--form|geojson|count|e => refused
 --blocks=1|--blocks=1|count|e => refused
@@ -63,16 +63,17 @@ count|e|--form => refused
 --forms|wkt|count|e => refused
 --form:wkt|count|e => refused
 -form|wkt|count|e => refused
---coords|exact|count|e => none exact 64 4|count|e
---coords=round|count|e => none round 64 4|count|e
+--coords|exact|count|e => none exact 7 64 4|count|e
+--coords=round|count|e => none round 7 64 4|count|e
 --coords|nearest|count|e => refused
 --coords=|count|e => refused
---workers=64|--blocks|4096|select|--coords=exact|f|--form|wkt => wkt exact 4096 64|select|f
+--workers=64|--blocks|4096|select|--coords=exact|f|--form|wkt => wkt exact 7 4096 64|select|f
+--workers=64|--blocks|4096|select|--digits=9|--coords=exact|f|--form|wkt => wkt exact 9 4096 64|select|f
 ";
 
 /// The numbers of blocks and workers, and the names of made files.
-const NUMBERS: &str = "--blocks|1|count|e => none round 1 4|count|e
---blocks=4096|count|e => none round 4096 4|count|e
+const NUMBERS: &str = "--blocks|1|count|e => none round 7 1 4|count|e
+--blocks=4096|count|e => none round 7 4096 4|count|e
 --blocks|0|count|e => refused
 --blocks|4097|count|e => refused
 --blocks|01|count|e => refused
@@ -83,12 +84,12 @@ const NUMBERS: &str = "--blocks|1|count|e => none round 1 4|count|e
 --blocks|1.0|count|e => refused
 --blocks|4294967297|count|e => refused
 --blocks|18446744073709551617|count|e => refused
---workers=1|count|e => none round 64 1|count|e
---workers|64|count|e => none round 64 64|count|e
+--workers=1|count|e => none round 7 64 1|count|e
+--workers|64|count|e => none round 7 64 64|count|e
 --workers|0|count|e => refused
 --workers|65|count|e => refused
-count|@g:0 => none round 64 4|count|@g:0
-count|@w:1000000 => none round 64 4|count|@w:1000000
+count|@g:0 => none round 7 64 4|count|@g:0
+count|@w:1000000 => none round 7 64 4|count|@w:1000000
 count|@g:1000001 => refused
 count|@g:01 => refused
 count|@g:00 => refused
@@ -96,11 +97,46 @@ count|@g: => refused
 count|@w:-1 => refused
 count|@w:5.wkt => refused
 count|--|@w:x => refused
-count|@G:x => none round 64 4|count|@G:x
-count|@in => none round 64 4|count|@in
+count|@G:x => none round 7 64 4|count|@G:x
+count|@in => none round 7 64 4|count|@in
 join|a.wkt|@g:1e3 => refused
-join|@w:2|@g:2 => none round 64 4|join|@w:2|@g:2
-@g:x|e => none round 64 4|@g:x|e
+join|@w:2|@g:2 => none round 7 64 4|join|@w:2|@g:2
+@g:x|e => none round 7 64 4|@g:x|e
+";
+
+/// The digits of a coordinate.
+const DIGITS: &str = "--digits|9|count|e => none round 9 64 4|count|e
+--digits=9|count|e => none round 9 64 4|count|e
+--digits|7|count|e => none round 7 64 4|count|e
+--digits=7|count|e => none round 7 64 4|count|e
+count|--digits|9|e => none round 9 64 4|count|e
+count|e|--digits=9 => none round 9 64 4|count|e
+count|--|--digits=8 => none round 7 64 4|count|--digits=8
+--digits|9|--digits=9|count|e => refused
+--digits=7|--digits|9|count|e => refused
+count|e|--digits => refused
+--digits|count|e => refused
+--digits|--|count|e => refused
+--digits|--digits=9|count|e => refused
+--digits=|count|e => refused
+--digits||count|e => refused
+--digits|8|count|e => refused
+--digits=0|count|e => refused
+--digits=07|count|e => refused
+--digits=09|count|e => refused
+--digits=+9|count|e => refused
+--digits=-9|count|e => refused
+--digits=9=|count|e => refused
+--digits=9.0|count|e => refused
+--digits| 9|count|e => refused
+--digits|9 |count|e => refused
+--digits|79|count|e => refused
+--digits|265|count|e => refused
+--digits|nine|count|e => refused
+--digit|9|count|e => refused
+--Digits|9|count|e => refused
+--digits9|count|e => refused
+-digits|9|count|e => refused
 ";
 
 fn form_name(form: Form) -> &'static str {
@@ -118,11 +154,12 @@ fn line_text(alloc: Global, line: &Line) -> Result<String, Fail> {
     } else {
         "round"
     };
+    let digits = line.digits;
     let blocks = line.blocks;
     let workers = line.workers;
     let query = line.query.as_str();
     let first = line.first.as_str();
-    let mut text = format!(in alloc; "{form} {how} {blocks} {workers}|{query}|{first}")?;
+    let mut text = format!(in alloc; "{form} {how} {digits} {blocks} {workers}|{query}|{first}")?;
     if let Some(second) = &line.second {
         text.push_str("|")?;
         text.push_str(second.as_str())?;
@@ -174,6 +211,11 @@ fn options(rt: HostRuntime) -> Result<(), Fail> {
 #[test]
 fn numbers(rt: HostRuntime) -> Result<(), Fail> {
     read_rows(&rt, rt.alloc(), NUMBERS)
+}
+
+#[test]
+fn digits(rt: HostRuntime) -> Result<(), Fail> {
+    read_rows(&rt, rt.alloc(), DIGITS)
 }
 
 /// Names and their forms where none is said.

@@ -43,6 +43,7 @@ impl<'w> Places<'w> {
 pub struct Pieces<'w> {
     pub form: Option<&'w str>,
     pub coords: Option<&'w str>,
+    pub digits: Option<&'w str>,
     pub blocks: Option<&'w str>,
     pub workers: Option<&'w str>,
     pub places: Places<'w>,
@@ -57,6 +58,7 @@ impl<'w> Pieces<'w> {
         Pieces {
             form: None,
             coords: None,
+            digits: None,
             blocks: None,
             workers: None,
             places: Places::Empty,
@@ -71,6 +73,7 @@ impl<'w> Pieces<'w> {
         match setting {
             Setting::Form => self.form,
             Setting::Coords => self.coords,
+            Setting::Digits => self.digits,
             Setting::Blocks => self.blocks,
             Setting::Workers => self.workers,
         }
@@ -91,6 +94,10 @@ impl<'w> Pieces<'w> {
             },
             Setting::Coords => Pieces {
                 coords: Some(value),
+                ..before
+            },
+            Setting::Digits => Pieces {
+                digits: Some(value),
                 ..before
             },
             Setting::Blocks => Pieces {

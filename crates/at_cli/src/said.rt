@@ -7,7 +7,7 @@ ghost use Rattle.at_cli.specs.declared.line.Line.{Line};
 use crate::line::{Line, WordsEnd};
 use crate::names::{Names, names_of};
 use crate::pieces::{Pieces, gather};
-use crate::values::{coords_or_round, form_said, number_or};
+use crate::values::{coords_or_round, digits_or_seven, form_said, number_or};
 use at_fixed::Coords;
 use at_run::Form;
 use at_text::Word;
@@ -28,6 +28,7 @@ const MOST_WORKERS: u32 = 64;
 pub struct Said<'w> {
     pub form: Option<Form>,
     pub how: Coords,
+    pub digits: u8,
     pub blocks: u32,
     pub workers: u32,
     pub names: Names<'w>,
@@ -53,6 +54,7 @@ impl Said<'_> {
         Ok(Line {
             form: self.form,
             how: self.how,
+            digits: self.digits,
             blocks: self.blocks,
             workers: self.workers,
             query: word_of(alloc, self.names.query)?,
@@ -70,12 +72,14 @@ fn said_in<'w>(pieces: &Pieces<'w>) -> Option<Said<'w>>
 {
     let form = form_said(pieces.form)?;
     let how = coords_or_round(pieces.coords)?;
+    let digits = digits_or_seven(pieces.digits)?;
     let blocks = number_or(BLOCKS, MOST_BLOCKS, pieces.blocks)?;
     let workers = number_or(WORKERS, MOST_WORKERS, pieces.workers)?;
     let names = names_of(pieces.places)?;
     Some(Said {
         form,
         how,
+        digits,
         blocks,
         workers,
         names,

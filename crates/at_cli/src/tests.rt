@@ -40,7 +40,8 @@ const PLAIN: Run<'static> = Run {
 const AMPLE: u32 = 1 << 20;
 
 const USAGE: &str =
-    "usage: atgis [--form geojson|wkt] [--coords exact|round] [--blocks 1..4096] [--workers 1..64] QUERY FILE [SECOND]\n";
+    "usage: atgis [--form geojson|wkt] [--coords exact|round] [--digits 7|9] [--blocks 1..4096] [--workers 1..64] \
+     QUERY FILE [SECOND]\n";
 
 const NAMES: &str = "files: join takes two, every other verb one\n";
 
@@ -205,6 +206,9 @@ count|e.wkt|--blocks => x =>  => 2 usage
 --blocks|0|count|e.wkt => x =>  => 2 usage
 count|@g:01 => x =>  => 2 usage
 --coords=|count|e.wkt => x =>  => 2 usage
+--digits=07|count|e.wkt => x =>  => 2 usage
+--digits=9|--digits|9|count|e.wkt => x =>  => 2 usage
+count|e.wkt|--digits => x =>  => 2 usage
 count where meets box(2 2,1 1)|e.wkt => x =>  => 2 query: at 18~
 counts|e.wkt => x =>  => 2 query: at 5~
 count where|e.wkt => x =>  => 2 query: at 11~
@@ -273,6 +277,63 @@ const BLOCKS: &str =
 --blocks|4096|--workers|64|select|f.wkt => f.wkt => POINT (1 1)~POINT (0 5)~POINT (4 5)~POINT (5 5)~ => 0 0~12~24~36~
 --blocks|4096|count|f.wkt => f.wkt =>  => 0 0~
 --blocks|4096|count|f.wkt => f.wkt => POINT (1 2~POINT (3 4) => 1 f.wkt: Ended at 10~
+";
+
+/// Nine decimals: the unit of both files, of the query's numbers and of what is printed.
+const NINE: &str =
+    "--digits|9|extent|f.wkt => f.wkt => POINT (1.000000001 2) => 0 1.000000001 2.000000000 1.000000001 2.000000000~
+--digits=9|count|f.wkt => f.wkt => POINT (300000 0) => 0 1~
+--digits=9|count|f.wkt => f.wkt => POINT (300000.000000001 0) => 1 f.wkt: Range at 7~
+--digits=9|area|@g:720 => x =>  => 0 1440000000000000000000~
+--digits|9|extent|g.json => g.json => {~\"type\": \"FeatureCollection\",~\"name\": \"places\",~\"crs\": { \"type\": \"name\", \"properties\": { \"name\": \"urn:ogc:def:crs:OGC:1.3:CRS84\" } },~\"features\": [~{ \"type\": \"Feature\", \"properties\": { \"name\": \"Ulm\" }, \"geometry\": { \"type\": \"Point\", \"coordinates\": [ 9.987654321012345, 48.4 ] } },~{ \"type\": \"Feature\", \"properties\": { \"name\": \"Bonn\" }, \"geometry\": { \"type\": \"Point\", \"coordinates\": [ 7.1, 50.733333333333334 ] } },~{ \"type\": \"Feature\", \"properties\": { \"name\": \"Jena\" }, \"geometry\": null }~]~}~ => 0 7.100000000 48.400000000 9.987654321 50.733333333~
+--digits=9|--coords|exact|select|g.json => g.json => {~\"type\": \"FeatureCollection\",~\"name\": \"places\",~\"crs\": { \"type\": \"name\", \"properties\": { \"name\": \"urn:ogc:def:crs:OGC:1.3:CRS84\" } },~\"features\": [~{ \"type\": \"Feature\", \"properties\": { \"name\": \"Ulm\" }, \"geometry\": { \"type\": \"Point\", \"coordinates\": [ 9.987654321012345, 48.4 ] } },~{ \"type\": \"Feature\", \"properties\": { \"name\": \"Bonn\" }, \"geometry\": { \"type\": \"Point\", \"coordinates\": [ 7.1, 50.733333333333334 ] } },~{ \"type\": \"Feature\", \"properties\": { \"name\": \"Jena\" }, \"geometry\": null }~]~}~ => 1 g.json: Scale at 251~
+--digits=9|count where in box(0 0,300001 1)|e.wkt => e.wkt =>  => 2 query: at 23~
+--digits|8|count|e.wkt => e.wkt =>  => 2 usage
+--digits=9|select where in box(1.000000001 0,2 1)|f.wkt => f.wkt => POINT (1.000000001 0)~POINT (1 0)~ => 0 0~
+select where in box(1.000000001 0,2 1)|f.wkt => f.wkt => POINT (1.000000001 0)~POINT (1 0)~ => 0 0~22~
+--digits=9|count where meets POINT (1.0000000005 0)|f.wkt => f.wkt => POINT (1 0)~POINT (1.000000001 0)~ => 0 1~
+--digits=9|count where in box(0 0,300000 300000)|f.wkt => f.wkt => POINT (300000 300000) => 0 1~
+--digits=9|--coords=exact|count where in box(0 0,1.0000000001 1)|e.wkt => e.wkt =>  => 2 query: at 23~
+--coords=exact|count where in box(0 0,1.000000001 1)|e.wkt => e.wkt =>  => 2 query: at 23~
+--digits=9|--coords=exact|count where in box(0 0,1.000000001 1)|e.wkt => e.wkt =>  => 0 0~
+--digits=9|count where meets POINT (300001 0)|e.wkt => e.wkt =>  => 2 query: at 25~
+--digits=9|area|f.wkt => f.wkt => POLYGON ((0 0,2 0,2 2,0 2,0 0),(0.5 0.5,1 0.5,1 1,0.5 1,0.5 0.5)) => 0 7500000000000000000~
+--digits=9|area|f.wkt => f.wkt => POLYGON ((-3e5 -3e5,3e5 -3e5,3e5 3e5,-3e5 3e5,-3e5 -3e5)) => 0 720000000000000000000000000000~
+--digits=9|area|f.wkt => f.wkt => POLYGON ((0 0,1e-9 0,0 1e-9,0 0)) => 0 1~
+area|f.wkt => f.wkt => POLYGON ((0 0,1e-9 0,0 1e-9,0 0)) => 0 0~
+--digits=9|extent|f.wkt => f.wkt => POINT EMPTY => 0 empty~
+--digits=9|extent|@g:720 => x =>  => 0 0.500000000 0.000000000 360.500000000 2.000000000~
+--digits=9|extent|@w:720 => x =>  => 0 0.000000000 0.000000000 360.000000000 2.000000000~
+--digits=9|join|@w:2|@g:2 => x =>  => 0 0 41~32 41~32 176~
+--digits=9|join|f.wkt|f.wkt => f.wkt => POINT (0.000000001 0)~POINT (0.000000002 0)~ => 0 0 0~22 22~
+join|f.wkt|f.wkt => f.wkt => POINT (0.000000001 0)~POINT (0.000000002 0)~ => 0 0 0~0 22~22 0~22 22~
+--digits=9|join|f.wkt|@g:1 => f.wkt => POINT (300000.1 0) => 1 f.wkt: Range at 7~
+--digits=9|join|@g:1|f.wkt => f.wkt => POINT (300000.1 0) => 1 f.wkt: Range at 7~
+";
+
+/// Numbers at the edges of both ranges, and ties at the last digit.
+const EDGES: &str = "count|f.wkt => f.wkt => POINT (-30000000.00000005 3e7) => 0 1~
+count|f.wkt => f.wkt => POINT (30000000.000000050000000001 0) => 1 f.wkt: Range at 7~
+count|f.wkt => f.wkt => POINT (0 -30000000.0000001) => 1 f.wkt: Range at 9~
+--digits=7|count|f.wkt => f.wkt => POINT (30000000 0) => 0 1~
+--digits=9|count|f.wkt => f.wkt => POINT (30000000 0) => 1 f.wkt: Range at 7~
+--digits=9|count|f.wkt => f.wkt => POINT (-300000.0000000005 3e5) => 0 1~
+--digits=9|count|f.wkt => f.wkt => POINT (300000.00000000050000000001 0) => 1 f.wkt: Range at 7~
+--digits=9|count|f.wkt => f.wkt => POINT (0 -300000.000000001) => 1 f.wkt: Range at 9~
+--digits=9|count|f.wkt => f.wkt => POINT (299999.9999999995 0) => 0 1~
+--digits=9|--coords=exact|count|f.wkt => f.wkt => POINT (300000 -299999.999999999) => 0 1~
+--digits=9|--coords=exact|count|f.wkt => f.wkt => POINT (300000.0000000001 0) => 1 f.wkt: Range at 7~
+--digits=9|--coords=exact|count|f.wkt => f.wkt => POINT (299999.9999999999 0) => 1 f.wkt: Scale at 7~
+--coords=exact|count|f.wkt => f.wkt => POINT (1.00000001 2) => 1 f.wkt: Scale at 7~
+--digits=9|--coords=exact|count|f.wkt => f.wkt => POINT (1.00000001 2e-9) => 0 1~
+--digits=9|count|f.json => f.json => {\"type\":\"Point\",\"coordinates\":[300000,-3e5]} => 0 1~
+--digits=9|count|f.json => f.json => {\"type\":\"Point\",\"coordinates\":[300000.000000001,0]} => 1 f.json: Range at 31~
+--digits=9|--coords=exact|count|f.json => f.json => {\"type\":\"Point\",\"coordinates\":[1.000000001,1e-10]} => 1 f.json: Scale at 43~
+--digits=9|extent|f.wkt => f.wkt => MULTIPOINT (1.0000000005 2.0000000015) => 0 1.000000000 2.000000002 1.000000000 2.000000002~
+--digits=9|extent|f.wkt => f.wkt => MULTIPOINT (-1.0000000005 -0.0000000005,-1.0000000015 0.0000000015) => 0 -1.000000002 0.000000000 -1.000000000 0.000000002~
+--digits=9|extent|f.wkt => f.wkt => POINT (1.00000000050000000000000000001 2.0000000014999999999999999999) => 0 1.000000001 2.000000001 1.000000001 2.000000001~
+--digits=9|extent|f.json => f.json => {\"type\":\"Point\",\"coordinates\":[-2.0000000025,5e-10]} => 0 -2.000000002 0.000000000 -2.000000002 0.000000000~
+--digits=9|extent|f.wkt => f.wkt => MULTIPOINT (-300000 0.000000001,300000 -0.000000001) => 0 -300000.000000000 -0.000000001 300000.000000000 0.000000001~
 ";
 
 /// The bytes that a text of a table stands for.
@@ -383,6 +444,16 @@ fn made_files_and_joins(rt: HostRuntime) -> Result<(), Fail> {
 #[test]
 fn any_blocks_and_workers(rt: HostRuntime) -> Result<(), Fail> {
     run_table(&rt, rt.alloc(), BLOCKS)
+}
+
+#[test]
+fn nine_decimals(rt: HostRuntime) -> Result<(), Fail> {
+    run_table(&rt, rt.alloc(), NINE)
+}
+
+#[test]
+fn edges_of_ranges(rt: HostRuntime) -> Result<(), Fail> {
+    run_table(&rt, rt.alloc(), EDGES)
 }
 
 /// A shelf whose files never end and don't tell what they hold.

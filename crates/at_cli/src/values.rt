@@ -2,7 +2,7 @@ ghost use Rattle.std.specs.Prelude.{◌≡◌, ◌≢◌, ◌⊎◌, ℕ, List, 
 ghost use Rattle.std.specs.Option.{option_copied};
 ghost use Rattle.at_fixed.specs.declared.rounding.Coords.{Coords};
 ghost use Rattle.at_run.specs.declared.forms.Form.{Form};
-ghost use Rattle.at_cli.specs.Values.{form_text, coords_text, IsWhole, GoesOn, IsFileName};
+ghost use Rattle.at_cli.specs.Values.{form_text, coords_text, SpellsDigits, IsWhole, GoesOn, IsFileName};
 ghost use Rattle.at_cli.specs.LineOf.{IsChosen, SpellsForm};
 
 use crate::flags::text_behind;
@@ -100,6 +100,29 @@ pub fn coords_or_round(text: Option<&str>) -> Option<Coords>
     match text {
         None => Some(Coords::Round),
         Some(text) => coords_named(text),
+    }
+}
+
+/// The decimal digits that the text says.
+fn digits_named(text: &str) -> Option<u8>
+    ensures { MatchOption result ((digits : ℕ) → SpellsDigits text.now digits → ⊥) (SpellsDigits text.now) }
+{
+    match text {
+        "7" => Some(7),
+        "9" => Some(9),
+        _ => None,
+    }
+}
+
+/// The decimal digits of a coordinate: seven where nothing is said.
+pub fn digits_or_seven(text: Option<&str>) -> Option<u8>
+    ensures { MatchOption result
+        ((digits : ℕ) → IsChosen 7 SpellsDigits (option_to_list (option_copied text.entry)) digits → ⊥)
+        (IsChosen 7 SpellsDigits (option_to_list (option_copied text.entry))) }
+{
+    match text {
+        None => Some(7),
+        Some(text) => digits_named(text),
     }
 }
 
