@@ -1,7 +1,7 @@
 #!/usr/bin/env python3
 """What there is to say of a GeoJSON file, worked out slowly from the definitions of RFC 8259 and RFC 7946.
 
-usage: tests/oracle.py [--coords=exact|round] select|count|area|extent FILE
+usage: tests/oracle.py [--coords=exact|round] [--digits=7|9] select|count|area|extent FILE
 
 It shares nothing with the program and goes another way: it makes the tree of the whole text, walks it from the root
 by role, gathers all faults and takes the first; numbers are whole numbers and fractions, and every question about
@@ -55,11 +55,11 @@ class Feature(NamedTuple):
     texts: list
 
 
-def fixed(text, is_exact):
-    """A number in units of ten to the minus seven, or the kind of its fault."""
+def fixed(text, is_exact, digits=DIGITS):
+    """A number in units of so many decimal digits, or the kind of its fault."""
     whole, part, exponent = NUMBER.fullmatch(text).groups()
     mantissa = int(whole + (part or b""))
-    power = int(exponent or 0) - len(part or b"") + DIGITS
+    power = int(exponent or 0) - len(part or b"") + digits
     size = len(str(abs(mantissa))) + power
     if mantissa == 0:
         return 0
@@ -118,8 +118,9 @@ def has_form(node, kind):
 class Roles:
     """Walks a tree from its root: what a member means depends on the object that has it."""
 
-    def __init__(self, is_exact):
+    def __init__(self, is_exact, digits):
         self.is_exact = is_exact
+        self.digits = digits
         self.faults = []
 
     def fault(self, kind, node):
@@ -202,7 +203,7 @@ class Roles:
 
     def number(self, node):
         """A number in units, or None."""
-        value = fixed(node.value, self.is_exact)
+        value = fixed(node.value, self.is_exact, self.digits)
         if isinstance(value, str):
             self.fault(value, node)
             return None
@@ -232,7 +233,7 @@ def first(faults):
     return min(faults, key=Fault.rank)
 
 
-def read(data, is_exact):
+def read(data, is_exact, digits=DIGITS):
     """The features of a file, or its first fault."""
     try:
         data.decode()
@@ -243,28 +244,28 @@ def read(data, is_exact):
     except Stop as stop:
         place = stop.args[0]
         return Fault("Syntax" if place < len(data) else "Ended", place)
-    roles = Roles(is_exact)
+    roles = Roles(is_exact, digits)
     features = roles.root(tree)
     faults = twins(tree) + roles.faults
     return first(faults) if faults else features
 
 
-def fixed_text(value):
+def fixed_text(value, digits):
     """A coordinate as it is printed."""
-    whole, part = divmod(abs(value), 10**DIGITS)
-    return f"{'-' if value < 0 else ''}{whole}.{part:0{DIGITS}}"
+    whole, part = divmod(abs(value), 10**digits)
+    return f"{'-' if value < 0 else ''}{whole}.{part:0{digits}}"
 
 
-def extent_text(features):
+def extent_text(features, digits):
     """The extent of all positions as it is printed."""
     positions = [position for feature in features for position in feature.shape.positions()]
     if not positions:
         return "empty"
     xs, ys = zip(*positions)
-    return " ".join(fixed_text(value) for value in (min(xs), min(ys), max(xs), max(ys)))
+    return " ".join(fixed_text(value, digits) for value in (min(xs), min(ys), max(xs), max(ys)))
 
 
-def answer(features, verb):
+def answer(features, verb, digits=DIGITS):
     """What is printed of the features that a query keeps."""
     if verb == "select":
         return "".join(f"{feature.at}\n" for feature in features)
@@ -272,7 +273,7 @@ def answer(features, verb):
         return f"{len(features)}\n"
     if verb == "area":
         return f"{sum(doubled_area(feature.shape) for feature in features)}\n"
-    return f"{extent_text(features)}\n"
+    return f"{extent_text(features, digits)}\n"
 
 
 def joined(features, others):
@@ -280,19 +281,20 @@ def joined(features, others):
     return "".join(f"{one.at} {other.at}\n" for one in features for other in others if meets(one.shape, other.shape))
 
 
-def told(data, verb, is_exact, holds=lambda feature: True):
+def told(data, verb, is_exact, digits=DIGITS, holds=lambda feature: True):
     """What the program has to print of a file, and its status; of a fault the kind and the offset."""
-    found = read(data, is_exact)
+    found = read(data, is_exact, digits)
     if isinstance(found, Fault):
         return f"{found.kind} at {found.at}", 1
-    return answer([feature for feature in found if holds(feature)], verb), 0
+    return answer([feature for feature in found if holds(feature)], verb, digits), 0
 
 
 def main():
     is_exact = "--coords=exact" in sys.argv
+    digits = 9 if "--digits=9" in sys.argv else DIGITS
     verb, name = [word for word in sys.argv[1:] if not word.startswith("--")]
     with open(name, "rb") as file:
-        text, status = told(file.read(), verb, is_exact)
+        text, status = told(file.read(), verb, is_exact, digits)
     sys.stdout.write(text if status == 0 else f"{name}: {text}\n")
     sys.exit(status)
 

@@ -1,14 +1,14 @@
 """Random small GeoJSON files, and random tests to ask of them; the same seed gives the same.
 
 A file is made from the root by role. At each place something else may come with the file's own rate: a member left out,
-given twice or of another kind, a short line, an open ring, a number out of range. A file of rate 0 has no fault. Then
-some of the files get a changed byte or two. Coordinates are small, so that shapes meet and extents touch.
+given twice or of another kind, a short line, an open ring, a number out of range. A file of rate 0 has no fault at seven
+digits. Then some of the files get a changed byte or two. Coordinates are small, so that shapes meet and extents touch.
 """
 import json
 import random
 
 from json_tree import units
-from oracle import DIGITS, fixed
+from oracle import fixed
 from shapes import Shape, box_shape, is_in, meets
 
 KINDS = ["Point", "MultiPoint", "LineString", "MultiLineString", "Polygon", "MultiPolygon"]
@@ -16,7 +16,8 @@ NAMES = ["name", "kind", "a", "b", "", "é", "😀", "type", "geometry", "coordi
 PLAIN = ["0", "1", "2", "3", "4", "5", "-1", "-2", "1.5", "2.5", "0.5", "-0", "1e0", "10e-1", "2.50", "3.0000000"]
 FINE = ["0.0000001", "1.0000001", "30000000", "-3e7", "1e-7", "0e999999", "29999999.9999999", "2.4999999"]
 FAULTY = ["1e-8", "15e-8", "1.00000005", "-1.00000015", "30000000.00000005", "30000000.0000001", "1e99", "-1E+99999999",
-          "1e-9999999999", "2.123456789012345678901234567890", "3.00000001e7", "0.99999999999999999999"]
+          "1e-9999999999", "2.123456789012345678901234567890", "3.00000001e7", "0.99999999999999999999",
+          "1.000000001", "-1.0000000005", "15e-10", "300000.0000000005", "-300000.000000001"]
 JUNK = ["null", "true", "false", "0", "-1.5e3", '"a"', '""', "[]", "{}", "[1]", "[[1,2]]", '{"a":1}', '{"a":1,"a":2}',
         '{"type":"Feature"}', '{"type":"Point","coordinates":[1,2]}', '{"type":"FeatureCollection","features":[]}']
 BYTES = [bytes([byte]) for byte in b'{}[],:"\\/ \t\r\n\x00\x1f\x7f0123456789eE.+-tfnu\x80\xbf\xc3\xe2\xed\xf0\xff']
@@ -166,30 +167,30 @@ class Maker:
         """Points of small whole numbers."""
         return [(self.random.randint(-2, 5), self.random.randint(-2, 5)) for _ in range(count)]
 
-    def test(self):
-        """A test as a query spells it, and what it is of a feature."""
+    def test(self, digits):
+        """A test as a query spells it, and what it is of a feature whose coordinates have so many digits."""
         word = self.random.choice(["in", "meets", "meets", "has"])
         if word == "has":
             name, value = self.random.choice(NAMES), self.random.choice(NAMES)
             pair = tuple(units(json.dumps(text).encode()) for text in (name, value))
             return f"has {self.string(name)} = {self.string(value)}", lambda feature: pair in feature.texts
         if word == "meets" and self.chance(0.6):
-            text, shape = self.target()
+            text, shape = self.target(digits)
             return f"meets {text}", lambda feature: meets(feature.shape, shape)
         (a, c), (b, d) = (sorted(numbers) for numbers in zip(*self.points(2)))
-        box = tuple(fixed(str(number).encode(), True) for number in (a, b, c, d))
+        box = tuple(fixed(str(number).encode(), True, digits) for number in (a, b, c, d))
         text = f"{word} box({a} {b},{c} {d})"
         if word == "in":
             return text, lambda feature: is_in(feature.shape, box)
         return text, lambda feature: meets(feature.shape, box_shape(box))
 
-    def target(self):
+    def target(self, digits):
         """A geometry as a query spells it, and its shape."""
         kind = self.random.choice(["POINT", "LINESTRING", "POLYGON"])
         points = self.points({"POINT": 1, "LINESTRING": 3, "POLYGON": 4}[kind])
         points += points[:1] if kind == "POLYGON" else []
         text = f"({','.join(f'{x} {y}' for x, y in points)})"
-        path = [(x * 10**DIGITS, y * 10**DIGITS) for x, y in points]
+        path = [(x * 10**digits, y * 10**digits) for x, y in points]
         if kind == "POLYGON":
             return f"POLYGON ({text})", Shape([], [], [[path]])
         return f"{kind} {text}", Shape(path, [], []) if kind == "POINT" else Shape([], [path], [])
