@@ -15,16 +15,16 @@ use Rattle.at_nest.specs.Tree.{Tree, literal, number, text, array, object, Spell
 use Rattle.at_nest.specs.Borders.{ends_run}
 use Rattle.at_nest.specs.Forms.{entry, mark, IsNoText}
 use Rattle.at_nest.specs.Folds.{IsAttempt}
-use Rattle.at_nest.specs.Levels.{further, push_mark, first_mode}
-use Rattle.at_nest.specs.Shown.{Shown, show_as, opened_as, value_added}
-use Rattle.at_nest.specs.Holding.{Kept, IsPushedAs}
+use Rattle.at_nest.specs.Levels.{further, first_mode}
+use Rattle.at_nest.specs.Shown.{Shown, show_as, opened_as}
+use Rattle.at_nest.specs.Holding.{Content, PushesValue, Kept}
 use Rattle.at_nest.specs.Reading.{ReadsAhead}
 use Rattle.at_nest.proofs.Walks.{ends_append}
-use Rattle.at_nest.proofs.Showing.{open_pushes, value_pushes}
+use Rattle.at_nest.proofs.Showing.{open_pushes}
 use Rattle.at_nest.proofs.TokenReads.{open_ends, mark_ends, one_mark}
 use Rattle.at_nest.proofs.Told.{fold_free}
 
-pub opened_ahead : {X : Type 0} (IsKept : X → Tree → Type 0) (old new : Shown X) (b : Bracket) (at : ℕ) (ahead : List ℕ) → (more : List ℕ) × (ahead ≡ opening b ∷ more) → new ≡ show_as old.outer (opened_as b at ∷ old.levels) → ReadsAhead IsKept old new None at ahead (at + 1)
+pub opened_ahead : {X : Type 0} (IsKept : X → Content → Type 0) (old new : Shown X) (b : Bracket) (at : ℕ) (ahead : List ℕ) → (more : List ℕ) × (ahead ≡ opening b ∷ more) → new ≡ show_as old.outer (opened_as b at ∷ old.levels) → ReadsAhead IsKept old new None at ahead (at + 1)
 opened_ahead IsKept old new b at ahead (more, e) d = (
   opening b ∷ [],
   more,
@@ -105,9 +105,9 @@ value_no_text at v r more b (text i cs) e h = absurd (text_not v r more b cs e h
 value_no_text at v r more b (array i ts) e h = tt
 value_no_text at v r more b (object i ms) e h = tt
 
-pub whole_ahead : {X : Type 0} (IsOwn : X → Type 0) (IsFold : X → Tree → Type 0) (old new : Shown X) (r : Option CodeHalt) (b : Bracket) (at : ℕ) (ahead : List ℕ) (len : ℕ) (x : X) → (more : List ℕ) × (ahead ≡ opening b ∷ more) → IsAttempt IsOwn IsFold at ahead (Whole len x)
-    → (new, r) ≡ value_added at x old.outer old.levels → ReadsAhead (Kept IsOwn IsFold) old new r at ahead (at + len)
-whole_ahead IsOwn IsFold old new r b at ahead len x (more, e) (v, rest, split, size, t, spells, own, fold) d =
+pub whole_ahead : {X : Type 0} (IsOwn : X → Type 0) (IsFold : X → Tree → Type 0) (IsRun : X → List Tree → Type 0) (old new : Shown X) (r : Option CodeHalt) (b : Bracket) (at : ℕ) (ahead : List ℕ) (len : ℕ) (x : X) → (more : List ℕ) × (ahead ≡ opening b ∷ more) → IsAttempt IsOwn IsFold at ahead (Whole len x)
+    → PushesValue (Kept IsOwn IsFold IsRun) old new r at x → ReadsAhead (Kept IsOwn IsFold IsRun) old new r at ahead (at + len)
+whole_ahead IsOwn IsFold IsRun old new r b at ahead len x (more, e) (v, rest, split, size, t, spells, own, fold) pushes =
     let ended = value_ended at v rest more b t (sym split ∙ e) spells in (
       v,
       rest,
@@ -118,8 +118,7 @@ whole_ahead IsOwn IsFold old new r b at ahead len x (more, e) (v, rest, split, s
       λ base w f h. (
         further (record { outer = mark (entry at t) ∷ []; levels = [] }),
         mark_ends at v rest (entry at t) (refl, t, spells, value_no_text at v rest more b t (sym split ∙ e) spells, sym (fold_free t)),
-        one_mark (Kept IsOwn IsFold) base w new r f (entry at t) (subst (λ a. IsPushedAs (Kept IsOwn IsFold) base w a.0 a.1 (push_mark f.outer f.levels (entry at t))) (sym d)
-            (value_pushes (Kept IsOwn IsFold) base w old.outer old.levels f.outer f.levels at x t h.0 h.1 (own, fold))),
+        one_mark (Kept IsOwn IsFold IsRun) base w new r f (entry at t) (pushes base w f t h (own, fold)),
       ),
     )
 

@@ -14,8 +14,7 @@ use Rattle.at_nest.specs.declared.fragments.Slot.{Slot}
 use Rattle.at_nest.specs.declared.fragments.Slot.TheVariants as slot
 use Rattle.at_nest.specs.declared.variants.Variant.{Variant}
 use Rattle.at_nest.specs.declared.variants.Variant.TheVariants.{AllLead, Whole, Broken}
-use Rattle.at_nest.specs.Tree.{Tree}
-use Rattle.at_nest.specs.Holding.{IsPartOf}
+use Rattle.at_nest.specs.Holding.{Content, IsPartOf}
 use Rattle.at_nest.specs.Stands.{HoldsVariant, HaveUnion}
 use Rattle.at_nest.specs.Standing.{HoldsEscape, HoldsParts, HoldsSome, StandsFor, parts_of}
 use Rattle.at_nest.specs.Slots.{end_in, escape_end, slot_in, variant_in, Stays, StandsAs, GoesOn, EscapeGoesOn, AreBeside}
@@ -30,7 +29,7 @@ closes_escaped : (b : ℕ) (o u more : List ℕ) → after_byte InString b ≡ I
 closes_escaped b o [] more p e h = absurd h
 closes_escaped b o (c ∷ u) more p e h = let same : c ≡ b = cc in subst (λ s. ClosesText s u) (ap (after_byte InString) same ∙ p) h
 
-module _ {X : Type 0} (IsKept : X → Tree → Type 0) where
+module _ {X : Type 0} (IsKept : X → Content → Type 0) where
   escaped : (at b : ℕ) (o : List ℕ) (v : Variant X) → after_byte InString b ≡ InString → HoldsVariant IsKept InString at (b ∷ o) v → HoldsVariant IsKept InEscape at (b ∷ o) v
   escaped at b o (AllLead end) p h = (subst (λ s. StaysInText s o) p h.0, h.1 ∙ ap (λ s. end_of s o) p)
   escaped at b o (Whole lead body pend end) p h = let w = h.is_whole in record {
@@ -150,7 +149,7 @@ part_joined bytes i j k h g = let e : i + (j - i) ≡ j = omega arith in let f :
 pub is_part : (bytes : List ℕ) (i k : ℕ) → i ≤ k → k ≤ length bytes → IsPartOf bytes i (part_of bytes i k)
 is_part bytes i k h g = (take i bytes, drop (k - i) (drop i bytes), sym (ap (λ z. take i bytes ++ z) (take-append-drop (k - i) (drop i bytes)) ∙ take-append-drop i bytes), sym (length-take-le i bytes (omega arith)))
 
-module _ {A X : Type 0} (IsKept : X → Tree → Type 0) where
+module _ {A X : Type 0} (IsKept : X → Content → Type 0) where
   pub parts_beside : (bytes : List ℕ) (i j k : ℕ) (left right : Fragment A X) (l r : Parts X) → parts_of left ≡ Some l → parts_of right ≡ Some r → AreNeighbours (StandsFor IsKept) bytes i j k left right → AreBeside IsKept bytes i (part_of bytes i j) (part_of bytes j k) l r
   parts_beside bytes i j k left right l r e f (h, g, m, hl, hr) = (
     subst (IsPartOf bytes i) (sym (part_joined bytes i j k h g)) (is_part bytes i k (omega (arith, h, g)) m),

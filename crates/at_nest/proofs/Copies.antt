@@ -1,5 +1,5 @@
 -- A copy stands for all that the first stands for.
-use Rattle.std.proofs.Common.{◌≡◌, ℕ, List, [], ◌∷◌, ◌++◌, refl, sym, ◌∙◌, ap, subst, All, add-one, take-suc, get_or, take, length, ◌+◌, ◌<◌}
+use Rattle.std.proofs.Common.{◌≡◌, ℕ, List, [], ◌∷◌, ◌++◌, refl, sym, ◌∙◌, ap, subst, All, add-one, take-suc, get_or, take, length, ◌+◌, ◌<◌, inl, inr}
 use Rattle.std.proofs.lemmas.List.Elements.{All-nil, All-cons}
 use Rattle.at_lex.specs.Strings.{Character, units_of}
 use Rattle.at_text.specs.declared.texts.Span.{Span}
@@ -14,35 +14,30 @@ use Rattle.at_nest.specs.declared.variants.Variant.{Variant}
 use Rattle.at_nest.specs.declared.variants.Variant.TheVariants.{Whole, Broken}
 use Rattle.at_nest.specs.Stands.{HoldsVariant}
 use Rattle.at_nest.specs.declared.pieces.Piece.{Piece as CodePiece}
-use Rattle.at_nest.specs.declared.pieces.Piece.TheVariants.{Closes, Comma, Colon, Text, Value}
+use Rattle.at_nest.specs.declared.pieces.Piece.TheVariants.{Closes, Comma, Colon, Text, Value, Row as RowPiece}
+use Rattle.at_nest.specs.declared.pieces.Row.{Row}
 use Rattle.at_nest.specs.Tree.{Tree, text}
 use Rattle.at_nest.specs.Forms.{Piece, opens, closes, mark, comma, colon, quoted, entry}
-use Rattle.at_nest.specs.Levels.{Level, Form}
-use Rattle.at_nest.specs.Shown.{Held, array_level, object_level, held_of, open_levels, AreOwn, OwnPiece, OwnLevel, OwnBody, shown}
-use Rattle.at_nest.specs.Holding.{Kept, Each, EachMember, IsHeld, EachHeld, IsHeldPiece, EachPiece, IsShown, CopiesItems, CopiesMember, CopiesMembers, CopiesHeld, CopiesLevels, CopiesPiece, CopiesPieces, CopiesShown}
-use Rattle.at_nest.proofs.Held.{held_own}
-use Rattle.at_nest.proofs.Showing.{open_last}
+use Rattle.at_nest.specs.Levels.{Level, Form, marks}
+use Rattle.at_nest.specs.Shown.{Held, Shown, array_level, object_level, held_of, open_levels, AreOwn, OwnPiece, OwnLevel, OwnBody, shown}
+use Rattle.at_nest.specs.Holding.{Content, one, run, Holds, Kept, Each, EachMember, IsHeld, EachHeld, IsHeldPiece, EachPiece, ArePieces, AreRow, IsRow, row_marks, row_trees, IsOfItems, CanAdd, IsShown, CopiesItems, CopiesMember, CopiesMembers, CopiesHeld, CopiesLevels, CopiesPiece, CopiesPieces, CopiesShown}
+use Rattle.at_nest.proofs.Held.{held_own, each_own, each_cut, each_append}
+use Rattle.at_nest.proofs.Showing.{open_last, pieces_append, pieces_cut}
 
-module _ {X : Type 0} (IsKept : X → Tree → Type 0) where
+module _ {X : Type 0} (IsKept : X → Content → Type 0) where
+  -- what is copied stands for each of the trees, and for the trees one behind another, for which the first stands
+  abbrev pub CopiesAtom : X → X → Type 0
+  CopiesAtom x y = ((t : Tree) → IsKept x (one t) → IsKept y (one t)) × ((ts : List Tree) → IsKept x (run ts) → IsKept y (run ts))
+
+  copies_holds : (x y : X) (ts : List Tree) → CopiesAtom x y → Holds IsKept x ts → Holds IsKept y ts
+  copies_holds x y ts k (inl (t, e, h)) = inl (t, e, k.0 t h)
+  copies_holds x y ts k (inr h) = inr (k.1 ts h)
+
   pub items_none : CopiesItems IsKept [] []
-  items_none [] h = tt
-  items_none (t ∷ ts) h = absurd h
+  items_none ts h = h
 
-  pub items_on : (xs ys : List X) (x y : X) → CopiesItems IsKept xs ys → ((t : Tree) → IsKept x t → IsKept y t) → CopiesItems IsKept (xs ++ x ∷ []) (ys ++ y ∷ [])
-  items_on xs ys x y h k ts e = let c = cut xs x ts e in subst (Each IsKept (ys ++ y ∷ [])) (sym c.2.0) (put ys y c.0 c.1 (h c.0 c.2.1) (k c.1 c.2.2))
-    where
-      cut : (xs : List X) (x : X) (ts : List Tree) → Each IsKept (xs ++ x ∷ []) ts → (us : List Tree) × (t : Tree) × ((ts ≡ us ++ t ∷ []) × Each IsKept xs us × IsKept x t)
-      cut [] x [] e = absurd e
-      cut [] x (t ∷ []) e = ([], t, (refl, tt, e.0))
-      cut [] x (t ∷ (u ∷ ts)) e = absurd e.1
-      cut (z ∷ xs) x [] e = absurd e
-      cut (z ∷ xs) x (t ∷ ts) e = let r = cut xs x ts e.1 in (t ∷ r.0, r.1, (ap (λ v. t ∷ v) r.2.0, (e.0, r.2.1), r.2.2))
-
-      put : (ys : List X) (y : X) (us : List Tree) (t : Tree) → Each IsKept ys us → IsKept y t → Each IsKept (ys ++ y ∷ []) (us ++ t ∷ [])
-      put [] y [] t e k = (k, tt)
-      put (z ∷ ys) y (u ∷ us) t e k = (e.0, put ys y us t e.1 k)
-      put [] y (u ∷ us) t e k = absurd e
-      put (z ∷ ys) y [] t e k = absurd e
+  pub items_on : (xs ys : List X) (x y : X) → CopiesItems IsKept xs ys → CopiesAtom x y → CopiesItems IsKept (xs ++ x ∷ []) (ys ++ y ∷ [])
+  items_on xs ys x y h k ts e = let c = each_cut IsKept xs x ts e in subst (Each IsKept (ys ++ y ∷ [])) (sym c.2.0) (each_append IsKept ys c.0 y c.1 (h c.0 c.2.1) (copies_holds x y c.1 k c.2.2))
 
   pub members_none : CopiesMembers IsKept [] []
   members_none [] h = tt
@@ -52,14 +47,14 @@ module _ {X : Type 0} (IsKept : X → Tree → Type 0) where
   members_on xs ys x y h k ps e = let c = cut xs x ps e in subst (EachMember IsKept (ys ++ y ∷ [])) (sym c.2.0) (put ys y c.0 c.1 (h c.0 c.2.1) (k.0 ∙ c.2.2.0) (k.1 ∙ c.2.2.1) (k.2 c.1.2 c.2.2.2))
     where
       cut : (xs : List (Member X)) (x : Member X) (ps : List (List Character × ℕ × Tree)) → EachMember IsKept (xs ++ x ∷ []) ps
-          → (us : List (List Character × ℕ × Tree)) × (p : List Character × ℕ × Tree) × ((ps ≡ us ++ p ∷ []) × EachMember IsKept xs us × ((x.name ≡ units_of p.0) × (x.name_at ≡ p.1) × IsKept x.value p.2))
+          → (us : List (List Character × ℕ × Tree)) × (p : List Character × ℕ × Tree) × ((ps ≡ us ++ p ∷ []) × EachMember IsKept xs us × ((x.name ≡ units_of p.0) × (x.name_at ≡ p.1) × IsKept x.value (one p.2)))
       cut [] x [] e = absurd e
       cut [] x (p ∷ []) e = ([], p, (refl, tt, (e.0, e.1, e.2)))
       cut [] x (p ∷ (q ∷ ps)) e = absurd e.3
       cut (z ∷ xs) x [] e = absurd e
       cut (z ∷ xs) x (p ∷ ps) e = let r = cut xs x ps e.3 in (p ∷ r.0, r.1, (ap (λ v. p ∷ v) r.2.0, (e.0, e.1, e.2, r.2.1), r.2.2))
 
-      put : (ys : List (Member X)) (y : Member X) (us : List (List Character × ℕ × Tree)) (p : List Character × ℕ × Tree) → EachMember IsKept ys us → y.name ≡ units_of p.0 → y.name_at ≡ p.1 → IsKept y.value p.2 → EachMember IsKept (ys ++ y ∷ []) (us ++ p ∷ [])
+      put : (ys : List (Member X)) (y : Member X) (us : List (List Character × ℕ × Tree)) (p : List Character × ℕ × Tree) → EachMember IsKept ys us → y.name ≡ units_of p.0 → y.name_at ≡ p.1 → IsKept y.value (one p.2) → EachMember IsKept (ys ++ y ∷ []) (us ++ p ∷ [])
       put [] y [] p e a b k = (a, b, k, tt)
       put (z ∷ ys) y (u ∷ us) p e a b k = (e.0, e.1, e.2, put ys y us p e.3 a b k)
       put [] y (u ∷ us) p e a b k = absurd e
@@ -83,50 +78,52 @@ module _ {X : Type 0} (IsKept : X → Tree → Type 0) where
   levels_on xs ys x y a b = subst (λ z. CopiesLevels IsKept z (open_levels (ys ++ y ∷ []))) (sym (open_last xs x)) (subst (CopiesLevels IsKept (held_of x ∷ open_levels xs)) (sym (open_last ys y)) (levels_cons (open_levels xs) (open_levels ys) (held_of x) (held_of y) a b))
 
   pub pieces_none : CopiesPieces IsKept [] []
-  pieces_none base w [] h = tt
-  pieces_none base w (p ∷ ps) h = absurd h
+  pieces_none base w ps h = h
 
   pub pieces_on : (xs ys : List (CodePiece X)) (x y : CodePiece X) → CopiesPieces IsKept xs ys → CopiesPiece IsKept x y → CopiesPieces IsKept (xs ++ x ∷ []) (ys ++ y ∷ [])
-  pieces_on xs ys x y h k base w ps e = let c = cut base w xs x ps e in subst (EachPiece IsKept base w (ys ++ y ∷ [])) (sym c.2.0) (put base w ys y c.0 c.1 (h base w c.0 c.2.1) (k base w c.1 c.2.2))
-    where
-      cut : (base : ℕ) (w : List ℕ) (xs : List (CodePiece X)) (x : CodePiece X) (ps : List (Piece Tree)) → EachPiece IsKept base w (xs ++ x ∷ []) ps → (us : List (Piece Tree)) × (p : Piece Tree) × ((ps ≡ us ++ p ∷ []) × EachPiece IsKept base w xs us × IsHeldPiece IsKept base w x p)
-      cut base w [] x [] e = absurd e
-      cut base w [] x (p ∷ []) e = ([], p, (refl, tt, e.0))
-      cut base w [] x (p ∷ (q ∷ ps)) e = absurd e.1
-      cut base w (z ∷ xs) x [] e = absurd e
-      cut base w (z ∷ xs) x (p ∷ ps) e = let r = cut base w xs x ps e.1 in (p ∷ r.0, r.1, (ap (λ v. p ∷ v) r.2.0, (e.0, r.2.1), r.2.2))
+  pieces_on xs ys x y h k base w ps e = let c = pieces_cut IsKept base w xs x ps e in subst (EachPiece IsKept base w (ys ++ y ∷ [])) (sym c.2) (pieces_append IsKept base w ys c.0 y c.1 (h base w c.0 c.3) (k base w c.1 c.4))
 
-      put : (base : ℕ) (w : List ℕ) (ys : List (CodePiece X)) (y : CodePiece X) (us : List (Piece Tree)) (p : Piece Tree) → EachPiece IsKept base w ys us → IsHeldPiece IsKept base w y p → EachPiece IsKept base w (ys ++ y ∷ []) (us ++ p ∷ [])
-      put base w [] y [] p e k = (k, tt)
-      put base w (z ∷ ys) y (u ∷ us) p e k = (e.0, put base w ys y us p e.1 k)
-      put base w [] y (u ∷ us) p e k = absurd e
-      put base w (z ∷ ys) y [] p e k = absurd e
+  -- what is kept of one item
+  one_copy : (c d : CodePiece X) → ((base : ℕ) (w : List ℕ) (p : Piece Tree) → IsHeldPiece IsKept base w c p → IsHeldPiece IsKept base w d p) → ((ps : List (Piece Tree)) → AreRow IsKept c ps → ⊥) → CopiesPiece IsKept c d
+  one_copy c d k none base w ps (inl (p, e, h)) = inl (p, e, k base w p h)
+  one_copy c d k none base w ps (inr r) = absurd (none ps r)
 
-  pub text_copy : (c d : CodePiece X) (x y : X) (span : Span) → c ≡ Text span x → d ≡ Text span y → ((t : Tree) → IsKept x t → IsKept y t) → CopiesPiece IsKept c d
-  text_copy c d x y span e f k base w p h = subst (λ z. IsHeldPiece IsKept base w z p) (sym f) (by_piece p (subst (λ z. IsHeldPiece IsKept base w z p) e h))
+  pub row_copy : (c d : CodePiece X) (r s : Row X) → c ≡ RowPiece r → d ≡ RowPiece s → s.comma ≡ r.comma → s.first ≡ r.first → CopiesItems IsKept r.items.items s.items.items → CopiesPiece IsKept c d
+  row_copy c d r s e f a b k base w ps (inl (p, q, h)) = absurd (no_row base w p (subst (λ z. IsHeldPiece IsKept base w z p) e h))
     where
-      by_piece : (p : Piece Tree) → IsHeldPiece IsKept base w (Text span x) p → IsHeldPiece IsKept base w (Text span y) p
-      by_piece (opens b j) u = absurd u
-      by_piece (closes b j) u = absurd u
-      by_piece (mark (comma j)) u = absurd u
-      by_piece (mark (colon j)) u = absurd u
-      by_piece (mark (quoted j cs)) u = (u.0, u.1, k (text j cs) u.2)
-      by_piece (mark (entry j t)) u = absurd u
+      no_row : (base : ℕ) (w : List ℕ) (p : Piece Tree) → IsHeldPiece IsKept base w (RowPiece r) p → ⊥
+      no_row base w (opens b j) u = u
+      no_row base w (closes b j) u = u
+      no_row base w (mark x) u = u
+  row_copy c d r s e f a b k base w ps (inr q) = let h : IsRow IsKept r ps = subst (λ z. AreRow IsKept z ps) e q in
+      subst (λ z. ArePieces IsKept base w z ps) (sym f)
+      (inr (record { tree = h.tree; others = h.others; split = h.split ∙ ap (λ (z : ℕ × ℕ). marks (row_marks ((z.0, z.1, h.tree) ∷ h.others))) (let u : (r.comma, r.first) ≡ (s.comma, s.first) = ap (λ z. (z, r.first)) (sym a) ∙ ap (λ z. (s.comma, z)) (sym b) in u); items = k (h.tree ∷ row_trees h.others) h.items }))
 
-  pub value_copy : (c d : CodePiece X) (x y : X) (i : ℕ) → c ≡ Value i x → d ≡ Value i y → ((t : Tree) → IsKept x t → IsKept y t) → CopiesPiece IsKept c d
-  value_copy c d x y i e f k base w p h = subst (λ z. IsHeldPiece IsKept base w z p) (sym f) (by_piece p (subst (λ z. IsHeldPiece IsKept base w z p) e h))
+  pub text_copy : (c d : CodePiece X) (x y : X) (span : Span) → c ≡ Text span x → d ≡ Text span y → ((t : Tree) → IsKept x (one t) → IsKept y (one t)) → CopiesPiece IsKept c d
+  text_copy c d x y span e f k = one_copy c d (λ base w p h. subst (λ z. IsHeldPiece IsKept base w z p) (sym f) (by_piece base w p (subst (λ z. IsHeldPiece IsKept base w z p) e h))) (λ ps r. subst (λ z. AreRow IsKept z ps) e r)
     where
-      by_piece : (p : Piece Tree) → IsHeldPiece IsKept base w (Value i x) p → IsHeldPiece IsKept base w (Value i y) p
-      by_piece (opens b j) u = absurd u
-      by_piece (closes b j) u = absurd u
-      by_piece (mark (comma j)) u = absurd u
-      by_piece (mark (colon j)) u = absurd u
-      by_piece (mark (quoted j cs)) u = absurd u
-      by_piece (mark (entry j t)) u = (u.0, k t u.1)
+      by_piece : (base : ℕ) (w : List ℕ) (p : Piece Tree) → IsHeldPiece IsKept base w (Text span x) p → IsHeldPiece IsKept base w (Text span y) p
+      by_piece base w (opens b j) u = absurd u
+      by_piece base w (closes b j) u = absurd u
+      by_piece base w (mark (comma j)) u = absurd u
+      by_piece base w (mark (colon j)) u = absurd u
+      by_piece base w (mark (quoted j cs)) u = (u.0, u.1, k (text j cs) u.2)
+      by_piece base w (mark (entry j t)) u = absurd u
+
+  pub value_copy : (c d : CodePiece X) (x y : X) (i : ℕ) → c ≡ Value i x → d ≡ Value i y → ((t : Tree) → IsKept x (one t) → IsKept y (one t)) → CopiesPiece IsKept c d
+  value_copy c d x y i e f k = one_copy c d (λ base w p h. subst (λ z. IsHeldPiece IsKept base w z p) (sym f) (by_piece base w p (subst (λ z. IsHeldPiece IsKept base w z p) e h))) (λ ps r. subst (λ z. AreRow IsKept z ps) e r)
+    where
+      by_piece : (base : ℕ) (w : List ℕ) (p : Piece Tree) → IsHeldPiece IsKept base w (Value i x) p → IsHeldPiece IsKept base w (Value i y) p
+      by_piece base w (opens b j) u = absurd u
+      by_piece base w (closes b j) u = absurd u
+      by_piece base w (mark (comma j)) u = absurd u
+      by_piece base w (mark (colon j)) u = absurd u
+      by_piece base w (mark (quoted j cs)) u = absurd u
+      by_piece base w (mark (entry j t)) u = (u.0, k t u.1)
 
 -- what stands for items is the algebra's own
-module _ {X : Type 0} (IsOwn : X → Type 0) (IsFold : X → Tree → Type 0) where
-  piece_own : (base : ℕ) (w : List ℕ) (c : CodePiece X) (p : Piece Tree) → IsHeldPiece (Kept IsOwn IsFold) base w c p → OwnPiece IsOwn c
+module _ {X : Type 0} (IsOwn : X → Type 0) (IsFold : X → Tree → Type 0) (IsRun : X → List Tree → Type 0) where
+  pub piece_own : (base : ℕ) (w : List ℕ) (c : CodePiece X) (p : Piece Tree) → IsHeldPiece (Kept IsOwn IsFold IsRun) base w c p → OwnPiece IsOwn c
   piece_own base w (Closes b i) p h = tt
   piece_own base w (Comma i) p h = tt
   piece_own base w (Colon i) p h = tt
@@ -142,27 +139,47 @@ module _ {X : Type 0} (IsOwn : X → Type 0) (IsFold : X → Tree → Type 0) wh
   piece_own base w (Value i x) (mark (comma j)) h = absurd h
   piece_own base w (Value i x) (mark (colon j)) h = absurd h
   piece_own base w (Value i x) (mark (quoted j cs)) h = absurd h
+  piece_own base w (RowPiece r) (opens b j) h = absurd h
+  piece_own base w (RowPiece r) (closes b j) h = absurd h
+  piece_own base w (RowPiece r) (mark x) h = absurd h
 
-  pub pieces_own : (base : ℕ) (w : List ℕ) (cs : List (CodePiece X)) (ps : List (Piece Tree)) → EachPiece (Kept IsOwn IsFold) base w cs ps → All (OwnPiece IsOwn) cs
-  pieces_own base w [] [] h = All-nil (OwnPiece IsOwn)
-  pieces_own base w (c ∷ cs) (p ∷ ps) h = All-cons (OwnPiece IsOwn) c cs (piece_own base w c p h.0) (pieces_own base w cs ps h.1)
-  pieces_own base w [] (p ∷ ps) h = absurd h
-  pieces_own base w (c ∷ cs) [] h = absurd h
+  are_own : (base : ℕ) (w : List ℕ) (c : CodePiece X) (ps : List (Piece Tree)) → ArePieces (Kept IsOwn IsFold IsRun) base w c ps → OwnPiece IsOwn c
+  are_own base w c ps (inl (p, e, h)) = piece_own base w c p h
+  are_own base w (RowPiece r) ps (inr h) = each_own IsOwn IsFold IsRun r.items.items (h.tree ∷ row_trees h.others) h.items
+  are_own base w (Closes b i) ps (inr h) = absurd h
+  are_own base w (Comma i) ps (inr h) = absurd h
+  are_own base w (Colon i) ps (inr h) = absurd h
+  are_own base w (Text span x) ps (inr h) = absurd h
+  are_own base w (Value i x) ps (inr h) = absurd h
 
-  level_cut : (xs ys : List (Held X)) (ls : List (Level Tree)) → EachHeld (Kept IsOwn IsFold) (xs ++ ys) ls → (us vs : List (Level Tree)) × EachHeld (Kept IsOwn IsFold) xs us × EachHeld (Kept IsOwn IsFold) ys vs
+  pub pieces_own : (base : ℕ) (w : List ℕ) (cs : List (CodePiece X)) (ps : List (Piece Tree)) → EachPiece (Kept IsOwn IsFold IsRun) base w cs ps → All (OwnPiece IsOwn) cs
+  pieces_own base w [] ps h = All-nil (OwnPiece IsOwn)
+  pieces_own base w (c ∷ cs) ps (us, vs, s, h, hs) = All-cons (OwnPiece IsOwn) c cs (are_own base w c us h) (pieces_own base w cs vs hs)
+
+  -- the atoms of a row that is the last of what is kept
+  pub row_own : (s : Shown X) (front : List (CodePiece X)) (r : Row X) → IsOfItems (Kept IsOwn IsFold IsRun) s → s.outer ≡ front ++ RowPiece r ∷ [] → All IsOwn r.items.items
+  row_own s front r (base, w, f, h) e = let c = pieces_cut (Kept IsOwn IsFold IsRun) base w front (RowPiece r) f.outer (subst (λ z. EachPiece (Kept IsOwn IsFold IsRun) base w z f.outer) e h.0) in are_own base w (RowPiece r) c.1 c.4
+
+  pub can_add_row : (bytes : List ℕ) (old : Shown X) (r : Row X) → CanAdd (Kept IsOwn IsFold IsRun) bytes old (RowPiece r) → All IsOwn r.items.items
+  can_add_row bytes old r (base, w, f, ps, part, h, k) = are_own base w (RowPiece r) ps k
+
+  pub can_add_own : (bytes : List ℕ) (old : Shown X) (c : CodePiece X) → CanAdd (Kept IsOwn IsFold IsRun) bytes old c → OwnPiece IsOwn c
+  can_add_own bytes old c (base, w, f, ps, part, h, k) = are_own base w c ps k
+
+  level_cut : (xs ys : List (Held X)) (ls : List (Level Tree)) → EachHeld (Kept IsOwn IsFold IsRun) (xs ++ ys) ls → (us vs : List (Level Tree)) × EachHeld (Kept IsOwn IsFold IsRun) xs us × EachHeld (Kept IsOwn IsFold IsRun) ys vs
   level_cut [] ys ls h = ([], ls, tt, h)
   level_cut (x ∷ xs) ys [] h = absurd h
   level_cut (x ∷ xs) ys (l ∷ ls) h = let r = level_cut xs ys ls h.1 in (l ∷ r.0, r.1, (h.0, r.2), r.3)
 
-  last_own : (h : Held X) (ls : List (Level Tree)) → EachHeld (Kept IsOwn IsFold) (h ∷ []) ls → AreOwn IsOwn h
+  last_own : (h : Held X) (ls : List (Level Tree)) → EachHeld (Kept IsOwn IsFold IsRun) (h ∷ []) ls → AreOwn IsOwn h
   last_own h [] k = absurd k
-  last_own h (l ∷ ls) k = held_own IsOwn IsFold h l k.0
+  last_own h (l ∷ ls) k = held_own IsOwn IsFold IsRun h l k.0
 
-  pub levels_own : (xs : List (CodeLevel X)) (ls : List (Level Tree)) → EachHeld (Kept IsOwn IsFold) (open_levels xs) ls → All (OwnLevel IsOwn) xs
+  pub levels_own : (xs : List (CodeLevel X)) (ls : List (Level Tree)) → EachHeld (Kept IsOwn IsFold IsRun) (open_levels xs) ls → All (OwnLevel IsOwn) xs
   levels_own [] ls h = All-nil (OwnLevel IsOwn)
   levels_own (x ∷ xs) ls h = let r = level_cut (open_levels xs) (held_of x ∷ []) ls h in All-cons (OwnLevel IsOwn) x xs (last_own (held_of x) r.1 r.3) (levels_own xs r.0 r.2)
 
-  pub body_own : (base : ℕ) (w : List ℕ) (b : Body X) (f : Form Tree) → IsShown (Kept IsOwn IsFold) base w (shown b) f → OwnBody IsOwn b
+  pub body_own : (base : ℕ) (w : List ℕ) (b : Body X) (f : Form Tree) → IsShown (Kept IsOwn IsFold IsRun) base w (shown b) f → OwnBody IsOwn b
   body_own base w b f h = (pieces_own base w b.outer.items f.outer h.0, levels_own b.levels.items f.levels h.1)
 
 -- one element more of a front
@@ -170,19 +187,19 @@ pub take_next : {X : Type 0} (xs : List X) (i : ℕ) (x : X) → i < length xs �
 take_next xs i x h e = (rw (add-one i, take-suc xs i x h) refl) ∙ ap (λ z. take i xs ++ z ∷ []) (sym e)
 
 -- the variants
-module _ {X : Type 0} (IsOwn : X → Type 0) (IsFold : X → Tree → Type 0) where
-  pub whole_own : (s : Start) (at : ℕ) (w : List ℕ) (v : Variant X) (lead : ℕ) (body : Body X) (pend : ℕ) (end : Start) → v ≡ Whole lead body pend end → HoldsVariant (Kept IsOwn IsFold) s at w v → OwnBody IsOwn body
-  whole_own s at w v lead body pend end e h = let k = subst (HoldsVariant (Kept IsOwn IsFold) s at w) e h in body_own IsOwn IsFold at w body k.form k.is_shown
+module _ {X : Type 0} (IsOwn : X → Type 0) (IsFold : X → Tree → Type 0) (IsRun : X → List Tree → Type 0) where
+  pub whole_own : (s : Start) (at : ℕ) (w : List ℕ) (v : Variant X) (lead : ℕ) (body : Body X) (pend : ℕ) (end : Start) → v ≡ Whole lead body pend end → HoldsVariant (Kept IsOwn IsFold IsRun) s at w v → OwnBody IsOwn body
+  whole_own s at w v lead body pend end e h = let k = subst (HoldsVariant (Kept IsOwn IsFold IsRun) s at w) e h in body_own IsOwn IsFold IsRun at w body k.form k.is_shown
 
-  pub broken_own : (s : Start) (at : ℕ) (w : List ℕ) (v : Variant X) (lead : ℕ) (body : Body X) (halt : Halt) → v ≡ Broken lead body halt → HoldsVariant (Kept IsOwn IsFold) s at w v → OwnBody IsOwn body
-  broken_own s at w v lead body halt e h = let k = subst (HoldsVariant (Kept IsOwn IsFold) s at w) e h in body_own IsOwn IsFold at w body k.form k.is_shown
+  pub broken_own : (s : Start) (at : ℕ) (w : List ℕ) (v : Variant X) (lead : ℕ) (body : Body X) (halt : Halt) → v ≡ Broken lead body halt → HoldsVariant (Kept IsOwn IsFold IsRun) s at w v → OwnBody IsOwn body
+  broken_own s at w v lead body halt e h = let k = subst (HoldsVariant (Kept IsOwn IsFold IsRun) s at w) e h in body_own IsOwn IsFold IsRun at w body k.form k.is_shown
 
-  pub whole_copy : (s : Start) (at : ℕ) (w : List ℕ) (v : Variant X) (lead : ℕ) (body body2 : Body X) (pend : ℕ) (end : Start) → v ≡ Whole lead body pend end → CopiesShown (Kept IsOwn IsFold) (shown body) (shown body2) → HoldsVariant (Kept IsOwn IsFold) s at w v
-      → HoldsVariant (Kept IsOwn IsFold) s at w (Whole lead body2 pend end)
-  whole_copy s at w v lead body body2 pend end e c h = let k = subst (HoldsVariant (Kept IsOwn IsFold) s at w) e h in
+  pub whole_copy : (s : Start) (at : ℕ) (w : List ℕ) (v : Variant X) (lead : ℕ) (body body2 : Body X) (pend : ℕ) (end : Start) → v ≡ Whole lead body pend end → CopiesShown (Kept IsOwn IsFold IsRun) (shown body) (shown body2) → HoldsVariant (Kept IsOwn IsFold IsRun) s at w v
+      → HoldsVariant (Kept IsOwn IsFold IsRun) s at w (Whole lead body2 pend end)
+  whole_copy s at w v lead body body2 pend end e c h = let k = subst (HoldsVariant (Kept IsOwn IsFold IsRun) s at w) e h in
       record { first = k.first; form = k.form; last = k.last; is_whole = k.is_whole; is_shown = c at w k.form k.is_shown; lead_at = k.lead_at; pend_at = k.pend_at; end_is = k.end_is }
 
-  pub broken_copy : (s : Start) (at : ℕ) (w : List ℕ) (v : Variant X) (lead : ℕ) (body body2 : Body X) (halt : Halt) → v ≡ Broken lead body halt → CopiesShown (Kept IsOwn IsFold) (shown body) (shown body2) → HoldsVariant (Kept IsOwn IsFold) s at w v
-      → HoldsVariant (Kept IsOwn IsFold) s at w (Broken lead body2 halt)
-  broken_copy s at w v lead body body2 halt e c h = let k = subst (HoldsVariant (Kept IsOwn IsFold) s at w) e h in
+  pub broken_copy : (s : Start) (at : ℕ) (w : List ℕ) (v : Variant X) (lead : ℕ) (body body2 : Body X) (halt : Halt) → v ≡ Broken lead body halt → CopiesShown (Kept IsOwn IsFold IsRun) (shown body) (shown body2) → HoldsVariant (Kept IsOwn IsFold IsRun) s at w v
+      → HoldsVariant (Kept IsOwn IsFold IsRun) s at w (Broken lead body2 halt)
+  broken_copy s at w v lead body body2 halt e c h = let k = subst (HoldsVariant (Kept IsOwn IsFold IsRun) s at w) e h in
       record { first = k.first; form = k.form; is_broken = k.is_broken; is_shown = c at w k.form k.is_shown; lead_at = k.lead_at }

@@ -1,6 +1,6 @@
 -- What an item does to what is kept, and to the items that it stands for: the two go on standing for each other.
-use Rattle.std.proofs.Common.{◌≡◌, ℕ, true, false, Option, Some, None, List, [], ◌∷◌, ◌++◌, refl, sym, ◌∙◌, ap, subst, All, append-nil, true≢false}
-use Rattle.std.proofs.lemmas.List.Elements.{All-nil, All-cons}
+use Rattle.std.proofs.Common.{◌≡◌, ℕ, true, false, Option, Some, None, List, [], ◌∷◌, ◌++◌, refl, sym, ◌∙◌, ap, subst, inl, inr, All, append-nil, append_assoc, true≢false}
+use Rattle.std.proofs.lemmas.List.Elements.{All-nil, All-cons, All-head, All-tail}
 use Rattle.std.specs.Bool.{⊤}
 use Rattle.at_lex.specs.Strings.{Character, units_of}
 use Rattle.at_lex.specs.declared.tokens.Bracket.{Bracket}
@@ -11,43 +11,63 @@ use Rattle.at_nest.specs.declared.levels.ArrayState.TheVariants as array
 use Rattle.at_nest.specs.declared.levels.ObjectState.{ObjectState}
 use Rattle.at_nest.specs.declared.levels.ObjectState.TheVariants as object
 use Rattle.at_nest.specs.declared.levels.MemberName.{MemberName}
-use Rattle.at_nest.specs.Tree.{Tree, text, array as array_tree, object as object_tree, Trees, Members}
-use Rattle.at_nest.specs.Folds.{AreFolds, AreMemberFolds}
+use Rattle.at_nest.specs.declared.levels.Level.{Level as CodeLevel}
+use Rattle.at_nest.specs.declared.levels.Step.TheVariants.{On, Refused}
+use Rattle.at_nest.specs.Tree.{Tree, text, array as array_tree, object as object_tree, Members}
+use Rattle.at_nest.specs.Folds.{trees, Covers, AreItemFolds, AreMemberFolds}
 use Rattle.at_nest.specs.Forms.{Mark, comma, colon, quoted, entry}
 use Rattle.at_nest.specs.Walks.{mark_kind, comma_kind, colon_kind, text_kind, value_kind}
 use Rattle.at_nest.specs.Levels.{Mode, at_items, at_value, at_after, at_members, at_name, at_colon, at_member, at_further, Level, values_in, pairs_in, built, move, closes_at, first_mode}
-use Rattle.at_nest.specs.Shown.{Held, array_level, object_level, AreOwn, comma_next, colon_next, value_next, name_next, takes_name, closes_with, opened_as}
-use Rattle.at_nest.specs.Holding.{trees, tree_members, free, Kept, Each, EachMember, IsNamed, IsHeld, pending_in}
+use Rattle.at_nest.specs.Shown.{Held, array_level, object_level, AreOwn, held_of, IsStep, comma_next, colon_next, value_next, name_next, takes_name, closes_with, opened_as}
+use Rattle.at_nest.specs.Holding.{tree_members, free, Content, one, Kept, Holds, Each, Gains, GainsIn, EachMember, IsNamed, IsHeld, pending_in}
 
 -- ---- a level that is closed
 
-each_folds : {X : Type 0} (IsOwn : X → Type 0) (IsFold : X → Tree → Type 0) (xs : List X) (ts : List Tree) → Each (Kept IsOwn IsFold) xs ts → AreFolds IsFold xs (trees ts)
-each_folds IsOwn IsFold [] [] h = tt
-each_folds IsOwn IsFold (x ∷ xs) (t ∷ ts) h = (h.0.1, each_folds IsOwn IsFold xs ts h.1)
-each_folds IsOwn IsFold [] (t ∷ ts) h = absurd h
-each_folds IsOwn IsFold (x ∷ xs) [] h = absurd h
+holds_covers : {X : Type 0} (IsOwn : X → Type 0) (IsFold : X → Tree → Type 0) (IsRun : X → List Tree → Type 0) (x : X) (ts : List Tree) → Holds (Kept IsOwn IsFold IsRun) x ts → IsOwn x × Covers IsFold IsRun x ts
+holds_covers IsOwn IsFold IsRun x ts (inl (t, e, k)) = (k.0, inl (t, e, k.1))
+holds_covers IsOwn IsFold IsRun x ts (inr k) = (k.0, inr k.1)
 
-each_member_folds : {X : Type 0} (IsOwn : X → Type 0) (IsFold : X → Tree → Type 0) (xs : List (Member X)) (ps : List (List Character × ℕ × Tree)) → EachMember (Kept IsOwn IsFold) xs ps → AreMemberFolds IsFold xs (tree_members ps)
-each_member_folds IsOwn IsFold [] [] h = tt
-each_member_folds IsOwn IsFold (x ∷ xs) (p ∷ ps) h = (h.0, h.1, h.2.1, each_member_folds IsOwn IsFold xs ps h.3)
-each_member_folds IsOwn IsFold [] (p ∷ ps) h = absurd h
-each_member_folds IsOwn IsFold (x ∷ xs) [] h = absurd h
+covers_holds : {X : Type 0} (IsOwn : X → Type 0) (IsFold : X → Tree → Type 0) (IsRun : X → List Tree → Type 0) (x : X) (ts : List Tree) → IsOwn x → Covers IsFold IsRun x ts → Holds (Kept IsOwn IsFold IsRun) x ts
+covers_holds IsOwn IsFold IsRun x ts own (inl (t, e, k)) = inl (t, e, (own, k))
+covers_holds IsOwn IsFold IsRun x ts own (inr k) = inr (own, k)
 
-each_own : {X : Type 0} (IsOwn : X → Type 0) (IsFold : X → Tree → Type 0) (xs : List X) (ts : List Tree) → Each (Kept IsOwn IsFold) xs ts → All IsOwn xs
-each_own IsOwn IsFold [] [] h = All-nil IsOwn
-each_own IsOwn IsFold (x ∷ xs) (t ∷ ts) h = All-cons IsOwn x xs h.0.0 (each_own IsOwn IsFold xs ts h.1)
-each_own IsOwn IsFold [] (t ∷ ts) h = absurd h
-each_own IsOwn IsFold (x ∷ xs) [] h = absurd h
+each_folds : {X : Type 0} (IsOwn : X → Type 0) (IsFold : X → Tree → Type 0) (IsRun : X → List Tree → Type 0) (xs : List X) (ts : List Tree) → Each (Kept IsOwn IsFold IsRun) xs ts → AreItemFolds IsFold IsRun xs ts
+each_folds IsOwn IsFold IsRun [] ts h = h
+each_folds IsOwn IsFold IsRun (x ∷ xs) ts (us, vs, e, k, h) = (us, vs, e, (holds_covers IsOwn IsFold IsRun x us k).1, each_folds IsOwn IsFold IsRun xs vs h)
 
-each_member_own : {X : Type 0} (IsOwn : X → Type 0) (IsFold : X → Tree → Type 0) (xs : List (Member X)) (ps : List (List Character × ℕ × Tree)) → EachMember (Kept IsOwn IsFold) xs ps → All (λ m. IsOwn m.value) xs
-each_member_own IsOwn IsFold [] [] h = All-nil (λ m. IsOwn m.value)
-each_member_own IsOwn IsFold (x ∷ xs) (p ∷ ps) h = All-cons (λ m. IsOwn m.value) x xs h.2.0 (each_member_own IsOwn IsFold xs ps h.3)
-each_member_own IsOwn IsFold [] (p ∷ ps) h = absurd h
-each_member_own IsOwn IsFold (x ∷ xs) [] h = absurd h
+folds_each : {X : Type 0} (IsOwn : X → Type 0) (IsFold : X → Tree → Type 0) (IsRun : X → List Tree → Type 0) (xs : List X) (ts : List Tree) → All IsOwn xs → AreItemFolds IsFold IsRun xs ts → Each (Kept IsOwn IsFold IsRun) xs ts
+folds_each IsOwn IsFold IsRun [] ts own h = h
+folds_each IsOwn IsFold IsRun (x ∷ xs) ts own (us, vs, e, k, h) = (us, vs, e, covers_holds IsOwn IsFold IsRun x us (All-head IsOwn x xs own) k, folds_each IsOwn IsFold IsRun xs vs (All-tail IsOwn x xs own) h)
 
-pub held_own : {X : Type 0} (IsOwn : X → Type 0) (IsFold : X → Tree → Type 0) (h : Held X) (l : Level Tree) → IsHeld (Kept IsOwn IsFold) h l → AreOwn IsOwn h
-held_own IsOwn IsFold (array_level i s xs) l k = each_own IsOwn IsFold xs (values_in free l.inside) k.3
-held_own IsOwn IsFold (object_level i s ms) l k = each_member_own IsOwn IsFold ms (pairs_in free None l.inside) k.3
+-- an atom more
+pub folds_append : {X : Type 0} (IsFold : X → Tree → Type 0) (IsRun : X → List Tree → Type 0) (xs : List X) (ts : List Tree) (x : X) (us : List Tree) → AreItemFolds IsFold IsRun xs ts → Covers IsFold IsRun x us → AreItemFolds IsFold IsRun (xs ++ x ∷ []) (ts ++ us)
+folds_append IsFold IsRun [] ts x us e k = (us, [], ap (λ z. z ++ us) e ∙ sym (append-nil us), k, refl)
+folds_append IsFold IsRun (y ∷ xs) ts x us (vs, ws, e, h, hs) k = (vs, ws ++ us, ap (λ z. z ++ us) e ∙ append_assoc vs ws us, h, folds_append IsFold IsRun xs ws x us hs k)
+
+-- what an algebra's own step makes of an array's atoms
+pub gains : {X : Type 0} (IsOwn : X → Type 0) (IsFold : X → Tree → Type 0) (IsRun : X → List Tree → Type 0) (xs : List X) (x : X) (ys : List X) → All IsOwn ys
+    → ((ts us : List Tree) → AreItemFolds IsFold IsRun xs ts → Covers IsFold IsRun x us → AreItemFolds IsFold IsRun ys (ts ++ us)) → Gains (Kept IsOwn IsFold IsRun) xs x ys
+gains IsOwn IsFold IsRun xs x ys own more ts us h k = folds_each IsOwn IsFold IsRun ys (ts ++ us) own (more ts us (each_folds IsOwn IsFold IsRun xs ts h) (holds_covers IsOwn IsFold IsRun x us k).1)
+
+each_member_folds : {X : Type 0} (IsOwn : X → Type 0) (IsFold : X → Tree → Type 0) (IsRun : X → List Tree → Type 0) (xs : List (Member X)) (ps : List (List Character × ℕ × Tree)) → EachMember (Kept IsOwn IsFold IsRun) xs ps → AreMemberFolds IsFold xs (tree_members ps)
+each_member_folds IsOwn IsFold IsRun [] [] h = tt
+each_member_folds IsOwn IsFold IsRun (x ∷ xs) (p ∷ ps) h = (h.0, h.1, h.2.1, each_member_folds IsOwn IsFold IsRun xs ps h.3)
+each_member_folds IsOwn IsFold IsRun [] (p ∷ ps) h = absurd h
+each_member_folds IsOwn IsFold IsRun (x ∷ xs) [] h = absurd h
+
+pub each_own : {X : Type 0} (IsOwn : X → Type 0) (IsFold : X → Tree → Type 0) (IsRun : X → List Tree → Type 0) (xs : List X) (ts : List Tree) → Each (Kept IsOwn IsFold IsRun) xs ts → All IsOwn xs
+each_own IsOwn IsFold IsRun [] ts h = All-nil IsOwn
+each_own IsOwn IsFold IsRun (x ∷ xs) ts (us, vs, e, k, h) = All-cons IsOwn x xs (holds_covers IsOwn IsFold IsRun x us k).0 (each_own IsOwn IsFold IsRun xs vs h)
+
+each_member_own : {X : Type 0} (IsOwn : X → Type 0) (IsFold : X → Tree → Type 0) (IsRun : X → List Tree → Type 0) (xs : List (Member X)) (ps : List (List Character × ℕ × Tree)) → EachMember (Kept IsOwn IsFold IsRun) xs ps → All (λ m. IsOwn m.value) xs
+each_member_own IsOwn IsFold IsRun [] [] h = All-nil (λ m. IsOwn m.value)
+each_member_own IsOwn IsFold IsRun (x ∷ xs) (p ∷ ps) h = All-cons (λ m. IsOwn m.value) x xs h.2.0 (each_member_own IsOwn IsFold IsRun xs ps h.3)
+each_member_own IsOwn IsFold IsRun [] (p ∷ ps) h = absurd h
+each_member_own IsOwn IsFold IsRun (x ∷ xs) [] h = absurd h
+
+pub held_own : {X : Type 0} (IsOwn : X → Type 0) (IsFold : X → Tree → Type 0) (IsRun : X → List Tree → Type 0) (h : Held X) (l : Level Tree) → IsHeld (Kept IsOwn IsFold IsRun) h l → AreOwn IsOwn h
+held_own IsOwn IsFold IsRun (array_level i s xs) l k = each_own IsOwn IsFold IsRun xs (values_in free l.inside) k.3
+held_own IsOwn IsFold IsRun (object_level i s ms) l k = each_member_own IsOwn IsFold IsRun ms (pairs_in free None l.inside) k.3
 
 built_square : (b : Bracket) (i j : ℕ) (xs : List (Mark Tree)) → b ≡ Square → j ≡ i → array_tree i (trees (values_in free xs)) ≡ built free b j xs
 built_square b i j xs e f = ap (λ n. array_tree n (trees (values_in free xs))) (sym f) ∙ ap (λ c. built free c j xs) (sym e)
@@ -55,18 +75,24 @@ built_square b i j xs e f = ap (λ n. array_tree n (trees (values_in free xs))) 
 built_brace : (b : Bracket) (i j : ℕ) (xs : List (Mark Tree)) → b ≡ Brace → j ≡ i → object_tree i (tree_members (pairs_in free None xs)) ≡ built free b j xs
 built_brace b i j xs e f = ap (λ n. object_tree n (tree_members (pairs_in free None xs))) (sym f) ∙ ap (λ c. built free c j xs) (sym e)
 
-pub array_built : {X : Type 0} (IsOwn : X → Type 0) (IsFold : X → Tree → Type 0) (i : ℕ) (s : ArrayState) (xs : List X) (x : X) (l : Level Tree) → ((ts : Trees) → AreFolds IsFold xs ts → IsFold x (array_tree i ts))
-    → IsHeld (Kept IsOwn IsFold) (array_level i s xs) l → IsFold x (built free l.bracket l.from l.inside)
-array_built IsOwn IsFold i s xs x l f h = subst (IsFold x) (built_square l.bracket i l.from l.inside h.0 h.1) (f (trees (values_in free l.inside)) (each_folds IsOwn IsFold xs (values_in free l.inside) h.3))
+pub array_built : {X : Type 0} (IsOwn : X → Type 0) (IsFold : X → Tree → Type 0) (IsRun : X → List Tree → Type 0) (i : ℕ) (s : ArrayState) (xs : List X) (x : X) (l : Level Tree) → ((ts : List Tree) → AreItemFolds IsFold IsRun xs ts → IsFold x (array_tree i (trees ts)))
+    → IsHeld (Kept IsOwn IsFold IsRun) (array_level i s xs) l → IsFold x (built free l.bracket l.from l.inside)
+array_built IsOwn IsFold IsRun i s xs x l f h = subst (IsFold x) (built_square l.bracket i l.from l.inside h.0 h.1) (f (values_in free l.inside) (each_folds IsOwn IsFold IsRun xs (values_in free l.inside) h.3))
 
-pub object_built : {X : Type 0} (IsOwn : X → Type 0) (IsFold : X → Tree → Type 0) (i : ℕ) (s : ObjectState) (ms : List (Member X)) (x : X) (l : Level Tree) → ((ts : Members) → AreMemberFolds IsFold ms ts → IsFold x (object_tree i ts))
-    → IsHeld (Kept IsOwn IsFold) (object_level i s ms) l → IsFold x (built free l.bracket l.from l.inside)
-object_built IsOwn IsFold i s ms x l f h =
-    subst (IsFold x) (built_brace l.bracket i l.from l.inside h.0 h.1) (f (tree_members (pairs_in free None l.inside)) (each_member_folds IsOwn IsFold ms (pairs_in free None l.inside) h.3))
+pub object_built : {X : Type 0} (IsOwn : X → Type 0) (IsFold : X → Tree → Type 0) (IsRun : X → List Tree → Type 0) (i : ℕ) (s : ObjectState) (ms : List (Member X)) (x : X) (l : Level Tree) → ((ts : Members) → AreMemberFolds IsFold ms ts → IsFold x (object_tree i ts))
+    → IsHeld (Kept IsOwn IsFold IsRun) (object_level i s ms) l → IsFold x (built free l.bracket l.from l.inside)
+object_built IsOwn IsFold IsRun i s ms x l f h =
+    subst (IsFold x) (built_brace l.bracket i l.from l.inside h.0 h.1) (f (tree_members (pairs_in free None l.inside)) (each_member_folds IsOwn IsFold IsRun ms (pairs_in free None l.inside) h.3))
+
+empty_value_state : array.Empty ≡ array.Value → ⊥
+empty_value_state e = let P : ArrayState → Type 0 = λ z. elim z [ array.Empty ↦ ⊤ | array.Comma ↦ ⊤ | array.Value ↦ ⊥ ] in subst P e tt
+
+comma_value_state : array.Comma ≡ array.Value → ⊥
+comma_value_state e = let P : ArrayState → Type 0 = λ z. elim z [ array.Empty ↦ ⊤ | array.Comma ↦ ⊤ | array.Value ↦ ⊥ ] in subst P e tt
 
 -- ---- one mark more
 
-values_append : (xs ys : List (Mark Tree)) → values_in free (xs ++ ys) ≡ values_in free xs ++ values_in free ys
+pub values_append : (xs ys : List (Mark Tree)) → values_in free (xs ++ ys) ≡ values_in free xs ++ values_in free ys
 values_append [] ys = refl
 values_append (comma i ∷ xs) ys = values_append xs ys
 values_append (colon i ∷ xs) ys = values_append xs ys
@@ -94,14 +120,17 @@ pending_append (Some p) (entry i x ∷ xs) ys = pending_append None xs ys
 abbrev pub with_one : Level Tree → Mark Tree → Mode → Level Tree
 with_one l x n = record { bracket = l.bracket; from = l.from; inside = l.inside ++ (x ∷ []); mode = n }
 
-module _ {X : Type 0} (IsKept : X → Tree → Type 0) where
-  each_append : (xs : List X) (ts : List Tree) (x : X) (t : Tree) → Each IsKept xs ts → IsKept x t → Each IsKept (xs ++ x ∷ []) (ts ++ t ∷ [])
-  each_append [] [] x t h k = (k, tt)
-  each_append (y ∷ xs) (u ∷ ts) x t h k = (h.0, each_append xs ts x t h.1 k)
-  each_append [] (u ∷ ts) x t h k = absurd h
-  each_append (y ∷ xs) [] x t h k = absurd h
+module _ {X : Type 0} (IsKept : X → Content → Type 0) where
+  -- an atom more
+  pub each_append : (xs : List X) (ts : List Tree) (x : X) (us : List Tree) → Each IsKept xs ts → Holds IsKept x us → Each IsKept (xs ++ x ∷ []) (ts ++ us)
+  each_append [] ts x us e k = (us, [], ap (λ z. z ++ us) e ∙ sym (append-nil us), k, refl)
+  each_append (y ∷ xs) ts x us (vs, ws, e, h, hs) k = (vs, ws ++ us, ap (λ z. z ++ us) e ∙ append_assoc vs ws us, h, each_append xs ws x us hs k)
 
-  each_member_append : (xs : List (Member X)) (ps : List (List Character × ℕ × Tree)) (x : Member X) (p : List Character × ℕ × Tree) → EachMember IsKept xs ps → x.name ≡ units_of p.0 → x.name_at ≡ p.1 → IsKept x.value p.2
+  pub each_cut : (xs : List X) (x : X) (ts : List Tree) → Each IsKept (xs ++ x ∷ []) ts → (us : List Tree) × (vs : List Tree) × ((ts ≡ us ++ vs) × Each IsKept xs us × Holds IsKept x vs)
+  each_cut [] x ts (us, vs, e, h, n) = ([], us, (e ∙ (ap (λ z. us ++ z) n ∙ append-nil us), refl, h))
+  each_cut (y ∷ xs) x ts (us, vs, e, h, hs) = let r = each_cut xs x vs hs in (us ++ r.0, r.1, (e ∙ (ap (λ z. us ++ z) r.2.0 ∙ sym (append_assoc us r.0 r.1)), (us, r.0, refl, h, r.2.1), r.2.2))
+
+  each_member_append : (xs : List (Member X)) (ps : List (List Character × ℕ × Tree)) (x : Member X) (p : List Character × ℕ × Tree) → EachMember IsKept xs ps → x.name ≡ units_of p.0 → x.name_at ≡ p.1 → IsKept x.value (one p.2)
       → EachMember IsKept (xs ++ x ∷ []) (ps ++ p ∷ [])
   each_member_append [] [] x p h e f k = (e, f, k, tt)
   each_member_append (y ∷ xs) (q ∷ ps) x p h e f k = (h.0, h.1, h.2, each_member_append xs ps x p h.3 e f k)
@@ -162,8 +191,8 @@ module _ {X : Type 0} (IsKept : X → Tree → Type 0) where
   colon_moves (object_level j object.Value ms) l i k = moved_by None l (colon i) at_further k.2 tt
 
   -- a value, which is a mark of one value
-  more_values : (xs : List X) (l : Level Tree) (x : X) (m : Mark Tree) (t : Tree) → values_in free (m ∷ []) ≡ t ∷ [] → Each IsKept xs (values_in free l.inside) → IsKept x t → Each IsKept (xs ++ x ∷ []) (values_in free (l.inside ++ m ∷ []))
-  more_values xs l x m t e h k = subst (Each IsKept (xs ++ x ∷ [])) (sym (values_append l.inside (m ∷ []) ∙ ap (λ z. values_in free l.inside ++ z) e)) (each_append xs (values_in free l.inside) x t h k)
+  more_values : (xs ys : List X) (l : Level Tree) (x : X) (m : Mark Tree) (t : Tree) → values_in free (m ∷ []) ≡ t ∷ [] → Each IsKept xs (values_in free l.inside) → IsKept x (one t) → Gains IsKept xs x ys → Each IsKept ys (values_in free (l.inside ++ m ∷ []))
+  more_values xs ys l x m t e h k more = subst (Each IsKept ys) (sym (values_append l.inside (m ∷ []) ∙ ap (λ z. values_in free l.inside ++ z) e)) (more (values_in free l.inside) (t ∷ []) h (inl (t, refl, k)))
 
   -- the mark is a value, of the tree
   pub record IsValueMark (m : Mark Tree) (t : Tree) : Type 0 where
@@ -177,10 +206,10 @@ module _ {X : Type 0} (IsKept : X → Tree → Type 0) where
   pub text_value : (i : ℕ) (cs : List Character) → IsValueMark (quoted i cs) (text i cs)
   text_value i cs = record { alone = refl; named = λ p. refl; ends = λ p. refl }
 
-  array_value : (j : ℕ) (s : ArrayState) (xs : List X) (l : Level Tree) (x : X) (m : Mark Tree) (t : Tree) → IsHeld IsKept (array_level j s xs) l → IsValueMark m t → IsKept x t → IsHeld IsKept (array_level j array.Value (xs ++ x ∷ [])) (with_one l m at_after)
-  array_value j s xs l x m t k v p = (k.0, k.1, refl, more_values xs l x m t v.alone k.3 p)
+  array_value : (j : ℕ) (s : ArrayState) (xs ys : List X) (l : Level Tree) (x : X) (m : Mark Tree) (t : Tree) → IsHeld IsKept (array_level j s xs) l → IsValueMark m t → IsKept x (one t) → Gains IsKept xs x ys → IsHeld IsKept (array_level j array.Value ys) (with_one l m at_after)
+  array_value j s xs ys l x m t k v p more = (k.0, k.1, refl, more_values xs ys l x m t v.alone k.3 p more)
 
-  object_value : (j : ℕ) (n : MemberName) (ms : List (Member X)) (l : Level Tree) (x : X) (m : Mark Tree) (t : Tree) → IsHeld IsKept (object_level j (object.Colon n) ms) l → IsValueMark m t → IsKept x t
+  object_value : (j : ℕ) (n : MemberName) (ms : List (Member X)) (l : Level Tree) (x : X) (m : Mark Tree) (t : Tree) → IsHeld IsKept (object_level j (object.Colon n) ms) l → IsValueMark m t → IsKept x (one t)
       → IsHeld IsKept (object_level j object.Value (ms ++ record { name = n.units; name_at = n.at; value = x } ∷ [])) (with_one l m at_further)
   object_value j n ms l x m t k v p = let b = by_name (pending_in None l.inside) refl k.4 in (k.0, k.1, refl, b.0, b.1)
     where
@@ -193,28 +222,39 @@ module _ {X : Type 0} (IsKept : X → Tree → Type 0) where
         subst (IsNamed IsKept object.Value) (sym (pending_append None l.inside (m ∷ []) ∙ (ap (λ o. pending_in o (m ∷ [])) e ∙ v.ends q))) tt,
       )
 
-  pub value_moves : (h : Held X) (l : Level Tree) (i : ℕ) (x : X) (t : Tree) → IsHeld IsKept h l → IsKept x t → IsMoved (value_next h x) (move l.mode value_kind) l (entry i t)
-  value_moves (array_level j array.Empty xs) l i x t k p = moved_by (Some (array_level j array.Value (xs ++ x ∷ []))) l (entry i t) at_items k.2 (array_value j array.Empty xs l x (entry i t) t k (entry_value i t) p)
-  value_moves (array_level j array.Comma xs) l i x t k p = moved_by (Some (array_level j array.Value (xs ++ x ∷ []))) l (entry i t) at_value k.2 (array_value j array.Comma xs l x (entry i t) t k (entry_value i t) p)
-  value_moves (array_level j array.Value xs) l i x t k p = moved_by None l (entry i t) at_after k.2 tt
-  value_moves (object_level j object.Empty ms) l i x t k p = moved_by None l (entry i t) at_members k.2 tt
-  value_moves (object_level j object.Comma ms) l i x t k p = moved_by None l (entry i t) at_name k.2 tt
-  value_moves (object_level j (object.Named n) ms) l i x t k p = moved_by None l (entry i t) at_colon k.2 tt
-  value_moves (object_level j (object.Colon n) ms) l i x t k p =
+  pub value_moves : (h : Held X) (l : Level Tree) (i : ℕ) (x : X) (ys : List X) (t : Tree) → IsHeld IsKept h l → IsKept x (one t) → GainsIn IsKept h x ys → IsMoved (value_next h x ys) (move l.mode value_kind) l (entry i t)
+  value_moves (array_level j array.Empty xs) l i x ys t k p more = moved_by (Some (array_level j array.Value ys)) l (entry i t) at_items k.2 (array_value j array.Empty xs ys l x (entry i t) t k (entry_value i t) p more)
+  value_moves (array_level j array.Comma xs) l i x ys t k p more = moved_by (Some (array_level j array.Value ys)) l (entry i t) at_value k.2 (array_value j array.Comma xs ys l x (entry i t) t k (entry_value i t) p more)
+  value_moves (array_level j array.Value xs) l i x ys t k p more = moved_by None l (entry i t) at_after k.2 tt
+  value_moves (object_level j object.Empty ms) l i x ys t k p more = moved_by None l (entry i t) at_members k.2 tt
+  value_moves (object_level j object.Comma ms) l i x ys t k p more = moved_by None l (entry i t) at_name k.2 tt
+  value_moves (object_level j (object.Named n) ms) l i x ys t k p more = moved_by None l (entry i t) at_colon k.2 tt
+  value_moves (object_level j (object.Colon n) ms) l i x ys t k p more =
       moved_by (Some (object_level j object.Value (ms ++ record { name = n.units; name_at = n.at; value = x } ∷ []))) l (entry i t) at_member k.2 (object_value j n ms l x (entry i t) t k (entry_value i t) p)
-  value_moves (object_level j object.Value ms) l i x t k p = moved_by None l (entry i t) at_further k.2 tt
+  value_moves (object_level j object.Value ms) l i x ys t k p more = moved_by None l (entry i t) at_further k.2 tt
 
   -- a string that is no name
-  pub text_moves : (h : Held X) (l : Level Tree) (i : ℕ) (x : X) (cs : List Character) → takes_name h ≡ false → IsHeld IsKept h l → IsKept x (text i cs) → IsMoved (value_next h x) (move l.mode text_kind) l (quoted i cs)
-  text_moves (array_level j array.Empty xs) l i x cs n k p = moved_by (Some (array_level j array.Value (xs ++ x ∷ []))) l (quoted i cs) at_items k.2 (array_value j array.Empty xs l x (quoted i cs) (text i cs) k (text_value i cs) p)
-  text_moves (array_level j array.Comma xs) l i x cs n k p = moved_by (Some (array_level j array.Value (xs ++ x ∷ []))) l (quoted i cs) at_value k.2 (array_value j array.Comma xs l x (quoted i cs) (text i cs) k (text_value i cs) p)
-  text_moves (array_level j array.Value xs) l i x cs n k p = moved_by None l (quoted i cs) at_after k.2 tt
-  text_moves (object_level j object.Empty ms) l i x cs n k p = absurd (true≢false n)
-  text_moves (object_level j object.Comma ms) l i x cs n k p = absurd (true≢false n)
-  text_moves (object_level j (object.Named q) ms) l i x cs n k p = moved_by None l (quoted i cs) at_colon k.2 tt
-  text_moves (object_level j (object.Colon q) ms) l i x cs n k p =
+  pub text_moves : (h : Held X) (l : Level Tree) (i : ℕ) (x : X) (ys : List X) (cs : List Character) → takes_name h ≡ false → IsHeld IsKept h l → IsKept x (one (text i cs)) → GainsIn IsKept h x ys → IsMoved (value_next h x ys) (move l.mode text_kind) l (quoted i cs)
+  text_moves (array_level j array.Empty xs) l i x ys cs n k p more = moved_by (Some (array_level j array.Value ys)) l (quoted i cs) at_items k.2 (array_value j array.Empty xs ys l x (quoted i cs) (text i cs) k (text_value i cs) p more)
+  text_moves (array_level j array.Comma xs) l i x ys cs n k p more = moved_by (Some (array_level j array.Value ys)) l (quoted i cs) at_value k.2 (array_value j array.Comma xs ys l x (quoted i cs) (text i cs) k (text_value i cs) p more)
+  text_moves (array_level j array.Value xs) l i x ys cs n k p more = moved_by None l (quoted i cs) at_after k.2 tt
+  text_moves (object_level j object.Empty ms) l i x ys cs n k p more = absurd (true≢false n)
+  text_moves (object_level j object.Comma ms) l i x ys cs n k p more = absurd (true≢false n)
+  text_moves (object_level j (object.Named q) ms) l i x ys cs n k p more = moved_by None l (quoted i cs) at_colon k.2 tt
+  text_moves (object_level j (object.Colon q) ms) l i x ys cs n k p more =
       moved_by (Some (object_level j object.Value (ms ++ record { name = q.units; name_at = q.at; value = x } ∷ []))) l (quoted i cs) at_member k.2 (object_value j q ms l x (quoted i cs) (text i cs) k (text_value i cs) p)
-  text_moves (object_level j object.Value ms) l i x cs n k p = moved_by None l (quoted i cs) at_further k.2 tt
+  text_moves (object_level j object.Value ms) l i x ys cs n k p more = moved_by None l (quoted i cs) at_further k.2 tt
+
+  -- an array that wants a comma refuses a value, and any other takes it
+  pub value_refused : (i : ℕ) (s : ArrayState) (xs : List X) (x : X) (ys : List X) (l : CodeLevel X) → s ≡ array.Value → held_of l ≡ array_level i s xs → IsStep (array_level i s xs) (value_next (array_level i s xs) x ys) (Refused l)
+  value_refused i array.Value xs x ys l e h = h
+  value_refused i array.Empty xs x ys l e h = absurd (empty_value_state e)
+  value_refused i array.Comma xs x ys l e h = absurd (comma_value_state e)
+
+  pub value_taken : (i : ℕ) (s : ArrayState) (xs : List X) (x : X) (ys : List X) (l : CodeLevel X) → (s ≡ array.Value → ⊥) → held_of l ≡ array_level i array.Value ys → IsStep (array_level i s xs) (value_next (array_level i s xs) x ys) (On l)
+  value_taken i array.Value xs x ys l n h = absurd (n refl)
+  value_taken i array.Empty xs x ys l n h = h
+  value_taken i array.Comma xs x ys l n h = h
 
   -- a name
   named : (j : ℕ) (s : ObjectState) (ms : List (Member X)) (l : Level Tree) (i : ℕ) (q : MemberName) (cs : List Character) → IsNamed IsKept object.Value (pending_in None l.inside) → IsHeld IsKept (object_level j s ms) l → q.units ≡ units_of cs → q.at ≡ i
@@ -263,5 +303,5 @@ module _ {X : Type 0} (IsKept : X → Tree → Type 0) where
   closes_same (object_level j object.Value ms) l Brace k = ap (λ n. closes_at n Brace) (sym k.2)
 
   pub opened_is : (b : Bracket) (i : ℕ) → IsHeld IsKept (opened_as b i) (record { bracket = b; from = i; inside = []; mode = first_mode b })
-  opened_is Square i = (refl, refl, refl, tt)
+  opened_is Square i = (refl, refl, refl, refl)
   opened_is Brace i = (refl, refl, refl, tt, tt)

@@ -28,7 +28,7 @@ use Rattle.at_nest.specs.Stops.{IsForm, IsStop}
 use Rattle.at_nest.specs.Unions.{Ends, merged, empty_form}
 use Rattle.at_nest.specs.Variants.{IsAllLead, IsLeadEnd, IsPending, none_pending, run_pending, text_pending}
 use Rattle.at_nest.specs.Shown.{Shown, shown}
-use Rattle.at_nest.specs.Holding.{free, IsShown, IsPushedAs, IsOfItems, halt_of}
+use Rattle.at_nest.specs.Holding.{Content, free, IsShown, IsPushedAs, IsOfItems, halt_of}
 use Rattle.at_nest.specs.Reading.{IsPlaced, ReadsToken, ReadsAhead, HasBytes, pend_from}
 use Rattle.at_nest.specs.Stands.{HoldsVariant, HoldsBehind}
 use Rattle.at_nest.proofs.Steps.{and_false}
@@ -94,7 +94,7 @@ spaces_form at x a f h k e = record { formed = subst (Formed free at (x ++ a)) (
 
 -- ---- what has been read
 
-module _ {X : Type 0} (IsKept : X → Tree → Type 0) where
+module _ {X : Type 0} (IsKept : X → Content → Type 0) where
   pub record Consumed (base : ℕ) (piece : List ℕ) (from : ℕ) (bytes : List ℕ) (kept : Shown X) (left : Left) : Type 0 where
     pub read : List ℕ
     pub form : Form Tree
@@ -358,7 +358,7 @@ begun_all_text InEscape base piece left (u, e, l, i, q) = let a = all_is InEscap
 
 -- ---- the variants
 
-module _ {X : Type 0} (IsKept : X → Tree → Type 0) where
+module _ {X : Type 0} (IsKept : X → Content → Type 0) where
   pub behind_nothing : (s : Start) (base : ℕ) (piece : List ℕ) (left : Left) (v : Variant X) → IsBegun s base piece leads.Nothing left → piece ≢ [] → HoldsBehind IsKept base piece left.at left.rest base v → HoldsVariant IsKept s base piece v
   behind_nothing Out base piece left v (u, e, l, i, q) n h = let here : left.at ≡ base = (let k : length u ≡ 0 = ap (λ z. length z) l.0 in omega (arith, i, k)) in
       h Out [] (e ∙ ap (λ z. z ++ left.rest) l.0) (ends_here left.rest l.1 (λ m. n (e ∙ (ap (λ z. z ++ left.rest) l.0 ∙ m)))) (here ∙ (let z : base ≡ base + 0 = omega arith in z)) (let z : base ≡ base + 0 = omega arith in z)

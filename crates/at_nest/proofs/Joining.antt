@@ -10,10 +10,10 @@ use Rattle.at_lex.specs.declared.tokens.Bracket.{Bracket}
 use Rattle.at_nest.specs.Tree.{Tree}
 use Rattle.at_nest.specs.Forms.{Mark, Piece, opens}
 use Rattle.at_nest.specs.Walks.{mark_kind}
-use Rattle.at_nest.specs.Levels.{Mode, Level, Form, marks, opened, pieces_of, Pushed, further, stopped, move, moves, first_mode, push, push_all, push_then, with_mark}
+use Rattle.at_nest.specs.Levels.{Mode, Level, Form, marks, opened, pieces_of, Pushed, further, stopped, move, moves, first_mode, push_all, push_then, with_mark}
 use Rattle.at_nest.specs.Stops.{AreLevels}
 use Rattle.at_nest.specs.Shown.{Held, Shown, show_as}
-use Rattle.at_nest.specs.Holding.{free, EachHeld, EachPiece, IsHeldPiece, IsShown, IsPushedAs, IsPartOf, CanAdd, Adds, CanJoin, Joins}
+use Rattle.at_nest.specs.Holding.{Content, free, EachHeld, EachPiece, ArePieces, IsShown, IsPushedAs, IsPartOf, CanAdd, Adds, CanJoin, Joins}
 use Rattle.at_nest.proofs.Adding.{push_all_append}
 
 -- what the iterator of a vector has given is a front of its items
@@ -23,7 +23,7 @@ taken_front s (x ∷ xs) t y = y.1.0 ∙ ap (λ ys. x ∷ ys) (taken_front y.0 x
 
 -- ---- open levels, pushed as they are
 
-push_marks : (xs ys : List (Mark Tree)) (b : Bracket) (i : ℕ) (md n : Mode) (fo : List (Piece Tree)) (ls : List (Level Tree)) → moves md xs ≡ Some n
+pub push_marks : (xs ys : List (Mark Tree)) (b : Bracket) (i : ℕ) (md n : Mode) (fo : List (Piece Tree)) (ls : List (Level Tree)) → moves md xs ≡ Some n
     → push_all free (marks xs) (record { outer = fo; levels = record { bracket = b; from = i; inside = ys; mode = md } ∷ ls }) ≡ further (record { outer = fo; levels = record { bracket = b; from = i; inside = ys ++ xs; mode = n } ∷ ls })
 push_marks [] ys b i md n fo ls e = ap (λ z. further (record { outer = fo; levels = record { bracket = b; from = i; inside = ys; mode = z } ∷ ls })) (same_Some md n e)
     ∙ ap (λ z. further (record { outer = fo; levels = record { bracket = b; from = i; inside = z; mode = n } ∷ ls })) (sym (append-nil ys))
@@ -37,7 +37,7 @@ push_opened (l ∷ ls) fo fl h = push_all_append free (opened ls) (opens l.brack
     ∙ (ap (push_then (push_all free (opens l.bracket l.from ∷ marks l.inside))) (push_opened ls fo fl h.1)
     ∙ push_marks l.inside [] l.bracket l.from (first_mode l.bracket) l.mode fo (ls ++ fl) h.0)
 
-module _ {X : Type 0} (IsKept : X → Tree → Type 0) where
+module _ {X : Type 0} (IsKept : X → Content → Type 0) where
   held_append : (hs : List (Held X)) (ls : List (Level Tree)) (gs : List (Held X)) (ks : List (Level Tree)) → EachHeld IsKept hs ls → EachHeld IsKept gs ks → EachHeld IsKept (hs ++ gs) (ls ++ ks)
   held_append [] [] gs ks h k = k
   held_append (x ∷ hs) (l ∷ ls) gs ks h k = (h.0, held_append hs ls gs ks h.1 k)
@@ -50,25 +50,22 @@ module _ {X : Type 0} (IsKept : X → Tree → Type 0) where
       → (k : Form Tree) × (push_all free ps f ≡ further k) × IsShown IsKept base w new k
 
   pub so_far_none : (bytes : List ℕ) (old : Shown X) → SoFar bytes old [] old
-  so_far_none bytes old base w f [] part h e = (f, refl, h)
-  so_far_none bytes old base w f (p ∷ ps) part h e = absurd e
+  so_far_none bytes old base w f ps part h e = (f, ap (λ z. push_all free z f) e, h)
 
-  -- the pieces of a front, of one piece, and of the rest
+  -- the pieces of a front, of what stands behind it, and of the rest
   record HasCut (base : ℕ) (w : List ℕ) (ys : List (CodePiece X)) (x : CodePiece X) (zs : List (CodePiece X)) (ps : List (Piece Tree)) : Type 0 where
     front : List (Piece Tree)
-    here : Piece Tree
+    here : List (Piece Tree)
     rest : List (Piece Tree)
-    split : ps ≡ front ++ (here ∷ rest)
+    split : ps ≡ front ++ (here ++ rest)
     are_front : EachPiece IsKept base w ys front
-    is_here : IsHeldPiece IsKept base w x here
+    is_here : ArePieces IsKept base w x here
     are_rest : EachPiece IsKept base w zs rest
 
   cut : (base : ℕ) (w : List ℕ) (ys : List (CodePiece X)) (x : CodePiece X) (zs : List (CodePiece X)) (ps : List (Piece Tree)) → EachPiece IsKept base w (ys ++ (x ∷ zs)) ps → HasCut base w ys x zs ps
-  cut base w [] x zs [] h = absurd h
-  cut base w [] x zs (p ∷ ps) h = record { front = []; here = p; rest = ps; split = refl; are_front = tt; is_here = h.0; are_rest = h.1 }
-  cut base w (y ∷ ys) x zs [] h = absurd h
-  cut base w (y ∷ ys) x zs (p ∷ ps) h = let r : HasCut base w ys x zs ps = cut base w ys x zs ps h.1 in
-      record { front = p ∷ r.front; here = r.here; rest = r.rest; split = ap (λ z. p ∷ z) r.split; are_front = (h.0, r.are_front); is_here = r.is_here; are_rest = r.are_rest }
+  cut base w [] x zs ps (us, vs, e, h, hs) = record { front = []; here = us; rest = vs; split = e; are_front = refl; is_here = h; are_rest = hs }
+  cut base w (y ∷ ys) x zs ps (us, vs, e, h, hs) = let r : HasCut base w ys x zs vs = cut base w ys x zs vs hs in
+      record { front = us ++ r.front; here = r.here; rest = r.rest; split = e ∙ (ap (λ z. us ++ z) r.split ∙ sym (append_assoc us r.front (r.here ++ r.rest))); are_front = (us, r.front, refl, h, r.are_front); is_here = r.is_here; are_rest = r.are_rest }
 
   pub can_add : (bytes : List ℕ) (old behind new : Shown X) (ys : List (CodePiece X)) (x : CodePiece X) (zs : List (CodePiece X)) → CanJoin IsKept bytes old behind → behind.outer ≡ ys ++ (x ∷ zs) → SoFar bytes old ys new → CanAdd IsKept bytes new x
   can_add bytes old behind new ys x zs (base, w, f, g, part, hf, hg) e so =
@@ -88,23 +85,22 @@ module _ {X : Type 0} (IsKept : X → Tree → Type 0) where
   so_far_on bytes old new new2 ys x so adds base w f ps part hf hps =
       let c : HasCut base w ys x [] ps = cut base w ys x [] ps hps in
       let k = so base w f c.front part hf c.are_front in
-      let n = went_on base w new2 (push free k.0 c.here) (adds base w k.0 c.here part k.2 c.is_here) in
-      (n.0, by_rest base w f ps c.front c.here c.rest c.split c.are_rest k.0 k.1 n.0 n.1, n.2)
+      let n = went_on base w new2 (push_all free c.here k.0) (adds base w k.0 c.here part k.2 c.is_here) in
+      (n.0, by_rest f ps c.front c.here c.rest c.split c.are_rest k.0 k.1 n.0 n.1, n.2)
     where
-      by_rest : (base : ℕ) (w : List ℕ) (f : Form Tree) (ps front : List (Piece Tree)) (here : Piece Tree) (rest : List (Piece Tree)) → ps ≡ front ++ (here ∷ rest) → EachPiece IsKept base w [] rest → (k : Form Tree) → push_all free front f ≡ further k
-          → (n : Form Tree) → push free k here ≡ further n → push_all free ps f ≡ further n
-      by_rest base w f ps front here [] e u k ek n en = ap (λ z. push_all free z f) e ∙ (push_all_append free front (here ∷ []) f ∙ (ap (push_then (push_all free (here ∷ []))) ek ∙ ap (push_then (push_all free [])) en))
-      by_rest base w f ps front here (q ∷ rest) e u k ek n en = absurd u
+      by_rest : (f : Form Tree) (ps front here rest : List (Piece Tree)) → ps ≡ front ++ (here ++ rest) → rest ≡ [] → (k : Form Tree) → push_all free front f ≡ further k
+          → (n : Form Tree) → push_all free here k ≡ further n → push_all free ps f ≡ further n
+      by_rest f ps front here rest e u k ek n en = ap (λ z. push_all free z f) (e ∙ ap (λ z. front ++ z) (ap (λ z. here ++ z) u ∙ append-nil here)) ∙ (push_all_append free front here f ∙ (ap (push_then (push_all free here)) ek ∙ en))
 
   pub joins_stop : (bytes : List ℕ) (old behind new new2 : Shown X) (ys : List (CodePiece X)) (x : CodePiece X) (zs : List (CodePiece X)) (r : CodeHalt) → behind.outer ≡ ys ++ (x ∷ zs) → SoFar bytes old ys new → Adds IsKept bytes new x new2 (Some r)
       → Joins IsKept bytes old behind new2 (Some r)
   joins_stop bytes old behind new new2 ys x zs r e so adds base w f g part hf hg levels =
       let c : HasCut base w ys x zs g.outer = cut base w ys x zs g.outer (subst (λ z. EachPiece IsKept base w z g.outer) e hg.0) in
       let k = so base w f c.front part hf c.are_front in
-      let all : pieces_of g ≡ c.front ++ (c.here ∷ (c.rest ++ opened g.levels)) = ap (λ z. z ++ opened g.levels) c.split ∙ append_assoc c.front (c.here ∷ c.rest) (opened g.levels) in
-      let walk : push_all free (pieces_of g) f ≡ push_then (push_all free (c.rest ++ opened g.levels)) (push free k.0 c.here) =
-      ap (λ z. push_all free z f) all ∙ (push_all_append free c.front (c.here ∷ (c.rest ++ opened g.levels)) f ∙ ap (push_then (push_all free (c.here ∷ (c.rest ++ opened g.levels)))) k.1) in
-      subst (IsPushedAs IsKept base w new2 (Some r)) (sym walk) (did_stop base w new2 r (push free k.0 c.here) (push_all free (c.rest ++ opened g.levels)) (adds base w k.0 c.here part k.2 c.is_here))
+      let all : pieces_of g ≡ c.front ++ (c.here ++ (c.rest ++ opened g.levels)) = ap (λ z. z ++ opened g.levels) c.split ∙ (append_assoc c.front (c.here ++ c.rest) (opened g.levels) ∙ ap (λ z. c.front ++ z) (append_assoc c.here c.rest (opened g.levels))) in
+      let walk : push_all free (pieces_of g) f ≡ push_then (push_all free (c.rest ++ opened g.levels)) (push_all free c.here k.0) =
+      ap (λ z. push_all free z f) all ∙ (push_all_append free c.front (c.here ++ (c.rest ++ opened g.levels)) f ∙ (ap (push_then (push_all free (c.here ++ (c.rest ++ opened g.levels)))) k.1 ∙ push_all_append free c.here (c.rest ++ opened g.levels) k.0)) in
+      subst (IsPushedAs IsKept base w new2 (Some r)) (sym walk) (did_stop base w new2 r (push_all free c.here k.0) (push_all free (c.rest ++ opened g.levels)) (adds base w k.0 c.here part k.2 c.is_here))
 
   pub joins_halt : (bytes : List ℕ) (old behind new new2 : Shown X) (ys : List (CodePiece X)) (x : CodePiece X) (zs : List (CodePiece X)) (r : Option CodeHalt) → is_some r ≡ true → behind.outer ≡ ys ++ (x ∷ zs) → SoFar bytes old ys new → Adds IsKept bytes new x new2 r
       → Joins IsKept bytes old behind new2 r

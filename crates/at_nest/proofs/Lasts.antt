@@ -25,12 +25,11 @@ use Rattle.at_nest.specs.Unions.{empty_form}
 use Rattle.at_nest.specs.Variants.{IsPending, none_pending, run_pending, text_pending}
 use Rattle.at_nest.specs.Answers.{finished, IsAnswer}
 use Rattle.at_nest.specs.Shown.{Shown}
-use Rattle.at_nest.specs.Holding.{free, halt_of, IsPushedAs}
+use Rattle.at_nest.specs.Holding.{Content, one, PushesValue, free, halt_of, IsPushedAs}
 use Rattle.at_nest.specs.Reading.{stop_within}
 use Rattle.at_nest.specs.Nexts.{next_of, answer_of, stop_of, open_of}
 use Rattle.at_nest.specs.Lasts.{begins_text, IsOpen, EndsSo}
 use Rattle.at_nest.specs.Ending.{Answers}
-use Rattle.at_nest.specs.Shown.{value_added}
 use Rattle.at_nest.proofs.Longest.{string_runs, rest_runs}
 use Rattle.at_nest.proofs.Unions.{stays_in}
 use Rattle.at_nest.proofs.Strings.{text_run, closed_is}
@@ -40,7 +39,6 @@ use Rattle.at_nest.proofs.TokenReads.{cut_at, take_is, there_is, run_refused_ins
 use Rattle.at_nest.proofs.Runs.{begun_of, number_whole}
 use Rattle.at_nest.proofs.Pushes.{push_ok}
 use Rattle.at_nest.proofs.Joins.{formed_append}
-use Rattle.at_nest.proofs.Showing.{value_pushes}
 use Rattle.at_nest.proofs.Texts.{mark_formed, last_answer, no_last, last_mark, last_stop, last_open}
 use Rattle.at_nest.proofs.Open as unended
 use Rattle.at_nest.proofs.Nexts.{each_closed, answer_tells, stop_tells, open_tells}
@@ -165,7 +163,7 @@ first_quote : (v : List ℕ) → begins_text v ≡ true → (b : ℕ) × (u : Li
 first_quote [] h = absurd (true≢false (sym h))
 first_quote (b ∷ u) h = (b, u, refl)
 
-module _ {X : Type 0} (K : X → Tree → Type 0) where
+module _ {X : Type 0} (K : X → Content → Type 0) where
   pub ends_nothing : (s : Shown X) (from : ℕ) (v : List ℕ) → v ≡ [] → EndsSo K s from v (answer_of s)
   ends_nothing s from v n at x f h form apart e =
       told K at (x ++ v) (finished free (further f)) (answer_of s) (last_answer free at x v (further f) no_last form (each_closed K at (x ++ v) s.outer f.outer h.0) apart n) (answer_tells K at (x ++ v) s f h form.levels)
@@ -188,14 +186,14 @@ module _ {X : Type 0} (K : X → Tree → Type 0) where
       (open_tells K false at (x ++ v) s f within.Text from refl h form.levels)
 
   -- behind a whole literal or number
-  pub ends_run : (s new : Shown X) (r : Option CodeHalt) (from : ℕ) (v : List ℕ) (x : X) → JsonRun v → ((t : Tree) → Spells from v t → K x t) → (new, r) ≡ value_added from x s.outer s.levels
+  pub ends_run : (s new : Shown X) (r : Option CodeHalt) (from : ℕ) (v : List ℕ) (x : X) → JsonRun v → ((t : Tree) → Spells from v t → K x (one t)) → PushesValue K s new r from x
       → (result : Result X NestEnd) → (r ≡ None → result ≡ answer_of new) → ((halt : CodeHalt) → r ≡ Some halt → result ≡ Err (stop_of (next_of new) halt)) → EndsSo K s from v result
-  ends_run s new r from v a j fold d result on off at x f h form apart e =
+  ends_run s new r from v a j fold pushes result on off at x f h form apart e =
       let (t, spells, no_text, same) = run_tree from v j in
       let p : Pushed Tree = push free f (mark (entry from t)) in
       let pushed : IsPushed free at (x ++ v) p = push_ok free at (x ++ v) f (mark (entry from t))
       (formed_append free at x v (pieces_of f) (mark (entry from t) ∷ []) form.formed (mark_formed free (at + length x) v (entry from t) (e, t, subst (λ n. Spells n v t) e spells, no_text, same)) apart) form.levels in
-      let shown_as : IsPushedAs K at (x ++ v) new r p = subst (λ b. IsPushedAs K at (x ++ v) b.0 b.1 p) (sym d) (value_pushes K at (x ++ v) s.outer s.levels f.outer f.levels from a t h.0 h.1 (fold t spells)) in
+      let shown_as : IsPushedAs K at (x ++ v) new r p = pushes at (x ++ v) f t h (fold t spells) in
       by_result r p pushed shown_as (last_answer free at x v (further f) (last_mark (entry from t)) form (each_closed K at (x ++ v) s.outer f.outer h.0) apart (e, t, subst (λ n. Spells n v t) e spells, no_text, same)) on off
     where
       by_result : (r : Option CodeHalt) (p : Pushed Tree) → IsPushed free at (x ++ v) p → IsPushedAs K at (x ++ v) new r p → IsAnswer free at (x ++ v) (finished free p) → (r ≡ None → result ≡ answer_of new) → ((halt : CodeHalt) → r ≡ Some halt → result ≡ Err (stop_of (next_of new) halt))

@@ -26,6 +26,7 @@ pub mod Held
 pub mod Showing
 pub mod Adding
 pub mod Joining
+pub mod Rows
 pub mod TokenReads
 pub mod TokenMarks
 pub mod Items

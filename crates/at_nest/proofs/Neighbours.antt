@@ -1,12 +1,12 @@
 -- Two spans that stand one behind the other: what stands for each gives what stands for both.
-use Rattle.std.proofs.Common.{◌≡◌, ℕ, Option, Some, None, List, [], ◌∷◌, ◌++◌, true, refl, sym, ◌∙◌, ap, subst, arith, append_assoc, append-nil, ◌+◌, ◌-◌, ◌≤◌, length, length-append, take, drop}
+use Rattle.std.proofs.Common.{◌≡◌, ℕ, Option, Some, None, List, [], ◌∷◌, ◌++◌, true, refl, sym, ◌∙◌, ap, subst, arith, append_assoc, append-nil, ◌+◌, ◌-◌, ◌≤◌, length, length-append, take, drop, inl, inr}
 use Rattle.std.proofs.Math.Seq.{take-append_seam, drop-append_seam}
 use Rattle.at_text.specs.declared.texts.Span.{Span}
 use Rattle.at_lex.specs.Strings.{Character, string_text}
 use Rattle.at_lex.specs.Spans.{end_of}
 use Rattle.at_lex.specs.declared.tokens.Start.{Start}
 use Rattle.at_nest.specs.declared.pieces.Piece.{Piece as CodePiece}
-use Rattle.at_nest.specs.declared.pieces.Piece.TheVariants.{Closes, Comma, Colon, Text, Value}
+use Rattle.at_nest.specs.declared.pieces.Piece.TheVariants.{Closes, Comma, Colon, Text, Value, Row}
 use Rattle.at_nest.specs.declared.pieces.Halt.{Halt as CodeHalt}
 use Rattle.at_nest.specs.Tree.{Tree}
 use Rattle.at_nest.specs.Borders.{are_apart}
@@ -16,7 +16,7 @@ use Rattle.at_nest.specs.Stops.{IsForm, IsStop}
 use Rattle.at_nest.specs.Unions.{IsToken, Ends, merged, variant_of}
 use Rattle.at_nest.specs.Variants.{IsAllLead, IsLeadEnd, IsWhole, IsBroken, IsVariant}
 use Rattle.at_nest.specs.Shown.{Shown}
-use Rattle.at_nest.specs.Holding.{free, EachPiece, IsHeldPiece, IsShown, IsPushedAs, IsTextAt, IsPartOf, CanJoin, Joins}
+use Rattle.at_nest.specs.Holding.{Content, free, EachPiece, ArePieces, IsHeldPiece, IsShown, IsPushedAs, IsTextAt, IsPartOf, CanJoin, Joins}
 use Rattle.at_nest.specs.Reading.{IsPlaced, Reads}
 use Rattle.at_nest.specs.Stands.{CanMeet, Meets}
 use Rattle.at_nest.proofs.Joins.{apart_front}
@@ -34,7 +34,7 @@ text_within base w y z b span cs e (ok, a, q, d, i, j) = (
   j,
 )
 
-module _ {X : Type 0} (IsKept : X → Tree → Type 0) where
+module _ {X : Type 0} (IsKept : X → Content → Type 0) where
   piece_within : (base : ℕ) (w y z : List ℕ) (b : ℕ) (c : CodePiece X) (p : Piece Tree) → base ≡ b + length y → IsHeldPiece IsKept base w c p → IsHeldPiece IsKept b (y ++ (w ++ z)) c p
   piece_within base w y z b (Closes c i) (closes d j) e h = h
   piece_within base w y z b (Comma i) (mark (comma j)) e h = h
@@ -63,12 +63,15 @@ module _ {X : Type 0} (IsKept : X → Tree → Type 0) where
   piece_within base w y z b (Value i x) (mark (comma j)) e h = absurd h
   piece_within base w y z b (Value i x) (mark (colon j)) e h = absurd h
   piece_within base w y z b (Value i x) (mark (quoted j cs)) e h = absurd h
+  piece_within base w y z b (Row r) p e h = absurd h
+
+  are_within : (base : ℕ) (w y z : List ℕ) (b : ℕ) (c : CodePiece X) (ps : List (Piece Tree)) → base ≡ b + length y → ArePieces IsKept base w c ps → ArePieces IsKept b (y ++ (w ++ z)) c ps
+  are_within base w y z b c ps e (inl (p, s, h)) = inl (p, s, piece_within base w y z b c p e h)
+  are_within base w y z b c ps e (inr r) = inr r
 
   pieces_within : (base : ℕ) (w y z : List ℕ) (b : ℕ) (cs : List (CodePiece X)) (ps : List (Piece Tree)) → base ≡ b + length y → EachPiece IsKept base w cs ps → EachPiece IsKept b (y ++ (w ++ z)) cs ps
-  pieces_within base w y z b [] [] e h = tt
-  pieces_within base w y z b (c ∷ cs) (p ∷ ps) e h = (piece_within base w y z b c p e h.0, pieces_within base w y z b cs ps e h.1)
-  pieces_within base w y z b [] (p ∷ ps) e h = absurd h
-  pieces_within base w y z b (c ∷ cs) [] e h = absurd h
+  pieces_within base w y z b [] ps e h = h
+  pieces_within base w y z b (c ∷ cs) ps e (us, vs, s, h, hs) = (us, vs, s, are_within base w y z b c us e h, pieces_within base w y z b cs vs e hs)
 
   pub shown_within : (base : ℕ) (w y z : List ℕ) (b : ℕ) (s : Shown X) (f : Form Tree) → base ≡ b + length y → IsShown IsKept base w s f → IsShown IsKept b (y ++ (w ++ z)) s f
   shown_within base w y z b s f e h = (pieces_within base w y z b s.outer f.outer e h.0, h.1)

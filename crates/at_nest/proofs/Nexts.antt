@@ -11,19 +11,19 @@ use Rattle.at_nest.specs.declared.levels.ArrayState.TheVariants as array
 use Rattle.at_nest.specs.declared.levels.ObjectState.TheVariants as object
 use Rattle.at_nest.specs.declared.levels.Level.{Level as CodeLevel}
 use Rattle.at_nest.specs.declared.pieces.Piece.{Piece as CodePiece}
-use Rattle.at_nest.specs.declared.pieces.Piece.TheVariants.{Closes, Comma, Colon, Text, Value}
+use Rattle.at_nest.specs.declared.pieces.Piece.TheVariants.{Closes, Comma, Colon, Text, Value, Row as RowPiece}
 use Rattle.at_nest.specs.declared.pieces.Halt.{Halt as CodeHalt}
 use Rattle.at_nest.specs.declared.pieces.Within.{Within as CodeWithin}
 use Rattle.at_nest.specs.declared.pieces.Within.TheVariants as within
 use Rattle.at_nest.specs.States.{State, Frame, in_array, in_object, value, items, members, name, colon, after, in_number, in_string, in_name, in_word, accepts}
 use Rattle.at_nest.specs.Tree.{Tree}
-use Rattle.at_nest.specs.Forms.{Piece, opens, closes, mark, comma as a_comma, colon as a_colon, quoted, entry}
+use Rattle.at_nest.specs.Forms.{Piece, opens, closes, mark, comma as a_comma, colon as a_colon, quoted, entry, Mark}
 use Rattle.at_nest.specs.Walks.{an_opener, value_kind, text_kind, kind_of, at_of, next as goes, walks, walk_on, Walk, reached, refused}
 use Rattle.at_nest.specs.Levels.{full, first_mode, moves, Level, Form, marks, opened, pieces_of, further, stopped}
 use Rattle.at_nest.specs.Stops.{AreLevels}
 use Rattle.at_nest.specs.Answers.{Answer, folded, syntax, ended, single, folded_or, by_walk, choose, halt_place, stop_by, finished}
 use Rattle.at_nest.specs.Shown.{Held, array_level, object_level, held_of, Shown, open_levels, from_of, first_of_piece, is_value_piece, takes_name, takes_value}
-use Rattle.at_nest.specs.Holding.{free, IsHeld, EachHeld, IsHeldPiece, EachPiece, IsShown, halt_of, within_of}
+use Rattle.at_nest.specs.Holding.{Content, one, free, row_marks, IsHeld, EachHeld, IsHeldPiece, AreRow, ArePieces, EachPiece, IsShown, halt_of, within_of}
 use Rattle.at_nest.specs.Nexts.{takes, level_next, level_after, levels_next, outer_next, next_of, value_of, only_of, answer_by, answer_of, stop_of, open_of}
 use Rattle.at_nest.proofs.Walks.{cases}
 use Rattle.at_nest.proofs.Pushes.{moves_walk}
@@ -186,8 +186,8 @@ something false true = tt
 something false false = tt
 
 -- what is answered, as the model's answer
-abbrev pub Tells : {X : Type 0} → (X → Tree → Type 0) → Result X NestEnd → Answer Tree → Type 0
-Tells K (Ok x) (folded t) = K x t
+abbrev pub Tells : {X : Type 0} → (X → Content → Type 0) → Result X NestEnd → Answer Tree → Type 0
+Tells K (Ok x) (folded t) = K x (one t)
 Tells K (Err (Syntax i)) (syntax j) = i ≡ j
 Tells K (Err Ended) ended = ⊤
 Tells K _ _ = ⊥
@@ -202,10 +202,10 @@ closed_cons (opens b i) ps h k = absurd h
 closed_cons (closes b i) ps h k = k
 closed_cons (mark x) ps h k = k
 
-module _ {X : Type 0} (K : X → Tree → Type 0) where
+module _ {X : Type 0} (K : X → Content → Type 0) where
   -- an item before the first open level: a value, or nothing with which a text begins
   data Stands (c : CodePiece X) (p : Piece Tree) : Type 0 where
-    as_value : (x : X) (t : Tree) → is_value_piece c ≡ true → value_of c ≡ Ok x → single free (p ∷ []) ≡ Some t → K x t → goes (value []) (kind_of p) ≡ Some (after []) → first_of_piece c ≡ at_of p → NotOpens p → Stands c p
+    as_value : (x : X) (t : Tree) → is_value_piece c ≡ true → value_of c ≡ Ok x → single free (p ∷ []) ≡ Some t → K x (one t) → goes (value []) (kind_of p) ≡ Some (after []) → first_of_piece c ≡ at_of p → NotOpens p → Stands c p
     as_other : is_value_piece c ≡ false → goes (value []) (kind_of p) ≡ None → first_of_piece c ≡ at_of p → NotOpens p → Stands c p
 
   stands : (at : ℕ) (w : List ℕ) (c : CodePiece X) (p : Piece Tree) → IsHeldPiece K at w c p → Stands c p
@@ -236,39 +236,90 @@ module _ {X : Type 0} (K : X → Tree → Type 0) where
   stands at w (Value i x) (mark (a_comma j)) h = absurd h
   stands at w (Value i x) (mark (a_colon j)) h = absurd h
   stands at w (Value i x) (mark (quoted j cs)) h = absurd h
+  stands at w (RowPiece r) (opens d j) h = absurd h
+  stands at w (RowPiece r) (closes d j) h = absurd h
+  stands at w (RowPiece r) (mark m) h = absurd h
 
   not_opens : (c : CodePiece X) (p : Piece Tree) → Stands c p → NotOpens p
   not_opens c p (as_value x t a b d k e f n) = n
   not_opens c p (as_other a e f n) = n
 
   -- no opening bracket stands among what is kept before the first open level
-  pub each_closed : (at : ℕ) (w : List ℕ) (cs : List (CodePiece X)) (ps : List (Piece Tree)) → EachPiece K at w cs ps → AreClosed ps
-  each_closed at w [] [] h = tt
-  each_closed at w (c ∷ cs) (p ∷ ps) h = closed_cons p ps (not_opens c p (stands at w c p h.0)) (each_closed at w cs ps h.1)
-  each_closed at w [] (p ∷ ps) h = absurd h
-  each_closed at w (c ∷ cs) [] h = absurd h
+  closed_append : (ps qs : List (Piece Tree)) → AreClosed ps → AreClosed qs → AreClosed (ps ++ qs)
+  closed_append [] qs h k = k
+  closed_append (opens b i ∷ ps) qs h k = absurd h
+  closed_append (closes b i ∷ ps) qs h k = closed_append ps qs h k
+  closed_append (mark x ∷ ps) qs h k = closed_append ps qs h k
 
-  one_next : (c : CodePiece X) (p : Piece Tree) → Stands c p → IsNext (outer_next (c ∷ [])) (walks (value []) (p ∷ []))
-  one_next c p (as_value x t a b d k e f n) = next_by _ (Ok next.Nothing) _ (reached (after [])) (ap (λ z. if z then Ok next.Nothing else Err (first_of_piece c)) a) (ap (λ o. walk_on o (at_of p) (λ s. walks {X = Tree} s [])) e) refl
-  one_next c p (as_other a e f n) = next_by _ (Err (first_of_piece c)) _ (refused (at_of p)) (ap (λ z. if z then Ok next.Nothing else Err (first_of_piece c)) a) (ap (λ o. walk_on o (at_of p) (λ s. walks {X = Tree} s [])) e) f
+  marks_closed : (xs : List (Mark Tree)) → AreClosed (marks xs)
+  marks_closed [] = tt
+  marks_closed (x ∷ xs) = marks_closed xs
+
+  row_closed : (c : CodePiece X) (ps : List (Piece Tree)) → AreRow K c ps → AreClosed ps
+  row_closed (RowPiece r) ps h = subst AreClosed (sym h.split) (marks_closed (row_marks ((r.comma, r.first, h.tree) ∷ h.others)))
+  row_closed (Closes b i) ps h = absurd h
+  row_closed (Comma i) ps h = absurd h
+  row_closed (Colon i) ps h = absurd h
+  row_closed (Text span x) ps h = absurd h
+  row_closed (Value i x) ps h = absurd h
+
+  are_closed : (at : ℕ) (w : List ℕ) (c : CodePiece X) (ps : List (Piece Tree)) → ArePieces K at w c ps → AreClosed ps
+  are_closed at w c ps (inl (p, e, h)) = subst AreClosed (sym e) (closed_cons p [] (not_opens c p (stands at w c p h)) tt)
+  are_closed at w c ps (inr h) = row_closed c ps h
+
+  pub each_closed : (at : ℕ) (w : List ℕ) (cs : List (CodePiece X)) (ps : List (Piece Tree)) → EachPiece K at w cs ps → AreClosed ps
+  each_closed at w [] ps h = subst AreClosed (sym h) tt
+  each_closed at w (c ∷ cs) ps (us, vs, e, h, hs) = subst AreClosed (sym e) (closed_append us vs (are_closed at w c us h) (each_closed at w cs vs hs))
 
   first_of : (c : CodePiece X) (p : Piece Tree) → Stands c p → first_of_piece c ≡ at_of p
   first_of c p (as_value x t a b d k e f n) = f
   first_of c p (as_other a e f n) = f
+
+  -- the first of the items for which something stands: one alone, or a comma with more behind it
+  data Begins (c : CodePiece X) (ps : List (Piece Tree)) : Type 0 where
+    alone : (p : Piece Tree) → ps ≡ p ∷ [] → Stands c p → Begins c ps
+    in_row : (q : Piece Tree) (qs : List (Piece Tree)) → ps ≡ mark (a_comma (first_of_piece c)) ∷ (q ∷ qs) → is_value_piece c ≡ false → Begins c ps
+
+  row_begins : (c : CodePiece X) (ps : List (Piece Tree)) → AreRow K c ps → Begins c ps
+  row_begins (RowPiece r) ps h = in_row (mark (entry r.first h.tree)) (marks (row_marks h.others)) h.split refl
+  row_begins (Closes b i) ps h = absurd h
+  row_begins (Comma i) ps h = absurd h
+  row_begins (Colon i) ps h = absurd h
+  row_begins (Text span x) ps h = absurd h
+  row_begins (Value i x) ps h = absurd h
+
+  begins : (at : ℕ) (w : List ℕ) (c : CodePiece X) (ps : List (Piece Tree)) → ArePieces K at w c ps → Begins c ps
+  begins at w c ps (inl (p, e, h)) = alone p e (stands at w c p h)
+  begins at w c ps (inr h) = row_begins c ps h
+
+  first_begins : (c : CodePiece X) (ps vs : List (Piece Tree)) → Begins c ps → (q : Piece Tree) × (qs : List (Piece Tree)) × (ps ++ vs ≡ q ∷ qs) × (first_of_piece c ≡ at_of q)
+  first_begins c ps vs (alone p e h) = (p, vs, ap (λ z. z ++ vs) e, first_of c p h)
+  first_begins c ps vs (in_row q qs e n) = (mark (a_comma (first_of_piece c)), q ∷ (qs ++ vs), ap (λ z. z ++ vs) e, refl)
+
+  row_next : (c : CodePiece X) (cs : List (CodePiece X)) (ps : List (Piece Tree)) → is_value_piece c ≡ false → IsNext (outer_next (c ∷ cs)) (walks (value []) (mark (a_comma (first_of_piece c)) ∷ ps))
+  row_next c [] ps n = next_by _ (Err (first_of_piece c)) _ (refused (first_of_piece c)) (ap (λ z. if z then Ok next.Nothing else Err (first_of_piece c)) n) refl refl
+  row_next c (d ∷ cs) ps n = next_by _ (Err (first_of_piece c)) _ (refused (first_of_piece c)) (ap (λ z. if z then Err (first_of_piece d) else Err (first_of_piece c)) n) refl refl
+
+  one_next : (c : CodePiece X) (p : Piece Tree) → Stands c p → IsNext (outer_next (c ∷ [])) (walks (value []) (p ∷ []))
+  one_next c p (as_value x t a b d k e f n) = next_by _ (Ok next.Nothing) _ (reached (after [])) (ap (λ z. if z then Ok next.Nothing else Err (first_of_piece c)) a) (ap (λ o. walk_on o (at_of p) (λ s. walks {X = Tree} s [])) e) refl
+  one_next c p (as_other a e f n) = next_by _ (Err (first_of_piece c)) _ (refused (at_of p)) (ap (λ z. if z then Ok next.Nothing else Err (first_of_piece c)) a) (ap (λ o. walk_on o (at_of p) (λ s. walks {X = Tree} s [])) e) f
 
   two_next : (c d : CodePiece X) (cs : List (CodePiece X)) (p q : Piece Tree) (ps : List (Piece Tree)) → Stands c p → first_of_piece d ≡ at_of q → IsNext (outer_next (c ∷ (d ∷ cs))) (walks (value []) (p ∷ (q ∷ ps)))
   two_next c d cs p q ps (as_value x t a b s k e f n) g = next_by _ (Err (first_of_piece d)) _ (refused (at_of q)) (ap (λ z. if z then Err (first_of_piece d) else Err (first_of_piece c)) a) (ap (λ o. walk_on o (at_of p) (λ s. walks s (q ∷ ps))) e) g
   two_next c d cs p q ps (as_other a e f n) g = next_by _ (Err (first_of_piece c)) _ (refused (at_of p)) (ap (λ z. if z then Err (first_of_piece d) else Err (first_of_piece c)) a) (ap (λ o. walk_on o (at_of p) (λ s. walks s (q ∷ ps))) e) f
 
   outer_walk : (at : ℕ) (w : List ℕ) (cs : List (CodePiece X)) (ps : List (Piece Tree)) → EachPiece K at w cs ps → IsNext (outer_next cs) (walks (value []) ps)
-  outer_walk at w [] [] h = refl
-  outer_walk at w (c ∷ []) (p ∷ []) h = one_next c p (stands at w c p h.0)
-  outer_walk at w (c ∷ (d ∷ cs)) (p ∷ (q ∷ ps)) h = two_next c d cs p q ps (stands at w c p h.0) (first_of d q (stands at w d q h.1.0))
-  outer_walk at w [] (p ∷ ps) h = absurd h
-  outer_walk at w (c ∷ []) [] h = absurd h
-  outer_walk at w (c ∷ (d ∷ cs)) [] h = absurd h
-  outer_walk at w (c ∷ []) (p ∷ (q ∷ ps)) h = absurd h.1
-  outer_walk at w (c ∷ (d ∷ cs)) (p ∷ []) h = absurd h.1
+  outer_walk at w [] ps h = subst (λ z. IsNext (outer_next {X = X} []) (walks (value []) z)) (sym h) refl
+  outer_walk at w (c ∷ []) ps (us, vs, e, h, n) = subst (λ z. IsNext (outer_next (c ∷ [])) (walks (value []) z)) (sym (e ∙ (ap (λ z. us ++ z) n ∙ append-nil us))) (by_first (begins at w c us h))
+    where
+      by_first : Begins c us → IsNext (outer_next (c ∷ [])) (walks (value []) us)
+      by_first (alone p f k) = subst (λ z. IsNext (outer_next (c ∷ [])) (walks (value []) z)) (sym f) (one_next c p k)
+      by_first (in_row q qs f k) = subst (λ z. IsNext (outer_next (c ∷ [])) (walks (value []) z)) (sym f) (row_next c [] (q ∷ qs) k)
+  outer_walk at w (c ∷ (d ∷ cs)) ps (us, vs, e, h, (xs, ys, g, k, ks)) = subst (λ z. IsNext (outer_next (c ∷ (d ∷ cs))) (walks (value []) z)) (sym (e ∙ ap (λ z. us ++ z) g)) (by_first (begins at w c us h) (first_begins d xs ys (begins at w d xs k)))
+    where
+      by_first : Begins c us → (q : Piece Tree) × (qs : List (Piece Tree)) × (xs ++ ys ≡ q ∷ qs) × (first_of_piece d ≡ at_of q) → IsNext (outer_next (c ∷ (d ∷ cs))) (walks (value []) (us ++ (xs ++ ys)))
+      by_first (alone p f l) (q, qs, r, m) = subst (λ z. IsNext (outer_next (c ∷ (d ∷ cs))) (walks (value []) z)) (sym (ap (λ z. z ++ (xs ++ ys)) f ∙ ap (λ z. p ∷ z) r)) (two_next c d cs p q qs l m)
+      by_first (in_row q qs f l) o = subst (λ z. IsNext (outer_next (c ∷ (d ∷ cs))) (walks (value []) z)) (sym (ap (λ z. z ++ (xs ++ ys)) f)) (row_next c (d ∷ cs) (q ∷ (qs ++ (xs ++ ys))) l)
 
   level_walk : (h : Held X) (l : Level Tree) (st : List Frame) → IsHeld K h l → level_next h ≡ next_in (full l.mode st)
   level_walk (array_level i array.Empty xs) l st k = ap (λ md. next_in (full md st)) (sym k.2)
@@ -348,15 +399,22 @@ module _ {X : Type 0} (K : X → Tree → Type 0) where
       subst (λ r. Tells K (answer_by r (c ∷ (d ∷ cs))) (by_walk free (p ∷ (q ∷ ps)) (walks (value []) (p ∷ (q ∷ ps))))) (sym (ap (λ z. if z then Err (first_of_piece d) else Err (first_of_piece c)) a))
       (subst (λ o. Tells K (Err (Syntax (first_of_piece c))) (by_walk free (p ∷ (q ∷ ps)) (walk_on o (at_of p) (λ s. walks s (q ∷ ps))))) (sym e) f)
 
+  row_tells : (c : CodePiece X) (cs : List (CodePiece X)) (ps : List (Piece Tree)) → is_value_piece c ≡ false → Tells K (answer_by (outer_next (c ∷ cs)) (c ∷ cs)) (by_walk free (mark (a_comma (first_of_piece c)) ∷ ps) (walks (value []) (mark (a_comma (first_of_piece c)) ∷ ps)))
+  row_tells c [] ps n = subst (λ r. Tells K (answer_by r (c ∷ [])) (syntax (first_of_piece c))) (sym (ap (λ z. if z then Ok next.Nothing else Err (first_of_piece c)) n)) refl
+  row_tells c (d ∷ cs) ps n = subst (λ r. Tells K (answer_by r (c ∷ (d ∷ cs))) (syntax (first_of_piece c))) (sym (ap (λ z. if z then Err (first_of_piece d) else Err (first_of_piece c)) n)) refl
+
   outer_tells : (at : ℕ) (w : List ℕ) (cs : List (CodePiece X)) (ps : List (Piece Tree)) → EachPiece K at w cs ps → Tells K (answer_by (outer_next cs) cs) (by_walk free ps (walks (value []) ps))
-  outer_tells at w [] [] h = tt
-  outer_tells at w (c ∷ []) (p ∷ []) h = one_tells c p (stands at w c p h.0)
-  outer_tells at w (c ∷ (d ∷ cs)) (p ∷ (q ∷ ps)) h = two_tells c d cs p q ps (stands at w c p h.0) (first_of d q (stands at w d q h.1.0))
-  outer_tells at w [] (p ∷ ps) h = absurd h
-  outer_tells at w (c ∷ []) [] h = absurd h
-  outer_tells at w (c ∷ (d ∷ cs)) [] h = absurd h
-  outer_tells at w (c ∷ []) (p ∷ (q ∷ ps)) h = absurd h.1
-  outer_tells at w (c ∷ (d ∷ cs)) (p ∷ []) h = absurd h.1
+  outer_tells at w [] ps h = subst (λ z. Tells K (answer_by (outer_next {X = X} []) []) (by_walk free z (walks (value []) z))) (sym h) tt
+  outer_tells at w (c ∷ []) ps (us, vs, e, h, n) = subst (λ z. Tells K (answer_by (outer_next (c ∷ [])) (c ∷ [])) (by_walk free z (walks (value []) z))) (sym (e ∙ (ap (λ z. us ++ z) n ∙ append-nil us))) (by_first (begins at w c us h))
+    where
+      by_first : Begins c us → Tells K (answer_by (outer_next (c ∷ [])) (c ∷ [])) (by_walk free us (walks (value []) us))
+      by_first (alone p f k) = subst (λ z. Tells K (answer_by (outer_next (c ∷ [])) (c ∷ [])) (by_walk free z (walks (value []) z))) (sym f) (one_tells c p k)
+      by_first (in_row q qs f k) = subst (λ z. Tells K (answer_by (outer_next (c ∷ [])) (c ∷ [])) (by_walk free z (walks (value []) z))) (sym f) (row_tells c [] (q ∷ qs) k)
+  outer_tells at w (c ∷ (d ∷ cs)) ps (us, vs, e, h, (xs, ys, g, k, ks)) = subst (λ z. Tells K (answer_by (outer_next (c ∷ (d ∷ cs))) (c ∷ (d ∷ cs))) (by_walk free z (walks (value []) z))) (sym (e ∙ ap (λ z. us ++ z) g)) (by_first (begins at w c us h) (first_begins d xs ys (begins at w d xs k)))
+    where
+      by_first : Begins c us → (q : Piece Tree) × (qs : List (Piece Tree)) × (xs ++ ys ≡ q ∷ qs) × (first_of_piece d ≡ at_of q) → Tells K (answer_by (outer_next (c ∷ (d ∷ cs))) (c ∷ (d ∷ cs))) (by_walk free (us ++ (xs ++ ys)) (walks (value []) (us ++ (xs ++ ys))))
+      by_first (alone p f l) (q, qs, r, m) = subst (λ z. Tells K (answer_by (outer_next (c ∷ (d ∷ cs))) (c ∷ (d ∷ cs))) (by_walk free z (walks (value []) z))) (sym (ap (λ z. z ++ (xs ++ ys)) f ∙ ap (λ z. p ∷ z) r)) (two_tells c d cs p q qs l m)
+      by_first (in_row q qs f l) o = subst (λ z. Tells K (answer_by (outer_next (c ∷ (d ∷ cs))) (c ∷ (d ∷ cs))) (by_walk free z (walks (value []) z))) (sym (ap (λ z. z ++ (xs ++ ys)) f)) (row_tells c (d ∷ cs) (q ∷ (qs ++ (xs ++ ys))) l)
 
   shown_tells : (at : ℕ) (w : List ℕ) (cs : List (CodePiece X)) (ps : List (Piece Tree)) (hs : List (Held X)) (ls : List (Level Tree)) → EachPiece K at w cs ps → EachHeld K hs ls → AreLevels ls
       → Tells K (answer_by (levels_next (outer_next cs) hs) cs) (by_walk free (ps ++ opened ls) (walks (value []) (ps ++ opened ls)))

@@ -167,7 +167,7 @@ dead_level m at w front b i xs p md f e refuses =
 
 -- ---- one piece
 
-marks_append : {X : Type 0} (xs ys : List (Mark X)) → marks (xs ++ ys) ≡ marks xs ++ marks ys
+pub marks_append : {X : Type 0} (xs ys : List (Mark X)) → marks (xs ++ ys) ≡ marks xs ++ marks ys
 marks_append [] ys = refl
 marks_append (x ∷ xs) ys = ap (λ z. mark x ∷ z) (marks_append xs ys)
 

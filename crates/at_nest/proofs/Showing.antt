@@ -1,5 +1,5 @@
 -- What an item does to all that is kept of a span, and to the form that it stands for.
-use Rattle.std.proofs.Common.{◌≡◌, ℕ, ◌+◌, ◌-◌, ◌≤◌, true, false, Option, Some, None, List, [], ◌∷◌, ◌++◌, refl, sym, ◌∙◌, ap, subst, arith, append_assoc, append-nil, length, length-append, take, drop, MatchOption, option_to_list}
+use Rattle.std.proofs.Common.{◌≡◌, ℕ, ◌+◌, ◌-◌, ◌≤◌, true, false, Option, Some, None, List, [], ◌∷◌, ◌++◌, inl, refl, sym, ◌∙◌, ap, subst, arith, append_assoc, append-nil, length, length-append, take, drop, MatchOption, option_to_list}
 use Rattle.std.proofs.Math.Seq.{take-append_seam, drop-append_seam}
 use Rattle.at_text.specs.declared.texts.Span.{Span}
 use Rattle.at_lex.specs.Strings.{Character, string_text}
@@ -12,8 +12,8 @@ use Rattle.at_nest.specs.Tree.{Tree, text}
 use Rattle.at_nest.specs.Forms.{Mark, Piece, opens, closes, mark, comma, colon, quoted, entry}
 use Rattle.at_nest.specs.Walks.{mark_kind, mark_at}
 use Rattle.at_nest.specs.Levels.{Mode, Level, Form, built, move, with_mark, push_mark, push_close, close_level, push}
-use Rattle.at_nest.specs.Shown.{Held, Shown, held_of, open_levels, show_as, put_back, kept_outside, comma_added, colon_added, value_added, comma_next, colon_next, value_next, closes_with, from_of, opened_as, stop_at}
-use Rattle.at_nest.specs.Holding.{free, IsHeld, EachHeld, EachPiece, IsHeldPiece, IsShown, IsPushedAs, IsTextAt, IsPartOf, halt_of}
+use Rattle.at_nest.specs.Shown.{Held, Shown, held_of, open_levels, show_as, put_back, kept_outside, comma_added, colon_added, comma_next, colon_next, value_next, closes_with, from_of, opened_as, stop_at}
+use Rattle.at_nest.specs.Holding.{free, Content, one, IsHeld, GainsIn, PushesValue, EachHeld, EachPiece, ArePieces, IsHeldPiece, IsShown, IsPushedAs, IsTextAt, IsPartOf, halt_of}
 use Rattle.at_nest.specs.Shown.{array_level, object_level}
 use Rattle.at_nest.proofs.Held.{IsMoved, comma_moves, colon_moves, value_moves, closes_same, opened_is}
 
@@ -35,12 +35,19 @@ pub open_append : {X : Type 0} (xs ys : List (CodeLevel X)) → open_levels (xs 
 open_append [] ys = sym (append-nil (open_levels ys))
 open_append (x ∷ xs) ys = ap (λ z. z ++ held_of x ∷ []) (open_append xs ys) ∙ append_assoc (open_levels ys) (open_levels xs) (held_of x ∷ [])
 
-module _ {X : Type 0} (IsKept : X → Tree → Type 0) (base : ℕ) (w : List ℕ) where
+module _ {X : Type 0} (IsKept : X → Content → Type 0) (base : ℕ) (w : List ℕ) where
+  -- one thing more that is kept, and the items that it stands for
+  pub pieces_append : (cs : List (CodePiece X)) (ps : List (Piece Tree)) (c : CodePiece X) (us : List (Piece Tree)) → EachPiece IsKept base w cs ps → ArePieces IsKept base w c us → EachPiece IsKept base w (cs ++ c ∷ []) (ps ++ us)
+  pieces_append [] ps c us h k = (us, [], ap (λ z. z ++ us) h ∙ sym (append-nil us), k, refl)
+  pieces_append (d ∷ cs) ps c us (vs, ws, e, h, hs) k = (vs, ws ++ us, ap (λ z. z ++ us) e ∙ append_assoc vs ws us, h, pieces_append cs ws c us hs k)
+
   pub piece_append : (cs : List (CodePiece X)) (ps : List (Piece Tree)) (c : CodePiece X) (p : Piece Tree) → EachPiece IsKept base w cs ps → IsHeldPiece IsKept base w c p → EachPiece IsKept base w (cs ++ c ∷ []) (ps ++ p ∷ [])
-  piece_append [] [] c p h k = (k, tt)
-  piece_append (d ∷ cs) (q ∷ ps) c p h k = (h.0, piece_append cs ps c p h.1 k)
-  piece_append [] (q ∷ ps) c p h k = absurd h
-  piece_append (d ∷ cs) [] c p h k = absurd h
+  piece_append cs ps c p h k = pieces_append cs ps c (p ∷ []) h (inl (p, refl, k))
+
+  -- the items for which the last of what is kept stands
+  pub pieces_cut : (cs : List (CodePiece X)) (c : CodePiece X) (ps : List (Piece Tree)) → EachPiece IsKept base w (cs ++ c ∷ []) ps → (us : List (Piece Tree)) × (vs : List (Piece Tree)) × (ps ≡ us ++ vs) × EachPiece IsKept base w cs us × ArePieces IsKept base w c vs
+  pieces_cut [] c ps (us, vs, e, h, n) = ([], us, e ∙ (ap (λ z. us ++ z) n ∙ append-nil us), refl, h)
+  pieces_cut (d ∷ cs) c ps (us, vs, e, h, hs) = let r = pieces_cut cs c vs hs in (us ++ r.0, r.1, e ∙ (ap (λ z. us ++ z) r.2 ∙ sym (append_assoc us r.0 r.1)), (us, r.0, refl, h, r.3), r.4)
 
   -- a mark, put into the innermost level
   pub put_pushes : (outer : List (CodePiece X)) (fo : List (Piece Tree)) (hs : List (Held X)) (ls : List (Level Tree)) (h : Held X) (l : Level Tree) (x : Mark Tree) (i : ℕ) (o : Option (Held X)) (n : Option Mode) → EachPiece IsKept base w outer fo
@@ -64,16 +71,27 @@ module _ {X : Type 0} (IsKept : X → Tree → Type 0) (base : ℕ) (w : List �
   colon_pushes outer [] fo (l ∷ ls) i ho hl = absurd hl
   colon_pushes outer (h ∷ hs) fo [] i ho hl = absurd hl
 
-  pub value_pushes : (outer : List (CodePiece X)) (hs : List (Held X)) (fo : List (Piece Tree)) (ls : List (Level Tree)) (i : ℕ) (x : X) (t : Tree) → EachPiece IsKept base w outer fo → EachHeld IsKept hs ls → IsKept x t
-      → IsPushedAs IsKept base w (value_added i x outer hs).0 (value_added i x outer hs).1 (push_mark fo ls (entry i t))
-  value_pushes outer [] fo [] i x t ho hl k = (piece_append outer fo (Value i x) (mark (entry i t)) ho (refl, k), tt)
-  value_pushes outer (h ∷ hs) fo (l ∷ ls) i x t ho hl k = put_pushes outer fo hs ls h l (entry i t) i (value_next h x) (move l.mode (mark_kind (entry i t))) ho hl.1 hl.0 refl (value_moves IsKept h l i x t hl.0 k)
-  value_pushes outer [] fo (l ∷ ls) i x t ho hl k = absurd hl
-  value_pushes outer (h ∷ hs) fo [] i x t ho hl k = absurd hl
+  -- a value that is no string, before the first open level
+  pub value_outside : (old : Shown X) (outer : List (CodePiece X)) (new : Shown X) (r : Option CodeHalt) (i : ℕ) (x : X) (t : Tree) (f : Form Tree) → old.levels ≡ [] → old.outer ≡ outer → (new, r) ≡ kept_outside outer (Value i x) → IsShown IsKept base w old f → IsKept x (one t)
+      → IsPushedAs IsKept base w new r (push free f (mark (entry i t)))
+  value_outside old outer new r i x t f e e2 d h k = subst (λ a. IsPushedAs IsKept base w a.0 a.1 (push free f (mark (entry i t)))) (sym d) (here f.levels (subst (λ z. EachHeld IsKept z f.levels) e h.1))
+    where
+      here : (ls : List (Level Tree)) → EachHeld IsKept [] ls → IsPushedAs IsKept base w (show_as (outer ++ Value i x ∷ []) []) None (push_mark f.outer ls (entry i t))
+      here [] u = (piece_append outer f.outer (Value i x) (mark (entry i t)) (subst (λ z. EachPiece IsKept base w z f.outer) e2 h.0) (refl, k), tt)
+      here (l ∷ ls) u = absurd u
+
+  -- a value put into the innermost level
+  pub value_put : (old : Shown X) (outer : List (CodePiece X)) (hs : List (Held X)) (new : Shown X) (r : Option CodeHalt) (h : Held X) (i : ℕ) (x : X) (ys : List X) (t : Tree) (f : Form Tree) → old.levels ≡ h ∷ hs → old.outer ≡ outer → (new, r) ≡ put_back outer hs i h (value_next h x ys)
+      → GainsIn IsKept h x ys → IsShown IsKept base w old f → IsKept x (one t) → IsPushedAs IsKept base w new r (push free f (mark (entry i t)))
+  value_put old outer hs new r h i x ys t f e e2 d more k own = subst (λ a. IsPushedAs IsKept base w a.0 a.1 (push free f (mark (entry i t)))) (sym d) (here f.levels (subst (λ z. EachHeld IsKept z f.levels) e k.1))
+    where
+      here : (ls : List (Level Tree)) → EachHeld IsKept (h ∷ hs) ls → IsPushedAs IsKept base w (put_back outer hs i h (value_next h x ys)).0 (put_back outer hs i h (value_next h x ys)).1 (push_mark f.outer ls (entry i t))
+      here [] u = absurd u
+      here (l ∷ ls) u = put_pushes outer f.outer hs ls h l (entry i t) i (value_next h x ys) (move l.mode (mark_kind (entry i t))) (subst (λ z. EachPiece IsKept base w z f.outer) e2 k.0) u.1 u.0 refl (value_moves IsKept h l i x ys t u.0 own more)
 
   -- a string before the first open level
   pub text_outside : (old : Shown X) (outer : List (CodePiece X)) (new : Shown X) (r : Option CodeHalt) (span : Span) (cs : List Character) (x : X) (f : Form Tree) → old.levels ≡ [] → old.outer ≡ outer → (new, r) ≡ kept_outside outer (Text span x) → IsShown IsKept base w old f → IsTextAt base w span cs
-      → IsKept x (text span.from cs) → IsPushedAs IsKept base w new r (push free f (mark (quoted span.from cs)))
+      → IsKept x (one (text span.from cs)) → IsPushedAs IsKept base w new r (push free f (mark (quoted span.from cs)))
   text_outside old outer new r span cs x f e e2 d h t k = subst (λ a. IsPushedAs IsKept base w a.0 a.1 (push free f (mark (quoted span.from cs)))) (sym d) (here f.levels (subst (λ z. EachHeld IsKept z f.levels) e h.1))
     where
       here : (ls : List (Level Tree)) → EachHeld IsKept [] ls → IsPushedAs IsKept base w (show_as (outer ++ Text span x ∷ []) []) None (push_mark f.outer ls (quoted span.from cs))
@@ -112,14 +130,14 @@ module _ {X : Type 0} (IsKept : X → Tree → Type 0) (base : ℕ) (w : List �
 
   -- one that closes the innermost level, which has become an atom
   pub close_closes : (old : Shown X) (outer : List (CodePiece X)) (hs : List (Held X)) (new : Shown X) (r : Option CodeHalt) (h : Held X) (b : Bracket) (i : ℕ) (x : X) (f : Form Tree) → old.levels ≡ h ∷ hs → old.outer ≡ outer → closes_with h b ≡ true
-      → (new, r) ≡ value_added (from_of h) x outer hs → IsShown IsKept base w old f → ((l : Level Tree) → IsHeld IsKept h l → IsKept x (built free l.bracket l.from l.inside)) → IsPushedAs IsKept base w new r (push free f (closes b i))
-  close_closes old outer hs new r h b i x f e e2 n d k folds = subst (λ a. IsPushedAs IsKept base w a.0 a.1 (push free f (closes b i))) (sym d) (here f.levels (subst (λ z. EachHeld IsKept z f.levels) e k.1))
+      → PushesValue IsKept (show_as outer hs) new r (from_of h) x → IsShown IsKept base w old f → ((l : Level Tree) → IsHeld IsKept h l → IsKept x (one (built free l.bracket l.from l.inside))) → IsPushedAs IsKept base w new r (push free f (closes b i))
+  close_closes old outer hs new r h b i x f e e2 n pushes k folds = here f.levels (subst (λ z. EachHeld IsKept z f.levels) e k.1)
     where
-      here : (ls : List (Level Tree)) → EachHeld IsKept (h ∷ hs) ls → IsPushedAs IsKept base w (value_added (from_of h) x outer hs).0 (value_added (from_of h) x outer hs).1 (push_close free f.outer ls b i)
+      here : (ls : List (Level Tree)) → EachHeld IsKept (h ∷ hs) ls → IsPushedAs IsKept base w new r (push_close free f.outer ls b i)
       here [] u = absurd u
-      here (l ∷ ls) u = subst (λ z. IsPushedAs IsKept base w (value_added (from_of h) x outer hs).0 (value_added (from_of h) x outer hs).1 (close_level free f.outer ls l i z)) (sym n ∙ closes_same IsKept h l b u.0)
-          (subst (λ j. IsPushedAs IsKept base w (value_added (from_of h) x outer hs).0 (value_added (from_of h) x outer hs).1 (push_mark f.outer ls (entry j (built free l.bracket l.from l.inside)))) (sym (held_from h l u.0))
-          (value_pushes outer hs f.outer ls (from_of h) x (built free l.bracket l.from l.inside) (subst (λ z. EachPiece IsKept base w z f.outer) e2 k.0) u.1 (folds l u.0)))
+      here (l ∷ ls) u = subst (λ z. IsPushedAs IsKept base w new r (close_level free f.outer ls l i z)) (sym n ∙ closes_same IsKept h l b u.0)
+          (subst (λ j. IsPushedAs IsKept base w new r (push_mark f.outer ls (entry j (built free l.bracket l.from l.inside)))) (sym (held_from h l u.0))
+          (pushes base w (record { outer = f.outer; levels = ls }) (built free l.bracket l.from l.inside) (subst (λ z. EachPiece IsKept base w z f.outer) e2 k.0, u.1) (folds l u.0)))
 
   -- an opening bracket
   pub open_pushes : (old new : Shown X) (b : Bracket) (i : ℕ) (f : Form Tree) → new ≡ show_as old.outer (opened_as b i ∷ old.levels) → IsShown IsKept base w old f → IsPushedAs IsKept base w new None (push free f (opens b i))

@@ -8,12 +8,11 @@ use Rattle.at_lex.specs.declared.tokens.Token.{Token}
 use Rattle.at_lex.specs.declared.tokens.TokenKind.{TokenKind}
 use Rattle.at_lex.specs.declared.tokens.TokenKind.TheVariants as kinds
 use Rattle.at_nest.specs.declared.pieces.Halt.{Halt as CodeHalt}
-use Rattle.at_nest.specs.Tree.{Tree}
 use Rattle.at_nest.specs.Forms.{closes, mark, comma, colon}
 use Rattle.at_nest.specs.Levels.{further, first_mode, push_mark}
 use Rattle.at_nest.specs.Unions.{IsToken}
 use Rattle.at_nest.specs.Shown.{Shown, show_as, opened_as, comma_added, colon_added}
-use Rattle.at_nest.specs.Holding.{IsPushedAs, Pushes}
+use Rattle.at_nest.specs.Holding.{Content, IsPushedAs, Pushes}
 use Rattle.at_nest.specs.Reading.{ReadsToken}
 use Rattle.at_nest.proofs.Showing.{open_pushes, comma_pushes, colon_pushes}
 use Rattle.at_nest.proofs.JsonMachine.{eq_of_test}
@@ -28,7 +27,7 @@ text_of_lexed token t e (after, h) = (kind_is token t after kinds.Text e h).1
 pub run_of_lexed : (token : Token) (t : List ℕ) → token.kind ≡ kinds.Run → (after : List ℕ) × IsLexed token.from t after token → JsonRun t
 run_of_lexed token t e (after, h) = (kind_is token t after kinds.Run e h).1
 
-module _ {X : Type 0} (IsKept : X → Tree → Type 0) where
+module _ {X : Type 0} (IsKept : X → Content → Type 0) where
   pub lexed_open : (old new : Shown X) (b : Bracket) (t : List ℕ) (token : Token) → token.kind ≡ kinds.Opens b → new ≡ show_as old.outer (opened_as b token.from ∷ old.levels) → ReadsToken IsKept old new None t token
   lexed_open old new b t token e d base w f after h placed lexed =
       (further (record { outer = []; levels = record { bracket = b; from = token.from; inside = []; mode = first_mode b } ∷ [] }), open_ends token.from t after b (kind_is token t after (kinds.Opens b) e lexed), open_pushes IsKept base w old new b token.from f d h)

@@ -22,7 +22,7 @@ use Rattle.at_nest.specs.Forms.{Meaning, Piece, opens, closes, mark, Mark, quote
 use Rattle.at_nest.specs.Levels.{Form, Pushed, further, stopped, Halt, plain_halt, in_run, in_text, push, push_then, first_mode}
 use Rattle.at_nest.specs.Unions.{IsToken, no_token, a_run, a_text, Ends, merged, empty_form}
 use Rattle.at_nest.specs.Shown.{Shown}
-use Rattle.at_nest.specs.Holding.{free, IsShown, IsPushedAs, halt_of, PushesText}
+use Rattle.at_nest.specs.Holding.{Content, free, IsShown, IsPushedAs, halt_of, PushesText}
 use Rattle.at_nest.specs.Reading.{stop_within, within_from, Reads, ReadsToken, ReadsRun}
 use Rattle.at_nest.specs.Stops.{IsForm}
 use Rattle.at_nest.proofs.Longest.{string_runs}
@@ -149,11 +149,11 @@ then_further : (o : Pushed Tree) → push_then (λ k. further k) o ≡ o
 then_further (further k) = refl
 then_further (stopped k i) = refl
 
-pub one_mark : {X : Type 0} (IsKept : X → Tree → Type 0) (base : ℕ) (w : List ℕ) (new : Shown X) (r : Option CodeHalt) (f : Form Tree) (x : Mark Tree) → IsPushedAs IsKept base w new r (push free f (mark x))
+pub one_mark : {X : Type 0} (IsKept : X → Content → Type 0) (base : ℕ) (w : List ℕ) (new : Shown X) (r : Option CodeHalt) (f : Form Tree) (x : Mark Tree) → IsPushedAs IsKept base w new r (push free f (mark x))
     → IsPushedAs IsKept base w new r (merged free (further f) (further (record { outer = mark x ∷ []; levels = [] })))
 one_mark IsKept base w new r f x h = subst (IsPushedAs IsKept base w new r) (sym (then_further (push free f (mark x)))) h
 
-pub one_close : {X : Type 0} (IsKept : X → Tree → Type 0) (base : ℕ) (w : List ℕ) (new : Shown X) (r : Option CodeHalt) (f : Form Tree) (b : Bracket) (i : ℕ) → IsPushedAs IsKept base w new r (push free f (closes b i))
+pub one_close : {X : Type 0} (IsKept : X → Content → Type 0) (base : ℕ) (w : List ℕ) (new : Shown X) (r : Option CodeHalt) (f : Form Tree) (b : Bracket) (i : ℕ) → IsPushedAs IsKept base w new r (push free f (closes b i))
     → IsPushedAs IsKept base w new r (merged free (further f) (further (record { outer = closes b i ∷ []; levels = [] })))
 one_close IsKept base w new r f b i h = subst (IsPushedAs IsKept base w new r) (sym (then_further (push free f (closes b i)))) h
 
@@ -170,7 +170,7 @@ pub open_ends : (at : ℕ) (v more : List ℕ) (b : Bracket) → v ≡ opening b
 open_ends at v more b e = record { formed = one_formed at v (opens b at) (refl, e); levels = (refl, tt) }
 
 -- a stop in a token: what is kept stays
-pub stop_pushed : {X : Type 0} (IsKept : X → Tree → Type 0) (base : ℕ) (w : List ℕ) (s : Shown X) (h : CodeHalt) (f : Form Tree) (i : Halt) → IsShown IsKept base w s f → halt_of h ≡ i → IsPushedAs IsKept base w s (Some h) (merged free (further f) (stopped empty_form i))
+pub stop_pushed : {X : Type 0} (IsKept : X → Content → Type 0) (base : ℕ) (w : List ℕ) (s : Shown X) (h : CodeHalt) (f : Form Tree) (i : Halt) → IsShown IsKept base w s f → halt_of h ≡ i → IsPushedAs IsKept base w s (Some h) (merged free (further f) (stopped empty_form i))
 stop_pushed IsKept base w s h f i k e = (k, e)
 
 pub run_halt_is : (at n : ℕ) → halt_of (stop_within code.Run at n) ≡ run_halt at n
@@ -204,7 +204,7 @@ within_text : (v u : List ℕ) → v ≡ 0x22 ∷ u → within_from v ≡ code.T
 within_text v u e = ap within_from e
 
 -- a token that spells nothing
-pub broken_reads : {X : Type 0} (IsKept : X → Tree → Type 0) (s : Shown X) (v : List ℕ) (token : Token) (place : ℕ) → token.kind ≡ kinds.Broken place → ReadsToken IsKept s s (Some (stop_within (within_from v) token.from (place - token.from))) v token
+pub broken_reads : {X : Type 0} (IsKept : X → Content → Type 0) (s : Shown X) (v : List ℕ) (token : Token) (place : ℕ) → token.kind ≡ kinds.Broken place → ReadsToken IsKept s s (Some (stop_within (within_from v) token.from (place - token.from))) v token
 broken_reads IsKept s v token place e base w f after h placed lexed =
     let k = subst (IsKind token.from v after) e (subst (λ n. IsKind n v after token.kind) (sym lexed.0) lexed.2) in
     let n : ℕ = k.0 in
@@ -245,11 +245,11 @@ cut_is_run t more b u (no_token e c o f) q n = absurd (not_nil b u (sym q ∙ e)
 cut_is_run t more b u (a_run r k c d o e) q n = k
 cut_is_run t more b u (a_text z e c) q n = absurd (n (ap first (sym q ∙ e)))
 
-pub cut_stops_text : {X : Type 0} (IsKept : X → Tree → Type 0) (s : Shown X) (at : ℕ) (t : List ℕ) (n : ℕ) → IsText t → LongestViable JsonString t n → n < length t → Reads IsKept s s (Some (stop_within code.Text at n)) at t
+pub cut_stops_text : {X : Type 0} (IsKept : X → Content → Type 0) (s : Shown X) (at : ℕ) (t : List ℕ) (n : ℕ) → IsText t → LongestViable JsonString t n → n < length t → Reads IsKept s s (Some (stop_within code.Text at n)) at t
 cut_stops_text IsKept s at t n (u, q, c) longest below base w f more h placed token = let r = text_refused free at t more u n q c longest below in
     (stopped empty_form (record { kind = in_text; item = at; place = at + n }), reading_ends free at t more _ r.1, stop_pushed IsKept base w s (stop_within code.Text at n) f _ h (text_halt_is at n r.0))
 
-pub cut_reads_text : {X : Type 0} (IsKept : X → Tree → Type 0) (old new : Shown X) (r : Option CodeHalt) (at : ℕ) (t : List ℕ) → JsonString t → ((cs : List Character) → AreCharacters cs → t ≡ string_text cs → PushesText IsKept old new r (record { from = at; to = at + length t }) cs)
+pub cut_reads_text : {X : Type 0} (IsKept : X → Content → Type 0) (old new : Shown X) (r : Option CodeHalt) (at : ℕ) (t : List ℕ) → JsonString t → ((cs : List Character) → AreCharacters cs → t ≡ string_text cs → PushesText IsKept old new r (record { from = at; to = at + length t }) cs)
     → Reads IsKept old new r at t
 cut_reads_text IsKept old new r at t (cs, ok, e) pushes base w f more h (a, z, d, i) token = (
   further (record { outer = mark (quoted at cs) ∷ []; levels = [] }),
@@ -257,22 +257,22 @@ cut_reads_text IsKept old new r at t (cs, ok, e) pushes base w f more h (a, z, d
   one_mark IsKept base w new r f (quoted at cs) (pushes cs ok e base w f h (ok, a, z, d ∙ ap (λ v. a ++ (v ++ z)) e, i, ap (λ v. at + length v) e)),
 )
 
-pub cut_stops_run : {X : Type 0} (IsKept : X → Tree → Type 0) (s : Shown X) (at : ℕ) (t : List ℕ) (n : ℕ) → begins_run t ≡ true → ¬ (JsonRun t) → LongestViable JsonRun t n → Reads IsKept s s (Some (stop_within code.Run at n)) at t
+pub cut_stops_run : {X : Type 0} (IsKept : X → Content → Type 0) (s : Shown X) (at : ℕ) (t : List ℕ) (n : ℕ) → begins_run t ≡ true → ¬ (JsonRun t) → LongestViable JsonRun t n → Reads IsKept s s (Some (stop_within code.Run at n)) at t
 cut_stops_run IsKept s at t n k none_such longest base w f more h placed (no_token e b o q) = absurd (true≢false (sym k ∙ ap begins_run e))
 cut_stops_run IsKept s at t n k none_such longest base w f more h placed (a_text u e c) = absurd (true≢false (sym k ∙ ap begins_run e))
 cut_stops_run IsKept s at t n k none_such longest base w f more h placed (a_run are begins ends b o q) =
     (stopped empty_form (run_halt at n), reading_ends free at t more _ (run_refused free at t more b o n are begins q ends none_such longest), stop_pushed IsKept base w s (stop_within code.Run at n) f _ h (run_halt_is at n))
 
-pub cut_reads_run : {X : Type 0} (IsKept : X → Tree → Type 0) (old new : Shown X) (r : Option CodeHalt) (at : ℕ) (t : List ℕ) → JsonRun t → ReadsRun IsKept old new r at t → Reads IsKept old new r at t
+pub cut_reads_run : {X : Type 0} (IsKept : X → Content → Type 0) (old new : Shown X) (r : Option CodeHalt) (at : ℕ) (t : List ℕ) → JsonRun t → ReadsRun IsKept old new r at t → Reads IsKept old new r at t
 cut_reads_run IsKept old new r at t j pushes base w f more h placed token = let (y, spells, no_text, same) = run_tree at t j in
     (further (record { outer = mark (entry at y) ∷ []; levels = [] }), mark_ends at t more (entry at y) (refl, y, spells, no_text, same), one_mark IsKept base w new r f (entry at y) (pushes base w f y h spells))
 
-pub cut_nothing : {X : Type 0} (IsKept : X → Tree → Type 0) (s : Shown X) (at : ℕ) (t : List ℕ) → t ≡ [] → Reads IsKept s s None at t
+pub cut_nothing : {X : Type 0} (IsKept : X → Content → Type 0) (s : Shown X) (at : ℕ) (t : List ℕ) → t ≡ [] → Reads IsKept s s None at t
 cut_nothing IsKept s at t e base w f more h placed token = (further empty_form, subst (λ z. IsForm free at z empty_form) (sym e) (record { formed = tt; levels = tt }), h)
 
 -- ---- tokens of a piece
 
-pub lexed_text : {X : Type 0} (IsKept : X → Tree → Type 0) (old new : Shown X) (r : Option CodeHalt) (t : List ℕ) (token : Token) → JsonString t → ((cs : List Character) → AreCharacters cs → t ≡ string_text cs → PushesText IsKept old new r (record { from = token.from; to = token.from + length t }) cs)
+pub lexed_text : {X : Type 0} (IsKept : X → Content → Type 0) (old new : Shown X) (r : Option CodeHalt) (t : List ℕ) (token : Token) → JsonString t → ((cs : List Character) → AreCharacters cs → t ≡ string_text cs → PushesText IsKept old new r (record { from = token.from; to = token.from + length t }) cs)
     → ReadsToken IsKept old new r t token
 lexed_text IsKept old new r t token (cs, ok, e) pushes base w f after h (a, z, d, i) lexed = (
   further (record { outer = mark (quoted token.from cs) ∷ []; levels = [] }),
@@ -280,7 +280,7 @@ lexed_text IsKept old new r t token (cs, ok, e) pushes base w f after h (a, z, d
   one_mark IsKept base w new r f (quoted token.from cs) (pushes cs ok e base w f h (ok, a, z, d ∙ ap (λ v. a ++ (v ++ z)) e, i, ap (λ v. token.from + length v) e)),
 )
 
-pub lexed_run : {X : Type 0} (IsKept : X → Tree → Type 0) (old new : Shown X) (r : Option CodeHalt) (t : List ℕ) (token : Token) → JsonRun t → ReadsRun IsKept old new r token.from t → ReadsToken IsKept old new r t token
+pub lexed_run : {X : Type 0} (IsKept : X → Content → Type 0) (old new : Shown X) (r : Option CodeHalt) (t : List ℕ) (token : Token) → JsonRun t → ReadsRun IsKept old new r token.from t → ReadsToken IsKept old new r t token
 lexed_run IsKept old new r t token j pushes base w f after h placed lexed = let (y, spells, no_text, same) = run_tree token.from t j in
     (further (record { outer = mark (entry token.from y) ∷ []; levels = [] }), mark_ends token.from t after (entry token.from y) (refl, y, spells, no_text, same), one_mark IsKept base w new r f (entry token.from y) (pushes base w f y h spells))
 

@@ -10,7 +10,8 @@ use Rattle.at_nest.specs.Tree.{Tree, literal, number, text, array, object, Trees
 use Rattle.at_nest.specs.Syntax.{JsonText}
 use Rattle.at_nest.specs.Forms.{fold_of, folds_of, folds_of_members}
 use Rattle.at_nest.specs.Answers.{Answer, folded, syntax, ended, IsAnswer}
-use Rattle.at_nest.specs.Holding.{free, trees, tree_members}
+use Rattle.at_nest.specs.Folds.{trees}
+use Rattle.at_nest.specs.Holding.{Content, one, free, tree_members}
 use Rattle.at_nest.specs.Ending.{Answers}
 use Rattle.at_nest.proofs.JsonMachine.{accepted-JsonText}
 use Rattle.at_nest.proofs.Nexts.{Tells}
@@ -56,8 +57,8 @@ end_fault at w = sym (ap (λ b. if b then fault_at kinds.Syntax (at + length w) 
     never n = grind arith
 
 -- what a right answer tells
-pub told : {X : Type 0} (K : X → Tree → Type 0) (at : ℕ) (w : List ℕ) (a : Answer Tree) (r : Result X NestEnd) → IsAnswer free at w a → Tells K r a → Answers K at w r
-told K at w (folded t) (Ok x) (u, spells, same) k = (u, (spells, λ z other. one_tree at w u z spells other), subst (K x) (sym same ∙ fold_free u) k)
+pub told : {X : Type 0} (K : X → Content → Type 0) (at : ℕ) (w : List ℕ) (a : Answer Tree) (r : Result X NestEnd) → IsAnswer free at w a → Tells K r a → Answers K at w r
+told K at w (folded t) (Ok x) (u, spells, same) k = (u, (spells, λ z other. one_tree at w u z spells other), subst (λ z. K x (one z)) (sym same ∙ fold_free u) k)
 told K at w (syntax j) (Err (Syntax i)) (n, e, below, longest, none) k =
     record { no_word = λ h. none (text_moved at 0 w h); taken = n; longest = longest_moved 0 at w n longest; place = inside_fault at w i n (k ∙ e) below }
 told K at w ended (Err Ended) (longest, none) k =

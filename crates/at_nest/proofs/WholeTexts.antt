@@ -15,7 +15,7 @@ use Rattle.at_nest.specs.Unions.{IsToken, no_token, a_run, Ends, merged, empty_f
 use Rattle.at_nest.specs.Variants.{IsLeadEnd, IsPending, none_pending, run_pending}
 use Rattle.at_nest.specs.Answers.{finished}
 use Rattle.at_nest.specs.Shown.{Shown, show_as}
-use Rattle.at_nest.specs.Holding.{free, halt_of, IsShown, IsPushedAs, IsPartOf}
+use Rattle.at_nest.specs.Holding.{Content, IsOfItems, free, halt_of, IsShown, IsPushedAs, IsPartOf}
 use Rattle.at_nest.specs.Stands.{HoldsWhole, HoldsBroken, CanMeet, Meets}
 use Rattle.at_nest.specs.Nexts.{next_of, stop_of}
 use Rattle.at_nest.specs.Lasts.{EndsSo}
@@ -85,9 +85,9 @@ abbrev pub first_halt : Option CodeHalt → CodeHalt → CodeHalt
 first_halt None last = last
 first_halt (Some halt) last = halt
 
-module _ {X : Type 0} (K : X → Tree → Type 0) where
+module _ {X : Type 0} (K : X → Content → Type 0) where
   nothing_shown : (at : ℕ) (w : List ℕ) → IsShown K at w (show_as [] []) empty_form
-  nothing_shown at w = (tt, tt)
+  nothing_shown at w = (refl, tt)
 
   -- ---- the span is all lead
 
@@ -181,6 +181,17 @@ module _ {X : Type 0} (K : X → Tree → Type 0) where
           → (v x : List ℕ) → pend ≡ from + length (w.first ++ w.is_whole.middle) → EndsSo K new pend w.last result → Answers K from (part_of bytes from to) result
       by_form (further f) form kept all apart v x place ends = subst (λ z. Answers K from z result) (sym all) (ends from (w.first ++ w.is_whole.middle) f (subst (λ z. IsShown K from z new f) all kept) form apart place)
       by_form (stopped f y) form kept all apart v x place ends = absurd kept
+
+  -- what is kept then stands for items
+  pub items_whole : (bytes : List ℕ) (from to lead : ℕ) (old behind new : Shown X) (r : Option CodeHalt) (pend : ℕ) (end : Start) → from ≤ to → to ≤ length bytes → old ≡ show_as [] [] → HoldsWhole K Out from (part_of bytes from to) lead behind pend end
+      → Meets K bytes old behind new r from (take (lead - from) (drop from bytes)) → r ≡ None → IsOfItems K new
+  items_whole bytes from to lead old behind new r pend end h k n w meets none =
+      let m = met bytes from to lead old behind new r w.form w.first (w.is_whole.middle ++ w.last) h k n w.is_whole.split w.is_whole.lead w.lead_at w.is_shown w.is_whole.form.levels meets in
+      by_form (push_then (λ z. merged free (further z) (further w.form)) (merged free (further empty_form) m.0)) (subst (λ z. IsPushedAs K from (part_of bytes from to) new z (push_then (λ z. merged free (further z) (further w.form)) (merged free (further empty_form) m.0))) none m.2)
+    where
+      by_form : (o : Pushed Tree) → IsPushedAs K from (part_of bytes from to) new None o → IsOfItems K new
+      by_form (further f) kept = (from, part_of bytes from to, f, kept)
+      by_form (stopped f y) kept = absurd kept
 
   -- the lead stops, or an item behind it
   pub whole_stops : (bytes : List ℕ) (from to lead : ℕ) (old behind new : Shown X) (r : Option CodeHalt) (pend : ℕ) (end : Start) (halt : CodeHalt) → from ≤ to → to ≤ length bytes → old ≡ show_as [] [] → HoldsWhole K Out from (part_of bytes from to) lead behind pend end

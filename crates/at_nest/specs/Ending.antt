@@ -8,6 +8,7 @@ use Rattle.at_nest.specs.declared.finishing.NestEnd.{NestEnd}
 use Rattle.at_nest.specs.declared.finishing.NestEnd.TheVariants.{Syntax, Ended, Memory}
 use Rattle.at_nest.specs.Tree.{Tree, IsTextOf}
 use Rattle.at_nest.specs.Syntax.{JsonText}
+use Rattle.at_nest.specs.Holding.{Content, one}
 
 -- the bytes w, which stand at `at`, are no JSON text, and this is where their longest prefix that can become one ends: before a byte,
 -- or at their end. Want of memory says nothing of them
@@ -21,6 +22,6 @@ abbrev pub IsTheTree : ℕ → List ℕ → Tree → Type 0
 IsTheTree at w t = IsTextOf at w t × ((u : Tree) → IsTextOf at w u → u ≡ t)
 
 -- the value is what the algebra makes of the tree that the bytes spell, or this is the first fault
-abbrev pub Answers : {X : Type 0} → (X → Tree → Type 0) → ℕ → List ℕ → Result X NestEnd → Type 0
-Answers IsKept at w (Ok x) = (t : Tree) × IsTheTree at w t × IsKept x t
+abbrev pub Answers : {X : Type 0} → (X → Content → Type 0) → ℕ → List ℕ → Result X NestEnd → Type 0
+Answers IsKept at w (Ok x) = (t : Tree) × IsTheTree at w t × IsKept x (one t)
 Answers IsKept at w (Err end) = IsEnd at w end

@@ -12,11 +12,25 @@ use Rattle.at_nest.specs.Tree.{Tree, Spells, Trees, no_trees, tree_and, Members,
 abbrev pub IsScalarText : List ℕ → Type 0
 IsScalarText text = JsonString text ⊎ JsonRun text
 
+-- the trees of a list, as those of an array
+abbrev pub trees : List Tree → Trees
+trees [] = no_trees
+trees (t ∷ ts) = tree_and t (trees ts)
+
 -- one by one, the values stand for the trees
 abbrev pub AreFolds : {X : Type 0} → (X → Tree → Type 0) → List X → Trees → Type 0
 AreFolds IsFold [] no_trees = ⊤
 AreFolds IsFold (x ∷ xs) (tree_and t ts) = IsFold x t × AreFolds IsFold xs ts
 AreFolds IsFold _ _ = ⊥
+
+-- in an array the value stands for one tree, or for several one behind another
+abbrev pub Covers : {X : Type 0} → (X → Tree → Type 0) → (X → List Tree → Type 0) → X → List Tree → Type 0
+Covers IsFold IsRun x ts = ((t : Tree) × (ts ≡ t ∷ []) × IsFold x t) ⊎ IsRun x ts
+
+-- one behind another, the values stand for the trees, in order
+abbrev pub AreItemFolds : {X : Type 0} → (X → Tree → Type 0) → (X → List Tree → Type 0) → List X → List Tree → Type 0
+AreItemFolds IsFold IsRun [] ts = ts ≡ []
+AreItemFolds IsFold IsRun (x ∷ xs) ts = (us : List Tree) × (vs : List Tree) × (ts ≡ us ++ vs) × Covers IsFold IsRun x us × AreItemFolds IsFold IsRun xs vs
 
 -- one by one, the members have the names of the tree's members, by their code units, with the offsets of the names, and their values
 -- stand for the trees

@@ -1,6 +1,6 @@
 -- What the code keeps of a span's items, and the items that it stands for. The fold is that of the trees themselves, and each atom stands
 -- for its tree.
-use Rattle.std.specs.Prelude.{◌≡◌, ℕ, ◌+◌, Option, Some, None, List, [], ◌∷◌, ◌++◌, length}
+use Rattle.std.specs.Prelude.{◌≡◌, ℕ, ◌+◌, ◌⊎◌, Option, Some, None, List, [], ◌∷◌, ◌++◌, length}
 use Rattle.std.specs.Bool.{⊤}
 use Rattle.at_text.specs.declared.texts.Span.{Span}
 use Rattle.at_lex.specs.Strings.{Character, AreCharacters, string_text, units_of}
@@ -10,20 +10,19 @@ use Rattle.at_nest.specs.declared.levels.ArrayState.{ArrayState}
 use Rattle.at_nest.specs.declared.levels.ArrayState.TheVariants as array
 use Rattle.at_nest.specs.declared.levels.ObjectState.{ObjectState}
 use Rattle.at_nest.specs.declared.levels.ObjectState.TheVariants as object
+use Rattle.at_nest.specs.declared.levels.Step.{Step}
 use Rattle.at_nest.specs.declared.pieces.Piece.{Piece as CodePiece}
-use Rattle.at_nest.specs.declared.pieces.Piece.TheVariants.{Closes, Comma, Colon, Text, Value}
+use Rattle.at_nest.specs.declared.pieces.Piece.TheVariants.{Closes, Comma, Colon, Text, Value, Row as RowPiece}
+use Rattle.at_nest.specs.declared.pieces.Row.{Row}
 use Rattle.at_nest.specs.declared.pieces.Halt.{Halt as CodeHalt}
 use Rattle.at_nest.specs.declared.pieces.Within.{Within as CodeWithin}
 use Rattle.at_nest.specs.declared.pieces.Within.TheVariants.{First as FirstByte, Run as RunByte, Text as TextByte}
-use Rattle.at_nest.specs.Tree.{Tree, literal, number, text, array as array_tree, object as object_tree, Trees, no_trees, tree_and, Members, no_members, member_and}
+use Rattle.at_nest.specs.Tree.{Tree, literal, number, text, array as array_tree, object as object_tree, Members, no_members, member_and}
+use Rattle.at_nest.specs.Folds.{trees}
 use Rattle.at_nest.specs.Forms.{Meaning, Mark, Piece, closes, mark, comma, colon, quoted, entry}
-use Rattle.at_nest.specs.Levels.{Mode, at_items, at_value, at_after, at_members, at_name, at_colon, at_member, at_further, Level, Form, values_in, pairs_in, pieces_of, push, push_all, Within, at_first, in_run, in_text, Halt, Pushed, further, stopped}
+use Rattle.at_nest.specs.Levels.{Mode, at_items, at_value, at_after, at_members, at_name, at_colon, at_member, at_further, Level, Form, values_in, pairs_in, marks, pieces_of, push, push_all, Within, at_first, in_run, in_text, Halt, Pushed, further, stopped}
 use Rattle.at_nest.specs.Stops.{AreLevels}
-use Rattle.at_nest.specs.Shown.{Held, array_level, object_level, Shown}
-
-abbrev pub trees : List Tree → Trees
-trees [] = no_trees
-trees (t ∷ ts) = tree_and t (trees ts)
+use Rattle.at_nest.specs.Shown.{Held, array_level, object_level, Shown, Added, IsStep, value_next, kept_outside, put_back}
 
 abbrev pub tree_members : List (List Character × ℕ × Tree) → Members
 tree_members [] = no_members
@@ -33,9 +32,15 @@ tree_members (p ∷ ps) = member_and p.0 p.1 p.2 (tree_members ps)
 abbrev pub free : Meaning Tree
 free = record { of_literal = literal; of_number = number; of_text = text; of_array = λ i ts. array_tree i (trees ts); of_object = λ i ps. object_tree i (tree_members ps) }
 
--- an atom of the algebra's own that is what it makes of the tree
-abbrev pub Kept : {X : Type 0} → (X → Type 0) → (X → Tree → Type 0) → X → Tree → Type 0
-Kept IsOwn IsFold x t = IsOwn x × IsFold x t
+-- what an atom may stand for: a tree, or several trees one behind another in an array
+pub data Content : Type 0 where
+  one : Tree → Content
+  run : List Tree → Content
+
+-- an atom of the algebra's own that is what it makes of the tree, or of the trees
+abbrev pub Kept : {X : Type 0} → (X → Type 0) → (X → Tree → Type 0) → (X → List Tree → Type 0) → X → Content → Type 0
+Kept IsOwn IsFold IsRun x (one t) = IsOwn x × IsFold x t
+Kept IsOwn IsFold IsRun x (run ts) = IsOwn x × IsRun x ts
 
 abbrev pub array_mode : ArrayState → Mode
 array_mode array.Empty = at_items
@@ -58,6 +63,15 @@ pending_in None (quoted i cs ∷ xs) = pending_in (Some (cs, i)) xs
 pending_in (Some p) (quoted i cs ∷ xs) = pending_in None xs
 pending_in o (entry i x ∷ xs) = pending_in None xs
 
+-- values one behind another, each behind a comma, with the offsets of both
+abbrev pub row_marks : List (ℕ × ℕ × Tree) → List (Mark Tree)
+row_marks [] = []
+row_marks (e ∷ es) = comma e.0 ∷ entry e.1 e.2 ∷ row_marks es
+
+abbrev pub row_trees : List (ℕ × ℕ × Tree) → List Tree
+row_trees [] = []
+row_trees (e ∷ es) = e.2 ∷ row_trees es
+
 -- in the bytes w, which stand at `at`, the string stands where the span says
 abbrev pub IsTextAt : ℕ → List ℕ → Span → List Character → Type 0
 IsTextAt at w span cs = AreCharacters cs × (a z : List ℕ) × (w ≡ a ++ (string_text cs ++ z)) × (span.from ≡ at + length a) × (span.to ≡ span.from + length (string_text cs))
@@ -74,16 +88,23 @@ halt_of h = record { kind = within_of h.within; item = h.item; place = h.place }
 abbrev pub IsPartOf : List ℕ → ℕ → List ℕ → Type 0
 IsPartOf bytes base w = (y z : List ℕ) × (bytes ≡ y ++ (w ++ z)) × (base ≡ length y)
 
-module _ {X : Type 0} (IsKept : X → Tree → Type 0) where
-  -- one by one, the atoms stand for the trees
+module _ {X : Type 0} (IsKept : X → Content → Type 0) where
+  -- in an array the atom stands for one tree, or for several one behind another
+  abbrev pub Holds : X → List Tree → Type 0
+  Holds x ts = ((t : Tree) × (ts ≡ t ∷ []) × IsKept x (one t)) ⊎ IsKept x (run ts)
+
+  -- one behind another, the atoms stand for the trees, in order
   abbrev pub Each : List X → List Tree → Type 0
-  Each [] [] = ⊤
-  Each (x ∷ xs) (t ∷ ts) = IsKept x t × Each xs ts
-  Each _ _ = ⊥
+  Each [] ts = ts ≡ []
+  Each (x ∷ xs) ts = (us : List Tree) × (vs : List Tree) × (ts ≡ us ++ vs) × Holds x us × Each xs vs
+
+  -- an atom was put behind the others
+  abbrev pub Gains : List X → X → List X → Type 0
+  Gains xs x ys = (ts : List Tree) (us : List Tree) → Each xs ts → Holds x us → Each ys (ts ++ us)
 
   abbrev pub EachMember : List (Member X) → List (List Character × ℕ × Tree) → Type 0
   EachMember [] [] = ⊤
-  EachMember (m ∷ ms) (p ∷ ps) = (m.name ≡ units_of p.0) × (m.name_at ≡ p.1) × IsKept m.value p.2 × EachMember ms ps
+  EachMember (m ∷ ms) (p ∷ ps) = (m.name ≡ units_of p.0) × (m.name_at ≡ p.1) × IsKept m.value (one p.2) × EachMember ms ps
   EachMember _ _ = ⊥
 
   -- the name that is kept is the one that has no value yet
@@ -108,14 +129,28 @@ module _ {X : Type 0} (IsKept : X → Tree → Type 0) where
   IsHeldPiece at w (Closes b i) (closes c j) = (b ≡ c) × (i ≡ j)
   IsHeldPiece at w (Comma i) (mark (comma j)) = i ≡ j
   IsHeldPiece at w (Colon i) (mark (colon j)) = i ≡ j
-  IsHeldPiece at w (Text span x) (mark (quoted j cs)) = (span.from ≡ j) × IsTextAt at w span cs × IsKept x (text j cs)
-  IsHeldPiece at w (Value i x) (mark (entry j t)) = (i ≡ j) × IsKept x t
+  IsHeldPiece at w (Text span x) (mark (quoted j cs)) = (span.from ≡ j) × IsTextAt at w span cs × IsKept x (one (text j cs))
+  IsHeldPiece at w (Value i x) (mark (entry j t)) = (i ≡ j) × IsKept x (one t)
   IsHeldPiece at w _ _ = ⊥
 
+  -- the row is of at least one value
+  pub record IsRow (r : Row X) (ps : List (Piece Tree)) : Type 0 where
+    pub tree : Tree
+    pub others : List (ℕ × ℕ × Tree)
+    pub split : ps ≡ marks (row_marks ((r.comma, r.first, tree) ∷ others))
+    pub items : Each r.items.items (tree ∷ row_trees others)
+
+  abbrev pub AreRow : CodePiece X → List (Piece Tree) → Type 0
+  AreRow (RowPiece r) ps = IsRow r ps
+  AreRow _ ps = ⊥
+
+  -- what is kept of one item, or of a row
+  abbrev pub ArePieces : ℕ → List ℕ → CodePiece X → List (Piece Tree) → Type 0
+  ArePieces at w c ps = ((p : Piece Tree) × (ps ≡ p ∷ []) × IsHeldPiece at w c p) ⊎ AreRow c ps
+
   abbrev pub EachPiece : ℕ → List ℕ → List (CodePiece X) → List (Piece Tree) → Type 0
-  EachPiece at w [] [] = ⊤
-  EachPiece at w (c ∷ cs) (p ∷ ps) = IsHeldPiece at w c p × EachPiece at w cs ps
-  EachPiece at w _ _ = ⊥
+  EachPiece at w [] ps = ps ≡ []
+  EachPiece at w (c ∷ cs) ps = (us : List (Piece Tree)) × (vs : List (Piece Tree)) × (ps ≡ us ++ vs) × ArePieces at w c us × EachPiece at w cs vs
 
   abbrev pub IsShown : ℕ → List ℕ → Shown X → Form Tree → Type 0
   IsShown at w s f = EachPiece at w s.outer f.outer × EachHeld s.levels f.levels
@@ -130,6 +165,48 @@ module _ {X : Type 0} (IsKept : X → Tree → Type 0) where
   abbrev pub IsOfItems : Shown X → Type 0
   IsOfItems s = (base : ℕ) × (w : List ℕ) × (f : Form Tree) × IsShown base w s f
 
+  -- an array's atoms, where the value is put into one
+  abbrev pub GainsIn : Held X → X → List X → Type 0
+  GainsIn (array_level i s xs) x ys = Gains xs x ys
+  GainsIn (object_level i s ms) x ys = ⊤
+
+  -- the level behind a value, which has become the atom, or the level as it was
+  abbrev pub AddsTo : Held X → X → Step X → Type 0
+  AddsTo old x step = (ys : List X) × GainsIn old x ys × IsStep old (value_next old x ys) step
+
+  -- what is kept behind a value that is no string, and where the span stops
+  abbrev pub PushesValue : Shown X → Shown X → Option CodeHalt → ℕ → X → Type 0
+  PushesValue old new r i x = (base : ℕ) (w : List ℕ) (f : Form Tree) (t : Tree) → IsShown base w old f → IsKept x (one t) → IsPushedAs base w new r (push free f (mark (entry i t)))
+
+  -- what is kept behind a comma and a value that is no string
+  abbrev pub PushesBehind : Shown X → Shown X → Option CodeHalt → ℕ → ℕ → X → Type 0
+  PushesBehind old new r c i x = (base : ℕ) (w : List ℕ) (f : Form Tree) (t : Tree) → IsShown base w old f → IsKept x (one t) → IsPushedAs base w new r (push_all free (mark (comma c) ∷ mark (entry i t) ∷ []) f)
+
+  -- in place of the row, one with a value more, before the first open level
+  abbrev pub LongerRow : Row X → Row X → X → Type 0
+  LongerRow r s x = (s.comma ≡ r.comma) × (s.first ≡ r.first) × Gains r.items.items x s.items.items
+
+  abbrev pub Lengthens : Shown X → Added X → Row X → X → Type 0
+  Lengthens old a r x = (s : Row X) × LongerRow r s x × (a ≡ kept_outside old.outer (RowPiece s))
+
+  -- what is kept behind a row of values
+  abbrev pub PushesRow : Shown X → Shown X → Option CodeHalt → Row X → Type 0
+  PushesRow old new r row = (base : ℕ) (w : List ℕ) (f : Form Tree) (ps : List (Piece Tree)) → IsShown base w old f → IsRow row ps → IsPushedAs base w new r (push_all free ps f)
+
+  -- atoms were put behind the others, one by one
+  abbrev pub GainsAll : List X → List X → List X → Type 0
+  GainsAll xs zs ys = (ts : List Tree) (us : List Tree) → Each xs ts → Each zs us → Each ys (ts ++ us)
+
+  -- the level behind a row whose first comma has been read: an object takes no value there
+  abbrev pub IsRowNext : Held X → List X → Option (Held X) → Type 0
+  IsRowNext (array_level i s xs) zs (Some h) = (ys : List X) × (h ≡ array_level i array.Value ys) × GainsAll xs zs ys
+  IsRowNext (object_level i s ms) zs None = ⊤
+  IsRowNext _ zs o = ⊥
+
+  -- the level is put back behind a row whose first comma has been read
+  abbrev pub PutsRow : Shown X → Added X → Held X → Row X → Type 0
+  PutsRow old a h row = (o : Option (Held X)) × IsRowNext h row.items.items o × (a ≡ put_back old.outer old.levels row.first h o)
+
   -- what is kept behind the item, and where the span stops
   abbrev pub Pushes : Shown X → Shown X → Option CodeHalt → Piece Tree → Type 0
   Pushes old new r p = (base : ℕ) (w : List ℕ) (f : Form Tree) → IsShown base w old f → IsPushedAs base w new r (push free f p)
@@ -139,10 +216,10 @@ module _ {X : Type 0} (IsKept : X → Tree → Type 0) where
 
   -- the item may be put behind what is kept: both stand for items of the bytes
   abbrev pub CanAdd : List ℕ → Shown X → CodePiece X → Type 0
-  CanAdd bytes s c = (base : ℕ) × (w : List ℕ) × (f : Form Tree) × (p : Piece Tree) × IsPartOf bytes base w × IsShown base w s f × IsHeldPiece base w c p
+  CanAdd bytes s c = (base : ℕ) × (w : List ℕ) × (f : Form Tree) × (ps : List (Piece Tree)) × IsPartOf bytes base w × IsShown base w s f × ArePieces base w c ps
 
   abbrev pub Adds : List ℕ → Shown X → CodePiece X → Shown X → Option CodeHalt → Type 0
-  Adds bytes old c new r = (base : ℕ) (w : List ℕ) (f : Form Tree) (p : Piece Tree) → IsPartOf bytes base w → IsShown base w old f → IsHeldPiece base w c p → IsPushedAs base w new r (push free f p)
+  Adds bytes old c new r = (base : ℕ) (w : List ℕ) (f : Form Tree) (ps : List (Piece Tree)) → IsPartOf bytes base w → IsShown base w old f → ArePieces base w c ps → IsPushedAs base w new r (push_all free ps f)
 
   abbrev pub CanJoin : List ℕ → Shown X → Shown X → Type 0
   CanJoin bytes s t = (base : ℕ) × (w : List ℕ) × (f : Form Tree) × (g : Form Tree) × IsPartOf bytes base w × IsShown base w s f × IsShown base w t g
@@ -155,7 +232,7 @@ module _ {X : Type 0} (IsKept : X → Tree → Type 0) where
   CopiesItems xs ys = (ts : List Tree) → Each xs ts → Each ys ts
 
   abbrev pub CopiesMember : Member X → Member X → Type 0
-  CopiesMember m n = (n.name ≡ m.name) × (n.name_at ≡ m.name_at) × ((t : Tree) → IsKept m.value t → IsKept n.value t)
+  CopiesMember m n = (n.name ≡ m.name) × (n.name_at ≡ m.name_at) × ((t : Tree) → IsKept m.value (one t) → IsKept n.value (one t))
 
   abbrev pub CopiesMembers : List (Member X) → List (Member X) → Type 0
   CopiesMembers ms ns = (ps : List (List Character × ℕ × Tree)) → EachMember ms ps → EachMember ns ps
@@ -167,7 +244,7 @@ module _ {X : Type 0} (IsKept : X → Tree → Type 0) where
   CopiesLevels hs ks = (ls : List (Level Tree)) → EachHeld hs ls → EachHeld ks ls
 
   abbrev pub CopiesPiece : CodePiece X → CodePiece X → Type 0
-  CopiesPiece c d = (base : ℕ) (w : List ℕ) (p : Piece Tree) → IsHeldPiece base w c p → IsHeldPiece base w d p
+  CopiesPiece c d = (base : ℕ) (w : List ℕ) (ps : List (Piece Tree)) → ArePieces base w c ps → ArePieces base w d ps
 
   abbrev pub CopiesPieces : List (CodePiece X) → List (CodePiece X) → Type 0
   CopiesPieces cs ds = (base : ℕ) (w : List ℕ) (ps : List (Piece Tree)) → EachPiece base w cs ps → EachPiece base w ds ps

@@ -15,7 +15,7 @@ use Rattle.at_nest.specs.Levels.{Form}
 use Rattle.at_nest.specs.Stops.{IsForm, IsStop}
 use Rattle.at_nest.specs.Unions.{empty_form}
 use Rattle.at_nest.specs.Shown.{Shown}
-use Rattle.at_nest.specs.Holding.{free, halt_of, IsShown}
+use Rattle.at_nest.specs.Holding.{Content, free, halt_of, IsShown}
 use Rattle.at_nest.specs.Ending.{Answers}
 
 -- the first byte is a quote
@@ -37,6 +37,6 @@ IsTail at w (Stops h) = IsStop free at w empty_form (halt_of h)
 IsTail at w (Open within) = IsOpen within w
 
 -- behind the items that are kept, the text ends in the bytes v, which stand at `from`
-abbrev pub EndsSo : {X : Type 0} → (X → Tree → Type 0) → Shown X → ℕ → List ℕ → Result X NestEnd → Type 0
+abbrev pub EndsSo : {X : Type 0} → (X → Content → Type 0) → Shown X → ℕ → List ℕ → Result X NestEnd → Type 0
 EndsSo IsKept s from v result = (at : ℕ) (x : List ℕ) (f : Form Tree) → IsShown IsKept at (x ++ v) s f → IsForm free at x f → are_apart x v ≡ true → from ≡ at + length x
     → Answers IsKept at (x ++ v) result

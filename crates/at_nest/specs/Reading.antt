@@ -12,7 +12,7 @@ use Rattle.at_nest.specs.Borders.{ends_run}
 use Rattle.at_nest.specs.Forms.{mark, entry}
 use Rattle.at_nest.specs.Levels.{Form, Pushed, further, push}
 use Rattle.at_nest.specs.Shown.{Shown, stop_at}
-use Rattle.at_nest.specs.Holding.{free, IsShown, IsPushedAs}
+use Rattle.at_nest.specs.Holding.{Content, free, IsShown, IsPushedAs}
 use Rattle.at_nest.specs.Unions.{IsToken, Ends, merged}
 
 -- the bytes v stand at the offset `at`, in bytes w that stand at `base`
@@ -39,7 +39,7 @@ abbrev pub within_from : List ℕ → Within
 within_from [] = Run
 within_from (b ∷ w) = if b == 0x22 then Text else Run
 
-module _ {X : Type 0} (IsKept : X → Tree → Type 0) where
+module _ {X : Type 0} (IsKept : X → Content → Type 0) where
   -- a token that was cut: what its reading pushes
   abbrev pub Reads : Shown X → Shown X → Option Halt → ℕ → List ℕ → Type 0
   Reads old new r at v = (base : ℕ) (w : List ℕ) (f : Form Tree) (more : List ℕ) → IsShown IsKept base w old f → IsPlaced base w at v → IsToken v more

@@ -14,7 +14,7 @@ use Rattle.at_nest.specs.declared.levels.Level.TheVariants.{Array, Object}
 use Rattle.at_nest.specs.declared.levels.Step.{Step}
 use Rattle.at_nest.specs.declared.levels.Step.TheVariants.{On, Refused}
 use Rattle.at_nest.specs.declared.pieces.Piece.{Piece}
-use Rattle.at_nest.specs.declared.pieces.Piece.TheVariants.{Closes, Comma, Colon, Text, Value}
+use Rattle.at_nest.specs.declared.pieces.Piece.TheVariants.{Closes, Comma, Colon, Text, Value, Row as RowPiece}
 use Rattle.at_nest.specs.declared.pieces.Halt.{Halt}
 use Rattle.at_nest.specs.declared.pieces.Within.TheVariants.{First}
 use Rattle.at_nest.specs.declared.bodies.Body.{Body}
@@ -46,11 +46,12 @@ abbrev pub colon_next : {X : Type 0} → Held X → Option (Held X)
 colon_next (object_level i (object.Named n) ms) = Some (object_level i (object.Colon n) ms)
 colon_next _ = None
 
-abbrev pub value_next : {X : Type 0} → Held X → X → Option (Held X)
-value_next (array_level i array.Empty xs) x = Some (array_level i array.Value (xs ++ x ∷ []))
-value_next (array_level i array.Comma xs) x = Some (array_level i array.Value (xs ++ x ∷ []))
-value_next (object_level i (object.Colon n) ms) x = Some (object_level i object.Value (ms ++ record { name = n.units; name_at = n.at; value = x } ∷ []))
-value_next _ x = None
+-- an array's atoms are ys then
+abbrev pub value_next : {X : Type 0} → Held X → X → List X → Option (Held X)
+value_next (array_level i array.Empty xs) x ys = Some (array_level i array.Value ys)
+value_next (array_level i array.Comma xs) x ys = Some (array_level i array.Value ys)
+value_next (object_level i (object.Colon n) ms) x ys = Some (object_level i object.Value (ms ++ record { name = n.units; name_at = n.at; value = x } ∷ []))
+value_next _ x ys = None
 
 abbrev pub name_next : {X : Type 0} → Held X → MemberName → Option (Held X)
 name_next (object_level i object.Empty ms) n = Some (object_level i (object.Named n) ms)
@@ -123,16 +124,13 @@ abbrev pub colon_added : {X : Type 0} → ℕ → List (Piece X) → List (Held 
 colon_added i outer [] = kept_outside outer (Colon i)
 colon_added i outer (h ∷ hs) = put_back outer hs i h (colon_next h)
 
-abbrev pub value_added : {X : Type 0} → ℕ → X → List (Piece X) → List (Held X) → Added X
-value_added i x outer [] = kept_outside outer (Value i x)
-value_added i x outer (h ∷ hs) = put_back outer hs i h (value_next h x)
-
 abbrev pub first_of_piece : {X : Type 0} → Piece X → ℕ
 first_of_piece (Closes b i) = i
 first_of_piece (Comma i) = i
 first_of_piece (Colon i) = i
 first_of_piece (Text span x) = span.from
 first_of_piece (Value i x) = i
+first_of_piece (RowPiece r) = r.comma
 
 abbrev pub is_value_piece : {X : Type 0} → Piece X → Bool
 is_value_piece (Text span x) = true
@@ -144,6 +142,7 @@ module _ {X : Type 0} (IsOwn : X → Type 0) where
   abbrev pub OwnPiece : Piece X → Type 0
   OwnPiece (Text span x) = IsOwn x
   OwnPiece (Value i x) = IsOwn x
+  OwnPiece (RowPiece r) = All IsOwn r.items.items
   OwnPiece _ = ⊤
 
 -- each level's atoms are the algebra's own

@@ -9,8 +9,7 @@ use Rattle.at_nest.specs.declared.fragments.Slot.{Slot}
 use Rattle.at_nest.specs.declared.fragments.Slot.TheVariants as slot
 use Rattle.at_nest.specs.declared.variants.Variant.{Variant}
 use Rattle.at_nest.specs.declared.variants.Variant.TheVariants.{AllLead, Whole, Broken}
-use Rattle.at_nest.specs.Tree.{Tree}
-use Rattle.at_nest.specs.Holding.{IsPartOf}
+use Rattle.at_nest.specs.Holding.{Content, IsPartOf}
 use Rattle.at_nest.specs.Stands.{HoldsVariant, HaveUnion}
 use Rattle.at_nest.specs.Standing.{HoldsEscape, HoldsParts}
 
@@ -50,7 +49,7 @@ variant_in parts slot.Escape = own_variant parts.escape
 abbrev pub Stays : {X : Type 0} → Option Slot → Bool → Parts X → Parts X → Type 0
 Stays wanted again old new = (q : Slot) → (wanted ≡ Some q → again ≡ true) → variant_in new q ≡ variant_in old q
 
-module _ {X : Type 0} (IsKept : X → Tree → Type 0) where
+module _ {X : Type 0} (IsKept : X → Content → Type 0) where
   -- the second variant stands for all that the first stands for
   abbrev pub StandsAs : Variant X → Variant X → Type 0
   StandsAs first second = (s : Start) (at : ℕ) (w : List ℕ) → HoldsVariant IsKept s at w first → HoldsVariant IsKept s at w second

@@ -7,14 +7,14 @@ use Rattle.at_nest.specs.declared.fragments.Escape.{Escape}
 use Rattle.at_nest.specs.declared.fragments.Escape.TheVariants.{AsString, Own}
 use Rattle.at_nest.specs.declared.fragments.Parts.{Parts}
 use Rattle.at_nest.specs.declared.fragments.Fragment.{Fragment}
-use Rattle.at_nest.specs.Tree.{Tree}
 use Rattle.at_nest.specs.Stands.{HoldsVariant}
+use Rattle.at_nest.specs.Holding.{Content}
 
 abbrev pub parts_in : {X : Type 0} → Option (Box (Parts X) Global) → Option (Parts X)
 parts_in None = None
 parts_in (Some b) = Some b.value
 
-module _ {X : Type 0} (IsKept : X → Tree → Type 0) where
+module _ {X : Type 0} (IsKept : X → Content → Type 0) where
   -- what the bytes are where the first of them is escaped; where it is no quote and no backslash, that is as in a string
   abbrev pub HoldsEscape : ℕ → List ℕ → Escape X → Type 0
   HoldsEscape at w AsString = (b : ℕ) × (o : List ℕ) × (w ≡ b ∷ o) × (b ≢ 0x22) × (b ≢ 0x5C)
@@ -36,5 +36,5 @@ module _ {A X : Type 0} where
   abbrev pub parts_of : Fragment A X → Option (Parts X)
   parts_of f = parts_in f.parts
 
-  abbrev pub StandsFor : (X → Tree → Type 0) → ℕ → List ℕ → Fragment A X → Type 0
+  abbrev pub StandsFor : (X → Content → Type 0) → ℕ → List ℕ → Fragment A X → Type 0
   StandsFor IsKept at w f = HoldsSome IsKept at w (parts_of f)

@@ -11,10 +11,10 @@ use Rattle.at_nest.specs.Stops.{AreLevels}
 use Rattle.at_nest.specs.Unions.{IsToken, Ends, merged}
 use Rattle.at_nest.specs.Variants.{IsAllLead, IsLeadEnd, IsWhole, IsBroken}
 use Rattle.at_nest.specs.Shown.{Shown, shown}
-use Rattle.at_nest.specs.Holding.{free, IsShown, IsPushedAs, IsPartOf, halt_of}
+use Rattle.at_nest.specs.Holding.{Content, free, IsShown, IsPushedAs, IsPartOf, halt_of}
 use Rattle.at_nest.specs.Reading.{IsPlaced}
 
-module _ {X : Type 0} (IsKept : X → Tree → Type 0) where
+module _ {X : Type 0} (IsKept : X → Content → Type 0) where
   -- the bytes w, which stand at `at`, are a lead, the items that are kept, and what may go on
   pub record HoldsWhole (s : Start) (at : ℕ) (w : List ℕ) (lead : ℕ) (kept : Shown X) (pend : ℕ) (end : Start) : Type 0 where
     pub first : List ℕ

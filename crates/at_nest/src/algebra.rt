@@ -1,8 +1,8 @@
 //! What is made of a JSON tree, from the leaves up.
 
-ghost use Rattle.std.specs.Prelude.{◌+◌, ◌≤◌, ◌^◌, length, All, IfOk};
-ghost use Rattle.at_nest.specs.Tree.{Tree, Trees, Members, Spells, array as array_tree, object as object_tree};
-ghost use Rattle.at_nest.specs.Folds.{IsScalarText, AreFolds, AreMemberFolds, IsAttempt};
+ghost use Rattle.std.specs.Prelude.{◌+◌, ◌++◌, ◌≤◌, ◌^◌, List, length, All, IfOk};
+ghost use Rattle.at_nest.specs.Tree.{Tree, Members, Spells, array as array_tree, object as object_tree};
+ghost use Rattle.at_nest.specs.Folds.{IsScalarText, trees, Covers, AreItemFolds, AreMemberFolds, IsAttempt};
 
 use at_lex::Units;
 use at_text::Memory;
@@ -38,6 +38,9 @@ pub trait Algebra: Sync {
     /// The atom is what the algebra makes of the tree.
     ghost is_fold: { Self → Self.Atom → Tree → Type 0 };
 
+    /// The atom stands for these trees, one behind another in an array. Only `add` makes such atoms.
+    ghost is_run: { Self → Self.Atom → List Tree → Type 0 };
+
     /// The atom of a whole string, literal or number, which begins at the offset. The one refusal is want of memory.
     fn scalar(&self, alloc: Global, text: &[u8], at: u32) -> Result<Self::Atom, Memory>
         requires whole { IsScalarText text.now }
@@ -45,12 +48,33 @@ pub trait Algebra: Sync {
         ensures own { IfOk result (is_own self.now) }
         ensures fold { IfOk result (λ atom. (t : Tree) → Spells at text.now t → is_fold self.now atom t) };
 
+    /// Puts an atom behind those of an array's items. An algebra may let one atom stand for several items. The one
+    /// refusal is want of memory.
+    fn add(
+        &self,
+        _alloc: Global,
+        items: &mut Vec<Self::Atom>,
+        atom: Self::Atom,
+    ) -> Result<(), Memory>
+        requires items { All (is_own self.now) items.old.items }
+        requires atom { is_own self.now atom }
+        ensures own { IfOk result (λ u. All (is_own self.now) items.new.items) }
+        ensures fold { IfOk result (λ u. (ts : List Tree) (us : List Tree)
+            → AreItemFolds (is_fold self.now) (is_run self.now) items.old.items ts
+            → Covers (is_fold self.now) (is_run self.now) atom us
+            → AreItemFolds (is_fold self.now) (is_run self.now) items.new.items (ts ++ us)) }
+    {
+        items.push(atom)?;
+        Ok(())
+    }
+
     /// The atom of an array, which begins at the offset, from those of its items. The one refusal is want of memory.
     fn array(&self, alloc: Global, at: u32, items: Vec<Self::Atom>) -> Result<Self::Atom, Memory>
         requires { All (is_own self.now) items.items }
         ensures own { IfOk result (is_own self.now) }
-        ensures fold { IfOk result (λ atom. (ts : Trees) → AreFolds (is_fold self.now) items.items ts
-            → is_fold self.now atom (array_tree at ts)) };
+        ensures fold { IfOk result (λ atom. (ts : List Tree)
+            → AreItemFolds (is_fold self.now) (is_run self.now) items.items ts
+            → is_fold self.now atom (array_tree at (trees ts))) };
 
     /// The atom of an object, which begins at the offset, from its members. The one refusal is want of memory.
     fn object(
@@ -81,5 +105,6 @@ pub trait Algebra: Sync {
     fn copy(&self, alloc: Global, atom: &Self::Atom) -> Result<Self::Atom, Memory>
         requires { is_own self.now atom.now }
         ensures own { IfOk result (is_own self.now) }
-        ensures fold { IfOk result (λ copied. (t : Tree) → is_fold self.now atom.now t → is_fold self.now copied t) };
+        ensures fold { IfOk result (λ copied. (t : Tree) → is_fold self.now atom.now t → is_fold self.now copied t) }
+        ensures run { IfOk result (λ copied. (ts : List Tree) → is_run self.now atom.now ts → is_run self.now copied ts) };
 }

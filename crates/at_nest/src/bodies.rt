@@ -1,14 +1,16 @@
 //! The whole items of a span behind its lead: those before its first open level, and the open levels.
 
-ghost use Rattle.std.specs.Prelude.{◌≡◌, ℕ, ◌+◌, ◌≤◌, ◌^◌, List, [], ◌∷◌, length, Option, IfOk, MatchOption};
+ghost use Rattle.std.specs.Prelude.{◌≡◌, ℕ, ◌+◌, ◌≤◌, ◌^◌, List, [], ◌∷◌, length, Option, All, IfOk, MatchOption};
 ghost use Rattle.at_lex.specs.Strings.{JsonString, Character, AreCharacters, string_text};
 ghost use Rattle.at_nest.specs.Forms.{closes as closing_piece};
-ghost use Rattle.at_nest.specs.Shown.{Held, held_of, shown, opened_as, show_as, kept_outside, put_back, comma_added, colon_added, value_added, IsStep};
-ghost use Rattle.at_nest.specs.Holding.{Kept, IsOfItems, Pushes, PushesText, CanAdd, Adds, CanJoin, Joins};
+ghost use Rattle.at_nest.specs.Shown.{Held, held_of, AreOwn, shown, opened_as, show_as, kept_outside, put_back, comma_added, colon_added, IsStep};
+ghost use Rattle.at_nest.specs.Holding.{Kept, IsOfItems, Pushes, PushesText, PushesValue, PushesBehind, PushesRow, Lengthens, PutsRow, CanAdd, Adds, CanJoin, Joins};
 
 use crate::algebra::Algebra;
-use crate::levels::{Level, MemberName, Step, closed};
-use crate::pieces::{Halt, Piece, first_byte};
+use crate::levels::{
+    ArrayLevel, ArrayState, Level, MemberName, Step, array, closed, with_items, with_value,
+};
+use crate::pieces::{Halt, Piece, Row, first_byte};
 use at_lex::{Bracket, units};
 use at_text::{Memory, Span};
 use std::alloc::Global;
@@ -108,17 +110,125 @@ impl<T: Drop> Body<T> {
             Some(level) => self.put(level.colon(), at),
         }
     }
+}
 
-    /// A value that is no string.
-    #[inline(always)]
-    pub fn value(&mut self, from: u32, atom: T) -> Result<Option<Halt>, Memory>
-        ensures { IfOk result (λ r. (shown self.new, r)
-            ≡ value_added from atom (shown self.old).outer (shown self.old).levels) }
-    {
-        match self.innermost() {
-            None => self.keep(Piece::Value { from, atom }),
-            Some(level) => self.put(level.value(atom)?, from),
+/// The first value of a row.
+fn begin_row<A: Algebra>(
+    body: &mut Body<A::Atom>,
+    alloc: Global,
+    algebra: &A,
+    comma: u32,
+    from: u32,
+    atom: A::Atom,
+) -> Result<Option<Halt>, Memory>
+    requires outside { (shown body.old).levels ≡ [] }
+    requires own { A.is_own algebra.now atom }
+    ensures { IfOk result (λ r. PushesBehind (Kept (A.is_own algebra.now) (A.is_fold algebra.now) (A.is_run algebra.now))
+        (shown body.old) (shown body.new) r comma from atom) }
+{
+    let mut items = Vec::new(alloc);
+    algebra.add(alloc, &mut items, atom)?;
+    body.keep(Piece::Row(Row {
+        comma,
+        first: from,
+        items,
+    }))
+}
+
+/// One value more behind a row.
+fn lengthen_row<A: Algebra>(
+    body: &mut Body<A::Atom>,
+    alloc: Global,
+    algebra: &A,
+    row: Row<A::Atom>,
+    atom: A::Atom,
+) -> Result<Option<Halt>, Memory>
+    requires outside { (shown body.old).levels ≡ [] }
+    requires items { All (A.is_own algebra.now) row.items.items }
+    requires own { A.is_own algebra.now atom }
+    ensures { IfOk result (λ r. Lengthens (Kept (A.is_own algebra.now) (A.is_fold algebra.now) (A.is_run algebra.now))
+        (shown body.old) (shown body.new, r) row atom) }
+{
+    let Row {
+        comma,
+        first,
+        mut items,
+    } = row;
+    algebra.add(alloc, &mut items, atom)?;
+    body.keep(Piece::Row(Row {
+        comma,
+        first,
+        items,
+    }))
+}
+
+/// A value behind a comma: the two lengthen the row before them, or begin one.
+fn keep_behind<A: Algebra>(
+    body: &mut Body<A::Atom>,
+    alloc: Global,
+    algebra: &A,
+    comma: u32,
+    from: u32,
+    atom: A::Atom,
+) -> Result<Option<Halt>, Memory>
+    requires outside { (shown body.old).levels ≡ [] }
+    requires held { IsOfItems (Kept (A.is_own algebra.now) (A.is_fold algebra.now) (A.is_run algebra.now)) (shown body.old) }
+    requires own { A.is_own algebra.now atom }
+    ensures { IfOk result (λ r. PushesBehind (Kept (A.is_own algebra.now) (A.is_fold algebra.now) (A.is_run algebra.now))
+        (shown body.old) (shown body.new) r comma from atom) }
+{
+    match body.outer.pop() {
+        Some(Piece::Row(row)) => lengthen_row(body, alloc, algebra, row, atom),
+        Some(piece) => {
+            body.outer.push(piece)?;
+            begin_row(body, alloc, algebra, comma, from, atom)
         }
+        None => begin_row(body, alloc, algebra, comma, from, atom),
+    }
+}
+
+/// A value that is no string, before the first open level.
+#[inline(always)]
+fn keep_value<A: Algebra>(
+    body: &mut Body<A::Atom>,
+    alloc: Global,
+    algebra: &A,
+    from: u32,
+    atom: A::Atom,
+) -> Result<Option<Halt>, Memory>
+    requires outside { (shown body.old).levels ≡ [] }
+    requires held { IsOfItems (Kept (A.is_own algebra.now) (A.is_fold algebra.now) (A.is_run algebra.now)) (shown body.old) }
+    requires own { A.is_own algebra.now atom }
+    ensures { IfOk result (λ r. PushesValue (Kept (A.is_own algebra.now) (A.is_fold algebra.now) (A.is_run algebra.now))
+        (shown body.old) (shown body.new) r from atom) }
+{
+    match body.outer.pop() {
+        Some(Piece::Comma(comma)) => keep_behind(body, alloc, algebra, comma, from, atom),
+        Some(piece) => {
+            body.outer.push(piece)?;
+            body.keep(Piece::Value { from, atom })
+        }
+        None => body.keep(Piece::Value { from, atom }),
+    }
+}
+
+/// A value that is no string.
+#[inline(always)]
+pub fn read_value<A: Algebra>(
+    body: &mut Body<A::Atom>,
+    alloc: Global,
+    algebra: &A,
+    from: u32,
+    atom: A::Atom,
+) -> Result<Option<Halt>, Memory>
+    requires held { IsOfItems (Kept (A.is_own algebra.now) (A.is_fold algebra.now) (A.is_run algebra.now)) (shown body.old) }
+    requires own { A.is_own algebra.now atom }
+    ensures { IfOk result (λ r. PushesValue (Kept (A.is_own algebra.now) (A.is_fold algebra.now) (A.is_run algebra.now))
+        (shown body.old) (shown body.new) r from atom) }
+{
+    match body.innermost() {
+        None => keep_value(body, alloc, algebra, from, atom),
+        Some(level) => body.put(with_value(alloc, algebra, level, atom)?, from),
     }
 }
 
@@ -133,8 +243,9 @@ pub fn read_text<A: Algebra>(
 ) -> Result<Option<Halt>, Memory>
     requires whole { JsonString text.now }
     requires fits { at + length text.now ≤ 2 ^ 28 }
+    requires held { IsOfItems (Kept (A.is_own algebra.now) (A.is_fold algebra.now) (A.is_run algebra.now)) (shown body.old) }
     ensures { IfOk result (λ r. (cs : List Character) → AreCharacters cs → text.now ≡ string_text cs
-        → PushesText (Kept (A.is_own algebra.now) (A.is_fold algebra.now)) (shown body.old) (shown body.new) r
+        → PushesText (Kept (A.is_own algebra.now) (A.is_fold algebra.now) (A.is_run algebra.now)) (shown body.old) (shown body.new) r
         (record { from = at; to = at + length text.now }) cs) }
 {
     match body.innermost() {
@@ -154,7 +265,7 @@ pub fn read_text<A: Algebra>(
             body.put(level.name(name), at)
         } else {
             let atom = algebra.scalar(alloc, text, at)?;
-            body.put(level.value(atom)?, at)
+            body.put(with_value(alloc, algebra, level, atom)?, at)
         },
     }
 }
@@ -168,8 +279,8 @@ pub fn close<A: Algebra>(
     bracket: Bracket,
     at: u32,
 ) -> Result<Option<Halt>, Memory>
-    requires { IsOfItems (Kept (A.is_own algebra.now) (A.is_fold algebra.now)) (shown body.old) }
-    ensures { IfOk result (λ r. Pushes (Kept (A.is_own algebra.now) (A.is_fold algebra.now))
+    requires { IsOfItems (Kept (A.is_own algebra.now) (A.is_fold algebra.now) (A.is_run algebra.now)) (shown body.old) }
+    ensures { IfOk result (λ r. Pushes (Kept (A.is_own algebra.now) (A.is_fold algebra.now) (A.is_run algebra.now))
         (shown body.old) (shown body.new) r (closing_piece bracket at)) }
 {
     match body.innermost() {
@@ -177,9 +288,51 @@ pub fn close<A: Algebra>(
         Some(level) => if level.can_close(bracket) {
             let from = level.first();
             let atom = closed(alloc, algebra, level)?;
-            body.value(from, atom)
+            read_value(body, alloc, algebra, from, atom)
         } else {
             body.put(Step::Refused(level), at)
+        },
+    }
+}
+
+/// Puts a level back behind a row of values whose first comma it has behind it.
+fn put_row<A: Algebra>(
+    body: &mut Body<A::Atom>,
+    alloc: Global,
+    algebra: &A,
+    level: Level<A::Atom>,
+    row: Row<A::Atom>,
+) -> Result<Option<Halt>, Memory>
+    requires level { AreOwn (A.is_own algebra.now) (held_of level) }
+    requires row { All (A.is_own algebra.now) row.items.items }
+    ensures { IfOk result (λ r. PutsRow (Kept (A.is_own algebra.now) (A.is_fold algebra.now) (A.is_run algebra.now))
+        (shown body.old) (shown body.new, r) (held_of level) row) }
+{
+    match level {
+        Level::Array(ArrayLevel { from, items, .. }) => {
+            let items = with_items(alloc, algebra, items, row.items)?;
+            body.put(Step::On(array(from, ArrayState::Value, items)), row.first)
+        }
+        Level::Object(level) => body.put(Step::Refused(Level::Object(level)), row.first),
+    }
+}
+
+/// A row of values of the span behind.
+fn add_row<A: Algebra>(
+    body: &mut Body<A::Atom>,
+    alloc: Global,
+    algebra: &A,
+    row: Row<A::Atom>,
+) -> Result<Option<Halt>, Memory>
+    requires held { IsOfItems (Kept (A.is_own algebra.now) (A.is_fold algebra.now) (A.is_run algebra.now)) (shown body.old) }
+    requires row { All (A.is_own algebra.now) row.items.items }
+    ensures { IfOk result (λ r. PushesRow (Kept (A.is_own algebra.now) (A.is_fold algebra.now) (A.is_run algebra.now)) (shown body.old) (shown body.new) r row) }
+{
+    match body.innermost() {
+        None => body.keep(Piece::Row(row)),
+        Some(level) => match level.comma() {
+            Step::Refused(level) => body.put(Step::Refused(level), row.comma),
+            Step::On(level) => put_row(body, alloc, algebra, level, row),
         },
     }
 }
@@ -193,8 +346,8 @@ fn add<A: Algebra>(
     piece: Piece<A::Atom>,
 ) -> Result<Option<Halt>, Memory>
     requires fits { length bytes.now ≤ 2 ^ 28 }
-    requires held { CanAdd (Kept (A.is_own algebra.now) (A.is_fold algebra.now)) bytes.now (shown body.old) piece }
-    ensures { IfOk result (λ r. Adds (Kept (A.is_own algebra.now) (A.is_fold algebra.now)) bytes.now
+    requires held { CanAdd (Kept (A.is_own algebra.now) (A.is_fold algebra.now) (A.is_run algebra.now)) bytes.now (shown body.old) piece }
+    ensures { IfOk result (λ r. Adds (Kept (A.is_own algebra.now) (A.is_fold algebra.now) (A.is_run algebra.now)) bytes.now
         (shown body.old) piece (shown body.new) r) }
 {
     match piece {
@@ -202,7 +355,8 @@ fn add<A: Algebra>(
         Piece::Comma(at) => body.comma(at),
         Piece::Colon(at) => body.colon(at),
         Piece::Text { span, atom } => add_text(body, alloc, algebra, bytes, span, atom),
-        Piece::Value { from, atom } => body.value(from, atom),
+        Piece::Value { from, atom } => read_value(body, alloc, algebra, from, atom),
+        Piece::Row(row) => add_row(body, alloc, algebra, row),
     }
 }
 
@@ -216,11 +370,10 @@ fn add_text<A: Algebra>(
     atom: A::Atom,
 ) -> Result<Option<Halt>, Memory>
     requires fits { length bytes.now ≤ 2 ^ 28 }
-    requires held { CanAdd (Kept (A.is_own algebra.now) (A.is_fold algebra.now)) bytes.now (shown body.old) (Piece.Text span atom) }
-    ensures { IfOk result (λ r. Adds (Kept (A.is_own algebra.now) (A.is_fold algebra.now)) bytes.now
+    requires held { CanAdd (Kept (A.is_own algebra.now) (A.is_fold algebra.now) (A.is_run algebra.now)) bytes.now (shown body.old) (Piece.Text span atom) }
+    ensures { IfOk result (λ r. Adds (Kept (A.is_own algebra.now) (A.is_fold algebra.now) (A.is_run algebra.now)) bytes.now
         (shown body.old) (Piece.Text span atom) (shown body.new) r) }
 {
-    let _ = algebra;
     match body.innermost() {
         None => body.keep(Piece::Text { span, atom }),
         Some(level) => if level.wants_name() {
@@ -230,7 +383,7 @@ fn add_text<A: Algebra>(
             };
             body.put(level.name(name), span.from)
         } else {
-            body.put(level.value(atom)?, span.from)
+            body.put(with_value(alloc, algebra, level, atom)?, span.from)
         },
     }
 }
@@ -244,8 +397,8 @@ pub fn join<A: Algebra>(
     behind: Body<A::Atom>,
 ) -> Result<Option<Halt>, Memory>
     requires fits { length bytes.now ≤ 2 ^ 28 }
-    requires held { CanJoin (Kept (A.is_own algebra.now) (A.is_fold algebra.now)) bytes.now (shown body.old) (shown behind) }
-    ensures { IfOk result (λ r. Joins (Kept (A.is_own algebra.now) (A.is_fold algebra.now)) bytes.now
+    requires held { CanJoin (Kept (A.is_own algebra.now) (A.is_fold algebra.now) (A.is_run algebra.now)) bytes.now (shown body.old) (shown behind) }
+    ensures { IfOk result (λ r. Joins (Kept (A.is_own algebra.now) (A.is_fold algebra.now) (A.is_run algebra.now)) bytes.now
         (shown body.old) (shown behind) (shown body.new) r) }
 {
     let Body { outer, mut levels } = behind;

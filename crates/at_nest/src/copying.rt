@@ -9,7 +9,7 @@ ghost use Rattle.at_nest.specs.Stands.{HoldsVariant};
 use crate::algebra::{Algebra, Member};
 use crate::bodies::Body;
 use crate::levels::{ArrayLevel, Level, MemberName, ObjectLevel, ObjectState};
-use crate::pieces::Piece;
+use crate::pieces::{Piece, Row};
 use crate::variants::Variant;
 use at_lex::Units;
 use at_text::Memory;
@@ -50,7 +50,7 @@ fn copy_items<A: Algebra>(
     items: &Vec<A::Atom>,
 ) -> Result<Vec<A::Atom>, Memory>
     requires { All (A.is_own algebra.now) items.now.items }
-    ensures { IfOk result (λ v. CopiesItems (Kept (A.is_own algebra.now) (A.is_fold algebra.now)) items.now.items v.items) }
+    ensures { IfOk result (λ v. CopiesItems (Kept (A.is_own algebra.now) (A.is_fold algebra.now) (A.is_run algebra.now)) items.now.items v.items) }
 {
     let mut copied = Vec::with_capacity(alloc, items.len())?;
     for item in items {
@@ -65,7 +65,7 @@ fn copy_member<A: Algebra>(
     member: &Member<A::Atom>,
 ) -> Result<Member<A::Atom>, Memory>
     requires { A.is_own algebra.now member.now.value }
-    ensures { IfOk result (CopiesMember (Kept (A.is_own algebra.now) (A.is_fold algebra.now)) member.now) }
+    ensures { IfOk result (CopiesMember (Kept (A.is_own algebra.now) (A.is_fold algebra.now) (A.is_run algebra.now)) member.now) }
 {
     Ok(Member {
         name: copy_units(alloc, &member.name)?,
@@ -80,7 +80,7 @@ fn copy_members<A: Algebra>(
     members: &Vec<Member<A::Atom>>,
 ) -> Result<Vec<Member<A::Atom>>, Memory>
     requires { All (λ m. A.is_own algebra.now m.value) members.now.items }
-    ensures { IfOk result (λ v. CopiesMembers (Kept (A.is_own algebra.now) (A.is_fold algebra.now)) members.now.items v.items) }
+    ensures { IfOk result (λ v. CopiesMembers (Kept (A.is_own algebra.now) (A.is_fold algebra.now) (A.is_run algebra.now)) members.now.items v.items) }
 {
     let mut copied = Vec::with_capacity(alloc, members.len())?;
     for member in members {
@@ -95,7 +95,7 @@ fn copy_level<A: Algebra>(
     level: &Level<A::Atom>,
 ) -> Result<Level<A::Atom>, Memory>
     requires { AreOwn (A.is_own algebra.now) (held_of level.now) }
-    ensures { IfOk result (λ l. CopiesHeld (Kept (A.is_own algebra.now) (A.is_fold algebra.now)) (held_of level.now) (held_of l)) }
+    ensures { IfOk result (λ l. CopiesHeld (Kept (A.is_own algebra.now) (A.is_fold algebra.now) (A.is_run algebra.now)) (held_of level.now) (held_of l)) }
 {
     match level {
         Level::Array(level) => Ok(Level::Array(ArrayLevel {
@@ -117,7 +117,7 @@ fn copy_piece<A: Algebra>(
     piece: &Piece<A::Atom>,
 ) -> Result<Piece<A::Atom>, Memory>
     requires { OwnPiece (A.is_own algebra.now) piece.now }
-    ensures { IfOk result (CopiesPiece (Kept (A.is_own algebra.now) (A.is_fold algebra.now)) piece.now) }
+    ensures { IfOk result (CopiesPiece (Kept (A.is_own algebra.now) (A.is_fold algebra.now) (A.is_run algebra.now)) piece.now) }
 {
     match piece {
         Piece::Closes(bracket, at) => Ok(Piece::Closes(*bracket, *at)),
@@ -131,6 +131,11 @@ fn copy_piece<A: Algebra>(
             from: *from,
             atom: algebra.copy(alloc, atom)?,
         }),
+        Piece::Row(row) => Ok(Piece::Row(Row {
+            comma: row.comma,
+            first: row.first,
+            items: copy_items(alloc, algebra, &row.items)?,
+        })),
     }
 }
 
@@ -140,7 +145,7 @@ fn copy_pieces<A: Algebra>(
     pieces: &Vec<Piece<A::Atom>>,
 ) -> Result<Vec<Piece<A::Atom>>, Memory>
     requires { All (OwnPiece (A.is_own algebra.now)) pieces.now.items }
-    ensures { IfOk result (λ v. CopiesPieces (Kept (A.is_own algebra.now) (A.is_fold algebra.now)) pieces.now.items v.items) }
+    ensures { IfOk result (λ v. CopiesPieces (Kept (A.is_own algebra.now) (A.is_fold algebra.now) (A.is_run algebra.now)) pieces.now.items v.items) }
 {
     let mut copied = Vec::with_capacity(alloc, pieces.len())?;
     for piece in pieces {
@@ -155,7 +160,7 @@ fn copy_levels<A: Algebra>(
     levels: &Vec<Level<A::Atom>>,
 ) -> Result<Vec<Level<A::Atom>>, Memory>
     requires { All (OwnLevel (A.is_own algebra.now)) levels.now.items }
-    ensures { IfOk result (λ v. CopiesLevels (Kept (A.is_own algebra.now) (A.is_fold algebra.now)) (open_levels levels.now.items) (open_levels v.items)) }
+    ensures { IfOk result (λ v. CopiesLevels (Kept (A.is_own algebra.now) (A.is_fold algebra.now) (A.is_run algebra.now)) (open_levels levels.now.items) (open_levels v.items)) }
 {
     let mut copied = Vec::with_capacity(alloc, levels.len())?;
     for level in levels {
@@ -170,7 +175,7 @@ fn copy_body<A: Algebra>(
     body: &Body<A::Atom>,
 ) -> Result<Body<A::Atom>, Memory>
     requires { OwnBody (A.is_own algebra.now) body.now }
-    ensures { IfOk result (λ b. CopiesShown (Kept (A.is_own algebra.now) (A.is_fold algebra.now)) (shown body.now) (shown b)) }
+    ensures { IfOk result (λ b. CopiesShown (Kept (A.is_own algebra.now) (A.is_fold algebra.now) (A.is_run algebra.now)) (shown body.now) (shown b)) }
 {
     Ok(Body {
         outer: copy_pieces(alloc, algebra, &body.outer)?,
@@ -184,8 +189,8 @@ pub fn copy_variant<A: Algebra>(
     algebra: &A,
     variant: &Variant<A::Atom>,
 ) -> Result<Variant<A::Atom>, Memory>
-    requires { (s : Start) × (at : ℕ) × (w : List ℕ) × HoldsVariant (Kept (A.is_own algebra.now) (A.is_fold algebra.now)) s at w variant.now }
-    ensures { IfOk result (λ v. (s : Start) (at : ℕ) (w : List ℕ) → HoldsVariant (Kept (A.is_own algebra.now) (A.is_fold algebra.now)) s at w variant.now → HoldsVariant (Kept (A.is_own algebra.now) (A.is_fold algebra.now)) s at w v) }
+    requires { (s : Start) × (at : ℕ) × (w : List ℕ) × HoldsVariant (Kept (A.is_own algebra.now) (A.is_fold algebra.now) (A.is_run algebra.now)) s at w variant.now }
+    ensures { IfOk result (λ v. (s : Start) (at : ℕ) (w : List ℕ) → HoldsVariant (Kept (A.is_own algebra.now) (A.is_fold algebra.now) (A.is_run algebra.now)) s at w variant.now → HoldsVariant (Kept (A.is_own algebra.now) (A.is_fold algebra.now) (A.is_run algebra.now)) s at w v) }
 {
     match variant {
         Variant::AllLead { end } => Ok(Variant::AllLead { end: *end }),

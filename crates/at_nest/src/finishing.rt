@@ -6,7 +6,7 @@ ghost use Rattle.at_text.specs.Texts.{base_of as base_in};
 ghost use Rattle.at_lex.specs.Runs.{JsonRun};
 ghost use Rattle.at_lex.specs.Spans.{begins_run};
 ghost use Rattle.at_nest.specs.Shown.{held_of, shown, open_levels};
-ghost use Rattle.at_nest.specs.Holding.{Kept};
+ghost use Rattle.at_nest.specs.Holding.{Kept, IsOfItems};
 ghost use Rattle.at_nest.specs.Standing.{StandsFor, parts_of};
 ghost use Rattle.at_nest.specs.Stands.{HoldsVariant};
 ghost use Rattle.at_nest.specs.Variants.{IsPending};
@@ -15,7 +15,7 @@ ghost use Rattle.at_nest.specs.Lasts.{begins_text, IsTail, EndsSo};
 ghost use Rattle.at_nest.specs.Ending.{Answers};
 
 use crate::algebra::Algebra;
-use crate::bodies::Body;
+use crate::bodies::{Body, read_value};
 use crate::fragments::Fragment;
 use crate::levels::Level;
 use crate::pieces::{Halt, Piece, Within};
@@ -263,10 +263,11 @@ fn last_run<A: Algebra>(
 ) -> Result<A::Atom, NestEnd>
     requires whole { JsonRun text.now }
     requires fits { from + length text.now ≤ 2 ^ 28 }
-    ensures { EndsSo (Kept (A.is_own algebra.now) (A.is_fold algebra.now)) (shown body) from text.now result }
+    requires held { IsOfItems (Kept (A.is_own algebra.now) (A.is_fold algebra.now) (A.is_run algebra.now)) (shown body) }
+    ensures { EndsSo (Kept (A.is_own algebra.now) (A.is_fold algebra.now) (A.is_run algebra.now)) (shown body) from text.now result }
 {
     let atom = algebra.scalar(alloc, text, from)?;
-    match body.value(from, atom)? {
+    match read_value(&mut body, alloc, algebra, from, atom)? {
         None => answer_of(body),
         Some(halt) => Err(stop_of(&body, halt)),
     }
@@ -282,7 +283,8 @@ fn last<A: Algebra>(
 ) -> Result<A::Atom, NestEnd>
     requires pending { IsPending text.now }
     requires fits { from + length text.now ≤ 2 ^ 28 }
-    ensures { EndsSo (Kept (A.is_own algebra.now) (A.is_fold algebra.now)) (shown body) from text.now result }
+    requires held { IsOfItems (Kept (A.is_own algebra.now) (A.is_fold algebra.now) (A.is_run algebra.now)) (shown body) }
+    ensures { EndsSo (Kept (A.is_own algebra.now) (A.is_fold algebra.now) (A.is_run algebra.now)) (shown body) from text.now result }
 {
     match tail_of(text, from) {
         Tail::Nothing => answer_of(body),
@@ -306,8 +308,8 @@ pub fn finish_span<A: Algebra>(
     requires fits { length bytes.now ≤ 2 ^ 28 }
     requires order { span.from ≤ span.to }
     requires end { span.to ≤ length bytes.now }
-    requires whole { StandsFor (Kept (A.is_own algebra.now) (A.is_fold algebra.now)) span.from (part_of bytes.now span.from span.to) whole }
-    ensures answers { Answers (Kept (A.is_own algebra.now) (A.is_fold algebra.now)) span.from (part_of bytes.now span.from span.to) result }
+    requires whole { StandsFor (Kept (A.is_own algebra.now) (A.is_fold algebra.now) (A.is_run algebra.now)) span.from (part_of bytes.now span.from span.to) whole }
+    ensures answers { Answers (Kept (A.is_own algebra.now) (A.is_fold algebra.now) (A.is_run algebra.now)) span.from (part_of bytes.now span.from span.to) result }
     ensures lost { parts_of whole ≡ None → result ≡ Err NestEnd.Memory }
 {
     let Some(parts) = whole.into_parts() else {
@@ -327,8 +329,8 @@ fn finish_variant<A: Algebra>(
     requires fits { length bytes.now ≤ 2 ^ 28 }
     requires order { span.from ≤ span.to }
     requires end { span.to ≤ length bytes.now }
-    requires held { HoldsVariant (Kept (A.is_own algebra.now) (A.is_fold algebra.now)) Start.Out span.from (part_of bytes.now span.from span.to) variant }
-    ensures { Answers (Kept (A.is_own algebra.now) (A.is_fold algebra.now)) span.from (part_of bytes.now span.from span.to) result }
+    requires held { HoldsVariant (Kept (A.is_own algebra.now) (A.is_fold algebra.now) (A.is_run algebra.now)) Start.Out span.from (part_of bytes.now span.from span.to) variant }
+    ensures { Answers (Kept (A.is_own algebra.now) (A.is_fold algebra.now) (A.is_run algebra.now)) span.from (part_of bytes.now span.from span.to) result }
 {
     let mut body = Body::new(alloc);
     match variant {
@@ -370,8 +372,8 @@ pub fn finish<A: Algebra>(
     whole: Fragment<A>,
 ) -> Result<A::Atom, NestEnd>
     requires fits { length bytes.now ≤ 2 ^ 28 }
-    requires whole { StandsFor (Kept (A.is_own algebra.now) (A.is_fold algebra.now)) (base_in bytes.now) (drop (base_in bytes.now) bytes.now) whole }
-    ensures answers { Answers (Kept (A.is_own algebra.now) (A.is_fold algebra.now)) (base_in bytes.now) (drop (base_in bytes.now) bytes.now) result }
+    requires whole { StandsFor (Kept (A.is_own algebra.now) (A.is_fold algebra.now) (A.is_run algebra.now)) (base_in bytes.now) (drop (base_in bytes.now) bytes.now) whole }
+    ensures answers { Answers (Kept (A.is_own algebra.now) (A.is_fold algebra.now) (A.is_run algebra.now)) (base_in bytes.now) (drop (base_in bytes.now) bytes.now) result }
     ensures lost { parts_of whole ≡ None → result ≡ Err NestEnd.Memory }
 {
     let span = Span {

@@ -65,8 +65,8 @@ fn fragment_of<A: Algebra>(
     algebra: &A,
     parts: Result<Parts<A::Atom>, Memory>,
 ) -> Fragment<A>
-    ensures { (at : ℕ) (w : List ℕ) → IfOk parts (HoldsParts (Kept (A.is_own algebra.now) (A.is_fold algebra.now)) at w)
-        → StandsFor (Kept (A.is_own algebra.now) (A.is_fold algebra.now)) at w result }
+    ensures { (at : ℕ) (w : List ℕ) → IfOk parts (HoldsParts (Kept (A.is_own algebra.now) (A.is_fold algebra.now) (A.is_run algebra.now)) at w)
+        → StandsFor (Kept (A.is_own algebra.now) (A.is_fold algebra.now) (A.is_run algebra.now)) at w result }
 {
     let _ = algebra;
     match parts {
@@ -86,7 +86,7 @@ fn read_escape<A: Algebra>(
     base: u32,
 ) -> Result<Escape<A::Atom>, Memory>
     requires { base + length piece.now ≤ 2 ^ 28 }
-    ensures { IfOk result (HoldsEscape (Kept (A.is_own algebra.now) (A.is_fold algebra.now)) base piece.now) }
+    ensures { IfOk result (HoldsEscape (Kept (A.is_own algebra.now) (A.is_fold algebra.now) (A.is_run algebra.now)) base piece.now) }
 {
     if !piece.is_empty() && piece[0] != b'"' && piece[0] != b'\\' {
         return Ok(Escape::AsString);
@@ -102,7 +102,7 @@ fn read_parts<A: Algebra>(
     base: u32,
 ) -> Result<Parts<A::Atom>, Memory>
     requires { base + length piece.now ≤ 2 ^ 28 }
-    ensures { IfOk result (HoldsParts (Kept (A.is_own algebra.now) (A.is_fold algebra.now)) base piece.now) }
+    ensures { IfOk result (HoldsParts (Kept (A.is_own algebra.now) (A.is_fold algebra.now) (A.is_run algebra.now)) base piece.now) }
 {
     let out = read_variant(alloc, algebra, piece, base, Start::Out)?;
     let string = read_variant(alloc, algebra, piece, base, Start::InString)?;
@@ -120,7 +120,7 @@ fn read_parts<A: Algebra>(
 /// memory is wanted, the fragment is lost.
 pub fn run_block<A: Algebra>(alloc: Global, algebra: &A, piece: &[u8], base: u32) -> Fragment<A>
     requires { base + length piece.now ≤ 2 ^ 28 }
-    ensures { StandsFor (Kept (A.is_own algebra.now) (A.is_fold algebra.now)) base piece.now result }
+    ensures { StandsFor (Kept (A.is_own algebra.now) (A.is_fold algebra.now) (A.is_run algebra.now)) base piece.now result }
 {
     let parts = read_parts(alloc, algebra, piece, base);
     fragment_of(alloc, algebra, parts)
@@ -177,8 +177,8 @@ fn taken_from<A: Algebra>(
     variant: &mut Variant<A::Atom>,
     again: bool,
 ) -> Result<Variant<A::Atom>, Memory>
-    requires { HoldsSome (Kept (A.is_own algebra.now) (A.is_fold algebra.now)) variant.old }
-    ensures same { IfOk result (StandsAs (Kept (A.is_own algebra.now) (A.is_fold algebra.now)) variant.old) }
+    requires { HoldsSome (Kept (A.is_own algebra.now) (A.is_fold algebra.now) (A.is_run algebra.now)) variant.old }
+    ensures same { IfOk result (StandsAs (Kept (A.is_own algebra.now) (A.is_fold algebra.now) (A.is_run algebra.now)) variant.old) }
     ensures stays { again ≡ true → variant.new ≡ variant.old }
 {
     if again {
@@ -196,8 +196,8 @@ fn taken<A: Algebra>(
     slot: Slot,
     again: bool,
 ) -> Result<Variant<A::Atom>, Memory>
-    requires { HoldsSome (Kept (A.is_own algebra.now) (A.is_fold algebra.now)) (variant_in parts.old slot) }
-    ensures same { IfOk result (StandsAs (Kept (A.is_own algebra.now) (A.is_fold algebra.now)) (variant_in parts.old slot)) }
+    requires { HoldsSome (Kept (A.is_own algebra.now) (A.is_fold algebra.now) (A.is_run algebra.now)) (variant_in parts.old slot) }
+    ensures same { IfOk result (StandsAs (Kept (A.is_own algebra.now) (A.is_fold algebra.now) (A.is_run algebra.now)) (variant_in parts.old slot)) }
     ensures stays { Stays (Some slot) again parts.old parts.new }
 {
     match slot {
@@ -222,10 +222,10 @@ fn joined<A: Algebra>(
 ) -> Result<Variant<A::Atom>, Memory>
     requires fits { length bytes.now ≤ 2 ^ 28 }
     requires held { (s : Start) × (at : ℕ) × (w : List ℕ) × (x : List ℕ)
-        × GoesOn (Kept (A.is_own algebra.now) (A.is_fold algebra.now)) bytes.now s at w x left right.old wanted }
+        × GoesOn (Kept (A.is_own algebra.now) (A.is_fold algebra.now) (A.is_run algebra.now)) bytes.now s at w x left right.old wanted }
     ensures union { IfOk result (λ v. (s : Start) (at : ℕ) (w x : List ℕ)
-        → GoesOn (Kept (A.is_own algebra.now) (A.is_fold algebra.now)) bytes.now s at w x left right.old wanted
-        → HoldsVariant (Kept (A.is_own algebra.now) (A.is_fold algebra.now)) s at (w ++ x) v) }
+        → GoesOn (Kept (A.is_own algebra.now) (A.is_fold algebra.now) (A.is_run algebra.now)) bytes.now s at w x left right.old wanted
+        → HoldsVariant (Kept (A.is_own algebra.now) (A.is_fold algebra.now) (A.is_run algebra.now)) s at (w ++ x) v) }
     ensures stays { Stays wanted again right.old right.new }
 {
     match wanted {
@@ -248,10 +248,10 @@ fn joined_escape<A: Algebra>(
 ) -> Result<Escape<A::Atom>, Memory>
     requires fits { length bytes.now ≤ 2 ^ 28 }
     requires held { (at : ℕ) × (w : List ℕ) × (x : List ℕ)
-        × EscapeGoesOn (Kept (A.is_own algebra.now) (A.is_fold algebra.now)) bytes.now at w x left right.old wanted }
+        × EscapeGoesOn (Kept (A.is_own algebra.now) (A.is_fold algebra.now) (A.is_run algebra.now)) bytes.now at w x left right.old wanted }
     ensures union { IfOk result (λ e. (at : ℕ) (w x : List ℕ)
-        → EscapeGoesOn (Kept (A.is_own algebra.now) (A.is_fold algebra.now)) bytes.now at w x left right.old wanted
-        → HoldsEscape (Kept (A.is_own algebra.now) (A.is_fold algebra.now)) at (w ++ x) e) }
+        → EscapeGoesOn (Kept (A.is_own algebra.now) (A.is_fold algebra.now) (A.is_run algebra.now)) bytes.now at w x left right.old wanted
+        → HoldsEscape (Kept (A.is_own algebra.now) (A.is_fold algebra.now) (A.is_run algebra.now)) at (w ++ x) e) }
 {
     match left {
         Escape::AsString => Ok(Escape::AsString),
@@ -295,10 +295,10 @@ fn merge_parts<A: Algebra>(
 ) -> Result<Parts<A::Atom>, Memory>
     requires fits { length bytes.now ≤ 2 ^ 28 }
     requires beside { (at : ℕ) × (w : List ℕ) × (x : List ℕ)
-        × AreBeside (Kept (A.is_own algebra.now) (A.is_fold algebra.now)) bytes.now at w x left right }
+        × AreBeside (Kept (A.is_own algebra.now) (A.is_fold algebra.now) (A.is_run algebra.now)) bytes.now at w x left right }
     ensures { IfOk result (λ p. (at : ℕ) (w x : List ℕ)
-        → AreBeside (Kept (A.is_own algebra.now) (A.is_fold algebra.now)) bytes.now at w x left right
-        → HoldsParts (Kept (A.is_own algebra.now) (A.is_fold algebra.now)) at (w ++ x) p) }
+        → AreBeside (Kept (A.is_own algebra.now) (A.is_fold algebra.now) (A.is_run algebra.now)) bytes.now at w x left right
+        → HoldsParts (Kept (A.is_own algebra.now) (A.is_fold algebra.now) (A.is_run algebra.now)) at (w ++ x) p) }
 {
     let Parts {
         from,
@@ -343,8 +343,8 @@ pub fn merge<A: Algebra>(
     right: Fragment<A>,
 ) -> Fragment<A>
     requires fits { length bytes.now ≤ 2 ^ 28 }
-    requires neighbours { (i : ℕ) × (j : ℕ) × (k : ℕ) × AreNeighbours (StandsFor (Kept (A.is_own algebra.now) (A.is_fold algebra.now))) bytes.now i j k left right }
-    ensures union { IsMerged (StandsFor (Kept (A.is_own algebra.now) (A.is_fold algebra.now))) bytes.now left right result }
+    requires neighbours { (i : ℕ) × (j : ℕ) × (k : ℕ) × AreNeighbours (StandsFor (Kept (A.is_own algebra.now) (A.is_fold algebra.now) (A.is_run algebra.now))) bytes.now i j k left right }
+    ensures union { IsMerged (StandsFor (Kept (A.is_own algebra.now) (A.is_fold algebra.now) (A.is_run algebra.now))) bytes.now left right result }
     ensures left_lost { parts_of left ≡ None → parts_of result ≡ None }
     ensures right_lost { parts_of right ≡ None → parts_of result ≡ None }
 {

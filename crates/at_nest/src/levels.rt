@@ -1,10 +1,10 @@
 //! An open array or object: what stands in it so far, and what may stand next (RFC 8259 sections 4 and 5).
 
-ghost use Rattle.std.specs.Prelude.{◌≡◌, All, IfOk, IsTrue};
+ghost use Rattle.std.specs.Prelude.{◌≡◌, [], All, IfOk, IsTrue};
 ghost use Rattle.at_nest.specs.Tree.{Tree};
 ghost use Rattle.at_nest.specs.Levels.{Level as ModelLevel, built};
 ghost use Rattle.at_nest.specs.Shown.{held_of, opened_as, from_of, comma_next, colon_next, value_next, name_next, takes_name, takes_value, closes_with, IsStep, AreOwn};
-ghost use Rattle.at_nest.specs.Holding.{Kept, IsHeld, free};
+ghost use Rattle.at_nest.specs.Holding.{Kept, IsHeld, AddsTo, GainsAll, free};
 
 use crate::algebra::{Algebra, Member};
 use at_lex::{Bracket, Units};
@@ -74,8 +74,9 @@ pub enum Step<T> {
     Refused(Level<T>),
 }
 
+/// An array that goes on.
 #[inline(always)]
-fn array<T>(from: u32, state: ArrayState, items: Vec<T>) -> Level<T>
+pub fn array<T>(from: u32, state: ArrayState, items: Vec<T>) -> Level<T>
     ensures { result ≡ Level.Array (record { from = from; state = state; items = items }) }
 {
     Level::Array(ArrayLevel { from, state, items })
@@ -101,24 +102,6 @@ impl<T: Drop> ArrayLevel<T> {
         match state {
             ArrayState::Value => Step::On(array(from, ArrayState::Comma, items)),
             state => Step::Refused(array(from, state, items)),
-        }
-    }
-
-    #[inline(always)]
-    fn value(self, atom: T) -> Result<Step<T>, Memory>
-        ensures { IfOk result (IsStep (held_of (Level.Array self)) (value_next (held_of (Level.Array self)) atom)) }
-    {
-        let ArrayLevel {
-            from,
-            state,
-            mut items,
-        } = self;
-        match state {
-            ArrayState::Value => Ok(Step::Refused(array(from, state, items))),
-            _ => {
-                items.push(atom)?;
-                Ok(Step::On(array(from, ArrayState::Value, items)))
-            }
         }
     }
 }
@@ -156,7 +139,7 @@ impl<T: Drop> ObjectLevel<T> {
 
     #[inline(always)]
     fn value(self, atom: T) -> Result<Step<T>, Memory>
-        ensures { IfOk result (IsStep (held_of (Level.Object self)) (value_next (held_of (Level.Object self)) atom)) }
+        ensures { IfOk result (λ step. IsStep (held_of (Level.Object self)) (value_next (held_of (Level.Object self)) atom []) step) }
     {
         let ObjectLevel {
             from,
@@ -242,17 +225,6 @@ impl<T: Drop> Level<T> {
         }
     }
 
-    /// Behind a value, which has become the atom.
-    #[inline(always)]
-    pub fn value(self, atom: T) -> Result<Step<T>, Memory>
-        ensures { IfOk result (IsStep (held_of self) (value_next (held_of self) atom)) }
-    {
-        match self {
-            Level::Array(level) => level.value(atom),
-            Level::Object(level) => level.value(atom),
-        }
-    }
-
     /// Behind a name.
     #[inline(always)]
     pub fn name(self, name: MemberName) -> Step<T>
@@ -314,6 +286,70 @@ impl<T: Drop> Level<T> {
     }
 }
 
+/// An array behind a value, which has become the atom.
+#[inline(always)]
+fn array_value<A: Algebra>(
+    alloc: Global,
+    algebra: &A,
+    level: ArrayLevel<A::Atom>,
+    atom: A::Atom,
+) -> Result<Step<A::Atom>, Memory>
+    requires level { AreOwn (A.is_own algebra.now) (held_of (Level.Array level)) }
+    requires atom { A.is_own algebra.now atom }
+    ensures { IfOk result (AddsTo (Kept (A.is_own algebra.now) (A.is_fold algebra.now) (A.is_run algebra.now))
+        (held_of (Level.Array level)) atom) }
+{
+    let ArrayLevel {
+        from,
+        state,
+        mut items,
+    } = level;
+    match state {
+        ArrayState::Value => Ok(Step::Refused(array(from, state, items))),
+        _ => {
+            algebra.add(alloc, &mut items, atom)?;
+            Ok(Step::On(array(from, ArrayState::Value, items)))
+        }
+    }
+}
+
+/// A level behind a value, which has become the atom.
+#[inline(always)]
+pub fn with_value<A: Algebra>(
+    alloc: Global,
+    algebra: &A,
+    level: Level<A::Atom>,
+    atom: A::Atom,
+) -> Result<Step<A::Atom>, Memory>
+    requires level { AreOwn (A.is_own algebra.now) (held_of level) }
+    requires atom { A.is_own algebra.now atom }
+    ensures { IfOk result (AddsTo (Kept (A.is_own algebra.now) (A.is_fold algebra.now) (A.is_run algebra.now))
+        (held_of level) atom) }
+{
+    match level {
+        Level::Array(level) => array_value(alloc, algebra, level, atom),
+        Level::Object(level) => level.value(atom),
+    }
+}
+
+/// An array's atoms, and further ones behind them.
+pub fn with_items<A: Algebra>(
+    alloc: Global,
+    algebra: &A,
+    mut items: Vec<A::Atom>,
+    more: Vec<A::Atom>,
+) -> Result<Vec<A::Atom>, Memory>
+    requires items { All (A.is_own algebra.now) items.items }
+    requires more { All (A.is_own algebra.now) more.items }
+    ensures { IfOk result (λ all. GainsAll (Kept (A.is_own algebra.now) (A.is_fold algebra.now) (A.is_run algebra.now))
+        items.items more.items all.items) }
+{
+    for atom in more {
+        algebra.add(alloc, &mut items, atom)?;
+    }
+    Ok(items)
+}
+
 /// The atom of a level that is closed.
 pub fn closed<A: Algebra>(
     alloc: Global,
@@ -323,7 +359,7 @@ pub fn closed<A: Algebra>(
     requires own { AreOwn (A.is_own algebra.now) (held_of level) }
     ensures own { IfOk result (A.is_own algebra.now) }
     ensures fold { IfOk result (λ atom. (l : ModelLevel Tree)
-        → IsHeld (Kept (A.is_own algebra.now) (A.is_fold algebra.now)) (held_of level) l
+        → IsHeld (Kept (A.is_own algebra.now) (A.is_fold algebra.now) (A.is_run algebra.now)) (held_of level) l
         → A.is_fold algebra.now atom (built free l.bracket l.from l.inside)) }
 {
     match level {

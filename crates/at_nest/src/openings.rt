@@ -3,11 +3,11 @@
 ghost use Rattle.std.specs.Prelude.{◌≡◌, ℕ, ◌+◌, ◌≤◌, ◌^◌, List, ◌∷◌, length, IfOk};
 ghost use Rattle.at_lex.specs.Spans.{opening};
 ghost use Rattle.at_nest.specs.Shown.{shown};
-ghost use Rattle.at_nest.specs.Holding.{Kept};
+ghost use Rattle.at_nest.specs.Holding.{Kept, IsOfItems};
 ghost use Rattle.at_nest.specs.Reading.{ReadsAhead};
 
 use crate::algebra::{Algebra, Attempt};
-use crate::bodies::Body;
+use crate::bodies::{Body, read_value};
 use crate::pieces::Halt;
 use at_lex::Bracket;
 use at_text::Memory;
@@ -67,7 +67,7 @@ fn opened<A: Algebra>(
 ) -> Result<Read, Memory>
     requires begins { (more : List ℕ) × (ahead.now ≡ opening bracket ∷ more) }
     requires fits { at + length ahead.now ≤ 2 ^ 28 }
-    ensures { IfOk result (λ r. ReadsAhead (Kept (A.is_own algebra.now) (A.is_fold algebra.now))
+    ensures { IfOk result (λ r. ReadsAhead (Kept (A.is_own algebra.now) (A.is_fold algebra.now) (A.is_run algebra.now))
         (shown body.old) (shown body.new) r.halt at ahead.now r.to) }
 {
     let _ = algebra;
@@ -93,7 +93,8 @@ pub fn read_opening<A: Algebra>(
 ) -> Result<Read, Memory>
     requires begins { (more : List ℕ) × (ahead.now ≡ opening bracket ∷ more) }
     requires fits { at + length ahead.now ≤ 2 ^ 28 }
-    ensures { IfOk result (λ r. ReadsAhead (Kept (A.is_own algebra.now) (A.is_fold algebra.now))
+    requires held { IsOfItems (Kept (A.is_own algebra.now) (A.is_fold algebra.now) (A.is_run algebra.now)) (shown body.old) }
+    ensures { IfOk result (λ r. ReadsAhead (Kept (A.is_own algebra.now) (A.is_fold algebra.now) (A.is_run algebra.now))
         (shown body.old) (shown body.new) r.halt at ahead.now r.to) }
 {
     let seen = tries.window(at, ahead.len());
@@ -102,7 +103,7 @@ pub fn read_opening<A: Algebra>(
     }
     match algebra.value(alloc, &ahead[..seen], at)? {
         Attempt::Whole { len, atom } => {
-            let halt = body.value(at, atom)?;
+            let halt = read_value(body, alloc, algebra, at, atom)?;
             Ok(Read { to: at + len, halt })
         }
         Attempt::Unsaid { looked } => {

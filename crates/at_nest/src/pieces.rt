@@ -6,7 +6,19 @@ ghost use Rattle.at_nest.specs.Shown.{stop_at, first_of_piece, is_value_piece};
 use at_lex::Bracket;
 use at_text::Span;
 
-/// An item of a span whose level was opened before the span.
+/// Values one behind another, each behind a comma, which can be items of an array alone: no object goes on with a value
+/// behind a comma.
+#[derive(Drop)]
+pub struct Row<T> {
+    /// The offset of the first comma.
+    pub comma: u32,
+    /// The offset of the first value.
+    pub first: u32,
+    /// The atoms, as those of an array's items.
+    pub items: Vec<T>,
+}
+
+/// An item of a span whose level was opened before the span, or several that stand for items of an array.
 #[derive(Drop)]
 pub enum Piece<T> {
     Closes(Bracket, u32),
@@ -16,6 +28,7 @@ pub enum Piece<T> {
     Text { span: Span, atom: T },
     /// Any other value, with the offset of its first byte.
     Value { from: u32, atom: T },
+    Row(Row<T>),
 }
 
 impl<T: Drop> Piece<T> {
@@ -29,10 +42,11 @@ impl<T: Drop> Piece<T> {
             Piece::Colon(at) => *at,
             Piece::Text { span, .. } => span.from,
             Piece::Value { from, .. } => *from,
+            Piece::Row(row) => row.comma,
         }
     }
 
-    /// Whether it is a value, or can be one.
+    /// Whether it is one value, or can be one.
     pub fn is_value(&self) -> bool
         ensures { result ≡ is_value_piece self.now }
     {

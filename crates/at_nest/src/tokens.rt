@@ -9,7 +9,7 @@ ghost use Rattle.at_nest.specs.Unions.{IsToken};
 ghost use Rattle.at_nest.specs.Reading.{stop_within, within_from, Reads, ReadsToken, ReadsRun};
 
 use crate::algebra::Algebra;
-use crate::bodies::{Body, close, read_text};
+use crate::bodies::{Body, close, read_text, read_value};
 use crate::pieces::{Halt, Within, first_byte};
 use at_lex::{RunEnd, Token, TokenKind, check_run, take_text};
 use at_text::Memory;
@@ -52,11 +52,12 @@ fn read_run<A: Algebra>(
 ) -> Result<Option<Halt>, Memory>
     requires whole { JsonRun text.now }
     requires fits { at + length text.now ≤ 2 ^ 28 }
-    ensures { IfOk result (λ r. ReadsRun (Kept (A.is_own algebra.now) (A.is_fold algebra.now))
+    requires held { IsOfItems (Kept (A.is_own algebra.now) (A.is_fold algebra.now) (A.is_run algebra.now)) (shown body.old) }
+    ensures { IfOk result (λ r. ReadsRun (Kept (A.is_own algebra.now) (A.is_fold algebra.now) (A.is_run algebra.now))
         (shown body.old) (shown body.new) r at text.now) }
 {
     let atom = algebra.scalar(alloc, text, at)?;
-    body.value(at, atom)
+    read_value(body, alloc, algebra, at, atom)
 }
 
 /// A token of a piece, with its bytes.
@@ -70,8 +71,8 @@ pub fn read_token<A: Algebra>(
 ) -> Result<Option<Halt>, Memory>
     requires token { (after : List ℕ) × IsLexed token.from text.now after token }
     requires fits { token.from + length text.now ≤ 2 ^ 28 }
-    requires held { IsOfItems (Kept (A.is_own algebra.now) (A.is_fold algebra.now)) (shown body.old) }
-    ensures reads { IfOk result (λ r. ReadsToken (Kept (A.is_own algebra.now) (A.is_fold algebra.now))
+    requires held { IsOfItems (Kept (A.is_own algebra.now) (A.is_fold algebra.now) (A.is_run algebra.now)) (shown body.old) }
+    ensures reads { IfOk result (λ r. ReadsToken (Kept (A.is_own algebra.now) (A.is_fold algebra.now) (A.is_run algebra.now))
         (shown body.old) (shown body.new) r text.now token) }
     ensures whole { IfOk result (λ r. r ≡ None → is_broken token.kind ≡ false) }
 {
@@ -100,7 +101,8 @@ fn cut_text<A: Algebra>(
 ) -> Result<Option<Halt>, Memory>
     requires closed { IsText text.now }
     requires fits { at + length text.now ≤ 2 ^ 28 }
-    ensures { IfOk result (λ r. Reads (Kept (A.is_own algebra.now) (A.is_fold algebra.now))
+    requires held { IsOfItems (Kept (A.is_own algebra.now) (A.is_fold algebra.now) (A.is_run algebra.now)) (shown body.old) }
+    ensures { IfOk result (λ r. Reads (Kept (A.is_own algebra.now) (A.is_fold algebra.now) (A.is_run algebra.now))
         (shown body.old) (shown body.new) r at text.now) }
 {
     let taken = take_text(text);
@@ -121,7 +123,8 @@ pub fn cut_run<A: Algebra>(
 ) -> Result<Option<Halt>, Memory>
     requires begins { begins_run text.now ≡ true }
     requires fits { at + length text.now ≤ 2 ^ 28 }
-    ensures { IfOk result (λ r. Reads (Kept (A.is_own algebra.now) (A.is_fold algebra.now))
+    requires held { IsOfItems (Kept (A.is_own algebra.now) (A.is_fold algebra.now) (A.is_run algebra.now)) (shown body.old) }
+    ensures { IfOk result (λ r. Reads (Kept (A.is_own algebra.now) (A.is_fold algebra.now) (A.is_run algebra.now))
         (shown body.old) (shown body.new) r at text.now) }
 {
     match check_run(text) {
@@ -140,7 +143,8 @@ pub fn cut_token<A: Algebra>(
 ) -> Result<Option<Halt>, Memory>
     requires token { (more : List ℕ) × IsToken text.now more }
     requires fits { at + length text.now ≤ 2 ^ 28 }
-    ensures { IfOk result (λ r. Reads (Kept (A.is_own algebra.now) (A.is_fold algebra.now))
+    requires held { IsOfItems (Kept (A.is_own algebra.now) (A.is_fold algebra.now) (A.is_run algebra.now)) (shown body.old) }
+    ensures { IfOk result (λ r. Reads (Kept (A.is_own algebra.now) (A.is_fold algebra.now) (A.is_run algebra.now))
         (shown body.old) (shown body.new) r at text.now) }
 {
     if text.is_empty() {

@@ -2,7 +2,7 @@ ghost use Rattle.std.specs.Prelude.{◌≡◌, ◌≤◌, ◌^◌, length, drop,
 ghost use Rattle.at_text.specs.Texts.{base_of as text_begin};
 ghost use Rattle.at_nest.specs.Holding.{Kept};
 ghost use Rattle.at_nest.specs.Standing.{StandsFor};
-ghost use Rattle.at_geojson.specs.Atoms.{IsOwn, IsFold};
+ghost use Rattle.at_geojson.specs.Atoms.{IsOwn, IsFold, IsRun};
 ghost use Rattle.at_run.specs.declared.forms.Form.TheVariants.{GeoJson};
 ghost use Rattle.at_run.specs.Files.{HasFileFaultIn};
 ghost use Rattle.at_run.specs.Answers.{IfFound, IsFilePart};
@@ -54,7 +54,7 @@ fn tree_part(
     whole: Fragment<GeoAlgebra>,
 ) -> Result<Part, RunFault>
     requires fits { length bytes.now ≤ 2 ^ 28 }
-    requires whole { StandsFor (Kept (IsOwn algebra.now) (IsFold algebra.now)) (text_begin bytes.now) (drop (text_begin bytes.now) bytes.now) whole }
+    requires whole { StandsFor (Kept (IsOwn algebra.now) (IsFold algebra.now) (IsRun algebra.now)) (text_begin bytes.now) (drop (text_begin bytes.now) bytes.now) whole }
     ensures { EndsJson algebra.now.digits algebra.now.how algebra.now.query bytes.now result }
 {
     match finish(alloc, algebra, bytes, whole) {
@@ -76,7 +76,7 @@ pub fn finish_json(
     whole: Fragment<GeoAlgebra>,
 ) -> Result<Part, RunFault>
     requires fits { length bytes.now ≤ 2 ^ 28 }
-    requires whole { StandsFor (Kept (IsOwn algebra.now) (IsFold algebra.now)) (text_begin bytes.now) (drop (text_begin bytes.now) bytes.now) whole }
+    requires whole { StandsFor (Kept (IsOwn algebra.now) (IsFold algebra.now) (IsRun algebra.now)) (text_begin bytes.now) (drop (text_begin bytes.now) bytes.now) whole }
     ensures { MatchResult result (IsFilePart GeoJson algebra.now.digits algebra.now.how algebra.now.query bytes.now)
         (λ end. IfFound end (λ fault. HasFileFaultIn GeoJson algebra.now.digits algebra.now.how bytes.now (Some fault))) }
 {

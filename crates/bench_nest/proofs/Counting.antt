@@ -1,5 +1,5 @@
 -- Sums whose range is wrapped round, and what they say of trees.
-use Rattle.std.proofs.Common.{◌≡◌, ℕ, ◌+◌, ◌%◌, ◌^◌, inl, inr, false, List, [], ◌∷◌, refl, sym, ◌∙◌, ap, subst, arith}
+use Rattle.std.proofs.Common.{◌≡◌, ℕ, ◌+◌, ◌%◌, ◌^◌, inl, inr, false, List, [], ◌∷◌, ◌++◌, refl, sym, ◌∙◌, ap, subst, arith}
 use Rattle.std.specs.List.{sum, sum_by}
 use Rattle.std.proofs.Math.Nat.{mod-add-mod, add-mod-mod}
 use Rattle.std.proofs.lemmas.Bool.{true≢false}
@@ -10,9 +10,9 @@ use Rattle.at_lex.specs.Runs.{JsonRun}
 use Rattle.at_lex.specs.Spans.{AreRun}
 use Rattle.at_lex.proofs.RunBytes.{word_run}
 use Rattle.at_nest.specs.declared.algebra.Member.{Member}
-use Rattle.at_nest.specs.Folds.{IsScalarText, AreFolds, AreMemberFolds}
+use Rattle.at_nest.specs.Folds.{IsScalarText, trees, Covers, AreItemFolds, AreMemberFolds}
 use Rattle.at_nest.specs.Tree.{Tree, literal, number, text, array, object, Trees, no_trees, tree_and, Members, no_members, member_and, Spells}
-use Rattle.bench_nest.specs.Nodes.{nodes_of, nodes_of_items, nodes_of_members, CountsNodes}
+use Rattle.bench_nest.specs.Nodes.{nodes_of, nodes_of_items, nodes_of_members, CountsNodes, CountsMany}
 
 -- ---- a string, literal or number is one value
 
@@ -41,11 +41,19 @@ scalar_counts at w (object i ms) h s = absurd (no_scalar 0x7B w _ s.1.1 (λ e. o
 sums_on : (m x s n k : ℕ) → x ≡ n % m → s % m ≡ k % m → (x + s) % m ≡ (n + k) % m
 sums_on m x s n k e f = ap (λ z. (z + s) % m) e ∙ (mod-add-mod n m s ∙ (sym (add-mod-mod n s m) ∙ (ap (λ z. (n + z) % m) f ∙ add-mod-mod n k m)))
 
-items_counted : (xs : List ℕ) (ts : Trees) → AreFolds CountsNodes xs ts → sum xs % 2 ^ 64 ≡ nodes_of_items ts % 2 ^ 64
-items_counted [] no_trees h = refl
-items_counted (x ∷ xs) (tree_and t ts) h = ap (λ z. z % 2 ^ 64) (sum_by-cons (λ y. y) x xs) ∙ sums_on (2 ^ 64) x (sum xs) (nodes_of t) (nodes_of_items ts) h.0 (items_counted xs ts h.1)
-items_counted [] (tree_and t ts) h = absurd h
-items_counted (x ∷ xs) no_trees h = absurd h
+trees_counted : (us vs : List Tree) → nodes_of_items (trees (us ++ vs)) ≡ nodes_of_items (trees us) + nodes_of_items (trees vs)
+trees_counted [] vs = refl
+trees_counted (t ∷ us) vs = let f : nodes_of_items (trees (us ++ vs)) ≡ nodes_of_items (trees us) + nodes_of_items (trees vs) = trees_counted us vs in omega (arith, f)
+
+covers_counted : (x : ℕ) (us : List Tree) → Covers CountsNodes CountsMany x us → x ≡ nodes_of_items (trees us) % 2 ^ 64
+covers_counted x us (inl (t, e, h)) = h ∙ (ap (λ z. z % 2 ^ 64) (let f : nodes_of t ≡ nodes_of t + 0 = omega arith in f) ∙ ap (λ z. nodes_of_items (trees z) % 2 ^ 64) (sym e))
+covers_counted x us (inr h) = h
+
+items_counted : (xs : List ℕ) (ts : List Tree) → AreItemFolds CountsNodes CountsMany xs ts → sum xs % 2 ^ 64 ≡ nodes_of_items (trees ts) % 2 ^ 64
+items_counted [] ts e = ap (λ z. nodes_of_items (trees z) % 2 ^ 64) (sym e)
+items_counted (x ∷ xs) ts (us, vs, e, k, h) = ap (λ z. z % 2 ^ 64) (sum_by-cons (λ y. y) x xs)
+    ∙ (sums_on (2 ^ 64) x (sum xs) (nodes_of_items (trees us)) (nodes_of_items (trees vs)) (covers_counted x us k) (items_counted xs vs h)
+    ∙ ap (λ z. z % 2 ^ 64) (sym (trees_counted us vs) ∙ ap (λ z. nodes_of_items (trees z)) (sym e)))
 
 members_counted : (xs : List (Member ℕ)) (ms : Members) → AreMemberFolds CountsNodes xs ms → sum_by (λ m. m.value) xs % 2 ^ 64 ≡ nodes_of_members ms % 2 ^ 64
 members_counted [] no_members h = refl
@@ -56,8 +64,8 @@ members_counted (x ∷ xs) no_members h = absurd h
 one_more : (m s k : ℕ) → s % m ≡ k % m → (s % m + 1) % m ≡ (1 + k) % m
 one_more m s k e = ap (λ z. (z + 1) % m) e ∙ (mod-add-mod k m 1 ∙ ap (λ z. z % m) (let f : k + 1 ≡ 1 + k = omega arith in f))
 
-pub array_counts : (at : ℕ) (xs : List ℕ) (ts : Trees) → AreFolds CountsNodes xs ts → CountsNodes ((sum xs % 2 ^ 64 + 1) % 2 ^ 64) (array at ts)
-array_counts at xs ts h = one_more (2 ^ 64) (sum xs) (nodes_of_items ts) (items_counted xs ts h)
+pub array_counts : (at : ℕ) (xs : List ℕ) (ts : List Tree) → AreItemFolds CountsNodes CountsMany xs ts → CountsNodes ((sum xs % 2 ^ 64 + 1) % 2 ^ 64) (array at (trees ts))
+array_counts at xs ts h = one_more (2 ^ 64) (sum xs) (nodes_of_items (trees ts)) (items_counted xs ts h)
 
 pub object_counts : (at : ℕ) (xs : List (Member ℕ)) (ms : Members) → AreMemberFolds CountsNodes xs ms → CountsNodes ((sum_by (λ m. m.value) xs % 2 ^ 64 + 1) % 2 ^ 64) (object at ms)
 object_counts at xs ms h = one_more (2 ^ 64) (sum_by (λ (y : Member ℕ). y.value) xs) (nodes_of_members ms) (members_counted xs ms h)

@@ -1,8 +1,9 @@
 -- How many values a JSON text has, in one another or side by side.
-use Rattle.std.specs.Prelude.{◌≡◌, ℕ, ◌+◌, ◌%◌, ◌^◌}
+use Rattle.std.specs.Prelude.{◌≡◌, ℕ, ◌+◌, ◌%◌, ◌^◌, List}
 use Rattle.std.specs.Bool.{⊤}
 use Rattle.at_nest.specs.Tree.{Tree, literal, number, text, array, object, Trees, no_trees, tree_and, Members, no_members, member_and}
-use Rattle.at_nest.specs.Holding.{Kept}
+use Rattle.at_nest.specs.Folds.{trees}
+use Rattle.at_nest.specs.Holding.{Content, Kept}
 
 abbrev mutual
   pub nodes_of : Tree → ℕ
@@ -24,9 +25,13 @@ abbrev mutual
 abbrev pub CountsNodes : ℕ → Tree → Type 0
 CountsNodes n t = n ≡ nodes_of t % 2 ^ 64
 
+-- the same of trees one behind another
+abbrev pub CountsMany : ℕ → List Tree → Type 0
+CountsMany n ts = n ≡ nodes_of_items (trees ts) % 2 ^ 64
+
 -- any number is one that the algebra makes
 abbrev pub IsAny : ℕ → Type 0
 IsAny n = ⊤
 
-abbrev pub IsCount : ℕ → Tree → Type 0
-IsCount = Kept IsAny CountsNodes
+abbrev pub IsCount : ℕ → Content → Type 0
+IsCount = Kept IsAny CountsNodes CountsMany

@@ -1,9 +1,9 @@
 //! The algebra that counts the values of a tree.
 
-ghost use Rattle.std.specs.Prelude.{◌≡◌, ◌%◌, ◌^◌, sum, sum_by, All, IfOk};
-ghost use Rattle.at_nest.specs.Tree.{Trees, Members, array as array_tree, object as object_tree};
-ghost use Rattle.at_nest.specs.Folds.{AreFolds, AreMemberFolds};
-ghost use Rattle.bench_nest.specs.Nodes.{IsAny, CountsNodes};
+ghost use Rattle.std.specs.Prelude.{◌≡◌, ◌%◌, ◌^◌, List, sum, sum_by, All, IfOk};
+ghost use Rattle.at_nest.specs.Tree.{Tree, Members, array as array_tree, object as object_tree};
+ghost use Rattle.at_nest.specs.Folds.{trees, AreItemFolds, AreMemberFolds};
+ghost use Rattle.bench_nest.specs.Nodes.{IsAny, CountsNodes, CountsMany};
 
 use crate::passing::pass_opening;
 use at_nest::{Algebra, Attempt, Member};
@@ -45,6 +45,8 @@ impl Algebra for Nodes {
 
     ghost is_fold = { λ _. CountsNodes };
 
+    ghost is_run = { λ _. CountsMany };
+
     fn scalar(&self, _alloc: Global, _text: &[u8], _at: u32) -> Result<u64, Memory> {
         Ok(1)
     }
@@ -52,7 +54,7 @@ impl Algebra for Nodes {
     fn array(&self, _alloc: Global, at: u32, items: Vec<u64>) -> Result<u64, Memory>
         requires { All IsAny items.items }
         ensures own { IfOk result IsAny }
-        ensures fold { IfOk result (λ n. (ts : Trees) → AreFolds CountsNodes items.items ts → CountsNodes n (array_tree at ts)) }
+        ensures fold { IfOk result (λ n. (ts : List Tree) → AreItemFolds CountsNodes CountsMany items.items ts → CountsNodes n (array_tree at (trees ts))) }
     {
         let _ = at;
         Ok(sum_of(items.as_slice()).wrapping_add(1))

@@ -16,6 +16,8 @@ impl Algebra for Leaping {
 
     ghost is_fold = { λ _ _ _. Unit {0} };
 
+    ghost is_run = { λ _ _ _. Unit {0} };
+
     fn scalar(&self, _alloc: Global, _text: &[u8], _at: u32) -> Result<u64, Memory> {
         Ok(1)
     }

@@ -32,6 +32,8 @@ impl Algebra for Tally {
 
     ghost is_fold = { λ _ _ _. Unit {0} };
 
+    ghost is_run = { λ _ _ _. Unit {0} };
+
     fn scalar(&self, _alloc: Global, _text: &[u8], _at: u32) -> Result<u64, Memory> {
         Ok(1)
     }
@@ -81,6 +83,8 @@ impl Algebra for Counted {
     ghost is_own = { λ _ _. Unit {0} };
 
     ghost is_fold = { λ _ _ _. Unit {0} };
+
+    ghost is_run = { λ _ _ _. Unit {0} };
 
     fn scalar(&self, _alloc: Global, _text: &[u8], _at: u32) -> Result<u64, Memory> {
         self.call();

@@ -1,34 +1,38 @@
 -- A closing bracket stands where it is kept, is refused, or closes the innermost level.
-use Rattle.std.proofs.Common.{refl, sym, ◌∙◌, ap, None}
+use Rattle.std.proofs.Common.{refl, sym, ◌∙◌, subst, None}
 use Rattle.std.proofs.lemmas.Result.{IfOk-weaker}
-use Rattle.at_nest.specs.Shown.{shown, held_of, value_added}
-use Rattle.at_nest.specs.Holding.{Kept}
-use Rattle.at_nest.proofs.Adding.{innermost_own}
+use Rattle.at_nest.specs.Shown.{shown, held_of}
+use Rattle.at_nest.specs.Holding.{Kept, PushesValue}
+use Rattle.at_nest.proofs.Adding.{innermost_own, without_innermost}
 use Rattle.at_nest.proofs.Showing.{close_outside, close_refused, close_closes}
 use Rattle.at_nest.proofs.bodies.close.Goals as goal
 
 pub closed-requires-clause-own : goal.closed-requires-clause-own
-closed-requires-clause-own g c κs within = innermost_own (g.A.Algebra.is_own c.args.algebra.now) (g.A.Algebra.is_fold c.args.algebra.now) (shown c.args.body.now) (held_of c.in-Some.level) (shown c.innermost.new.self).levels c.requires c.in-Some.ensures.levels
+closed-requires-clause-own g c κs within = innermost_own (g.A.Algebra.is_own c.args.algebra.now) (g.A.Algebra.is_fold c.args.algebra.now) (g.A.Algebra.is_run c.args.algebra.now) (shown c.args.body.now) (held_of c.in-Some.level) (shown c.innermost.new.self).levels c.requires c.in-Some.ensures.levels
 
 pub returns-in-None : goal.returns-in-None
-returns-in-None g c = let own = g.A.Algebra.is_own c.args.algebra.now in let fold = g.A.Algebra.is_fold c.args.algebra.now in
+returns-in-None g c = let own = g.A.Algebra.is_own c.args.algebra.now in let fold = g.A.Algebra.is_fold c.args.algebra.now in let run = g.A.Algebra.is_run c.args.algebra.now in
     IfOk-weaker c.keep.result _ _
-    (λ r d base w f h. close_outside (Kept own fold) base w (shown c.args.body.now) (shown c.innermost.new.self).outer (shown c.keep.new.self) r c.args.bracket c.args.at f c.in-None.ensures.levels.0 (sym c.innermost.ensures.outer) d h)
+    (λ r d base w f h. close_outside (Kept own fold run) base w (shown c.args.body.now) (shown c.innermost.new.self).outer (shown c.keep.new.self) r c.args.bracket c.args.at f c.in-None.ensures.levels.0 (sym c.innermost.ensures.outer) d h)
     c.keep.ensures
 
+pub read_value-requires-clause-held : goal.read_value-requires-clause-held
+read_value-requires-clause-held g c κs within = let own = g.A.Algebra.is_own c.args.algebra.now in let fold = g.A.Algebra.is_fold c.args.algebra.now in let run = g.A.Algebra.is_run c.args.algebra.now in
+    without_innermost (Kept own fold run) (shown c.args.body.now) (shown c.innermost.new.self).outer (held_of c.in-Some.level) (shown c.innermost.new.self).levels c.requires c.in-Some.ensures.levels (sym c.innermost.ensures.outer)
+
 pub returns-in_ok-atom-in-Some : goal.returns-in_ok-atom-in-Some
-returns-in_ok-atom-in-Some g c = let own = g.A.Algebra.is_own c.args.algebra.now in let fold = g.A.Algebra.is_fold c.args.algebra.now in
+returns-in_ok-atom-in-Some g c = let own = g.A.Algebra.is_own c.args.algebra.now in let fold = g.A.Algebra.is_fold c.args.algebra.now in let run = g.A.Algebra.is_run c.args.algebra.now in
     let x = c.in_ok-atom-in-Some.atom in
-    IfOk-weaker c.value.result _ _
-    (λ r d base w f h. close_closes (Kept own fold) base w (shown c.args.body.now) (shown c.innermost.new.self).outer (shown c.innermost.new.self).levels (shown c.value.new.self) r (held_of c.in-Some.level) c.args.bracket c.args.at x f c.in-Some.ensures.levels
+    IfOk-weaker c.read_value.result _ _
+    (λ r d base w f h. close_closes (Kept own fold run) base w (shown c.args.body.now) (shown c.innermost.new.self).outer (shown c.innermost.new.self).levels (shown c.read_value.new.body) r (held_of c.in-Some.level) c.args.bracket c.args.at x f c.in-Some.ensures.levels
     (sym c.innermost.ensures.outer) (sym c.can_close.ensures ∙ c.if-can_close.true)
-    (d ∙ ap (λ n. value_added n x (shown c.innermost.new.self).outer (shown c.innermost.new.self).levels) c.first-from.ensures) h
+    (subst (λ n. PushesValue (Kept own fold run) (shown c.innermost.new.self) (shown c.read_value.new.body) r n x) c.first-from.ensures d) h
     (λ l k. (c.in_ok-atom-in-Some.ensures.own, c.in_ok-atom-in-Some.ensures.fold l k)))
-    c.value.ensures
+    c.read_value.ensures
 
 pub returns-else-can_close : goal.returns-else-can_close
-returns-else-can_close g c = let own = g.A.Algebra.is_own c.args.algebra.now in let fold = g.A.Algebra.is_fold c.args.algebra.now in
+returns-else-can_close g c = let own = g.A.Algebra.is_own c.args.algebra.now in let fold = g.A.Algebra.is_fold c.args.algebra.now in let run = g.A.Algebra.is_run c.args.algebra.now in
     IfOk-weaker c.put.result _ _
-    (λ r d base w f h. close_refused (Kept own fold) base w (shown c.args.body.now) (shown c.innermost.new.self).outer (shown c.innermost.new.self).levels (shown c.put.new.self) r (held_of c.in-Some.level) c.args.bracket c.args.at f c.in-Some.ensures.levels
+    (λ r d base w f h. close_refused (Kept own fold run) base w (shown c.args.body.now) (shown c.innermost.new.self).outer (shown c.innermost.new.self).levels (shown c.put.new.self) r (held_of c.in-Some.level) c.args.bracket c.args.at f c.in-Some.ensures.levels
     (sym c.innermost.ensures.outer) (sym c.can_close.ensures ∙ c.if-can_close.false) (d (held_of c.in-Some.level) None refl) h)
     c.put.ensures

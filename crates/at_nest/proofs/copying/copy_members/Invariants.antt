@@ -4,4 +4,4 @@ use Rattle.at_nest.specs.Holding.{Kept, CopiesMembers}
 use Rattle.at_nest.proofs.copying.copy_members.Given as goal
 
 abbrev pub invariant-loop-member : goal.invariant-loop-member
-invariant-loop-member g l = CopiesMembers (Kept (g.A.Algebra.is_own l.algebra) (g.A.Algebra.is_fold l.algebra)) (take l.member-index l.members.items) l.copied.items
+invariant-loop-member g l = CopiesMembers (Kept (g.A.Algebra.is_own l.algebra) (g.A.Algebra.is_fold l.algebra) (g.A.Algebra.is_run l.algebra)) (take l.member-index l.members.items) l.copied.items

@@ -7,9 +7,9 @@ use Rattle.at_nest.specs.Holding.{IsHeld, Kept}
 use Rattle.at_nest.proofs.levels.closed.Goals as goal
 
 pub returns-in-Array-clause-fold : goal.returns-in-Array-clause-fold
-returns-in-Array-clause-fold g c = let own = g.A.Algebra.is_own c.args.algebra.now in let fold = g.A.Algebra.is_fold c.args.algebra.now in
-    IfOk-weaker c.array.result _ _ (λ atom h l k. array_built own fold c.in-Array.field-0.from c.in-Array.field-0.state c.in-Array.field-0.items.items atom l h (subst (λ z. IsHeld (Kept own fold) (held_of z) l) c.in-Array.is k)) c.array.ensures.fold
+returns-in-Array-clause-fold g c = let own = g.A.Algebra.is_own c.args.algebra.now in let fold = g.A.Algebra.is_fold c.args.algebra.now in let run = g.A.Algebra.is_run c.args.algebra.now in
+    IfOk-weaker c.array.result _ _ (λ atom h l k. array_built own fold run c.in-Array.field-0.from c.in-Array.field-0.state c.in-Array.field-0.items.items atom l h (subst (λ z. IsHeld (Kept own fold run) (held_of z) l) c.in-Array.is k)) c.array.ensures.fold
 
 pub returns-clause-fold : goal.returns-clause-fold
-returns-clause-fold g c = let own = g.A.Algebra.is_own c.args.algebra.now in let fold = g.A.Algebra.is_fold c.args.algebra.now in
-    IfOk-weaker c.object.result _ _ (λ atom h l k. object_built own fold c.in-Object.field-0.from c.in-Object.field-0.state c.in-Object.field-0.members.items atom l h (subst (λ z. IsHeld (Kept own fold) (held_of z) l) c.in-Object.is k)) c.object.ensures.fold
+returns-clause-fold g c = let own = g.A.Algebra.is_own c.args.algebra.now in let fold = g.A.Algebra.is_fold c.args.algebra.now in let run = g.A.Algebra.is_run c.args.algebra.now in
+    IfOk-weaker c.object.result _ _ (λ atom h l k. object_built own fold run c.in-Object.field-0.from c.in-Object.field-0.state c.in-Object.field-0.members.items atom l h (subst (λ z. IsHeld (Kept own fold run) (held_of z) l) c.in-Object.is k)) c.object.ensures.fold

@@ -7,8 +7,8 @@ use Rattle.at_nest.proofs.Ahead.{whole_ahead, attempt_front}
 use Rattle.at_nest.proofs.openings.read_opening.Goals as goal
 
 pub returns-in_ok-halt-in-Whole : goal.returns-in_ok-halt-in-Whole
-returns-in_ok-halt-in-Whole g c = let own = g.A.Algebra.is_own c.args.algebra.now in let fold = g.A.Algebra.is_fold c.args.algebra.now in
-    whole_ahead own fold (shown c.args.body.now) (shown c.value-in-Whole.new.self) c.in_ok-halt-in-Whole.halt c.args.bracket c.args.at c.args.ahead.now c.in-Whole.len c.in-Whole.atom c.requires.begins
+returns-in_ok-halt-in-Whole g c = let own = g.A.Algebra.is_own c.args.algebra.now in let fold = g.A.Algebra.is_fold c.args.algebra.now in let run = g.A.Algebra.is_run c.args.algebra.now in
+    whole_ahead own fold run (shown c.args.body.now) (shown c.read_value.new.body) c.in_ok-halt-in-Whole.halt c.args.bracket c.args.at c.args.ahead.now c.in-Whole.len c.in-Whole.atom c.requires.begins
     (subst (λ (z : Attempt g.row.A-Atom.Denot). IsAttempt own fold c.args.at c.args.ahead.now z) c.in-Whole.is
     (attempt_front own fold c.args.at (take c.window-seen.result c.args.ahead.now) (drop c.window-seen.result c.args.ahead.now) c.args.ahead.now c.in_ok-len.field-0 (take-append-drop c.window-seen.result c.args.ahead.now) c.in_ok-len.ensures))
     c.in_ok-halt-in-Whole.ensures

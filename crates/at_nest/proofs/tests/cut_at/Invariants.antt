@@ -9,5 +9,5 @@ abbrev pub invariant-loop-place : goal.invariant-loop-place
 invariant-loop-place g l = record {
   low : l.span.from ≤ l.at;
   high : l.at ≤ l.span.to;
-  stands : StandsFor (Kept (g.A.Algebra.is_own l.algebra) (g.A.Algebra.is_fold l.algebra)) l.span.from (part_of l.bytes l.span.from l.at) l.whole;
+  stands : StandsFor (Kept (g.A.Algebra.is_own l.algebra) (g.A.Algebra.is_fold l.algebra) (g.A.Algebra.is_run l.algebra)) l.span.from (part_of l.bytes l.span.from l.at) l.whole;
 }

@@ -1,0 +1,234 @@
+-- A row of values, each behind a comma: how it grows before the first open level, and what it does to the level behind which it is put.
+use Rattle.std.proofs.Common.{◌≡◌, ℕ, Option, Some, None, List, [], ◌∷◌, ◌++◌, inl, inr, refl, sym, ◌∙◌, ap, subst, append_assoc, append-nil}
+use Rattle.std.proofs.lemmas.Option.{none-some, same_Some}
+use Rattle.at_nest.specs.declared.levels.ArrayState.TheVariants as array
+use Rattle.at_nest.specs.declared.levels.ObjectState.TheVariants as object
+use Rattle.at_nest.specs.declared.levels.Level.{Level as CodeLevel}
+use Rattle.at_nest.specs.declared.levels.Step.TheVariants.{On, Refused}
+use Rattle.at_nest.specs.declared.pieces.Piece.{Piece as CodePiece}
+use Rattle.at_nest.specs.declared.pieces.Piece.TheVariants.{Comma, Row as RowPiece}
+use Rattle.at_nest.specs.declared.pieces.Row.{Row}
+use Rattle.at_nest.specs.declared.pieces.Halt.{Halt as CodeHalt}
+use Rattle.at_nest.specs.Tree.{Tree}
+use Rattle.at_nest.specs.Forms.{Mark, Piece, opens, closes, mark, comma, colon, quoted, entry}
+use Rattle.at_nest.specs.Walks.{comma_kind, value_kind}
+use Rattle.at_nest.specs.Levels.{Mode, at_after, at_name, Level, values_in, marks, move, moves, further, with_mark, push_mark, push_all, push_then}
+use Rattle.at_nest.specs.Shown.{Held, held_of, AreOwn, IsStep, array_level, object_level, Shown, show_as, kept_outside, put_back, comma_next, stop_at}
+use Rattle.at_nest.specs.Holding.{Content, free, row_marks, row_trees, Each, Gains, GainsAll, IsHeld, EachHeld, IsHeldPiece, IsRow, ArePieces, EachPiece, IsOfItems, IsPushedAs, PushesValue, PushesBehind, PushesRow, LongerRow, IsRowNext}
+use Rattle.at_nest.proofs.Held.{values_append, with_one, IsMoved, comma_moves, each_cut}
+use Rattle.at_nest.proofs.Pushes.{marks_append}
+use Rattle.at_nest.proofs.Joining.{push_marks}
+use Rattle.at_nest.proofs.Showing.{pieces_append, pieces_cut}
+
+-- ---- the marks of a row
+
+row_marks_append : (es gs : List (ℕ × ℕ × Tree)) → row_marks (es ++ gs) ≡ row_marks es ++ row_marks gs
+row_marks_append [] gs = refl
+row_marks_append (e ∷ es) gs = ap (λ z. comma e.0 ∷ entry e.1 e.2 ∷ z) (row_marks_append es gs)
+
+row_trees_append : (es gs : List (ℕ × ℕ × Tree)) → row_trees (es ++ gs) ≡ row_trees es ++ row_trees gs
+row_trees_append [] gs = refl
+row_trees_append (e ∷ es) gs = ap (λ z. e.2 ∷ z) (row_trees_append es gs)
+
+row_values : (es : List (ℕ × ℕ × Tree)) → values_in free (row_marks es) ≡ row_trees es
+row_values [] = refl
+row_values (e ∷ es) = ap (λ z. e.2 ∷ z) (row_values es)
+
+row_moves : (es : List (ℕ × ℕ × Tree)) → moves at_after (row_marks es) ≡ Some at_after
+row_moves [] = refl
+row_moves (e ∷ es) = row_moves es
+
+-- marks before the first open level
+push_outside : (xs : List (Mark Tree)) (fo : List (Piece Tree)) → push_all free (marks xs) (record { outer = fo; levels = [] }) ≡ further (record { outer = fo ++ marks xs; levels = [] })
+push_outside [] fo = ap (λ z. further (record { outer = z; levels = [] })) (sym (append-nil fo))
+push_outside (x ∷ xs) fo = push_outside xs (fo ++ mark x ∷ []) ∙ ap (λ z. further (record { outer = z; levels = [] })) (append_assoc fo (mark x ∷ []) (marks xs))
+
+module _ {X : Type 0} (IsKept : X → Content → Type 0) where
+  no_row : (r : Row X) (base : ℕ) (w : List ℕ) (p : Piece Tree) → IsHeldPiece IsKept base w (RowPiece r) p → ⊥
+  no_row r base w (opens b j) u = u
+  no_row r base w (closes b j) u = u
+  no_row r base w (mark x) u = u
+
+  is_row : (r : Row X) (base : ℕ) (w : List ℕ) (ps : List (Piece Tree)) → ArePieces IsKept base w (RowPiece r) ps → IsRow IsKept r ps
+  is_row r base w ps (inl (p, e, h)) = absurd (no_row r base w p h)
+  is_row r base w ps (inr h) = h
+
+  is_comma : (c : ℕ) (base : ℕ) (w : List ℕ) (ps : List (Piece Tree)) → ArePieces IsKept base w (Comma c) ps → ps ≡ mark (comma c) ∷ []
+  is_comma c base w ps (inl (p, e, h)) = e ∙ ap (λ z. z ∷ []) (one_comma p h)
+    where
+      one_comma : (p : Piece Tree) → IsHeldPiece IsKept base w (Comma c) p → p ≡ mark (comma c)
+      one_comma (mark (comma j)) h = ap (λ n. mark (comma n)) (sym h)
+      one_comma (opens b j) h = absurd h
+      one_comma (closes b j) h = absurd h
+      one_comma (mark (colon j)) h = absurd h
+      one_comma (mark (quoted j cs)) h = absurd h
+      one_comma (mark (entry j t)) h = absurd h
+  is_comma c base w ps (inr h) = absurd h
+
+  -- what is kept before the last of what stands before the first open level
+  pub without_last : (s : Shown X) (front : List (CodePiece X)) (c : CodePiece X) → IsOfItems IsKept s → s.outer ≡ front ++ c ∷ [] → IsOfItems IsKept (show_as front s.levels)
+  without_last s front c (base, w, f, h) e = let r = pieces_cut IsKept base w front c f.outer (subst (λ z. EachPiece IsKept base w z f.outer) e h.0) in (base, w, record { outer = r.0; levels = f.levels }, (r.3, h.1))
+
+  -- the same is kept
+  pub items_same : (s t : Shown X) → t.outer ≡ s.outer → t.levels ≡ s.levels → IsOfItems IsKept s → IsOfItems IsKept t
+  items_same s t e e2 (base, w, f, h) = (base, w, f, (subst (λ z. EachPiece IsKept base w z f.outer) (sym e) h.0, subst (λ z. EachHeld IsKept z f.levels) (sym e2) h.1))
+
+  pub value_same : (old s new : Shown X) (r : Option CodeHalt) (i : ℕ) (x : X) → s.outer ≡ old.outer → s.levels ≡ old.levels → PushesValue IsKept s new r i x → PushesValue IsKept old new r i x
+  value_same old s new r i x e e2 pushes base w f t h k = pushes base w f t (subst (λ z. EachPiece IsKept base w z f.outer) (sym e) h.0, subst (λ z. EachHeld IsKept z f.levels) (sym e2) h.1) k
+
+  -- ---- before the first open level
+
+  pub row_begun : (old new : Shown X) (r : Option CodeHalt) (row : Row X) (x : X) → old.levels ≡ [] → Gains IsKept [] x row.items.items → (new, r) ≡ kept_outside old.outer (RowPiece row) → PushesBehind IsKept old new r row.comma row.first x
+  row_begun old new r row x e more d base w f t h k = subst (λ a. IsPushedAs IsKept base w a.0 a.1 (push_all free (mark (comma row.comma) ∷ mark (entry row.first t) ∷ []) f)) (sym d) (here f.levels (subst (λ z. EachHeld IsKept z f.levels) e h.1))
+    where
+      here : (ls : List (Level Tree)) → EachHeld IsKept [] ls → IsPushedAs IsKept base w (show_as (old.outer ++ RowPiece row ∷ []) []) None (push_all free (mark (comma row.comma) ∷ mark (entry row.first t) ∷ []) (record { outer = f.outer; levels = ls }))
+      here [] u = subst (IsPushedAs IsKept base w (show_as (old.outer ++ RowPiece row ∷ []) []) None) (sym (push_outside (comma row.comma ∷ entry row.first t ∷ []) f.outer))
+          (pieces_append IsKept base w old.outer f.outer (RowPiece row) (mark (comma row.comma) ∷ mark (entry row.first t) ∷ []) h.0 (inr (record { tree = t; others = []; split = refl; items = more [] (t ∷ []) refl (inl (t, refl, k)) })), tt)
+      here (l ∷ ls) u = absurd u
+
+  longer_split : (before row : Row X) (c i : ℕ) (tree t : Tree) (others : List (ℕ × ℕ × Tree)) (vs : List (Piece Tree)) → row.comma ≡ before.comma → row.first ≡ before.first → vs ≡ marks (row_marks ((before.comma, before.first, tree) ∷ others))
+      → vs ++ (mark (comma c) ∷ mark (entry i t) ∷ []) ≡ marks (row_marks ((row.comma, row.first, tree) ∷ (others ++ (c, i, t) ∷ [])))
+  longer_split before row c i tree t others vs ec ei e = ap (λ z. z ++ (mark (comma c) ∷ mark (entry i t) ∷ [])) e ∙ (sym (marks_append (row_marks ((before.comma, before.first, tree) ∷ others)) (comma c ∷ entry i t ∷ []))
+      ∙ (ap marks (sym (row_marks_append ((before.comma, before.first, tree) ∷ others) ((c, i, t) ∷ [])))
+      ∙ (ap (λ n. marks (row_marks ((n, before.first, tree) ∷ (others ++ (c, i, t) ∷ [])))) (sym ec) ∙ ap (λ n. marks (row_marks ((row.comma, n, tree) ∷ (others ++ (c, i, t) ∷ [])))) (sym ei))))
+
+  pub row_longer : (old new : Shown X) (r : Option CodeHalt) (front : List (CodePiece X)) (before row : Row X) (c i : ℕ) (x : X) → old.levels ≡ [] → old.outer ≡ front ++ RowPiece before ∷ [] → LongerRow IsKept before row x → (new, r) ≡ kept_outside front (RowPiece row) → PushesBehind IsKept old new r c i x
+  row_longer old new r front before row c i x e e2 (ec, ei, more) d base w f t h k = subst (λ a. IsPushedAs IsKept base w a.0 a.1 (push_all free (mark (comma c) ∷ mark (entry i t) ∷ []) f)) (sym d) (here f.levels (subst (λ z. EachHeld IsKept z f.levels) e h.1))
+    where
+      kept : EachPiece IsKept base w (front ++ RowPiece row ∷ []) (f.outer ++ (mark (comma c) ∷ mark (entry i t) ∷ []))
+      kept = let s = pieces_cut IsKept base w front (RowPiece before) f.outer (subst (λ z. EachPiece IsKept base w z f.outer) e2 h.0) in
+          let q : IsRow IsKept before s.1 = is_row before base w s.1 s.4 in
+          subst (EachPiece IsKept base w (front ++ RowPiece row ∷ [])) (sym (ap (λ z. z ++ (mark (comma c) ∷ mark (entry i t) ∷ [])) s.2 ∙ append_assoc s.0 s.1 (mark (comma c) ∷ mark (entry i t) ∷ [])))
+          (pieces_append IsKept base w front s.0 (RowPiece row) (s.1 ++ (mark (comma c) ∷ mark (entry i t) ∷ [])) s.3 (inr (record {
+            tree = q.tree;
+            others = q.others ++ (c, i, t) ∷ [];
+            split = longer_split before row c i q.tree t q.others s.1 ec ei q.split;
+            items = subst (λ z. Each IsKept row.items.items (q.tree ∷ z)) (sym (row_trees_append q.others ((c, i, t) ∷ []))) (more (q.tree ∷ row_trees q.others) (t ∷ []) q.items (inl (t, refl, k)));
+          })))
+
+      here : (ls : List (Level Tree)) → EachHeld IsKept [] ls → IsPushedAs IsKept base w (show_as (front ++ RowPiece row ∷ []) []) None (push_all free (mark (comma c) ∷ mark (entry i t) ∷ []) (record { outer = f.outer; levels = ls }))
+      here [] u = subst (IsPushedAs IsKept base w (show_as (front ++ RowPiece row ∷ []) []) None) (sym (push_outside (comma c ∷ entry i t ∷ []) f.outer)) (kept, tt)
+      here (l ∷ ls) u = absurd u
+
+  -- a value, where a comma was the last
+  pub value_behind : (old new : Shown X) (r : Option CodeHalt) (front : List (CodePiece X)) (c i : ℕ) (x : X) → old.levels ≡ [] → old.outer ≡ front ++ Comma c ∷ [] → PushesBehind IsKept (show_as front old.levels) new r c i x → PushesValue IsKept old new r i x
+  value_behind old new r front c i x e e2 pushes base w f t h k = here f.levels (subst (λ z. EachHeld IsKept z f.levels) e h.1)
+    where
+      here : (ls : List (Level Tree)) → EachHeld IsKept [] ls → IsPushedAs IsKept base w new r (push_mark f.outer ls (entry i t))
+      here [] u = let s = pieces_cut IsKept base w front (Comma c) f.outer (subst (λ z. EachPiece IsKept base w z f.outer) e2 h.0) in
+          let outer : f.outer ≡ s.0 ++ mark (comma c) ∷ [] = s.2 ∙ ap (λ z. s.0 ++ z) (is_comma c base w s.1 s.4) in
+          let all : s.0 ++ (mark (comma c) ∷ mark (entry i t) ∷ []) ≡ f.outer ++ mark (entry i t) ∷ [] = sym (append_assoc s.0 (mark (comma c) ∷ []) (mark (entry i t) ∷ [])) ∙ ap (λ z. z ++ mark (entry i t) ∷ []) (sym outer) in
+          subst (IsPushedAs IsKept base w new r) (push_outside (comma c ∷ entry i t ∷ []) s.0 ∙ ap (λ z. further (record { outer = z; levels = [] })) all)
+          (pushes base w (record { outer = s.0; levels = [] }) t (s.3, subst (λ z. EachHeld IsKept z []) (sym e) tt) k)
+      here (l ∷ ls) u = absurd u
+
+  pub row_outside : (old new : Shown X) (r : Option CodeHalt) (row : Row X) (outer : List (CodePiece X)) → old.levels ≡ [] → old.outer ≡ outer → (new, r) ≡ kept_outside outer (RowPiece row) → PushesRow IsKept old new r row
+  row_outside old new r row outer e e2 d base w f ps h k = subst (λ a. IsPushedAs IsKept base w a.0 a.1 (push_all free ps f)) (sym d) (here f.levels (subst (λ z. EachHeld IsKept z f.levels) e h.1))
+    where
+      here : (ls : List (Level Tree)) → EachHeld IsKept [] ls → IsPushedAs IsKept base w (show_as (outer ++ RowPiece row ∷ []) []) None (push_all free ps (record { outer = f.outer; levels = ls }))
+      here [] u = let xs : List (Mark Tree) = row_marks ((row.comma, row.first, k.tree) ∷ k.others) in
+          subst (IsPushedAs IsKept base w (show_as (outer ++ RowPiece row ∷ []) []) None) (sym (ap (λ z. push_all free z (record { outer = f.outer; levels = [] })) k.split ∙ (push_outside xs f.outer ∙ ap (λ z. further (record { outer = f.outer ++ z; levels = [] })) (sym k.split))))
+          (pieces_append IsKept base w outer f.outer (RowPiece row) ps (subst (λ z. EachPiece IsKept base w z f.outer) e2 h.0) (inr k), tt)
+      here (l ∷ ls) u = absurd u
+
+  -- ---- in a level
+
+  -- an array goes on with all of it
+  row_in_array : (base : ℕ) (w : List ℕ) (outer : List (CodePiece X)) (hs : List (Held X)) (fo : List (Piece Tree)) (ls : List (Level Tree)) (j : ℕ) (xs : List X) (l : Level Tree) (row : Row X) (t : Tree) (es : List (ℕ × ℕ × Tree)) (o : Option (Held X))
+      → EachPiece IsKept base w outer fo → EachHeld IsKept hs ls → IsHeld IsKept (array_level j array.Comma xs) l → Each IsKept row.items.items (t ∷ row_trees es) → IsRowNext IsKept (array_level j array.Comma xs) row.items.items o
+      → IsPushedAs IsKept base w (put_back outer hs row.first (array_level j array.Comma xs) o).0 (put_back outer hs row.first (array_level j array.Comma xs) o).1 (push_all free (marks (entry row.first t ∷ row_marks es)) (record { outer = fo; levels = l ∷ ls }))
+  row_in_array base w outer hs fo ls j xs l row t es None ho hl k items n = absurd n
+  row_in_array base w outer hs fo ls j xs l row t es (Some h) ho hl k items (ys, eh, more) =
+      let ms : List (Mark Tree) = entry row.first t ∷ row_marks es in
+      let on : moves l.mode ms ≡ Some at_after = ap (λ z. moves z ms) k.2 ∙ row_moves es in
+      let values : values_in free (l.inside ++ ms) ≡ values_in free l.inside ++ (t ∷ row_trees es) = values_append l.inside ms ∙ ap (λ z. values_in free l.inside ++ (t ∷ z)) (row_values es) in
+      let held : IsHeld IsKept (array_level j array.Value ys) (record { bracket = l.bracket; from = l.from; inside = l.inside ++ ms; mode = at_after }) =
+      (k.0, k.1, refl, subst (Each IsKept ys) (sym values) (more (values_in free l.inside) (t ∷ row_trees es) k.3 items)) in
+      subst (IsPushedAs IsKept base w (show_as outer (h ∷ hs)) None) (sym (push_marks ms l.inside l.bracket l.from l.mode at_after fo ls on))
+      (ho, (subst (λ z. IsHeld IsKept z (record { bracket = l.bracket; from = l.from; inside = l.inside ++ ms; mode = at_after })) (sym eh) held, hl))
+
+  -- an object takes none of its values
+  row_in_object : (base : ℕ) (w : List ℕ) (outer : List (CodePiece X)) (hs : List (Held X)) (fo : List (Piece Tree)) (ls : List (Level Tree)) (h : Held X) (l : Level Tree) (row : Row X) (t : Tree) (es : List (ℕ × ℕ × Tree))
+      → EachPiece IsKept base w outer fo → EachHeld IsKept hs ls → IsHeld IsKept h l → l.mode ≡ at_name
+      → IsPushedAs IsKept base w (show_as outer (h ∷ hs)) (Some (stop_at row.first)) (push_all free (marks (entry row.first t ∷ row_marks es)) (record { outer = fo; levels = l ∷ ls }))
+  row_in_object base w outer hs fo ls h l row t es ho hl k e =
+      subst (λ md. IsPushedAs IsKept base w (show_as outer (h ∷ hs)) (Some (stop_at row.first)) (push_then (push_all free (marks (row_marks es))) (with_mark fo ls l (entry row.first t) (move md value_kind)))) (sym e) ((ho, (k, hl)), refl)
+
+  -- behind its first comma
+  row_behind : (base : ℕ) (w : List ℕ) (outer : List (CodePiece X)) (hs : List (Held X)) (fo : List (Piece Tree)) (ls : List (Level Tree)) (h h2 : Held X) (l : Level Tree) (row : Row X) (t : Tree) (es : List (ℕ × ℕ × Tree)) (o : Option (Held X))
+      → EachPiece IsKept base w outer fo → EachHeld IsKept hs ls → IsHeld IsKept h2 l → comma_next h ≡ Some h2 → Each IsKept row.items.items (t ∷ row_trees es) → IsRowNext IsKept h2 row.items.items o
+      → IsPushedAs IsKept base w (put_back outer hs row.first h2 o).0 (put_back outer hs row.first h2 o).1 (push_all free (marks (entry row.first t ∷ row_marks es)) (record { outer = fo; levels = l ∷ ls }))
+  row_behind base w outer hs fo ls (array_level j array.Value xs) h2 l row t es o ho hl k e items n =
+      let same : array_level j array.Comma xs ≡ h2 = same_Some _ h2 e in
+      subst (λ z. IsPushedAs IsKept base w (put_back outer hs row.first z o).0 (put_back outer hs row.first z o).1 (push_all free (marks (entry row.first t ∷ row_marks es)) (record { outer = fo; levels = l ∷ ls }))) same
+      (row_in_array base w outer hs fo ls j xs l row t es o ho hl (subst (λ z. IsHeld IsKept z l) (sym same) k) items (subst (λ z. IsRowNext IsKept z row.items.items o) (sym same) n))
+  row_behind base w outer hs fo ls (object_level j object.Value ms) h2 l row t es o ho hl k e items n =
+      let same : object_level j object.Comma ms ≡ h2 = same_Some _ h2 e in
+      by_next o (subst (λ z. IsRowNext IsKept z row.items.items o) (sym same) n) (subst (λ z. IsHeld IsKept z l) (sym same) k)
+    where
+      by_next : (o : Option (Held X)) → IsRowNext IsKept (object_level j object.Comma ms) row.items.items o → IsHeld IsKept (object_level j object.Comma ms) l
+          → IsPushedAs IsKept base w (put_back outer hs row.first h2 o).0 (put_back outer hs row.first h2 o).1 (push_all free (marks (entry row.first t ∷ row_marks es)) (record { outer = fo; levels = l ∷ ls }))
+      by_next None u q = row_in_object base w outer hs fo ls h2 l row t es ho hl k q.2
+      by_next (Some g) u q = absurd u
+  row_behind base w outer hs fo ls (array_level j array.Empty xs) h2 l row t es o ho hl k e items n = absurd (none-some h2 e)
+  row_behind base w outer hs fo ls (array_level j array.Comma xs) h2 l row t es o ho hl k e items n = absurd (none-some h2 e)
+  row_behind base w outer hs fo ls (object_level j object.Empty ms) h2 l row t es o ho hl k e items n = absurd (none-some h2 e)
+  row_behind base w outer hs fo ls (object_level j object.Comma ms) h2 l row t es o ho hl k e items n = absurd (none-some h2 e)
+  row_behind base w outer hs fo ls (object_level j (object.Named q) ms) h2 l row t es o ho hl k e items n = absurd (none-some h2 e)
+  row_behind base w outer hs fo ls (object_level j (object.Colon q) ms) h2 l row t es o ho hl k e items n = absurd (none-some h2 e)
+
+  pub row_put : (old new : Shown X) (r : Option CodeHalt) (outer : List (CodePiece X)) (hs : List (Held X)) (h h2 : Held X) (o : Option (Held X)) (row : Row X) → old.levels ≡ h ∷ hs → old.outer ≡ outer → comma_next h ≡ Some h2 → IsRowNext IsKept h2 row.items.items o → (new, r) ≡ put_back outer hs row.first h2 o
+      → PushesRow IsKept old new r row
+  row_put old new r outer hs h h2 o row e e2 c n d base w f ps k q = subst (λ a. IsPushedAs IsKept base w a.0 a.1 (push_all free ps f)) (sym d) (here f.levels (subst (λ z. EachHeld IsKept z f.levels) e k.1))
+    where
+      here : (ls : List (Level Tree)) → EachHeld IsKept (h ∷ hs) ls → IsPushedAs IsKept base w (put_back outer hs row.first h2 o).0 (put_back outer hs row.first h2 o).1 (push_all free ps (record { outer = f.outer; levels = ls }))
+      here [] u = absurd u
+      here (l ∷ ls) u = subst (λ z. IsPushedAs IsKept base w (put_back outer hs row.first h2 o).0 (put_back outer hs row.first h2 o).1 (push_all free z (record { outer = f.outer; levels = l ∷ ls }))) (sym q.split)
+          (by_move (move l.mode comma_kind) (subst (λ z. IsMoved IsKept z (move l.mode comma_kind) l (comma row.comma)) c (comma_moves IsKept h l row.comma u.0)))
+        where
+          by_move : (m : Option Mode) → IsMoved IsKept (Some h2) m l (comma row.comma)
+              → IsPushedAs IsKept base w (put_back outer hs row.first h2 o).0 (put_back outer hs row.first h2 o).1 (push_then (push_all free (marks (entry row.first q.tree ∷ row_marks q.others))) (with_mark f.outer ls l (comma row.comma) m))
+          by_move None v = absurd v
+          by_move (Some md) v = row_behind base w outer hs f.outer ls h h2 (with_one l (comma row.comma) md) row q.tree q.others o (subst (λ z. EachPiece IsKept base w z f.outer) e2 k.0) u.1 v c q.items n
+
+  -- a level that takes no comma
+  pub row_refused : (old new : Shown X) (r : Option CodeHalt) (outer : List (CodePiece X)) (hs : List (Held X)) (h : Held X) (row : Row X) → old.levels ≡ h ∷ hs → old.outer ≡ outer → comma_next h ≡ None → (new, r) ≡ put_back outer hs row.comma h None → PushesRow IsKept old new r row
+  row_refused old new r outer hs h row e e2 c d base w f ps k q = subst (λ a. IsPushedAs IsKept base w a.0 a.1 (push_all free ps f)) (sym d) (here f.levels (subst (λ z. EachHeld IsKept z f.levels) e k.1))
+    where
+      here : (ls : List (Level Tree)) → EachHeld IsKept (h ∷ hs) ls → IsPushedAs IsKept base w (show_as outer (h ∷ hs)) (Some (stop_at row.comma)) (push_all free ps (record { outer = f.outer; levels = ls }))
+      here [] u = absurd u
+      here (l ∷ ls) u = subst (λ z. IsPushedAs IsKept base w (show_as outer (h ∷ hs)) (Some (stop_at row.comma)) (push_all free z (record { outer = f.outer; levels = l ∷ ls }))) (sym q.split)
+          (by_move (move l.mode comma_kind) (subst (λ z. IsMoved IsKept z (move l.mode comma_kind) l (comma row.comma)) c (comma_moves IsKept h l row.comma u.0)))
+        where
+          by_move : (m : Option Mode) → IsMoved IsKept None m l (comma row.comma)
+              → IsPushedAs IsKept base w (show_as outer (h ∷ hs)) (Some (stop_at row.comma)) (push_then (push_all free (marks (entry row.first q.tree ∷ row_marks q.others))) (with_mark f.outer ls l (comma row.comma) m))
+          by_move None v = ((subst (λ z. EachPiece IsKept base w z f.outer) e2 k.0, u), refl)
+          by_move (Some md) v = absurd v
+
+-- ---- a level behind a comma
+
+pub step_on : {X : Type 0} (old : Held X) (o : Option (Held X)) (l : CodeLevel X) → IsStep old o (On l) → o ≡ Some (held_of l)
+step_on old (Some h) l k = ap Some (sym k)
+step_on old None l k = absurd k
+
+pub step_refused : {X : Type 0} (old : Held X) (o : Option (Held X)) (l : CodeLevel X) → IsStep old o (Refused l) → (o ≡ None) × (held_of l ≡ old)
+step_refused old None l k = (refl, k)
+step_refused old (Some h) l k = absurd k
+
+pub comma_own : {X : Type 0} (IsOwn : X → Type 0) (h h2 : Held X) → AreOwn IsOwn h → comma_next h ≡ Some h2 → AreOwn IsOwn h2
+comma_own IsOwn (array_level j array.Value xs) h2 own e = subst (AreOwn IsOwn) (same_Some _ h2 e) own
+comma_own IsOwn (object_level j object.Value ms) h2 own e = subst (AreOwn IsOwn) (same_Some _ h2 e) own
+comma_own IsOwn (array_level j array.Empty xs) h2 own e = absurd (none-some h2 e)
+comma_own IsOwn (array_level j array.Comma xs) h2 own e = absurd (none-some h2 e)
+comma_own IsOwn (object_level j object.Empty ms) h2 own e = absurd (none-some h2 e)
+comma_own IsOwn (object_level j object.Comma ms) h2 own e = absurd (none-some h2 e)
+comma_own IsOwn (object_level j (object.Named q) ms) h2 own e = absurd (none-some h2 e)
+comma_own IsOwn (object_level j (object.Colon q) ms) h2 own e = absurd (none-some h2 e)
+
+-- ---- an array's atoms, and further ones behind them
+
+pub gains_none : {X : Type 0} (IsKept : X → Content → Type 0) (xs : List X) → GainsAll IsKept xs [] xs
+gains_none IsKept xs ts us h e = subst (Each IsKept xs) (sym (ap (λ z. ts ++ z) e ∙ append-nil ts)) h
+
+pub gains_on : {X : Type 0} (IsKept : X → Content → Type 0) (xs zs ys ys2 : List X) (x : X) → GainsAll IsKept xs zs ys → Gains IsKept ys x ys2 → GainsAll IsKept xs (zs ++ x ∷ []) ys2
+gains_on IsKept xs zs ys ys2 x all more ts us h k = let c = each_cut IsKept zs x us k in subst (Each IsKept ys2) (append_assoc ts c.0 c.1 ∙ ap (λ z. ts ++ z) (sym c.2.0)) (more (ts ++ c.0) c.1 (all ts c.0 h c.2.1) c.2.2)
