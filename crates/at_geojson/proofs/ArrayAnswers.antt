@@ -6,10 +6,12 @@ use Rattle.at_geojson.specs.declared.atoms.GeoAtom.{GeoAtom}
 use Rattle.at_geojson.specs.declared.atoms.GeoAtom.TheVariants as atoms
 use Rattle.at_geojson.specs.declared.sorts.Sort.TheVariants as sorts
 use Rattle.at_geojson.specs.Keeping.{Asked, needs_shapes}
-use Rattle.at_geojson.specs.Atoms.{twin_of, IsRead, IsFold}
+use Rattle.at_geojson.specs.Atoms.{twin_of, IsRead, IsRun, IsFold, HaveItems}
 use Rattle.at_geojson.specs.Gathering.{firsts, least_of, rank, sort_of_all, pair_atom, MakesPoints, MakesLists, MakesAreas}
 use Rattle.at_geojson.specs.Arrays.{MakesItems, MakesNumbers}
+use Rattle.at_geojson.specs.Names.{items_of}
 use Rattle.at_geojson.proofs.Each.{reads}
+use Rattle.at_geojson.proofs.ItemFolds.{one_each, trees_of_items}
 use Rattle.at_geojson.proofs.ArrayFolds.{points_read, lists_read, areas_read, position_read, no_form, one_number, other_read, items_read, read_folds, HasNoForm, twin_of_pair, empty_read}
 
 module _ (asked : Asked) (at : ℕ) where
@@ -58,9 +60,9 @@ module _ (asked : Asked) (at : ℕ) where
     made_twin r (inl h) = ap twin_of h.1
     made_twin r (inr m) = ap twin_of m.1
 
-    made_read : (r : GeoAtom) (a : GeoAtom) (aa : List GeoAtom) (ts : Trees) (h : AreFolds (IsRead asked) (a ∷ aa) ts) → HasNoForm asked at a aa ts h → MakesItems asked at (a ∷ aa) r → IsRead asked r (array at ts)
+    made_read : (r : GeoAtom) (a : GeoAtom) (aa : List GeoAtom) (ts : Trees) (h : AreFolds (IsRead asked) (a ∷ aa) ts) → HasNoForm asked at ts → MakesItems asked at (a ∷ aa) r → IsRead asked r (array at ts)
     made_read r a aa ts h f (inl m) = subst (λ z. IsRead asked z (array at ts)) (sym m.1) (other_read asked at a aa ts h f m.0)
-    made_read r a aa ts h f (inr m) = let have = m.3 ts h in subst (λ z. IsRead asked z (array at ts)) (sym m.1) (items_read asked at a aa ts h m.0 m.2 f have.0 have.1)
+    made_read r a aa ts h f (inr m) = let have = subst (HaveItems asked m.0.items.value) (trees_of_items ts) (m.3 (items_of ts) (one_each (IsRead asked) (IsRun asked) (a ∷ aa) ts h)) in subst (λ z. IsRead asked z (array at ts)) (sym m.1) (items_read asked at ts m.0 m.2 f have.0 have.1)
 
     pub items_fold : (r : GeoAtom) → sort_of_all items ≡ sorts.Other → MakesItems asked at items r → (ts : Trees) → AreFolds (IsFold asked) items ts → IsFold asked r (array at ts)
     items_fold r es m ts h = go items refl where

@@ -22,7 +22,7 @@ use Rattle.at_geojson.specs.Roles.{texts_of, geometry_reading, items_reading, it
 use Rattle.std.proofs.Common.{option_map, option_and_then}
 use Rattle.at_geojson.specs.Keeping.{Asked, needs_shapes, asked_texts, kept, kept_shape}
 use Rattle.at_wkt.specs.Meaning.{empty_shape}
-use Rattle.at_geojson.specs.Atoms.{twin_of, at_of, is_null, is_empty, as_kind, as_text, as_geometries, as_features, both_forms, IsNumber, as_number, as_position, as_points, as_lists, as_area, as_areas, role_of, role_geometry, role_item, as_texts, HasShape, HasPart, Alike, IsPosition, IsPoints, IsLists, IsArea, IsAreas, IsObject, IsScalar, IsRoot, items_features, IsRead, IsFold}
+use Rattle.at_geojson.specs.Atoms.{twin_of, at_of, as_run, is_null, is_empty, as_kind, as_text, as_geometries, as_features, both_forms, IsNumber, as_number, as_position, as_points, as_lists, as_area, as_areas, role_of, role_geometry, role_item, as_texts, HasShape, HasPart, Alike, IsPosition, IsPoints, IsLists, IsArea, IsAreas, IsObject, IsScalar, IsRoot, items_features, IsRead, IsFold}
 use Rattle.at_geojson.specs.Gathering.{firsts, form_fault, is_object, least_of, are_all, rank, sort_of_all, position_atom, position_made, pair_at, pair_atom, number_fault, MakesPoints, MakesLists, MakesAreas}
 use Rattle.at_geojson.proofs.Firsts.{firsts-cons}
 use Rattle.at_geojson.proofs.Each.{EachIs, twins_items}
@@ -128,6 +128,7 @@ module _ (asked : Asked) where
   pub record IsArrayAtom (r : GeoAtom) (at least : ℕ) : Type 0 where
     pub at_is : at_of r ≡ at
     pub twin : twin_of r ≡ None
+    pub single : as_run r ≡ None
     pub null : is_null r ≡ false
     pub empty : is_empty r ≡ false
     pub kind : as_kind r ≡ None
@@ -141,6 +142,47 @@ module _ (asked : Asked) where
   array_scalar : (r : GeoAtom) (at least : ℕ) (ts : Trees) → IsArrayAtom r at least → IsScalar asked r (array at ts)
   array_scalar r at least ts k = record { is_null = k.null; is_empty = λ e. absurd (true≢false (sym e ∙ k.empty)); kind = k.kind; text = k.text }
 
+  -- ---- arrays that are no coordinates
+
+  module _ (at : ℕ) (ts : Trees) where
+    abbrev whole : Tree
+    whole = array at ts
+
+    -- the roles as coordinates but that of a number
+    pub record AreForms (r : GeoAtom) : Type 0 where
+      pub position : Alike (IsPosition asked) (as_position r) (position_of whole)
+      pub points : Alike (IsPoints asked) (as_points r) (positions_of whole)
+      pub lists : Alike (IsLists asked) (as_lists r) (lists_of whole)
+      pub area : Alike (IsArea asked) (as_area r) (area_of whole)
+      pub areas : Alike (IsAreas asked) (as_areas r) (areas_of whole)
+
+    pub record HasNoForm : Type 0 where
+      pub position : position_of whole ≡ None
+      pub points : positions_of whole ≡ None
+      pub lists : lists_of whole ≡ None
+      pub area : area_of whole ≡ None
+      pub areas : areas_of whole ≡ None
+
+    forms_none : (r : GeoAtom) → as_position r ≡ None → as_points r ≡ None → as_lists r ≡ None → as_area r ≡ None → as_areas r ≡ None → HasNoForm → AreForms r
+    forms_none r p q l a1 a2 f = record {
+      position = subst (λ o. Alike (IsPosition asked) o (position_of whole)) (sym p) (alike_at (IsPosition asked) None None (position_of whole) f.position tt);
+      points = subst (λ o. Alike (IsPoints asked) o (positions_of whole)) (sym q) (alike_at (IsPoints asked) None None (positions_of whole) f.points tt);
+      lists = subst (λ o. Alike (IsLists asked) o (lists_of whole)) (sym l) (alike_at (IsLists asked) None None (lists_of whole) f.lists tt);
+      area = subst (λ o. Alike (IsArea asked) o (area_of whole)) (sym a1) (alike_at (IsArea asked) None None (area_of whole) f.area tt);
+      areas = subst (λ o. Alike (IsAreas asked) o (areas_of whole)) (sym a2) (alike_at (IsAreas asked) None None (areas_of whole) f.areas tt);
+    }
+
+    pub items_read : (m : ItemsAtom) → m.at ≡ at → HasNoForm → HasShape (needs_shapes asked.query) m.items.value.geometries (items_reading asked.digits asked.how ts)
+        → HasPart asked.query m.items.value.features (items_features asked ts) → IsRead asked (atoms.Items m) whole
+    items_read m k f g p = let forms = forms_none (atoms.Items m) refl refl refl refl refl f in record {
+      at = k;
+      single = refl;
+      scalar = record { is_null = refl; is_empty = λ e. absurd (true≢false (sym e)); kind = refl; text = refl };
+      coordinates = record { number = tt; position = forms.position; points = forms.points; lists = forms.lists; area = forms.area; areas = forms.areas };
+      items = record { geometries = g; features = λ _. p };
+      object = plain_object (atoms.Items m) at ts k refl refl;
+    }
+
   module _ (at : ℕ) (a : GeoAtom) (aa : List GeoAtom) (ts : Trees) (h : AreFolds (IsRead asked) (a ∷ aa) ts) where
     abbrev t : Tree
     t = array at ts
@@ -148,17 +190,10 @@ module _ (asked : Asked) where
     abbrev least : ℕ
     least = least_of (a ∷ aa)
 
-    -- the roles as coordinates but that of a number
-    pub record AreForms (r : GeoAtom) : Type 0 where
-      pub position : Alike (IsPosition asked) (as_position r) (position_of t)
-      pub points : Alike (IsPoints asked) (as_points r) (positions_of t)
-      pub lists : Alike (IsLists asked) (as_lists r) (lists_of t)
-      pub area : Alike (IsArea asked) (as_area r) (area_of t)
-      pub areas : Alike (IsAreas asked) (as_areas r) (areas_of t)
-
-    pub array_read : (r : GeoAtom) → IsArrayAtom r at least → list_any is_object (a ∷ aa) ≡ false → AreForms r → IsRead asked r t
+    pub array_read : (r : GeoAtom) → IsArrayAtom r at least → list_any is_object (a ∷ aa) ≡ false → AreForms at ts r → IsRead asked r t
     array_read r k n f = record {
       at = k.at_is;
+      single = k.single;
       scalar = array_scalar r at least ts k;
       coordinates = record { number = subst (λ o. Alike (IsNumber asked) o None) (sym k.number) tt; position = f.position; points = f.points; lists = f.lists; area = f.area; areas = f.areas };
       items = record {
@@ -194,7 +229,7 @@ module _ (asked : Asked) where
         let all = all_sorted 1 a aa e in
         let (ys, es, each_is) = some_positions asked at (a ∷ aa) ts h all in
         subst (λ z. IsRead asked z t) (sym m.result_is) (array_read (atoms.Points m.atom)
-        (record { at_is = m.at_is; twin = refl; null = refl; empty = refl; kind = refl; text = refl; number = refl; role = refl; texts = refl; geometries = ap (λ k. Some (both_forms k)) m.least_is; features = ap (λ k. Some (both_forms k)) m.least_is })
+        (record { at_is = m.at_is; twin = refl; single = refl; null = refl; empty = refl; kind = refl; text = refl; number = refl; role = refl; texts = refl; geometries = ap (λ k. Some (both_forms k)) m.least_is; features = ap (λ k. Some (both_forms k)) m.least_is })
         (no_objects 1 (a ∷ aa) all)
         (record {
           position = none_position (not_all 2 1 e (λ z. omega (arith, z)));
@@ -208,7 +243,7 @@ module _ (asked : Asked) where
 
     pub lists_read : rank (sort_of_all (a ∷ aa)) ≡ 3 → (r : GeoAtom) → MakesLists (needs_shapes asked.query) at least (a ∷ aa) r → IsRead asked r t
     lists_read e r m = go (some_lines asked at (a ∷ aa) ts h (all_sorted 2 a aa e)) where
-      at_list : (ys : List Positions) → lists_of t ≡ Some ys → EachIs positions_of as_points (IsPoints asked) (a ∷ aa) ys → AreForms (atoms.Lists m.atom)
+      at_list : (ys : List Positions) → lists_of t ≡ Some ys → EachIs positions_of as_points (IsPoints asked) (a ∷ aa) ys → AreForms at ts (atoms.Lists m.atom)
       at_list [] es each_is = absurd each_is
       at_list (y ∷ ys) es each_is = record {
         position = none_position (not_all 3 1 e (λ z. omega (arith, z)));
@@ -220,7 +255,7 @@ module _ (asked : Asked) where
 
       go : (ys : List Positions) × (lists_of t ≡ Some ys) × EachIs positions_of as_points (IsPoints asked) (a ∷ aa) ys → IsRead asked r t
       go (ys, es, each_is) = subst (λ z. IsRead asked z t) (sym m.result_is) (array_read (atoms.Lists m.atom)
-          (record { at_is = m.at_is; twin = refl; null = refl; empty = refl; kind = refl; text = refl; number = refl; role = refl; texts = refl; geometries = ap (λ k. Some (both_forms k)) m.least_is; features = ap (λ k. Some (both_forms k)) m.least_is })
+          (record { at_is = m.at_is; twin = refl; single = refl; null = refl; empty = refl; kind = refl; text = refl; number = refl; role = refl; texts = refl; geometries = ap (λ k. Some (both_forms k)) m.least_is; features = ap (λ k. Some (both_forms k)) m.least_is })
           (no_objects 2 (a ∷ aa) (all_sorted 2 a aa e)) (at_list ys es each_is))
 
     -- ---- areas
@@ -230,7 +265,7 @@ module _ (asked : Asked) where
         let all = all_sorted 3 a aa e in
         let (ys, es, each_is) = some_areas asked at (a ∷ aa) ts h all in
         subst (λ z. IsRead asked z t) (sym m.result_is) (array_read (atoms.Areas m.atom)
-        (record { at_is = m.at_is; twin = refl; null = refl; empty = refl; kind = refl; text = refl; number = refl; role = refl; texts = refl; geometries = ap (λ k. Some (both_forms k)) m.least_is; features = ap (λ k. Some (both_forms k)) m.least_is })
+        (record { at_is = m.at_is; twin = refl; single = refl; null = refl; empty = refl; kind = refl; text = refl; number = refl; role = refl; texts = refl; geometries = ap (λ k. Some (both_forms k)) m.least_is; features = ap (λ k. Some (both_forms k)) m.least_is })
         (no_objects 3 (a ∷ aa) all)
         (record {
           position = none_position (not_all 4 1 e (λ z. omega (arith, z)));
@@ -245,8 +280,8 @@ module _ (asked : Asked) where
     position_atom_is : (x y : GeoAtom) → IsArrayAtom (position_atom at least x y) at least
     position_atom_is x y = go (first_fault (number_fault x) (number_fault y)) where
       go : (o : Option Fault) → IsArrayAtom (position_made at least x y o) at least
-      go None = record { at_is = refl; twin = refl; null = refl; empty = refl; kind = refl; text = refl; number = refl; role = refl; texts = refl; geometries = refl; features = refl }
-      go (Some f) = record { at_is = refl; twin = refl; null = refl; empty = refl; kind = refl; text = refl; number = refl; role = refl; texts = refl; geometries = refl; features = refl }
+      go None = record { at_is = refl; twin = refl; single = refl; null = refl; empty = refl; kind = refl; text = refl; number = refl; role = refl; texts = refl; geometries = refl; features = refl }
+      go (Some f) = record { at_is = refl; twin = refl; single = refl; null = refl; empty = refl; kind = refl; text = refl; number = refl; role = refl; texts = refl; geometries = refl; features = refl }
 
     no_views : (x y : GeoAtom) → (as_points (position_atom at least x y) ≡ None) × (as_lists (position_atom at least x y) ≡ None) × (as_area (position_atom at least x y) ≡ None) × (as_areas (position_atom at least x y) ≡ None)
     no_views x y = go (first_fault (number_fault x) (number_fault y)) where
@@ -259,7 +294,7 @@ module _ (asked : Asked) where
       all : are_all 1 (a ∷ aa) ≡ true
       all = all_sorted 0 a aa e
 
-      forms : (b : GeoAtom) (bb : List GeoAtom) → aa ≡ b ∷ bb → (ys : List (Numeral × ℕ)) → each number_at (items_of ts) ≡ Some ys → EachIs number_at as_number (IsNumber asked) (a ∷ b ∷ bb) ys → AreForms (position_atom at least a b)
+      forms : (b : GeoAtom) (bb : List GeoAtom) → aa ≡ b ∷ bb → (ys : List (Numeral × ℕ)) → each number_at (items_of ts) ≡ Some ys → EachIs number_at as_number (IsNumber asked) (a ∷ b ∷ bb) ys → AreForms at ts (position_atom at least a b)
       forms b bb q [] es each_is = absurd each_is
       forms b bb q (n ∷ []) es each_is = absurd each_is.1
       forms b bb q (n ∷ m ∷ ys) es each_is = record {
@@ -280,14 +315,7 @@ module _ (asked : Asked) where
 
     -- ---- items of no one sort, and one number alone
 
-    pub record HasNoForm : Type 0 where
-      pub position : position_of t ≡ None
-      pub points : positions_of t ≡ None
-      pub lists : lists_of t ≡ None
-      pub area : area_of t ≡ None
-      pub areas : areas_of t ≡ None
-
-    pub no_form : rank (sort_of_all (a ∷ aa)) ≡ 0 → HasNoForm
+    pub no_form : rank (sort_of_all (a ∷ aa)) ≡ 0 → HasNoForm at ts
     no_form e = record {
       position = no_position asked at (a ∷ aa) ts h (not_all 0 1 e (λ z. omega (arith, z)));
       points = no_points asked at (a ∷ aa) ts h (not_all 0 2 e (λ z. omega (arith, z)));
@@ -296,7 +324,7 @@ module _ (asked : Asked) where
       areas = no_areas asked at (a ∷ aa) ts h (not_all 0 4 e (λ z. omega (arith, z)));
     }
 
-    pub one_number : rank (sort_of_all (a ∷ aa)) ≡ 1 → pair_atom at least (a ∷ aa) ≡ None → HasNoForm
+    pub one_number : rank (sort_of_all (a ∷ aa)) ≡ 1 → pair_atom at least (a ∷ aa) ≡ None → HasNoForm at ts
     one_number e p = record {
       position = one_alone aa refl;
       points = no_points asked at (a ∷ aa) ts h (not_all 1 2 e (λ z. omega (arith, z)));
@@ -313,35 +341,17 @@ module _ (asked : Asked) where
       one_alone [] q = let (ys, es, i) = some_numbers asked at (a ∷ aa) ts h (all_sorted 0 a aa e) in one ys es (subst (λ z. EachIs number_at as_number (IsNumber asked) (a ∷ z) ys) q i)
       one_alone (b ∷ bb) q = absurd (none-some (position_atom at least a b) (sym p ∙ ap (λ z. pair_at at least (Some a) (slice_get (a ∷ z) 1)) q))
 
-    forms_none : (r : GeoAtom) → as_position r ≡ None → as_points r ≡ None → as_lists r ≡ None → as_area r ≡ None → as_areas r ≡ None → HasNoForm → AreForms r
-    forms_none r p q l a1 a2 f = record {
-      position = subst (λ o. Alike (IsPosition asked) o (position_of t)) (sym p) (alike_at (IsPosition asked) None None (position_of t) f.position tt);
-      points = subst (λ o. Alike (IsPoints asked) o (positions_of t)) (sym q) (alike_at (IsPoints asked) None None (positions_of t) f.points tt);
-      lists = subst (λ o. Alike (IsLists asked) o (lists_of t)) (sym l) (alike_at (IsLists asked) None None (lists_of t) f.lists tt);
-      area = subst (λ o. Alike (IsArea asked) o (area_of t)) (sym a1) (alike_at (IsArea asked) None None (area_of t) f.area tt);
-      areas = subst (λ o. Alike (IsAreas asked) o (areas_of t)) (sym a2) (alike_at (IsAreas asked) None None (areas_of t) f.areas tt);
-    }
-
-    pub other_read : HasNoForm → list_any is_object (a ∷ aa) ≡ false → IsRead asked (atoms.Other (record { at = at; least = least })) t
+    pub other_read : HasNoForm at ts → list_any is_object (a ∷ aa) ≡ false → IsRead asked (atoms.Other (record { at = at; least = least })) t
     other_read f n = array_read (atoms.Other (record { at = at; least = least }))
-        (record { at_is = refl; twin = refl; null = refl; empty = refl; kind = refl; text = refl; number = refl; role = refl; texts = refl; geometries = refl; features = refl })
-        n (forms_none (atoms.Other (record { at = at; least = least })) refl refl refl refl refl f)
-
-    pub items_read : (m : ItemsAtom) → m.at ≡ at → HasNoForm → HasShape (needs_shapes asked.query) m.items.value.geometries (items_reading asked.digits asked.how ts)
-        → HasPart asked.query m.items.value.features (items_features asked ts) → IsRead asked (atoms.Items m) t
-    items_read m k f g p = let forms = forms_none (atoms.Items m) refl refl refl refl refl f in record {
-      at = k;
-      scalar = record { is_null = refl; is_empty = λ e. absurd (true≢false (sym e)); kind = refl; text = refl };
-      coordinates = record { number = tt; position = forms.position; points = forms.points; lists = forms.lists; area = forms.area; areas = forms.areas };
-      items = record { geometries = g; features = λ _. p };
-      object = plain_object (atoms.Items m) at ts k refl refl;
-    }
+        (record { at_is = refl; twin = refl; single = refl; null = refl; empty = refl; kind = refl; text = refl; number = refl; role = refl; texts = refl; geometries = refl; features = refl })
+        n (forms_none at ts (atoms.Other (record { at = at; least = least })) refl refl refl refl refl f)
 
   -- ---- an array of nothing
 
   pub empty_read : (at : ℕ) → IsRead asked (atoms.Empty at) (array at no_trees)
   empty_read at = record {
     at = refl;
+    single = refl;
     scalar = record { is_null = refl; is_empty = λ e. refl; kind = refl; text = refl };
     coordinates = record {
       number = tt;

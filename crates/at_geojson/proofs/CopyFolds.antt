@@ -1,5 +1,6 @@
 -- What a copy is in each role is what the atom is.
 use Rattle.std.proofs.Common.{◌≡◌, List, Option, Some, All, refl, sym, ◌∙◌, ap, subst}
+use Rattle.std.proofs.lemmas.Option.{none-some}
 use Rattle.at_text.specs.declared.faults.Fault.{Fault}
 use Rattle.at_geom.specs.declared.positions.Pos.{Pos}
 use Rattle.at_geom.specs.declared.shapes.Polygon.{Polygon}
@@ -14,7 +15,7 @@ use Rattle.at_geojson.specs.Keeping.{Asked, needs_shapes}
 use Rattle.at_geojson.specs.Coordinates.{number_at, position_of, positions_of, lists_of, area_of, areas_of}
 use Rattle.at_geojson.specs.Roles.{geometry_reading, items_reading, item_reading, texts_of}
 use Rattle.at_geojson.specs.Keeping.{asked_texts}
-use Rattle.at_geojson.specs.Atoms.{PointsView, ListsView, AreasView, both_forms, array_trees, object_members, Alike, HasShape, HasPart, IsNumber, IsPosition, IsPoints, IsLists, IsArea, IsAreas, items_features, IsRoot, role_geometry, role_item, IsOwnRole, AreOwnItems, IsRead, IsFold, IsOwn, twin_of, at_of, is_null, is_empty, as_kind, as_text, as_number, as_position, as_points, as_lists, as_area, as_areas, as_geometries, as_features, role_of, as_texts}
+use Rattle.at_geojson.specs.Atoms.{as_run, IsRun, AreJoined, PointsView, ListsView, AreasView, both_forms, array_trees, object_members, Alike, HasShape, HasPart, IsNumber, IsPosition, IsPoints, IsLists, IsArea, IsAreas, items_features, IsRoot, role_geometry, role_item, IsOwnRole, AreOwnItems, IsRead, IsFold, IsOwn, twin_of, at_of, is_null, is_empty, as_kind, as_text, as_number, as_position, as_points, as_lists, as_area, as_areas, as_geometries, as_features, role_of, as_texts}
 use Rattle.at_geojson.specs.Copies.{IsCopy}
 
 abbrev points_view : List Pos → Option Fault → Option Fault → Option Fault → PointsView
@@ -38,6 +39,7 @@ areas_same {p} {q} {a} {b} h i = ap (λ z. Some (areas_view z b)) h ∙ ap (λ z
 record SameViews (a b : GeoAtom) : Type 0 where
   twin : twin_of b ≡ twin_of a
   at : at_of b ≡ at_of a
+  single : as_run b ≡ as_run a
   null : is_null b ≡ is_null a
   empty : is_empty b ≡ is_empty a
   kind : as_kind b ≡ as_kind a
@@ -57,6 +59,7 @@ module _ (asked : Asked) where
   read_same : (a b : GeoAtom) (t : Tree) → SameViews a b → IsRead asked a t → IsRead asked b t
   read_same a b t s r = record {
     at = s.at ∙ r.at;
+    single = s.single ∙ r.single;
     scalar = record { is_null = s.null ∙ r.scalar.is_null; is_empty = λ e. r.scalar.is_empty (sym s.empty ∙ e); kind = s.kind ∙ r.scalar.kind; text = s.text ∙ r.scalar.text };
     coordinates = record {
       number = subst (λ o. Alike (IsNumber asked) o (number_at t)) (sym s.number) r.coordinates.number;
@@ -85,19 +88,20 @@ module _ (asked : Asked) where
   copy_folds (atoms.Twin f) b c t h = subst (λ z. IsFold asked z t) (sym c) h
   copy_folds (atoms.Null n) b c t h = subst (λ z. IsFold asked z t) (sym c) h
   copy_folds (atoms.Plain n) b c t h = subst (λ z. IsFold asked z t) (sym c) h
-  copy_folds (atoms.Text x) b c t h = subst (λ z. IsFold asked z t) (sym c.1) (fold_same (atoms.Text x) (atoms.Text c.0) t (record { twin = refl; at = c.2.0; null = refl; empty = refl; kind = c.2.1; text = c.2.2; number = refl; position = refl; points = refl; lists = refl; area = refl; areas = refl; geometries = refl; features = refl; role = refl; texts = refl }) h)
+  copy_folds (atoms.Text x) b c t h = subst (λ z. IsFold asked z t) (sym c.1) (fold_same (atoms.Text x) (atoms.Text c.0) t (record { twin = refl; at = c.2.0; single = refl; null = refl; empty = refl; kind = c.2.1; text = c.2.2; number = refl; position = refl; points = refl; lists = refl; area = refl; areas = refl; geometries = refl; features = refl; role = refl; texts = refl }) h)
   copy_folds (atoms.Number x) b c t h = subst (λ z. IsFold asked z t) (sym c) h
   copy_folds (atoms.BadNumber f) b c t h = subst (λ z. IsFold asked z t) (sym c) h
   copy_folds (atoms.Empty n) b c t h = subst (λ z. IsFold asked z t) (sym c) h
   copy_folds (atoms.Position x) b c t h = subst (λ z. IsFold asked z t) (sym c) h
   copy_folds (atoms.BadPosition x) b c t h = subst (λ z. IsFold asked z t) (sym c) h
-  copy_folds (atoms.Points x) b c t h = subst (λ z. IsFold asked z t) (sym c.1) (fold_same (atoms.Points x) (atoms.Points c.0) t (record { twin = refl; at = c.2.0; null = refl; empty = refl; kind = refl; text = refl; number = refl; position = refl; points = points_same c.2.2.0 c.2.2.1 c.2.2.2 c.2.2.3; lists = refl; area = refl; areas = refl; geometries = ap (λ n. Some (both_forms n)) c.2.1; features = ap (λ n. Some (both_forms n)) c.2.1; role = refl; texts = refl }) h)
-  copy_folds (atoms.Lists x) b c t h = subst (λ z. IsFold asked z t) (sym c.1) (fold_same (atoms.Lists x) (atoms.Lists c.0) t (record { twin = refl; at = c.2.0; null = refl; empty = refl; kind = refl; text = refl; number = refl; position = refl; points = refl; lists = lists_same c.2.2.0 c.2.2.1 c.2.2.2; area = lists_same c.2.2.0 c.2.2.1 c.2.2.2; areas = refl; geometries = ap (λ n. Some (both_forms n)) c.2.1; features = ap (λ n. Some (both_forms n)) c.2.1; role = refl; texts = refl }) h)
-  copy_folds (atoms.Areas x) b c t h = subst (λ z. IsFold asked z t) (sym c.1) (fold_same (atoms.Areas x) (atoms.Areas c.0) t (record { twin = refl; at = c.2.0; null = refl; empty = refl; kind = refl; text = refl; number = refl; position = refl; points = refl; lists = refl; area = refl; areas = areas_same c.2.2.0 c.2.2.1; geometries = ap (λ n. Some (both_forms n)) c.2.1; features = ap (λ n. Some (both_forms n)) c.2.1; role = refl; texts = refl }) h)
+  copy_folds (atoms.Points x) b c t h = subst (λ z. IsFold asked z t) (sym c.1) (fold_same (atoms.Points x) (atoms.Points c.0) t (record { twin = refl; at = c.2.0; single = refl; null = refl; empty = refl; kind = refl; text = refl; number = refl; position = refl; points = points_same c.2.2.0 c.2.2.1 c.2.2.2 c.2.2.3; lists = refl; area = refl; areas = refl; geometries = ap (λ n. Some (both_forms n)) c.2.1; features = ap (λ n. Some (both_forms n)) c.2.1; role = refl; texts = refl }) h)
+  copy_folds (atoms.Lists x) b c t h = subst (λ z. IsFold asked z t) (sym c.1) (fold_same (atoms.Lists x) (atoms.Lists c.0) t (record { twin = refl; at = c.2.0; single = refl; null = refl; empty = refl; kind = refl; text = refl; number = refl; position = refl; points = refl; lists = lists_same c.2.2.0 c.2.2.1 c.2.2.2; area = lists_same c.2.2.0 c.2.2.1 c.2.2.2; areas = refl; geometries = ap (λ n. Some (both_forms n)) c.2.1; features = ap (λ n. Some (both_forms n)) c.2.1; role = refl; texts = refl }) h)
+  copy_folds (atoms.Areas x) b c t h = subst (λ z. IsFold asked z t) (sym c.1) (fold_same (atoms.Areas x) (atoms.Areas c.0) t (record { twin = refl; at = c.2.0; single = refl; null = refl; empty = refl; kind = refl; text = refl; number = refl; position = refl; points = refl; lists = refl; area = refl; areas = areas_same c.2.2.0 c.2.2.1; geometries = ap (λ n. Some (both_forms n)) c.2.1; features = ap (λ n. Some (both_forms n)) c.2.1; role = refl; texts = refl }) h)
   copy_folds (atoms.Other x) b c t h = subst (λ z. IsFold asked z t) (sym c) h
-  copy_folds (atoms.Items x) b c t h = subst (λ z. IsFold asked z t) (sym c.1) (fold_same (atoms.Items x) (atoms.Items c.0) t (record { twin = refl; at = c.2; null = refl; empty = refl; kind = refl; text = refl; number = refl; position = refl; points = refl; lists = refl; area = refl; areas = refl; geometries = ap (λ (i : Items). Some i.geometries) c.3; features = ap (λ (i : Items). Some i.features) c.3; role = refl; texts = refl }) h)
+  copy_folds (atoms.Items x) b c t h = subst (λ z. IsFold asked z t) (sym c.1) (fold_same (atoms.Items x) (atoms.Items c.0) t (record { twin = refl; at = c.2; single = refl; null = refl; empty = refl; kind = refl; text = refl; number = refl; position = refl; points = refl; lists = refl; area = refl; areas = refl; geometries = ap (λ (i : Items). Some i.geometries) c.3; features = ap (λ (i : Items). Some i.features) c.3; role = refl; texts = refl }) h)
   copy_folds (atoms.Void n) b c t h = subst (λ z. IsFold asked z t) (sym c) h
-  copy_folds (atoms.Object x) b c t h = subst (λ z. IsFold asked z t) (sym c.1) (fold_same (atoms.Object x) (atoms.Object c.0) t (record { twin = refl; at = c.2; null = refl; empty = refl; kind = refl; text = refl; number = refl; position = refl; points = refl; lists = refl; area = refl; areas = refl; geometries = refl; features = refl; role = ap (λ (i : Roles). i.role) c.3; texts = ap (λ (i : Roles). Some i.texts) c.3 }) h)
+  copy_folds (atoms.Object x) b c t h = subst (λ z. IsFold asked z t) (sym c.1) (fold_same (atoms.Object x) (atoms.Object c.0) t (record { twin = refl; at = c.2; single = refl; null = refl; empty = refl; kind = refl; text = refl; number = refl; position = refl; points = refl; lists = refl; area = refl; areas = refl; geometries = refl; features = refl; role = ap (λ (i : Roles). i.role) c.3; texts = ap (λ (i : Roles). Some i.texts) c.3 }) h)
+  copy_folds (atoms.Run x) b c t h = absurd (none-some x.value (sym (h.read refl).single))
 
   pub copy_own : (a b : GeoAtom) → IsCopy a b → IsOwn asked a → IsOwn asked b
   copy_own (atoms.Twin f) b c h = subst (IsOwn asked) (sym c) h
@@ -116,3 +120,7 @@ module _ (asked : Asked) where
   copy_own (atoms.Items x) b c h = subst (IsOwn asked) (sym c.1) (subst (AreOwnItems asked) (sym c.3) h)
   copy_own (atoms.Void n) b c h = subst (IsOwn asked) (sym c) h
   copy_own (atoms.Object x) b c h = subst (IsOwn asked) (sym c.1) (subst (λ (i : Roles). IsOwnRole asked i.role) (sym c.3) h)
+  copy_own (atoms.Run x) b c h = subst (IsOwn asked) (sym c.1) (subst (AreOwnItems asked) (sym c.2) h)
+
+  pub copy_run : (a b : GeoAtom) → IsCopy a b → (ts : List Tree) → IsRun asked a ts → IsRun asked b ts
+  copy_run a b c ts (x, e, r) = let (y, q, s) = subst (λ z. IsCopy z b) e c in (y, q, subst (λ i. AreJoined asked i ts) (sym s) r)

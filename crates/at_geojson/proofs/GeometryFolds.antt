@@ -2,6 +2,7 @@
 use Rattle.std.proofs.Common.{◌≡◌, ℕ, Bool, true, false, if◌then◌else◌, List, [], ◌∷◌, length, map, flat_map, Option, Some, None, Result, Ok, Err, option_map, option_and_then, refl, sym, ◌∙◌, ap, subst, append-nil}
 use Rattle.std.proofs.lemmas.Bool.{true≢false}
 use Rattle.std.proofs.lemmas.List.Concat.{flat_map-cons}
+use Rattle.std.proofs.lemmas.Option.{none-some}
 use Rattle.at_text.specs.Faults.{first_of, fault_at}
 use Rattle.at_text.specs.declared.faults.Fault.{Fault}
 use Rattle.at_text.specs.declared.faults.FaultKind.TheVariants.{Form}
@@ -139,6 +140,7 @@ module _ (asked : Asked) where
   not_nil (atoms.Items x) t r n e = subst (Alike (IsLists asked) None) (nil_lists t e) r.coordinates.lists
   not_nil (atoms.Void k) t r n e = subst (Alike (IsLists asked) None) (nil_lists t e) r.coordinates.lists
   not_nil (atoms.Object x) t r n e = subst (Alike (IsLists asked) None) (nil_lists t e) r.coordinates.lists
+  not_nil (atoms.Run x) t r n e = absurd (none-some x.value (sym r.single))
 
   abbrev of_geometry : wkt.Geometry → Reading
   of_geometry g = record { shape = shape_of asked.digits asked.how g; faults = faults_of asked.digits asked.how g }

@@ -1,5 +1,5 @@
--- Items one behind another: what they are as geometries and as features, one item more.
-use Rattle.std.proofs.Common.{◌≡◌, Bool, true, false, List, [], ◌∷◌, ◌++◌, Some, Result, Ok, Err, refl, sym, ◌∙◌, ap, subst, append-nil, append_assoc}
+-- Items one behind another: what they are as geometries and as features, further items behind them.
+use Rattle.std.proofs.Common.{◌≡◌, inl, inr, Bool, true, false, List, [], ◌∷◌, ◌++◌, Some, Result, Ok, Err, refl, sym, ◌∙◌, ap, subst, append-nil, append_assoc}
 use Rattle.std.specs.Vec.Iter.{into_iter_items, into_iter_steps}
 use Rattle.std.specs.declared.vec.IntoIter.{IntoIter}
 use Rattle.std.specs.Iterator.{Yields}
@@ -10,7 +10,7 @@ use Rattle.at_geom.specs.declared.shapes.Polygon.{Polygon}
 use Rattle.at_geom.specs.declared.shapes.Shape.{Shape}
 use Rattle.at_wkt.specs.Meaning.{both, empty_shape}
 use Rattle.at_wkt.proofs.Exits.{first_of-append}
-use Rattle.at_nest.specs.Folds.{AreFolds}
+use Rattle.at_nest.specs.Folds.{trees, AreFolds, Covers, AreItemFolds}
 use Rattle.at_nest.specs.Tree.{Tree, Trees, no_trees, tree_and}
 use Rattle.at_query.specs.declared.features.Feature.{Feature}
 use Rattle.at_query.specs.declared.parts.Part.{Part}
@@ -19,25 +19,36 @@ use Rattle.at_geojson.specs.declared.atoms.GeoAtom.{GeoAtom}
 use Rattle.at_geojson.specs.declared.atoms.Items.{Items}
 use Rattle.at_geojson.specs.Roles.{Reading, Features, both_read, geometry_reading, items_reading, item_reading}
 use Rattle.at_geojson.specs.Keeping.{Asked, needs_shapes, kept_shape}
-use Rattle.at_geojson.specs.Atoms.{HasShape, HasPart, HaveItems, items_features, IsRead, at_of, role_of, role_geometry, role_item}
-use Rattle.at_geojson.specs.Gathering.{JoinsShapes, JoinsFound}
+use Rattle.at_geojson.specs.Names.{items_of}
+use Rattle.at_geojson.specs.Atoms.{HasShape, HasPart, HaveItems, items_features, IsRead, IsRun, at_of, role_of, role_geometry, role_item}
+use Rattle.at_geojson.specs.Gathering.{seen, item_geometries, item_features, JoinsShapes, JoinsFound}
+use Rattle.at_geojson.specs.Arrays.{JoinsItems}
 
 -- what the iterator of a vector has given is a front of its items
 pub taken_front : {X A : Type 0} (s : IntoIter X A) (xs : List X) (t : IntoIter X A) → Yields into_iter_steps s xs t → into_iter_items s ≡ xs ++ into_iter_items t
 taken_front s [] t y = ap into_iter_items y
 taken_front s (x ∷ xs) t y = y.1.0 ∙ ap (λ ys. x ∷ ys) (taken_front y.0 xs t y.2)
 
--- one tree more
-abbrev snoc : Trees → Tree → Trees
-snoc no_trees t = tree_and t no_trees
-snoc (tree_and u us) t = tree_and u (snoc us t)
+-- ---- atoms beside the trees for which they stand one behind another
 
-split_folds : (P : GeoAtom → Tree → Type 0) (xs : List GeoAtom) (a : GeoAtom) (ts : Trees) → AreFolds P (xs ++ a ∷ []) ts → (us : Trees) × (t : Tree) × (ts ≡ snoc us t) × AreFolds P xs us × P a t
-split_folds P [] a (tree_and t no_trees) h = (no_trees, t, refl, tt, h.0)
-split_folds P [] a (tree_and t (tree_and u us)) h = absurd h.1
-split_folds P [] a no_trees h = absurd h
-split_folds P (x ∷ xs) a (tree_and u ts) h = let (us, t, e, f, p) = split_folds P xs a ts h.1 in (tree_and u us, t, ap (tree_and u) e, (h.0, f), p)
-split_folds P (x ∷ xs) a no_trees h = absurd h
+-- the last atom and the trees of that
+pub last_covers : (P : GeoAtom → Tree → Type 0) (R : GeoAtom → List Tree → Type 0) (xs : List GeoAtom) (a : GeoAtom) (ts : List Tree) → AreItemFolds P R (xs ++ a ∷ []) ts
+    → (us : List Tree) × (vs : List Tree) × (ts ≡ us ++ vs) × AreItemFolds P R xs us × Covers P R a vs
+last_covers P R [] a ts (us, vs, e, c, n) = ([], us, e ∙ (ap (λ z. us ++ z) n ∙ append-nil us), refl, c)
+last_covers P R (x ∷ xs) a ts (us, vs, e, c, h) = let (ps, qs, f, hs, d) = last_covers P R xs a vs h in (us ++ ps, qs, e ∙ (ap (λ z. us ++ z) f ∙ sym (append_assoc us ps qs)), (us, ps, refl, c, hs), d)
+
+-- each atom stands for one tree
+pub one_each : (P : GeoAtom → Tree → Type 0) (R : GeoAtom → List Tree → Type 0) (xs : List GeoAtom) (ts : Trees) → AreFolds P xs ts → AreItemFolds P R xs (items_of ts)
+one_each P R [] no_trees h = refl
+one_each P R (x ∷ xs) (tree_and t ts) h = (t ∷ [], items_of ts, refl, inl (t, refl, h.0), one_each P R xs ts h.1)
+one_each P R [] (tree_and t ts) h = absurd h
+one_each P R (x ∷ xs) no_trees h = absurd h
+
+pub trees_of_items : (ts : Trees) → trees (items_of ts) ≡ ts
+trees_of_items no_trees = refl
+trees_of_items (tree_and t ts) = ap (tree_and t) (trees_of_items ts)
+
+-- ---- readings, joined
 
 abbrev reading : List Pos → List (List Pos) → List Polygon → List Fault → Reading
 reading p l g f = record { shape = record { points = p; lines = l; polygons = g }; faults = f }
@@ -95,25 +106,44 @@ parts_join q (Err e) (Ok y) n r s j h k = subst (λ z. HasPart q z (both_feature
 parts_join q (Err e) (Err f) n r s j h k = subst (λ z. HasPart q z (both_features r s)) (sym j.1) (first_both r.faults s.faults e f j.0 h k j.2)
 
 module _ (asked : Asked) where
-  shapes_snoc : (us : Trees) (t : Tree) → items_reading asked.digits asked.how (snoc us t) ≡ both_read (items_reading asked.digits asked.how us) (geometry_reading asked.digits asked.how t)
-  shapes_snoc no_trees t = both_nothing (geometry_reading asked.digits asked.how t)
-  shapes_snoc (tree_and u us) t = ap (both_read (geometry_reading asked.digits asked.how u)) (shapes_snoc us t) ∙ both_assoc (geometry_reading asked.digits asked.how u) (items_reading asked.digits asked.how us) (geometry_reading asked.digits asked.how t)
+  shapes_append : (us vs : List Tree) → items_reading asked.digits asked.how (trees (us ++ vs)) ≡ both_read (items_reading asked.digits asked.how (trees us)) (items_reading asked.digits asked.how (trees vs))
+  shapes_append [] vs = refl
+  shapes_append (u ∷ us) vs = ap (both_read (geometry_reading asked.digits asked.how u)) (shapes_append us vs) ∙ both_assoc (geometry_reading asked.digits asked.how u) (items_reading asked.digits asked.how (trees us)) (items_reading asked.digits asked.how (trees vs))
 
-  features_snoc : (us : Trees) (t : Tree) → items_features asked (snoc us t) ≡ both_features (items_features asked us) (item_reading asked.digits asked.how t)
-  features_snoc no_trees t = features_nothing (item_reading asked.digits asked.how t)
-  features_snoc (tree_and u us) t = ap (both_features (item_reading asked.digits asked.how u)) (features_snoc us t) ∙ features_assoc (item_reading asked.digits asked.how u) (items_features asked us) (item_reading asked.digits asked.how t)
+  features_append : (us vs : List Tree) → items_features asked (trees (us ++ vs)) ≡ both_features (items_features asked (trees us)) (items_features asked (trees vs))
+  features_append [] vs = refl
+  features_append (u ∷ us) vs = ap (both_features (item_reading asked.digits asked.how u)) (features_append us vs) ∙ features_assoc (item_reading asked.digits asked.how u) (items_features asked (trees us)) (items_features asked (trees vs))
 
-  -- one item more
-  pub one_item_more : (xs : List GeoAtom) (a : GeoAtom) (old one new : Items) → one.geometries ≡ role_geometry (at_of a) (role_of a) → one.features ≡ role_item (at_of a) (role_of a)
-      → JoinsShapes old.geometries one.geometries new.geometries → JoinsFound old.features one.features new.features
-      → ((ts : Trees) → AreFolds (IsRead asked) xs ts → HaveItems asked old ts) → (ts : Trees) → AreFolds (IsRead asked) (xs ++ a ∷ []) ts → HaveItems asked new ts
-  one_item_more xs a old one new eg ef j k h ts f =
-      let (us, t, e, fs, r) = split_folds (IsRead asked) xs a ts f in
-      let (hg, hf) = h us fs in (
-        subst (λ z. HasShape (needs_shapes asked.query) new.geometries z) (sym (ap (items_reading asked.digits asked.how) e ∙ shapes_snoc us t))
-            (shapes_join (needs_shapes asked.query) old.geometries one.geometries new.geometries (items_reading asked.digits asked.how us) (geometry_reading asked.digits asked.how t) j hg
-            (subst (λ z. HasShape (needs_shapes asked.query) z (geometry_reading asked.digits asked.how t)) (sym eg) r.object.geometry)),
-        subst (λ z. HasPart asked.query new.features z) (sym (ap (items_features asked) e ∙ features_snoc us t))
-            (parts_join asked.query old.features one.features new.features (items_features asked us) (item_reading asked.digits asked.how t) k hf
-            (subst (λ z. HasPart asked.query z (item_reading asked.digits asked.how t)) (sym ef) r.object.item)),
+  -- items behind others
+  pub have_both : (us vs : List Tree) (old more new : Items) → JoinsShapes old.geometries more.geometries new.geometries → JoinsFound old.features more.features new.features
+      → HaveItems asked old (trees us) → HaveItems asked more (trees vs) → HaveItems asked new (trees (us ++ vs))
+  have_both us vs old more new j k h g = (
+    subst (λ z. HasShape (needs_shapes asked.query) new.geometries z) (sym (shapes_append us vs))
+        (shapes_join (needs_shapes asked.query) old.geometries more.geometries new.geometries (items_reading asked.digits asked.how (trees us)) (items_reading asked.digits asked.how (trees vs)) j h.0 g.0),
+    subst (λ z. HasPart asked.query new.features z) (sym (features_append us vs))
+        (parts_join asked.query old.features more.features new.features (items_features asked (trees us)) (items_features asked (trees vs)) k h.1 g.1),
+  )
+
+  -- one value alone
+  pub have_one : (a : GeoAtom) (t : Tree) (one : Items) → one.geometries ≡ item_geometries a → one.features ≡ item_features a → IsRead asked a t → HaveItems asked one (trees (t ∷ []))
+  have_one a t one eg ef r =
+      let g : one.geometries ≡ role_geometry (at_of a) (role_of a) = eg ∙ ap (seen (role_geometry (at_of a) (role_of a)) (λ (items : Items). items.geometries)) r.single in
+      let f : one.features ≡ role_item (at_of a) (role_of a) = ef ∙ ap (seen (role_item (at_of a) (role_of a)) (λ (items : Items). items.features)) r.single in (
+        subst (λ z. HasShape (needs_shapes asked.query) one.geometries z) (sym (both_nothing (geometry_reading asked.digits asked.how t))) (subst (λ z. HasShape (needs_shapes asked.query) z (geometry_reading asked.digits asked.how t)) (sym g) r.object.geometry),
+        subst (λ z. HasPart asked.query one.features z) (sym (features_nothing (item_reading asked.digits asked.how t))) (subst (λ z. HasPart asked.query z (item_reading asked.digits asked.how t)) (sym f) r.object.item),
       )
+
+  -- an atom, for one value or several
+  pub have_covers : (a : GeoAtom) (ts : List Tree) (one : Items) → one.geometries ≡ item_geometries a → one.features ≡ item_features a → Covers (IsRead asked) (IsRun asked) a ts → HaveItems asked one (trees ts)
+  have_covers a ts one eg ef (inl (t, e, r)) = subst (λ z. HaveItems asked one (trees z)) (sym e) (have_one a t one eg ef r)
+  have_covers a ts one eg ef (inr (run, e, j)) = (
+    subst (λ z. HasShape (needs_shapes asked.query) z (items_reading asked.digits asked.how (trees ts))) (sym (eg ∙ ap item_geometries e)) j.have.0,
+    subst (λ z. HasPart asked.query z (items_features asked (trees ts))) (sym (ef ∙ ap item_features e)) j.have.1,
+  )
+
+  -- one atom more
+  pub one_item_more : (xs : List GeoAtom) (a : GeoAtom) (old one new : Items) → one.geometries ≡ item_geometries a → one.features ≡ item_features a
+      → JoinsShapes old.geometries one.geometries new.geometries → JoinsFound old.features one.features new.features → JoinsItems asked xs old → JoinsItems asked (xs ++ a ∷ []) new
+  one_item_more xs a old one new eg ef j k h ts f =
+      let (us, vs, e, fs, c) = last_covers (IsRead asked) (IsRun asked) xs a ts f in
+      subst (λ z. HaveItems asked new (trees z)) (sym e) (have_both us vs old one new j k (h us fs) (have_covers a vs one eg ef c))

@@ -8,6 +8,7 @@ pub mod CoordinateFolds
 pub mod ArrayFolds
 pub mod OwnFolds
 pub mod ItemFolds
+pub mod RunFolds
 pub mod ArrayAnswers
 pub mod GeometryFolds
 pub mod MemberFolds

@@ -103,6 +103,7 @@ module _ (asked : Asked) (at : ℕ) where
         let o = object_is roles.Nothing (subst (λ z. IsRoleOf asked.query at z xs roles.Nothing) (sym k) refl) [] (sym e) in
         subst (λ z. IsRead asked z t) (sym q) (record {
           at = refl;
+          single = refl;
           scalar = record { is_null = refl; is_empty = λ b. absurd (true≢false (sym b)); kind = refl; text = refl };
           coordinates = record { number = tt; position = tt; points = tt; lists = tt; area = tt; areas = tt };
           items = record { geometries = tt; features = λ _. tt };
@@ -112,6 +113,7 @@ module _ (asked : Asked) (at : ℕ) where
         let o = object_is m.0.roles.value.role m.4 m.0.roles.value.texts m.3 in
         subst (λ z. IsRead asked z t) (sym m.1) (record {
           at = m.2;
+          single = refl;
           scalar = record { is_null = refl; is_empty = λ b. absurd (true≢false (sym b)); kind = refl; text = refl };
           coordinates = record { number = tt; position = tt; points = tt; lists = tt; area = tt; areas = tt };
           items = record { geometries = tt; features = λ _. tt };

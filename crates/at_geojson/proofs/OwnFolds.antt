@@ -16,7 +16,7 @@ use Rattle.at_geojson.specs.declared.atoms.Role.{Role}
 use Rattle.at_geojson.specs.declared.atoms.Role.TheVariants as roles
 use Rattle.at_geojson.specs.Keeping.{Asked, needs_shapes, kept}
 use Rattle.at_geojson.specs.Atoms.{nowhere, at_of, role_of, role_geometry, role_item, IfOwnShape, IfOwnPart, IsOwnRole, IsOwn}
-use Rattle.at_geojson.specs.Gathering.{number_value, number_fault, position_value, path_in, rings_in, polygon_in, position_atom, position_made, pair_atom, MakesPoints, MakesLists, MakesAreas, JoinsShapes, JoinsFound, AreJoinable}
+use Rattle.at_geojson.specs.Gathering.{number_value, number_fault, position_value, path_in, rings_in, polygon_in, position_atom, position_made, pair_atom, item_geometries, item_features, MakesPoints, MakesLists, MakesAreas, JoinsShapes, JoinsFound, AreJoinable}
 
 pub all_mapped : {X Y : Type 0} (P : X → Type 0) (Q : Y → Type 0) (f : X → Y) → ((x : X) → P x → Q (f x)) → (xs : List X) → All P xs → All Q (map f xs)
 all_mapped P Q f g [] h = All-nil Q
@@ -62,6 +62,7 @@ module _ (asked : Asked) where
   number_small (atoms.Items x) h = omega arith
   number_small (atoms.Void n) h = omega arith
   number_small (atoms.Object x) h = omega arith
+  number_small (atoms.Run x) h = omega arith
 
   pub position_in : (a : GeoAtom) → IsOwn asked a → IsInRange (position_value a)
   position_in (atoms.Twin f) h = nowhere_in
@@ -80,6 +81,7 @@ module _ (asked : Asked) where
   position_in (atoms.Items x) h = nowhere_in
   position_in (atoms.Void n) h = nowhere_in
   position_in (atoms.Object x) h = nowhere_in
+  position_in (atoms.Run x) h = nowhere_in
 
   pub path_in_range : (a : GeoAtom) → IsOwn asked a → All IsInRange (path_in a)
   path_in_range (atoms.Twin f) h = All-nil IsInRange
@@ -98,6 +100,7 @@ module _ (asked : Asked) where
   path_in_range (atoms.Items x) h = All-nil IsInRange
   path_in_range (atoms.Void n) h = All-nil IsInRange
   path_in_range (atoms.Object x) h = All-nil IsInRange
+  path_in_range (atoms.Run x) h = All-nil IsInRange
 
   pub rings_in_range : (a : GeoAtom) → IsOwn asked a → ArePathsInRange (rings_in a)
   rings_in_range (atoms.Twin f) h = All-nil (All IsInRange)
@@ -116,6 +119,7 @@ module _ (asked : Asked) where
   rings_in_range (atoms.Items x) h = All-nil (All IsInRange)
   rings_in_range (atoms.Void n) h = All-nil (All IsInRange)
   rings_in_range (atoms.Object x) h = All-nil (All IsInRange)
+  rings_in_range (atoms.Run x) h = All-nil (All IsInRange)
 
   pub own_geometry : (a : GeoAtom) → IsOwn asked a → IfOwnShape asked (role_geometry (at_of a) (role_of a))
   own_geometry (atoms.Twin f) h = tt
@@ -134,6 +138,7 @@ module _ (asked : Asked) where
   own_geometry (atoms.Items x) h = tt
   own_geometry (atoms.Void n) h = tt
   own_geometry (atoms.Object x) h = role_shape x.at x.roles.value.role h
+  own_geometry (atoms.Run items) h = tt
 
   pub own_item : (a : GeoAtom) → IsOwn asked a → IfOwnPart asked (role_item (at_of a) (role_of a))
   own_item (atoms.Twin f) h = tt
@@ -152,6 +157,27 @@ module _ (asked : Asked) where
   own_item (atoms.Items x) h = tt
   own_item (atoms.Void n) h = tt
   own_item (atoms.Object x) h = role_part x.at x.roles.value.role h
+  own_item (atoms.Run items) h = tt
+
+  -- what stands beside other items
+  pub own_joined : (a : GeoAtom) → IsOwn asked a → IfOwnShape asked (item_geometries a) × IfOwnPart asked (item_features a)
+  own_joined (atoms.Twin f) h = (own_geometry (atoms.Twin f) h, own_item (atoms.Twin f) h)
+  own_joined (atoms.Null n) h = (own_geometry (atoms.Null n) h, own_item (atoms.Null n) h)
+  own_joined (atoms.Plain n) h = (own_geometry (atoms.Plain n) h, own_item (atoms.Plain n) h)
+  own_joined (atoms.Text x) h = (own_geometry (atoms.Text x) h, own_item (atoms.Text x) h)
+  own_joined (atoms.Number x) h = (own_geometry (atoms.Number x) h, own_item (atoms.Number x) h)
+  own_joined (atoms.BadNumber f) h = (own_geometry (atoms.BadNumber f) h, own_item (atoms.BadNumber f) h)
+  own_joined (atoms.Empty n) h = (own_geometry (atoms.Empty n) h, own_item (atoms.Empty n) h)
+  own_joined (atoms.Position x) h = (own_geometry (atoms.Position x) h, own_item (atoms.Position x) h)
+  own_joined (atoms.BadPosition x) h = (own_geometry (atoms.BadPosition x) h, own_item (atoms.BadPosition x) h)
+  own_joined (atoms.Points x) h = (own_geometry (atoms.Points x) h, own_item (atoms.Points x) h)
+  own_joined (atoms.Lists x) h = (own_geometry (atoms.Lists x) h, own_item (atoms.Lists x) h)
+  own_joined (atoms.Areas x) h = (own_geometry (atoms.Areas x) h, own_item (atoms.Areas x) h)
+  own_joined (atoms.Other x) h = (own_geometry (atoms.Other x) h, own_item (atoms.Other x) h)
+  own_joined (atoms.Items x) h = (own_geometry (atoms.Items x) h, own_item (atoms.Items x) h)
+  own_joined (atoms.Void n) h = (own_geometry (atoms.Void n) h, own_item (atoms.Void n) h)
+  own_joined (atoms.Object x) h = (own_geometry (atoms.Object x) h, own_item (atoms.Object x) h)
+  own_joined (atoms.Run items) h = h
 
   pub own_middle : (items xs : List GeoAtom) (a : GeoAtom) (rest : List GeoAtom) → items ≡ xs ++ a ∷ rest → All (IsOwn asked) items → IsOwn asked a
   own_middle items xs a rest e h = go xs (subst (All (IsOwn asked)) e h) where

@@ -79,6 +79,7 @@ module _ (asked : Asked) where
     twins = refl;
     read = λ _. record {
       at = refl;
+      single = refl;
       scalar = record { is_null = refl; is_empty = λ e. absurd (true≢false (sym e)); kind = refl; text = refl };
       coordinates = record { number = tt; position = tt; points = tt; lists = tt; area = tt; areas = tt };
       items = record { geometries = tt; features = λ _. tt };
@@ -91,6 +92,7 @@ module _ (asked : Asked) where
     twins = refl;
     read = λ _. record {
       at = refl;
+      single = refl;
       scalar = record { is_null = refl; is_empty = λ e. absurd (true≢false (sym e)); kind = refl; text = refl };
       coordinates = record { number = tt; position = tt; points = tt; lists = tt; area = tt; areas = tt };
       items = record { geometries = tt; features = λ _. tt };
@@ -103,6 +105,7 @@ module _ (asked : Asked) where
     twins = refl;
     read = λ _. record {
       at = refl;
+      single = refl;
       scalar = record { is_null = refl; is_empty = λ e. absurd (true≢false (sym e)); kind = refl; text = refl };
       coordinates = record { number = tt; position = tt; points = tt; lists = tt; area = tt; areas = tt };
       items = record { geometries = tt; features = λ _. tt };
@@ -115,6 +118,7 @@ module _ (asked : Asked) where
     twins = refl;
     read = λ _. record {
       at = refl;
+      single = refl;
       scalar = record { is_null = refl; is_empty = λ e. absurd (true≢false (sym e)); kind = k; text = u };
       coordinates = record { number = tt; position = tt; points = tt; lists = tt; area = tt; areas = tt };
       items = record { geometries = tt; features = λ _. tt };
@@ -127,6 +131,7 @@ module _ (asked : Asked) where
     twins = refl;
     read = λ _. record {
       at = refl;
+      single = refl;
       scalar = record { is_null = refl; is_empty = λ e. absurd (true≢false (sym e)); kind = refl; text = refl };
       coordinates = record { number = (ap (λ r. first_of (faults_in r a.at)) e, λ _. ap value_in e); position = tt; points = tt; lists = tt; area = tt; areas = tt };
       items = record { geometries = tt; features = λ _. tt };
@@ -139,6 +144,7 @@ module _ (asked : Asked) where
     twins = refl;
     read = λ _. record {
       at = refl;
+      single = refl;
       scalar = record { is_null = refl; is_empty = λ e. absurd (true≢false (sym e)); kind = refl; text = refl };
       coordinates = record { number = (ap Some k ∙ ap (λ r. first_of (faults_in r f.at)) e, λ h. absurd (some_none f h)); position = tt; points = tt; lists = tt; area = tt; areas = tt };
       items = record { geometries = tt; features = λ _. tt };

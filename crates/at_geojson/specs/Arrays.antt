@@ -1,20 +1,39 @@
 -- What is made of an array whose items are of no one sort of coordinates. Only contracts of private functions cite this.
-use Rattle.std.specs.Prelude.{◌≡◌, ℕ, ◌⊎◌, false, List, Some, None}
+use Rattle.std.specs.Prelude.{◌≡◌, ℕ, ◌⊎◌, Bool, false, ◌||◌, List, ◌++◌, Some, None}
 use Rattle.std.specs.List.{list_any}
-use Rattle.at_nest.specs.Tree.{Trees}
-use Rattle.at_nest.specs.Folds.{AreFolds}
+use Rattle.at_nest.specs.Tree.{Tree, array}
+use Rattle.at_nest.specs.Folds.{trees, Covers, AreItemFolds}
 use Rattle.at_geojson.specs.declared.atoms.GeoAtom.{GeoAtom}
 use Rattle.at_geojson.specs.declared.atoms.GeoAtom.TheVariants as atoms
+use Rattle.at_geojson.specs.declared.atoms.Items.{Items}
 use Rattle.at_geojson.specs.declared.atoms.ItemsAtom.{ItemsAtom}
 use Rattle.at_geojson.specs.Keeping.{Asked}
-use Rattle.at_geojson.specs.Atoms.{IsRead, HaveItems}
-use Rattle.at_geojson.specs.Gathering.{is_object, least_of, pair_atom}
+use Rattle.at_geojson.specs.Atoms.{IsRead, IsFold, IsRun, HaveItems}
+use Rattle.at_geojson.specs.Gathering.{is_object, is_run, least_of, pair_atom}
+
+-- whatever trees the atoms stand for one behind another, the items are what those are in both roles
+abbrev pub JoinsItems : Asked → List GeoAtom → Items → Type 0
+JoinsItems asked aa items = (ts : List Tree) → AreItemFolds (IsRead asked) (IsRun asked) aa ts → HaveItems asked items (trees ts)
 
 -- no item is an object; or what they are in both roles
 abbrev pub MakesItems : Asked → ℕ → List GeoAtom → GeoAtom → Type 0
 MakesItems asked at items r = ((list_any is_object items ≡ false) × (r ≡ atoms.Other (record { at = at; least = least_of items })))
-    ⊎ ((m : ItemsAtom) × (r ≡ atoms.Items m) × (m.at ≡ at) × ((ts : Trees) → AreFolds (IsRead asked) items ts → HaveItems asked m.items.value ts))
+    ⊎ ((m : ItemsAtom) × (r ≡ atoms.Items m) × (m.at ≡ at) × JoinsItems asked items m.items.value)
 
 -- a position, or one number alone
 abbrev pub MakesNumbers : Asked → ℕ → List GeoAtom → GeoAtom → Type 0
 MakesNumbers asked at items r = (pair_atom at (least_of items) items ≡ Some r) ⊎ ((pair_atom at (least_of items) items ≡ None) × MakesItems asked at items r)
+
+-- ---- items as they come
+
+-- an object that has a kind or texts, or a run: what becomes one run
+abbrev pub joins_run : GeoAtom → Bool
+joins_run a = is_object a || is_run a
+
+-- whatever trees the atoms and the further atom stand for, the new atoms stand for all of them
+abbrev pub Adds : Asked → List GeoAtom → GeoAtom → List GeoAtom → Type 0
+Adds asked old a new = (ts us : List Tree) → AreItemFolds (IsFold asked) (IsRun asked) old ts → Covers (IsFold asked) (IsRun asked) a us → AreItemFolds (IsFold asked) (IsRun asked) new (ts ++ us)
+
+-- whatever trees the items stand for, the atom is that of the array of these trees
+abbrev pub ClosesItems : Asked → ℕ → List GeoAtom → GeoAtom → Type 0
+ClosesItems asked at items r = (ts : List Tree) → AreItemFolds (IsFold asked) (IsRun asked) items ts → IsFold asked r (array at (trees ts))

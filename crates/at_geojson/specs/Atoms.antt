@@ -1,6 +1,7 @@
 -- What is kept of a value of a text in each role, and that it is what the definitions read of the value in that role.
-use Rattle.std.specs.Prelude.{◌≡◌, ℕ, ℤ, pos, Bool, true, false, if◌then◌else◌, List, [], ◌∷◌, All, map, flat_map, Option, Some, None, option_and_then, Result, Ok, Err}
+use Rattle.std.specs.Prelude.{◌≡◌, ℕ, ℤ, pos, Bool, true, false, if◌then◌else◌, List, [], ◌∷◌, All, map, flat_map, Option, Some, None, is_some, option_and_then, Result, Ok, Err}
 use Rattle.std.specs.Bool.{⊤}
+use Rattle.std.specs.List.{list_any}
 use Rattle.std.specs.declared.boxed.Box.{Box}
 use Rattle.std.specs.declared.alloc.Global.{Global}
 use Rattle.at_text.specs.Faults.{fault_at, first_of}
@@ -15,7 +16,8 @@ use Rattle.at_geom.specs.Shapes.{line_fault, ring_fault, ArePathsInRange, ArePol
 use Rattle.at_wkt.specs.Positions.{Position, Positions, number_fault, value_of, position_faults, items_faults, faults_of_line, faults_of_ring, pos_of, path_of}
 use Rattle.at_wkt.specs.Meaning.{empty_shape, polygons_of, faults_of_area}
 use Rattle.at_nest.specs.Tree.{Tree, literal, array, object, Trees, Members, offset_of}
-use Rattle.at_nest.specs.Twins.{twins_of}
+use Rattle.at_nest.specs.Folds.{trees}
+use Rattle.at_nest.specs.Twins.{twins_of, twins_of_items}
 use Rattle.at_lex.specs.Runs.{the_null}
 use Rattle.at_query.specs.declared.queries.Query.{Query}
 use Rattle.at_query.specs.declared.queries.Test.{Test}
@@ -58,6 +60,7 @@ at_of (atoms.Other a) = a.at
 at_of (atoms.Items a) = a.at
 at_of (atoms.Void at) = at
 at_of (atoms.Object a) = a.at
+at_of (atoms.Run items) = 0
 
 -- values with their first fault: what the values are counts only where there is none
 pub record NumberView : Type 0 where
@@ -184,6 +187,11 @@ abbrev pub role_item : ℕ → Role → Result Part Fault
 role_item at (roles.Feature p) = p
 role_item at _ = both_forms at
 
+-- what values one behind another in an array are, joined: no value has this
+abbrev pub as_run : GeoAtom → Option Items
+as_run (atoms.Run items) = Some items.value
+as_run _ = None
+
 -- ---- the same of trees
 
 abbrev pub is_null_tree : Tree → Bool
@@ -197,6 +205,9 @@ array_trees _ = None
 abbrev pub object_members : Tree → Option Members
 object_members (object at ms) = Some ms
 object_members _ = None
+
+abbrev pub is_object_tree : Tree → Bool
+is_object_tree t = is_some (object_members t)
 
 -- ---- and that they agree
 
@@ -296,8 +307,10 @@ module _ (asked : Asked) where
     pub kind : as_kind a ≡ option_and_then kind_of_text (units_of_text t)
     pub text : as_text a ≡ asked_text (units_of_text t)
 
+  -- one value, in every role
   pub record IsRead (a : GeoAtom) (t : Tree) : Type 0 where
     pub at : at_of a ≡ offset_of t
+    pub single : as_run a ≡ None
     pub scalar : IsScalar a t
     pub coordinates : AreCoordinates a t
     pub items : AreItems a t
@@ -327,19 +340,32 @@ module _ (asked : Asked) where
   IsOwnRole (roles.Feature p) = IfOwnPart p
   IsOwnRole (roles.Collection p) = IfOwnPart p
 
+  -- what items are in both roles
+  abbrev pub AreOwnItems : Items → Type 0
+  AreOwnItems items = IfOwnShape items.geometries × IfOwnPart items.features
+
   abbrev pub IsOwn : GeoAtom → Type 0
   IsOwn (atoms.Number a) = IsInRange (record { x = a.value; y = pos 0 })
   IsOwn (atoms.Position a) = IsInRange a.pos
   IsOwn (atoms.Points a) = All IsInRange a.points.value.path.items
   IsOwn (atoms.Lists a) = ArePathsInRange a.lists.value.paths.items
   IsOwn (atoms.Areas a) = ArePolygonsInRange a.areas.value.polygons.items
-  IsOwn (atoms.Items a) = IfOwnShape a.items.value.geometries × IfOwnPart a.items.value.features
+  IsOwn (atoms.Items a) = AreOwnItems a.items.value
   IsOwn (atoms.Object a) = IsOwnRole a.roles.value.role
+  IsOwn (atoms.Run items) = AreOwnItems items.value
   IsOwn _ = ⊤
-
-  -- what items are in both roles
-  abbrev pub AreOwnItems : Items → Type 0
-  AreOwnItems items = IfOwnShape items.geometries × IfOwnPart items.features
 
   abbrev pub HaveItems : Items → Trees → Type 0
   HaveItems items ts = HasShape needs items.geometries (items_reading asked.digits asked.how ts) × HasPart asked.query items.features (items_features ts)
+
+  -- ---- several values one behind another in an array
+
+  -- no object of them has equal names, and some of them is an object, so that an array in which they stand is no coordinates
+  pub record AreJoined (items : Items) (ts : List Tree) : Type 0 where
+    pub twins : first_of (twins_of_items (trees ts)) ≡ None
+    pub some : list_any is_object_tree ts ≡ true
+    pub have : HaveItems items (trees ts)
+
+  -- the atom is a run, and is what the algebra makes of these trees
+  abbrev pub IsRun : GeoAtom → List Tree → Type 0
+  IsRun a ts = (items : Box Items Global) × (a ≡ atoms.Run items) × AreJoined items.value ts

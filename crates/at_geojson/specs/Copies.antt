@@ -1,5 +1,7 @@
 -- A second atom that is equal to the first but for where its lists lie. Only contracts of private functions cite this.
 use Rattle.std.specs.Prelude.{◌≡◌}
+use Rattle.std.specs.declared.boxed.Box.{Box}
+use Rattle.std.specs.declared.alloc.Global.{Global}
 use Rattle.at_geojson.specs.declared.atoms.GeoAtom.{GeoAtom}
 use Rattle.at_geojson.specs.declared.atoms.TextAtom.{TextAtom}
 use Rattle.at_geojson.specs.declared.atoms.Points.{Points}
@@ -8,6 +10,7 @@ use Rattle.at_geojson.specs.declared.atoms.Lists.{Lists}
 use Rattle.at_geojson.specs.declared.atoms.ListsAtom.{ListsAtom}
 use Rattle.at_geojson.specs.declared.atoms.Areas.{Areas}
 use Rattle.at_geojson.specs.declared.atoms.AreasAtom.{AreasAtom}
+use Rattle.at_geojson.specs.declared.atoms.Items.{Items}
 use Rattle.at_geojson.specs.declared.atoms.ItemsAtom.{ItemsAtom}
 use Rattle.at_geojson.specs.declared.atoms.ObjectAtom.{ObjectAtom}
 use Rattle.at_geojson.specs.declared.atoms.GeoAtom.TheVariants as atoms
@@ -41,4 +44,5 @@ IsCopy (atoms.Lists x) b = (y : ListsAtom) × (b ≡ atoms.Lists y) × CopiesLis
 IsCopy (atoms.Areas x) b = (y : AreasAtom) × (b ≡ atoms.Areas y) × CopiesAreas x y
 IsCopy (atoms.Items x) b = (y : ItemsAtom) × (b ≡ atoms.Items y) × (y.at ≡ x.at) × (y.items.value ≡ x.items.value)
 IsCopy (atoms.Object x) b = (y : ObjectAtom) × (b ≡ atoms.Object y) × (y.at ≡ x.at) × (y.roles.value ≡ x.roles.value)
+IsCopy (atoms.Run x) b = (y : Box Items Global) × (b ≡ atoms.Run y) × (y.value ≡ x.value)
 IsCopy a b = b ≡ a

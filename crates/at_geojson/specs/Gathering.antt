@@ -1,5 +1,5 @@
 -- What the private functions make of atoms one by one and of lists of them. Only contracts of private functions cite this.
-use Rattle.std.specs.Prelude.{◌≡◌, ℕ, ◌-◌, ◌==◌, min, ℤ, pos, Bool, true, false, not, ◌&&◌, ◌||◌, if◌then◌else◌, bytes_eq, nat_lt, List, [], ◌∷◌, ◌++◌, fold, map, length, Option, Some, None, is_none, slice_get}
+use Rattle.std.specs.Prelude.{◌≡◌, ℕ, ◌-◌, ◌==◌, min, ℤ, pos, Bool, true, false, not, ◌&&◌, ◌||◌, if◌then◌else◌, bytes_eq, nat_lt, List, [], ◌∷◌, ◌++◌, fold, map, length, Option, Some, None, is_none, is_some, slice_get}
 use Rattle.std.specs.List.{list_all, list_any}
 use Rattle.std.specs.Ordering.{int_eq}
 use Rattle.std.specs.Prelude.{Result, Ok, Err}
@@ -17,12 +17,13 @@ use Rattle.at_geom.specs.Shapes.{line_fault, ring_fault}
 use Rattle.at_nest.specs.declared.algebra.Member.{Member}
 use Rattle.at_geojson.specs.declared.atoms.GeoAtom.{GeoAtom}
 use Rattle.at_geojson.specs.declared.atoms.GeoAtom.TheVariants as atoms
+use Rattle.at_geojson.specs.declared.atoms.Items.{Items}
 use Rattle.at_geojson.specs.declared.atoms.PointsAtom.{PointsAtom}
 use Rattle.at_geojson.specs.declared.atoms.ListsAtom.{ListsAtom}
 use Rattle.at_geojson.specs.declared.atoms.AreasAtom.{AreasAtom}
 use Rattle.at_geojson.specs.declared.sorts.Sort.{Sort}
 use Rattle.at_geojson.specs.declared.sorts.Sort.TheVariants as sorts
-use Rattle.at_geojson.specs.Atoms.{twin_of, at_of, nowhere, NumberView, PositionView, PointsView, ListsView, as_number, as_position, as_points, as_area}
+use Rattle.at_geojson.specs.Atoms.{twin_of, at_of, nowhere, NumberView, PositionView, PointsView, ListsView, as_number, as_position, as_points, as_area, as_run, role_of, role_geometry, role_item}
 use Rattle.at_geojson.specs.Keeping.{kept}
 
 -- the first of the faults that f finds
@@ -202,6 +203,17 @@ is_object _ = false
 abbrev pub items_kept : GeoAtom → Bool
 items_kept (atoms.Items a) = true
 items_kept _ = false
+
+-- several values one behind another
+abbrev pub is_run : GeoAtom → Bool
+is_run a = is_some (as_run a)
+
+-- what an atom is beside those of other items, as geometries and as features
+abbrev pub item_geometries : GeoAtom → Result Shape Fault
+item_geometries a = seen (role_geometry (at_of a) (role_of a)) (λ (items : Items). items.geometries) (as_run a)
+
+abbrev pub item_features : GeoAtom → Result Part Fault
+item_features a = seen (role_item (at_of a) (role_of a)) (λ (items : Items). items.features) (as_run a)
 
 -- Form at each item
 abbrev pub form_fault : GeoAtom → Option Fault

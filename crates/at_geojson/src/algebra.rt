@@ -1,15 +1,15 @@
-ghost use Rattle.std.specs.Prelude.{◌≡◌, All, IfOk};
-ghost use Rattle.at_nest.specs.Tree.{Trees, Members, array as array_tree, object as object_tree};
-ghost use Rattle.at_nest.specs.Folds.{AreFolds, AreMemberFolds};
-ghost use Rattle.at_geojson.specs.Atoms.{IsOwn, IsFold};
+ghost use Rattle.std.specs.Prelude.{List, All, IfOk};
+ghost use Rattle.at_nest.specs.Tree.{Tree, Members, array as array_tree, object as object_tree};
+ghost use Rattle.at_nest.specs.Folds.{trees, AreItemFolds, AreMemberFolds};
+ghost use Rattle.at_geojson.specs.Atoms.{IsOwn, IsFold, IsRun};
 
 use crate::asked::GeoAlgebra;
 use crate::atoms::GeoAtom;
 use crate::copying::copy_atom;
-use crate::lists::array_atom;
 use crate::object_atoms::object_atom;
 use crate::pairs::Whole;
 use crate::places::Stop;
+use crate::runs::{add_item, closed_array};
 use crate::scalars::scalar_atom;
 use crate::values::whole_value;
 use at_nest::{Algebra, Attempt, Member};
@@ -23,16 +23,22 @@ impl Algebra for GeoAlgebra {
 
     ghost is_fold = { λ asked. IsFold asked };
 
+    ghost is_run = { λ asked. IsRun asked };
+
     fn scalar(&self, alloc: Global, text: &[u8], at: u32) -> Result<GeoAtom, Memory> {
         scalar_atom(self, alloc, text, at)
+    }
+
+    fn add(&self, alloc: Global, items: &mut Vec<GeoAtom>, atom: GeoAtom) -> Result<(), Memory> {
+        add_item(alloc, self, items, atom)
     }
 
     fn array(&self, alloc: Global, at: u32, items: Vec<GeoAtom>) -> Result<GeoAtom, Memory>
         requires { All (IsOwn self.now) items.items }
         ensures own { IfOk result (IsOwn self.now) }
-        ensures fold { IfOk result (λ atom. (ts : Trees) → AreFolds (IsFold self.now) items.items ts → IsFold self.now atom (array_tree at ts)) }
+        ensures fold { IfOk result (λ atom. (ts : List Tree) → AreItemFolds (IsFold self.now) (IsRun self.now) items.items ts → IsFold self.now atom (array_tree at (trees ts))) }
     {
-        array_atom(alloc, self, at, items)
+        closed_array(alloc, self, at, items)
     }
 
     fn object(

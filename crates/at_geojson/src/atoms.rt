@@ -152,4 +152,6 @@ pub enum GeoAtom {
     /// An object without a kind and without texts for which the query asks.
     Void(u32),
     Object(ObjectAtom),
+    /// Values one behind another in an array, of which at least one is an object and none a twin: no value of its own.
+    Run(Box<Items>),
 }

@@ -245,6 +245,12 @@ fn copy_object_atom(alloc: Global, atom: &ObjectAtom) -> Result<ObjectAtom, Memo
     })
 }
 
+fn copy_run(alloc: Global, run: &Box<Items>) -> Result<Box<Items>, Memory>
+    ensures { IfOk result (λ r. r.value ≡ run.now.value) }
+{
+    Ok(Box::new(alloc, copy_items(alloc, &**run)?)?)
+}
+
 /// An atom with a list, copied.
 fn copy_large(alloc: Global, atom: &GeoAtom) -> Result<GeoAtom, Memory>
     ensures { IfOk result (IsCopy atom.now) }
@@ -256,6 +262,7 @@ fn copy_large(alloc: Global, atom: &GeoAtom) -> Result<GeoAtom, Memory>
         GeoAtom::Areas(areas) => Ok(GeoAtom::Areas(copy_areas_atom(alloc, areas)?)),
         GeoAtom::Items(items) => Ok(GeoAtom::Items(copy_items_atom(alloc, items)?)),
         GeoAtom::Object(object) => Ok(GeoAtom::Object(copy_object_atom(alloc, object)?)),
+        GeoAtom::Run(run) => Ok(GeoAtom::Run(copy_run(alloc, run)?)),
         _ => Err(Memory),
     }
 }

@@ -16,6 +16,7 @@ mod pairs;
 mod places;
 mod readings;
 mod root;
+mod runs;
 mod scalars;
 mod shapes;
 mod sorts;

@@ -5,9 +5,9 @@ ghost use Rattle.at_wkt.specs.Meaning.{empty_shape as nothing};
 ghost use Rattle.at_query.specs.Parts.{IsPart};
 ghost use Rattle.at_nest.specs.Tree.{Trees, array as array_tree};
 ghost use Rattle.at_nest.specs.Folds.{AreFolds};
-ghost use Rattle.at_geojson.specs.Atoms.{is_empty as is_empty_atom, as_geometries as geometries_in, as_features as features_in, at_of as offset_in, twin_of as twin_in, role_of as role_in, role_geometry as geometry_of_role, role_item as item_of_role, IsOwn, IsRead, IsFold, AreOwnItems, HaveItems};
-ghost use Rattle.at_geojson.specs.Gathering.{seen, items_kept, firsts, is_object as object_is, JoinsShapes, JoinsFound, AreJoinable};
-ghost use Rattle.at_geojson.specs.Arrays.{MakesItems, MakesNumbers};
+ghost use Rattle.at_geojson.specs.Atoms.{is_empty as is_empty_atom, as_geometries as geometries_in, as_features as features_in, at_of as offset_in, twin_of as twin_in, role_of as role_in, role_geometry as geometry_of_role, role_item as item_of_role, IsOwn, IsFold, AreOwnItems};
+ghost use Rattle.at_geojson.specs.Gathering.{seen, items_kept, firsts, is_object as object_is, item_geometries, item_features, JoinsShapes, JoinsFound, AreJoinable};
+ghost use Rattle.at_geojson.specs.Arrays.{JoinsItems, MakesItems, MakesNumbers};
 
 use crate::asked::GeoAlgebra;
 use crate::atoms::{GeoAtom, Items, ItemsAtom, OtherAtom, Role};
@@ -91,19 +91,20 @@ fn role_items(at: u32, role: Role) -> Items
     }
 }
 
-/// What a value is as a geometry and as an item of a collection of features.
-fn into_items(atom: GeoAtom) -> Items
-    ensures geometries { result.geometries ≡ geometry_of_role (offset_in atom) (role_in atom) }
-    ensures features { result.features ≡ item_of_role (offset_in atom) (role_in atom) }
+/// What a value, or several, are as geometries and as items of a collection of features.
+pub fn into_items(atom: GeoAtom) -> Items
+    ensures geometries { result.geometries ≡ item_geometries atom }
+    ensures features { result.features ≡ item_features atom }
 {
     match atom {
         GeoAtom::Object(object) => role_items(object.at, Box::into_inner(object.roles).role),
+        GeoAtom::Run(items) => Box::into_inner(items),
         other => role_items(at_of(&other), Role::Nothing),
     }
 }
 
 /// Items one behind another.
-fn joined_items(left: Items, right: Items) -> Result<Items, Memory>
+pub fn joined_items(left: Items, right: Items) -> Result<Items, Memory>
     requires { AreJoinable left.features right.features }
     ensures geometries { IfOk result (λ items. JoinsShapes left.geometries right.geometries items.geometries) }
     ensures features { IfOk result (λ items. JoinsFound left.features right.features items.features) }
@@ -126,10 +127,10 @@ fn no_items(alloc: Global, query: &Query) -> Items
 }
 
 /// What values one behind another are as geometries and as items of a collection of features.
-fn all_items(alloc: Global, algebra: &GeoAlgebra, atoms: Vec<GeoAtom>) -> Result<Items, Memory>
+pub fn all_items(alloc: Global, algebra: &GeoAlgebra, atoms: Vec<GeoAtom>) -> Result<Items, Memory>
     requires { All (IsOwn algebra.now) atoms.items }
     ensures own { IfOk result (AreOwnItems algebra.now) }
-    ensures reads { IfOk result (λ items. (ts : Trees) → AreFolds (IsRead algebra.now) atoms.items ts → HaveItems algebra.now items ts) }
+    ensures joins { IfOk result (JoinsItems algebra.now atoms.items) }
 {
     let mut items = no_items(alloc, algebra.query());
     for atom in atoms {

@@ -90,6 +90,7 @@ pub fn at_of(atom: &GeoAtom) -> u32
         GeoAtom::Other(other) => other.at,
         GeoAtom::Items(items) => items.at,
         GeoAtom::Object(object) => object.at,
+        GeoAtom::Run(_) => 0,
     }
 }
 

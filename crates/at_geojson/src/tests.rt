@@ -3,7 +3,7 @@ ghost use Rattle.at_query.specs.Ranges.{IsQueryInRange};
 ghost use Rattle.at_nest.specs.Holding.{Kept};
 ghost use Rattle.at_text.specs.Spans.{part_of};
 ghost use Rattle.at_nest.specs.Standing.{StandsFor};
-ghost use Rattle.at_geojson.specs.Atoms.{IsOwn, IsFold};
+ghost use Rattle.at_geojson.specs.Atoms.{IsOwn, IsFold, IsRun};
 
 use super::*;
 use at_fixed::Coords;
@@ -34,7 +34,7 @@ fn piece(
     requires fits { length bytes.now ≤ 2 ^ 28 }
     requires order { from ≤ to }
     requires end { to ≤ length bytes.now }
-    ensures { StandsFor (Kept (IsOwn algebra.now) (IsFold algebra.now)) from (part_of bytes.now from to) result }
+    ensures { StandsFor (Kept (IsOwn algebra.now) (IsFold algebra.now) (IsRun algebra.now)) from (part_of bytes.now from to) result }
 {
     run_block(alloc, algebra, &bytes[from as usize..to as usize], from)
 }
@@ -52,9 +52,9 @@ fn joined(
     requires fits { length bytes.now ≤ 2 ^ 28 }
     requires order { at ≤ to }
     requires end { to ≤ length bytes.now }
-    requires left { StandsFor (Kept (IsOwn algebra.now) (IsFold algebra.now)) 0 (part_of bytes.now 0 at) left }
-    requires right { StandsFor (Kept (IsOwn algebra.now) (IsFold algebra.now)) at (part_of bytes.now at to) right }
-    ensures { StandsFor (Kept (IsOwn algebra.now) (IsFold algebra.now)) 0 (part_of bytes.now 0 to) result }
+    requires left { StandsFor (Kept (IsOwn algebra.now) (IsFold algebra.now) (IsRun algebra.now)) 0 (part_of bytes.now 0 at) left }
+    requires right { StandsFor (Kept (IsOwn algebra.now) (IsFold algebra.now) (IsRun algebra.now)) at (part_of bytes.now at to) right }
+    ensures { StandsFor (Kept (IsOwn algebra.now) (IsFold algebra.now) (IsRun algebra.now)) 0 (part_of bytes.now 0 to) result }
 {
     merge(alloc, algebra, bytes, left, right)
 }
@@ -284,6 +284,44 @@ fn shapes(rt: HostRuntime) -> Result<(), Fail> {
             b"count",
             b"{\"type\":\"GeometryCollection\",\"geometries\":[1,{}]}",
             "Form at 43",
+        ),
+    ];
+    compare_rows(&rt, &rows)
+}
+
+/// Objects one behind another in an array, and what stands between them.
+#[test]
+fn runs(rt: HostRuntime) -> Result<(), Fail> {
+    let rows: [Row; 6] = [
+        (
+            b"select",
+            b"{\"type\":\"FeatureCollection\",\"features\":[{\"type\":\"Feature\",\"geometry\":null},{\"type\":\"Feature\",\"geometry\":null},{\"type\":\"Feature\",\"geometry\":null}]}",
+            "40\n75\n110\n",
+        ),
+        (
+            b"count",
+            b"{\"type\":\"FeatureCollection\",\"features\":[{\"type\":\"Feature\",\"geometry\":null},{\"type\":\"Feature\",\"geometry\":null},null,{\"type\":\"Feature\",\"geometry\":null}]}",
+            "Form at 110",
+        ),
+        (
+            b"count",
+            b"{\"type\":\"FeatureCollection\",\"features\":[[],{\"type\":\"Feature\",\"geometry\":null},{\"type\":\"Feature\",\"geometry\":null}]}",
+            "Form at 40",
+        ),
+        (
+            b"count",
+            b"{\"type\":\"FeatureCollection\",\"features\":[{\"type\":\"Feature\",\"geometry\":null},{\"a\":1,\"a\":2},{\"type\":\"Feature\",\"geometry\":null}]}",
+            "Twin at 82",
+        ),
+        (
+            b"extent",
+            b"{\"type\":\"GeometryCollection\",\"geometries\":[{\"type\":\"Point\",\"coordinates\":[1,2]},{\"type\":\"GeometryCollection\",\"geometries\":[{\"type\":\"Point\",\"coordinates\":[3,4]},{\"type\":\"Point\",\"coordinates\":[5,0]}]},{\"type\":\"Point\",\"coordinates\":[0,7]}]}",
+            "0.0000000 0.0000000 5.0000000 7.0000000\n",
+        ),
+        (
+            b"count",
+            b"{\"type\":\"GeometryCollection\",\"geometries\":[{\"type\":\"Point\",\"coordinates\":[1,2]},{\"type\":\"Point\",\"coordinates\":[3]},{\"type\":\"Point\",\"coordinates\":[4,\"y\"]}]}",
+            "Form at 110",
         ),
     ];
     compare_rows(&rt, &rows)

@@ -1,0 +1,228 @@
+-- Arrays of which some items are a run: what their items are one behind another.
+use Rattle.std.proofs.Common.{◌≡◌, inl, inr, ◌⊎◌, ℕ, Bool, true, false, ◌||◌, List, [], ◌∷◌, ◌++◌, All, Option, Some, None, is_some, Result, refl, sym, ◌∙◌, ap, subst, append-nil, append_assoc}
+use Rattle.std.proofs.Common.{option_map, option_and_then}
+use Rattle.std.specs.List.{list_any}
+use Rattle.std.specs.declared.boxed.Box.{Box}
+use Rattle.std.specs.declared.alloc.Global.{Global}
+use Rattle.std.proofs.lemmas.Bool.{true≢false, or_parts}
+use Rattle.std.proofs.lemmas.List.Elements.{All-nil, All-cons, All-append}
+use Rattle.std.proofs.lemmas.List.Folds.{list_any-append}
+use Rattle.std.proofs.lemmas.Option.{none-some}
+use Rattle.at_text.specs.Faults.{first_fault, first_of}
+use Rattle.at_text.specs.declared.faults.Fault.{Fault}
+use Rattle.at_wkt.proofs.Exits.{first_of-append}
+use Rattle.at_nest.specs.Folds.{trees, AreFolds, Covers, AreItemFolds}
+use Rattle.at_nest.specs.Tree.{Tree, literal, number, text, array, object, Trees, no_trees, tree_and, Members}
+use Rattle.at_nest.specs.Twins.{twins_of, twins_of_items}
+use Rattle.at_nest.proofs.Held.{folds_append}
+use Rattle.at_geojson.specs.declared.atoms.GeoAtom.{GeoAtom}
+use Rattle.at_geojson.specs.declared.atoms.GeoAtom.TheVariants as atoms
+use Rattle.at_geojson.specs.declared.atoms.Items.{Items}
+use Rattle.at_geojson.specs.declared.atoms.ItemsAtom.{ItemsAtom}
+use Rattle.at_geojson.specs.declared.atoms.ObjectAtom.{ObjectAtom}
+use Rattle.at_geojson.specs.Names.{items_of}
+use Rattle.at_geojson.specs.Coordinates.{each, number_at, position_of, position_of_numbers, positions_of, lists_of, area_of, areas_of, if_some_items}
+use Rattle.at_geojson.specs.Roles.{texts_of}
+use Rattle.at_geojson.specs.Keeping.{Asked, asked_texts}
+use Rattle.at_geojson.specs.Atoms.{Alike, twin_of, as_run, as_texts, is_object_tree, object_members, IsRead, IsFold, AreJoined, IsRun, HaveItems, AreOwnItems, IfOwnShape, IfOwnPart, IsOwn}
+use Rattle.at_geojson.specs.Gathering.{firsts, is_run, item_geometries, item_features, JoinsShapes, JoinsFound}
+use Rattle.at_geojson.specs.Arrays.{JoinsItems, joins_run}
+use Rattle.at_geojson.proofs.Firsts.{firsts-cons}
+use Rattle.at_geojson.proofs.Each.{none_left, none_behind}
+use Rattle.at_geojson.proofs.ItemFolds.{last_covers, have_both, have_covers}
+use Rattle.at_geojson.proofs.OwnFolds.{shapes_own, parts_own, joinable, own_joined}
+use Rattle.at_geojson.proofs.ArrayFolds.{HasNoForm, items_read}
+
+-- ---- trees
+
+twins_append : (us vs : List Tree) → twins_of_items (trees (us ++ vs)) ≡ twins_of_items (trees us) ++ twins_of_items (trees vs)
+twins_append [] vs = refl
+twins_append (u ∷ us) vs = ap (λ z. twins_of u ++ z) (twins_append us vs) ∙ sym (append_assoc (twins_of u) (twins_of_items (trees us)) (twins_of_items (trees vs)))
+
+first_twins : (us vs : List Tree) → first_of (twins_of_items (trees (us ++ vs))) ≡ first_fault (first_of (twins_of_items (trees us))) (first_of (twins_of_items (trees vs)))
+first_twins us vs = ap first_of (twins_append us vs) ∙ first_of-append (twins_of_items (trees us)) (twins_of_items (trees vs))
+
+items_of_trees : (ts : List Tree) → items_of (trees ts) ≡ ts
+items_of_trees [] = refl
+items_of_trees (t ∷ ts) = ap (λ z. t ∷ z) (items_of_trees ts)
+
+some_front : (us vs : List Tree) → list_any is_object_tree us ≡ true → list_any is_object_tree (us ++ vs) ≡ true
+some_front us vs e = list_any-append is_object_tree us vs ∙ ap (λ b. b || list_any is_object_tree vs) e
+
+some_behind : (us vs : List Tree) → list_any is_object_tree vs ≡ true → list_any is_object_tree (us ++ vs) ≡ true
+some_behind us vs e = list_any-append is_object_tree us vs ∙ (ap (λ b. list_any is_object_tree us || b) e ∙ or_true (list_any is_object_tree us)) where
+  or_true : (b : Bool) → (b || true) ≡ true
+  or_true true = refl
+  or_true false = refl
+
+-- ---- an array with an object in it is no coordinates
+
+the_object : (t : Tree) → is_object_tree t ≡ true → (at : ℕ) × (ms : Members) × (t ≡ object at ms)
+the_object (object at ms) e = (at, ms, refl)
+the_object (array at ts) e = absurd (true≢false (sym e))
+the_object (text at cs) e = absurd (true≢false (sym e))
+the_object (number at n) e = absurd (true≢false (sym e))
+the_object (literal at l) e = absurd (true≢false (sym e))
+
+none_each : {Y : Type 0} (f : Tree → Option Y) → ((at : ℕ) (ms : Members) → f (object at ms) ≡ None) → (ts : List Tree) → list_any is_object_tree ts ≡ true → each f ts ≡ None
+none_each f n [] e = absurd (true≢false (sym e))
+none_each {Y} f n (t ∷ ts) e = go (is_object_tree t) refl (none_each f n ts) where
+  rest : (p : Option Y) → each f ts ≡ None → option_and_then (λ z. option_map (λ zs. z ∷ zs) (each f ts)) p ≡ None
+  rest None k = refl
+  rest (Some y) k = ap (λ q. option_map (λ zs. y ∷ zs) q) k
+
+  go : (b : Bool) → is_object_tree t ≡ b → (list_any is_object_tree ts ≡ true → each f ts ≡ None) → each f (t ∷ ts) ≡ None
+  go true k more = let (at, ms, q) = the_object t k in ap (λ p. option_and_then (λ z. option_map (λ zs. z ∷ zs) (each f ts)) p) (ap f q ∙ n at ms)
+  go false k more = rest (f t) (more (ap (λ b. b || list_any is_object_tree ts) (sym k) ∙ e))
+
+no_items : {Y : Type 0} (f : Tree → Option Y) → ((at : ℕ) (ms : Members) → f (object at ms) ≡ None) → (ts : List Tree) → list_any is_object_tree ts ≡ true → each f (items_of (trees ts)) ≡ None
+no_items f n ts e = ap (each f) (items_of_trees ts) ∙ none_each f n ts e
+
+module _ (asked : Asked) where
+  no_coordinates : (at : ℕ) (ts : List Tree) → list_any is_object_tree ts ≡ true → HasNoForm asked at (trees ts)
+  no_coordinates at ts e = record {
+    position = ap (option_and_then position_of_numbers) (no_items number_at (λ i ms. refl) ts e);
+    points = ap (option_map (λ items. record { at = at; items = items })) (no_items position_of (λ i ms. refl) ts e);
+    lists = no_items positions_of (λ i ms. refl) ts e;
+    area = ap (option_and_then if_some_items) (no_items positions_of (λ i ms. refl) ts e);
+    areas = no_items area_of (λ i ms. refl) ts e;
+  }
+
+  -- ---- equal names
+
+  twins_covers : (a : GeoAtom) (ts : List Tree) → Covers (IsFold asked) (IsRun asked) a ts → twin_of a ≡ first_of (twins_of_items (trees ts))
+  twins_covers a ts (inl (t, e, f)) = f.twins ∙ (ap first_of (sym (append-nil (twins_of t))) ∙ ap (λ z. first_of (twins_of_items (trees z))) (sym e))
+  twins_covers a ts (inr (run, e, j)) = ap twin_of e ∙ sym j.twins
+
+  pub twins_runs : (aa : List GeoAtom) (ts : List Tree) → AreItemFolds (IsFold asked) (IsRun asked) aa ts → firsts twin_of aa ≡ first_of (twins_of_items (trees ts))
+  twins_runs [] ts e = ap (λ z. first_of (twins_of_items (trees z))) (sym e)
+  twins_runs (a ∷ aa) ts (us, vs, e, c, h) = firsts-cons twin_of a aa ∙ (ap (λ o. first_fault o (firsts twin_of aa)) (twins_covers a us c)
+      ∙ (ap (first_fault (first_of (twins_of_items (trees us)))) (twins_runs aa vs h) ∙ (sym (first_twins us vs) ∙ ap (λ z. first_of (twins_of_items (trees z))) (sym e))))
+
+  -- ---- atoms of which none has equal names
+
+  read_covers : (a : GeoAtom) (ts : List Tree) → Covers (IsFold asked) (IsRun asked) a ts → twin_of a ≡ None → Covers (IsRead asked) (IsRun asked) a ts
+  read_covers a ts (inl (t, e, f)) n = inl (t, e, f.read n)
+  read_covers a ts (inr r) n = inr r
+
+  reads_runs : (aa : List GeoAtom) (ts : List Tree) → AreItemFolds (IsFold asked) (IsRun asked) aa ts → firsts twin_of aa ≡ None → AreItemFolds (IsRead asked) (IsRun asked) aa ts
+  reads_runs [] ts h e = h
+  reads_runs (a ∷ aa) ts (us, vs, s, c, h) e =
+      let o = sym (firsts-cons twin_of a aa) ∙ e in
+      (us, vs, s, read_covers a us c (none_left (twin_of a) (firsts twin_of aa) o), reads_runs aa vs h (none_behind (twin_of a) (firsts twin_of aa) o))
+
+  some_object : (aa : List GeoAtom) (ts : List Tree) → AreItemFolds (IsRead asked) (IsRun asked) aa ts → list_any is_run aa ≡ true → list_any is_object_tree ts ≡ true
+  some_object [] ts h e = absurd (true≢false (sym e))
+  some_object (a ∷ aa) ts (us, vs, s, c, h) e = ap (list_any is_object_tree) s ∙ go c (some_object aa vs h) where
+    go : Covers (IsRead asked) (IsRun asked) a us → (list_any is_run aa ≡ true → list_any is_object_tree vs ≡ true) → list_any is_object_tree (us ++ vs) ≡ true
+    go (inl (t, q, r)) more = some_behind us vs (more (ap (λ o. is_some o || list_any is_run aa) (sym r.single) ∙ e))
+    go (inr (run, q, j)) more = some_front us vs j.some
+
+  -- where none is a run, each stands for one tree
+  pub no_runs : (aa : List GeoAtom) (ts : List Tree) → AreItemFolds (IsFold asked) (IsRun asked) aa ts → list_any is_run aa ≡ false → AreFolds (IsFold asked) aa (trees ts)
+  no_runs [] ts h e = subst (λ z. AreFolds (IsFold asked) [] (trees z)) (sym h) tt
+  no_runs (a ∷ aa) ts (us, vs, s, c, h) e = subst (λ z. AreFolds (IsFold asked) (a ∷ aa) (trees z)) (sym s) (go c (no_runs aa vs h (or_parts (is_run a) (list_any is_run aa) e).1)) where
+    go : Covers (IsFold asked) (IsRun asked) a us → AreFolds (IsFold asked) aa (trees vs) → AreFolds (IsFold asked) (a ∷ aa) (trees (us ++ vs))
+    go (inl (t, q, f)) more = subst (λ z. AreFolds (IsFold asked) (a ∷ aa) (trees (z ++ vs))) (sym q) (f, more)
+    go (inr (run, q, j)) more = absurd (true≢false (ap is_run (sym q) ∙ (or_parts (is_run a) (list_any is_run aa) e).0))
+
+  -- ---- the atom of an array of which some items are a run
+
+  pub twin_runs : (at : ℕ) (aa : List GeoAtom) (ts : List Tree) (fault : Fault) → AreItemFolds (IsFold asked) (IsRun asked) aa ts → firsts twin_of aa ≡ Some fault → IsFold asked (atoms.Twin fault) (array at (trees ts))
+  twin_runs at aa ts fault h e = record { twins = sym e ∙ twins_runs aa ts h; read = λ z. absurd (none-some fault (sym z)) }
+
+  pub joined_folds : (at : ℕ) (aa : List GeoAtom) (m : ItemsAtom) → m.at ≡ at → firsts twin_of aa ≡ None → list_any is_run aa ≡ true → JoinsItems asked aa m.items.value
+      → (ts : List Tree) → AreItemFolds (IsFold asked) (IsRun asked) aa ts → IsFold asked (atoms.Items m) (array at (trees ts))
+  joined_folds at aa m k n r j ts h =
+      let read = reads_runs aa ts h n in
+      let have = j ts read in
+      record { twins = sym n ∙ twins_runs aa ts h; read = λ _. items_read asked at (trees ts) m k (no_coordinates at ts (some_object aa ts read r)) have.0 have.1 }
+
+  -- ---- what is put behind an array's items
+
+  joins_is : (a : GeoAtom) → joins_run a ≡ true → ((x : ObjectAtom) × (a ≡ atoms.Object x)) ⊎ ((run : Box Items Global) × (a ≡ atoms.Run run))
+  joins_is (atoms.Object x) e = inl (x, refl)
+  joins_is (atoms.Run run) e = inr (run, refl)
+  joins_is (atoms.Twin f) e = absurd (true≢false (sym e))
+  joins_is (atoms.Null n) e = absurd (true≢false (sym e))
+  joins_is (atoms.Plain n) e = absurd (true≢false (sym e))
+  joins_is (atoms.Text x) e = absurd (true≢false (sym e))
+  joins_is (atoms.Number x) e = absurd (true≢false (sym e))
+  joins_is (atoms.BadNumber f) e = absurd (true≢false (sym e))
+  joins_is (atoms.Empty n) e = absurd (true≢false (sym e))
+  joins_is (atoms.Position x) e = absurd (true≢false (sym e))
+  joins_is (atoms.BadPosition x) e = absurd (true≢false (sym e))
+  joins_is (atoms.Points x) e = absurd (true≢false (sym e))
+  joins_is (atoms.Lists x) e = absurd (true≢false (sym e))
+  joins_is (atoms.Areas x) e = absurd (true≢false (sym e))
+  joins_is (atoms.Other x) e = absurd (true≢false (sym e))
+  joins_is (atoms.Items x) e = absurd (true≢false (sym e))
+  joins_is (atoms.Void n) e = absurd (true≢false (sym e))
+
+  no_twin : (a : GeoAtom) → joins_run a ≡ true → twin_of a ≡ None
+  no_twin a e = elim (joins_is a e) [ inl o ↦ ap twin_of o.1 | inr o ↦ ap twin_of o.1 ]
+
+  object_there : (x : ObjectAtom) (t : Tree) → IsRead asked (atoms.Object x) t → is_object_tree t ≡ true
+  object_there x t r = go (object_members t) r.object.texts where
+    go : (o : Option Members) → Alike (λ kept ms. kept ≡ asked_texts asked.query.tests (texts_of ms)) (Some x.roles.value.texts) o → is_some o ≡ true
+    go (Some ms) h = refl
+    go None h = absurd h
+
+  -- a run is no value
+  no_value : (run : Box Items Global) (t : Tree) → IsFold asked (atoms.Run run) t → ⊥
+  no_value run t f = none-some run.value (sym (f.read refl).single)
+
+  some_covers : (a : GeoAtom) (ts : List Tree) → Covers (IsRead asked) (IsRun asked) a ts → joins_run a ≡ true → list_any is_object_tree ts ≡ true
+  some_covers a ts (inr (run, e, j)) n = j.some
+  some_covers a ts (inl (t, e, r)) n = ap (list_any is_object_tree) e ∙ go (joins_is a n) where
+    go : ((x : ObjectAtom) × (a ≡ atoms.Object x)) ⊎ ((run : Box Items Global) × (a ≡ atoms.Run run)) → list_any is_object_tree (t ∷ []) ≡ true
+    go (inl (x, q)) = ap (λ b. b || false) (object_there x t (subst (λ z. IsRead asked z t) q r))
+    go (inr (run, q)) = absurd (none-some run.value (sym (ap as_run (sym q) ∙ r.single)))
+
+  -- an atom that joins a run, and what it is beside the items of that
+  pub joined_covers : (a : GeoAtom) (ts : List Tree) (one : Items) → joins_run a ≡ true → one.geometries ≡ item_geometries a → one.features ≡ item_features a
+      → Covers (IsFold asked) (IsRun asked) a ts → AreJoined asked one ts
+  joined_covers a ts one n eg ef c =
+      let read = read_covers a ts c (no_twin a n) in
+      record { twins = sym (twins_covers a ts c) ∙ no_twin a n; some = some_covers a ts read n; have = have_covers asked a ts one eg ef read }
+
+  pub joined_both : (us vs : List Tree) (old more new : Items) → JoinsShapes old.geometries more.geometries new.geometries → JoinsFound old.features more.features new.features
+      → AreJoined asked old us → AreJoined asked more vs → AreJoined asked new (us ++ vs)
+  joined_both us vs old more new j k h g = record {
+    twins = first_twins us vs ∙ (ap (λ o. first_fault o (first_of (twins_of_items (trees vs)))) h.twins ∙ g.twins);
+    some = some_front us vs h.some;
+    have = have_both asked us vs old more new j k h.have g.have;
+  }
+
+  -- the last item is a run, and takes the atom
+  pub adds_to_run : (xs : List GeoAtom) (old new : Box Items Global) (a : GeoAtom) (one : Items) → joins_run a ≡ true → one.geometries ≡ item_geometries a → one.features ≡ item_features a
+      → JoinsShapes old.value.geometries one.geometries new.value.geometries → JoinsFound old.value.features one.features new.value.features
+      → (ts us : List Tree) → AreItemFolds (IsFold asked) (IsRun asked) (xs ++ atoms.Run old ∷ []) ts → Covers (IsFold asked) (IsRun asked) a us
+      → AreItemFolds (IsFold asked) (IsRun asked) (xs ++ atoms.Run new ∷ []) (ts ++ us)
+  adds_to_run xs old new a one n eg ef j k ts us h c =
+      let (ps, qs, e, hs, d) = last_covers (IsFold asked) (IsRun asked) xs (atoms.Run old) ts h in
+      subst (λ z. AreItemFolds (IsFold asked) (IsRun asked) (xs ++ atoms.Run new ∷ []) z) (sym (ap (λ z. z ++ us) e ∙ append_assoc ps qs us))
+      (folds_append (IsFold asked) (IsRun asked) xs ps (atoms.Run new) (qs ++ us) hs (inr (new, refl, joined_both qs us old.value one new.value j k (old_joined qs d) (joined_covers a us one n eg ef c)))) where
+        run_is : (run : Box Items Global) (vs : List Tree) → atoms.Run old ≡ atoms.Run run → AreJoined asked run.value vs → AreJoined asked old.value vs
+        run_is run vs q r = subst (λ i. AreJoined asked i vs) (sym (ap (λ (o : Option Items). elim o [ None ↦ old.value | Some i ↦ i ]) (ap as_run q))) r
+
+        old_joined : (vs : List Tree) → Covers (IsFold asked) (IsRun asked) (atoms.Run old) vs → AreJoined asked old.value vs
+        old_joined vs (inl (t, q, f)) = absurd (no_value old t f)
+        old_joined vs (inr (run, q, r)) = run_is run vs q r
+
+  -- a run of the atom alone
+  pub adds_run : (new : Box Items Global) (a : GeoAtom) → joins_run a ≡ true → new.value.geometries ≡ item_geometries a → new.value.features ≡ item_features a
+      → (ts us : List Tree) → AreItemFolds (IsFold asked) (IsRun asked) [] ts → Covers (IsFold asked) (IsRun asked) a us
+      → AreItemFolds (IsFold asked) (IsRun asked) (atoms.Run new ∷ []) (ts ++ us)
+  adds_run new a n eg ef ts us h c = folds_append (IsFold asked) (IsRun asked) [] ts (atoms.Run new) us h (inr (new, refl, joined_covers a us new.value n eg ef c))
+
+  pub joined_own : (old more new : Items) → JoinsShapes old.geometries more.geometries new.geometries → JoinsFound old.features more.features new.features
+      → AreOwnItems asked old → AreOwnItems asked more → AreOwnItems asked new
+  joined_own old more new j k h g = (shapes_own asked old.geometries more.geometries new.geometries j h.0 g.0, parts_own asked old.features more.features new.features k h.1 g.1)
+
+  -- what is taken of an atom is the algebra's own
+  pub taken_own : (a : GeoAtom) (one : Items) → one.geometries ≡ item_geometries a → one.features ≡ item_features a → IsOwn asked a → AreOwnItems asked one
+  taken_own a one eg ef h = let own = own_joined asked a h in (subst (λ z. IfOwnShape asked z) (sym eg) own.0, subst (λ z. IfOwnPart asked z) (sym ef) own.1)
+
+  pub own_behind : (xs : List GeoAtom) (a : GeoAtom) → All (IsOwn asked) xs → IsOwn asked a → All (IsOwn asked) (xs ++ a ∷ [])
+  own_behind xs a h k = All-append (IsOwn asked) xs (a ∷ []) h (All-cons (IsOwn asked) a [] k (All-nil (IsOwn asked)))
