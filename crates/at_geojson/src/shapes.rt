@@ -89,6 +89,9 @@ pub fn one_polygon(alloc: Global, needs: bool, rings: Vec<Path>) -> Result<Vec<P
 fn joined_points(left: Path, right: Path) -> Result<Path, Memory>
     ensures { IfOk result (λ path. path ≡ left ++ right) }
 {
+    if left.as_slice().is_empty() {
+        return Ok(right);
+    }
     let mut items = left.into_vec();
     let mut others = right.into_vec();
     items.append(&mut others)?;
@@ -98,6 +101,9 @@ fn joined_points(left: Path, right: Path) -> Result<Path, Memory>
 fn joined_lines(left: Paths, right: Paths) -> Result<Paths, Memory>
     ensures { IfOk result (λ paths. paths ≡ left ++ right) }
 {
+    if left.as_slice().is_empty() {
+        return Ok(right);
+    }
     let mut items = left.into_vec();
     let mut others = right.into_vec();
     items.append(&mut others)?;
@@ -107,6 +113,9 @@ fn joined_lines(left: Paths, right: Paths) -> Result<Paths, Memory>
 fn joined_polygons(left: Polygons, right: Polygons) -> Result<Polygons, Memory>
     ensures { IfOk result (λ polygons. polygons ≡ left ++ right) }
 {
+    if left.as_slice().is_empty() {
+        return Ok(right);
+    }
     let mut items = left.into_vec();
     let mut others = right.into_vec();
     items.append(&mut others)?;
