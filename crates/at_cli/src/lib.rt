@@ -23,6 +23,8 @@ pub use made::made_file;
 pub use run::top;
 
 #[cfg(test)]
+mod hostile_tests;
+#[cfg(test)]
 mod line_tests;
 #[cfg(test)]
 mod tests;

@@ -16,6 +16,9 @@ use std::alloc::Global;
 /// An attempt to read a value at once sees so many bytes at least, where the piece has them.
 const WINDOW: u32 = 1 << 16;
 
+/// An attempt in vain counts as so many bytes at least, since it costs more than the few at which it may have looked.
+const LEAST: u32 = 1 << 8;
+
 /// How many bytes of a piece were looked at in vain, by attempts to read a value at once.
 #[derive(Drop)]
 pub struct Tries {
@@ -44,7 +47,7 @@ impl Tries {
     /// One more attempt was in vain.
     #[inline(always)]
     fn failed(&mut self, looked: u32) {
-        self.vain = self.vain.saturating_add(looked);
+        self.vain = self.vain.saturating_add(looked.max(LEAST));
     }
 }
 
