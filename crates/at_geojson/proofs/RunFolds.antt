@@ -1,5 +1,5 @@
 -- Arrays of which some items are a run: what their items are one behind another.
-use Rattle.std.proofs.Common.{◌≡◌, inl, inr, ◌⊎◌, ℕ, Bool, true, false, ◌||◌, List, [], ◌∷◌, ◌++◌, All, Option, Some, None, is_some, Result, refl, sym, ◌∙◌, ap, subst, append-nil, append_assoc}
+use Rattle.std.proofs.Common.{◌≡◌, inl, inr, ◌⊎◌, ℕ, Bool, true, false, ◌||◌, List, [], ◌∷◌, ◌++◌, All, Option, Some, None, is_some, refl, sym, ◌∙◌, ap, subst, append-nil, append_assoc}
 use Rattle.std.proofs.Common.{option_map, option_and_then}
 use Rattle.std.specs.List.{list_any}
 use Rattle.std.specs.declared.boxed.Box.{Box}
@@ -12,7 +12,7 @@ use Rattle.at_text.specs.Faults.{first_fault, first_of}
 use Rattle.at_text.specs.declared.faults.Fault.{Fault}
 use Rattle.at_wkt.proofs.Exits.{first_of-append}
 use Rattle.at_nest.specs.Folds.{trees, AreFolds, Covers, AreItemFolds}
-use Rattle.at_nest.specs.Tree.{Tree, literal, number, text, array, object, Trees, no_trees, tree_and, Members}
+use Rattle.at_nest.specs.Tree.{Tree, literal, number, text, array, object, Members}
 use Rattle.at_nest.specs.Twins.{twins_of, twins_of_items}
 use Rattle.at_nest.proofs.Held.{folds_append}
 use Rattle.at_geojson.specs.declared.atoms.GeoAtom.{GeoAtom}
@@ -21,16 +21,16 @@ use Rattle.at_geojson.specs.declared.atoms.Items.{Items}
 use Rattle.at_geojson.specs.declared.atoms.ItemsAtom.{ItemsAtom}
 use Rattle.at_geojson.specs.declared.atoms.ObjectAtom.{ObjectAtom}
 use Rattle.at_geojson.specs.Names.{items_of}
-use Rattle.at_geojson.specs.Coordinates.{each, number_at, position_of, position_of_numbers, positions_of, lists_of, area_of, areas_of, if_some_items}
+use Rattle.at_geojson.specs.Coordinates.{each, number_at, position_of, position_of_numbers, positions_of, area_of, if_some_items}
 use Rattle.at_geojson.specs.Roles.{texts_of}
 use Rattle.at_geojson.specs.Keeping.{Asked, asked_texts}
-use Rattle.at_geojson.specs.Atoms.{Alike, twin_of, as_run, as_texts, is_object_tree, object_members, IsRead, IsFold, AreJoined, IsRun, HaveItems, AreOwnItems, IfOwnShape, IfOwnPart, IsOwn}
+use Rattle.at_geojson.specs.Atoms.{Alike, twin_of, as_run, is_object_tree, object_members, IsRead, IsFold, AreJoined, IsRun, AreOwnItems, IfOwnShape, IfOwnPart, IsOwn}
 use Rattle.at_geojson.specs.Gathering.{firsts, is_run, item_geometries, item_features, JoinsShapes, JoinsFound}
 use Rattle.at_geojson.specs.Arrays.{JoinsItems, joins_run}
 use Rattle.at_geojson.proofs.Firsts.{firsts-cons}
 use Rattle.at_geojson.proofs.Each.{none_left, none_behind}
 use Rattle.at_geojson.proofs.ItemFolds.{last_covers, have_both, have_covers}
-use Rattle.at_geojson.proofs.OwnFolds.{shapes_own, parts_own, joinable, own_joined}
+use Rattle.at_geojson.proofs.OwnFolds.{shapes_own, parts_own, own_joined}
 use Rattle.at_geojson.proofs.ArrayFolds.{HasNoForm, items_read}
 
 -- ---- trees
