@@ -42,7 +42,7 @@ sums_on : (m x s n k : ℕ) → x ≡ n % m → s % m ≡ k % m → (x + s) % m 
 sums_on m x s n k e f = ap (λ z. (z + s) % m) e ∙ (mod-add-mod n m s ∙ (sym (add-mod-mod n s m) ∙ (ap (λ z. (n + z) % m) f ∙ add-mod-mod n k m)))
 
 trees_counted : (us vs : List Tree) → nodes_of_items (trees (us ++ vs)) ≡ nodes_of_items (trees us) + nodes_of_items (trees vs)
-trees_counted [] vs = refl
+trees_counted [] vs = let f : nodes_of_items (trees vs) ≡ 0 + nodes_of_items (trees vs) = omega arith in f
 trees_counted (t ∷ us) vs = let f : nodes_of_items (trees (us ++ vs)) ≡ nodes_of_items (trees us) + nodes_of_items (trees vs) = trees_counted us vs in omega (arith, f)
 
 covers_counted : (x : ℕ) (us : List Tree) → Covers CountsNodes CountsMany x us → x ≡ nodes_of_items (trees us) % 2 ^ 64
