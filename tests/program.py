@@ -1,4 +1,5 @@
 """The program that is tested: where it is built, and what it writes."""
+import functools
 import os
 import shutil
 import subprocess
@@ -36,3 +37,14 @@ def written(binary, words, folder, stdin=b"", out=subprocess.PIPE, is_nobody=Fal
     except subprocess.TimeoutExpired:
         return "", "stopped after 60 seconds", -1
     return (done.stdout or b"").decode("latin-1"), done.stderr.decode("latin-1"), done.returncode
+
+
+@functools.lru_cache(maxsize=None)
+def python_with(*modules):
+    """The path of a Python that has these modules: this one, or else the system's; None where neither does."""
+    line = "; ".join(f"import {module}" for module in modules) or "pass"
+    pythons = [sys.executable, shutil.which("python3", path="/usr/bin:/usr/local/bin")]
+    for python in dict.fromkeys(filter(None, pythons)):
+        if subprocess.run([python, "-c", line], capture_output=True, check=False).returncode == 0:
+            return python
+    return None

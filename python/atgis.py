@@ -1,0 +1,290 @@
+"""Asks atgis questions over GeoJSON and Well-Known Text files.
+
+    import atgis
+
+    atgis.count("towns.geojson")                                       3
+    atgis.select("towns.geojson", atgis.has("kind", "town"))           [45, 188]
+    atgis.extent("lakes.wkt", atgis.meets_box(9, 47, 10, 48))          Extent(min_x=Decimal('9.0000000'), ..)
+    atgis.square_degrees(atgis.area("lakes.wkt"))                      Decimal('0.228500000000000')
+    atgis.join("towns.geojson", "lakes.wkt")                           [(45, 0), (338, 57)]
+    atgis.features("towns.geojson", [45])                              [{'type': 'Feature', ..}]
+
+Each function runs the program once and reads what it prints. A file is the name of one, `@in` for the standard input,
+or the name of a made file such as `@g:1000`. Tests are a query's text behind ` where `, or a list of such texts, all of
+which must hold; None and an empty text are no test. These options stand behind them, by name:
+
+    form      "geojson" or "wkt"; without it the name of each file tells
+    coords    "round" or "exact": what is done with a coordinate that is no whole multiple of a unit
+    digits    7 or 9 decimals
+    blocks    1 to 4096
+    workers   1 to 64
+    input     bytes, or an open binary file, that the program reads under the name `@in`; without it that file is empty
+    program   the path of the program; without it the one that the environment variable ATGIS names, or else `atgis` on
+              PATH
+
+Everything that the program refuses is raised as an AtgisError: Fault, WordsError, QueryError, FilesError, ReadError,
+WriteError, OutOfMemory or TooLarge; and as ProgramError where it can't be run. The module needs Python 3.9 or later, and
+geopandas for `frame` alone.
+"""
+from __future__ import annotations
+
+import json
+import os
+import re
+import subprocess
+from decimal import Decimal
+from typing import Any, Dict, Iterable, List, NamedTuple, Optional, Sequence, Tuple, Union
+
+__all__ = [
+    "AtgisError", "Extent", "Fault", "FileError", "FilesError", "OutOfMemory", "ProgramError", "QueryError",
+    "ReadError", "TooLarge", "WordsError", "WriteError", "area", "count", "extent", "features", "frame", "has", "in_box", "join",
+    "meets", "meets_box", "select", "square_degrees",
+]
+
+LIMIT = 268_435_456
+NAMES_OF_OPTIONS = ("form", "coords", "digits", "blocks", "workers")
+
+Name = Union[str, bytes, "os.PathLike[str]", "os.PathLike[bytes]"]
+Number = Union[int, float, Decimal, str]
+Tests = Union[None, str, Iterable[str]]
+
+
+class AtgisError(Exception):
+    """What the program says in place of an answer: its status, and the line that it wrote without the line feed."""
+
+    def __init__(self, line: str, status: int) -> None:
+        super().__init__(line)
+        self.line = line
+        self.status = status
+
+
+class Fault(AtgisError):
+    """A file has a fault: its kind (such as `Ring`), its byte offset in the file, and the file's name."""
+
+    def __init__(self, line: str, status: int, file: str, kind: str, offset: int) -> None:
+        super().__init__(line, status)
+        self.file = file
+        self.kind = kind
+        self.offset = offset
+
+
+class WordsError(AtgisError):
+    """The words are refused: an option's value, or a file's name that is no UTF-8 or begins with `@g:` or `@w:`."""
+
+
+class QueryError(AtgisError):
+    """The query is refused, at this byte offset in its text."""
+
+    def __init__(self, line: str, status: int, query: str, offset: int) -> None:
+        super().__init__(line, status)
+        self.query = query
+        self.offset = offset
+
+    def __str__(self) -> str:
+        return f"{self.line} of {self.query!r}"
+
+
+class FilesError(AtgisError):
+    """There are too many or too few files for the verb."""
+
+
+class FileError(AtgisError):
+    """A file can't be had, by its name."""
+
+    def __init__(self, line: str, status: int, file: str) -> None:
+        super().__init__(line, status)
+        self.file = file
+
+
+class ReadError(FileError):
+    """A file could not be read: it isn't there, may not be read, or is a folder."""
+
+
+class TooLarge(FileError):
+    """A file has more than 268,435,456 bytes."""
+
+
+class WriteError(AtgisError):
+    """The program could not write its answer."""
+
+
+class OutOfMemory(AtgisError):
+    """There was not enough memory."""
+
+
+class ProgramError(AtgisError):
+    """The program isn't there, can't be started, or ended by a signal (a status below 0) or in no way of its own."""
+
+
+class Extent(NamedTuple):
+    """The least and greatest x and y over all positions."""
+
+    min_x: Decimal
+    min_y: Decimal
+    max_x: Decimal
+    max_y: Decimal
+
+
+def select(file: Name, where: Tests = None, **options: Any) -> List[int]:
+    """The byte offset in the file at which each feature begins that the tests hold of, in the order of the file."""
+    return [int(line) for line in _lines("select", [file], where, options)]
+
+
+def count(file: Name, where: Tests = None, **options: Any) -> int:
+    """How many features the tests hold of."""
+    return int(_lines("count", [file], where, options)[0])
+
+
+def area(file: Name, where: Tests = None, **options: Any) -> int:
+    """Twice the area of all polygons, exactly, in squares of a unit: 10**-14 square degrees at 7 digits, else 10**-18."""
+    return int(_lines("area", [file], where, options)[0])
+
+
+def square_degrees(doubled: int, digits: int = 7) -> Decimal:
+    """Half of what `area` gives, exactly, in squares of what coordinates count: square degrees, or metres of UTM."""
+    return Decimal(f"{doubled * 5}e-{2 * digits + 1}")
+
+
+def extent(file: Name, where: Tests = None, **options: Any) -> Optional[Extent]:
+    """The extent of all positions of the features that the tests hold of, None where there is no position."""
+    line = _lines("extent", [file], where, options)[0]
+    return None if line == "empty" else Extent(*map(Decimal, line.split(" ")))
+
+
+def join(file: Name, second: Name, where: Tests = None, **options: Any) -> List[Tuple[int, int]]:
+    """The offsets of each pair of features that meet, in both files; the tests are of the first file's features."""
+    pairs = (line.split(" ") for line in _lines("join", [file, second], where, options))
+    return [(int(one), int(other)) for one, other in pairs]
+
+
+def in_box(min_x: Number, min_y: Number, max_x: Number, max_y: Number) -> str:
+    """The test that a feature has positions, and that all of them are in the closed box."""
+    return f"in {_box(min_x, min_y, max_x, max_y)}"
+
+
+def meets_box(min_x: Number, min_y: Number, max_x: Number, max_y: Number) -> str:
+    """The test that a feature has a point in common with the closed box."""
+    return f"meets {_box(min_x, min_y, max_x, max_y)}"
+
+
+def meets(geometry: Any) -> str:
+    """The test that a feature has a point in common with Well-Known Text, or with an object that has it as `wkt`."""
+    return f"meets {getattr(geometry, 'wkt', geometry)}"
+
+
+def has(name: str, value: str) -> str:
+    """The test that a feature has a text of this name and value; the name of a label in Well-Known Text is `label`."""
+    return f"has {json.dumps(name)} = {json.dumps(value)}"
+
+
+def features(file: Name, offsets: Iterable[int], form: Optional[str] = None) -> List[Dict[str, Any]]:
+    """The features that begin at byte offsets of a file, as `select` and `join` give them, in the order of the offsets.
+
+    A feature of a GeoJSON file is its Feature; a geometry that is the whole file is made one. A feature of Well-Known
+    Text is `{"label": .., "wkt": ..}`, whose label is None where the line has none.
+    """
+    with open(file, "rb") as opened:
+        data = opened.read()
+    wanted = list(offsets)
+    places = sorted(set(wanted))
+    read = _line_at if _form_of(file, form) == "wkt" else _value_at
+    found = {begin: read(data[begin:end]) for begin, end in zip(places, places[1:] + [len(data)])}
+    return [found[offset] for offset in wanted]
+
+
+def frame(
+    file: Name, offsets: Optional[Iterable[int]] = None, form: Optional[str] = None, crs: Any = "OGC:CRS84"
+) -> Any:
+    """The features at byte offsets of a file, all of them without offsets, as a GeoDataFrame whose index they are.
+
+    Its columns are the properties of GeoJSON, or `label` of Well-Known Text. It raises ImportError where geopandas
+    isn't installed.
+    """
+    import geopandas
+    places = list(select(file, **({"form": form} if form else {})) if offsets is None else offsets)
+    read = features(file, places, form)
+    if _form_of(file, form) == "wkt":
+        shapes = geopandas.GeoSeries.from_wkt([one["wkt"] for one in read])
+        made = geopandas.GeoDataFrame({"label": [one["label"] for one in read]}, geometry=list(shapes), crs=crs)
+    elif read:
+        made = geopandas.GeoDataFrame.from_features([_plain(one) for one in read], crs=crs)
+    else:
+        made = geopandas.GeoDataFrame(geometry=[], crs=crs)
+    made.index = places
+    return made
+
+
+def _plain(feature: Dict[str, Any]) -> Dict[str, Any]:
+    """A Feature with the members that may be missing."""
+    return {"type": "Feature", "geometry": feature.get("geometry"), "properties": feature.get("properties") or {}}
+
+
+def _form_of(file: Name, form: Optional[str]) -> str:
+    """The form that is given, or else the one that the name tells."""
+    return form or ("wkt" if os.fsdecode(file).endswith(".wkt") else "geojson")
+
+
+def _value_at(data: bytes) -> Dict[str, Any]:
+    """The Feature with which a piece of GeoJSON begins."""
+    value = json.JSONDecoder().raw_decode(data.decode("utf-8"))[0]
+    return value if value.get("type") == "Feature" else {"type": "Feature", "geometry": value, "properties": None}
+
+
+def _line_at(data: bytes) -> Dict[str, Any]:
+    """The label and the geometry of the line with which a piece of Well-Known Text begins."""
+    line = data.split(b"\n", 1)[0].decode("utf-8").strip(" \t\r")
+    label, end = json.JSONDecoder(strict=True).raw_decode(line) if line.startswith('"') else (None, 0)
+    return {"label": label, "wkt": line[end:].strip(" \t")}
+
+
+def _box(*numbers: Number) -> str:
+    """A box as a query spells it."""
+    min_x, min_y, max_x, max_y = map(str, numbers)
+    return f"box({min_x} {min_y},{max_x} {max_y})"
+
+
+def _query(verb: str, where: Tests) -> str:
+    """The query's text."""
+    tests = [where] if isinstance(where, str) and where else list(where or [])
+    return f"{verb} where {' and '.join(tests)}" if tests else verb
+
+
+def _input_bytes(source: Any) -> bytes:
+    """The bytes that the program reads as its standard input; of a file no more than tell that there are too many."""
+    return source.read(LIMIT + 1) if hasattr(source, "read") else bytes(source or b"")
+
+
+def _lines(verb: str, files: Sequence[Name], where: Tests, options: Dict[str, Any]) -> List[str]:
+    """The lines that the program prints, or what it refuses as an exception."""
+    unknown = set(options) - set(NAMES_OF_OPTIONS) - {"input", "program"}
+    if unknown:
+        raise TypeError(f"{verb}() has no option {', '.join(sorted(unknown))}")
+    query = _query(verb, where)
+    program = options.get("program") or os.environ.get("ATGIS") or "atgis"
+    words = [f"--{name}={options[name]}" for name in NAMES_OF_OPTIONS if options.get(name) is not None]
+    command = [os.fspath(program), *words, "--", query, *map(os.fsdecode, files)]
+    try:
+        done = subprocess.run(command, input=_input_bytes(options.get("input")), capture_output=True, check=False)
+    except OSError as error:
+        raise ProgramError(f"{program}: {error.strerror}", error.errno or 0) from error
+    if done.returncode:
+        raise _refusal(done.returncode, done.stderr.decode("utf-8", "surrogateescape").rstrip("\n"), query)
+    return done.stdout.decode("ascii").splitlines()
+
+
+def _refusal(status: int, line: str, query: str) -> AtgisError:
+    """The exception that stands for a status and its line."""
+    fault = re.fullmatch(r"(.*): (\w+) at (\d+)", line, re.DOTALL)
+    wrong_query = re.fullmatch(r"query: at (\d+)", line)
+    file = line.rsplit(": ", 1)[0]
+    if status == 1 and fault:
+        return Fault(line, status, fault[1], fault[2], int(fault[3]))
+    if status == 2 and wrong_query:
+        return QueryError(line, status, query, int(wrong_query[1]))
+    if status == 2:
+        return FilesError(line, status) if line.startswith("files: ") else WordsError(line, status)
+    if status in (3, 6):
+        return (ReadError if status == 3 else TooLarge)(line, status, file)
+    if status in (4, 5):
+        return (WriteError if status == 4 else OutOfMemory)(line, status)
+    return ProgramError(line or f"the program ended with status {status}", status)
