@@ -1,0 +1,132 @@
+"""The installer, run in a copy of what it installs."""
+import os
+import shutil
+import subprocess
+from typing import Dict, Iterator, List, Optional, Set, Tuple
+
+from program import REPOSITORY
+
+COPIED = ("install", "VERSION", "man", "completions", "tools", "python")
+STUB = """#!/bin/sh
+# In place of rt: puts a program where a build would leave it, and fails where it is told to.
+[ "$*" = "run -- count data/points.wkt" ] || exit 9
+[ -z "$STUB_FAILS" ] || exit 7
+mkdir -p out && cp "$STUB_PROGRAM" out/atgis
+"""
+Check = Tuple[str, Optional[str]]
+
+
+class Copy:
+    """A copy of the checkout's files that the installer reads, with an rt of its own."""
+
+    def __init__(self, program: str, folder: str) -> None:
+        self.top = os.path.join(folder, "copy")
+        self.program = program
+        self.tools = os.path.join(folder, "path")
+        os.makedirs(os.path.join(self.top, "crates", "atgis"))
+        os.mkdir(self.tools)
+        for name in COPIED:
+            source = os.path.join(REPOSITORY, name)
+            if os.path.isdir(source):
+                shutil.copytree(source, os.path.join(self.top, name), ignore=shutil.ignore_patterns("__pycache__"))
+            elif os.path.exists(source):
+                shutil.copy(source, self.top)
+
+    def stub(self) -> None:
+        """Makes the rt."""
+        path = os.path.join(self.tools, "rt")
+        with open(path, "w", encoding="ascii") as file:
+            file.write(STUB)
+        os.chmod(path, 0o755)
+
+    def run(self, *words: str, fails: str = "", cwd: Optional[str] = None) -> Tuple[str, str, int]:
+        """What the installer writes, and its status; the only rt on its PATH is the stub, where there is one."""
+        names = [name for name in os.environ["PATH"].split(os.pathsep)
+                 if not os.path.exists(os.path.join(name, "rt"))]
+        env = {**os.environ, "PATH": os.pathsep.join([self.tools, *names, "/usr/bin", "/bin"]),
+               "STUB_PROGRAM": self.program, "STUB_FAILS": fails}
+        done = subprocess.run([os.path.join(self.top, "install"), *words], cwd=cwd, env=env, capture_output=True,
+                              text=True)
+        return done.stdout, done.stderr, done.returncode
+
+
+def tree(folder: str) -> Set[str]:
+    """All files and folders below a folder."""
+    return {os.path.relpath(os.path.join(here, name), folder)
+            for here, folders, files in os.walk(folder) for name in folders + files}
+
+
+def wanted_files() -> Dict[str, str]:
+    """What has to stand under PREFIX, and the file that each is of."""
+    tools = [f"tools/{name}" for name in ("atgis-show", "atgis-where", "atgis-explain")]
+    pages = [f"man/{name}" for name in ("atgis.1", "atgis-show.1", "atgis-where.1", "atgis-explain.1", "atgis-query.7")]
+    wanted = {f"bin/{one.split('/')[1]}": one for one in tools}
+    wanted.update({f"share/man/man{one[-1]}/{one.split('/')[1]}": one for one in pages})
+    wanted.update({"share/bash-completion/completions/atgis": "completions/atgis.bash",
+                   "share/zsh/site-functions/_atgis": "completions/_atgis",
+                   "share/fish/vendor_completions.d/atgis.fish": "completions/atgis.fish"})
+    if os.path.exists(os.path.join(REPOSITORY, "python", "atgis.py")):
+        wanted["share/atgis/python/atgis.py"] = "python/atgis.py"
+    return wanted
+
+
+def read(path: str) -> bytes:
+    """The bytes of a file, none where it isn't there."""
+    if not os.path.isfile(path):
+        return b""
+    with open(path, "rb") as file:
+        return file.read()
+
+
+def placed(copy: Copy, prefix: str) -> Iterator[Check]:
+    """Looks at each file under PREFIX."""
+    version = read(os.path.join(copy.top, "VERSION")).strip()
+    for name, source in wanted_files().items():
+        text = read(os.path.join(copy.top, source)).replace(b"@VERSION@", version)
+        yield f"install: {name}", None if text and read(os.path.join(prefix, name)) == text else "it isn't right"
+    program = os.path.join(prefix, "bin", "atgis")
+    is_right = read(program) == read(copy.program) and os.access(program, os.X_OK)
+    yield "install: bin/atgis", None if is_right else "it isn't the program"
+    files = {name for name in tree(prefix) if os.path.isfile(os.path.join(prefix, name))}
+    more = files - set(wanted_files()) - {"bin/atgis", "share/atgis/installed", "share/own"}
+    yield "install: nothing else is put there", f"{more}" if more else None
+
+
+def differs(what: str, got: object, wanted: object) -> Check:
+    """A check, and what is wrong with it."""
+    return what, None if got == wanted else f"{got!r}, not {wanted!r}"
+
+
+def refusals(copy: Copy, prefix: str) -> Iterator[Check]:
+    """What ends the installer before it puts anything in place."""
+    out, err, status = copy.run(prefix)
+    is_told = err.startswith("./install: there is no command rt on the PATH.\n") and "toolchain" in err
+    yield "install: without rt", None if (out, status) == ("", 1) and is_told else f"{(out, err, status)!r}"
+    copy.stub()
+    out, err, status = copy.run(prefix, fails="yes")
+    yield differs("install: rt fails", (out, err.split("\n")[1:], status),
+                  ("", ["./install: rt didn't prove and build the program", ""], 1))
+    for words in (["--help"], [prefix, prefix], ["--uninstall", "--uninstall"]):
+        yield differs(f"install: {' '.join(words)[:20]}", copy.run(*words),
+                      ("", "./install: usage: ./install [--uninstall] [PREFIX]\n", 2))
+    yield differs("install: nothing to take away", copy.run("--uninstall", prefix), (
+        "", f"./install: there is no list {prefix}/share/atgis/installed, so nothing is installed under {prefix}\n", 1))
+    yield differs("install: nothing was put in place by these", os.path.exists(prefix), False)
+
+
+def checks(program: str, folder: str) -> List[Check]:
+    """What was checked of the installer, and what is wrong with it."""
+    copy = Copy(program, folder)
+    prefix = os.path.join(folder, "pre fix")
+    found = list(refusals(copy, prefix))
+    os.makedirs(os.path.join(prefix, "share"))
+    with open(os.path.join(prefix, "share", "own"), "w", encoding="ascii") as file:
+        file.write("of somebody else\n")
+    before = tree(prefix)
+    for turn in ("first", "second"):
+        out, _, status = copy.run("pre fix", cwd=folder)
+        found.append(differs(f"install: the {turn} time", (out, status), (f"{prefix}/bin/atgis\n", 0)))
+        found += placed(copy, prefix)
+    found.append(differs("install: uninstall", copy.run("--uninstall", prefix), ("", "", 0)))
+    found.append(differs("install: all of it is taken away, and nothing else", tree(prefix), before))
+    return found
