@@ -95,8 +95,8 @@ class Shell:
         os.write(self.terminal, text.encode())
 
     def until(self, pattern: str) -> str:
-        """What the shell writes up to a pattern, or within ten seconds."""
-        told, end = "", time.monotonic() + 10
+        """What the shell writes up to a pattern, or within a minute."""
+        told, end = "", time.monotonic() + 60
         while not re.search(pattern, told, re.DOTALL) and time.monotonic() < end:
             if select.select([self.terminal], [], [], 0.2)[0]:
                 told += os.read(self.terminal, 65536).decode("utf-8", "replace")
