@@ -102,14 +102,14 @@ class Shell:
                 told += os.read(self.terminal, 65536).decode("utf-8", "replace")
         return told
 
-    def completed(self, line: str) -> Optional[str]:
-        """What a line becomes by a TAB at its end, None where the shell doesn't tell."""
+    def completed(self, line: str, pause: float) -> Optional[str]:
+        """What a line becomes by a TAB at its end, None where the shell doesn't tell. It has so many seconds for it."""
         self.send(f"{line}\t")
-        time.sleep(0.15)
+        time.sleep(pause)
         self.send("\x18d")
         found = re.search("<<(.*?)>>", self.until("<<.*>>"), re.DOTALL)
         self.send("\x03")
-        time.sleep(0.05)
+        time.sleep(pause / 3)
         return found and re.sub("[\r\n]", "", found.group(1))
 
     def close(self) -> None:
@@ -119,13 +119,20 @@ class Shell:
         os.waitpid(self.process, 0)
 
 
+# How many seconds a shell has for a completion: more, where it wasn't done, since other work may be what keeps it.
+PAUSES = (0.15, 0.6, 2.4)
+
+
 def typed(name: str, folder: str) -> Iterator[Tuple[str, Optional[str]]]:
     """Types each line of the table into a shell."""
     shell = Shell(name, folder)
     try:
         for line, wanted in LINES:
-            got = shell.completed(line)
-            is_right = got is not None and got.rstrip(" =") == wanted.rstrip(" ")
+            for pause in PAUSES:
+                got = shell.completed(line, pause)
+                is_right = got is not None and got.rstrip(" =") == wanted.rstrip(" ")
+                if is_right:
+                    break
             yield f"{name}: {line}", None if is_right else f"{got!r}, not {wanted!r}"
     finally:
         shell.close()
