@@ -1,0 +1,13 @@
+pub mod Covers
+mod Examples
+pub mod Exists
+pub mod Joints
+pub mod Laws
+pub mod Members
+pub mod Planes
+pub mod Rings
+pub mod Sorted
+pub mod Sorts
+pub mod Stacks
+pub mod Unique
+pub mod Ways
