@@ -103,13 +103,16 @@ class Shell:
         return told
 
     def completed(self, line: str, pause: float) -> Optional[str]:
-        """What a line becomes by a TAB at its end, None where the shell doesn't tell. It has so many seconds for it."""
+        """What a line becomes by a TAB at its end, None where the shell doesn't tell. It has so many seconds for it.
+
+        The line is taken away then, and no more is typed before the shell tells that it is empty.
+        """
         self.send(f"{line}\t")
         time.sleep(pause)
         self.send("\x18d")
         found = re.search("<<(.*?)>>", self.until("<<.*>>"), re.DOTALL)
-        self.send("\x03")
-        time.sleep(pause / 3)
+        self.send("\x15\x18d")
+        self.until("<<>>")
         return found and re.sub("[\r\n]", "", found.group(1))
 
     def close(self) -> None:
