@@ -1,18 +1,15 @@
--- A line has one shape or one first fault, and a file one first fault: laws of the definitions, which no function's contract is needed for.
-use Rattle.std.proofs.Common.{◌≡◌, ℕ, inl, inr, if◌then◌else◌, List, [], ◌∷◌, ◌++◌, length, take, drop, Option, Some, None, is_none, refl, sym, ◌∙◌, ap, arith, length-take, take-append-drop}
+-- A line has one shape or one first fault: laws of the definitions, which no function's contract is needed for.
+use Rattle.std.proofs.Common.{◌≡◌, ℕ, if◌then◌else◌, List, ◌++◌, length, take, drop, Option, Some, None, is_none, refl, sym, ◌∙◌, ap, arith, length-take, take-append-drop}
 use Rattle.std.proofs.lemmas.Option.{none-some, same_Some}
 use Rattle.at_text.specs.declared.faults.Fault.{Fault}
 use Rattle.at_text.specs.Faults.{first_of}
 use Rattle.at_text.specs.Syntax.{IsSyntaxFault, stop_fault}
-use Rattle.at_text.specs.Texts.{utf8_fault}
 use Rattle.at_text.proofs.Machine.{longest_unique}
 use Rattle.at_fixed.specs.declared.rounding.Coords.{Coords}
 use Rattle.at_geom.specs.declared.shapes.Shape.{Shape}
 use Rattle.at_wkt.specs.declared.answers.Prefix.{Prefix}
 use Rattle.at_wkt.specs.Geometry.{Geometry, IsLineOf, WktGeometry, WktLine}
 use Rattle.at_wkt.specs.Meaning.{shape_of, faults_of, empty_shape}
-use Rattle.at_wkt.specs.Lines.{FileLine, lines_of, HasLineFaults, HaveLineFaults, HasShape}
-use Rattle.at_wkt.specs.Files.{HasFaultBehind, HasFileFault, TheFileFault}
 use Rattle.at_wkt.specs.Answers.{SpellsLine, HasLineShape, HasFirstLineFault, HasFaultOrShape, IsPrefixOf, IsPrefixFault, unspelled, faulty}
 use Rattle.at_wkt.proofs.OneGeometry.{one_line, one_prefix}
 
@@ -80,32 +77,3 @@ module _ (digits : ℕ) (how : Coords) where
 
   pub prefix_or_fault : (at : ℕ) (w : List ℕ) (p : Prefix) (f : Fault) → IsPrefixOf digits how at w p → IsPrefixFault at w f → ⊥
   prefix_or_fault at w p f h k = k.no_geometry p.taken h.fits (h.geometry, h.spelled)
-
-  -- ---- lines
-
-  pub one_line_faults : (l : FileLine) (fs gs : List Fault) → HasLineFaults digits how l fs → HasLineFaults digits how l gs → fs ≡ gs
-  one_line_faults l fs gs (inl (f, p, e)) (inl (g, q, k)) = e ∙ (ap (λ z. z ∷ []) (one_syntax_fault (WktLine l.at) l.at l.text f g p q) ∙ sym k)
-  one_line_faults l fs gs (inl (f, p, e)) (inr (h, q, k)) = absurd (p.no_word (h, q))
-  one_line_faults l fs gs (inr (g, p, e)) (inl (f, q, k)) = absurd (q.no_word (g, p))
-  one_line_faults l fs gs (inr (g, p, e)) (inr (h, q, k)) = e ∙ ((one_meaning l.at l.text g h p q).1 ∙ sym k)
-
-  pub one_faults : (ls : List FileLine) (fs gs : List Fault) → HaveLineFaults digits how ls fs → HaveLineFaults digits how ls gs → fs ≡ gs
-  one_faults [] fs gs p q = p ∙ sym q
-  one_faults (l ∷ ls) fs gs (f, more, p, ps, e) (g, others, q, qs, k) = e ∙ (ap (λ z. z ++ more) (one_line_faults l f g p q) ∙ (ap (λ z. g ++ z) (one_faults ls more others ps qs) ∙ sym k))
-
-  pub one_shape : (l : FileLine) (s u : Shape) → HasShape digits how l s → HasShape digits how l u → s ≡ u
-  one_shape l s u (g, p, e) (h, q, k) = e ∙ ((one_meaning l.at l.text g h p q).0 ∙ sym k)
-
-  -- ---- a file
-
-  one_behind : (encoding : Option Fault) (bytes : List ℕ) (f g : Option Fault) → HasFaultBehind digits how encoding bytes f → HasFaultBehind digits how encoding bytes g → f ≡ g
-  one_behind (Some fault) bytes f g p q = p ∙ sym q
-  one_behind None bytes f g (fs, p, e) (gs, q, k) = e ∙ (ap first_of (one_faults (lines_of bytes) fs gs p q) ∙ sym k)
-
-  -- a file has at most one first fault, or none, and not both
-  pub one_file_fault : (bytes : List ℕ) (f g : Option Fault) → HasFileFault digits how bytes f → HasFileFault digits how bytes g → f ≡ g
-  one_file_fault bytes f g p q = one_behind (utf8_fault bytes) bytes f g p q
-
-  -- so the first fault of a file is the only one
-  pub the_file_fault : (bytes : List ℕ) (f : Option Fault) → HasFileFault digits how bytes f → TheFileFault digits how bytes f
-  the_file_fault bytes f p other q = one_file_fault bytes other f q p

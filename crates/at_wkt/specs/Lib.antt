@@ -2,7 +2,6 @@ pub mod Positions
 pub mod Geometry
 pub mod Meaning
 pub mod Lines
-pub mod Files
 pub mod Answers
 pub mod Reading
 pub mod Folding

@@ -1,13 +1,8 @@
--- The lines of a file, and what each of them says.
-use Rattle.std.specs.Prelude.{◌≡◌, ℕ, ◌+◌, ◌⊎◌, ◌==◌, not, Bool, if◌then◌else◌, List, [], ◌∷◌, ◌++◌, length, drop, filter, map}
+-- The lines of a file.
+use Rattle.std.specs.Prelude.{ℕ, ◌+◌, ◌==◌, not, Bool, if◌then◌else◌, List, [], ◌∷◌, length, drop, filter, map}
 use Rattle.std.specs.List.{list_all, slice_split}
-use Rattle.at_text.specs.declared.faults.Fault.{Fault}
-use Rattle.at_text.specs.Syntax.{IsSyntaxFault}
 use Rattle.at_text.specs.Texts.{base_of}
-use Rattle.at_fixed.specs.declared.rounding.Coords.{Coords}
-use Rattle.at_geom.specs.declared.shapes.Shape.{Shape}
-use Rattle.at_wkt.specs.Geometry.{Geometry, is_blank, IsLineOf, WktLine}
-use Rattle.at_wkt.specs.Meaning.{shape_of, faults_of}
+use Rattle.at_wkt.specs.Geometry.{is_blank}
 
 -- a line without its end, and the offset of its first byte
 pub record FileLine : Type 0 where
@@ -45,16 +40,3 @@ lines_in pieces = filter (λ (l : FileLine). not (is_blank_text l.text)) (map li
 -- the lines of a file that are not blank; a byte order mark stands before the first
 abbrev pub lines_of : List ℕ → List FileLine
 lines_of bytes = lines_in (pieces_from (base_of bytes) (drop (base_of bytes) bytes))
-
-module _ (digits : ℕ) (how : Coords) where
-  -- the one syntax fault of a line, or else all faults of its geometry
-  abbrev pub HasLineFaults : FileLine → List Fault → Type 0
-  HasLineFaults l faults = ((fault : Fault) × IsSyntaxFault (WktLine l.at) l.at l.text fault × (faults ≡ fault ∷ []))
-      ⊎ ((g : Geometry) × IsLineOf l.at l.text g × (faults ≡ faults_of digits how g))
-
-  abbrev pub HaveLineFaults : List FileLine → List Fault → Type 0
-  HaveLineFaults [] faults = faults ≡ []
-  HaveLineFaults (l ∷ ls) faults = (first others : List Fault) × HasLineFaults l first × HaveLineFaults ls others × (faults ≡ first ++ others)
-
-  abbrev pub HasShape : FileLine → Shape → Type 0
-  HasShape l shape = (g : Geometry) × IsLineOf l.at l.text g × (shape ≡ shape_of digits how g)

@@ -14,8 +14,6 @@ use Rattle.at_text.specs.Syntax.{IsSyntaxFault, stop_fault}
 use Rattle.at_wkt.specs.declared.answers.LineFault.{LineFault}
 use Rattle.at_wkt.specs.declared.answers.LineFault.TheVariants.{Found, Memory as NoMemory}
 use Rattle.at_wkt.specs.Answers.{SpellsLine}
-use Rattle.at_wkt.specs.declared.files.Counted.{Counted}
-use Rattle.at_wkt.specs.Lines.{FileLine, lines_in, HasLineFaults, HaveLineFaults}
 use Rattle.at_wkt.specs.declared.halts.Halt.{Halt}
 use Rattle.at_wkt.specs.declared.halts.Halt.TheVariants.{At, Memory}
 use Rattle.at_wkt.specs.declared.rules.Rules.{Rules}
@@ -519,22 +517,3 @@ line_answer g = elim g.fault [ None ↦ Ok (gathered_shape g) | Some fault ↦ E
 -- the shape, and where there is a fault the empty one
 abbrev pub kept_shape : Gathered → Shape
 kept_shape g = if is_none g.fault then gathered_shape g else empty_shape
-
--- the first of the line's faults, and no other is
-pub record HasLineFault (digits : ℕ) (how : Coords) (at : ℕ) (text : List ℕ) (first : Option Fault) : Type 0 where
-  pub faults : List Fault
-  pub have : HasLineFaults digits how (record { at = at; text = text }) faults
-  pub first_is : first ≡ first_of faults
-  pub only : (others : List Fault) → HasLineFaults digits how (record { at = at; text = text }) others → first_of others ≡ first
-
--- so many of the pieces are lines that are not blank, and this is the first of their faults
-pub record Counts (digits : ℕ) (how : Coords) (pieces : List FileLine) (counted : Counted) : Type 0 where
-  pub faults : List Fault
-  pub have : HaveLineFaults digits how (lines_in pieces) faults
-  pub fault : counted.fault ≡ first_of faults
-  pub count : counted.count ≡ length (lines_in pieces)
-  pub only : (others : List Fault) → HaveLineFaults digits how (lines_in pieces) others → first_of others ≡ counted.fault
-
--- the count, or the first fault
-abbrev pub file_answer : Counted → Result ℕ LineFault
-file_answer counted = elim counted.fault [ None ↦ Ok counted.count | Some fault ↦ Err (Found fault) ]

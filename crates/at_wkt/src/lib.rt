@@ -22,7 +22,6 @@ mod searches;
 mod words;
 
 pub use answers::{LineFault, Prefix};
-pub use files::count_lines;
 pub use folding::Fold;
 pub use fragments::{LineFragment, WholeLines, finish_lines, merge_lines, run_lines};
 pub use reading::{read_geometry, read_line};

@@ -3,6 +3,7 @@ ghost use Rattle.std.specs.Prelude.{◌≤◌, ◌^◌, length};
 use super::*;
 use at_fixed::Coords;
 use at_geom::{Pos, Shape};
+use at_text::{Fault, Memory, base_of, first_fault, utf8_fault};
 use std::alloc::{AllocError, Global};
 use std::test::Fail;
 
@@ -359,18 +360,63 @@ fn kept_values(rt: HostRuntime) {
     }
 }
 
-/// What a file is found to be.
+/// It counts lines, and keeps the first of their faults.
+struct Checking;
+
+/// How many lines there are, and the first of their faults.
+#[derive(Drop)]
+struct Checked {
+    count: u32,
+    fault: Option<Fault>,
+}
+
+impl Fold for Checking {
+    type Part = Checked;
+
+    ghost is_own = { λ _ _. Unit {0} };
+
+    ghost is_fold = { λ _ _ _. Unit {0} };
+
+    fn none(&self, _alloc: Global) -> Checked {
+        Checked {
+            count: 0,
+            fault: None,
+        }
+    }
+
+    fn line(&self, alloc: Global, text: &[u8], at: u32) -> Result<Checked, Memory> {
+        let mut room = Room::new(alloc);
+        let fault = room.check_line(alloc, text, text.len(), at, 7, Coords::Round)?;
+        Ok(Checked { count: 1, fault })
+    }
+
+    fn join(&self, _alloc: Global, left: Checked, right: Checked) -> Result<Checked, Memory> {
+        Ok(Checked {
+            count: left.count.wrapping_add(right.count),
+            fault: first_fault(left.fault, right.fault),
+        })
+    }
+}
+
+/// What a file is found to be: the fault of its encoding, or else the first fault of its lines, or else how many they are.
 fn told_of_file(alloc: Global, bytes: &[u8]) -> Result<String, AllocError>
     requires { length bytes.now ≤ 2 ^ 27 }
 {
-    match count_lines(alloc, bytes, 7, Coords::Round) {
-        Ok(count) => format!(in alloc; "{count}"),
-        Err(LineFault::Found(fault)) => {
-            let kind = fault.kind;
-            let at = fault.at;
-            format!(in alloc; "{kind:?} {at}")
-        }
-        Err(LineFault::Memory) => String::from_str(alloc, "memory"),
+    let begin = base_of(bytes);
+    let whole = run_lines(alloc, &Checking, &bytes[begin as usize..], begin);
+    match finish_lines(alloc, &Checking, bytes, whole) {
+        Ok(checked) => match utf8_fault(bytes).or(checked.fault) {
+            Some(fault) => {
+                let kind = fault.kind;
+                let at = fault.at;
+                format!(in alloc; "{kind:?} {at}")
+            }
+            None => {
+                let count = checked.count;
+                format!(in alloc; "{count}")
+            }
+        },
+        Err(_) => String::from_str(alloc, "memory"),
     }
 }
 
