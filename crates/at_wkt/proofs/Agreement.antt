@@ -1,4 +1,5 @@
 -- Parts whose words agree: where a word of one and a word of the other begin one text, they are the same word, and something follows.
+-- For the laws that a text spells one geometry, so for `only` in what `read_line` and `read_geometry` answer.
 use Rattle.std.proofs.Common.{◌≡◌, ℕ, ◌+◌, inl, inr, Bool, true, false, not, IsTrue, List, [], ◌∷◌, ◌++◌, length, refl, sym, ◌∙◌, ap, subst, append_assoc, true≢false}
 use Rattle.std.specs.List.{AllByRecursion}
 use Rattle.std.specs.Char.{to_ascii_uppercase}

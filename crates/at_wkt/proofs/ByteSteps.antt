@@ -1,4 +1,5 @@
 -- What loops over bytes keep true.
+-- For `read_line`, `read_geometry` and `Room::check_line`: the loops over blanks and letters below them.
 use Rattle.std.proofs.Common.{◌≡◌, ◌≢◌, ℕ, ◌+◌, ◌-◌, ◌<◌, ◌≤◌, ◌==◌, Bool, true, false, not, List, [], ◌∷◌, ◌++◌, length, take, slice_index, sym, ◌∙◌, ap, subst, arith, true≢false}
 use Rattle.std.proofs.Math.Seq.{take-length}
 use Rattle.std.specs.Str.{str_to_ascii_uppercase}

@@ -1,4 +1,5 @@
 -- What stands behind a head or a geometry within open collections, read on.
+-- For `read_line`, `read_geometry` and `Room::check_line`: collections within collections.
 use Rattle.std.proofs.Common.{◌≡◌, ℕ, zero, suc, ◌+◌, ◌<◌, ◌≤◌, ◌⊎◌, inl, inr, Bool, true, false, List, [], ◌∷◌, ◌++◌, length, codes, Some, None, refl, sym, ◌∙◌, ap, arith, lit≤}
 use Rattle.std.specs.Str.{str_to_ascii_uppercase}
 use Rattle.std.specs.Char.{to_ascii_uppercase}

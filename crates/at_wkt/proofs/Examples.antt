@@ -1,4 +1,5 @@
 -- Worked values: the lines of a file, a spelled point, faults and shapes.
+-- No contract needs them: they show that the definitions say what is meant.
 use Rattle.std.proofs.Common.{◌≡◌, ℕ, pos, List, [], ◌∷◌, ◌++◌, Some, None, refl, inl, lit≤, codes, IsTrue}
 use Rattle.at_text.specs.Faults.{fault_at, first_of}
 use Rattle.at_text.specs.Texts.{is_digit}

@@ -1,4 +1,5 @@
 -- The exits of `?`, and the order in which faults are told.
+-- For `read_line`, `read_geometry` and `Room::check_line`: each call that may stop.
 use Rattle.std.proofs.Common.{◌≡◌, ℕ, ◌<◌, ◌≤◌, ◌⊎◌, inl, inr, Bool, true, false, not, ◌&&◌, ◌||◌, ◌==◌, nat_lt, nat_le, if◌then◌else◌, List, [], ◌∷◌, ◌++◌, Option, Some, None, Result, Ok, Err, refl, sym, ◌∙◌, ap, subst, arith, true≢false}
 use native.Mathlib.Decide.{dec_lt}
 use Rattle.std.specs.Result.{MatchResult, IsErrAnd}

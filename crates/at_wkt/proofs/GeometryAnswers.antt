@@ -1,4 +1,5 @@
 -- What the functions that read geometries answer.
+-- For `read_line`, `read_geometry` and `Room::check_line`.
 use Rattle.std.proofs.Common.{◌≡◌, ℕ, ◌≤◌, ◌⊎◌, inl, inr, true, false, not, ◌==◌, List, [], ◌∷◌, ◌++◌, length, map, flat_map, option_to_list, codes, Option, Some, None, Result, refl, sym, ◌∙◌, ap, subst, arith, append-nil}
 use Rattle.std.specs.Char.{to_ascii_uppercase}
 use Rattle.std.specs.Result.{MatchResult}

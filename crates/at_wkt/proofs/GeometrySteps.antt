@@ -1,4 +1,5 @@
 -- Geometries, collections of them, and what stands behind them.
+-- For `read_line`, `read_geometry` and `Room::check_line`: the grammar of geometries, read on.
 use Rattle.std.proofs.Common.{◌≡◌, ℕ, ◌+◌, true, List, [], ◌++◌, length, codes, refl, sym, ◌∙◌, ap, subst, arith, append-nil, append_assoc, lit≤}
 use Rattle.at_text.specs.Parts.{Many, Exactly, AnyCase, ◌▸◌}
 use Rattle.at_text.specs.declared.faults.Fault.{Fault}

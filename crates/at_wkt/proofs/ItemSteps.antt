@@ -1,4 +1,5 @@
 -- Items with their delimiters, one behind another, in brackets.
+-- For `read_line`, `read_geometry` and `Room::check_line`: lists in brackets, read on.
 use Rattle.std.proofs.Common.{◌≡◌, ℕ, ◌+◌, ◌<◌, ◌≤◌, inl, inr, Bool, true, false, ◌==◌, List, [], ◌∷◌, ◌++◌, length, refl, sym, ◌∙◌, ap, subst, arith, append_assoc, true≢false, lit≤}
 use Rattle.std.proofs.lemmas.List.{append_cancel_left}
 use Rattle.at_text.specs.Parts.{OneOrMore, At, ◌▸◌}

@@ -1,4 +1,5 @@
 -- The words of the kinds tried one after another.
+-- For `read_line`, `read_geometry` and `Room::check_line`: the head of a geometry, and where no kind's word goes on.
 use Rattle.std.proofs.Common.{◌≡◌, ◌≢◌, ℕ, ◌+◌, ◌-◌, ◌≤◌, ◌⊎◌, inl, inr, List, [], ◌∷◌, ◌++◌, length, take, sym, ◌∙◌, ap, subst, arith}
 use Rattle.std.specs.List.{AllByRecursion}
 use Rattle.std.specs.Str.{str_to_ascii_uppercase}

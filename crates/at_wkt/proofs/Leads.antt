@@ -1,4 +1,5 @@
 -- How what a text spells from a place on follows from what it spells from a later place on.
+-- For `read_line`, `read_geometry` and `Room::check_line`: all readers below them are told by it.
 use Rattle.std.proofs.Common.{◌≡◌, ℕ, ◌+◌, ◌<◌, ◌≤◌, ◌⊎◌, inl, inr, Bool, true, List, [], ◌∷◌, ◌++◌, length, take, drop, refl, sym, ◌∙◌, ap, subst, arith, add-one, take-suc, append_assoc, length-append, length-take, length-drop, take-append-drop, take-take}
 use native.Mathlib.Decide.{dec_lt}
 use Rattle.std.proofs.lemmas.List.{drop-append-le, drop_all, append_cancel_left}

@@ -1,4 +1,5 @@
 -- The letter behind a kind's word: which counts of numbers it allows, whatever the blanks on either side of it.
+-- For `read_line`, `read_geometry` and `Room::check_line`: the head of a geometry.
 use Rattle.std.proofs.Common.{◌≡◌, ℕ, ◌+◌, ◌<◌, ◌≤◌, ◌⊎◌, inl, inr, true, false, ◌==◌, List, [], ◌∷◌, ◌++◌, length, refl, sym, ◌∙◌, ap, subst, arith, append_assoc, length-append, lit≤}
 use Rattle.std.specs.Str.{str_to_ascii_uppercase}
 use Rattle.std.specs.Char.{to_ascii_uppercase}

@@ -1,4 +1,5 @@
 -- What reading a whole text, or a line, answers.
+-- For `read_line` (`HasLineShape`, `HasFirstLineFault`) and `read_geometry` (`IsPrefixOf`, `IsPrefixFault`).
 use Rattle.std.proofs.Common.{◌≡◌, ℕ, zero, ◌+◌, ◌<◌, ◌≤◌, List, [], ◌∷◌, ◌++◌, length, take, drop, Option, Some, None, is_none, Result, Ok, Err, refl, sym, ◌∙◌, ap, subst, arith, append-nil, append_assoc, take-append-drop, if◌then◌else◌}
 use native.Mathlib.Decide.{dec_lt}
 use Rattle.std.proofs.Math.Seq.{take-length}

@@ -1,4 +1,5 @@
 -- What is read of a line together with what stands behind it holds of the line.
+-- For `Room::check_line` and `Fold::add`, whose line is the first `len` of the bytes ahead.
 use Rattle.std.proofs.Common.{◌≡◌, ℕ, ◌+◌, ◌≤◌, ◌++◌, true, not, List, length, take, drop, refl, sym, ap, ◌∙◌, subst, arith, inl, inr, length-take}
 use Rattle.std.proofs.lemmas.Bool.{cases_lt}
 use Rattle.std.proofs.lemmas.List.{get_or-take, get_or_past, take-take}

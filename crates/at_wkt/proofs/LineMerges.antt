@@ -1,4 +1,5 @@
 -- Fragments of lines: what is read of a span, what two of them make, and what a whole one makes.
+-- For `run_lines` (`StandsFor`), `merge_lines` (`IsMerged`) and `finish_lines`.
 use Rattle.std.proofs.Common.{◌≡◌, ℕ, ◌+◌, ◌-◌, ◌<◌, ◌≤◌, Bool, true, false, not, ◌&&◌, if◌then◌else◌, nat_eq, List, [], ◌∷◌, ◌++◌, length, map, filter, take, drop, refl, sym, ◌∙◌, ap, subst, arith, append-nil, append_assoc, length-append, length-take, length-drop, drop-drop}
 use Rattle.std.specs.List.{list_any, position_or_len, starts_with}
 use Rattle.std.proofs.Math.Seq.{take-add, take-append_seam, drop-append_seam}

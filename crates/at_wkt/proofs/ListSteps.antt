@@ -1,4 +1,5 @@
 -- Positions and items read on, lists of them in brackets, and the word EMPTY.
+-- For `read_line`, `read_geometry` and `Room::check_line`: positions and items, read on.
 use Rattle.std.proofs.Common.{◌≡◌, ◌≢◌, ℕ, ◌+◌, ◌-◌, ◌<◌, ◌≤◌, ◌⊎◌, inl, inr, Bool, true, false, List, [], ◌∷◌, ◌++◌, length, codes, refl, sym, ◌∙◌, ap, subst, arith, append-nil, append_assoc, length-append, true≢false}
 use Rattle.at_text.specs.Parts.{Exactly}
 use Rattle.at_fixed.specs.Numerals.{Numeral}

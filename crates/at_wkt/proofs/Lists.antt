@@ -1,4 +1,5 @@
 -- Items in brackets, one after another.
+-- For `read_line`, `read_geometry` and `Room::check_line`: items in brackets as the grammar has them.
 use Rattle.std.proofs.Common.{◌≡◌, ℕ, ◌+◌, Bool, true, false, List, [], ◌∷◌, ◌++◌, length, codes, refl, sym, ◌∙◌, ap, subst, arith, append-nil, append_assoc, length-append}
 use Rattle.at_text.specs.Parts.{Many, Exactly, ◌▸◌}
 use Rattle.at_wkt.specs.Geometry.{is_blank, ◌‿◌, InBrackets, Parted}

@@ -1,4 +1,5 @@
 -- Numbers in a text: a number stands as far as the longest beginning of one, where a byte that no number has stands behind it.
+-- For `read_line`, `read_geometry` and `Room::check_line`: each number.
 use Rattle.std.proofs.Common.{◌≡◌, ℕ, ◌+◌, ◌-◌, ◌≤◌, inl, inr, Bool, true, false, not, ◌||◌, IsTrue, List, [], ◌∷◌, ◌++◌, length, take, drop, Option, Some, None, IfSome, is_some, Result, ℤ, refl, sym, ◌∙◌, ap, subst, arith, append_assoc, length-drop, true≢false}
 use native.Mathlib.Decide.{dec_lt}
 use Rattle.std.specs.List.{AllByRecursion}

@@ -1,4 +1,5 @@
 -- A text spells at most one geometry, and no geometry's spelling is a proper prefix of a spelling.
+-- For `only` in what `read_line` and `read_geometry` answer (`HasLineShape`, `HasFirstLineFault`, `IsPrefixOf`).
 use Rattle.std.proofs.Common.{◌≡◌, ℕ, ◌+◌, inl, inr, Bool, true, false, ◌||◌, ◌==◌, IsTrue, List, [], ◌∷◌, ◌++◌, length, codes, Option, Some, None, refl, sym, ◌∙◌, ap, subst, append-nil, append_assoc, true≢false, arith}
 use Rattle.std.specs.List.{AllByRecursion}
 use Rattle.std.specs.Char.{to_ascii_uppercase}

@@ -1,4 +1,5 @@
 -- What the functions that read parts in brackets answer.
+-- For `read_line`, `read_geometry` and `Room::check_line`: the readers of `src/parts.rt`.
 use Rattle.std.proofs.Common.{◌≡◌, ℕ, ◌+◌, ◌-◌, ◌<◌, ◌≤◌, Bool, true, false, ◌==◌, List, [], ◌∷◌, ◌++◌, length, map, flat_map, codes, Some, None, Result, refl, sym, ◌∙◌, ap, subst, arith, append-nil, append_assoc}
 use native.Mathlib.Decide.{dec_lt}
 use Rattle.std.proofs.lemmas.List.{get_or_past}

@@ -1,4 +1,5 @@
 -- What the functions that read lists of positions, and items of other kinds, answer.
+-- For `read_line`, `read_geometry` and `Room::check_line`: the readers of `src/paths.rt`, and each loop over items.
 use Rattle.std.proofs.Common.{◌≡◌, ℕ, ◌+◌, ◌<◌, ◌≤◌, Bool, true, false, not, ◌&&◌, ◌||◌, if◌then◌else◌, List, [], ◌∷◌, ◌++◌, length, map, flat_map, option_to_list, Option, Some, None, is_none, refl, sym, ◌∙◌, ap, subst, arith, append-nil, append_assoc, length-append}
 use Rattle.std.specs.Ordering.{int_eq}
 use Rattle.std.proofs.lemmas.List.{map-append, length-map}

@@ -1,4 +1,5 @@
 -- What a search for a byte finds, in std's words.
+-- For `run_lines`, which looks for line feeds.
 use Rattle.std.proofs.Common.{◌≡◌, ℕ, Bool, List, length, get_or, Option, Some, None, unwrap_or, sym, arith}
 use Rattle.std.proofs.lemmas.Bool.{false_from_ne_true}
 use Rattle.std.proofs.lemmas.List.Sums.{position_or_len_is}

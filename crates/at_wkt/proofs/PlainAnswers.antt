@@ -1,4 +1,5 @@
 -- Positions whose numbers have values and are set apart by one space.
+-- For `read_line`, `read_geometry` and `Room::check_line`: the quick way of most positions.
 use Rattle.std.proofs.Common.{◌≡◌, ℕ, ◌+◌, ◌<◌, ◌≤◌, ◌⊎◌, inl, inr, true, not, List, [], ◌∷◌, length, sym, ◌∙◌, ap, subst, arith}
 use Rattle.at_fixed.specs.Numerals.{Numeral}
 use Rattle.at_wkt.specs.Geometry.{is_blank}

@@ -1,4 +1,5 @@
 -- What the functions that read positions answer.
+-- For `read_line`, `read_geometry` and `Room::check_line`: the readers of `src/positions.rt`.
 use Rattle.std.proofs.Common.{◌≡◌, ◌≢◌, ℕ, ◌+◌, ◌<◌, ◌≤◌, true, false, ◌-◌, List, length, Option, Result, sym, ◌∙◌, ap, subst, arith, true≢false}
 use native.Mathlib.Decide.{dec_lt}
 use Rattle.std.proofs.lemmas.List.{get_or_past}

@@ -1,4 +1,5 @@
 -- Positions: two numbers, further ones, and the delimiter behind them.
+-- For `read_line`, `read_geometry` and `Room::check_line`: the grammar of positions, read on.
 use Rattle.std.proofs.Common.{◌≡◌, ◌≢◌, ℕ, zero, suc, ◌+◌, ◌-◌, ◌<◌, ◌⊎◌, inl, inr, Bool, true, false, ◌||◌, List, [], ◌∷◌, ◌++◌, length, codes, Option, Some, None, refl, sym, ◌∙◌, ap, subst, arith, append_assoc, length-append, true≢false}
 use Rattle.std.proofs.lemmas.List.{append_cancel_left}
 use Rattle.at_text.specs.Texts.{is_digit, is_one_of}

@@ -1,4 +1,5 @@
 -- How far reading has come, step by step, over collections of any depth.
+-- For `read_line`, `read_geometry` and `Room::check_line`: the loop of `src/geometries.rt`.
 use Rattle.std.proofs.Common.{◌≡◌, ℕ, zero, suc, ◌+◌, ◌-◌, ◌<◌, ◌≤◌, inl, inr, Bool, true, false, ◌==◌, List, ◌++◌, length, Option, Some, None, Result, refl, sym, ◌∙◌, ap, subst, arith, true≢false, append-nil, append_assoc, add-one, lit≤}
 use Rattle.std.specs.Result.{MatchResult}
 use Rattle.at_text.specs.declared.faults.Fault.{Fault}

@@ -1,4 +1,5 @@
 -- What leads on to what: blanks, words, numbers, parts behind one another, and parts told in another way.
+-- For `read_line`, `read_geometry` and `Room::check_line`: the steps that all other lemmas take.
 use Rattle.std.proofs.Common.{◌≡◌, ℕ, ◌+◌, ◌<◌, ◌≤◌, ◌⊎◌, inl, inr, Bool, true, false, not, IsTrue, List, [], ◌∷◌, ◌++◌, length, refl, sym, ◌∙◌, ap, subst, arith, append_assoc, true≢false}
 use Rattle.std.specs.List.{AllByRecursion}
 use Rattle.at_text.specs.Parts.{Many, OneOrMore, ◌▸◌}

@@ -1,4 +1,5 @@
 -- The word EMPTY, the words of the kinds with their letters, and parts that are EMPTY or in brackets.
+-- For `read_line`, `read_geometry` and `Room::check_line`: the words of a geometry.
 use Rattle.std.proofs.Common.{◌≡◌, ℕ, ◌+◌, ◌-◌, ◌<◌, ◌≤◌, ◌⊎◌, inl, inr, Bool, true, false, ◌&&◌, ◌==◌, List, [], ◌∷◌, ◌++◌, length, take, drop, slice_index, refl, sym, ◌∙◌, ap, arith, append-nil, append_assoc, length-append, true≢false, take-append-drop}
 use Rattle.std.specs.Str.{str_to_ascii_uppercase}
 use Rattle.std.specs.Char.{to_ascii_uppercase}

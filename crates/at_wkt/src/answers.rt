@@ -1,3 +1,5 @@
+//! What a reader of a text answers: a refusal, or the geometry that begins the text.
+
 ghost use Rattle.std.specs.Prelude.{◌≡◌};
 ghost use Rattle.at_wkt.specs.declared.answers.LineFault.TheVariants.{Memory as NoMemory};
 

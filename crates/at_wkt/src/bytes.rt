@@ -1,3 +1,5 @@
+//! Single bytes of a text: blanks, and what stands at a place.
+
 ghost use Rattle.std.specs.Prelude.{◌≡◌, ◌≤◌, ◌<◌, ◌==◌, length};
 ghost use Rattle.std.specs.Char.{to_ascii_uppercase};
 ghost use Rattle.at_wkt.specs.Geometry.{is_blank as blank_test};

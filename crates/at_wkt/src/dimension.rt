@@ -1,3 +1,5 @@
+//! How many numbers positions have.
+
 ghost use Rattle.std.specs.Prelude.{◌≡◌};
 ghost use Rattle.at_wkt.specs.Reading.{allows as allowed, allows_more as more_allowed};
 

@@ -1,3 +1,5 @@
+//! A geometry from its word to its end, collections of any depth among them, and what it adds to what was gathered.
+
 ghost use Rattle.std.specs.Prelude.{◌≡◌, ℕ, ◌+◌, ◌^◌, ◌≤◌, false, zero, None, [], length, MatchResult};
 ghost use Rattle.at_fixed.specs.declared.rounding.Coords.{Coords};
 ghost use Rattle.at_wkt.specs.declared.dimension.Dimension.TheVariants.{Open};

@@ -1,3 +1,5 @@
+//! Why a reader stops: at a place of the text, or for want of memory.
+
 ghost use Rattle.std.specs.Prelude.{◌≡◌};
 ghost use Rattle.at_wkt.specs.declared.halts.Halt.TheVariants.{Memory};
 

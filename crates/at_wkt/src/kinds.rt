@@ -1,3 +1,5 @@
+//! The words of the seven kinds, and the letters Z and M behind them.
+
 ghost use Rattle.std.specs.Prelude.{◌≡◌, ◌≤◌, ◌+◌, ◌⊎◌, length, MatchResult};
 ghost use Rattle.at_wkt.specs.Reading.{word_of, WordStands, KindBreaks, LetterStands, HeadStands, IfStopped};
 

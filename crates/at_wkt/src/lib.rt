@@ -1,13 +1,15 @@
 //! Well-Known Text: geometries, and files of them read line by line (OGC 06-103r4 section 7).
+//!
+//! - `read_line` and `read_geometry` make a shape of a text, or tell its first fault.
+//! - `Room::check_line` tells the first fault alone, and keeps no shape.
+//! - A `Fold` makes something of the lines of a file. `run_lines` folds the lines of a piece of it, `merge_lines` joins
+//!   the fragments of two neighbouring pieces, and `finish_lines` gives the fold of the whole.
 #![tactic(auto)]
 
-mod answers;
+// one line: bytes, numbers, positions, lists of them, parts, geometries
 mod bytes;
 mod checks;
 mod dimension;
-mod files;
-mod folding;
-mod fragments;
 mod geometries;
 mod halts;
 mod kinds;
@@ -18,8 +20,16 @@ mod positions;
 mod reading;
 mod rooms;
 mod rules;
-mod searches;
 mod words;
+
+// the lines of a file
+mod files;
+mod folding;
+mod fragments;
+mod searches;
+
+// what is answered
+mod answers;
 
 pub use answers::{LineFault, Prefix};
 pub use folding::Fold;

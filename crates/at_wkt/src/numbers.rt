@@ -1,3 +1,5 @@
+//! Numbers of a text, as coordinates or passed over.
+
 ghost use Rattle.std.specs.Prelude.{◌≡◌, ◌≤◌, ◌+◌, ◌^◌, Some, None, IfSome, length, MatchResult};
 ghost use Rattle.at_fixed.specs.Numerals.{Numeral};
 ghost use Rattle.at_text.specs.Faults.{first_of};

@@ -1,3 +1,5 @@
+//! Lists of positions in brackets: lines and rings.
+
 ghost use Rattle.std.specs.Prelude.{◌≡◌, ◌+◌, ◌<◌, ◌≤◌, ◌^◌, ◌&&◌, ◌||◌, [], not, is_none, length, MatchResult};
 ghost use Rattle.std.specs.Ordering.{int_eq};
 ghost use Rattle.at_text.specs.Faults.{first_fault as the_first};

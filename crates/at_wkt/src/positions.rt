@@ -1,3 +1,5 @@
+//! Positions and the delimiter behind each, plain ones first and all others out of line.
+
 ghost use Rattle.std.specs.Prelude.{◌≡◌, ℕ, ◌+◌, ◌<◌, ◌≤◌, ◌^◌, ◌⊎◌, true, false, IfSome, length, None, MatchResult};
 ghost use Rattle.at_wkt.specs.Geometry.{SpellsPosition};
 ghost use Rattle.at_wkt.specs.Reading.{next, allows, Spelt, Stuck, HasCount, Reaches, Item, FurtherNumbers, delimiter, is_delimiter, DelimiterStands, DelimiterBreaks, PositionStands, IfStopped, IsPassed};

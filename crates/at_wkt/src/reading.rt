@@ -1,3 +1,5 @@
+//! The two readers of one text: a line of a file, and the geometry that begins a text.
+
 ghost use Rattle.std.specs.Prelude.{◌≡◌, [], None, ◌+◌, ◌^◌, ◌≤◌, length, MatchResult};
 ghost use Rattle.at_text.specs.Syntax.{stop_fault};
 ghost use Rattle.at_wkt.specs.Reading.{refusal as refusal_at, gathered_shape, kept_shape as shape_kept, line_answer as answer_of, LineStands, LineStops, IfStopped};

@@ -1,3 +1,5 @@
+//! How a text is read.
+
 use at_fixed::Coords;
 
 /// Where a text stands in its file, and how its numbers are read.

@@ -1,3 +1,5 @@
+//! Lines, prefixes and files with what they are found to be.
+
 ghost use Rattle.std.specs.Prelude.{◌≤◌, ◌^◌, length};
 
 use super::*;

@@ -1,3 +1,5 @@
+//! Words of a text, in either case.
+
 ghost use Rattle.std.specs.Prelude.{◌≤◌, codes, length, MatchResult};
 ghost use Rattle.at_wkt.specs.Reading.{Matches, WordStands, WordBreaks, IfStopped};
 
