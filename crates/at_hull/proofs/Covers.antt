@@ -42,7 +42,7 @@ sum_pos : (a b c : ℤ) → a ≡ b +ℤ c → pos 0 ≤ℤ b → pos 0 ≤ℤ c
 sum_pos a b c e h k = omega (arith, ints, e, h, k)
 
 -- at a corner that turns left and is the least of the three, p, which isn't right of its edges, is no less
-valley : (c d p u v w : Pos) → pos 0 <ℤ turn u v w → pos 0 ≤ℤ turn u v p → pos 0 ≤ℤ turn v w p → turn c d v ≤ℤ turn c d u → turn c d v ≤ℤ turn c d w → pos 0 ≤ℤ turn c d v → pos 0 ≤ℤ turn c d p
+pub valley : (c d p u v w : Pos) → pos 0 <ℤ turn u v w → pos 0 ≤ℤ turn u v p → pos 0 ≤ℤ turn v w p → turn c d v ≤ℤ turn c d u → turn c d v ≤ℤ turn c d w → pos 0 ≤ℤ turn c d v → pos 0 ≤ℤ turn c d p
 valley c d p u v w t f g h k n =
     let e = spread (d.x -ℤ c.x) (d.y -ℤ c.y) (w.x -ℤ v.x) (w.y -ℤ v.y) (u.x -ℤ v.x) (u.y -ℤ v.y) (p.x -ℤ v.x) (p.y -ℤ v.y) in
     let a1 = at_corner u.x u.y v.x v.y w.x w.y in
@@ -113,7 +113,7 @@ found_up : (P Q : Type 0) (x y : ℤ) → P ⊎ ((x ≤ℤ y) × Q) → y <ℤ x
 found_up P Q x y (inl h) k = h
 found_up P Q x y (inr h) k = absurd (omega (arith, ints, h.0, k))
 
-by_ring : (g : Pos → ℤ) (S : Pos → Type 0) (p a b c : Pos) (r : List Pos) → Least g p → S p → TurnsLeft (round a b (c ∷ r)) → NoneRight S (round a b (c ∷ r)) → Each (λ q. pos 0 ≤ℤ g q) (a ∷ b ∷ c ∷ r) → pos 0 ≤ℤ g p
+pub by_ring : (g : Pos → ℤ) (S : Pos → Type 0) (p a b c : Pos) (r : List Pos) → Least g p → S p → TurnsLeft (round a b (c ∷ r)) → NoneRight S (round a b (c ∷ r)) → Each (λ q. pos 0 ≤ℤ g q) (a ∷ b ∷ c ∷ r) → pos 0 ≤ℤ g p
 by_ring g S p a b c r least m t n e =
     let all : Each (λ q. pos 0 ≤ℤ g q) (a ∷ b ∷ c ∷ (r ++ a ∷ b ∷ [])) = λ q i. e q (in_round a b c q r i) in
     by_lt_z (g a) (g b)

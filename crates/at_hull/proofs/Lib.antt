@@ -1,6 +1,7 @@
 pub mod Covers
 mod Examples
 pub mod Exists
+pub mod Insides
 pub mod Joints
 pub mod Laws
 pub mod Members

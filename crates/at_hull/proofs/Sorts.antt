@@ -14,7 +14,7 @@ use Rattle.at_hull.proofs.Ways.{by_order, same_pos}
 
 -- ---- All and Each
 
-get_in : (xs : List Pos) (k : ℕ) (d : Pos) → k < length xs → IsIn (get_or xs k d) xs
+pub get_in : (xs : List Pos) (k : ℕ) (d : Pos) → k < length xs → IsIn (get_or xs k d) xs
 get_in [] k d l = absurd (omega (arith, l))
 get_in (x ∷ xs) zero d l = inl refl
 get_in (x ∷ xs) (suc k) d l = inr (get_in xs k d (omega (arith, l)))

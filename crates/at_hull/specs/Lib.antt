@@ -1,2 +1,3 @@
 pub mod Hulls
 pub mod Walks
+pub mod Within

@@ -348,3 +348,53 @@ fn hulls_joined(rt: HostRuntime) -> Result<(), Fail> {
     assert_eq!(rt; pairs_told(rt.alloc(), &PAIRS)?, 8);
     Ok(())
 }
+
+/// How many of the positions, each alone, a hull of five positions is seen to cover.
+fn covered(alloc: Global, ends: &[(i64, i64)]) -> Result<usize, Fail> {
+    let ring = hull_in_range(
+        alloc,
+        &path(alloc, &[(0, 0), (4, 0), (6, 3), (3, 6), (0, 4)])?,
+    )?;
+    let mut count = 0;
+    for end in ends {
+        let mut one = Vec::new(alloc);
+        one.push(at(end.0, end.1))?;
+        if covers_all(&ring, &Path::from_vec(one)) {
+            count += 1;
+        }
+    }
+    Ok(count)
+}
+
+#[test]
+fn positions_inside_and_outside(rt: HostRuntime) -> Result<(), Fail> {
+    let inside = [
+        (1, 1),
+        (3, 3),
+        (5, 3),
+        (2, 5),
+        (0, 0),
+        (6, 3),
+        (0, 4),
+        (2, 0),
+        (0, 1),
+        (5, 2),
+    ];
+    let outside = [
+        (-1, 0),
+        (1, -1),
+        (5, 0),
+        (5, 1),
+        (7, 3),
+        (6, 4),
+        (5, 5),
+        (3, 7),
+        (1, 5),
+        (-1, 2),
+        (0, 5),
+        (-1, 6),
+    ];
+    assert_eq!(rt; covered(rt.alloc(), &inside)?, 10);
+    assert_eq!(rt; covered(rt.alloc(), &outside)?, 0);
+    Ok(())
+}

@@ -1,0 +1,98 @@
+-- Positions inside a hull add nothing to it.
+use Rattle.std.proofs.Common.{◌≡◌, ℕ, ◌+◌, ◌<◌, ◌≤◌, ℤ, pos, negsuc, zero, suc, ◌≤ℤ◌, ◌<ℤ◌, inl, inr, IsTrue, List, [], ◌∷◌, ◌++◌, All, length, take, get_or, arith, sym, subst, refl, true≢false}
+use Rattle.std.specs.Prelude.{int_le, int_lt}
+use Rattle.std.proofs.lemmas.Int.{ints}
+use Rattle.std.proofs.lemmas.List.{append-nil, take_more}
+use Rattle.std.proofs.lemmas.List.Elements.{All-append, All-cons, All-nil}
+use Rattle.at_geom.specs.declared.positions.Pos.{Pos}
+use Rattle.at_geom.specs.Segments.{turn, sign_of}
+use Rattle.at_geom.proofs.RingLaws.{expand}
+use Rattle.at_hull.specs.Hulls.{IsAtMost, IsIn, Each, NoneRight, IsRing, IsHull, round}
+use Rattle.at_hull.specs.Within.{IsInTriangle, IsInOneOf, IsWithin}
+use Rattle.at_hull.proofs.Members.{in_left, in_parts}
+use Rattle.at_hull.proofs.Covers.{by_ring, valley}
+use Rattle.at_hull.proofs.Sorts.{each_of_all, get_in}
+use Rattle.at_hull.proofs.Laws.{hull_of_both, hull_of_hull}
+
+-- ---- what the tests tell
+
+pub left_by_sign : (z r : ℤ) → r ≡ sign_of z → IsTrue (int_lt (pos 0) r) → pos 0 <ℤ z
+left_by_sign (pos zero) r e h = absurd (true≢false (sym (subst (λ w. IsTrue (int_lt (pos 0) w)) e h)))
+left_by_sign (pos (suc n)) r e h = omega (arith, ints)
+left_by_sign (negsuc n) r e h = absurd (true≢false (sym (subst (λ w. IsTrue (int_lt (pos 0) w)) e h)))
+
+pub not_right_by_sign : (z r : ℤ) → r ≡ sign_of z → IsTrue (int_le (pos 0) r) → pos 0 ≤ℤ z
+not_right_by_sign (pos n) r e h = omega (arith, ints)
+not_right_by_sign (negsuc n) r e h = absurd (true≢false (sym (subst (λ w. IsTrue (int_le (pos 0) w)) e h)))
+
+pub within_by : (h : List Pos) (p d d1 d2 d3 : Pos) (i j k : ℕ) → 3 ≤ length h → i < length h → j < length h → k < length h → IsAtMost (get_or h 0 d) p
+    → IsInTriangle p (get_or h i d1) (get_or h j d2) (get_or h k d3) → IsWithin h p
+within_by [] p d d1 d2 d3 i j k n u v w m t = absurd (omega (arith, n))
+within_by (a ∷ []) p d d1 d2 d3 i j k n u v w m t = absurd (omega (arith, n))
+within_by (a ∷ b ∷ []) p d d1 d2 d3 i j k n u v w m t = absurd (omega (arith, n))
+within_by (a ∷ b ∷ c ∷ r) p d d1 d2 d3 i j k n u v w m t = (
+  m,
+  record {
+    x = get_or (a ∷ b ∷ c ∷ r) i d1;
+    y = get_or (a ∷ b ∷ c ∷ r) j d2;
+    z = get_or (a ∷ b ∷ c ∷ r) k d3;
+    has_x = get_in (a ∷ b ∷ c ∷ r) i d1 u;
+    has_y = get_in (a ∷ b ∷ c ∷ r) j d2 v;
+    has_z = get_in (a ∷ b ∷ c ∷ r) k d3 w;
+    inside = t;
+  },
+)
+
+pub all_more : (P : Pos → Type 0) (xs : List Pos) (i : ℕ) (d : Pos) → i < length xs → All P (take i xs) → P (get_or xs i d) → All P (take (i + 1) xs)
+all_more P xs i d l h p = subst (All P) (sym (take_more xs i d l)) (All-append P (take i xs) (get_or xs i d ∷ []) h (All-cons P (get_or xs i d) [] p (All-nil P)))
+
+-- ---- what lies in a triangle
+
+turned_once : (x y z : Pos) → turn y z x ≡ turn x y z
+turned_once x y z = simp expand (omega (arith, ints))
+
+of_three : (P : Pos → Type 0) (x y z : Pos) → P x → P y → P z → Each P (x ∷ y ∷ z ∷ [])
+of_three P x y z h k l p (inl e) = subst P (sym e) h
+of_three P x y z h k l p (inr (inl e)) = subst P (sym e) k
+of_three P x y z h k l p (inr (inr (inl e))) = subst P (sym e) l
+of_three P x y z h k l p (inr (inr (inr m))) = absurd m
+
+-- what isn't to the right of a way at three corners isn't there inside their triangle either
+in_triangle_side : (c d p x y z : Pos) → IsInTriangle p x y z → pos 0 ≤ℤ turn c d x → pos 0 ≤ℤ turn c d y → pos 0 ≤ℤ turn c d z → pos 0 ≤ℤ turn c d p
+in_triangle_side c d p x y z t h k l =
+    let L : (a b : Pos) → pos 0 ≤ℤ turn a b p → (q : Pos) → q ≡ p → pos 0 ≤ℤ turn a b q = λ a b m q e. subst (λ (w : Pos). pos 0 ≤ℤ turn a b w) (sym e) m in
+    let once : pos 0 <ℤ turn y z x = subst (λ w. pos 0 <ℤ w) (sym (turned_once x y z)) t.turns in
+    let twice : pos 0 <ℤ turn z x y = subst (λ w. pos 0 <ℤ w) (sym (turned_once y z x)) once in
+    by_ring (λ q. turn c d q) (λ q. q ≡ p) p x y z [] (λ u v w. valley c d p u v w) refl (t.turns, (once, (twice, tt)))
+    (L x y t.first, (L y z t.second, (L z x t.third, (L x y t.first, tt)))) (of_three (λ q. pos 0 ≤ℤ turn c d q) x y z h k l)
+
+in_one_side : (c d p : Pos) (ps : List Pos) → IsInOneOf ps p → Each (λ q. pos 0 ≤ℤ turn c d q) ps → pos 0 ≤ℤ turn c d p
+in_one_side c d p ps o f = in_triangle_side c d p o.x o.y o.z o.inside (f o.x o.has_x) (f o.y o.has_y) (f o.z o.has_z)
+
+none_right_of_both : (h k l : List Pos) → Each (IsInOneOf h) k → NoneRight (λ p. IsIn p h) l → NoneRight (λ p. IsIn p (h ++ k)) l
+none_right_of_both h k [] f n = tt
+none_right_of_both h k (a ∷ []) f n = tt
+none_right_of_both h k (a ∷ b ∷ l) f n =
+    (λ p m. elim (in_parts p h k m) [ inl i ↦ n.0 p i | inr i ↦ in_one_side a b p h (f p i) n.0 ], none_right_of_both h k (b ∷ l) f n.1)
+
+lowest_of_both : (a : Pos) (h k : List Pos) → Each (λ p. IsAtMost a p) h → Each (λ p. IsAtMost a p) k → Each (λ p. IsAtMost a p) (h ++ k)
+lowest_of_both a h k f g p m = elim (in_parts p h k m) [ inl i ↦ f p i | inr i ↦ g p i ]
+
+ring_of_both : (a b c : Pos) (r k : List Pos) → Each (IsWithin (a ∷ b ∷ c ∷ r)) k → IsRing (a ∷ b ∷ c ∷ r) a b (c ∷ r) → IsRing ((a ∷ b ∷ c ∷ r) ++ k) a b (c ∷ r)
+ring_of_both a b c r k f h = record {
+  of_list = λ p m. in_left p (a ∷ b ∷ c ∷ r) k m;
+  different = h.different;
+  lowest = (inl refl, lowest_of_both a (a ∷ b ∷ c ∷ r) k h.lowest.1 (λ p m. (f p m).0));
+  left = h.left;
+  none_right = none_right_of_both (a ∷ b ∷ c ∷ r) k (round a b (c ∷ r)) (λ p m. (f p m).1) h.none_right;
+}
+
+own_with : (h k : List Pos) → Each (IsWithin h) k → IsHull h h → IsHull (h ++ k) h
+own_with h [] f o = subst (λ l. IsHull l h) (sym (append-nil h)) o
+own_with [] (p ∷ k) f o = absurd (f p (inl refl))
+own_with (a ∷ []) (p ∷ k) f o = absurd (f p (inl refl))
+own_with (a ∷ b ∷ []) (p ∷ k) f o = absurd (f p (inl refl))
+own_with (a ∷ b ∷ c ∷ r) (p ∷ k) f o = ring_of_both a b c r (p ∷ k) f o
+
+pub covered : (h k : List Pos) → All (IsWithin h) k → (ps qs : List Pos) → IsHull ps h → IsHull qs k → IsHull (ps ++ qs) h
+covered h k f ps qs hp hq = hull_of_both ps qs h k h hp hq (own_with h k (λ p m. each_of_all (IsWithin h) k p f m) (hull_of_hull ps h hp))
