@@ -2,6 +2,7 @@ mod Examples
 pub mod KeptLists
 pub mod Spreads
 pub mod Areas
+pub mod Hulls
 pub mod Joining
 pub mod Exact
 pub mod ProperEntries

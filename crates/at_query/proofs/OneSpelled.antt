@@ -239,7 +239,7 @@ verb_by (b ∷ w) = elim (b == 0x73) [
   | true ↦ Some verbs.Select
   | false ↦ elim (b == 0x63) [
     | true ↦ Some verbs.Count
-    | false ↦ elim (b == 0x61) [ true ↦ Some verbs.Area | false ↦ elim (b == 0x65) [ true ↦ Some verbs.Extent | false ↦ Some verbs.Join ] ]
+    | false ↦ elim (b == 0x61) [ true ↦ Some verbs.Area | false ↦ elim (b == 0x65) [ true ↦ Some verbs.Extent | false ↦ elim (b == 0x68) [ true ↦ Some verbs.Hull | false ↦ Some verbs.Join ] ] ]
   ]
 ]
 
@@ -249,6 +249,7 @@ verb_told verbs.Select w = refl
 verb_told verbs.Count w = refl
 verb_told verbs.Area w = refl
 verb_told verbs.Extent w = refl
+verb_told verbs.Hull w = refl
 verb_told verbs.Join w = refl
 
 query_same : (p q : SpelledQuery) → p.verb ≡ q.verb → p.tests ≡ q.tests → p ≡ q

@@ -8,7 +8,7 @@ use Rattle.at_query.specs.declared.parts.Entry.{Entry}
 use Rattle.at_query.specs.declared.parts.Part.TheVariants.{Entries}
 use Rattle.at_query.specs.Holding.{Holds}
 use Rattle.at_query.specs.Results.{Keeps}
-use Rattle.at_query.specs.Parts.{entry_of, kept_of, IsPart, AreRising, IsProperEntry, AreProper, IsProperFeature, AreProperFeatures}
+use Rattle.at_query.specs.Parts.{entry_of, IsPart, AreRising, IsProperEntry, AreProper, IsProperFeature, AreProperFeatures}
 use Rattle.at_query.proofs.KeptLists.{kept_all}
 
 abbrev at_of : Feature → ℕ
@@ -53,7 +53,7 @@ ats_of_entries (f ∷ fs) = rw (ats_of_entries fs)
 -- the part of a join over features with closed rings, coordinates in range and rising offsets is a proper list of entries
 pub entries_are_proper : (query : Query) (fs : List Feature) (es : List Entry) → query.verb ≡ verbs.Join → IsPart query fs (Entries es) → AreProperFeatures fs → AreProper es
 entries_are_proper query fs es join (kept, h, e) proper =
-    let is : Entries es ≡ kept_of verbs.Join kept = rw join at e in
+    let is : Entries es ≡ Entries (map entry_of kept) = rw join at e in
     let same : es ≡ map entry_of kept = cc in
     subst AreProper (sym same) (record {
       rising = subst AreRising (sym (ats_of_entries kept)) (kept_rises (Holds query) fs kept h proper.rising);

@@ -14,7 +14,7 @@ use Rattle.at_wkt.specs.Positions.{Position, Positions, faults_in, number_fault,
 use Rattle.at_wkt.specs.Geometry.{Geometry, Geometries, point, line_string, polygon, multi_point, multi_line_string, multi_polygon, collection, no_geometries, geometry_and}
 use Rattle.at_wkt.specs.Meaning.{shape_of, empty_shape, present, faults_of_area, faults_of, faults_of_all}
 use Rattle.at_query.specs.declared.queries.Verb.{Verb}
-use Rattle.at_query.specs.declared.queries.Verb.TheVariants.{Select, Count, Area, Extent, Join}
+use Rattle.at_query.specs.declared.queries.Verb.TheVariants.{Select, Count, Area, Extent, Hull, Join}
 use Rattle.at_query.specs.declared.queries.Test.{Test}
 use Rattle.at_query.specs.declared.queries.Test.TheVariants.{MeetsShape}
 use Rattle.at_query.specs.Spelling.{Spelled, in_box, meets_box, meets, has, SpelledQuery, IsSpelled, verb_text}
@@ -31,6 +31,7 @@ letter_of Select = 0x73
 letter_of Count = 0x63
 letter_of Area = 0x61
 letter_of Extent = 0x65
+letter_of Hull = 0x68
 letter_of Join = 0x6a
 
 abbrev pub is_letter : Verb → ℕ → Bool
@@ -44,26 +45,37 @@ verb_from Select Select at v e = inl (tt, refl, e)
 verb_from Select Count at v e = inr (0x63, codes "ount", e, refl)
 verb_from Select Area at v e = inr (0x61, codes "rea", e, refl)
 verb_from Select Extent at v e = inr (0x65, codes "xtent", e, refl)
+verb_from Select Hull at v e = inr (0x68, codes "ull", e, refl)
 verb_from Select Join at v e = inr (0x6a, codes "oin", e, refl)
 verb_from Count Select at v e = inr (0x73, codes "elect", e, refl)
 verb_from Count Count at v e = inl (tt, refl, e)
 verb_from Count Area at v e = inr (0x61, codes "rea", e, refl)
 verb_from Count Extent at v e = inr (0x65, codes "xtent", e, refl)
+verb_from Count Hull at v e = inr (0x68, codes "ull", e, refl)
 verb_from Count Join at v e = inr (0x6a, codes "oin", e, refl)
 verb_from Area Select at v e = inr (0x73, codes "elect", e, refl)
 verb_from Area Count at v e = inr (0x63, codes "ount", e, refl)
 verb_from Area Area at v e = inl (tt, refl, e)
 verb_from Area Extent at v e = inr (0x65, codes "xtent", e, refl)
+verb_from Area Hull at v e = inr (0x68, codes "ull", e, refl)
 verb_from Area Join at v e = inr (0x6a, codes "oin", e, refl)
 verb_from Extent Select at v e = inr (0x73, codes "elect", e, refl)
 verb_from Extent Count at v e = inr (0x63, codes "ount", e, refl)
 verb_from Extent Area at v e = inr (0x61, codes "rea", e, refl)
 verb_from Extent Extent at v e = inl (tt, refl, e)
+verb_from Extent Hull at v e = inr (0x68, codes "ull", e, refl)
 verb_from Extent Join at v e = inr (0x6a, codes "oin", e, refl)
+verb_from Hull Select at v e = inr (0x73, codes "elect", e, refl)
+verb_from Hull Count at v e = inr (0x63, codes "ount", e, refl)
+verb_from Hull Area at v e = inr (0x61, codes "rea", e, refl)
+verb_from Hull Extent at v e = inr (0x65, codes "xtent", e, refl)
+verb_from Hull Hull at v e = inl (tt, refl, e)
+verb_from Hull Join at v e = inr (0x6a, codes "oin", e, refl)
 verb_from Join Select at v e = inr (0x73, codes "elect", e, refl)
 verb_from Join Count at v e = inr (0x63, codes "ount", e, refl)
 verb_from Join Area at v e = inr (0x61, codes "rea", e, refl)
 verb_from Join Extent at v e = inr (0x65, codes "xtent", e, refl)
+verb_from Join Hull at v e = inr (0x68, codes "ull", e, refl)
 verb_from Join Join at v e = inl (tt, refl, e)
 
 when_verb : (x : Verb) → When VerbPart (One x) (λ u. x) (is_letter x)
@@ -74,23 +86,25 @@ verb_begins Select u at v e = (0x73, codes "elect", e, refl)
 verb_begins Count u at v e = (0x63, codes "ount", e, refl)
 verb_begins Area u at v e = (0x61, codes "rea", e, refl)
 verb_begins Extent u at v e = (0x65, codes "xtent", e, refl)
+verb_begins Hull u at v e = (0x68, codes "ull", e, refl)
 verb_begins Join u at v e = (0x6a, codes "oin", e, refl)
 
 abbrev pub is_verb_letter : ℕ → Bool
-is_verb_letter b = (b == 0x73) || ((b == 0x63) || ((b == 0x61) || ((b == 0x65) || (b == 0x6A))))
+is_verb_letter b = (b == 0x73) || ((b == 0x63) || ((b == 0x61) || ((b == 0x65) || ((b == 0x68) || (b == 0x6A)))))
 
 some_verb_begins : Begins is_verb_letter VerbPart
 some_verb_begins Select at v e = (0x73, codes "elect", e, refl)
 some_verb_begins Count at v e = (0x63, codes "ount", e, refl)
 some_verb_begins Area at v e = (0x61, codes "rea", e, refl)
 some_verb_begins Extent at v e = (0x65, codes "xtent", e, refl)
+some_verb_begins Hull at v e = (0x68, codes "ull", e, refl)
 some_verb_begins Join at v e = (0x6a, codes "oin", e, refl)
 
 verb_lives : Lives VerbPart
 verb_lives at = (Join, codes "join", refl)
 
-no_letter : (b : ℕ) → (b == 0x73) ≡ false → (b == 0x63) ≡ false → (b == 0x61) ≡ false → (b == 0x65) ≡ false → (b == 0x6A) ≡ false → is_verb_letter b ≡ false
-no_letter b e f g h k = grind (arith, e, f, g, h, k)
+no_letter : (b : ℕ) → (b == 0x73) ≡ false → (b == 0x63) ≡ false → (b == 0x61) ≡ false → (b == 0x65) ≡ false → (b == 0x68) ≡ false → (b == 0x6A) ≡ false → is_verb_letter b ≡ false
+no_letter b e f g h i k = grind (arith, e, f, g, h, i, k)
 
 module _ (w : List ℕ) where
   pub verb_ends : (x y : Verb) → is_letter x (next w 0) ≡ true → (j : ℕ) → y ≡ x → WordStands w 0 j (verb_text x) → Ends VerbPart w 0 j y
@@ -99,8 +113,8 @@ module _ (w : List ℕ) where
   pub verb_stops : (x : Verb) → is_letter x (next w 0) ≡ true → (n : ℕ) → WordBreaks w 0 n (verb_text x) → Stops VerbPart w 0 n
   verb_stops x here n s = when_stops VerbPart (One x) (λ u. x) (is_letter x) (when_verb x) w 0 here n (word_stops w 0 n (verb_text x) s)
 
-  pub no_verb : (next w 0 == 0x73) ≡ false → (next w 0 == 0x63) ≡ false → (next w 0 == 0x61) ≡ false → (next w 0 == 0x65) ≡ false → (next w 0 == 0x6A) ≡ false → Stops VerbPart w 0 0
-  no_verb e f g h k = none_stops VerbPart is_verb_letter w 0 some_verb_begins verb_lives (omega arith) (no_letter (next w 0) e f g h k)
+  pub no_verb : (next w 0 == 0x73) ≡ false → (next w 0 == 0x63) ≡ false → (next w 0 == 0x61) ≡ false → (next w 0 == 0x65) ≡ false → (next w 0 == 0x68) ≡ false → (next w 0 == 0x6A) ≡ false → Stops VerbPart w 0 0
+  no_verb e f g h i k = none_stops VerbPart is_verb_letter w 0 some_verb_begins verb_lives (omega arith) (no_letter (next w 0) e f g h i k)
 
 -- ---- the faults of a geometry are of one tier, so the first of them has the least offset
 

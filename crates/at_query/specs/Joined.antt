@@ -1,8 +1,9 @@
--- How two extents are joined. Only contracts of private functions cite this.
-use Rattle.std.specs.Prelude.{Option, Some, None}
+-- How two extents and two hulls are joined. Only contracts of private functions cite this.
+use Rattle.std.specs.Prelude.{List, ◌++◌, Option, Some, None}
 use Rattle.std.specs.Int.{int_min, int_max}
 use Rattle.at_geom.specs.declared.positions.Pos.{Pos}
 use Rattle.at_geom.specs.declared.rectangles.Extent.{Extent}
+use Rattle.at_hull.specs.Hulls.{IsHull}
 
 -- the least x and the least y
 abbrev pub lower : Pos → Pos → Pos
@@ -21,3 +22,7 @@ abbrev pub around_both : Option Extent → Option Extent → Option Extent
 around_both None f = f
 around_both (Some e) None = Some e
 around_both (Some e) (Some f) = Some (around e f)
+
+-- of whatever lists these are the hulls, it is the hull of both together
+abbrev pub JoinsHulls : List Pos → List Pos → List Pos → Type 0
+JoinsHulls left right both = (ps qs : List Pos) → IsHull ps left → IsHull qs right → IsHull (ps ++ qs) both

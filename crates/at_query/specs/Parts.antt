@@ -1,12 +1,14 @@
 -- What a list of features adds to the answer to a query, how the parts of neighbouring lists are joined, and the answer that the part of the whole list gives.
-use Rattle.std.specs.Prelude.{◌≡◌, ℕ, ◌%◌, ◌<◌, ◌^◌, ℤ, pos, List, [], ◌∷◌, ◌++◌, map, length}
+use Rattle.std.specs.Prelude.{◌≡◌, ℕ, ◌%◌, ◌<◌, ◌^◌, ℤ, pos, List, [], ◌∷◌, ◌++◌, All, map, length}
 use Rattle.std.specs.Int.{w128, int_wrap}
 use Rattle.std.specs.List.{AllByRecursion}
 use Rattle.at_geom.specs.declared.positions.Pos.{Pos}
 use Rattle.at_geom.specs.declared.shapes.Polygon.{Polygon}
 use Rattle.at_geom.specs.declared.shapes.Shape.{Shape}
+use Rattle.at_geom.specs.Segments.{IsInRange}
 use Rattle.at_geom.specs.Regions.{sum_of, wrapped_area}
 use Rattle.at_geom.specs.Shapes.{positions, extent_of, IsShapeInRange}
+use Rattle.at_hull.specs.Hulls.{IsHull}
 use Rattle.at_query.specs.declared.queries.Verb.{Verb}
 use Rattle.at_query.specs.declared.queries.Verb.TheVariants as verbs
 use Rattle.at_query.specs.declared.queries.Query.{Query}
@@ -15,7 +17,7 @@ use Rattle.at_query.specs.declared.answers.Answer.{Answer}
 use Rattle.at_query.specs.declared.answers.Answer.TheVariants as answers
 use Rattle.at_query.specs.declared.parts.Entry.{Entry}
 use Rattle.at_query.specs.declared.parts.Part.{Part}
-use Rattle.at_query.specs.declared.parts.Part.TheVariants.{Offsets, Count, Area, Spread, Entries}
+use Rattle.at_query.specs.declared.parts.Part.TheVariants.{Offsets, Count, Area, Spread, Entries, Hull}
 use Rattle.at_query.specs.Holding.{Holds}
 use Rattle.at_query.specs.Results.{Keeps, all_positions, all_polygons}
 
@@ -27,25 +29,40 @@ entry_of f = record { at = f.at; shape = f.shape; extent = extent_of (positions 
 abbrev pub wrapped_sum : List Polygon → ℤ
 wrapped_sum polygons = int_wrap w128 (sum_of (map wrapped_area polygons))
 
+-- the hull of the positions, with coordinates in range
+abbrev pub IsHullInRange : List Pos → List Pos → Type 0
+IsHullInRange ps h = IsHull ps h × All IsInRange h
+
 -- what a verb keeps of the features that are left
-abbrev pub kept_of : Verb → List Feature → Part
-kept_of verbs.Select fs = Offsets (map (λ (f : Feature). f.at) fs)
-kept_of verbs.Count fs = Count (length fs % 2 ^ 64)
-kept_of verbs.Area fs = Area (wrapped_sum (all_polygons fs))
-kept_of verbs.Extent fs = Spread (extent_of (all_positions fs))
-kept_of verbs.Join fs = Entries (map entry_of fs)
+abbrev pub IsKeptOf : Verb → List Feature → Part → Type 0
+IsKeptOf verbs.Select fs part = part ≡ Offsets (map (λ (f : Feature). f.at) fs)
+IsKeptOf verbs.Count fs part = part ≡ Count (length fs % 2 ^ 64)
+IsKeptOf verbs.Area fs part = part ≡ Area (wrapped_sum (all_polygons fs))
+IsKeptOf verbs.Extent fs part = part ≡ Spread (extent_of (all_positions fs))
+IsKeptOf verbs.Hull fs part = (h : List Pos) × (part ≡ Hull h) × IsHullInRange (all_positions fs) h
+IsKeptOf verbs.Join fs part = part ≡ Entries (map entry_of fs)
 
 -- the part of the features, for the query
 abbrev pub IsPart : Query → List Feature → Part → Type 0
-IsPart query fs part = (kept : List Feature) × Keeps (Holds query) fs kept × (part ≡ kept_of query.verb kept)
+IsPart query fs part = (kept : List Feature) × Keeps (Holds query) fs kept × IsKeptOf query.verb kept part
 
--- both parts are of one verb
+-- where the part is a path, it is its own hull, with coordinates in range
+abbrev pub IsProper : Part → Type 0
+IsProper (Offsets a) = Unit {0}
+IsProper (Count n) = Unit {0}
+IsProper (Area z) = Unit {0}
+IsProper (Spread e) = Unit {0}
+IsProper (Entries es) = Unit {0}
+IsProper (Hull h) = IsHullInRange h h
+
+-- both parts are of one verb, and proper
 abbrev pub AreAlike : Part → Part → Type 0
 AreAlike (Offsets a) (Offsets b) = Unit {0}
 AreAlike (Count a) (Count b) = Unit {0}
 AreAlike (Area a) (Area b) = Unit {0}
 AreAlike (Spread a) (Spread b) = Unit {0}
 AreAlike (Entries a) (Entries b) = Unit {0}
+AreAlike (Hull a) (Hull b) = IsProper (Hull a) × IsProper (Hull b)
 AreAlike _ _ = ⊥
 
 -- the part is a number or an extent, and no list: it has one size whatever the features are
@@ -55,6 +72,7 @@ IsOfOneSize (Count n) = Unit {0}
 IsOfOneSize (Area z) = Unit {0}
 IsOfOneSize (Spread e) = Unit {0}
 IsOfOneSize (Entries es) = ⊥
+IsOfOneSize (Hull h) = ⊥
 
 -- whatever the lists and the query are of which these are the parts, it is the part of the joined lists
 abbrev pub JoinsParts : Part → Part → Part → Type 0
@@ -67,6 +85,7 @@ IsAnswerable (Count n) = Unit {0}
 IsAnswerable (Area z) = Unit {0}
 IsAnswerable (Spread e) = Unit {0}
 IsAnswerable (Entries es) = ⊥
+IsAnswerable (Hull h) = Unit {0}
 
 -- the answer says what the part holds
 abbrev pub IsSaid : Part → Answer → Type 0
@@ -75,6 +94,7 @@ IsSaid (Count n) answer = answer ≡ answers.Number (pos n)
 IsSaid (Area z) answer = answer ≡ answers.Number z
 IsSaid (Spread e) answer = answer ≡ answers.Spread e
 IsSaid (Entries es) answer = ⊥
+IsSaid (Hull h) answer = answer ≡ answers.Hull h
 
 -- so few features and positions that no count and no area wraps
 pub record AreFew (fs : List Feature) : Type 0 where

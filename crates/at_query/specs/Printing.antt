@@ -5,7 +5,7 @@ use Rattle.at_geom.specs.declared.positions.Pos.{Pos}
 use Rattle.at_geom.specs.declared.rectangles.Extent.{Extent}
 use Rattle.at_query.specs.declared.answers.Pair.{Pair}
 use Rattle.at_query.specs.declared.answers.Answer.{Answer}
-use Rattle.at_query.specs.declared.answers.Answer.TheVariants.{Offsets, Number, Spread, Pairs}
+use Rattle.at_query.specs.declared.answers.Answer.TheVariants.{Offsets, Number, Spread, Pairs, Hull}
 
 -- a line with its end
 abbrev pub ended : List ℕ → List ℕ
@@ -34,8 +34,18 @@ offsets_text ats = flat_map (λ (at : ℕ). ended (decimal at)) ats
 abbrev pub pairs_text : List Pair → List ℕ
 pairs_text ps = flat_map (λ (p : Pair). ended (pair_text p)) ps
 
+-- one position a line
+abbrev pub positions_text : ℕ → List Pos → List ℕ
+positions_text digits ps = flat_map (λ (p : Pos). ended (pos_text digits p)) ps
+
+-- the extreme positions, where there are any
+abbrev pub hull_text : ℕ → List Pos → List ℕ
+hull_text digits [] = ended (codes "empty")
+hull_text digits (p ∷ ps) = positions_text digits (p ∷ ps)
+
 abbrev pub printed : ℕ → Answer → List ℕ
 printed digits (Offsets ats) = offsets_text ats
 printed digits (Number z) = ended (whole_text z)
 printed digits (Spread e) = ended (spread_text digits e)
 printed digits (Pairs ps) = pairs_text ps
+printed digits (Hull ps) = hull_text digits ps

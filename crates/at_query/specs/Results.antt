@@ -4,13 +4,14 @@ use Rattle.at_geom.specs.declared.positions.Pos.{Pos}
 use Rattle.at_geom.specs.declared.shapes.Polygon.{Polygon}
 use Rattle.at_geom.specs.Regions.{doubled_area, sum_of}
 use Rattle.at_geom.specs.Shapes.{positions, extent_of, Meet}
+use Rattle.at_hull.specs.Hulls.{IsHull}
 use Rattle.at_query.specs.declared.queries.Verb.{Verb}
 use Rattle.at_query.specs.declared.queries.Verb.TheVariants as verbs
 use Rattle.at_query.specs.declared.queries.Query.{Query}
 use Rattle.at_query.specs.declared.features.Feature.{Feature}
 use Rattle.at_query.specs.declared.answers.Pair.{Pair}
 use Rattle.at_query.specs.declared.answers.Answer.{Answer}
-use Rattle.at_query.specs.declared.answers.Answer.TheVariants.{Offsets, Number, Spread, Pairs}
+use Rattle.at_query.specs.declared.answers.Answer.TheVariants.{Offsets, Number, Spread, Pairs, Hull}
 use Rattle.at_query.specs.Holding.{Holds}
 
 -- ys are the elements of xs that have the property, in order
@@ -25,16 +26,17 @@ abbrev pub all_polygons : List Feature → List Polygon
 all_polygons fs = flat_map (λ (f : Feature). f.shape.polygons) fs
 
 -- what a verb asks of the features that are left; a join asks for pairs, which IsJoined tells
-abbrev pub asked_of : Verb → List Feature → Answer
-asked_of verbs.Select fs = Offsets (map (λ (f : Feature). f.at) fs)
-asked_of verbs.Count fs = Number (pos (length fs))
-asked_of verbs.Area fs = Number (sum_of (map doubled_area (all_polygons fs)))
-asked_of verbs.Extent fs = Spread (extent_of (all_positions fs))
-asked_of verbs.Join fs = Pairs []
+abbrev pub IsAskedOf : Verb → List Feature → Answer → Type 0
+IsAskedOf verbs.Select fs answer = answer ≡ Offsets (map (λ (f : Feature). f.at) fs)
+IsAskedOf verbs.Count fs answer = answer ≡ Number (pos (length fs))
+IsAskedOf verbs.Area fs answer = answer ≡ Number (sum_of (map doubled_area (all_polygons fs)))
+IsAskedOf verbs.Extent fs answer = answer ≡ Spread (extent_of (all_positions fs))
+IsAskedOf verbs.Hull fs answer = (h : List Pos) × (answer ≡ Hull h) × IsHull (all_positions fs) h
+IsAskedOf verbs.Join fs answer = answer ≡ Pairs []
 
 -- the answer to the query over the features
 abbrev pub IsResult : Query → List Feature → Answer → Type 0
-IsResult query fs answer = (kept : List Feature) × Keeps (Holds query) fs kept × (answer ≡ asked_of query.verb kept)
+IsResult query fs answer = (kept : List Feature) × Keeps (Holds query) fs kept × IsAskedOf query.verb kept answer
 
 -- all pairs, in order of the first list, then the second
 abbrev pub pairs_of : List Feature → List Feature → List (Feature × Feature)

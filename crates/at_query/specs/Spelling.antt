@@ -36,6 +36,7 @@ verb_text verbs.Select = codes "select"
 verb_text verbs.Count = codes "count"
 verb_text verbs.Area = codes "area"
 verb_text verbs.Extent = codes "extent"
+verb_text verbs.Hull = codes "hull"
 verb_text verbs.Join = codes "join"
 
 -- a number with the bytes behind it

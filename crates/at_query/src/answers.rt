@@ -1,6 +1,6 @@
 ghost use Rattle.std.specs.Prelude.{◌≡◌};
 
-use at_geom::Extent;
+use at_geom::{Extent, Path};
 use std::marker::Model;
 
 /// A list of offsets.
@@ -96,4 +96,6 @@ pub enum Answer {
     Spread(Option<Extent>),
     /// The pairs of features that meet, in order of the first list, then the second.
     Pairs(Pairs),
+    /// The extreme positions of the features, counterclockwise from the lowest.
+    Hull(Path),
 }

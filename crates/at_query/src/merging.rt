@@ -1,10 +1,11 @@
 ghost use Rattle.std.specs.Prelude.{◌≡◌, ◌++◌, OnOk, IfOk, IsOk};
-ghost use Rattle.at_query.specs.Parts.{AreAlike, IsOfOneSize, JoinsParts};
-ghost use Rattle.at_query.specs.Joined.{lower, upper, around, around_both};
+ghost use Rattle.at_query.specs.Parts.{AreAlike, IsOfOneSize, IsProper, IsHullInRange, JoinsParts};
+ghost use Rattle.at_query.specs.Joined.{lower, upper, around, around_both, JoinsHulls};
 
 use crate::answers::Offsets;
 use crate::parts::{Entries, Part};
-use at_geom::{Extent, Pos};
+use at_geom::{Extent, Path, Pos};
+use at_hull::{covers_all, hull_join};
 use at_text::Memory;
 
 /// The offsets of both lists; the left one's memory serves on.
@@ -68,12 +69,30 @@ fn joined_spread(left: Option<Extent>, right: Option<Extent>) -> Option<Extent>
     }
 }
 
+/// The hull of both lists. Where the right one's positions lie within the left hull, that is the hull, and no memory is
+/// taken.
+fn joined_hulls(left: Path, right: Path) -> Result<Path, Memory>
+    requires left { IsHullInRange left left }
+    requires right { IsHullInRange right right }
+    ensures joins { IfOk result (JoinsHulls left right) }
+    ensures own { IfOk result (λ h. IsHullInRange h h) }
+{
+    if covers_all(&left, &right) {
+        return Ok(left);
+    }
+    let items = right.into_vec();
+    let alloc = *items.allocator();
+    hull_join(alloc, &left, &Path::from_vec(items))
+}
+
 /// The part of two neighbouring lists of features, joined. What the parts hold is moved: the right one's items are
-/// put behind the left one's, in steps that grow with the right one's count alone. Both parts are of one query. Counts,
-/// areas and extents are joined without memory.
+/// put behind the left one's, in steps that grow with the right one's count alone; of two hulls the left one is sorted
+/// again only where the right one has positions outside it. Both parts are of one query. Counts, areas and extents are
+/// joined without memory.
 pub fn part_merge(left: Part, right: Part) -> Result<Part, Memory>
     requires { AreAlike left right }
     ensures joined { IfOk result (JoinsParts left right) }
+    ensures proper { IfOk result IsProper }
     ensures kept { IsOfOneSize left → IsOk result }
 {
     match (left, right) {
@@ -82,6 +101,7 @@ pub fn part_merge(left: Part, right: Part) -> Result<Part, Memory>
         (Part::Area(a), Part::Area(b)) => Ok(Part::Area(a.wrapping_add(b))),
         (Part::Spread(a), Part::Spread(b)) => Ok(Part::Spread(joined_spread(a, b))),
         (Part::Entries(a), Part::Entries(b)) => Ok(Part::Entries(joined_entries(a, b)?)),
+        (Part::Hull(a), Part::Hull(b)) => Ok(Part::Hull(joined_hulls(a, b)?)),
         _ => unreachable!(),
     }
 }

@@ -1,7 +1,7 @@
 ghost use Rattle.std.specs.Prelude.{◌≡◌};
 
 use crate::answers::Offsets;
-use at_geom::{Extent, Shape};
+use at_geom::{Extent, Path, Shape};
 use std::marker::Model;
 
 /// What a join keeps of a feature: its offset, its shape and the shape's extent.
@@ -64,4 +64,6 @@ pub enum Part {
     Spread(Option<Extent>),
     /// For `join`: the features themselves.
     Entries(Entries),
+    /// For `hull`: the convex hull of all their positions.
+    Hull(Path),
 }

@@ -1,5 +1,5 @@
 ghost use Rattle.std.specs.Prelude.{◌≡◌, ◌∷◌, ◌++◌, OnOk, IfOk, string_bytes, decimal};
-ghost use Rattle.at_query.specs.Printing.{ended, whole_text, pos_text, spread_text, printed, offsets_text, pairs_text};
+ghost use Rattle.at_query.specs.Printing.{ended, whole_text, pos_text, spread_text, printed, offsets_text, pairs_text, positions_text, hull_text};
 
 use crate::answers::{Answer, Pair};
 use at_fixed::write_fixed;
@@ -86,6 +86,33 @@ fn push_spread(
     Ok(())
 }
 
+/// Puts positions behind a text, one a line.
+fn push_positions(
+    alloc: Global,
+    text: &mut String,
+    positions: &[Pos],
+    digits: u8,
+) -> Result<(), Memory>
+    ensures { OnOk result (string_bytes text.new ≡ string_bytes text.old ++ positions_text digits positions.now) }
+{
+    for position in positions {
+        push_position(alloc, text, *position, digits)?;
+        text.push_str("\n")?;
+    }
+    Ok(())
+}
+
+/// Puts extreme positions behind a text, one a line, or `empty`.
+fn push_hull(alloc: Global, text: &mut String, hull: &[Pos], digits: u8) -> Result<(), Memory>
+    ensures { OnOk result (string_bytes text.new ≡ string_bytes text.old ++ hull_text digits hull.now) }
+{
+    if hull.is_empty() {
+        text.push_str("empty\n")?;
+        return Ok(());
+    }
+    push_positions(alloc, text, hull, digits)
+}
+
 /// The printed text of an answer, with coordinates in units of 10^-digits. One text grows; no line takes memory of
 /// its own.
 pub fn answer_text(alloc: Global, answer: &Answer, digits: u8) -> Result<String, Memory>
@@ -97,6 +124,7 @@ pub fn answer_text(alloc: Global, answer: &Answer, digits: u8) -> Result<String,
         Answer::Number(number) => push_number(&mut text, *number)?,
         Answer::Spread(spread) => push_spread(alloc, &mut text, *spread, digits)?,
         Answer::Pairs(pairs) => push_pairs(&mut text, pairs.as_slice())?,
+        Answer::Hull(hull) => push_hull(alloc, &mut text, hull.as_slice(), digits)?,
     }
     Ok(text)
 }

@@ -16,6 +16,8 @@ pub enum Verb {
     Area,
     /// The least extent round them.
     Extent,
+    /// The convex hull of all their positions.
+    Hull,
     /// With which features of a second list they meet.
     Join,
 }

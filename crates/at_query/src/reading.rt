@@ -91,6 +91,9 @@ fn read_verb(text: &[u8]) -> Result<VerbRead, Halt>
     if stands(text, 0, b'e') {
         return read_word(text, b"extent", Verb::Extent);
     }
+    if stands(text, 0, b'h') {
+        return read_word(text, b"hull", Verb::Hull);
+    }
     if stands(text, 0, b'j') {
         return read_word(text, b"join", Verb::Join);
     }

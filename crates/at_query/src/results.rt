@@ -1,8 +1,8 @@
-ghost use Rattle.std.specs.Prelude.{◌≡◌, List, [], ◌∷◌, IfOk};
-ghost use Rattle.at_geom.specs.Shapes.{ArePolygonsInRange};
+ghost use Rattle.std.specs.Prelude.{◌≡◌, List, [], ◌∷◌, ◌++◌, OnOk, IfOk};
+ghost use Rattle.at_geom.specs.Shapes.{ArePolygonsInRange, IsShapeInRange, positions, joined, positions_of_polygons};
 ghost use Rattle.at_query.specs.Ranges.{IsQueryInRange, IsFeatureInRange, AreFeaturesInRange};
 ghost use Rattle.at_query.specs.Results.{IsResult};
-ghost use Rattle.at_query.specs.Parts.{wrapped_sum, kept_of, entry_of as the_entry, IsPart, IsAnswerable, IsSaid, AreFew};
+ghost use Rattle.at_query.specs.Parts.{wrapped_sum, IsKeptOf, entry_of as the_entry, IsHullInRange, IsPart, IsProper, IsAnswerable, IsSaid, AreFew};
 ghost use Rattle.at_query.specs.declared.queries.Query.{Query};
 ghost use Rattle.at_query.specs.declared.features.Feature.{Feature};
 
@@ -11,26 +11,29 @@ use crate::features::Feature;
 use crate::holding::holds;
 use crate::parts::{Entries, Entry, Part};
 use crate::queries::{Query, Verb};
-use at_geom::{Polygon, doubled_area, extent};
+use at_geom::{Path, Polygon, Pos, Shape, doubled_area, extent};
+use at_hull::hull;
 use at_text::Memory;
 use std::alloc::Global;
 
 /// The part of no feature. It takes no memory.
 pub fn part_none(alloc: Global, query: &Query) -> Part
-    ensures { IsPart query.now [] result }
+    ensures part { IsPart query.now [] result }
+    ensures proper { IsProper result }
 {
     nothing_kept(alloc, query.verb)
 }
 
 /// What a verb keeps where no feature is left.
 fn nothing_kept(alloc: Global, verb: Verb) -> Part
-    ensures { result ≡ kept_of verb [] }
+    ensures { IsKeptOf verb [] result }
 {
     match verb {
         Verb::Select => Part::Offsets(Offsets::from_vec(Vec::new(alloc))),
         Verb::Count => Part::Count(0),
         Verb::Area => Part::Area(0),
         Verb::Extent => Part::Spread(None),
+        Verb::Hull => Part::Hull(Path::from_vec(Vec::new(alloc))),
         Verb::Join => Part::Entries(Entries::from_vec(Vec::new(alloc))),
     }
 }
@@ -70,16 +73,64 @@ fn entry_of(alloc: Global, feature: Feature) -> Result<Entries, Memory>
     Ok(Entries::from_vec(items))
 }
 
+/// Puts the positions of paths behind others.
+fn push_paths(items: &mut Vec<Pos>, paths: &[Path]) -> Result<(), Memory>
+    ensures { OnOk result (items.new.items ≡ items.old.items ++ joined paths.now) }
+{
+    for path in paths {
+        items.extend_from_slice(path.as_slice())?;
+    }
+    Ok(())
+}
+
+/// Puts the positions of polygons behind others.
+fn push_polygons(items: &mut Vec<Pos>, polygons: &[Polygon]) -> Result<(), Memory>
+    ensures { OnOk result (items.new.items ≡ items.old.items ++ positions_of_polygons polygons.now) }
+{
+    for polygon in polygons {
+        push_paths(items, polygon.rings.as_slice())?;
+    }
+    Ok(())
+}
+
+/// All positions of a shape. The memory of its points serves on.
+fn positions_of(shape: Shape) -> Result<Path, Memory>
+    ensures { IfOk result (λ path. path ≡ positions shape) }
+{
+    let Shape {
+        points,
+        lines,
+        polygons,
+    } = shape;
+    let mut items = points.into_vec();
+    push_paths(&mut items, lines.as_slice())?;
+    push_polygons(&mut items, polygons.as_slice())?;
+    Ok(Path::from_vec(items))
+}
+
+/// The hull of the positions of a shape. A point alone is its own, and takes no memory.
+fn hull_of(alloc: Global, shape: Shape) -> Result<Path, Memory>
+    requires { IsShapeInRange shape }
+    ensures { IfOk result (IsHullInRange (positions shape)) }
+{
+    let path = positions_of(shape)?;
+    if path.as_slice().len() < 2 {
+        return Ok(path);
+    }
+    hull(alloc, &path)
+}
+
 /// What a verb keeps of one feature.
 fn one_kept(alloc: Global, verb: Verb, feature: Feature) -> Result<Part, Memory>
     requires { IsFeatureInRange feature }
-    ensures { IfOk result (λ part. part ≡ kept_of verb (feature ∷ [])) }
+    ensures { IfOk result (IsKeptOf verb (feature ∷ [])) }
 {
     match verb {
         Verb::Select => Ok(Part::Offsets(offset_of(alloc, feature)?)),
         Verb::Count => Ok(Part::Count(1)),
         Verb::Area => Ok(Part::Area(area_of(feature.shape.polygons.as_slice()))),
         Verb::Extent => Ok(Part::Spread(extent(&feature.shape))),
+        Verb::Hull => Ok(Part::Hull(hull_of(alloc, feature.shape)?)),
         Verb::Join => Ok(Part::Entries(entry_of(alloc, feature)?)),
     }
 }
@@ -88,7 +139,8 @@ fn one_kept(alloc: Global, verb: Verb, feature: Feature) -> Result<Part, Memory>
 pub fn part_of(alloc: Global, query: &Query, feature: Feature) -> Result<Part, Memory>
     requires query_in_range { IsQueryInRange query.now }
     requires feature_in_range { IsFeatureInRange feature }
-    ensures { IfOk result (IsPart query.now (feature ∷ [])) }
+    ensures part { IfOk result (IsPart query.now (feature ∷ [])) }
+    ensures proper { IfOk result IsProper }
 {
     if holds(query, &feature) {
         one_kept(alloc, query.verb, feature)
@@ -112,5 +164,6 @@ pub fn answer_of(part: Part) -> Answer
         Part::Area(area) => Answer::Number(area),
         Part::Spread(spread) => Answer::Spread(spread),
         Part::Entries(_) => unreachable!(),
+        Part::Hull(hull) => Answer::Hull(hull),
     }
 }

@@ -2,7 +2,7 @@ ghost use Rattle.std.specs.Prelude.{IfOk, IfSome, All, IsTrue};
 ghost use Rattle.at_geom.specs.Segments.{IsInRange};
 ghost use Rattle.at_geom.specs.Shapes.{ArePathsInRange, ArePolygonsInRange, IsShapeInRange};
 ghost use Rattle.at_query.specs.Ranges.{IsTestInRange, IsQueryInRange, IsFeatureInRange};
-ghost use Rattle.at_query.specs.Parts.{AreAlike, IsAnswerable};
+ghost use Rattle.at_query.specs.Parts.{AreAlike, IsProper};
 
 mod lines;
 
@@ -114,27 +114,30 @@ static AROUND_BOX: [Outline; 10] = [
 ];
 
 /// What each verb prints of those shapes with no test, with one digit behind the point.
-const OF_ALL: [(Verb, &str); 4] = [
+const OF_ALL: [(Verb, &str); 5] = [
     (Verb::Select, "0\n9\n21\n32\n50\n77\n99\n120\n150\n200\n"),
     (Verb::Count, "10\n"),
     (Verb::Area, "3046\n"),
     (Verb::Extent, "-0.9 -0.9 3.0 3.0\n"),
+    (Verb::Hull, "-0.9 -0.9\n3.0 -0.9\n3.0 3.0\n-0.9 3.0\n"),
 ];
 
 /// The same of those in the box.
-const OF_INNER: [(Verb, &str); 4] = [
+const OF_INNER: [(Verb, &str); 5] = [
     (Verb::Select, "0\n9\n50\n120\n"),
     (Verb::Count, "4\n"),
     (Verb::Area, "4\n"),
     (Verb::Extent, "0.1 0.1 1.0 1.0\n"),
+    (Verb::Hull, "0.1 0.1\n0.4 0.2\n1.0 1.0\n"),
 ];
 
 /// The same of those in a box that none is in.
-const OF_NONE: [(Verb, &str); 4] = [
+const OF_NONE: [(Verb, &str); 5] = [
     (Verb::Select, ""),
     (Verb::Count, "0\n"),
     (Verb::Area, "0\n"),
     (Verb::Extent, "empty\n"),
+    (Verb::Hull, "empty\n"),
 ];
 
 fn place(x: i32, y: i32) -> Pos
@@ -251,7 +254,7 @@ fn box_shape(alloc: Global) -> Result<Shape, AllocError>
 }
 
 fn are_alike(left: &Part, right: &Part) -> bool
-    ensures { IsTrue result → AreAlike left.now right.now }
+    ensures { IsTrue result → IsProper left.now → IsProper right.now → AreAlike left.now right.now }
 {
     match (left, right) {
         (Part::Offsets(_), Part::Offsets(_)) => true,
@@ -259,11 +262,16 @@ fn are_alike(left: &Part, right: &Part) -> bool
         (Part::Area(_), Part::Area(_)) => true,
         (Part::Spread(_), Part::Spread(_)) => true,
         (Part::Entries(_), Part::Entries(_)) => true,
+        (Part::Hull(_), Part::Hull(_)) => true,
         _ => false,
     }
 }
 
-fn merged(left: Part, right: Part) -> Result<Part, Fail> {
+fn merged(left: Part, right: Part) -> Result<Part, Fail>
+    requires left { IsProper left }
+    requires right { IsProper right }
+    ensures { IfOk result IsProper }
+{
     if !are_alike(&left, &right) {
         return Err(Fail::from("parts of two verbs"));
     }
@@ -415,6 +423,11 @@ fn printed_answers(rt: HostRuntime) -> Result<(), Fail> {
         (
             Answer::Pairs(Pairs::from_vec(pairs)),
             "0 7\n12 4000000000\n",
+        ),
+        (Answer::Hull(path(rt.alloc(), &[])?), "empty\n"),
+        (
+            Answer::Hull(path(rt.alloc(), &[(-15_000_000, 5), (0, 7)])?),
+            "-1.5000000 0.0000005\n0.0000000 0.0000007\n",
         ),
     ];
     for (answer, expected) in rows {

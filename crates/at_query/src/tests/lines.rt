@@ -7,7 +7,7 @@ use super::*;
 use at_fixed::Coords;
 
 /// Lines, and the offset at which each stops being a query.
-static STOPS: [(&str, u32); 78] = [
+static STOPS: [(&str, u32); 82] = [
     ("", 0),
     ("x", 0),
     ("Select", 0),
@@ -25,6 +25,10 @@ static STOPS: [(&str, u32); 78] = [
     ("area where x", 11),
     ("area where  in box(0 0,1 1)", 11),
     ("extents", 6),
+    ("Hull", 0),
+    ("hul", 3),
+    ("hulls", 4),
+    ("hull ", 5),
     ("joi", 3),
     ("join where in", 13),
     ("join where in ", 14),
@@ -125,11 +129,12 @@ static WRONG: [(&str, u32); 20] = [
 ];
 
 /// Queries, and how many tests each has.
-static RIGHT: [(&str, usize); 12] = [
+static RIGHT: [(&str, usize); 13] = [
     ("select", 0),
     ("count", 0),
     ("area", 0),
     ("extent", 0),
+    ("hull", 0),
     ("join", 0),
     ("join where in box(1 1,1 1)", 1),
     ("count where meets box(-1.5 2e0,+3. .5e1)", 1),

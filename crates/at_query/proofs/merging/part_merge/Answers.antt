@@ -2,7 +2,7 @@ use Rattle.std.specs.Prelude.{FitsSigned}
 use Rattle.std.specs.Int.{w128}
 use Rattle.std.proofs.Common.{rules, refl}
 use Rattle.std.proofs.lemmas.Int.{wrapping_add_is}
-use Rattle.at_query.proofs.Joining.{joins_offsets, joins_counts, joins_areas, joins_spreads, joins_entries}
+use Rattle.at_query.proofs.Joining.{joins_offsets, joins_counts, joins_areas, joins_spreads, joins_entries, joins_hulls}
 use Rattle.at_query.proofs.merging.part_merge.Goals as goal
 
 pub returns-in_ok-joined_offsets-in-Offsets-Offsets-clause-joined : goal.returns-in_ok-joined_offsets-in-Offsets-Offsets-clause-joined
@@ -22,3 +22,6 @@ returns-in-Spread-Spread-clause-joined c = joins_spreads c.args.left c.args.righ
 
 pub returns-in_ok-joined_entries-in-Entries-Entries-clause-joined : goal.returns-in_ok-joined_entries-in-Entries-Entries-clause-joined
 returns-in_ok-joined_entries-in-Entries-Entries-clause-joined c = joins_entries c.args.left c.args.right _ _ _ c.in-Entries-Entries.is-0 c.in-Entries-Entries.is-1 c.in_ok-joined_entries-in-Entries-Entries.ensures
+
+pub returns-in_ok-joined_hulls-in-Hull-Hull-clause-joined : goal.returns-in_ok-joined_hulls-in-Hull-Hull-clause-joined
+returns-in_ok-joined_hulls-in-Hull-Hull-clause-joined c = joins_hulls c.args.left c.args.right _ _ _ c.in-Hull-Hull.is-0 c.in-Hull-Hull.is-1 c.in_ok-joined_hulls-in-Hull-Hull.ensures.joins c.in_ok-joined_hulls-in-Hull-Hull.ensures.own.1
