@@ -3,15 +3,15 @@ use Rattle.std.proofs.Common.{◌≡◌, Bool, true, false, ◌&&◌, ◌≤ℤ�
 use Rattle.std.specs.Prelude.{int_le, IsTrue, All}
 use Rattle.std.specs.List.{AllByRecursion}
 use Rattle.std.proofs.lemmas.Int.{ints, clamps}
-use Rattle.std.proofs.lemmas.List.Elements.{All-append, recursion_from_All, All-from_recursion}
+use Rattle.std.proofs.lemmas.List.Elements.{recursion_from_All}
 use Rattle.at_geom.specs.declared.positions.Pos.{Pos}
-use Rattle.at_geom.specs.declared.shapes.Polygon.{Polygon}
 use Rattle.at_geom.specs.declared.shapes.Shape.{Shape}
 use Rattle.at_geom.specs.declared.rectangles.Extent.{Extent}
 use Rattle.at_geom.specs.Segments.{IsInRange}
-use Rattle.at_geom.specs.Shapes.{IsShapeInRange, joined, positions, positions_of_polygons, extent_of, widened, is_within, encloses}
+use Rattle.at_geom.specs.Shapes.{IsShapeInRange, positions, extent_of, widened, is_within, encloses}
 use Rattle.at_geom.proofs.Comparisons.{le_true, le_from}
 use Rattle.at_geom.proofs.Found.{left_true, right_true, IsInside, sides, from_sides}
+use Rattle.at_query.proofs.Hulls.{positions_in_range}
 use Rattle.at_query.specs.Joined.{upper, around, around_both}
 use Rattle.at_join.specs.Boxes.{touch_of, common_of, is_here_of, IsWide, IsSpan}
 
@@ -154,19 +154,8 @@ spans (p ∷ ps) x r e =
     let same : widened p (extent_of ps) ≡ x = cc in
     subst IsSpan same (widened_span p (extent_of ps) r.0 (λ y f. spans ps y r.1 f))
 
-all_joined : (paths : List (List Pos)) → AllByRecursion (All IsInRange) paths → All IsInRange (joined paths)
-all_joined [] h = All-from_recursion IsInRange [] tt
-all_joined (path ∷ paths) h = All-append IsInRange path (joined paths) h.0 (all_joined paths h.1)
-
-all_polygons : (polygons : List Polygon) → AllByRecursion (λ (polygon : Polygon). All (All IsInRange) polygon.rings) polygons → All IsInRange (positions_of_polygons polygons)
-all_polygons [] h = All-from_recursion IsInRange [] tt
-all_polygons (polygon ∷ polygons) h = All-append IsInRange (joined polygon.rings) (positions_of_polygons polygons) (all_joined polygon.rings (recursion_from_All (All IsInRange) polygon.rings h.0)) (all_polygons polygons h.1)
-
 pub shape_span : (s : Shape) (x : Extent) → IsShapeInRange s → extent_of (positions s) ≡ Some x → IsSpan x
-shape_span s x r e = spans (positions s) x (recursion_from_All IsInRange (positions s)
-    (All-append IsInRange (s.points ++ joined s.lines) (positions_of_polygons s.polygons)
-    (All-append IsInRange s.points (joined s.lines) r.points (all_joined s.lines (recursion_from_All (All IsInRange) s.lines r.lines)))
-    (all_polygons s.polygons (recursion_from_All (λ (polygon : Polygon). All (All IsInRange) polygon.rings) s.polygons r.polygons)))) e
+shape_span s x r e = spans (positions s) x (recursion_from_All IsInRange (positions s) (positions_in_range s r)) e
 
 -- ---- the extent round two, where there are any
 
