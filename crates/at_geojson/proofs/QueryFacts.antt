@@ -19,7 +19,8 @@ use Rattle.at_query.specs.declared.parts.Part.{Part}
 use Rattle.at_query.specs.declared.parts.Part.TheVariants.{Offsets, Area, Spread, Entries}
 use Rattle.at_query.specs.declared.queries.Verb.{Verb}
 use Rattle.at_query.specs.declared.queries.Verb.TheVariants as verbs
-use Rattle.at_query.specs.Parts.{wrapped_sum, kept_of, IsPart}
+use Rattle.at_query.specs.Parts.{wrapped_sum, IsHullInRange, IsKeptOf, IsPart}
+use Rattle.at_query.specs.Results.{all_positions}
 
 abbrev entry_at : ℕ → Shape → Entry
 entry_at at shape = record { at = at; shape = shape; extent = extent_of (positions shape) }
@@ -102,13 +103,17 @@ module _ (query : Query) (f g : Feature) (at_same : g.at ≡ f.at) (shape_kept :
   shape_told : tells_shapes query.verb ≡ true → g.shape ≡ f.shape
   shape_told e = shape_kept ∙ kept_whole (needs_shapes query) f.shape (or_here (tells_shapes query.verb) (list_any looks_at_shapes query.tests) e)
 
-  one_kept : (v : Verb) → (tells_shapes v ≡ true → g.shape ≡ f.shape) → kept_of v (g ∷ []) ≡ kept_of v (f ∷ [])
-  one_kept verbs.Select h = ap (λ z. Offsets (z ∷ [])) at_same
-  one_kept verbs.Count h = refl
-  one_kept verbs.Area h = ap (λ z. Area (wrapped_sum z)) (flat_map-cons (λ (x : Feature). x.shape.polygons) g [] ∙ (ap (λ (z : Shape). z.polygons ++ []) (h refl) ∙ sym (flat_map-cons (λ (x : Feature). x.shape.polygons) f [])))
-  one_kept verbs.Extent h = ap (λ z. Spread (extent_of z)) (flat_map-cons (λ (x : Feature). positions x.shape) g [] ∙ (ap (λ (z : Shape). positions z ++ []) (h refl) ∙ sym (flat_map-cons (λ (x : Feature). positions x.shape) f [])))
-  one_kept verbs.Join h = ap (λ z. Entries (entry_at z g.shape ∷ [])) at_same ∙ ap (λ z. Entries (entry_at f.at z ∷ [])) (h refl)
+  same_positions : g.shape ≡ f.shape → all_positions (g ∷ []) ≡ all_positions (f ∷ [])
+  same_positions e = flat_map-cons (λ (x : Feature). positions x.shape) g [] ∙ (ap (λ (z : Shape). positions z ++ []) e ∙ sym (flat_map-cons (λ (x : Feature). positions x.shape) f []))
+
+  one_kept : (v : Verb) (part : Part) → (tells_shapes v ≡ true → g.shape ≡ f.shape) → IsKeptOf v (g ∷ []) part → IsKeptOf v (f ∷ []) part
+  one_kept verbs.Select part h p = p ∙ ap (λ z. Offsets (z ∷ [])) at_same
+  one_kept verbs.Count part h p = p
+  one_kept verbs.Area part h p = p ∙ ap (λ z. Area (wrapped_sum z)) (flat_map-cons (λ (x : Feature). x.shape.polygons) g [] ∙ (ap (λ (z : Shape). z.polygons ++ []) (h refl) ∙ sym (flat_map-cons (λ (x : Feature). x.shape.polygons) f [])))
+  one_kept verbs.Extent part h p = p ∙ ap (λ z. Spread (extent_of z)) (same_positions (h refl))
+  one_kept verbs.Hull part h (hull, e, k) = (hull, e, subst (λ z. IsHullInRange z hull) (same_positions (h refl)) k)
+  one_kept verbs.Join part h p = p ∙ (ap (λ z. Entries (entry_at z g.shape ∷ [])) at_same ∙ ap (λ z. Entries (entry_at f.at z ∷ [])) (h refl))
 
   pub same_part : (part : Part) → IsPart query (g ∷ []) part → IsPart query (f ∷ []) part
-  same_part part (kept, inl (h, (zs, e, k)), p) = (f ∷ [], inl (holds_both.0 h, ([], refl, refl)), p ∙ (ap (kept_of query.verb) (e ∙ ap (λ z. g ∷ z) k) ∙ one_kept query.verb shape_told))
-  same_part part (kept, inr (n, k), p) = ([], inr (λ h. n (holds_both.1 h), refl), p ∙ ap (kept_of query.verb) k)
+  same_part part (kept, inl (h, (zs, e, k)), p) = (f ∷ [], inl (holds_both.0 h, ([], refl, refl)), one_kept query.verb part shape_told (subst (λ l. IsKeptOf query.verb l part) (e ∙ ap (λ z. g ∷ z) k) p))
+  same_part part (kept, inr (n, k), p) = ([], inr (λ h. n (holds_both.1 h), refl), subst (λ l. IsKeptOf query.verb l part) k p)

@@ -31,6 +31,7 @@ tells_shapes verbs.Select = false
 tells_shapes verbs.Count = false
 tells_shapes verbs.Area = true
 tells_shapes verbs.Extent = true
+tells_shapes verbs.Hull = true
 tells_shapes verbs.Join = true
 
 -- the verb or a test looks at shapes

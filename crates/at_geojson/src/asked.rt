@@ -30,7 +30,7 @@ fn tells_shapes(verb: Verb) -> bool
 {
     match verb {
         Verb::Select | Verb::Count => false,
-        Verb::Area | Verb::Extent | Verb::Join => true,
+        Verb::Area | Verb::Extent | Verb::Hull | Verb::Join => true,
     }
 }
 

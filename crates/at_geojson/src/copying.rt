@@ -93,6 +93,7 @@ fn copy_part(alloc: Global, part: &Part) -> Result<Part, Memory>
             alloc,
             entries.as_slice(),
         )?))),
+        Part::Hull(hull) => Ok(Part::Hull(Path::from_vec(copy_positions(alloc, hull.as_slice())?))),
     }
 }
 
