@@ -30,6 +30,7 @@ pub mod Rows
 pub mod TokenReads
 pub mod TokenMarks
 pub mod Items
+pub mod Refusals
 pub mod Ahead
 pub mod Passed
 pub mod Neighbours

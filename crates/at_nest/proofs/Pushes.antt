@@ -103,7 +103,7 @@ opens_level Brace q t h e = opens_brace q t h e
 same_length : (i k : ℕ) (x y : List ℕ) → i ≡ k + length x → i ≡ k + length y → length x ≡ length y
 same_length i k x y e f = omega (arith, e, f)
 
-halts_after : (s l t : State) (x : List ℕ) (b : ℕ) → go s x ≡ Some l → step l b ≡ None → go s (x ++ (b ∷ [])) ≡ Some t → ⊥
+pub halts_after : (s l t : State) (x : List ℕ) (b : ℕ) → go s x ≡ Some l → step l b ≡ None → go s (x ++ (b ∷ [])) ≡ Some t → ⊥
 halts_after s l t x b e f g = let (q, h, k) = run_split s t x (b ∷ []) g in
     let same : q ≡ l = same_Some q l (sym h ∙ e) in
     let none : step q b ≡ None = ap (λ z. step z b) same ∙ f in
@@ -176,7 +176,7 @@ moves_append [] x md n k e f = ap (option_and_then (λ z. Some z)) (ap (λ z. mo
 moves_append (y ∷ xs) x md n k e f = option_and_then_some (λ z. moves z xs) (move md (mark_kind y)) n e (λ v g h. ap (option_and_then (λ z. moves z (xs ++ (x ∷ [])))) g ∙ moves_append xs x v n k h f)
 
 -- the pieces of a level, with a mark more
-level_more : {X : Type 0} (outer : List (Piece X)) (ls : List (Level X)) (b : Bracket) (i : ℕ) (xs : List (Mark X)) (ys : List (Piece X)) → (outer ++ (opened ls ++ (opens b i ∷ marks xs))) ++ ys ≡ (outer ++ opened ls) ++ (opens b i ∷ (marks xs ++ ys))
+pub level_more : {X : Type 0} (outer : List (Piece X)) (ls : List (Level X)) (b : Bracket) (i : ℕ) (xs : List (Mark X)) (ys : List (Piece X)) → (outer ++ (opened ls ++ (opens b i ∷ marks xs))) ++ ys ≡ (outer ++ opened ls) ++ (opens b i ∷ (marks xs ++ ys))
 level_more outer ls b i xs ys = ap (λ z. z ++ ys) (sym (append_assoc outer (opened ls) (opens b i ∷ marks xs))) ∙ append_assoc (outer ++ opened ls) (opens b i ∷ marks xs) ys
 
 level_with : {X : Type 0} (outer : List (Piece X)) (ls : List (Level X)) (b : Bracket) (i : ℕ) (xs : List (Mark X)) (x : Mark X)
@@ -187,7 +187,7 @@ outer_with : {X : Type 0} (outer : List (Piece X)) (p : Piece X) → (outer ++ [
 outer_with outer p = ap (λ z. z ++ (p ∷ [])) (append-nil outer) ∙ sym (append-nil (outer ++ (p ∷ [])))
 
 -- a stop before the piece p
-stop_before : {X : Type 0} (m : Meaning X) (at : ℕ) (w : List ℕ) (f : Form X) (p : Piece X) → AreLevels f.levels → Formed m at w (pieces_of f ++ (p ∷ [])) → IsDeadHere at w (at_of p) → IsStop m at w f (plain_halt (at_of p))
+pub stop_before : {X : Type 0} (m : Meaning X) (at : ℕ) (w : List ℕ) (f : Form X) (p : Piece X) → AreLevels f.levels → Formed m at w (pieces_of f ++ (p ∷ [])) → IsDeadHere at w (at_of p) → IsStop m at w f (plain_halt (at_of p))
 stop_before m at w f p levels formed dead =
     let c : Cut m at w (pieces_of f) (p ∷ []) = formed_cut m at w (pieces_of f) (p ∷ []) formed in
     let (a, v, r, d, ha, hp, hap, hr) = c.second in

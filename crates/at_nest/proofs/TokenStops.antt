@@ -144,7 +144,7 @@ run_dead b v byte h k x out last viable =
 
 -- ---- the token
 
-apart_of_run : (x w : List ℕ) → begins_run w ≡ true → are_apart x w ≡ true → ends_run x ≡ false
+pub apart_of_run : (x w : List ℕ) → begins_run w ≡ true → are_apart x w ≡ true → ends_run x ≡ false
 apart_of_run x w h k = by_bool (ends_run x) (ap (λ z. not (ends_run x && z)) (sym h) ∙ k)
   where
     by_bool : (p : Bool) → not (p && true) ≡ true → p ≡ false

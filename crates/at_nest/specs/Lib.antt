@@ -6,6 +6,7 @@ pub mod Passing
 pub mod Shown
 pub mod Holding
 pub mod Reading
+pub mod Refusals
 pub mod Stands
 pub mod Standing
 pub mod Slots

@@ -4,6 +4,7 @@ ghost use Rattle.std.specs.Prelude.{◌≡◌, ℕ, ◌+◌, ◌≤◌, ◌^◌,
 ghost use Rattle.at_lex.specs.Strings.{JsonString, Character, AreCharacters, string_text};
 ghost use Rattle.at_nest.specs.Forms.{closes as closing_piece};
 ghost use Rattle.at_nest.specs.Shown.{Held, held_of, AreOwn, shown, opened_as, show_as, kept_outside, put_back, comma_added, colon_added, IsStep};
+ghost use Rattle.at_nest.specs.Refusals.{is_refused};
 ghost use Rattle.at_nest.specs.Holding.{Kept, IsOfItems, Pushes, PushesText, PushesValue, PushesBehind, PushesRow, Lengthens, PutsRow, CanAdd, Adds, CanJoin, Joins};
 
 use crate::algebra::Algebra;
@@ -11,7 +12,7 @@ use crate::levels::{
     ArrayLevel, ArrayState, Level, MemberName, Step, array, closed, with_items, with_value,
 };
 use crate::pieces::{Halt, Piece, Row, first_byte};
-use at_lex::{Bracket, units};
+use at_lex::{Bracket, TokenKind, units};
 use at_text::{Memory, Span};
 use std::alloc::Global;
 
@@ -44,6 +45,20 @@ impl<T: Drop> Body<T> {
             (λ l. (shown self.old).levels ≡ held_of l ∷ (shown self.new).levels) }
     {
         self.levels.pop()
+    }
+
+    /// Whether no token of the kind may come next, whatever stands before the span.
+    #[inline(always)]
+    pub fn refuses(&self, kind: TokenKind) -> bool
+        ensures { result ≡ is_refused (shown self.now) kind }
+    {
+        match self.levels.as_slice().last() {
+            Some(level) => level.refuses(kind),
+            None => match self.outer.as_slice().last() {
+                Some(piece) => piece.refuses(kind),
+                None => false,
+            },
+        }
     }
 
     /// Puts a level back.

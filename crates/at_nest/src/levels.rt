@@ -4,10 +4,11 @@ ghost use Rattle.std.specs.Prelude.{◌≡◌, [], All, IfOk, IsTrue};
 ghost use Rattle.at_nest.specs.Tree.{Tree};
 ghost use Rattle.at_nest.specs.Levels.{Level as ModelLevel, built};
 ghost use Rattle.at_nest.specs.Shown.{held_of, opened_as, from_of, comma_next, colon_next, value_next, name_next, takes_name, takes_value, closes_with, IsStep, AreOwn};
+ghost use Rattle.at_nest.specs.Refusals.{not_in_level};
 ghost use Rattle.at_nest.specs.Holding.{Kept, IsHeld, AddsTo, GainsAll, free};
 
 use crate::algebra::{Algebra, Member};
-use at_lex::{Bracket, Units};
+use at_lex::{Bracket, TokenKind, Units};
 use at_text::Memory;
 use std::alloc::Global;
 
@@ -264,6 +265,17 @@ impl<T: Drop> Level<T> {
                 ObjectState::Colon(_) => true,
                 _ => false,
             },
+        }
+    }
+
+    /// Whether no token of the kind may come next: an opening bracket, where no value may.
+    #[inline(always)]
+    pub fn refuses(&self, kind: TokenKind) -> bool
+        ensures { result ≡ not_in_level (held_of self.now) kind }
+    {
+        match kind {
+            TokenKind::Opens(_) => !self.wants_value(),
+            _ => false,
         }
     }
 

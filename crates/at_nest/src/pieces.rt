@@ -2,8 +2,9 @@
 
 ghost use Rattle.std.specs.Prelude.{◌≡◌};
 ghost use Rattle.at_nest.specs.Shown.{stop_at, first_of_piece, is_value_piece};
+ghost use Rattle.at_nest.specs.Refusals.{not_behind_value as none_behind_value, not_behind_text as none_behind_text, not_behind_mark as none_behind_mark, not_behind_piece};
 
-use at_lex::Bracket;
+use at_lex::{Bracket, TokenKind};
 use at_text::Span;
 
 /// Values one behind another, each behind a comma, which can be items of an array alone: no object goes on with a value
@@ -54,6 +55,51 @@ impl<T: Drop> Piece<T> {
             Piece::Text { .. } | Piece::Value { .. } => true,
             _ => false,
         }
+    }
+
+    /// Whether no token of the kind may stand behind it, whatever stands before.
+    #[inline(always)]
+    pub fn refuses(&self, kind: TokenKind) -> bool
+        ensures { result ≡ not_behind_piece self.now kind }
+    {
+        match self {
+            Piece::Closes(_, _) => not_behind_value(kind),
+            Piece::Comma(_) => not_behind_mark(kind),
+            Piece::Colon(_) => not_behind_mark(kind),
+            Piece::Text { .. } => not_behind_text(kind),
+            Piece::Value { .. } => not_behind_value(kind),
+            Piece::Row(_) => not_behind_value(kind),
+        }
+    }
+}
+
+/// Whether no token of the kind may stand behind a closing bracket, or a value that is no string.
+fn not_behind_value(kind: TokenKind) -> bool
+    ensures { result ≡ none_behind_value kind }
+{
+    match kind {
+        TokenKind::Opens(_) | TokenKind::Text | TokenKind::Run | TokenKind::Colon => true,
+        _ => false,
+    }
+}
+
+/// Whether no token of the kind may stand behind a string.
+fn not_behind_text(kind: TokenKind) -> bool
+    ensures { result ≡ none_behind_text kind }
+{
+    match kind {
+        TokenKind::Opens(_) | TokenKind::Text | TokenKind::Run => true,
+        _ => false,
+    }
+}
+
+/// Whether no token of the kind may stand behind a comma or a colon.
+fn not_behind_mark(kind: TokenKind) -> bool
+    ensures { result ≡ none_behind_mark kind }
+{
+    match kind {
+        TokenKind::Closes(_) | TokenKind::Comma | TokenKind::Colon => true,
+        _ => false,
     }
 }
 

@@ -11,7 +11,7 @@ ghost use Rattle.at_nest.specs.Stands.{HoldsVariant, HoldsBehind, CanMeet, Meets
 use crate::algebra::Algebra;
 use crate::bodies::{Body, join};
 use crate::openings::{Tries, read_opening};
-use crate::pieces::Halt;
+use crate::pieces::{Halt, first_byte};
 use crate::tokens::{cut_token, read_token};
 use at_lex::{Item, Lead, Lexer, Pend, Start, TokenKind};
 use at_text::Memory;
@@ -91,31 +91,36 @@ fn read_items<A: Algebra>(
     let mut tries = Tries::new(base);
     loop {
         match lexer.next_item() {
-            Item::Whole(token) => match token.kind {
-                TokenKind::Opens(bracket) => {
-                    let ahead = from_place(piece, base, token.from);
-                    let read = read_opening(
-                        &mut body, alloc, algebra, &mut tries, ahead, bracket, token.from,
-                    )?;
-                    match read.halt {
-                        None => lexer.skip_to(read.to),
-                        Some(halt) => return Ok(Variant::Broken { lead, body, halt }),
+            Item::Whole(token) => {
+                if body.refuses(token.kind) {
+                    let halt = first_byte(token.from);
+                    return Ok(Variant::Broken { lead, body, halt });
+                }
+                match token.kind {
+                    TokenKind::Opens(bracket) => {
+                        let ahead = from_place(piece, base, token.from);
+                        let read = read_opening(
+                            &mut body, alloc, algebra, &mut tries, ahead, bracket, token.from,
+                        )?;
+                        match read.halt {
+                            None => lexer.skip_to(read.to),
+                            Some(halt) => return Ok(Variant::Broken { lead, body, halt }),
+                        }
+                    }
+                    _ => {
+                        let text = part(piece, base, token.from, token.to);
+                        match read_token(&mut body, alloc, algebra, text, token)? {
+                            None => {}
+                            Some(halt) => return Ok(Variant::Broken { lead, body, halt }),
+                        }
                     }
                 }
-                _ => {
-                    let text = part(piece, base, token.from, token.to);
-                    match read_token(&mut body, alloc, algebra, text, token)? {
-                        None => {}
-                        Some(halt) => return Ok(Variant::Broken { lead, body, halt }),
-                    }
-                }
-            },
+            }
             Item::End { pend, end } => {
-                let pend = pend_of(pend, base + piece.len() as u32);
                 return Ok(Variant::Whole {
                     lead,
                     body,
-                    pend,
+                    pend: pend_of(pend, base + piece.len() as u32),
                     end,
                 });
             }

@@ -2,13 +2,14 @@
 use Rattle.std.proofs.Common.{Option, None, Some, sym, ◌∙◌, subst, refl}
 use Rattle.at_lex.specs.Spans.{IsToken as IsLexed}
 use Rattle.at_nest.specs.declared.pieces.Halt.{Halt}
-use Rattle.at_nest.specs.declared.variants.Variant.TheVariants.{Whole}
+use Rattle.at_nest.specs.declared.variants.Variant.TheVariants.{Whole, Broken}
 use Rattle.at_nest.specs.Shown.{Shown, shown}
 use Rattle.at_nest.specs.Unions.{empty_form}
 use Rattle.at_nest.specs.Holding.{Kept, IsShown}
 use Rattle.at_nest.specs.Reading.{ReadsToken, ReadsAhead}
 use Rattle.at_nest.specs.Stands.{HoldsBehind}
 use Rattle.at_nest.proofs.Items.{consumed_none, consumed_on, consumed_stop, consumed_end, token_bytes, ahead_bytes, opens_bytes, consumed_ahead, consumed_ahead_stop}
+use Rattle.at_nest.proofs.Refusals.{consumed_refused}
 use Rattle.at_nest.proofs.variants.read_items.Goals as goal
 
 pub loop-token-init : goal.loop-token-init
@@ -39,6 +40,12 @@ loop-token-preserved g c = let own = g.A.Algebra.is_own c.args.algebra.now in le
     (subst (λ v. ReadsToken (Kept own fold run) (shown c.loop-token.body) (shown c.read_token.new.body) None v c.in-Whole.token) (c.part-text.ensures ∙ bytes.0)
     (subst (λ (z : Option Halt). ReadsToken (Kept own fold run) (shown c.loop-token.body) (shown c.read_token.new.body) z c.part-text.result.now c.in-Whole.token) c.in-None-2.is c.in_ok-read_token-in_default.ensures.reads))
 
+-- a token that has no place there
+pub returns-then-refuses : goal.returns-then-refuses
+returns-then-refuses g c = let own = g.A.Algebra.is_own c.args.algebra.now in let fold = g.A.Algebra.is_fold c.args.algebra.now in let run = g.A.Algebra.is_run c.args.algebra.now in
+    subst (λ z. HoldsBehind (Kept own fold run) c.args.base c.args.piece.now c.args.lexer.at c.args.lexer.rest c.args.lead (Broken c.args.lead c.loop-token.body z)) (sym c.first_byte-halt.ensures)
+    (consumed_refused (Kept own fold run) c.args.base c.args.piece.now c.args.lexer.at c.args.lead c.args.lexer.rest c.loop-token.body c.loop-token.lexer c.next_item.new.self c.in-Whole.token c.loop-token.invariant c.in-Whole.ensures.gives (sym c.refuses.ensures ∙ c.if-refuses.true))
+
 -- an opening bracket, or a whole value
 pub read_opening-requires-clause-begins : goal.read_opening-requires-clause-begins
 read_opening-requires-clause-begins g c κs within = let own = g.A.Algebra.is_own c.args.algebra.now in let fold = g.A.Algebra.is_fold c.args.algebra.now in let run = g.A.Algebra.is_run c.args.algebra.now in
@@ -65,5 +72,5 @@ loop-token-preserved-in-None g c = let own = g.A.Algebra.is_own c.args.algebra.n
 
 pub returns-in-End : goal.returns-in-End
 returns-in-End g c = let own = g.A.Algebra.is_own c.args.algebra.now in let fold = g.A.Algebra.is_fold c.args.algebra.now in let run = g.A.Algebra.is_run c.args.algebra.now in
-    subst (λ n. HoldsBehind (Kept own fold run) c.args.base c.args.piece.now c.args.lexer.at c.args.lexer.rest c.args.lead (Whole c.args.lead c.loop-token.body n c.in-End.end)) (sym c.pend_of-pend.ensures)
+    subst (λ n. HoldsBehind (Kept own fold run) c.args.base c.args.piece.now c.args.lexer.at c.args.lexer.rest c.args.lead (Whole c.args.lead c.loop-token.body n c.in-End.end)) (sym c.pend_of.ensures)
     (consumed_end (Kept own fold run) c.args.base c.args.piece.now c.args.lexer.at c.args.lead c.args.lexer.rest c.loop-token.body c.loop-token.lexer c.next_item.new.self c.in-End.pend c.in-End.end c.requires.behind c.loop-token.invariant c.in-End.ensures.gives)
