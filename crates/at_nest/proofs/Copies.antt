@@ -4,8 +4,9 @@ use Rattle.std.proofs.lemmas.List.Elements.{All-nil, All-cons}
 use Rattle.at_lex.specs.Strings.{Character, units_of}
 use Rattle.at_text.specs.declared.texts.Span.{Span}
 use Rattle.at_nest.specs.declared.algebra.Member.{Member}
-use Rattle.at_nest.specs.declared.levels.Level.{Level as CodeLevel}
 use Rattle.at_nest.specs.declared.levels.ArrayState.{ArrayState}
+use Rattle.at_nest.specs.declared.levels.Open.{Open}
+use Rattle.at_nest.specs.declared.levels.Open.TheVariants.{One, Nested}
 use Rattle.at_nest.specs.declared.levels.ObjectState.{ObjectState}
 use Rattle.at_lex.specs.declared.tokens.Start.{Start}
 use Rattle.at_nest.specs.declared.bodies.Body.{Body}
@@ -19,7 +20,7 @@ use Rattle.at_nest.specs.declared.pieces.Row.{Row}
 use Rattle.at_nest.specs.Tree.{Tree, text}
 use Rattle.at_nest.specs.Forms.{Piece, opens, closes, mark, comma, colon, quoted, entry}
 use Rattle.at_nest.specs.Levels.{Level, Form, marks}
-use Rattle.at_nest.specs.Shown.{Held, Shown, array_level, object_level, held_of, open_levels, AreOwn, OwnPiece, OwnLevel, OwnBody, shown}
+use Rattle.at_nest.specs.Shown.{Held, Shown, array_level, object_level, held_of, helds_of, open_levels, AreOwn, OwnPiece, OwnLevel, OwnBody, shown}
 use Rattle.at_nest.specs.Holding.{Content, one, run, Holds, Kept, Each, EachMember, IsHeld, EachHeld, IsHeldPiece, EachPiece, ArePieces, AreRow, IsRow, row_marks, row_trees, IsOfItems, CanAdd, IsShown, CopiesItems, CopiesMember, CopiesMembers, CopiesHeld, CopiesLevels, CopiesPiece, CopiesPieces, CopiesShown}
 use Rattle.at_nest.proofs.Held.{held_own, each_own, each_cut, each_append}
 use Rattle.at_nest.proofs.Showing.{open_last, pieces_append, pieces_cut}
@@ -70,12 +71,9 @@ module _ {X : Type 0} (IsKept : X → Content → Type 0) where
   levels_none [] h = tt
   levels_none (l ∷ ls) h = absurd h
 
-  levels_cons : (hs ks : List (Held X)) (h k : Held X) → CopiesLevels IsKept hs ks → CopiesHeld IsKept h k → CopiesLevels IsKept (h ∷ hs) (k ∷ ks)
+  pub levels_cons : (hs ks : List (Held X)) (h k : Held X) → CopiesLevels IsKept hs ks → CopiesHeld IsKept h k → CopiesLevels IsKept (h ∷ hs) (k ∷ ks)
   levels_cons hs ks h k a b [] e = absurd e
   levels_cons hs ks h k a b (l ∷ ls) e = (b l e.0, a ls e.1)
-
-  pub levels_on : (xs ys : List (CodeLevel X)) (x y : CodeLevel X) → CopiesLevels IsKept (open_levels xs) (open_levels ys) → CopiesHeld IsKept (held_of x) (held_of y) → CopiesLevels IsKept (open_levels (xs ++ x ∷ [])) (open_levels (ys ++ y ∷ []))
-  levels_on xs ys x y a b = subst (λ z. CopiesLevels IsKept z (open_levels (ys ++ y ∷ []))) (sym (open_last xs x)) (subst (CopiesLevels IsKept (held_of x ∷ open_levels xs)) (sym (open_last ys y)) (levels_cons (open_levels xs) (open_levels ys) (held_of x) (held_of y) a b))
 
   pub pieces_none : CopiesPieces IsKept [] []
   pieces_none base w ps h = h
@@ -175,9 +173,13 @@ module _ {X : Type 0} (IsOwn : X → Type 0) (IsFold : X → Tree → Type 0) (I
   last_own h [] k = absurd k
   last_own h (l ∷ ls) k = held_own IsOwn IsFold IsRun h l k.0
 
-  pub levels_own : (xs : List (CodeLevel X)) (ls : List (Level Tree)) → EachHeld (Kept IsOwn IsFold IsRun) (open_levels xs) ls → All (OwnLevel IsOwn) xs
+  pub levels_own : (xs : List (Open X)) (ls : List (Level Tree)) → EachHeld (Kept IsOwn IsFold IsRun) (open_levels xs) ls → All (OwnLevel IsOwn) xs
   levels_own [] ls h = All-nil (OwnLevel IsOwn)
-  levels_own (x ∷ xs) ls h = let r = level_cut (open_levels xs) (held_of x ∷ []) ls h in All-cons (OwnLevel IsOwn) x xs (last_own (held_of x) r.1 r.3) (levels_own xs r.0 r.2)
+  levels_own (x ∷ xs) ls h = let r = level_cut (open_levels xs) (helds_of x) ls h in All-cons (OwnLevel IsOwn) x xs (open_own x r.1 r.3) (levels_own xs r.0 r.2)
+    where
+      open_own : (x : Open X) (ls : List (Level Tree)) → EachHeld (Kept IsOwn IsFold IsRun) (helds_of x) ls → OwnLevel IsOwn x
+      open_own (One l) ls h = last_own (held_of l) ls h
+      open_own (Nested n) ls h = tt
 
   pub body_own : (base : ℕ) (w : List ℕ) (b : Body X) (f : Form Tree) → IsShown (Kept IsOwn IsFold IsRun) base w (shown b) f → OwnBody IsOwn b
   body_own base w b f h = (pieces_own base w b.outer.items f.outer h.0, levels_own b.levels.items f.levels h.1)

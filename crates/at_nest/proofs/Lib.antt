@@ -24,6 +24,7 @@ pub mod Strings
 pub mod Readings
 pub mod Held
 pub mod Showing
+pub mod Nests
 pub mod Adding
 pub mod Joining
 pub mod Rows

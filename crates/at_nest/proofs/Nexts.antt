@@ -9,7 +9,7 @@ use Rattle.at_nest.specs.declared.finishing.NestEnd.{NestEnd}
 use Rattle.at_nest.specs.declared.finishing.NestEnd.TheVariants.{Syntax, Ended}
 use Rattle.at_nest.specs.declared.levels.ArrayState.TheVariants as array
 use Rattle.at_nest.specs.declared.levels.ObjectState.TheVariants as object
-use Rattle.at_nest.specs.declared.levels.Level.{Level as CodeLevel}
+use Rattle.at_nest.specs.declared.levels.Open.{Open}
 use Rattle.at_nest.specs.declared.pieces.Piece.{Piece as CodePiece}
 use Rattle.at_nest.specs.declared.pieces.Piece.TheVariants.{Closes, Comma, Colon, Text, Value, Row as RowPiece}
 use Rattle.at_nest.specs.declared.pieces.Halt.{Halt as CodeHalt}
@@ -22,9 +22,9 @@ use Rattle.at_nest.specs.Walks.{an_opener, value_kind, text_kind, kind_of, at_of
 use Rattle.at_nest.specs.Levels.{full, first_mode, moves, Level, Form, marks, opened, pieces_of, further, stopped}
 use Rattle.at_nest.specs.Stops.{AreLevels}
 use Rattle.at_nest.specs.Answers.{Answer, folded, syntax, ended, single, folded_or, by_walk, choose, halt_place, stop_by, finished}
-use Rattle.at_nest.specs.Shown.{Held, array_level, object_level, held_of, Shown, open_levels, from_of, first_of_piece, is_value_piece, takes_name, takes_value}
+use Rattle.at_nest.specs.Shown.{Held, array_level, object_level, helds_of, Shown, open_levels, from_of, first_of_piece, is_value_piece, takes_name, takes_value}
 use Rattle.at_nest.specs.Holding.{Content, one, free, row_marks, IsHeld, EachHeld, IsHeldPiece, AreRow, ArePieces, EachPiece, IsShown, halt_of, within_of}
-use Rattle.at_nest.specs.Nexts.{takes, level_next, level_after, levels_next, outer_next, next_of, value_of, only_of, answer_by, answer_of, stop_of, open_of}
+use Rattle.at_nest.specs.Nexts.{takes, level_next, level_after, IsNoValue, levels_next, outer_next, next_of, value_of, only_of, answer_by, answer_of, stop_of, open_of}
 use Rattle.at_nest.proofs.Walks.{cases}
 use Rattle.at_nest.proofs.Pushes.{moves_walk}
 use Rattle.at_nest.proofs.Finished.{AreClosed}
@@ -45,12 +45,8 @@ pub next_error : {X : Type 0} (s : Shown X) (i : ℕ) → Err i ≡ outer_next s
 next_error s i e = sym (after_error s.levels i) ∙ ap (λ r. levels_next r s.levels) e
 
 -- one level more may stand where it does
-pub level_on : {X : Type 0} (r : Result Next ℕ) (ls : List (CodeLevel X)) (l : CodeLevel X) (n : Next) → levels_next r (open_levels ls) ≡ Ok n → n ≡ next.Value → levels_next r (open_levels (ls ++ l ∷ [])) ≡ Ok (level_next (held_of l))
-level_on r ls l n e f = ap (levels_next r) (open_last ls l) ∙ ap (λ z. level_after z (held_of l)) (e ∙ ap Ok f)
-
-abbrev pub IsNoValue : Next → Type 0
-IsNoValue next.Value = ⊥
-IsNoValue _ = ⊤
+pub level_on : {X : Type 0} (r : Result Next ℕ) (os : List (Open X)) (o : Open X) (n : Next) → levels_next r (open_levels os) ≡ Ok n → n ≡ next.Value → levels_next r (open_levels (os ++ o ∷ [])) ≡ levels_next (Ok next.Value) (helds_of o)
+level_on r os o n e f = ap (levels_next r) (open_last os o) ∙ (levels_append r (helds_of o) (open_levels os) ∙ ap (λ z. levels_next z (helds_of o)) (e ∙ ap Ok f))
 
 pub no_value : (n : Next) → (n ≡ next.Value → ⊥) → IsNoValue n
 no_value next.Value h = h refl
@@ -58,18 +54,18 @@ no_value next.Name h = tt
 no_value next.Mark h = tt
 no_value next.Nothing h = tt
 
-after_refused : {X : Type 0} (n : Next) (h : Held X) → IsNoValue n → level_after (Ok n) h ≡ Err (from_of h)
+pub after_refused : {X : Type 0} (n : Next) (h : Held X) → IsNoValue n → level_after (Ok n) h ≡ Err (from_of h)
 after_refused next.Value h k = absurd k
 after_refused next.Name h k = refl
 after_refused next.Mark h k = refl
 after_refused next.Nothing h k = refl
 
 -- or it may not
-pub level_off : {X : Type 0} (r : Result Next ℕ) (ls : List (CodeLevel X)) (l : CodeLevel X) (ks : List (CodeLevel X)) (n : Next) → levels_next r (open_levels ls) ≡ Ok n → IsNoValue n → levels_next r (open_levels ((ls ++ l ∷ []) ++ ks)) ≡ Err (from_of (held_of l))
-level_off r ls l ks n e k =
-    ap (levels_next r) (open_append (ls ++ l ∷ []) ks) ∙ (levels_append r (open_levels ks) (open_levels (ls ++ l ∷ []))
-    ∙ (ap (λ z. levels_next z (open_levels ks)) (ap (levels_next r) (open_last ls l) ∙ (ap (λ z. level_after z (held_of l)) e ∙ after_refused n (held_of l) k))
-    ∙ after_error (open_levels ks) (from_of (held_of l))))
+pub level_off : {X : Type 0} (r : Result Next ℕ) (os : List (Open X)) (o : Open X) (ks : List (Open X)) (n : Next) (i : ℕ) → levels_next r (open_levels os) ≡ Ok n → levels_next (Ok n) (helds_of o) ≡ Err i → levels_next r (open_levels ((os ++ o ∷ []) ++ ks)) ≡ Err i
+level_off r os o ks n i e k =
+    ap (levels_next r) (open_append (os ++ o ∷ []) ks) ∙ (levels_append r (open_levels ks) (open_levels (os ++ o ∷ []))
+    ∙ (ap (λ z. levels_next z (open_levels ks)) (ap (levels_next r) (open_last os o) ∙ (levels_append r (helds_of o) (open_levels os) ∙ (ap (λ z. levels_next z (helds_of o)) e ∙ k)))
+    ∙ after_error (open_levels ks) i))
 
 -- the last item of a list
 pub only_last : {X : Type 0} (ps : List (CodePiece X)) (p : CodePiece X) → only_of (ps ++ p ∷ []) ≡ value_of p

@@ -3,7 +3,6 @@ use Rattle.std.proofs.Common.{◌≡◌, ℕ, ◌⊎◌, inl, inr, List, [], ◌
 use Rattle.std.proofs.lemmas.Option.{none-some, same_Some, option_and_then_some}
 use Rattle.std.proofs.lemmas.Bool.{not-true}
 use Rattle.std.specs.Bool.{⊤}
-use Rattle.std.specs.List.{slice_get}
 use Rattle.at_text.specs.Prefix.{Viable}
 use Rattle.at_text.specs.Texts.{is_run}
 use Rattle.at_lex.proofs.JsonString as str
@@ -21,7 +20,6 @@ use Rattle.at_lex.specs.declared.tokens.Item.TheVariants.{Whole as WholeItem}
 use Rattle.at_nest.specs.declared.bodies.Body.{Body}
 use Rattle.at_nest.specs.declared.levels.ArrayState.TheVariants as array
 use Rattle.at_nest.specs.declared.levels.ObjectState.TheVariants as object
-use Rattle.at_nest.specs.declared.levels.Level.{Level as CodeLevel}
 use Rattle.at_nest.specs.declared.pieces.Piece.{Piece as CodePiece}
 use Rattle.at_nest.specs.declared.pieces.Piece.TheVariants.{Closes, Comma, Colon, Text, Value, Row as RowPiece}
 use Rattle.at_nest.specs.declared.variants.Variant.TheVariants.{Broken}
@@ -32,7 +30,7 @@ use Rattle.at_nest.specs.Forms.{Meaning, Mark, Piece, comma, colon, quoted, entr
 use Rattle.at_nest.specs.Walks.{Kind, an_opener, a_closer, comma_kind, colon_kind, text_kind, value_kind, kind_of, at_of, next, walk_on, walks, reached, refused}
 use Rattle.at_nest.specs.Levels.{Mode, at_items, at_value, at_after, at_members, at_name, at_colon, at_member, at_further, Level, Form, full, first_mode, moves, marks, opened, pieces_of, plain_halt}
 use Rattle.at_nest.specs.Stops.{IsDeadHere, AreLevels, IsStop}
-use Rattle.at_nest.specs.Shown.{Held, array_level, object_level, Shown, shown, stop_at, takes_value, held_of, open_levels}
+use Rattle.at_nest.specs.Shown.{Held, array_level, object_level, Shown, shown, stop_at, takes_value}
 use Rattle.at_nest.specs.Holding.{Content, free, row_marks, array_mode, object_mode, IsHeld, EachHeld, IsHeldPiece, IsRow, ArePieces, EachPiece, IsShown, halt_of}
 use Rattle.at_nest.specs.Refusals.{not_behind_value, not_behind_text, not_behind_mark, not_behind_piece, not_behind_last, last_of, not_in_level, not_in, is_refused}
 use Rattle.at_nest.specs.Stands.{HoldsBehind}
@@ -457,23 +455,12 @@ module _ {X : Type 0} (IsKept : X → Content → Type 0) where
         lead_at = at2;
       }
 
--- ---- the last of a list
-
-pub last_got : {A : Type 0} (xs : List A) → slice_get xs (length xs - 1) ≡ last_of xs
-last_got [] = refl
-last_got (x ∷ []) = refl
-last_got (x ∷ (y ∷ xs)) = let i : length (x ∷ (y ∷ xs)) - 1 ≡ suc (length (y ∷ xs) - 1) = omega arith in ap (slice_get (x ∷ (y ∷ xs))) i ∙ last_got (y ∷ xs)
-
-pub open_top : {X : Type 0} (ls : List (CodeLevel X)) (l : CodeLevel X) → last_of ls ≡ Some l → (hs : List (Held X)) × (open_levels ls ≡ held_of l ∷ hs)
-open_top [] l e = absurd (none-some l e)
-open_top (k ∷ []) l e = ([], ap (λ z. held_of z ∷ []) (same_Some k l e))
-open_top (k ∷ (m ∷ ls)) l e = let (hs, f) = open_top (m ∷ ls) l e in (hs ++ held_of k ∷ [], ap (λ z. z ++ held_of k ∷ []) f)
-
-pub open_none : {X : Type 0} (ls : List (CodeLevel X)) → None ≡ last_of ls → open_levels ls ≡ []
-open_none [] e = refl
-open_none (k ∷ []) e = absurd (none-some k e)
-open_none (k ∷ (m ∷ ls)) e = absurd (no_last m ls e)
-  where
-    no_last : {A : Type 0} (x : A) (xs : List A) → None ≡ last_of (x ∷ xs) → ⊥
-    no_last x [] e = none-some x e
-    no_last x (y ∷ xs) e = no_last y xs e
+-- an array with nothing in it takes all
+pub nested_takes : {X : Type 0} (i : ℕ) (hs : List (Held X)) (outer : List (CodePiece X)) (k : TokenKind) → not_in (array_level i array.Empty [] ∷ hs) outer k ≡ false
+nested_takes i hs outer (token.Opens b) = refl
+nested_takes i hs outer (token.Closes b) = refl
+nested_takes i hs outer token.Comma = refl
+nested_takes i hs outer token.Colon = refl
+nested_takes i hs outer token.Text = refl
+nested_takes i hs outer token.Run = refl
+nested_takes i hs outer (token.Broken n) = refl

@@ -4,7 +4,7 @@ use Rattle.std.proofs.Math.Seq.{take-append_seam, drop-append_seam}
 use Rattle.at_text.specs.declared.texts.Span.{Span}
 use Rattle.at_lex.specs.Strings.{Character, string_text}
 use Rattle.at_lex.specs.declared.tokens.Bracket.{Bracket}
-use Rattle.at_nest.specs.declared.levels.Level.{Level as CodeLevel}
+use Rattle.at_nest.specs.declared.levels.Open.{Open}
 use Rattle.at_nest.specs.declared.pieces.Piece.{Piece as CodePiece}
 use Rattle.at_nest.specs.declared.pieces.Piece.TheVariants.{Closes, Comma, Colon, Text, Value}
 use Rattle.at_nest.specs.declared.pieces.Halt.{Halt as CodeHalt}
@@ -12,28 +12,19 @@ use Rattle.at_nest.specs.Tree.{Tree, text}
 use Rattle.at_nest.specs.Forms.{Mark, Piece, opens, closes, mark, comma, colon, quoted, entry}
 use Rattle.at_nest.specs.Walks.{mark_kind, mark_at}
 use Rattle.at_nest.specs.Levels.{Mode, Level, Form, built, move, with_mark, push_mark, push_close, close_level, push}
-use Rattle.at_nest.specs.Shown.{Held, Shown, held_of, open_levels, show_as, put_back, kept_outside, comma_added, colon_added, comma_next, colon_next, value_next, closes_with, from_of, opened_as, stop_at}
+use Rattle.at_nest.specs.Shown.{Held, Shown, helds_of, open_levels, show_as, put_back, kept_outside, comma_added, colon_added, comma_next, colon_next, value_next, closes_with, from_of, opened_as, stop_at}
 use Rattle.at_nest.specs.Holding.{free, Content, one, IsHeld, GainsIn, PushesValue, EachHeld, EachPiece, ArePieces, IsHeldPiece, IsShown, IsPushedAs, IsTextAt, IsPartOf, halt_of}
 use Rattle.at_nest.specs.Shown.{array_level, object_level}
 use Rattle.at_nest.proofs.Held.{IsMoved, comma_moves, colon_moves, value_moves, closes_same, opened_is}
 
-pub open_last : {X : Type 0} (ls : List (CodeLevel X)) (l : CodeLevel X) → open_levels (ls ++ l ∷ []) ≡ held_of l ∷ open_levels ls
-open_last [] l = refl
-open_last (k ∷ ls) l = ap (λ z. z ++ held_of k ∷ []) (open_last ls l)
-
-pub innermost_is : {X : Type 0} (o : Option (CodeLevel X)) (old new : List (CodeLevel X)) (m n : ℕ) (Q : CodeLevel X → Type 0) → length old ≡ m → length new ≡ n → old ≡ new ++ option_to_list o → MatchOption o ((m ≡ 0) × (n ≡ 0)) Q
-    → MatchOption o ((open_levels old ≡ []) × (open_levels new ≡ [])) (λ l. open_levels old ≡ held_of l ∷ open_levels new)
-innermost_is None old new m n Q a b e h = (none old (a ∙ h.0), none new (b ∙ h.1))
-  where
-    none : {X : Type 0} (ls : List (CodeLevel X)) → length ls ≡ 0 → open_levels ls ≡ []
-    none [] e = refl
-    none (l ∷ ls) e = absurd (omega (arith, e))
-innermost_is (Some l) old new m n Q a b e h = ap open_levels e ∙ open_last new l
+pub open_last : {X : Type 0} (os : List (Open X)) (o : Open X) → open_levels (os ++ o ∷ []) ≡ helds_of o ++ open_levels os
+open_last [] o = sym (append-nil (helds_of o))
+open_last (k ∷ os) o = ap (λ z. z ++ helds_of k) (open_last os o) ∙ append_assoc (helds_of o) (open_levels os) (helds_of k)
 
 -- open levels of a list of which a second one is put behind
-pub open_append : {X : Type 0} (xs ys : List (CodeLevel X)) → open_levels (xs ++ ys) ≡ open_levels ys ++ open_levels xs
+pub open_append : {X : Type 0} (xs ys : List (Open X)) → open_levels (xs ++ ys) ≡ open_levels ys ++ open_levels xs
 open_append [] ys = sym (append-nil (open_levels ys))
-open_append (x ∷ xs) ys = ap (λ z. z ++ held_of x ∷ []) (open_append xs ys) ∙ append_assoc (open_levels ys) (open_levels xs) (held_of x ∷ [])
+open_append (x ∷ xs) ys = ap (λ z. z ++ helds_of x) (open_append xs ys) ∙ append_assoc (open_levels ys) (open_levels xs) (helds_of x)
 
 module _ {X : Type 0} (IsKept : X → Content → Type 0) (base : ℕ) (w : List ℕ) where
   -- one thing more that is kept, and the items that it stands for

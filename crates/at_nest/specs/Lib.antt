@@ -7,6 +7,7 @@ pub mod Shown
 pub mod Holding
 pub mod Reading
 pub mod Refusals
+pub mod Nests
 pub mod Stands
 pub mod Standing
 pub mod Slots

@@ -1,5 +1,6 @@
 -- What may stand behind the items of a text, and what is answered where the text ends or stops behind them, by what is kept of them.
 use Rattle.std.specs.Prelude.{ℕ, Bool, true, false, if◌then◌else◌, List, [], ◌∷◌, Result, Ok, Err}
+use Rattle.std.specs.Bool.{⊤}
 use Rattle.at_nest.specs.declared.finishing.Next.{Next}
 use Rattle.at_nest.specs.declared.finishing.Next.TheVariants as next
 use Rattle.at_nest.specs.declared.finishing.NestEnd.{NestEnd}
@@ -33,6 +34,11 @@ level_after (Ok _) h = Err (from_of h)
 abbrev pub levels_next : {X : Type 0} → Result Next ℕ → List (Held X) → Result Next ℕ
 levels_next r [] = r
 levels_next r (h ∷ hs) = level_after (levels_next r hs) h
+
+-- no value may stand next
+abbrev pub IsNoValue : Next → Type 0
+IsNoValue next.Value = ⊥
+IsNoValue _ = ⊤
 
 -- behind what stands before the first open level
 abbrev pub outer_next : {X : Type 0} → List (Piece X) → Result Next ℕ

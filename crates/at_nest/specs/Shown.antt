@@ -1,5 +1,5 @@
 -- What the code keeps of a span's items, as plain lists, and what each item does to it.
-use Rattle.std.specs.Prelude.{◌≡◌, ℕ, Bool, true, false, Option, Some, None, List, [], ◌∷◌, ◌++◌, All}
+use Rattle.std.specs.Prelude.{◌≡◌, ℕ, ◌-◌, zero, suc, Bool, true, false, Option, Some, None, List, [], ◌∷◌, ◌++◌, All}
 use Rattle.std.specs.Bool.{⊤}
 use Rattle.at_lex.specs.declared.tokens.Bracket.{Bracket}
 use Rattle.at_lex.specs.declared.tokens.Bracket.TheVariants.{Brace, Square}
@@ -11,6 +11,8 @@ use Rattle.at_nest.specs.declared.levels.ObjectState.TheVariants as object
 use Rattle.at_nest.specs.declared.levels.MemberName.{MemberName}
 use Rattle.at_nest.specs.declared.levels.Level.{Level}
 use Rattle.at_nest.specs.declared.levels.Level.TheVariants.{Array, Object}
+use Rattle.at_nest.specs.declared.levels.Open.{Open}
+use Rattle.at_nest.specs.declared.levels.Open.TheVariants.{One, Nested}
 use Rattle.at_nest.specs.declared.levels.Step.{Step}
 use Rattle.at_nest.specs.declared.levels.Step.TheVariants.{On, Refused}
 use Rattle.at_nest.specs.declared.pieces.Piece.{Piece}
@@ -87,10 +89,19 @@ abbrev pub AreOwn : {X : Type 0} → (X → Type 0) → Held X → Type 0
 AreOwn IsOwn (array_level i s xs) = All IsOwn xs
 AreOwn IsOwn (object_level i s ms) = All (λ m. IsOwn m.value) ms
 
+-- so many arrays with nothing in them, each right in the next, the innermost first, whose bracket stands at the offset
+abbrev pub nested : {X : Type 0} → ℕ → ℕ → List (Held X)
+nested last zero = []
+nested last (suc n) = array_level last array.Empty [] ∷ nested (last - 1) n
+
+abbrev pub helds_of : {X : Type 0} → Open X → List (Held X)
+helds_of (One l) = held_of l ∷ []
+helds_of (Nested n) = nested n.last (suc n.more)
+
 -- the open levels, the innermost first
-abbrev pub open_levels : {X : Type 0} → List (Level X) → List (Held X)
+abbrev pub open_levels : {X : Type 0} → List (Open X) → List (Held X)
 open_levels [] = []
-open_levels (l ∷ ls) = open_levels ls ++ held_of l ∷ []
+open_levels (o ∷ os) = open_levels os ++ helds_of o
 
 pub record Shown (X : Type 0) : Type 0 where
   pub outer : List (Piece X)
@@ -146,8 +157,9 @@ module _ {X : Type 0} (IsOwn : X → Type 0) where
   OwnPiece _ = ⊤
 
 -- each level's atoms are the algebra's own
-abbrev pub OwnLevel : {X : Type 0} → (X → Type 0) → Level X → Type 0
-OwnLevel IsOwn l = AreOwn IsOwn (held_of l)
+abbrev pub OwnLevel : {X : Type 0} → (X → Type 0) → Open X → Type 0
+OwnLevel IsOwn (One l) = AreOwn IsOwn (held_of l)
+OwnLevel IsOwn (Nested n) = ⊤
 
 abbrev pub OwnBody : {X : Type 0} → (X → Type 0) → Body X → Type 0
 OwnBody IsOwn b = All (OwnPiece IsOwn) b.outer.items × All (OwnLevel IsOwn) b.levels.items

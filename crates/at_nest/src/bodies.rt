@@ -1,15 +1,21 @@
 //! The whole items of a span behind its lead: those before its first open level, and the open levels.
 
-ghost use Rattle.std.specs.Prelude.{◌≡◌, ℕ, ◌+◌, ◌≤◌, ◌^◌, List, [], ◌∷◌, length, Option, All, IfOk, MatchOption};
+ghost use Rattle.std.specs.Prelude.{◌≡◌, ℕ, ◌+◌, ◌-◌, ◌<◌, ◌≤◌, ◌^◌, suc, List, [], ◌∷◌, length, Option, Some, None, All, IfOk, IfSome, MatchOption};
+ghost use Rattle.at_lex.specs.declared.tokens.Bracket.TheVariants.{Square};
 ghost use Rattle.at_lex.specs.Strings.{JsonString, Character, AreCharacters, string_text};
 ghost use Rattle.at_nest.specs.Forms.{closes as closing_piece};
-ghost use Rattle.at_nest.specs.Shown.{Held, held_of, AreOwn, shown, opened_as, show_as, kept_outside, put_back, comma_added, colon_added, IsStep};
-ghost use Rattle.at_nest.specs.Refusals.{is_refused};
+ghost use Rattle.at_nest.specs.Shown.{Held, array_level, held_of, AreOwn, shown, opened_as, show_as, kept_outside, put_back, comma_added, colon_added, IsStep};
+ghost use Rattle.at_nest.specs.Refusals.{is_refused, last_of};
+ghost use Rattle.at_nest.specs.Nests.{nest_in, PutsLast};
+ghost use Rattle.at_nest.specs.declared.levels.ArrayState.TheVariants.{Empty};
+ghost use Rattle.at_nest.specs.declared.levels.Nest.{Nest};
+ghost use Rattle.at_nest.specs.declared.levels.Open.TheVariants.{Nested};
 ghost use Rattle.at_nest.specs.Holding.{Kept, IsOfItems, Pushes, PushesText, PushesValue, PushesBehind, PushesRow, Lengthens, PutsRow, CanAdd, Adds, CanJoin, Joins};
 
 use crate::algebra::Algebra;
 use crate::levels::{
-    ArrayLevel, ArrayState, Level, MemberName, Step, array, closed, with_items, with_value,
+    ArrayLevel, ArrayState, Level, MemberName, Nest, Open, Step, array, closed, with_items,
+    with_value,
 };
 use crate::pieces::{Halt, Piece, Row, first_byte};
 use at_lex::{Bracket, TokenKind, units};
@@ -22,7 +28,7 @@ pub struct Body<T> {
     /// What stands before the first open level: no opening bracket is among it.
     pub outer: Vec<Piece<T>>,
     /// The open levels, the innermost last.
-    pub levels: Vec<Level<T>>,
+    pub levels: Vec<Open<T>>,
 }
 
 impl<T: Drop> Body<T> {
@@ -36,15 +42,82 @@ impl<T: Drop> Body<T> {
         }
     }
 
-    /// Takes the innermost open level out.
+    /// The nest, where it is innermost.
     #[inline(always)]
-    pub fn innermost(&mut self) -> Option<Level<T>>
+    fn nest(&self) -> Option<Nest>
+        ensures { result ≡ nest_in (last_of self.now.levels.items) }
+    {
+        match self.levels.as_slice().last() {
+            Some(Open::Nested(nest)) => Some(*nest),
+            Some(Open::One(_)) => None,
+            None => None,
+        }
+    }
+
+    /// Puts the nest where the innermost levels were.
+    fn put_nest(&mut self, nest: Nest)
+        requires some { 0 < length self.old.levels.items }
+        ensures outer { (shown self.new).outer ≡ (shown self.old).outer }
+        ensures levels { PutsLast self.old.levels.items self.new.levels.items (Nested nest) }
+    {
+        let place = self.levels.len() - 1;
+        self.levels[place] = Open::Nested(nest);
+    }
+
+    /// Leaves the innermost array of the nest out.
+    fn leave_nested(&mut self, nest: Nest)
+        requires { last_of self.old.levels.items ≡ Some (Nested nest) }
+        ensures outer { (shown self.new).outer ≡ (shown self.old).outer }
+        ensures levels { (shown self.old).levels ≡ array_level nest.last Empty [] ∷ (shown self.new).levels }
+    {
+        if nest.more == 0 {
+            self.levels.truncate(self.levels.len() - 1);
+            return;
+        }
+        self.put_nest(Nest {
+            last: nest.last.saturating_sub(1),
+            more: nest.more - 1,
+        });
+    }
+
+    /// Takes the innermost array of the nest out.
+    fn take_nested(&mut self, alloc: Global, nest: Nest) -> Level<T>
+        requires { last_of self.old.levels.items ≡ Some (Nested nest) }
+        ensures outer { (shown self.new).outer ≡ (shown self.old).outer }
+        ensures levels { (shown self.old).levels ≡ held_of result ∷ (shown self.new).levels }
+    {
+        self.leave_nested(nest);
+        array(nest.last, ArrayState::Empty, Vec::new(alloc))
+    }
+
+    /// Takes the innermost level out, which is in no nest.
+    #[inline(always)]
+    fn pop(&mut self) -> Option<Level<T>>
+        requires { nest_in (last_of self.old.levels.items) ≡ None }
         ensures outer { (shown self.new).outer ≡ (shown self.old).outer }
         ensures levels { MatchOption result
             (((shown self.old).levels ≡ []) × ((shown self.new).levels ≡ []))
             (λ l. (shown self.old).levels ≡ held_of l ∷ (shown self.new).levels) }
     {
-        self.levels.pop()
+        match self.levels.pop() {
+            Some(Open::One(level)) => Some(level),
+            Some(Open::Nested(_nest)) => None,
+            None => None,
+        }
+    }
+
+    /// Takes the innermost open level out.
+    #[inline(always)]
+    pub fn innermost(&mut self, alloc: Global) -> Option<Level<T>>
+        ensures outer { (shown self.new).outer ≡ (shown self.old).outer }
+        ensures levels { MatchOption result
+            (((shown self.old).levels ≡ []) × ((shown self.new).levels ≡ []))
+            (λ l. (shown self.old).levels ≡ held_of l ∷ (shown self.new).levels) }
+    {
+        match self.nest() {
+            Some(nest) => Some(self.take_nested(alloc, nest)),
+            None => self.pop(),
+        }
     }
 
     /// Whether no token of the kind may come next, whatever stands before the span.
@@ -53,7 +126,8 @@ impl<T: Drop> Body<T> {
         ensures { result ≡ is_refused (shown self.now) kind }
     {
         match self.levels.as_slice().last() {
-            Some(level) => level.refuses(kind),
+            Some(Open::One(level)) => level.refuses(kind),
+            Some(Open::Nested(_nest)) => false,
             None => match self.outer.as_slice().last() {
                 Some(piece) => piece.refuses(kind),
                 None => false,
@@ -66,8 +140,44 @@ impl<T: Drop> Body<T> {
     fn push(&mut self, level: Level<T>) -> Result<(), Memory>
         ensures { IfOk result (λ u. shown self.new ≡ show_as (shown self.old).outer (held_of level ∷ (shown self.old).levels)) }
     {
-        self.levels.push(level)?;
+        self.levels.push(Open::One(level))?;
         Ok(())
+    }
+
+    /// The nest with an array more, whose bracket stands at the offset: right behind the innermost one.
+    #[inline(always)]
+    fn longer(&self, at: u32) -> Option<Nest>
+        ensures { IfSome result (λ n. (n.last ≡ at) × (m : Nest) × (last_of self.now.levels.items ≡ Some (Nested m)) × (m.last ≡ at - 1) × (n.more ≡ suc m.more)) }
+    {
+        match self.nest() {
+            None => None,
+            Some(nest) => if nest.last == at.saturating_sub(1) && nest.more < u32::MAX {
+                Some(Nest {
+                    last: at,
+                    more: nest.more + 1,
+                })
+            } else {
+                None
+            },
+        }
+    }
+
+    /// An array more.
+    #[inline(always)]
+    fn open_square(&mut self, at: u32) -> Result<(), Memory>
+        ensures { IfOk result (λ u. shown self.new
+            ≡ show_as (shown self.old).outer (opened_as Square at ∷ (shown self.old).levels)) }
+    {
+        match self.longer(at) {
+            Some(nest) => {
+                self.put_nest(nest);
+                Ok(())
+            }
+            None => {
+                self.levels.push(Open::Nested(Nest { last: at, more: 0 }))?;
+                Ok(())
+            }
+        }
     }
 
     /// Puts a level back behind what came next at the offset; where that is refused, the span stops there.
@@ -103,24 +213,27 @@ impl<T: Drop> Body<T> {
         ensures { IfOk result (λ u. shown self.new
             ≡ show_as (shown self.old).outer (opened_as bracket at ∷ (shown self.old).levels)) }
     {
-        self.push(Level::opened(alloc, bracket, at))
+        match bracket {
+            Bracket::Square => self.open_square(at),
+            Bracket::Brace => self.push(Level::opened(alloc, bracket, at)),
+        }
     }
 
     #[inline(always)]
-    pub fn comma(&mut self, at: u32) -> Result<Option<Halt>, Memory>
+    pub fn comma(&mut self, alloc: Global, at: u32) -> Result<Option<Halt>, Memory>
         ensures { IfOk result (λ r. (shown self.new, r) ≡ comma_added at (shown self.old).outer (shown self.old).levels) }
     {
-        match self.innermost() {
+        match self.innermost(alloc) {
             None => self.keep(Piece::Comma(at)),
             Some(level) => self.put(level.comma(), at),
         }
     }
 
     #[inline(always)]
-    pub fn colon(&mut self, at: u32) -> Result<Option<Halt>, Memory>
+    pub fn colon(&mut self, alloc: Global, at: u32) -> Result<Option<Halt>, Memory>
         ensures { IfOk result (λ r. (shown self.new, r) ≡ colon_added at (shown self.old).outer (shown self.old).levels) }
     {
-        match self.innermost() {
+        match self.innermost(alloc) {
             None => self.keep(Piece::Colon(at)),
             Some(level) => self.put(level.colon(), at),
         }
@@ -241,7 +354,7 @@ pub fn read_value<A: Algebra>(
     ensures { IfOk result (λ r. PushesValue (Kept (A.is_own algebra.now) (A.is_fold algebra.now) (A.is_run algebra.now))
         (shown body.old) (shown body.new) r from atom) }
 {
-    match body.innermost() {
+    match body.innermost(alloc) {
         None => keep_value(body, alloc, algebra, from, atom),
         Some(level) => body.put(with_value(alloc, algebra, level, atom)?, from),
     }
@@ -263,7 +376,7 @@ pub fn read_text<A: Algebra>(
         → PushesText (Kept (A.is_own algebra.now) (A.is_fold algebra.now) (A.is_run algebra.now)) (shown body.old) (shown body.new) r
         (record { from = at; to = at + length text.now }) cs) }
 {
-    match body.innermost() {
+    match body.innermost(alloc) {
         None => {
             let atom = algebra.scalar(alloc, text, at)?;
             let span = Span {
@@ -298,7 +411,7 @@ pub fn close<A: Algebra>(
     ensures { IfOk result (λ r. Pushes (Kept (A.is_own algebra.now) (A.is_fold algebra.now) (A.is_run algebra.now))
         (shown body.old) (shown body.new) r (closing_piece bracket at)) }
 {
-    match body.innermost() {
+    match body.innermost(alloc) {
         None => body.keep(Piece::Closes(bracket, at)),
         Some(level) => if level.can_close(bracket) {
             let from = level.first();
@@ -343,7 +456,7 @@ fn add_row<A: Algebra>(
     requires row { All (A.is_own algebra.now) row.items.items }
     ensures { IfOk result (λ r. PushesRow (Kept (A.is_own algebra.now) (A.is_fold algebra.now) (A.is_run algebra.now)) (shown body.old) (shown body.new) r row) }
 {
-    match body.innermost() {
+    match body.innermost(alloc) {
         None => body.keep(Piece::Row(row)),
         Some(level) => match level.comma() {
             Step::Refused(level) => body.put(Step::Refused(level), row.comma),
@@ -367,8 +480,8 @@ fn add<A: Algebra>(
 {
     match piece {
         Piece::Closes(bracket, at) => close(body, alloc, algebra, bracket, at),
-        Piece::Comma(at) => body.comma(at),
-        Piece::Colon(at) => body.colon(at),
+        Piece::Comma(at) => body.comma(alloc, at),
+        Piece::Colon(at) => body.colon(alloc, at),
         Piece::Text { span, atom } => add_text(body, alloc, algebra, bytes, span, atom),
         Piece::Value { from, atom } => read_value(body, alloc, algebra, from, atom),
         Piece::Row(row) => add_row(body, alloc, algebra, row),
@@ -389,7 +502,7 @@ fn add_text<A: Algebra>(
     ensures { IfOk result (λ r. Adds (Kept (A.is_own algebra.now) (A.is_fold algebra.now) (A.is_run algebra.now)) bytes.now
         (shown body.old) (Piece.Text span atom) (shown body.new) r) }
 {
-    match body.innermost() {
+    match body.innermost(alloc) {
         None => body.keep(Piece::Text { span, atom }),
         Some(level) => if level.wants_name() {
             let name = MemberName {

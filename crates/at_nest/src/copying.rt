@@ -2,13 +2,13 @@
 
 ghost use Rattle.std.specs.Prelude.{◌≡◌, ℕ, All, List, IfOk};
 ghost use Rattle.at_lex.specs.declared.tokens.Start.{Start};
-ghost use Rattle.at_nest.specs.Shown.{held_of, shown, open_levels, AreOwn, OwnPiece, OwnLevel, OwnBody};
+ghost use Rattle.at_nest.specs.Shown.{held_of, helds_of, shown, open_levels, AreOwn, OwnPiece, OwnLevel, OwnBody};
 ghost use Rattle.at_nest.specs.Holding.{Kept, CopiesItems, CopiesMember, CopiesMembers, CopiesHeld, CopiesLevels, CopiesPiece, CopiesPieces, CopiesShown};
 ghost use Rattle.at_nest.specs.Stands.{HoldsVariant};
 
 use crate::algebra::{Algebra, Member};
 use crate::bodies::Body;
-use crate::levels::{ArrayLevel, Level, MemberName, ObjectLevel, ObjectState};
+use crate::levels::{ArrayLevel, Level, MemberName, ObjectLevel, ObjectState, Open};
 use crate::pieces::{Piece, Row};
 use crate::variants::Variant;
 use at_lex::Units;
@@ -111,6 +111,20 @@ fn copy_level<A: Algebra>(
     }
 }
 
+fn copy_open<A: Algebra>(
+    alloc: Global,
+    algebra: &A,
+    level: &Open<A::Atom>,
+) -> Result<Open<A::Atom>, Memory>
+    requires { OwnLevel (A.is_own algebra.now) level.now }
+    ensures { IfOk result (λ o. CopiesLevels (Kept (A.is_own algebra.now) (A.is_fold algebra.now) (A.is_run algebra.now)) (helds_of level.now) (helds_of o)) }
+{
+    match level {
+        Open::One(level) => Ok(Open::One(copy_level(alloc, algebra, level)?)),
+        Open::Nested(nest) => Ok(Open::Nested(*nest)),
+    }
+}
+
 fn copy_piece<A: Algebra>(
     alloc: Global,
     algebra: &A,
@@ -157,14 +171,14 @@ fn copy_pieces<A: Algebra>(
 fn copy_levels<A: Algebra>(
     alloc: Global,
     algebra: &A,
-    levels: &Vec<Level<A::Atom>>,
-) -> Result<Vec<Level<A::Atom>>, Memory>
+    levels: &Vec<Open<A::Atom>>,
+) -> Result<Vec<Open<A::Atom>>, Memory>
     requires { All (OwnLevel (A.is_own algebra.now)) levels.now.items }
     ensures { IfOk result (λ v. CopiesLevels (Kept (A.is_own algebra.now) (A.is_fold algebra.now) (A.is_run algebra.now)) (open_levels levels.now.items) (open_levels v.items)) }
 {
     let mut copied = Vec::with_capacity(alloc, levels.len())?;
     for level in levels {
-        copied.push(copy_level(alloc, algebra, level)?)?;
+        copied.push(copy_open(alloc, algebra, level)?)?;
     }
     Ok(copied)
 }

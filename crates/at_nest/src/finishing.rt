@@ -5,19 +5,21 @@ ghost use Rattle.at_text.specs.Spans.{part_of};
 ghost use Rattle.at_text.specs.Texts.{base_of as base_in};
 ghost use Rattle.at_lex.specs.Runs.{JsonRun};
 ghost use Rattle.at_lex.specs.Spans.{begins_run};
-ghost use Rattle.at_nest.specs.Shown.{held_of, shown, open_levels};
+ghost use Rattle.at_nest.specs.Shown.{held_of, helds_of, shown, open_levels};
+ghost use Rattle.at_nest.specs.declared.finishing.Next.{Next};
+ghost use Rattle.at_nest.specs.declared.finishing.Next.TheVariants as next;
 ghost use Rattle.at_nest.specs.Holding.{Kept, IsOfItems};
 ghost use Rattle.at_nest.specs.Standing.{StandsFor, parts_of};
 ghost use Rattle.at_nest.specs.Stands.{HoldsVariant};
 ghost use Rattle.at_nest.specs.Variants.{IsPending};
-ghost use Rattle.at_nest.specs.Nexts.{takes, level_next, levels_next as levels_end, outer_next as outer_end, next_of as next_behind, value_of, only_of, answer_of as answer_behind, stop_of as stop_behind, open_of as open_behind};
+ghost use Rattle.at_nest.specs.Nexts.{takes, level_next, IsNoValue, levels_next as levels_end, outer_next as outer_end, next_of as next_end, value_of, only_of, answer_of as answer_behind, stop_of as stop_behind, open_of as open_behind};
 ghost use Rattle.at_nest.specs.Lasts.{begins_text, IsTail, EndsSo};
 ghost use Rattle.at_nest.specs.Ending.{Answers};
 
 use crate::algebra::Algebra;
 use crate::bodies::{Body, read_value};
 use crate::fragments::Fragment;
-use crate::levels::Level;
+use crate::levels::{Level, Open};
 use crate::pieces::{Halt, Piece, Within};
 use crate::tokens::stop_in;
 use crate::variants::{Variant, join_items};
@@ -109,17 +111,37 @@ fn outer_next<T: Drop>(outer: &[Piece<T>]) -> Result<Next, u32>
     }
 }
 
+/// What may stand behind open levels of which the outermost may stand where it does.
+fn next_behind<T: Drop>(level: &Open<T>) -> Next
+    ensures { Ok result ≡ levels_end (Ok next.Value) (helds_of level.now) }
+{
+    match level {
+        Open::One(level) => next_in(level),
+        Open::Nested(_) => Next::Value,
+    }
+}
+
+/// The offset of the outermost one's bracket.
+fn first_of<T: Drop>(level: &Open<T>) -> u32
+    ensures { (n : Next) → IsNoValue n → levels_end (Ok n) (helds_of level.now) ≡ Err result }
+{
+    match level {
+        Open::One(level) => level.first(),
+        Open::Nested(nest) => nest.last.saturating_sub(nest.more),
+    }
+}
+
 /// What may stand behind the open levels, or the first that may not stand where it does.
-fn levels_next<T: Drop>(next: Next, levels: &[Level<T>]) -> Result<Next, u32>
+fn levels_next<T: Drop>(next: Next, levels: &[Open<T>]) -> Result<Next, u32>
     ensures { result ≡ levels_end (Ok next) (open_levels levels.now) }
 {
     let mut next = next;
     for level in levels {
         match next {
             Next::Value => {
-                next = next_in(level);
+                next = next_behind(level);
             }
-            _ => return Err(level.first()),
+            _ => return Err(first_of(level)),
         }
     }
     Ok(next)
@@ -127,7 +149,7 @@ fn levels_next<T: Drop>(next: Next, levels: &[Level<T>]) -> Result<Next, u32>
 
 /// What may stand behind the items of a text, or the first one that may not stand where it does.
 fn next_of<T: Drop>(body: &Body<T>) -> Result<Next, u32>
-    ensures { result ≡ next_behind (shown body.now) }
+    ensures { result ≡ next_end (shown body.now) }
 {
     match outer_next(body.outer.as_slice()) {
         Err(place) => Err(place),
@@ -169,7 +191,7 @@ fn answer_of<T: Drop>(body: Body<T>) -> Result<T, NestEnd>
 
 /// Where a text stops whose items are these, and which stops behind them.
 fn stop_of<T: Drop>(body: &Body<T>, halt: Halt) -> NestEnd
-    ensures { result ≡ stop_behind (next_behind (shown body.now)) halt }
+    ensures { result ≡ stop_behind (next_end (shown body.now)) halt }
 {
     match next_of(body) {
         Err(place) => NestEnd::Syntax(place),
@@ -183,7 +205,7 @@ fn stop_of<T: Drop>(body: &Body<T>, halt: Halt) -> NestEnd
 
 /// The answer of a text that ends in the beginning of a run or a string.
 fn open_of<T: Drop>(body: &Body<T>, within: Within, from: u32) -> NestEnd
-    ensures { result ≡ open_behind (next_behind (shown body.now)) within from }
+    ensures { result ≡ open_behind (next_end (shown body.now)) within from }
 {
     match next_of(body) {
         Err(place) => NestEnd::Syntax(place),

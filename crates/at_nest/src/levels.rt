@@ -68,6 +68,22 @@ pub enum Level<T> {
     Object(ObjectLevel<T>),
 }
 
+/// Arrays with nothing in them, each right in the next.
+#[derive(Clone, Copy)]
+pub struct Nest {
+    /// The offset of the innermost one's bracket.
+    pub last: u32,
+    /// How many there are besides.
+    pub more: u32,
+}
+
+/// A level, or many that take no room of their own.
+#[derive(Drop)]
+pub enum Open<T> {
+    One(Level<T>),
+    Nested(Nest),
+}
+
 /// A level, and whether what came next may stand there. Where it may not, the level is as before.
 #[derive(Drop)]
 pub enum Step<T> {

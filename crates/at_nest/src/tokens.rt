@@ -83,8 +83,8 @@ pub fn read_token<A: Algebra>(
             Ok(None)
         }
         TokenKind::Closes(bracket) => close(body, alloc, algebra, bracket, at),
-        TokenKind::Comma => body.comma(at),
-        TokenKind::Colon => body.colon(at),
+        TokenKind::Comma => body.comma(alloc, at),
+        TokenKind::Colon => body.colon(alloc, at),
         TokenKind::Text => read_text(body, alloc, algebra, text, at),
         TokenKind::Run => read_run(body, alloc, algebra, text, at),
         TokenKind::Broken(place) => Ok(Some(stop_in(within_of(text), at, place - at))),

@@ -10,11 +10,11 @@ pub loop-level-preserved : goal.loop-level-preserved
 loop-level-preserved g c =
     let below : c.loop-level.level-index < length c.args.levels.now = omega (arith, c.loop-level-test.true) in
     ap (λ z. levels_next (Ok c.args.next) (open_levels z)) (take_next c.args.levels.now c.loop-level.level-index c.level-item.result below c.level-item.is)
-    ∙ (level_on (Ok c.args.next) (take c.loop-level.level-index c.args.levels.now) c.level-item.result c.loop-level.next c.loop-level.invariant c.in-Value.is ∙ ap Ok (sym c.next_in-next.ensures))
+    ∙ (level_on (Ok c.args.next) (take c.loop-level.level-index c.args.levels.now) c.level-item.result c.loop-level.next c.loop-level.invariant c.in-Value.is ∙ sym c.next_behind-next.ensures)
 
 pub returns-in_default : goal.returns-in_default
 returns-in_default g c =
     let below : c.loop-level.level-index < length c.args.levels.now = omega (arith, c.loop-level-test.true) in
-    ap Err c.first.ensures ∙ (sym (level_off (Ok c.args.next) (take c.loop-level.level-index c.args.levels.now) c.level-item.result (drop (c.loop-level.level-index + 1) c.args.levels.now) c.loop-level.next c.loop-level.invariant (no_value c.loop-level.next c.in_default.not-Value))
+    sym (level_off (Ok c.args.next) (take c.loop-level.level-index c.args.levels.now) c.level-item.result (drop (c.loop-level.level-index + 1) c.args.levels.now) c.loop-level.next c.first_of.result c.loop-level.invariant (c.first_of.ensures c.loop-level.next (no_value c.loop-level.next c.in_default.not-Value)))
     ∙ (ap (λ z. levels_next (Ok c.args.next) (open_levels (z ++ drop (c.loop-level.level-index + 1) c.args.levels.now))) (sym (take_next c.args.levels.now c.loop-level.level-index c.level-item.result below c.level-item.is))
-    ∙ ap (λ z. levels_next (Ok c.args.next) (open_levels z)) (take-append-drop (c.loop-level.level-index + 1) c.args.levels.now)))
+    ∙ ap (λ z. levels_next (Ok c.args.next) (open_levels z)) (take-append-drop (c.loop-level.level-index + 1) c.args.levels.now))

@@ -1,0 +1,119 @@
+-- The last of what is open, and arrays with nothing in them that are it.
+use Rattle.std.proofs.Common.{◌≡◌, ℕ, ◌-◌, ◌≤◌, zero, suc, Option, Some, None, List, [], ◌∷◌, ◌++◌, option_to_list, refl, sym, ◌∙◌, ap, subst, append-nil, append_assoc, arith, length, take, Ok, Err}
+use Rattle.std.proofs.lemmas.Option.{none-some, same_Some}
+use Rattle.std.specs.List.{slice_get, slice_set}
+use Rattle.at_nest.specs.declared.finishing.Next.{Next}
+use Rattle.at_nest.specs.declared.finishing.Next.TheVariants as next
+use Rattle.at_nest.specs.declared.levels.Nest.{Nest}
+use Rattle.at_nest.specs.declared.levels.Open.{Open}
+use Rattle.at_nest.specs.declared.levels.Open.TheVariants.{One, Nested}
+use Rattle.at_nest.specs.declared.levels.ArrayState.TheVariants as array
+use Rattle.at_nest.specs.Tree.{Tree}
+use Rattle.at_nest.specs.Levels.{Level}
+use Rattle.at_nest.specs.Shown.{Held, array_level, held_of, helds_of, open_levels, nested}
+use Rattle.at_nest.specs.Holding.{Content, EachHeld, CopiesLevels}
+use Rattle.at_nest.specs.Nests.{nest_in, PutsLast}
+use Rattle.at_nest.specs.Nexts.{levels_next, level_after, IsNoValue}
+use Rattle.at_nest.specs.Refusals.{last_of}
+use Rattle.at_nest.proofs.Showing.{open_last}
+
+pub last_got : {A : Type 0} (xs : List A) → slice_get xs (length xs - 1) ≡ last_of xs
+last_got [] = refl
+last_got (x ∷ []) = refl
+last_got (x ∷ (y ∷ xs)) = let i : length (x ∷ (y ∷ xs)) - 1 ≡ suc (length (y ∷ xs) - 1) = omega arith in ap (slice_get (x ∷ (y ∷ xs))) i ∙ last_got (y ∷ xs)
+
+pub last_behind : {A : Type 0} (xs : List A) (x : A) → last_of (xs ++ x ∷ []) ≡ Some x
+last_behind [] x = refl
+last_behind (y ∷ []) x = refl
+last_behind (y ∷ (z ∷ xs)) x = last_behind (z ∷ xs) x
+
+-- the innermost levels, and those round them
+pub open_top : {X : Type 0} (os : List (Open X)) (o : Open X) → last_of os ≡ Some o → (hs : List (Held X)) × (open_levels os ≡ helds_of o ++ hs)
+open_top [] o e = absurd (none-some o e)
+open_top (k ∷ []) o e = ([], ap helds_of (same_Some k o e) ∙ sym (append-nil (helds_of o)))
+open_top (k ∷ (m ∷ os)) o e = let (hs, f) = open_top (m ∷ os) o e in (hs ++ helds_of k, ap (λ z. z ++ helds_of k) f ∙ append_assoc (helds_of o) hs (helds_of k))
+
+pub open_none : {X : Type 0} (os : List (Open X)) → None ≡ last_of os → os ≡ []
+open_none [] e = refl
+open_none (k ∷ []) e = absurd (none-some k e)
+open_none (k ∷ (m ∷ os)) e = absurd (no_last m os e)
+  where
+    no_last : {A : Type 0} (x : A) (xs : List A) → None ≡ last_of (x ∷ xs) → ⊥
+    no_last x [] e = none-some x e
+    no_last x (y ∷ xs) e = no_last y xs e
+
+pub puts_last : {X : Type 0} (os : List (Open X)) (o : Open X) → PutsLast os (slice_set os (length os - 1) o) o
+puts_last [] o x e = absurd (none-some x e)
+puts_last (k ∷ []) o x e = ([], ap helds_of (same_Some k x e) ∙ sym (append-nil (helds_of x)), sym (append-nil (helds_of o)))
+puts_last (k ∷ (m ∷ os)) o x e = let (hs, f, g) = puts_last (m ∷ os) o x e in
+    let i : length (k ∷ (m ∷ os)) - 1 ≡ suc (length (m ∷ os) - 1) = omega arith in (
+      hs ++ helds_of k,
+      ap (λ z. z ++ helds_of k) f ∙ append_assoc (helds_of x) hs (helds_of k),
+      ap (λ n. open_levels (slice_set (k ∷ (m ∷ os)) n o)) i ∙ (ap (λ z. z ++ helds_of k) g ∙ append_assoc (helds_of o) hs (helds_of k)),
+    )
+
+all_but_last : {A : Type 0} (xs : List A) (x : A) → last_of xs ≡ Some x → xs ≡ take (length xs - 1) xs ++ x ∷ []
+all_but_last [] x e = absurd (none-some x e)
+all_but_last (y ∷ []) x e = ap (λ z. z ∷ []) (same_Some y x e)
+all_but_last (y ∷ (z ∷ xs)) x e = let i : length (y ∷ (z ∷ xs)) - 1 ≡ suc (length (z ∷ xs) - 1) = omega arith in
+    ap (λ v. y ∷ v) (all_but_last (z ∷ xs) x e) ∙ ap (λ n. take n (y ∷ (z ∷ xs)) ++ x ∷ []) (sym i)
+
+-- a nest of one array was left out
+pub last_nested : {X : Type 0} (old : List (Open X)) (m : Nest) (n : ℕ) → m.more ≡ 0 → n ≡ length old - 1 → last_of old ≡ Some (Nested m) → open_levels old ≡ array_level m.last array.Empty [] ∷ open_levels (take n old)
+last_nested old m n e f i = ap open_levels (all_but_last old (Nested m) i) ∙ (open_last (take (length old - 1) old) (Nested m)
+    ∙ (ap (λ z. nested m.last (suc z) ++ open_levels (take (length old - 1) old)) e ∙ ap (λ z. array_level m.last array.Empty [] ∷ open_levels (take z old)) (sym f)))
+
+-- the nest with one array less
+pub less_nested : {X : Type 0} (old new : List (Open X)) (last more : ℕ) (m n : Nest) → m.last ≡ last → m.more ≡ suc more → n.last ≡ last - 1 → n.more ≡ more → last_of old ≡ Some (Nested m) → PutsLast old new (Nested n)
+    → open_levels old ≡ array_level last array.Empty [] ∷ open_levels new
+less_nested old new last more m n e f g h i puts = let (hs, p, q) = puts (Nested m) i in
+    p ∙ (ap (λ z. nested z (suc m.more) ++ hs) e ∙ (ap (λ z. array_level last array.Empty [] ∷ (nested (last - 1) z ++ hs)) f
+    ∙ (ap (λ z. array_level last array.Empty [] ∷ (nested (last - 1) (suc z) ++ hs)) (sym h) ∙ (ap (λ z. array_level last array.Empty [] ∷ (nested z (suc n.more) ++ hs)) (sym g) ∙ ap (λ z. array_level last array.Empty [] ∷ z) (sym q)))))
+
+-- and with one more
+pub more_nested : {X : Type 0} (old new : List (Open X)) (at : ℕ) (m n : Nest) → n.last ≡ at → m.last ≡ at - 1 → n.more ≡ suc m.more → last_of old ≡ Some (Nested m) → PutsLast old new (Nested n)
+    → open_levels new ≡ array_level at array.Empty [] ∷ open_levels old
+more_nested old new at m n e f g i puts = let (hs, p, q) = puts (Nested m) i in
+    q ∙ (ap (λ z. nested z (suc n.more) ++ hs) e ∙ (ap (λ z. array_level at array.Empty [] ∷ (nested (at - 1) z ++ hs)) g
+    ∙ (ap (λ z. array_level at array.Empty [] ∷ (nested z (suc m.more) ++ hs)) (sym f) ∙ ap (λ z. array_level at array.Empty [] ∷ z) (sym p))))
+
+-- the last of what is open was taken out
+pub popped : {X : Type 0} (old new : List (Open X)) (o : Option (Open X)) (x : Open X) → o ≡ Some x → old ≡ new ++ option_to_list o → open_levels old ≡ helds_of x ++ open_levels new
+popped old new o x e f = ap open_levels (f ∙ ap (λ z. new ++ option_to_list z) e) ∙ open_last new x
+
+-- ---- what may stand behind
+
+pub nested_next : (X : Type 0) (last n : ℕ) → levels_next {X = X} (Ok next.Value) (nested last n) ≡ Ok next.Value
+nested_next X last zero = refl
+nested_next X last (suc n) = ap (λ z. level_after {X = X} z (array_level last array.Empty [])) (nested_next X (last - 1) n)
+
+pub nested_off : (X : Type 0) (last n : ℕ) (k : Next) → IsNoValue k → levels_next {X = X} (Ok k) (nested last (suc n)) ≡ Err (last - n)
+nested_off X last zero k h = first k h ∙ (let e : last ≡ last - 0 = omega arith in ap Err e)
+  where
+    first : (k : Next) → IsNoValue k → level_after {X = X} (Ok k) (array_level last array.Empty []) ≡ Err last
+    first next.Value h = absurd h
+    first next.Name h = refl
+    first next.Mark h = refl
+    first next.Nothing h = refl
+nested_off X last (suc n) k h = ap (λ z. level_after {X = X} z (array_level last array.Empty [])) (nested_off X (last - 1) n k h) ∙ (let e : (last - 1) - n ≡ last - suc n = omega arith in ap Err e)
+
+-- ---- copies
+
+module _ {X : Type 0} (IsKept : X → Content → Type 0) where
+  held_cut : (xs ys : List (Held X)) (ls : List (Level Tree)) → EachHeld IsKept (xs ++ ys) ls → (us : List (Level Tree)) × (vs : List (Level Tree)) × (ls ≡ us ++ vs) × EachHeld IsKept xs us × EachHeld IsKept ys vs
+  held_cut [] ys ls h = ([], ls, refl, tt, h)
+  held_cut (x ∷ xs) ys [] h = absurd h
+  held_cut (x ∷ xs) ys (l ∷ ls) h = let r = held_cut xs ys ls h.1 in (l ∷ r.0, r.1, ap (λ z. l ∷ z) r.2, (h.0, r.3), r.4)
+
+  held_joined : (hs : List (Held X)) (ls : List (Level Tree)) (gs : List (Held X)) (ks : List (Level Tree)) → EachHeld IsKept hs ls → EachHeld IsKept gs ks → EachHeld IsKept (hs ++ gs) (ls ++ ks)
+  held_joined [] [] gs ks h k = k
+  held_joined (x ∷ hs) (l ∷ ls) gs ks h k = (h.0, held_joined hs ls gs ks h.1 k)
+  held_joined [] (l ∷ ls) gs ks h k = absurd h
+  held_joined (x ∷ hs) [] gs ks h k = absurd h
+
+  pub levels_on : (xs ys : List (Open X)) (x y : Open X) → CopiesLevels IsKept (open_levels xs) (open_levels ys) → CopiesLevels IsKept (helds_of x) (helds_of y) → CopiesLevels IsKept (open_levels (xs ++ x ∷ [])) (open_levels (ys ++ y ∷ []))
+  levels_on xs ys x y a b ls h = let r = held_cut (helds_of x) (open_levels xs) ls (subst (λ z. EachHeld IsKept z ls) (open_last xs x) h) in
+      subst (λ z. EachHeld IsKept z ls) (sym (open_last ys y)) (subst (EachHeld IsKept (helds_of y ++ open_levels ys)) (sym r.2) (held_joined (helds_of y) r.0 (open_levels ys) r.1 (b r.0 r.3) (a r.1 r.4)))
+
+  pub same_levels : (hs : List (Held X)) → CopiesLevels IsKept hs hs
+  same_levels hs ls h = h
