@@ -1,5 +1,5 @@
 -- Members that are read at once: their names are plain and differ, and what is made of their fields is what is made of them.
-use Rattle.std.proofs.Common.{◌≡◌, ℕ, ◌+◌, ◌-◌, ◌<◌, ◌≤◌, Bool, true, false, ◌||◌, if◌then◌else◌, bytes_eq, List, [], ◌∷◌, ◌++◌, All, map, length, take, drop, slice_index, Option, Some, None, is_some, refl, sym, ◌∙◌, ap, arith, append-nil, append_assoc}
+use Rattle.std.proofs.Common.{◌≡◌, ℕ, ◌+◌, ◌-◌, ◌<◌, ◌≤◌, Bool, true, false, ◌||◌, if◌then◌else◌, bytes_eq, List, [], ◌∷◌, ◌++◌, All, map, length, take, drop, slice_index, Option, Some, None, is_some, refl, sym, ◌∙◌, ap, subst, arith, append-nil, append_assoc}
 use Rattle.std.specs.List.{list_all, list_any}
 use Rattle.std.proofs.lemmas.Bool.{true≢false}
 use Rattle.std.proofs.lemmas.List.{map-append}
@@ -15,6 +15,7 @@ use Rattle.at_query.specs.declared.queries.Test.TheVariants.{InBox, MeetsShape, 
 use Rattle.at_query.specs.declared.features.TextPair.{TextPair}
 use Rattle.at_geojson.specs.declared.atoms.GeoAtom.{GeoAtom}
 use Rattle.at_geojson.specs.declared.fields.Field.{Field}
+use Rattle.at_geojson.specs.declared.fields.Field.TheVariants as variants
 use Rattle.at_geojson.specs.declared.fields.Fields.{Fields}
 use Rattle.at_geojson.specs.declared.places.NamePlace.{NamePlace}
 use Rattle.at_geojson.specs.declared.pairs.Whole.{Whole}
@@ -25,7 +26,7 @@ use Rattle.at_geojson.specs.Objects.{kept_texts, pair_kept}
 use Rattle.at_geojson.specs.Places.{IsNameAt}
 use Rattle.at_geojson.specs.Fields.{field_of, put_if, is_kind, is_coordinates, is_geometry, is_properties, is_features, is_geometries, AreFields}
 use Rattle.at_geojson.specs.Values.{IsItem, EndsObject}
-use Rattle.at_geojson.specs.Members.{name_in, IsPlainName, is_named_among, EndsFields, AreFieldsRead}
+use Rattle.at_geojson.specs.Members.{name_in, IsPlainName, is_named_among, PassesItem, IsFieldRead, EndsFields, AreFieldsRead}
 use Rattle.at_geojson.proofs.Firsts.{none_right}
 use Rattle.at_geojson.proofs.Each.{none_left, none_behind}
 use Rattle.at_geojson.proofs.SimpleTexts.{simple_units}
@@ -115,8 +116,8 @@ module _ (asked : Asked) (base : ℕ) (w : List ℕ) where
     pub are : AreFields longer (before.members ++ member_of asked base w n (name_in w n) p.atom ∷ [])
 
   -- of a member that was put into the fields
-  pub longer_fields : (at place : ℕ) (names told : List NamePlace) (fields : Fields) (n : NamePlace) (p : Whole) (longer : Fields) (field : Field) (twin : Bool) (before : AreFieldsRead asked base w at place names fields) → IsPlainName w n
-      → told ≡ names → is_named_among w told (name_in w n) ≡ false → twin ≡ is_some (twin_of p.atom) → twin ≡ false → field ≡ field_of (name_in w n)
+  pub longer_fields : (at place : ℕ) (names told : List NamePlace) (fields : Fields) (n : NamePlace) (p : Whole) (longer : Fields) (field : Field) (before : AreFieldsRead asked base w at place names fields) → IsPlainName w n
+      → told ≡ names → is_named_among w told (name_in w n) ≡ false → twin_of p.atom ≡ None → field ≡ field_of (name_in w n)
       → longer.kind ≡ put_if (is_kind field) fields.kind p.atom
       → longer.coordinates ≡ put_if (is_coordinates field) fields.coordinates p.atom
       → longer.geometry ≡ put_if (is_geometry field) fields.geometry p.atom
@@ -124,13 +125,18 @@ module _ (asked : Asked) (base : ℕ) (w : List ℕ) where
       → longer.features ≡ put_if (is_features field) fields.features p.atom
       → longer.geometries ≡ put_if (is_geometries field) fields.geometries p.atom
       → LongerFields at place names fields n p longer
-  longer_fields at place names told fields n p longer field twin before plain same new et ef field_is e0 e1 e2 e3 e4 e5 = record {
+  longer_fields at place names told fields n p longer field before plain same new none field_is e0 e1 e2 e3 e4 e5 = record {
     before = before;
     plain = plain;
     new = ap (λ z. is_named_among w z (name_in w n)) (sym same) ∙ new;
-    value = no_twin_in p.atom twin et ef;
+    value = none;
     are = fields_more fields longer before.members (member_of asked base w n (name_in w n) p.atom) field field_is before.are e0 e1 e2 e3 e4 e5;
   }
+
+  -- of one that was passed over nothing is put there
+  pub field_passed : (at end : ℕ) (field : Field) (fields : Fields) → field ≡ variants.Other → PassesItem asked w at end → IsFieldRead asked base w at field fields fields end
+  field_passed at end field fields e pass = let (a, item, none) = pass base in
+      subst (λ z. IsFieldRead asked base w at z fields fields end) (sym e) (record { atom = a; item = item; no_twin = none; kind = refl; coordinates = refl; geometry = refl; properties = refl; features = refl; geometries = refl })
 
   longer_twins : (at place : ℕ) (names : List NamePlace) (fields : Fields) (n : NamePlace) (p : Whole) (longer : Fields) (l : LongerFields at place names fields n p longer) → member_twins [] (l.before.members ++ member_of asked base w n (name_in w n) p.atom ∷ []) ≡ None
   longer_twins at place names fields n p longer l = no_twin_more [] l.before.members (member_of asked base w n (name_in w n) p.atom) l.before.no_twin (among_places w (name_in w n) l.before.members names l.before.named ∙ l.new) l.value

@@ -1,5 +1,5 @@
 -- Rows of positions: what is made of them is what is made of the list of their atoms.
-use Rattle.std.proofs.Common.{◌≡◌, ℕ, ◌+◌, ◌<◌, ◌≤◌, ◌⊎◌, inl, inr, min, Bool, true, false, not, ◌&&◌, ◌||◌, ◌==◌, if◌then◌else◌, nat_lt, List, [], ◌∷◌, ◌++◌, All, fold, map, length, slice_index, None, is_none, refl, sym, ◌∙◌, ap, subst, arith}
+use Rattle.std.proofs.Common.{◌≡◌, ℕ, ◌+◌, ◌<◌, ◌≤◌, ◌⊎◌, inl, inr, min, Bool, true, false, not, ◌&&◌, ◌||◌, ◌==◌, if◌then◌else◌, nat_lt, List, [], ◌∷◌, ◌++◌, All, fold, map, length, slice_index, None, is_none, refl, sym, ◌∙◌, ap, subst, arith, append-nil}
 use Rattle.std.specs.Ordering.{int_eq}
 use Rattle.std.proofs.Math.Nat.{min-eq_left}
 use Rattle.std.proofs.lemmas.Bool.{ltb-true, ltb-false}
@@ -22,8 +22,8 @@ use Rattle.at_geojson.specs.declared.sorts.Sort.TheVariants as sorts
 use Rattle.at_geojson.specs.Keeping.{Asked, kept, needs_shapes}
 use Rattle.at_geojson.specs.Atoms.{twin_of, at_of, IsOwn, IsFold}
 use Rattle.at_geojson.specs.Gathering.{firsts, are_all, rank, sort_of, sort_of_all, least_of, last_atom, position_value, position_fault, closes, to_four}
-use Rattle.at_geojson.specs.Rows.{AreNext, IsRow, LengthensRow, EndsPoints, ArePointsRead}
-use Rattle.at_geojson.specs.Values.{IsSpacedPair, IsWhole}
+use Rattle.at_geojson.specs.Rows.{AreNext, IsRow, LengthensRow, EndsPoints, ArePointsRead, ArePointsPassed}
+use Rattle.at_geojson.specs.Values.{IsSpacedPair, PassesSpacedPair, IsWhole}
 use Rattle.at_geojson.proofs.Firsts.{firsts-cons}
 use Rattle.at_geojson.proofs.CoordinateFolds.{closes_is}
 use Rattle.at_geojson.proofs.OwnFolds.{points_own}
@@ -178,3 +178,28 @@ module _ (asked : Asked) (base : ℕ) (w : List ℕ) where
         spells = subst (λ e. Spells (base + at) (part w at e) (array (base + at) ts)) (sym ends.behind) (items_end base w at read.place end read.done read.last read.order read.behind inside opens byte read.before read.spells);
         fold = points_fold asked (base + at) all (λ e. cc) twins (needs_shapes asked.query) row.first.at p.atom refl least sort made ts read.folds;
       }
+
+  -- ---- lists of positions of which those between the first and the last are passed over
+
+  unkept : (row longer : Row) (last : PositionAtom) → needs_shapes asked.query ≡ false → longer.first ≡ row.first → longer.last ≡ last.pos → longer.path.items ≡ row.path.items
+      → ((n : ℕ) → row.count ≡ to_four n → longer.count ≡ to_four (n + 1)) → LengthensRow (needs_shapes asked.query) row last longer
+  unkept row longer last none ef el ep ec = subst (λ b. LengthensRow b row last longer) (sym none) (lengthened false row longer last ef el (ep ∙ sym (append-nil row.path.items)) ec)
+
+  pub passed_on : (at end next : ℕ) (row longer : Row) → needs_shapes asked.query ≡ false → ArePointsPassed asked base w at end row → end < length w → slice_index w end ≡ 0x2C → PassesSpacedPair asked w (end + 1) next
+      → longer.first ≡ row.first → longer.path.items ≡ row.path.items → ((n : ℕ) → row.count ≡ to_four n → longer.count ≡ to_four (n + 1)) → ArePointsPassed asked base w at next longer
+  passed_on at end next row longer none (known, ef, ec, ep, read) inside byte pass lf lp lc =
+      let (p, e, h) = pass.2 base in
+      let k : Row = record { first = known.first; last = p.pair.pos; count = longer.count; path = known.path } in (
+        k,
+        ef ∙ sym lf,
+        refl,
+        ep ∙ sym lp,
+        subst (λ j. ArePointsRead asked base w at j k) e
+            (points_go_on at end p known k read inside byte h (unkept known k p.pair none refl refl refl (λ n q. lc n (sym ec ∙ q)))),
+      )
+
+  pub passed_end : (at end : ℕ) (p : PairRead) (row whole : Row) (q : Whole) → needs_shapes asked.query ≡ false → ArePointsPassed asked base w at end row → end < length w → slice_index w end ≡ 0x2C → IsSpacedPair asked base w (end + 1) p
+      → whole.first ≡ row.first → whole.last ≡ p.pair.pos → whole.path.items ≡ row.path.items → ((n : ℕ) → row.count ≡ to_four n → whole.count ≡ to_four (n + 1))
+      → p.end < length w → slice_index w at ≡ 0x5B → slice_index w p.end ≡ 0x5D → EndsPoints asked (base + at) (p.end + 1) whole q → IsWhole asked base w at q
+  passed_end at end p row whole q none (known, ef, ec, ep, read) inside byte pair lf ll lp lc within opens closes ends =
+      points_end at p.end whole q (points_go_on at end p known whole read inside byte pair (unkept known whole p.pair none (lf ∙ sym ef) ll (lp ∙ sym ep) (λ n j. lc n (sym ec ∙ j)))) within opens closes ends

@@ -1,19 +1,22 @@
 -- What the readers of whole values find of a text: the parts that they read spell trees, for which the atoms stand.
-use Rattle.std.proofs.Common.{◌≡◌, ℕ, zero, suc, ◌+◌, ◌-◌, ◌<◌, ◌≤◌, min, inl, inr, ℤ, true, Some, Ok, List, [], ◌∷◌, ◌++◌, All, length, take, drop, slice_index, take-append-drop, refl, sym, ◌∙◌, ap, subst, arith}
+use Rattle.std.proofs.Common.{false, None, Result, Err, if◌then◌else◌, ◌≡◌, ℕ, zero, suc, ◌+◌, ◌-◌, ◌<◌, ◌≤◌, min, inl, inr, ℤ, true, Some, Ok, List, [], ◌∷◌, ◌++◌, All, length, take, drop, slice_index, take-append-drop, refl, sym, ◌∙◌, ap, subst, arith}
+use Rattle.std.specs.List.{list_any}
 use Rattle.std.proofs.Math.Nat.{min-eq_left}
 use Rattle.std.proofs.lemmas.List.{drop-take, length-drop}
 use Rattle.std.proofs.lemmas.List.Elements.{All-nil, All-cons, All-append}
 use Rattle.at_text.specs.Prefix.{TakesLongest}
 use Rattle.at_text.specs.declared.prefixes.Taken.{Taken}
 use Rattle.at_fixed.specs.declared.rounding.Coords.{Coords}
+use Rattle.at_fixed.specs.declared.rounding.FixedFault.{FixedFault}
 use Rattle.at_fixed.specs.Kept.{part}
 use Rattle.at_fixed.specs.Numerals.{Numeral, JsonNumber}
 use Rattle.at_fixed.specs.Fixed.{IsFixedOf, fixed_of}
 use Rattle.at_fixed.proofs.DigitParts.{part-length}
-use Rattle.at_lex.specs.Strings.{JsonString, AreUnitsOf}
-use Rattle.at_lex.specs.Runs.{JsonRun}
+use Rattle.at_lex.specs.Strings.{JsonString, AreUnitsOf, units_of}
+use Rattle.at_lex.specs.Runs.{JsonRun, Literal, the_null, the_true, the_false, literal_text}
 use Rattle.at_lex.specs.Spans.{AreSpaces}
 use Rattle.at_lex.proofs.FrontLemmas.{suffix_is}
+use Rattle.at_wkt.specs.Positions.{fault_of}
 use Rattle.at_nest.specs.declared.algebra.Member.{Member}
 use Rattle.at_nest.specs.declared.algebra.Attempt.TheVariants.{Whole as WholeAttempt}
 use Rattle.at_nest.specs.Folds.{IsScalarText, IsAttempt, AreFolds, AreMemberFolds}
@@ -24,16 +27,19 @@ use Rattle.at_nest.proofs.Passed.{items_none, items_on, items_end, items_empty, 
 use Rattle.at_geojson.specs.declared.atoms.GeoAtom.{GeoAtom}
 use Rattle.at_geojson.specs.declared.atoms.GeoAtom.TheVariants as atoms
 use Rattle.at_geojson.specs.declared.atoms.NumberAtom.{NumberAtom}
+use Rattle.at_geojson.specs.declared.atoms.TextAtom.{TextAtom}
 use Rattle.at_geojson.specs.declared.places.NamePlace.{NamePlace}
 use Rattle.at_geojson.specs.declared.pairs.Whole.{Whole}
 use Rattle.at_geojson.specs.declared.pairs.Plain.{Plain}
 use Rattle.at_geojson.specs.declared.pairs.PairRead.{PairRead}
-use Rattle.at_geojson.specs.Keeping.{Asked}
-use Rattle.at_geojson.specs.Atoms.{IsOwn, IsFold}
+use Rattle.at_geojson.specs.Names.{kind_of_text}
+use Rattle.at_geojson.specs.Keeping.{Asked, looks_at_texts}
+use Rattle.at_geojson.specs.Atoms.{twin_of, IsOwn, IsFold}
 use Rattle.at_geojson.specs.Gathering.{least_of, pair_atom}
-use Rattle.at_geojson.specs.Places.{IsTextAt, IsNameAt}
-use Rattle.at_geojson.specs.Values.{IsPlain, IsPair, IsSpacedPair, IsWhole, IsItem, AreItemsRead, AreMembersRead, EndsArray, EndsObject}
-use Rattle.at_geojson.proofs.ScalarFolds.{number_found, number_folds, own_number}
+use Rattle.at_geojson.specs.Places.{IsTextAt, IsNameAt, IsScalarAt}
+use Rattle.at_geojson.specs.Values.{IsPlain, PassesPlain, IsPair, IsSpacedPair, IsWhole, IsItem, AreItemsRead, AreMembersRead, EndsArray, EndsObject}
+use Rattle.at_geojson.proofs.SimpleTexts.{none_asked}
+use Rattle.at_geojson.proofs.ScalarFolds.{number_found, number_folds, own_number, text_folds, null_folds, true_folds, false_folds, bad_number_at}
 use Rattle.at_geojson.proofs.OwnFolds.{pair_own}
 use Rattle.at_geojson.proofs.ArrayAnswers.{numbers_fold, empty_folds}
 
@@ -147,6 +153,38 @@ module _ (asked : Asked) (base : ℕ) (w : List ℕ) where
       let n = valued at end v u e taken.word f in let a : NumberAtom = record { at = base + at; value = v } in
       record { order = taken.order; within = taken.within; own = own_number asked a n.numeral n.value; tree = number (base + at) n.numeral; spells = n.spells; fold = number_folds asked a n.numeral n.value }
 
+  -- a string, literal or number of which nothing is kept
+  record IsPassed (at end : ℕ) : Type 0 where
+    pub atom : GeoAtom
+    pub whole : IsWhole asked base w at (record { end = end; atom = atom })
+    pub no_twin : twin_of atom ≡ None
+
+  module _ (at end : ℕ) (order : at < end) (within : end ≤ length w) where
+    passed_text : list_any looks_at_texts asked.query.tests ≡ false → JsonString (part w at end) → IsPassed at end
+    passed_text unasked (cs, j, e) =
+        let a : TextAtom = record { at = base + at; kind = kind_of_text (units_of cs); units = None } in
+        let u = ap (λ b. if b then Some (units_of cs) else None) (sym (none_asked asked.query.tests (units_of cs) unasked)) in
+        record { atom = atoms.Text a; whole = record { order = order; within = within; own = tt; tree = text (base + at) cs; spells = (refl, j, e); fold = text_folds asked a cs refl u }; no_twin = refl }
+
+    passed_literal : (l : Literal) → part w at end ≡ literal_text l → IsPassed at end
+    passed_literal the_null e = record { atom = atoms.Null (base + at); whole = record { order = order; within = within; own = tt; tree = literal (base + at) the_null; spells = (refl, e); fold = null_folds asked (base + at) }; no_twin = refl }
+    passed_literal the_true e = record { atom = atoms.Plain (base + at); whole = record { order = order; within = within; own = tt; tree = literal (base + at) the_true; spells = (refl, e); fold = true_folds asked (base + at) }; no_twin = refl }
+    passed_literal the_false e = record { atom = atoms.Plain (base + at); whole = record { order = order; within = within; own = tt; tree = literal (base + at) the_false; spells = (refl, e); fold = false_folds asked (base + at) }; no_twin = refl }
+
+    passed_number : (n : Numeral) → Spells (base + at) (part w at end) (number (base + at) n) → IsPassed at end
+    passed_number n s = go (fixed_of n asked.digits asked.how) refl where
+      go : (r : Result ℤ FixedFault) → r ≡ fixed_of n asked.digits asked.how → IsPassed at end
+      go (Ok v) e = let a : NumberAtom = record { at = base + at; value = v } in
+          record { atom = atoms.Number a; whole = record { order = order; within = within; own = own_number asked a n e; tree = number (base + at) n; spells = s; fold = number_folds asked a n e }; no_twin = refl }
+      go (Err why) e = record { atom = atoms.BadNumber (fault_of why (base + at)); whole = record { order = order; within = within; own = tt; tree = number (base + at) n; spells = s; fold = bad_number_at asked (base + at) n why e }; no_twin = refl }
+
+    passed_run : JsonRun (part w at end) → IsPassed at end
+    passed_run (inl (l, e)) = passed_literal l e
+    passed_run (inr (n, j, e)) = passed_number n (refl, j, e)
+
+    scalar_passed : list_any looks_at_texts asked.query.tests ≡ false → IsScalarText (part w at end) → IsPassed at end
+    scalar_passed unasked s = elim s [ inl t ↦ passed_text unasked t | inr r ↦ passed_run r ]
+
   -- ---- positions
 
   pub pair_read : (at : ℕ) (x y : Plain) (left right : ℤ) → left ≡ x.number.value → right ≡ y.number.value → at < length w → slice_index w at ≡ 0x5B → IsPlain asked w (at + 1) x → x.end < length w → slice_index w x.end ≡ 0x2C
@@ -177,6 +215,16 @@ module _ (asked : Asked) (base : ℕ) (w : List ℕ) where
         fold = numbers_fold asked (base + at) items (λ e. cc) refl r refl (inl made) (items_of (tx ∷ ty ∷ [])) (number_folds asked a nx.numeral nx.value, (number_folds asked b ny.numeral ny.value, tt));
       }
 
+  -- a position of which the place behind it alone is told
+  pub pair_passed : (at m n : ℕ) → at < length w → slice_index w at ≡ 0x5B → PassesPlain asked w (at + 1) m → m < length w → slice_index w m ≡ 0x2C
+      → PassesPlain asked w (m + 1) n → n < length w → slice_index w n ≡ 0x5D → (p : PairRead) × (p.end ≡ n + 1) × IsPair asked base w at p
+  pair_passed at m n inside opens (x, ex, px) im comma (y, ey, py) jn closes = (
+    record { end = y.end + 1; pair = record { at = base + at; least = base + x.first; pos = record { x = x.number.value; y = y.number.value } } },
+    ap (λ k. k + 1) ey,
+    pair_read at x y x.number.value y.number.value refl refl inside opens px (subst (λ k. k < length w) (sym ex) im) (subst (λ k. slice_index w k ≡ 0x2C) (sym ex) comma)
+        (subst (λ k. IsPlain asked w (k + 1) y) (sym ex) py) (subst (λ k. k < length w) (sym ey) jn) (subst (λ k. slice_index w k ≡ 0x5D) (sym ey) closes),
+  )
+
   pub pair_whole : (at : ℕ) (p : PairRead) → IsPair asked base w at p → IsWhole asked base w at (record { end = p.end; atom = atoms.Position p.pair })
   pair_whole at p h = record { order = h.order; within = h.within; own = h.own; tree = h.tree; spells = h.spells; fold = h.fold }
 
@@ -203,6 +251,13 @@ module _ (asked : Asked) (base : ℕ) (w : List ℕ) where
     spells = record { first = first; last = p.end; before = h; order = omega (arith, whole.order); behind = k; spaces = spaces; is_part = whole.spells; more_spaces = more };
     fold = whole.fold;
   }
+
+  -- a scalar of which the place behind it and the white space alone is told
+  pub item_passed : (at first last end : ℕ) → list_any looks_at_texts asked.query.tests ≡ false → at ≤ first → AreSpaces (part w at first) → IsScalarAt w first last → last ≤ end → end ≤ length w → AreSpaces (part w last end)
+      → (a : GeoAtom) × IsItem asked base w at (record { end = end; atom = a }) × (twin_of a ≡ None)
+  item_passed at first last end unasked h spaces (order, within, s) k fits more =
+      let p = scalar_passed first last order within unasked s in
+      (p.atom, item_read at first end (record { end = last; atom = p.atom }) h spaces p.whole k fits more, p.no_twin)
 
   -- ---- arrays
 

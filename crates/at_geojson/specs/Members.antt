@@ -5,14 +5,15 @@ use Rattle.at_fixed.specs.Kept.{part}
 use Rattle.at_lex.specs.Strings.{AreUnitsOf}
 use Rattle.at_nest.specs.declared.algebra.Member.{Member}
 use Rattle.at_geojson.specs.declared.atoms.GeoAtom.{GeoAtom}
+use Rattle.at_geojson.specs.declared.fields.Field.{Field}
 use Rattle.at_geojson.specs.declared.fields.Fields.{Fields}
 use Rattle.at_geojson.specs.declared.places.NamePlace.{NamePlace}
 use Rattle.at_geojson.specs.declared.pairs.Whole.{Whole}
 use Rattle.at_geojson.specs.Keeping.{Asked}
-use Rattle.at_geojson.specs.Atoms.{IsOwn}
+use Rattle.at_geojson.specs.Atoms.{twin_of, IsOwn}
 use Rattle.at_geojson.specs.Gathering.{member_twins}
-use Rattle.at_geojson.specs.Fields.{AreFields, MakesFields}
-use Rattle.at_geojson.specs.Values.{AreMembersRead}
+use Rattle.at_geojson.specs.Fields.{put_if, is_kind, is_coordinates, is_geometry, is_properties, is_features, is_geometries, AreFields, MakesFields}
+use Rattle.at_geojson.specs.Values.{IsItem, AreMembersRead}
 
 -- the bytes between the quotes
 abbrev pub name_in : List ℕ → NamePlace → List ℕ
@@ -32,6 +33,22 @@ pub record EndsFields (asked : Asked) (at end : ℕ) (fields : Fields) (p : Whol
   pub behind : p.end ≡ end
   pub own : IsOwn asked p.atom
   pub made : MakesFields asked.query at fields [] p.atom
+
+-- a value with white space round it in which no object has equal names, of which the place behind it alone is told
+abbrev pub PassesItem : Asked → List ℕ → ℕ → ℕ → Type 0
+PassesItem asked w at end = (base : ℕ) → (a : GeoAtom) × IsItem asked base w at (record { end = end; atom = a }) × (twin_of a ≡ None)
+
+-- such a value as a member of an object, which is put in its place among the fields
+pub record IsFieldRead (asked : Asked) (base : ℕ) (w : List ℕ) (at : ℕ) (field : Field) (old new : Fields) (end : ℕ) : Type 0 where
+  pub atom : GeoAtom
+  pub item : IsItem asked base w at (record { end = end; atom = atom })
+  pub no_twin : twin_of atom ≡ None
+  pub kind : new.kind ≡ put_if (is_kind field) old.kind atom
+  pub coordinates : new.coordinates ≡ put_if (is_coordinates field) old.coordinates atom
+  pub geometry : new.geometry ≡ put_if (is_geometry field) old.geometry atom
+  pub properties : new.properties ≡ put_if (is_properties field) old.properties atom
+  pub features : new.features ≡ put_if (is_features field) old.features atom
+  pub geometries : new.geometries ≡ put_if (is_geometries field) old.geometries atom
 
 -- between the members of an object: those before the place were read, and no name stands twice
 pub record AreFieldsRead (asked : Asked) (base : ℕ) (w : List ℕ) (at place : ℕ) (names : List NamePlace) (fields : Fields) : Type 0 where

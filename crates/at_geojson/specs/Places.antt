@@ -3,11 +3,16 @@ use Rattle.std.specs.Prelude.{◌≡◌, ℕ, ◌<◌, ◌≤◌, List, length, 
 use Rattle.at_fixed.specs.Kept.{part}
 use Rattle.at_lex.specs.Strings.{JsonString}
 use Rattle.at_lex.specs.Spans.{AreSpaces}
+use Rattle.at_nest.specs.Folds.{IsScalarText}
 use Rattle.at_geojson.specs.declared.places.NamePlace.{NamePlace}
 
 -- a string from the place to its end
 abbrev pub IsTextAt : List ℕ → ℕ → ℕ → Type 0
 IsTextAt w at end = (at < end) × (end ≤ length w) × JsonString (part w at end)
+
+-- a string, literal or number from the place to its end
+abbrev pub IsScalarAt : List ℕ → ℕ → ℕ → Type 0
+IsScalarAt w at end = (at < end) × (end ≤ length w) × IsScalarText (part w at end)
 
 -- white space, a name, white space, and a colon
 pub record IsNameAt (w : List ℕ) (at : ℕ) (p : NamePlace) : Type 0 where

@@ -1,6 +1,6 @@
 //! The members of an object for which some kind of object asks, by their names (RFC 7946 section 3).
 
-ghost use Rattle.std.specs.Prelude.{◌≡◌, [], IfOk};
+ghost use Rattle.std.specs.Prelude.{◌≡◌, [], true, IfOk};
 ghost use Rattle.at_geojson.specs.Atoms.{as_kind};
 ghost use Rattle.at_geojson.specs.Fields.{field_of, put_if, put_first as first_put, is_kind, is_coordinates, is_geometry, is_geometries, is_properties, is_features, AreFields, kind_in_fields};
 
@@ -20,6 +20,16 @@ pub enum Field {
     Geometries,
     /// A member for which no kind asks.
     Other,
+}
+
+/// Whether no kind asks for the member.
+pub fn is_other(field: Field) -> bool
+    ensures { result ≡ true → field ≡ Field.Other }
+{
+    match field {
+        Field::Other => true,
+        _ => false,
+    }
 }
 
 /// Of an object's members, the value of the first of each name for which some kind asks.

@@ -13,6 +13,7 @@ mod members;
 mod object_atoms;
 mod objects;
 mod pairs;
+mod passing;
 mod places;
 mod readings;
 mod root;

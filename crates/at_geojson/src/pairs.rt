@@ -1,16 +1,16 @@
 //! Positions of two numbers that are written plainly, and lists of them, read at once.
 
-ghost use Rattle.std.specs.Prelude.{◌≡◌, ℕ, ◌+◌, ◌<◌, ◌≤◌, ◌^◌, [], ◌∷◌, ◌++◌, length, slice_index, IfOk, IfSome};
-ghost use Rattle.at_geojson.specs.Keeping.{kept};
+ghost use Rattle.std.specs.Prelude.{◌≡◌, ℕ, ◌+◌, ◌<◌, ◌≤◌, ◌^◌, [], ◌∷◌, ◌++◌, length, slice_index, IfOk, IfSome, true, false};
+ghost use Rattle.at_geojson.specs.Keeping.{kept, needs_shapes as needs_of};
 ghost use Rattle.at_geojson.specs.Gathering.{to_four};
-ghost use Rattle.at_geojson.specs.Values.{IsWhole, IsPlain, IsPair, IsSpacedPair};
-ghost use Rattle.at_geojson.specs.Rows.{IsRow, LengthensRow, EndsRow, EndsPoints};
+ghost use Rattle.at_geojson.specs.Values.{IsWhole, IsPlain, IsPair, IsSpacedPair, PassesPlain, PassesPair, PassesSpacedPair};
+ghost use Rattle.at_geojson.specs.Rows.{IsRow, LengthensRow, EndsRow, EndsPoints, ArePointsPassed};
 
 use crate::asked::GeoAlgebra;
 use crate::atoms::{GeoAtom, Points, PointsAtom, PositionAtom};
 use crate::coordinates::same_or_faulty;
 use crate::places::{Stop, skip_spaces, stands};
-use at_fixed::{Notation, PlainNumber, plain_number};
+use at_fixed::{Notation, PlainNumber, plain_len, plain_number};
 use at_geom::{Pos, line_fault, ring_fault};
 use at_text::Memory;
 use std::alloc::Global;
@@ -52,6 +52,12 @@ pub struct Row {
 /// Room that a list of positions is given at first.
 const ROOM: usize = 8;
 
+/// Whether a number may begin at the place: what stands behind the digits begins none.
+#[inline(always)]
+fn may_begin(text: &[u8], at: usize) -> bool {
+    at < text.len() && text[at] <= b'9'
+}
+
 /// White space, a number that is written plainly, and white space.
 #[inline(always)]
 fn read_plain(algebra: &GeoAlgebra, text: &[u8], at: usize) -> Option<Plain>
@@ -60,6 +66,9 @@ fn read_plain(algebra: &GeoAlgebra, text: &[u8], at: usize) -> Option<Plain>
     ensures { IfSome result (IsPlain algebra.now text.now at) }
 {
     let first = skip_spaces(text, at);
+    if !may_begin(text, first) {
+        return None;
+    }
     let number = plain_number(
         &text[first..],
         Notation::Json,
@@ -215,6 +224,155 @@ fn read_spaced(algebra: &GeoAlgebra, text: &[u8], base: u32, at: usize) -> Optio
     Some(PairRead { end, pair })
 }
 
+/// White space, a number that is written plainly, and white space, passed over.
+#[inline(always)]
+fn pass_plain(algebra: &GeoAlgebra, text: &[u8], at: usize) -> Option<usize>
+    requires inside { at ≤ length text.now }
+    requires short { length text.now ≤ 2 ^ 28 }
+    ensures { IfSome result (PassesPlain algebra.now text.now at) }
+{
+    let first = skip_spaces(text, at);
+    let len = plain_len(
+        &text[first..],
+        Notation::Json,
+        algebra.digits(),
+        algebra.how(),
+    )?;
+    Some(skip_spaces(text, first + len as usize))
+}
+
+/// A position of two numbers that are written plainly, passed over.
+#[inline(always)]
+fn pass_pair(algebra: &GeoAlgebra, text: &[u8], at: usize) -> Option<usize>
+    requires { length text.now ≤ 2 ^ 28 }
+    ensures { IfSome result (PassesPair algebra.now text.now at) }
+{
+    if !stands(text, at, b'[') {
+        return None;
+    }
+    let x = pass_plain(algebra, text, at + 1)?;
+    if !stands(text, x, b',') {
+        return None;
+    }
+    let y = pass_plain(algebra, text, x + 1)?;
+    if !stands(text, y, b']') {
+        return None;
+    }
+    Some(y + 1)
+}
+
+/// A position, behind white space and before white space, passed over.
+#[inline(always)]
+fn pass_spaced(algebra: &GeoAlgebra, text: &[u8], at: usize) -> Option<usize>
+    requires inside { at ≤ length text.now }
+    requires short { length text.now ≤ 2 ^ 28 }
+    ensures { IfSome result (PassesSpacedPair algebra.now text.now at) }
+{
+    let first = skip_spaces(text, at);
+    let end = pass_pair(algebra, text, first)?;
+    Some(skip_spaces(text, end))
+}
+
+/// The last of positions of which all but the first were passed over, behind the comma at the place, and the closing
+/// bracket.
+fn last_point(
+    algebra: &GeoAlgebra,
+    alloc: Global,
+    text: &[u8],
+    base: u32,
+    at: usize,
+    end: usize,
+    row: Row,
+) -> Result<Whole, Stop>
+    requires opens { slice_index text.now at ≡ 0x5B }
+    requires inside { end < length text.now }
+    requires comma { slice_index text.now end ≡ 0x2C }
+    requires fits { base + length text.now ≤ 2 ^ 28 }
+    requires unneeded { needs_of algebra.now.query ≡ false }
+    requires passed { ArePointsPassed algebra.now base text.now at end row }
+    ensures { IfOk result (IsWhole algebra.now base text.now at) }
+{
+    let Some(last) = read_spaced(algebra, text, base, end + 1) else {
+        return Err(Stop::At(end));
+    };
+    if !stands(text, last.end, b']') {
+        return Err(Stop::At(last.end));
+    }
+    let whole = Row {
+        first: row.first,
+        last: last.pair.pos,
+        count: one_more(row.count),
+        path: row.path,
+    };
+    ended_row(algebra, alloc, base + at as u32, last.end + 1, whole)
+}
+
+/// A list of positions of which the first was read, where no shapes are kept: those between the first and the last are
+/// passed over.
+fn pass_points(
+    algebra: &GeoAlgebra,
+    alloc: Global,
+    text: &[u8],
+    base: u32,
+    at: usize,
+    first: PairRead,
+) -> Result<Whole, Stop>
+    requires inside { at < length text.now }
+    requires opens { slice_index text.now at ≡ 0x5B }
+    requires fits { base + length text.now ≤ 2 ^ 28 }
+    requires unneeded { needs_of algebra.now.query ≡ false }
+    requires first { IsSpacedPair algebra.now base text.now (at + 1) first }
+    ensures { IfOk result (IsWhole algebra.now base text.now at) }
+{
+    let mut row = row_of(alloc, false, first.pair)?;
+    let mut end = first.end;
+    if stands(text, end, b']') {
+        return ended_row(algebra, alloc, base + at as u32, end + 1, row);
+    }
+    'positions: while stands(text, end, b',') {
+        let Some(next) = pass_spaced(algebra, text, end + 1) else {
+            return Err(Stop::At(end));
+        };
+        if stands(text, next, b']') {
+            return last_point(algebra, alloc, text, base, at, end, row);
+        }
+        row.count = one_more(row.count);
+        end = next;
+    }
+    Err(Stop::At(end))
+}
+
+/// A list of positions of which the first was read, where shapes are kept.
+fn keep_points(
+    algebra: &GeoAlgebra,
+    alloc: Global,
+    text: &[u8],
+    base: u32,
+    at: usize,
+    first: PairRead,
+) -> Result<Whole, Stop>
+    requires inside { at < length text.now }
+    requires opens { slice_index text.now at ≡ 0x5B }
+    requires fits { base + length text.now ≤ 2 ^ 28 }
+    requires needed { needs_of algebra.now.query ≡ true }
+    requires first { IsSpacedPair algebra.now base text.now (at + 1) first }
+    ensures { IfOk result (IsWhole algebra.now base text.now at) }
+{
+    let mut row = row_of(alloc, true, first.pair)?;
+    let mut end = first.end;
+    'positions: while !stands(text, end, b']') {
+        if !stands(text, end, b',') {
+            return Err(Stop::At(end));
+        }
+        let Some(next) = read_spaced(algebra, text, base, end + 1) else {
+            return Err(Stop::At(end));
+        };
+        row = longer_row(row, true, next.pair)?;
+        end = next.end;
+    }
+    ended_row(algebra, alloc, base + at as u32, end + 1, row)
+}
+
 /// A list of positions of two numbers that are written plainly, from its opening bracket on, which stands at the place.
 pub fn read_points(
     algebra: &GeoAlgebra,
@@ -231,18 +389,9 @@ pub fn read_points(
     let Some(first) = read_spaced(algebra, text, base, at + 1) else {
         return Err(Stop::At(at + 1));
     };
-    let needs = algebra.needs_shapes();
-    let mut row = row_of(alloc, needs, first.pair)?;
-    let mut end = first.end;
-    'positions: while !stands(text, end, b']') {
-        if !stands(text, end, b',') {
-            return Err(Stop::At(end));
-        }
-        let Some(next) = read_spaced(algebra, text, base, end + 1) else {
-            return Err(Stop::At(end));
-        };
-        row = longer_row(row, needs, next.pair)?;
-        end = next.end;
+    if algebra.needs_shapes() {
+        keep_points(algebra, alloc, text, base, at, first)
+    } else {
+        pass_points(algebra, alloc, text, base, at, first)
     }
-    ended_row(algebra, alloc, base + at as u32, end + 1, row)
 }

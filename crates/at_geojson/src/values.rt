@@ -5,16 +5,17 @@ ghost use Rattle.std.specs.List.{list_any};
 ghost use Rattle.at_geojson.specs.Keeping.{looks_at_texts};
 ghost use Rattle.at_geojson.specs.Atoms.{IsOwn};
 ghost use Rattle.at_geojson.specs.Fields.{AreOwnFields};
-ghost use Rattle.at_geojson.specs.Members.{EndsFields};
+ghost use Rattle.at_geojson.specs.Members.{EndsFields, IsFieldRead};
 ghost use Rattle.at_geojson.specs.Values.{IsWhole, IsItem, AreItemsRead, AreMembersRead, EndsArray, EndsObject};
 
 use crate::asked::{GeoAlgebra, needs_texts};
 use crate::atoms::{GeoAtom, NumberAtom};
-use crate::fields::{Fields, field_of_bytes};
+use crate::fields::{Field, Fields, field_of_bytes, is_other};
 use crate::lists::array_atom;
 use crate::members::new_name;
 use crate::object_atoms::{fields_atom, object_atom};
 use crate::pairs::{PairRead, Whole, read_pair, read_points};
+use crate::passing::pass_item;
 use crate::places::{Stop, name_place, skip_spaces, stands, text_end};
 use crate::scalars::scalar_atom;
 use crate::twins::is_twin;
@@ -290,6 +291,80 @@ fn ended_fields(
     Ok(Whole { end, atom })
 }
 
+/// White space, a member's value and white space. The value is put in its place.
+#[cycle(values)]
+fn put_field(
+    algebra: &GeoAlgebra,
+    alloc: Global,
+    text: &[u8],
+    base: u32,
+    at: usize,
+    depth: u8,
+    field: Field,
+    fields: &mut Fields,
+) -> Result<usize, Stop>
+    requires inside { at ≤ length text.now }
+    requires fits { base + length text.now ≤ 2 ^ 28 }
+    ensures { IfOk result (IsFieldRead algebra.now base text.now at field fields.old fields.new) }
+{
+    let Whole { end, atom } = read_item(algebra, alloc, text, base, at, depth)?;
+    if is_twin(&atom) {
+        return Err(Stop::At(end));
+    }
+    fields.put(field, atom);
+    Ok(end)
+}
+
+/// The same of a member for which no kind asks, where no test looks at texts: a string, literal or number is passed over.
+#[cycle(values)]
+#[inline(always)]
+fn other_field(
+    algebra: &GeoAlgebra,
+    alloc: Global,
+    text: &[u8],
+    base: u32,
+    at: usize,
+    depth: u8,
+    field: Field,
+    fields: &mut Fields,
+) -> Result<usize, Stop>
+    requires inside { at ≤ length text.now }
+    requires fits { base + length text.now ≤ 2 ^ 28 }
+    requires unasked { list_any looks_at_texts algebra.now.query.tests ≡ false }
+    requires other { field ≡ Field.Other }
+    ensures { IfOk result (IsFieldRead algebra.now base text.now at field fields.old fields.new) }
+{
+    match pass_item(algebra, text, at) {
+        Some(end) => Ok(end),
+        None => put_field(algebra, alloc, text, base, at, depth, field, fields),
+    }
+}
+
+/// The same of any member, where no test looks at texts.
+#[cycle(values)]
+#[inline(always)]
+fn read_field(
+    algebra: &GeoAlgebra,
+    alloc: Global,
+    text: &[u8],
+    base: u32,
+    at: usize,
+    depth: u8,
+    field: Field,
+    fields: &mut Fields,
+) -> Result<usize, Stop>
+    requires inside { at ≤ length text.now }
+    requires fits { base + length text.now ≤ 2 ^ 28 }
+    requires unasked { list_any looks_at_texts algebra.now.query.tests ≡ false }
+    ensures { IfOk result (IsFieldRead algebra.now base text.now at field fields.old fields.new) }
+{
+    if is_other(field) {
+        other_field(algebra, alloc, text, base, at, depth, field, fields)
+    } else {
+        put_field(algebra, alloc, text, base, at, depth, field, fields)
+    }
+}
+
 /// An object where no test looks at texts, from its opening bracket on, which stands at the place.
 #[cycle(values)]
 fn read_fields(
@@ -319,11 +394,17 @@ fn read_fields(
     'fields: loop {
         let name = new_name(text, names.as_slice(), place)?;
         names.push(name)?;
-        let Whole { end, atom } = read_item(algebra, alloc, text, base, name.colon + 1, depth - 1)?;
-        if is_twin(&atom) {
-            return Err(Stop::At(end));
-        }
-        fields.put(field_of_bytes(&text[name.first + 1..name.end - 1]), atom);
+        let field = field_of_bytes(&text[name.first + 1..name.end - 1]);
+        let end = read_field(
+            algebra,
+            alloc,
+            text,
+            base,
+            name.colon + 1,
+            depth - 1,
+            field,
+            &mut fields,
+        )?;
         if stands(text, end, b'}') {
             return ended_fields(algebra, alloc, base + at as u32, end + 1, &mut fields);
         }

@@ -3,12 +3,13 @@ use Rattle.std.proofs.Common.{[], All, refl, sym, subst, arith, ◌+◌}
 use Rattle.std.proofs.lemmas.Result.{IfOk-weaker}
 use Rattle.at_nest.specs.declared.algebra.Member.{Member}
 use Rattle.at_geojson.specs.declared.atoms.GeoAtom.{GeoAtom}
+use Rattle.at_geojson.specs.declared.pairs.Whole.{Whole}
 use Rattle.at_geojson.specs.Atoms.{IsOwn}
 use Rattle.at_geojson.specs.Values.{AreItemsRead, AreMembersRead, EndsArray, EndsObject}
 use Rattle.at_geojson.specs.Members.{name_in, AreFieldsRead}
 use Rattle.at_geojson.proofs.ValueParts.{pair_whole, items_begin, items_go_on, items_own, array_read, empty_read, name_text, name_units, members_begin, members_go_on, members_own, object_read, void_read}
 use Rattle.at_geojson.proofs.FieldFolds.{own_fields}
-use Rattle.at_geojson.proofs.MemberReads.{fields_begin, longer_fields, fields_go_on, ends_fields, ends_longer}
+use Rattle.at_geojson.proofs.MemberReads.{no_twin_in, field_passed, fields_begin, longer_fields, fields_go_on, ends_fields, ends_longer}
 use Rattle.at_geojson.proofs.values.+values.Goals as goal
 
 pub read_array-returns-then-stands : goal.read_array-returns-then-stands
@@ -86,30 +87,46 @@ read_fields-fields-init t c = record {
 
 pub read_fields-ended_fields-requires-then-stands-2 : goal.read_fields-ended_fields-requires-then-stands-2
 read_fields-ended_fields-requires-then-stands-2 t c =
-    let l = longer_fields c.args.algebra.now c.args.base c.args.text.now c.args.at c.fields.place c.fields.names.items c.as_slice.result.now c.fields.fields c.in_ok-name.name c.in_ok-end.field-0 c.put.new.self c.field_of_bytes.result c.is_twin.result
-    c.fields.invariant.read c.in_ok-name.ensures.plain c.as_slice.ensures.value c.in_ok-name.ensures.new c.is_twin.ensures c.if-is_twin.false c.field_of_bytes.ensures
-    c.put.ensures.kind c.put.ensures.coordinates c.put.ensures.geometry c.put.ensures.properties c.put.ensures.features c.put.ensures.geometries in
-    own_fields c.args.algebra.now c.put.new.self _ l.are (members_own c.args.algebra.now c.args.base c.args.text.now c.args.at c.fields.place l.before.members c.in_ok-name.name (name_in c.args.text.now c.in_ok-name.name) c.in_ok-end.field-0 l.before.read c.in_ok-end.ensures)
+    let r = c.in_ok-end.ensures in let p : Whole = record { end = c.in_ok-end.end; atom = r.atom } in
+    let l = longer_fields c.args.algebra.now c.args.base c.args.text.now c.args.at c.fields.place c.fields.names.items c.as_slice.result.now c.fields.fields c.in_ok-name.name p c.read_field.new.fields c.field_of_bytes-field.result
+    c.fields.invariant.read c.in_ok-name.ensures.plain c.as_slice.ensures.value c.in_ok-name.ensures.new r.no_twin c.field_of_bytes-field.ensures r.kind r.coordinates r.geometry r.properties r.features r.geometries in
+    own_fields c.args.algebra.now c.read_field.new.fields _ l.are (members_own c.args.algebra.now c.args.base c.args.text.now c.args.at c.fields.place l.before.members c.in_ok-name.name (name_in c.args.text.now c.in_ok-name.name) p l.before.read r.item)
 
 pub read_fields-returns-then-stands-2 : goal.read_fields-returns-then-stands-2
 read_fields-returns-then-stands-2 t c =
-    let l = longer_fields c.args.algebra.now c.args.base c.args.text.now c.args.at c.fields.place c.fields.names.items c.as_slice.result.now c.fields.fields c.in_ok-name.name c.in_ok-end.field-0 c.put.new.self c.field_of_bytes.result c.is_twin.result
-    c.fields.invariant.read c.in_ok-name.ensures.plain c.as_slice.ensures.value c.in_ok-name.ensures.new c.is_twin.ensures c.if-is_twin.false c.field_of_bytes.ensures
-    c.put.ensures.kind c.put.ensures.coordinates c.put.ensures.geometry c.put.ensures.properties c.put.ensures.features c.put.ensures.geometries in
-    IfOk-weaker c.ended_fields-then-stands-2.result _ _ (λ q e. object_read c.args.algebra.now c.args.base c.args.text.now c.args.at c.fields.place l.before.members c.in_ok-name.name (name_in c.args.text.now c.in_ok-name.name) c.in_ok-end.field-0 q
-    c.fields.invariant.order c.requires.opens l.before.read c.in_ok-name.ensures.place l.plain.units c.in_ok-end.ensures (c.stands-in-fields.ensures.inside c.if-stands-2.true) (c.stands-in-fields.ensures.byte c.if-stands-2.true)
-    (ends_longer c.args.algebra.now c.args.base c.args.text.now c.args.at c.fields.place (c.in_ok-end.field-0.end + 1) c.fields.names.items c.fields.fields c.in_ok-name.name c.in_ok-end.field-0 c.put.new.self q l e c.requires.unasked)) c.ended_fields-then-stands-2.ensures
+    let r = c.in_ok-end.ensures in let p : Whole = record { end = c.in_ok-end.end; atom = r.atom } in
+    let l = longer_fields c.args.algebra.now c.args.base c.args.text.now c.args.at c.fields.place c.fields.names.items c.as_slice.result.now c.fields.fields c.in_ok-name.name p c.read_field.new.fields c.field_of_bytes-field.result
+    c.fields.invariant.read c.in_ok-name.ensures.plain c.as_slice.ensures.value c.in_ok-name.ensures.new r.no_twin c.field_of_bytes-field.ensures r.kind r.coordinates r.geometry r.properties r.features r.geometries in
+    IfOk-weaker c.ended_fields-then-stands-2.result _ _ (λ q e. object_read c.args.algebra.now c.args.base c.args.text.now c.args.at c.fields.place l.before.members c.in_ok-name.name (name_in c.args.text.now c.in_ok-name.name) p q
+    c.fields.invariant.order c.requires.opens l.before.read c.in_ok-name.ensures.place l.plain.units r.item (c.stands-in-fields.ensures.inside c.if-stands-2.true) (c.stands-in-fields.ensures.byte c.if-stands-2.true)
+    (ends_longer c.args.algebra.now c.args.base c.args.text.now c.args.at c.fields.place (p.end + 1) c.fields.names.items c.fields.fields c.in_ok-name.name p c.read_field.new.fields q l e c.requires.unasked)) c.ended_fields-then-stands-2.ensures
 
 pub read_fields-fields-preserved : goal.read_fields-fields-preserved
 read_fields-fields-preserved t c =
-    let l = longer_fields c.args.algebra.now c.args.base c.args.text.now c.args.at c.fields.place c.fields.names.items c.as_slice.result.now c.fields.fields c.in_ok-name.name c.in_ok-end.field-0 c.put.new.self c.field_of_bytes.result c.is_twin.result
-    c.fields.invariant.read c.in_ok-name.ensures.plain c.as_slice.ensures.value c.in_ok-name.ensures.new c.is_twin.ensures c.if-is_twin.false c.field_of_bytes.ensures
-    c.put.ensures.kind c.put.ensures.coordinates c.put.ensures.geometry c.put.ensures.properties c.put.ensures.features c.put.ensures.geometries in
+    let r = c.in_ok-end.ensures in let p : Whole = record { end = c.in_ok-end.end; atom = r.atom } in
+    let l = longer_fields c.args.algebra.now c.args.base c.args.text.now c.args.at c.fields.place c.fields.names.items c.as_slice.result.now c.fields.fields c.in_ok-name.name p c.read_field.new.fields c.field_of_bytes-field.result
+    c.fields.invariant.read c.in_ok-name.ensures.plain c.as_slice.ensures.value c.in_ok-name.ensures.new r.no_twin c.field_of_bytes-field.ensures r.kind r.coordinates r.geometry r.properties r.features r.geometries in
     let here = c.if-not-stands.false in
     let inside = c.stands-in-fields-2.ensures.inside here in
     record {
-      order = omega (arith, c.fields.invariant.order, c.in_ok-name.ensures.place.before, c.in_ok-name.ensures.place.text.0, c.in_ok-name.ensures.place.behind, c.in_ok-end.ensures.order);
+      order = omega (arith, c.fields.invariant.order, c.in_ok-name.ensures.place.before, c.in_ok-name.ensures.place.text.0, c.in_ok-name.ensures.place.behind, r.item.order);
       within = omega (arith, inside);
-      read = subst (λ z. AreFieldsRead c.args.algebra.now c.args.base c.args.text.now c.args.at (c.in_ok-end.field-0.end + 1) z c.put.new.self) (sym c.in_ok-push.ensures.items)
-          (fields_go_on c.args.algebra.now c.args.base c.args.text.now c.args.at c.fields.place c.fields.names.items c.fields.fields c.in_ok-name.name c.in_ok-end.field-0 c.put.new.self c.fields.invariant.order l c.in_ok-name.ensures.place c.in_ok-end.ensures inside (c.stands-in-fields-2.ensures.byte here));
+      read = subst (λ z. AreFieldsRead c.args.algebra.now c.args.base c.args.text.now c.args.at (p.end + 1) z c.read_field.new.fields) (sym c.in_ok-push.ensures.items)
+          (fields_go_on c.args.algebra.now c.args.base c.args.text.now c.args.at c.fields.place c.fields.names.items c.fields.fields c.in_ok-name.name p c.read_field.new.fields c.fields.invariant.order l c.in_ok-name.ensures.place r.item inside (c.stands-in-fields-2.ensures.byte here));
     }
+
+pub put_field-returns : goal.put_field-returns
+put_field-returns t c = record {
+  atom = c.in_ok-end.field-0.atom;
+  item = c.in_ok-end.ensures;
+  no_twin = no_twin_in c.in_ok-end.field-0.atom c.is_twin.result c.is_twin.ensures c.if-is_twin.false;
+  kind = c.put.ensures.kind;
+  coordinates = c.put.ensures.coordinates;
+  geometry = c.put.ensures.geometry;
+  properties = c.put.ensures.properties;
+  features = c.put.ensures.features;
+  geometries = c.put.ensures.geometries;
+}
+
+pub other_field-returns-in-Some : goal.other_field-returns-in-Some
+other_field-returns-in-Some t c = field_passed c.args.algebra.now c.args.base c.args.text.now c.args.at c.in-Some.end c.args.field _ c.requires.other c.in-Some.ensures

@@ -5,28 +5,37 @@ use Rattle.at_geojson.specs.Members.{AreFieldsRead}
 use Rattle.at_geojson.proofs.values.+values.Given as goal
 
 abbrev pub decreases-read_value : goal.decreases-read_value
-decreases-read_value l = 5 * l.depth + 2
+decreases-read_value l = 8 * l.depth + 2
 
 abbrev pub decreases-read_list : goal.decreases-read_list
-decreases-read_list l = 5 * l.depth + 1
+decreases-read_list l = 8 * l.depth + 1
 
 abbrev pub decreases-read_any : goal.decreases-read_any
-decreases-read_any l = 5 * l.depth + 3
+decreases-read_any l = 8 * l.depth + 3
 
 abbrev pub decreases-read_item : goal.decreases-read_item
-decreases-read_item l = 5 * l.depth + 4
+decreases-read_item l = 8 * l.depth + 4
+
+abbrev pub decreases-put_field : goal.decreases-put_field
+decreases-put_field l = 8 * l.depth + 5
+
+abbrev pub decreases-other_field : goal.decreases-other_field
+decreases-other_field l = 8 * l.depth + 6
+
+abbrev pub decreases-read_field : goal.decreases-read_field
+decreases-read_field l = 8 * l.depth + 7
 
 abbrev pub decreases-read_array : goal.decreases-read_array
-decreases-read_array l = 5 * l.depth
+decreases-read_array l = 8 * l.depth
 
 abbrev pub decreases-read_object : goal.decreases-read_object
-decreases-read_object l = 5 * l.depth + 1
+decreases-read_object l = 8 * l.depth + 1
 
 abbrev pub decreases-read_members : goal.decreases-read_members
-decreases-read_members l = 5 * l.depth
+decreases-read_members l = 8 * l.depth
 
 abbrev pub decreases-read_fields : goal.decreases-read_fields
-decreases-read_fields l = 5 * l.depth
+decreases-read_fields l = 8 * l.depth
 
 abbrev pub invariant-read_array-items : goal.invariant-read_array-items
 invariant-read_array-items l = record { order : l.at < l.place; within : l.place ≤ length l.text; read : AreItemsRead l.algebra l.base l.text l.at l.place l.items.items }
