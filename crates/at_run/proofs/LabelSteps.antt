@@ -1,24 +1,24 @@
 -- What the reader of a label finds of a line: where a label stands, and that no line goes on where none does.
-use Rattle.std.proofs.Common.{◌≡◌, ℕ, zero, suc, ◌+◌, ◌-◌, ◌<◌, ◌≤◌, inl, inr, true, List, [], ◌∷◌, ◌++◌, length, take, drop, slice_index, codes, Option, Some, None, refl, sym, ◌∙◌, ap, subst, arith, append-nil, append_assoc, length-append, length-take, length-drop, take-append-drop, take-take, drop-drop, lit≤}
+use Rattle.std.proofs.Common.{◌≡◌, ℕ, zero, suc, ◌+◌, ◌-◌, ◌<◌, ◌≤◌, inl, inr, true, List, [], ◌∷◌, ◌++◌, length, take, drop, slice_index, flat_map, codes, Option, Some, None, refl, sym, ◌∙◌, ap, subst, arith, append-nil, append_assoc, length-append, length-take, length-drop, take-append-drop, take-take, drop-drop, lit≤}
 use native.Mathlib.Decide.{dec_lt}
 use Rattle.std.proofs.Math.Seq.{take-length}
 use Rattle.std.proofs.lemmas.List.{drop_more, drop-take, get_or-take}
 use Rattle.std.specs.Str.{IsUtf8}
-use Rattle.std.proofs.lemmas.Str.{IsUtf8-take, IsUtf8-drop, IsCharBoundary-before_ascii, IsCharBoundary-at_seam}
+use Rattle.std.proofs.lemmas.Str.{IsUtf8-take, IsUtf8-drop, IsCharBoundary-before_ascii, IsCharBoundary-after_ascii}
 use Rattle.at_text.specs.declared.faults.Fault.{Fault}
 use Rattle.at_text.specs.Prefix.{Viable, LongestViable}
 use Rattle.at_text.specs.Spans.{part_of}
 use Rattle.at_text.specs.Syntax.{IsSyntaxFault, stop_fault}
 use Rattle.at_lex.specs.Fronts.{IsFront}
-use Rattle.at_lex.specs.Strings.{Character, SpellsString}
+use Rattle.at_lex.specs.Strings.{Character, character_text, SpellsString}
 use Rattle.at_lex.proofs.FrontLemmas.{front_all, suffix_is}
 use Rattle.at_wkt.specs.Geometry.{Geometry, point, is_blank, SpellsGeometry, IsLineOf, WktLine}
 use Rattle.at_wkt.proofs.Leads.{append_cases}
 use Rattle.at_query.specs.Reading.{part, Text, Stops, past, over}
 use Rattle.at_run.specs.Labels.{SpellsLabelled, LabelledLine}
-use Rattle.at_run.specs.Labelling.{QuoteStands, QuoteIs, LabelStands}
-use Rattle.at_run.proofs.AsciiLines.{plain_valid}
-use Rattle.at_run.proofs.LabelledLines.{AreBlanks, BeginsQuoted, string_begins, quoted_on, quoted_front, same_blanks, quote_stops, quoted_not_plain, label_added, line_with_label, label_taken, longest_behind, stop_behind}
+use Rattle.at_run.specs.declared.labels.Behind.{Behind}
+use Rattle.at_run.specs.Labelling.{QuoteStands, QuoteIs, LabelStands, IsBehind}
+use Rattle.at_run.proofs.LabelledLines.{AreBlanks, BeginsQuoted, string_begins, quoted_on, quoted_front, same_blanks, quote_stops, quoted_not_plain, label_added, line_with_label, label_taken, taken_on, longest_behind, stop_behind}
 
 -- ---- lists
 
@@ -102,6 +102,12 @@ one_place text n h quote q = elim (dec_lt quote n) [
 
 pub no_quote_here : (text : List ℕ) (n : ℕ) → IsFront is_blank text n → (slice_index text n ≡ 0x22 → ⊥) → QuoteIs text None
 no_quote_here text n h other quote q = let e = one_place text n h quote q in other (ap (slice_index text) (sym e) ∙ q.byte)
+
+-- nor does one begin a front of bytes that begin with a letter
+pub plain_front : (b : ℕ) (t : List ℕ) (n : ℕ) → 0x22 < b → QuoteIs (take n (b ∷ t)) None
+plain_front b t zero h quote q = let i = q.inside in omega (arith, i)
+plain_front b t (suc n) h zero q = let e = q.byte in omega (arith, e, h)
+plain_front b t (suc n) h (suc quote) q = let blank = q.blanks.0 in absurd (grind (arith, blank, h))
 
 pub no_quote_at_end : (text : List ℕ) (n : ℕ) → IsFront is_blank text n → n ≡ length text → QuoteIs text None
 no_quote_at_end text n h end quote q = let e = one_place text n h quote q in let i = q.inside in omega (arith, e, end, i)
@@ -206,6 +212,16 @@ module _ (at : ℕ) (text : List ℕ) (quote n : ℕ) (q : QuoteStands text quot
 
 -- ---- a label, and the text behind it
 
+-- what ends with a quote is valid where it begins valid bytes
+valid_label : (w r front : List ℕ) → w ≡ front ++ 0x22 ∷ [] → IsUtf8 (w ++ r) → IsUtf8 w
+valid_label w r front e valid =
+    let whole : w ++ r ≡ front ++ 0x22 ∷ r = ap (λ z. z ++ r) e ∙ append_assoc front (0x22 ∷ []) r in
+    let h : IsUtf8 (front ++ 0x22 ∷ r) = subst IsUtf8 whole valid in
+    let size = length-append front (0x22 ∷ r) in
+    let small : slice_index (front ++ 0x22 ∷ r) (length front) < 128 = subst (λ z. z < 128) (sym (byte_behind front r 0x22)) (omega arith) in
+    let boundary = IsCharBoundary-after_ascii (front ++ 0x22 ∷ r) (length front) h (omega (arith, size)) small in
+    subst IsUtf8 (taken_on front (0x22 ∷ r) 1 ∙ sym e) (IsUtf8-take (front ++ 0x22 ∷ r) (length front + 1) h boundary)
+
 module _ (at : ℕ) (text : List ℕ) (quote end : ℕ) (label : LabelStands text quote end) where
   pub label_front : text ≡ take quote text ++ (part_of text quote end ++ drop end text)
   label_front = split_text text quote end label.order
@@ -219,14 +235,13 @@ module _ (at : ℕ) (text : List ℕ) (quote end : ℕ) (label : LabelStands tex
       omega (arith, m, n, k, order, within)
 
   -- the label of a line that is UTF-8 is
-  pub label_valid : WktLine (at + end) (drop end text) → IsUtf8 text → IsUtf8 (part_of text quote end)
-  label_valid line valid =
+  pub label_valid : IsUtf8 text → IsUtf8 (part_of text quote end)
+  label_valid valid =
       let inside = label.begins.inside in
-      let label_bytes : List ℕ = part_of text quote end in
+      let (cs, are, same) = label.string in
       let small : slice_index text quote < 128 = subst (λ z. z < 128) (sym label.begins.byte) (omega arith) in
-      let rest : IsUtf8 (label_bytes ++ drop end text) = subst IsUtf8 (sym (rest_split text quote end label.order)) (IsUtf8-drop text quote valid (IsCharBoundary-before_ascii text quote inside small)) in
-      subst IsUtf8 (front_of label_bytes (drop end text))
-      (IsUtf8-take (label_bytes ++ drop end text) (length label_bytes) rest (IsCharBoundary-at_seam (label_bytes ++ drop end text) label_bytes (drop end text) refl (plain_valid (at + end) (drop end text) line)))
+      let rest : IsUtf8 (part_of text quote end ++ drop end text) = subst IsUtf8 (sym (rest_split text quote end label.order)) (IsUtf8-drop text quote valid (IsCharBoundary-before_ascii text quote inside small)) in
+      valid_label (part_of text quote end) (drop end text) (0x22 ∷ flat_map character_text cs) same rest
 
   module _ (cs : List Character) (hs : SpellsString cs quote (part_of text quote end)) where
     pub label_spelled : (g : Geometry) → IsLineOf (at + end) (drop end text) g → SpellsLabelled (Some cs) g at text
@@ -256,3 +271,21 @@ module _ (at : ℕ) (text : List ℕ) (quote end : ℕ) (label : LabelStands tex
 
       taken : (u : List ℕ) → LabelledLine at (take quote text ++ (part_of text quote end ++ u)) → WktLine (at + end) u
       taken u l = subst (λ i. WktLine i u) label_place (label_taken at (take quote text) (part_of text quote end) cs label.begins.blanks hs u l)
+
+-- ---- a line as it is read
+
+-- behind its label
+pub is_behind : (ahead : List ℕ) (len at quote end : ℕ) (line : Behind) → len ≤ length ahead → LabelStands (take len ahead) quote end → IsUtf8 (part_of ahead quote end) → line.label.now ≡ part_of ahead quote end
+    → line.ahead.now ≡ take (length ahead - end) (drop end ahead) → line.len ≡ len - end → line.at ≡ at + end → IsBehind ahead len at line
+is_behind ahead len at quote end line inside stands valid label rest size place =
+    let near = line_end ahead len quote end inside stands in
+    let same = label ∙ part_front ahead len quote end stands.order near in
+    let left : length line.ahead.now ≡ length ahead - end = ap length (rest ∙ suffix_is ahead end) ∙ length-drop end ahead in
+    record {
+      end = end;
+      front = inr (quote, stands, subst IsUtf8 (sym label) valid, same);
+      text = ap (λ n. take n line.ahead.now) size ∙ (ap (take (len - end)) rest ∙ rest_is ahead len end near);
+      place = place;
+      inside = omega (arith, left, size, near, inside);
+      reach = omega (arith, left, place, near, inside);
+    }

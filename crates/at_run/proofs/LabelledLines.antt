@@ -121,7 +121,7 @@ module _ (at : ℕ) (a s : List ℕ) (cs : List Character) (blanks : AreBlanks a
 
 -- ---- the longest beginning of a line
 
-taken_on : (f v : List ℕ) (n : ℕ) → take (length f + n) (f ++ v) ≡ f ++ take n v
+pub taken_on : (f v : List ℕ) (n : ℕ) → take (length f + n) (f ++ v) ≡ f ++ take n v
 taken_on [] v n = let e : length {A = ℕ} [] + n ≡ n = omega arith in ap (λ z. take z v) e
 taken_on (b ∷ f) v n = let e : length (b ∷ f) + n ≡ suc (length f + n) = omega arith in ap (λ z. take z ((b ∷ f) ++ v)) e ∙ ap (λ z. b ∷ z) (taken_on f v n)
 

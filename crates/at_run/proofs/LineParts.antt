@@ -1,5 +1,5 @@
 -- What is gathered of one line, and of joined lines.
-use Rattle.std.proofs.Common.{◌≡◌, ℕ, ◌+◌, List, [], ◌∷◌, ◌++◌, take, drop, Option, Some, None, Result, Ok, Err, refl, sym, ap, subst, inl, inr, if◌then◌else◌}
+use Rattle.std.proofs.Common.{◌≡◌, ℕ, ◌+◌, List, [], ◌∷◌, ◌++◌, take, drop, Option, Some, None, Result, Ok, Err, refl, sym, ap, subst, inl, inr, arith, if◌then◌else◌}
 use Rattle.std.specs.List.{AllByRecursion, list_any}
 use Rattle.std.specs.Result.{IfOk}
 use Rattle.std.specs.Str.{IsUtf8}
@@ -11,7 +11,7 @@ use Rattle.at_text.specs.Spans.{part_of}
 use Rattle.at_text.specs.Syntax.{IsSyntaxFault}
 use Rattle.at_fixed.specs.declared.rounding.Coords.{Coords}
 use Rattle.at_geom.specs.declared.shapes.Shape.{Shape}
-use Rattle.at_lex.specs.Strings.{Character}
+use Rattle.at_lex.specs.Strings.{Character, JsonString}
 use Rattle.at_wkt.specs.declared.answers.LineFault.{LineFault}
 use Rattle.at_wkt.specs.declared.answers.LineFault.TheVariants.{Found, Memory as NoMemory}
 use Rattle.at_wkt.specs.Geometry.{Geometry}
@@ -30,11 +30,12 @@ use Rattle.at_query.proofs.Joining.{parts_are_alike}
 use Rattle.at_run.specs.declared.gathered.Gathered.{Gathered}
 use Rattle.at_run.specs.declared.gathered.Gathered.TheVariants.{Kept, Failed}
 use Rattle.at_run.specs.Labels.{SpellsLabelled, LabelledLine, texts_of}
-use Rattle.at_run.specs.Labelling.{QuoteIs, LabelStands, AreKeptTexts, asks_label}
+use Rattle.at_run.specs.declared.labels.Behind.{Behind}
+use Rattle.at_run.specs.Labelling.{QuoteIs, LabelStands, HasFront, IsBehind, AreKeptTexts, AreFrontTexts, asks_label}
 use Rattle.at_run.specs.Features.{AreLineFeatures}
 use Rattle.at_run.specs.Gathering.{Asked, IsOwn, IsGathered, CountsAll, IsChecked, AreJoinable, JoinsGathered, KeepsOwn, IsLineEnd}
 use Rattle.at_run.proofs.AsciiLines.{plain_valid, blanks_valid}
-use Rattle.at_run.proofs.LabelSteps.{without_quote, plain_syntax, label_front, label_spelled, label_syntax, label_valid}
+use Rattle.at_run.proofs.LabelSteps.{without_quote, plain_syntax, label_front, label_spelled, label_syntax}
 use Rattle.at_run.proofs.FaultLists.{first_none, first_one, first_joined}
 use Rattle.at_run.proofs.KeptLabels.{kept_label}
 
@@ -59,6 +60,9 @@ module _ (digits : ℕ) (how : Coords) where
   features_joined : (ls ms : List FileLine) (fs gs : List Feature) → AreLineFeatures digits how ls fs → AreLineFeatures digits how ms gs → AreLineFeatures digits how (ls ++ ms) (fs ++ gs)
   features_joined [] ms fs gs e k = let P : List Feature → Type 0 = λ z. AreLineFeatures digits how ms (z ++ gs) in subst P (sym e) k
   features_joined (l ∷ ls) ms fs gs (f, rest, e, is, more) k = (f, rest ++ gs, ap (λ z. z ++ gs) e, is, features_joined ls ms rest gs more k)
+
+at_begin : (P : ℕ → List ℕ → Type 0) (at : ℕ) (text : List ℕ) (end : ℕ) → end ≡ 0 → P (at + end) (drop end text) → P at text
+at_begin P at text end begin h = let place : at + end ≡ at = omega (arith, begin) in subst (λ i. P i text) place (subst (P (at + end)) (ap (λ n. drop n text) begin) h)
 
 -- ---- what is gathered
 
@@ -85,7 +89,7 @@ module _ (asked : Asked) where
     ),
   )
 
-  pub gathered_plain : (at : ℕ) (text : List ℕ) (shape : Shape) (texts : List TextPair) (part : Part) → HasLineShape asked.digits asked.how at text shape → texts ≡ []
+  gathered_plain : (at : ℕ) (text : List ℕ) (shape : Shape) (texts : List TextPair) (part : Part) → HasLineShape asked.digits asked.how at text shape → texts ≡ []
       → IsPart asked.query (record { at = at; shape = shape; texts = texts } ∷ []) part → IsGathered asked (Kept part) (record { at = at; text = text } ∷ [])
   gathered_plain at text shape texts part h none is =
       let P : Shape → Type 0 = λ s. IsPart asked.query (record { at = at; shape = s; texts = texts } ∷ []) part in
@@ -93,7 +97,7 @@ module _ (asked : Asked) where
       gathered_line at text None h.geometry part (plain_valid at text (h.geometry, h.spelled)) h.spelled h.fault_is (subst Q none (subst P h.shape_is is))
 
   -- of a line with a label, of which only the texts that are asked for are kept
-  pub gathered_labelled : (at : ℕ) (text : List ℕ) (quote end : ℕ) (shape : Shape) (texts : List TextPair) (part : Part) → LabelStands text quote end → IsUtf8 (part_of text quote end)
+  gathered_labelled : (at : ℕ) (text : List ℕ) (quote end : ℕ) (shape : Shape) (texts : List TextPair) (part : Part) → LabelStands text quote end → IsUtf8 (part_of text quote end)
       → HasLineShape asked.digits asked.how (at + end) (drop end text) shape → AreKeptTexts asked.query.tests (part_of text quote end) texts
       → IsPart asked.query (record { at = at; shape = shape; texts = texts } ∷ []) part → IsGathered asked (Kept part) (record { at = at; text = text } ∷ [])
   gathered_labelled at text quote end shape texts part label valid h kept is =
@@ -108,30 +112,38 @@ module _ (asked : Asked) where
   -- ---- faults
 
   -- of a line without a label
-  pub gathered_fault : (at : ℕ) (text : List ℕ) (fault : Fault) → QuoteIs text None → HasFirstLineFault asked.digits asked.how at text fault → IsGathered asked (Failed fault) (record { at = at; text = text } ∷ [])
+  gathered_fault : (at : ℕ) (text : List ℕ) (fault : Fault) → QuoteIs text None → HasFirstLineFault asked.digits asked.how at text fault → IsGathered asked (Failed fault) (record { at = at; text = text } ∷ [])
   gathered_fault at text fault none (unspelled s) valid =
       first_one asked.digits asked.how (record { at = at; text = text }) (fault ∷ []) (Some fault) (inl (fault, plain_syntax at text fault (without_quote text none) s, refl)) refl
   gathered_fault at text fault none (faulty shape h) valid =
       first_one asked.digits asked.how (record { at = at; text = text }) (faults_of asked.digits asked.how h.geometry) (Some fault) (inr (None, h.geometry, h.spelled, refl)) h.fault_is
 
-  -- of a line whose label doesn't end
-  pub gathered_syntax : (at : ℕ) (text : List ℕ) (fault : Fault) → IsSyntaxFault (LabelledLine at) at text fault → IsGathered asked (Failed fault) (record { at = at; text = text } ∷ [])
-  gathered_syntax at text fault h valid = first_one asked.digits asked.how (record { at = at; text = text }) (fault ∷ []) (Some fault) (inl (fault, h, refl)) refl
+  -- of a line whose label doesn't end or isn't UTF-8
+  pub gathered_syntax : (at : ℕ) (text : List ℕ) (fault : Fault) → (IsUtf8 text → IsSyntaxFault (LabelledLine at) at text fault) → IsGathered asked (Failed fault) (record { at = at; text = text } ∷ [])
+  gathered_syntax at text fault h valid = first_one asked.digits asked.how (record { at = at; text = text }) (fault ∷ []) (Some fault) (inl (fault, h valid.0, refl)) refl
 
   -- behind a label
-  pub gathered_behind : (at : ℕ) (text : List ℕ) (quote end : ℕ) (fault : Fault) → LabelStands text quote end → HasFirstLineFault asked.digits asked.how (at + end) (drop end text) fault
+  gathered_behind : (at : ℕ) (text : List ℕ) (quote end : ℕ) (fault : Fault) → LabelStands text quote end → HasFirstLineFault asked.digits asked.how (at + end) (drop end text) fault
       → IsGathered asked (Failed fault) (record { at = at; text = text } ∷ [])
   gathered_behind at text quote end fault label (unspelled s) =
-      let (cs, are, same) = label.string in gathered_syntax at text fault (label_syntax at text quote end label cs (are, same) fault s)
+      let (cs, are, same) = label.string in gathered_syntax at text fault (λ _. label_syntax at text quote end label cs (are, same) fault s)
   gathered_behind at text quote end fault label (faulty shape h) =
       let (cs, are, same) = label.string in
       λ valid. first_one asked.digits asked.how (record { at = at; text = text }) (faults_of asked.digits asked.how h.geometry) (Some fault)
       (inr (Some cs, h.geometry, label_spelled at text quote end label cs (are, same) h.geometry h.spelled, refl)) h.fault_is
 
-  -- of a line whose label isn't UTF-8
-  pub gathered_broken : (at : ℕ) (text : List ℕ) (quote end : ℕ) (shape : Shape) (fault : Fault) → LabelStands text quote end → HasLineShape asked.digits asked.how (at + end) (drop end text) shape → ¬ IsUtf8 (part_of text quote end)
+  -- of a line that is read behind what it begins with
+  gathered_front : (at : ℕ) (text label : List ℕ) (end : ℕ) (shape : Shape) (texts : List TextPair) (part : Part) → HasFront text label end → HasLineShape asked.digits asked.how (at + end) (drop end text) shape
+      → AreFrontTexts asked.query.tests label texts → IsPart asked.query (record { at = at; shape = shape; texts = texts } ∷ []) part → IsGathered asked (Kept part) (record { at = at; text = text } ∷ [])
+  gathered_front at text label end shape texts part (inl (none, empty, begin)) h kept is =
+      gathered_plain at text shape texts part (at_begin (λ i w. HasLineShape asked.digits asked.how i w shape) at text end begin h) (kept.0 empty) is
+  gathered_front at text label end shape texts part (inr (quote, stands, valid, same)) h kept is =
+      gathered_labelled at text quote end shape texts part stands (subst IsUtf8 same valid) h (subst (λ w. AreKeptTexts asked.query.tests w texts) same (kept.1 (subst JsonString (sym same) stands.string))) is
+
+  fault_front : (at : ℕ) (text label : List ℕ) (end : ℕ) (fault : Fault) → HasFront text label end → HasFirstLineFault asked.digits asked.how (at + end) (drop end text) fault
       → IsGathered asked (Failed fault) (record { at = at; text = text } ∷ [])
-  gathered_broken at text quote end shape fault label h broken valid = absurd (broken (label_valid at text quote end label (h.geometry, h.spelled) valid.0))
+  fault_front at text label end fault (inl (none, empty, begin)) h = gathered_fault at text fault none (at_begin (λ i w. HasFirstLineFault asked.digits asked.how i w fault) at text end begin h)
+  fault_front at text label end fault (inr (quote, stands, valid, same)) h = gathered_behind at text quote end fault stands h
 
   -- ---- a line that is only counted
 
@@ -148,32 +160,31 @@ module _ (asked : Asked) where
   pub counted_some : (line : FileLine) (fault : Fault) → IsGathered asked (Failed fault) (line ∷ []) → IsChecked asked line (Some fault)
   counted_some line fault h counts = (tt, h)
 
-  pub checked_plain : (at : ℕ) (text : List ℕ) (found : Option Fault) → found ≡ None → HasFaultOrShape asked.digits asked.how at text found → IsChecked asked (record { at = at; text = text }) None
-  checked_plain at text found none h =
-      let (shape, has) = subst (HasFaultOrShape asked.digits asked.how at text) none h in
+  checked_front : (at : ℕ) (text label : List ℕ) (end : ℕ) (found : Option Fault) → HasFront text label end → HasFaultOrShape asked.digits asked.how (at + end) (drop end text) found
+      → IsChecked asked (record { at = at; text = text }) found
+  checked_front at text label end None front (shape, has) =
       counted_none (record { at = at; text = text }) (record { at = at; shape = shape; texts = [] })
-      (λ counts. gathered_plain at text shape [] (Count 1) has refl (count_part (record { at = at; shape = shape; texts = [] }) counts))
+      (λ counts. gathered_front at text label end shape [] (Count 1) front has (λ _. refl, λ string cs are same. none_asked counts cs) (count_part (record { at = at; shape = shape; texts = [] }) counts)) where
+        none_asked : CountsAll asked.query → (cs : List Character) → [] ≡ (if list_any asks_label asked.query.tests then texts_of (Some cs) else [])
+        none_asked counts cs = let P : List Test → Type 0 = λ tests. [] ≡ (if list_any asks_label tests then texts_of (Some cs) else []) in subst P (sym counts.1) refl
+  checked_front at text label end (Some fault) front h = counted_some (record { at = at; text = text }) fault (fault_front at text label end fault front h)
 
-  -- a line with a label
-  pub checked_labelled : (at : ℕ) (text : List ℕ) (quote end : ℕ) (found : Option Fault) → LabelStands text quote end → IsUtf8 (part_of text quote end) → found ≡ None → HasFaultOrShape asked.digits asked.how (at + end) (drop end text) found
-      → IsChecked asked (record { at = at; text = text }) None
-  checked_labelled at text quote end found label valid none h =
-      let (shape, has) = subst (HasFaultOrShape asked.digits asked.how (at + end) (drop end text)) none h in
-      counted_none (record { at = at; text = text }) (record { at = at; shape = shape; texts = [] })
-      (λ counts. gathered_labelled at text quote end shape [] (Count 1) label valid has (none_asked counts) (count_part (record { at = at; shape = shape; texts = [] }) counts)) where
-        none_asked : CountsAll asked.query → AreKeptTexts asked.query.tests (part_of text quote end) []
-        none_asked counts cs are same = let P : List Test → Type 0 = λ tests. [] ≡ (if list_any asks_label tests then texts_of (Some cs) else []) in subst P (sym counts.1) refl
+  -- ---- what is read of a line
 
-  pub checked_broken : (at : ℕ) (text : List ℕ) (quote end : ℕ) (found : Option Fault) (fault : Fault) → LabelStands text quote end → (¬ IsUtf8 (part_of text quote end)) → found ≡ None → HasFaultOrShape asked.digits asked.how (at + end) (drop end text) found
-      → IsChecked asked (record { at = at; text = text }) (Some fault)
-  checked_broken at text quote end found fault label broken none h =
-      let (shape, has) = subst (HasFaultOrShape asked.digits asked.how (at + end) (drop end text)) none h in
-      counted_some (record { at = at; text = text }) fault (gathered_broken at text quote end shape fault label has broken)
+  module _ (ahead : List ℕ) (len at : ℕ) (line : Behind) (is : IsBehind ahead len at line) where
+    read_there : (P : ℕ → List ℕ → Type 0) → P line.at (take line.len line.ahead.now) → P (at + is.end) (drop is.end (take len ahead))
+    read_there P h = subst (λ i. P i (drop is.end (take len ahead))) is.place (subst (P line.at) is.text h)
 
-  pub checked_behind : (at : ℕ) (text : List ℕ) (quote end : ℕ) (found : Option Fault) (fault : Fault) → LabelStands text quote end → found ≡ Some fault → HasFaultOrShape asked.digits asked.how (at + end) (drop end text) found
-      → IsChecked asked (record { at = at; text = text }) (Some fault)
-  checked_behind at text quote end found fault label some h =
-      counted_some (record { at = at; text = text }) fault (gathered_behind at text quote end fault label (subst (HasFaultOrShape asked.digits asked.how (at + end) (drop end text)) some h))
+    pub read_shape : (shape : Shape) (texts : List TextPair) (part : Part) → HasLineShape asked.digits asked.how line.at (take line.len line.ahead.now) shape → AreFrontTexts asked.query.tests line.label.now texts
+        → IsPart asked.query (record { at = at; shape = shape; texts = texts } ∷ []) part → IsGathered asked (Kept part) (record { at = at; text = take len ahead } ∷ [])
+    read_shape shape texts part h kept said =
+        gathered_front at (take len ahead) line.label.now is.end shape texts part is.front (read_there (λ i w. HasLineShape asked.digits asked.how i w shape) h) kept said
+
+    pub read_fault : (fault : Fault) → HasFirstLineFault asked.digits asked.how line.at (take line.len line.ahead.now) fault → IsGathered asked (Failed fault) (record { at = at; text = take len ahead } ∷ [])
+    read_fault fault h = fault_front at (take len ahead) line.label.now is.end fault is.front (read_there (λ i w. HasFirstLineFault asked.digits asked.how i w fault) h)
+
+    pub checked_line : (found : Option Fault) → HasFaultOrShape asked.digits asked.how line.at (take line.len line.ahead.now) found → IsChecked asked (record { at = at; text = take len ahead }) found
+    checked_line found h = checked_front at (take len ahead) line.label.now is.end found is.front (read_there (λ i w. HasFaultOrShape asked.digits asked.how i w found) h)
 
   -- ---- joined lines
 
