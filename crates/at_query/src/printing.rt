@@ -5,6 +5,7 @@ use crate::answers::{Answer, Pair};
 use at_fixed::write_fixed;
 use at_geom::{Extent, Pos};
 use at_text::Memory;
+use itoa::Buffer;
 use std::alloc::Global;
 
 /// Puts the offsets behind a text, one a line.
@@ -21,7 +22,9 @@ fn push_offsets(text: &mut String, offsets: &[u32]) -> Result<(), Memory>
 fn push_offset(text: &mut String, at: u32) -> Result<(), Memory>
     ensures { OnOk result (string_bytes text.new ≡ string_bytes text.old ++ ended (decimal at)) }
 {
-    writeln!(text, "{at}")?;
+    let mut digits = Buffer::new();
+    text.push_str(digits.format(at))?;
+    text.push_str("\n")?;
     Ok(())
 }
 
@@ -39,7 +42,11 @@ fn push_pairs(text: &mut String, pairs: &[Pair]) -> Result<(), Memory>
 fn push_pair(text: &mut String, first: u32, second: u32) -> Result<(), Memory>
     ensures { OnOk result (string_bytes text.new ≡ string_bytes text.old ++ ended (decimal first ++ (0x20 ∷ decimal second))) }
 {
-    writeln!(text, "{first} {second}")?;
+    let mut digits = Buffer::new();
+    text.push_str(digits.format(first))?;
+    text.push_str(" ")?;
+    text.push_str(digits.format(second))?;
+    text.push_str("\n")?;
     Ok(())
 }
 
