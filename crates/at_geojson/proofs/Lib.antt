@@ -23,5 +23,6 @@ pub mod Tiers
 pub mod Roots
 pub mod SimpleTexts
 pub mod ValueParts
+pub mod ShortStrings
 pub mod RowFolds
 pub mod MemberReads

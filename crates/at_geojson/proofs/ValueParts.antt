@@ -107,6 +107,9 @@ run_text w at end t = subst IsScalarText (sym (slice_part w at end (omega (arith
 pub string_text : (w : List ℕ) (at end : ℕ) → IsTextAt w at end → IsScalarText (take (end - at) (drop at w))
 string_text w at end (order, within, s) = subst IsScalarText (sym (slice_part w at end (omega (arith, order)))) (inl s)
 
+pub string_taken : (w : List ℕ) (at end : ℕ) → IsTextAt w at end → JsonString (take (end - at) (drop at w))
+string_taken w at end (order, within, s) = subst JsonString (sym (slice_part w at end (omega (arith, order)))) s
+
 -- the bytes of a name, and its units
 pub name_text : (w : List ℕ) (at : ℕ) (n : NamePlace) → IsNameAt w at n → JsonString (take (n.end - n.first) (drop n.first w))
 name_text w at n h = subst JsonString (sym (slice_part w n.first n.end (omega (arith, h.text.0)))) h.text.2

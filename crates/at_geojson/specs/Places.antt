@@ -1,14 +1,24 @@
 -- What stands at the places of a text. Only contracts of private functions cite this.
-use Rattle.std.specs.Prelude.{◌≡◌, ℕ, ◌<◌, ◌≤◌, List, length, slice_index}
+use Rattle.std.specs.Prelude.{◌≡◌, ℕ, ◌-◌, ◌<◌, ◌≤◌, ◌&&◌, Bool, true, List, length, take, drop, slice_index}
+use Rattle.std.specs.List.{list_all}
 use Rattle.at_fixed.specs.Kept.{part}
-use Rattle.at_lex.specs.Strings.{JsonString}
+use Rattle.at_lex.specs.Strings.{JsonString, is_plain}
 use Rattle.at_lex.specs.Spans.{AreSpaces}
 use Rattle.at_nest.specs.Folds.{IsScalarText}
+use Rattle.at_geojson.specs.Gathering.{is_simple}
 use Rattle.at_geojson.specs.declared.places.NamePlace.{NamePlace}
 
 -- a string from the place to its end
 abbrev pub IsTextAt : List ℕ → ℕ → ℕ → Type 0
 IsTextAt w at end = (at < end) × (end ≤ length w) × JsonString (part w at end)
+
+-- a byte of ASCII that stands for itself in a string
+abbrev pub is_common : ℕ → Bool
+is_common b = is_plain b && is_simple b
+
+-- a string of ASCII without escapes
+abbrev pub IsSimpleTextAt : List ℕ → ℕ → ℕ → Type 0
+IsSimpleTextAt w at end = IsTextAt w at end × (list_all is_simple (take (end - at) (drop at w)) ≡ true)
 
 -- a string, literal or number from the place to its end
 abbrev pub IsScalarAt : List ℕ → ℕ → ℕ → Type 0

@@ -20,6 +20,7 @@ mod root;
 mod runs;
 mod scalars;
 mod shapes;
+mod short_texts;
 mod sorts;
 mod texts;
 mod twins;

@@ -93,6 +93,27 @@ fn simple_atom(algebra: &GeoAlgebra, text: &[u8], at: u32) -> GeoAtom
     })
 }
 
+/// A string of ASCII without escapes that begins at the offset.
+#[inline(always)]
+pub fn plain_text_atom(
+    algebra: &GeoAlgebra,
+    alloc: Global,
+    text: &[u8],
+    at: u32,
+) -> Result<GeoAtom, Memory>
+    requires string { JsonString text.now }
+    requires simple { list_all simple_byte text.now ≡ true }
+    requires fits { length text.now ≤ 2 ^ 28 }
+    ensures own { IfOk result (IsOwn algebra.now) }
+    ensures fold { IfOk result (λ atom. (t : Tree) → Spells at text.now t → IsFold algebra.now atom t) }
+{
+    if needs_texts(algebra.query().tests.as_slice()) {
+        decoded_atom(algebra, alloc, text, at)
+    } else {
+        Ok(simple_atom(algebra, text, at))
+    }
+}
+
 /// A string that begins at the offset.
 fn text_atom(algebra: &GeoAlgebra, alloc: Global, text: &[u8], at: u32) -> Result<GeoAtom, Memory>
     requires string { JsonString text.now }

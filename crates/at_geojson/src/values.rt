@@ -6,6 +6,7 @@ ghost use Rattle.at_geojson.specs.Keeping.{looks_at_texts};
 ghost use Rattle.at_geojson.specs.Atoms.{IsOwn};
 ghost use Rattle.at_geojson.specs.Fields.{AreOwnFields};
 ghost use Rattle.at_geojson.specs.Members.{EndsFields, IsFieldRead};
+ghost use Rattle.at_geojson.specs.Places.{IsSimpleTextAt};
 ghost use Rattle.at_geojson.specs.Values.{IsWhole, IsItem, AreItemsRead, AreMembersRead, EndsArray, EndsObject};
 
 use crate::asked::{GeoAlgebra, needs_texts};
@@ -17,7 +18,8 @@ use crate::object_atoms::{fields_atom, object_atom};
 use crate::pairs::{PairRead, Whole, read_pair, read_points};
 use crate::passing::pass_item;
 use crate::places::{Stop, name_place, skip_spaces, stands, text_end};
-use crate::scalars::scalar_atom;
+use crate::scalars::{plain_text_atom, scalar_atom};
+use crate::short_texts::short_text_end;
 use crate::twins::is_twin;
 use at_fixed::{Notation, plain_number};
 use at_lex::{take_run, units};
@@ -73,8 +75,46 @@ fn read_run(
     Ok(Whole { end, atom })
 }
 
-/// A string.
+/// A string of ASCII without escapes up to the place.
+#[inline(always)]
+fn short_string(
+    algebra: &GeoAlgebra,
+    alloc: Global,
+    text: &[u8],
+    base: u32,
+    at: usize,
+    end: usize,
+) -> Result<Whole, Stop>
+    requires string { IsSimpleTextAt text.now at end }
+    requires fits { base + length text.now ≤ 2 ^ 28 }
+    ensures { IfOk result (IsWhole algebra.now base text.now at) }
+{
+    let atom = plain_text_atom(algebra, alloc, &text[at..end], base + at as u32)?;
+    Ok(Whole { end, atom })
+}
+
+/// A string, whose bytes are looked at together where it is short.
+#[inline(always)]
 fn read_string(
+    algebra: &GeoAlgebra,
+    alloc: Global,
+    text: &[u8],
+    base: u32,
+    at: usize,
+) -> Result<Whole, Stop>
+    requires inside { at ≤ length text.now }
+    requires fits { base + length text.now ≤ 2 ^ 28 }
+    ensures { IfOk result (IsWhole algebra.now base text.now at) }
+{
+    match short_text_end(text, at) {
+        Some(end) => short_string(algebra, alloc, text, base, at, end),
+        None => long_string(algebra, alloc, text, base, at),
+    }
+}
+
+/// Any string.
+#[inline(never)]
+fn long_string(
     algebra: &GeoAlgebra,
     alloc: Global,
     text: &[u8],

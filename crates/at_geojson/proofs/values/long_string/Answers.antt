@@ -1,6 +1,6 @@
 -- A whole string.
 use Rattle.at_geojson.proofs.ValueParts.{string_text, string_read}
-use Rattle.at_geojson.proofs.values.read_string.Goals as goal
+use Rattle.at_geojson.proofs.values.long_string.Goals as goal
 
 pub scalar_atom-requires-clause-whole : goal.scalar_atom-requires-clause-whole
 scalar_atom-requires-clause-whole c = string_text c.args.text.now c.args.at c.in_ok-end.end c.in_ok-end.ensures
