@@ -33,7 +33,7 @@ use Rattle.at_run.specs.Labels.{SpellsLabelled, LabelledLine, texts_of}
 use Rattle.at_run.specs.declared.labels.Behind.{Behind}
 use Rattle.at_run.specs.Labelling.{QuoteIs, LabelStands, HasFront, IsBehind, AreKeptTexts, AreFrontTexts, asks_label}
 use Rattle.at_run.specs.Features.{AreLineFeatures}
-use Rattle.at_run.specs.Gathering.{Asked, IsOwn, IsGathered, CountsAll, IsChecked, AreJoinable, JoinsGathered, KeepsOwn, IsLineEnd}
+use Rattle.at_run.specs.Gathering.{Asked, IsOwn, IsGathered, CountsAll, IsChecked, AreJoinable, IsJoinOf, JoinsGathered, KeepsOwn, IsLineEnd}
 use Rattle.at_run.proofs.AsciiLines.{plain_valid, blanks_valid}
 use Rattle.at_run.proofs.LabelSteps.{without_quote, plain_syntax, label_front, label_spelled, label_syntax}
 use Rattle.at_run.proofs.FaultLists.{first_none, first_one, first_joined}
@@ -212,6 +212,20 @@ joins_left f right b q = rw (q) (λ asked ls ms h k valid. first_joined asked.di
 
 pub joins_failed : (f : Fault) (right : Gathered) (g first : Fault) → right ≡ Failed g → Some first ≡ first_fault (Some f) (Some g) → JoinsGathered (Failed f) right (Failed first)
 joins_failed f right g first q e = rw (q) (λ asked ls ms h k valid. first_joined asked.digits asked.how ls ms (Some f) (Some g) (Some first) (h (each_before IsValidLine ls ms valid)) (k (each_behind IsValidLine ls ms valid)) e)
+
+-- ---- the parts joined, or the first of the faults
+
+pub both_parts : (left : Part) (right : Gathered) (b c : Part) → right ≡ Kept b → JoinsParts left b c → IsJoinOf (Kept left) right (Kept c)
+both_parts left right b c e joins = rw (e) (c, refl, joins)
+
+pub right_fault : (left : Part) (right : Gathered) (f : Fault) → right ≡ Failed f → IsJoinOf (Kept left) right (Failed f)
+right_fault left right f e = rw (e) refl
+
+pub left_fault : (f : Fault) (right : Gathered) (b : Part) → right ≡ Kept b → IsJoinOf (Failed f) right (Failed f)
+left_fault f right b e = rw (e) refl
+
+pub both_faults : (f : Fault) (right : Gathered) (g first : Fault) → right ≡ Failed g → Some first ≡ first_fault (Some f) (Some g) → IsJoinOf (Failed f) right (Failed first)
+both_faults f right g first e h = rw (e) (first, refl, h)
 
 -- ---- a line that is put behind those before it
 

@@ -1,10 +1,10 @@
--- What is kept of the lines of a file as they are read: the part of a query, or the first fault so far. Only contracts of private functions cite this.
+-- What is kept of the lines of a file as they are read: the part of a query, or the first fault so far.
 use Rattle.std.specs.Prelude.{◌≡◌, ℕ, List, [], ◌∷◌, ◌++◌, Option, Some, None, Result, Ok, IsErr}
 use Rattle.std.specs.List.{AllByRecursion}
 use Rattle.std.specs.Str.{IsUtf8}
 use Rattle.at_text.specs.declared.faults.Fault.{Fault}
 use Rattle.at_text.specs.declared.memory.Memory.{Memory}
-use Rattle.at_text.specs.Faults.{first_of}
+use Rattle.at_text.specs.Faults.{first_fault, first_of}
 use Rattle.at_fixed.specs.declared.rounding.Coords.{Coords}
 use Rattle.at_wkt.specs.declared.answers.LineFault.{LineFault}
 use Rattle.at_wkt.specs.declared.answers.LineFault.TheVariants as ends
@@ -14,7 +14,7 @@ use Rattle.at_query.specs.declared.features.Feature.{Feature}
 use Rattle.at_query.specs.declared.queries.Verb.TheVariants as verbs
 use Rattle.at_query.specs.declared.parts.Part.{Part}
 use Rattle.at_query.specs.declared.parts.Part.TheVariants.{Count}
-use Rattle.at_query.specs.Parts.{IsPart, AreAlike}
+use Rattle.at_query.specs.Parts.{IsPart, AreAlike, JoinsParts}
 use Rattle.at_run.specs.declared.gathered.Gathered.{Gathered}
 use Rattle.at_run.specs.declared.gathered.Gathered.TheVariants.{Kept, Failed}
 use Rattle.at_run.specs.Features.{AreLineFeatures}
@@ -64,6 +64,13 @@ counted_of (Some fault) = Failed fault
 abbrev pub AreJoinable : Gathered → Gathered → Type 0
 AreJoinable (Kept left) (Kept right) = AreAlike left right
 AreJoinable _ _ = Unit {0}
+
+-- the parts joined, or the first of the faults; a part beside a fault is let go
+abbrev pub IsJoinOf : Gathered → Gathered → Gathered → Type 0
+IsJoinOf (Kept left) (Kept right) both = (part : Part) × (both ≡ Kept part) × JoinsParts left right part
+IsJoinOf (Kept left) (Failed fault) both = both ≡ Failed fault
+IsJoinOf (Failed fault) (Kept right) both = both ≡ Failed fault
+IsJoinOf (Failed left) (Failed right) both = (fault : Fault) × (both ≡ Failed fault) × (Some fault ≡ first_fault (Some left) (Some right))
 
 -- whatever is asked, and of whatever lines these were gathered, it is what is gathered of the joined lines
 abbrev pub JoinsGathered : Gathered → Gathered → Gathered → Type 0

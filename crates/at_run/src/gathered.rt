@@ -1,14 +1,14 @@
 ghost use Rattle.std.specs.Prelude.{◌≡◌, Some, IfOk};
 ghost use Rattle.at_text.specs.Faults.{first_fault as the_first};
 ghost use Rattle.at_query.specs.Parts.{AreAlike, JoinsParts};
-ghost use Rattle.at_run.specs.Gathering.{counted_of, AreJoinable, JoinsGathered, KeepsOwn, IsLineEnd};
+ghost use Rattle.at_run.specs.Gathering.{counted_of, AreJoinable, IsJoinOf, JoinsGathered, KeepsOwn, IsLineEnd};
 
 use at_query::{Part, part_merge};
 use at_text::{Fault, Memory, first_fault};
 use at_wkt::LineFault;
 use std::mem;
 
-/// What is kept of lines: the part of their features, or their first fault.
+/// What is kept of lines, or of records: the part of their features, or their first fault.
 #[derive(Drop)]
 pub enum Gathered {
     Kept(Part),
@@ -30,6 +30,7 @@ fn joined_part(left: Part, right: Gathered) -> Result<Gathered, Memory>
     requires { AreJoinable (Gathered.Kept left) right }
     ensures own { IfOk result (KeepsOwn (Gathered.Kept left) right) }
     ensures joins { IfOk result (JoinsGathered (Gathered.Kept left) right) }
+    ensures both { IfOk result (IsJoinOf (Gathered.Kept left) right) }
 {
     match right {
         Gathered::Kept(right) => Ok(Gathered::Kept(part_merge(left, right)?)),
@@ -39,7 +40,8 @@ fn joined_part(left: Part, right: Gathered) -> Result<Gathered, Memory>
 
 /// The first fault of lines that have this one, and of the lines behind them.
 fn joined_fault(left: Fault, right: Gathered) -> Fault
-    ensures { JoinsGathered (Gathered.Failed left) right (Gathered.Failed result) }
+    ensures joins { JoinsGathered (Gathered.Failed left) right (Gathered.Failed result) }
+    ensures both { IsJoinOf (Gathered.Failed left) right (Gathered.Failed result) }
 {
     match right {
         Gathered::Kept(_) => left,
@@ -53,6 +55,7 @@ pub fn joined(left: Gathered, right: Gathered) -> Result<Gathered, Memory>
     requires { AreJoinable left right }
     ensures own { IfOk result (KeepsOwn left right) }
     ensures joins { IfOk result (JoinsGathered left right) }
+    ensures both { IfOk result (IsJoinOf left right) }
 {
     match left {
         Gathered::Kept(part) => joined_part(part, right),
@@ -60,11 +63,13 @@ pub fn joined(left: Gathered, right: Gathered) -> Result<Gathered, Memory>
     }
 }
 
-/// Puts what is kept of further lines behind what is kept of the lines before them.
+/// Puts what is kept of further lines, or records, behind what is kept of those before them. The one refusal is want of
+/// memory.
 pub fn join_into(gathered: &mut Gathered, behind: Gathered) -> Result<(), Memory>
     requires { AreJoinable gathered.old behind }
     ensures own { IfOk result (λ _. KeepsOwn gathered.old behind gathered.new) }
     ensures joins { IfOk result (λ _. JoinsGathered gathered.old behind gathered.new) }
+    ensures both { IfOk result (λ _. IsJoinOf gathered.old behind gathered.new) }
 {
     let before = mem::replace(gathered, Gathered::Kept(Part::Count(0)));
     *gathered = joined(before, behind)?;
