@@ -6,7 +6,7 @@ use Rattle.at_text.specs.Faults.{first_fault}
 use Rattle.at_fixed.specs.declared.rounding.Coords.{Coords}
 use Rattle.at_geom.specs.declared.positions.Pos.{Pos}
 use Rattle.at_wkt.specs.declared.dimension.Dimension.{Dimension}
-use Rattle.at_wkt.specs.declared.rules.Rules.{Rules}
+use Rattle.at_wkt.specs.declared.sources.Rules.{Rules}
 use Rattle.at_wkt.specs.declared.positions.PositionRead.{PositionRead}
 use Rattle.at_wkt.specs.declared.positions.NumbersRead.{NumbersRead}
 use Rattle.at_wkt.specs.declared.parts.Read.{Read}
@@ -34,13 +34,13 @@ pub record PassedSoFar (rules : Rules) (w : List ℕ) (i : ℕ) (c : Dimension) 
   pub last : PositionRead
   pub reads : PositionsSoFar rules w i c first last list None
   pub more : last.is_last ≡ false
-  pub end_is : last.end ≡ end
-  pub before_is : last.dimension ≡ before
+  pub end_is : last.behind.at ≡ end
+  pub before_is : last.behind.dimension ≡ before
   pub count_is : length list ≡ count
   pub few : count ≤ end
 
 module _ (rules : Rules) (w : List ℕ) (i : ℕ) (c : Dimension) (first : PositionRead) where
-  pub passed_start : PositionStands rules w i c first → first.fault ≡ None → first.is_last ≡ false → PassedSoFar rules w i c first first.end first.dimension 1
+  pub passed_start : PositionStands rules w i c first → first.fault ≡ None → first.is_last ≡ false → PassedSoFar rules w i c first first.behind.at first.behind.dimension 1
   passed_start h none more = record {
     list = first.pos ∷ [];
     last = first;
@@ -53,8 +53,8 @@ module _ (rules : Rules) (w : List ℕ) (i : ℕ) (c : Dimension) (first : Posit
   }
 
   module _ (end : ℕ) (before : Dimension) (count : ℕ) (h : PassedSoFar rules w i c first end before count) where
-    here : (next : PositionRead) → PositionStands rules w end before next → PositionStands rules w h.last.end h.last.dimension next
-    here next s = let P : ℕ → Type 0 = λ z. PositionStands rules w z h.last.dimension next in subst P (sym h.end_is) (let Q : Dimension → Type 0 = λ z. PositionStands rules w end z next in subst Q (sym h.before_is) s)
+    here : (next : PositionRead) → PositionStands rules w end before next → PositionStands rules w h.last.behind.at h.last.behind.dimension next
+    here next s = let P : ℕ → Type 0 = λ z. PositionStands rules w z h.last.behind.dimension next in subst P (sym h.end_is) (let Q : Dimension → Type 0 = λ z. PositionStands rules w end z next in subst Q (sym h.before_is) s)
 
     longer_list : (next : PositionRead) → length (h.list ++ (next.pos ∷ [])) ≡ count + 1
     longer_list next = length-append h.list (next.pos ∷ []) ∙ ap (λ z. z + 1) h.count_is
@@ -62,20 +62,20 @@ module _ (rules : Rules) (w : List ℕ) (i : ℕ) (c : Dimension) (first : Posit
     with_next : (next : PositionRead) → PositionStands rules w end before next → next.fault ≡ None → PositionsSoFar rules w i c first next (h.list ++ (next.pos ∷ [])) None
     with_next next s none = positions_more rules w i c first h.last next h.list (h.list ++ (next.pos ∷ [])) None None h.reads h.more (here next s) refl (sym (ap (first_fault None) none))
 
-    pub passed_more : (passed : NumbersRead) → IsPassed rules w end before passed → passed.is_last ≡ false → PassedSoFar rules w i c first passed.end passed.dimension (count + 1)
+    pub passed_more : (passed : NumbersRead) → IsPassed rules w end before passed → passed.is_last ≡ false → PassedSoFar rules w i c first passed.behind.at passed.behind.dimension (count + 1)
     passed_more passed (next, s, none, same) more = record {
       list = h.list ++ (next.pos ∷ []);
       last = next;
       reads = with_next next s none;
       more = sym (ap (λ z. z.is_last) same) ∙ more;
-      end_is = sym (ap (λ z. z.end) same);
-      before_is = sym (ap (λ z. z.dimension) same);
+      end_is = sym (ap (λ z. z.behind.at) same);
+      before_is = sym (ap (λ z. z.behind.dimension) same);
       count_is = longer_list next;
-      few = omega (arith, h.few, s.longer, ap (λ z. z.end) same);
+      few = omega (arith, h.few, s.longer, ap (λ z. z.behind.at) same);
     }
 
     pub passed_end : (last : PositionRead) (passed : ListPassed) → PositionStands rules w end before last → last.fault ≡ None → last.is_last ≡ true
-        → passed ≡ record { count = count + 1; closes = ends_same first last; end = last.end; dimension = last.dimension } → IsPassedList rules w i c passed
+        → passed ≡ record { count = count + 1; closes = ends_same first last; behind = last.behind } → IsPassedList rules w i c passed
     passed_end last passed s none ended same =
         let P : ListPassed → Type 0 = λ z. IsPassedList rules w i c z in
         subst P (sym same) (
@@ -85,7 +85,7 @@ module _ (rules : Rules) (w : List ℕ) (i : ℕ) (c : Dimension) (first : Posit
         )
 
   pub passed_one : (passed : ListPassed) → PositionStands rules w i c first → first.fault ≡ None → first.is_last ≡ true
-      → passed ≡ record { count = 1; closes = ends_same first first; end = first.end; dimension = first.dimension } → IsPassedList rules w i c passed
+      → passed ≡ record { count = 1; closes = ends_same first first; behind = first.behind } → IsPassedList rules w i c passed
   passed_one passed h none ended same =
       let P : ListPassed → Type 0 = λ z. IsPassedList rules w i c z in
       let Q : Option Fault → Type 0 = λ z. PositionsSoFar rules w i c first first (first.pos ∷ []) z in
@@ -98,7 +98,7 @@ module _ (rules : Rules) (w : List ℕ) (i : ℕ) (c : Dimension) (first : Posit
 -- ---- positions that are only counted
 
 abbrev numbers_of : PositionRead → NumbersRead
-numbers_of read = record { is_last = read.is_last; end = read.end; dimension = read.dimension }
+numbers_of read = record { is_last = read.is_last; behind = read.behind }
 
 -- so many positions stand up to the last that was passed over, none of which has a fault
 pub record RowSoFar (rules : Rules) (w : List ℕ) (i : ℕ) (c : Dimension) (passed : NumbersRead) (count : ℕ) : Type 0 where
@@ -108,9 +108,9 @@ pub record RowSoFar (rules : Rules) (w : List ℕ) (i : ℕ) (c : Dimension) (pa
   pub reads : PositionsSoFar rules w i c first last list None
   pub passed_is : passed ≡ numbers_of last
   pub count_is : length list ≡ count
-  pub few : count ≤ passed.end
-  pub within : passed.end ≤ length w
-  pub some : HasCount passed.dimension
+  pub few : count ≤ passed.behind.at
+  pub within : passed.behind.at ≤ length w
+  pub some : HasCount passed.behind.dimension
 
 module _ (rules : Rules) (w : List ℕ) (i : ℕ) (c : Dimension) where
   pub row_start : (passed : NumbersRead) → IsPassed rules w i c passed → RowSoFar rules w i c passed 1
@@ -127,9 +127,9 @@ module _ (rules : Rules) (w : List ℕ) (i : ℕ) (c : Dimension) where
   })
 
   module _ (passed : NumbersRead) (count : ℕ) (h : RowSoFar rules w i c passed count) where
-    pub row_more : passed.is_last ≡ false → (next : NumbersRead) → IsPassed rules w passed.end passed.dimension next → RowSoFar rules w i c next (count + 1)
+    pub row_more : passed.is_last ≡ false → (next : NumbersRead) → IsPassed rules w passed.behind.at passed.behind.dimension next → RowSoFar rules w i c next (count + 1)
     row_more more next (read, s, none, same) =
-        let P : NumbersRead → Type 0 = λ z. PositionStands rules w z.end z.dimension read in
+        let P : NumbersRead → Type 0 = λ z. PositionStands rules w z.behind.at z.behind.dimension read in
         subst (λ z. RowSoFar rules w i c z (count + 1)) (sym same) (record {
           first = h.first;
           last = read;
@@ -149,7 +149,7 @@ module _ (rules : Rules) (w : List ℕ) (i : ℕ) (c : Dimension) where
         h.list,
         h.count_is,
         positions_end rules w i c h.first h.last h.list None _ h.reads (sym (ap (λ (z : NumbersRead). z.is_last) h.passed_is) ∙ ended) refl refl
-            (ap (λ (z : NumbersRead). z.end) h.passed_is) (ap (λ (z : NumbersRead). z.dimension) h.passed_is),
+            (ap (λ (z : NumbersRead). z.behind.at) h.passed_is) (ap (λ (z : NumbersRead). z.behind.dimension) h.passed_is),
       ),
     )
 
@@ -175,53 +175,53 @@ module _ {X : Type 0} (P : ℕ → X → ℕ → List ℕ → Type 0) (faults : 
 -- ---- bodies
 
 module _ (digits : ℕ) (how : Coords) (base : ℕ) (w : List ℕ) where
-  for_kind : (head : Head) (kind : Kind) (read : Read) → head.kind ≡ kind → IsPassedBody digits how base w (record { kind = kind; dimension = head.dimension; end = head.end }) read → IsPassedBody digits how base w head read
-  for_kind head kind read e h = let P : Kind → Type 0 = λ z. IsPassedBody digits how base w (record { kind = z; dimension = head.dimension; end = head.end }) read in subst P (sym e) h
+  for_kind : (head : Head) (kind : Kind) (read : Read) → head.kind ≡ kind → IsPassedBody digits how base w (record { kind = kind; behind = head.behind }) read → IsPassedBody digits how base w head read
+  for_kind head kind read e h = let P : Kind → Type 0 = λ z. IsPassedBody digits how base w (record { kind = z; behind = head.behind }) read in subst P (sym e) h
 
-  pub point_passed : (head : Head) (read : Read) → head.kind ≡ Point → IsPassedPart SpellsPoint (point_faults digits how) base w head.end head.dimension read → IsPassedBody digits how base w head read
+  pub point_passed : (head : Head) (read : Read) → head.kind ≡ Point → IsPassedPart SpellsPoint (point_faults digits how) base w head.behind.at head.behind.dimension read → IsPassedBody digits how base w head read
   point_passed head read e (none, part) =
       for_kind head Point read e (
         none,
         (
           point part.value,
-          body_of digits how base w (record { kind = Point; dimension = head.dimension; end = head.end }) SpellsPoint point (λ d at v. ((λ x q. (x, refl, q)), (λ g q. q))) read.end read.dimension part.value part.spelt,
+          body_of digits how base w (record { kind = Point; behind = head.behind }) SpellsPoint point (λ d at v. ((λ x q. (x, refl, q)), (λ g q. q))) read.behind.at read.behind.dimension part.value part.spelt,
           part.fault,
         ),
       )
 
-  pub line_passed : (head : Head) (read : Read) → head.kind ≡ LineString → IsPassedPart SpellsList (line_faults digits how) base w head.end head.dimension read → IsPassedBody digits how base w head read
+  pub line_passed : (head : Head) (read : Read) → head.kind ≡ LineString → IsPassedPart SpellsList (line_faults digits how) base w head.behind.at head.behind.dimension read → IsPassedBody digits how base w head read
   line_passed head read e (none, part) =
       for_kind head LineString read e (
         none,
         (
           line_string part.value,
-          body_of digits how base w (record { kind = LineString; dimension = head.dimension; end = head.end }) SpellsList line_string (λ d at v. ((λ x q. (x, refl, q)), (λ g q. q))) read.end read.dimension part.value part.spelt,
+          body_of digits how base w (record { kind = LineString; behind = head.behind }) SpellsList line_string (λ d at v. ((λ x q. (x, refl, q)), (λ g q. q))) read.behind.at read.behind.dimension part.value part.spelt,
           part.fault,
         ),
       )
 
-  pub polygon_passed : (head : Head) (read : Read) → head.kind ≡ Polygon → IsPassedPart SpellsArea (faults_of_area digits how) base w head.end head.dimension read → IsPassedBody digits how base w head read
+  pub polygon_passed : (head : Head) (read : Read) → head.kind ≡ Polygon → IsPassedPart SpellsArea (faults_of_area digits how) base w head.behind.at head.behind.dimension read → IsPassedBody digits how base w head read
   polygon_passed head read e (none, part) =
       for_kind head Polygon read e (
         none,
         (
           polygon part.value,
-          body_of digits how base w (record { kind = Polygon; dimension = head.dimension; end = head.end }) SpellsArea polygon (λ d at v. ((λ x q. (x, refl, q)), (λ g q. q))) read.end read.dimension part.value part.spelt,
+          body_of digits how base w (record { kind = Polygon; behind = head.behind }) SpellsArea polygon (λ d at v. ((λ x q. (x, refl, q)), (λ g q. q))) read.behind.at read.behind.dimension part.value part.spelt,
           part.fault,
         ),
       )
 
 -- ---- the geometry
 
-pub geometry_passed : (rules : Rules) (w : List ℕ) (i : ℕ) (head : Head) (read : Read) → HeadStands w i head → IsPassedBody rules.digits rules.how rules.base w head read → IsPassedGeometry rules w i read.end
+pub geometry_passed : (rules : Rules) (w : List ℕ) (i : ℕ) (head : Head) (read : Read) → HeadStands w i head → IsPassedBody rules.digits rules.how rules.base w head read → IsPassedGeometry rules w i read.behind.at
 geometry_passed rules w i head read h (none, (g, spelt, fault)) =
     let digits = rules.digits in let how = rules.how in let base = rules.base in
     let m : Meaning = meaning_of digits how g in
-    let over = closes_over w read.end 0 read.end 0 (closes_start w read.end 0) refl (omega arith) spelt.within base digits how in
-    let ended = spelt_over no_meaning base w read.end Open spelt.within open_count in (
+    let over = closes_over w read.behind.at 0 read.behind.at 0 (closes_start w read.behind.at 0) refl (omega arith) spelt.within base digits how in
+    let ended = spelt_over no_meaning base w read.behind.at Open spelt.within open_count in (
       m,
       sym fault ∙ none,
-      subst (Spelt (Awaited digits how 0) base w i Open read.end Open) (joined-none m)
-          (head_spelt digits how base w i 0 head h read.end read.dimension (joined m no_meaning)
-          (body_spelt digits how base w head.end head.dimension head.kind 0 read.end read.dimension g spelt read.end no_meaning (over.spelt read.end no_meaning ended))),
+      subst (Spelt (Awaited digits how 0) base w i Open read.behind.at Open) (joined-none m)
+          (head_spelt digits how base w i 0 head h read.behind.at read.behind.dimension (joined m no_meaning)
+          (body_spelt digits how base w head.behind.at head.behind.dimension head.kind 0 read.behind.at read.behind.dimension g spelt read.behind.at no_meaning (over.spelt read.behind.at no_meaning ended))),
     )

@@ -159,13 +159,13 @@ module _ (digits : ℕ) (how : Coords) where
       to_letter = trans_leads (same_leads (Awaited digits how k) (Then KindWord (λ kind. Lettered (BodyAfter digits how kind k))) (λ at p. p.1) base w i Open (expected_same digits how k) (omega (arith, h.word.order, h.word.within)))
           (then_leads KindWord (λ kind. Lettered (BodyAfter digits how kind k)) base w i Open h.word_end Open head.kind (kind_spelt head.kind base w i h.word_end Open h.word open_count))
 
-      enclosed : Encloses (Lettered (BodyAfter digits how head.kind k)) (BodyAfter digits how head.kind k) base w h.word_end head.end head.dimension (λ m. m)
-      enclosed = letter_encloses (BodyAfter digits how head.kind k) (body_begins head.kind k) base w h.word_end h.letter_at h.letter_end head.end head.dimension h.blanks h.letter h.letter_within h.further
+      enclosed : Encloses (Lettered (BodyAfter digits how head.kind k)) (BodyAfter digits how head.kind k) base w h.word_end head.behind.at head.behind.dimension (λ m. m)
+      enclosed = letter_encloses (BodyAfter digits how head.kind k) (body_begins head.kind k) base w h.word_end h.letter_at h.letter_end head.behind.at head.behind.dimension h.blanks h.letter h.letter_within h.further
 
-      pub head_spelt : (j : ℕ) (c' : Dimension) (m : Meaning) → Spelt (BodyAfter digits how head.kind k) base w head.end head.dimension j c' m → Spelt (Awaited digits how k) base w i Open j Open m
+      pub head_spelt : (j : ℕ) (c' : Dimension) (m : Meaning) → Spelt (BodyAfter digits how head.kind k) base w head.behind.at head.behind.dimension j c' m → Spelt (Awaited digits how k) base w i Open j Open m
       head_spelt j c' m q = to_letter.spelt j Open m (enclosed.spelt j c' m q)
 
-      pub head_stuck : (n : ℕ) → Stuck (BodyAfter digits how head.kind k) base w head.end head.dimension n → Stuck (Awaited digits how k) base w i Open n
+      pub head_stuck : (n : ℕ) → Stuck (BodyAfter digits how head.kind k) base w head.behind.at head.behind.dimension n → Stuck (Awaited digits how k) base w i Open n
       head_stuck n q = to_letter.stuck n (enclosed.stuck n q)
 
   -- a body without members, and what stands behind it

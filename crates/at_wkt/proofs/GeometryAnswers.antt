@@ -48,11 +48,11 @@ module _ (digits : ℕ) (how : Coords) (base : ℕ) (w : List ℕ) (head : Head)
     the_same : Same (Body head.kind) P (λ at x. f x)
     the_same = record { to = λ d x at v h. (is d at v).0 x h; from = λ d g at v h. (is d at v).1 g h }
 
-    pub body_of : (j : ℕ) (c' : Dimension) (x : X) → Spelt P base w head.end head.dimension j c' x → Spelt (Body head.kind) base w head.end head.dimension j c' (f x)
-    body_of j c' x h = (same_leads (Body head.kind) P (λ at x. f x) base w head.end head.dimension the_same (omega (arith, h.order, h.within))).spelt j c' x h
+    pub body_of : (j : ℕ) (c' : Dimension) (x : X) → Spelt P base w head.behind.at head.behind.dimension j c' x → Spelt (Body head.kind) base w head.behind.at head.behind.dimension j c' (f x)
+    body_of j c' x h = (same_leads (Body head.kind) P (λ at x. f x) base w head.behind.at head.behind.dimension the_same (omega (arith, h.order, h.within))).spelt j c' x h
 
-    pub no_body : (n : ℕ) → Stuck P base w head.end head.dimension n → Stuck (Body head.kind) base w head.end head.dimension n
-    no_body n h = (same_leads (Body head.kind) P (λ at x. f x) base w head.end head.dimension the_same (omega (arith, h.order, h.within))).stuck n h
+    pub no_body : (n : ℕ) → Stuck P base w head.behind.at head.behind.dimension n → Stuck (Body head.kind) base w head.behind.at head.behind.dimension n
+    no_body n h = (same_leads (Body head.kind) P (λ at x. f x) base w head.behind.at head.behind.dimension the_same (omega (arith, h.order, h.within))).stuck n h
 
   unchanged : {Y : Type 0} (a b : List Y) → a ≡ b → a ≡ b ++ []
   unchanged a b e = e ∙ sym (append-nil b)
@@ -64,12 +64,12 @@ module _ (digits : ℕ) (how : Coords) (base : ℕ) (w : List ℕ) (head : Head)
     pub points_body : {X : Type 0} (P : ℕ → X → ℕ → List ℕ → Type 0) (faults : X → List Fault) (added : X → List Pos) (f : X → Geometry) → IsBody P f
         → ((x : X) → faults_of digits how (f x) ≡ faults x) → ((x : X) → (shape_of digits how (f x)).points ≡ added x) → ((x : X) → (shape_of digits how (f x)).lines ≡ []) → ((x : X) → (shape_of digits how (f x)).polygons ≡ [])
         → new.lines.items ≡ old.lines.items → new.polygons.items ≡ old.polygons.items
-        → MatchResult r (PartStands P faults (Grows added old.points.items new.points.items) base w head.end head.dimension) (λ halt. IfStopped halt (Stuck P base w head.end head.dimension))
-        → MatchResult r (BodyStands digits how base w head old new) (λ halt. IfStopped halt (Stuck (Body head.kind) base w head.end head.dimension))
-    points_body P faults added f is ef ep el eg sl sg h = answers_by r _ (BodyStands digits how base w head old new) _ (Stuck (Body head.kind) base w head.end head.dimension) h
+        → MatchResult r (PartStands P faults (Grows added old.points.items new.points.items) base w head.behind.at head.behind.dimension) (λ halt. IfStopped halt (Stuck P base w head.behind.at head.behind.dimension))
+        → MatchResult r (BodyStands digits how base w head old new) (λ halt. IfStopped halt (Stuck (Body head.kind) base w head.behind.at head.behind.dimension))
+    points_body P faults added f is ef ep el eg sl sg h = answers_by r _ (BodyStands digits how base w head old new) _ (Stuck (Body head.kind) base w head.behind.at head.behind.dimension) h
         (λ read q. record {
           geometry = f q.value;
-          spelt = body_of P f is read.end read.dimension q.value q.spelt;
+          spelt = body_of P f is read.behind.at read.behind.dimension q.value q.spelt;
           points = q.added ∙ ap (λ z. old.points.items ++ z) (sym (ep q.value));
           lines = unchanged new.lines.items old.lines.items sl ∙ ap (λ z. old.lines.items ++ z) (sym (el q.value));
           polygons = unchanged new.polygons.items old.polygons.items sg ∙ ap (λ z. old.polygons.items ++ z) (sym (eg q.value));
@@ -81,12 +81,12 @@ module _ (digits : ℕ) (how : Coords) (base : ℕ) (w : List ℕ) (head : Head)
     pub lines_body : {X : Type 0} (P : ℕ → X → ℕ → List ℕ → Type 0) (faults : X → List Fault) (added : X → List (List Pos)) (f : X → Geometry) → IsBody P f
         → ((x : X) → faults_of digits how (f x) ≡ faults x) → ((x : X) → (shape_of digits how (f x)).points ≡ []) → ((x : X) → (shape_of digits how (f x)).lines ≡ added x) → ((x : X) → (shape_of digits how (f x)).polygons ≡ [])
         → new.points.items ≡ old.points.items → new.polygons.items ≡ old.polygons.items
-        → MatchResult r (PartStands P faults (Grows added old.lines.items new.lines.items) base w head.end head.dimension) (λ halt. IfStopped halt (Stuck P base w head.end head.dimension))
-        → MatchResult r (BodyStands digits how base w head old new) (λ halt. IfStopped halt (Stuck (Body head.kind) base w head.end head.dimension))
-    lines_body P faults added f is ef ep el eg sp sg h = answers_by r _ (BodyStands digits how base w head old new) _ (Stuck (Body head.kind) base w head.end head.dimension) h
+        → MatchResult r (PartStands P faults (Grows added old.lines.items new.lines.items) base w head.behind.at head.behind.dimension) (λ halt. IfStopped halt (Stuck P base w head.behind.at head.behind.dimension))
+        → MatchResult r (BodyStands digits how base w head old new) (λ halt. IfStopped halt (Stuck (Body head.kind) base w head.behind.at head.behind.dimension))
+    lines_body P faults added f is ef ep el eg sp sg h = answers_by r _ (BodyStands digits how base w head old new) _ (Stuck (Body head.kind) base w head.behind.at head.behind.dimension) h
         (λ read q. record {
           geometry = f q.value;
-          spelt = body_of P f is read.end read.dimension q.value q.spelt;
+          spelt = body_of P f is read.behind.at read.behind.dimension q.value q.spelt;
           points = unchanged new.points.items old.points.items sp ∙ ap (λ z. old.points.items ++ z) (sym (ep q.value));
           lines = q.added ∙ ap (λ z. old.lines.items ++ z) (sym (el q.value));
           polygons = unchanged new.polygons.items old.polygons.items sg ∙ ap (λ z. old.polygons.items ++ z) (sym (eg q.value));
@@ -98,12 +98,12 @@ module _ (digits : ℕ) (how : Coords) (base : ℕ) (w : List ℕ) (head : Head)
     pub polygons_body : {X : Type 0} (P : ℕ → X → ℕ → List ℕ → Type 0) (faults : X → List Fault) (added : X → List PolygonOf) (f : X → Geometry) → IsBody P f
         → ((x : X) → faults_of digits how (f x) ≡ faults x) → ((x : X) → (shape_of digits how (f x)).points ≡ []) → ((x : X) → (shape_of digits how (f x)).lines ≡ []) → ((x : X) → (shape_of digits how (f x)).polygons ≡ added x)
         → new.points.items ≡ old.points.items → new.lines.items ≡ old.lines.items
-        → MatchResult r (PartStands P faults (Grows added old.polygons.items new.polygons.items) base w head.end head.dimension) (λ halt. IfStopped halt (Stuck P base w head.end head.dimension))
-        → MatchResult r (BodyStands digits how base w head old new) (λ halt. IfStopped halt (Stuck (Body head.kind) base w head.end head.dimension))
-    polygons_body P faults added f is ef ep el eg sp sl h = answers_by r _ (BodyStands digits how base w head old new) _ (Stuck (Body head.kind) base w head.end head.dimension) h
+        → MatchResult r (PartStands P faults (Grows added old.polygons.items new.polygons.items) base w head.behind.at head.behind.dimension) (λ halt. IfStopped halt (Stuck P base w head.behind.at head.behind.dimension))
+        → MatchResult r (BodyStands digits how base w head old new) (λ halt. IfStopped halt (Stuck (Body head.kind) base w head.behind.at head.behind.dimension))
+    polygons_body P faults added f is ef ep el eg sp sl h = answers_by r _ (BodyStands digits how base w head old new) _ (Stuck (Body head.kind) base w head.behind.at head.behind.dimension) h
         (λ read q. record {
           geometry = f q.value;
-          spelt = body_of P f is read.end read.dimension q.value q.spelt;
+          spelt = body_of P f is read.behind.at read.behind.dimension q.value q.spelt;
           points = unchanged new.points.items old.points.items sp ∙ ap (λ z. old.points.items ++ z) (sym (ep q.value));
           lines = unchanged new.lines.items old.lines.items sl ∙ ap (λ z. old.lines.items ++ z) (sym (el q.value));
           polygons = q.added ∙ ap (λ z. old.polygons.items ++ z) (sym (eg q.value));
@@ -115,7 +115,7 @@ module _ (digits : ℕ) (how : Coords) (base : ℕ) (w : List ℕ) (head : Head)
 -- the bodies of the kinds
 module _ (digits : ℕ) (how : Coords) (base : ℕ) (w : List ℕ) (e : ℕ) (c : Dimension) (old new : Gathered) (r : Result Read Halt) (fault : new.fault ≡ old.fault) where
   abbrev HeadOf : Kind → Head
-  HeadOf kind = record { kind = kind; dimension = c; end = e }
+  HeadOf kind = record { kind = kind; behind = record { at = e; dimension = c } }
 
   pub point_body : new.lines.items ≡ old.lines.items → new.polygons.items ≡ old.polygons.items
       → MatchResult r (PartStands SpellsPoint (point_faults digits how) (Grows (added_point digits how) old.points.items new.points.items) base w e c) (λ halt. IfStopped halt (Stuck SpellsPoint base w e c))
@@ -166,13 +166,13 @@ module _ (digits : ℕ) (how : Coords) (base : ℕ) (w : List ℕ) (e : ℕ) (c 
     shut b h = ap not (letter_not_open b h)
 
   pub empty_body : is_open (next w e) ≡ false → e ≤ length w → HasCount c → new.points.items ≡ old.points.items → new.lines.items ≡ old.lines.items → new.polygons.items ≡ old.polygons.items
-      → MatchResult r (λ read. WordStands w e read.end (codes "EMPTY") × (read.fault ≡ None) × (read.dimension ≡ c)) (λ halt. IfStopped halt (λ n. WordBreaks w e n (codes "EMPTY")))
+      → MatchResult r (λ read. WordStands w e read.behind.at (codes "EMPTY") × (read.fault ≡ None) × (read.behind.dimension ≡ c)) (λ halt. IfStopped halt (λ n. WordBreaks w e n (codes "EMPTY")))
       → MatchResult r (BodyStands digits how base w (HeadOf GeometryCollection) old new) (λ halt. IfStopped halt (Stuck (Body GeometryCollection) base w e c))
   empty_body shut inside some sp sl sg h = answers_by r _ (BodyStands digits how base w (HeadOf GeometryCollection) old new) _ (Stuck (Body GeometryCollection) base w e c) h
       (λ read (word, ef, ed). record {
         geometry = collection no_geometries;
-        spelt = subst (λ z. Spelt (Body GeometryCollection) base w e c read.end z (collection no_geometries)) (sym ed)
-            ((when_leads (Body GeometryCollection) (Word (codes "EMPTY") (collection no_geometries)) (λ at g. g) is_shut is_shut base w e c empty_when empty_begins inside (ap not shut)).spelt read.end c (collection no_geometries) (word_spelt (codes "EMPTY") (collection no_geometries) base w e read.end c word some));
+        spelt = subst (λ z. Spelt (Body GeometryCollection) base w e c read.behind.at z (collection no_geometries)) (sym ed)
+            ((when_leads (Body GeometryCollection) (Word (codes "EMPTY") (collection no_geometries)) (λ at g. g) is_shut is_shut base w e c empty_when empty_begins inside (ap not shut)).spelt read.behind.at c (collection no_geometries) (word_spelt (codes "EMPTY") (collection no_geometries) base w e read.behind.at c word some));
         points = sp ∙ sym (append-nil old.points.items);
         lines = sl ∙ sym (append-nil old.lines.items);
         polygons = sg ∙ sym (append-nil old.polygons.items);

@@ -10,7 +10,7 @@ use Rattle.at_geom.specs.declared.positions.Pos.{Pos}
 use Rattle.at_geom.specs.declared.shapes.Polygon.{Polygon as PolygonOf}
 use Rattle.at_wkt.specs.declared.dimension.Dimension.{Dimension}
 use Rattle.at_wkt.specs.declared.halts.Halt.{Halt}
-use Rattle.at_wkt.specs.declared.rules.Rules.{Rules}
+use Rattle.at_wkt.specs.declared.sources.Rules.{Rules}
 use Rattle.at_wkt.specs.declared.positions.PositionRead.{PositionRead}
 use Rattle.at_wkt.specs.declared.paths.PathRead.{PathRead}
 use Rattle.at_wkt.specs.declared.paths.Role.{Role}
@@ -34,12 +34,12 @@ use Rattle.at_wkt.proofs.Exits.{answers_by}
 module _ {X Y Z : Type 0} (P : ℕ → Y → ℕ → List ℕ → Type 0) (Q : ℕ → X → ℕ → List ℕ → Type 0) (f : X → Y) (none : Y) (choice : Choice P Q f none)
     (faults : Y → List Fault) (added : Y → List Z) (base : ℕ) (w : List ℕ) (i : ℕ) (c : Dimension) where
   pub nothing_stands : faults none ≡ [] → added none ≡ [] → (list : List Z) → is_open (next w i) ≡ false → HasCount c → (r : Result Read Halt)
-      → MatchResult r (λ read. WordStands w i read.end (codes "EMPTY") × (read.fault ≡ None) × (read.dimension ≡ c)) (λ halt. IfStopped halt (λ n. WordBreaks w i n (codes "EMPTY")))
+      → MatchResult r (λ read. WordStands w i read.behind.at (codes "EMPTY") × (read.fault ≡ None) × (read.behind.dimension ≡ c)) (λ halt. IfStopped halt (λ n. WordBreaks w i n (codes "EMPTY")))
       → MatchResult r (PartStands P faults (Grows added list list) base w i c) (λ halt. IfStopped halt (Stuck P base w i c))
   nothing_stands hf ha list shut some r h = answers_by r _ (PartStands P faults (Grows added list list) base w i c) _ (Stuck P base w i c) h
       (λ read (word, ef, ed). record {
         value = none;
-        spelt = subst (λ z. Spelt P base w i c read.end z none) (sym ed) (choice_empty P Q f none choice base w i c read.end shut word some);
+        spelt = subst (λ z. Spelt P base w i c read.behind.at z none) (sym ed) (choice_empty P Q f none choice base w i c read.behind.at shut word some);
         fault = ef ∙ sym (ap first_of hf);
         added = sym (ap (λ z. list ++ z) ha ∙ append-nil list);
       })
@@ -51,7 +51,7 @@ module _ {X Y Z : Type 0} (P : ℕ → Y → ℕ → List ℕ → Type 0) (Q : �
   opened_stands faultsQ addedQ ef ea old new inside here r h = answers_by r _ (PartStands P faults (Grows added old new) base w i c) _ (Stuck P base w i c) h
       (λ read q. record {
         value = f q.value;
-        spelt = (choice_open P Q f none choice base w i c inside here).spelt read.end read.dimension q.value q.spelt;
+        spelt = (choice_open P Q f none choice base w i c inside here).spelt read.behind.at read.behind.dimension q.value q.spelt;
         fault = q.fault ∙ sym (ap first_of (ef q.value));
         added = q.added ∙ ap (λ z. old ++ z) (sym (ea q.value));
       })
@@ -66,7 +66,7 @@ bracketed_stands P faults added base w i c old new inside here r h =
     (answers_by r _ (PartStands (Bracketed P) faults (Grows added old new) base w i c) _ (Stuck (Bracketed P) base w i c) h
     (λ read q. record {
       value = q.value;
-      spelt = (bracket_leads P base w i c inside here).spelt read.end read.dimension q.value q.spelt;
+      spelt = (bracket_leads P base w i c inside here).spelt read.behind.at read.behind.dimension q.value q.spelt;
       fault = q.fault;
       added = q.added;
     })
@@ -76,24 +76,24 @@ bracketed_stands P faults added base w i c old new inside here r h =
 
 module _ {X Z : Type 0} (P : ℕ → X → ℕ → List ℕ → Type 0) (faults : X → List Fault) (added : X → List Z) (base : ℕ) (w : List ℕ) (i a : ℕ) (c : Dimension) (skips : SkipsBlanks w i a) (begins : Begins no_blank P) where
   pub ended_item : (old new : List Z) (read : Read) → PartStands P faults (Grows added old new) base w a c read → (r : Result ItemRead Halt)
-      → MatchResult r (λ item. (item.fault ≡ read.fault) × (item.dimension ≡ read.dimension) × DelimiterStands w read.end (record { is_last = item.is_last; end = item.end })) (λ halt. IfStopped halt (DelimiterBreaks w read.end))
+      → MatchResult r (λ item. (item.fault ≡ read.fault) × (item.behind.dimension ≡ read.behind.dimension) × DelimiterStands w read.behind.at (record { is_last = item.is_last; end = item.behind.at })) (λ halt. IfStopped halt (DelimiterBreaks w read.behind.at))
       → MatchResult r (ItemStands P faults (Grows added old new) base w i c) (λ halt. IfStopped halt (Stuck (Item P) base w i c))
   ended_item old new read h r q = answers_by r _ (ItemStands P faults (Grows added old new) base w i c) _ (Stuck (Item P) base w i c) q
       (λ item (ef, ed, d).
-      let ends : Spelt Delimiter base w read.end read.dimension (d.at + 1) read.dimension item.is_last = delimiter_spelt base w read.end d.at d.blanks item.is_last d.byte d.inside read.dimension h.spelt.some in
-      let whole : Spelt (Item P) base w i c (d.at + 1) read.dimension (h.value, item.is_last) = item_spelt P base w i a c skips begins read.end read.dimension h.value h.spelt (d.at + 1) item.is_last ends in
+      let ends : Spelt Delimiter base w read.behind.at read.behind.dimension (d.at + 1) read.behind.dimension item.is_last = delimiter_spelt base w read.behind.at d.at d.blanks item.is_last d.byte d.inside read.behind.dimension h.spelt.some in
+      let whole : Spelt (Item P) base w i c (d.at + 1) read.behind.dimension (h.value, item.is_last) = item_spelt P base w i a c skips begins read.behind.at read.behind.dimension h.value h.spelt (d.at + 1) item.is_last ends in
       record {
         value = h.value;
-        spelt = subst (λ z. Spelt (Item P) base w i c item.end z (h.value, item.is_last)) (sym ed) (subst (λ z. Spelt (Item P) base w i c z read.dimension (h.value, item.is_last)) (sym d.end_is) whole);
+        spelt = subst (λ z. Spelt (Item P) base w i c item.behind.at z (h.value, item.is_last)) (sym ed) (subst (λ z. Spelt (Item P) base w i c z read.behind.dimension (h.value, item.is_last)) (sym d.end_is) whole);
         fault = ef ∙ h.fault;
         added = h.added;
         longer = omega (arith, skips.order, h.spelt.order, d.blanks.order, d.end_is);
       })
-      (λ n d. item_unended P base w i a c skips begins read.end read.dimension h.value h.spelt n (delimiter_stuck base w read.end n d.blanks read.dimension h.spelt.some d.byte))
+      (λ n d. item_unended P base w i a c skips begins read.behind.at read.behind.dimension h.value h.spelt n (delimiter_stuck base w read.behind.at n d.blanks read.behind.dimension h.spelt.some d.byte))
 
 -- all items of a loop
 pub items_stand : {X Z : Type 0} (P : ℕ → X → ℕ → List ℕ → Type 0) (faults : X → List Fault) (added : X → List Z) (old new : List Z) (base : ℕ) (w : List ℕ) (i : ℕ) (c : Dimension) (last : ItemRead) (read : Read)
-    → ItemsSoFar P faults added old new base w i c last → last.is_last ≡ true → read ≡ record { fault = last.fault; end = last.end; dimension = last.dimension }
+    → ItemsSoFar P faults added old new base w i c last → last.is_last ≡ true → read ≡ record { fault = last.fault; behind = last.behind }
     → PartStands (Items P) (flat_map faults) (Grows (flat_map added) old new) base w i c read
 items_stand P faults added old new base w i c last read h ended is = subst (PartStands (Items P) (flat_map faults) (Grows (flat_map added) old new) base w i c) (sym is) (record {
   value = h.values;
@@ -108,23 +108,23 @@ module _ (rules : Rules) (w : List ℕ) (i : ℕ) (c : Dimension) (inside : i < 
   pub enclosed_stuck : (n : ℕ) → Stuck (Item SpellsPosition) rules.base w (i + 1) c n → Stuck EnclosedPosition rules.base w i c n
   enclosed_stuck n h = (enclosed_leads rules.base w i c inside here).stuck n (last_stuck rules.base w (i + 1) n c h)
 
-  pub enclosed_comma : (read : PositionRead) → PositionStands rules w (i + 1) c read → read.is_last ≡ false → Stuck EnclosedPosition rules.base w i c (read.end - 1)
-  enclosed_comma read h more = (enclosed_leads rules.base w i c inside here).stuck (read.end - 1)
-      (comma_stuck rules.base w (i + 1) read.end (read.end - 1) c read.dimension h.position (omega (arith, h.longer))
-      (subst (λ z. Spelt (Item SpellsPosition) rules.base w (i + 1) c read.end read.dimension (h.position, z)) more h.spelt) (omega (arith, h.longer)))
+  pub enclosed_comma : (read : PositionRead) → PositionStands rules w (i + 1) c read → read.is_last ≡ false → Stuck EnclosedPosition rules.base w i c (read.behind.at - 1)
+  enclosed_comma read h more = (enclosed_leads rules.base w i c inside here).stuck (read.behind.at - 1)
+      (comma_stuck rules.base w (i + 1) read.behind.at (read.behind.at - 1) c read.behind.dimension h.position (omega (arith, h.longer))
+      (subst (λ z. Spelt (Item SpellsPosition) rules.base w (i + 1) c read.behind.at read.behind.dimension (h.position, z)) more h.spelt) (omega (arith, h.longer)))
 
   pub enclosed_stands : (read : PositionRead) (old new : List Pos) → PositionStands rules w (i + 1) c read → read.is_last ≡ true → new ≡ old ++ (read.pos ∷ [])
-      → PartStands EnclosedPosition (position_faults rules.digits rules.how) (Grows (added_position rules.digits rules.how) old new) rules.base w i c (record { fault = read.fault; end = read.end; dimension = read.dimension })
+      → PartStands EnclosedPosition (position_faults rules.digits rules.how) (Grows (added_position rules.digits rules.how) old new) rules.base w i c (record { fault = read.fault; behind = read.behind })
   enclosed_stands read old new h ended e = record {
     value = h.position;
-    spelt = (enclosed_leads rules.base w i c inside here).spelt read.end read.dimension h.position
-        (last_spelt rules.base w (i + 1) read.end c read.dimension h.position (subst (λ z. Spelt (Item SpellsPosition) rules.base w (i + 1) c read.end read.dimension (h.position, z)) ended h.spelt));
+    spelt = (enclosed_leads rules.base w i c inside here).spelt read.behind.at read.behind.dimension h.position
+        (last_spelt rules.base w (i + 1) read.behind.at c read.behind.dimension h.position (subst (λ z. Spelt (Item SpellsPosition) rules.base w (i + 1) c read.behind.at read.behind.dimension (h.position, z)) ended h.spelt));
     fault = h.fault;
     added = e ∙ ap (λ z. old ++ (z ∷ [])) h.pos;
   }
 
 pub added_stands : (rules : Rules) (w : List ℕ) (i : ℕ) (c : Dimension) (role : Role) (read : PathRead) (path : List Pos) (old new : List (List Pos)) → PathStands rules w i c role read → path ≡ read.path.items → new ≡ old ++ (path ∷ [])
-    → PartStands SpellsRing (faults_of_path rules.digits rules.how role) (Grows (added_path rules.digits rules.how) old new) rules.base w i c (record { fault = read.fault; end = read.end; dimension = read.dimension })
+    → PartStands SpellsRing (faults_of_path rules.digits rules.how role) (Grows (added_path rules.digits rules.how) old new) rules.base w i c (record { fault = read.fault; behind = read.behind })
 added_stands rules w i c role read path old new h ep e = record {
   value = h.positions;
   spelt = h.spelt;
@@ -145,7 +145,7 @@ area_stands rules w i c read rings old new polygon h ep e = record {
   value = h.value;
   spelt = h.spelt;
   fault = h.fault;
-  added = e ∙ ap (λ z. old ++ z) (ap (λ z. z ∷ []) (ep ∙ ap (λ z. record { rings = z }) h.added) ∙ (let (d, a) = h.spelt.some in one h.value d (rules.base + i) (part w i read.end) (h.spelt.sound d a)));
+  added = e ∙ ap (λ z. old ++ z) (ap (λ z. z ∷ []) (ep ∙ ap (λ z. record { rings = z }) h.added) ∙ (let (d, a) = h.spelt.some in one h.value d (rules.base + i) (part w i read.behind.at) (h.spelt.sound d a)));
 } where
   paths : (xs : List Positions) → flat_map (added_path rules.digits rules.how) xs ≡ map (path_of rules.digits rules.how) xs
   paths [] = refl
@@ -164,7 +164,7 @@ module _ (rules : Rules) (w : List ℕ) (i a : ℕ) (c : Dimension) (skips : Ski
       → PartStands SpellsPointMember (point_faults rules.digits rules.how) (Grows (added_point rules.digits rules.how) old new) rules.base w a c read
   member_stands old new read here h = record {
     value = h.value;
-    spelt = (when_leads SpellsPointMember SpellsPoint (λ at p. p) opens opens rules.base w a c member_when (choice_begins SpellsPoint EnclosedPosition (λ p. Some p) None point_choice) skips.within here).spelt read.end read.dimension h.value h.spelt;
+    spelt = (when_leads SpellsPointMember SpellsPoint (λ at p. p) opens opens rules.base w a c member_when (choice_begins SpellsPoint EnclosedPosition (λ p. Some p) None point_choice) skips.within here).spelt read.behind.at read.behind.dimension h.value h.spelt;
     fault = h.fault;
     added = h.added;
   }
@@ -205,7 +205,7 @@ module _ (rules : Rules) (w : List ℕ) (i a : ℕ) (c : Dimension) (skips : Ski
   bare_stands old new r some bare h = answers_by r _ (ItemStands SpellsPointMember (point_faults rules.digits rules.how) (Grows (added_point rules.digits rules.how) old new) rules.base w i c) _ (Stuck (Item SpellsPointMember) rules.base w i c) h
       (λ item q. record {
         value = Some q.value;
-        spelt = bare_spelt rules.base w i a c skips bare item.end item.dimension q.value item.is_last (bare_longer item.end item.dimension q.value item.is_last q.spelt) q.spelt;
+        spelt = bare_spelt rules.base w i a c skips bare item.behind.at item.behind.dimension q.value item.is_last (bare_longer item.behind.at item.behind.dimension q.value item.is_last q.spelt) q.spelt;
         fault = q.fault ∙ ap first_of (sym (append-nil (position_faults rules.digits rules.how q.value)));
         added = q.added;
         longer = q.longer;
@@ -213,7 +213,7 @@ module _ (rules : Rules) (w : List ℕ) (i a : ℕ) (c : Dimension) (skips : Ski
       (λ n q. bare_stuck rules.base w i a c skips bare n (bare_low n some q) q)
 
 pub position_item : (rules : Rules) (w : List ℕ) (i : ℕ) (c : Dimension) (read : PositionRead) (old new : List Pos) → PositionStands rules w i c read → new ≡ old ++ (read.pos ∷ [])
-    → ItemStands SpellsPosition (position_faults rules.digits rules.how) (Grows (added_position rules.digits rules.how) old new) rules.base w i c (record { fault = read.fault; is_last = read.is_last; end = read.end; dimension = read.dimension })
+    → ItemStands SpellsPosition (position_faults rules.digits rules.how) (Grows (added_position rules.digits rules.how) old new) rules.base w i c (record { fault = read.fault; is_last = read.is_last; behind = read.behind })
 position_item rules w i c read old new h e = record {
   value = h.position;
   spelt = h.spelt;

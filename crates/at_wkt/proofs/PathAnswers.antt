@@ -8,7 +8,7 @@ use Rattle.at_text.specs.declared.faults.Fault.{Fault}
 use Rattle.at_text.specs.Faults.{first_fault, first_of, comes_first}
 use Rattle.at_geom.specs.declared.positions.Pos.{Pos}
 use Rattle.at_wkt.specs.declared.dimension.Dimension.{Dimension}
-use Rattle.at_wkt.specs.declared.rules.Rules.{Rules}
+use Rattle.at_wkt.specs.declared.sources.Rules.{Rules}
 use Rattle.at_wkt.specs.declared.positions.PositionRead.{PositionRead}
 use Rattle.at_wkt.specs.declared.paths.ListRead.{ListRead}
 use Rattle.at_wkt.specs.declared.paths.PathRead.{PathRead}
@@ -46,7 +46,7 @@ module _ (rules : Rules) (w : List ℕ) (i : ℕ) (c : Dimension) where
   positions_start first h = record {
     head = h.position;
     rest = [];
-    reads = items_more SpellsPosition rules.base w i c i first.end c first.dimension [] h.position first.is_last (items_start SpellsPosition rules.base w i c) h.spelt;
+    reads = items_more SpellsPosition rules.base w i c i first.behind.at c first.behind.dimension [] h.position first.is_last (items_start SpellsPosition rules.base w i c) h.spelt;
     some = h.spelt.some;
     within = h.spelt.within;
     path_is = ap (λ z. z ∷ []) h.pos;
@@ -59,15 +59,15 @@ module _ (rules : Rules) (w : List ℕ) (i : ℕ) (c : Dimension) where
   }
 
   pub positions_more : (first last new : PositionRead) (path path' : List Pos) (fault fault' : Option Fault) → PositionsSoFar rules w i c first last path fault → last.is_last ≡ false
-      → PositionStands rules w last.end last.dimension new → path' ≡ path ++ (new.pos ∷ []) → fault' ≡ first_fault fault new.fault → PositionsSoFar rules w i c first new path' fault'
+      → PositionStands rules w last.behind.at last.behind.dimension new → path' ≡ path ++ (new.pos ∷ []) → fault' ≡ first_fault fault new.fault → PositionsSoFar rules w i c first new path' fault'
   positions_more first last new path path' fault fault' h more n ep ef =
       let xs = h.head ∷ h.rest in
-      let reads : ItemsRead SpellsPosition rules.base w i c last.end last.dimension false xs = subst (λ z. ItemsRead SpellsPosition rules.base w i c last.end last.dimension z xs) more h.reads in
+      let reads : ItemsRead SpellsPosition rules.base w i c last.behind.at last.behind.dimension false xs = subst (λ z. ItemsRead SpellsPosition rules.base w i c last.behind.at last.behind.dimension z xs) more h.reads in
       let faults : flat_map (position_faults rules.digits rules.how) (n.position ∷ []) ≡ position_faults rules.digits rules.how n.position = append-nil (position_faults rules.digits rules.how n.position) in
       record {
         head = h.head;
         rest = h.rest ++ (n.position ∷ []);
-        reads = items_more SpellsPosition rules.base w i c last.end new.end last.dimension new.dimension xs n.position new.is_last reads n.spelt;
+        reads = items_more SpellsPosition rules.base w i c last.behind.at new.behind.at last.behind.dimension new.behind.dimension xs n.position new.is_last reads n.spelt;
         some = n.spelt.some;
         within = n.spelt.within;
         path_is = ep ∙ (ap (λ z. z ++ (new.pos ∷ [])) h.path_is ∙ (ap (λ z. map (pos_of rules.digits rules.how) xs ++ (z ∷ [])) n.pos ∙ sym (map-append (pos_of rules.digits rules.how) xs (n.position ∷ []))));
@@ -82,25 +82,25 @@ module _ (rules : Rules) (w : List ℕ) (i : ℕ) (c : Dimension) where
       }
 
   pub positions_stuck : (first last : PositionRead) (path : List Pos) (fault : Option Fault) (n : ℕ) → PositionsSoFar rules w i c first last path fault → last.is_last ≡ false
-      → Stuck (Item SpellsPosition) rules.base w last.end last.dimension n → Stuck (Items SpellsPosition) rules.base w i c n
-  positions_stuck first last path fault n h more q = items_stuck SpellsPosition rules.base w i c position_lives last.end n last.dimension (h.head ∷ h.rest)
-      (subst (λ z. ItemsRead SpellsPosition rules.base w i c last.end last.dimension z (h.head ∷ h.rest)) more h.reads) q
+      → Stuck (Item SpellsPosition) rules.base w last.behind.at last.behind.dimension n → Stuck (Items SpellsPosition) rules.base w i c n
+  positions_stuck first last path fault n h more q = items_stuck SpellsPosition rules.base w i c position_lives last.behind.at n last.behind.dimension (h.head ∷ h.rest)
+      (subst (λ z. ItemsRead SpellsPosition rules.base w i c last.behind.at last.behind.dimension z (h.head ∷ h.rest)) more h.reads) q
 
   pub positions_stuck_first : (n : ℕ) → Stuck (Item SpellsPosition) rules.base w i c n → Stuck (Items SpellsPosition) rules.base w i c n
   positions_stuck_first n q = items_stuck SpellsPosition rules.base w i c position_lives i n c [] (items_start SpellsPosition rules.base w i c) q
 
   pub positions_end : (first last : PositionRead) (path : List Pos) (fault : Option Fault) (read : ListRead) → PositionsSoFar rules w i c first last path fault → last.is_last ≡ true
-      → read.fault ≡ fault → read.closes ≡ ends_same first last → read.end ≡ last.end → read.dimension ≡ last.dimension → PositionsStand rules w i c path read
+      → read.fault ≡ fault → read.closes ≡ ends_same first last → read.behind.at ≡ last.behind.at → read.behind.dimension ≡ last.behind.dimension → PositionsStand rules w i c path read
   positions_end first last path fault read h ended ef ec ee ed =
       let xs = h.head ∷ h.rest in
       let q = last_of h.head h.rest in
-      let spelt : Spelt (Items SpellsPosition) rules.base w i c last.end last.dimension xs = items_end SpellsPosition rules.base w i c last.end last.dimension xs
-      (subst (λ z. ItemsRead SpellsPosition rules.base w i c last.end last.dimension z xs) ended h.reads) h.within h.some in
+      let spelt : Spelt (Items SpellsPosition) rules.base w i c last.behind.at last.behind.dimension xs = items_end SpellsPosition rules.base w i c last.behind.at last.behind.dimension xs
+      (subst (λ z. ItemsRead SpellsPosition rules.base w i c last.behind.at last.behind.dimension z xs) ended h.reads) h.within h.some in
       let none_first : is_none first.fault ≡ is_faultless rules.digits rules.how h.head = ap is_none h.first_faulty ∙ faultless_by (position_faults rules.digits rules.how h.head) in
       let none_last : is_none last.fault ≡ is_faultless rules.digits rules.how q = ap is_none h.last_faulty ∙ faultless_by (position_faults rules.digits rules.how q) in
       record {
         positions = xs;
-        spelt = subst (λ z. Spelt (Items SpellsPosition) rules.base w i c read.end z xs) (sym ed) (subst (λ z. Spelt (Items SpellsPosition) rules.base w i c z last.dimension xs) (sym ee) spelt);
+        spelt = subst (λ z. Spelt (Items SpellsPosition) rules.base w i c read.behind.at z xs) (sym ed) (subst (λ z. Spelt (Items SpellsPosition) rules.base w i c z last.behind.dimension xs) (sym ee) spelt);
         list_is = h.path_is;
         fault = ef ∙ h.fault_is;
         closes = ec ∙ (ap (λ z. not (z && is_none last.fault) || (int_eq first.pos.x last.pos.x && int_eq first.pos.y last.pos.y)) none_first
@@ -113,21 +113,21 @@ module _ (rules : Rules) (w : List ℕ) (i : ℕ) (c : Dimension) where
 -- ---- items of any kind
 
 module _ {X Y : Type 0} (P : ℕ → X → ℕ → List ℕ → Type 0) (faults : X → List Fault) (added : X → List Y) (old : List Y) (base : ℕ) (w : List ℕ) (i : ℕ) (c : Dimension) where
-  pub so_far_start : (first : ItemRead) → first.fault ≡ None → first.is_last ≡ false → first.end ≡ i → first.dimension ≡ c → i ≤ length w → HasCount c → ItemsSoFar P faults added old old base w i c first
+  pub so_far_start : (first : ItemRead) → first.fault ≡ None → first.is_last ≡ false → first.behind.at ≡ i → first.behind.dimension ≡ c → i ≤ length w → HasCount c → ItemsSoFar P faults added old old base w i c first
   so_far_start first ef el ee ed inside some = record {
     values = [];
-    reads = subst (λ z. ItemsRead P base w i c first.end first.dimension z []) (sym el) (subst (λ z. ItemsRead P base w i c first.end z false []) (sym ed) (subst (λ z. ItemsRead P base w i c z c false []) (sym ee) (items_start P base w i c)));
+    reads = subst (λ z. ItemsRead P base w i c first.behind.at first.behind.dimension z []) (sym el) (subst (λ z. ItemsRead P base w i c first.behind.at z false []) (sym ed) (subst (λ z. ItemsRead P base w i c z c false []) (sym ee) (items_start P base w i c)));
     some = subst HasCount (sym ed) some;
     within = omega (arith, ee, inside);
     fault = ef;
     grown = sym (append-nil old);
   }
 
-  pub so_far_more : (last item new : ItemRead) (list list' : List Y) → ItemsSoFar P faults added old list base w i c last → last.is_last ≡ false → ItemStands P faults (Grows added list list') base w last.end last.dimension item
-      → new ≡ record { fault = first_fault last.fault item.fault; is_last = item.is_last; end = item.end; dimension = item.dimension } → ItemsSoFar P faults added old list' base w i c new
+  pub so_far_more : (last item new : ItemRead) (list list' : List Y) → ItemsSoFar P faults added old list base w i c last → last.is_last ≡ false → ItemStands P faults (Grows added list list') base w last.behind.at last.behind.dimension item
+      → new ≡ record { fault = first_fault last.fault item.fault; is_last = item.is_last; behind = item.behind } → ItemsSoFar P faults added old list' base w i c new
   so_far_more last item new list list' h more q is = subst (ItemsSoFar P faults added old list' base w i c) (sym is) (record {
     values = h.values ++ (q.value ∷ []);
-    reads = items_more P base w i c last.end item.end last.dimension item.dimension h.values q.value item.is_last (subst (λ z. ItemsRead P base w i c last.end last.dimension z h.values) more h.reads) q.spelt;
+    reads = items_more P base w i c last.behind.at item.behind.at last.behind.dimension item.behind.dimension h.values q.value item.is_last (subst (λ z. ItemsRead P base w i c last.behind.at last.behind.dimension z h.values) more h.reads) q.spelt;
     some = q.spelt.some;
     within = q.spelt.within;
     fault = ap (λ z. first_fault z item.fault) h.fault ∙ (ap (first_fault (first_of (flat_map faults h.values))) q.fault ∙ (sym (first_of-append (flat_map faults h.values) (faults q.value))
@@ -136,11 +136,11 @@ module _ {X Y : Type 0} (P : ℕ → X → ℕ → List ℕ → Type 0) (faults 
         ∙ ap (λ z. old ++ z) (ap (λ z. flat_map added h.values ++ z) (sym (append-nil (added q.value))) ∙ sym (flat_map-append added h.values (q.value ∷ [])))));
   })
 
-  pub so_far_stuck : ItemLives P → (last : ItemRead) (list : List Y) (n : ℕ) → ItemsSoFar P faults added old list base w i c last → last.is_last ≡ false → Stuck (Item P) base w last.end last.dimension n → Stuck (Items P) base w i c n
-  so_far_stuck lives last list n h more q = items_stuck P base w i c lives last.end n last.dimension h.values (subst (λ z. ItemsRead P base w i c last.end last.dimension z h.values) more h.reads) q
+  pub so_far_stuck : ItemLives P → (last : ItemRead) (list : List Y) (n : ℕ) → ItemsSoFar P faults added old list base w i c last → last.is_last ≡ false → Stuck (Item P) base w last.behind.at last.behind.dimension n → Stuck (Items P) base w i c n
+  so_far_stuck lives last list n h more q = items_stuck P base w i c lives last.behind.at n last.behind.dimension h.values (subst (λ z. ItemsRead P base w i c last.behind.at last.behind.dimension z h.values) more h.reads) q
 
-  pub so_far_end : (last : ItemRead) (list : List Y) → (h : ItemsSoFar P faults added old list base w i c last) → last.is_last ≡ true → Spelt (Items P) base w i c last.end last.dimension h.values
-  so_far_end last list h ended = items_end P base w i c last.end last.dimension h.values (subst (λ z. ItemsRead P base w i c last.end last.dimension z h.values) ended h.reads) h.within h.some
+  pub so_far_end : (last : ItemRead) (list : List Y) → (h : ItemsSoFar P faults added old list base w i c last) → last.is_last ≡ true → Spelt (Items P) base w i c last.behind.at last.behind.dimension h.values
+  so_far_end last list h ended = items_end P base w i c last.behind.at last.behind.dimension h.values (subst (λ z. ItemsRead P base w i c last.behind.at last.behind.dimension z h.values) ended h.reads) h.within h.some
 
 -- ---- lines and rings
 
@@ -162,7 +162,7 @@ module _ (rules : Rules) (w : List ℕ) (i : ℕ) (c : Dimension) (inside : i < 
       ∙ sym (first_of-append (option_to_list (fault_of_path Ring (length ps.items) (is_closed rules.digits rules.how ps.items) ps.at)) (items_faults rules.digits rules.how ps.items)))
 
   pub path_stands : (role : Role) (list : List Pos) (read : ListRead) (path : PathRead) → PositionsStand rules w (i + 1) c list read → path.path.items ≡ list → (own : Option Fault)
-      → own ≡ fault_of_path role (length list) read.closes (rules.base + i) → path.fault ≡ first_fault own read.fault → path.end ≡ read.end → path.dimension ≡ read.dimension
+      → own ≡ fault_of_path role (length list) read.closes (rules.base + i) → path.fault ≡ first_fault own read.fault → path.behind.at ≡ read.behind.at → path.behind.dimension ≡ read.behind.dimension
       → PathStands rules w i c role path
   path_stands role list read path h ep own eo ef ee ed =
       let ps : Positions = record { at = rules.base + i; items = h.positions } in
@@ -170,15 +170,15 @@ module _ (rules : Rules) (w : List ℕ) (i : ℕ) (c : Dimension) (inside : i < 
       record {
         positions = ps;
         spelt =
-            subst (λ z. Spelt SpellsRing rules.base w i c path.end z ps) (sym ed)
-            (subst (λ z. Spelt SpellsRing rules.base w i c z read.dimension ps) (sym ee) ((ring_leads rules.base w i c inside here).spelt read.end read.dimension h.positions h.spelt));
+            subst (λ z. Spelt SpellsRing rules.base w i c path.behind.at z ps) (sym ed)
+            (subst (λ z. Spelt SpellsRing rules.base w i c z read.behind.dimension ps) (sym ee) ((ring_leads rules.base w i c inside here).spelt read.behind.at read.behind.dimension h.positions h.spelt));
         path = ep ∙ h.list_is;
         fault = ef ∙ faults_by role own ps read.fault (eo ∙ (ap (λ z. fault_of_path role z read.closes (rules.base + i)) count ∙ ap (λ z. fault_of_path role (length h.positions) z (rules.base + i)) h.closes)) h.fault;
       }
 
   -- the same, where the path isn't kept
   pub path_passed : (role : Role) (list : List Pos) (read : ListRead) (path : Read) → PositionsStand rules w (i + 1) c list read → (own : Option Fault)
-      → own ≡ fault_of_path role (length list) read.closes (rules.base + i) → path.fault ≡ first_fault own read.fault → path.end ≡ read.end → path.dimension ≡ read.dimension
+      → own ≡ fault_of_path role (length list) read.closes (rules.base + i) → path.fault ≡ first_fault own read.fault → path.behind.at ≡ read.behind.at → path.behind.dimension ≡ read.behind.dimension
       → PartStands SpellsRing (faults_of_path rules.digits rules.how role) (λ _. Unit {0}) rules.base w i c path
   path_passed role list read path h own eo ef ee ed =
       let ps : Positions = record { at = rules.base + i; items = h.positions } in
@@ -186,8 +186,8 @@ module _ (rules : Rules) (w : List ℕ) (i : ℕ) (c : Dimension) (inside : i < 
       record {
         value = ps;
         spelt =
-            subst (λ z. Spelt SpellsRing rules.base w i c path.end z ps) (sym ed)
-            (subst (λ z. Spelt SpellsRing rules.base w i c z read.dimension ps) (sym ee) ((ring_leads rules.base w i c inside here).spelt read.end read.dimension h.positions h.spelt));
+            subst (λ z. Spelt SpellsRing rules.base w i c path.behind.at z ps) (sym ed)
+            (subst (λ z. Spelt SpellsRing rules.base w i c z read.behind.dimension ps) (sym ee) ((ring_leads rules.base w i c inside here).spelt read.behind.at read.behind.dimension h.positions h.spelt));
         fault = ef ∙ faults_by role own ps read.fault (eo ∙ (ap (λ z. fault_of_path role z read.closes (rules.base + i)) count ∙ ap (λ z. fault_of_path role (length h.positions) z (rules.base + i)) h.closes)) h.fault;
         added = tt;
       }

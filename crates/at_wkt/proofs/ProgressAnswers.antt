@@ -85,11 +85,11 @@ word_long w i j kind h =
     omega (arith, part-length w i j h.order h.within, ap length e)
 
 module _ (digits : ℕ) (how : Coords) (base : ℕ) (w : List ℕ) (i : ℕ) (k : ℕ) (head : Head) (h : HeadStands w i head) (old new after : Gathered) where
-  pub simple_stuck : (n : ℕ) → Stuck (Body head.kind) base w head.end head.dimension n → Stuck (Awaited digits how k) base w i Open n
-  simple_stuck n q = head_stuck digits how base w i k head h n (body_stuck digits how base w head.end head.dimension head.kind k n q)
+  pub simple_stuck : (n : ℕ) → Stuck (Body head.kind) base w head.behind.at head.behind.dimension n → Stuck (Awaited digits how k) base w i Open n
+  simple_stuck n q = head_stuck digits how base w i k head h n (body_stuck digits how base w head.behind.at head.behind.dimension head.kind k n q)
 
   -- the geometry of the body, and what stands behind it
-  pub simple_stands : (read : Read) (progress : Progress) → BodyStands digits how base w head old new read → Advances digits how (Behind digits how k) base w read.end progress no_meaning
+  pub simple_stands : (read : Read) (progress : Progress) → BodyStands digits how base w head old new read → Advances digits how (Behind digits how k) base w read.behind.at progress no_meaning
       → after.points.items ≡ new.points.items → after.lines.items ≡ new.lines.items → after.polygons.items ≡ new.polygons.items → after.fault ≡ first_fault new.fault read.fault
       → progress.depth ≤ progress.at → StepStands digits how (Awaited digits how k) base w i old after progress
   simple_stands read progress b a ep el eg ef deep = record {
@@ -97,9 +97,9 @@ module _ (digits : ℕ) (how : Coords) (base : ℕ) (w : List ℕ) (i : ℕ) (k 
     advances = record {
       within = a.within;
       order = omega (arith, h.word.order, h.blanks.order, h.further.order, letters, b.spelt.order, a.order);
-      spelt = λ j n q. head_spelt digits how base w i k head h j read.dimension (joined (meaning_of digits how b.geometry) n)
-          (body_spelt digits how base w head.end head.dimension head.kind k read.end read.dimension b.geometry b.spelt j n (a.spelt j n q));
-      stuck = λ n q. head_stuck digits how base w i k head h n (body_behind digits how base w head.end head.dimension head.kind k read.end read.dimension b.geometry b.spelt n (a.stuck n q));
+      spelt = λ j n q. head_spelt digits how base w i k head h j read.behind.dimension (joined (meaning_of digits how b.geometry) n)
+          (body_spelt digits how base w head.behind.at head.behind.dimension head.kind k read.behind.at read.behind.dimension b.geometry b.spelt j n (a.spelt j n q));
+      stuck = λ n q. head_stuck digits how base w i k head h n (body_behind digits how base w head.behind.at head.behind.dimension head.kind k read.behind.at read.behind.dimension b.geometry b.spelt n (a.stuck n q));
     };
     gathers = record {
       points = ep ∙ b.points;
@@ -117,14 +117,14 @@ module _ (digits : ℕ) (how : Coords) (base : ℕ) (w : List ℕ) (i : ℕ) (k 
     some = word_long w i h.word_end head.kind h.word
 
   -- a collection opens
-  pub opening_stands : (a : ℕ) → head.kind ≡ GeometryCollection → head.end < length w → next w head.end ≡ 0x28 → SkipsBlanks w (head.end + 1) a → HasCount head.dimension → k ≤ i
+  pub opening_stands : (a : ℕ) → head.kind ≡ GeometryCollection → head.behind.at < length w → next w head.behind.at ≡ 0x28 → SkipsBlanks w (head.behind.at + 1) a → HasCount head.behind.dimension → k ≤ i
       → StepStands digits how (Awaited digits how k) base w i old old (record { at = a; depth = k + 1; is_over = false })
   opening_stands a ek inside here skips some deep = record {
     meaning = no_meaning;
     advances = record {
       within = skips.within;
       order = omega (arith, h.word.order, h.blanks.order, h.further.order, letters, skips.order);
-      spelt = λ j n q. head_spelt digits how base w i k head h j head.dimension n (opens_to j n q);
+      spelt = λ j n q. head_spelt digits how base w i k head h j head.behind.dimension n (opens_to j n q);
       stuck = λ n q. head_stuck digits how base w i k head h n (stuck_to n q);
     };
     gathers = record { points = sym (append-nil old.points.items); lines = sym (append-nil old.lines.items); polygons = sym (append-nil old.polygons.items); fault = no_fault old.fault };
@@ -138,13 +138,13 @@ module _ (digits : ℕ) (how : Coords) (base : ℕ) (w : List ℕ) (i : ℕ) (k 
     no_fault None = refl
     no_fault (Some f) = refl
 
-    opens_to : (j : ℕ) (n : Meaning) → Spelt (λ d. Expected digits how (k + 1)) base w a Open j Open n → Spelt (BodyAfter digits how head.kind k) base w head.end head.dimension j head.dimension n
-    opens_to j n q = subst (λ z. Spelt (BodyAfter digits how z k) base w head.end head.dimension j head.dimension n) (sym ek)
-        (opened_spelt digits how base w head.end a head.dimension k inside here skips some j n (subst (λ z. Spelt (Awaited digits how z) base w a Open j Open n) (add-one k) q))
+    opens_to : (j : ℕ) (n : Meaning) → Spelt (λ d. Expected digits how (k + 1)) base w a Open j Open n → Spelt (BodyAfter digits how head.kind k) base w head.behind.at head.behind.dimension j head.behind.dimension n
+    opens_to j n q = subst (λ z. Spelt (BodyAfter digits how z k) base w head.behind.at head.behind.dimension j head.behind.dimension n) (sym ek)
+        (opened_spelt digits how base w head.behind.at a head.behind.dimension k inside here skips some j n (subst (λ z. Spelt (Awaited digits how z) base w a Open j Open n) (add-one k) q))
 
-    stuck_to : (n : ℕ) → Stuck (λ d. Expected digits how (k + 1)) base w a Open n → Stuck (BodyAfter digits how head.kind k) base w head.end head.dimension n
-    stuck_to n q = subst (λ z. Stuck (BodyAfter digits how z k) base w head.end head.dimension n) (sym ek)
-        (opened_stuck digits how base w head.end a head.dimension k inside here skips some n (subst (λ z. Stuck (Awaited digits how z) base w a Open n) (add-one k) q))
+    stuck_to : (n : ℕ) → Stuck (λ d. Expected digits how (k + 1)) base w a Open n → Stuck (BodyAfter digits how head.kind k) base w head.behind.at head.behind.dimension n
+    stuck_to n q = subst (λ z. Stuck (BodyAfter digits how z k) base w head.behind.at head.behind.dimension n) (sym ek)
+        (opened_stuck digits how base w head.behind.at a head.behind.dimension k inside here skips some n (subst (λ z. Stuck (Awaited digits how z) base w a Open n) (add-one k) q))
 
 -- ---- all steps
 
@@ -208,8 +208,8 @@ module _ (digits : ℕ) (how : Coords) (base : ℕ) (w : List ℕ) (i : ℕ) (ol
 
 -- ---- what a head says
 
-pub head_count : (w : List ℕ) (i : ℕ) (head : Head) → HeadStands w i head → HasCount head.dimension
-head_count w i head h = go head.dimension h.letter where
+pub head_count : (w : List ℕ) (i : ℕ) (head : Head) → HeadStands w i head → HasCount head.behind.dimension
+head_count w i head h = go head.behind.dimension h.letter where
   go : (c : Dimension) → LetterStands w h.letter_at h.letter_end c → HasCount c
   go c (inl q) = subst HasCount (sym q.1) open_count
   go c (inr (inl q)) = subst HasCount (sym q.1) (3, (refl, lit≤ tt, lit≤ tt))
@@ -225,24 +225,24 @@ opens_by MultiLineString b h = absurd (true≢false (sym h))
 opens_by MultiPolygon b h = absurd (true≢false (sym h))
 opens_by GeometryCollection b h = (refl, h)
 
-pub opens_true : (w : List ℕ) (head : Head) → opens_at w head ≡ true → (head.kind ≡ GeometryCollection) × (head.end < length w) × (next w head.end ≡ 0x28)
+pub opens_true : (w : List ℕ) (head : Head) → opens_at w head ≡ true → (head.kind ≡ GeometryCollection) × (head.behind.at < length w) × (next w head.behind.at ≡ 0x28)
 opens_true w head h =
-    let (k, b) = opens_by head.kind (next w head.end == 0x28) h in
-    let (l, e) = open_byte w head.end (next w head.end == 0x28) refl b in (k, l, e)
+    let (k, b) = opens_by head.kind (next w head.behind.at == 0x28) h in
+    let (l, e) = open_byte w head.behind.at (next w head.behind.at == 0x28) refl b in (k, l, e)
 
 pub simple_behind : (digits : ℕ) (how : Coords) (base : ℕ) (w : List ℕ) (i : ℕ) (k : ℕ) (head : Head) → HeadStands w i head → (old new : Gathered) (read : Read) → BodyStands digits how base w head old new read
-    → (n : ℕ) → Stuck (Behind digits how k) base w read.end Open n → Stuck (Awaited digits how k) base w i Open n
+    → (n : ℕ) → Stuck (Behind digits how k) base w read.behind.at Open n → Stuck (Awaited digits how k) base w i Open n
 simple_behind digits how base w i k head h old new read b n q =
-    head_stuck digits how base w i k head h n (body_behind digits how base w head.end head.dimension head.kind k read.end read.dimension b.geometry b.spelt n q)
+    head_stuck digits how base w i k head h n (body_behind digits how base w head.behind.at head.behind.dimension head.kind k read.behind.at read.behind.dimension b.geometry b.spelt n q)
 
 -- what was read behind a head of a kind
 pub for_head : (digits : ℕ) (how : Coords) (base : ℕ) (w : List ℕ) (head : Head) (kind : Kind) (old new : Gathered) (r : Result Read Halt) → head.kind ≡ kind
-    → MatchResult r (BodyStands digits how base w (record { kind = kind; dimension = head.dimension; end = head.end }) old new) (λ halt. IfStopped halt (Stuck (Body kind) base w head.end head.dimension))
-    → MatchResult r (BodyStands digits how base w head old new) (λ halt. IfStopped halt (Stuck (Body head.kind) base w head.end head.dimension))
+    → MatchResult r (BodyStands digits how base w (record { kind = kind; behind = head.behind }) old new) (λ halt. IfStopped halt (Stuck (Body kind) base w head.behind.at head.behind.dimension))
+    → MatchResult r (BodyStands digits how base w head old new) (λ halt. IfStopped halt (Stuck (Body head.kind) base w head.behind.at head.behind.dimension))
 for_head digits how base w head kind old new r e h =
-    let P : Kind → Type 0 = λ z. MatchResult r (BodyStands digits how base w (record { kind = z; dimension = head.dimension; end = head.end }) old new) (λ halt. IfStopped halt (Stuck (Body z) base w head.end head.dimension)) in
+    let P : Kind → Type 0 = λ z. MatchResult r (BodyStands digits how base w (record { kind = z; behind = head.behind }) old new) (λ halt. IfStopped halt (Stuck (Body z) base w head.behind.at head.behind.dimension)) in
     subst P (sym e) h
 
 -- the head of a collection whose bracket doesn't open
-pub shut_by : (w : List ℕ) (head : Head) → opens_at w head ≡ false → head.kind ≡ GeometryCollection → (next w head.end == 0x28) ≡ false
-shut_by w head h e = let P : Kind → Type 0 = λ z. (elim z [ GeometryCollection ↦ next w head.end == 0x28 | _ ↦ false ]) ≡ false in subst P e h
+pub shut_by : (w : List ℕ) (head : Head) → opens_at w head ≡ false → head.kind ≡ GeometryCollection → (next w head.behind.at == 0x28) ≡ false
+shut_by w head h e = let P : Kind → Type 0 = λ z. (elim z [ GeometryCollection ↦ next w head.behind.at == 0x28 | _ ↦ false ]) ≡ false in subst P e h

@@ -1,9 +1,10 @@
 -- The word EMPTY, the words of the kinds with their letters, and parts that are EMPTY or in brackets.
 -- For `read_line`, `read_geometry` and `Room::check_line`: the words of a geometry.
-use Rattle.std.proofs.Common.{◌≡◌, ℕ, ◌+◌, ◌-◌, ◌<◌, ◌≤◌, ◌⊎◌, inl, inr, Bool, true, false, ◌&&◌, ◌==◌, List, [], ◌∷◌, ◌++◌, length, take, drop, slice_index, refl, sym, ◌∙◌, ap, arith, append-nil, append_assoc, length-append, true≢false, take-append-drop}
+use Rattle.std.proofs.Common.{◌≡◌, ℕ, ◌+◌, ◌-◌, ◌<◌, ◌≤◌, ◌⊎◌, inl, inr, Bool, true, false, if◌then◌else◌, Option, Some, None, ◌&&◌, ◌==◌, List, [], ◌∷◌, ◌++◌, length, take, drop, slice_index, refl, sym, ◌∙◌, ap, arith, append-nil, append_assoc, length-append, take-append-drop}
 use Rattle.std.specs.Str.{str_to_ascii_uppercase}
 use Rattle.std.specs.Char.{to_ascii_uppercase}
 use Rattle.std.proofs.lemmas.List.{length-map, map-append, drop-map}
+use Rattle.std.proofs.lemmas.Option.{same_Some}
 use Rattle.std.proofs.Math.Seq.{get_or-append_seam}
 use Rattle.at_text.specs.Parts.{AnyCase}
 use Rattle.at_wkt.specs.declared.dimension.Dimension.{Dimension}
@@ -78,67 +79,31 @@ begins_with [] w = true
 begins_with (b ∷ v) [] = false
 begins_with (b ∷ v) (c ∷ w) = (b == c) && begins_with v w
 
-equal_true : (b : ℕ) → (b == b) ≡ true
-equal_true b = grind arith
+-- the kind whose word begins the text
+kind_by : List ℕ → Option Kind
+kind_by w =
+    if begins_with (word_of Point) w then Some Point
+    else if begins_with (word_of LineString) w then Some LineString
+    else if begins_with (word_of Polygon) w then Some Polygon
+    else if begins_with (word_of MultiPoint) w then Some MultiPoint
+    else if begins_with (word_of MultiLineString) w then Some MultiLineString
+    else if begins_with (word_of MultiPolygon) w then Some MultiPolygon
+    else if begins_with (word_of GeometryCollection) w then Some GeometryCollection
+    else None
 
-begins_append : (v w : List ℕ) → begins_with v (v ++ w) ≡ true
-begins_append [] w = refl
-begins_append (b ∷ v) w = rw (equal_true b) (begins_append v w)
+kind_of_word : (k : Kind) (w : List ℕ) → kind_by (word_of k ++ w) ≡ Some k
+unfolding kind_by
+kind_of_word Point w = refl
+kind_of_word LineString w = refl
+kind_of_word Polygon w = refl
+kind_of_word MultiPoint w = refl
+kind_of_word MultiLineString w = refl
+kind_of_word MultiPolygon w = refl
+kind_of_word GeometryCollection w = refl
 
 -- no kind's word is the beginning of another's
-one_kind : (k m : Kind) → begins_with (word_of k) (word_of m) ≡ true → k ≡ m
-one_kind Point Point h = refl
-one_kind Point LineString h = absurd (true≢false (sym h))
-one_kind Point Polygon h = absurd (true≢false (sym h))
-one_kind Point MultiPoint h = absurd (true≢false (sym h))
-one_kind Point MultiLineString h = absurd (true≢false (sym h))
-one_kind Point MultiPolygon h = absurd (true≢false (sym h))
-one_kind Point GeometryCollection h = absurd (true≢false (sym h))
-one_kind LineString Point h = absurd (true≢false (sym h))
-one_kind LineString LineString h = refl
-one_kind LineString Polygon h = absurd (true≢false (sym h))
-one_kind LineString MultiPoint h = absurd (true≢false (sym h))
-one_kind LineString MultiLineString h = absurd (true≢false (sym h))
-one_kind LineString MultiPolygon h = absurd (true≢false (sym h))
-one_kind LineString GeometryCollection h = absurd (true≢false (sym h))
-one_kind Polygon Point h = absurd (true≢false (sym h))
-one_kind Polygon LineString h = absurd (true≢false (sym h))
-one_kind Polygon Polygon h = refl
-one_kind Polygon MultiPoint h = absurd (true≢false (sym h))
-one_kind Polygon MultiLineString h = absurd (true≢false (sym h))
-one_kind Polygon MultiPolygon h = absurd (true≢false (sym h))
-one_kind Polygon GeometryCollection h = absurd (true≢false (sym h))
-one_kind MultiPoint Point h = absurd (true≢false (sym h))
-one_kind MultiPoint LineString h = absurd (true≢false (sym h))
-one_kind MultiPoint Polygon h = absurd (true≢false (sym h))
-one_kind MultiPoint MultiPoint h = refl
-one_kind MultiPoint MultiLineString h = absurd (true≢false (sym h))
-one_kind MultiPoint MultiPolygon h = absurd (true≢false (sym h))
-one_kind MultiPoint GeometryCollection h = absurd (true≢false (sym h))
-one_kind MultiLineString Point h = absurd (true≢false (sym h))
-one_kind MultiLineString LineString h = absurd (true≢false (sym h))
-one_kind MultiLineString Polygon h = absurd (true≢false (sym h))
-one_kind MultiLineString MultiPoint h = absurd (true≢false (sym h))
-one_kind MultiLineString MultiLineString h = refl
-one_kind MultiLineString MultiPolygon h = absurd (true≢false (sym h))
-one_kind MultiLineString GeometryCollection h = absurd (true≢false (sym h))
-one_kind MultiPolygon Point h = absurd (true≢false (sym h))
-one_kind MultiPolygon LineString h = absurd (true≢false (sym h))
-one_kind MultiPolygon Polygon h = absurd (true≢false (sym h))
-one_kind MultiPolygon MultiPoint h = absurd (true≢false (sym h))
-one_kind MultiPolygon MultiLineString h = absurd (true≢false (sym h))
-one_kind MultiPolygon MultiPolygon h = refl
-one_kind MultiPolygon GeometryCollection h = absurd (true≢false (sym h))
-one_kind GeometryCollection Point h = absurd (true≢false (sym h))
-one_kind GeometryCollection LineString h = absurd (true≢false (sym h))
-one_kind GeometryCollection Polygon h = absurd (true≢false (sym h))
-one_kind GeometryCollection MultiPoint h = absurd (true≢false (sym h))
-one_kind GeometryCollection MultiLineString h = absurd (true≢false (sym h))
-one_kind GeometryCollection MultiPolygon h = absurd (true≢false (sym h))
-one_kind GeometryCollection GeometryCollection h = refl
-
 kind_from : (k m : Kind) (w : List ℕ) → word_of m ≡ word_of k ++ w → k ≡ m
-kind_from k m w e = one_kind k m (ap (begins_with (word_of k)) e ∙ begins_append (word_of k) w)
+kind_from k m w e = same_Some k m (sym (kind_of_word k w) ∙ (ap kind_by (sym e) ∙ (ap kind_by (sym (append-nil (word_of m))) ∙ kind_of_word m [])))
 
 kind_capitals : (k : Kind) → capitals (word_of k) ≡ word_of k
 kind_capitals Point = refl

@@ -16,7 +16,7 @@ use Rattle.at_wkt.specs.declared.answers.LineFault.TheVariants.{Found, Memory as
 use Rattle.at_wkt.specs.Answers.{SpellsLine}
 use Rattle.at_wkt.specs.declared.halts.Halt.{Halt}
 use Rattle.at_wkt.specs.declared.halts.Halt.TheVariants.{At, Memory}
-use Rattle.at_wkt.specs.declared.rules.Rules.{Rules}
+use Rattle.at_wkt.specs.declared.sources.Rules.{Rules}
 use Rattle.at_wkt.specs.declared.numbers.Coordinate.{Coordinate}
 use Rattle.at_wkt.specs.declared.positions.DelimiterRead.{DelimiterRead}
 use Rattle.at_wkt.specs.declared.positions.PositionRead.{PositionRead}
@@ -211,9 +211,9 @@ pub record HeadStands (w : List ℕ) (i : ℕ) (head : Head) : Type 0 where
   pub letter_at : ℕ
   pub blanks : SkipsBlanks w word_end letter_at
   pub letter_end : ℕ
-  pub letter : LetterStands w letter_at letter_end head.dimension
+  pub letter : LetterStands w letter_at letter_end head.behind.dimension
   pub letter_within : letter_end ≤ length w
-  pub further : SkipsBlanks w letter_end head.end
+  pub further : SkipsBlanks w letter_end head.behind.at
 
 -- so many letters of a word stand from a place on, in either case, and no more
 pub record Matches (w : List ℕ) (i : ℕ) (word : List ℕ) (count : ℕ) : Type 0 where
@@ -255,14 +255,14 @@ pub record IsCoordinate (digits : ℕ) (how : Coords) (n : Numeral) (offset : �
 -- a position stands, with its delimiter
 pub record PositionStands (rules : Rules) (w : List ℕ) (i : ℕ) (c : Dimension) (read : PositionRead) : Type 0 where
   pub position : Position
-  pub spelt : Spelt (Item SpellsPosition) rules.base w i c read.end read.dimension (position, read.is_last)
+  pub spelt : Spelt (Item SpellsPosition) rules.base w i c read.behind.at read.behind.dimension (position, read.is_last)
   pub pos : read.pos ≡ pos_of rules.digits rules.how position
   pub fault : read.fault ≡ first_of (position_faults rules.digits rules.how position)
-  pub longer : i < read.end
+  pub longer : i < read.behind.at
 
 -- a position without a fault stands, with its delimiter
 abbrev pub IsPassed : Rules → List ℕ → ℕ → Dimension → NumbersRead → Type 0
-IsPassed rules w i c passed = (read : PositionRead) × PositionStands rules w i c read × (read.fault ≡ None) × (passed ≡ record { is_last = read.is_last; end = read.end; dimension = read.dimension })
+IsPassed rules w i c passed = (read : PositionRead) × PositionStands rules w i c read × (read.fault ≡ None) × (passed ≡ record { is_last = read.is_last; behind = read.behind })
 
 -- what is wrong with a line or a ring as a whole
 abbrev pub fault_of_path : Role → ℕ → Bool → ℕ → Option Fault
@@ -277,11 +277,11 @@ faults_of_path digits how Ring ps = faults_of_ring digits how ps
 -- positions stand up to the closing bracket
 pub record PositionsStand (rules : Rules) (w : List ℕ) (i : ℕ) (c : Dimension) (list : List Pos) (read : ListRead) : Type 0 where
   pub positions : List Position
-  pub spelt : Spelt (Items SpellsPosition) rules.base w i c read.end read.dimension positions
+  pub spelt : Spelt (Items SpellsPosition) rules.base w i c read.behind.at read.behind.dimension positions
   pub list_is : list ≡ map (pos_of rules.digits rules.how) positions
   pub fault : read.fault ≡ first_of (items_faults rules.digits rules.how positions)
   pub closes : read.closes ≡ is_closed rules.digits rules.how positions
-  pub few : i + length positions ≤ read.end
+  pub few : i + length positions ≤ read.behind.at
 
 -- two positions are the same, or one of them has a fault
 abbrev pub ends_same : PositionRead → PositionRead → Bool
@@ -290,38 +290,38 @@ ends_same first last = not (is_none first.fault && is_none last.fault) || (int_e
 -- the last of so many positions stands, which closes with the first or not
 abbrev pub IsEndedList : Rules → List ℕ → ℕ → Dimension → PositionRead → ℕ → ListPassed → Type 0
 IsEndedList rules w i c first count passed = (last : PositionRead) × PositionStands rules w i c last × (last.fault ≡ None) × (last.is_last ≡ true)
-    × (passed ≡ record { count = count; closes = ends_same first last; end = last.end; dimension = last.dimension })
+    × (passed ≡ record { count = count; closes = ends_same first last; behind = last.behind })
 
 -- so many positions without a fault stand up to the closing bracket
 abbrev pub IsPassedList : Rules → List ℕ → ℕ → Dimension → ListPassed → Type 0
 IsPassedList rules w i c passed = (list : List Pos) × (length list ≡ passed.count)
-    × PositionsStand rules w i c list (record { fault = None; closes = passed.closes; end = passed.end; dimension = passed.dimension })
+    × PositionsStand rules w i c list (record { fault = None; closes = passed.closes; behind = passed.behind })
 
 -- so many positions without a fault stand up to the closing bracket, whether they close or not
 abbrev pub IsPassedRow : Rules → List ℕ → ℕ → Dimension → RowPassed → Type 0
-IsPassedRow rules w i c row = (closes : Bool) × IsPassedList rules w i c (record { count = row.count; closes = closes; end = row.last.end; dimension = row.last.dimension })
+IsPassedRow rules w i c row = (closes : Bool) × IsPassedList rules w i c (record { count = row.count; closes = closes; behind = row.last.behind })
 
 -- a line or a ring stands
 pub record PathStands (rules : Rules) (w : List ℕ) (i : ℕ) (c : Dimension) (role : Role) (read : PathRead) : Type 0 where
   pub positions : Positions
-  pub spelt : Spelt SpellsRing rules.base w i c read.end read.dimension positions
+  pub spelt : Spelt SpellsRing rules.base w i c read.behind.at read.behind.dimension positions
   pub path : read.path.items ≡ path_of rules.digits rules.how positions
   pub fault : read.fault ≡ first_of (faults_of_path rules.digits rules.how role positions)
 
 -- a part stands, of these faults, and what it adds was added
 pub record PartStands {X : Type 0} (P : ℕ → X → ℕ → List ℕ → Type 0) (faults : X → List Fault) (IsAdded : X → Type 0) (base : ℕ) (w : List ℕ) (i : ℕ) (c : Dimension) (read : Read) : Type 0 where
   pub value : X
-  pub spelt : Spelt P base w i c read.end read.dimension value
+  pub spelt : Spelt P base w i c read.behind.at read.behind.dimension value
   pub fault : read.fault ≡ first_of (faults value)
   pub added : IsAdded value
 
 -- an item stands with its delimiter
 pub record ItemStands {X : Type 0} (P : ℕ → X → ℕ → List ℕ → Type 0) (faults : X → List Fault) (IsAdded : X → Type 0) (base : ℕ) (w : List ℕ) (i : ℕ) (c : Dimension) (read : ItemRead) : Type 0 where
   pub value : X
-  pub spelt : Spelt (Item P) base w i c read.end read.dimension (value, read.is_last)
+  pub spelt : Spelt (Item P) base w i c read.behind.at read.behind.dimension (value, read.is_last)
   pub fault : read.fault ≡ first_of (faults value)
   pub added : IsAdded value
-  pub longer : i < read.end
+  pub longer : i < read.behind.at
 
 -- the same without a fault; what it adds isn't kept
 abbrev pub IsPassedPart : {X : Type 0} → (ℕ → X → ℕ → List ℕ → Type 0) → (X → List Fault) → ℕ → List ℕ → ℕ → Dimension → Read → Type 0
@@ -361,23 +361,23 @@ Grows added old new x = new ≡ old ++ added x
 pub record PositionsSoFar (rules : Rules) (w : List ℕ) (i : ℕ) (c : Dimension) (first last : PositionRead) (path : List Pos) (fault : Option Fault) : Type 0 where
   pub head : Position
   pub rest : List Position
-  pub reads : ItemsRead SpellsPosition rules.base w i c last.end last.dimension last.is_last (head ∷ rest)
-  pub some : HasCount last.dimension
-  pub within : last.end ≤ length w
+  pub reads : ItemsRead SpellsPosition rules.base w i c last.behind.at last.behind.dimension last.is_last (head ∷ rest)
+  pub some : HasCount last.behind.dimension
+  pub within : last.behind.at ≤ length w
   pub path_is : path ≡ map (pos_of rules.digits rules.how) (head ∷ rest)
   pub fault_is : fault ≡ first_of (items_faults rules.digits rules.how (head ∷ rest))
   pub first_pos : first.pos ≡ pos_of rules.digits rules.how head
   pub first_faulty : first.fault ≡ first_of (position_faults rules.digits rules.how head)
   pub last_pos : last.pos ≡ pos_of rules.digits rules.how (last_of head rest)
   pub last_faulty : last.fault ≡ first_of (position_faults rules.digits rules.how (last_of head rest))
-  pub few : i + length (head ∷ rest) ≤ last.end
+  pub few : i + length (head ∷ rest) ≤ last.behind.at
 
 -- the items read from a place on, with their faults, and what they added to a list
 pub record ItemsSoFar {X Y : Type 0} (P : ℕ → X → ℕ → List ℕ → Type 0) (faults : X → List Fault) (added : X → List Y) (old new : List Y) (base : ℕ) (w : List ℕ) (i : ℕ) (c : Dimension) (last : ItemRead) : Type 0 where
   pub values : List X
-  pub reads : ItemsRead P base w i c last.end last.dimension last.is_last values
-  pub some : HasCount last.dimension
-  pub within : last.end ≤ length w
+  pub reads : ItemsRead P base w i c last.behind.at last.behind.dimension last.is_last values
+  pub some : HasCount last.behind.dimension
+  pub within : last.behind.at ≤ length w
   pub fault : last.fault ≡ first_of (flat_map faults values)
   pub grown : Grows (flat_map added) old new values
 
@@ -458,7 +458,7 @@ module _ (digits : ℕ) (how : Coords) where
   -- a body stands, and was added
   pub record BodyStands (base : ℕ) (w : List ℕ) (head : Head) (old new : Gathered) (read : Read) : Type 0 where
     pub geometry : Geometry
-    pub spelt : Spelt (Body head.kind) base w head.end head.dimension read.end read.dimension geometry
+    pub spelt : Spelt (Body head.kind) base w head.behind.at head.behind.dimension read.behind.at read.behind.dimension geometry
     pub points : new.points.items ≡ old.points.items ++ (shape_of digits how geometry).points
     pub lines : new.lines.items ≡ old.lines.items ++ (shape_of digits how geometry).lines
     pub polygons : new.polygons.items ≡ old.polygons.items ++ (shape_of digits how geometry).polygons
@@ -467,7 +467,7 @@ module _ (digits : ℕ) (how : Coords) where
 
   -- a body without a fault stands
   abbrev pub IsPassedBody : ℕ → List ℕ → Head → Read → Type 0
-  IsPassedBody base w head read = (read.fault ≡ None) × ((g : Geometry) × Spelt (Body head.kind) base w head.end head.dimension read.end read.dimension g × (read.fault ≡ first_of (faults_of digits how g)))
+  IsPassedBody base w head read = (read.fault ≡ None) × ((g : Geometry) × Spelt (Body head.kind) base w head.behind.at head.behind.dimension read.behind.at read.behind.dimension g × (read.fault ≡ first_of (faults_of digits how g)))
 
   -- what reading one step gave
   pub record StepStands (P : ℕ → Meaning → ℕ → List ℕ → Type 0) (base : ℕ) (w : List ℕ) (i : ℕ) (old new : Gathered) (progress : Progress) : Type 0 where
@@ -489,7 +489,7 @@ IsPassedGeometry rules w i end = (m : Meaning) × (first_of m.faults ≡ None) �
 
 -- whether the head is that of a collection, and its bracket opens behind it
 abbrev pub opens_at : List ℕ → Head → Bool
-opens_at w head = elim head.kind [ GeometryCollection ↦ next w head.end == 0x28 | _ ↦ false ]
+opens_at w head = elim head.kind [ GeometryCollection ↦ next w head.behind.at == 0x28 | _ ↦ false ]
 
 -- the refusal of a text where reading it stopped
 abbrev pub refusal : ℕ → List ℕ → Halt → LineFault

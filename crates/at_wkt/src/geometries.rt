@@ -12,9 +12,9 @@ use crate::parts::{
     Read, read_line_string, read_line_strings, read_nothing, read_point, read_points, read_polygon,
     read_polygons,
 };
-use crate::paths::add_fault;
+use crate::paths::{Maker, add_fault};
 use crate::positions::read_delimiter;
-use crate::rules::Rules;
+use crate::sources::Source;
 use at_geom::{Path, Polygon, Pos};
 use at_text::Fault;
 use std::alloc::Global;
@@ -26,12 +26,11 @@ pub struct Gathered {
     pub lines: Vec<Path>,
     pub polygons: Vec<Polygon>,
     pub fault: Option<Fault>,
-    /// How many positions the line or ring has that was read last: the next one is expected to have as many.
-    pub expected: usize,
+    pub maker: Maker,
 }
 
-/// Forgets what was gathered, and keeps its room.
-pub fn clear(gathered: &mut Gathered)
+/// Forgets what was gathered, and keeps its room. More of it is taken from the allocator.
+pub fn clear(gathered: &mut Gathered, alloc: Global)
     ensures points { gathered.new.points.items ≡ [] }
     ensures lines { gathered.new.lines.items ≡ [] }
     ensures polygons { gathered.new.polygons.items ≡ [] }
@@ -41,6 +40,7 @@ pub fn clear(gathered: &mut Gathered)
     gathered.lines.clear();
     gathered.polygons.clear();
     gathered.fault = None;
+    gathered.maker.alloc = alloc;
 }
 
 /// How far reading has come: the place, how many collections are open there, and whether the outermost geometry
@@ -53,66 +53,37 @@ pub struct Progress {
 }
 
 /// Reads what stands behind the head of a geometry that is no collection with members.
-fn read_body(
-    gathered: &mut Gathered,
-    alloc: Global,
-    text: &[u8],
-    head: Head,
-    rules: Rules,
-) -> Result<Read, Halt>
-    requires inside { head.end ≤ length text.now }
-    requires short { rules.base + length text.now ≤ 2 ^ 28 }
-    requires count { HasCount head.dimension }
-    requires simple { opens_at text.now head ≡ false }
-    ensures { MatchResult result (BodyStands rules.digits rules.how rules.base text.now head gathered.old gathered.new)
-        (λ halt. IfStopped halt (Stuck (Body head.kind) rules.base text.now head.end head.dimension)) }
+fn read_body(gathered: &mut Gathered, source: &Source, head: Head) -> Result<Read, Halt>
+    requires inside { head.behind.at ≤ length source.now.text.now }
+    requires count { HasCount head.behind.dimension }
+    requires simple { opens_at source.now.text.now head ≡ false }
+    ensures { MatchResult result (BodyStands source.now.rules.digits source.now.rules.how source.now.rules.base source.now.text.now head gathered.old gathered.new)
+        (λ halt. IfStopped halt (Stuck (Body head.kind) source.now.rules.base source.now.text.now head.behind.at head.behind.dimension)) }
 {
+    let from = head.behind;
     match head.kind {
-        Kind::Point => read_point(&mut gathered.points, text, head.end, head.dimension, rules),
+        Kind::Point => read_point(&mut gathered.points, source, from),
         Kind::LineString => read_line_string(
             &mut gathered.lines,
-            alloc,
-            &mut gathered.expected,
-            text,
-            head.end,
-            head.dimension,
-            rules,
+            &mut gathered.maker,
+            source,
+            from,
         ),
-        Kind::Polygon => read_polygon(
-            &mut gathered.polygons,
-            alloc,
-            &mut gathered.expected,
-            text,
-            head.end,
-            head.dimension,
-            rules,
-        ),
-        Kind::MultiPoint => read_points(
-            &mut gathered.points,
-            text,
-            head.end,
-            head.dimension,
-            rules,
-        ),
+        Kind::Polygon => read_polygon(&mut gathered.polygons, &mut gathered.maker, source, from),
+        Kind::MultiPoint => read_points(&mut gathered.points, source, from),
         Kind::MultiLineString => read_line_strings(
             &mut gathered.lines,
-            alloc,
-            &mut gathered.expected,
-            text,
-            head.end,
-            head.dimension,
-            rules,
+            &mut gathered.maker,
+            source,
+            from,
         ),
         Kind::MultiPolygon => read_polygons(
             &mut gathered.polygons,
-            alloc,
-            &mut gathered.expected,
-            text,
-            head.end,
-            head.dimension,
-            rules,
+            &mut gathered.maker,
+            source,
+            from,
         ),
-        Kind::GeometryCollection => read_nothing(text, head.end, head.dimension),
+        Kind::GeometryCollection => read_nothing(source.text, from),
     }
 }
 
@@ -150,24 +121,21 @@ fn read_closings(text: &[u8], from: usize, opened: usize) -> Result<Progress, Ha
 /// Reads a geometry without members behind its head, and what stands behind it.
 fn read_simple(
     gathered: &mut Gathered,
-    alloc: Global,
-    text: &[u8],
+    source: &Source,
     from: Progress,
     head: Head,
-    rules: Rules,
 ) -> Result<Progress, Halt>
-    requires stands { HeadStands text.now from.at head }
-    requires short { rules.base + length text.now ≤ 2 ^ 28 }
-    requires count { HasCount head.dimension }
-    requires simple { opens_at text.now head ≡ false }
+    requires stands { HeadStands source.now.text.now from.at head }
+    requires count { HasCount head.behind.dimension }
+    requires simple { opens_at source.now.text.now head ≡ false }
     requires deep { from.depth ≤ from.at }
-    ensures { MatchResult result (StepStands rules.digits rules.how (λ d. Expected rules.digits rules.how from.depth)
-        rules.base text.now from.at gathered.old gathered.new)
-        (λ halt. IfStopped halt (Stuck (λ d. Expected rules.digits rules.how from.depth) rules.base text.now from.at Open)) }
+    ensures { MatchResult result (StepStands source.now.rules.digits source.now.rules.how (λ d. Expected source.now.rules.digits source.now.rules.how from.depth)
+        source.now.rules.base source.now.text.now from.at gathered.old gathered.new)
+        (λ halt. IfStopped halt (Stuck (λ d. Expected source.now.rules.digits source.now.rules.how from.depth) source.now.rules.base source.now.text.now from.at Open)) }
 {
-    let read = read_body(gathered, alloc, text, head, rules)?;
+    let read = read_body(gathered, source, head)?;
     gathered.fault = add_fault(gathered.fault, read.fault);
-    read_closings(text, read.end, from.depth)
+    read_closings(source.text, read.behind.at, from.depth)
 }
 
 /// Whether a head is that of a collection, and its bracket opens behind it.
@@ -175,51 +143,37 @@ fn opens_collection(text: &[u8], head: Head) -> bool
     ensures { result ≡ opens_at text.now head }
 {
     match head.kind {
-        Kind::GeometryCollection => stands(text, head.end, b'('),
+        Kind::GeometryCollection => stands(text, head.behind.at, b'('),
         _ => false,
     }
 }
 
 /// Reads the head of a geometry, and with it either the bracket that opens a collection or the whole geometry.
-fn read_next(
-    gathered: &mut Gathered,
-    alloc: Global,
-    text: &[u8],
-    from: Progress,
-    rules: Rules,
-) -> Result<Progress, Halt>
-    requires inside { from.at ≤ length text.now }
-    requires short { rules.base + length text.now ≤ 2 ^ 28 }
+fn read_next(gathered: &mut Gathered, source: &Source, from: Progress) -> Result<Progress, Halt>
+    requires inside { from.at ≤ length source.now.text.now }
     requires deep { from.depth ≤ from.at }
-    ensures { MatchResult result (StepStands rules.digits rules.how (λ d. Expected rules.digits rules.how from.depth)
-        rules.base text.now from.at gathered.old gathered.new)
-        (λ halt. IfStopped halt (Stuck (λ d. Expected rules.digits rules.how from.depth) rules.base text.now from.at Open)) }
+    ensures { MatchResult result (StepStands source.now.rules.digits source.now.rules.how (λ d. Expected source.now.rules.digits source.now.rules.how from.depth)
+        source.now.rules.base source.now.text.now from.at gathered.old gathered.new)
+        (λ halt. IfStopped halt (Stuck (λ d. Expected source.now.rules.digits source.now.rules.how from.depth) source.now.rules.base source.now.text.now from.at Open)) }
 {
-    let head = read_head(text, from.at)?;
-    if opens_collection(text, head) {
-        let next = skip_blanks(text, head.end + 1);
+    let head = read_head(source.text, from.at)?;
+    if opens_collection(source.text, head) {
+        let next = skip_blanks(source.text, head.behind.at + 1);
         Ok(Progress {
             at: next,
             depth: from.depth + 1,
             is_over: false,
         })
     } else {
-        read_simple(gathered, alloc, text, from, head, rules)
+        read_simple(gathered, source, from, head)
     }
 }
 
 /// Reads the geometry that begins at a place of the text, and tells the place behind it.
-pub fn read_whole(
-    gathered: &mut Gathered,
-    alloc: Global,
-    text: &[u8],
-    at: usize,
-    rules: Rules,
-) -> Result<usize, Halt>
-    requires inside { at ≤ length text.now }
-    requires short { rules.base + length text.now ≤ 2 ^ 28 }
-    ensures { MatchResult result (WholeStands rules.digits rules.how rules.base text.now at gathered.old gathered.new)
-        (λ halt. IfStopped halt (Stuck (λ d. Expected rules.digits rules.how zero) rules.base text.now at Open)) }
+pub fn read_whole(gathered: &mut Gathered, source: &Source, at: usize) -> Result<usize, Halt>
+    requires inside { at ≤ length source.now.text.now }
+    ensures { MatchResult result (WholeStands source.now.rules.digits source.now.rules.how source.now.rules.base source.now.text.now at gathered.old gathered.new)
+        (λ halt. IfStopped halt (Stuck (λ d. Expected source.now.rules.digits source.now.rules.how zero) source.now.rules.base source.now.text.now at Open)) }
 {
     let mut progress = Progress {
         at,
@@ -227,7 +181,7 @@ pub fn read_whole(
         is_over: false,
     };
     'geometries: while !progress.is_over {
-        progress = read_next(gathered, alloc, text, progress, rules)?;
+        progress = read_next(gathered, source, progress)?;
     }
     Ok(progress.at)
 }

@@ -6,6 +6,7 @@ ghost use Rattle.at_wkt.specs.Reading.{word_of, WordStands, KindBreaks, LetterSt
 use crate::bytes::{letter_stands, skip_blanks};
 use crate::dimension::Dimension;
 use crate::halts::Halt;
+use crate::sources::Place;
 use crate::words::matching;
 
 /// The kinds of geometry (OGC 06-103r4 section 7.2.2).
@@ -85,48 +86,40 @@ fn read_kind(text: &[u8], at: usize) -> Result<KindRead, Halt>
     Err(Halt::At(at + longest))
 }
 
-/// How many numbers the letters Z and M, or none of them, give to positions, and the place behind them.
-#[derive(Clone, Copy)]
-pub struct LetterRead {
-    pub dimension: Dimension,
-    pub end: usize,
-}
-
-/// Reads Z, M, ZM or nothing.
-fn read_letter(text: &[u8], at: usize) -> LetterRead
+/// Reads Z, M, ZM or nothing, and tells how many numbers that gives to positions.
+fn read_letter(text: &[u8], at: usize) -> Place
     requires { at ≤ length text.now }
-    ensures stands { LetterStands text.now at result.end result.dimension }
-    ensures within { result.end ≤ length text.now }
+    ensures stands { LetterStands text.now at result.at result.dimension }
+    ensures within { result.at ≤ length text.now }
 {
     if letter_stands(text, at, b'M') {
-        LetterRead {
+        Place {
+            at: at + 1,
             dimension: Dimension::Fixed(3),
-            end: at + 1,
         }
     } else if !letter_stands(text, at, b'Z') {
-        LetterRead {
+        Place {
+            at: at,
             dimension: Dimension::Open,
-            end: at,
         }
     } else if letter_stands(text, at + 1, b'M') {
-        LetterRead {
+        Place {
+            at: at + 2,
             dimension: Dimension::Fixed(4),
-            end: at + 2,
         }
     } else {
-        LetterRead {
+        Place {
+            at: at + 1,
             dimension: Dimension::Fixed(3),
-            end: at + 1,
         }
     }
 }
 
-/// What stands before a geometry's positions: its kind, how many numbers its positions have, and the place behind.
+/// What stands before a geometry's positions: its kind, and the place behind.
 #[derive(Clone, Copy)]
 pub struct Head {
     pub kind: Kind,
-    pub dimension: Dimension,
-    pub end: usize,
+    pub behind: Place,
 }
 
 /// Reads the word of a kind, its letter, and the blanks behind them.
@@ -138,7 +131,9 @@ pub fn read_head(text: &[u8], at: usize) -> Result<Head, Halt>
     let letter = read_letter(text, skip_blanks(text, word.end));
     Ok(Head {
         kind: word.kind,
-        dimension: letter.dimension,
-        end: skip_blanks(text, letter.end),
+        behind: Place {
+            at: skip_blanks(text, letter.at),
+            dimension: letter.dimension,
+        },
     })
 }

@@ -19,7 +19,8 @@ mod paths;
 mod positions;
 mod reading;
 mod rooms;
-mod rules;
+mod sites;
+mod sources;
 mod words;
 
 // the lines of a file

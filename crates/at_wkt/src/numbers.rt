@@ -8,7 +8,7 @@ ghost use Rattle.at_wkt.specs.Positions.{fault_of as the_fault, value_in, faults
 ghost use Rattle.at_wkt.specs.Reading.{NumberStands, NumberSkips, NumberBreaks, IsCoordinate, IfStopped};
 
 use crate::halts::Halt;
-use crate::rules::Rules;
+use crate::sources::Source;
 use at_fixed::{FixedFault, Notation, leading_number, plain_len, plain_number, wkt_number};
 use at_text::{Fault, FaultKind};
 
@@ -59,13 +59,13 @@ fn coordinate_of(number: Result<i64, FixedFault>, at: u32, end: usize) -> Coordi
 
 /// Reads a number whose value is used, where one stands that is written plainly and has a value.
 #[inline(always)]
-pub fn read_plain_number(text: &[u8], at: usize, rules: Rules) -> Option<Coordinate>
-    requires inside { at ≤ length text.now }
-    requires short { rules.base + length text.now ≤ 2 ^ 28 }
-    ensures { IfSome result (λ read. (read.fault ≡ None) × ((n : Numeral) × NumberStands text.now at read.end n
-        × IsCoordinate rules.digits rules.how n (rules.base + at) read)) }
+pub fn read_plain_number(source: &Source, at: usize) -> Option<Coordinate>
+    requires inside { at ≤ length source.now.text.now }
+    ensures { IfSome result (λ read. (read.fault ≡ None) × ((n : Numeral) × NumberStands source.now.text.now at read.end n
+        × IsCoordinate source.now.rules.digits source.now.rules.how n (source.now.rules.base + at) read)) }
 {
-    let number = plain_number(&text[at..], Notation::Wkt, rules.digits, rules.how)?;
+    let rules = source.rules;
+    let number = plain_number(&source.text[at..], Notation::Wkt, rules.digits, rules.how)?;
     Some(Coordinate {
         value: number.value,
         fault: None,
@@ -75,55 +75,53 @@ pub fn read_plain_number(text: &[u8], at: usize, rules: Rules) -> Option<Coordin
 
 /// Passes over a number whose value is used, where one stands that is written plainly and has a value, by reading it.
 #[inline(never)]
-fn pass_read_number(text: &[u8], at: usize, rules: Rules) -> Option<usize>
-    requires inside { at ≤ length text.now }
-    requires short { rules.base + length text.now ≤ 2 ^ 28 }
-    ensures { IfSome result (λ end. (read : CoordinateRead) × (read.fault ≡ None) × ((n : Numeral) × NumberStands text.now at end n
-        × IsCoordinate rules.digits rules.how n (rules.base + at) read)) }
+fn pass_read_number(source: &Source, at: usize) -> Option<usize>
+    requires inside { at ≤ length source.now.text.now }
+    ensures { IfSome result (λ end. (read : CoordinateRead) × (read.fault ≡ None) × ((n : Numeral) × NumberStands source.now.text.now at end n
+        × IsCoordinate source.now.rules.digits source.now.rules.how n (source.now.rules.base + at) read)) }
 {
-    let read = read_plain_number(text, at, rules)?;
+    let read = read_plain_number(source, at)?;
     Some(read.end)
 }
 
 /// Passes over a number whose value is used, where one stands that is written plainly and has a value; mostly without
 /// computing it.
 #[inline(always)]
-pub fn pass_plain_number(text: &[u8], at: usize, rules: Rules) -> Option<usize>
-    requires inside { at ≤ length text.now }
-    requires short { rules.base + length text.now ≤ 2 ^ 28 }
-    ensures { IfSome result (λ end. (read : CoordinateRead) × (read.fault ≡ None) × ((n : Numeral) × NumberStands text.now at end n
-        × IsCoordinate rules.digits rules.how n (rules.base + at) read)) }
+pub fn pass_plain_number(source: &Source, at: usize) -> Option<usize>
+    requires inside { at ≤ length source.now.text.now }
+    ensures { IfSome result (λ end. (read : CoordinateRead) × (read.fault ≡ None) × ((n : Numeral) × NumberStands source.now.text.now at end n
+        × IsCoordinate source.now.rules.digits source.now.rules.how n (source.now.rules.base + at) read)) }
 {
-    match plain_len(&text[at..], Notation::Wkt, rules.digits, rules.how) {
+    let rules = source.rules;
+    match plain_len(&source.text[at..], Notation::Wkt, rules.digits, rules.how) {
         Some(len) => Some(at + len as usize),
-        None => pass_read_number(text, at, rules),
+        None => pass_read_number(source, at),
     }
 }
 
 /// Reads a number whose value is used.
 #[inline(never)]
-pub fn read_number(text: &[u8], at: usize, rules: Rules) -> Result<Coordinate, Halt>
-    requires inside { at ≤ length text.now }
-    requires short { rules.base + length text.now ≤ 2 ^ 28 }
-    ensures { MatchResult result (λ read. (n : Numeral) × NumberStands text.now at read.end n
-        × IsCoordinate rules.digits rules.how n (rules.base + at) read)
-        (λ halt. IfStopped halt (NumberBreaks text.now at)) }
+pub fn read_number(source: &Source, at: usize) -> Result<Coordinate, Halt>
+    requires inside { at ≤ length source.now.text.now }
+    ensures { MatchResult result (λ read. (n : Numeral) × NumberStands source.now.text.now at read.end n
+        × IsCoordinate source.now.rules.digits source.now.rules.how n (source.now.rules.base + at) read)
+        (λ halt. IfStopped halt (NumberBreaks source.now.text.now at)) }
 {
-    let number = leading_number(&text[at..], Notation::Wkt, rules.digits, rules.how);
+    let rules = source.rules;
+    let number = leading_number(&source.text[at..], Notation::Wkt, rules.digits, rules.how);
     let end = at + number.len as usize;
     match number.value {
         None => Err(Halt::At(end)),
-        Some(value) => Ok(coordinate_of(value, rules.base + at as u32, end)),
+        Some(value) => Ok(coordinate_of(value, source.rules.base + at as u32, end)),
     }
 }
 
 /// The place behind a number whose value isn't used.
-pub fn skip_number(text: &[u8], at: usize) -> Result<usize, Halt>
-    requires inside { at ≤ length text.now }
-    requires short { length text.now ≤ 2 ^ 28 }
-    ensures { MatchResult result (NumberSkips text.now at) (λ halt. IfStopped halt (NumberBreaks text.now at)) }
+pub fn skip_number(source: &Source, at: usize) -> Result<usize, Halt>
+    requires inside { at ≤ length source.now.text.now }
+    ensures { MatchResult result (NumberSkips source.now.text.now at) (λ halt. IfStopped halt (NumberBreaks source.now.text.now at)) }
 {
-    let taken = wkt_number(&text[at..]);
+    let taken = wkt_number(&source.text[at..]);
     let end = at + taken.len as usize;
     if taken.whole {
         Ok(end)

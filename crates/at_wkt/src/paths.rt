@@ -6,10 +6,10 @@ ghost use Rattle.at_text.specs.Faults.{first_fault as the_first};
 ghost use Rattle.at_wkt.specs.Geometry.{SpellsPosition, SpellsRing};
 ghost use Rattle.at_wkt.specs.Reading.{next, Stuck, HasCount, Item, Items, PositionStands, PositionsStand, PathStands, fault_of_path, IfStopped};
 
-use crate::dimension::Dimension;
 use crate::halts::Halt;
 use crate::positions::{PositionRead, read_position};
-use crate::rules::Rules;
+use crate::sites::{FIRST, FURTHER};
+use crate::sources::{Place, Source};
 use at_geom::{Pos, line_fault, ring_fault};
 use at_text::{Fault, first_fault};
 use std::alloc::Global;
@@ -23,14 +23,12 @@ pub enum Role {
     Ring,
 }
 
-/// How a list of positions was read: its first fault, whether it closes, the place behind it, and how many numbers positions
-/// have.
+/// How a list of positions was read: its first fault, whether it closes, and the place behind it.
 #[derive(Clone, Copy)]
 pub struct ListRead {
     pub fault: Option<Fault>,
     pub closes: bool,
-    pub end: usize,
-    pub dimension: Dimension,
+    pub behind: Place,
 }
 
 /// A line or a ring that was read.
@@ -38,8 +36,15 @@ pub struct ListRead {
 pub struct PathRead {
     pub path: Vec<Pos>,
     pub fault: Option<Fault>,
-    pub end: usize,
-    pub dimension: Dimension,
+    pub behind: Place,
+}
+
+/// What paths are made with: where their room is taken, and how many positions the one before had. The next one is
+/// expected to have as many.
+#[derive(Drop)]
+pub struct Maker {
+    pub alloc: Global,
+    pub expected: usize,
 }
 
 /// Whether two positions are the same, or one of them has a fault, so that this isn't tested.
@@ -64,34 +69,26 @@ pub fn add_fault(before: Option<Fault>, fault: Option<Fault>) -> Option<Fault>
 }
 
 /// Reads positions up to the closing bracket into a path that has none.
-fn read_positions(
-    path: &mut Vec<Pos>,
-    text: &[u8],
-    at: usize,
-    dimension: Dimension,
-    rules: Rules,
-) -> Result<ListRead, Halt>
+fn read_positions(path: &mut Vec<Pos>, source: &Source, from: Place) -> Result<ListRead, Halt>
     requires none { path.old.items ≡ [] }
-    requires inside { at ≤ length text.now }
-    requires short { rules.base + length text.now ≤ 2 ^ 28 }
-    requires count { HasCount dimension }
-    ensures { MatchResult result (PositionsStand rules text.now at dimension path.new.items)
-        (λ halt. IfStopped halt (Stuck (Items SpellsPosition) rules.base text.now at dimension)) }
+    requires inside { from.at ≤ length source.now.text.now }
+    requires count { HasCount from.dimension }
+    ensures { MatchResult result (PositionsStand source.now.rules source.now.text.now from.at from.dimension path.new.items)
+        (λ halt. IfStopped halt (Stuck (Items SpellsPosition) source.now.rules.base source.now.text.now from.at from.dimension)) }
 {
-    let first = read_position::<0>(text, at, dimension, rules)?;
+    let first = read_position::<FIRST>(source, from)?;
     path.push(first.pos)?;
     let mut last = first;
     let mut fault = first.fault;
     'positions: while !last.is_last {
-        last = read_position::<1>(text, last.end, last.dimension, rules)?;
+        last = read_position::<FURTHER>(source, last.behind)?;
         path.push(last.pos)?;
         fault = add_fault(fault, last.fault);
     }
     Ok(ListRead {
         fault,
         closes: closes_with(first, last),
-        end: last.end,
-        dimension: last.dimension,
+        behind: last.behind,
     })
 }
 
@@ -106,33 +103,35 @@ pub fn path_fault(role: Role, count: u32, closes: bool, at: u32) -> Option<Fault
 }
 
 /// Reads a line or a ring from its opening bracket, which stands at the place, to its closing one. It first takes room for as
-/// many positions as are expected, which are those that the path before had.
+/// many positions as are expected.
 pub fn read_path(
-    alloc: Global,
-    expected: &mut usize,
-    text: &[u8],
-    at: usize,
-    dimension: Dimension,
-    rules: Rules,
+    maker: &mut Maker,
+    source: &Source,
+    from: Place,
     role: Role,
 ) -> Result<PathRead, Halt>
-    requires inside { at < length text.now }
-    requires opener { next text.now at ≡ 0x28 }
-    requires short { rules.base + length text.now ≤ 2 ^ 28 }
-    requires count { HasCount dimension }
-    ensures { MatchResult result (PathStands rules text.now at dimension role)
-        (λ halt. IfStopped halt (Stuck SpellsRing rules.base text.now at dimension)) }
+    requires inside { from.at < length source.now.text.now }
+    requires opener { next source.now.text.now from.at ≡ 0x28 }
+    requires count { HasCount from.dimension }
+    ensures { MatchResult result (PathStands source.now.rules source.now.text.now from.at from.dimension role)
+        (λ halt. IfStopped halt (Stuck SpellsRing source.now.rules.base source.now.text.now from.at from.dimension)) }
 {
-    let mut path = Vec::with_capacity(alloc, *expected)?;
-    let read = read_positions(&mut path, text, at + 1, dimension, rules)?;
+    let mut path = Vec::with_capacity(maker.alloc, maker.expected)?;
+    let read = read_positions(
+        &mut path,
+        source,
+        Place {
+            at: from.at + 1,
+            ..from
+        },
+    )?;
     let positions = path.as_slice();
     let count = positions.len() as u32;
-    *expected = positions.len();
-    let own = path_fault(role, count, read.closes, rules.base + at as u32);
+    maker.expected = positions.len();
+    let own = path_fault(role, count, read.closes, source.rules.base + from.at as u32);
     Ok(PathRead {
         path,
         fault: first_fault(own, read.fault),
-        end: read.end,
-        dimension: read.dimension,
+        behind: read.behind,
     })
 }

@@ -9,7 +9,7 @@ use crate::bytes::{skip_blanks, stands};
 use crate::dimension::Dimension;
 use crate::halts::Halt;
 use crate::numbers::{Coordinate, pass_plain_number, read_number, read_plain_number, skip_number};
-use crate::rules::Rules;
+use crate::sources::{Place, Source};
 use at_geom::Pos;
 use at_text::{Fault, first_fault};
 
@@ -41,12 +41,11 @@ pub fn read_delimiter(text: &[u8], at: usize) -> Result<DelimiterRead, Halt>
     }
 }
 
-/// The end of a position: whether it was the last, the place behind its delimiter, and how many numbers positions have.
+/// The end of a position: whether it was the last, and the place behind its delimiter.
 #[derive(Clone, Copy)]
 pub struct NumbersRead {
     pub is_last: bool,
-    pub end: usize,
-    pub dimension: Dimension,
+    pub behind: Place,
 }
 
 /// Whether a comma or a closing bracket stands at a place of the text.
@@ -59,56 +58,52 @@ fn delimiter_stands(text: &[u8], at: usize) -> bool
 
 /// Ends a position of so many numbers at its delimiter.
 #[inline(always)]
-fn end_position(
-    text: &[u8],
-    at: usize,
-    count: u8,
-    dimension: Dimension,
-) -> Result<NumbersRead, Halt>
-    requires inside { at < length text.now }
-    requires delimiter { is_delimiter (next text.now at) ≡ true }
-    ensures { MatchResult result (λ read. (allows dimension count ≡ true) × (read.end ≡ at + 1)
-        × (read.dimension ≡ Fixed count) × (next text.now at ≡ delimiter read.is_last))
-        (λ halt. IfStopped halt (λ n. (n ≡ at) × (allows dimension count ≡ false))) }
+fn end_position(text: &[u8], from: Place, count: u8) -> Result<NumbersRead, Halt>
+    requires inside { from.at < length text.now }
+    requires delimiter { is_delimiter (next text.now from.at) ≡ true }
+    ensures { MatchResult result (λ read. (allows from.dimension count ≡ true) × (read.behind.at ≡ from.at + 1)
+        × (read.behind.dimension ≡ Fixed count) × (next text.now from.at ≡ delimiter read.is_last))
+        (λ halt. IfStopped halt (λ n. (n ≡ from.at) × (allows from.dimension count ≡ false))) }
 {
-    if dimension.allows(count) {
+    if from.dimension.allows(count) {
         Ok(NumbersRead {
-            is_last: stands(text, at, b')'),
-            end: at + 1,
-            dimension: Dimension::Fixed(count),
+            is_last: stands(text, from.at, b')'),
+            behind: Place {
+                at: from.at + 1,
+                dimension: Dimension::Fixed(count),
+            },
         })
     } else {
-        Err(Halt::At(at))
+        Err(Halt::At(from.at))
     }
 }
 
 /// Reads the numbers behind the first `count` of a position, and its delimiter.
-fn read_further(
-    text: &[u8],
-    at: usize,
-    count: u8,
-    dimension: Dimension,
-) -> Result<NumbersRead, Halt>
-    requires inside { at ≤ length text.now }
-    requires short { length text.now ≤ 2 ^ 28 }
+fn read_further(source: &Source, from: Place, count: u8) -> Result<NumbersRead, Halt>
+    requires inside { from.at ≤ length source.now.text.now }
     requires two { 2 ≤ count }
-    requires reaches { Reaches dimension count }
+    requires reaches { Reaches from.dimension count }
     ensures { MatchResult result (λ read. (base : ℕ)
-        → Spelt (FurtherNumbers count) base text.now at dimension read.end read.dimension read.is_last)
-        (λ halt. IfStopped halt (λ n. (base : ℕ) → Stuck (FurtherNumbers count) base text.now at dimension n)) }
+        → Spelt (FurtherNumbers count) base source.now.text.now from.at from.dimension read.behind.at read.behind.dimension read.is_last)
+        (λ halt. IfStopped halt (λ n. (base : ℕ) → Stuck (FurtherNumbers count) base source.now.text.now from.at from.dimension n)) }
 {
-    let next = skip_blanks(text, at);
-    if delimiter_stands(text, next) {
-        return end_position(text, next, count, dimension);
+    let dimension = from.dimension;
+    let next = skip_blanks(source.text, from.at);
+    if delimiter_stands(source.text, next) {
+        let delimiter = Place {
+            at: next,
+            dimension,
+        };
+        return end_position(source.text, delimiter, count);
     }
-    if next == at {
+    if next == from.at {
         return Err(Halt::At(next));
     }
     if !dimension.allows_more(count) {
         return Err(Halt::At(next));
     }
-    let end = skip_number(text, next)?;
-    read_further(text, end, count + 1, dimension)
+    let end = skip_number(source, next)?;
+    read_further(source, Place { at: end, dimension }, count + 1)
 }
 
 /// The position of two coordinates.
@@ -122,14 +117,13 @@ fn pos_at(x: Coordinate, y: Coordinate) -> Pos
     }
 }
 
-/// A position that was read, with what stands behind it.
+/// A position that was read, whether it was the last, and the place behind its delimiter.
 #[derive(Clone, Copy)]
 pub struct PositionRead {
     pub pos: Pos,
     pub fault: Option<Fault>,
     pub is_last: bool,
-    pub end: usize,
-    pub dimension: Dimension,
+    pub behind: Place,
 }
 
 /// The place behind a byte of the text. Out of line, so that what leads to it stays a branch.
@@ -156,48 +150,44 @@ fn skip_space(text: &[u8], at: usize) -> usize
 
 /// Reads what stands behind the second number of a position.
 #[inline(always)]
-fn read_behind(text: &[u8], at: usize, dimension: Dimension) -> Result<NumbersRead, Halt>
-    requires inside { at ≤ length text.now }
-    requires short { length text.now ≤ 2 ^ 28 }
-    requires reaches { Reaches dimension 2 }
+fn read_behind(source: &Source, from: Place) -> Result<NumbersRead, Halt>
+    requires inside { from.at ≤ length source.now.text.now }
+    requires reaches { Reaches from.dimension 2 }
     ensures { MatchResult result (λ read. (base : ℕ)
-        → Spelt (FurtherNumbers 2) base text.now at dimension read.end read.dimension read.is_last)
-        (λ halt. IfStopped halt (λ n. (base : ℕ) → Stuck (FurtherNumbers 2) base text.now at dimension n)) }
+        → Spelt (FurtherNumbers 2) base source.now.text.now from.at from.dimension read.behind.at read.behind.dimension read.is_last)
+        (λ halt. IfStopped halt (λ n. (base : ℕ) → Stuck (FurtherNumbers 2) base source.now.text.now from.at from.dimension n)) }
 {
-    if delimiter_stands(text, at) {
-        end_position(text, at, 2, dimension)
+    if delimiter_stands(source.text, from.at) {
+        end_position(source.text, from, 2)
     } else {
-        read_further(text, at, 2, dimension)
+        read_further(source, from, 2)
     }
 }
 
 /// Reads a position and its delimiter where its numbers have values and one space stands between them.
 #[inline(always)]
-pub fn plain_position<const SITE: usize>(
-    text: &[u8],
-    at: usize,
-    dimension: Dimension,
-    rules: Rules,
-) -> Option<PositionRead>
-    requires inside { at ≤ length text.now }
-    requires short { rules.base + length text.now ≤ 2 ^ 28 }
-    requires count { HasCount dimension }
-    ensures stands { IfSome result (PositionStands rules text.now at dimension) }
+pub fn plain_position<const SITE: usize>(source: &Source, from: Place) -> Option<PositionRead>
+    requires inside { from.at ≤ length source.now.text.now }
+    requires count { HasCount from.dimension }
+    ensures stands { IfSome result (PositionStands source.now.rules source.now.text.now from.at from.dimension) }
     ensures faultless { IfSome result (λ read. read.fault ≡ None) }
 {
-    let start = skip_space(text, at);
-    let x = read_plain_number(text, start, rules)?;
-    if !stands(text, x.end, b' ') {
+    let start = skip_space(source.text, from.at);
+    let x = read_plain_number(source, start)?;
+    if !stands(source.text, x.end, b' ') {
         return None;
     }
-    let y = read_plain_number(text, x.end + 1, rules)?;
-    match read_behind(text, y.end, dimension) {
-        Ok(behind) => Some(PositionRead {
+    let y = read_plain_number(source, x.end + 1)?;
+    let last = Place {
+        at: y.end,
+        dimension: from.dimension,
+    };
+    match read_behind(source, last) {
+        Ok(numbers) => Some(PositionRead {
             pos: pos_at(x, y),
             fault: None,
-            is_last: behind.is_last,
-            end: behind.end,
-            dimension: behind.dimension,
+            is_last: numbers.is_last,
+            behind: numbers.behind,
         }),
         Err(_) => None,
     }
@@ -205,77 +195,65 @@ pub fn plain_position<const SITE: usize>(
 
 /// Passes over a position and its delimiter where its numbers have values and one space stands between them.
 #[inline(always)]
-pub fn pass_position<const SITE: usize>(
-    text: &[u8],
-    at: usize,
-    dimension: Dimension,
-    rules: Rules,
-) -> Option<NumbersRead>
-    requires inside { at ≤ length text.now }
-    requires short { rules.base + length text.now ≤ 2 ^ 28 }
-    requires count { HasCount dimension }
-    ensures { IfSome result (IsPassed rules text.now at dimension) }
+pub fn pass_position<const SITE: usize>(source: &Source, from: Place) -> Option<NumbersRead>
+    requires inside { from.at ≤ length source.now.text.now }
+    requires count { HasCount from.dimension }
+    ensures { IfSome result (IsPassed source.now.rules source.now.text.now from.at from.dimension) }
 {
-    let start = skip_space(text, at);
-    let x = pass_plain_number(text, start, rules)?;
-    if !stands(text, x, b' ') {
+    let start = skip_space(source.text, from.at);
+    let x = pass_plain_number(source, start)?;
+    if !stands(source.text, x, b' ') {
         return None;
     }
-    let y = pass_plain_number(text, x + 1, rules)?;
-    match read_behind(text, y, dimension) {
-        Ok(behind) => Some(behind),
+    let y = pass_plain_number(source, x + 1)?;
+    let last = Place {
+        at: y,
+        dimension: from.dimension,
+    };
+    match read_behind(source, last) {
+        Ok(numbers) => Some(numbers),
         Err(_) => None,
     }
 }
 
 /// Reads blanks, a position and its delimiter, whatever its numbers are and how they are set apart.
 #[inline(never)]
-fn any_position(
-    text: &[u8],
-    at: usize,
-    dimension: Dimension,
-    rules: Rules,
-) -> Result<PositionRead, Halt>
-    requires inside { at ≤ length text.now }
-    requires short { rules.base + length text.now ≤ 2 ^ 28 }
-    requires count { HasCount dimension }
-    ensures { MatchResult result (PositionStands rules text.now at dimension)
-        (λ halt. IfStopped halt (Stuck (Item SpellsPosition) rules.base text.now at dimension)) }
+fn any_position(source: &Source, from: Place) -> Result<PositionRead, Halt>
+    requires inside { from.at ≤ length source.now.text.now }
+    requires count { HasCount from.dimension }
+    ensures { MatchResult result (PositionStands source.now.rules source.now.text.now from.at from.dimension)
+        (λ halt. IfStopped halt (Stuck (Item SpellsPosition) source.now.rules.base source.now.text.now from.at from.dimension)) }
 {
-    let start = skip_blanks(text, at);
-    let x = read_number(text, start, rules)?;
-    let gap = skip_blanks(text, x.end);
+    let start = skip_blanks(source.text, from.at);
+    let x = read_number(source, start)?;
+    let gap = skip_blanks(source.text, x.end);
     if gap == x.end {
         return Err(Halt::At(gap));
     }
-    let y = read_number(text, gap, rules)?;
-    let behind = read_further(text, y.end, 2, dimension)?;
+    let y = read_number(source, gap)?;
+    let last = Place {
+        at: y.end,
+        dimension: from.dimension,
+    };
+    let numbers = read_further(source, last, 2)?;
     Ok(PositionRead {
         pos: pos_at(x, y),
         fault: first_fault(x.fault, y.fault),
-        is_last: behind.is_last,
-        end: behind.end,
-        dimension: behind.dimension,
+        is_last: numbers.is_last,
+        behind: numbers.behind,
     })
 }
 
-/// Reads blanks, a position and its delimiter. Each place that calls it gives another SITE: then the compiler reads plain
-/// positions in place, where a shared copy would hand each of them on through memory.
+/// Reads blanks, a position and its delimiter. Each call has its own SITE, one of `sites`.
 #[inline(always)]
-pub fn read_position<const SITE: usize>(
-    text: &[u8],
-    at: usize,
-    dimension: Dimension,
-    rules: Rules,
-) -> Result<PositionRead, Halt>
-    requires inside { at ≤ length text.now }
-    requires short { rules.base + length text.now ≤ 2 ^ 28 }
-    requires count { HasCount dimension }
-    ensures { MatchResult result (PositionStands rules text.now at dimension)
-        (λ halt. IfStopped halt (Stuck (Item SpellsPosition) rules.base text.now at dimension)) }
+pub fn read_position<const SITE: usize>(source: &Source, from: Place) -> Result<PositionRead, Halt>
+    requires inside { from.at ≤ length source.now.text.now }
+    requires count { HasCount from.dimension }
+    ensures { MatchResult result (PositionStands source.now.rules source.now.text.now from.at from.dimension)
+        (λ halt. IfStopped halt (Stuck (Item SpellsPosition) source.now.rules.base source.now.text.now from.at from.dimension)) }
 {
-    match plain_position::<SITE>(text, at, dimension, rules) {
+    match plain_position::<SITE>(source, from) {
         Some(read) => Ok(read),
-        None => any_position(text, at, dimension, rules),
+        None => any_position(source, from),
     }
 }

@@ -9,7 +9,8 @@ use crate::answers::{LineFault, Prefix};
 use crate::bytes::skip_blanks;
 use crate::geometries::{Gathered, read_whole};
 use crate::halts::Halt;
-use crate::rules::Rules;
+use crate::paths::Maker;
+use crate::sources::{Rules, Source};
 use at_fixed::Coords;
 use at_geom::{Path, Paths, Polygons, Shape};
 use at_text::{Fault, FaultKind};
@@ -27,7 +28,7 @@ pub fn nothing_gathered(alloc: Global) -> Gathered
         lines: Vec::new(alloc),
         polygons: Vec::new(alloc),
         fault: None,
-        expected: 0,
+        maker: Maker { alloc, expected: 0 },
     }
 }
 
@@ -112,7 +113,7 @@ pub fn read_geometry(
 {
     let mut gathered = nothing_gathered(alloc);
     let rules = Rules { base, digits, how };
-    match read_whole(&mut gathered, alloc, text, 0, rules) {
+    match read_whole(&mut gathered, &Source { text, rules }, 0) {
         Ok(end) => {
             let fault = gathered.fault;
             Ok(Prefix {
@@ -126,20 +127,14 @@ pub fn read_geometry(
 }
 
 /// Reads blanks, a geometry and blanks, up to the text's end.
-pub fn read_between(
-    gathered: &mut Gathered,
-    alloc: Global,
-    text: &[u8],
-    rules: Rules,
-) -> Result<(), Halt>
-    requires { rules.base + length text.now ≤ 2 ^ 28 }
-    ensures { MatchResult result (λ _. LineStands rules.digits rules.how rules.base text.now gathered.old gathered.new)
-        (λ halt. IfStopped halt (LineStops rules.base text.now)) }
+pub fn read_between(gathered: &mut Gathered, source: &Source) -> Result<(), Halt>
+    ensures { MatchResult result (λ _. LineStands source.now.rules.digits source.now.rules.how source.now.rules.base source.now.text.now gathered.old gathered.new)
+        (λ halt. IfStopped halt (LineStops source.now.rules.base source.now.text.now)) }
 {
-    let start = skip_blanks(text, 0);
-    let end = read_whole(gathered, alloc, text, start, rules)?;
-    let last = skip_blanks(text, end);
-    if last < text.len() {
+    let start = skip_blanks(source.text, 0);
+    let end = read_whole(gathered, source, start)?;
+    let last = skip_blanks(source.text, end);
+    if last < source.text.len() {
         Err(Halt::At(last))
     } else {
         Ok(())
@@ -164,7 +159,7 @@ pub fn read_line(
 {
     let mut gathered = nothing_gathered(alloc);
     let rules = Rules { base, digits, how };
-    match read_between(&mut gathered, alloc, text, rules) {
+    match read_between(&mut gathered, &Source { text, rules }) {
         Err(halt) => Err(refusal_of(text, base, halt)),
         Ok(()) => line_answer(gathered),
     }

@@ -9,7 +9,7 @@ use crate::checks::is_plain_line;
 use crate::geometries::{Gathered, clear};
 use crate::halts::Halt;
 use crate::reading::{nothing_gathered, read_between, stop_at};
-use crate::rules::Rules;
+use crate::sources::{Rules, Source};
 use at_fixed::Coords;
 use at_text::{Fault, Memory};
 use std::alloc::Global;
@@ -61,12 +61,12 @@ impl Room {
             digits,
             how,
         };
-        if is_plain_line(ahead, len, rules) {
+        if is_plain_line(&Source { text: ahead, rules }, len) {
             return Ok(None);
         }
         let line = &ahead[..len];
-        clear(&mut self.gathered);
-        match read_between(&mut self.gathered, alloc, line, rules) {
+        clear(&mut self.gathered, alloc);
+        match read_between(&mut self.gathered, &Source { text: line, rules }) {
             Ok(()) => Ok(self.gathered.fault),
             Err(halt) => stopped_line(line, at, halt),
         }

@@ -9,6 +9,6 @@ returns-in-None c =
     let passed = c.in_ok-list.list in
     let (list, count, stands) = c.in_ok-list.ensures in (
       refl,
-      path_passed c.args.rules c.args.text.now c.args.at c.args.dimension c.requires.inside c.requires.opener Ring list _ _ stands None
-          (sym c.in-None.is ∙ (c.ring_fault.ensures ∙ ap (λ z. fault_of_path Ring z passed.closes (c.args.rules.base + c.args.at)) (sym count))) refl refl refl,
+      path_passed c.args.source.now.rules c.args.source.now.text.now c.args.from.at c.args.from.dimension c.requires.inside c.requires.opener Ring list _ _ stands None
+          (sym c.in-None.is ∙ (c.ring_fault.ensures ∙ ap (λ z. fault_of_path Ring z passed.closes (c.args.source.now.rules.base + c.args.from.at)) (sym count))) refl refl refl,
     )

@@ -8,6 +8,6 @@ pub returns-in-None : goal.returns-in-None
 returns-in-None c =
     let (closes, (list, count, stands)) = c.in_ok-row.ensures in (
       refl,
-      path_passed c.args.rules c.args.text.now c.args.at c.args.dimension c.requires.inside c.requires.opener Line list _ _ stands None
-          (sym c.in-None.is ∙ (c.line_fault.ensures ∙ ap (λ z. fault_of_path Line z closes (c.args.rules.base + c.args.at)) (sym count))) refl refl refl,
+      path_passed c.args.source.now.rules c.args.source.now.text.now c.args.from.at c.args.from.dimension c.requires.inside c.requires.opener Line list _ _ stands None
+          (sym c.in-None.is ∙ (c.line_fault.ensures ∙ ap (λ z. fault_of_path Line z closes (c.args.source.now.rules.base + c.args.from.at)) (sym count))) refl refl refl,
     )

@@ -9,9 +9,9 @@ use Rattle.at_wkt.proofs.checks.pass_line_string.Goals as goal
 
 pub returns : goal.returns
 returns c =
-    let w = c.args.text.now in let rules = c.args.rules in let digits = rules.digits in let how = rules.how in
+    let w = c.args.source.now.text.now in let rules = c.args.source.now.rules in let digits = rules.digits in let how = rules.how in
     let (none, path) = c.in_ok-line.ensures in
-    let part = opened_stands SpellsList SpellsRing (λ ps. Some ps) None list_choice (line_faults digits how) nothing_of rules.base w c.args.at c.args.dimension (faults_of_path digits how Line) nothing_of
+    let part = opened_stands SpellsList SpellsRing (λ ps. Some ps) None list_choice (line_faults digits how) nothing_of rules.base w c.args.from.at c.args.from.dimension (faults_of_path digits how Line) nothing_of
     (λ x. none_faults (faults_of_path digits how Line x)) (λ x. refl) [] [] c.requires.inside (sym c.stands.ensures ∙ c.if-not-stands.false) (Ok c.in_ok-line.line)
-    (adds_nothing SpellsRing (faults_of_path digits how Line) rules.base w c.args.at c.args.dimension c.in_ok-line.line path) in
-    (none, part_passed SpellsList (line_faults digits how) rules.base w c.args.at c.args.dimension c.in_ok-line.line part)
+    (adds_nothing SpellsRing (faults_of_path digits how Line) rules.base w c.args.from.at c.args.from.dimension c.in_ok-line.line path) in
+    (none, part_passed SpellsList (line_faults digits how) rules.base w c.args.from.at c.args.from.dimension c.in_ok-line.line part)

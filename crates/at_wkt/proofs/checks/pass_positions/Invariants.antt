@@ -3,7 +3,7 @@ use Rattle.at_wkt.proofs.CheckAnswers.{PassedSoFar}
 use Rattle.at_wkt.proofs.checks.pass_positions.Given as goal
 
 abbrev pub invariant-positions : goal.invariant-positions
-invariant-positions l = PassedSoFar l.rules l.text l.fn.at l.fn.dimension l.first l.end l.before l.count
+invariant-positions l = PassedSoFar l.source.rules l.source.text.now l.fn.from.at l.fn.from.dimension l.first l.next.at l.next.dimension l.count
 
 abbrev pub decreases-positions : goal.decreases-positions
-decreases-positions l = length l.text - l.end
+decreases-positions l = length l.source.text.now - l.next.at

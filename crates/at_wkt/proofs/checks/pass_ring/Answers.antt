@@ -8,8 +8,8 @@ use Rattle.at_wkt.proofs.checks.pass_ring.Goals as goal
 
 pub returns-in-Ok : goal.returns-in-Ok
 returns-in-Ok c =
-    let w = c.args.text.now in let faults = faults_of_ring c.args.rules.digits c.args.rules.how in
+    let w = c.args.source.now.text.now in let faults = faults_of_ring c.args.source.now.rules.digits c.args.source.now.rules.how in
     let (none, part) = c.in_ok-ring.ensures in
-    let item = ended_item SpellsRing faults nothing_of c.args.rules.base w c.args.at c.skip_blanks-start.result c.args.dimension c.skip_blanks-start.ensures ring_no_blank [] [] c.in_ok-ring.ring
-    (adds_nothing SpellsRing faults c.args.rules.base w c.skip_blanks-start.result c.args.dimension c.in_ok-ring.ring part) (Ok c.in-Ok.item) c.in-Ok.ensures in
-    (c.in-Ok.ensures.0 ∙ none, item_passed SpellsRing faults c.args.rules.base w c.args.at c.args.dimension c.in-Ok.item item)
+    let item = ended_item SpellsRing faults nothing_of c.args.source.now.rules.base w c.args.from.at c.skip_blanks-start.result c.args.from.dimension c.skip_blanks-start.ensures ring_no_blank [] [] c.in_ok-ring.ring
+    (adds_nothing SpellsRing faults c.args.source.now.rules.base w c.skip_blanks-start.result c.args.from.dimension c.in_ok-ring.ring part) (Ok c.in-Ok.item) c.in-Ok.ensures in
+    (c.in-Ok.ensures.0 ∙ none, item_passed SpellsRing faults c.args.source.now.rules.base w c.args.from.at c.args.from.dimension c.in-Ok.item item)

@@ -6,7 +6,7 @@ use Rattle.at_wkt.proofs.CheckAnswers.{nothing_of}
 use Rattle.at_wkt.proofs.checks.pass_rings.Given as goal
 
 abbrev pub invariant-rings : goal.invariant-rings
-invariant-rings l = (l.last.fault ≡ None) × ItemsSoFar SpellsRing (faults_of_ring l.rules.digits l.rules.how) nothing_of [] [] l.rules.base l.text l.fn.at l.fn.dimension l.last
+invariant-rings l = (l.last.fault ≡ None) × ItemsSoFar SpellsRing (faults_of_ring l.source.rules.digits l.source.rules.how) nothing_of [] [] l.source.rules.base l.source.text.now l.fn.from.at l.fn.from.dimension l.last
 
 abbrev pub decreases-rings : goal.decreases-rings
-decreases-rings l = length l.text - l.last.end
+decreases-rings l = length l.source.text.now - l.last.behind.at

@@ -3,7 +3,7 @@ use Rattle.at_wkt.proofs.ProgressAnswers.{StepsSoFar}
 use Rattle.at_wkt.proofs.geometries.read_whole.Given as goal
 
 abbrev pub invariant-geometries : goal.invariant-geometries
-invariant-geometries l = StepsSoFar l.rules.digits l.rules.how l.rules.base l.text l.fn.at l.fn.gathered l.gathered l.progress
+invariant-geometries l = StepsSoFar l.source.rules.digits l.source.rules.how l.source.rules.base l.source.text.now l.fn.at l.fn.gathered l.gathered l.progress
 
 abbrev pub decreases-geometries : goal.decreases-geometries
-decreases-geometries l = length l.text - l.progress.at
+decreases-geometries l = length l.source.text.now - l.progress.at

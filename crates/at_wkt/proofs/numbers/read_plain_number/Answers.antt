@@ -11,6 +11,6 @@ pub returns : goal.returns
 returns c =
     let number = c.in_ok-number.number in
     let fits : FitsSigned w64 number.value = search rules in
-    let (n, stands, e) = number_stands c.args.text.now c.args.at number.len c.requires.inside c.args.rules.digits c.args.rules.how
+    let (n, stands, e) = number_stands c.args.source.now.text.now c.args.at number.len c.requires.inside c.args.source.now.rules.digits c.args.source.now.rules.how
     (Some (Ok number.value)) (Ok number.value) refl c.in_ok-number.ensures.taken c.in_ok-number.ensures.value in
-    (refl, (n, stands, record { value = to_z-of_z w64 number.value fits ∙ ap value_in e; fault = ap (λ r. first_of (faults_in r (c.args.rules.base + c.args.at))) e }))
+    (refl, (n, stands, record { value = to_z-of_z w64 number.value fits ∙ ap value_in e; fault = ap (λ r. first_of (faults_in r (c.args.source.now.rules.base + c.args.at))) e }))

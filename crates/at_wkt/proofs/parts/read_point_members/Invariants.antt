@@ -4,7 +4,7 @@ use Rattle.at_wkt.specs.Reading.{ItemsSoFar, added_point, point_faults}
 use Rattle.at_wkt.proofs.parts.read_point_members.Given as goal
 
 abbrev pub invariant-members : goal.invariant-members
-invariant-members l = ItemsSoFar SpellsPointMember (point_faults l.rules.digits l.rules.how) (added_point l.rules.digits l.rules.how) l.fn.points.items l.points.items l.rules.base l.text l.fn.at l.fn.dimension l.last
+invariant-members l = ItemsSoFar SpellsPointMember (point_faults l.source.rules.digits l.source.rules.how) (added_point l.source.rules.digits l.source.rules.how) l.fn.points.items l.points.items l.source.rules.base l.source.text.now l.fn.from.at l.fn.from.dimension l.last
 
 abbrev pub decreases-members : goal.decreases-members
-decreases-members l = length l.text - l.last.end
+decreases-members l = length l.source.text.now - l.last.behind.at

@@ -9,8 +9,8 @@ use Rattle.at_wkt.proofs.Exits.{exits}
 use Rattle.at_wkt.proofs.parts.read_polygon_member.Goals as goal
 
 pub returns-in_err-polygon : goal.returns-in_err-polygon
-returns-in_err-polygon c = exits c.from_residual.result c.in_err-polygon.field-0.0 _ (Stuck SpellsArea c.args.rules.base c.args.text.now c.skip_blanks-start.result c.args.dimension) _ c.from_residual.ensures.1
-    (item_stuck SpellsArea c.args.rules.base c.args.text.now c.args.at c.skip_blanks-start.result c.args.dimension c.skip_blanks-start.ensures (blankless SpellsArea (choice_begins _ _ (λ xs. xs) [] (parted_choice SpellsRing)))) c.in_err-polygon.ensures
+returns-in_err-polygon c = exits c.from_residual.result c.in_err-polygon.field-0.0 _ (Stuck SpellsArea c.args.source.now.rules.base c.args.source.now.text.now c.skip_blanks-start.result c.args.from.dimension) _ c.from_residual.ensures.1
+    (item_stuck SpellsArea c.args.source.now.rules.base c.args.source.now.text.now c.args.from.at c.skip_blanks-start.result c.args.from.dimension c.skip_blanks-start.ensures (blankless SpellsArea (choice_begins _ _ (λ xs. xs) [] (parted_choice SpellsRing)))) c.in_err-polygon.ensures
 
 pub returns : goal.returns
-returns c = ended_item SpellsArea (faults_of_area c.args.rules.digits c.args.rules.how) (polygons_of c.args.rules.digits c.args.rules.how) c.args.rules.base c.args.text.now c.args.at c.skip_blanks-start.result c.args.dimension c.skip_blanks-start.ensures (blankless SpellsArea (choice_begins _ _ (λ xs. xs) [] (parted_choice SpellsRing))) _ _ c.in_ok-polygon.polygon c.in_ok-polygon.ensures c.end_item.result c.end_item.ensures
+returns c = ended_item SpellsArea (faults_of_area c.args.source.now.rules.digits c.args.source.now.rules.how) (polygons_of c.args.source.now.rules.digits c.args.source.now.rules.how) c.args.source.now.rules.base c.args.source.now.text.now c.args.from.at c.skip_blanks-start.result c.args.from.dimension c.skip_blanks-start.ensures (blankless SpellsArea (choice_begins _ _ (λ xs. xs) [] (parted_choice SpellsRing))) _ _ c.in_ok-polygon.polygon c.in_ok-polygon.ensures c.end_item.result c.end_item.ensures

@@ -5,7 +5,7 @@ use Rattle.at_wkt.specs.Reading.{ItemsSoFar}
 use Rattle.at_wkt.proofs.parts.read_polygon_members.Given as goal
 
 abbrev pub invariant-members : goal.invariant-members
-invariant-members l = ItemsSoFar SpellsArea (faults_of_area l.rules.digits l.rules.how) (polygons_of l.rules.digits l.rules.how) l.fn.polygons.items l.polygons.items l.rules.base l.text l.fn.at l.fn.dimension l.last
+invariant-members l = ItemsSoFar SpellsArea (faults_of_area l.source.rules.digits l.source.rules.how) (polygons_of l.source.rules.digits l.source.rules.how) l.fn.polygons.items l.polygons.items l.source.rules.base l.source.text.now l.fn.from.at l.fn.from.dimension l.last
 
 abbrev pub decreases-members : goal.decreases-members
-decreases-members l = length l.text - l.last.end
+decreases-members l = length l.source.text.now - l.last.behind.at

@@ -5,7 +5,7 @@ use Rattle.at_wkt.specs.Reading.{ItemsSoFar, added_path}
 use Rattle.at_wkt.proofs.parts.read_rings.Given as goal
 
 abbrev pub invariant-rings : goal.invariant-rings
-invariant-rings l = ItemsSoFar SpellsRing (faults_of_ring l.rules.digits l.rules.how) (added_path l.rules.digits l.rules.how) l.fn.rings.items l.rings.items l.rules.base l.text l.fn.at l.fn.dimension l.last
+invariant-rings l = ItemsSoFar SpellsRing (faults_of_ring l.source.rules.digits l.source.rules.how) (added_path l.source.rules.digits l.source.rules.how) l.fn.rings.items l.rings.items l.source.rules.base l.source.text.now l.fn.from.at l.fn.from.dimension l.last
 
 abbrev pub decreases-rings : goal.decreases-rings
-decreases-rings l = length l.text - l.last.end
+decreases-rings l = length l.source.text.now - l.last.behind.at
