@@ -11,7 +11,7 @@ use Rattle.at_query.specs.declared.answers.Pair.{Pair}
 use Rattle.at_query.specs.declared.answers.Answer.TheVariants.{Pairs}
 use Rattle.at_query.specs.Holding.{Holds}
 use Rattle.at_query.specs.Results.{Keeps, pairs_of, Joins, at_pair, IsJoined}
-use Rattle.at_query.specs.Parts.{entry_of, kept_of, IsPart, AreProper, AreProperFeatures}
+use Rattle.at_query.specs.Parts.{entry_of, IsPart, AreProper, AreProperFeatures}
 use Rattle.at_query.proofs.KeptLists.{keeps-append}
 use Rattle.at_query.proofs.ProperEntries.{entries_are_proper}
 use Rattle.at_join.specs.Meetings.{Meeting, at_entries, IsAllPairs}
@@ -92,8 +92,8 @@ module _ (query : Query) where
   pub all_pairs_joined : (all : Query) (fs gs : List Feature) (es hs : List Entry) (ps : List Pair) → query.verb ≡ verbs.Join → all.verb ≡ verbs.Join → all.tests ≡ []
       → IsPart query fs (Entries es) → IsPart all gs (Entries hs) → IsAllPairs es hs ps → IsJoined query fs gs (Pairs ps)
   all_pairs_joined all fs gs es hs ps join_first join_second none (kept, keeps, e) (others, also, i) (ks, found, is) =
-      let first : Entries es ≡ kept_of verbs.Join kept = rw join_first at e in
-      let second : Entries hs ≡ kept_of verbs.Join others = rw join_second at i in
+      let first : Entries es ≡ Entries (map entry_of kept) = rw join_first at e in
+      let second : Entries hs ≡ Entries (map entry_of others) = rw join_second at i in
       let same_first : es ≡ map entry_of kept = cc in
       let same_second : hs ≡ map entry_of gs = (let every = all_kept all gs others none also in let h : hs ≡ map entry_of others = cc in h ∙ ap (map entry_of) every) in
       let P : List (Entry × Entry) → Type 0 = λ l. Keeps Meeting l ks in

@@ -16,7 +16,8 @@ use Rattle.at_query.specs.declared.features.TextPair.{TextPair}
 use Rattle.at_query.specs.declared.parts.Part.{Part}
 use Rattle.at_query.specs.declared.parts.Part.TheVariants.{Area, Spread}
 use Rattle.at_query.specs.Holding.{TestHolds}
-use Rattle.at_query.specs.Parts.{wrapped_sum, kept_of, IsPart}
+use Rattle.at_query.specs.Parts.{wrapped_sum, IsHullInRange, IsKeptOf, IsPart}
+use Rattle.at_query.specs.Results.{all_positions}
 use Rattle.at_run.specs.Labels.{label_name, texts_of}
 use Rattle.at_run.specs.Labelling.{asks_label}
 
@@ -53,16 +54,20 @@ module _ (query : Query) (at : ℕ) (shape : Shape) (cs : List Character) where
       let one = one_test t a in let more = all_tests ts b in
       (λ k. (one.0 k.0, more.0 k.1), λ k. (one.1 k.0, more.1 k.1))
 
-  one_kept : (v : Verb) → kept_of v (bare ∷ []) ≡ kept_of v (full ∷ [])
-  one_kept verbs.Select = refl
-  one_kept verbs.Count = refl
-  one_kept verbs.Area = ap (λ z. Area (wrapped_sum z)) (flat_map-cons (λ (x : Feature). x.shape.polygons) bare [] ∙ sym (flat_map-cons (λ (x : Feature). x.shape.polygons) full []))
-  one_kept verbs.Extent = ap (λ z. Spread (extent_of z)) (flat_map-cons (λ (x : Feature). positions x.shape) bare [] ∙ sym (flat_map-cons (λ (x : Feature). positions x.shape) full []))
-  one_kept verbs.Join = refl
+  same_positions : all_positions (bare ∷ []) ≡ all_positions (full ∷ [])
+  same_positions = flat_map-cons (λ (x : Feature). positions x.shape) bare [] ∙ sym (flat_map-cons (λ (x : Feature). positions x.shape) full [])
+
+  one_kept : (v : Verb) (part : Part) → IsKeptOf v (bare ∷ []) part → IsKeptOf v (full ∷ []) part
+  one_kept verbs.Select part p = p
+  one_kept verbs.Count part p = p
+  one_kept verbs.Area part p = p ∙ ap (λ z. Area (wrapped_sum z)) (flat_map-cons (λ (x : Feature). x.shape.polygons) bare [] ∙ sym (flat_map-cons (λ (x : Feature). x.shape.polygons) full []))
+  one_kept verbs.Extent part p = p ∙ ap (λ z. Spread (extent_of z)) same_positions
+  one_kept verbs.Hull part (hull, e, k) = (hull, e, subst (λ z. IsHullInRange z hull) same_positions k)
+  one_kept verbs.Join part p = p
 
   without_label : (part : Part) → list_any asks_label query.tests ≡ false → IsPart query (bare ∷ []) part → IsPart query (full ∷ []) part
-  without_label part h (kept, inl (p, (zs, e, k)), is) = (full ∷ [], inl ((all_tests query.tests h).1 p, ([], refl, refl)), is ∙ (ap (kept_of query.verb) (e ∙ ap (λ z. bare ∷ z) k) ∙ one_kept query.verb))
-  without_label part h (kept, inr (n, k), is) = ([], inr (λ p. n ((all_tests query.tests h).0 p), refl), is ∙ ap (kept_of query.verb) k)
+  without_label part h (kept, inl (p, (zs, e, k)), is) = (full ∷ [], inl ((all_tests query.tests h).1 p, ([], refl, refl)), one_kept query.verb part (subst (λ l. IsKeptOf query.verb l part) (e ∙ ap (λ z. bare ∷ z) k) is))
+  without_label part h (kept, inr (n, k), is) = ([], inr (λ p. n ((all_tests query.tests h).0 p), refl), subst (λ l. IsKeptOf query.verb l part) k is)
 
   pub kept_label : (texts : List TextPair) (part : Part) → texts ≡ (if list_any asks_label query.tests then texts_of (Some cs) else [])
       → IsPart query (record { at = at; shape = shape; texts = texts } ∷ []) part → IsPart query (full ∷ []) part

@@ -25,7 +25,7 @@ use Rattle.at_query.specs.declared.parts.Part.TheVariants.{Count}
 use Rattle.at_query.specs.declared.queries.Verb.{Verb}
 use Rattle.at_query.specs.declared.queries.Test.{Test}
 use Rattle.at_query.specs.Holding.{TestHolds}
-use Rattle.at_query.specs.Parts.{kept_of, IsPart, JoinsParts}
+use Rattle.at_query.specs.Parts.{IsKeptOf, IsPart, JoinsParts}
 use Rattle.at_query.proofs.Joining.{parts_are_alike}
 use Rattle.at_run.specs.declared.gathered.Gathered.{Gathered}
 use Rattle.at_run.specs.declared.gathered.Gathered.TheVariants.{Kept, Failed}
@@ -150,7 +150,7 @@ module _ (asked : Asked) where
   count_part : (f : Feature) → CountsAll asked.query → IsPart asked.query (f ∷ []) (Count 1)
   count_part f (is_count, no_tests) =
       let P : List Test → Type 0 = λ tests. AllByRecursion (λ t. TestHolds t f) tests in
-      let Q : Verb → Type 0 = λ verb. Count 1 ≡ kept_of verb (f ∷ []) in
+      let Q : Verb → Type 0 = λ verb. IsKeptOf verb (f ∷ []) (Count 1) in
       (f ∷ [], inl (subst P (sym no_tests) tt, ([], refl, refl)), subst Q (sym is_count) refl)
 
   -- without a fault, and with the fault that is gathered

@@ -2,14 +2,14 @@
 use Rattle.std.proofs.Common.{◌≢◌, ℕ, ◌^◌, ◌≤◌, List, length, refl, sym, subst}
 use Rattle.at_fixed.specs.declared.rounding.Coords.{Coords}
 use Rattle.at_query.specs.declared.queries.Verb.{Verb}
-use Rattle.at_query.specs.declared.queries.Verb.TheVariants.{Select, Count, Area, Extent, Join}
+use Rattle.at_query.specs.declared.queries.Verb.TheVariants.{Select, Count, Area, Extent, Hull, Join}
 use Rattle.at_query.specs.declared.queries.Query.{Query}
 use Rattle.at_query.specs.declared.features.Feature.{Feature}
 use Rattle.at_query.specs.declared.parts.Part.{Part}
 use Rattle.at_query.specs.declared.answers.Answer.{Answer}
 use Rattle.at_query.specs.Ranges.{AreFeaturesInRange}
 use Rattle.at_query.specs.Results.{IsResult}
-use Rattle.at_query.specs.Parts.{kept_of, IsPart, IsAnswerable, AreFew}
+use Rattle.at_query.specs.Parts.{IsKeptOf, IsPart, IsAnswerable, AreFew}
 use Rattle.at_geojson.specs.Roles.{features_of}
 use Rattle.at_run.specs.declared.forms.Form.{Form}
 use Rattle.at_run.specs.declared.forms.Form.TheVariants.{GeoJson, Wkt}
@@ -19,15 +19,16 @@ use Rattle.at_run.proofs.FileSizes.{few_of_size, file_features_few, file_feature
 use Rattle.at_run.proofs.JsonSizes.{json_features_size}
 use Rattle.at_run.proofs.JsonFeatures.{json_features_in_range}
 
-kept_answerable : (verb : Verb) (fs : List Feature) → verb ≢ Join → IsAnswerable (kept_of verb fs)
-kept_answerable Select fs h = tt
-kept_answerable Count fs h = tt
-kept_answerable Area fs h = tt
-kept_answerable Extent fs h = tt
-kept_answerable Join fs h = absurd (h refl)
+kept_answerable : (verb : Verb) (fs : List Feature) (part : Part) → verb ≢ Join → IsKeptOf verb fs part → IsAnswerable part
+kept_answerable Select fs part h e = rw (e) tt
+kept_answerable Count fs part h e = rw (e) tt
+kept_answerable Area fs part h e = rw (e) tt
+kept_answerable Extent fs part h e = rw (e) tt
+kept_answerable Hull fs part h (hull, e, k) = rw (e) tt
+kept_answerable Join fs part h e = absurd (h refl)
 
 part_answerable : (query : Query) (fs : List Feature) (part : Part) → query.verb ≢ Join → IsPart query fs part → IsAnswerable part
-part_answerable query fs part h (kept, keeps, e) = subst IsAnswerable (sym e) (kept_answerable query.verb kept h)
+part_answerable query fs part h (kept, keeps, e) = kept_answerable query.verb kept part h e
 
 module _ (digits : ℕ) (how : Coords) (bytes : List ℕ) (fs : List Feature) where
   -- a file has few features

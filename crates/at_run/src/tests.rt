@@ -481,6 +481,26 @@ fn other_verbs(rt: HostRuntime) -> Result<(), Fail> {
         told_of_square(&rt, rt.alloc(), Verb::Extent)?.as_str(),
         "0.0000000 -1.0000000 5.0000000 2.0000000\n"
     );
+    assert_eq!(rt;
+        told_of_square(&rt, rt.alloc(), Verb::Hull)?.as_str(),
+        "5.0000000 -1.0000000\n2.0000000 2.0000000\n0.0000000 2.0000000\n0.0000000 0.0000000\n"
+    );
+    Ok(())
+}
+
+/// Points on one line, two of which the ends of a line across it hold.
+#[test]
+fn hull_at_every_cut(rt: HostRuntime) -> Result<(), Fail> {
+    let query = asked(rt.alloc(), Verb::Hull, None)?;
+    let bytes = bytes_of(
+        rt.alloc(),
+        "POINT (1 1)~POINT (3 3)~POINT (2 2)~LINESTRING (0 3,3 0)~",
+    )?;
+    let told = told_of_places(&rt, rt.alloc(), bytes.as_slice(), Form::Wkt, &query)?;
+    assert_eq!(rt;
+        told.as_str(),
+        "3.0000000 0.0000000\n3.0000000 3.0000000\n0.0000000 3.0000000\n1.0000000 1.0000000\n"
+    );
     Ok(())
 }
 

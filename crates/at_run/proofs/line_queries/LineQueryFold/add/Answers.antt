@@ -1,4 +1,5 @@
 use Rattle.std.proofs.Common.{[], ◌∷◌, take}
+use Rattle.at_run.proofs.LineParts.{own_are_joinable}
 use Rattle.at_run.proofs.line_queries.LineQueryFold.add.Goals as goal
 
 pub returns-in_ok-fault-clause-own : goal.returns-in_ok-fault-clause-own
@@ -11,3 +12,6 @@ returns-in_ok-fault-clause-fold c lines before =
 
 pub returns-in_ok-join_into-clause-own : goal.returns-in_ok-join_into-clause-own
 returns-in_ok-join_into-clause-own c = c.in_ok-join_into.ensures.own c.args.self.now c.requires.own c.in_ok-one.ensures.own
+
+pub join_into-requires : goal.join_into-requires
+join_into-requires c = own_are_joinable c.args.self.now c.args.part.now c.in_ok-one.one c.requires.own c.in_ok-one.ensures.own
