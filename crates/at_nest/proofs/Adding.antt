@@ -3,15 +3,16 @@ use Rattle.std.proofs.Common.{◌≡◌, ℕ, Option, List, [], ◌∷◌, ◌++
 use Rattle.at_text.specs.declared.texts.Span.{Span}
 use Rattle.at_lex.specs.Strings.{Character}
 use Rattle.at_nest.specs.declared.pieces.Piece.{Piece as CodePiece}
-use Rattle.at_nest.specs.declared.pieces.Piece.TheVariants.{Closes, Comma, Colon, Text, Value, Row as RowPiece}
+use Rattle.at_nest.specs.declared.pieces.Piece.TheVariants.{Closes, Comma, Colon, Text, Value, Row as RowPiece, Closers as ClosersPiece}
 use Rattle.at_nest.specs.declared.pieces.Row.{Row}
+use Rattle.at_nest.specs.declared.pieces.Closers.{Closers}
 use Rattle.at_lex.specs.declared.tokens.Bracket.{Bracket}
 use Rattle.at_nest.specs.declared.pieces.Halt.{Halt as CodeHalt}
 use Rattle.at_nest.specs.Tree.{Tree, text}
 use Rattle.at_nest.specs.Forms.{Meaning, Piece, opens, closes, mark, comma, colon, quoted, entry}
 use Rattle.at_nest.specs.Levels.{Level, Form, Pushed, further, stopped, push, push_mark, push_all, push_then}
 use Rattle.at_nest.specs.Shown.{Held, Shown, AreOwn, show_as, comma_added, colon_added}
-use Rattle.at_nest.specs.Holding.{free, Content, one, Kept, EachHeld, EachPiece, AreRow, Pushes, PushesValue, PushesRow, IsHeldPiece, IsShown, IsPushedAs, IsTextAt, IsPartOf, IsOfItems, CanAdd, Adds}
+use Rattle.at_nest.specs.Holding.{free, Content, one, Kept, EachHeld, EachPiece, AreRow, Pushes, PushesValue, PushesRow, PushesClosers, IsHeldPiece, IsShown, IsPushedAs, IsTextAt, IsPartOf, IsOfItems, CanAdd, Adds}
 use Rattle.at_nest.proofs.Held.{held_own}
 use Rattle.at_nest.proofs.Showing.{comma_pushes, colon_pushes}
 
@@ -95,6 +96,11 @@ module _ {X : Type 0} (IsKept : X → Content → Type 0) where
       no_row base w (closes b j) u = u
       no_row base w (mark x) u = u
   adds_row bytes old c new r row e pushes base w f ps part h (inr k) = pushes base w f ps h (subst (λ z. AreRow IsKept z ps) e k)
+
+  -- closing brackets
+  pub adds_closers : (bytes : List ℕ) (old : Shown X) (c : CodePiece X) (new : Shown X) (r : Option CodeHalt) (run : Closers) → c ≡ ClosersPiece run → PushesClosers IsKept old new r run → Adds IsKept bytes old c new r
+  adds_closers bytes old c new r run e pushes base w f ps part h (inl (p, s, k)) = absurd (subst (λ z. IsHeldPiece IsKept base w z p) e k)
+  adds_closers bytes old c new r run e pushes base w f ps part h (inr k) = pushes base w f ps h (subst (λ z. AreRow IsKept z ps) e k)
 
   -- a string
   pub adds_text : (bytes : List ℕ) (old new : Shown X) (r : Option CodeHalt) (span : Span) (x : X)

@@ -15,7 +15,7 @@ use Rattle.at_nest.specs.declared.variants.Variant.{Variant}
 use Rattle.at_nest.specs.declared.variants.Variant.TheVariants.{Whole, Broken}
 use Rattle.at_nest.specs.Stands.{HoldsVariant}
 use Rattle.at_nest.specs.declared.pieces.Piece.{Piece as CodePiece}
-use Rattle.at_nest.specs.declared.pieces.Piece.TheVariants.{Closes, Comma, Colon, Text, Value, Row as RowPiece}
+use Rattle.at_nest.specs.declared.pieces.Piece.TheVariants.{Closes, Comma, Colon, Text, Value, Row as RowPiece, Closers as ClosersPiece}
 use Rattle.at_nest.specs.declared.pieces.Row.{Row}
 use Rattle.at_nest.specs.Tree.{Tree, text}
 use Rattle.at_nest.specs.Forms.{Piece, opens, closes, mark, comma, colon, quoted, entry}
@@ -23,7 +23,7 @@ use Rattle.at_nest.specs.Levels.{Level, Form, marks}
 use Rattle.at_nest.specs.Shown.{Held, Shown, array_level, object_level, held_of, helds_of, open_levels, AreOwn, OwnPiece, OwnLevel, OwnBody, shown}
 use Rattle.at_nest.specs.Holding.{Content, one, run, Holds, Kept, Each, EachMember, IsHeld, EachHeld, IsHeldPiece, EachPiece, ArePieces, AreRow, IsRow, row_marks, row_trees, IsOfItems, CanAdd, IsShown, CopiesItems, CopiesMember, CopiesMembers, CopiesHeld, CopiesLevels, CopiesPiece, CopiesPieces, CopiesShown}
 use Rattle.at_nest.proofs.Held.{held_own, each_own, each_cut, each_append}
-use Rattle.at_nest.proofs.Showing.{open_last, pieces_append, pieces_cut}
+use Rattle.at_nest.proofs.Showing.{pieces_append, pieces_cut}
 
 module _ {X : Type 0} (IsKept : X → Content → Type 0) where
   -- what is copied stands for each of the trees, and for the trees one behind another, for which the first stands
@@ -140,10 +140,12 @@ module _ {X : Type 0} (IsOwn : X → Type 0) (IsFold : X → Tree → Type 0) (I
   piece_own base w (RowPiece r) (opens b j) h = absurd h
   piece_own base w (RowPiece r) (closes b j) h = absurd h
   piece_own base w (RowPiece r) (mark x) h = absurd h
+  piece_own base w (ClosersPiece r) p h = tt
 
   are_own : (base : ℕ) (w : List ℕ) (c : CodePiece X) (ps : List (Piece Tree)) → ArePieces (Kept IsOwn IsFold IsRun) base w c ps → OwnPiece IsOwn c
   are_own base w c ps (inl (p, e, h)) = piece_own base w c p h
   are_own base w (RowPiece r) ps (inr h) = each_own IsOwn IsFold IsRun r.items.items (h.tree ∷ row_trees h.others) h.items
+  are_own base w (ClosersPiece r) ps (inr h) = tt
   are_own base w (Closes b i) ps (inr h) = absurd h
   are_own base w (Comma i) ps (inr h) = absurd h
   are_own base w (Colon i) ps (inr h) = absurd h

@@ -73,11 +73,11 @@ module _ {X : Type 0} (IsKept : X → Content → Type 0) where
       let k = so base w f c.front part hf c.are_front in (base, w, k.0, c.here, part, k.2, c.is_here)
 
   -- a step on: nothing stops
-  went_on : (base : ℕ) (w : List ℕ) (new : Shown X) (o : Pushed Tree) → IsPushedAs IsKept base w new None o → (k : Form Tree) × (o ≡ further k) × IsShown IsKept base w new k
+  pub went_on : (base : ℕ) (w : List ℕ) (new : Shown X) (o : Pushed Tree) → IsPushedAs IsKept base w new None o → (k : Form Tree) × (o ≡ further k) × IsShown IsKept base w new k
   went_on base w new (further k) h = (k, refl, h)
   went_on base w new (stopped k i) h = absurd h
 
-  did_stop : (base : ℕ) (w : List ℕ) (new : Shown X) (r : CodeHalt) (o : Pushed Tree) (more : Form Tree → Pushed Tree) → IsPushedAs IsKept base w new (Some r) o → IsPushedAs IsKept base w new (Some r) (push_then more o)
+  pub did_stop : (base : ℕ) (w : List ℕ) (new : Shown X) (r : CodeHalt) (o : Pushed Tree) (more : Form Tree → Pushed Tree) → IsPushedAs IsKept base w new (Some r) o → IsPushedAs IsKept base w new (Some r) (push_then more o)
   did_stop base w new r (further k) more h = absurd h
   did_stop base w new r (stopped k i) more h = h
 

@@ -27,6 +27,7 @@ pub mod Showing
 pub mod Nests
 pub mod Adding
 pub mod Joining
+pub mod Closers
 pub mod Rows
 pub mod TokenReads
 pub mod TokenMarks

@@ -6,7 +6,7 @@ use Rattle.at_lex.specs.Strings.{Character, string_text}
 use Rattle.at_lex.specs.Spans.{end_of}
 use Rattle.at_lex.specs.declared.tokens.Start.{Start}
 use Rattle.at_nest.specs.declared.pieces.Piece.{Piece as CodePiece}
-use Rattle.at_nest.specs.declared.pieces.Piece.TheVariants.{Closes, Comma, Colon, Text, Value, Row}
+use Rattle.at_nest.specs.declared.pieces.Piece.TheVariants.{Closes, Comma, Colon, Text, Value, Row, Closers as ClosersPiece}
 use Rattle.at_nest.specs.declared.pieces.Halt.{Halt as CodeHalt}
 use Rattle.at_nest.specs.Tree.{Tree}
 use Rattle.at_nest.specs.Borders.{are_apart}
@@ -64,6 +64,7 @@ module _ {X : Type 0} (IsKept : X → Content → Type 0) where
   piece_within base w y z b (Value i x) (mark (colon j)) e h = absurd h
   piece_within base w y z b (Value i x) (mark (quoted j cs)) e h = absurd h
   piece_within base w y z b (Row r) p e h = absurd h
+  piece_within base w y z b (ClosersPiece r) p e h = absurd h
 
   are_within : (base : ℕ) (w y z : List ℕ) (b : ℕ) (c : CodePiece X) (ps : List (Piece Tree)) → base ≡ b + length y → ArePieces IsKept base w c ps → ArePieces IsKept b (y ++ (w ++ z)) c ps
   are_within base w y z b c ps e (inl (p, s, h)) = inl (p, s, piece_within base w y z b c p e h)

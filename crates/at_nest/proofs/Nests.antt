@@ -1,18 +1,18 @@
 -- The last of what is open, and arrays with nothing in them that are it.
-use Rattle.std.proofs.Common.{◌≡◌, ℕ, ◌-◌, ◌≤◌, zero, suc, Option, Some, None, List, [], ◌∷◌, ◌++◌, option_to_list, refl, sym, ◌∙◌, ap, subst, append-nil, append_assoc, arith, length, take, Ok, Err}
+use Rattle.std.proofs.Common.{◌≡◌, ℕ, ◌-◌, zero, suc, Option, Some, None, List, [], ◌∷◌, ◌++◌, option_to_list, refl, sym, ◌∙◌, ap, subst, append-nil, append_assoc, arith, length, take, Ok, Err}
 use Rattle.std.proofs.lemmas.Option.{none-some, same_Some}
 use Rattle.std.specs.List.{slice_get, slice_set}
 use Rattle.at_nest.specs.declared.finishing.Next.{Next}
 use Rattle.at_nest.specs.declared.finishing.Next.TheVariants as next
 use Rattle.at_nest.specs.declared.levels.Nest.{Nest}
 use Rattle.at_nest.specs.declared.levels.Open.{Open}
-use Rattle.at_nest.specs.declared.levels.Open.TheVariants.{One, Nested}
+use Rattle.at_nest.specs.declared.levels.Open.TheVariants.{Nested}
 use Rattle.at_nest.specs.declared.levels.ArrayState.TheVariants as array
 use Rattle.at_nest.specs.Tree.{Tree}
 use Rattle.at_nest.specs.Levels.{Level}
-use Rattle.at_nest.specs.Shown.{Held, array_level, held_of, helds_of, open_levels, nested}
+use Rattle.at_nest.specs.Shown.{Held, array_level, helds_of, open_levels, nested}
 use Rattle.at_nest.specs.Holding.{Content, EachHeld, CopiesLevels}
-use Rattle.at_nest.specs.Nests.{nest_in, PutsLast}
+use Rattle.at_nest.specs.Nests.{PutsLast}
 use Rattle.at_nest.specs.Nexts.{levels_next, level_after, IsNoValue}
 use Rattle.at_nest.specs.Refusals.{last_of}
 use Rattle.at_nest.proofs.Showing.{open_last}
@@ -52,7 +52,7 @@ puts_last (k ∷ (m ∷ os)) o x e = let (hs, f, g) = puts_last (m ∷ os) o x e
       ap (λ n. open_levels (slice_set (k ∷ (m ∷ os)) n o)) i ∙ (ap (λ z. z ++ helds_of k) g ∙ append_assoc (helds_of o) hs (helds_of k)),
     )
 
-all_but_last : {A : Type 0} (xs : List A) (x : A) → last_of xs ≡ Some x → xs ≡ take (length xs - 1) xs ++ x ∷ []
+pub all_but_last : {A : Type 0} (xs : List A) (x : A) → last_of xs ≡ Some x → xs ≡ take (length xs - 1) xs ++ x ∷ []
 all_but_last [] x e = absurd (none-some x e)
 all_but_last (y ∷ []) x e = ap (λ z. z ∷ []) (same_Some y x e)
 all_but_last (y ∷ (z ∷ xs)) x e = let i : length (y ∷ (z ∷ xs)) - 1 ≡ suc (length (z ∷ xs) - 1) = omega arith in

@@ -1,5 +1,5 @@
 -- What is kept of a text's items tells what may stand behind them, as the grammar's states do, and so what is answered.
-use Rattle.std.proofs.Common.{◌≡◌, ℕ, ◌⊎◌, inl, inr, List, [], ◌∷◌, ◌++◌, Option, Some, None, Bool, true, false, cond, if◌then◌else◌, Result, Ok, Err, refl, sym, ◌∙◌, ap, subst, append_assoc, append-nil}
+use Rattle.std.proofs.Common.{◌≡◌, ℕ, ◌+◌, zero, suc, ◌⊎◌, inl, inr, List, [], ◌∷◌, ◌++◌, Option, Some, None, Bool, true, false, cond, if◌then◌else◌, Result, Ok, Err, refl, sym, ◌∙◌, ap, subst, append_assoc, append-nil}
 use Rattle.std.specs.Bool.{⊤}
 use Rattle.at_lex.specs.declared.tokens.Bracket.{Bracket}
 use Rattle.at_lex.specs.declared.tokens.Bracket.TheVariants.{Brace, Square}
@@ -11,7 +11,7 @@ use Rattle.at_nest.specs.declared.levels.ArrayState.TheVariants as array
 use Rattle.at_nest.specs.declared.levels.ObjectState.TheVariants as object
 use Rattle.at_nest.specs.declared.levels.Open.{Open}
 use Rattle.at_nest.specs.declared.pieces.Piece.{Piece as CodePiece}
-use Rattle.at_nest.specs.declared.pieces.Piece.TheVariants.{Closes, Comma, Colon, Text, Value, Row as RowPiece}
+use Rattle.at_nest.specs.declared.pieces.Piece.TheVariants.{Closes, Comma, Colon, Text, Value, Row as RowPiece, Closers as ClosersPiece}
 use Rattle.at_nest.specs.declared.pieces.Halt.{Halt as CodeHalt}
 use Rattle.at_nest.specs.declared.pieces.Within.{Within as CodeWithin}
 use Rattle.at_nest.specs.declared.pieces.Within.TheVariants as within
@@ -23,7 +23,7 @@ use Rattle.at_nest.specs.Levels.{full, first_mode, moves, Level, Form, marks, op
 use Rattle.at_nest.specs.Stops.{AreLevels}
 use Rattle.at_nest.specs.Answers.{Answer, folded, syntax, ended, single, folded_or, by_walk, choose, halt_place, stop_by, finished}
 use Rattle.at_nest.specs.Shown.{Held, array_level, object_level, helds_of, Shown, open_levels, from_of, first_of_piece, is_value_piece, takes_name, takes_value}
-use Rattle.at_nest.specs.Holding.{Content, one, free, row_marks, IsHeld, EachHeld, IsHeldPiece, AreRow, ArePieces, EachPiece, IsShown, halt_of, within_of}
+use Rattle.at_nest.specs.Holding.{Content, one, free, row_marks, closers, IsHeld, EachHeld, IsHeldPiece, AreRow, ArePieces, EachPiece, IsShown, halt_of, within_of}
 use Rattle.at_nest.specs.Nexts.{takes, level_next, level_after, IsNoValue, levels_next, outer_next, next_of, value_of, only_of, answer_by, answer_of, stop_of, open_of}
 use Rattle.at_nest.proofs.Walks.{cases}
 use Rattle.at_nest.proofs.Pushes.{moves_walk}
@@ -235,6 +235,7 @@ module _ {X : Type 0} (K : X → Content → Type 0) where
   stands at w (RowPiece r) (opens d j) h = absurd h
   stands at w (RowPiece r) (closes d j) h = absurd h
   stands at w (RowPiece r) (mark m) h = absurd h
+  stands at w (ClosersPiece r) p h = absurd h
 
   not_opens : (c : CodePiece X) (p : Piece Tree) → Stands c p → NotOpens p
   not_opens c p (as_value x t a b d k e f n) = n
@@ -251,8 +252,13 @@ module _ {X : Type 0} (K : X → Content → Type 0) where
   marks_closed [] = tt
   marks_closed (x ∷ xs) = marks_closed xs
 
+  closers_closed : (b : Bracket) (i n : ℕ) → AreClosed (closers b i n)
+  closers_closed b i zero = tt
+  closers_closed b i (suc n) = closers_closed b (i + 1) n
+
   row_closed : (c : CodePiece X) (ps : List (Piece Tree)) → AreRow K c ps → AreClosed ps
   row_closed (RowPiece r) ps h = subst AreClosed (sym h.split) (marks_closed (row_marks ((r.comma, r.first, h.tree) ∷ h.others)))
+  row_closed (ClosersPiece r) ps h = subst AreClosed (sym h.2) (closers_closed r.bracket r.from (suc h.0))
   row_closed (Closes b i) ps h = absurd h
   row_closed (Comma i) ps h = absurd h
   row_closed (Colon i) ps h = absurd h
@@ -271,13 +277,15 @@ module _ {X : Type 0} (K : X → Content → Type 0) where
   first_of c p (as_value x t a b d k e f n) = f
   first_of c p (as_other a e f n) = f
 
-  -- the first of the items for which something stands: one alone, or a comma with more behind it
+  -- the first of the items for which something stands: one alone, a comma with more behind it, or a closing bracket
   data Begins (c : CodePiece X) (ps : List (Piece Tree)) : Type 0 where
     alone : (p : Piece Tree) → ps ≡ p ∷ [] → Stands c p → Begins c ps
     in_row : (q : Piece Tree) (qs : List (Piece Tree)) → ps ≡ mark (a_comma (first_of_piece c)) ∷ (q ∷ qs) → is_value_piece c ≡ false → Begins c ps
+    in_closers : (b : Bracket) (qs : List (Piece Tree)) → ps ≡ closes b (first_of_piece c) ∷ qs → is_value_piece c ≡ false → Begins c ps
 
   row_begins : (c : CodePiece X) (ps : List (Piece Tree)) → AreRow K c ps → Begins c ps
   row_begins (RowPiece r) ps h = in_row (mark (entry r.first h.tree)) (marks (row_marks h.others)) h.split refl
+  row_begins (ClosersPiece r) ps h = in_closers r.bracket (closers r.bracket (r.from + 1) h.0) h.2 refl
   row_begins (Closes b i) ps h = absurd h
   row_begins (Comma i) ps h = absurd h
   row_begins (Colon i) ps h = absurd h
@@ -291,10 +299,15 @@ module _ {X : Type 0} (K : X → Content → Type 0) where
   first_begins : (c : CodePiece X) (ps vs : List (Piece Tree)) → Begins c ps → (q : Piece Tree) × (qs : List (Piece Tree)) × (ps ++ vs ≡ q ∷ qs) × (first_of_piece c ≡ at_of q)
   first_begins c ps vs (alone p e h) = (p, vs, ap (λ z. z ++ vs) e, first_of c p h)
   first_begins c ps vs (in_row q qs e n) = (mark (a_comma (first_of_piece c)), q ∷ (qs ++ vs), ap (λ z. z ++ vs) e, refl)
+  first_begins c ps vs (in_closers b qs e n) = (closes b (first_of_piece c), qs ++ vs, ap (λ z. z ++ vs) e, refl)
 
   row_next : (c : CodePiece X) (cs : List (CodePiece X)) (ps : List (Piece Tree)) → is_value_piece c ≡ false → IsNext (outer_next (c ∷ cs)) (walks (value []) (mark (a_comma (first_of_piece c)) ∷ ps))
   row_next c [] ps n = next_by _ (Err (first_of_piece c)) _ (refused (first_of_piece c)) (ap (λ z. if z then Ok next.Nothing else Err (first_of_piece c)) n) refl refl
   row_next c (d ∷ cs) ps n = next_by _ (Err (first_of_piece c)) _ (refused (first_of_piece c)) (ap (λ z. if z then Err (first_of_piece d) else Err (first_of_piece c)) n) refl refl
+
+  closers_next : (c : CodePiece X) (cs : List (CodePiece X)) (b : Bracket) (ps : List (Piece Tree)) → is_value_piece c ≡ false → IsNext (outer_next (c ∷ cs)) (walks (value []) (closes b (first_of_piece c) ∷ ps))
+  closers_next c [] b ps n = next_by _ (Err (first_of_piece c)) _ (refused (first_of_piece c)) (ap (λ z. if z then Ok next.Nothing else Err (first_of_piece c)) n) refl refl
+  closers_next c (d ∷ cs) b ps n = next_by _ (Err (first_of_piece c)) _ (refused (first_of_piece c)) (ap (λ z. if z then Err (first_of_piece d) else Err (first_of_piece c)) n) refl refl
 
   one_next : (c : CodePiece X) (p : Piece Tree) → Stands c p → IsNext (outer_next (c ∷ [])) (walks (value []) (p ∷ []))
   one_next c p (as_value x t a b d k e f n) = next_by _ (Ok next.Nothing) _ (reached (after [])) (ap (λ z. if z then Ok next.Nothing else Err (first_of_piece c)) a) (ap (λ o. walk_on o (at_of p) (λ s. walks {X = Tree} s [])) e) refl
@@ -311,11 +324,13 @@ module _ {X : Type 0} (K : X → Content → Type 0) where
       by_first : Begins c us → IsNext (outer_next (c ∷ [])) (walks (value []) us)
       by_first (alone p f k) = subst (λ z. IsNext (outer_next (c ∷ [])) (walks (value []) z)) (sym f) (one_next c p k)
       by_first (in_row q qs f k) = subst (λ z. IsNext (outer_next (c ∷ [])) (walks (value []) z)) (sym f) (row_next c [] (q ∷ qs) k)
+      by_first (in_closers b qs f k) = subst (λ z. IsNext (outer_next (c ∷ [])) (walks (value []) z)) (sym f) (closers_next c [] b qs k)
   outer_walk at w (c ∷ (d ∷ cs)) ps (us, vs, e, h, (xs, ys, g, k, ks)) = subst (λ z. IsNext (outer_next (c ∷ (d ∷ cs))) (walks (value []) z)) (sym (e ∙ ap (λ z. us ++ z) g)) (by_first (begins at w c us h) (first_begins d xs ys (begins at w d xs k)))
     where
       by_first : Begins c us → (q : Piece Tree) × (qs : List (Piece Tree)) × (xs ++ ys ≡ q ∷ qs) × (first_of_piece d ≡ at_of q) → IsNext (outer_next (c ∷ (d ∷ cs))) (walks (value []) (us ++ (xs ++ ys)))
       by_first (alone p f l) (q, qs, r, m) = subst (λ z. IsNext (outer_next (c ∷ (d ∷ cs))) (walks (value []) z)) (sym (ap (λ z. z ++ (xs ++ ys)) f ∙ ap (λ z. p ∷ z) r)) (two_next c d cs p q qs l m)
       by_first (in_row q qs f l) o = subst (λ z. IsNext (outer_next (c ∷ (d ∷ cs))) (walks (value []) z)) (sym (ap (λ z. z ++ (xs ++ ys)) f)) (row_next c (d ∷ cs) (q ∷ (qs ++ (xs ++ ys))) l)
+      by_first (in_closers b qs f l) o = subst (λ z. IsNext (outer_next (c ∷ (d ∷ cs))) (walks (value []) z)) (sym (ap (λ z. z ++ (xs ++ ys)) f)) (closers_next c (d ∷ cs) b (qs ++ (xs ++ ys)) l)
 
   level_walk : (h : Held X) (l : Level Tree) (st : List Frame) → IsHeld K h l → level_next h ≡ next_in (full l.mode st)
   level_walk (array_level i array.Empty xs) l st k = ap (λ md. next_in (full md st)) (sym k.2)
@@ -399,6 +414,10 @@ module _ {X : Type 0} (K : X → Content → Type 0) where
   row_tells c [] ps n = subst (λ r. Tells K (answer_by r (c ∷ [])) (syntax (first_of_piece c))) (sym (ap (λ z. if z then Ok next.Nothing else Err (first_of_piece c)) n)) refl
   row_tells c (d ∷ cs) ps n = subst (λ r. Tells K (answer_by r (c ∷ (d ∷ cs))) (syntax (first_of_piece c))) (sym (ap (λ z. if z then Err (first_of_piece d) else Err (first_of_piece c)) n)) refl
 
+  closers_tells : (c : CodePiece X) (cs : List (CodePiece X)) (b : Bracket) (ps : List (Piece Tree)) → is_value_piece c ≡ false → Tells K (answer_by (outer_next (c ∷ cs)) (c ∷ cs)) (by_walk free (closes b (first_of_piece c) ∷ ps) (walks (value []) (closes b (first_of_piece c) ∷ ps)))
+  closers_tells c [] b ps n = subst (λ r. Tells K (answer_by r (c ∷ [])) (syntax (first_of_piece c))) (sym (ap (λ z. if z then Ok next.Nothing else Err (first_of_piece c)) n)) refl
+  closers_tells c (d ∷ cs) b ps n = subst (λ r. Tells K (answer_by r (c ∷ (d ∷ cs))) (syntax (first_of_piece c))) (sym (ap (λ z. if z then Err (first_of_piece d) else Err (first_of_piece c)) n)) refl
+
   outer_tells : (at : ℕ) (w : List ℕ) (cs : List (CodePiece X)) (ps : List (Piece Tree)) → EachPiece K at w cs ps → Tells K (answer_by (outer_next cs) cs) (by_walk free ps (walks (value []) ps))
   outer_tells at w [] ps h = subst (λ z. Tells K (answer_by (outer_next {X = X} []) []) (by_walk free z (walks (value []) z))) (sym h) tt
   outer_tells at w (c ∷ []) ps (us, vs, e, h, n) = subst (λ z. Tells K (answer_by (outer_next (c ∷ [])) (c ∷ [])) (by_walk free z (walks (value []) z))) (sym (e ∙ (ap (λ z. us ++ z) n ∙ append-nil us))) (by_first (begins at w c us h))
@@ -406,11 +425,13 @@ module _ {X : Type 0} (K : X → Content → Type 0) where
       by_first : Begins c us → Tells K (answer_by (outer_next (c ∷ [])) (c ∷ [])) (by_walk free us (walks (value []) us))
       by_first (alone p f k) = subst (λ z. Tells K (answer_by (outer_next (c ∷ [])) (c ∷ [])) (by_walk free z (walks (value []) z))) (sym f) (one_tells c p k)
       by_first (in_row q qs f k) = subst (λ z. Tells K (answer_by (outer_next (c ∷ [])) (c ∷ [])) (by_walk free z (walks (value []) z))) (sym f) (row_tells c [] (q ∷ qs) k)
+      by_first (in_closers b qs f k) = subst (λ z. Tells K (answer_by (outer_next (c ∷ [])) (c ∷ [])) (by_walk free z (walks (value []) z))) (sym f) (closers_tells c [] b qs k)
   outer_tells at w (c ∷ (d ∷ cs)) ps (us, vs, e, h, (xs, ys, g, k, ks)) = subst (λ z. Tells K (answer_by (outer_next (c ∷ (d ∷ cs))) (c ∷ (d ∷ cs))) (by_walk free z (walks (value []) z))) (sym (e ∙ ap (λ z. us ++ z) g)) (by_first (begins at w c us h) (first_begins d xs ys (begins at w d xs k)))
     where
       by_first : Begins c us → (q : Piece Tree) × (qs : List (Piece Tree)) × (xs ++ ys ≡ q ∷ qs) × (first_of_piece d ≡ at_of q) → Tells K (answer_by (outer_next (c ∷ (d ∷ cs))) (c ∷ (d ∷ cs))) (by_walk free (us ++ (xs ++ ys)) (walks (value []) (us ++ (xs ++ ys))))
       by_first (alone p f l) (q, qs, r, m) = subst (λ z. Tells K (answer_by (outer_next (c ∷ (d ∷ cs))) (c ∷ (d ∷ cs))) (by_walk free z (walks (value []) z))) (sym (ap (λ z. z ++ (xs ++ ys)) f ∙ ap (λ z. p ∷ z) r)) (two_tells c d cs p q qs l m)
       by_first (in_row q qs f l) o = subst (λ z. Tells K (answer_by (outer_next (c ∷ (d ∷ cs))) (c ∷ (d ∷ cs))) (by_walk free z (walks (value []) z))) (sym (ap (λ z. z ++ (xs ++ ys)) f)) (row_tells c (d ∷ cs) (q ∷ (qs ++ (xs ++ ys))) l)
+      by_first (in_closers b qs f l) o = subst (λ z. Tells K (answer_by (outer_next (c ∷ (d ∷ cs))) (c ∷ (d ∷ cs))) (by_walk free z (walks (value []) z))) (sym (ap (λ z. z ++ (xs ++ ys)) f)) (closers_tells c (d ∷ cs) b (qs ++ (xs ++ ys)) l)
 
   shown_tells : (at : ℕ) (w : List ℕ) (cs : List (CodePiece X)) (ps : List (Piece Tree)) (hs : List (Held X)) (ls : List (Level Tree)) → EachPiece K at w cs ps → EachHeld K hs ls → AreLevels ls
       → Tells K (answer_by (levels_next (outer_next cs) hs) cs) (by_walk free (ps ++ opened ls) (walks (value []) (ps ++ opened ls)))

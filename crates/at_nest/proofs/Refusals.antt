@@ -1,13 +1,11 @@
 -- A token that is refused stands where no bytes before the span make its first byte viable.
-use Rattle.std.proofs.Common.{◌≡◌, ℕ, ◌⊎◌, inl, inr, List, [], ◌∷◌, ◌++◌, Option, Some, None, option_and_then, Bool, true, false, cond, not, ◌&&◌, refl, sym, ◌∙◌, ap, subst, arith, append_assoc, append-nil, ◌+◌, ◌-◌, suc, length, length-append, true≢false}
+use Rattle.std.proofs.Common.{◌≡◌, ℕ, ◌⊎◌, inl, inr, List, [], ◌∷◌, ◌++◌, Option, Some, None, option_and_then, Bool, true, false, cond, not, ◌&&◌, refl, sym, ◌∙◌, ap, subst, arith, append_assoc, append-nil, ◌+◌, length, length-append, true≢false}
 use Rattle.std.proofs.lemmas.Option.{none-some, same_Some, option_and_then_some}
 use Rattle.std.proofs.lemmas.Bool.{not-true}
 use Rattle.std.specs.Bool.{⊤}
-use Rattle.at_text.specs.Prefix.{Viable}
 use Rattle.at_text.specs.Texts.{is_run}
 use Rattle.at_lex.proofs.JsonString as str
-use Rattle.at_lex.specs.Runs.{JsonRun}
-use Rattle.at_lex.specs.Spans.{AreSpaces, begins_run, end_of, IsKind}
+use Rattle.at_lex.specs.Spans.{end_of, IsKind}
 use Rattle.at_lex.specs.Stream.{Left, GivesItem}
 use Rattle.at_lex.specs.declared.tokens.Start.{Start}
 use Rattle.at_lex.specs.declared.tokens.Start.TheVariants.{Out, InString, InEscape}
@@ -21,22 +19,21 @@ use Rattle.at_nest.specs.declared.bodies.Body.{Body}
 use Rattle.at_nest.specs.declared.levels.ArrayState.TheVariants as array
 use Rattle.at_nest.specs.declared.levels.ObjectState.TheVariants as object
 use Rattle.at_nest.specs.declared.pieces.Piece.{Piece as CodePiece}
-use Rattle.at_nest.specs.declared.pieces.Piece.TheVariants.{Closes, Comma, Colon, Text, Value, Row as RowPiece}
+use Rattle.at_nest.specs.declared.pieces.Piece.TheVariants.{Closes, Comma, Colon, Text, Value, Row as RowPiece, Closers as ClosersPiece}
 use Rattle.at_nest.specs.declared.variants.Variant.TheVariants.{Broken}
-use Rattle.at_nest.specs.Syntax.{JsonText}
 use Rattle.at_nest.specs.Tree.{Tree}
-use Rattle.at_nest.specs.Borders.{ends_run, are_apart}
-use Rattle.at_nest.specs.Forms.{Meaning, Mark, Piece, comma, colon, quoted, entry, opens, closes, mark, IsPiece, Formed}
-use Rattle.at_nest.specs.Walks.{Kind, an_opener, a_closer, comma_kind, colon_kind, text_kind, value_kind, kind_of, at_of, next, walk_on, walks, reached, refused}
-use Rattle.at_nest.specs.Levels.{Mode, at_items, at_value, at_after, at_members, at_name, at_colon, at_member, at_further, Level, Form, full, first_mode, moves, marks, opened, pieces_of, plain_halt}
+use Rattle.at_nest.specs.Borders.{are_apart}
+use Rattle.at_nest.specs.Forms.{Meaning, Piece, comma, colon, quoted, entry, opens, closes, mark, IsPiece, Formed}
+use Rattle.at_nest.specs.Walks.{Kind, an_opener, a_closer, comma_kind, colon_kind, text_kind, value_kind, kind_of, at_of, next, walk_on, reached}
+use Rattle.at_nest.specs.Levels.{Level, Form, full, marks, opened, pieces_of, plain_halt}
 use Rattle.at_nest.specs.Stops.{IsDeadHere, AreLevels, IsStop}
 use Rattle.at_nest.specs.Shown.{Held, array_level, object_level, Shown, shown, stop_at, takes_value}
-use Rattle.at_nest.specs.Holding.{Content, free, row_marks, array_mode, object_mode, IsHeld, EachHeld, IsHeldPiece, IsRow, ArePieces, EachPiece, IsShown, halt_of}
-use Rattle.at_nest.specs.Refusals.{not_behind_value, not_behind_text, not_behind_mark, not_behind_piece, not_behind_last, last_of, not_in_level, not_in, is_refused}
+use Rattle.at_nest.specs.Holding.{Content, free, closers, row_marks, IsHeld, EachHeld, IsHeldPiece, ArePieces, EachPiece, IsShown, halt_of}
+use Rattle.at_nest.specs.Refusals.{not_behind_value, not_behind_text, not_behind_mark, not_behind_piece, not_behind_last, last_of, not_in, is_refused}
 use Rattle.at_nest.specs.Stands.{HoldsBehind}
 use Rattle.at_nest.proofs.JsonNumber as num
 use Rattle.at_nest.proofs.JsonMachine.{State, Frame, in_array, in_object, value, items, members, name, colon as colon_state, after, in_number, in_string, in_name, in_word, step, after_step}
-use Rattle.at_nest.proofs.Steps.{Settled, IsStill, is_clear, run_ended, settled_still, settled_step, and_false}
+use Rattle.at_nest.proofs.Steps.{Settled, is_clear, run_ended, settled_step, and_false}
 use Rattle.at_nest.proofs.Values.{go}
 use Rattle.at_nest.proofs.PieceSteps.{Halts, piece_first, piece_at, piece_halts, next_still}
 use Rattle.at_nest.proofs.Walks.{Reads, Halted, walk_reads, walk_halts, cases, spaces_apart}
@@ -49,6 +46,7 @@ use Rattle.at_nest.proofs.Merges.{stop_right}
 use Rattle.at_nest.proofs.TokenStops.{apart_of_run}
 use Rattle.at_nest.proofs.TokenReads.{run_tree}
 use Rattle.at_nest.proofs.Items.{Consumed}
+use Rattle.at_nest.proofs.Closers.{closers_more}
 
 -- ---- what the grammar's states are behind a piece
 
@@ -329,6 +327,7 @@ broken_none [] (Some (Colon i)) outer n e h = true≢false (sym h ∙ ap (λ z. 
 broken_none [] (Some (Text span x)) outer n e h = true≢false (sym h ∙ ap (λ z. not_behind_last z (token.Broken n)) e)
 broken_none [] (Some (Value i x)) outer n e h = true≢false (sym h ∙ ap (λ z. not_behind_last z (token.Broken n)) e)
 broken_none [] (Some (RowPiece r)) outer n e h = true≢false (sym h ∙ ap (λ z. not_behind_last z (token.Broken n)) e)
+broken_none [] (Some (ClosersPiece r)) outer n e h = true≢false (sym h ∙ ap (λ z. not_behind_last z (token.Broken n)) e)
 broken_none (k ∷ hs) o outer n e h = off h
 
 record PieceOf (at : ℕ) (v : List ℕ) (k : TokenKind) : Type 0 where
@@ -386,10 +385,12 @@ module _ {X : Type 0} (IsKept : X → Content → Type 0) where
   piece_refuses base w (Value i x) (opens d j) k u h = absurd u
   piece_refuses base w (Value i x) (closes d j) k u h = absurd u
   piece_refuses base w (RowPiece r) p k u h = absurd u
+  piece_refuses base w (ClosersPiece r) p k u h = absurd u
 
   last_is : (base : ℕ) (w : List ℕ) (c : CodePiece X) (us : List (Piece Tree)) (k : TokenKind) → ArePieces IsKept base w c us → not_behind_piece c k ≡ true → LastPiece us k
   last_is base w c us k (inl (p, e, u)) h = record { front = []; last = p; split = e; refuses = piece_refuses base w c p k u h }
   last_is base w (RowPiece r) us k (inr u) h = let (front, j, t, q) = row_last u.others (r.comma, r.first, u.tree) in record { front = front; last = mark (entry j t); split = u.split ∙ q; refuses = behind_value k h }
+  last_is base w (ClosersPiece r) us k (inr u) h = record { front = closers r.bracket r.from u.0; last = closes r.bracket (r.from + u.0); split = u.2 ∙ sym (closers_more r.bracket r.from u.0); refuses = behind_closer r.bracket k h }
   last_is base w (Closes b i) us k (inr u) h = absurd u
   last_is base w (Comma i) us k (inr u) h = absurd u
   last_is base w (Colon i) us k (inr u) h = absurd u

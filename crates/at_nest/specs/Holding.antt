@@ -1,9 +1,10 @@
 -- What the code keeps of a span's items, and the items that it stands for. The fold is that of the trees themselves, and each atom stands
 -- for its tree.
-use Rattle.std.specs.Prelude.{◌≡◌, ℕ, ◌+◌, ◌⊎◌, Option, Some, None, List, [], ◌∷◌, ◌++◌, length}
+use Rattle.std.specs.Prelude.{◌≡◌, ℕ, ◌+◌, zero, suc, ◌⊎◌, Option, Some, None, List, [], ◌∷◌, ◌++◌, length}
 use Rattle.std.specs.Bool.{⊤}
 use Rattle.at_text.specs.declared.texts.Span.{Span}
 use Rattle.at_lex.specs.Strings.{Character, AreCharacters, string_text, units_of}
+use Rattle.at_lex.specs.declared.tokens.Bracket.{Bracket}
 use Rattle.at_lex.specs.declared.tokens.Bracket.TheVariants.{Brace, Square}
 use Rattle.at_nest.specs.declared.algebra.Member.{Member}
 use Rattle.at_nest.specs.declared.levels.ArrayState.{ArrayState}
@@ -12,8 +13,9 @@ use Rattle.at_nest.specs.declared.levels.ObjectState.{ObjectState}
 use Rattle.at_nest.specs.declared.levels.ObjectState.TheVariants as object
 use Rattle.at_nest.specs.declared.levels.Step.{Step}
 use Rattle.at_nest.specs.declared.pieces.Piece.{Piece as CodePiece}
-use Rattle.at_nest.specs.declared.pieces.Piece.TheVariants.{Closes, Comma, Colon, Text, Value, Row as RowPiece}
+use Rattle.at_nest.specs.declared.pieces.Piece.TheVariants.{Closes, Comma, Colon, Text, Value, Row as RowPiece, Closers as ClosersPiece}
 use Rattle.at_nest.specs.declared.pieces.Row.{Row}
+use Rattle.at_nest.specs.declared.pieces.Closers.{Closers}
 use Rattle.at_nest.specs.declared.pieces.Halt.{Halt as CodeHalt}
 use Rattle.at_nest.specs.declared.pieces.Within.{Within as CodeWithin}
 use Rattle.at_nest.specs.declared.pieces.Within.TheVariants.{First as FirstByte, Run as RunByte, Text as TextByte}
@@ -71,6 +73,15 @@ row_marks (e ∷ es) = comma e.0 ∷ entry e.1 e.2 ∷ row_marks es
 abbrev pub row_trees : List (ℕ × ℕ × Tree) → List Tree
 row_trees [] = []
 row_trees (e ∷ es) = e.2 ∷ row_trees es
+
+-- so many closing brackets, one right behind another, the first at the offset
+abbrev pub closers : Bracket → ℕ → ℕ → List (Piece Tree)
+closers b i zero = []
+closers b i (suc n) = closes b i ∷ closers b (i + 1) n
+
+-- at least one
+abbrev pub AreClosers : Closers → List (Piece Tree) → Type 0
+AreClosers r ps = (n : ℕ) × (r.to ≡ r.from + suc n) × (ps ≡ closers r.bracket r.from (suc n))
 
 -- in the bytes w, which stand at `at`, the string stands where the span says
 abbrev pub IsTextAt : ℕ → List ℕ → Span → List Character → Type 0
@@ -142,9 +153,10 @@ module _ {X : Type 0} (IsKept : X → Content → Type 0) where
 
   abbrev pub AreRow : CodePiece X → List (Piece Tree) → Type 0
   AreRow (RowPiece r) ps = IsRow r ps
+  AreRow (ClosersPiece r) ps = AreClosers r ps
   AreRow _ ps = ⊥
 
-  -- what is kept of one item, or of a row
+  -- what is kept of one item, or of a row of values or of closing brackets
   abbrev pub ArePieces : ℕ → List ℕ → CodePiece X → List (Piece Tree) → Type 0
   ArePieces at w c ps = ((p : Piece Tree) × (ps ≡ p ∷ []) × IsHeldPiece at w c p) ⊎ AreRow c ps
 
@@ -192,6 +204,10 @@ module _ {X : Type 0} (IsKept : X → Content → Type 0) where
   -- what is kept behind a row of values
   abbrev pub PushesRow : Shown X → Shown X → Option CodeHalt → Row X → Type 0
   PushesRow old new r row = (base : ℕ) (w : List ℕ) (f : Form Tree) (ps : List (Piece Tree)) → IsShown base w old f → IsRow row ps → IsPushedAs base w new r (push_all free ps f)
+
+  -- what is kept behind closing brackets
+  abbrev pub PushesClosers : Shown X → Shown X → Option CodeHalt → Closers → Type 0
+  PushesClosers old new r c = (base : ℕ) (w : List ℕ) (f : Form Tree) (ps : List (Piece Tree)) → IsShown base w old f → AreClosers c ps → IsPushedAs base w new r (push_all free ps f)
 
   -- atoms were put behind the others, one by one
   abbrev pub GainsAll : List X → List X → List X → Type 0

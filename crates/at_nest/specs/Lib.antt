@@ -8,6 +8,7 @@ pub mod Holding
 pub mod Reading
 pub mod Refusals
 pub mod Nests
+pub mod Closers
 pub mod Stands
 pub mod Standing
 pub mod Slots

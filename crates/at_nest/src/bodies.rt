@@ -1,23 +1,26 @@
 //! The whole items of a span behind its lead: those before its first open level, and the open levels.
 
-ghost use Rattle.std.specs.Prelude.{◌≡◌, ℕ, ◌+◌, ◌-◌, ◌<◌, ◌≤◌, ◌^◌, suc, List, [], ◌∷◌, length, Option, Some, None, All, IfOk, IfSome, MatchOption};
+ghost use Rattle.std.specs.Prelude.{◌≡◌, ℕ, ◌+◌, ◌-◌, ◌<◌, ◌≤◌, ◌^◌, suc, List, [], ◌∷◌, length, Option, Some, None, All, IfOk, IfSome, MatchOption, slice_set};
 ghost use Rattle.at_lex.specs.declared.tokens.Bracket.TheVariants.{Square};
 ghost use Rattle.at_lex.specs.Strings.{JsonString, Character, AreCharacters, string_text};
 ghost use Rattle.at_nest.specs.Forms.{closes as closing_piece};
 ghost use Rattle.at_nest.specs.Shown.{Held, array_level, held_of, AreOwn, shown, opened_as, show_as, kept_outside, put_back, comma_added, colon_added, IsStep};
 ghost use Rattle.at_nest.specs.Refusals.{is_refused, last_of};
+ghost use Rattle.at_nest.specs.Closers.{IsLonger};
+ghost use Rattle.at_nest.specs.declared.pieces.Piece.{Piece};
+ghost use Rattle.at_nest.specs.declared.pieces.Piece.TheVariants.{Closers as ClosersPiece};
 ghost use Rattle.at_nest.specs.Nests.{nest_in, PutsLast};
 ghost use Rattle.at_nest.specs.declared.levels.ArrayState.TheVariants.{Empty};
 ghost use Rattle.at_nest.specs.declared.levels.Nest.{Nest};
 ghost use Rattle.at_nest.specs.declared.levels.Open.TheVariants.{Nested};
-ghost use Rattle.at_nest.specs.Holding.{Kept, IsOfItems, Pushes, PushesText, PushesValue, PushesBehind, PushesRow, Lengthens, PutsRow, CanAdd, Adds, CanJoin, Joins};
+ghost use Rattle.at_nest.specs.Holding.{Kept, IsOfItems, Pushes, PushesClosers, PushesText, PushesValue, PushesBehind, PushesRow, Lengthens, PutsRow, CanAdd, Adds, CanJoin, Joins};
 
 use crate::algebra::Algebra;
 use crate::levels::{
     ArrayLevel, ArrayState, Level, MemberName, Nest, Open, Step, array, closed, with_items,
     with_value,
 };
-use crate::pieces::{Halt, Piece, Row, first_byte};
+use crate::pieces::{Closers, Halt, Piece, Row, first_byte};
 use at_lex::{Bracket, TokenKind, units};
 use at_text::{Memory, Span};
 use std::alloc::Global;
@@ -206,6 +209,25 @@ impl<T: Drop> Body<T> {
     {
         self.outer.push(piece)?;
         Ok(None)
+    }
+
+    /// The last items with the closing bracket at the offset, where they are closing brackets right before it.
+    fn closers_with(&self, bracket: Bracket, at: u32) -> Option<Closers>
+        ensures { IfSome result (λ r. (c : Piece T) × (last_of self.now.outer.items ≡ Some c) × IsLonger c bracket at r) }
+    {
+        match self.outer.as_slice().last() {
+            Some(piece) => piece.longer(bracket, at),
+            None => None,
+        }
+    }
+
+    /// Puts the closing brackets in the place of the last item before the first open level.
+    fn put_closers(&mut self, closers: Closers)
+        requires some { 0 < length self.old.outer.items }
+        ensures { shown self.new ≡ show_as (slice_set self.old.outer.items (length self.old.outer.items - 1) (ClosersPiece closers)) (shown self.old).levels }
+    {
+        let place = self.outer.len() - 1;
+        self.outer[place] = Piece::Closers(closers);
     }
 
     #[inline(always)]
@@ -398,6 +420,27 @@ pub fn read_text<A: Algebra>(
     }
 }
 
+/// A closing bracket before the first open level: it lengthens those right before it, or stands alone.
+fn keep_close<A: Algebra>(
+    body: &mut Body<A::Atom>,
+    algebra: &A,
+    bracket: Bracket,
+    at: u32,
+) -> Result<Option<Halt>, Memory>
+    requires outside { (shown body.old).levels ≡ [] }
+    ensures { IfOk result (λ r. Pushes (Kept (A.is_own algebra.now) (A.is_fold algebra.now) (A.is_run algebra.now))
+        (shown body.old) (shown body.new) r (closing_piece bracket at)) }
+{
+    let _ = algebra;
+    match body.closers_with(bracket, at) {
+        Some(closers) => {
+            body.put_closers(closers);
+            Ok(None)
+        }
+        None => body.keep(Piece::Closes(bracket, at)),
+    }
+}
+
 /// A closing bracket: where its level was opened in the span, the level becomes an atom.
 #[inline(always)]
 pub fn close<A: Algebra>(
@@ -412,7 +455,7 @@ pub fn close<A: Algebra>(
         (shown body.old) (shown body.new) r (closing_piece bracket at)) }
 {
     match body.innermost(alloc) {
-        None => body.keep(Piece::Closes(bracket, at)),
+        None => keep_close(body, algebra, bracket, at),
         Some(level) => if level.can_close(bracket) {
             let from = level.first();
             let atom = closed(alloc, algebra, level)?;
@@ -465,6 +508,26 @@ fn add_row<A: Algebra>(
     }
 }
 
+/// Closing brackets of the span behind.
+fn close_all<A: Algebra>(
+    body: &mut Body<A::Atom>,
+    alloc: Global,
+    algebra: &A,
+    closers: Closers,
+) -> Result<Option<Halt>, Memory>
+    requires held { IsOfItems (Kept (A.is_own algebra.now) (A.is_fold algebra.now) (A.is_run algebra.now)) (shown body.old) }
+    ensures { IfOk result (λ r. PushesClosers (Kept (A.is_own algebra.now) (A.is_fold algebra.now) (A.is_run algebra.now))
+        (shown body.old) (shown body.new) r closers) }
+{
+    for at in closers.from..closers.to {
+        let halt = close(body, alloc, algebra, closers.bracket, at)?;
+        if halt.is_some() {
+            return Ok(halt);
+        }
+    }
+    Ok(None)
+}
+
 /// An item of the span behind.
 fn add<A: Algebra>(
     body: &mut Body<A::Atom>,
@@ -485,6 +548,7 @@ fn add<A: Algebra>(
         Piece::Text { span, atom } => add_text(body, alloc, algebra, bytes, span, atom),
         Piece::Value { from, atom } => read_value(body, alloc, algebra, from, atom),
         Piece::Row(row) => add_row(body, alloc, algebra, row),
+        Piece::Closers(closers) => close_all(body, alloc, algebra, closers),
     }
 }
 

@@ -150,6 +150,7 @@ fn copy_piece<A: Algebra>(
             first: row.first,
             items: copy_items(alloc, algebra, &row.items)?,
         })),
+        Piece::Closers(closers) => Ok(Piece::Closers(*closers)),
     }
 }
 

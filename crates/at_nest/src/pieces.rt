@@ -1,7 +1,8 @@
 //! What stands in a span before its first open level, and where a span stops.
 
-ghost use Rattle.std.specs.Prelude.{◌≡◌};
+ghost use Rattle.std.specs.Prelude.{◌≡◌, ◌+◌, true, IfSome};
 ghost use Rattle.at_nest.specs.Shown.{stop_at, first_of_piece, is_value_piece};
+ghost use Rattle.at_nest.specs.Closers.{IsLonger};
 ghost use Rattle.at_nest.specs.Refusals.{not_behind_value as none_behind_value, not_behind_text as none_behind_text, not_behind_mark as none_behind_mark, not_behind_piece};
 
 use at_lex::{Bracket, TokenKind};
@@ -19,6 +20,16 @@ pub struct Row<T> {
     pub items: Vec<T>,
 }
 
+/// Closing brackets of one kind, one right behind another.
+#[derive(Clone, Copy)]
+pub struct Closers {
+    pub bracket: Bracket,
+    /// The offset of the first.
+    pub from: u32,
+    /// The offset behind the last.
+    pub to: u32,
+}
+
 /// An item of a span whose level was opened before the span, or several that stand for items of an array.
 #[derive(Drop)]
 pub enum Piece<T> {
@@ -30,6 +41,7 @@ pub enum Piece<T> {
     /// Any other value, with the offset of its first byte.
     Value { from: u32, atom: T },
     Row(Row<T>),
+    Closers(Closers),
 }
 
 impl<T: Drop> Piece<T> {
@@ -44,6 +56,7 @@ impl<T: Drop> Piece<T> {
             Piece::Text { span, .. } => span.from,
             Piece::Value { from, .. } => *from,
             Piece::Row(row) => row.comma,
+            Piece::Closers(closers) => closers.from,
         }
     }
 
@@ -69,8 +82,58 @@ impl<T: Drop> Piece<T> {
             Piece::Text { .. } => not_behind_text(kind),
             Piece::Value { .. } => not_behind_value(kind),
             Piece::Row(_) => not_behind_value(kind),
+            Piece::Closers(_) => not_behind_value(kind),
         }
     }
+
+    /// It with the closing bracket at the offset, where that stands right behind it and is of its kind.
+    pub fn longer(&self, bracket: Bracket, at: u32) -> Option<Closers>
+        ensures { IfSome result (IsLonger self.now bracket at) }
+    {
+        match self {
+            Piece::Closes(other, from) => two_closers(*other, *from, bracket, at),
+            Piece::Closers(closers) => more_closers(*closers, bracket, at),
+            _ => None,
+        }
+    }
+}
+
+fn is_same(left: Bracket, right: Bracket) -> bool
+    ensures { result ≡ true → left ≡ right }
+{
+    match (left, right) {
+        (Bracket::Square, Bracket::Square) => true,
+        (Bracket::Brace, Bracket::Brace) => true,
+        _ => false,
+    }
+}
+
+/// Two closing brackets, where the second stands right behind the first.
+fn two_closers(first: Bracket, from: u32, bracket: Bracket, at: u32) -> Option<Closers>
+    ensures { IfSome result (λ r. (first ≡ bracket) × (r.bracket ≡ bracket) × (r.from ≡ from) × (at ≡ from + 1) × (r.to ≡ at + 1)) }
+{
+    if from < at && at - from == 1 && at < u32::MAX && is_same(first, bracket) {
+        return Some(Closers {
+            bracket,
+            from,
+            to: at + 1,
+        });
+    }
+    None
+}
+
+/// A closing bracket more, where it stands right behind.
+fn more_closers(closers: Closers, bracket: Bracket, at: u32) -> Option<Closers>
+    ensures { IfSome result (λ r. (closers.bracket ≡ bracket) × (r.bracket ≡ bracket) × (r.from ≡ closers.from) × (at ≡ closers.to) × (r.to ≡ at + 1)) }
+{
+    if closers.to == at && at < u32::MAX && is_same(closers.bracket, bracket) {
+        return Some(Closers {
+            bracket,
+            from: closers.from,
+            to: at + 1,
+        });
+    }
+    None
 }
 
 /// Whether no token of the kind may stand behind a closing bracket, or a value that is no string.

@@ -5,7 +5,7 @@ use Rattle.at_nest.specs.declared.pieces.Piece.{Piece}
 use Rattle.at_nest.specs.declared.pieces.Piece.TheVariants.{Value, Row as RowPiece}
 use Rattle.at_nest.specs.Shown.{shown}
 use Rattle.at_nest.specs.Holding.{Kept, CanAdd}
-use Rattle.at_nest.proofs.Adding.{adds_close, adds_row, adds_comma, adds_colon, adds_value, some_items}
+use Rattle.at_nest.proofs.Adding.{adds_close, adds_row, adds_closers, adds_comma, adds_colon, adds_value, some_items}
 use Rattle.at_nest.proofs.Copies.{can_add_own}
 use Rattle.at_nest.proofs.bodies.add.Goals as goal
 
@@ -44,3 +44,11 @@ add_row-requires-clause-row g c κs within = let own = g.A.Algebra.is_own c.args
 pub returns-in-Row : goal.returns-in-Row
 returns-in-Row g c = let own = g.A.Algebra.is_own c.args.algebra.now in let fold = g.A.Algebra.is_fold c.args.algebra.now in let run = g.A.Algebra.is_run c.args.algebra.now in
     IfOk-weaker c.add_row.result _ _ (λ r d. adds_row (Kept own fold run) c.args.bytes.now (shown c.args.body.now) c.args.piece (shown c.add_row.new.body) r c.in-Row.row c.in-Row.is d) c.add_row.ensures
+
+pub close_all-requires-clause-held : goal.close_all-requires-clause-held
+close_all-requires-clause-held g c κs within = let own = g.A.Algebra.is_own c.args.algebra.now in let fold = g.A.Algebra.is_fold c.args.algebra.now in let run = g.A.Algebra.is_run c.args.algebra.now in
+    some_items (Kept own fold run) c.args.bytes.now (shown c.args.body.now) c.args.piece c.requires.held
+
+pub returns-in-Closers : goal.returns-in-Closers
+returns-in-Closers g c = let own = g.A.Algebra.is_own c.args.algebra.now in let fold = g.A.Algebra.is_fold c.args.algebra.now in let run = g.A.Algebra.is_run c.args.algebra.now in
+    IfOk-weaker c.close_all.result _ _ (λ r d. adds_closers (Kept own fold run) c.args.bytes.now (shown c.args.body.now) c.args.piece (shown c.close_all.new.body) r c.in-Closers.closers c.in-Closers.is d) c.close_all.ensures

@@ -4,7 +4,9 @@ use Rattle.std.proofs.lemmas.Result.{IfOk-weaker}
 use Rattle.at_nest.specs.Shown.{shown, held_of}
 use Rattle.at_nest.specs.Holding.{Kept, PushesValue}
 use Rattle.at_nest.proofs.Adding.{innermost_own, without_innermost}
-use Rattle.at_nest.proofs.Showing.{close_outside, close_refused, close_closes}
+use Rattle.at_nest.proofs.Showing.{close_refused, close_closes}
+use Rattle.at_nest.proofs.Closers.{pushes_same}
+use Rattle.at_nest.specs.Forms.{closes}
 use Rattle.at_nest.proofs.bodies.close.Goals as goal
 
 pub closed-requires-clause-own : goal.closed-requires-clause-own
@@ -12,9 +14,9 @@ closed-requires-clause-own g c κs within = innermost_own (g.A.Algebra.is_own c.
 
 pub returns-in-None : goal.returns-in-None
 returns-in-None g c = let own = g.A.Algebra.is_own c.args.algebra.now in let fold = g.A.Algebra.is_fold c.args.algebra.now in let run = g.A.Algebra.is_run c.args.algebra.now in
-    IfOk-weaker c.keep.result _ _
-    (λ r d base w f h. close_outside (Kept own fold run) base w (shown c.args.body.now) (shown c.innermost.new.self).outer (shown c.keep.new.self) r c.args.bracket c.args.at f c.in-None.ensures.levels.0 (sym c.innermost.ensures.outer) d h)
-    c.keep.ensures
+    IfOk-weaker c.keep_close.result _ _
+    (λ r d. pushes_same (Kept own fold run) (shown c.args.body.now) (shown c.innermost.new.self) (shown c.keep_close.new.body) r (closes c.args.bracket c.args.at) c.innermost.ensures.outer (c.in-None.ensures.levels.1 ∙ sym c.in-None.ensures.levels.0) d)
+    c.keep_close.ensures
 
 pub read_value-requires-clause-held : goal.read_value-requires-clause-held
 read_value-requires-clause-held g c κs within = let own = g.A.Algebra.is_own c.args.algebra.now in let fold = g.A.Algebra.is_fold c.args.algebra.now in let run = g.A.Algebra.is_run c.args.algebra.now in

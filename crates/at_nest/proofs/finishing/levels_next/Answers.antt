@@ -1,5 +1,5 @@
 -- One level more, or the first that may not stand where it does.
-use Rattle.std.proofs.Common.{◌+◌, ◌++◌, ◌<◌, length, take, drop, take-append-drop, arith, sym, ◌∙◌, ap, Ok, Err}
+use Rattle.std.proofs.Common.{◌+◌, ◌++◌, ◌<◌, length, take, drop, take-append-drop, arith, sym, ◌∙◌, ap, Ok}
 use Rattle.at_nest.specs.Shown.{open_levels}
 use Rattle.at_nest.specs.Nexts.{levels_next}
 use Rattle.at_nest.proofs.Copies.{take_next}
