@@ -31,14 +31,14 @@ _atgis_query() {
     local text=$1 string='"([^"\\]|\\.)*"' before brackets kind
     local kinds='POINT LINESTRING POLYGON MULTIPOINT MULTILINESTRING MULTIPOLYGON GEOMETRYCOLLECTION'
     if [[ $text != *' '* ]]; then
-        printf '%s\n' select count area extent join
+        printf '%s\n' select count area extent hull join
         return
     fi
     before=${text% *}
     brackets=${before//[^()]/}
     while [[ $brackets == *'()'* ]]; do brackets=${brackets//'()'/}; done
     case $before in
-    select | count | area | extent | join)
+    select | count | area | extent | hull | join)
         printf '%s\n' "$before where in box(" "$before where meets " "$before where has \""
         ;;
     *' where' | *' and') printf '%s\n' "$before in box(" "$before meets " "$before has \"" ;;

@@ -25,7 +25,7 @@ function __atgis_query
     if not string match -q -- '* *' $text
         printf '%s\t%s\n' select 'the offsets at which features begin' count 'how many features there are' \
             area 'twice the area of all polygons' extent 'the least and greatest coordinates' \
-            join 'the pairs of features of two files that meet'
+            hull 'the corners of the convex hull' join 'the pairs of features of two files that meet'
         return
     end
     set -l before (string replace -r ' [^ ]*$' '' -- $text)
@@ -33,7 +33,7 @@ function __atgis_query
     set -l opened (string replace -ra '[^(]' '' -- $before | string length)
     set -l closed (string replace -ra '[^)]' '' -- $before | string length)
     set -l next
-    if string match -qr '^(select|count|area|extent|join)$' -- $before
+    if string match -qr '^(select|count|area|extent|hull|join)$' -- $before
         set next 'where in box(' 'where meets ' 'where has "'
     else if string match -qr ' (where|and)$' -- $before
         set next 'in box(' 'meets ' 'has "'

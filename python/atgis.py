@@ -5,6 +5,7 @@
     atgis.count("towns.geojson")                                       3
     atgis.select("towns.geojson", atgis.has("kind", "town"))           [45, 188]
     atgis.extent("lakes.wkt", atgis.meets_box(9, 47, 10, 48))          Extent(min_x=Decimal('9.0000000'), ..)
+    atgis.hull("towns.geojson", atgis.has("kind", "town"))             [(Decimal('9.1750000'), Decimal('47.6600000')), ..]
     atgis.square_degrees(atgis.area("lakes.wkt"))                      Decimal('0.228500000000000')
     atgis.join("towns.geojson", "lakes.wkt")                           [(45, 0), (338, 57)]
     atgis.features("towns.geojson", [45])                              [{'type': 'Feature', ..}]
@@ -37,8 +38,8 @@ from typing import Any, Dict, Iterable, List, NamedTuple, Optional, Sequence, Tu
 
 __all__ = [
     "AtgisError", "Extent", "Fault", "FileError", "FilesError", "OutOfMemory", "ProgramError", "QueryError",
-    "ReadError", "TooLarge", "WordsError", "WriteError", "area", "count", "extent", "features", "frame", "has", "in_box", "join",
-    "meets", "meets_box", "select", "square_degrees",
+    "ReadError", "TooLarge", "WordsError", "WriteError", "area", "count", "extent", "features", "frame", "has", "hull", "in_box",
+    "join", "meets", "meets_box", "select", "square_degrees",
 ]
 
 LIMIT = 268_435_456
@@ -149,6 +150,12 @@ def extent(file: Name, where: Tests = None, **options: Any) -> Optional[Extent]:
     """The extent of all positions of the features that the tests hold of, None where there is no position."""
     line = _lines("extent", [file], where, options)[0]
     return None if line == "empty" else Extent(*map(Decimal, line.split(" ")))
+
+
+def hull(file: Name, where: Tests = None, **options: Any) -> List[Tuple[Decimal, Decimal]]:
+    """The corners of the convex hull of all positions, counterclockwise from the lowest; none where there is no position."""
+    lines = _lines("hull", [file], where, options)
+    return [] if lines == ["empty"] else [(Decimal(x), Decimal(y)) for x, y in (line.split(" ") for line in lines)]
 
 
 def join(file: Name, second: Name, where: Tests = None, **options: Any) -> List[Tuple[int, int]]:

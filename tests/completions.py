@@ -52,7 +52,7 @@ LISTS = [
     ("atgis --digits ", ["7", "9"]),
     ("atgis --workers 3", ["32"]),
     ("atgis --blocks 4", ["4096"]),
-    ("atgis ", ["area", "count", "extent", "join", "select"]),
+    ("atgis ", ["area", "count", "extent", "hull", "join", "select"]),
     ("atgis --digits 9 e", ["extent"]),
     ("atgis 'select wh", ["select where has \"", "select where in box(", "select where meets "]),
     ("atgis 'select where i", ["select where in box("]),

@@ -1,4 +1,5 @@
-"""Cases of tests/run whose files are made: the fronts of a file, its cuts, and texts that repeat a part many times."""
+"""Cases of tests/run whose files are made: the fronts of a file, its cuts, texts that repeat a part many times, and a circle."""
+import math
 
 
 def place(name, geometry):
@@ -22,6 +23,8 @@ PLACES = "\n".join([
 ])
 OFFSETS = (149, 282, 416)
 DEPTH = 100_000
+CORNERS = 10_000
+RADIUS = 29_000_000
 FEW = [["1", "1"], ["4", "64"], ["64", "4096"]]
 
 
@@ -64,6 +67,19 @@ def deep_cases():
     return [{**one, "pairs": FEW} for one in cases]
 
 
+def on_circle(index):
+    """One of CORNERS positions on a circle about (0, 0), the lowest first, counterclockwise."""
+    angle = 2 * math.pi * index / CORNERS - math.pi / 2
+    return f"{RADIUS * math.cos(angle):.7f} {RADIUS * math.sin(angle):.7f}".replace("-0.0000000", "0.0000000")
+
+
+def circle_case():
+    """Positions on a circle in another order, among others inside it: each of them is a corner of the hull."""
+    rows = (f"POINT ({on_circle(7919 * index % CORNERS)})\nPOINT ({index} {index})\n" for index in range(CORNERS))
+    corners = "".join(f"{on_circle(index)}\n" for index in range(CORNERS))
+    return {**case("corners on a circle", ["hull"], "p.wkt", "".join(rows), corners), "pairs": FEW}
+
+
 def cases():
     """All cases whose files are made."""
-    return front_cases() + cut_cases() + deep_cases()
+    return front_cases() + cut_cases() + deep_cases() + [circle_case()]

@@ -1,7 +1,7 @@
 #!/usr/bin/env python3
 """What there is to say of a GeoJSON file, worked out slowly from the definitions of RFC 8259 and RFC 7946.
 
-usage: tests/oracle.py [--coords=exact|round] [--digits=7|9] select|count|area|extent FILE
+usage: tests/oracle.py [--coords=exact|round] [--digits=7|9] select|count|area|extent|hull FILE
 
 It shares nothing with the program and goes another way: it makes the tree of the whole text, walks it from the root
 by role, gathers all faults and takes the first; numbers are whole numbers and fractions, and every question about
@@ -265,6 +265,27 @@ def extent_text(features, digits):
     return " ".join(fixed_text(value, digits) for value in (min(xs), min(ys), max(xs), max(ys)))
 
 
+def half_hull(positions):
+    """The way through positions that turns left at each, without its last one."""
+    way = []
+    for x, y in positions:
+        while len(way) > 1:
+            (ax, ay), (bx, by) = way[-2:]
+            if (bx - ax) * (y - ay) > (by - ay) * (x - ax):
+                break
+            way.pop()
+        way.append((x, y))
+    return way[:-1]
+
+
+def hull_text(features, digits):
+    """The convex hull of all positions as it is printed, from the lowest counterclockwise."""
+    positions = {position for feature in features for position in feature.shape.positions()}
+    rising = sorted(positions, key=lambda position: position[::-1])
+    corners = half_hull(rising) + half_hull(rising[::-1]) or rising
+    return "".join(f"{fixed_text(x, digits)} {fixed_text(y, digits)}\n" for x, y in corners) or "empty\n"
+
+
 def answer(features, verb, digits=DIGITS):
     """What is printed of the features that a query keeps."""
     if verb == "select":
@@ -273,6 +294,8 @@ def answer(features, verb, digits=DIGITS):
         return f"{len(features)}\n"
     if verb == "area":
         return f"{sum(doubled_area(feature.shape) for feature in features)}\n"
+    if verb == "hull":
+        return hull_text(features, digits)
     return f"{extent_text(features, digits)}\n"
 
 
