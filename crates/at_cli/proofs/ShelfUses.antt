@@ -177,6 +177,7 @@ other_has_none verbs.Select (Some second) right n = absurd (true≢false (sym ri
 other_has_none verbs.Count (Some second) right n = absurd (true≢false (sym right))
 other_has_none verbs.Area (Some second) right n = absurd (true≢false (sym right))
 other_has_none verbs.Extent (Some second) right n = absurd (true≢false (sym right))
+other_has_none verbs.Hull (Some second) right n = absurd (true≢false (sym right))
 
 -- what holds where there is a second name holds of the names that there are
 pub with_second : (second : Option (List ℕ)) (P : Option (List ℕ) → Type 0) → is_some second ≡ true → ((name : List ℕ) → second ≡ Some name → P (Some name)) → P second

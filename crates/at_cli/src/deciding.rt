@@ -306,6 +306,7 @@ fn is_join(verb: Verb) -> bool
         Verb::Count => false,
         Verb::Area => false,
         Verb::Extent => false,
+        Verb::Hull => false,
     }
 }
 
@@ -315,7 +316,7 @@ fn has_right_count(verb: Verb, second: &Option<Word>) -> bool
 {
     match verb {
         Verb::Join => second.is_some(),
-        Verb::Select | Verb::Count | Verb::Area | Verb::Extent => second.is_none(),
+        Verb::Select | Verb::Count | Verb::Area | Verb::Extent | Verb::Hull => second.is_none(),
     }
 }
 

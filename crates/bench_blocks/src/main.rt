@@ -44,6 +44,7 @@ fn is_join(verb: Verb) -> bool
         Verb::Count => false,
         Verb::Area => false,
         Verb::Extent => false,
+        Verb::Hull => false,
     }
 }
 
