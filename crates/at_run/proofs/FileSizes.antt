@@ -95,7 +95,7 @@ abbrev text_size : List FileLine → ℕ
 text_size [] = 0
 text_size (l ∷ ls) = length l.text + text_size ls
 
-abbrev parts_size : List (List ℕ) → ℕ
+abbrev pub parts_size : List (List ℕ) → ℕ
 parts_size [] = 0
 parts_size (p ∷ ps) = length p + parts_size ps
 
@@ -107,7 +107,7 @@ onto_size : (x : ℕ) (ps : List (List ℕ)) → parts_size (onto_first x ps) �
 onto_size x [] = refl
 onto_size x (p ∷ ps) = omega arith
 
-split_size : (p : ℕ → Bool) (xs : List ℕ) → parts_size (slice_split p xs) ≤ length xs
+pub split_size : (p : ℕ → Bool) (xs : List ℕ) → parts_size (slice_split p xs) ≤ length xs
 split_size p [] = omega arith
 split_size p (x ∷ xs) = go (p x) (split_size p xs) where
   go : (b : Bool) → parts_size (slice_split p xs) ≤ length xs → parts_size (cond b ([] ∷ slice_split p xs) (onto_first x (slice_split p xs))) ≤ length (x ∷ xs)

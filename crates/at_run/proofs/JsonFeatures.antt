@@ -1,5 +1,5 @@
 -- The features of a file of GeoJSON have coordinates in range, and those of one without a fault are proper: rings are closed, and offsets rise.
-use Rattle.std.proofs.Common.{◌≡◌, ℕ, ◌+◌, ◌≤◌, inl, inr, Bool, true, false, if◌then◌else◌, codes, List, [], ◌∷◌, ◌++◌, length, map, Option, Some, None, refl, sym, ap, ◌∙◌, subst, arith}
+use Rattle.std.proofs.Common.{◌≡◌, ℕ, ◌+◌, ◌≤◌, inl, inr, Bool, true, false, if◌then◌else◌, codes, List, [], ◌∷◌, ◌++◌, length, map, Option, Some, None, refl, sym, ap, ◌∙◌, subst, arith, length-append}
 use Rattle.std.specs.List.{AllByRecursion}
 use Rattle.std.proofs.lemmas.Option.{none-some}
 use Rattle.std.proofs.lemmas.List.{map-append}
@@ -195,10 +195,38 @@ module _ (digits : ℕ) (how : Coords) where
 
 -- ---- offsets
 
--- a value that is spelled somewhere
-abbrev IsSpelled : Option Tree → Type 0
-IsSpelled None = Unit {0}
-IsSpelled (Some t) = (at : ℕ) × (w : List ℕ) × Spells at w t
+-- offsets that rise, from one place up to another
+abbrev pub Climbs : ℕ → ℕ → List ℕ → Type 0
+Climbs low high [] = Unit {0}
+Climbs low high (n ∷ rest) = (low ≤ n) × (n ≤ high) × Climbs (n + 1) high rest
+
+pub climbs_rise : (low high : ℕ) (xs : List ℕ) → Climbs low high xs → AreRising xs
+climbs_rise low high [] h = tt
+climbs_rise low high (n ∷ []) h = tt
+climbs_rise low high (n ∷ m ∷ rest) (a, b, (c, d, e)) = ((omega (arith, c)), climbs_rise (n + 1) high (m ∷ rest) (c, d, e))
+
+-- between places further apart
+pub climbs_wider : (low high least most : ℕ) (xs : List ℕ) → least ≤ low → high ≤ most → Climbs low high xs → Climbs least most xs
+climbs_wider low high least most [] le ge h = tt
+climbs_wider low high least most (n ∷ xs) le ge (a, b, c) = ((omega (arith, le, a)), (omega (arith, ge, b)), climbs_wider (n + 1) high (n + 1) most xs (omega arith) ge c)
+
+-- and further on behind the place where they end
+pub climbs_on : (low mid high : ℕ) (xs ys : List ℕ) → low ≤ mid + 1 → mid ≤ high → Climbs low mid xs → Climbs (mid + 1) high ys → Climbs low high (xs ++ ys)
+climbs_on low mid high [] ys le ge h k = climbs_wider (mid + 1) high low high ys le (omega arith) k
+climbs_on low mid high (n ∷ xs) ys le ge (a, b, c) k = (a, (omega (arith, b, ge)), climbs_on (n + 1) mid high xs ys (omega (arith, b)) ge c k)
+
+-- how long are four parts, one behind another
+four_parts : (w a v b r : List ℕ) → w ≡ a ++ (v ++ (b ++ r)) → length w ≡ length a + (length v + (length b + length r))
+four_parts w a v b r e =
+    let s = ap length e ∙ length-append a (v ++ (b ++ r)) in
+    let u = length-append v (b ++ r) in
+    let k = length-append b r in
+    omega (arith, s, u, k)
+
+-- a value that is spelled somewhere from one place up to another
+abbrev IsSpelled : ℕ → ℕ → Option Tree → Type 0
+IsSpelled low high None = Unit {0}
+IsSpelled low high (Some t) = (at : ℕ) × (w : List ℕ) × (low ≤ at) × (at + length w ≤ high) × Spells at w t
 
 spelled_at : (t : Tree) (at : ℕ) (w : List ℕ) → Spells at w t → offset_of t ≡ at
 spelled_at (literal i l) at w h = h.0
@@ -207,36 +235,57 @@ spelled_at (text i cs) at w h = h.0
 spelled_at (array i ts) at w h = h.0
 spelled_at (object i ms) at w h = h.0
 
-either_spelled : (b : Bool) (o p : Option Tree) → IsSpelled o → IsSpelled p → IsSpelled (if b then o else p)
-either_spelled true o p h k = h
-either_spelled false o p h k = k
+either_spelled : (low high : ℕ) (b : Bool) (o p : Option Tree) → IsSpelled low high o → IsSpelled low high p → IsSpelled low high (if b then o else p)
+either_spelled low high true o p h k = h
+either_spelled low high false o p h k = k
 
-module _ (name : List ℕ) where
-  further_spelled : (ms : Members) (at : ℕ) (w : List ℕ) → SpellsFurtherMembers at w ms → IsSpelled (member_named name ms)
-  further_spelled no_members at w h = tt
-  further_spelled (member_and n i t ms) at w (w1, e1, (a, v, b, r, e, ha, hb, hv, (w2, e2, (c, x, d, q, f, hc, hd, hx, hq)))) =
-      either_spelled (is_named name n) (Some t) (member_named name ms) (at + 1 + length a + length v + length b + 1 + length c, x, hx)
-      (further_spelled ms (at + 1 + length a + length v + length b + 1 + length c + length x + length d) q hq)
+module _ (name : List ℕ) (low high : ℕ) where
+  further_spelled : (ms : Members) (at : ℕ) (w : List ℕ) → low ≤ at → at + length w ≤ high → SpellsFurtherMembers at w ms → IsSpelled low high (member_named name ms)
+  further_spelled no_members at w le ge h = tt
+  further_spelled (member_and n i t ms) at w le ge (w1, e1, (a, v, b, r, e, ha, hb, hv, (w2, e2, (c, x, d, q, f, hc, hd, hx, hq)))) =
+      let whole = ap length e1 in
+      let front = four_parts w1 a v b r e in
+      let behind = ap length e2 in
+      let value = four_parts w2 c x d q f in
+      either_spelled low high (is_named name n) (Some t) (member_named name ms)
+      (at + 1 + length a + length v + length b + 1 + length c, x, (omega (arith, le)), (omega (arith, ge, whole, front, behind, value)), hx)
+      (further_spelled ms (at + 1 + length a + length v + length b + 1 + length c + length x + length d) q (omega (arith, le)) (omega (arith, ge, whole, front, behind, value)) hq)
 
-  member_spelled : (ms : Members) (at : ℕ) (w : List ℕ) → SpellsMembers at w ms → IsSpelled (member_named name ms)
-  member_spelled no_members at w h = tt
-  member_spelled (member_and n i t ms) at w (a, v, b, r, e, ha, hb, hv, (w2, e2, (c, x, d, q, f, hc, hd, hx, hq))) =
-      either_spelled (is_named name n) (Some t) (member_named name ms) (at + length a + length v + length b + 1 + length c, x, hx)
-      (further_spelled ms (at + length a + length v + length b + 1 + length c + length x + length d) q hq)
+  member_spelled : (ms : Members) (at : ℕ) (w : List ℕ) → low ≤ at → at + length w ≤ high → SpellsMembers at w ms → IsSpelled low high (member_named name ms)
+  member_spelled no_members at w le ge h = tt
+  member_spelled (member_and n i t ms) at w le ge (a, v, b, r, e, ha, hb, hv, (w2, e2, (c, x, d, q, f, hc, hd, hx, hq))) =
+      let front = four_parts w a v b r e in
+      let behind = ap length e2 in
+      let value = four_parts w2 c x d q f in
+      either_spelled low high (is_named name n) (Some t) (member_named name ms)
+      (at + length a + length v + length b + 1 + length c, x, (omega (arith, le)), (omega (arith, ge, front, behind, value)), hx)
+      (further_spelled ms (at + length a + length v + length b + 1 + length c + length x + length d) q (omega (arith, le)) (omega (arith, ge, front, behind, value)) hq)
 
 -- items lie one behind another
-further_rise : (ts : Trees) (at : ℕ) (w : List ℕ) (n : ℕ) → n ≤ at → SpellsFurtherItems at w ts → AreRising (n ∷ map offset_of (items_of ts))
-further_rise no_trees at w n le h = tt
-further_rise (tree_and t ts) at w n le (w1, e1, (a, v, b, r, e, ha, hb, hv, hr)) =
-    let o = spelled_at t (at + 1 + length a) v hv in (
+further_climb : (ts : Trees) (at : ℕ) (w : List ℕ) (low high : ℕ) → low ≤ at + 1 → at + length w ≤ high → SpellsFurtherItems at w ts → Climbs low high (map offset_of (items_of ts))
+further_climb no_trees at w low high le ge h = tt
+further_climb (tree_and t ts) at w low high le ge (w1, e1, (a, v, b, r, e, ha, hb, hv, hr)) =
+    let o = spelled_at t (at + 1 + length a) v hv in
+    let whole = ap length e1 in
+    let parts = four_parts w1 a v b r e in (
       (omega (arith, le, o)),
-      further_rise ts (at + 1 + length a + length v + length b) r (offset_of t) (omega (arith, o)) hr,
+      (omega (arith, ge, o, whole, parts)),
+      further_climb ts (at + 1 + length a + length v + length b) r (offset_of t + 1) high (omega (arith, o)) (omega (arith, ge, whole, parts)) hr,
     )
 
-items_rise : (ts : Trees) (at : ℕ) (w : List ℕ) → SpellsItems at w ts → AreRising (map offset_of (items_of ts))
-items_rise no_trees at w h = tt
-items_rise (tree_and t ts) at w (a, v, b, r, e, ha, hb, hv, hr) =
-    let o = spelled_at t (at + length a) v hv in further_rise ts (at + length a + length v + length b) r (offset_of t) (omega (arith, o)) hr
+items_climb : (ts : Trees) (at : ℕ) (w : List ℕ) (low high : ℕ) → low ≤ at → at + length w ≤ high → SpellsItems at w ts → Climbs low high (map offset_of (items_of ts))
+items_climb no_trees at w low high le ge h = tt
+items_climb (tree_and t ts) at w low high le ge (a, v, b, r, e, ha, hb, hv, hr) =
+    let o = spelled_at t (at + length a) v hv in
+    let parts = four_parts w a v b r e in (
+      (omega (arith, le, o)),
+      (omega (arith, ge, o, parts)),
+      further_climb ts (at + length a + length v + length b) r (offset_of t + 1) high (omega (arith, o)) (omega (arith, ge, parts)) hr,
+    )
+
+-- what stands between brackets, one byte behind the first
+between_brackets : (w v : List ℕ) (opener closer at high : ℕ) → w ≡ opener ∷ (v ++ closer ∷ []) → at + length w ≤ high → at + 1 + length v ≤ high
+between_brackets w v opener closer at high e ge = let s = ap length e in let j = length-append v (closer ∷ []) in omega (arith, ge, s, j)
 
 module _ (digits : ℕ) (how : Coords) where
   no_feature_at : (at : ℕ) (xs : List ℕ) → fault_at Form at ∷ [] ≡ [] → [] ≡ xs
@@ -270,35 +319,48 @@ module _ (digits : ℕ) (how : Coords) where
       let (x, y) = empties a.faults b.faults e in
       map-append at_of a.features b.features ∙ (ap (λ z. z ++ map at_of b.features) (item_at t x) ∙ ap (λ z. offset_of t ∷ z) (items_at ts y))
 
-  listed_rising : (at : ℕ) (o : Option Tree) → IsSpelled o → (features_reading digits how at o).faults ≡ [] → AreRising (map at_of (features_reading digits how at o).features)
-  listed_rising at None h e = tt
-  listed_rising at (Some (literal i l)) h e = tt
-  listed_rising at (Some (number i n)) h e = tt
-  listed_rising at (Some (text i cs)) h e = tt
-  listed_rising at (Some (object i ms)) h e = tt
-  listed_rising at (Some (array i ts)) (j, w, (o, (v, same, h))) e = subst AreRising (sym (items_at ts e)) (items_rise ts (j + 1) v h)
+  listed_climbs : (at low high : ℕ) (o : Option Tree) → IsSpelled low high o → (features_reading digits how at o).faults ≡ [] → Climbs low high (map at_of (features_reading digits how at o).features)
+  listed_climbs at low high None h e = tt
+  listed_climbs at low high (Some (literal i l)) h e = tt
+  listed_climbs at low high (Some (number i n)) h e = tt
+  listed_climbs at low high (Some (text i cs)) h e = tt
+  listed_climbs at low high (Some (object i ms)) h e = tt
+  listed_climbs at low high (Some (array i ts)) (j, w, le, ge, (o, (v, same, h))) e =
+      subst (Climbs low high) (sym (items_at ts e)) (items_climb ts (j + 1) v low high (omega (arith, le)) (between_brackets w v 0x5B 0x5D j high same ge) h)
 
-  root_rising : (at : ℕ) (ms : Members) (kind : Option Kind) → IsSpelled (member_named (codes "features") ms) → (root_of_kind digits how at ms kind).faults ≡ [] → AreRising (map at_of (root_of_kind digits how at ms kind).features)
-  root_rising at ms None h e = tt
-  root_rising at ms (Some kinds.FeatureCollection) h e = listed_rising at (member_named (codes "features") ms) h e
-  root_rising at ms (Some kinds.Feature) h e = tt
-  root_rising at ms (Some kinds.Point) h e = tt
-  root_rising at ms (Some kinds.MultiPoint) h e = tt
-  root_rising at ms (Some kinds.LineString) h e = tt
-  root_rising at ms (Some kinds.MultiLineString) h e = tt
-  root_rising at ms (Some kinds.Polygon) h e = tt
-  root_rising at ms (Some kinds.MultiPolygon) h e = tt
-  root_rising at ms (Some kinds.GeometryCollection) h e = tt
+  module _ (at low high : ℕ) (ms : Members) (le : low ≤ at) (ge : at ≤ high) where
+    root_climbs : (kind : Option Kind) → IsSpelled low high (member_named (codes "features") ms) → (root_of_kind digits how at ms kind).faults ≡ [] → Climbs low high (map at_of (root_of_kind digits how at ms kind).features)
+    root_climbs None h e = tt
+    root_climbs (Some kinds.FeatureCollection) h e = listed_climbs at low high (member_named (codes "features") ms) h e
+    root_climbs (Some kinds.Feature) h e = (le, ge, tt)
+    root_climbs (Some kinds.Point) h e = (le, ge, tt)
+    root_climbs (Some kinds.MultiPoint) h e = (le, ge, tt)
+    root_climbs (Some kinds.LineString) h e = (le, ge, tt)
+    root_climbs (Some kinds.MultiLineString) h e = (le, ge, tt)
+    root_climbs (Some kinds.Polygon) h e = (le, ge, tt)
+    root_climbs (Some kinds.MultiPolygon) h e = (le, ge, tt)
+    root_climbs (Some kinds.GeometryCollection) h e = (le, ge, tt)
 
-  tree_rising : (t : Tree) (at : ℕ) (w : List ℕ) → Spells at w t → role_faults_of digits how t ≡ [] → AreRising (map at_of (features_of digits how t))
-  tree_rising (object i ms) at w (o, (v, same, h)) e = root_rising i ms (kind_of ms) (member_spelled (codes "features") ms (at + 1) v h) e
-  tree_rising (literal i l) at w h e = tt
-  tree_rising (number i n) at w h e = tt
-  tree_rising (text i cs) at w h e = tt
-  tree_rising (array i ts) at w h e = tt
+  tree_climbs : (t : Tree) (at low high : ℕ) (w : List ℕ) → low ≤ at → at + length w ≤ high → Spells at w t → role_faults_of digits how t ≡ [] → Climbs low high (map at_of (features_of digits how t))
+  tree_climbs (object i ms) at low high w le ge (o, (v, same, h)) e =
+      let inside = between_brackets w v 0x7B 0x7D at high same ge in
+      root_climbs i low high ms (omega (arith, le, o)) (omega (arith, ge, o)) (kind_of ms) (member_spelled (codes "features") low high ms (at + 1) v (omega (arith, le)) inside h) e
+  tree_climbs (literal i l) at low high w le ge h e = tt
+  tree_climbs (number i n) at low high w le ge h e = tt
+  tree_climbs (text i cs) at low high w le ge h e = tt
+  tree_climbs (array i ts) at low high w le ge h e = tt
 
-  text_rising : (t : Tree) (at : ℕ) (w : List ℕ) → IsTextOf at w t → role_faults_of digits how t ≡ [] → AreRising (map at_of (features_of digits how t))
-  text_rising t at w (a, v, b, r, e, ha, hb, hv, hr) none = tree_rising t (at + length a) v hv none
+  -- ---- a text
+
+  -- the features of a text without a fault lie within it, one behind another
+  pub text_climbs : (t : Tree) (at : ℕ) (w : List ℕ) → IsTextOf at w t → faults_of digits how t ≡ [] → Climbs at (at + length w) (map at_of (features_of digits how t))
+  text_climbs t at w (a, v, b, r, e, ha, hb, hv, hr) none =
+      let parts = four_parts w a v b r e in
+      tree_climbs t (at + length a) at (at + length w) v (omega arith) (omega (arith, parts)) hv (empties (twins_of t) (role_faults_of digits how t) none).1
+
+  -- and each is proper
+  pub text_features_proper : (t : Tree) → faults_of digits how t ≡ [] → AllByRecursion IsProperFeature (features_of digits how t)
+  text_features_proper t none = (features_proper digits how t).1 (empties (twins_of t) (role_faults_of digits how t) none).1
 
   -- ---- a file
 
@@ -310,5 +372,5 @@ module _ (digits : ℕ) (how : Coords) where
 
   pub json_features_proper : (bytes : List ℕ) (t : Tree) → HasJsonFileFault digits how bytes None → IsFileOf bytes t → AreProperFeatures (features_of digits how t)
   json_features_proper bytes t h is =
-      let none = (empties (twins_of t) (role_faults_of digits how t) (none_behind (utf8_fault bytes) bytes t h is)).1 in
-      record { rising = text_rising t _ _ is none; features = (features_proper digits how t).1 none }
+      let none = none_behind (utf8_fault bytes) bytes t h is in
+      record { rising = climbs_rise _ _ _ (text_climbs t _ _ is none); features = text_features_proper t none }

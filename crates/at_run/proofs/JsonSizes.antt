@@ -12,7 +12,7 @@ use Rattle.at_lex.specs.Runs.{the_null, the_true, the_false}
 use Rattle.at_wkt.specs.Positions.{Position, Positions}
 use Rattle.at_wkt.specs.Geometry as wkt
 use Rattle.at_wkt.specs.Meaning.{shape_of, faults_of}
-use Rattle.at_nest.specs.Tree.{Tree, literal, number, text, array, object, Trees, no_trees, tree_and, Members, no_members, member_and, offset_of, Padded, After, IsEnd, Spells, SpellsItems, SpellsFurtherItems, SpellsName, SpellsMembers, SpellsFurtherMembers}
+use Rattle.at_nest.specs.Tree.{Tree, literal, number, text, array, object, Trees, no_trees, tree_and, Members, no_members, member_and, offset_of, Padded, After, IsEnd, Spells, SpellsItems, SpellsFurtherItems, SpellsName, SpellsMembers, SpellsFurtherMembers, IsTextOf}
 use Rattle.at_nest.specs.Syntax.{IsFileOf}
 use Rattle.at_query.specs.declared.features.Feature.{Feature}
 use Rattle.at_query.specs.Results.{all_positions}
@@ -95,11 +95,8 @@ mutual
 end_size : AtLeast 0 IsEnd
 end_size at w h = omega arith
 
-file_size : (bytes : List ℕ) (t : Tree) → IsFileOf bytes t → weight t ≤ length bytes
-file_size bytes t h =
-    let l = padded_size (weight t) 0 (λ j v. Spells j v t) IsEnd (λ j v k. tree_size t j v k) end_size (base_of bytes) (drop (base_of bytes) bytes) h in
-    let d = length-drop (base_of bytes) bytes in
-    omega (arith, l, d)
+text_size : (at : ℕ) (w : List ℕ) (t : Tree) → IsTextOf at w t → weight t ≤ length w
+text_size at w t h = let l = padded_size (weight t) 0 (λ j v. Spells j v t) IsEnd (λ j v k. tree_size t j v k) end_size at w h in omega (arith, l)
 
 -- ---- coordinates
 
@@ -415,5 +412,8 @@ module _ (digits : ℕ) (how : Coords) where
   features_taken (array i ts) = omega arith
 
   -- four bytes for each position, and one more for each feature
+  pub text_features_size : (at : ℕ) (w : List ℕ) (t : Tree) → IsTextOf at w t → 4 * length (all_positions (features_of digits how t)) + length (features_of digits how t) ≤ length w
+  text_features_size at w t h = let l = features_taken t in let m = text_size at w t h in omega (arith, l, m)
+
   pub json_features_size : (bytes : List ℕ) (t : Tree) → IsFileOf bytes t → 4 * length (all_positions (features_of digits how t)) + length (features_of digits how t) ≤ length bytes
-  json_features_size bytes t h = let l = features_taken t in let m = file_size bytes t h in omega (arith, l, m)
+  json_features_size bytes t h = let l = text_features_size _ _ t h in let d = length-drop (base_of bytes) bytes in omega (arith, l, d)

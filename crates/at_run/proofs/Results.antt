@@ -27,16 +27,17 @@ kept_answerable Extent fs part h e = rw (e) tt
 kept_answerable Hull fs part h (hull, e, k) = rw (e) tt
 kept_answerable Join fs part h e = absurd (h refl)
 
-part_answerable : (query : Query) (fs : List Feature) (part : Part) → query.verb ≢ Join → IsPart query fs part → IsAnswerable part
+-- so the part of such a query can be handed to `answer_of`
+pub part_answerable : (query : Query) (fs : List Feature) (part : Part) → query.verb ≢ Join → IsPart query fs part → IsAnswerable part
 part_answerable query fs part h (kept, keeps, e) = kept_answerable query.verb kept part h e
 
 module _ (digits : ℕ) (how : Coords) (bytes : List ℕ) (fs : List Feature) where
   -- a file has few features
-  features_few : (form : Form) → length bytes ≤ 2 ^ 28 → AreFileFeaturesIn form digits how bytes fs → AreFew fs
+  pub features_few : (form : Form) → length bytes ≤ 2 ^ 28 → AreFileFeaturesIn form digits how bytes fs → AreFew fs
   features_few Wkt short are = file_features_few digits how bytes fs short are
   features_few GeoJson short (t, is, same) = subst AreFew (sym same) (few_of_size digits how (features_of digits how t) (length bytes) (json_features_size digits how bytes t is) short)
 
-  features_in_range : (form : Form) → AreFileFeaturesIn form digits how bytes fs → AreFeaturesInRange fs
+  pub features_in_range : (form : Form) → AreFileFeaturesIn form digits how bytes fs → AreFeaturesInRange fs
   features_in_range Wkt are = file_features_in_range digits how bytes fs are
   features_in_range GeoJson (t, is, same) = subst AreFeaturesInRange (sym same) (json_features_in_range digits how t)
 

@@ -17,8 +17,12 @@ use at_query::{Answer, Part, Query, Verb, answer_of};
 use std::alloc::Global;
 use std::thread::Threads;
 
-/// The part of a file's features under a query, or the file's first fault.
-pub(crate) fn part<G: Gate, R: Threads + Sync>(
+/// The part of a file's features under a query, or the file's first fault. It is what [`answer`] answers from, and
+/// what two files are joined by; the cuts, the passes and the gate are those of `answer`.
+///
+/// # Errors
+/// Those of `answer`.
+pub fn part<G: Gate, R: Threads + Sync>(
     rt: &R,
     alloc: Global,
     bytes: &[u8],

@@ -19,8 +19,8 @@ use at_query::{Answer, Entries, Part, Query, Tests, Verb};
 use std::alloc::Global;
 use std::thread::Threads;
 
-/// The entries that are the part of a join.
-fn entries_of(part: Part) -> Entries
+/// The entries that are the part of a join. It takes no memory.
+pub fn entries_of(part: Part) -> Entries
     requires { (entries : Entries) × (part ≡ Part.Entries entries) }
     ensures { part ≡ Part.Entries result }
 {
@@ -30,8 +30,8 @@ fn entries_of(part: Part) -> Entries
     }
 }
 
-/// The query that asks for all features.
-fn of_all(alloc: Global) -> Query
+/// The query that asks for all features, to join them with others. It takes no memory.
+pub fn of_all(alloc: Global) -> Query
     ensures verb { result.verb ≡ Verb.Join }
     ensures tests { result.tests ≡ [] }
 {

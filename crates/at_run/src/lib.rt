@@ -29,7 +29,7 @@ mod line_files;
 mod line_queries;
 mod readers;
 
-pub use answers::answer;
+pub use answers::{answer, part};
 pub use blocks::run_blocks;
 pub use cuts::Cuts;
 pub use encodings::{is_valid_around, joined_span, valid_span};
@@ -37,7 +37,7 @@ pub use faults::{JoinFault, RunFault};
 pub use forms::Form;
 pub use gathered::{Gathered, join_into};
 pub use jobs::run_file;
-pub use joins::answer_join;
+pub use joins::{answer_join, entries_of, of_all};
 pub use json_files::finish_json;
 pub use json_fragments::JsonFragment;
 pub use readers::{FileFragment, Reader};
