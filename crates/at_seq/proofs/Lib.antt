@@ -1,0 +1,7 @@
+pub mod Splits
+pub mod PieceRecords
+pub mod Gathers
+pub mod Merges
+pub mod SequenceEnds
+pub mod OneSequence
+pub mod ProperEntries

@@ -1,0 +1,145 @@
+//! What a whole sequence gives.
+
+ghost use Rattle.std.specs.Prelude.{◌≡◌, ◌+◌, ◌≤◌, ◌^◌, length, MatchResult, IfOk, None, Some, drop};
+ghost use Rattle.at_text.specs.Spans.{part_of};
+ghost use Rattle.at_text.specs.Faults.{first_fault as first_one, first_of};
+ghost use Rattle.at_text.specs.Texts.{utf8_fault as encoding_fault, base_of as text_begin};
+ghost use Rattle.at_run.specs.Encodings.{IsValidIn};
+ghost use Rattle.at_seq.specs.Records.{records_of};
+ghost use Rattle.at_seq.specs.Sequences.{stray_faults, HasSeqFault};
+ghost use Rattle.at_seq.specs.Answers.{IfFound, IsSeqPart};
+ghost use Rattle.at_seq.specs.Gathering.{IsGathered};
+ghost use Rattle.at_seq.specs.Fragments.{HoldsText, HoldsParted, HoldsSpan, HoldsFragment};
+ghost use Rattle.at_seq.specs.Ends.{IsEndOf};
+
+use crate::ends::SeqEnd;
+use crate::fragments::{PartedText, SeqFragment, SeqRead, SeqText};
+use crate::records::add_fragment;
+use crate::searches::spaces_len;
+use at_geojson::GeoAlgebra;
+use at_query::{Part, part_none};
+use at_run::{Gathered, is_valid_around};
+use at_text::{Fault, FaultKind, Memory, Span, base_of, first_fault, utf8_fault};
+use std::alloc::Global;
+
+/// Syntax at the first byte of a text that is no white space, where there is one.
+fn stray_fault(text: &[u8], at: u32) -> Option<Fault>
+    requires { at + length text.now ≤ 2 ^ 28 }
+    ensures { result ≡ first_of (stray_faults at text.now) }
+{
+    let spaces = spaces_len(text);
+    if spaces == text.len() {
+        None
+    } else {
+        Some(Fault {
+            kind: FaultKind::Syntax,
+            at: at + spaces as u32,
+        })
+    }
+}
+
+/// The first of two faults, of which one is there.
+fn first_with(head: Option<Fault>, fault: Fault) -> Fault
+    ensures { Some result ≡ first_one head (Some fault) }
+{
+    first_fault(head, Some(fault)).unwrap_or(fault)
+}
+
+/// The part, or the first fault, from that of what stands before the first separator and from what is kept of the records.
+fn end_of(head: Option<Fault>, kept: Gathered) -> Result<Part, SeqEnd>
+    ensures { IsEndOf kept head result }
+{
+    match kept {
+        Gathered::Failed(fault) => Err(SeqEnd::Found(first_with(head, fault))),
+        Gathered::Kept(part) => match head {
+            None => Ok(part),
+            Some(fault) => Err(SeqEnd::Found(fault)),
+        },
+    }
+}
+
+/// What is kept of all records of a file: of those between two separators, and of the last one.
+fn all_records(
+    alloc: Global,
+    algebra: &GeoAlgebra,
+    bytes: &[u8],
+    parted: PartedText,
+) -> Result<Gathered, Memory>
+    requires fits { length bytes.now ≤ 2 ^ 28 }
+    requires whole { HoldsParted algebra.now bytes.now (text_begin bytes.now) (length bytes.now) parted }
+    ensures { IfOk result (λ kept. IsGathered algebra.now kept (records_of bytes.now)) }
+{
+    let mut kept = parted.kept;
+    let last = Span {
+        from: parted.last,
+        to: bytes.len() as u32,
+    };
+    add_fragment(alloc, algebra, &mut kept, bytes, last, parted.behind)?;
+    Ok(kept)
+}
+
+/// The end of a file whose encoding has no fault.
+fn text_end(
+    alloc: Global,
+    algebra: &GeoAlgebra,
+    bytes: &[u8],
+    text: SeqText,
+) -> Result<Part, SeqEnd>
+    requires fits { length bytes.now ≤ 2 ^ 28 }
+    requires valid { encoding_fault bytes.now ≡ None }
+    requires whole { HoldsText algebra.now bytes.now (text_begin bytes.now) (length bytes.now) text }
+    ensures { MatchResult result (IsSeqPart algebra.now.digits algebra.now.how algebra.now.query bytes.now)
+        (λ end. IfFound end (λ fault. HasSeqFault algebra.now.digits algebra.now.how bytes.now (Some fault))) }
+{
+    let base = base_of(bytes);
+    match text {
+        SeqText::Lone(_) => {
+            let head = stray_fault(&bytes[base as usize..], base);
+            end_of(head, Gathered::Kept(part_none(alloc, algebra.query())))
+        }
+        SeqText::Parted(parted) => {
+            let head = stray_fault(&bytes[base as usize..parted.first as usize], base);
+            match all_records(alloc, algebra, bytes, parted) {
+                Ok(kept) => end_of(head, kept),
+                Err(_) => Err(SeqEnd::Memory),
+            }
+        }
+    }
+}
+
+/// The fault of a file's encoding. The whole file is tested only where the span of it that is valid doesn't show it to be.
+fn fault_of_encoding(bytes: &[u8], valid: Span) -> Option<Fault>
+    requires fits { length bytes.now ≤ 2 ^ 28 }
+    requires valid { IsValidIn (text_begin bytes.now) (drop (text_begin bytes.now) bytes.now) valid }
+    ensures { result ≡ encoding_fault bytes.now }
+{
+    if is_valid_around(bytes, valid) {
+        None
+    } else {
+        utf8_fault(bytes)
+    }
+}
+
+/// The part of a sequence's features, or its first fault, from what is read of all bytes from its text's first on.
+///
+/// # Errors
+/// `Found` is the sequence's first fault, exactly where it has one. `Memory` comes where an allocation was refused.
+pub fn finish_spans(
+    alloc: Global,
+    algebra: &GeoAlgebra,
+    bytes: &[u8],
+    whole: SeqFragment,
+) -> Result<Part, SeqEnd>
+    requires fits { length bytes.now ≤ 2 ^ 28 }
+    requires whole { HoldsFragment algebra.now bytes.now (text_begin bytes.now) (length bytes.now) whole }
+    ensures { MatchResult result (IsSeqPart algebra.now.digits algebra.now.how algebra.now.query bytes.now)
+        (λ end. IfFound end (λ fault. HasSeqFault algebra.now.digits algebra.now.how bytes.now (Some fault))) }
+{
+    match whole {
+        SeqFragment::Lost => Err(SeqEnd::Memory),
+        SeqFragment::Read(SeqRead { text, valid }) => match fault_of_encoding(bytes, valid) {
+            Some(fault) => Err(SeqEnd::Found(fault)),
+            None => text_end(alloc, algebra, bytes, text),
+        },
+    }
+}

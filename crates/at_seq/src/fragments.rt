@@ -1,0 +1,246 @@
+//! What is read of a span of a sequence, and what two neighbouring spans give.
+
+ghost use Rattle.std.specs.Prelude.{◌≡◌, ℕ, ◌-◌, ◌≤◌, ◌<◌, ◌^◌, length, IfOk};
+ghost use Rattle.std.specs.List.{position_or_len};
+ghost use Rattle.at_text.specs.Spans.{part_of};
+ghost use Rattle.at_seq.specs.Records.{is_separator};
+ghost use Rattle.at_seq.specs.Fragments.{AreBeside, IsOfBoth, HoldsInner, HoldsText, HoldsParted, HoldsSpan, HoldsFragment};
+
+use crate::records::{add_fragment, add_record};
+use crate::searches::separator_place;
+use at_geojson::GeoAlgebra;
+use at_nest::{Fragment, merge, run_block};
+use at_query::part_none;
+use at_run::{Gathered, join_into, joined_span, valid_span};
+use at_text::{Memory, Span};
+use std::alloc::Global;
+
+/// A span with a separator. Offsets are of the file.
+#[derive(Drop)]
+pub struct PartedText {
+    /// What is read of the bytes before the first separator.
+    pub before: Fragment<GeoAlgebra>,
+    /// The offset of the first separator.
+    pub first: u32,
+    /// What is kept of the records between the first separator and the last.
+    pub kept: Gathered,
+    /// The offset behind the last separator.
+    pub last: u32,
+    /// What is read of the bytes behind it.
+    pub behind: Fragment<GeoAlgebra>,
+}
+
+/// What is read of the text of a span.
+#[derive(Drop)]
+pub enum SeqText {
+    /// There is no separator.
+    Lone(Fragment<GeoAlgebra>),
+    /// There is one.
+    Parted(PartedText),
+}
+
+/// What is read of a span.
+#[derive(Drop)]
+pub struct SeqRead {
+    pub text: SeqText,
+    /// Bytes of the span that are valid UTF-8, by their offsets in the file.
+    pub valid: Span,
+}
+
+/// What a span of a sequence gives.
+#[derive(Drop)]
+pub enum SeqFragment {
+    /// It stands for any span: what was to be kept of it found no memory.
+    Lost,
+    Read(SeqRead),
+}
+
+/// What is kept of the records up to the last separator of a span, and the offset behind that one.
+#[derive(Drop)]
+pub struct Inner {
+    pub kept: Gathered,
+    pub last: u32,
+}
+
+/// Reads the records of a span that begins behind a separator, up to its last separator.
+fn read_records(
+    alloc: Global,
+    algebra: &GeoAlgebra,
+    bytes: &[u8],
+    span: Span,
+) -> Result<Inner, Memory>
+    requires fits { length bytes.now ≤ 2 ^ 28 }
+    requires order { span.from ≤ span.to }
+    requires within { span.to ≤ length bytes.now }
+    ensures { IfOk result (HoldsInner algebra.now bytes.now span.from span.to) }
+{
+    let mut kept = Gathered::Kept(part_none(alloc, algebra.query()));
+    let mut start = span.from;
+    'records: loop {
+        let ahead = &bytes[start as usize..span.to as usize];
+        let end = start + separator_place(ahead) as u32;
+        if end == span.to {
+            return Ok(Inner { kept, last: start });
+        }
+        let record = Span {
+            from: start,
+            to: end,
+        };
+        add_record(alloc, algebra, &mut kept, bytes, record)?;
+        start = end + 1;
+    }
+}
+
+/// Reads a span that has its first separator at the offset.
+fn read_parted(
+    alloc: Global,
+    algebra: &GeoAlgebra,
+    bytes: &[u8],
+    span: Span,
+    first: u32,
+) -> Result<PartedText, Memory>
+    requires fits { length bytes.now ≤ 2 ^ 28 }
+    requires begins { span.from ≤ first }
+    requires inside { first < span.to }
+    requires within { span.to ≤ length bytes.now }
+    requires first { first - span.from ≡ position_or_len is_separator (part_of bytes.now span.from span.to) }
+    ensures { IfOk result (HoldsParted algebra.now bytes.now span.from span.to) }
+{
+    let records = Span {
+        from: first + 1,
+        to: span.to,
+    };
+    let Inner { kept, last } = read_records(alloc, algebra, bytes, records)?;
+    let before = &bytes[span.from as usize..first as usize];
+    let behind = &bytes[last as usize..span.to as usize];
+    Ok(PartedText {
+        before: run_block(alloc, algebra, before, span.from),
+        first,
+        kept,
+        last,
+        behind: run_block(alloc, algebra, behind, last),
+    })
+}
+
+/// Reads the text of a span of the file.
+fn read_text(
+    alloc: Global,
+    algebra: &GeoAlgebra,
+    bytes: &[u8],
+    span: Span,
+) -> Result<SeqText, Memory>
+    requires fits { length bytes.now ≤ 2 ^ 28 }
+    requires order { span.from ≤ span.to }
+    requires within { span.to ≤ length bytes.now }
+    ensures { IfOk result (HoldsText algebra.now bytes.now span.from span.to) }
+{
+    let piece = &bytes[span.from as usize..span.to as usize];
+    let first = span.from + separator_place(piece) as u32;
+    if first == span.to {
+        return Ok(SeqText::Lone(run_block(alloc, algebra, piece, span.from)));
+    }
+    let parted = read_parted(alloc, algebra, bytes, span, first)?;
+    Ok(SeqText::Parted(parted))
+}
+
+/// What a span of the file gives. Where memory is wanted, the fragment is lost.
+pub fn run_span(alloc: Global, algebra: &GeoAlgebra, bytes: &[u8], span: Span) -> SeqFragment
+    requires fits { length bytes.now ≤ 2 ^ 28 }
+    requires order { span.from ≤ span.to }
+    requires within { span.to ≤ length bytes.now }
+    ensures { HoldsFragment algebra.now bytes.now span.from span.to result }
+{
+    let piece = &bytes[span.from as usize..span.to as usize];
+    match read_text(alloc, algebra, bytes, span) {
+        Ok(text) => SeqFragment::Read(SeqRead {
+            text,
+            valid: valid_span(piece, span.from),
+        }),
+        Err(_) => SeqFragment::Lost,
+    }
+}
+
+/// The text of two neighbouring spans with a separator each: the record that lies in both is whole, and is put between
+/// the others.
+fn merge_parted(
+    alloc: Global,
+    algebra: &GeoAlgebra,
+    bytes: &[u8],
+    left: PartedText,
+    right: PartedText,
+) -> Result<PartedText, Memory>
+    requires fits { length bytes.now ≤ 2 ^ 28 }
+    requires beside { (i : ℕ) × (j : ℕ) × (k : ℕ) × AreBeside (HoldsParted algebra.now bytes.now) bytes.now i j k left right }
+    ensures { IfOk result (IsOfBoth (HoldsParted algebra.now bytes.now) bytes.now left right) }
+{
+    let mut kept = left.kept;
+    let record = Span {
+        from: left.last,
+        to: right.first,
+    };
+    let whole = merge(alloc, algebra, bytes, left.behind, right.before);
+    add_fragment(alloc, algebra, &mut kept, bytes, record, whole)?;
+    join_into(&mut kept, right.kept)?;
+    Ok(PartedText {
+        before: left.before,
+        first: left.first,
+        kept,
+        last: right.last,
+        behind: right.behind,
+    })
+}
+
+/// The text of two neighbouring spans.
+fn merge_texts(
+    alloc: Global,
+    algebra: &GeoAlgebra,
+    bytes: &[u8],
+    left: SeqText,
+    right: SeqText,
+) -> Result<SeqText, Memory>
+    requires fits { length bytes.now ≤ 2 ^ 28 }
+    requires beside { (i : ℕ) × (j : ℕ) × (k : ℕ) × AreBeside (HoldsText algebra.now bytes.now) bytes.now i j k left right }
+    ensures { IfOk result (IsOfBoth (HoldsText algebra.now bytes.now) bytes.now left right) }
+{
+    match (left, right) {
+        (SeqText::Lone(left), SeqText::Lone(right)) => {
+            Ok(SeqText::Lone(merge(alloc, algebra, bytes, left, right)))
+        }
+        (SeqText::Lone(left), SeqText::Parted(right)) => Ok(SeqText::Parted(PartedText {
+            before: merge(alloc, algebra, bytes, left, right.before),
+            first: right.first,
+            kept: right.kept,
+            last: right.last,
+            behind: right.behind,
+        })),
+        (SeqText::Parted(left), SeqText::Lone(right)) => Ok(SeqText::Parted(PartedText {
+            before: left.before,
+            first: left.first,
+            kept: left.kept,
+            last: left.last,
+            behind: merge(alloc, algebra, bytes, left.behind, right),
+        })),
+        (SeqText::Parted(left), SeqText::Parted(right)) => Ok(SeqText::Parted(merge_parted(
+            alloc, algebra, bytes, left, right,
+        )?)),
+    }
+}
+
+/// What two neighbouring spans of the file give. Where memory is wanted, the fragment is lost.
+pub fn merge_spans(
+    alloc: Global,
+    algebra: &GeoAlgebra,
+    bytes: &[u8],
+    left: SeqRead,
+    right: SeqRead,
+) -> SeqFragment
+    requires fits { length bytes.now ≤ 2 ^ 28 }
+    requires beside { (i : ℕ) × (j : ℕ) × (k : ℕ) × AreBeside (HoldsSpan algebra.now bytes.now) bytes.now i j k left right }
+    ensures { IsOfBoth (HoldsFragment algebra.now bytes.now) bytes.now (SeqFragment.Read left) (SeqFragment.Read right) result }
+{
+    let valid = joined_span(bytes, left.valid, right.valid);
+    match merge_texts(alloc, algebra, bytes, left.text, right.text) {
+        Ok(text) => SeqFragment::Read(SeqRead { text, valid }),
+        Err(_) => SeqFragment::Lost,
+    }
+}

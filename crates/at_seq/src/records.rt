@@ -1,0 +1,165 @@
+//! What is kept of records: the part of their features, or their first fault.
+
+ghost use Rattle.std.specs.Prelude.{◌≡◌, ℕ, ◌+◌, ◌≤◌, ◌<◌, ◌^◌, List, [], ◌∷◌, length, Ok, IfOk, IfSome};
+ghost use Rattle.at_text.specs.Spans.{part_of};
+ghost use Rattle.at_text.specs.Texts.{is_space};
+ghost use Rattle.at_lex.specs.Fronts.{IsFront};
+ghost use Rattle.at_nest.specs.Ending.{Answers};
+ghost use Rattle.at_nest.specs.Holding.{Kept};
+ghost use Rattle.at_nest.specs.Standing.{StandsFor};
+ghost use Rattle.at_geojson.specs.Atoms.{IsOwn, IsFold, IsRun};
+ghost use Rattle.at_seq.specs.Records.{Piece, records_in};
+ghost use Rattle.at_seq.specs.Gathering.{IsGathered, AddsRecords, IsRootKept, IsEndKept};
+
+use crate::searches::spaces_len;
+use at_geojson::{GeoAlgebra, GeoAtom, RootEnd, root_part};
+use at_nest::{Algebra, Attempt, Fragment, NestEnd, finish_span, run_block};
+use at_query::Part;
+use at_run::{Gathered, join_into};
+use at_text::{Fault, FaultKind, Memory, Span};
+use std::alloc::Global;
+
+/// What is kept of a record that is a JSON text, from what it ends in.
+fn kept_of_root(end: Result<Part, RootEnd>) -> Result<Gathered, Memory>
+    ensures { IsRootKept end result }
+{
+    match end {
+        Ok(part) => Ok(Gathered::Kept(part)),
+        Err(RootEnd::Found(fault)) => Ok(Gathered::Failed(fault)),
+        Err(RootEnd::Memory) => Err(Memory),
+    }
+}
+
+/// What is kept of a record that is no JSON text and ends at the offset.
+fn kept_of_end(end: NestEnd, to: u32) -> Result<Gathered, Memory>
+    ensures { IsEndKept to end result }
+{
+    match end {
+        NestEnd::Syntax(at) => Ok(Gathered::Failed(Fault {
+            kind: FaultKind::Syntax,
+            at,
+        })),
+        NestEnd::Ended => Ok(Gathered::Failed(Fault {
+            kind: FaultKind::Ended,
+            at: to,
+        })),
+        NestEnd::Memory => Err(Memory),
+    }
+}
+
+/// What is kept of a record that ends at the offset, from the answer of it as a whole JSON text.
+fn kept_of(
+    alloc: Global,
+    algebra: &GeoAlgebra,
+    to: u32,
+    answer: Result<GeoAtom, NestEnd>,
+) -> Result<Gathered, Memory>
+    requires { IfOk answer (IsOwn algebra.now) }
+    ensures { (at : ℕ) (text : List ℕ) → to ≡ at + length text → Answers (Kept (IsOwn algebra.now) (IsFold algebra.now) (IsRun algebra.now)) at text answer
+        → IfOk result (λ kept. IsGathered algebra.now kept (record { at = at; text = text } ∷ [])) }
+{
+    match answer {
+        Ok(atom) => kept_of_root(root_part(alloc, algebra, atom)),
+        Err(end) => kept_of_end(end, to),
+    }
+}
+
+/// The atom of a record that is read at once: so many bytes of white space, a whole value, and white space behind it.
+/// No clause says where it is: what is left out is read as any span of JSON.
+fn atom_at_once(
+    alloc: Global,
+    algebra: &GeoAlgebra,
+    text: &[u8],
+    at: u32,
+    spaces: usize,
+) -> Result<Option<GeoAtom>, Memory>
+    requires fits { at + length text.now ≤ 2 ^ 28 }
+    requires spaces { IsFront is_space text.now spaces }
+    requires some { spaces < length text.now }
+    ensures { IfOk result (λ found. IfSome found (λ atom. Answers (Kept (IsOwn algebra.now) (IsFold algebra.now) (IsRun algebra.now)) at text.now (Ok atom))) }
+{
+    let value = &text[spaces..];
+    match algebra.value(alloc, value, at + spaces as u32)? {
+        Attempt::Whole { len, atom } => {
+            let behind = &value[len as usize..];
+            if spaces_len(behind) == behind.len() {
+                Ok(Some(atom))
+            } else {
+                Ok(None)
+            }
+        }
+        Attempt::Unsaid { .. } => Ok(None),
+    }
+}
+
+/// The answer of a span of the file that is read as a whole JSON text and isn't white space alone.
+fn span_answer(
+    alloc: Global,
+    algebra: &GeoAlgebra,
+    bytes: &[u8],
+    span: Span,
+    spaces: usize,
+) -> Result<GeoAtom, NestEnd>
+    requires fits { length bytes.now ≤ 2 ^ 28 }
+    requires order { span.from ≤ span.to }
+    requires within { span.to ≤ length bytes.now }
+    requires spaces { IsFront is_space (part_of bytes.now span.from span.to) spaces }
+    requires some { spaces < length (part_of bytes.now span.from span.to) }
+    ensures { Answers (Kept (IsOwn algebra.now) (IsFold algebra.now) (IsRun algebra.now)) span.from (part_of bytes.now span.from span.to) result }
+{
+    let text = &bytes[span.from as usize..span.to as usize];
+    if let Some(atom) = atom_at_once(alloc, algebra, text, span.from, spaces)? {
+        return Ok(atom);
+    }
+    let whole = run_block(alloc, algebra, text, span.from);
+    finish_span(alloc, algebra, bytes, span, whole)
+}
+
+/// Puts the record between two places of the file behind those before it. White space alone is passed over.
+pub fn add_record(
+    alloc: Global,
+    algebra: &GeoAlgebra,
+    gathered: &mut Gathered,
+    bytes: &[u8],
+    span: Span,
+) -> Result<(), Memory>
+    requires fits { length bytes.now ≤ 2 ^ 28 }
+    requires order { span.from ≤ span.to }
+    requires within { span.to ≤ length bytes.now }
+    requires own { (before : List Piece) × IsGathered algebra.now gathered.old before }
+    ensures { IfOk result (λ _. AddsRecords algebra.now gathered.old (records_in (record { at = span.from; text = part_of bytes.now span.from span.to } ∷ [])) gathered.new) }
+{
+    let text = &bytes[span.from as usize..span.to as usize];
+    let spaces = spaces_len(text);
+    if spaces == text.len() {
+        return Ok(());
+    }
+    let answer = span_answer(alloc, algebra, bytes, span, spaces);
+    let record = kept_of(alloc, algebra, span.to, answer)?;
+    join_into(gathered, record)
+}
+
+/// The same of a record whose fragment is there.
+pub fn add_fragment(
+    alloc: Global,
+    algebra: &GeoAlgebra,
+    gathered: &mut Gathered,
+    bytes: &[u8],
+    span: Span,
+    whole: Fragment<GeoAlgebra>,
+) -> Result<(), Memory>
+    requires fits { length bytes.now ≤ 2 ^ 28 }
+    requires order { span.from ≤ span.to }
+    requires within { span.to ≤ length bytes.now }
+    requires own { (before : List Piece) × IsGathered algebra.now gathered.old before }
+    requires whole { StandsFor (Kept (IsOwn algebra.now) (IsFold algebra.now) (IsRun algebra.now)) span.from (part_of bytes.now span.from span.to) whole }
+    ensures { IfOk result (λ _. AddsRecords algebra.now gathered.old (records_in (record { at = span.from; text = part_of bytes.now span.from span.to } ∷ [])) gathered.new) }
+{
+    let text = &bytes[span.from as usize..span.to as usize];
+    if spaces_len(text) == text.len() {
+        return Ok(());
+    }
+    let answer = finish_span(alloc, algebra, bytes, span, whole);
+    let record = kept_of(alloc, algebra, span.to, answer)?;
+    join_into(gathered, record)
+}

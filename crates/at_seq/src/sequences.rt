@@ -1,0 +1,63 @@
+//! The part of a sequence's features.
+
+ghost use Rattle.std.specs.Prelude.{◌≡◌, ◌-◌, ◌<◌, ◌≤◌, ◌^◌, length, MatchResult, IfOk, None, Some, Err};
+ghost use Rattle.at_text.specs.Texts.{base_of as text_begin};
+ghost use Rattle.at_query.specs.Ranges.{IsQueryInRange};
+ghost use Rattle.at_run.specs.Places.{first_place, last_place};
+ghost use Rattle.at_run.specs.Blocks.{SomeGivenUp};
+ghost use Rattle.at_seq.specs.Sequences.{HasSeqFault, TheSeqFault};
+ghost use Rattle.at_seq.specs.Answers.{IfFound, IsSeqPart, HasProperEntries};
+
+use crate::ends::SeqEnd;
+use crate::readers::SeqReader;
+use at_crew::Gate;
+use at_fixed::Coords;
+use at_query::{Part, Query};
+use at_run::{Cuts, run_file};
+use std::alloc::Global;
+use std::thread::Threads;
+
+/// The part of a sequence's features under a query, or the sequence's first fault.
+///
+/// The bytes are read in the blocks that the cuts make of them, each by itself, by so many passes at once. No clause says
+/// anything of the cuts but that they cover the file's text, of the passes but that there are 1 to 64, or of an order of
+/// steps: whatever they are, the part is that of the whole bytes.
+///
+/// # Errors
+/// `Found` is the sequence's first fault, exactly where it has one: that of its encoding, or else the first of all others
+/// by tiers, then by offset, then by number. `Memory` comes where an allocation was refused, and wherever the gate gives up
+/// a block.
+pub fn part_seq<G: Gate, R: Threads + Sync>(
+    rt: &R,
+    alloc: Global,
+    bytes: &[u8],
+    cuts: &Cuts,
+    query: &Query,
+    digits: u8,
+    how: Coords,
+    workers: u32,
+    gate: &G,
+) -> Result<Part, SeqEnd>
+    requires short { length bytes.now ≤ 2 ^ 28 }
+    requires first { first_place cuts.now ≡ text_begin bytes.now }
+    requires last { last_place cuts.now ≡ length bytes.now }
+    requires in_range { IsQueryInRange query.now }
+    requires workers { (0 < workers) × (workers ≤ 64) }
+    ensures part { MatchResult result (IsSeqPart digits how query.now bytes.now)
+        (λ end. IfFound end (λ fault. HasSeqFault digits how bytes.now (Some fault))) }
+    ensures only { MatchResult result (λ part. TheSeqFault digits how bytes.now None)
+        (λ end. IfFound end (λ fault. TheSeqFault digits how bytes.now (Some fault))) }
+
+    // the part of a join can be joined
+    ensures proper { IfOk result HasProperEntries }
+    ensures given_up { SomeGivenUp (G.given_up gate.now) 0 (length cuts.now - 1) → result ≡ Err SeqEnd.Memory }
+{
+    let Ok(copy) = query.copy(alloc) else {
+        return Err(SeqEnd::Memory);
+    };
+    let reader = SeqReader::new(bytes, copy, digits, how);
+    let Ok(whole) = run_file(rt, alloc, &reader, bytes, cuts, workers, gate) else {
+        return Err(SeqEnd::Memory);
+    };
+    reader.finish_pieces(alloc, whole)
+}
