@@ -2,8 +2,8 @@
 use Rattle.std.proofs.Common.{◌≡◌, ◌==◌, ℕ, Bool, false, List, [], ◌∷◌, Some, None, refl, sym, ◌∙◌, ap, codes, lit≤, inl, inr, true≢false}
 use Rattle.std.specs.Fmt.{digits}
 use Rattle.at_fixed.specs.declared.rounding.Coords.TheVariants.{Exact, Round}
-use Rattle.at_run.specs.declared.forms.Form.TheVariants.{GeoJson, Wkt}
 use Rattle.at_cli.specs.declared.flags.Setting.TheVariants.{Form, Coords, Digits, Blocks, Workers}
+use Rattle.at_cli.specs.declared.form.FileForm.TheVariants.{GeoJson, Wkt, Seq}
 use Rattle.at_cli.specs.declared.line.Line.{Line}
 use Rattle.at_cli.specs.Pieces.{apart, joined, positional}
 use Rattle.at_cli.specs.Values.{IsFileName}
@@ -103,6 +103,31 @@ plain_said = (
 
 plain_only : (line : Line) → SaysLine plain_words line → line ≡ plain_line
 plain_only line h = one_line plain_words line plain_line h plain_said
+
+-- a sequence, which no name alone says
+abbrev seq_words : List (List ℕ)
+seq_words = codes "--form=seq" ∷ codes "count" ∷ codes "a.wkt" ∷ []
+
+abbrev seq_line : Line
+seq_line = record plain_line { form = Some Seq }
+
+seq_said : SaysLine seq_words seq_line
+seq_said = (
+  joined Form (codes "seq") ∷ positional (codes "count") ∷ positional (codes "a.wkt") ∷ [],
+  None,
+  record { spelled = refl; are_pieces = (tt, (refl, (refl, tt))) },
+  record {
+    form = (Seq, refl, refl);
+    how = refl;
+    digits = refl;
+    blocks = refl;
+    workers = refl;
+    names = record { places = refl; query_fits = lit≤ tt; first_names = plain_name; second_names = tt };
+  },
+)
+
+seq_only : (line : Line) → SaysLine seq_words line → line ≡ seq_line
+seq_only line h = one_line seq_words line seq_line h seq_said
 
 -- an option that is given twice, one that is none, one without its value, a fourth positional
 twice : SayNoLine (codes "--blocks=2" ∷ codes "--blocks" ∷ codes "2" ∷ codes "count" ∷ codes "a.wkt" ∷ [])

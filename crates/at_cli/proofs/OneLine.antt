@@ -4,10 +4,10 @@ use Rattle.std.proofs.lemmas.Option.{none-some, same_Some, option_and_then_some}
 use Rattle.std.proofs.lemmas.Fmt.{decimal_injective}
 use Rattle.at_fixed.specs.declared.rounding.Coords.{Coords}
 use Rattle.at_fixed.specs.declared.rounding.Coords.TheVariants.{Exact, Round}
-use Rattle.at_run.specs.declared.forms.Form.{Form}
-use Rattle.at_run.specs.declared.forms.Form.TheVariants.{GeoJson, Wkt}
 use Rattle.at_cli.specs.declared.flags.Setting.{Setting}
 use Rattle.at_cli.specs.declared.flags.Setting.TheVariants as settings
+use Rattle.at_cli.specs.declared.form.FileForm.{FileForm}
+use Rattle.at_cli.specs.declared.form.FileForm.TheVariants.{GeoJson, Wkt, Seq}
 use Rattle.at_cli.specs.declared.line.Line.{Line}
 use Rattle.at_cli.specs.declared.line.WordsEnd.{WordsEnd}
 use Rattle.at_cli.specs.declared.line.WordsEnd.TheVariants.{Refused, Memory}
@@ -137,17 +137,22 @@ chosen_once default Spells [] x y once g h = g ∙ sym h
 chosen_once default Spells (v ∷ []) x y once g h = once v x y g h
 chosen_once default Spells (v ∷ w ∷ more) x y once g h = absurd g
 
-one_form : (a b : Form) → form_text a ≡ form_text b → a ≡ b
-one_form GeoJson GeoJson e = refl
-one_form GeoJson Wkt e = cc
-one_form Wkt GeoJson e = cc
-one_form Wkt Wkt e = refl
-
-one_said_form : (text : List ℕ) (a b : Option Form) → SpellsForm text a → SpellsForm text b → a ≡ b
-one_said_form text a b (f, e, t) (g, h, u) = e ∙ ap Some (one_form f g (sym t ∙ u)) ∙ sym h
-
 apart : (m n : ℕ) → m < n → m ≡ n → ⊥
 apart m n less same = omega arith
+
+one_form : (a b : FileForm) → form_text a ≡ form_text b → a ≡ b
+one_form GeoJson GeoJson e = refl
+one_form GeoJson Wkt e = cc
+one_form GeoJson Seq e = cc
+one_form Wkt GeoJson e = cc
+one_form Wkt Wkt e = refl
+one_form Wkt Seq e = absurd (apart 115 119 (lit< tt) (sym (ap (λ (text : List ℕ). get_or text 0 0) e)))
+one_form Seq GeoJson e = cc
+one_form Seq Wkt e = absurd (apart 115 119 (lit< tt) (ap (λ (text : List ℕ). get_or text 0 0) e))
+one_form Seq Seq e = refl
+
+one_said_form : (text : List ℕ) (a b : Option FileForm) → SpellsForm text a → SpellsForm text b → a ≡ b
+one_said_form text a b (f, e, t) (g, h, u) = e ∙ ap Some (one_form f g (sym t ∙ u)) ∙ sym h
 
 one_text : (a b : Coords) → coords_text a ≡ coords_text b → a ≡ b
 one_text Exact Exact e = refl
@@ -170,7 +175,7 @@ one_digits text a b (inr (nine, e)) (inr (also, f)) = e ∙ sym f
 pub one_whole : (low high : ℕ) → high < 2 ^ 32 → (text : List ℕ) (a b : ℕ) → IsWhole low high text a → IsWhole low high text b → a ≡ b
 one_whole low high small text a b g h = decimal_injective a b (omega (arith, g.most)) (omega (arith, h.most)) (sym g.written ∙ h.written)
 
-make_line : Option Form → Coords → ℕ → ℕ → ℕ → List ℕ → List ℕ → Option (List ℕ) → Line
+make_line : Option FileForm → Coords → ℕ → ℕ → ℕ → List ℕ → List ℕ → Option (List ℕ) → Line
 make_line form how digits blocks workers query first second = record {
   form = form;
   how = how;
@@ -182,7 +187,7 @@ make_line form how digits blocks workers query first second = record {
   second = second;
 }
 
-made_same : (f g : Option Form) (h k : Coords) (d e b c w v : ℕ) (q p x y : List ℕ) (s t : Option (List ℕ))
+made_same : (f g : Option FileForm) (h k : Coords) (d e b c w v : ℕ) (q p x y : List ℕ) (s t : Option (List ℕ))
     → f ≡ g → h ≡ k → d ≡ e → b ≡ c → w ≡ v → q ≡ p → x ≡ y → s ≡ t → make_line f h d b w q x s ≡ make_line g k e c v p y t
 made_same f g h k d e b c w v q p x y s t e1 e2 e3 e4 e5 e6 e7 e8 = cc
 

@@ -2,6 +2,7 @@ pub mod Words
 pub mod Pieces
 pub mod Values
 pub mod LineOf
+pub mod Answers
 pub mod Gates
 pub mod Steps
 pub mod Said

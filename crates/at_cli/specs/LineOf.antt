@@ -1,9 +1,9 @@
 -- What a list of words says: the line that it spells, of which there is at most one.
 use Rattle.std.specs.Prelude.{◌≡◌, ◌⊎◌, ℕ, ◌^◌, ◌≤◌, List, [], ◌∷◌, length, Option, Some, None, IfSome, option_to_list, unwrap_or}
 use Rattle.at_fixed.specs.declared.rounding.Coords.TheVariants.{Round}
-use Rattle.at_run.specs.declared.forms.Form.{Form}
 use Rattle.at_cli.specs.declared.flags.Setting.{Setting}
 use Rattle.at_cli.specs.declared.flags.Setting.TheVariants as settings
+use Rattle.at_cli.specs.declared.form.FileForm.{FileForm}
 use Rattle.at_cli.specs.declared.line.Line.{Line}
 use Rattle.at_cli.specs.Pieces.{Piece, SpellPieces, values_of, positionals_of}
 use Rattle.at_cli.specs.Values.{form_text, coords_text, SpellsDigits, IsWhole, IsFileName, form_by_name}
@@ -14,8 +14,8 @@ IsChosen default Spells [] x = x ≡ default
 IsChosen default Spells (value ∷ []) x = Spells value x
 IsChosen default Spells (value ∷ second ∷ more) x = ⊥
 
-abbrev pub SpellsForm : List ℕ → Option Form → Type 0
-SpellsForm text chosen = (form : Form) × (chosen ≡ Some form) × (text ≡ form_text form)
+abbrev pub SpellsForm : List ℕ → Option FileForm → Type 0
+SpellsForm text chosen = (form : FileForm) × (chosen ≡ Some form) × (text ≡ form_text form)
 
 -- the query, the file and the second file where there is one, in this order
 pub record HasNames (positionals : List (List ℕ)) (query first : List ℕ) (second : Option (List ℕ)) : Type 0 where
@@ -50,5 +50,5 @@ pub record KeepsLimits (line : Line) : Type 0 where
   pub second_names : IfSome line.second IsFileName
 
 -- the form of a name's file: the one that the line says, or else the one that the name says
-abbrev pub form_of : Line → List ℕ → Form
+abbrev pub form_of : Line → List ℕ → FileForm
 form_of line name = unwrap_or line.form (form_by_name name)

@@ -1,7 +1,7 @@
 ghost use Rattle.std.specs.Prelude.{◌≡◌, ◌≢◌, ◌⊎◌, ◌+◌, ◌≤◌, ◌^◌, List, ℕ, length, true, Some, None, IsSome, IfOk, MatchBool, MatchResult};
 ghost use Rattle.at_query.specs.Ranges.{IsQueryInRange};
-ghost use Rattle.at_run.specs.Files.{HasFileFaultIn};
-ghost use Rattle.at_run.specs.Answers.{IfFound, IsFileAnswer, IsJoinAnswer, IsJoinFault};
+ghost use Rattle.at_run.specs.Answers.{IfFound};
+ghost use Rattle.at_cli.specs.Answers.{HasFaultAs, IsAnswerAs, IsJoinAs, IsJoinFaultAs};
 ghost use Rattle.at_cli.specs.LineOf.{form_of as form_told, KeepsLimits};
 ghost use Rattle.at_cli.specs.Gates.{PassesGate};
 ghost use Rattle.at_cli.specs.Failures.{asked_names, asked_second, WasAsked, AsksFor, FailedOn};
@@ -9,13 +9,14 @@ ghost use Rattle.at_cli.specs.Outcomes.{has_right_count as count_is_right, Sized
 ghost use Rattle.at_cli.specs.Endings.{status_of, line_of, EndsBytes, EndsPair, Ends};
 
 use crate::ending::Ending;
+use crate::files::{answer_as, join_as};
 use crate::form::form_of;
 use crate::line::Line;
 use crate::reading::named_bytes;
 use at_crew::Gate;
 use at_io::{ReadError, Shelf};
 use at_query::{Answer, Query, QueryEnd, Verb, answer_text, read_query};
-use at_run::{Cuts, JoinFault, RunFault, answer, answer_join};
+use at_run::{Cuts, JoinFault, RunFault};
 use at_text::{Word, base_of};
 use std::alloc::Global;
 use std::thread::Threads;
@@ -34,14 +35,14 @@ fn answer_file<G: Gate, R: Threads + Sync>(
     requires in_range { IsQueryInRange query.now }
     requires verb { query.now.verb ≢ Verb.Join }
     requires second { line.now.second ≡ None }
-    ensures answer { MatchResult result (IsFileAnswer (form_told line.now line.now.first) line.now.digits line.now.how query.now bytes.now)
-        (λ end. IfFound end (λ fault. HasFileFaultIn (form_told line.now line.now.first) line.now.digits line.now.how bytes.now (Some fault))) }
+    ensures answer { MatchResult result (IsAnswerAs (form_told line.now line.now.first) line.now.digits line.now.how query.now bytes.now)
+        (λ end. IfFound end (λ fault. HasFaultAs (form_told line.now line.now.first) line.now.digits line.now.how bytes.now (Some fault))) }
     ensures passes { IfOk result (λ _. PassesGate (G.given_up gate.now) line.now) }
 {
     let Ok(cuts) = Cuts::even(alloc, base_of(bytes), bytes.len() as u32, line.blocks) else {
         return Err(RunFault::Memory);
     };
-    answer(
+    answer_as(
         rt,
         alloc,
         bytes,
@@ -100,8 +101,8 @@ fn join_files<G: Gate, R: Threads + Sync>(
     requires in_range { IsQueryInRange query.now }
     requires verb { query.now.verb ≡ Verb.Join }
     ensures answer { (second : List ℕ) → line.now.second ≡ Some second
-        → MatchResult result (IsJoinAnswer (form_told line.now line.now.first) (form_told line.now second) line.now.digits line.now.how query.now a.now b.now)
-        (IsJoinFault (form_told line.now line.now.first) (form_told line.now second) line.now.digits line.now.how a.now b.now) }
+        → MatchResult result (IsJoinAs (form_told line.now line.now.first) (form_told line.now second) line.now.digits line.now.how query.now a.now b.now)
+        (IsJoinFaultAs (form_told line.now line.now.first) (form_told line.now second) line.now.digits line.now.how a.now b.now) }
     ensures passes { IfOk result (λ _. PassesGate (G.given_up gate.now) line.now) }
 {
     let Ok(cuts_a) = Cuts::even(alloc, base_of(a), a.len() as u32, line.blocks) else {
@@ -110,7 +111,7 @@ fn join_files<G: Gate, R: Threads + Sync>(
     let Ok(cuts_b) = Cuts::even(alloc, base_of(b), b.len() as u32, line.blocks) else {
         return Err(JoinFault::Memory);
     };
-    answer_join(
+    join_as(
         rt,
         alloc,
         a,

@@ -3,6 +3,7 @@
 
 mod deciding;
 mod ending;
+mod files;
 mod flags;
 mod form;
 mod line;
@@ -15,13 +16,14 @@ mod run;
 mod said;
 mod values;
 
-pub use at_run::Form;
-pub use form::form_of;
+pub use form::{FileForm, form_of};
 pub use line::{Line, WordsEnd, read_words};
 pub use lines::tell_no_memory;
 pub use made::made_file;
 pub use run::top;
 
+#[cfg(test)]
+mod file_tests;
 #[cfg(test)]
 mod hostile_tests;
 #[cfg(test)]

@@ -57,7 +57,12 @@ count|e|--form => refused
 --form||count|e => refused
 --form=wkt=|count|e => refused
 --form=WKT|count|e => refused
---form|seq|count|e => refused
+--form|seq|count|e => seq round 7 64 4|count|e
+--form=seq|count|e => seq round 7 64 4|count|e
+--form|seqs|count|e => refused
+--form|Seq|count|e => refused
+--form|se|count|e => refused
+--form|geojsonseq|count|e => refused
 --Form|wkt|count|e => refused
 --for|wkt|count|e => refused
 --forms|wkt|count|e => refused
@@ -139,10 +144,11 @@ count|e|--digits => refused
 -digits|9|count|e => refused
 ";
 
-fn form_name(form: Form) -> &'static str {
+fn form_name(form: FileForm) -> &'static str {
     match form {
-        Form::GeoJson => "geojson",
-        Form::Wkt => "wkt",
+        FileForm::GeoJson => "geojson",
+        FileForm::Wkt => "wkt",
+        FileForm::Seq => "seq",
     }
 }
 
@@ -229,6 +235,10 @@ e.json => geojson
 @g:7 => geojson
 x@w:7 => geojson
  => geojson
+e.geojsons => geojson
+e.geojsonl => geojson
+e.seq => geojson
+@s:7 => geojson
 ";
 
 /// Compares the form of each name.
@@ -252,5 +262,7 @@ fn forms_of_files(rt: HostRuntime) -> Result<(), Fail> {
     let wkt = line_in(alloc, "--form=wkt|count|e")?;
     compare_forms(&rt, &wkt, "e.json => wkt\n@g:7 => wkt\ne.wkt => wkt\n")?;
     let geojson = line_in(alloc, "--form=geojson|count|e")?;
-    compare_forms(&rt, &geojson, "e.wkt => geojson\n@w:7 => geojson\n")
+    compare_forms(&rt, &geojson, "e.wkt => geojson\n@w:7 => geojson\n")?;
+    let seq = line_in(alloc, "--form=seq|count|e")?;
+    compare_forms(&rt, &seq, "e.json => seq\ne.wkt => seq\n@g:7 => seq\n")
 }

@@ -14,8 +14,8 @@ use at_text::{Fault, FaultKind};
 const PIECE: usize = 65_536;
 
 const USAGE: &str =
-    "usage: atgis [--form geojson|wkt] [--coords exact|round] [--digits 7|9] [--blocks 1..4096] [--workers 1..64] \
-     QUERY FILE [SECOND]\n";
+    "usage: atgis [--form geojson|wkt|seq] [--coords exact|round] [--digits 7|9] [--blocks 1..4096] \
+     [--workers 1..64] QUERY FILE [SECOND]\n";
 
 /// Puts the parts of a line one after another, up to the first put that fails.
 fn put_parts<E: Sink>(err: &mut E, parts: &[&str])

@@ -4,12 +4,12 @@ ghost use Rattle.at_cli.specs.Steps.{shown, given_in};
 ghost use Rattle.at_cli.specs.Said.{line_said};
 ghost use Rattle.at_cli.specs.declared.line.Line.{Line};
 
+use crate::form::FileForm;
 use crate::line::{Line, WordsEnd};
 use crate::names::{Names, names_of};
 use crate::pieces::{Pieces, gather};
 use crate::values::{coords_or_round, digits_or_seven, form_said, number_or};
 use at_fixed::Coords;
-use at_run::Form;
 use at_text::Word;
 use std::alloc::{AllocError, Global};
 
@@ -26,7 +26,7 @@ const MOST_WORKERS: u32 = 64;
 /// A line whose texts are the words themselves.
 #[derive(Clone, Copy)]
 pub struct Said<'w> {
-    pub form: Option<Form>,
+    pub form: Option<FileForm>,
     pub how: Coords,
     pub digits: u8,
     pub blocks: u32,

@@ -40,8 +40,8 @@ const PLAIN: Run<'static> = Run {
 const AMPLE: u32 = 1 << 20;
 
 const USAGE: &str =
-    "usage: atgis [--form geojson|wkt] [--coords exact|round] [--digits 7|9] [--blocks 1..4096] [--workers 1..64] \
-     QUERY FILE [SECOND]\n";
+    "usage: atgis [--form geojson|wkt|seq] [--coords exact|round] [--digits 7|9] [--blocks 1..4096] \
+     [--workers 1..64] QUERY FILE [SECOND]\n";
 
 const NAMES: &str = "files: join takes two, every other verb one\n";
 
@@ -269,6 +269,36 @@ join|e.json|f.wkt => f.wkt => POINT (x) => 3 e.json: read failed~
 join|f.wkt|@g:1 => f.wkt => POINT (1 1)~POINT (2 2)~ => 0 0 41~
 ";
 
+/// GeoJSON text sequences.
+const SEQUENCES: &str =
+    "--form|seq|select|s => s => \u{1E}{\"type\":\"Point\",\"coordinates\":[1,2]}~\u{1E}{\"type\":\"Point\",\"coordinates\":[3,4]}~ => 0 1~39~
+--form=seq|select|s => s => \u{1E}{\"type\":\"Point\",\"coordinates\":[1,2]}~\u{1E}{\"type\":\"Point\",\"coordinates\":[3,4]} => 0 1~39~
+--form|seq|count|s => s =>  => 0 0~
+--form|seq|count|s => s => \u{1E}\u{1E}~ => 0 0~
+--form|seq|count|s => s => x\u{1E}{} => 1 s: Syntax at 0~
+--form|seq|count|s => s => \u{1E}\u{FEFF}{} => 1 s: Syntax at 1~
+--form|seq|count|s => s => \u{1E}{\"type\":\"Point\",\"coordinates\":[1,2]\u{1E}{\"type\":\"Point\",\"coordinates\":[3,4]}~ => 1 s: Ended at 36~
+--form|seq|join|s|s => s => \u{1E}{\"type\":\"Point\",\"coordinates\":[1,2]}~\u{1E}{\"type\":\"Point\",\"coordinates\":[3,4]}~ => 0 1 1~39 39~
+--form|seq|join where in box(0 0,2 3)|s|s => s => \u{1E}{\"type\":\"Point\",\"coordinates\":[1,2]}~\u{1E}{\"type\":\"Point\",\"coordinates\":[3,4]}~ => 0 1 1~
+--form|seq|extent|s => s => \u{1E}{\"type\":\"Point\",\"coordinates\":[1,2]}~\u{1E}{\"type\":\"Point\",\"coordinates\":[3,4]}~ => 0 1.0000000 2.0000000 3.0000000 4.0000000~
+--form|seq|select|s => s => \u{FEFF} ^~\u{1E} ~\u{1E}{\"type\":\"Point\",\"coordinates\":[1,2]} => 0 10~
+--form|seq|select|s => s => \u{1E}{\"type\":\"FeatureCollection\",\"features\":[{\"type\":\"Feature\",\"geometry\":null}]}~ => 0 41~
+--form|seq|select where has \"a\" = \"b\"|s => s => \u{1E}{\"type\":\"Feature\"}~\u{1E}{\"type\":\"Feature\",\"properties\":{\"a\":\"b\"}}~ => 0 21~
+--form|seq|count|s => s => {\"type\":\"Point\",\"coordinates\":[1,2]}~ => 1 s: Syntax at 0~
+--form|seq|count|s => s => \u{1E}{\"type\":\"Feature\"}{\"type\":\"Feature\"}~ => 1 s: Syntax at 19~
+--form|seq|count|s => s => \u{1E}{}~\u{1E}x~ => 1 s: Syntax at 5~
+--form|seq|count|s => s => \u{1E}{}~\u{1E}{% => 1 s: NotUtf8 at 6~
+--form|seq|count|s => s => \u{1E}{\"type\":\"Point\",\"coordinates\":[1,2]}~\u{1E}{\"type\":\"Point\",\"coordinates\":[1]}~ => 1 s: Form at 69~
+--form|seq|count|s => s => \u{1E}{ => 1 s: Ended at 2~
+--form|seq|join|s|s => s => \u{1E}{} => 1 s: Form at 1~
+--form|seq|count|@g:1 => s =>  => 1 @g:1: Syntax at 0~
+--form|seq|join|@w:1|s => s =>  => 1 @w:1: Syntax at 0~
+--blocks|1|--form|seq|select|s => s => \u{1E}{\"type\":\"Point\",\"coordinates\":[1,2]}~\u{1E}{\"type\":\"Point\",\"coordinates\":[3,4]}~ => 0 1~39~
+--blocks|4096|--workers|64|--form|seq|select|s => s => \u{1E}{\"type\":\"Point\",\"coordinates\":[1,2]}~\u{1E}{\"type\":\"Point\",\"coordinates\":[3,4]}~ => 0 1~39~
+count|s => s => \u{1E}{\"type\":\"Point\",\"coordinates\":[1,2]}~\u{1E}{\"type\":\"Point\",\"coordinates\":[3,4]}~ => 1 s: Syntax at 0~
+--form|seqs|count|s => s => \u{1E}{\"type\":\"Point\",\"coordinates\":[1,2]}~\u{1E}{\"type\":\"Point\",\"coordinates\":[3,4]}~ => 2 usage
+";
+
 /// Any count of blocks and workers gives the same answer.
 const BLOCKS: &str =
     "--blocks|1|select|f.wkt => f.wkt => POINT (1 1)~POINT (0 5)~POINT (4 5)~POINT (5 5)~ => 0 0~12~24~36~
@@ -439,6 +469,11 @@ fn geojson_files(rt: HostRuntime) -> Result<(), Fail> {
 #[test]
 fn made_files_and_joins(rt: HostRuntime) -> Result<(), Fail> {
     run_table(&rt, rt.alloc(), MADE)
+}
+
+#[test]
+fn sequences(rt: HostRuntime) -> Result<(), Fail> {
+    run_table(&rt, rt.alloc(), SEQUENCES)
 }
 
 #[test]

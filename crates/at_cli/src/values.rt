@@ -1,13 +1,13 @@
 ghost use Rattle.std.specs.Prelude.{◌≡◌, ◌≢◌, ◌⊎◌, ℕ, List, length, slice_index, MatchBool, ◌<◌, ◌≤◌, ◌^◌, ◌↔◌, decimal, Option, option_to_list, MatchOption, IsTrue};
 ghost use Rattle.std.specs.Option.{option_copied};
 ghost use Rattle.at_fixed.specs.declared.rounding.Coords.{Coords};
-ghost use Rattle.at_run.specs.declared.forms.Form.{Form};
 ghost use Rattle.at_cli.specs.Values.{form_text, coords_text, SpellsDigits, IsWhole, GoesOn, IsFileName};
 ghost use Rattle.at_cli.specs.LineOf.{IsChosen, SpellsForm};
+ghost use Rattle.at_cli.specs.declared.form.FileForm.{FileForm};
 
 use crate::flags::text_behind;
+use crate::form::FileForm;
 use at_fixed::Coords;
-use at_run::Form;
 
 /// The most features that a made file has.
 pub const MOST_MADE: u32 = 1_000_000;
@@ -58,20 +58,21 @@ pub fn number_or(default: u32, most: u32, text: Option<&str>) -> Option<u32>
 }
 
 /// The form that a text names.
-fn form_named(text: &str) -> Option<Form>
-    ensures { MatchOption result ((form : Form) → text.now ≢ form_text form) (λ form. text.now ≡ form_text form) }
+fn form_named(text: &str) -> Option<FileForm>
+    ensures { MatchOption result ((form : FileForm) → text.now ≢ form_text form) (λ form. text.now ≡ form_text form) }
 {
     match text {
-        "geojson" => Some(Form::GeoJson),
-        "wkt" => Some(Form::Wkt),
+        "geojson" => Some(FileForm::GeoJson),
+        "wkt" => Some(FileForm::Wkt),
+        "seq" => Some(FileForm::Seq),
         _ => None,
     }
 }
 
 /// The form that is said, or none where none is.
-pub fn form_said(text: Option<&str>) -> Option<Option<Form>>
+pub fn form_said(text: Option<&str>) -> Option<Option<FileForm>>
     ensures { MatchOption result
-        ((form : Option Form) → IsChosen None SpellsForm (option_to_list (option_copied text.entry)) form → ⊥)
+        ((form : Option FileForm) → IsChosen None SpellsForm (option_to_list (option_copied text.entry)) form → ⊥)
         (IsChosen None SpellsForm (option_to_list (option_copied text.entry))) }
 {
     match text {
