@@ -77,7 +77,7 @@ _atgis() {
         option=${word%%=*} head=$option=
     fi
     case $option in
-    --form) found=(geojson wkt) ;;
+    --form) found=(geojson wkt seq) ;;
     --coords) found=(exact round) ;;
     --digits) found=(7 9) ;;
     --blocks) found=(1 16 64 256 1024 4096) ;;

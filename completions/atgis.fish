@@ -55,7 +55,7 @@ function __atgis_query
     end
 end
 
-complete -c atgis -x -l form -a 'geojson wkt' -d 'the form of all files'
+complete -c atgis -x -l form -a 'geojson wkt seq' -d 'the form of all files'
 complete -c atgis -x -l coords -a 'exact round' -d 'refuse or round coordinates with more decimals'
 complete -c atgis -x -l digits -a '7 9' -d 'how many decimals a coordinate has'
 complete -c atgis -x -l blocks -a '1 16 64 256 1024 4096' -d 'how many pieces a file is cut into, 1 to 4096'

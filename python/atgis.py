@@ -14,7 +14,7 @@ Each function runs the program once and reads what it prints. A file is the name
 or the name of a made file such as `@g:1000`. Tests are a query's text behind ` where `, or a list of such texts, all of
 which must hold; None and an empty text are no test. These options stand behind them, by name:
 
-    form      "geojson" or "wkt"; without it the name of each file tells
+    form      "geojson", "wkt" or "seq"; without it the name of each file tells which of the first two
     coords    "round" or "exact": what is done with a coordinate that is no whole multiple of a unit
     digits    7 or 9 decimals
     blocks    1 to 4096

@@ -19,6 +19,7 @@ LINES = [
     ("atgis --fo", "atgis --form"),
     ("atgis --form=w", "atgis --form=wkt"),
     ("atgis --form g", "atgis --form geojson"),
+    ("atgis --form=s", "atgis --form=seq"),
     ("atgis --coords=e", "atgis --coords=exact"),
     ("atgis --coords r", "atgis --coords round"),
     ("atgis --digits=9 --co", "atgis --digits=9 --coords"),
@@ -46,7 +47,7 @@ LINES = [
 # What fish lists for a line.
 LISTS = [
     ("atgis --f", ["--form"]),
-    ("atgis --form ", ["geojson", "wkt"]),
+    ("atgis --form ", ["geojson", "seq", "wkt"]),
     ("atgis --form=w", ["--form=wkt"]),
     ("atgis --coords ", ["exact", "round"]),
     ("atgis --digits ", ["7", "9"]),
