@@ -9,4 +9,4 @@ use Rattle.at_nest.specs.declared.pieces.Piece.TheVariants.{Closes, Closers as C
 abbrev pub IsLonger : {X : Type 0} → Piece X → Bracket → ℕ → Closers → Type 0
 IsLonger (Closes b i) bracket at r = (b ≡ bracket) × (r.bracket ≡ bracket) × (r.from ≡ i) × (at ≡ i + 1) × (r.to ≡ at + 1)
 IsLonger (ClosersPiece q) bracket at r = (q.bracket ≡ bracket) × (r.bracket ≡ bracket) × (r.from ≡ q.from) × (at ≡ q.to) × (r.to ≡ at + 1)
-IsLonger _ bracket at r = ⊥
+IsLonger _ _ _ _ = ⊥
