@@ -14,8 +14,8 @@ use Rattle.at_query.specs.declared.queries.Query.{Query}
 use Rattle.at_query.specs.declared.features.Feature.{Feature}
 use Rattle.at_query.specs.declared.parts.Entry.{Entry}
 use Rattle.at_query.specs.declared.parts.Part.{Part}
-use Rattle.at_query.specs.declared.parts.Part.TheVariants.{Offsets, Count, Area, Spread, Entries}
-use Rattle.at_query.specs.Parts.{kept_of, IsProperFeature, AreProperFeatures}
+use Rattle.at_query.specs.declared.parts.Part.TheVariants.{Offsets, Count, Area, Spread, Entries, Hull}
+use Rattle.at_query.specs.Parts.{IsKeptOf, IsProperFeature, AreProperFeatures}
 use Rattle.at_query.proofs.ProperEntries.{entries_are_proper}
 use Rattle.at_geojson.specs.Roles.{features_of}
 use Rattle.at_geojson.specs.Wholes.{faults_of}
@@ -102,11 +102,12 @@ module _ (digits : ℕ) (how : Coords) where
         by_pieces (base_of bytes) (slice_split is_separator (drop (base_of bytes) bytes)) (faults, have, (empties (head_faults (pieces_of bytes)) faults (no_first (head_faults (pieces_of bytes) ++ faults) e)).1) are
 
   -- entries are the part of a join alone
-  joins_entries : (verb : Verb) (kept : List Feature) (es : List Entry) → Entries es ≡ kept_of verb kept → verb ≡ verbs.Join
+  joins_entries : (verb : Verb) (kept : List Feature) (es : List Entry) → IsKeptOf verb kept (Entries es) → verb ≡ verbs.Join
   joins_entries verbs.Select kept es e = absurd (cc)
   joins_entries verbs.Count kept es e = absurd (cc)
   joins_entries verbs.Area kept es e = absurd (cc)
   joins_entries verbs.Extent kept es e = absurd (cc)
+  joins_entries verbs.Hull kept es (h, e, k) = absurd (cc)
   joins_entries verbs.Join kept es e = refl
 
   pub part_proper : (query : Query) (bytes : List ℕ) (part : Part) → IsSeqPart digits how query bytes part → HasProperEntries part
@@ -114,6 +115,7 @@ module _ (digits : ℕ) (how : Coords) where
   part_proper query bytes (Count n) h = tt
   part_proper query bytes (Area z) h = tt
   part_proper query bytes (Spread e) h = tt
+  part_proper query bytes (Hull a) h = tt
   part_proper query bytes (Entries es) h =
       let (kept, keeps, e) = h.is_part in
       entries_are_proper query h.features es (joins_entries query.verb kept es e) h.is_part (seq_features_proper bytes h.features h.faultless h.are_features)
