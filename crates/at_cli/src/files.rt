@@ -191,6 +191,7 @@ pub fn join_as<G: Gate, R: Threads + Sync>(
     requires workers { (0 < workers) × (workers ≤ 64) }
     ensures answer { MatchResult result (IsJoinAs form_a form_b digits how query.now a.now b.now) (IsJoinFaultAs form_a form_b digits how a.now b.now) }
     ensures gate_a { IfOk result (λ _. NoneGivenUp (G.given_up gate.now) 0 (length cuts_a.now - 1)) }
+    ensures gate_b { IfOk result (λ _. NoneGivenUp (G.given_up gate.now) 0 (length cuts_b.now - 1)) }
     ensures gate_cells { IfOk result (λ _. NoneGivenUp (G.given_up gate.now) 0 64) }
 {
     let first = match entries_as(
