@@ -17,6 +17,7 @@ pub mod PathAnswers
 pub mod BodySteps
 pub mod GeometrySteps
 pub mod KindAnswers
+pub mod PlainWords
 pub mod CollectionSteps
 pub mod PartAnswers
 pub mod GeometryAnswers

@@ -1,13 +1,13 @@
 //! The words of the seven kinds, and the letters Z and M behind them.
 
-ghost use Rattle.std.specs.Prelude.{◌≡◌, ◌≤◌, ◌+◌, ◌⊎◌, length, MatchResult};
-ghost use Rattle.at_wkt.specs.Reading.{word_of, WordStands, KindBreaks, LetterStands, HeadStands, IfStopped};
+ghost use Rattle.std.specs.Prelude.{◌≡◌, ◌≤◌, ◌+◌, ◌⊎◌, length, IfSome, MatchResult};
+ghost use Rattle.at_wkt.specs.Reading.{next, word_of, WordStands, KindBreaks, LetterStands, HeadStands, SkipsBlanks, IfStopped};
 
-use crate::bytes::{letter_stands, skip_blanks};
+use crate::bytes::{letter_stands, skip_blanks, stands};
 use crate::dimension::Dimension;
 use crate::halts::Halt;
 use crate::sources::Place;
-use crate::words::matching;
+use crate::words::{matching, plain_word};
 
 /// The kinds of geometry (OGC 06-103r4 section 7.2.2).
 #[derive(Clone, Copy, Debug, PartialEq, Eq)]
@@ -34,6 +34,7 @@ const KINDS: [Kind; 7] = [
 
 impl Kind {
     /// The word that tells the kind, in capitals.
+    #[inline(always)]
     fn word(self) -> &'static [u8]
         ensures { result.now ≡ word_of self }
     {
@@ -122,8 +123,67 @@ pub struct Head {
     pub behind: Place,
 }
 
-/// Reads the word of a kind, its letter, and the blanks behind them.
+/// The place of an opening bracket, or of one behind a space.
+#[inline(always)]
+fn bracket_at(text: &[u8], at: usize) -> Option<usize>
+    requires { at ≤ length text.now }
+    ensures blanks { IfSome result (SkipsBlanks text.now at) }
+    ensures bracket { IfSome result (λ place. next text.now place ≡ 0x28) }
+{
+    if stands(text, at, b'(') {
+        return Some(at);
+    }
+    if stands(text, at, b' ') && stands(text, at + 1, b'(') {
+        return Some(at + 1);
+    }
+    None
+}
+
+/// The head of a geometry of the kind, where its word stands in capitals, with a bracket behind it.
+#[inline(always)]
+fn plain_kind(text: &[u8], at: usize, kind: Kind) -> Option<Head>
+    requires { at ≤ length text.now }
+    ensures { IfSome result (HeadStands text.now at) }
+{
+    let end = plain_word(text, at, kind.word())?;
+    let place = bracket_at(text, end)?;
+    Some(Head {
+        kind,
+        behind: Place {
+            at: place,
+            dimension: Dimension::Open,
+        },
+    })
+}
+
+/// The head of a geometry as programs write it: a word in capitals, and a bracket.
+#[inline(always)]
+fn plain_head(text: &[u8], at: usize) -> Option<Head>
+    requires { at ≤ length text.now }
+    ensures { IfSome result (HeadStands text.now at) }
+{
+    if let Some(head) = plain_kind(text, at, Kind::Point) {
+        return Some(head);
+    }
+    if let Some(head) = plain_kind(text, at, Kind::Polygon) {
+        return Some(head);
+    }
+    plain_kind(text, at, Kind::LineString)
+}
+
+/// Reads the head of a geometry: the word of a kind, its letter, and the blanks behind them.
 pub fn read_head(text: &[u8], at: usize) -> Result<Head, Halt>
+    requires { at ≤ length text.now }
+    ensures { MatchResult result (HeadStands text.now at) (λ halt. IfStopped halt (KindBreaks text.now at)) }
+{
+    match plain_head(text, at) {
+        Some(head) => Ok(head),
+        None => any_head(text, at),
+    }
+}
+
+/// Reads the word of a kind, its letter, and the blanks behind them, however they are written.
+fn any_head(text: &[u8], at: usize) -> Result<Head, Halt>
     requires { at ≤ length text.now }
     ensures { MatchResult result (HeadStands text.now at) (λ halt. IfStopped halt (KindBreaks text.now at)) }
 {

@@ -1,6 +1,7 @@
 //! Words of a text, in either case.
 
-ghost use Rattle.std.specs.Prelude.{◌≤◌, codes, length, MatchResult};
+ghost use Rattle.std.specs.Prelude.{◌≡◌, ◌≤◌, codes, length, IfSome, MatchResult};
+ghost use Rattle.std.specs.Str.{str_to_ascii_uppercase};
 ghost use Rattle.at_wkt.specs.Reading.{Matches, WordStands, WordBreaks, IfStopped};
 
 use crate::bytes::letter_stands;
@@ -16,6 +17,20 @@ pub fn matching(text: &[u8], at: usize, word: &[u8]) -> usize
         count += 1;
     }
     count
+}
+
+/// The place behind a word of capitals that stands as it is.
+#[inline(always)]
+pub fn plain_word(text: &[u8], at: usize, word: &[u8]) -> Option<usize>
+    requires inside { at ≤ length text.now }
+    requires capitals { str_to_ascii_uppercase word.now ≡ word.now }
+    ensures { IfSome result (λ end. WordStands text.now at end word.now) }
+{
+    if text[at..].starts_with(word) {
+        Some(at + word.len())
+    } else {
+        None
+    }
 }
 
 /// The place behind the word EMPTY.
