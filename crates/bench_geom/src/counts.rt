@@ -4,7 +4,8 @@ ghost use Rattle.at_geom.specs.Shapes.{ArePathsInRange};
 
 use crate::random::Random;
 use at_geom::{Path, Paths, Polygon, Pos, in_polygon, segments_meet};
-use std::alloc::{AllocError, Global};
+use at_text::Memory;
+use std::alloc::Global;
 
 /// How many of `count` random pairs of segments meet.
 pub fn meeting(count: u64) -> u64 {
@@ -23,7 +24,7 @@ pub fn meeting(count: u64) -> u64 {
 }
 
 /// How many of `count` random positions are in a closed ring of `edges` random edges.
-pub fn inside(alloc: Global, count: u64, edges: u64) -> Result<u64, AllocError> {
+pub fn inside(alloc: Global, count: u64, edges: u64) -> Result<u64, Memory> {
     let mut random = Random::new();
     let polygon = one_ring(alloc, ring(alloc, &mut random, edges)?)?;
     let mut found: u64 = 0;
@@ -36,7 +37,7 @@ pub fn inside(alloc: Global, count: u64, edges: u64) -> Result<u64, AllocError> 
     Ok(found)
 }
 
-fn ring(alloc: Global, random: &mut Random, edges: u64) -> Result<Path, AllocError>
+fn ring(alloc: Global, random: &mut Random, edges: u64) -> Result<Path, Memory>
     ensures { IfOk result (λ p. All IsInRange p) }
 {
     let first = random.position();
@@ -49,7 +50,7 @@ fn ring(alloc: Global, random: &mut Random, edges: u64) -> Result<Path, AllocErr
     Ok(Path::from_vec(items))
 }
 
-fn one_ring(alloc: Global, exterior: Path) -> Result<Polygon, AllocError>
+fn one_ring(alloc: Global, exterior: Path) -> Result<Polygon, Memory>
     requires { All IsInRange exterior }
     ensures { IfOk result (λ p. ArePathsInRange p.rings) }
 {
