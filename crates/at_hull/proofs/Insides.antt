@@ -87,7 +87,7 @@ ring_of_both a b c r k f h = record {
   none_right = none_right_of_both (a ∷ b ∷ c ∷ r) k (round a b (c ∷ r)) (λ p m. (f p m).1) h.none_right;
 }
 
-own_with : (h k : List Pos) → Each (IsWithin h) k → IsHull h h → IsHull (h ++ k) h
+pub own_with : (h k : List Pos) → Each (IsWithin h) k → IsHull h h → IsHull (h ++ k) h
 own_with h [] f o = subst (λ l. IsHull l h) (sym (append-nil h)) o
 own_with [] (p ∷ k) f o = absurd (f p (inl refl))
 own_with (a ∷ []) (p ∷ k) f o = absurd (f p (inl refl))

@@ -5,6 +5,7 @@ pub mod Insides
 pub mod Joints
 pub mod Laws
 pub mod Members
+pub mod OneHull
 pub mod Planes
 pub mod Rings
 pub mod Sorted

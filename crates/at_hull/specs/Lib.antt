@@ -1,3 +1,4 @@
+pub mod Growth
 pub mod Hulls
 pub mod Walks
 pub mod Within

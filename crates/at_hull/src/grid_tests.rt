@@ -108,12 +108,12 @@ fn encloses(h: &[Pos], ps: &[Pos]) -> bool {
 }
 
 /// Whether `h` is the hull of `ps`.
-fn is_hull(ps: &[Pos], h: &[Pos]) -> bool {
+pub(crate) fn is_hull(ps: &[Pos], h: &[Pos]) -> bool {
     are_of(h, ps) && are_different(h) && encloses(h, ps)
 }
 
 /// A position of the grid, by its number.
-fn cell(number: u32) -> Pos
+pub(crate) fn cell(number: u32) -> Pos
     ensures { IsInRange result }
 {
     at(i64::from(number % 3), i64::from(number / 3 % 3) - 1)
@@ -133,7 +133,7 @@ fn listed(alloc: Global, count: u32, code: u32) -> Result<Path, AllocError>
 }
 
 /// The positions whose numbers are bits of the code.
-fn chosen(alloc: Global, code: u32) -> Result<Path, AllocError>
+pub(crate) fn chosen(alloc: Global, code: u32) -> Result<Path, AllocError>
     ensures { IfOk result (λ p. All IsInRange p) }
 {
     let mut items = Vec::new(alloc);

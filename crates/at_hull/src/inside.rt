@@ -78,7 +78,7 @@ fn wedge(hull: &[Pos], p: Pos) -> usize
 
 /// Whether the position is seen to lie within a hull of three positions or more, in as many steps as its count has
 /// binary digits.
-fn is_within(hull: &[Pos], p: Pos) -> bool
+pub(crate) fn is_within(hull: &[Pos], p: Pos) -> bool
     requires hull_in_range { All IsInRange hull.now }
     requires p_in_range { IsInRange p }
     ensures { IsTrue result → IsWithin hull.now p }

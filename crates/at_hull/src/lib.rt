@@ -1,18 +1,23 @@
 //! The convex hull of a list of positions: the extreme positions, counterclockwise from the lowest.
 //!
 //! [`hull`] walks the sorted positions once up and once down; [`hull_join`] makes the hull of two
-//! lists from their hulls, and [`covers_all`] sees without memory where it is the one of them. Each
-//! list has one hull and no more, whatever the order of its positions.
+//! lists from their hulls, and [`covers_all`] sees without memory where it is the one of them. A
+//! [`HullBuilder`] is given positions bit by bit. Each list has one hull and no more, whatever the
+//! order of its positions.
 //! Coordinates are in range as at_geom has it, so every turn is exact.
 #![tactic(auto)]
 
+mod builder;
 mod chains;
 mod hulls;
 mod inside;
 
+pub use builder::HullBuilder;
 pub use hulls::{hull, hull_join};
 pub use inside::covers_all;
 
+#[cfg(test)]
+mod builder_tests;
 #[cfg(test)]
 mod grid_tests;
 #[cfg(test)]

@@ -1,0 +1,138 @@
+//! The hull of positions that are added bit by bit.
+ghost use Rattle.std.specs.Prelude.{◌≡◌, ◌<◌, ◌++◌, [], List, All, IfOk, OnOk, OnErr, IsOk, length, max, take};
+ghost use Rattle.at_geom.specs.Segments.{IsInRange};
+ghost use Rattle.at_hull.specs.Hulls.{IsHull};
+ghost use Rattle.at_hull.specs.Growth.{HaveOneHull, HoldsFront, held};
+
+use crate::hulls::hull;
+use crate::inside::is_within;
+use at_geom::{Path, Pos};
+use at_text::Memory;
+use std::alloc::Global;
+use std::marker::Model;
+
+/// As many positions wait at least before the hull is made anew.
+const FEW: usize = 32;
+
+/// The hull of positions that are added bit by bit.
+///
+/// Positions that are seen to lie within the hull are left out, and the others wait. When as many wait as the hull
+/// has, and at least 32, the hull of both is made. So `n` positions take in all a time of the order of `n log n`, and
+/// what is held is at most about twice the hull and the positions of one call.
+#[derive(Drop)]
+pub struct HullBuilder {
+    hull: Vec<Pos>,
+    waiting: Vec<Pos>,
+}
+
+impl Model for HullBuilder {
+    ghost use Rattle.std.specs.Prelude.{All};
+    ghost use Rattle.at_geom.specs.Segments.{IsInRange};
+    ghost use Rattle.at_hull.specs.Hulls.{IsHull};
+    ghost use Rattle.at_hull.specs.Growth.{Growth};
+
+    ghost Value = { Growth };
+
+    ghost view = { λ b. record { hull = b.hull.items; waiting = b.waiting.items } };
+
+    ghost invariant = { λ b. IsHull b.hull.items b.hull.items × All IsInRange b.hull.items × All IsInRange b.waiting.items };
+}
+
+impl HullBuilder {
+    /// No positions. It takes no memory.
+    pub fn new(alloc: Global) -> Self
+        ensures { result ≡ record { hull = []; waiting = [] } }
+    {
+        HullBuilder {
+            hull: Vec::new(alloc),
+            waiting: Vec::new(alloc),
+        }
+    }
+
+    /// The positions of a hull. It takes no memory.
+    pub fn from_hull(hull: Path) -> Self
+        requires own { IsHull hull hull }
+        requires in_range { All IsInRange hull }
+        ensures { result ≡ record { hull = hull; waiting = [] } }
+    {
+        let hull = hull.into_vec();
+        let waiting = Vec::new(*hull.allocator());
+        HullBuilder { hull, waiting }
+    }
+
+    /// Adds the positions. Coordinates are at most 3 * 10^14 units in size. At `Err`, which is want of memory, the
+    /// first of them are there, up to some place.
+    pub fn add(&mut self, points: &[Pos]) -> Result<(), Memory>
+        requires { All IsInRange points.now }
+        ensures held { OnOk result (HaveOneHull (held self.old ++ points.now) (held self.new)) }
+        ensures few { OnOk result (length self.new.waiting < max 32 (length self.new.hull)) }
+        ensures err { OnErr result (HoldsFront self.old points.now self.new) }
+    {
+        push_outside(self.hull.as_slice(), points, &mut self.waiting)?;
+        if self.waiting.len() < FEW || self.waiting.len() < self.hull.len() {
+            return Ok(());
+        }
+        let alloc = *self.hull.allocator();
+        self.hull = hull_of_both(alloc, self.hull.as_slice(), self.waiting.as_slice())?;
+        self.waiting.clear();
+        Ok(())
+    }
+
+    /// Adds what the other holds. At `Err`, which is want of memory, the first of that is there, up to some place.
+    pub fn join(&mut self, other: HullBuilder) -> Result<(), Memory>
+        ensures held { OnOk result (HaveOneHull (held self.old ++ held other) (held self.new)) }
+        ensures few { OnOk result (length self.new.waiting < max 32 (length self.new.hull)) }
+        ensures err { OnErr result (HoldsFront self.old (held other) self.new) }
+    {
+        self.add(other.hull.as_slice())?;
+        self.add(other.waiting.as_slice())
+    }
+
+    /// The hull of what is held. Where nothing waits it takes no memory. `Err` is want of memory.
+    pub fn into_hull(self) -> Result<Path, Memory>
+        ensures hull { IfOk result (λ h. IsHull (held self) h) }
+        ensures own { IfOk result (λ h. IsHull h h) }
+        ensures in_range { IfOk result (λ h. All IsInRange h) }
+        ensures settled { self.waiting ≡ [] → IsOk result }
+    {
+        if self.waiting.is_empty() {
+            return Ok(Path::from_vec(self.hull));
+        }
+        let alloc = *self.hull.allocator();
+        let both = hull_of_both(alloc, self.hull.as_slice(), self.waiting.as_slice())?;
+        Ok(Path::from_vec(both))
+    }
+}
+
+/// Puts those of the points that aren't seen to lie within the hull behind the ones that wait.
+fn push_outside(hull: &[Pos], points: &[Pos], waiting: &mut Vec<Pos>) -> Result<(), Memory>
+    requires own { IsHull hull.now hull.now }
+    requires hull_in_range { All IsInRange hull.now }
+    requires points_in_range { All IsInRange points.now }
+    requires waiting_in_range { All IsInRange waiting.old.items }
+    ensures held { OnOk result (HaveOneHull ((hull.now ++ waiting.old.items) ++ points.now) (hull.now ++ waiting.new.items)) }
+    ensures err { OnErr result (HoldsFront (record { hull = hull.now; waiting = waiting.old.items }) points.now (record { hull = hull.now; waiting = waiting.new.items })) }
+    ensures in_range { All IsInRange waiting.new.items }
+{
+    for p in points {
+        if is_within(hull, *p) {
+            continue;
+        }
+        waiting.push(*p)?;
+    }
+    Ok(())
+}
+
+/// The hull of two lists together, of which it says that its coordinates are in range.
+fn hull_of_both(alloc: Global, first: &[Pos], second: &[Pos]) -> Result<Vec<Pos>, Memory>
+    requires first_in_range { All IsInRange first.now }
+    requires second_in_range { All IsInRange second.now }
+    ensures hull { IfOk result (λ h. IsHull (first.now ++ second.now) h.items) }
+    ensures own { IfOk result (λ h. IsHull h.items h.items) }
+    ensures in_range { IfOk result (λ h. All IsInRange h.items) }
+{
+    let mut both = Vec::new(alloc);
+    both.extend_from_slice(first)?;
+    both.extend_from_slice(second)?;
+    Ok(hull(alloc, &Path::from_vec(both))?.into_vec())
+}

@@ -1,0 +1,123 @@
+//! Hulls of positions that are added one by one: of a curve that turns left everywhere, and of all sets
+//! of positions of a grid of three by three.
+ghost use Rattle.std.specs.Prelude.{IfOk, All};
+ghost use Rattle.at_geom.specs.Segments.{IsInRange};
+
+use super::*;
+use crate::grid_tests::{cell, chosen, is_hull};
+use crate::tests::at;
+use at_geom::{Path, Pos};
+use std::alloc::{AllocError, Global};
+use std::test::Fail;
+
+/// A position of the curve, by its number.
+fn on_curve(number: u32) -> Pos
+    ensures { IsInRange result }
+{
+    let x = i64::from(number);
+    at(x, x.wrapping_mul(x))
+}
+
+/// The first positions of the curve. They are their own hull.
+fn curve(alloc: Global, count: u32) -> Result<Path, AllocError>
+    ensures { IfOk result (λ p. All IsInRange p) }
+{
+    let mut items = Vec::new(alloc);
+    for number in 0..count {
+        items.push(on_curve(number))?;
+    }
+    Ok(Path::from_vec(items))
+}
+
+/// The hull of the first positions of the curve, added one by one, so many places apart.
+fn curve_added(alloc: Global, count: u32, step: u32) -> Result<Path, Fail> {
+    let mut builder = HullBuilder::new(alloc);
+    let mut number = 0_u32;
+    for _ in 0..count {
+        builder.add(&[on_curve(number)])?;
+        number = number.wrapping_add(step) % count;
+    }
+    Ok(builder.into_hull()?)
+}
+
+/// How many rows of a count and a step give the whole curve, up to the first that doesn't.
+fn curves_told(alloc: Global, rows: &[(u32, u32)]) -> Result<usize, Fail> {
+    let mut told = 0;
+    for row in rows {
+        let found = curve_added(alloc, row.0, row.1)?;
+        if found.as_slice() != curve(alloc, row.0)?.as_slice() {
+            return Ok(told);
+        }
+        told += 1;
+    }
+    Ok(told)
+}
+
+/// The positions of a set whose numbers are at least `from` and below `to`, added one by one.
+fn rising(alloc: Global, code: u32, from: u32, to: u32) -> Result<HullBuilder, Fail> {
+    let mut builder = HullBuilder::new(alloc);
+    for number in from..to {
+        if code.wrapping_shr(number) % 2 == 1 {
+            builder.add(&[cell(number)])?;
+        }
+    }
+    Ok(builder)
+}
+
+/// The positions of a set from the last to the first, added one by one.
+fn falling(alloc: Global, code: u32) -> Result<HullBuilder, Fail> {
+    let mut builder = HullBuilder::new(alloc);
+    for left in 0..9 {
+        let number = 8 - left;
+        if code.wrapping_shr(number) % 2 == 1 {
+            builder.add(&[cell(number)])?;
+        }
+    }
+    Ok(builder)
+}
+
+/// Whether the builder has the hull of the positions.
+fn gives_hull(builder: HullBuilder, ps: &Path) -> Result<bool, Fail> {
+    let found = builder.into_hull()?;
+    Ok(is_hull(ps.as_slice(), found.as_slice()))
+}
+
+/// How many of the sets have their hull, added from the first to the last, from the last to the first,
+/// and in two parts that are joined, up to the first that hasn't.
+fn sets_told(alloc: Global, codes: u32) -> Result<u32, Fail> {
+    for code in 0..codes {
+        let ps = chosen(alloc, code)?;
+        let mut joined = rising(alloc, code, 4, 9)?;
+        joined.join(rising(alloc, code, 0, 4)?)?;
+        let all = gives_hull(rising(alloc, code, 0, 9)?, &ps)?
+            && gives_hull(falling(alloc, code)?, &ps)?
+            && gives_hull(joined, &ps)?;
+        if !all {
+            return Ok(code);
+        }
+    }
+    Ok(codes)
+}
+
+#[test]
+fn curve_in_several_orders(rt: HostRuntime) -> Result<(), Fail> {
+    let rows = [
+        (0, 1),
+        (1, 1),
+        (2, 1),
+        (32, 1),
+        (33, 1),
+        (200, 1),
+        (200, 199),
+        (200, 37),
+        (999, 500),
+    ];
+    assert_eq!(rt; curves_told(rt.alloc(), &rows)?, 9);
+    Ok(())
+}
+
+#[test]
+fn sets_of_the_grid_added(rt: HostRuntime) -> Result<(), Fail> {
+    assert_eq!(rt; sets_told(rt.alloc(), 512)?, 512);
+    Ok(())
+}
