@@ -1,3 +1,4 @@
+pub mod Corners
 pub mod Covers
 mod Examples
 pub mod Exists
@@ -7,6 +8,7 @@ pub mod Laws
 pub mod Members
 pub mod OneHull
 pub mod Planes
+pub mod Ranges
 pub mod Rings
 pub mod Sorted
 pub mod Sorts

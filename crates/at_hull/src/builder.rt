@@ -1,12 +1,13 @@
 //! The hull of positions that are added bit by bit.
-ghost use Rattle.std.specs.Prelude.{◌≡◌, ◌<◌, ◌++◌, [], List, All, IfOk, OnOk, OnErr, IsOk, length, max, take};
+ghost use Rattle.std.specs.Prelude.{◌≡◌, ◌<◌, ◌++◌, [], List, All, IfOk, OnOk, OnErr, IsOk, IsTrue, length, max, take};
 ghost use Rattle.at_geom.specs.Segments.{IsInRange};
 ghost use Rattle.at_hull.specs.Hulls.{IsHull};
-ghost use Rattle.at_hull.specs.Growth.{HaveOneHull, HoldsFront, held};
+ghost use Rattle.at_hull.specs.Growth.{AddsNothing, HaveOneHull, HoldsFront, IsExtentInRange, held};
 
+use crate::extents::{around, corners_lie_in, lies_in};
 use crate::hulls::hull;
 use crate::inside::is_within;
-use at_geom::{Path, Pos};
+use at_geom::{Extent, Path, Pos};
 use at_text::Memory;
 use std::alloc::Global;
 use std::marker::Model;
@@ -23,19 +24,20 @@ const FEW: usize = 32;
 pub struct HullBuilder {
     hull: Vec<Pos>,
     waiting: Vec<Pos>,
+    /// An extent that adds nothing to the hull.
+    inner: Option<Extent>,
+    /// How often an extent was covered that is not in the inner one, since that grew.
+    misses: u32,
 }
 
 impl Model for HullBuilder {
-    ghost use Rattle.std.specs.Prelude.{All};
-    ghost use Rattle.at_geom.specs.Segments.{IsInRange};
-    ghost use Rattle.at_hull.specs.Hulls.{IsHull};
-    ghost use Rattle.at_hull.specs.Growth.{Growth};
+    ghost use Rattle.at_hull.specs.Growth.{Growth, IsGrowing};
 
     ghost Value = { Growth };
 
     ghost view = { λ b. record { hull = b.hull.items; waiting = b.waiting.items } };
 
-    ghost invariant = { λ b. IsHull b.hull.items b.hull.items × All IsInRange b.hull.items × All IsInRange b.waiting.items };
+    ghost invariant = { λ b. IsGrowing b.hull.items b.waiting.items b.inner };
 }
 
 impl HullBuilder {
@@ -46,6 +48,8 @@ impl HullBuilder {
         HullBuilder {
             hull: Vec::new(alloc),
             waiting: Vec::new(alloc),
+            inner: None,
+            misses: 0,
         }
     }
 
@@ -57,7 +61,12 @@ impl HullBuilder {
     {
         let hull = hull.into_vec();
         let waiting = Vec::new(*hull.allocator());
-        HullBuilder { hull, waiting }
+        HullBuilder {
+            hull,
+            waiting,
+            inner: None,
+            misses: 0,
+        }
     }
 
     /// Adds the positions. Coordinates are at most 3 * 10^14 units in size. At `Err`, which is want of memory, the
@@ -75,7 +84,44 @@ impl HullBuilder {
         let alloc = *self.hull.allocator();
         self.hull = hull_of_both(alloc, self.hull.as_slice(), self.waiting.as_slice())?;
         self.waiting.clear();
+        self.misses = 0;
         Ok(())
+    }
+
+    /// Whether positions in the extent are seen to add nothing. It takes no memory, and changes nothing that is held.
+    ///
+    /// An extent that lies in the greatest one that was covered so far takes four comparisons, and another one four
+    /// searches by halves. Coordinates are at most 3 * 10^14 units in size.
+    pub fn covers(&mut self, extent: Extent) -> bool
+        requires { IsExtentInRange extent }
+        ensures covered { IsTrue result → AddsNothing (held self.old) extent }
+        ensures same { self.new ≡ self.old }
+    {
+        if lies_in(extent, self.inner) {
+            return true;
+        }
+        if !corners_lie_in(extent, self.hull.as_slice()) {
+            return false;
+        }
+        self.widen(extent);
+        true
+    }
+
+    /// Makes the inner extent the least one round it and the other, where that is seen to add nothing. It tries
+    /// only at misses that are powers of two, so it seldom tries in vain.
+    fn widen(&mut self, extent: Extent)
+        requires { IsExtentInRange extent }
+        ensures { self.new ≡ self.old }
+    {
+        self.misses = self.misses.wrapping_add(1);
+        if !self.misses.is_power_of_two() {
+            return;
+        }
+        let wider = around(self.inner, extent);
+        if corners_lie_in(wider, self.hull.as_slice()) {
+            self.inner = Some(wider);
+            self.misses = 0;
+        }
     }
 
     /// Adds what the other holds. At `Err`, which is want of memory, the first of that is there, up to some place.

@@ -1,12 +1,12 @@
 //! Hulls of positions that are added one by one: of a curve that turns left everywhere, and of all sets
-//! of positions of a grid of three by three.
+//! of positions of a grid of three by three. Then extents within hulls.
 ghost use Rattle.std.specs.Prelude.{IfOk, All};
 ghost use Rattle.at_geom.specs.Segments.{IsInRange};
 
 use super::*;
-use crate::grid_tests::{cell, chosen, is_hull};
-use crate::tests::at;
-use at_geom::{Path, Pos};
+use crate::grid_tests::{cell, chosen, goes_round, is_hull};
+use crate::tests::{at, path};
+use at_geom::{Extent, Path, Pos};
 use std::alloc::{AllocError, Global};
 use std::test::Fail;
 
@@ -97,6 +97,154 @@ fn sets_told(alloc: Global, codes: u32) -> Result<u32, Fail> {
         }
     }
     Ok(codes)
+}
+
+/// Whether the hull has three positions or more, and none of the others is to the right of an edge.
+fn surrounds(hull: &[Pos], others: &[Pos]) -> bool {
+    let Some((last, front)) = hull.split_last() else {
+        return false;
+    };
+    let Some((before, rest)) = front.split_last() else {
+        return false;
+    };
+    !rest.is_empty() && goes_round(*before, *last, hull, others)
+}
+
+/// Whether the hull surrounds the corners of the extent.
+fn surrounds_corners(hull: &[Pos], extent: Extent) -> bool {
+    let right = Pos {
+        x: extent.high.x,
+        y: extent.low.y,
+    };
+    let left = Pos {
+        x: extent.low.x,
+        y: extent.high.y,
+    };
+    surrounds(hull, &[extent.low, right, extent.high, left])
+}
+
+/// Whether the hull of a set covers just those extents between two cells whose corners it surrounds.
+fn covers_surrounded(alloc: Global, code: u32) -> Result<bool, Fail> {
+    let hull = rising(alloc, code, 0, 9)?.into_hull()?;
+    let mut builder = HullBuilder::from_hull(rising(alloc, code, 0, 9)?.into_hull()?);
+    for number in 0..81 {
+        let extent = Extent {
+            low: cell(number / 9),
+            high: cell(number % 9),
+        };
+        if builder.covers(extent) != surrounds_corners(hull.as_slice(), extent) {
+            return Ok(false);
+        }
+    }
+    Ok(true)
+}
+
+/// How many of the sets have a hull that covers just what it surrounds, up to the first that hasn't.
+fn covers_told(alloc: Global, codes: u32) -> Result<u32, Fail> {
+    for code in 0..codes {
+        if !covers_surrounded(alloc, code)? {
+            return Ok(code);
+        }
+    }
+    Ok(codes)
+}
+
+/// The lower left and the upper right corner of an extent.
+struct Corners {
+    low: (i64, i64),
+    high: (i64, i64),
+}
+
+/// How many of the extents the hull of the positions covers.
+fn covered(alloc: Global, ends: &[(i64, i64)], extents: &[Corners]) -> Result<usize, Fail> {
+    let mut adding = HullBuilder::new(alloc);
+    adding.add(path(alloc, ends)?.as_slice())?;
+    let mut builder = HullBuilder::from_hull(adding.into_hull()?);
+    let mut count = 0;
+    for extent in extents {
+        let low = at(extent.low.0, extent.low.1);
+        let high = at(extent.high.0, extent.high.1);
+        if builder.covers(Extent { low, high }) {
+            count += 1;
+        }
+    }
+    Ok(count)
+}
+
+/// Inside, at two edges, at a corner, along an edge, across, and two positions.
+const COVERED: [Corners; 7] = [
+    Corners {
+        low: (1, 1),
+        high: (3, 3),
+    },
+    Corners {
+        low: (0, 0),
+        high: (4, 3),
+    },
+    Corners {
+        low: (0, 0),
+        high: (1, 1),
+    },
+    Corners {
+        low: (1, 0),
+        high: (3, 0),
+    },
+    Corners {
+        low: (0, 3),
+        high: (6, 3),
+    },
+    Corners {
+        low: (3, 6),
+        high: (3, 6),
+    },
+    Corners {
+        low: (2, 2),
+        high: (2, 2),
+    },
+];
+
+/// One corner outside, two, three and all four.
+const NOT_COVERED: [Corners; 6] = [
+    Corners {
+        low: (0, 0),
+        high: (5, 3),
+    },
+    Corners {
+        low: (2, 2),
+        high: (7, 3),
+    },
+    Corners {
+        low: (-1, 1),
+        high: (1, 2),
+    },
+    Corners {
+        low: (3, 3),
+        high: (6, 6),
+    },
+    Corners {
+        low: (-1, -1),
+        high: (7, 7),
+    },
+    Corners {
+        low: (5, 1),
+        high: (5, 1),
+    },
+];
+
+#[test]
+fn extents_inside_and_outside(rt: HostRuntime) -> Result<(), Fail> {
+    let ring = [(0, 0), (4, 0), (6, 3), (3, 6), (0, 4)];
+    assert_eq!(rt; covered(rt.alloc(), &ring, &COVERED)?, 7);
+    assert_eq!(rt; covered(rt.alloc(), &ring, &NOT_COVERED)?, 0);
+    assert_eq!(rt; covered(rt.alloc(), &[(0, 0), (4, 4)], &COVERED)?, 0);
+    assert_eq!(rt; covered(rt.alloc(), &[], &COVERED)?, 0);
+    Ok(())
+}
+
+#[test]
+fn extents_of_the_grid(rt: HostRuntime) -> Result<(), Fail> {
+    assert_eq!(rt; covers_told(rt.alloc(), 512)?, 512);
+    Ok(())
 }
 
 #[test]

@@ -77,7 +77,7 @@ fn none_is_right(a: Pos, b: Pos, ps: &[Pos]) -> bool {
 
 /// Whether every three neighbours turn left and no position is to the right of an edge. The first
 /// edge is from `a` to `b`, the last two of the list.
-fn goes_round(a: Pos, b: Pos, h: &[Pos], ps: &[Pos]) -> bool {
+pub(crate) fn goes_round(a: Pos, b: Pos, h: &[Pos], ps: &[Pos]) -> bool {
     let mut from = a;
     let mut to = b;
     for next in h {

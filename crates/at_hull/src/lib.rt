@@ -9,6 +9,7 @@
 
 mod builder;
 mod chains;
+mod extents;
 mod hulls;
 mod inside;
 

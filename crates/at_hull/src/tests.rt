@@ -273,7 +273,7 @@ pub(crate) fn at(x: i64, y: i64) -> Pos
     }
 }
 
-fn path(alloc: Global, ends: &[(i64, i64)]) -> Result<Path, AllocError>
+pub(crate) fn path(alloc: Global, ends: &[(i64, i64)]) -> Result<Path, AllocError>
     ensures { IfOk result (λ p. All IsInRange p) }
 {
     let mut items = Vec::new(alloc);

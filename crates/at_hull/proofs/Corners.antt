@@ -1,0 +1,158 @@
+-- An extent of which the corners lie within a hull adds nothing to it.
+use Rattle.std.proofs.Common.{◌≡◌, ℤ, pos, neg_ℤ, ◌+ℤ◌, ◌-ℤ◌, ◌*ℤ◌, ◌≤ℤ◌, ◌⊎◌, inl, inr, IsTrue, List, [], ◌∷◌, ◌++◌, Some, arith, refl, sym, ap, ◌∙◌, subst, append_assoc}
+use Rattle.std.proofs.lemmas.Int.{ints, by_lt_z}
+use Rattle.at_geom.specs.declared.positions.Pos.{Pos}
+use Rattle.at_geom.specs.declared.rectangles.Extent.{Extent}
+use Rattle.at_geom.specs.Segments.{turn}
+use Rattle.at_geom.specs.Shapes.{is_within, extent_of}
+use Rattle.at_geom.proofs.Found.{AreWithin, IsInside, sides, from_sides, extent_covers}
+use Rattle.at_geom.proofs.RingLaws.{expand}
+use Rattle.at_hull.specs.Hulls.{IsAtMost, IsIn, Each, IsHull}
+use Rattle.at_hull.specs.Within.{IsWithin}
+use Rattle.at_hull.specs.Growth.{HaveOneHull, AddsNothing}
+use Rattle.at_hull.proofs.Members.{in_left, in_parts}
+use Rattle.at_hull.proofs.Planes.{mul_pos}
+use Rattle.at_hull.proofs.Ways.{same_pos}
+use Rattle.at_hull.proofs.Covers.{Covers, by_difference, at_most_trans}
+use Rattle.at_hull.proofs.Exists.{hull_exists}
+use Rattle.at_hull.proofs.Insides.{own_with}
+use Rattle.at_hull.proofs.Laws.{hull_of_covered}
+use Rattle.at_hull.proofs.OneHull.{one_hull_by, one_hull_own, one_hull_sym, one_hull_trans, one_hull_more, one_hull_both, one_hull_refl, one_hull_swapped}
+
+-- ---- a value that grows by a direction is least at a corner
+
+both_up : (a b : ℤ) → pos 0 ≤ℤ a → pos 0 ≤ℤ b → pos 0 ≤ℤ (a *ℤ b)
+both_up a b h k = mul_pos a b h k
+
+both_down : (a b : ℤ) → a ≤ℤ pos 0 → b ≤ℤ pos 0 → pos 0 ≤ℤ (a *ℤ b)
+both_down a b h k =
+    let m = simp expand at (mul_pos (neg_ℤ a) (neg_ℤ b) (omega (arith, ints, h)) (omega (arith, ints, k))) in
+    omega (arith, ints, m)
+
+first_down : (a b : ℤ) → a ≤ℤ pos 0 → pos 0 ≤ℤ b → (a *ℤ b) ≤ℤ pos 0
+first_down a b h k =
+    let m = simp expand at (mul_pos (neg_ℤ a) b (omega (arith, ints, h)) k) in
+    omega (arith, ints, m)
+
+second_down : (a b : ℤ) → pos 0 ≤ℤ a → b ≤ℤ pos 0 → (a *ℤ b) ≤ℤ pos 0
+second_down a b h k =
+    let m = simp expand at (mul_pos a (neg_ℤ b) h (omega (arith, ints, k))) in
+    omega (arith, ints, m)
+
+no_less : (t s a b : ℤ) → t ≡ s +ℤ (a -ℤ b) → pos 0 ≤ℤ s → pos 0 ≤ℤ a → b ≤ℤ pos 0 → pos 0 ≤ℤ t
+no_less t s a b e h k l = omega (arith, ints, e, h, k, l)
+
+-- the corners, from the lower left round to the left
+abbrev pub corners : Extent → List Pos
+corners e = e.low ∷ record { x = e.high.x; y = e.low.y } ∷ e.high ∷ record { x = e.low.x; y = e.high.y } ∷ []
+
+corner_side : (c d p : Pos) (e : Extent) → IsInside e p → Each (λ v. pos 0 ≤ℤ turn c d v) (corners e) → pos 0 ≤ℤ turn c d p
+corner_side c d p e i f =
+    let left = i.left in
+    let right = i.right in
+    let below = i.below in
+    let above = i.above in
+    by_lt_z (d.x -ℤ c.x) (pos 0)
+    (λ h. by_lt_z (d.y -ℤ c.y) (pos 0)
+    (λ k. no_less _ _ _ _ (by_difference c d (record { x = e.low.x; y = e.high.y }) p) (f (record { x = e.low.x; y = e.high.y }) (inr (inr (inr (inl refl)))))
+    (both_down (d.x -ℤ c.x) (p.y -ℤ e.high.y) (omega (arith, ints, h)) (omega (arith, ints, above))) (first_down (d.y -ℤ c.y) (p.x -ℤ e.low.x) (omega (arith, ints, k)) (omega (arith, ints, left))))
+    (λ k. no_less _ _ _ _ (by_difference c d e.high p) (f e.high (inr (inr (inl refl))))
+    (both_down (d.x -ℤ c.x) (p.y -ℤ e.high.y) (omega (arith, ints, h)) (omega (arith, ints, above))) (second_down (d.y -ℤ c.y) (p.x -ℤ e.high.x) k (omega (arith, ints, right)))))
+    (λ h. by_lt_z (d.y -ℤ c.y) (pos 0)
+    (λ k. no_less _ _ _ _ (by_difference c d e.low p) (f e.low (inl refl))
+    (both_up (d.x -ℤ c.x) (p.y -ℤ e.low.y) h (omega (arith, ints, below))) (first_down (d.y -ℤ c.y) (p.x -ℤ e.low.x) (omega (arith, ints, k)) (omega (arith, ints, left))))
+    (λ k. no_less _ _ _ _ (by_difference c d (record { x = e.high.x; y = e.low.y }) p) (f (record { x = e.high.x; y = e.low.y }) (inr (inl refl)))
+    (both_up (d.x -ℤ c.x) (p.y -ℤ e.low.y) h (omega (arith, ints, below))) (second_down (d.y -ℤ c.y) (p.x -ℤ e.high.x) k (omega (arith, ints, right)))))
+
+from_low : (e : Extent) (p : Pos) → IsInside e p → IsAtMost e.low p
+from_low e p i =
+    let left = i.left in
+    let below = i.below in
+    by_lt_z e.low.y p.y (λ h. inr (inl h))
+    (λ h. by_lt_z e.low.x p.x (λ k. inr (inr (omega (arith, ints, h, below), k))) (λ k. inl (same_pos e.low p (omega (arith, ints, k, left)) (omega (arith, ints, h, below)))))
+
+-- ---- what lies within the extent adds nothing to its corners
+
+side_of : (c d p : Pos) (e : Extent) (qs : List Pos) → Each (λ q. IsTrue (is_within e q)) qs → Each (λ v. pos 0 ≤ℤ turn c d v) (corners e) → IsIn p (corners e) ⊎ IsIn p qs → pos 0 ≤ℤ turn c d p
+side_of c d p e qs w f (inl m) = f p m
+side_of c d p e qs w f (inr m) = corner_side c d p e (sides e p (w p m)) f
+
+low_of : (a p : Pos) (e : Extent) (qs : List Pos) → Each (λ q. IsTrue (is_within e q)) qs → Each (λ v. IsAtMost a v) (corners e) → IsIn p (corners e) ⊎ IsIn p qs → IsAtMost a p
+low_of a p e qs w f (inl m) = f p m
+low_of a p e qs w f (inr m) = at_most_trans a e.low p (f e.low (inl refl)) (from_low e p (sides e p (w p m)))
+
+corners_cover : (e : Extent) (qs : List Pos) → Each (λ q. IsTrue (is_within e q)) qs → Covers (corners e) (corners e ++ qs)
+corners_cover e qs w = record {
+  elements = λ p m. in_left p (corners e) qs m;
+  sides = λ c d p m f. side_of c d p e qs w f (in_parts p (corners e) qs m);
+  low = λ a p m f. low_of a p e qs w f (in_parts p (corners e) qs m);
+  some = λ p m h. absurd (cc);
+}
+
+pub corners_add_nothing : (e : Extent) → AddsNothing (corners e) e
+corners_add_nothing e qs w =
+    let k = hull_exists (corners e) in
+    one_hull_by (corners e ++ qs) (corners e) k.list (hull_of_covered (corners e) (corners e ++ qs) k.list (corners_cover e qs w) k.is) k.is
+
+-- ---- what adds nothing to one list adds nothing to another
+
+-- a list to which the corners add nothing
+by_corners : (ps : List Pos) (e : Extent) → HaveOneHull (ps ++ corners e) ps → AddsNothing ps e
+by_corners ps e o qs w =
+    one_hull_trans (ps ++ qs) ((ps ++ corners e) ++ qs) ps (one_hull_more ps (ps ++ corners e) qs (one_hull_sym (ps ++ corners e) ps o))
+    (one_hull_trans ((ps ++ corners e) ++ qs) (ps ++ corners e) ps
+    (subst (λ (l : List Pos). HaveOneHull l (ps ++ corners e)) (sym (append_assoc ps (corners e) qs)) (one_hull_both ps (corners e ++ qs) ps (corners e) (one_hull_refl ps) (corners_add_nothing e qs w)))
+    o)
+
+pub adds_nothing_within : (h : List Pos) (e : Extent) → IsHull h h → Each (IsWithin h) (corners e) → AddsNothing h e
+adds_nothing_within h e own f = by_corners h e (one_hull_by (h ++ corners e) h h (own_with h (corners e) f own) own)
+
+-- more positions behind
+pub adds_nothing_more : (ps rs : List Pos) (e : Extent) → AddsNothing ps e → AddsNothing (ps ++ rs) e
+adds_nothing_more ps rs e f qs w =
+    one_hull_trans ((ps ++ rs) ++ qs) ((ps ++ qs) ++ rs) (ps ++ rs) (one_hull_swapped ps rs qs) (one_hull_more (ps ++ qs) ps rs (f qs w))
+
+pub adds_nothing_same : (ps rs : List Pos) (e : Extent) → HaveOneHull ps rs → AddsNothing ps e → AddsNothing rs e
+adds_nothing_same ps rs e o f qs w =
+    one_hull_trans (rs ++ qs) (ps ++ qs) rs (one_hull_more rs ps qs (one_hull_sym ps rs o)) (one_hull_trans (ps ++ qs) ps rs (f qs w) o)
+
+-- ---- the positions of an extent
+
+each_within : (e : Extent) (qs : List Pos) → AreWithin e qs → Each (λ q. IsTrue (is_within e q)) qs
+each_within e [] w p m = absurd m
+each_within e (q ∷ qs) w p (inl h) = subst (λ (z : Pos). IsTrue (is_within e z)) (sym h) w.0
+each_within e (q ∷ qs) w p (inr m) = each_within e qs w.1 p m
+
+-- positions add nothing where their extent does
+pub adds_nothing_round : (ps qs : List Pos) (e : Extent) → extent_of qs ≡ Some e → AddsNothing ps e → HaveOneHull (ps ++ qs) ps
+adds_nothing_round ps qs e x f = f qs (each_within e qs (extent_covers e qs x))
+
+inside_both : (e f : Extent) (p : Pos) → IsInside e f.low → IsInside e f.high → IsInside f p → IsInside e p
+inside_both e f p a b c = record {
+  left = let h = a.left in let k = c.left in omega (arith, ints, h, k);
+  right = let h = b.right in let k = c.right in omega (arith, ints, h, k);
+  below = let h = a.below in let k = c.below in omega (arith, ints, h, k);
+  above = let h = b.above in let k = c.above in omega (arith, ints, h, k);
+}
+
+-- an extent that lies in one that adds nothing
+pub adds_nothing_inside : (ps : List Pos) (e f : Extent) → IsTrue (is_within e f.low) → IsTrue (is_within e f.high) → AddsNothing ps e → AddsNothing ps f
+adds_nothing_inside ps e f low high h qs w = h qs (λ p m. from_sides e p (inside_both e f p (sides e f.low low) (sides e f.high high) (sides f p (w p m))))
+
+-- the hull of the list and of what waited
+pub adds_nothing_settled : (h waiting both : List Pos) (e : Extent) → IsHull (h ++ waiting) both → IsHull both both → AddsNothing h e → AddsNothing both e
+adds_nothing_settled h waiting both e k own f = adds_nothing_same (h ++ waiting) both e (one_hull_own (h ++ waiting) both k own) (adds_nothing_more h waiting e f)
+
+-- ---- where the corners are
+
+pub four_within : (h : List Pos) (e : Extent) (right left : Pos) → right ≡ record { x = e.high.x; y = e.low.y } → left ≡ record { x = e.low.x; y = e.high.y }
+    → IsWithin h e.low → IsWithin h e.high → IsWithin h right → IsWithin h left → Each (IsWithin h) (corners e)
+four_within h e right left r l a b c d p (inl k) = subst (IsWithin h) (sym k) a
+four_within h e right left r l a b c d p (inr (inl k)) = subst (IsWithin h) (r ∙ sym k) c
+four_within h e right left r l a b c d p (inr (inr (inl k))) = subst (IsWithin h) (sym k) b
+four_within h e right left r l a b c d p (inr (inr (inr (inl k)))) = subst (IsWithin h) (l ∙ sym k) d
+four_within h e right left r l a b c d p (inr (inr (inr (inr m)))) = absurd m
+
+pub one_within : (h : List Pos) (e : Extent) → e.low ≡ e.high → IsWithin h e.low → Each (IsWithin h) (corners e)
+one_within h e s a =
+    four_within h e e.low e.low (ap (λ (q : Pos). record { x = q.x; y = e.low.y }) s) (ap (λ (q : Pos). record { x = e.low.x; y = q.y }) s) a (subst (IsWithin h) s a) a a
