@@ -5,7 +5,7 @@ ghost use Rattle.at_hull.specs.Hulls.{IsHull};
 ghost use Rattle.at_hull.specs.Growth.{AddsNothing, HaveOneHull, HoldsFront, IsExtentInRange, held};
 
 use crate::extents::{around, corners_lie_in, lies_in};
-use crate::hulls::hull;
+use crate::hulls::hull_of_both;
 use crate::inside::is_within;
 use at_geom::{Extent, Path, Pos};
 use at_text::Memory;
@@ -167,18 +167,4 @@ fn push_outside(hull: &[Pos], points: &[Pos], waiting: &mut Vec<Pos>) -> Result<
         waiting.push(*p)?;
     }
     Ok(())
-}
-
-/// The hull of two lists together, of which it says that its coordinates are in range.
-fn hull_of_both(alloc: Global, first: &[Pos], second: &[Pos]) -> Result<Vec<Pos>, Memory>
-    requires first_in_range { All IsInRange first.now }
-    requires second_in_range { All IsInRange second.now }
-    ensures hull { IfOk result (λ h. IsHull (first.now ++ second.now) h.items) }
-    ensures own { IfOk result (λ h. IsHull h.items h.items) }
-    ensures in_range { IfOk result (λ h. All IsInRange h.items) }
-{
-    let mut both = Vec::new(alloc);
-    both.extend_from_slice(first)?;
-    both.extend_from_slice(second)?;
-    Ok(hull(alloc, &Path::from_vec(both))?.into_vec())
 }

@@ -32,10 +32,22 @@ pub fn hull_join(alloc: Global, a: &Path, b: &Path) -> Result<Path, Memory>
     requires b_in_range { All IsInRange b.now }
     ensures { (ps qs : List Pos) → IsHull ps a.now → IsHull qs b.now → IfOk result (λ h. IsHull (ps ++ qs) h) }
 {
+    let both = hull_of_both(alloc, a.as_slice(), b.as_slice())?;
+    Ok(Path::from_vec(both))
+}
+
+/// The hull of two lists together, of which it says that its coordinates are in range.
+pub(crate) fn hull_of_both(alloc: Global, first: &[Pos], second: &[Pos]) -> Result<Vec<Pos>, Memory>
+    requires first_in_range { All IsInRange first.now }
+    requires second_in_range { All IsInRange second.now }
+    ensures hull { IfOk result (λ h. IsHull (first.now ++ second.now) h.items) }
+    ensures own { IfOk result (λ h. IsHull h.items h.items) }
+    ensures in_range { IfOk result (λ h. All IsInRange h.items) }
+{
     let mut both = Vec::new(alloc);
-    both.extend_from_slice(a.as_slice())?;
-    both.extend_from_slice(b.as_slice())?;
-    hull(alloc, &Path::from_vec(both))
+    both.extend_from_slice(first)?;
+    both.extend_from_slice(second)?;
+    Ok(hull(alloc, &Path::from_vec(both))?.into_vec())
 }
 
 /// The positions from the lowest up, each once.

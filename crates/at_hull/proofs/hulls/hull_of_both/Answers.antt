@@ -4,7 +4,7 @@ use Rattle.at_geom.specs.Segments.{IsInRange}
 use Rattle.at_hull.specs.Hulls.{IsHull}
 use Rattle.at_hull.proofs.Laws.{hull_of_hull, hull_elements}
 use Rattle.at_hull.proofs.Sorts.{all_of_each, each_of_all}
-use Rattle.at_hull.proofs.builder.hull_of_both.Goals as goal
+use Rattle.at_hull.proofs.hulls.hull_of_both.Goals as goal
 
 pub returns-clause-own : goal.returns-clause-own
 returns-clause-own c =
