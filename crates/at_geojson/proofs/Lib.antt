@@ -25,4 +25,5 @@ pub mod SimpleTexts
 pub mod ValueParts
 pub mod ShortStrings
 pub mod RowFolds
+pub mod RingFolds
 pub mod MemberReads

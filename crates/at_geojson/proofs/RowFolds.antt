@@ -8,23 +8,25 @@ use Rattle.std.proofs.lemmas.List.Elements.{All-nil, All-cons, All-append}
 use Rattle.at_text.specs.Faults.{first_fault}
 use Rattle.at_fixed.specs.Kept.{part}
 use Rattle.at_geom.specs.declared.positions.Pos.{Pos}
+use Rattle.at_geom.specs.Shapes.{line_fault, ring_fault}
 use Rattle.at_nest.specs.Tree.{array, Spells}
 use Rattle.at_nest.specs.Folds.{AreFolds}
 use Rattle.at_nest.specs.Passing.{items_of}
 use Rattle.at_nest.proofs.Passed.{items_none, items_on, items_end}
 use Rattle.at_geojson.specs.declared.atoms.GeoAtom.{GeoAtom}
 use Rattle.at_geojson.specs.declared.atoms.GeoAtom.TheVariants as atoms
+use Rattle.at_geojson.specs.declared.atoms.Points.{Points}
 use Rattle.at_geojson.specs.declared.atoms.PositionAtom.{PositionAtom}
 use Rattle.at_geojson.specs.declared.pairs.PairRead.{PairRead}
+use Rattle.at_geojson.specs.declared.pairs.PointsRead.{PointsRead}
 use Rattle.at_geojson.specs.declared.pairs.Row.{Row}
-use Rattle.at_geojson.specs.declared.pairs.Whole.{Whole}
 use Rattle.at_geojson.specs.declared.sorts.Sort.TheVariants as sorts
 use Rattle.at_geojson.specs.Keeping.{Asked, kept, needs_shapes}
 use Rattle.at_geojson.specs.Atoms.{twin_of, at_of, IsOwn, IsFold}
 use Rattle.at_geojson.specs.Gathering.{firsts, are_all, rank, sort_of, sort_of_all, least_of, last_atom, position_value, position_fault, closes, to_four}
-use Rattle.at_geojson.specs.Rows.{AreNext, IsRow, LengthensRow, EndsPoints, ArePointsRead, ArePointsPassed}
-use Rattle.at_geojson.specs.Values.{IsSpacedPair, PassesSpacedPair, IsWhole}
-use Rattle.at_geojson.proofs.Firsts.{firsts-cons}
+use Rattle.at_geojson.specs.Rows.{AreNext, IsRow, LengthensRow, EndsRow, EndsPoints, ArePointsRead, ArePointsPassed, ArePointsWhole}
+use Rattle.at_geojson.specs.Values.{IsSpacedPair, PassesSpacedPair}
+use Rattle.at_geojson.proofs.Firsts.{firsts-cons, none_right}
 use Rattle.at_geojson.proofs.CoordinateFolds.{closes_is}
 use Rattle.at_geojson.proofs.OwnFolds.{points_own}
 use Rattle.at_geojson.proofs.ArrayAnswers.{points_fold}
@@ -61,7 +63,7 @@ last_faultless : (from : ℕ) (a : GeoAtom) (rest : List GeoAtom) → position_f
 last_faultless from a [] e h = e
 last_faultless from a (b ∷ rest) e h = last_faultless from b rest (ap position_fault h.1) h.3
 
-kept_append : {X : Type 0} (needs : Bool) (xs ys : List X) → kept needs xs ++ kept needs ys ≡ kept needs (xs ++ ys)
+pub kept_append : {X : Type 0} (needs : Bool) (xs ys : List X) → kept needs xs ++ kept needs ys ≡ kept needs (xs ++ ys)
 kept_append true xs ys = refl
 kept_append false xs ys = refl
 
@@ -121,6 +123,27 @@ row_closes needs row rest h =
     sym (closes_is a rest ∙ (ap (λ o. not (true && is_none o) || (int_eq row.first.pos.x (position_value z).x && int_eq row.first.pos.y (position_value z).y)) (last_faultless row.first.at a rest refl h.next)
     ∙ ap (λ (p : Pos). int_eq row.first.pos.x p.x && int_eq row.first.pos.y p.y) (sym h.last)))
 
+-- what is kept of the list of its positions
+pub row_made : (needs : Bool) (at : ℕ) (row : Row) (points : Points) → points.path.items ≡ row.path.items → points.as_points ≡ None → points.as_line ≡ line_fault row.count at
+    → points.as_ring ≡ ring_fault row.count (int_eq row.first.pos.x row.last.x && int_eq row.first.pos.y row.last.y) at → EndsRow needs at row points
+row_made needs at row points ep ef el er rest h m ea em ev =
+    let all : List GeoAtom = atoms.Position row.first ∷ rest in
+    let n = to_four (length all) in
+    let faults = row_faults needs row rest h in
+    let line = line_fault n at in
+    let ring = ring_fault n (closes all) at in
+    record {
+      atom = m;
+      result_is = refl;
+      at_is = ea;
+      least_is = em;
+      path = ap (λ (a : Points). a.path.items) ev ∙ (ep ∙ h.path);
+      as_points = ap (λ (a : Points). a.as_points) ev ∙ (ef ∙ sym faults);
+      as_line = ap (λ (a : Points). a.as_line) ev ∙ (el ∙ (ap (λ k. line_fault k at) h.count ∙ sym (ap (first_fault line) faults ∙ none_right line)));
+      as_ring = ap (λ (a : Points). a.as_ring) ev ∙ (er ∙ (ap (λ k. ring_fault k (int_eq row.first.pos.x row.last.x && int_eq row.first.pos.y row.last.y) at) h.count
+          ∙ (ap (λ b. ring_fault n b at) (row_closes needs row rest h) ∙ sym (ap (first_fault ring) faults ∙ none_right ring))));
+    }
+
 -- ---- lists of positions
 
 module _ (asked : Asked) (base : ℕ) (w : List ℕ) where
@@ -161,11 +184,11 @@ module _ (asked : Asked) (base : ℕ) (w : List ℕ) where
             (folds_last asked base w (atoms.Position row.first ∷ read.rest) x (read.done ++ read.last ∷ []) pair.tree read.folds pair.fold);
       }
 
-  pub points_end : (at end : ℕ) (row : Row) (p : Whole) → ArePointsRead asked base w at end row → end < length w → slice_index w at ≡ 0x5B → slice_index w end ≡ 0x5D → EndsPoints asked (base + at) (end + 1) row p → IsWhole asked base w at p
+  pub points_end : (at end : ℕ) (row : Row) (p : PointsRead) → ArePointsRead asked base w at end row → end < length w → slice_index w at ≡ 0x5B → slice_index w end ≡ 0x5D → EndsPoints (needs_shapes asked.query) (base + at) (end + 1) row p
+      → ArePointsWhole asked base w at p
   points_end at end row p read inside opens byte ends =
       let first : GeoAtom = atoms.Position row.first in let all : List GeoAtom = first ∷ read.rest in
       let ts = items_of (read.done ++ read.last ∷ []) in
-      let made = ends.made read.rest read.is_row in
       let twins : firsts twin_of all ≡ None = firsts-cons twin_of first read.rest ∙ no_twins row.first.at read.rest read.is_row.next in
       let sort : sort_of_all all ≡ sorts.Position = ap (λ b. if b then sorts.Position else sorts.Other) (all_positions row.first.at read.rest read.is_row.next) in
       let l : row.first.at ≤ row.first.at = omega arith in
@@ -173,10 +196,17 @@ module _ (asked : Asked) (base : ℕ) (w : List ℕ) where
       record {
         order = omega (arith, read.order, read.behind, ends.behind);
         within = omega (arith, inside, ends.behind);
-        own = points_own asked (base + at) row.first.at all p.atom read.own made;
-        tree = array (base + at) ts;
-        spells = subst (λ e. Spells (base + at) (part w at e) (array (base + at) ts)) (sym ends.behind) (items_end base w at read.place end read.done read.last read.order read.behind inside opens byte read.before read.spells);
-        fold = points_fold asked (base + at) all (λ e. cc) twins (needs_shapes asked.query) row.first.at p.atom refl least sort made ts read.folds;
+        at_is = ends.at_is;
+        whole = λ m keeps. (
+            let made = ends.made read.rest read.is_row m (keeps.at_is ∙ ends.at_is) (keeps.least_is ∙ ends.least_is) keeps.points_is in
+            record {
+              order = omega (arith, read.order, read.behind, ends.behind);
+              within = omega (arith, inside, ends.behind);
+              own = points_own asked (base + at) row.first.at all (atoms.Points m) read.own made;
+              tree = array (base + at) ts;
+              spells = subst (λ e. Spells (base + at) (part w at e) (array (base + at) ts)) (sym ends.behind) (items_end base w at read.place end read.done read.last read.order read.behind inside opens byte read.before read.spells);
+              fold = points_fold asked (base + at) all (λ e. cc) twins (needs_shapes asked.query) row.first.at (atoms.Points m) refl least sort made ts read.folds;
+            });
       }
 
   -- ---- lists of positions of which those between the first and the last are passed over
@@ -184,6 +214,10 @@ module _ (asked : Asked) (base : ℕ) (w : List ℕ) where
   unkept : (row longer : Row) (last : PositionAtom) → needs_shapes asked.query ≡ false → longer.first ≡ row.first → longer.last ≡ last.pos → longer.path.items ≡ row.path.items
       → ((n : ℕ) → row.count ≡ to_four n → longer.count ≡ to_four (n + 1)) → LengthensRow (needs_shapes asked.query) row last longer
   unkept row longer last none ef el ep ec = subst (λ b. LengthensRow b row last longer) (sym none) (lengthened false row longer last ef el (ep ∙ sym (append-nil row.path.items)) ec)
+
+  pub unkept_begin : (at : ℕ) (p : PairRead) (row : Row) → at < length w → IsSpacedPair asked base w (at + 1) p → needs_shapes asked.query ≡ false → row.path.items ≡ [] → row.first ≡ p.pair → row.last ≡ row.first.pos → row.count ≡ 1
+      → ArePointsRead asked base w at p.end row
+  unkept_begin at p row inside pair none ep ef el ec = points_begin at p row inside pair ef (subst (λ b. IsRow b row []) (sym none) (record { next = tt; path = ep; count = ec; last = el }))
 
   pub passed_on : (at end next : ℕ) (row longer : Row) → needs_shapes asked.query ≡ false → ArePointsPassed asked base w at end row → end < length w → slice_index w end ≡ 0x2C → PassesSpacedPair asked w (end + 1) next
       → longer.first ≡ row.first → longer.path.items ≡ row.path.items → ((n : ℕ) → row.count ≡ to_four n → longer.count ≡ to_four (n + 1)) → ArePointsPassed asked base w at next longer
@@ -198,8 +232,8 @@ module _ (asked : Asked) (base : ℕ) (w : List ℕ) where
             (points_go_on at end p known k read inside byte h (unkept known k p.pair none refl refl refl (λ n q. lc n (sym ec ∙ q)))),
       )
 
-  pub passed_end : (at end : ℕ) (p : PairRead) (row whole : Row) (q : Whole) → needs_shapes asked.query ≡ false → ArePointsPassed asked base w at end row → end < length w → slice_index w end ≡ 0x2C → IsSpacedPair asked base w (end + 1) p
+  pub passed_end : (at end : ℕ) (p : PairRead) (row whole : Row) (q : PointsRead) → needs_shapes asked.query ≡ false → ArePointsPassed asked base w at end row → end < length w → slice_index w end ≡ 0x2C → IsSpacedPair asked base w (end + 1) p
       → whole.first ≡ row.first → whole.last ≡ p.pair.pos → whole.path.items ≡ row.path.items → ((n : ℕ) → row.count ≡ to_four n → whole.count ≡ to_four (n + 1))
-      → p.end < length w → slice_index w at ≡ 0x5B → slice_index w p.end ≡ 0x5D → EndsPoints asked (base + at) (p.end + 1) whole q → IsWhole asked base w at q
+      → p.end < length w → slice_index w at ≡ 0x5B → slice_index w p.end ≡ 0x5D → EndsPoints (needs_shapes asked.query) (base + at) (p.end + 1) whole q → ArePointsWhole asked base w at q
   passed_end at end p row whole q none (known, ef, ec, ep, read) inside byte pair lf ll lp lc within opens closes ends =
       points_end at p.end whole q (points_go_on at end p known whole read inside byte pair (unkept known whole p.pair none (lf ∙ sym ef) ll (lp ∙ sym ep) (λ n j. lc n (sym ec ∙ j)))) within opens closes ends

@@ -13,4 +13,5 @@ pub mod Wholes
 pub mod Places
 pub mod Values
 pub mod Rows
+pub mod Rings
 pub mod Members

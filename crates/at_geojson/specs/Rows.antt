@@ -6,12 +6,15 @@ use Rattle.at_nest.specs.Folds.{AreFolds}
 use Rattle.at_nest.specs.Passing.{IsPadded, ItemsBefore, items_of}
 use Rattle.at_geojson.specs.declared.atoms.GeoAtom.{GeoAtom}
 use Rattle.at_geojson.specs.declared.atoms.GeoAtom.TheVariants as atoms
+use Rattle.at_geojson.specs.declared.atoms.Points.{Points}
+use Rattle.at_geojson.specs.declared.atoms.PointsAtom.{PointsAtom}
 use Rattle.at_geojson.specs.declared.atoms.PositionAtom.{PositionAtom}
+use Rattle.at_geojson.specs.declared.pairs.PointsRead.{PointsRead}
 use Rattle.at_geojson.specs.declared.pairs.Row.{Row}
-use Rattle.at_geojson.specs.declared.pairs.Whole.{Whole}
 use Rattle.at_geojson.specs.Keeping.{Asked, kept, needs_shapes}
 use Rattle.at_geojson.specs.Atoms.{IsOwn, IsFold}
 use Rattle.at_geojson.specs.Gathering.{last_atom, position_value, to_four, MakesPoints}
+use Rattle.at_geojson.specs.Values.{IsWhole}
 
 -- positions that have values, at the offset or behind it
 abbrev pub AreNext : ℕ → List GeoAtom → Type 0
@@ -30,13 +33,30 @@ pub record LengthensRow (needs : Bool) (row : Row) (last : PositionAtom) (longer
   pub first : longer.first ≡ row.first
   pub more : (rest : List GeoAtom) → IsRow needs row rest → row.first.at ≤ last.at → IsRow needs longer (rest ++ atoms.Position last ∷ [])
 
-abbrev pub EndsRow : Bool → ℕ → Row → GeoAtom → Type 0
-EndsRow needs at row a = (rest : List GeoAtom) → IsRow needs row rest → MakesPoints needs at row.first.at (atoms.Position row.first ∷ rest) a
+-- what is kept of the list of the row's positions
+abbrev pub EndsRow : Bool → ℕ → Row → Points → Type 0
+EndsRow needs at row points = (rest : List GeoAtom) → IsRow needs row rest → (m : PointsAtom) → m.at ≡ at → m.least ≡ row.first.at → m.points.value ≡ points
+    → MakesPoints needs at row.first.at (atoms.Position row.first ∷ rest) (atoms.Points m)
 
--- the atom of the row's positions, and the place behind the bracket
-pub record EndsPoints (asked : Asked) (at end : ℕ) (row : Row) (p : Whole) : Type 0 where
+-- the list of the row's positions, and the place behind the bracket
+pub record EndsPoints (needs : Bool) (at end : ℕ) (row : Row) (p : PointsRead) : Type 0 where
+  pub at_is : p.at ≡ at
+  pub least_is : p.least ≡ row.first.at
   pub behind : p.end ≡ end
-  pub made : EndsRow (needs_shapes asked.query) at row p.atom
+  pub made : EndsRow needs at row p.points
+
+-- the atom keeps what is kept of the list of positions
+pub record KeepsPoints (m : PointsAtom) (p : PointsRead) : Type 0 where
+  pub at_is : m.at ≡ p.at
+  pub least_is : m.least ≡ p.least
+  pub points_is : m.points.value ≡ p.points
+
+-- a list of positions from the place on, told by the atom that keeps it
+pub record ArePointsWhole (asked : Asked) (base : ℕ) (w : List ℕ) (at : ℕ) (p : PointsRead) : Type 0 where
+  pub order : at < p.end
+  pub within : p.end ≤ length w
+  pub at_is : p.at ≡ base + at
+  pub whole : (m : PointsAtom) → KeepsPoints m p → IsWhole asked base w at (record { end = p.end; atom = atoms.Points m })
 
 -- the positions from the bracket up to the place, behind the last of them, are the row's
 pub record ArePointsRead (asked : Asked) (base : ℕ) (w : List ℕ) (at end : ℕ) (row : Row) : Type 0 where

@@ -16,6 +16,7 @@ mod pairs;
 mod passing;
 mod places;
 mod readings;
+mod rings;
 mod root;
 mod runs;
 mod scalars;

@@ -1,18 +1,17 @@
 //! Positions of two numbers that are written plainly, and lists of them, read at once.
 
-ghost use Rattle.std.specs.Prelude.{◌≡◌, ℕ, ◌+◌, ◌<◌, ◌≤◌, ◌^◌, [], ◌∷◌, ◌++◌, length, slice_index, IfOk, IfSome, true, false};
-ghost use Rattle.at_geojson.specs.Keeping.{kept, needs_shapes as needs_of};
+ghost use Rattle.std.specs.Prelude.{◌≡◌, ℕ, ◌+◌, ◌<◌, ◌≤◌, ◌^◌, Bool, true, false, [], ◌∷◌, length, slice_index, IfOk, IfSome};
+ghost use Rattle.at_geojson.specs.Keeping.{needs_shapes as needs_of};
 ghost use Rattle.at_geojson.specs.Gathering.{to_four};
-ghost use Rattle.at_geojson.specs.Values.{IsWhole, IsPlain, IsPair, IsSpacedPair, PassesPlain, PassesPair, PassesSpacedPair};
-ghost use Rattle.at_geojson.specs.Rows.{IsRow, LengthensRow, EndsRow, EndsPoints, ArePointsPassed};
+ghost use Rattle.at_geojson.specs.Values.{IsPlain, IsPair, IsSpacedPair, PassesPlain, PassesPair, PassesSpacedPair};
+ghost use Rattle.at_geojson.specs.Rows.{EndsRow, EndsPoints, ArePointsPassed, ArePointsWhole};
 
 use crate::asked::GeoAlgebra;
-use crate::atoms::{GeoAtom, Points, PointsAtom, PositionAtom};
+use crate::atoms::{GeoAtom, Points, PositionAtom};
 use crate::coordinates::same_or_faulty;
 use crate::places::{Stop, skip_spaces, stands};
 use at_fixed::{Notation, PlainNumber, plain_len, plain_number};
 use at_geom::{Pos, line_fault, ring_fault};
-use at_text::Memory;
 use std::alloc::Global;
 
 /// A value that was read: the place behind it, and its atom.
@@ -49,8 +48,17 @@ pub struct Row {
     pub path: Vec<Pos>,
 }
 
-/// Room that a list of positions is given at first.
-const ROOM: usize = 8;
+/// A list of positions that was read: its offset, the least offset of its items, the place behind it, and what is kept of it.
+#[derive(Drop)]
+pub struct PointsRead {
+    pub at: u32,
+    pub least: u32,
+    pub end: usize,
+    pub points: Points,
+}
+
+/// Room that a list of positions is given at first: that of a ring of four corners.
+const ROOM: usize = 5;
 
 /// Whether a number may begin at the place: what stands behind the digits begins none.
 #[inline(always)]
@@ -114,26 +122,12 @@ pub fn read_pair(algebra: &GeoAlgebra, text: &[u8], base: u32, at: usize) -> Opt
     })
 }
 
-/// The values, where shapes are kept.
-fn new_path(alloc: Global, needs: bool, first: Pos) -> Result<Vec<Pos>, Stop>
-    ensures { IfOk result (λ path. path.items ≡ kept needs (first ∷ [])) }
+/// The values of a list whose first position this is.
+fn new_path(alloc: Global, first: Pos) -> Result<Vec<Pos>, Stop>
+    ensures { IfOk result (λ path. path.items ≡ first ∷ []) }
 {
-    let mut path = Vec::new(alloc);
-    if needs {
-        path.reserve(ROOM)?;
-        path.push(first)?;
-    }
-    Ok(path)
-}
-
-/// The values with one more of them, where shapes are kept.
-#[inline(always)]
-fn longer_path(mut path: Vec<Pos>, needs: bool, last: Pos) -> Result<Vec<Pos>, Stop>
-    ensures { IfOk result (λ longer. longer.items ≡ path.items ++ kept needs (last ∷ [])) }
-{
-    if needs {
-        path.push(last)?;
-    }
+    let mut path = Vec::with_capacity(alloc, ROOM)?;
+    path.push(first)?;
     Ok(path)
 }
 
@@ -145,70 +139,29 @@ fn one_more(count: u32) -> u32
     if count < 4 { count + 1 } else { count }
 }
 
-/// A row of one position.
-fn row_of(alloc: Global, needs: bool, first: PositionAtom) -> Result<Row, Stop>
-    ensures first { IfOk result (λ row. row.first ≡ first) }
-    ensures row { IfOk result (λ row. IsRow needs row []) }
-{
-    let path = new_path(alloc, needs, first.pos)?;
-    Ok(Row {
-        first,
-        last: first.pos,
-        count: 1,
-        path,
-    })
-}
-
-/// A row with one more position behind it.
-#[inline(always)]
-fn longer_row(row: Row, needs: bool, last: PositionAtom) -> Result<Row, Stop>
-    ensures { IfOk result (LengthensRow needs row last) }
-{
-    let Row {
-        first,
-        count,
-        path,
-        ..
-    } = row;
-    let path = longer_path(path, needs, last.pos)?;
-    Ok(Row {
-        first,
-        last: last.pos,
-        count: one_more(count),
-        path,
-    })
-}
-
-/// The array of a row's positions, which begins at the offset.
-fn row_atom(alloc: Global, needs: bool, at: u32, row: Row) -> Result<GeoAtom, Memory>
-    ensures { IfOk result (EndsRow needs at row) }
+/// What is kept of the list of a row's positions, which begins at the offset.
+fn row_points(at: u32, row: Row) -> Points
+    ensures { (needs : Bool) → EndsRow needs at row result }
 {
     let closes = same_or_faulty(None, row.first.pos, None, row.last);
-    let points = Points {
+    Points {
         path: row.path,
         as_points: None,
         as_line: line_fault(row.count, at),
         as_ring: ring_fault(row.count, closes, at),
-    };
-    Ok(GeoAtom::Points(PointsAtom {
-        at,
-        least: row.first.at,
-        points: Box::new(alloc, points)?,
-    }))
+    }
 }
 
-/// The array of a row's positions, which begins at the offset and ends before the place.
-fn ended_row(
-    algebra: &GeoAlgebra,
-    alloc: Global,
-    at: u32,
-    end: usize,
-    row: Row,
-) -> Result<Whole, Stop>
-    ensures { IfOk result (EndsPoints algebra.now at end row) }
+/// The list of a row's positions, which begins at the offset and ends before the place.
+fn ended_row(at: u32, end: usize, row: Row) -> PointsRead
+    ensures { (needs : Bool) → EndsPoints needs at end row result }
 {
-    let atom = row_atom(alloc, algebra.needs_shapes(), at, row)?;
-    Ok(Whole { end, atom })
+    PointsRead {
+        at,
+        least: row.first.at,
+        end,
+        points: row_points(at, row),
+    }
 }
 
 /// A position, behind white space and before white space.
@@ -277,20 +230,19 @@ fn pass_spaced(algebra: &GeoAlgebra, text: &[u8], at: usize) -> Option<usize>
 /// bracket.
 fn last_point(
     algebra: &GeoAlgebra,
-    alloc: Global,
     text: &[u8],
     base: u32,
     at: usize,
     end: usize,
     row: Row,
-) -> Result<Whole, Stop>
+) -> Result<PointsRead, Stop>
     requires opens { slice_index text.now at ≡ 0x5B }
     requires inside { end < length text.now }
     requires comma { slice_index text.now end ≡ 0x2C }
     requires fits { base + length text.now ≤ 2 ^ 28 }
     requires unneeded { needs_of algebra.now.query ≡ false }
     requires passed { ArePointsPassed algebra.now base text.now at end row }
-    ensures { IfOk result (IsWhole algebra.now base text.now at) }
+    ensures { IfOk result (ArePointsWhole algebra.now base text.now at) }
 {
     let Some(last) = read_spaced(algebra, text, base, end + 1) else {
         return Err(Stop::At(end));
@@ -304,7 +256,7 @@ fn last_point(
         count: one_more(row.count),
         path: row.path,
     };
-    ended_row(algebra, alloc, base + at as u32, last.end + 1, whole)
+    Ok(ended_row(base + at as u32, last.end + 1, whole))
 }
 
 /// A list of positions of which the first was read, where no shapes are kept: those between the first and the last are
@@ -316,25 +268,30 @@ fn pass_points(
     base: u32,
     at: usize,
     first: PairRead,
-) -> Result<Whole, Stop>
+) -> Result<PointsRead, Stop>
     requires inside { at < length text.now }
     requires opens { slice_index text.now at ≡ 0x5B }
     requires fits { base + length text.now ≤ 2 ^ 28 }
     requires unneeded { needs_of algebra.now.query ≡ false }
     requires first { IsSpacedPair algebra.now base text.now (at + 1) first }
-    ensures { IfOk result (IsWhole algebra.now base text.now at) }
+    ensures { IfOk result (ArePointsWhole algebra.now base text.now at) }
 {
-    let mut row = row_of(alloc, false, first.pair)?;
+    let mut row = Row {
+        first: first.pair,
+        last: first.pair.pos,
+        count: 1,
+        path: Vec::new(alloc),
+    };
     let mut end = first.end;
     if stands(text, end, b']') {
-        return ended_row(algebra, alloc, base + at as u32, end + 1, row);
+        return Ok(ended_row(base + at as u32, end + 1, row));
     }
     'positions: while stands(text, end, b',') {
         let Some(next) = pass_spaced(algebra, text, end + 1) else {
             return Err(Stop::At(end));
         };
         if stands(text, next, b']') {
-            return last_point(algebra, alloc, text, base, at, end, row);
+            return last_point(algebra, text, base, at, end, row);
         }
         row.count = one_more(row.count);
         end = next;
@@ -350,15 +307,17 @@ fn keep_points(
     base: u32,
     at: usize,
     first: PairRead,
-) -> Result<Whole, Stop>
+) -> Result<PointsRead, Stop>
     requires inside { at < length text.now }
     requires opens { slice_index text.now at ≡ 0x5B }
     requires fits { base + length text.now ≤ 2 ^ 28 }
     requires needed { needs_of algebra.now.query ≡ true }
     requires first { IsSpacedPair algebra.now base text.now (at + 1) first }
-    ensures { IfOk result (IsWhole algebra.now base text.now at) }
+    ensures { IfOk result (ArePointsWhole algebra.now base text.now at) }
 {
-    let mut row = row_of(alloc, true, first.pair)?;
+    let mut path = new_path(alloc, first.pair.pos)?;
+    let mut last = first.pair.pos;
+    let mut count = 1;
     let mut end = first.end;
     'positions: while !stands(text, end, b']') {
         if !stands(text, end, b',') {
@@ -367,10 +326,18 @@ fn keep_points(
         let Some(next) = read_spaced(algebra, text, base, end + 1) else {
             return Err(Stop::At(end));
         };
-        row = longer_row(row, true, next.pair)?;
+        path.push(next.pair.pos)?;
+        last = next.pair.pos;
+        count = one_more(count);
         end = next.end;
     }
-    ended_row(algebra, alloc, base + at as u32, end + 1, row)
+    let row = Row {
+        first: first.pair,
+        last,
+        count,
+        path,
+    };
+    Ok(ended_row(base + at as u32, end + 1, row))
 }
 
 /// A list of positions of two numbers that are written plainly, from its opening bracket on, which stands at the place.
@@ -380,11 +347,11 @@ pub fn read_points(
     text: &[u8],
     base: u32,
     at: usize,
-) -> Result<Whole, Stop>
+) -> Result<PointsRead, Stop>
     requires inside { at < length text.now }
     requires opens { slice_index text.now at ≡ 0x5B }
     requires fits { base + length text.now ≤ 2 ^ 28 }
-    ensures { IfOk result (IsWhole algebra.now base text.now at) }
+    ensures { IfOk result (ArePointsWhole algebra.now base text.now at) }
 {
     let Some(first) = read_spaced(algebra, text, base, at + 1) else {
         return Err(Stop::At(at + 1));

@@ -15,9 +15,10 @@ use crate::fields::{Field, Fields, field_of_bytes, is_other};
 use crate::lists::array_atom;
 use crate::members::new_name;
 use crate::object_atoms::{fields_atom, object_atom};
-use crate::pairs::{PairRead, Whole, read_pair, read_points};
+use crate::pairs::{PairRead, Whole, read_pair};
 use crate::passing::pass_item;
 use crate::places::{Stop, name_place, skip_spaces, stands, text_end};
+use crate::rings::read_coordinates;
 use crate::scalars::{plain_text_atom, scalar_atom};
 use crate::short_texts::short_text_end;
 use crate::twins::is_twin;
@@ -256,7 +257,7 @@ fn read_array(
     }
 }
 
-/// A list of positions of two numbers that are written plainly, or another array, which stands at the place.
+/// Coordinates of positions of two numbers that are written plainly, or another array, which stands at the place.
 #[cycle(values)]
 fn read_list(
     algebra: &GeoAlgebra,
@@ -271,7 +272,7 @@ fn read_list(
     requires fits { base + length text.now ≤ 2 ^ 28 }
     ensures { IfOk result (IsWhole algebra.now base text.now at) }
 {
-    match read_points(algebra, alloc, text, base, at) {
+    match read_coordinates(algebra, alloc, text, base, at) {
         Ok(whole) => Ok(whole),
         Err(Stop::Memory) => Err(Stop::Memory),
         Err(Stop::At(_)) => read_array(algebra, alloc, text, base, at, depth),

@@ -1,6 +1,5 @@
-use Rattle.std.proofs.Common.{refl, subst}
-use Rattle.at_geojson.specs.Rows.{EndsRow}
+use Rattle.std.proofs.Common.{refl}
 use Rattle.at_geojson.proofs.pairs.ended_row.Goals as goal
 
 pub returns : goal.returns
-returns c = record { behind = refl; made = subst (λ b. EndsRow b c.args.at c.args.row c.in_ok-atom.atom) c.needs_shapes.ensures c.in_ok-atom.ensures }
+returns c needs = record { at_is = refl; least_is = refl; behind = refl; made = c.row_points.ensures needs }

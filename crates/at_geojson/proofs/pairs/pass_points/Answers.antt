@@ -1,22 +1,17 @@
 -- Each position but the first and the last is passed over behind those before it.
-use Rattle.std.proofs.Common.{[], refl, sym, subst}
-use Rattle.std.proofs.lemmas.Result.{IfOk-weaker}
-use Rattle.at_geojson.specs.Rows.{IsRow}
-use Rattle.at_geojson.proofs.RowFolds.{points_begin, passed_on, points_end}
+use Rattle.std.proofs.Common.{refl}
+use Rattle.at_geojson.specs.declared.pairs.Row.{Row}
+use Rattle.at_geojson.specs.Keeping.{needs_shapes}
+use Rattle.at_geojson.proofs.RowFolds.{unkept_begin as begun, passed_on, points_end}
 use Rattle.at_geojson.proofs.pairs.pass_points.Goals as goal
 
 pub positions-init : goal.positions-init
-positions-init c = record {
-  within = c.requires.first.within;
-  read = (
-    c.in_ok-row.row,
-    refl,
-    refl,
-    refl,
-    points_begin c.args.algebra.now c.args.base c.args.text.now c.args.at c.args.first c.in_ok-row.row c.requires.inside c.requires.first c.in_ok-row.ensures.first
-        (subst (λ needs. IsRow needs c.in_ok-row.row []) (sym c.requires.unneeded) c.in_ok-row.ensures.row),
-  );
-}
+positions-init c =
+    let row : Row = record { first = c.args.first.pair; last = c.args.first.pair.pos; count = 1; path = c.new.result } in
+    record {
+      within = c.requires.first.within;
+      read = (row, refl, refl, refl, begun c.args.algebra.now c.args.base c.args.text.now c.args.at c.args.first row c.requires.inside c.requires.first c.requires.unneeded c.new.ensures.items refl refl refl);
+    }
 
 pub positions-preserved : goal.positions-preserved
 positions-preserved c =
@@ -30,7 +25,7 @@ positions-preserved c =
 pub returns-then-stands : goal.returns-then-stands
 returns-then-stands c =
     let here = c.if-stands.true in
-    IfOk-weaker c.ended_row.result _ _ (λ p e. points_end c.args.algebra.now c.args.base c.args.text.now c.args.at c.args.first.end c.in_ok-row.row p
-    (points_begin c.args.algebra.now c.args.base c.args.text.now c.args.at c.args.first c.in_ok-row.row c.requires.inside c.requires.first c.in_ok-row.ensures.first
-    (subst (λ needs. IsRow needs c.in_ok-row.row []) (sym c.requires.unneeded) c.in_ok-row.ensures.row))
-    (c.stands.ensures.inside here) c.requires.opens (c.stands.ensures.byte here) e) c.ended_row.ensures
+    let row : Row = record { first = c.args.first.pair; last = c.args.first.pair.pos; count = 1; path = c.new.result } in
+    points_end c.args.algebra.now c.args.base c.args.text.now c.args.at c.args.first.end row c.ended_row.result
+    (begun c.args.algebra.now c.args.base c.args.text.now c.args.at c.args.first row c.requires.inside c.requires.first c.requires.unneeded c.new.ensures.items refl refl refl)
+    (c.stands.ensures.inside here) c.requires.opens (c.stands.ensures.byte here) (c.ended_row.ensures (needs_shapes c.args.algebra.now.query))
