@@ -1,6 +1,9 @@
 -- The members for which some kind of object asks: of each name the first, and what is made of them is what is made of all members.
 use Rattle.std.proofs.Common.{◌≡◌, inl, inr, ℕ, Bool, true, false, if◌then◌else◌, bytes_eq, codes, List, [], ◌∷◌, ◌++◌, All, Option, Some, None, refl, sym, ◌∙◌, ap, subst}
 use Rattle.std.proofs.lemmas.Slice.Eq.{bytes_eq-Decides}
+use Rattle.std.proofs.lemmas.Bool.{true≢false, or_from}
+use Rattle.std.proofs.lemmas.Bool.Decides.{not_from_Decides}
+use Rattle.std.proofs.lemmas.Option.{none-some}
 use Rattle.at_text.specs.declared.faults.Fault.{Fault}
 use Rattle.std.specs.Prelude.{Result, Ok, Err}
 use Rattle.at_nest.specs.declared.algebra.Member.{Member}
@@ -16,11 +19,12 @@ use Rattle.at_geojson.specs.declared.fields.Field.{Field}
 use Rattle.at_geojson.specs.declared.fields.Fields.{Fields}
 use Rattle.at_geom.specs.declared.shapes.Shape.{Shape}
 use Rattle.at_geojson.specs.Keeping.{Asked, needs_shapes}
-use Rattle.at_geojson.specs.Atoms.{as_kind, IsOwn, IfOwnPart}
-use Rattle.at_geojson.specs.Gathering.{seen}
+use Rattle.at_geojson.specs.Atoms.{as_kind, IsOwn, IsOwnRole, IfOwnPart}
+use Rattle.at_geojson.specs.declared.fields.Field.TheVariants as names
+use Rattle.at_geojson.specs.Gathering.{seen, is_among}
 use Rattle.at_geojson.specs.Objects.{value_named, kind_in, coordinates_shape, geometries_shape, feature_shape, texts_named, kept_texts, FeaturesSeen, JoinsFeature, IsRoleOf, MakesObject}
-use Rattle.at_geojson.specs.Fields.{first_field, field_of, is_kind, is_coordinates, is_geometry, is_properties, is_features, is_geometries, put_if, AreFields, AreOwnFields, kind_in_fields, IfOwnValue, IsRoleIn, MakesFields}
-use Rattle.at_geojson.proofs.ObjectOwns.{own_named}
+use Rattle.at_geojson.specs.Fields.{first_field, field_of, is_no_field, value_in, is_kind, is_coordinates, is_geometry, is_properties, is_features, is_geometries, put_if, AreFields, AreOwnFields, kind_in_fields, IfOwnValue, IsRoleIn, MakesFields}
+use Rattle.at_geojson.proofs.ObjectOwns.{own_named, own_coordinates, own_geometries, own_features}
 
 -- ---- one member more
 
@@ -117,6 +121,31 @@ features_field name = features_first (bytes_eq name (codes "type")) (bytes_eq na
 geometries_field : (name : List ℕ) → is_geometries (field_of name) ≡ bytes_eq name (codes "geometries")
 geometries_field name = geometries_first (bytes_eq name (codes "type")) (bytes_eq name (codes "coordinates")) (bytes_eq name (codes "geometry")) (bytes_eq name (codes "properties")) (bytes_eq name (codes "features")) (bytes_eq name (codes "geometries")) (no_other_name name (codes "type") (codes "geometries") refl) (no_other_name name (codes "coordinates") (codes "geometries") refl) (no_other_name name (codes "geometry") (codes "geometries") refl) (no_other_name name (codes "properties") (codes "geometries") refl) (no_other_name name (codes "features") (codes "geometries") refl)
 
+-- ---- a name that no member before has
+
+-- of a member for which some kind asks: its value isn't there
+unlike : (wanted name other : List ℕ) → bytes_eq name wanted ≡ true → bytes_eq other wanted ≡ false → bytes_eq name other ≡ false
+unlike wanted name other e f = go (bytes_eq name other) refl where
+  go : (b : Bool) → bytes_eq name other ≡ b → b ≡ false
+  go false q = refl
+  go true q = absurd (not_from_Decides (bytes_eq other wanted) (bytes_eq-Decides other wanted) f (sym ((bytes_eq-Decides name other).0 q) ∙ (bytes_eq-Decides name wanted).0 e))
+
+unnamed : (wanted name : List ℕ) (ms : List (Member GeoAtom)) → bytes_eq name wanted ≡ true → value_named wanted ms ≡ None → is_among ms name ≡ false
+unnamed wanted name [] e none = refl
+unnamed wanted name (m ∷ ms) e none = go (bytes_eq m.name wanted) refl none (unnamed wanted name ms e) where
+  go : (b : Bool) → bytes_eq m.name wanted ≡ b → (if b then Some m.value else value_named wanted ms) ≡ None → (value_named wanted ms ≡ None → is_among ms name ≡ false) → is_among (m ∷ ms) name ≡ false
+  go true q n more = absurd (none-some m.value (sym n))
+  go false q n more = or_from (bytes_eq name m.name) (is_among ms name) (unlike wanted name m.name e q) (more n)
+
+pub field_absent : (field : Field) (f : Fields) (ms : List (Member GeoAtom)) (name : List ℕ) → field ≡ field_of name → is_no_field field ≡ false → AreFields f ms → value_in field f ≡ None → is_among ms name ≡ false
+field_absent names.Kind f ms name e b h none = unnamed (codes "type") name ms (sym (kind_field name) ∙ ap is_kind (sym e)) (sym h.kind ∙ none)
+field_absent names.Coordinates f ms name e b h none = unnamed (codes "coordinates") name ms (sym (coordinates_field name) ∙ ap is_coordinates (sym e)) (sym h.coordinates ∙ none)
+field_absent names.Geometry f ms name e b h none = unnamed (codes "geometry") name ms (sym (geometry_field name) ∙ ap is_geometry (sym e)) (sym h.geometry ∙ none)
+field_absent names.Properties f ms name e b h none = unnamed (codes "properties") name ms (sym (properties_field name) ∙ ap is_properties (sym e)) (sym h.properties ∙ none)
+field_absent names.Features f ms name e b h none = unnamed (codes "features") name ms (sym (features_field name) ∙ ap is_features (sym e)) (sym h.features ∙ none)
+field_absent names.Geometries f ms name e b h none = unnamed (codes "geometries") name ms (sym (geometries_field name) ∙ ap is_geometries (sym e)) (sym h.geometries ∙ none)
+field_absent names.Other f ms name e b h none = absurd (true≢false b)
+
 -- one member more
 pub fields_more : (f g : Fields) (ms : List (Member GeoAtom)) (m : Member GeoAtom) (field : Field) → field ≡ field_of m.name → AreFields f ms
     → g.kind ≡ put_if (is_kind field) f.kind m.value
@@ -173,3 +202,15 @@ own_feature asked at (Ok shape) (Ok texts) r (part, e, p) = subst (IfOwnPart ask
 own_feature asked at (Ok shape) (Err g) r e = subst (IfOwnPart asked) (sym e) tt
 own_feature asked at (Err f) (Ok texts) r e = subst (IfOwnPart asked) (sym e) tt
 own_feature asked at (Err f) (Err g) r (first, e, n) = subst (IfOwnPart asked) (sym e) tt
+
+pub own_role : (asked : Asked) (at : ℕ) (kind : Option Kind) (f : Fields) (role : Role) → AreOwnFields asked f → IsRoleIn asked.query at kind f role → IsOwnRole asked role
+own_role asked at None f role own e = subst (IsOwnRole asked) (sym e) tt
+own_role asked at (Some kinds.FeatureCollection) f role own (p, e, s) = subst (IsOwnRole asked) (sym e) (own_features asked at f.features p s own.features)
+own_role asked at (Some kinds.Feature) f role own (p, e, j) = subst (IsOwnRole asked) (sym e) (own_feature asked at (feature_shape f.geometry) (texts_named f.properties) p j)
+own_role asked at (Some kinds.GeometryCollection) f role own e = subst (IsOwnRole asked) (sym e) (own_geometries asked at f.geometries own.geometries)
+own_role asked at (Some kinds.Point) f role own e = subst (IsOwnRole asked) (sym e) (own_coordinates asked at kinds.Point f.coordinates own.coordinates)
+own_role asked at (Some kinds.MultiPoint) f role own e = subst (IsOwnRole asked) (sym e) (own_coordinates asked at kinds.MultiPoint f.coordinates own.coordinates)
+own_role asked at (Some kinds.LineString) f role own e = subst (IsOwnRole asked) (sym e) (own_coordinates asked at kinds.LineString f.coordinates own.coordinates)
+own_role asked at (Some kinds.MultiLineString) f role own e = subst (IsOwnRole asked) (sym e) (own_coordinates asked at kinds.MultiLineString f.coordinates own.coordinates)
+own_role asked at (Some kinds.Polygon) f role own e = subst (IsOwnRole asked) (sym e) (own_coordinates asked at kinds.Polygon f.coordinates own.coordinates)
+own_role asked at (Some kinds.MultiPolygon) f role own e = subst (IsOwnRole asked) (sym e) (own_coordinates asked at kinds.MultiPolygon f.coordinates own.coordinates)

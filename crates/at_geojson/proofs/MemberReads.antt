@@ -1,10 +1,11 @@
 -- Members that are read at once: their names are plain and differ, and what is made of their fields is what is made of them.
-use Rattle.std.proofs.Common.{◌≡◌, ℕ, ◌+◌, ◌-◌, ◌<◌, ◌≤◌, Bool, true, false, ◌||◌, if◌then◌else◌, bytes_eq, List, [], ◌∷◌, ◌++◌, All, map, length, take, drop, slice_index, Option, Some, None, is_some, refl, sym, ◌∙◌, ap, subst, arith, append-nil, append_assoc}
+use Rattle.std.proofs.Common.{◌≡◌, ℕ, ◌+◌, ◌-◌, ◌<◌, ◌≤◌, Bool, true, false, ◌||◌, if◌then◌else◌, bytes_eq, List, [], ◌∷◌, ◌++◌, length, take, drop, slice_index, Option, Some, None, is_some, refl, sym, ◌∙◌, ap, subst, arith, append-nil, append_assoc}
 use Rattle.std.specs.List.{list_all, list_any}
 use Rattle.std.proofs.lemmas.Bool.{true≢false}
-use Rattle.std.proofs.lemmas.List.{map-append}
+use Rattle.std.proofs.Math.Bool.{or-false}
 use Rattle.std.proofs.Math.Seq.{take-append_seam}
-use Rattle.std.proofs.lemmas.List.Elements.{All-nil, All-cons, All-append}
+use Rattle.std.proofs.lemmas.List.Folds.{list_any-append}
+use Rattle.std.proofs.lemmas.Slice.Eq.{bytes_eq-Decides}
 use Rattle.at_text.specs.Faults.{first_fault}
 use Rattle.at_text.specs.declared.faults.Fault.{Fault}
 use Rattle.at_fixed.specs.Kept.{part}
@@ -18,19 +19,21 @@ use Rattle.at_geojson.specs.declared.fields.Field.{Field}
 use Rattle.at_geojson.specs.declared.fields.Field.TheVariants as variants
 use Rattle.at_geojson.specs.declared.fields.Fields.{Fields}
 use Rattle.at_geojson.specs.declared.places.NamePlace.{NamePlace}
+use Rattle.at_geojson.specs.declared.members.FieldName.{FieldName}
+use Rattle.at_geojson.specs.declared.members.OtherNames.{OtherNames}
 use Rattle.at_geojson.specs.declared.pairs.Whole.{Whole}
 use Rattle.at_geojson.specs.Keeping.{Asked, looks_at_texts, asks_pair}
 use Rattle.at_geojson.specs.Atoms.{twin_of, as_text}
 use Rattle.at_geojson.specs.Gathering.{is_simple, is_among, twin_at, member_twins}
 use Rattle.at_geojson.specs.Objects.{kept_texts, pair_kept}
 use Rattle.at_geojson.specs.Places.{IsNameAt}
-use Rattle.at_geojson.specs.Fields.{field_of, put_if, is_kind, is_coordinates, is_geometry, is_properties, is_features, is_geometries, AreFields}
+use Rattle.at_geojson.specs.Fields.{field_of, put_if, is_kind, is_coordinates, is_geometry, is_properties, is_features, is_geometries, is_no_field, AreFields}
 use Rattle.at_geojson.specs.Values.{IsItem, EndsObject}
-use Rattle.at_geojson.specs.Members.{name_in, IsPlainName, is_named_among, PassesItem, IsFieldRead, EndsFields, AreFieldsRead}
+use Rattle.at_geojson.specs.Members.{name_in, IsPlainName, is_among_others, ArePlainOthers, IsNewName, PassesItem, IsFieldRead, EndsFields, AreFieldsRead}
 use Rattle.at_geojson.proofs.Firsts.{none_right}
 use Rattle.at_geojson.proofs.Each.{none_left, none_behind}
 use Rattle.at_geojson.proofs.SimpleTexts.{simple_units}
-use Rattle.at_geojson.proofs.FieldFolds.{fields_more, object_of_fields}
+use Rattle.at_geojson.proofs.FieldFolds.{field_absent, fields_more, object_of_fields}
 use Rattle.at_geojson.proofs.ObjectReads.{object_folds}
 use Rattle.at_geojson.proofs.ValueParts.{slice_part, member_of, members_begin, members_go_on}
 
@@ -58,16 +61,19 @@ plain_name_is w at n h simple =
       units = λ cs ok q. slice_part w (n.first + 1) (n.end - 1) order ∙ (middle ∙ (simple_units s cs ok (same ∙ q) simple).1);
     }
 
-by_names : (name : List ℕ) (members : List (Member GeoAtom)) → is_among members name ≡ list_any (bytes_eq name) (map (λ (m : Member GeoAtom). m.name) members)
-by_names name [] = refl
-by_names name (m ∷ members) = ap (λ b. bytes_eq name m.name || b) (by_names name members)
+among_more : (ms : List (Member GeoAtom)) (m : Member GeoAtom) (name : List ℕ) → is_among (ms ++ m ∷ []) name ≡ (is_among ms name || bytes_eq name m.name)
+among_more ms m name = list_any-append (λ (x : Member GeoAtom). bytes_eq name x.name) ms (m ∷ []) ∙ ap (λ b. is_among ms name || b) (or-false (bytes_eq name m.name))
 
-by_places : (w name : List ℕ) (names : List NamePlace) → is_named_among w names name ≡ list_any (bytes_eq name) (map (name_in w) names)
-by_places w name [] = refl
-by_places w name (n ∷ names) = ap (λ b. bytes_eq name (name_in w n) || b) (by_places w name names)
+-- a name for which no kind asks is no name for which one does
+unlike_field : (name other : List ℕ) → is_no_field (field_of name) ≡ true → is_no_field (field_of other) ≡ false → bytes_eq name other ≡ false
+unlike_field name other e f = go (bytes_eq name other) refl where
+  go : (b : Bool) → bytes_eq name other ≡ b → b ≡ false
+  go false q = refl
+  go true q = absurd (true≢false (sym e ∙ (ap (λ z. is_no_field (field_of z)) ((bytes_eq-Decides name other).0 q) ∙ f)))
 
-among_places : (w name : List ℕ) (members : List (Member GeoAtom)) (names : List NamePlace) → map (λ (m : Member GeoAtom). m.name) members ≡ map (name_in w) names → is_among members name ≡ is_named_among w names name
-among_places w name members names e = by_names name members ∙ (ap (list_any (bytes_eq name)) e ∙ sym (by_places w name names))
+-- the names before a place that are kept are those of its members for which no kind asks
+abbrev pub KeepsOthers : List ℕ → List (Member GeoAtom) → OtherNames → Type 0
+KeepsOthers w ms others = (name : List ℕ) → is_no_field (field_of name) ≡ true → is_among ms name ≡ is_among_others w others name
 
 no_twin_more : (earlier ms : List (Member GeoAtom)) (m : Member GeoAtom) → member_twins earlier ms ≡ None → is_among (earlier ++ ms) m.name ≡ false → twin_of m.value ≡ None → member_twins earlier (ms ++ m ∷ []) ≡ None
 no_twin_more earlier [] m e new value = none_right (twin_at (is_among earlier m.name) m) ∙ (ap (λ b. twin_at b m) (ap (λ z. is_among z m.name) (sym (append-nil earlier)) ∙ new) ∙ value)
@@ -81,6 +87,26 @@ no_twin_in a b e f = go (twin_of a) (sym e ∙ f) where
   go : (o : Option Fault) → is_some o ≡ false → o ≡ None
   go None e = refl
   go (Some x) e = absurd (true≢false e)
+
+module _ (w : List ℕ) (fields : Fields) (old new : OtherNames) (n : FieldName) (ms : List (Member GeoAtom)) where
+  name_absent : KeepsOthers w ms old → AreFields fields ms → n.field ≡ field_of (name_in w n.place) → IsNewName w fields old new n → is_among ms (name_in w n.place) ≡ false
+  name_absent h are same is_new = go (is_no_field n.field) refl where
+    go : (b : Bool) → is_no_field n.field ≡ b → is_among ms (name_in w n.place) ≡ false
+    go true e = h (name_in w n.place) (ap is_no_field (sym same) ∙ e) ∙ (is_new.other e).0
+    go false e = field_absent n.field fields ms (name_in w n.place) same e are (is_new.field e).0
+
+  keeps_more : (m : Member GeoAtom) → m.name ≡ name_in w n.place → KeepsOthers w ms old → n.field ≡ field_of (name_in w n.place) → IsNewName w fields old new n → KeepsOthers w (ms ++ m ∷ []) new
+  keeps_more m named h same is_new name unasked =
+      among_more ms m name ∙ (ap (λ z. is_among ms name || bytes_eq name z) named ∙ (ap (λ b. b || bytes_eq name (name_in w n.place)) (h name unasked) ∙ go (is_no_field n.field) refl)) where
+        go : (b : Bool) → is_no_field n.field ≡ b → (is_among_others w old name || bytes_eq name (name_in w n.place)) ≡ is_among_others w new name
+        go true e = sym ((is_new.other e).1.names name)
+        go false e = ap (λ b. is_among_others w old name || b) (unlike_field name (name_in w n.place) unasked (ap is_no_field (sym same) ∙ e)) ∙ (or-false (is_among_others w old name) ∙ ap (λ o. is_among_others w o name) (sym (is_new.field e).1))
+
+  plain_more : ArePlainOthers w old → IsPlainName w n.place → IsNewName w fields old new n → ArePlainOthers w new
+  plain_more h plain is_new = go (is_no_field n.field) refl where
+    go : (b : Bool) → is_no_field n.field ≡ b → ArePlainOthers w new
+    go true e = (is_new.other e).1.plain h plain
+    go false e = subst (ArePlainOthers w) (sym (is_new.field e).1) h
 
 -- ---- texts for which no test asks
 
@@ -101,57 +127,59 @@ no_texts tests (m ∷ ms) e = pair_left tests m.name (kept_texts tests ms) (as_t
 -- ---- objects
 
 module _ (asked : Asked) (base : ℕ) (w : List ℕ) where
-  pub fields_begin : (at : ℕ) (fields : Fields) → at < length w → AreFields fields [] → AreFieldsRead asked base w at (at + 1) [] fields
-  fields_begin at fields h are = record { members = []; read = members_begin asked base w at h; are = are; named = refl; plain = All-nil (IsPlainName w); no_twin = refl }
-
-  pub names_plain : (n : NamePlace) (names : List NamePlace) → All (IsPlainName w) names → IsPlainName w n → All (IsPlainName w) (names ++ n ∷ [])
-  names_plain n names all one = All-append (IsPlainName w) names (n ∷ []) all (All-cons (IsPlainName w) n [] one (All-nil (IsPlainName w)))
+  pub fields_begin : (at : ℕ) (others : OtherNames) (fields : Fields) → at < length w → AreFields fields [] → ArePlainOthers w others → ((name : List ℕ) → is_among_others w others name ≡ false) → AreFieldsRead asked base w at (at + 1) others fields
+  fields_begin at others fields h are plain none = record { members = []; read = members_begin asked base w at h; are = are; named = λ name _. sym (none name); plain = plain; no_twin = refl }
 
   -- what is known of the members with one more of them
-  pub record LongerFields (at place : ℕ) (names : List NamePlace) (fields : Fields) (n : NamePlace) (p : Whole) (longer : Fields) : Type 0 where
-    pub before : AreFieldsRead asked base w at place names fields
+  pub record LongerFields (at place : ℕ) (old new : OtherNames) (fields : Fields) (n : NamePlace) (p : Whole) (longer : Fields) : Type 0 where
+    pub before : AreFieldsRead asked base w at place old fields
     pub plain : IsPlainName w n
-    pub new : is_named_among w names (name_in w n) ≡ false
+    pub absent : is_among before.members (name_in w n) ≡ false
     pub value : twin_of p.atom ≡ None
     pub are : AreFields longer (before.members ++ member_of asked base w n (name_in w n) p.atom ∷ [])
+    pub named : KeepsOthers w (before.members ++ member_of asked base w n (name_in w n) p.atom ∷ []) new
+    pub others : ArePlainOthers w new
 
   -- of a member that was put into the fields
-  pub longer_fields : (at place : ℕ) (names told : List NamePlace) (fields : Fields) (n : NamePlace) (p : Whole) (longer : Fields) (field : Field) (before : AreFieldsRead asked base w at place names fields) → IsPlainName w n
-      → told ≡ names → is_named_among w told (name_in w n) ≡ false → twin_of p.atom ≡ None → field ≡ field_of (name_in w n)
-      → longer.kind ≡ put_if (is_kind field) fields.kind p.atom
-      → longer.coordinates ≡ put_if (is_coordinates field) fields.coordinates p.atom
-      → longer.geometry ≡ put_if (is_geometry field) fields.geometry p.atom
-      → longer.properties ≡ put_if (is_properties field) fields.properties p.atom
-      → longer.features ≡ put_if (is_features field) fields.features p.atom
-      → longer.geometries ≡ put_if (is_geometries field) fields.geometries p.atom
-      → LongerFields at place names fields n p longer
-  longer_fields at place names told fields n p longer field before plain same new none field_is e0 e1 e2 e3 e4 e5 = record {
-    before = before;
-    plain = plain;
-    new = ap (λ z. is_named_among w z (name_in w n)) (sym same) ∙ new;
-    value = none;
-    are = fields_more fields longer before.members (member_of asked base w n (name_in w n) p.atom) field field_is before.are e0 e1 e2 e3 e4 e5;
-  }
+  pub longer_fields : (at place : ℕ) (old new : OtherNames) (fields : Fields) (n : FieldName) (p : Whole) (longer : Fields) (before : AreFieldsRead asked base w at place old fields) → IsPlainName w n.place
+      → n.field ≡ field_of (name_in w n.place) → IsNewName w fields old new n → twin_of p.atom ≡ None
+      → longer.kind ≡ put_if (is_kind n.field) fields.kind p.atom
+      → longer.coordinates ≡ put_if (is_coordinates n.field) fields.coordinates p.atom
+      → longer.geometry ≡ put_if (is_geometry n.field) fields.geometry p.atom
+      → longer.properties ≡ put_if (is_properties n.field) fields.properties p.atom
+      → longer.features ≡ put_if (is_features n.field) fields.features p.atom
+      → longer.geometries ≡ put_if (is_geometries n.field) fields.geometries p.atom
+      → LongerFields at place old new fields n.place p longer
+  longer_fields at place old new fields n p longer before plain field_is is_new none e0 e1 e2 e3 e4 e5 =
+      let m : Member GeoAtom = member_of asked base w n.place (name_in w n.place) p.atom in
+      record {
+        before = before;
+        plain = plain;
+        absent = name_absent w fields old new n before.members before.named before.are field_is is_new;
+        value = none;
+        are = fields_more fields longer before.members m n.field field_is before.are e0 e1 e2 e3 e4 e5;
+        named = keeps_more w fields old new n before.members m refl before.named field_is is_new;
+        others = plain_more w fields old new n before.members before.plain plain is_new;
+      }
 
   -- of one that was passed over nothing is put there
   pub field_passed : (at end : ℕ) (field : Field) (fields : Fields) → field ≡ variants.Other → PassesItem asked w at end → IsFieldRead asked base w at field fields fields end
   field_passed at end field fields e pass = let (a, item, none) = pass base in
       subst (λ z. IsFieldRead asked base w at z fields fields end) (sym e) (record { atom = a; item = item; no_twin = none; kind = refl; coordinates = refl; geometry = refl; properties = refl; features = refl; geometries = refl })
 
-  longer_twins : (at place : ℕ) (names : List NamePlace) (fields : Fields) (n : NamePlace) (p : Whole) (longer : Fields) (l : LongerFields at place names fields n p longer) → member_twins [] (l.before.members ++ member_of asked base w n (name_in w n) p.atom ∷ []) ≡ None
-  longer_twins at place names fields n p longer l = no_twin_more [] l.before.members (member_of asked base w n (name_in w n) p.atom) l.before.no_twin (among_places w (name_in w n) l.before.members names l.before.named ∙ l.new) l.value
+  longer_twins : (at place : ℕ) (old new : OtherNames) (fields : Fields) (n : NamePlace) (p : Whole) (longer : Fields) (l : LongerFields at place old new fields n p longer) → member_twins [] (l.before.members ++ member_of asked base w n (name_in w n) p.atom ∷ []) ≡ None
+  longer_twins at place old new fields n p longer l = no_twin_more [] l.before.members (member_of asked base w n (name_in w n) p.atom) l.before.no_twin l.absent l.value
 
-  pub fields_go_on : (at place : ℕ) (names : List NamePlace) (fields : Fields) (n : NamePlace) (p : Whole) (longer : Fields) → at < place → LongerFields at place names fields n p longer → IsNameAt w place n → IsItem asked base w (n.colon + 1) p
-      → p.end < length w → slice_index w p.end ≡ 0x2C → AreFieldsRead asked base w at (p.end + 1) (names ++ n ∷ []) longer
-  fields_go_on at place names fields n p longer h l name item inside byte =
-      let m : Member GeoAtom = member_of asked base w n (name_in w n) p.atom in
+  pub fields_go_on : (at place : ℕ) (old new : OtherNames) (fields : Fields) (n : NamePlace) (p : Whole) (longer : Fields) → at < place → LongerFields at place old new fields n p longer → IsNameAt w place n → IsItem asked base w (n.colon + 1) p
+      → p.end < length w → slice_index w p.end ≡ 0x2C → AreFieldsRead asked base w at (p.end + 1) new longer
+  fields_go_on at place old new fields n p longer h l name item inside byte =
       record {
-        members = l.before.members ++ m ∷ [];
+        members = l.before.members ++ member_of asked base w n (name_in w n) p.atom ∷ [];
         read = members_go_on asked base w at place l.before.members n (name_in w n) p h l.before.read name l.plain.units item inside byte;
         are = l.are;
-        named = map-append (λ (m : Member GeoAtom). m.name) l.before.members (m ∷ []) ∙ (ap (λ z. z ++ name_in w n ∷ []) l.before.named ∙ sym (map-append (name_in w) names (n ∷ [])));
-        plain = names_plain n names l.before.plain l.plain;
-        no_twin = longer_twins at place names fields n p longer l;
+        named = l.named;
+        plain = l.others;
+        no_twin = longer_twins at place old new fields n p longer l;
       }
 
   -- the atom of the fields is that of the members
@@ -162,6 +190,6 @@ module _ (asked : Asked) (base : ℕ) (w : List ℕ) where
     fold = object_folds asked at ms q.atom twins (object_of_fields asked.query at f ms [] q.atom are (sym (no_texts asked.query.tests ms unasked)) ends.made);
   }
 
-  pub ends_longer : (at place end : ℕ) (names : List NamePlace) (fields : Fields) (n : NamePlace) (p : Whole) (longer : Fields) (q : Whole) (l : LongerFields at place names fields n p longer) → EndsFields asked (base + at) end longer q → list_any looks_at_texts asked.query.tests ≡ false
+  pub ends_longer : (at place end : ℕ) (old new : OtherNames) (fields : Fields) (n : NamePlace) (p : Whole) (longer : Fields) (q : Whole) (l : LongerFields at place old new fields n p longer) → EndsFields asked (base + at) end longer q → list_any looks_at_texts asked.query.tests ≡ false
       → EndsObject asked (base + at) end (l.before.members ++ member_of asked base w n (name_in w n) p.atom ∷ []) q
-  ends_longer at place end names fields n p longer q l ends unasked = ends_fields (base + at) end longer (l.before.members ++ member_of asked base w n (name_in w n) p.atom ∷ []) q ends l.are (longer_twins at place names fields n p longer l) unasked
+  ends_longer at place end old new fields n p longer q l ends unasked = ends_fields (base + at) end longer (l.before.members ++ member_of asked base w n (name_in w n) p.atom ∷ []) q ends l.are (longer_twins at place old new fields n p longer l) unasked

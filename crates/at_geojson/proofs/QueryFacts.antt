@@ -16,11 +16,12 @@ use Rattle.at_geom.specs.Shapes.{positions, are_all_within, Meet, extent_of}
 use Rattle.at_query.specs.declared.features.Feature.{Feature}
 use Rattle.at_query.specs.declared.parts.Entry.{Entry}
 use Rattle.at_query.specs.declared.parts.Part.{Part}
-use Rattle.at_query.specs.declared.parts.Part.TheVariants.{Offsets, Area, Spread, Entries}
+use Rattle.at_query.specs.declared.parts.Part.TheVariants.{Offsets, Count, Area, Spread, Entries}
 use Rattle.at_query.specs.declared.queries.Verb.{Verb}
 use Rattle.at_query.specs.declared.queries.Verb.TheVariants as verbs
 use Rattle.at_query.specs.Parts.{wrapped_sum, IsHullInRange, IsKeptOf, IsPart}
 use Rattle.at_query.specs.Results.{all_positions}
+use Rattle.at_query.proofs.KeptLists.{keeps_one}
 
 abbrev entry_at : ℕ → Shape → Entry
 entry_at at shape = record { at = at; shape = shape; extent = extent_of (positions shape) }
@@ -117,3 +118,9 @@ module _ (query : Query) (f g : Feature) (at_same : g.at ≡ f.at) (shape_kept :
   pub same_part : (part : Part) → IsPart query (g ∷ []) part → IsPart query (f ∷ []) part
   same_part part (kept, inl (h, (zs, e, k)), p) = (f ∷ [], inl (holds_both.0 h, ([], refl, refl)), one_kept query.verb part shape_told (subst (λ l. IsKeptOf query.verb l part) (e ∙ ap (λ z. g ∷ z) k) p))
   same_part part (kept, inr (n, k), p) = ([], inr (λ h. n (holds_both.1 h), refl), subst (λ l. IsKeptOf query.verb l part) k p)
+
+-- without tests the count of one feature is one
+pub counted_one : (query : Query) (f : Feature) → query.verb ≡ verbs.Count → query.tests ≡ [] → IsPart query (f ∷ []) (Count 1)
+counted_one query f v t =
+    let holds : Holds query f = subst (AllByRecursion (λ (t : Test). TestHolds t f)) (sym t) tt in
+    (f ∷ [], keeps_one (Holds query) f holds, subst (λ verb. IsKeptOf verb (f ∷ []) (Count 1)) (sym v) refl)

@@ -1,10 +1,10 @@
 -- Bytes of ASCII that stand for themselves, between quotes, are a string in which each byte stands for the unit of its own number.
-use Rattle.std.proofs.Common.{◌≡◌, ℕ, zero, suc, ◌+◌, ◌-◌, ◌<◌, ◌≤◌, ◌&&◌, Bool, true, false, List, [], ◌∷◌, ◌++◌, length, take, drop, slice_index, flat_map, refl, sym, ◌∙◌, ap, subst, arith}
+use Rattle.std.proofs.Common.{◌≡◌, ℕ, zero, suc, ◌+◌, ◌-◌, ◌<◌, ◌≤◌, ◌&&◌, Bool, true, false, List, [], ◌∷◌, ◌++◌, length, slice_index, flat_map, refl, sym, ◌∙◌, ap, subst, arith}
 use Rattle.std.specs.List.{list_all}
 use Rattle.std.proofs.lemmas.Bool.{true≢false}
 use Rattle.at_fixed.specs.Kept.{part}
 use Rattle.at_fixed.proofs.DigitParts.{part-none, part-more, part-cons}
-use Rattle.at_lex.specs.Strings.{Character, plain, is_plain, AreCharacters, character_text, string_text}
+use Rattle.at_lex.specs.Strings.{Character, plain, is_plain, AreCharacters, character_text}
 use Rattle.at_geojson.specs.Gathering.{is_simple}
 use Rattle.at_geojson.specs.Places.{is_common, IsSimpleTextAt}
 use Rattle.at_geojson.proofs.ValueParts.{slice_part}

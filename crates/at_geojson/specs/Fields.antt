@@ -2,6 +2,7 @@
 use Rattle.std.specs.Prelude.{◌≡◌, ◌⊎◌, ℕ, Bool, true, false, if◌then◌else◌, bytes_eq, codes, List, [], Option, Some, None, Result}
 use Rattle.std.specs.Bool.{⊤}
 use Rattle.at_text.specs.declared.faults.Fault.{Fault}
+use Rattle.at_geom.specs.declared.shapes.Shape.{Shape}
 use Rattle.at_nest.specs.declared.algebra.Member.{Member}
 use Rattle.at_query.specs.declared.features.TextPair.{TextPair}
 use Rattle.at_query.specs.declared.queries.Query.{Query}
@@ -52,6 +53,21 @@ abbrev pub is_geometries : Field → Bool
 is_geometries names.Geometries = true
 is_geometries _ = false
 
+-- no kind asks for the member
+abbrev pub is_no_field : Field → Bool
+is_no_field names.Other = true
+is_no_field _ = false
+
+-- the value of the member
+abbrev pub value_in : Field → Fields → Option GeoAtom
+value_in names.Kind f = f.kind
+value_in names.Coordinates f = f.coordinates
+value_in names.Geometry f = f.geometry
+value_in names.Properties f = f.properties
+value_in names.Features f = f.features
+value_in names.Geometries f = f.geometries
+value_in names.Other f = None
+
 -- the value that was there, or this one
 abbrev pub put_first : {X : Type 0} → Option X → X → Option X
 put_first None x = Some x
@@ -83,11 +99,15 @@ pub record AreOwnFields (asked : Asked) (f : Fields) : Type 0 where
   pub features : IfOwnValue asked f.features
   pub geometries : IfOwnValue asked f.geometries
 
+-- the role of a feature at the offset, of its shape and its texts
+abbrev pub IsFeatureOf : Query → ℕ → Result Shape Fault → Result (List TextPair) Fault → Role → Type 0
+IsFeatureOf query at shape texts role = (p : Result Part Fault) × (role ≡ roles.Feature p) × JoinsFeature query at shape texts p
+
 -- a role by the kind
 abbrev pub IsRoleIn : Query → ℕ → Option Kind → Fields → Role → Type 0
 IsRoleIn query at None f role = role ≡ roles.Nothing
 IsRoleIn query at (Some kinds.FeatureCollection) f role = (p : Result Part Fault) × (role ≡ roles.Collection p) × FeaturesSeen query at f.features p
-IsRoleIn query at (Some kinds.Feature) f role = (p : Result Part Fault) × (role ≡ roles.Feature p) × JoinsFeature query at (feature_shape f.geometry) (texts_named f.properties) p
+IsRoleIn query at (Some kinds.Feature) f role = IsFeatureOf query at (feature_shape f.geometry) (texts_named f.properties) role
 IsRoleIn query at (Some kinds.GeometryCollection) f role = role ≡ roles.Geometry (geometries_shape at f.geometries)
 IsRoleIn query at (Some kind) f role = role ≡ roles.Geometry (coordinates_shape (needs_shapes query) at kind f.coordinates)
 

@@ -1,8 +1,8 @@
 //! The members of an object for which some kind of object asks, by their names (RFC 7946 section 3).
 
-ghost use Rattle.std.specs.Prelude.{◌≡◌, [], true, IfOk};
+ghost use Rattle.std.specs.Prelude.{◌≡◌, [], is_some, IfOk};
 ghost use Rattle.at_geojson.specs.Atoms.{as_kind};
-ghost use Rattle.at_geojson.specs.Fields.{field_of, put_if, put_first as first_put, is_kind, is_coordinates, is_geometry, is_geometries, is_properties, is_features, AreFields, kind_in_fields};
+ghost use Rattle.at_geojson.specs.Fields.{field_of, put_if, put_first as first_put, is_kind as names_kind, is_coordinates, is_geometry, is_geometries, is_properties, is_features, is_no_field, value_in, AreFields, kind_in_fields};
 
 use crate::atoms::GeoAtom;
 use crate::kinds::Kind;
@@ -23,11 +23,21 @@ pub enum Field {
 }
 
 /// Whether no kind asks for the member.
+#[inline(always)]
 pub fn is_other(field: Field) -> bool
-    ensures { result ≡ true → field ≡ Field.Other }
+    ensures { result ≡ is_no_field field }
 {
     match field {
         Field::Other => true,
+        _ => false,
+    }
+}
+
+/// Whether the member is `type`.
+#[inline(always)]
+pub fn is_kind(field: Field) -> bool {
+    match field {
+        Field::Kind => true,
         _ => false,
     }
 }
@@ -135,7 +145,7 @@ impl Fields {
     /// One more member.
     #[inline(always)]
     pub fn put(&mut self, field: Field, value: GeoAtom)
-        ensures kind { self.new.kind ≡ put_if (is_kind field) self.old.kind value }
+        ensures kind { self.new.kind ≡ put_if (names_kind field) self.old.kind value }
         ensures coordinates { self.new.coordinates ≡ put_if (is_coordinates field) self.old.coordinates value }
         ensures geometry { self.new.geometry ≡ put_if (is_geometry field) self.old.geometry value }
         ensures properties { self.new.properties ≡ put_if (is_properties field) self.old.properties value }
@@ -150,6 +160,22 @@ impl Fields {
             Field::Features => put_first(&mut self.features, value),
             Field::Geometries => put_first(&mut self.geometries, value),
             Field::Other => {}
+        }
+    }
+
+    /// Whether the value of a member for which some kind asks is there.
+    #[inline(always)]
+    pub fn has(&self, field: Field) -> bool
+        ensures { result ≡ is_some (value_in field self.now) }
+    {
+        match field {
+            Field::Kind => self.kind.is_some(),
+            Field::Coordinates => self.coordinates.is_some(),
+            Field::Geometry => self.geometry.is_some(),
+            Field::Properties => self.properties.is_some(),
+            Field::Features => self.features.is_some(),
+            Field::Geometries => self.geometries.is_some(),
+            Field::Other => false,
         }
     }
 

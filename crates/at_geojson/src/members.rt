@@ -1,18 +1,39 @@
 //! The members of an object whose names are plain, read without a copy of a name.
 
-ghost use Rattle.std.specs.Prelude.{◌≡◌, ◌≤◌, ◌^◌, All, bytes_eq, false, length, IfOk};
+ghost use Rattle.std.specs.Prelude.{◌≡◌, ℕ, List, ◌≤◌, ◌^◌, All, bytes_eq, false, length, IfOk};
 ghost use Rattle.std.specs.List.{list_any};
 ghost use Rattle.at_fixed.specs.Kept.{part};
 ghost use Rattle.at_lex.specs.Spans.{AreSpaces};
 ghost use Rattle.at_geojson.specs.Places.{IsNameAt, IsTextAt, IsSimpleTextAt};
-ghost use Rattle.at_geojson.specs.Members.{name_in, IsPlainName, is_named_among};
+ghost use Rattle.at_geojson.specs.Fields.{field_of};
+ghost use Rattle.at_geojson.specs.Members.{name_in, IsPlainName, is_named_among, is_among_others, ArePlainOthers, AddsName, IsNewName};
 
+use crate::fields::{Field, Fields, field_of_bytes, is_other};
 use crate::places::{NamePlace, Stop, name_place, skip_spaces, stands};
 use crate::scalars::is_simple;
 use crate::short_texts::short_text_end;
+use std::alloc::Global;
 
-/// So many names of an object are compared in pairs at the most.
+/// So many names of members for which no kind asks are kept in place.
+const NEAR: usize = 4;
+
+/// So many more of them are kept at the most.
 const MOST: usize = 64;
+
+/// The names of an object's members for which no kind asks: the first few in place, and the others in memory.
+#[derive(Drop)]
+pub struct OtherNames {
+    pub count: usize,
+    pub near: [NamePlace; NEAR],
+    pub far: Vec<NamePlace>,
+}
+
+/// The name of a member, and which member it is.
+#[derive(Clone, Copy)]
+pub struct FieldName {
+    pub place: NamePlace,
+    pub field: Field,
+}
 
 /// Whether two names are the same.
 #[inline(always)]
@@ -99,19 +120,93 @@ fn plain_name(text: &[u8], at: usize) -> Result<NamePlace, Stop>
     }
 }
 
-/// A name like that which is not among the others.
-#[inline(always)]
-pub fn new_name(text: &[u8], names: &[NamePlace], at: usize) -> Result<NamePlace, Stop>
-    requires inside { at ≤ length text.now }
-    requires short { length text.now ≤ 2 ^ 28 }
-    requires names { All (IsPlainName text.now) names.now }
-    ensures place { IfOk result (IsNameAt text.now at) }
-    ensures plain { IfOk result (IsPlainName text.now) }
-    ensures new { IfOk result (λ name. is_named_among text.now names.now (name_in text.now name) ≡ false) }
+impl OtherNames {
+    /// No names.
+    #[inline(always)]
+    pub fn none(alloc: Global) -> OtherNames
+        ensures plain { (w : List ℕ) → ArePlainOthers w result }
+        ensures none { (w name : List ℕ) → is_among_others w result name ≡ false }
+    {
+        let nowhere = NamePlace {
+            first: 0,
+            end: 0,
+            colon: 0,
+        };
+        OtherNames {
+            count: 0,
+            near: [nowhere; NEAR],
+            far: Vec::new(alloc),
+        }
+    }
+
+    /// Whether a name is among them.
+    fn has(&self, text: &[u8], name: NamePlace) -> bool
+        requires names { ArePlainOthers text.now self.now }
+        requires name { IsPlainName text.now name }
+        ensures { result ≡ is_among_others text.now self.now (name_in text.now name) }
+    {
+        if is_among(text, &self.near[..self.count], name) {
+            return true;
+        }
+        is_among(text, self.far.as_slice(), name)
+    }
+
+    /// One more name, unless they are too many.
+    fn add(&mut self, name: NamePlace) -> Result<(), Stop>
+        requires { self.old.count ≤ 4 }
+        ensures { IfOk result (λ _. (w : List ℕ) → AddsName w name self.old self.new) }
+    {
+        if self.count < NEAR {
+            self.near[self.count] = name;
+            self.count += 1;
+            return Ok(());
+        }
+        if self.far.len() >= MOST {
+            return Err(Stop::At(name.end));
+        }
+        self.far.push(name)?;
+        Ok(())
+    }
+}
+
+/// Puts a name to those of members for which no kind asks, unless it is among them.
+fn add_other(text: &[u8], others: &mut OtherNames, name: NamePlace) -> Result<(), Stop>
+    requires names { ArePlainOthers text.now others.old }
+    requires name { IsPlainName text.now name }
+    ensures new { IfOk result (λ _. is_among_others text.now others.old (name_in text.now name) ≡ false) }
+    ensures adds { IfOk result (λ _. AddsName text.now name others.old others.new) }
 {
-    let name = plain_name(text, at)?;
-    if names.len() >= MOST || is_among(text, names, name) {
+    if others.has(text, name) {
         return Err(Stop::At(name.end));
     }
-    Ok(name)
+    others.add(name)?;
+    Ok(())
+}
+
+/// A name like that of a member that is none of the fields and none of the others, to which it is put if no kind asks for it.
+#[inline(always)]
+pub fn new_name(
+    text: &[u8],
+    fields: &Fields,
+    others: &mut OtherNames,
+    at: usize,
+) -> Result<FieldName, Stop>
+    requires inside { at ≤ length text.now }
+    requires short { length text.now ≤ 2 ^ 28 }
+    requires names { ArePlainOthers text.now others.old }
+    ensures place { IfOk result (λ name. IsNameAt text.now at name.place) }
+    ensures plain { IfOk result (λ name. IsPlainName text.now name.place) }
+    ensures field { IfOk result (λ name. name.field ≡ field_of (name_in text.now name.place)) }
+    ensures new { IfOk result (IsNewName text.now fields.now others.old others.new) }
+{
+    let place = plain_name(text, at)?;
+    let field = field_of_bytes(&text[place.first + 1..place.end - 1]);
+    if is_other(field) {
+        add_other(text, others, place)?;
+        return Ok(FieldName { place, field });
+    }
+    if fields.has(field) {
+        return Err(Stop::At(place.end));
+    }
+    Ok(FieldName { place, field })
 }

@@ -1,100 +1,202 @@
 ghost use Rattle.std.specs.Prelude.{◌≡◌, All, IfOk, Some};
 ghost use Rattle.at_nest.specs.Tree.{Members, object as object_tree};
 ghost use Rattle.at_nest.specs.Folds.{AreMemberFolds};
-ghost use Rattle.at_geojson.specs.Atoms.{IsOwn, IsOwnRole, IsFold};
+ghost use Rattle.at_geojson.specs.Atoms.{role_geometry as geometry_of_role, IsOwn, IsOwnRole, IsFold};
 ghost use Rattle.at_geojson.specs.Keeping.{needs_shapes as needs_of};
-ghost use Rattle.at_geojson.specs.Objects.{coordinates_shape, MakesObject};
-ghost use Rattle.at_geojson.specs.Fields.{AreOwnFields, IsRoleIn, MakesFields};
+ghost use Rattle.at_geojson.specs.Objects.{coordinates_shape, feature_shape as shape_of_feature, MakesObject};
+ghost use Rattle.at_geojson.specs.Fields.{AreOwnFields, IfOwnValue, IsFeatureOf, IsRoleIn, MakesFields};
 
 use crate::asked::GeoAlgebra;
 use crate::atoms::{GeoAtom, ObjectAtom, Role, Roles};
 use crate::fields::{Fields, fields_of};
 use crate::kinds::Kind;
+use crate::lists::role_geometry;
 use crate::objects::{feature_shape, of_coordinates, of_feature, of_features, of_geometries};
 use crate::texts::{feature_texts, kept_texts};
 use crate::twins::first_twin_of_members;
 use at_nest::Member;
 use at_query::TextPairs;
-use at_text::Memory;
+use at_text::{Fault, Memory};
 use std::alloc::Global;
+use std::mem::replace;
+
+/// A role beside the texts for which the query asks.
+#[inline(always)]
+fn new_roles(alloc: Global, role: Role, texts: TextPairs) -> Result<Box<Roles>, Memory>
+    ensures role { IfOk result (λ roles. roles.value.role ≡ role) }
+    ensures texts { IfOk result (λ roles. roles.value.texts ≡ texts) }
+{
+    Ok(Box::new(alloc, Roles { role, texts })?)
+}
+
+/// Nothing, to stand for a while where roles are taken out.
+#[inline(always)]
+fn taken_roles(alloc: Global) -> Roles {
+    Roles {
+        role: Role::Nothing,
+        texts: TextPairs::from_vec(Vec::new(alloc)),
+    }
+}
+
+/// A feature at the offset, of its geometry and the texts of its properties. The geometry's memory serves on.
+fn feature_in_place(
+    alloc: Global,
+    algebra: &GeoAlgebra,
+    at: u32,
+    geometry: ObjectAtom,
+    found: Result<TextPairs, Fault>,
+    texts: TextPairs,
+) -> Result<Box<Roles>, Memory>
+    requires { IsOwnRole algebra.now geometry.roles.value.role }
+    ensures role { IfOk result (λ roles. IsFeatureOf algebra.now.query at (geometry_of_role geometry.at geometry.roles.value.role) found roles.value.role) }
+    ensures texts { IfOk result (λ roles. roles.value.texts ≡ texts) }
+{
+    let mut roles = geometry.roles;
+    let taken = replace(&mut *roles, taken_roles(alloc));
+    let shape = role_geometry(geometry.at, taken.role);
+    let part = of_feature(alloc, algebra, at, shape, found)?;
+    *roles = Roles {
+        role: Role::Feature(part),
+        texts,
+    };
+    Ok(roles)
+}
+
+/// A feature at the offset without a geometry that is an object.
+fn bare_feature(
+    alloc: Global,
+    algebra: &GeoAlgebra,
+    at: u32,
+    geometry: Option<GeoAtom>,
+    found: Result<TextPairs, Fault>,
+    texts: TextPairs,
+) -> Result<Box<Roles>, Memory>
+    requires { IfOwnValue algebra.now geometry }
+    ensures role { IfOk result (λ roles. IsFeatureOf algebra.now.query at (shape_of_feature geometry) found roles.value.role) }
+    ensures texts { IfOk result (λ roles. roles.value.texts ≡ texts) }
+{
+    let shape = feature_shape(alloc, geometry);
+    let part = of_feature(alloc, algebra, at, shape, found)?;
+    new_roles(alloc, Role::Feature(part), texts)
+}
+
+/// A feature at the offset, of its geometry and the texts of its properties.
+fn feature_of(
+    alloc: Global,
+    algebra: &GeoAlgebra,
+    at: u32,
+    geometry: Option<GeoAtom>,
+    found: Result<TextPairs, Fault>,
+    texts: TextPairs,
+) -> Result<Box<Roles>, Memory>
+    requires { IfOwnValue algebra.now geometry }
+    ensures role { IfOk result (λ roles. IsFeatureOf algebra.now.query at (shape_of_feature geometry) found roles.value.role) }
+    ensures texts { IfOk result (λ roles. roles.value.texts ≡ texts) }
+{
+    match geometry {
+        Some(GeoAtom::Object(object)) => feature_in_place(alloc, algebra, at, object, found, texts),
+        other => bare_feature(alloc, algebra, at, other, found, texts),
+    }
+}
 
 /// A feature at the offset.
-fn feature_role(
+fn feature_roles(
     alloc: Global,
     algebra: &GeoAlgebra,
     at: u32,
     fields: &mut Fields,
-) -> Result<Role, Memory>
+    texts: TextPairs,
+) -> Result<Box<Roles>, Memory>
     requires { AreOwnFields algebra.now fields.old }
-    ensures own { IfOk result (IsOwnRole algebra.now) }
-    ensures role { IfOk result (IsRoleIn algebra.now.query at (Some Kind.Feature) fields.old) }
+    ensures role { IfOk result (λ roles. IsRoleIn algebra.now.query at (Some Kind.Feature) fields.old roles.value.role) }
+    ensures texts { IfOk result (λ roles. roles.value.texts ≡ texts) }
 {
-    let texts = feature_texts(alloc, &fields.properties)?;
+    let found = feature_texts(alloc, &fields.properties)?;
     let geometry = fields.geometry.take();
-    let shape = feature_shape(alloc, geometry);
-    Ok(Role::Feature(of_feature(alloc, algebra, at, shape, texts)?))
+    feature_of(alloc, algebra, at, geometry, found, texts)
 }
 
 /// A geometry of a kind with coordinates at the offset.
-fn coordinates_role(
+fn coordinates_roles(
     alloc: Global,
     algebra: &GeoAlgebra,
     at: u32,
     kind: Kind,
     fields: &mut Fields,
-) -> Result<Role, Memory>
+    texts: TextPairs,
+) -> Result<Box<Roles>, Memory>
     requires { AreOwnFields algebra.now fields.old }
-    ensures own { IfOk result (IsOwnRole algebra.now) }
-    ensures role { IfOk result (λ role. role ≡ Role.Geometry (coordinates_shape (needs_of algebra.now.query) at kind fields.old.coordinates)) }
+    ensures role { IfOk result (λ roles. roles.value.role ≡ Role.Geometry (coordinates_shape (needs_of algebra.now.query) at kind fields.old.coordinates)) }
+    ensures texts { IfOk result (λ roles. roles.value.texts ≡ texts) }
 {
     let needs = algebra.needs_shapes();
     let coordinates = fields.coordinates.take();
-    Ok(Role::Geometry(of_coordinates(alloc, needs, at, kind, coordinates)?))
+    let geometry = of_coordinates(alloc, needs, at, kind, coordinates)?;
+    new_roles(alloc, Role::Geometry(geometry), texts)
 }
 
-/// What an object at the offset is by its kind.
-fn role_of(
+/// What an object at the offset is by its kind, beside the texts for which the query asks.
+fn roles_of(
     alloc: Global,
     algebra: &GeoAlgebra,
     at: u32,
     kind: Option<Kind>,
     fields: &mut Fields,
-) -> Result<Role, Memory>
+    texts: TextPairs,
+) -> Result<Box<Roles>, Memory>
     requires { AreOwnFields algebra.now fields.old }
-    ensures own { IfOk result (IsOwnRole algebra.now) }
-    ensures role { IfOk result (IsRoleIn algebra.now.query at kind fields.old) }
+    ensures role { IfOk result (λ roles. IsRoleIn algebra.now.query at kind fields.old roles.value.role) }
+    ensures texts { IfOk result (λ roles. roles.value.texts ≡ texts) }
 {
     match kind {
-        None => Ok(Role::Nothing),
-        Some(Kind::FeatureCollection) => Ok(Role::Collection(of_features(
+        None => new_roles(alloc, Role::Nothing, texts),
+        Some(Kind::FeatureCollection) => {
+            let features = fields.features.take();
+            let found = of_features(alloc, algebra.query(), at, features);
+            new_roles(alloc, Role::Collection(found), texts)
+        }
+        Some(Kind::Feature) => feature_roles(alloc, algebra, at, fields, texts),
+        Some(Kind::GeometryCollection) => {
+            let geometries = fields.geometries.take();
+            new_roles(
+                alloc,
+                Role::Geometry(of_geometries(alloc, at, geometries)),
+                texts,
+            )
+        }
+        Some(Kind::Point) => coordinates_roles(alloc, algebra, at, Kind::Point, fields, texts),
+        Some(Kind::MultiPoint) => coordinates_roles(
             alloc,
-            algebra.query(),
+            algebra,
             at,
-            fields.features.take(),
-        ))),
-        Some(Kind::Feature) => feature_role(alloc, algebra, at, fields),
-        Some(Kind::GeometryCollection) => Ok(Role::Geometry(of_geometries(
+            Kind::MultiPoint,
+            fields,
+            texts,
+        ),
+        Some(Kind::LineString) => coordinates_roles(
             alloc,
+            algebra,
             at,
-            fields.geometries.take(),
-        ))),
-        Some(Kind::Point) => coordinates_role(alloc, algebra, at, Kind::Point, fields),
-        Some(Kind::MultiPoint) => coordinates_role(alloc, algebra, at, Kind::MultiPoint, fields),
-        Some(Kind::LineString) => coordinates_role(alloc, algebra, at, Kind::LineString, fields),
-        Some(Kind::MultiLineString) => coordinates_role(
+            Kind::LineString,
+            fields,
+            texts,
+        ),
+        Some(Kind::MultiLineString) => coordinates_roles(
             alloc,
             algebra,
             at,
             Kind::MultiLineString,
             fields,
+            texts,
         ),
-        Some(Kind::Polygon) => coordinates_role(alloc, algebra, at, Kind::Polygon, fields),
-        Some(Kind::MultiPolygon) => coordinates_role(
+        Some(Kind::Polygon) => coordinates_roles(alloc, algebra, at, Kind::Polygon, fields, texts),
+        Some(Kind::MultiPolygon) => coordinates_roles(
             alloc,
             algebra,
             at,
             Kind::MultiPolygon,
             fields,
+            texts,
         ),
     }
 }
@@ -115,11 +217,8 @@ pub fn fields_atom(
     if kind.is_none() && texts.as_slice().is_empty() {
         return Ok(GeoAtom::Void(at));
     }
-    let role = role_of(alloc, algebra, at, kind, fields)?;
-    Ok(GeoAtom::Object(ObjectAtom {
-        at,
-        roles: Box::new(alloc, Roles { role, texts })?,
-    }))
+    let roles = roles_of(alloc, algebra, at, kind, fields, texts)?;
+    Ok(GeoAtom::Object(ObjectAtom { at, roles }))
 }
 
 /// An object at the offset in which no name stands twice.

@@ -1,4 +1,4 @@
-ghost use Rattle.std.specs.Prelude.{◌≡◌, ◌∷◌, [], IfOk, codes};
+ghost use Rattle.std.specs.Prelude.{◌≡◌, ◌∷◌, [], true, IfOk, codes};
 ghost use Rattle.at_geom.specs.Shapes.{IsShapeInRange};
 ghost use Rattle.at_query.specs.Parts.{IsPart};
 ghost use Rattle.at_geojson.specs.Atoms.{IfOwnShape};
@@ -12,7 +12,7 @@ use crate::readings::{as_line, as_lines, as_point, as_points, as_polygon, as_pol
 use crate::shapes::{empty_shape, first_of_two};
 use crate::sorts::at_of;
 use at_geom::Shape;
-use at_query::{Feature, Part, Query, TextPairs, part_none, part_of};
+use at_query::{Feature, Part, Query, TextPairs, Verb, part_none, part_of};
 use at_text::{Fault, Memory};
 use std::alloc::Global;
 
@@ -92,6 +92,18 @@ pub fn feature_shape(alloc: Global, geometry: Option<GeoAtom>) -> Result<Shape, 
     }
 }
 
+/// Whether the query asks for nothing but the count of all features.
+#[inline(always)]
+fn counts_all(query: &Query) -> bool
+    ensures verb { result ≡ true → query.now.verb ≡ Verb.Count }
+    ensures tests { result ≡ true → query.now.tests ≡ [] }
+{
+    match query.verb {
+        Verb::Count => query.tests.as_slice().is_empty(),
+        _ => false,
+    }
+}
+
 /// The part of the one feature at the offset.
 pub fn feature_part(
     alloc: Global,
@@ -103,6 +115,9 @@ pub fn feature_part(
     requires { IsShapeInRange shape }
     ensures { IfOk result (IsPart algebra.now.query (record { at = at; shape = shape; texts = texts } ∷ [])) }
 {
+    if counts_all(algebra.query()) {
+        return Ok(Part::Count(1));
+    }
     let feature = Feature { at, shape, texts };
     part_of(alloc, algebra.query(), feature)
 }

@@ -10,7 +10,7 @@ ghost use Rattle.at_nest.specs.Tree.{Tree, Spells};
 ghost use Rattle.at_nest.specs.Folds.{IsScalarText};
 ghost use Rattle.at_geojson.specs.Keeping.{looks_at_texts};
 ghost use Rattle.at_geojson.specs.Gathering.{is_simple as simple_byte};
-ghost use Rattle.at_geojson.specs.Atoms.{unboxed, asked_units as units_asked, IsOwn, IsFold};
+ghost use Rattle.at_geojson.specs.Atoms.{unboxed, twin_of, asked_units as units_asked, IsOwn, IsFold};
 
 use crate::asked::{GeoAlgebra, asks_value, needs_texts};
 use crate::atoms::{GeoAtom, NumberAtom, TextAtom};
@@ -79,11 +79,13 @@ pub fn is_simple(text: &[u8]) -> bool
 }
 
 /// A string of ASCII without escapes that begins at the offset, where no test looks at texts.
-fn simple_atom(algebra: &GeoAlgebra, text: &[u8], at: u32) -> GeoAtom
+#[inline(always)]
+pub fn simple_atom(algebra: &GeoAlgebra, text: &[u8], at: u32) -> GeoAtom
     requires string { JsonString text.now }
     requires simple { list_all simple_byte text.now ≡ true }
     requires unasked { list_any looks_at_texts algebra.now.query.tests ≡ false }
     ensures own { IsOwn algebra.now result }
+    ensures no_twin { twin_of result ≡ None }
     ensures fold { (t : Tree) → Spells at text.now t → IsFold algebra.now result t }
 {
     GeoAtom::Text(TextAtom {

@@ -1,9 +1,9 @@
 //! Whole values of a text, read at once by descent: the same atoms as of the same values read item by item.
 
-ghost use Rattle.std.specs.Prelude.{◌≡◌, ◌+◌, ◌<◌, ◌≤◌, ◌^◌, length, slice_index, All, false, IfOk};
+ghost use Rattle.std.specs.Prelude.{◌≡◌, ◌+◌, ◌<◌, ◌≤◌, ◌^◌, length, slice_index, All, false, None, IfOk, IfSome};
 ghost use Rattle.std.specs.List.{list_any};
 ghost use Rattle.at_geojson.specs.Keeping.{looks_at_texts};
-ghost use Rattle.at_geojson.specs.Atoms.{IsOwn};
+ghost use Rattle.at_geojson.specs.Atoms.{twin_of, IsOwn};
 ghost use Rattle.at_geojson.specs.Fields.{AreOwnFields};
 ghost use Rattle.at_geojson.specs.Members.{EndsFields, IsFieldRead};
 ghost use Rattle.at_geojson.specs.Places.{IsSimpleTextAt};
@@ -11,15 +11,15 @@ ghost use Rattle.at_geojson.specs.Values.{IsWhole, IsItem, AreItemsRead, AreMemb
 
 use crate::asked::{GeoAlgebra, needs_texts};
 use crate::atoms::{GeoAtom, NumberAtom};
-use crate::fields::{Field, Fields, field_of_bytes, is_other};
+use crate::fields::{Field, Fields, is_kind, is_other};
 use crate::lists::array_atom;
-use crate::members::new_name;
+use crate::members::{OtherNames, new_name};
 use crate::object_atoms::{fields_atom, object_atom};
 use crate::pairs::{PairRead, Whole, read_pair};
 use crate::passing::pass_item;
 use crate::places::{Stop, name_place, skip_spaces, stands, text_end};
 use crate::rings::read_coordinates;
-use crate::scalars::{plain_text_atom, scalar_atom};
+use crate::scalars::{plain_text_atom, scalar_atom, simple_atom};
 use crate::short_texts::short_text_end;
 use crate::twins::is_twin;
 use at_fixed::{Notation, plain_number};
@@ -381,6 +381,62 @@ fn other_field(
     }
 }
 
+/// A string of ASCII without escapes up to the place, where no test looks at texts.
+#[inline(always)]
+fn simple_string(algebra: &GeoAlgebra, text: &[u8], base: u32, at: usize, end: usize) -> Whole
+    requires string { IsSimpleTextAt text.now at end }
+    requires fits { base + length text.now ≤ 2 ^ 28 }
+    requires unasked { list_any looks_at_texts algebra.now.query.tests ≡ false }
+    ensures whole { IsWhole algebra.now base text.now at result }
+    ensures no_twin { twin_of result.atom ≡ None }
+{
+    let atom = simple_atom(algebra, &text[at..end], base + at as u32);
+    Whole { end, atom }
+}
+
+/// A short string of ASCII without escapes, where no test looks at texts, with white space round it.
+#[inline(always)]
+fn read_simple(algebra: &GeoAlgebra, text: &[u8], base: u32, at: usize) -> Option<Whole>
+    requires inside { at ≤ length text.now }
+    requires fits { base + length text.now ≤ 2 ^ 28 }
+    requires unasked { list_any looks_at_texts algebra.now.query.tests ≡ false }
+    ensures item { IfSome result (IsItem algebra.now base text.now at) }
+    ensures no_twin { IfSome result (λ whole. twin_of whole.atom ≡ None) }
+{
+    let first = skip_spaces(text, at);
+    let end = short_text_end(text, first)?;
+    let Whole { end, atom } = simple_string(algebra, text, base, first, end);
+    let end = skip_spaces(text, end);
+    Some(Whole { end, atom })
+}
+
+/// The same of a member whose value is a short string as a rule, where no test looks at texts.
+#[cycle(values)]
+#[inline(always)]
+fn text_field(
+    algebra: &GeoAlgebra,
+    alloc: Global,
+    text: &[u8],
+    base: u32,
+    at: usize,
+    depth: u8,
+    field: Field,
+    fields: &mut Fields,
+) -> Result<usize, Stop>
+    requires inside { at ≤ length text.now }
+    requires fits { base + length text.now ≤ 2 ^ 28 }
+    requires unasked { list_any looks_at_texts algebra.now.query.tests ≡ false }
+    ensures { IfOk result (IsFieldRead algebra.now base text.now at field fields.old fields.new) }
+{
+    match read_simple(algebra, text, base, at) {
+        Some(Whole { end, atom }) => {
+            fields.put(field, atom);
+            Ok(end)
+        }
+        None => put_field(algebra, alloc, text, base, at, depth, field, fields),
+    }
+}
+
 /// The same of any member, where no test looks at texts.
 #[cycle(values)]
 #[inline(always)]
@@ -401,6 +457,8 @@ fn read_field(
 {
     if is_other(field) {
         other_field(algebra, alloc, text, base, at, depth, field, fields)
+    } else if is_kind(field) {
+        text_field(algebra, alloc, text, base, at, depth, field, fields)
     } else {
         put_field(algebra, alloc, text, base, at, depth, field, fields)
     }
@@ -430,20 +488,18 @@ fn read_fields(
     if stands(text, first, b'}') {
         return ended_fields(algebra, alloc, base + at as u32, first + 1, &mut fields);
     }
-    let mut names = Vec::with_capacity(alloc, ROOM)?;
+    let mut others = OtherNames::none(alloc);
     let mut place = at + 1;
     'fields: loop {
-        let name = new_name(text, names.as_slice(), place)?;
-        names.push(name)?;
-        let field = field_of_bytes(&text[name.first + 1..name.end - 1]);
+        let name = new_name(text, &fields, &mut others, place)?;
         let end = read_field(
             algebra,
             alloc,
             text,
             base,
-            name.colon + 1,
+            name.place.colon + 1,
             depth - 1,
-            field,
+            name.field,
             &mut fields,
         )?;
         if stands(text, end, b'}') {

@@ -1,4 +1,3 @@
-use Rattle.std.proofs.Common.{refl}
 use Rattle.at_geojson.proofs.members.ended_name.Goals as goal
 
 pub returns-then-stands-clause-place : goal.returns-then-stands-clause-place

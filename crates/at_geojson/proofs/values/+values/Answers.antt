@@ -6,7 +6,7 @@ use Rattle.at_geojson.specs.declared.atoms.GeoAtom.{GeoAtom}
 use Rattle.at_geojson.specs.declared.pairs.Whole.{Whole}
 use Rattle.at_geojson.specs.Atoms.{IsOwn}
 use Rattle.at_geojson.specs.Values.{AreItemsRead, AreMembersRead, EndsArray, EndsObject}
-use Rattle.at_geojson.specs.Members.{name_in, AreFieldsRead}
+use Rattle.at_geojson.specs.Members.{name_in}
 use Rattle.at_geojson.proofs.ValueParts.{pair_whole, items_begin, items_go_on, items_own, array_read, empty_read, name_text, name_units, members_begin, members_go_on, members_own, object_read, void_read}
 use Rattle.at_geojson.proofs.FieldFolds.{own_fields}
 use Rattle.at_geojson.proofs.MemberReads.{no_twin_in, field_passed, fields_begin, longer_fields, fields_go_on, ends_fields, ends_longer}
@@ -81,38 +81,36 @@ pub read_fields-fields-init : goal.read_fields-fields-init
 read_fields-fields-init t c = record {
   order = omega arith;
   within = omega (arith, c.requires.inside);
-  read = subst (λ z. AreFieldsRead c.args.algebra.now c.args.base c.args.text.now c.args.at (c.args.at + 1) z c.none-fields.result) (sym c.in_ok-names.ensures.items)
-      (fields_begin c.args.algebra.now c.args.base c.args.text.now c.args.at c.none-fields.result c.requires.inside c.none-fields.ensures);
+  read = fields_begin c.args.algebra.now c.args.base c.args.text.now c.args.at c.none-others.result c.none-fields.result c.requires.inside c.none-fields.ensures (c.none-others.ensures.plain c.args.text.now) (c.none-others.ensures.none c.args.text.now);
 }
 
 pub read_fields-ended_fields-requires-then-stands-2 : goal.read_fields-ended_fields-requires-then-stands-2
 read_fields-ended_fields-requires-then-stands-2 t c =
     let r = c.in_ok-end.ensures in let p : Whole = record { end = c.in_ok-end.end; atom = r.atom } in
-    let l = longer_fields c.args.algebra.now c.args.base c.args.text.now c.args.at c.fields.place c.fields.names.items c.as_slice.result.now c.fields.fields c.in_ok-name.name p c.read_field.new.fields c.field_of_bytes-field.result
-    c.fields.invariant.read c.in_ok-name.ensures.plain c.as_slice.ensures.value c.in_ok-name.ensures.new r.no_twin c.field_of_bytes-field.ensures r.kind r.coordinates r.geometry r.properties r.features r.geometries in
-    own_fields c.args.algebra.now c.read_field.new.fields _ l.are (members_own c.args.algebra.now c.args.base c.args.text.now c.args.at c.fields.place l.before.members c.in_ok-name.name (name_in c.args.text.now c.in_ok-name.name) p l.before.read r.item)
+    let l = longer_fields c.args.algebra.now c.args.base c.args.text.now c.args.at c.fields.place c.fields.others c.new_name.new.others c.fields.fields c.in_ok-name.name p c.read_field.new.fields
+    c.fields.invariant.read c.in_ok-name.ensures.plain c.in_ok-name.ensures.field c.in_ok-name.ensures.new r.no_twin r.kind r.coordinates r.geometry r.properties r.features r.geometries in
+    own_fields c.args.algebra.now c.read_field.new.fields _ l.are (members_own c.args.algebra.now c.args.base c.args.text.now c.args.at c.fields.place l.before.members c.in_ok-name.name.place (name_in c.args.text.now c.in_ok-name.name.place) p l.before.read r.item)
 
 pub read_fields-returns-then-stands-2 : goal.read_fields-returns-then-stands-2
 read_fields-returns-then-stands-2 t c =
     let r = c.in_ok-end.ensures in let p : Whole = record { end = c.in_ok-end.end; atom = r.atom } in
-    let l = longer_fields c.args.algebra.now c.args.base c.args.text.now c.args.at c.fields.place c.fields.names.items c.as_slice.result.now c.fields.fields c.in_ok-name.name p c.read_field.new.fields c.field_of_bytes-field.result
-    c.fields.invariant.read c.in_ok-name.ensures.plain c.as_slice.ensures.value c.in_ok-name.ensures.new r.no_twin c.field_of_bytes-field.ensures r.kind r.coordinates r.geometry r.properties r.features r.geometries in
-    IfOk-weaker c.ended_fields-then-stands-2.result _ _ (λ q e. object_read c.args.algebra.now c.args.base c.args.text.now c.args.at c.fields.place l.before.members c.in_ok-name.name (name_in c.args.text.now c.in_ok-name.name) p q
+    let l = longer_fields c.args.algebra.now c.args.base c.args.text.now c.args.at c.fields.place c.fields.others c.new_name.new.others c.fields.fields c.in_ok-name.name p c.read_field.new.fields
+    c.fields.invariant.read c.in_ok-name.ensures.plain c.in_ok-name.ensures.field c.in_ok-name.ensures.new r.no_twin r.kind r.coordinates r.geometry r.properties r.features r.geometries in
+    IfOk-weaker c.ended_fields-then-stands-2.result _ _ (λ q e. object_read c.args.algebra.now c.args.base c.args.text.now c.args.at c.fields.place l.before.members c.in_ok-name.name.place (name_in c.args.text.now c.in_ok-name.name.place) p q
     c.fields.invariant.order c.requires.opens l.before.read c.in_ok-name.ensures.place l.plain.units r.item (c.stands-in-fields.ensures.inside c.if-stands-2.true) (c.stands-in-fields.ensures.byte c.if-stands-2.true)
-    (ends_longer c.args.algebra.now c.args.base c.args.text.now c.args.at c.fields.place (p.end + 1) c.fields.names.items c.fields.fields c.in_ok-name.name p c.read_field.new.fields q l e c.requires.unasked)) c.ended_fields-then-stands-2.ensures
+    (ends_longer c.args.algebra.now c.args.base c.args.text.now c.args.at c.fields.place (p.end + 1) c.fields.others c.new_name.new.others c.fields.fields c.in_ok-name.name.place p c.read_field.new.fields q l e c.requires.unasked)) c.ended_fields-then-stands-2.ensures
 
 pub read_fields-fields-preserved : goal.read_fields-fields-preserved
 read_fields-fields-preserved t c =
     let r = c.in_ok-end.ensures in let p : Whole = record { end = c.in_ok-end.end; atom = r.atom } in
-    let l = longer_fields c.args.algebra.now c.args.base c.args.text.now c.args.at c.fields.place c.fields.names.items c.as_slice.result.now c.fields.fields c.in_ok-name.name p c.read_field.new.fields c.field_of_bytes-field.result
-    c.fields.invariant.read c.in_ok-name.ensures.plain c.as_slice.ensures.value c.in_ok-name.ensures.new r.no_twin c.field_of_bytes-field.ensures r.kind r.coordinates r.geometry r.properties r.features r.geometries in
+    let l = longer_fields c.args.algebra.now c.args.base c.args.text.now c.args.at c.fields.place c.fields.others c.new_name.new.others c.fields.fields c.in_ok-name.name p c.read_field.new.fields
+    c.fields.invariant.read c.in_ok-name.ensures.plain c.in_ok-name.ensures.field c.in_ok-name.ensures.new r.no_twin r.kind r.coordinates r.geometry r.properties r.features r.geometries in
     let here = c.if-not-stands.false in
     let inside = c.stands-in-fields-2.ensures.inside here in
     record {
       order = omega (arith, c.fields.invariant.order, c.in_ok-name.ensures.place.before, c.in_ok-name.ensures.place.text.0, c.in_ok-name.ensures.place.behind, r.item.order);
       within = omega (arith, inside);
-      read = subst (λ z. AreFieldsRead c.args.algebra.now c.args.base c.args.text.now c.args.at (p.end + 1) z c.read_field.new.fields) (sym c.in_ok-push.ensures.items)
-          (fields_go_on c.args.algebra.now c.args.base c.args.text.now c.args.at c.fields.place c.fields.names.items c.fields.fields c.in_ok-name.name p c.read_field.new.fields c.fields.invariant.order l c.in_ok-name.ensures.place r.item inside (c.stands-in-fields-2.ensures.byte here));
+      read = fields_go_on c.args.algebra.now c.args.base c.args.text.now c.args.at c.fields.place c.fields.others c.new_name.new.others c.fields.fields c.in_ok-name.name.place p c.read_field.new.fields c.fields.invariant.order l c.in_ok-name.ensures.place r.item inside (c.stands-in-fields-2.ensures.byte here);
     }
 
 pub put_field-returns : goal.put_field-returns
@@ -130,3 +128,16 @@ put_field-returns t c = record {
 
 pub other_field-returns-in-Some : goal.other_field-returns-in-Some
 other_field-returns-in-Some t c = field_passed c.args.algebra.now c.args.base c.args.text.now c.args.at c.in-Some.end c.args.field _ c.requires.other c.in-Some.ensures
+
+pub text_field-returns-in-Some : goal.text_field-returns-in-Some
+text_field-returns-in-Some t c = record {
+  atom = c.in-Some.field-0.atom;
+  item = c.in-Some.ensures.item;
+  no_twin = c.in-Some.ensures.no_twin;
+  kind = c.put.ensures.kind;
+  coordinates = c.put.ensures.coordinates;
+  geometry = c.put.ensures.geometry;
+  properties = c.put.ensures.properties;
+  features = c.put.ensures.features;
+  geometries = c.put.ensures.geometries;
+}

@@ -19,6 +19,9 @@ decreases-read_item l = 8 * l.depth + 4
 abbrev pub decreases-put_field : goal.decreases-put_field
 decreases-put_field l = 8 * l.depth + 5
 
+abbrev pub decreases-text_field : goal.decreases-text_field
+decreases-text_field l = 8 * l.depth + 6
+
 abbrev pub decreases-other_field : goal.decreases-other_field
 decreases-other_field l = 8 * l.depth + 6
 
@@ -50,7 +53,7 @@ abbrev pub decreases-read_members-members : goal.decreases-read_members-members
 decreases-read_members-members l = length l.text - l.place
 
 abbrev pub invariant-read_fields-fields : goal.invariant-read_fields-fields
-invariant-read_fields-fields l = record { order : l.at < l.place; within : l.place ≤ length l.text; read : AreFieldsRead l.algebra l.base l.text l.at l.place l.names.items l.fields }
+invariant-read_fields-fields l = record { order : l.at < l.place; within : l.place ≤ length l.text; read : AreFieldsRead l.algebra l.base l.text l.at l.place l.others l.fields }
 
 abbrev pub decreases-read_fields-fields : goal.decreases-read_fields-fields
 decreases-read_fields-fields l = length l.text - l.place

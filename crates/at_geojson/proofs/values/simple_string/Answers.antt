@@ -1,0 +1,9 @@
+-- A whole string where no test looks at texts.
+use Rattle.at_geojson.proofs.ValueParts.{string_taken, string_read}
+use Rattle.at_geojson.proofs.values.simple_string.Goals as goal
+
+pub simple_atom-atom-requires-clause-string : goal.simple_atom-atom-requires-clause-string
+simple_atom-atom-requires-clause-string c = string_taken c.args.text.now c.args.at c.args.end c.requires.string.0
+
+pub returns-clause-whole : goal.returns-clause-whole
+returns-clause-whole c = string_read c.args.algebra.now c.args.base c.args.text.now c.args.at c.args.end c.simple_atom-atom.result c.requires.string.0 c.simple_atom-atom.ensures.own c.simple_atom-atom.ensures.fold
