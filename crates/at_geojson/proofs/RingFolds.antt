@@ -1,6 +1,5 @@
 -- Lists of positions, and areas, one behind another: what is kept of them is what is kept of the list of their atoms.
 use Rattle.std.proofs.Common.{◌≡◌, ℕ, ◌+◌, ◌<◌, ◌≤◌, ◌==◌, min, Bool, true, ◌&&◌, List, Option, [], ◌∷◌, ◌++◌, All, map, length, slice_index, None, refl, sym, ◌∙◌, ap, subst, arith}
-use Rattle.std.specs.List.{list_all}
 use Rattle.std.proofs.Math.Nat.{min-eq_left}
 use Rattle.std.proofs.lemmas.List.{map-append}
 use Rattle.std.proofs.lemmas.List.Folds.{list_all-append}
@@ -12,24 +11,20 @@ use Rattle.at_lex.specs.Spans.{AreSpaces}
 use Rattle.at_geojson.specs.declared.atoms.GeoAtom.{GeoAtom}
 use Rattle.at_geojson.specs.declared.atoms.GeoAtom.TheVariants as atoms
 use Rattle.at_geojson.specs.declared.atoms.Areas.{Areas}
-use Rattle.at_geojson.specs.declared.atoms.AreasAtom.{AreasAtom}
 use Rattle.at_geojson.specs.declared.atoms.Lists.{Lists}
 use Rattle.at_geojson.specs.declared.atoms.ListsAtom.{ListsAtom}
-use Rattle.at_geojson.specs.declared.atoms.Points.{Points}
 use Rattle.at_geojson.specs.declared.atoms.PointsAtom.{PointsAtom}
 use Rattle.at_geojson.specs.declared.pairs.PointsRead.{PointsRead}
 use Rattle.at_geojson.specs.declared.pairs.Whole.{Whole}
-use Rattle.at_geojson.specs.declared.rings.AreasRead.{AreasRead}
 use Rattle.at_geojson.specs.declared.rings.ListsRead.{ListsRead}
 use Rattle.at_geojson.specs.declared.sorts.Sort.{Sort}
 use Rattle.at_geojson.specs.declared.sorts.Sort.TheVariants as sorts
 use Rattle.at_geojson.specs.Keeping.{Asked, kept, needs_shapes}
 use Rattle.at_geojson.specs.Atoms.{twin_of, at_of, IsOwn}
-use Rattle.at_geojson.specs.Gathering.{firsts, are_all, rank, sort_of, sort_of_all, least_of, fault_as_line, fault_as_ring, path_in, MakesLists, area_fault, polygon_in, MakesAreas}
-use Rattle.at_geojson.specs.Rows.{KeepsPoints, ArePointsWhole}
-use Rattle.at_geojson.specs.Rings.{ArePointsItem, AreItemsTo, AreSorted, LengthensLists, AreLists, AreListsRead, KeepsLists, AreListsWhole, AreListsItem, LengthensAreas, AreAreas, AreAreasRead, KeepsAreas, AreAreasWhole}
+use Rattle.at_geojson.specs.Gathering.{firsts, are_all, rank, sort_of, sort_of_all, fault_as_line, fault_as_ring, path_in, MakesLists, area_fault, polygon_in, MakesAreas}
+use Rattle.at_geojson.specs.Rows.{ArePointsWhole}
+use Rattle.at_geojson.specs.Rings.{ArePointsItem, AreItemsTo, AreSorted, LengthensLists, AreLists, AreListsRead, AreListsWhole, AreListsItem, LengthensAreas, AreAreas, AreAreasRead, AreAreasWhole}
 use Rattle.at_geojson.specs.Values.{IsWhole, IsItem, AreItemsRead, EndsArray}
-use Rattle.at_geojson.proofs.Firsts.{firsts-cons}
 use Rattle.at_geojson.proofs.SortFacts.{sort_is}
 use Rattle.at_geojson.proofs.OwnFolds.{lists_own, areas_own}
 use Rattle.at_geojson.proofs.ArrayAnswers.{lists_fold, areas_fold}
