@@ -134,6 +134,18 @@ impl HullBuilder {
         self.add(other.waiting.as_slice())
     }
 
+    /// An equal builder.
+    pub fn copy(&self, alloc: Global) -> Result<HullBuilder, Memory>
+        ensures { IfOk result (λ copy. copy ≡ self.now) }
+    {
+        Ok(HullBuilder {
+            hull: copied(alloc, self.hull.as_slice())?,
+            waiting: copied(alloc, self.waiting.as_slice())?,
+            inner: self.inner,
+            misses: self.misses,
+        })
+    }
+
     /// The hull of what is held. Where nothing waits it takes no memory. `Err` is want of memory.
     pub fn into_hull(self) -> Result<Path, Memory>
         ensures hull { IfOk result (λ h. IsHull (held self) h) }
@@ -148,6 +160,15 @@ impl HullBuilder {
         let both = hull_of_both(alloc, self.hull.as_slice(), self.waiting.as_slice())?;
         Ok(Path::from_vec(both))
     }
+}
+
+/// The same positions in memory of their own.
+fn copied(alloc: Global, positions: &[Pos]) -> Result<Vec<Pos>, Memory>
+    ensures { IfOk result (λ copy. copy.items ≡ positions.now) }
+{
+    let mut items = Vec::with_capacity(alloc, positions.len())?;
+    items.extend_from_slice(positions)?;
+    Ok(items)
 }
 
 /// Puts those of the points that aren't seen to lie within the hull behind the ones that wait.

@@ -29,7 +29,7 @@ fn curve(alloc: Global, count: u32) -> Result<Path, AllocError>
     Ok(Path::from_vec(items))
 }
 
-/// The hull of the first positions of the curve, added one by one, so many places apart.
+/// The hull of the first positions of the curve, added one by one, so many places apart, and then copied.
 fn curve_added(alloc: Global, count: u32, step: u32) -> Result<Path, Fail> {
     let mut builder = HullBuilder::new(alloc);
     let mut number = 0_u32;
@@ -37,7 +37,8 @@ fn curve_added(alloc: Global, count: u32, step: u32) -> Result<Path, Fail> {
         builder.add(&[on_curve(number)])?;
         number = number.wrapping_add(step) % count;
     }
-    Ok(builder.into_hull()?)
+    let copy = builder.copy(alloc)?;
+    Ok(copy.into_hull()?)
 }
 
 /// How many rows of a count and a step give the whole curve, up to the first that doesn't.
