@@ -1,5 +1,5 @@
 -- The elements of a list that have a property, of joined lists, and how many they are.
-use Rattle.std.proofs.Common.{◌≤◌, List, [], ◌∷◌, ◌++◌, length, arith, refl, sym, ap, subst, inl, inr, length-append}
+use Rattle.std.proofs.Common.{◌≡◌, ◌≤◌, ◌∙◌, List, [], ◌∷◌, ◌++◌, length, arith, refl, sym, ap, subst, inl, inr, length-append}
 use Rattle.std.specs.Prelude.{flat_map}
 use Rattle.std.specs.List.{AllByRecursion}
 use Rattle.at_query.specs.Results.{Keeps}
@@ -8,6 +8,16 @@ pub keeps-append : {X : Type 0} (P : X → Type 0) (xs ys vs ws : List X) → Ke
 keeps-append P [] ys vs ws h k = rw h k
 keeps-append P (x ∷ xs) ys vs ws (inl (p, (zs, e, h))) k = inl (p, (zs ++ ws, ap (λ l. l ++ ws) e, keeps-append P xs ys zs ws h k))
 keeps-append P (x ∷ xs) ys vs ws (inr (n, h)) k = inr (n, keeps-append P xs ys vs ws h k)
+
+-- and back
+pub keeps_parts : {X : Type 0} (P : X → Type 0) (xs ys zs : List X) → Keeps P (xs ++ ys) zs → (vs : List X) × (ws : List X) × (zs ≡ vs ++ ws) × Keeps P xs vs × Keeps P ys ws
+keeps_parts P [] ys zs h = ([], zs, refl, refl, h)
+keeps_parts P (x ∷ xs) ys zs (inl (p, (rest, e, h))) =
+    let (vs, ws, same, a, b) = keeps_parts P xs ys rest h in
+    (x ∷ vs, ws, e ∙ ap (λ l. x ∷ l) same, inl (p, (vs, refl, a)), b)
+keeps_parts P (x ∷ xs) ys zs (inr (n, h)) =
+    let (vs, ws, same, a, b) = keeps_parts P xs ys zs h in
+    (vs, ws, same, inr (n, a), b)
 
 -- what has no elements keeps none
 pub keeps_none : {X : Type 0} (P : X → Type 0) → Keeps P [] []

@@ -4,6 +4,8 @@ pub mod Spreads
 pub mod Areas
 pub mod Hulls
 pub mod Joining
+pub mod Growing
+pub mod Accumulating
 pub mod Exact
 pub mod ProperEntries
 pub mod Parted

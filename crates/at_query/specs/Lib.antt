@@ -3,6 +3,7 @@ pub mod Results
 pub mod Ranges
 pub mod Parts
 pub mod Joined
+pub mod Accumulators
 pub mod Printing
 pub mod Spelling
 pub mod Queries

@@ -1,6 +1,7 @@
-ghost use Rattle.std.specs.Prelude.{◌≡◌};
+ghost use Rattle.std.specs.Prelude.{◌≡◌, ◌++◌, ◌∷◌, [], IfOk};
 
 use at_geom::{Extent, Path};
+use at_text::Memory;
 use std::marker::Model;
 
 /// A list of offsets.
@@ -37,6 +38,14 @@ impl Offsets {
         ensures { result.items ≡ self }
     {
         self.items
+    }
+
+    /// Puts an offset behind the others.
+    pub(crate) fn push(&mut self, at: u32) -> Result<(), Memory>
+        ensures { IfOk result (λ _. self.new ≡ self.old ++ at ∷ []) }
+    {
+        self.items.push(at)?;
+        Ok(())
     }
 }
 

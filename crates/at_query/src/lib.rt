@@ -3,9 +3,12 @@
 //!
 //! [`read_query`] reads a query line. [`part_of`] gives what one feature adds to an answer, [`part_merge`] joins what two neighbouring lists of
 //! features give, in any grouping, and [`answer_of`] and [`answer_text`] make the answer and its printed text of
-//! the whole list's part.
+//! the whole list's part. Where features come one after another, an [`Accumulator`] takes each in place and becomes
+//! the part of all.
 #![tactic(auto)]
 
+mod accumulators;
+mod adding;
 mod answers;
 mod boxes;
 mod bytes;
@@ -24,6 +27,7 @@ mod results;
 mod strings;
 mod targets;
 
+pub use accumulators::Accumulator;
 pub use answers::{Answer, Offsets, Pair, Pairs};
 pub use features::{Feature, TextPair, TextPairs};
 pub use holding::holds;

@@ -59,7 +59,7 @@ fn joined_extent(left: Extent, right: Extent) -> Extent
 }
 
 /// The least extent round two, where there are any.
-fn joined_spread(left: Option<Extent>, right: Option<Extent>) -> Option<Extent>
+pub(crate) fn joined_spread(left: Option<Extent>, right: Option<Extent>) -> Option<Extent>
     ensures { result ≡ around_both left right }
 {
     match (left, right) {

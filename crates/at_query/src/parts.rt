@@ -1,7 +1,8 @@
-ghost use Rattle.std.specs.Prelude.{◌≡◌};
+ghost use Rattle.std.specs.Prelude.{◌≡◌, ◌++◌, ◌∷◌, [], IfOk};
 
 use crate::answers::Offsets;
 use at_geom::{Extent, Path, Shape};
+use at_text::Memory;
 use std::marker::Model;
 
 /// What a join keeps of a feature: its offset, its shape and the shape's extent.
@@ -47,6 +48,14 @@ impl Entries {
         ensures { result.items ≡ self }
     {
         self.items
+    }
+
+    /// Puts an entry behind the others.
+    pub(crate) fn push(&mut self, entry: Entry) -> Result<(), Memory>
+        ensures { IfOk result (λ _. self.new ≡ self.old ++ entry ∷ []) }
+    {
+        self.items.push(entry)?;
+        Ok(())
     }
 }
 

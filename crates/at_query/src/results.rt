@@ -39,7 +39,7 @@ fn nothing_kept(alloc: Global, verb: Verb) -> Part
 }
 
 /// The sum of the doubled areas of polygons, by wrapping.
-fn area_of(polygons: &[Polygon]) -> i128
+pub(crate) fn area_of(polygons: &[Polygon]) -> i128
     requires { ArePolygonsInRange polygons.now }
     ensures { result ≡ wrapped_sum polygons.now }
 {
@@ -59,17 +59,23 @@ fn offset_of(alloc: Global, feature: Feature) -> Result<Offsets, Memory>
     Ok(Offsets::from_vec(items))
 }
 
-/// The entry of a feature, as a list.
-fn entry_of(alloc: Global, feature: Feature) -> Result<Entries, Memory>
-    ensures { IfOk result (λ entries. entries ≡ the_entry feature ∷ []) }
+/// The entry of a feature.
+pub(crate) fn entry_of(feature: Feature) -> Entry
+    ensures { result ≡ the_entry feature }
 {
-    let entry = Entry {
+    Entry {
         at: feature.at,
         extent: extent(&feature.shape),
         shape: feature.shape,
-    };
+    }
+}
+
+/// The entry of a feature, as a list.
+fn entry_alone(alloc: Global, feature: Feature) -> Result<Entries, Memory>
+    ensures { IfOk result (λ entries. entries ≡ the_entry feature ∷ []) }
+{
     let mut items = Vec::with_capacity(alloc, 1)?;
-    items.push(entry)?;
+    items.push(entry_of(feature))?;
     Ok(Entries::from_vec(items))
 }
 
@@ -131,7 +137,7 @@ fn one_kept(alloc: Global, verb: Verb, feature: Feature) -> Result<Part, Memory>
         Verb::Area => Ok(Part::Area(area_of(feature.shape.polygons.as_slice()))),
         Verb::Extent => Ok(Part::Spread(extent(&feature.shape))),
         Verb::Hull => Ok(Part::Hull(hull_of(alloc, feature.shape)?)),
-        Verb::Join => Ok(Part::Entries(entry_of(alloc, feature)?)),
+        Verb::Join => Ok(Part::Entries(entry_alone(alloc, feature)?)),
     }
 }
 

@@ -1,8 +1,10 @@
-ghost use Rattle.std.specs.Prelude.{IfOk, IfSome, All, IsTrue};
+ghost use Rattle.std.specs.Prelude.{List, IfOk, IfSome, All, IsTrue};
 ghost use Rattle.at_geom.specs.Segments.{IsInRange};
 ghost use Rattle.at_geom.specs.Shapes.{ArePathsInRange, ArePolygonsInRange, IsShapeInRange};
 ghost use Rattle.at_query.specs.Ranges.{IsTestInRange, IsQueryInRange, IsFeatureInRange};
 ghost use Rattle.at_query.specs.Parts.{AreAlike, IsProper};
+ghost use Rattle.at_query.specs.Accumulators.{IsAccumulated};
+ghost use Rattle.at_query.specs.declared.features.Feature.{Feature};
 
 mod lines;
 
@@ -313,6 +315,36 @@ fn printed_of_all(alloc: Global, query: &Query, from_left: bool) -> Result<Strin
     Ok(answer_text(alloc, &answer, 1)?)
 }
 
+/// What is kept of shapes that are added one by one.
+fn added(alloc: Global, query: &Query, outlines: &[Outline]) -> Result<Accumulator, Fail>
+    requires { IsQueryInRange query.now }
+    ensures { IfOk result (λ kept. (fs : List Feature) × IsAccumulated query.now fs kept) }
+{
+    let mut kept = Accumulator::none(alloc, query);
+    for outline in outlines {
+        kept.add(query, feature(alloc, outline)?)?;
+    }
+    Ok(kept)
+}
+
+/// The part of all shapes, of which the first four are added to what is kept of none, and the others to a second one,
+/// which is joined.
+fn part_of_added(alloc: Global, query: &Query) -> Result<Part, Fail>
+    requires { IsQueryInRange query.now }
+{
+    let mut kept = added(alloc, query, &AROUND_BOX[..4])?;
+    let behind = added(alloc, query, &AROUND_BOX[4..])?;
+    kept.join(behind)?;
+    Ok(kept.into_part()?)
+}
+
+fn printed_of_added(alloc: Global, query: &Query) -> Result<String, Fail>
+    requires { IsQueryInRange query.now }
+{
+    let answer = answered(part_of_added(alloc, query)?)?;
+    Ok(answer_text(alloc, &answer, 1)?)
+}
+
 /// Whether each verb prints what its row says, with at most one box that the shapes are to be in.
 fn print_as_told(
     alloc: Global,
@@ -325,6 +357,9 @@ fn print_as_told(
             return Ok(false);
         }
         if printed_of_all(alloc, &asked, false)?.as_str() != row.1 {
+            return Ok(false);
+        }
+        if printed_of_added(alloc, &asked)?.as_str() != row.1 {
             return Ok(false);
         }
     }
@@ -376,18 +411,28 @@ fn answers_of_parts(rt: HostRuntime) -> Result<(), Fail> {
     Ok(())
 }
 
+/// Whether the part has the entries of the rows: offsets, and the low and high corner of a square.
+fn has_entries(part: &Part, rows: &[(u32, i32, i32)]) -> bool {
+    let Part::Entries(entries) = part else {
+        return false;
+    };
+    if entries.as_slice().len() != rows.len() {
+        return false;
+    }
+    for (entry, (at, low, high)) in entries.as_slice().iter().zip(rows) {
+        if entry.at != *at || entry.extent != Some(box_of(*low, *high)) {
+            return false;
+        }
+    }
+    true
+}
+
 #[test]
 fn entries_of_a_join(rt: HostRuntime) -> Result<(), Fail> {
     let asked = query(rt.alloc(), Verb::Join, Some(Test::InBox(box_of(0, 10))))?;
-    let Part::Entries(entries) = part_of_all(rt.alloc(), &asked, true)? else {
-        return Err(Fail::from("no entries"));
-    };
     let rows = [(0, 5, 5), (9, 10, 10), (50, 1, 9), (120, 2, 4)];
-    assert_eq!(rt; entries.as_slice().len(), rows.len());
-    for (entry, (at, low, high)) in entries.as_slice().iter().zip(rows) {
-        assert_eq!(rt; entry.at, at);
-        assert_eq!(rt; entry.extent, Some(box_of(low, high)));
-    }
+    assert!(rt; has_entries(&part_of_all(rt.alloc(), &asked, true)?, &rows));
+    assert!(rt; has_entries(&part_of_added(rt.alloc(), &asked)?, &rows));
     Ok(())
 }
 

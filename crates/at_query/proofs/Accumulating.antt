@@ -1,0 +1,168 @@
+-- What is kept of features that are added one by one.
+use Rattle.std.proofs.Common.{◌≡◌, ◌≢◌, ℕ, Bool, true, false, List, [], ◌∷◌, ◌++◌, length, map, refl, sym, ◌∙◌, ap, subst, inl, inr, true≢false}
+use Rattle.std.specs.Prelude.{flat_map}
+use Rattle.std.proofs.lemmas.List.{append-nil}
+use Rattle.std.proofs.lemmas.Grind.{flat_map-append}
+use Rattle.at_geom.specs.declared.positions.Pos.{Pos}
+use Rattle.at_geom.specs.declared.shapes.Polygon.{Polygon}
+use Rattle.at_geom.specs.Shapes.{positions, extent_of}
+use Rattle.at_hull.specs.Hulls.{IsHull}
+use Rattle.at_hull.specs.Growth.{HaveOneHull, Growth, held}
+use Rattle.at_hull.proofs.OneHull.{one_hull_refl, one_hull_both, one_hull_own, one_hull_grown, one_hull_trans}
+use Rattle.at_query.specs.declared.queries.Verb.{Verb}
+use Rattle.at_query.specs.declared.queries.Verb.TheVariants as verbs
+use Rattle.at_query.specs.declared.queries.Query.{Query}
+use Rattle.at_query.specs.declared.features.Feature.{Feature}
+use Rattle.at_query.specs.declared.parts.Part.{Part}
+use Rattle.at_query.specs.declared.parts.Part.TheVariants as parts
+use Rattle.at_query.specs.declared.accumulators.Accumulator.{Accumulator}
+use Rattle.at_query.specs.declared.accumulators.Accumulator.TheVariants.{Part as APart, Hull}
+use Rattle.at_query.specs.Holding.{Holds}
+use Rattle.at_query.specs.Results.{Keeps, all_positions, all_polygons}
+use Rattle.at_query.specs.Parts.{entry_of, wrapped_sum, IsHullInRange, IsKeptOf, IsPart, IsProper, AreAlike, JoinsParts}
+use Rattle.at_query.specs.Accumulators.{IsKeptIn, IsAccumulated, AreOfOneVerb, JoinsAccumulators, IsNoHull, added_by, is_hull}
+use Rattle.at_query.proofs.KeptLists.{keeps-append, keeps_none, keeps_one, drops_one}
+use Rattle.at_query.proofs.Joining.{parts_are_alike}
+
+-- ---- nothing
+
+pub no_hull : (verb : Verb) → is_hull verb ≡ false → verb ≢ verbs.Hull
+no_hull verb h e = absurd (true≢false (sym (ap is_hull e) ∙ h))
+
+pub the_hull : (verb : Verb) → is_hull verb ≡ true → verb ≡ verbs.Hull
+the_hull verbs.Select h = absurd (true≢false (sym h))
+the_hull verbs.Count h = absurd (true≢false (sym h))
+the_hull verbs.Area h = absurd (true≢false (sym h))
+the_hull verbs.Extent h = absurd (true≢false (sym h))
+the_hull verbs.Hull h = refl
+the_hull verbs.Join h = absurd (true≢false (sym h))
+
+pub none_part : (query : Query) (part : Part) → is_hull query.verb ≡ false → IsPart query [] part → IsAccumulated query [] (APart part)
+none_part query part h (kept, keeps, is) = (kept, keeps, (no_hull query.verb h, is))
+
+pub none_hull : (query : Query) (growth : Growth) → is_hull query.verb ≡ true → held growth ≡ [] → IsAccumulated query [] (Hull growth)
+none_hull query growth h e = ([], keeps_none (Holds query), (the_hull query.verb h, subst (λ z. HaveOneHull [] z) (sym e) (one_hull_refl [])))
+
+-- ---- what a part becomes
+
+kept_no_hull : (verb : Verb) (kept : List Feature) (part : Part) → IsNoHull part → IsKeptOf verb kept part → verb ≢ verbs.Hull
+kept_no_hull verbs.Select kept part n is e = absurd (cc)
+kept_no_hull verbs.Count kept part n is e = absurd (cc)
+kept_no_hull verbs.Area kept part n is e = absurd (cc)
+kept_no_hull verbs.Extent kept part n is e = absurd (cc)
+kept_no_hull verbs.Hull kept part n (h, is, k) e = let P : Part → Type 0 = IsNoHull in absurd (subst P is n)
+kept_no_hull verbs.Join kept part n is e = absurd (cc)
+
+pub from_other : (part : Part) → IsNoHull part → (query : Query) (fs : List Feature) → IsPart query fs part → IsAccumulated query fs (APart part)
+from_other part n query fs (kept, keeps, is) = (kept, keeps, (kept_no_hull query.verb kept part n is, is))
+
+kept_hull : (h : List Pos) (growth : Growth) → IsHull h h → held growth ≡ h → (verb : Verb) (kept : List Feature) → IsKeptOf verb kept (parts.Hull h) → IsKeptIn verb kept (Hull growth)
+kept_hull h growth own e verbs.Select kept is = absurd (cc)
+kept_hull h growth own e verbs.Count kept is = absurd (cc)
+kept_hull h growth own e verbs.Area kept is = absurd (cc)
+kept_hull h growth own e verbs.Extent kept is = absurd (cc)
+kept_hull h growth own e verbs.Hull kept (g, is, k) =
+    let same : g ≡ h = cc in
+    (refl, subst (λ z. HaveOneHull (all_positions kept) z) (sym e) (one_hull_own (all_positions kept) h (subst (IsHull (all_positions kept)) same k.0) own))
+kept_hull h growth own e verbs.Join kept is = absurd (cc)
+
+pub from_hull : (part : Part) (h : List Pos) (growth : Growth) → part ≡ parts.Hull h → IsHull h h → held growth ≡ h
+    → (query : Query) (fs : List Feature) → IsPart query fs part → IsAccumulated query fs (Hull growth)
+from_hull part h growth p own e query fs (kept, keeps, is) = (kept, keeps, kept_hull h growth own e query.verb kept (subst (IsKeptOf query.verb kept) p is))
+
+-- ---- and back
+
+pub into_other : (kept : Accumulator) (part : Part) → kept ≡ APart part → (query : Query) (fs : List Feature) → IsAccumulated query fs kept → IsPart query fs part
+into_other kept part e query fs is = let P : Accumulator → Type 0 = IsAccumulated query fs in let (left, keeps, k) = subst P e is in (left, keeps, k.1)
+
+pub into_hull : (kept : Accumulator) (growth : Growth) (h : List Pos) → kept ≡ Hull growth → IsHull (held growth) h → IsHullInRange h h
+    → (query : Query) (fs : List Feature) → IsAccumulated query fs kept → IsPart query fs (parts.Hull h)
+into_hull kept growth h e hull own query fs is =
+    let P : Accumulator → Type 0 = IsAccumulated query fs in
+    let (left, keeps, k) = subst P e is in
+    let V : Verb → Type 0 = λ verb. IsKeptOf verb left (parts.Hull h) in
+    (left, keeps, subst V (sym k.0) (h, refl, (k.1.back h hull, own.1)))
+
+-- ---- joined
+
+pub parts_joined : (a b c : Part) → JoinsParts a b c → JoinsAccumulators (APart a) (APart b) (APart c)
+parts_joined a b c joins query fs gs (kf, hf, (n, pf)) (kg, hg, (m, pg)) =
+    let (kept, keeps, is) = joins query fs gs (kf, hf, pf) (kg, hg, pg) in
+    (kept, keeps, (n, is))
+
+pub hulls_joined : (a b c : Growth) → HaveOneHull (held a ++ held b) (held c) → JoinsAccumulators (Hull a) (Hull b) (Hull c)
+hulls_joined a b c both query fs gs (kf, hf, (v, of)) (kg, hg, (w, og)) = (
+  kf ++ kg,
+  keeps-append (Holds query) fs gs kf kg hf hg,
+  (
+    v,
+    one_hull_trans (all_positions (kf ++ kg)) (held a ++ held b) (held c)
+        (subst (λ z. HaveOneHull z (held a ++ held b)) (sym (flat_map-append (λ (f : Feature). positions f.shape) kf kg)) (one_hull_both (all_positions kf) (all_positions kg) (held a) (held b) of og))
+        both,
+  ),
+)
+
+-- of features with the same positions the same is kept for a hull
+pub same_hull : (verb : Verb) (xs ys : List Feature) (growth : Growth) → all_positions xs ≡ all_positions ys → IsKeptIn verb xs (Hull growth) → IsKeptIn verb ys (Hull growth)
+same_hull verb xs ys growth e (v, one) = (v, subst (λ z. HaveOneHull z (held growth)) e one)
+
+-- what is kept for one query is of one verb
+pub are_of_one_verb : (query : Query) (fs gs : List Feature) (left right : Accumulator) → IsAccumulated query fs left → IsAccumulated query gs right → AreOfOneVerb left right
+are_of_one_verb query fs gs (APart a) (APart b) (kf, hf, (n, pf)) (kg, hg, (m, pg)) = parts_are_alike query fs gs a b (kf, hf, pf) (kg, hg, pg)
+are_of_one_verb query fs gs (APart a) (Hull b) (kf, hf, (n, pf)) (kg, hg, (w, og)) = absurd (n w)
+are_of_one_verb query fs gs (Hull a) (APart b) (kf, hf, (v, of)) (kg, hg, (m, pg)) = absurd (m v)
+are_of_one_verb query fs gs (Hull a) (Hull b) left right = tt
+
+-- ---- one feature more
+
+-- that the query doesn't hold of
+pub not_added : (query : Query) (f : Feature) (kept : Accumulator) → (¬ Holds query f) → (fs : List Feature) → IsAccumulated query fs kept → IsAccumulated query (fs ++ f ∷ []) kept
+not_added query f kept n fs (left, keeps, is) =
+    (left, subst (Keeps (Holds query) (fs ++ f ∷ [])) (append-nil left) (keeps-append (Holds query) fs (f ∷ []) left [] keeps (drops_one (Holds query) f n)), is)
+
+one_positions : (f : Feature) → all_positions (f ∷ []) ≡ positions f.shape
+one_positions f = append-nil (positions f.shape)
+
+one_polygons : (f : Feature) → all_polygons (f ∷ []) ≡ f.shape.polygons
+one_polygons f = append-nil f.shape.polygons
+
+kept_of_one : (f : Feature) (verb : Verb) (xs : List Feature) (old : Part) → verb ≢ verbs.Hull → IsKeptOf verb xs old → IsKeptOf verb (f ∷ []) (added_by f old)
+kept_of_one f verbs.Select xs old n e = rw (e) refl
+kept_of_one f verbs.Count xs old n e = rw (e) refl
+kept_of_one f verbs.Area xs old n e = rw (e, one_polygons f) refl
+kept_of_one f verbs.Extent xs old n e = rw (e, one_positions f) refl
+kept_of_one f verbs.Hull xs old n e = absurd (n refl)
+kept_of_one f verbs.Join xs old n e = rw (e) refl
+
+pub added_part : (query : Query) (f : Feature) (kept : Accumulator) (old new : Part) → Holds query f → kept ≡ APart old → JoinsParts old (added_by f old) new
+    → (fs : List Feature) → IsAccumulated query fs kept → IsAccumulated query (fs ++ f ∷ []) (APart new)
+added_part query f kept old new holds e joins fs is =
+    let P : Accumulator → Type 0 = IsAccumulated query fs in
+    let (left, keeps, k) = subst P e is in
+    let (both, more, now) = joins query fs (f ∷ []) (left, keeps, k.1) (f ∷ [], keeps_one (Holds query) f holds, kept_of_one f query.verb left old k.0 k.1) in
+    (both, more, (k.0, now))
+
+pub added_hull : (query : Query) (f : Feature) (kept : Accumulator) (old new : Growth) → Holds query f → kept ≡ Hull old → HaveOneHull (held old ++ positions f.shape) (held new)
+    → (fs : List Feature) → IsAccumulated query fs kept → IsAccumulated query (fs ++ f ∷ []) (Hull new)
+added_hull query f kept old new holds e grown fs is =
+    let P : Accumulator → Type 0 = IsAccumulated query fs in
+    let (left, keeps, k) = subst P e is in
+    let all : all_positions (left ++ f ∷ []) ≡ all_positions left ++ positions f.shape = flat_map-append (λ (x : Feature). positions x.shape) left (f ∷ []) ∙ ap (λ z. all_positions left ++ z) (one_positions f) in (
+      left ++ f ∷ [],
+      keeps-append (Holds query) fs (f ∷ []) left (f ∷ []) keeps (keeps_one (Holds query) f holds),
+      (k.0, subst (λ z. HaveOneHull z (held new)) (sym all) (one_hull_grown (all_positions left) (held old) (positions f.shape) (held new) k.1 grown)),
+    )
+
+-- what is kept in place of a part is no hull
+pub accumulated_no_hull : (query : Query) (fs : List Feature) (kept : Accumulator) (part : Part) → kept ≡ APart part → IsAccumulated query fs kept → IsNoHull part
+accumulated_no_hull query fs kept part e is =
+    let P : Accumulator → Type 0 = IsAccumulated query fs in
+    let (left, keeps, k) = subst P e is in
+    of_verb query.verb left part k.0 k.1 where
+      of_verb : (verb : Verb) (left : List Feature) (part : Part) → verb ≢ verbs.Hull → IsKeptOf verb left part → IsNoHull part
+      of_verb verbs.Select left part n e = rw (e) tt
+      of_verb verbs.Count left part n e = rw (e) tt
+      of_verb verbs.Area left part n e = rw (e) tt
+      of_verb verbs.Extent left part n e = rw (e) tt
+      of_verb verbs.Hull left part n e = absurd (n refl)
+      of_verb verbs.Join left part n e = rw (e) tt
