@@ -1,5 +1,8 @@
--- A feature whose label is kept only where a test asks for it gives the part of the feature with its label.
-use Rattle.std.proofs.Common.{◌≡◌, ℕ, inl, inr, Bool, true, false, ◌&&◌, ◌||◌, if◌then◌else◌, bytes_eq, List, [], ◌∷◌, Some, refl, sym, ◌∙◌, ap, subst, true≢false}
+-- Of a feature whose label is kept only where a test asks for it the same is kept as of the feature with its label.
+use Rattle.std.proofs.Common.{◌≡◌, ℕ, ◌%◌, ◌^◌, inl, inr, Bool, true, false, ◌&&◌, ◌||◌, if◌then◌else◌, bytes_eq, List, [], ◌∷◌, ◌++◌, length, Some, refl, sym, ◌∙◌, ap, subst, true≢false, length-append}
+use Rattle.std.specs.Prelude.{flat_map}
+use Rattle.std.proofs.lemmas.List.{map-append}
+use Rattle.std.proofs.lemmas.Grind.{flat_map-append}
 use Rattle.std.specs.List.{AllByRecursion, list_any}
 use Rattle.std.proofs.lemmas.List.Concat.{flat_map-cons}
 use Rattle.std.proofs.lemmas.Slice.Eq.{bytes_eq-Decides}
@@ -14,10 +17,15 @@ use Rattle.at_query.specs.declared.queries.Verb.TheVariants as verbs
 use Rattle.at_query.specs.declared.features.Feature.{Feature}
 use Rattle.at_query.specs.declared.features.TextPair.{TextPair}
 use Rattle.at_query.specs.declared.parts.Part.{Part}
-use Rattle.at_query.specs.declared.parts.Part.TheVariants.{Area, Spread}
-use Rattle.at_query.specs.Holding.{TestHolds}
-use Rattle.at_query.specs.Parts.{wrapped_sum, IsHullInRange, IsKeptOf, IsPart}
-use Rattle.at_query.specs.Results.{all_positions}
+use Rattle.at_query.specs.declared.parts.Part.TheVariants.{Offsets, Count, Area, Spread, Entries}
+use Rattle.at_query.specs.declared.accumulators.Accumulator.{Accumulator}
+use Rattle.at_query.specs.declared.accumulators.Accumulator.TheVariants.{Part as APart, Hull as AHull}
+use Rattle.at_query.specs.Holding.{TestHolds, Holds}
+use Rattle.at_query.specs.Parts.{entry_of, wrapped_sum, IsHullInRange, IsKeptOf}
+use Rattle.at_query.specs.Accumulators.{IsKeptIn, IsAccumulated}
+use Rattle.at_query.specs.Results.{Keeps, all_positions, all_polygons}
+use Rattle.at_query.proofs.Accumulating.{same_hull}
+use Rattle.at_query.proofs.KeptLists.{keeps-append, keeps_parts, keeps_one, drops_one}
 use Rattle.at_run.specs.Labels.{label_name, texts_of}
 use Rattle.at_run.specs.Labelling.{asks_label}
 
@@ -30,6 +38,10 @@ other_name name false e h = refl
 other_name name true e h =
     let same : label_name ≡ name = (bytes_eq-Decides label_name name).0 e in
     absurd (true≢false (sym ((bytes_eq-Decides name label_name).1 (sym same)) ∙ h))
+
+-- what is listed of features, where the last one is another
+all_of_last : {Y : Type 0} (f : Feature → List Y) (before : List Feature) (a b : Feature) → flat_map f (a ∷ []) ≡ flat_map f (b ∷ []) → flat_map f (before ++ a ∷ []) ≡ flat_map f (before ++ b ∷ [])
+all_of_last f before a b e = flat_map-append f before (a ∷ []) ∙ ap (λ z. flat_map f before ++ z) e ∙ sym (flat_map-append f before (b ∷ []))
 
 module _ (query : Query) (at : ℕ) (shape : Shape) (cs : List Character) where
   abbrev full : Feature
@@ -54,24 +66,47 @@ module _ (query : Query) (at : ℕ) (shape : Shape) (cs : List Character) where
       let one = one_test t a in let more = all_tests ts b in
       (λ k. (one.0 k.0, more.0 k.1), λ k. (one.1 k.0, more.1 k.1))
 
-  same_positions : all_positions (bare ∷ []) ≡ all_positions (full ∷ [])
-  same_positions = flat_map-cons (λ (x : Feature). positions x.shape) bare [] ∙ sym (flat_map-cons (λ (x : Feature). positions x.shape) full [])
+  one_positions : all_positions (bare ∷ []) ≡ all_positions (full ∷ [])
+  one_positions = flat_map-cons (λ (x : Feature). positions x.shape) bare [] ∙ sym (flat_map-cons (λ (x : Feature). positions x.shape) full [])
 
-  one_kept : (v : Verb) (part : Part) → IsKeptOf v (bare ∷ []) part → IsKeptOf v (full ∷ []) part
-  one_kept verbs.Select part p = p
-  one_kept verbs.Count part p = p
-  one_kept verbs.Area part p = p ∙ ap (λ z. Area (wrapped_sum z)) (flat_map-cons (λ (x : Feature). x.shape.polygons) bare [] ∙ sym (flat_map-cons (λ (x : Feature). x.shape.polygons) full []))
-  one_kept verbs.Extent part p = p ∙ ap (λ z. Spread (extent_of z)) same_positions
-  one_kept verbs.Hull part (hull, e, k) = (hull, e, subst (λ z. IsHullInRange z hull) same_positions k)
-  one_kept verbs.Join part p = p
+  one_polygons : all_polygons (bare ∷ []) ≡ all_polygons (full ∷ [])
+  one_polygons = flat_map-cons (λ (x : Feature). x.shape.polygons) bare [] ∙ sym (flat_map-cons (λ (x : Feature). x.shape.polygons) full [])
 
-  without_label : (part : Part) → list_any asks_label query.tests ≡ false → IsPart query (bare ∷ []) part → IsPart query (full ∷ []) part
-  without_label part h (kept, inl (p, (zs, e, k)), is) = (full ∷ [], inl ((all_tests query.tests h).1 p, ([], refl, refl)), one_kept query.verb part (subst (λ l. IsKeptOf query.verb l part) (e ∙ ap (λ z. bare ∷ z) k) is))
-  without_label part h (kept, inr (n, k), is) = ([], inr (λ p. n ((all_tests query.tests h).0 p), refl), subst (λ l. IsKeptOf query.verb l part) k is)
+  module _ (before : List Feature) where
+    same_positions : all_positions (before ++ bare ∷ []) ≡ all_positions (before ++ full ∷ [])
+    same_positions = all_of_last (λ (x : Feature). positions x.shape) before bare full (one_positions)
 
-  pub kept_label : (texts : List TextPair) (part : Part) → texts ≡ (if list_any asks_label query.tests then texts_of (Some cs) else [])
-      → IsPart query (record { at = at; shape = shape; texts = texts } ∷ []) part → IsPart query (full ∷ []) part
-  kept_label texts part e h = go (list_any asks_label query.tests) refl (subst (λ z. IsPart query (record { at = at; shape = shape; texts = z } ∷ []) part) e h) where
-    go : (b : Bool) → list_any asks_label query.tests ≡ b → IsPart query (record { at = at; shape = shape; texts = if b then texts_of (Some cs) else [] } ∷ []) part → IsPart query (full ∷ []) part
+    last_kept : (v : Verb) (part : Part) → IsKeptOf v (before ++ bare ∷ []) part → IsKeptOf v (before ++ full ∷ []) part
+    last_kept verbs.Select part p = p ∙ ap Offsets (map-append (λ (x : Feature). x.at) before (bare ∷ []) ∙ sym (map-append (λ (x : Feature). x.at) before (full ∷ [])))
+    last_kept verbs.Count part p = p ∙ ap (λ n. Count (n % 2 ^ 64)) (length-append before (bare ∷ []) ∙ sym (length-append before (full ∷ [])))
+    last_kept verbs.Area part p = p ∙ ap (λ z. Area (wrapped_sum z)) (all_of_last (λ (x : Feature). x.shape.polygons) before bare full one_polygons)
+    last_kept verbs.Extent part p = p ∙ ap (λ z. Spread (extent_of z)) same_positions
+    last_kept verbs.Hull part (hull, e, k) = (hull, e, subst (λ z. IsHullInRange z hull) same_positions k)
+    last_kept verbs.Join part p = p ∙ ap Entries (map-append entry_of before (bare ∷ []) ∙ sym (map-append entry_of before (full ∷ [])))
+
+    last_accumulated : (v : Verb) (kept : Accumulator) → IsKeptIn v (before ++ bare ∷ []) kept → IsKeptIn v (before ++ full ∷ []) kept
+    last_accumulated v (APart part) (n, is) = (n, last_kept v part is)
+    last_accumulated v (AHull growth) is = same_hull v (before ++ bare ∷ []) (before ++ full ∷ []) growth same_positions is
+
+  without_label : (before : List Feature) (kept : Accumulator) → list_any asks_label query.tests ≡ false → IsAccumulated query (before ++ bare ∷ []) kept → IsAccumulated query (before ++ full ∷ []) kept
+  without_label before kept h (left, keeps, is) =
+      let (xs, ys, same, here, last) = keeps_parts (Holds query) before (bare ∷ []) left keeps in
+      let K : List Feature → Type 0 = λ l. IsKeptIn query.verb l kept in
+      of_last xs ys here last (subst K same is) where
+        of_last : (xs ys : List Feature) → Keeps (Holds query) before xs → Keeps (Holds query) (bare ∷ []) ys → IsKeptIn query.verb (xs ++ ys) kept → IsAccumulated query (before ++ full ∷ []) kept
+        of_last xs ys here (inl (p, (zs, e, k))) is =
+            let K : List Feature → Type 0 = λ l. IsKeptIn query.verb (xs ++ l) kept in (
+              xs ++ full ∷ [],
+              keeps-append (Holds query) before (full ∷ []) xs (full ∷ []) here (keeps_one (Holds query) full ((all_tests query.tests h).1 p)),
+              last_accumulated xs query.verb kept (subst K (e ∙ ap (λ z. bare ∷ z) k) is),
+            )
+        of_last xs ys here (inr (n, k)) is =
+            let K : List Feature → Type 0 = λ l. IsKeptIn query.verb (xs ++ l) kept in
+            (xs ++ [], keeps-append (Holds query) before (full ∷ []) xs [] here (drops_one (Holds query) full (λ p. n ((all_tests query.tests h).0 p))), subst K k is)
+
+  pub kept_label : (before : List Feature) (texts : List TextPair) (kept : Accumulator) → texts ≡ (if list_any asks_label query.tests then texts_of (Some cs) else [])
+      → IsAccumulated query (before ++ record { at = at; shape = shape; texts = texts } ∷ []) kept → IsAccumulated query (before ++ full ∷ []) kept
+  kept_label before texts kept e h = go (list_any asks_label query.tests) refl (subst (λ z. IsAccumulated query (before ++ record { at = at; shape = shape; texts = z } ∷ []) kept) e h) where
+    go : (b : Bool) → list_any asks_label query.tests ≡ b → IsAccumulated query (before ++ record { at = at; shape = shape; texts = if b then texts_of (Some cs) else [] } ∷ []) kept → IsAccumulated query (before ++ full ∷ []) kept
     go true e k = k
-    go false e k = without_label part e k
+    go false e k = without_label before kept e k

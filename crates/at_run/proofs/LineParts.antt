@@ -5,12 +5,12 @@ use Rattle.std.specs.Result.{IfOk}
 use Rattle.std.specs.Str.{IsUtf8}
 use Rattle.std.proofs.lemmas.Str.{IsUtf8-append}
 use Rattle.at_text.specs.declared.faults.Fault.{Fault}
-use Rattle.at_text.specs.declared.memory.Memory.{Memory}
 use Rattle.at_text.specs.Faults.{first_fault, first_of}
 use Rattle.at_text.specs.Spans.{part_of}
 use Rattle.at_text.specs.Syntax.{IsSyntaxFault}
 use Rattle.at_fixed.specs.declared.rounding.Coords.{Coords}
 use Rattle.at_geom.specs.declared.shapes.Shape.{Shape}
+use Rattle.at_geom.specs.Shapes.{IsShapeInRange}
 use Rattle.at_lex.specs.Strings.{Character, JsonString}
 use Rattle.at_wkt.specs.declared.answers.LineFault.{LineFault}
 use Rattle.at_wkt.specs.declared.answers.LineFault.TheVariants.{Found, Memory as NoMemory}
@@ -22,22 +22,26 @@ use Rattle.at_query.specs.declared.features.Feature.{Feature}
 use Rattle.at_query.specs.declared.features.TextPair.{TextPair}
 use Rattle.at_query.specs.declared.parts.Part.{Part}
 use Rattle.at_query.specs.declared.parts.Part.TheVariants.{Count}
+use Rattle.at_query.specs.declared.accumulators.Accumulator.{Accumulator}
+use Rattle.at_query.specs.declared.accumulators.Accumulator.TheVariants.{Part as APart}
 use Rattle.at_query.specs.declared.queries.Verb.{Verb}
 use Rattle.at_query.specs.declared.queries.Test.{Test}
+use Rattle.at_query.specs.declared.queries.Query.{Query}
 use Rattle.at_query.specs.Holding.{TestHolds}
-use Rattle.at_query.specs.Parts.{IsKeptOf, IsPart, JoinsParts}
-use Rattle.at_query.proofs.Joining.{parts_are_alike}
+use Rattle.at_query.specs.Accumulators.{IsKeptIn, IsAccumulated, JoinsAccumulators}
+use Rattle.at_query.proofs.Accumulating.{are_of_one_verb}
 use Rattle.at_run.specs.declared.gathered.Gathered.{Gathered}
 use Rattle.at_run.specs.declared.gathered.Gathered.TheVariants.{Kept, Failed}
 use Rattle.at_run.specs.Labels.{SpellsLabelled, LabelledLine, texts_of}
 use Rattle.at_run.specs.declared.labels.Behind.{Behind}
 use Rattle.at_run.specs.Labelling.{QuoteIs, LabelStands, HasFront, IsBehind, AreKeptTexts, AreFrontTexts, asks_label}
 use Rattle.at_run.specs.Features.{AreLineFeatures}
-use Rattle.at_run.specs.Gathering.{Asked, IsOwn, IsGathered, CountsAll, IsChecked, AreJoinable, IsJoinOf, JoinsGathered, KeepsOwn, IsLineEnd}
+use Rattle.at_run.specs.Gathering.{Asked, IsOwn, IsOwnOf, IsGathered, CountsAll, IsChecked, IsLineRead, AddsFeature, AreJoinable, IsJoinOf, JoinsGathered, KeepsOwn}
 use Rattle.at_run.proofs.AsciiLines.{plain_valid, blanks_valid}
 use Rattle.at_run.proofs.LabelSteps.{without_quote, plain_syntax, label_front, label_spelled, label_syntax}
 use Rattle.at_run.proofs.FaultLists.{first_none, first_one, first_joined}
 use Rattle.at_run.proofs.KeptLabels.{kept_label}
+use Rattle.at_run.proofs.ShapeRanges.{line_in_range}
 
 -- ---- lists of lines
 
@@ -67,47 +71,44 @@ at_begin P at text end begin h = let place : at + end ≡ at = omega (arith, beg
 -- ---- what is gathered
 
 module _ (asked : Asked) where
-  pub gathered_none : (part : Part) → IsPart asked.query [] part → IsGathered asked (Kept part) []
-  gathered_none part is = (tt, first_none asked.digits asked.how, ([], refl, is))
+  pub gathered_none : (kept : Accumulator) → IsAccumulated asked.query [] kept → IsGathered asked (Kept kept) []
+  gathered_none kept is = (tt, first_none asked.digits asked.how, ([], refl, is))
+
+  -- whatever is kept behind other features by the one is what is kept by the other
+  abbrev Replaces : Feature → Feature → Type 0
+  Replaces read feature = (before : List Feature) (kept : Accumulator) → IsAccumulated asked.query (before ++ read ∷ []) kept → IsAccumulated asked.query (before ++ feature ∷ []) kept
 
   -- of a line that spells a label or none, and a geometry without a fault
-  gathered_line : (at : ℕ) (text : List ℕ) (label : Option (List Character)) (g : Geometry) (part : Part) → IsUtf8 text → SpellsLabelled label g at text → None ≡ first_of (faults_of asked.digits asked.how g)
-      → IsPart asked.query (record { at = at; shape = shape_of asked.digits asked.how g; texts = texts_of label } ∷ []) part → IsGathered asked (Kept part) (record { at = at; text = text } ∷ [])
-  gathered_line at text label g part valid spelled none is = (
-    (valid, tt),
-    first_one asked.digits asked.how (record { at = at; text = text }) (faults_of asked.digits asked.how g) None (inr (label, g, spelled, refl)) none,
-    (
-      record { at = at; shape = shape_of asked.digits asked.how g; texts = texts_of label } ∷ [],
-      (
-        record { at = at; shape = shape_of asked.digits asked.how g; texts = texts_of label },
-        [],
-        refl,
-        record { label = label; geometry = g; spelled = spelled; at = refl; shape = refl; texts = refl },
-        refl,
-      ),
-      is,
-    ),
-  )
+  read_line : (at : ℕ) (text : List ℕ) (label : Option (List Character)) (g : Geometry) (shape : Shape) (texts : List TextPair) → IsUtf8 text → SpellsLabelled label g at text
+      → None ≡ first_of (faults_of asked.digits asked.how g) → shape ≡ shape_of asked.digits asked.how g → IsShapeInRange shape
+      → Replaces (record { at = at; shape = shape; texts = texts }) (record { at = at; shape = shape; texts = texts_of label })
+      → IsLineRead asked (record { at = at; text = text }) (record { at = at; shape = shape; texts = texts })
+  read_line at text label g shape texts valid spelled none shape_is range keeps = record {
+    in_range = range;
+    valid = valid;
+    faultless = first_one asked.digits asked.how (record { at = at; text = text }) (faults_of asked.digits asked.how g) None (inr (label, g, spelled, refl)) none;
+    feature = record { at = at; shape = shape; texts = texts_of label };
+    is_feature = record { label = label; geometry = g; spelled = spelled; at = refl; shape = shape_is; texts = refl };
+    keeps = keeps;
+  }
 
-  gathered_plain : (at : ℕ) (text : List ℕ) (shape : Shape) (texts : List TextPair) (part : Part) → HasLineShape asked.digits asked.how at text shape → texts ≡ []
-      → IsPart asked.query (record { at = at; shape = shape; texts = texts } ∷ []) part → IsGathered asked (Kept part) (record { at = at; text = text } ∷ [])
-  gathered_plain at text shape texts part h none is =
-      let P : Shape → Type 0 = λ s. IsPart asked.query (record { at = at; shape = s; texts = texts } ∷ []) part in
-      let Q : List TextPair → Type 0 = λ ts. IsPart asked.query (record { at = at; shape = shape_of asked.digits asked.how h.geometry; texts = ts } ∷ []) part in
-      gathered_line at text None h.geometry part (plain_valid at text (h.geometry, h.spelled)) h.spelled h.fault_is (subst Q none (subst P h.shape_is is))
+  read_plain : (at : ℕ) (text : List ℕ) (shape : Shape) (texts : List TextPair) → HasLineShape asked.digits asked.how at text shape → IsShapeInRange shape → texts ≡ []
+      → IsLineRead asked (record { at = at; text = text }) (record { at = at; shape = shape; texts = texts })
+  read_plain at text shape texts h range none =
+      read_line at text None h.geometry shape texts (plain_valid at text (h.geometry, h.spelled)) h.spelled h.fault_is h.shape_is range
+      (λ before kept is. subst (λ ts. IsAccumulated asked.query (before ++ record { at = at; shape = shape; texts = ts } ∷ []) kept) none is)
 
   -- of a line with a label, of which only the texts that are asked for are kept
-  gathered_labelled : (at : ℕ) (text : List ℕ) (quote end : ℕ) (shape : Shape) (texts : List TextPair) (part : Part) → LabelStands text quote end → IsUtf8 (part_of text quote end)
-      → HasLineShape asked.digits asked.how (at + end) (drop end text) shape → AreKeptTexts asked.query.tests (part_of text quote end) texts
-      → IsPart asked.query (record { at = at; shape = shape; texts = texts } ∷ []) part → IsGathered asked (Kept part) (record { at = at; text = text } ∷ [])
-  gathered_labelled at text quote end shape texts part label valid h kept is =
+  read_labelled : (at : ℕ) (text : List ℕ) (quote end : ℕ) (shape : Shape) (texts : List TextPair) → LabelStands text quote end → IsUtf8 (part_of text quote end)
+      → HasLineShape asked.digits asked.how (at + end) (drop end text) shape → IsShapeInRange shape → AreKeptTexts asked.query.tests (part_of text quote end) texts
+      → IsLineRead asked (record { at = at; text = text }) (record { at = at; shape = shape; texts = texts })
+  read_labelled at text quote end shape texts label valid h range kept =
       let (cs, are, same) = label.string in
-      let P : Shape → Type 0 = λ s. IsPart asked.query (record { at = at; shape = s; texts = texts } ∷ []) part in
       let behind : IsUtf8 (drop end text) = plain_valid (at + end) (drop end text) (h.geometry, h.spelled) in
       let front : IsUtf8 (take quote text) = blanks_valid (take quote text) label.begins.blanks in
       let whole : IsUtf8 text = subst IsUtf8 (sym (label_front at text quote end label)) (IsUtf8-append (take quote text) (part_of text quote end ++ drop end text) front (IsUtf8-append (part_of text quote end) (drop end text) valid behind)) in
-      gathered_line at text (Some cs) h.geometry part whole (label_spelled at text quote end label cs (are, same) h.geometry h.spelled) h.fault_is
-      (kept_label asked.query at (shape_of asked.digits asked.how h.geometry) cs texts part (kept cs are same) (subst P h.shape_is is))
+      read_line at text (Some cs) h.geometry shape texts whole (label_spelled at text quote end label cs (are, same) h.geometry h.spelled) h.fault_is h.shape_is range
+      (λ before acc is. kept_label asked.query at shape cs before texts acc (kept cs are same) is)
 
   -- ---- faults
 
@@ -133,12 +134,12 @@ module _ (asked : Asked) where
       (inr (Some cs, h.geometry, label_spelled at text quote end label cs (are, same) h.geometry h.spelled, refl)) h.fault_is
 
   -- of a line that is read behind what it begins with
-  gathered_front : (at : ℕ) (text label : List ℕ) (end : ℕ) (shape : Shape) (texts : List TextPair) (part : Part) → HasFront text label end → HasLineShape asked.digits asked.how (at + end) (drop end text) shape
-      → AreFrontTexts asked.query.tests label texts → IsPart asked.query (record { at = at; shape = shape; texts = texts } ∷ []) part → IsGathered asked (Kept part) (record { at = at; text = text } ∷ [])
-  gathered_front at text label end shape texts part (inl (none, empty, begin)) h kept is =
-      gathered_plain at text shape texts part (at_begin (λ i w. HasLineShape asked.digits asked.how i w shape) at text end begin h) (kept.0 empty) is
-  gathered_front at text label end shape texts part (inr (quote, stands, valid, same)) h kept is =
-      gathered_labelled at text quote end shape texts part stands (subst IsUtf8 same valid) h (subst (λ w. AreKeptTexts asked.query.tests w texts) same (kept.1 (subst JsonString (sym same) stands.string))) is
+  read_front : (at : ℕ) (text label : List ℕ) (end : ℕ) (shape : Shape) (texts : List TextPair) → HasFront text label end → HasLineShape asked.digits asked.how (at + end) (drop end text) shape → IsShapeInRange shape
+      → AreFrontTexts asked.query.tests label texts → IsLineRead asked (record { at = at; text = text }) (record { at = at; shape = shape; texts = texts })
+  read_front at text label end shape texts (inl (none, empty, begin)) h range kept =
+      read_plain at text shape texts (at_begin (λ i w. HasLineShape asked.digits asked.how i w shape) at text end begin h) range (kept.0 empty)
+  read_front at text label end shape texts (inr (quote, stands, valid, same)) h range kept =
+      read_labelled at text quote end shape texts stands (subst IsUtf8 same valid) h range (subst (λ w. AreKeptTexts asked.query.tests w texts) same (kept.1 (subst JsonString (sym same) stands.string)))
 
   fault_front : (at : ℕ) (text label : List ℕ) (end : ℕ) (fault : Fault) → HasFront text label end → HasFirstLineFault asked.digits asked.how (at + end) (drop end text) fault
       → IsGathered asked (Failed fault) (record { at = at; text = text } ∷ [])
@@ -147,15 +148,19 @@ module _ (asked : Asked) where
 
   -- ---- a line that is only counted
 
-  count_part : (f : Feature) → CountsAll asked.query → IsPart asked.query (f ∷ []) (Count 1)
-  count_part f (is_count, no_tests) =
+  count_kept : (f : Feature) → CountsAll asked.query → IsAccumulated asked.query (f ∷ []) (APart (Count 1))
+  count_kept f (is_count, no_tests) =
       let P : List Test → Type 0 = λ tests. AllByRecursion (λ t. TestHolds t f) tests in
-      let Q : Verb → Type 0 = λ verb. IsKeptOf verb (f ∷ []) (Count 1) in
-      (f ∷ [], inl (subst P (sym no_tests) tt, ([], refl, refl)), subst Q (sym is_count) refl)
+      let Q : Verb → Type 0 = λ verb. IsKeptIn verb (f ∷ []) (APart (Count 1)) in
+      (f ∷ [], inl (subst P (sym no_tests) tt, ([], refl, refl)), subst Q (sym is_count) ((λ e. absurd (cc)), refl))
+
+  -- what is kept of a line that is read
+  gathered_read : (line : FileLine) (read : Feature) (kept : Accumulator) → IsLineRead asked line read → IsAccumulated asked.query (read ∷ []) kept → IsGathered asked (Kept kept) (line ∷ [])
+  gathered_read line read kept is acc = ((is.valid, tt), is.faultless, (is.feature ∷ [], (is.feature, [], refl, is.is_feature, refl), is.keeps [] kept acc))
 
   -- without a fault, and with the fault that is gathered
-  counted_none : (line : FileLine) → (f : Feature) → (CountsAll asked.query → IsGathered asked (Kept (Count 1)) (line ∷ [])) → IsChecked asked line None
-  counted_none line f h counts = ((f ∷ [], count_part f counts), h counts)
+  counted_none : (line : FileLine) (read : Feature) → (CountsAll asked.query → IsLineRead asked line read) → IsChecked asked line None
+  counted_none line read h counts = ((read ∷ [], count_kept read counts), gathered_read line read (APart (Count 1)) (h counts) (count_kept read counts))
 
   pub counted_some : (line : FileLine) (fault : Fault) → IsGathered asked (Failed fault) (line ∷ []) → IsChecked asked line (Some fault)
   counted_some line fault h counts = (tt, h)
@@ -164,7 +169,7 @@ module _ (asked : Asked) where
       → IsChecked asked (record { at = at; text = text }) found
   checked_front at text label end None front (shape, has) =
       counted_none (record { at = at; text = text }) (record { at = at; shape = shape; texts = [] })
-      (λ counts. gathered_front at text label end shape [] (Count 1) front has (λ _. refl, λ string cs are same. none_asked counts cs) (count_part (record { at = at; shape = shape; texts = [] }) counts)) where
+      (λ counts. read_front at text label end shape [] front has (line_in_range asked.digits asked.how (at + end) (drop end text) shape has) (λ _. refl, λ string cs are same. none_asked counts cs)) where
         none_asked : CountsAll asked.query → (cs : List Character) → [] ≡ (if list_any asks_label asked.query.tests then texts_of (Some cs) else [])
         none_asked counts cs = let P : List Test → Type 0 = λ tests. [] ≡ (if list_any asks_label tests then texts_of (Some cs) else []) in subst P (sym counts.1) refl
   checked_front at text label end (Some fault) front h = counted_some (record { at = at; text = text }) fault (fault_front at text label end fault front h)
@@ -175,10 +180,11 @@ module _ (asked : Asked) where
     read_there : (P : ℕ → List ℕ → Type 0) → P line.at (take line.len line.ahead.now) → P (at + is.end) (drop is.end (take len ahead))
     read_there P h = subst (λ i. P i (drop is.end (take len ahead))) is.place (subst (P line.at) is.text h)
 
-    pub read_shape : (shape : Shape) (texts : List TextPair) (part : Part) → HasLineShape asked.digits asked.how line.at (take line.len line.ahead.now) shape → AreFrontTexts asked.query.tests line.label.now texts
-        → IsPart asked.query (record { at = at; shape = shape; texts = texts } ∷ []) part → IsGathered asked (Kept part) (record { at = at; text = take len ahead } ∷ [])
-    read_shape shape texts part h kept said =
-        gathered_front at (take len ahead) line.label.now is.end shape texts part is.front (read_there (λ i w. HasLineShape asked.digits asked.how i w shape) h) kept said
+    pub read_shape : (shape : Shape) (texts : List TextPair) → HasLineShape asked.digits asked.how line.at (take line.len line.ahead.now) shape → AreFrontTexts asked.query.tests line.label.now texts
+        → IsLineRead asked (record { at = at; text = take len ahead }) (record { at = at; shape = shape; texts = texts })
+    read_shape shape texts h kept =
+        let has = read_there (λ i w. HasLineShape asked.digits asked.how i w shape) h in
+        read_front at (take len ahead) line.label.now is.end shape texts is.front has (line_in_range asked.digits asked.how (at + is.end) (drop is.end (take len ahead)) shape has) kept
 
     pub read_fault : (fault : Fault) → HasFirstLineFault asked.digits asked.how line.at (take line.len line.ahead.now) fault → IsGathered asked (Failed fault) (record { at = at; text = take len ahead } ∷ [])
     read_fault fault h = fault_front at (take len ahead) line.label.now is.end fault is.front (read_there (λ i w. HasFirstLineFault asked.digits asked.how i w fault) h)
@@ -189,39 +195,39 @@ module _ (asked : Asked) where
   -- ---- joined lines
 
   pub own_are_joinable : (left right : Gathered) → IsOwn asked left → IsOwn asked right → AreJoinable left right
-  own_are_joinable (Kept a) (Kept b) (fs, h) (gs, k) = parts_are_alike asked.query fs gs a b h k
+  own_are_joinable (Kept a) (Kept b) (fs, h) (gs, k) = are_of_one_verb asked.query fs gs a b h k
   own_are_joinable (Kept a) (Failed f) h k = tt
   own_are_joinable (Failed f) (Kept b) h k = tt
   own_are_joinable (Failed f) (Failed g) h k = tt
 
-  both_kept : (a b c : Part) (ls ms : List FileLine) → JoinsParts a b c → IsGathered asked (Kept a) ls → IsGathered asked (Kept b) ms → IsGathered asked (Kept c) (ls ++ ms)
+  both_kept : (a b c : Accumulator) (ls ms : List FileLine) → JoinsAccumulators a b c → IsGathered asked (Kept a) ls → IsGathered asked (Kept b) ms → IsGathered asked (Kept c) (ls ++ ms)
   both_kept a b c ls ms joins (v, h, (fs, hf, pa)) (w, k, (gs, kg, pb)) =
       (each_joined IsValidLine ls ms v w, first_joined asked.digits asked.how ls ms None None None h k refl, (fs ++ gs, features_joined asked.digits asked.how ls ms fs gs hf kg, joins asked.query fs gs pa pb))
 
-pub joins_kept : (left : Part) (right : Gathered) (b c : Part) → right ≡ Kept b → JoinsParts left b c → JoinsGathered (Kept left) right (Kept c)
+pub joins_kept : (left : Accumulator) (right : Gathered) (b c : Accumulator) → right ≡ Kept b → JoinsAccumulators left b c → JoinsGathered (Kept left) right (Kept c)
 joins_kept left right b c q joins = rw (q) (λ asked ls ms h k. both_kept asked left b c ls ms joins h k)
 
-pub owns_kept : (left : Part) (right : Gathered) (b c : Part) → right ≡ Kept b → JoinsParts left b c → KeepsOwn (Kept left) right (Kept c)
+pub owns_kept : (left : Accumulator) (right : Gathered) (b c : Accumulator) → right ≡ Kept b → JoinsAccumulators left b c → KeepsOwn (Kept left) right (Kept c)
 owns_kept left right b c q joins = rw (q) (λ asked h k. (h.0 ++ k.0, joins asked.query h.0 k.0 h.1 k.1))
 
-pub joins_right : (left : Part) (right : Gathered) (f : Fault) → right ≡ Failed f → JoinsGathered (Kept left) right (Failed f)
+pub joins_right : (left : Accumulator) (right : Gathered) (f : Fault) → right ≡ Failed f → JoinsGathered (Kept left) right (Failed f)
 joins_right left right f q = rw (q) (λ asked ls ms h k valid. first_joined asked.digits asked.how ls ms None (Some f) (Some f) h.1 (k (each_behind IsValidLine ls ms valid)) refl)
 
-pub joins_left : (f : Fault) (right : Gathered) (b : Part) → right ≡ Kept b → JoinsGathered (Failed f) right (Failed f)
+pub joins_left : (f : Fault) (right : Gathered) (b : Accumulator) → right ≡ Kept b → JoinsGathered (Failed f) right (Failed f)
 joins_left f right b q = rw (q) (λ asked ls ms h k valid. first_joined asked.digits asked.how ls ms (Some f) None (Some f) (h (each_before IsValidLine ls ms valid)) k.1 refl)
 
 pub joins_failed : (f : Fault) (right : Gathered) (g first : Fault) → right ≡ Failed g → Some first ≡ first_fault (Some f) (Some g) → JoinsGathered (Failed f) right (Failed first)
 joins_failed f right g first q e = rw (q) (λ asked ls ms h k valid. first_joined asked.digits asked.how ls ms (Some f) (Some g) (Some first) (h (each_before IsValidLine ls ms valid)) (k (each_behind IsValidLine ls ms valid)) e)
 
--- ---- the parts joined, or the first of the faults
+-- ---- what is kept of both, or the first of the faults
 
-pub both_parts : (left : Part) (right : Gathered) (b c : Part) → right ≡ Kept b → JoinsParts left b c → IsJoinOf (Kept left) right (Kept c)
+pub both_parts : (left : Accumulator) (right : Gathered) (b c : Accumulator) → right ≡ Kept b → JoinsAccumulators left b c → IsJoinOf (Kept left) right (Kept c)
 both_parts left right b c e joins = rw (e) (c, refl, joins)
 
-pub right_fault : (left : Part) (right : Gathered) (f : Fault) → right ≡ Failed f → IsJoinOf (Kept left) right (Failed f)
+pub right_fault : (left : Accumulator) (right : Gathered) (f : Fault) → right ≡ Failed f → IsJoinOf (Kept left) right (Failed f)
 right_fault left right f e = rw (e) refl
 
-pub left_fault : (f : Fault) (right : Gathered) (b : Part) → right ≡ Kept b → IsJoinOf (Failed f) right (Failed f)
+pub left_fault : (f : Fault) (right : Gathered) (b : Accumulator) → right ≡ Kept b → IsJoinOf (Failed f) right (Failed f)
 left_fault f right b e = rw (e) refl
 
 pub both_faults : (f : Fault) (right : Gathered) (g first : Fault) → right ≡ Failed g → Some first ≡ first_fault (Some f) (Some g) → IsJoinOf (Failed f) right (Failed first)
@@ -229,33 +235,45 @@ both_faults f right g first e h = rw (e) (first, refl, h)
 
 -- ---- a line that is put behind those before it
 
-pub owns_more : (old : Gathered) (a b c : Part) → old ≡ Kept a → JoinsParts a b c → KeepsOwn old (Kept b) (Kept c)
+pub owns_more : (old : Gathered) (a b c : Accumulator) → old ≡ Kept a → JoinsAccumulators a b c → KeepsOwn old (Kept b) (Kept c)
 owns_more old a b c e joins = rw (e) (owns_kept a (Kept b) b c refl joins)
 
-pub joins_more : (old : Gathered) (a b c : Part) → old ≡ Kept a → JoinsParts a b c → JoinsGathered old (Kept b) (Kept c)
+pub joins_more : (old : Gathered) (a b c : Accumulator) → old ≡ Kept a → JoinsAccumulators a b c → JoinsGathered old (Kept b) (Kept c)
 joins_more old a b c e joins = rw (e) (joins_kept a (Kept b) b c refl joins)
 
-pub stays_failed : (old : Gathered) (f : Fault) (b : Part) → old ≡ Failed f → JoinsGathered old (Kept b) old
+pub stays_failed : (old : Gathered) (f : Fault) (b : Accumulator) → old ≡ Failed f → JoinsGathered old (Kept b) old
 stays_failed old f b e = rw (e) (joins_left f (Kept b) b refl)
 
-pub fails_first : (old : Gathered) (a : Part) (f : Fault) → old ≡ Kept a → JoinsGathered old (Failed f) (Failed f)
+pub fails_first : (old : Gathered) (a : Accumulator) (f : Fault) → old ≡ Kept a → JoinsGathered old (Failed f) (Failed f)
 fails_first old a f e = rw (e) (joins_right a (Failed f) f refl)
 
 pub fails_again : (old : Gathered) (g f first : Fault) → old ≡ Failed g → Some first ≡ first_fault (Some g) (Some f) → JoinsGathered old (Failed f) (Failed first)
 fails_again old g f first e first_is = rw (e) (joins_failed g (Failed f) f first refl first_is)
 
--- ---- what a line's refusal becomes
+-- a feature that is read
+pub owns_feature : (query : Query) (f : Feature) (old new : Gathered) → AddsFeature query f old new → IsOwnOf query old → IsOwnOf query new
+owns_feature query f (Kept old) new (kept, e, adds) (fs, is) = let P : Gathered → Type 0 = IsOwnOf query in subst P (sym e) (fs ++ f ∷ [], adds fs is)
+owns_feature query f (Failed fault) new e h = let P : Gathered → Type 0 = IsOwnOf query in subst P (sym e) tt
 
-pub end_gathered : (asked : Asked) (lines : List FileLine) (end : LineFault) (result : Result Gathered Memory) → IfFound end (λ fault. IsGathered asked (Failed fault) lines) → IsLineEnd end result → IfOk result (λ gathered. IsGathered asked gathered lines)
-end_gathered asked lines (Found fault) result h e = let P : Result Gathered Memory → Type 0 = λ z. IfOk z (λ gathered. IsGathered asked gathered lines) in subst P (sym e) h
-end_gathered asked lines NoMemory (Err e) h is = tt
-end_gathered asked lines NoMemory (Ok gathered) h is = absurd (cc)
+pub adds_feature : (asked : Asked) (line : FileLine) (read : Feature) (old new : Gathered) → IsLineRead asked line read → AddsFeature asked.query read old new
+    → (lines : List FileLine) → IsGathered asked old lines → IsGathered asked new (lines ++ line ∷ [])
+adds_feature asked line read (Kept old) new is (kept, e, adds) lines (v, h, (fs, hf, acc)) =
+    let P : Gathered → Type 0 = λ z. IsGathered asked z (lines ++ line ∷ []) in
+    subst P (sym e) (
+      each_joined IsValidLine lines (line ∷ []) v (is.valid, tt),
+      first_joined asked.digits asked.how lines (line ∷ []) None None None h is.faultless refl,
+      (
+        fs ++ is.feature ∷ [],
+        features_joined asked.digits asked.how lines (line ∷ []) fs (is.feature ∷ []) hf (is.feature, [], refl, is.is_feature, refl),
+        is.keeps fs kept (adds fs acc),
+      ),
+    )
+adds_feature asked line read (Failed fault) new is e lines h =
+    let P : Gathered → Type 0 = λ z. IsGathered asked z (lines ++ line ∷ []) in
+    subst P (sym e) (λ valid. first_joined asked.digits asked.how lines (line ∷ []) (Some fault) None (Some fault) (h (each_before IsValidLine lines (line ∷ []) valid)) is.faultless refl)
+
+-- ---- what a line's refusal becomes
 
 pub found_weaker : (end : LineFault) (P Q : Fault → Type 0) → ((fault : Fault) → P fault → Q fault) → IfFound end P → IfFound end Q
 found_weaker (Found fault) P Q f h = f fault h
 found_weaker NoMemory P Q f h = tt
-
-pub end_owned : (asked : Asked) (end : LineFault) (result : Result Gathered Memory) → IsLineEnd end result → IfOk result (IsOwn asked)
-end_owned asked (Found fault) result e = let P : Result Gathered Memory → Type 0 = λ z. IfOk z (IsOwn asked) in subst P (sym e) tt
-end_owned asked NoMemory (Err e) is = tt
-end_owned asked NoMemory (Ok gathered) is = absurd (cc)

@@ -1,23 +1,22 @@
--- What is kept of the lines of a file as they are read: the part of a query, or the first fault so far.
-use Rattle.std.specs.Prelude.{◌≡◌, ℕ, List, [], ◌∷◌, ◌++◌, Option, Some, None, Result, Ok, IsErr}
+-- What is kept of the lines of a file as they are read: what a query keeps of their features, or the first fault so far.
+use Rattle.std.specs.Prelude.{◌≡◌, ℕ, List, [], ◌∷◌, ◌++◌, Option, Some, None}
 use Rattle.std.specs.List.{AllByRecursion}
 use Rattle.std.specs.Str.{IsUtf8}
 use Rattle.at_text.specs.declared.faults.Fault.{Fault}
-use Rattle.at_text.specs.declared.memory.Memory.{Memory}
 use Rattle.at_text.specs.Faults.{first_fault, first_of}
 use Rattle.at_fixed.specs.declared.rounding.Coords.{Coords}
-use Rattle.at_wkt.specs.declared.answers.LineFault.{LineFault}
-use Rattle.at_wkt.specs.declared.answers.LineFault.TheVariants as ends
 use Rattle.at_wkt.specs.Lines.{FileLine}
 use Rattle.at_query.specs.declared.queries.Query.{Query}
 use Rattle.at_query.specs.declared.features.Feature.{Feature}
 use Rattle.at_query.specs.declared.queries.Verb.TheVariants as verbs
-use Rattle.at_query.specs.declared.parts.Part.{Part}
 use Rattle.at_query.specs.declared.parts.Part.TheVariants.{Count}
-use Rattle.at_query.specs.Parts.{IsPart, AreAlike, JoinsParts}
+use Rattle.at_query.specs.declared.accumulators.Accumulator.{Accumulator}
+use Rattle.at_query.specs.declared.accumulators.Accumulator.TheVariants.{Part}
+use Rattle.at_query.specs.Ranges.{IsFeatureInRange}
+use Rattle.at_query.specs.Accumulators.{IsAccumulated, AreOfOneVerb, JoinsAccumulators}
 use Rattle.at_run.specs.declared.gathered.Gathered.{Gathered}
 use Rattle.at_run.specs.declared.gathered.Gathered.TheVariants.{Kept, Failed}
-use Rattle.at_run.specs.Features.{AreLineFeatures}
+use Rattle.at_run.specs.Features.{IsLineFeature, AreLineFeatures}
 use Rattle.at_run.specs.LineFaults.{HaveFaults}
 
 -- a query, and how the numbers of the lines are read
@@ -33,22 +32,25 @@ pub record IsFirstOfLines (digits : ℕ) (how : Coords) (lines : List FileLine) 
   pub first_is : first ≡ first_of faults
   pub only : (others : List Fault) → HaveFaults digits how lines others → first_of others ≡ first
 
--- the part of the lines' features
-abbrev pub IsLinesPart : Asked → List FileLine → Part → Type 0
-IsLinesPart asked lines part = (features : List Feature) × AreLineFeatures asked.digits asked.how lines features × IsPart asked.query features part
+-- what the query keeps of the lines' features
+abbrev pub IsKeptOfLines : Asked → List FileLine → Accumulator → Type 0
+IsKeptOfLines asked lines kept = (features : List Feature) × AreLineFeatures asked.digits asked.how lines features × IsAccumulated asked.query features kept
 
--- the part of some features, or a fault
+-- what the query keeps of some features, or a fault
+abbrev pub IsOwnOf : Query → Gathered → Type 0
+IsOwnOf query (Kept kept) = (features : List Feature) × IsAccumulated query features kept
+IsOwnOf query (Failed fault) = Unit {0}
+
 abbrev pub IsOwn : Asked → Gathered → Type 0
-IsOwn asked (Kept part) = (features : List Feature) × IsPart asked.query features part
-IsOwn asked (Failed fault) = Unit {0}
+IsOwn asked gathered = IsOwnOf asked.query gathered
 
 -- the text of each line is UTF-8 (RFC 3629)
 abbrev pub AreValid : List FileLine → Type 0
 AreValid lines = AllByRecursion (λ (l : FileLine). IsUtf8 l.text) lines
 
--- the lines are UTF-8, none of them has a fault, and the part is that of their features; or, where they are UTF-8, this is the first of their faults
+-- the lines are UTF-8, none of them has a fault, and this is kept of their features; or, where they are UTF-8, this is the first of their faults
 abbrev pub IsGathered : Asked → Gathered → List FileLine → Type 0
-IsGathered asked (Kept part) lines = AreValid lines × IsFirstOfLines asked.digits asked.how lines None × IsLinesPart asked lines part
+IsGathered asked (Kept kept) lines = AreValid lines × IsFirstOfLines asked.digits asked.how lines None × IsKeptOfLines asked lines kept
 IsGathered asked (Failed fault) lines = AreValid lines → IsFirstOfLines asked.digits asked.how lines (Some fault)
 
 -- nothing but the count of all features is asked for
@@ -57,17 +59,17 @@ CountsAll query = (query.verb ≡ verbs.Count) × (query.tests ≡ [])
 
 -- what is then kept of a line with this first fault, or with none
 abbrev pub counted_of : Option Fault → Gathered
-counted_of None = Kept (Count 1)
+counted_of None = Kept (Part (Count 1))
 counted_of (Some fault) = Failed fault
 
--- where both are parts, they are of one verb
+-- where neither is a fault, both are of one verb
 abbrev pub AreJoinable : Gathered → Gathered → Type 0
-AreJoinable (Kept left) (Kept right) = AreAlike left right
+AreJoinable (Kept left) (Kept right) = AreOfOneVerb left right
 AreJoinable _ _ = Unit {0}
 
--- the parts joined, or the first of the faults; a part beside a fault is let go
+-- what is kept of both, or the first of the faults; what is kept beside a fault is let go
 abbrev pub IsJoinOf : Gathered → Gathered → Gathered → Type 0
-IsJoinOf (Kept left) (Kept right) both = (part : Part) × (both ≡ Kept part) × JoinsParts left right part
+IsJoinOf (Kept left) (Kept right) both = (kept : Accumulator) × (both ≡ Kept kept) × JoinsAccumulators left right kept
 IsJoinOf (Kept left) (Failed fault) both = both ≡ Failed fault
 IsJoinOf (Failed fault) (Kept right) both = both ≡ Failed fault
 IsJoinOf (Failed left) (Failed right) both = (fault : Fault) × (both ≡ Failed fault) × (Some fault ≡ first_fault (Some left) (Some right))
@@ -84,7 +86,16 @@ KeepsOwn left right both = (asked : Asked) → IsOwn asked left → IsOwn asked 
 abbrev pub IsChecked : Asked → FileLine → Option Fault → Type 0
 IsChecked asked line found = CountsAll asked.query → IsOwn asked (counted_of found) × IsGathered asked (counted_of found) (line ∷ [])
 
--- what is gathered of a line that has no shape
-abbrev pub IsLineEnd : LineFault → Result Gathered Memory → Type 0
-IsLineEnd (ends.Found fault) result = result ≡ Ok (Failed fault)
-IsLineEnd ends.Memory result = IsErr result
+-- what is read of a line without a fault: whatever is kept behind other features by what is read is what is kept by the line's feature
+pub record IsLineRead (asked : Asked) (line : FileLine) (read : Feature) : Type 0 where
+  pub in_range : IsFeatureInRange read
+  pub valid : IsUtf8 line.text
+  pub faultless : IsFirstOfLines asked.digits asked.how (line ∷ []) None
+  pub feature : Feature
+  pub is_feature : IsLineFeature asked.digits asked.how line feature
+  pub keeps : (before : List Feature) (kept : Accumulator) → IsAccumulated asked.query (before ++ read ∷ []) kept → IsAccumulated asked.query (before ++ feature ∷ []) kept
+
+-- the feature is put behind those of which the one is kept; a fault stays as it is
+abbrev pub AddsFeature : Query → Feature → Gathered → Gathered → Type 0
+AddsFeature query feature (Kept old) new = (kept : Accumulator) × (new ≡ Kept kept) × ((fs : List Feature) → IsAccumulated query fs old → IsAccumulated query (fs ++ feature ∷ []) kept)
+AddsFeature query feature (Failed fault) new = new ≡ Failed fault

@@ -1,17 +1,20 @@
 ghost use Rattle.std.specs.Prelude.{◌≡◌, Some, IfOk};
 ghost use Rattle.at_text.specs.Faults.{first_fault as the_first};
+ghost use Rattle.at_text.specs.declared.faults.Fault.{Fault};
+ghost use Rattle.at_query.specs.Ranges.{IsQueryInRange, IsFeatureInRange};
 ghost use Rattle.at_query.specs.Parts.{AreAlike, JoinsParts};
-ghost use Rattle.at_run.specs.Gathering.{counted_of, AreJoinable, IsJoinOf, JoinsGathered, KeepsOwn, IsLineEnd};
+ghost use Rattle.at_query.specs.Accumulators.{AreOfOneVerb, JoinsAccumulators};
+ghost use Rattle.at_run.specs.Gathering.{counted_of, IsOwnOf, AddsFeature, AreJoinable, IsJoinOf, JoinsGathered, KeepsOwn};
 
-use at_query::{Part, part_merge};
+use at_query::{Accumulator, Feature, Part, Query};
 use at_text::{Fault, Memory, first_fault};
 use at_wkt::LineFault;
 use std::mem;
 
-/// What is kept of lines, or of records: the part of their features, or their first fault.
+/// What is kept of lines, or of records: what a query keeps of their features, or their first fault.
 #[derive(Drop)]
 pub enum Gathered {
-    Kept(Part),
+    Kept(Accumulator),
     Failed(Fault),
 }
 
@@ -25,15 +28,25 @@ fn first_of_two(left: Fault, right: Fault) -> Fault
     }
 }
 
-/// The part, and what is kept of the lines behind its own.
-fn joined_part(left: Part, right: Gathered) -> Result<Gathered, Memory>
+/// What is kept of the features of the one and, behind them, of the other.
+fn joined_kept(left: Accumulator, right: Accumulator) -> Result<Accumulator, Memory>
+    requires { AreOfOneVerb left right }
+    ensures { IfOk result (JoinsAccumulators left right) }
+{
+    let mut both = left;
+    both.join(right)?;
+    Ok(both)
+}
+
+/// What is kept of features, and of the lines behind theirs.
+fn joined_part(left: Accumulator, right: Gathered) -> Result<Gathered, Memory>
     requires { AreJoinable (Gathered.Kept left) right }
     ensures own { IfOk result (KeepsOwn (Gathered.Kept left) right) }
     ensures joins { IfOk result (JoinsGathered (Gathered.Kept left) right) }
     ensures both { IfOk result (IsJoinOf (Gathered.Kept left) right) }
 {
     match right {
-        Gathered::Kept(right) => Ok(Gathered::Kept(part_merge(left, right)?)),
+        Gathered::Kept(right) => Ok(Gathered::Kept(joined_kept(left, right)?)),
         Gathered::Failed(fault) => Ok(Gathered::Failed(fault)),
     }
 }
@@ -49,8 +62,8 @@ fn joined_fault(left: Fault, right: Gathered) -> Fault
     }
 }
 
-/// What is kept of the lines of the one and, behind them, of the other. Parts are moved, and a part beside a fault is let
-/// go. The one refusal is want of memory.
+/// What is kept of the lines of the one and, behind them, of the other. What is kept beside a fault is let go. The one
+/// refusal is want of memory.
 pub fn joined(left: Gathered, right: Gathered) -> Result<Gathered, Memory>
     requires { AreJoinable left right }
     ensures own { IfOk result (KeepsOwn left right) }
@@ -58,7 +71,7 @@ pub fn joined(left: Gathered, right: Gathered) -> Result<Gathered, Memory>
     ensures both { IfOk result (IsJoinOf left right) }
 {
     match left {
-        Gathered::Kept(part) => joined_part(part, right),
+        Gathered::Kept(left) => joined_part(left, right),
         Gathered::Failed(fault) => Ok(Gathered::Failed(joined_fault(fault, right))),
     }
 }
@@ -71,13 +84,13 @@ pub fn join_into(gathered: &mut Gathered, behind: Gathered) -> Result<(), Memory
     ensures joins { IfOk result (λ _. JoinsGathered gathered.old behind gathered.new) }
     ensures both { IfOk result (λ _. IsJoinOf gathered.old behind gathered.new) }
 {
-    let before = mem::replace(gathered, Gathered::Kept(Part::Count(0)));
+    let before = mem::replace(gathered, Gathered::Kept(Accumulator::Part(Part::Count(0))));
     *gathered = joined(before, behind)?;
     Ok(())
 }
 
 /// Counts one more feature.
-fn count_one(part: &mut Part)
+fn count_in(part: &mut Part)
     requires { AreAlike part.old (Part.Count 1) }
     ensures { JoinsParts part.old (Part.Count 1) part.new }
 {
@@ -87,20 +100,31 @@ fn count_one(part: &mut Part)
     }
 }
 
+/// Counts one more feature in what is kept.
+fn count_one(kept: &mut Accumulator)
+    requires { AreOfOneVerb kept.old (Accumulator.Part (Part.Count 1)) }
+    ensures { JoinsAccumulators kept.old (Accumulator.Part (Part.Count 1)) kept.new }
+{
+    match kept {
+        Accumulator::Part(part) => count_in(part),
+        Accumulator::Hull(_) => unreachable!(),
+    }
+}
+
 /// Counts one more line without a fault.
 fn count_shape(gathered: &mut Gathered)
-    requires { AreJoinable gathered.old (Gathered.Kept (Part.Count 1)) }
-    ensures own { KeepsOwn gathered.old (Gathered.Kept (Part.Count 1)) gathered.new }
-    ensures joins { JoinsGathered gathered.old (Gathered.Kept (Part.Count 1)) gathered.new }
+    requires { AreJoinable gathered.old (Gathered.Kept (Accumulator.Part (Part.Count 1))) }
+    ensures own { KeepsOwn gathered.old (Gathered.Kept (Accumulator.Part (Part.Count 1))) gathered.new }
+    ensures joins { JoinsGathered gathered.old (Gathered.Kept (Accumulator.Part (Part.Count 1))) gathered.new }
 {
     match gathered {
-        Gathered::Kept(part) => count_one(part),
+        Gathered::Kept(kept) => count_one(kept),
         Gathered::Failed(_) => {}
     }
 }
 
 /// Keeps the first of the fault of one more line and of what was kept before.
-fn count_fault(gathered: &mut Gathered, fault: Fault)
+pub fn add_fault(gathered: &mut Gathered, fault: Fault)
     ensures own { KeepsOwn gathered.old (Gathered.Failed fault) gathered.new }
     ensures joins { JoinsGathered gathered.old (Gathered.Failed fault) gathered.new }
 {
@@ -119,16 +143,33 @@ pub fn count_line(gathered: &mut Gathered, fault: Option<Fault>)
 {
     match fault {
         None => count_shape(gathered),
-        Some(fault) => count_fault(gathered, fault),
+        Some(fault) => add_fault(gathered, fault),
     }
 }
 
-/// What is kept of a line that has no shape.
-pub fn kept_of_end(end: LineFault) -> Result<Gathered, Memory>
-    ensures { IsLineEnd end result }
+/// Puts a line that has no shape behind those before it.
+pub fn add_end(gathered: &mut Gathered, end: LineFault) -> Result<(), Memory>
+    ensures { IfOk result (λ _. (fault : Fault) × (end ≡ LineFault.Found fault)
+        × KeepsOwn gathered.old (Gathered.Failed fault) gathered.new × JoinsGathered gathered.old (Gathered.Failed fault) gathered.new) }
 {
     match end {
-        LineFault::Found(fault) => Ok(Gathered::Failed(fault)),
+        LineFault::Found(fault) => {
+            add_fault(gathered, fault);
+            Ok(())
+        }
         LineFault::Memory => Err(Memory),
+    }
+}
+
+/// Puts a feature behind those of the lines before its own.
+pub fn add_feature(gathered: &mut Gathered, query: &Query, feature: Feature) -> Result<(), Memory>
+    requires query_in_range { IsQueryInRange query.now }
+    requires feature_in_range { IsFeatureInRange feature }
+    requires own { IsOwnOf query.now gathered.old }
+    ensures { IfOk result (λ _. AddsFeature query.now feature gathered.old gathered.new) }
+{
+    match gathered {
+        Gathered::Kept(kept) => kept.add(query, feature),
+        Gathered::Failed(_) => Ok(()),
     }
 }

@@ -1,7 +1,11 @@
-ghost use Rattle.std.specs.Prelude.{◌≡◌, ◌≤◌, ◌^◌, length, drop, MatchResult, Some};
+ghost use Rattle.std.specs.Prelude.{◌≡◌, ◌≤◌, ◌^◌, List, length, drop, MatchResult, Some};
 ghost use Rattle.at_text.specs.Texts.{base_of as text_begin};
 ghost use Rattle.at_wkt.specs.Folding.{Kept, StandsFor};
 ghost use Rattle.at_wkt.specs.Lines.{lines_of};
+ghost use Rattle.at_query.specs.Parts.{IsPart};
+ghost use Rattle.at_query.specs.Accumulators.{IsAccumulated};
+ghost use Rattle.at_query.specs.declared.queries.Query.{Query};
+ghost use Rattle.at_query.specs.declared.features.Feature.{Feature};
 ghost use Rattle.at_run.specs.declared.forms.Form.TheVariants.{Wkt};
 ghost use Rattle.at_run.specs.Gathering.{Asked, IsOwn, IsGathered};
 ghost use Rattle.at_run.specs.Files.{HasFileFaultIn};
@@ -10,10 +14,20 @@ ghost use Rattle.at_run.specs.Answers.{IfFound, IsFilePart};
 use crate::faults::RunFault;
 use crate::gathered::Gathered;
 use crate::line_queries::LineQuery;
-use at_query::Part;
+use at_query::{Accumulator, Part};
 use at_text::utf8_fault;
 use at_wkt::{LineFragment, finish_lines};
 use std::alloc::Global;
+
+/// The part of the features of which this is kept.
+fn part_of_kept(kept: Accumulator) -> Result<Part, RunFault>
+    ensures { MatchResult result (λ part. (query : Query) (fs : List Feature) → IsAccumulated query fs kept → IsPart query fs part) (λ end. end ≡ RunFault.Memory) }
+{
+    match kept.into_part() {
+        Ok(part) => Ok(part),
+        Err(_) => Err(RunFault::Memory),
+    }
+}
 
 /// The part of a file's lines, or the file's first fault.
 ///
@@ -26,7 +40,7 @@ fn end_of(bytes: &[u8], gathered: Gathered) -> Result<Part, RunFault>
         (λ end. IfFound end (λ fault. HasFileFaultIn Wkt asked.digits asked.how bytes.now (Some fault))) }
 {
     match gathered {
-        Gathered::Kept(part) => Ok(part),
+        Gathered::Kept(kept) => part_of_kept(kept),
         Gathered::Failed(fault) => Err(RunFault::Found(utf8_fault(bytes).unwrap_or(fault))),
     }
 }

@@ -1,16 +1,15 @@
-ghost use Rattle.std.specs.Prelude.{◌≡◌, ◌+◌, ◌≤◌, ◌^◌, length, take, ◌∷◌, [], IsTrue, IfOk};
-ghost use Rattle.at_geom.specs.Shapes.{IsShapeInRange};
+ghost use Rattle.std.specs.Prelude.{◌≡◌, ◌+◌, ◌≤◌, ◌^◌, length, take, ◌∷◌, [], IsTrue, IfOk, MatchResult};
+ghost use Rattle.at_wkt.specs.Answers.{IfFound};
+ghost use Rattle.at_wkt.specs.Folding.{AddsLines};
 ghost use Rattle.at_query.specs.Ranges.{IsQueryInRange};
-ghost use Rattle.at_query.specs.Parts.{IsPart};
-ghost use Rattle.at_run.specs.Gathering.{Asked, CountsAll, IsOwn, IsGathered, IsChecked};
+ghost use Rattle.at_run.specs.Gathering.{Asked, CountsAll, IsOwn, IsGathered, IsChecked, IsLineRead};
 
-use crate::gathered::{Gathered, count_line, join_into, joined, kept_of_end};
+use crate::gathered::{Gathered, add_end, add_feature, count_line, joined};
 use crate::labels::{behind_label, front_texts};
 use at_fixed::Coords;
-use at_geom::Shape;
-use at_query::{Feature, Part, Query, TextPairs, Verb, part_none, part_of};
+use at_query::{Accumulator, Feature, Query, Verb};
 use at_text::{Fault, Memory};
-use at_wkt::{Fold, Room, read_line};
+use at_wkt::{Fold, LineFault, Room, read_line};
 use std::alloc::Global;
 use std::marker::Model;
 
@@ -39,18 +38,44 @@ impl<'a> LineQuery<'a> {
         LineQuery { query, digits, how }
     }
 
-    /// The part of a line of this shape and these texts, which begins at the offset.
-    fn part_at(
+    /// What is read of a line, which begins at the offset. Its label is kept only where a test asks for labels.
+    fn feature(&self, alloc: Global, text: &[u8], at: u32) -> Result<Feature, LineFault>
+        requires { at + length text.now ≤ 2 ^ 28 }
+        ensures { MatchResult result (IsLineRead self.now (record { at = at; text = text.now }))
+            (λ end. IfFound end (λ fault. IsGathered self.now (Gathered.Failed fault) (record { at = at; text = text.now } ∷ []))) }
+    {
+        let line = match behind_label(text, text.len(), at) {
+            Ok(line) => line,
+            Err(fault) => return Err(LineFault::Found(fault)),
+        };
+        let texts = front_texts(alloc, line.label, self.query.tests.as_slice())?;
+        let shape = read_line(
+            alloc,
+            &line.ahead[..line.len],
+            line.at,
+            self.digits,
+            self.how,
+        )?;
+        Ok(Feature { at, shape, texts })
+    }
+
+    /// Puts a line behind those before it.
+    fn add_line(
         &self,
         alloc: Global,
+        gathered: &mut Gathered,
+        text: &[u8],
         at: u32,
-        shape: Shape,
-        texts: TextPairs,
-    ) -> Result<Part, Memory>
-        requires { IsShapeInRange shape }
-        ensures { IfOk result (IsPart self.now.query (record { at = at; shape = shape; texts = texts } ∷ [])) }
+    ) -> Result<(), Memory>
+        requires own { IsOwn self.now gathered.old }
+        requires short { at + length text.now ≤ 2 ^ 28 }
+        ensures own { IfOk result (λ _. IsOwn self.now gathered.new) }
+        ensures fold { IfOk result (λ _. AddsLines (IsGathered self.now) gathered.old (record { at = at; text = text.now } ∷ []) gathered.new) }
     {
-        part_of(alloc, self.query, Feature { at, shape, texts })
+        match self.feature(alloc, text, at) {
+            Ok(feature) => add_feature(gathered, self.query, feature),
+            Err(end) => add_end(gathered, end),
+        }
     }
 
     /// Whether nothing but the count of all features is asked for.
@@ -96,25 +121,13 @@ impl<'a> Fold for LineQuery<'a> {
     ghost is_fold = { λ asked gathered lines. IsGathered asked gathered lines };
 
     fn none(&self, alloc: Global) -> Gathered {
-        Gathered::Kept(part_none(alloc, self.query))
+        Gathered::Kept(Accumulator::none(alloc, self.query))
     }
 
     fn line(&self, alloc: Global, text: &[u8], at: u32) -> Result<Gathered, Memory> {
-        let line = match behind_label(text, text.len(), at) {
-            Ok(line) => line,
-            Err(fault) => return Ok(Gathered::Failed(fault)),
-        };
-        let texts = front_texts(alloc, line.label, self.query.tests.as_slice())?;
-        match read_line(
-            alloc,
-            &line.ahead[..line.len],
-            line.at,
-            self.digits,
-            self.how,
-        ) {
-            Ok(shape) => Ok(Gathered::Kept(self.part_at(alloc, at, shape, texts)?)),
-            Err(refusal) => kept_of_end(refusal),
-        }
+        let mut one = self.none(alloc);
+        self.add_line(alloc, &mut one, text, at)?;
+        Ok(one)
     }
 
     fn join(&self, _alloc: Global, left: Gathered, right: Gathered) -> Result<Gathered, Memory> {
@@ -135,9 +148,7 @@ impl<'a> Fold for LineQuery<'a> {
             count_line(part, fault);
             Ok(())
         } else {
-            let one = self.line(alloc, &ahead[..len], at)?;
-            join_into(part, one)?;
-            Ok(())
+            self.add_line(alloc, part, &ahead[..len], at)
         }
     }
 }

@@ -16,8 +16,11 @@ use Rattle.at_nest.specs.declared.finishing.NestEnd.{NestEnd}
 use Rattle.at_nest.specs.declared.finishing.NestEnd.TheVariants as texts
 use Rattle.at_query.specs.declared.features.Feature.{Feature}
 use Rattle.at_query.specs.declared.parts.Part.{Part}
-use Rattle.at_query.specs.Parts.{IsPart}
-use Rattle.at_query.proofs.Joining.{parts_are_alike}
+use Rattle.at_query.specs.declared.accumulators.Accumulator.{Accumulator}
+use Rattle.at_query.specs.Parts.{IsProper}
+use Rattle.at_query.specs.Accumulators.{IsAccumulated}
+use Rattle.at_query.proofs.Joining.{part_is_proper}
+use Rattle.at_query.proofs.Accumulating.{are_of_one_verb}
 use Rattle.at_geojson.specs.declared.atoms.GeoAtom.{GeoAtom}
 use Rattle.at_geojson.specs.declared.root.RootEnd.{RootEnd}
 use Rattle.at_geojson.specs.declared.root.RootEnd.TheVariants as roots
@@ -50,12 +53,12 @@ module _ (digits : ℕ) (how : Coords) where
       (t, others ++ gs, is, features_more rs ss others gs more k, ap (λ z. z ++ gs) e ∙ append_assoc (features_of digits how t) others gs)
 
 module _ (asked : Asked) where
-  pub gathered_none : (part : Part) → IsPart asked.query [] part → IsGathered asked (Kept part) []
-  gathered_none part is = (([], refl, refl), ([], refl, is))
+  pub gathered_none : (kept : Accumulator) → IsAccumulated asked.query [] kept → IsGathered asked (Kept kept) []
+  gathered_none kept is = (([], refl, refl), ([], refl, is))
 
   -- what is gathered can be joined
   pub gathered_joinable : (left right : Gathered) (rs ss : List Piece) → IsGathered asked left rs → IsGathered asked right ss → AreJoinable left right
-  gathered_joinable (Kept a) (Kept b) rs ss (h, (fs, hf, pa)) (k, (gs, kg, pb)) = parts_are_alike asked.query fs gs a b pa pb
+  gathered_joinable (Kept a) (Kept b) rs ss (h, (fs, hf, pa)) (k, (gs, kg, pb)) = are_of_one_verb asked.query fs gs a b pa pb
   gathered_joinable (Kept a) (Failed f) rs ss h k = tt
   gathered_joinable (Failed f) (Kept b) rs ss h k = tt
   gathered_joinable (Failed f) (Failed g) rs ss h k = tt
@@ -70,17 +73,26 @@ module _ (asked : Asked) where
   gathered_joined (Failed f) (Kept b) both rs ss e h k = subst (λ z. IsGathered asked z (rs ++ ss)) (sym e) (first_joined asked.digits asked.how rs ss (Some f) None (Some f) h k.0 refl)
   gathered_joined (Failed f) (Failed g) both rs ss (first, e, is) h k = subst (λ z. IsGathered asked z (rs ++ ss)) (sym e) (first_joined asked.digits asked.how rs ss (Some f) (Some g) (Some first) h k is)
 
+  -- the part of a text is proper
+  pub root_proper : (at : ℕ) (text : List ℕ) (atom : GeoAtom) (end : Result Part RootEnd) → Answers (KeptAtom (IsOwn asked) (IsFold asked) (IsRun asked)) at text (Ok atom)
+      → ((t : Tree) → IsFold asked atom t → IsAnswer asked t end) → IfOk end IsProper
+  root_proper at text atom (Ok part) (t, (is, only), (own, fold)) h = part_is_proper asked.query (features_of asked.digits asked.how t) part (h t fold).1
+  root_proper at text atom (Err end) answers h = tt
+
+  pub root_own : (at : ℕ) (text : List ℕ) (atom : GeoAtom) → Answers (KeptAtom (IsOwn asked) (IsFold asked) (IsRun asked)) at text (Ok atom) → IsOwn asked atom
+  root_own at text atom (t, (is, only), (own, fold)) = own
+
   -- ---- one record
 
   module _ (r : Piece) where
     -- that spells a tree
     pub root_gathered : (atom : GeoAtom) (end : Result Part RootEnd) (result : Result Gathered Memory) → Answers (KeptAtom (IsOwn asked) (IsFold asked) (IsRun asked)) r.at r.text (Ok atom)
         → ((t : Tree) → IsFold asked atom t → IsAnswer asked t end) → IsRootKept end result → IfOk result (λ kept. IsGathered asked kept (r ∷ []))
-    root_gathered atom (Ok part) result (t, (is, only), (own, fold)) h e =
+    root_gathered atom (Ok part) result (t, (is, only), (own, fold)) h (kept, e, keeps) =
         let (none, part_is) = h t fold in
         subst (λ z. IfOk z (λ kept. IsGathered asked kept (r ∷ []))) (sym e) (
           first_one asked.digits asked.how r (faults_of asked.digits asked.how t) None (inr (t, is, refl)) (sym (ap first_of none)),
-          (features_of asked.digits asked.how t, (t, [], is, refl, sym (append-nil (features_of asked.digits asked.how t))), part_is),
+          (features_of asked.digits asked.how t, (t, [], is, refl, sym (append-nil (features_of asked.digits asked.how t))), keeps asked.query (features_of asked.digits asked.how t) part_is),
         )
     root_gathered atom (Err (roots.Found fault)) result (t, (is, only), (own, fold)) h e =
         subst (λ z. IfOk z (λ kept. IsGathered asked kept (r ∷ []))) (sym e) (first_one asked.digits asked.how r (faults_of asked.digits asked.how t) (Some fault) (inr (t, is, refl)) (sym (h t fold)))

@@ -1,5 +1,5 @@
 -- What a whole sequence ends in, and a record that is read at once.
-use Rattle.std.proofs.Common.{◌≡◌, ◌≢◌, ℕ, zero, suc, ◌+◌, ◌<◌, true, false, if◌then◌else◌, slice_index, List, [], ◌∷◌, ◌++◌, length, take, drop, Option, Some, None, Result, Ok, MatchResult, refl, sym, ap, ◌∙◌, subst, arith, append-nil, length-take}
+use Rattle.std.proofs.Common.{◌≡◌, ◌≢◌, ℕ, zero, suc, ◌+◌, ◌<◌, true, false, if◌then◌else◌, slice_index, List, [], ◌∷◌, ◌++◌, length, take, drop, Option, Some, None, Result, Ok, Err, MatchResult, refl, sym, ap, ◌∙◌, subst, arith, append-nil, length-take}
 use Rattle.std.proofs.Math.Seq.{drop-append_seam}
 use Rattle.std.proofs.lemmas.List.{take-append-drop, take_rest}
 use Rattle.at_text.specs.Faults.{fault_at, first_fault, first_of}
@@ -20,6 +20,8 @@ use Rattle.at_query.specs.declared.parts.Part.{Part}
 use Rattle.at_wkt.proofs.Exits.{first_of-append}
 use Rattle.at_wkt.proofs.LineMerges.{base_within, length-part_of}
 use Rattle.at_geojson.specs.declared.atoms.GeoAtom.{GeoAtom}
+use Rattle.at_geojson.specs.declared.asked.GeoAlgebra.{GeoAlgebra}
+use Rattle.at_nest.specs.declared.fragments.Fragment.{Fragment}
 use Rattle.at_geojson.specs.Keeping.{Asked}
 use Rattle.at_geojson.specs.Atoms.{IsOwn, IsFold, IsRun}
 use Rattle.at_run.specs.declared.gathered.Gathered.{Gathered}
@@ -28,7 +30,7 @@ use Rattle.at_seq.specs.declared.ends.SeqEnd.{SeqEnd}
 use Rattle.at_seq.specs.declared.fragments.PartedText.{PartedText}
 use Rattle.at_seq.specs.declared.fragments.SeqRead.{SeqRead}
 use Rattle.at_seq.specs.declared.fragments.SeqText.{SeqText}
-use Rattle.at_seq.specs.declared.fragments.SeqText.TheVariants.{Parted}
+use Rattle.at_seq.specs.declared.fragments.SeqText.TheVariants.{Lone, Parted}
 use Rattle.at_seq.specs.declared.fragments.SeqFragment.TheVariants.{Read}
 use Rattle.at_run.specs.Encodings.{IsValidIn}
 use Rattle.at_seq.specs.Records.{pieces_from, pieces_of, records_in, records_of}
@@ -132,9 +134,10 @@ module _ (asked : Asked) (bytes : List ℕ) where
 
   pub ended : (kept : Gathered) (head : Option Fault) (result : Result Part SeqEnd) → utf8_fault bytes ≡ None → head ≡ first_of (head_faults (pieces_of bytes)) → IsGathered asked kept (records_of bytes) → IsEndOf kept head result
       → MatchResult result (IsSeqPart asked.digits asked.how asked.query bytes) (λ e. IfFound e (λ fault. HasSeqFault asked.digits asked.how bytes (Some fault)))
-  ended (Kept part) None result valid head_is (none, (features, are, is)) e =
-      subst Ended (sym e) (record { faultless = first_behind None None None valid head_is none refl; features = features; are_features = are; is_part = is })
-  ended (Kept part) (Some fault) result valid head_is (none, part_is) e = subst Ended (sym e) (first_behind (Some fault) None (Some fault) valid head_is none refl)
+  ended (Kept kept) None (Ok part) valid head_is (none, (features, are, is)) e =
+      record { faultless = first_behind None None None valid head_is none refl; features = features; are_features = are; is_part = e asked.query features is }
+  ended (Kept kept) None (Err end) valid head_is h e = let P : SeqEnd → Type 0 = λ z. IfFound z (λ fault. HasSeqFault asked.digits asked.how bytes (Some fault)) in subst P (sym e) tt
+  ended (Kept kept) (Some fault) result valid head_is (none, part_is) e = subst Ended (sym e) (first_behind (Some fault) None (Some fault) valid head_is none refl)
   ended (Failed fault) head result valid head_is h (first, e, is) = subst Ended (sym e) (first_behind head (Some fault) (Some first) valid head_is h is)
 
   -- that of the encoding comes first
@@ -161,3 +164,15 @@ pub head_found : (asked : Asked) (bytes : List ℕ) (text : SeqText) (parted : P
 head_found asked bytes text parted base head e same h is =
     let held : HoldsParted asked bytes (base_of bytes) (length bytes) parted = subst (HoldsText asked bytes (base_of bytes) (length bytes)) e h in
     subst (λ n. head ≡ first_of (stray_faults n (part_of bytes n parted.first))) same is ∙ ap first_of (sym (parted_head asked bytes parted held))
+
+-- the same where there is no separator, and what is then gathered
+pub lone_found : (asked : Asked) (bytes : List ℕ) (text : SeqText) (whole : Fragment GeoAlgebra GeoAtom) (base : ℕ) (head : Option Fault) → text ≡ Lone whole → base ≡ base_of bytes → HoldsText asked bytes (base_of bytes) (length bytes) text
+    → head ≡ first_of (stray_faults base (part_of bytes base (length bytes))) → head ≡ first_of (head_faults (pieces_of bytes))
+lone_found asked bytes text whole base head e same h is =
+    let held = subst (HoldsText asked bytes (base_of bytes) (length bytes)) e h in
+    subst (λ n. head ≡ first_of (stray_faults n (part_of bytes n (length bytes)))) same is ∙ ap first_of (sym (lone_head asked bytes held.0))
+
+pub lone_kept : (asked : Asked) (bytes : List ℕ) (text : SeqText) (whole : Fragment GeoAlgebra GeoAtom) (kept : Gathered) → text ≡ Lone whole → HoldsText asked bytes (base_of bytes) (length bytes) text
+    → IsGathered asked kept [] → IsGathered asked kept (records_of bytes)
+lone_kept asked bytes text whole kept e h none =
+    let held = subst (HoldsText asked bytes (base_of bytes) (length bytes)) e h in lone_gathered asked bytes held.0 kept none

@@ -1,15 +1,25 @@
 -- What a whole sequence ends in. Only contracts of private functions cite this.
-use Rattle.std.specs.Prelude.{◌≡◌, Option, Some, None, Result, Ok, Err}
+use Rattle.std.specs.Prelude.{◌≡◌, List, Option, Some, None, Result, Ok, Err}
 use Rattle.at_text.specs.Faults.{first_fault}
 use Rattle.at_text.specs.declared.faults.Fault.{Fault}
+use Rattle.at_query.specs.declared.queries.Query.{Query}
+use Rattle.at_query.specs.declared.features.Feature.{Feature}
 use Rattle.at_query.specs.declared.parts.Part.{Part}
+use Rattle.at_query.specs.declared.accumulators.Accumulator.{Accumulator}
+use Rattle.at_query.specs.Parts.{IsPart}
+use Rattle.at_query.specs.Accumulators.{IsAccumulated}
 use Rattle.at_run.specs.declared.gathered.Gathered.{Gathered}
 use Rattle.at_run.specs.declared.gathered.Gathered.TheVariants.{Kept, Failed}
 use Rattle.at_seq.specs.declared.ends.SeqEnd.{SeqEnd}
-use Rattle.at_seq.specs.declared.ends.SeqEnd.TheVariants.{Found}
+use Rattle.at_seq.specs.declared.ends.SeqEnd.TheVariants.{Found, Memory}
+
+-- the part of whatever features these are kept of, or want of memory
+abbrev pub BecomesPart : Accumulator → Result Part SeqEnd → Type 0
+BecomesPart kept (Ok part) = (query : Query) (fs : List Feature) → IsAccumulated query fs kept → IsPart query fs part
+BecomesPart kept (Err end) = end ≡ Memory
 
 -- from what is gathered of the records, and the fault of what stands before the first separator, if it has one
 abbrev pub IsEndOf : Gathered → Option Fault → Result Part SeqEnd → Type 0
-IsEndOf (Kept part) None result = result ≡ Ok part
-IsEndOf (Kept part) (Some fault) result = result ≡ Err (Found fault)
+IsEndOf (Kept kept) None result = BecomesPart kept result
+IsEndOf (Kept kept) (Some fault) result = result ≡ Err (Found fault)
 IsEndOf (Failed fault) head result = (first : Fault) × (result ≡ Err (Found first)) × (Some first ≡ first_fault head (Some fault))

@@ -1,4 +1,4 @@
--- What is kept of records as they are read: the part of a query, or their first fault. Only contracts of private functions cite this.
+-- What is kept of records as they are read: what a query keeps of their features, or their first fault. Only contracts of private functions cite this.
 use Rattle.std.specs.Prelude.{◌≡◌, ℕ, List, ◌++◌, Option, Some, None, Result, Ok, Err, IsErr}
 use Rattle.at_text.specs.Faults.{fault_at, first_of}
 use Rattle.at_text.specs.declared.faults.Fault.{Fault}
@@ -8,8 +8,11 @@ use Rattle.at_fixed.specs.declared.rounding.Coords.{Coords}
 use Rattle.at_nest.specs.declared.finishing.NestEnd.{NestEnd}
 use Rattle.at_nest.specs.declared.finishing.NestEnd.TheVariants as texts
 use Rattle.at_query.specs.declared.features.Feature.{Feature}
+use Rattle.at_query.specs.declared.queries.Query.{Query}
 use Rattle.at_query.specs.declared.parts.Part.{Part}
+use Rattle.at_query.specs.declared.accumulators.Accumulator.{Accumulator}
 use Rattle.at_query.specs.Parts.{IsPart}
+use Rattle.at_query.specs.Accumulators.{IsAccumulated}
 use Rattle.at_geojson.specs.declared.root.RootEnd.{RootEnd}
 use Rattle.at_geojson.specs.declared.root.RootEnd.TheVariants as roots
 use Rattle.at_geojson.specs.Keeping.{Asked}
@@ -22,13 +25,13 @@ use Rattle.at_seq.specs.Sequences.{HaveRecordFaults, AreRecordFeatures}
 abbrev pub IsFirstOfRecords : ℕ → Coords → List Piece → Option Fault → Type 0
 IsFirstOfRecords digits how records first = (faults : List Fault) × HaveRecordFaults digits how records faults × (first ≡ first_of faults)
 
--- the part of the features of the records
-abbrev pub IsRecordsPart : Asked → List Piece → Part → Type 0
-IsRecordsPart asked records part = (features : List Feature) × AreRecordFeatures asked.digits asked.how records features × IsPart asked.query features part
+-- what the query keeps of the features of the records
+abbrev pub IsKeptOfRecords : Asked → List Piece → Accumulator → Type 0
+IsKeptOfRecords asked records kept = (features : List Feature) × AreRecordFeatures asked.digits asked.how records features × IsAccumulated asked.query features kept
 
--- none of the records has a fault, and the part is that of their features; or this is the first of their faults
+-- none of the records has a fault, and this is kept of their features; or this is the first of their faults
 abbrev pub IsGathered : Asked → Gathered → List Piece → Type 0
-IsGathered asked (Kept part) records = IsFirstOfRecords asked.digits asked.how records None × IsRecordsPart asked records part
+IsGathered asked (Kept kept) records = IsFirstOfRecords asked.digits asked.how records None × IsKeptOfRecords asked records kept
 IsGathered asked (Failed fault) records = IsFirstOfRecords asked.digits asked.how records (Some fault)
 
 -- of whatever records the one is gathered, the next is gathered of those and of these behind them
@@ -37,7 +40,7 @@ AddsRecords asked old more new = (before : List Piece) → IsGathered asked old 
 
 -- what is kept of a record, from what it ends in as a JSON text
 abbrev pub IsRootKept : Result Part RootEnd → Result Gathered Memory → Type 0
-IsRootKept (Ok part) result = result ≡ Ok (Kept part)
+IsRootKept (Ok part) result = (kept : Accumulator) × (result ≡ Ok (Kept kept)) × ((query : Query) (fs : List Feature) → IsPart query fs part → IsAccumulated query fs kept)
 IsRootKept (Err (roots.Found fault)) result = result ≡ Ok (Failed fault)
 IsRootKept (Err roots.Memory) result = IsErr result
 

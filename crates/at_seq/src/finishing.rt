@@ -10,14 +10,14 @@ ghost use Rattle.at_seq.specs.Sequences.{stray_faults, HasSeqFault};
 ghost use Rattle.at_seq.specs.Answers.{IfFound, IsSeqPart};
 ghost use Rattle.at_seq.specs.Gathering.{IsGathered};
 ghost use Rattle.at_seq.specs.Fragments.{HoldsText, HoldsParted, HoldsSpan, HoldsFragment};
-ghost use Rattle.at_seq.specs.Ends.{IsEndOf};
+ghost use Rattle.at_seq.specs.Ends.{BecomesPart, IsEndOf};
 
 use crate::ends::SeqEnd;
 use crate::fragments::{PartedText, SeqFragment, SeqRead, SeqText};
 use crate::records::add_fragment;
 use crate::searches::spaces_len;
 use at_geojson::GeoAlgebra;
-use at_query::{Part, part_none};
+use at_query::{Accumulator, Part};
 use at_run::{Gathered, is_valid_around};
 use at_text::{Fault, FaultKind, Memory, Span, base_of, first_fault, utf8_fault};
 use std::alloc::Global;
@@ -45,14 +45,24 @@ fn first_with(head: Option<Fault>, fault: Fault) -> Fault
     first_fault(head, Some(fault)).unwrap_or(fault)
 }
 
+/// The part of the features of which this is kept.
+fn part_of_kept(kept: Accumulator) -> Result<Part, SeqEnd>
+    ensures { BecomesPart kept result }
+{
+    match kept.into_part() {
+        Ok(part) => Ok(part),
+        Err(_) => Err(SeqEnd::Memory),
+    }
+}
+
 /// The part, or the first fault, from that of what stands before the first separator and from what is kept of the records.
 fn end_of(head: Option<Fault>, kept: Gathered) -> Result<Part, SeqEnd>
     ensures { IsEndOf kept head result }
 {
     match kept {
         Gathered::Failed(fault) => Err(SeqEnd::Found(first_with(head, fault))),
-        Gathered::Kept(part) => match head {
-            None => Ok(part),
+        Gathered::Kept(kept) => match head {
+            None => part_of_kept(kept),
             Some(fault) => Err(SeqEnd::Found(fault)),
         },
     }
@@ -95,7 +105,10 @@ fn text_end(
     match text {
         SeqText::Lone(_) => {
             let head = stray_fault(&bytes[base as usize..], base);
-            end_of(head, Gathered::Kept(part_none(alloc, algebra.query())))
+            end_of(
+                head,
+                Gathered::Kept(Accumulator::none(alloc, algebra.query())),
+            )
         }
         SeqText::Parted(parted) => {
             let head = stray_fault(&bytes[base as usize..parted.first as usize], base);

@@ -10,7 +10,7 @@ use crate::records::{add_fragment, add_record};
 use crate::searches::separator_place;
 use at_geojson::GeoAlgebra;
 use at_nest::{Fragment, merge, run_block};
-use at_query::part_none;
+use at_query::Accumulator;
 use at_run::{Gathered, join_into, joined_span, valid_span};
 use at_text::{Memory, Span};
 use std::alloc::Global;
@@ -74,7 +74,7 @@ fn read_records(
     requires within { span.to ≤ length bytes.now }
     ensures { IfOk result (HoldsInner algebra.now bytes.now span.from span.to) }
 {
-    let mut kept = Gathered::Kept(part_none(alloc, algebra.query()));
+    let mut kept = Gathered::Kept(Accumulator::none(alloc, algebra.query()));
     let mut start = span.from;
     'records: loop {
         let ahead = &bytes[start as usize..span.to as usize];

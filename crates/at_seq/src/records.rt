@@ -8,23 +8,25 @@ ghost use Rattle.at_nest.specs.Ending.{Answers};
 ghost use Rattle.at_nest.specs.Holding.{Kept};
 ghost use Rattle.at_nest.specs.Standing.{StandsFor};
 ghost use Rattle.at_geojson.specs.Atoms.{IsOwn, IsFold, IsRun};
+ghost use Rattle.at_query.specs.Parts.{IsProper};
 ghost use Rattle.at_seq.specs.Records.{Piece, records_in};
 ghost use Rattle.at_seq.specs.Gathering.{IsGathered, AddsRecords, IsRootKept, IsEndKept};
 
 use crate::searches::spaces_len;
 use at_geojson::{GeoAlgebra, GeoAtom, RootEnd, root_part};
 use at_nest::{Algebra, Attempt, Fragment, NestEnd, finish_span, run_block};
-use at_query::Part;
+use at_query::{Accumulator, Part};
 use at_run::{Gathered, join_into};
 use at_text::{Fault, FaultKind, Memory, Span};
 use std::alloc::Global;
 
 /// What is kept of a record that is a JSON text, from what it ends in.
 fn kept_of_root(end: Result<Part, RootEnd>) -> Result<Gathered, Memory>
+    requires { IfOk end IsProper }
     ensures { IsRootKept end result }
 {
     match end {
-        Ok(part) => Ok(Gathered::Kept(part)),
+        Ok(part) => Ok(Gathered::Kept(Accumulator::from_part(part))),
         Err(RootEnd::Found(fault)) => Ok(Gathered::Failed(fault)),
         Err(RootEnd::Memory) => Err(Memory),
     }
@@ -54,7 +56,7 @@ fn kept_of(
     to: u32,
     answer: Result<GeoAtom, NestEnd>,
 ) -> Result<Gathered, Memory>
-    requires { IfOk answer (IsOwn algebra.now) }
+    requires { (at : ℕ) × (text : List ℕ) × Answers (Kept (IsOwn algebra.now) (IsFold algebra.now) (IsRun algebra.now)) at text answer }
     ensures { (at : ℕ) (text : List ℕ) → to ≡ at + length text → Answers (Kept (IsOwn algebra.now) (IsFold algebra.now) (IsRun algebra.now)) at text answer
         → IfOk result (λ kept. IsGathered algebra.now kept (record { at = at; text = text } ∷ [])) }
 {

@@ -10,7 +10,7 @@ pub returns-in-None-clause-joins : goal.returns-in-None-clause-joins
 returns-in-None-clause-joins c = let P : Option Fault → Type 0 = λ z. JoinsGathered c.args.gathered.now (counted_of z) c.count_shape.new.gathered in subst P (sym c.in-None.is) c.count_shape.ensures.joins
 
 pub returns-in-Some-clause-own : goal.returns-in-Some-clause-own
-returns-in-Some-clause-own c = let P : Option Fault → Type 0 = λ z. KeepsOwn c.args.gathered.now (counted_of z) c.count_fault.new.gathered in subst P (sym c.in-Some.is) c.count_fault.ensures.own
+returns-in-Some-clause-own c = let P : Option Fault → Type 0 = λ z. KeepsOwn c.args.gathered.now (counted_of z) c.add_fault.new.gathered in subst P (sym c.in-Some.is) c.add_fault.ensures.own
 
 pub returns-in-Some-clause-joins : goal.returns-in-Some-clause-joins
-returns-in-Some-clause-joins c = let P : Option Fault → Type 0 = λ z. JoinsGathered c.args.gathered.now (counted_of z) c.count_fault.new.gathered in subst P (sym c.in-Some.is) c.count_fault.ensures.joins
+returns-in-Some-clause-joins c = let P : Option Fault → Type 0 = λ z. JoinsGathered c.args.gathered.now (counted_of z) c.add_fault.new.gathered in subst P (sym c.in-Some.is) c.add_fault.ensures.joins

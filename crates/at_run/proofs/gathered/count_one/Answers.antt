@@ -1,7 +1,12 @@
-use Rattle.std.proofs.Common.{refl}
+use Rattle.std.proofs.Common.{subst, sym}
 use Rattle.at_query.specs.declared.parts.Part.TheVariants.{Count}
-use Rattle.at_query.proofs.Joining.{joins_counts}
+use Rattle.at_query.specs.declared.accumulators.Accumulator.{Accumulator}
+use Rattle.at_query.specs.declared.accumulators.Accumulator.TheVariants.{Part}
+use Rattle.at_query.specs.Accumulators.{JoinsAccumulators}
+use Rattle.at_query.proofs.Accumulating.{parts_joined}
 use Rattle.at_run.proofs.gathered.count_one.Goals as goal
 
 pub returns : goal.returns
-returns c = joins_counts c.args.part.now (Count 1) c.in-Count.count 1 _ c.in-Count.is refl refl
+returns c =
+    let P : Accumulator → Type 0 = λ z. JoinsAccumulators z (Part (Count 1)) (Part c.count_in.new.part) in
+    subst P (sym c.in-Part.is) (parts_joined c.in-Part.part (Count 1) c.count_in.new.part c.count_in.ensures)

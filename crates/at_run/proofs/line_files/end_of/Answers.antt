@@ -1,27 +1,37 @@
-use Rattle.std.proofs.Common.{◌≡◌, List, ℕ, Option, Some, None, refl, sym, subst}
+use Rattle.std.proofs.Common.{◌≡◌, List, ℕ, Option, Some, None, Result, Ok, Err, MatchResult, refl, sym, subst}
 use Rattle.std.specs.Option.{unwrap_or}
 use Rattle.at_text.specs.declared.faults.Fault.{Fault}
 use Rattle.at_text.specs.Texts.{utf8_fault}
 use Rattle.at_wkt.specs.Lines.{lines_of}
+use Rattle.at_query.specs.declared.queries.Query.{Query}
+use Rattle.at_query.specs.declared.features.Feature.{Feature}
 use Rattle.at_query.specs.declared.parts.Part.{Part}
+use Rattle.at_query.specs.declared.accumulators.Accumulator.{Accumulator}
+use Rattle.at_query.specs.Parts.{IsPart}
+use Rattle.at_query.specs.Accumulators.{IsAccumulated}
+use Rattle.at_run.specs.declared.faults.RunFault.{RunFault}
+use Rattle.at_run.specs.declared.faults.RunFault.TheVariants.{Memory}
 use Rattle.at_run.specs.declared.forms.Form.TheVariants.{Wkt}
 use Rattle.at_run.specs.declared.gathered.Gathered.{Gathered}
 use Rattle.at_run.specs.declared.gathered.Gathered.TheVariants.{Kept, Failed}
 use Rattle.at_run.specs.LineFaults.{HasLinesFaultBehind, HasLinesFault}
 use Rattle.at_run.specs.Gathering.{Asked, IsGathered}
-use Rattle.at_run.specs.Answers.{IsFilePart}
+use Rattle.at_run.specs.Answers.{IfFound, IsFilePart}
 use Rattle.at_run.proofs.ValidLines.{file_valid, lines_valid}
 use Rattle.at_run.proofs.line_files.end_of.Goals as goal
 
-lines_part : (asked : Asked) (bytes : List ℕ) (part : Part) → IsGathered asked (Kept part) (lines_of bytes) → IsFilePart Wkt asked.digits asked.how asked.query bytes part
-lines_part asked bytes part (valid, first, (features, are, is)) =
+lines_end : (asked : Asked) (bytes : List ℕ) (kept : Accumulator) (end : Result Part RunFault) → IsGathered asked (Kept kept) (lines_of bytes)
+    → MatchResult end (λ part. (query : Query) (fs : List Feature) → IsAccumulated query fs kept → IsPart query fs part) (λ e. e ≡ Memory)
+    → MatchResult end (IsFilePart Wkt asked.digits asked.how asked.query bytes) (λ e. IfFound e (λ fault. HasLinesFault asked.digits asked.how bytes (Some fault)))
+lines_end asked bytes kept (Ok part) (valid, first, (features, are, is)) becomes =
     let Behind : Option Fault → Type 0 = λ encoding. HasLinesFaultBehind asked.digits asked.how encoding bytes None in
     record {
       faultless = subst Behind (sym (file_valid bytes valid)) (first.faults, first.have, first.first_is);
       features = features;
       are_features = are;
-      is_part = is;
+      is_part = becomes asked.query features is;
     }
+lines_end asked bytes kept (Err end) h e = let P : RunFault → Type 0 = λ z. IfFound z (λ fault. HasLinesFault asked.digits asked.how bytes (Some fault)) in subst P (sym e) tt
 
 lines_fault : (asked : Asked) (bytes : List ℕ) (fault : Fault) (found : Option Fault) → found ≡ utf8_fault bytes → IsGathered asked (Failed fault) (lines_of bytes) → HasLinesFault asked.digits asked.how bytes (Some (unwrap_or found fault))
 lines_fault asked bytes fault None e h =
@@ -34,7 +44,7 @@ lines_fault asked bytes fault (Some encoding) e h =
 pub returns-in-Kept : goal.returns-in-Kept
 returns-in-Kept c asked h =
     let P : Gathered → Type 0 = λ gathered. IsGathered asked gathered (lines_of c.args.bytes.now) in
-    lines_part asked c.args.bytes.now c.in-Kept.part (subst P c.in-Kept.is h)
+    lines_end asked c.args.bytes.now c.in-Kept.kept c.part_of_kept.result (subst P c.in-Kept.is h) c.part_of_kept.ensures
 
 pub returns-in-Failed : goal.returns-in-Failed
 returns-in-Failed c asked h =

@@ -26,3 +26,6 @@ returns c =
     let inside : c.spaces_len.result < length r.text = omega (arith, c.spaces_len.ensures.fits, c.if-spaces_len-text.false) in
     IfOk-weaker c.join_into.result _ _ (λ u both. adds_one c.args.algebra.now c.args.gathered.now c.in_ok-record.record c.join_into.new.gathered r (records_in (r ∷ []))
     (one_record r (not_all_spaces r.text c.spaces_len.result c.spaces_len.ensures inside)) (c.in_ok-record.ensures c.args.span.from r.text same c.finish_span-answer.ensures.answers) both) c.join_into.ensures.both
+
+pub kept_of-requires : goal.kept_of-requires
+kept_of-requires c = let r = piece_in c.args.bytes.now c.args.span.from c.args.span.to in (c.args.span.from, r.text, c.finish_span-answer.ensures.answers)

@@ -3,8 +3,8 @@ use Rattle.at_text.specs.declared.faults.Fault.{Fault}
 use Rattle.at_run.specs.declared.gathered.Gathered.TheVariants.{Failed}
 use Rattle.at_run.specs.Gathering.{JoinsGathered}
 use Rattle.at_run.proofs.LineParts.{fails_first, fails_again}
-use Rattle.at_run.proofs.gathered.count_fault.Goals as goal
-use Rattle.at_run.proofs.gathered.count_fault.Goals.{in-Kept, in-Failed}
+use Rattle.at_run.proofs.gathered.add_fault.Goals as goal
+use Rattle.at_run.proofs.gathered.add_fault.Goals.{in-Kept, in-Failed}
 
 pub returns-clause-joins : goal.returns-clause-joins
 returns-clause-joins c =
