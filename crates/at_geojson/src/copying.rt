@@ -6,7 +6,7 @@ use crate::atoms::{
     Areas, AreasAtom, GeoAtom, Items, ItemsAtom, Lists, ListsAtom, ObjectAtom, Points, PointsAtom,
     Role, Roles, TextAtom,
 };
-use crate::texts::{copy_texts, copy_units};
+use crate::texts::copy_texts;
 use at_geom::{Path, Paths, Polygon, Polygons, Pos, Shape};
 use at_lex::Units;
 use at_query::{Entries, Entry, Offsets, Part};
@@ -133,7 +133,7 @@ fn copy_text(alloc: Global, units: &Option<Box<Units>>) -> Result<Option<Box<Uni
     ensures { IfOk result (λ r. unboxed r ≡ unboxed units.now) }
 {
     match units {
-        Some(units) => Ok(Some(Box::new(alloc, copy_units(alloc, &**units)?)?)),
+        Some(units) => Ok(Some(Box::new(alloc, units.copy(alloc)?)?)),
         None => Ok(None),
     }
 }

@@ -12,22 +12,13 @@ use at_query::{Test, TextPair, TextPairs};
 use at_text::{Fault, Memory};
 use std::alloc::Global;
 
-/// A second list of the same units.
-pub fn copy_units(alloc: Global, units: &Units) -> Result<Units, Memory>
-    ensures { IfOk result (λ u. u ≡ units.now) }
-{
-    let mut items = Vec::with_capacity(alloc, units.as_slice().len())?;
-    items.extend_from_slice(units.as_slice())?;
-    Ok(Units::from_vec(items))
-}
-
 /// A second text that is equal to the first.
 fn copy_pair(alloc: Global, pair: &TextPair) -> Result<TextPair, Memory>
     ensures { IfOk result (λ p. p ≡ pair.now) }
 {
     Ok(TextPair {
-        name: copy_units(alloc, &pair.name)?,
-        value: copy_units(alloc, &pair.value)?,
+        name: pair.name.copy(alloc)?,
+        value: pair.value.copy(alloc)?,
     })
 }
 
@@ -79,8 +70,8 @@ fn add_text(
 {
     if asks_pair(tests, name.as_slice(), value.as_slice()) {
         texts.push(TextPair {
-            name: copy_units(alloc, name)?,
-            value: copy_units(alloc, value)?,
+            name: name.copy(alloc)?,
+            value: value.copy(alloc)?,
         })?;
     }
     Ok(())

@@ -5,6 +5,7 @@ pub mod EndedNumbers
 pub mod StringStates
 pub mod Fronts
 pub mod Spans
+pub mod CodeUnits
 pub mod UnitSteps
 pub mod Endings
 pub mod Stream

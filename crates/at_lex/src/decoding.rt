@@ -86,78 +86,78 @@ fn first_four(text: &[u8]) -> &[u8]
 }
 
 /// Puts the units of the text's characters behind the others.
-fn push_chars(items: &mut Vec<u16>, text: &str) -> Result<(), Memory>
-    ensures { OnOk result (items.new.items ≡ items.old.items ++ flat_map encode_utf16 (chars text.now)) }
+fn push_chars(items: &mut Units, alloc: Global, text: &str) -> Result<(), Memory>
+    ensures { OnOk result (items.new ≡ items.old ++ flat_map encode_utf16 (chars text.now)) }
 {
     for c in text.chars() {
         let code = u32::from(c);
         if code < 0x1_0000 {
-            items.push(code as u16)?;
+            items.push(alloc, code as u16)?;
         } else {
-            items.push((0xD800 + (code - 0x1_0000) / 0x400) as u16)?;
-            items.push((0xDC00 + (code - 0x1_0000) % 0x400) as u16)?;
+            items.push(alloc, (0xD800 + (code - 0x1_0000) / 0x400) as u16)?;
+            items.push(alloc, (0xDC00 + (code - 0x1_0000) % 0x400) as u16)?;
         }
     }
     Ok(())
 }
 
 /// Puts the unit of the escape `\u` that begins the text behind the others; its length.
-fn push_hex(items: &mut Vec<u16>, text: &[u8]) -> Result<usize, Memory>
+fn push_hex(items: &mut Units, alloc: Global, text: &[u8]) -> Result<usize, Memory>
     requires content { (characters : List Character) × Content characters text.now }
     requires escape { slice_index text.now 0 ≡ 0x5C }
     requires u { slice_index text.now 1 ≡ 0x75 }
     requires digits { HasDigits text.now }
-    ensures { IfOk result (λ n. PushesUnits text.now n items.old.items items.new.items) }
+    ensures { IfOk result (λ n. PushesUnits text.now n items.old items.new) }
 {
-    items.push(hex_unit(text[2], text[3], text[4], text[5]))?;
+    items.push(alloc, hex_unit(text[2], text[3], text[4], text[5]))?;
     Ok(6)
 }
 
 /// Puts the unit of the escape that begins the text behind the others; its length.
-fn push_escape(items: &mut Vec<u16>, text: &[u8]) -> Result<usize, Memory>
+fn push_escape(items: &mut Units, alloc: Global, text: &[u8]) -> Result<usize, Memory>
     requires content { (characters : List Character) × Content characters text.now }
     requires escape { slice_index text.now 0 ≡ 0x5C }
     requires some { 1 < length text.now }
-    ensures { IfOk result (λ n. PushesUnits text.now n items.old.items items.new.items) }
+    ensures { IfOk result (λ n. PushesUnits text.now n items.old items.new) }
 {
     if text[1] == b'u' {
-        return push_hex(items, text);
+        return push_hex(items, alloc, text);
     }
-    items.push(escape_unit(text[1]))?;
+    items.push(alloc, escape_unit(text[1]))?;
     Ok(2)
 }
 
 /// Puts the units of the character in UTF-8 that begins the text behind the others, or FFFD where none does;
 /// its length.
-fn push_wide(items: &mut Vec<u16>, text: &[u8]) -> Result<usize, Memory>
+fn push_wide(items: &mut Units, alloc: Global, text: &[u8]) -> Result<usize, Memory>
     requires content { (characters : List Character) × Content characters text.now }
     requires some { 1 < length text.now }
     requires plain { slice_index text.now 0 ≢ 0x5C }
-    ensures { IfOk result (λ n. PushesUnits text.now n items.old.items items.new.items) }
+    ensures { IfOk result (λ n. PushesUnits text.now n items.old items.new) }
 {
     let near = first_four(text);
     let Some(character) = first_char(&near[..plain_len(near)]) else {
-        items.push(0xFFFD)?;
+        items.push(alloc, 0xFFFD)?;
         return Ok(1);
     };
-    push_chars(items, character)?;
+    push_chars(items, alloc, character)?;
     Ok(character.len())
 }
 
 /// Puts the units of the first character of the rest of a string behind the others; its length.
-fn push_units(items: &mut Vec<u16>, text: &[u8]) -> Result<usize, Memory>
+fn push_units(items: &mut Units, alloc: Global, text: &[u8]) -> Result<usize, Memory>
     requires content { (characters : List Character) × Content characters text.now }
     requires some { 1 < length text.now }
-    ensures { IfOk result (λ n. PushesUnits text.now n items.old.items items.new.items) }
+    ensures { IfOk result (λ n. PushesUnits text.now n items.old items.new) }
 {
     let first = text[0];
     if first == b'\\' {
-        return push_escape(items, text);
+        return push_escape(items, alloc, text);
     }
     if first >= 0x80 {
-        return push_wide(items, text);
+        return push_wide(items, alloc, text);
     }
-    items.push(u16::from(first))?;
+    items.push(alloc, u16::from(first))?;
     Ok(1)
 }
 
@@ -169,10 +169,10 @@ pub fn units(alloc: Global, text: &[u8]) -> Result<Units, Memory>
     requires fits { length text.now ≤ 2 ^ 28 }
     ensures { IfOk result (AreUnitsOf text.now) }
 {
-    let mut items = Vec::with_capacity(alloc, text.len())?;
+    let mut items = Units::with_capacity(alloc, text.len() - 2)?;
     let mut at: usize = 1;
     while at + 1 < text.len() {
-        at += push_units(&mut items, &text[at..])?;
+        at += push_units(&mut items, alloc, &text[at..])?;
     }
-    Ok(Units::from_vec(items))
+    Ok(items)
 }

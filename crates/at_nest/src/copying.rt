@@ -11,23 +11,14 @@ use crate::bodies::Body;
 use crate::levels::{ArrayLevel, Level, MemberName, ObjectLevel, ObjectState, Open};
 use crate::pieces::{Piece, Row};
 use crate::variants::Variant;
-use at_lex::Units;
 use at_text::Memory;
 use std::alloc::Global;
-
-fn copy_units(alloc: Global, units: &Units) -> Result<Units, Memory>
-    ensures { IfOk result (λ u. u ≡ units.now) }
-{
-    let mut items = Vec::with_capacity(alloc, units.as_slice().len())?;
-    items.extend_from_slice(units.as_slice())?;
-    Ok(Units::from_vec(items))
-}
 
 fn copy_name(alloc: Global, name: &MemberName) -> Result<MemberName, Memory>
     ensures { IfOk result (λ n. n ≡ name.now) }
 {
     Ok(MemberName {
-        units: copy_units(alloc, &name.units)?,
+        units: name.units.copy(alloc)?,
         at: name.at,
     })
 }
@@ -68,7 +59,7 @@ fn copy_member<A: Algebra>(
     ensures { IfOk result (CopiesMember (Kept (A.is_own algebra.now) (A.is_fold algebra.now) (A.is_run algebra.now)) member.now) }
 {
     Ok(Member {
-        name: copy_units(alloc, &member.name)?,
+        name: member.name.copy(alloc)?,
         name_at: member.name_at,
         value: algebra.copy(alloc, &member.value)?,
     })

@@ -3,18 +3,8 @@
 ghost use Rattle.std.specs.Prelude.{◌≡◌, IfOk};
 
 use crate::queries::{Query, Test, Tests};
-use at_lex::Units;
 use at_text::Memory;
 use std::alloc::Global;
-
-/// A second list of the same units.
-fn copied_units(alloc: Global, units: &Units) -> Result<Units, Memory>
-    ensures { IfOk result (λ copy. copy ≡ units.now) }
-{
-    let mut items = Vec::with_capacity(alloc, units.as_slice().len())?;
-    items.extend_from_slice(units.as_slice())?;
-    Ok(Units::from_vec(items))
-}
 
 /// A test for the same.
 fn copied_test(alloc: Global, test: &Test) -> Result<Test, Memory>
@@ -23,10 +13,7 @@ fn copied_test(alloc: Global, test: &Test) -> Result<Test, Memory>
     match test {
         Test::InBox(extent) => Ok(Test::InBox(*extent)),
         Test::MeetsShape(bands) => Ok(Test::MeetsShape(bands.copy(alloc)?)),
-        Test::Has(name, value) => Ok(Test::Has(
-            copied_units(alloc, name)?,
-            copied_units(alloc, value)?,
-        )),
+        Test::Has(name, value) => Ok(Test::Has(name.copy(alloc)?, value.copy(alloc)?)),
     }
 }
 

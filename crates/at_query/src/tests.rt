@@ -201,11 +201,11 @@ fn shape(alloc: Global, outline: &Outline) -> Result<Shape, AllocError>
 }
 
 fn units(alloc: Global, text: &str) -> Result<Units, AllocError> {
-    let mut items = Vec::new(alloc);
+    let mut items = Units::with_capacity(alloc, text.len())?;
     for b in text.as_bytes() {
-        items.push(u16::from(*b))?;
+        items.push(alloc, u16::from(*b))?;
     }
-    Ok(Units::from_vec(items))
+    Ok(items)
 }
 
 fn pair(alloc: Global, name: &str, value: &str) -> Result<TextPair, AllocError> {

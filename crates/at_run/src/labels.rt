@@ -219,9 +219,7 @@ fn ask_label(tests: &[Test]) -> bool
 fn label_name(alloc: Global) -> Result<Units, Memory>
     ensures { IfOk result (λ name. name ≡ the_label_name) }
 {
-    let mut items = Vec::with_capacity(alloc, LABEL.len())?;
-    items.extend_from_slice(LABEL)?;
-    Ok(Units::from_vec(items))
+    Ok(Units::from_slice(alloc, LABEL)?)
 }
 
 /// The texts that are kept of a feature with this label: the label under its name where a test asks for that name, and

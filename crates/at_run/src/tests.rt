@@ -307,7 +307,9 @@ fn told_of_label<R: Threads + Sync>(
     file: &str,
 ) -> Result<String, Fail> {
     let name = vec![in alloc; 0x6C, 0x61, 0x62, 0x65, 0x6C]?;
-    let test = Test::Has(Units::from_vec(name), Units::from_vec(label));
+    let name = Units::from_slice(alloc, name.as_slice())?;
+    let label = Units::from_slice(alloc, label.as_slice())?;
+    let test = Test::Has(name, label);
     let query = asked(alloc, Verb::Select, Some(test))?;
     let bytes = bytes_of(alloc, file)?;
     told_of_places(rt, alloc, bytes.as_slice(), Form::Wkt, &query)
@@ -375,7 +377,9 @@ fn one_cut_of_a_text(rt: HostRuntime) -> Result<(), Fail> {
 fn cuts_round_an_escape(rt: HostRuntime) -> Result<(), Fail> {
     let name = vec![in rt.alloc(); 0x6B]?;
     let value = vec![in rt.alloc(); 0x61, 0x22, 0x62, 0x7D, 0x5D, 0x7B]?;
-    let has = Test::Has(Units::from_vec(name), Units::from_vec(value));
+    let name = Units::from_slice(rt.alloc(), name.as_slice())?;
+    let value = Units::from_slice(rt.alloc(), value.as_slice())?;
+    let has = Test::Has(name, value);
     let query = asked(rt.alloc(), Verb::Select, Some(has))?;
     let bytes = bytes_of(
         rt.alloc(),

@@ -8,4 +8,4 @@ use Rattle.at_lex.proofs.decoding.push_chars.Goals as goal
 pub returns : goal.returns
 returns c =
     let t = YieldsList-end (YieldsList-from_chars c.args.text.now c.utf8.text cc) c.loop-c.yielded _ c.loop-c.yielded_by _ _ c.in-None.is c.next.ensures.steps in
-    c.loop-c.invariant ∙ ap (λ xs. c.args.items.now.items ++ flat_map encode_utf16 xs) (sym (same_map c.loop-c.yielded) ∙ t.0)
+    c.loop-c.invariant ∙ ap (λ xs. c.args.items.now ++ flat_map encode_utf16 xs) (sym (same_map c.loop-c.yielded) ∙ t.0)

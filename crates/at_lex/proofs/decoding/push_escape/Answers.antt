@@ -8,4 +8,4 @@ push_hex-requires-clause-digits c = let (cs, content) = c.requires.content in he
 pub returns : goal.returns
 returns c =
     let (cs, content) = c.requires.content in
-    (_, short_steps cs c.args.text.now content c.requires.escape c.if-text-eq117.false, c.in_ok-push.ensures.items ∙ ap (λ u. c.args.items.now.items ++ u ∷ []) c.escape_unit.ensures)
+    (_, short_steps cs c.args.text.now content c.requires.escape c.if-text-eq117.false, c.in_ok-push.ensures ∙ ap (λ u. c.args.items.now ++ u ∷ []) c.escape_unit.ensures)

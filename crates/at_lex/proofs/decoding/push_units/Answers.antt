@@ -5,4 +5,4 @@ use Rattle.at_lex.proofs.decoding.push_units.Goals as goal
 pub returns : goal.returns
 returns c =
     let (cs, content) = c.requires.content in
-    (_, ascii_steps cs c.args.text.now content c.requires.some c.if-first-eq92.false (omega (arith, c.if-first-ge128.false)), c.in_ok-push.ensures.items ∙ ap (λ u. c.args.items.now.items ++ u ∷ []) c.from.ensures)
+    (_, ascii_steps cs c.args.text.now content c.requires.some c.if-first-eq92.false (omega (arith, c.if-first-ge128.false)), c.in_ok-push.ensures ∙ ap (λ u. c.args.items.now ++ u ∷ []) c.from.ensures)

@@ -16,4 +16,4 @@ returns c =
 pub returns-in_default : goal.returns-in_default
 returns-in_default c =
     let (cs, content) = c.requires.content in
-    (_, near_none cs c.args.text.now c.first_four-near.result.now content c.requires.some c.requires.plain c.first_four-near.ensures c.plain_len.result c.plain_len.ensures c.in_default.ensures, c.in_ok-push.ensures.items)
+    (_, near_none cs c.args.text.now c.first_four-near.result.now content c.requires.some c.requires.plain c.first_four-near.ensures c.plain_len.result c.plain_len.ensures c.in_default.ensures, c.in_ok-push.ensures)
