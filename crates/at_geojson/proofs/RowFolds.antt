@@ -1,8 +1,6 @@
 -- Rows of positions: what is made of them is what is made of the list of their atoms.
 use Rattle.std.proofs.Common.{◌≡◌, ℕ, ◌+◌, ◌<◌, ◌≤◌, ◌⊎◌, inl, inr, min, Bool, true, false, not, ◌&&◌, ◌||◌, ◌==◌, if◌then◌else◌, nat_lt, List, [], ◌∷◌, ◌++◌, All, fold, map, length, slice_index, None, is_none, refl, sym, ◌∙◌, ap, subst, arith, append-nil}
 use Rattle.std.specs.Ordering.{int_eq}
-use Rattle.std.specs.declared.alloc.Global.{Global}
-use Rattle.std.specs.declared.vec.Vec.{Vec}
 use Rattle.std.proofs.Math.Nat.{min-eq_left}
 use Rattle.std.proofs.lemmas.Bool.{ltb-true, ltb-false}
 use Rattle.std.proofs.lemmas.List.{map-append, length-append}
@@ -185,23 +183,6 @@ module _ (asked : Asked) (base : ℕ) (w : List ℕ) where
         folds = subst (λ (f : PositionAtom). AreFolds (IsFold asked) (atoms.Position f ∷ (read.rest ++ x ∷ [])) (items_of ((read.done ++ read.last ∷ []) ++ pair.tree ∷ []))) (sym l.first)
             (folds_last asked base w (atoms.Position row.first ∷ read.rest) x (read.done ++ read.last ∷ []) pair.tree read.folds pair.fold);
       }
-
-  -- the same positions in a vector of another room
-  pub points_moved : (at end : ℕ) (row : Row) (path : Vec Pos Global) → path.items ≡ row.path.items → ArePointsRead asked base w at end row → ArePointsRead asked base w at end (record { first = row.first; last = row.last; count = row.count; path = path })
-  points_moved at end row path e read = record {
-    rest = read.rest;
-    is_row = record { next = read.is_row.next; path = e ∙ read.is_row.path; count = read.is_row.count; last = read.is_row.last };
-    own = read.own;
-    begins = read.begins;
-    place = read.place;
-    order = read.order;
-    behind = read.behind;
-    done = read.done;
-    last = read.last;
-    before = read.before;
-    spells = read.spells;
-    folds = read.folds;
-  }
 
   pub points_end : (at end : ℕ) (row : Row) (p : PointsRead) → ArePointsRead asked base w at end row → end < length w → slice_index w at ≡ 0x5B → slice_index w end ≡ 0x5D → EndsPoints (needs_shapes asked.query) (base + at) (end + 1) row p
       → ArePointsWhole asked base w at p

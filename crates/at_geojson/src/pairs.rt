@@ -60,9 +60,6 @@ pub struct PointsRead {
 /// Room that a list of positions is given at first: that of a ring of four corners.
 const ROOM: usize = 5;
 
-/// From so many positions on a list gives back the room that it has left.
-const MANY: usize = 16;
-
 /// Whether a number may begin at the place: what stands behind the digits begins none.
 #[inline(always)]
 fn may_begin(text: &[u8], at: usize) -> bool {
@@ -132,22 +129,6 @@ fn new_path(alloc: Global, first: Pos) -> Result<Vec<Pos>, Stop>
     let mut path = Vec::with_capacity(alloc, ROOM)?;
     path.push(first)?;
     Ok(path)
-}
-
-/// Whether a list of so many positions gives back the room that it has left: two positions take less than half of what they were
-/// given, and of many the half that growing may leave costs little to give back, beside reading them.
-fn gives_back(len: usize) -> bool {
-    len < 3 || len >= MANY
-}
-
-/// The values of a list that is whole.
-fn whole_path(mut path: Vec<Pos>) -> Vec<Pos>
-    ensures { result.items ≡ path.items }
-{
-    if gives_back(path.len()) {
-        path.shrink_to_fit();
-    }
-    path
 }
 
 /// One more, up to four.
@@ -354,7 +335,7 @@ fn keep_points(
         first: first.pair,
         last,
         count,
-        path: whole_path(path),
+        path,
     };
     Ok(ended_row(base + at as u32, end + 1, row))
 }

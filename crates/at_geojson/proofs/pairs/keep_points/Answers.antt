@@ -3,7 +3,7 @@ use Rattle.std.proofs.Common.{[], refl, sym, subst}
 use Rattle.at_geojson.specs.declared.pairs.Row.{Row}
 use Rattle.at_geojson.specs.Keeping.{needs_shapes}
 use Rattle.at_geojson.specs.Rows.{IsRow, LengthensRow}
-use Rattle.at_geojson.proofs.RowFolds.{lengthened, points_begin, points_go_on, points_moved, points_end}
+use Rattle.at_geojson.proofs.RowFolds.{lengthened, points_begin, points_go_on, points_end}
 use Rattle.at_geojson.proofs.pairs.keep_points.Goals as goal
 
 pub positions-init : goal.positions-init
@@ -31,7 +31,5 @@ positions-preserved c =
 pub returns : goal.returns
 returns c =
     let here = c.positions-test.false in
-    let row : Row = record { first = c.args.first.pair; last = c.positions.last; count = c.positions.count; path = c.positions.path } in
-    points_end c.args.algebra.now c.args.base c.args.text.now c.args.at c.positions.end _ c.ended_row.result
-    (points_moved c.args.algebra.now c.args.base c.args.text.now c.args.at c.positions.end row c.whole_path.result c.whole_path.ensures c.positions.invariant.read)
+    points_end c.args.algebra.now c.args.base c.args.text.now c.args.at c.positions.end _ c.ended_row.result c.positions.invariant.read
     (c.stands.ensures.inside here) c.requires.opens (c.stands.ensures.byte here) (c.ended_row.ensures (needs_shapes c.args.algebra.now.query))
