@@ -94,8 +94,16 @@ fn units_of<R: Abort + AllocGlobal>(rt: &R, text: &[u8]) -> Result<Units, Fail>
 /// Each string with its UTF-16 code units.
 #[test]
 fn code_units(rt: HostRuntime) -> Result<(), Fail> {
-    let rows: [(&[u8], &[u16]); 8] = [
+    let rows: [(&[u8], &[u16]); 10] = [
         (b"\"\\ud83d\"", &[55357]),
+        (
+            b"\"abcdefghijk\"",
+            &[97, 98, 99, 100, 101, 102, 103, 104, 105, 106, 107],
+        ),
+        (
+            b"\"abcdefghijkl\"",
+            &[97, 98, 99, 100, 101, 102, 103, 104, 105, 106, 107, 108],
+        ),
         (b"\"\xC3\xA9\"", &[233]),
         (b"\"\xF0\x9F\x98\x80\"", &[55357, 56832]),
         (b"\"\"", &[]),
@@ -113,6 +121,21 @@ fn code_units(rt: HostRuntime) -> Result<(), Fail> {
             assert_eq!(rt; found.as_slice(), expected, "{text:?}");
         }
     }
+    Ok(())
+}
+
+/// Units that are put behind others one by one, the first eleven of them without memory, and a copy of them.
+#[test]
+fn units_one_by_one(rt: HostRuntime) -> Result<(), Fail> {
+    let expected: [u16; 13] = [9, 8, 7, 6, 5, 4, 3, 2, 1, 0, 65535, 256, 12];
+    let mut found = Units::with_capacity(rt.alloc(), 0)?;
+    for unit in expected {
+        found.push(rt.alloc(), unit)?;
+    }
+    assert_eq!(rt; found.as_slice(), &expected[..]);
+    assert_eq!(rt; found.copy(rt.alloc())?.as_slice(), &expected[..]);
+    let few = Units::from_slice(rt.alloc(), &expected[..11])?;
+    assert_eq!(rt; few.as_slice(), &expected[..11]);
     Ok(())
 }
 

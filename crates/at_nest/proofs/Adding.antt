@@ -40,12 +40,12 @@ push_one IsKept base w new r (stopped f i) h = h
 module _ {X : Type 0} (IsKept : X → Content → Type 0) where
   adds_one : (bytes : List ℕ) (old : Shown X) (c : CodePiece X) (new : Shown X) (r : Option CodeHalt)
       → ((base : ℕ) (w : List ℕ) (f : Form Tree) (p : Piece Tree) → IsPartOf bytes base w → IsShown IsKept base w old f → IsHeldPiece IsKept base w c p → IsPushedAs IsKept base w new r (push free f p))
-      → ((ps : List (Piece Tree)) → AreRow IsKept c ps → ⊥) → Adds IsKept bytes old c new r
+      → ((base : ℕ) (w : List ℕ) (ps : List (Piece Tree)) → AreRow IsKept base w c ps → ⊥) → Adds IsKept bytes old c new r
   adds_one bytes old c new r pushes none base w f ps part h (inl (p, e, k)) = subst (λ z. IsPushedAs IsKept base w new r (push_all free z f)) (sym e) (push_one IsKept base w new r (push free f p) (pushes base w f p part h k))
-  adds_one bytes old c new r pushes none base w f ps part h (inr k) = absurd (none ps k)
+  adds_one bytes old c new r pushes none base w f ps part h (inr k) = absurd (none base w ps k)
 
   pub adds_close : (bytes : List ℕ) (old : Shown X) (c : CodePiece X) (new : Shown X) (r : Option CodeHalt) (b : Bracket) (i : ℕ) → c ≡ Closes b i → Pushes IsKept old new r (closes b i) → Adds IsKept bytes old c new r
-  adds_close bytes old c new r b i e pushes = adds_one bytes old c new r (λ base w f p part h k. by_piece base w f h p (subst (λ z. IsHeldPiece IsKept base w z p) e k)) (λ ps k. subst (λ z. AreRow IsKept z ps) e k)
+  adds_close bytes old c new r b i e pushes = adds_one bytes old c new r (λ base w f p part h k. by_piece base w f h p (subst (λ z. IsHeldPiece IsKept base w z p) e k)) (λ base w ps k. subst (λ z. AreRow IsKept base w z ps) e k)
     where
       by_piece : (base : ℕ) (w : List ℕ) (f : Form Tree) → IsShown IsKept base w old f → (p : Piece Tree) → IsHeldPiece IsKept base w (Closes b i) p → IsPushedAs IsKept base w new r (push free f p)
       by_piece base w f h (opens d j) u = absurd u
@@ -53,7 +53,7 @@ module _ {X : Type 0} (IsKept : X → Content → Type 0) where
       by_piece base w f h (mark x) u = absurd u
 
   pub adds_comma : (bytes : List ℕ) (old : Shown X) (c : CodePiece X) (new : Shown X) (r : Option CodeHalt) (i : ℕ) → c ≡ Comma i → (new, r) ≡ comma_added i old.outer old.levels → Adds IsKept bytes old c new r
-  adds_comma bytes old c new r i e d = adds_one bytes old c new r (λ base w f p part h k. by_piece base w f h p (subst (λ z. IsHeldPiece IsKept base w z p) e k)) (λ ps k. subst (λ z. AreRow IsKept z ps) e k)
+  adds_comma bytes old c new r i e d = adds_one bytes old c new r (λ base w f p part h k. by_piece base w f h p (subst (λ z. IsHeldPiece IsKept base w z p) e k)) (λ base w ps k. subst (λ z. AreRow IsKept base w z ps) e k)
     where
       by_piece : (base : ℕ) (w : List ℕ) (f : Form Tree) → IsShown IsKept base w old f → (p : Piece Tree) → IsHeldPiece IsKept base w (Comma i) p → IsPushedAs IsKept base w new r (push free f p)
       by_piece base w f h (opens b j) u = absurd u
@@ -65,7 +65,7 @@ module _ {X : Type 0} (IsKept : X → Content → Type 0) where
       by_piece base w f h (mark (entry j t)) u = absurd u
 
   pub adds_colon : (bytes : List ℕ) (old : Shown X) (c : CodePiece X) (new : Shown X) (r : Option CodeHalt) (i : ℕ) → c ≡ Colon i → (new, r) ≡ colon_added i old.outer old.levels → Adds IsKept bytes old c new r
-  adds_colon bytes old c new r i e d = adds_one bytes old c new r (λ base w f p part h k. by_piece base w f h p (subst (λ z. IsHeldPiece IsKept base w z p) e k)) (λ ps k. subst (λ z. AreRow IsKept z ps) e k)
+  adds_colon bytes old c new r i e d = adds_one bytes old c new r (λ base w f p part h k. by_piece base w f h p (subst (λ z. IsHeldPiece IsKept base w z p) e k)) (λ base w ps k. subst (λ z. AreRow IsKept base w z ps) e k)
     where
       by_piece : (base : ℕ) (w : List ℕ) (f : Form Tree) → IsShown IsKept base w old f → (p : Piece Tree) → IsHeldPiece IsKept base w (Colon i) p → IsPushedAs IsKept base w new r (push free f p)
       by_piece base w f h (opens b j) u = absurd u
@@ -77,7 +77,7 @@ module _ {X : Type 0} (IsKept : X → Content → Type 0) where
       by_piece base w f h (mark (entry j t)) u = absurd u
 
   pub adds_value : (bytes : List ℕ) (old : Shown X) (c : CodePiece X) (new : Shown X) (r : Option CodeHalt) (i : ℕ) (x : X) → c ≡ Value i x → PushesValue IsKept old new r i x → Adds IsKept bytes old c new r
-  adds_value bytes old c new r i x e pushes = adds_one bytes old c new r (λ base w f p part h k. by_piece base w f h p (subst (λ z. IsHeldPiece IsKept base w z p) e k)) (λ ps k. subst (λ z. AreRow IsKept z ps) e k)
+  adds_value bytes old c new r i x e pushes = adds_one bytes old c new r (λ base w f p part h k. by_piece base w f h p (subst (λ z. IsHeldPiece IsKept base w z p) e k)) (λ base w ps k. subst (λ z. AreRow IsKept base w z ps) e k)
     where
       by_piece : (base : ℕ) (w : List ℕ) (f : Form Tree) → IsShown IsKept base w old f → (p : Piece Tree) → IsHeldPiece IsKept base w (Value i x) p → IsPushedAs IsKept base w new r (push free f p)
       by_piece base w f h (opens b j) u = absurd u
@@ -95,18 +95,18 @@ module _ {X : Type 0} (IsKept : X → Content → Type 0) where
       no_row base w (opens b j) u = u
       no_row base w (closes b j) u = u
       no_row base w (mark x) u = u
-  adds_row bytes old c new r row e pushes base w f ps part h (inr k) = pushes base w f ps h (subst (λ z. AreRow IsKept z ps) e k)
+  adds_row bytes old c new r row e pushes base w f ps part h (inr k) = pushes base w f ps h (subst (λ z. AreRow IsKept base w z ps) e k)
 
   -- closing brackets
   pub adds_closers : (bytes : List ℕ) (old : Shown X) (c : CodePiece X) (new : Shown X) (r : Option CodeHalt) (run : Closers) → c ≡ ClosersPiece run → PushesClosers IsKept old new r run → Adds IsKept bytes old c new r
   adds_closers bytes old c new r run e pushes base w f ps part h (inl (p, s, k)) = absurd (subst (λ z. IsHeldPiece IsKept base w z p) e k)
-  adds_closers bytes old c new r run e pushes base w f ps part h (inr k) = pushes base w f ps h (subst (λ z. AreRow IsKept z ps) e k)
+  adds_closers bytes old c new r run e pushes base w f ps part h (inr k) = pushes base w f ps h (subst (λ z. AreRow IsKept base w z ps) e k)
 
   -- a string
   pub adds_text : (bytes : List ℕ) (old new : Shown X) (r : Option CodeHalt) (span : Span) (x : X)
       → ((base : ℕ) (w : List ℕ) (f : Form Tree) (cs : List Character) → IsPartOf bytes base w → IsShown IsKept base w old f → IsTextAt base w span cs → IsKept x (one (text span.from cs)) → IsPushedAs IsKept base w new r (push free f (mark (quoted span.from cs))))
       → Adds IsKept bytes old (Text span x) new r
-  adds_text bytes old new r span x pushes = adds_one bytes old (Text span x) new r by_piece (λ ps k. k)
+  adds_text bytes old new r span x pushes = adds_one bytes old (Text span x) new r by_piece (λ base w ps k. k)
     where
       by_piece : (base : ℕ) (w : List ℕ) (f : Form Tree) (p : Piece Tree) → IsPartOf bytes base w → IsShown IsKept base w old f → IsHeldPiece IsKept base w (Text span x) p → IsPushedAs IsKept base w new r (push free f p)
       by_piece base w f (opens b j) part h k = absurd k

@@ -5,7 +5,7 @@ use Rattle.at_lex.specs.declared.tokens.Bracket.{Bracket}
 use Rattle.at_nest.specs.declared.pieces.Closers.{Closers}
 use Rattle.at_nest.specs.declared.pieces.Halt.{Halt as CodeHalt}
 use Rattle.at_nest.specs.declared.pieces.Piece.{Piece as CodePiece}
-use Rattle.at_nest.specs.declared.pieces.Piece.TheVariants.{Closes, Comma, Colon, Text, Value, Row as RowPiece, Closers as ClosersPiece}
+use Rattle.at_nest.specs.declared.pieces.Piece.TheVariants.{Closes, Comma, Colon, Text, Value, Row as RowPiece, Members as MembersPiece, Closers as ClosersPiece}
 use Rattle.at_nest.specs.Tree.{Tree}
 use Rattle.at_nest.specs.Forms.{Piece, opens, closes, mark}
 use Rattle.at_nest.specs.Levels.{Level, Form, further, push, push_close, push_all, push_then}
@@ -61,6 +61,7 @@ module _ {X : Type 0} (IsKept : X → Content → Type 0) where
   longer_are base w (Text span x) vs b at r u h = absurd h
   longer_are base w (Value i x) vs b at r u h = absurd h
   longer_are base w (RowPiece q) vs b at r u h = absurd h
+  longer_are base w (MembersPiece q) vs b at r u h = absurd h
 
   -- the last item has become longer
   pub longer_pushes : (old new : Shown X) (b : Bracket) (at : ℕ) (c : CodePiece X) (r : Closers) → old.levels ≡ [] → last_of old.outer ≡ Some c → IsLonger c b at r

@@ -15,13 +15,16 @@ use Rattle.at_nest.specs.declared.variants.Variant.{Variant}
 use Rattle.at_nest.specs.declared.variants.Variant.TheVariants.{Whole, Broken}
 use Rattle.at_nest.specs.Stands.{HoldsVariant}
 use Rattle.at_nest.specs.declared.pieces.Piece.{Piece as CodePiece}
-use Rattle.at_nest.specs.declared.pieces.Piece.TheVariants.{Closes, Comma, Colon, Text, Value, Row as RowPiece, Closers as ClosersPiece}
+use Rattle.at_nest.specs.declared.pieces.Piece.TheVariants.{Closes, Comma, Colon, Text, Value, Row as RowPiece, Members as MembersPiece, Closers as ClosersPiece}
 use Rattle.at_nest.specs.declared.pieces.Row.{Row}
+use Rattle.at_nest.specs.declared.pieces.NamedValue.{NamedValue}
+use Rattle.at_nest.specs.declared.pieces.MemberRow.{MemberRow}
+use Rattle.at_nest.specs.MemberMarks.{MemberMarks, tree_of}
 use Rattle.at_nest.specs.Tree.{Tree, text}
 use Rattle.at_nest.specs.Forms.{Piece, opens, closes, mark, comma, colon, quoted, entry}
 use Rattle.at_nest.specs.Levels.{Level, Form, marks}
 use Rattle.at_nest.specs.Shown.{Held, Shown, array_level, object_level, held_of, helds_of, open_levels, AreOwn, OwnPiece, OwnLevel, OwnBody, shown}
-use Rattle.at_nest.specs.Holding.{Content, one, run, Holds, Kept, Each, EachMember, IsHeld, EachHeld, IsHeldPiece, EachPiece, ArePieces, AreRow, IsRow, row_marks, row_trees, IsOfItems, CanAdd, IsShown, CopiesItems, CopiesMember, CopiesMembers, CopiesHeld, CopiesLevels, CopiesPiece, CopiesPieces, CopiesShown}
+use Rattle.at_nest.specs.Holding.{Content, one, run, Holds, Kept, Each, EachMember, IsHeld, EachHeld, IsHeldPiece, EachPiece, ArePieces, AreRow, IsRow, EachNamed, AreMembers, IsTextAt, CopiesNamed, row_marks, row_trees, IsOfItems, CanAdd, IsShown, CopiesItems, CopiesMember, CopiesMembers, CopiesHeld, CopiesLevels, CopiesPiece, CopiesPieces, CopiesShown}
 use Rattle.at_nest.proofs.Held.{held_own, each_own, each_cut, each_append}
 use Rattle.at_nest.proofs.Showing.{pieces_append, pieces_cut}
 
@@ -82,9 +85,9 @@ module _ {X : Type 0} (IsKept : X → Content → Type 0) where
   pieces_on xs ys x y h k base w ps e = let c = pieces_cut IsKept base w xs x ps e in subst (EachPiece IsKept base w (ys ++ y ∷ [])) (sym c.2) (pieces_append IsKept base w ys c.0 y c.1 (h base w c.0 c.3) (k base w c.1 c.4))
 
   -- what is kept of one item
-  one_copy : (c d : CodePiece X) → ((base : ℕ) (w : List ℕ) (p : Piece Tree) → IsHeldPiece IsKept base w c p → IsHeldPiece IsKept base w d p) → ((ps : List (Piece Tree)) → AreRow IsKept c ps → ⊥) → CopiesPiece IsKept c d
+  one_copy : (c d : CodePiece X) → ((base : ℕ) (w : List ℕ) (p : Piece Tree) → IsHeldPiece IsKept base w c p → IsHeldPiece IsKept base w d p) → ((base : ℕ) (w : List ℕ) (ps : List (Piece Tree)) → AreRow IsKept base w c ps → ⊥) → CopiesPiece IsKept c d
   one_copy c d k none base w ps (inl (p, e, h)) = inl (p, e, k base w p h)
-  one_copy c d k none base w ps (inr r) = absurd (none ps r)
+  one_copy c d k none base w ps (inr r) = absurd (none base w ps r)
 
   pub row_copy : (c d : CodePiece X) (r s : Row X) → c ≡ RowPiece r → d ≡ RowPiece s → s.comma ≡ r.comma → s.first ≡ r.first → CopiesItems IsKept r.items.items s.items.items → CopiesPiece IsKept c d
   row_copy c d r s e f a b k base w ps (inl (p, q, h)) = absurd (no_row base w p (subst (λ z. IsHeldPiece IsKept base w z p) e h))
@@ -93,12 +96,44 @@ module _ {X : Type 0} (IsKept : X → Content → Type 0) where
       no_row base w (opens b j) u = u
       no_row base w (closes b j) u = u
       no_row base w (mark x) u = u
-  row_copy c d r s e f a b k base w ps (inr q) = let h : IsRow IsKept r ps = subst (λ z. AreRow IsKept z ps) e q in
+  row_copy c d r s e f a b k base w ps (inr q) = let h : IsRow IsKept r ps = subst (λ z. AreRow IsKept base w z ps) e q in
       subst (λ z. ArePieces IsKept base w z ps) (sym f)
       (inr (record { tree = h.tree; others = h.others; split = h.split ∙ ap (λ (z : ℕ × ℕ). marks (row_marks ((z.0, z.1, h.tree) ∷ h.others))) (let u : (r.comma, r.first) ≡ (s.comma, s.first) = ap (λ z. (z, r.first)) (sym a) ∙ ap (λ z. (s.comma, z)) (sym b) in u); items = k (h.tree ∷ row_trees h.others) h.items }))
 
+  pub named_none : CopiesNamed IsKept [] []
+  named_none base w es h = h
+
+  pub named_cut : (base : ℕ) (w : List ℕ) (xs : List (NamedValue X)) (x : NamedValue X) (es : List MemberMarks) → EachNamed IsKept base w (xs ++ x ∷ []) es
+      → (us : List MemberMarks) × (e : MemberMarks) × ((es ≡ us ++ e ∷ []) × EachNamed IsKept base w xs us × EachNamed IsKept base w (x ∷ []) (e ∷ []))
+  named_cut base w [] x [] h = absurd h
+  named_cut base w [] x (e ∷ []) h = ([], e, (refl, tt, h))
+  named_cut base w [] x (e ∷ (g ∷ es)) h = absurd h.3
+  named_cut base w (y ∷ xs) x [] h = absurd h
+  named_cut base w (y ∷ xs) x (e ∷ es) h = let r = named_cut base w xs x es h.3 in (e ∷ r.0, r.1, (ap (λ v. e ∷ v) r.2.0, (h.0, h.1, h.2, r.2.1), r.2.2))
+
+  pub named_append : (base : ℕ) (w : List ℕ) (xs : List (NamedValue X)) (x : NamedValue X) (us : List MemberMarks) (e : MemberMarks) → EachNamed IsKept base w xs us → EachNamed IsKept base w (x ∷ []) (e ∷ []) → EachNamed IsKept base w (xs ++ x ∷ []) (us ++ e ∷ [])
+  named_append base w [] x [] e h k = k
+  named_append base w (y ∷ xs) x (u ∷ us) e h k = (h.0, h.1, h.2, named_append base w xs x us e h.3 k)
+  named_append base w [] x (u ∷ us) e h k = absurd h
+  named_append base w (y ∷ xs) x [] e h k = absurd h
+
+  pub named_on : (xs ys : List (NamedValue X)) (x y : NamedValue X) → CopiesNamed IsKept xs ys → y.name ≡ x.name → ((t : Tree) → IsKept x.value (one t) → IsKept y.value (one t)) → CopiesNamed IsKept (xs ++ x ∷ []) (ys ++ y ∷ [])
+  named_on xs ys x y h e k base w es u = let c = named_cut base w xs x es u in subst (EachNamed IsKept base w (ys ++ y ∷ [])) (sym c.2.0)
+      (named_append base w ys y c.0 c.1 (h base w c.0 c.2.1) (subst (λ z. (z.from ≡ c.1.name_at) × IsTextAt base w z c.1.characters × IsKept y.value (one (tree_of c.1.value)) × EachNamed IsKept base w [] []) (sym e) (c.2.2.0, c.2.2.1, k (tree_of c.1.value) c.2.2.2, tt)))
+
+  pub member_row_copy : (c d : CodePiece X) (r s : MemberRow X) → c ≡ MembersPiece r → d ≡ MembersPiece s → s.comma ≡ r.comma → s.colon ≡ r.colon → CopiesNamed IsKept r.items.items s.items.items → CopiesPiece IsKept c d
+  member_row_copy c d r s e f a b k base w ps (inl (p, q, h)) = absurd (no_members base w p (subst (λ z. IsHeldPiece IsKept base w z p) e h))
+    where
+      no_members : (base : ℕ) (w : List ℕ) (p : Piece Tree) → IsHeldPiece IsKept base w (MembersPiece r) p → ⊥
+      no_members base w (opens b j) u = u
+      no_members base w (closes b j) u = u
+      no_members base w (mark x) u = u
+  member_row_copy c d r s e f a b k base w ps (inr q) = let h : AreMembers IsKept base w r ps = subst (λ z. AreRow IsKept base w z ps) e q in
+      subst (λ z. ArePieces IsKept base w z ps) (sym f)
+      (inr (record { first = h.first; others = h.others; split = h.split; comma_is = a ∙ h.comma_is; colon_is = b ∙ h.colon_is; items = k base w (h.first ∷ h.others) h.items }))
+
   pub text_copy : (c d : CodePiece X) (x y : X) (span : Span) → c ≡ Text span x → d ≡ Text span y → ((t : Tree) → IsKept x (one t) → IsKept y (one t)) → CopiesPiece IsKept c d
-  text_copy c d x y span e f k = one_copy c d (λ base w p h. subst (λ z. IsHeldPiece IsKept base w z p) (sym f) (by_piece base w p (subst (λ z. IsHeldPiece IsKept base w z p) e h))) (λ ps r. subst (λ z. AreRow IsKept z ps) e r)
+  text_copy c d x y span e f k = one_copy c d (λ base w p h. subst (λ z. IsHeldPiece IsKept base w z p) (sym f) (by_piece base w p (subst (λ z. IsHeldPiece IsKept base w z p) e h))) (λ base w ps r. subst (λ z. AreRow IsKept base w z ps) e r)
     where
       by_piece : (base : ℕ) (w : List ℕ) (p : Piece Tree) → IsHeldPiece IsKept base w (Text span x) p → IsHeldPiece IsKept base w (Text span y) p
       by_piece base w (opens b j) u = absurd u
@@ -109,7 +144,7 @@ module _ {X : Type 0} (IsKept : X → Content → Type 0) where
       by_piece base w (mark (entry j t)) u = absurd u
 
   pub value_copy : (c d : CodePiece X) (x y : X) (i : ℕ) → c ≡ Value i x → d ≡ Value i y → ((t : Tree) → IsKept x (one t) → IsKept y (one t)) → CopiesPiece IsKept c d
-  value_copy c d x y i e f k = one_copy c d (λ base w p h. subst (λ z. IsHeldPiece IsKept base w z p) (sym f) (by_piece base w p (subst (λ z. IsHeldPiece IsKept base w z p) e h))) (λ ps r. subst (λ z. AreRow IsKept z ps) e r)
+  value_copy c d x y i e f k = one_copy c d (λ base w p h. subst (λ z. IsHeldPiece IsKept base w z p) (sym f) (by_piece base w p (subst (λ z. IsHeldPiece IsKept base w z p) e h))) (λ base w ps r. subst (λ z. AreRow IsKept base w z ps) e r)
     where
       by_piece : (base : ℕ) (w : List ℕ) (p : Piece Tree) → IsHeldPiece IsKept base w (Value i x) p → IsHeldPiece IsKept base w (Value i y) p
       by_piece base w (opens b j) u = absurd u
@@ -140,11 +175,19 @@ module _ {X : Type 0} (IsOwn : X → Type 0) (IsFold : X → Tree → Type 0) (I
   piece_own base w (RowPiece r) (opens b j) h = absurd h
   piece_own base w (RowPiece r) (closes b j) h = absurd h
   piece_own base w (RowPiece r) (mark x) h = absurd h
+  piece_own base w (MembersPiece r) p h = absurd h
   piece_own base w (ClosersPiece r) p h = tt
+
+  each_named_own : (base : ℕ) (w : List ℕ) (ms : List (NamedValue X)) (es : List MemberMarks) → EachNamed (Kept IsOwn IsFold IsRun) base w ms es → All (λ m. IsOwn m.value) ms
+  each_named_own base w [] [] h = All-nil (λ m. IsOwn m.value)
+  each_named_own base w (m ∷ ms) (e ∷ es) h = All-cons (λ m. IsOwn m.value) m ms h.2.0 (each_named_own base w ms es h.3)
+  each_named_own base w [] (e ∷ es) h = absurd h
+  each_named_own base w (m ∷ ms) [] h = absurd h
 
   are_own : (base : ℕ) (w : List ℕ) (c : CodePiece X) (ps : List (Piece Tree)) → ArePieces (Kept IsOwn IsFold IsRun) base w c ps → OwnPiece IsOwn c
   are_own base w c ps (inl (p, e, h)) = piece_own base w c p h
   are_own base w (RowPiece r) ps (inr h) = each_own IsOwn IsFold IsRun r.items.items (h.tree ∷ row_trees h.others) h.items
+  are_own base w (MembersPiece r) ps (inr h) = each_named_own base w r.items.items (h.first ∷ h.others) h.items
   are_own base w (ClosersPiece r) ps (inr h) = tt
   are_own base w (Closes b i) ps (inr h) = absurd h
   are_own base w (Comma i) ps (inr h) = absurd h

@@ -99,7 +99,7 @@ values_append (colon i ∷ xs) ys = values_append xs ys
 values_append (quoted i cs ∷ xs) ys = ap (λ z. text i cs ∷ z) (values_append xs ys)
 values_append (entry i x ∷ xs) ys = ap (λ z. x ∷ z) (values_append xs ys)
 
-pairs_append : (o : Option (List Character × ℕ)) (xs ys : List (Mark Tree)) → pairs_in free o (xs ++ ys) ≡ pairs_in free o xs ++ pairs_in free (pending_in o xs) ys
+pub pairs_append : (o : Option (List Character × ℕ)) (xs ys : List (Mark Tree)) → pairs_in free o (xs ++ ys) ≡ pairs_in free o xs ++ pairs_in free (pending_in o xs) ys
 pairs_append o [] ys = refl
 pairs_append o (comma i ∷ xs) ys = pairs_append o xs ys
 pairs_append o (colon i ∷ xs) ys = pairs_append o xs ys
@@ -108,7 +108,7 @@ pairs_append (Some p) (quoted i cs ∷ xs) ys = ap (λ z. (p.0, p.1, text i cs) 
 pairs_append None (entry i x ∷ xs) ys = pairs_append None xs ys
 pairs_append (Some p) (entry i x ∷ xs) ys = ap (λ z. (p.0, p.1, x) ∷ z) (pairs_append None xs ys)
 
-pending_append : (o : Option (List Character × ℕ)) (xs ys : List (Mark Tree)) → pending_in o (xs ++ ys) ≡ pending_in (pending_in o xs) ys
+pub pending_append : (o : Option (List Character × ℕ)) (xs ys : List (Mark Tree)) → pending_in o (xs ++ ys) ≡ pending_in (pending_in o xs) ys
 pending_append o [] ys = refl
 pending_append o (comma i ∷ xs) ys = pending_append o xs ys
 pending_append o (colon i ∷ xs) ys = pending_append o xs ys
@@ -130,7 +130,7 @@ module _ {X : Type 0} (IsKept : X → Content → Type 0) where
   each_cut [] x ts (us, vs, e, h, n) = ([], us, (e ∙ (ap (λ z. us ++ z) n ∙ append-nil us), refl, h))
   each_cut (y ∷ xs) x ts (us, vs, e, h, hs) = let r = each_cut xs x vs hs in (us ++ r.0, r.1, (e ∙ (ap (λ z. us ++ z) r.2.0 ∙ sym (append_assoc us r.0 r.1)), (us, r.0, refl, h, r.2.1), r.2.2))
 
-  each_member_append : (xs : List (Member X)) (ps : List (List Character × ℕ × Tree)) (x : Member X) (p : List Character × ℕ × Tree) → EachMember IsKept xs ps → x.name ≡ units_of p.0 → x.name_at ≡ p.1 → IsKept x.value (one p.2)
+  pub each_member_append : (xs : List (Member X)) (ps : List (List Character × ℕ × Tree)) (x : Member X) (p : List Character × ℕ × Tree) → EachMember IsKept xs ps → x.name ≡ units_of p.0 → x.name_at ≡ p.1 → IsKept x.value (one p.2)
       → EachMember IsKept (xs ++ x ∷ []) (ps ++ p ∷ [])
   each_member_append [] [] x p h e f k = (e, f, k, tt)
   each_member_append (y ∷ xs) (q ∷ ps) x p h e f k = (h.0, h.1, h.2, each_member_append xs ps x p h.3 e f k)

@@ -29,6 +29,7 @@ pub mod Adding
 pub mod Joining
 pub mod Closers
 pub mod Rows
+pub mod MemberRows
 pub mod TokenReads
 pub mod TokenMarks
 pub mod Items

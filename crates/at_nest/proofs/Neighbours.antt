@@ -6,7 +6,7 @@ use Rattle.at_lex.specs.Strings.{Character, string_text}
 use Rattle.at_lex.specs.Spans.{end_of}
 use Rattle.at_lex.specs.declared.tokens.Start.{Start}
 use Rattle.at_nest.specs.declared.pieces.Piece.{Piece as CodePiece}
-use Rattle.at_nest.specs.declared.pieces.Piece.TheVariants.{Closes, Comma, Colon, Text, Value, Row, Closers as ClosersPiece}
+use Rattle.at_nest.specs.declared.pieces.Piece.TheVariants.{Closes, Comma, Colon, Text, Value, Row, Members as MembersPiece, Closers as ClosersPiece}
 use Rattle.at_nest.specs.declared.pieces.Halt.{Halt as CodeHalt}
 use Rattle.at_nest.specs.Tree.{Tree}
 use Rattle.at_nest.specs.Borders.{are_apart}
@@ -16,7 +16,9 @@ use Rattle.at_nest.specs.Stops.{IsForm, IsStop}
 use Rattle.at_nest.specs.Unions.{IsToken, Ends, merged, variant_of}
 use Rattle.at_nest.specs.Variants.{IsAllLead, IsLeadEnd, IsWhole, IsBroken, IsVariant}
 use Rattle.at_nest.specs.Shown.{Shown}
-use Rattle.at_nest.specs.Holding.{Content, free, EachPiece, ArePieces, IsHeldPiece, IsShown, IsPushedAs, IsTextAt, IsPartOf, CanJoin, Joins}
+use Rattle.at_nest.specs.declared.pieces.NamedValue.{NamedValue}
+use Rattle.at_nest.specs.MemberMarks.{MemberMarks}
+use Rattle.at_nest.specs.Holding.{Content, EachNamed, AreRow, free, EachPiece, ArePieces, IsHeldPiece, IsShown, IsPushedAs, IsTextAt, IsPartOf, CanJoin, Joins}
 use Rattle.at_nest.specs.Reading.{IsPlaced, Reads}
 use Rattle.at_nest.specs.Stands.{CanMeet, Meets}
 use Rattle.at_nest.proofs.Joins.{apart_front}
@@ -64,11 +66,28 @@ module _ {X : Type 0} (IsKept : X → Content → Type 0) where
   piece_within base w y z b (Value i x) (mark (colon j)) e h = absurd h
   piece_within base w y z b (Value i x) (mark (quoted j cs)) e h = absurd h
   piece_within base w y z b (Row r) p e h = absurd h
+  piece_within base w y z b (MembersPiece r) p e h = absurd h
   piece_within base w y z b (ClosersPiece r) p e h = absurd h
+
+  named_within : (base : ℕ) (w y z : List ℕ) (b : ℕ) (ms : List (NamedValue X)) (es : List MemberMarks) → base ≡ b + length y → EachNamed IsKept base w ms es → EachNamed IsKept b (y ++ (w ++ z)) ms es
+  named_within base w y z b [] [] e h = tt
+  named_within base w y z b (m ∷ ms) (g ∷ es) e h = (h.0, text_within base w y z b m.name g.characters e h.1, h.2, named_within base w y z b ms es e h.3)
+  named_within base w y z b [] (g ∷ es) e h = absurd h
+  named_within base w y z b (m ∷ ms) [] e h = absurd h
+
+  row_within : (base : ℕ) (w y z : List ℕ) (b : ℕ) (c : CodePiece X) (ps : List (Piece Tree)) → base ≡ b + length y → AreRow IsKept base w c ps → AreRow IsKept b (y ++ (w ++ z)) c ps
+  row_within base w y z b (Row r) ps e h = h
+  row_within base w y z b (MembersPiece r) ps e h = record { first = h.first; others = h.others; split = h.split; comma_is = h.comma_is; colon_is = h.colon_is; items = named_within base w y z b r.items.items (h.first ∷ h.others) e h.items }
+  row_within base w y z b (ClosersPiece r) ps e h = h
+  row_within base w y z b (Closes c i) ps e h = absurd h
+  row_within base w y z b (Comma i) ps e h = absurd h
+  row_within base w y z b (Colon i) ps e h = absurd h
+  row_within base w y z b (Text span x) ps e h = absurd h
+  row_within base w y z b (Value i x) ps e h = absurd h
 
   are_within : (base : ℕ) (w y z : List ℕ) (b : ℕ) (c : CodePiece X) (ps : List (Piece Tree)) → base ≡ b + length y → ArePieces IsKept base w c ps → ArePieces IsKept b (y ++ (w ++ z)) c ps
   are_within base w y z b c ps e (inl (p, s, h)) = inl (p, s, piece_within base w y z b c p e h)
-  are_within base w y z b c ps e (inr r) = inr r
+  are_within base w y z b c ps e (inr r) = inr (row_within base w y z b c ps e r)
 
   pieces_within : (base : ℕ) (w y z : List ℕ) (b : ℕ) (cs : List (CodePiece X)) (ps : List (Piece Tree)) → base ≡ b + length y → EachPiece IsKept base w cs ps → EachPiece IsKept b (y ++ (w ++ z)) cs ps
   pieces_within base w y z b [] ps e h = h

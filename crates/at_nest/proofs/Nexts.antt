@@ -11,7 +11,7 @@ use Rattle.at_nest.specs.declared.levels.ArrayState.TheVariants as array
 use Rattle.at_nest.specs.declared.levels.ObjectState.TheVariants as object
 use Rattle.at_nest.specs.declared.levels.Open.{Open}
 use Rattle.at_nest.specs.declared.pieces.Piece.{Piece as CodePiece}
-use Rattle.at_nest.specs.declared.pieces.Piece.TheVariants.{Closes, Comma, Colon, Text, Value, Row as RowPiece, Closers as ClosersPiece}
+use Rattle.at_nest.specs.declared.pieces.Piece.TheVariants.{Closes, Comma, Colon, Text, Value, Row as RowPiece, Members as MembersPiece, Closers as ClosersPiece}
 use Rattle.at_nest.specs.declared.pieces.Halt.{Halt as CodeHalt}
 use Rattle.at_nest.specs.declared.pieces.Within.{Within as CodeWithin}
 use Rattle.at_nest.specs.declared.pieces.Within.TheVariants as within
@@ -23,6 +23,7 @@ use Rattle.at_nest.specs.Levels.{full, first_mode, moves, Level, Form, marks, op
 use Rattle.at_nest.specs.Stops.{AreLevels}
 use Rattle.at_nest.specs.Answers.{Answer, folded, syntax, ended, single, folded_or, by_walk, choose, halt_place, stop_by, finished}
 use Rattle.at_nest.specs.Shown.{Held, array_level, object_level, helds_of, Shown, open_levels, from_of, first_of_piece, is_value_piece, takes_name, takes_value}
+use Rattle.at_nest.specs.MemberMarks.{mark_of, marks_behind_comma, member_marks}
 use Rattle.at_nest.specs.Holding.{Content, one, free, row_marks, closers, IsHeld, EachHeld, IsHeldPiece, AreRow, ArePieces, EachPiece, IsShown, halt_of, within_of}
 use Rattle.at_nest.specs.Nexts.{takes, level_next, level_after, IsNoValue, levels_next, outer_next, next_of, value_of, only_of, answer_by, answer_of, stop_of, open_of}
 use Rattle.at_nest.proofs.Walks.{cases}
@@ -235,6 +236,7 @@ module _ {X : Type 0} (K : X → Content → Type 0) where
   stands at w (RowPiece r) (opens d j) h = absurd h
   stands at w (RowPiece r) (closes d j) h = absurd h
   stands at w (RowPiece r) (mark m) h = absurd h
+  stands at w (MembersPiece r) p h = absurd h
   stands at w (ClosersPiece r) p h = absurd h
 
   not_opens : (c : CodePiece X) (p : Piece Tree) → Stands c p → NotOpens p
@@ -256,18 +258,19 @@ module _ {X : Type 0} (K : X → Content → Type 0) where
   closers_closed b i zero = tt
   closers_closed b i (suc n) = closers_closed b (i + 1) n
 
-  row_closed : (c : CodePiece X) (ps : List (Piece Tree)) → AreRow K c ps → AreClosed ps
-  row_closed (RowPiece r) ps h = subst AreClosed (sym h.split) (marks_closed (row_marks ((r.comma, r.first, h.tree) ∷ h.others)))
-  row_closed (ClosersPiece r) ps h = subst AreClosed (sym h.2) (closers_closed r.bracket r.from (suc h.0))
-  row_closed (Closes b i) ps h = absurd h
-  row_closed (Comma i) ps h = absurd h
-  row_closed (Colon i) ps h = absurd h
-  row_closed (Text span x) ps h = absurd h
-  row_closed (Value i x) ps h = absurd h
+  row_closed : (at : ℕ) (w : List ℕ) (c : CodePiece X) (ps : List (Piece Tree)) → AreRow K at w c ps → AreClosed ps
+  row_closed at w (RowPiece r) ps h = subst AreClosed (sym h.split) (marks_closed (row_marks ((r.comma, r.first, h.tree) ∷ h.others)))
+  row_closed at w (MembersPiece r) ps h = subst AreClosed (sym h.split) (marks_closed (member_marks (h.first ∷ h.others)))
+  row_closed at w (ClosersPiece r) ps h = subst AreClosed (sym h.2) (closers_closed r.bracket r.from (suc h.0))
+  row_closed at w (Closes b i) ps h = absurd h
+  row_closed at w (Comma i) ps h = absurd h
+  row_closed at w (Colon i) ps h = absurd h
+  row_closed at w (Text span x) ps h = absurd h
+  row_closed at w (Value i x) ps h = absurd h
 
   are_closed : (at : ℕ) (w : List ℕ) (c : CodePiece X) (ps : List (Piece Tree)) → ArePieces K at w c ps → AreClosed ps
   are_closed at w c ps (inl (p, e, h)) = subst AreClosed (sym e) (closed_cons p [] (not_opens c p (stands at w c p h)) tt)
-  are_closed at w c ps (inr h) = row_closed c ps h
+  are_closed at w c ps (inr h) = row_closed at w c ps h
 
   pub each_closed : (at : ℕ) (w : List ℕ) (cs : List (CodePiece X)) (ps : List (Piece Tree)) → EachPiece K at w cs ps → AreClosed ps
   each_closed at w [] ps h = subst AreClosed (sym h) tt
@@ -283,18 +286,20 @@ module _ {X : Type 0} (K : X → Content → Type 0) where
     in_row : (q : Piece Tree) (qs : List (Piece Tree)) → ps ≡ mark (a_comma (first_of_piece c)) ∷ (q ∷ qs) → is_value_piece c ≡ false → Begins c ps
     in_closers : (b : Bracket) (qs : List (Piece Tree)) → ps ≡ closes b (first_of_piece c) ∷ qs → is_value_piece c ≡ false → Begins c ps
 
-  row_begins : (c : CodePiece X) (ps : List (Piece Tree)) → AreRow K c ps → Begins c ps
-  row_begins (RowPiece r) ps h = in_row (mark (entry r.first h.tree)) (marks (row_marks h.others)) h.split refl
-  row_begins (ClosersPiece r) ps h = in_closers r.bracket (closers r.bracket (r.from + 1) h.0) h.2 refl
-  row_begins (Closes b i) ps h = absurd h
-  row_begins (Comma i) ps h = absurd h
-  row_begins (Colon i) ps h = absurd h
-  row_begins (Text span x) ps h = absurd h
-  row_begins (Value i x) ps h = absurd h
+  row_begins : (at : ℕ) (w : List ℕ) (c : CodePiece X) (ps : List (Piece Tree)) → AreRow K at w c ps → Begins c ps
+  row_begins at w (RowPiece r) ps h = in_row (mark (entry r.first h.tree)) (marks (row_marks h.others)) h.split refl
+  row_begins at w (MembersPiece r) ps h = in_row (mark (quoted h.first.name_at h.first.characters)) (mark (a_colon h.first.colon_at) ∷ (mark (mark_of h.first.value) ∷ marks (member_marks h.others)))
+      (h.split ∙ ap (λ n. mark (a_comma n) ∷ marks (marks_behind_comma h.first (member_marks h.others))) (sym h.comma_is)) refl
+  row_begins at w (ClosersPiece r) ps h = in_closers r.bracket (closers r.bracket (r.from + 1) h.0) h.2 refl
+  row_begins at w (Closes b i) ps h = absurd h
+  row_begins at w (Comma i) ps h = absurd h
+  row_begins at w (Colon i) ps h = absurd h
+  row_begins at w (Text span x) ps h = absurd h
+  row_begins at w (Value i x) ps h = absurd h
 
   begins : (at : ℕ) (w : List ℕ) (c : CodePiece X) (ps : List (Piece Tree)) → ArePieces K at w c ps → Begins c ps
   begins at w c ps (inl (p, e, h)) = alone p e (stands at w c p h)
-  begins at w c ps (inr h) = row_begins c ps h
+  begins at w c ps (inr h) = row_begins at w c ps h
 
   first_begins : (c : CodePiece X) (ps vs : List (Piece Tree)) → Begins c ps → (q : Piece Tree) × (qs : List (Piece Tree)) × (ps ++ vs ≡ q ∷ qs) × (first_of_piece c ≡ at_of q)
   first_begins c ps vs (alone p e h) = (p, vs, ap (λ z. z ++ vs) e, first_of c p h)

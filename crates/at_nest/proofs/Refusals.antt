@@ -19,7 +19,7 @@ use Rattle.at_nest.specs.declared.bodies.Body.{Body}
 use Rattle.at_nest.specs.declared.levels.ArrayState.TheVariants as array
 use Rattle.at_nest.specs.declared.levels.ObjectState.TheVariants as object
 use Rattle.at_nest.specs.declared.pieces.Piece.{Piece as CodePiece}
-use Rattle.at_nest.specs.declared.pieces.Piece.TheVariants.{Closes, Comma, Colon, Text, Value, Row as RowPiece, Closers as ClosersPiece}
+use Rattle.at_nest.specs.declared.pieces.Piece.TheVariants.{Closes, Comma, Colon, Text, Value, Row as RowPiece, Members as MembersPiece, Closers as ClosersPiece}
 use Rattle.at_nest.specs.declared.variants.Variant.TheVariants.{Broken}
 use Rattle.at_nest.specs.Tree.{Tree}
 use Rattle.at_nest.specs.Borders.{are_apart}
@@ -28,6 +28,7 @@ use Rattle.at_nest.specs.Walks.{Kind, an_opener, a_closer, comma_kind, colon_kin
 use Rattle.at_nest.specs.Levels.{Level, Form, full, marks, opened, pieces_of, plain_halt}
 use Rattle.at_nest.specs.Stops.{IsDeadHere, AreLevels, IsStop}
 use Rattle.at_nest.specs.Shown.{Held, array_level, object_level, Shown, shown, stop_at, takes_value}
+use Rattle.at_nest.specs.MemberMarks.{ValueMark, string_value, other_value, mark_of, MemberMarks, member_marks}
 use Rattle.at_nest.specs.Holding.{Content, free, closers, row_marks, IsHeld, EachHeld, IsHeldPiece, ArePieces, EachPiece, IsShown, halt_of}
 use Rattle.at_nest.specs.Refusals.{not_behind_value, not_behind_text, not_behind_mark, not_behind_piece, not_behind_last, last_of, not_in, is_refused}
 use Rattle.at_nest.specs.Stands.{HoldsBehind}
@@ -327,6 +328,7 @@ broken_none [] (Some (Colon i)) outer n e h = true≢false (sym h ∙ ap (λ z. 
 broken_none [] (Some (Text span x)) outer n e h = true≢false (sym h ∙ ap (λ z. not_behind_last z (token.Broken n)) e)
 broken_none [] (Some (Value i x)) outer n e h = true≢false (sym h ∙ ap (λ z. not_behind_last z (token.Broken n)) e)
 broken_none [] (Some (RowPiece r)) outer n e h = true≢false (sym h ∙ ap (λ z. not_behind_last z (token.Broken n)) e)
+broken_none [] (Some (MembersPiece r)) outer n e h = true≢false (sym h ∙ ap (λ z. not_behind_last z (token.Broken n)) e)
 broken_none [] (Some (ClosersPiece r)) outer n e h = true≢false (sym h ∙ ap (λ z. not_behind_last z (token.Broken n)) e)
 broken_none (k ∷ hs) o outer n e h = off h
 
@@ -347,6 +349,25 @@ piece_of at v more (token.Broken place) n h = absurd (n place refl)
 row_last : (es : List (ℕ × ℕ × Tree)) (e : ℕ × ℕ × Tree) → (front : List (Piece Tree)) × (j : ℕ) × (t : Tree) × (marks (row_marks (e ∷ es)) ≡ front ++ (mark (entry j t) ∷ []))
 row_last [] e = (mark (comma e.0) ∷ [], e.1, e.2, refl)
 row_last (g ∷ es) e = let (front, j, t, q) = row_last es g in (mark (comma e.0) ∷ (mark (entry e.1 e.2) ∷ front), j, t, ap (λ z. mark (comma e.0) ∷ (mark (entry e.1 e.2) ∷ z)) q)
+
+members_last : (es : List MemberMarks) (e : MemberMarks) → (front : List (Piece Tree)) × (v : ValueMark) × (marks (member_marks (e ∷ es)) ≡ front ++ (mark (mark_of v) ∷ []))
+members_last [] e = (mark (comma e.comma_at) ∷ (mark (quoted e.name_at e.characters) ∷ (mark (colon e.colon_at) ∷ [])), e.value, refl)
+members_last (g ∷ es) e = let q = members_last es g in
+    (mark (comma e.comma_at) ∷ (mark (quoted e.name_at e.characters) ∷ (mark (colon e.colon_at) ∷ (mark (mark_of e.value) ∷ q.0))), q.1, ap (λ z. mark (comma e.comma_at) ∷ (mark (quoted e.name_at e.characters) ∷ (mark (colon e.colon_at) ∷ (mark (mark_of e.value) ∷ z)))) q.2)
+
+text_then_value : (k : TokenKind) → not_behind_text k ≡ true → not_behind_value k ≡ true
+text_then_value (token.Opens b) h = refl
+text_then_value (token.Closes b) h = h
+text_then_value token.Comma h = h
+text_then_value token.Colon h = off h
+text_then_value token.Text h = refl
+text_then_value token.Run h = refl
+text_then_value (token.Broken n) h = h
+
+-- behind a member's value, whichever it is
+behind_member : (v : ValueMark) (k : TokenKind) → not_behind_text k ≡ true → Refuses (kind_of (mark (mark_of v))) (token_kind k)
+behind_member (string_value i cs) k h = behind_text k h
+behind_member (other_value i t) k h = behind_value k (text_then_value k h)
 
 -- the last piece, behind which the token has no place
 record LastPiece (ps : List (Piece Tree)) (k : TokenKind) : Type 0 where
@@ -385,11 +406,13 @@ module _ {X : Type 0} (IsKept : X → Content → Type 0) where
   piece_refuses base w (Value i x) (opens d j) k u h = absurd u
   piece_refuses base w (Value i x) (closes d j) k u h = absurd u
   piece_refuses base w (RowPiece r) p k u h = absurd u
+  piece_refuses base w (MembersPiece r) p k u h = absurd u
   piece_refuses base w (ClosersPiece r) p k u h = absurd u
 
   last_is : (base : ℕ) (w : List ℕ) (c : CodePiece X) (us : List (Piece Tree)) (k : TokenKind) → ArePieces IsKept base w c us → not_behind_piece c k ≡ true → LastPiece us k
   last_is base w c us k (inl (p, e, u)) h = record { front = []; last = p; split = e; refuses = piece_refuses base w c p k u h }
   last_is base w (RowPiece r) us k (inr u) h = let (front, j, t, q) = row_last u.others (r.comma, r.first, u.tree) in record { front = front; last = mark (entry j t); split = u.split ∙ q; refuses = behind_value k h }
+  last_is base w (MembersPiece r) us k (inr u) h = let q = members_last u.others u.first in record { front = q.0; last = mark (mark_of q.1); split = u.split ∙ q.2; refuses = behind_member q.1 k h }
   last_is base w (ClosersPiece r) us k (inr u) h = record { front = closers r.bracket r.from u.0; last = closes r.bracket (r.from + u.0); split = u.2 ∙ sym (closers_more r.bracket r.from u.0); refuses = behind_closer r.bracket k h }
   last_is base w (Closes b i) us k (inr u) h = absurd u
   last_is base w (Comma i) us k (inr u) h = absurd u

@@ -39,7 +39,7 @@ row_moves [] = refl
 row_moves (e ∷ es) = row_moves es
 
 -- marks before the first open level
-push_outside : (xs : List (Mark Tree)) (fo : List (Piece Tree)) → push_all free (marks xs) (record { outer = fo; levels = [] }) ≡ further (record { outer = fo ++ marks xs; levels = [] })
+pub push_outside : (xs : List (Mark Tree)) (fo : List (Piece Tree)) → push_all free (marks xs) (record { outer = fo; levels = [] }) ≡ further (record { outer = fo ++ marks xs; levels = [] })
 push_outside [] fo = ap (λ z. further (record { outer = z; levels = [] })) (sym (append-nil fo))
 push_outside (x ∷ xs) fo = push_outside xs (fo ++ mark x ∷ []) ∙ ap (λ z. further (record { outer = z; levels = [] })) (append_assoc fo (mark x ∷ []) (marks xs))
 
@@ -53,7 +53,7 @@ module _ {X : Type 0} (IsKept : X → Content → Type 0) where
   is_row r base w ps (inl (p, e, h)) = absurd (no_row r base w p h)
   is_row r base w ps (inr h) = h
 
-  is_comma : (c : ℕ) (base : ℕ) (w : List ℕ) (ps : List (Piece Tree)) → ArePieces IsKept base w (Comma c) ps → ps ≡ mark (comma c) ∷ []
+  pub is_comma : (c : ℕ) (base : ℕ) (w : List ℕ) (ps : List (Piece Tree)) → ArePieces IsKept base w (Comma c) ps → ps ≡ mark (comma c) ∷ []
   is_comma c base w ps (inl (p, e, h)) = e ∙ ap (λ z. z ∷ []) (one_comma p h)
     where
       one_comma : (p : Piece Tree) → IsHeldPiece IsKept base w (Comma c) p → p ≡ mark (comma c)

@@ -13,8 +13,11 @@ use Rattle.at_nest.specs.declared.levels.ObjectState.{ObjectState}
 use Rattle.at_nest.specs.declared.levels.ObjectState.TheVariants as object
 use Rattle.at_nest.specs.declared.levels.Step.{Step}
 use Rattle.at_nest.specs.declared.pieces.Piece.{Piece as CodePiece}
-use Rattle.at_nest.specs.declared.pieces.Piece.TheVariants.{Closes, Comma, Colon, Text, Value, Row as RowPiece, Closers as ClosersPiece}
+use Rattle.at_nest.specs.declared.pieces.Piece.TheVariants.{Closes, Comma, Colon, Text, Value, Row as RowPiece, Members as MembersPiece, Closers as ClosersPiece}
 use Rattle.at_nest.specs.declared.pieces.Row.{Row}
+use Rattle.at_nest.specs.declared.pieces.NamedValue.{NamedValue}
+use Rattle.at_nest.specs.declared.pieces.MemberRow.{MemberRow}
+use Rattle.at_nest.specs.declared.pieces.Awaited.{Awaited}
 use Rattle.at_nest.specs.declared.pieces.Closers.{Closers}
 use Rattle.at_nest.specs.declared.pieces.Halt.{Halt as CodeHalt}
 use Rattle.at_nest.specs.declared.pieces.Within.{Within as CodeWithin}
@@ -24,6 +27,7 @@ use Rattle.at_nest.specs.Folds.{trees}
 use Rattle.at_nest.specs.Forms.{Meaning, Mark, Piece, closes, mark, comma, colon, quoted, entry}
 use Rattle.at_nest.specs.Levels.{Mode, at_items, at_value, at_after, at_members, at_name, at_colon, at_member, at_further, Level, Form, values_in, pairs_in, marks, pieces_of, push, push_all, Within, at_first, in_run, in_text, Halt, Pushed, further, stopped}
 use Rattle.at_nest.specs.Stops.{AreLevels}
+use Rattle.at_nest.specs.MemberMarks.{ValueMark, mark_of, tree_of, MemberMarks, marks_behind_comma, member_marks, member_pairs}
 use Rattle.at_nest.specs.Shown.{Held, array_level, object_level, Shown, Added, IsStep, value_next, kept_outside, put_back}
 
 abbrev pub tree_members : List (List Character × ℕ × Tree) → Members
@@ -99,6 +103,27 @@ halt_of h = record { kind = within_of h.within; item = h.item; place = h.place }
 abbrev pub IsPartOf : List ℕ → ℕ → List ℕ → Type 0
 IsPartOf bytes base w = (y z : List ℕ) × (bytes ≡ y ++ (w ++ z)) × (base ≡ length y)
 
+-- before the first open level, members begin, or have one more
+abbrev pub BeginsMembers : {X : Type 0} → Shown X → Added X → Awaited → X → Type 0
+BeginsMembers {X = X} old a m x = (s : MemberRow X) × (s.comma ≡ m.comma) × (s.colon ≡ m.colon) × (s.items.items ≡ record { name = m.name; value = x } ∷ []) × (a ≡ kept_outside old.outer (MembersPiece s))
+
+abbrev pub LengthensMembers : {X : Type 0} → Shown X → Added X → MemberRow X → NamedValue X → Type 0
+LengthensMembers {X = X} old a r m = (s : MemberRow X) × (s.comma ≡ r.comma) × (s.colon ≡ r.colon) × (s.items.items ≡ r.items.items ++ m ∷ []) × (a ≡ kept_outside old.outer (MembersPiece s))
+
+-- the name stands in the bytes
+abbrev pub HasName : {X : Type 0} → List ℕ → NamedValue X → Type 0
+HasName bytes m = (base : ℕ) × (w : List ℕ) × (cs : List Character) × IsPartOf bytes base w × IsTextAt base w m.name cs
+
+-- the member has the name that stands in the bytes
+abbrev pub NamesMember : {X : Type 0} → List ℕ → NamedValue X → Member X → Type 0
+NamesMember bytes m n = (n.name_at ≡ m.name.from) × (n.value ≡ m.value) × ((base : ℕ) (w : List ℕ) (cs : List Character) → IsPartOf bytes base w → IsTextAt base w m.name cs → n.name ≡ units_of cs)
+
+-- the level that has a comma behind it
+abbrev pub IsBehindComma : {X : Type 0} → Held X → Type 0
+IsBehindComma (array_level i array.Comma xs) = ⊤
+IsBehindComma (object_level i object.Comma ms) = ⊤
+IsBehindComma _ = ⊥
+
 module _ {X : Type 0} (IsKept : X → Content → Type 0) where
   -- in an array the atom stands for one tree, or for several one behind another
   abbrev pub Holds : X → List Tree → Type 0
@@ -151,14 +176,30 @@ module _ {X : Type 0} (IsKept : X → Content → Type 0) where
     pub split : ps ≡ marks (row_marks ((r.comma, r.first, tree) ∷ others))
     pub items : Each r.items.items (tree ∷ row_trees others)
 
-  abbrev pub AreRow : CodePiece X → List (Piece Tree) → Type 0
-  AreRow (RowPiece r) ps = IsRow r ps
-  AreRow (ClosersPiece r) ps = AreClosers r ps
-  AreRow _ ps = ⊥
+  -- the names stand in the bytes, and each atom stands for its value
+  abbrev pub EachNamed : ℕ → List ℕ → List (NamedValue X) → List MemberMarks → Type 0
+  EachNamed at w [] [] = ⊤
+  EachNamed at w (m ∷ ms) (e ∷ es) = (m.name.from ≡ e.name_at) × IsTextAt at w m.name e.characters × IsKept m.value (one (tree_of e.value)) × EachNamed at w ms es
+  EachNamed at w _ _ = ⊥
 
-  -- what is kept of one item, or of a row of values or of closing brackets
+  -- at least one member
+  pub record AreMembers (at : ℕ) (w : List ℕ) (r : MemberRow X) (ps : List (Piece Tree)) : Type 0 where
+    pub first : MemberMarks
+    pub others : List MemberMarks
+    pub split : ps ≡ marks (member_marks (first ∷ others))
+    pub comma_is : r.comma ≡ first.comma_at
+    pub colon_is : r.colon ≡ first.colon_at
+    pub items : EachNamed at w r.items.items (first ∷ others)
+
+  abbrev pub AreRow : ℕ → List ℕ → CodePiece X → List (Piece Tree) → Type 0
+  AreRow at w (RowPiece r) ps = IsRow r ps
+  AreRow at w (MembersPiece r) ps = AreMembers at w r ps
+  AreRow at w (ClosersPiece r) ps = AreClosers r ps
+  AreRow at w _ ps = ⊥
+
+  -- what is kept of one item, or of a row of values, of members or of closing brackets
   abbrev pub ArePieces : ℕ → List ℕ → CodePiece X → List (Piece Tree) → Type 0
-  ArePieces at w c ps = ((p : Piece Tree) × (ps ≡ p ∷ []) × IsHeldPiece at w c p) ⊎ AreRow c ps
+  ArePieces at w c ps = ((p : Piece Tree) × (ps ≡ p ∷ []) × IsHeldPiece at w c p) ⊎ AreRow at w c ps
 
   abbrev pub EachPiece : ℕ → List ℕ → List (CodePiece X) → List (Piece Tree) → Type 0
   EachPiece at w [] ps = ps ≡ []
@@ -204,6 +245,36 @@ module _ {X : Type 0} (IsKept : X → Content → Type 0) where
   -- what is kept behind a row of values
   abbrev pub PushesRow : Shown X → Shown X → Option CodeHalt → Row X → Type 0
   PushesRow old new r row = (base : ℕ) (w : List ℕ) (f : Form Tree) (ps : List (Piece Tree)) → IsShown base w old f → IsRow row ps → IsPushedAs base w new r (push_all free ps f)
+
+  -- what is kept behind a comma, a name, a colon and a value
+  abbrev pub PushesMember : Shown X → Shown X → Option CodeHalt → Awaited → X → Type 0
+  PushesMember old new r m x = (base : ℕ) (w : List ℕ) (f : Form Tree) (cs : List Character) (v : ValueMark) → IsShown base w old f → IsTextAt base w m.name cs → IsKept x (one (tree_of v))
+      → IsPushedAs base w new r (push_all free (marks (comma m.comma ∷ quoted m.name.from cs ∷ colon m.colon ∷ mark_of v ∷ [])) f)
+
+  -- what is kept behind a value where a name and a colon stand before it
+  abbrev pub PushesAwaited : Shown X → Shown X → Option CodeHalt → X → Type 0
+  PushesAwaited old new r x = (base : ℕ) (w : List ℕ) (f : Form Tree) (v : ValueMark) → IsShown base w old f → IsKept x (one (tree_of v)) → IsPushedAs base w new r (push free f (mark (mark_of v)))
+
+  -- what is kept behind a string
+  abbrev pub PushesKeptText : Shown X → Shown X → Option CodeHalt → Span → X → Type 0
+  PushesKeptText old new r span x = (base : ℕ) (w : List ℕ) (f : Form Tree) (cs : List Character) → IsShown base w old f → IsTextAt base w span cs → IsKept x (one (text span.from cs)) → IsPushedAs base w new r (push free f (mark (quoted span.from cs)))
+
+  -- what is kept behind members
+  abbrev pub PushesMembers : List ℕ → Shown X → Shown X → Option CodeHalt → MemberRow X → Type 0
+  PushesMembers bytes old new r row = (base : ℕ) (w : List ℕ) (f : Form Tree) (ps : List (Piece Tree)) → IsPartOf bytes base w → IsShown base w old f → AreMembers base w row ps → IsPushedAs base w new r (push_all free ps f)
+
+  -- the members stand in the bytes
+  abbrev pub HasMembers : List ℕ → MemberRow X → Type 0
+  HasMembers bytes r = (base : ℕ) × (w : List ℕ) × (e : MemberMarks) × (es : List MemberMarks) × IsPartOf bytes base w × EachNamed base w r.items.items (e ∷ es)
+
+  -- members were put behind the others, one by one
+  abbrev pub GainsMembers : List ℕ → List (Member X) → List (NamedValue X) → List (Member X) → Type 0
+  GainsMembers bytes ms more all = (base : ℕ) (w : List ℕ) (ps : List (List Character × ℕ × Tree)) (es : List MemberMarks) → IsPartOf bytes base w → EachMember ms ps → EachNamed base w more es → EachMember all (ps ++ member_pairs es)
+
+  -- the level is put back behind members whose first comma has been read
+  abbrev pub PutsMembers : List ℕ → Shown X → Shown X → Option CodeHalt → Held X → MemberRow X → Type 0
+  PutsMembers bytes old new r h row = (base : ℕ) (w : List ℕ) (fo : List (Piece Tree)) (l : Level Tree) (ls : List (Level Tree)) (e : MemberMarks) (es : List MemberMarks) → IsPartOf bytes base w → EachPiece base w old.outer fo → IsHeld h l → EachHeld old.levels ls
+      → row.colon ≡ e.colon_at → EachNamed base w row.items.items (e ∷ es) → IsPushedAs base w new r (push_all free (marks (marks_behind_comma e (member_marks es))) (record { outer = fo; levels = l ∷ ls }))
 
   -- what is kept behind closing brackets
   abbrev pub PushesClosers : Shown X → Shown X → Option CodeHalt → Closers → Type 0
@@ -252,6 +323,9 @@ module _ {X : Type 0} (IsKept : X → Content → Type 0) where
 
   abbrev pub CopiesMembers : List (Member X) → List (Member X) → Type 0
   CopiesMembers ms ns = (ps : List (List Character × ℕ × Tree)) → EachMember ms ps → EachMember ns ps
+
+  abbrev pub CopiesNamed : List (NamedValue X) → List (NamedValue X) → Type 0
+  CopiesNamed ms ns = (base : ℕ) (w : List ℕ) (es : List MemberMarks) → EachNamed base w ms es → EachNamed base w ns es
 
   abbrev pub CopiesHeld : Held X → Held X → Type 0
   CopiesHeld h k = (l : Level Tree) → IsHeld h l → IsHeld k l

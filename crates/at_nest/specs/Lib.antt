@@ -4,6 +4,7 @@ pub mod Twins
 pub mod Folds
 pub mod Passing
 pub mod Shown
+pub mod MemberMarks
 pub mod Holding
 pub mod Reading
 pub mod Refusals

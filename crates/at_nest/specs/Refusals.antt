@@ -3,7 +3,7 @@ use Rattle.std.specs.Prelude.{Bool, true, false, not, Option, Some, None, List, 
 use Rattle.at_lex.specs.declared.tokens.TokenKind.{TokenKind}
 use Rattle.at_lex.specs.declared.tokens.TokenKind.TheVariants as token
 use Rattle.at_nest.specs.declared.pieces.Piece.{Piece}
-use Rattle.at_nest.specs.declared.pieces.Piece.TheVariants.{Closes, Comma, Colon, Text, Value, Row as RowPiece, Closers as ClosersPiece}
+use Rattle.at_nest.specs.declared.pieces.Piece.TheVariants.{Closes, Comma, Colon, Text, Value, Row as RowPiece, Members as MembersPiece, Closers as ClosersPiece}
 use Rattle.at_nest.specs.Shown.{Held, Shown, takes_value}
 
 abbrev pub opens_any : TokenKind → Bool
@@ -39,6 +39,7 @@ not_behind_piece (Colon i) k = not_behind_mark k
 not_behind_piece (Text span x) k = not_behind_text k
 not_behind_piece (Value i x) k = not_behind_value k
 not_behind_piece (RowPiece r) k = not_behind_value k
+not_behind_piece (MembersPiece r) k = not_behind_text k
 not_behind_piece (ClosersPiece r) k = not_behind_value k
 
 abbrev pub not_behind_last : {X : Type 0} → Option (Piece X) → TokenKind → Bool

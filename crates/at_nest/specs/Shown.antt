@@ -16,7 +16,7 @@ use Rattle.at_nest.specs.declared.levels.Open.TheVariants.{One, Nested}
 use Rattle.at_nest.specs.declared.levels.Step.{Step}
 use Rattle.at_nest.specs.declared.levels.Step.TheVariants.{On, Refused}
 use Rattle.at_nest.specs.declared.pieces.Piece.{Piece}
-use Rattle.at_nest.specs.declared.pieces.Piece.TheVariants.{Closes, Comma, Colon, Text, Value, Row as RowPiece, Closers as ClosersPiece}
+use Rattle.at_nest.specs.declared.pieces.Piece.TheVariants.{Closes, Comma, Colon, Text, Value, Row as RowPiece, Members as MembersPiece, Closers as ClosersPiece}
 use Rattle.at_nest.specs.declared.pieces.Halt.{Halt}
 use Rattle.at_nest.specs.declared.pieces.Within.TheVariants.{First}
 use Rattle.at_nest.specs.declared.bodies.Body.{Body}
@@ -142,6 +142,7 @@ first_of_piece (Colon i) = i
 first_of_piece (Text span x) = span.from
 first_of_piece (Value i x) = i
 first_of_piece (RowPiece r) = r.comma
+first_of_piece (MembersPiece r) = r.comma
 first_of_piece (ClosersPiece r) = r.from
 
 abbrev pub is_value_piece : {X : Type 0} → Piece X → Bool
@@ -155,6 +156,7 @@ module _ {X : Type 0} (IsOwn : X → Type 0) where
   OwnPiece (Text span x) = IsOwn x
   OwnPiece (Value i x) = IsOwn x
   OwnPiece (RowPiece r) = All IsOwn r.items.items
+  OwnPiece (MembersPiece r) = All (λ m. IsOwn m.value) r.items.items
   OwnPiece _ = ⊤
 
 -- each level's atoms are the algebra's own

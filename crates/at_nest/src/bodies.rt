@@ -13,14 +13,15 @@ ghost use Rattle.at_nest.specs.Nests.{nest_in, PutsLast};
 ghost use Rattle.at_nest.specs.declared.levels.ArrayState.TheVariants.{Empty};
 ghost use Rattle.at_nest.specs.declared.levels.Nest.{Nest};
 ghost use Rattle.at_nest.specs.declared.levels.Open.TheVariants.{Nested};
-ghost use Rattle.at_nest.specs.Holding.{Kept, IsOfItems, Pushes, PushesClosers, PushesText, PushesValue, PushesBehind, PushesRow, Lengthens, PutsRow, CanAdd, Adds, CanJoin, Joins};
+ghost use Rattle.at_nest.specs.Holding.{Kept, IsOfItems, Pushes, PushesClosers, PushesText, PushesValue, PushesBehind, PushesRow, Lengthens, PutsRow, PushesKeptText, CanAdd, Adds, CanJoin, Joins};
 
 use crate::algebra::Algebra;
 use crate::levels::{
     ArrayLevel, ArrayState, Level, MemberName, Nest, Open, Step, array, closed, with_items,
     with_value,
 };
-use crate::pieces::{Closers, Halt, Piece, Row, first_byte};
+use crate::member_rows::{add_members, keep_awaited};
+use crate::pieces::{Closers, Halt, Piece, Row, awaited_member, first_byte};
 use at_lex::{Bracket, TokenKind, units};
 use at_text::{Memory, Span};
 use std::alloc::Global;
@@ -337,9 +338,9 @@ fn keep_behind<A: Algebra>(
     }
 }
 
-/// A value that is no string, before the first open level.
+/// A value that is no string, before the first open level, where it is not the value of a member behind a comma.
 #[inline(always)]
-fn keep_value<A: Algebra>(
+fn keep_other<A: Algebra>(
     body: &mut Body<A::Atom>,
     alloc: Global,
     algebra: &A,
@@ -362,6 +363,27 @@ fn keep_value<A: Algebra>(
     }
 }
 
+/// A value that is no string, before the first open level.
+#[inline(always)]
+fn keep_value<A: Algebra>(
+    body: &mut Body<A::Atom>,
+    alloc: Global,
+    algebra: &A,
+    from: u32,
+    atom: A::Atom,
+) -> Result<Option<Halt>, Memory>
+    requires outside { (shown body.old).levels ≡ [] }
+    requires held { IsOfItems (Kept (A.is_own algebra.now) (A.is_fold algebra.now) (A.is_run algebra.now)) (shown body.old) }
+    requires own { A.is_own algebra.now atom }
+    ensures { IfOk result (λ r. PushesValue (Kept (A.is_own algebra.now) (A.is_fold algebra.now) (A.is_run algebra.now))
+        (shown body.old) (shown body.new) r from atom) }
+{
+    match awaited_member(body.outer.as_slice()) {
+        Some(member) => keep_awaited(body, alloc, algebra, member, atom),
+        None => keep_other(body, alloc, algebra, from, atom),
+    }
+}
+
 /// A value that is no string.
 #[inline(always)]
 pub fn read_value<A: Algebra>(
@@ -379,6 +401,25 @@ pub fn read_value<A: Algebra>(
     match body.innermost(alloc) {
         None => keep_value(body, alloc, algebra, from, atom),
         Some(level) => body.put(with_value(alloc, algebra, level, atom)?, from),
+    }
+}
+
+/// A string before the first open level.
+#[inline(always)]
+fn keep_text<A: Algebra>(
+    body: &mut Body<A::Atom>,
+    alloc: Global,
+    algebra: &A,
+    span: Span,
+    atom: A::Atom,
+) -> Result<Option<Halt>, Memory>
+    requires { (shown body.old).levels ≡ [] }
+    ensures { IfOk result (λ r. PushesKeptText (Kept (A.is_own algebra.now) (A.is_fold algebra.now) (A.is_run algebra.now))
+        (shown body.old) (shown body.new) r span atom) }
+{
+    match awaited_member(body.outer.as_slice()) {
+        Some(member) => keep_awaited(body, alloc, algebra, member, atom),
+        None => body.keep(Piece::Text { span, atom }),
     }
 }
 
@@ -405,7 +446,7 @@ pub fn read_text<A: Algebra>(
                 from: at,
                 to: at + text.len() as u32,
             };
-            body.keep(Piece::Text { span, atom })
+            keep_text(body, alloc, algebra, span, atom)
         }
         Some(level) => if level.wants_name() {
             let name = MemberName {
@@ -548,6 +589,7 @@ fn add<A: Algebra>(
         Piece::Text { span, atom } => add_text(body, alloc, algebra, bytes, span, atom),
         Piece::Value { from, atom } => read_value(body, alloc, algebra, from, atom),
         Piece::Row(row) => add_row(body, alloc, algebra, row),
+        Piece::Members(row) => add_members(body, alloc, algebra, bytes, row),
         Piece::Closers(closers) => close_all(body, alloc, algebra, closers),
     }
 }
@@ -567,7 +609,7 @@ fn add_text<A: Algebra>(
         (shown body.old) (Piece.Text span atom) (shown body.new) r) }
 {
     match body.innermost(alloc) {
-        None => body.keep(Piece::Text { span, atom }),
+        None => keep_text(body, alloc, algebra, span, atom),
         Some(level) => if level.wants_name() {
             let name = MemberName {
                 units: units(alloc, &bytes[span.from as usize..span.to as usize])?,

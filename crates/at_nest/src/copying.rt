@@ -3,13 +3,13 @@
 ghost use Rattle.std.specs.Prelude.{◌≡◌, ℕ, All, List, IfOk};
 ghost use Rattle.at_lex.specs.declared.tokens.Start.{Start};
 ghost use Rattle.at_nest.specs.Shown.{held_of, helds_of, shown, open_levels, AreOwn, OwnPiece, OwnLevel, OwnBody};
-ghost use Rattle.at_nest.specs.Holding.{Kept, CopiesItems, CopiesMember, CopiesMembers, CopiesHeld, CopiesLevels, CopiesPiece, CopiesPieces, CopiesShown};
+ghost use Rattle.at_nest.specs.Holding.{Kept, CopiesItems, CopiesMember, CopiesMembers, CopiesNamed, CopiesHeld, CopiesLevels, CopiesPiece, CopiesPieces, CopiesShown};
 ghost use Rattle.at_nest.specs.Stands.{HoldsVariant};
 
 use crate::algebra::{Algebra, Member};
 use crate::bodies::Body;
 use crate::levels::{ArrayLevel, Level, MemberName, ObjectLevel, ObjectState, Open};
-use crate::pieces::{Piece, Row};
+use crate::pieces::{MemberRow, NamedValue, Piece, Row};
 use crate::variants::Variant;
 use at_text::Memory;
 use std::alloc::Global;
@@ -116,6 +116,24 @@ fn copy_open<A: Algebra>(
     }
 }
 
+fn copy_named<A: Algebra>(
+    alloc: Global,
+    algebra: &A,
+    items: &Vec<NamedValue<A::Atom>>,
+) -> Result<Vec<NamedValue<A::Atom>>, Memory>
+    requires { All (λ m. A.is_own algebra.now m.value) items.now.items }
+    ensures { IfOk result (λ v. CopiesNamed (Kept (A.is_own algebra.now) (A.is_fold algebra.now) (A.is_run algebra.now)) items.now.items v.items) }
+{
+    let mut copied = Vec::with_capacity(alloc, items.len())?;
+    for item in items {
+        copied.push(NamedValue {
+            name: item.name,
+            value: algebra.copy(alloc, &item.value)?,
+        })?;
+    }
+    Ok(copied)
+}
+
 fn copy_piece<A: Algebra>(
     alloc: Global,
     algebra: &A,
@@ -140,6 +158,11 @@ fn copy_piece<A: Algebra>(
             comma: row.comma,
             first: row.first,
             items: copy_items(alloc, algebra, &row.items)?,
+        })),
+        Piece::Members(row) => Ok(Piece::Members(MemberRow {
+            comma: row.comma,
+            colon: row.colon,
+            items: copy_named(alloc, algebra, &row.items)?,
         })),
         Piece::Closers(closers) => Ok(Piece::Closers(*closers)),
     }

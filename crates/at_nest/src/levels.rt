@@ -99,8 +99,9 @@ pub fn array<T>(from: u32, state: ArrayState, items: Vec<T>) -> Level<T>
     Level::Array(ArrayLevel { from, state, items })
 }
 
+/// An object that goes on.
 #[inline(always)]
-fn object<T>(from: u32, state: ObjectState, members: Vec<Member<T>>) -> Level<T>
+pub fn object<T>(from: u32, state: ObjectState, members: Vec<Member<T>>) -> Level<T>
     ensures { result ≡ Level.Object (record { from = from; state = state; members = members }) }
 {
     Level::Object(ObjectLevel {

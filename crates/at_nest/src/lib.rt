@@ -11,6 +11,7 @@ mod copying;
 mod finishing;
 mod fragments;
 mod levels;
+mod member_rows;
 mod openings;
 mod pieces;
 mod tokens;

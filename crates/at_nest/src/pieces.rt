@@ -3,6 +3,7 @@
 ghost use Rattle.std.specs.Prelude.{◌≡◌, ◌+◌, true, IfSome};
 ghost use Rattle.at_nest.specs.Shown.{stop_at, first_of_piece, is_value_piece};
 ghost use Rattle.at_nest.specs.Closers.{IsLonger};
+ghost use Rattle.at_nest.specs.MemberMarks.{Awaits};
 ghost use Rattle.at_nest.specs.Refusals.{not_behind_value as none_behind_value, not_behind_text as none_behind_text, not_behind_mark as none_behind_mark, not_behind_piece};
 
 use at_lex::{Bracket, TokenKind};
@@ -20,6 +21,32 @@ pub struct Row<T> {
     pub items: Vec<T>,
 }
 
+/// A member before the first open level: where its name stands, and what its value became.
+#[derive(Drop)]
+pub struct NamedValue<T> {
+    pub name: Span,
+    pub value: T,
+}
+
+/// Members one behind another, each behind a comma, which can be members of an object alone: no array goes on with a
+/// colon.
+#[derive(Drop)]
+pub struct MemberRow<T> {
+    /// The offset of the first comma.
+    pub comma: u32,
+    /// The offset of the first colon.
+    pub colon: u32,
+    pub items: Vec<NamedValue<T>>,
+}
+
+/// A member behind a comma whose value comes next: the offsets of the comma and the colon, and where the name stands.
+#[derive(Clone, Copy)]
+pub struct Awaited {
+    pub comma: u32,
+    pub name: Span,
+    pub colon: u32,
+}
+
 /// Closing brackets of one kind, one right behind another.
 #[derive(Clone, Copy)]
 pub struct Closers {
@@ -30,7 +57,7 @@ pub struct Closers {
     pub to: u32,
 }
 
-/// An item of a span whose level was opened before the span, or several that stand for items of an array.
+/// An item of a span whose level was opened before the span, or several one behind another.
 #[derive(Drop)]
 pub enum Piece<T> {
     Closes(Bracket, u32),
@@ -41,6 +68,7 @@ pub enum Piece<T> {
     /// Any other value, with the offset of its first byte.
     Value { from: u32, atom: T },
     Row(Row<T>),
+    Members(MemberRow<T>),
     Closers(Closers),
 }
 
@@ -56,6 +84,7 @@ impl<T: Drop> Piece<T> {
             Piece::Text { span, .. } => span.from,
             Piece::Value { from, .. } => *from,
             Piece::Row(row) => row.comma,
+            Piece::Members(row) => row.comma,
             Piece::Closers(closers) => closers.from,
         }
     }
@@ -82,6 +111,7 @@ impl<T: Drop> Piece<T> {
             Piece::Text { .. } => not_behind_text(kind),
             Piece::Value { .. } => not_behind_value(kind),
             Piece::Row(_) => not_behind_value(kind),
+            Piece::Members(_) => not_behind_text(kind),
             Piece::Closers(_) => not_behind_value(kind),
         }
     }
@@ -134,6 +164,31 @@ fn more_closers(closers: Closers, bracket: Bracket, at: u32) -> Option<Closers>
         });
     }
     None
+}
+
+/// The member of which the next item is the value, where the last items are a comma, a string and a colon.
+#[inline(always)]
+pub fn awaited_member<T: Drop>(pieces: &[Piece<T>]) -> Option<Awaited>
+    ensures { IfSome result (Awaits pieces.now) }
+{
+    if pieces.len() < 3 {
+        return None;
+    }
+    let front = pieces.len() - 3;
+    let Piece::Colon(colon) = &pieces[front + 2] else {
+        return None;
+    };
+    let Piece::Text { span, .. } = &pieces[front + 1] else {
+        return None;
+    };
+    let Piece::Comma(comma) = &pieces[front] else {
+        return None;
+    };
+    Some(Awaited {
+        comma: *comma,
+        name: *span,
+        colon: *colon,
+    })
 }
 
 /// Whether no token of the kind may stand behind a closing bracket, or a value that is no string.

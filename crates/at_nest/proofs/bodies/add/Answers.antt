@@ -7,6 +7,7 @@ use Rattle.at_nest.specs.Shown.{shown}
 use Rattle.at_nest.specs.Holding.{Kept, CanAdd}
 use Rattle.at_nest.proofs.Adding.{adds_close, adds_row, adds_closers, adds_comma, adds_colon, adds_value, some_items}
 use Rattle.at_nest.proofs.Copies.{can_add_own}
+use Rattle.at_nest.proofs.MemberRows.{has_members, adds_members}
 use Rattle.at_nest.proofs.bodies.add.Goals as goal
 
 pub returns-in-Comma : goal.returns-in-Comma
@@ -44,6 +45,18 @@ add_row-requires-clause-row g c κs within = let own = g.A.Algebra.is_own c.args
 pub returns-in-Row : goal.returns-in-Row
 returns-in-Row g c = let own = g.A.Algebra.is_own c.args.algebra.now in let fold = g.A.Algebra.is_fold c.args.algebra.now in let run = g.A.Algebra.is_run c.args.algebra.now in
     IfOk-weaker c.add_row.result _ _ (λ r d. adds_row (Kept own fold run) c.args.bytes.now (shown c.args.body.now) c.args.piece (shown c.add_row.new.body) r c.in-Row.row c.in-Row.is d) c.add_row.ensures
+
+pub add_members-requires-clause-held : goal.add_members-requires-clause-held
+add_members-requires-clause-held g c κs within = let own = g.A.Algebra.is_own c.args.algebra.now in let fold = g.A.Algebra.is_fold c.args.algebra.now in let run = g.A.Algebra.is_run c.args.algebra.now in
+    some_items (Kept own fold run) c.args.bytes.now (shown c.args.body.now) c.args.piece c.requires.held
+
+pub add_members-requires-clause-row : goal.add_members-requires-clause-row
+add_members-requires-clause-row g c κs within = let own = g.A.Algebra.is_own c.args.algebra.now in let fold = g.A.Algebra.is_fold c.args.algebra.now in let run = g.A.Algebra.is_run c.args.algebra.now in
+    has_members (Kept own fold run) c.args.bytes.now (shown c.args.body.now) c.in-Members.row (subst (λ (z : Piece g.row.A-Atom.Denot). CanAdd (Kept own fold run) c.args.bytes.now (shown c.args.body.now) z) c.in-Members.is c.requires.held)
+
+pub returns-in-Members : goal.returns-in-Members
+returns-in-Members g c = let own = g.A.Algebra.is_own c.args.algebra.now in let fold = g.A.Algebra.is_fold c.args.algebra.now in let run = g.A.Algebra.is_run c.args.algebra.now in
+    IfOk-weaker c.add_members.result _ _ (λ r d. adds_members (Kept own fold run) c.args.bytes.now (shown c.args.body.now) c.args.piece (shown c.add_members.new.body) r c.in-Members.row c.in-Members.is d) c.add_members.ensures
 
 pub close_all-requires-clause-held : goal.close_all-requires-clause-held
 close_all-requires-clause-held g c κs within = let own = g.A.Algebra.is_own c.args.algebra.now in let fold = g.A.Algebra.is_fold c.args.algebra.now in let run = g.A.Algebra.is_run c.args.algebra.now in

@@ -6,7 +6,8 @@ use Rattle.at_nest.specs.declared.pieces.Piece.TheVariants.{Text}
 use Rattle.at_nest.specs.Shown.{shown, held_of, name_next, value_next}
 use Rattle.at_nest.specs.Holding.{Kept}
 use Rattle.at_nest.proofs.Held.{name_moves, text_moves}
-use Rattle.at_nest.proofs.Showing.{text_outside, text_put, text_bytes}
+use Rattle.at_nest.proofs.MemberRows.{text_same}
+use Rattle.at_nest.proofs.Showing.{text_put, text_bytes}
 use Rattle.at_nest.proofs.Adding.{adds_text, has_text, innermost_own, some_items}
 use Rattle.at_nest.proofs.Copies.{can_add_own}
 use Rattle.at_nest.proofs.bodies.add_text.Goals as goal
@@ -18,10 +19,10 @@ units-requires-clause-whole g c = let own = g.A.Algebra.is_own c.args.algebra.no
 
 pub returns-in-None : goal.returns-in-None
 returns-in-None g c = let own = g.A.Algebra.is_own c.args.algebra.now in let fold = g.A.Algebra.is_fold c.args.algebra.now in let run = g.A.Algebra.is_run c.args.algebra.now in
-    IfOk-weaker c.keep.result _ _
-    (λ r d. adds_text (Kept own fold run) c.args.bytes.now (shown c.args.body.now) (shown c.keep.new.self) r c.args.span c.args.atom
-    (λ base w f cs part h t k. text_outside (Kept own fold run) base w (shown c.args.body.now) (shown c.innermost.new.self).outer (shown c.keep.new.self) r c.args.span cs c.args.atom f c.in-None.ensures.levels.0 (sym c.innermost.ensures.outer) d h t k))
-    c.keep.ensures
+    IfOk-weaker c.keep_text.result _ _
+    (λ r d. adds_text (Kept own fold run) c.args.bytes.now (shown c.args.body.now) (shown c.keep_text.new.body) r c.args.span c.args.atom
+    (λ base w f cs part h t k. text_same (Kept own fold run) (shown c.args.body.now) (shown c.innermost.new.self) (shown c.keep_text.new.body) r c.args.span c.args.atom c.innermost.ensures.outer (c.in-None.ensures.levels.1 ∙ sym c.in-None.ensures.levels.0) d base w f cs h t k))
+    c.keep_text.ensures
 
 pub returns-in_ok-units-in-Some : goal.returns-in_ok-units-in-Some
 returns-in_ok-units-in-Some g c = let own = g.A.Algebra.is_own c.args.algebra.now in let fold = g.A.Algebra.is_fold c.args.algebra.now in let run = g.A.Algebra.is_run c.args.algebra.now in

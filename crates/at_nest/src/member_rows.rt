@@ -1,0 +1,215 @@
+//! Members in a span in which the opening bracket of their object doesn't stand.
+
+ghost use Rattle.std.specs.Prelude.{◌≡◌, ◌≤◌, ◌^◌, [], length, All, IfOk};
+ghost use Rattle.at_nest.specs.Shown.{held_of, AreOwn, shown};
+ghost use Rattle.at_nest.specs.MemberMarks.{Awaits};
+ghost use Rattle.at_nest.specs.Holding.{Kept, IsOfItems, HasName, HasMembers, IsBehindComma, NamesMember, GainsMembers, BeginsMembers, LengthensMembers, PushesMember, PushesAwaited, PushesMembers, PutsMembers};
+
+use crate::algebra::{Algebra, Member};
+use crate::bodies::Body;
+use crate::levels::{ArrayLevel, Level, ObjectLevel, ObjectState, Step, object, with_value};
+use crate::pieces::{Awaited, Halt, MemberRow, NamedValue, Piece};
+use at_lex::units;
+use at_text::Memory;
+use std::alloc::Global;
+
+/// A member before the first open level, where no member stands before it.
+fn begin_members<T: Drop>(
+    body: &mut Body<T>,
+    alloc: Global,
+    member: Awaited,
+    value: T,
+) -> Result<Option<Halt>, Memory>
+    requires { (shown body.old).levels ≡ [] }
+    ensures { IfOk result (λ r. BeginsMembers (shown body.old) (shown body.new, r) member value) }
+{
+    let mut items = Vec::new(alloc);
+    items.push(NamedValue {
+        name: member.name,
+        value,
+    })?;
+    body.keep(Piece::Members(MemberRow {
+        comma: member.comma,
+        colon: member.colon,
+        items,
+    }))
+}
+
+/// One member more behind others.
+fn lengthen_members<T: Drop>(
+    body: &mut Body<T>,
+    row: MemberRow<T>,
+    member: NamedValue<T>,
+) -> Result<Option<Halt>, Memory>
+    requires { (shown body.old).levels ≡ [] }
+    ensures { IfOk result (λ r. LengthensMembers (shown body.old) (shown body.new, r) row member) }
+{
+    let MemberRow {
+        comma,
+        colon,
+        mut items,
+    } = row;
+    items.push(member)?;
+    body.keep(Piece::Members(MemberRow {
+        comma,
+        colon,
+        items,
+    }))
+}
+
+/// A member before the first open level: it lengthens those before it, or begins some.
+fn keep_member<A: Algebra>(
+    body: &mut Body<A::Atom>,
+    alloc: Global,
+    algebra: &A,
+    member: Awaited,
+    value: A::Atom,
+) -> Result<Option<Halt>, Memory>
+    requires { (shown body.old).levels ≡ [] }
+    ensures { IfOk result (λ r. PushesMember (Kept (A.is_own algebra.now) (A.is_fold algebra.now) (A.is_run algebra.now))
+        (shown body.old) (shown body.new) r member value) }
+{
+    let _ = algebra;
+    match body.outer.pop() {
+        Some(Piece::Members(row)) => {
+            let name = member.name;
+            lengthen_members(body, row, NamedValue { name, value })
+        }
+        Some(piece) => {
+            body.outer.push(piece)?;
+            begin_members(body, alloc, member, value)
+        }
+        None => begin_members(body, alloc, member, value),
+    }
+}
+
+/// The value of a member before the first open level.
+pub fn keep_awaited<A: Algebra>(
+    body: &mut Body<A::Atom>,
+    alloc: Global,
+    algebra: &A,
+    member: Awaited,
+    value: A::Atom,
+) -> Result<Option<Halt>, Memory>
+    requires outside { (shown body.old).levels ≡ [] }
+    requires awaits { Awaits (shown body.old).outer member }
+    ensures { IfOk result (λ r. PushesAwaited (Kept (A.is_own algebra.now) (A.is_fold algebra.now) (A.is_run algebra.now))
+        (shown body.old) (shown body.new) r value) }
+{
+    body.outer.truncate(body.outer.len().saturating_sub(3));
+    keep_member(body, alloc, algebra, member, value)
+}
+
+/// A member, whose name stands in the bytes.
+fn named_member<T: Drop>(
+    alloc: Global,
+    bytes: &[u8],
+    member: NamedValue<T>,
+) -> Result<Member<T>, Memory>
+    requires fits { length bytes.now ≤ 2 ^ 28 }
+    requires name { HasName bytes.now member }
+    ensures { IfOk result (NamesMember bytes.now member) }
+{
+    let NamedValue { name, value } = member;
+    Ok(Member {
+        name: units(alloc, &bytes[name.from as usize..name.to as usize])?,
+        name_at: name.from,
+        value,
+    })
+}
+
+/// An object's members, and further ones behind them.
+fn with_members<A: Algebra>(
+    alloc: Global,
+    algebra: &A,
+    bytes: &[u8],
+    mut members: Vec<Member<A::Atom>>,
+    more: Vec<NamedValue<A::Atom>>,
+) -> Result<Vec<Member<A::Atom>>, Memory>
+    requires fits { length bytes.now ≤ 2 ^ 28 }
+    requires names { All (HasName bytes.now) more.items }
+    ensures { IfOk result (λ all. GainsMembers (Kept (A.is_own algebra.now) (A.is_fold algebra.now) (A.is_run algebra.now))
+        bytes.now members.items more.items all.items) }
+{
+    let _ = algebra;
+    for member in more {
+        members.push(named_member(alloc, bytes, member)?)?;
+    }
+    Ok(members)
+}
+
+/// Puts an array that has a comma behind it back behind members: it takes the first name as a value, and no colon.
+fn refuse_members<A: Algebra>(
+    body: &mut Body<A::Atom>,
+    alloc: Global,
+    algebra: &A,
+    bytes: &[u8],
+    level: ArrayLevel<A::Atom>,
+    row: MemberRow<A::Atom>,
+) -> Result<Option<Halt>, Memory>
+    requires fits { length bytes.now ≤ 2 ^ 28 }
+    requires level { AreOwn (A.is_own algebra.now) (held_of (Level.Array level)) }
+    requires comma { IsBehindComma (held_of (Level.Array level)) }
+    requires row { HasMembers (Kept (A.is_own algebra.now) (A.is_fold algebra.now) (A.is_run algebra.now)) bytes.now row }
+    ensures { IfOk result (λ r. PutsMembers (Kept (A.is_own algebra.now) (A.is_fold algebra.now) (A.is_run algebra.now))
+        bytes.now (shown body.old) (shown body.new) r (held_of (Level.Array level)) row) }
+{
+    let name = row.items[0].name;
+    let text = &bytes[name.from as usize..name.to as usize];
+    let atom = algebra.scalar(alloc, text, name.from)?;
+    match with_value(alloc, algebra, Level::Array(level), atom)? {
+        Step::On(level) => body.put(Step::Refused(level), row.colon),
+        Step::Refused(level) => body.put(Step::Refused(level), name.from),
+    }
+}
+
+/// Puts a level that has a comma behind it back behind members.
+fn put_members<A: Algebra>(
+    body: &mut Body<A::Atom>,
+    alloc: Global,
+    algebra: &A,
+    bytes: &[u8],
+    level: Level<A::Atom>,
+    row: MemberRow<A::Atom>,
+) -> Result<Option<Halt>, Memory>
+    requires fits { length bytes.now ≤ 2 ^ 28 }
+    requires level { AreOwn (A.is_own algebra.now) (held_of level) }
+    requires comma { IsBehindComma (held_of level) }
+    requires row { HasMembers (Kept (A.is_own algebra.now) (A.is_fold algebra.now) (A.is_run algebra.now)) bytes.now row }
+    ensures { IfOk result (λ r. PutsMembers (Kept (A.is_own algebra.now) (A.is_fold algebra.now) (A.is_run algebra.now))
+        bytes.now (shown body.old) (shown body.new) r (held_of level) row) }
+{
+    match level {
+        Level::Array(level) => refuse_members(body, alloc, algebra, bytes, level, row),
+        Level::Object(ObjectLevel { from, members, .. }) => {
+            let members = with_members(alloc, algebra, bytes, members, row.items)?;
+            body.put(
+                Step::On(object(from, ObjectState::Value, members)),
+                row.comma,
+            )
+        }
+    }
+}
+
+/// Members of the span behind.
+pub fn add_members<A: Algebra>(
+    body: &mut Body<A::Atom>,
+    alloc: Global,
+    algebra: &A,
+    bytes: &[u8],
+    row: MemberRow<A::Atom>,
+) -> Result<Option<Halt>, Memory>
+    requires fits { length bytes.now ≤ 2 ^ 28 }
+    requires held { IsOfItems (Kept (A.is_own algebra.now) (A.is_fold algebra.now) (A.is_run algebra.now)) (shown body.old) }
+    requires row { HasMembers (Kept (A.is_own algebra.now) (A.is_fold algebra.now) (A.is_run algebra.now)) bytes.now row }
+    ensures { IfOk result (λ r. PushesMembers (Kept (A.is_own algebra.now) (A.is_fold algebra.now) (A.is_run algebra.now))
+        bytes.now (shown body.old) (shown body.new) r row) }
+{
+    match body.innermost(alloc) {
+        None => body.keep(Piece::Members(row)),
+        Some(level) => match level.comma() {
+            Step::Refused(level) => body.put(Step::Refused(level), row.comma),
+            Step::On(level) => put_members(body, alloc, algebra, bytes, level, row),
+        },
+    }
+}
