@@ -289,6 +289,59 @@ fn shapes(rt: HostRuntime) -> Result<(), Fail> {
     compare_rows(&rt, &rows)
 }
 
+/// Coordinates of several lines and areas, read at once or item by item.
+#[test]
+fn nested(rt: HostRuntime) -> Result<(), Fail> {
+    let rows: [Row; 9] = [
+        (
+            b"area",
+            b"{\"type\":\"MultiPolygon\",\"coordinates\":[[[[0,0],[2,0],[2,2],[0,2],[0,0]],[[0.5,0.5],[1.5,0.5],[1.5,1.5],[0.5,1.5],[0.5,0.5]]],[[[10,0],[11,0],[11,1],[10,1],[10,0]]]]}",
+            "800000000000000\n",
+        ),
+        (
+            b"extent",
+            b"{\"type\":\"MultiLineString\",\"coordinates\": [ [ [0, 1] , [2,3] ] , [ [ -5,7],[8 ,9]]]}",
+            "-5.0000000 1.0000000 8.0000000 9.0000000\n",
+        ),
+        (
+            b"count",
+            b"{\"type\":\"MultiPolygon\",\"coordinates\":[[[[0,0],[1,0],[1,1],[0,0]]],[[[0,0],[1,0],[1,1],[0,1]]]]}",
+            "Ring at 67",
+        ),
+        (
+            b"area",
+            b"{\"type\":\"MultiPolygon\",\"coordinates\":[[[[0,0],[1,0],[1,1],[0,0]]],[[[0,0],[1,0],[1,1],[0,1]]]]}",
+            "Ring at 67",
+        ),
+        (
+            b"count",
+            b"{\"type\":\"MultiLineString\",\"coordinates\":[[[0,0],[1,0]],[[0,0]]]}",
+            "Short at 55",
+        ),
+        (
+            b"area",
+            b"{\"type\":\"Polygon\",\"coordinates\":[[[0,0],[2,0],[2,2],[0,2],[0,0,7]]]}",
+            "800000000000000\n",
+        ),
+        (
+            b"count",
+            b"{\"type\":\"MultiPolygon\",\"coordinates\":[[[[[0,0]]]]]}",
+            "Form at 37",
+        ),
+        (
+            b"count",
+            b"{\"type\":\"Polygon\",\"coordinates\":[[[[0,0],[1,0],[1,1],[0,0]]]]}",
+            "Form at 32",
+        ),
+        (
+            b"count",
+            b"{\"type\":\"Polygon\",\"coordinates\":[[[0,0],[1,0],[1,1],[0,0]]}",
+            "Syntax at 58",
+        ),
+    ];
+    compare_rows(&rt, &rows)
+}
+
 /// Objects one behind another in an array, and what stands between them.
 #[test]
 fn runs(rt: HostRuntime) -> Result<(), Fail> {
