@@ -5,7 +5,7 @@ use Rattle.std.specs.List.{list_any}
 use Rattle.std.specs.declared.boxed.Box.{Box}
 use Rattle.std.specs.declared.alloc.Global.{Global}
 use Rattle.std.proofs.lemmas.Bool.{true≢false, or_parts}
-use Rattle.std.proofs.lemmas.List.Elements.{All-nil, All-cons, All-append}
+use Rattle.std.proofs.lemmas.List.Elements.{All-nil, All-cons, All-head, All-tail, All-append}
 use Rattle.std.proofs.lemmas.List.Folds.{list_any-append}
 use Rattle.std.proofs.lemmas.Option.{none-some}
 use Rattle.at_text.specs.Faults.{first_fault, first_of}
@@ -26,7 +26,7 @@ use Rattle.at_geojson.specs.Roles.{texts_of}
 use Rattle.at_geojson.specs.Keeping.{Asked, asked_texts}
 use Rattle.at_geojson.specs.Atoms.{Alike, twin_of, as_run, is_object_tree, object_members, IsRead, IsFold, AreJoined, IsRun, AreOwnItems, IfOwnShape, IfOwnPart, IsOwn}
 use Rattle.at_geojson.specs.Gathering.{firsts, is_run, item_geometries, item_features, JoinsShapes, JoinsFound}
-use Rattle.at_geojson.specs.Arrays.{JoinsItems, joins_run}
+use Rattle.at_geojson.specs.Arrays.{JoinsItems, joins_run, TakesRun}
 use Rattle.at_geojson.proofs.Firsts.{firsts-cons}
 use Rattle.at_geojson.proofs.Each.{none_left, none_behind}
 use Rattle.at_geojson.proofs.ItemFolds.{last_covers, have_both, have_covers}
@@ -211,10 +211,41 @@ module _ (asked : Asked) where
         old_joined vs (inr (run, q, r)) = run_is run vs q r
 
   -- a run of the atom alone
-  pub adds_run : (new : Box Items Global) (a : GeoAtom) → joins_run a ≡ true → new.value.geometries ≡ item_geometries a → new.value.features ≡ item_features a
-      → (ts us : List Tree) → AreItemFolds (IsFold asked) (IsRun asked) [] ts → Covers (IsFold asked) (IsRun asked) a us
-      → AreItemFolds (IsFold asked) (IsRun asked) (atoms.Run new ∷ []) (ts ++ us)
-  adds_run new a n eg ef ts us h c = folds_append (IsFold asked) (IsRun asked) [] ts (atoms.Run new) us h (inr (new, refl, joined_covers a us new.value n eg ef c))
+  pub adds_run : (xs : List GeoAtom) (new : Box Items Global) (a : GeoAtom) → joins_run a ≡ true → new.value.geometries ≡ item_geometries a → new.value.features ≡ item_features a
+      → (ts us : List Tree) → AreItemFolds (IsFold asked) (IsRun asked) xs ts → Covers (IsFold asked) (IsRun asked) a us
+      → AreItemFolds (IsFold asked) (IsRun asked) (xs ++ atoms.Run new ∷ []) (ts ++ us)
+  adds_run xs new a n eg ef ts us h c = folds_append (IsFold asked) (IsRun asked) xs ts (atoms.Run new) us h (inr (new, refl, joined_covers a us new.value n eg ef c))
+
+  -- the last two are runs, and become one
+  settles_runs : (xs : List GeoAtom) (before run new : Box Items Global)
+      → JoinsShapes before.value.geometries run.value.geometries new.value.geometries → JoinsFound before.value.features run.value.features new.value.features
+      → (ts : List Tree) → AreItemFolds (IsFold asked) (IsRun asked) ((xs ++ atoms.Run before ∷ []) ++ atoms.Run run ∷ []) ts
+      → AreItemFolds (IsFold asked) (IsRun asked) (xs ++ atoms.Run new ∷ []) ts
+  settles_runs xs before run new j k ts h =
+      let (ps, qs, e, hs, c) = last_covers (IsFold asked) (IsRun asked) (xs ++ atoms.Run before ∷ []) (atoms.Run run) ts h in
+      subst (λ z. AreItemFolds (IsFold asked) (IsRun asked) (xs ++ atoms.Run new ∷ []) z) (sym e)
+      (adds_to_run xs before new (atoms.Run run) run.value refl refl refl j k ps qs hs c)
+
+  -- what stands before the run that is taken off, and that run
+  pub settles_taken : (items xs : List GeoAtom) (before run new : Box Items Global) → items ≡ xs ++ atoms.Run before ∷ []
+      → JoinsShapes before.value.geometries run.value.geometries new.value.geometries → JoinsFound before.value.features run.value.features new.value.features
+      → (ts : List Tree) → AreItemFolds (IsFold asked) (IsRun asked) (items ++ atoms.Run run ∷ []) ts
+      → AreItemFolds (IsFold asked) (IsRun asked) (xs ++ atoms.Run new ∷ []) ts
+  settles_taken items xs before run new e j k ts h = settles_runs xs before run new j k ts (subst (λ (z : List GeoAtom). AreItemFolds (IsFold asked) (IsRun asked) (z ++ atoms.Run run ∷ []) ts) e h)
+
+  -- the run that is taken off is the algebra's own, and so is what stands before it
+  own_parts : (xs : List GeoAtom) (run : Box Items Global) → All (IsOwn asked) (xs ++ atoms.Run run ∷ []) → All (IsOwn asked) xs × AreOwnItems asked run.value
+  own_parts [] run h = (All-nil (IsOwn asked), All-head (IsOwn asked) (atoms.Run run) [] h)
+  own_parts (x ∷ xs) run h =
+      let rest = own_parts xs run (All-tail (IsOwn asked) x (xs ++ atoms.Run run ∷ []) h) in
+      (All-cons (IsOwn asked) x xs (All-head (IsOwn asked) x (xs ++ atoms.Run run ∷ []) h) rest.0, rest.1)
+
+  -- what is left and the run that is taken off
+  pub taken_off : (items xs : List GeoAtom) (o : Option (Box Items Global)) (run : Box Items Global) → TakesRun items xs o → o ≡ Some run → items ≡ xs ++ atoms.Run run ∷ []
+  taken_off items xs o run h e = subst (TakesRun items xs) e h
+
+  pub taken_run_own : (items xs : List GeoAtom) (run : Box Items Global) → items ≡ xs ++ atoms.Run run ∷ [] → All (IsOwn asked) items → All (IsOwn asked) xs × AreOwnItems asked run.value
+  taken_run_own items xs run e h = own_parts xs run (subst (All (IsOwn asked)) e h)
 
   pub joined_own : (old more new : Items) → JoinsShapes old.geometries more.geometries new.geometries → JoinsFound old.features more.features new.features
       → AreOwnItems asked old → AreOwnItems asked more → AreOwnItems asked new

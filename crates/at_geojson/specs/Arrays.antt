@@ -1,5 +1,7 @@
 -- What is made of an array whose items are of no one sort of coordinates. Only contracts of private functions cite this.
-use Rattle.std.specs.Prelude.{◌≡◌, ℕ, ◌⊎◌, Bool, false, ◌||◌, List, ◌++◌, Some, None}
+use Rattle.std.specs.Prelude.{◌≡◌, ℕ, ◌⊎◌, Bool, false, ◌||◌, List, [], ◌∷◌, ◌++◌, Option, Some, None}
+use Rattle.std.specs.declared.alloc.Global.{Global}
+use Rattle.std.specs.declared.boxed.Box.{Box}
 use Rattle.std.specs.List.{list_any}
 use Rattle.at_nest.specs.Tree.{Tree, array}
 use Rattle.at_nest.specs.Folds.{trees, Covers, AreItemFolds}
@@ -33,6 +35,15 @@ joins_run a = is_object a || is_run a
 -- whatever trees the atoms and the further atom stand for, the new atoms stand for all of them
 abbrev pub Adds : Asked → List GeoAtom → GeoAtom → List GeoAtom → Type 0
 Adds asked old a new = (ts us : List Tree) → AreItemFolds (IsFold asked) (IsRun asked) old ts → Covers (IsFold asked) (IsRun asked) a us → AreItemFolds (IsFold asked) (IsRun asked) new (ts ++ us)
+
+-- whatever trees the atoms stand for, the new atoms stand for them
+abbrev pub Settles : Asked → List GeoAtom → List GeoAtom → Type 0
+Settles asked old new = (ts : List Tree) → AreItemFolds (IsFold asked) (IsRun asked) old ts → AreItemFolds (IsFold asked) (IsRun asked) new ts
+
+-- the last atom, a run, is taken off; or none is
+abbrev pub TakesRun : List GeoAtom → List GeoAtom → Option (Box Items Global) → Type 0
+TakesRun old new (Some run) = old ≡ new ++ atoms.Run run ∷ []
+TakesRun old new None = old ≡ new
 
 -- whatever trees the items stand for, the atom is that of the array of these trees
 abbrev pub ClosesItems : Asked → ℕ → List GeoAtom → GeoAtom → Type 0

@@ -1,18 +1,25 @@
 //! Arrays whose items are joined as they come: nothing is kept of each.
+//!
+//! Runs whose features have a hull of many corners are joined as in a binary counter, since a join takes a time that grows
+//! with the corners of both.
 
 ghost use Rattle.std.specs.Prelude.{◌≡◌, ◌++◌, ◌∷◌, [], All, IfOk, None, true};
 ghost use Rattle.std.specs.List.{list_any};
 ghost use Rattle.at_geojson.specs.Atoms.{twin_of as twin_in, IsOwn, AreOwnItems};
 ghost use Rattle.at_geojson.specs.Gathering.{firsts, is_run as run_is, item_geometries, item_features, JoinsShapes, JoinsFound, AreJoinable};
-ghost use Rattle.at_geojson.specs.Arrays.{joins_run, Adds, ClosesItems};
+ghost use Rattle.at_geojson.specs.Arrays.{joins_run, Adds, TakesRun, Settles, ClosesItems};
 
 use crate::asked::GeoAlgebra;
 use crate::atoms::{GeoAtom, Items, ItemsAtom};
 use crate::lists::{all_items, array_atom, form_at, into_items, joined_items};
 use crate::twins::first_twin;
+use at_query::Part;
 use at_text::Memory;
 use std::alloc::Global;
 use std::mem::replace;
+
+/// Further items are joined into a run one by one while the hull of its features has at most so many corners.
+const LIGHT: usize = 64;
 
 /// Whether an atom is a run.
 fn is_run(atom: &GeoAtom) -> bool
@@ -44,6 +51,22 @@ fn joins(atom: &GeoAtom) -> bool
         GeoAtom::Object(_) => true,
         GeoAtom::Run(_) => true,
         _ => false,
+    }
+}
+
+/// How many corners a part has, where the query asks for a hull.
+fn corners(part: &Part) -> usize {
+    match part {
+        Part::Hull(path) => path.as_slice().len(),
+        _ => 0,
+    }
+}
+
+/// How many corners the hull of the items' features has. The more, the longer it takes to join it with another.
+fn weight(items: &Items) -> usize {
+    match &items.features {
+        Ok(part) => corners(part),
+        Err(_) => 0,
     }
 }
 
@@ -89,14 +112,13 @@ fn push_item(algebra: &GeoAlgebra, items: &mut Vec<GeoAtom>, atom: GeoAtom) -> R
     Ok(())
 }
 
-/// Puts a run of one atom where there is no item.
+/// Puts a run of one atom behind those of an array's items.
 fn start_run(
     alloc: Global,
     algebra: &GeoAlgebra,
     items: &mut Vec<GeoAtom>,
     atom: GeoAtom,
 ) -> Result<(), Memory>
-    requires none { items.old.items ≡ [] }
     requires items { All (IsOwn algebra.now) items.old.items }
     requires atom { IsOwn algebra.now atom }
     requires joins { joins_run atom ≡ true }
@@ -128,8 +150,113 @@ fn join_run(
     Ok(())
 }
 
+/// Keeps a run aside where it has at most about twice the weight, and else puts it back.
+fn take_light(
+    items: &mut Vec<GeoAtom>,
+    beside: usize,
+    run: Box<Items>,
+) -> Result<Option<Box<Items>>, Memory>
+    ensures { IfOk result (TakesRun (items.old.items ++ GeoAtom.Run run ∷ []) items.new.items) }
+{
+    if weight(&run) / 2 <= beside {
+        Ok(Some(run))
+    } else {
+        items.push(GeoAtom::Run(run))?;
+        Ok(None)
+    }
+}
+
+/// Keeps the last item aside, which was taken off, where it is such a run, and else puts it back.
+fn take_last(
+    items: &mut Vec<GeoAtom>,
+    beside: usize,
+    last: GeoAtom,
+) -> Result<Option<Box<Items>>, Memory>
+    ensures { IfOk result (TakesRun (items.old.items ++ last ∷ []) items.new.items) }
+{
+    match last {
+        GeoAtom::Run(run) => take_light(items, beside, run),
+        other => {
+            items.push(other)?;
+            Ok(None)
+        }
+    }
+}
+
+/// Takes off the last item where it is a run of at most about twice the weight.
+fn take_run(items: &mut Vec<GeoAtom>, beside: usize) -> Result<Option<Box<Items>>, Memory>
+    ensures { IfOk result (TakesRun items.old.items items.new.items) }
+{
+    match items.pop() {
+        Some(last) => take_last(items, beside, last),
+        None => Ok(None),
+    }
+}
+
+/// Joins a run with those before it, which are taken off, while the last of these isn't much heavier.
+fn settled_run(
+    algebra: &GeoAlgebra,
+    items: &mut Vec<GeoAtom>,
+    run: Box<Items>,
+) -> Result<Box<Items>, Memory>
+    requires items { All (IsOwn algebra.now) items.old.items }
+    requires run { AreOwnItems algebra.now run.value }
+    ensures items { IfOk result (λ b. All (IsOwn algebra.now) items.new.items) }
+    ensures run { IfOk result (λ b. AreOwnItems algebra.now b.value) }
+    ensures fold { IfOk result (λ b. Settles algebra.now (items.old.items ++ GeoAtom.Run run ∷ []) (items.new.items ++ GeoAtom.Run b ∷ [])) }
+{
+    let mut settled = run;
+    while let Some(before) = take_run(items, weight(&settled))? {
+        settled = joined_run(before, Box::into_inner(settled))?;
+    }
+    Ok(settled)
+}
+
+/// Puts an atom behind a heavy run, which was taken off: it begins a run of its own.
+fn add_behind_heavy(
+    alloc: Global,
+    algebra: &GeoAlgebra,
+    items: &mut Vec<GeoAtom>,
+    before: Box<Items>,
+    atom: GeoAtom,
+) -> Result<(), Memory>
+    requires items { All (IsOwn algebra.now) items.old.items }
+    requires before { AreOwnItems algebra.now before.value }
+    requires atom { IsOwn algebra.now atom }
+    requires joins { joins_run atom ≡ true }
+    ensures own { IfOk result (λ u. All (IsOwn algebra.now) items.new.items) }
+    ensures fold { IfOk result (λ u. Adds algebra.now (items.old.items ++ GeoAtom.Run before ∷ []) atom items.new.items) }
+{
+    let settled = settled_run(algebra, items, before)?;
+    items.push(GeoAtom::Run(settled))?;
+    start_run(alloc, algebra, items, atom)
+}
+
+/// Puts an atom behind a run, which was taken off.
+fn add_behind_run(
+    alloc: Global,
+    algebra: &GeoAlgebra,
+    items: &mut Vec<GeoAtom>,
+    before: Box<Items>,
+    atom: GeoAtom,
+) -> Result<(), Memory>
+    requires items { All (IsOwn algebra.now) items.old.items }
+    requires before { AreOwnItems algebra.now before.value }
+    requires atom { IsOwn algebra.now atom }
+    requires joins { joins_run atom ≡ true }
+    ensures own { IfOk result (λ u. All (IsOwn algebra.now) items.new.items) }
+    ensures fold { IfOk result (λ u. Adds algebra.now (items.old.items ++ GeoAtom.Run before ∷ []) atom items.new.items) }
+{
+    if weight(&before) <= LIGHT {
+        join_run(algebra, items, before, atom)
+    } else {
+        add_behind_heavy(alloc, algebra, items, before, atom)
+    }
+}
+
 /// Puts an atom behind the last of an array's items, which was taken off.
 fn add_behind(
+    alloc: Global,
     algebra: &GeoAlgebra,
     items: &mut Vec<GeoAtom>,
     last: GeoAtom,
@@ -143,7 +270,7 @@ fn add_behind(
     ensures fold { IfOk result (λ u. Adds algebra.now (items.old.items ++ last ∷ []) atom items.new.items) }
 {
     match last {
-        GeoAtom::Run(before) => join_run(algebra, items, before, atom),
+        GeoAtom::Run(before) => add_behind_run(alloc, algebra, items, before, atom),
         other => {
             items.push(other)?;
             push_item(algebra, items, atom)
@@ -165,13 +292,14 @@ fn join_item(
     ensures fold { IfOk result (λ u. Adds algebra.now items.old.items atom items.new.items) }
 {
     match items.pop() {
-        Some(last) => add_behind(algebra, items, last, atom),
+        Some(last) => add_behind(alloc, algebra, items, last, atom),
         None => start_run(alloc, algebra, items, atom),
     }
 }
 
 /// Puts an atom behind those of an array's items. Objects one behind another become one run, where nothing stands before
-/// them.
+/// them, and several runs where their hull has many corners. The hulls of several have at most half as many corners each
+/// as that before it, so that a corner takes part in few joins.
 pub fn add_item(
     alloc: Global,
     algebra: &GeoAlgebra,

@@ -104,7 +104,7 @@ fn root_text(alloc: Global, algebra: &GeoAlgebra, atom: GeoAtom) -> Result<Strin
 /// What is told of a text that is cut at the place.
 fn told(alloc: Global, line: &[u8], bytes: &[u8], how: Coords, at: u32) -> Result<String, Fail>
     requires line { length line.now < 100 }
-    requires fits { length bytes.now < 1000 }
+    requires fits { length bytes.now ≤ 2 ^ 28 }
     requires end { at ≤ length bytes.now }
 {
     let algebra = GeoAlgebra::new(read(alloc, line)?, 7, how);
@@ -378,6 +378,62 @@ fn runs(rt: HostRuntime) -> Result<(), Fail> {
         ),
     ];
     compare_rows(&rt, &rows)
+}
+
+/// So many points of a parabola, each a feature: from 0 on by steps, round from 300 to 0.
+fn parabola(alloc: Global, count: u32, step: u32) -> Result<String, Fail> {
+    let mut text = String::from_str(alloc, "{\"type\":\"FeatureCollection\",\"features\":[")?;
+    for index in 0..count {
+        if index > 0 {
+            text.push(',')?;
+        }
+        let x = index.wrapping_mul(step) % 300;
+        let y = x.wrapping_mul(x);
+        write!(
+            text,
+            "{{\"type\":\"Feature\",\"geometry\":{{\"type\":\"Point\",\"coordinates\":[{x},{y}]}}}}"
+        )?;
+    }
+    text.push_str("]}")?;
+    Ok(text)
+}
+
+/// The corners of their hull: each of the points, in order.
+fn corners_of_parabola(alloc: Global) -> Result<String, Fail> {
+    let mut text = String::new(alloc);
+    for x in 0..300u32 {
+        let y = x.wrapping_mul(x);
+        write!(text, "{x}.0000000 {y}.0000000\n")?;
+    }
+    Ok(text)
+}
+
+/// Whether the hull of so many points is told so, read at once, and item by item where the text is cut within the array.
+fn compare_parabola<R: Abort + AllocGlobal>(
+    rt: &R,
+    count: u32,
+    step: u32,
+    wanted: &str,
+) -> Result<(), Fail> {
+    let text = parabola(rt.alloc(), count, step)?;
+    let bytes = text.as_bytes();
+    assert!(rt; bytes.len() < 100_000);
+    let len = bytes.len() as u32;
+    for at in [0, len / 3, len / 2, len - len.min(2)] {
+        let found = told(rt.alloc(), b"hull", bytes, Coords::Round, at)?;
+        assert_eq!(rt; found.as_str(), wanted, "{at}");
+    }
+    Ok(())
+}
+
+/// Features each of which is a corner of the hull, in order, and twice over in another order.
+#[test]
+fn corners_one_by_one(rt: HostRuntime) -> Result<(), Fail> {
+    let wanted = corners_of_parabola(rt.alloc())?;
+    for row in [(300, 1), (600, 7), (600, 299), (600, 101)] {
+        compare_parabola(&rt, row.0, row.1, wanted.as_str())?;
+    }
+    Ok(())
 }
 
 /// A file in the layout of a common converter.

@@ -1,4 +1,4 @@
-use Rattle.std.proofs.Common.{List, [], ◌∷◌, ◌++◌, All, sym, ◌∙◌, ap, subst}
+use Rattle.std.proofs.Common.{List, ◌++◌, All, sym, subst}
 use Rattle.at_nest.specs.Folds.{AreItemFolds}
 use Rattle.at_geojson.specs.declared.atoms.GeoAtom.{GeoAtom}
 use Rattle.at_geojson.specs.declared.atoms.GeoAtom.TheVariants as atoms
@@ -17,6 +17,5 @@ pub returns-clause-fold : goal.returns-clause-fold
 returns-clause-fold c ts us h k =
     let asked = c.args.algebra.now in
     let started = c.in_ok-started.started in
-    subst (λ (z : List GeoAtom). AreItemFolds (IsFold asked) (IsRun asked) z (ts ++ us)) (sym (c.in_ok-push.ensures.items ∙ ap (λ (z : List GeoAtom). z ++ atoms.Run started ∷ []) c.requires.none))
-    (adds_run asked started c.args.atom c.requires.joins c.in_ok-started.ensures.geometries c.in_ok-started.ensures.features ts us
-    (subst (λ (z : List GeoAtom). AreItemFolds (IsFold asked) (IsRun asked) z ts) c.requires.none h) k)
+    subst (λ (z : List GeoAtom). AreItemFolds (IsFold asked) (IsRun asked) z (ts ++ us)) (sym c.in_ok-push.ensures.items)
+    (adds_run asked c.args.items.now.items started c.args.atom c.requires.joins c.in_ok-started.ensures.geometries c.in_ok-started.ensures.features ts us h k)
