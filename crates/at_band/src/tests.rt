@@ -1,3 +1,5 @@
+//! Tables of shapes that meet and shapes that don't, and of large shapes.
+
 ghost use Rattle.std.specs.Prelude.{IfOk, IfSome, OnOk, All};
 ghost use Rattle.at_geom.specs.Segments.{IsInRange};
 ghost use Rattle.at_geom.specs.Shapes.{ArePathsInRange, ArePolygonsInRange, IsShapeInRange};

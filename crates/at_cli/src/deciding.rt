@@ -1,3 +1,5 @@
+//! The end over the bytes of the files that the words name.
+
 ghost use Rattle.std.specs.Prelude.{◌≡◌, ◌≢◌, ◌⊎◌, ◌+◌, ◌≤◌, ◌^◌, List, ℕ, length, true, Some, None, IsSome, IfOk, MatchBool, MatchResult};
 ghost use Rattle.at_query.specs.Ranges.{IsQueryInRange};
 ghost use Rattle.at_run.specs.Answers.{IfFound};

@@ -1,3 +1,5 @@
+//! The options of the command line, by name.
+
 ghost use Rattle.std.specs.Prelude.{◌≡◌, option_map};
 ghost use Rattle.std.specs.Option.{option_copied};
 ghost use Rattle.at_cli.specs.Pieces.{setting_name};

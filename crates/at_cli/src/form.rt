@@ -1,3 +1,5 @@
+//! The forms of files, and the one that a name says.
+
 ghost use Rattle.std.specs.Prelude.{◌≡◌};
 ghost use Rattle.at_cli.specs.Values.{form_by_name as form_that_name_says};
 ghost use Rattle.at_cli.specs.LineOf.{form_of as form_of_name};

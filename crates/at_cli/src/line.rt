@@ -1,3 +1,5 @@
+//! What the words of a command line say.
+
 ghost use Rattle.std.specs.Prelude.{◌≡◌, ◌↔◌, map, string_bytes, IfOk};
 ghost use Rattle.at_cli.specs.LineOf.{SaysLine};
 ghost use Rattle.at_cli.specs.declared.line.Line.{Line};

@@ -1,3 +1,5 @@
+//! Tables of words, and the lines that they say.
+
 use super::*;
 use at_fixed::Coords;
 use std::alloc::Global;

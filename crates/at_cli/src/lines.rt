@@ -1,3 +1,5 @@
+//! Text put to the output, and lines to the error output.
+
 ghost use Rattle.std.specs.Prelude.{◌≡◌, ◌≤◌, ◌++◌, [], codes, OnOk, OnErr};
 ghost use Rattle.std.specs.List.{flat_map};
 ghost use Rattle.at_io.specs.Counts.{Rose};

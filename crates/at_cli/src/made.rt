@@ -1,3 +1,5 @@
+//! The texts of made files.
+
 ghost use Rattle.std.specs.Prelude.{◌≡◌, ◌++◌, ◌≤◌, ◌<◌, ◌^◌, ℕ, false, true, length, OnOk, IfOk, IfSome, MatchOption};
 ghost use Rattle.std.specs.List.{flat_map, range_with_len};
 ghost use Rattle.at_cli.specs.Made.{line_by, wkt_line, feature_by, before_feature as text_before, feature_line, wkt_text as text_of_wkt, geojson_text as text_of_geojson, is_made, IsMadeText};

@@ -1,3 +1,5 @@
+//! The bytes of a file that the words name.
+
 ghost use Rattle.std.specs.Prelude.{◌≡◌, ◌+◌, ◌<◌, ◌≤◌, ◌^◌, ℕ, List, true, false, length, Some, IsSome, IfSome, IfOk, IfErr, IsErrOf};
 ghost use Rattle.at_io.specs.Counts.{Rose};
 ghost use Rattle.at_cli.specs.Values.{IsFileName};

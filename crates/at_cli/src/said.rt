@@ -1,3 +1,5 @@
+//! What words say, with texts that are the words themselves.
+
 ghost use Rattle.std.specs.Prelude.{◌≡◌, map, string_bytes, IfOk, IfErr, MatchOption};
 ghost use Rattle.at_cli.specs.LineOf.{HasValues, SaysLine};
 ghost use Rattle.at_cli.specs.Steps.{shown, given_in};

@@ -1,3 +1,5 @@
+//! Tables of whole runs over a shelf in memory.
+
 use super::*;
 use at_crew::Free;
 use at_io::{Failed, MemShelf, MemSink, NamedFile, PutFail, Shelf, Sink};

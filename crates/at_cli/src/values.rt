@@ -1,3 +1,5 @@
+//! The values of options and names, as words spell them.
+
 ghost use Rattle.std.specs.Prelude.{◌≡◌, ◌≢◌, ◌⊎◌, ℕ, List, length, slice_index, MatchBool, ◌<◌, ◌≤◌, ◌^◌, ◌↔◌, decimal, Option, option_to_list, MatchOption, IsTrue};
 ghost use Rattle.std.specs.Option.{option_copied};
 ghost use Rattle.at_fixed.specs.declared.rounding.Coords.{Coords};

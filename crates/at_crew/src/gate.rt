@@ -1,3 +1,5 @@
+//! What is told of each block before it is run.
+
 ghost use Rattle.std.specs.Prelude.{ℕ, List, [], IsTrue, ◌↔◌, Contains};
 
 /// What is told of each block before it is run, and which blocks are given up.

@@ -1,3 +1,5 @@
+//! What a crew does with each block.
+
 ghost use Rattle.std.specs.Prelude.{ℕ, ◌+◌, ◌<◌, ◌≤◌};
 
 use std::alloc::Global;

@@ -1,3 +1,5 @@
+//! The right of one thread to claim blocks and to climb with their parts.
+
 ghost use Rattle.std.specs.Prelude.{◌≡◌, ℕ, ◌<◌, ◌≤◌, [], All, Some, None, true};
 ghost use Rattle.at_crew.specs.Seats.{IsPassSeat};
 ghost use Rattle.at_crew.specs.Views.{claimed};

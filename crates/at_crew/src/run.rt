@@ -1,3 +1,5 @@
+//! A whole job, run by as many threads as are asked for.
+
 ghost use Rattle.std.specs.Prelude.{◌≡◌, ℕ, ◌<◌, ◌≤◌, All, IfOk, IsTrue, length};
 ghost use Rattle.at_crew.specs.Nodes.{IsBlockCount};
 ghost use Rattle.at_crew.specs.Shown.{IsReady, IsDone, job_of};

@@ -1,3 +1,5 @@
+//! Crews of few blocks, step by step and by many threads.
+
 ghost use Rattle.std.specs.Prelude.{◌≡◌, ℕ, ◌+◌, ◌-◌, ◌<◌, ◌≤◌, [], IsTrue, Some, None, false};
 ghost use Rattle.at_crew.specs.Nodes.{IsBlockCount};
 ghost use Rattle.at_crew.specs.Shown.{IsPassOf, IsReady, job_of, blocks_of, block_held, has_ended};

@@ -1,3 +1,5 @@
+//! Eight bytes looked at together: how many digits they begin with, and what these spell.
+
 ghost use Rattle.std.specs.Prelude.{◌≡◌, ◌+◌, ◌<◌, ◌≤◌, false, length, slice_index};
 ghost use Rattle.at_text.specs.Texts.{is_digit as digit_test};
 ghost use Rattle.at_fixed.specs.Numerals.{AreDigits};

@@ -1,3 +1,5 @@
+//! The two formats whose numbers are read.
+
 /// A format's way to spell numbers.
 #[derive(Clone, Copy, Debug, PartialEq, Eq)]
 pub enum Notation {

@@ -1,3 +1,5 @@
+//! The public calls: the number that begins a text, and the value of a text that is a number.
+
 ghost use Rattle.std.specs.Prelude.{◌≡◌, ◌⊎◌, ◌^◌, ◌<◌, ◌≤◌, length, take, is_some, IfSome, Ok, true, ℤ};
 ghost use Rattle.at_text.specs.Prefix.{TakesLongest};
 ghost use Rattle.at_fixed.specs.Numerals.{Numeral, SpellsNumeral, JsonNumber, WktNumber, NumberOf};

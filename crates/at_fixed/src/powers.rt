@@ -1,3 +1,5 @@
+//! The powers of ten that fit 64 bits.
+
 ghost use Rattle.std.specs.Prelude.{◌≡◌, ◌^◌, ◌<◌};
 
 /// The powers of ten that fit 64 bits.

@@ -1,3 +1,5 @@
+//! How a value is taken as a whole number of units, and why it may have none.
+
 /// How the value of a number is taken as a whole number of units.
 #[derive(Clone, Copy, Debug, PartialEq, Eq)]
 pub enum Coords {

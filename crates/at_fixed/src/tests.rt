@@ -1,3 +1,5 @@
+//! Tables for the ends, the values and the texts of numbers.
+
 mod cases;
 
 use super::*;

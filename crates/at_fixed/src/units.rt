@@ -1,3 +1,5 @@
+//! The value in whole units of what was read of a number.
+
 ghost use Rattle.std.specs.Prelude.{◌≡◌, ℕ, ◌+◌, ◌*◌, ◌/◌, ◌%◌, ◌^◌, ◌<◌, ◌≤◌, ◌==◌, ◌&&◌, ◌||◌, nat_lt, if◌then◌else◌, pos, neg_ℤ, length, IfOk};
 ghost use Rattle.at_fixed.specs.Numerals.{Numeral};
 ghost use Rattle.at_fixed.specs.Fixed.{largest, quotient, size_of as the_size, fixed_of, mantissa, fraction_digits, exponent_above, exponent_below};

@@ -1,3 +1,5 @@
+//! The text of a value.
+
 ghost use Rattle.std.specs.Prelude.{◌≡◌, ◌+◌, ◌/◌, ◌%◌, ◌^◌, [], ◌∷◌, ◌++◌, true, false, IfOk, OnOk, string_bytes, decimal};
 ghost use Rattle.at_fixed.specs.Fixed.{last_digits, written};
 

@@ -1,3 +1,5 @@
+//! The area of a polygon.
+
 ghost use Rattle.std.specs.Prelude.{◌≡◌, ◌*ℤ◌, ◌-ℤ◌, ◌<◌, ◌^◌, length, All, map};
 ghost use Rattle.std.specs.Int.{w128, int_wrap};
 ghost use Rattle.at_geom.specs.Segments.{IsInRange};

@@ -1,3 +1,5 @@
+//! The extent of a shape, and whether a shape lies in one.
+
 ghost use Rattle.std.specs.Prelude.{◌≡◌, fold};
 ghost use Rattle.at_geom.specs.Shapes.{positions, joined, positions_of_polygons, extent_of, widened, are_all_within};
 

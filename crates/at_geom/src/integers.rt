@@ -1,3 +1,5 @@
+//! Differences and products of coordinates that fit their types.
+
 ghost use Rattle.std.specs.Prelude.{◌≡◌, ◌≤◌, ◌-ℤ◌, ◌*ℤ◌, nat_abs};
 
 /// The difference of two coordinates, at most 6·10^14 in size.

@@ -1,3 +1,5 @@
+//! Whether two shapes meet.
+
 ghost use Rattle.std.specs.Prelude.{◌≡◌, IsTrue, ◌↔◌, Some, All, flat_map};
 ghost use Rattle.at_geom.specs.Segments.{IsInRange, edges};
 ghost use Rattle.at_geom.specs.Shapes.{ArePathsInRange, ArePolygonsInRange, IsShapeInRange, MeetsSome, SomeMeet, segments, segments_of_points, segments_of_polygons, positions, extent_of, Meet};

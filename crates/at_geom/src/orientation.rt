@@ -1,3 +1,5 @@
+//! Which way three positions turn.
+
 ghost use Rattle.std.specs.Prelude.{◌≡◌};
 ghost use Rattle.at_geom.specs.Segments.{IsInRange, turn as turn_of, sign_of};
 

@@ -1,3 +1,5 @@
+//! Positions and lists of them.
+
 ghost use Rattle.std.specs.Prelude.{◌≡◌};
 
 use std::marker::Model;

@@ -1,3 +1,5 @@
+//! Whether some position of a shape is in one of several polygons.
+
 ghost use Rattle.std.specs.Prelude.{◌≡◌, IsTrue, ◌↔◌, IfSome, Some, All};
 ghost use Rattle.std.specs.List.{AllByRecursion};
 ghost use Rattle.at_geom.specs.Segments.{IsInRange};

@@ -1,3 +1,5 @@
+//! Rectangles with sides along the axes.
+
 ghost use Rattle.std.specs.Prelude.{◌≡◌, ◌&&◌, ◌↔◌, ◌≤ℤ◌, IsTrue, int_le};
 ghost use Rattle.std.specs.Int.{int_min, int_max};
 

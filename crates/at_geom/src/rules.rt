@@ -1,3 +1,5 @@
+//! What is wrong with a line or a ring.
+
 ghost use Rattle.std.specs.Prelude.{◌≡◌};
 ghost use Rattle.at_geom.specs.Shapes.{line_fault as line_fault_of, ring_fault as ring_fault_of};
 

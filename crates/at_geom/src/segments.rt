@@ -1,3 +1,5 @@
+//! Whether two segments meet.
+
 ghost use Rattle.std.specs.Prelude.{IsTrue, ◌↔◌, ◌≤ℤ◌, ◌⊎◌, pos};
 ghost use Rattle.std.specs.Int.{int_min, int_max};
 ghost use Rattle.at_geom.specs.Segments.{IsInRange, HaveCommonPoint, turn as turn_of};

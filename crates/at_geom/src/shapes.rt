@@ -1,3 +1,5 @@
+//! Polygons, lists of them, and shapes.
+
 ghost use Rattle.std.specs.Prelude.{◌≡◌};
 
 use crate::positions::{Path, Paths};

@@ -1,3 +1,5 @@
+//! Tables for the predicates, areas, extents and rules.
+
 ghost use Rattle.std.specs.Prelude.{IfOk, OnOk, All};
 ghost use Rattle.at_geom.specs.Segments.{IsInRange};
 ghost use Rattle.at_geom.specs.Shapes.{ArePathsInRange, ArePolygonsInRange, IsShapeInRange};

@@ -1,3 +1,5 @@
+//! Counts that stand still at their last value.
+
 ghost use Rattle.std.specs.Prelude.{◌≡◌, ◌≤◌};
 ghost use Rattle.at_io.specs.Counts.{next_count, Rose};
 

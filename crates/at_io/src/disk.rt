@@ -1,3 +1,5 @@
+//! The shelf over the disk and the standard input.
+
 ghost use Rattle.std.specs.Prelude.{◌≡◌, ◌≤◌, length, IfOk};
 ghost use Rattle.at_io.specs.Counts.{Rose};
 

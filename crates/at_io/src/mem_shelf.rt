@@ -1,3 +1,5 @@
+//! The shelf in memory, whose calls fail where they are told to.
+
 ghost use Rattle.std.specs.Prelude.{false, ◌≡◌, ◌+◌, ◌^◌, ◌<◌, ◌≤◌, ◌↔◌, ℕ, [], length, take, drop, map, None, Some, slice_get, Contains, IsOk, IsErr, IfOk, OnOk, OnErr, IfSome, MatchOption, IsTrue, bytes_eq};
 ghost use Rattle.at_io.specs.Distinct.{all_differ};
 ghost use Rattle.at_io.specs.Counts.{next_count, last_count, Rose};

@@ -1,3 +1,5 @@
+//! The sink in memory, whose puts fail where they are told to.
+
 ghost use Rattle.std.specs.Prelude.{◌≡◌, ◌+◌, ◌-◌, ◌<◌, ◌≤◌, ◌↔◌, ◌++◌, ℕ, [], length, take, map, None, Some, vec_len, vec_capacity, IfOk, IsErr, MatchOption, nat_eq, IsTrue};
 ghost use Rattle.at_io.specs.Distinct.{all_differ};
 ghost use Rattle.at_io.specs.Counts.{next_count};

@@ -1,3 +1,5 @@
+//! What files are read from.
+
 ghost use Rattle.std.specs.Prelude.{◌≡◌, ◌+◌, ◌<◌, ◌≤◌, ◌↔◌, ℕ, List, [], length, take, drop, Option, Some, IsSome, IfSome, IfOk, OnOk, OnErr};
 ghost use Rattle.at_io.specs.Counts.{next_count, Rose};
 ghost use Rattle.at_io.specs.Files.{Files, bytes_named, name_among};

@@ -1,3 +1,5 @@
+//! The sink over a standard stream.
+
 ghost use Rattle.std.specs.Prelude.{◌≡◌};
 
 use crate::counts;

@@ -1,3 +1,5 @@
+//! Tables for the shelves, the sinks and whole files.
+
 ghost use Rattle.std.specs.Prelude.{◌≤◌, ◌≡◌, IfOk};
 
 use super::*;

@@ -1,3 +1,5 @@
+//! A whole file of a shelf, read in turns.
+
 ghost use Rattle.std.specs.Prelude.{◌≡◌, ◌⊎◌, ◌+◌, ◌<◌, ◌≤◌, ◌^◌, ◌↔◌, ◌++◌, ℕ, List, length, vec_len, Option, Some, None, IsSome, IfSome, IfOk, IfErr, OnOk, IsErrOf};
 ghost use Rattle.at_io.specs.Counts.{next_count, Rose};
 ghost use Rattle.at_io.specs.Files.{bytes_named, name_among};

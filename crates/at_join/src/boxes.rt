@@ -1,3 +1,5 @@
+//! Extents: whether two have a common point, and the least one round two.
+
 ghost use Rattle.std.specs.Prelude.{◌≡◌, ◌&&◌, int_le};
 ghost use Rattle.at_join.specs.Boxes.{touch_of, common_of};
 ghost use Rattle.at_query.specs.Joined.{lower, upper, around};

@@ -1,3 +1,5 @@
+//! The 64 cells of the plane of a join.
+
 ghost use Rattle.std.specs.Prelude.{◌≡◌, ℤ, pos, ◌+◌, ◌*◌, ◌/◌, ◌<◌, ◌≤◌, ◌+ℤ◌, ◌-ℤ◌, nat_abs};
 ghost use Rattle.at_geom.specs.Shapes.{is_within};
 ghost use Rattle.at_join.specs.Cells.{edge_of, rect_of};

@@ -1,3 +1,5 @@
+//! The least extents round each so many places.
+
 ghost use Rattle.std.specs.Prelude.{◌≡◌, ℕ, ◌*◌, ◌<◌, ◌≤◌, IfOk, IsTrue, false, true, length, slice_index_or};
 ghost use Rattle.at_geom.specs.declared.rectangles.Extent.{Extent};
 ghost use Rattle.at_geom.specs.Shapes.{encloses};

@@ -1,3 +1,5 @@
+//! Two lists of entries, made ready to be joined cell by cell, and the pairs of one cell.
+
 ghost use Rattle.std.specs.Prelude.{◌≡◌, ◌+◌, ◌<◌, ◌≤◌, IfOk, count_by};
 ghost use Rattle.at_query.specs.Parts.{AreProper};
 ghost use Rattle.at_join.specs.Meetings.{pairs_of};

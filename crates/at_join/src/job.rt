@@ -1,3 +1,5 @@
+//! The cells of a grid as a job for a crew.
+
 ghost use Rattle.std.specs.Prelude.{◌≡◌, ◌+◌, ◌<◌, List, ◌++◌, IfOk};
 ghost use Rattle.at_query.specs.declared.answers.Pair.{Pair};
 ghost use Rattle.at_join.specs.Cells.{InCells, ListsEach};

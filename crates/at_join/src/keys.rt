@@ -1,3 +1,5 @@
+//! The keys by which places are sorted.
+
 use at_geom::Pos;
 
 /// A key by which positions near one another mostly have keys near one another: the bits of x and y in turn (Morton's

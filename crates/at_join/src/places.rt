@@ -1,3 +1,5 @@
+//! Entries without their shapes, in the order in which they are looked at.
+
 ghost use Rattle.std.specs.Prelude.{◌≡◌, ◌++◌, IfOk, OnOk};
 ghost use Rattle.at_join.specs.Sides.{placed, place_of};
 

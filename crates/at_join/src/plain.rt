@@ -1,3 +1,5 @@
+//! The pairs of two lists by testing every pair.
+
 ghost use Rattle.std.specs.Prelude.{IfOk, OnOk, [], ◌∷◌};
 ghost use Rattle.at_geom.specs.Shapes.{IsShapeInRange};
 ghost use Rattle.at_join.specs.Meetings.{AreInRange, IsAllPairs, Finds, MeetsWith, pair_with};

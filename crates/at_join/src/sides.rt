@@ -1,3 +1,5 @@
+//! One list of a join, sorted, with extents round stretches of it.
+
 ghost use Rattle.std.specs.Prelude.{◌≡◌, ℕ, ◌<◌, ◌≤◌, IfOk, false, length, slice_index_or};
 ghost use Rattle.std.specs.List.{AllByRecursion};
 ghost use Rattle.at_query.specs.Parts.{IsProperEntry};

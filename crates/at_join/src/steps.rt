@@ -1,3 +1,5 @@
+//! How many exact tests were made.
+
 ghost use Rattle.std.specs.Prelude.{◌≡◌, ◌+◌, ◌<◌};
 
 use std::marker::Model;

@@ -1,3 +1,5 @@
+//! Tables of lists and their pairs, by every pair, by cells and by crews.
+
 ghost use Rattle.std.specs.Prelude.{◌≡◌, ◌<◌, pos, [], ◌∷◌, IfOk};
 ghost use Rattle.at_geom.specs.Segments.{IsInRange};
 ghost use Rattle.at_query.specs.Parts.{AreProper, IsProperEntry};

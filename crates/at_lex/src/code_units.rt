@@ -1,3 +1,5 @@
+//! Lists of UTF-16 code units, which take no memory where they are short.
+
 ghost use Rattle.std.specs.Prelude.{◌≡◌, ◌++◌, ◌∷◌, [], OnOk, IfOk};
 ghost use Rattle.at_lex.specs.CodeUnits.{units_in, HasRoom, IsShort};
 

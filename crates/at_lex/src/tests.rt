@@ -1,3 +1,5 @@
+//! Tables for strings, runs and the tokens of pieces.
+
 ghost use Rattle.std.specs.Prelude.{◌<◌, ◌≤◌, length};
 
 mod slow;

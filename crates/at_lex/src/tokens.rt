@@ -1,3 +1,5 @@
+//! The states before a byte, the tokens, and what stands at both ends of a piece.
+
 ghost use Rattle.std.specs.Prelude.{◌≡◌};
 
 use std::marker::Model;

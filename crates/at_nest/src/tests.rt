@@ -1,3 +1,5 @@
+//! Tables of texts, each cut at every place, under algebras that count.
+
 ghost use Rattle.std.specs.Prelude.{◌≡◌, ◌≤◌, ◌<◌, ◌^◌, drop, length};
 ghost use Rattle.at_text.specs.Spans.{part_of};
 ghost use Rattle.at_text.specs.Texts.{base_of as base_in};

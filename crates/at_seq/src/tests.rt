@@ -1,3 +1,5 @@
+//! Tables of sequences, each cut at every place.
+
 ghost use Rattle.std.specs.Prelude.{◌≡◌, ◌≢◌, ◌≤◌, ◌^◌, [], length, IfSome, IfOk};
 ghost use Rattle.at_query.specs.Ranges.{IsQueryInRange};
 

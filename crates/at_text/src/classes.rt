@@ -1,3 +1,5 @@
+//! The classes of bytes that the formats share.
+
 ghost use Rattle.std.specs.Prelude.{◌≡◌};
 ghost use Rattle.at_text.specs.Texts.{is_space as space_test, is_digit as digit_test, is_run as run_test};
 

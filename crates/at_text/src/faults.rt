@@ -1,3 +1,5 @@
+//! What is wrong with a file, and which of two faults is told.
+
 ghost use Rattle.std.specs.Prelude.{◌≡◌};
 ghost use Rattle.at_text.specs.Faults.{number_of, tier_of, comes_first as comes_before, first_fault as the_first};
 

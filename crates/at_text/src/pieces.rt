@@ -1,3 +1,5 @@
+//! Readers of pieces: any piece of a file alone, and what two neighbours gave put together.
+
 ghost use Rattle.std.specs.Prelude.{ℕ, ◌+◌, ◌≤◌, ◌^◌, List, length};
 ghost use Rattle.at_text.specs.Spans.{AreNeighbours, IsMerged};
 

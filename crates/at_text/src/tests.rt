@@ -1,3 +1,5 @@
+//! Tables for the faults, the encoding and the classes of bytes.
+
 use super::*;
 use std::test::Fail;
 

@@ -1,3 +1,5 @@
+//! Bytes, texts and spans of a file.
+
 ghost use Rattle.std.specs.Prelude.{◌≡◌, List, ℕ, string_bytes};
 
 use std::marker::Model;

@@ -1,3 +1,5 @@
+//! How many shapes meet a kept ring.
+
 ghost use Rattle.std.specs.Prelude.{IfOk, All};
 ghost use Rattle.at_geom.specs.Shapes.{IsShapeInRange};
 

@@ -1,3 +1,5 @@
+//! The sum of a text's numbers, in one pass and in two.
+
 ghost use Rattle.std.specs.Prelude.{◌≤◌, ◌^◌, length};
 
 use at_fixed::{Coords, Notation, json_number, leading_number, read_fixed};

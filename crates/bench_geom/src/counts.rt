@@ -1,3 +1,5 @@
+//! How many random segments meet, and how many random positions are in a ring.
+
 ghost use Rattle.std.specs.Prelude.{IfOk, All};
 ghost use Rattle.at_geom.specs.Segments.{IsInRange};
 ghost use Rattle.at_geom.specs.Shapes.{ArePathsInRange};

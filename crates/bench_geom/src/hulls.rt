@@ -1,3 +1,5 @@
+//! The hull of random positions.
+
 ghost use Rattle.std.specs.Prelude.{IfOk, All};
 ghost use Rattle.at_geom.specs.Segments.{IsInRange};
 

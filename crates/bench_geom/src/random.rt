@@ -1,3 +1,5 @@
+//! Random numbers, the same as in the baseline.
+
 ghost use Rattle.std.specs.Prelude.{◌<◌, ◌^◌};
 ghost use Rattle.at_geom.specs.Segments.{IsInRange};
 

@@ -1,3 +1,5 @@
+//! How many tokens there are of each kind.
+
 ghost use Rattle.std.specs.Prelude.{◌≤◌, ◌^◌, length};
 
 use at_lex::{Item, Lexer, Start, TokenKind};

@@ -1,3 +1,5 @@
+//! The values of a text, counted by its tokens alone.
+
 ghost use Rattle.std.specs.Prelude.{◌≡◌, ◌≤◌, ◌^◌, length};
 ghost use Rattle.at_lex.specs.Spans.{HasItems};
 ghost use Rattle.at_lex.specs.declared.tokens.Lexed.{Lexed};
