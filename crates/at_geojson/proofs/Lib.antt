@@ -1,4 +1,5 @@
 pub mod Firsts
+pub mod Repeats
 pub mod TwinSteps
 pub mod Ranges
 pub mod ScalarFolds

@@ -4,6 +4,7 @@ pub mod Roles
 pub mod Keeping
 pub mod Atoms
 pub mod Gathering
+pub mod Hashes
 pub mod Arrays
 pub mod Objects
 pub mod Fields

@@ -7,6 +7,7 @@ mod atoms;
 mod coordinates;
 mod copying;
 mod fields;
+mod hashes;
 mod kinds;
 mod lists;
 mod members;

@@ -6,6 +6,7 @@ ghost use Rattle.at_nest.specs.Standing.{StandsFor};
 ghost use Rattle.at_geojson.specs.Atoms.{IsOwn, IsFold, IsRun};
 
 use super::*;
+use crate::hashes::hash_of;
 use at_fixed::Coords;
 use at_nest::{Fragment, NestEnd, finish_span, merge, run_block};
 use at_query::{Part, Query, answer_of, answer_text, read_query};
@@ -173,6 +174,94 @@ fn names(rt: HostRuntime) -> Result<(), Fail> {
             b"count",
             b"{\"a\":0,\"b\":0,\"c\":0,\"d\":0,\"e\":0,\"f\":0,\"g\":0,\"h\":0,\"i\":0,\"j\":0,\"k\":0,\"l\":0,\"m\":0,\"n\":0,\"o\":0,\"p\":0,\"q\":0,\"b\":1,\"a\":{\"x\":1,\"x\":2}}",
             "Twin at 103",
+        ),
+    ];
+    compare_rows(&rt, &rows)
+}
+
+/// Equal names, and unlike ones, of more members than are compared in pairs.
+#[test]
+fn names_of_many(rt: HostRuntime) -> Result<(), Fail> {
+    let rows: [Row; 8] = [
+        (
+            b"count",
+            b"{\"q\":0,\"p\":0,\"o\":0,\"n\":0,\"m\":0,\"l\":0,\"k\":0,\"j\":0,\"i\":0,\"h\":0,\"g\":0,\"f\":0,\"e\":0,\"d\":0,\"c\":0,\"b\":0,\"a\":0}",
+            "Form at 0",
+        ),
+        (
+            b"count",
+            b"{\"a\":0,\"b\":0,\"c\":0,\"d\":0,\"e\":0,\"f\":0,\"g\":0,\"h\":0,\"i\":0,\"j\":0,\"k\":0,\"l\":0,\"m\":0,\"n\":0,\"o\":0,\"p\":0,\"q\":0,\"a\":1}",
+            "Twin at 103",
+        ),
+        (
+            b"count",
+            b"{\"a\":0,\"b\":0,\"c\":0,\"d\":0,\"e\":0,\"f\":0,\"g\":0,\"h\":0,\"i\":0,\"j\":0,\"k\":0,\"l\":0,\"m\":0,\"n\":0,\"o\":0,\"p\":0,\"q\":0,\"q\":1}",
+            "Twin at 103",
+        ),
+        (
+            b"count",
+            b"{\"a\":0,\"b\":0,\"c\":0,\"d\":0,\"e\":0,\"f\":0,\"g\":0,\"h\":0,\"h\":1,\"h\":2,\"i\":0,\"j\":0,\"k\":0,\"l\":0,\"m\":0,\"n\":0,\"o\":0,\"p\":0,\"q\":0,\"a\":1}",
+            "Twin at 49",
+        ),
+        (
+            b"count",
+            b"{\"a\":0,\"b\":0,\"c\":0,\"d\":0,\"e\":0,\"f\":0,\"g\":0,\"h\":0,\"i\":0,\"j\":0,\"k\":0,\"l\":0,\"m\":0,\"n\":0,\"o\":0,\"p\":0,\"q\":{\"x\":1,\"x\":2},\"a\":1}",
+            "Twin at 108",
+        ),
+        (
+            b"count",
+            b"{\"a\":0,\"b\":0,\"c\":0,\"d\":0,\"e\":0,\"f\":0,\"g\":0,\"h\":0,\"i\":0,\"j\":0,\"k\":0,\"l\":0,\"m\":0,\"n\":0,\"o\":0,\"p\":0,\"a\":{\"x\":1,\"x\":2},\"b\":1}",
+            "Twin at 97",
+        ),
+        (
+            b"count",
+            b"{\"a\":[{\"a\":1,\"b\":2},{\"b\":1,\"b\":2}],\"b\":0,\"c\":0,\"d\":0,\"e\":0,\"f\":0,\"g\":0,\"h\":0,\"i\":0,\"j\":0,\"k\":0,\"l\":0,\"m\":0,\"n\":0,\"o\":0,\"p\":0,\"q\":0,\"b\":1}",
+            "Twin at 27",
+        ),
+        (
+            b"count",
+            b"{\"a\":0,\"b\":0,\"c\":0,\"d\":0,\"e\":0,\"f\":0,\"g\":0,\"h\":0,\"i\":0,\"j\":0,\"k\":0,\"l\":0,\"m\":0,\"n\":0,\"o\":0,\"p\":0,\"q\":0,\"\\u0061\":1}",
+            "Twin at 103",
+        ),
+    ];
+    compare_rows(&rt, &rows)
+}
+
+/// The hash of a name of ASCII characters.
+fn hash_of_text(alloc: Global, name: &[u8]) -> Result<u64, Fail> {
+    let mut units = Vec::new(alloc);
+    for byte in name {
+        units.push(u16::from(*byte))?;
+    }
+    Ok(hash_of(units.as_slice()))
+}
+
+/// Unlike names of one hash, which a reduction of its multiplier's lattice has found.
+#[test]
+fn names_of_one_hash(rt: HostRuntime) -> Result<(), Fail> {
+    for name in [b"anjnaagaahaacf", b"faaacfagfandaa"] {
+        assert_eq!(rt; hash_of_text(rt.alloc(), name)?, 0xDC52_8ED0_DF60_8A22);
+    }
+    let rows: [Row; 4] = [
+        (
+            b"count",
+            b"{\"anjnaagaahaacf\":0,\"faaacfagfandaa\":0,\"b\":0,\"c\":0,\"d\":0,\"e\":0,\"f\":0,\"g\":0,\"h\":0,\"i\":0,\"j\":0,\"k\":0,\"l\":0,\"m\":0,\"n\":0,\"o\":0,\"p\":0}",
+            "Form at 0",
+        ),
+        (
+            b"count",
+            b"{\"anjnaagaahaacf\":0,\"faaacfagfandaa\":0,\"b\":0,\"c\":0,\"d\":0,\"e\":0,\"f\":0,\"g\":0,\"h\":0,\"i\":0,\"j\":0,\"k\":0,\"l\":0,\"m\":0,\"n\":0,\"o\":0,\"p\":0,\"faaacfagfandaa\":1}",
+            "Twin at 129",
+        ),
+        (
+            b"count",
+            b"{\"anjnaagaahaacf\":0,\"faaacfagfandaa\":0,\"b\":0,\"c\":0,\"d\":0,\"e\":0,\"f\":0,\"g\":0,\"h\":0,\"i\":0,\"j\":0,\"k\":0,\"l\":0,\"m\":0,\"n\":0,\"o\":0,\"p\":0,\"anjnaagaahaacf\":1}",
+            "Twin at 129",
+        ),
+        (
+            b"count",
+            b"{\"d\":1,\"anjnaagaahaacf\":0,\"b\":0,\"c\":0,\"d\":0,\"e\":0,\"f\":0,\"g\":0,\"h\":0,\"i\":0,\"j\":0,\"k\":0,\"l\":0,\"m\":0,\"n\":0,\"o\":0,\"p\":0,\"faaacfagfandaa\":0}",
+            "Twin at 38",
         ),
     ];
     compare_rows(&rt, &rows)

@@ -3,6 +3,7 @@ ghost use Rattle.at_geojson.specs.Atoms.{twin_of as the_twin};
 ghost use Rattle.at_geojson.specs.Gathering.{firsts, is_among as name_among, twin_at, member_twins};
 
 use crate::atoms::GeoAtom;
+use crate::hashes::{has_hash_among, shared_hashes};
 use at_nest::Member;
 use at_text::{Fault, FaultKind, Memory, first_fault};
 use std::alloc::Global;
@@ -77,15 +78,18 @@ fn first_twin_of_few(members: &[Member<GeoAtom>]) -> Option<Fault>
     first
 }
 
-/// The first fault of equal names of members and in their values: each name is looked for in the set of those before it.
+/// The first fault of equal names of members and in their values: a name whose hash another one has is looked for in the
+/// set of such names before it.
 fn first_twin_of_many(alloc: Global, members: &[Member<GeoAtom>]) -> Result<Option<Fault>, Memory>
     ensures { IfOk result (λ first. first ≡ member_twins [] members.now) }
 {
+    let shared = shared_hashes(alloc, members)?;
     let mut names: BTreeSet<&[u16]> = BTreeSet::new(alloc);
     let mut first = None;
     for member in members {
-        let is_new = names.insert(member.name.as_slice())?;
-        first = first_fault(first, member_twin(!is_new, member));
+        let name = member.name.as_slice();
+        let is_twin = has_hash_among(shared.as_slice(), name) && !names.insert(name)?;
+        first = first_fault(first, member_twin(is_twin, member));
     }
     Ok(first)
 }
