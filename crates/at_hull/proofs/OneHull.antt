@@ -1,8 +1,8 @@
 -- Lists that have one hull.
-use Rattle.std.proofs.Common.{◌≡◌, ℕ, ◌+◌, ◌<◌, ◌⊎◌, inl, inr, List, [], ◌∷◌, ◌++◌, length, take, get_or, min, arith, sym, ap, ◌∙◌, subst, append_assoc, Result, Ok, Err}
+use Rattle.std.proofs.Common.{◌≡◌, ℕ, ◌+◌, ◌-◌, ◌<◌, ◌⊎◌, inl, inr, List, [], ◌∷◌, ◌++◌, length, take, drop, get_or, min, arith, sym, ap, ◌∙◌, subst, append_assoc, Result, Ok, Err}
 use Rattle.std.specs.Prelude.{OnErr}
-use Rattle.std.proofs.lemmas.List.{append-nil, take_more, take_min, take-append-le}
-use Rattle.std.proofs.Math.Seq.{take-append-add, take-length}
+use Rattle.std.proofs.lemmas.List.{append-nil, take_all, take_more, take_min, take-append-drop, take-append-le}
+use Rattle.std.proofs.Math.Seq.{take-add, take-append-add, take-length}
 use Rattle.at_geom.specs.declared.positions.Pos.{Pos}
 use Rattle.at_hull.specs.Hulls.{IsIn, HasSame, IsHull}
 use Rattle.at_hull.specs.Within.{IsWithin}
@@ -116,6 +116,29 @@ later_front old middle new ps qs o f = (
   length ps + f.0,
   subst (λ (w : List Pos). HaveOneHull (held old ++ w) (held new)) (sym (take-append-add ps qs f.0)) (both_added old middle new ps (take f.0 qs) o f.1),
 )
+
+-- ---- one stretch after another
+
+pub nothing_added : (old : Growth) (ps : List Pos) → HaveOneHull (held old ++ take 0 ps) (held old)
+nothing_added old ps = subst (λ (w : List Pos). HaveOneHull w (held old)) (sym (append-nil (held old))) (one_hull_refl (held old))
+
+-- the stretch behind the first i positions
+pub stretch_added : (old middle new : Growth) (ps : List Pos) (i n : ℕ) → HaveOneHull (held old ++ take i ps) (held middle)
+    → HaveOneHull (held middle ++ take n (drop i ps)) (held new) → HaveOneHull (held old ++ take (i + n) ps) (held new)
+stretch_added old middle new ps i n o u =
+    subst (λ (w : List Pos). HaveOneHull (held old ++ w) (held new)) (sym (take-add i n ps)) (both_added old middle new (take i ps) (take n (drop i ps)) o u)
+
+pub stretch_front : (old middle new : Growth) (ps : List Pos) (i n : ℕ) → HaveOneHull (held old ++ take i ps) (held middle)
+    → HoldsFront middle (take n (drop i ps)) new → HoldsFront old ps new
+stretch_front old middle new ps i n o f =
+    let g = subst (λ (w : List Pos). HoldsFront old w new) (sym (take-add i n ps)) (later_front old middle new (take i ps) (take n (drop i ps)) o f) in
+    subst (λ (w : List Pos). HoldsFront old w new) (take-append-drop (i + n) ps) (first_front old new (take (i + n) ps) (drop (i + n) ps) g)
+
+-- all behind them
+pub rest_added : (old middle new : Growth) (ps : List Pos) (i : ℕ) → HaveOneHull (held old ++ take i ps) (held middle)
+    → HaveOneHull (held middle ++ take (length ps - i) (drop i ps)) (held new) → HaveOneHull (held old ++ ps) (held new)
+rest_added old middle new ps i o u =
+    subst (λ (w : List Pos). HaveOneHull (held old ++ w) (held new)) (take_all (i + (length ps - i)) ps (omega arith)) (stretch_added old middle new ps i (length ps - i) o u)
 
 pub always_on_err : {T E P : Type 0} (r : Result T E) → P → OnErr r P
 always_on_err (Ok x) p = tt

@@ -15,11 +15,14 @@ use std::marker::Model;
 /// As many positions wait at least before the hull is made anew.
 const FEW: usize = 32;
 
+/// So many positions at the most are put to those that wait before the hull is looked at.
+const STRETCH: usize = 4096;
+
 /// The hull of positions that are added bit by bit.
 ///
 /// Positions that are seen to lie within the hull are left out, and the others wait. When as many wait as the hull
 /// has, and at least 32, the hull of both is made. So `n` positions take in all a time of the order of `n log n`, and
-/// what is held is at most about twice the hull and the positions of one call.
+/// what is held is at most about twice the hull and 4,096 positions.
 #[derive(Drop)]
 pub struct HullBuilder {
     hull: Vec<Pos>,
@@ -71,7 +74,24 @@ impl HullBuilder {
 
     /// Adds the positions. Coordinates are at most 3 * 10^14 units in size. At `Err`, which is want of memory, the
     /// first of them are there, up to some place.
+    ///
+    /// They are added some at a time, so that few of them wait at once however many there are.
     pub fn add(&mut self, points: &[Pos]) -> Result<(), Memory>
+        requires { All IsInRange points.now }
+        ensures held { OnOk result (HaveOneHull (held self.old ++ points.now) (held self.new)) }
+        ensures few { OnOk result (length self.new.waiting < max 32 (length self.new.hull)) }
+        ensures err { OnErr result (HoldsFront self.old points.now self.new) }
+    {
+        let mut at = 0;
+        'stretches: while points.len() - at > STRETCH {
+            self.add_stretch(&points[at..at + STRETCH])?;
+            at += STRETCH;
+        }
+        self.add_stretch(&points[at..])
+    }
+
+    /// The same of positions that may wait all at once.
+    fn add_stretch(&mut self, points: &[Pos]) -> Result<(), Memory>
         requires { All IsInRange points.now }
         ensures held { OnOk result (HaveOneHull (held self.old ++ points.now) (held self.new)) }
         ensures few { OnOk result (length self.new.waiting < max 32 (length self.new.hull)) }

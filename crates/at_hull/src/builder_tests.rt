@@ -54,6 +54,19 @@ fn curves_told(alloc: Global, rows: &[(u32, u32)]) -> Result<usize, Fail> {
     Ok(told)
 }
 
+/// Whether each of the counts gives the whole curve, added at once.
+fn are_whole_curves(alloc: Global, counts: &[u32]) -> Result<bool, Fail> {
+    for count in counts {
+        let whole = curve(alloc, *count)?;
+        let mut builder = HullBuilder::new(alloc);
+        builder.add(whole.as_slice())?;
+        if builder.into_hull()?.as_slice() != whole.as_slice() {
+            return Ok(false);
+        }
+    }
+    Ok(true)
+}
+
 /// The positions of a set whose numbers are at least `from` and below `to`, added one by one.
 fn rising(alloc: Global, code: u32, from: u32, to: u32) -> Result<HullBuilder, Fail> {
     let mut builder = HullBuilder::new(alloc);
@@ -262,6 +275,13 @@ fn curve_in_several_orders(rt: HostRuntime) -> Result<(), Fail> {
         (999, 500),
     ];
     assert_eq!(rt; curves_told(rt.alloc(), &rows)?, 9);
+    Ok(())
+}
+
+#[test]
+fn curves_added_at_once(rt: HostRuntime) -> Result<(), Fail> {
+    let counts = [0, 1, 2, 4095, 4096, 4097, 8192, 8193, 20_000];
+    assert!(rt; are_whole_curves(rt.alloc(), &counts)?);
     Ok(())
 }
 
