@@ -16,3 +16,4 @@ pub mod Values
 pub mod Rows
 pub mod Rings
 pub mod Members
+pub mod Geometries

@@ -1,5 +1,6 @@
+use crate::geometries::Geometry;
 use crate::kinds::Kind;
-use at_geom::{Path, Polygon, Pos, Shape};
+use at_geom::{Path, Polygon, Pos};
 use at_lex::Units;
 use at_query::{Part, TextPairs};
 use at_text::Fault;
@@ -93,7 +94,7 @@ pub struct OtherAtom {
 /// What values one behind another are as geometries, and what they are as items of a collection of features.
 #[derive(Drop)]
 pub struct Items {
-    pub geometries: Result<Shape, Fault>,
+    pub geometries: Result<Geometry, Fault>,
     pub features: Result<Part, Fault>,
 }
 
@@ -108,7 +109,7 @@ pub struct ItemsAtom {
 #[derive(Drop)]
 pub enum Role {
     Nothing,
-    Geometry(Result<Shape, Fault>),
+    Geometry(Result<Geometry, Fault>),
     Feature(Result<Part, Fault>),
     Collection(Result<Part, Fault>),
 }

@@ -6,6 +6,7 @@ use crate::atoms::{
     Areas, AreasAtom, GeoAtom, Items, ItemsAtom, Lists, ListsAtom, ObjectAtom, Points, PointsAtom,
     Role, Roles, TextAtom,
 };
+use crate::geometries::Geometry;
 use crate::texts::copy_texts;
 use at_geom::{Path, Paths, Polygon, Polygons, Pos, Shape};
 use at_lex::Units;
@@ -43,7 +44,7 @@ fn copy_polygons(alloc: Global, polygons: &[Polygon]) -> Result<Vec<Polygon>, Me
     Ok(items)
 }
 
-fn copy_shape(alloc: Global, shape: &Shape) -> Result<Shape, Memory>
+pub fn copy_shape(alloc: Global, shape: &Shape) -> Result<Shape, Memory>
     ensures { IfOk result (λ r. r ≡ shape.now) }
 {
     Ok(Shape {
@@ -99,12 +100,12 @@ fn copy_part(alloc: Global, part: &Part) -> Result<Part, Memory>
 
 fn copy_geometry(
     alloc: Global,
-    geometry: &Result<Shape, Fault>,
-) -> Result<Result<Shape, Fault>, Memory>
+    geometry: &Result<Geometry, Fault>,
+) -> Result<Result<Geometry, Fault>, Memory>
     ensures { IfOk result (λ r. r ≡ geometry.now) }
 {
     match geometry {
-        Ok(shape) => Ok(Ok(copy_shape(alloc, shape)?)),
+        Ok(geometry) => Ok(Ok(geometry.copy(alloc)?)),
         Err(fault) => Ok(Err(*fault)),
     }
 }

@@ -7,6 +7,7 @@ mod atoms;
 mod coordinates;
 mod copying;
 mod fields;
+mod geometries;
 mod hashes;
 mod kinds;
 mod lists;
@@ -26,6 +27,7 @@ mod short_texts;
 mod sorts;
 mod texts;
 mod twins;
+mod two_ended;
 mod values;
 
 pub use asked::GeoAlgebra;

@@ -12,10 +12,10 @@ ghost use Rattle.at_geojson.specs.Arrays.{JoinsItems, MakesItems, MakesNumbers};
 use crate::asked::GeoAlgebra;
 use crate::atoms::{GeoAtom, Items, ItemsAtom, OtherAtom, Role};
 use crate::coordinates::{areas_atom, lists_atom, pair_atom, points_atom};
+use crate::geometries::Geometry;
 use crate::shapes::{empty_shape, first_of_two, joined_shapes};
 use crate::sorts::{Sort, at_of, least_of, sort_of_all};
 use crate::twins::first_twin;
-use at_geom::Shape;
 use at_query::{Part, Query, part_merge, part_none};
 use at_text::{Fault, FaultKind, Memory};
 use std::alloc::Global;
@@ -51,7 +51,7 @@ fn joined_parts(
 }
 
 /// What a role is as a geometry of the value at the offset.
-pub fn role_geometry(at: u32, role: Role) -> Result<Shape, Fault>
+pub fn role_geometry(at: u32, role: Role) -> Result<Geometry, Fault>
     ensures { result ≡ geometry_of_role at role }
 {
     match role {
@@ -61,7 +61,7 @@ pub fn role_geometry(at: u32, role: Role) -> Result<Shape, Fault>
 }
 
 /// What a value is as a geometry.
-pub fn into_geometry(atom: GeoAtom) -> Result<Shape, Fault>
+pub fn into_geometry(atom: GeoAtom) -> Result<Geometry, Fault>
     ensures { result ≡ geometry_of_role (offset_in atom) (role_in atom) }
 {
     match atom {
@@ -104,13 +104,13 @@ pub fn into_items(atom: GeoAtom) -> Items
 }
 
 /// Items one behind another.
-pub fn joined_items(left: Items, right: Items) -> Result<Items, Memory>
+pub fn joined_items(alloc: Global, left: Items, right: Items) -> Result<Items, Memory>
     requires { AreJoinable left.features right.features }
     ensures geometries { IfOk result (λ items. JoinsShapes left.geometries right.geometries items.geometries) }
     ensures features { IfOk result (λ items. JoinsFound left.features right.features items.features) }
 {
     Ok(Items {
-        geometries: joined_shapes(left.geometries, right.geometries)?,
+        geometries: joined_shapes(alloc, left.geometries, right.geometries)?,
         features: joined_parts(left.features, right.features)?,
     })
 }
@@ -134,7 +134,7 @@ pub fn all_items(alloc: Global, algebra: &GeoAlgebra, atoms: Vec<GeoAtom>) -> Re
 {
     let mut items = no_items(alloc, algebra.query());
     for atom in atoms {
-        items = joined_items(items, into_items(atom))?;
+        items = joined_items(alloc, items, into_items(atom))?;
     }
     Ok(items)
 }

@@ -6,12 +6,12 @@ ghost use Rattle.at_geojson.specs.Objects.{kind_shape, coordinates_shape, geomet
 
 use crate::asked::GeoAlgebra;
 use crate::atoms::GeoAtom;
+use crate::geometries::Geometry;
 use crate::kinds::Kind;
 use crate::lists::{first_of_forms, form_at, into_geometry};
 use crate::readings::{as_line, as_lines, as_point, as_points, as_polygon, as_polygons};
 use crate::shapes::{empty_shape, first_of_two};
 use crate::sorts::at_of;
-use at_geom::Shape;
 use at_query::{Feature, Part, Query, TextPairs, Verb, part_none, part_of};
 use at_text::{Fault, Memory};
 use std::alloc::Global;
@@ -22,7 +22,7 @@ fn as_coordinates(
     needs: bool,
     kind: Kind,
     atom: GeoAtom,
-) -> Result<Result<Shape, Fault>, Memory>
+) -> Result<Result<Geometry, Fault>, Memory>
     ensures { IfOk result (λ r. r ≡ kind_shape needs kind atom) }
 {
     match kind {
@@ -43,7 +43,7 @@ pub fn of_coordinates(
     at: u32,
     kind: Kind,
     coordinates: Option<GeoAtom>,
-) -> Result<Result<Shape, Fault>, Memory>
+) -> Result<Result<Geometry, Fault>, Memory>
     ensures { IfOk result (λ r. r ≡ coordinates_shape needs at kind coordinates) }
 {
     match coordinates {
@@ -53,7 +53,7 @@ pub fn of_coordinates(
 }
 
 /// A geometry collection at the offset, of its member `geometries`.
-pub fn of_geometries(alloc: Global, at: u32, geometries: Option<GeoAtom>) -> Result<Shape, Fault>
+pub fn of_geometries(alloc: Global, at: u32, geometries: Option<GeoAtom>) -> Result<Geometry, Fault>
     ensures { result ≡ geometries_shape at geometries }
 {
     match geometries {
@@ -82,7 +82,7 @@ pub fn of_features(
 }
 
 /// A feature's shape, of its member `geometry`.
-pub fn feature_shape(alloc: Global, geometry: Option<GeoAtom>) -> Result<Shape, Fault>
+pub fn feature_shape(alloc: Global, geometry: Option<GeoAtom>) -> Result<Geometry, Fault>
     ensures { result ≡ the_feature_shape geometry }
 {
     match geometry {
@@ -109,15 +109,16 @@ pub fn feature_part(
     alloc: Global,
     algebra: &GeoAlgebra,
     at: u32,
-    shape: Shape,
+    geometry: Geometry,
     texts: TextPairs,
 ) -> Result<Part, Memory>
-    requires { IsShapeInRange shape }
-    ensures { IfOk result (IsPart algebra.now.query (record { at = at; shape = shape; texts = texts } ∷ [])) }
+    requires { IsShapeInRange geometry }
+    ensures { IfOk result (IsPart algebra.now.query (record { at = at; shape = geometry; texts = texts } ∷ [])) }
 {
     if counts_all(algebra.query()) {
         return Ok(Part::Count(1));
     }
+    let shape = geometry.into_shape()?;
     let feature = Feature { at, shape, texts };
     part_of(alloc, algebra.query(), feature)
 }
@@ -127,7 +128,7 @@ pub fn of_feature(
     alloc: Global,
     algebra: &GeoAlgebra,
     at: u32,
-    shape: Result<Shape, Fault>,
+    shape: Result<Geometry, Fault>,
     texts: Result<TextPairs, Fault>,
 ) -> Result<Result<Part, Fault>, Memory>
     requires { IfOwnShape algebra.now shape }

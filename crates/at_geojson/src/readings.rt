@@ -2,17 +2,17 @@ ghost use Rattle.std.specs.Prelude.{◌≡◌, IfOk};
 ghost use Rattle.at_geojson.specs.Objects.{unless as shape_unless, point_shape, points_shape, line_shape, lines_shape, polygon_shape, polygons_shape};
 
 use crate::atoms::GeoAtom;
+use crate::geometries::Geometry;
 use crate::lists::form_at;
 use crate::shapes::{
     empty_shape, of_lines, of_points, of_polygons, one_line, one_point, one_polygon,
 };
 use crate::sorts::at_of;
-use at_geom::Shape;
 use at_text::{Fault, Memory};
 use std::alloc::Global;
 
 /// The shape, or the fault where there is one.
-fn unless(fault: Option<Fault>, shape: Shape) -> Result<Shape, Fault>
+fn unless(fault: Option<Fault>, shape: Geometry) -> Result<Geometry, Fault>
     ensures { result ≡ shape_unless fault shape }
 {
     match fault {
@@ -22,7 +22,11 @@ fn unless(fault: Option<Fault>, shape: Shape) -> Result<Shape, Fault>
 }
 
 /// A value as the coordinates of a point.
-pub fn as_point(alloc: Global, needs: bool, atom: GeoAtom) -> Result<Result<Shape, Fault>, Memory>
+pub fn as_point(
+    alloc: Global,
+    needs: bool,
+    atom: GeoAtom,
+) -> Result<Result<Geometry, Fault>, Memory>
     ensures { IfOk result (λ r. r ≡ point_shape needs atom) }
 {
     match atom {
@@ -37,7 +41,7 @@ pub fn as_point(alloc: Global, needs: bool, atom: GeoAtom) -> Result<Result<Shap
 }
 
 /// A value as the coordinates of points.
-pub fn as_points(alloc: Global, atom: GeoAtom) -> Result<Shape, Fault>
+pub fn as_points(alloc: Global, atom: GeoAtom) -> Result<Geometry, Fault>
     ensures { result ≡ points_shape atom }
 {
     match atom {
@@ -51,7 +55,7 @@ pub fn as_points(alloc: Global, atom: GeoAtom) -> Result<Shape, Fault>
 }
 
 /// A value as the coordinates of a line.
-pub fn as_line(alloc: Global, needs: bool, atom: GeoAtom) -> Result<Result<Shape, Fault>, Memory>
+pub fn as_line(alloc: Global, needs: bool, atom: GeoAtom) -> Result<Result<Geometry, Fault>, Memory>
     ensures { IfOk result (λ r. r ≡ line_shape needs atom) }
 {
     match atom {
@@ -66,7 +70,7 @@ pub fn as_line(alloc: Global, needs: bool, atom: GeoAtom) -> Result<Result<Shape
 }
 
 /// A value as the coordinates of lines.
-pub fn as_lines(alloc: Global, atom: GeoAtom) -> Result<Shape, Fault>
+pub fn as_lines(alloc: Global, atom: GeoAtom) -> Result<Geometry, Fault>
     ensures { result ≡ lines_shape atom }
 {
     match atom {
@@ -80,7 +84,11 @@ pub fn as_lines(alloc: Global, atom: GeoAtom) -> Result<Shape, Fault>
 }
 
 /// A value as the coordinates of a polygon.
-pub fn as_polygon(alloc: Global, needs: bool, atom: GeoAtom) -> Result<Result<Shape, Fault>, Memory>
+pub fn as_polygon(
+    alloc: Global,
+    needs: bool,
+    atom: GeoAtom,
+) -> Result<Result<Geometry, Fault>, Memory>
     ensures { IfOk result (λ r. r ≡ polygon_shape needs atom) }
 {
     match atom {
@@ -95,7 +103,7 @@ pub fn as_polygon(alloc: Global, needs: bool, atom: GeoAtom) -> Result<Result<Sh
 }
 
 /// A value as the coordinates of polygons.
-pub fn as_polygons(alloc: Global, atom: GeoAtom) -> Result<Shape, Fault>
+pub fn as_polygons(alloc: Global, atom: GeoAtom) -> Result<Geometry, Fault>
     ensures { result ≡ polygons_shape atom }
 {
     match atom {

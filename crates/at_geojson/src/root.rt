@@ -7,10 +7,10 @@ ghost use Rattle.at_geojson.specs.Ends.{found_end, EndsLone, EndsGeometry, EndsR
 
 use crate::asked::GeoAlgebra;
 use crate::atoms::{GeoAtom, Role};
+use crate::geometries::Geometry;
 use crate::lists::form_at;
 use crate::objects::feature_part;
 use crate::sorts::at_of;
-use at_geom::Shape;
 use at_query::{Part, TextPairs};
 use at_text::{Fault, Memory};
 use std::alloc::Global;
@@ -35,7 +35,7 @@ fn part_or_fault(found: Result<Part, Fault>) -> Result<Part, RootEnd>
 }
 
 /// The part of a geometry that is a feature without texts.
-fn lone_part(alloc: Global, algebra: &GeoAlgebra, at: u32, shape: Shape) -> Result<Part, RootEnd>
+fn lone_part(alloc: Global, algebra: &GeoAlgebra, at: u32, shape: Geometry) -> Result<Part, RootEnd>
     requires { IsShapeInRange shape }
     ensures { EndsLone algebra.now.query (record { at = at; shape = shape; texts = [] }) result }
 {
@@ -56,7 +56,7 @@ fn geometry_part(
     alloc: Global,
     algebra: &GeoAlgebra,
     at: u32,
-    geometry: Result<Shape, Fault>,
+    geometry: Result<Geometry, Fault>,
 ) -> Result<Part, RootEnd>
     requires { IfOwnShape algebra.now geometry }
     ensures { EndsGeometry algebra.now.query at geometry result }

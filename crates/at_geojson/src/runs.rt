@@ -79,14 +79,14 @@ fn taken_items() -> Items {
 }
 
 /// The items of a run, and further ones behind them.
-fn joined_run(run: Box<Items>, more: Items) -> Result<Box<Items>, Memory>
+fn joined_run(alloc: Global, run: Box<Items>, more: Items) -> Result<Box<Items>, Memory>
     requires { AreJoinable run.value.features more.features }
     ensures geometries { IfOk result (λ b. JoinsShapes run.value.geometries more.geometries b.value.geometries) }
     ensures features { IfOk result (λ b. JoinsFound run.value.features more.features b.value.features) }
 {
     let mut run = run;
     let items = replace(&mut *run, taken_items());
-    *run = joined_items(items, more)?;
+    *run = joined_items(alloc, items, more)?;
     Ok(run)
 }
 
@@ -132,6 +132,7 @@ fn start_run(
 
 /// Puts a run back behind the items before it, with one more atom in it.
 fn join_run(
+    alloc: Global,
     algebra: &GeoAlgebra,
     items: &mut Vec<GeoAtom>,
     before: Box<Items>,
@@ -145,7 +146,7 @@ fn join_run(
     ensures fold { IfOk result (λ u. Adds algebra.now (items.old.items ++ GeoAtom.Run before ∷ []) atom items.new.items) }
 {
     let more = into_items(atom);
-    let joined = joined_run(before, more)?;
+    let joined = joined_run(alloc, before, more)?;
     items.push(GeoAtom::Run(joined))?;
     Ok(())
 }
@@ -195,6 +196,7 @@ fn take_run(items: &mut Vec<GeoAtom>, beside: usize) -> Result<Option<Box<Items>
 
 /// Joins a run with those before it, which are taken off, while the last of these isn't much heavier.
 fn settled_run(
+    alloc: Global,
     algebra: &GeoAlgebra,
     items: &mut Vec<GeoAtom>,
     run: Box<Items>,
@@ -207,7 +209,7 @@ fn settled_run(
 {
     let mut settled = run;
     while let Some(before) = take_run(items, weight(&settled))? {
-        settled = joined_run(before, Box::into_inner(settled))?;
+        settled = joined_run(alloc, before, Box::into_inner(settled))?;
     }
     Ok(settled)
 }
@@ -227,7 +229,7 @@ fn add_behind_heavy(
     ensures own { IfOk result (λ u. All (IsOwn algebra.now) items.new.items) }
     ensures fold { IfOk result (λ u. Adds algebra.now (items.old.items ++ GeoAtom.Run before ∷ []) atom items.new.items) }
 {
-    let settled = settled_run(algebra, items, before)?;
+    let settled = settled_run(alloc, algebra, items, before)?;
     items.push(GeoAtom::Run(settled))?;
     start_run(alloc, algebra, items, atom)
 }
@@ -248,7 +250,7 @@ fn add_behind_run(
     ensures fold { IfOk result (λ u. Adds algebra.now (items.old.items ++ GeoAtom.Run before ∷ []) atom items.new.items) }
 {
     if weight(&before) <= LIGHT {
-        join_run(algebra, items, before, atom)
+        join_run(alloc, algebra, items, before, atom)
     } else {
         add_behind_heavy(alloc, algebra, items, before, atom)
     }

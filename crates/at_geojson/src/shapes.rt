@@ -1,48 +1,49 @@
-ghost use Rattle.std.specs.Prelude.{◌≡◌, ◌++◌, [], ◌∷◌, Some, IfOk};
+ghost use Rattle.std.specs.Prelude.{◌≡◌, [], ◌∷◌, Some, IfOk};
 ghost use Rattle.at_text.specs.Faults.{first_fault as the_first};
-ghost use Rattle.at_wkt.specs.Meaning.{both, of_points as points_shape, of_lines as lines_shape, of_polygons as polygons_shape, empty_shape as nothing};
+ghost use Rattle.at_wkt.specs.Meaning.{of_points as points_shape, of_lines as lines_shape, of_polygons as polygons_shape, empty_shape as nothing};
 ghost use Rattle.at_geojson.specs.Keeping.{kept};
 ghost use Rattle.at_geojson.specs.Gathering.{JoinsShapes};
 
+use crate::geometries::Geometry;
 use at_geom::{Path, Paths, Polygon, Polygons, Pos, Shape};
 use at_text::{Fault, Memory, first_fault};
 use std::alloc::Global;
 
 /// The shape of points.
-pub fn of_points(alloc: Global, points: Vec<Pos>) -> Shape
+pub fn of_points(alloc: Global, points: Vec<Pos>) -> Geometry
     ensures { result ≡ points_shape points.items }
 {
-    Shape {
+    Geometry::from_shape(Shape {
         points: Path::from_vec(points),
         lines: Paths::from_vec(Vec::new(alloc)),
         polygons: Polygons::from_vec(Vec::new(alloc)),
-    }
+    })
 }
 
 /// The shape of lines.
-pub fn of_lines(alloc: Global, lines: Vec<Path>) -> Shape
+pub fn of_lines(alloc: Global, lines: Vec<Path>) -> Geometry
     ensures { result ≡ lines_shape lines.items }
 {
-    Shape {
+    Geometry::from_shape(Shape {
         points: Path::from_vec(Vec::new(alloc)),
         lines: Paths::from_vec(lines),
         polygons: Polygons::from_vec(Vec::new(alloc)),
-    }
+    })
 }
 
 /// The shape of polygons.
-pub fn of_polygons(alloc: Global, polygons: Vec<Polygon>) -> Shape
+pub fn of_polygons(alloc: Global, polygons: Vec<Polygon>) -> Geometry
     ensures { result ≡ polygons_shape polygons.items }
 {
-    Shape {
+    Geometry::from_shape(Shape {
         points: Path::from_vec(Vec::new(alloc)),
         lines: Paths::from_vec(Vec::new(alloc)),
         polygons: Polygons::from_vec(polygons),
-    }
+    })
 }
 
 /// The shape of nothing.
-pub fn empty_shape(alloc: Global) -> Shape
+pub fn empty_shape(alloc: Global) -> Geometry
     ensures { result ≡ nothing }
 {
     of_points(alloc, Vec::new(alloc))
@@ -86,53 +87,6 @@ pub fn one_polygon(alloc: Global, needs: bool, rings: Vec<Path>) -> Result<Vec<P
     Ok(polygons)
 }
 
-fn joined_points(left: Path, right: Path) -> Result<Path, Memory>
-    ensures { IfOk result (λ path. path ≡ left ++ right) }
-{
-    if left.as_slice().is_empty() {
-        return Ok(right);
-    }
-    let mut items = left.into_vec();
-    let mut others = right.into_vec();
-    items.append(&mut others)?;
-    Ok(Path::from_vec(items))
-}
-
-fn joined_lines(left: Paths, right: Paths) -> Result<Paths, Memory>
-    ensures { IfOk result (λ paths. paths ≡ left ++ right) }
-{
-    if left.as_slice().is_empty() {
-        return Ok(right);
-    }
-    let mut items = left.into_vec();
-    let mut others = right.into_vec();
-    items.append(&mut others)?;
-    Ok(Paths::from_vec(items))
-}
-
-fn joined_polygons(left: Polygons, right: Polygons) -> Result<Polygons, Memory>
-    ensures { IfOk result (λ polygons. polygons ≡ left ++ right) }
-{
-    if left.as_slice().is_empty() {
-        return Ok(right);
-    }
-    let mut items = left.into_vec();
-    let mut others = right.into_vec();
-    items.append(&mut others)?;
-    Ok(Polygons::from_vec(items))
-}
-
-/// The parts of both shapes, in order.
-pub fn both_shapes(left: Shape, right: Shape) -> Result<Shape, Memory>
-    ensures { IfOk result (λ shape. shape ≡ both left right) }
-{
-    Ok(Shape {
-        points: joined_points(left.points, right.points)?,
-        lines: joined_lines(left.lines, right.lines)?,
-        polygons: joined_polygons(left.polygons, right.polygons)?,
-    })
-}
-
 /// The first of two faults.
 pub fn first_of_two(left: Fault, right: Fault) -> Fault
     ensures { Some result ≡ the_first (Some left) (Some right) }
@@ -145,14 +99,15 @@ pub fn first_of_two(left: Fault, right: Fault) -> Fault
 
 /// Shapes one behind another: both, where neither has a fault, and else the first fault.
 pub fn joined_shapes(
-    left: Result<Shape, Fault>,
-    right: Result<Shape, Fault>,
-) -> Result<Result<Shape, Fault>, Memory>
+    alloc: Global,
+    left: Result<Geometry, Fault>,
+    right: Result<Geometry, Fault>,
+) -> Result<Result<Geometry, Fault>, Memory>
     ensures { IfOk result (JoinsShapes left right) }
 {
     match left {
         Ok(before) => match right {
-            Ok(behind) => Ok(Ok(both_shapes(before, behind)?)),
+            Ok(behind) => Ok(Ok(Geometry::joined(alloc, before, behind)?)),
             Err(fault) => Ok(Err(fault)),
         },
         Err(fault) => match right {

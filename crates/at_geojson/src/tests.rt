@@ -8,8 +8,9 @@ ghost use Rattle.at_geojson.specs.Atoms.{IsOwn, IsFold, IsRun};
 use super::*;
 use crate::hashes::hash_of;
 use at_fixed::Coords;
+use at_geom::{Pos, Shape};
 use at_nest::{Fragment, NestEnd, finish_span, merge, run_block};
-use at_query::{Part, Query, answer_of, answer_text, read_query};
+use at_query::{Entry, Part, Query, answer_of, answer_text, read_query};
 use at_text::{Fault, Span};
 use std::alloc::Global;
 use std::process::Abort;
@@ -85,9 +86,47 @@ fn fault_text(alloc: Global, fault: Fault) -> Result<String, Fail> {
     Ok(format!(in alloc; "{kind:?} at {at}")?)
 }
 
+/// Positions, in degrees.
+fn put_path(text: &mut String, path: &[Pos]) -> Result<(), Fail> {
+    for pos in path {
+        let x = pos.x / 10_000_000;
+        let y = pos.y / 10_000_000;
+        write!(text, " {x},{y}")?;
+    }
+    Ok(())
+}
+
+/// A shape: its points, behind a bar each line, and behind a cross each ring.
+fn put_shape(text: &mut String, shape: &Shape) -> Result<(), Fail> {
+    put_path(text, shape.points.as_slice())?;
+    for line in shape.lines.as_slice() {
+        text.push_str(" |")?;
+        put_path(text, line.as_slice())?;
+    }
+    for polygon in shape.polygons.as_slice() {
+        for ring in polygon.rings.as_slice() {
+            text.push_str(" #")?;
+            put_path(text, ring.as_slice())?;
+        }
+    }
+    Ok(())
+}
+
+/// The offset and the shape of each entry, in a line.
+fn entries_text(alloc: Global, entries: &[Entry]) -> Result<String, Fail> {
+    let mut text = String::new(alloc);
+    for entry in entries {
+        let at = entry.at;
+        write!(text, "{at}:")?;
+        put_shape(&mut text, &entry.shape)?;
+        text.push('\n')?;
+    }
+    Ok(text)
+}
+
 fn part_text(alloc: Global, part: Part) -> Result<String, Fail> {
-    if let Part::Entries(_) = part {
-        return Err(Fail::from("a join has no answer of its own"));
+    if let Part::Entries(entries) = part {
+        return entries_text(alloc, entries.as_slice());
     }
     Ok(answer_text(alloc, &answer_of(part), 7)?)
 }
@@ -467,6 +506,96 @@ fn runs(rt: HostRuntime) -> Result<(), Fail> {
         ),
     ];
     compare_rows(&rt, &rows)
+}
+
+/// A geometry of which a text tells in short: a digit is a point, a small letter a line, a capital one a polygon, a
+/// full stop a point of nothing, and round brackets are a collection.
+fn geometry_text(alloc: Global, short: &str) -> Result<String, Fail> {
+    let mut text = String::new(alloc);
+    for letter in short.bytes() {
+        let x = letter % 16;
+        match letter {
+            b'(' => text.push_str("{\"type\":\"GeometryCollection\",\"geometries\":[")?,
+            b')' => text.push_str("]}")?,
+            b',' => text.push(',')?,
+            b'.' => text.push_str("{\"type\":\"Point\",\"coordinates\":[]}")?,
+            b'0'..=b'9' => write!(text, "{{\"type\":\"Point\",\"coordinates\":[{x},0]}}")?,
+            b'a'..=b'z' => write!(
+                text,
+                "{{\"type\":\"LineString\",\"coordinates\":[[{x},0],[{x},1]]}}"
+            )?,
+            _ => write!(
+                text,
+                "{{\"type\":\"Polygon\",\"coordinates\":[[[{x},0],[20,0],[20,1],[{x},0]]]}}"
+            )?,
+        }
+    }
+    Ok(text)
+}
+
+/// Whether a geometry of which a text tells in short has the shape, wherever it is cut.
+fn compare_geometry<R: Abort + AllocGlobal>(rt: &R, short: &str, wanted: &str) -> Result<(), Fail> {
+    let text = geometry_text(rt.alloc(), short)?;
+    let bytes = text.as_bytes();
+    assert!(rt; bytes.len() < 1000);
+    for at in 0..bytes.len() as u32 + 1 {
+        let found = told(rt.alloc(), b"join", bytes, Coords::Round, at)?;
+        assert_eq!(rt; found.as_str(), wanted, "{short} cut at {at}");
+    }
+    Ok(())
+}
+
+fn compare_geometries<R: Abort + AllocGlobal>(
+    rt: &R,
+    rows: &[(&'static str, &'static str)],
+) -> Result<(), Fail> {
+    for row in rows {
+        compare_geometry(rt, row.0, row.1)?;
+    }
+    Ok(())
+}
+
+/// Geometries before collections, behind them and on both sides: the parts of a shape stand in the order of its members
+/// (RFC 7946 section 3.1.8).
+#[test]
+fn collections(rt: HostRuntime) -> Result<(), Fail> {
+    let rows: [(&'static str, &'static str); 16] = [
+        ("()", "0:\n"),
+        ("(1,2,3)", "0: 1,0 2,0 3,0\n"),
+        ("(1,(2,3))", "0: 1,0 2,0 3,0\n"),
+        ("((1,2),3)", "0: 1,0 2,0 3,0\n"),
+        ("(1,(2,3,4),5)", "0: 1,0 2,0 3,0 4,0 5,0\n"),
+        ("(1,2,3,(4,5))", "0: 1,0 2,0 3,0 4,0 5,0\n"),
+        ("(1,(2,(3,4),5),6)", "0: 1,0 2,0 3,0 4,0 5,0 6,0\n"),
+        ("(1,2,(3,(4,5,6)))", "0: 1,0 2,0 3,0 4,0 5,0 6,0\n"),
+        (
+            "((1,(2,3)),(4,(5,6,7,8,9)))",
+            "0: 1,0 2,0 3,0 4,0 5,0 6,0 7,0 8,0 9,0\n",
+        ),
+        (
+            "((1,(2,3,4)),(5,(6,7)))",
+            "0: 1,0 2,0 3,0 4,0 5,0 6,0 7,0\n",
+        ),
+        (
+            "(a,(b,c),d)",
+            "0: | 1,0 1,1 | 2,0 2,1 | 3,0 3,1 | 4,0 4,1\n",
+        ),
+        (
+            "(A,(B,C),D)",
+            "0: # 1,0 20,0 20,1 1,0 # 2,0 20,0 20,1 2,0 # 3,0 20,0 20,1 3,0 # 4,0 20,0 20,1 4,0\n",
+        ),
+        (
+            "(1,(a,2,A),3,(4,b))",
+            "0: 1,0 2,0 3,0 4,0 | 1,0 1,1 | 2,0 2,1 # 1,0 20,0 20,1 1,0\n",
+        ),
+        (
+            "(a,1,(2,b,3,c,(d,4,5)))",
+            "0: 1,0 2,0 3,0 4,0 5,0 | 1,0 1,1 | 2,0 2,1 | 3,0 3,1 | 4,0 4,1\n",
+        ),
+        ("((),(1,(),(2,(),3)),.)", "0: 1,0 2,0 3,0\n"),
+        ("(.,(.,(1,2)),())", "0: 1,0 2,0\n"),
+    ];
+    compare_geometries(&rt, &rows)
 }
 
 /// So many points of a parabola, each a feature: from 0 on by steps, round from 300 to 0.
