@@ -31,7 +31,7 @@ use Rattle.at_geojson.proofs.CoordinateFolds.{alike_at, some_numbers, some_posit
 
 -- ---- the least offset
 
-two_forms : (m n : ℕ) → first_fault (Some (fault_at Form m)) (Some (fault_at Form n)) ≡ Some (fault_at Form (min m n))
+pub two_forms : (m n : ℕ) → first_fault (Some (fault_at Form m)) (Some (fault_at Form n)) ≡ Some (fault_at Form (min m n))
 two_forms m n = less (nat_lt m n) refl where
   pick : (b : Bool) → comes_first (fault_at Form m) (fault_at Form n) ≡ b → first_fault (Some (fault_at Form m)) (Some (fault_at Form n)) ≡ (if b then Some (fault_at Form m) else Some (fault_at Form n))
   pick b e = ap (λ c. if c then Some (fault_at Form m) else Some (fault_at Form n)) e
@@ -139,7 +139,7 @@ module _ (asked : Asked) where
     pub geometries : as_geometries r ≡ Some (both_forms least)
     pub features : as_features r ≡ Some (both_forms least)
 
-  array_scalar : (r : GeoAtom) (at least : ℕ) (ts : Trees) → IsArrayAtom r at least → IsScalar asked r (array at ts)
+  pub array_scalar : (r : GeoAtom) (at least : ℕ) (ts : Trees) → IsArrayAtom r at least → IsScalar asked r (array at ts)
   array_scalar r at least ts k = record { is_null = k.null; is_empty = λ e. absurd (true≢false (sym e ∙ k.empty)); kind = k.kind; text = k.text }
 
   -- ---- arrays that are no coordinates
@@ -163,7 +163,7 @@ module _ (asked : Asked) where
       pub area : area_of whole ≡ None
       pub areas : areas_of whole ≡ None
 
-    forms_none : (r : GeoAtom) → as_position r ≡ None → as_points r ≡ None → as_lists r ≡ None → as_area r ≡ None → as_areas r ≡ None → HasNoForm → AreForms r
+    pub forms_none : (r : GeoAtom) → as_position r ≡ None → as_points r ≡ None → as_lists r ≡ None → as_area r ≡ None → as_areas r ≡ None → HasNoForm → AreForms r
     forms_none r p q l a1 a2 f = record {
       position = subst (λ o. Alike (IsPosition asked) o (position_of whole)) (sym p) (alike_at (IsPosition asked) None None (position_of whole) f.position tt);
       points = subst (λ o. Alike (IsPoints asked) o (positions_of whole)) (sym q) (alike_at (IsPoints asked) None None (positions_of whole) f.points tt);

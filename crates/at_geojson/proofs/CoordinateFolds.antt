@@ -227,19 +227,19 @@ module _ (asked : Asked) where
 
   -- ---- lists of positions
 
-  line_fault_is : (a : GeoAtom) (ps : Positions) → IsLine a ps → fault_as_line a ≡ first_of (faults_of_line asked.digits asked.how ps)
+  pub line_fault_is : (a : GeoAtom) (ps : Positions) → IsLine a ps → fault_as_line a ≡ first_of (faults_of_line asked.digits asked.how ps)
   line_fault_is a ps i = ap (seen None (λ (v : PointsView). v.as_line)) i.1 ∙ i.2.as_line
 
-  ring_fault_is : (a : GeoAtom) (ps : Positions) → IsLine a ps → fault_as_ring a ≡ first_of (faults_of_ring asked.digits asked.how ps)
+  pub ring_fault_is : (a : GeoAtom) (ps : Positions) → IsLine a ps → fault_as_ring a ≡ first_of (faults_of_ring asked.digits asked.how ps)
   ring_fault_is a ps i = ap (seen None (λ (v : PointsView). v.as_ring)) i.1 ∙ i.2.as_ring
 
   path_by : (a : GeoAtom) (ps : Positions) (i : IsLine a ps) → first_of (items_faults asked.digits asked.how ps.items) ≡ None → path_in a ≡ kept (needs_shapes asked.query) (path_of asked.digits asked.how ps)
   path_by a ps i e = ap (seen [] (λ (v : PointsView). v.path)) i.1 ∙ i.2.path (i.2.as_points ∙ e)
 
-  path_of_line : (a : GeoAtom) (ps : Positions) → IsLine a ps → fault_as_line a ≡ None → path_in a ≡ kept (needs_shapes asked.query) (path_of asked.digits asked.how ps)
+  pub path_of_line : (a : GeoAtom) (ps : Positions) → IsLine a ps → fault_as_line a ≡ None → path_in a ≡ kept (needs_shapes asked.query) (path_of asked.digits asked.how ps)
   path_of_line a ps i e = path_by a ps i (items_none (line_fault (length ps.items) ps.at) (items_faults asked.digits asked.how ps.items) (sym (line_fault_is a ps i) ∙ e))
 
-  path_of_ring : (a : GeoAtom) (ps : Positions) → IsLine a ps → fault_as_ring a ≡ None → path_in a ≡ kept (needs_shapes asked.query) (path_of asked.digits asked.how ps)
+  pub path_of_ring : (a : GeoAtom) (ps : Positions) → IsLine a ps → fault_as_ring a ≡ None → path_in a ≡ kept (needs_shapes asked.query) (path_of asked.digits asked.how ps)
   path_of_ring a ps i e = path_by a ps i (items_none (ring_fault (length ps.items) (is_closed asked.digits asked.how ps.items) ps.at) (items_faults asked.digits asked.how ps.items) (sym (ring_fault_is a ps i) ∙ e))
 
   pub lists_are : (at least : ℕ) (aa : List GeoAtom) (r : GeoAtom) (ls : List Positions) → EachIs positions_of as_points (IsPoints asked) aa ls → (m : MakesLists (needs_shapes asked.query) at least aa r)

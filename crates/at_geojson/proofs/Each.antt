@@ -54,13 +54,13 @@ module _ {X Y : Type 0} (f : Tree → Option Y) (view : GeoAtom → Option X) (R
   EachIs (a ∷ aa) (y ∷ ys) = Is a y × EachIs aa ys
   EachIs _ _ = ⊥
 
-  one_some : (o : Option X) (p : Option Y) → Alike R o p → is_some o ≡ true → (x : X) × (y : Y) × (o ≡ Some x) × (p ≡ Some y) × R x y
+  pub one_some : (o : Option X) (p : Option Y) → Alike R o p → is_some o ≡ true → (x : X) × (y : Y) × (o ≡ Some x) × (p ≡ Some y) × R x y
   one_some (Some x) (Some y) r e = (x, y, refl, refl, r)
   one_some (Some x) None r e = absurd r
   one_some None (Some y) r e = absurd r
   one_some None None r e = absurd (true≢false (sym e))
 
-  one_none : (o : Option X) (p : Option Y) → Alike R o p → is_some o ≡ false → p ≡ None
+  pub one_none : (o : Option X) (p : Option Y) → Alike R o p → is_some o ≡ false → p ≡ None
   one_none (Some x) p r e = absurd (true≢false e)
   one_none None (Some y) r e = absurd r
   one_none None None r e = refl

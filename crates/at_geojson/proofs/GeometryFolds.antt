@@ -21,7 +21,7 @@ use Rattle.at_geojson.specs.Names.{items_of}
 use Rattle.at_geojson.specs.Coordinates.{each, position_of, positions_of, lists_of, area_of, areas_of, if_some_items, geometry_of, geometry_of_form}
 use Rattle.at_geojson.specs.Roles.{Reading, not_geometry, coordinates_reading}
 use Rattle.at_geojson.specs.Keeping.{Asked, needs_shapes, kept, kept_shape}
-use Rattle.at_geojson.specs.Atoms.{at_of, is_empty, as_position, as_points, as_lists, as_area, as_areas, PositionView, PointsView, ListsView, AreasView, array_trees, Alike, HasShape, IsPosition, IsPoints, IsLists, IsArea, IsAreas, IsRead}
+use Rattle.at_geojson.specs.Atoms.{no_roles, at_of, is_empty, as_position, as_points, as_lists, as_area, as_areas, PositionView, PointsView, ListsView, AreasView, array_trees, Alike, HasShape, IsPosition, IsPoints, IsLists, IsArea, IsAreas, IsRead}
 use Rattle.at_geojson.specs.Gathering.{seen}
 use Rattle.at_geojson.specs.Objects.{unless, shape_seen, point_shape, points_shape, line_shape, lines_shape, polygon_shape, polygons_shape}
 use Rattle.at_geojson.proofs.Firsts.{none_first}
@@ -141,6 +141,7 @@ module _ (asked : Asked) where
   not_nil (atoms.Void k) t r n e = subst (Alike (IsLists asked) None) (nil_lists t e) r.coordinates.lists
   not_nil (atoms.Object x) t r n e = subst (Alike (IsLists asked) None) (nil_lists t e) r.coordinates.lists
   not_nil (atoms.Run x) t r n e = absurd (none-some x.value (sym r.single))
+  not_nil (atoms.Series s) t r n e = absurd (none-some (no_roles s.at) (sym r.single))
 
   abbrev of_geometry : wkt.Geometry → Reading
   of_geometry g = record { shape = shape_of asked.digits asked.how g; faults = faults_of asked.digits asked.how g }

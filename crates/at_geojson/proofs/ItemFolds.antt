@@ -136,7 +136,11 @@ module _ (asked : Asked) where
   -- an atom, for one value or several
   pub have_covers : (a : GeoAtom) (ts : List Tree) (one : Items) → one.geometries ≡ item_geometries a → one.features ≡ item_features a → Covers (IsRead asked) (IsRun asked) a ts → HaveItems asked one (trees ts)
   have_covers a ts one eg ef (inl (t, e, r)) = subst (λ z. HaveItems asked one (trees z)) (sym e) (have_one a t one eg ef r)
-  have_covers a ts one eg ef (inr (run, e, j)) = (
+  have_covers a ts one eg ef (inr (inl (run, e, j))) = (
+    subst (λ z. HasShape (needs_shapes asked.query) z (items_reading asked.digits asked.how (trees ts))) (sym (eg ∙ ap item_geometries e)) j.have.0,
+    subst (λ z. HasPart asked.query z (items_features asked (trees ts))) (sym (ef ∙ ap item_features e)) j.have.1,
+  )
+  have_covers a ts one eg ef (inr (inr (s, e, j))) = (
     subst (λ z. HasShape (needs_shapes asked.query) z (items_reading asked.digits asked.how (trees ts))) (sym (eg ∙ ap item_geometries e)) j.have.0,
     subst (λ z. HasPart asked.query z (items_features asked (trees ts))) (sym (ef ∙ ap item_features e)) j.have.1,
   )

@@ -10,6 +10,9 @@ pub mod ArrayFolds
 pub mod OwnFolds
 pub mod ItemFolds
 pub mod RunFolds
+pub mod ListRoles
+pub mod MixedFolds
+pub mod SeriesFolds
 pub mod ArrayAnswers
 pub mod GeometryFolds
 pub mod MemberFolds

@@ -18,20 +18,18 @@ use Rattle.at_nest.proofs.Held.{folds_append}
 use Rattle.at_geojson.specs.declared.atoms.GeoAtom.{GeoAtom}
 use Rattle.at_geojson.specs.declared.atoms.GeoAtom.TheVariants as atoms
 use Rattle.at_geojson.specs.declared.atoms.Items.{Items}
-use Rattle.at_geojson.specs.declared.atoms.ItemsAtom.{ItemsAtom}
 use Rattle.at_geojson.specs.declared.atoms.ObjectAtom.{ObjectAtom}
 use Rattle.at_geojson.specs.Names.{items_of}
-use Rattle.at_geojson.specs.Coordinates.{each, number_at, position_of, position_of_numbers, positions_of, area_of, if_some_items}
+use Rattle.at_geojson.specs.Coordinates.{each}
 use Rattle.at_geojson.specs.Roles.{texts_of}
 use Rattle.at_geojson.specs.Keeping.{Asked, asked_texts}
 use Rattle.at_geojson.specs.Atoms.{Alike, twin_of, as_run, is_object_tree, object_members, IsRead, IsFold, AreJoined, IsRun, AreOwnItems, IfOwnShape, IfOwnPart, IsOwn}
 use Rattle.at_geojson.specs.Gathering.{firsts, is_run, item_geometries, item_features, JoinsShapes, JoinsFound}
-use Rattle.at_geojson.specs.Arrays.{JoinsItems, joins_run, TakesRun}
+use Rattle.at_geojson.specs.Arrays.{joins_run, TakesRun}
 use Rattle.at_geojson.proofs.Firsts.{firsts-cons}
 use Rattle.at_geojson.proofs.Each.{none_left, none_behind}
 use Rattle.at_geojson.proofs.ItemFolds.{last_covers, have_both, have_covers}
 use Rattle.at_geojson.proofs.OwnFolds.{shapes_own, parts_own, own_joined}
-use Rattle.at_geojson.proofs.ArrayFolds.{HasNoForm, items_read}
 
 -- ---- trees
 
@@ -39,10 +37,10 @@ twins_append : (us vs : List Tree) → twins_of_items (trees (us ++ vs)) ≡ twi
 twins_append [] vs = refl
 twins_append (u ∷ us) vs = ap (λ z. twins_of u ++ z) (twins_append us vs) ∙ sym (append_assoc (twins_of u) (twins_of_items (trees us)) (twins_of_items (trees vs)))
 
-first_twins : (us vs : List Tree) → first_of (twins_of_items (trees (us ++ vs))) ≡ first_fault (first_of (twins_of_items (trees us))) (first_of (twins_of_items (trees vs)))
+pub first_twins : (us vs : List Tree) → first_of (twins_of_items (trees (us ++ vs))) ≡ first_fault (first_of (twins_of_items (trees us))) (first_of (twins_of_items (trees vs)))
 first_twins us vs = ap first_of (twins_append us vs) ∙ first_of-append (twins_of_items (trees us)) (twins_of_items (trees vs))
 
-items_of_trees : (ts : List Tree) → items_of (trees ts) ≡ ts
+pub items_of_trees : (ts : List Tree) → items_of (trees ts) ≡ ts
 items_of_trees [] = refl
 items_of_trees (t ∷ ts) = ap (λ z. t ∷ z) (items_of_trees ts)
 
@@ -55,7 +53,7 @@ some_behind us vs e = list_any-append is_object_tree us vs ∙ (ap (λ b. list_a
   or_true true = refl
   or_true false = refl
 
--- ---- an array with an object in it is no coordinates
+-- ---- an object is no coordinates
 
 the_object : (t : Tree) → is_object_tree t ≡ true → (at : ℕ) × (ms : Members) × (t ≡ object at ms)
 the_object (object at ms) e = (at, ms, refl)
@@ -64,7 +62,7 @@ the_object (text at cs) e = absurd (true≢false (sym e))
 the_object (number at n) e = absurd (true≢false (sym e))
 the_object (literal at l) e = absurd (true≢false (sym e))
 
-none_each : {Y : Type 0} (f : Tree → Option Y) → ((at : ℕ) (ms : Members) → f (object at ms) ≡ None) → (ts : List Tree) → list_any is_object_tree ts ≡ true → each f ts ≡ None
+pub none_each : {Y : Type 0} (f : Tree → Option Y) → ((at : ℕ) (ms : Members) → f (object at ms) ≡ None) → (ts : List Tree) → list_any is_object_tree ts ≡ true → each f ts ≡ None
 none_each f n [] e = absurd (true≢false (sym e))
 none_each {Y} f n (t ∷ ts) e = go (is_object_tree t) refl (none_each f n ts) where
   rest : (p : Option Y) → each f ts ≡ None → option_and_then (λ z. option_map (λ zs. z ∷ zs) (each f ts)) p ≡ None
@@ -75,24 +73,13 @@ none_each {Y} f n (t ∷ ts) e = go (is_object_tree t) refl (none_each f n ts) w
   go true k more = let (at, ms, q) = the_object t k in ap (λ p. option_and_then (λ z. option_map (λ zs. z ∷ zs) (each f ts)) p) (ap f q ∙ n at ms)
   go false k more = rest (f t) (more (ap (λ b. b || list_any is_object_tree ts) (sym k) ∙ e))
 
-no_items : {Y : Type 0} (f : Tree → Option Y) → ((at : ℕ) (ms : Members) → f (object at ms) ≡ None) → (ts : List Tree) → list_any is_object_tree ts ≡ true → each f (items_of (trees ts)) ≡ None
-no_items f n ts e = ap (each f) (items_of_trees ts) ∙ none_each f n ts e
-
 module _ (asked : Asked) where
-  no_coordinates : (at : ℕ) (ts : List Tree) → list_any is_object_tree ts ≡ true → HasNoForm asked at (trees ts)
-  no_coordinates at ts e = record {
-    position = ap (option_and_then position_of_numbers) (no_items number_at (λ i ms. refl) ts e);
-    points = ap (option_map (λ items. record { at = at; items = items })) (no_items position_of (λ i ms. refl) ts e);
-    lists = no_items positions_of (λ i ms. refl) ts e;
-    area = ap (option_and_then if_some_items) (no_items positions_of (λ i ms. refl) ts e);
-    areas = no_items area_of (λ i ms. refl) ts e;
-  }
-
   -- ---- equal names
 
-  twins_covers : (a : GeoAtom) (ts : List Tree) → Covers (IsFold asked) (IsRun asked) a ts → twin_of a ≡ first_of (twins_of_items (trees ts))
+  pub twins_covers : (a : GeoAtom) (ts : List Tree) → Covers (IsFold asked) (IsRun asked) a ts → twin_of a ≡ first_of (twins_of_items (trees ts))
   twins_covers a ts (inl (t, e, f)) = f.twins ∙ (ap first_of (sym (append-nil (twins_of t))) ∙ ap (λ z. first_of (twins_of_items (trees z))) (sym e))
-  twins_covers a ts (inr (run, e, j)) = ap twin_of e ∙ sym j.twins
+  twins_covers a ts (inr (inl (run, e, j))) = ap twin_of e ∙ sym j.twins
+  twins_covers a ts (inr (inr (s, e, j))) = ap twin_of e ∙ sym j.twins
 
   pub twins_runs : (aa : List GeoAtom) (ts : List Tree) → AreItemFolds (IsFold asked) (IsRun asked) aa ts → firsts twin_of aa ≡ first_of (twins_of_items (trees ts))
   twins_runs [] ts e = ap (λ z. first_of (twins_of_items (trees z))) (sym e)
@@ -101,22 +88,15 @@ module _ (asked : Asked) where
 
   -- ---- atoms of which none has equal names
 
-  read_covers : (a : GeoAtom) (ts : List Tree) → Covers (IsFold asked) (IsRun asked) a ts → twin_of a ≡ None → Covers (IsRead asked) (IsRun asked) a ts
+  pub read_covers : (a : GeoAtom) (ts : List Tree) → Covers (IsFold asked) (IsRun asked) a ts → twin_of a ≡ None → Covers (IsRead asked) (IsRun asked) a ts
   read_covers a ts (inl (t, e, f)) n = inl (t, e, f.read n)
   read_covers a ts (inr r) n = inr r
 
-  reads_runs : (aa : List GeoAtom) (ts : List Tree) → AreItemFolds (IsFold asked) (IsRun asked) aa ts → firsts twin_of aa ≡ None → AreItemFolds (IsRead asked) (IsRun asked) aa ts
+  pub reads_runs : (aa : List GeoAtom) (ts : List Tree) → AreItemFolds (IsFold asked) (IsRun asked) aa ts → firsts twin_of aa ≡ None → AreItemFolds (IsRead asked) (IsRun asked) aa ts
   reads_runs [] ts h e = h
   reads_runs (a ∷ aa) ts (us, vs, s, c, h) e =
       let o = sym (firsts-cons twin_of a aa) ∙ e in
       (us, vs, s, read_covers a us c (none_left (twin_of a) (firsts twin_of aa) o), reads_runs aa vs h (none_behind (twin_of a) (firsts twin_of aa) o))
-
-  some_object : (aa : List GeoAtom) (ts : List Tree) → AreItemFolds (IsRead asked) (IsRun asked) aa ts → list_any is_run aa ≡ true → list_any is_object_tree ts ≡ true
-  some_object [] ts h e = absurd (true≢false (sym e))
-  some_object (a ∷ aa) ts (us, vs, s, c, h) e = ap (list_any is_object_tree) s ∙ go c (some_object aa vs h) where
-    go : Covers (IsRead asked) (IsRun asked) a us → (list_any is_run aa ≡ true → list_any is_object_tree vs ≡ true) → list_any is_object_tree (us ++ vs) ≡ true
-    go (inl (t, q, r)) more = some_behind us vs (more (ap (λ o. is_some o || list_any is_run aa) (sym r.single) ∙ e))
-    go (inr (run, q, j)) more = some_front us vs j.some
 
   -- where none is a run, each stands for one tree
   pub no_runs : (aa : List GeoAtom) (ts : List Tree) → AreItemFolds (IsFold asked) (IsRun asked) aa ts → list_any is_run aa ≡ false → AreFolds (IsFold asked) aa (trees ts)
@@ -124,19 +104,13 @@ module _ (asked : Asked) where
   no_runs (a ∷ aa) ts (us, vs, s, c, h) e = subst (λ z. AreFolds (IsFold asked) (a ∷ aa) (trees z)) (sym s) (go c (no_runs aa vs h (or_parts (is_run a) (list_any is_run aa) e).1)) where
     go : Covers (IsFold asked) (IsRun asked) a us → AreFolds (IsFold asked) aa (trees vs) → AreFolds (IsFold asked) (a ∷ aa) (trees (us ++ vs))
     go (inl (t, q, f)) more = subst (λ z. AreFolds (IsFold asked) (a ∷ aa) (trees (z ++ vs))) (sym q) (f, more)
-    go (inr (run, q, j)) more = absurd (true≢false (ap is_run (sym q) ∙ (or_parts (is_run a) (list_any is_run aa) e).0))
+    go (inr (inl (run, q, j))) more = absurd (true≢false (ap is_run (sym q) ∙ (or_parts (is_run a) (list_any is_run aa) e).0))
+    go (inr (inr (s, q, j))) more = absurd (true≢false (ap is_run (sym q) ∙ (or_parts (is_run a) (list_any is_run aa) e).0))
 
-  -- ---- the atom of an array of which some items are a run
+  -- ---- the atom of an array of which some items are a run or a series
 
   pub twin_runs : (at : ℕ) (aa : List GeoAtom) (ts : List Tree) (fault : Fault) → AreItemFolds (IsFold asked) (IsRun asked) aa ts → firsts twin_of aa ≡ Some fault → IsFold asked (atoms.Twin fault) (array at (trees ts))
   twin_runs at aa ts fault h e = record { twins = sym e ∙ twins_runs aa ts h; read = λ z. absurd (none-some fault (sym z)) }
-
-  pub joined_folds : (at : ℕ) (aa : List GeoAtom) (m : ItemsAtom) → m.at ≡ at → firsts twin_of aa ≡ None → list_any is_run aa ≡ true → JoinsItems asked aa m.items.value
-      → (ts : List Tree) → AreItemFolds (IsFold asked) (IsRun asked) aa ts → IsFold asked (atoms.Items m) (array at (trees ts))
-  joined_folds at aa m k n r j ts h =
-      let read = reads_runs aa ts h n in
-      let have = j ts read in
-      record { twins = sym n ∙ twins_runs aa ts h; read = λ _. items_read asked at (trees ts) m k (no_coordinates at ts (some_object aa ts read r)) have.0 have.1 }
 
   -- ---- what is put behind an array's items
 
@@ -158,6 +132,7 @@ module _ (asked : Asked) where
   joins_is (atoms.Other x) e = absurd (true≢false (sym e))
   joins_is (atoms.Items x) e = absurd (true≢false (sym e))
   joins_is (atoms.Void n) e = absurd (true≢false (sym e))
+  joins_is (atoms.Series s) e = absurd (true≢false (sym e))
 
   no_twin : (a : GeoAtom) → joins_run a ≡ true → twin_of a ≡ None
   no_twin a e = elim (joins_is a e) [ inl o ↦ ap twin_of o.1 | inr o ↦ ap twin_of o.1 ]
@@ -173,7 +148,8 @@ module _ (asked : Asked) where
   no_value run t f = none-some run.value (sym (f.read refl).single)
 
   some_covers : (a : GeoAtom) (ts : List Tree) → Covers (IsRead asked) (IsRun asked) a ts → joins_run a ≡ true → list_any is_object_tree ts ≡ true
-  some_covers a ts (inr (run, e, j)) n = j.some
+  some_covers a ts (inr (inl (run, e, j))) n = j.some
+  some_covers a ts (inr (inr (s, e, j))) n = absurd (true≢false (sym n ∙ ap joins_run e))
   some_covers a ts (inl (t, e, r)) n = ap (list_any is_object_tree) e ∙ go (joins_is a n) where
     go : ((x : ObjectAtom) × (a ≡ atoms.Object x)) ⊎ ((run : Box Items Global) × (a ≡ atoms.Run run)) → list_any is_object_tree (t ∷ []) ≡ true
     go (inl (x, q)) = ap (λ b. b || false) (object_there x t (subst (λ z. IsRead asked z t) q r))
@@ -202,19 +178,20 @@ module _ (asked : Asked) where
   adds_to_run xs old new a one n eg ef j k ts us h c =
       let (ps, qs, e, hs, d) = last_covers (IsFold asked) (IsRun asked) xs (atoms.Run old) ts h in
       subst (λ z. AreItemFolds (IsFold asked) (IsRun asked) (xs ++ atoms.Run new ∷ []) z) (sym (ap (λ z. z ++ us) e ∙ append_assoc ps qs us))
-      (folds_append (IsFold asked) (IsRun asked) xs ps (atoms.Run new) (qs ++ us) hs (inr (new, refl, joined_both qs us old.value one new.value j k (old_joined qs d) (joined_covers a us one n eg ef c)))) where
+      (folds_append (IsFold asked) (IsRun asked) xs ps (atoms.Run new) (qs ++ us) hs (inr (inl (new, refl, joined_both qs us old.value one new.value j k (old_joined qs d) (joined_covers a us one n eg ef c))))) where
         run_is : (run : Box Items Global) (vs : List Tree) → atoms.Run old ≡ atoms.Run run → AreJoined asked run.value vs → AreJoined asked old.value vs
         run_is run vs q r = subst (λ i. AreJoined asked i vs) (sym (ap (λ (o : Option Items). elim o [ None ↦ old.value | Some i ↦ i ]) (ap as_run q))) r
 
         old_joined : (vs : List Tree) → Covers (IsFold asked) (IsRun asked) (atoms.Run old) vs → AreJoined asked old.value vs
         old_joined vs (inl (t, q, f)) = absurd (no_value old t f)
-        old_joined vs (inr (run, q, r)) = run_is run vs q r
+        old_joined vs (inr (inl (run, q, r))) = run_is run vs q r
+        old_joined vs (inr (inr (s, q, r))) = absurd (true≢false (ap joins_run q))
 
   -- a run of the atom alone
   pub adds_run : (xs : List GeoAtom) (new : Box Items Global) (a : GeoAtom) → joins_run a ≡ true → new.value.geometries ≡ item_geometries a → new.value.features ≡ item_features a
       → (ts us : List Tree) → AreItemFolds (IsFold asked) (IsRun asked) xs ts → Covers (IsFold asked) (IsRun asked) a us
       → AreItemFolds (IsFold asked) (IsRun asked) (xs ++ atoms.Run new ∷ []) (ts ++ us)
-  adds_run xs new a n eg ef ts us h c = folds_append (IsFold asked) (IsRun asked) xs ts (atoms.Run new) us h (inr (new, refl, joined_covers a us new.value n eg ef c))
+  adds_run xs new a n eg ef ts us h c = folds_append (IsFold asked) (IsRun asked) xs ts (atoms.Run new) us h (inr (inl (new, refl, joined_covers a us new.value n eg ef c)))
 
   -- the last two are runs, and become one
   settles_runs : (xs : List GeoAtom) (before run new : Box Items Global)

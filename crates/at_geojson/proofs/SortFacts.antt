@@ -29,6 +29,7 @@ is_number (atoms.Items x) = refl
 is_number (atoms.Void n) = refl
 is_number (atoms.Object x) = refl
 is_number (atoms.Run x) = refl
+is_number (atoms.Series s) = refl
 
 pub is_position : (a : GeoAtom) → is_some (as_position a) ≡ (rank (sort_of a) == 2)
 is_position (atoms.Twin f) = refl
@@ -48,6 +49,7 @@ is_position (atoms.Items x) = refl
 is_position (atoms.Void n) = refl
 is_position (atoms.Object x) = refl
 is_position (atoms.Run x) = refl
+is_position (atoms.Series s) = refl
 
 pub is_points : (a : GeoAtom) → is_some (as_points a) ≡ (rank (sort_of a) == 3)
 is_points (atoms.Twin f) = refl
@@ -67,6 +69,7 @@ is_points (atoms.Items x) = refl
 is_points (atoms.Void n) = refl
 is_points (atoms.Object x) = refl
 is_points (atoms.Run x) = refl
+is_points (atoms.Series s) = refl
 
 pub is_area : (a : GeoAtom) → is_some (as_area a) ≡ (rank (sort_of a) == 4)
 is_area (atoms.Twin f) = refl
@@ -86,6 +89,7 @@ is_area (atoms.Items x) = refl
 is_area (atoms.Void n) = refl
 is_area (atoms.Object x) = refl
 is_area (atoms.Run x) = refl
+is_area (atoms.Series s) = refl
 
 -- no sort but Other has objects
 pub sorted_no_object : (a : GeoAtom) → is_object a ≡ true → rank (sort_of a) ≡ 0
@@ -106,6 +110,7 @@ sorted_no_object (atoms.Other x) e = refl
 sorted_no_object (atoms.Items x) e = refl
 sorted_no_object (atoms.Void n) e = refl
 sorted_no_object (atoms.Run x) e = refl
+sorted_no_object (atoms.Series s) e = refl
 
 pub no_role : (a : GeoAtom) → is_object a ≡ false → role_of a ≡ roles.Nothing
 no_role (atoms.Object x) e = absurd (true≢false e)
@@ -125,6 +130,7 @@ no_role (atoms.Other x) e = refl
 no_role (atoms.Items x) e = refl
 no_role (atoms.Void n) e = refl
 no_role (atoms.Run x) e = refl
+no_role (atoms.Series s) e = refl
 
 -- ---- all items
 

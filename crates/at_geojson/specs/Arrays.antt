@@ -1,5 +1,5 @@
 -- What is made of an array whose items are of no one sort of coordinates. Only contracts of private functions cite this.
-use Rattle.std.specs.Prelude.{◌≡◌, ℕ, ◌⊎◌, Bool, false, ◌||◌, List, [], ◌∷◌, ◌++◌, Option, Some, None}
+use Rattle.std.specs.Prelude.{◌≡◌, ℕ, ◌⊎◌, Bool, false, List, [], ◌∷◌, ◌++◌, Option, Some, None}
 use Rattle.std.specs.declared.alloc.Global.{Global}
 use Rattle.std.specs.declared.boxed.Box.{Box}
 use Rattle.std.specs.List.{list_any}
@@ -11,7 +11,7 @@ use Rattle.at_geojson.specs.declared.atoms.Items.{Items}
 use Rattle.at_geojson.specs.declared.atoms.ItemsAtom.{ItemsAtom}
 use Rattle.at_geojson.specs.Keeping.{Asked}
 use Rattle.at_geojson.specs.Atoms.{IsRead, IsFold, IsRun, HaveItems}
-use Rattle.at_geojson.specs.Gathering.{is_object, is_run, least_of, pair_atom}
+use Rattle.at_geojson.specs.Gathering.{is_object, least_of, pair_atom}
 
 -- whatever trees the atoms stand for one behind another, the items are what those are in both roles
 abbrev pub JoinsItems : Asked → List GeoAtom → Items → Type 0
@@ -28,9 +28,9 @@ MakesNumbers asked at items r = (pair_atom at (least_of items) items ≡ Some r)
 
 -- ---- items as they come
 
--- an object that has a kind or texts, or a run: what becomes one run
+-- what becomes one run
 abbrev pub joins_run : GeoAtom → Bool
-joins_run a = is_object a || is_run a
+joins_run a = is_object a
 
 -- whatever trees the atoms and the further atom stand for, the new atoms stand for all of them
 abbrev pub Adds : Asked → List GeoAtom → GeoAtom → List GeoAtom → Type 0

@@ -1,5 +1,5 @@
 -- What is kept of a value of a text in each role, and that it is what the definitions read of the value in that role.
-use Rattle.std.specs.Prelude.{◌≡◌, ℕ, ℤ, pos, Bool, true, false, if◌then◌else◌, List, [], ◌∷◌, All, map, flat_map, Option, Some, None, is_some, option_and_then, Result, Ok, Err}
+use Rattle.std.specs.Prelude.{◌≡◌, ◌⊎◌, ℕ, ℤ, pos, Bool, true, false, if◌then◌else◌, List, [], ◌∷◌, All, map, flat_map, Option, Some, None, is_some, option_and_then, Result, Ok, Err}
 use Rattle.std.specs.Bool.{⊤}
 use Rattle.std.specs.List.{list_any}
 use Rattle.std.specs.declared.boxed.Box.{Box}
@@ -31,8 +31,10 @@ use Rattle.at_geojson.specs.declared.atoms.GeoAtom.TheVariants as atoms
 use Rattle.at_geojson.specs.declared.atoms.Role.{Role}
 use Rattle.at_geojson.specs.declared.atoms.Role.TheVariants as roles
 use Rattle.at_geojson.specs.declared.atoms.Items.{Items}
+use Rattle.at_geojson.specs.declared.atoms.Lists.{Lists}
+use Rattle.at_geojson.specs.declared.atoms.SeriesAtom.{SeriesAtom}
 use Rattle.at_geojson.specs.Names.{units_of_text, kind_of_text, items_of}
-use Rattle.at_geojson.specs.Coordinates.{number_at, position_of, positions_of, lists_of, areas_of, area_of}
+use Rattle.at_geojson.specs.Coordinates.{each, number_at, position_of, positions_of, lists_of, areas_of, area_of}
 use Rattle.at_geojson.specs.Roles.{Reading, Features, geometry_reading, items_reading, item_reading, all_features, root_reading, texts_of}
 use Rattle.at_geojson.specs.Keeping.{Asked, needs_shapes, asks_value, asked_texts, kept, kept_shape}
 
@@ -61,6 +63,7 @@ at_of (atoms.Items a) = a.at
 at_of (atoms.Void at) = at
 at_of (atoms.Object a) = a.at
 at_of (atoms.Run items) = 0
+at_of (atoms.Series s) = s.at
 
 -- values with their first fault: what the values are counts only where there is none
 pub record NumberView : Type 0 where
@@ -86,6 +89,9 @@ pub record AreasView : Type 0 where
   pub polygons : List Polygon
   pub fault : Option Fault
 
+abbrev pub lists_view : Lists → ListsView
+lists_view l = record { paths = l.paths.items; as_lines = l.as_lines; as_rings = l.as_rings }
+
 abbrev pub nowhere : Pos
 nowhere = record { x = pos 0; y = pos 0 }
 
@@ -110,7 +116,7 @@ as_points _ = None
 
 abbrev pub as_lists : GeoAtom → Option ListsView
 as_lists (atoms.Empty at) = Some (record { paths = []; as_lines = None; as_rings = None })
-as_lists (atoms.Lists a) = let l = a.lists.value in Some (record { paths = l.paths.items; as_lines = l.as_lines; as_rings = l.as_rings })
+as_lists (atoms.Lists a) = Some (lists_view a.lists.value)
 as_lists _ = None
 
 -- an area: lists of positions, at least one
@@ -187,9 +193,14 @@ abbrev pub role_item : ℕ → Role → Result Part Fault
 role_item at (roles.Feature p) = p
 role_item at _ = both_forms at
 
+-- Form at the offset in both roles
+abbrev pub no_roles : ℕ → Items
+no_roles at = record { geometries = both_forms at; features = both_forms at }
+
 -- what values one behind another in an array are, joined: no value has this
 abbrev pub as_run : GeoAtom → Option Items
 as_run (atoms.Run items) = Some items.value
+as_run (atoms.Series s) = Some (no_roles s.at)
 as_run _ = None
 
 -- ---- the same of trees
@@ -353,6 +364,7 @@ module _ (asked : Asked) where
   IsOwn (atoms.Items a) = AreOwnItems a.items.value
   IsOwn (atoms.Object a) = IsOwnRole a.roles.value.role
   IsOwn (atoms.Run items) = AreOwnItems items.value
+  IsOwn (atoms.Series s) = ArePathsInRange s.lists.value.paths.items
   IsOwn _ = ⊤
 
   abbrev pub HaveItems : Items → Trees → Type 0
@@ -366,6 +378,14 @@ module _ (asked : Asked) where
     pub some : list_any is_object_tree ts ≡ true
     pub have : HaveItems items (trees ts)
 
-  -- the atom is a run, and is what the algebra makes of these trees
+  -- lists of positions, at least one, which are no items but Form from the offset on
+  pub record AreSeries (at : ℕ) (v : ListsView) (ts : List Tree) : Type 0 where
+    pub twins : first_of (twins_of_items (trees ts)) ≡ None
+    pub lists : List Positions
+    pub are : each positions_of ts ≡ Some lists
+    pub area : IsArea v lists
+    pub have : HaveItems (no_roles at) (trees ts)
+
+  -- the atom is a run or a series, and is what the algebra makes of these trees
   abbrev pub IsRun : GeoAtom → List Tree → Type 0
-  IsRun a ts = (items : Box Items Global) × (a ≡ atoms.Run items) × AreJoined items.value ts
+  IsRun a ts = ((items : Box Items Global) × (a ≡ atoms.Run items) × AreJoined items.value ts) ⊎ ((s : SeriesAtom) × (a ≡ atoms.Series s) × AreSeries s.at (lists_view s.lists.value) ts)

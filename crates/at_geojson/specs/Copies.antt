@@ -8,6 +8,7 @@ use Rattle.at_geojson.specs.declared.atoms.Points.{Points}
 use Rattle.at_geojson.specs.declared.atoms.PointsAtom.{PointsAtom}
 use Rattle.at_geojson.specs.declared.atoms.Lists.{Lists}
 use Rattle.at_geojson.specs.declared.atoms.ListsAtom.{ListsAtom}
+use Rattle.at_geojson.specs.declared.atoms.SeriesAtom.{SeriesAtom}
 use Rattle.at_geojson.specs.declared.atoms.Areas.{Areas}
 use Rattle.at_geojson.specs.declared.atoms.AreasAtom.{AreasAtom}
 use Rattle.at_geojson.specs.declared.atoms.Items.{Items}
@@ -34,6 +35,9 @@ CopiesPoints x y = (y.at ≡ x.at) × (y.least ≡ x.least) × SamePoints x.poin
 abbrev pub CopiesLists : ListsAtom → ListsAtom → Type 0
 CopiesLists x y = (y.at ≡ x.at) × (y.least ≡ x.least) × SameLists x.lists.value y.lists.value
 
+abbrev pub CopiesSeries : SeriesAtom → SeriesAtom → Type 0
+CopiesSeries x y = (y.at ≡ x.at) × SameLists x.lists.value y.lists.value
+
 abbrev pub CopiesAreas : AreasAtom → AreasAtom → Type 0
 CopiesAreas x y = (y.at ≡ x.at) × (y.least ≡ x.least) × SameAreas x.areas.value y.areas.value
 
@@ -45,4 +49,5 @@ IsCopy (atoms.Areas x) b = (y : AreasAtom) × (b ≡ atoms.Areas y) × CopiesAre
 IsCopy (atoms.Items x) b = (y : ItemsAtom) × (b ≡ atoms.Items y) × (y.at ≡ x.at) × (y.items.value ≡ x.items.value)
 IsCopy (atoms.Object x) b = (y : ObjectAtom) × (b ≡ atoms.Object y) × (y.at ≡ x.at) × (y.roles.value ≡ x.roles.value)
 IsCopy (atoms.Run x) b = (y : Box Items Global) × (b ≡ atoms.Run y) × (y.value ≡ x.value)
+IsCopy (atoms.Series x) b = (y : SeriesAtom) × (b ≡ atoms.Series y) × CopiesSeries x y
 IsCopy a b = b ≡ a

@@ -194,9 +194,10 @@ pub record MakesAreas (needs : Bool) (at least : ℕ) (items : List GeoAtom) (re
 
 -- ---- items that are no coordinates
 
--- an object that has a kind or texts
+-- an object that has a kind or texts, or several values of which one is an object
 abbrev pub is_object : GeoAtom → Bool
 is_object (atoms.Object a) = true
+is_object (atoms.Run items) = true
 is_object _ = false
 
 -- an array of which the items' roles are kept

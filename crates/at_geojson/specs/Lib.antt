@@ -6,6 +6,7 @@ pub mod Atoms
 pub mod Gathering
 pub mod Hashes
 pub mod Arrays
+pub mod Series
 pub mod Objects
 pub mod Fields
 pub mod Ends

@@ -69,6 +69,14 @@ pub struct ListsAtom {
     pub lists: Box<Lists>,
 }
 
+/// Lists of positions one behind another in an array, at least one, with the offset of the first. Their values are kept
+/// only while the lists have no fault as lines, or none as rings.
+#[derive(Drop)]
+pub struct SeriesAtom {
+    pub at: u32,
+    pub lists: Box<Lists>,
+}
+
 /// Areas: their polygons where shapes are kept, and the first fault in them.
 #[derive(Drop)]
 pub struct Areas {
@@ -155,4 +163,6 @@ pub enum GeoAtom {
     Object(ObjectAtom),
     /// Values one behind another in an array, of which at least one is an object and none a twin: no value of its own.
     Run(Box<Items>),
+    /// Lists of positions one behind another in an array: no value of their own.
+    Series(SeriesAtom),
 }

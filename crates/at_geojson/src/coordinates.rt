@@ -181,7 +181,7 @@ pub fn points_atom(
 }
 
 /// The first fault of a list of positions as a line.
-fn fault_as_line(atom: &GeoAtom) -> Option<Fault>
+pub fn fault_as_line(atom: &GeoAtom) -> Option<Fault>
     ensures { result ≡ the_fault_as_line atom.now }
 {
     match atom {
@@ -192,7 +192,7 @@ fn fault_as_line(atom: &GeoAtom) -> Option<Fault>
 }
 
 /// The first fault of a list of positions as a ring.
-fn fault_as_ring(atom: &GeoAtom) -> Option<Fault>
+pub fn fault_as_ring(atom: &GeoAtom) -> Option<Fault>
     ensures { result ≡ the_fault_as_ring atom.now }
 {
     match atom {

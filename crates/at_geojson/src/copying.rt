@@ -1,10 +1,10 @@
 ghost use Rattle.std.specs.Prelude.{◌≡◌, IfOk};
 ghost use Rattle.at_geojson.specs.Atoms.{unboxed};
-ghost use Rattle.at_geojson.specs.Copies.{SamePoints, SameLists, SameAreas, CopiesText, CopiesPoints, CopiesLists, CopiesAreas, IsCopy};
+ghost use Rattle.at_geojson.specs.Copies.{SamePoints, SameLists, SameAreas, CopiesText, CopiesPoints, CopiesLists, CopiesSeries, CopiesAreas, IsCopy};
 
 use crate::atoms::{
     Areas, AreasAtom, GeoAtom, Items, ItemsAtom, Lists, ListsAtom, ObjectAtom, Points, PointsAtom,
-    Role, Roles, TextAtom,
+    Role, Roles, SeriesAtom, TextAtom,
 };
 use crate::geometries::Geometry;
 use crate::texts::copy_texts;
@@ -14,7 +14,8 @@ use at_query::{Entries, Entry, Offsets, Part};
 use at_text::{Fault, Memory};
 use std::alloc::Global;
 
-fn copy_positions(alloc: Global, path: &[Pos]) -> Result<Vec<Pos>, Memory>
+/// A second list of the same positions, with no more room than for these.
+pub fn copy_positions(alloc: Global, path: &[Pos]) -> Result<Vec<Pos>, Memory>
     ensures { IfOk result (λ r. r.items ≡ path.now) }
 {
     let mut items = Vec::with_capacity(alloc, path.len())?;
@@ -190,6 +191,15 @@ fn copy_lists_atom(alloc: Global, atom: &ListsAtom) -> Result<ListsAtom, Memory>
     })
 }
 
+fn copy_series(alloc: Global, atom: &SeriesAtom) -> Result<SeriesAtom, Memory>
+    ensures { IfOk result (CopiesSeries atom.now) }
+{
+    Ok(SeriesAtom {
+        at: atom.at,
+        lists: Box::new(alloc, copy_lists(alloc, &*atom.lists)?)?,
+    })
+}
+
 fn copy_areas(alloc: Global, areas: &Areas) -> Result<Areas, Memory>
     ensures { IfOk result (SameAreas areas.now) }
 {
@@ -265,6 +275,7 @@ fn copy_large(alloc: Global, atom: &GeoAtom) -> Result<GeoAtom, Memory>
         GeoAtom::Items(items) => Ok(GeoAtom::Items(copy_items_atom(alloc, items)?)),
         GeoAtom::Object(object) => Ok(GeoAtom::Object(copy_object_atom(alloc, object)?)),
         GeoAtom::Run(run) => Ok(GeoAtom::Run(copy_run(alloc, run)?)),
+        GeoAtom::Series(series) => Ok(GeoAtom::Series(copy_series(alloc, series)?)),
         _ => Err(Memory),
     }
 }

@@ -22,6 +22,7 @@ mod rings;
 mod root;
 mod runs;
 mod scalars;
+mod series;
 mod shapes;
 mod short_texts;
 mod sorts;

@@ -127,7 +127,7 @@ fn no_items(alloc: Global, query: &Query) -> Items
 }
 
 /// What values one behind another are as geometries and as items of a collection of features.
-pub fn all_items(alloc: Global, algebra: &GeoAlgebra, atoms: Vec<GeoAtom>) -> Result<Items, Memory>
+fn all_items(alloc: Global, algebra: &GeoAlgebra, atoms: Vec<GeoAtom>) -> Result<Items, Memory>
     requires { All (IsOwn algebra.now) atoms.items }
     ensures own { IfOk result (AreOwnItems algebra.now) }
     ensures joins { IfOk result (JoinsItems algebra.now atoms.items) }
@@ -155,17 +155,17 @@ pub fn first_of_forms(at: u32, atom: &GeoAtom) -> Fault
     }
 }
 
-/// Whether a value is an object that has a kind or texts.
+/// Whether a value is an object that has a kind or texts, or several of which one is an object.
 fn is_object(atom: &GeoAtom) -> bool
     ensures { result ≡ object_is atom.now }
 {
     match atom {
-        GeoAtom::Object(_) => true,
+        GeoAtom::Object(_) | GeoAtom::Run(_) => true,
         _ => false,
     }
 }
 
-/// Whether some value is an object that has a kind or texts.
+/// Whether some value is such.
 fn has_objects(atoms: &[GeoAtom]) -> bool
     ensures { result ≡ list_any object_is atoms.now }
 {
@@ -178,7 +178,7 @@ fn has_objects(atoms: &[GeoAtom]) -> bool
 }
 
 /// An array whose items are not all of one sort of coordinates, or are one number.
-fn list_atom(
+pub fn list_atom(
     alloc: Global,
     algebra: &GeoAlgebra,
     at: u32,

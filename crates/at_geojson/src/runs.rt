@@ -1,4 +1,4 @@
-//! Arrays whose items are joined as they come: nothing is kept of each.
+//! Arrays whose items are joined as they come: of an object nothing is kept.
 //!
 //! Runs whose features have a hull of many corners are joined as in a binary counter, since a join takes a time that grows
 //! with the corners of both.
@@ -10,8 +10,9 @@ ghost use Rattle.at_geojson.specs.Gathering.{firsts, is_run as run_is, item_geom
 ghost use Rattle.at_geojson.specs.Arrays.{joins_run, Adds, TakesRun, Settles, ClosesItems};
 
 use crate::asked::GeoAlgebra;
-use crate::atoms::{GeoAtom, Items, ItemsAtom};
-use crate::lists::{all_items, array_atom, form_at, into_items, joined_items};
+use crate::atoms::{GeoAtom, Items};
+use crate::lists::{array_atom, form_at, into_items, joined_items, list_atom};
+use crate::series::{add_list, are_lists, is_list, series_array};
 use crate::twins::first_twin;
 use at_query::Part;
 use at_text::Memory;
@@ -21,17 +22,17 @@ use std::mem::replace;
 /// Further items are joined into a run one by one while the hull of its features has at most so many corners.
 const LIGHT: usize = 64;
 
-/// Whether an atom is a run.
+/// Whether an atom stands for several items.
 fn is_run(atom: &GeoAtom) -> bool
     ensures { result ≡ run_is atom.now }
 {
     match atom {
-        GeoAtom::Run(_) => true,
+        GeoAtom::Run(_) | GeoAtom::Series(_) => true,
         _ => false,
     }
 }
 
-/// Whether some atom is a run.
+/// Whether some atom stands for several items.
 fn has_runs(atoms: &[GeoAtom]) -> bool
     ensures { result ≡ list_any run_is atoms.now }
 {
@@ -102,7 +103,11 @@ fn new_run(alloc: Global, atom: GeoAtom) -> Result<Box<Items>, Memory>
 }
 
 /// Puts an atom behind those of an array's items as it is.
-fn push_item(algebra: &GeoAlgebra, items: &mut Vec<GeoAtom>, atom: GeoAtom) -> Result<(), Memory>
+pub fn push_item(
+    algebra: &GeoAlgebra,
+    items: &mut Vec<GeoAtom>,
+    atom: GeoAtom,
+) -> Result<(), Memory>
     requires items { All (IsOwn algebra.now) items.old.items }
     requires atom { IsOwn algebra.now atom }
     ensures own { IfOk result (λ u. All (IsOwn algebra.now) items.new.items) }
@@ -301,7 +306,7 @@ fn join_item(
 
 /// Puts an atom behind those of an array's items. Objects one behind another become one run, where nothing stands before
 /// them, and several runs where their hull has many corners. The hulls of several have at most half as many corners each
-/// as that before it, so that a corner takes part in few joins.
+/// as that before it, so that a corner takes part in few joins. Lists of positions one behind another become one series.
 pub fn add_item(
     alloc: Global,
     algebra: &GeoAlgebra,
@@ -315,12 +320,14 @@ pub fn add_item(
 {
     if joins(&atom) {
         join_item(alloc, algebra, items, atom)
+    } else if is_list(&atom) {
+        add_list(alloc, algebra, items, atom)
     } else {
         push_item(algebra, items, atom)
     }
 }
 
-/// An array of which some items are a run, in which no object has equal names.
+/// An array of which some items are a run or a series, in which no object has equal names.
 fn joined_atom(
     alloc: Global,
     algebra: &GeoAlgebra,
@@ -333,14 +340,14 @@ fn joined_atom(
     ensures own { IfOk result (IsOwn algebra.now) }
     ensures fold { IfOk result (ClosesItems algebra.now at items.items) }
 {
-    let items = all_items(alloc, algebra, items)?;
-    Ok(GeoAtom::Items(ItemsAtom {
-        at,
-        items: Box::new(alloc, items)?,
-    }))
+    if are_lists(items.as_slice()) {
+        series_array(alloc, algebra, at, items)
+    } else {
+        list_atom(alloc, algebra, at, items)
+    }
 }
 
-/// An array of which some items are a run.
+/// An array of which some items are a run or a series.
 fn runs_atom(
     alloc: Global,
     algebra: &GeoAlgebra,
@@ -358,7 +365,7 @@ fn runs_atom(
     }
 }
 
-/// An array that begins at the offset, with runs among its items or without.
+/// An array that begins at the offset, with runs and series among its items or without.
 pub fn closed_array(
     alloc: Global,
     algebra: &GeoAlgebra,

@@ -91,6 +91,7 @@ pub fn at_of(atom: &GeoAtom) -> u32
         GeoAtom::Items(items) => items.at,
         GeoAtom::Object(object) => object.at,
         GeoAtom::Run(_) => 0,
+        GeoAtom::Series(series) => series.at,
     }
 }
 

@@ -470,6 +470,109 @@ fn nested(rt: HostRuntime) -> Result<(), Fail> {
     compare_rows(&rt, &rows)
 }
 
+/// Lists of positions one behind another in an array, and what stands between them.
+#[test]
+fn series(rt: HostRuntime) -> Result<(), Fail> {
+    let rows: [Row; 19] = [
+        (
+            b"extent",
+            b"{\"type\":\"MultiLineString\",\"coordinates\":[[[0,1],[2,3]],[[-5,7],[8,9]],[[4,5],[6,-7]],[[1,1],[1,1,9],[2,2]]]}",
+            "-5.0000000 -7.0000000 8.0000000 9.0000000\n",
+        ),
+        (
+            b"count",
+            b"{\"type\":\"MultiLineString\",\"coordinates\":[[[0,1],[2,3]],[[-5,7],[8,9]],[[4,5],[6,-7]],[[1,1],[1,1,9],[2,2]]]}",
+            "1\n",
+        ),
+        (
+            b"area",
+            b"{\"type\":\"Polygon\",\"coordinates\":[[[0,0],[4,0],[4,4],[0,4],[0,0]],[[1,1],[2,1],[2,2],[1,2],[1,1]],[[2,2],[3,2],[3,3],[2,3],[2,2]]]}",
+            "2800000000000000\n",
+        ),
+        (
+            b"area",
+            b"{\"type\":\"Polygon\",\"coordinates\":[[[0,0],[4,0],[4,4],[0,0]],[[1,1],[2,1],[2,2],[1,2]],[]]}",
+            "Ring at 59",
+        ),
+        (
+            b"extent",
+            b"{\"type\":\"MultiLineString\",\"coordinates\":[[[0,1],[2,3]],[],[[4,5],[6,7]],[[8,9]]]}",
+            "Short at 55",
+        ),
+        (
+            b"count",
+            b"{\"type\":\"MultiLineString\",\"coordinates\":[[],[],[[0,0]]]}",
+            "Short at 41",
+        ),
+        (
+            b"extent",
+            b"{\"type\":\"MultiLineString\",\"coordinates\":[[[0,0],[1,1]],[[2,2],[3,3]],5,[[4,4],[5,5]],[]]}",
+            "Form at 40",
+        ),
+        (
+            b"count",
+            b"{\"type\":\"MultiLineString\",\"coordinates\":[[],[[[0,0]]],[]]}",
+            "Form at 40",
+        ),
+        (
+            b"count",
+            b"{\"type\":\"MultiLineString\",\"coordinates\":[[[0,0],[1,1]],[],{\"type\":\"Point\",\"coordinates\":[0,0]}]}",
+            "Form at 40",
+        ),
+        (
+            b"count",
+            b"{\"type\":\"MultiLineString\",\"coordinates\":[[[0,0],[1,1]],[],{\"a\":1,\"a\":2}]}",
+            "Twin at 65",
+        ),
+        (
+            b"count",
+            b"{\"type\":\"MultiPolygon\",\"coordinates\":[[[0,0],[1,1]],[[2,2],[3,3]]]}",
+            "Form at 37",
+        ),
+        (
+            b"area",
+            b"{\"type\":\"MultiPolygon\",\"coordinates\":[[[[0,0],[1,0],[1,1],[0,0]],[]]]}",
+            "Ring at 65",
+        ),
+        (
+            b"extent",
+            b"{\"type\":\"MultiLineString\",\"coordinates\":[[[0,0],[1,1]],[[0,0],[40000000,1]],[[2,2],[3,3]]]}",
+            "Range at 63",
+        ),
+        (
+            b"count",
+            b"{\"type\":\"LineString\",\"coordinates\":[[],[],[]]}",
+            "Form at 35",
+        ),
+        (
+            b"count",
+            b"{\"type\":\"Point\",\"coordinates\":[[],[],[]]}",
+            "Form at 30",
+        ),
+        (
+            b"extent",
+            b"{\"type\":\"GeometryCollection\",\"geometries\":[[[0,0],[1,1]],[],[[2,2]]]}",
+            "Form at 43",
+        ),
+        (
+            b"extent",
+            b"{\"type\":\"GeometryCollection\",\"geometries\":[{\"type\":\"Point\",\"coordinates\":[1,2]},[[0,0],[1,1]],[]]}",
+            "Form at 80",
+        ),
+        (
+            b"count",
+            b"{\"type\":\"GeometryCollection\",\"geometries\":[[],[[0,0]],{\"type\":\"Point\"}]}",
+            "Form at 43",
+        ),
+        (
+            b"count",
+            b"{\"type\":\"FeatureCollection\",\"features\":[7,[],[[0,0]],{\"type\":\"Feature\",\"geometry\":null}]}",
+            "Form at 40",
+        ),
+    ];
+    compare_rows(&rt, &rows)
+}
+
 /// Objects one behind another in an array, and what stands between them.
 #[test]
 fn runs(rt: HostRuntime) -> Result<(), Fail> {

@@ -1,5 +1,5 @@
 use Rattle.std.proofs.Common.{refl, sym, subst}
-use Rattle.at_geojson.specs.declared.atoms.GeoAtom.TheVariants.{Points, Lists, Areas}
+use Rattle.at_geojson.specs.declared.atoms.GeoAtom.TheVariants.{Points, Lists, Areas, Series}
 use Rattle.at_geojson.specs.Copies.{IsCopy}
 use Rattle.at_geojson.proofs.copying.copy_large.Goals as goal
 
@@ -11,3 +11,6 @@ returns-in_ok-copy_lists_atom-in-Lists c = subst (λ a. IsCopy a (Lists c.in_ok-
 
 pub returns-in_ok-copy_areas_atom-in-Areas : goal.returns-in_ok-copy_areas_atom-in-Areas
 returns-in_ok-copy_areas_atom-in-Areas c = subst (λ a. IsCopy a (Areas c.in_ok-copy_areas_atom-in-Areas.field-0)) (sym c.in-Areas.is) (c.in_ok-copy_areas_atom-in-Areas.field-0, refl, c.in_ok-copy_areas_atom-in-Areas.ensures)
+
+pub returns-in_ok-copy_series-in-Series : goal.returns-in_ok-copy_series-in-Series
+returns-in_ok-copy_series-in-Series c = subst (λ a. IsCopy a (Series c.in_ok-copy_series-in-Series.field-0)) (sym c.in-Series.is) (c.in_ok-copy_series-in-Series.field-0, refl, c.in_ok-copy_series-in-Series.ensures)

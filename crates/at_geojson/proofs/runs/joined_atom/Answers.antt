@@ -1,10 +1,11 @@
-use Rattle.std.proofs.Common.{refl, sym, subst}
-use Rattle.at_geojson.specs.Arrays.{JoinsItems}
-use Rattle.at_geojson.proofs.RunFolds.{joined_folds}
+use Rattle.std.proofs.Common.{◌≡◌, false, sym, ◌∙◌, ap}
+use Rattle.std.specs.List.{list_all}
+use Rattle.std.proofs.lemmas.Result.{IfOk-weaker}
+use Rattle.at_geojson.specs.Series.{is_list}
+use Rattle.at_geojson.proofs.MixedFolds.{mixed_folds}
 use Rattle.at_geojson.proofs.runs.joined_atom.Goals as goal
 
-pub returns-clause-fold : goal.returns-clause-fold
-returns-clause-fold c =
-    let asked = c.args.algebra.now in
-    joined_folds asked c.args.at c.args.items.items (record { at = c.args.at; items = c.in_ok-new.field-0 }) refl c.requires.twins c.requires.runs
-    (subst (JoinsItems asked c.args.items.items) (sym c.in_ok-new.ensures.ok) c.in_ok-items.ensures.joins)
+pub returns-else-are_lists-clause-fold : goal.returns-else-are_lists-clause-fold
+returns-else-are_lists-clause-fold c =
+    let not_all : list_all is_list c.args.items.items ≡ false = ap (list_all is_list) (sym c.as_slice.ensures.value) ∙ (sym c.are_lists.ensures ∙ c.if-are_lists.false) in
+    IfOk-weaker c.list_atom.result _ _ (λ r m ts h. mixed_folds c.args.algebra.now c.args.at c.args.items.items r c.requires.twins c.requires.runs not_all m ts h) c.list_atom.ensures.made

@@ -1,0 +1,200 @@
+-- Arrays of which some items are a run or a series, and not all are lists of positions.
+use Rattle.std.proofs.Common.{◌≡◌, inl, inr, ℕ, ◌≤◌, min, fold, Bool, true, false, ◌&&◌, ◌||◌, List, [], ◌∷◌, ◌++◌, Option, Some, None, is_some, refl, sym, ◌∙◌, ap, subst, append-nil, append_assoc, option_map, option_and_then, arith}
+use Rattle.std.specs.List.{list_all, list_any}
+use Rattle.std.proofs.Math.Nat.{min-eq_left}
+use Rattle.std.proofs.lemmas.Bool.{true≢false}
+use Rattle.at_text.specs.Faults.{fault_at}
+use Rattle.at_text.specs.declared.faults.FaultKind.TheVariants.{Form}
+use Rattle.at_nest.specs.Folds.{trees, Covers, AreItemFolds}
+use Rattle.at_nest.specs.Tree.{Tree, array, object, Trees, Members}
+use Rattle.at_geojson.specs.declared.atoms.GeoAtom.{GeoAtom}
+use Rattle.at_geojson.specs.declared.atoms.GeoAtom.TheVariants as atoms
+use Rattle.at_geojson.specs.Names.{items_of}
+use Rattle.at_geojson.specs.Coordinates.{each, number_at, position_of, position_of_numbers, positions_of, area_of, if_some_items}
+use Rattle.at_geojson.specs.Roles.{items_reading}
+use Rattle.at_geojson.specs.Keeping.{Asked, needs_shapes}
+use Rattle.at_geojson.specs.Atoms.{twin_of, at_of, no_roles, lists_view, as_points, Alike, HasShape, HasPart, items_features, IsPoints, IsNumber, IsArea, IsRead, IsRun, IsFold, HaveItems}
+use Rattle.at_wkt.specs.Positions.{Positions}
+use Rattle.at_geojson.specs.Gathering.{firsts, is_run, is_object, least_of, item_geometries, item_features, JoinsShapes, JoinsFound}
+use Rattle.at_geojson.specs.Arrays.{MakesItems}
+use Rattle.at_geojson.specs.Series.{is_list}
+use Rattle.at_geojson.proofs.Each.{one_none}
+use Rattle.at_geojson.proofs.ArrayFolds.{two_forms, HasNoForm, AreForms, forms_none, IsArrayAtom, array_scalar, plain_object, items_read}
+use Rattle.at_geojson.proofs.ItemFolds.{have_both, have_covers}
+use Rattle.at_geojson.proofs.RunFolds.{items_of_trees, none_each, twins_runs, reads_runs}
+use Rattle.at_geojson.proofs.ListRoles.{none_here, none_front, none_back, no_list_each, list_no_number, list_no_position, list_no_area}
+
+-- ---- atoms
+
+not_points : (a : GeoAtom) → is_list a ≡ false → as_points a ≡ None
+not_points (atoms.Twin f) e = refl
+not_points (atoms.Null n) e = refl
+not_points (atoms.Plain n) e = refl
+not_points (atoms.Text x) e = refl
+not_points (atoms.Number x) e = refl
+not_points (atoms.BadNumber f) e = refl
+not_points (atoms.Empty n) e = absurd (true≢false e)
+not_points (atoms.Position x) e = refl
+not_points (atoms.BadPosition x) e = refl
+not_points (atoms.Points x) e = absurd (true≢false e)
+not_points (atoms.Lists x) e = refl
+not_points (atoms.Areas x) e = refl
+not_points (atoms.Other x) e = refl
+not_points (atoms.Items x) e = refl
+not_points (atoms.Void n) e = refl
+not_points (atoms.Object x) e = refl
+not_points (atoms.Run x) e = refl
+not_points (atoms.Series s) e = refl
+
+-- an atom without an object is Form in both roles
+pub form_geometries : (a : GeoAtom) → is_object a ≡ false → (no_roles (at_of a)).geometries ≡ item_geometries a
+form_geometries (atoms.Twin f) e = refl
+form_geometries (atoms.Null n) e = refl
+form_geometries (atoms.Plain n) e = refl
+form_geometries (atoms.Text x) e = refl
+form_geometries (atoms.Number x) e = refl
+form_geometries (atoms.BadNumber f) e = refl
+form_geometries (atoms.Empty n) e = refl
+form_geometries (atoms.Position x) e = refl
+form_geometries (atoms.BadPosition x) e = refl
+form_geometries (atoms.Points x) e = refl
+form_geometries (atoms.Lists x) e = refl
+form_geometries (atoms.Areas x) e = refl
+form_geometries (atoms.Other x) e = refl
+form_geometries (atoms.Items x) e = refl
+form_geometries (atoms.Void n) e = refl
+form_geometries (atoms.Object x) e = absurd (true≢false e)
+form_geometries (atoms.Run x) e = absurd (true≢false e)
+form_geometries (atoms.Series s) e = refl
+
+pub form_features : (a : GeoAtom) → is_object a ≡ false → (no_roles (at_of a)).features ≡ item_features a
+form_features (atoms.Twin f) e = refl
+form_features (atoms.Null n) e = refl
+form_features (atoms.Plain n) e = refl
+form_features (atoms.Text x) e = refl
+form_features (atoms.Number x) e = refl
+form_features (atoms.BadNumber f) e = refl
+form_features (atoms.Empty n) e = refl
+form_features (atoms.Position x) e = refl
+form_features (atoms.BadPosition x) e = refl
+form_features (atoms.Points x) e = refl
+form_features (atoms.Lists x) e = refl
+form_features (atoms.Areas x) e = refl
+form_features (atoms.Other x) e = refl
+form_features (atoms.Items x) e = refl
+form_features (atoms.Void n) e = refl
+form_features (atoms.Object x) e = absurd (true≢false e)
+form_features (atoms.Run x) e = absurd (true≢false e)
+form_features (atoms.Series s) e = refl
+
+or_false : (a b : Bool) → (a || b) ≡ false → (a ≡ false) × (b ≡ false)
+or_false true b e = absurd (true≢false e)
+or_false false b e = (refl, e)
+
+-- ---- Form of both of two
+
+shapes_form : (m n : ℕ) → JoinsShapes (no_roles m).geometries (no_roles n).geometries (no_roles (min m n)).geometries
+shapes_form m n = (fault_at Form (min m n), refl, sym (two_forms m n))
+
+features_form : (m n : ℕ) → JoinsFound (no_roles m).features (no_roles n).features (no_roles (min m n)).features
+features_form m n = (fault_at Form (min m n), refl, sym (two_forms m n))
+
+module _ (asked : Asked) where
+  pub forms_both : (us vs : List Tree) (m n : ℕ) → HaveItems asked (no_roles m) (trees us) → HaveItems asked (no_roles n) (trees vs) → HaveItems asked (no_roles (min m n)) (trees (us ++ vs))
+  forms_both us vs m n h k = have_both asked us vs (no_roles m) (no_roles n) (no_roles (min m n)) (shapes_form m n) (features_form m n) h k
+
+  pub form_covers : (a : GeoAtom) (us : List Tree) → is_object a ≡ false → Covers (IsRead asked) (IsRun asked) a us → HaveItems asked (no_roles (at_of a)) (trees us)
+  form_covers a us e c = have_covers asked a us (no_roles (at_of a)) (form_geometries a e) (form_features a e) c
+
+  forms_more : (us : List Tree) (m : ℕ) (aa : List GeoAtom) (vs : List Tree) → HaveItems asked (no_roles m) (trees us) → AreItemFolds (IsRead asked) (IsRun asked) aa vs → list_any is_object aa ≡ false
+      → HaveItems asked (no_roles (fold (λ least a. min least (at_of a)) m aa)) (trees (us ++ vs))
+  forms_more us m [] vs h f e = subst (λ z. HaveItems asked (no_roles m) (trees z)) (sym (ap (λ z. us ++ z) f ∙ append-nil us)) h
+  forms_more us m (a ∷ aa) vs h (ps, qs, s, c, f) e =
+      let none = or_false (is_object a) (list_any is_object aa) e in
+      subst (λ z. HaveItems asked (no_roles (fold (λ least b. min least (at_of b)) (min m (at_of a)) aa)) (trees z)) (append_assoc us ps qs ∙ ap (λ z. us ++ z) (sym s))
+      (forms_more (us ++ ps) (min m (at_of a)) aa qs (forms_both us ps m (at_of a) h (form_covers a ps none.0 c)) f none.1)
+
+  forms_all : (a : GeoAtom) (aa : List GeoAtom) (ts : List Tree) → AreItemFolds (IsRead asked) (IsRun asked) (a ∷ aa) ts → list_any is_object (a ∷ aa) ≡ false → HaveItems asked (no_roles (least_of (a ∷ aa))) (trees ts)
+  forms_all a aa ts (ps, qs, s, c, f) e =
+      let none = or_false (is_object a) (list_any is_object aa) e in
+      let l : min (at_of a) (at_of a) ≡ at_of a = (let k : at_of a ≤ at_of a = omega arith in min-eq_left k) in
+      subst (λ n. HaveItems asked (no_roles (fold (λ least b. min least (at_of b)) n aa)) (trees ts)) (sym l)
+      (subst (λ z. HaveItems asked (no_roles (fold (λ least b. min least (at_of b)) (at_of a) aa)) (trees z)) (sym s) (forms_more ps (at_of a) aa qs (form_covers a ps none.0 c) f none.1))
+
+  -- ---- items that are not all lists, beside several values
+
+  run_none : {Y : Type 0} (f : Tree → Option Y) → ((at : ℕ) (ms : Members) → f (object at ms) ≡ None) → ((t : Tree) (p : Positions) → positions_of t ≡ Some p → f t ≡ None)
+      → (a : GeoAtom) (us : List Tree) → IsRun asked a us → each f us ≡ None
+  run_none f n m a us (inl (run, e, j)) = none_each f n us j.some
+  run_none f n m a us (inr (s, e, j)) = go j.lists j.are j.area where
+    go : (ls : List Positions) → each positions_of us ≡ Some ls → IsArea asked (lists_view s.lists.value) ls → each f us ≡ None
+    go [] k h = absurd h
+    go (p ∷ ls) k h = no_list_each f m us p ls k
+
+  none_runs : {Y : Type 0} (f : Tree → Option Y) → ((at : ℕ) (ms : Members) → f (object at ms) ≡ None) → ((t : Tree) (p : Positions) → positions_of t ≡ Some p → f t ≡ None)
+      → (aa : List GeoAtom) (ts : List Tree) → AreItemFolds (IsRead asked) (IsRun asked) aa ts → list_any is_run aa ≡ true → each f ts ≡ None
+  none_runs f n m [] ts h e = absurd (true≢false (sym e))
+  none_runs f n m (a ∷ aa) ts (us, vs, s, c, h) e = ap (each f) s ∙ go c (none_runs f n m aa vs h) where
+    go : Covers (IsRead asked) (IsRun asked) a us → (list_any is_run aa ≡ true → each f vs ≡ None) → each f (us ++ vs) ≡ None
+    go (inl (t, q, r)) more = none_back f us vs (more (ap (λ o. is_some o || list_any is_run aa) (sym r.single) ∙ e))
+    go (inr run) more = none_front f us vs (run_none f n m a us run)
+
+  no_list : (a : GeoAtom) (us : List Tree) → Covers (IsRead asked) (IsRun asked) a us → is_list a ≡ false → each positions_of us ≡ None
+  no_list a us (inl (t, q, r)) k = ap (each positions_of) q ∙ none_here positions_of t [] (one_none positions_of as_points (IsPoints asked) (as_points a) (positions_of t) r.coordinates.points (ap is_some (not_points a k)))
+  no_list a us (inr (inl (run, e, j))) k = none_each positions_of (λ i ms. refl) us j.some
+  no_list a us (inr (inr (s, e, j))) k = absurd (true≢false (ap is_list (sym e) ∙ k))
+
+  not_lists : (aa : List GeoAtom) (ts : List Tree) → AreItemFolds (IsRead asked) (IsRun asked) aa ts → list_all is_list aa ≡ false → each positions_of ts ≡ None
+  not_lists [] ts h e = absurd (true≢false e)
+  not_lists (a ∷ aa) ts (us, vs, s, c, h) e = ap (each positions_of) s ∙ go (is_list a) refl (not_lists aa vs h) where
+    go : (b : Bool) → is_list a ≡ b → (list_all is_list aa ≡ false → each positions_of vs ≡ None) → each positions_of (us ++ vs) ≡ None
+    go true k more = none_back positions_of us vs (more (ap (λ b. b && list_all is_list aa) (sym k) ∙ e))
+    go false k more = none_front positions_of us vs (no_list a us c k)
+
+  no_form_of : {Y : Type 0} (f : Tree → Option Y) (ts : List Tree) → each f ts ≡ None → each f (items_of (trees ts)) ≡ None
+  no_form_of f ts e = ap (each f) (items_of_trees ts) ∙ e
+
+  mixed_form : (at : ℕ) (aa : List GeoAtom) (ts : List Tree) → AreItemFolds (IsRead asked) (IsRun asked) aa ts → list_any is_run aa ≡ true → list_all is_list aa ≡ false → HasNoForm asked at (trees ts)
+  mixed_form at aa ts h e k = record {
+    position = ap (option_and_then position_of_numbers) (no_form_of number_at ts (none_runs number_at (λ i ms. refl) list_no_number aa ts h e));
+    points = ap (option_map (λ items. record { at = at; items = items })) (no_form_of position_of ts (none_runs position_of (λ i ms. refl) list_no_position aa ts h e));
+    lists = no_form_of positions_of ts (not_lists aa ts h k);
+    area = ap (option_and_then if_some_items) (no_form_of positions_of ts (not_lists aa ts h k));
+    areas = no_form_of area_of ts (none_runs area_of (λ i ms. refl) list_no_area aa ts h e);
+  }
+
+  -- ---- the atom of such an array
+
+  pub forms_read : (r : GeoAtom) (at least : ℕ) (ts : Trees) → IsArrayAtom asked r at least → HaveItems asked (no_roles least) ts → AreForms asked at ts r → IsRead asked r (array at ts)
+  forms_read r at least ts k h f = record {
+    at = k.at_is;
+    single = k.single;
+    scalar = array_scalar asked r at least ts k;
+    coordinates = record { number = subst (λ o. Alike (IsNumber asked) o None) (sym k.number) tt; position = f.position; points = f.points; lists = f.lists; area = f.area; areas = f.areas };
+    items = record {
+      geometries = subst (λ o. Alike (λ g us. HasShape (needs_shapes asked.query) g (items_reading asked.digits asked.how us)) o (Some ts)) (sym k.geometries) h.0;
+      features = λ _. subst (λ o. Alike (λ p us. HasPart asked.query p (items_features asked us)) o (Some ts)) (sym k.features) h.1;
+    };
+    object = plain_object asked r at ts k.at_is k.role k.texts;
+  }
+
+  other_read : (at : ℕ) (aa : List GeoAtom) (ts : List Tree) → AreItemFolds (IsRead asked) (IsRun asked) aa ts → list_any is_run aa ≡ true → HasNoForm asked at (trees ts) → list_any is_object aa ≡ false
+      → IsRead asked (atoms.Other (record { at = at; least = least_of aa })) (array at (trees ts))
+  other_read at [] ts h e f n = absurd (true≢false (sym e))
+  other_read at (a ∷ aa) ts h e f n = forms_read (atoms.Other (record { at = at; least = least_of (a ∷ aa) })) at (least_of (a ∷ aa)) (trees ts)
+      (record { at_is = refl; twin = refl; single = refl; null = refl; empty = refl; kind = refl; text = refl; number = refl; role = refl; texts = refl; geometries = refl; features = refl })
+      (forms_all a aa ts h n) (forms_none asked at (trees ts) (atoms.Other (record { at = at; least = least_of (a ∷ aa) })) refl refl refl refl refl f)
+
+  mixed_read : (at : ℕ) (aa : List GeoAtom) (r : GeoAtom) (ts : List Tree) → AreItemFolds (IsRead asked) (IsRun asked) aa ts → list_any is_run aa ≡ true → HasNoForm asked at (trees ts) → MakesItems asked at aa r
+      → IsRead asked r (array at (trees ts))
+  mixed_read at aa r ts h e f (inl m) = subst (λ z. IsRead asked z (array at (trees ts))) (sym m.1) (other_read at aa ts h e f m.0)
+  mixed_read at aa r ts h e f (inr m) = let have = m.3 ts h in subst (λ z. IsRead asked z (array at (trees ts))) (sym m.1) (items_read asked at (trees ts) m.0 m.2 f have.0 have.1)
+
+  pub mixed_folds : (at : ℕ) (aa : List GeoAtom) (r : GeoAtom) → firsts twin_of aa ≡ None → list_any is_run aa ≡ true → list_all is_list aa ≡ false → MakesItems asked at aa r
+      → (ts : List Tree) → AreItemFolds (IsFold asked) (IsRun asked) aa ts → IsFold asked r (array at (trees ts))
+  mixed_folds at aa r n e k m ts h =
+      let read = reads_runs asked aa ts h n in
+      record { twins = made_twin r m ∙ (sym n ∙ twins_runs asked aa ts h); read = λ _. mixed_read at aa r ts read e (mixed_form at aa ts read e k) m } where
+        made_twin : (q : GeoAtom) → MakesItems asked at aa q → twin_of q ≡ None
+        made_twin q (inl w) = ap twin_of w.1
+        made_twin q (inr w) = ap twin_of w.1
