@@ -1,9 +1,9 @@
 -- Extents round stretches of places.
-use Rattle.std.proofs.Common.{◌≡◌, ℕ, ◌+◌, ◌-◌, ◌*◌, ◌<◌, ◌≤◌, min, pos, true, false, List, [], ◌∷◌, ◌++◌, length, get_or, take, drop, inl, inr, arith, sym, ap, subst, ◌∙◌}
+use Rattle.std.proofs.Common.{◌≡◌, ℕ, ◌+◌, ◌-◌, ◌*◌, ◌/◌, ◌<◌, ◌≤◌, min, pos, true, false, List, [], ◌∷◌, ◌++◌, length, get_or, take, drop, inl, inr, arith, sym, ap, subst, ◌∙◌}
 use Rattle.std.proofs.Math.Nat.{mul-le-mul_right}
 use Rattle.std.proofs.Math.ListN.{get_or-append}
 use Rattle.std.proofs.Math.Seq.{get_or-append_seam}
-use Rattle.std.proofs.lemmas.List.{get_or-drop, get_or-take, length-take-le, length-drop}
+use Rattle.std.proofs.lemmas.List.{get_or-drop, get_or-take, get_or_past, length-take-le, length-drop}
 use Rattle.std.proofs.lemmas.Bool.{cases_lt}
 use Rattle.at_geom.specs.declared.rectangles.Extent.{Extent}
 use Rattle.at_geom.specs.Shapes.{encloses}
@@ -11,7 +11,7 @@ use Rattle.at_query.specs.Joined.{around}
 use Rattle.at_join.specs.declared.places.Place.{Place}
 use Rattle.at_join.specs.Boxes.{touch_of}
 use Rattle.at_join.specs.Sides.{Cover}
-use Rattle.at_join.proofs.Extents.{covered_off, around_first, around_second}
+use Rattle.at_join.proofs.Extents.{beside, off_itself, covered_off, around_first, around_second}
 
 -- what stands where a list has no place
 abbrev pub no_extent : Extent
@@ -86,3 +86,28 @@ next_at size l n from to at is lt =
 
 pub part_length : {X : Type 0} (xs : List X) (from to : ℕ) → from ≤ to → to ≤ length xs → length (take (to - from) (drop from xs)) ≡ to - from
 part_length xs from to le lt = length-take-le (to - from) (drop from xs) (omega (arith, length-drop from xs, le, lt))
+
+-- ---- the extent round the stretch in which a place stands
+
+-- a stretch with a place has an extent
+cover_there : (size c j : ℕ) (covers : List Extent) (places : List Place) → Cover size covers places → j < size → c * size + j < length places → c < length covers
+cover_there size c j covers places cover small lt = elim (cases_lt c (length covers)) [
+  | inl below ↦ below
+  | inr from ↦
+      let x : Extent = (get_or places (c * size + j) no_place).extent in
+      absurd (off_itself x (subst (λ (y : Extent). encloses y x ≡ true) (get_or_past covers c (beside x) from) (cover c j (beside x) no_place small lt)))
+]
+
+pub round_there : (at : ℕ) (covers : List Extent) (places : List Place) → Cover 16 covers places → at < length places → at / 16 < length covers
+round_there at covers places cover lt =
+    let j : ℕ = at - at / 16 * 16 in
+    cover_there 16 (at / 16) j covers places cover (omega arith) (omega (arith, lt))
+
+pub round_of : (at : ℕ) (covers : List Extent) (places : List Place) (x : Extent) → Cover 16 covers places → x ≡ get_or covers (at / 16) x
+    → (k : ℕ) (e : Place) → at ≤ k → k < at / 16 * 16 + 16 → k < length places → encloses x (get_or places k e).extent ≡ true
+round_of at covers places x cover is k e from to lt =
+    let j : ℕ = k - at / 16 * 16 in
+    let here : at / 16 * 16 + j ≡ k = omega (arith, from) in
+    subst (λ (y : Extent). encloses y (get_or places k e).extent ≡ true) (sym is)
+    (subst (λ (m : ℕ). encloses (get_or covers (at / 16) x) (get_or places m e).extent ≡ true) here
+    (cover (at / 16) j x e (omega (arith, from, to)) (omega (arith, here, lt))))

@@ -1,6 +1,6 @@
 -- Extents that touch, enclose one another, and are round the positions of a shape.
-use Rattle.std.proofs.Common.{◌≡◌, Bool, true, false, ◌&&◌, ◌≤ℤ◌, List, [], ◌∷◌, ◌++◌, Option, Some, None, arith, refl, sym, subst}
-use Rattle.std.specs.Prelude.{int_le, IsTrue, All}
+use Rattle.std.proofs.Common.{◌≡◌, Bool, true, false, ◌&&◌, ◌≤ℤ◌, ◌+ℤ◌, pos, List, [], ◌∷◌, Option, Some, None, arith, refl, sym, subst}
+use Rattle.std.specs.Prelude.{int_le, IsTrue}
 use Rattle.std.specs.List.{AllByRecursion}
 use Rattle.std.proofs.lemmas.Int.{ints, clamps}
 use Rattle.std.proofs.lemmas.List.Elements.{recursion_from_All}
@@ -102,6 +102,13 @@ encloses_itself x = from_enclosing x x (record {
   above = omega (arith, ints);
 })
 
+-- an extent that doesn't enclose this one
+abbrev pub beside : Extent → Extent
+beside x = record { low = record { x = x.low.x +ℤ pos 1; y = x.low.y }; high = x.high }
+
+pub off_itself : (x : Extent) → encloses (beside x) x ≡ true → ⊥
+off_itself x h = let e = enclosing (beside x) x h in omega (arith, ints, e.left)
+
 -- ---- pairs of the rectangle
 
 pub here_touches : (rect x y : Extent) → is_here_of rect x y ≡ true → Touching x y
@@ -122,17 +129,18 @@ off_rect rect x y w off h =
       above = omega (arith, ints, clamps, i.below, w.along_y, t.above);
     })) off
 
--- the second touches what the first and the rectangle have in common
-pub off_window : (rect x y : Extent) → IsWide y → touch_of y (common_of x rect) ≡ false → is_here_of rect x y ≡ true → ⊥
-off_window rect x y w off h =
+-- the second touches what the rectangle and an extent round the first have in common
+pub near_window : (rect c x y : Extent) → encloses c x ≡ true → IsWide y → is_here_of rect x y ≡ true → touch_of y (common_of c rect) ≡ true
+near_window rect c x y round w h =
+    let e = enclosing c x round in
     let t = here_touches rect x y h in
     let i = here_inside rect x y h in
-    two_differ (touch_of y (common_of x rect)) (from_touching y (common_of x rect) (record {
-      left = omega (arith, ints, clamps, i.right, t.right);
-      right = omega (arith, ints, clamps, i.left, w.along_x, t.left);
-      below = omega (arith, ints, clamps, i.above, t.above);
-      above = omega (arith, ints, clamps, i.below, w.along_y, t.below);
-    })) off
+    from_touching y (common_of c rect) (record {
+      left = omega (arith, ints, clamps, i.right, t.right, e.right);
+      right = omega (arith, ints, clamps, i.left, w.along_x, t.left, e.left);
+      below = omega (arith, ints, clamps, i.above, t.above, e.above);
+      above = omega (arith, ints, clamps, i.below, w.along_y, t.below, e.below);
+    })
 
 -- ---- the extent of positions in range
 

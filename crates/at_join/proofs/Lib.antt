@@ -1,6 +1,8 @@
 pub mod FoundLists
 pub mod Extents
 pub mod Covering
+pub mod Sifted
+pub mod Stretches
 pub mod Rows
 pub mod CellRects
 pub mod Offsets

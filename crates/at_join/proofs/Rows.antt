@@ -14,10 +14,10 @@ use Rattle.at_query.specs.declared.parts.Entry.{Entry}
 use Rattle.at_query.specs.declared.answers.Pair.{Pair}
 use Rattle.at_query.specs.Parts.{IsProperEntry}
 use Rattle.at_join.specs.declared.places.Place.{Place}
-use Rattle.at_join.specs.Boxes.{IsWide, touch_of, common_of, is_here_of}
+use Rattle.at_join.specs.Boxes.{IsWide, touch_of, is_here_of}
 use Rattle.at_join.specs.Meetings.{AreInRange, Finds}
 use Rattle.at_join.specs.Sides.{IsAt, IsPlaceOf, place_of, placed, RowHit, CellHit, row_pair, at_places}
-use Rattle.at_join.proofs.Extents.{shape_span, two_differ, off_rect, off_window}
+use Rattle.at_join.proofs.Extents.{shape_span, two_differ, off_rect}
 use Rattle.at_join.proofs.FoundLists.{finds_same}
 
 -- both facts of a place
@@ -43,20 +43,11 @@ known_places es places p moved = All-permutation (IsKnown es) (placed 0 es) plac
 
 -- ---- what stands at a place
 
-pub place_at : (es : List Entry) (places : List Place) (i : ℕ) (q : Place) → All (IsPlaceOf es) places → i < length places → q ≡ get_or places i q → IsPlaceOf es q
-place_at es places i q all lt is = subst (IsPlaceOf es) (sym is) (all i q lt)
+pub index_of : (es : List Entry) (q : Place) → IsPlaceOf es q → q.index < length es
+index_of es q (e, at, x, o) = at.0
 
-pub wide_at : (places : List Place) (i : ℕ) (q : Place) → All (λ (p : Place). IsWide p.extent) places → i < length places → q ≡ get_or places i q → IsWide q.extent
-wide_at places i q all lt is = subst (λ (p : Place). IsWide p.extent) (sym is) (all i q lt)
-
-pub index_below : (es ys : List Entry) (places : List Place) (i : ℕ) (q : Place) → All (IsPlaceOf es) places → i < length places → q ≡ get_or places i q → ys ≡ es → q.index < length ys
-index_below es ys places i q all lt is same = let (e, at, x, o) = place_at es places i q all lt is in subst (λ (l : List Entry). q.index < length l) (sym same) at.0
-
-pub entry_in_range : (es ys : List Entry) (i : ℕ) (f : Entry) → ys ≡ es → i < length ys → f ≡ get_or ys i f → AreInRange es → IsShapeInRange f.shape
-entry_in_range es ys i f same lt is all = subst (λ (e : Entry). IsShapeInRange e.shape) (sym is) ((subst AreInRange (sym same) all) i f lt)
-
-pub entry_at : (es ys : List Entry) (i : ℕ) (f : Entry) → ys ≡ es → i < length ys → f ≡ get_or ys i f → IsAt es i f
-entry_at es ys i f same lt is = subst (λ (l : List Entry). IsAt l i f) same (lt, sym is)
+pub entry_in_range : (es : List Entry) (i : ℕ) (f : Entry) → i < length es → f ≡ get_or es i f → AreInRange es → IsShapeInRange f.shape
+entry_in_range es i f lt is all = subst (λ (e : Entry). IsShapeInRange e.shape) (sym is) (all i f lt)
 
 pub one_at : (es : List Entry) (i : ℕ) (e f : Entry) → IsAt es i e → IsAt es i f → e ≡ f
 one_at es i e f h k = sym h.1 ∙ get_or_default es i e f h.0 ∙ k.1
@@ -71,9 +62,6 @@ row_miss rect p shape b q off (here, f, at, meet) = two_differ (is_here_of rect 
 
 pub row_apart : (rect : Extent) (p : Place) (shape : Shape) (b : List Entry) (q : Place) (f : Entry) → IsAt b q.index f → (Meet shape f.shape → ⊥) → ¬ RowHit rect p shape b q
 row_apart rect p shape b q f at apart (here, e, at_e, meet) = apart (subst (λ (x : Entry). Meet shape x.shape) (one_at b q.index e f at_e at) meet)
-
-pub row_off : (rect : Extent) (p : Place) (shape : Shape) (b : List Entry) (q : Place) → IsWide q.extent → touch_of q.extent (common_of p.extent rect) ≡ false → ¬ RowHit rect p shape b q
-row_off rect p shape b q wide off (here, f, at, meet) = off_window rect p.extent q.extent wide off here
 
 pub cell_off : (rect : Extent) (a b : List Entry) (p q : Place) → IsWide p.extent → touch_of p.extent rect ≡ false → ¬ CellHit rect a b (p, q)
 cell_off rect a b p q wide off (e, at, (here, f, at_f, meet)) = off_rect rect p.extent q.extent wide off here

@@ -10,7 +10,7 @@ use Rattle.at_join.specs.declared.places.Place.{Place}
 use Rattle.at_join.specs.declared.sides.Side.{Side}
 use Rattle.at_query.specs.Joined.{around_both}
 use Rattle.at_query.specs.Parts.{AreProper}
-use Rattle.at_join.specs.Boxes.{is_here_of, IsWide}
+use Rattle.at_join.specs.Boxes.{touch_of, is_here_of, IsWide}
 use Rattle.at_join.specs.Cells.{spread_of}
 
 abbrev pub place_of : ℕ → ℕ → Option Extent → List Place
@@ -57,6 +57,13 @@ RowHit rect p shape b q = (is_here_of rect p.extent q.extent ≡ true) × (f : E
 -- the same of two places
 abbrev pub CellHit : Extent → List Entry → List Entry → Place × Place → Type 0
 CellHit rect a b (p, q) = (e : Entry) × IsAt a p.index e × RowHit rect p e.shape b q
+
+-- the place has a common point with the window
+abbrev pub IsInWindow : Extent → Place → Type 0
+IsInWindow window q = touch_of q.extent window ≡ true
+
+abbrev pub itself : Place → Place
+itself q = q
 
 abbrev pub row_pair : Place → Place → Pair
 row_pair p q = record { first = p.at; second = q.at }

@@ -1,23 +1,25 @@
 //! The pairs of one cell, as the sides of a grid give them.
-ghost use Rattle.std.specs.Prelude.{◌≡◌, ◌+◌, ◌<◌, ◌≤◌, OnOk, length, count_by, slice_index_or, cond, [], ◌∷◌, ℕ};
+ghost use Rattle.std.specs.Prelude.{◌≡◌, ◌+◌, ◌≤◌, OnOk, All, count_by, cond, [], ◌∷◌};
 ghost use Rattle.at_geom.specs.Shapes.{IsShapeInRange};
-ghost use Rattle.at_join.specs.declared.places.Place.{Place};
-ghost use Rattle.at_join.specs.Boxes.{IsWide};
 ghost use Rattle.at_join.specs.Meetings.{AreInRange, Finds, pairs_of};
-ghost use Rattle.at_join.specs.Sides.{IsSide, RowHit, CellHit, row_pair, at_places, is_row_here, is_cell_here};
+ghost use Rattle.at_join.specs.Sides.{IsSide, IsPlaceOf, RowHit, CellHit, row_pair, at_places, is_row_here, is_cell_here};
 
 use crate::boxes::common;
 use crate::cells::is_here;
+use crate::near::push_near;
 use crate::places::Place;
 use crate::sides::Side;
 use crate::steps::Steps;
 use at_geom::{Extent, Shape, shapes_meet};
-use at_query::Pair;
+use at_query::{Entry, Pair};
 use at_text::Memory;
+use std::alloc::Global;
 use std::sync::ledger::Ledger;
 
-/// Puts all pairs of the cell of which the shapes meet behind the list. Before each exact test it takes a step.
+/// Puts all pairs of the cell of which the shapes meet behind the list. Before each exact test it takes a step. It goes over
+/// the second side once for each 16 places of the first, which mostly lie close together.
 pub(crate) fn push_cell<L: Ledger>(
+    alloc: Global,
     a: &Side,
     b: &Side,
     rect: Extent,
@@ -30,48 +32,81 @@ pub(crate) fn push_cell<L: Ledger>(
         (pairs_of a.now.places.items b.now.places.items) pairs.old.items pairs.new.items) }
     ensures steps { steps.new ≤ steps.old + count_by (is_cell_here rect) (pairs_of a.now.places.items b.now.places.items) }
 {
-    let mut at = 0;
-    while at < a.places.len() {
-        let next = a.ahead(at, rect);
-        if next > at {
-            at = next;
+    let first = a.entries.as_slice();
+    let second = b.entries.as_slice();
+    let places = a.places.as_slice();
+    let mut near = Vec::new(alloc);
+    let mut from = 0;
+    while from < places.len() {
+        let next = a.ahead(from, rect);
+        if next > from {
+            from = next;
         } else {
-            let place = a.places[at];
-            let entry = &a.entries.as_slice()[place.index as usize];
-            push_row(place, &entry.shape, b, rect, steps, pairs)?;
-            at += 1;
+            let to = a.stretch_end(from);
+            near.clear();
+            push_near(b, common(a.round(from), rect), &mut near)?;
+            push_stretch(
+                &places[from..to],
+                near.as_slice(),
+                first,
+                second,
+                rect,
+                steps,
+                pairs,
+            )?;
+            from = to;
         }
     }
     Ok(())
 }
 
-/// Puts the pairs of the cell that an entry of the first list has behind the list.
-fn push_row<L: Ledger>(
-    place: Place,
-    shape: &Shape,
-    b: &Side,
+/// Puts the pairs of the cell that some places have with others behind the list.
+fn push_stretch<L: Ledger>(
+    stretch: &[Place],
+    near: &[Place],
+    first: &[Entry],
+    second: &[Entry],
     rect: Extent,
     steps: &mut Steps<L>,
     pairs: &mut Vec<Pair>,
 ) -> Result<(), Memory>
-    requires side { IsSide b.now }
-    requires wide { IsWide place.extent }
-    requires shape_in_range { IsShapeInRange shape.now }
-    requires in_range { AreInRange b.now.entries }
-    ensures pairs { OnOk result (Finds (RowHit rect place shape.now b.now.entries) (row_pair place)
-        b.now.places.items pairs.old.items pairs.new.items) }
-    ensures steps { steps.new ≤ steps.old + count_by (is_row_here rect place) b.now.places.items }
+    requires places { All (IsPlaceOf first.now) stretch.now × All (IsPlaceOf second.now) near.now }
+    requires in_range { AreInRange first.now × AreInRange second.now }
+    ensures pairs { OnOk result (Finds (CellHit rect first.now second.now) at_places
+        (pairs_of stretch.now near.now) pairs.old.items pairs.new.items) }
+    ensures steps { steps.new ≤ steps.old + count_by (is_cell_here rect) (pairs_of stretch.now near.now) }
 {
-    let window = common(place.extent, rect);
     let mut at = 0;
-    while at < b.places.len() {
-        let next = b.ahead(at, window);
-        if next > at {
-            at = next;
-        } else {
-            push_pair(place, shape, b, at, rect, steps, pairs)?;
-            at += 1;
-        }
+    while at < stretch.len() {
+        let place = stretch[at];
+        let entry = &first[place.index as usize];
+        push_row(place, &entry.shape, near, second, rect, steps, pairs)?;
+        at += 1;
+    }
+    Ok(())
+}
+
+/// Puts the pairs of the cell that an entry of the first list has with some places behind the list.
+fn push_row<L: Ledger>(
+    place: Place,
+    shape: &Shape,
+    near: &[Place],
+    second: &[Entry],
+    rect: Extent,
+    steps: &mut Steps<L>,
+    pairs: &mut Vec<Pair>,
+) -> Result<(), Memory>
+    requires places { All (IsPlaceOf second.now) near.now }
+    requires shape_in_range { IsShapeInRange shape.now }
+    requires in_range { AreInRange second.now }
+    ensures pairs { OnOk result (Finds (RowHit rect place shape.now second.now) (row_pair place)
+        near.now pairs.old.items pairs.new.items) }
+    ensures steps { steps.new ≤ steps.old + count_by (is_row_here rect place) near.now }
+{
+    let mut at = 0;
+    while at < near.len() {
+        push_pair(place, shape, near[at], second, rect, steps, pairs)?;
+        at += 1;
     }
     Ok(())
 }
@@ -80,25 +115,23 @@ fn push_row<L: Ledger>(
 fn push_pair<L: Ledger>(
     place: Place,
     shape: &Shape,
-    b: &Side,
-    at: usize,
+    other: Place,
+    second: &[Entry],
     rect: Extent,
     steps: &mut Steps<L>,
     pairs: &mut Vec<Pair>,
 ) -> Result<(), Memory>
-    requires side { IsSide b.now }
-    requires at { at < length b.now.places.items }
+    requires place { IsPlaceOf second.now other }
     requires shape_in_range { IsShapeInRange shape.now }
-    requires in_range { AreInRange b.now.entries }
-    ensures pairs { OnOk result ((e : Place) → Finds (RowHit rect place shape.now b.now.entries) (row_pair place)
-        (slice_index_or b.now.places.items at e ∷ []) pairs.old.items pairs.new.items) }
-    ensures steps { (e : Place) → steps.new ≤ steps.old + cond (is_row_here rect place (slice_index_or b.now.places.items at e)) 1 0 }
+    requires in_range { AreInRange second.now }
+    ensures pairs { OnOk result (Finds (RowHit rect place shape.now second.now) (row_pair place)
+        (other ∷ []) pairs.old.items pairs.new.items) }
+    ensures steps { steps.new ≤ steps.old + cond (is_row_here rect place other) 1 0 }
 {
-    let other = b.places[at];
     if !is_here(rect, place.extent, other.extent) {
         return Ok(());
     }
-    let entry = &b.entries.as_slice()[other.index as usize];
+    let entry = &second[other.index as usize];
     steps.tick();
     if shapes_meet(shape, &entry.shape) {
         pairs.push(Pair {

@@ -75,7 +75,14 @@ impl Grid {
         let Some(joint) = self.joint else {
             return Ok(Pairs::from_vec(pairs));
         };
-        push_cell(&self.a, &self.b, cell_rect(joint, cell), steps, &mut pairs)?;
+        push_cell(
+            alloc,
+            &self.a,
+            &self.b,
+            cell_rect(joint, cell),
+            steps,
+            &mut pairs,
+        )?;
         Ok(Pairs::from_vec(pairs))
     }
 }

@@ -5,7 +5,8 @@
 //! its reference point lies, the greater of the two least x and the greater of the two least y; so no pair is found twice.
 //!
 //! Within a cell the pairs are found by runs of 16, 256 and 4,096 neighbouring entries, each with the least extent round them:
-//! where it is off, all of them are passed over at once. Which entries are neighbours decides the time alone and no answer.
+//! where it is off, all of them are passed over at once. The second list is gone over once for each run of 16 of the first, and
+//! each of these looks only at what was near the run. Which entries are neighbours decides the time alone and no answer.
 #![tactic(auto)]
 
 mod boxes;
@@ -15,6 +16,7 @@ mod finding;
 mod grid;
 mod job;
 mod keys;
+mod near;
 mod places;
 mod plain;
 mod run;

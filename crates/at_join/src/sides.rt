@@ -1,7 +1,8 @@
 //! One list of a join, sorted, with extents round stretches of it.
 
-ghost use Rattle.std.specs.Prelude.{◌≡◌, ℕ, ◌<◌, ◌≤◌, IfOk, false, length, slice_index_or};
+ghost use Rattle.std.specs.Prelude.{◌≡◌, ℕ, ◌+◌, ◌*◌, ◌/◌, ◌<◌, ◌≤◌, IfOk, false, true, length, slice_index_or};
 ghost use Rattle.std.specs.List.{AllByRecursion};
+ghost use Rattle.at_geom.specs.Shapes.{encloses};
 ghost use Rattle.at_query.specs.Parts.{IsProperEntry};
 ghost use Rattle.at_join.specs.declared.places.Place.{Place};
 ghost use Rattle.at_join.specs.Boxes.{touch_of};
@@ -68,5 +69,24 @@ impl Side {
             return at + 16;
         }
         at
+    }
+
+    /// Where the stretch of 16 places in which this one stands ends.
+    pub(crate) fn stretch_end(&self, at: usize) -> usize
+        requires { at < length self.now.places.items }
+        ensures end { (at < result) × (result ≤ length self.now.places.items) }
+        ensures stretch { result ≤ at / 16 * 16 + 16 }
+    {
+        self.places.len().min(at / 16 * 16 + 16)
+    }
+
+    /// An extent round the stretch of 16 places in which this one stands.
+    pub(crate) fn round(&self, at: usize) -> Extent
+        requires side { IsSide self.now }
+        requires at { at < length self.now.places.items }
+        ensures { (k : ℕ) (e : Place) → at ≤ k → k < at / 16 * 16 + 16 → k < length self.now.places.items
+            → encloses result (slice_index_or self.now.places.items k e).extent ≡ true }
+    {
+        self.runs[at / 16]
     }
 }

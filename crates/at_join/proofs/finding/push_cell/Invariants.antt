@@ -5,11 +5,11 @@ use Rattle.at_join.specs.Sides.{CellHit, at_places, is_cell_here}
 use Rattle.at_join.proofs.finding.push_cell.Given as goal
 
 -- the places so far are those of which the pairs were found and the steps taken
-abbrev pub invariant-loop-at : goal.invariant-loop-at
-invariant-loop-at g l = record {
-  pairs : Finds (CellHit l.rect l.a.entries l.b.entries) at_places (pairs_of (take l.at l.a.places.items) l.b.places.items) l.fn.pairs.items l.pairs.items;
-  steps : l.steps ≤ l.fn.steps + count_by (is_cell_here l.rect) (pairs_of (take l.at l.a.places.items) l.b.places.items);
+abbrev pub invariant-loop-from : goal.invariant-loop-from
+invariant-loop-from g l = record {
+  pairs : Finds (CellHit l.rect l.a.entries l.b.entries) at_places (pairs_of (take l.from l.a.places.items) l.b.places.items) l.fn.pairs.items l.pairs.items;
+  steps : l.steps ≤ l.fn.steps + count_by (is_cell_here l.rect) (pairs_of (take l.from l.a.places.items) l.b.places.items);
 }
 
-abbrev pub decreases-loop-at : goal.decreases-loop-at
-decreases-loop-at g l = length l.a.places.items - l.at
+abbrev pub decreases-loop-from : goal.decreases-loop-from
+decreases-loop-from g l = length l.a.places.items - l.from

@@ -1,0 +1,39 @@
+//! The places of a side that are near a stretch of the other.
+
+ghost use Rattle.std.specs.Prelude.{◌≡◌, OnOk, [], ◌∷◌};
+ghost use Rattle.at_join.specs.Meetings.{Finds};
+ghost use Rattle.at_join.specs.Sides.{IsSide, IsInWindow, itself};
+
+use crate::boxes::touch;
+use crate::places::Place;
+use crate::sides::Side;
+use at_geom::Extent;
+use at_text::Memory;
+
+/// Puts the places of a side that have a common point with the window behind the list, in order.
+pub(crate) fn push_near(side: &Side, window: Extent, near: &mut Vec<Place>) -> Result<(), Memory>
+    requires side { IsSide side.now }
+    ensures { OnOk result (Finds (IsInWindow window) itself side.now.places.items near.old.items near.new.items) }
+{
+    let mut at = 0;
+    while at < side.places.len() {
+        let next = side.ahead(at, window);
+        if next > at {
+            at = next;
+        } else {
+            push_place(side.places[at], window, near)?;
+            at += 1;
+        }
+    }
+    Ok(())
+}
+
+/// Puts the place behind the list, where it has a common point with the window.
+fn push_place(place: Place, window: Extent, near: &mut Vec<Place>) -> Result<(), Memory>
+    ensures { OnOk result (Finds (IsInWindow window) itself (place ∷ []) near.old.items near.new.items) }
+{
+    if touch(place.extent, window) {
+        near.push(place)?;
+    }
+    Ok(())
+}
