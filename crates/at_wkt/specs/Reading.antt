@@ -505,6 +505,10 @@ pub record LineStands (digits : ℕ) (how : Coords) (base : ℕ) (w : List ℕ) 
   pub spells : SpellsLine digits how base w (first_of meaning.faults) meaning.shape
   pub gathers : Gathers old new meaning
 
+-- what was gathered is the shape of the line and its first fault, and no other is
+abbrev pub IsGatheredLine : Rules → List ℕ → Gathered → Type 0
+IsGatheredLine rules line gathered = SpellsLine rules.digits rules.how rules.base line gathered.fault (gathered_shape gathered)
+
 -- no line goes on at the place
 pub record LineStops (base : ℕ) (w : List ℕ) (n : ℕ) : Type 0 where
   pub within : n ≤ length w

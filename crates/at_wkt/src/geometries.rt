@@ -12,7 +12,7 @@ use crate::parts::{
     Read, read_line_string, read_line_strings, read_nothing, read_point, read_points, read_polygon,
     read_polygons,
 };
-use crate::paths::{Maker, add_fault};
+use crate::paths::{Maker, add_fault, clear_paths};
 use crate::positions::read_delimiter;
 use crate::sources::Source;
 use at_geom::{Path, Polygon, Pos};
@@ -29,6 +29,18 @@ pub struct Gathered {
     pub maker: Maker,
 }
 
+/// Lets polygons go, and keeps the room of the last one's rings and of its last ring.
+fn clear_polygons(polygons: &mut Vec<Polygon>, maker: &mut Maker)
+    ensures { polygons.new.items ≡ [] }
+{
+    if let Some(polygon) = polygons.pop() {
+        let mut rings = polygon.rings.into_vec();
+        clear_paths(&mut rings, maker);
+        maker.rings = rings;
+    }
+    polygons.clear();
+}
+
 /// Forgets what was gathered, and keeps its room. More of it is taken from the allocator.
 pub fn clear(gathered: &mut Gathered, alloc: Global)
     ensures points { gathered.new.points.items ≡ [] }
@@ -37,8 +49,8 @@ pub fn clear(gathered: &mut Gathered, alloc: Global)
     ensures fault { gathered.new.fault ≡ None }
 {
     gathered.points.clear();
-    gathered.lines.clear();
-    gathered.polygons.clear();
+    clear_paths(&mut gathered.lines, &mut gathered.maker);
+    clear_polygons(&mut gathered.polygons, &mut gathered.maker);
     gathered.fault = None;
     gathered.maker.alloc = alloc;
 }

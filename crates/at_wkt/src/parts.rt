@@ -9,7 +9,7 @@ ghost use Rattle.at_wkt.specs.Reading.{next, Stuck, HasCount, Item, Items, Enclo
 
 use crate::bytes::{letter_stands, skip_blanks, stands};
 use crate::halts::Halt;
-use crate::paths::{Maker, Role, add_fault, read_path};
+use crate::paths::{Maker, Role, add_fault, empty_rings, read_path};
 use crate::positions::{read_delimiter, read_position};
 use crate::sites::{BARE_POINT, POINT};
 use crate::sources::{Place, Source};
@@ -241,7 +241,7 @@ fn read_area(
         (Grows (polygons_of source.now.rules.digits source.now.rules.how) polygons.old.items polygons.new.items) source.now.rules.base source.now.text.now from.at from.dimension)
         (λ halt. IfStopped halt (Stuck (Items SpellsRing) source.now.rules.base source.now.text.now from.at from.dimension)) }
 {
-    let mut rings = Vec::new(maker.alloc);
+    let mut rings = empty_rings(maker);
     let read = read_rings(&mut rings, maker, source, from)?;
     polygons.push(Polygon {
         rings: Paths::from_vec(rings),

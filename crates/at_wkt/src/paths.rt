@@ -3,6 +3,7 @@
 ghost use Rattle.std.specs.Prelude.{◌≡◌, ◌+◌, ◌<◌, ◌≤◌, ◌^◌, ◌&&◌, ◌||◌, [], not, is_none, length, MatchResult};
 ghost use Rattle.std.specs.Ordering.{int_eq};
 ghost use Rattle.at_text.specs.Faults.{first_fault as the_first};
+ghost use Rattle.at_wkt.specs.declared.halts.Halt.TheVariants.{Memory};
 ghost use Rattle.at_wkt.specs.Geometry.{SpellsPosition, SpellsRing};
 ghost use Rattle.at_wkt.specs.Reading.{next, Stuck, HasCount, Item, Items, PositionStands, PositionsStand, PathStands, fault_of_path, IfStopped};
 
@@ -10,9 +11,10 @@ use crate::halts::Halt;
 use crate::positions::{PositionRead, read_position};
 use crate::sites::{FIRST, FURTHER};
 use crate::sources::{Place, Source};
-use at_geom::{Pos, line_fault, ring_fault};
+use at_geom::{Path, Pos, line_fault, ring_fault};
 use at_text::{Fault, first_fault};
 use std::alloc::Global;
+use std::mem;
 
 /// What a list of positions is.
 #[derive(Clone, Copy, Debug, PartialEq, Eq)]
@@ -39,12 +41,55 @@ pub struct PathRead {
     pub behind: Place,
 }
 
-/// What paths are made with: where their room is taken, and how many positions the one before had. The next one is
-/// expected to have as many.
+/// What paths are made with: where their room is taken, how many positions the one before had, and the room of a path and of
+/// a list of rings that were let go. The next path is expected to have as many positions as the one before.
 #[derive(Drop)]
 pub struct Maker {
     pub alloc: Global,
     pub expected: usize,
+    pub path: Vec<Pos>,
+    pub rings: Vec<Path>,
+}
+
+/// No path was made yet. It takes no memory.
+pub fn no_paths(alloc: Global) -> Maker {
+    Maker {
+        alloc,
+        expected: 0,
+        path: Vec::new(alloc),
+        rings: Vec::new(alloc),
+    }
+}
+
+/// A path without positions, in the room of one that was let go, or else with room for as many as are expected.
+fn empty_path(maker: &mut Maker) -> Result<Vec<Pos>, Halt>
+    ensures { MatchResult result (λ path. path.items ≡ []) (λ halt. halt ≡ Memory) }
+{
+    if maker.path.capacity() == 0 {
+        return Ok(Vec::with_capacity(maker.alloc, maker.expected)?);
+    }
+    let mut path = mem::replace(&mut maker.path, Vec::new(maker.alloc));
+    path.clear();
+    Ok(path)
+}
+
+/// A list without rings, in the room of one that was let go.
+pub fn empty_rings(maker: &mut Maker) -> Vec<Path>
+    ensures { result.items ≡ [] }
+{
+    let mut rings = mem::replace(&mut maker.rings, Vec::new(maker.alloc));
+    rings.clear();
+    rings
+}
+
+/// Lets paths go, and keeps the room of the last.
+pub fn clear_paths(paths: &mut Vec<Path>, maker: &mut Maker)
+    ensures { paths.new.items ≡ [] }
+{
+    if let Some(path) = paths.pop() {
+        maker.path = path.into_vec();
+    }
+    paths.clear();
 }
 
 /// Whether two positions are the same, or one of them has a fault, so that this isn't tested.
@@ -102,8 +147,7 @@ pub fn path_fault(role: Role, count: u32, closes: bool, at: u32) -> Option<Fault
     }
 }
 
-/// Reads a line or a ring from its opening bracket, which stands at the place, to its closing one. It first takes room for as
-/// many positions as are expected.
+/// Reads a line or a ring from its opening bracket, which stands at the place, to its closing one.
 pub fn read_path(
     maker: &mut Maker,
     source: &Source,
@@ -116,7 +160,7 @@ pub fn read_path(
     ensures { MatchResult result (PathStands source.now.rules source.now.text.now from.at from.dimension role)
         (λ halt. IfStopped halt (Stuck SpellsRing source.now.rules.base source.now.text.now from.at from.dimension)) }
 {
-    let mut path = Vec::with_capacity(maker.alloc, maker.expected)?;
+    let mut path = empty_path(maker)?;
     let read = read_positions(
         &mut path,
         source,

@@ -1,15 +1,15 @@
 //! The two readers of one text: a line of a file, and the geometry that begins a text.
 
-ghost use Rattle.std.specs.Prelude.{◌≡◌, [], None, ◌+◌, ◌^◌, ◌≤◌, length, MatchResult};
+ghost use Rattle.std.specs.Prelude.{◌≡◌, [], None, ◌+◌, ◌^◌, ◌≤◌, IsTrue, length, take, MatchResult};
 ghost use Rattle.at_text.specs.Syntax.{stop_fault};
-ghost use Rattle.at_wkt.specs.Reading.{refusal as refusal_at, gathered_shape, kept_shape as shape_kept, line_answer as answer_of, LineStands, LineStops, IfStopped};
+ghost use Rattle.at_wkt.specs.Reading.{refusal as refusal_at, gathered_shape, kept_shape as shape_kept, line_answer as answer_of, IsGatheredLine, LineStands, LineStops, IfStopped};
 ghost use Rattle.at_wkt.specs.Answers.{IfFound, HasLineShape, HasFirstLineFault, IsPrefixOf, IsPrefixFault};
 
 use crate::answers::{LineFault, Prefix};
 use crate::bytes::skip_blanks;
-use crate::geometries::{Gathered, read_whole};
+use crate::geometries::{Gathered, clear, read_whole};
 use crate::halts::Halt;
-use crate::paths::Maker;
+use crate::paths::no_paths;
 use crate::sources::{Rules, Source};
 use at_fixed::Coords;
 use at_geom::{Path, Paths, Polygons, Shape};
@@ -28,7 +28,7 @@ pub fn nothing_gathered(alloc: Global) -> Gathered
         lines: Vec::new(alloc),
         polygons: Vec::new(alloc),
         fault: None,
-        maker: Maker { alloc, expected: 0 },
+        maker: no_paths(alloc),
     }
 }
 
@@ -84,7 +84,7 @@ pub fn stop_at(text: &[u8], base: u32, at: usize) -> Fault
 }
 
 /// The refusal of a text where reading it stopped.
-fn refusal_of(text: &[u8], base: u32, halt: Halt) -> LineFault
+pub fn refusal_of(text: &[u8], base: u32, halt: Halt) -> LineFault
     requires inside { IfStopped halt (λ n. n ≤ length text.now) }
     requires short { base + length text.now ≤ 2 ^ 28 }
     ensures { result ≡ refusal_at base text.now halt }
@@ -139,6 +139,52 @@ pub fn read_between(gathered: &mut Gathered, source: &Source) -> Result<(), Halt
     } else {
         Ok(())
     }
+}
+
+/// Reads blanks, a geometry and blanks, and tells whether they are the line that has the first `len` of the bytes ahead. What
+/// stands behind the line is looked at together with its last bytes.
+fn read_ahead(gathered: &mut Gathered, ahead: &Source, len: usize) -> bool
+    requires { len ≤ length ahead.now.text.now }
+    ensures { IsTrue result → LineStands ahead.now.rules.digits ahead.now.rules.how ahead.now.rules.base (take len ahead.now.text.now) gathered.old gathered.new }
+{
+    let start = skip_blanks(ahead.text, 0);
+    match read_whole(gathered, ahead, start) {
+        Ok(end) => skip_blanks(ahead.text, end) == len,
+        Err(_) => false,
+    }
+}
+
+/// Reads a line by itself, whatever was gathered of it before.
+#[inline(never)]
+fn read_again(gathered: &mut Gathered, alloc: Global, line: &Source) -> Result<(), Halt>
+    ensures { MatchResult result (λ _. IsGatheredLine line.now.rules line.now.text.now gathered.new)
+        (λ halt. IfStopped halt (LineStops line.now.rules.base line.now.text.now)) }
+{
+    clear(gathered, alloc);
+    read_between(gathered, line)
+}
+
+/// Reads the line that has the first `len` of the bytes ahead: blanks, a geometry and blanks. What was gathered before is let
+/// go.
+pub fn read_front(
+    gathered: &mut Gathered,
+    alloc: Global,
+    ahead: &Source,
+    len: usize,
+) -> Result<(), Halt>
+    requires { len ≤ length ahead.now.text.now }
+    ensures { MatchResult result (λ _. IsGatheredLine ahead.now.rules (take len ahead.now.text.now) gathered.new)
+        (λ halt. IfStopped halt (LineStops ahead.now.rules.base (take len ahead.now.text.now))) }
+{
+    clear(gathered, alloc);
+    if read_ahead(gathered, ahead, len) {
+        return Ok(());
+    }
+    let line = Source {
+        text: &ahead.text[..len],
+        rules: ahead.rules,
+    };
+    read_again(gathered, alloc, &line)
 }
 
 /// Reads a line without its end, whose first byte has the offset `base` in its file: blanks, a geometry, blanks.

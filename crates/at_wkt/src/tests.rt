@@ -264,6 +264,102 @@ fn followed_lines(rt: HostRuntime) -> Result<(), Fail> {
     Ok(())
 }
 
+/// The positions of a path behind a text, with commas between them.
+fn push_path(alloc: Global, text: &mut String, path: &[Pos]) -> Result<(), AllocError> {
+    let mut first = true;
+    for pos in path {
+        let Pos { x, y } = *pos;
+        let comma = if first { "" } else { "," };
+        text.push_str(format!(in alloc; "{comma}{x} {y}")?.as_str())?;
+        first = false;
+    }
+    Ok(())
+}
+
+/// All positions of a shape: points, lines in square brackets, and rings in round ones, each polygon behind a star.
+fn positions_of_shape(alloc: Global, shape: &Shape) -> Result<String, AllocError> {
+    let mut text = String::new(alloc);
+    push_path(alloc, &mut text, shape.points.as_slice())?;
+    for line in shape.lines.as_slice() {
+        text.push_str("[")?;
+        push_path(alloc, &mut text, line.as_slice())?;
+        text.push_str("]")?;
+    }
+    for polygon in shape.polygons.as_slice() {
+        text.push_str("*")?;
+        for ring in polygon.rings.as_slice() {
+            text.push_str("(")?;
+            push_path(alloc, &mut text, ring.as_slice())?;
+            text.push_str(")")?;
+        }
+    }
+    Ok(text)
+}
+
+/// The shape of a line that begins at the offset 100, in tenths, or its first fault, from a room that served others. The line
+/// is the first bytes of those ahead.
+fn lent_in_room(
+    room: &mut Room,
+    alloc: Global,
+    ahead: &[u8],
+    len: usize,
+) -> Result<String, AllocError>
+    requires inside { len ≤ length ahead.now }
+    requires short { length ahead.now ≤ 2 ^ 27 }
+{
+    match room.read_line(alloc, ahead, len, 100, 1, Coords::Exact) {
+        Ok(shape) => positions_of_shape(alloc, shape),
+        Err(LineFault::Found(fault)) => {
+            let kind = fault.kind;
+            let at = fault.at;
+            format!(in alloc; "{kind:?} {at}")
+        }
+        Err(LineFault::Memory) => String::from_str(alloc, "memory"),
+    }
+}
+
+/// Lines that one room reads one after another: the shape in tenths or the first fault, a bar, the line, a bar, and what
+/// stands behind the line.
+const LENT: &str = "*(0 0,10 0,10 10,0 0)|POLYGON ((0 0,1 0,1 1,0 0))|
+Syntax 109|POINT (1 x|
+15 -25|POINT (1.5 -2.5)|POINT (3 4)
+Ended 110|POINT (1 2|3)
+Ended 110|POINT (1 2|)
+10 20|POINT (1 2) |x
+10 20|POINT (1 2)| x
+5 5,15 15|MULTIPOINT (0.5 0.5,(1.5 1.5),EMPTY)|
+[5 5,15 15]|LINESTRING (0.5 0.5,1.5 1.5)|,2 2)
+[0 0,10 0,20 0][30 0,40 0]|MULTILINESTRING ((0 0,1 0,2 0),(3 0,4 0))|
+[70 70,80 80]|LINESTRING (7 7,8 8)|
+Ended 127|LINESTRING (0.5 0.5,1.5 1.5|,2 2)
+|POINT EMPTY|
+Ring 109|POLYGON ((0 0,1 1,0 0))|,(0 0,1 0,1 1,0 0))
+*(0 0,90 0,90 90,0 0)(20 10,30 10,30 20,20 10)|POLYGON ((0 0,9 0,9 9,0 0),(2 1,3 1,3 2,2 1))|
+*(0 0,10 0,10 10,0 0)|POLYGON ((0 0,1 0,1 1,0 0))|,(0 0,1 0,1 1,0 0))
+Scale 107|POINT (0.12 2)|3)
+Syntax 111|POINT (1 2))|
+10 20[30 40,50 60]*(0 0,10 0,10 10,0 0)|GEOMETRYCOLLECTION (POINT (1 2),LINESTRING (3 4,5 6),POLYGON ((0 0,1 0,1 1,0 0)))|
+300000000 0|POINT (30000000 0)|0 0)
+Ended 100||POINT (1 2)
+10 20|point ( 1   2 )|";
+
+#[test]
+fn lent_lines(rt: HostRuntime) -> Result<(), Fail> {
+    let mut room = Room::new(rt.alloc());
+    let mut count = 0u32;
+    for row in LENT.lines() {
+        let (expected, both) = row.split_once('|').ok_or("a bar")?;
+        let (line, behind) = both.split_once('|').ok_or("a second bar")?;
+        let ahead = format!(in rt.alloc(); "{line}{behind}")?;
+        assert!(rt; ahead.len() < 200 && line.len() <= ahead.len());
+        let told = lent_in_room(&mut room, rt.alloc(), ahead.as_bytes(), line.len())?;
+        assert_eq!(rt; told.as_str(), expected, "{row}");
+        count = count.wrapping_add(1);
+    }
+    assert_eq!(rt; count, 22);
+    Ok(())
+}
+
 /// What a shape holds: how many points, lines, polygons, and positions of rings.
 fn told_of_shape(alloc: Global, shape: &Shape) -> Result<String, AllocError> {
     let mut positions = 0usize;

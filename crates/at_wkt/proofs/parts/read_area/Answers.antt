@@ -11,5 +11,5 @@ returns-in_err-read c = exits c.from_residual.result c.in_err-read.field-0.0 _ (
 
 pub returns : goal.returns
 returns c = area_stands c.args.source.now.rules c.args.source.now.text.now c.args.from.at c.args.from.dimension c.in_ok-read.read _ _ _ _
-    (subst (λ z. PartStands (Items SpellsRing) (flat_map (faults_of_ring c.args.source.now.rules.digits c.args.source.now.rules.how)) (Grows (flat_map (added_path c.args.source.now.rules.digits c.args.source.now.rules.how)) z c.read_rings.new.rings.items) c.args.source.now.rules.base c.args.source.now.text.now c.args.from.at c.args.from.dimension c.in_ok-read.read) c.new-rings.ensures.items c.in_ok-read.ensures)
+    (subst (λ z. PartStands (Items SpellsRing) (flat_map (faults_of_ring c.args.source.now.rules.digits c.args.source.now.rules.how)) (Grows (flat_map (added_path c.args.source.now.rules.digits c.args.source.now.rules.how)) z c.read_rings.new.rings.items) c.args.source.now.rules.base c.args.source.now.text.now c.args.from.at c.args.from.dimension c.in_ok-read.read) c.empty_rings-rings.ensures c.in_ok-read.ensures)
     (ap (λ z. record { rings = z }) c.from_vec.ensures) c.in_ok-push.ensures.items
