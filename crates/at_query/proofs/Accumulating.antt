@@ -20,7 +20,7 @@ use Rattle.at_query.specs.declared.accumulators.Accumulator.TheVariants.{Part as
 use Rattle.at_query.specs.Holding.{Holds}
 use Rattle.at_query.specs.Results.{Keeps, all_positions, all_polygons}
 use Rattle.at_query.specs.Parts.{entry_of, wrapped_sum, IsHullInRange, IsKeptOf, IsPart, IsProper, AreAlike, JoinsParts}
-use Rattle.at_query.specs.Accumulators.{IsKeptIn, IsAccumulated, AreOfOneVerb, JoinsAccumulators, IsNoHull, added_by, is_hull}
+use Rattle.at_query.specs.Accumulators.{IsKeptIn, IsAccumulated, AreOfOneVerb, JoinsAccumulators, IsNoHull, KeepsNoShape, added_by, is_entries, is_hull}
 use Rattle.at_query.proofs.KeptLists.{keeps-append, keeps_none, keeps_one, drops_one}
 use Rattle.at_query.proofs.Joining.{parts_are_alike}
 
@@ -166,3 +166,26 @@ accumulated_no_hull query fs kept part e is =
       of_verb verbs.Extent left part n e = rw (e) tt
       of_verb verbs.Hull left part n e = absurd (n refl)
       of_verb verbs.Join left part n e = rw (e) tt
+
+-- what is kept in place of a part for a verb other than join is no list of entries
+pub accumulated_no_shape : (query : Query) (fs : List Feature) (kept : Accumulator) (part : Part) → query.verb ≢ verbs.Join → kept ≡ APart part → IsAccumulated query fs kept → KeepsNoShape part
+accumulated_no_shape query fs kept part m e is =
+    let P : Accumulator → Type 0 = IsAccumulated query fs in
+    let (left, keeps, k) = subst P e is in
+    of_verb query.verb left part m k.0 k.1 where
+      of_verb : (verb : Verb) (left : List Feature) (part : Part) → verb ≢ verbs.Join → verb ≢ verbs.Hull → IsKeptOf verb left part → KeepsNoShape part
+      of_verb verbs.Select left part m n e = rw (e) tt
+      of_verb verbs.Count left part m n e = rw (e) tt
+      of_verb verbs.Area left part m n e = rw (e) tt
+      of_verb verbs.Extent left part m n e = rw (e) tt
+      of_verb verbs.Hull left part m n e = absurd (n refl)
+      of_verb verbs.Join left part m n e = absurd (m refl)
+
+-- a part that is no hull and no list of entries
+pub no_shape_kept : (part : Part) → IsNoHull part → is_entries part ≡ false → KeepsNoShape part
+no_shape_kept (parts.Offsets a) n e = tt
+no_shape_kept (parts.Count a) n e = tt
+no_shape_kept (parts.Area z) n e = tt
+no_shape_kept (parts.Spread s) n e = tt
+no_shape_kept (parts.Entries es) n e = absurd (true≢false e)
+no_shape_kept (parts.Hull h) n e = n

@@ -58,6 +58,20 @@ abbrev pub IsNoHull : Part → Type 0
 IsNoHull (parts.Hull h) = ⊥
 IsNoHull _ = Unit {0}
 
+abbrev pub is_entries : Part → Bool
+is_entries (parts.Offsets a) = false
+is_entries (parts.Count n) = false
+is_entries (parts.Area z) = false
+is_entries (parts.Spread e) = false
+is_entries (parts.Entries es) = true
+is_entries (parts.Hull h) = false
+
+-- the part keeps no shape, and is no hull
+abbrev pub KeepsNoShape : Part → Type 0
+KeepsNoShape (parts.Hull h) = ⊥
+KeepsNoShape (parts.Entries es) = ⊥
+KeepsNoShape _ = Unit {0}
+
 -- what the feature adds to a part
 abbrev pub added_by : Feature → Part → Part
 added_by f (parts.Offsets a) = parts.Offsets (f.at ∷ [])

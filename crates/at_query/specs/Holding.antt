@@ -6,7 +6,12 @@ use Rattle.at_query.specs.declared.queries.Query.{Query}
 use Rattle.at_query.specs.declared.queries.Test.{Test}
 use Rattle.at_query.specs.declared.queries.Test.TheVariants.{InBox, MeetsShape, Has}
 use Rattle.at_query.specs.declared.features.Feature.{Feature}
+use Rattle.at_query.specs.declared.features.LentFeature.{LentFeature}
 use Rattle.at_query.specs.declared.features.TextPair.{TextPair}
+
+-- the feature of which the parts are lent
+abbrev pub lent_feature : LentFeature → Feature
+lent_feature lent = record { at = lent.at; shape = lent.shape.now; texts = lent.texts.now }
 
 -- a text of the feature has the units of both
 abbrev pub has_text : List TextPair → List ℕ → List ℕ → Bool

@@ -1,17 +1,19 @@
 //! What is kept of features that are added one by one.
 
-ghost use Rattle.std.specs.Prelude.{◌≡◌, List, [], ◌∷◌, ◌++◌, IfOk, IsOk};
+ghost use Rattle.std.specs.Prelude.{◌≡◌, ◌≢◌, List, [], ◌∷◌, ◌++◌, IfOk, IsOk};
 ghost use Rattle.at_query.specs.Ranges.{IsQueryInRange, IsFeatureInRange};
 ghost use Rattle.at_query.specs.Parts.{IsPart, IsProper, AreAlike, JoinsParts, IsOfOneSize};
 ghost use Rattle.at_query.specs.Accumulators.{IsAccumulated, AreOfOneVerb, JoinsAccumulators, HasOneSize, IsSettled};
+ghost use Rattle.at_query.specs.Holding.{lent_feature};
 ghost use Rattle.at_query.specs.declared.queries.Query.{Query};
+ghost use Rattle.at_query.specs.declared.queries.Verb.{Verb};
 ghost use Rattle.at_query.specs.declared.features.Feature.{Feature};
 ghost use Rattle.at_query.specs.declared.parts.Part.{Part};
 ghost use Rattle.at_query.specs.declared.accumulators.Accumulator.{Accumulator};
 
-use crate::adding::{add_shape, add_to_part, asks_hull};
-use crate::features::Feature;
-use crate::holding::holds;
+use crate::adding::{add_lent_to_part, add_shape, add_to_part, asks_hull};
+use crate::features::{Feature, LentFeature};
+use crate::holding::{holds, lent_holds};
 use crate::merging::part_merge;
 use crate::parts::Part;
 use crate::queries::Query;
@@ -104,6 +106,27 @@ impl Accumulator {
         match self {
             Accumulator::Part(part) => add_to_part(part, feature),
             Accumulator::Hull(hull) => add_shape(hull, &feature.shape),
+        }
+    }
+
+    /// Adds a feature whose parts are lent, where the query holds of it: for every verb but `join`, which keeps shapes. What
+    /// `add` says of memory holds of it.
+    #[inline(always)]
+    pub fn add_lent(&mut self, query: &Query, feature: &LentFeature) -> Result<(), Memory>
+        requires no_join { query.now.verb ≢ Verb.Join }
+        requires query_in_range { IsQueryInRange query.now }
+        requires feature_in_range { IsFeatureInRange (lent_feature feature.now) }
+        requires own { (fs : List Feature) × IsAccumulated query.now fs self.old }
+        ensures added { IfOk result (λ _. (fs : List Feature) → IsAccumulated query.now fs self.old
+            → IsAccumulated query.now (fs ++ lent_feature feature.now ∷ []) self.new) }
+        ensures sized { HasOneSize self.old → IsOk result }
+    {
+        if !lent_holds(query, feature) {
+            return Ok(());
+        }
+        match self {
+            Accumulator::Part(part) => add_lent_to_part(part, feature),
+            Accumulator::Hull(hull) => add_shape(hull, feature.shape),
         }
     }
 

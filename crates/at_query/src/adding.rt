@@ -1,13 +1,14 @@
 //! A feature that is added to what is kept of those before it.
 
-ghost use Rattle.std.specs.Prelude.{◌≡◌, ◌++◌, IfOk, IsOk};
+ghost use Rattle.std.specs.Prelude.{◌≡◌, true, ◌++◌, IfOk, IsOk};
 ghost use Rattle.at_geom.specs.Shapes.{ArePathsInRange, ArePolygonsInRange, IsShapeInRange, positions, joined, positions_of_polygons};
 ghost use Rattle.at_hull.specs.Growth.{HaveOneHull, held};
 ghost use Rattle.at_query.specs.Ranges.{IsFeatureInRange};
 ghost use Rattle.at_query.specs.Parts.{IsOfOneSize, JoinsParts};
-ghost use Rattle.at_query.specs.Accumulators.{IsNoHull, added_by, is_hull};
+ghost use Rattle.at_query.specs.Accumulators.{IsNoHull, KeepsNoShape, added_by, is_entries, is_hull};
+ghost use Rattle.at_query.specs.Holding.{lent_feature};
 
-use crate::features::Feature;
+use crate::features::{Feature, LentFeature};
 use crate::merging::joined_spread;
 use crate::parts::Part;
 use crate::queries::Verb;
@@ -30,11 +31,25 @@ pub(crate) fn asks_hull(verb: Verb) -> bool
     }
 }
 
-/// Adds a feature to a part that is no hull.
-pub(crate) fn add_to_part(part: &mut Part, feature: Feature) -> Result<(), Memory>
-    requires kind { IsNoHull part.old }
-    requires in_range { IsFeatureInRange feature }
-    ensures joined { IfOk result (λ _. JoinsParts part.old (added_by feature part.old) part.new) }
+/// Whether a part keeps the shapes of features.
+fn keeps_shapes(part: &Part) -> bool
+    ensures { result ≡ is_entries part.now }
+{
+    match part {
+        Part::Entries(_) => true,
+        Part::Offsets(_) => false,
+        Part::Count(_) => false,
+        Part::Area(_) => false,
+        Part::Spread(_) => false,
+        Part::Hull(_) => false,
+    }
+}
+
+/// Adds a feature to a part that keeps no shape and is no hull.
+pub(crate) fn add_lent_to_part(part: &mut Part, feature: &LentFeature) -> Result<(), Memory>
+    requires kind { KeepsNoShape part.old }
+    requires in_range { IsFeatureInRange (lent_feature feature.now) }
+    ensures joined { IfOk result (λ _. JoinsParts part.old (added_by (lent_feature feature.now) part.old) part.new) }
     ensures sized { IsOfOneSize part.old → IsOk result }
 {
     match part {
@@ -48,12 +63,36 @@ pub(crate) fn add_to_part(part: &mut Part, feature: Feature) -> Result<(), Memor
             Ok(())
         }
         Part::Spread(spread) => {
-            *spread = joined_spread(*spread, extent(&feature.shape));
+            *spread = joined_spread(*spread, extent(feature.shape));
             Ok(())
         }
-        Part::Entries(entries) => entries.push(entry_of(feature)),
+        Part::Entries(_) => unreachable!(),
         Part::Hull(_) => unreachable!(),
     }
+}
+
+/// Adds the entry of a feature to a part that keeps shapes.
+fn add_entry(part: &mut Part, feature: Feature) -> Result<(), Memory>
+    requires kind { is_entries part.old ≡ true }
+    ensures { IfOk result (λ _. JoinsParts part.old (added_by feature part.old) part.new) }
+{
+    match part {
+        Part::Entries(entries) => entries.push(entry_of(feature)),
+        _ => unreachable!(),
+    }
+}
+
+/// Adds a feature to a part that is no hull.
+pub(crate) fn add_to_part(part: &mut Part, feature: Feature) -> Result<(), Memory>
+    requires kind { IsNoHull part.old }
+    requires in_range { IsFeatureInRange feature }
+    ensures joined { IfOk result (λ _. JoinsParts part.old (added_by feature part.old) part.new) }
+    ensures sized { IsOfOneSize part.old → IsOk result }
+{
+    if keeps_shapes(part) {
+        return add_entry(part, feature);
+    }
+    add_lent_to_part(part, &feature.lent())
 }
 
 /// Adds the positions of paths to those of a hull.

@@ -1,4 +1,5 @@
 ghost use Rattle.std.specs.Prelude.{◌≡◌};
+ghost use Rattle.at_query.specs.Holding.{lent_feature};
 
 use at_geom::Shape;
 use at_lex::Units;
@@ -48,4 +49,25 @@ pub struct Feature {
     pub at: u32,
     pub shape: Shape,
     pub texts: TextPairs,
+}
+
+impl Feature {
+    /// Lends the parts of the feature.
+    pub fn lent(&self) -> LentFeature<'_>
+        ensures { lent_feature result ≡ self.now }
+    {
+        LentFeature {
+            at: self.at,
+            shape: &self.shape,
+            texts: &self.texts,
+        }
+    }
+}
+
+/// A feature whose shape and texts are lent.
+#[derive(Clone, Copy)]
+pub struct LentFeature<'a> {
+    pub at: u32,
+    pub shape: &'a Shape,
+    pub texts: &'a TextPairs,
 }

@@ -29,8 +29,8 @@ mod targets;
 
 pub use accumulators::Accumulator;
 pub use answers::{Answer, Offsets, Pair, Pairs};
-pub use features::{Feature, TextPair, TextPairs};
-pub use holding::holds;
+pub use features::{Feature, LentFeature, TextPair, TextPairs};
+pub use holding::{holds, lent_holds};
 pub use merging::part_merge;
 pub use parts::{Entries, Entry, Part};
 pub use printing::answer_text;

@@ -1,4 +1,4 @@
-ghost use Rattle.std.specs.Prelude.{List, IfOk, IfSome, All, IsTrue};
+ghost use Rattle.std.specs.Prelude.{◌≡◌, ◌≢◌, false, List, IfOk, IfSome, All, IsTrue};
 ghost use Rattle.at_geom.specs.Segments.{IsInRange};
 ghost use Rattle.at_geom.specs.Shapes.{ArePathsInRange, ArePolygonsInRange, IsShapeInRange};
 ghost use Rattle.at_query.specs.Ranges.{IsTestInRange, IsQueryInRange, IsFeatureInRange};
@@ -327,6 +327,26 @@ fn added(alloc: Global, query: &Query, outlines: &[Outline]) -> Result<Accumulat
     Ok(kept)
 }
 
+/// Whether a verb keeps shapes.
+fn keeps_shapes(verb: Verb) -> bool
+    ensures { (result ≡ false) → verb ≢ Verb.Join }
+{
+    matches!(verb, Verb::Join)
+}
+
+/// What is kept of shapes that are lent one by one.
+fn added_lent(alloc: Global, query: &Query, outlines: &[Outline]) -> Result<Accumulator, Fail>
+    requires in_range { IsQueryInRange query.now }
+    requires no_join { query.now.verb ≢ Verb.Join }
+{
+    let mut kept = Accumulator::none(alloc, query);
+    for outline in outlines {
+        let lent = feature(alloc, outline)?;
+        kept.add_lent(query, &lent.lent())?;
+    }
+    Ok(kept)
+}
+
 /// The part of all shapes, of which the first four are added to what is kept of none, and the others to a second one,
 /// which is joined.
 fn part_of_added(alloc: Global, query: &Query) -> Result<Part, Fail>
@@ -345,6 +365,18 @@ fn printed_of_added(alloc: Global, query: &Query) -> Result<String, Fail>
     Ok(answer_text(alloc, &answer, 1)?)
 }
 
+/// What a verb that keeps no shape prints of shapes that are lent.
+fn printed_of_lent(alloc: Global, query: &Query) -> Result<String, Fail>
+    requires { IsQueryInRange query.now }
+{
+    if keeps_shapes(query.verb) {
+        return Ok(String::from_str(alloc, "shapes are kept")?);
+    }
+    let kept = added_lent(alloc, query, &AROUND_BOX)?;
+    let answer = answered(kept.into_part()?)?;
+    Ok(answer_text(alloc, &answer, 1)?)
+}
+
 /// Whether each verb prints what its row says, with at most one box that the shapes are to be in.
 fn print_as_told(
     alloc: Global,
@@ -360,6 +392,9 @@ fn print_as_told(
             return Ok(false);
         }
         if printed_of_added(alloc, &asked)?.as_str() != row.1 {
+            return Ok(false);
+        }
+        if printed_of_lent(alloc, &asked)?.as_str() != row.1 {
             return Ok(false);
         }
     }
