@@ -1,12 +1,14 @@
-ghost use Rattle.std.specs.Prelude.{◌≡◌, Some, IfOk};
+ghost use Rattle.std.specs.Prelude.{◌≡◌, ◌≢◌, Some, IfOk};
 ghost use Rattle.at_text.specs.Faults.{first_fault as the_first};
 ghost use Rattle.at_text.specs.declared.faults.Fault.{Fault};
 ghost use Rattle.at_query.specs.Ranges.{IsQueryInRange, IsFeatureInRange};
+ghost use Rattle.at_query.specs.Holding.{lent_feature};
+ghost use Rattle.at_query.specs.declared.queries.Verb.{Verb};
 ghost use Rattle.at_query.specs.Parts.{AreAlike, JoinsParts};
 ghost use Rattle.at_query.specs.Accumulators.{AreOfOneVerb, JoinsAccumulators};
 ghost use Rattle.at_run.specs.Gathering.{counted_of, IsOwnOf, AddsFeature, AreJoinable, IsJoinOf, JoinsGathered, KeepsOwn};
 
-use at_query::{Accumulator, Feature, Part, Query};
+use at_query::{Accumulator, Feature, LentFeature, Part, Query};
 use at_text::{Fault, Memory, first_fault};
 use at_wkt::LineFault;
 use std::mem;
@@ -170,6 +172,21 @@ pub fn add_feature(gathered: &mut Gathered, query: &Query, feature: Feature) -> 
 {
     match gathered {
         Gathered::Kept(kept) => kept.add(query, feature),
+        Gathered::Failed(_) => Ok(()),
+    }
+}
+
+/// Puts a feature whose parts are lent behind those of the lines before its own: for every verb but `join`.
+#[inline(always)]
+pub fn add_lent(gathered: &mut Gathered, query: &Query, feature: &LentFeature) -> Result<(), Memory>
+    requires no_join { query.now.verb ≢ Verb.Join }
+    requires query_in_range { IsQueryInRange query.now }
+    requires feature_in_range { IsFeatureInRange (lent_feature feature.now) }
+    requires own { IsOwnOf query.now gathered.old }
+    ensures { IfOk result (λ _. AddsFeature query.now (lent_feature feature.now) gathered.old gathered.new) }
+{
+    match gathered {
+        Gathered::Kept(kept) => kept.add_lent(query, feature),
         Gathered::Failed(_) => Ok(()),
     }
 }

@@ -1,13 +1,14 @@
-ghost use Rattle.std.specs.Prelude.{◌≡◌, ◌+◌, ◌≤◌, ◌^◌, length, take, ◌∷◌, [], IsTrue, IfOk, MatchResult};
+ghost use Rattle.std.specs.Prelude.{◌≡◌, ◌≢◌, false, ◌+◌, ◌≤◌, ◌^◌, length, take, ◌∷◌, [], IsTrue, IfOk, MatchResult};
 ghost use Rattle.at_wkt.specs.Answers.{IfFound};
 ghost use Rattle.at_wkt.specs.Folding.{AddsLines};
 ghost use Rattle.at_query.specs.Ranges.{IsQueryInRange};
+ghost use Rattle.at_query.specs.declared.queries.Verb.{Verb};
 ghost use Rattle.at_run.specs.Gathering.{Asked, CountsAll, IsOwn, IsGathered, IsChecked, IsLineRead};
 
-use crate::gathered::{Gathered, add_end, add_feature, count_line, joined};
+use crate::gathered::{Gathered, add_end, add_fault, add_feature, add_lent, count_line, joined};
 use crate::labels::{behind_label, front_texts};
 use at_fixed::Coords;
-use at_query::{Accumulator, Feature, Query, Verb};
+use at_query::{Accumulator, Feature, LentFeature, Query, Verb};
 use at_text::{Fault, Memory};
 use at_wkt::{Fold, LineFault, Room, read_line};
 use std::alloc::Global;
@@ -74,6 +75,49 @@ impl<'a> LineQuery<'a> {
     {
         match self.feature(alloc, text, at) {
             Ok(feature) => add_feature(gathered, self.query, feature),
+            Err(end) => add_end(gathered, end),
+        }
+    }
+
+    /// Whether what is asked for keeps the shapes of features.
+    fn keeps_shapes(&self) -> bool
+        ensures { (result ≡ false) → self.now.query.verb ≢ Verb.Join }
+    {
+        matches!(self.query.verb, Verb::Join)
+    }
+
+    /// Puts a line, whose shape the room lends, behind those before it. Out of line, so that lines that are only counted
+    /// are not held up by what this one keeps in registers.
+    #[inline(never)]
+    fn add_lent_line(
+        &self,
+        alloc: Global,
+        room: &mut Room,
+        gathered: &mut Gathered,
+        ahead: &[u8],
+        len: usize,
+        at: u32,
+    ) -> Result<(), Memory>
+        requires no_join { self.now.query.verb ≢ Verb.Join }
+        requires own { IsOwn self.now gathered.old }
+        requires inside { len ≤ length ahead.now }
+        requires short { at + length ahead.now ≤ 2 ^ 28 }
+        ensures own { IfOk result (λ _. IsOwn self.now gathered.new) }
+        ensures fold { IfOk result (λ _. AddsLines (IsGathered self.now) gathered.old (record { at = at; text = take len ahead.now } ∷ []) gathered.new) }
+    {
+        let line = match behind_label(ahead, len, at) {
+            Ok(line) => line,
+            Err(fault) => {
+                add_fault(gathered, fault);
+                return Ok(());
+            }
+        };
+        let texts = front_texts(alloc, line.label, self.query.tests.as_slice())?;
+        match room.read_line(alloc, line.ahead, line.len, line.at, self.digits, self.how) {
+            Ok(shape) => {
+                let texts = &texts;
+                add_lent(gathered, self.query, &LentFeature { at, shape, texts })
+            }
             Err(end) => add_end(gathered, end),
         }
     }
@@ -147,8 +191,10 @@ impl<'a> Fold for LineQuery<'a> {
             let fault = self.check(alloc, room, ahead, len, at)?;
             count_line(part, fault);
             Ok(())
-        } else {
+        } else if self.keeps_shapes() {
             self.add_line(alloc, part, &ahead[..len], at)
+        } else {
+            self.add_lent_line(alloc, room, part, ahead, len, at)
         }
     }
 }

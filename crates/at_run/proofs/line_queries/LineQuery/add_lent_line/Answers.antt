@@ -1,0 +1,61 @@
+use Rattle.std.proofs.Common.{List, [], ◌∷◌, take, subst}
+use Rattle.std.proofs.lemmas.Result.{IfOk-weaker}
+use Rattle.at_query.specs.declared.features.Feature.{Feature}
+use Rattle.at_query.specs.declared.queries.Test.{Test}
+use Rattle.at_wkt.specs.declared.answers.LineFault.{LineFault}
+use Rattle.at_wkt.specs.Answers.{IfFound, HasLineShape, HasFirstLineFault}
+use Rattle.at_wkt.specs.Lines.{FileLine}
+use Rattle.at_run.specs.declared.gathered.Gathered.TheVariants.{Failed}
+use Rattle.at_run.specs.Gathering.{Asked, IsGathered, AddsFeature}
+use Rattle.at_run.specs.Labelling.{AreFrontTexts}
+use Rattle.at_run.proofs.LineParts.{read_shape, read_fault, gathered_syntax, found_weaker, owns_feature, adds_feature}
+use Rattle.at_run.proofs.line_queries.LineQuery.add_lent_line.Goals as goal
+
+pub returns-in-Err-clause-own : goal.returns-in-Err-clause-own
+returns-in-Err-clause-own c = c.add_fault.ensures.own c.args.self.now c.requires.own tt
+
+pub returns-in-Err-clause-fold : goal.returns-in-Err-clause-fold
+returns-in-Err-clause-fold c lines before =
+    let text = take c.args.len c.args.ahead.now in
+    c.add_fault.ensures.joins c.args.self.now lines (record { at = c.args.at; text = text } ∷ []) before (gathered_syntax c.args.self.now c.args.at text c.in-Err.fault c.in-Err.ensures)
+
+pub add_lent-requires-clause-feature_in_range : goal.add_lent-requires-clause-feature_in_range
+add_lent-requires-clause-feature_in_range c =
+    let line = c.in-Ok.line in
+    let shape = c.in-Ok-read_line.shape.now in let texts = c.in_ok-texts.texts in
+    let P : Asked → Type 0 = λ asked. HasLineShape asked.digits asked.how line.at (take line.len line.ahead.now) shape in
+    let K : List Test → Type 0 = λ tests. AreFrontTexts tests line.label.now texts in
+    let A : Asked → Type 0 = λ asked. AreFrontTexts asked.query.tests line.label.now texts in
+    (read_shape c.args.self.now c.args.ahead.now c.args.len c.args.at line c.in-Ok.ensures shape texts (subst P c.self.view_is c.in-Ok-read_line.ensures) (subst A c.self.view_is (subst K c.as_slice.ensures c.in_ok-texts.ensures))).in_range
+
+pub returns-in-Ok-read_line-clause-own : goal.returns-in-Ok-read_line-clause-own
+returns-in-Ok-read_line-clause-own c =
+    let read : Feature = record { at = c.args.at; shape = c.in-Ok-read_line.shape.now; texts = c.in_ok-texts.texts } in
+    let P : Asked → Type 0 = λ asked. AddsFeature asked.query read c.args.gathered.now c.add_lent.new.gathered in
+    IfOk-weaker c.add_lent.result _ _ (λ u adds. owns_feature c.args.self.now.query read c.args.gathered.now c.add_lent.new.gathered (subst P c.self.view_is adds) c.requires.own) c.add_lent.ensures
+
+pub returns-in-Ok-read_line-clause-fold : goal.returns-in-Ok-read_line-clause-fold
+returns-in-Ok-read_line-clause-fold c =
+    let line = c.in-Ok.line in
+    let shape = c.in-Ok-read_line.shape.now in let texts = c.in_ok-texts.texts in
+    let read : Feature = record { at = c.args.at; shape = shape; texts = texts } in
+    let text : FileLine = record { at = c.args.at; text = take c.args.len c.args.ahead.now } in
+    let P : Asked → Type 0 = λ asked. HasLineShape asked.digits asked.how line.at (take line.len line.ahead.now) shape in
+    let K : List Test → Type 0 = λ tests. AreFrontTexts tests line.label.now texts in
+    let A : Asked → Type 0 = λ asked. AreFrontTexts asked.query.tests line.label.now texts in
+    let is = read_shape c.args.self.now c.args.ahead.now c.args.len c.args.at line c.in-Ok.ensures shape texts (subst P c.self.view_is c.in-Ok-read_line.ensures) (subst A c.self.view_is (subst K c.as_slice.ensures c.in_ok-texts.ensures)) in
+    let Q : Asked → Type 0 = λ asked. AddsFeature asked.query read c.args.gathered.now c.add_lent.new.gathered in
+    IfOk-weaker c.add_lent.result _ _ (λ u adds. adds_feature c.args.self.now text read c.args.gathered.now c.add_lent.new.gathered is (subst Q c.self.view_is adds)) c.add_lent.ensures
+
+pub returns-clause-own : goal.returns-clause-own
+returns-clause-own c = IfOk-weaker c.add_end.result _ _ (λ u (fault, e, owns, joins). owns c.args.self.now c.requires.own tt) c.add_end.ensures
+
+pub returns-clause-fold : goal.returns-clause-fold
+returns-clause-fold c =
+    let line = c.in-Ok.line in let end = c.in-Err-read_line.end in
+    let text : FileLine = record { at = c.args.at; text = take c.args.len c.args.ahead.now } in
+    let Q : Asked → Type 0 = λ asked. IfFound end (HasFirstLineFault asked.digits asked.how line.at (take line.len line.ahead.now)) in
+    let P : LineFault → Type 0 = λ z. IfFound z (λ fault. IsGathered c.args.self.now (Failed fault) (text ∷ [])) in
+    let found : P end = found_weaker end (HasFirstLineFault c.args.self.now.digits c.args.self.now.how line.at (take line.len line.ahead.now)) (λ fault. IsGathered c.args.self.now (Failed fault) (text ∷ []))
+    (λ fault h. read_fault c.args.self.now c.args.ahead.now c.args.len c.args.at line c.in-Ok.ensures fault h) (subst Q c.self.view_is c.in-Err-read_line.ensures) in
+    IfOk-weaker c.add_end.result _ _ (λ u (fault, e, owns, joins) lines before. joins c.args.self.now lines (text ∷ []) before (subst P e found)) c.add_end.ensures
