@@ -3,7 +3,7 @@ use Rattle.std.proofs.Common.{◌≡◌, ℕ, ◌+◌, ◌-◌, ◌*◌, ◌/◌
 use Rattle.std.proofs.Math.Nat.{mul-le-mul_right}
 use Rattle.std.proofs.Math.ListN.{get_or-append}
 use Rattle.std.proofs.Math.Seq.{get_or-append_seam}
-use Rattle.std.proofs.lemmas.List.{get_or-drop, get_or-take, get_or_past, length-take-le, length-drop}
+use Rattle.std.proofs.lemmas.List.{get_or-drop, get_or-take, get_or_past, get_or_default, length-take-le, length-drop}
 use Rattle.std.proofs.lemmas.Bool.{cases_lt}
 use Rattle.at_geom.specs.declared.rectangles.Extent.{Extent}
 use Rattle.at_geom.specs.Shapes.{encloses}
@@ -11,7 +11,7 @@ use Rattle.at_query.specs.Joined.{around}
 use Rattle.at_join.specs.declared.places.Place.{Place}
 use Rattle.at_join.specs.Boxes.{touch_of}
 use Rattle.at_join.specs.Sides.{Cover}
-use Rattle.at_join.proofs.Extents.{beside, off_itself, covered_off, around_first, around_second}
+use Rattle.at_join.proofs.Extents.{encloses_itself, beside, off_itself, covered_off, around_first, around_second}
 
 -- what stands where a list has no place
 abbrev pub no_extent : Extent
@@ -111,3 +111,10 @@ round_of at covers places x cover is k e from to lt =
     subst (λ (y : Extent). encloses y (get_or places k e).extent ≡ true) (sym is)
     (subst (λ (m : ℕ). encloses (get_or covers (at / 16) x) (get_or places m e).extent ≡ true) here
     (cover (at / 16) j x e (omega (arith, from, to)) (omega (arith, here, lt))))
+
+pub round_one : (at to : ℕ) (places : List Place) (q : Place) → to ≡ at + 1 → at < length places → q ≡ get_or places at q
+    → (k : ℕ) (e : Place) → at ≤ k → k < to → encloses q.extent (get_or places k e).extent ≡ true
+round_one at to places q end lt is k e from below =
+    let here : at ≡ k = omega (arith, from, below, end) in
+    subst (λ (m : ℕ). encloses q.extent (get_or places m e).extent ≡ true) here
+    (subst (λ (p : Place). encloses q.extent p.extent ≡ true) (is ∙ get_or_default places at q e lt) (encloses_itself q.extent))

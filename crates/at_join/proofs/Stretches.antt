@@ -1,5 +1,5 @@
 -- Stretches of a side's places: what is near one, and what is found with these is found with all.
-use Rattle.std.proofs.Common.{◌≡◌, ℕ, ◌+◌, ◌-◌, ◌*◌, ◌/◌, ◌<◌, ◌≤◌, Bool, true, List, [], ◌++◌, length, get_or, take, drop, map, arith, sym, ap, subst, ◌∙◌}
+use Rattle.std.proofs.Common.{◌≡◌, ℕ, ◌+◌, ◌-◌, ◌<◌, ◌≤◌, Bool, true, List, [], ◌++◌, length, get_or, take, drop, map, arith, sym, ap, subst, ◌∙◌}
 use Rattle.std.specs.Prelude.{All, count_by, cond}
 use Rattle.std.proofs.lemmas.List.{get_or-drop, get_or-take, map-id}
 use Rattle.std.proofs.lemmas.List.Elements.{All-take, All-drop, All-weaker, All-from_recursion, recursion_from_All}
@@ -74,13 +74,13 @@ abbrev pub part_of : List Place → ℕ → ℕ → List Place
 part_of xs from to = take (to - from) (drop from xs)
 
 -- with the places near a part of a stretch all its pairs of the rectangle are found
-pub sifts_part : (rect round window : Extent) (a b : List Entry) (xs ys cleared near : List Place) (from to : ℕ) → from < to → to ≤ length xs → to ≤ from / 16 * 16 + 16
-    → ((k : ℕ) (e : Place) → from ≤ k → k < from / 16 * 16 + 16 → k < length xs → encloses round (get_or xs k e).extent ≡ true) → All (λ (q : Place). IsWide q.extent) ys
+pub sifts_part : (rect round window : Extent) (a b : List Entry) (xs ys cleared near : List Place) (from to : ℕ) → from < to → to ≤ length xs
+    → ((k : ℕ) (e : Place) → from ≤ k → k < to → encloses round (get_or xs k e).extent ≡ true) → All (λ (q : Place). IsWide q.extent) ys
     → window ≡ common_of round rect → cleared ≡ [] → Finds (IsInWindow window) itself ys cleared near
     → Sifts (CellHit rect a b) (pairs_of (part_of xs from to) ys) (pairs_of (part_of xs from to) near)
-sifts_part rect round window a b xs ys cleared near from to lt end far inside wide is none h =
+sifts_part rect round window a b xs ys cleared near from to lt end inside wide is none h =
     sifts_near rect round a b (part_of xs from to) ys near
-    (part_all (λ (p : Place). encloses round p.extent ≡ true) xs from to (omega (arith, lt)) end (λ k e f t below. inside k e f (omega (arith, t, far)) below)) wide
+    (part_all (λ (p : Place). encloses round p.extent ≡ true) xs from to (omega (arith, lt)) end (λ k e f t below. inside k e f t)) wide
     (subst (λ (w : Extent). Keeps (IsInWindow w) ys near) is (found_kept (IsInWindow window) ys cleared near none h))
 
 -- what slices of the lists are

@@ -17,7 +17,8 @@ use std::alloc::Global;
 use std::sync::ledger::Ledger;
 
 /// Puts all pairs of the cell of which the shapes meet behind the list. Before each exact test it takes a step. It goes over
-/// the second side once for each 16 places of the first, which mostly lie close together.
+/// the second side once for each 16 places of the first, which mostly lie close together, or where the second is far longer
+/// once for each place, since most of what is near 16 together is then far from each.
 pub(crate) fn push_cell<L: Ledger>(
     alloc: Global,
     a: &Side,
@@ -35,6 +36,7 @@ pub(crate) fn push_cell<L: Ledger>(
     let first = a.entries.as_slice();
     let second = b.entries.as_slice();
     let places = a.places.as_slice();
+    let alone = is_far_longer(b, a);
     let mut near = Vec::new(alloc);
     let mut from = 0;
     while from < places.len() {
@@ -42,9 +44,9 @@ pub(crate) fn push_cell<L: Ledger>(
         if next > from {
             from = next;
         } else {
-            let to = a.stretch_end(from);
+            let to = a.stretch_end(from, alone);
             near.clear();
-            push_near(b, common(a.round(from), rect), &mut near)?;
+            push_near(b, common(a.round(from, to), rect), &mut near)?;
             push_stretch(
                 &places[from..to],
                 near.as_slice(),
@@ -58,6 +60,11 @@ pub(crate) fn push_cell<L: Ledger>(
         }
     }
     Ok(())
+}
+
+/// Whether a side has more than 16 times as many places as another.
+fn is_far_longer(long: &Side, short: &Side) -> bool {
+    long.places.len() / 16 > short.places.len()
 }
 
 /// Puts the pairs of the cell that some places have with others behind the list.

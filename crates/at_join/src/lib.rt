@@ -6,7 +6,8 @@
 //!
 //! Within a cell the pairs are found by runs of 16, 256 and 4,096 neighbouring entries, each with the least extent round them:
 //! where it is off, all of them are passed over at once. The second list is gone over once for each run of 16 of the first, and
-//! each of these looks only at what was near the run. Which entries are neighbours decides the time alone and no answer.
+//! each of these looks only at what was near the run; only where the second is far longer, once for each entry of the first.
+//! Which entries are neighbours decides the time alone and no answer.
 #![tactic(auto)]
 
 mod boxes;

@@ -71,22 +71,28 @@ impl Side {
         at
     }
 
-    /// Where the stretch of 16 places in which this one stands ends.
-    pub(crate) fn stretch_end(&self, at: usize) -> usize
+    /// Where the stretch of 16 places ends in which this one stands, or that of this one alone.
+    pub(crate) fn stretch_end(&self, at: usize, alone: bool) -> usize
         requires { at < length self.now.places.items }
         ensures end { (at < result) × (result ≤ length self.now.places.items) }
         ensures stretch { result ≤ at / 16 * 16 + 16 }
     {
+        if alone {
+            return at + 1;
+        }
         self.places.len().min(at / 16 * 16 + 16)
     }
 
-    /// An extent round the stretch of 16 places in which this one stands.
-    pub(crate) fn round(&self, at: usize) -> Extent
+    /// An extent round some places of one stretch.
+    pub(crate) fn round(&self, from: usize, to: usize) -> Extent
         requires side { IsSide self.now }
-        requires at { at < length self.now.places.items }
-        ensures { (k : ℕ) (e : Place) → at ≤ k → k < at / 16 * 16 + 16 → k < length self.now.places.items
-            → encloses result (slice_index_or self.now.places.items k e).extent ≡ true }
+        requires some { (from < to) × (to ≤ length self.now.places.items) }
+        requires stretch { to ≤ from / 16 * 16 + 16 }
+        ensures { (k : ℕ) (e : Place) → from ≤ k → k < to → encloses result (slice_index_or self.now.places.items k e).extent ≡ true }
     {
-        self.runs[at / 16]
+        if to == from + 1 {
+            return self.places[from].extent;
+        }
+        self.runs[from / 16]
     }
 }

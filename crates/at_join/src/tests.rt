@@ -1,6 +1,6 @@
 //! Tables of lists and their pairs, by every pair, by cells and by crews.
 
-ghost use Rattle.std.specs.Prelude.{◌≡◌, ◌<◌, pos, [], ◌∷◌, IfOk};
+ghost use Rattle.std.specs.Prelude.{◌≡◌, ◌<◌, ◌≤◌, nat_abs, pos, [], ◌∷◌, IfOk};
 ghost use Rattle.at_geom.specs.Segments.{IsInRange};
 ghost use Rattle.at_query.specs.Parts.{AreProper, IsProperEntry};
 ghost use Rattle.at_join.specs.Meetings.{AreInRange};
@@ -125,6 +125,36 @@ fn half_squares(alloc: Global) -> Result<Entries, AllocError>
     two(alloc, first, second)
 }
 
+// A square of 10 units, the numbered one of rows of 8 which lie side by side, moved so far to the right.
+fn square(alloc: Global, number: u32, by: i64) -> Result<Entry, AllocError>
+    requires { (number < 100) × (nat_abs by ≤ 10) }
+    ensures { IfOk result (λ e. IsProperEntry e × (e.at ≡ number)) }
+{
+    let x = (number % 8) as i64 * 10 + by;
+    let y = (number / 8) as i64 * 10;
+    let low = Pos { x, y };
+    let high = Pos {
+        x: x + 10,
+        y: y + 10,
+    };
+    rectangle(alloc, number, low, high)
+}
+
+// The entries of so many squares.
+fn squares(alloc: Global, count: u32, by: i64) -> Result<Entries, AllocError>
+    requires { (count ≤ 100) × (nat_abs by ≤ 10) }
+    ensures proper { IfOk result AreProper }
+    ensures in_range { IfOk result AreInRange }
+{
+    let mut entries = Vec::new(alloc);
+    let mut number = 0;
+    while number < count {
+        entries.push(square(alloc, number, by)?)?;
+        number += 1;
+    }
+    Ok(Entries::from_vec(entries))
+}
+
 // The pairs as a text.
 fn shown(alloc: Global, pairs: &Pairs) -> Result<String, Memory> {
     let mut text = String::new(alloc);
@@ -177,6 +207,26 @@ fn grid_of_two_by_two(rt: HostRuntime) -> Result<(), Fail> {
             shown(alloc, &pairs)?.as_str(),
             "0 41;32 41;32 176;",
             "{workers} workers"
+        );
+    }
+    Ok(())
+}
+
+/// The pairs of lists of several stretches each, also where one is far longer: those of the plain definition.
+#[test]
+fn grid_of_many(rt: HostRuntime) -> Result<(), Fail> {
+    let alloc = rt.alloc();
+    for (first, second, wanted) in [(40u32, 40u32, 195usize), (2, 48, 6), (48, 2, 8)] {
+        assert!(rt; first <= 100 && second <= 100);
+        let a = squares(alloc, first, 0)?;
+        let b = squares(alloc, second, 5)?;
+        let plain = pairs_plain(alloc, &a, &b)?;
+        let pairs = pairs_grid(&rt, alloc, a, b, 4, &Free)?;
+        assert_eq!(rt; pairs.as_slice().len(), wanted, "{first} by {second}");
+        assert_eq!(rt;
+            shown(alloc, &pairs)?.as_str(),
+            shown(alloc, &plain)?.as_str(),
+            "{first} by {second}"
         );
     }
     Ok(())

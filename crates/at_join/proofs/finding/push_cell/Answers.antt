@@ -46,7 +46,7 @@ returns-in_err-push_stretch-clause-steps g c =
     let same : AreSlices c.as_slice-first.result.now c.as_slice-second.result.now a.entries b.entries c.as_slice-places.result.now a.places.items c.as_slice.result.now c.push_near.new.near.items =
     record { of_first = c.as_slice-first.ensures; of_second = c.as_slice-second.ensures; of_places = c.as_slice-places.ensures.value; of_near = c.as_slice.ensures.value } in
     let sifted = sifts_part c.args.rect c.round.result c.common.result a.entries b.entries a.places.items b.places.items c.clear.new.self.items c.push_near.new.near.items from to
-    c.stretch_end-to.ensures.end.0 c.stretch_end-to.ensures.end.1 c.stretch_end-to.ensures.stretch c.round.ensures c.requires.sides.1.wide c.common.ensures c.clear.ensures.items c.in_ok-push_near.ensures in
+    c.stretch_end-to.ensures.end.0 c.stretch_end-to.ensures.end.1 c.round.ensures c.requires.sides.1.wide c.common.ensures c.clear.ensures.items c.in_ok-push_near.ensures in
     let some = part_stepped c.args.rect c.as_slice-first.result.now c.as_slice-second.result.now a.entries b.entries c.as_slice-places.result.now a.places.items b.places.items c.as_slice.result.now c.push_near.new.near.items from to
     c.args.steps.now c.loop-from.steps c.push_stretch.new.steps same c.stretch_end-to.ensures.end.0 sifted c.loop-from.invariant.steps c.in_err-push_stretch.ensures.steps in
     let all = count_rows_least (is_cell_here c.args.rect) a.places.items b.places.items to in
@@ -62,7 +62,7 @@ loop-from-preserved g c =
     let same : AreSlices c.as_slice-first.result.now c.as_slice-second.result.now a.entries b.entries c.as_slice-places.result.now a.places.items c.as_slice.result.now c.push_near.new.near.items =
     record { of_first = c.as_slice-first.ensures; of_second = c.as_slice-second.ensures; of_places = c.as_slice-places.ensures.value; of_near = c.as_slice.ensures.value } in
     let sifted = sifts_part c.args.rect c.round.result c.common.result a.entries b.entries a.places.items b.places.items c.clear.new.self.items c.push_near.new.near.items from to
-    c.stretch_end-to.ensures.end.0 c.stretch_end-to.ensures.end.1 c.stretch_end-to.ensures.stretch c.round.ensures c.requires.sides.1.wide c.common.ensures c.clear.ensures.items c.in_ok-push_near.ensures in
+    c.stretch_end-to.ensures.end.0 c.stretch_end-to.ensures.end.1 c.round.ensures c.requires.sides.1.wide c.common.ensures c.clear.ensures.items c.in_ok-push_near.ensures in
     record {
       pairs = part_found c.args.rect c.as_slice-first.result.now c.as_slice-second.result.now a.entries b.entries c.as_slice-places.result.now a.places.items b.places.items c.as_slice.result.now c.push_near.new.near.items from to
           c.args.pairs.now.items c.loop-from.pairs.items c.push_stretch.new.pairs.items same c.stretch_end-to.ensures.end.0 sifted i.pairs c.in_ok-push_stretch.ensures.pairs;
