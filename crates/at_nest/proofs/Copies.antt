@@ -6,7 +6,6 @@ use Rattle.at_text.specs.declared.texts.Span.{Span}
 use Rattle.at_nest.specs.declared.algebra.Member.{Member}
 use Rattle.at_nest.specs.declared.levels.ArrayState.{ArrayState}
 use Rattle.at_nest.specs.declared.levels.Open.{Open}
-use Rattle.at_nest.specs.declared.levels.Open.TheVariants.{One, Nested}
 use Rattle.at_nest.specs.declared.levels.ObjectState.{ObjectState}
 use Rattle.at_lex.specs.declared.tokens.Start.{Start}
 use Rattle.at_nest.specs.declared.bodies.Body.{Body}
@@ -23,7 +22,7 @@ use Rattle.at_nest.specs.MemberMarks.{MemberMarks, tree_of}
 use Rattle.at_nest.specs.Tree.{Tree, text}
 use Rattle.at_nest.specs.Forms.{Piece, opens, closes, mark, comma, colon, quoted, entry}
 use Rattle.at_nest.specs.Levels.{Level, Form, marks}
-use Rattle.at_nest.specs.Shown.{Held, Shown, array_level, object_level, held_of, helds_of, open_levels, AreOwn, OwnPiece, OwnLevel, OwnBody, shown}
+use Rattle.at_nest.specs.Shown.{Held, Shown, array_level, object_level, top_of, helds_of, open_levels, OwnPiece, OwnLevel, OwnBody, shown}
 use Rattle.at_nest.specs.Holding.{Content, one, run, Holds, Kept, Each, EachMember, IsHeld, EachHeld, IsHeldPiece, EachPiece, ArePieces, AreRow, IsRow, EachNamed, AreMembers, IsTextAt, CopiesNamed, row_marks, row_trees, IsOfItems, CanAdd, IsShown, CopiesItems, CopiesMember, CopiesMembers, CopiesHeld, CopiesLevels, CopiesPiece, CopiesPieces, CopiesShown}
 use Rattle.at_nest.proofs.Held.{held_own, each_own, each_cut, each_append}
 use Rattle.at_nest.proofs.Showing.{pieces_append, pieces_cut}
@@ -214,17 +213,13 @@ module _ {X : Type 0} (IsOwn : X → Type 0) (IsFold : X → Tree → Type 0) (I
   level_cut (x ∷ xs) ys [] h = absurd h
   level_cut (x ∷ xs) ys (l ∷ ls) h = let r = level_cut xs ys ls h.1 in (l ∷ r.0, r.1, (h.0, r.2), r.3)
 
-  last_own : (h : Held X) (ls : List (Level Tree)) → EachHeld (Kept IsOwn IsFold IsRun) (h ∷ []) ls → AreOwn IsOwn h
-  last_own h [] k = absurd k
-  last_own h (l ∷ ls) k = held_own IsOwn IsFold IsRun h l k.0
-
   pub levels_own : (xs : List (Open X)) (ls : List (Level Tree)) → EachHeld (Kept IsOwn IsFold IsRun) (open_levels xs) ls → All (OwnLevel IsOwn) xs
   levels_own [] ls h = All-nil (OwnLevel IsOwn)
   levels_own (x ∷ xs) ls h = let r = level_cut (open_levels xs) (helds_of x) ls h in All-cons (OwnLevel IsOwn) x xs (open_own x r.1 r.3) (levels_own xs r.0 r.2)
     where
       open_own : (x : Open X) (ls : List (Level Tree)) → EachHeld (Kept IsOwn IsFold IsRun) (helds_of x) ls → OwnLevel IsOwn x
-      open_own (One l) ls h = last_own (held_of l) ls h
-      open_own (Nested n) ls h = tt
+      open_own x [] h = absurd h
+      open_own x (l ∷ ls) h = held_own IsOwn IsFold IsRun (top_of x) l h.0
 
   pub body_own : (base : ℕ) (w : List ℕ) (b : Body X) (f : Form Tree) → IsShown (Kept IsOwn IsFold IsRun) base w (shown b) f → OwnBody IsOwn b
   body_own base w b f h = (pieces_own base w b.outer.items f.outer h.0, levels_own b.levels.items f.levels h.1)

@@ -1,18 +1,20 @@
 -- The last of what is open, and arrays with nothing in them that are it.
-use Rattle.std.proofs.Common.{◌≡◌, ℕ, ◌-◌, zero, suc, Option, Some, None, List, [], ◌∷◌, ◌++◌, option_to_list, refl, sym, ◌∙◌, ap, subst, append-nil, append_assoc, arith, length, take, Ok, Err}
+use Rattle.std.proofs.Common.{◌≡◌, ℕ, ◌-◌, zero, suc, Option, Some, None, List, [], ◌∷◌, ◌++◌, option_to_list, refl, sym, ◌∙◌, ap, subst, append-nil, append_assoc, arith, length, take, Ok, Err, MatchOption}
 use Rattle.std.proofs.lemmas.Option.{none-some, same_Some}
 use Rattle.std.specs.List.{slice_get, slice_set}
 use Rattle.at_nest.specs.declared.finishing.Next.{Next}
 use Rattle.at_nest.specs.declared.finishing.Next.TheVariants as next
 use Rattle.at_nest.specs.declared.levels.Nest.{Nest}
+use Rattle.at_nest.specs.declared.levels.Level.{Level as CodeLevel}
 use Rattle.at_nest.specs.declared.levels.Open.{Open}
+use Rattle.at_nest.specs.declared.levels.Open.TheVariants as placed
 use Rattle.at_nest.specs.declared.levels.Open.TheVariants.{Nested}
 use Rattle.at_nest.specs.declared.levels.ArrayState.TheVariants as array
 use Rattle.at_nest.specs.Tree.{Tree}
 use Rattle.at_nest.specs.Levels.{Level}
-use Rattle.at_nest.specs.Shown.{Held, array_level, helds_of, open_levels, nested}
+use Rattle.at_nest.specs.Shown.{Held, array_level, held_of, round_of, helds_of, open_levels, nested}
 use Rattle.at_nest.specs.Holding.{Content, EachHeld, CopiesLevels}
-use Rattle.at_nest.specs.Nests.{PutsLast}
+use Rattle.at_nest.specs.Nests.{nest_in, PutsLast}
 use Rattle.at_nest.specs.Nexts.{levels_next, level_after, IsNoValue}
 use Rattle.at_nest.specs.Refusals.{last_of}
 use Rattle.at_nest.proofs.Showing.{open_last}
@@ -81,6 +83,12 @@ more_nested old new at m n e f g i puts = let (hs, p, q) = puts (Nested m) i in
 pub popped : {X : Type 0} (old new : List (Open X)) (o : Option (Open X)) (x : Open X) → o ≡ Some x → old ≡ new ++ option_to_list o → open_levels old ≡ helds_of x ++ open_levels new
 popped old new o x e f = ap open_levels (f ∙ ap (λ z. new ++ option_to_list z) e) ∙ open_last new x
 
+-- it was a level, since it was no nest
+pub popped_level : {X : Type 0} (old new : List (Open X)) (o : Open X) (r : Option (CodeLevel X)) → nest_in (last_of old) ≡ None → old ≡ new ++ o ∷ [] → MatchOption r ((n : Nest) × (o ≡ Nested n)) (λ l. helds_of o ≡ held_of l ∷ [])
+    → MatchOption r ((open_levels old ≡ []) × (open_levels new ≡ [])) (λ l. open_levels old ≡ held_of l ∷ open_levels new)
+popped_level old new o (Some l) none e h = ap open_levels e ∙ (open_last new o ∙ ap (λ z. z ++ open_levels new) h)
+popped_level old new o None none e (n, f) = absurd (none-some n (sym none ∙ (ap (λ z. nest_in (last_of z)) e ∙ (ap nest_in (last_behind new o) ∙ ap (λ z. nest_in (Some z)) f))))
+
 -- ---- what may stand behind
 
 pub nested_next : (X : Type 0) (last n : ℕ) → levels_next {X = X} (Ok next.Value) (nested last n) ≡ Ok next.Value
@@ -96,6 +104,23 @@ nested_off X last zero k h = first k h ∙ (let e : last ≡ last - 0 = omega ar
     first next.Mark h = refl
     first next.Nothing h = refl
 nested_off X last (suc n) k h = ap (λ z. level_after {X = X} z (array_level last array.Empty [])) (nested_off X (last - 1) n k h) ∙ (let e : (last - 1) - n ≡ last - suc n = omega arith in ap Err e)
+
+-- what is round the innermost level takes a value where it may stand
+pub round_next : {X : Type 0} (o : Open X) → levels_next (Ok next.Value) (round_of o) ≡ Ok next.Value
+round_next {X} (Nested n) = nested_next X (n.last - 1) n.more
+round_next (placed.Array l) = refl
+round_next (placed.Opened i) = refl
+round_next (placed.Named i n) = refl
+round_next (placed.Awaiting i n) = refl
+round_next (placed.Object l) = refl
+
+pub no_round : {X : Type 0} (o : Open X) → ((n : Nest) → o ≡ Nested n → ⊥) → round_of o ≡ []
+no_round (Nested n) h = absurd (h n refl)
+no_round (placed.Array l) h = refl
+no_round (placed.Opened i) h = refl
+no_round (placed.Named i n) h = refl
+no_round (placed.Awaiting i n) h = refl
+no_round (placed.Object l) h = refl
 
 -- ---- copies
 

@@ -254,14 +254,14 @@ module _ {X : Type 0} (K : X → Content → Type 0) where
   marks_closed [] = tt
   marks_closed (x ∷ xs) = marks_closed xs
 
-  closers_closed : (b : Bracket) (i n : ℕ) → AreClosed (closers b i n)
-  closers_closed b i zero = tt
-  closers_closed b i (suc n) = closers_closed b (i + 1) n
+  closers_closed : (b o : Bracket) (i n : ℕ) → AreClosed (closers b o i n)
+  closers_closed b o i zero = tt
+  closers_closed b o i (suc n) = closers_closed o b (i + 1) n
 
   row_closed : (at : ℕ) (w : List ℕ) (c : CodePiece X) (ps : List (Piece Tree)) → AreRow K at w c ps → AreClosed ps
   row_closed at w (RowPiece r) ps h = subst AreClosed (sym h.split) (marks_closed (row_marks ((r.comma, r.first, h.tree) ∷ h.others)))
   row_closed at w (MembersPiece r) ps h = subst AreClosed (sym h.split) (marks_closed (member_marks (h.first ∷ h.others)))
-  row_closed at w (ClosersPiece r) ps h = subst AreClosed (sym h.2) (closers_closed r.bracket r.from (suc h.0))
+  row_closed at w (ClosersPiece r) ps h = subst AreClosed (sym h.2) (closers_closed r.first r.second r.from (suc h.0))
   row_closed at w (Closes b i) ps h = absurd h
   row_closed at w (Comma i) ps h = absurd h
   row_closed at w (Colon i) ps h = absurd h
@@ -290,7 +290,7 @@ module _ {X : Type 0} (K : X → Content → Type 0) where
   row_begins at w (RowPiece r) ps h = in_row (mark (entry r.first h.tree)) (marks (row_marks h.others)) h.split refl
   row_begins at w (MembersPiece r) ps h = in_row (mark (quoted h.first.name_at h.first.characters)) (mark (a_colon h.first.colon_at) ∷ (mark (mark_of h.first.value) ∷ marks (member_marks h.others)))
       (h.split ∙ ap (λ n. mark (a_comma n) ∷ marks (marks_behind_comma h.first (member_marks h.others))) (sym h.comma_is)) refl
-  row_begins at w (ClosersPiece r) ps h = in_closers r.bracket (closers r.bracket (r.from + 1) h.0) h.2 refl
+  row_begins at w (ClosersPiece r) ps h = in_closers r.first (closers r.second r.first (r.from + 1) h.0) h.2 refl
   row_begins at w (Closes b i) ps h = absurd h
   row_begins at w (Comma i) ps h = absurd h
   row_begins at w (Colon i) ps h = absurd h

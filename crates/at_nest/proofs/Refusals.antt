@@ -29,6 +29,7 @@ use Rattle.at_nest.specs.Levels.{Level, Form, full, marks, opened, pieces_of, pl
 use Rattle.at_nest.specs.Stops.{IsDeadHere, AreLevels, IsStop}
 use Rattle.at_nest.specs.Shown.{Held, array_level, object_level, Shown, shown, stop_at, takes_value}
 use Rattle.at_nest.specs.MemberMarks.{ValueMark, string_value, other_value, mark_of, MemberMarks, member_marks}
+use Rattle.at_nest.specs.Closers.{turn}
 use Rattle.at_nest.specs.Holding.{Content, free, closers, row_marks, IsHeld, EachHeld, IsHeldPiece, ArePieces, EachPiece, IsShown, halt_of}
 use Rattle.at_nest.specs.Refusals.{not_behind_value, not_behind_text, not_behind_mark, not_behind_piece, not_behind_last, last_of, not_in, is_refused}
 use Rattle.at_nest.specs.Stands.{HoldsBehind}
@@ -413,7 +414,7 @@ module _ {X : Type 0} (IsKept : X → Content → Type 0) where
   last_is base w c us k (inl (p, e, u)) h = record { front = []; last = p; split = e; refuses = piece_refuses base w c p k u h }
   last_is base w (RowPiece r) us k (inr u) h = let (front, j, t, q) = row_last u.others (r.comma, r.first, u.tree) in record { front = front; last = mark (entry j t); split = u.split ∙ q; refuses = behind_value k h }
   last_is base w (MembersPiece r) us k (inr u) h = let q = members_last u.others u.first in record { front = q.0; last = mark (mark_of q.1); split = u.split ∙ q.2; refuses = behind_member q.1 k h }
-  last_is base w (ClosersPiece r) us k (inr u) h = record { front = closers r.bracket r.from u.0; last = closes r.bracket (r.from + u.0); split = u.2 ∙ sym (closers_more r.bracket r.from u.0); refuses = behind_closer r.bracket k h }
+  last_is base w (ClosersPiece r) us k (inr u) h = record { front = closers r.first r.second r.from u.0; last = closes (turn r.first r.second u.0) (r.from + u.0); split = u.2 ∙ sym (closers_more r.first r.second r.from u.0); refuses = behind_closer (turn r.first r.second u.0) k h }
   last_is base w (Closes b i) us k (inr u) h = absurd u
   last_is base w (Comma i) us k (inr u) h = absurd u
   last_is base w (Colon i) us k (inr u) h = absurd u

@@ -78,14 +78,14 @@ abbrev pub row_trees : List (ℕ × ℕ × Tree) → List Tree
 row_trees [] = []
 row_trees (e ∷ es) = e.2 ∷ row_trees es
 
--- so many closing brackets, one right behind another, the first at the offset
-abbrev pub closers : Bracket → ℕ → ℕ → List (Piece Tree)
-closers b i zero = []
-closers b i (suc n) = closes b i ∷ closers b (i + 1) n
+-- so many closing brackets, one right behind another, whose two kinds take turns, the first at the offset
+abbrev pub closers : Bracket → Bracket → ℕ → ℕ → List (Piece Tree)
+closers b c i zero = []
+closers b c i (suc n) = closes b i ∷ closers c b (i + 1) n
 
 -- at least one
 abbrev pub AreClosers : Closers → List (Piece Tree) → Type 0
-AreClosers r ps = (n : ℕ) × (r.to ≡ r.from + suc n) × (ps ≡ closers r.bracket r.from (suc n))
+AreClosers r ps = (n : ℕ) × (r.to ≡ r.from + suc n) × (ps ≡ closers r.first r.second r.from (suc n))
 
 -- in the bytes w, which stand at `at`, the string stands where the span says
 abbrev pub IsTextAt : ℕ → List ℕ → Span → List Character → Type 0

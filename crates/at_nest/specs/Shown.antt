@@ -9,10 +9,13 @@ use Rattle.at_nest.specs.declared.levels.ArrayState.TheVariants as array
 use Rattle.at_nest.specs.declared.levels.ObjectState.{ObjectState}
 use Rattle.at_nest.specs.declared.levels.ObjectState.TheVariants as object
 use Rattle.at_nest.specs.declared.levels.MemberName.{MemberName}
+use Rattle.at_nest.specs.declared.levels.ArrayLevel.{ArrayLevel}
+use Rattle.at_nest.specs.declared.levels.ObjectLevel.{ObjectLevel}
 use Rattle.at_nest.specs.declared.levels.Level.{Level}
-use Rattle.at_nest.specs.declared.levels.Level.TheVariants.{Array, Object}
+use Rattle.at_nest.specs.declared.levels.Level.TheVariants.{Array, Opened, Named, Awaiting, Object}
 use Rattle.at_nest.specs.declared.levels.Open.{Open}
-use Rattle.at_nest.specs.declared.levels.Open.TheVariants.{One, Nested}
+use Rattle.at_nest.specs.declared.levels.Open.TheVariants as placed
+use Rattle.at_nest.specs.declared.levels.Open.TheVariants.{Nested}
 use Rattle.at_nest.specs.declared.levels.Step.{Step}
 use Rattle.at_nest.specs.declared.levels.Step.TheVariants.{On, Refused}
 use Rattle.at_nest.specs.declared.pieces.Piece.{Piece}
@@ -26,9 +29,18 @@ pub data Held (X : Type 0) : Type 0 where
   array_level : ℕ → ArrayState → List X → Held X
   object_level : ℕ → ObjectState → List (Member X) → Held X
 
+abbrev pub array_held : {X : Type 0} → ArrayLevel X → Held X
+array_held l = array_level l.from l.state l.items.items
+
+abbrev pub object_held : {X : Type 0} → ObjectLevel X → Held X
+object_held l = object_level l.from l.state l.members.items
+
 abbrev pub held_of : {X : Type 0} → Level X → Held X
-held_of (Array l) = array_level l.from l.state l.items.items
-held_of (Object l) = object_level l.from l.state l.members.items
+held_of (Array l) = array_held l
+held_of (Opened i) = object_level i object.Empty []
+held_of (Named i n) = object_level i (object.Named n) []
+held_of (Awaiting i n) = object_level i (object.Colon n) []
+held_of (Object l) = object_held l.value
 
 abbrev pub opened_as : {X : Type 0} → Bracket → ℕ → Held X
 opened_as Square i = array_level i array.Empty []
@@ -94,9 +106,22 @@ abbrev pub nested : {X : Type 0} → ℕ → ℕ → List (Held X)
 nested last zero = []
 nested last (suc n) = array_level last array.Empty [] ∷ nested (last - 1) n
 
+-- the innermost level of those that are open there
+abbrev pub top_of : {X : Type 0} → Open X → Held X
+top_of (placed.Array l) = array_held l
+top_of (placed.Opened i) = object_level i object.Empty []
+top_of (placed.Named i n) = object_level i (object.Named n) []
+top_of (placed.Awaiting i n) = object_level i (object.Colon n) []
+top_of (placed.Object l) = object_held l.value
+top_of (Nested n) = array_level n.last array.Empty []
+
+-- the levels that are round it there
+abbrev pub round_of : {X : Type 0} → Open X → List (Held X)
+round_of (Nested n) = nested (n.last - 1) n.more
+round_of _ = []
+
 abbrev pub helds_of : {X : Type 0} → Open X → List (Held X)
-helds_of (One l) = held_of l ∷ []
-helds_of (Nested n) = nested n.last (suc n.more)
+helds_of o = top_of o ∷ round_of o
 
 -- the open levels, the innermost first
 abbrev pub open_levels : {X : Type 0} → List (Open X) → List (Held X)
@@ -161,8 +186,7 @@ module _ {X : Type 0} (IsOwn : X → Type 0) where
 
 -- each level's atoms are the algebra's own
 abbrev pub OwnLevel : {X : Type 0} → (X → Type 0) → Open X → Type 0
-OwnLevel IsOwn (One l) = AreOwn IsOwn (held_of l)
-OwnLevel IsOwn (Nested n) = ⊤
+OwnLevel IsOwn o = AreOwn IsOwn (top_of o)
 
 abbrev pub OwnBody : {X : Type 0} → (X → Type 0) → Body X → Type 0
 OwnBody IsOwn b = All (OwnPiece IsOwn) b.outer.items × All (OwnLevel IsOwn) b.levels.items

@@ -52,8 +52,7 @@ impl<T: Drop> Body<T> {
         ensures { result ≡ nest_in (last_of self.now.levels.items) }
     {
         match self.levels.as_slice().last() {
-            Some(Open::Nested(nest)) => Some(*nest),
-            Some(Open::One(_)) => None,
+            Some(open) => open.nest(),
             None => None,
         }
     }
@@ -104,8 +103,7 @@ impl<T: Drop> Body<T> {
             (λ l. (shown self.old).levels ≡ held_of l ∷ (shown self.new).levels) }
     {
         match self.levels.pop() {
-            Some(Open::One(level)) => Some(level),
-            Some(Open::Nested(_nest)) => None,
+            Some(open) => open.level(),
             None => None,
         }
     }
@@ -130,8 +128,7 @@ impl<T: Drop> Body<T> {
         ensures { result ≡ is_refused (shown self.now) kind }
     {
         match self.levels.as_slice().last() {
-            Some(Open::One(level)) => level.refuses(kind),
-            Some(Open::Nested(_nest)) => false,
+            Some(open) => open.refuses(kind),
             None => match self.outer.as_slice().last() {
                 Some(piece) => piece.refuses(kind),
                 None => false,
@@ -144,7 +141,7 @@ impl<T: Drop> Body<T> {
     fn push(&mut self, level: Level<T>) -> Result<(), Memory>
         ensures { IfOk result (λ u. shown self.new ≡ show_as (shown self.old).outer (held_of level ∷ (shown self.old).levels)) }
     {
-        self.levels.push(Open::One(level))?;
+        self.levels.push(Open::of(level))?;
         Ok(())
     }
 
@@ -525,7 +522,7 @@ fn put_row<A: Algebra>(
             let items = with_items(alloc, algebra, items, row.items)?;
             body.put(Step::On(array(from, ArrayState::Value, items)), row.first)
         }
-        Level::Object(level) => body.put(Step::Refused(Level::Object(level)), row.first),
+        level => body.put(Step::Refused(level), row.first),
     }
 }
 
@@ -561,7 +558,7 @@ fn close_all<A: Algebra>(
         (shown body.old) (shown body.new) r closers) }
 {
     for at in closers.from..closers.to {
-        let halt = close(body, alloc, algebra, closers.bracket, at)?;
+        let halt = close(body, alloc, algebra, closers.kind_at(at), at)?;
         if halt.is_some() {
             return Ok(halt);
         }

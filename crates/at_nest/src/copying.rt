@@ -2,13 +2,13 @@
 
 ghost use Rattle.std.specs.Prelude.{◌≡◌, ℕ, All, List, IfOk};
 ghost use Rattle.at_lex.specs.declared.tokens.Start.{Start};
-ghost use Rattle.at_nest.specs.Shown.{held_of, helds_of, shown, open_levels, AreOwn, OwnPiece, OwnLevel, OwnBody};
+ghost use Rattle.at_nest.specs.Shown.{array_held, object_held, helds_of, shown, open_levels, AreOwn, OwnPiece, OwnLevel, OwnBody};
 ghost use Rattle.at_nest.specs.Holding.{Kept, CopiesItems, CopiesMember, CopiesMembers, CopiesNamed, CopiesHeld, CopiesLevels, CopiesPiece, CopiesPieces, CopiesShown};
 ghost use Rattle.at_nest.specs.Stands.{HoldsVariant};
 
 use crate::algebra::{Algebra, Member};
 use crate::bodies::Body;
-use crate::levels::{ArrayLevel, Level, MemberName, ObjectLevel, ObjectState, Open};
+use crate::levels::{ArrayLevel, MemberName, ObjectLevel, ObjectState, Open};
 use crate::pieces::{MemberRow, NamedValue, Piece, Row};
 use crate::variants::Variant;
 use at_text::Memory;
@@ -80,26 +80,34 @@ fn copy_members<A: Algebra>(
     Ok(copied)
 }
 
-fn copy_level<A: Algebra>(
+fn copy_array<A: Algebra>(
     alloc: Global,
     algebra: &A,
-    level: &Level<A::Atom>,
-) -> Result<Level<A::Atom>, Memory>
-    requires { AreOwn (A.is_own algebra.now) (held_of level.now) }
-    ensures { IfOk result (λ l. CopiesHeld (Kept (A.is_own algebra.now) (A.is_fold algebra.now) (A.is_run algebra.now)) (held_of level.now) (held_of l)) }
+    level: &ArrayLevel<A::Atom>,
+) -> Result<ArrayLevel<A::Atom>, Memory>
+    requires { AreOwn (A.is_own algebra.now) (array_held level.now) }
+    ensures { IfOk result (λ l. CopiesHeld (Kept (A.is_own algebra.now) (A.is_fold algebra.now) (A.is_run algebra.now)) (array_held level.now) (array_held l)) }
 {
-    match level {
-        Level::Array(level) => Ok(Level::Array(ArrayLevel {
-            from: level.from,
-            state: level.state,
-            items: copy_items(alloc, algebra, &level.items)?,
-        })),
-        Level::Object(level) => Ok(Level::Object(ObjectLevel {
-            from: level.from,
-            state: copy_state(alloc, &level.state)?,
-            members: copy_members(alloc, algebra, &level.members)?,
-        })),
-    }
+    Ok(ArrayLevel {
+        from: level.from,
+        state: level.state,
+        items: copy_items(alloc, algebra, &level.items)?,
+    })
+}
+
+fn copy_object<A: Algebra>(
+    alloc: Global,
+    algebra: &A,
+    level: &ObjectLevel<A::Atom>,
+) -> Result<ObjectLevel<A::Atom>, Memory>
+    requires { AreOwn (A.is_own algebra.now) (object_held level.now) }
+    ensures { IfOk result (λ l. CopiesHeld (Kept (A.is_own algebra.now) (A.is_fold algebra.now) (A.is_run algebra.now)) (object_held level.now) (object_held l)) }
+{
+    Ok(ObjectLevel {
+        from: level.from,
+        state: copy_state(alloc, &level.state)?,
+        members: copy_members(alloc, algebra, &level.members)?,
+    })
 }
 
 fn copy_open<A: Algebra>(
@@ -111,7 +119,22 @@ fn copy_open<A: Algebra>(
     ensures { IfOk result (λ o. CopiesLevels (Kept (A.is_own algebra.now) (A.is_fold algebra.now) (A.is_run algebra.now)) (helds_of level.now) (helds_of o)) }
 {
     match level {
-        Open::One(level) => Ok(Open::One(copy_level(alloc, algebra, level)?)),
+        Open::Array(level) => Ok(Open::Array(copy_array(alloc, algebra, level)?)),
+        Open::Opened(from) => Ok(Open::Opened(*from)),
+        Open::Named { from, name } => {
+            let from = *from;
+            let name = copy_name(alloc, name)?;
+            Ok(Open::Named { from, name })
+        }
+        Open::Awaiting { from, name } => {
+            let from = *from;
+            let name = copy_name(alloc, name)?;
+            Ok(Open::Awaiting { from, name })
+        }
+        Open::Object(level) => {
+            let level = copy_object(alloc, algebra, &**level)?;
+            Ok(Open::Object(Box::new(alloc, level)?))
+        }
         Open::Nested(nest) => Ok(Open::Nested(*nest)),
     }
 }

@@ -5,7 +5,7 @@ ghost use Rattle.at_text.specs.Spans.{part_of};
 ghost use Rattle.at_text.specs.Texts.{base_of as base_in};
 ghost use Rattle.at_lex.specs.Runs.{JsonRun};
 ghost use Rattle.at_lex.specs.Spans.{begins_run};
-ghost use Rattle.at_nest.specs.Shown.{held_of, helds_of, shown, open_levels};
+ghost use Rattle.at_nest.specs.Shown.{helds_of, top_of, shown, open_levels};
 ghost use Rattle.at_nest.specs.declared.finishing.Next.{Next};
 ghost use Rattle.at_nest.specs.declared.finishing.Next.TheVariants as next;
 ghost use Rattle.at_nest.specs.Holding.{Kept, IsOfItems};
@@ -19,7 +19,7 @@ ghost use Rattle.at_nest.specs.Ending.{Answers};
 use crate::algebra::Algebra;
 use crate::bodies::{Body, read_value};
 use crate::fragments::Fragment;
-use crate::levels::{Level, Open};
+use crate::levels::Open;
 use crate::pieces::{Halt, Piece, Within};
 use crate::tokens::stop_in;
 use crate::variants::{Variant, join_items};
@@ -79,9 +79,9 @@ impl Next {
     }
 }
 
-/// What may stand behind the items of an open level.
-fn next_in<T: Drop>(level: &Level<T>) -> Next
-    ensures { result ≡ level_next (held_of level.now) }
+/// What may stand behind the items of the innermost open level.
+fn next_in<T: Drop>(level: &Open<T>) -> Next
+    ensures { result ≡ level_next (top_of level.now) }
 {
     if level.wants_value() {
         Next::Value
@@ -111,23 +111,13 @@ fn outer_next<T: Drop>(outer: &[Piece<T>]) -> Result<Next, u32>
     }
 }
 
-/// What may stand behind open levels of which the outermost may stand where it does.
-fn next_behind<T: Drop>(level: &Open<T>) -> Next
-    ensures { Ok result ≡ levels_end (Ok next.Value) (helds_of level.now) }
-{
-    match level {
-        Open::One(level) => next_in(level),
-        Open::Nested(_) => Next::Value,
-    }
-}
-
 /// The offset of the outermost one's bracket.
 fn first_of<T: Drop>(level: &Open<T>) -> u32
     ensures { (n : Next) → IsNoValue n → levels_end (Ok n) (helds_of level.now) ≡ Err result }
 {
     match level {
-        Open::One(level) => level.first(),
         Open::Nested(nest) => nest.last.saturating_sub(nest.more),
+        level => level.first(),
     }
 }
 
@@ -139,7 +129,7 @@ fn levels_next<T: Drop>(next: Next, levels: &[Open<T>]) -> Result<Next, u32>
     for level in levels {
         match next {
             Next::Value => {
-                next = next_behind(level);
+                next = next_in(level);
             }
             _ => return Err(first_of(level)),
         }

@@ -1,16 +1,18 @@
 //! An open array or object: what stands in it so far, and what may stand next (RFC 8259 sections 4 and 5).
 
-ghost use Rattle.std.specs.Prelude.{◌≡◌, [], All, IfOk, IsTrue};
+ghost use Rattle.std.specs.Prelude.{◌≡◌, [], ◌∷◌, Some, All, IfOk, MatchOption};
 ghost use Rattle.at_nest.specs.Tree.{Tree};
 ghost use Rattle.at_nest.specs.Levels.{Level as ModelLevel, built};
-ghost use Rattle.at_nest.specs.Shown.{held_of, opened_as, from_of, comma_next, colon_next, value_next, name_next, takes_name, takes_value, closes_with, IsStep, AreOwn};
+ghost use Rattle.at_nest.specs.Shown.{held_of, helds_of, top_of, opened_as, from_of, comma_next, colon_next, value_next, name_next, takes_name, takes_value, closes_with, IsStep, AreOwn};
 ghost use Rattle.at_nest.specs.Refusals.{not_in_level};
+ghost use Rattle.at_nest.specs.Nests.{nest_in};
 ghost use Rattle.at_nest.specs.Holding.{Kept, IsHeld, AddsTo, GainsAll, free};
 
 use crate::algebra::{Algebra, Member};
 use at_lex::{Bracket, TokenKind, Units};
 use at_text::Memory;
 use std::alloc::Global;
+use std::mem;
 
 /// What an open array ends in.
 #[derive(Clone, Copy)]
@@ -61,11 +63,17 @@ pub struct ObjectLevel<T> {
     pub members: Vec<Member<T>>,
 }
 
-/// What is open.
+/// What is open, taken out of the others. An object without members takes no memory of its own.
 #[derive(Drop)]
 pub enum Level<T> {
     Array(ArrayLevel<T>),
-    Object(ObjectLevel<T>),
+    /// An object behind its bracket, which stands at the offset.
+    Opened(u32),
+    /// An object behind its first name.
+    Named { from: u32, name: MemberName },
+    /// An object behind its first name and the colon.
+    Awaiting { from: u32, name: MemberName },
+    Object(Box<ObjectLevel<T>>),
 }
 
 /// Arrays with nothing in them, each right in the next.
@@ -77,10 +85,16 @@ pub struct Nest {
     pub more: u32,
 }
 
-/// A level, or many that take no room of their own.
+/// What is open, in its place among the others: a level in one of its forms, or arrays that take no room of their own.
+///
+/// A file may open a million levels, so none takes more room here than an array with the vector of its items.
 #[derive(Drop)]
 pub enum Open<T> {
-    One(Level<T>),
+    Array(ArrayLevel<T>),
+    Opened(u32),
+    Named { from: u32, name: MemberName },
+    Awaiting { from: u32, name: MemberName },
+    Object(Box<ObjectLevel<T>>),
     Nested(Nest),
 }
 
@@ -99,18 +113,6 @@ pub fn array<T>(from: u32, state: ArrayState, items: Vec<T>) -> Level<T>
     Level::Array(ArrayLevel { from, state, items })
 }
 
-/// An object that goes on.
-#[inline(always)]
-pub fn object<T>(from: u32, state: ObjectState, members: Vec<Member<T>>) -> Level<T>
-    ensures { result ≡ Level.Object (record { from = from; state = state; members = members }) }
-{
-    Level::Object(ObjectLevel {
-        from,
-        state,
-        members,
-    })
-}
-
 impl<T: Drop> ArrayLevel<T> {
     #[inline(always)]
     fn comma(self) -> Step<T>
@@ -124,78 +126,101 @@ impl<T: Drop> ArrayLevel<T> {
     }
 }
 
-impl<T: Drop> ObjectLevel<T> {
-    #[inline(always)]
-    fn comma(self) -> Step<T>
-        ensures { IsStep (held_of (Level.Object self)) (comma_next (held_of (Level.Object self))) result }
-    {
-        let ObjectLevel {
-            from,
-            state,
-            members,
-        } = self;
-        match state {
-            ObjectState::Value => Step::On(object(from, ObjectState::Comma, members)),
-            state => Step::Refused(object(from, state, members)),
+/// An object behind a comma.
+#[inline(always)]
+fn object_comma<T: Drop>(mut level: Box<ObjectLevel<T>>) -> Step<T>
+    ensures { IsStep (held_of (Level.Object level)) (comma_next (held_of (Level.Object level))) result }
+{
+    match level.state {
+        ObjectState::Value => {
+            level.state = ObjectState::Comma;
+            Step::On(Level::Object(level))
         }
+        _ => Step::Refused(Level::Object(level)),
     }
+}
 
-    #[inline(always)]
-    fn colon(self) -> Step<T>
-        ensures { IsStep (held_of (Level.Object self)) (colon_next (held_of (Level.Object self))) result }
-    {
-        let ObjectLevel {
-            from,
-            state,
-            members,
-        } = self;
-        match state {
-            ObjectState::Named(name) => Step::On(object(from, ObjectState::Colon(name), members)),
-            state => Step::Refused(object(from, state, members)),
+/// An object behind a colon.
+#[inline(always)]
+fn object_colon<T: Drop>(mut level: Box<ObjectLevel<T>>) -> Step<T>
+    ensures { IsStep (held_of (Level.Object level)) (colon_next (held_of (Level.Object level))) result }
+{
+    match mem::replace(&mut level.state, ObjectState::Empty) {
+        ObjectState::Named(name) => {
+            level.state = ObjectState::Colon(name);
+            Step::On(Level::Object(level))
+        }
+        state => {
+            level.state = state;
+            Step::Refused(Level::Object(level))
         }
     }
+}
 
-    #[inline(always)]
-    fn value(self, atom: T) -> Result<Step<T>, Memory>
-        ensures { IfOk result (λ step. IsStep (held_of (Level.Object self)) (value_next (held_of (Level.Object self)) atom []) step) }
-    {
-        let ObjectLevel {
-            from,
-            state,
-            mut members,
-        } = self;
-        match state {
-            ObjectState::Colon(name) => {
-                let MemberName { units, at } = name;
-                members.push(Member {
-                    name: units,
-                    name_at: at,
-                    value: atom,
-                })?;
-                Ok(Step::On(object(from, ObjectState::Value, members)))
-            }
-            state => Ok(Step::Refused(object(from, state, members))),
+/// An object behind a name.
+#[inline(always)]
+fn object_name<T: Drop>(mut level: Box<ObjectLevel<T>>, name: MemberName) -> Step<T>
+    ensures { IsStep (held_of (Level.Object level)) (name_next (held_of (Level.Object level)) name) result }
+{
+    match level.state {
+        ObjectState::Empty | ObjectState::Comma => {
+            level.state = ObjectState::Named(name);
+            Step::On(Level::Object(level))
         }
+        _ => Step::Refused(Level::Object(level)),
     }
+}
 
-    #[inline(always)]
-    fn name(self, name: MemberName) -> Step<T>
-        ensures { IsStep (held_of (Level.Object self)) (name_next (held_of (Level.Object self)) name) result }
-    {
-        let ObjectLevel {
-            from,
-            state,
-            members,
-        } = self;
-        match state {
-            ObjectState::Empty | ObjectState::Comma => Step::On(object(
-                from,
-                ObjectState::Named(name),
-                members,
-            )),
-            state => Step::Refused(object(from, state, members)),
+/// An object behind a value, which has become the atom.
+#[inline(always)]
+fn object_value<T: Drop>(mut level: Box<ObjectLevel<T>>, atom: T) -> Result<Step<T>, Memory>
+    ensures { IfOk result (λ step. IsStep (held_of (Level.Object level)) (value_next (held_of (Level.Object level)) atom []) step) }
+{
+    match mem::replace(&mut level.state, ObjectState::Value) {
+        ObjectState::Colon(name) => {
+            level.members.push(member(name, atom))?;
+            Ok(Step::On(Level::Object(level)))
+        }
+        state => {
+            level.state = state;
+            Ok(Step::Refused(Level::Object(level)))
         }
     }
+}
+
+/// A member of the name and the value.
+#[inline(always)]
+fn member<T>(name: MemberName, value: T) -> Member<T>
+    ensures { result ≡ record { name = name.units; name_at = name.at; value = value } }
+{
+    let MemberName { units, at } = name;
+    Member {
+        name: units,
+        name_at: at,
+        value,
+    }
+}
+
+/// An object behind its first member.
+fn first_member<T: Drop>(
+    alloc: Global,
+    from: u32,
+    name: MemberName,
+    atom: T,
+) -> Result<Level<T>, Memory>
+    ensures { IfOk result (λ l. Some (held_of l) ≡ value_next (held_of (Level.Awaiting from name)) atom []) }
+{
+    let mut members = Vec::with_capacity(alloc, 1)?;
+    members.push(member(name, atom))?;
+    let level = Box::new(
+        alloc,
+        ObjectLevel {
+            from,
+            state: ObjectState::Value,
+            members,
+        },
+    )?;
+    Ok(Level::Object(level))
 }
 
 impl<T: Drop> Level<T> {
@@ -206,7 +231,7 @@ impl<T: Drop> Level<T> {
     {
         match bracket {
             Bracket::Square => array(from, ArrayState::Empty, Vec::new(alloc)),
-            Bracket::Brace => object(from, ObjectState::Empty, Vec::new(alloc)),
+            Bracket::Brace => Level::Opened(from),
         }
     }
 
@@ -217,6 +242,9 @@ impl<T: Drop> Level<T> {
     {
         match self {
             Level::Array(level) => level.from,
+            Level::Opened(from) => *from,
+            Level::Named { from, .. } => *from,
+            Level::Awaiting { from, .. } => *from,
             Level::Object(level) => level.from,
         }
     }
@@ -228,7 +256,8 @@ impl<T: Drop> Level<T> {
     {
         match self {
             Level::Array(level) => level.comma(),
-            Level::Object(level) => level.comma(),
+            Level::Object(level) => object_comma(level),
+            level => Step::Refused(level),
         }
     }
 
@@ -238,8 +267,9 @@ impl<T: Drop> Level<T> {
         ensures { IsStep (held_of self) (colon_next (held_of self)) result }
     {
         match self {
-            Level::Array(level) => Step::Refused(Level::Array(level)),
-            Level::Object(level) => level.colon(),
+            Level::Named { from, name } => Step::On(Level::Awaiting { from, name }),
+            Level::Object(level) => object_colon(level),
+            level => Step::Refused(level),
         }
     }
 
@@ -249,8 +279,9 @@ impl<T: Drop> Level<T> {
         ensures { IsStep (held_of self) (name_next (held_of self) name) result }
     {
         match self {
-            Level::Array(level) => Step::Refused(Level::Array(level)),
-            Level::Object(level) => level.name(name),
+            Level::Opened(from) => Step::On(Level::Named { from, name }),
+            Level::Object(level) => object_name(level, name),
+            level => Step::Refused(level),
         }
     }
 
@@ -260,38 +291,11 @@ impl<T: Drop> Level<T> {
         ensures { result ≡ takes_name (held_of self.now) }
     {
         match self {
-            Level::Array(_) => false,
+            Level::Opened(_) => true,
             Level::Object(level) => match level.state {
                 ObjectState::Empty | ObjectState::Comma => true,
                 _ => false,
             },
-        }
-    }
-
-    /// Whether a value may come next.
-    #[inline(always)]
-    pub fn wants_value(&self) -> bool
-        ensures { result ≡ takes_value (held_of self.now) }
-    {
-        match self {
-            Level::Array(level) => match level.state {
-                ArrayState::Value => false,
-                _ => true,
-            },
-            Level::Object(level) => match level.state {
-                ObjectState::Colon(_) => true,
-                _ => false,
-            },
-        }
-    }
-
-    /// Whether no token of the kind may come next: an opening bracket, where no value may.
-    #[inline(always)]
-    pub fn refuses(&self, kind: TokenKind) -> bool
-        ensures { result ≡ not_in_level (held_of self.now) kind }
-    {
-        match kind {
-            TokenKind::Opens(_) => !self.wants_value(),
             _ => false,
         }
     }
@@ -306,10 +310,112 @@ impl<T: Drop> Level<T> {
                 ArrayState::Comma => false,
                 _ => true,
             },
+            (Level::Opened(_), Bracket::Brace) => true,
             (Level::Object(level), Bracket::Brace) => match level.state {
                 ObjectState::Empty | ObjectState::Value => true,
                 _ => false,
             },
+            _ => false,
+        }
+    }
+}
+
+impl<T: Drop> Open<T> {
+    /// The level in its place among the others.
+    #[inline(always)]
+    pub fn of(level: Level<T>) -> Self
+        ensures { helds_of result ≡ held_of level ∷ [] }
+    {
+        match level {
+            Level::Array(level) => Open::Array(level),
+            Level::Opened(from) => Open::Opened(from),
+            Level::Named { from, name } => Open::Named { from, name },
+            Level::Awaiting { from, name } => Open::Awaiting { from, name },
+            Level::Object(level) => Open::Object(level),
+        }
+    }
+
+    /// The level, where it is no nest.
+    #[inline(always)]
+    pub fn level(self) -> Option<Level<T>>
+        ensures { MatchOption result ((n : Nest) × (self ≡ Open.Nested n)) (λ l. helds_of self ≡ held_of l ∷ []) }
+    {
+        match self {
+            Open::Array(level) => Some(Level::Array(level)),
+            Open::Opened(from) => Some(Level::Opened(from)),
+            Open::Named { from, name } => Some(Level::Named { from, name }),
+            Open::Awaiting { from, name } => Some(Level::Awaiting { from, name }),
+            Open::Object(level) => Some(Level::Object(level)),
+            Open::Nested(_nest) => None,
+        }
+    }
+
+    /// The nest, if it is one.
+    #[inline(always)]
+    pub fn nest(&self) -> Option<Nest>
+        ensures { result ≡ nest_in (Some self.now) }
+    {
+        match self {
+            Open::Nested(nest) => Some(*nest),
+            _ => None,
+        }
+    }
+
+    /// The offset of the innermost opening bracket.
+    pub fn first(&self) -> u32
+        ensures { result ≡ from_of (top_of self.now) }
+    {
+        match self {
+            Open::Array(level) => level.from,
+            Open::Opened(from) => *from,
+            Open::Named { from, .. } => *from,
+            Open::Awaiting { from, .. } => *from,
+            Open::Object(level) => level.from,
+            Open::Nested(nest) => nest.last,
+        }
+    }
+
+    /// Whether a name may come next.
+    pub fn wants_name(&self) -> bool
+        ensures { result ≡ takes_name (top_of self.now) }
+    {
+        match self {
+            Open::Opened(_) => true,
+            Open::Object(level) => match level.state {
+                ObjectState::Empty | ObjectState::Comma => true,
+                _ => false,
+            },
+            _ => false,
+        }
+    }
+
+    /// Whether a value may come next.
+    #[inline(always)]
+    pub fn wants_value(&self) -> bool
+        ensures { result ≡ takes_value (top_of self.now) }
+    {
+        match self {
+            Open::Array(level) => match level.state {
+                ArrayState::Value => false,
+                _ => true,
+            },
+            Open::Awaiting { .. } => true,
+            Open::Object(level) => match level.state {
+                ObjectState::Colon(_) => true,
+                _ => false,
+            },
+            Open::Nested(_) => true,
+            _ => false,
+        }
+    }
+
+    /// Whether no token of the kind may come next: an opening bracket, where no value may.
+    #[inline(always)]
+    pub fn refuses(&self, kind: TokenKind) -> bool
+        ensures { result ≡ not_in_level (top_of self.now) kind }
+    {
+        match kind {
+            TokenKind::Opens(_) => !self.wants_value(),
             _ => false,
         }
     }
@@ -357,7 +463,9 @@ pub fn with_value<A: Algebra>(
 {
     match level {
         Level::Array(level) => array_value(alloc, algebra, level, atom),
-        Level::Object(level) => level.value(atom),
+        Level::Awaiting { from, name } => Ok(Step::On(first_member(alloc, from, name, atom)?)),
+        Level::Object(level) => object_value(level, atom),
+        level => Ok(Step::Refused(level)),
     }
 }
 
@@ -393,6 +501,12 @@ pub fn closed<A: Algebra>(
 {
     match level {
         Level::Array(ArrayLevel { from, items, .. }) => algebra.array(alloc, from, items),
-        Level::Object(ObjectLevel { from, members, .. }) => algebra.object(alloc, from, members),
+        Level::Opened(from) => algebra.object(alloc, from, Vec::new(alloc)),
+        Level::Named { from, .. } => algebra.object(alloc, from, Vec::new(alloc)),
+        Level::Awaiting { from, .. } => algebra.object(alloc, from, Vec::new(alloc)),
+        Level::Object(level) => {
+            let ObjectLevel { from, members, .. } = Box::into_inner(level);
+            algebra.object(alloc, from, members)
+        }
     }
 }

@@ -7,7 +7,7 @@ ghost use Rattle.at_nest.specs.Holding.{Kept, IsOfItems, HasName, HasMembers, Is
 
 use crate::algebra::{Algebra, Member};
 use crate::bodies::Body;
-use crate::levels::{ArrayLevel, Level, ObjectLevel, ObjectState, Step, object, with_value};
+use crate::levels::{ArrayLevel, Level, ObjectLevel, ObjectState, Step, with_value};
 use crate::pieces::{Awaited, Halt, MemberRow, NamedValue, Piece};
 use at_lex::units;
 use at_text::Memory;
@@ -181,13 +181,18 @@ fn put_members<A: Algebra>(
 {
     match level {
         Level::Array(level) => refuse_members(body, alloc, algebra, bytes, level, row),
-        Level::Object(ObjectLevel { from, members, .. }) => {
+        Level::Object(level) => {
+            let ObjectLevel { from, members, .. } = Box::into_inner(level);
             let members = with_members(alloc, algebra, bytes, members, row.items)?;
-            body.put(
-                Step::On(object(from, ObjectState::Value, members)),
-                row.comma,
-            )
+            let state = ObjectState::Value;
+            let level = ObjectLevel {
+                from,
+                state,
+                members,
+            };
+            body.put(Step::On(Level::Object(Box::new(alloc, level)?)), row.comma)
         }
+        level => body.put(Step::Refused(level), row.comma),
     }
 }
 

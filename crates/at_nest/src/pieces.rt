@@ -1,8 +1,8 @@
 //! What stands in a span before its first open level, and where a span stops.
 
-ghost use Rattle.std.specs.Prelude.{◌≡◌, ◌+◌, true, IfSome};
+ghost use Rattle.std.specs.Prelude.{◌≡◌, ◌+◌, ◌-◌, ◌≤◌, true, IfSome};
 ghost use Rattle.at_nest.specs.Shown.{stop_at, first_of_piece, is_value_piece};
-ghost use Rattle.at_nest.specs.Closers.{IsLonger};
+ghost use Rattle.at_nest.specs.Closers.{IsLonger, turn};
 ghost use Rattle.at_nest.specs.MemberMarks.{Awaits};
 ghost use Rattle.at_nest.specs.Refusals.{not_behind_value as none_behind_value, not_behind_text as none_behind_text, not_behind_mark as none_behind_mark, not_behind_piece};
 
@@ -47,14 +47,31 @@ pub struct Awaited {
     pub colon: u32,
 }
 
-/// Closing brackets of one kind, one right behind another.
+/// Closing brackets one right behind another, whose two kinds take turns. The two may be one.
 #[derive(Clone, Copy)]
 pub struct Closers {
-    pub bracket: Bracket,
+    /// The kind of the first bracket, the third and so on.
+    pub first: Bracket,
+    /// The kind of the others.
+    pub second: Bracket,
     /// The offset of the first.
     pub from: u32,
     /// The offset behind the last.
     pub to: u32,
+}
+
+impl Closers {
+    /// The kind whose turn it is at the offset.
+    pub fn kind_at(self, at: u32) -> Bracket
+        requires { self.from ≤ at }
+        ensures { result ≡ turn self.first self.second (at - self.from) }
+    {
+        if (at - self.from) % 2 == 0 {
+            self.first
+        } else {
+            self.second
+        }
+    }
 }
 
 /// An item of a span whose level was opened before the span, or several one behind another.
@@ -116,7 +133,7 @@ impl<T: Drop> Piece<T> {
         }
     }
 
-    /// It with the closing bracket at the offset, where that stands right behind it and is of its kind.
+    /// It with the closing bracket at the offset, where that stands right behind it and it is its kind's turn.
     pub fn longer(&self, bracket: Bracket, at: u32) -> Option<Closers>
         ensures { IfSome result (IsLonger self.now bracket at) }
     {
@@ -140,11 +157,12 @@ fn is_same(left: Bracket, right: Bracket) -> bool
 
 /// Two closing brackets, where the second stands right behind the first.
 fn two_closers(first: Bracket, from: u32, bracket: Bracket, at: u32) -> Option<Closers>
-    ensures { IfSome result (λ r. (first ≡ bracket) × (r.bracket ≡ bracket) × (r.from ≡ from) × (at ≡ from + 1) × (r.to ≡ at + 1)) }
+    ensures { IfSome result (λ r. (r.first ≡ first) × (r.second ≡ bracket) × (r.from ≡ from) × (at ≡ from + 1) × (r.to ≡ at + 1)) }
 {
-    if from < at && at - from == 1 && at < u32::MAX && is_same(first, bracket) {
+    if from < at && at - from == 1 && at < u32::MAX {
         return Some(Closers {
-            bracket,
+            first,
+            second: bracket,
             from,
             to: at + 1,
         });
@@ -152,15 +170,19 @@ fn two_closers(first: Bracket, from: u32, bracket: Bracket, at: u32) -> Option<C
     None
 }
 
-/// A closing bracket more, where it stands right behind.
+/// A closing bracket more, where it stands right behind and it is its kind's turn.
 fn more_closers(closers: Closers, bracket: Bracket, at: u32) -> Option<Closers>
-    ensures { IfSome result (λ r. (closers.bracket ≡ bracket) × (r.bracket ≡ bracket) × (r.from ≡ closers.from) × (at ≡ closers.to) × (r.to ≡ at + 1)) }
+    ensures { IfSome result (λ r. (r.first ≡ closers.first) × (r.second ≡ closers.second) × (r.from ≡ closers.from) × (at ≡ closers.to)
+        × (bracket ≡ turn closers.first closers.second (closers.to - closers.from)) × (r.to ≡ at + 1)) }
 {
-    if closers.to == at && at < u32::MAX && is_same(closers.bracket, bracket) {
+    if closers.to == at
+        && closers.from < at
+        && at < u32::MAX
+        && is_same(bracket, closers.kind_at(at))
+    {
         return Some(Closers {
-            bracket,
-            from: closers.from,
             to: at + 1,
+            ..closers
         });
     }
     None

@@ -10,11 +10,14 @@ mod leaping;
 mod slow;
 mod tally;
 
+use super::levels::Open;
 use super::*;
+use crate::variants::Variant;
 use at_text::{Span, base_of};
 use leaping::Leaping;
 use slow::slow_nest;
 use std::alloc::Global;
+use std::mem::size_of;
 use std::process::Abort;
 use std::test::Fail;
 use tally::{Counted, Tally};
@@ -194,6 +197,97 @@ fn compare_cuts<R: Abort + AllocGlobal>(rt: &R, text: &[u8], expected: Result<u6
     }
 }
 
+/// The answer of a text that is cut at the two places, of which the two pieces behind are joined first.
+fn answer_from_right(alloc: Global, bytes: &[u8], first: u32, second: u32) -> Result<u64, NestEnd>
+    requires fits { length bytes.now ≤ 2 ^ 28 }
+    requires order { first ≤ second }
+    requires end { second ≤ length bytes.now }
+{
+    let end = bytes.len() as u32;
+    let left = piece(alloc, &Tally, bytes, 0, first);
+    let middle = piece(alloc, &Tally, bytes, first, second);
+    let right = piece(alloc, &Tally, bytes, second, end);
+    let span = Span {
+        from: first,
+        to: end,
+    };
+    let behind = joined(alloc, &Tally, bytes, span, second, middle, right);
+    let span = Span { from: 0, to: end };
+    let whole = joined(alloc, &Tally, bytes, span, first, left, behind);
+    finish_span(alloc, &Tally, bytes, span, whole)
+}
+
+fn compare_from_right<R: Abort + AllocGlobal>(rt: &R, text: &[u8], expected: Result<u64, NestEnd>) {
+    assert!(rt; text.len() < 100);
+    let end = text.len() as u32;
+    for first in 0..=end {
+        for second in first..=end {
+            assert_eq!(rt;
+                answer_from_right(rt.alloc(), text, first, second),
+                expected,
+                "{text:?} at {first} and {second}, from the right"
+            );
+        }
+    }
+}
+
+/// Closing brackets one right behind another meet their openings wherever the text is cut and whichever pieces are
+/// joined first; a bracket of the wrong kind among them is the fault.
+#[test]
+fn closing_rows(rt: HostRuntime) {
+    let rows: [(&'static [u8], Result<u64, NestEnd>); 12] = [
+        (b"{\"a\":[{\"a\":[1]}]}", Ok(5)),
+        (b"[[{\"a\":[{\"a\":1}]}]]", Ok(6)),
+        (b"{\"a\":{\"a\":[[1]]}}", Ok(5)),
+        (b"{\"a\":[{\"a\":[1] }]}", Ok(5)),
+        (b"{\"a\":[{\"a\":[1]}]", Err(NestEnd::Ended)),
+        (b"{\"a\":[{\"a\":[1}]}", Err(NestEnd::Syntax(13))),
+        (b"{\"a\":[{\"a\":[1]]}}", Err(NestEnd::Syntax(14))),
+        (b"[{\"a\":[{\"a\":1}}]}]", Err(NestEnd::Syntax(14))),
+        (b"{\"a\":{\"a\":[[1]}]}", Err(NestEnd::Syntax(14))),
+        (b"{\"a\":{\"a\":[[1]]]}", Err(NestEnd::Syntax(15))),
+        (b"{\"a\":[{\"a\":[1]}]]", Err(NestEnd::Syntax(16))),
+        (b"{\"a\":[{\"a\":[1]}]}]}", Err(NestEnd::Syntax(17))),
+    ];
+    for (text, expected) in rows.iter() {
+        assert!(rt; text.len() < 100);
+        compare_cuts(&rt, text, *expected);
+        compare_from_right(&rt, text, *expected);
+    }
+}
+
+/// How many items a piece keeps before its first open level.
+fn items_kept(alloc: Global, text: &[u8]) -> Option<usize>
+    requires { length text.now ≤ 2 ^ 28 }
+{
+    let parts = run_block(alloc, &Tally, text, 0).into_parts()?;
+    match &parts.out {
+        Variant::Whole { body, .. } => Some(body.outer.len()),
+        _ => None,
+    }
+}
+
+/// Closing brackets one right behind another are one item where their kinds take turns.
+#[test]
+fn closing_items(rt: HostRuntime) {
+    let rows: [(&'static [u8], usize); 10] = [
+        (b"]", 1),
+        (b"]}", 1),
+        (b"]]]]", 1),
+        (b"]}]}", 1),
+        (b"}]}]}]}", 1),
+        (b"]]}}", 2),
+        (b"]}}", 2),
+        (b"}]}]]", 2),
+        (b"] }", 2),
+        (b"]},1}]", 3),
+    ];
+    for (text, items) in rows.iter() {
+        assert!(rt; text.len() < 100);
+        assert_eq!(rt; items_kept(rt.alloc(), text), Some(*items), "{text:?}");
+    }
+}
+
 fn compare_each<R: Abort + AllocGlobal>(rt: &R, texts: &[&'static [u8]]) {
     for text in texts {
         assert!(rt; text.len() < 100);
@@ -234,6 +328,91 @@ fn every_cut(rt: HostRuntime) {
         b"\"a string, {not} [a] \\\"text\\\": \\\\",
     ];
     compare_each(&rt, texts.as_slice());
+}
+
+/// The fragment of the span, put together of that of its first byte and that of the others.
+fn by_first_byte<A: Algebra>(alloc: Global, algebra: &A, bytes: &[u8], span: Span) -> Fragment<A>
+    requires fits { length bytes.now ≤ 2 ^ 28 }
+    requires order { span.from < span.to }
+    requires end { span.to ≤ length bytes.now }
+    ensures { StandsFor (Kept (A.is_own algebra.now) (A.is_fold algebra.now) (A.is_run algebra.now)) span.from (part_of bytes.now span.from span.to) result }
+{
+    let at = span.from + 1;
+    let left = piece(alloc, algebra, bytes, span.from, at);
+    let right = piece(alloc, algebra, bytes, at, span.to);
+    joined(alloc, algebra, bytes, span, at, left, right)
+}
+
+/// The answer of a text that is put together from its end on. Where the span begins with a quote, what is kept of its
+/// other bytes is copied, since they stand in a string both behind the quote and behind an escaped one.
+fn copied_answer(alloc: Global, bytes: &[u8], span: Span) -> Result<u64, NestEnd>
+    requires fits { length bytes.now ≤ 2 ^ 28 }
+    requires order { span.from < span.to }
+    requires end { span.to ≤ length bytes.now }
+{
+    let end = bytes.len() as u32;
+    let behind = Span {
+        from: span.from,
+        to: end,
+    };
+    let middle = by_first_byte(alloc, &Tally, bytes, span);
+    let last = piece(alloc, &Tally, bytes, span.to, end);
+    let last = joined(alloc, &Tally, bytes, behind, span.to, middle, last);
+    let first = piece(alloc, &Tally, bytes, 0, span.from);
+    let whole = Span { from: 0, to: end };
+    let fragment = joined(alloc, &Tally, bytes, whole, span.from, first, last);
+    finish_span(alloc, &Tally, bytes, whole, fragment)
+}
+
+fn compare_copies<R: Abort + AllocGlobal>(rt: &R, text: &[u8], expected: Result<u64, NestEnd>) {
+    assert!(rt; text.len() < 100);
+    let end = text.len() as u32;
+    for to in 1..=end {
+        for from in 0..to {
+            assert_eq!(rt;
+                copied_answer(rt.alloc(), text, Span { from, to }),
+                expected,
+                "{text:?} from {from} to {to}"
+            );
+        }
+    }
+}
+
+fn compare_whole<R: Abort + AllocGlobal>(rt: &R, rows: &[(&'static [u8], Result<u64, NestEnd>)]) {
+    for (text, expected) in rows {
+        compare_cuts(rt, text, *expected);
+        compare_copies(rt, text, *expected);
+    }
+}
+
+/// An open level takes as many bytes among the others as an array does, however large an atom is.
+#[test]
+fn bytes_of_a_level(rt: HostRuntime) {
+    assert_eq!(rt; size_of::<Open<u64>>(), 40);
+    assert_eq!(rt; size_of::<Open<[u64; 8]>>(), 40);
+}
+
+/// Objects that are cut, and copied, where they are open: behind the bracket, a name, a colon, a member and a comma,
+/// each with what may stand there and with what may not.
+#[test]
+fn open_objects(rt: HostRuntime) {
+    let rows: [(&'static [u8], Result<u64, NestEnd>); 14] = [
+        (b"{\"a\":{\"b\":{\"c\":1}}}", Ok(4)),
+        (b"{\"a\":{\"a name\":{\"a longer name\":[]}}}", Ok(4)),
+        (b"[{\"a\":1,\"b\":{\"c\":[{}],\"d\":2}}]", Ok(7)),
+        (b"{\"a\":[{},{\"b\":1}],\"c\":{}}", Ok(6)),
+        (b"{\"a\":{\"b\":{", Err(NestEnd::Ended)),
+        (b"{\"a\":{\"b\":", Err(NestEnd::Ended)),
+        (b"{\"a\":{\"b\"}}", Err(NestEnd::Syntax(9))),
+        (b"{\"a\":{\"b\" 1}}", Err(NestEnd::Syntax(10))),
+        (b"{\"a\":{\"b\":,1}}", Err(NestEnd::Syntax(10))),
+        (b"{\"a\":{\"b\":}}", Err(NestEnd::Syntax(10))),
+        (b"{\"a\":{,}}", Err(NestEnd::Syntax(6))),
+        (b"{\"a\":{[]:1}}", Err(NestEnd::Syntax(6))),
+        (b"{\"a\":[{\"b\":1,\"c\"::2}]}", Err(NestEnd::Syntax(17))),
+        (b"{\"a\":{\"b\":{\"c\":1,}}}", Err(NestEnd::Syntax(17))),
+    ];
+    compare_whole(&rt, rows.as_slice());
 }
 
 fn compare_leaps<R: Abort + AllocGlobal>(rt: &R, texts: &[&'static [u8]]) {

@@ -5,4 +5,4 @@ use Rattle.at_nest.proofs.Closers.{Closed}
 use Rattle.at_nest.proofs.bodies.close_all.Given as goal
 
 abbrev pub invariant-loop-at : goal.invariant-loop-at
-invariant-loop-at g l = Closed (Kept (g.A.Algebra.is_own l.algebra) (g.A.Algebra.is_fold l.algebra) (g.A.Algebra.is_run l.algebra)) (shown l.fn.body) (shown l.body) l.closers.bracket l.closers.from l.closers.to l.at
+invariant-loop-at g l = Closed (Kept (g.A.Algebra.is_own l.algebra) (g.A.Algebra.is_fold l.algebra) (g.A.Algebra.is_run l.algebra)) (shown l.fn.body) (shown l.body) l.closers l.at

@@ -1,9 +1,8 @@
-use Rattle.std.proofs.Common.{ap, ◌∙◌, List}
+use Rattle.std.proofs.Common.{ap, ◌∙◌, ◌++◌, List}
 use Rattle.at_nest.specs.declared.levels.Open.{Open}
-use Rattle.at_nest.specs.declared.levels.Open.TheVariants.{One}
 use Rattle.at_nest.specs.Shown.{show_as, open_levels}
 use Rattle.at_nest.proofs.Showing.{open_last}
 use Rattle.at_nest.proofs.bodies.Body.push.Goals as goal
 
 pub returns : goal.returns
-returns g c = ap (λ (z : List (Open g.row.T.Denot)). show_as c.args.self.now.outer.items (open_levels z)) c.in_ok-push.ensures.items ∙ ap (λ z. show_as c.args.self.now.outer.items z) (open_last c.args.self.now.levels.items (One c.args.level))
+returns g c = ap (λ (z : List (Open g.row.T.Denot)). show_as c.args.self.now.outer.items (open_levels z)) c.in_ok-push.ensures.items ∙ ap (λ z. show_as c.args.self.now.outer.items z) (open_last c.args.self.now.levels.items c.of.result ∙ ap (λ z. z ++ open_levels c.args.self.now.levels.items) c.of.ensures)
