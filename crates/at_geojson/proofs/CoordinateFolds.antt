@@ -20,8 +20,8 @@ use Rattle.at_geojson.specs.declared.atoms.GeoAtom.TheVariants as atoms
 use Rattle.at_geojson.specs.Names.{items_of}
 use Rattle.at_geojson.specs.Coordinates.{each, number_at, position_of, position_of_numbers, positions_of, lists_of, area_of, areas_of, if_some_items}
 use Rattle.at_geojson.specs.Keeping.{Asked, needs_shapes, kept}
-use Rattle.at_geojson.specs.Atoms.{nowhere, NumberView, PositionView, PointsView, ListsView, as_number, as_position, as_points, as_area, as_areas, Alike, IsNumber, IsPosition, IsPoints, IsLists, IsArea, IsAreas, IsRead}
-use Rattle.at_geojson.specs.Gathering.{seen, firsts, are_all, number_value, number_fault, position_value, position_fault, position_atom, position_made, closes, closes_at, closes_with, last_atom, to_four, MakesPoints, fault_as_line, fault_as_ring, path_in, MakesLists, area_fault, rings_in, polygon_in, MakesAreas}
+use Rattle.at_geojson.specs.Atoms.{nowhere, to_four, NumberView, PositionView, PointsView, ListsView, as_number, as_position, as_points, as_area, as_areas, Alike, IsNumber, IsPosition, IsPoints, IsLists, IsArea, IsAreas, IsRead}
+use Rattle.at_geojson.specs.Gathering.{seen, firsts, are_all, number_value, number_fault, position_value, position_fault, position_atom, position_made, closes, closes_at, closes_with, last_atom, MakesPoints, fault_as_line, fault_as_ring, path_in, MakesLists, area_fault, rings_in, polygon_in, MakesAreas}
 use Rattle.at_geojson.proofs.Firsts.{firsts-cons}
 use Rattle.at_geojson.proofs.Each.{folds_map, none_left, none_behind, Is, EachIs, all_some, some_none, firsts_each, values_each, length_each}
 use Rattle.at_geojson.proofs.SortFacts.{is_number, is_position, is_points, is_area, all_same}
@@ -38,7 +38,7 @@ one_of (Some f) = refl
 four : (n : ℕ) → to_four (suc (suc (suc (suc n)))) ≡ 4
 four n = ap (λ b. if b then suc (suc (suc (suc n))) else 4) (let l : 4 ≤ suc (suc (suc (suc n))) = omega arith in le-ltb (suc (suc (suc (suc n)))) 4 l)
 
-line_to_four : (n at : ℕ) → line_fault (to_four n) at ≡ line_fault n at
+pub line_to_four : (n at : ℕ) → line_fault (to_four n) at ≡ line_fault n at
 line_to_four zero at = refl
 line_to_four (suc zero) at = refl
 line_to_four (suc (suc zero)) at = refl
@@ -46,7 +46,7 @@ line_to_four (suc (suc (suc zero))) at = refl
 line_to_four (suc (suc (suc (suc n)))) at = ap (λ k. line_fault k at) (four n)
     ∙ ap (λ b. if b then Some (fault_at Short at) else None) (sym (let l : 2 ≤ suc (suc (suc (suc n))) = omega arith in le-ltb (suc (suc (suc (suc n)))) 2 l))
 
-ring_to_four : (n : ℕ) (b : Bool) (at : ℕ) → ring_fault (to_four n) b at ≡ ring_fault n b at
+pub ring_to_four : (n : ℕ) (b : Bool) (at : ℕ) → ring_fault (to_four n) b at ≡ ring_fault n b at
 ring_to_four zero b at = refl
 ring_to_four (suc zero) b at = refl
 ring_to_four (suc (suc zero)) b at = refl
@@ -55,13 +55,13 @@ ring_to_four (suc (suc (suc (suc n)))) b at = ap (λ k. ring_fault k b at) (four
     ∙ ap (λ c. if c || not b then Some (fault_at Ring at) else None) (sym (let l : 4 ≤ suc (suc (suc (suc n))) = omega arith in le-ltb (suc (suc (suc (suc n)))) 4 l))
 
 -- the first fault of what is wrong with the whole and with the items
-whole_and_items : (o : Option Fault) (fs : List Fault) (p : Option Fault) → p ≡ first_of fs → first_fault o p ≡ first_of (option_to_list o ++ fs)
+pub whole_and_items : (o : Option Fault) (fs : List Fault) (p : Option Fault) → p ≡ first_of fs → first_fault o p ≡ first_of (option_to_list o ++ fs)
 whole_and_items o fs p e = ap (first_fault o) e ∙ (ap (λ z. first_fault z (first_of fs)) (sym (one_of o)) ∙ sym (first_of-append (option_to_list o) fs))
 
 pub items_none : (o : Option Fault) (fs : List Fault) → first_of (option_to_list o ++ fs) ≡ None → first_of fs ≡ None
 items_none o fs e = none_behind (first_of (option_to_list o)) (first_of fs) (sym (first_of-append (option_to_list o) fs) ∙ e)
 
-none_tells : (fs : List Fault) → is_none (first_of fs) ≡ elim fs [ [] ↦ true | f ∷ gs ↦ false ]
+pub none_tells : (fs : List Fault) → is_none (first_of fs) ≡ elim fs [ [] ↦ true | f ∷ gs ↦ false ]
 none_tells [] = refl
 none_tells (f ∷ fs) = go (first_of fs) where
   pick : (b : Bool) (g : Fault) → is_none (if b then Some f else Some g) ≡ false
@@ -170,10 +170,10 @@ module _ (asked : Asked) where
 
   -- ---- positions
 
-  position_fault_is : (a : GeoAtom) (p : Position) → IsPosit a p → position_fault a ≡ first_of (position_faults asked.digits asked.how p)
+  pub position_fault_is : (a : GeoAtom) (p : Position) → IsPosit a p → position_fault a ≡ first_of (position_faults asked.digits asked.how p)
   position_fault_is a p i = ap (seen None (λ (v : PositionView). v.fault)) i.1 ∙ i.2.0
 
-  position_value_is : (a : GeoAtom) (p : Position) → IsPosit a p → position_fault a ≡ None → position_value a ≡ pos_of asked.digits asked.how p
+  pub position_value_is : (a : GeoAtom) (p : Position) → IsPosit a p → position_fault a ≡ None → position_value a ≡ pos_of asked.digits asked.how p
   position_value_is a p i e = ap (seen nowhere (λ (v : PositionView). v.pos)) i.1 ∙ i.2.1 (sym (ap (seen None (λ (v : PositionView). v.fault)) i.1) ∙ e)
 
   faultless_is : (a : GeoAtom) (p : Position) → IsPosit a p → is_none (position_fault a) ≡ is_faultless asked.digits asked.how p

@@ -1,5 +1,5 @@
 -- What a copy is in each role is what the atom is.
-use Rattle.std.proofs.Common.{◌≡◌, inl, inr, List, Option, Some, All, refl, sym, ◌∙◌, ap, subst}
+use Rattle.std.proofs.Common.{◌≡◌, inl, inr, ℕ, List, Option, Some, All, refl, sym, ◌∙◌, ap, subst}
 use Rattle.std.proofs.lemmas.Option.{none-some}
 use Rattle.at_text.specs.declared.faults.Fault.{Fault}
 use Rattle.at_geom.specs.declared.positions.Pos.{Pos}
@@ -15,7 +15,7 @@ use Rattle.at_geojson.specs.Keeping.{Asked, needs_shapes}
 use Rattle.at_geojson.specs.Coordinates.{number_at, position_of, positions_of, lists_of, area_of, areas_of}
 use Rattle.at_geojson.specs.Roles.{geometry_reading, items_reading, item_reading, texts_of}
 use Rattle.at_geojson.specs.Keeping.{asked_texts}
-use Rattle.at_geojson.specs.Atoms.{as_run, no_roles, lists_view, IsRun, AreJoined, AreSeries, PointsView, ListsView, AreasView, both_forms, array_trees, object_members, Alike, HasShape, HasPart, IsNumber, IsPosition, IsPoints, IsLists, IsArea, IsAreas, items_features, IsRoot, role_geometry, role_item, IsOwnRole, AreOwnItems, IsRead, IsFold, IsOwn, twin_of, at_of, is_null, is_empty, as_kind, as_text, as_number, as_position, as_points, as_lists, as_area, as_areas, as_geometries, as_features, role_of, as_texts}
+use Rattle.at_geojson.specs.Atoms.{as_run, no_roles, lists_view, track_view, IsRun, AreJoined, AreSeries, AreTracked, TrackView, PointsView, ListsView, AreasView, both_forms, array_trees, object_members, Alike, HasShape, HasPart, IsNumber, IsPosition, IsPoints, IsLists, IsArea, IsAreas, items_features, IsRoot, role_geometry, role_item, IsOwnRole, AreOwnItems, IsRead, IsFold, IsOwn, twin_of, at_of, is_null, is_empty, as_kind, as_text, as_number, as_position, as_points, as_lists, as_area, as_areas, as_geometries, as_features, role_of, as_texts}
 use Rattle.at_geojson.specs.Copies.{IsCopy}
 
 abbrev points_view : List Pos → Option Fault → Option Fault → Option Fault → PointsView
@@ -23,6 +23,9 @@ points_view p a c e = record { path = p; as_points = a; as_line = c; as_ring = e
 
 abbrev view_of_lists : List (List Pos) → Option Fault → Option Fault → ListsView
 view_of_lists p a c = record { paths = p; as_lines = a; as_rings = c }
+
+abbrev view_of_track : Option Pos → Option Pos → ℕ → Option Fault → List Pos → TrackView
+view_of_track f l n a p = record { first = f; last = l; count = n; fault = a; path = p }
 
 abbrev areas_view : List Polygon → Option Fault → AreasView
 areas_view p a = record { polygons = p; fault = a }
@@ -35,6 +38,9 @@ view_same {p} {q} {a} {b} {c} {d} h i j = ap (λ z. view_of_lists z b d) h ∙ (
 
 lists_same : {p q : List (List Pos)} {a b c d : Option Fault} → q ≡ p → b ≡ a → d ≡ c → Some (view_of_lists q b d) ≡ Some (view_of_lists p a c)
 lists_same h i j = ap (λ v. Some v) (view_same h i j)
+
+pub track_same : {f g l k : Option Pos} {m n : ℕ} {a b : Option Fault} {p q : List Pos} → g ≡ f → k ≡ l → n ≡ m → b ≡ a → q ≡ p → view_of_track g k n b q ≡ view_of_track f l m a p
+track_same {f} {g} {l} {k} {m} {n} {a} {b} {p} {q} h i j o r = ap (λ z. view_of_track z k n b q) h ∙ (ap (λ z. view_of_track f z n b q) i ∙ (ap (λ z. view_of_track f l z b q) j ∙ (ap (λ z. view_of_track f l m z q) o ∙ ap (λ z. view_of_track f l m a z) r)))
 
 areas_same : {p q : List Polygon} {a b : Option Fault} → q ≡ p → b ≡ a → Some (areas_view q b) ≡ Some (areas_view p a)
 areas_same {p} {q} {a} {b} h i = ap (λ z. Some (areas_view z b)) h ∙ ap (λ z. Some (areas_view p z)) i
@@ -106,6 +112,7 @@ module _ (asked : Asked) where
   copy_folds (atoms.Object x) b c t h = subst (λ z. IsFold asked z t) (sym c.1) (fold_same (atoms.Object x) (atoms.Object c.0) t (record { twin = refl; at = c.2; single = refl; null = refl; empty = refl; kind = refl; text = refl; number = refl; position = refl; points = refl; lists = refl; area = refl; areas = refl; geometries = refl; features = refl; role = ap (λ (i : Roles). i.role) c.3; texts = ap (λ (i : Roles). Some i.texts) c.3 }) h)
   copy_folds (atoms.Run x) b c t h = absurd (none-some x.value (sym (h.read refl).single))
   copy_folds (atoms.Series x) b c t h = absurd (none-some (no_roles x.at) (sym (h.read refl).single))
+  copy_folds (atoms.Track x) b c t h = absurd (none-some (no_roles x.at) (sym (h.read refl).single))
 
   pub copy_own : (a b : GeoAtom) → IsCopy a b → IsOwn asked a → IsOwn asked b
   copy_own (atoms.Twin f) b c h = subst (IsOwn asked) (sym c) h
@@ -126,9 +133,13 @@ module _ (asked : Asked) where
   copy_own (atoms.Object x) b c h = subst (IsOwn asked) (sym c.1) (subst (λ (i : Roles). IsOwnRole asked i.role) (sym c.3) h)
   copy_own (atoms.Run x) b c h = subst (IsOwn asked) (sym c.1) (subst (AreOwnItems asked) (sym c.2) h)
   copy_own (atoms.Series x) b c h = subst (IsOwn asked) (sym c.1) (subst ArePathsInRange (sym c.2.1.0) h)
+  copy_own (atoms.Track x) b c h = subst (IsOwn asked) (sym c.1) (subst (All IsInRange) (sym c.2.1.4) h)
 
   pub copy_run : (a b : GeoAtom) → IsCopy a b → (ts : List Tree) → IsRun asked a ts → IsRun asked b ts
   copy_run a b c ts (inl (x, e, r)) = let (y, q, s) = subst (λ z. IsCopy z b) e c in inl (y, q, subst (λ i. AreJoined asked i ts) (sym s) r)
-  copy_run a b c ts (inr (x, e, r)) =
+  copy_run a b c ts (inr (inl (x, e, r))) =
       let (y, q, s) = subst (λ z. IsCopy z b) e c in
-      inr (y, q, subst (λ n. AreSeries asked n (lists_view y.lists.value) ts) (sym s.0) (subst (λ v. AreSeries asked x.at v ts) (sym (view_same s.1.0 s.1.1 s.1.2)) r))
+      inr (inl (y, q, subst (λ n. AreSeries asked n (lists_view y.lists.value) ts) (sym s.0) (subst (λ v. AreSeries asked x.at v ts) (sym (view_same s.1.0 s.1.1 s.1.2)) r)))
+  copy_run a b c ts (inr (inr (x, e, r))) =
+      let (y, q, s) = subst (λ z. IsCopy z b) e c in
+      inr (inr (y, q, subst (λ n. AreTracked asked n (track_view y.track.value) ts) (sym s.0) (subst (λ v. AreTracked asked x.at v ts) (sym (track_same s.1.0 s.1.1 s.1.2 s.1.3 s.1.4)) r)))

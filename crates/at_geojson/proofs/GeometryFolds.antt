@@ -142,6 +142,7 @@ module _ (asked : Asked) where
   not_nil (atoms.Object x) t r n e = subst (Alike (IsLists asked) None) (nil_lists t e) r.coordinates.lists
   not_nil (atoms.Run x) t r n e = absurd (none-some x.value (sym r.single))
   not_nil (atoms.Series s) t r n e = absurd (none-some (no_roles s.at) (sym r.single))
+  not_nil (atoms.Track x) t r n e = absurd (none-some (no_roles x.at) (sym r.single))
 
   abbrev of_geometry : wkt.Geometry → Reading
   of_geometry g = record { shape = shape_of asked.digits asked.how g; faults = faults_of asked.digits asked.how g }

@@ -140,7 +140,11 @@ module _ (asked : Asked) where
     subst (λ z. HasShape (needs_shapes asked.query) z (items_reading asked.digits asked.how (trees ts))) (sym (eg ∙ ap item_geometries e)) j.have.0,
     subst (λ z. HasPart asked.query z (items_features asked (trees ts))) (sym (ef ∙ ap item_features e)) j.have.1,
   )
-  have_covers a ts one eg ef (inr (inr (s, e, j))) = (
+  have_covers a ts one eg ef (inr (inr (inl (s, e, j)))) = (
+    subst (λ z. HasShape (needs_shapes asked.query) z (items_reading asked.digits asked.how (trees ts))) (sym (eg ∙ ap item_geometries e)) j.have.0,
+    subst (λ z. HasPart asked.query z (items_features asked (trees ts))) (sym (ef ∙ ap item_features e)) j.have.1,
+  )
+  have_covers a ts one eg ef (inr (inr (inr (t, e, j)))) = (
     subst (λ z. HasShape (needs_shapes asked.query) z (items_reading asked.digits asked.how (trees ts))) (sym (eg ∙ ap item_geometries e)) j.have.0,
     subst (λ z. HasPart asked.query z (items_features asked (trees ts))) (sym (ef ∙ ap item_features e)) j.have.1,
   )

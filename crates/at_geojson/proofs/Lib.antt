@@ -13,6 +13,7 @@ pub mod RunFolds
 pub mod ListRoles
 pub mod MixedFolds
 pub mod SeriesFolds
+pub mod TrackFolds
 pub mod ArrayAnswers
 pub mod GeometryFolds
 pub mod MemberFolds

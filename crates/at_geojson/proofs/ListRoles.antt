@@ -1,4 +1,4 @@
--- Trees one behind another: what a list of positions is not, and what is read of joined lists of trees.
+-- Trees one behind another: what a position and a list of positions are not, and what is read of joined lists of trees.
 use Rattle.std.proofs.Common.{◌≡◌, ℕ, List, [], ◌∷◌, ◌++◌, Option, Some, None, refl, sym, ◌∙◌, ap, option_map, option_and_then}
 use Rattle.std.proofs.lemmas.Option.{none-some}
 use Rattle.at_fixed.specs.Numerals.{Numeral}
@@ -47,16 +47,16 @@ module _ {Y : Type 0} (f : Tree → Option Y) where
   none_back [] vs e = e
   none_back (u ∷ us) vs e = behind (f u) (each f (us ++ vs)) (none_back us vs e)
 
-  -- at least one tree, of which each is a list of positions, and f gives nothing of such
-  pub no_list_each : ((t : Tree) (p : Positions) → positions_of t ≡ Some p → f t ≡ None) → (us : List Tree) (ps : Positions) (ls : List Positions) → each positions_of us ≡ Some (ps ∷ ls) → each f us ≡ None
-  no_list_each n [] ps ls e = absurd (no_more (same_Some [] (ps ∷ ls) e)) where
-    no_more : [] ≡ ps ∷ ls → ⊥
-    no_more k = none-some ps (ap (λ (z : List Positions). elim z [ [] ↦ None | x ∷ xs ↦ Some x ]) k)
-  no_list_each n (u ∷ us) ps ls e = let (y, rest, p, q, k) = parts (positions_of u) (each positions_of us) (ps ∷ ls) e in none_here u us (n u y p)
+  -- at least one tree, of which each is of g's kind, and f gives nothing of such
+  pub no_each : {Z : Type 0} (g : Tree → Option Z) → ((t : Tree) (z : Z) → g t ≡ Some z → f t ≡ None) → (us : List Tree) (z : Z) (zs : List Z) → each g us ≡ Some (z ∷ zs) → each f us ≡ None
+  no_each {Z} g n [] z zs e = absurd (no_more (same_Some [] (z ∷ zs) e)) where
+    no_more : [] ≡ z ∷ zs → ⊥
+    no_more k = none-some z (ap (λ (w : List Z). elim w [ [] ↦ None | x ∷ xs ↦ Some x ]) k)
+  no_each g n (u ∷ us) z zs e = let (y, rest, p, q, k) = parts (g u) (each g us) (z ∷ zs) e in none_here u us (n u y p)
 
 -- ---- a tree with one role has no other
 
-position_no_number : (t : Tree) (p : Position) → position_of t ≡ Some p → number_at t ≡ None
+pub position_no_number : (t : Tree) (p : Position) → position_of t ≡ Some p → number_at t ≡ None
 position_no_number (array i ts) p e = refl
 position_no_number (literal i l) p e = absurd (none-some p e)
 position_no_number (number i n) p e = absurd (none-some p e)
@@ -92,12 +92,30 @@ numbers_no_list : (i : ℕ) (zs : List Tree) (p : Position) → option_and_then 
 numbers_no_list i [] p e = absurd (none-some p e)
 numbers_no_list i (z ∷ zs) p e = let (n, k) = first_number (number_at z) (each number_at zs) p e in ap (listed i) (none_here position_of z zs (number_no_position z n k))
 
-position_no_list : (t : Tree) (p : Position) → position_of t ≡ Some p → positions_of t ≡ None
+pub position_no_list : (t : Tree) (p : Position) → position_of t ≡ Some p → positions_of t ≡ None
 position_no_list (array i ts) p e = numbers_no_list i (items_of ts) p e
 position_no_list (literal i l) p e = absurd (none-some p e)
 position_no_list (number i n) p e = absurd (none-some p e)
 position_no_list (text i cs) p e = absurd (none-some p e)
 position_no_list (object i ms) p e = absurd (none-some p e)
+
+number_no_list : (t : Tree) (n : Numeral × ℕ) → number_at t ≡ Some n → positions_of t ≡ None
+number_no_list (number i m) n e = refl
+number_no_list (array i ts) n e = absurd (none-some n e)
+number_no_list (literal i l) n e = absurd (none-some n e)
+number_no_list (text i cs) n e = absurd (none-some n e)
+number_no_list (object i ms) n e = absurd (none-some n e)
+
+numbers_no_area : (zs : List Tree) (p : Position) → option_and_then position_of_numbers (each number_at zs) ≡ Some p → option_and_then if_some_items (each positions_of zs) ≡ None
+numbers_no_area [] p e = absurd (none-some p e)
+numbers_no_area (z ∷ zs) p e = let (n, k) = first_number (number_at z) (each number_at zs) p e in ap (option_and_then if_some_items) (none_here positions_of z zs (number_no_list z n k))
+
+pub position_no_area : (t : Tree) (p : Position) → position_of t ≡ Some p → area_of t ≡ None
+position_no_area (array i ts) p e = numbers_no_area (items_of ts) p e
+position_no_area (literal i l) p e = absurd (none-some p e)
+position_no_area (number i n) p e = absurd (none-some p e)
+position_no_area (text i cs) p e = absurd (none-some p e)
+position_no_area (object i ms) p e = absurd (none-some p e)
 
 no_numbers : (xs : List Tree) (ps : List Position) → each position_of xs ≡ Some ps → option_and_then position_of_numbers (each number_at xs) ≡ None
 no_numbers [] ps e = refl

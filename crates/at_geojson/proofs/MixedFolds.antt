@@ -1,4 +1,4 @@
--- Arrays of which some items are a run or a series, and not all are lists of positions.
+-- Arrays of which some items stand for several values, and which are neither all lists of positions nor all positions.
 use Rattle.std.proofs.Common.{◌≡◌, inl, inr, ℕ, ◌≤◌, min, fold, Bool, true, false, ◌&&◌, ◌||◌, List, [], ◌∷◌, ◌++◌, Option, Some, None, is_some, refl, sym, ◌∙◌, ap, subst, append-nil, append_assoc, option_map, option_and_then, arith}
 use Rattle.std.specs.List.{list_all, list_any}
 use Rattle.std.proofs.Math.Nat.{min-eq_left}
@@ -13,16 +13,17 @@ use Rattle.at_geojson.specs.Names.{items_of}
 use Rattle.at_geojson.specs.Coordinates.{each, number_at, position_of, position_of_numbers, positions_of, area_of, if_some_items}
 use Rattle.at_geojson.specs.Roles.{items_reading}
 use Rattle.at_geojson.specs.Keeping.{Asked, needs_shapes}
-use Rattle.at_geojson.specs.Atoms.{twin_of, at_of, no_roles, lists_view, as_points, Alike, HasShape, HasPart, items_features, IsPoints, IsNumber, IsArea, IsRead, IsRun, IsFold, HaveItems}
-use Rattle.at_wkt.specs.Positions.{Positions}
+use Rattle.at_geojson.specs.Atoms.{twin_of, at_of, no_roles, ListsView, lists_view, TrackView, track_view, as_position, as_points, Alike, HasShape, HasPart, items_features, IsPosition, IsPoints, IsNumber, IsArea, AreSeries, AreTracked, IsRead, IsRun, IsFold, HaveItems}
+use Rattle.at_wkt.specs.Positions.{Position, Positions}
 use Rattle.at_geojson.specs.Gathering.{firsts, is_run, is_object, least_of, item_geometries, item_features, JoinsShapes, JoinsFound}
 use Rattle.at_geojson.specs.Arrays.{MakesItems}
 use Rattle.at_geojson.specs.Series.{is_list}
+use Rattle.at_geojson.specs.Tracks.{is_position}
 use Rattle.at_geojson.proofs.Each.{one_none}
 use Rattle.at_geojson.proofs.ArrayFolds.{two_forms, HasNoForm, AreForms, forms_none, IsArrayAtom, array_scalar, plain_object, items_read}
 use Rattle.at_geojson.proofs.ItemFolds.{have_both, have_covers}
 use Rattle.at_geojson.proofs.RunFolds.{items_of_trees, none_each, twins_runs, reads_runs}
-use Rattle.at_geojson.proofs.ListRoles.{none_here, none_front, none_back, no_list_each, list_no_number, list_no_position, list_no_area}
+use Rattle.at_geojson.proofs.ListRoles.{none_here, none_front, none_back, no_each, list_no_number, list_no_position, list_no_area, position_no_number, position_no_list, position_no_area}
 
 -- ---- atoms
 
@@ -45,6 +46,28 @@ not_points (atoms.Void n) e = refl
 not_points (atoms.Object x) e = refl
 not_points (atoms.Run x) e = refl
 not_points (atoms.Series s) e = refl
+not_points (atoms.Track t) e = refl
+
+not_position : (a : GeoAtom) → is_position a ≡ false → as_position a ≡ None
+not_position (atoms.Twin f) e = refl
+not_position (atoms.Null n) e = refl
+not_position (atoms.Plain n) e = refl
+not_position (atoms.Text x) e = refl
+not_position (atoms.Number x) e = refl
+not_position (atoms.BadNumber f) e = refl
+not_position (atoms.Empty n) e = refl
+not_position (atoms.Position x) e = absurd (true≢false e)
+not_position (atoms.BadPosition x) e = absurd (true≢false e)
+not_position (atoms.Points x) e = refl
+not_position (atoms.Lists x) e = refl
+not_position (atoms.Areas x) e = refl
+not_position (atoms.Other x) e = refl
+not_position (atoms.Items x) e = refl
+not_position (atoms.Void n) e = refl
+not_position (atoms.Object x) e = refl
+not_position (atoms.Run x) e = refl
+not_position (atoms.Series s) e = refl
+not_position (atoms.Track t) e = refl
 
 -- an atom without an object is Form in both roles
 pub form_geometries : (a : GeoAtom) → is_object a ≡ false → (no_roles (at_of a)).geometries ≡ item_geometries a
@@ -66,6 +89,7 @@ form_geometries (atoms.Void n) e = refl
 form_geometries (atoms.Object x) e = absurd (true≢false e)
 form_geometries (atoms.Run x) e = absurd (true≢false e)
 form_geometries (atoms.Series s) e = refl
+form_geometries (atoms.Track t) e = refl
 
 pub form_features : (a : GeoAtom) → is_object a ≡ false → (no_roles (at_of a)).features ≡ item_features a
 form_features (atoms.Twin f) e = refl
@@ -86,6 +110,7 @@ form_features (atoms.Void n) e = refl
 form_features (atoms.Object x) e = absurd (true≢false e)
 form_features (atoms.Run x) e = absurd (true≢false e)
 form_features (atoms.Series s) e = refl
+form_features (atoms.Track t) e = refl
 
 or_false : (a b : Bool) → (a || b) ≡ false → (a ≡ false) × (b ≡ false)
 or_false true b e = absurd (true≢false e)
@@ -121,46 +146,67 @@ module _ (asked : Asked) where
       subst (λ n. HaveItems asked (no_roles (fold (λ least b. min least (at_of b)) n aa)) (trees ts)) (sym l)
       (subst (λ z. HaveItems asked (no_roles (fold (λ least b. min least (at_of b)) (at_of a) aa)) (trees z)) (sym s) (forms_more ps (at_of a) aa qs (form_covers a ps none.0 c) f none.1))
 
-  -- ---- items that are not all lists, beside several values
+  -- ---- items that are not all lists, nor all positions, beside several values
 
-  run_none : {Y : Type 0} (f : Tree → Option Y) → ((at : ℕ) (ms : Members) → f (object at ms) ≡ None) → ((t : Tree) (p : Positions) → positions_of t ≡ Some p → f t ≡ None)
-      → (a : GeoAtom) (us : List Tree) → IsRun asked a us → each f us ≡ None
-  run_none f n m a us (inl (run, e, j)) = none_each f n us j.some
-  run_none f n m a us (inr (s, e, j)) = go j.lists j.are j.area where
-    go : (ls : List Positions) → each positions_of us ≡ Some ls → IsArea asked (lists_view s.lists.value) ls → each f us ≡ None
+  -- f gives nothing of an object, of a list of positions and of a position
+  record GivesNone {Y : Type 0} (f : Tree → Option Y) : Type 0 where
+    objects : (at : ℕ) (ms : Members) → f (object at ms) ≡ None
+    lists : (t : Tree) (p : Positions) → positions_of t ≡ Some p → f t ≡ None
+    positions : (t : Tree) (p : Position) → position_of t ≡ Some p → f t ≡ None
+
+  no_series : {Y : Type 0} (f : Tree → Option Y) → ((t : Tree) (p : Positions) → positions_of t ≡ Some p → f t ≡ None) → (at : ℕ) (v : ListsView) (us : List Tree) → AreSeries asked at v us → each f us ≡ None
+  no_series f n at v us j = go j.lists j.are j.area where
+    go : (ls : List Positions) → each positions_of us ≡ Some ls → IsArea asked v ls → each f us ≡ None
     go [] k h = absurd h
-    go (p ∷ ls) k h = no_list_each f m us p ls k
+    go (p ∷ ls) k h = no_each f positions_of n us p ls k
 
-  none_runs : {Y : Type 0} (f : Tree → Option Y) → ((at : ℕ) (ms : Members) → f (object at ms) ≡ None) → ((t : Tree) (p : Positions) → positions_of t ≡ Some p → f t ≡ None)
-      → (aa : List GeoAtom) (ts : List Tree) → AreItemFolds (IsRead asked) (IsRun asked) aa ts → list_any is_run aa ≡ true → each f ts ≡ None
-  none_runs f n m [] ts h e = absurd (true≢false (sym e))
-  none_runs f n m (a ∷ aa) ts (us, vs, s, c, h) e = ap (each f) s ∙ go c (none_runs f n m aa vs h) where
+  no_track : {Y : Type 0} (f : Tree → Option Y) → ((t : Tree) (p : Position) → position_of t ≡ Some p → f t ≡ None) → (at : ℕ) (v : TrackView) (us : List Tree) → AreTracked asked at v us → each f us ≡ None
+  no_track f n at v us j = no_each f position_of n us j.first j.rest j.are
+
+  run_none : {Y : Type 0} (f : Tree → Option Y) → GivesNone f → (a : GeoAtom) (us : List Tree) → IsRun asked a us → each f us ≡ None
+  run_none f n a us (inl (run, e, j)) = none_each f n.objects us j.some
+  run_none f n a us (inr (inl (s, e, j))) = no_series f n.lists s.at (lists_view s.lists.value) us j
+  run_none f n a us (inr (inr (t, e, j))) = no_track f n.positions t.at (track_view t.track.value) us j
+
+  none_runs : {Y : Type 0} (f : Tree → Option Y) → GivesNone f → (aa : List GeoAtom) (ts : List Tree) → AreItemFolds (IsRead asked) (IsRun asked) aa ts → list_any is_run aa ≡ true → each f ts ≡ None
+  none_runs f n [] ts h e = absurd (true≢false (sym e))
+  none_runs f n (a ∷ aa) ts (us, vs, s, c, h) e = ap (each f) s ∙ go c (none_runs f n aa vs h) where
     go : Covers (IsRead asked) (IsRun asked) a us → (list_any is_run aa ≡ true → each f vs ≡ None) → each f (us ++ vs) ≡ None
     go (inl (t, q, r)) more = none_back f us vs (more (ap (λ o. is_some o || list_any is_run aa) (sym r.single) ∙ e))
-    go (inr run) more = none_front f us vs (run_none f n m a us run)
+    go (inr run) more = none_front f us vs (run_none f n a us run)
 
   no_list : (a : GeoAtom) (us : List Tree) → Covers (IsRead asked) (IsRun asked) a us → is_list a ≡ false → each positions_of us ≡ None
   no_list a us (inl (t, q, r)) k = ap (each positions_of) q ∙ none_here positions_of t [] (one_none positions_of as_points (IsPoints asked) (as_points a) (positions_of t) r.coordinates.points (ap is_some (not_points a k)))
   no_list a us (inr (inl (run, e, j))) k = none_each positions_of (λ i ms. refl) us j.some
-  no_list a us (inr (inr (s, e, j))) k = absurd (true≢false (ap is_list (sym e) ∙ k))
+  no_list a us (inr (inr (inl (s, e, j)))) k = absurd (true≢false (ap is_list (sym e) ∙ k))
+  no_list a us (inr (inr (inr (t, e, j)))) k = no_track positions_of position_no_list t.at (track_view t.track.value) us j
 
-  not_lists : (aa : List GeoAtom) (ts : List Tree) → AreItemFolds (IsRead asked) (IsRun asked) aa ts → list_all is_list aa ≡ false → each positions_of ts ≡ None
-  not_lists [] ts h e = absurd (true≢false e)
-  not_lists (a ∷ aa) ts (us, vs, s, c, h) e = ap (each positions_of) s ∙ go (is_list a) refl (not_lists aa vs h) where
-    go : (b : Bool) → is_list a ≡ b → (list_all is_list aa ≡ false → each positions_of vs ≡ None) → each positions_of (us ++ vs) ≡ None
-    go true k more = none_back positions_of us vs (more (ap (λ b. b && list_all is_list aa) (sym k) ∙ e))
-    go false k more = none_front positions_of us vs (no_list a us c k)
+  no_position : (a : GeoAtom) (us : List Tree) → Covers (IsRead asked) (IsRun asked) a us → is_position a ≡ false → each position_of us ≡ None
+  no_position a us (inl (t, q, r)) k = ap (each position_of) q ∙ none_here position_of t [] (one_none position_of as_position (IsPosition asked) (as_position a) (position_of t) r.coordinates.position (ap is_some (not_position a k)))
+  no_position a us (inr (inl (run, e, j))) k = none_each position_of (λ i ms. refl) us j.some
+  no_position a us (inr (inr (inl (s, e, j)))) k = no_series position_of list_no_position s.at (lists_view s.lists.value) us j
+  no_position a us (inr (inr (inr (t, e, j)))) k = absurd (true≢false (ap is_position (sym e) ∙ k))
+
+  -- where an atom is not of the kind, f gives nothing of some of its trees
+  not_all : {Y : Type 0} (f : Tree → Option Y) (kind : GeoAtom → Bool) → ((a : GeoAtom) (us : List Tree) → Covers (IsRead asked) (IsRun asked) a us → kind a ≡ false → each f us ≡ None)
+      → (aa : List GeoAtom) (ts : List Tree) → AreItemFolds (IsRead asked) (IsRun asked) aa ts → list_all kind aa ≡ false → each f ts ≡ None
+  not_all f kind n [] ts h e = absurd (true≢false e)
+  not_all f kind n (a ∷ aa) ts (us, vs, s, c, h) e = ap (each f) s ∙ go (kind a) refl (not_all f kind n aa vs h) where
+    go : (b : Bool) → kind a ≡ b → (list_all kind aa ≡ false → each f vs ≡ None) → each f (us ++ vs) ≡ None
+    go true k more = none_back f us vs (more (ap (λ b. b && list_all kind aa) (sym k) ∙ e))
+    go false k more = none_front f us vs (n a us c k)
 
   no_form_of : {Y : Type 0} (f : Tree → Option Y) (ts : List Tree) → each f ts ≡ None → each f (items_of (trees ts)) ≡ None
   no_form_of f ts e = ap (each f) (items_of_trees ts) ∙ e
 
-  mixed_form : (at : ℕ) (aa : List GeoAtom) (ts : List Tree) → AreItemFolds (IsRead asked) (IsRun asked) aa ts → list_any is_run aa ≡ true → list_all is_list aa ≡ false → HasNoForm asked at (trees ts)
-  mixed_form at aa ts h e k = record {
-    position = ap (option_and_then position_of_numbers) (no_form_of number_at ts (none_runs number_at (λ i ms. refl) list_no_number aa ts h e));
-    points = ap (option_map (λ items. record { at = at; items = items })) (no_form_of position_of ts (none_runs position_of (λ i ms. refl) list_no_position aa ts h e));
-    lists = no_form_of positions_of ts (not_lists aa ts h k);
-    area = ap (option_and_then if_some_items) (no_form_of positions_of ts (not_lists aa ts h k));
-    areas = no_form_of area_of ts (none_runs area_of (λ i ms. refl) list_no_area aa ts h e);
+  mixed_form : (at : ℕ) (aa : List GeoAtom) (ts : List Tree) → AreItemFolds (IsRead asked) (IsRun asked) aa ts → list_any is_run aa ≡ true → list_all is_list aa ≡ false → list_all is_position aa ≡ false
+      → HasNoForm asked at (trees ts)
+  mixed_form at aa ts h e k l = record {
+    position = ap (option_and_then position_of_numbers) (no_form_of number_at ts (none_runs number_at (record { objects = λ i ms. refl; lists = list_no_number; positions = position_no_number }) aa ts h e));
+    points = ap (option_map (λ items. record { at = at; items = items })) (no_form_of position_of ts (not_all position_of is_position no_position aa ts h l));
+    lists = no_form_of positions_of ts (not_all positions_of is_list no_list aa ts h k);
+    area = ap (option_and_then if_some_items) (no_form_of positions_of ts (not_all positions_of is_list no_list aa ts h k));
+    areas = no_form_of area_of ts (none_runs area_of (record { objects = λ i ms. refl; lists = list_no_area; positions = position_no_area }) aa ts h e);
   }
 
   -- ---- the atom of such an array
@@ -190,11 +236,11 @@ module _ (asked : Asked) where
   mixed_read at aa r ts h e f (inl m) = subst (λ z. IsRead asked z (array at (trees ts))) (sym m.1) (other_read at aa ts h e f m.0)
   mixed_read at aa r ts h e f (inr m) = let have = m.3 ts h in subst (λ z. IsRead asked z (array at (trees ts))) (sym m.1) (items_read asked at (trees ts) m.0 m.2 f have.0 have.1)
 
-  pub mixed_folds : (at : ℕ) (aa : List GeoAtom) (r : GeoAtom) → firsts twin_of aa ≡ None → list_any is_run aa ≡ true → list_all is_list aa ≡ false → MakesItems asked at aa r
+  pub mixed_folds : (at : ℕ) (aa : List GeoAtom) (r : GeoAtom) → firsts twin_of aa ≡ None → list_any is_run aa ≡ true → list_all is_list aa ≡ false → list_all is_position aa ≡ false → MakesItems asked at aa r
       → (ts : List Tree) → AreItemFolds (IsFold asked) (IsRun asked) aa ts → IsFold asked r (array at (trees ts))
-  mixed_folds at aa r n e k m ts h =
+  mixed_folds at aa r n e k l m ts h =
       let read = reads_runs asked aa ts h n in
-      record { twins = made_twin r m ∙ (sym n ∙ twins_runs asked aa ts h); read = λ _. mixed_read at aa r ts read e (mixed_form at aa ts read e k) m } where
+      record { twins = made_twin r m ∙ (sym n ∙ twins_runs asked aa ts h); read = λ _. mixed_read at aa r ts read e (mixed_form at aa ts read e k l) m } where
         made_twin : (q : GeoAtom) → MakesItems asked at aa q → twin_of q ≡ None
         made_twin q (inl w) = ap twin_of w.1
         made_twin q (inr w) = ap twin_of w.1

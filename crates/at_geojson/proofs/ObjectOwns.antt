@@ -88,6 +88,7 @@ module _ (asked : Asked) where
   lists_own_in (atoms.Object x) h = All-nil (All IsInRange)
   lists_own_in (atoms.Run x) h = All-nil (All IsInRange)
   lists_own_in (atoms.Series s) h = All-nil (All IsInRange)
+  lists_own_in (atoms.Track t) h = All-nil (All IsInRange)
 
   areas_own_in : (a : GeoAtom) → IsOwn asked a → ArePolygonsInRange (areas_in a)
   areas_own_in (atoms.Twin f) h = All-nil (λ (polygon : Polygon). ArePathsInRange polygon.rings)
@@ -108,6 +109,7 @@ module _ (asked : Asked) where
   areas_own_in (atoms.Object x) h = All-nil (λ (polygon : Polygon). ArePathsInRange polygon.rings)
   areas_own_in (atoms.Run x) h = All-nil (λ (polygon : Polygon). ArePathsInRange polygon.rings)
   areas_own_in (atoms.Series s) h = All-nil (λ (polygon : Polygon). ArePathsInRange polygon.rings)
+  areas_own_in (atoms.Track t) h = All-nil (λ (polygon : Polygon). ArePathsInRange polygon.rings)
 
   geometries_own : (at : ℕ) (a : GeoAtom) → IsOwn asked a → IfOwnShape asked (seen (Err (fault_at Form at)) (λ r. r) (as_geometries a))
   geometries_own at (atoms.Twin f) h = tt
@@ -128,6 +130,7 @@ module _ (asked : Asked) where
   geometries_own at (atoms.Object x) h = tt
   geometries_own at (atoms.Run x) h = tt
   geometries_own at (atoms.Series s) h = tt
+  geometries_own at (atoms.Track t) h = tt
 
   features_own : (at : ℕ) (a : GeoAtom) → IsOwn asked a → IfOwnPart asked (seen (Err (fault_at Form at)) (λ p. p) (as_features a))
   features_own at (atoms.Twin f) h = tt
@@ -148,6 +151,7 @@ module _ (asked : Asked) where
   features_own at (atoms.Object x) h = tt
   features_own at (atoms.Run x) h = tt
   features_own at (atoms.Series s) h = tt
+  features_own at (atoms.Track t) h = tt
 
   point_own : (a : GeoAtom) → IsOwn asked a → (v : PositionView) → as_position a ≡ Some v → IfOwnShape asked (unless v.fault (of_points (kept (needs_shapes asked.query) (v.pos ∷ []))))
   point_own a h v e = unless_own v.fault _ (points_in _ (one IsInRange (needs_shapes asked.query) v.pos (subst IsInRange (ap (seen nowhere (λ (w : PositionView). w.pos)) e) (position_in asked a h))))

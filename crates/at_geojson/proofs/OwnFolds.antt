@@ -64,6 +64,7 @@ module _ (asked : Asked) where
   number_small (atoms.Object x) h = omega arith
   number_small (atoms.Run x) h = omega arith
   number_small (atoms.Series s) h = omega arith
+  number_small (atoms.Track t) h = omega arith
 
   pub position_in : (a : GeoAtom) → IsOwn asked a → IsInRange (position_value a)
   position_in (atoms.Twin f) h = nowhere_in
@@ -84,6 +85,7 @@ module _ (asked : Asked) where
   position_in (atoms.Object x) h = nowhere_in
   position_in (atoms.Run x) h = nowhere_in
   position_in (atoms.Series s) h = nowhere_in
+  position_in (atoms.Track t) h = nowhere_in
 
   pub path_in_range : (a : GeoAtom) → IsOwn asked a → All IsInRange (path_in a)
   path_in_range (atoms.Twin f) h = All-nil IsInRange
@@ -104,6 +106,7 @@ module _ (asked : Asked) where
   path_in_range (atoms.Object x) h = All-nil IsInRange
   path_in_range (atoms.Run x) h = All-nil IsInRange
   path_in_range (atoms.Series s) h = All-nil IsInRange
+  path_in_range (atoms.Track t) h = All-nil IsInRange
 
   pub rings_in_range : (a : GeoAtom) → IsOwn asked a → ArePathsInRange (rings_in a)
   rings_in_range (atoms.Twin f) h = All-nil (All IsInRange)
@@ -124,6 +127,7 @@ module _ (asked : Asked) where
   rings_in_range (atoms.Object x) h = All-nil (All IsInRange)
   rings_in_range (atoms.Run x) h = All-nil (All IsInRange)
   rings_in_range (atoms.Series s) h = All-nil (All IsInRange)
+  rings_in_range (atoms.Track t) h = All-nil (All IsInRange)
 
   pub own_geometry : (a : GeoAtom) → IsOwn asked a → IfOwnShape asked (role_geometry (at_of a) (role_of a))
   own_geometry (atoms.Twin f) h = tt
@@ -144,6 +148,7 @@ module _ (asked : Asked) where
   own_geometry (atoms.Object x) h = role_shape x.at x.roles.value.role h
   own_geometry (atoms.Run items) h = tt
   own_geometry (atoms.Series s) h = tt
+  own_geometry (atoms.Track t) h = tt
 
   pub own_item : (a : GeoAtom) → IsOwn asked a → IfOwnPart asked (role_item (at_of a) (role_of a))
   own_item (atoms.Twin f) h = tt
@@ -164,6 +169,7 @@ module _ (asked : Asked) where
   own_item (atoms.Object x) h = role_part x.at x.roles.value.role h
   own_item (atoms.Run items) h = tt
   own_item (atoms.Series s) h = tt
+  own_item (atoms.Track t) h = tt
 
   -- what stands beside other items
   pub own_joined : (a : GeoAtom) → IsOwn asked a → IfOwnShape asked (item_geometries a) × IfOwnPart asked (item_features a)
@@ -185,6 +191,7 @@ module _ (asked : Asked) where
   own_joined (atoms.Object x) h = (own_geometry (atoms.Object x) h, own_item (atoms.Object x) h)
   own_joined (atoms.Run items) h = h
   own_joined (atoms.Series s) h = (tt, tt)
+  own_joined (atoms.Track t) h = (tt, tt)
 
   pub own_middle : (items xs : List GeoAtom) (a : GeoAtom) (rest : List GeoAtom) → items ≡ xs ++ a ∷ rest → All (IsOwn asked) items → IsOwn asked a
   own_middle items xs a rest e h = go xs (subst (All (IsOwn asked)) e h) where

@@ -22,8 +22,8 @@ use Rattle.at_geojson.specs.declared.pairs.PointsRead.{PointsRead}
 use Rattle.at_geojson.specs.declared.pairs.Row.{Row}
 use Rattle.at_geojson.specs.declared.sorts.Sort.TheVariants as sorts
 use Rattle.at_geojson.specs.Keeping.{Asked, kept, needs_shapes}
-use Rattle.at_geojson.specs.Atoms.{twin_of, at_of, IsOwn, IsFold}
-use Rattle.at_geojson.specs.Gathering.{firsts, are_all, rank, sort_of, sort_of_all, least_of, last_atom, position_value, position_fault, closes, to_four}
+use Rattle.at_geojson.specs.Atoms.{to_four, twin_of, at_of, IsOwn, IsFold}
+use Rattle.at_geojson.specs.Gathering.{firsts, are_all, rank, sort_of, sort_of_all, least_of, last_atom, position_value, position_fault, closes}
 use Rattle.at_geojson.specs.Rows.{AreNext, IsRow, LengthensRow, EndsRow, EndsPoints, ArePointsRead, ArePointsPassed, ArePointsWhole}
 use Rattle.at_geojson.specs.Values.{IsSpacedPair, PassesSpacedPair}
 use Rattle.at_geojson.proofs.Firsts.{firsts-cons, none_right}
@@ -69,7 +69,7 @@ kept_append false xs ys = refl
 
 -- ---- counts
 
-to_four_is : (n : ℕ) → ((n < 4) × (to_four n ≡ n)) ⊎ ((4 ≤ n) × (to_four n ≡ 4))
+pub to_four_is : (n : ℕ) → ((n < 4) × (to_four n ≡ n)) ⊎ ((4 ≤ n) × (to_four n ≡ 4))
 to_four_is n = by_less (nat_lt n 4) refl where
   by_less : (b : Bool) → nat_lt n 4 ≡ b → ((n < 4) × (to_four n ≡ n)) ⊎ ((4 ≤ n) × (to_four n ≡ 4))
   by_less true e = inl (ltb-true n 4 e, ap (λ b. if b then n else 4) e)

@@ -79,7 +79,8 @@ module _ (asked : Asked) where
   pub twins_covers : (a : GeoAtom) (ts : List Tree) → Covers (IsFold asked) (IsRun asked) a ts → twin_of a ≡ first_of (twins_of_items (trees ts))
   twins_covers a ts (inl (t, e, f)) = f.twins ∙ (ap first_of (sym (append-nil (twins_of t))) ∙ ap (λ z. first_of (twins_of_items (trees z))) (sym e))
   twins_covers a ts (inr (inl (run, e, j))) = ap twin_of e ∙ sym j.twins
-  twins_covers a ts (inr (inr (s, e, j))) = ap twin_of e ∙ sym j.twins
+  twins_covers a ts (inr (inr (inl (s, e, j)))) = ap twin_of e ∙ sym j.twins
+  twins_covers a ts (inr (inr (inr (t, e, j)))) = ap twin_of e ∙ sym j.twins
 
   pub twins_runs : (aa : List GeoAtom) (ts : List Tree) → AreItemFolds (IsFold asked) (IsRun asked) aa ts → firsts twin_of aa ≡ first_of (twins_of_items (trees ts))
   twins_runs [] ts e = ap (λ z. first_of (twins_of_items (trees z))) (sym e)
@@ -105,9 +106,10 @@ module _ (asked : Asked) where
     go : Covers (IsFold asked) (IsRun asked) a us → AreFolds (IsFold asked) aa (trees vs) → AreFolds (IsFold asked) (a ∷ aa) (trees (us ++ vs))
     go (inl (t, q, f)) more = subst (λ z. AreFolds (IsFold asked) (a ∷ aa) (trees (z ++ vs))) (sym q) (f, more)
     go (inr (inl (run, q, j))) more = absurd (true≢false (ap is_run (sym q) ∙ (or_parts (is_run a) (list_any is_run aa) e).0))
-    go (inr (inr (s, q, j))) more = absurd (true≢false (ap is_run (sym q) ∙ (or_parts (is_run a) (list_any is_run aa) e).0))
+    go (inr (inr (inl (s, q, j)))) more = absurd (true≢false (ap is_run (sym q) ∙ (or_parts (is_run a) (list_any is_run aa) e).0))
+    go (inr (inr (inr (t, q, j)))) more = absurd (true≢false (ap is_run (sym q) ∙ (or_parts (is_run a) (list_any is_run aa) e).0))
 
-  -- ---- the atom of an array of which some items are a run or a series
+  -- ---- the atom of an array of which some items stand for several values
 
   pub twin_runs : (at : ℕ) (aa : List GeoAtom) (ts : List Tree) (fault : Fault) → AreItemFolds (IsFold asked) (IsRun asked) aa ts → firsts twin_of aa ≡ Some fault → IsFold asked (atoms.Twin fault) (array at (trees ts))
   twin_runs at aa ts fault h e = record { twins = sym e ∙ twins_runs aa ts h; read = λ z. absurd (none-some fault (sym z)) }
@@ -133,6 +135,7 @@ module _ (asked : Asked) where
   joins_is (atoms.Items x) e = absurd (true≢false (sym e))
   joins_is (atoms.Void n) e = absurd (true≢false (sym e))
   joins_is (atoms.Series s) e = absurd (true≢false (sym e))
+  joins_is (atoms.Track t) e = absurd (true≢false (sym e))
 
   no_twin : (a : GeoAtom) → joins_run a ≡ true → twin_of a ≡ None
   no_twin a e = elim (joins_is a e) [ inl o ↦ ap twin_of o.1 | inr o ↦ ap twin_of o.1 ]
@@ -149,7 +152,8 @@ module _ (asked : Asked) where
 
   some_covers : (a : GeoAtom) (ts : List Tree) → Covers (IsRead asked) (IsRun asked) a ts → joins_run a ≡ true → list_any is_object_tree ts ≡ true
   some_covers a ts (inr (inl (run, e, j))) n = j.some
-  some_covers a ts (inr (inr (s, e, j))) n = absurd (true≢false (sym n ∙ ap joins_run e))
+  some_covers a ts (inr (inr (inl (s, e, j)))) n = absurd (true≢false (sym n ∙ ap joins_run e))
+  some_covers a ts (inr (inr (inr (t, e, j)))) n = absurd (true≢false (sym n ∙ ap joins_run e))
   some_covers a ts (inl (t, e, r)) n = ap (list_any is_object_tree) e ∙ go (joins_is a n) where
     go : ((x : ObjectAtom) × (a ≡ atoms.Object x)) ⊎ ((run : Box Items Global) × (a ≡ atoms.Run run)) → list_any is_object_tree (t ∷ []) ≡ true
     go (inl (x, q)) = ap (λ b. b || false) (object_there x t (subst (λ z. IsRead asked z t) q r))
@@ -185,7 +189,8 @@ module _ (asked : Asked) where
         old_joined : (vs : List Tree) → Covers (IsFold asked) (IsRun asked) (atoms.Run old) vs → AreJoined asked old.value vs
         old_joined vs (inl (t, q, f)) = absurd (no_value old t f)
         old_joined vs (inr (inl (run, q, r))) = run_is run vs q r
-        old_joined vs (inr (inr (s, q, r))) = absurd (true≢false (ap joins_run q))
+        old_joined vs (inr (inr (inl (s, q, r)))) = absurd (true≢false (ap joins_run q))
+        old_joined vs (inr (inr (inr (t, q, r)))) = absurd (true≢false (ap joins_run q))
 
   -- a run of the atom alone
   pub adds_run : (xs : List GeoAtom) (new : Box Items Global) (a : GeoAtom) → joins_run a ≡ true → new.value.geometries ≡ item_geometries a → new.value.features ≡ item_features a

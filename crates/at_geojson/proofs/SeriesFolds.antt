@@ -36,7 +36,7 @@ use Rattle.at_geojson.proofs.OwnFolds.{all_kept, path_in_range}
 use Rattle.at_geojson.proofs.ItemFolds.{last_covers}
 use Rattle.at_geojson.proofs.ArrayAnswers.{empty_folds}
 use Rattle.at_geojson.proofs.RunFolds.{items_of_trees, first_twins, twins_covers}
-use Rattle.at_geojson.proofs.ListRoles.{each_append, no_list_each, list_no_number, list_no_position, list_no_area}
+use Rattle.at_geojson.proofs.ListRoles.{each_append, no_each, list_no_number, list_no_position, list_no_area}
 use Rattle.at_geojson.proofs.MixedFolds.{forms_both, form_covers, forms_read}
 
 -- ---- atoms that are lists
@@ -61,6 +61,7 @@ list_cases (atoms.Void n) e = absurd (true≢false (sym e))
 list_cases (atoms.Object x) e = absurd (true≢false (sym e))
 list_cases (atoms.Run x) e = absurd (true≢false (sym e))
 list_cases (atoms.Series s) e = inr (s, refl)
+list_cases (atoms.Track t) e = absurd (true≢false (sym e))
 
 list_no_twin : (a : GeoAtom) → is_list a ≡ true → twin_of a ≡ None
 list_no_twin (atoms.Twin f) e = absurd (true≢false (sym e))
@@ -81,6 +82,7 @@ list_no_twin (atoms.Void n) e = refl
 list_no_twin (atoms.Object x) e = refl
 list_no_twin (atoms.Run x) e = refl
 list_no_twin (atoms.Series s) e = refl
+list_no_twin (atoms.Track t) e = refl
 
 list_no_object : (a : GeoAtom) → is_list a ≡ true → is_object a ≡ false
 list_no_object (atoms.Twin f) e = refl
@@ -101,6 +103,7 @@ list_no_object (atoms.Void n) e = refl
 list_no_object (atoms.Object x) e = absurd (true≢false (sym e))
 list_no_object (atoms.Run x) e = absurd (true≢false (sym e))
 list_no_object (atoms.Series s) e = refl
+list_no_object (atoms.Track t) e = refl
 
 kept_one : {X : Type 0} (b : Bool) (xs ys : List X) → xs ≡ kept b ys → kept b (xs ∷ []) ≡ kept b (ys ∷ [])
 kept_one true xs ys e = ap (λ z. z ∷ []) e
@@ -159,7 +162,8 @@ module _ (asked : Asked) where
           have = form_covers asked a ts (list_no_object a k) (inl (t, e, f.read twins));
         }
   list_covers a ts k (inr (inl (run, e, j))) = absurd (true≢false (sym k ∙ ap is_list e))
-  list_covers a ts k (inr (inr (s, e, j))) = subst (λ z. AreSeries asked (at_of z) (view_of needs z) ts) (sym e) j
+  list_covers a ts k (inr (inr (inr (t, e, j)))) = absurd (true≢false (sym k ∙ ap is_list e))
+  list_covers a ts k (inr (inr (inl (s, e, j)))) = subst (λ z. AreSeries asked (at_of z) (view_of needs z) ts) (sym e) j
 
   -- ---- lists behind others
 
@@ -219,7 +223,7 @@ module _ (asked : Asked) where
   adds_lists b xs last a before new eb kl ka m j ts us h c =
       let (ps, qs, e, hs, d) = last_covers (IsFold asked) (IsRun asked) xs last ts h in
       subst (λ z. AreItemFolds (IsFold asked) (IsRun asked) (xs ++ atoms.Series new ∷ []) z) (sym (ap (λ z. z ++ us) e ∙ append_assoc ps qs us))
-      (folds_append (IsFold asked) (IsRun asked) xs ps (atoms.Series new) (qs ++ us) hs (inr (inr (new, refl, joins_series b before a new qs us eb ka j (begins_series b last before qs eb kl m d) c))))
+      (folds_append (IsFold asked) (IsRun asked) xs ps (atoms.Series new) (qs ++ us) hs (inr (inr (inl (new, refl, joins_series b before a new qs us eb ka j (begins_series b last before qs eb kl m d) c)))))
 
   -- ---- all items
 
@@ -253,11 +257,11 @@ module _ (asked : Asked) where
         (record { at_is = ea; twin = refl; single = refl; null = refl; empty = refl; kind = refl; text = refl; number = refl; role = refl; texts = refl; geometries = ap (λ k. Some (both_forms k)) el; features = ap (λ k. Some (both_forms k)) el })
         h.have
         (record {
-          position = alike_at (IsPosition asked) None None (position_of (array at (trees ts))) (ap (option_and_then position_of_numbers) (them number_at ∙ no_list_each number_at list_no_number ts l ls e)) tt;
-          points = alike_at (IsPoints asked) None None (positions_of (array at (trees ts))) (ap (option_map (λ items. record { at = at; items = items })) (them position_of ∙ no_list_each position_of list_no_position ts l ls e)) tt;
+          position = alike_at (IsPosition asked) None None (position_of (array at (trees ts))) (ap (option_and_then position_of_numbers) (them number_at ∙ no_each number_at positions_of list_no_number ts l ls e)) tt;
+          points = alike_at (IsPoints asked) None None (positions_of (array at (trees ts))) (ap (option_map (λ items. record { at = at; items = items })) (them position_of ∙ no_each position_of positions_of list_no_position ts l ls e)) tt;
           lists = alike_at (IsLists asked) (as_lists (atoms.Lists m)) (Some (l ∷ ls)) (lists_of (array at (trees ts))) lists kept_is;
           area = alike_at (IsArea asked) (as_area (atoms.Lists m)) (Some (l ∷ ls)) (area_of (array at (trees ts))) (ap (option_and_then if_some_items) lists) kept_is;
-          areas = alike_at (IsAreas asked) None None (areas_of (array at (trees ts))) (them area_of ∙ no_list_each area_of list_no_area ts l ls e) tt;
+          areas = alike_at (IsAreas asked) None None (areas_of (array at (trees ts))) (them area_of ∙ no_each area_of positions_of list_no_area ts l ls e) tt;
         })
 
   pub nothing_folds : (at : ℕ) (ts : List Tree) → ts ≡ [] → IsFold asked (atoms.Empty at) (array at (trees ts))
@@ -287,6 +291,7 @@ module _ (asked : Asked) where
   own_paths b (atoms.Object x) h = one_path b (path_in (atoms.Object x)) (path_in_range asked (atoms.Object x) h)
   own_paths b (atoms.Run x) h = one_path b (path_in (atoms.Run x)) (path_in_range asked (atoms.Run x) h)
   own_paths b (atoms.Series s) h = h
+  own_paths b (atoms.Track t) h = one_path b (path_in (atoms.Track t)) (path_in_range asked (atoms.Track t) h)
 
   pub begins_own : (b : Bool) (a : GeoAtom) (s : SeriesAtom) → Begins b a s → IsOwn asked a → ArePathsInRange s.lists.value.paths.items
   begins_own b a s m h = subst ArePathsInRange (sym m.paths) (own_paths b a h)

@@ -30,6 +30,7 @@ is_number (atoms.Void n) = refl
 is_number (atoms.Object x) = refl
 is_number (atoms.Run x) = refl
 is_number (atoms.Series s) = refl
+is_number (atoms.Track t) = refl
 
 pub is_position : (a : GeoAtom) → is_some (as_position a) ≡ (rank (sort_of a) == 2)
 is_position (atoms.Twin f) = refl
@@ -50,6 +51,7 @@ is_position (atoms.Void n) = refl
 is_position (atoms.Object x) = refl
 is_position (atoms.Run x) = refl
 is_position (atoms.Series s) = refl
+is_position (atoms.Track t) = refl
 
 pub is_points : (a : GeoAtom) → is_some (as_points a) ≡ (rank (sort_of a) == 3)
 is_points (atoms.Twin f) = refl
@@ -70,6 +72,7 @@ is_points (atoms.Void n) = refl
 is_points (atoms.Object x) = refl
 is_points (atoms.Run x) = refl
 is_points (atoms.Series s) = refl
+is_points (atoms.Track t) = refl
 
 pub is_area : (a : GeoAtom) → is_some (as_area a) ≡ (rank (sort_of a) == 4)
 is_area (atoms.Twin f) = refl
@@ -90,6 +93,7 @@ is_area (atoms.Void n) = refl
 is_area (atoms.Object x) = refl
 is_area (atoms.Run x) = refl
 is_area (atoms.Series s) = refl
+is_area (atoms.Track t) = refl
 
 -- no sort but Other has objects
 pub sorted_no_object : (a : GeoAtom) → is_object a ≡ true → rank (sort_of a) ≡ 0
@@ -111,6 +115,7 @@ sorted_no_object (atoms.Items x) e = refl
 sorted_no_object (atoms.Void n) e = refl
 sorted_no_object (atoms.Run x) e = refl
 sorted_no_object (atoms.Series s) e = refl
+sorted_no_object (atoms.Track t) e = refl
 
 pub no_role : (a : GeoAtom) → is_object a ≡ false → role_of a ≡ roles.Nothing
 no_role (atoms.Object x) e = absurd (true≢false e)
@@ -131,6 +136,7 @@ no_role (atoms.Items x) e = refl
 no_role (atoms.Void n) e = refl
 no_role (atoms.Run x) e = refl
 no_role (atoms.Series s) e = refl
+no_role (atoms.Track t) e = refl
 
 -- ---- all items
 

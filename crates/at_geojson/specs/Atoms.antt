@@ -1,5 +1,5 @@
 -- What is kept of a value of a text in each role, and that it is what the definitions read of the value in that role.
-use Rattle.std.specs.Prelude.{◌≡◌, ◌⊎◌, ℕ, ℤ, pos, Bool, true, false, if◌then◌else◌, List, [], ◌∷◌, All, map, flat_map, Option, Some, None, is_some, option_and_then, Result, Ok, Err}
+use Rattle.std.specs.Prelude.{◌≡◌, ◌⊎◌, ℕ, ℤ, pos, Bool, true, false, if◌then◌else◌, nat_lt, List, [], ◌∷◌, All, map, flat_map, length, Option, Some, None, is_some, option_and_then, Result, Ok, Err}
 use Rattle.std.specs.Bool.{⊤}
 use Rattle.std.specs.List.{list_any}
 use Rattle.std.specs.declared.boxed.Box.{Box}
@@ -13,7 +13,7 @@ use Rattle.at_geom.specs.declared.shapes.Polygon.{Polygon}
 use Rattle.at_geom.specs.declared.shapes.Shape.{Shape}
 use Rattle.at_geom.specs.Segments.{IsInRange}
 use Rattle.at_geom.specs.Shapes.{line_fault, ring_fault, ArePathsInRange, ArePolygonsInRange, IsShapeInRange}
-use Rattle.at_wkt.specs.Positions.{Position, Positions, number_fault, value_of, position_faults, items_faults, faults_of_line, faults_of_ring, pos_of, path_of}
+use Rattle.at_wkt.specs.Positions.{Position, Positions, last_of, is_faultless, number_fault, value_of, position_faults, items_faults, faults_of_line, faults_of_ring, pos_of, path_of}
 use Rattle.at_wkt.specs.Meaning.{empty_shape, polygons_of, faults_of_area}
 use Rattle.at_nest.specs.Tree.{Tree, literal, array, object, Trees, Members, offset_of}
 use Rattle.at_nest.specs.Folds.{trees}
@@ -33,6 +33,8 @@ use Rattle.at_geojson.specs.declared.atoms.Role.TheVariants as roles
 use Rattle.at_geojson.specs.declared.atoms.Items.{Items}
 use Rattle.at_geojson.specs.declared.atoms.Lists.{Lists}
 use Rattle.at_geojson.specs.declared.atoms.SeriesAtom.{SeriesAtom}
+use Rattle.at_geojson.specs.declared.atoms.Track.{Track}
+use Rattle.at_geojson.specs.declared.atoms.TrackAtom.{TrackAtom}
 use Rattle.at_geojson.specs.Names.{units_of_text, kind_of_text, items_of}
 use Rattle.at_geojson.specs.Coordinates.{each, number_at, position_of, positions_of, lists_of, areas_of, area_of}
 use Rattle.at_geojson.specs.Roles.{Reading, Features, geometry_reading, items_reading, item_reading, all_features, root_reading, texts_of}
@@ -64,6 +66,7 @@ at_of (atoms.Void at) = at
 at_of (atoms.Object a) = a.at
 at_of (atoms.Run items) = 0
 at_of (atoms.Series s) = s.at
+at_of (atoms.Track t) = t.at
 
 -- values with their first fault: what the values are counts only where there is none
 pub record NumberView : Type 0 where
@@ -85,12 +88,26 @@ pub record ListsView : Type 0 where
   pub as_lines : Option Fault
   pub as_rings : Option Fault
 
+pub record TrackView : Type 0 where
+  pub first : Option Pos
+  pub last : Option Pos
+  pub count : ℕ
+  pub fault : Option Fault
+  pub path : List Pos
+
 pub record AreasView : Type 0 where
   pub polygons : List Polygon
   pub fault : Option Fault
 
 abbrev pub lists_view : Lists → ListsView
 lists_view l = record { paths = l.paths.items; as_lines = l.as_lines; as_rings = l.as_rings }
+
+abbrev pub track_view : Track → TrackView
+track_view t = record { first = t.first; last = t.last; count = t.count; fault = t.fault; path = t.path.items }
+
+-- a count, up to four
+abbrev pub to_four : ℕ → ℕ
+to_four n = if nat_lt n 4 then n else 4
 
 abbrev pub nowhere : Pos
 nowhere = record { x = pos 0; y = pos 0 }
@@ -201,6 +218,7 @@ no_roles at = record { geometries = both_forms at; features = both_forms at }
 abbrev pub as_run : GeoAtom → Option Items
 as_run (atoms.Run items) = Some items.value
 as_run (atoms.Series s) = Some (no_roles s.at)
+as_run (atoms.Track t) = Some (no_roles t.at)
 as_run _ = None
 
 -- ---- the same of trees
@@ -263,6 +281,18 @@ module _ (asked : Asked) where
     pub as_rings : v.as_rings ≡ first_of (flat_map (faults_of_ring asked.digits asked.how) ls)
     pub lines : v.as_lines ≡ None → v.paths ≡ kept needs (map (path_of asked.digits asked.how) ls)
     pub rings : v.as_rings ≡ None → v.paths ≡ kept needs (map (path_of asked.digits asked.how) ls)
+
+  -- where a position is, if it has no fault
+  abbrev pub place_of : Position → Option Pos
+  place_of p = if is_faultless asked.digits asked.how p then Some (pos_of asked.digits asked.how p) else None
+
+  -- a position and those behind it
+  pub record IsTrack (v : TrackView) (p : Position) (ps : List Position) : Type 0 where
+    pub first : v.first ≡ place_of p
+    pub last : v.last ≡ place_of (last_of p ps)
+    pub count : v.count ≡ to_four (length (p ∷ ps))
+    pub fault : v.fault ≡ first_of (items_faults asked.digits asked.how (p ∷ ps))
+    pub path : v.fault ≡ None → v.path ≡ kept needs (map (pos_of asked.digits asked.how) (p ∷ ps))
 
   -- lists of which there is at least one
   abbrev pub IsArea : ListsView → List Positions → Type 0
@@ -365,6 +395,7 @@ module _ (asked : Asked) where
   IsOwn (atoms.Object a) = IsOwnRole a.roles.value.role
   IsOwn (atoms.Run items) = AreOwnItems items.value
   IsOwn (atoms.Series s) = ArePathsInRange s.lists.value.paths.items
+  IsOwn (atoms.Track t) = All IsInRange t.track.value.path.items
   IsOwn _ = ⊤
 
   abbrev pub HaveItems : Items → Trees → Type 0
@@ -386,6 +417,17 @@ module _ (asked : Asked) where
     pub area : IsArea v lists
     pub have : HaveItems (no_roles at) (trees ts)
 
-  -- the atom is a run or a series, and is what the algebra makes of these trees
+  -- positions, at least one, which are no items but Form from the offset on
+  pub record AreTracked (at : ℕ) (v : TrackView) (ts : List Tree) : Type 0 where
+    pub twins : first_of (twins_of_items (trees ts)) ≡ None
+    pub first : Position
+    pub rest : List Position
+    pub are : each position_of ts ≡ Some (first ∷ rest)
+    pub track : IsTrack v first rest
+    pub have : HaveItems (no_roles at) (trees ts)
+
+  -- the atom is a run, a series or a track, and is what the algebra makes of these trees
   abbrev pub IsRun : GeoAtom → List Tree → Type 0
-  IsRun a ts = ((items : Box Items Global) × (a ≡ atoms.Run items) × AreJoined items.value ts) ⊎ ((s : SeriesAtom) × (a ≡ atoms.Series s) × AreSeries s.at (lists_view s.lists.value) ts)
+  IsRun a ts = ((items : Box Items Global) × (a ≡ atoms.Run items) × AreJoined items.value ts)
+      ⊎ (((s : SeriesAtom) × (a ≡ atoms.Series s) × AreSeries s.at (lists_view s.lists.value) ts)
+      ⊎ ((t : TrackAtom) × (a ≡ atoms.Track t) × AreTracked t.at (track_view t.track.value) ts))

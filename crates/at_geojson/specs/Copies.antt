@@ -9,6 +9,8 @@ use Rattle.at_geojson.specs.declared.atoms.PointsAtom.{PointsAtom}
 use Rattle.at_geojson.specs.declared.atoms.Lists.{Lists}
 use Rattle.at_geojson.specs.declared.atoms.ListsAtom.{ListsAtom}
 use Rattle.at_geojson.specs.declared.atoms.SeriesAtom.{SeriesAtom}
+use Rattle.at_geojson.specs.declared.atoms.Track.{Track}
+use Rattle.at_geojson.specs.declared.atoms.TrackAtom.{TrackAtom}
 use Rattle.at_geojson.specs.declared.atoms.Areas.{Areas}
 use Rattle.at_geojson.specs.declared.atoms.AreasAtom.{AreasAtom}
 use Rattle.at_geojson.specs.declared.atoms.Items.{Items}
@@ -22,6 +24,9 @@ SamePoints x y = (y.path.items ≡ x.path.items) × (y.as_points ≡ x.as_points
 
 abbrev pub SameLists : Lists → Lists → Type 0
 SameLists x y = (y.paths.items ≡ x.paths.items) × (y.as_lines ≡ x.as_lines) × (y.as_rings ≡ x.as_rings)
+
+abbrev pub SameTrack : Track → Track → Type 0
+SameTrack x y = (y.first ≡ x.first) × (y.last ≡ x.last) × (y.count ≡ x.count) × (y.fault ≡ x.fault) × (y.path.items ≡ x.path.items)
 
 abbrev pub SameAreas : Areas → Areas → Type 0
 SameAreas x y = (y.polygons.items ≡ x.polygons.items) × (y.fault ≡ x.fault)
@@ -38,6 +43,9 @@ CopiesLists x y = (y.at ≡ x.at) × (y.least ≡ x.least) × SameLists x.lists.
 abbrev pub CopiesSeries : SeriesAtom → SeriesAtom → Type 0
 CopiesSeries x y = (y.at ≡ x.at) × SameLists x.lists.value y.lists.value
 
+abbrev pub CopiesTrack : TrackAtom → TrackAtom → Type 0
+CopiesTrack x y = (y.at ≡ x.at) × SameTrack x.track.value y.track.value
+
 abbrev pub CopiesAreas : AreasAtom → AreasAtom → Type 0
 CopiesAreas x y = (y.at ≡ x.at) × (y.least ≡ x.least) × SameAreas x.areas.value y.areas.value
 
@@ -50,4 +58,5 @@ IsCopy (atoms.Items x) b = (y : ItemsAtom) × (b ≡ atoms.Items y) × (y.at ≡
 IsCopy (atoms.Object x) b = (y : ObjectAtom) × (b ≡ atoms.Object y) × (y.at ≡ x.at) × (y.roles.value ≡ x.roles.value)
 IsCopy (atoms.Run x) b = (y : Box Items Global) × (b ≡ atoms.Run y) × (y.value ≡ x.value)
 IsCopy (atoms.Series x) b = (y : SeriesAtom) × (b ≡ atoms.Series y) × CopiesSeries x y
+IsCopy (atoms.Track x) b = (y : TrackAtom) × (b ≡ atoms.Track y) × CopiesTrack x y
 IsCopy a b = b ≡ a

@@ -23,7 +23,7 @@ use Rattle.at_geojson.specs.declared.atoms.ListsAtom.{ListsAtom}
 use Rattle.at_geojson.specs.declared.atoms.AreasAtom.{AreasAtom}
 use Rattle.at_geojson.specs.declared.sorts.Sort.{Sort}
 use Rattle.at_geojson.specs.declared.sorts.Sort.TheVariants as sorts
-use Rattle.at_geojson.specs.Atoms.{twin_of, at_of, nowhere, NumberView, PositionView, PointsView, ListsView, as_number, as_position, as_points, as_area, as_run, role_of, role_geometry, role_item}
+use Rattle.at_geojson.specs.Atoms.{twin_of, at_of, nowhere, NumberView, PositionView, PointsView, ListsView, as_number, as_position, as_points, as_area, as_run, to_four, role_of, role_geometry, role_item}
 use Rattle.at_geojson.specs.Keeping.{kept}
 
 -- the first of the faults that f finds
@@ -138,9 +138,6 @@ closes items = closes_at (slice_get items 0) (slice_get items (length items - 1)
 abbrev pub last_atom : GeoAtom → List GeoAtom → GeoAtom
 last_atom a [] = a
 last_atom a (b ∷ rest) = last_atom b rest
-
-abbrev pub to_four : ℕ → ℕ
-to_four n = if nat_lt n 4 then n else 4
 
 -- positions as an atom
 pub record MakesPoints (needs : Bool) (at least : ℕ) (items : List GeoAtom) (result : GeoAtom) : Type 0 where

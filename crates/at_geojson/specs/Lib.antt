@@ -7,6 +7,7 @@ pub mod Gathering
 pub mod Hashes
 pub mod Arrays
 pub mod Series
+pub mod Tracks
 pub mod Objects
 pub mod Fields
 pub mod Ends

@@ -12,8 +12,8 @@ use Rattle.at_geojson.specs.declared.atoms.PositionAtom.{PositionAtom}
 use Rattle.at_geojson.specs.declared.pairs.PointsRead.{PointsRead}
 use Rattle.at_geojson.specs.declared.pairs.Row.{Row}
 use Rattle.at_geojson.specs.Keeping.{Asked, kept, needs_shapes}
-use Rattle.at_geojson.specs.Atoms.{IsOwn, IsFold}
-use Rattle.at_geojson.specs.Gathering.{last_atom, position_value, to_four, MakesPoints}
+use Rattle.at_geojson.specs.Atoms.{to_four, IsOwn, IsFold}
+use Rattle.at_geojson.specs.Gathering.{last_atom, position_value, MakesPoints}
 use Rattle.at_geojson.specs.Values.{IsWhole}
 
 -- positions that have values, at the offset or behind it

@@ -1,3 +1,5 @@
+//! GeoJSON as an algebra of JSON values: each call is made by a function of this crate.
+
 ghost use Rattle.std.specs.Prelude.{List, All, IfOk};
 ghost use Rattle.at_nest.specs.Tree.{Tree, Members, array as array_tree, object as object_tree};
 ghost use Rattle.at_nest.specs.Folds.{trees, AreItemFolds, AreMemberFolds};

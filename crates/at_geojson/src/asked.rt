@@ -1,3 +1,5 @@
+//! A query that is asked of a GeoJSON text, and what it asks of numbers, texts and shapes.
+
 ghost use Rattle.std.specs.Prelude.{◌≡◌};
 ghost use Rattle.std.specs.List.{list_any};
 ghost use Rattle.at_query.specs.Ranges.{IsQueryInRange};

@@ -1,3 +1,5 @@
+//! What is kept of each value of a JSON text.
+
 use crate::geometries::Geometry;
 use crate::kinds::Kind;
 use at_geom::{Path, Polygon, Pos};
@@ -75,6 +77,24 @@ pub struct ListsAtom {
 pub struct SeriesAtom {
     pub at: u32,
     pub lists: Box<Lists>,
+}
+
+/// Positions one behind another: the first and the last where they have no fault, how many they are up to four, the first
+/// fault in them, and their values where shapes are kept.
+#[derive(Drop)]
+pub struct Track {
+    pub first: Option<Pos>,
+    pub last: Option<Pos>,
+    pub count: u32,
+    pub fault: Option<Fault>,
+    pub path: Vec<Pos>,
+}
+
+/// Positions one behind another in an array, at least one, with the offset of the first.
+#[derive(Drop)]
+pub struct TrackAtom {
+    pub at: u32,
+    pub track: Box<Track>,
 }
 
 /// Areas: their polygons where shapes are kept, and the first fault in them.
@@ -165,4 +185,6 @@ pub enum GeoAtom {
     Run(Box<Items>),
     /// Lists of positions one behind another in an array: no value of their own.
     Series(SeriesAtom),
+    /// Positions one behind another in an array: no value of their own.
+    Track(TrackAtom),
 }

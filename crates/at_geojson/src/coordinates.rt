@@ -1,7 +1,10 @@
+//! Coordinates: positions of numbers, and lists of positions, of lists and of areas (RFC 7946 section 3.1.1).
+
 ghost use Rattle.std.specs.Prelude.{◌≡◌, ◌&&◌, ◌||◌, not, is_none, map, IfOk};
 ghost use Rattle.std.specs.Ordering.{int_eq};
 ghost use Rattle.at_geojson.specs.Keeping.{kept};
-ghost use Rattle.at_geojson.specs.Gathering.{firsts, number_value as the_number_value, number_fault as the_number_fault, position_value as the_position_value, position_fault as the_position_fault, position_atom as the_position_atom, pair_atom as the_pair, closes_with as the_closes_with, closes as the_closes, to_four, MakesPoints};
+ghost use Rattle.at_geojson.specs.Atoms.{to_four};
+ghost use Rattle.at_geojson.specs.Gathering.{firsts, number_value as the_number_value, number_fault as the_number_fault, position_value as the_position_value, position_fault as the_position_fault, position_atom as the_position_atom, pair_atom as the_pair, closes_with as the_closes_with, closes as the_closes, MakesPoints};
 ghost use Rattle.at_geojson.specs.Gathering.{fault_as_line as the_fault_as_line, fault_as_ring as the_fault_as_ring, path_in, MakesLists, area_fault as the_area_fault, polygon_in, MakesAreas};
 
 use crate::atoms::{
@@ -59,7 +62,7 @@ pub fn pair_atom(at: u32, least: u32, atoms: &[GeoAtom]) -> Option<GeoAtom>
 }
 
 /// A position's values, or nought where it has a fault.
-fn position_value(atom: &GeoAtom) -> Pos
+pub fn position_value(atom: &GeoAtom) -> Pos
     ensures { result ≡ the_position_value atom.now }
 {
     match atom {
@@ -69,7 +72,7 @@ fn position_value(atom: &GeoAtom) -> Pos
 }
 
 /// The first fault of a position.
-fn position_fault(atom: &GeoAtom) -> Option<Fault>
+pub fn position_fault(atom: &GeoAtom) -> Option<Fault>
     ensures { result ≡ the_position_fault atom.now }
 {
     match atom {
@@ -136,7 +139,7 @@ fn closes(atoms: &[GeoAtom]) -> bool
 }
 
 /// The count, up to four.
-fn count_to_four(count: usize) -> u32
+pub fn count_to_four(count: usize) -> u32
     ensures { result ≡ to_four count }
 {
     if count < 4 { count as u32 } else { 4 }

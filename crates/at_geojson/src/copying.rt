@@ -1,10 +1,12 @@
+//! Second atoms that are equal to the first.
+
 ghost use Rattle.std.specs.Prelude.{◌≡◌, IfOk};
 ghost use Rattle.at_geojson.specs.Atoms.{unboxed};
-ghost use Rattle.at_geojson.specs.Copies.{SamePoints, SameLists, SameAreas, CopiesText, CopiesPoints, CopiesLists, CopiesSeries, CopiesAreas, IsCopy};
+ghost use Rattle.at_geojson.specs.Copies.{SamePoints, SameLists, SameTrack, SameAreas, CopiesText, CopiesPoints, CopiesLists, CopiesSeries, CopiesTrack, CopiesAreas, IsCopy};
 
 use crate::atoms::{
     Areas, AreasAtom, GeoAtom, Items, ItemsAtom, Lists, ListsAtom, ObjectAtom, Points, PointsAtom,
-    Role, Roles, SeriesAtom, TextAtom,
+    Role, Roles, SeriesAtom, TextAtom, Track, TrackAtom,
 };
 use crate::geometries::Geometry;
 use crate::texts::copy_texts;
@@ -200,6 +202,27 @@ fn copy_series(alloc: Global, atom: &SeriesAtom) -> Result<SeriesAtom, Memory>
     })
 }
 
+fn copy_track(alloc: Global, track: &Track) -> Result<Track, Memory>
+    ensures { IfOk result (SameTrack track.now) }
+{
+    Ok(Track {
+        first: track.first,
+        last: track.last,
+        count: track.count,
+        fault: track.fault,
+        path: copy_positions(alloc, track.path.as_slice())?,
+    })
+}
+
+fn copy_track_atom(alloc: Global, atom: &TrackAtom) -> Result<TrackAtom, Memory>
+    ensures { IfOk result (CopiesTrack atom.now) }
+{
+    Ok(TrackAtom {
+        at: atom.at,
+        track: Box::new(alloc, copy_track(alloc, &*atom.track)?)?,
+    })
+}
+
 fn copy_areas(alloc: Global, areas: &Areas) -> Result<Areas, Memory>
     ensures { IfOk result (SameAreas areas.now) }
 {
@@ -276,6 +299,7 @@ fn copy_large(alloc: Global, atom: &GeoAtom) -> Result<GeoAtom, Memory>
         GeoAtom::Object(object) => Ok(GeoAtom::Object(copy_object_atom(alloc, object)?)),
         GeoAtom::Run(run) => Ok(GeoAtom::Run(copy_run(alloc, run)?)),
         GeoAtom::Series(series) => Ok(GeoAtom::Series(copy_series(alloc, series)?)),
+        GeoAtom::Track(track) => Ok(GeoAtom::Track(copy_track_atom(alloc, track)?)),
         _ => Err(Memory),
     }
 }

@@ -27,6 +27,7 @@ mod shapes;
 mod short_texts;
 mod sorts;
 mod texts;
+mod tracks;
 mod twins;
 mod two_ended;
 mod values;
@@ -37,3 +38,5 @@ pub use root::{RootEnd, root_part};
 
 #[cfg(test)]
 mod tests;
+#[cfg(test)]
+mod track_tests;

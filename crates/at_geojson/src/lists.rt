@@ -1,3 +1,5 @@
+//! Arrays item by item: what their items are together, as coordinates, geometries and features.
+
 ghost use Rattle.std.specs.Prelude.{◌≡◌, ◌≢◌, [], All, IfOk, Some, None, Ok, Err, false};
 ghost use Rattle.std.specs.List.{list_any};
 ghost use Rattle.at_text.specs.Faults.{fault_at};

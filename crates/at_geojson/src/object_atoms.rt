@@ -1,3 +1,5 @@
+//! What is kept of an object, by its kind.
+
 ghost use Rattle.std.specs.Prelude.{◌≡◌, All, IfOk, Some};
 ghost use Rattle.at_nest.specs.Tree.{Members, object as object_tree};
 ghost use Rattle.at_nest.specs.Folds.{AreMemberFolds};

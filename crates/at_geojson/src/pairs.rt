@@ -2,7 +2,7 @@
 
 ghost use Rattle.std.specs.Prelude.{◌≡◌, ℕ, ◌+◌, ◌<◌, ◌≤◌, ◌^◌, Bool, true, false, [], ◌∷◌, length, slice_index, IfOk, IfSome};
 ghost use Rattle.at_geojson.specs.Keeping.{needs_shapes as needs_of};
-ghost use Rattle.at_geojson.specs.Gathering.{to_four};
+ghost use Rattle.at_geojson.specs.Atoms.{to_four};
 ghost use Rattle.at_geojson.specs.Values.{IsPlain, IsPair, IsSpacedPair, PassesPlain, PassesPair, PassesSpacedPair};
 ghost use Rattle.at_geojson.specs.Rows.{EndsRow, EndsPoints, ArePointsPassed, ArePointsWhole};
 
@@ -58,7 +58,7 @@ pub struct PointsRead {
 }
 
 /// Room that a list of positions is given at first: that of a ring of four corners.
-const ROOM: usize = 5;
+pub const ROOM: usize = 5;
 
 /// Whether a number may begin at the place: what stands behind the digits begins none.
 #[inline(always)]

@@ -1,3 +1,5 @@
+//! A value as the coordinates of each kind of geometry (RFC 7946 section 3.1).
+
 ghost use Rattle.std.specs.Prelude.{◌≡◌, IfOk};
 ghost use Rattle.at_geojson.specs.Objects.{unless as shape_unless, point_shape, points_shape, line_shape, lines_shape, polygon_shape, polygons_shape};
 

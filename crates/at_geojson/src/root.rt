@@ -1,3 +1,5 @@
+//! What a whole text means: the part of its features, or its first fault beyond its syntax.
+
 ghost use Rattle.std.specs.Prelude.{◌≡◌, []};
 ghost use Rattle.at_geom.specs.Shapes.{IsShapeInRange};
 ghost use Rattle.at_nest.specs.Tree.{Tree};

@@ -13,6 +13,7 @@ use crate::asked::GeoAlgebra;
 use crate::atoms::{GeoAtom, Items};
 use crate::lists::{array_atom, form_at, into_items, joined_items, list_atom};
 use crate::series::{add_list, are_lists, is_list, series_array};
+use crate::tracks::{add_position, are_positions, is_position, track_array};
 use crate::twins::first_twin;
 use at_query::Part;
 use at_text::Memory;
@@ -27,7 +28,7 @@ fn is_run(atom: &GeoAtom) -> bool
     ensures { result ≡ run_is atom.now }
 {
     match atom {
-        GeoAtom::Run(_) | GeoAtom::Series(_) => true,
+        GeoAtom::Run(_) | GeoAtom::Series(_) | GeoAtom::Track(_) => true,
         _ => false,
     }
 }
@@ -306,7 +307,8 @@ fn join_item(
 
 /// Puts an atom behind those of an array's items. Objects one behind another become one run, where nothing stands before
 /// them, and several runs where their hull has many corners. The hulls of several have at most half as many corners each
-/// as that before it, so that a corner takes part in few joins. Lists of positions one behind another become one series.
+/// as that before it, so that a corner takes part in few joins. Lists of positions one behind another become one series, and
+/// positions one track.
 pub fn add_item(
     alloc: Global,
     algebra: &GeoAlgebra,
@@ -322,12 +324,14 @@ pub fn add_item(
         join_item(alloc, algebra, items, atom)
     } else if is_list(&atom) {
         add_list(alloc, algebra, items, atom)
+    } else if is_position(&atom) {
+        add_position(alloc, algebra, items, atom)
     } else {
         push_item(algebra, items, atom)
     }
 }
 
-/// An array of which some items are a run or a series, in which no object has equal names.
+/// An array of which some items stand for several values, in which no object has equal names.
 fn joined_atom(
     alloc: Global,
     algebra: &GeoAlgebra,
@@ -342,12 +346,14 @@ fn joined_atom(
 {
     if are_lists(items.as_slice()) {
         series_array(alloc, algebra, at, items)
+    } else if are_positions(items.as_slice()) {
+        track_array(alloc, algebra, at, items)
     } else {
         list_atom(alloc, algebra, at, items)
     }
 }
 
-/// An array of which some items are a run or a series.
+/// An array of which some items stand for several values.
 fn runs_atom(
     alloc: Global,
     algebra: &GeoAlgebra,
@@ -365,7 +371,7 @@ fn runs_atom(
     }
 }
 
-/// An array that begins at the offset, with runs and series among its items or without.
+/// An array that begins at the offset, with items that stand for several values or without.
 pub fn closed_array(
     alloc: Global,
     algebra: &GeoAlgebra,

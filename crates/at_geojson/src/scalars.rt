@@ -1,3 +1,5 @@
+//! What is kept of a string, a literal or a number.
+
 ghost use Rattle.std.specs.Prelude.{◌≡◌, ℕ, ◌+◌, ◌≤◌, ◌^◌, length, get_or, true, false, Some, None, IfOk};
 ghost use Rattle.std.specs.List.{list_all, list_any};
 ghost use Rattle.at_fixed.specs.Numerals.{JsonNumber};

@@ -63,7 +63,7 @@ fn fault_as_rings(atom: &GeoAtom) -> Option<Fault>
 
 /// The same positions with no more room than they need. A list with room left is copied and let go as a whole, so that
 /// what it lay in serves the next.
-fn exact_path(alloc: Global, path: Vec<Pos>) -> Result<Vec<Pos>, Memory>
+pub fn exact_path(alloc: Global, path: Vec<Pos>) -> Result<Vec<Pos>, Memory>
     ensures { IfOk result (λ exact. exact.items ≡ path.items) }
 {
     if path.capacity() == path.len() {

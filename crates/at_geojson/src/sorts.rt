@@ -1,3 +1,5 @@
+//! What values can be as items of coordinates, and where they begin.
+
 ghost use Rattle.std.specs.Prelude.{◌≡◌};
 ghost use Rattle.at_geojson.specs.Atoms.{at_of as offset_in};
 ghost use Rattle.at_geojson.specs.Gathering.{rank as rank_of, sort_of as the_sort, are_all as all_are, sort_of_all as the_sort_of_all, first_sort as the_first_sort, first_at as first_offset, least_of as least_offset};
@@ -92,6 +94,7 @@ pub fn at_of(atom: &GeoAtom) -> u32
         GeoAtom::Object(object) => object.at,
         GeoAtom::Run(_) => 0,
         GeoAtom::Series(series) => series.at,
+        GeoAtom::Track(track) => track.at,
     }
 }
 

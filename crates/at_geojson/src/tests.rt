@@ -1,3 +1,5 @@
+//! Tables of GeoJSON texts and what queries find in them, with each text cut in many ways.
+
 ghost use Rattle.std.specs.Prelude.{◌≡◌, ◌≤◌, ◌<◌, ◌^◌, length, IfOk};
 ghost use Rattle.at_query.specs.Ranges.{IsQueryInRange};
 ghost use Rattle.at_nest.specs.Holding.{Kept};
@@ -142,7 +144,7 @@ fn root_text(alloc: Global, algebra: &GeoAlgebra, atom: GeoAtom) -> Result<Strin
 }
 
 /// What is told of a text that is cut at the place.
-fn told(alloc: Global, line: &[u8], bytes: &[u8], how: Coords, at: u32) -> Result<String, Fail>
+pub fn told(alloc: Global, line: &[u8], bytes: &[u8], how: Coords, at: u32) -> Result<String, Fail>
     requires line { length line.now < 100 }
     requires fits { length bytes.now ≤ 2 ^ 28 }
     requires end { at ≤ length bytes.now }
@@ -157,7 +159,7 @@ fn told(alloc: Global, line: &[u8], bytes: &[u8], how: Coords, at: u32) -> Resul
 }
 
 /// A query, a text, and what is told of it, wherever it is cut.
-type Row = (&'static [u8], &'static [u8], &'static str);
+pub type Row = (&'static [u8], &'static [u8], &'static str);
 
 fn compare<R: Abort + AllocGlobal>(rt: &R, row: Row) -> Result<(), Fail> {
     assert!(rt; row.0.len() < 100);
@@ -169,7 +171,7 @@ fn compare<R: Abort + AllocGlobal>(rt: &R, row: Row) -> Result<(), Fail> {
     Ok(())
 }
 
-fn compare_rows<R: Abort + AllocGlobal>(rt: &R, rows: &[Row]) -> Result<(), Fail> {
+pub fn compare_rows<R: Abort + AllocGlobal>(rt: &R, rows: &[Row]) -> Result<(), Fail> {
     for row in rows {
         compare(rt, *row)?;
     }

@@ -1,3 +1,5 @@
+//! The texts of features for which a query asks.
+
 ghost use Rattle.std.specs.Prelude.{◌≡◌, ◌++◌, [], IfOk};
 ghost use Rattle.at_geojson.specs.Atoms.{as_text};
 ghost use Rattle.at_geojson.specs.Objects.{texts_in as texts_inside, texts_named, pair_kept, kept_texts as the_kept_texts};

@@ -1,3 +1,5 @@
+//! Equal names in objects, and the first fault that they are.
+
 ghost use Rattle.std.specs.Prelude.{◌≡◌, [], IfOk, is_some};
 ghost use Rattle.at_geojson.specs.Atoms.{twin_of as the_twin};
 ghost use Rattle.at_geojson.specs.Gathering.{firsts, is_among as name_among, twin_at, member_twins};

@@ -2,7 +2,8 @@ use Rattle.std.proofs.Common.{length, refl, ◌∙◌, ap}
 use Rattle.at_text.specs.Faults.{first_fault}
 use Rattle.at_geom.specs.Shapes.{line_fault, ring_fault}
 use Rattle.at_geojson.specs.declared.atoms.Points.{Points}
-use Rattle.at_geojson.specs.Gathering.{to_four, closes}
+use Rattle.at_geojson.specs.Atoms.{to_four}
+use Rattle.at_geojson.specs.Gathering.{closes}
 use Rattle.at_geojson.proofs.coordinates.points_atom.Goals as goal
 
 pub returns : goal.returns

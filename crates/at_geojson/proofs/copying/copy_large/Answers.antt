@@ -1,5 +1,5 @@
 use Rattle.std.proofs.Common.{refl, sym, subst}
-use Rattle.at_geojson.specs.declared.atoms.GeoAtom.TheVariants.{Points, Lists, Areas, Series}
+use Rattle.at_geojson.specs.declared.atoms.GeoAtom.TheVariants.{Points, Lists, Areas, Series, Track}
 use Rattle.at_geojson.specs.Copies.{IsCopy}
 use Rattle.at_geojson.proofs.copying.copy_large.Goals as goal
 
@@ -14,3 +14,6 @@ returns-in_ok-copy_areas_atom-in-Areas c = subst (λ a. IsCopy a (Areas c.in_ok-
 
 pub returns-in_ok-copy_series-in-Series : goal.returns-in_ok-copy_series-in-Series
 returns-in_ok-copy_series-in-Series c = subst (λ a. IsCopy a (Series c.in_ok-copy_series-in-Series.field-0)) (sym c.in-Series.is) (c.in_ok-copy_series-in-Series.field-0, refl, c.in_ok-copy_series-in-Series.ensures)
+
+pub returns-in_ok-copy_track_atom-in-Track : goal.returns-in_ok-copy_track_atom-in-Track
+returns-in_ok-copy_track_atom-in-Track c = subst (λ a. IsCopy a (Track c.in_ok-copy_track_atom-in-Track.field-0)) (sym c.in-Track.is) (c.in_ok-copy_track_atom-in-Track.field-0, refl, c.in_ok-copy_track_atom-in-Track.ensures)
