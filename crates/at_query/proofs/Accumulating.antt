@@ -1,11 +1,9 @@
 -- What is kept of features that are added one by one.
-use Rattle.std.proofs.Common.{◌≡◌, ◌≢◌, ℕ, Bool, true, false, List, [], ◌∷◌, ◌++◌, length, map, refl, sym, ◌∙◌, ap, subst, inl, inr, true≢false}
-use Rattle.std.specs.Prelude.{flat_map}
+use Rattle.std.proofs.Common.{◌≡◌, ◌≢◌, true, false, List, [], ◌∷◌, ◌++◌, refl, sym, ◌∙◌, ap, subst, true≢false}
 use Rattle.std.proofs.lemmas.List.{append-nil}
 use Rattle.std.proofs.lemmas.Grind.{flat_map-append}
 use Rattle.at_geom.specs.declared.positions.Pos.{Pos}
-use Rattle.at_geom.specs.declared.shapes.Polygon.{Polygon}
-use Rattle.at_geom.specs.Shapes.{positions, extent_of}
+use Rattle.at_geom.specs.Shapes.{positions}
 use Rattle.at_hull.specs.Hulls.{IsHull}
 use Rattle.at_hull.specs.Growth.{HaveOneHull, Growth, held}
 use Rattle.at_hull.proofs.OneHull.{one_hull_refl, one_hull_both, one_hull_own, one_hull_grown, one_hull_trans}
@@ -19,7 +17,7 @@ use Rattle.at_query.specs.declared.accumulators.Accumulator.{Accumulator}
 use Rattle.at_query.specs.declared.accumulators.Accumulator.TheVariants.{Part as APart, Hull}
 use Rattle.at_query.specs.Holding.{Holds}
 use Rattle.at_query.specs.Results.{Keeps, all_positions, all_polygons}
-use Rattle.at_query.specs.Parts.{entry_of, wrapped_sum, IsHullInRange, IsKeptOf, IsPart, IsProper, AreAlike, JoinsParts}
+use Rattle.at_query.specs.Parts.{IsHullInRange, IsKeptOf, IsPart, JoinsParts}
 use Rattle.at_query.specs.Accumulators.{IsKeptIn, IsAccumulated, AreOfOneVerb, JoinsAccumulators, IsNoHull, KeepsNoShape, added_by, is_entries, is_hull}
 use Rattle.at_query.proofs.KeptLists.{keeps-append, keeps_none, keeps_one, drops_one}
 use Rattle.at_query.proofs.Joining.{parts_are_alike}

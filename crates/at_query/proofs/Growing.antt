@@ -1,5 +1,5 @@
 -- Positions of paths, of polygons and of a shape that are added to those of a hull, part by part.
-use Rattle.std.proofs.Common.{◌≡◌, ℕ, ◌+◌, ◌<◌, List, [], ◌∷◌, ◌++◌, length, take, get_or, Option, Some, None, arith, refl, sym, ◌∙◌, ap, subst, append_assoc}
+use Rattle.std.proofs.Common.{◌≡◌, ℕ, ◌+◌, ◌<◌, List, [], ◌∷◌, ◌++◌, length, take, get_or, Option, Some, None, arith, sym, ◌∙◌, ap, subst, append_assoc}
 use Rattle.std.specs.Prelude.{flat_map, IfSome}
 use Rattle.std.specs.List.{AllByRecursion}
 use Rattle.std.proofs.lemmas.Int.{ints, clamps}
@@ -11,7 +11,7 @@ use Rattle.at_geom.specs.declared.shapes.Shape.{Shape}
 use Rattle.at_geom.specs.declared.rectangles.Extent.{Extent}
 use Rattle.at_geom.specs.Segments.{IsInRange}
 use Rattle.at_geom.specs.Shapes.{positions, joined, positions_of_polygons, widened, extent_of, IsShapeInRange}
-use Rattle.at_hull.specs.Growth.{HaveOneHull, Growth, held}
+use Rattle.at_hull.specs.Growth.{HaveOneHull}
 use Rattle.at_hull.proofs.OneHull.{one_hull_refl, one_hull_grown}
 use Rattle.at_query.proofs.Hulls.{positions_in_range}
 

@@ -5,6 +5,8 @@ pub mod Areas
 pub mod Hulls
 pub mod Joining
 pub mod Growing
+pub mod Taken
+pub mod Rooms
 pub mod Accumulating
 pub mod Exact
 pub mod ProperEntries

@@ -14,7 +14,8 @@ use Rattle.at_query.specs.Holding.{Holds}
 use Rattle.at_query.specs.Results.{Keeps, all_positions}
 use Rattle.at_query.specs.Parts.{IsKeptOf, IsOfOneSize, AreAlike, entry_of, wrapped_sum}
 
--- what a verb keeps of the features that are left: their part, or for a hull positions that have one hull with all of theirs
+-- what a verb keeps of the features that are left: their part, or for a hull positions that have one hull with all of
+-- theirs
 abbrev pub IsKeptIn : Verb → List Feature → Accumulator → Type 0
 IsKeptIn verb kept (APart part) = (verb ≢ verbs.Hull) × IsKeptOf verb kept part
 IsKeptIn verb kept (Hull growth) = (verb ≡ verbs.Hull) × HaveOneHull (all_positions kept) (held growth)
@@ -31,7 +32,8 @@ AreOfOneVerb _ _ = ⊥
 
 -- whatever the lists and the query are of which these are kept, it is what is kept of the joined lists
 abbrev pub JoinsAccumulators : Accumulator → Accumulator → Accumulator → Type 0
-JoinsAccumulators left right both = (query : Query) (fs gs : List Feature) → IsAccumulated query fs left → IsAccumulated query gs right → IsAccumulated query (fs ++ gs) both
+JoinsAccumulators left right both = (query : Query) (fs gs : List Feature) → IsAccumulated query fs left
+    → IsAccumulated query gs right → IsAccumulated query (fs ++ gs) both
 
 -- it is a number or an extent
 abbrev pub HasOneSize : Accumulator → Type 0

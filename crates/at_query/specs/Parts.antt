@@ -1,4 +1,5 @@
--- What a list of features adds to the answer to a query, how the parts of neighbouring lists are joined, and the answer that the part of the whole list gives.
+-- What a list of features adds to the answer to a query, how the parts of neighbouring lists are joined, and the
+-- answer that the part of the whole list gives.
 use Rattle.std.specs.Prelude.{◌≡◌, ℕ, ◌%◌, ◌<◌, ◌^◌, ℤ, pos, List, [], ◌∷◌, ◌++◌, All, map, length}
 use Rattle.std.specs.Int.{w128, int_wrap}
 use Rattle.std.specs.List.{AllByRecursion}
@@ -76,7 +77,8 @@ IsOfOneSize (Hull h) = ⊥
 
 -- whatever the lists and the query are of which these are the parts, it is the part of the joined lists
 abbrev pub JoinsParts : Part → Part → Part → Type 0
-JoinsParts left right part = (query : Query) (fs gs : List Feature) → IsPart query fs left → IsPart query gs right → IsPart query (fs ++ gs) part
+JoinsParts left right part = (query : Query) (fs gs : List Feature) → IsPart query fs left → IsPart query gs right
+    → IsPart query (fs ++ gs) part
 
 -- the part is no list of entries, which has no answer of its own
 abbrev pub IsAnswerable : Part → Type 0

@@ -1,5 +1,6 @@
 -- What a query line means, and where its fault is (docs/QUERY.md, "The query line").
-use Rattle.std.specs.Prelude.{◌≡◌, ◌⊎◌, ℕ, ℤ, min, Bool, ◌||◌, int_lt, if◌then◌else◌, List, [], ◌∷◌, ◌++◌, map, flat_map, Option, Some, None}
+use Rattle.std.specs.Prelude.{◌≡◌, ◌⊎◌, ℕ, ℤ, min, Bool, ◌||◌, int_lt, if◌then◌else◌, List, [], ◌∷◌, ◌++◌, map}
+use Rattle.std.specs.Prelude.{flat_map, Option, Some, None}
 use Rattle.at_text.specs.declared.faults.Fault.{Fault}
 use Rattle.at_text.specs.Prefix.{LongestViable}
 use Rattle.at_fixed.specs.declared.rounding.Coords.{Coords}
@@ -14,7 +15,8 @@ use Rattle.at_query.specs.declared.queries.Test.{Test}
 use Rattle.at_query.specs.declared.queries.Test.TheVariants.{InBox, MeetsShape, Has}
 use Rattle.at_query.specs.declared.reading.QueryEnd.{QueryEnd}
 use Rattle.at_query.specs.declared.reading.QueryEnd.TheVariants.{Fault as FaultAt, Memory}
-use Rattle.at_query.specs.Spelling.{Placed, SpelledBox, Spelled, in_box, meets_box, meets, has, SpelledQuery, IsSpelled, QueryText}
+use Rattle.at_query.specs.Spelling.{Placed, SpelledBox, Spelled, in_box, meets_box, meets, has, SpelledQuery}
+use Rattle.at_query.specs.Spelling.{IsSpelled, QueryText}
 
 -- a fact of the offset at which a query is refused; want of memory has no cause in the text
 abbrev pub IfFaultAt : QueryEnd → (ℕ → Type 0) → Type 0
@@ -57,14 +59,18 @@ module _ (digits : ℕ) (how : Coords) where
   placed_value n = value_of digits how n.number
 
   abbrev pub extent_of_box : SpelledBox → Extent
-  extent_of_box b = record { low = record { x = placed_value b.low_x; y = placed_value b.low_y }; high = record { x = placed_value b.high_x; y = placed_value b.high_y } }
+  extent_of_box b = record {
+    low = record { x = placed_value b.low_x; y = placed_value b.low_y };
+    high = record { x = placed_value b.high_x; y = placed_value b.high_y };
+  }
 
   -- Scale or Range, at the number
   abbrev pub placed_faults : Placed → List ℕ
   placed_faults n = ats_of (number_fault digits how n.number n.at)
 
   abbrev pub numbers_faults : SpelledBox → List ℕ
-  numbers_faults b = placed_faults b.low_x ++ (placed_faults b.low_y ++ (placed_faults b.high_x ++ placed_faults b.high_y))
+  numbers_faults b =
+      placed_faults b.low_x ++ (placed_faults b.low_y ++ (placed_faults b.high_x ++ placed_faults b.high_y))
 
   abbrev pub box_faults : SpelledBox → List ℕ
   box_faults b = faults_with (numbers_faults b) (extent_of_box b) b.at
@@ -97,7 +103,8 @@ module _ (digits : ℕ) (how : Coords) where
     pub query_is : query ≡ query_of line
     pub only : (other : SpelledQuery) → IsSpelled text other → (spelled_fault other ≡ None) × (query_of other ≡ query)
 
-  -- the text spells a query with faults, this is the least offset of them, and of no query that the text spells is it another
+  -- the text spells a query with faults, this is the least offset of them, and of no query that the text spells is it
+  -- another
   pub record IsWrongAt (text : List ℕ) (at : ℕ) : Type 0 where
     pub line : SpelledQuery
     pub spelled : IsSpelled text line

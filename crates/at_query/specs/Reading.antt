@@ -1,5 +1,6 @@
 -- What the functions that read the parts of a query promise each other. Only contracts of private functions cite this.
-use Rattle.std.specs.Prelude.{◌≡◌, ◌⊎◌, ℕ, ℤ, ◌+◌, ◌<◌, ◌≤◌, Bool, if◌then◌else◌, List, [], ◌∷◌, ◌++◌, length, take, drop, map, codes, Option, Some, None, option_map, is_none, slice_index_or}
+use Rattle.std.specs.Prelude.{◌≡◌, ◌⊎◌, ℕ, ℤ, ◌+◌, ◌<◌, ◌≤◌, Bool, if◌then◌else◌, List, [], ◌∷◌, ◌++◌, length, take}
+use Rattle.std.specs.Prelude.{drop, map, codes, Option, Some, None, option_map, is_none, slice_index_or}
 use Rattle.at_text.specs.declared.faults.Fault.{Fault}
 use Rattle.at_text.specs.Parts.{Exactly, ◌▸◌}
 use Rattle.at_text.specs.Texts.{is_one_of}
@@ -18,8 +19,10 @@ use Rattle.at_query.specs.declared.filters.TestRead.{TestRead}
 use Rattle.at_query.specs.declared.queries.Verb.{Verb}
 use Rattle.at_query.specs.declared.queries.Test.{Test}
 use Rattle.at_query.specs.declared.queries.Test.TheVariants.{InBox, MeetsShape, Has}
-use Rattle.at_query.specs.Spelling.{Placed, SpellsPlaced, SpelledBox, SpellsBox, Spelled, in_box, meets_box, meets, has, SpellsTest, SpellsTests, verb_text}
-use Rattle.at_query.specs.Queries.{lesser, least_of, placed_value, placed_faults, extent_of_box, box_faults, box_shape, is_reversed}
+use Rattle.at_query.specs.Spelling.{Placed, SpellsPlaced, SpelledBox, SpellsBox, Spelled, in_box, meets_box, meets}
+use Rattle.at_query.specs.Spelling.{has, SpellsTest, SpellsTests, verb_text}
+use Rattle.at_query.specs.Queries.{lesser, least_of, placed_value, placed_faults, extent_of_box, box_faults}
+use Rattle.at_query.specs.Queries.{box_shape, is_reversed}
 
 -- the bytes of a text from a place up to another
 abbrev pub part : List ℕ → ℕ → ℕ → List ℕ
@@ -31,7 +34,8 @@ next w i = slice_index_or w i 256
 
 -- A part P of a text says of a value, an offset and the bytes that begin there that they spell the value.
 
--- the text w spells the value x from the place i up to j, and whatever spelling agrees with it there is these bytes and of this value
+-- the text w spells the value x from the place i up to j, and whatever spelling agrees with it there is these bytes and
+-- of this value
 pub record Ends {X : Type 0} (P : X → ℕ → List ℕ → Type 0) (w : List ℕ) (i j : ℕ) (x : X) : Type 0 where
   pub order : i ≤ j
   pub within : j ≤ length w
@@ -132,7 +136,10 @@ abbrev pub four_in : Corners → Four
 four_in c = (number_in c.low_x, (number_in c.low_y, (number_in c.high_x, number_in c.high_y)))
 
 abbrev pub extent_in : Corners → Extent
-extent_in c = record { low = record { x = c.low_x.value; y = c.low_y.value }; high = record { x = c.high_x.value; y = c.high_y.value } }
+extent_in c = record {
+  low = record { x = c.low_x.value; y = c.low_y.value };
+  high = record { x = c.high_x.value; y = c.high_y.value };
+}
 
 -- the least fault of the numbers of a box
 abbrev pub four_fault : Corners → Option ℕ
@@ -153,7 +160,8 @@ Text units at w = (cs : List Character) × (units ≡ units_of cs) × SpellsStri
 
 -- a name and a value
 abbrev pub HasTest : TestMeaning → ℕ → List ℕ → Type 0
-HasTest m at w = (p : List ℕ × List ℕ) × (m ≡ record { test = Has p.0 p.1; fault = None }) × Behind (codes "has ") (Then Text (Behind (codes " = ") Text)) p at w
+HasTest m at w = (p : List ℕ × List ℕ) × (m ≡ record { test = Has p.0 p.1; fault = None })
+    × Behind (codes "has ") (Then Text (Behind (codes " = ") Text)) p at w
 
 -- what a test of a box says
 abbrev pub met_box : BoxMeaning → TestMeaning
@@ -185,7 +193,10 @@ module _ (digits : ℕ) (how : Coords) where
   geometry_fault g = first_of (faults_of digits how g)
 
   abbrev pub geometry_meaning : Geometry → TestMeaning
-  geometry_meaning g = record { test = MeetsShape (if is_none (geometry_fault g) then shape_of digits how g else empty_shape); fault = option_map (λ (f : Fault). f.at) (geometry_fault g) }
+  geometry_meaning g = record {
+    test = MeetsShape (if is_none (geometry_fault g) then shape_of digits how g else empty_shape);
+    fault = option_map (λ (f : Fault). f.at) (geometry_fault g);
+  }
 
   -- a box that a shape is to meet
   abbrev pub BoxTarget : TestMeaning → ℕ → List ℕ → Type 0
@@ -234,14 +245,16 @@ fault_of [] = None
 fault_of (m ∷ ms) = lesser m.fault (fault_of ms)
 
 -- tests cover the text from a place on
-pub record TestsCover (digits : ℕ) (how : Coords) (w : List ℕ) (i : ℕ) (items : List Test) (fault : Option ℕ) : Type 0 where
+pub record TestsCover (digits : ℕ) (how : Coords) (w : List ℕ) (i : ℕ) (items : List Test) (fault : Option ℕ)
+    : Type 0 where
   pub meanings : List TestMeaning
   pub covers : Covers (Tests digits how (codes " where ")) w i meanings
   pub items_are : items ≡ tests_of meanings
   pub fault_is : fault ≡ fault_of meanings
 
 -- a whole query covers the text
-pub record QueryCovers (digits : ℕ) (how : Coords) (w : List ℕ) (verb : Verb) (items : List Test) (fault : Option ℕ) : Type 0 where
+pub record QueryCovers (digits : ℕ) (how : Coords) (w : List ℕ) (verb : Verb) (items : List Test) (fault : Option ℕ)
+    : Type 0 where
   pub meanings : List TestMeaning
   pub covers : Covers (Then VerbPart (Tests digits how (codes " where "))) w 0 (verb, meanings)
   pub items_are : items ≡ tests_of meanings

@@ -51,4 +51,5 @@ at_pair (f, g) = record { first = f.at; second = g.at }
 
 -- the answer to a join
 abbrev pub IsJoined : Query → List Feature → List Feature → Answer → Type 0
-IsJoined query fs gs answer = (kept : List (Feature × Feature)) × Keeps (Joins query) (pairs_of fs gs) kept × (answer ≡ Pairs (map at_pair kept))
+IsJoined query fs gs answer = (kept : List (Feature × Feature)) × Keeps (Joins query) (pairs_of fs gs) kept
+    × (answer ≡ Pairs (map at_pair kept))

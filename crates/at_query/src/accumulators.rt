@@ -37,7 +37,8 @@ pub enum Accumulator {
 /// Puts what is kept of further features behind a part.
 fn join_to_part(part: &mut Part, other: Accumulator) -> Result<(), Memory>
     requires { AreOfOneVerb (Accumulator.Part part.old) other }
-    ensures joined { IfOk result (λ _. JoinsAccumulators (Accumulator.Part part.old) other (Accumulator.Part part.new)) }
+    ensures joined { IfOk result
+        (λ _. JoinsAccumulators (Accumulator.Part part.old) other (Accumulator.Part part.new)) }
     ensures sized { IsOfOneSize part.old → IsOk result }
 {
     match other {
@@ -109,8 +110,8 @@ impl Accumulator {
         }
     }
 
-    /// Adds a feature whose parts are lent, where the query holds of it: for every verb but `join`, which keeps shapes. What
-    /// `add` says of memory holds of it.
+    /// Adds a feature whose parts are lent, where the query holds of it: for every verb but `join`, which keeps shapes.
+    /// What `add` says of memory holds of it.
     #[inline(always)]
     pub fn add_lent(&mut self, query: &Query, feature: &LentFeature) -> Result<(), Memory>
         requires no_join { query.now.verb ≢ Verb.Join }
@@ -144,7 +145,8 @@ impl Accumulator {
 
     /// The part of the features. It takes no memory but for a hull that isn't made yet.
     pub fn into_part(self) -> Result<Part, Memory>
-        ensures part { IfOk result (λ part. (query : Query) (fs : List Feature) → IsAccumulated query fs self → IsPart query fs part) }
+        ensures part { IfOk result (λ part. (query : Query) (fs : List Feature) → IsAccumulated query fs self
+            → IsPart query fs part) }
         ensures settled { IsSettled self → IsOk result }
     {
         match self {

@@ -1,7 +1,8 @@
 //! A feature that is added to what is kept of those before it.
 
 ghost use Rattle.std.specs.Prelude.{◌≡◌, true, ◌++◌, IfOk, IsOk};
-ghost use Rattle.at_geom.specs.Shapes.{ArePathsInRange, ArePolygonsInRange, IsShapeInRange, positions, joined, positions_of_polygons};
+ghost use Rattle.at_geom.specs.Shapes.{ArePathsInRange, ArePolygonsInRange, IsShapeInRange, positions, joined};
+ghost use Rattle.at_geom.specs.Shapes.{positions_of_polygons};
 ghost use Rattle.at_hull.specs.Growth.{HaveOneHull, held};
 ghost use Rattle.at_query.specs.Ranges.{IsFeatureInRange};
 ghost use Rattle.at_query.specs.Parts.{IsOfOneSize, JoinsParts};

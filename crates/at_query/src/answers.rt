@@ -1,3 +1,5 @@
+//! Answers to queries, and the lists that they hold.
+
 ghost use Rattle.std.specs.Prelude.{◌≡◌, ◌++◌, ◌∷◌, [], IfOk};
 
 use at_geom::{Extent, Path};

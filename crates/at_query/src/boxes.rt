@@ -1,6 +1,9 @@
+//! A box in a query line: its four numbers, and what is wrong with them.
+
 ghost use Rattle.std.specs.Prelude.{◌≡◌, ◌^◌, ◌≤◌, length, MatchResult};
 ghost use Rattle.at_query.specs.Queries.{lesser, is_reversed as reversed_test};
-ghost use Rattle.at_query.specs.Reading.{Ends, Stops, IfStopped, FourNumbers, Box, four_in, box_in, extent_in, four_fault, fault_with};
+ghost use Rattle.at_query.specs.Reading.{Ends, Stops, IfStopped, FourNumbers, Box, four_in, box_in, extent_in};
+ghost use Rattle.at_query.specs.Reading.{four_fault, fault_with};
 
 use crate::bytes::skip_word;
 use crate::coordinates::{NumberRead, read_number};

@@ -1,3 +1,5 @@
+//! Single bytes and fixed words of a query line.
+
 ghost use Rattle.std.specs.Prelude.{◌≡◌, ◌==◌, ◌≤◌, length, MatchResult};
 ghost use Rattle.at_query.specs.Reading.{next, WordStands, WordBreaks, IfStopped};
 

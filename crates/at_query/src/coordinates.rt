@@ -1,3 +1,5 @@
+//! A number of a box and the byte behind it.
+
 ghost use Rattle.std.specs.Prelude.{◌≡◌, ◌^◌, ◌≤◌, length, IsTrue, MatchResult};
 ghost use Rattle.at_wkt.specs.Positions.{value_in, faults_in};
 ghost use Rattle.at_query.specs.Queries.{ats_of, least_of};

@@ -1,3 +1,5 @@
+//! Features, owned and lent, and their texts.
+
 ghost use Rattle.std.specs.Prelude.{◌≡◌};
 ghost use Rattle.at_query.specs.Holding.{lent_feature};
 

@@ -1,3 +1,5 @@
+//! One test of a query line, by its first word.
+
 ghost use Rattle.std.specs.Prelude.{◌+◌, ◌^◌, ◌<◌, ◌≤◌, length, MatchResult};
 ghost use Rattle.at_query.specs.Reading.{Ends, Stops, Behind, InTest, MeetsTest, HasTest, OneTest, test_in, IfStopped};
 
@@ -98,7 +100,8 @@ pub fn read_behind(
     requires short { length text.now ≤ 2 ^ 28 }
     requires some { 0 < length word.now }
     ensures { MatchResult result
-        (λ read. (at < read.end) × Ends (Behind word.now (OneTest rules.digits rules.how)) text.now at read.end (test_in read))
+        (λ read. (at < read.end)
+        × Ends (Behind word.now (OneTest rules.digits rules.how)) text.now at read.end (test_in read))
         (λ halt. IfStopped halt (Stops (Behind word.now (OneTest rules.digits rules.how)) text.now at)) }
 {
     let from = skip_word(text, at, word)?;

@@ -1,3 +1,5 @@
+//! Why a query line isn't read on, and how its numbers are taken.
+
 ghost use Rattle.std.specs.Prelude.{◌≡◌};
 ghost use Rattle.at_query.specs.declared.halts.Halt.TheVariants as halts;
 

@@ -1,3 +1,5 @@
+//! Of which features a query holds.
+
 ghost use Rattle.std.specs.Prelude.{◌≡◌, IsTrue, ◌↔◌};
 ghost use Rattle.at_geom.specs.Shapes.{IsShapeInRange};
 ghost use Rattle.at_query.specs.Ranges.{IsTestInRange, IsQueryInRange, IsFeatureInRange};
@@ -36,8 +38,8 @@ fn test_holds(test: &Test, feature: &LentFeature) -> bool
     }
 }
 
-/// Whether all tests of a query hold of a feature whose parts are lent. A shape without positions is in no box and meets no
-/// shape. It takes no memory.
+/// Whether all tests of a query hold of a feature whose parts are lent. A shape without positions is in no box and
+/// meets no shape. It takes no memory.
 #[inline(always)]
 pub fn lent_holds(query: &Query, feature: &LentFeature) -> bool
     requires query_in_range { IsQueryInRange query.now }

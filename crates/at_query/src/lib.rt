@@ -1,10 +1,10 @@
 //! Queries over features: of which features a query holds, and the answers that are gathered from features in
 //! parts.
 //!
-//! [`read_query`] reads a query line. [`part_of`] gives what one feature adds to an answer, [`part_merge`] joins what two neighbouring lists of
-//! features give, in any grouping, and [`answer_of`] and [`answer_text`] make the answer and its printed text of
-//! the whole list's part. Where features come one after another, an [`Accumulator`] takes each in place and becomes
-//! the part of all.
+//! [`read_query`] reads a query line. [`part_of`] gives what one feature adds to an answer, [`part_merge`] joins what
+//! two neighbouring lists of features give, in any grouping, and [`answer_of`] and [`answer_text`] make the answer and
+//! its printed text of the whole list's part. Where features come one after another, an [`Accumulator`] takes each in
+//! place and becomes the part of all.
 #![tactic(auto)]
 
 mod accumulators;
@@ -24,6 +24,7 @@ mod printing;
 mod queries;
 mod reading;
 mod results;
+mod shape_hulls;
 mod strings;
 mod targets;
 

@@ -1,3 +1,5 @@
+//! The part of two neighbouring lists of features, from the parts of both.
+
 ghost use Rattle.std.specs.Prelude.{◌≡◌, ◌++◌, OnOk, IfOk, IsOk};
 ghost use Rattle.at_query.specs.Parts.{AreAlike, IsOfOneSize, IsProper, IsHullInRange, JoinsParts};
 ghost use Rattle.at_query.specs.Joined.{lower, upper, around, around_both, JoinsHulls};

@@ -1,3 +1,5 @@
+//! What a list of features adds to an answer, and the entries of a join.
+
 ghost use Rattle.std.specs.Prelude.{◌≡◌, ◌++◌, ◌∷◌, [], IfOk};
 
 use crate::answers::Offsets;

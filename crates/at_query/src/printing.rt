@@ -1,5 +1,8 @@
+//! The printed text of an answer.
+
 ghost use Rattle.std.specs.Prelude.{◌≡◌, ◌∷◌, ◌++◌, OnOk, IfOk, string_bytes, decimal};
-ghost use Rattle.at_query.specs.Printing.{ended, whole_text, pos_text, spread_text, printed, offsets_text, pairs_text, positions_text, hull_text};
+ghost use Rattle.at_query.specs.Printing.{ended, whole_text, pos_text, spread_text, printed, offsets_text};
+ghost use Rattle.at_query.specs.Printing.{pairs_text, positions_text, hull_text};
 
 use crate::answers::{Answer, Pair};
 use at_fixed::write_fixed;
@@ -40,7 +43,8 @@ fn push_pairs(text: &mut String, pairs: &[Pair]) -> Result<(), Memory>
 
 /// Puts a pair and a line's end behind a text.
 fn push_pair(text: &mut String, first: u32, second: u32) -> Result<(), Memory>
-    ensures { OnOk result (string_bytes text.new ≡ string_bytes text.old ++ ended (decimal first ++ (0x20 ∷ decimal second))) }
+    ensures { OnOk result
+        (string_bytes text.new ≡ string_bytes text.old ++ ended (decimal first ++ (0x20 ∷ decimal second))) }
 {
     let mut digits = Buffer::new();
     text.push_str(digits.format(first))?;

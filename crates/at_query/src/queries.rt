@@ -1,3 +1,5 @@
+//! Queries: a verb, and the tests that a feature has to pass.
+
 ghost use Rattle.std.specs.Prelude.{◌≡◌};
 
 use at_band::Bands;

@@ -1,7 +1,10 @@
+//! Reads a whole query line: its verb, then its tests.
+
 ghost use Rattle.std.specs.Prelude.{◌≡◌, [], Some, None, ◌^◌, ◌≤◌, codes, length, IfOk, MatchResult};
 ghost use Rattle.at_query.specs.Ranges.{IsQueryInRange};
 ghost use Rattle.at_query.specs.Queries.{IsQueryOf, HasQueryFault, IfFaultAt};
-ghost use Rattle.at_query.specs.Reading.{Ends, Stops, Breaks, Then, VerbPart, Tests as TestsPart, TestsCover, QueryCovers, WordStands, WordBreaks, IfStopped, joint_of};
+ghost use Rattle.at_query.specs.Reading.{Ends, Stops, Breaks, Then, VerbPart, Tests as TestsPart, TestsCover};
+ghost use Rattle.at_query.specs.Reading.{QueryCovers, WordStands, WordBreaks, IfStopped, joint_of};
 
 use crate::boxes::least;
 use crate::bytes::{skip_word, stands};
@@ -112,7 +115,8 @@ fn read_whole(alloc: Global, text: &[u8], rules: Rules) -> Result<QueryRead, Hal
     requires { length text.now ≤ 2 ^ 28 }
     ensures { MatchResult result
         (λ read. QueryCovers rules.digits rules.how text.now read.query.verb read.query.tests read.fault)
-        (λ halt. IfStopped halt (Breaks (Then VerbPart (TestsPart rules.digits rules.how (codes " where "))) text.now 0)) }
+        (λ halt. IfStopped halt
+        (Breaks (Then VerbPart (TestsPart rules.digits rules.how (codes " where "))) text.now 0)) }
 {
     let front = read_verb(text)?;
     let mut items = Vec::new(alloc);

@@ -1,8 +1,11 @@
-ghost use Rattle.std.specs.Prelude.{◌≡◌, List, [], ◌∷◌, ◌++◌, OnOk, IfOk};
-ghost use Rattle.at_geom.specs.Shapes.{ArePolygonsInRange, IsShapeInRange, positions, joined, positions_of_polygons};
+//! The part of no feature and of one, and the answer that a part gives.
+
+ghost use Rattle.std.specs.Prelude.{◌≡◌, List, [], ◌∷◌, IfOk};
+ghost use Rattle.at_geom.specs.Shapes.{ArePolygonsInRange};
 ghost use Rattle.at_query.specs.Ranges.{IsQueryInRange, IsFeatureInRange, AreFeaturesInRange};
 ghost use Rattle.at_query.specs.Results.{IsResult};
-ghost use Rattle.at_query.specs.Parts.{wrapped_sum, IsKeptOf, entry_of as the_entry, IsHullInRange, IsPart, IsProper, IsAnswerable, IsSaid, AreFew};
+ghost use Rattle.at_query.specs.Parts.{wrapped_sum, IsKeptOf, entry_of as the_entry};
+ghost use Rattle.at_query.specs.Parts.{IsPart, IsProper, IsAnswerable, IsSaid, AreFew};
 ghost use Rattle.at_query.specs.declared.queries.Query.{Query};
 ghost use Rattle.at_query.specs.declared.features.Feature.{Feature};
 
@@ -11,8 +14,8 @@ use crate::features::Feature;
 use crate::holding::holds;
 use crate::parts::{Entries, Entry, Part};
 use crate::queries::{Query, Verb};
-use at_geom::{Path, Polygon, Pos, Shape, doubled_area, extent};
-use at_hull::hull;
+use crate::shape_hulls::hull_of;
+use at_geom::{Path, Polygon, doubled_area, extent};
 use at_text::Memory;
 use std::alloc::Global;
 
@@ -77,53 +80,6 @@ fn entry_alone(alloc: Global, feature: Feature) -> Result<Entries, Memory>
     let mut items = Vec::with_capacity(alloc, 1)?;
     items.push(entry_of(feature))?;
     Ok(Entries::from_vec(items))
-}
-
-/// Puts the positions of paths behind others.
-fn push_paths(items: &mut Vec<Pos>, paths: &[Path]) -> Result<(), Memory>
-    ensures { OnOk result (items.new.items ≡ items.old.items ++ joined paths.now) }
-{
-    for path in paths {
-        items.extend_from_slice(path.as_slice())?;
-    }
-    Ok(())
-}
-
-/// Puts the positions of polygons behind others.
-fn push_polygons(items: &mut Vec<Pos>, polygons: &[Polygon]) -> Result<(), Memory>
-    ensures { OnOk result (items.new.items ≡ items.old.items ++ positions_of_polygons polygons.now) }
-{
-    for polygon in polygons {
-        push_paths(items, polygon.rings.as_slice())?;
-    }
-    Ok(())
-}
-
-/// All positions of a shape. The memory of its points serves on.
-fn positions_of(shape: Shape) -> Result<Path, Memory>
-    ensures { IfOk result (λ path. path ≡ positions shape) }
-{
-    let Shape {
-        points,
-        lines,
-        polygons,
-    } = shape;
-    let mut items = points.into_vec();
-    push_paths(&mut items, lines.as_slice())?;
-    push_polygons(&mut items, polygons.as_slice())?;
-    Ok(Path::from_vec(items))
-}
-
-/// The hull of the positions of a shape. A point alone is its own, and takes no memory.
-fn hull_of(alloc: Global, shape: Shape) -> Result<Path, Memory>
-    requires { IsShapeInRange shape }
-    ensures { IfOk result (IsHullInRange (positions shape)) }
-{
-    let path = positions_of(shape)?;
-    if path.as_slice().len() < 2 {
-        return Ok(path);
-    }
-    hull(alloc, &path)
 }
 
 /// What a verb keeps of one feature.

@@ -1,3 +1,5 @@
+//! A string of a query line.
+
 ghost use Rattle.std.specs.Prelude.{◌^◌, ◌≤◌, length, MatchResult};
 ghost use Rattle.at_query.specs.Reading.{Ends, Stops, Text, IfStopped};
 

@@ -1,3 +1,5 @@
+//! Which shapes pass which tests, and the answers that are gathered from them in parts and one by one.
+
 ghost use Rattle.std.specs.Prelude.{◌≡◌, ◌≢◌, false, List, IfOk, IfSome, All, IsTrue};
 ghost use Rattle.at_geom.specs.Segments.{IsInRange};
 ghost use Rattle.at_geom.specs.Shapes.{ArePathsInRange, ArePolygonsInRange, IsShapeInRange};
@@ -6,6 +8,7 @@ ghost use Rattle.at_query.specs.Parts.{AreAlike, IsProper};
 ghost use Rattle.at_query.specs.Accumulators.{IsAccumulated};
 ghost use Rattle.at_query.specs.declared.features.Feature.{Feature};
 
+mod hulls;
 mod lines;
 
 use super::*;

@@ -1,4 +1,4 @@
-use Rattle.std.proofs.Common.{true, false, sym, ◌∙◌, true≢false}
+use Rattle.std.proofs.Common.{sym, ◌∙◌, true≢false}
 use Rattle.std.proofs.lemmas.Result.{IfOk-weaker}
 use Rattle.at_query.proofs.Accumulating.{accumulated_no_hull, not_added, added_part, added_hull}
 use Rattle.at_query.proofs.accumulators.Accumulator.add.Goals as goal

@@ -6,7 +6,7 @@ use Rattle.at_geom.specs.Shapes.{positions}
 use Rattle.at_hull.specs.Hulls.{IsHull}
 use Rattle.at_query.specs.Parts.{IsHullInRange}
 use Rattle.at_query.proofs.Hulls.{positions_in_range, hull_in_range, short_hull}
-use Rattle.at_query.proofs.results.hull_of.Goals as goal
+use Rattle.at_query.proofs.shape_hulls.hull_of_few.Goals as goal
 
 pub returns-then-as_slice-lt2 : goal.returns-then-as_slice-lt2
 returns-then-as_slice-lt2 c =
