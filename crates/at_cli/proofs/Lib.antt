@@ -14,5 +14,6 @@ pub mod FileNames
 pub mod FlagLaws
 pub mod SaidLines
 pub mod MadeSizes
+pub mod SquareTexts
 pub mod OneMade
 pub mod ShelfUses

@@ -12,3 +12,4 @@ pub mod Telling
 pub mod Endings
 pub mod Failures
 pub mod Made
+pub mod Squares

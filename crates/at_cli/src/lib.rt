@@ -14,6 +14,7 @@ mod pieces;
 mod reading;
 mod run;
 mod said;
+mod squares;
 mod values;
 
 pub use form::{FileForm, form_of};

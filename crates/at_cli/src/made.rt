@@ -1,11 +1,13 @@
 //! The texts of made files.
 
-ghost use Rattle.std.specs.Prelude.{◌≡◌, ◌++◌, ◌≤◌, ◌<◌, ◌^◌, ℕ, false, true, length, OnOk, IfOk, IfSome, MatchOption};
+ghost use Rattle.std.specs.Prelude.{◌≡◌, ◌++◌, ◌≤◌, ◌<◌, ◌+◌, ◌^◌, ℕ, false, true, length, OnOk, IfOk, IfSome, MatchOption, decimal};
 ghost use Rattle.std.specs.List.{flat_map, range_with_len};
-ghost use Rattle.at_cli.specs.Made.{line_by, wkt_line, feature_by, before_feature as text_before, feature_line, wkt_text as text_of_wkt, geojson_text as text_of_geojson, is_made, IsMadeText};
+ghost use Rattle.at_cli.specs.Made.{row as row_of, line_by, wkt_line, feature_by, before_feature as text_before, feature_line, wkt_text as text_of_wkt, geojson_text as text_of_geojson, is_made, IsMadeText};
+ghost use Rattle.at_cli.specs.Squares.{AreLineTexts, AreFeatureTexts};
 ghost use Rattle.at_cli.specs.Values.{IsWhole, IsFileName};
 
 use crate::flags::text_behind;
+use crate::squares::{RowTexts, push_all};
 use crate::values::{MOST_MADE, number_within};
 use at_text::Memory;
 use itoa::Buffer;
@@ -19,50 +21,74 @@ const LINE: usize = 57;
 
 const FEATURE: usize = 165;
 
-/// Puts texts behind the text.
-fn push_all(text: &mut Vec<u8>, parts: &[&str]) -> Result<(), AllocError>
-    ensures { OnOk result (text.new.items ≡ text.old.items ++ flat_map (λ (part : _). part.now) parts.now) }
+/// The texts of a row of lines, which may be these.
+fn same_or_line_row(alloc: Global, texts: RowTexts, row: u32) -> Result<RowTexts, AllocError>
+    requires row { row < 1000000 }
+    requires texts { AreLineTexts texts }
+    ensures row { IfOk result (λ made. made.row ≡ row) }
+    ensures texts { IfOk result AreLineTexts }
 {
-    for part in parts {
-        text.extend_from_slice(part.as_bytes())?;
+    if texts.row == row {
+        return Ok(texts);
     }
-    Ok(())
+    line_row(alloc, row)
+}
+
+/// The texts of a row of lines.
+fn line_row(alloc: Global, row: u32) -> Result<RowTexts, AllocError>
+    requires { row < 1000000 }
+    ensures row { IfOk result (λ made. made.row ≡ row) }
+    ensures texts { IfOk result AreLineTexts }
+{
+    RowTexts::new(alloc, row, " ", ",", "))\n")
+}
+
+/// The texts of a row of features, which may be these.
+fn same_or_feature_row(alloc: Global, texts: RowTexts, row: u32) -> Result<RowTexts, AllocError>
+    requires row { row < 1000000 }
+    requires texts { AreFeatureTexts texts }
+    ensures row { IfOk result (λ made. made.row ≡ row) }
+    ensures texts { IfOk result AreFeatureTexts }
+{
+    if texts.row == row {
+        return Ok(texts);
+    }
+    feature_row(alloc, row)
+}
+
+/// The texts of a row of features.
+fn feature_row(alloc: Global, row: u32) -> Result<RowTexts, AllocError>
+    requires { row < 1000000 }
+    ensures row { IfOk result (λ made. made.row ≡ row) }
+    ensures texts { IfOk result AreFeatureTexts }
+{
+    RowTexts::new(alloc, row, ".5,", "],[", "]]]}}")
 }
 
 /// Puts the line of a square with these digits behind the text.
-fn push_line(
-    text: &mut Vec<u8>,
-    left: &str,
-    right: &str,
-    low: &str,
-    high: &str,
-) -> Result<(), AllocError>
-    ensures { OnOk result (text.new.items ≡ text.old.items ++ line_by left.now right.now low.now high.now) }
+fn push_line(text: &mut Vec<u8>, left: &str, right: &str, row: &RowTexts) -> Result<(), AllocError>
+    requires { AreLineTexts row.now }
+    ensures { OnOk result (text.new.items ≡ text.old.items
+        ++ line_by left.now right.now (decimal row.now.row) (decimal (row.now.row + 1))) }
 {
+    let left = left.as_bytes();
+    let right = right.as_bytes();
+    let low = row.low.as_slice();
+    let high = row.high.as_slice();
     push_all(
         text,
         &[
-            "POLYGON ((",
+            b"POLYGON ((".as_slice(),
             left,
-            " ",
             low,
-            ",",
             right,
-            " ",
             low,
-            ",",
             right,
-            " ",
             high,
-            ",",
             left,
-            " ",
             high,
-            ",",
             left,
-            " ",
-            low,
-            "))\n",
+            row.last.as_slice(),
         ],
     )
 }
@@ -74,57 +100,51 @@ fn push_feature(
     number: &str,
     left: &str,
     right: &str,
-    low: &str,
-    high: &str,
+    row: &RowTexts,
 ) -> Result<(), AllocError>
-    ensures { OnOk result (text.new.items ≡ text.old.items ++ (before.now ++ feature_by number.now left.now right.now low.now high.now)) }
+    requires { AreFeatureTexts row.now }
+    ensures { OnOk result (text.new.items ≡ text.old.items ++ (before.now
+        ++ feature_by number.now left.now right.now (decimal row.now.row) (decimal (row.now.row + 1)))) }
 {
+    let left = left.as_bytes();
+    let right = right.as_bytes();
+    let low = row.low.as_slice();
+    let high = row.high.as_slice();
     push_all(
         text,
         &[
-            before,
-            "{\"type\":\"Feature\",\"properties\":{\"name\":\"g",
-            number,
-            "\"},\"geometry\":{\"type\":\"Polygon\",\"coordinates\":[[[",
+            before.as_bytes(),
+            b"{\"type\":\"Feature\",\"properties\":{\"name\":\"g".as_slice(),
+            number.as_bytes(),
+            b"\"},\"geometry\":{\"type\":\"Polygon\",\"coordinates\":[[[".as_slice(),
             left,
-            ".5,",
             low,
-            "],[",
             right,
-            ".5,",
             low,
-            "],[",
             right,
-            ".5,",
             high,
-            "],[",
             left,
-            ".5,",
             high,
-            "],[",
             left,
-            ".5,",
-            low,
-            "]]]}}",
+            row.last.as_slice(),
         ],
     )
 }
 
 /// Puts the line of square `index` behind the text.
-fn push_square(text: &mut Vec<u8>, index: u32) -> Result<(), AllocError>
-    requires { index < 1000000 }
+fn push_square(text: &mut Vec<u8>, index: u32, row: &RowTexts) -> Result<(), AllocError>
+    requires index { index < 1000000 }
+    requires row { row.now.row ≡ row_of index }
+    requires texts { AreLineTexts row.now }
     ensures { OnOk result (text.new.items ≡ text.old.items ++ wkt_line index) }
 {
     let mut left = Buffer::new();
     let mut right = Buffer::new();
-    let mut low = Buffer::new();
-    let mut high = Buffer::new();
     push_line(
         text,
         left.format(index % COLUMNS),
         right.format(index % COLUMNS + 1),
-        low.format(index / COLUMNS),
-        high.format(index / COLUMNS + 1),
+        row,
     )
 }
 
@@ -136,44 +156,47 @@ fn before_feature(index: u32) -> &'static str
 }
 
 /// Puts feature `index` behind the text.
-fn push_numbered(text: &mut Vec<u8>, index: u32) -> Result<(), AllocError>
-    requires { index < 1000000 }
+fn push_numbered(text: &mut Vec<u8>, index: u32, row: &RowTexts) -> Result<(), AllocError>
+    requires index { index < 1000000 }
+    requires row { row.now.row ≡ row_of index }
+    requires texts { AreFeatureTexts row.now }
     ensures { OnOk result (text.new.items ≡ text.old.items ++ feature_line index) }
 {
     let mut number = Buffer::new();
     let mut left = Buffer::new();
     let mut right = Buffer::new();
-    let mut low = Buffer::new();
-    let mut high = Buffer::new();
     push_feature(
         text,
         before_feature(index),
         number.format(index),
         left.format(index % COLUMNS),
         right.format(index % COLUMNS + 1),
-        low.format(index / COLUMNS),
-        high.format(index / COLUMNS + 1),
+        row,
     )
 }
 
 /// Puts the lines of so many squares behind the text.
-fn push_squares(text: &mut Vec<u8>, count: u32) -> Result<(), AllocError>
+fn push_squares(alloc: Global, text: &mut Vec<u8>, count: u32) -> Result<(), AllocError>
     requires { count ≤ 1000000 }
     ensures { OnOk result (text.new.items ≡ text.old.items ++ flat_map wkt_line (range_with_len 0 count)) }
 {
+    let mut row = line_row(alloc, 0)?;
     for index in 0..count {
-        push_square(text, index)?;
+        row = same_or_line_row(alloc, row, index / COLUMNS)?;
+        push_square(text, index, &row)?;
     }
     Ok(())
 }
 
 /// Puts so many features behind the text.
-fn push_features(text: &mut Vec<u8>, count: u32) -> Result<(), AllocError>
+fn push_features(alloc: Global, text: &mut Vec<u8>, count: u32) -> Result<(), AllocError>
     requires { count ≤ 1000000 }
     ensures { OnOk result (text.new.items ≡ text.old.items ++ flat_map feature_line (range_with_len 0 count)) }
 {
+    let mut row = feature_row(alloc, 0)?;
     for index in 0..count {
-        push_numbered(text, index)?;
+        row = same_or_feature_row(alloc, row, index / COLUMNS)?;
+        push_numbered(text, index, &row)?;
     }
     Ok(())
 }
@@ -184,7 +207,7 @@ fn wkt_text(alloc: Global, count: u32) -> Result<Vec<u8>, AllocError>
     ensures { IfOk result (λ text. text.items ≡ text_of_wkt count) }
 {
     let mut text = Vec::with_capacity(alloc, count as usize * LINE)?;
-    push_squares(&mut text, count)?;
+    push_squares(alloc, &mut text, count)?;
     Ok(text)
 }
 
@@ -195,7 +218,7 @@ fn geojson_text(alloc: Global, count: u32) -> Result<Vec<u8>, AllocError>
 {
     let mut text = Vec::with_capacity(alloc, count as usize * FEATURE + 45)?;
     text.extend_from_slice(b"{\"type\":\"FeatureCollection\",\"features\":[")?;
-    push_features(&mut text, count)?;
+    push_features(alloc, &mut text, count)?;
     text.extend_from_slice(b"\n]}\n")?;
     Ok(text)
 }

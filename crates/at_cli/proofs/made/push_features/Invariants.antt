@@ -1,8 +1,9 @@
 use Rattle.std.proofs.Common.{◌≡◌, ◌++◌}
 use Rattle.std.specs.List.{flat_map, range_with_len}
 use Rattle.at_cli.specs.Made.{feature_line}
+use Rattle.at_cli.specs.Squares.{AreFeatureTexts}
 use Rattle.at_cli.proofs.made.push_features.Given as goal
 
--- those so far are put behind the text
+-- those so far are put behind the text, and the row's texts are those of features
 abbrev pub invariant-loop-index : goal.invariant-loop-index
-invariant-loop-index l = l.text.items ≡ l.fn.text.items ++ flat_map feature_line (range_with_len 0 l.index)
+invariant-loop-index l = (l.text.items ≡ l.fn.text.items ++ flat_map feature_line (range_with_len 0 l.index)) × AreFeatureTexts l.row

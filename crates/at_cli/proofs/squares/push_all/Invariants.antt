@@ -1,6 +1,6 @@
 use Rattle.std.proofs.Common.{◌≡◌, ◌++◌, take}
 use Rattle.std.specs.List.{flat_map}
-use Rattle.at_cli.proofs.made.push_all.Given as goal
+use Rattle.at_cli.proofs.squares.push_all.Given as goal
 
 -- the parts so far are put behind the text
 abbrev pub invariant-loop-part : goal.invariant-loop-part
