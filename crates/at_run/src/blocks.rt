@@ -1,3 +1,5 @@
+//! A file read in its blocks one after the other, without threads.
+
 ghost use Rattle.std.specs.Prelude.{◌+◌, ◌≤◌, ◌<◌, ◌^◌, length, slice_index};
 ghost use Rattle.std.specs.List.Sorted.{IsNonDecreasing};
 ghost use Rattle.at_text.specs.Spans.{StandsAt};

@@ -1,3 +1,5 @@
+//! The places at which a file is cut into blocks.
+
 ghost use Rattle.std.specs.Prelude.{◌≡◌, ◌+◌, ◌-◌, ◌*◌, ◌/◌, ◌^◌, ◌<◌, ◌≤◌, ◌↔◌, IsTrue, IsSome, IfSome, IfOk, List, ℕ, length, slice_index};
 ghost use Rattle.std.specs.List.Sorted.{IsNonDecreasing};
 ghost use Rattle.at_run.specs.Places.{IsBlockCount, IsLeastCount, AreCuts, AreEven, first_place, last_place, even_place};

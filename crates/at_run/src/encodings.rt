@@ -1,3 +1,5 @@
+//! Whether a file is valid UTF-8, found piece by piece (RFC 3629).
+
 ghost use Rattle.std.specs.Prelude.{◌≡◌, ℕ, ◌+◌, ◌≤◌, ◌^◌, ◌↔◌, length, drop, IsTrue, None};
 ghost use Rattle.std.specs.Str.{IsUtf8};
 ghost use Rattle.std.specs.Str.Lossy.{utf8_valid_len};

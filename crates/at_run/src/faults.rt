@@ -1,3 +1,5 @@
+//! Why a file, or two files, have no answer.
+
 use at_text::Fault;
 
 /// Why a file has no answer.

@@ -1,3 +1,5 @@
+//! The forms in which files are read.
+
 /// How the bytes of a file are read.
 #[derive(Clone, Copy, Debug, PartialEq, Eq)]
 pub enum Form {

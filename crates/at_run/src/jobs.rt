@@ -1,3 +1,5 @@
+//! A file read in blocks by several threads at once, as a job of a crew.
+
 ghost use Rattle.std.specs.Prelude.{◌≡◌, ◌+◌, ◌-◌, ◌≤◌, ◌<◌, ◌^◌, IfOk, length, slice_index};
 ghost use Rattle.std.specs.List.Sorted.{IsNonDecreasing};
 ghost use Rattle.at_text.specs.Spans.{StandsAt};

@@ -1,3 +1,5 @@
+//! Pieces of a file of GeoJSON, each with what is found of its encoding.
+
 ghost use Rattle.std.specs.Prelude.{ℕ, ◌+◌, ◌≤◌, ◌^◌, length};
 ghost use Rattle.at_text.specs.Spans.{AreNeighbours, IsMerged};
 ghost use Rattle.at_run.specs.JsonFragments.{StandsForText};

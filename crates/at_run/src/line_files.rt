@@ -1,3 +1,5 @@
+//! The part of a file of lines, or its first fault.
+
 ghost use Rattle.std.specs.Prelude.{◌≡◌, ◌≤◌, ◌^◌, List, length, drop, MatchResult, Some};
 ghost use Rattle.at_text.specs.Texts.{base_of as text_begin};
 ghost use Rattle.at_wkt.specs.Folding.{Kept, StandsFor};

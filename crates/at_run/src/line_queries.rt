@@ -1,3 +1,5 @@
+//! A query that is asked of lines of Well-Known Text, each of which is a feature.
+
 ghost use Rattle.std.specs.Prelude.{◌≡◌, ◌≢◌, false, ◌+◌, ◌≤◌, ◌^◌, length, take, ◌∷◌, [], IsTrue, IfOk, MatchResult};
 ghost use Rattle.at_wkt.specs.Answers.{IfFound};
 ghost use Rattle.at_wkt.specs.Folding.{AddsLines};

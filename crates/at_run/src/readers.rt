@@ -1,3 +1,5 @@
+//! A query that is asked of a file in its form, whichever that is.
+
 ghost use Rattle.std.specs.Prelude.{◌≡◌, ◌≤◌, ◌^◌, length, MatchResult, Some};
 ghost use Rattle.at_text.specs.Spans.{StandsAt};
 ghost use Rattle.at_text.specs.Texts.{base_of as text_begin};

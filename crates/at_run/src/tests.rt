@@ -1,3 +1,5 @@
+//! Tables of files and what queries find in them, with each file cut in many ways.
+
 ghost use Rattle.std.specs.Prelude.{◌≡◌, ◌≢◌, ◌∷◌, ◌≤◌, ◌^◌, [], length, IfSome, IfOk};
 ghost use Rattle.at_text.specs.Texts.{base_of as text_begin};
 ghost use Rattle.at_query.specs.Ranges.{IsTestInRange, IsQueryInRange};
