@@ -1,5 +1,5 @@
 -- What goes on behind a span, from the state in which it ends.
-use Rattle.std.proofs.Common.{◌≡◌, ◌≢◌, ℕ, ◌+◌, ◌-◌, ◌≤◌, ◌==◌, Bool, true, false, Option, Some, None, List, [], ◌∷◌, ◌++◌, refl, sym, ◌∙◌, ap, subst, arith, length, length-append, take, drop}
+use Rattle.std.proofs.Common.{◌≡◌, ◌≢◌, ℕ, ◌+◌, ◌-◌, ◌≤◌, ◌==◌, Bool, true, false, Option, Some, None, List, [], ◌∷◌, ◌++◌, refl, sym, ◌∙◌, ap, subst, arith, append_assoc, length, length-append, take, drop}
 use Rattle.std.proofs.lemmas.Bool.{ne_eqb}
 use Rattle.std.proofs.lemmas.List.{take-append-drop, take-take, drop-take, drop-drop, length-take-le, length-drop}
 use Rattle.at_text.specs.Spans.{part_of, AreNeighbours}
@@ -7,7 +7,7 @@ use Rattle.at_lex.specs.Spans.{after_byte, end_of, ClosesText, StaysInText}
 use Rattle.at_lex.specs.declared.tokens.Start.{Start}
 use Rattle.at_lex.specs.declared.tokens.Start.TheVariants.{Out, InString, InEscape}
 use Rattle.at_nest.specs.declared.fragments.Escape.{Escape}
-use Rattle.at_nest.specs.declared.fragments.Escape.TheVariants.{AsString, Own}
+use Rattle.at_nest.specs.declared.fragments.Escape.TheVariants.{AsString, Unread}
 use Rattle.at_nest.specs.declared.fragments.Parts.{Parts}
 use Rattle.at_nest.specs.declared.fragments.Fragment.{Fragment}
 use Rattle.at_nest.specs.declared.fragments.Slot.{Slot}
@@ -17,7 +17,7 @@ use Rattle.at_nest.specs.declared.variants.Variant.TheVariants.{AllLead, Whole, 
 use Rattle.at_nest.specs.Holding.{Content, IsPartOf}
 use Rattle.at_nest.specs.Stands.{HoldsVariant, HaveUnion}
 use Rattle.at_nest.specs.Standing.{HoldsEscape, HoldsParts, HoldsSome, StandsFor, parts_of}
-use Rattle.at_nest.specs.Slots.{end_in, escape_end, slot_in, variant_in, Stays, StandsAs, GoesOn, EscapeGoesOn, AreBeside}
+use Rattle.at_nest.specs.Slots.{end_in, slot_in, IsSame, Stays, HoldsIn, CanTake, Takes, GoesOn, AreBeside}
 use Rattle.at_nest.proofs.UnionsHeld.{broken_union}
 
 -- ---- an escaped byte that is no quote and no backslash
@@ -28,6 +28,15 @@ after_plain b q e = let p : (b == 0x22) ≡ false = ne_eqb b 0x22 q in let r : (
 closes_escaped : (b : ℕ) (o u more : List ℕ) → after_byte InString b ≡ InString → b ∷ o ≡ u ++ more → ClosesText InString u → ClosesText InEscape u
 closes_escaped b o [] more p e h = absurd h
 closes_escaped b o (c ∷ u) more p e h = let same : c ≡ b = cc in subst (λ s. ClosesText s u) (ap (after_byte InString) same ∙ p) h
+
+pub escape_union : (e : Escape) (w x : List ℕ) → HoldsEscape w e → HoldsEscape (w ++ x) e
+escape_union AsString w x (b, o, e, q, s) = (b, o ++ x, ap (λ z. z ++ x) e, q, s)
+escape_union Unread w x h = h
+
+-- ---- the bytes of a part
+
+behind_part : (bytes : List ℕ) (at : ℕ) (w x : List ℕ) → IsPartOf bytes at (w ++ x) → IsPartOf bytes (at + length w) x
+behind_part bytes at w x (y, z, e, l) = (y ++ w, z, e ∙ (ap (λ r. y ++ r) (append_assoc w x z) ∙ sym (append_assoc y w (x ++ z))), ap (λ n. n + length w) l ∙ sym (length-append y w))
 
 module _ {X : Type 0} (IsKept : X → Content → Type 0) where
   escaped : (at b : ℕ) (o : List ℕ) (v : Variant X) → after_byte InString b ≡ InString → HoldsVariant IsKept InString at (b ∷ o) v → HoldsVariant IsKept InEscape at (b ∷ o) v
@@ -50,25 +59,25 @@ module _ {X : Type 0} (IsKept : X → Content → Type 0) where
     lead_at = h.lead_at;
   }
 
-  pub as_string : (at : ℕ) (w : List ℕ) (v : Variant X) → HoldsEscape IsKept at w AsString → HoldsVariant IsKept InString at w v → HoldsVariant IsKept InEscape at w v
+  pub as_string : (at : ℕ) (w : List ℕ) (v : Variant X) → HoldsEscape w AsString → HoldsVariant IsKept InString at w v → HoldsVariant IsKept InEscape at w v
   as_string at w v (b, o, e, q, s) h = subst (λ z. HoldsVariant IsKept InEscape at z v) (sym e) (escaped at b o v (after_plain b q s) (subst (λ z. HoldsVariant IsKept InString at z v) e h))
 
   -- ---- the variant that is wanted is that of the bytes behind
 
-  from_state : (s : Start) (at : ℕ) (x : List ℕ) (from to : ℕ) (out string : Variant X) (escape : Escape X) → HoldsVariant IsKept Out at x out → HoldsVariant IsKept InString at x string → HoldsEscape IsKept at x escape
-      → (q : Slot) × (slot_in escape (Some s) ≡ Some q) × HoldsVariant IsKept s at x (variant_in (record { from = from; to = to; out = out; string = string; escape = escape }) q)
-  from_state Out at x from to out string escape h k e = (slot.Out, refl, h)
-  from_state InString at x from to out string escape h k e = (slot.String, refl, k)
-  from_state InEscape at x from to out string AsString h k e = (slot.String, refl, as_string at x string e k)
-  from_state InEscape at x from to out string (Own v) h k e = (slot.Escape, refl, e)
+  from_state : (s : Start) (at : ℕ) (x : List ℕ) (from to : ℕ) (out string : Variant X) (escape : Escape) → HoldsVariant IsKept Out at x out → HoldsVariant IsKept InString at x string → HoldsEscape x escape → from ≡ at → to ≡ at + length x
+      → (q : Slot) × (slot_in escape (Some s) ≡ Some q) × HoldsIn IsKept s at x (record { from = from; to = to; out = out; string = string; escape = escape }) q
+  from_state Out at x from to out string escape h k e f g = (slot.Out, refl, h)
+  from_state InString at x from to out string escape h k e f g = (slot.String, refl, k)
+  from_state InEscape at x from to out string AsString h k e f g = (slot.String, refl, as_string at x string e k)
+  from_state InEscape at x from to out string Unread h k e f g = (slot.Escape, refl, (refl, f, g))
 
-  wanted_from : (s : Start) (at : ℕ) (x : List ℕ) (right : Parts X) → HoldsParts IsKept at x right → (q : Slot) × (slot_in right.escape (Some s) ≡ Some q) × HoldsVariant IsKept s at x (variant_in right q)
-  wanted_from s at x right h = from_state s at x right.from right.to right.out right.string right.escape h.out h.string h.escape
+  wanted_from : (s : Start) (at : ℕ) (x : List ℕ) (right : Parts X) → HoldsParts IsKept at x right → (q : Slot) × (slot_in right.escape (Some s) ≡ Some q) × HoldsIn IsKept s at x right q
+  wanted_from s at x right h = from_state s at x right.from right.to right.out right.string right.escape h.out h.string h.escape h.from h.to
 
   goes_from : (bytes : List ℕ) (s : Start) (at : ℕ) (w x : List ℕ) (left : Variant X) (right : Parts X) (end : Start) → end ≡ end_of s w → IsPartOf bytes at (w ++ x) → HoldsVariant IsKept s at w left → HoldsParts IsKept (at + length w) x right
       → GoesOn IsKept bytes s at w x left right (slot_in right.escape (Some end))
   goes_from bytes s at w x left right end e part h k = let f = wanted_from end (at + length w) x right k in
-      subst (GoesOn IsKept bytes s at w x left right) (sym f.1) (part, h, subst (λ z. HoldsVariant IsKept z (at + length w) x (variant_in right f.0)) e f.2)
+      subst (GoesOn IsKept bytes s at w x left right) (sym f.1) (part, h, subst (λ z. HoldsIn IsKept z (at + length w) x right f.0) e f.2)
 
   pub goes_on : (bytes : List ℕ) (s : Start) (at : ℕ) (w x : List ℕ) (left : Variant X) (right : Parts X) → IsPartOf bytes at (w ++ x) → HoldsVariant IsKept s at w left → HoldsParts IsKept (at + length w) x right
       → GoesOn IsKept bytes s at w x left right (slot_in right.escape (end_in left))
@@ -76,60 +85,46 @@ module _ {X : Type 0} (IsKept : X → Content → Type 0) where
   goes_on bytes s at w x (Whole lead body pend end) right part h k = goes_from bytes s at w x (Whole lead body pend end) right end h.end_is part h k
   goes_on bytes s at w x (Broken lead body halt) right part h k = (h, refl)
 
-  pub escape_goes_on : (bytes : List ℕ) (at : ℕ) (w x : List ℕ) (left : Escape X) (right : Parts X) → IsPartOf bytes at (w ++ x) → HoldsEscape IsKept at w left → HoldsParts IsKept (at + length w) x right
-      → EscapeGoesOn IsKept bytes at w x left right (slot_in right.escape (escape_end left))
-  escape_goes_on bytes at w x AsString right part h k = h
-  escape_goes_on bytes at w x (Own v) right part h k = goes_on bytes InEscape at w x v right part h k
-
   -- ---- what another call left is as it was
+
+  still_in : (s : Start) (at : ℕ) (x : List ℕ) (old new : Parts X) (q : Slot) → IsSame old new q → HoldsIn IsKept s at x old q → HoldsIn IsKept s at x new q
+  still_in s at x old new slot.Out same h = subst (HoldsVariant IsKept s at x) (sym same) h
+  still_in s at x old new slot.String same h = subst (HoldsVariant IsKept s at x) (sym same) h
+  still_in s at x old new slot.Escape same h = (h.0, same.0 ∙ h.1, same.1 ∙ h.2)
 
   pub still_goes : (bytes : List ℕ) (s : Start) (at : ℕ) (w x : List ℕ) (left : Variant X) (old new : Parts X) (taken wanted : Option Slot) (again : Bool) → Stays taken again old new → (taken ≡ wanted → again ≡ true)
       → GoesOn IsKept bytes s at w x left old wanted → GoesOn IsKept bytes s at w x left new wanted
   still_goes bytes s at w x left old new taken None again stays same h = h
-  still_goes bytes s at w x left old new taken (Some q) again stays same h = (h.0, h.1, subst (HoldsVariant IsKept (end_of s w) (at + length w) x) (sym (stays q same)) h.2)
+  still_goes bytes s at w x left old new taken (Some q) again stays same h = (h.0, h.1, still_in (end_of s w) (at + length w) x old new q (stays q same) h.2)
 
-  pub escape_still_goes : (bytes : List ℕ) (at : ℕ) (w x : List ℕ) (left : Escape X) (old new : Parts X) (taken wanted : Option Slot) (again : Bool) → Stays taken again old new → (taken ≡ wanted → again ≡ true)
-      → EscapeGoesOn IsKept bytes at w x left old wanted → EscapeGoesOn IsKept bytes at w x left new wanted
-  escape_still_goes bytes at w x AsString old new taken wanted again stays same h = h
-  escape_still_goes bytes at w x (Own v) old new taken wanted again stays same h = still_goes bytes InEscape at w x v old new taken wanted again stays same h
-
-  -- ---- a left span that stops, or that is as in a string
+  -- ---- a left span that stops, and what is said of the left one from behind a backslash
 
   pub stop_union : (s : Start) (at : ℕ) (w x : List ℕ) (left : Variant X) → HoldsVariant IsKept s at w left → end_in left ≡ None → HoldsVariant IsKept s at (w ++ x) left
   stop_union s at w x (AllLead end) h e = absurd (cc)
   stop_union s at w x (Whole lead body pend end) h e = absurd (cc)
   stop_union s at w x (Broken lead body halt) h e = broken_union IsKept s at w x lead body halt h
 
-  pub escape_union : (at : ℕ) (w x : List ℕ) → HoldsEscape IsKept at w AsString → HoldsEscape IsKept at (w ++ x) AsString
-  escape_union at w x (b, o, e, q, s) = (b, o ++ x, ap (λ z. z ++ x) e, q, s)
-
   -- ---- what each step takes, and gives
 
-  pub as_wanted : (bytes : List ℕ) (s : Start) (at : ℕ) (w x : List ℕ) (left : Variant X) (right : Parts X) (wanted : Option Slot) (q : Slot) → wanted ≡ Some q → GoesOn IsKept bytes s at w x left right wanted → HaveUnion IsKept bytes s at w x left (variant_in right q)
-  as_wanted bytes s at w x left right wanted q e h = subst (GoesOn IsKept bytes s at w x left right) e h
+  pub goes_with : (bytes : List ℕ) (s : Start) (at : ℕ) (w x : List ℕ) (left : Variant X) (right : Parts X) (wanted : Option Slot) (q : Slot) → wanted ≡ Some q → GoesOn IsKept bytes s at w x left right wanted → GoesOn IsKept bytes s at w x left right (Some q)
+  goes_with bytes s at w x left right wanted q e h = subst (GoesOn IsKept bytes s at w x left right) e h
 
-  pub taken_union : (bytes : List ℕ) (s : Start) (at : ℕ) (w x : List ℕ) (left : Variant X) (right : Parts X) (wanted : Option Slot) (q : Slot) (v : Variant X) → wanted ≡ Some q → StandsAs IsKept (variant_in right q) v → GoesOn IsKept bytes s at w x left right wanted → HaveUnion IsKept bytes s at w x left v
-  taken_union bytes s at w x left right wanted q v e stands h = let u = as_wanted bytes s at w x left right wanted q e h in (u.0, u.1, stands (end_of s w) (at + length w) x u.2)
+  pub can_take : (bytes : List ℕ) (s : Start) (at : ℕ) (w x : List ℕ) (left : Variant X) (right : Parts X) (wanted : Option Slot) (q : Slot) → wanted ≡ Some q → GoesOn IsKept bytes s at w x left right wanted → CanTake IsKept bytes right q
+  can_take bytes s at w x left right wanted q e h = let u = goes_with bytes s at w x left right wanted q e h in (end_of s w, at + length w, x, behind_part bytes at w x u.0, u.2)
+
+  pub taken_union : (bytes : List ℕ) (s : Start) (at : ℕ) (w x : List ℕ) (left : Variant X) (right : Parts X) (wanted : Option Slot) (q : Slot) (v : Variant X) → wanted ≡ Some q → Takes IsKept bytes right q v → GoesOn IsKept bytes s at w x left right wanted → HaveUnion IsKept bytes s at w x left v
+  taken_union bytes s at w x left right wanted q v e takes h = let u = goes_with bytes s at w x left right wanted q e h in (u.0, u.1, takes (end_of s w) (at + length w) x (behind_part bytes at w x u.0) u.2)
 
   pub none_union : (bytes : List ℕ) (s : Start) (at : ℕ) (w x : List ℕ) (left : Variant X) (right : Parts X) (wanted : Option Slot) → wanted ≡ None → GoesOn IsKept bytes s at w x left right wanted → HoldsVariant IsKept s at (w ++ x) left
   none_union bytes s at w x left right wanted e h = let u = subst (GoesOn IsKept bytes s at w x left right) e h in stop_union s at w x left u.0 u.1
 
-  pub own_goes : (bytes : List ℕ) (at : ℕ) (w x : List ℕ) (left : Escape X) (right : Parts X) (wanted : Option Slot) (v : Variant X) → left ≡ Own v → EscapeGoesOn IsKept bytes at w x left right wanted → GoesOn IsKept bytes InEscape at w x v right wanted
-  own_goes bytes at w x left right wanted v e h = subst (λ z. EscapeGoesOn IsKept bytes at w x z right wanted) e h
-
-  pub string_union : (bytes : List ℕ) (at : ℕ) (w x : List ℕ) (left : Escape X) (right : Parts X) (wanted : Option Slot) → left ≡ AsString → EscapeGoesOn IsKept bytes at w x left right wanted → HoldsEscape IsKept at (w ++ x) AsString
-  string_union bytes at w x left right wanted e h = escape_union at w x (subst (λ z. EscapeGoesOn IsKept bytes at w x z right wanted) e h)
-
-  -- ---- the three variants of two spans
+  -- ---- the variants of two spans
 
   pub out_goes : (bytes : List ℕ) (at : ℕ) (w x : List ℕ) (left right : Parts X) (end : Option Start) (wanted : Option Slot) → end ≡ end_in left.out → wanted ≡ slot_in right.escape end → AreBeside IsKept bytes at w x left right → GoesOn IsKept bytes Out at w x left.out right wanted
   out_goes bytes at w x left right end wanted e f b = subst (GoesOn IsKept bytes Out at w x left.out right) (sym (f ∙ ap (slot_in right.escape) e)) (goes_on bytes Out at w x left.out right b.0 b.1.out b.2)
 
   pub string_goes : (bytes : List ℕ) (at : ℕ) (w x : List ℕ) (left right : Parts X) (end : Option Start) (wanted : Option Slot) → end ≡ end_in left.string → wanted ≡ slot_in right.escape end → AreBeside IsKept bytes at w x left right → GoesOn IsKept bytes InString at w x left.string right wanted
   string_goes bytes at w x left right end wanted e f b = subst (GoesOn IsKept bytes InString at w x left.string right) (sym (f ∙ ap (slot_in right.escape) e)) (goes_on bytes InString at w x left.string right b.0 b.1.string b.2)
-
-  pub escapes_go : (bytes : List ℕ) (at : ℕ) (w x : List ℕ) (left right : Parts X) (end : Option Start) (wanted : Option Slot) → end ≡ escape_end left.escape → wanted ≡ slot_in right.escape end → AreBeside IsKept bytes at w x left right → EscapeGoesOn IsKept bytes at w x left.escape right wanted
-  escapes_go bytes at w x left right end wanted e f b = subst (EscapeGoesOn IsKept bytes at w x left.escape right) (sym (f ∙ ap (slot_in right.escape) e)) (escape_goes_on bytes at w x left.escape right b.0 b.1.escape b.2)
 
   pub both_ends : (bytes : List ℕ) (at : ℕ) (w x : List ℕ) (left right : Parts X) → AreBeside IsKept bytes at w x left right → right.to ≡ at + length (w ++ x)
   both_ends bytes at w x left right b = let n = length-append w x in omega (arith, b.2.to, n)

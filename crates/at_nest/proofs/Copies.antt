@@ -22,10 +22,11 @@ use Rattle.at_nest.specs.MemberMarks.{MemberMarks, tree_of}
 use Rattle.at_nest.specs.Tree.{Tree, text}
 use Rattle.at_nest.specs.Forms.{Piece, opens, closes, mark, comma, colon, quoted, entry}
 use Rattle.at_nest.specs.Levels.{Level, Form, marks}
-use Rattle.at_nest.specs.Shown.{Held, Shown, array_level, object_level, top_of, helds_of, open_levels, OwnPiece, OwnLevel, OwnBody, shown}
+use Rattle.at_nest.specs.Shown.{Held, Shown, array_level, object_level, top_of, helds_of, open_levels, opens_of, OwnPiece, OwnLevel, OwnBody, shown}
 use Rattle.at_nest.specs.Holding.{Content, one, run, Holds, Kept, Each, EachMember, IsHeld, EachHeld, IsHeldPiece, EachPiece, ArePieces, AreRow, IsRow, EachNamed, AreMembers, IsTextAt, CopiesNamed, row_marks, row_trees, IsOfItems, CanAdd, IsShown, CopiesItems, CopiesMember, CopiesMembers, CopiesHeld, CopiesLevels, CopiesPiece, CopiesPieces, CopiesShown}
 use Rattle.at_nest.proofs.Held.{held_own, each_own, each_cut, each_append}
 use Rattle.at_nest.proofs.Showing.{pieces_append, pieces_cut}
+use Rattle.at_nest.proofs.Stretches.{own_levels}
 
 module _ {X : Type 0} (IsKept : X → Content → Type 0) where
   -- what is copied stands for each of the trees, and for the trees one behind another, for which the first stands
@@ -222,7 +223,7 @@ module _ {X : Type 0} (IsOwn : X → Type 0) (IsFold : X → Tree → Type 0) (I
       open_own x (l ∷ ls) h = held_own IsOwn IsFold IsRun (top_of x) l h.0
 
   pub body_own : (base : ℕ) (w : List ℕ) (b : Body X) (f : Form Tree) → IsShown (Kept IsOwn IsFold IsRun) base w (shown b) f → OwnBody IsOwn b
-  body_own base w b f h = (pieces_own base w b.outer.items f.outer h.0, levels_own b.levels.items f.levels h.1)
+  body_own base w b f h = (pieces_own base w b.outer.items f.outer h.0, own_levels IsOwn b.levels (levels_own (opens_of b.levels) f.levels h.1))
 
 -- one element more of a front
 pub take_next : {X : Type 0} (xs : List X) (i : ℕ) (x : X) → i < length xs → x ≡ get_or xs i x → take (i + 1) xs ≡ take i xs ++ x ∷ []

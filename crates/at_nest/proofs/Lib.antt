@@ -25,6 +25,7 @@ pub mod Readings
 pub mod Held
 pub mod Showing
 pub mod Nests
+pub mod Stretches
 pub mod Adding
 pub mod Joining
 pub mod Closers
@@ -40,6 +41,7 @@ pub mod Neighbours
 pub mod UnionsHeld
 pub mod Copies
 pub mod Nexts
+pub mod StretchesNext
 pub mod OneTree
 pub mod Told
 pub mod Lasts

@@ -17,7 +17,7 @@ use Rattle.at_nest.specs.Holding.{Content, EachHeld, CopiesLevels}
 use Rattle.at_nest.specs.Nests.{nest_in, PutsLast}
 use Rattle.at_nest.specs.Nexts.{levels_next, level_after, IsNoValue}
 use Rattle.at_nest.specs.Refusals.{last_of}
-use Rattle.at_nest.proofs.Showing.{open_last}
+use Rattle.at_nest.proofs.Showing.{open_last, open_append}
 
 pub last_got : {A : Type 0} (xs : List A) → slice_get xs (length xs - 1) ≡ last_of xs
 last_got [] = refl
@@ -61,9 +61,10 @@ all_but_last (y ∷ (z ∷ xs)) x e = let i : length (y ∷ (z ∷ xs)) - 1 ≡ 
     ap (λ v. y ∷ v) (all_but_last (z ∷ xs) x e) ∙ ap (λ n. take n (y ∷ (z ∷ xs)) ++ x ∷ []) (sym i)
 
 -- a nest of one array was left out
-pub last_nested : {X : Type 0} (old : List (Open X)) (m : Nest) (n : ℕ) → m.more ≡ 0 → n ≡ length old - 1 → last_of old ≡ Some (Nested m) → open_levels old ≡ array_level m.last array.Empty [] ∷ open_levels (take n old)
-last_nested old m n e f i = ap open_levels (all_but_last old (Nested m) i) ∙ (open_last (take (length old - 1) old) (Nested m)
-    ∙ (ap (λ z. nested m.last (suc z) ++ open_levels (take (length old - 1) old)) e ∙ ap (λ z. array_level m.last array.Empty [] ∷ open_levels (take z old)) (sym f)))
+pub left_nested : {X : Type 0} (old new : List (Open X)) (r : Option (Open X)) (m : Nest) → m.more ≡ 0 → last_of old ≡ Some (Nested m) → MatchOption r ((old ≡ []) × (new ≡ [])) (λ o. old ≡ new ++ o ∷ []) → open_levels old ≡ array_level m.last array.Empty [] ∷ open_levels new
+left_nested old new None m e f (g, h) = absurd (none-some (Nested m) (sym (ap last_of g) ∙ f))
+left_nested {X} old new (Some o) m e f g = let same : o ≡ Nested m = same_Some o (Nested m) (sym (ap last_of g ∙ last_behind new o) ∙ f) in
+    ap open_levels g ∙ (open_last new o ∙ (ap (λ (z : Open X). helds_of z ++ open_levels new) same ∙ ap (λ z. nested m.last (suc z) ++ open_levels new) e))
 
 -- the nest with one array less
 pub less_nested : {X : Type 0} (old new : List (Open X)) (last more : ℕ) (m n : Nest) → m.last ≡ last → m.more ≡ suc more → n.last ≡ last - 1 → n.more ≡ more → last_of old ≡ Some (Nested m) → PutsLast old new (Nested n)
@@ -139,6 +140,10 @@ module _ {X : Type 0} (IsKept : X → Content → Type 0) where
   pub levels_on : (xs ys : List (Open X)) (x y : Open X) → CopiesLevels IsKept (open_levels xs) (open_levels ys) → CopiesLevels IsKept (helds_of x) (helds_of y) → CopiesLevels IsKept (open_levels (xs ++ x ∷ [])) (open_levels (ys ++ y ∷ []))
   levels_on xs ys x y a b ls h = let r = held_cut (helds_of x) (open_levels xs) ls (subst (λ z. EachHeld IsKept z ls) (open_last xs x) h) in
       subst (λ z. EachHeld IsKept z ls) (sym (open_last ys y)) (subst (EachHeld IsKept (helds_of y ++ open_levels ys)) (sym r.2) (held_joined (helds_of y) r.0 (open_levels ys) r.1 (b r.0 r.3) (a r.1 r.4)))
+
+  pub levels_both : (xs ys us vs : List (Open X)) → CopiesLevels IsKept (open_levels xs) (open_levels ys) → CopiesLevels IsKept (open_levels us) (open_levels vs) → CopiesLevels IsKept (open_levels (xs ++ us)) (open_levels (ys ++ vs))
+  levels_both xs ys us vs a b ls h = let r = held_cut (open_levels us) (open_levels xs) ls (subst (λ z. EachHeld IsKept z ls) (open_append xs us) h) in
+      subst (λ z. EachHeld IsKept z ls) (sym (open_append ys vs)) (subst (EachHeld IsKept (open_levels vs ++ open_levels ys)) (sym r.2) (held_joined (open_levels vs) r.0 (open_levels ys) r.1 (b r.0 r.3) (a r.1 r.4)))
 
   pub same_levels : (hs : List (Held X)) → CopiesLevels IsKept hs hs
   same_levels hs ls h = h

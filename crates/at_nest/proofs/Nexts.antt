@@ -45,9 +45,19 @@ levels_append r (h ∷ hs) gs = ap (λ z. level_after z h) (levels_append r hs g
 pub next_error : {X : Type 0} (s : Shown X) (i : ℕ) → Err i ≡ outer_next s.outer → Err i ≡ next_of s
 next_error s i e = sym (after_error s.levels i) ∙ ap (λ r. levels_next r s.levels) e
 
--- one level more may stand where it does
-pub level_on : {X : Type 0} (r : Result Next ℕ) (os : List (Open X)) (o : Open X) (n : Next) → levels_next r (open_levels os) ≡ Ok n → n ≡ next.Value → levels_next r (open_levels (os ++ o ∷ [])) ≡ levels_next (Ok next.Value) (helds_of o)
-level_on r os o n e f = ap (levels_next r) (open_last os o) ∙ (levels_append r (helds_of o) (open_levels os) ∙ ap (λ z. levels_next z (helds_of o)) (e ∙ ap Ok f))
+-- behind more levels
+next_behind : {X : Type 0} (r : Result Next ℕ) (os ks : List (Open X)) → levels_next r (open_levels (os ++ ks)) ≡ levels_next (levels_next r (open_levels os)) (open_levels ks)
+next_behind r os ks = ap (levels_next r) (open_append os ks) ∙ levels_append r (open_levels ks) (open_levels os)
+
+-- behind one level more
+next_on : {X : Type 0} (r : Result Next ℕ) (os : List (Open X)) (o : Open X) → levels_next r (open_levels (os ++ o ∷ [])) ≡ levels_next (levels_next r (open_levels os)) (helds_of o)
+next_on r os o = ap (levels_next r) (open_last os o) ∙ levels_append r (helds_of o) (open_levels os)
+
+pub next_step : {X : Type 0} (r : Result Next ℕ) (os : List (Open X)) (o : Open X) (n : Next) (k : Result Next ℕ) → levels_next r (open_levels os) ≡ Ok n → k ≡ levels_next (Ok n) (helds_of o) → levels_next r (open_levels (os ++ o ∷ [])) ≡ k
+next_step r os o n k e f = next_on r os o ∙ (ap (λ z. levels_next z (helds_of o)) e ∙ sym f)
+
+pub next_more : {X : Type 0} (r : Result Next ℕ) (os ks : List (Open X)) (n : Next) (k : Result Next ℕ) → levels_next r (open_levels os) ≡ Ok n → k ≡ levels_next (Ok n) (open_levels ks) → levels_next r (open_levels (os ++ ks)) ≡ k
+next_more r os ks n k e f = next_behind r os ks ∙ (ap (λ z. levels_next z (open_levels ks)) e ∙ sym f)
 
 pub no_value : (n : Next) → (n ≡ next.Value → ⊥) → IsNoValue n
 no_value next.Value h = h refl
@@ -61,12 +71,9 @@ after_refused next.Name h k = refl
 after_refused next.Mark h k = refl
 after_refused next.Nothing h k = refl
 
--- or it may not
-pub level_off : {X : Type 0} (r : Result Next ℕ) (os : List (Open X)) (o : Open X) (ks : List (Open X)) (n : Next) (i : ℕ) → levels_next r (open_levels os) ≡ Ok n → levels_next (Ok n) (helds_of o) ≡ Err i → levels_next r (open_levels ((os ++ o ∷ []) ++ ks)) ≡ Err i
-level_off r os o ks n i e k =
-    ap (levels_next r) (open_append (os ++ o ∷ []) ks) ∙ (levels_append r (open_levels ks) (open_levels (os ++ o ∷ []))
-    ∙ (ap (λ z. levels_next z (open_levels ks)) (ap (levels_next r) (open_last os o) ∙ (levels_append r (helds_of o) (open_levels os) ∙ (ap (λ z. levels_next z (helds_of o)) e ∙ k)))
-    ∙ after_error (open_levels ks) i))
+-- what may not stand where it does stays so behind more levels
+pub next_off : {X : Type 0} (r : Result Next ℕ) (os ks : List (Open X)) (i : ℕ) → levels_next r (open_levels os) ≡ Err i → levels_next r (open_levels (os ++ ks)) ≡ Err i
+next_off r os ks i e = next_behind r os ks ∙ (ap (λ z. levels_next z (open_levels ks)) e ∙ after_error (open_levels ks) i)
 
 -- the last item of a list
 pub only_last : {X : Type 0} (ps : List (CodePiece X)) (p : CodePiece X) → only_of (ps ++ p ∷ []) ≡ value_of p

@@ -16,6 +16,8 @@ use Rattle.at_nest.specs.declared.levels.Level.TheVariants.{Array, Opened, Named
 use Rattle.at_nest.specs.declared.levels.Open.{Open}
 use Rattle.at_nest.specs.declared.levels.Open.TheVariants as placed
 use Rattle.at_nest.specs.declared.levels.Open.TheVariants.{Nested}
+use Rattle.at_nest.specs.declared.open_levels.Stretch.{Stretch}
+use Rattle.at_nest.specs.declared.open_levels.Levels.{Levels}
 use Rattle.at_nest.specs.declared.levels.Step.{Step}
 use Rattle.at_nest.specs.declared.levels.Step.TheVariants.{On, Refused}
 use Rattle.at_nest.specs.declared.pieces.Piece.{Piece}
@@ -128,12 +130,20 @@ abbrev pub open_levels : {X : Type 0} → List (Open X) → List (Held X)
 open_levels [] = []
 open_levels (o ∷ os) = open_levels os ++ helds_of o
 
+-- the levels of stretches, the innermost last
+abbrev pub stretched : {X : Type 0} → List (Stretch X) → List (Open X)
+stretched [] = []
+stretched (s ∷ ss) = (s.round.items ++ s.innermost ∷ []) ++ stretched ss
+
+abbrev pub opens_of : {X : Type 0} → Levels X → List (Open X)
+opens_of l = stretched l.before.items ++ l.last.items
+
 pub record Shown (X : Type 0) : Type 0 where
   pub outer : List (Piece X)
   pub levels : List (Held X)
 
 abbrev pub shown : {X : Type 0} → Body X → Shown X
-shown b = record { outer = b.outer.items; levels = open_levels b.levels.items }
+shown b = record { outer = b.outer.items; levels = open_levels (opens_of b.levels) }
 
 abbrev pub show_as : {X : Type 0} → List (Piece X) → List (Held X) → Shown X
 show_as outer levels = record { outer = outer; levels = levels }
@@ -188,5 +198,11 @@ module _ {X : Type 0} (IsOwn : X → Type 0) where
 abbrev pub OwnLevel : {X : Type 0} → (X → Type 0) → Open X → Type 0
 OwnLevel IsOwn o = AreOwn IsOwn (top_of o)
 
+abbrev pub OwnStretch : {X : Type 0} → (X → Type 0) → Stretch X → Type 0
+OwnStretch IsOwn s = All (OwnLevel IsOwn) s.round.items × OwnLevel IsOwn s.innermost
+
+abbrev pub OwnLevels : {X : Type 0} → (X → Type 0) → Levels X → Type 0
+OwnLevels IsOwn l = All (OwnStretch IsOwn) l.before.items × All (OwnLevel IsOwn) l.last.items
+
 abbrev pub OwnBody : {X : Type 0} → (X → Type 0) → Body X → Type 0
-OwnBody IsOwn b = All (OwnPiece IsOwn) b.outer.items × All (OwnLevel IsOwn) b.levels.items
+OwnBody IsOwn b = All (OwnPiece IsOwn) b.outer.items × OwnLevels IsOwn b.levels

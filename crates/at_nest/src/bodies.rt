@@ -4,7 +4,7 @@ ghost use Rattle.std.specs.Prelude.{◌≡◌, ℕ, ◌+◌, ◌-◌, ◌<◌, �
 ghost use Rattle.at_lex.specs.declared.tokens.Bracket.TheVariants.{Square};
 ghost use Rattle.at_lex.specs.Strings.{JsonString, Character, AreCharacters, string_text};
 ghost use Rattle.at_nest.specs.Forms.{closes as closing_piece};
-ghost use Rattle.at_nest.specs.Shown.{Held, array_level, held_of, AreOwn, shown, opened_as, show_as, kept_outside, put_back, comma_added, colon_added, IsStep};
+ghost use Rattle.at_nest.specs.Shown.{Held, array_level, held_of, AreOwn, opens_of, shown, opened_as, show_as, kept_outside, put_back, comma_added, colon_added, IsStep};
 ghost use Rattle.at_nest.specs.Refusals.{is_refused, last_of};
 ghost use Rattle.at_nest.specs.Closers.{IsLonger};
 ghost use Rattle.at_nest.specs.declared.pieces.Piece.{Piece};
@@ -21,6 +21,7 @@ use crate::levels::{
     with_value,
 };
 use crate::member_rows::{add_members, keep_awaited};
+use crate::open_levels::Levels;
 use crate::pieces::{Closers, Halt, Piece, Row, awaited_member, first_byte};
 use at_lex::{Bracket, TokenKind, units};
 use at_text::{Memory, Span};
@@ -32,7 +33,7 @@ pub struct Body<T> {
     /// What stands before the first open level: no opening bracket is among it.
     pub outer: Vec<Piece<T>>,
     /// The open levels, the innermost last.
-    pub levels: Vec<Open<T>>,
+    pub levels: Levels<T>,
 }
 
 impl<T: Drop> Body<T> {
@@ -42,16 +43,16 @@ impl<T: Drop> Body<T> {
     {
         Body {
             outer: Vec::new(alloc),
-            levels: Vec::new(alloc),
+            levels: Levels::new(alloc),
         }
     }
 
     /// The nest, where it is innermost.
     #[inline(always)]
     fn nest(&self) -> Option<Nest>
-        ensures { result ≡ nest_in (last_of self.now.levels.items) }
+        ensures { result ≡ nest_in (last_of (opens_of self.now.levels)) }
     {
-        match self.levels.as_slice().last() {
+        match self.levels.innermost() {
             Some(open) => open.nest(),
             None => None,
         }
@@ -59,22 +60,20 @@ impl<T: Drop> Body<T> {
 
     /// Puts the nest where the innermost levels were.
     fn put_nest(&mut self, nest: Nest)
-        requires some { 0 < length self.old.levels.items }
         ensures outer { (shown self.new).outer ≡ (shown self.old).outer }
-        ensures levels { PutsLast self.old.levels.items self.new.levels.items (Nested nest) }
+        ensures levels { PutsLast (opens_of self.old.levels) (opens_of self.new.levels) (Nested nest) }
     {
-        let place = self.levels.len() - 1;
-        self.levels[place] = Open::Nested(nest);
+        self.levels.put_innermost(Open::Nested(nest));
     }
 
     /// Leaves the innermost array of the nest out.
     fn leave_nested(&mut self, nest: Nest)
-        requires { last_of self.old.levels.items ≡ Some (Nested nest) }
+        requires { last_of (opens_of self.old.levels) ≡ Some (Nested nest) }
         ensures outer { (shown self.new).outer ≡ (shown self.old).outer }
         ensures levels { (shown self.old).levels ≡ array_level nest.last Empty [] ∷ (shown self.new).levels }
     {
         if nest.more == 0 {
-            self.levels.truncate(self.levels.len() - 1);
+            self.levels.pop();
             return;
         }
         self.put_nest(Nest {
@@ -85,7 +84,7 @@ impl<T: Drop> Body<T> {
 
     /// Takes the innermost array of the nest out.
     fn take_nested(&mut self, alloc: Global, nest: Nest) -> Level<T>
-        requires { last_of self.old.levels.items ≡ Some (Nested nest) }
+        requires { last_of (opens_of self.old.levels) ≡ Some (Nested nest) }
         ensures outer { (shown self.new).outer ≡ (shown self.old).outer }
         ensures levels { (shown self.old).levels ≡ held_of result ∷ (shown self.new).levels }
     {
@@ -96,7 +95,7 @@ impl<T: Drop> Body<T> {
     /// Takes the innermost level out, which is in no nest.
     #[inline(always)]
     fn pop(&mut self) -> Option<Level<T>>
-        requires { nest_in (last_of self.old.levels.items) ≡ None }
+        requires { nest_in (last_of (opens_of self.old.levels)) ≡ None }
         ensures outer { (shown self.new).outer ≡ (shown self.old).outer }
         ensures levels { MatchOption result
             (((shown self.old).levels ≡ []) × ((shown self.new).levels ≡ []))
@@ -127,7 +126,7 @@ impl<T: Drop> Body<T> {
     pub fn refuses(&self, kind: TokenKind) -> bool
         ensures { result ≡ is_refused (shown self.now) kind }
     {
-        match self.levels.as_slice().last() {
+        match self.levels.innermost() {
             Some(open) => open.refuses(kind),
             None => match self.outer.as_slice().last() {
                 Some(piece) => piece.refuses(kind),
@@ -148,7 +147,7 @@ impl<T: Drop> Body<T> {
     /// The nest with an array more, whose bracket stands at the offset: right behind the innermost one.
     #[inline(always)]
     fn longer(&self, at: u32) -> Option<Nest>
-        ensures { IfSome result (λ n. (n.last ≡ at) × (m : Nest) × (last_of self.now.levels.items ≡ Some (Nested m)) × (m.last ≡ at - 1) × (n.more ≡ suc m.more)) }
+        ensures { IfSome result (λ n. (n.last ≡ at) × (m : Nest) × (last_of (opens_of self.now.levels) ≡ Some (Nested m)) × (m.last ≡ at - 1) × (n.more ≡ suc m.more)) }
     {
         match self.nest() {
             None => None,
@@ -632,13 +631,13 @@ pub fn join<A: Algebra>(
     ensures { IfOk result (λ r. Joins (Kept (A.is_own algebra.now) (A.is_fold algebra.now) (A.is_run algebra.now)) bytes.now
         (shown body.old) (shown behind) (shown body.new) r) }
 {
-    let Body { outer, mut levels } = behind;
+    let Body { outer, levels } = behind;
     for piece in outer {
         let halt = add(body, alloc, algebra, bytes, piece)?;
         if halt.is_some() {
             return Ok(halt);
         }
     }
-    body.levels.append(&mut levels)?;
+    body.levels.append(levels)?;
     Ok(None)
 }

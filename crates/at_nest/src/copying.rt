@@ -1,14 +1,15 @@
 //! A second variant that is equal to the first, for two spans before that end in one state.
 
-ghost use Rattle.std.specs.Prelude.{◌≡◌, ℕ, All, List, IfOk};
+ghost use Rattle.std.specs.Prelude.{◌≡◌, ℕ, All, List, [], ◌∷◌, IfOk};
 ghost use Rattle.at_lex.specs.declared.tokens.Start.{Start};
-ghost use Rattle.at_nest.specs.Shown.{array_held, object_held, helds_of, shown, open_levels, AreOwn, OwnPiece, OwnLevel, OwnBody};
+ghost use Rattle.at_nest.specs.Shown.{array_held, object_held, helds_of, shown, open_levels, stretched, opens_of, AreOwn, OwnPiece, OwnLevel, OwnStretch, OwnLevels, OwnBody};
 ghost use Rattle.at_nest.specs.Holding.{Kept, CopiesItems, CopiesMember, CopiesMembers, CopiesNamed, CopiesHeld, CopiesLevels, CopiesPiece, CopiesPieces, CopiesShown};
 ghost use Rattle.at_nest.specs.Stands.{HoldsVariant};
 
 use crate::algebra::{Algebra, Member};
 use crate::bodies::Body;
 use crate::levels::{ArrayLevel, MemberName, ObjectLevel, ObjectState, Open};
+use crate::open_levels::{Levels, Stretch};
 use crate::pieces::{MemberRow, NamedValue, Piece, Row};
 use crate::variants::Variant;
 use at_text::Memory;
@@ -206,19 +207,62 @@ fn copy_pieces<A: Algebra>(
     Ok(copied)
 }
 
-fn copy_levels<A: Algebra>(
+fn copy_opens<A: Algebra>(
     alloc: Global,
     algebra: &A,
-    levels: &Vec<Open<A::Atom>>,
+    opens: &Vec<Open<A::Atom>>,
 ) -> Result<Vec<Open<A::Atom>>, Memory>
-    requires { All (OwnLevel (A.is_own algebra.now)) levels.now.items }
-    ensures { IfOk result (λ v. CopiesLevels (Kept (A.is_own algebra.now) (A.is_fold algebra.now) (A.is_run algebra.now)) (open_levels levels.now.items) (open_levels v.items)) }
+    requires { All (OwnLevel (A.is_own algebra.now)) opens.now.items }
+    ensures { IfOk result (λ v. CopiesLevels (Kept (A.is_own algebra.now) (A.is_fold algebra.now) (A.is_run algebra.now)) (open_levels opens.now.items) (open_levels v.items)) }
 {
-    let mut copied = Vec::with_capacity(alloc, levels.len())?;
-    for level in levels {
+    let mut copied = Vec::with_capacity(alloc, opens.len())?;
+    for level in opens {
         copied.push(copy_open(alloc, algebra, level)?)?;
     }
     Ok(copied)
+}
+
+fn copy_stretch<A: Algebra>(
+    alloc: Global,
+    algebra: &A,
+    stretch: &Stretch<A::Atom>,
+) -> Result<Stretch<A::Atom>, Memory>
+    requires { OwnStretch (A.is_own algebra.now) stretch.now }
+    ensures { IfOk result (λ s. CopiesLevels (Kept (A.is_own algebra.now) (A.is_fold algebra.now) (A.is_run algebra.now)) (open_levels (stretched (stretch.now ∷ []))) (open_levels (stretched (s ∷ [])))) }
+{
+    Ok(Stretch {
+        round: copy_opens(alloc, algebra, &stretch.round)?,
+        innermost: copy_open(alloc, algebra, &stretch.innermost)?,
+    })
+}
+
+fn copy_stretches<A: Algebra>(
+    alloc: Global,
+    algebra: &A,
+    stretches: &Vec<Stretch<A::Atom>>,
+) -> Result<Vec<Stretch<A::Atom>>, Memory>
+    requires { All (OwnStretch (A.is_own algebra.now)) stretches.now.items }
+    ensures { IfOk result (λ v. CopiesLevels (Kept (A.is_own algebra.now) (A.is_fold algebra.now) (A.is_run algebra.now)) (open_levels (stretched stretches.now.items)) (open_levels (stretched v.items))) }
+{
+    let mut copied = Vec::with_capacity(alloc, stretches.len())?;
+    for stretch in stretches {
+        copied.push(copy_stretch(alloc, algebra, stretch)?)?;
+    }
+    Ok(copied)
+}
+
+fn copy_levels<A: Algebra>(
+    alloc: Global,
+    algebra: &A,
+    levels: &Levels<A::Atom>,
+) -> Result<Levels<A::Atom>, Memory>
+    requires { OwnLevels (A.is_own algebra.now) levels.now }
+    ensures { IfOk result (λ l. CopiesLevels (Kept (A.is_own algebra.now) (A.is_fold algebra.now) (A.is_run algebra.now)) (open_levels (opens_of levels.now)) (open_levels (opens_of l))) }
+{
+    Ok(Levels {
+        before: copy_stretches(alloc, algebra, &levels.before)?,
+        last: copy_opens(alloc, algebra, &levels.last)?,
+    })
 }
 
 fn copy_body<A: Algebra>(

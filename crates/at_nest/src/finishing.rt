@@ -1,11 +1,11 @@
 //! The answer of a whole text.
 
-ghost use Rattle.std.specs.Prelude.{◌≡◌, ◌+◌, ◌≤◌, ◌^◌, true, drop, length, Ok, Err, None};
+ghost use Rattle.std.specs.Prelude.{◌≡◌, ◌+◌, ◌≤◌, ◌^◌, [], ◌∷◌, true, drop, length, Ok, Err, None};
 ghost use Rattle.at_text.specs.Spans.{part_of};
 ghost use Rattle.at_text.specs.Texts.{base_of as base_in};
 ghost use Rattle.at_lex.specs.Runs.{JsonRun};
 ghost use Rattle.at_lex.specs.Spans.{begins_run};
-ghost use Rattle.at_nest.specs.Shown.{helds_of, top_of, shown, open_levels};
+ghost use Rattle.at_nest.specs.Shown.{helds_of, top_of, shown, open_levels, stretched, opens_of};
 ghost use Rattle.at_nest.specs.declared.finishing.Next.{Next};
 ghost use Rattle.at_nest.specs.declared.finishing.Next.TheVariants as next;
 ghost use Rattle.at_nest.specs.Holding.{Kept, IsOfItems};
@@ -20,6 +20,7 @@ use crate::algebra::Algebra;
 use crate::bodies::{Body, read_value};
 use crate::fragments::Fragment;
 use crate::levels::Open;
+use crate::open_levels::{Levels, Stretch};
 use crate::pieces::{Halt, Piece, Within};
 use crate::tokens::stop_in;
 use crate::variants::{Variant, join_items};
@@ -121,20 +122,66 @@ fn first_of<T: Drop>(level: &Open<T>) -> u32
     }
 }
 
-/// What may stand behind the open levels, or the first that may not stand where it does.
-fn levels_next<T: Drop>(next: Next, levels: &[Open<T>]) -> Result<Next, u32>
-    ensures { result ≡ levels_end (Ok next) (open_levels levels.now) }
+/// What may stand behind what is open there, or the first of it, where that may not stand.
+fn open_next<T: Drop>(next: Next, level: &Open<T>) -> Result<Next, u32>
+    ensures { result ≡ levels_end (Ok next) (helds_of level.now) }
+{
+    match next {
+        Next::Value => Ok(next_in(level)),
+        _ => Err(first_of(level)),
+    }
+}
+
+/// The same behind levels one in the other, or the first that may not stand where it does.
+fn opens_next<T: Drop>(next: Next, opens: &[Open<T>]) -> Result<Next, u32>
+    ensures { result ≡ levels_end (Ok next) (open_levels opens.now) }
 {
     let mut next = next;
-    for level in levels {
-        match next {
-            Next::Value => {
-                next = next_in(level);
+    for level in opens {
+        match open_next(next, level) {
+            Ok(behind) => {
+                next = behind;
             }
-            _ => return Err(first_of(level)),
+            Err(place) => return Err(place),
         }
     }
     Ok(next)
+}
+
+/// The same behind a stretch of levels.
+fn stretch_next<T: Drop>(next: Next, stretch: &Stretch<T>) -> Result<Next, u32>
+    ensures { result ≡ levels_end (Ok next) (open_levels (stretched (stretch.now ∷ []))) }
+{
+    match opens_next(next, stretch.round.as_slice()) {
+        Ok(inside) => open_next(inside, &stretch.innermost),
+        Err(place) => Err(place),
+    }
+}
+
+/// The same behind stretches of levels.
+fn stretches_next<T: Drop>(next: Next, stretches: &[Stretch<T>]) -> Result<Next, u32>
+    ensures { result ≡ levels_end (Ok next) (open_levels (stretched stretches.now)) }
+{
+    let mut next = next;
+    for stretch in stretches {
+        match stretch_next(next, stretch) {
+            Ok(behind) => {
+                next = behind;
+            }
+            Err(place) => return Err(place),
+        }
+    }
+    Ok(next)
+}
+
+/// What may stand behind the open levels, or the first that may not stand where it does.
+fn levels_next<T: Drop>(next: Next, levels: &Levels<T>) -> Result<Next, u32>
+    ensures { result ≡ levels_end (Ok next) (open_levels (opens_of levels.now)) }
+{
+    match stretches_next(next, levels.before.as_slice()) {
+        Ok(inside) => opens_next(inside, levels.last.as_slice()),
+        Err(place) => Err(place),
+    }
 }
 
 /// What may stand behind the items of a text, or the first one that may not stand where it does.
@@ -143,7 +190,7 @@ fn next_of<T: Drop>(body: &Body<T>) -> Result<Next, u32>
 {
     match outer_next(body.outer.as_slice()) {
         Err(place) => Err(place),
-        Ok(next) => levels_next(next, body.levels.as_slice()),
+        Ok(next) => levels_next(next, &body.levels),
     }
 }
 

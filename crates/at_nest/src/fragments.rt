@@ -5,7 +5,7 @@ ghost use Rattle.at_text.specs.Spans.{AreNeighbours, IsMerged};
 ghost use Rattle.at_lex.specs.declared.tokens.Start.{Start};
 ghost use Rattle.at_nest.specs.Holding.{Kept};
 ghost use Rattle.at_nest.specs.Stands.{HoldsVariant};
-ghost use Rattle.at_nest.specs.Slots.{HoldsSome, StandsAs, GoesOn, EscapeGoesOn, AreBeside, Stays, slot_in, escape_end, variant_in, no_items};
+ghost use Rattle.at_nest.specs.Slots.{HoldsSome, StandsAs, GoesOn, AreBeside, CanTake, Takes, Stays, slot_in, no_items};
 ghost use Rattle.at_nest.specs.Standing.{HoldsEscape, HoldsParts, StandsFor, parts_of};
 
 use crate::algebra::Algebra;
@@ -17,21 +17,23 @@ use std::alloc::Global;
 use std::mem;
 
 /// What a span is where its first byte is escaped.
-#[derive(Drop)]
-pub enum Escape<T> {
+#[derive(Clone, Copy)]
+pub enum Escape {
     /// As in a string, since the first byte is no quote and no backslash.
     AsString,
-    Own(Variant<T>),
+    /// Not known: it is read where a span before it ends behind a backslash. That is seldom, and what is read may be as
+    /// large as the other variants.
+    Unread,
 }
 
-/// A span from all start states.
+/// A span from outside text and from inside a string, and what is known of it from behind a backslash.
 #[derive(Drop)]
 pub struct Parts<T> {
     pub from: u32,
     pub to: u32,
     pub out: Variant<T>,
     pub string: Variant<T>,
-    pub escape: Escape<T>,
+    pub escape: Escape,
 }
 
 /// What a span of JSON is, whatever stands before it.
@@ -78,21 +80,14 @@ fn fragment_of<A: Algebra>(
     }
 }
 
-/// The piece where its first byte is escaped.
-fn read_escape<A: Algebra>(
-    alloc: Global,
-    algebra: &A,
-    piece: &[u8],
-    base: u32,
-) -> Result<Escape<A::Atom>, Memory>
-    requires { base + length piece.now ≤ 2 ^ 28 }
-    ensures { IfOk result (HoldsEscape (Kept (A.is_own algebra.now) (A.is_fold algebra.now) (A.is_run algebra.now)) base piece.now) }
+/// What the piece is where its first byte is escaped.
+fn escape_of(piece: &[u8]) -> Escape
+    ensures { HoldsEscape piece.now result }
 {
     if !piece.is_empty() && piece[0] != b'"' && piece[0] != b'\\' {
-        return Ok(Escape::AsString);
+        return Escape::AsString;
     }
-    let own = read_variant(alloc, algebra, piece, base, Start::InEscape)?;
-    Ok(Escape::Own(own))
+    Escape::Unread
 }
 
 fn read_parts<A: Algebra>(
@@ -106,13 +101,12 @@ fn read_parts<A: Algebra>(
 {
     let out = read_variant(alloc, algebra, piece, base, Start::Out)?;
     let string = read_variant(alloc, algebra, piece, base, Start::InString)?;
-    let escape = read_escape(alloc, algebra, piece, base)?;
     Ok(Parts {
         from: base,
         to: base + piece.len() as u32,
         out,
         string,
-        escape,
+        escape: escape_of(piece),
     })
 }
 
@@ -126,28 +120,17 @@ pub fn run_block<A: Algebra>(alloc: Global, algebra: &A, piece: &[u8], base: u32
     fragment_of(alloc, algebra, parts)
 }
 
-/// Which of the kept variants is meant.
+/// Which variant is meant.
 #[derive(Clone, Copy)]
 enum Slot {
     Out,
     String,
+    /// The one from behind a backslash, which is not kept.
     Escape,
 }
 
-impl<T: Drop> Escape<T> {
-    /// The state in which what stands behind the span begins; none where it stops or is as in a string.
-    fn end(&self) -> Option<Start>
-        ensures { result ≡ escape_end self.now }
-    {
-        match self {
-            Escape::AsString => None,
-            Escape::Own(variant) => variant.end(),
-        }
-    }
-}
-
 impl<T: Drop> Parts<T> {
-    /// The kept variant from the state; none where what stands before stops.
+    /// The variant from the state; none where what stands before stops.
     fn slot_from(&self, state: Option<Start>) -> Option<Slot>
         ensures { result ≡ slot_in self.now.escape state }
     {
@@ -155,9 +138,9 @@ impl<T: Drop> Parts<T> {
             None => None,
             Some(Start::Out) => Some(Slot::Out),
             Some(Start::InString) => Some(Slot::String),
-            Some(Start::InEscape) => match &self.escape {
+            Some(Start::InEscape) => match self.escape {
                 Escape::AsString => Some(Slot::String),
-                Escape::Own(_) => Some(Slot::Escape),
+                Escape::Unread => Some(Slot::Escape),
             },
         }
     }
@@ -188,25 +171,31 @@ fn taken_from<A: Algebra>(
     }
 }
 
-/// The kept variant: moved out, or copied where it is wanted again.
+/// The variant: moved out, or copied where it is wanted again. The one from behind a backslash is read from the bytes.
+/// A merge wants it only where its left span ends behind a backslash, and once at most for each of the left span's two
+/// variants, so a span is read again in no other merge.
 fn taken<A: Algebra>(
     alloc: Global,
     algebra: &A,
+    bytes: &[u8],
     parts: &mut Parts<A::Atom>,
     slot: Slot,
     again: bool,
 ) -> Result<Variant<A::Atom>, Memory>
-    requires { HoldsSome (Kept (A.is_own algebra.now) (A.is_fold algebra.now) (A.is_run algebra.now)) (variant_in parts.old slot) }
-    ensures same { IfOk result (StandsAs (Kept (A.is_own algebra.now) (A.is_fold algebra.now) (A.is_run algebra.now)) (variant_in parts.old slot)) }
+    requires fits { length bytes.now ≤ 2 ^ 28 }
+    requires held { CanTake (Kept (A.is_own algebra.now) (A.is_fold algebra.now) (A.is_run algebra.now))
+        bytes.now parts.old slot }
+    ensures same { IfOk result (Takes (Kept (A.is_own algebra.now) (A.is_fold algebra.now) (A.is_run algebra.now))
+        bytes.now parts.old slot) }
     ensures stays { Stays (Some slot) again parts.old parts.new }
 {
     match slot {
         Slot::Out => taken_from(alloc, algebra, &mut parts.out, again),
         Slot::String => taken_from(alloc, algebra, &mut parts.string, again),
-        Slot::Escape => match &mut parts.escape {
-            Escape::AsString => Ok(nothing()),
-            Escape::Own(variant) => taken_from(alloc, algebra, variant, again),
-        },
+        Slot::Escape => {
+            let piece = &bytes[parts.from as usize..parts.to as usize];
+            read_variant(alloc, algebra, piece, parts.from, Start::InEscape)
+        }
     }
 }
 
@@ -231,33 +220,8 @@ fn joined<A: Algebra>(
     match wanted {
         None => Ok(left),
         Some(slot) => {
-            let behind = taken(alloc, algebra, right, slot, again)?;
+            let behind = taken(alloc, algebra, bytes, right, slot, again)?;
             join_variants(alloc, algebra, bytes, left, behind)
-        }
-    }
-}
-
-/// The same from behind a backslash. What it takes is not wanted again.
-fn joined_escape<A: Algebra>(
-    alloc: Global,
-    algebra: &A,
-    bytes: &[u8],
-    left: Escape<A::Atom>,
-    right: &mut Parts<A::Atom>,
-    wanted: Option<Slot>,
-) -> Result<Escape<A::Atom>, Memory>
-    requires fits { length bytes.now ≤ 2 ^ 28 }
-    requires held { (at : ℕ) × (w : List ℕ) × (x : List ℕ)
-        × EscapeGoesOn (Kept (A.is_own algebra.now) (A.is_fold algebra.now) (A.is_run algebra.now)) bytes.now at w x left right.old wanted }
-    ensures union { IfOk result (λ e. (at : ℕ) (w x : List ℕ)
-        → EscapeGoesOn (Kept (A.is_own algebra.now) (A.is_fold algebra.now) (A.is_run algebra.now)) bytes.now at w x left right.old wanted
-        → HoldsEscape (Kept (A.is_own algebra.now) (A.is_fold algebra.now) (A.is_run algebra.now)) at (w ++ x) e) }
-{
-    match left {
-        Escape::AsString => Ok(Escape::AsString),
-        Escape::Own(variant) => {
-            let own = joined(alloc, algebra, bytes, variant, right, wanted, false)?;
-            Ok(Escape::Own(own))
         }
     }
 }
@@ -272,17 +236,6 @@ fn is_same(wanted: Option<Slot>, other: Option<Slot>) -> bool
         (None, None) => true,
         _ => false,
     }
-}
-
-/// Whether the variant is wanted as one of the two others, too.
-fn is_either(wanted: Option<Slot>, first: Option<Slot>, second: Option<Slot>) -> bool
-    ensures first { wanted ≡ first → result ≡ true }
-    ensures second { wanted ≡ second → result ≡ true }
-{
-    if is_same(wanted, first) {
-        return true;
-    }
-    is_same(wanted, second)
 }
 
 /// What is kept of two neighbouring spans, put together.
@@ -310,20 +263,9 @@ fn merge_parts<A: Algebra>(
     let to = right.to;
     let for_out = right.slot_from(out.end());
     let for_string = right.slot_from(string.end());
-    let for_escape = right.slot_from(escape.end());
-    let out_again = is_either(for_out, for_string, for_escape);
-    let string_again = is_same(for_string, for_escape);
-    let out = joined(alloc, algebra, bytes, out, &mut right, for_out, out_again)?;
-    let string = joined(
-        alloc,
-        algebra,
-        bytes,
-        string,
-        &mut right,
-        for_string,
-        string_again,
-    )?;
-    let escape = joined_escape(alloc, algebra, bytes, escape, &mut right, for_escape)?;
+    let again = is_same(for_out, for_string);
+    let out = joined(alloc, algebra, bytes, out, &mut right, for_out, again)?;
+    let string = joined(alloc, algebra, bytes, string, &mut right, for_string, false)?;
     Ok(Parts {
         from,
         to,

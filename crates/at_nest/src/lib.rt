@@ -1,8 +1,9 @@
 //! Fragments of JSON texts (RFC 8259), and how they are merged.
 //!
 //! A file may be cut at any byte. [`run_block`] reads one piece of it without knowing what stands before: from outside
-//! text, from a string, and from behind a backslash in one. [`merge`] joins what two neighbouring pieces gave, and
-//! [`finish`] answers what an [`Algebra`] makes of the file's tree, or the first place at which no JSON text goes on.
+//! text, and from inside a string. [`merge`] joins what two neighbouring pieces gave; where the left one ends behind a
+//! backslash, it may have to read the right one once more. [`finish`] answers what an [`Algebra`] makes of the file's
+//! tree, or the first place at which no JSON text goes on.
 #![tactic(auto)]
 
 mod algebra;
@@ -12,6 +13,7 @@ mod finishing;
 mod fragments;
 mod levels;
 mod member_rows;
+mod open_levels;
 mod openings;
 mod pieces;
 mod tokens;

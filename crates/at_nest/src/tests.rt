@@ -231,6 +231,31 @@ fn compare_from_right<R: Abort + AllocGlobal>(rt: &R, text: &[u8], expected: Res
     }
 }
 
+/// Strings that are cut in their escapes: a piece behind a backslash may begin with a quote or a backslash, or be nothing
+/// else, whichever pieces are joined first.
+#[test]
+fn cut_escapes(rt: HostRuntime) {
+    let rows: [(&'static [u8], Result<u64, NestEnd>); 12] = [
+        (b"\"a\\\"b\"", Ok(1)),
+        (b"\"a\\\\\"", Ok(1)),
+        (b"\"\\\\\\\"\"", Ok(1)),
+        (b"[\"\\\\\",\"\\\"]\"]", Ok(3)),
+        (b"{\"\\\"\":1,\"\\\\\":[]}", Ok(3)),
+        (b"\"a\\\"", Err(NestEnd::Ended)),
+        (b"\"a\\", Err(NestEnd::Ended)),
+        (b"\"\\\\\\\"", Err(NestEnd::Ended)),
+        (b"\"a\\\\b\\c\"", Err(NestEnd::Syntax(6))),
+        (b"[\"a\\\\\"\"b\"]", Err(NestEnd::Syntax(6))),
+        (b"[1,\\\"\\\"]", Err(NestEnd::Syntax(3))),
+        (b"\\\\\"", Err(NestEnd::Syntax(0))),
+    ];
+    for (text, expected) in rows.iter() {
+        compare_cuts(&rt, text, *expected);
+        compare_from_right(&rt, text, *expected);
+        compare_copies(&rt, text, *expected);
+    }
+}
+
 /// Closing brackets one right behind another meet their openings wherever the text is cut and whichever pieces are
 /// joined first; a bracket of the wrong kind among them is the fault.
 #[test]
@@ -253,6 +278,65 @@ fn closing_rows(rt: HostRuntime) {
         assert!(rt; text.len() < 100);
         compare_cuts(&rt, text, *expected);
         compare_from_right(&rt, text, *expected);
+    }
+}
+
+/// The answer of a text that is cut at the three places: the two parts before the second one are joined, and those
+/// behind it, and then both.
+fn answer_in_pairs(
+    alloc: Global,
+    bytes: &[u8],
+    first: u32,
+    second: u32,
+    third: u32,
+) -> Result<u64, NestEnd>
+    requires fits { length bytes.now ≤ 2 ^ 28 }
+    requires end { second ≤ length bytes.now }
+{
+    let end = bytes.len() as u32;
+    let front = Span {
+        from: 0,
+        to: second,
+    };
+    let back = Span {
+        from: second,
+        to: end,
+    };
+    let left = cut_at(alloc, &Tally, bytes, front, &[first]);
+    let right = cut_at(alloc, &Tally, bytes, back, &[third]);
+    let span = Span { from: 0, to: end };
+    let whole = joined(alloc, &Tally, bytes, span, second, left, right);
+    finish_span(alloc, &Tally, bytes, span, whole)
+}
+
+fn compare_pairs<R: Abort + AllocGlobal>(rt: &R, text: &[u8], expected: Result<u64, NestEnd>) {
+    assert!(rt; text.len() < 100);
+    let end = text.len() as u32;
+    for second in 0..=end {
+        for first in 0..=second {
+            for third in second..=end {
+                assert_eq!(rt;
+                    answer_in_pairs(rt.alloc(), text, first, second, third),
+                    expected,
+                    "{text:?} at {first}, {second} and {third}"
+                );
+            }
+        }
+    }
+}
+
+/// Levels that each of four parts leaves open are closed, and stop the text, as those of one part do.
+#[test]
+fn levels_of_four_parts(rt: HostRuntime) {
+    let rows: [(&'static [u8], Result<u64, NestEnd>); 5] = [
+        (b"[{\"\":[{\"\":[2]}]}]", Ok(6)),
+        (b"[1,[2,[3,[4,[5]]]]]", Ok(10)),
+        (b"[[[{\"\":[[{", Err(NestEnd::Ended)),
+        (b"[[1[{\"\":[[", Err(NestEnd::Syntax(3))),
+        (b"[1,[2,[3,[4]]]}", Err(NestEnd::Syntax(14))),
+    ];
+    for (text, expected) in rows.iter() {
+        compare_pairs(&rt, text, *expected);
     }
 }
 

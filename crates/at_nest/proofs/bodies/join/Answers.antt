@@ -3,7 +3,7 @@ use Rattle.std.proofs.Common.{◌++◌, List, sym, ◌∙◌, ap, subst, append-
 use Rattle.std.specs.Vec.Iter.{into_iter_items}
 use Rattle.at_nest.specs.declared.levels.Open.{Open}
 use Rattle.at_nest.specs.declared.pieces.Piece.{Piece}
-use Rattle.at_nest.specs.Shown.{shown, show_as, open_levels}
+use Rattle.at_nest.specs.Shown.{shown, show_as, open_levels, opens_of}
 use Rattle.at_nest.specs.Holding.{Kept}
 use Rattle.at_nest.proofs.Showing.{open_append}
 use Rattle.at_nest.proofs.Joining.{taken_front, can_add, joins_halt, so_far_next, joins_all, none_left, SoFar}
@@ -35,5 +35,5 @@ returns g c = let own = g.A.Algebra.is_own c.args.algebra.now in let fold = g.A.
     (sym (sym c.into_iter-piece-iterator.ensures.into_iter_gives.0 ∙ (taken_front _ _ _ c.loop-piece.yielded_by
     ∙ (ap (λ (z : List (Piece g.row.A-Atom.Denot)). c.loop-piece.yielded ++ z) (none_left c.loop-piece.piece-iterator c.in-None.ensures.steps.0) ∙ append-nil c.loop-piece.yielded))))
     c.loop-piece.invariant.2)
-    (ap (λ (z : List (Open g.row.A-Atom.Denot)). show_as c.loop-piece.body.outer.items (open_levels z)) (c.in_ok-append.ensures.items)
-    ∙ ap (λ z. show_as c.loop-piece.body.outer.items z) (open_append c.loop-piece.body.levels.items c.args.behind.levels.items))
+    (ap (λ (z : List (Open g.row.A-Atom.Denot)). show_as c.loop-piece.body.outer.items (open_levels z)) c.in_ok-append.ensures
+    ∙ ap (λ z. show_as c.loop-piece.body.outer.items z) (open_append (opens_of c.loop-piece.body.levels) (opens_of c.args.behind.levels)))

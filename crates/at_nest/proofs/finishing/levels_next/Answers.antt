@@ -1,21 +1,17 @@
--- One level more, or the first that may not stand where it does.
-use Rattle.std.proofs.Common.{◌+◌, ◌++◌, ◌<◌, length, take, drop, take-append-drop, arith, sym, ◌∙◌, ap, Ok}
-use Rattle.at_nest.specs.Shown.{open_levels, top_of}
-use Rattle.at_nest.specs.Nexts.{levels_next, level_after}
-use Rattle.at_nest.proofs.Copies.{take_next}
-use Rattle.at_nest.proofs.Nests.{round_next}
-use Rattle.at_nest.proofs.Nexts.{level_on, level_off, no_value}
+-- The last levels stand behind the stretches.
+use Rattle.std.proofs.Common.{◌∙◌, sym, ap, List, Ok}
+use Rattle.at_nest.specs.declared.levels.Open.{Open}
+use Rattle.at_nest.specs.declared.open_levels.Stretch.{Stretch}
+use Rattle.at_nest.specs.Shown.{open_levels, stretched}
+use Rattle.at_nest.specs.Nexts.{levels_next}
+use Rattle.at_nest.proofs.Nexts.{next_more, next_off}
 use Rattle.at_nest.proofs.finishing.levels_next.Goals as goal
 
-pub loop-level-preserved : goal.loop-level-preserved
-loop-level-preserved g c =
-    let below : c.loop-level.level-index < length c.args.levels.now = omega (arith, c.loop-level-test.true) in
-    ap (λ z. levels_next (Ok c.args.next) (open_levels z)) (take_next c.args.levels.now c.loop-level.level-index c.level-item.result below c.level-item.is)
-    ∙ (level_on (Ok c.args.next) (take c.loop-level.level-index c.args.levels.now) c.level-item.result c.loop-level.next c.loop-level.invariant c.in-Value.is ∙ (ap (λ z. level_after z (top_of c.level-item.result)) (round_next c.level-item.result) ∙ ap Ok (sym c.next_in-next.ensures)))
+pub returns-in-Ok : goal.returns-in-Ok
+returns-in-Ok g c = sym (next_more (Ok c.args.next) (stretched c.args.levels.now.before.items) c.args.levels.now.last.items c.in-Ok.inside c.opens_next.result
+    (sym (c.in-Ok.ensures ∙ ap (λ (z : List (Stretch g.row.T.Denot)). levels_next (Ok c.args.next) (open_levels (stretched z))) c.as_slice.ensures.value))
+    (c.opens_next.ensures ∙ ap (λ (z : List (Open g.row.T.Denot)). levels_next (Ok c.in-Ok.inside) (open_levels z)) c.as_slice-in-Ok.ensures.value))
 
-pub returns-in_default : goal.returns-in_default
-returns-in_default g c =
-    let below : c.loop-level.level-index < length c.args.levels.now = omega (arith, c.loop-level-test.true) in
-    sym (level_off (Ok c.args.next) (take c.loop-level.level-index c.args.levels.now) c.level-item.result (drop (c.loop-level.level-index + 1) c.args.levels.now) c.loop-level.next c.first_of.result c.loop-level.invariant (c.first_of.ensures c.loop-level.next (no_value c.loop-level.next c.in_default.not-Value)))
-    ∙ (ap (λ z. levels_next (Ok c.args.next) (open_levels (z ++ drop (c.loop-level.level-index + 1) c.args.levels.now))) (sym (take_next c.args.levels.now c.loop-level.level-index c.level-item.result below c.level-item.is))
-    ∙ ap (λ z. levels_next (Ok c.args.next) (open_levels z)) (take-append-drop (c.loop-level.level-index + 1) c.args.levels.now))
+pub returns-in-Err : goal.returns-in-Err
+returns-in-Err g c = sym (next_off (Ok c.args.next) (stretched c.args.levels.now.before.items) c.args.levels.now.last.items c.in-Err.place
+    (sym (c.in-Err.ensures ∙ ap (λ (z : List (Stretch g.row.T.Denot)). levels_next (Ok c.args.next) (open_levels (stretched z))) c.as_slice.ensures.value)))

@@ -1,15 +1,13 @@
 -- What is taken goes on behind the left variant; where nothing is wanted, the left one stops.
-use Rattle.std.proofs.Common.{◌+◌, length}
 use Rattle.std.proofs.lemmas.Result.{IfOk-weaker}
-use Rattle.at_lex.specs.Spans.{end_of}
 use Rattle.at_nest.specs.Holding.{Kept}
-use Rattle.at_nest.proofs.Behind.{as_wanted, taken_union, none_union}
+use Rattle.at_nest.proofs.Behind.{can_take, taken_union, none_union}
 use Rattle.at_nest.proofs.fragments.joined.Goals as goal
 
-pub taken-requires-after_bounds : goal.taken-requires-after_bounds
-taken-requires-after_bounds g c κs within = let own = g.A.Algebra.is_own c.args.algebra.now in let fold = g.A.Algebra.is_fold c.args.algebra.now in let run = g.A.Algebra.is_run c.args.algebra.now in
+pub taken-requires-clause-held : goal.taken-requires-clause-held
+taken-requires-clause-held g c κs within = let own = g.A.Algebra.is_own c.args.algebra.now in let fold = g.A.Algebra.is_fold c.args.algebra.now in let run = g.A.Algebra.is_run c.args.algebra.now in
     let h = c.requires.held in
-    (end_of h.0 h.2, h.1 + length h.2, h.3, (as_wanted (Kept own fold run) c.args.bytes.now h.0 h.1 h.2 h.3 c.args.left c.args.right.now c.args.wanted c.in-Some.slot c.in-Some.is h.4).2)
+    can_take (Kept own fold run) c.args.bytes.now h.0 h.1 h.2 h.3 c.args.left c.args.right.now c.args.wanted c.in-Some.slot c.in-Some.is h.4
 
 pub join_variants-requires-clause-held : goal.join_variants-requires-clause-held
 join_variants-requires-clause-held g c κs within = let own = g.A.Algebra.is_own c.args.algebra.now in let fold = g.A.Algebra.is_fold c.args.algebra.now in let run = g.A.Algebra.is_run c.args.algebra.now in

@@ -2,18 +2,24 @@
 use Rattle.std.proofs.Common.{◌-◌, Option, List, length, sym, ◌∙◌, ap, slice_get}
 use Rattle.at_nest.specs.declared.levels.Open.{Open}
 use Rattle.at_nest.specs.declared.pieces.Piece.{Piece}
-use Rattle.at_nest.specs.Shown.{open_levels}
+use Rattle.at_nest.specs.Shown.{open_levels, opens_of}
 use Rattle.at_nest.specs.Refusals.{not_behind_last, not_in}
 use Rattle.at_nest.proofs.Nests.{last_got, open_top, open_none}
 use Rattle.at_nest.proofs.bodies.Body.refuses.Goals as goal
 
 pub returns-in-Some : goal.returns-in-Some
 returns-in-Some g c =
-    let top = open_top c.args.self.now.levels.items c.in-Some.open.now (sym (c.in-Some.ensures.value ∙ (ap (λ (z : List (Open g.row.T.Denot)). slice_get z (length z - 1)) c.as_slice.ensures.value ∙ last_got c.args.self.now.levels.items))) in
+    let top = open_top (opens_of c.args.self.now.levels) c.in-Some.open.now (sym c.in-Some.ensures) in
     c.refuses.ensures ∙ ap (λ z. not_in z c.args.self.now.outer.items c.args.kind) (sym top.1)
 
 pub returns-in-Some-last : goal.returns-in-Some-last
 returns-in-Some-last g c =
-    let none = open_none c.args.self.now.levels.items (c.in-None.ensures.value ∙ (ap (λ (z : List (Open g.row.T.Denot)). slice_get z (length z - 1)) c.as_slice.ensures.value ∙ last_got c.args.self.now.levels.items)) in
-    let got = c.in-Some-last.ensures.value ∙ (ap (λ (z : List (Piece g.row.T.Denot)). slice_get z (length z - 1)) c.as_slice-in-None.ensures.value ∙ last_got c.args.self.now.outer.items) in
+    let none = open_none (opens_of c.args.self.now.levels) c.in-None.ensures in
+    let got = c.in-Some-last.ensures.value ∙ (ap (λ (z : List (Piece g.row.T.Denot)). slice_get z (length z - 1)) c.as_slice.ensures.value ∙ last_got c.args.self.now.outer.items) in
     c.refuses-in-Some-last.ensures ∙ (ap (λ (z : Option (Piece g.row.T.Denot)). not_behind_last z c.args.kind) got ∙ ap (λ (z : List (Open g.row.T.Denot)). not_in (open_levels z) c.args.self.now.outer.items c.args.kind) (sym none))
+
+pub returns-in-None-last : goal.returns-in-None-last
+returns-in-None-last g c =
+    let none = open_none (opens_of c.args.self.now.levels) c.in-None.ensures in
+    let got = c.in-None-last.ensures.value ∙ (ap (λ (z : List (Piece g.row.T.Denot)). slice_get z (length z - 1)) c.as_slice.ensures.value ∙ last_got c.args.self.now.outer.items) in
+    ap (λ (z : Option (Piece g.row.T.Denot)). not_behind_last z c.args.kind) got ∙ ap (λ (z : List (Open g.row.T.Denot)). not_in (open_levels z) c.args.self.now.outer.items c.args.kind) (sym none)

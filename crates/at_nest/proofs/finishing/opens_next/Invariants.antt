@@ -2,7 +2,7 @@
 use Rattle.std.proofs.Common.{◌≡◌, Ok, take}
 use Rattle.at_nest.specs.Shown.{open_levels}
 use Rattle.at_nest.specs.Nexts.{levels_next}
-use Rattle.at_nest.proofs.finishing.levels_next.Given as goal
+use Rattle.at_nest.proofs.finishing.opens_next.Given as goal
 
 abbrev pub invariant-loop-level : goal.invariant-loop-level
-invariant-loop-level g l = levels_next (Ok l.fn.next) (open_levels (take l.level-index l.levels)) ≡ Ok l.next
+invariant-loop-level g l = levels_next (Ok l.fn.next) (open_levels (take l.level-index l.opens)) ≡ Ok l.next
