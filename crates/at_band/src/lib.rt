@@ -18,6 +18,3 @@ mod touches;
 mod zones;
 
 pub use bands::Bands;
-
-#[cfg(test)]
-mod tests;

@@ -30,6 +30,3 @@ pub use gate::{Free, Gate};
 pub use job::Job;
 pub use pass::Pass;
 pub use run::run_crew;
-
-#[cfg(test)]
-mod tests;

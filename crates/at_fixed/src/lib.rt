@@ -22,6 +22,3 @@ pub use numbers::{
 };
 pub use rounding::{Coords, FixedFault};
 pub use writing::write_fixed;
-
-#[cfg(test)]
-mod tests;

@@ -35,8 +35,3 @@ mod values;
 pub use asked::GeoAlgebra;
 pub use atoms::GeoAtom;
 pub use root::{RootEnd, root_part};
-
-#[cfg(test)]
-mod tests;
-#[cfg(test)]
-mod track_tests;

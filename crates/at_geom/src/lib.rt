@@ -30,6 +30,3 @@ pub use regions::{RingPlace, in_polygon, is_in_no_hole, place_in_ring};
 pub use rules::{line_fault, ring_fault};
 pub use segments::segments_meet;
 pub use shapes::{Polygon, Polygons, Shape};
-
-#[cfg(test)]
-mod tests;

@@ -16,10 +16,3 @@ mod inside;
 pub use builder::HullBuilder;
 pub use hulls::{hull, hull_join};
 pub use inside::covers_all;
-
-#[cfg(test)]
-mod builder_tests;
-#[cfg(test)]
-mod grid_tests;
-#[cfg(test)]
-mod tests;

@@ -24,6 +24,3 @@ pub use shelf::{Failed, Shelf};
 pub use sink::Sink;
 pub use streams::StdSink;
 pub use whole::{LARGEST_FILE, ReadError, TURN, read_whole};
-
-#[cfg(test)]
-mod tests;

@@ -29,6 +29,3 @@ pub use job::{GridJob, Joining, PairPart};
 pub use plain::pairs_plain;
 pub use run::pairs_grid;
 pub use steps::Steps;
-
-#[cfg(test)]
-mod tests;

@@ -23,6 +23,3 @@ pub use runs::{RunEnd, check_run, take_run};
 pub use stream::Lexer;
 pub use strings::take_text;
 pub use tokens::{Bracket, Item, Lead, Lexed, Pend, Start, Token, TokenKind, Tokens};
-
-#[cfg(test)]
-mod tests;

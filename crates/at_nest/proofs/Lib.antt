@@ -47,4 +47,3 @@ pub mod Told
 pub mod Lasts
 pub mod WholeTexts
 pub mod Behind
-mod Leaps

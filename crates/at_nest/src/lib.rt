@@ -22,6 +22,3 @@ mod variants;
 pub use algebra::{Algebra, Attempt, Member};
 pub use finishing::{NestEnd, finish, finish_span};
 pub use fragments::{Fragment, lost, merge, run_block};
-
-#[cfg(test)]
-mod tests;

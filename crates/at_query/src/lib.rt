@@ -38,6 +38,3 @@ pub use printing::answer_text;
 pub use queries::{Query, Test, Tests, Verb};
 pub use reading::{QueryEnd, read_query};
 pub use results::{answer_of, part_none, part_of};
-
-#[cfg(test)]
-mod tests;

@@ -41,6 +41,3 @@ pub use joins::{answer_join, entries_of, of_all};
 pub use json_files::finish_json;
 pub use json_fragments::JsonFragment;
 pub use readers::{FileFragment, Reader};
-
-#[cfg(test)]
-mod tests;

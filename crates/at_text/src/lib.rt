@@ -17,6 +17,3 @@ pub use memory::Memory;
 pub use pieces::Pieces;
 pub use prefixes::Taken;
 pub use texts::{Bytes, Span, Word};
-
-#[cfg(test)]
-mod tests;

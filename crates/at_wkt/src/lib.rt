@@ -37,8 +37,3 @@ pub use folding::Fold;
 pub use fragments::{LineFragment, WholeLines, finish_lines, merge_lines, run_lines};
 pub use reading::{read_geometry, read_line};
 pub use rooms::Room;
-
-#[cfg(test)]
-mod cut_tests;
-#[cfg(test)]
-mod tests;

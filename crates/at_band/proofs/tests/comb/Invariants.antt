@@ -1,6 +1,0 @@
-use Rattle.std.specs.Prelude.{All}
-use Rattle.at_geom.specs.Segments.{IsInRange}
-use Rattle.at_band.proofs.tests.comb.Given as goal
-
-abbrev pub invariant-loop-tooth : goal.invariant-loop-tooth
-invariant-loop-tooth l = All IsInRange l.items.items

@@ -1,0 +1,7 @@
+//! Tests of the public calls of `at_geojson`, from outside, as a caller makes them.
+#![tactic(auto)]
+
+#[cfg(test)]
+mod tests;
+#[cfg(test)]
+mod track_tests;

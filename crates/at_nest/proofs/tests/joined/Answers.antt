@@ -1,8 +1,0 @@
--- The two parts are neighbours.
-use Rattle.at_nest.proofs.tests.joined.Goals as goal
-
-pub merge-requires-clause-neighbours : goal.merge-requires-clause-neighbours
-merge-requires-clause-neighbours g c κs within = (c.args.span.from, c.args.at, c.args.span.to, (c.requires.before, c.requires.order, c.requires.end, c.requires.left, c.requires.right))
-
-pub returns : goal.returns
-returns g c = c.merge.ensures.union c.args.span.from c.args.at c.args.span.to (c.requires.before, c.requires.order, c.requires.end, c.requires.left, c.requires.right)

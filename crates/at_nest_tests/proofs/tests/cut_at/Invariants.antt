@@ -1,0 +1,13 @@
+-- What is read so far stands for its bytes.
+use Rattle.std.proofs.Common.{◌≤◌}
+use Rattle.at_text.specs.Spans.{part_of}
+use Rattle.at_nest.specs.Holding.{Kept}
+use Rattle.at_nest.specs.Standing.{StandsFor}
+use Rattle.at_nest_tests.proofs.tests.cut_at.Given as goal
+
+abbrev pub invariant-loop-place : goal.invariant-loop-place
+invariant-loop-place g l = record {
+  low : l.span.from ≤ l.at;
+  high : l.at ≤ l.span.to;
+  stands : StandsFor (Kept (g.A.Algebra.is_own l.algebra) (g.A.Algebra.is_fold l.algebra) (g.A.Algebra.is_run l.algebra)) l.span.from (part_of l.bytes l.span.from l.at) l.whole;
+}

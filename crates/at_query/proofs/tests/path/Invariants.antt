@@ -1,6 +1,0 @@
-use Rattle.std.specs.Prelude.{All}
-use Rattle.at_geom.specs.Segments.{IsInRange}
-use Rattle.at_query.proofs.tests.path.Given as goal
-
-abbrev pub invariant-loop-at : goal.invariant-loop-at
-invariant-loop-at l = All IsInRange l.items.items
