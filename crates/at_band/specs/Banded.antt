@@ -32,7 +32,8 @@ AreCovering low high parts = (y : ℤ) → low ≤ℤ y → y ≤ℤ high → So
 -- at the heights the part has the edges of the shape, and its polygons have the same positions
 pub record IsPartOf (s : Shape) (heights : Heights) (part : Shape) : Type 0 where
   pub ranged : IsShapeInRange s → IsShapeInRange part
-  pub same_edges : filter (spans heights.low heights.high) (segments part) ≡ filter (spans heights.low heights.high) (segments s)
+  pub same_edges : filter (spans heights.low heights.high) (segments part) ≡ filter (spans heights.low heights.high)
+      (segments s)
   pub in_part : (p : Pos) → IsAt p.y heights → IsInSome p s.polygons → IsInSome p part.polygons
   pub in_whole : (p : Pos) → IsAt p.y heights → IsInSome p part.polygons → IsInSome p s.polygons
 
@@ -75,11 +76,13 @@ MeetsSomeWithin low high a b others = SomeOf (MeetsWithin low high a b) others
 
 -- the segment reaches into the band, and meets one of the shape's segments that do
 abbrev pub IsMetIn : Pos → Pos → Shape → Band → Type 0
-IsMetIn a b s band = IsTrue (spans band.heights.low band.heights.high (a, b)) × MeetsSomeWithin band.heights.low band.heights.high a b (segments s)
+IsMetIn a b s band = IsTrue (spans band.heights.low band.heights.high (a, b))
+    × MeetsSomeWithin band.heights.low band.heights.high a b (segments s)
 
 -- the segment reaches into the zone, and is met in one of its bands
 abbrev pub IsMetInZone : Pos → Pos → Shape → Zone → Type 0
-IsMetInZone a b s zone = IsTrue (spans zone.heights.low zone.heights.high (a, b)) × SomeOf (IsMetIn a b s) zone.bands.items
+IsMetInZone a b s zone = IsTrue (spans zone.heights.low zone.heights.high (a, b))
+    × SomeOf (IsMetIn a b s) zone.bands.items
 
 -- a shape without lines and polygons
 abbrev pub IsOfPoints : Shape → Type 0

@@ -20,7 +20,8 @@ edge_ends false joins a b = []
 
 abbrev pub thinned_from : ℤ → ℤ → Bool → Pos → List Pos → List Pos
 thinned_from low high joins a [] = []
-thinned_from low high joins a (b ∷ rest) = edge_ends (spans low high (a, b)) joins a b ++ thinned_from low high (spans low high (a, b)) b rest
+thinned_from low high joins a (b ∷ rest) =
+    edge_ends (spans low high (a, b)) joins a b ++ thinned_from low high (spans low high (a, b)) b rest
 
 -- the path of the edges that are kept
 abbrev pub thinned : ℤ → ℤ → List Pos → List Pos

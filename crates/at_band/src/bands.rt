@@ -14,8 +14,10 @@ ghost use Rattle.std.specs.Prelude.{◌≡◌, IsTrue, ◌↔◌, ◌≤ℤ◌, 
 ghost use Rattle.at_text.specs.Lists.{SomeOf};
 ghost use Rattle.at_geom.specs.declared.positions.Pos.{Pos};
 ghost use Rattle.at_geom.specs.Segments.{IsInRange};
-ghost use Rattle.at_geom.specs.Shapes.{IsShapeInRange, IsInSome, SomeIsIn, MeetsSome, Meet, segments, positions, extent_of};
-ghost use Rattle.at_band.specs.Banded.{IsAt, IsBandOf, IsZoneOf, IsFrameOf, AreZonesOf, IsOfPoints, MeetsSomeWithin, IsMetIn, IsMetInZone};
+ghost use Rattle.at_geom.specs.Shapes.{IsShapeInRange, IsInSome, SomeIsIn, MeetsSome, Meet, segments, positions};
+ghost use Rattle.at_geom.specs.Shapes.{extent_of};
+ghost use Rattle.at_band.specs.Banded.{IsAt, IsBandOf, IsZoneOf, IsFrameOf, AreZonesOf, IsOfPoints, MeetsSomeWithin};
+ghost use Rattle.at_band.specs.Banded.{IsMetIn, IsMetInZone};
 ghost use Rattle.at_band.specs.Touched.{IsOnShape, SomeIsOn};
 
 use crate::copies::copied_shape;

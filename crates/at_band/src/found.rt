@@ -2,7 +2,8 @@
 
 ghost use Rattle.std.specs.Prelude.{IsTrue, ◌↔◌, All, flat_map};
 ghost use Rattle.at_geom.specs.Segments.{IsInRange, edges};
-ghost use Rattle.at_geom.specs.Shapes.{ArePathsInRange, ArePolygonsInRange, IsShapeInRange, segments, segments_of_points, segments_of_polygons};
+ghost use Rattle.at_geom.specs.Shapes.{ArePathsInRange, ArePolygonsInRange, IsShapeInRange, segments};
+ghost use Rattle.at_geom.specs.Shapes.{segments_of_points, segments_of_polygons};
 ghost use Rattle.at_band.specs.Banded.{MeetsWithin, MeetsSomeWithin};
 
 use crate::thinning::{Heights, spans};

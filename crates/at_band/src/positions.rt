@@ -2,7 +2,8 @@
 
 ghost use Rattle.std.specs.Prelude.{IsTrue, ◌↔◌, All};
 ghost use Rattle.at_geom.specs.Segments.{IsInRange};
-ghost use Rattle.at_geom.specs.Shapes.{ArePathsInRange, ArePolygonsInRange, IsShapeInRange, SomeIsIn, positions, joined, positions_of_polygons};
+ghost use Rattle.at_geom.specs.Shapes.{ArePathsInRange, ArePolygonsInRange, IsShapeInRange, SomeIsIn, positions};
+ghost use Rattle.at_geom.specs.Shapes.{joined, positions_of_polygons};
 ghost use Rattle.at_band.specs.Banded.{AreZonesOf};
 
 use crate::bands::{Frame, position_is_in};

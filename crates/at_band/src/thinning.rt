@@ -1,7 +1,8 @@
 //! What of a shape is kept for a band of heights.
 
 ghost use Rattle.std.specs.Prelude.{◌≡◌, ◌∷◌, ◌++◌, IfOk};
-ghost use Rattle.at_band.specs.Thinned.{spans as spans_of, edge_ends, thinned, thinned_points, thinned_paths, thinned_rings, thinned_polygons, thinned_shape};
+ghost use Rattle.at_band.specs.Thinned.{spans as spans_of, edge_ends, thinned, thinned_points, thinned_paths};
+ghost use Rattle.at_band.specs.Thinned.{thinned_rings, thinned_polygons, thinned_shape};
 
 use at_geom::{Path, Paths, Polygon, Polygons, Pos, Shape};
 use at_text::Memory;

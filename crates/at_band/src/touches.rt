@@ -4,7 +4,8 @@ ghost use Rattle.std.specs.Prelude.{IsTrue, ◌↔◌, ◌∷◌, All, flat_map}
 ghost use Rattle.at_text.specs.Lists.{SomeOf};
 ghost use Rattle.at_geom.specs.Segments.{IsInRange, edges};
 ghost use Rattle.at_geom.specs.Regions.{IsOnRing};
-ghost use Rattle.at_geom.specs.Shapes.{ArePathsInRange, ArePolygonsInRange, IsShapeInRange, MeetsSome, segments_of_points};
+ghost use Rattle.at_geom.specs.Shapes.{ArePathsInRange, ArePolygonsInRange, IsShapeInRange, MeetsSome};
+ghost use Rattle.at_geom.specs.Shapes.{segments_of_points};
 ghost use Rattle.at_band.specs.Touched.{IsOnRings, IsOnPolygon, IsOnShape};
 
 use at_geom::{Path, Polygon, Pos, RingPlace, Shape, is_in_no_hole, place_in_ring, segments_meet};

@@ -104,10 +104,10 @@ true||35,5 60,5||
 true|||-9,-9 300,-9 -9,300 -9,-9|
 false|||0,0 19,0 19,19 0,0|";
 
-/// Whether shapes meet the tower of 10,000 floors, a bar, the shape. These are points in it, on its upright side, beside
-/// that, on and between the ends of its ragged side, on its top, above and beneath it; lines over all of its heights,
-/// across, beside and along its side, a short one to its ragged side and two off that, one into it and one in it; polygons
-/// around it, in it and beside it, and one whose hole it is in.
+/// Whether shapes meet the tower of 10,000 floors, a bar, the shape. These are points in it, on its upright side,
+/// beside that, on and between the ends of its ragged side, on its top, above and beneath it; lines over all of its
+/// heights, across, beside and along its side, a short one to its ragged side and two off that, one into it and one in
+/// it; polygons around it, in it and beside it, and one whose hole it is in.
 const AROUND_TOWER: &str = "true|50,5000|||
 true|100,7777|||
 false|101,7777|||

@@ -29,14 +29,16 @@ AreFeaturesAs Wkt digits how bytes features = AreFileFeaturesIn forms.Wkt digits
 AreFeaturesAs Seq digits how bytes features = AreSeqFeatures digits how bytes features
 
 -- the file has no fault, and the part is that of its features
-pub record IsPartAs (form : FileForm) (digits : ℕ) (how : Coords) (query : Query) (bytes : List ℕ) (part : Part) : Type 0 where
+pub record IsPartAs (form : FileForm) (digits : ℕ) (how : Coords) (query : Query) (bytes : List ℕ) (part : Part)
+    : Type 0 where
   pub faultless : HasFaultAs form digits how bytes None
   pub features : List Feature
   pub are_features : AreFeaturesAs form digits how bytes features
   pub is_part : IsPart query features part
 
 -- the file has no fault, and the answer is the result of the query over its features
-pub record IsAnswerAs (form : FileForm) (digits : ℕ) (how : Coords) (query : Query) (bytes : List ℕ) (answer : Answer) : Type 0 where
+pub record IsAnswerAs (form : FileForm) (digits : ℕ) (how : Coords) (query : Query) (bytes : List ℕ) (answer : Answer)
+    : Type 0 where
   pub faultless : HasFaultAs form digits how bytes None
   pub features : List Feature
   pub are_features : AreFeaturesAs form digits how bytes features
@@ -44,7 +46,8 @@ pub record IsAnswerAs (form : FileForm) (digits : ℕ) (how : Coords) (query : Q
 
 -- two files, each of its own form
 module _ (form_a form_b : FileForm) (digits : ℕ) (how : Coords) where
-  -- neither file has a fault, and the answer is that of the join over their features; the query's tests are of the first file's
+  -- neither file has a fault, and the answer is that of the join over their features; the query's tests are of the
+  -- first file's
   pub record IsJoinAs (query : Query) (a b : List ℕ) (answer : Answer) : Type 0 where
     pub first_faultless : HasFaultAs form_a digits how a None
     pub second_faultless : HasFaultAs form_b digits how b None

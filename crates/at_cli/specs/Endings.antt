@@ -6,7 +6,8 @@ use Rattle.at_cli.specs.declared.line.Line.{Line}
 use Rattle.at_cli.specs.Outcomes.{Outcome, HasBytesOutcome, HasPairOutcome}
 use Rattle.at_cli.specs.Texts.{usage_line, query_line, files_line, fault_line, read_line, size_line, memory_line}
 use Rattle.at_cli.specs.declared.ending.Ending.{Ending}
-use Rattle.at_cli.specs.declared.ending.Ending.TheVariants.{Usage, QueryFault, Names, Faulty, ReadFailed, TooLarge, NoMemory, Answered}
+use Rattle.at_cli.specs.declared.ending.Ending.TheVariants.{Usage, QueryFault, Names, Faulty, ReadFailed, TooLarge}
+use Rattle.at_cli.specs.declared.ending.Ending.TheVariants.{NoMemory, Answered}
 
 -- the status of the end, if an answer can be written
 abbrev pub status_of : Ending → ℕ

@@ -1,5 +1,6 @@
 -- What is asked of the shelf, and what is known where the program ends since the shelf failed.
-use Rattle.std.specs.Prelude.{◌≡◌, ◌+◌, ◌*◌, ◌≤◌, ◌^◌, ℕ, if◌then◌else◌, List, [], ◌∷◌, ◌++◌, length, Option, Some, None, IfSome}
+use Rattle.std.specs.Prelude.{◌≡◌, ◌+◌, ◌*◌, ◌≤◌, ◌^◌, ℕ, if◌then◌else◌, List, [], ◌∷◌, ◌++◌, length, Option, Some}
+use Rattle.std.specs.Prelude.{None, IfSome}
 use Rattle.at_io.specs.Counts.{next_count, Rose}
 use Rattle.at_io.specs.Files.{Files, bytes_named, name_among}
 use Rattle.at_cli.specs.declared.line.Line.{Line}
@@ -28,16 +29,18 @@ abbrev pub last_begun : Files → List (List ℕ) → Option (List ℕ) → Opti
 last_begun told [] named = named
 last_begun told (name ∷ names) named = last_begun told names (name_among told name)
 
--- of a shelf with these files the files of these names were asked for in turn: as many were begun, the last by the last name,
--- and in all no more was taken than tells that each is too large
-pub record WasAsked (names : List (List ℕ)) (files : Option Files) (begins begins' taken taken' : ℕ) (named named' : Option (List ℕ)) : Type 0 where
+-- of a shelf with these files the files of these names were asked for in turn: as many were begun, the last by the last
+-- name, and in all no more was taken than tells that each is too large
+pub record WasAsked (names : List (List ℕ)) (files : Option Files) (begins begins' taken taken' : ℕ) (named named'
+    : Option (List ℕ)) : Type 0 where
   pub begun : begins' ≡ begun_with names begins
   pub least : taken ≤ taken'
   pub limit : taken' ≤ taken + length names * (2 ^ 28 + 1)
   pub last : IfSome files (λ told. named' ≡ last_begun told names named)
 
 -- it was asked for the first of these names, so many as were needed, and for no other
-pub record AsksFor (names : List (List ℕ)) (files : Option Files) (begins begins' taken taken' : ℕ) (named named' : Option (List ℕ)) : Type 0 where
+pub record AsksFor (names : List (List ℕ)) (files : Option Files) (begins begins' taken taken' : ℕ) (named named'
+    : Option (List ℕ)) : Type 0 where
   pub front : List (List ℕ)
   pub behind : List (List ℕ)
   pub in_turn : names ≡ front ++ behind
@@ -46,11 +49,14 @@ pub record AsksFor (names : List (List ℕ)) (files : Option Files) (begins begi
 -- the files have each of these names, with at most 2^28 bytes
 abbrev pub HaveSized : Files → List (List ℕ) → Type 0
 HaveSized told [] = Unit {0}
-HaveSized told (name ∷ names) = ((bytes : List ℕ) × (bytes_named told name ≡ Some bytes) × (length bytes ≤ 2 ^ 28)) × HaveSized told names
+HaveSized told (name ∷ names) = ((bytes : List ℕ) × (bytes_named told name ≡ Some bytes) × (length bytes ≤ 2 ^ 28))
+    × HaveSized told names
 
--- a shelf with these files failed on the file of one of these names, which the line tells: its count of faults rose, the file was begun in its turn,
--- once and by that name, and the last call that failed came after that; the files have the names before it, within the limit
-pub record FailedOn (names : List (List ℕ)) (line : List ℕ) (files : Option Files) (faults faults' begins begins' broken' taken taken' : ℕ) (named named' : Option (List ℕ)) : Type 0 where
+-- a shelf with these files failed on the file of one of these names, which the line tells: its count of faults rose,
+-- the file was begun in its turn, once and by that name, and the last call that failed came after that; the files have
+-- the names before it, within the limit
+pub record FailedOn (names : List (List ℕ)) (line : List ℕ) (files : Option Files)
+    (faults faults' begins begins' broken' taken taken' : ℕ) (named named' : Option (List ℕ)) : Type 0 where
   pub before : List (List ℕ)
   pub name : List ℕ
   pub behind : List (List ℕ)

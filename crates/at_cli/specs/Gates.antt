@@ -12,7 +12,8 @@ PassesCells given_up (Some second) = NoneGivenUp given_up 0 64
 
 -- the gate gives up no block of a file that is cut as the line asks, and no cell of the join of two
 abbrev pub PassesGate : List ℕ → Line → Type 0
-PassesGate given_up line = (count : ℕ) × IsLeastCount line.blocks count × NoneGivenUp given_up 0 count × PassesCells given_up line.second
+PassesGate given_up line = (count : ℕ) × IsLeastCount line.blocks count × NoneGivenUp given_up 0 count
+    × PassesCells given_up line.second
 
 -- the same of the line that the words say
 abbrev pub PassesSaid : List ℕ → List (List ℕ) → Type 0

@@ -1,5 +1,6 @@
 -- What a list of words says: the line that it spells, of which there is at most one.
-use Rattle.std.specs.Prelude.{◌≡◌, ◌⊎◌, ℕ, ◌^◌, ◌≤◌, List, [], ◌∷◌, length, Option, Some, None, IfSome, option_to_list, unwrap_or}
+use Rattle.std.specs.Prelude.{◌≡◌, ◌⊎◌, ℕ, ◌^◌, ◌≤◌, List, [], ◌∷◌, length, Option, Some, None, IfSome, option_to_list}
+use Rattle.std.specs.Prelude.{unwrap_or}
 use Rattle.at_fixed.specs.declared.rounding.Coords.TheVariants.{Round}
 use Rattle.at_cli.specs.declared.flags.Setting.{Setting}
 use Rattle.at_cli.specs.declared.flags.Setting.TheVariants as settings

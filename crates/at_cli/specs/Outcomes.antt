@@ -1,4 +1,5 @@
--- What the program writes and how it ends, by its words and the files. It knows nothing of how they are read, of blocks, or of workers.
+-- What the program writes and how it ends, by its words and the files. It knows nothing of how they are read, of
+-- blocks, or of workers.
 use Rattle.std.specs.Prelude.{◌≡◌, ◌⊎◌, ℕ, ◌^◌, ◌<◌, ◌≤◌, Bool, true, false, List, [], length, Option, Some, None}
 use Rattle.at_text.specs.declared.faults.Fault.{Fault}
 use Rattle.at_io.specs.Files.{Files, bytes_named}
@@ -48,33 +49,43 @@ HasBytes files name bytes = HasBytesBy (is_made name) files name bytes
 -- the name has bytes; where they are too many, that is the outcome, and else what is said of them
 abbrev pub Sized : Files → List ℕ → (List ℕ → Outcome → Type 0) → Outcome → Type 0
 Sized files name Rest outcome = (bytes : List ℕ) × HasBytes files name bytes
-    × (((2 ^ 28 < length bytes) × (outcome ≡ stopped 6 (size_line name))) ⊎ ((length bytes ≤ 2 ^ 28) × Rest bytes outcome))
+    × (((2 ^ 28 < length bytes) × (outcome ≡ stopped 6 (size_line name)))
+    ⊎ ((length bytes ≤ 2 ^ 28) × Rest bytes outcome))
 
 -- the outcome over a file within the limit: its first fault, or else the answer to the query
 abbrev pub HasBytesOutcome : Line → Query → List ℕ → Outcome → Type 0
 HasBytesOutcome line query bytes outcome =
-    ((fault : Fault) × HasFaultAs (form_of line line.first) line.digits line.how bytes (Some fault) × (outcome ≡ stopped 1 (fault_line line.first fault)))
-    ⊎ ((answer : Answer) × IsAnswerAs (form_of line line.first) line.digits line.how query bytes answer × (outcome ≡ answered (printed line.digits answer)))
+    ((fault : Fault) × HasFaultAs (form_of line line.first) line.digits line.how bytes (Some fault)
+    × (outcome ≡ stopped 1 (fault_line line.first fault)))
+    ⊎ ((answer : Answer) × IsAnswerAs (form_of line line.first) line.digits line.how query bytes answer
+    × (outcome ≡ answered (printed line.digits answer)))
 
--- the outcome over two files within the limit: the first fault of the first that has one, or else the answer to the join
+-- the outcome over two files within the limit: the first fault of the first that has one, or else the answer to the
+-- join
 abbrev pub HasPairOutcome : Line → Query → List ℕ → List ℕ → List ℕ → Outcome → Type 0
 HasPairOutcome line query second a b outcome =
-    ((fault : Fault) × HasFaultAs (form_of line line.first) line.digits line.how a (Some fault) × (outcome ≡ stopped 1 (fault_line line.first fault)))
-    ⊎ (((fault : Fault) × SecondFailsAs (form_of line line.first) (form_of line second) line.digits line.how a b fault × (outcome ≡ stopped 1 (fault_line second fault)))
-    ⊎ ((answer : Answer) × IsJoinAs (form_of line line.first) (form_of line second) line.digits line.how query a b answer × (outcome ≡ answered (printed line.digits answer))))
+    ((fault : Fault) × HasFaultAs (form_of line line.first) line.digits line.how a (Some fault)
+    × (outcome ≡ stopped 1 (fault_line line.first fault)))
+    ⊎ (((fault : Fault) × SecondFailsAs (form_of line line.first) (form_of line second) line.digits line.how a b fault
+    × (outcome ≡ stopped 1 (fault_line second fault)))
+    ⊎ ((answer : Answer) × IsJoinAs (form_of line line.first) (form_of line second) line.digits line.how query a b
+    answer × (outcome ≡ answered (printed line.digits answer))))
 
 -- the names have bytes in their turn, and the files have the outcome
 abbrev pub HasFilesOutcome : Option (List ℕ) → Line → Query → Files → Outcome → Type 0
 HasFilesOutcome None line query files outcome = Sized files line.first (HasBytesOutcome line query) outcome
-HasFilesOutcome (Some second) line query files outcome = Sized files line.first (λ a. Sized files second (HasPairOutcome line query second a)) outcome
+HasFilesOutcome (Some second) line query files outcome =
+    Sized files line.first (λ a. Sized files second (HasPairOutcome line query second a)) outcome
 
 abbrev pub HasCountedOutcome : Bool → Line → Query → Files → Outcome → Type 0
 HasCountedOutcome false line query files outcome = outcome ≡ stopped 2 files_line
 HasCountedOutcome true line query files outcome = HasFilesOutcome line.second line query files outcome
 
 abbrev pub HasLineOutcome : Line → Files → Outcome → Type 0
-HasLineOutcome line files outcome = ((at : ℕ) × HasQueryFault line.digits line.how line.query at × (outcome ≡ stopped 2 (query_line at)))
-    ⊎ ((query : Query) × IsQueryOf line.digits line.how line.query query × HasCountedOutcome (has_right_count query.verb line.second) line query files outcome)
+HasLineOutcome line files outcome = ((at : ℕ) × HasQueryFault line.digits line.how line.query at
+    × (outcome ≡ stopped 2 (query_line at)))
+    ⊎ ((query : Query) × IsQueryOf line.digits line.how line.query query
+    × HasCountedOutcome (has_right_count query.verb line.second) line query files outcome)
 
 -- the words say no line
 abbrev pub SayNoLine : List (List ℕ) → Type 0
@@ -82,7 +93,8 @@ SayNoLine words = (line : Line) → SaysLine words line → ⊥
 
 -- how the program ends over the words and files; it has no such end where it asks the files for a name that they lack
 abbrev pub HasOutcome : List (List ℕ) → Files → Outcome → Type 0
-HasOutcome words files outcome = (SayNoLine words × (outcome ≡ stopped 2 usage_line)) ⊎ ((line : Line) × SaysLine words line × HasLineOutcome line files outcome)
+HasOutcome words files outcome = (SayNoLine words × (outcome ≡ stopped 2 usage_line))
+    ⊎ ((line : Line) × SaysLine words line × HasLineOutcome line files outcome)
 
 -- the words and files have the outcome, and no other
 pub record TheOutcome (words : List (List ℕ)) (files : Files) (outcome : Outcome) : Type 0 where
@@ -100,7 +112,8 @@ IsLineRefused line refusal = ((at : ℕ) × HasQueryFault line.digits line.how l
 
 -- the words, the query or the count of names are refused with this line
 abbrev pub AreRefused : List (List ℕ) → List ℕ → Type 0
-AreRefused words refusal = (SayNoLine words × (refusal ≡ usage_line)) ⊎ ((line : Line) × SaysLine words line × IsLineRefused line refusal)
+AreRefused words refusal = (SayNoLine words × (refusal ≡ usage_line))
+    ⊎ ((line : Line) × SaysLine words line × IsLineRefused line refusal)
 
 abbrev pub IsQueryAccepted : Line → Query → Type 0
 IsQueryAccepted line query = has_right_count query.verb line.second ≡ true

@@ -1,5 +1,6 @@
 -- The words of the command line, told by the pieces that they spell.
-use Rattle.std.specs.Prelude.{◌≡◌, ℕ, Bool, false, ⊤, bytes_eq, if◌then◌else◌, codes, List, [], ◌∷◌, ◌++◌, flat_map, Option, Some, None, unwrap_or}
+use Rattle.std.specs.Prelude.{◌≡◌, ℕ, Bool, false, ⊤, bytes_eq, if◌then◌else◌, codes, List, [], ◌∷◌, ◌++◌, flat_map}
+use Rattle.std.specs.Prelude.{Option, Some, None, unwrap_or}
 use Rattle.std.specs.List.{AllByRecursion, filter_map}
 use Rattle.at_cli.specs.Words.{begins_with}
 use Rattle.at_cli.specs.declared.flags.Setting.{Setting}

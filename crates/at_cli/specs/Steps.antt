@@ -1,5 +1,6 @@
 -- How words are read one by one, from left to right. Private contracts alone cite it.
-use Rattle.std.specs.Prelude.{ℕ, nat_lt, ◌==◌, bytes_eq, if◌then◌else◌, codes, List, [], ◌∷◌, ◌++◌, length, Option, Some, None, option_map, option_and_then, option_to_list}
+use Rattle.std.specs.Prelude.{ℕ, nat_lt, ◌==◌, bytes_eq, if◌then◌else◌, codes, List, [], ◌∷◌, ◌++◌, length, Option}
+use Rattle.std.specs.Prelude.{Some, None, option_map, option_and_then, option_to_list}
 use Rattle.std.specs.Option.{option_or, option_copied}
 use Rattle.at_cli.specs.Words.{begins_with}
 use Rattle.at_cli.specs.Pieces.{setting_name}
@@ -28,13 +29,15 @@ flag_shown f = record { setting = f.setting; value = option_copied f.value }
 
 abbrev pub flag_behind : Setting → List ℕ → Option FlagWord
 flag_behind s [] = Some (record { setting = s; value = None })
-flag_behind s (b ∷ rest) = option_map (λ value. record { setting = s; value = Some value }) (behind (codes "=") (b ∷ rest))
+flag_behind s (b ∷ rest) =
+    option_map (λ value. record { setting = s; value = Some value }) (behind (codes "=") (b ∷ rest))
 
 abbrev pub flag_for : Setting → List ℕ → Option FlagWord
 flag_for s word = option_and_then (flag_behind s) (behind (setting_name s) word)
 
 abbrev pub flag_in : List ℕ → Option FlagWord
-flag_in word = option_or (option_or (option_or (option_or (flag_for settings.Form word) (flag_for settings.Coords word)) (flag_for settings.Digits word)) (flag_for settings.Blocks word))
+flag_in word = option_or (option_or (option_or (option_or (flag_for settings.Form word) (flag_for settings.Coords word))
+    (flag_for settings.Digits word)) (flag_for settings.Blocks word))
     (flag_for settings.Workers word)
 
 -- what the words so far say
@@ -65,7 +68,15 @@ shown p = record {
 }
 
 abbrev pub start : State
-start = record { form = None; coords = None; digits = None; blocks = None; workers = None; places = []; next = nexts.Any }
+start = record {
+  form = None;
+  coords = None;
+  digits = None;
+  blocks = None;
+  workers = None;
+  places = [];
+  next = nexts.Any;
+}
 
 abbrev pub value_at : State → Setting → Option (List ℕ)
 value_at st settings.Form = st.form
@@ -108,7 +119,8 @@ with_flag st f = with_flag_value st f.setting f.value
 abbrev pub with_piece : List ℕ → State → Option State
 with_piece word st =
     if begins_with (codes "-") word then
-    (if bytes_eq word (codes "--") then Some (record st { next = nexts.Positional }) else option_and_then (with_flag st) (flag_in word))
+    (if bytes_eq word (codes "--") then Some (record st { next = nexts.Positional })
+    else option_and_then (with_flag st) (flag_in word))
     else with_place word st
 
 abbrev pub step_by : Next → List ℕ → State → Option State

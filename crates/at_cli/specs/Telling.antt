@@ -5,4 +5,5 @@ use Rattle.at_io.specs.Sinks.{Grows, GrowsByPrefix}
 
 -- the sink's faults and content before and after, and the line
 abbrev pub Tells : ℕ → ℕ → Option (List ℕ) → Option (List ℕ) → List ℕ → Type 0
-Tells faults faults' written written' line = Grows written written' line ⊎ (Rose faults faults' × GrowsByPrefix written written' line)
+Tells faults faults' written written' line = Grows written written' line
+    ⊎ (Rose faults faults' × GrowsByPrefix written written' line)

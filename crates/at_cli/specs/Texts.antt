@@ -2,7 +2,8 @@
 use Rattle.std.specs.Prelude.{ℕ, codes, decimal, List, ◌++◌}
 use Rattle.at_text.specs.declared.faults.Fault.{Fault}
 use Rattle.at_text.specs.declared.faults.FaultKind.{FaultKind}
-use Rattle.at_text.specs.declared.faults.FaultKind.TheVariants.{NotUtf8, Syntax, Ended, Twin, Form, Short, Ring, Scale, Range}
+use Rattle.at_text.specs.declared.faults.FaultKind.TheVariants.{NotUtf8, Syntax, Ended, Twin, Form, Short, Ring, Scale}
+use Rattle.at_text.specs.declared.faults.FaultKind.TheVariants.{Range}
 
 abbrev pub kind_name : FaultKind → List ℕ
 kind_name NotUtf8 = codes "NotUtf8"

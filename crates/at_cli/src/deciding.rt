@@ -1,13 +1,16 @@
 //! The end over the bytes of the files that the words name.
 
-ghost use Rattle.std.specs.Prelude.{◌≡◌, ◌≢◌, ◌⊎◌, ◌+◌, ◌≤◌, ◌^◌, List, ℕ, length, true, Some, None, IsSome, IfOk, MatchBool, MatchResult};
+ghost use Rattle.std.specs.Prelude.{◌≡◌, ◌≢◌, ◌⊎◌, ◌+◌, ◌≤◌, ◌^◌, List, ℕ, length, true, Some, None, IsSome, IfOk};
+ghost use Rattle.std.specs.Prelude.{MatchBool, MatchResult};
 ghost use Rattle.at_query.specs.Ranges.{IsQueryInRange};
 ghost use Rattle.at_run.specs.Answers.{IfFound};
 ghost use Rattle.at_cli.specs.Answers.{HasFaultAs, IsAnswerAs, IsJoinAs, IsJoinFaultAs};
 ghost use Rattle.at_cli.specs.LineOf.{form_of as form_told, KeepsLimits};
 ghost use Rattle.at_cli.specs.Gates.{PassesGate};
 ghost use Rattle.at_cli.specs.Failures.{asked_names, asked_second, WasAsked, AsksFor, FailedOn};
-ghost use Rattle.at_cli.specs.Outcomes.{has_right_count as count_is_right, Sized, HasPairOutcome, HasFilesOutcome, HasCountedOutcome, HasLineOutcome, IsLineRefused, IsQueryRefused, IsQueryAccepted, IsLineAccepted};
+ghost use Rattle.at_cli.specs.Outcomes.{has_right_count as count_is_right, Sized, HasPairOutcome, HasFilesOutcome};
+ghost use Rattle.at_cli.specs.Outcomes.{HasCountedOutcome, HasLineOutcome, IsLineRefused, IsQueryRefused};
+ghost use Rattle.at_cli.specs.Outcomes.{IsQueryAccepted, IsLineAccepted};
 ghost use Rattle.at_cli.specs.Endings.{status_of, line_of, EndsBytes, EndsPair, Ends};
 
 use crate::ending::Ending;
@@ -37,8 +40,10 @@ fn answer_file<G: Gate, R: Threads + Sync>(
     requires in_range { IsQueryInRange query.now }
     requires verb { query.now.verb ≢ Verb.Join }
     requires second { line.now.second ≡ None }
-    ensures answer { MatchResult result (IsAnswerAs (form_told line.now line.now.first) line.now.digits line.now.how query.now bytes.now)
-        (λ end. IfFound end (λ fault. HasFaultAs (form_told line.now line.now.first) line.now.digits line.now.how bytes.now (Some fault))) }
+    ensures answer { MatchResult result (IsAnswerAs (form_told line.now line.now.first) line.now.digits line.now.how
+        query.now bytes.now)
+        (λ end. IfFound end (λ fault. HasFaultAs (form_told line.now line.now.first) line.now.digits line.now.how
+        bytes.now (Some fault))) }
     ensures passes { IfOk result (λ _. PassesGate (G.given_up gate.now) line.now) }
 {
     let Ok(cuts) = Cuts::even(alloc, base_of(bytes), bytes.len() as u32, line.blocks) else {
@@ -103,8 +108,10 @@ fn join_files<G: Gate, R: Threads + Sync>(
     requires in_range { IsQueryInRange query.now }
     requires verb { query.now.verb ≡ Verb.Join }
     ensures answer { (second : List ℕ) → line.now.second ≡ Some second
-        → MatchResult result (IsJoinAs (form_told line.now line.now.first) (form_told line.now second) line.now.digits line.now.how query.now a.now b.now)
-        (IsJoinFaultAs (form_told line.now line.now.first) (form_told line.now second) line.now.digits line.now.how a.now b.now) }
+        → MatchResult result (IsJoinAs (form_told line.now line.now.first) (form_told line.now second) line.now.digits
+        line.now.how query.now a.now b.now)
+        (IsJoinFaultAs (form_told line.now line.now.first) (form_told line.now second) line.now.digits line.now.how
+        a.now b.now) }
     ensures passes { IfOk result (λ _. PassesGate (G.given_up gate.now) line.now) }
 {
     let Ok(cuts_a) = Cuts::even(alloc, base_of(a), a.len() as u32, line.blocks) else {
@@ -158,7 +165,8 @@ fn end_of_pair<G: Gate, R: Threads + Sync>(
     requires second { IsSome line.second }
     requires in_range { IsQueryInRange query.now }
     requires verb { query.now.verb ≡ Verb.Join }
-    ensures outcome { (second : List ℕ) → line.second ≡ Some second → EndsPair line query.now second a.now b.now result }
+    ensures outcome { (second : List ℕ) → line.second ≡ Some second
+        → EndsPair line query.now second a.now b.now result }
     ensures status { (status_of result ≢ 2) × (status_of result ≢ 3) × (status_of result ≢ 6) }
     ensures passes { status_of result ≡ 0 → PassesGate (G.given_up gate.now) line }
 {
@@ -188,11 +196,16 @@ fn end_of_second<S: Shelf, G: Gate, R: Threads + Sync>(
     requires second { IsSome line.second }
     requires in_range { IsQueryInRange query.now }
     requires verb { query.now.verb ≡ Verb.Join }
-    ensures outcome { (second : List ℕ) → line.second ≡ Some second → Ends (λ told. Sized told second (HasPairOutcome line query.now second a.now)) (S.files shelf.old) result }
+    ensures outcome { (second : List ℕ) → line.second ≡ Some second
+        → Ends (λ told. Sized told second (HasPairOutcome line query.now second a.now)) (S.files shelf.old) result }
     ensures status { status_of result ≢ 2 }
-    ensures failed { status_of result ≡ 3 → FailedOn (asked_second line.second) (line_of result) (S.files shelf.old) (S.faults shelf.old) (S.faults shelf.new) (S.begins shelf.old) (S.begins shelf.new) (S.broken shelf.new) (S.taken shelf.old) (S.taken shelf.new) (S.named shelf.old) (S.named shelf.new) }
+    ensures failed { status_of result ≡ 3
+        → FailedOn (asked_second line.second) (line_of result) (S.files shelf.old) (S.faults shelf.old)
+        (S.faults shelf.new) (S.begins shelf.old) (S.begins shelf.new) (S.broken shelf.new) (S.taken shelf.old)
+        (S.taken shelf.new) (S.named shelf.old) (S.named shelf.new) }
     ensures large { status_of result ≡ 6 → S.taken shelf.old + (2 ^ 28 + 1) ≤ S.taken shelf.new }
-    ensures asked { WasAsked (asked_second line.second) (S.files shelf.old) (S.begins shelf.old) (S.begins shelf.new) (S.taken shelf.old) (S.taken shelf.new) (S.named shelf.old) (S.named shelf.new) }
+    ensures asked { WasAsked (asked_second line.second) (S.files shelf.old) (S.begins shelf.old) (S.begins shelf.new)
+        (S.taken shelf.old) (S.taken shelf.new) (S.named shelf.old) (S.named shelf.new) }
     ensures same_files { S.files shelf.new ≡ S.files shelf.old }
     ensures passes { status_of result ≡ 0 → PassesGate (G.given_up gate.now) line }
 {
@@ -228,11 +241,16 @@ fn end_of_two<S: Shelf, G: Gate, R: Threads + Sync>(
     requires second { IsSome line.second }
     requires in_range { IsQueryInRange query.now }
     requires verb { query.now.verb ≡ Verb.Join }
-    ensures outcome { (second : List ℕ) → line.second ≡ Some second → Ends (HasFilesOutcome (Some second) line query.now) (S.files shelf.old) result }
+    ensures outcome { (second : List ℕ) → line.second ≡ Some second
+        → Ends (HasFilesOutcome (Some second) line query.now) (S.files shelf.old) result }
     ensures status { status_of result ≢ 2 }
-    ensures failed { status_of result ≡ 3 → FailedOn (asked_names line) (line_of result) (S.files shelf.old) (S.faults shelf.old) (S.faults shelf.new) (S.begins shelf.old) (S.begins shelf.new) (S.broken shelf.new) (S.taken shelf.old) (S.taken shelf.new) (S.named shelf.old) (S.named shelf.new) }
+    ensures failed { status_of result ≡ 3
+        → FailedOn (asked_names line) (line_of result) (S.files shelf.old) (S.faults shelf.old) (S.faults shelf.new)
+        (S.begins shelf.old) (S.begins shelf.new) (S.broken shelf.new) (S.taken shelf.old) (S.taken shelf.new)
+        (S.named shelf.old) (S.named shelf.new) }
     ensures large { status_of result ≡ 6 → S.taken shelf.old + (2 ^ 28 + 1) ≤ S.taken shelf.new }
-    ensures asked { AsksFor (asked_names line) (S.files shelf.old) (S.begins shelf.old) (S.begins shelf.new) (S.taken shelf.old) (S.taken shelf.new) (S.named shelf.old) (S.named shelf.new) }
+    ensures asked { AsksFor (asked_names line) (S.files shelf.old) (S.begins shelf.old) (S.begins shelf.new)
+        (S.taken shelf.old) (S.taken shelf.new) (S.named shelf.old) (S.named shelf.new) }
     ensures same_files { S.files shelf.new ≡ S.files shelf.old }
     ensures passes { status_of result ≡ 0 → PassesGate (G.given_up gate.now) line }
 {
@@ -259,9 +277,13 @@ fn end_of_one<S: Shelf, G: Gate, R: Threads + Sync>(
     requires second { line.second ≡ None }
     ensures outcome { Ends (HasFilesOutcome None line query.now) (S.files shelf.old) result }
     ensures status { status_of result ≢ 2 }
-    ensures failed { status_of result ≡ 3 → FailedOn (asked_names line) (line_of result) (S.files shelf.old) (S.faults shelf.old) (S.faults shelf.new) (S.begins shelf.old) (S.begins shelf.new) (S.broken shelf.new) (S.taken shelf.old) (S.taken shelf.new) (S.named shelf.old) (S.named shelf.new) }
+    ensures failed { status_of result ≡ 3
+        → FailedOn (asked_names line) (line_of result) (S.files shelf.old) (S.faults shelf.old) (S.faults shelf.new)
+        (S.begins shelf.old) (S.begins shelf.new) (S.broken shelf.new) (S.taken shelf.old) (S.taken shelf.new)
+        (S.named shelf.old) (S.named shelf.new) }
     ensures large { status_of result ≡ 6 → S.taken shelf.old + (2 ^ 28 + 1) ≤ S.taken shelf.new }
-    ensures asked { AsksFor (asked_names line) (S.files shelf.old) (S.begins shelf.old) (S.begins shelf.new) (S.taken shelf.old) (S.taken shelf.new) (S.named shelf.old) (S.named shelf.new) }
+    ensures asked { AsksFor (asked_names line) (S.files shelf.old) (S.begins shelf.old) (S.begins shelf.new)
+        (S.taken shelf.old) (S.taken shelf.new) (S.named shelf.old) (S.named shelf.new) }
     ensures same_files { S.files shelf.new ≡ S.files shelf.old }
     ensures passes { status_of result ≡ 0 → PassesGate (G.given_up gate.now) line }
 {
@@ -287,9 +309,13 @@ fn end_of_files<S: Shelf, G: Gate, R: Threads + Sync>(
     requires right { count_is_right query.now.verb line.second ≡ true }
     ensures outcome { Ends (HasFilesOutcome line.second line query.now) (S.files shelf.old) result }
     ensures status { status_of result ≢ 2 }
-    ensures failed { status_of result ≡ 3 → FailedOn (asked_names line) (line_of result) (S.files shelf.old) (S.faults shelf.old) (S.faults shelf.new) (S.begins shelf.old) (S.begins shelf.new) (S.broken shelf.new) (S.taken shelf.old) (S.taken shelf.new) (S.named shelf.old) (S.named shelf.new) }
+    ensures failed { status_of result ≡ 3
+        → FailedOn (asked_names line) (line_of result) (S.files shelf.old) (S.faults shelf.old) (S.faults shelf.new)
+        (S.begins shelf.old) (S.begins shelf.new) (S.broken shelf.new) (S.taken shelf.old) (S.taken shelf.new)
+        (S.named shelf.old) (S.named shelf.new) }
     ensures large { status_of result ≡ 6 → S.taken shelf.old + (2 ^ 28 + 1) ≤ S.taken shelf.new }
-    ensures asked { AsksFor (asked_names line) (S.files shelf.old) (S.begins shelf.old) (S.begins shelf.new) (S.taken shelf.old) (S.taken shelf.new) (S.named shelf.old) (S.named shelf.new) }
+    ensures asked { AsksFor (asked_names line) (S.files shelf.old) (S.begins shelf.old) (S.begins shelf.new)
+        (S.taken shelf.old) (S.taken shelf.new) (S.named shelf.old) (S.named shelf.new) }
     ensures same_files { S.files shelf.new ≡ S.files shelf.old }
     ensures passes { status_of result ≡ 0 → PassesGate (G.given_up gate.now) line }
 {
@@ -334,13 +360,18 @@ fn end_of_query<S: Shelf, G: Gate, R: Threads + Sync>(
 ) -> Ending
     requires line { KeepsLimits line }
     requires in_range { IsQueryInRange query.now }
-    ensures outcome { Ends (λ told. HasCountedOutcome (count_is_right query.now.verb line.second) line query.now told) (S.files shelf.old) result }
+    ensures outcome { Ends (λ told. HasCountedOutcome (count_is_right query.now.verb line.second) line query.now told)
+        (S.files shelf.old) result }
     ensures refused { status_of result ≡ 2 → IsQueryRefused line query.now (line_of result) × (shelf.new ≡ shelf.old) }
     ensures accepted { status_of result ≢ 2 → IsQueryAccepted line query.now }
-    ensures failed { status_of result ≡ 3 → FailedOn (asked_names line) (line_of result) (S.files shelf.old) (S.faults shelf.old) (S.faults shelf.new) (S.begins shelf.old) (S.begins shelf.new) (S.broken shelf.new) (S.taken shelf.old) (S.taken shelf.new) (S.named shelf.old) (S.named shelf.new) }
+    ensures failed { status_of result ≡ 3
+        → FailedOn (asked_names line) (line_of result) (S.files shelf.old) (S.faults shelf.old) (S.faults shelf.new)
+        (S.begins shelf.old) (S.begins shelf.new) (S.broken shelf.new) (S.taken shelf.old) (S.taken shelf.new)
+        (S.named shelf.old) (S.named shelf.new) }
     ensures large { status_of result ≡ 6 → S.taken shelf.old + (2 ^ 28 + 1) ≤ S.taken shelf.new }
     ensures asked { (shelf.new ≡ shelf.old) ⊎ (IsQueryAccepted line query.now
-        × AsksFor (asked_names line) (S.files shelf.old) (S.begins shelf.old) (S.begins shelf.new) (S.taken shelf.old) (S.taken shelf.new) (S.named shelf.old) (S.named shelf.new)) }
+        × AsksFor (asked_names line) (S.files shelf.old) (S.begins shelf.old) (S.begins shelf.new) (S.taken shelf.old)
+        (S.taken shelf.new) (S.named shelf.old) (S.named shelf.new)) }
     ensures same_files { S.files shelf.new ≡ S.files shelf.old }
     ensures passes { status_of result ≡ 0 → PassesGate (G.given_up gate.now) line }
 {
@@ -361,12 +392,16 @@ pub fn end_of_line<S: Shelf, G: Gate, R: Threads + Sync>(
     requires { KeepsLimits line }
     ensures outcome { Ends (λ told. HasLineOutcome line told) (S.files shelf.old) result }
     ensures refused { status_of result ≡ 2 → IsLineRefused line (line_of result) × (shelf.new ≡ shelf.old) }
-    ensures refuses { (refusal : List ℕ) → IsLineRefused line refusal → (status_of result ≡ 2) ⊎ (status_of result ≡ 5) }
+    ensures refuses { (refusal : List ℕ) → IsLineRefused line refusal → (status_of result ≡ 2)
+        ⊎ (status_of result ≡ 5) }
     ensures failed { status_of result ≡ 3 → IsLineAccepted line
-        × FailedOn (asked_names line) (line_of result) (S.files shelf.old) (S.faults shelf.old) (S.faults shelf.new) (S.begins shelf.old) (S.begins shelf.new) (S.broken shelf.new) (S.taken shelf.old) (S.taken shelf.new) (S.named shelf.old) (S.named shelf.new) }
+        × FailedOn (asked_names line) (line_of result) (S.files shelf.old) (S.faults shelf.old) (S.faults shelf.new)
+        (S.begins shelf.old) (S.begins shelf.new) (S.broken shelf.new) (S.taken shelf.old) (S.taken shelf.new)
+        (S.named shelf.old) (S.named shelf.new) }
     ensures large { status_of result ≡ 6 → S.taken shelf.old + (2 ^ 28 + 1) ≤ S.taken shelf.new }
     ensures asked { (shelf.new ≡ shelf.old) ⊎ (IsLineAccepted line
-        × AsksFor (asked_names line) (S.files shelf.old) (S.begins shelf.old) (S.begins shelf.new) (S.taken shelf.old) (S.taken shelf.new) (S.named shelf.old) (S.named shelf.new)) }
+        × AsksFor (asked_names line) (S.files shelf.old) (S.begins shelf.old) (S.begins shelf.new) (S.taken shelf.old)
+        (S.taken shelf.new) (S.named shelf.old) (S.named shelf.new)) }
     ensures same_files { S.files shelf.new ≡ S.files shelf.old }
     ensures passes { status_of result ≡ 0 → PassesGate (G.given_up gate.now) line }
 {

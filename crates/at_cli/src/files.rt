@@ -152,7 +152,8 @@ fn entries_as<G: Gate, R: Threads + Sync>(
     requires join { query.now.verb ≡ Verb.Join }
     requires in_range { IsQueryInRange query.now }
     requires workers { (0 < workers) × (workers ≤ 64) }
-    ensures part { MatchResult result (λ (entries : _). IsPartAs form digits how query.now bytes.now (Part.Entries entries))
+    ensures part { MatchResult result (λ (entries : _). IsPartAs form digits how query.now bytes.now
+        (Part.Entries entries))
         (λ end. IfFound end (λ fault. HasFaultAs form digits how bytes.now (Some fault))) }
     ensures proper { IfOk result AreProper }
     ensures given_up { IfOk result (λ _. NoneGivenUp (G.given_up gate.now) 0 (length cuts.now - 1)) }
@@ -191,7 +192,8 @@ pub fn join_as<G: Gate, R: Threads + Sync>(
     requires join { query.now.verb ≡ Verb.Join }
     requires in_range { IsQueryInRange query.now }
     requires workers { (0 < workers) × (workers ≤ 64) }
-    ensures answer { MatchResult result (IsJoinAs form_a form_b digits how query.now a.now b.now) (IsJoinFaultAs form_a form_b digits how a.now b.now) }
+    ensures answer { MatchResult result (IsJoinAs form_a form_b digits how query.now a.now b.now)
+        (IsJoinFaultAs form_a form_b digits how a.now b.now) }
     ensures gate_a { IfOk result (λ _. NoneGivenUp (G.given_up gate.now) 0 (length cuts_a.now - 1)) }
     ensures gate_b { IfOk result (λ _. NoneGivenUp (G.given_up gate.now) 0 (length cuts_b.now - 1)) }
     ensures gate_cells { IfOk result (λ _. NoneGivenUp (G.given_up gate.now) 0 64) }

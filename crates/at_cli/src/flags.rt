@@ -3,7 +3,8 @@
 ghost use Rattle.std.specs.Prelude.{◌≡◌, option_map};
 ghost use Rattle.std.specs.Option.{option_copied};
 ghost use Rattle.at_cli.specs.Pieces.{setting_name};
-ghost use Rattle.at_cli.specs.Steps.{behind, flag_shown, flag_behind as flag_of_rest, flag_for as flag_of_setting, flag_in as flag_of_word};
+ghost use Rattle.at_cli.specs.Steps.{behind, flag_shown, flag_behind as flag_of_rest, flag_for as flag_of_setting};
+ghost use Rattle.at_cli.specs.Steps.{flag_in as flag_of_word};
 
 /// What an option sets.
 #[derive(Clone, Copy)]

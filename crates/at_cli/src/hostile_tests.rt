@@ -70,8 +70,8 @@ fn each_call_on_a_shelf_fails(rt: HostRuntime) -> Result<(), Fail> {
     Ok(())
 }
 
-/// An answer of some 150,000 bytes is put in pieces of 65,536 bytes. Where one fails, the front that the sink keeps of it is
-/// the last that is written.
+/// An answer of some 150,000 bytes is put in pieces of 65,536 bytes. Where one fails, the front that the sink keeps of
+/// it is the last that is written.
 #[test]
 fn each_put_of_an_answer_fails(rt: HostRuntime) -> Result<(), Fail> {
     let asked = ("select", "@w:20000");

@@ -64,8 +64,10 @@ impl From<AllocError> for WordsEnd {
 /// the query has more than 2^28 bytes.
 pub fn read_words(alloc: Global, words: &[String]) -> Result<Line, WordsEnd>
     ensures line { IfOk result (SaysLine (map string_bytes words.now)) }
-    ensures only { IfOk result (λ (line : _). (other : Line) → SaysLine (map string_bytes words.now) other → other ≡ line) }
-    ensures refused { (result ≡ Err WordsEnd.Refused) ↔ ((line : Line) → SaysLine (map string_bytes words.now) line → ⊥) }
+    ensures only { IfOk result (λ (line : _). (other : Line) → SaysLine (map string_bytes words.now) other
+        → other ≡ line) }
+    ensures refused { (result ≡ Err WordsEnd.Refused) ↔ ((line : Line) → SaysLine (map string_bytes words.now) line
+        → ⊥) }
 {
     match said_by(words) {
         None => Err(WordsEnd::Refused),

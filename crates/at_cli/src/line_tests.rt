@@ -6,8 +6,8 @@ use std::alloc::Global;
 use std::process::Abort;
 use std::test::Fail;
 
-// A row of a table has words with a bar between each two, an arrow, and what they say: form, coordinates, digits, blocks
-// and workers, and behind bars the positionals.
+// A row of a table has words with a bar between each two, an arrow, and what they say: form, coordinates, digits,
+// blocks and workers, and behind bars the positionals.
 
 /// Positionals, and the end word.
 const POSITIONALS: &str = "count|e.wkt => none round 7 64 4|count|e.wkt

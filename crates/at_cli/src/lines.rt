@@ -21,7 +21,8 @@ const USAGE: &str =
 
 /// Puts the parts of a line one after another, up to the first put that fails.
 fn put_parts<E: Sink>(err: &mut E, parts: &[&str])
-    ensures { Tells (E.faults err.old) (E.faults err.new) (E.written err.old) (E.written err.new) (flat_map (λ (part : _). part.now) parts.now) }
+    ensures { Tells (E.faults err.old) (E.faults err.new) (E.written err.old) (E.written err.new)
+        (flat_map (λ (part : _). part.now) parts.now) }
 {
     for part in parts {
         let Ok(()) = err.put(part.as_bytes()) else {
@@ -74,7 +75,8 @@ fn put_fault<'a, E: Sink>(err: &mut E, name: &'a str, kind: &'a str, at: &'a str
 
 /// Tells the fault of a file.
 fn tell_fault<E: Sink>(err: &mut E, name: &str, fault: Fault)
-    ensures { Tells (E.faults err.old) (E.faults err.new) (E.written err.old) (E.written err.new) (fault_line name.now fault) }
+    ensures { Tells (E.faults err.old) (E.faults err.new) (E.written err.old) (E.written err.new)
+        (fault_line name.now fault) }
 {
     let mut digits = itoa::Buffer::new();
     let at = digits.format(fault.at);
@@ -92,7 +94,8 @@ fn tell_query_fault<E: Sink>(err: &mut E, at: u32)
 
 /// Puts `query: at place` as a line.
 fn put_query_fault<E: Sink>(err: &mut E, at: &str)
-    ensures { Tells (E.faults err.old) (E.faults err.new) (E.written err.old) (E.written err.new) (codes "query: at " ++ at.now ++ codes "\n") }
+    ensures { Tells (E.faults err.old) (E.faults err.new) (E.written err.old) (E.written err.new) (codes "query: at "
+        ++ at.now ++ codes "\n") }
 {
     put_parts(err, &["query: at ", at, "\n"]);
 }

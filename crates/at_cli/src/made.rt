@@ -1,8 +1,11 @@
 //! The texts of made files.
 
-ghost use Rattle.std.specs.Prelude.{◌≡◌, ◌++◌, ◌≤◌, ◌<◌, ◌+◌, ◌^◌, ℕ, false, true, length, OnOk, IfOk, IfSome, MatchOption, decimal};
+ghost use Rattle.std.specs.Prelude.{◌≡◌, ◌++◌, ◌≤◌, ◌<◌, ◌+◌, ◌^◌, ℕ, false, true, length, OnOk, IfOk, IfSome};
+ghost use Rattle.std.specs.Prelude.{MatchOption, decimal};
 ghost use Rattle.std.specs.List.{flat_map, range_with_len};
-ghost use Rattle.at_cli.specs.Made.{row as row_of, line_by, wkt_line, feature_by, before_feature as text_before, feature_line, wkt_text as text_of_wkt, geojson_text as text_of_geojson, is_made, IsMadeText};
+ghost use Rattle.at_cli.specs.Made.{row as row_of, line_by, wkt_line, feature_by, before_feature as text_before};
+ghost use Rattle.at_cli.specs.Made.{feature_line, wkt_text as text_of_wkt, geojson_text as text_of_geojson, is_made};
+ghost use Rattle.at_cli.specs.Made.{IsMadeText};
 ghost use Rattle.at_cli.specs.Squares.{AreLineTexts, AreFeatureTexts};
 ghost use Rattle.at_cli.specs.Values.{IsWhole, IsFileName};
 
@@ -234,11 +237,12 @@ fn made_count(text: &str) -> u32
     }
 }
 
-/// The text of the made file of that name, which has at most 2^28 bytes: squares of one unit in rows of 360. None exactly where
-/// the name begins with neither `@g:` nor `@w:`.
+/// The text of the made file of that name, which has at most 2^28 bytes: squares of one unit in rows of 360. None
+/// exactly where the name begins with neither `@g:` nor `@w:`.
 pub fn made_file(alloc: Global, name: &str) -> Result<Option<Vec<u8>>, Memory>
     requires { IsFileName name.now }
-    ensures made { IfOk result (λ (made : _). MatchOption made (is_made name.now ≡ false) (λ (text : _). (is_made name.now ≡ true) × IsMadeText name.now text.items)) }
+    ensures made { IfOk result (λ (made : _). MatchOption made (is_made name.now ≡ false)
+        (λ (text : _). (is_made name.now ≡ true) × IsMadeText name.now text.items)) }
     ensures short { IfOk result (λ (made : _). IfSome made (λ (text : _). length text.items ≤ 2 ^ 28)) }
 {
     let squares = text_behind(name, "@w:");

@@ -1,6 +1,7 @@
 //! The query and the names of files among the words.
 
-ghost use Rattle.std.specs.Prelude.{◌≡◌, ◌≤◌, ◌^◌, ℕ, List, Option, ◌∷◌, length, IfSome, option_to_list, MatchOption, IsTrue, ◌↔◌};
+ghost use Rattle.std.specs.Prelude.{◌≡◌, ◌≤◌, ◌^◌, ℕ, List, Option, ◌∷◌, length, IfSome, option_to_list, MatchOption};
+ghost use Rattle.std.specs.Prelude.{IsTrue, ◌↔◌};
 ghost use Rattle.std.specs.Option.{option_copied};
 ghost use Rattle.at_cli.specs.Values.{IsFileName};
 ghost use Rattle.at_cli.specs.LineOf.{HasNames};
@@ -35,8 +36,10 @@ fn is_none_or_file_name(name: Option<&str>) -> bool
 fn tested(names: Names<'_>) -> Option<Names<'_>>
     ensures same { IfSome result (λ (tested : _). tested ≡ names.entry) }
     ensures in_order { MatchOption result
-        (length names.entry.query.now ≤ 2 ^ 28 → IsFileName names.entry.first.now → IfSome (option_copied names.entry.second) IsFileName → ⊥)
-        (λ (tested : _). (length names.entry.query.now ≤ 2 ^ 28) × IsFileName names.entry.first.now × IfSome (option_copied names.entry.second) IsFileName) }
+        (length names.entry.query.now ≤ 2 ^ 28 → IsFileName names.entry.first.now
+        → IfSome (option_copied names.entry.second) IsFileName → ⊥)
+        (λ (tested : _). (length names.entry.query.now ≤ 2 ^ 28) × IsFileName names.entry.first.now
+        × IfSome (option_copied names.entry.second) IsFileName) }
 {
     if names.query.len() > QUERY_LIMIT {
         return None;
@@ -54,7 +57,8 @@ fn tested(names: Names<'_>) -> Option<Names<'_>>
 pub fn names_of(places: Places<'_>) -> Option<Names<'_>>
     ensures { MatchOption result
         ((line : Line) → HasNames (places_shown places.entry) line.query line.first line.second → ⊥)
-        (λ (names : _). HasNames (places_shown places.entry) names.query.now names.first.now (option_copied names.second)) }
+        (λ (names : _). HasNames (places_shown places.entry) names.query.now names.first.now
+        (option_copied names.second)) }
 {
     match places {
         Places::Empty | Places::Query(_) => None,

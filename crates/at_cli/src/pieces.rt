@@ -2,7 +2,9 @@
 
 ghost use Rattle.std.specs.Prelude.{◌≡◌, option_map, map, string_bytes};
 ghost use Rattle.std.specs.Option.{option_copied};
-ghost use Rattle.at_cli.specs.Steps.{places_shown, shown, start, value_at, set_value, with_value, with_place, with_flag, with_piece, step as step_over, unless_waiting, walk as walk_over, gathered, placed, flag_shown};
+ghost use Rattle.at_cli.specs.Steps.{places_shown, shown, start, value_at, set_value, with_value, with_place};
+ghost use Rattle.at_cli.specs.Steps.{with_flag, with_piece, step as step_over, unless_waiting, walk as walk_over};
+ghost use Rattle.at_cli.specs.Steps.{gathered, placed, flag_shown};
 
 use crate::flags::{Flag, Setting, flag_in};
 

@@ -1,6 +1,7 @@
 //! The bytes of a file that the words name.
 
-ghost use Rattle.std.specs.Prelude.{◌≡◌, ◌+◌, ◌<◌, ◌≤◌, ◌^◌, ℕ, List, true, false, length, Some, IsSome, IfSome, IfOk, IfErr, IsErrOf};
+ghost use Rattle.std.specs.Prelude.{◌≡◌, ◌+◌, ◌<◌, ◌≤◌, ◌^◌, ℕ, List, true, false, length, Some, IsSome, IfSome, IfOk};
+ghost use Rattle.std.specs.Prelude.{IfErr, IsErrOf};
 ghost use Rattle.at_io.specs.Counts.{Rose};
 ghost use Rattle.at_cli.specs.Values.{IsFileName};
 ghost use Rattle.at_cli.specs.Made.{is_made as made, IsMadeText};
@@ -16,10 +17,14 @@ fn shelf_bytes<S: Shelf>(alloc: Global, shelf: &mut S, name: &str) -> Result<Vec
     requires { made name.now ≡ false }
     ensures bytes { IfOk result (λ bytes. IfSome (S.files shelf.old) (λ told. HasBytes told name.now bytes.items)) }
     ensures size { IfOk result (λ bytes. length bytes.items ≤ 2 ^ 28) }
-    ensures failed { IsErrOf result ReadError.Failed → Rose (S.faults shelf.old) (S.faults shelf.new) × (S.broken shelf.new ≡ S.begins shelf.new) }
+    ensures failed { IsErrOf result ReadError.Failed → Rose (S.faults shelf.old) (S.faults shelf.new)
+        × (S.broken shelf.new ≡ S.begins shelf.new) }
     ensures taken { IsErrOf result ReadError.TooLarge → S.taken shelf.old + (2 ^ 28 + 1) ≤ S.taken shelf.new }
-    ensures large { IsErrOf result ReadError.TooLarge → IfSome (S.files shelf.old) (λ told. (bytes : List ℕ) × HasBytes told name.now bytes × (2 ^ 28 < length bytes)) }
-    ensures asked { WasAsked (asked_name name.now) (S.files shelf.old) (S.begins shelf.old) (S.begins shelf.new) (S.taken shelf.old) (S.taken shelf.new) (S.named shelf.old) (S.named shelf.new) }
+    ensures large { IsErrOf result ReadError.TooLarge
+        → IfSome (S.files shelf.old) (λ told. (bytes : List ℕ) × HasBytes told name.now bytes
+        × (2 ^ 28 < length bytes)) }
+    ensures asked { WasAsked (asked_name name.now) (S.files shelf.old) (S.begins shelf.old) (S.begins shelf.new)
+        (S.taken shelf.old) (S.taken shelf.new) (S.named shelf.old) (S.named shelf.new) }
     ensures same_files { S.files shelf.new ≡ S.files shelf.old }
     ensures counted { S.faults shelf.old ≤ S.faults shelf.new }
 {
@@ -64,10 +69,14 @@ pub fn named_bytes<S: Shelf>(alloc: Global, shelf: &mut S, name: &str) -> Result
     requires { IsFileName name.now }
     ensures bytes { IfOk result (λ bytes. IfSome (S.files shelf.old) (λ told. HasBytes told name.now bytes.items)) }
     ensures size { IfOk result (λ bytes. length bytes.items ≤ 2 ^ 28) }
-    ensures failed { IsErrOf result ReadError.Failed → (made name.now ≡ false) × Rose (S.faults shelf.old) (S.faults shelf.new) × (S.broken shelf.new ≡ S.begins shelf.new) }
+    ensures failed { IsErrOf result ReadError.Failed → (made name.now ≡ false)
+        × Rose (S.faults shelf.old) (S.faults shelf.new) × (S.broken shelf.new ≡ S.begins shelf.new) }
     ensures taken { IsErrOf result ReadError.TooLarge → S.taken shelf.old + (2 ^ 28 + 1) ≤ S.taken shelf.new }
-    ensures large { IsErrOf result ReadError.TooLarge → IfSome (S.files shelf.old) (λ told. (bytes : List ℕ) × HasBytes told name.now bytes × (2 ^ 28 < length bytes)) }
-    ensures asked { WasAsked (asked_name name.now) (S.files shelf.old) (S.begins shelf.old) (S.begins shelf.new) (S.taken shelf.old) (S.taken shelf.new) (S.named shelf.old) (S.named shelf.new) }
+    ensures large { IsErrOf result ReadError.TooLarge
+        → IfSome (S.files shelf.old) (λ told. (bytes : List ℕ) × HasBytes told name.now bytes
+        × (2 ^ 28 < length bytes)) }
+    ensures asked { WasAsked (asked_name name.now) (S.files shelf.old) (S.begins shelf.old) (S.begins shelf.new)
+        (S.taken shelf.old) (S.taken shelf.new) (S.named shelf.old) (S.named shelf.new) }
     ensures same_files { S.files shelf.new ≡ S.files shelf.old }
     ensures counted { S.faults shelf.old ≤ S.faults shelf.new }
 {

@@ -159,8 +159,9 @@ fn failing_files_and_sinks(rt: HostRuntime) -> Result<(), Fail> {
     run_rows(&rt, rt.alloc(), &rows)
 }
 
-// A row of a table has the words with a bar between each two, the file's name, its text, and the status with what is written: to
-// the output where it is 0, and else to the error output. `~` stands for a line feed, `^` for a carriage return, `%` for the byte FF.
+// A row of a table has the words with a bar between each two, the file's name, its text, and the status with what is
+// written: to the output where it is 0, and else to the error output. `~` stands for a line feed, `^` for a carriage
+// return, `%` for the byte FF.
 
 /// Each verb with its printed text, with tests and without.
 const ANSWERS: &str = "count|e.wkt => e.wkt =>  => 0 0~

@@ -1,6 +1,7 @@
 //! The values of options and names, as words spell them.
 
-ghost use Rattle.std.specs.Prelude.{◌≡◌, ◌≢◌, ◌⊎◌, ℕ, List, length, slice_index, MatchBool, ◌<◌, ◌≤◌, ◌^◌, ◌↔◌, decimal, Option, option_to_list, MatchOption, IsTrue};
+ghost use Rattle.std.specs.Prelude.{◌≡◌, ◌≢◌, ◌⊎◌, ℕ, List, length, slice_index, MatchBool, ◌<◌, ◌≤◌, ◌^◌, ◌↔◌};
+ghost use Rattle.std.specs.Prelude.{decimal, Option, option_to_list, MatchOption, IsTrue};
 ghost use Rattle.std.specs.Option.{option_copied};
 ghost use Rattle.at_fixed.specs.declared.rounding.Coords.{Coords};
 ghost use Rattle.at_cli.specs.Values.{form_text, coords_text, SpellsDigits, IsWhole, GoesOn, IsFileName};
@@ -97,7 +98,8 @@ fn coords_named(text: &str) -> Option<Coords>
 /// How numbers are taken: to the nearest unit where nothing is said.
 pub fn coords_or_round(text: Option<&str>) -> Option<Coords>
     ensures { MatchOption result
-        ((how : Coords) → IsChosen Coords.Round (λ text how. text ≡ coords_text how) (option_to_list (option_copied text.entry)) how → ⊥)
+        ((how : Coords) → IsChosen Coords.Round (λ text how. text ≡ coords_text how)
+        (option_to_list (option_copied text.entry)) how → ⊥)
         (IsChosen Coords.Round (λ text how. text ≡ coords_text how) (option_to_list (option_copied text.entry))) }
 {
     match text {

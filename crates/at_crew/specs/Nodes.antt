@@ -1,6 +1,7 @@
--- The tree over k blocks, where k is a power of two. The root is node 1, node p has the children 2 p and 2 p + 1, and block i is
--- leaf k + i. Word 0 counts the claims, word p is the inner node p's, and word k is the root's own.
-use Rattle.std.specs.Prelude.{◌≡◌, ℕ, ◌+◌, ◌-◌, ◌*◌, ◌/◌, ◌%◌, ◌^◌, ◌<◌, ◌≤◌, ◌⊎◌, ◌==◌, ◌||◌, Bool, IsTrue, zero, suc, List, [], ◌∷◌, ◌++◌, slice_index}
+-- The tree over k blocks, where k is a power of two. The root is node 1, node p has the children 2 p and 2 p + 1, and
+-- block i is leaf k + i. Word 0 counts the claims, word p is the inner node p's, and word k is the root's own.
+use Rattle.std.specs.Prelude.{◌≡◌, ℕ, ◌+◌, ◌-◌, ◌*◌, ◌/◌, ◌%◌, ◌^◌, ◌<◌, ◌≤◌, ◌⊎◌, ◌==◌, ◌||◌, Bool, IsTrue, zero, suc}
+use Rattle.std.specs.Prelude.{List, [], ◌∷◌, ◌++◌, slice_index}
 
 -- n is one of the powers of two from 1 to 2 ^ most
 abbrev pub is_power_up_to : ℕ → ℕ → Bool
@@ -48,7 +49,8 @@ module _ (k : ℕ) (words : List ℕ) where
 
   -- a node is settled once its bit stands at its parent, the root once its own word is 1
   abbrev pub Settled : ℕ → Type 0
-  Settled n = ((n ≡ 1) × (slice_index words k ≡ 1)) ⊎ ((1 < n) × ((slice_index words (n / 2) ≡ bit_of n) ⊎ (slice_index words (n / 2) ≡ 3)))
+  Settled n = ((n ≡ 1) × (slice_index words k ≡ 1))
+      ⊎ ((1 < n) × ((slice_index words (n / 2) ≡ bit_of n) ⊎ (slice_index words (n / 2) ≡ 3)))
 
   -- its parent, if it has one, is not made
   abbrev pub IsTop : ℕ → Type 0

@@ -45,7 +45,8 @@ module _ {J P F : Type 0} {g : Ghosts J P F} where
 
   -- the pass is one of this crew's
   abbrev pub IsPassOf : Crew J P F → Pass J P F g → Type 0
-  IsPassOf crew pass = (pass.seat.table_id ≡ crew.table.shared.table_id) × HasFacts (g.facts (job_of crew)) pass.seat.me.0
+  IsPassOf crew pass = (pass.seat.table_id ≡ crew.table.shared.table_id)
+      × HasFacts (g.facts (job_of crew)) pass.seat.me.0
 
   -- a pass of this crew that holds nothing and isn't over, and one that is over
   abbrev pub IsReady : Crew J P F → Pass J P F g → Type 0
@@ -73,4 +74,5 @@ module _ {J P F : Type 0} {g : Ghosts J P F} where
 
   -- the chief is this crew's
   abbrev pub IsChiefOf : Crew J P F → Chief J P F g → Type 0
-  IsChiefOf crew chief = (chief.seat.table_id ≡ crew.table.shared.table_id) × LedBy (g.facts (job_of crew)) chief.seat.me.0
+  IsChiefOf crew chief = (chief.seat.table_id ≡ crew.table.shared.table_id)
+      × LedBy (g.facts (job_of crew)) chief.seat.me.0

@@ -1,5 +1,7 @@
--- What the views of seats say, and how steps change them. A view is the chief's (`Leads`), a pass's (`Climbs`), or spent.
-use Rattle.std.specs.Prelude.{◌≡◌, ℕ, ◌+◌, ◌==◌, min, List, [], ◌∷◌, ◌++◌, count_by, cond, Option, Some, None, Bool, true, false}
+-- What the views of seats say, and how steps change them. A view is the chief's (`Leads`), a pass's (`Climbs`), or
+-- spent.
+use Rattle.std.specs.Prelude.{◌≡◌, ℕ, ◌+◌, ◌==◌, min, List, [], ◌∷◌, ◌++◌, count_by, cond, Option, Some, None, Bool}
+use Rattle.std.specs.Prelude.{true, false}
 use Rattle.at_crew.specs.declared.view.Place.{Place}
 use Rattle.at_crew.specs.declared.view.Climber.{Climber}
 use Rattle.at_crew.specs.declared.view.Leader.{Leader}
@@ -28,8 +30,8 @@ OnSome None P = ⊥
 OnSome (Some x) P = P x
 
 module _ {F : Type 0} where
-  -- what a view counts for, in sums over all views: chiefs, living passes, passes that are over, passes made, passes taken back, passes with
-  -- the number x, and passes that hold node n
+  -- what a view counts for, in sums over all views: chiefs, living passes, passes that are over, passes made, passes
+  -- taken back, passes with the number x, and passes that hold node n
   abbrev pub leads : View F → ℕ
   leads Spent = 0
   leads (Climbs v) = 0
@@ -97,25 +99,63 @@ module _ {F : Type 0} where
 
   -- after a claim of block n among k
   abbrev pub claiming : ℕ → ℕ → Climber F → Climber F
-  claiming k n v = record { facts = v.facts; number = v.number; held = Some (place (k + n) 0); last = Some n; over = false; claimed = v.claimed ++ n ∷ []; merged = v.merged }
+  claiming k n v = record {
+    facts = v.facts;
+    number = v.number;
+    held = Some (place (k + n) 0);
+    last = Some n;
+    over = false;
+    claimed = v.claimed ++ n ∷ [];
+    merged = v.merged;
+  }
 
   -- after a claim that found nothing left
   abbrev pub ending : ℕ → Climber F → Climber F
-  ending n v = record { facts = v.facts; number = v.number; held = None; last = Some n; over = true; claimed = v.claimed; merged = v.merged }
+  ending n v = record {
+    facts = v.facts;
+    number = v.number;
+    held = None;
+    last = Some n;
+    over = true;
+    claimed = v.claimed;
+    merged = v.merged;
+  }
 
   -- with nothing held
   abbrev pub resting : Climber F → Climber F
-  resting v = record { facts = v.facts; number = v.number; held = None; last = v.last; over = v.over; claimed = v.claimed; merged = v.merged }
+  resting v = record {
+    facts = v.facts;
+    number = v.number;
+    held = None;
+    last = v.last;
+    over = v.over;
+    claimed = v.claimed;
+    merged = v.merged;
+  }
 
   -- with the parent, which the pass has merged
   abbrev pub climbing : Place → Climber F → Climber F
-  climbing p v = record { facts = v.facts; number = v.number; held = Some p; last = v.last; over = v.over; claimed = v.claimed; merged = v.merged ++ p.node ∷ [] }
+  climbing p v = record {
+    facts = v.facts;
+    number = v.number;
+    held = Some p;
+    last = v.last;
+    over = v.over;
+    claimed = v.claimed;
+    merged = v.merged ++ p.node ∷ [];
+  }
 
   -- one pass more, and its view
   abbrev pub hires : View F → View F
   hires Spent = Spent
   hires (Climbs v) = Climbs v
-  hires (Leads h) = Leads record { facts = h.facts; made = h.made + 1; back = h.back; claimed = h.claimed; merged = h.merged }
+  hires (Leads h) = Leads record {
+    facts = h.facts;
+    made = h.made + 1;
+    back = h.back;
+    claimed = h.claimed;
+    merged = h.merged;
+  }
 
   abbrev pub hired : View F → View F
   hired Spent = Spent
@@ -126,7 +166,13 @@ module _ {F : Type 0} where
   abbrev pub gathers : View F → View F → View F
   gathers Spent w = Spent
   gathers (Climbs v) w = Climbs v
-  gathers (Leads h) w = Leads record { facts = h.facts; made = h.made; back = min h.made (h.back + 1); claimed = h.claimed ++ claimed w; merged = h.merged ++ merged w }
+  gathers (Leads h) w = Leads record {
+    facts = h.facts;
+    made = h.made;
+    back = min h.made (h.back + 1);
+    claimed = h.claimed ++ claimed w;
+    merged = h.merged ++ merged w;
+  }
 
   -- what kind of view it is, and the parts of a pass's
   abbrev pub is_pass : View F → Bool
@@ -177,7 +223,15 @@ module _ {F : Type 0} where
   -- with more merged nodes
   abbrev pub adds : List ℕ → View F → View F
   adds ns Spent = Spent
-  adds ns (Climbs v) = Climbs record { facts = v.facts; number = v.number; held = v.held; last = v.last; over = v.over; claimed = v.claimed; merged = v.merged ++ ns }
+  adds ns (Climbs v) = Climbs record {
+    facts = v.facts;
+    number = v.number;
+    held = v.held;
+    last = v.last;
+    over = v.over;
+    claimed = v.claimed;
+    merged = v.merged ++ ns;
+  }
   adds ns (Leads h) = Leads h
 
   -- the view is the chief's, under these facts

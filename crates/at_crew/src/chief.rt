@@ -19,7 +19,9 @@ pub struct Chief<J: Job> {
 }
 
 impl<J: Job> Chief<J> {
-    ghost use Rattle.at_crew.specs.Shown.{IsChiefOf, IsPassOf, passes_allowed, passes_made, passes_away, blocks_gathered, nodes_gathered, pass_number, block_held, last_number, has_ended, blocks_claimed, nodes_merged};
+    ghost use Rattle.at_crew.specs.Shown.{IsChiefOf, IsPassOf, passes_allowed, passes_made, passes_away};
+    ghost use Rattle.at_crew.specs.Shown.{blocks_gathered, nodes_gathered, pass_number, block_held, last_number};
+    ghost use Rattle.at_crew.specs.Shown.{has_ended, blocks_claimed, nodes_merged};
 
     /// How many passes can still be made.
     pub fn left(&self) -> u32

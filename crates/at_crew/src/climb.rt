@@ -1,8 +1,10 @@
 //! How a part is settled: it goes up the tree for as long as the neighbour's part is there.
-ghost use Rattle.std.specs.Prelude.{◌≡◌, ℕ, ◌+◌, ◌*◌, ◌/◌, ◌%◌, ◌^◌, ◌<◌, ◌≤◌, [], ◌∷◌, ◌++◌, IsSomeAnd, Some, None, IsTrue, IsFalse, ◌==◌};
+ghost use Rattle.std.specs.Prelude.{◌≡◌, ℕ, ◌+◌, ◌*◌, ◌/◌, ◌%◌, ◌^◌, ◌<◌, ◌≤◌, [], ◌∷◌, ◌++◌, IsSomeAnd, Some, None};
+ghost use Rattle.std.specs.Prelude.{IsTrue, IsFalse, ◌==◌};
 ghost use Rattle.at_crew.specs.Nodes.{IsNode, first_of, end_of, ancestors};
 ghost use Rattle.at_crew.specs.Seats.{Bears, children, HasChildren};
-ghost use Rattle.at_crew.specs.Shown.{IsPassOf, job_of, blocks_of, pass_number, block_held, last_number, has_ended, blocks_claimed, nodes_merged};
+ghost use Rattle.at_crew.specs.Shown.{IsPassOf, job_of, blocks_of, pass_number, block_held, last_number, has_ended};
+ghost use Rattle.at_crew.specs.Shown.{blocks_claimed, nodes_merged};
 ghost use Rattle.at_crew.specs.Steps.{carried};
 ghost use Rattle.at_crew.specs.Views.{rests, climbs_to, adds, place};
 
@@ -15,9 +17,9 @@ use std::alloc::Global;
 impl<J: Job> Crew<J> {
     /// Settles the part of the block that the pass holds, and answers at how many nodes it merged two parts.
     ///
-    /// The part climbs the tree: at each node one `fetch_or` of its bit says whether the neighbour's bit stood there before. If
-    /// so, the pass takes the neighbour's part, merges the two and goes on with the node; if not, it leaves its part there. The
-    /// nodes at which it merged join the pass's list, at most 12. The pass then holds no block.
+    /// The part climbs the tree: at each node one `fetch_or` of its bit says whether the neighbour's bit stood there
+    /// before. If so, the pass takes the neighbour's part, merges the two and goes on with the node; if not, it leaves
+    /// its part there. The nodes at which it merged join the pass's list, at most 12. The pass then holds no block.
     ///
     /// It takes no memory but what the job's `merge` takes.
     pub fn settle(&self, alloc: Global, job: &J, pass: &mut Pass<J>, part: J::Part) -> u32

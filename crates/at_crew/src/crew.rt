@@ -1,6 +1,7 @@
 //! The blocks of a job, shared out among passes and merged up a tree without a lock.
 
-ghost use Rattle.std.specs.Prelude.{◌≡◌, ℕ, ◌+◌, ◌*◌, ◌^◌, ◌<◌, ◌≤◌, [], ◌++◌, All, IfSome, IfNone, IfOk, IsSomeAnd, Some, None, is_none, option_to_list, true, false, replicate, slice_index_or};
+ghost use Rattle.std.specs.Prelude.{◌≡◌, ℕ, ◌+◌, ◌*◌, ◌^◌, ◌<◌, ◌≤◌, [], ◌++◌, All, IfSome, IfNone, IfOk, IsSomeAnd};
+ghost use Rattle.std.specs.Prelude.{Some, None, is_none, option_to_list, true, false, replicate, slice_index_or};
 ghost use Rattle.std.specs.Mem.Slots.{slots_filled, slots_len};
 ghost use Rattle.std.specs.Mem.Slots.Ownership.{Filled};
 ghost use Rattle.at_crew.specs.Nodes.{IsBlockCount};
@@ -38,12 +39,15 @@ pub struct Closed<J: Job> {
 impl<J: Job> Crew<J> {
     ghost use Rattle.at_crew.specs.Views.{times};
     ghost use Rattle.at_crew.specs.Rule.{OneWhere};
-    ghost use Rattle.at_crew.specs.Shown.{IsChiefOf, IsPassOf, job_of, blocks_of, passes_allowed, passes_made, passes_away, blocks_gathered, nodes_gathered, pass_number, block_held, last_number, has_ended, blocks_claimed, nodes_merged, all_claimed, all_merged};
+    ghost use Rattle.at_crew.specs.Shown.{IsChiefOf, IsPassOf, job_of, blocks_of, passes_allowed, passes_made};
+    ghost use Rattle.at_crew.specs.Shown.{passes_away, blocks_gathered, nodes_gathered, pass_number, block_held};
+    ghost use Rattle.at_crew.specs.Shown.{last_number, has_ended, blocks_claimed, nodes_merged, all_claimed};
+    ghost use Rattle.at_crew.specs.Shown.{all_merged};
 
     /// A crew for the job, and its chief, who can make so many passes.
     ///
-    /// The blocks are a power of two up to 4,096, and as many as the job has; the passes are 1 to 64. All memory that the crew
-    /// itself wants is taken here.
+    /// The blocks are a power of two up to 4,096, and as many as the job has; the passes are 1 to 64. All memory that
+    /// the crew itself wants is taken here.
     pub fn new(
         alloc: Global,
         job: &J,
@@ -75,8 +79,8 @@ impl<J: Job> Crew<J> {
 
     /// Fetches the next number, by one `fetch_add`. It is greater than every number that the pass fetched before.
     ///
-    /// Some(n) exactly where the number n is below the blocks: the pass then holds block n. None exactly where it is at or past
-    /// them: the pass is then over.
+    /// Some(n) exactly where the number n is below the blocks: the pass then holds block n. None exactly where it is at
+    /// or past them: the pass is then over.
     pub fn claim(&self, pass: &mut Pass<J>) -> Option<u32>
         requires one_crew { IsPassOf self.now pass.old }
         requires free { block_held pass.old ≡ None }
@@ -112,7 +116,8 @@ impl<J: Job> Crew<J> {
         }
     }
 
-    /// Claims blocks, and enters the gate with each, runs it and settles its part, until none is left. The pass is then over.
+    /// Claims blocks, and enters the gate with each, runs it and settles its part, until none is left. The pass is then
+    /// over.
     ///
     /// It takes no memory but what the job's `run` and `merge` take.
     pub fn work<G: Gate>(&self, alloc: Global, job: &J, pass: &mut Pass<J>, gate: &G)

@@ -6,9 +6,9 @@ use std::alloc::Global;
 
 /// What a crew does with each block, and how the parts of two neighbouring stretches of blocks become one.
 ///
-/// A job says what its parts mean by a relation: under the job's facts a part stands for the blocks from one number up to, not
-/// including, another. No call has an answer for want of memory, so a job that allocates has a part for that, which stands for
-/// whatever its facts allow.
+/// A job says what its parts mean by a relation: under the job's facts a part stands for the blocks from one number up
+/// to, not including, another. No call has an answer for want of memory, so a job that allocates has a part for that,
+/// which stands for whatever its facts allow.
 pub trait Job: Sync {
     /// What a stretch of blocks gives.
     type Part: Send + Drop;

@@ -9,8 +9,8 @@ use crate::steps::CrewSeat;
 
 /// The right to claim blocks of a crew and to climb with their parts, one for each thread.
 ///
-/// Contracts see beside what its methods answer its number, the blocks that it claimed and the nodes at which it merged. These
-/// lists take no memory.
+/// Contracts see beside what its methods answer its number, the blocks that it claimed and the nodes at which it
+/// merged. These lists take no memory.
 #[derive(Drop)]
 pub struct Pass<J: Job> {
     pub(crate) seat: CrewSeat<J>,

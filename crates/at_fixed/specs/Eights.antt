@@ -1,5 +1,6 @@
 -- Eight bytes read at once. Only contracts of private functions cite this.
-use Rattle.std.specs.Prelude.{◌≡◌, ℕ, ◌+◌, ◌-◌, ◌*◌, ◌/◌, ◌%◌, ◌^◌, ◌<◌, ◌≤◌, ◌==◌, true, false, if◌then◌else◌, List, slice_index, bit_and}
+use Rattle.std.specs.Prelude.{◌≡◌, ℕ, ◌+◌, ◌-◌, ◌*◌, ◌/◌, ◌%◌, ◌^◌, ◌<◌, ◌≤◌, ◌==◌, true, false, if◌then◌else◌, List}
+use Rattle.std.specs.Prelude.{slice_index, bit_and}
 use Rattle.std.specs.Int.{trailing_zeros, w64}
 use Rattle.at_text.specs.Texts.{is_digit}
 
@@ -15,8 +16,10 @@ pub record IsDigitRun (w : List ℕ) (at count : ℕ) : Type 0 where
 
 -- the eight bytes at a place, the first of them the lowest
 abbrev pub eight_bytes : List ℕ → ℕ → ℕ
-eight_bytes w at = slice_index w at + 256 * (slice_index w (at + 1) + 256 * (slice_index w (at + 2) + 256 * (slice_index w (at + 3)
-    + 256 * (slice_index w (at + 4) + 256 * (slice_index w (at + 5) + 256 * (slice_index w (at + 6) + 256 * slice_index w (at + 7)))))))
+eight_bytes w at = slice_index w at
+    + 256 * (slice_index w (at + 1) + 256 * (slice_index w (at + 2) + 256 * (slice_index w (at + 3)
+    + 256 * (slice_index w (at + 4)
+    + 256 * (slice_index w (at + 5) + 256 * (slice_index w (at + 6) + 256 * slice_index w (at + 7)))))))
 
 -- digits joined to numbers of two, of four and of eight digits
 abbrev pub digits_in : ℕ → ℕ → ℕ

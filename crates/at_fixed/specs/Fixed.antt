@@ -1,5 +1,6 @@
 -- The value of a number's text in units of 10 ^ -digits, and the text of a value.
-use Rattle.std.specs.Prelude.{◌≡◌, ℕ, zero, suc, ◌+◌, ◌*◌, ◌/◌, ◌%◌, ◌^◌, ℤ, pos, negsuc, neg_ℤ, Bool, nat_lt, ◌==◌, if◌then◌else◌, List, [], ◌∷◌, ◌++◌, length, Option, Some, None, Result, Ok, Err, decimal}
+use Rattle.std.specs.Prelude.{◌≡◌, ℕ, zero, suc, ◌+◌, ◌*◌, ◌/◌, ◌%◌, ◌^◌, ℤ, pos, negsuc, neg_ℤ, Bool, nat_lt, ◌==◌}
+use Rattle.std.specs.Prelude.{if◌then◌else◌, List, [], ◌∷◌, ◌++◌, length, Option, Some, None, Result, Ok, Err, decimal}
 use Rattle.std.specs.List.{list_any}
 use Rattle.at_fixed.specs.declared.rounding.Coords.{Coords}
 use Rattle.at_fixed.specs.declared.rounding.Coords.TheVariants.{Exact, Round}
@@ -57,7 +58,8 @@ signed minus (Err fault) = Err fault
 -- the value of a number in units of 10 ^ -digits, exact or rounded, or why it has none
 abbrev pub fixed_of : Numeral → ℕ → Coords → Result ℤ FixedFault
 fixed_of n digits how = signed (has_minus n.sign)
-    (size_of how (mantissa n) (digits + exponent_above n.exponent) (length (fraction_digits n) + exponent_below n.exponent))
+    (size_of how (mantissa n) (digits + exponent_above n.exponent) (length (fraction_digits n)
+    + exponent_below n.exponent))
 
 -- the answer is the value of the one number that the text spells
 pub record IsFixedOf (text : List ℕ) (digits : ℕ) (how : Coords) (answer : Result ℤ FixedFault) : Type 0 where

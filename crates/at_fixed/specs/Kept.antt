@@ -9,7 +9,8 @@ part w from to = drop from (take to w)
 abbrev pub digits_behind : ℕ → List ℕ → ℕ
 digits_behind m digits = fold (λ n d. 10 * n + (d - 0x30)) m digits
 
--- the number m begins with the digits of `kept`; so many further digits were dropped, and `is_cut` says that one of them isn't 0
+-- the number m begins with the digits of `kept`; so many further digits were dropped, and `is_cut` says that one of
+-- them isn't 0
 pub record Keeps (kept dropped : ℕ) (is_cut : Bool) (m : ℕ) : Type 0 where
   pub rest : ℕ
   pub split : m ≡ kept * 10 ^ dropped + rest

@@ -1,5 +1,6 @@
 -- Numbers as texts: the parts of a number, how they are spelled, and which parts each format allows.
-use Rattle.std.specs.Prelude.{◌≡◌, ℕ, ◌+◌, ◌-◌, ◌*◌, ◌⊎◌, List, [], ◌∷◌, ◌++◌, Option, Some, None, IfSome, IsTrue, nat_le, ◌&&◌, ⊤, fold}
+use Rattle.std.specs.Prelude.{◌≡◌, ℕ, ◌+◌, ◌-◌, ◌*◌, ◌⊎◌, List, [], ◌∷◌, ◌++◌, Option, Some, None, IfSome, IsTrue}
+use Rattle.std.specs.Prelude.{nat_le, ◌&&◌, ⊤, fold}
 use Rattle.std.specs.List.{AllByRecursion}
 use Rattle.at_text.specs.Texts.{is_digit, is_one_of}
 use Rattle.at_fixed.specs.declared.notation.Notation.{Notation}

@@ -39,5 +39,6 @@ IsSize how (suc m) above below size = IsQuotient how (suc m * 10 ^ above) (10 ^ 
 -- the answer is a size with the number's sign
 pub record IsValue (n : Numeral) (digits : ℕ) (how : Coords) (answer : Result ℤ FixedFault) : Type 0 where
   pub size : Result ℕ FixedFault
-  pub is_size : IsSize how (mantissa n) (digits + exponent_above n.exponent) (length (fraction_digits n) + exponent_below n.exponent) size
+  pub is_size : IsSize how (mantissa n) (digits + exponent_above n.exponent) (length (fraction_digits n)
+      + exponent_below n.exponent) size
   pub sign : answer ≡ signed (has_minus n.sign) size

@@ -33,6 +33,7 @@ pub record IsValued (notation : Notation) (w : List ℕ) (digits : ℕ) (how : C
 -- the longest prefix that is the beginning of a number, and what that number is
 pub record IsScanned (notation : Notation) (w : List ℕ) (scanned : Scanned) : Type 0 where
   pub taken : TakesLongest (NumberOf notation) w (record { len = scanned.len; whole = scanned.is_number })
-  pub value : IsTrue scanned.is_number → (n : Numeral) × IsNumeralOf notation n × (take scanned.len w ≡ numeral_text n) × IsDecimalOf scanned.decimal n
+  pub value : IsTrue scanned.is_number → (n : Numeral) × IsNumeralOf notation n × (take scanned.len w ≡ numeral_text n)
+      × IsDecimalOf scanned.decimal n
   pub small : scanned.decimal.up < 2 ^ 50
   pub fits : scanned.decimal.kept < 10 ^ 19

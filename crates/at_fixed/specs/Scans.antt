@@ -1,5 +1,6 @@
 -- What the steps of reading a number promise each other. Only contracts of private functions cite this.
-use Rattle.std.specs.Prelude.{◌≡◌, ℕ, ◌+◌, ◌-◌, ◌^◌, ◌<◌, ◌≤◌, ◌⊎◌, List, [], ◌∷◌, ◌++◌, length, take, slice_index, Bool, true, false, nat_lt, ◌==◌, ◌&&◌, ◌||◌, Option, Some, None, IfSome}
+use Rattle.std.specs.Prelude.{◌≡◌, ℕ, ◌+◌, ◌-◌, ◌^◌, ◌<◌, ◌≤◌, ◌⊎◌, List, [], ◌∷◌, ◌++◌, length, take, slice_index}
+use Rattle.std.specs.Prelude.{Bool, true, false, nat_lt, ◌==◌, ◌&&◌, ◌||◌, Option, Some, None, IfSome}
 use Rattle.at_text.specs.Texts.{is_digit}
 use Rattle.at_fixed.specs.declared.notation.Notation.{Notation}
 use Rattle.at_fixed.specs.declared.notation.Notation.TheVariants.{Json, Wkt}
@@ -11,10 +12,12 @@ use Rattle.at_fixed.specs.declared.extents.Extent.{Extent}
 use Rattle.at_fixed.specs.declared.scanning.Sign.{Sign}
 use Rattle.at_fixed.specs.declared.scanning.Mantissa.{Mantissa}
 use Rattle.at_fixed.specs.declared.scanning.Power.{Power}
-use Rattle.at_fixed.specs.Numerals.{fraction_text, IsAtMostOneOf, AreDigits, AreSomeDigits, IsJsonWhole, AreWktDigits, digits_value}
+use Rattle.at_fixed.specs.Numerals.{fraction_text, IsAtMostOneOf, AreDigits, AreSomeDigits, IsJsonWhole, AreWktDigits}
+use Rattle.at_fixed.specs.Numerals.{digits_value}
 use Rattle.at_fixed.specs.Fixed.{has_minus}
 use Rattle.at_fixed.specs.Kept.{part, digits_behind, Keeps, SameOrHuge}
-use Rattle.at_fixed.specs.States.{State, Reads, step, accepts, is_letter, is_lead_sign, after_fraction, after_whole, lone_point}
+use Rattle.at_fixed.specs.States.{State, Reads, step, accepts, is_letter, is_lead_sign, after_fraction, after_whole}
+use Rattle.at_fixed.specs.States.{lone_point}
 
 abbrev pub is_wkt : Notation → Bool
 is_wkt Json = false
@@ -23,10 +26,13 @@ is_wkt Wkt = true
 -- no sign stands at the place, or the sign does
 abbrev pub ReadsSign : Notation → List ℕ → ℕ → Sign → Type 0
 ReadsSign notation w from sign =
-    ((sign.end ≡ from) × (sign.is_minus ≡ false) × (from < length w → is_lead_sign notation (slice_index w from) ≡ false))
-    ⊎ ((sign.end ≡ from + 1) × (from < length w) × (is_lead_sign notation (slice_index w from) ≡ true) × (sign.is_minus ≡ (slice_index w from == 0x2D)))
+    ((sign.end ≡ from) × (sign.is_minus ≡ false)
+    × (from < length w → is_lead_sign notation (slice_index w from) ≡ false))
+    ⊎ ((sign.end ≡ from + 1) × (from < length w) × (is_lead_sign notation (slice_index w from) ≡ true)
+    × (sign.is_minus ≡ (slice_index w from == 0x2D)))
 
--- all digits from a place on up to another, behind a number: what they spell is kept, and none stands there where the run is whole
+-- all digits from a place on up to another, behind a number: what they spell is kept, and none stands there where the
+-- run is whole
 pub record KeepsRun (w : List ℕ) (from before : ℕ) (run : KeptRun) : Type 0 where
   pub order : from ≤ run.end
   pub within : run.end ≤ length w
@@ -59,14 +65,16 @@ pub record KeepsFar (w : List ℕ) (from before room : ℕ) (run : KeptRun) : Ty
 
 -- in JSON no digit may stand behind a 0 at the beginning
 abbrev pub IsLoneZero : Notation → ℕ → Bool → Type 0
-IsLoneZero notation b lone = (lone ≡ true → (notation ≡ Json) × (b ≡ 0x30)) × (lone ≡ false → notation ≡ Json → (b == 0x30) ≡ false)
+IsLoneZero notation b lone = (lone ≡ true → (notation ≡ Json) × (b ≡ 0x30)) × (lone ≡ false → notation ≡ Json
+    → (b == 0x30) ≡ false)
 
 -- how the digits before the point stand
 abbrev pub IsLead : Notation → List ℕ → ℕ → ℕ → Type 0
 IsLead notation w from end =
     ((end ≡ from) × (from < length w → is_digit (slice_index w from) ≡ false))
     ⊎ (((notation ≡ Json) × (end ≡ from + 1) × (slice_index w from ≡ 0x30))
-    ⊎ ((from < end) × (notation ≡ Json → (slice_index w from == 0x30) ≡ false) × (end < length w → is_digit (slice_index w end) ≡ false)))
+    ⊎ ((from < end) × (notation ≡ Json → (slice_index w from == 0x30) ≡ false)
+    × (end < length w → is_digit (slice_index w end) ≡ false)))
 
 pub record ReadsLead (notation : Notation) (w : List ℕ) (from : ℕ) (run : DigitsRun) : Type 0 where
   pub order : from ≤ run.end
@@ -96,7 +104,8 @@ pub record ReadsWhole (notation : Notation) (w : List ℕ) (read : Mantissa) : T
   pub state : State
   pub reads : Reads notation w read.end state
   pub ends : accepts state ≡ read.is_number
-  pub next : read.end < length w → step notation state (slice_index w read.end) ≡ after_lead notation read.is_number (slice_index w read.end)
+  pub next : read.end < length w → step notation state (slice_index w read.end) ≡ after_lead notation read.is_number
+      (slice_index w read.end)
   pub sign : List ℕ
   pub whole : List ℕ
   pub text : take read.end w ≡ sign ++ whole
@@ -109,7 +118,8 @@ pub record ReadsWhole (notation : Notation) (w : List ℕ) (read : Mantissa) : T
 
 -- whether a point stands behind the digits and may stand there
 abbrev pub may_take_point : Notation → List ℕ → Mantissa → Bool
-may_take_point notation w read = nat_lt read.end (length w) && ((slice_index w read.end == 0x2E) && (read.is_number || is_wkt notation))
+may_take_point notation w read =
+    nat_lt read.end (length w) && ((slice_index w read.end == 0x2E) && (read.is_number || is_wkt notation))
 
 -- the parts of a number before its exponent
 abbrev pub IsFrontOf : Notation → List ℕ → List ℕ → Option (List ℕ) → Type 0
@@ -139,7 +149,8 @@ pub record ReadsMantissa (notation : Notation) (w : List ℕ) (read : Mantissa) 
   pub state : State
   pub reads : Reads notation w read.end state
   pub ends : accepts state ≡ read.is_number
-  pub next : read.end < length w → step notation state (slice_index w read.end) ≡ after_mantissa read.is_number (slice_index w read.end)
+  pub next : read.end < length w → step notation state (slice_index w read.end)
+      ≡ after_mantissa read.is_number (slice_index w read.end)
   pub parts : read.is_number ≡ true → IsMantissaOf notation w read
   pub dropped : read.digits.dropped ≤ read.end
   pub fits : read.digits.kept < 10 ^ 19
@@ -154,7 +165,8 @@ pub record IsKeptFront (notation : Notation) (w : List ℕ) (read : Mantissa) : 
 
 -- a number up to its exponent ends there, with so many digits behind its point
 abbrev pub IsExtent : Notation → List ℕ → Extent → Type 0
-IsExtent notation w extent = (front : Mantissa) × IsKeptFront notation w front × (front.end ≡ extent.end) × (front.fraction ≡ extent.fraction) × (extent.end < 32)
+IsExtent notation w extent = (front : Mantissa) × IsKeptFront notation w front × (front.end ≡ extent.end)
+    × (front.fraction ≡ extent.fraction) × (extent.end < 32)
 
 -- a number of so many bytes, of which so many are digits behind its point, is not out of range, and is whole or rounded
 abbrev pub SurelyFits : ℕ → ℕ → ℕ → Coords → Type 0

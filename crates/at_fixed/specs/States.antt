@@ -1,6 +1,7 @@
--- The places within a number, and what each byte does there. Only contracts of private functions cite them: that this machine
--- reads just the numbers of a notation is proved of the grammar in Numerals.
-use Rattle.std.specs.Prelude.{◌≡◌, ℕ, ◌≤◌, List, [], ◌∷◌, length, take, Bool, true, false, ◌&&◌, nat_le, ◌==◌, if◌then◌else◌, Option, Some, None}
+-- The places within a number, and what each byte does there. Only contracts of private functions cite them: that this
+-- machine reads just the numbers of a notation is proved of the grammar in Numerals.
+use Rattle.std.specs.Prelude.{◌≡◌, ℕ, ◌≤◌, List, [], ◌∷◌, length, take, Bool, true, false, ◌&&◌, nat_le, ◌==◌}
+use Rattle.std.specs.Prelude.{if◌then◌else◌, Option, Some, None}
 use Rattle.at_text.specs.Texts.{is_digit, is_one_of}
 use Rattle.at_text.proofs.Machine.{run}
 use Rattle.at_fixed.specs.declared.notation.Notation.{Notation}

@@ -1,6 +1,7 @@
 //! What is kept of decimal digits, read one by one.
 
-ghost use Rattle.std.specs.Prelude.{◌≡◌, ℕ, ◌+◌, ◌-◌, ◌^◌, ◌<◌, ◌≤◌, Bool, IsTrue, true, false, nat_lt, length, slice_index};
+ghost use Rattle.std.specs.Prelude.{◌≡◌, ℕ, ◌+◌, ◌-◌, ◌^◌, ◌<◌, ◌≤◌, Bool, IsTrue, true, false, nat_lt, length};
+ghost use Rattle.std.specs.Prelude.{slice_index};
 ghost use Rattle.at_text.specs.Texts.{is_digit as digit_test};
 ghost use Rattle.at_fixed.specs.Numerals.{AreDigits};
 ghost use Rattle.at_fixed.specs.Kept.{part, digits_behind, Keeps, SameOrHuge};
@@ -44,7 +45,8 @@ pub fn keep_single_digits(text: &[u8], from: usize, before: u64) -> (usize, u64)
     ensures digits { AreDigits (part text.now from result.0) }
     ensures value { result.1 ≡ digits_behind before (part text.now from result.0) }
     ensures fits { result.1 < 10 ^ 19 }
-    ensures stops { result.0 < length text.now → digit_test (slice_index text.now result.0) ≡ true → 10 ^ 18 ≤ result.1 }
+    ensures stops { result.0 < length text.now → digit_test (slice_index text.now result.0) ≡ true
+        → 10 ^ 18 ≤ result.1 }
     ensures full { 10 ^ 18 ≤ before → result.0 ≡ from }
 {
     let mut kept = before;
@@ -75,7 +77,8 @@ fn keep_more_digits(text: &[u8], from: usize, before: u64) -> (usize, u64)
     ensures digits { AreDigits (part text.now from result.0) }
     ensures value { result.1 ≡ digits_behind before (part text.now from result.0) }
     ensures fits { result.1 < 10 ^ 19 }
-    ensures stops { result.0 < length text.now → digit_test (slice_index text.now result.0) ≡ true → 10 ^ 18 ≤ result.1 }
+    ensures stops { result.0 < length text.now → digit_test (slice_index text.now result.0) ≡ true
+        → 10 ^ 18 ≤ result.1 }
     ensures full { 10 ^ 18 ≤ before → result.0 ≡ from }
 {
     let mut kept = before;
@@ -113,9 +116,11 @@ fn keep_digits(text: &[u8], from: usize, before: u64) -> KeptRun
     ensures digits { AreDigits (part text.now from result.end) }
     ensures value { result.kept ≡ digits_behind before (part text.now from result.end) }
     ensures fits { result.kept < 10 ^ 19 }
-    ensures stops { result.end < length text.now → digit_test (slice_index text.now result.end) ≡ true → 10 ^ 18 ≤ result.kept }
+    ensures stops { result.end < length text.now → digit_test (slice_index text.now result.end) ≡ true
+        → 10 ^ 18 ≤ result.kept }
     ensures full { 10 ^ 18 ≤ before → result.end ≡ from }
-    ensures whole { IsTrue result.is_whole → result.end < length text.now → digit_test (slice_index text.now result.end) ≡ false }
+    ensures whole { IsTrue result.is_whole → result.end < length text.now → digit_test (slice_index text.now result.end)
+        ≡ false }
 {
     if text.len() - from >= 8 {
         let (count, value) = leading_digits(text, from);
@@ -152,7 +157,8 @@ fn drop_digits(text: &[u8], from: usize, before: bool) -> (usize, bool)
     ensures within { result.0 ≤ length text.now }
     ensures digits { AreDigits (part text.now from result.0) }
     ensures stops { result.0 < length text.now → digit_test (slice_index text.now result.0) ≡ false }
-    ensures cut { (rest : ℕ) → before ≡ nat_lt 0 rest → result.1 ≡ nat_lt 0 (digits_behind rest (part text.now from result.0)) }
+    ensures cut { (rest : ℕ) → before ≡ nat_lt 0 rest
+        → result.1 ≡ nat_lt 0 (digits_behind rest (part text.now from result.0)) }
 {
     let mut is_cut = before;
     let mut end = from;

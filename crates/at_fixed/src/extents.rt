@@ -49,7 +49,8 @@ fn lead_end(text: &[u8], gaps: u64, from: usize, notation: Notation) -> Option<u
     requires long { 32 ≤ length text.now }
     requires gaps { MarksGapsFrom text.now 32 from gaps }
     requires few { from < 32 }
-    ensures run { IfSome result (λ end. EndsRun text.now from end × (end < 32) × (from < end) × IsLead notation text.now from end) }
+    ensures run { IfSome result (λ end. EndsRun text.now from end × (end < 32) × (from < end)
+        × IsLead notation text.now from end) }
     ensures first { IfSome result (λ end. IsFirstSet gaps 0 end × (0 < gaps)) }
 {
     let end = digits_end(text, gaps, from)?;
@@ -66,7 +67,8 @@ fn pointed_extent(text: &[u8], gaps: u64, point: usize) -> Option<Extent>
     requires long { 32 ≤ length text.now }
     requires gaps { MarksGapsFrom text.now 32 (point + 1) gaps }
     requires few { point < 32 }
-    ensures { IfSome result (λ extent. EndsRun text.now (point + 1) extent.end × (extent.end ≡ point + 1 + extent.fraction)
+    ensures { IfSome result (λ extent. EndsRun text.now (point + 1) extent.end
+        × (extent.end ≡ point + 1 + extent.fraction)
         × (0 < extent.fraction) × (extent.end ≤ 20)) }
 {
     let end = digits_end(text, gaps, point + 1)?;

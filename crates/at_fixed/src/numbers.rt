@@ -65,7 +65,10 @@ pub fn wkt_number(text: &[u8]) -> Taken
 #[inline(never)]
 fn any_number(text: &[u8], notation: Notation, digits: u8, how: Coords) -> LeadingNumber
     requires { length text.now ≤ 2 ^ 28 }
-    ensures taken { TakesLongest (NumberOf notation) text.now (record { len = result.len; whole = is_some result.value }) }
+    ensures taken { TakesLongest (NumberOf notation) text.now (record {
+      len = result.len;
+      whole = is_some result.value;
+    }) }
     ensures value { IfSome result.value (λ value. IsFixedOf (take result.len text.now) digits how value) }
 {
     let scanned = scan(text, notation);
@@ -85,7 +88,10 @@ fn any_number(text: &[u8], notation: Notation, digits: u8, how: Coords) -> Leadi
 fn far_number(text: &[u8], notation: Notation, digits: u8, how: Coords) -> Option<PlainNumber>
     requires short { length text.now ≤ 2 ^ 28 }
     requires long { 16 ≤ length text.now }
-    ensures taken { IfSome result (λ number. TakesLongest (NumberOf notation) text.now (record { len = number.len; whole = true })) }
+    ensures taken { IfSome result (λ number. TakesLongest (NumberOf notation) text.now (record {
+      len = number.len;
+      whole = true;
+    })) }
     ensures value { IfSome result (λ number. IsFixedOf (take number.len text.now) digits how (Ok number.value)) }
 {
     let scanned = scan_far(text, notation)?;
@@ -102,7 +108,10 @@ fn far_number(text: &[u8], notation: Notation, digits: u8, how: Coords) -> Optio
 #[inline(never)]
 fn near_number(text: &[u8], notation: Notation, digits: u8, how: Coords) -> Option<PlainNumber>
     requires { length text.now ≤ 2 ^ 28 }
-    ensures taken { IfSome result (λ number. TakesLongest (NumberOf notation) text.now (record { len = number.len; whole = true })) }
+    ensures taken { IfSome result (λ number. TakesLongest (NumberOf notation) text.now (record {
+      len = number.len;
+      whole = true;
+    })) }
     ensures value { IfSome result (λ number. IsFixedOf (take number.len text.now) digits how (Ok number.value)) }
 {
     let scanned = scan_near(text, notation)?;
@@ -115,12 +124,15 @@ fn near_number(text: &[u8], notation: Notation, digits: u8, how: Coords) -> Opti
     }
 }
 
-/// The number that begins a text, where it has a value and is written plainly: some digits, a point with some digits behind
-/// it or none, and no exponent. For some numbers it answers None. It takes no memory.
+/// The number that begins a text, where it has a value and is written plainly: some digits, a point with some digits
+/// behind it or none, and no exponent. For some numbers it answers None. It takes no memory.
 #[inline(always)]
 pub fn plain_number(text: &[u8], notation: Notation, digits: u8, how: Coords) -> Option<PlainNumber>
     requires { length text.now ≤ 2 ^ 28 }
-    ensures taken { IfSome result (λ number. TakesLongest (NumberOf notation) text.now (record { len = number.len; whole = true })) }
+    ensures taken { IfSome result (λ number. TakesLongest (NumberOf notation) text.now (record {
+      len = number.len;
+      whole = true;
+    })) }
     ensures value { IfSome result (λ number. IsFixedOf (take number.len text.now) digits how (Ok number.value)) }
 {
     if text.len() >= 16
@@ -131,12 +143,13 @@ pub fn plain_number(text: &[u8], notation: Notation, digits: u8, how: Coords) ->
     near_number(text, notation, digits, how)
 }
 
-/// The length of the number that begins a text, where it is written plainly and surely has a value: what `plain_number` tells
-/// of it but for the value, which isn't computed. For some numbers it answers None. It takes no memory.
+/// The length of the number that begins a text, where it is written plainly and surely has a value: what `plain_number`
+/// tells of it but for the value, which isn't computed. For some numbers it answers None. It takes no memory.
 #[inline(always)]
 pub fn plain_len(text: &[u8], notation: Notation, digits: u8, how: Coords) -> Option<u32>
     requires { length text.now ≤ 2 ^ 28 }
-    ensures taken { IfSome result (λ len. TakesLongest (NumberOf notation) text.now (record { len = len; whole = true })) }
+    ensures taken { IfSome result (λ len. TakesLongest (NumberOf notation) text.now
+        (record { len = len; whole = true })) }
     ensures value { IfSome result (λ len. (value : ℤ) × IsFixedOf (take len text.now) digits how (Ok value)) }
 {
     if text.len() < 32 {
@@ -152,7 +165,10 @@ pub fn plain_len(text: &[u8], notation: Notation, digits: u8, how: Coords) -> Op
 #[inline(always)]
 pub fn leading_number(text: &[u8], notation: Notation, digits: u8, how: Coords) -> LeadingNumber
     requires { length text.now ≤ 2 ^ 28 }
-    ensures taken { TakesLongest (NumberOf notation) text.now (record { len = result.len; whole = is_some result.value }) }
+    ensures taken { TakesLongest (NumberOf notation) text.now (record {
+      len = result.len;
+      whole = is_some result.value;
+    }) }
     ensures value { IfSome result.value (λ value. IsFixedOf (take result.len text.now) digits how value) }
 {
     match plain_number(text, notation, digits, how) {

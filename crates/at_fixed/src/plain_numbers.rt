@@ -1,10 +1,12 @@
-//! Numbers as they mostly are: some digits, a point with some digits behind it or none, no exponent, and few enough digits
-//! that all of them are kept. What is written otherwise is left to `scanning`.
+//! Numbers as they mostly are: some digits, a point with some digits behind it or none, no exponent, and few enough
+//! digits that all of them are kept. What is written otherwise is left to `scanning`.
 
-ghost use Rattle.std.specs.Prelude.{◌≡◌, ◌+◌, ◌^◌, ◌<◌, ◌≤◌, ◌&&◌, ◌-◌, IfSome, IsTrue, true, false, nat_lt, length, slice_index};
+ghost use Rattle.std.specs.Prelude.{◌≡◌, ◌+◌, ◌^◌, ◌<◌, ◌≤◌, ◌&&◌, ◌-◌, IfSome, IsTrue, true, false, nat_lt, length};
+ghost use Rattle.std.specs.Prelude.{slice_index};
 ghost use Rattle.at_fixed.specs.Numerals.{AreDigits};
 ghost use Rattle.at_fixed.specs.Kept.{part};
-ghost use Rattle.at_fixed.specs.Scans.{EndsRun, IsLoneZero, KeepsFar, KeepsRun, KeepsTo, ReadsSign, ReadsLead, ReadsWhole, ReadsMantissa, ReadsPower, may_take_point};
+ghost use Rattle.at_fixed.specs.Scans.{EndsRun, IsLoneZero, KeepsFar, KeepsRun, KeepsTo, ReadsSign, ReadsLead};
+ghost use Rattle.at_fixed.specs.Scans.{ReadsWhole, ReadsMantissa, ReadsPower, may_take_point};
 ghost use Rattle.at_fixed.specs.Scanned.{IsScanned};
 ghost use Rattle.at_fixed.specs.Gaps.{MarksGaps};
 ghost use Rattle.at_fixed.specs.States.{is_letter};
@@ -93,7 +95,8 @@ pub fn is_lone_zero(text: &[u8], at: usize, notation: Notation) -> bool
 fn lead_of(text: &[u8], from: usize, run: KeptRun, notation: Notation) -> Option<DigitsRun>
     requires { KeepsRun text.now from 0 run }
     ensures reads { IfSome result (λ lead. ReadsLead notation text.now from lead × (from < lead.end)) }
-    ensures same { IfSome result (λ lead. (lead.end ≡ run.end) × (lead.digits ≡ record { kept = run.kept; dropped = 0; is_cut = false })) }
+    ensures same { IfSome result (λ lead. (lead.end ≡ run.end)
+        × (lead.digits ≡ record { kept = run.kept; dropped = 0; is_cut = false })) }
 {
     if !run.is_whole || run.end == from {
         return None;
@@ -117,7 +120,8 @@ fn whole_of(text: &[u8], sign: Sign, run: KeptRun, notation: Notation) -> Option
     requires sign { ReadsSign notation text.now 0 sign }
     requires run { KeepsRun text.now sign.end 0 run }
     ensures reads { IfSome result (λ whole. ReadsWhole notation text.now whole × (whole.is_number ≡ true)) }
-    ensures same { IfSome result (λ whole. (whole.end ≡ run.end) × (whole.digits ≡ record { kept = run.kept; dropped = 0; is_cut = false })) }
+    ensures same { IfSome result (λ whole. (whole.end ≡ run.end)
+        × (whole.digits ≡ record { kept = run.kept; dropped = 0; is_cut = false })) }
 {
     let lead = lead_of(text, sign.end, run, notation)?;
     Some(Mantissa {
@@ -137,7 +141,8 @@ fn front_of(text: &[u8], whole: Mantissa, run: KeptRun, notation: Notation) -> O
     requires run { KeepsRun text.now (whole.end + 1) whole.digits.kept run }
     requires all { run.is_whole ≡ true }
     ensures reads { IfSome result (λ front. ReadsMantissa notation text.now front × (front.is_number ≡ true)) }
-    ensures same { IfSome result (λ front. (front.end ≡ run.end) × (front.digits.kept ≡ run.kept) × (front.digits.dropped ≡ whole.digits.dropped)) }
+    ensures same { IfSome result (λ front. (front.end ≡ run.end) × (front.digits.kept ≡ run.kept)
+        × (front.digits.dropped ≡ whole.digits.dropped)) }
 {
     let point = whole.end + 1;
     if run.end == point {
@@ -240,8 +245,8 @@ fn keep_to(text: &[u8], from: usize, to: usize, before: u64, room: usize) -> Opt
     }
 }
 
-/// Reads all digits that stand at a place, behind the number before them, by what was seen of the first sixteen bytes. There
-/// is room for so many.
+/// Reads all digits that stand at a place, behind the number before them, by what was seen of the first sixteen bytes.
+/// There is room for so many.
 #[inline(always)]
 fn far_run(text: &[u8], gaps: u64, from: usize, before: u64, room: usize) -> Option<KeptRun>
     requires long { 16 ≤ length text.now }
@@ -259,8 +264,8 @@ fn far_run(text: &[u8], gaps: u64, from: usize, before: u64, room: usize) -> Opt
     })
 }
 
-/// Reads a number up to its exponent, whose bytes are looked at sixteen at a time: where one part of it ends doesn't wait
-/// for where the part before ends.
+/// Reads a number up to its exponent, whose bytes are looked at sixteen at a time: where one part of it ends doesn't
+/// wait for where the part before ends.
 #[inline(always)]
 fn far_front(text: &[u8], notation: Notation) -> Option<Mantissa>
     requires { 16 ≤ length text.now }
@@ -283,7 +288,8 @@ fn far_front(text: &[u8], notation: Notation) -> Option<Mantissa>
 #[inline(always)]
 fn no_power(text: &[u8], front: Mantissa) -> Option<Power>
     requires { front.is_number ≡ true }
-    ensures { IfSome result (λ power. ReadsPower text.now front power × (power.is_number ≡ true) × (power.end ≡ front.end)) }
+    ensures { IfSome result (λ power. ReadsPower text.now front power × (power.is_number ≡ true)
+        × (power.end ≡ front.end)) }
 {
     if letter_stands(text, front.end) {
         return None;

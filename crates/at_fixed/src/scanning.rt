@@ -1,7 +1,9 @@
 //! Any number, read up to its end: its sign, its digits, its fraction and its exponent.
 
-ghost use Rattle.std.specs.Prelude.{◌≡◌, ℕ, ◌^◌, ◌<◌, ◌≤◌, ◌==◌, ◌&&◌, ◌||◌, nat_lt, IsTrue, if◌then◌else◌, length, slice_index, take};
-ghost use Rattle.at_fixed.specs.Scans.{ReadsSign, ReadsLead, ReadsWhole, ReadsMantissa, ReadsPower, may_take_point, is_wkt};
+ghost use Rattle.std.specs.Prelude.{◌≡◌, ℕ, ◌^◌, ◌<◌, ◌≤◌, ◌==◌, ◌&&◌, ◌||◌, nat_lt, IsTrue, if◌then◌else◌, length};
+ghost use Rattle.std.specs.Prelude.{slice_index, take};
+ghost use Rattle.at_fixed.specs.Scans.{ReadsSign, ReadsLead, ReadsWhole, ReadsMantissa, ReadsPower, may_take_point};
+ghost use Rattle.at_fixed.specs.Scans.{is_wkt};
 ghost use Rattle.at_fixed.specs.Scanned.{IsScanned, both_halves};
 
 use crate::digits::{Digits, DigitsRun, read_digits, read_power};

@@ -1,8 +1,10 @@
 //! The value in whole units of what was read of a number.
 
-ghost use Rattle.std.specs.Prelude.{◌≡◌, ℕ, ◌+◌, ◌*◌, ◌/◌, ◌%◌, ◌^◌, ◌<◌, ◌≤◌, ◌==◌, ◌&&◌, ◌||◌, nat_lt, if◌then◌else◌, pos, neg_ℤ, length, IfOk};
+ghost use Rattle.std.specs.Prelude.{◌≡◌, ℕ, ◌+◌, ◌*◌, ◌/◌, ◌%◌, ◌^◌, ◌<◌, ◌≤◌, ◌==◌, ◌&&◌, ◌||◌, nat_lt, if◌then◌else◌};
+ghost use Rattle.std.specs.Prelude.{pos, neg_ℤ, length, IfOk};
 ghost use Rattle.at_fixed.specs.Numerals.{Numeral};
-ghost use Rattle.at_fixed.specs.Fixed.{largest, quotient, size_of as the_size, fixed_of, mantissa, fraction_digits, exponent_above, exponent_below};
+ghost use Rattle.at_fixed.specs.Fixed.{largest, quotient, size_of as the_size, fixed_of, mantissa, fraction_digits};
+ghost use Rattle.at_fixed.specs.Fixed.{exponent_above, exponent_below};
 ghost use Rattle.at_fixed.specs.Decimals.{IsDecimalOf};
 
 use crate::powers::power_of_ten;
@@ -16,7 +18,8 @@ const LARGEST: u64 = 300_000_000_000_000;
 #[inline(always)]
 fn enlarged(kept: u64, shift: u64) -> Result<u64, FixedFault>
     requires { 0 < kept }
-    ensures value { result ≡ (if nat_lt largest (kept * 10 ^ shift) then Err FixedFault.Range else Ok (kept * 10 ^ shift)) }
+    ensures value { result ≡ (if nat_lt largest (kept * 10 ^ shift) then Err FixedFault.Range
+        else Ok (kept * 10 ^ shift)) }
     ensures bound { IfOk result (λ size. size ≤ largest) }
 {
     if shift > 14 {
@@ -62,7 +65,8 @@ fn is_up(whole: u64, rest: u64, half: u64, is_cut: bool) -> bool
 fn rounded(whole: u64, rest: u64, half: u64, is_cut: bool) -> Result<u64, FixedFault>
     requires whole_fits { whole < 10 ^ 19 }
     requires rest_fits { rest < 10 ^ 19 }
-    ensures value { let near = if nat_lt half rest || ((rest == half) && (is_cut || (whole % 2 == 1))) then whole + 1 else whole in
+    ensures value { let near = if nat_lt half rest || ((rest == half) && (is_cut || (whole % 2 == 1))) then whole + 1
+        else whole in
         result ≡ (if nat_lt largest near then Err FixedFault.Range else Ok near) }
     ensures bound { IfOk result (λ size. size ≤ largest) }
 {

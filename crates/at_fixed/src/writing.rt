@@ -1,6 +1,7 @@
 //! The text of a value.
 
-ghost use Rattle.std.specs.Prelude.{◌≡◌, ◌+◌, ◌/◌, ◌%◌, ◌^◌, [], ◌∷◌, ◌++◌, true, false, IfOk, OnOk, string_bytes, decimal};
+ghost use Rattle.std.specs.Prelude.{◌≡◌, ◌+◌, ◌/◌, ◌%◌, ◌^◌, [], ◌∷◌, ◌++◌, true, false, IfOk, OnOk, string_bytes};
+ghost use Rattle.std.specs.Prelude.{decimal};
 ghost use Rattle.at_fixed.specs.Fixed.{last_digits, written};
 
 use crate::powers::power_of_ten;

@@ -1,5 +1,6 @@
 -- What is kept of a value of a text in each role, and that it is what the definitions read of the value in that role.
-use Rattle.std.specs.Prelude.{◌≡◌, ◌⊎◌, ℕ, ℤ, pos, Bool, true, false, if◌then◌else◌, nat_lt, List, [], ◌∷◌, All, map, flat_map, length, Option, Some, None, is_some, option_and_then, Result, Ok, Err}
+use Rattle.std.specs.Prelude.{◌≡◌, ◌⊎◌, ℕ, ℤ, pos, Bool, true, false, if◌then◌else◌, nat_lt, List, [], ◌∷◌, All, map}
+use Rattle.std.specs.Prelude.{flat_map, length, Option, Some, None, is_some, option_and_then, Result, Ok, Err}
 use Rattle.std.specs.Bool.{⊤}
 use Rattle.std.specs.List.{list_any}
 use Rattle.std.specs.declared.boxed.Box.{Box}
@@ -13,7 +14,8 @@ use Rattle.at_geom.specs.declared.shapes.Polygon.{Polygon}
 use Rattle.at_geom.specs.declared.shapes.Shape.{Shape}
 use Rattle.at_geom.specs.Segments.{IsInRange}
 use Rattle.at_geom.specs.Shapes.{line_fault, ring_fault, ArePathsInRange, ArePolygonsInRange, IsShapeInRange}
-use Rattle.at_wkt.specs.Positions.{Position, Positions, last_of, is_faultless, number_fault, value_of, position_faults, items_faults, faults_of_line, faults_of_ring, pos_of, path_of}
+use Rattle.at_wkt.specs.Positions.{Position, Positions, last_of, is_faultless, number_fault, value_of, position_faults}
+use Rattle.at_wkt.specs.Positions.{items_faults, faults_of_line, faults_of_ring, pos_of, path_of}
 use Rattle.at_wkt.specs.Meaning.{empty_shape, polygons_of, faults_of_area}
 use Rattle.at_nest.specs.Tree.{Tree, literal, array, object, Trees, Members, offset_of}
 use Rattle.at_nest.specs.Folds.{trees}
@@ -37,7 +39,8 @@ use Rattle.at_geojson.specs.declared.atoms.Track.{Track}
 use Rattle.at_geojson.specs.declared.atoms.TrackAtom.{TrackAtom}
 use Rattle.at_geojson.specs.Names.{units_of_text, kind_of_text, items_of}
 use Rattle.at_geojson.specs.Coordinates.{each, number_at, position_of, positions_of, lists_of, areas_of, area_of}
-use Rattle.at_geojson.specs.Roles.{Reading, Features, geometry_reading, items_reading, item_reading, all_features, root_reading, texts_of}
+use Rattle.at_geojson.specs.Roles.{Reading, Features, geometry_reading, items_reading, item_reading, all_features}
+use Rattle.at_geojson.specs.Roles.{root_reading, texts_of}
 use Rattle.at_geojson.specs.Keeping.{Asked, needs_shapes, asks_value, asked_texts, kept, kept_shape}
 
 -- ---- what an atom keeps, by roles
@@ -265,10 +268,12 @@ module _ (asked : Asked) where
   needs = needs_shapes asked.query
 
   abbrev pub IsNumber : NumberView → Numeral × ℕ → Type 0
-  IsNumber v n = (v.fault ≡ first_of (number_fault asked.digits asked.how n.0 n.1)) × (v.fault ≡ None → v.value ≡ value_of asked.digits asked.how n.0)
+  IsNumber v n = (v.fault ≡ first_of (number_fault asked.digits asked.how n.0 n.1))
+      × (v.fault ≡ None → v.value ≡ value_of asked.digits asked.how n.0)
 
   abbrev pub IsPosition : PositionView → Position → Type 0
-  IsPosition v p = (v.fault ≡ first_of (position_faults asked.digits asked.how p)) × (v.fault ≡ None → v.pos ≡ pos_of asked.digits asked.how p)
+  IsPosition v p = (v.fault ≡ first_of (position_faults asked.digits asked.how p))
+      × (v.fault ≡ None → v.pos ≡ pos_of asked.digits asked.how p)
 
   pub record IsPoints (v : PointsView) (ps : Positions) : Type 0 where
     pub as_points : v.as_points ≡ first_of (items_faults asked.digits asked.how ps.items)
@@ -317,13 +322,16 @@ module _ (asked : Asked) where
 
   -- an array's items as geometries and as features; of an empty one nothing is kept as features
   pub record AreItems (a : GeoAtom) (t : Tree) : Type 0 where
-    pub geometries : Alike (λ r ts. HasShape needs r (items_reading asked.digits asked.how ts)) (as_geometries a) (array_trees t)
-    pub features : is_empty a ≡ false → Alike (λ r ts. HasPart asked.query r (items_features ts)) (as_features a) (array_trees t)
+    pub geometries : Alike (λ r ts. HasShape needs r (items_reading asked.digits asked.how ts)) (as_geometries a)
+        (array_trees t)
+    pub features : is_empty a ≡ false
+        → Alike (λ r ts. HasPart asked.query r (items_features ts)) (as_features a) (array_trees t)
 
   -- by the role, what the object is as the whole text
   abbrev pub IsRoot : ℕ → Role → Tree → Type 0
   IsRoot at roles.Nothing t = (root_reading asked.digits asked.how t).faults ≡ fault_at Form at ∷ []
-  IsRoot at (roles.Geometry (Ok shape)) t = (feature : Feature) × (root_reading asked.digits asked.how t ≡ record { features = feature ∷ []; faults = [] })
+  IsRoot at (roles.Geometry (Ok shape)) t = (feature : Feature)
+      × (root_reading asked.digits asked.how t ≡ record { features = feature ∷ []; faults = [] })
       × (feature.at ≡ at) × (shape ≡ kept_shape needs feature.shape) × (feature.texts ≡ [])
   IsRoot at (roles.Geometry (Err fault)) t = first_of (root_reading asked.digits asked.how t).faults ≡ Some fault
   IsRoot at (roles.Feature p) t = HasPart asked.query p (root_reading asked.digits asked.how t)
@@ -333,7 +341,8 @@ module _ (asked : Asked) where
   pub record IsObject (a : GeoAtom) (t : Tree) : Type 0 where
     pub geometry : HasShape needs (role_geometry (at_of a) (role_of a)) (geometry_reading asked.digits asked.how t)
     pub item : HasPart asked.query (role_item (at_of a) (role_of a)) (item_reading asked.digits asked.how t)
-    pub texts : Alike (λ kept_texts ms. kept_texts ≡ asked_texts asked.query.tests (texts_of ms)) (as_texts a) (object_members t)
+    pub texts : Alike (λ kept_texts ms. kept_texts ≡ asked_texts asked.query.tests (texts_of ms)) (as_texts a)
+        (object_members t)
     pub root : IsRoot (at_of a) (role_of a) t
 
   -- the string where a test asks for it
@@ -399,11 +408,13 @@ module _ (asked : Asked) where
   IsOwn _ = ⊤
 
   abbrev pub HaveItems : Items → Trees → Type 0
-  HaveItems items ts = HasShape needs items.geometries (items_reading asked.digits asked.how ts) × HasPart asked.query items.features (items_features ts)
+  HaveItems items ts = HasShape needs items.geometries (items_reading asked.digits asked.how ts)
+      × HasPart asked.query items.features (items_features ts)
 
   -- ---- several values one behind another in an array
 
-  -- no object of them has equal names, and some of them is an object, so that an array in which they stand is no coordinates
+  -- no object of them has equal names, and some of them is an object, so that an array in which they stand is no
+  -- coordinates
   pub record AreJoined (items : Items) (ts : List Tree) : Type 0 where
     pub twins : first_of (twins_of_items (trees ts)) ≡ None
     pub some : list_any is_object_tree ts ≡ true

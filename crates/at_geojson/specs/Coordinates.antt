@@ -5,7 +5,8 @@ use Rattle.at_wkt.specs.Positions.{Position, Positions}
 use Rattle.at_wkt.specs.Geometry as wkt
 use Rattle.at_nest.specs.Tree.{Tree, number, array, no_trees, offset_of}
 use Rattle.at_geojson.specs.declared.kinds.Kind.{Kind}
-use Rattle.at_geojson.specs.declared.kinds.Kind.TheVariants.{Point, MultiPoint, LineString, MultiLineString, Polygon, MultiPolygon}
+use Rattle.at_geojson.specs.declared.kinds.Kind.TheVariants.{Point, MultiPoint, LineString, MultiLineString, Polygon}
+use Rattle.at_geojson.specs.declared.kinds.Kind.TheVariants.{MultiPolygon}
 use Rattle.at_geojson.specs.Names.{items_of}
 
 -- what f gives of each item, where it gives something of all
@@ -31,7 +32,8 @@ position_of t = option_and_then position_of_numbers (option_and_then (each numbe
 
 -- an array of positions, of arrays of positions, and so on
 abbrev pub positions_of : Tree → Option Positions
-positions_of t = option_map (λ items. record { at = offset_of t; items = items }) (option_and_then (each position_of) (array_items t))
+positions_of t = option_map (λ items. record { at = offset_of t; items = items })
+    (option_and_then (each position_of) (array_items t))
 
 abbrev pub lists_of : Tree → Option (List Positions)
 lists_of t = option_and_then (each positions_of) (array_items t)
@@ -49,14 +51,16 @@ areas_of t = option_and_then (each area_of) (array_items t)
 -- the geometry that coordinates of the kind's form are; an empty array of coordinates doesn't come here
 abbrev pub geometry_of_form : Kind → Tree → Option wkt.Geometry
 geometry_of_form Point t = option_map (λ p. wkt.point (Some p)) (position_of t)
-geometry_of_form MultiPoint t = option_map (λ (ps : Positions). wkt.multi_point (map (λ p. Some p) ps.items)) (positions_of t)
+geometry_of_form MultiPoint t = option_map (λ (ps : Positions). wkt.multi_point (map (λ p. Some p) ps.items))
+    (positions_of t)
 geometry_of_form LineString t = option_map (λ ps. wkt.line_string (Some ps)) (positions_of t)
 geometry_of_form MultiLineString t = option_map (λ ls. wkt.multi_line_string (map (λ l. Some l) ls)) (lists_of t)
 geometry_of_form Polygon t = option_map (λ rings. wkt.polygon rings) (lists_of t)
 geometry_of_form MultiPolygon t = option_map (λ areas. wkt.multi_polygon areas) (areas_of t)
 geometry_of_form _ t = None
 
--- the geometry of a kind with these coordinates, where they have the kind's form; an empty array is empty in every kind (RFC 7946 section 3.1)
+-- the geometry of a kind with these coordinates, where they have the kind's form; an empty array is empty in every kind
+-- (RFC 7946 section 3.1)
 abbrev pub geometry_of : Kind → Tree → Option wkt.Geometry
 geometry_of kind (array i no_trees) = Some (wkt.collection wkt.no_geometries)
 geometry_of kind t = geometry_of_form kind t

@@ -20,13 +20,15 @@ use Rattle.at_geojson.specs.declared.atoms.GeoAtom.TheVariants as atoms
 use Rattle.at_geojson.specs.Atoms.{unboxed}
 
 abbrev pub SamePoints : Points → Points → Type 0
-SamePoints x y = (y.path.items ≡ x.path.items) × (y.as_points ≡ x.as_points) × (y.as_line ≡ x.as_line) × (y.as_ring ≡ x.as_ring)
+SamePoints x y = (y.path.items ≡ x.path.items) × (y.as_points ≡ x.as_points) × (y.as_line ≡ x.as_line)
+    × (y.as_ring ≡ x.as_ring)
 
 abbrev pub SameLists : Lists → Lists → Type 0
 SameLists x y = (y.paths.items ≡ x.paths.items) × (y.as_lines ≡ x.as_lines) × (y.as_rings ≡ x.as_rings)
 
 abbrev pub SameTrack : Track → Track → Type 0
-SameTrack x y = (y.first ≡ x.first) × (y.last ≡ x.last) × (y.count ≡ x.count) × (y.fault ≡ x.fault) × (y.path.items ≡ x.path.items)
+SameTrack x y = (y.first ≡ x.first) × (y.last ≡ x.last) × (y.count ≡ x.count) × (y.fault ≡ x.fault)
+    × (y.path.items ≡ x.path.items)
 
 abbrev pub SameAreas : Areas → Areas → Type 0
 SameAreas x y = (y.polygons.items ≡ x.polygons.items) × (y.fault ≡ x.fault)

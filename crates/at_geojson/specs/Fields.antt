@@ -1,5 +1,6 @@
 -- The members of an object for which some kind asks. Only contracts of private functions cite this.
-use Rattle.std.specs.Prelude.{◌≡◌, ◌⊎◌, ℕ, Bool, true, false, if◌then◌else◌, bytes_eq, codes, List, [], Option, Some, None, Result}
+use Rattle.std.specs.Prelude.{◌≡◌, ◌⊎◌, ℕ, Bool, true, false, if◌then◌else◌, bytes_eq, codes, List, [], Option, Some}
+use Rattle.std.specs.Prelude.{None, Result}
 use Rattle.std.specs.Bool.{⊤}
 use Rattle.at_text.specs.declared.faults.Fault.{Fault}
 use Rattle.at_geom.specs.declared.shapes.Shape.{Shape}
@@ -20,14 +21,19 @@ use Rattle.at_geojson.specs.declared.fields.Fields.{Fields}
 use Rattle.at_geojson.specs.Keeping.{Asked, needs_shapes}
 use Rattle.at_geojson.specs.Atoms.{as_kind, IsOwn}
 use Rattle.at_geojson.specs.Gathering.{seen}
-use Rattle.at_geojson.specs.Objects.{value_named, coordinates_shape, geometries_shape, feature_shape, texts_named, FeaturesSeen, JoinsFeature}
+use Rattle.at_geojson.specs.Objects.{value_named, coordinates_shape, geometries_shape, feature_shape, texts_named}
+use Rattle.at_geojson.specs.Objects.{FeaturesSeen, JoinsFeature}
 
 -- which of the tests is the first to hold
 abbrev pub first_field : Bool → Bool → Bool → Bool → Bool → Bool → Field
-first_field kind coordinates geometry properties features geometries = if kind then names.Kind else if coordinates then names.Coordinates else if geometry then names.Geometry else if properties then names.Properties else if features then names.Features else if geometries then names.Geometries else names.Other
+first_field kind coordinates geometry properties features geometries = if kind then names.Kind else if coordinates
+    then names.Coordinates else if geometry then names.Geometry else if properties then names.Properties
+    else if features then names.Features else if geometries then names.Geometries else names.Other
 
 abbrev pub field_of : List ℕ → Field
-field_of name = first_field (bytes_eq name (codes "type")) (bytes_eq name (codes "coordinates")) (bytes_eq name (codes "geometry")) (bytes_eq name (codes "properties")) (bytes_eq name (codes "features")) (bytes_eq name (codes "geometries"))
+field_of name = first_field (bytes_eq name (codes "type")) (bytes_eq name (codes "coordinates"))
+    (bytes_eq name (codes "geometry")) (bytes_eq name (codes "properties")) (bytes_eq name (codes "features"))
+    (bytes_eq name (codes "geometries"))
 
 abbrev pub is_kind : Field → Bool
 is_kind names.Kind = true
@@ -101,17 +107,22 @@ pub record AreOwnFields (asked : Asked) (f : Fields) : Type 0 where
 
 -- the role of a feature at the offset, of its shape and its texts
 abbrev pub IsFeatureOf : Query → ℕ → Result Shape Fault → Result (List TextPair) Fault → Role → Type 0
-IsFeatureOf query at shape texts role = (p : Result Part Fault) × (role ≡ roles.Feature p) × JoinsFeature query at shape texts p
+IsFeatureOf query at shape texts role = (p : Result Part Fault) × (role ≡ roles.Feature p)
+    × JoinsFeature query at shape texts p
 
 -- a role by the kind
 abbrev pub IsRoleIn : Query → ℕ → Option Kind → Fields → Role → Type 0
 IsRoleIn query at None f role = role ≡ roles.Nothing
-IsRoleIn query at (Some kinds.FeatureCollection) f role = (p : Result Part Fault) × (role ≡ roles.Collection p) × FeaturesSeen query at f.features p
-IsRoleIn query at (Some kinds.Feature) f role = IsFeatureOf query at (feature_shape f.geometry) (texts_named f.properties) role
+IsRoleIn query at (Some kinds.FeatureCollection) f role = (p : Result Part Fault) × (role ≡ roles.Collection p)
+    × FeaturesSeen query at f.features p
+IsRoleIn query at (Some kinds.Feature) f role =
+    IsFeatureOf query at (feature_shape f.geometry) (texts_named f.properties) role
 IsRoleIn query at (Some kinds.GeometryCollection) f role = role ≡ roles.Geometry (geometries_shape at f.geometries)
-IsRoleIn query at (Some kind) f role = role ≡ roles.Geometry (coordinates_shape (needs_shapes query) at kind f.coordinates)
+IsRoleIn query at (Some kind) f role =
+    role ≡ roles.Geometry (coordinates_shape (needs_shapes query) at kind f.coordinates)
 
 -- no kind and no texts, or both of them
 abbrev pub MakesFields : Query → ℕ → Fields → List TextPair → GeoAtom → Type 0
 MakesFields query at f texts r = ((kind_in_fields f ≡ None) × (texts ≡ []) × (r ≡ atoms.Void at))
-    ⊎ ((o : ObjectAtom) × (r ≡ atoms.Object o) × (o.at ≡ at) × (o.roles.value.texts ≡ texts) × IsRoleIn query at (kind_in_fields f) f o.roles.value.role)
+    ⊎ ((o : ObjectAtom) × (r ≡ atoms.Object o) × (o.at ≡ at) × (o.roles.value.texts ≡ texts)
+    × IsRoleIn query at (kind_in_fields f) f o.roles.value.role)

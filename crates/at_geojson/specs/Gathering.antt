@@ -1,5 +1,8 @@
--- What the private functions make of atoms one by one and of lists of them. Only contracts of private functions cite this.
-use Rattle.std.specs.Prelude.{◌≡◌, ℕ, ◌-◌, ◌==◌, min, ℤ, pos, Bool, true, false, not, ◌&&◌, ◌||◌, if◌then◌else◌, bytes_eq, nat_lt, List, [], ◌∷◌, ◌++◌, fold, map, length, Option, Some, None, is_none, is_some, slice_get}
+-- What the private functions make of atoms one by one and of lists of them. Only contracts of private functions cite
+-- this.
+use Rattle.std.specs.Prelude.{◌≡◌, ℕ, ◌-◌, ◌==◌, min, ℤ, pos, Bool, true, false, not, ◌&&◌, ◌||◌, if◌then◌else◌}
+use Rattle.std.specs.Prelude.{bytes_eq, nat_lt, List, [], ◌∷◌, ◌++◌, fold, map, length, Option, Some, None, is_none}
+use Rattle.std.specs.Prelude.{is_some, slice_get}
 use Rattle.std.specs.List.{list_all, list_any}
 use Rattle.std.specs.Ordering.{int_eq}
 use Rattle.std.specs.Prelude.{Result, Ok, Err}
@@ -23,7 +26,8 @@ use Rattle.at_geojson.specs.declared.atoms.ListsAtom.{ListsAtom}
 use Rattle.at_geojson.specs.declared.atoms.AreasAtom.{AreasAtom}
 use Rattle.at_geojson.specs.declared.sorts.Sort.{Sort}
 use Rattle.at_geojson.specs.declared.sorts.Sort.TheVariants as sorts
-use Rattle.at_geojson.specs.Atoms.{twin_of, at_of, nowhere, NumberView, PositionView, PointsView, ListsView, as_number, as_position, as_points, as_area, as_run, to_four, role_of, role_geometry, role_item}
+use Rattle.at_geojson.specs.Atoms.{twin_of, at_of, nowhere, NumberView, PositionView, PointsView, ListsView, as_number}
+use Rattle.at_geojson.specs.Atoms.{as_position, as_points, as_area, as_run, to_four, role_of, role_geometry, role_item}
 use Rattle.at_geojson.specs.Keeping.{kept}
 
 -- the first of the faults that f finds
@@ -110,7 +114,8 @@ abbrev pub position_fault : GeoAtom → Option Fault
 position_fault a = seen None (λ (v : PositionView). v.fault) (as_position a)
 
 abbrev pub position_made : ℕ → ℕ → GeoAtom → GeoAtom → Option Fault → GeoAtom
-position_made at least x y None = atoms.Position (record { at = at; least = least; pos = record { x = number_value x; y = number_value y } })
+position_made at least x y None =
+    atoms.Position (record { at = at; least = least; pos = record { x = number_value x; y = number_value y } })
 position_made at least x y (Some f) = atoms.BadPosition (record { at = at; least = least; fault = f })
 
 abbrev pub position_atom : ℕ → ℕ → GeoAtom → GeoAtom → GeoAtom
@@ -147,8 +152,10 @@ pub record MakesPoints (needs : Bool) (at least : ℕ) (items : List GeoAtom) (r
   pub least_is : atom.least ≡ least
   pub path : atom.points.value.path.items ≡ kept needs (map position_value items)
   pub as_points : atom.points.value.as_points ≡ firsts position_fault items
-  pub as_line : atom.points.value.as_line ≡ first_fault (line_fault (to_four (length items)) at) (firsts position_fault items)
-  pub as_ring : atom.points.value.as_ring ≡ first_fault (ring_fault (to_four (length items)) (closes items) at) (firsts position_fault items)
+  pub as_line : atom.points.value.as_line ≡ first_fault (line_fault (to_four (length items)) at)
+      (firsts position_fault items)
+  pub as_ring : atom.points.value.as_ring ≡ first_fault (ring_fault (to_four (length items)) (closes items) at)
+      (firsts position_fault items)
 
 -- ---- lists of positions
 

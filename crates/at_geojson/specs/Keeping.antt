@@ -1,4 +1,5 @@
--- What is asked, and what has to be kept of a text to answer it: shapes and texts that no test and no verb looks at are left out.
+-- What is asked, and what has to be kept of a text to answer it: shapes and texts that no test and no verb looks at are
+-- left out.
 use Rattle.std.specs.Prelude.{ℕ, Bool, true, false, ◌&&◌, ◌||◌, bytes_eq, List, [], filter}
 use Rattle.std.specs.List.{list_any}
 use Rattle.at_fixed.specs.declared.rounding.Coords.{Coords}
@@ -65,4 +66,8 @@ kept true xs = xs
 kept false xs = []
 
 abbrev pub kept_shape : Bool → Shape → Shape
-kept_shape needs s = record { points = kept needs s.points; lines = kept needs s.lines; polygons = kept needs s.polygons }
+kept_shape needs s = record {
+  points = kept needs s.points;
+  lines = kept needs s.lines;
+  polygons = kept needs s.polygons;
+}

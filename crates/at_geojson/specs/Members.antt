@@ -1,5 +1,6 @@
 -- The members of an object that is read at once. Only contracts of private functions cite this.
-use Rattle.std.specs.Prelude.{◌≡◌, ℕ, ◌+◌, ◌-◌, ◌≤◌, Bool, true, false, ◌||◌, bytes_eq, List, [], All, length, take, drop, None}
+use Rattle.std.specs.Prelude.{◌≡◌, ℕ, ◌+◌, ◌-◌, ◌≤◌, Bool, true, false, ◌||◌, bytes_eq, List, [], All, length, take}
+use Rattle.std.specs.Prelude.{drop, None}
 use Rattle.std.specs.List.{list_any}
 use Rattle.at_fixed.specs.Kept.{part}
 use Rattle.at_lex.specs.Strings.{AreUnitsOf}
@@ -14,7 +15,8 @@ use Rattle.at_geojson.specs.declared.pairs.Whole.{Whole}
 use Rattle.at_geojson.specs.Keeping.{Asked}
 use Rattle.at_geojson.specs.Atoms.{twin_of, IsOwn}
 use Rattle.at_geojson.specs.Gathering.{is_among, member_twins}
-use Rattle.at_geojson.specs.Fields.{field_of, put_if, is_kind, is_coordinates, is_geometry, is_properties, is_features, is_geometries, is_no_field, value_in, AreFields, MakesFields}
+use Rattle.at_geojson.specs.Fields.{field_of, put_if, is_kind, is_coordinates, is_geometry, is_properties, is_features}
+use Rattle.at_geojson.specs.Fields.{is_geometries, is_no_field, value_in, AreFields, MakesFields}
 use Rattle.at_geojson.specs.Values.{IsItem, AreMembersRead}
 
 -- the bytes between the quotes
@@ -32,7 +34,8 @@ is_named_among w names name = list_any (λ n. bytes_eq name (name_in w n)) names
 
 -- the name is one of those of members for which no kind asks
 abbrev pub is_among_others : List ℕ → OtherNames → List ℕ → Bool
-is_among_others w others name = is_named_among w (take others.count others.near) name || is_named_among w others.far.items name
+is_among_others w others name = is_named_among w (take others.count others.near) name
+    || is_named_among w others.far.items name
 
 pub record ArePlainOthers (w : List ℕ) (others : OtherNames) : Type 0 where
   pub few : others.count ≤ 4
@@ -46,7 +49,8 @@ pub record AddsName (w : List ℕ) (n : NamePlace) (old new : OtherNames) : Type
 
 -- no member before has the name, which is put to the others where no kind asks for the member
 pub record IsNewName (w : List ℕ) (fields : Fields) (old new : OtherNames) (n : FieldName) : Type 0 where
-  pub other : is_no_field n.field ≡ true → (is_among_others w old (name_in w n.place) ≡ false) × AddsName w n.place old new
+  pub other : is_no_field n.field ≡ true → (is_among_others w old (name_in w n.place) ≡ false)
+      × AddsName w n.place old new
   pub field : is_no_field n.field ≡ false → (value_in n.field fields ≡ None) × (new ≡ old)
 
 -- the atom of the fields of an object without texts, and the place behind the bracket
@@ -57,10 +61,12 @@ pub record EndsFields (asked : Asked) (at end : ℕ) (fields : Fields) (p : Whol
 
 -- a value with white space round it in which no object has equal names, of which the place behind it alone is told
 abbrev pub PassesItem : Asked → List ℕ → ℕ → ℕ → Type 0
-PassesItem asked w at end = (base : ℕ) → (a : GeoAtom) × IsItem asked base w at (record { end = end; atom = a }) × (twin_of a ≡ None)
+PassesItem asked w at end = (base : ℕ) → (a : GeoAtom) × IsItem asked base w at (record { end = end; atom = a })
+    × (twin_of a ≡ None)
 
 -- such a value as a member of an object, which is put in its place among the fields
-pub record IsFieldRead (asked : Asked) (base : ℕ) (w : List ℕ) (at : ℕ) (field : Field) (old new : Fields) (end : ℕ) : Type 0 where
+pub record IsFieldRead (asked : Asked) (base : ℕ) (w : List ℕ) (at : ℕ) (field : Field) (old new : Fields) (end : ℕ)
+    : Type 0 where
   pub atom : GeoAtom
   pub item : IsItem asked base w at (record { end = end; atom = atom })
   pub no_twin : twin_of atom ≡ None
@@ -72,10 +78,12 @@ pub record IsFieldRead (asked : Asked) (base : ℕ) (w : List ℕ) (at : ℕ) (f
   pub geometries : new.geometries ≡ put_if (is_geometries field) old.geometries atom
 
 -- between the members of an object: those before the place were read, and no name stands twice
-pub record AreFieldsRead (asked : Asked) (base : ℕ) (w : List ℕ) (at place : ℕ) (others : OtherNames) (fields : Fields) : Type 0 where
+pub record AreFieldsRead (asked : Asked) (base : ℕ) (w : List ℕ) (at place : ℕ) (others : OtherNames) (fields : Fields)
+    : Type 0 where
   pub members : List (Member GeoAtom)
   pub read : AreMembersRead asked base w at place members
   pub are : AreFields fields members
-  pub named : (name : List ℕ) → is_no_field (field_of name) ≡ true → is_among members name ≡ is_among_others w others name
+  pub named : (name : List ℕ) → is_no_field (field_of name) ≡ true
+      → is_among members name ≡ is_among_others w others name
   pub plain : ArePlainOthers w others
   pub no_twin : member_twins [] members ≡ None

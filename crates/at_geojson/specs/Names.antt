@@ -1,9 +1,11 @@
 -- Members of an object by name, and the kinds of GeoJSON (RFC 7946 sections 1.4 and 3).
-use Rattle.std.specs.Prelude.{ℕ, Bool, bytes_eq, if◌then◌else◌, codes, List, [], ◌∷◌, Option, Some, None, option_and_then}
+use Rattle.std.specs.Prelude.{ℕ, Bool, bytes_eq, if◌then◌else◌, codes, List, [], ◌∷◌, Option, Some, None}
+use Rattle.std.specs.Prelude.{option_and_then}
 use Rattle.at_lex.specs.Strings.{Character, units_of}
 use Rattle.at_nest.specs.Tree.{Tree, text, Trees, no_trees, tree_and, Members, no_members, member_and}
 use Rattle.at_geojson.specs.declared.kinds.Kind.{Kind}
-use Rattle.at_geojson.specs.declared.kinds.Kind.TheVariants.{FeatureCollection, Feature, Point, MultiPoint, LineString, MultiLineString, Polygon, MultiPolygon, GeometryCollection}
+use Rattle.at_geojson.specs.declared.kinds.Kind.TheVariants.{FeatureCollection, Feature, Point, MultiPoint, LineString}
+use Rattle.at_geojson.specs.declared.kinds.Kind.TheVariants.{MultiLineString, Polygon, MultiPolygon, GeometryCollection}
 
 -- the name's units are those of the text
 abbrev pub is_named : List ℕ → List Character → Bool

@@ -1,5 +1,6 @@
 -- What the private functions make of the members of an object. Only contracts of private functions cite this.
-use Rattle.std.specs.Prelude.{◌≡◌, ◌⊎◌, ℕ, Bool, true, false, if◌then◌else◌, bytes_eq, codes, List, [], ◌∷◌, Option, Some, None, Result, Ok, Err}
+use Rattle.std.specs.Prelude.{◌≡◌, ◌⊎◌, ℕ, Bool, true, false, if◌then◌else◌, bytes_eq, codes, List, [], ◌∷◌, Option}
+use Rattle.std.specs.Prelude.{Some, None, Result, Ok, Err}
 use Rattle.at_text.specs.Faults.{fault_at}
 use Rattle.at_text.specs.declared.faults.Fault.{Fault}
 use Rattle.at_text.specs.declared.faults.FaultKind.TheVariants.{Form}
@@ -19,7 +20,9 @@ use Rattle.at_query.specs.declared.queries.Test.{Test}
 use Rattle.at_query.specs.declared.parts.Part.{Part}
 use Rattle.at_query.specs.Parts.{IsPart}
 use Rattle.at_geojson.specs.Keeping.{kept, needs_shapes, asks_pair}
-use Rattle.at_geojson.specs.Atoms.{at_of, is_empty, is_null, as_position, as_points, as_lists, as_area, as_areas, as_kind, as_text, as_texts, as_geometries, as_features, role_geometry, role_of, PositionView, PointsView, ListsView, AreasView}
+use Rattle.at_geojson.specs.Atoms.{at_of, is_empty, is_null, as_position, as_points, as_lists, as_area, as_areas}
+use Rattle.at_geojson.specs.Atoms.{as_kind, as_text, as_texts, as_geometries, as_features, role_geometry, role_of}
+use Rattle.at_geojson.specs.Atoms.{PositionView, PointsView, ListsView, AreasView}
 use Rattle.at_geojson.specs.Gathering.{seen, IsFirst}
 
 -- the value of the first member of the name
@@ -40,19 +43,22 @@ abbrev pub shape_seen : {X : Type 0} → GeoAtom → Option X → (X → Result 
 shape_seen a view f = if is_empty a then Ok empty_shape else seen (Err (fault_at Form (at_of a))) f view
 
 abbrev pub point_shape : Bool → GeoAtom → Result Shape Fault
-point_shape needs a = shape_seen a (as_position a) (λ (v : PositionView). unless v.fault (of_points (kept needs (v.pos ∷ []))))
+point_shape needs a = shape_seen a (as_position a) (λ (v : PositionView).
+    unless v.fault (of_points (kept needs (v.pos ∷ []))))
 
 abbrev pub points_shape : GeoAtom → Result Shape Fault
 points_shape a = shape_seen a (as_points a) (λ (v : PointsView). unless v.as_points (of_points v.path))
 
 abbrev pub line_shape : Bool → GeoAtom → Result Shape Fault
-line_shape needs a = shape_seen a (as_points a) (λ (v : PointsView). unless v.as_line (of_lines (kept needs (v.path ∷ []))))
+line_shape needs a = shape_seen a (as_points a)
+    (λ (v : PointsView). unless v.as_line (of_lines (kept needs (v.path ∷ []))))
 
 abbrev pub lines_shape : GeoAtom → Result Shape Fault
 lines_shape a = shape_seen a (as_lists a) (λ (v : ListsView). unless v.as_lines (of_lines v.paths))
 
 abbrev pub polygon_shape : Bool → GeoAtom → Result Shape Fault
-polygon_shape needs a = shape_seen a (as_area a) (λ (v : ListsView). unless v.as_rings (of_polygons (kept needs (record { rings = v.paths } ∷ []))))
+polygon_shape needs a = shape_seen a (as_area a)
+    (λ (v : ListsView). unless v.as_rings (of_polygons (kept needs (record { rings = v.paths } ∷ []))))
 
 abbrev pub polygons_shape : GeoAtom → Result Shape Fault
 polygons_shape a = shape_seen a (as_areas a) (λ (v : AreasView). unless v.fault (of_polygons v.polygons))
@@ -82,7 +88,8 @@ geometries_shape at o = seen (Err (fault_at Form at)) (λ a. seen (Err (fault_at
 
 -- a feature's shape, of its member `geometry`
 abbrev pub feature_shape : Option GeoAtom → Result Shape Fault
-feature_shape o = seen (Ok empty_shape) (λ a. if is_null a then Ok empty_shape else role_geometry (at_of a) (role_of a)) o
+feature_shape o = seen (Ok empty_shape) (λ a. if is_null a then Ok empty_shape else role_geometry (at_of a) (role_of a))
+    o
 
 -- the features of an array at the offset, or Form where the value is none
 abbrev pub FeaturesSeen : Query → ℕ → Option GeoAtom → Result Part Fault → Type 0
@@ -92,7 +99,8 @@ FeaturesSeen query at (Some a) r = (is_empty a ≡ true → (part : Part) × (r 
 
 -- the part of a feature at the offset, of its shape and its texts, or the first fault of the two
 abbrev pub JoinsFeature : Query → ℕ → Result Shape Fault → Result (List TextPair) Fault → Result Part Fault → Type 0
-JoinsFeature query at (Ok shape) (Ok texts) r = (part : Part) × (r ≡ Ok part) × IsPart query (record { at = at; shape = shape; texts = texts } ∷ []) part
+JoinsFeature query at (Ok shape) (Ok texts) r = (part : Part) × (r ≡ Ok part)
+    × IsPart query (record { at = at; shape = shape; texts = texts } ∷ []) part
 JoinsFeature query at (Ok shape) (Err g) r = r ≡ Err g
 JoinsFeature query at (Err f) (Ok texts) r = r ≡ Err f
 JoinsFeature query at (Err f) (Err g) r = IsFirst f g r
@@ -100,15 +108,23 @@ JoinsFeature query at (Err f) (Err g) r = IsFirst f g r
 -- a role by the kind, of the members
 abbrev pub IsRoleOf : Query → ℕ → Option Kind → List (Member GeoAtom) → Role → Type 0
 IsRoleOf query at None ms role = role ≡ roles.Nothing
-IsRoleOf query at (Some kinds.FeatureCollection) ms role = (p : Result Part Fault) × (role ≡ roles.Collection p) × FeaturesSeen query at (value_named (codes "features") ms) p
-IsRoleOf query at (Some kinds.Feature) ms role = (p : Result Part Fault) × (role ≡ roles.Feature p) × JoinsFeature query at (feature_shape (value_named (codes "geometry") ms)) (texts_named (value_named (codes "properties") ms)) p
-IsRoleOf query at (Some kinds.GeometryCollection) ms role = role ≡ roles.Geometry (geometries_shape at (value_named (codes "geometries") ms))
-IsRoleOf query at (Some kind) ms role = role ≡ roles.Geometry (coordinates_shape (needs_shapes query) at kind (value_named (codes "coordinates") ms))
+IsRoleOf query at (Some kinds.FeatureCollection) ms role = (p : Result Part Fault) × (role ≡ roles.Collection p)
+    × FeaturesSeen query at (value_named (codes "features") ms) p
+IsRoleOf query at (Some kinds.Feature) ms role = (p : Result Part Fault) × (role ≡ roles.Feature p)
+    × JoinsFeature query at (feature_shape (value_named (codes "geometry") ms))
+    (texts_named (value_named (codes "properties") ms)) p
+IsRoleOf query at (Some kinds.GeometryCollection) ms role =
+    role ≡ roles.Geometry (geometries_shape at (value_named (codes "geometries") ms))
+IsRoleOf query at (Some kind) ms role =
+    role ≡ roles.Geometry (coordinates_shape (needs_shapes query) at kind (value_named (codes "coordinates") ms))
 
 -- a text before others, where the query asks for it
 abbrev pub pair_kept : List Test → List ℕ → Option (List ℕ) → List TextPair → List TextPair
 pair_kept tests name None rest = rest
-pair_kept tests name (Some value) rest = if asks_pair tests name value then record { name = name; value = value } ∷ rest else rest
+pair_kept tests name (Some value) rest = if asks_pair tests name value then record {
+  name = name;
+  value = value;
+} ∷ rest else rest
 
 -- the texts of members for which the query asks, as they are kept
 abbrev pub kept_texts : List Test → List (Member GeoAtom) → List TextPair
@@ -118,4 +134,5 @@ kept_texts tests (m ∷ ms) = pair_kept tests m.name (as_text m.value) (kept_tex
 -- no kind and no texts, or both of them
 abbrev pub MakesObject : Query → ℕ → List (Member GeoAtom) → GeoAtom → Type 0
 MakesObject query at ms r = ((kind_in ms ≡ None) × (kept_texts query.tests ms ≡ []) × (r ≡ atoms.Void at))
-    ⊎ ((o : ObjectAtom) × (r ≡ atoms.Object o) × (o.at ≡ at) × (o.roles.value.texts ≡ kept_texts query.tests ms) × IsRoleOf query at (kind_in ms) ms o.roles.value.role)
+    ⊎ ((o : ObjectAtom) × (r ≡ atoms.Object o) × (o.at ≡ at) × (o.roles.value.texts ≡ kept_texts query.tests ms)
+    × IsRoleOf query at (kind_in ms) ms o.roles.value.role)

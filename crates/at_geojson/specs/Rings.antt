@@ -1,4 +1,5 @@
--- Lists of positions, and lists of these, that were read one behind another. Only contracts of private functions cite this.
+-- Lists of positions, and lists of these, that were read one behind another. Only contracts of private functions cite
+-- this.
 use Rattle.std.specs.Prelude.{◌≡◌, ℕ, ◌+◌, ◌<◌, ◌≤◌, Bool, true, List, [], ◌∷◌, ◌++◌, map, length, None}
 use Rattle.at_text.specs.Faults.{first_fault}
 use Rattle.at_geojson.specs.declared.atoms.GeoAtom.{GeoAtom}
@@ -14,7 +15,8 @@ use Rattle.at_geojson.specs.declared.rings.ListsRead.{ListsRead}
 use Rattle.at_geojson.specs.declared.rings.AreasRead.{AreasRead}
 use Rattle.at_geojson.specs.Keeping.{Asked, kept, needs_shapes}
 use Rattle.at_geojson.specs.Atoms.{twin_of}
-use Rattle.at_geojson.specs.Gathering.{firsts, are_all, least_of, fault_as_line, fault_as_ring, path_in, area_fault, polygon_in}
+use Rattle.at_geojson.specs.Gathering.{firsts, are_all, least_of, fault_as_line, fault_as_ring, path_in, area_fault}
+use Rattle.at_geojson.specs.Gathering.{polygon_in}
 use Rattle.at_geojson.specs.Rows.{KeepsPoints}
 use Rattle.at_geojson.specs.Values.{IsWhole, IsItem, AreItemsRead}
 

@@ -1,5 +1,6 @@
--- What the values of a GeoJSON text mean by the roles in which they stand, from the root down, and what is wrong with them (RFC 7946 sections 2, 3.1, 3.2 and 3.3).
--- Members that a role doesn't name are passed over, also those that section 7.1 forbids there; a feature's geometry and properties may be missing.
+-- What the values of a GeoJSON text mean by the roles in which they stand, from the root down, and what is wrong with
+-- them (RFC 7946 sections 2, 3.1, 3.2 and 3.3). Members that a role doesn't name are passed over, also those that
+-- section 7.1 forbids there; a feature's geometry and properties may be missing.
 use Rattle.std.specs.Prelude.{ℕ, if◌then◌else◌, codes, List, [], ◌∷◌, ◌++◌, map, Option, Some, None}
 use Rattle.at_text.specs.declared.faults.Fault.{Fault}
 use Rattle.at_text.specs.declared.faults.FaultKind.TheVariants.{Form}
@@ -9,7 +10,8 @@ use Rattle.at_geom.specs.declared.shapes.Shape.{Shape}
 use Rattle.at_lex.specs.Strings.{units_of}
 use Rattle.at_lex.specs.Runs.{the_null}
 use Rattle.at_wkt.specs.Meaning.{empty_shape, both, shape_of, faults_of}
-use Rattle.at_nest.specs.Tree.{Tree, literal, number, text, array, object, Trees, no_trees, tree_and, Members, no_members, member_and, offset_of}
+use Rattle.at_nest.specs.Tree.{Tree, literal, number, text, array, object, Trees, no_trees, tree_and, Members}
+use Rattle.at_nest.specs.Tree.{no_members, member_and, offset_of}
 use Rattle.at_query.specs.declared.features.TextPair.{TextPair}
 use Rattle.at_query.specs.declared.features.Feature.{Feature}
 use Rattle.at_geojson.specs.declared.kinds.Kind.{Kind}
@@ -66,7 +68,8 @@ abbrev pub lone_geometry : ℕ → Reading → Features
 lone_geometry at geometry = record { features = feature_of at geometry [] ∷ []; faults = geometry.faults }
 
 module _ (digits : ℕ) (how : Coords) where
-  -- coordinates of the kind: Form at the geometry where they are missing, Form at the coordinates where they have not its form, else the faults inside them
+  -- coordinates of the kind: Form at the geometry where they are missing, Form at the coordinates where they have not
+  -- its form, else the faults inside them
   abbrev pub coordinates_reading : ℕ → Kind → Option Tree → Reading
   coordinates_reading at kind None = not_geometry at
   coordinates_reading at kind (Some t) = elim (geometry_of kind t) [
@@ -91,10 +94,12 @@ module _ (digits : ℕ) (how : Coords) where
     geometry_reading (number at n) = not_geometry at
     geometry_reading (literal at l) = not_geometry at
 
-    -- the members of a geometry collection at the offset: its member `geometries` is an array of geometries, else Form at the collection
+    -- the members of a geometry collection at the offset: its member `geometries` is an array of geometries, else Form
+    -- at the collection
     pub collection_reading : ℕ → Members → Reading
     collection_reading at no_members = not_geometry at
-    collection_reading at (member_and name i t ms) = if is_named (codes "geometries") name then geometries_reading at t else collection_reading at ms
+    collection_reading at (member_and name i t ms) = if is_named (codes "geometries") name then geometries_reading at t
+        else collection_reading at ms
 
     pub geometries_reading : ℕ → Tree → Reading
     geometries_reading at (array i ts) = items_reading ts
@@ -118,7 +123,10 @@ module _ (digits : ℕ) (how : Coords) where
   feature_reading at ms =
       let geometry = geometry_member_reading (member_named (codes "geometry") ms) in
       let properties = member_named (codes "properties") ms in
-      record { features = feature_of at geometry (properties_texts properties) ∷ []; faults = geometry.faults ++ properties_faults properties }
+      record {
+        features = feature_of at geometry (properties_texts properties) ∷ [];
+        faults = geometry.faults ++ properties_faults properties;
+      }
 
   abbrev pub if_feature : ℕ → Members → Option Kind → Features
   if_feature at ms (Some kinds.Feature) = feature_reading at ms

@@ -31,11 +31,13 @@ pub record IsRow (needs : Bool) (row : Row) (rest : List GeoAtom) : Type 0 where
 -- one more position, which stands behind the first
 pub record LengthensRow (needs : Bool) (row : Row) (last : PositionAtom) (longer : Row) : Type 0 where
   pub first : longer.first ≡ row.first
-  pub more : (rest : List GeoAtom) → IsRow needs row rest → row.first.at ≤ last.at → IsRow needs longer (rest ++ atoms.Position last ∷ [])
+  pub more : (rest : List GeoAtom) → IsRow needs row rest → row.first.at ≤ last.at
+      → IsRow needs longer (rest ++ atoms.Position last ∷ [])
 
 -- what is kept of the list of the row's positions
 abbrev pub EndsRow : Bool → ℕ → Row → Points → Type 0
-EndsRow needs at row points = (rest : List GeoAtom) → IsRow needs row rest → (m : PointsAtom) → m.at ≡ at → m.least ≡ row.first.at → m.points.value ≡ points
+EndsRow needs at row points = (rest : List GeoAtom) → IsRow needs row rest → (m : PointsAtom) → m.at ≡ at
+    → m.least ≡ row.first.at → m.points.value ≡ points
     → MakesPoints needs at row.first.at (atoms.Position row.first ∷ rest) (atoms.Points m)
 
 -- the list of the row's positions, and the place behind the bracket
@@ -56,7 +58,8 @@ pub record ArePointsWhole (asked : Asked) (base : ℕ) (w : List ℕ) (at : ℕ)
   pub order : at < p.end
   pub within : p.end ≤ length w
   pub at_is : p.at ≡ base + at
-  pub whole : (m : PointsAtom) → KeepsPoints m p → IsWhole asked base w at (record { end = p.end; atom = atoms.Points m })
+  pub whole : (m : PointsAtom) → KeepsPoints m p
+      → IsWhole asked base w at (record { end = p.end; atom = atoms.Points m })
 
 -- the positions from the bracket up to the place, behind the last of them, are the row's
 pub record ArePointsRead (asked : Asked) (base : ℕ) (w : List ℕ) (at end : ℕ) (row : Row) : Type 0 where
@@ -75,4 +78,5 @@ pub record ArePointsRead (asked : Asked) (base : ℕ) (w : List ℕ) (at end : �
 
 -- the same of a row of which the last position isn't known yet
 abbrev pub ArePointsPassed : Asked → ℕ → List ℕ → ℕ → ℕ → Row → Type 0
-ArePointsPassed asked base w at end row = (known : Row) × (known.first ≡ row.first) × (known.count ≡ row.count) × (known.path.items ≡ row.path.items) × ArePointsRead asked base w at end known
+ArePointsPassed asked base w at end row = (known : Row) × (known.first ≡ row.first) × (known.count ≡ row.count)
+    × (known.path.items ≡ row.path.items) × ArePointsRead asked base w at end known

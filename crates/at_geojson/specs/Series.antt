@@ -1,4 +1,5 @@
--- Lists of positions one behind another in an array, joined as they come. Only contracts of private functions cite this.
+-- Lists of positions one behind another in an array, joined as they come. Only contracts of private functions cite
+-- this.
 use Rattle.std.specs.Prelude.{◌≡◌, min, Bool, true, false, ◌||◌, List, [], ◌∷◌, ◌++◌, Option, Some, None, is_none}
 use Rattle.std.specs.Bool.{⊤}
 use Rattle.std.specs.List.{list_all}
@@ -38,11 +39,13 @@ rings_of a = seen (fault_as_ring a) (λ (s : SeriesAtom). s.lists.value.as_rings
 abbrev pub paths_of : Bool → GeoAtom → List (List Pos)
 paths_of needs a = seen (kept needs (path_in a ∷ [])) (λ (s : SeriesAtom). s.lists.value.paths.items) (as_series a)
 
--- the lists, and those of the atom behind them: their paths are kept while they have no fault as lines, or none as rings
+-- the lists, and those of the atom behind them: their paths are kept while they have no fault as lines, or none as
+-- rings
 pub record Lengthens (needs : Bool) (old : Lists) (a : GeoAtom) (new : Lists) : Type 0 where
   pub as_lines : new.as_lines ≡ first_fault old.as_lines (lines_of a)
   pub as_rings : new.as_rings ≡ first_fault old.as_rings (rings_of a)
-  pub paths : new.paths.items ≡ kept (is_none new.as_lines || is_none new.as_rings) (old.paths.items ++ paths_of needs a)
+  pub paths : new.paths.items ≡ kept (is_none new.as_lines || is_none new.as_rings) (old.paths.items
+      ++ paths_of needs a)
 
 -- the series of the lists for which the atom stands
 pub record Begins (needs : Bool) (a : GeoAtom) (new : SeriesAtom) : Type 0 where
@@ -73,4 +76,5 @@ HasSeries asked None ts = ts ≡ []
 
 -- whatever trees the lists stand for one behind another, the series stands for them
 abbrev pub JoinsLists : Asked → List GeoAtom → Option SeriesAtom → Type 0
-JoinsLists asked items o = list_all is_list items ≡ true → (ts : List Tree) → AreItemFolds (IsFold asked) (IsRun asked) items ts → HasSeries asked o ts
+JoinsLists asked items o = list_all is_list items ≡ true → (ts : List Tree)
+    → AreItemFolds (IsFold asked) (IsRun asked) items ts → HasSeries asked o ts

@@ -1,5 +1,6 @@
 -- Positions one behind another in an array, joined as they come. Only contracts of private functions cite this.
-use Rattle.std.specs.Prelude.{◌≡◌, ℕ, ◌+◌, min, Bool, true, false, ◌&&◌, if◌then◌else◌, List, [], ◌∷◌, ◌++◌, All, Option, Some, None, is_none}
+use Rattle.std.specs.Prelude.{◌≡◌, ℕ, ◌+◌, min, Bool, true, false, ◌&&◌, if◌then◌else◌, List, [], ◌∷◌, ◌++◌, All}
+use Rattle.std.specs.Prelude.{Option, Some, None, is_none}
 use Rattle.std.specs.Bool.{⊤}
 use Rattle.std.specs.List.{list_all}
 use Rattle.std.specs.Ordering.{int_eq}
@@ -17,7 +18,8 @@ use Rattle.at_geojson.specs.declared.atoms.PointsAtom.{PointsAtom}
 use Rattle.at_geojson.specs.declared.atoms.Track.{Track}
 use Rattle.at_geojson.specs.declared.atoms.TrackAtom.{TrackAtom}
 use Rattle.at_geojson.specs.Keeping.{Asked, kept}
-use Rattle.at_geojson.specs.Atoms.{at_of, PositionView, TrackView, track_view, to_four, as_position, IsFold, IsRun, AreTracked}
+use Rattle.at_geojson.specs.Atoms.{at_of, PositionView, TrackView, track_view, to_four, as_position, IsFold, IsRun}
+use Rattle.at_geojson.specs.Atoms.{AreTracked}
 use Rattle.at_geojson.specs.Gathering.{seen, position_fault, position_value}
 
 -- a position, or several
@@ -53,11 +55,23 @@ abbrev pub path_in : Bool → GeoAtom → List Pos
 path_in needs a = seen (kept needs (position_value a ∷ [])) (λ (t : TrackAtom). t.track.value.path.items) (as_track a)
 
 abbrev pub view_of : Bool → GeoAtom → TrackView
-view_of needs a = record { first = first_in a; last = last_in a; count = count_in a; fault = fault_in a; path = path_in needs a }
+view_of needs a = record {
+  first = first_in a;
+  last = last_in a;
+  count = count_in a;
+  fault = fault_in a;
+  path = path_in needs a;
+}
 
 -- the positions, and those behind them
 abbrev pub both_tracks : TrackView → TrackView → TrackView
-both_tracks v w = record { first = v.first; last = w.last; count = to_four (v.count + w.count); fault = first_fault v.fault w.fault; path = v.path ++ w.path }
+both_tracks v w = record {
+  first = v.first;
+  last = w.last;
+  count = to_four (v.count + w.count);
+  fault = first_fault v.fault w.fault;
+  path = v.path ++ w.path;
+}
 
 abbrev pub Lengthens : Bool → Track → GeoAtom → Track → Type 0
 Lengthens needs old a new = track_view new ≡ both_tracks (track_view old) (view_of needs a)
@@ -87,7 +101,8 @@ HasTrack asked None ts = ts ≡ []
 
 -- whatever trees the positions stand for one behind another, the track stands for them
 abbrev pub JoinsPositions : Asked → List GeoAtom → Option TrackAtom → Type 0
-JoinsPositions asked items o = list_all is_position items ≡ true → (ts : List Tree) → AreItemFolds (IsFold asked) (IsRun asked) items ts → HasTrack asked o ts
+JoinsPositions asked items o = list_all is_position items ≡ true → (ts : List Tree)
+    → AreItemFolds (IsFold asked) (IsRun asked) items ts → HasTrack asked o ts
 
 -- ---- the list of a track's positions
 

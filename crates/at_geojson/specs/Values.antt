@@ -1,4 +1,5 @@
--- Whole values that are read of a text w from place to place; the text stands at the offset `base`. Only contracts of private functions cite this.
+-- Whole values that are read of a text w from place to place; the text stands at the offset `base`. Only contracts of
+-- private functions cite this.
 use Rattle.std.specs.Prelude.{◌≡◌, ℕ, ◌+◌, ◌<◌, ◌≤◌, List, length, All, Ok}
 use Rattle.at_fixed.specs.Kept.{part}
 use Rattle.at_fixed.specs.Numerals.{JsonNumber}
@@ -65,7 +66,8 @@ abbrev pub PassesPair : Asked → List ℕ → ℕ → ℕ → Type 0
 PassesPair asked w at end = (end ≤ length w) × ((base : ℕ) → (p : PairRead) × (p.end ≡ end) × IsPair asked base w at p)
 
 abbrev pub PassesSpacedPair : Asked → List ℕ → ℕ → ℕ → Type 0
-PassesSpacedPair asked w at end = (at < end) × (end ≤ length w) × ((base : ℕ) → (p : PairRead) × (p.end ≡ end) × IsSpacedPair asked base w at p)
+PassesSpacedPair asked w at end = (at < end) × (end ≤ length w) × ((base : ℕ) → (p : PairRead) × (p.end ≡ end)
+    × IsSpacedPair asked base w at p)
 
 -- white space, a value, white space
 pub record IsItem (asked : Asked) (base : ℕ) (w : List ℕ) (at : ℕ) (p : Whole) : Type 0 where
@@ -84,7 +86,8 @@ pub record AreItemsRead (asked : Asked) (base : ℕ) (w : List ℕ) (at place : 
   pub folds : AreFolds (IsFold asked) items (items_of done)
 
 -- the same of an object's members
-pub record AreMembersRead (asked : Asked) (base : ℕ) (w : List ℕ) (at place : ℕ) (members : List (Member GeoAtom)) : Type 0 where
+pub record AreMembersRead (asked : Asked) (base : ℕ) (w : List ℕ) (at place : ℕ) (members : List (Member GeoAtom))
+    : Type 0 where
   pub own : All (λ (m : Member GeoAtom). IsOwn asked m.value) members
   pub done : List Named
   pub before : MembersBefore base w at place done

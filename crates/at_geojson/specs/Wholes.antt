@@ -1,4 +1,5 @@
--- The answer of a whole text: the part of its features where it has no fault beyond its syntax, and else the first such fault.
+-- The answer of a whole text: the part of its features where it has no fault beyond its syntax, and else the first such
+-- fault.
 use Rattle.std.specs.Prelude.{◌≡◌, ℕ, List, [], ◌++◌, Some, Result, Ok, Err}
 use Rattle.std.specs.Bool.{⊤}
 use Rattle.at_text.specs.Faults.{first_of}
@@ -18,6 +19,7 @@ abbrev pub faults_of : ℕ → Coords → Tree → List Fault
 faults_of digits how t = twins_of t ++ role_faults_of digits how t
 
 abbrev pub IsAnswer : Asked → Tree → Result Part RootEnd → Type 0
-IsAnswer asked t (Ok part) = (faults_of asked.digits asked.how t ≡ []) × IsPart asked.query (features_of asked.digits asked.how t) part
+IsAnswer asked t (Ok part) = (faults_of asked.digits asked.how t ≡ [])
+    × IsPart asked.query (features_of asked.digits asked.how t) part
 IsAnswer asked t (Err (Found fault)) = first_of (faults_of asked.digits asked.how t) ≡ Some fault
 IsAnswer asked t (Err Memory) = ⊤

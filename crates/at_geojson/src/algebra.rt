@@ -38,7 +38,9 @@ impl Algebra for GeoAlgebra {
     fn array(&self, alloc: Global, at: u32, items: Vec<GeoAtom>) -> Result<GeoAtom, Memory>
         requires { All (IsOwn self.now) items.items }
         ensures own { IfOk result (IsOwn self.now) }
-        ensures fold { IfOk result (λ atom. (ts : List Tree) → AreItemFolds (IsFold self.now) (IsRun self.now) items.items ts → IsFold self.now atom (array_tree at (trees ts))) }
+        ensures fold { IfOk result (λ atom. (ts : List Tree)
+            → AreItemFolds (IsFold self.now) (IsRun self.now) items.items ts
+            → IsFold self.now atom (array_tree at (trees ts))) }
     {
         closed_array(alloc, self, at, items)
     }
@@ -51,7 +53,8 @@ impl Algebra for GeoAlgebra {
     ) -> Result<GeoAtom, Memory>
         requires { All (λ m. IsOwn self.now m.value) members.items }
         ensures own { IfOk result (IsOwn self.now) }
-        ensures fold { IfOk result (λ atom. (ms : Members) → AreMemberFolds (IsFold self.now) members.items ms → IsFold self.now atom (object_tree at ms)) }
+        ensures fold { IfOk result (λ atom. (ms : Members) → AreMemberFolds (IsFold self.now) members.items ms
+            → IsFold self.now atom (object_tree at ms)) }
     {
         object_atom(alloc, self, at, members)
     }

@@ -3,7 +3,10 @@
 ghost use Rattle.std.specs.Prelude.{◌≡◌};
 ghost use Rattle.std.specs.List.{list_any};
 ghost use Rattle.at_query.specs.Ranges.{IsQueryInRange};
-ghost use Rattle.at_geojson.specs.Keeping.{Asked, needs_shapes as needs_of, tells_shapes as tells_of, looks_at_shapes as looks_of, looks_at_texts as texts_looked_at, asks_value as value_asked, asks_pair as pair_asked, wants_value as value_wanted, wants_pair as pair_wanted};
+ghost use Rattle.at_geojson.specs.Keeping.{Asked, needs_shapes as needs_of, tells_shapes as tells_of};
+ghost use Rattle.at_geojson.specs.Keeping.{looks_at_shapes as looks_of, looks_at_texts as texts_looked_at};
+ghost use Rattle.at_geojson.specs.Keeping.{asks_value as value_asked, asks_pair as pair_asked};
+ghost use Rattle.at_geojson.specs.Keeping.{wants_value as value_wanted, wants_pair as pair_wanted};
 
 use at_fixed::Coords;
 use at_query::{Query, Test, Verb};

@@ -79,8 +79,8 @@ pub struct SeriesAtom {
     pub lists: Box<Lists>,
 }
 
-/// Positions one behind another: the first and the last where they have no fault, how many they are up to four, the first
-/// fault in them, and their values where shapes are kept.
+/// Positions one behind another: the first and the last where they have no fault, how many they are up to four, the
+/// first fault in them, and their values where shapes are kept.
 #[derive(Drop)]
 pub struct Track {
     pub first: Option<Pos>,
@@ -159,7 +159,8 @@ pub struct ObjectAtom {
 /// What is kept of a value of a JSON text: what it is in each role in which its parent may place it.
 #[derive(Drop)]
 pub enum GeoAtom {
-    /// A value in which an object has a name for the second time, with the first such fault. Nothing else of it is ever told.
+    /// A value in which an object has a name for the second time, with the first such fault. Nothing else of it is ever
+    /// told.
     Twin(Fault),
     /// `null`.
     Null(u32),

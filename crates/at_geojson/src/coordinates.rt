@@ -4,8 +4,13 @@ ghost use Rattle.std.specs.Prelude.{◌≡◌, ◌&&◌, ◌||◌, not, is_none,
 ghost use Rattle.std.specs.Ordering.{int_eq};
 ghost use Rattle.at_geojson.specs.Keeping.{kept};
 ghost use Rattle.at_geojson.specs.Atoms.{to_four};
-ghost use Rattle.at_geojson.specs.Gathering.{firsts, number_value as the_number_value, number_fault as the_number_fault, position_value as the_position_value, position_fault as the_position_fault, position_atom as the_position_atom, pair_atom as the_pair, closes_with as the_closes_with, closes as the_closes, MakesPoints};
-ghost use Rattle.at_geojson.specs.Gathering.{fault_as_line as the_fault_as_line, fault_as_ring as the_fault_as_ring, path_in, MakesLists, area_fault as the_area_fault, polygon_in, MakesAreas};
+ghost use Rattle.at_geojson.specs.Gathering.{firsts, number_value as the_number_value};
+ghost use Rattle.at_geojson.specs.Gathering.{number_fault as the_number_fault, position_value as the_position_value};
+ghost use Rattle.at_geojson.specs.Gathering.{position_fault as the_position_fault, position_atom as the_position_atom};
+ghost use Rattle.at_geojson.specs.Gathering.{pair_atom as the_pair, closes_with as the_closes_with};
+ghost use Rattle.at_geojson.specs.Gathering.{closes as the_closes, MakesPoints};
+ghost use Rattle.at_geojson.specs.Gathering.{fault_as_line as the_fault_as_line, fault_as_ring as the_fault_as_ring};
+ghost use Rattle.at_geojson.specs.Gathering.{path_in, MakesLists, area_fault as the_area_fault, polygon_in, MakesAreas};
 
 use crate::atoms::{
     Areas, AreasAtom, FaultyAtom, GeoAtom, Lists, ListsAtom, Points, PointsAtom, PositionAtom,

@@ -2,7 +2,8 @@
 
 ghost use Rattle.std.specs.Prelude.{◌≡◌, IfOk};
 ghost use Rattle.at_geojson.specs.Atoms.{unboxed};
-ghost use Rattle.at_geojson.specs.Copies.{SamePoints, SameLists, SameTrack, SameAreas, CopiesText, CopiesPoints, CopiesLists, CopiesSeries, CopiesTrack, CopiesAreas, IsCopy};
+ghost use Rattle.at_geojson.specs.Copies.{SamePoints, SameLists, SameTrack, SameAreas, CopiesText, CopiesPoints};
+ghost use Rattle.at_geojson.specs.Copies.{CopiesLists, CopiesSeries, CopiesTrack, CopiesAreas, IsCopy};
 
 use crate::atoms::{
     Areas, AreasAtom, GeoAtom, Items, ItemsAtom, Lists, ListsAtom, ObjectAtom, Points, PointsAtom,

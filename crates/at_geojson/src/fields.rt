@@ -2,7 +2,9 @@
 
 ghost use Rattle.std.specs.Prelude.{◌≡◌, [], is_some, IfOk};
 ghost use Rattle.at_geojson.specs.Atoms.{as_kind};
-ghost use Rattle.at_geojson.specs.Fields.{field_of, put_if, put_first as first_put, is_kind as names_kind, is_coordinates, is_geometry, is_geometries, is_properties, is_features, is_no_field, value_in, AreFields, kind_in_fields};
+ghost use Rattle.at_geojson.specs.Fields.{field_of, put_if, put_first as first_put, is_kind as names_kind};
+ghost use Rattle.at_geojson.specs.Fields.{is_coordinates, is_geometry, is_geometries, is_properties, is_features};
+ghost use Rattle.at_geojson.specs.Fields.{is_no_field, value_in, AreFields, kind_in_fields};
 
 use crate::atoms::GeoAtom;
 use crate::kinds::Kind;

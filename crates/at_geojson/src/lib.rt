@@ -1,4 +1,5 @@
-//! GeoJSON (RFC 7946): the part of a query that the features of a JSON text give, or the text's first fault beyond its syntax.
+//! GeoJSON (RFC 7946): the part of a query that the features of a JSON text give, or the text's first fault beyond its
+//! syntax.
 #![tactic(auto)]
 
 mod algebra;

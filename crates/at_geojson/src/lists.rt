@@ -7,8 +7,12 @@ ghost use Rattle.at_wkt.specs.Meaning.{empty_shape as nothing};
 ghost use Rattle.at_query.specs.Parts.{IsPart};
 ghost use Rattle.at_nest.specs.Tree.{Trees, array as array_tree};
 ghost use Rattle.at_nest.specs.Folds.{AreFolds};
-ghost use Rattle.at_geojson.specs.Atoms.{is_empty as is_empty_atom, as_geometries as geometries_in, as_features as features_in, at_of as offset_in, twin_of as twin_in, role_of as role_in, role_geometry as geometry_of_role, role_item as item_of_role, IsOwn, IsFold, AreOwnItems};
-ghost use Rattle.at_geojson.specs.Gathering.{seen, items_kept, firsts, is_object as object_is, item_geometries, item_features, JoinsShapes, JoinsFound, AreJoinable};
+ghost use Rattle.at_geojson.specs.Atoms.{is_empty as is_empty_atom, as_geometries as geometries_in};
+ghost use Rattle.at_geojson.specs.Atoms.{as_features as features_in, at_of as offset_in, twin_of as twin_in};
+ghost use Rattle.at_geojson.specs.Atoms.{role_of as role_in, role_geometry as geometry_of_role};
+ghost use Rattle.at_geojson.specs.Atoms.{role_item as item_of_role, IsOwn, IsFold, AreOwnItems};
+ghost use Rattle.at_geojson.specs.Gathering.{seen, items_kept, firsts, is_object as object_is, item_geometries};
+ghost use Rattle.at_geojson.specs.Gathering.{item_features, JoinsShapes, JoinsFound, AreJoinable};
 ghost use Rattle.at_geojson.specs.Arrays.{JoinsItems, MakesItems, MakesNumbers};
 
 use crate::asked::GeoAlgebra;
@@ -143,8 +147,10 @@ fn all_items(alloc: Global, algebra: &GeoAlgebra, atoms: Vec<GeoAtom>) -> Result
 
 /// Form at the first item of an array that has no objects, and at the offset for any other value.
 pub fn first_of_forms(at: u32, atom: &GeoAtom) -> Fault
-    ensures geometries { is_empty_atom atom.now ≡ false → items_kept atom.now ≡ false → Err result ≡ seen (Err (fault_at FaultKind.Form at)) (λ r. r) (geometries_in atom.now) }
-    ensures features { is_empty_atom atom.now ≡ false → items_kept atom.now ≡ false → Err result ≡ seen (Err (fault_at FaultKind.Form at)) (λ r. r) (features_in atom.now) }
+    ensures geometries { is_empty_atom atom.now ≡ false → items_kept atom.now ≡ false
+        → Err result ≡ seen (Err (fault_at FaultKind.Form at)) (λ r. r) (geometries_in atom.now) }
+    ensures features { is_empty_atom atom.now ≡ false → items_kept atom.now ≡ false
+        → Err result ≡ seen (Err (fault_at FaultKind.Form at)) (λ r. r) (features_in atom.now) }
 {
     match atom {
         GeoAtom::Position(position) => form_at(position.least),
@@ -229,7 +235,8 @@ fn items_atom(
     requires twins { firsts twin_in items.items ≡ None }
     requires some { items.items ≢ [] }
     ensures own { IfOk result (IsOwn algebra.now) }
-    ensures fold { IfOk result (λ atom. (ts : Trees) → AreFolds (IsFold algebra.now) items.items ts → IsFold algebra.now atom (array_tree at ts)) }
+    ensures fold { IfOk result (λ atom. (ts : Trees) → AreFolds (IsFold algebra.now) items.items ts
+        → IsFold algebra.now atom (array_tree at ts)) }
 {
     let needs = algebra.needs_shapes();
     let least = least_of(items.as_slice());
@@ -251,7 +258,8 @@ pub fn array_atom(
 ) -> Result<GeoAtom, Memory>
     requires { All (IsOwn algebra.now) items.items }
     ensures own { IfOk result (IsOwn algebra.now) }
-    ensures fold { IfOk result (λ atom. (ts : Trees) → AreFolds (IsFold algebra.now) items.items ts → IsFold algebra.now atom (array_tree at ts)) }
+    ensures fold { IfOk result (λ atom. (ts : Trees) → AreFolds (IsFold algebra.now) items.items ts
+        → IsFold algebra.now atom (array_tree at ts)) }
 {
     if items.as_slice().is_empty() {
         return Ok(GeoAtom::Empty(at));

@@ -6,7 +6,8 @@ ghost use Rattle.at_fixed.specs.Kept.{part};
 ghost use Rattle.at_lex.specs.Spans.{AreSpaces};
 ghost use Rattle.at_geojson.specs.Places.{IsNameAt, IsTextAt, IsSimpleTextAt};
 ghost use Rattle.at_geojson.specs.Fields.{field_of};
-ghost use Rattle.at_geojson.specs.Members.{name_in, IsPlainName, is_named_among, is_among_others, ArePlainOthers, AddsName, IsNewName};
+ghost use Rattle.at_geojson.specs.Members.{name_in, IsPlainName, is_named_among, is_among_others, ArePlainOthers};
+ghost use Rattle.at_geojson.specs.Members.{AddsName, IsNewName};
 
 use crate::fields::{Field, Fields, field_of_bytes, is_other};
 use crate::places::{NamePlace, Stop, name_place, skip_spaces, stands};
@@ -183,7 +184,8 @@ fn add_other(text: &[u8], others: &mut OtherNames, name: NamePlace) -> Result<()
     Ok(())
 }
 
-/// A name like that of a member that is none of the fields and none of the others, to which it is put if no kind asks for it.
+/// A name like that of a member that is none of the fields and none of the others, to which it is put if no kind asks
+/// for it.
 #[inline(always)]
 pub fn new_name(
     text: &[u8],

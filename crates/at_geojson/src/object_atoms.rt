@@ -50,7 +50,9 @@ fn feature_in_place(
     texts: TextPairs,
 ) -> Result<Box<Roles>, Memory>
     requires { IsOwnRole algebra.now geometry.roles.value.role }
-    ensures role { IfOk result (λ roles. IsFeatureOf algebra.now.query at (geometry_of_role geometry.at geometry.roles.value.role) found roles.value.role) }
+    ensures role { IfOk result
+        (λ roles. IsFeatureOf algebra.now.query at (geometry_of_role geometry.at geometry.roles.value.role) found
+        roles.value.role) }
     ensures texts { IfOk result (λ roles. roles.value.texts ≡ texts) }
 {
     let mut roles = geometry.roles;
@@ -74,7 +76,8 @@ fn bare_feature(
     texts: TextPairs,
 ) -> Result<Box<Roles>, Memory>
     requires { IfOwnValue algebra.now geometry }
-    ensures role { IfOk result (λ roles. IsFeatureOf algebra.now.query at (shape_of_feature geometry) found roles.value.role) }
+    ensures role { IfOk result (λ roles. IsFeatureOf algebra.now.query at (shape_of_feature geometry) found
+        roles.value.role) }
     ensures texts { IfOk result (λ roles. roles.value.texts ≡ texts) }
 {
     let shape = feature_shape(alloc, geometry);
@@ -92,7 +95,8 @@ fn feature_of(
     texts: TextPairs,
 ) -> Result<Box<Roles>, Memory>
     requires { IfOwnValue algebra.now geometry }
-    ensures role { IfOk result (λ roles. IsFeatureOf algebra.now.query at (shape_of_feature geometry) found roles.value.role) }
+    ensures role { IfOk result (λ roles. IsFeatureOf algebra.now.query at (shape_of_feature geometry) found
+        roles.value.role) }
     ensures texts { IfOk result (λ roles. roles.value.texts ≡ texts) }
 {
     match geometry {
@@ -110,7 +114,8 @@ fn feature_roles(
     texts: TextPairs,
 ) -> Result<Box<Roles>, Memory>
     requires { AreOwnFields algebra.now fields.old }
-    ensures role { IfOk result (λ roles. IsRoleIn algebra.now.query at (Some Kind.Feature) fields.old roles.value.role) }
+    ensures role { IfOk result (λ roles. IsRoleIn algebra.now.query at (Some Kind.Feature) fields.old
+        roles.value.role) }
     ensures texts { IfOk result (λ roles. roles.value.texts ≡ texts) }
 {
     let found = feature_texts(alloc, &fields.properties)?;
@@ -128,7 +133,8 @@ fn coordinates_roles(
     texts: TextPairs,
 ) -> Result<Box<Roles>, Memory>
     requires { AreOwnFields algebra.now fields.old }
-    ensures role { IfOk result (λ roles. roles.value.role ≡ Role.Geometry (coordinates_shape (needs_of algebra.now.query) at kind fields.old.coordinates)) }
+    ensures role { IfOk result (λ roles. roles.value.role
+        ≡ Role.Geometry (coordinates_shape (needs_of algebra.now.query) at kind fields.old.coordinates)) }
     ensures texts { IfOk result (λ roles. roles.value.texts ≡ texts) }
 {
     let needs = algebra.needs_shapes();
@@ -248,7 +254,8 @@ pub fn object_atom(
 ) -> Result<GeoAtom, Memory>
     requires { All (λ m. IsOwn algebra.now m.value) members.items }
     ensures own { IfOk result (IsOwn algebra.now) }
-    ensures fold { IfOk result (λ atom. (ms : Members) → AreMemberFolds (IsFold algebra.now) members.items ms → IsFold algebra.now atom (object_tree at ms)) }
+    ensures fold { IfOk result (λ atom. (ms : Members) → AreMemberFolds (IsFold algebra.now) members.items ms
+        → IsFold algebra.now atom (object_tree at ms)) }
 {
     match first_twin_of_members(alloc, members.as_slice())? {
         Some(fault) => Ok(GeoAtom::Twin(fault)),

@@ -4,7 +4,8 @@ ghost use Rattle.std.specs.Prelude.{◌≡◌, ◌∷◌, [], true, IfOk, codes}
 ghost use Rattle.at_geom.specs.Shapes.{IsShapeInRange};
 ghost use Rattle.at_query.specs.Parts.{IsPart};
 ghost use Rattle.at_geojson.specs.Atoms.{IfOwnShape};
-ghost use Rattle.at_geojson.specs.Objects.{kind_shape, coordinates_shape, geometries_shape, feature_shape as the_feature_shape, FeaturesSeen, JoinsFeature};
+ghost use Rattle.at_geojson.specs.Objects.{kind_shape, coordinates_shape, geometries_shape};
+ghost use Rattle.at_geojson.specs.Objects.{feature_shape as the_feature_shape, FeaturesSeen, JoinsFeature};
 
 use crate::asked::GeoAlgebra;
 use crate::atoms::GeoAtom;

@@ -1,6 +1,7 @@
 //! Positions of two numbers that are written plainly, and lists of them, read at once.
 
-ghost use Rattle.std.specs.Prelude.{◌≡◌, ℕ, ◌+◌, ◌<◌, ◌≤◌, ◌^◌, Bool, true, false, [], ◌∷◌, length, slice_index, IfOk, IfSome};
+ghost use Rattle.std.specs.Prelude.{◌≡◌, ℕ, ◌+◌, ◌<◌, ◌≤◌, ◌^◌, Bool, true, false, [], ◌∷◌, length, slice_index, IfOk};
+ghost use Rattle.std.specs.Prelude.{IfSome};
 ghost use Rattle.at_geojson.specs.Keeping.{needs_shapes as needs_of};
 ghost use Rattle.at_geojson.specs.Atoms.{to_four};
 ghost use Rattle.at_geojson.specs.Values.{IsPlain, IsPair, IsSpacedPair, PassesPlain, PassesPair, PassesSpacedPair};
@@ -21,8 +22,8 @@ pub struct Whole {
     pub atom: GeoAtom,
 }
 
-/// A number that is written plainly with white space round it: the place of its first byte, the one behind it, and the one
-/// behind the white space.
+/// A number that is written plainly with white space round it: the place of its first byte, the one behind it, and the
+/// one behind the white space.
 #[derive(Clone, Copy)]
 pub struct Plain {
     pub first: usize,
@@ -38,8 +39,8 @@ pub struct PairRead {
     pub pair: PositionAtom,
 }
 
-/// Positions that were read one behind another: the first, the last, how many they are up to four, and the values of all of
-/// them where shapes are kept.
+/// Positions that were read one behind another: the first, the last, how many they are up to four, and the values of
+/// all of them where shapes are kept.
 #[derive(Drop)]
 pub struct Row {
     pub first: PositionAtom,
@@ -48,7 +49,8 @@ pub struct Row {
     pub path: Vec<Pos>,
 }
 
-/// A list of positions that was read: its offset, the least offset of its items, the place behind it, and what is kept of it.
+/// A list of positions that was read: its offset, the least offset of its items, the place behind it, and what is kept
+/// of it.
 #[derive(Drop)]
 pub struct PointsRead {
     pub at: u32,

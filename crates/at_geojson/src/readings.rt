@@ -1,7 +1,8 @@
 //! A value as the coordinates of each kind of geometry (RFC 7946 section 3.1).
 
 ghost use Rattle.std.specs.Prelude.{◌≡◌, IfOk};
-ghost use Rattle.at_geojson.specs.Objects.{unless as shape_unless, point_shape, points_shape, line_shape, lines_shape, polygon_shape, polygons_shape};
+ghost use Rattle.at_geojson.specs.Objects.{unless as shape_unless, point_shape, points_shape, line_shape, lines_shape};
+ghost use Rattle.at_geojson.specs.Objects.{polygon_shape, polygons_shape};
 
 use crate::atoms::GeoAtom;
 use crate::geometries::Geometry;

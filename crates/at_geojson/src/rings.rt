@@ -3,7 +3,8 @@
 ghost use Rattle.std.specs.Prelude.{◌≡◌, ◌+◌, ◌<◌, ◌≤◌, ◌^◌, ◌∷◌, [], length, slice_index, IfOk};
 ghost use Rattle.at_geojson.specs.Keeping.{kept};
 ghost use Rattle.at_geojson.specs.Values.{IsWhole};
-ghost use Rattle.at_geojson.specs.Rings.{ArePointsItem, LengthensLists, AreListsWhole, AreListsItem, LengthensAreas, AreAreasWhole};
+ghost use Rattle.at_geojson.specs.Rings.{ArePointsItem, LengthensLists, AreListsWhole, AreListsItem, LengthensAreas};
+ghost use Rattle.at_geojson.specs.Rings.{AreAreasWhole};
 
 use crate::asked::GeoAlgebra;
 use crate::atoms::{Areas, AreasAtom, GeoAtom, Lists, ListsAtom, Points, PointsAtom};
@@ -14,7 +15,8 @@ use at_geom::{Path, Paths, Polygon};
 use at_text::first_fault;
 use std::alloc::Global;
 
-/// An array of lists of positions that was read: its offset, that of the first list, the place behind it, and what is kept of it.
+/// An array of lists of positions that was read: its offset, that of the first list, the place behind it, and what is
+/// kept of it.
 #[derive(Drop)]
 pub struct ListsRead {
     pub at: u32,
@@ -136,7 +138,8 @@ fn lists_item(
 
 /// What is kept of the first of areas.
 fn first_area(alloc: Global, needs: bool, lists: Lists) -> Result<Areas, Stop>
-    ensures polygons { IfOk result (λ areas. areas.polygons.items ≡ kept needs (record { rings = lists.paths.items } ∷ [])) }
+    ensures polygons { IfOk result (λ areas. areas.polygons.items ≡ kept needs (record { rings = lists.paths.items }
+        ∷ [])) }
     ensures fault { IfOk result (λ areas. areas.fault ≡ lists.as_rings) }
 {
     Ok(Areas {
@@ -281,8 +284,9 @@ fn brackets_ahead(text: &[u8], at: usize) -> usize
     count
 }
 
-/// Coordinates of positions of two numbers that are written plainly, from their opening bracket on, which stands at the place:
-/// a list of positions, an array of such lists, or an array of these. Which of them is looked for the brackets tell.
+/// Coordinates of positions of two numbers that are written plainly, from their opening bracket on, which stands at the
+/// place: a list of positions, an array of such lists, or an array of these. Which of them is looked for the brackets
+/// tell.
 pub fn read_coordinates(
     algebra: &GeoAlgebra,
     alloc: Global,

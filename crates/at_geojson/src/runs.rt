@@ -1,12 +1,13 @@
 //! Arrays whose items are joined as they come: of an object nothing is kept.
 //!
-//! Runs whose features have a hull of many corners are joined as in a binary counter, since a join takes a time that grows
-//! with the corners of both.
+//! Runs whose features have a hull of many corners are joined as in a binary counter, since a join takes a time that
+//! grows with the corners of both.
 
 ghost use Rattle.std.specs.Prelude.{◌≡◌, ◌++◌, ◌∷◌, [], All, IfOk, None, true};
 ghost use Rattle.std.specs.List.{list_any};
 ghost use Rattle.at_geojson.specs.Atoms.{twin_of as twin_in, IsOwn, AreOwnItems};
-ghost use Rattle.at_geojson.specs.Gathering.{firsts, is_run as run_is, item_geometries, item_features, JoinsShapes, JoinsFound, AreJoinable};
+ghost use Rattle.at_geojson.specs.Gathering.{firsts, is_run as run_is, item_geometries, item_features, JoinsShapes};
+ghost use Rattle.at_geojson.specs.Gathering.{JoinsFound, AreJoinable};
 ghost use Rattle.at_geojson.specs.Arrays.{joins_run, Adds, TakesRun, Settles, ClosesItems};
 
 use crate::asked::GeoAlgebra;
@@ -149,7 +150,8 @@ fn join_run(
     requires atom { IsOwn algebra.now atom }
     requires joins { joins_run atom ≡ true }
     ensures own { IfOk result (λ u. All (IsOwn algebra.now) items.new.items) }
-    ensures fold { IfOk result (λ u. Adds algebra.now (items.old.items ++ GeoAtom.Run before ∷ []) atom items.new.items) }
+    ensures fold { IfOk result (λ u. Adds algebra.now (items.old.items ++ GeoAtom.Run before ∷ []) atom
+        items.new.items) }
 {
     let more = into_items(atom);
     let joined = joined_run(alloc, before, more)?;
@@ -211,7 +213,8 @@ fn settled_run(
     requires run { AreOwnItems algebra.now run.value }
     ensures items { IfOk result (λ b. All (IsOwn algebra.now) items.new.items) }
     ensures run { IfOk result (λ b. AreOwnItems algebra.now b.value) }
-    ensures fold { IfOk result (λ b. Settles algebra.now (items.old.items ++ GeoAtom.Run run ∷ []) (items.new.items ++ GeoAtom.Run b ∷ [])) }
+    ensures fold { IfOk result (λ b. Settles algebra.now (items.old.items ++ GeoAtom.Run run ∷ []) (items.new.items
+        ++ GeoAtom.Run b ∷ [])) }
 {
     let mut settled = run;
     while let Some(before) = take_run(items, weight(&settled))? {
@@ -233,7 +236,8 @@ fn add_behind_heavy(
     requires atom { IsOwn algebra.now atom }
     requires joins { joins_run atom ≡ true }
     ensures own { IfOk result (λ u. All (IsOwn algebra.now) items.new.items) }
-    ensures fold { IfOk result (λ u. Adds algebra.now (items.old.items ++ GeoAtom.Run before ∷ []) atom items.new.items) }
+    ensures fold { IfOk result (λ u. Adds algebra.now (items.old.items ++ GeoAtom.Run before ∷ []) atom
+        items.new.items) }
 {
     let settled = settled_run(alloc, algebra, items, before)?;
     items.push(GeoAtom::Run(settled))?;
@@ -253,7 +257,8 @@ fn add_behind_run(
     requires atom { IsOwn algebra.now atom }
     requires joins { joins_run atom ≡ true }
     ensures own { IfOk result (λ u. All (IsOwn algebra.now) items.new.items) }
-    ensures fold { IfOk result (λ u. Adds algebra.now (items.old.items ++ GeoAtom.Run before ∷ []) atom items.new.items) }
+    ensures fold { IfOk result (λ u. Adds algebra.now (items.old.items ++ GeoAtom.Run before ∷ []) atom
+        items.new.items) }
 {
     if weight(&before) <= LIGHT {
         join_run(alloc, algebra, items, before, atom)
@@ -305,10 +310,10 @@ fn join_item(
     }
 }
 
-/// Puts an atom behind those of an array's items. Objects one behind another become one run, where nothing stands before
-/// them, and several runs where their hull has many corners. The hulls of several have at most half as many corners each
-/// as that before it, so that a corner takes part in few joins. Lists of positions one behind another become one series, and
-/// positions one track.
+/// Puts an atom behind those of an array's items. Objects one behind another become one run, where nothing stands
+/// before them, and several runs where their hull has many corners. The hulls of several have at most half as many
+/// corners each as that before it, so that a corner takes part in few joins. Lists of positions one behind another
+/// become one series, and positions one track.
 pub fn add_item(
     alloc: Global,
     algebra: &GeoAlgebra,

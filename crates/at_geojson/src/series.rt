@@ -6,7 +6,8 @@ ghost use Rattle.at_geojson.specs.Keeping.{kept};
 ghost use Rattle.at_geojson.specs.Atoms.{IsOwn};
 ghost use Rattle.at_geojson.specs.Arrays.{Adds, ClosesItems};
 ghost use Rattle.at_geojson.specs.Gathering.{path_in};
-ghost use Rattle.at_geojson.specs.Series.{is_list as list_is, as_series, lines_of, rings_of, paths_of, Lengthens, Begins, Joins, JoinsIf, IfOwnSeries, JoinsLists};
+ghost use Rattle.at_geojson.specs.Series.{is_list as list_is, as_series, lines_of, rings_of, paths_of, Lengthens};
+ghost use Rattle.at_geojson.specs.Series.{Begins, Joins, JoinsIf, IfOwnSeries, JoinsLists};
 
 use crate::asked::GeoAlgebra;
 use crate::atoms::{GeoAtom, Lists, ListsAtom, SeriesAtom};
@@ -145,8 +146,8 @@ fn told_paths(
     }
 }
 
-/// What is kept of lists, and of those of an atom behind them. Their paths are told while they have no fault as lines, or
-/// none as rings.
+/// What is kept of lists, and of those of an atom behind them. Their paths are told while they have no fault as lines,
+/// or none as rings.
 fn joined_lists(alloc: Global, needs: bool, lists: Lists, atom: GeoAtom) -> Result<Lists, Memory>
     ensures { IfOk result (Lengthens needs lists atom) }
 {

@@ -2,7 +2,9 @@
 
 ghost use Rattle.std.specs.Prelude.{◌≡◌};
 ghost use Rattle.at_geojson.specs.Atoms.{at_of as offset_in};
-ghost use Rattle.at_geojson.specs.Gathering.{rank as rank_of, sort_of as the_sort, are_all as all_are, sort_of_all as the_sort_of_all, first_sort as the_first_sort, first_at as first_offset, least_of as least_offset};
+ghost use Rattle.at_geojson.specs.Gathering.{rank as rank_of, sort_of as the_sort, are_all as all_are};
+ghost use Rattle.at_geojson.specs.Gathering.{sort_of_all as the_sort_of_all, first_sort as the_first_sort};
+ghost use Rattle.at_geojson.specs.Gathering.{first_at as first_offset, least_of as least_offset};
 
 use crate::atoms::GeoAtom;
 

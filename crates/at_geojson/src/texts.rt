@@ -2,7 +2,8 @@
 
 ghost use Rattle.std.specs.Prelude.{◌≡◌, ◌++◌, [], IfOk};
 ghost use Rattle.at_geojson.specs.Atoms.{as_text};
-ghost use Rattle.at_geojson.specs.Objects.{texts_in as texts_inside, texts_named, pair_kept, kept_texts as the_kept_texts};
+ghost use Rattle.at_geojson.specs.Objects.{texts_in as texts_inside, texts_named, pair_kept};
+ghost use Rattle.at_geojson.specs.Objects.{kept_texts as the_kept_texts};
 
 use crate::asked::asks_pair;
 use crate::atoms::GeoAtom;
@@ -86,7 +87,8 @@ fn add_member(
     tests: &[Test],
     member: &Member<GeoAtom>,
 ) -> Result<(), Memory>
-    ensures { IfOk result (λ _. texts.new.items ≡ texts.old.items ++ pair_kept tests.now member.now.name (as_text member.now.value) []) }
+    ensures { IfOk result (λ _. texts.new.items ≡ texts.old.items ++ pair_kept tests.now member.now.name
+        (as_text member.now.value) []) }
 {
     match &member.value {
         GeoAtom::Text(text) => match &text.units {

@@ -6,7 +6,9 @@ ghost use Rattle.at_geojson.specs.Keeping.{kept};
 ghost use Rattle.at_geojson.specs.Atoms.{IsOwn};
 ghost use Rattle.at_geojson.specs.Arrays.{Adds, ClosesItems};
 ghost use Rattle.at_geojson.specs.Gathering.{position_value as value_in};
-ghost use Rattle.at_geojson.specs.Tracks.{is_position as position_is, as_track, place_in, last_in, count_in, fault_in, path_in, places_close, Lengthens, Begins, Joins, JoinsIf, IfOwnTrack, JoinsPositions, ClosesTrack, ClosesTrackAtom};
+ghost use Rattle.at_geojson.specs.Tracks.{is_position as position_is, as_track, place_in, last_in, count_in, fault_in};
+ghost use Rattle.at_geojson.specs.Tracks.{path_in, places_close, Lengthens, Begins, Joins, JoinsIf, IfOwnTrack};
+ghost use Rattle.at_geojson.specs.Tracks.{JoinsPositions, ClosesTrack, ClosesTrackAtom};
 
 use crate::asked::GeoAlgebra;
 use crate::atoms::{GeoAtom, Points, PointsAtom, Track, TrackAtom};
@@ -19,8 +21,8 @@ use at_geom::{Pos, line_fault, ring_fault};
 use at_text::{Fault, Memory, first_fault};
 use std::alloc::Global;
 
-/// A path of at most so many positions is copied to where it has no room left, so that many small ones take no more memory
-/// than they need. A longer one stays: the copy would stand beside it for a while.
+/// A path of at most so many positions is copied to where it has no room left, so that many small ones take no more
+/// memory than they need. A longer one stays: the copy would stand beside it for a while.
 const SHORT: usize = 4096;
 
 /// Whether an atom is a position, or several.

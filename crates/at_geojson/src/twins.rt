@@ -80,8 +80,8 @@ fn first_twin_of_few(members: &[Member<GeoAtom>]) -> Option<Fault>
     first
 }
 
-/// The first fault of equal names of members and in their values: a name whose hash another one has is looked for in the
-/// set of such names before it.
+/// The first fault of equal names of members and in their values: a name whose hash another one has is looked for in
+/// the set of such names before it.
 fn first_twin_of_many(alloc: Global, members: &[Member<GeoAtom>]) -> Result<Option<Fault>, Memory>
     ensures { IfOk result (λ first. first ≡ member_twins [] members.now) }
 {

@@ -356,7 +356,8 @@ fn put_field(
     Ok(end)
 }
 
-/// The same of a member for which no kind asks, where no test looks at texts: a string, literal or number is passed over.
+/// The same of a member for which no kind asks, where no test looks at texts: a string, literal or number is passed
+/// over.
 #[cycle(values)]
 #[inline(always)]
 fn other_field(

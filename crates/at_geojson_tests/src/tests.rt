@@ -37,7 +37,8 @@ fn piece(
     requires fits { length bytes.now ≤ 2 ^ 28 }
     requires order { from ≤ to }
     requires end { to ≤ length bytes.now }
-    ensures { StandsFor (Kept (IsOwn algebra.now) (IsFold algebra.now) (IsRun algebra.now)) from (part_of bytes.now from to) result }
+    ensures { StandsFor (Kept (IsOwn algebra.now) (IsFold algebra.now) (IsRun algebra.now)) from
+        (part_of bytes.now from to) result }
 {
     run_block(alloc, algebra, &bytes[from as usize..to as usize], from)
 }
@@ -55,9 +56,12 @@ fn joined(
     requires fits { length bytes.now ≤ 2 ^ 28 }
     requires order { at ≤ to }
     requires end { to ≤ length bytes.now }
-    requires left { StandsFor (Kept (IsOwn algebra.now) (IsFold algebra.now) (IsRun algebra.now)) 0 (part_of bytes.now 0 at) left }
-    requires right { StandsFor (Kept (IsOwn algebra.now) (IsFold algebra.now) (IsRun algebra.now)) at (part_of bytes.now at to) right }
-    ensures { StandsFor (Kept (IsOwn algebra.now) (IsFold algebra.now) (IsRun algebra.now)) 0 (part_of bytes.now 0 to) result }
+    requires left { StandsFor (Kept (IsOwn algebra.now) (IsFold algebra.now) (IsRun algebra.now)) 0
+        (part_of bytes.now 0 at) left }
+    requires right { StandsFor (Kept (IsOwn algebra.now) (IsFold algebra.now) (IsRun algebra.now)) at
+        (part_of bytes.now at to) right }
+    ensures { StandsFor (Kept (IsOwn algebra.now) (IsFold algebra.now) (IsRun algebra.now)) 0 (part_of bytes.now 0 to)
+        result }
 {
     merge(alloc, algebra, bytes, left, right)
 }
@@ -718,7 +722,8 @@ fn corners_of_parabola(alloc: Global) -> Result<String, Fail> {
     Ok(text)
 }
 
-/// Whether the hull of so many points is told so, read at once, and item by item where the text is cut within the array.
+/// Whether the hull of so many points is told so, read at once, and item by item where the text is cut within the
+/// array.
 fn compare_parabola<R: Abort + AllocGlobal>(
     rt: &R,
     count: u32,

@@ -1,5 +1,7 @@
--- The region of a polygon: its exterior and what it encloses, without the insides of its holes (OGC 06-103r4 section 6.1.11; RFC 7946 section 3.1.6).
-use Rattle.std.specs.Prelude.{◌%◌, ℤ, pos, ◌+ℤ◌, ◌-ℤ◌, ◌*ℤ◌, nat_abs, Bool, false, not, ◌==◌, if◌then◌else◌, int_le, int_lt, IsTrue, ◌⊎◌, List, [], ◌∷◌, count_by, map, fold}
+-- The region of a polygon: its exterior and what it encloses, without the insides of its holes (OGC 06-103r4 section
+-- 6.1.11; RFC 7946 section 3.1.6).
+use Rattle.std.specs.Prelude.{◌%◌, ℤ, pos, ◌+ℤ◌, ◌-ℤ◌, ◌*ℤ◌, nat_abs, Bool, false, not, ◌==◌, if◌then◌else◌, int_le}
+use Rattle.std.specs.Prelude.{int_lt, IsTrue, ◌⊎◌, List, [], ◌∷◌, count_by, map, fold}
 use Rattle.std.specs.Int.{w128, int_wrap}
 use Rattle.std.specs.List.{AllByRecursion}
 use Rattle.at_text.specs.Lists.{SomeOf}
@@ -11,7 +13,8 @@ use Rattle.at_geom.specs.Segments.{IsOn, edges}
 abbrev pub IsOnRing : Pos → List Pos → Type 0
 IsOnRing p ring = SomeOf (λ (e : Pos × Pos). IsOn p e.0 e.1) (edges ring)
 
--- how far the edge ab has gone to the right at the height of p, and how far p is to the right of a, both times the rise of ab
+-- how far the edge ab has gone to the right at the height of p, and how far p is to the right of a, both times the rise
+-- of ab
 abbrev pub run_of_edge : Pos → Pos → Pos → ℤ
 run_of_edge p a b = (p.y -ℤ a.y) *ℤ (b.x -ℤ a.x)
 
@@ -35,7 +38,8 @@ IsNotInHole p hole = IsOnRing p hole ⊎ IsTrue (not (is_odd_for p hole))
 
 abbrev pub IsInRings : Pos → List (List Pos) → Type 0
 IsInRings p [] = ⊥
-IsInRings p (exterior ∷ holes) = (IsOnRing p exterior ⊎ IsTrue (is_odd_for p exterior)) × AllByRecursion (IsNotInHole p) holes
+IsInRings p (exterior ∷ holes) = (IsOnRing p exterior ⊎ IsTrue (is_odd_for p exterior))
+    × AllByRecursion (IsNotInHole p) holes
 
 -- p belongs to the region of the polygon
 abbrev pub IsInPolygon : Pos → Polygon → Type 0
@@ -65,7 +69,8 @@ wrapped_ring_size ring = int_wrap w128 (pos (nat_abs (int_wrap w128 (shoelace ri
 
 abbrev pub wrapped_area_of_rings : List (List Pos) → ℤ
 wrapped_area_of_rings [] = pos 0
-wrapped_area_of_rings (exterior ∷ holes) = int_wrap w128 (wrapped_ring_size exterior -ℤ sum_of (map wrapped_ring_size holes))
+wrapped_area_of_rings (exterior ∷ holes) =
+    int_wrap w128 (wrapped_ring_size exterior -ℤ sum_of (map wrapped_ring_size holes))
 
 abbrev pub wrapped_area : Polygon → ℤ
 wrapped_area polygon = wrapped_area_of_rings polygon.rings

@@ -10,7 +10,8 @@ IsInRange p = (nat_abs p.x ≤ 300000000000000) × (nat_abs p.y ≤ 300000000000
 abbrev pub part_way : ℕ → ℕ → ℤ → ℤ → ℤ
 part_way n j a b = (pos (n - j) *ℤ a) +ℤ (pos j *ℤ b)
 
--- the closed segments ab and cd have a common point: it lies j of n parts of the way along the one, and k of n along the other
+-- the closed segments ab and cd have a common point: it lies j of n parts of the way along the one, and k of n along
+-- the other
 pub record HaveCommonPoint (a b c d : Pos) : Type 0 where
   pub n : ℕ
   pub j : ℕ

@@ -1,5 +1,6 @@
 -- Shapes: their positions and segments, where two of them meet, their extents, and what is wrong with a line or ring.
-use Rattle.std.specs.Prelude.{ℕ, ◌⊎◌, Bool, false, not, ◌&&◌, ◌||◌, nat_lt, int_le, if◌then◌else◌, List, [], ◌∷◌, ◌++◌, All, map, flat_map, Option, Some, None}
+use Rattle.std.specs.Prelude.{ℕ, ◌⊎◌, Bool, false, not, ◌&&◌, ◌||◌, nat_lt, int_le, if◌then◌else◌, List, [], ◌∷◌, ◌++◌}
+use Rattle.std.specs.Prelude.{All, map, flat_map, Option, Some, None}
 use Rattle.std.specs.Int.{int_min, int_max}
 use Rattle.std.specs.List.{list_all}
 use Rattle.at_text.specs.declared.faults.Fault.{Fault}
@@ -62,7 +63,8 @@ IsInSome p polygons = SomeOf (IsInPolygon p) polygons
 abbrev pub SomeIsIn : List Pos → List Polygon → Type 0
 SomeIsIn ps polygons = SomeOf (λ (p : Pos). IsInSome p polygons) ps
 
--- some segment of the one and some segment of the other have a common point, or some position of one is in a polygon of the other
+-- some segment of the one and some segment of the other have a common point, or some position of one is in a polygon of
+-- the other
 abbrev pub Meet : Shape → Shape → Type 0
 Meet s u = SomeMeet (segments s) (segments u) ⊎ (SomeIsIn (positions s) u.polygons ⊎ SomeIsIn (positions u) s.polygons)
 
@@ -84,7 +86,8 @@ is_within e p = (int_le e.low.x p.x && int_le p.x e.high.x) && (int_le e.low.y p
 
 -- the extent f lies in the extent e
 abbrev pub encloses : Extent → Extent → Bool
-encloses e f = (int_le e.low.x f.low.x && int_le f.high.x e.high.x) && (int_le e.low.y f.low.y && int_le f.high.y e.high.y)
+encloses e f = (int_le e.low.x f.low.x && int_le f.high.x e.high.x)
+    && (int_le e.low.y f.low.y && int_le f.high.y e.high.y)
 
 -- there is a position, and each is in the closed extent
 abbrev pub are_all_within : Extent → List Pos → Bool

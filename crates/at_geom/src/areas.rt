@@ -3,7 +3,8 @@
 ghost use Rattle.std.specs.Prelude.{◌≡◌, ◌*ℤ◌, ◌-ℤ◌, ◌<◌, ◌^◌, length, All, map};
 ghost use Rattle.std.specs.Int.{w128, int_wrap};
 ghost use Rattle.at_geom.specs.Segments.{IsInRange};
-ghost use Rattle.at_geom.specs.Regions.{doubled_area as area_of, wrapped_area, wrapped_ring_size, shoelace as shoelace_of, sum_of};
+ghost use Rattle.at_geom.specs.Regions.{doubled_area as area_of, wrapped_area, wrapped_ring_size};
+ghost use Rattle.at_geom.specs.Regions.{shoelace as shoelace_of, sum_of};
 ghost use Rattle.at_geom.specs.Shapes.{joined};
 
 use crate::integers::product;

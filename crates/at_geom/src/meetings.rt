@@ -2,7 +2,8 @@
 
 ghost use Rattle.std.specs.Prelude.{◌≡◌, IsTrue, ◌↔◌, Some, All, flat_map};
 ghost use Rattle.at_geom.specs.Segments.{IsInRange, edges};
-ghost use Rattle.at_geom.specs.Shapes.{ArePathsInRange, ArePolygonsInRange, IsShapeInRange, MeetsSome, SomeMeet, segments, segments_of_points, segments_of_polygons, positions, extent_of, Meet};
+ghost use Rattle.at_geom.specs.Shapes.{ArePathsInRange, ArePolygonsInRange, IsShapeInRange, MeetsSome, SomeMeet};
+ghost use Rattle.at_geom.specs.Shapes.{segments, segments_of_points, segments_of_polygons, positions, extent_of, Meet};
 
 use crate::extents::extent;
 use crate::positions::{Path, Pos};

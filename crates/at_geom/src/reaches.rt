@@ -3,7 +3,8 @@
 ghost use Rattle.std.specs.Prelude.{◌≡◌, IsTrue, ◌↔◌, IfSome, Some, All};
 ghost use Rattle.std.specs.List.{AllByRecursion};
 ghost use Rattle.at_geom.specs.Segments.{IsInRange};
-ghost use Rattle.at_geom.specs.Shapes.{ArePathsInRange, ArePolygonsInRange, IsShapeInRange, IsInSome, SomeIsIn, positions, joined, positions_of_polygons, extent_of, is_within};
+ghost use Rattle.at_geom.specs.Shapes.{ArePathsInRange, ArePolygonsInRange, IsShapeInRange, IsInSome, SomeIsIn};
+ghost use Rattle.at_geom.specs.Shapes.{positions, joined, positions_of_polygons, extent_of, is_within};
 ghost use Rattle.at_geom.specs.Closed.{IsClosed, HasClosedExterior};
 
 use crate::positions::{Path, Pos};

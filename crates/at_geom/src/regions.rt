@@ -119,8 +119,8 @@ fn is_between(a: i64, b: i64, c: i64) -> bool
     a.min(b) <= c && c <= a.max(b)
 }
 
-/// Whether the ray to the right of `p`, which isn't on the line of the edge `ab`, crosses the edge. `side` says on which
-/// side of that line `p` is.
+/// Whether the ray to the right of `p`, which isn't on the line of the edge `ab`, crosses the edge. `side` says on
+/// which side of that line `p` is.
 fn is_crossed(p: Pos, a: Pos, b: Pos, side: i128) -> bool
     requires side_of_line { side ≡ turn_of a b p }
     requires off_line { side ≢ pos 0 }

@@ -197,8 +197,10 @@ fn push_outside(hull: &[Pos], points: &[Pos], waiting: &mut Vec<Pos>) -> Result<
     requires hull_in_range { All IsInRange hull.now }
     requires points_in_range { All IsInRange points.now }
     requires waiting_in_range { All IsInRange waiting.old.items }
-    ensures held { OnOk result (HaveOneHull ((hull.now ++ waiting.old.items) ++ points.now) (hull.now ++ waiting.new.items)) }
-    ensures err { OnErr result (HoldsFront (record { hull = hull.now; waiting = waiting.old.items }) points.now (record { hull = hull.now; waiting = waiting.new.items })) }
+    ensures held { OnOk result (HaveOneHull ((hull.now ++ waiting.old.items) ++ points.now)
+        (hull.now ++ waiting.new.items)) }
+    ensures err { OnErr result (HoldsFront (record { hull = hull.now; waiting = waiting.old.items }) points.now
+        (record { hull = hull.now; waiting = waiting.new.items })) }
     ensures in_range { All IsInRange waiting.new.items }
 {
     for p in points {

@@ -99,7 +99,8 @@ pub(crate) fn is_within(hull: &[Pos], p: Pos) -> bool
 pub fn covers_all(hull: &Path, others: &Path) -> bool
     requires hull_in_range { All IsInRange hull.now }
     requires others_in_range { All IsInRange others.now }
-    ensures { IsTrue result → (ps qs : List Pos) → IsHull ps hull.now → IsHull qs others.now → IsHull (ps ++ qs) hull.now }
+    ensures { IsTrue result → (ps qs : List Pos) → IsHull ps hull.now → IsHull qs others.now
+        → IsHull (ps ++ qs) hull.now }
 {
     for p in others.as_slice() {
         if !is_within(hull.as_slice(), *p) {

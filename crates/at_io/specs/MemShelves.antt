@@ -1,5 +1,6 @@
 -- What a shelf in memory holds, and when its calls fail.
-use Rattle.std.specs.Prelude.{◌≡◌, ◌⊎◌, ℕ, ◌+◌, ◌<◌, min, Contains, List, [], length, drop, slice_get, Option, Some, None, option_map, option_and_then, if◌then◌else◌}
+use Rattle.std.specs.Prelude.{◌≡◌, ◌⊎◌, ℕ, ◌+◌, ◌<◌, min, Contains, List, [], length, drop, slice_get, Option, Some}
+use Rattle.std.specs.Prelude.{None, option_map, option_and_then, if◌then◌else◌}
 use Rattle.at_io.specs.Counts.{last_count}
 use Rattle.at_io.specs.Files.{Files, bytes_named}
 use Rattle.at_io.specs.declared.mem_shelf.NamedFile.{NamedFile}

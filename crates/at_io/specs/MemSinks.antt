@@ -17,7 +17,8 @@ room_left s = s.room - vec_len s.bytes
 
 -- how many bytes of a piece the next put keeps: as many as there is room for, and at most its limit where it has one
 abbrev pub kept_length : MemSink → List ℕ → ℕ
-kept_length s piece = min (room_left s) (min (unwrap_or (limit_at (failing_puts s) s.puts) (length piece)) (length piece))
+kept_length s piece = min (room_left s) (min (unwrap_or (limit_at (failing_puts s) s.puts) (length piece))
+    (length piece))
 
 -- the next put of the piece fails: its number is listed, or the piece is longer than the room that is left
 abbrev pub PutFails : MemSink → List ℕ → Type 0

@@ -1,5 +1,6 @@
 -- What a shelf of equal bytes holds, and when its calls fail.
-use Rattle.std.specs.Prelude.{◌≡◌, ℕ, ◌+◌, ◌<◌, min, List, [], ◌∷◌, length, replicate, string_bytes, Option, Some, None, if◌then◌else◌}
+use Rattle.std.specs.Prelude.{◌≡◌, ℕ, ◌+◌, ◌<◌, min, List, [], ◌∷◌, length, replicate, string_bytes, Option, Some, None}
+use Rattle.std.specs.Prelude.{if◌then◌else◌}
 use Rattle.at_io.specs.Counts.{last_count}
 use Rattle.at_io.specs.Files.{Files, bytes_named}
 use Rattle.at_io.specs.declared.repeat_shelf.RepeatShelf.{RepeatShelf}

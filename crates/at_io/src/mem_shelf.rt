@@ -1,6 +1,8 @@
 //! The shelf in memory, whose calls fail where they are told to.
 
-ghost use Rattle.std.specs.Prelude.{false, ◌≡◌, ◌+◌, ◌^◌, ◌<◌, ◌≤◌, ◌↔◌, ℕ, [], length, take, drop, map, None, Some, slice_get, Contains, IsOk, IsErr, IfOk, OnOk, OnErr, IfSome, MatchOption, IsTrue, bytes_eq};
+ghost use Rattle.std.specs.Prelude.{false, ◌≡◌, ◌+◌, ◌^◌, ◌<◌, ◌≤◌, ◌↔◌, ℕ, [], length, take, drop, map, None, Some};
+ghost use Rattle.std.specs.Prelude.{slice_get, Contains, IsOk, IsErr, IfOk, OnOk, OnErr, IfSome, MatchOption, IsTrue};
+ghost use Rattle.std.specs.Prelude.{bytes_eq};
 ghost use Rattle.at_io.specs.Distinct.{all_differ};
 ghost use Rattle.at_io.specs.Counts.{next_count, last_count, Rose};
 ghost use Rattle.at_io.specs.Files.{bytes_named, name_among};
@@ -72,7 +74,8 @@ impl MemShelf {
 /// The place of the first file of that name.
 fn place_of(files: &[NamedFile], name: &str) -> Option<usize>
     ensures { MatchOption result (bytes_named (entries_of files.now) name.now ≡ None)
-        (λ i. (f : _) × (slice_get files.now i ≡ Some f) × (f.name ≡ name.now) × (bytes_named (entries_of files.now) name.now ≡ Some f.bytes)) }
+        (λ i. (f : _) × (slice_get files.now i ≡ Some f) × (f.name ≡ name.now)
+        × (bytes_named (entries_of files.now) name.now ≡ Some f.bytes)) }
 {
     for (i, file) in files.iter().enumerate() {
         if file.name.as_str() == name {
@@ -122,10 +125,12 @@ impl MemShelf {
 }
 
 impl Shelf for MemShelf {
-    ghost use Rattle.std.specs.Prelude.{◌≡◌, ◌+◌, ◌<◌, ◌≤◌, ◌↔◌, [], length, take, drop, Some, IsSome, IsErr, IfOk, OnOk, OnErr};
+    ghost use Rattle.std.specs.Prelude.{◌≡◌, ◌+◌, ◌<◌, ◌≤◌, ◌↔◌, [], length, take, drop, Some, IsSome, IsErr, IfOk};
+    ghost use Rattle.std.specs.Prelude.{OnOk, OnErr};
     ghost use Rattle.at_io.specs.Counts.{next_count, Rose};
     ghost use Rattle.at_io.specs.Files.{bytes_named, name_among};
-    ghost use Rattle.at_io.specs.MemShelves.{files_of, failing_calls, left_of, named_of, calls_of, piece_of, given_of, taken_of, begins_of, broken_of, faults_of, BeginFails, ReadFails};
+    ghost use Rattle.at_io.specs.MemShelves.{files_of, failing_calls, left_of, named_of, calls_of, piece_of, given_of};
+    ghost use Rattle.at_io.specs.MemShelves.{taken_of, begins_of, broken_of, faults_of, BeginFails, ReadFails};
 
     ghost files = { λ s. Some (files_of s) };
 
@@ -142,7 +147,8 @@ impl Shelf for MemShelf {
     ghost faults = { faults_of };
 
     fn begin(&mut self, name: &str) -> Result<(), Failed>
-        ensures ok { OnOk result (IsSome (bytes_named (files_of self.old) name.now) × (Some (left_of self.new) ≡ bytes_named (files_of self.old) name.now)) }
+        ensures ok { OnOk result (IsSome (bytes_named (files_of self.old) name.now)
+            × (Some (left_of self.new) ≡ bytes_named (files_of self.old) name.now)) }
         ensures named { named_of self.new ≡ name_among (files_of self.old) name.now }
         ensures begins { begins_of self.new ≡ next_count (begins_of self.old) }
         ensures failed { OnErr result (Rose (faults_of self.old) (faults_of self.new)) }
@@ -173,7 +179,8 @@ impl Shelf for MemShelf {
 
     fn read(&mut self, room: &mut [u8]) -> Result<usize, Failed>
         ensures bound { IfOk result (λ n. n ≤ length room.new) }
-        ensures bytes { IfOk result (λ n. (take n room.new ≡ take n (left_of self.old)) × (Some (left_of self.new) ≡ Some (drop n (left_of self.old)))) }
+        ensures bytes { IfOk result (λ n. (take n room.new ≡ take n (left_of self.old))
+            × (Some (left_of self.new) ≡ Some (drop n (left_of self.old)))) }
         ensures end { IfOk result (λ n. 0 < length room.new → (n ≡ 0) ↔ (left_of self.old ≡ [])) }
         ensures unbegun { IfOk result (λ n. begins_of self.old ≡ 0 → n ≡ 0) }
         ensures taken { IfOk result (λ n. taken_of self.new ≡ taken_of self.old + n) }

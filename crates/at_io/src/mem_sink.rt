@@ -1,6 +1,7 @@
 //! The sink in memory, whose puts fail where they are told to.
 
-ghost use Rattle.std.specs.Prelude.{◌≡◌, ◌+◌, ◌-◌, ◌<◌, ◌≤◌, ◌↔◌, ◌++◌, ℕ, [], length, take, map, None, Some, vec_len, vec_capacity, IfOk, IsErr, MatchOption, nat_eq, IsTrue};
+ghost use Rattle.std.specs.Prelude.{◌≡◌, ◌+◌, ◌-◌, ◌<◌, ◌≤◌, ◌↔◌, ◌++◌, ℕ, [], length, take, map, None, Some, vec_len};
+ghost use Rattle.std.specs.Prelude.{vec_capacity, IfOk, IsErr, MatchOption, nat_eq, IsTrue};
 ghost use Rattle.at_io.specs.Distinct.{all_differ};
 ghost use Rattle.at_io.specs.Counts.{next_count};
 ghost use Rattle.at_io.specs.PutFails.{limit_at};
@@ -77,7 +78,8 @@ impl Sink for MemSink {
     ghost use Rattle.std.specs.Prelude.{Some, ◌-◌, ◌≡◌, ◌↔◌, ◌++◌, ◌≤◌, ◌<◌, take, OnOk, OnErr, IsErr};
     ghost use Rattle.at_io.specs.Counts.{next_count, Rose};
     ghost use Rattle.at_io.specs.Sinks.{Grows, GrowsByPrefix};
-    ghost use Rattle.at_io.specs.MemSinks.{written_of, failing_puts, puts_of, faults_of, kept_length, PutFails, room_left};
+    ghost use Rattle.at_io.specs.MemSinks.{written_of, failing_puts, puts_of, faults_of, kept_length, PutFails};
+    ghost use Rattle.at_io.specs.MemSinks.{room_left};
 
     ghost written = { λ s. Some (written_of s) };
 
@@ -86,7 +88,8 @@ impl Sink for MemSink {
     fn put(&mut self, piece: &[u8]) -> Result<(), Failed>
         ensures ok { OnOk result (Grows (Some (written_of self.old)) (Some (written_of self.new)) piece.now) }
         ensures failed { OnErr result (Rose (faults_of self.old) (faults_of self.new)) }
-        ensures kept { OnErr result (GrowsByPrefix (Some (written_of self.old)) (Some (written_of self.new)) piece.now) }
+        ensures kept { OnErr result (GrowsByPrefix (Some (written_of self.old)) (Some (written_of self.new))
+            piece.now) }
         ensures counted { faults_of self.old ≤ faults_of self.new }
 
         // Exactly when it fails, and what it keeps then.

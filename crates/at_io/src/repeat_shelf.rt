@@ -1,6 +1,7 @@
 //! The shelf with one file of equal bytes.
 
-ghost use Rattle.std.specs.Prelude.{false, ◌≡◌, ◌+◌, ◌<◌, ◌≤◌, ◌↔◌, [], ◌∷◌, length, take, drop, replicate, string_bytes, None, Some, IsSome, IsErr, IfOk, OnOk, OnErr, IsTrue, bytes_eq};
+ghost use Rattle.std.specs.Prelude.{false, ◌≡◌, ◌+◌, ◌<◌, ◌≤◌, ◌↔◌, [], ◌∷◌, length, take, drop, replicate};
+ghost use Rattle.std.specs.Prelude.{string_bytes, None, Some, IsSome, IsErr, IfOk, OnOk, OnErr, IsTrue, bytes_eq};
 ghost use Rattle.at_io.specs.Counts.{next_count, Rose};
 ghost use Rattle.at_io.specs.Files.{bytes_named, name_among};
 
@@ -59,10 +60,12 @@ impl RepeatShelf {
 }
 
 impl Shelf for RepeatShelf {
-    ghost use Rattle.std.specs.Prelude.{◌≡◌, ◌+◌, ◌<◌, ◌≤◌, ◌↔◌, [], length, take, drop, Some, IsSome, IsErr, IfOk, OnOk, OnErr};
+    ghost use Rattle.std.specs.Prelude.{◌≡◌, ◌+◌, ◌<◌, ◌≤◌, ◌↔◌, [], length, take, drop, Some, IsSome, IsErr, IfOk};
+    ghost use Rattle.std.specs.Prelude.{OnOk, OnErr};
     ghost use Rattle.at_io.specs.Counts.{next_count, Rose};
     ghost use Rattle.at_io.specs.Files.{bytes_named, name_among};
-    ghost use Rattle.at_io.specs.RepeatShelves.{files_of, named_of, left_of, given_of, taken_of, begins_of, broken_of, faults_of, BeginFails, ReadFails};
+    ghost use Rattle.at_io.specs.RepeatShelves.{files_of, named_of, left_of, given_of, taken_of, begins_of, broken_of};
+    ghost use Rattle.at_io.specs.RepeatShelves.{faults_of, BeginFails, ReadFails};
 
     ghost files = { λ s. Some (files_of s) };
 
@@ -79,7 +82,8 @@ impl Shelf for RepeatShelf {
     ghost faults = { faults_of };
 
     fn begin(&mut self, name: &str) -> Result<(), Failed>
-        ensures ok { OnOk result (IsSome (bytes_named (files_of self.old) name.now) × (Some (left_of self.new) ≡ bytes_named (files_of self.old) name.now)) }
+        ensures ok { OnOk result (IsSome (bytes_named (files_of self.old) name.now)
+            × (Some (left_of self.new) ≡ bytes_named (files_of self.old) name.now)) }
         ensures named { named_of self.new ≡ name_among (files_of self.old) name.now }
         ensures begins { begins_of self.new ≡ next_count (begins_of self.old) }
         ensures failed { OnErr result (Rose (faults_of self.old) (faults_of self.new)) }
@@ -105,7 +109,8 @@ impl Shelf for RepeatShelf {
 
     fn read(&mut self, room: &mut [u8]) -> Result<usize, Failed>
         ensures bound { IfOk result (λ n. n ≤ length room.new) }
-        ensures bytes { IfOk result (λ n. (take n room.new ≡ take n (left_of self.old)) × (Some (left_of self.new) ≡ Some (drop n (left_of self.old)))) }
+        ensures bytes { IfOk result (λ n. (take n room.new ≡ take n (left_of self.old))
+            × (Some (left_of self.new) ≡ Some (drop n (left_of self.old)))) }
         ensures end { IfOk result (λ n. 0 < length room.new → (n ≡ 0) ↔ (left_of self.old ≡ [])) }
         ensures unbegun { IfOk result (λ n. begins_of self.old ≡ 0 → n ≡ 0) }
         ensures taken { IfOk result (λ n. taken_of self.new ≡ taken_of self.old + n) }

@@ -1,6 +1,7 @@
 //! What files are read from.
 
-ghost use Rattle.std.specs.Prelude.{◌≡◌, ◌+◌, ◌<◌, ◌≤◌, ◌↔◌, ℕ, List, [], length, take, drop, Option, Some, IsSome, IfSome, IfOk, OnOk, OnErr};
+ghost use Rattle.std.specs.Prelude.{◌≡◌, ◌+◌, ◌<◌, ◌≤◌, ◌↔◌, ℕ, List, [], length, take, drop, Option, Some, IsSome};
+ghost use Rattle.std.specs.Prelude.{IfSome, IfOk, OnOk, OnErr};
 ghost use Rattle.at_io.specs.Counts.{next_count, Rose};
 ghost use Rattle.at_io.specs.Files.{Files, bytes_named, name_among};
 
@@ -10,8 +11,8 @@ pub struct Failed;
 
 /// Files that are begun by name and read from their first byte on, one at a time.
 ///
-/// A count never falls. Those of begins and of failures stand still at 2^64 - 1; that of bytes is the sum of all that was
-/// given. What a shelf doesn't tell, nothing is claimed of.
+/// A count never falls. Those of begins and of failures stand still at 2^64 - 1; that of bytes is the sum of all that
+/// was given. What a shelf doesn't tell, nothing is claimed of.
 pub trait Shelf {
     /// The names with the bytes under them, where the shelf tells that. No call changes it.
     ghost files: { Self → Option Files };
@@ -30,7 +31,8 @@ pub trait Shelf {
 
     /// Goes to the first byte of the file of that name. After `Failed` nothing is left to read.
     fn begin(&mut self, name: &str) -> Result<(), Failed>
-        ensures ok { OnOk result (IfSome (files self.old) (λ told. IsSome (left self.new) × (left self.new ≡ bytes_named told name.now))) }
+        ensures ok { OnOk result (IfSome (files self.old) (λ told. IsSome (left self.new)
+            × (left self.new ≡ bytes_named told name.now))) }
         ensures named { IfSome (files self.old) (λ told. named self.new ≡ name_among told name.now) }
         ensures begins { begins self.new ≡ next_count (begins self.old) }
 
@@ -49,7 +51,8 @@ pub trait Shelf {
     /// room that isn't empty is the end of the file. After `Failed` the room may hold any bytes.
     fn read(&mut self, room: &mut [u8]) -> Result<usize, Failed>
         ensures bound { IfOk result (λ n. n ≤ length room.new) }
-        ensures bytes { IfOk result (λ n. IfSome (left self.old) (λ told. (take n room.new ≡ take n told) × (left self.new ≡ Some (drop n told)))) }
+        ensures bytes { IfOk result (λ n. IfSome (left self.old) (λ told. (take n room.new ≡ take n told)
+            × (left self.new ≡ Some (drop n told)))) }
         ensures end { IfOk result (λ n. 0 < length room.new → IfSome (left self.old) (λ told. (n ≡ 0) ↔ (told ≡ []))) }
         ensures unbegun { IfOk result (λ n. begins self.old ≡ 0 → n ≡ 0) }
         ensures taken { IfOk result (λ n. taken self.new ≡ taken self.old + n) }

@@ -1,6 +1,7 @@
 //! A whole file of a shelf, read in turns.
 
-ghost use Rattle.std.specs.Prelude.{◌≡◌, ◌⊎◌, ◌+◌, ◌<◌, ◌≤◌, ◌^◌, ◌↔◌, ◌++◌, ℕ, List, length, vec_len, Option, Some, None, IsSome, IfSome, IfOk, IfErr, OnOk, IsErrOf};
+ghost use Rattle.std.specs.Prelude.{◌≡◌, ◌⊎◌, ◌+◌, ◌<◌, ◌≤◌, ◌^◌, ◌↔◌, ◌++◌, ℕ, List, length, vec_len, Option, Some};
+ghost use Rattle.std.specs.Prelude.{None, IsSome, IfSome, IfOk, IfErr, OnOk, IsErrOf};
 ghost use Rattle.at_io.specs.Counts.{next_count, Rose};
 ghost use Rattle.at_io.specs.Files.{bytes_named, name_among};
 
@@ -50,9 +51,11 @@ impl From<AllocError> for ReadError {
 fn read_left<S: Shelf>(alloc: Global, shelf: &mut S) -> Result<Vec<u8>, ReadError>
     ensures bytes { IfOk result (λ v. IfSome (S.left shelf.old) (λ told. v.items ≡ told)) }
     ensures size { IfOk result (λ v. (vec_len v ≤ LARGEST_FILE) × (S.taken shelf.new ≡ S.taken shelf.old + vec_len v)) }
-    ensures too_large { IsErrOf result ReadError.TooLarge ↔ (S.taken shelf.new ≡ S.taken shelf.old + (LARGEST_FILE + 1)) }
+    ensures too_large { IsErrOf result ReadError.TooLarge
+        ↔ (S.taken shelf.new ≡ S.taken shelf.old + (LARGEST_FILE + 1)) }
     ensures large { IsErrOf result ReadError.TooLarge → IfSome (S.left shelf.old) (λ told. LARGEST_FILE < length told) }
-    ensures failed { IsErrOf result ReadError.Failed → Rose (S.faults shelf.old) (S.faults shelf.new) × (S.broken shelf.new ≡ S.begins shelf.new) }
+    ensures failed { IsErrOf result ReadError.Failed → Rose (S.faults shelf.old) (S.faults shelf.new)
+        × (S.broken shelf.new ≡ S.begins shelf.new) }
     ensures unbroken { IsErrOf result ReadError.Failed ⊎ (S.broken shelf.new ≡ S.broken shelf.old) }
     ensures taken { S.taken shelf.old ≤ S.taken shelf.new }
     ensures limit { S.taken shelf.new ≤ S.taken shelf.old + (LARGEST_FILE + 1) }
@@ -85,10 +88,15 @@ pub fn read_whole<S: Shelf>(alloc: Global, shelf: &mut S, name: &str) -> Result<
     ensures size { IfOk result (λ v. (vec_len v ≤ LARGEST_FILE) × (S.taken shelf.new ≡ S.taken shelf.old + vec_len v)) }
 
     // Each refusal has its cause.
-    ensures failed { IsErrOf result ReadError.Failed → Rose (S.faults shelf.old) (S.faults shelf.new) × (S.broken shelf.new ≡ S.begins shelf.new) }
-    ensures too_large { IsErrOf result ReadError.TooLarge ↔ (S.taken shelf.new ≡ S.taken shelf.old + (LARGEST_FILE + 1)) }
-    ensures large { IsErrOf result ReadError.TooLarge → IfSome (S.files shelf.old) (λ told. IfSome (bytes_named told name.now) (λ bytes. LARGEST_FILE < length bytes)) }
-    ensures there { (IsErrOf result ReadError.Failed) ⊎ IfSome (S.files shelf.old) (λ told. IsSome (bytes_named told name.now)) }
+    ensures failed { IsErrOf result ReadError.Failed → Rose (S.faults shelf.old) (S.faults shelf.new)
+        × (S.broken shelf.new ≡ S.begins shelf.new) }
+    ensures too_large { IsErrOf result ReadError.TooLarge
+        ↔ (S.taken shelf.new ≡ S.taken shelf.old + (LARGEST_FILE + 1)) }
+    ensures large { IsErrOf result ReadError.TooLarge
+        → IfSome (S.files shelf.old) (λ told. IfSome (bytes_named told name.now) (λ bytes. LARGEST_FILE
+        < length bytes)) }
+    ensures there { (IsErrOf result ReadError.Failed)
+        ⊎ IfSome (S.files shelf.old) (λ told. IsSome (bytes_named told name.now)) }
 
     // The name was begun once, and what stays.
     ensures begins { S.begins shelf.new ≡ next_count (S.begins shelf.old) }

@@ -7,13 +7,15 @@ use Rattle.at_query.specs.Joined.{lower, upper}
 
 -- the two have a common point
 abbrev pub touch_of : Extent → Extent → Bool
-touch_of x y = (int_le x.low.x y.high.x && int_le y.low.x x.high.x) && (int_le x.low.y y.high.y && int_le y.low.y x.high.y)
+touch_of x y = (int_le x.low.x y.high.x && int_le y.low.x x.high.x)
+    && (int_le x.low.y y.high.y && int_le y.low.y x.high.y)
 
 -- all that is in both
 abbrev pub common_of : Extent → Extent → Extent
 common_of x y = record { low = upper x.low y.low; high = lower x.high y.high }
 
--- the two have a common point, and their reference point, the greater low x and the greater low y, lies in the rectangle
+-- the two have a common point, and their reference point, the greater low x and the greater low y, lies in the
+-- rectangle
 abbrev pub is_here_of : Extent → Extent → Extent → Bool
 is_here_of rect x y = touch_of x y && is_within rect (upper x.low y.low)
 

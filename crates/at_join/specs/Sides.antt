@@ -1,5 +1,7 @@
--- The order in which a side of a grid keeps its entries, and what is found in it. Only contracts of private functions cite this.
-use Rattle.std.specs.Prelude.{◌≡◌, ℕ, ◌+◌, ◌*◌, ◌<◌, Bool, true, List, [], ◌∷◌, ◌++◌, Option, Some, None, All, length, slice_index_or}
+-- The order in which a side of a grid keeps its entries, and what is found in it. Only contracts of private functions
+-- cite this.
+use Rattle.std.specs.Prelude.{◌≡◌, ℕ, ◌+◌, ◌*◌, ◌<◌, Bool, true, List, [], ◌∷◌, ◌++◌, Option, Some, None, All, length}
+use Rattle.std.specs.Prelude.{slice_index_or}
 use Rattle.std.specs.List.Sorted.{IsPermutation}
 use Rattle.at_geom.specs.declared.rectangles.Extent.{Extent}
 use Rattle.at_geom.specs.declared.shapes.Shape.{Shape}
@@ -52,7 +54,8 @@ is_cell_here rect (p, q) = is_here_of rect p.extent q.extent
 
 -- the pair is one of the rectangle, and the shape and that of the entry at the second place meet
 abbrev pub RowHit : Extent → Place → Shape → List Entry → Place → Type 0
-RowHit rect p shape b q = (is_here_of rect p.extent q.extent ≡ true) × (f : Entry) × IsAt b q.index f × Meet shape f.shape
+RowHit rect p shape b q = (is_here_of rect p.extent q.extent ≡ true) × (f : Entry) × IsAt b q.index f
+    × Meet shape f.shape
 
 -- the same of two places
 abbrev pub CellHit : Extent → List Entry → List Entry → Place × Place → Type 0

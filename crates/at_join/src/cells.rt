@@ -26,7 +26,10 @@ pub(crate) fn cell_rect(joint: Extent, cell: u32) -> Extent
 fn corner(joint: Extent, column: u32, row: u32) -> Pos
     requires parts { (column ≤ 8) × (row ≤ 8) }
     requires span { IsSpan joint }
-    ensures corner { result ≡ record { x = edge_of joint.low.x joint.high.x column; y = edge_of joint.low.y joint.high.y row } }
+    ensures corner { result ≡ record {
+      x = edge_of joint.low.x joint.high.x column;
+      y = edge_of joint.low.y joint.high.y row;
+    } }
     ensures bounds { (nat_abs result.x ≤ 1000000000000000) × (nat_abs result.y ≤ 1000000000000000) }
 {
     Pos {

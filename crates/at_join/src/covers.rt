@@ -31,7 +31,8 @@ pub(crate) fn covers_of(alloc: Global, places: &[Place], size: usize) -> Result<
 /// An extent round some places.
 fn cover_of(places: &[Place]) -> Extent
     requires { 0 < length places.now }
-    ensures { (k : ℕ) (e : Place) → k < length places.now → encloses result (slice_index_or places.now k e).extent ≡ true }
+    ensures { (k : ℕ) (e : Place) → k < length places.now → encloses result (slice_index_or places.now k e).extent
+        ≡ true }
 {
     let mut cover = places[0].extent;
     for place in places {
@@ -43,7 +44,8 @@ fn cover_of(places: &[Place]) -> Extent
 /// Whether a stretch of so many places begins at this one, and the extent round them and another have no common point.
 pub(crate) fn is_clear(covers: &[Extent], size: usize, at: usize, window: Extent) -> bool
     requires { 0 < size }
-    ensures { IsTrue result → (c : ℕ) × (at ≡ c * size) × ((d : Extent) → touch_of (slice_index_or covers.now c d) window ≡ false) }
+    ensures { IsTrue result → (c : ℕ) × (at ≡ c * size)
+        × ((d : Extent) → touch_of (slice_index_or covers.now c d) window ≡ false) }
 {
     if at % size != 0 {
         return false;

@@ -2,7 +2,8 @@
 ghost use Rattle.std.specs.Prelude.{◌≡◌, ◌+◌, ◌≤◌, OnOk, All, count_by, cond, [], ◌∷◌};
 ghost use Rattle.at_geom.specs.Shapes.{IsShapeInRange};
 ghost use Rattle.at_join.specs.Meetings.{AreInRange, Finds, pairs_of};
-ghost use Rattle.at_join.specs.Sides.{IsSide, IsPlaceOf, RowHit, CellHit, row_pair, at_places, is_row_here, is_cell_here};
+ghost use Rattle.at_join.specs.Sides.{IsSide, IsPlaceOf, RowHit, CellHit, row_pair, at_places, is_row_here};
+ghost use Rattle.at_join.specs.Sides.{is_cell_here};
 
 use crate::boxes::common;
 use crate::cells::is_here;
@@ -16,9 +17,9 @@ use at_text::Memory;
 use std::alloc::Global;
 use std::sync::ledger::Ledger;
 
-/// Puts all pairs of the cell of which the shapes meet behind the list. Before each exact test it takes a step. It goes over
-/// the second side once for each 16 places of the first, which mostly lie close together, or where the second is far longer
-/// once for each place, since most of what is near 16 together is then far from each.
+/// Puts all pairs of the cell of which the shapes meet behind the list. Before each exact test it takes a step. It goes
+/// over the second side once for each 16 places of the first, which mostly lie close together, or where the second is
+/// far longer once for each place, since most of what is near 16 together is then far from each.
 pub(crate) fn push_cell<L: Ledger>(
     alloc: Global,
     a: &Side,
@@ -31,7 +32,8 @@ pub(crate) fn push_cell<L: Ledger>(
     requires in_range { AreInRange a.now.entries × AreInRange b.now.entries }
     ensures pairs { OnOk result (Finds (CellHit rect a.now.entries b.now.entries) at_places
         (pairs_of a.now.places.items b.now.places.items) pairs.old.items pairs.new.items) }
-    ensures steps { steps.new ≤ steps.old + count_by (is_cell_here rect) (pairs_of a.now.places.items b.now.places.items) }
+    ensures steps { steps.new ≤ steps.old + count_by (is_cell_here rect)
+        (pairs_of a.now.places.items b.now.places.items) }
 {
     let first = a.entries.as_slice();
     let second = b.entries.as_slice();

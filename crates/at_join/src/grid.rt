@@ -59,8 +59,8 @@ impl Grid {
         let _joint = self.joint;
     }
 
-    /// The pairs of which the shapes meet and that belong to the cell, in no order. A step is taken before each exact test of
-    /// two shapes, and these are at most as many as the pairs that belong to the cell.
+    /// The pairs of which the shapes meet and that belong to the cell, in no order. A step is taken before each exact
+    /// test of two shapes, and these are at most as many as the pairs that belong to the cell.
     pub fn cell_pairs<L: Ledger>(
         &self,
         alloc: Global,
@@ -69,7 +69,8 @@ impl Grid {
     ) -> Result<Pairs, Memory>
         requires { cell < 64 }
         ensures pairs { IfOk result (ListsEach (InCells self.now.first self.now.second cell (cell + 1))) }
-        ensures steps { steps.new ≤ steps.old + count_by (belongs self.now.first self.now.second cell) (pairs_of self.now.first self.now.second) }
+        ensures steps { steps.new ≤ steps.old + count_by (belongs self.now.first self.now.second cell)
+            (pairs_of self.now.first self.now.second) }
     {
         let mut pairs = Vec::new(alloc);
         let Some(joint) = self.joint else {

@@ -15,7 +15,8 @@ use std::collections::LinkedList;
 use std::marker::Brand;
 use std::sync::ledger::{Blank, Ledger};
 
-/// What the meaning of a part rests on: the two lists, and the cells that are given up. No value is made when a program runs.
+/// What the meaning of a part rests on: the two lists, and the cells that are given up. No value is made when a program
+/// runs.
 pub struct Joining {
     pub first: Entries,
     pub second: Entries,

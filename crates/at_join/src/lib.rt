@@ -1,13 +1,14 @@
 //! The join of two lists of entries: all pairs of which the shapes meet.
 //!
-//! [`pairs_plain`] is the plain definition, by two loops. [`pairs_grid`] gives the same list by a [`Grid`] of 8 by 8 cells, of
-//! which each is a block of a job that several threads share. A pair of which the extents meet belongs to the one cell in which
-//! its reference point lies, the greater of the two least x and the greater of the two least y; so no pair is found twice.
+//! [`pairs_plain`] is the plain definition, by two loops. [`pairs_grid`] gives the same list by a [`Grid`] of 8 by 8
+//! cells, of which each is a block of a job that several threads share. A pair of which the extents meet belongs to the
+//! one cell in which its reference point lies, the greater of the two least x and the greater of the two least y; so no
+//! pair is found twice.
 //!
-//! Within a cell the pairs are found by runs of 16, 256 and 4,096 neighbouring entries, each with the least extent round them:
-//! where it is off, all of them are passed over at once. The second list is gone over once for each run of 16 of the first, and
-//! each of these looks only at what was near the run; only where the second is far longer, once for each entry of the first.
-//! Which entries are neighbours decides the time alone and no answer.
+//! Within a cell the pairs are found by runs of 16, 256 and 4,096 neighbouring entries, each with the least extent
+//! round them: where it is off, all of them are passed over at once. The second list is gone over once for each run of
+//! 16 of the first, and each of these looks only at what was near the run; only where the second is far longer, once
+//! for each entry of the first. Which entries are neighbours decides the time alone and no answer.
 #![tactic(auto)]
 
 mod boxes;

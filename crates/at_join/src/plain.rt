@@ -26,7 +26,8 @@ pub fn pairs_plain(alloc: Global, a: &Entries, b: &Entries) -> Result<Pairs, Mem
 fn push_meeting(pairs: &mut Vec<Pair>, entry: &Entry, others: &[Entry]) -> Result<(), Memory>
     requires entry { IsShapeInRange entry.now.shape }
     requires others { AreInRange others.now }
-    ensures { OnOk result (Finds (MeetsWith entry.now) (pair_with entry.now) others.now pairs.old.items pairs.new.items) }
+    ensures { OnOk result (Finds (MeetsWith entry.now) (pair_with entry.now) others.now pairs.old.items
+        pairs.new.items) }
 {
     for other in others {
         push_one(pairs, entry, other)?;
@@ -38,7 +39,8 @@ fn push_meeting(pairs: &mut Vec<Pair>, entry: &Entry, others: &[Entry]) -> Resul
 fn push_one(pairs: &mut Vec<Pair>, entry: &Entry, other: &Entry) -> Result<(), Memory>
     requires entry { IsShapeInRange entry.now.shape }
     requires other { IsShapeInRange other.now.shape }
-    ensures { OnOk result (Finds (MeetsWith entry.now) (pair_with entry.now) (other.now ∷ []) pairs.old.items pairs.new.items) }
+    ensures { OnOk result (Finds (MeetsWith entry.now) (pair_with entry.now) (other.now ∷ []) pairs.old.items
+        pairs.new.items) }
 {
     if !shapes_meet(&entry.shape, &other.shape) {
         return Ok(());

@@ -16,8 +16,8 @@ use at_query::Entries;
 use at_text::Memory;
 use std::alloc::Global;
 
-/// A list of entries, the places of those that have an extent, in an order in which near ones mostly are neighbours, and the
-/// extents round each 16, 256 and 4,096 of these.
+/// A list of entries, the places of those that have an extent, in an order in which near ones mostly are neighbours,
+/// and the extents round each 16, 256 and 4,096 of these.
 #[derive(Drop)]
 pub(crate) struct Side {
     pub(crate) entries: Entries,
@@ -88,7 +88,8 @@ impl Side {
         requires side { IsSide self.now }
         requires some { (from < to) × (to ≤ length self.now.places.items) }
         requires stretch { to ≤ from / 16 * 16 + 16 }
-        ensures { (k : ℕ) (e : Place) → from ≤ k → k < to → encloses result (slice_index_or self.now.places.items k e).extent ≡ true }
+        ensures { (k : ℕ) (e : Place) → from ≤ k → k < to
+            → encloses result (slice_index_or self.now.places.items k e).extent ≡ true }
     {
         if to == from + 1 {
             return self.places[from].extent;

@@ -15,7 +15,10 @@ use std::thread::Threads;
 
 // The ring of a rectangle by two of its corners.
 fn ring_of(alloc: Global, low: Pos, high: Pos) -> Result<Path, AllocError>
-    ensures { IfOk result (λ ring. ring ≡ low ∷ record { x = high.x; y = low.y } ∷ high ∷ record { x = low.x; y = high.y } ∷ low ∷ []) }
+    ensures { IfOk result (λ ring. ring ≡ low ∷ record { x = high.x; y = low.y } ∷ high ∷ record {
+      x = low.x;
+      y = high.y;
+    } ∷ low ∷ []) }
 {
     let right = Pos {
         x: high.x,

@@ -1,5 +1,7 @@
--- The tokens of a span of JSON as its bytes tell them, from each lexical state (RFC 8259 section 2). A file may be cut at any byte.
-use Rattle.std.specs.Prelude.{◌≡◌, ◌≢◌, ℕ, ◌+◌, ◌<◌, ◌==◌, not, ◌⊎◌, Bool, true, false, IsTrue, cond, if◌then◌else◌, List, [], ◌∷◌, ◌++◌, length, fold}
+-- The tokens of a span of JSON as its bytes tell them, from each lexical state (RFC 8259 section 2). A file may be cut
+-- at any byte.
+use Rattle.std.specs.Prelude.{◌≡◌, ◌≢◌, ℕ, ◌+◌, ◌<◌, ◌==◌, not, ◌⊎◌, Bool, true, false, IsTrue, cond, if◌then◌else◌}
+use Rattle.std.specs.Prelude.{List, [], ◌∷◌, ◌++◌, length, fold}
 use Rattle.std.specs.Bool.{⊤}
 use Rattle.std.specs.List.{AllByRecursion, list_any}
 use Rattle.at_text.specs.Texts.{is_space, is_run}
@@ -19,7 +21,8 @@ use Rattle.at_lex.specs.declared.tokens.Pend.{Pend}
 use Rattle.at_lex.specs.declared.tokens.Pend.TheVariants as pends
 use Rattle.at_lex.specs.declared.tokens.Lexed.{Lexed}
 
--- the lexical state after one byte more: a quote opens and closes a string, and in a string a backslash escapes the next byte
+-- the lexical state after one byte more: a quote opens and closes a string, and in a string a backslash escapes the
+-- next byte
 abbrev pub after_byte : Start → ℕ → Start
 after_byte Out b = cond (b == 0x22) InString Out
 after_byte InString b = cond (b == 0x5C) InEscape (cond (b == 0x22) Out InString)
@@ -88,7 +91,8 @@ abbrev pub closing : Bracket → ℕ
 closing Brace = 0x7D
 closing Square = 0x5D
 
--- the bytes v, the first of which stands at the offset `at`, are of this kind; the bytes `after` stand behind them in the span
+-- the bytes v, the first of which stands at the offset `at`, are of this kind; the bytes `after` stand behind them in
+-- the span
 abbrev pub IsKind : ℕ → List ℕ → List ℕ → TokenKind → Type 0
 IsKind at v after (Opens b) = v ≡ opening b ∷ []
 IsKind at v after (Closes b) = v ≡ closing b ∷ []
@@ -96,7 +100,8 @@ IsKind at v after Comma = v ≡ 0x2C ∷ []
 IsKind at v after Colon = v ≡ 0x3A ∷ []
 IsKind at v after Text = IsText v × JsonString v
 IsKind at v after Run = EndsRun v after × JsonRun v
-IsKind at v after (Broken place) = (n : ℕ) × (place ≡ at + n) × ((IsText v × IsRefused JsonString v n × (n < length v)) ⊎ (EndsRun v after × IsRefused JsonRun v n))
+IsKind at v after (Broken place) = (n : ℕ) × (place ≡ at + n) × ((IsText v × IsRefused JsonString v n × (n < length v))
+    ⊎ (EndsRun v after × IsRefused JsonRun v n))
 
 -- the bytes v are the token
 abbrev pub IsToken : ℕ → List ℕ → List ℕ → Token → Type 0
@@ -116,8 +121,8 @@ IsPend at v pends.Nothing = v ≡ []
 IsPend at v (pends.Run i) = (i ≡ at) × IsRun v
 IsPend at v (pends.Text i) = (i ≡ at) × (u : List ℕ) × (v ≡ 0x22 ∷ u) × StaysInText InString u
 
--- the bytes w, which stand at the offset `at` behind the lead, are these tokens with white space between them, up to the first
--- broken one, and then what may go on
+-- the bytes w, which stand at the offset `at` behind the lead, are these tokens with white space between them, up to
+-- the first broken one, and then what may go on
 abbrev pub AreTokens : ℕ → List ℕ → List Token → Pend → Type 0
 AreTokens at w [] pend = (a v : List ℕ) × (w ≡ a ++ v) × AreSpaces a × IsPend (at + length a) v pend
 AreTokens at w (t ∷ ts) pend = (a v r : List ℕ) × (w ≡ a ++ (v ++ r)) × AreSpaces a × IsToken (at + length a) v r t

@@ -1,6 +1,7 @@
--- The states of a reader of JSON strings, and what each byte does to them (RFC 8259 section 7). That such a reader finds the longest
--- viable prefix is proved; no public clause cites it.
-use Rattle.std.specs.Prelude.{◌≡◌, ◌≢◌, ℕ, ◌<◌, ◌≤◌, Option, Some, None, Bool, true, false, cond, ◌==◌, List, length, take, slice_index}
+-- The states of a reader of JSON strings, and what each byte does to them (RFC 8259 section 7). That such a reader
+-- finds the longest viable prefix is proved; no public clause cites it.
+use Rattle.std.specs.Prelude.{◌≡◌, ◌≢◌, ℕ, ◌<◌, ◌≤◌, Option, Some, None, Bool, true, false, cond, ◌==◌, List, length}
+use Rattle.std.specs.Prelude.{take, slice_index}
 use Rattle.std.specs.List.{list_any}
 use Rattle.std.specs.Char.{is_ascii_hexdigit}
 use Rattle.at_text.proofs.Machine.{run}

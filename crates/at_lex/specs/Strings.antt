@@ -1,5 +1,6 @@
 -- JSON strings: how they are spelled, and the UTF-16 code units that they stand for (RFC 8259 sections 7, 8.1 to 8.3).
-use Rattle.std.specs.Prelude.{◌≡◌, ℕ, zero, suc, ◌+◌, ◌-◌, ◌*◌, nat_lt, nat_le, ◌==◌, not, ◌&&◌, Bool, IsTrue, List, [], ◌∷◌, ◌++◌, take, flat_map, find, Option, Some, None}
+use Rattle.std.specs.Prelude.{◌≡◌, ℕ, zero, suc, ◌+◌, ◌-◌, ◌*◌, nat_lt, nat_le, ◌==◌, not, ◌&&◌, Bool, IsTrue, List, []}
+use Rattle.std.specs.Prelude.{◌∷◌, ◌++◌, take, flat_map, find, Option, Some, None}
 use Rattle.std.specs.List.{AllByRecursion, list_any}
 use Rattle.std.specs.Str.{is_utf8, chars}
 use Rattle.std.specs.Char.{digit_value, is_ascii_hexdigit}
@@ -13,16 +14,19 @@ pub data Character : Type 0 where
 
 -- the escapes of one letter, each with its unit; \u is told apart
 abbrev pub escapes : List (ℕ × ℕ)
-escapes = (0x22, 0x22) ∷ (0x5C, 0x5C) ∷ (0x2F, 0x2F) ∷ (0x62, 0x08) ∷ (0x66, 0x0C) ∷ (0x6E, 0x0A) ∷ (0x72, 0x0D) ∷ (0x74, 0x09) ∷ []
+escapes = (0x22, 0x22) ∷ (0x5C, 0x5C) ∷ (0x2F, 0x2F) ∷ (0x62, 0x08) ∷ (0x66, 0x0C) ∷ (0x6E, 0x0A) ∷ (0x72, 0x0D)
+    ∷ (0x74, 0x09) ∷ []
 
--- a byte of 20 or above other than the quote and the backslash; that bytes of 80 and above are UTF-8 is tested of the whole file (utf8_fault)
+-- a byte of 20 or above other than the quote and the backslash; that bytes of 80 and above are UTF-8 is tested of the
+-- whole file (utf8_fault)
 abbrev pub is_plain : ℕ → Bool
 is_plain b = (nat_le 0x20 b && nat_lt b 256) && (not (b == 0x22) && not (b == 0x5C))
 
 abbrev pub IsCharacter : Character → Type 0
 IsCharacter (plain b) = IsTrue (is_plain b)
 IsCharacter (escape letter) = IsTrue (list_any (λ (e : ℕ × ℕ). e.0 == letter) escapes)
-IsCharacter (unit a b c d) = IsTrue ((is_ascii_hexdigit a && is_ascii_hexdigit b) && (is_ascii_hexdigit c && is_ascii_hexdigit d))
+IsCharacter (unit a b c d) =
+    IsTrue ((is_ascii_hexdigit a && is_ascii_hexdigit b) && (is_ascii_hexdigit c && is_ascii_hexdigit d))
 
 abbrev pub character_text : Character → List ℕ
 character_text (plain b) = b ∷ []
@@ -71,7 +75,8 @@ hex_unit a b c d = 16 * (16 * (16 * digit_value a + digit_value b) + digit_value
 -- the units of the characters, the first `pending` bytes being the rest of a character that has its units already
 abbrev pub units_after : ℕ → List Character → List ℕ
 units_after pending [] = []
-units_after zero (plain b ∷ rest) = first_units (b ∷ bytes_ahead rest) ++ units_after (further_bytes (b ∷ bytes_ahead rest)) rest
+units_after zero (plain b ∷ rest) =
+    first_units (b ∷ bytes_ahead rest) ++ units_after (further_bytes (b ∷ bytes_ahead rest)) rest
 units_after (suc pending) (plain b ∷ rest) = units_after pending rest
 units_after pending (escape letter ∷ rest) = escape_unit letter ∷ units_after 0 rest
 units_after pending (unit a b c d ∷ rest) = hex_unit a b c d ∷ units_after 0 rest
@@ -82,4 +87,5 @@ units_of characters = units_after 0 characters
 
 -- the units of the string that the bytes spell
 abbrev pub AreUnitsOf : List ℕ → List ℕ → Type 0
-AreUnitsOf text units = (characters : List Character) → AreCharacters characters → text ≡ string_text characters → units ≡ units_of characters
+AreUnitsOf text units = (characters : List Character) → AreCharacters characters → text ≡ string_text characters
+    → units ≡ units_of characters

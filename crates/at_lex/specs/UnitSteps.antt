@@ -1,5 +1,6 @@
 -- How the units of a string are found from left to right. No public clause cites it.
-use Rattle.std.specs.Prelude.{◌≡◌, ℕ, ◌<◌, List, [], ◌∷◌, ◌++◌, length, take, drop, slice_index, flat_map, Option, Some, None, true, false}
+use Rattle.std.specs.Prelude.{◌≡◌, ℕ, ◌<◌, List, [], ◌∷◌, ◌++◌, length, take, drop, slice_index, flat_map, Option, Some}
+use Rattle.std.specs.Prelude.{None, true, false}
 use Rattle.std.specs.Str.{is_utf8}
 use Rattle.std.specs.Char.{is_ascii_hexdigit}
 use Rattle.at_lex.specs.Strings.{Character, AreCharacters, character_text, units_after, char_len}
@@ -20,7 +21,8 @@ pub record HasDigits (w : List ℕ) : Type 0 where
 pub record StepsOver (w : List ℕ) (n : ℕ) (units : List ℕ) : Type 0 where
   pub some : 0 < n
   pub fits : n < length w
-  pub stand : (cs : List Character) → Content cs w → (ds : List Character) × Content ds (drop n w) × (units_after 0 cs ≡ units ++ units_after 0 ds)
+  pub stand : (cs : List Character) → Content cs w → (ds : List Character) × Content ds (drop n w)
+      × (units_after 0 cs ≡ units ++ units_after 0 ds)
 
 -- the units of the first n bytes have been put behind the old ones
 abbrev pub PushesUnits : List ℕ → ℕ → List ℕ → List ℕ → Type 0

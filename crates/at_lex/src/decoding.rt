@@ -1,11 +1,13 @@
 //! What a string stands for: the UTF-16 code units of its characters (RFC 8259 sections 7 and 8).
 
-ghost use Rattle.std.specs.Prelude.{◌≡◌, ◌≢◌, ◌++◌, ◌<◌, ◌≤◌, ◌^◌, List, length, take, flat_map, slice_index, true, IfOk, OnOk};
+ghost use Rattle.std.specs.Prelude.{◌≡◌, ◌≢◌, ◌++◌, ◌<◌, ◌≤◌, ◌^◌, List, length, take, flat_map, slice_index, true};
+ghost use Rattle.std.specs.Prelude.{IfOk, OnOk};
 ghost use Rattle.std.specs.Char.{digit_value, is_ascii_hexdigit};
 ghost use Rattle.std.specs.Char.Escape.{encode_utf16};
 ghost use Rattle.std.specs.Str.{chars};
 ghost use Rattle.std.specs.Option.{option_copied};
-ghost use Rattle.at_lex.specs.Strings.{JsonString, Character, AreUnitsOf, escape_unit as unit_of_letter, hex_unit as unit_of_digits};
+ghost use Rattle.at_lex.specs.Strings.{JsonString, Character, AreUnitsOf, escape_unit as unit_of_letter};
+ghost use Rattle.at_lex.specs.Strings.{hex_unit as unit_of_digits};
 ghost use Rattle.at_lex.specs.UnitSteps.{Content, HasDigits, PushesUnits, IsTextOf, IsFirstChar};
 
 use crate::code_units::Units;

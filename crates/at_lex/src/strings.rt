@@ -5,7 +5,8 @@ ghost use Rattle.std.specs.Char.{is_ascii_hexdigit};
 ghost use Rattle.at_text.specs.Prefix.{TakesLongest};
 ghost use Rattle.at_text.proofs.Machine.{run};
 ghost use Rattle.at_lex.specs.Strings.{JsonString};
-ghost use Rattle.at_lex.specs.StringStates.{inside, opening, escaped, step, accepts, is_escape as escape_test, state_of, lexical_of, StopsAt, GoesTo};
+ghost use Rattle.at_lex.specs.StringStates.{inside, opening, escaped, step, accepts, is_escape as escape_test};
+ghost use Rattle.at_lex.specs.StringStates.{state_of, lexical_of, StopsAt, GoesTo};
 ghost use Rattle.at_lex.specs.Endings.{IsTextEnd};
 
 use crate::fronts::{is_plain, plain_len, quiet_len};
@@ -156,7 +157,8 @@ fn scan_escape(text: &[u8], from: usize) -> Scanned
     Scanned { len, state }
 }
 
-/// How far a reader of a string goes through the text. It goes from escape to escape, and from byte to byte in one alone.
+/// How far a reader of a string goes through the text. It goes from escape to escape, and from byte to byte in one
+/// alone.
 pub fn scan_text(text: &[u8]) -> Scanned
     ensures { StopsAt text.now result.len (state_of result.state) }
 {

@@ -48,5 +48,6 @@ finished m (stopped f i) = stop_by i (walks (value []) (pieces_of f))
 -- the answer is right: the fold of the bytes' tree, or where their longest viable prefix ends
 abbrev pub IsAnswer : {X : Type 0} → Meaning X → ℕ → List ℕ → Answer X → Type 0
 IsAnswer m at w (folded x) = (t : Tree) × IsTextOf at w t × (fold_of m t ≡ x)
-IsAnswer m at w (syntax i) = (n : ℕ) × (i ≡ at + n) × (n < length w) × LongestViable (JsonText 0) w n × (¬ (JsonText 0) w)
+IsAnswer m at w (syntax i) = (n : ℕ) × (i ≡ at + n) × (n < length w) × LongestViable (JsonText 0) w n
+    × (¬ (JsonText 0) w)
 IsAnswer m at w ended = LongestViable (JsonText 0) w (length w) × (¬ (JsonText 0) w)

@@ -1,4 +1,5 @@
--- Where two pieces of text meet: whether a run goes on over the border (RFC 8259 section 2: literals and numbers are as long as they can be).
+-- Where two pieces of text meet: whether a run goes on over the border (RFC 8259 section 2: literals and numbers are as
+-- long as they can be).
 use Rattle.std.specs.Prelude.{ℕ, not, ◌&&◌, Bool, false, List, [], ◌∷◌}
 use Rattle.at_text.specs.Texts.{is_run}
 use Rattle.at_lex.specs.Spans.{begins_run}

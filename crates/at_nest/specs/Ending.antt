@@ -10,8 +10,8 @@ use Rattle.at_nest.specs.Tree.{Tree, IsTextOf}
 use Rattle.at_nest.specs.Syntax.{JsonText}
 use Rattle.at_nest.specs.Holding.{Content, one}
 
--- the bytes w, which stand at `at`, are no JSON text, and this is where their longest prefix that can become one ends: before a byte,
--- or at their end. Want of memory says nothing of them
+-- the bytes w, which stand at `at`, are no JSON text, and this is where their longest prefix that can become one ends:
+-- before a byte, or at their end. Want of memory says nothing of them
 abbrev pub IsEnd : ℕ → List ℕ → NestEnd → Type 0
 IsEnd at w (Syntax place) = IsSyntaxFault (JsonText at) at w (fault_at kinds.Syntax place)
 IsEnd at w Ended = IsSyntaxFault (JsonText at) at w (fault_at kinds.Ended (at + length w))

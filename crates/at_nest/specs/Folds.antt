@@ -1,4 +1,5 @@
--- What an algebra makes of a tree, from the leaves up: relations between what it holds and the trees for which that stands.
+-- What an algebra makes of a tree, from the leaves up: relations between what it holds and the trees for which that
+-- stands.
 use Rattle.std.specs.Prelude.{◌≡◌, ℕ, ◌⊎◌, List, [], ◌∷◌, ◌++◌, length}
 use Rattle.std.specs.Bool.{⊤}
 use Rattle.at_lex.specs.Strings.{JsonString, units_of}
@@ -30,16 +31,20 @@ Covers IsFold IsRun x ts = ((t : Tree) × (ts ≡ t ∷ []) × IsFold x t) ⊎ I
 -- one behind another, the values stand for the trees, in order
 abbrev pub AreItemFolds : {X : Type 0} → (X → Tree → Type 0) → (X → List Tree → Type 0) → List X → List Tree → Type 0
 AreItemFolds IsFold IsRun [] ts = ts ≡ []
-AreItemFolds IsFold IsRun (x ∷ xs) ts = (us : List Tree) × (vs : List Tree) × (ts ≡ us ++ vs) × Covers IsFold IsRun x us × AreItemFolds IsFold IsRun xs vs
+AreItemFolds IsFold IsRun (x ∷ xs) ts = (us : List Tree) × (vs : List Tree) × (ts ≡ us ++ vs) × Covers IsFold IsRun x us
+    × AreItemFolds IsFold IsRun xs vs
 
--- one by one, the members have the names of the tree's members, by their code units, with the offsets of the names, and their values
--- stand for the trees
+-- one by one, the members have the names of the tree's members, by their code units, with the offsets of the names, and
+-- their values stand for the trees
 abbrev pub AreMemberFolds : {X : Type 0} → (X → Tree → Type 0) → List (Member X) → Members → Type 0
 AreMemberFolds IsFold [] no_members = ⊤
-AreMemberFolds IsFold (x ∷ xs) (member_and name i t ms) = (x.name ≡ units_of name) × (x.name_at ≡ i) × IsFold x.value t × AreMemberFolds IsFold xs ms
+AreMemberFolds IsFold (x ∷ xs) (member_and name i t ms) = (x.name ≡ units_of name) × (x.name_at ≡ i) × IsFold x.value t
+    × AreMemberFolds IsFold xs ms
 AreMemberFolds IsFold _ _ = ⊥
 
--- the first bytes of w, which stand at `at`, spell a tree, and the atom is the algebra's own and stands for it; or nothing is said
+-- the first bytes of w, which stand at `at`, spell a tree, and the atom is the algebra's own and stands for it; or
+-- nothing is said
 abbrev pub IsAttempt : {X : Type 0} → (X → Type 0) → (X → Tree → Type 0) → ℕ → List ℕ → Attempt X → Type 0
-IsAttempt IsOwn IsFold at w (Whole len atom) = (v r : List ℕ) × (w ≡ v ++ r) × (len ≡ length v) × (t : Tree) × Spells at v t × IsOwn atom × IsFold atom t
+IsAttempt IsOwn IsFold at w (Whole len atom) = (v r : List ℕ) × (w ≡ v ++ r) × (len ≡ length v) × (t : Tree)
+    × Spells at v t × IsOwn atom × IsFold atom t
 IsAttempt IsOwn IsFold at w (Unsaid looked) = ⊤

@@ -8,7 +8,8 @@ use Rattle.at_lex.specs.declared.tokens.Start.TheVariants.{Out}
 use Rattle.at_lex.specs.declared.tokens.Bracket.{Bracket}
 use Rattle.at_lex.specs.Strings.{Character}
 use Rattle.at_lex.specs.Runs.{Literal}
-use Rattle.at_nest.specs.Tree.{Tree, literal, number, text, array, object, Trees, no_trees, tree_and, Members, no_members, member_and, Spells, SpellsName}
+use Rattle.at_nest.specs.Tree.{Tree, literal, number, text, array, object, Trees, no_trees, tree_and, Members}
+use Rattle.at_nest.specs.Tree.{no_members, member_and, Spells, SpellsName}
 use Rattle.at_lex.specs.Spans.{AreSpaces, opening, closing, end_of}
 use Rattle.at_nest.specs.Syntax.{JsonText}
 use Rattle.at_nest.specs.Borders.{are_apart}
@@ -66,9 +67,11 @@ IsPiece m at w (mark p) = IsMark m at w p
 -- the bytes w at `at` are the pieces with white space between them; no run goes on over the border of two
 abbrev pub Formed : {X : Type 0} → Meaning X → ℕ → List ℕ → List (Piece X) → Type 0
 Formed m at w [] = AreSpaces w
-Formed m at w (p ∷ ps) = (a v r : List ℕ) × (w ≡ a ++ (v ++ r)) × AreSpaces a × IsPiece m (at + length a) v p × IsTrue (are_apart v r) × Formed m (at + length a + length v) r ps
+Formed m at w (p ∷ ps) = (a v r : List ℕ) × (w ≡ a ++ (v ++ r)) × AreSpaces a × IsPiece m (at + length a) v p
+    × IsTrue (are_apart v r) × Formed m (at + length a + length v) r ps
 
--- the byte at the offset i of the bytes w, which stand at `at`, is not viable, whatever bytes are before w that lead into the state s
+-- the byte at the offset i of the bytes w, which stand at `at`, is not viable, whatever bytes are before w that lead
+-- into the state s
 pub record IsDead (s : Start) (at : ℕ) (w : List ℕ) (i : ℕ) : Type 0 where
   pub before : List ℕ
   pub byte : ℕ

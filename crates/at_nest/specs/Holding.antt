@@ -1,5 +1,5 @@
--- What the code keeps of a span's items, and the items that it stands for. The fold is that of the trees themselves, and each atom stands
--- for its tree.
+-- What the code keeps of a span's items, and the items that it stands for. The fold is that of the trees themselves,
+-- and each atom stands for its tree.
 use Rattle.std.specs.Prelude.{◌≡◌, ℕ, ◌+◌, zero, suc, ◌⊎◌, Option, Some, None, List, [], ◌∷◌, ◌++◌, length}
 use Rattle.std.specs.Bool.{⊤}
 use Rattle.at_text.specs.declared.texts.Span.{Span}
@@ -13,7 +13,8 @@ use Rattle.at_nest.specs.declared.levels.ObjectState.{ObjectState}
 use Rattle.at_nest.specs.declared.levels.ObjectState.TheVariants as object
 use Rattle.at_nest.specs.declared.levels.Step.{Step}
 use Rattle.at_nest.specs.declared.pieces.Piece.{Piece as CodePiece}
-use Rattle.at_nest.specs.declared.pieces.Piece.TheVariants.{Closes, Comma, Colon, Text, Value, Row as RowPiece, Members as MembersPiece, Closers as ClosersPiece}
+use Rattle.at_nest.specs.declared.pieces.Piece.TheVariants.{Closes, Comma, Colon, Text, Value, Row as RowPiece}
+use Rattle.at_nest.specs.declared.pieces.Piece.TheVariants.{Members as MembersPiece, Closers as ClosersPiece}
 use Rattle.at_nest.specs.declared.pieces.Row.{Row}
 use Rattle.at_nest.specs.declared.pieces.NamedValue.{NamedValue}
 use Rattle.at_nest.specs.declared.pieces.MemberRow.{MemberRow}
@@ -22,13 +23,18 @@ use Rattle.at_nest.specs.declared.pieces.Closers.{Closers}
 use Rattle.at_nest.specs.declared.pieces.Halt.{Halt as CodeHalt}
 use Rattle.at_nest.specs.declared.pieces.Within.{Within as CodeWithin}
 use Rattle.at_nest.specs.declared.pieces.Within.TheVariants.{First as FirstByte, Run as RunByte, Text as TextByte}
-use Rattle.at_nest.specs.Tree.{Tree, literal, number, text, array as array_tree, object as object_tree, Members, no_members, member_and}
+use Rattle.at_nest.specs.Tree.{Tree, literal, number, text, array as array_tree, object as object_tree, Members}
+use Rattle.at_nest.specs.Tree.{no_members, member_and}
 use Rattle.at_nest.specs.Folds.{trees}
 use Rattle.at_nest.specs.Forms.{Meaning, Mark, Piece, closes, mark, comma, colon, quoted, entry}
-use Rattle.at_nest.specs.Levels.{Mode, at_items, at_value, at_after, at_members, at_name, at_colon, at_member, at_further, Level, Form, values_in, pairs_in, marks, pieces_of, push, push_all, Within, at_first, in_run, in_text, Halt, Pushed, further, stopped}
+use Rattle.at_nest.specs.Levels.{Mode, at_items, at_value, at_after, at_members, at_name, at_colon, at_member}
+use Rattle.at_nest.specs.Levels.{at_further, Level, Form, values_in, pairs_in, marks, pieces_of, push, push_all, Within}
+use Rattle.at_nest.specs.Levels.{at_first, in_run, in_text, Halt, Pushed, further, stopped}
 use Rattle.at_nest.specs.Stops.{AreLevels}
-use Rattle.at_nest.specs.MemberMarks.{ValueMark, mark_of, tree_of, MemberMarks, marks_behind_comma, member_marks, member_pairs}
-use Rattle.at_nest.specs.Shown.{Held, array_level, object_level, Shown, Added, IsStep, value_next, kept_outside, put_back}
+use Rattle.at_nest.specs.MemberMarks.{ValueMark, mark_of, tree_of, MemberMarks, marks_behind_comma, member_marks}
+use Rattle.at_nest.specs.MemberMarks.{member_pairs}
+use Rattle.at_nest.specs.Shown.{Held, array_level, object_level, Shown, Added, IsStep, value_next, kept_outside}
+use Rattle.at_nest.specs.Shown.{put_back}
 
 abbrev pub tree_members : List (List Character × ℕ × Tree) → Members
 tree_members [] = no_members
@@ -36,7 +42,13 @@ tree_members (p ∷ ps) = member_and p.0 p.1 p.2 (tree_members ps)
 
 -- the fold that gives the tree itself
 abbrev pub free : Meaning Tree
-free = record { of_literal = literal; of_number = number; of_text = text; of_array = λ i ts. array_tree i (trees ts); of_object = λ i ps. object_tree i (tree_members ps) }
+free = record {
+  of_literal = literal;
+  of_number = number;
+  of_text = text;
+  of_array = λ i ts. array_tree i (trees ts);
+  of_object = λ i ps. object_tree i (tree_members ps);
+}
 
 -- what an atom may stand for: a tree, or several trees one behind another in an array
 pub data Content : Type 0 where
@@ -89,7 +101,8 @@ AreClosers r ps = (n : ℕ) × (r.to ≡ r.from + suc n) × (ps ≡ closers r.fi
 
 -- in the bytes w, which stand at `at`, the string stands where the span says
 abbrev pub IsTextAt : ℕ → List ℕ → Span → List Character → Type 0
-IsTextAt at w span cs = AreCharacters cs × (a z : List ℕ) × (w ≡ a ++ (string_text cs ++ z)) × (span.from ≡ at + length a) × (span.to ≡ span.from + length (string_text cs))
+IsTextAt at w span cs = AreCharacters cs × (a z : List ℕ) × (w ≡ a ++ (string_text cs ++ z))
+    × (span.from ≡ at + length a) × (span.to ≡ span.from + length (string_text cs))
 
 abbrev pub within_of : CodeWithin → Within
 within_of FirstByte = at_first
@@ -105,10 +118,12 @@ IsPartOf bytes base w = (y z : List ℕ) × (bytes ≡ y ++ (w ++ z)) × (base �
 
 -- before the first open level, members begin, or have one more
 abbrev pub BeginsMembers : {X : Type 0} → Shown X → Added X → Awaited → X → Type 0
-BeginsMembers {X = X} old a m x = (s : MemberRow X) × (s.comma ≡ m.comma) × (s.colon ≡ m.colon) × (s.items.items ≡ record { name = m.name; value = x } ∷ []) × (a ≡ kept_outside old.outer (MembersPiece s))
+BeginsMembers {X = X} old a m x = (s : MemberRow X) × (s.comma ≡ m.comma) × (s.colon ≡ m.colon)
+    × (s.items.items ≡ record { name = m.name; value = x } ∷ []) × (a ≡ kept_outside old.outer (MembersPiece s))
 
 abbrev pub LengthensMembers : {X : Type 0} → Shown X → Added X → MemberRow X → NamedValue X → Type 0
-LengthensMembers {X = X} old a r m = (s : MemberRow X) × (s.comma ≡ r.comma) × (s.colon ≡ r.colon) × (s.items.items ≡ r.items.items ++ m ∷ []) × (a ≡ kept_outside old.outer (MembersPiece s))
+LengthensMembers {X = X} old a r m = (s : MemberRow X) × (s.comma ≡ r.comma) × (s.colon ≡ r.colon)
+    × (s.items.items ≡ r.items.items ++ m ∷ []) × (a ≡ kept_outside old.outer (MembersPiece s))
 
 -- the name stands in the bytes
 abbrev pub HasName : {X : Type 0} → List ℕ → NamedValue X → Type 0
@@ -116,7 +131,8 @@ HasName bytes m = (base : ℕ) × (w : List ℕ) × (cs : List Character) × IsP
 
 -- the member has the name that stands in the bytes
 abbrev pub NamesMember : {X : Type 0} → List ℕ → NamedValue X → Member X → Type 0
-NamesMember bytes m n = (n.name_at ≡ m.name.from) × (n.value ≡ m.value) × ((base : ℕ) (w : List ℕ) (cs : List Character) → IsPartOf bytes base w → IsTextAt base w m.name cs → n.name ≡ units_of cs)
+NamesMember bytes m n = (n.name_at ≡ m.name.from) × (n.value ≡ m.value) × ((base : ℕ) (w : List ℕ) (cs : List Character)
+    → IsPartOf bytes base w → IsTextAt base w m.name cs → n.name ≡ units_of cs)
 
 -- the level that has a comma behind it
 abbrev pub IsBehindComma : {X : Type 0} → Held X → Type 0
@@ -140,7 +156,8 @@ module _ {X : Type 0} (IsKept : X → Content → Type 0) where
 
   abbrev pub EachMember : List (Member X) → List (List Character × ℕ × Tree) → Type 0
   EachMember [] [] = ⊤
-  EachMember (m ∷ ms) (p ∷ ps) = (m.name ≡ units_of p.0) × (m.name_at ≡ p.1) × IsKept m.value (one p.2) × EachMember ms ps
+  EachMember (m ∷ ms) (p ∷ ps) = (m.name ≡ units_of p.0) × (m.name_at ≡ p.1) × IsKept m.value (one p.2)
+      × EachMember ms ps
   EachMember _ _ = ⊥
 
   -- the name that is kept is the one that has no value yet
@@ -153,8 +170,10 @@ module _ {X : Type 0} (IsKept : X → Content → Type 0) where
   IsNamed _ _ = ⊥
 
   abbrev pub IsHeld : Held X → Level Tree → Type 0
-  IsHeld (array_level i s xs) l = (l.bracket ≡ Square) × (l.from ≡ i) × (l.mode ≡ array_mode s) × Each xs (values_in free l.inside)
-  IsHeld (object_level i s ms) l = (l.bracket ≡ Brace) × (l.from ≡ i) × (l.mode ≡ object_mode s) × EachMember ms (pairs_in free None l.inside) × IsNamed s (pending_in None l.inside)
+  IsHeld (array_level i s xs) l = (l.bracket ≡ Square) × (l.from ≡ i) × (l.mode ≡ array_mode s)
+      × Each xs (values_in free l.inside)
+  IsHeld (object_level i s ms) l = (l.bracket ≡ Brace) × (l.from ≡ i) × (l.mode ≡ object_mode s)
+      × EachMember ms (pairs_in free None l.inside) × IsNamed s (pending_in None l.inside)
 
   abbrev pub EachHeld : List (Held X) → List (Level Tree) → Type 0
   EachHeld [] [] = ⊤
@@ -165,7 +184,8 @@ module _ {X : Type 0} (IsKept : X → Content → Type 0) where
   IsHeldPiece at w (Closes b i) (closes c j) = (b ≡ c) × (i ≡ j)
   IsHeldPiece at w (Comma i) (mark (comma j)) = i ≡ j
   IsHeldPiece at w (Colon i) (mark (colon j)) = i ≡ j
-  IsHeldPiece at w (Text span x) (mark (quoted j cs)) = (span.from ≡ j) × IsTextAt at w span cs × IsKept x (one (text j cs))
+  IsHeldPiece at w (Text span x) (mark (quoted j cs)) = (span.from ≡ j) × IsTextAt at w span cs
+      × IsKept x (one (text j cs))
   IsHeldPiece at w (Value i x) (mark (entry j t)) = (i ≡ j) × IsKept x (one t)
   IsHeldPiece at w _ _ = ⊥
 
@@ -179,7 +199,8 @@ module _ {X : Type 0} (IsKept : X → Content → Type 0) where
   -- the names stand in the bytes, and each atom stands for its value
   abbrev pub EachNamed : ℕ → List ℕ → List (NamedValue X) → List MemberMarks → Type 0
   EachNamed at w [] [] = ⊤
-  EachNamed at w (m ∷ ms) (e ∷ es) = (m.name.from ≡ e.name_at) × IsTextAt at w m.name e.characters × IsKept m.value (one (tree_of e.value)) × EachNamed at w ms es
+  EachNamed at w (m ∷ ms) (e ∷ es) = (m.name.from ≡ e.name_at) × IsTextAt at w m.name e.characters
+      × IsKept m.value (one (tree_of e.value)) × EachNamed at w ms es
   EachNamed at w _ _ = ⊥
 
   -- at least one member
@@ -203,7 +224,8 @@ module _ {X : Type 0} (IsKept : X → Content → Type 0) where
 
   abbrev pub EachPiece : ℕ → List ℕ → List (CodePiece X) → List (Piece Tree) → Type 0
   EachPiece at w [] ps = ps ≡ []
-  EachPiece at w (c ∷ cs) ps = (us : List (Piece Tree)) × (vs : List (Piece Tree)) × (ps ≡ us ++ vs) × ArePieces at w c us × EachPiece at w cs vs
+  EachPiece at w (c ∷ cs) ps = (us : List (Piece Tree)) × (vs : List (Piece Tree)) × (ps ≡ us ++ vs)
+      × ArePieces at w c us × EachPiece at w cs vs
 
   abbrev pub IsShown : ℕ → List ℕ → Shown X → Form Tree → Type 0
   IsShown at w s f = EachPiece at w s.outer f.outer × EachHeld s.levels f.levels
@@ -229,11 +251,13 @@ module _ {X : Type 0} (IsKept : X → Content → Type 0) where
 
   -- what is kept behind a value that is no string, and where the span stops
   abbrev pub PushesValue : Shown X → Shown X → Option CodeHalt → ℕ → X → Type 0
-  PushesValue old new r i x = (base : ℕ) (w : List ℕ) (f : Form Tree) (t : Tree) → IsShown base w old f → IsKept x (one t) → IsPushedAs base w new r (push free f (mark (entry i t)))
+  PushesValue old new r i x = (base : ℕ) (w : List ℕ) (f : Form Tree) (t : Tree) → IsShown base w old f
+      → IsKept x (one t) → IsPushedAs base w new r (push free f (mark (entry i t)))
 
   -- what is kept behind a comma and a value that is no string
   abbrev pub PushesBehind : Shown X → Shown X → Option CodeHalt → ℕ → ℕ → X → Type 0
-  PushesBehind old new r c i x = (base : ℕ) (w : List ℕ) (f : Form Tree) (t : Tree) → IsShown base w old f → IsKept x (one t) → IsPushedAs base w new r (push_all free (mark (comma c) ∷ mark (entry i t) ∷ []) f)
+  PushesBehind old new r c i x = (base : ℕ) (w : List ℕ) (f : Form Tree) (t : Tree) → IsShown base w old f
+      → IsKept x (one t) → IsPushedAs base w new r (push_all free (mark (comma c) ∷ mark (entry i t) ∷ []) f)
 
   -- in place of the row, one with a value more, before the first open level
   abbrev pub LongerRow : Row X → Row X → X → Type 0
@@ -244,41 +268,57 @@ module _ {X : Type 0} (IsKept : X → Content → Type 0) where
 
   -- what is kept behind a row of values
   abbrev pub PushesRow : Shown X → Shown X → Option CodeHalt → Row X → Type 0
-  PushesRow old new r row = (base : ℕ) (w : List ℕ) (f : Form Tree) (ps : List (Piece Tree)) → IsShown base w old f → IsRow row ps → IsPushedAs base w new r (push_all free ps f)
+  PushesRow old new r row = (base : ℕ) (w : List ℕ) (f : Form Tree) (ps : List (Piece Tree)) → IsShown base w old f
+      → IsRow row ps → IsPushedAs base w new r (push_all free ps f)
 
   -- what is kept behind a comma, a name, a colon and a value
   abbrev pub PushesMember : Shown X → Shown X → Option CodeHalt → Awaited → X → Type 0
-  PushesMember old new r m x = (base : ℕ) (w : List ℕ) (f : Form Tree) (cs : List Character) (v : ValueMark) → IsShown base w old f → IsTextAt base w m.name cs → IsKept x (one (tree_of v))
-      → IsPushedAs base w new r (push_all free (marks (comma m.comma ∷ quoted m.name.from cs ∷ colon m.colon ∷ mark_of v ∷ [])) f)
+  PushesMember old new r m x = (base : ℕ) (w : List ℕ) (f : Form Tree) (cs : List Character) (v : ValueMark)
+      → IsShown base w old f → IsTextAt base w m.name cs → IsKept x (one (tree_of v))
+      → IsPushedAs base w new r
+      (push_all free (marks (comma m.comma ∷ quoted m.name.from cs ∷ colon m.colon ∷ mark_of v ∷ [])) f)
 
   -- what is kept behind a value where a name and a colon stand before it
   abbrev pub PushesAwaited : Shown X → Shown X → Option CodeHalt → X → Type 0
-  PushesAwaited old new r x = (base : ℕ) (w : List ℕ) (f : Form Tree) (v : ValueMark) → IsShown base w old f → IsKept x (one (tree_of v)) → IsPushedAs base w new r (push free f (mark (mark_of v)))
+  PushesAwaited old new r x = (base : ℕ) (w : List ℕ) (f : Form Tree) (v : ValueMark) → IsShown base w old f
+      → IsKept x (one (tree_of v)) → IsPushedAs base w new r (push free f (mark (mark_of v)))
 
   -- what is kept behind a string
   abbrev pub PushesKeptText : Shown X → Shown X → Option CodeHalt → Span → X → Type 0
-  PushesKeptText old new r span x = (base : ℕ) (w : List ℕ) (f : Form Tree) (cs : List Character) → IsShown base w old f → IsTextAt base w span cs → IsKept x (one (text span.from cs)) → IsPushedAs base w new r (push free f (mark (quoted span.from cs)))
+  PushesKeptText old new r span x = (base : ℕ) (w : List ℕ) (f : Form Tree) (cs : List Character) → IsShown base w old f
+      → IsTextAt base w span cs → IsKept x (one (text span.from cs))
+      → IsPushedAs base w new r (push free f (mark (quoted span.from cs)))
 
   -- what is kept behind members
   abbrev pub PushesMembers : List ℕ → Shown X → Shown X → Option CodeHalt → MemberRow X → Type 0
-  PushesMembers bytes old new r row = (base : ℕ) (w : List ℕ) (f : Form Tree) (ps : List (Piece Tree)) → IsPartOf bytes base w → IsShown base w old f → AreMembers base w row ps → IsPushedAs base w new r (push_all free ps f)
+  PushesMembers bytes old new r row = (base : ℕ) (w : List ℕ) (f : Form Tree) (ps : List (Piece Tree))
+      → IsPartOf bytes base w → IsShown base w old f → AreMembers base w row ps
+      → IsPushedAs base w new r (push_all free ps f)
 
   -- the members stand in the bytes
   abbrev pub HasMembers : List ℕ → MemberRow X → Type 0
-  HasMembers bytes r = (base : ℕ) × (w : List ℕ) × (e : MemberMarks) × (es : List MemberMarks) × IsPartOf bytes base w × EachNamed base w r.items.items (e ∷ es)
+  HasMembers bytes r = (base : ℕ) × (w : List ℕ) × (e : MemberMarks) × (es : List MemberMarks) × IsPartOf bytes base w
+      × EachNamed base w r.items.items (e ∷ es)
 
   -- members were put behind the others, one by one
   abbrev pub GainsMembers : List ℕ → List (Member X) → List (NamedValue X) → List (Member X) → Type 0
-  GainsMembers bytes ms more all = (base : ℕ) (w : List ℕ) (ps : List (List Character × ℕ × Tree)) (es : List MemberMarks) → IsPartOf bytes base w → EachMember ms ps → EachNamed base w more es → EachMember all (ps ++ member_pairs es)
+  GainsMembers bytes ms more all = (base : ℕ) (w : List ℕ) (ps : List (List Character × ℕ × Tree)) (es
+      : List MemberMarks) → IsPartOf bytes base w → EachMember ms ps → EachNamed base w more es
+      → EachMember all (ps ++ member_pairs es)
 
   -- the level is put back behind members whose first comma has been read
   abbrev pub PutsMembers : List ℕ → Shown X → Shown X → Option CodeHalt → Held X → MemberRow X → Type 0
-  PutsMembers bytes old new r h row = (base : ℕ) (w : List ℕ) (fo : List (Piece Tree)) (l : Level Tree) (ls : List (Level Tree)) (e : MemberMarks) (es : List MemberMarks) → IsPartOf bytes base w → EachPiece base w old.outer fo → IsHeld h l → EachHeld old.levels ls
-      → row.colon ≡ e.colon_at → EachNamed base w row.items.items (e ∷ es) → IsPushedAs base w new r (push_all free (marks (marks_behind_comma e (member_marks es))) (record { outer = fo; levels = l ∷ ls }))
+  PutsMembers bytes old new r h row = (base : ℕ) (w : List ℕ) (fo : List (Piece Tree)) (l : Level Tree) (ls
+      : List (Level Tree)) (e : MemberMarks) (es : List MemberMarks) → IsPartOf bytes base w
+      → EachPiece base w old.outer fo → IsHeld h l → EachHeld old.levels ls
+      → row.colon ≡ e.colon_at → EachNamed base w row.items.items (e ∷ es)
+      → IsPushedAs base w new r (push_all free (marks (marks_behind_comma e (member_marks es)))
+      (record { outer = fo; levels = l ∷ ls }))
 
   -- what is kept behind closing brackets
   abbrev pub PushesClosers : Shown X → Shown X → Option CodeHalt → Closers → Type 0
-  PushesClosers old new r c = (base : ℕ) (w : List ℕ) (f : Form Tree) (ps : List (Piece Tree)) → IsShown base w old f → AreClosers c ps → IsPushedAs base w new r (push_all free ps f)
+  PushesClosers old new r c = (base : ℕ) (w : List ℕ) (f : Form Tree) (ps : List (Piece Tree)) → IsShown base w old f
+      → AreClosers c ps → IsPushedAs base w new r (push_all free ps f)
 
   -- atoms were put behind the others, one by one
   abbrev pub GainsAll : List X → List X → List X → Type 0
@@ -292,34 +332,43 @@ module _ {X : Type 0} (IsKept : X → Content → Type 0) where
 
   -- the level is put back behind a row whose first comma has been read
   abbrev pub PutsRow : Shown X → Added X → Held X → Row X → Type 0
-  PutsRow old a h row = (o : Option (Held X)) × IsRowNext h row.items.items o × (a ≡ put_back old.outer old.levels row.first h o)
+  PutsRow old a h row = (o : Option (Held X)) × IsRowNext h row.items.items o
+      × (a ≡ put_back old.outer old.levels row.first h o)
 
   -- what is kept behind the item, and where the span stops
   abbrev pub Pushes : Shown X → Shown X → Option CodeHalt → Piece Tree → Type 0
-  Pushes old new r p = (base : ℕ) (w : List ℕ) (f : Form Tree) → IsShown base w old f → IsPushedAs base w new r (push free f p)
+  Pushes old new r p = (base : ℕ) (w : List ℕ) (f : Form Tree) → IsShown base w old f
+      → IsPushedAs base w new r (push free f p)
 
   abbrev pub PushesText : Shown X → Shown X → Option CodeHalt → Span → List Character → Type 0
-  PushesText old new r span cs = (base : ℕ) (w : List ℕ) (f : Form Tree) → IsShown base w old f → IsTextAt base w span cs → IsPushedAs base w new r (push free f (mark (quoted span.from cs)))
+  PushesText old new r span cs = (base : ℕ) (w : List ℕ) (f : Form Tree) → IsShown base w old f
+      → IsTextAt base w span cs → IsPushedAs base w new r (push free f (mark (quoted span.from cs)))
 
   -- the item may be put behind what is kept: both stand for items of the bytes
   abbrev pub CanAdd : List ℕ → Shown X → CodePiece X → Type 0
-  CanAdd bytes s c = (base : ℕ) × (w : List ℕ) × (f : Form Tree) × (ps : List (Piece Tree)) × IsPartOf bytes base w × IsShown base w s f × ArePieces base w c ps
+  CanAdd bytes s c = (base : ℕ) × (w : List ℕ) × (f : Form Tree) × (ps : List (Piece Tree)) × IsPartOf bytes base w
+      × IsShown base w s f × ArePieces base w c ps
 
   abbrev pub Adds : List ℕ → Shown X → CodePiece X → Shown X → Option CodeHalt → Type 0
-  Adds bytes old c new r = (base : ℕ) (w : List ℕ) (f : Form Tree) (ps : List (Piece Tree)) → IsPartOf bytes base w → IsShown base w old f → ArePieces base w c ps → IsPushedAs base w new r (push_all free ps f)
+  Adds bytes old c new r = (base : ℕ) (w : List ℕ) (f : Form Tree) (ps : List (Piece Tree)) → IsPartOf bytes base w
+      → IsShown base w old f → ArePieces base w c ps → IsPushedAs base w new r (push_all free ps f)
 
   abbrev pub CanJoin : List ℕ → Shown X → Shown X → Type 0
-  CanJoin bytes s t = (base : ℕ) × (w : List ℕ) × (f : Form Tree) × (g : Form Tree) × IsPartOf bytes base w × IsShown base w s f × IsShown base w t g
+  CanJoin bytes s t = (base : ℕ) × (w : List ℕ) × (f : Form Tree) × (g : Form Tree) × IsPartOf bytes base w
+      × IsShown base w s f × IsShown base w t g
 
   abbrev pub Joins : List ℕ → Shown X → Shown X → Shown X → Option CodeHalt → Type 0
-  Joins bytes old behind new r = (base : ℕ) (w : List ℕ) (f g : Form Tree) → IsPartOf bytes base w → IsShown base w old f → IsShown base w behind g → AreLevels g.levels → IsPushedAs base w new r (push_all free (pieces_of g) f)
+  Joins bytes old behind new r = (base : ℕ) (w : List ℕ) (f g : Form Tree) → IsPartOf bytes base w
+      → IsShown base w old f → IsShown base w behind g → AreLevels g.levels
+      → IsPushedAs base w new r (push_all free (pieces_of g) f)
 
   -- what is copied stands for all that the first stands for
   abbrev pub CopiesItems : List X → List X → Type 0
   CopiesItems xs ys = (ts : List Tree) → Each xs ts → Each ys ts
 
   abbrev pub CopiesMember : Member X → Member X → Type 0
-  CopiesMember m n = (n.name ≡ m.name) × (n.name_at ≡ m.name_at) × ((t : Tree) → IsKept m.value (one t) → IsKept n.value (one t))
+  CopiesMember m n = (n.name ≡ m.name) × (n.name_at ≡ m.name_at) × ((t : Tree) → IsKept m.value (one t)
+      → IsKept n.value (one t))
 
   abbrev pub CopiesMembers : List (Member X) → List (Member X) → Type 0
   CopiesMembers ms ns = (ps : List (List Character × ℕ × Tree)) → EachMember ms ps → EachMember ns ps
@@ -337,7 +386,8 @@ module _ {X : Type 0} (IsKept : X → Content → Type 0) where
   CopiesPiece c d = (base : ℕ) (w : List ℕ) (ps : List (Piece Tree)) → ArePieces base w c ps → ArePieces base w d ps
 
   abbrev pub CopiesPieces : List (CodePiece X) → List (CodePiece X) → Type 0
-  CopiesPieces cs ds = (base : ℕ) (w : List ℕ) (ps : List (Piece Tree)) → EachPiece base w cs ps → EachPiece base w ds ps
+  CopiesPieces cs ds = (base : ℕ) (w : List ℕ) (ps : List (Piece Tree)) → EachPiece base w cs ps
+      → EachPiece base w ds ps
 
   abbrev pub CopiesShown : Shown X → Shown X → Type 0
   CopiesShown s t = (base : ℕ) (w : List ℕ) (f : Form Tree) → IsShown base w s f → IsShown base w t f

@@ -38,5 +38,6 @@ IsTail at w (Open within) = IsOpen within w
 
 -- behind the items that are kept, the text ends in the bytes v, which stand at `from`
 abbrev pub EndsSo : {X : Type 0} → (X → Content → Type 0) → Shown X → ℕ → List ℕ → Result X NestEnd → Type 0
-EndsSo IsKept s from v result = (at : ℕ) (x : List ℕ) (f : Form Tree) → IsShown IsKept at (x ++ v) s f → IsForm free at x f → are_apart x v ≡ true → from ≡ at + length x
+EndsSo IsKept s from v result = (at : ℕ) (x : List ℕ) (f : Form Tree) → IsShown IsKept at (x ++ v) s f
+    → IsForm free at x f → are_apart x v ≡ true → from ≡ at + length x
     → Answers IsKept at (x ++ v) result

@@ -4,7 +4,8 @@ use Rattle.at_lex.specs.declared.tokens.Bracket.{Bracket}
 use Rattle.at_lex.specs.declared.tokens.Bracket.TheVariants.{Brace, Square}
 use Rattle.at_lex.specs.Strings.{Character}
 use Rattle.at_nest.specs.States.{State, Frame, in_array, in_object, value, items, members, name, colon, after}
-use Rattle.at_nest.specs.Forms.{Meaning, Mark, Piece, comma as a_comma, colon as a_colon, quoted, entry, opens, closes, mark}
+use Rattle.at_nest.specs.Forms.{Meaning, Mark, Piece, comma as a_comma, colon as a_colon, quoted, entry, opens, closes}
+use Rattle.at_nest.specs.Forms.{mark}
 use Rattle.at_nest.specs.Walks.{Kind, comma_kind, colon_kind, text_kind, value_kind, mark_kind, mark_at}
 
 -- the grammar's state in an array or an object, whatever is open below
@@ -67,7 +68,8 @@ values_in m (quoted i cs ∷ xs) = m.of_text i cs ∷ values_in m xs
 values_in m (entry i x ∷ xs) = x ∷ values_in m xs
 
 -- the members among the marks, behind a name where there is one
-abbrev pub pairs_in : {X : Type 0} → Meaning X → Option (List Character × ℕ) → List (Mark X) → List (List Character × ℕ × X)
+abbrev pub pairs_in : {X : Type 0} → Meaning X → Option (List Character × ℕ) → List (Mark X)
+    → List (List Character × ℕ × X)
 pairs_in m o [] = []
 pairs_in m o (a_comma i ∷ xs) = pairs_in m o xs
 pairs_in m o (a_colon i ∷ xs) = pairs_in m o xs
@@ -123,14 +125,24 @@ pub data Pushed (X : Type 0) : Type 0 where
 
 abbrev pub with_mark : {X : Type 0} → List (Piece X) → List (Level X) → Level X → Mark X → Option Mode → Pushed X
 with_mark outer ls l x None = stopped (record { outer = outer; levels = l ∷ ls }) (plain_halt (mark_at x))
-with_mark outer ls l x (Some n) = further (record { outer = outer; levels = record { bracket = l.bracket; from = l.from; inside = l.inside ++ (x ∷ []); mode = n } ∷ ls })
+with_mark outer ls l x (Some n) =
+    further (record {
+      outer = outer;
+      levels = record {
+        bracket = l.bracket;
+        from = l.from;
+        inside = l.inside ++ (x ∷ []);
+        mode = n;
+      } ∷ ls;
+    })
 
 abbrev pub push_mark : {X : Type 0} → List (Piece X) → List (Level X) → Mark X → Pushed X
 push_mark outer [] x = further (record { outer = outer ++ (mark x ∷ []); levels = [] })
 push_mark outer (l ∷ ls) x = with_mark outer ls l x (move l.mode (mark_kind x))
 
 abbrev pub push_open : {X : Type 0} → List (Piece X) → List (Level X) → Bracket → ℕ → Pushed X
-push_open outer ls b i = further (record { outer = outer; levels = record { bracket = b; from = i; inside = []; mode = first_mode b } ∷ ls })
+push_open outer ls b i =
+    further (record { outer = outer; levels = record { bracket = b; from = i; inside = []; mode = first_mode b } ∷ ls })
 
 abbrev pub close_level : {X : Type 0} → Meaning X → List (Piece X) → List (Level X) → Level X → ℕ → Bool → Pushed X
 close_level m outer ls l i true = push_mark outer ls (entry l.from (built m l.bracket l.from l.inside))

@@ -43,4 +43,5 @@ member_pairs (e ∷ es) = (e.characters, e.name_at, tree_of e.value) ∷ member_
 
 -- behind other items stand a comma, a string and a colon
 abbrev pub Awaits : {X : Type 0} → List (CodePiece X) → Awaited → Type 0
-Awaits {X = X} outer m = (front : List (CodePiece X)) × (x : X) × (outer ≡ front ++ (Comma m.comma ∷ Text m.name x ∷ Colon m.colon ∷ []))
+Awaits {X = X} outer m = (front : List (CodePiece X)) × (x : X)
+    × (outer ≡ front ++ (Comma m.comma ∷ Text m.name x ∷ Colon m.colon ∷ []))

@@ -12,4 +12,5 @@ nest_in _ = None
 
 -- what is innermost was put in the place of what was it before
 abbrev pub PutsLast : {X : Type 0} → List (Open X) → List (Open X) → Open X → Type 0
-PutsLast {X = X} old new o = (x : Open X) → last_of old ≡ Some x → (hs : List (Held X)) × (open_levels old ≡ helds_of x ++ hs) × (open_levels new ≡ helds_of o ++ hs)
+PutsLast {X = X} old new o = (x : Open X) → last_of old ≡ Some x → (hs : List (Held X))
+    × (open_levels old ≡ helds_of x ++ hs) × (open_levels new ≡ helds_of o ++ hs)

@@ -1,4 +1,5 @@
--- What may stand behind the items of a text, and what is answered where the text ends or stops behind them, by what is kept of them.
+-- What may stand behind the items of a text, and what is answered where the text ends or stops behind them, by what is
+-- kept of them.
 use Rattle.std.specs.Prelude.{ℕ, Bool, true, false, if◌then◌else◌, List, [], ◌∷◌, Result, Ok, Err}
 use Rattle.std.specs.Bool.{⊤}
 use Rattle.at_nest.specs.declared.finishing.Next.{Next}

@@ -1,5 +1,6 @@
 -- What a token makes of what is kept.
-use Rattle.std.specs.Prelude.{◌≡◌, ℕ, ◌+◌, ◌<◌, ◌==◌, false, zero, suc, if◌then◌else◌, Option, List, [], ◌∷◌, ◌++◌, length}
+use Rattle.std.specs.Prelude.{◌≡◌, ℕ, ◌+◌, ◌<◌, ◌==◌, false, zero, suc, if◌then◌else◌, Option, List, [], ◌∷◌, ◌++◌}
+use Rattle.std.specs.Prelude.{length}
 use Rattle.at_lex.specs.Spans.{IsToken as IsLexed}
 use Rattle.at_lex.specs.declared.tokens.Token.{Token}
 use Rattle.at_lex.specs.declared.tokens.Pend.{Pend}
@@ -42,19 +43,25 @@ within_from (b ∷ w) = if b == 0x22 then Text else Run
 module _ {X : Type 0} (IsKept : X → Content → Type 0) where
   -- a token that was cut: what its reading pushes
   abbrev pub Reads : Shown X → Shown X → Option Halt → ℕ → List ℕ → Type 0
-  Reads old new r at v = (base : ℕ) (w : List ℕ) (f : Form Tree) (more : List ℕ) → IsShown IsKept base w old f → IsPlaced base w at v → IsToken v more
+  Reads old new r at v = (base : ℕ) (w : List ℕ) (f : Form Tree) (more : List ℕ) → IsShown IsKept base w old f
+      → IsPlaced base w at v → IsToken v more
       → (p : Pushed Tree) × Ends free at v more p × IsPushedAs IsKept base w new r (merged free (further f) p)
 
   -- a token of a piece
   abbrev pub ReadsToken : Shown X → Shown X → Option Halt → List ℕ → Token → Type 0
-  ReadsToken old new r v token = (base : ℕ) (w : List ℕ) (f : Form Tree) (after : List ℕ) → IsShown IsKept base w old f → IsPlaced base w token.from v → IsLexed token.from v after token
+  ReadsToken old new r v token = (base : ℕ) (w : List ℕ) (f : Form Tree) (after : List ℕ) → IsShown IsKept base w old f
+      → IsPlaced base w token.from v → IsLexed token.from v after token
       → (p : Pushed Tree) × Ends free token.from v after p × IsPushedAs IsKept base w new r (merged free (further f) p)
 
   -- a whole run
   abbrev pub ReadsRun : Shown X → Shown X → Option Halt → ℕ → List ℕ → Type 0
-  ReadsRun old new r at v = (base : ℕ) (w : List ℕ) (f : Form Tree) (t : Tree) → IsShown IsKept base w old f → Spells at v t → IsPushedAs IsKept base w new r (push free f (mark (entry at t)))
+  ReadsRun old new r at v = (base : ℕ) (w : List ℕ) (f : Form Tree) (t : Tree) → IsShown IsKept base w old f
+      → Spells at v t → IsPushedAs IsKept base w new r (push free f (mark (entry at t)))
 
-  -- what was read of the bytes that begin with an opening bracket, up to the offset `to`: the bracket alone, or a whole value
+  -- what was read of the bytes that begin with an opening bracket, up to the offset `to`: the bracket alone, or a whole
+  -- value
   abbrev pub ReadsAhead : Shown X → Shown X → Option Halt → ℕ → List ℕ → ℕ → Type 0
-  ReadsAhead old new r at ahead to = (v : List ℕ) × (more : List ℕ) × (ahead ≡ v ++ more) × (to ≡ at + length v) × (0 < length v) × (ends_run v ≡ false)
-      × ((base : ℕ) (w : List ℕ) (f : Form Tree) → IsShown IsKept base w old f → (p : Pushed Tree) × Ends free at v more p × IsPushedAs IsKept base w new r (merged free (further f) p))
+  ReadsAhead old new r at ahead to = (v : List ℕ) × (more : List ℕ) × (ahead ≡ v ++ more) × (to ≡ at + length v)
+      × (0 < length v) × (ends_run v ≡ false)
+      × ((base : ℕ) (w : List ℕ) (f : Form Tree) → IsShown IsKept base w old f → (p : Pushed Tree)
+      × Ends free at v more p × IsPushedAs IsKept base w new r (merged free (further f) p))

@@ -3,7 +3,8 @@ use Rattle.std.specs.Prelude.{Bool, true, false, not, Option, Some, None, List, 
 use Rattle.at_lex.specs.declared.tokens.TokenKind.{TokenKind}
 use Rattle.at_lex.specs.declared.tokens.TokenKind.TheVariants as token
 use Rattle.at_nest.specs.declared.pieces.Piece.{Piece}
-use Rattle.at_nest.specs.declared.pieces.Piece.TheVariants.{Closes, Comma, Colon, Text, Value, Row as RowPiece, Members as MembersPiece, Closers as ClosersPiece}
+use Rattle.at_nest.specs.declared.pieces.Piece.TheVariants.{Closes, Comma, Colon, Text, Value, Row as RowPiece}
+use Rattle.at_nest.specs.declared.pieces.Piece.TheVariants.{Members as MembersPiece, Closers as ClosersPiece}
 use Rattle.at_nest.specs.Shown.{Held, Shown, takes_value}
 
 abbrev pub opens_any : TokenKind → Bool

@@ -21,7 +21,8 @@ use Rattle.at_nest.specs.declared.open_levels.Levels.{Levels}
 use Rattle.at_nest.specs.declared.levels.Step.{Step}
 use Rattle.at_nest.specs.declared.levels.Step.TheVariants.{On, Refused}
 use Rattle.at_nest.specs.declared.pieces.Piece.{Piece}
-use Rattle.at_nest.specs.declared.pieces.Piece.TheVariants.{Closes, Comma, Colon, Text, Value, Row as RowPiece, Members as MembersPiece, Closers as ClosersPiece}
+use Rattle.at_nest.specs.declared.pieces.Piece.TheVariants.{Closes, Comma, Colon, Text, Value, Row as RowPiece}
+use Rattle.at_nest.specs.declared.pieces.Piece.TheVariants.{Members as MembersPiece, Closers as ClosersPiece}
 use Rattle.at_nest.specs.declared.pieces.Halt.{Halt}
 use Rattle.at_nest.specs.declared.pieces.Within.TheVariants.{First}
 use Rattle.at_nest.specs.declared.bodies.Body.{Body}
@@ -66,7 +67,8 @@ colon_next _ = None
 abbrev pub value_next : {X : Type 0} → Held X → X → List X → Option (Held X)
 value_next (array_level i array.Empty xs) x ys = Some (array_level i array.Value ys)
 value_next (array_level i array.Comma xs) x ys = Some (array_level i array.Value ys)
-value_next (object_level i (object.Colon n) ms) x ys = Some (object_level i object.Value (ms ++ record { name = n.units; name_at = n.at; value = x } ∷ []))
+value_next (object_level i (object.Colon n) ms) x ys =
+    Some (object_level i object.Value (ms ++ record { name = n.units; name_at = n.at; value = x } ∷ []))
 value_next _ x ys = None
 
 abbrev pub name_next : {X : Type 0} → Held X → MemberName → Option (Held X)

@@ -45,7 +45,8 @@ Stays wanted again old new = (q : Slot) → (wanted ≡ Some q → again ≡ tru
 module _ {X : Type 0} (IsKept : X → Content → Type 0) where
   -- the second variant stands for all that the first stands for
   abbrev pub StandsAs : Variant X → Variant X → Type 0
-  StandsAs first second = (s : Start) (at : ℕ) (w : List ℕ) → HoldsVariant IsKept s at w first → HoldsVariant IsKept s at w second
+  StandsAs first second = (s : Start) (at : ℕ) (w : List ℕ) → HoldsVariant IsKept s at w first
+      → HoldsVariant IsKept s at w second
 
   -- the variant stands for some bytes
   abbrev pub HoldsSome : Variant X → Type 0
@@ -76,4 +77,5 @@ module _ {X : Type 0} (IsKept : X → Content → Type 0) where
 
   -- what is kept of the bytes w, and of the bytes x behind them
   abbrev pub AreBeside : List ℕ → ℕ → List ℕ → List ℕ → Parts X → Parts X → Type 0
-  AreBeside bytes at w x left right = IsPartOf bytes at (w ++ x) × HoldsParts IsKept at w left × HoldsParts IsKept (at + length w) x right
+  AreBeside bytes at w x left right = IsPartOf bytes at (w ++ x) × HoldsParts IsKept at w left
+      × HoldsParts IsKept (at + length w) x right

@@ -16,7 +16,8 @@ use Rattle.at_nest.specs.Reading.{IsPlaced}
 
 module _ {X : Type 0} (IsKept : X → Content → Type 0) where
   -- the bytes w, which stand at `at`, are a lead, the items that are kept, and what may go on
-  pub record HoldsWhole (s : Start) (at : ℕ) (w : List ℕ) (lead : ℕ) (kept : Shown X) (pend : ℕ) (end : Start) : Type 0 where
+  pub record HoldsWhole (s : Start) (at : ℕ) (w : List ℕ) (lead : ℕ) (kept : Shown X) (pend : ℕ) (end : Start)
+      : Type 0 where
     pub first : List ℕ
     pub form : Form Tree
     pub last : List ℕ
@@ -42,23 +43,32 @@ module _ {X : Type 0} (IsKept : X → Content → Type 0) where
 
   -- what stands behind a lead
   abbrev pub HoldsBehind : ℕ → List ℕ → ℕ → List ℕ → ℕ → Variant X → Type 0
-  HoldsBehind at w i rest lead v = (s : Start) (u : List ℕ) → w ≡ u ++ rest → IsLeadEnd s u rest → i ≡ at + length u → lead ≡ at + length u → HoldsVariant s at w v
+  HoldsBehind at w i rest lead v = (s : Start) (u : List ℕ) → w ≡ u ++ rest → IsLeadEnd s u rest → i ≡ at + length u
+      → lead ≡ at + length u → HoldsVariant s at w v
 
   -- two spans whose items can be put together, with the bytes v at `at` between them
   abbrev pub CanMeet : List ℕ → Shown X → Shown X → ℕ → List ℕ → Type 0
-  CanMeet bytes s t at v = (base : ℕ) × (w : List ℕ) × (f : Form Tree) × (g : Form Tree) × (more : List ℕ) × IsPartOf bytes base w × IsShown IsKept base w s f × IsShown IsKept base w t g × IsPlaced base w at v × IsToken v more
+  CanMeet bytes s t at v = (base : ℕ) × (w : List ℕ) × (f : Form Tree) × (g : Form Tree) × (more : List ℕ)
+      × IsPartOf bytes base w × IsShown IsKept base w s f × IsShown IsKept base w t g × IsPlaced base w at v
+      × IsToken v more
 
   -- behind the first the token, and behind it the second
   abbrev pub Meets : List ℕ → Shown X → Shown X → Shown X → Option Halt → ℕ → List ℕ → Type 0
-  Meets bytes old behind new r at v = (base : ℕ) (w : List ℕ) (f g : Form Tree) (more : List ℕ) → IsPartOf bytes base w → IsShown IsKept base w old f → IsShown IsKept base w behind g → AreLevels g.levels → IsPlaced base w at v → IsToken v more
-      → (p : Pushed Tree) × Ends free at v more p × IsPushedAs IsKept base w new r (push_then (λ k. merged free (further k) (further g)) (merged free (further f) p))
+  Meets bytes old behind new r at v = (base : ℕ) (w : List ℕ) (f g : Form Tree) (more : List ℕ) → IsPartOf bytes base w
+      → IsShown IsKept base w old f → IsShown IsKept base w behind g → AreLevels g.levels → IsPlaced base w at v
+      → IsToken v more
+      → (p : Pushed Tree) × Ends free at v more p
+      × IsPushedAs IsKept base w new r (push_then (λ k. merged free (further k) (further g))
+      (merged free (further f) p))
 
   -- a span of the bytes that is whole, and one behind it
-  pub record Neighbours (bytes : List ℕ) (s : Start) (at : ℕ) (w x : List ℕ) (lead : ℕ) (kept : Shown X) (pend : ℕ) (right : Variant X) : Type 0 where
+  pub record Neighbours (bytes : List ℕ) (s : Start) (at : ℕ) (w x : List ℕ) (lead : ℕ) (kept : Shown X) (pend
+      : ℕ) (right : Variant X) : Type 0 where
     pub part : IsPartOf bytes at (w ++ x)
     pub left_end : Start
     pub is_left : HoldsWhole s at w lead kept pend left_end
     pub is_right : HoldsVariant (end_of s w) (at + length w) x right
 
   abbrev pub HaveUnion : List ℕ → Start → ℕ → List ℕ → List ℕ → Variant X → Variant X → Type 0
-  HaveUnion bytes s at w x left right = IsPartOf bytes at (w ++ x) × HoldsVariant s at w left × HoldsVariant (end_of s w) (at + length w) x right
+  HaveUnion bytes s at w x left right = IsPartOf bytes at (w ++ x) × HoldsVariant s at w left
+      × HoldsVariant (end_of s w) (at + length w) x right

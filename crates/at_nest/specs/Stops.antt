@@ -11,16 +11,19 @@ use Rattle.at_lex.specs.declared.tokens.Start.TheVariants.{Out}
 use Rattle.at_nest.specs.Syntax.{JsonText}
 use Rattle.at_nest.specs.Borders.{are_apart}
 use Rattle.at_nest.specs.Forms.{Meaning, Formed}
-use Rattle.at_nest.specs.Levels.{Level, Form, pieces_of, first_mode, moves, Within, at_first, in_run, in_text, Halt, Pushed, further, stopped}
+use Rattle.at_nest.specs.Levels.{Level, Form, pieces_of, first_mode, moves, Within, at_first, in_run, in_text, Halt}
+use Rattle.at_nest.specs.Levels.{Pushed, further, stopped}
 
--- the byte at the offset i of the bytes w, which stand at `at`, is not viable, whatever stands before them that leads outside text and whose last run doesn't go on in w
+-- the byte at the offset i of the bytes w, which stand at `at`, is not viable, whatever stands before them that leads
+-- outside text and whose last run doesn't go on in w
 pub record IsDeadHere (at : ℕ) (w : List ℕ) (i : ℕ) : Type 0 where
   pub before : List ℕ
   pub byte : ℕ
   pub others : List ℕ
   pub split : w ≡ before ++ (byte ∷ others)
   pub place : i ≡ at + length before
-  pub dead : (x : List ℕ) → end_of Out x ≡ Out → are_apart x w ≡ true → ¬ (Viable (JsonText 0) (x ++ (before ++ (byte ∷ []))))
+  pub dead : (x : List ℕ) → end_of Out x ≡ Out → are_apart x w ≡ true
+      → ¬ (Viable (JsonText 0) (x ++ (before ++ (byte ∷ []))))
 
 -- each open level's state is what its marks lead to
 abbrev pub AreLevels : {X : Type 0} → List (Level X) → Type 0
@@ -33,7 +36,8 @@ pub record IsForm {X : Type 0} (m : Meaning X) (at : ℕ) (w : List ℕ) (f : Fo
 
 -- the bytes begin a run: a number, or a literal
 abbrev pub IsRunBegun : List ℕ → Type 0
-IsRunBegun u = ((n : num.State) × (run num.step num.start u ≡ Some n)) ⊎ ((l : Literal) × (r : List ℕ) × (u ++ r ≡ literal_text l))
+IsRunBegun u = ((n : num.State) × (run num.step num.start u ≡ Some n))
+    ⊎ ((l : Literal) × (r : List ℕ) × (u ++ r ≡ literal_text l))
 
 abbrev pub IsTextBegun : List ℕ → Type 0
 IsTextBegun u = (n : str.State) × (run str.step str.opening u ≡ Some n)

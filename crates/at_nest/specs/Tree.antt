@@ -5,7 +5,8 @@ use Rattle.at_lex.specs.Strings.{Character, AreCharacters, string_text}
 use Rattle.at_lex.specs.Runs.{Literal, literal_text}
 use Rattle.at_lex.specs.Spans.{AreSpaces}
 
--- a value with the offset of its first byte. An array holds trees, an object members, each a name with its offset and a value
+-- a value with the offset of its first byte. An array holds trees, an object members, each a name with its offset and a
+-- value
 mutual
   pub data Tree : Type 0 where
     literal : (at : ℕ) → Literal → Tree
@@ -60,7 +61,8 @@ abbrev mutual
 
   pub SpellsFurtherItems : ℕ → List ℕ → Trees → Type 0
   SpellsFurtherItems at w no_trees = IsEnd at w
-  SpellsFurtherItems at w (tree_and t ts) = After 0x2C (Padded (λ j v. Spells j v t) (λ j r. SpellsFurtherItems j r ts)) at w
+  SpellsFurtherItems at w (tree_and t ts) =
+      After 0x2C (Padded (λ j v. Spells j v t) (λ j r. SpellsFurtherItems j r ts)) at w
 
   -- white space alone, or members parted by commas; a member is a name, a colon and a value
   pub SpellsMembers : ℕ → List ℕ → Members → Type 0

@@ -5,7 +5,8 @@ use Rattle.at_text.specs.Faults.{fault_at, first_of}
 use Rattle.at_text.specs.declared.faults.Fault.{Fault}
 use Rattle.at_text.specs.declared.faults.FaultKind.TheVariants.{Twin}
 use Rattle.at_lex.specs.Strings.{units_of}
-use Rattle.at_nest.specs.Tree.{Tree, literal, number, text, array, object, Trees, no_trees, tree_and, Members, no_members, member_and}
+use Rattle.at_nest.specs.Tree.{Tree, literal, number, text, array, object, Trees, no_trees, tree_and, Members}
+use Rattle.at_nest.specs.Tree.{no_members, member_and}
 
 abbrev pub is_among : List (List ℕ) → List ℕ → Bool
 is_among names name = list_any (bytes_eq name) names
@@ -25,7 +26,8 @@ abbrev mutual
 
   pub twins_of_members : List (List ℕ) → Members → List Fault
   twins_of_members earlier no_members = []
-  twins_of_members earlier (member_and name i t ms) = (if is_among earlier (units_of name) then fault_at Twin i ∷ [] else [])
+  twins_of_members earlier (member_and name i t ms) =
+      (if is_among earlier (units_of name) then fault_at Twin i ∷ [] else [])
       ++ (twins_of t ++ twins_of_members (units_of name ∷ earlier) ms)
 
 abbrev pub twin_fault : Tree → Option Fault

@@ -18,7 +18,8 @@ empty_form = record { outer = []; levels = [] }
 -- a token that is whole: a run that ends before `more`, or a string; or nothing
 pub data IsToken : List ℕ → List ℕ → Type 0 where
   no_token : {t more : List ℕ} → t ≡ [] → (b : ℕ) (o : List ℕ) → more ≡ b ∷ o → IsToken t more
-  a_run : {t more : List ℕ} → AreRun t → begins_run t ≡ true → begins_run more ≡ false → (b : ℕ) (o : List ℕ) → more ≡ b ∷ o → IsToken t more
+  a_run : {t more : List ℕ} → AreRun t → begins_run t ≡ true → begins_run more ≡ false → (b : ℕ) (o : List ℕ)
+      → more ≡ b ∷ o → IsToken t more
   a_text : {t more : List ℕ} (u : List ℕ) → t ≡ 0x22 ∷ u → ClosesText InString u → IsToken t more
 
 -- a form of the bytes x, or a stop in them or in what is behind

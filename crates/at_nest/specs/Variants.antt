@@ -8,7 +8,8 @@ use Rattle.at_nest.specs.Forms.{Meaning}
 use Rattle.at_nest.specs.Levels.{Form, Halt}
 use Rattle.at_nest.specs.Stops.{IsForm, IsStop}
 
--- one variant of a fragment: a span that is all lead, or its lead with a form and what is pending, or its lead with a stop
+-- one variant of a fragment: a span that is all lead, or its lead with a form and what is pending, or its lead with a
+-- stop
 pub data Variant (X : Type 0) : Type 0 where
   all_lead : List ℕ → Variant X
   whole : List ℕ → Form X → List ℕ → Variant X
@@ -32,7 +33,8 @@ pub data IsPending : List ℕ → Type 0 where
   run_pending : {v : List ℕ} → AreRun v → begins_run v ≡ true → IsPending v
   text_pending : {v : List ℕ} (u : List ℕ) → v ≡ 0x22 ∷ u → StaysInText InString u → IsPending v
 
-pub record IsWhole {X : Type 0} (m : Meaning X) (s : Start) (at : ℕ) (w u : List ℕ) (f : Form X) (v : List ℕ) : Type 0 where
+pub record IsWhole {X : Type 0} (m : Meaning X) (s : Start) (at : ℕ) (w u : List ℕ) (f : Form X) (v : List ℕ)
+    : Type 0 where
   pub middle : List ℕ
   pub split : w ≡ u ++ (middle ++ v)
   pub lead : IsLeadEnd s u (middle ++ v)
@@ -41,7 +43,8 @@ pub record IsWhole {X : Type 0} (m : Meaning X) (s : Start) (at : ℕ) (w u : Li
   pub apart : are_apart middle v ≡ true
   pub ended : v ≡ [] → ends_run middle ≡ false
 
-pub record IsBroken {X : Type 0} (m : Meaning X) (s : Start) (at : ℕ) (w u : List ℕ) (f : Form X) (h : Halt) : Type 0 where
+pub record IsBroken {X : Type 0} (m : Meaning X) (s : Start) (at : ℕ) (w u : List ℕ) (f : Form X) (h : Halt)
+    : Type 0 where
   pub more : List ℕ
   pub split : w ≡ u ++ more
   pub lead : IsLeadEnd s u more

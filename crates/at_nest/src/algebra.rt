@@ -90,8 +90,8 @@ pub trait Algebra: Sync {
 
     /// The atom of a whole array or object, read at once: the text begins with its opening bracket, which stands at the
     /// offset, and may end before the value does. No clause says where the answer is `Whole`: what is left out is read
-    /// item by item, and comes to the same. Where the answer is `Unsaid` it tells how many bytes were looked at, by which
-    /// the reader of a piece bounds what is looked at in vain. The one refusal is want of memory.
+    /// item by item, and comes to the same. Where the answer is `Unsaid` it tells how many bytes were looked at, by
+    /// which the reader of a piece bounds what is looked at in vain. The one refusal is want of memory.
     fn value(&self, _alloc: Global, text: &[u8], at: u32) -> Result<Attempt<Self::Atom>, Memory>
         requires fits { at + length text.now ≤ 2 ^ 28 }
         ensures { IfOk result (IsAttempt (is_own self.now) (is_fold self.now) at text.now) }
@@ -106,5 +106,6 @@ pub trait Algebra: Sync {
         requires { is_own self.now atom.now }
         ensures own { IfOk result (is_own self.now) }
         ensures fold { IfOk result (λ copied. (t : Tree) → is_fold self.now atom.now t → is_fold self.now copied t) }
-        ensures run { IfOk result (λ copied. (ts : List Tree) → is_run self.now atom.now ts → is_run self.now copied ts) };
+        ensures run { IfOk result (λ copied. (ts : List Tree) → is_run self.now atom.now ts
+            → is_run self.now copied ts) };
 }

@@ -1,10 +1,12 @@
 //! The whole items of a span behind its lead: those before its first open level, and the open levels.
 
-ghost use Rattle.std.specs.Prelude.{◌≡◌, ℕ, ◌+◌, ◌-◌, ◌<◌, ◌≤◌, ◌^◌, suc, List, [], ◌∷◌, length, Option, Some, None, All, IfOk, IfSome, MatchOption, slice_set};
+ghost use Rattle.std.specs.Prelude.{◌≡◌, ℕ, ◌+◌, ◌-◌, ◌<◌, ◌≤◌, ◌^◌, suc, List, [], ◌∷◌, length, Option, Some, None};
+ghost use Rattle.std.specs.Prelude.{All, IfOk, IfSome, MatchOption, slice_set};
 ghost use Rattle.at_lex.specs.declared.tokens.Bracket.TheVariants.{Square};
 ghost use Rattle.at_lex.specs.Strings.{JsonString, Character, AreCharacters, string_text};
 ghost use Rattle.at_nest.specs.Forms.{closes as closing_piece};
-ghost use Rattle.at_nest.specs.Shown.{Held, array_level, held_of, AreOwn, opens_of, shown, opened_as, show_as, kept_outside, put_back, comma_added, colon_added, IsStep};
+ghost use Rattle.at_nest.specs.Shown.{Held, array_level, held_of, AreOwn, opens_of, shown, opened_as, show_as};
+ghost use Rattle.at_nest.specs.Shown.{kept_outside, put_back, comma_added, colon_added, IsStep};
 ghost use Rattle.at_nest.specs.Refusals.{is_refused, last_of};
 ghost use Rattle.at_nest.specs.Closers.{IsLonger};
 ghost use Rattle.at_nest.specs.declared.pieces.Piece.{Piece};
@@ -13,7 +15,8 @@ ghost use Rattle.at_nest.specs.Nests.{nest_in, PutsLast};
 ghost use Rattle.at_nest.specs.declared.levels.ArrayState.TheVariants.{Empty};
 ghost use Rattle.at_nest.specs.declared.levels.Nest.{Nest};
 ghost use Rattle.at_nest.specs.declared.levels.Open.TheVariants.{Nested};
-ghost use Rattle.at_nest.specs.Holding.{Kept, IsOfItems, Pushes, PushesClosers, PushesText, PushesValue, PushesBehind, PushesRow, Lengthens, PutsRow, PushesKeptText, CanAdd, Adds, CanJoin, Joins};
+ghost use Rattle.at_nest.specs.Holding.{Kept, IsOfItems, Pushes, PushesClosers, PushesText, PushesValue, PushesBehind};
+ghost use Rattle.at_nest.specs.Holding.{PushesRow, Lengthens, PutsRow, PushesKeptText, CanAdd, Adds, CanJoin, Joins};
 
 use crate::algebra::Algebra;
 use crate::levels::{
@@ -138,7 +141,8 @@ impl<T: Drop> Body<T> {
     /// Puts a level back.
     #[inline(always)]
     fn push(&mut self, level: Level<T>) -> Result<(), Memory>
-        ensures { IfOk result (λ u. shown self.new ≡ show_as (shown self.old).outer (held_of level ∷ (shown self.old).levels)) }
+        ensures { IfOk result (λ u. shown self.new ≡ show_as (shown self.old).outer (held_of level
+            ∷ (shown self.old).levels)) }
     {
         self.levels.push(Open::of(level))?;
         Ok(())
@@ -147,7 +151,8 @@ impl<T: Drop> Body<T> {
     /// The nest with an array more, whose bracket stands at the offset: right behind the innermost one.
     #[inline(always)]
     fn longer(&self, at: u32) -> Option<Nest>
-        ensures { IfSome result (λ n. (n.last ≡ at) × (m : Nest) × (last_of (opens_of self.now.levels) ≡ Some (Nested m)) × (m.last ≡ at - 1) × (n.more ≡ suc m.more)) }
+        ensures { IfSome result (λ n. (n.last ≡ at) × (m : Nest)
+            × (last_of (opens_of self.now.levels) ≡ Some (Nested m)) × (m.last ≡ at - 1) × (n.more ≡ suc m.more)) }
     {
         match self.nest() {
             None => None,
@@ -210,7 +215,8 @@ impl<T: Drop> Body<T> {
 
     /// The last items with the closing bracket at the offset, where they are closing brackets right before it.
     fn closers_with(&self, bracket: Bracket, at: u32) -> Option<Closers>
-        ensures { IfSome result (λ r. (c : Piece T) × (last_of self.now.outer.items ≡ Some c) × IsLonger c bracket at r) }
+        ensures { IfSome result (λ r. (c : Piece T) × (last_of self.now.outer.items ≡ Some c)
+            × IsLonger c bracket at r) }
     {
         match self.outer.as_slice().last() {
             Some(piece) => piece.longer(bracket, at),
@@ -221,7 +227,9 @@ impl<T: Drop> Body<T> {
     /// Puts the closing brackets in the place of the last item before the first open level.
     fn put_closers(&mut self, closers: Closers)
         requires some { 0 < length self.old.outer.items }
-        ensures { shown self.new ≡ show_as (slice_set self.old.outer.items (length self.old.outer.items - 1) (ClosersPiece closers)) (shown self.old).levels }
+        ensures { shown self.new
+            ≡ show_as (slice_set self.old.outer.items (length self.old.outer.items - 1) (ClosersPiece closers))
+            (shown self.old).levels }
     {
         let place = self.outer.len() - 1;
         self.outer[place] = Piece::Closers(closers);
@@ -240,7 +248,8 @@ impl<T: Drop> Body<T> {
 
     #[inline(always)]
     pub fn comma(&mut self, alloc: Global, at: u32) -> Result<Option<Halt>, Memory>
-        ensures { IfOk result (λ r. (shown self.new, r) ≡ comma_added at (shown self.old).outer (shown self.old).levels) }
+        ensures { IfOk result (λ r. (shown self.new, r) ≡ comma_added at (shown self.old).outer
+            (shown self.old).levels) }
     {
         match self.innermost(alloc) {
             None => self.keep(Piece::Comma(at)),
@@ -250,7 +259,8 @@ impl<T: Drop> Body<T> {
 
     #[inline(always)]
     pub fn colon(&mut self, alloc: Global, at: u32) -> Result<Option<Halt>, Memory>
-        ensures { IfOk result (λ r. (shown self.new, r) ≡ colon_added at (shown self.old).outer (shown self.old).levels) }
+        ensures { IfOk result (λ r. (shown self.new, r) ≡ colon_added at (shown self.old).outer
+            (shown self.old).levels) }
     {
         match self.innermost(alloc) {
             None => self.keep(Piece::Colon(at)),
@@ -270,7 +280,8 @@ fn begin_row<A: Algebra>(
 ) -> Result<Option<Halt>, Memory>
     requires outside { (shown body.old).levels ≡ [] }
     requires own { A.is_own algebra.now atom }
-    ensures { IfOk result (λ r. PushesBehind (Kept (A.is_own algebra.now) (A.is_fold algebra.now) (A.is_run algebra.now))
+    ensures { IfOk result (λ r.
+        PushesBehind (Kept (A.is_own algebra.now) (A.is_fold algebra.now) (A.is_run algebra.now))
         (shown body.old) (shown body.new) r comma from atom) }
 {
     let mut items = Vec::new(alloc);
@@ -319,9 +330,11 @@ fn keep_behind<A: Algebra>(
     atom: A::Atom,
 ) -> Result<Option<Halt>, Memory>
     requires outside { (shown body.old).levels ≡ [] }
-    requires held { IsOfItems (Kept (A.is_own algebra.now) (A.is_fold algebra.now) (A.is_run algebra.now)) (shown body.old) }
+    requires held { IsOfItems (Kept (A.is_own algebra.now) (A.is_fold algebra.now) (A.is_run algebra.now))
+        (shown body.old) }
     requires own { A.is_own algebra.now atom }
-    ensures { IfOk result (λ r. PushesBehind (Kept (A.is_own algebra.now) (A.is_fold algebra.now) (A.is_run algebra.now))
+    ensures { IfOk result (λ r.
+        PushesBehind (Kept (A.is_own algebra.now) (A.is_fold algebra.now) (A.is_run algebra.now))
         (shown body.old) (shown body.new) r comma from atom) }
 {
     match body.outer.pop() {
@@ -344,7 +357,8 @@ fn keep_other<A: Algebra>(
     atom: A::Atom,
 ) -> Result<Option<Halt>, Memory>
     requires outside { (shown body.old).levels ≡ [] }
-    requires held { IsOfItems (Kept (A.is_own algebra.now) (A.is_fold algebra.now) (A.is_run algebra.now)) (shown body.old) }
+    requires held { IsOfItems (Kept (A.is_own algebra.now) (A.is_fold algebra.now) (A.is_run algebra.now))
+        (shown body.old) }
     requires own { A.is_own algebra.now atom }
     ensures { IfOk result (λ r. PushesValue (Kept (A.is_own algebra.now) (A.is_fold algebra.now) (A.is_run algebra.now))
         (shown body.old) (shown body.new) r from atom) }
@@ -369,7 +383,8 @@ fn keep_value<A: Algebra>(
     atom: A::Atom,
 ) -> Result<Option<Halt>, Memory>
     requires outside { (shown body.old).levels ≡ [] }
-    requires held { IsOfItems (Kept (A.is_own algebra.now) (A.is_fold algebra.now) (A.is_run algebra.now)) (shown body.old) }
+    requires held { IsOfItems (Kept (A.is_own algebra.now) (A.is_fold algebra.now) (A.is_run algebra.now))
+        (shown body.old) }
     requires own { A.is_own algebra.now atom }
     ensures { IfOk result (λ r. PushesValue (Kept (A.is_own algebra.now) (A.is_fold algebra.now) (A.is_run algebra.now))
         (shown body.old) (shown body.new) r from atom) }
@@ -389,7 +404,8 @@ pub fn read_value<A: Algebra>(
     from: u32,
     atom: A::Atom,
 ) -> Result<Option<Halt>, Memory>
-    requires held { IsOfItems (Kept (A.is_own algebra.now) (A.is_fold algebra.now) (A.is_run algebra.now)) (shown body.old) }
+    requires held { IsOfItems (Kept (A.is_own algebra.now) (A.is_fold algebra.now) (A.is_run algebra.now))
+        (shown body.old) }
     requires own { A.is_own algebra.now atom }
     ensures { IfOk result (λ r. PushesValue (Kept (A.is_own algebra.now) (A.is_fold algebra.now) (A.is_run algebra.now))
         (shown body.old) (shown body.new) r from atom) }
@@ -410,7 +426,8 @@ fn keep_text<A: Algebra>(
     atom: A::Atom,
 ) -> Result<Option<Halt>, Memory>
     requires { (shown body.old).levels ≡ [] }
-    ensures { IfOk result (λ r. PushesKeptText (Kept (A.is_own algebra.now) (A.is_fold algebra.now) (A.is_run algebra.now))
+    ensures { IfOk result (λ r. PushesKeptText (Kept (A.is_own algebra.now) (A.is_fold algebra.now)
+        (A.is_run algebra.now))
         (shown body.old) (shown body.new) r span atom) }
 {
     match awaited_member(body.outer.as_slice()) {
@@ -430,9 +447,11 @@ pub fn read_text<A: Algebra>(
 ) -> Result<Option<Halt>, Memory>
     requires whole { JsonString text.now }
     requires fits { at + length text.now ≤ 2 ^ 28 }
-    requires held { IsOfItems (Kept (A.is_own algebra.now) (A.is_fold algebra.now) (A.is_run algebra.now)) (shown body.old) }
+    requires held { IsOfItems (Kept (A.is_own algebra.now) (A.is_fold algebra.now) (A.is_run algebra.now))
+        (shown body.old) }
     ensures { IfOk result (λ r. (cs : List Character) → AreCharacters cs → text.now ≡ string_text cs
-        → PushesText (Kept (A.is_own algebra.now) (A.is_fold algebra.now) (A.is_run algebra.now)) (shown body.old) (shown body.new) r
+        → PushesText (Kept (A.is_own algebra.now) (A.is_fold algebra.now) (A.is_run algebra.now)) (shown body.old)
+        (shown body.new) r
         (record { from = at; to = at + length text.now }) cs) }
 {
     match body.innermost(alloc) {
@@ -532,9 +551,11 @@ fn add_row<A: Algebra>(
     algebra: &A,
     row: Row<A::Atom>,
 ) -> Result<Option<Halt>, Memory>
-    requires held { IsOfItems (Kept (A.is_own algebra.now) (A.is_fold algebra.now) (A.is_run algebra.now)) (shown body.old) }
+    requires held { IsOfItems (Kept (A.is_own algebra.now) (A.is_fold algebra.now) (A.is_run algebra.now))
+        (shown body.old) }
     requires row { All (A.is_own algebra.now) row.items.items }
-    ensures { IfOk result (λ r. PushesRow (Kept (A.is_own algebra.now) (A.is_fold algebra.now) (A.is_run algebra.now)) (shown body.old) (shown body.new) r row) }
+    ensures { IfOk result (λ r. PushesRow (Kept (A.is_own algebra.now) (A.is_fold algebra.now) (A.is_run algebra.now))
+        (shown body.old) (shown body.new) r row) }
 {
     match body.innermost(alloc) {
         None => body.keep(Piece::Row(row)),
@@ -552,8 +573,10 @@ fn close_all<A: Algebra>(
     algebra: &A,
     closers: Closers,
 ) -> Result<Option<Halt>, Memory>
-    requires held { IsOfItems (Kept (A.is_own algebra.now) (A.is_fold algebra.now) (A.is_run algebra.now)) (shown body.old) }
-    ensures { IfOk result (λ r. PushesClosers (Kept (A.is_own algebra.now) (A.is_fold algebra.now) (A.is_run algebra.now))
+    requires held { IsOfItems (Kept (A.is_own algebra.now) (A.is_fold algebra.now) (A.is_run algebra.now))
+        (shown body.old) }
+    ensures { IfOk result (λ r. PushesClosers (Kept (A.is_own algebra.now) (A.is_fold algebra.now)
+        (A.is_run algebra.now))
         (shown body.old) (shown body.new) r closers) }
 {
     for at in closers.from..closers.to {
@@ -574,8 +597,10 @@ fn add<A: Algebra>(
     piece: Piece<A::Atom>,
 ) -> Result<Option<Halt>, Memory>
     requires fits { length bytes.now ≤ 2 ^ 28 }
-    requires held { CanAdd (Kept (A.is_own algebra.now) (A.is_fold algebra.now) (A.is_run algebra.now)) bytes.now (shown body.old) piece }
-    ensures { IfOk result (λ r. Adds (Kept (A.is_own algebra.now) (A.is_fold algebra.now) (A.is_run algebra.now)) bytes.now
+    requires held { CanAdd (Kept (A.is_own algebra.now) (A.is_fold algebra.now) (A.is_run algebra.now)) bytes.now
+        (shown body.old) piece }
+    ensures { IfOk result (λ r. Adds (Kept (A.is_own algebra.now) (A.is_fold algebra.now) (A.is_run algebra.now))
+        bytes.now
         (shown body.old) piece (shown body.new) r) }
 {
     match piece {
@@ -600,8 +625,10 @@ fn add_text<A: Algebra>(
     atom: A::Atom,
 ) -> Result<Option<Halt>, Memory>
     requires fits { length bytes.now ≤ 2 ^ 28 }
-    requires held { CanAdd (Kept (A.is_own algebra.now) (A.is_fold algebra.now) (A.is_run algebra.now)) bytes.now (shown body.old) (Piece.Text span atom) }
-    ensures { IfOk result (λ r. Adds (Kept (A.is_own algebra.now) (A.is_fold algebra.now) (A.is_run algebra.now)) bytes.now
+    requires held { CanAdd (Kept (A.is_own algebra.now) (A.is_fold algebra.now) (A.is_run algebra.now)) bytes.now
+        (shown body.old) (Piece.Text span atom) }
+    ensures { IfOk result (λ r. Adds (Kept (A.is_own algebra.now) (A.is_fold algebra.now) (A.is_run algebra.now))
+        bytes.now
         (shown body.old) (Piece.Text span atom) (shown body.new) r) }
 {
     match body.innermost(alloc) {
@@ -627,8 +654,10 @@ pub fn join<A: Algebra>(
     behind: Body<A::Atom>,
 ) -> Result<Option<Halt>, Memory>
     requires fits { length bytes.now ≤ 2 ^ 28 }
-    requires held { CanJoin (Kept (A.is_own algebra.now) (A.is_fold algebra.now) (A.is_run algebra.now)) bytes.now (shown body.old) (shown behind) }
-    ensures { IfOk result (λ r. Joins (Kept (A.is_own algebra.now) (A.is_fold algebra.now) (A.is_run algebra.now)) bytes.now
+    requires held { CanJoin (Kept (A.is_own algebra.now) (A.is_fold algebra.now) (A.is_run algebra.now)) bytes.now
+        (shown body.old) (shown behind) }
+    ensures { IfOk result (λ r. Joins (Kept (A.is_own algebra.now) (A.is_fold algebra.now) (A.is_run algebra.now))
+        bytes.now
         (shown body.old) (shown behind) (shown body.new) r) }
 {
     let Body { outer, levels } = behind;

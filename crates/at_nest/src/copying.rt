@@ -2,8 +2,10 @@
 
 ghost use Rattle.std.specs.Prelude.{◌≡◌, ℕ, All, List, [], ◌∷◌, IfOk};
 ghost use Rattle.at_lex.specs.declared.tokens.Start.{Start};
-ghost use Rattle.at_nest.specs.Shown.{array_held, object_held, helds_of, shown, open_levels, stretched, opens_of, AreOwn, OwnPiece, OwnLevel, OwnStretch, OwnLevels, OwnBody};
-ghost use Rattle.at_nest.specs.Holding.{Kept, CopiesItems, CopiesMember, CopiesMembers, CopiesNamed, CopiesHeld, CopiesLevels, CopiesPiece, CopiesPieces, CopiesShown};
+ghost use Rattle.at_nest.specs.Shown.{array_held, object_held, helds_of, shown, open_levels, stretched, opens_of};
+ghost use Rattle.at_nest.specs.Shown.{AreOwn, OwnPiece, OwnLevel, OwnStretch, OwnLevels, OwnBody};
+ghost use Rattle.at_nest.specs.Holding.{Kept, CopiesItems, CopiesMember, CopiesMembers, CopiesNamed, CopiesHeld};
+ghost use Rattle.at_nest.specs.Holding.{CopiesLevels, CopiesPiece, CopiesPieces, CopiesShown};
 ghost use Rattle.at_nest.specs.Stands.{HoldsVariant};
 
 use crate::algebra::{Algebra, Member};
@@ -42,7 +44,8 @@ fn copy_items<A: Algebra>(
     items: &Vec<A::Atom>,
 ) -> Result<Vec<A::Atom>, Memory>
     requires { All (A.is_own algebra.now) items.now.items }
-    ensures { IfOk result (λ v. CopiesItems (Kept (A.is_own algebra.now) (A.is_fold algebra.now) (A.is_run algebra.now)) items.now.items v.items) }
+    ensures { IfOk result (λ v. CopiesItems (Kept (A.is_own algebra.now) (A.is_fold algebra.now) (A.is_run algebra.now))
+        items.now.items v.items) }
 {
     let mut copied = Vec::with_capacity(alloc, items.len())?;
     for item in items {
@@ -57,7 +60,8 @@ fn copy_member<A: Algebra>(
     member: &Member<A::Atom>,
 ) -> Result<Member<A::Atom>, Memory>
     requires { A.is_own algebra.now member.now.value }
-    ensures { IfOk result (CopiesMember (Kept (A.is_own algebra.now) (A.is_fold algebra.now) (A.is_run algebra.now)) member.now) }
+    ensures { IfOk result (CopiesMember (Kept (A.is_own algebra.now) (A.is_fold algebra.now) (A.is_run algebra.now))
+        member.now) }
 {
     Ok(Member {
         name: member.name.copy(alloc)?,
@@ -72,7 +76,8 @@ fn copy_members<A: Algebra>(
     members: &Vec<Member<A::Atom>>,
 ) -> Result<Vec<Member<A::Atom>>, Memory>
     requires { All (λ m. A.is_own algebra.now m.value) members.now.items }
-    ensures { IfOk result (λ v. CopiesMembers (Kept (A.is_own algebra.now) (A.is_fold algebra.now) (A.is_run algebra.now)) members.now.items v.items) }
+    ensures { IfOk result (λ v. CopiesMembers (Kept (A.is_own algebra.now) (A.is_fold algebra.now)
+        (A.is_run algebra.now)) members.now.items v.items) }
 {
     let mut copied = Vec::with_capacity(alloc, members.len())?;
     for member in members {
@@ -87,7 +92,8 @@ fn copy_array<A: Algebra>(
     level: &ArrayLevel<A::Atom>,
 ) -> Result<ArrayLevel<A::Atom>, Memory>
     requires { AreOwn (A.is_own algebra.now) (array_held level.now) }
-    ensures { IfOk result (λ l. CopiesHeld (Kept (A.is_own algebra.now) (A.is_fold algebra.now) (A.is_run algebra.now)) (array_held level.now) (array_held l)) }
+    ensures { IfOk result (λ l. CopiesHeld (Kept (A.is_own algebra.now) (A.is_fold algebra.now) (A.is_run algebra.now))
+        (array_held level.now) (array_held l)) }
 {
     Ok(ArrayLevel {
         from: level.from,
@@ -102,7 +108,8 @@ fn copy_object<A: Algebra>(
     level: &ObjectLevel<A::Atom>,
 ) -> Result<ObjectLevel<A::Atom>, Memory>
     requires { AreOwn (A.is_own algebra.now) (object_held level.now) }
-    ensures { IfOk result (λ l. CopiesHeld (Kept (A.is_own algebra.now) (A.is_fold algebra.now) (A.is_run algebra.now)) (object_held level.now) (object_held l)) }
+    ensures { IfOk result (λ l. CopiesHeld (Kept (A.is_own algebra.now) (A.is_fold algebra.now) (A.is_run algebra.now))
+        (object_held level.now) (object_held l)) }
 {
     Ok(ObjectLevel {
         from: level.from,
@@ -117,7 +124,9 @@ fn copy_open<A: Algebra>(
     level: &Open<A::Atom>,
 ) -> Result<Open<A::Atom>, Memory>
     requires { OwnLevel (A.is_own algebra.now) level.now }
-    ensures { IfOk result (λ o. CopiesLevels (Kept (A.is_own algebra.now) (A.is_fold algebra.now) (A.is_run algebra.now)) (helds_of level.now) (helds_of o)) }
+    ensures { IfOk result (λ o.
+        CopiesLevels (Kept (A.is_own algebra.now) (A.is_fold algebra.now) (A.is_run algebra.now)) (helds_of level.now)
+        (helds_of o)) }
 {
     match level {
         Open::Array(level) => Ok(Open::Array(copy_array(alloc, algebra, level)?)),
@@ -146,7 +155,8 @@ fn copy_named<A: Algebra>(
     items: &Vec<NamedValue<A::Atom>>,
 ) -> Result<Vec<NamedValue<A::Atom>>, Memory>
     requires { All (λ m. A.is_own algebra.now m.value) items.now.items }
-    ensures { IfOk result (λ v. CopiesNamed (Kept (A.is_own algebra.now) (A.is_fold algebra.now) (A.is_run algebra.now)) items.now.items v.items) }
+    ensures { IfOk result (λ v. CopiesNamed (Kept (A.is_own algebra.now) (A.is_fold algebra.now) (A.is_run algebra.now))
+        items.now.items v.items) }
 {
     let mut copied = Vec::with_capacity(alloc, items.len())?;
     for item in items {
@@ -164,7 +174,8 @@ fn copy_piece<A: Algebra>(
     piece: &Piece<A::Atom>,
 ) -> Result<Piece<A::Atom>, Memory>
     requires { OwnPiece (A.is_own algebra.now) piece.now }
-    ensures { IfOk result (CopiesPiece (Kept (A.is_own algebra.now) (A.is_fold algebra.now) (A.is_run algebra.now)) piece.now) }
+    ensures { IfOk result (CopiesPiece (Kept (A.is_own algebra.now) (A.is_fold algebra.now) (A.is_run algebra.now))
+        piece.now) }
 {
     match piece {
         Piece::Closes(bracket, at) => Ok(Piece::Closes(*bracket, *at)),
@@ -198,7 +209,9 @@ fn copy_pieces<A: Algebra>(
     pieces: &Vec<Piece<A::Atom>>,
 ) -> Result<Vec<Piece<A::Atom>>, Memory>
     requires { All (OwnPiece (A.is_own algebra.now)) pieces.now.items }
-    ensures { IfOk result (λ v. CopiesPieces (Kept (A.is_own algebra.now) (A.is_fold algebra.now) (A.is_run algebra.now)) pieces.now.items v.items) }
+    ensures { IfOk result (λ v.
+        CopiesPieces (Kept (A.is_own algebra.now) (A.is_fold algebra.now) (A.is_run algebra.now)) pieces.now.items
+        v.items) }
 {
     let mut copied = Vec::with_capacity(alloc, pieces.len())?;
     for piece in pieces {
@@ -213,7 +226,9 @@ fn copy_opens<A: Algebra>(
     opens: &Vec<Open<A::Atom>>,
 ) -> Result<Vec<Open<A::Atom>>, Memory>
     requires { All (OwnLevel (A.is_own algebra.now)) opens.now.items }
-    ensures { IfOk result (λ v. CopiesLevels (Kept (A.is_own algebra.now) (A.is_fold algebra.now) (A.is_run algebra.now)) (open_levels opens.now.items) (open_levels v.items)) }
+    ensures { IfOk result (λ v.
+        CopiesLevels (Kept (A.is_own algebra.now) (A.is_fold algebra.now) (A.is_run algebra.now))
+        (open_levels opens.now.items) (open_levels v.items)) }
 {
     let mut copied = Vec::with_capacity(alloc, opens.len())?;
     for level in opens {
@@ -228,7 +243,9 @@ fn copy_stretch<A: Algebra>(
     stretch: &Stretch<A::Atom>,
 ) -> Result<Stretch<A::Atom>, Memory>
     requires { OwnStretch (A.is_own algebra.now) stretch.now }
-    ensures { IfOk result (λ s. CopiesLevels (Kept (A.is_own algebra.now) (A.is_fold algebra.now) (A.is_run algebra.now)) (open_levels (stretched (stretch.now ∷ []))) (open_levels (stretched (s ∷ [])))) }
+    ensures { IfOk result (λ s.
+        CopiesLevels (Kept (A.is_own algebra.now) (A.is_fold algebra.now) (A.is_run algebra.now))
+        (open_levels (stretched (stretch.now ∷ []))) (open_levels (stretched (s ∷ [])))) }
 {
     Ok(Stretch {
         round: copy_opens(alloc, algebra, &stretch.round)?,
@@ -242,7 +259,9 @@ fn copy_stretches<A: Algebra>(
     stretches: &Vec<Stretch<A::Atom>>,
 ) -> Result<Vec<Stretch<A::Atom>>, Memory>
     requires { All (OwnStretch (A.is_own algebra.now)) stretches.now.items }
-    ensures { IfOk result (λ v. CopiesLevels (Kept (A.is_own algebra.now) (A.is_fold algebra.now) (A.is_run algebra.now)) (open_levels (stretched stretches.now.items)) (open_levels (stretched v.items))) }
+    ensures { IfOk result (λ v.
+        CopiesLevels (Kept (A.is_own algebra.now) (A.is_fold algebra.now) (A.is_run algebra.now))
+        (open_levels (stretched stretches.now.items)) (open_levels (stretched v.items))) }
 {
     let mut copied = Vec::with_capacity(alloc, stretches.len())?;
     for stretch in stretches {
@@ -257,7 +276,9 @@ fn copy_levels<A: Algebra>(
     levels: &Levels<A::Atom>,
 ) -> Result<Levels<A::Atom>, Memory>
     requires { OwnLevels (A.is_own algebra.now) levels.now }
-    ensures { IfOk result (λ l. CopiesLevels (Kept (A.is_own algebra.now) (A.is_fold algebra.now) (A.is_run algebra.now)) (open_levels (opens_of levels.now)) (open_levels (opens_of l))) }
+    ensures { IfOk result (λ l.
+        CopiesLevels (Kept (A.is_own algebra.now) (A.is_fold algebra.now) (A.is_run algebra.now))
+        (open_levels (opens_of levels.now)) (open_levels (opens_of l))) }
 {
     Ok(Levels {
         before: copy_stretches(alloc, algebra, &levels.before)?,
@@ -271,7 +292,8 @@ fn copy_body<A: Algebra>(
     body: &Body<A::Atom>,
 ) -> Result<Body<A::Atom>, Memory>
     requires { OwnBody (A.is_own algebra.now) body.now }
-    ensures { IfOk result (λ b. CopiesShown (Kept (A.is_own algebra.now) (A.is_fold algebra.now) (A.is_run algebra.now)) (shown body.now) (shown b)) }
+    ensures { IfOk result (λ b. CopiesShown (Kept (A.is_own algebra.now) (A.is_fold algebra.now) (A.is_run algebra.now))
+        (shown body.now) (shown b)) }
 {
     Ok(Body {
         outer: copy_pieces(alloc, algebra, &body.outer)?,
@@ -285,8 +307,11 @@ pub fn copy_variant<A: Algebra>(
     algebra: &A,
     variant: &Variant<A::Atom>,
 ) -> Result<Variant<A::Atom>, Memory>
-    requires { (s : Start) × (at : ℕ) × (w : List ℕ) × HoldsVariant (Kept (A.is_own algebra.now) (A.is_fold algebra.now) (A.is_run algebra.now)) s at w variant.now }
-    ensures { IfOk result (λ v. (s : Start) (at : ℕ) (w : List ℕ) → HoldsVariant (Kept (A.is_own algebra.now) (A.is_fold algebra.now) (A.is_run algebra.now)) s at w variant.now → HoldsVariant (Kept (A.is_own algebra.now) (A.is_fold algebra.now) (A.is_run algebra.now)) s at w v) }
+    requires { (s : Start) × (at : ℕ) × (w : List ℕ)
+        × HoldsVariant (Kept (A.is_own algebra.now) (A.is_fold algebra.now) (A.is_run algebra.now)) s at w variant.now }
+    ensures { IfOk result (λ v. (s : Start) (at : ℕ) (w : List ℕ)
+        → HoldsVariant (Kept (A.is_own algebra.now) (A.is_fold algebra.now) (A.is_run algebra.now)) s at w variant.now
+        → HoldsVariant (Kept (A.is_own algebra.now) (A.is_fold algebra.now) (A.is_run algebra.now)) s at w v) }
 {
     match variant {
         Variant::AllLead { end } => Ok(Variant::AllLead { end: *end }),

@@ -12,7 +12,9 @@ ghost use Rattle.at_nest.specs.Holding.{Kept, IsOfItems};
 ghost use Rattle.at_nest.specs.Standing.{StandsFor, parts_of};
 ghost use Rattle.at_nest.specs.Stands.{HoldsVariant};
 ghost use Rattle.at_nest.specs.Variants.{IsPending};
-ghost use Rattle.at_nest.specs.Nexts.{takes, level_next, IsNoValue, levels_next as levels_end, outer_next as outer_end, next_of as next_end, value_of, only_of, answer_of as answer_behind, stop_of as stop_behind, open_of as open_behind};
+ghost use Rattle.at_nest.specs.Nexts.{takes, level_next, IsNoValue, levels_next as levels_end, outer_next as outer_end};
+ghost use Rattle.at_nest.specs.Nexts.{next_of as next_end, value_of, only_of, answer_of as answer_behind};
+ghost use Rattle.at_nest.specs.Nexts.{stop_of as stop_behind, open_of as open_behind};
 ghost use Rattle.at_nest.specs.Lasts.{begins_text, IsTail, EndsSo};
 ghost use Rattle.at_nest.specs.Ending.{Answers};
 
@@ -322,8 +324,10 @@ fn last_run<A: Algebra>(
 ) -> Result<A::Atom, NestEnd>
     requires whole { JsonRun text.now }
     requires fits { from + length text.now ≤ 2 ^ 28 }
-    requires held { IsOfItems (Kept (A.is_own algebra.now) (A.is_fold algebra.now) (A.is_run algebra.now)) (shown body) }
-    ensures { EndsSo (Kept (A.is_own algebra.now) (A.is_fold algebra.now) (A.is_run algebra.now)) (shown body) from text.now result }
+    requires held { IsOfItems (Kept (A.is_own algebra.now) (A.is_fold algebra.now) (A.is_run algebra.now))
+        (shown body) }
+    ensures { EndsSo (Kept (A.is_own algebra.now) (A.is_fold algebra.now) (A.is_run algebra.now)) (shown body) from
+        text.now result }
 {
     let atom = algebra.scalar(alloc, text, from)?;
     match read_value(&mut body, alloc, algebra, from, atom)? {
@@ -342,8 +346,10 @@ fn last<A: Algebra>(
 ) -> Result<A::Atom, NestEnd>
     requires pending { IsPending text.now }
     requires fits { from + length text.now ≤ 2 ^ 28 }
-    requires held { IsOfItems (Kept (A.is_own algebra.now) (A.is_fold algebra.now) (A.is_run algebra.now)) (shown body) }
-    ensures { EndsSo (Kept (A.is_own algebra.now) (A.is_fold algebra.now) (A.is_run algebra.now)) (shown body) from text.now result }
+    requires held { IsOfItems (Kept (A.is_own algebra.now) (A.is_fold algebra.now) (A.is_run algebra.now))
+        (shown body) }
+    ensures { EndsSo (Kept (A.is_own algebra.now) (A.is_fold algebra.now) (A.is_run algebra.now)) (shown body) from
+        text.now result }
 {
     match tail_of(text, from) {
         Tail::Nothing => answer_of(body),
@@ -367,8 +373,10 @@ pub fn finish_span<A: Algebra>(
     requires fits { length bytes.now ≤ 2 ^ 28 }
     requires order { span.from ≤ span.to }
     requires end { span.to ≤ length bytes.now }
-    requires whole { StandsFor (Kept (A.is_own algebra.now) (A.is_fold algebra.now) (A.is_run algebra.now)) span.from (part_of bytes.now span.from span.to) whole }
-    ensures answers { Answers (Kept (A.is_own algebra.now) (A.is_fold algebra.now) (A.is_run algebra.now)) span.from (part_of bytes.now span.from span.to) result }
+    requires whole { StandsFor (Kept (A.is_own algebra.now) (A.is_fold algebra.now) (A.is_run algebra.now)) span.from
+        (part_of bytes.now span.from span.to) whole }
+    ensures answers { Answers (Kept (A.is_own algebra.now) (A.is_fold algebra.now) (A.is_run algebra.now)) span.from
+        (part_of bytes.now span.from span.to) result }
     ensures lost { parts_of whole ≡ None → result ≡ Err NestEnd.Memory }
 {
     let Some(parts) = whole.into_parts() else {
@@ -388,8 +396,10 @@ fn finish_variant<A: Algebra>(
     requires fits { length bytes.now ≤ 2 ^ 28 }
     requires order { span.from ≤ span.to }
     requires end { span.to ≤ length bytes.now }
-    requires held { HoldsVariant (Kept (A.is_own algebra.now) (A.is_fold algebra.now) (A.is_run algebra.now)) Start.Out span.from (part_of bytes.now span.from span.to) variant }
-    ensures { Answers (Kept (A.is_own algebra.now) (A.is_fold algebra.now) (A.is_run algebra.now)) span.from (part_of bytes.now span.from span.to) result }
+    requires held { HoldsVariant (Kept (A.is_own algebra.now) (A.is_fold algebra.now) (A.is_run algebra.now)) Start.Out
+        span.from (part_of bytes.now span.from span.to) variant }
+    ensures { Answers (Kept (A.is_own algebra.now) (A.is_fold algebra.now) (A.is_run algebra.now)) span.from
+        (part_of bytes.now span.from span.to) result }
 {
     let mut body = Body::new(alloc);
     match variant {
@@ -431,8 +441,10 @@ pub fn finish<A: Algebra>(
     whole: Fragment<A>,
 ) -> Result<A::Atom, NestEnd>
     requires fits { length bytes.now ≤ 2 ^ 28 }
-    requires whole { StandsFor (Kept (A.is_own algebra.now) (A.is_fold algebra.now) (A.is_run algebra.now)) (base_in bytes.now) (drop (base_in bytes.now) bytes.now) whole }
-    ensures answers { Answers (Kept (A.is_own algebra.now) (A.is_fold algebra.now) (A.is_run algebra.now)) (base_in bytes.now) (drop (base_in bytes.now) bytes.now) result }
+    requires whole { StandsFor (Kept (A.is_own algebra.now) (A.is_fold algebra.now) (A.is_run algebra.now))
+        (base_in bytes.now) (drop (base_in bytes.now) bytes.now) whole }
+    ensures answers { Answers (Kept (A.is_own algebra.now) (A.is_fold algebra.now) (A.is_run algebra.now))
+        (base_in bytes.now) (drop (base_in bytes.now) bytes.now) result }
     ensures lost { parts_of whole ≡ None → result ≡ Err NestEnd.Memory }
 {
     let span = Span {

@@ -67,7 +67,8 @@ fn fragment_of<A: Algebra>(
     algebra: &A,
     parts: Result<Parts<A::Atom>, Memory>,
 ) -> Fragment<A>
-    ensures { (at : ℕ) (w : List ℕ) → IfOk parts (HoldsParts (Kept (A.is_own algebra.now) (A.is_fold algebra.now) (A.is_run algebra.now)) at w)
+    ensures { (at : ℕ) (w : List ℕ)
+        → IfOk parts (HoldsParts (Kept (A.is_own algebra.now) (A.is_fold algebra.now) (A.is_run algebra.now)) at w)
         → StandsFor (Kept (A.is_own algebra.now) (A.is_fold algebra.now) (A.is_run algebra.now)) at w result }
 {
     let _ = algebra;
@@ -97,7 +98,8 @@ fn read_parts<A: Algebra>(
     base: u32,
 ) -> Result<Parts<A::Atom>, Memory>
     requires { base + length piece.now ≤ 2 ^ 28 }
-    ensures { IfOk result (HoldsParts (Kept (A.is_own algebra.now) (A.is_fold algebra.now) (A.is_run algebra.now)) base piece.now) }
+    ensures { IfOk result (HoldsParts (Kept (A.is_own algebra.now) (A.is_fold algebra.now) (A.is_run algebra.now)) base
+        piece.now) }
 {
     let out = read_variant(alloc, algebra, piece, base, Start::Out)?;
     let string = read_variant(alloc, algebra, piece, base, Start::InString)?;
@@ -114,7 +116,8 @@ fn read_parts<A: Algebra>(
 /// memory is wanted, the fragment is lost.
 pub fn run_block<A: Algebra>(alloc: Global, algebra: &A, piece: &[u8], base: u32) -> Fragment<A>
     requires { base + length piece.now ≤ 2 ^ 28 }
-    ensures { StandsFor (Kept (A.is_own algebra.now) (A.is_fold algebra.now) (A.is_run algebra.now)) base piece.now result }
+    ensures { StandsFor (Kept (A.is_own algebra.now) (A.is_fold algebra.now) (A.is_run algebra.now)) base piece.now
+        result }
 {
     let parts = read_parts(alloc, algebra, piece, base);
     fragment_of(alloc, algebra, parts)
@@ -161,7 +164,8 @@ fn taken_from<A: Algebra>(
     again: bool,
 ) -> Result<Variant<A::Atom>, Memory>
     requires { HoldsSome (Kept (A.is_own algebra.now) (A.is_fold algebra.now) (A.is_run algebra.now)) variant.old }
-    ensures same { IfOk result (StandsAs (Kept (A.is_own algebra.now) (A.is_fold algebra.now) (A.is_run algebra.now)) variant.old) }
+    ensures same { IfOk result (StandsAs (Kept (A.is_own algebra.now) (A.is_fold algebra.now) (A.is_run algebra.now))
+        variant.old) }
     ensures stays { again ≡ true → variant.new ≡ variant.old }
 {
     if again {
@@ -211,9 +215,11 @@ fn joined<A: Algebra>(
 ) -> Result<Variant<A::Atom>, Memory>
     requires fits { length bytes.now ≤ 2 ^ 28 }
     requires held { (s : Start) × (at : ℕ) × (w : List ℕ) × (x : List ℕ)
-        × GoesOn (Kept (A.is_own algebra.now) (A.is_fold algebra.now) (A.is_run algebra.now)) bytes.now s at w x left right.old wanted }
+        × GoesOn (Kept (A.is_own algebra.now) (A.is_fold algebra.now) (A.is_run algebra.now)) bytes.now s at w x left
+        right.old wanted }
     ensures union { IfOk result (λ v. (s : Start) (at : ℕ) (w x : List ℕ)
-        → GoesOn (Kept (A.is_own algebra.now) (A.is_fold algebra.now) (A.is_run algebra.now)) bytes.now s at w x left right.old wanted
+        → GoesOn (Kept (A.is_own algebra.now) (A.is_fold algebra.now) (A.is_run algebra.now)) bytes.now s at w x left
+        right.old wanted
         → HoldsVariant (Kept (A.is_own algebra.now) (A.is_fold algebra.now) (A.is_run algebra.now)) s at (w ++ x) v) }
     ensures stays { Stays wanted again right.old right.new }
 {
@@ -248,9 +254,11 @@ fn merge_parts<A: Algebra>(
 ) -> Result<Parts<A::Atom>, Memory>
     requires fits { length bytes.now ≤ 2 ^ 28 }
     requires beside { (at : ℕ) × (w : List ℕ) × (x : List ℕ)
-        × AreBeside (Kept (A.is_own algebra.now) (A.is_fold algebra.now) (A.is_run algebra.now)) bytes.now at w x left right }
+        × AreBeside (Kept (A.is_own algebra.now) (A.is_fold algebra.now) (A.is_run algebra.now)) bytes.now at w x left
+        right }
     ensures { IfOk result (λ p. (at : ℕ) (w x : List ℕ)
-        → AreBeside (Kept (A.is_own algebra.now) (A.is_fold algebra.now) (A.is_run algebra.now)) bytes.now at w x left right
+        → AreBeside (Kept (A.is_own algebra.now) (A.is_fold algebra.now) (A.is_run algebra.now)) bytes.now at w x left
+        right
         → HoldsParts (Kept (A.is_own algebra.now) (A.is_fold algebra.now) (A.is_run algebra.now)) at (w ++ x) p) }
 {
     let Parts {
@@ -285,8 +293,11 @@ pub fn merge<A: Algebra>(
     right: Fragment<A>,
 ) -> Fragment<A>
     requires fits { length bytes.now ≤ 2 ^ 28 }
-    requires neighbours { (i : ℕ) × (j : ℕ) × (k : ℕ) × AreNeighbours (StandsFor (Kept (A.is_own algebra.now) (A.is_fold algebra.now) (A.is_run algebra.now))) bytes.now i j k left right }
-    ensures union { IsMerged (StandsFor (Kept (A.is_own algebra.now) (A.is_fold algebra.now) (A.is_run algebra.now))) bytes.now left right result }
+    requires neighbours { (i : ℕ) × (j : ℕ) × (k : ℕ)
+        × AreNeighbours (StandsFor (Kept (A.is_own algebra.now) (A.is_fold algebra.now) (A.is_run algebra.now)))
+        bytes.now i j k left right }
+    ensures union { IsMerged (StandsFor (Kept (A.is_own algebra.now) (A.is_fold algebra.now) (A.is_run algebra.now)))
+        bytes.now left right result }
     ensures left_lost { parts_of left ≡ None → parts_of result ≡ None }
     ensures right_lost { parts_of right ≡ None → parts_of result ≡ None }
 {

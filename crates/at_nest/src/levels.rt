@@ -3,7 +3,8 @@
 ghost use Rattle.std.specs.Prelude.{◌≡◌, [], ◌∷◌, Some, All, IfOk, MatchOption};
 ghost use Rattle.at_nest.specs.Tree.{Tree};
 ghost use Rattle.at_nest.specs.Levels.{Level as ModelLevel, built};
-ghost use Rattle.at_nest.specs.Shown.{held_of, helds_of, top_of, opened_as, from_of, comma_next, colon_next, value_next, name_next, takes_name, takes_value, closes_with, IsStep, AreOwn};
+ghost use Rattle.at_nest.specs.Shown.{held_of, helds_of, top_of, opened_as, from_of, comma_next, colon_next};
+ghost use Rattle.at_nest.specs.Shown.{value_next, name_next, takes_name, takes_value, closes_with, IsStep, AreOwn};
 ghost use Rattle.at_nest.specs.Refusals.{not_in_level};
 ghost use Rattle.at_nest.specs.Nests.{nest_in};
 ghost use Rattle.at_nest.specs.Holding.{Kept, IsHeld, AddsTo, GainsAll, free};
@@ -174,7 +175,8 @@ fn object_name<T: Drop>(mut level: Box<ObjectLevel<T>>, name: MemberName) -> Ste
 /// An object behind a value, which has become the atom.
 #[inline(always)]
 fn object_value<T: Drop>(mut level: Box<ObjectLevel<T>>, atom: T) -> Result<Step<T>, Memory>
-    ensures { IfOk result (λ step. IsStep (held_of (Level.Object level)) (value_next (held_of (Level.Object level)) atom []) step) }
+    ensures { IfOk result (λ step. IsStep (held_of (Level.Object level))
+        (value_next (held_of (Level.Object level)) atom []) step) }
 {
     match mem::replace(&mut level.state, ObjectState::Value) {
         ObjectState::Colon(name) => {

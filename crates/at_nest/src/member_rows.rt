@@ -3,7 +3,9 @@
 ghost use Rattle.std.specs.Prelude.{◌≡◌, ◌≤◌, ◌^◌, [], length, All, IfOk};
 ghost use Rattle.at_nest.specs.Shown.{held_of, AreOwn, shown};
 ghost use Rattle.at_nest.specs.MemberMarks.{Awaits};
-ghost use Rattle.at_nest.specs.Holding.{Kept, IsOfItems, HasName, HasMembers, IsBehindComma, NamesMember, GainsMembers, BeginsMembers, LengthensMembers, PushesMember, PushesAwaited, PushesMembers, PutsMembers};
+ghost use Rattle.at_nest.specs.Holding.{Kept, IsOfItems, HasName, HasMembers, IsBehindComma, NamesMember, GainsMembers};
+ghost use Rattle.at_nest.specs.Holding.{BeginsMembers, LengthensMembers, PushesMember, PushesAwaited, PushesMembers};
+ghost use Rattle.at_nest.specs.Holding.{PutsMembers};
 
 use crate::algebra::{Algebra, Member};
 use crate::bodies::Body;
@@ -66,7 +68,8 @@ fn keep_member<A: Algebra>(
     value: A::Atom,
 ) -> Result<Option<Halt>, Memory>
     requires { (shown body.old).levels ≡ [] }
-    ensures { IfOk result (λ r. PushesMember (Kept (A.is_own algebra.now) (A.is_fold algebra.now) (A.is_run algebra.now))
+    ensures { IfOk result (λ r.
+        PushesMember (Kept (A.is_own algebra.now) (A.is_fold algebra.now) (A.is_run algebra.now))
         (shown body.old) (shown body.new) r member value) }
 {
     let _ = algebra;
@@ -93,7 +96,8 @@ pub fn keep_awaited<A: Algebra>(
 ) -> Result<Option<Halt>, Memory>
     requires outside { (shown body.old).levels ≡ [] }
     requires awaits { Awaits (shown body.old).outer member }
-    ensures { IfOk result (λ r. PushesAwaited (Kept (A.is_own algebra.now) (A.is_fold algebra.now) (A.is_run algebra.now))
+    ensures { IfOk result (λ r. PushesAwaited (Kept (A.is_own algebra.now) (A.is_fold algebra.now)
+        (A.is_run algebra.now))
         (shown body.old) (shown body.new) r value) }
 {
     body.outer.truncate(body.outer.len().saturating_sub(3));
@@ -128,7 +132,8 @@ fn with_members<A: Algebra>(
 ) -> Result<Vec<Member<A::Atom>>, Memory>
     requires fits { length bytes.now ≤ 2 ^ 28 }
     requires names { All (HasName bytes.now) more.items }
-    ensures { IfOk result (λ all. GainsMembers (Kept (A.is_own algebra.now) (A.is_fold algebra.now) (A.is_run algebra.now))
+    ensures { IfOk result (λ all.
+        GainsMembers (Kept (A.is_own algebra.now) (A.is_fold algebra.now) (A.is_run algebra.now))
         bytes.now members.items more.items all.items) }
 {
     let _ = algebra;
@@ -150,7 +155,8 @@ fn refuse_members<A: Algebra>(
     requires fits { length bytes.now ≤ 2 ^ 28 }
     requires level { AreOwn (A.is_own algebra.now) (held_of (Level.Array level)) }
     requires comma { IsBehindComma (held_of (Level.Array level)) }
-    requires row { HasMembers (Kept (A.is_own algebra.now) (A.is_fold algebra.now) (A.is_run algebra.now)) bytes.now row }
+    requires row { HasMembers (Kept (A.is_own algebra.now) (A.is_fold algebra.now) (A.is_run algebra.now)) bytes.now
+        row }
     ensures { IfOk result (λ r. PutsMembers (Kept (A.is_own algebra.now) (A.is_fold algebra.now) (A.is_run algebra.now))
         bytes.now (shown body.old) (shown body.new) r (held_of (Level.Array level)) row) }
 {
@@ -175,7 +181,8 @@ fn put_members<A: Algebra>(
     requires fits { length bytes.now ≤ 2 ^ 28 }
     requires level { AreOwn (A.is_own algebra.now) (held_of level) }
     requires comma { IsBehindComma (held_of level) }
-    requires row { HasMembers (Kept (A.is_own algebra.now) (A.is_fold algebra.now) (A.is_run algebra.now)) bytes.now row }
+    requires row { HasMembers (Kept (A.is_own algebra.now) (A.is_fold algebra.now) (A.is_run algebra.now)) bytes.now
+        row }
     ensures { IfOk result (λ r. PutsMembers (Kept (A.is_own algebra.now) (A.is_fold algebra.now) (A.is_run algebra.now))
         bytes.now (shown body.old) (shown body.new) r (held_of level) row) }
 {
@@ -205,9 +212,12 @@ pub fn add_members<A: Algebra>(
     row: MemberRow<A::Atom>,
 ) -> Result<Option<Halt>, Memory>
     requires fits { length bytes.now ≤ 2 ^ 28 }
-    requires held { IsOfItems (Kept (A.is_own algebra.now) (A.is_fold algebra.now) (A.is_run algebra.now)) (shown body.old) }
-    requires row { HasMembers (Kept (A.is_own algebra.now) (A.is_fold algebra.now) (A.is_run algebra.now)) bytes.now row }
-    ensures { IfOk result (λ r. PushesMembers (Kept (A.is_own algebra.now) (A.is_fold algebra.now) (A.is_run algebra.now))
+    requires held { IsOfItems (Kept (A.is_own algebra.now) (A.is_fold algebra.now) (A.is_run algebra.now))
+        (shown body.old) }
+    requires row { HasMembers (Kept (A.is_own algebra.now) (A.is_fold algebra.now) (A.is_run algebra.now)) bytes.now
+        row }
+    ensures { IfOk result (λ r. PushesMembers (Kept (A.is_own algebra.now) (A.is_fold algebra.now)
+        (A.is_run algebra.now))
         bytes.now (shown body.old) (shown body.new) r row) }
 {
     match body.innermost(alloc) {

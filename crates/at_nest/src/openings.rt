@@ -96,7 +96,8 @@ pub fn read_opening<A: Algebra>(
 ) -> Result<Read, Memory>
     requires begins { (more : List ℕ) × (ahead.now ≡ opening bracket ∷ more) }
     requires fits { at + length ahead.now ≤ 2 ^ 28 }
-    requires held { IsOfItems (Kept (A.is_own algebra.now) (A.is_fold algebra.now) (A.is_run algebra.now)) (shown body.old) }
+    requires held { IsOfItems (Kept (A.is_own algebra.now) (A.is_fold algebra.now) (A.is_run algebra.now))
+        (shown body.old) }
     ensures { IfOk result (λ r. ReadsAhead (Kept (A.is_own algebra.now) (A.is_fold algebra.now) (A.is_run algebra.now))
         (shown body.old) (shown body.new) r.halt at ahead.now r.to) }
 {

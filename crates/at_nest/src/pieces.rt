@@ -4,7 +4,8 @@ ghost use Rattle.std.specs.Prelude.{◌≡◌, ◌+◌, ◌-◌, ◌≤◌, true
 ghost use Rattle.at_nest.specs.Shown.{stop_at, first_of_piece, is_value_piece};
 ghost use Rattle.at_nest.specs.Closers.{IsLonger, turn};
 ghost use Rattle.at_nest.specs.MemberMarks.{Awaits};
-ghost use Rattle.at_nest.specs.Refusals.{not_behind_value as none_behind_value, not_behind_text as none_behind_text, not_behind_mark as none_behind_mark, not_behind_piece};
+ghost use Rattle.at_nest.specs.Refusals.{not_behind_value as none_behind_value, not_behind_text as none_behind_text};
+ghost use Rattle.at_nest.specs.Refusals.{not_behind_mark as none_behind_mark, not_behind_piece};
 
 use at_lex::{Bracket, TokenKind};
 use at_text::Span;
@@ -157,7 +158,8 @@ fn is_same(left: Bracket, right: Bracket) -> bool
 
 /// Two closing brackets, where the second stands right behind the first.
 fn two_closers(first: Bracket, from: u32, bracket: Bracket, at: u32) -> Option<Closers>
-    ensures { IfSome result (λ r. (r.first ≡ first) × (r.second ≡ bracket) × (r.from ≡ from) × (at ≡ from + 1) × (r.to ≡ at + 1)) }
+    ensures { IfSome result (λ r. (r.first ≡ first) × (r.second ≡ bracket) × (r.from ≡ from) × (at ≡ from + 1)
+        × (r.to ≡ at + 1)) }
 {
     if from < at && at - from == 1 && at < u32::MAX {
         return Some(Closers {
@@ -172,7 +174,8 @@ fn two_closers(first: Bracket, from: u32, bracket: Bracket, at: u32) -> Option<C
 
 /// A closing bracket more, where it stands right behind and it is its kind's turn.
 fn more_closers(closers: Closers, bracket: Bracket, at: u32) -> Option<Closers>
-    ensures { IfSome result (λ r. (r.first ≡ closers.first) × (r.second ≡ closers.second) × (r.from ≡ closers.from) × (at ≡ closers.to)
+    ensures { IfSome result (λ r. (r.first ≡ closers.first) × (r.second ≡ closers.second) × (r.from ≡ closers.from)
+        × (at ≡ closers.to)
         × (bracket ≡ turn closers.first closers.second (closers.to - closers.from)) × (r.to ≡ at + 1)) }
 {
     if closers.to == at

@@ -52,7 +52,8 @@ fn read_run<A: Algebra>(
 ) -> Result<Option<Halt>, Memory>
     requires whole { JsonRun text.now }
     requires fits { at + length text.now ≤ 2 ^ 28 }
-    requires held { IsOfItems (Kept (A.is_own algebra.now) (A.is_fold algebra.now) (A.is_run algebra.now)) (shown body.old) }
+    requires held { IsOfItems (Kept (A.is_own algebra.now) (A.is_fold algebra.now) (A.is_run algebra.now))
+        (shown body.old) }
     ensures { IfOk result (λ r. ReadsRun (Kept (A.is_own algebra.now) (A.is_fold algebra.now) (A.is_run algebra.now))
         (shown body.old) (shown body.new) r at text.now) }
 {
@@ -71,8 +72,10 @@ pub fn read_token<A: Algebra>(
 ) -> Result<Option<Halt>, Memory>
     requires token { (after : List ℕ) × IsLexed token.from text.now after token }
     requires fits { token.from + length text.now ≤ 2 ^ 28 }
-    requires held { IsOfItems (Kept (A.is_own algebra.now) (A.is_fold algebra.now) (A.is_run algebra.now)) (shown body.old) }
-    ensures reads { IfOk result (λ r. ReadsToken (Kept (A.is_own algebra.now) (A.is_fold algebra.now) (A.is_run algebra.now))
+    requires held { IsOfItems (Kept (A.is_own algebra.now) (A.is_fold algebra.now) (A.is_run algebra.now))
+        (shown body.old) }
+    ensures reads { IfOk result
+        (λ r. ReadsToken (Kept (A.is_own algebra.now) (A.is_fold algebra.now) (A.is_run algebra.now))
         (shown body.old) (shown body.new) r text.now token) }
     ensures whole { IfOk result (λ r. r ≡ None → is_broken token.kind ≡ false) }
 {
@@ -101,7 +104,8 @@ fn cut_text<A: Algebra>(
 ) -> Result<Option<Halt>, Memory>
     requires closed { IsText text.now }
     requires fits { at + length text.now ≤ 2 ^ 28 }
-    requires held { IsOfItems (Kept (A.is_own algebra.now) (A.is_fold algebra.now) (A.is_run algebra.now)) (shown body.old) }
+    requires held { IsOfItems (Kept (A.is_own algebra.now) (A.is_fold algebra.now) (A.is_run algebra.now))
+        (shown body.old) }
     ensures { IfOk result (λ r. Reads (Kept (A.is_own algebra.now) (A.is_fold algebra.now) (A.is_run algebra.now))
         (shown body.old) (shown body.new) r at text.now) }
 {
@@ -123,7 +127,8 @@ pub fn cut_run<A: Algebra>(
 ) -> Result<Option<Halt>, Memory>
     requires begins { begins_run text.now ≡ true }
     requires fits { at + length text.now ≤ 2 ^ 28 }
-    requires held { IsOfItems (Kept (A.is_own algebra.now) (A.is_fold algebra.now) (A.is_run algebra.now)) (shown body.old) }
+    requires held { IsOfItems (Kept (A.is_own algebra.now) (A.is_fold algebra.now) (A.is_run algebra.now))
+        (shown body.old) }
     ensures { IfOk result (λ r. Reads (Kept (A.is_own algebra.now) (A.is_fold algebra.now) (A.is_run algebra.now))
         (shown body.old) (shown body.new) r at text.now) }
 {
@@ -143,7 +148,8 @@ pub fn cut_token<A: Algebra>(
 ) -> Result<Option<Halt>, Memory>
     requires token { (more : List ℕ) × IsToken text.now more }
     requires fits { at + length text.now ≤ 2 ^ 28 }
-    requires held { IsOfItems (Kept (A.is_own algebra.now) (A.is_fold algebra.now) (A.is_run algebra.now)) (shown body.old) }
+    requires held { IsOfItems (Kept (A.is_own algebra.now) (A.is_fold algebra.now) (A.is_run algebra.now))
+        (shown body.old) }
     ensures { IfOk result (λ r. Reads (Kept (A.is_own algebra.now) (A.is_fold algebra.now) (A.is_run algebra.now))
         (shown body.old) (shown body.new) r at text.now) }
 {

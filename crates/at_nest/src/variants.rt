@@ -24,8 +24,8 @@ pub enum Variant<T> {
     AllLead {
         end: Start,
     },
-    /// What belongs to a token that began before it ends before `lead`; what may go on behind it begins at `pend`, which
-    /// is the span's end where nothing may.
+    /// What belongs to a token that began before it ends before `lead`; what may go on behind it begins at `pend`,
+    /// which is the span's end where nothing may.
     Whole {
         lead: u32,
         body: Body<T>,
@@ -84,7 +84,8 @@ fn read_items<A: Algebra>(
     requires fits { base + length piece.now ≤ 2 ^ 28 }
     requires behind { HasBytes base piece.now lexer.at lexer.rest }
     requires out { lexer.state ≡ Start.Out }
-    ensures { IfOk result (HoldsBehind (Kept (A.is_own algebra.now) (A.is_fold algebra.now) (A.is_run algebra.now)) base piece.now
+    ensures { IfOk result (HoldsBehind (Kept (A.is_own algebra.now) (A.is_fold algebra.now) (A.is_run algebra.now)) base
+        piece.now
         lexer.entry.at lexer.entry.rest lead) }
 {
     let mut body = Body::new(alloc);
@@ -148,7 +149,8 @@ pub fn read_variant<A: Algebra>(
     start: Start,
 ) -> Result<Variant<A::Atom>, Memory>
     requires { base + length piece.now ≤ 2 ^ 28 }
-    ensures { IfOk result (HoldsVariant (Kept (A.is_own algebra.now) (A.is_fold algebra.now) (A.is_run algebra.now)) start base piece.now) }
+    ensures { IfOk result (HoldsVariant (Kept (A.is_own algebra.now) (A.is_fold algebra.now) (A.is_run algebra.now))
+        start base piece.now) }
 {
     let (lead, lexer) = Lexer::new(piece, base, start);
     match lead {
@@ -190,9 +192,11 @@ pub fn join_items<A: Algebra>(
     requires fits { length bytes.now ≤ 2 ^ 28 }
     requires order { from ≤ to }
     requires end { to ≤ length bytes.now }
-    requires held { CanMeet (Kept (A.is_own algebra.now) (A.is_fold algebra.now) (A.is_run algebra.now)) bytes.now (shown body.old) (shown behind)
+    requires held { CanMeet (Kept (A.is_own algebra.now) (A.is_fold algebra.now) (A.is_run algebra.now)) bytes.now
+        (shown body.old) (shown behind)
         from (take (to - from) (drop from bytes.now)) }
-    ensures { IfOk result (λ r. Meets (Kept (A.is_own algebra.now) (A.is_fold algebra.now) (A.is_run algebra.now)) bytes.now
+    ensures { IfOk result (λ r. Meets (Kept (A.is_own algebra.now) (A.is_fold algebra.now) (A.is_run algebra.now))
+        bytes.now
         (shown body.old) (shown behind) (shown body.new) r from (take (to - from) (drop from bytes.now))) }
 {
     let text = &bytes[from as usize..to as usize];
@@ -212,9 +216,11 @@ pub fn join_variants<A: Algebra>(
 ) -> Result<Variant<A::Atom>, Memory>
     requires fits { length bytes.now ≤ 2 ^ 28 }
     requires held { (s : Start) × (at : ℕ) × (w : List ℕ) × (x : List ℕ)
-        × HaveUnion (Kept (A.is_own algebra.now) (A.is_fold algebra.now) (A.is_run algebra.now)) bytes.now s at w x left right }
+        × HaveUnion (Kept (A.is_own algebra.now) (A.is_fold algebra.now) (A.is_run algebra.now)) bytes.now s at w x left
+        right }
     ensures { IfOk result (λ v. (s : Start) (at : ℕ) (w x : List ℕ)
-        → HaveUnion (Kept (A.is_own algebra.now) (A.is_fold algebra.now) (A.is_run algebra.now)) bytes.now s at w x left right
+        → HaveUnion (Kept (A.is_own algebra.now) (A.is_fold algebra.now) (A.is_run algebra.now)) bytes.now s at w x left
+        right
         → HoldsVariant (Kept (A.is_own algebra.now) (A.is_fold algebra.now) (A.is_run algebra.now)) s at (w ++ x) v) }
 {
     match left {
@@ -240,9 +246,11 @@ fn join_behind<A: Algebra>(
 ) -> Result<Variant<A::Atom>, Memory>
     requires fits { length bytes.now ≤ 2 ^ 28 }
     requires held { (s : Start) × (at : ℕ) × (w : List ℕ) × (x : List ℕ)
-        × Neighbours (Kept (A.is_own algebra.now) (A.is_fold algebra.now) (A.is_run algebra.now)) bytes.now s at w x lead (shown body) from right }
+        × Neighbours (Kept (A.is_own algebra.now) (A.is_fold algebra.now) (A.is_run algebra.now)) bytes.now s at w x
+        lead (shown body) from right }
     ensures { IfOk result (λ v. (s : Start) (at : ℕ) (w x : List ℕ)
-        → Neighbours (Kept (A.is_own algebra.now) (A.is_fold algebra.now) (A.is_run algebra.now)) bytes.now s at w x lead (shown body) from right
+        → Neighbours (Kept (A.is_own algebra.now) (A.is_fold algebra.now) (A.is_run algebra.now)) bytes.now s at w x
+        lead (shown body) from right
         → HoldsVariant (Kept (A.is_own algebra.now) (A.is_fold algebra.now) (A.is_run algebra.now)) s at (w ++ x) v) }
 {
     match right {

@@ -21,14 +21,16 @@ IfFound (Found fault) P = P fault
 IfFound Memory P = Unit {0}
 
 -- the file has no fault, and the part is that of its features
-pub record IsFilePart (form : Form) (digits : ℕ) (how : Coords) (query : Query) (bytes : List ℕ) (part : Part) : Type 0 where
+pub record IsFilePart (form : Form) (digits : ℕ) (how : Coords) (query : Query) (bytes : List ℕ) (part : Part)
+    : Type 0 where
   pub faultless : HasFileFaultIn form digits how bytes None
   pub features : List Feature
   pub are_features : AreFileFeaturesIn form digits how bytes features
   pub is_part : IsPart query features part
 
 -- the file has no fault, and the answer is the result of the query over its features
-pub record IsFileAnswer (form : Form) (digits : ℕ) (how : Coords) (query : Query) (bytes : List ℕ) (answer : Answer) : Type 0 where
+pub record IsFileAnswer (form : Form) (digits : ℕ) (how : Coords) (query : Query) (bytes : List ℕ) (answer : Answer)
+    : Type 0 where
   pub faultless : HasFileFaultIn form digits how bytes None
   pub features : List Feature
   pub are_features : AreFileFeaturesIn form digits how bytes features
@@ -36,7 +38,8 @@ pub record IsFileAnswer (form : Form) (digits : ℕ) (how : Coords) (query : Que
 
 -- two files, each of its own form
 module _ (form_a form_b : Form) (digits : ℕ) (how : Coords) where
-  -- neither file has a fault, and the answer is that of the join over their features; the query's tests are of the first file's
+  -- neither file has a fault, and the answer is that of the join over their features; the query's tests are of the
+  -- first file's
   pub record IsJoinAnswer (query : Query) (a b : List ℕ) (answer : Answer) : Type 0 where
     pub first_faultless : HasFileFaultIn form_a digits how a None
     pub second_faultless : HasFileFaultIn form_b digits how b None

@@ -9,7 +9,8 @@ use Rattle.at_query.specs.declared.features.Feature.{Feature}
 use Rattle.at_run.specs.Labels.{SpellsLabelled, texts_of}
 
 module _ (digits : ℕ) (how : Coords) where
-  -- the feature of a line lies at the line's offset, has the shape of its geometry, and its label, where it has one, as its text
+  -- the feature of a line lies at the line's offset, has the shape of its geometry, and its label, where it has one, as
+  -- its text
   pub record IsLineFeature (line : FileLine) (feature : Feature) : Type 0 where
     pub label : Option (List Character)
     pub geometry : Geometry
@@ -21,7 +22,8 @@ module _ (digits : ℕ) (how : Coords) where
   abbrev pub AreLineFeatures : List FileLine → List Feature → Type 0
   AreLineFeatures [] features = features ≡ []
   AreLineFeatures (line ∷ lines) features =
-      (feature : Feature) × (rest : List Feature) × (features ≡ feature ∷ rest) × IsLineFeature line feature × AreLineFeatures lines rest
+      (feature : Feature) × (rest : List Feature) × (features ≡ feature ∷ rest) × IsLineFeature line feature
+      × AreLineFeatures lines rest
 
   abbrev pub AreFileFeatures : List ℕ → List Feature → Type 0
   AreFileFeatures bytes features = AreLineFeatures (lines_of bytes) features

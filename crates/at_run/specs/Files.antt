@@ -19,7 +19,8 @@ HasFileFaultIn Wkt digits how bytes first = HasLinesFault digits how bytes first
 
 -- no other is the file's first fault
 abbrev pub TheFileFaultIn : Form → ℕ → Coords → List ℕ → Option Fault → Type 0
-TheFileFaultIn form digits how bytes first = (other : Option Fault) → HasFileFaultIn form digits how bytes other → other ≡ first
+TheFileFaultIn form digits how bytes first = (other : Option Fault) → HasFileFaultIn form digits how bytes other
+    → other ≡ first
 
 -- the features of the tree that a file of GeoJSON spells
 abbrev pub AreJsonFeatures : ℕ → Coords → List ℕ → List Feature → Type 0

@@ -1,4 +1,5 @@
--- What is kept of the lines of a file as they are read: what a query keeps of their features, or the first fault so far.
+-- What is kept of the lines of a file as they are read: what a query keeps of their features, or the first fault so
+-- far.
 use Rattle.std.specs.Prelude.{◌≡◌, ℕ, List, [], ◌∷◌, ◌++◌, Option, Some, None}
 use Rattle.std.specs.List.{AllByRecursion}
 use Rattle.std.specs.Str.{IsUtf8}
@@ -34,7 +35,8 @@ pub record IsFirstOfLines (digits : ℕ) (how : Coords) (lines : List FileLine) 
 
 -- what the query keeps of the lines' features
 abbrev pub IsKeptOfLines : Asked → List FileLine → Accumulator → Type 0
-IsKeptOfLines asked lines kept = (features : List Feature) × AreLineFeatures asked.digits asked.how lines features × IsAccumulated asked.query features kept
+IsKeptOfLines asked lines kept = (features : List Feature) × AreLineFeatures asked.digits asked.how lines features
+    × IsAccumulated asked.query features kept
 
 -- what the query keeps of some features, or a fault
 abbrev pub IsOwnOf : Query → Gathered → Type 0
@@ -48,9 +50,11 @@ IsOwn asked gathered = IsOwnOf asked.query gathered
 abbrev pub AreValid : List FileLine → Type 0
 AreValid lines = AllByRecursion (λ (l : FileLine). IsUtf8 l.text) lines
 
--- the lines are UTF-8, none of them has a fault, and this is kept of their features; or, where they are UTF-8, this is the first of their faults
+-- the lines are UTF-8, none of them has a fault, and this is kept of their features; or, where they are UTF-8, this is
+-- the first of their faults
 abbrev pub IsGathered : Asked → Gathered → List FileLine → Type 0
-IsGathered asked (Kept kept) lines = AreValid lines × IsFirstOfLines asked.digits asked.how lines None × IsKeptOfLines asked lines kept
+IsGathered asked (Kept kept) lines = AreValid lines × IsFirstOfLines asked.digits asked.how lines None
+    × IsKeptOfLines asked lines kept
 IsGathered asked (Failed fault) lines = AreValid lines → IsFirstOfLines asked.digits asked.how lines (Some fault)
 
 -- nothing but the count of all features is asked for
@@ -72,11 +76,13 @@ abbrev pub IsJoinOf : Gathered → Gathered → Gathered → Type 0
 IsJoinOf (Kept left) (Kept right) both = (kept : Accumulator) × (both ≡ Kept kept) × JoinsAccumulators left right kept
 IsJoinOf (Kept left) (Failed fault) both = both ≡ Failed fault
 IsJoinOf (Failed fault) (Kept right) both = both ≡ Failed fault
-IsJoinOf (Failed left) (Failed right) both = (fault : Fault) × (both ≡ Failed fault) × (Some fault ≡ first_fault (Some left) (Some right))
+IsJoinOf (Failed left) (Failed right) both = (fault : Fault) × (both ≡ Failed fault)
+    × (Some fault ≡ first_fault (Some left) (Some right))
 
 -- whatever is asked, and of whatever lines these were gathered, it is what is gathered of the joined lines
 abbrev pub JoinsGathered : Gathered → Gathered → Gathered → Type 0
-JoinsGathered left right both = (asked : Asked) (before behind : List FileLine) → IsGathered asked left before → IsGathered asked right behind → IsGathered asked both (before ++ behind)
+JoinsGathered left right both = (asked : Asked) (before behind : List FileLine) → IsGathered asked left before
+    → IsGathered asked right behind → IsGathered asked both (before ++ behind)
 
 -- whatever is asked that both are own of, it is own of
 abbrev pub KeepsOwn : Gathered → Gathered → Gathered → Type 0
@@ -84,18 +90,22 @@ KeepsOwn left right both = (asked : Asked) → IsOwn asked left → IsOwn asked 
 
 -- where nothing but the count of all features is asked for, this is what is kept of the line
 abbrev pub IsChecked : Asked → FileLine → Option Fault → Type 0
-IsChecked asked line found = CountsAll asked.query → IsOwn asked (counted_of found) × IsGathered asked (counted_of found) (line ∷ [])
+IsChecked asked line found = CountsAll asked.query → IsOwn asked (counted_of found)
+    × IsGathered asked (counted_of found) (line ∷ [])
 
--- what is read of a line without a fault: whatever is kept behind other features by what is read is what is kept by the line's feature
+-- what is read of a line without a fault: whatever is kept behind other features by what is read is what is kept by the
+-- line's feature
 pub record IsLineRead (asked : Asked) (line : FileLine) (read : Feature) : Type 0 where
   pub in_range : IsFeatureInRange read
   pub valid : IsUtf8 line.text
   pub faultless : IsFirstOfLines asked.digits asked.how (line ∷ []) None
   pub feature : Feature
   pub is_feature : IsLineFeature asked.digits asked.how line feature
-  pub keeps : (before : List Feature) (kept : Accumulator) → IsAccumulated asked.query (before ++ read ∷ []) kept → IsAccumulated asked.query (before ++ feature ∷ []) kept
+  pub keeps : (before : List Feature) (kept : Accumulator) → IsAccumulated asked.query (before ++ read ∷ []) kept
+      → IsAccumulated asked.query (before ++ feature ∷ []) kept
 
 -- the feature is put behind those of which the one is kept; a fault stays as it is
 abbrev pub AddsFeature : Query → Feature → Gathered → Gathered → Type 0
-AddsFeature query feature (Kept old) new = (kept : Accumulator) × (new ≡ Kept kept) × ((fs : List Feature) → IsAccumulated query fs old → IsAccumulated query (fs ++ feature ∷ []) kept)
+AddsFeature query feature (Kept old) new = (kept : Accumulator) × (new ≡ Kept kept)
+    × ((fs : List Feature) → IsAccumulated query fs old → IsAccumulated query (fs ++ feature ∷ []) kept)
 AddsFeature query feature (Failed fault) new = new ≡ Failed fault

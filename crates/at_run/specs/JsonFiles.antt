@@ -23,7 +23,8 @@ use Rattle.at_run.specs.declared.faults.RunFault.TheVariants.{Found, Memory}
 module _ (digits : ℕ) (how : Coords) where
   -- the one syntax fault, or else all equal names and all that the roles find wrong
   abbrev pub HaveJsonFaults : List ℕ → List Fault → Type 0
-  HaveJsonFaults bytes faults = ((fault : Fault) × HasJsonFault bytes (Some fault) × (faults ≡ fault ∷ [])) ⊎ ((t : Tree) × IsFileOf bytes t × (faults ≡ faults_of digits how t))
+  HaveJsonFaults bytes faults = ((fault : Fault) × HasJsonFault bytes (Some fault) × (faults ≡ fault ∷ []))
+      ⊎ ((t : Tree) × IsFileOf bytes t × (faults ≡ faults_of digits how t))
 
   abbrev pub HasJsonFaultBehind : Option Fault → List ℕ → Option Fault → Type 0
   HasJsonFaultBehind (Some fault) bytes first = first ≡ Some fault
@@ -35,8 +36,10 @@ module _ (digits : ℕ) (how : Coords) where
 
   -- what a file whose encoding has no fault ends in
   abbrev pub EndsJson : Query → List ℕ → Result Part RunFault → Type 0
-  EndsJson query bytes (Ok part) = (t : Tree) × IsFileOf bytes t × (faults_of digits how t ≡ []) × IsPart query (features_of digits how t) part
-  EndsJson query bytes (Err (Found fault)) = (faults : List Fault) × HaveJsonFaults bytes faults × (Some fault ≡ first_of faults)
+  EndsJson query bytes (Ok part) = (t : Tree) × IsFileOf bytes t × (faults_of digits how t ≡ [])
+      × IsPart query (features_of digits how t) part
+  EndsJson query bytes (Err (Found fault)) = (faults : List Fault) × HaveJsonFaults bytes faults
+      × (Some fault ≡ first_of faults)
   EndsJson query bytes (Err Memory) = ⊤
 
 -- the fault of a text of so many bytes, and what a whole text ends in, as a file's

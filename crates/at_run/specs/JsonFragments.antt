@@ -9,4 +9,6 @@ use Rattle.at_run.specs.Encodings.{IsValidIn}
 
 -- what is read of the text stands for the bytes, and the span of them that is said to be UTF-8 is
 abbrev pub StandsForText : Asked → ℕ → List ℕ → JsonFragment → Type 0
-StandsForText asked at bytes fragment = StandsFor (Kept (IsOwn asked) (IsFold asked) (IsRun asked)) at bytes fragment.text × IsValidIn at bytes fragment.valid
+StandsForText asked at bytes fragment =
+    StandsFor (Kept (IsOwn asked) (IsFold asked) (IsRun asked)) at bytes fragment.text
+    × IsValidIn at bytes fragment.valid

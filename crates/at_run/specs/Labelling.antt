@@ -1,5 +1,6 @@
 -- Where a label stands in a line. Only contracts of private functions cite this.
-use Rattle.std.specs.Prelude.{◌≡◌, ℕ, ◌+◌, ◌<◌, ◌≤◌, ◌⊎◌, Bool, false, IsTrue, if◌then◌else◌, bytes_eq, List, [], length, take, drop, slice_index, Option, Some, None}
+use Rattle.std.specs.Prelude.{◌≡◌, ℕ, ◌+◌, ◌<◌, ◌≤◌, ◌⊎◌, Bool, false, IsTrue, if◌then◌else◌, bytes_eq, List, []}
+use Rattle.std.specs.Prelude.{length, take, drop, slice_index, Option, Some, None}
 use Rattle.std.specs.List.{AllByRecursion, list_any}
 use Rattle.std.specs.Str.{IsUtf8}
 use Rattle.at_text.specs.Spans.{part_of}
@@ -29,10 +30,11 @@ pub record LabelStands (text : List ℕ) (quote end : ℕ) : Type 0 where
   pub within : end ≤ length text
   pub string : JsonString (part_of text quote end)
 
--- what stands before the place in a line at which the text of its geometry begins: nothing where no quote begins the line past its blanks,
--- and else a label that is UTF-8 (RFC 3629)
+-- what stands before the place in a line at which the text of its geometry begins: nothing where no quote begins the
+-- line past its blanks, and else a label that is UTF-8 (RFC 3629)
 abbrev pub HasFront : List ℕ → List ℕ → ℕ → Type 0
-HasFront text label end = (QuoteIs text None × (label ≡ []) × (end ≡ 0)) ⊎ ((quote : ℕ) × LabelStands text quote end × IsUtf8 label × (label ≡ part_of text quote end))
+HasFront text label end = (QuoteIs text None × (label ≡ []) × (end ≡ 0))
+    ⊎ ((quote : ℕ) × LabelStands text quote end × IsUtf8 label × (label ≡ part_of text quote end))
 
 -- the first len of the bytes ahead, which begin at the offset, are a line that is read so
 pub record IsBehind (ahead : List ℕ) (len at : ℕ) (line : Behind) : Type 0 where
@@ -51,7 +53,8 @@ asks_label (Has name value) = bytes_eq name label_name
 
 -- the texts that are kept of a feature whose label the bytes spell: its one text, or none where no test asks for it
 abbrev pub AreKeptTexts : List Test → List ℕ → List TextPair → Type 0
-AreKeptTexts tests label texts = (characters : List Character) → AreCharacters characters → label ≡ string_text characters
+AreKeptTexts tests label texts = (characters : List Character) → AreCharacters characters
+    → label ≡ string_text characters
     → texts ≡ (if list_any asks_label tests then texts_of (Some characters) else [])
 
 -- the texts that are kept of a line with this label, or with none where it is empty

@@ -1,4 +1,5 @@
--- Lines of Well-Known Text that may begin with a label, and the text that a label is of its feature (docs/FORMATS.md, "Labels").
+-- Lines of Well-Known Text that may begin with a label, and the text that a label is of its feature (docs/FORMATS.md,
+-- "Labels").
 use Rattle.std.specs.Prelude.{ℕ, List, [], ◌∷◌, codes, Option, Some, None}
 use Rattle.at_text.specs.Parts.{Many, ◌▸◌}
 use Rattle.at_lex.specs.Strings.{Character, SpellsString, units_of}

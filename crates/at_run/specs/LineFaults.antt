@@ -15,16 +15,19 @@ module _ (digits : ℕ) (how : Coords) where
   -- the one syntax fault of a line, or else all faults of its geometry
   abbrev pub HasFaults : FileLine → List Fault → Type 0
   HasFaults l faults = ((fault : Fault) × IsSyntaxFault (LabelledLine l.at) l.at l.text fault × (faults ≡ fault ∷ []))
-      ⊎ ((label : Option (List Character)) × (g : Geometry) × SpellsLabelled label g l.at l.text × (faults ≡ faults_of digits how g))
+      ⊎ ((label : Option (List Character)) × (g : Geometry) × SpellsLabelled label g l.at l.text
+      × (faults ≡ faults_of digits how g))
 
   abbrev pub HaveFaults : List FileLine → List Fault → Type 0
   HaveFaults [] faults = faults ≡ []
-  HaveFaults (l ∷ ls) faults = (first others : List Fault) × HasFaults l first × HaveFaults ls others × (faults ≡ first ++ others)
+  HaveFaults (l ∷ ls) faults = (first others : List Fault) × HasFaults l first × HaveFaults ls others
+      × (faults ≡ first ++ others)
 
   -- the fault of the encoding where there is one, or else the first of the faults of all lines
   abbrev pub HasLinesFaultBehind : Option Fault → List ℕ → Option Fault → Type 0
   HasLinesFaultBehind (Some fault) bytes first = first ≡ Some fault
-  HasLinesFaultBehind None bytes first = (faults : List Fault) × HaveFaults (lines_of bytes) faults × (first ≡ first_of faults)
+  HasLinesFaultBehind None bytes first = (faults : List Fault) × HaveFaults (lines_of bytes) faults
+      × (first ≡ first_of faults)
 
   -- the first fault of a file of lines, or none: that of its encoding, or else the first of the faults of all its lines
   abbrev pub HasLinesFault : List ℕ → Option Fault → Type 0

@@ -1,4 +1,5 @@
--- What a reader asks of a file, and what the fragment of a piece stands for: in each form that of the form's own reader.
+-- What a reader asks of a file, and what the fragment of a piece stands for: in each form that of the form's own
+-- reader.
 use Rattle.std.specs.Prelude.{◌≡◌, ℕ, List}
 use Rattle.at_fixed.specs.declared.rounding.Coords.{Coords}
 use Rattle.at_wkt.specs.Folding.{Kept, StandsFor}
@@ -26,5 +27,6 @@ of_json asks = record { query = asks.query; digits = asks.digits; how = asks.how
 
 -- the fragment is of the reader's form, and stands for the bytes as one of that form does
 abbrev pub StandsInForm : Asks → ℕ → List ℕ → FileFragment → Type 0
-StandsInForm asks at bytes (Lines fragment) = (asks.form ≡ Wkt) × StandsFor (Kept (IsOwn (of_lines asks)) (IsGathered (of_lines asks))) at bytes fragment
+StandsInForm asks at bytes (Lines fragment) = (asks.form ≡ Wkt)
+    × StandsFor (Kept (IsOwn (of_lines asks)) (IsGathered (of_lines asks))) at bytes fragment
 StandsInForm asks at bytes (Json fragment) = (asks.form ≡ GeoJson) × StandsForText (of_json asks) at bytes fragment

@@ -57,14 +57,14 @@ pub fn part<G: Gate, R: Threads + Sync>(
 
 /// The answer to a query over a file's features, or the file's first fault.
 ///
-/// The bytes are read in the blocks that the cuts make of them, each by itself, by so many passes at once. No clause says
-/// anything of the cuts but that they cover the file's text, of the passes but that there are 1 to 64, or of an order of
-/// steps: whatever they are, the answer is that of the whole bytes.
+/// The bytes are read in the blocks that the cuts make of them, each by itself, by so many passes at once. No clause
+/// says anything of the cuts but that they cover the file's text, of the passes but that there are 1 to 64, or of an
+/// order of steps: whatever they are, the answer is that of the whole bytes.
 ///
 /// # Errors
-/// `Found` is the file's first fault, exactly where it has one: that of its encoding, or else the first of all others by
-/// tiers, then by offset, then by number. `Memory` comes where an allocation was refused, and wherever the gate gives up
-/// a block.
+/// `Found` is the file's first fault, exactly where it has one: that of its encoding, or else the first of all others
+/// by tiers, then by offset, then by number. `Memory` comes where an allocation was refused, and wherever the gate
+/// gives up a block.
 pub fn answer<G: Gate, R: Threads + Sync>(
     rt: &R,
     alloc: Global,

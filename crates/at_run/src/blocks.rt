@@ -20,7 +20,8 @@ fn run_block<P: Pieces>(
     requires order { IsNonDecreasing places.now }
     requires within { last_place places.now ≤ length bytes.now }
     requires inside { index + 1 < length places.now }
-    ensures { StandsAt (P.stands reader.now) bytes.now (slice_index places.now index) (slice_index places.now (index + 1)) result }
+    ensures { StandsAt (P.stands reader.now) bytes.now (slice_index places.now index)
+        (slice_index places.now (index + 1)) result }
 {
     let from = places[index];
     let to = places[index + 1];

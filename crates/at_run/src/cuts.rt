@@ -1,8 +1,10 @@
 //! The places at which a file is cut into blocks.
 
-ghost use Rattle.std.specs.Prelude.{◌≡◌, ◌+◌, ◌-◌, ◌*◌, ◌/◌, ◌^◌, ◌<◌, ◌≤◌, ◌↔◌, IsTrue, IsSome, IfSome, IfOk, List, ℕ, length, slice_index};
+ghost use Rattle.std.specs.Prelude.{◌≡◌, ◌+◌, ◌-◌, ◌*◌, ◌/◌, ◌^◌, ◌<◌, ◌≤◌, ◌↔◌, IsTrue, IsSome, IfSome, IfOk, List, ℕ};
+ghost use Rattle.std.specs.Prelude.{length, slice_index};
 ghost use Rattle.std.specs.List.Sorted.{IsNonDecreasing};
-ghost use Rattle.at_run.specs.Places.{IsBlockCount, IsLeastCount, AreCuts, AreEven, first_place, last_place, even_place};
+ghost use Rattle.at_run.specs.Places.{IsBlockCount, IsLeastCount, AreCuts, AreEven, first_place, last_place};
+ghost use Rattle.at_run.specs.Places.{even_place};
 
 use at_text::Memory;
 use std::alloc::Global;
@@ -52,7 +54,8 @@ fn even_places(alloc: Global, base: u32, len: u32, count: u32) -> Result<Vec<u32
     requires short { len ≤ 2 ^ 28 }
     requires counted { IsBlockCount count }
     ensures counted { IfOk result (λ places. length places.items ≡ count + 1) }
-    ensures each { IfOk result (λ places. (i : ℕ) → i ≤ count → slice_index places.items i ≡ even_place base len count i) }
+    ensures each { IfOk result (λ places. (i : ℕ) → i ≤ count
+        → slice_index places.items i ≡ even_place base len count i) }
 {
     let mut places = Vec::with_capacity(alloc, count as usize + 1)?;
     for index in 0..count + 1 {

@@ -43,7 +43,8 @@ pub fn is_valid(bytes: &[u8]) -> bool
 
 /// A span of a piece that is valid UTF-8. The first byte of the piece has the offset `base`.
 ///
-/// A cut may fall into a character: of a valid text at most three bytes stand before the span, and at most three behind it.
+/// A cut may fall into a character: of a valid text at most three bytes stand before the span, and at most three behind
+/// it.
 pub fn valid_span(piece: &[u8], base: u32) -> Span
     requires { base + length piece.now ≤ 2 ^ 28 }
     ensures { IsValidIn base piece.now result }

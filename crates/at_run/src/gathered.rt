@@ -8,7 +8,8 @@ ghost use Rattle.at_query.specs.Holding.{lent_feature};
 ghost use Rattle.at_query.specs.declared.queries.Verb.{Verb};
 ghost use Rattle.at_query.specs.Parts.{AreAlike, JoinsParts};
 ghost use Rattle.at_query.specs.Accumulators.{AreOfOneVerb, JoinsAccumulators};
-ghost use Rattle.at_run.specs.Gathering.{counted_of, IsOwnOf, AddsFeature, AreJoinable, IsJoinOf, JoinsGathered, KeepsOwn};
+ghost use Rattle.at_run.specs.Gathering.{counted_of, IsOwnOf, AddsFeature, AreJoinable, IsJoinOf, JoinsGathered};
+ghost use Rattle.at_run.specs.Gathering.{KeepsOwn};
 
 use at_query::{Accumulator, Feature, LentFeature, Part, Query};
 use at_text::{Fault, Memory, first_fault};
@@ -154,7 +155,8 @@ pub fn count_line(gathered: &mut Gathered, fault: Option<Fault>)
 /// Puts a line that has no shape behind those before it.
 pub fn add_end(gathered: &mut Gathered, end: LineFault) -> Result<(), Memory>
     ensures { IfOk result (λ _. (fault : Fault) × (end ≡ LineFault.Found fault)
-        × KeepsOwn gathered.old (Gathered.Failed fault) gathered.new × JoinsGathered gathered.old (Gathered.Failed fault) gathered.new) }
+        × KeepsOwn gathered.old (Gathered.Failed fault) gathered.new
+        × JoinsGathered gathered.old (Gathered.Failed fault) gathered.new) }
 {
     match end {
         LineFault::Found(fault) => {

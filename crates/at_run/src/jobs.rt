@@ -49,7 +49,12 @@ impl<'a, P: Pieces, G: Gate> Job for FileJob<'a, P, G> {
 
     type Facts = FileFacts<P>;
 
-    ghost facts = { λ j. record { bytes = j.bytes.now; places = j.places.now; reader = j.reader.now; given_up = G.given_up j.gate.now } };
+    ghost facts = { λ j. record {
+      bytes = j.bytes.now;
+      places = j.places.now;
+      reader = j.reader.now;
+      given_up = G.given_up j.gate.now;
+    } };
 
     ghost count = { λ f. length f.places - 1 };
 
@@ -97,7 +102,8 @@ pub fn run_file<P: Pieces, G: Gate, R: Threads + Sync>(
     requires short { length bytes.now ≤ 2 ^ 28 }
     requires within { last_place cuts.now ≤ length bytes.now }
     requires workers { (0 < workers) × (workers ≤ 64) }
-    ensures whole { IfOk result (StandsAt (P.stands reader.now) bytes.now (first_place cuts.now) (last_place cuts.now)) }
+    ensures whole { IfOk result (StandsAt (P.stands reader.now) bytes.now (first_place cuts.now)
+        (last_place cuts.now)) }
     ensures given_up { IfOk result (λ _. NoneGivenUp (G.given_up gate.now) 0 (length cuts.now - 1)) }
 {
     let places = cuts.as_slice();

@@ -62,7 +62,8 @@ fn entries<G: Gate, R: Threads + Sync>(
     requires join { query.now.verb ≡ Verb.Join }
     requires in_range { IsQueryInRange query.now }
     requires workers { (0 < workers) × (workers ≤ 64) }
-    ensures part { MatchResult result (λ (entries : _). IsFilePart form digits how query.now bytes.now (Part.Entries entries))
+    ensures part { MatchResult result (λ (entries : _). IsFilePart form digits how query.now bytes.now
+        (Part.Entries entries))
         (λ end. IfFound end (λ fault. HasFileFaultIn form digits how bytes.now (Some fault))) }
     ensures proper { IfOk result AreProper }
     ensures given_up { IfOk result (λ _. NoneGivenUp (G.given_up gate.now) 0 (length cuts.now - 1)) }
@@ -77,15 +78,15 @@ fn entries<G: Gate, R: Threads + Sync>(
 
 /// The answer to a join over the features of two files, or the first fault of the first file that has one.
 ///
-/// The query's tests are of the features of `a`: those of which all tests hold are joined with all features of `b`. Each file
-/// is read in the blocks that its cuts make of it, and then the 64 cells of a grid over both are searched, by so many
-/// passes at once; the gate is entered with each block of `a`, each of `b`, and each cell. Whatever the cuts, the passes
-/// and the order of their steps are, the answer is that of the whole bytes.
+/// The query's tests are of the features of `a`: those of which all tests hold are joined with all features of `b`.
+/// Each file is read in the blocks that its cuts make of it, and then the 64 cells of a grid over both are searched, by
+/// so many passes at once; the gate is entered with each block of `a`, each of `b`, and each cell. Whatever the cuts,
+/// the passes and the order of their steps are, the answer is that of the whole bytes.
 ///
 /// # Errors
-/// `First` comes exactly where `a` has a fault, and `Second` exactly where `a` has none and `b` has one, each with the first
-/// of them. `Memory` comes where an allocation was refused, and in the place of an answer wherever the gate gives up a
-/// block or a cell.
+/// `First` comes exactly where `a` has a fault, and `Second` exactly where `a` has none and `b` has one, each with the
+/// first of them. `Memory` comes where an allocation was refused, and in the place of an answer wherever the gate gives
+/// up a block or a cell.
 pub fn answer_join<G: Gate, R: Threads + Sync>(
     rt: &R,
     alloc: Global,
@@ -110,7 +111,8 @@ pub fn answer_join<G: Gate, R: Threads + Sync>(
     requires join { query.now.verb ≡ Verb.Join }
     requires in_range { IsQueryInRange query.now }
     requires workers { (0 < workers) × (workers ≤ 64) }
-    ensures answer { MatchResult result (IsJoinAnswer form_a form_b digits how query.now a.now b.now) (IsJoinFault form_a form_b digits how a.now b.now) }
+    ensures answer { MatchResult result (IsJoinAnswer form_a form_b digits how query.now a.now b.now)
+        (IsJoinFault form_a form_b digits how a.now b.now) }
     ensures gate_a { IfOk result (λ _. NoneGivenUp (G.given_up gate.now) 0 (length cuts_a.now - 1)) }
     ensures gate_b { IfOk result (λ _. NoneGivenUp (G.given_up gate.now) 0 (length cuts_b.now - 1)) }
     ensures gate_cells { IfOk result (λ _. NoneGivenUp (G.given_up gate.now) 0 64) }

@@ -56,7 +56,8 @@ fn tree_part(
     whole: Fragment<GeoAlgebra>,
 ) -> Result<Part, RunFault>
     requires fits { length bytes.now ≤ 2 ^ 28 }
-    requires whole { StandsFor (Kept (IsOwn algebra.now) (IsFold algebra.now) (IsRun algebra.now)) (text_begin bytes.now) (drop (text_begin bytes.now) bytes.now) whole }
+    requires whole { StandsFor (Kept (IsOwn algebra.now) (IsFold algebra.now) (IsRun algebra.now))
+        (text_begin bytes.now) (drop (text_begin bytes.now) bytes.now) whole }
     ensures { EndsJson algebra.now.digits algebra.now.how algebra.now.query bytes.now result }
 {
     match finish(alloc, algebra, bytes, whole) {
@@ -65,12 +66,12 @@ fn tree_part(
     }
 }
 
-/// The part of the features of a file of GeoJSON under the algebra's query, from the fragment of its text. The encoding of the
-/// whole file is tested.
+/// The part of the features of a file of GeoJSON under the algebra's query, from the fragment of its text. The encoding
+/// of the whole file is tested.
 ///
 /// # Errors
-/// `Found` is the file's first fault, exactly where it has one: that of its encoding, of its syntax, or else the first of
-/// equal names and of what the roles find wrong. `Memory` comes where an allocation was refused.
+/// `Found` is the file's first fault, exactly where it has one: that of its encoding, of its syntax, or else the first
+/// of equal names and of what the roles find wrong. `Memory` comes where an allocation was refused.
 pub fn finish_json(
     alloc: Global,
     algebra: &GeoAlgebra,
@@ -78,9 +79,11 @@ pub fn finish_json(
     whole: Fragment<GeoAlgebra>,
 ) -> Result<Part, RunFault>
     requires fits { length bytes.now ≤ 2 ^ 28 }
-    requires whole { StandsFor (Kept (IsOwn algebra.now) (IsFold algebra.now) (IsRun algebra.now)) (text_begin bytes.now) (drop (text_begin bytes.now) bytes.now) whole }
+    requires whole { StandsFor (Kept (IsOwn algebra.now) (IsFold algebra.now) (IsRun algebra.now))
+        (text_begin bytes.now) (drop (text_begin bytes.now) bytes.now) whole }
     ensures { MatchResult result (IsFilePart GeoJson algebra.now.digits algebra.now.how algebra.now.query bytes.now)
-        (λ end. IfFound end (λ fault. HasFileFaultIn GeoJson algebra.now.digits algebra.now.how bytes.now (Some fault))) }
+        (λ end. IfFound end (λ fault. HasFileFaultIn GeoJson algebra.now.digits algebra.now.how bytes.now
+        (Some fault))) }
 {
     if let Some(fault) = utf8_fault(bytes) {
         return Err(RunFault::Found(fault));
@@ -88,8 +91,8 @@ pub fn finish_json(
     tree_part(alloc, algebra, bytes, whole)
 }
 
-/// The part of the features of a file of GeoJSON under the algebra's query, from what its pieces gave. The encoding of the
-/// whole file is tested only where that of its pieces doesn't show it to be valid.
+/// The part of the features of a file of GeoJSON under the algebra's query, from what its pieces gave. The encoding of
+/// the whole file is tested only where that of its pieces doesn't show it to be valid.
 ///
 /// # Errors
 /// As of [`finish_json`].
@@ -102,7 +105,8 @@ pub fn finish_json_file(
     requires fits { length bytes.now ≤ 2 ^ 28 }
     requires whole { StandsForText algebra.now (text_begin bytes.now) (drop (text_begin bytes.now) bytes.now) whole }
     ensures { MatchResult result (IsFilePart GeoJson algebra.now.digits algebra.now.how algebra.now.query bytes.now)
-        (λ end. IfFound end (λ fault. HasFileFaultIn GeoJson algebra.now.digits algebra.now.how bytes.now (Some fault))) }
+        (λ end. IfFound end (λ fault. HasFileFaultIn GeoJson algebra.now.digits algebra.now.how bytes.now
+        (Some fault))) }
 {
     if is_valid_around(bytes, whole.valid) {
         tree_part(alloc, algebra, bytes, whole.text)

@@ -39,7 +39,8 @@ pub fn merge_json(
     right: JsonFragment,
 ) -> JsonFragment
     requires fits { length bytes.now ≤ 2 ^ 28 }
-    requires neighbours { (i : ℕ) × (j : ℕ) × (k : ℕ) × AreNeighbours (StandsForText algebra.now) bytes.now i j k left right }
+    requires neighbours { (i : ℕ) × (j : ℕ) × (k : ℕ)
+        × AreNeighbours (StandsForText algebra.now) bytes.now i j k left right }
     ensures { IsMerged (StandsForText algebra.now) bytes.now left right result }
 {
     JsonFragment {

@@ -8,7 +8,8 @@ ghost use Rattle.at_lex.specs.Fronts.{IsFront};
 ghost use Rattle.at_lex.specs.Strings.{JsonString};
 ghost use Rattle.at_wkt.specs.Geometry.{is_blank as blank_test};
 ghost use Rattle.at_run.specs.Labels.{LabelledLine, label_name as the_label_name};
-ghost use Rattle.at_run.specs.Labelling.{QuoteStands, QuoteIs, LabelStands, IsBehind, asks_label as label_asked, AreKeptTexts, AreFrontTexts};
+ghost use Rattle.at_run.specs.Labelling.{QuoteStands, QuoteIs, LabelStands, IsBehind, asks_label as label_asked};
+ghost use Rattle.at_run.specs.Labelling.{AreKeptTexts, AreFrontTexts};
 
 use crate::encodings::is_valid;
 use at_lex::{Units, take_text, units};
@@ -19,8 +20,8 @@ use std::alloc::Global;
 /// The code units of the name that a label has among the texts of its feature.
 const LABEL: &[u16] = &[108, 97, 98, 101, 108];
 
-/// A line as it is read: its label, which is empty where it has none, and behind it the text that spells its geometry. The
-/// text is the first `len` of the bytes ahead, and begins at the offset.
+/// A line as it is read: its label, which is empty where it has none, and behind it the text that spells its geometry.
+/// The text is the first `len` of the bytes ahead, and begins at the offset.
 #[derive(Clone, Copy)]
 pub struct Behind<'a> {
     pub label: &'a [u8],
@@ -174,8 +175,8 @@ fn begins_plain(ahead: &[u8]) -> bool
     }
 }
 
-/// The first `len` of the bytes ahead, which are a line at the offset, as they are read. Of a line that begins with a letter
-/// only that one byte is looked at.
+/// The first `len` of the bytes ahead, which are a line at the offset, as they are read. Of a line that begins with a
+/// letter only that one byte is looked at.
 ///
 /// # Errors
 /// A fault that is the first syntax fault of the line where the line is UTF-8.

@@ -2,8 +2,8 @@
 //!
 //! [`answer`] reads each block without knowing what stands before it, merges the results of neighbours, and gives the
 //! answer over the file's features or the file's first fault. What its contract says of the two has no word of the
-//! [`Cuts`], of the passes that run at once, or of the order of their steps: that is what "for every cut" and "for every
-//! order" mean.
+//! [`Cuts`], of the passes that run at once, or of the order of their steps: that is what "for every cut" and "for
+//! every order" mean.
 //!
 //! A file of Well-Known Text has a geometry a line, and a line may begin with a label (RFC 8259 section 7).
 //!

@@ -23,7 +23,8 @@ use std::alloc::Global;
 
 /// The part of the features of which this is kept.
 fn part_of_kept(kept: Accumulator) -> Result<Part, RunFault>
-    ensures { MatchResult result (λ part. (query : Query) (fs : List Feature) → IsAccumulated query fs kept → IsPart query fs part) (λ end. end ≡ RunFault.Memory) }
+    ensures { MatchResult result (λ part. (query : Query) (fs : List Feature) → IsAccumulated query fs kept
+        → IsPart query fs part) (λ end. end ≡ RunFault.Memory) }
 {
     match kept.into_part() {
         Ok(part) => Ok(part),
@@ -33,8 +34,8 @@ fn part_of_kept(kept: Accumulator) -> Result<Part, RunFault>
 
 /// The part of a file's lines, or the file's first fault.
 ///
-/// The encoding of the whole file is looked at only where a line has a fault: without labels, what lines without one spell
-/// is ASCII, and the encoding of a label is looked at with its line.
+/// The encoding of the whole file is looked at only where a line has a fault: without labels, what lines without one
+/// spell is ASCII, and the encoding of a label is looked at with its line.
 fn end_of(bytes: &[u8], gathered: Gathered) -> Result<Part, RunFault>
     requires fits { length bytes.now ≤ 2 ^ 28 }
     ensures { (asked : Asked) → IsGathered asked gathered (lines_of bytes.now)
@@ -59,7 +60,8 @@ pub fn finish_line_file(
     whole: LineFragment<Gathered>,
 ) -> Result<Part, RunFault>
     requires fits { length bytes.now ≤ 2 ^ 28 }
-    requires whole { StandsFor (Kept (IsOwn query.now) (IsGathered query.now)) (text_begin bytes.now) (drop (text_begin bytes.now) bytes.now) whole }
+    requires whole { StandsFor (Kept (IsOwn query.now) (IsGathered query.now)) (text_begin bytes.now)
+        (drop (text_begin bytes.now) bytes.now) whole }
     ensures { MatchResult result (IsFilePart Wkt query.now.digits query.now.how query.now.query bytes.now)
         (λ end. IfFound end (λ fault. HasFileFaultIn Wkt query.now.digits query.now.how bytes.now (Some fault))) }
 {

@@ -45,7 +45,8 @@ impl<'a> LineQuery<'a> {
     fn feature(&self, alloc: Global, text: &[u8], at: u32) -> Result<Feature, LineFault>
         requires { at + length text.now ≤ 2 ^ 28 }
         ensures { MatchResult result (IsLineRead self.now (record { at = at; text = text.now }))
-            (λ end. IfFound end (λ fault. IsGathered self.now (Gathered.Failed fault) (record { at = at; text = text.now } ∷ []))) }
+            (λ end. IfFound end (λ fault. IsGathered self.now (Gathered.Failed fault)
+            (record { at = at; text = text.now } ∷ []))) }
     {
         let line = match behind_label(text, text.len(), at) {
             Ok(line) => line,
@@ -73,7 +74,8 @@ impl<'a> LineQuery<'a> {
         requires own { IsOwn self.now gathered.old }
         requires short { at + length text.now ≤ 2 ^ 28 }
         ensures own { IfOk result (λ _. IsOwn self.now gathered.new) }
-        ensures fold { IfOk result (λ _. AddsLines (IsGathered self.now) gathered.old (record { at = at; text = text.now } ∷ []) gathered.new) }
+        ensures fold { IfOk result (λ _. AddsLines (IsGathered self.now) gathered.old
+            (record { at = at; text = text.now } ∷ []) gathered.new) }
     {
         match self.feature(alloc, text, at) {
             Ok(feature) => add_feature(gathered, self.query, feature),
@@ -88,8 +90,8 @@ impl<'a> LineQuery<'a> {
         matches!(self.query.verb, Verb::Join)
     }
 
-    /// Puts a line, whose shape the room lends, behind those before it. Out of line, so that lines that are only counted
-    /// are not held up by what this one keeps in registers.
+    /// Puts a line, whose shape the room lends, behind those before it. Out of line, so that lines that are only
+    /// counted are not held up by what this one keeps in registers.
     #[inline(never)]
     fn add_lent_line(
         &self,
@@ -105,7 +107,8 @@ impl<'a> LineQuery<'a> {
         requires inside { len ≤ length ahead.now }
         requires short { at + length ahead.now ≤ 2 ^ 28 }
         ensures own { IfOk result (λ _. IsOwn self.now gathered.new) }
-        ensures fold { IfOk result (λ _. AddsLines (IsGathered self.now) gathered.old (record { at = at; text = take len ahead.now } ∷ []) gathered.new) }
+        ensures fold { IfOk result (λ _. AddsLines (IsGathered self.now) gathered.old
+            (record { at = at; text = take len ahead.now } ∷ []) gathered.new) }
     {
         let line = match behind_label(ahead, len, at) {
             Ok(line) => line,

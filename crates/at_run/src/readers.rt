@@ -40,7 +40,12 @@ pub enum FileFragment {
 impl Model for Reader {
     ghost Value = { Asks };
 
-    ghost view = { λ r. record { form = r.form; query = r.algebra.query; digits = r.algebra.digits; how = r.algebra.how } };
+    ghost view = { λ r. record {
+      form = r.form;
+      query = r.algebra.query;
+      digits = r.algebra.digits;
+      how = r.algebra.how;
+    } };
 }
 
 impl Reader {
@@ -86,7 +91,8 @@ impl Reader {
         requires fits { length bytes.now ≤ 2 ^ 28 }
         requires whole { StandsAt (StandsInForm self.now) bytes.now (text_begin bytes.now) (length bytes.now) whole }
         ensures { MatchResult result (IsFilePart self.now.form self.now.digits self.now.how self.now.query bytes.now)
-            (λ end. IfFound end (λ fault. HasFileFaultIn self.now.form self.now.digits self.now.how bytes.now (Some fault))) }
+            (λ end. IfFound end (λ fault. HasFileFaultIn self.now.form self.now.digits self.now.how bytes.now
+            (Some fault))) }
     {
         match whole {
             FileFragment::Lines(whole) => finish_line_file(alloc, &self.of_lines(), bytes, whole),

@@ -17,8 +17,8 @@ use std::sync::atomic::{AtomicU64, Ordering};
 use std::test::Fail;
 use std::thread::Threads;
 
-/// Texts whose bytes are written with `~` for a line feed, `^` for a carriage return, `_` for a tab, `%` for the byte FF, `$` for one that
-/// begins a character of three bytes and `@` for one that goes on with a character.
+/// Texts whose bytes are written with `~` for a line feed, `^` for a carriage return, `_` for a tab, `%` for the byte
+/// FF, `$` for one that begins a character of three bytes and `@` for one that goes on with a character.
 fn bytes_of(alloc: Global, text: &str) -> Result<Vec<u8>, AllocError> {
     let mut bytes = Vec::new(alloc);
     for byte in text.as_bytes() {
@@ -263,8 +263,8 @@ fn one_cut(rt: HostRuntime) -> Result<(), Fail> {
     Ok(())
 }
 
-/// What `select` prints over a file with labels, with a comma behind each offset, or the file's first fault; a bar; and the
-/// file.
+/// What `select` prints over a file with labels, with a comma behind each offset, or the file's first fault; a bar; and
+/// the file.
 const LABELLED: &str = r#"0,24,43,|"Bonn"_POINT (7.1 50.7)~"Ulm" POINT (9 48)~POINT (1 2)~
 0,|"a"POINT(1 2)
 0,| _"a" _POINT (1 2)_ ^~
@@ -329,8 +329,8 @@ fn lines_of_a_label(rt: HostRuntime) -> Result<(), Fail> {
     Ok(())
 }
 
-/// What `select` prints over a text of GeoJSON, with a comma behind each offset, or the text's first fault; a bar; and the
-/// text.
+/// What `select` prints over a text of GeoJSON, with a comma behind each offset, or the text's first fault; a bar; and
+/// the text.
 const TEXTS: &str =
     r#"40,|{"type":"FeatureCollection","features":[{"type":"Feature","geometry":null,"properties":null}]}
 1,| {"type":"LineString","coordinates":[[1,2],[3,4]]}
@@ -603,7 +603,8 @@ fn blocks_given_up(rt: HostRuntime) -> Result<(), Fail> {
     Ok(())
 }
 
-/// A gate that counts how often each of two blocks is entered, and holds block 0 until block 1 was entered, for some time.
+/// A gate that counts how often each of two blocks is entered, and holds block 0 until block 1 was entered, for some
+/// time.
 #[derive(Drop)]
 struct Held {
     entries: [AtomicU64; 2],

@@ -22,4 +22,5 @@ BecomesPart kept (Err end) = end ≡ Memory
 abbrev pub IsEndOf : Gathered → Option Fault → Result Part SeqEnd → Type 0
 IsEndOf (Kept kept) None result = BecomesPart kept result
 IsEndOf (Kept kept) (Some fault) result = result ≡ Err (Found fault)
-IsEndOf (Failed fault) head result = (first : Fault) × (result ≡ Err (Found first)) × (Some first ≡ first_fault head (Some fault))
+IsEndOf (Failed fault) head result = (first : Fault) × (result ≡ Err (Found first))
+    × (Some first ≡ first_fault head (Some fault))

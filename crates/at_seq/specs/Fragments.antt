@@ -1,4 +1,5 @@
--- What a fragment of a sequence stands for: the texts at its ends, and what is gathered of the records between them. Only contracts of private functions cite this.
+-- What a fragment of a sequence stands for: the texts at its ends, and what is gathered of the records between them.
+-- Only contracts of private functions cite this.
 use Rattle.std.specs.Prelude.{◌≡◌, ℕ, ◌+◌, ◌≤◌, ◌<◌, List, [], ◌∷◌, ◌++◌, length}
 use Rattle.at_text.specs.Spans.{part_of}
 use Rattle.at_nest.specs.Holding.{Kept as KeptAtom}
@@ -45,7 +46,8 @@ module _ (asked : Asked) (bytes : List ℕ) where
   abbrev pub HoldsJson : ℕ → ℕ → Fragment GeoAlgebra GeoAtom → Type 0
   HoldsJson i k f = StandsFor (KeptAtom (IsOwn asked) (IsFold asked) (IsRun asked)) i (part_of bytes i k) f
 
-  -- the bytes from i up to k are those before their first separator, the records between that and their last one, and those behind it
+  -- the bytes from i up to k are those before their first separator, the records between that and their last one, and
+  -- those behind it
   pub record HoldsParted (i k : ℕ) (parted : PartedText) : Type 0 where
     pub inner : List Piece
     pub pieces : pieces_in bytes i k ≡ piece_in bytes i parted.first ∷ (inner ++ piece_in bytes parted.last k ∷ [])

@@ -1,4 +1,5 @@
--- What is kept of records as they are read: what a query keeps of their features, or their first fault. Only contracts of private functions cite this.
+-- What is kept of records as they are read: what a query keeps of their features, or their first fault. Only contracts
+-- of private functions cite this.
 use Rattle.std.specs.Prelude.{◌≡◌, ℕ, List, ◌++◌, Option, Some, None, Result, Ok, Err, IsErr}
 use Rattle.at_text.specs.Faults.{fault_at, first_of}
 use Rattle.at_text.specs.declared.faults.Fault.{Fault}
@@ -23,24 +24,29 @@ use Rattle.at_seq.specs.Sequences.{HaveRecordFaults, AreRecordFeatures}
 
 -- the first fault of the records, or none
 abbrev pub IsFirstOfRecords : ℕ → Coords → List Piece → Option Fault → Type 0
-IsFirstOfRecords digits how records first = (faults : List Fault) × HaveRecordFaults digits how records faults × (first ≡ first_of faults)
+IsFirstOfRecords digits how records first = (faults : List Fault) × HaveRecordFaults digits how records faults
+    × (first ≡ first_of faults)
 
 -- what the query keeps of the features of the records
 abbrev pub IsKeptOfRecords : Asked → List Piece → Accumulator → Type 0
-IsKeptOfRecords asked records kept = (features : List Feature) × AreRecordFeatures asked.digits asked.how records features × IsAccumulated asked.query features kept
+IsKeptOfRecords asked records kept = (features : List Feature)
+    × AreRecordFeatures asked.digits asked.how records features × IsAccumulated asked.query features kept
 
 -- none of the records has a fault, and this is kept of their features; or this is the first of their faults
 abbrev pub IsGathered : Asked → Gathered → List Piece → Type 0
-IsGathered asked (Kept kept) records = IsFirstOfRecords asked.digits asked.how records None × IsKeptOfRecords asked records kept
+IsGathered asked (Kept kept) records = IsFirstOfRecords asked.digits asked.how records None
+    × IsKeptOfRecords asked records kept
 IsGathered asked (Failed fault) records = IsFirstOfRecords asked.digits asked.how records (Some fault)
 
 -- of whatever records the one is gathered, the next is gathered of those and of these behind them
 abbrev pub AddsRecords : Asked → Gathered → List Piece → Gathered → Type 0
-AddsRecords asked old more new = (before : List Piece) → IsGathered asked old before → IsGathered asked new (before ++ more)
+AddsRecords asked old more new = (before : List Piece) → IsGathered asked old before
+    → IsGathered asked new (before ++ more)
 
 -- what is kept of a record, from what it ends in as a JSON text
 abbrev pub IsRootKept : Result Part RootEnd → Result Gathered Memory → Type 0
-IsRootKept (Ok part) result = (kept : Accumulator) × (result ≡ Ok (Kept kept)) × ((query : Query) (fs : List Feature) → IsPart query fs part → IsAccumulated query fs kept)
+IsRootKept (Ok part) result = (kept : Accumulator) × (result ≡ Ok (Kept kept)) × ((query : Query) (fs : List Feature)
+    → IsPart query fs part → IsAccumulated query fs kept)
 IsRootKept (Err (roots.Found fault)) result = result ≡ Ok (Failed fault)
 IsRootKept (Err roots.Memory) result = IsErr result
 

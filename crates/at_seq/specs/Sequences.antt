@@ -31,12 +31,15 @@ module _ (digits : ℕ) (how : Coords) where
 
   abbrev pub HaveRecordFaults : List Piece → List Fault → Type 0
   HaveRecordFaults [] faults = faults ≡ []
-  HaveRecordFaults (r ∷ rs) faults = (first others : List Fault) × HasRecordFaults r first × HaveRecordFaults rs others × (faults ≡ first ++ others)
+  HaveRecordFaults (r ∷ rs) faults = (first others : List Fault) × HasRecordFaults r first × HaveRecordFaults rs others
+      × (faults ≡ first ++ others)
 
-  -- the fault of the encoding where there is one, or else the first of what stands before the records and of all records' faults
+  -- the fault of the encoding where there is one, or else the first of what stands before the records and of all
+  -- records' faults
   abbrev pub HasSeqFaultBehind : Option Fault → List ℕ → Option Fault → Type 0
   HasSeqFaultBehind (Some fault) bytes first = first ≡ Some fault
-  HasSeqFaultBehind None bytes first = (faults : List Fault) × HaveRecordFaults (records_of bytes) faults × (first ≡ first_of (head_faults (pieces_of bytes) ++ faults))
+  HasSeqFaultBehind None bytes first = (faults : List Fault) × HaveRecordFaults (records_of bytes) faults
+      × (first ≡ first_of (head_faults (pieces_of bytes) ++ faults))
 
   -- the first fault of a sequence, or none
   abbrev pub HasSeqFault : List ℕ → Option Fault → Type 0
@@ -49,7 +52,8 @@ module _ (digits : ℕ) (how : Coords) where
   -- the features of the trees that the records spell, in order
   abbrev pub AreRecordFeatures : List Piece → List Feature → Type 0
   AreRecordFeatures [] features = features ≡ []
-  AreRecordFeatures (r ∷ rs) features = (t : Tree) × (others : List Feature) × IsTextOf r.at r.text t × AreRecordFeatures rs others × (features ≡ features_of digits how t ++ others)
+  AreRecordFeatures (r ∷ rs) features = (t : Tree) × (others : List Feature) × IsTextOf r.at r.text t
+      × AreRecordFeatures rs others × (features ≡ features_of digits how t ++ others)
 
   abbrev pub AreSeqFeatures : List ℕ → List Feature → Type 0
   AreSeqFeatures bytes features = AreRecordFeatures (records_of bytes) features

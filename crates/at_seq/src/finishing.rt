@@ -55,7 +55,8 @@ fn part_of_kept(kept: Accumulator) -> Result<Part, SeqEnd>
     }
 }
 
-/// The part, or the first fault, from that of what stands before the first separator and from what is kept of the records.
+/// The part, or the first fault, from that of what stands before the first separator and from what is kept of the
+/// records.
 fn end_of(head: Option<Fault>, kept: Gathered) -> Result<Part, SeqEnd>
     ensures { IsEndOf kept head result }
 {
@@ -120,7 +121,8 @@ fn text_end(
     }
 }
 
-/// The fault of a file's encoding. The whole file is tested only where the span of it that is valid doesn't show it to be.
+/// The fault of a file's encoding. The whole file is tested only where the span of it that is valid doesn't show it to
+/// be.
 fn fault_of_encoding(bytes: &[u8], valid: Span) -> Option<Fault>
     requires fits { length bytes.now ≤ 2 ^ 28 }
     requires valid { IsValidIn (text_begin bytes.now) (drop (text_begin bytes.now) bytes.now) valid }

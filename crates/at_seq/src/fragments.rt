@@ -4,7 +4,8 @@ ghost use Rattle.std.specs.Prelude.{◌≡◌, ℕ, ◌-◌, ◌≤◌, ◌<◌,
 ghost use Rattle.std.specs.List.{position_or_len};
 ghost use Rattle.at_text.specs.Spans.{part_of};
 ghost use Rattle.at_seq.specs.Records.{is_separator};
-ghost use Rattle.at_seq.specs.Fragments.{AreBeside, IsOfBoth, HoldsInner, HoldsText, HoldsParted, HoldsSpan, HoldsFragment};
+ghost use Rattle.at_seq.specs.Fragments.{AreBeside, IsOfBoth, HoldsInner, HoldsText, HoldsParted, HoldsSpan};
+ghost use Rattle.at_seq.specs.Fragments.{HoldsFragment};
 
 use crate::records::{add_fragment, add_record};
 use crate::searches::separator_place;
@@ -170,7 +171,8 @@ fn merge_parted(
     right: PartedText,
 ) -> Result<PartedText, Memory>
     requires fits { length bytes.now ≤ 2 ^ 28 }
-    requires beside { (i : ℕ) × (j : ℕ) × (k : ℕ) × AreBeside (HoldsParted algebra.now bytes.now) bytes.now i j k left right }
+    requires beside { (i : ℕ) × (j : ℕ) × (k : ℕ)
+        × AreBeside (HoldsParted algebra.now bytes.now) bytes.now i j k left right }
     ensures { IfOk result (IsOfBoth (HoldsParted algebra.now bytes.now) bytes.now left right) }
 {
     let mut kept = left.kept;
@@ -199,7 +201,8 @@ fn merge_texts(
     right: SeqText,
 ) -> Result<SeqText, Memory>
     requires fits { length bytes.now ≤ 2 ^ 28 }
-    requires beside { (i : ℕ) × (j : ℕ) × (k : ℕ) × AreBeside (HoldsText algebra.now bytes.now) bytes.now i j k left right }
+    requires beside { (i : ℕ) × (j : ℕ) × (k : ℕ)
+        × AreBeside (HoldsText algebra.now bytes.now) bytes.now i j k left right }
     ensures { IfOk result (IsOfBoth (HoldsText algebra.now bytes.now) bytes.now left right) }
 {
     match (left, right) {
@@ -235,8 +238,10 @@ pub fn merge_spans(
     right: SeqRead,
 ) -> SeqFragment
     requires fits { length bytes.now ≤ 2 ^ 28 }
-    requires beside { (i : ℕ) × (j : ℕ) × (k : ℕ) × AreBeside (HoldsSpan algebra.now bytes.now) bytes.now i j k left right }
-    ensures { IsOfBoth (HoldsFragment algebra.now bytes.now) bytes.now (SeqFragment.Read left) (SeqFragment.Read right) result }
+    requires beside { (i : ℕ) × (j : ℕ) × (k : ℕ)
+        × AreBeside (HoldsSpan algebra.now bytes.now) bytes.now i j k left right }
+    ensures { IsOfBoth (HoldsFragment algebra.now bytes.now) bytes.now (SeqFragment.Read left) (SeqFragment.Read right)
+        result }
 {
     let valid = joined_span(bytes, left.valid, right.valid);
     match merge_texts(alloc, algebra, bytes, left.text, right.text) {

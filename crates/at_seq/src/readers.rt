@@ -52,9 +52,12 @@ impl<'a> SeqReader<'a> {
     /// # Errors
     /// `Found` is the sequence's first fault, exactly where it has one. `Memory` comes where an allocation was refused.
     pub fn finish_pieces(&self, alloc: Global, whole: SeqFragment) -> Result<Part, SeqEnd>
-        requires whole { StandsAt (StandsInFile self.now) self.now.bytes (text_begin self.now.bytes) (length self.now.bytes) whole }
-        ensures { MatchResult result (IsSeqPart self.now.asked.digits self.now.asked.how self.now.asked.query self.now.bytes)
-            (λ end. IfFound end (λ fault. HasSeqFault self.now.asked.digits self.now.asked.how self.now.bytes (Some fault))) }
+        requires whole { StandsAt (StandsInFile self.now) self.now.bytes (text_begin self.now.bytes)
+            (length self.now.bytes) whole }
+        ensures { MatchResult result (IsSeqPart self.now.asked.digits self.now.asked.how self.now.asked.query
+            self.now.bytes)
+            (λ end. IfFound end (λ fault. HasSeqFault self.now.asked.digits self.now.asked.how self.now.bytes
+            (Some fault))) }
     {
         finish_spans(alloc, &self.algebra, self.bytes, whole)
     }

@@ -56,8 +56,10 @@ fn kept_of(
     to: u32,
     answer: Result<GeoAtom, NestEnd>,
 ) -> Result<Gathered, Memory>
-    requires { (at : ℕ) × (text : List ℕ) × Answers (Kept (IsOwn algebra.now) (IsFold algebra.now) (IsRun algebra.now)) at text answer }
-    ensures { (at : ℕ) (text : List ℕ) → to ≡ at + length text → Answers (Kept (IsOwn algebra.now) (IsFold algebra.now) (IsRun algebra.now)) at text answer
+    requires { (at : ℕ) × (text : List ℕ) × Answers (Kept (IsOwn algebra.now) (IsFold algebra.now) (IsRun algebra.now))
+        at text answer }
+    ensures { (at : ℕ) (text : List ℕ) → to ≡ at + length text
+        → Answers (Kept (IsOwn algebra.now) (IsFold algebra.now) (IsRun algebra.now)) at text answer
         → IfOk result (λ kept. IsGathered algebra.now kept (record { at = at; text = text } ∷ [])) }
 {
     match answer {
@@ -78,7 +80,9 @@ fn atom_at_once(
     requires fits { at + length text.now ≤ 2 ^ 28 }
     requires spaces { IsFront is_space text.now spaces }
     requires some { spaces < length text.now }
-    ensures { IfOk result (λ found. IfSome found (λ atom. Answers (Kept (IsOwn algebra.now) (IsFold algebra.now) (IsRun algebra.now)) at text.now (Ok atom))) }
+    ensures { IfOk result (λ found.
+        IfSome found (λ atom. Answers (Kept (IsOwn algebra.now) (IsFold algebra.now) (IsRun algebra.now)) at text.now
+        (Ok atom))) }
 {
     let value = &text[spaces..];
     match algebra.value(alloc, value, at + spaces as u32)? {
@@ -107,7 +111,8 @@ fn span_answer(
     requires within { span.to ≤ length bytes.now }
     requires spaces { IsFront is_space (part_of bytes.now span.from span.to) spaces }
     requires some { spaces < length (part_of bytes.now span.from span.to) }
-    ensures { Answers (Kept (IsOwn algebra.now) (IsFold algebra.now) (IsRun algebra.now)) span.from (part_of bytes.now span.from span.to) result }
+    ensures { Answers (Kept (IsOwn algebra.now) (IsFold algebra.now) (IsRun algebra.now)) span.from
+        (part_of bytes.now span.from span.to) result }
 {
     let text = &bytes[span.from as usize..span.to as usize];
     if let Some(atom) = atom_at_once(alloc, algebra, text, span.from, spaces)? {
@@ -129,7 +134,8 @@ pub fn add_record(
     requires order { span.from ≤ span.to }
     requires within { span.to ≤ length bytes.now }
     requires own { (before : List Piece) × IsGathered algebra.now gathered.old before }
-    ensures { IfOk result (λ _. AddsRecords algebra.now gathered.old (records_in (record { at = span.from; text = part_of bytes.now span.from span.to } ∷ [])) gathered.new) }
+    ensures { IfOk result (λ _. AddsRecords algebra.now gathered.old
+        (records_in (record { at = span.from; text = part_of bytes.now span.from span.to } ∷ [])) gathered.new) }
 {
     let text = &bytes[span.from as usize..span.to as usize];
     let spaces = spaces_len(text);
@@ -154,8 +160,10 @@ pub fn add_fragment(
     requires order { span.from ≤ span.to }
     requires within { span.to ≤ length bytes.now }
     requires own { (before : List Piece) × IsGathered algebra.now gathered.old before }
-    requires whole { StandsFor (Kept (IsOwn algebra.now) (IsFold algebra.now) (IsRun algebra.now)) span.from (part_of bytes.now span.from span.to) whole }
-    ensures { IfOk result (λ _. AddsRecords algebra.now gathered.old (records_in (record { at = span.from; text = part_of bytes.now span.from span.to } ∷ [])) gathered.new) }
+    requires whole { StandsFor (Kept (IsOwn algebra.now) (IsFold algebra.now) (IsRun algebra.now)) span.from
+        (part_of bytes.now span.from span.to) whole }
+    ensures { IfOk result (λ _. AddsRecords algebra.now gathered.old
+        (records_in (record { at = span.from; text = part_of bytes.now span.from span.to } ∷ [])) gathered.new) }
 {
     let text = &bytes[span.from as usize..span.to as usize];
     if spaces_len(text) == text.len() {

@@ -19,14 +19,14 @@ use std::thread::Threads;
 
 /// The part of a sequence's features under a query, or the sequence's first fault.
 ///
-/// The bytes are read in the blocks that the cuts make of them, each by itself, by so many passes at once. No clause says
-/// anything of the cuts but that they cover the file's text, of the passes but that there are 1 to 64, or of an order of
-/// steps: whatever they are, the part is that of the whole bytes.
+/// The bytes are read in the blocks that the cuts make of them, each by itself, by so many passes at once. No clause
+/// says anything of the cuts but that they cover the file's text, of the passes but that there are 1 to 64, or of an
+/// order of steps: whatever they are, the part is that of the whole bytes.
 ///
 /// # Errors
-/// `Found` is the sequence's first fault, exactly where it has one: that of its encoding, or else the first of all others
-/// by tiers, then by offset, then by number. `Memory` comes where an allocation was refused, and wherever the gate gives up
-/// a block.
+/// `Found` is the sequence's first fault, exactly where it has one: that of its encoding, or else the first of all
+/// others by tiers, then by offset, then by number. `Memory` comes where an allocation was refused, and wherever the
+/// gate gives up a block.
 pub fn part_seq<G: Gate, R: Threads + Sync>(
     rt: &R,
     alloc: Global,

@@ -13,8 +13,8 @@ use std::alloc::{AllocError, Global};
 use std::test::Fail;
 use std::thread::Threads;
 
-/// Texts whose bytes are written with `|` for a separator, `~` for a line feed, `^` for a carriage return, `%` for the byte
-/// FF, `$` for one that begins a character of three bytes and `@` for one that goes on with a character.
+/// Texts whose bytes are written with `|` for a separator, `~` for a line feed, `^` for a carriage return, `%` for the
+/// byte FF, `$` for one that begins a character of three bytes and `@` for one that goes on with a character.
 fn bytes_of(alloc: Global, text: &str) -> Result<Vec<u8>, AllocError> {
     let mut bytes = Vec::new(alloc);
     for byte in text.as_bytes() {
@@ -196,8 +196,8 @@ fn told_evenly<R: Threads + Sync>(
     told(rt, alloc, bytes, &cuts, query, workers, &Free)
 }
 
-/// What `select` finds in a sequence, or its first fault; a sign of equality; and the sequence. A sequence of at most 20
-/// bytes is cut twice, a longer one once.
+/// What `select` finds in a sequence, or its first fault; a sign of equality; and the sequence. A sequence of at most
+/// 20 bytes is cut twice, a longer one once.
 const ROWS: &str = r#"=
 =||~
 = ~^ ||~ | ~

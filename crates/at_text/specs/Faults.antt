@@ -1,8 +1,10 @@
 -- The order of faults: tiers first, then the lesser offset, then the lesser number.
-use Rattle.std.specs.Prelude.{ℕ, Bool, ◌&&◌, ◌||◌, nat_lt, nat_le, ◌==◌, if◌then◌else◌, Option, Some, None, List, [], ◌∷◌}
+use Rattle.std.specs.Prelude.{ℕ, Bool, ◌&&◌, ◌||◌, nat_lt, nat_le, ◌==◌, if◌then◌else◌, Option, Some, None, List, []}
+use Rattle.std.specs.Prelude.{◌∷◌}
 use Rattle.at_text.specs.declared.faults.Fault.{Fault}
 use Rattle.at_text.specs.declared.faults.FaultKind.{FaultKind}
-use Rattle.at_text.specs.declared.faults.FaultKind.TheVariants.{NotUtf8, Syntax, Ended, Twin, Form, Short, Ring, Scale, Range}
+use Rattle.at_text.specs.declared.faults.FaultKind.TheVariants.{NotUtf8, Syntax, Ended, Twin, Form, Short, Ring, Scale}
+use Rattle.at_text.specs.declared.faults.FaultKind.TheVariants.{Range}
 
 -- the number of a kind, in the order in which the kinds are declared
 abbrev pub number_of : FaultKind → ℕ

@@ -1,4 +1,5 @@
--- Spans of a file's bytes, and what it is to stand for one: a fragment is made of a span alone, and two of neighbouring spans are merged.
+-- Spans of a file's bytes, and what it is to stand for one: a fragment is made of a span alone, and two of neighbouring
+-- spans are merged.
 use Rattle.std.specs.Prelude.{ℕ, ◌-◌, ◌≤◌, List, length, take, drop}
 
 -- the bytes from the place i up to, not including, the place k
@@ -13,7 +14,8 @@ module _ {F : Type 0} (Stands : ℕ → List ℕ → F → Type 0) where
 
   -- the fragments stand for the bytes from i up to j, and from j up to k
   abbrev pub AreNeighbours : List ℕ → ℕ → ℕ → ℕ → F → F → Type 0
-  AreNeighbours bytes i j k left right = (i ≤ j) × (j ≤ k) × (k ≤ length bytes) × StandsAt bytes i j left × StandsAt bytes j k right
+  AreNeighbours bytes i j k left right = (i ≤ j) × (j ≤ k) × (k ≤ length bytes) × StandsAt bytes i j left
+      × StandsAt bytes j k right
 
   -- wherever the fragments are neighbours, the third stands for both spans
   abbrev pub IsMerged : List ℕ → F → F → F → Type 0

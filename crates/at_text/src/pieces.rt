@@ -9,8 +9,8 @@ use std::alloc::Global;
 /// neighbours gave put together.
 ///
 /// `stands` says which bytes a fragment stands for, of which the first has the offset. No call refuses: where memory is
-/// wanted, the fragment is one that stands for any bytes. Which fragments those are, and what is made of the fragment of
-/// a whole file, is each reader's own.
+/// wanted, the fragment is one that stands for any bytes. Which fragments those are, and what is made of the fragment
+/// of a whole file, is each reader's own.
 pub trait Pieces: Sync {
     /// What a piece gives.
     type Fragment: Send + Drop;

@@ -24,7 +24,8 @@ module _ (digits : ℕ) (how : Coords) where
     pub spelled : IsLineOf at text geometry
     pub fault_is : fault ≡ first_of (faults_of digits how geometry)
     pub shape_is : shape ≡ shape_of digits how geometry
-    pub only : (other : Geometry) → IsLineOf at text other → (shape_of digits how other ≡ shape) × (first_of (faults_of digits how other) ≡ fault)
+    pub only : (other : Geometry) → IsLineOf at text other → (shape_of digits how other ≡ shape)
+        × (first_of (faults_of digits how other) ≡ fault)
 
   -- the line has no fault, and this shape
   abbrev pub HasLineShape : ℕ → List ℕ → Shape → Type 0
@@ -40,17 +41,19 @@ module _ (digits : ℕ) (how : Coords) where
   HasFaultOrShape at text None = (shape : Shape) × HasLineShape at text shape
   HasFaultOrShape at text (Some fault) = HasFirstLineFault at text fault
 
-  -- a geometry begins the text, which begins at the offset: it has that length, first fault and shape. With a fault the shape is
-  -- empty. Whatever spelling of a geometry agrees with these bytes, as far as both go, is these bytes, with that shape and fault: no
-  -- other geometry begins the text, and no spelling is a proper prefix of another
+  -- a geometry begins the text, which begins at the offset: it has that length, first fault and shape. With a fault the
+  -- shape is empty. Whatever spelling of a geometry agrees with these bytes, as far as both go, is these bytes, with
+  -- that shape and fault: no other geometry begins the text, and no spelling is a proper prefix of another
   pub record IsPrefixOf (at : ℕ) (text : List ℕ) (prefix : Prefix) : Type 0 where
     pub fits : prefix.taken ≤ length text
     pub geometry : Geometry
     pub spelled : SpellsGeometry at (take prefix.taken text) geometry
     pub fault_is : prefix.fault ≡ first_of (faults_of digits how geometry)
     pub shape_is : prefix.shape ≡ (if is_none prefix.fault then shape_of digits how geometry else empty_shape)
-    pub only : (other : Geometry) (v r s : List ℕ) → SpellsGeometry at v other → v ++ r ≡ take prefix.taken text ++ s → (v ≡ take prefix.taken text)
-        × (shape_of digits how other ≡ shape_of digits how geometry) × (first_of (faults_of digits how other) ≡ prefix.fault)
+    pub only : (other : Geometry) (v r s : List ℕ) → SpellsGeometry at v other → v ++ r ≡ take prefix.taken text ++ s
+        → (v ≡ take prefix.taken text)
+        × (shape_of digits how other ≡ shape_of digits how geometry)
+        × (first_of (faults_of digits how other) ≡ prefix.fault)
 
 -- no geometry begins the text, and the fault stands at the end of its longest prefix that a geometry may begin with
 pub record IsPrefixFault (at : ℕ) (text : List ℕ) (fault : Fault) : Type 0 where

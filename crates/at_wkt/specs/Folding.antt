@@ -1,4 +1,5 @@
--- What a fragment of a file that is read line by line stands for: the two pieces at its ends, and the fold of the lines between them.
+-- What a fragment of a file that is read line by line stands for: the two pieces at its ends, and the fold of the lines
+-- between them.
 use Rattle.std.specs.Prelude.{◌≡◌, ℕ, ◌+◌, ◌≤◌, List, [], ◌∷◌, ◌++◌, length, drop, Result, Ok, Err}
 use Rattle.std.specs.Bool.{⊤}
 use Rattle.at_text.specs.declared.memory.Memory.{Memory}
@@ -38,10 +39,12 @@ fragment_of (Err refused) = Lost
 
 -- the bytes, the first of which has the offset, have no line feed and are the span
 abbrev pub HoldsPiece : ℕ → List ℕ → Span → Type 0
-HoldsPiece at bytes span = (pieces_from at bytes ≡ record { at = at; text = bytes } ∷ []) × IsSpanOf (record { at = at; text = bytes }) span
+HoldsPiece at bytes span = (pieces_from at bytes ≡ record { at = at; text = bytes } ∷ [])
+    × IsSpanOf (record { at = at; text = bytes }) span
 
 module _ {P : Type 0} (IsKept : P → List FileLine → Type 0) where
-  -- the bytes are the span before their first line feed, the lines whose fold is kept, and the span behind their last line feed
+  -- the bytes are the span before their first line feed, the lines whose fold is kept, and the span behind their last
+  -- line feed
   pub record HoldsLines (at : ℕ) (bytes : List ℕ) (whole : WholeLines P) : Type 0 where
     pub first : FileLine
     pub inner : List FileLine

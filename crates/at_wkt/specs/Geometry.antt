@@ -4,7 +4,8 @@ use Rattle.at_text.specs.Parts.{Nothing, Exactly, AnyCase, Many, OneOrMore, ◌�
 use Rattle.at_fixed.specs.Numerals.{Numeral, IsWktNumeral, numeral_text}
 use Rattle.at_wkt.specs.Positions.{Position, Positions}
 
--- what a line or a query spells; none stands for EMPTY, and lists hold at least one item or else stand for EMPTY; from GeoJSON, positions may have no items and are then Short or Ring
+-- what a line or a query spells; none stands for EMPTY, and lists hold at least one item or else stand for EMPTY; from
+-- GeoJSON, positions may have no items and are then Short or Ring
 mutual
   pub data Geometry : Type 0 where
     point : Option Position → Geometry
@@ -80,7 +81,8 @@ SpellsArea d rings = EmptyOrParted (SpellsRing d) rings
 
 -- Z, M, ZM or none, in any case, before positions of d numbers: 3 with Z or M, 4 with ZM, and 2, 3 or 4 with none
 abbrev pub Letter : ℕ → ℕ → List ℕ → Type 0
-Letter d at w = ((w ≡ []) × (2 ≤ d) × (d ≤ 4)) ⊎ (((AnyCase (codes "Z") at w ⊎ AnyCase (codes "M") at w) × (d ≡ 3)) ⊎ (AnyCase (codes "ZM") at w × (d ≡ 4)))
+Letter d at w = ((w ≡ []) × (2 ≤ d) × (d ≤ 4)) ⊎ (((AnyCase (codes "Z") at w ⊎ AnyCase (codes "M") at w) × (d ≡ 3))
+    ⊎ (AnyCase (codes "ZM") at w × (d ≡ 4)))
 
 -- the word of a kind, a letter or none, and what is said of positions of d numbers
 abbrev pub Kind : List ℕ → (ℕ → ℕ → List ℕ → Type 0) → ℕ → List ℕ → Type 0
@@ -93,19 +95,22 @@ abbrev mutual
   SpellsGeometry at w (line_string ps) = Kind (codes "LINESTRING") (λ d. SpellsList d ps) at w
   SpellsGeometry at w (polygon rings) = Kind (codes "POLYGON") (λ d. SpellsArea d rings) at w
   SpellsGeometry at w (multi_point ps) = Kind (codes "MULTIPOINT") (λ d. EmptyOrParted (SpellsPointMember d) ps) at w
-  SpellsGeometry at w (multi_line_string ls) = Kind (codes "MULTILINESTRING") (λ d. EmptyOrParted (SpellsList d) ls) at w
+  SpellsGeometry at w (multi_line_string ls) =
+      Kind (codes "MULTILINESTRING") (λ d. EmptyOrParted (SpellsList d) ls) at w
   SpellsGeometry at w (multi_polygon areas) = Kind (codes "MULTIPOLYGON") (λ d. EmptyOrParted (SpellsArea d) areas) at w
   SpellsGeometry at w (collection gs) = Kind (codes "GEOMETRYCOLLECTION") (λ d i v. SpellsGeometries i v gs) at w
 
   -- EMPTY, or geometries parted by commas in brackets
   pub SpellsGeometries : ℕ → List ℕ → Geometries → Type 0
   SpellsGeometries at w no_geometries = EmptyWord at w
-  SpellsGeometries at w (geometry_and g gs) = InBrackets ((λ i v. SpellsGeometry i v g) ▸ (λ i v. SpellsFurtherGeometries i v gs)) at w
+  SpellsGeometries at w (geometry_and g gs) =
+      InBrackets ((λ i v. SpellsGeometry i v g) ▸ (λ i v. SpellsFurtherGeometries i v gs)) at w
 
   pub SpellsFurtherGeometries : ℕ → List ℕ → Geometries → Type 0
   SpellsFurtherGeometries at w no_geometries = Nothing at w
   SpellsFurtherGeometries at w (geometry_and g gs) =
-      (Many is_blank ▸ Exactly (codes ",") ‿ (λ i v. SpellsGeometry i v g) ▸ (λ i v. SpellsFurtherGeometries i v gs)) at w
+      (Many is_blank ▸ Exactly (codes ",") ‿ (λ i v. SpellsGeometry i v g) ▸ (λ i v. SpellsFurtherGeometries i v gs)) at
+      w
 
 -- blanks, a geometry, blanks
 abbrev pub IsLineOf : ℕ → List ℕ → Geometry → Type 0

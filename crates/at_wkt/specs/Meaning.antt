@@ -6,7 +6,8 @@ use Rattle.at_geom.specs.declared.positions.Pos.{Pos}
 use Rattle.at_geom.specs.declared.shapes.Polygon.{Polygon}
 use Rattle.at_geom.specs.declared.shapes.Shape.{Shape}
 use Rattle.at_wkt.specs.Positions.{Positions, position_faults, faults_of_line, faults_of_ring, pos_of, path_of}
-use Rattle.at_wkt.specs.Geometry.{Geometry, point, line_string, polygon, multi_point, multi_line_string, multi_polygon, collection, Geometries, no_geometries, geometry_and}
+use Rattle.at_wkt.specs.Geometry.{Geometry, point, line_string, polygon, multi_point, multi_line_string, multi_polygon}
+use Rattle.at_wkt.specs.Geometry.{collection, Geometries, no_geometries, geometry_and}
 
 abbrev pub empty_shape : Shape
 empty_shape = record { points = []; lines = []; polygons = [] }

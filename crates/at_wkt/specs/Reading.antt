@@ -1,5 +1,8 @@
 -- What the functions that read the parts of a text promise each other. Only contracts of private functions cite this.
-use Rattle.std.specs.Prelude.{Result, Ok, Err, Some, None, is_none, if◌then◌else◌, zero, suc, map, flat_map, option_to_list, Option, ◌≡◌, ◌≢◌, ℕ, ◌+◌, ◌-◌, not, slice_index, codes, ◌⊎◌, ◌||◌, ◌<◌, ◌≤◌, ◌&&◌, ◌==◌, nat_le, nat_lt, Bool, true, false, IsTrue, List, [], ◌∷◌, ◌++◌, length, take, drop, slice_index_or}
+use Rattle.std.specs.Prelude.{Result, Ok, Err, Some, None, is_none, if◌then◌else◌, zero, suc, map, flat_map}
+use Rattle.std.specs.Prelude.{option_to_list, Option, ◌≡◌, ◌≢◌, ℕ, ◌+◌, ◌-◌, not, slice_index, codes, ◌⊎◌, ◌||◌, ◌<◌}
+use Rattle.std.specs.Prelude.{◌≤◌, ◌&&◌, ◌==◌, nat_le, nat_lt, Bool, true, false, IsTrue, List, [], ◌∷◌, ◌++◌, length}
+use Rattle.std.specs.Prelude.{take, drop, slice_index_or}
 use Rattle.std.specs.Ordering.{int_eq}
 use Rattle.std.specs.Str.{str_to_ascii_uppercase}
 use Rattle.std.specs.Char.{to_ascii_uppercase}
@@ -8,7 +11,8 @@ use Rattle.at_text.specs.Prefix.{LongestViable}
 use Rattle.at_text.specs.Parts.{Many, Exactly, ◌▸◌}
 use Rattle.at_fixed.specs.Numerals.{Numeral, IsWktNumeral, numeral_text, WktNumber}
 use Rattle.at_wkt.specs.declared.kinds.Kind.{Kind}
-use Rattle.at_wkt.specs.declared.kinds.Kind.TheVariants.{Point, LineString, Polygon, MultiPoint, MultiLineString, MultiPolygon, GeometryCollection}
+use Rattle.at_wkt.specs.declared.kinds.Kind.TheVariants.{Point, LineString, Polygon, MultiPoint, MultiLineString}
+use Rattle.at_wkt.specs.declared.kinds.Kind.TheVariants.{MultiPolygon, GeometryCollection}
 use Rattle.at_wkt.specs.declared.kinds.Head.{Head}
 use Rattle.at_text.specs.Syntax.{IsSyntaxFault, stop_fault}
 use Rattle.at_wkt.specs.declared.answers.LineFault.{LineFault}
@@ -36,10 +40,14 @@ use Rattle.at_wkt.specs.declared.geometries.Gathered.{Gathered}
 use Rattle.at_wkt.specs.declared.geometries.Progress.{Progress}
 use Rattle.at_text.specs.Faults.{first_of, first_fault}
 use Rattle.at_fixed.specs.declared.rounding.Coords.{Coords}
-use Rattle.at_wkt.specs.Positions.{Position, Positions, value_of, number_fault, pos_of, position_faults, path_of, items_faults, is_closed, last_of, faults_of_line, faults_of_ring}
+use Rattle.at_wkt.specs.Positions.{Position, Positions, value_of, number_fault, pos_of, position_faults, path_of}
+use Rattle.at_wkt.specs.Positions.{items_faults, is_closed, last_of, faults_of_line, faults_of_ring}
 use Rattle.at_geom.specs.declared.shapes.Shape.{Shape}
 use Rattle.at_wkt.specs.Meaning.{both, empty_shape, shape_of, shape_of_all, faults_of, faults_of_all}
-use Rattle.at_wkt.specs.Geometry.{Geometry, point, line_string, polygon, multi_point, multi_line_string, multi_polygon, collection, Geometries, no_geometries, geometry_and, WktLine, SpellsGeometry, SpellsGeometries, SpellsPoint, SpellsList, SpellsArea, EmptyOrParted, SpellsPointMember, is_blank, SpellsFurther, SpellsPosition, SpellsRing, InBrackets}
+use Rattle.at_wkt.specs.Geometry.{Geometry, point, line_string, polygon, multi_point, multi_line_string, multi_polygon}
+use Rattle.at_wkt.specs.Geometry.{collection, Geometries, no_geometries, geometry_and, WktLine, SpellsGeometry}
+use Rattle.at_wkt.specs.Geometry.{SpellsGeometries, SpellsPoint, SpellsList, SpellsArea, EmptyOrParted}
+use Rattle.at_wkt.specs.Geometry.{SpellsPointMember, is_blank, SpellsFurther, SpellsPosition, SpellsRing, InBrackets}
 use Rattle.at_wkt.specs.declared.dimension.Dimension.{Dimension}
 use Rattle.at_wkt.specs.declared.dimension.Dimension.TheVariants.{Open, Fixed}
 
@@ -70,11 +78,14 @@ abbrev pub Allows : Dimension → ℕ → Type 0
 Allows Open d = (2 ≤ d) × (d ≤ 4)
 Allows (Fixed numbers) d = (d ≡ numbers) × (2 ≤ d) × (d ≤ 4)
 
--- A part P of a text says of a count of numbers d, a value, an offset and the bytes that begin there that they spell the value.
+-- A part P of a text says of a count of numbers d, a value, an offset and the bytes that begin there that they spell
+-- the value.
 
--- the text w, whose first byte has the offset `base`, spells the value x from the place i to the place j, where positions may have the
--- counts of c before and those of c' after it; and no other value's spelling agrees with the text up to j
-pub record Spelt {X : Type 0} (P : ℕ → X → ℕ → List ℕ → Type 0) (base : ℕ) (w : List ℕ) (i : ℕ) (c : Dimension) (j : ℕ) (c' : Dimension) (x : X) : Type 0 where
+-- the text w, whose first byte has the offset `base`, spells the value x from the place i to the place j, where
+-- positions may have the counts of c before and those of c' after it; and no other value's spelling agrees with the
+-- text up to j
+pub record Spelt {X : Type 0} (P : ℕ → X → ℕ → List ℕ → Type 0) (base : ℕ) (w : List ℕ) (i : ℕ) (c : Dimension) (j
+    : ℕ) (c' : Dimension) (x : X) : Type 0 where
   pub order : i ≤ j
   pub within : j ≤ length w
   pub some : (d : ℕ) × Allows c' d
@@ -83,15 +94,19 @@ pub record Spelt {X : Type 0} (P : ℕ → X → ℕ → List ℕ → Type 0) (b
   pub only : (d : ℕ) (y : X) (v r s : List ℕ) → Allows c d → P d y (base + i) v → v ++ r ≡ part w i j ++ s
       → (y ≡ x) × (v ≡ part w i j) × Allows c' d
 
--- no value's spelling agrees with the text from the place i through the byte at n, or is the rest of the text, and some agrees up to n
-pub record Stuck {X : Type 0} (P : ℕ → X → ℕ → List ℕ → Type 0) (base : ℕ) (w : List ℕ) (i : ℕ) (c : Dimension) (n : ℕ) : Type 0 where
+-- no value's spelling agrees with the text from the place i through the byte at n, or is the rest of the text, and some
+-- agrees up to n
+pub record Stuck {X : Type 0} (P : ℕ → X → ℕ → List ℕ → Type 0) (base : ℕ) (w : List ℕ) (i : ℕ) (c : Dimension) (n : ℕ)
+    : Type 0 where
   pub order : i ≤ n
   pub within : n ≤ length w
   pub viable : (d : ℕ) × (x : X) × (more : List ℕ) × Allows c d × P d x (base + i) (part w i n ++ more)
-  pub dead : (d : ℕ) (x : X) (v r s : List ℕ) → Allows c d → P d x (base + i) v → v ++ r ≡ part w i n ++ (next w n ∷ s) → ⊥
+  pub dead : (d : ℕ) (x : X) (v r s : List ℕ) → Allows c d → P d x (base + i) v → v ++ r ≡ part w i n ++ (next w n ∷ s)
+      → ⊥
 
 -- where the text spells Q from the place j, it spells P from the place i, and where it is stuck there, it is stuck
-pub record Leads {X Y : Type 0} (P : ℕ → X → ℕ → List ℕ → Type 0) (Q : ℕ → Y → ℕ → List ℕ → Type 0) (base : ℕ) (w : List ℕ)
+pub record Leads {X Y : Type 0} (P : ℕ → X → ℕ → List ℕ → Type 0) (Q : ℕ → Y → ℕ → List ℕ → Type 0) (base : ℕ) (w
+    : List ℕ)
     (i : ℕ) (c : Dimension) (j : ℕ) (c' : Dimension) (f : Y → X) : Type 0 where
   pub spelt : (k : ℕ) (c'' : Dimension) (y : Y) → Spelt Q base w j c' k c'' y → Spelt P base w i c k c'' (f y)
   pub stuck : (n : ℕ) → Stuck Q base w j c' n → Stuck P base w i c n
@@ -144,12 +159,14 @@ RestOf P true d xs at w = (xs ≡ []) × (w ≡ [])
 RestOf P false d xs at w = Items P d xs at w
 
 -- the items so far lead from the first place to the rest
-abbrev pub ItemsRead : {X : Type 0} → (ℕ → X → ℕ → List ℕ → Type 0) → ℕ → List ℕ → ℕ → Dimension → ℕ → Dimension → Bool → List X → Type 0
+abbrev pub ItemsRead : {X : Type 0} → (ℕ → X → ℕ → List ℕ → Type 0) → ℕ → List ℕ → ℕ → Dimension → ℕ → Dimension → Bool
+    → List X → Type 0
 ItemsRead P base w i c j c' last xs = Leads (Items P) (RestOf P last) base w i c j c' (λ ys. xs ++ ys)
 
 -- further numbers behind the first k of a position, up to its delimiter
 abbrev pub FurtherNumbers : ℕ → ℕ → Bool → ℕ → List ℕ → Type 0
-FurtherNumbers k d is_last at w = (ns : List Numeral) × (k + length ns ≡ d) × (SpellsFurther ns ▸ Delimiter d is_last) at w
+FurtherNumbers k d is_last at w = (ns : List Numeral) × (k + length ns ≡ d)
+    × (SpellsFurther ns ▸ Delimiter d is_last) at w
 
 -- some count of numbers is left for positions that have k at least
 abbrev pub Reaches : Dimension → ℕ → Type 0
@@ -262,7 +279,8 @@ pub record PositionStands (rules : Rules) (w : List ℕ) (i : ℕ) (c : Dimensio
 
 -- a position without a fault stands, with its delimiter
 abbrev pub IsPassed : Rules → List ℕ → ℕ → Dimension → NumbersRead → Type 0
-IsPassed rules w i c passed = (read : PositionRead) × PositionStands rules w i c read × (read.fault ≡ None) × (passed ≡ record { is_last = read.is_last; behind = read.behind })
+IsPassed rules w i c passed = (read : PositionRead) × PositionStands rules w i c read × (read.fault ≡ None)
+    × (passed ≡ record { is_last = read.is_last; behind = read.behind })
 
 -- what is wrong with a line or a ring as a whole
 abbrev pub fault_of_path : Role → ℕ → Bool → ℕ → Option Fault
@@ -275,7 +293,8 @@ faults_of_path digits how Line ps = faults_of_line digits how ps
 faults_of_path digits how Ring ps = faults_of_ring digits how ps
 
 -- positions stand up to the closing bracket
-pub record PositionsStand (rules : Rules) (w : List ℕ) (i : ℕ) (c : Dimension) (list : List Pos) (read : ListRead) : Type 0 where
+pub record PositionsStand (rules : Rules) (w : List ℕ) (i : ℕ) (c : Dimension) (list : List Pos) (read : ListRead)
+    : Type 0 where
   pub positions : List Position
   pub spelt : Spelt (Items SpellsPosition) rules.base w i c read.behind.at read.behind.dimension positions
   pub list_is : list ≡ map (pos_of rules.digits rules.how) positions
@@ -285,11 +304,13 @@ pub record PositionsStand (rules : Rules) (w : List ℕ) (i : ℕ) (c : Dimensio
 
 -- two positions are the same, or one of them has a fault
 abbrev pub ends_same : PositionRead → PositionRead → Bool
-ends_same first last = not (is_none first.fault && is_none last.fault) || (int_eq first.pos.x last.pos.x && int_eq first.pos.y last.pos.y)
+ends_same first last = not (is_none first.fault && is_none last.fault)
+    || (int_eq first.pos.x last.pos.x && int_eq first.pos.y last.pos.y)
 
 -- the last of so many positions stands, which closes with the first or not
 abbrev pub IsEndedList : Rules → List ℕ → ℕ → Dimension → PositionRead → ℕ → ListPassed → Type 0
-IsEndedList rules w i c first count passed = (last : PositionRead) × PositionStands rules w i c last × (last.fault ≡ None) × (last.is_last ≡ true)
+IsEndedList rules w i c first count passed = (last : PositionRead) × PositionStands rules w i c last
+    × (last.fault ≡ None) × (last.is_last ≡ true)
     × (passed ≡ record { count = count; closes = ends_same first last; behind = last.behind })
 
 -- so many positions without a fault stand up to the closing bracket
@@ -299,24 +320,28 @@ IsPassedList rules w i c passed = (list : List Pos) × (length list ≡ passed.c
 
 -- so many positions without a fault stand up to the closing bracket, whether they close or not
 abbrev pub IsPassedRow : Rules → List ℕ → ℕ → Dimension → RowPassed → Type 0
-IsPassedRow rules w i c row = (closes : Bool) × IsPassedList rules w i c (record { count = row.count; closes = closes; behind = row.last.behind })
+IsPassedRow rules w i c row = (closes : Bool)
+    × IsPassedList rules w i c (record { count = row.count; closes = closes; behind = row.last.behind })
 
 -- a line or a ring stands
-pub record PathStands (rules : Rules) (w : List ℕ) (i : ℕ) (c : Dimension) (role : Role) (read : PathRead) : Type 0 where
+pub record PathStands (rules : Rules) (w : List ℕ) (i : ℕ) (c : Dimension) (role : Role) (read : PathRead)
+    : Type 0 where
   pub positions : Positions
   pub spelt : Spelt SpellsRing rules.base w i c read.behind.at read.behind.dimension positions
   pub path : read.path.items ≡ path_of rules.digits rules.how positions
   pub fault : read.fault ≡ first_of (faults_of_path rules.digits rules.how role positions)
 
 -- a part stands, of these faults, and what it adds was added
-pub record PartStands {X : Type 0} (P : ℕ → X → ℕ → List ℕ → Type 0) (faults : X → List Fault) (IsAdded : X → Type 0) (base : ℕ) (w : List ℕ) (i : ℕ) (c : Dimension) (read : Read) : Type 0 where
+pub record PartStands {X : Type 0} (P : ℕ → X → ℕ → List ℕ → Type 0) (faults : X → List Fault) (IsAdded : X
+    → Type 0) (base : ℕ) (w : List ℕ) (i : ℕ) (c : Dimension) (read : Read) : Type 0 where
   pub value : X
   pub spelt : Spelt P base w i c read.behind.at read.behind.dimension value
   pub fault : read.fault ≡ first_of (faults value)
   pub added : IsAdded value
 
 -- an item stands with its delimiter
-pub record ItemStands {X : Type 0} (P : ℕ → X → ℕ → List ℕ → Type 0) (faults : X → List Fault) (IsAdded : X → Type 0) (base : ℕ) (w : List ℕ) (i : ℕ) (c : Dimension) (read : ItemRead) : Type 0 where
+pub record ItemStands {X : Type 0} (P : ℕ → X → ℕ → List ℕ → Type 0) (faults : X → List Fault) (IsAdded : X
+    → Type 0) (base : ℕ) (w : List ℕ) (i : ℕ) (c : Dimension) (read : ItemRead) : Type 0 where
   pub value : X
   pub spelt : Spelt (Item P) base w i c read.behind.at read.behind.dimension (value, read.is_last)
   pub fault : read.fault ≡ first_of (faults value)
@@ -324,10 +349,12 @@ pub record ItemStands {X : Type 0} (P : ℕ → X → ℕ → List ℕ → Type 
   pub longer : i < read.behind.at
 
 -- the same without a fault; what it adds isn't kept
-abbrev pub IsPassedPart : {X : Type 0} → (ℕ → X → ℕ → List ℕ → Type 0) → (X → List Fault) → ℕ → List ℕ → ℕ → Dimension → Read → Type 0
+abbrev pub IsPassedPart : {X : Type 0} → (ℕ → X → ℕ → List ℕ → Type 0) → (X → List Fault) → ℕ → List ℕ → ℕ → Dimension
+    → Read → Type 0
 IsPassedPart P faults base w i c read = (read.fault ≡ None) × PartStands P faults (λ _. Unit {0}) base w i c read
 
-abbrev pub IsPassedItem : {X : Type 0} → (ℕ → X → ℕ → List ℕ → Type 0) → (X → List Fault) → ℕ → List ℕ → ℕ → Dimension → ItemRead → Type 0
+abbrev pub IsPassedItem : {X : Type 0} → (ℕ → X → ℕ → List ℕ → Type 0) → (X → List Fault) → ℕ → List ℕ → ℕ → Dimension
+    → ItemRead → Type 0
 IsPassedItem P faults base w i c read = (read.fault ≡ None) × ItemStands P faults (λ _. Unit {0}) base w i c read
 
 module _ (digits : ℕ) (how : Coords) where
@@ -358,7 +385,8 @@ abbrev pub Grows : {X Y : Type 0} → (X → List Y) → List Y → List Y → X
 Grows added old new x = new ≡ old ++ added x
 
 -- the first positions read from a place on: the items so far, the last of which was read as `last`
-pub record PositionsSoFar (rules : Rules) (w : List ℕ) (i : ℕ) (c : Dimension) (first last : PositionRead) (path : List Pos) (fault : Option Fault) : Type 0 where
+pub record PositionsSoFar (rules : Rules) (w : List ℕ) (i : ℕ) (c : Dimension) (first last : PositionRead) (path
+    : List Pos) (fault : Option Fault) : Type 0 where
   pub head : Position
   pub rest : List Position
   pub reads : ItemsRead SpellsPosition rules.base w i c last.behind.at last.behind.dimension last.is_last (head ∷ rest)
@@ -373,7 +401,8 @@ pub record PositionsSoFar (rules : Rules) (w : List ℕ) (i : ℕ) (c : Dimensio
   pub few : i + length (head ∷ rest) ≤ last.behind.at
 
 -- the items read from a place on, with their faults, and what they added to a list
-pub record ItemsSoFar {X Y : Type 0} (P : ℕ → X → ℕ → List ℕ → Type 0) (faults : X → List Fault) (added : X → List Y) (old new : List Y) (base : ℕ) (w : List ℕ) (i : ℕ) (c : Dimension) (last : ItemRead) : Type 0 where
+pub record ItemsSoFar {X Y : Type 0} (P : ℕ → X → ℕ → List ℕ → Type 0) (faults : X → List Fault) (added : X
+    → List Y) (old new : List Y) (base : ℕ) (w : List ℕ) (i : ℕ) (c : Dimension) (last : ItemRead) : Type 0 where
   pub values : List X
   pub reads : ItemsRead P base w i c last.behind.at last.behind.dimension last.is_last values
   pub some : HasCount last.behind.dimension
@@ -402,15 +431,19 @@ abbrev pub Body : Kind → ℕ → Geometry → ℕ → List ℕ → Type 0
 Body Point d g at w = (p : Option Position) × (g ≡ point p) × SpellsPoint d p at w
 Body LineString d g at w = (ps : Option Positions) × (g ≡ line_string ps) × SpellsList d ps at w
 Body Polygon d g at w = (rings : List Positions) × (g ≡ polygon rings) × SpellsArea d rings at w
-Body MultiPoint d g at w = (ps : List (Option Position)) × (g ≡ multi_point ps) × EmptyOrParted (SpellsPointMember d) ps at w
-Body MultiLineString d g at w = (ls : List (Option Positions)) × (g ≡ multi_line_string ls) × EmptyOrParted (SpellsList d) ls at w
-Body MultiPolygon d g at w = (areas : List (List Positions)) × (g ≡ multi_polygon areas) × EmptyOrParted (SpellsArea d) areas at w
+Body MultiPoint d g at w = (ps : List (Option Position)) × (g ≡ multi_point ps)
+    × EmptyOrParted (SpellsPointMember d) ps at w
+Body MultiLineString d g at w = (ls : List (Option Positions)) × (g ≡ multi_line_string ls)
+    × EmptyOrParted (SpellsList d) ls at w
+Body MultiPolygon d g at w = (areas : List (List Positions)) × (g ≡ multi_polygon areas)
+    × EmptyOrParted (SpellsArea d) areas at w
 Body GeometryCollection d g at w = (gs : Geometries) × (g ≡ collection gs) × SpellsGeometries at w gs
 
 -- further geometries of a collection up to its closing bracket, and a part behind it
 abbrev pub FurtherThen : Geometries → (ℕ → List ℕ → Type 0) → ℕ → List ℕ → Type 0
 FurtherThen no_geometries K = Delimiter 0 true ▸ K
-FurtherThen (geometry_and g gs) K = Delimiter 0 false ▸ (Many is_blank ▸ ((λ i v. SpellsGeometry i v g) ▸ FurtherThen gs K))
+FurtherThen (geometry_and g gs) K =
+    Delimiter 0 false ▸ (Many is_blank ▸ ((λ i v. SpellsGeometry i v g) ▸ FurtherThen gs K))
 
 module _ (digits : ℕ) (how : Coords) where
   abbrev pub meaning_of : Geometry → Meaning
@@ -422,11 +455,13 @@ module _ (digits : ℕ) (how : Coords) where
   -- what stands behind a geometry within so many open collections, up to the end of the outermost geometry
   abbrev pub After : ℕ → Meaning → ℕ → List ℕ → Type 0
   After zero m at w = (m ≡ no_meaning) × (w ≡ [])
-  After (suc k) m at w = (gs : Geometries) × (n : Meaning) × (m ≡ joined (meaning_of_all gs) n) × FurtherThen gs (After k n) at w
+  After (suc k) m at w = (gs : Geometries) × (n : Meaning) × (m ≡ joined (meaning_of_all gs) n)
+      × FurtherThen gs (After k n) at w
 
   -- a geometry within so many open collections, and what stands behind it
   abbrev pub Expected : ℕ → Meaning → ℕ → List ℕ → Type 0
-  Expected k m at w = (g : Geometry) × (n : Meaning) × (m ≡ joined (meaning_of g) n) × ((λ i v. SpellsGeometry i v g) ▸ After k n) at w
+  Expected k m at w = (g : Geometry) × (n : Meaning) × (m ≡ joined (meaning_of g) n)
+      × ((λ i v. SpellsGeometry i v g) ▸ After k n) at w
 
 -- the kinds tried so far, none of whose words stands, and the most letters of any of them
 pub record KindsTried (w : List ℕ) (i : ℕ) (longest : ℕ) (tried : List Kind) : Type 0 where
@@ -449,16 +484,20 @@ module _ (digits : ℕ) (how : Coords) where
   Onward false k d m at w = Expected digits how k m at w
 
   -- reading a part has come so far, and what was read means m
-  pub record Advances (P : ℕ → Meaning → ℕ → List ℕ → Type 0) (base : ℕ) (w : List ℕ) (i : ℕ) (progress : Progress) (m : Meaning) : Type 0 where
+  pub record Advances (P : ℕ → Meaning → ℕ → List ℕ → Type 0) (base : ℕ) (w : List ℕ) (i : ℕ) (progress : Progress) (m
+      : Meaning) : Type 0 where
     pub within : progress.at ≤ length w
     pub order : i ≤ progress.at
-    pub spelt : (j : ℕ) (n : Meaning) → Spelt (Onward progress.is_over progress.depth) base w progress.at Open j Open n → Spelt P base w i Open j Open (joined m n)
-    pub stuck : (n : ℕ) → Stuck (Onward progress.is_over progress.depth) base w progress.at Open n → Stuck P base w i Open n
+    pub spelt : (j : ℕ) (n : Meaning) → Spelt (Onward progress.is_over progress.depth) base w progress.at Open j Open n
+        → Spelt P base w i Open j Open (joined m n)
+    pub stuck : (n : ℕ) → Stuck (Onward progress.is_over progress.depth) base w progress.at Open n
+        → Stuck P base w i Open n
 
   -- a body stands, and was added
   pub record BodyStands (base : ℕ) (w : List ℕ) (head : Head) (old new : Gathered) (read : Read) : Type 0 where
     pub geometry : Geometry
-    pub spelt : Spelt (Body head.kind) base w head.behind.at head.behind.dimension read.behind.at read.behind.dimension geometry
+    pub spelt : Spelt (Body head.kind) base w head.behind.at head.behind.dimension read.behind.at read.behind.dimension
+        geometry
     pub points : new.points.items ≡ old.points.items ++ (shape_of digits how geometry).points
     pub lines : new.lines.items ≡ old.lines.items ++ (shape_of digits how geometry).lines
     pub polygons : new.polygons.items ≡ old.polygons.items ++ (shape_of digits how geometry).polygons
@@ -467,10 +506,13 @@ module _ (digits : ℕ) (how : Coords) where
 
   -- a body without a fault stands
   abbrev pub IsPassedBody : ℕ → List ℕ → Head → Read → Type 0
-  IsPassedBody base w head read = (read.fault ≡ None) × ((g : Geometry) × Spelt (Body head.kind) base w head.behind.at head.behind.dimension read.behind.at read.behind.dimension g × (read.fault ≡ first_of (faults_of digits how g)))
+  IsPassedBody base w head read = (read.fault ≡ None)
+      × ((g : Geometry) × Spelt (Body head.kind) base w head.behind.at head.behind.dimension read.behind.at
+      read.behind.dimension g × (read.fault ≡ first_of (faults_of digits how g)))
 
   -- what reading one step gave
-  pub record StepStands (P : ℕ → Meaning → ℕ → List ℕ → Type 0) (base : ℕ) (w : List ℕ) (i : ℕ) (old new : Gathered) (progress : Progress) : Type 0 where
+  pub record StepStands (P : ℕ → Meaning → ℕ → List ℕ → Type 0) (base : ℕ) (w : List ℕ) (i : ℕ) (old new : Gathered)
+      (progress : Progress) : Type 0 where
     pub meaning : Meaning
     pub advances : Advances P base w i progress meaning
     pub gathers : Gathers old new meaning
@@ -485,7 +527,8 @@ module _ (digits : ℕ) (how : Coords) where
 
 -- a geometry without a fault stands
 abbrev pub IsPassedGeometry : Rules → List ℕ → ℕ → ℕ → Type 0
-IsPassedGeometry rules w i end = (m : Meaning) × (first_of m.faults ≡ None) × Spelt (λ d. Expected rules.digits rules.how zero) rules.base w i Open end Open m
+IsPassedGeometry rules w i end = (m : Meaning) × (first_of m.faults ≡ None)
+    × Spelt (λ d. Expected rules.digits rules.how zero) rules.base w i Open end Open m
 
 -- whether the head is that of a collection, and its bracket opens behind it
 abbrev pub opens_at : List ℕ → Head → Bool
@@ -507,7 +550,8 @@ pub record LineStands (digits : ℕ) (how : Coords) (base : ℕ) (w : List ℕ) 
 
 -- what was gathered is the shape of the line and its first fault, and no other is
 abbrev pub IsGatheredLine : Rules → List ℕ → Gathered → Type 0
-IsGatheredLine rules line gathered = SpellsLine rules.digits rules.how rules.base line gathered.fault (gathered_shape gathered)
+IsGatheredLine rules line gathered =
+    SpellsLine rules.digits rules.how rules.base line gathered.fault (gathered_shape gathered)
 
 -- no line goes on at the place
 pub record LineStops (base : ℕ) (w : List ℕ) (n : ℕ) : Type 0 where

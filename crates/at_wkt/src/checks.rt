@@ -1,4 +1,5 @@
-//! Plain geometries without a fault: they are passed over, and what they cover isn't kept. For all others the answer is None.
+//! Plain geometries without a fault: they are passed over, and what they cover isn't kept. For all others the answer is
+//! None.
 
 ghost use Rattle.std.specs.Prelude.{◌≡◌, ◌+◌, ◌<◌, ◌≤◌, ◌^◌, IsTrue, IfSome, None, length, take, flat_map};
 ghost use Rattle.at_geom.specs.declared.shapes.Shape.{Shape};
@@ -7,7 +8,9 @@ ghost use Rattle.at_wkt.specs.Answers.{HasLineShape};
 ghost use Rattle.at_wkt.specs.Geometry.{SpellsArea, SpellsList, SpellsPoint, SpellsRing};
 ghost use Rattle.at_wkt.specs.Meaning.{faults_of_area};
 ghost use Rattle.at_wkt.specs.Positions.{faults_of_ring};
-ghost use Rattle.at_wkt.specs.Reading.{next, ends_same, HasCount, IsEndedList, IsPassedGeometry, IsPassedBody, IsPassedItem, IsPassedList, IsPassedRow, IsPassedPart, Items, faults_of_path, line_faults, point_faults};
+ghost use Rattle.at_wkt.specs.Reading.{next, ends_same, HasCount, IsEndedList, IsPassedGeometry, IsPassedBody};
+ghost use Rattle.at_wkt.specs.Reading.{IsPassedItem, IsPassedList, IsPassedRow, IsPassedPart, Items, faults_of_path};
+ghost use Rattle.at_wkt.specs.Reading.{line_faults, point_faults};
 
 use crate::bytes::{skip_blanks, stands};
 use crate::kinds::{Head, Kind, read_head};
@@ -103,7 +106,8 @@ fn pass_line(source: &Source, from: Place) -> Option<Read>
     requires inside { from.at < length source.now.text.now }
     requires opener { next source.now.text.now from.at ≡ 0x28 }
     requires count { HasCount from.dimension }
-    ensures { IfSome result (IsPassedPart SpellsRing (faults_of_path source.now.rules.digits source.now.rules.how Role.Line) source.now.rules.base source.now.text.now from.at from.dimension) }
+    ensures { IfSome result (IsPassedPart SpellsRing (faults_of_path source.now.rules.digits source.now.rules.how
+        Role.Line) source.now.rules.base source.now.text.now from.at from.dimension) }
 {
     let row = pass_row(
         source,
@@ -126,7 +130,8 @@ fn pass_closed(source: &Source, from: Place) -> Option<Read>
     requires inside { from.at < length source.now.text.now }
     requires opener { next source.now.text.now from.at ≡ 0x28 }
     requires count { HasCount from.dimension }
-    ensures { IfSome result (IsPassedPart SpellsRing (faults_of_path source.now.rules.digits source.now.rules.how Role.Ring) source.now.rules.base source.now.text.now from.at from.dimension) }
+    ensures { IfSome result (IsPassedPart SpellsRing (faults_of_path source.now.rules.digits source.now.rules.how
+        Role.Ring) source.now.rules.base source.now.text.now from.at from.dimension) }
 {
     let list = pass_positions(
         source,
@@ -148,7 +153,8 @@ fn pass_closed(source: &Source, from: Place) -> Option<Read>
 fn pass_ring(source: &Source, from: Place) -> Option<ItemRead>
     requires inside { from.at ≤ length source.now.text.now }
     requires count { HasCount from.dimension }
-    ensures { IfSome result (IsPassedItem SpellsRing (faults_of_ring source.now.rules.digits source.now.rules.how) source.now.rules.base source.now.text.now from.at from.dimension) }
+    ensures { IfSome result (IsPassedItem SpellsRing (faults_of_ring source.now.rules.digits source.now.rules.how)
+        source.now.rules.base source.now.text.now from.at from.dimension) }
 {
     let start = skip_blanks(source.text, from.at);
     if !stands(source.text, start, b'(') {
@@ -165,7 +171,9 @@ fn pass_ring(source: &Source, from: Place) -> Option<ItemRead>
 fn pass_rings(source: &Source, from: Place) -> Option<Read>
     requires inside { from.at ≤ length source.now.text.now }
     requires count { HasCount from.dimension }
-    ensures { IfSome result (IsPassedPart (Items SpellsRing) (flat_map (faults_of_ring source.now.rules.digits source.now.rules.how)) source.now.rules.base source.now.text.now from.at from.dimension) }
+    ensures { IfSome result (IsPassedPart (Items SpellsRing)
+        (flat_map (faults_of_ring source.now.rules.digits source.now.rules.how)) source.now.rules.base
+        source.now.text.now from.at from.dimension) }
 {
     let mut last = first_item(from);
     'rings: while !last.is_last {
@@ -179,7 +187,8 @@ fn pass_rings(source: &Source, from: Place) -> Option<Read>
 fn pass_point(source: &Source, from: Place) -> Option<Read>
     requires inside { from.at ≤ length source.now.text.now }
     requires count { HasCount from.dimension }
-    ensures { IfSome result (IsPassedPart SpellsPoint (point_faults source.now.rules.digits source.now.rules.how) source.now.rules.base source.now.text.now from.at from.dimension) }
+    ensures { IfSome result (IsPassedPart SpellsPoint (point_faults source.now.rules.digits source.now.rules.how)
+        source.now.rules.base source.now.text.now from.at from.dimension) }
 {
     if !stands(source.text, from.at, b'(') {
         return None;
@@ -205,7 +214,8 @@ fn pass_point(source: &Source, from: Place) -> Option<Read>
 fn pass_line_string(source: &Source, from: Place) -> Option<Read>
     requires inside { from.at ≤ length source.now.text.now }
     requires count { HasCount from.dimension }
-    ensures { IfSome result (IsPassedPart SpellsList (line_faults source.now.rules.digits source.now.rules.how) source.now.rules.base source.now.text.now from.at from.dimension) }
+    ensures { IfSome result (IsPassedPart SpellsList (line_faults source.now.rules.digits source.now.rules.how)
+        source.now.rules.base source.now.text.now from.at from.dimension) }
 {
     if !stands(source.text, from.at, b'(') {
         return None;
@@ -218,7 +228,8 @@ fn pass_line_string(source: &Source, from: Place) -> Option<Read>
 fn pass_polygon(source: &Source, from: Place) -> Option<Read>
     requires inside { from.at ≤ length source.now.text.now }
     requires count { HasCount from.dimension }
-    ensures { IfSome result (IsPassedPart SpellsArea (faults_of_area source.now.rules.digits source.now.rules.how) source.now.rules.base source.now.text.now from.at from.dimension) }
+    ensures { IfSome result (IsPassedPart SpellsArea (faults_of_area source.now.rules.digits source.now.rules.how)
+        source.now.rules.base source.now.text.now from.at from.dimension) }
 {
     if !stands(source.text, from.at, b'(') {
         return None;
@@ -237,7 +248,8 @@ fn pass_polygon(source: &Source, from: Place) -> Option<Read>
 fn pass_body(source: &Source, head: Head) -> Option<Read>
     requires inside { head.behind.at ≤ length source.now.text.now }
     requires count { HasCount head.behind.dimension }
-    ensures { IfSome result (IsPassedBody source.now.rules.digits source.now.rules.how source.now.rules.base source.now.text.now head) }
+    ensures { IfSome result (IsPassedBody source.now.rules.digits source.now.rules.how source.now.rules.base
+        source.now.text.now head) }
 {
     match head.kind {
         Kind::Point => {
@@ -270,11 +282,13 @@ fn pass_geometry(source: &Source, at: usize) -> Option<usize>
     }
 }
 
-/// Whether the line that has the first `len` of the bytes is a plain geometry without a fault. For some such lines it says
-/// no. What stands behind the line is looked at together with its last bytes.
+/// Whether the line that has the first `len` of the bytes is a plain geometry without a fault. For some such lines it
+/// says no. What stands behind the line is looked at together with its last bytes.
 pub fn is_plain_line(ahead: &Source, len: usize) -> bool
     requires inside { len ≤ length ahead.now.text.now }
-    ensures { IsTrue result → (shape : Shape) × HasLineShape ahead.now.rules.digits ahead.now.rules.how ahead.now.rules.base (take len ahead.now.text.now) shape }
+    ensures { IsTrue result → (shape : Shape)
+        × HasLineShape ahead.now.rules.digits ahead.now.rules.how ahead.now.rules.base (take len ahead.now.text.now)
+        shape }
 {
     let start = skip_blanks(ahead.text, 0);
     match pass_geometry(ahead, start) {

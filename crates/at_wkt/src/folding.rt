@@ -47,9 +47,9 @@ pub trait Fold: Sync {
         ensures fold { IfOk result (λ part. (before behind : List FileLine) → is_fold self.now left before
             → is_fold self.now right behind → is_fold self.now part (before ++ behind)) };
 
-    /// Puts one line behind those of the part, as `line` and `join` would: a fold that can do it in less has its own body.
-    /// The line is the first `len` of the bytes ahead; those behind it may be looked at, and change nothing. The room
-    /// serves one line after another. The one refusal is want of memory.
+    /// Puts one line behind those of the part, as `line` and `join` would: a fold that can do it in less has its own
+    /// body. The line is the first `len` of the bytes ahead; those behind it may be looked at, and change nothing. The
+    /// room serves one line after another. The one refusal is want of memory.
     fn add(
         &self,
         alloc: Global,
@@ -65,7 +65,8 @@ pub trait Fold: Sync {
         requires one { list_any is_line_feed (take len ahead.now) ≡ false }
         requires some { is_blank_text (take len ahead.now) ≡ false }
         ensures own { IfOk result (λ _. is_own self.now part.new) }
-        ensures fold { IfOk result (λ _. AddsLines (is_fold self.now) part.old (record { at = at; text = take len ahead.now } ∷ []) part.new) }
+        ensures fold { IfOk result
+            (λ _. AddsLines (is_fold self.now) part.old (record { at = at; text = take len ahead.now } ∷ []) part.new) }
     {
         let one = self.line(alloc, &ahead[..len], at)?;
         let before = mem::replace(part, self.none(alloc));
@@ -74,8 +75,8 @@ pub trait Fold: Sync {
     }
 }
 
-/// Puts a piece between two line feeds behind the lines of the part: the first `len` of the bytes ahead. It is passed over
-/// where it has nothing but blanks.
+/// Puts a piece between two line feeds behind the lines of the part: the first `len` of the bytes ahead. It is passed
+/// over where it has nothing but blanks.
 pub fn fold_piece<F: Fold>(
     alloc: Global,
     fold: &F,
@@ -90,7 +91,8 @@ pub fn fold_piece<F: Fold>(
     requires one { list_any is_line_feed (take len ahead.now) ≡ false }
     requires own { F.is_own fold.now part.old }
     ensures own { IfOk result (λ _. F.is_own fold.now part.new) }
-    ensures fold { IfOk result (λ _. AddsLines (F.is_fold fold.now) part.old (lines_in (record { at = at; text = take len ahead.now } ∷ [])) part.new) }
+    ensures fold { IfOk result (λ _. AddsLines (F.is_fold fold.now) part.old
+        (lines_in (record { at = at; text = take len ahead.now } ∷ [])) part.new) }
 {
     let line = line_len(&ahead[..len]);
     if is_blank_line(&ahead[..line]) {

@@ -5,7 +5,8 @@ ghost use Rattle.std.specs.List.{list_any, position_or_len};
 ghost use Rattle.at_text.specs.Texts.{base_of as base_in};
 ghost use Rattle.at_text.specs.Spans.{AreNeighbours, IsMerged, part_of};
 ghost use Rattle.at_wkt.specs.Lines.{lines_of, lines_in, is_line_feed};
-ghost use Rattle.at_wkt.specs.Folding.{AddsLines, HoldsInner, HoldsLines, IsLost, IsPiece, Kept, StandsFor, fragment_of};
+ghost use Rattle.at_wkt.specs.Folding.{AddsLines, HoldsInner, HoldsLines, IsLost, IsPiece, Kept, StandsFor};
+ghost use Rattle.at_wkt.specs.Folding.{fragment_of};
 
 use crate::folding::{Fold, fold_piece};
 use crate::rooms::Room;
@@ -151,7 +152,9 @@ fn fold_span<F: Fold>(
     requires one { list_any is_line_feed (part_of bytes.now span.from span.to) ≡ false }
     requires own { F.is_own fold.now part }
     ensures own { IfOk result (F.is_own fold.now) }
-    ensures fold { IfOk result (AddsLines (F.is_fold fold.now) part (lines_in (record { at = span.from; text = part_of bytes.now span.from span.to } ∷ []))) }
+    ensures fold { IfOk result
+        (AddsLines (F.is_fold fold.now) part
+        (lines_in (record { at = span.from; text = part_of bytes.now span.from span.to } ∷ []))) }
 {
     let piece = &bytes[span.from as usize..span.to as usize];
     let mut room = Room::new(alloc);
@@ -177,8 +180,11 @@ fn merge_whole<F: Fold>(
     right: WholeLines<F::Part>,
 ) -> Result<WholeLines<F::Part>, Memory>
     requires fits { length bytes.now ≤ 2 ^ 28 }
-    requires neighbours { (i : ℕ) × (j : ℕ) × (k : ℕ) × AreNeighbours (StandsFor (Kept (F.is_own fold.now) (F.is_fold fold.now))) bytes.now i j k (LineFragment.Lines left) (LineFragment.Lines right) }
-    ensures { IfOk result (λ both. IsMerged (StandsFor (Kept (F.is_own fold.now) (F.is_fold fold.now))) bytes.now (LineFragment.Lines left) (LineFragment.Lines right) (LineFragment.Lines both)) }
+    requires neighbours { (i : ℕ) × (j : ℕ) × (k : ℕ)
+        × AreNeighbours (StandsFor (Kept (F.is_own fold.now) (F.is_fold fold.now))) bytes.now i j k
+        (LineFragment.Lines left) (LineFragment.Lines right) }
+    ensures { IfOk result (λ both. IsMerged (StandsFor (Kept (F.is_own fold.now) (F.is_fold fold.now))) bytes.now
+        (LineFragment.Lines left) (LineFragment.Lines right) (LineFragment.Lines both)) }
 {
     let broken = joined(left.behind, right.before);
     let added = fold_span(alloc, fold, left.part, bytes, broken)?;
@@ -201,7 +207,8 @@ pub fn merge_lines<F: Fold>(
     right: LineFragment<F::Part>,
 ) -> LineFragment<F::Part>
     requires fits { length bytes.now ≤ 2 ^ 28 }
-    requires neighbours { (i : ℕ) × (j : ℕ) × (k : ℕ) × AreNeighbours (StandsFor (Kept (F.is_own fold.now) (F.is_fold fold.now))) bytes.now i j k left right }
+    requires neighbours { (i : ℕ) × (j : ℕ) × (k : ℕ)
+        × AreNeighbours (StandsFor (Kept (F.is_own fold.now) (F.is_fold fold.now))) bytes.now i j k left right }
     ensures merged { IsMerged (StandsFor (Kept (F.is_own fold.now) (F.is_fold fold.now))) bytes.now left right result }
     ensures left_lost { IsLost left → IsLost result }
     ensures right_lost { IsLost right → IsLost result }
@@ -242,7 +249,8 @@ fn finish_whole<F: Fold>(
     whole: WholeLines<F::Part>,
 ) -> Result<F::Part, Memory>
     requires fits { length bytes.now ≤ 2 ^ 28 }
-    requires whole { HoldsLines (Kept (F.is_own fold.now) (F.is_fold fold.now)) (base_in bytes.now) (drop (base_in bytes.now) bytes.now) whole }
+    requires whole { HoldsLines (Kept (F.is_own fold.now) (F.is_fold fold.now)) (base_in bytes.now)
+        (drop (base_in bytes.now) bytes.now) whole }
     ensures own { IfOk result (F.is_own fold.now) }
     ensures fold { IfOk result (λ part. F.is_fold fold.now part (lines_of bytes.now)) }
 {
@@ -264,7 +272,8 @@ pub fn finish_lines<F: Fold>(
     whole: LineFragment<F::Part>,
 ) -> Result<F::Part, Memory>
     requires fits { length bytes.now ≤ 2 ^ 28 }
-    requires whole { StandsFor (Kept (F.is_own fold.now) (F.is_fold fold.now)) (base_in bytes.now) (drop (base_in bytes.now) bytes.now) whole }
+    requires whole { StandsFor (Kept (F.is_own fold.now) (F.is_fold fold.now)) (base_in bytes.now)
+        (drop (base_in bytes.now) bytes.now) whole }
     ensures own { IfOk result (F.is_own fold.now) }
     ensures fold { IfOk result (λ part. F.is_fold fold.now part (lines_of bytes.now)) }
     ensures lost { IsLost whole → IsErr result }

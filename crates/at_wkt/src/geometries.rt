@@ -3,7 +3,8 @@
 ghost use Rattle.std.specs.Prelude.{◌≡◌, ℕ, ◌+◌, ◌^◌, ◌≤◌, false, zero, None, [], length, MatchResult};
 ghost use Rattle.at_fixed.specs.declared.rounding.Coords.{Coords};
 ghost use Rattle.at_wkt.specs.declared.dimension.Dimension.TheVariants.{Open};
-ghost use Rattle.at_wkt.specs.Reading.{Stuck, HasCount, Body, After, Expected, Advances, BodyStands, StepStands, WholeStands, HeadStands, IfStopped, no_meaning, opens_at};
+ghost use Rattle.at_wkt.specs.Reading.{Stuck, HasCount, Body, After, Expected, Advances, BodyStands, StepStands};
+ghost use Rattle.at_wkt.specs.Reading.{WholeStands, HeadStands, IfStopped, no_meaning, opens_at};
 
 use crate::bytes::{skip_blanks, stands};
 use crate::halts::Halt;
@@ -69,8 +70,10 @@ fn read_body(gathered: &mut Gathered, source: &Source, head: Head) -> Result<Rea
     requires inside { head.behind.at ≤ length source.now.text.now }
     requires count { HasCount head.behind.dimension }
     requires simple { opens_at source.now.text.now head ≡ false }
-    ensures { MatchResult result (BodyStands source.now.rules.digits source.now.rules.how source.now.rules.base source.now.text.now head gathered.old gathered.new)
-        (λ halt. IfStopped halt (Stuck (Body head.kind) source.now.rules.base source.now.text.now head.behind.at head.behind.dimension)) }
+    ensures { MatchResult result (BodyStands source.now.rules.digits source.now.rules.how source.now.rules.base
+        source.now.text.now head gathered.old gathered.new)
+        (λ halt. IfStopped halt (Stuck (Body head.kind) source.now.rules.base source.now.text.now head.behind.at
+        head.behind.dimension)) }
 {
     let from = head.behind;
     match head.kind {
@@ -141,9 +144,11 @@ fn read_simple(
     requires count { HasCount head.behind.dimension }
     requires simple { opens_at source.now.text.now head ≡ false }
     requires deep { from.depth ≤ from.at }
-    ensures { MatchResult result (StepStands source.now.rules.digits source.now.rules.how (λ d. Expected source.now.rules.digits source.now.rules.how from.depth)
+    ensures { MatchResult result (StepStands source.now.rules.digits source.now.rules.how
+        (λ d. Expected source.now.rules.digits source.now.rules.how from.depth)
         source.now.rules.base source.now.text.now from.at gathered.old gathered.new)
-        (λ halt. IfStopped halt (Stuck (λ d. Expected source.now.rules.digits source.now.rules.how from.depth) source.now.rules.base source.now.text.now from.at Open)) }
+        (λ halt. IfStopped halt (Stuck (λ d. Expected source.now.rules.digits source.now.rules.how from.depth)
+        source.now.rules.base source.now.text.now from.at Open)) }
 {
     let read = read_body(gathered, source, head)?;
     gathered.fault = add_fault(gathered.fault, read.fault);
@@ -164,9 +169,11 @@ fn opens_collection(text: &[u8], head: Head) -> bool
 fn read_next(gathered: &mut Gathered, source: &Source, from: Progress) -> Result<Progress, Halt>
     requires inside { from.at ≤ length source.now.text.now }
     requires deep { from.depth ≤ from.at }
-    ensures { MatchResult result (StepStands source.now.rules.digits source.now.rules.how (λ d. Expected source.now.rules.digits source.now.rules.how from.depth)
+    ensures { MatchResult result (StepStands source.now.rules.digits source.now.rules.how
+        (λ d. Expected source.now.rules.digits source.now.rules.how from.depth)
         source.now.rules.base source.now.text.now from.at gathered.old gathered.new)
-        (λ halt. IfStopped halt (Stuck (λ d. Expected source.now.rules.digits source.now.rules.how from.depth) source.now.rules.base source.now.text.now from.at Open)) }
+        (λ halt. IfStopped halt (Stuck (λ d. Expected source.now.rules.digits source.now.rules.how from.depth)
+        source.now.rules.base source.now.text.now from.at Open)) }
 {
     let head = read_head(source.text, from.at)?;
     if opens_collection(source.text, head) {
@@ -184,8 +191,10 @@ fn read_next(gathered: &mut Gathered, source: &Source, from: Progress) -> Result
 /// Reads the geometry that begins at a place of the text, and tells the place behind it.
 pub fn read_whole(gathered: &mut Gathered, source: &Source, at: usize) -> Result<usize, Halt>
     requires inside { at ≤ length source.now.text.now }
-    ensures { MatchResult result (WholeStands source.now.rules.digits source.now.rules.how source.now.rules.base source.now.text.now at gathered.old gathered.new)
-        (λ halt. IfStopped halt (Stuck (λ d. Expected source.now.rules.digits source.now.rules.how zero) source.now.rules.base source.now.text.now at Open)) }
+    ensures { MatchResult result (WholeStands source.now.rules.digits source.now.rules.how source.now.rules.base
+        source.now.text.now at gathered.old gathered.new)
+        (λ halt. IfStopped halt (Stuck (λ d. Expected source.now.rules.digits source.now.rules.how zero)
+        source.now.rules.base source.now.text.now at Open)) }
 {
     let mut progress = Progress {
         at,

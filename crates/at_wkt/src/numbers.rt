@@ -61,7 +61,8 @@ fn coordinate_of(number: Result<i64, FixedFault>, at: u32, end: usize) -> Coordi
 #[inline(always)]
 pub fn read_plain_number(source: &Source, at: usize) -> Option<Coordinate>
     requires inside { at ≤ length source.now.text.now }
-    ensures { IfSome result (λ read. (read.fault ≡ None) × ((n : Numeral) × NumberStands source.now.text.now at read.end n
+    ensures { IfSome result (λ read. (read.fault ≡ None)
+        × ((n : Numeral) × NumberStands source.now.text.now at read.end n
         × IsCoordinate source.now.rules.digits source.now.rules.how n (source.now.rules.base + at) read)) }
 {
     let rules = source.rules;
@@ -77,7 +78,8 @@ pub fn read_plain_number(source: &Source, at: usize) -> Option<Coordinate>
 #[inline(never)]
 fn pass_read_number(source: &Source, at: usize) -> Option<usize>
     requires inside { at ≤ length source.now.text.now }
-    ensures { IfSome result (λ end. (read : CoordinateRead) × (read.fault ≡ None) × ((n : Numeral) × NumberStands source.now.text.now at end n
+    ensures { IfSome result (λ end. (read : CoordinateRead) × (read.fault ≡ None)
+        × ((n : Numeral) × NumberStands source.now.text.now at end n
         × IsCoordinate source.now.rules.digits source.now.rules.how n (source.now.rules.base + at) read)) }
 {
     let read = read_plain_number(source, at)?;
@@ -89,7 +91,8 @@ fn pass_read_number(source: &Source, at: usize) -> Option<usize>
 #[inline(always)]
 pub fn pass_plain_number(source: &Source, at: usize) -> Option<usize>
     requires inside { at ≤ length source.now.text.now }
-    ensures { IfSome result (λ end. (read : CoordinateRead) × (read.fault ≡ None) × ((n : Numeral) × NumberStands source.now.text.now at end n
+    ensures { IfSome result (λ end. (read : CoordinateRead) × (read.fault ≡ None)
+        × ((n : Numeral) × NumberStands source.now.text.now at end n
         × IsCoordinate source.now.rules.digits source.now.rules.how n (source.now.rules.base + at) read)) }
 {
     let rules = source.rules;
@@ -119,7 +122,8 @@ pub fn read_number(source: &Source, at: usize) -> Result<Coordinate, Halt>
 /// The place behind a number whose value isn't used.
 pub fn skip_number(source: &Source, at: usize) -> Result<usize, Halt>
     requires inside { at ≤ length source.now.text.now }
-    ensures { MatchResult result (NumberSkips source.now.text.now at) (λ halt. IfStopped halt (NumberBreaks source.now.text.now at)) }
+    ensures { MatchResult result (NumberSkips source.now.text.now at)
+        (λ halt. IfStopped halt (NumberBreaks source.now.text.now at)) }
 {
     let taken = wkt_number(&source.text[at..]);
     let end = at + taken.len as usize;

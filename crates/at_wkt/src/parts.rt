@@ -3,9 +3,13 @@
 ghost use Rattle.std.specs.Prelude.{◌≡◌, ◌+◌, false, ◌<◌, ◌≤◌, ◌^◌, None, codes, flat_map, length, MatchResult};
 ghost use Rattle.at_text.specs.Faults.{first_fault as the_first};
 ghost use Rattle.at_wkt.specs.Positions.{position_faults, faults_of_ring};
-ghost use Rattle.at_wkt.specs.Geometry.{SpellsPosition, SpellsRing, SpellsList, SpellsPoint, SpellsPointMember, SpellsArea, EmptyOrParted};
+ghost use Rattle.at_wkt.specs.Geometry.{SpellsPosition, SpellsRing, SpellsList, SpellsPoint, SpellsPointMember};
+ghost use Rattle.at_wkt.specs.Geometry.{SpellsArea, EmptyOrParted};
 ghost use Rattle.at_wkt.specs.Meaning.{faults_of_area, polygons_of};
-ghost use Rattle.at_wkt.specs.Reading.{next, Stuck, HasCount, Item, Items, EnclosedPosition, faults_of_path, added_point, point_faults, added_line, line_faults, added_path, added_position, opens, Grows, PartStands, ItemStands, DelimiterStands, DelimiterBreaks, WordStands, WordBreaks, IfStopped};
+ghost use Rattle.at_wkt.specs.Reading.{next, Stuck, HasCount, Item, Items, EnclosedPosition, faults_of_path};
+ghost use Rattle.at_wkt.specs.Reading.{added_point, point_faults, added_line, line_faults, added_path, added_position};
+ghost use Rattle.at_wkt.specs.Reading.{opens, Grows, PartStands, ItemStands, DelimiterStands, DelimiterBreaks};
+ghost use Rattle.at_wkt.specs.Reading.{WordStands, WordBreaks, IfStopped};
 
 use crate::bytes::{letter_stands, skip_blanks, stands};
 use crate::halts::Halt;
@@ -35,7 +39,8 @@ pub struct ItemRead {
 /// Reads the word EMPTY, which adds nothing.
 pub fn read_nothing(text: &[u8], from: Place) -> Result<Read, Halt>
     requires { from.at ≤ length text.now }
-    ensures { MatchResult result (λ read. WordStands text.now from.at read.behind.at (codes "EMPTY") × (read.fault ≡ None)
+    ensures { MatchResult result (λ read. WordStands text.now from.at read.behind.at (codes "EMPTY")
+        × (read.fault ≡ None)
         × (read.behind.dimension ≡ from.dimension))
         (λ halt. IfStopped halt (λ n. WordBreaks text.now from.at n (codes "EMPTY"))) }
 {
@@ -51,9 +56,12 @@ fn read_enclosed(points: &mut Vec<Pos>, source: &Source, from: Place) -> Result<
     requires inside { from.at < length source.now.text.now }
     requires opener { next source.now.text.now from.at ≡ 0x28 }
     requires count { HasCount from.dimension }
-    ensures { MatchResult result (PartStands EnclosedPosition (position_faults source.now.rules.digits source.now.rules.how)
-        (Grows (added_position source.now.rules.digits source.now.rules.how) points.old.items points.new.items) source.now.rules.base source.now.text.now from.at from.dimension)
-        (λ halt. IfStopped halt (Stuck EnclosedPosition source.now.rules.base source.now.text.now from.at from.dimension)) }
+    ensures { MatchResult result
+        (PartStands EnclosedPosition (position_faults source.now.rules.digits source.now.rules.how)
+        (Grows (added_position source.now.rules.digits source.now.rules.how) points.old.items points.new.items)
+        source.now.rules.base source.now.text.now from.at from.dimension)
+        (λ halt. IfStopped halt (Stuck EnclosedPosition source.now.rules.base source.now.text.now from.at
+        from.dimension)) }
 {
     let read = read_position::<POINT>(
         source,
@@ -77,7 +85,8 @@ pub fn read_point(points: &mut Vec<Pos>, source: &Source, from: Place) -> Result
     requires inside { from.at ≤ length source.now.text.now }
     requires count { HasCount from.dimension }
     ensures { MatchResult result (PartStands SpellsPoint (point_faults source.now.rules.digits source.now.rules.how)
-        (Grows (added_point source.now.rules.digits source.now.rules.how) points.old.items points.new.items) source.now.rules.base source.now.text.now from.at from.dimension)
+        (Grows (added_point source.now.rules.digits source.now.rules.how) points.old.items points.new.items)
+        source.now.rules.base source.now.text.now from.at from.dimension)
         (λ halt. IfStopped halt (Stuck SpellsPoint source.now.rules.base source.now.text.now from.at from.dimension)) }
 {
     if stands(source.text, from.at, b'(') {
@@ -98,8 +107,10 @@ fn read_added(
     requires inside { from.at < length source.now.text.now }
     requires opener { next source.now.text.now from.at ≡ 0x28 }
     requires count { HasCount from.dimension }
-    ensures { MatchResult result (PartStands SpellsRing (faults_of_path source.now.rules.digits source.now.rules.how role)
-        (Grows (added_path source.now.rules.digits source.now.rules.how) paths.old.items paths.new.items) source.now.rules.base source.now.text.now from.at from.dimension)
+    ensures { MatchResult result
+        (PartStands SpellsRing (faults_of_path source.now.rules.digits source.now.rules.how role)
+        (Grows (added_path source.now.rules.digits source.now.rules.how) paths.old.items paths.new.items)
+        source.now.rules.base source.now.text.now from.at from.dimension)
         (λ halt. IfStopped halt (Stuck SpellsRing source.now.rules.base source.now.text.now from.at from.dimension)) }
 {
     let read = read_path(maker, source, from, role)?;
@@ -120,7 +131,8 @@ pub fn read_line_string(
     requires inside { from.at ≤ length source.now.text.now }
     requires count { HasCount from.dimension }
     ensures { MatchResult result (PartStands SpellsList (line_faults source.now.rules.digits source.now.rules.how)
-        (Grows (added_line source.now.rules.digits source.now.rules.how) lines.old.items lines.new.items) source.now.rules.base source.now.text.now from.at from.dimension)
+        (Grows (added_line source.now.rules.digits source.now.rules.how) lines.old.items lines.new.items)
+        source.now.rules.base source.now.text.now from.at from.dimension)
         (λ halt. IfStopped halt (Stuck SpellsList source.now.rules.base source.now.text.now from.at from.dimension)) }
 {
     if stands(source.text, from.at, b'(') {
@@ -158,8 +170,10 @@ fn read_ring(
     requires inside { from.at ≤ length source.now.text.now }
     requires count { HasCount from.dimension }
     ensures { MatchResult result (ItemStands SpellsRing (faults_of_ring source.now.rules.digits source.now.rules.how)
-        (Grows (added_path source.now.rules.digits source.now.rules.how) rings.old.items rings.new.items) source.now.rules.base source.now.text.now from.at from.dimension)
-        (λ halt. IfStopped halt (Stuck (Item SpellsRing) source.now.rules.base source.now.text.now from.at from.dimension)) }
+        (Grows (added_path source.now.rules.digits source.now.rules.how) rings.old.items rings.new.items)
+        source.now.rules.base source.now.text.now from.at from.dimension)
+        (λ halt. IfStopped halt (Stuck (Item SpellsRing) source.now.rules.base source.now.text.now from.at
+        from.dimension)) }
 {
     let start = skip_blanks(source.text, from.at);
     if !stands(source.text, start, b'(') {
@@ -188,7 +202,11 @@ pub fn first_item(from: Place) -> ItemRead
 
 /// The items so far and one more.
 pub fn next_item(last: ItemRead, item: ItemRead) -> ItemRead
-    ensures { result ≡ record { fault = the_first last.fault item.fault; is_last = item.is_last; behind = item.behind } }
+    ensures { result ≡ record {
+      fault = the_first last.fault item.fault;
+      is_last = item.is_last;
+      behind = item.behind;
+    } }
 {
     ItemRead {
         fault: add_fault(last.fault, item.fault),
@@ -216,9 +234,12 @@ fn read_rings(
 ) -> Result<Read, Halt>
     requires inside { from.at ≤ length source.now.text.now }
     requires count { HasCount from.dimension }
-    ensures { MatchResult result (PartStands (Items SpellsRing) (flat_map (faults_of_ring source.now.rules.digits source.now.rules.how))
-        (Grows (flat_map (added_path source.now.rules.digits source.now.rules.how)) rings.old.items rings.new.items) source.now.rules.base source.now.text.now from.at from.dimension)
-        (λ halt. IfStopped halt (Stuck (Items SpellsRing) source.now.rules.base source.now.text.now from.at from.dimension)) }
+    ensures { MatchResult result
+        (PartStands (Items SpellsRing) (flat_map (faults_of_ring source.now.rules.digits source.now.rules.how))
+        (Grows (flat_map (added_path source.now.rules.digits source.now.rules.how)) rings.old.items rings.new.items)
+        source.now.rules.base source.now.text.now from.at from.dimension)
+        (λ halt. IfStopped halt (Stuck (Items SpellsRing) source.now.rules.base source.now.text.now from.at
+        from.dimension)) }
 {
     let mut last = first_item(from);
     'rings: while !last.is_last {
@@ -237,9 +258,12 @@ fn read_area(
 ) -> Result<Read, Halt>
     requires inside { from.at ≤ length source.now.text.now }
     requires count { HasCount from.dimension }
-    ensures { MatchResult result (PartStands (Items SpellsRing) (faults_of_area source.now.rules.digits source.now.rules.how)
-        (Grows (polygons_of source.now.rules.digits source.now.rules.how) polygons.old.items polygons.new.items) source.now.rules.base source.now.text.now from.at from.dimension)
-        (λ halt. IfStopped halt (Stuck (Items SpellsRing) source.now.rules.base source.now.text.now from.at from.dimension)) }
+    ensures { MatchResult result
+        (PartStands (Items SpellsRing) (faults_of_area source.now.rules.digits source.now.rules.how)
+        (Grows (polygons_of source.now.rules.digits source.now.rules.how) polygons.old.items polygons.new.items)
+        source.now.rules.base source.now.text.now from.at from.dimension)
+        (λ halt. IfStopped halt (Stuck (Items SpellsRing) source.now.rules.base source.now.text.now from.at
+        from.dimension)) }
 {
     let mut rings = empty_rings(maker);
     let read = read_rings(&mut rings, maker, source, from)?;
@@ -259,7 +283,8 @@ pub fn read_polygon(
     requires inside { from.at ≤ length source.now.text.now }
     requires count { HasCount from.dimension }
     ensures { MatchResult result (PartStands SpellsArea (faults_of_area source.now.rules.digits source.now.rules.how)
-        (Grows (polygons_of source.now.rules.digits source.now.rules.how) polygons.old.items polygons.new.items) source.now.rules.base source.now.text.now from.at from.dimension)
+        (Grows (polygons_of source.now.rules.digits source.now.rules.how) polygons.old.items polygons.new.items)
+        source.now.rules.base source.now.text.now from.at from.dimension)
         (λ halt. IfStopped halt (Stuck SpellsArea source.now.rules.base source.now.text.now from.at from.dimension)) }
 {
     if stands(source.text, from.at, b'(') {
@@ -281,9 +306,12 @@ pub fn read_polygon(
 fn read_bare(points: &mut Vec<Pos>, source: &Source, from: Place) -> Result<ItemRead, Halt>
     requires inside { from.at ≤ length source.now.text.now }
     requires count { HasCount from.dimension }
-    ensures { MatchResult result (ItemStands SpellsPosition (position_faults source.now.rules.digits source.now.rules.how)
-        (Grows (added_position source.now.rules.digits source.now.rules.how) points.old.items points.new.items) source.now.rules.base source.now.text.now from.at from.dimension)
-        (λ halt. IfStopped halt (Stuck (Item SpellsPosition) source.now.rules.base source.now.text.now from.at from.dimension)) }
+    ensures { MatchResult result
+        (ItemStands SpellsPosition (position_faults source.now.rules.digits source.now.rules.how)
+        (Grows (added_position source.now.rules.digits source.now.rules.how) points.old.items points.new.items)
+        source.now.rules.base source.now.text.now from.at from.dimension)
+        (λ halt. IfStopped halt (Stuck (Item SpellsPosition) source.now.rules.base source.now.text.now from.at
+        from.dimension)) }
 {
     let read = read_position::<BARE_POINT>(source, from)?;
     points.push(read.pos)?;
@@ -305,9 +333,12 @@ fn opener_stands(text: &[u8], at: usize) -> bool
 fn read_point_member(points: &mut Vec<Pos>, source: &Source, from: Place) -> Result<ItemRead, Halt>
     requires inside { from.at ≤ length source.now.text.now }
     requires count { HasCount from.dimension }
-    ensures { MatchResult result (ItemStands SpellsPointMember (point_faults source.now.rules.digits source.now.rules.how)
-        (Grows (added_point source.now.rules.digits source.now.rules.how) points.old.items points.new.items) source.now.rules.base source.now.text.now from.at from.dimension)
-        (λ halt. IfStopped halt (Stuck (Item SpellsPointMember) source.now.rules.base source.now.text.now from.at from.dimension)) }
+    ensures { MatchResult result
+        (ItemStands SpellsPointMember (point_faults source.now.rules.digits source.now.rules.how)
+        (Grows (added_point source.now.rules.digits source.now.rules.how) points.old.items points.new.items)
+        source.now.rules.base source.now.text.now from.at from.dimension)
+        (λ halt. IfStopped halt (Stuck (Item SpellsPointMember) source.now.rules.base source.now.text.now from.at
+        from.dimension)) }
 {
     let start = skip_blanks(source.text, from.at);
     if opener_stands(source.text, start) {
@@ -322,9 +353,12 @@ fn read_point_member(points: &mut Vec<Pos>, source: &Source, from: Place) -> Res
 fn read_point_members(points: &mut Vec<Pos>, source: &Source, from: Place) -> Result<Read, Halt>
     requires inside { from.at ≤ length source.now.text.now }
     requires count { HasCount from.dimension }
-    ensures { MatchResult result (PartStands (Items SpellsPointMember) (flat_map (point_faults source.now.rules.digits source.now.rules.how))
-        (Grows (flat_map (added_point source.now.rules.digits source.now.rules.how)) points.old.items points.new.items) source.now.rules.base source.now.text.now from.at from.dimension)
-        (λ halt. IfStopped halt (Stuck (Items SpellsPointMember) source.now.rules.base source.now.text.now from.at from.dimension)) }
+    ensures { MatchResult result
+        (PartStands (Items SpellsPointMember) (flat_map (point_faults source.now.rules.digits source.now.rules.how))
+        (Grows (flat_map (added_point source.now.rules.digits source.now.rules.how)) points.old.items points.new.items)
+        source.now.rules.base source.now.text.now from.at from.dimension)
+        (λ halt. IfStopped halt (Stuck (Items SpellsPointMember) source.now.rules.base source.now.text.now from.at
+        from.dimension)) }
 {
     let mut last = first_item(from);
     'members: while !last.is_last {
@@ -338,9 +372,12 @@ fn read_point_members(points: &mut Vec<Pos>, source: &Source, from: Place) -> Re
 pub fn read_points(points: &mut Vec<Pos>, source: &Source, from: Place) -> Result<Read, Halt>
     requires inside { from.at ≤ length source.now.text.now }
     requires count { HasCount from.dimension }
-    ensures { MatchResult result (PartStands (λ d ps. EmptyOrParted (SpellsPointMember d) ps) (flat_map (point_faults source.now.rules.digits source.now.rules.how))
-        (Grows (flat_map (added_point source.now.rules.digits source.now.rules.how)) points.old.items points.new.items) source.now.rules.base source.now.text.now from.at from.dimension)
-        (λ halt. IfStopped halt (Stuck (λ d ps. EmptyOrParted (SpellsPointMember d) ps) source.now.rules.base source.now.text.now from.at from.dimension)) }
+    ensures { MatchResult result (PartStands (λ d ps. EmptyOrParted (SpellsPointMember d) ps)
+        (flat_map (point_faults source.now.rules.digits source.now.rules.how))
+        (Grows (flat_map (added_point source.now.rules.digits source.now.rules.how)) points.old.items points.new.items)
+        source.now.rules.base source.now.text.now from.at from.dimension)
+        (λ halt. IfStopped halt (Stuck (λ d ps. EmptyOrParted (SpellsPointMember d) ps) source.now.rules.base
+        source.now.text.now from.at from.dimension)) }
 {
     if stands(source.text, from.at, b'(') {
         read_point_members(
@@ -366,8 +403,10 @@ fn read_line_member(
     requires inside { from.at ≤ length source.now.text.now }
     requires count { HasCount from.dimension }
     ensures { MatchResult result (ItemStands SpellsList (line_faults source.now.rules.digits source.now.rules.how)
-        (Grows (added_line source.now.rules.digits source.now.rules.how) lines.old.items lines.new.items) source.now.rules.base source.now.text.now from.at from.dimension)
-        (λ halt. IfStopped halt (Stuck (Item SpellsList) source.now.rules.base source.now.text.now from.at from.dimension)) }
+        (Grows (added_line source.now.rules.digits source.now.rules.how) lines.old.items lines.new.items)
+        source.now.rules.base source.now.text.now from.at from.dimension)
+        (λ halt. IfStopped halt (Stuck (Item SpellsList) source.now.rules.base source.now.text.now from.at
+        from.dimension)) }
 {
     let start = skip_blanks(source.text, from.at);
     let line = read_line_string(lines, maker, source, Place { at: start, ..from })?;
@@ -383,9 +422,12 @@ fn read_line_members(
 ) -> Result<Read, Halt>
     requires inside { from.at ≤ length source.now.text.now }
     requires count { HasCount from.dimension }
-    ensures { MatchResult result (PartStands (Items SpellsList) (flat_map (line_faults source.now.rules.digits source.now.rules.how))
-        (Grows (flat_map (added_line source.now.rules.digits source.now.rules.how)) lines.old.items lines.new.items) source.now.rules.base source.now.text.now from.at from.dimension)
-        (λ halt. IfStopped halt (Stuck (Items SpellsList) source.now.rules.base source.now.text.now from.at from.dimension)) }
+    ensures { MatchResult result
+        (PartStands (Items SpellsList) (flat_map (line_faults source.now.rules.digits source.now.rules.how))
+        (Grows (flat_map (added_line source.now.rules.digits source.now.rules.how)) lines.old.items lines.new.items)
+        source.now.rules.base source.now.text.now from.at from.dimension)
+        (λ halt. IfStopped halt (Stuck (Items SpellsList) source.now.rules.base source.now.text.now from.at
+        from.dimension)) }
 {
     let mut last = first_item(from);
     'members: while !last.is_last {
@@ -404,9 +446,12 @@ pub fn read_line_strings(
 ) -> Result<Read, Halt>
     requires inside { from.at ≤ length source.now.text.now }
     requires count { HasCount from.dimension }
-    ensures { MatchResult result (PartStands (λ d ls. EmptyOrParted (SpellsList d) ls) (flat_map (line_faults source.now.rules.digits source.now.rules.how))
-        (Grows (flat_map (added_line source.now.rules.digits source.now.rules.how)) lines.old.items lines.new.items) source.now.rules.base source.now.text.now from.at from.dimension)
-        (λ halt. IfStopped halt (Stuck (λ d ls. EmptyOrParted (SpellsList d) ls) source.now.rules.base source.now.text.now from.at from.dimension)) }
+    ensures { MatchResult result (PartStands (λ d ls. EmptyOrParted (SpellsList d) ls)
+        (flat_map (line_faults source.now.rules.digits source.now.rules.how))
+        (Grows (flat_map (added_line source.now.rules.digits source.now.rules.how)) lines.old.items lines.new.items)
+        source.now.rules.base source.now.text.now from.at from.dimension)
+        (λ halt. IfStopped halt (Stuck (λ d ls. EmptyOrParted (SpellsList d) ls) source.now.rules.base
+        source.now.text.now from.at from.dimension)) }
 {
     if stands(source.text, from.at, b'(') {
         read_line_members(
@@ -433,8 +478,10 @@ fn read_polygon_member(
     requires inside { from.at ≤ length source.now.text.now }
     requires count { HasCount from.dimension }
     ensures { MatchResult result (ItemStands SpellsArea (faults_of_area source.now.rules.digits source.now.rules.how)
-        (Grows (polygons_of source.now.rules.digits source.now.rules.how) polygons.old.items polygons.new.items) source.now.rules.base source.now.text.now from.at from.dimension)
-        (λ halt. IfStopped halt (Stuck (Item SpellsArea) source.now.rules.base source.now.text.now from.at from.dimension)) }
+        (Grows (polygons_of source.now.rules.digits source.now.rules.how) polygons.old.items polygons.new.items)
+        source.now.rules.base source.now.text.now from.at from.dimension)
+        (λ halt. IfStopped halt (Stuck (Item SpellsArea) source.now.rules.base source.now.text.now from.at
+        from.dimension)) }
 {
     let start = skip_blanks(source.text, from.at);
     let polygon = read_polygon(polygons, maker, source, Place { at: start, ..from })?;
@@ -450,9 +497,12 @@ fn read_polygon_members(
 ) -> Result<Read, Halt>
     requires inside { from.at ≤ length source.now.text.now }
     requires count { HasCount from.dimension }
-    ensures { MatchResult result (PartStands (Items SpellsArea) (flat_map (faults_of_area source.now.rules.digits source.now.rules.how))
-        (Grows (flat_map (polygons_of source.now.rules.digits source.now.rules.how)) polygons.old.items polygons.new.items) source.now.rules.base source.now.text.now from.at from.dimension)
-        (λ halt. IfStopped halt (Stuck (Items SpellsArea) source.now.rules.base source.now.text.now from.at from.dimension)) }
+    ensures { MatchResult result
+        (PartStands (Items SpellsArea) (flat_map (faults_of_area source.now.rules.digits source.now.rules.how))
+        (Grows (flat_map (polygons_of source.now.rules.digits source.now.rules.how)) polygons.old.items
+        polygons.new.items) source.now.rules.base source.now.text.now from.at from.dimension)
+        (λ halt. IfStopped halt (Stuck (Items SpellsArea) source.now.rules.base source.now.text.now from.at
+        from.dimension)) }
 {
     let mut last = first_item(from);
     'members: while !last.is_last {
@@ -471,9 +521,12 @@ pub fn read_polygons(
 ) -> Result<Read, Halt>
     requires inside { from.at ≤ length source.now.text.now }
     requires count { HasCount from.dimension }
-    ensures { MatchResult result (PartStands (λ d areas. EmptyOrParted (SpellsArea d) areas) (flat_map (faults_of_area source.now.rules.digits source.now.rules.how))
-        (Grows (flat_map (polygons_of source.now.rules.digits source.now.rules.how)) polygons.old.items polygons.new.items) source.now.rules.base source.now.text.now from.at from.dimension)
-        (λ halt. IfStopped halt (Stuck (λ d areas. EmptyOrParted (SpellsArea d) areas) source.now.rules.base source.now.text.now from.at from.dimension)) }
+    ensures { MatchResult result (PartStands (λ d areas. EmptyOrParted (SpellsArea d) areas)
+        (flat_map (faults_of_area source.now.rules.digits source.now.rules.how))
+        (Grows (flat_map (polygons_of source.now.rules.digits source.now.rules.how)) polygons.old.items
+        polygons.new.items) source.now.rules.base source.now.text.now from.at from.dimension)
+        (λ halt. IfStopped halt (Stuck (λ d areas. EmptyOrParted (SpellsArea d) areas) source.now.rules.base
+        source.now.text.now from.at from.dimension)) }
 {
     if stands(source.text, from.at, b'(') {
         read_polygon_members(

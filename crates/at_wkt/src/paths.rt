@@ -5,7 +5,8 @@ ghost use Rattle.std.specs.Ordering.{int_eq};
 ghost use Rattle.at_text.specs.Faults.{first_fault as the_first};
 ghost use Rattle.at_wkt.specs.declared.halts.Halt.TheVariants.{Memory};
 ghost use Rattle.at_wkt.specs.Geometry.{SpellsPosition, SpellsRing};
-ghost use Rattle.at_wkt.specs.Reading.{next, Stuck, HasCount, Item, Items, PositionStands, PositionsStand, PathStands, fault_of_path, IfStopped};
+ghost use Rattle.at_wkt.specs.Reading.{next, Stuck, HasCount, Item, Items, PositionStands, PositionsStand, PathStands};
+ghost use Rattle.at_wkt.specs.Reading.{fault_of_path, IfStopped};
 
 use crate::halts::Halt;
 use crate::positions::{PositionRead, read_position};
@@ -41,8 +42,8 @@ pub struct PathRead {
     pub behind: Place,
 }
 
-/// What paths are made with: where their room is taken, how many positions the one before had, and the room of a path and of
-/// a list of rings that were let go. The next path is expected to have as many positions as the one before.
+/// What paths are made with: where their room is taken, how many positions the one before had, and the room of a path
+/// and of a list of rings that were let go. The next path is expected to have as many positions as the one before.
 #[derive(Drop)]
 pub struct Maker {
     pub alloc: Global,
@@ -118,8 +119,10 @@ fn read_positions(path: &mut Vec<Pos>, source: &Source, from: Place) -> Result<L
     requires none { path.old.items ≡ [] }
     requires inside { from.at ≤ length source.now.text.now }
     requires count { HasCount from.dimension }
-    ensures { MatchResult result (PositionsStand source.now.rules source.now.text.now from.at from.dimension path.new.items)
-        (λ halt. IfStopped halt (Stuck (Items SpellsPosition) source.now.rules.base source.now.text.now from.at from.dimension)) }
+    ensures { MatchResult result (PositionsStand source.now.rules source.now.text.now from.at from.dimension
+        path.new.items)
+        (λ halt. IfStopped halt (Stuck (Items SpellsPosition) source.now.rules.base source.now.text.now from.at
+        from.dimension)) }
 {
     let first = read_position::<FIRST>(source, from)?;
     path.push(first.pos)?;

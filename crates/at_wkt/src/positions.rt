@@ -2,7 +2,9 @@
 
 ghost use Rattle.std.specs.Prelude.{◌≡◌, ℕ, ◌+◌, ◌<◌, ◌≤◌, ◌^◌, ◌⊎◌, true, false, IfSome, length, None, MatchResult};
 ghost use Rattle.at_wkt.specs.Geometry.{SpellsPosition};
-ghost use Rattle.at_wkt.specs.Reading.{next, allows, Spelt, Stuck, HasCount, Reaches, Item, FurtherNumbers, delimiter, is_delimiter, DelimiterStands, DelimiterBreaks, PositionStands, IfStopped, IsPassed};
+ghost use Rattle.at_wkt.specs.Reading.{next, allows, Spelt, Stuck, HasCount, Reaches, Item, FurtherNumbers, delimiter};
+ghost use Rattle.at_wkt.specs.Reading.{is_delimiter, DelimiterStands, DelimiterBreaks, PositionStands, IfStopped};
+ghost use Rattle.at_wkt.specs.Reading.{IsPassed};
 ghost use Rattle.at_wkt.specs.declared.dimension.Dimension.TheVariants.{Fixed};
 
 use crate::bytes::{skip_blanks, stands};
@@ -84,8 +86,10 @@ fn read_further(source: &Source, from: Place, count: u8) -> Result<NumbersRead, 
     requires two { 2 ≤ count }
     requires reaches { Reaches from.dimension count }
     ensures { MatchResult result (λ read. (base : ℕ)
-        → Spelt (FurtherNumbers count) base source.now.text.now from.at from.dimension read.behind.at read.behind.dimension read.is_last)
-        (λ halt. IfStopped halt (λ n. (base : ℕ) → Stuck (FurtherNumbers count) base source.now.text.now from.at from.dimension n)) }
+        → Spelt (FurtherNumbers count) base source.now.text.now from.at from.dimension read.behind.at
+        read.behind.dimension read.is_last)
+        (λ halt. IfStopped halt (λ n. (base : ℕ)
+        → Stuck (FurtherNumbers count) base source.now.text.now from.at from.dimension n)) }
 {
     let dimension = from.dimension;
     let next = skip_blanks(source.text, from.at);
@@ -135,8 +139,8 @@ fn behind_byte(text: &[u8], at: usize) -> usize
     at + 1
 }
 
-/// The place behind the space that may stand at a place. All over a file it mostly stands or mostly doesn't, and a place that is
-/// computed from the byte would make the next number wait for it.
+/// The place behind the space that may stand at a place. All over a file it mostly stands or mostly doesn't, and a
+/// place that is computed from the byte would make the next number wait for it.
 #[inline(always)]
 fn skip_space(text: &[u8], at: usize) -> usize
     ensures { ((result ≡ at + 1) × (next text.now at ≡ 0x20)) ⊎ (result ≡ at) }
@@ -154,8 +158,10 @@ fn read_behind(source: &Source, from: Place) -> Result<NumbersRead, Halt>
     requires inside { from.at ≤ length source.now.text.now }
     requires reaches { Reaches from.dimension 2 }
     ensures { MatchResult result (λ read. (base : ℕ)
-        → Spelt (FurtherNumbers 2) base source.now.text.now from.at from.dimension read.behind.at read.behind.dimension read.is_last)
-        (λ halt. IfStopped halt (λ n. (base : ℕ) → Stuck (FurtherNumbers 2) base source.now.text.now from.at from.dimension n)) }
+        → Spelt (FurtherNumbers 2) base source.now.text.now from.at from.dimension read.behind.at read.behind.dimension
+        read.is_last)
+        (λ halt. IfStopped halt (λ n. (base : ℕ)
+        → Stuck (FurtherNumbers 2) base source.now.text.now from.at from.dimension n)) }
 {
     if delimiter_stands(source.text, from.at) {
         end_position(source.text, from, 2)
@@ -222,7 +228,8 @@ fn any_position(source: &Source, from: Place) -> Result<PositionRead, Halt>
     requires inside { from.at ≤ length source.now.text.now }
     requires count { HasCount from.dimension }
     ensures { MatchResult result (PositionStands source.now.rules source.now.text.now from.at from.dimension)
-        (λ halt. IfStopped halt (Stuck (Item SpellsPosition) source.now.rules.base source.now.text.now from.at from.dimension)) }
+        (λ halt. IfStopped halt (Stuck (Item SpellsPosition) source.now.rules.base source.now.text.now from.at
+        from.dimension)) }
 {
     let start = skip_blanks(source.text, from.at);
     let x = read_number(source, start)?;
@@ -250,7 +257,8 @@ pub fn read_position<const SITE: usize>(source: &Source, from: Place) -> Result<
     requires inside { from.at ≤ length source.now.text.now }
     requires count { HasCount from.dimension }
     ensures { MatchResult result (PositionStands source.now.rules source.now.text.now from.at from.dimension)
-        (λ halt. IfStopped halt (Stuck (Item SpellsPosition) source.now.rules.base source.now.text.now from.at from.dimension)) }
+        (λ halt. IfStopped halt (Stuck (Item SpellsPosition) source.now.rules.base source.now.text.now from.at
+        from.dimension)) }
 {
     match plain_position::<SITE>(source, from) {
         Some(read) => Ok(read),

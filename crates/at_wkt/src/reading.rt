@@ -2,7 +2,8 @@
 
 ghost use Rattle.std.specs.Prelude.{◌≡◌, [], None, ◌+◌, ◌^◌, ◌≤◌, IsTrue, length, take, MatchResult};
 ghost use Rattle.at_text.specs.Syntax.{stop_fault};
-ghost use Rattle.at_wkt.specs.Reading.{refusal as refusal_at, gathered_shape, kept_shape as shape_kept, line_answer as answer_of, IsGatheredLine, LineStands, LineStops, IfStopped};
+ghost use Rattle.at_wkt.specs.Reading.{refusal as refusal_at, gathered_shape, kept_shape as shape_kept};
+ghost use Rattle.at_wkt.specs.Reading.{line_answer as answer_of, IsGatheredLine, LineStands, LineStops, IfStopped};
 ghost use Rattle.at_wkt.specs.Answers.{IfFound, HasLineShape, HasFirstLineFault, IsPrefixOf, IsPrefixFault};
 
 use crate::answers::{LineFault, Prefix};
@@ -128,7 +129,8 @@ pub fn read_geometry(
 
 /// Reads blanks, a geometry and blanks, up to the text's end.
 pub fn read_between(gathered: &mut Gathered, source: &Source) -> Result<(), Halt>
-    ensures { MatchResult result (λ _. LineStands source.now.rules.digits source.now.rules.how source.now.rules.base source.now.text.now gathered.old gathered.new)
+    ensures { MatchResult result (λ _. LineStands source.now.rules.digits source.now.rules.how source.now.rules.base
+        source.now.text.now gathered.old gathered.new)
         (λ halt. IfStopped halt (LineStops source.now.rules.base source.now.text.now)) }
 {
     let start = skip_blanks(source.text, 0);
@@ -141,11 +143,12 @@ pub fn read_between(gathered: &mut Gathered, source: &Source) -> Result<(), Halt
     }
 }
 
-/// Reads blanks, a geometry and blanks, and tells whether they are the line that has the first `len` of the bytes ahead. What
-/// stands behind the line is looked at together with its last bytes.
+/// Reads blanks, a geometry and blanks, and tells whether they are the line that has the first `len` of the bytes
+/// ahead. What stands behind the line is looked at together with its last bytes.
 fn read_ahead(gathered: &mut Gathered, ahead: &Source, len: usize) -> bool
     requires { len ≤ length ahead.now.text.now }
-    ensures { IsTrue result → LineStands ahead.now.rules.digits ahead.now.rules.how ahead.now.rules.base (take len ahead.now.text.now) gathered.old gathered.new }
+    ensures { IsTrue result → LineStands ahead.now.rules.digits ahead.now.rules.how ahead.now.rules.base
+        (take len ahead.now.text.now) gathered.old gathered.new }
 {
     let start = skip_blanks(ahead.text, 0);
     match read_whole(gathered, ahead, start) {
@@ -164,8 +167,8 @@ fn read_again(gathered: &mut Gathered, alloc: Global, line: &Source) -> Result<(
     read_between(gathered, line)
 }
 
-/// Reads the line that has the first `len` of the bytes ahead: blanks, a geometry and blanks. What was gathered before is let
-/// go.
+/// Reads the line that has the first `len` of the bytes ahead: blanks, a geometry and blanks. What was gathered before
+/// is let go.
 pub fn read_front(
     gathered: &mut Gathered,
     alloc: Global,

@@ -126,8 +126,9 @@ impl Room {
         show_polygons(&mut self.shape.polygons, &mut self.gathered.polygons, alloc);
     }
 
-    /// Reads a line: its shape, which the room lends up to the next line, or its first fault. They are those that `read_line`
-    /// tells. The line is the first `len` of the bytes ahead; those behind it may be looked at, and change nothing.
+    /// Reads a line: its shape, which the room lends up to the next line, or its first fault. They are those that
+    /// `read_line` tells. The line is the first `len` of the bytes ahead; those behind it may be looked at, and change
+    /// nothing.
     ///
     /// The lists of the shape grow in the room of those of the lines before it, and so does one line or ring.
     pub fn read_line(
@@ -166,9 +167,9 @@ impl Room {
         }
     }
 
-    /// The first fault of a line, where it has one: the fault that `read_line` tells. The line is the first `len` of the
-    /// bytes ahead; those behind it may be looked at, and change nothing. A plain line is passed over, and the shape of
-    /// another is let go. The one refusal is want of memory.
+    /// The first fault of a line, where it has one: the fault that `read_line` tells. The line is the first `len` of
+    /// the bytes ahead; those behind it may be looked at, and change nothing. A plain line is passed over, and the
+    /// shape of another is let go. The one refusal is want of memory.
     pub fn check_line(
         &mut self,
         alloc: Global,

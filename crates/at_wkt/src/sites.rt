@@ -1,7 +1,7 @@
 //! The places of the code that read positions or pass over them, by name.
 //!
-//! Each is the `SITE` of its own call. So each gets its own copy of the quick way in place, with the values in registers;
-//! a shared copy would hand each position on through memory.
+//! Each is the `SITE` of its own call. So each gets its own copy of the quick way in place, with the values in
+//! registers; a shared copy would hand each position on through memory.
 
 /// The first position of a line or a ring that is kept.
 pub const FIRST: usize = 0;

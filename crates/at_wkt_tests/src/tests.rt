@@ -184,8 +184,8 @@ fn faulty_lines(rt: HostRuntime) -> Result<(), Fail> {
     Ok(())
 }
 
-/// What a line that begins at the offset 100 is found to be in a room that served others, with exact coordinates. The line is
-/// the first bytes of those ahead.
+/// What a line that begins at the offset 100 is found to be in a room that served others, with exact coordinates. The
+/// line is the first bytes of those ahead.
 fn told_in_room(
     room: &mut Room,
     alloc: Global,
@@ -237,8 +237,8 @@ fn lines_in_one_room(rt: HostRuntime) -> Result<(), Fail> {
     Ok(())
 }
 
-/// Lines behind which something stands that is no part of them: none or the first fault, a bar, the line, a bar, what stands
-/// behind it.
+/// Lines behind which something stands that is no part of them: none or the first fault, a bar, the line, a bar, what
+/// stands behind it.
 const FOLLOWED: &str = "none|POINT (1.5 -2.25)|POINT (3.5 4.5)
 none|POINT (1.5 -2.25)| x
 none|LINESTRING (0.5 0.5,1.5 1.5)|,2 2)
@@ -296,8 +296,8 @@ fn positions_of_shape(alloc: Global, shape: &Shape) -> Result<String, AllocError
     Ok(text)
 }
 
-/// The shape of a line that begins at the offset 100, in tenths, or its first fault, from a room that served others. The line
-/// is the first bytes of those ahead.
+/// The shape of a line that begins at the offset 100, in tenths, or its first fault, from a room that served others.
+/// The line is the first bytes of those ahead.
 fn lent_in_room(
     room: &mut Room,
     alloc: Global,
@@ -318,8 +318,8 @@ fn lent_in_room(
     }
 }
 
-/// Lines that one room reads one after another: the shape in tenths or the first fault, a bar, the line, a bar, and what
-/// stands behind the line.
+/// Lines that one room reads one after another: the shape in tenths or the first fault, a bar, the line, a bar, and
+/// what stands behind the line.
 const LENT: &str = "*(0 0,10 0,10 10,0 0)|POLYGON ((0 0,1 0,1 1,0 0))|
 Syntax 109|POINT (1 x|
 15 -25|POINT (1.5 -2.5)|POINT (3 4)
@@ -496,7 +496,8 @@ impl Fold for Checking {
     }
 }
 
-/// What a file is found to be: the fault of its encoding, or else the first fault of its lines, or else how many they are.
+/// What a file is found to be: the fault of its encoding, or else the first fault of its lines, or else how many they
+/// are.
 fn told_of_file(alloc: Global, bytes: &[u8]) -> Result<String, AllocError>
     requires { length bytes.now ≤ 2 ^ 27 }
 {

@@ -1,5 +1,5 @@
-//! Counts by a kept shape's bands, over random positions: `bench_band points COUNT EDGES` counts the positions that meet a
-//! closed ring of so many edges, `bench_band lines COUNT EDGES` the short lines that do.
+//! Counts by a kept shape's bands, over random positions: `bench_band points COUNT EDGES` counts the positions that
+//! meet a closed ring of so many edges, `bench_band lines COUNT EDGES` the short lines that do.
 #![tactic(auto)]
 
 mod counts;

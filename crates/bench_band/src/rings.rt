@@ -19,7 +19,8 @@ pub fn position_of(x: u64, y: u64) -> Pos
     }
 }
 
-/// The position on a square of 2^20 units that stands on its corner, `t` of `of` parts of the way round it, moved inwards.
+/// The position on a square of 2^20 units that stands on its corner, `t` of `of` parts of the way round it, moved
+/// inwards.
 fn on_square(t: u64, of: u64, inwards: u64) -> Pos
     ensures { IsInRange result }
 {

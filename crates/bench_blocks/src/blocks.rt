@@ -32,8 +32,10 @@ fn fragments<P: Pieces, R: Threads + Sync>(
         .with_min_len(1)
         .map(
             |index: usize| -> P::Fragment
-                requires { (index + 1 < length places.now) × IsNonDecreasing places.now × (last_place places.now ≤ length bytes.now) × (length bytes.now ≤ 2 ^ 28) }
-                ensures { StandsAt (P.stands reader.entry.now) bytes.entry.now (slice_index places.entry.now index) (slice_index places.entry.now (index + 1)) result }
+                requires { (index + 1 < length places.now) × IsNonDecreasing places.now
+                    × (last_place places.now ≤ length bytes.now) × (length bytes.now ≤ 2 ^ 28) }
+                ensures { StandsAt (P.stands reader.entry.now) bytes.entry.now (slice_index places.entry.now index)
+                    (slice_index places.entry.now (index + 1)) result }
             {
                 let from = places[index];
                 let to = places[index + 1];

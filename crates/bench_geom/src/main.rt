@@ -1,6 +1,6 @@
 //! Counts by the exact predicates, over random positions: `bench_geom segments COUNT` counts the pairs of segments that
-//! meet, `bench_geom ring COUNT EDGES` the positions that are in a ring of so many edges, `bench_geom hull COUNT` the corners
-//! of the hull of so many positions, and `bench_geom positions COUNT` only makes them and counts them.
+//! meet, `bench_geom ring COUNT EDGES` the positions that are in a ring of so many edges, `bench_geom hull COUNT` the
+//! corners of the hull of so many positions, and `bench_geom positions COUNT` only makes them and counts them.
 #![tactic(auto)]
 
 mod counts;

@@ -1,7 +1,8 @@
 -- How many values a JSON text has, in one another or side by side.
 use Rattle.std.specs.Prelude.{◌≡◌, ℕ, ◌+◌, ◌%◌, ◌^◌, List}
 use Rattle.std.specs.Bool.{⊤}
-use Rattle.at_nest.specs.Tree.{Tree, literal, number, text, array, object, Trees, no_trees, tree_and, Members, no_members, member_and}
+use Rattle.at_nest.specs.Tree.{Tree, literal, number, text, array, object, Trees, no_trees, tree_and, Members}
+use Rattle.at_nest.specs.Tree.{no_members, member_and}
 use Rattle.at_nest.specs.Folds.{trees}
 use Rattle.at_nest.specs.Holding.{Content, Kept}
 

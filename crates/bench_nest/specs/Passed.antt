@@ -1,4 +1,5 @@
--- Values that were passed over in a text from place to place, with the count of the values in them. The bytes w may stand at any offset.
+-- Values that were passed over in a text from place to place, with the count of the values in them. The bytes w may
+-- stand at any offset.
 use Rattle.std.specs.Prelude.{◌≡◌, ℕ, ◌+◌, ◌<◌, ◌≤◌, ◌%◌, ◌^◌, List, [], ◌∷◌, length, slice_index}
 use Rattle.at_fixed.specs.Kept.{part}
 use Rattle.at_lex.specs.Strings.{JsonString}
@@ -10,7 +11,8 @@ use Rattle.at_lex.specs.Strings.{Character}
 
 -- a value begins at the place
 abbrev pub IsPassed : List ℕ → ℕ → Passed → Type 0
-IsPassed w at p = (at < p.end) × (p.end ≤ length w) × ((base : ℕ) → (t : Tree) × Spells (base + at) (part w at p.end) t × CountsNodes p.count t)
+IsPassed w at p = (at < p.end) × (p.end ≤ length w) × ((base : ℕ) → (t : Tree) × Spells (base + at) (part w at p.end) t
+    × CountsNodes p.count t)
 
 -- a string
 abbrev pub IsPassedText : List ℕ → ℕ → ℕ → Type 0
@@ -18,11 +20,13 @@ IsPassedText w at end = (at < end) × (end ≤ length w) × JsonString (part w a
 
 -- white space, a value, white space
 abbrev pub IsPassedItem : List ℕ → ℕ → Passed → Type 0
-IsPassedItem w at p = (at < p.end) × (p.end ≤ length w) × ((base : ℕ) → (t : Tree) × IsPadded (λ j v. Spells j v t) base w at p.end × CountsNodes p.count t)
+IsPassedItem w at p = (at < p.end) × (p.end ≤ length w)
+    × ((base : ℕ) → (t : Tree) × IsPadded (λ j v. Spells j v t) base w at p.end × CountsNodes p.count t)
 
 -- white space, a name, white space, and a colon, at this place
 abbrev pub IsPassedName : List ℕ → ℕ → ℕ → Type 0
-IsPassedName w at colon = (at ≤ colon) × (colon < length w) × (slice_index w colon ≡ 0x3A) × ((base : ℕ) → (name : List Character) × (i : ℕ) × IsPadded (SpellsName name i) base w at colon)
+IsPassedName w at colon = (at ≤ colon) × (colon < length w) × (slice_index w colon ≡ 0x3A)
+    × ((base : ℕ) → (name : List Character) × (i : ℕ) × IsPadded (SpellsName name i) base w at colon)
 
 -- the values of the trees
 abbrev pub nodes_in : List Tree → ℕ
@@ -35,7 +39,9 @@ nodes_in_members (n ∷ done) = nodes_of n.tree + nodes_in_members done
 
 -- between items of an array: so many values were counted, the array itself among them
 abbrev pub AreItemsCounted : List ℕ → ℕ → ℕ → ℕ → Type 0
-AreItemsCounted w at place n = (base : ℕ) → (done : List Tree) × ItemsBefore base w at place done × (n ≡ (1 + nodes_in done) % 2 ^ 64)
+AreItemsCounted w at place n = (base : ℕ) → (done : List Tree) × ItemsBefore base w at place done
+    × (n ≡ (1 + nodes_in done) % 2 ^ 64)
 
 abbrev pub AreMembersCounted : List ℕ → ℕ → ℕ → ℕ → Type 0
-AreMembersCounted w at place n = (base : ℕ) → (done : List Named) × MembersBefore base w at place done × (n ≡ (1 + nodes_in_members done) % 2 ^ 64)
+AreMembersCounted w at place n = (base : ℕ) → (done : List Named) × MembersBefore base w at place done
+    × (n ≡ (1 + nodes_in_members done) % 2 ^ 64)

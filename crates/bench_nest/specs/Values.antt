@@ -1,4 +1,5 @@
--- How many values the tokens of a JSON text tell of: an opening bracket, a string and a run each begin one, but of the strings those with a colon behind them are names.
+-- How many values the tokens of a JSON text tell of: an opening bracket, a string and a run each begin one, but of the
+-- strings those with a colon behind them are names.
 use Rattle.std.specs.Prelude.{ℕ, ◌+◌, ◌-◌, ◌%◌, ◌^◌, List, [], ◌∷◌}
 use Rattle.at_lex.specs.declared.tokens.Token.{Token}
 use Rattle.at_lex.specs.declared.tokens.TokenKind.{TokenKind}

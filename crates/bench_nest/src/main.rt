@@ -1,6 +1,6 @@
 //! Counts the values of a JSON file: `bench_nest FILE BLOCKS ROUNDS WORKERS` reads the file once, and counts so many
-//! times, each time in so many blocks that are merged, by so many passes at once. With no blocks it counts by the tokens
-//! alone.
+//! times, each time in so many blocks that are merged, by so many passes at once. With no blocks it counts by the
+//! tokens alone.
 #![tactic(auto)]
 
 ghost use Rattle.std.specs.Prelude.{◌≤◌, ◌<◌, ◌^◌, length};

@@ -54,7 +54,8 @@ impl Algebra for Nodes {
     fn array(&self, _alloc: Global, at: u32, items: Vec<u64>) -> Result<u64, Memory>
         requires { All IsAny items.items }
         ensures own { IfOk result IsAny }
-        ensures fold { IfOk result (λ n. (ts : List Tree) → AreItemFolds CountsNodes CountsMany items.items ts → CountsNodes n (array_tree at (trees ts))) }
+        ensures fold { IfOk result (λ n. (ts : List Tree) → AreItemFolds CountsNodes CountsMany items.items ts
+            → CountsNodes n (array_tree at (trees ts))) }
     {
         let _ = at;
         Ok(sum_of(items.as_slice()).wrapping_add(1))
@@ -63,7 +64,8 @@ impl Algebra for Nodes {
     fn object(&self, _alloc: Global, at: u32, members: Vec<Member<u64>>) -> Result<u64, Memory>
         requires { All (λ m. IsAny m.value) members.items }
         ensures own { IfOk result IsAny }
-        ensures fold { IfOk result (λ n. (ms : Members) → AreMemberFolds CountsNodes members.items ms → CountsNodes n (object_tree at ms)) }
+        ensures fold { IfOk result (λ n. (ms : Members) → AreMemberFolds CountsNodes members.items ms
+            → CountsNodes n (object_tree at ms)) }
     {
         let _ = at;
         Ok(sum_of_members(members.as_slice()).wrapping_add(1))

@@ -1,6 +1,7 @@
 //! Values passed over from place to place, and how many values there are in them.
 
-ghost use Rattle.std.specs.Prelude.{◌≡◌, ◌+◌, ◌<◌, ◌≤◌, ◌^◌, ◌&&◌, length, slice_index, nat_lt, nat_eq, true, IfOk, IfSome};
+ghost use Rattle.std.specs.Prelude.{◌≡◌, ◌+◌, ◌<◌, ◌≤◌, ◌^◌, ◌&&◌, length, slice_index, nat_lt, nat_eq, true, IfOk};
+ghost use Rattle.std.specs.Prelude.{IfSome};
 ghost use Rattle.at_fixed.specs.Kept.{part};
 ghost use Rattle.at_lex.specs.Spans.{AreSpaces};
 ghost use Rattle.bench_nest.specs.Passed.{IsPassed, IsPassedText, IsPassedItem, IsPassedName};

@@ -7,8 +7,8 @@ ghost use Rattle.bench_nest.specs.Values.{counted_behind, values_in};
 
 use at_lex::{Item, Lexer, Start, TokenKind};
 
-/// The count of values behind one token more: a value begins with an opening bracket, a string or a run; but of the strings,
-/// those with a colon behind them are names.
+/// The count of values behind one token more: a value begins with an opening bracket, a string or a run; but of the
+/// strings, those with a colon behind them are names.
 #[inline(always)]
 fn counted(count: u64, kind: TokenKind) -> u64
     ensures { result ≡ counted_behind count kind }
