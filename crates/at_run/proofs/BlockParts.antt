@@ -3,19 +3,12 @@ use Rattle.std.proofs.Common.{◌≡◌, ℕ, ◌-◌, ◌<◌, ◌≤◌, ◌�
 use Rattle.std.proofs.lemmas.Bool.{cases_lt}
 use Rattle.std.specs.Prelude.{slice_index}
 use Rattle.std.specs.List.Sorted.{IsNonDecreasing}
-use Rattle.at_crew.specs.Nodes.{IsBlockCount as IsCrewCount}
-use Rattle.at_crew.proofs.Powers.{block_count as crew_count}
 use Rattle.at_text.specs.Spans.{AreNeighbours, IsMerged}
-use Rattle.at_run.specs.Places.{IsBlockCount, last_place}
+use Rattle.at_run.specs.Places.{last_place}
 use Rattle.at_run.specs.declared.jobs.FilePart.{FilePart}
 use Rattle.at_run.specs.declared.jobs.FilePart.TheVariants.{Read}
 use Rattle.at_run.specs.Blocks.{NoneGivenUp, StandsForBlocks}
-use Rattle.at_run.proofs.Powers.{some_blocks}
 use Rattle.at_run.proofs.Covered.{place_order, place_within}
-
--- a crew can have as many blocks as cuts make
-pub crew_blocks : (count : ℕ) → IsBlockCount count → IsCrewCount count
-crew_blocks count is = crew_count count (is.0, is.2) (some_blocks count is).1
 
 module _ {F : Type 0} (Stands : ℕ → List ℕ → F → Type 0) (bytes places given_up : List ℕ) where
   abbrev Blocks : FilePart F → ℕ → ℕ → Type 0

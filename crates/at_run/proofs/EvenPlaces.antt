@@ -5,7 +5,8 @@ use Rattle.std.proofs.lemmas.List.Sorted.{IsNonDecreasingBy-from_default}
 use Rattle.std.proofs.Math.Nat.{div-mul-le_self, mul-div_cancel_left, zero-div, zero-mul}
 use Rattle.std.proofs.lemmas.Nat.{le-div}
 use Rattle.std.proofs.lemmas.List.{get_or_append_left, get_or_push}
-use Rattle.at_run.specs.Places.{IsBlockCount, IsLeastCount, AreCuts, AreEven, first_place, last_place, even_place}
+use Rattle.at_crew.specs.Nodes.{IsBlockCount}
+use Rattle.at_run.specs.Places.{IsLeastCount, AreCuts, AreEven, first_place, last_place, even_place}
 use Rattle.at_run.proofs.Powers.{some_blocks}
 
 even_rises : (base len count i j : ℕ) → 0 < count → i ≤ j → even_place base len count i ≤ even_place base len count j

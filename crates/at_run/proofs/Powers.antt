@@ -1,13 +1,13 @@
 -- Counts of blocks are the powers of two up to 4,096.
-use Rattle.std.proofs.Common.{◌≡◌, ℕ, zero, suc, ◌*◌, ◌/◌, ◌%◌, ◌^◌, ◌<◌, ◌≤◌, ◌⊎◌, inl, inr, max, true, count_ones, eq-eqb, sym, ap, ◌∙◌, subst, arith, rules, add-one}
+use Rattle.std.proofs.Common.{◌≡◌, ℕ, zero, suc, ◌*◌, ◌/◌, ◌%◌, ◌^◌, ◌<◌, ◌≤◌, ◌⊎◌, inl, inr, max, true, count_ones, eq-eqb, sym, ap, ◌∙◌, subst, arith, add-one}
 use Rattle.std.specs.Int.{is_power_of_two, IsPowerOfTwo}
 use Rattle.std.specs.Int.Count.{ones_step}
-use Rattle.std.proofs.Math.Pow.{pow-lt}
 use Rattle.std.proofs.Math.Nat.{pow-le-pow_right}
-use Rattle.std.proofs.lemmas.Nat.{pow-add, zero_from_ones, ones_le_self}
+use Rattle.std.proofs.lemmas.Nat.{pow-add, ones_le_self}
 use Rattle.std.proofs.lemmas.Bool.{cases_lt}
-use native.Mathlib.Decide.{ℕ_discrete}
-use Rattle.at_run.specs.Places.{IsBlockCount, IsLeastCount}
+use Rattle.at_crew.specs.Nodes.{IsBlockCount}
+use Rattle.at_crew.proofs.Powers.{power_of, block_count}
+use Rattle.at_run.specs.Places.{IsLeastCount}
 
 pub two_suc : (n : ℕ) → 2 ^ suc n ≡ 2 * 2 ^ n
 two_suc n = let e = pow-add 2 n 1 in ap (λ x. 2 ^ x) (sym (add-one n)) ∙ omega (arith, e)
@@ -27,26 +27,7 @@ less_power i j h = by_cases (cases_lt i j) where
   by_cases (inr le) = absurd (let p = pow_le j i le in omega (arith, p, h))
 
 pub some_blocks : (count : ℕ) → IsBlockCount count → (0 < count) × (count ≤ 4096)
-some_blocks count (d, le, e) = let p = pow_pos d in let m : 2 ^ d ≤ 4096 = pow_le d 12 le in (omega (arith, p, e), omega (arith, m, e))
-
-small_exponent : (n k : ℕ) → n ≡ 2 ^ k → n ≤ 4096 → k ≤ 12
-small_exponent n k e le = by_cases (cases_lt 12 k) where
-  by_cases : (12 < k) ⊎ (k ≤ 12) → k ≤ 12
-  by_cases (inl lt) = absurd (let p : 4096 < 2 ^ k = pow-lt {i = 12} {j = k} lt in omega (arith, p, e, le))
-  by_cases (inr small) = small
-
-pub block_count : (n : ℕ) → IsPowerOfTwo n → n ≤ 4096 → IsBlockCount n
-block_count n (k, e) le = (k, small_exponent n k e le, e)
-
--- ---- the test by bits
-
-halves : (most n : ℕ) → n ≤ suc most → count_ones n ≡ 1 → Dec (n % 2 ≡ 0) → (n / 2 ≤ most → count_ones (n / 2) ≡ 1 → IsPowerOfTwo (n / 2)) → IsPowerOfTwo n
-halves most n le one (yes even) lower = let s = ones_step n in let pos : 0 < n = (let z = ones_le_self n in omega (arith, z, one)) in let r = lower (omega (arith, le, pos)) (omega (arith, s, one, even)) in let t = two_suc r.0 in (suc r.0, omega (arith, r.1, even, t))
-halves most n le one (no odd) lower = let s = ones_step n in let z : n / 2 ≡ 0 = zero_from_ones (n / 2) (omega (arith, s, one, odd)) in (0, omega (arith, z, odd))
-
-one_bit : (most n : ℕ) → n ≤ most → count_ones n ≡ 1 → IsPowerOfTwo n
-one_bit zero n le one = let o = ones_le_self n in absurd (omega (arith, le, o, one))
-one_bit (suc most) n le one = halves most n le one (ℕ_discrete (n % 2) 0) (λ le' one'. one_bit most (n / 2) le' one')
+some_blocks count is = let power = power_of count is in let p = pow_pos power.0 in (omega (arith, p, power.1), power.2)
 
 ones_power : (k : ℕ) → count_ones (2 ^ k) ≡ 1
 ones_power zero = let s = ones_step 1 in let z = ones_le_self 0 in omega (arith, s, z)
@@ -57,11 +38,7 @@ ones_power (suc k) =
     let rest : count_ones (2 ^ suc k / 2) ≡ 1 = ap count_ones half ∙ ones_power k in
     omega (arith, s, low, rest)
 
--- what passes the test is a power of two
-pub tested_power : (n : ℕ) → is_power_of_two n ≡ true → IsPowerOfTwo n
-tested_power n is = one_bit n n (omega arith) (search rules)
-
--- and each power of two passes it
+-- each power of two passes the test by bits
 pub power_tested : (n : ℕ) → IsPowerOfTwo n → is_power_of_two n ≡ true
 power_tested n (k, e) = eq-eqb (count_ones n) 1 (ap count_ones e ∙ ones_power k)
 
@@ -86,4 +63,6 @@ least_count blocks result some few (k, e) lower upper = record {
   at_most d le = least_power blocks d k some upper_power le
 
   at_most_of : (other : ℕ) → IsBlockCount other → blocks ≤ other → result ≤ other
-  at_most_of other (d, small, eo) le = let m = at_most d (subst (λ x. blocks ≤ x) eo le) in omega (arith, m, e, eo)
+  at_most_of other is le =
+      let power = power_of other is in let m = at_most power.0 (subst (λ x. blocks ≤ x) power.1 le) in
+      omega (arith, m, e, power.1)

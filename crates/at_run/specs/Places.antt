@@ -1,12 +1,9 @@
 -- The places at which a file is cut into blocks: block i lies between place i and place i + 1.
-use Rattle.std.specs.Prelude.{◌≡◌, ℕ, ◌+◌, ◌-◌, ◌*◌, ◌/◌, ◌^◌, ◌≤◌, List, length, slice_index}
+use Rattle.std.specs.Prelude.{◌≡◌, ℕ, ◌+◌, ◌-◌, ◌*◌, ◌/◌, ◌≤◌, List, length, slice_index}
 use Rattle.std.specs.List.Sorted.{IsNonDecreasing}
+use Rattle.at_crew.specs.Nodes.{IsBlockCount}
 
--- a file is cut into so many blocks: a power of two from 1 to 4,096
-abbrev pub IsBlockCount : ℕ → Type 0
-IsBlockCount count = (d : ℕ) × (d ≤ 12) × (count ≡ 2 ^ d)
-
--- the least such count that is at least the number of blocks that were asked for
+-- the least count of blocks of a crew that is at least the number of blocks that were asked for
 pub record IsLeastCount (blocks count : ℕ) : Type 0 where
   pub is_count : IsBlockCount count
   pub enough : blocks ≤ count

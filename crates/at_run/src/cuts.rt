@@ -3,7 +3,8 @@
 ghost use Rattle.std.specs.Prelude.{◌≡◌, ◌+◌, ◌-◌, ◌*◌, ◌/◌, ◌^◌, ◌<◌, ◌≤◌, ◌↔◌, IsTrue, IsSome, IfSome, IfOk, List, ℕ};
 ghost use Rattle.std.specs.Prelude.{length, slice_index};
 ghost use Rattle.std.specs.List.Sorted.{IsNonDecreasing};
-ghost use Rattle.at_run.specs.Places.{IsBlockCount, IsLeastCount, AreCuts, AreEven, first_place, last_place};
+ghost use Rattle.at_crew.specs.Nodes.{IsBlockCount};
+ghost use Rattle.at_run.specs.Places.{IsLeastCount, AreCuts, AreEven, first_place, last_place};
 ghost use Rattle.at_run.specs.Places.{even_place};
 
 use at_text::Memory;

@@ -1,13 +1,13 @@
 use Rattle.std.proofs.Common.{ℕ, List, ◌-◌, length, sym, subst}
-use Rattle.at_crew.specs.Nodes.{IsBlockCount as IsCrewCount}
+use Rattle.at_crew.specs.Nodes.{IsBlockCount}
 use Rattle.at_run.specs.Blocks.{NoneGivenUp}
-use Rattle.at_run.proofs.BlockParts.{crew_blocks, none_given_up}
+use Rattle.at_run.proofs.BlockParts.{none_given_up}
 use Rattle.at_run.proofs.jobs.run_file.Goals as goal
 
 pub run_crew-requires-clause-size : goal.run_crew-requires-clause-size
 run_crew-requires-clause-size g c κs within =
-    let P : List ℕ → Type 0 = λ w. IsCrewCount (length w - 1) in
-    subst P (sym c.as_slice-places.ensures.places) (crew_blocks (length c.args.cuts.now - 1) c.as_slice-places.ensures.are_cuts.counted)
+    let P : List ℕ → Type 0 = λ w. IsBlockCount (length w - 1) in
+    subst P (sym c.as_slice-places.ensures.places) c.as_slice-places.ensures.are_cuts.counted
 
 pub returns-in-Read-clause-given_up : goal.returns-in-Read-clause-given_up
 returns-in-Read-clause-given_up g c =
