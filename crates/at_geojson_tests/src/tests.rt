@@ -162,13 +162,19 @@ pub fn told(alloc: Global, line: &[u8], bytes: &[u8], how: Coords, at: u32) -> R
 }
 
 /// A query, a text, and what is told of it, wherever it is cut.
-pub type Row = (&'static [u8], &'static [u8], &'static str);
+pub type Row = (&'static str, &'static str, &'static str);
 
 fn compare<R: Abort + AllocGlobal>(rt: &R, row: Row) -> Result<(), Fail> {
     assert!(rt; row.0.len() < 100);
     assert!(rt; row.1.len() < 1000);
     for at in 0..row.1.len() as u32 + 1 {
-        let found = told(rt.alloc(), row.0, row.1, Coords::Round, at)?;
+        let found = told(
+            rt.alloc(),
+            row.0.as_bytes(),
+            row.1.as_bytes(),
+            Coords::Round,
+            at,
+        )?;
         assert_eq!(rt; found.as_str(), row.2, "{at}");
     }
     Ok(())
@@ -186,14 +192,14 @@ pub fn compare_rows<R: Abort + AllocGlobal>(rt: &R, rows: &[Row]) -> Result<(), 
 fn syntax(rt: HostRuntime) -> Result<(), Fail> {
     let rows: [Row; 5] = [
         (
-            b"count",
-            b"{\"type\":\"FeatureCollection\",\"features\":[",
+            "count",
+            "{\"type\":\"FeatureCollection\",\"features\":[",
             "Ended",
         ),
-        (b"count", b"{\"a\":tru}", "Syntax at 8"),
-        (b"count", b"{\"a\":-}", "Syntax at 6"),
-        (b"count", b"01", "Syntax at 1"),
-        (b"count", b"tru", "Ended"),
+        ("count", "{\"a\":tru}", "Syntax at 8"),
+        ("count", "{\"a\":-}", "Syntax at 6"),
+        ("count", "01", "Syntax at 1"),
+        ("count", "tru", "Ended"),
     ];
     compare_rows(&rt, &rows)
 }
@@ -202,21 +208,21 @@ fn syntax(rt: HostRuntime) -> Result<(), Fail> {
 #[test]
 fn names(rt: HostRuntime) -> Result<(), Fail> {
     let rows: [Row; 5] = [
-        (b"count", b"{\"a\":1,\"\\u0061\":2}", "Twin at 7"),
-        (b"count", b"{}", "Form at 0"),
+        ("count", "{\"a\":1,\"\\u0061\":2}", "Twin at 7"),
+        ("count", "{}", "Form at 0"),
         (
-            b"count",
-            b"[{\"a\":[{\"b\":1,\"b\":2}]},{\"c\":1,\"c\":2}]",
+            "count",
+            "[{\"a\":[{\"b\":1,\"b\":2}]},{\"c\":1,\"c\":2}]",
             "Twin at 14",
         ),
         (
-            b"count",
-            b"{\"a\":0,\"b\":0,\"c\":0,\"d\":0,\"e\":0,\"f\":0,\"g\":0,\"h\":0,\"i\":0,\"j\":0,\"k\":0,\"l\":0,\"m\":0,\"n\":0,\"o\":0,\"p\":0,\"q\":0}",
+            "count",
+            "{\"a\":0,\"b\":0,\"c\":0,\"d\":0,\"e\":0,\"f\":0,\"g\":0,\"h\":0,\"i\":0,\"j\":0,\"k\":0,\"l\":0,\"m\":0,\"n\":0,\"o\":0,\"p\":0,\"q\":0}",
             "Form at 0",
         ),
         (
-            b"count",
-            b"{\"a\":0,\"b\":0,\"c\":0,\"d\":0,\"e\":0,\"f\":0,\"g\":0,\"h\":0,\"i\":0,\"j\":0,\"k\":0,\"l\":0,\"m\":0,\"n\":0,\"o\":0,\"p\":0,\"q\":0,\"b\":1,\"a\":{\"x\":1,\"x\":2}}",
+            "count",
+            "{\"a\":0,\"b\":0,\"c\":0,\"d\":0,\"e\":0,\"f\":0,\"g\":0,\"h\":0,\"i\":0,\"j\":0,\"k\":0,\"l\":0,\"m\":0,\"n\":0,\"o\":0,\"p\":0,\"q\":0,\"b\":1,\"a\":{\"x\":1,\"x\":2}}",
             "Twin at 103",
         ),
     ];
@@ -228,43 +234,43 @@ fn names(rt: HostRuntime) -> Result<(), Fail> {
 fn names_of_many(rt: HostRuntime) -> Result<(), Fail> {
     let rows: [Row; 8] = [
         (
-            b"count",
-            b"{\"q\":0,\"p\":0,\"o\":0,\"n\":0,\"m\":0,\"l\":0,\"k\":0,\"j\":0,\"i\":0,\"h\":0,\"g\":0,\"f\":0,\"e\":0,\"d\":0,\"c\":0,\"b\":0,\"a\":0}",
+            "count",
+            "{\"q\":0,\"p\":0,\"o\":0,\"n\":0,\"m\":0,\"l\":0,\"k\":0,\"j\":0,\"i\":0,\"h\":0,\"g\":0,\"f\":0,\"e\":0,\"d\":0,\"c\":0,\"b\":0,\"a\":0}",
             "Form at 0",
         ),
         (
-            b"count",
-            b"{\"a\":0,\"b\":0,\"c\":0,\"d\":0,\"e\":0,\"f\":0,\"g\":0,\"h\":0,\"i\":0,\"j\":0,\"k\":0,\"l\":0,\"m\":0,\"n\":0,\"o\":0,\"p\":0,\"q\":0,\"a\":1}",
+            "count",
+            "{\"a\":0,\"b\":0,\"c\":0,\"d\":0,\"e\":0,\"f\":0,\"g\":0,\"h\":0,\"i\":0,\"j\":0,\"k\":0,\"l\":0,\"m\":0,\"n\":0,\"o\":0,\"p\":0,\"q\":0,\"a\":1}",
             "Twin at 103",
         ),
         (
-            b"count",
-            b"{\"a\":0,\"b\":0,\"c\":0,\"d\":0,\"e\":0,\"f\":0,\"g\":0,\"h\":0,\"i\":0,\"j\":0,\"k\":0,\"l\":0,\"m\":0,\"n\":0,\"o\":0,\"p\":0,\"q\":0,\"q\":1}",
+            "count",
+            "{\"a\":0,\"b\":0,\"c\":0,\"d\":0,\"e\":0,\"f\":0,\"g\":0,\"h\":0,\"i\":0,\"j\":0,\"k\":0,\"l\":0,\"m\":0,\"n\":0,\"o\":0,\"p\":0,\"q\":0,\"q\":1}",
             "Twin at 103",
         ),
         (
-            b"count",
-            b"{\"a\":0,\"b\":0,\"c\":0,\"d\":0,\"e\":0,\"f\":0,\"g\":0,\"h\":0,\"h\":1,\"h\":2,\"i\":0,\"j\":0,\"k\":0,\"l\":0,\"m\":0,\"n\":0,\"o\":0,\"p\":0,\"q\":0,\"a\":1}",
+            "count",
+            "{\"a\":0,\"b\":0,\"c\":0,\"d\":0,\"e\":0,\"f\":0,\"g\":0,\"h\":0,\"h\":1,\"h\":2,\"i\":0,\"j\":0,\"k\":0,\"l\":0,\"m\":0,\"n\":0,\"o\":0,\"p\":0,\"q\":0,\"a\":1}",
             "Twin at 49",
         ),
         (
-            b"count",
-            b"{\"a\":0,\"b\":0,\"c\":0,\"d\":0,\"e\":0,\"f\":0,\"g\":0,\"h\":0,\"i\":0,\"j\":0,\"k\":0,\"l\":0,\"m\":0,\"n\":0,\"o\":0,\"p\":0,\"q\":{\"x\":1,\"x\":2},\"a\":1}",
+            "count",
+            "{\"a\":0,\"b\":0,\"c\":0,\"d\":0,\"e\":0,\"f\":0,\"g\":0,\"h\":0,\"i\":0,\"j\":0,\"k\":0,\"l\":0,\"m\":0,\"n\":0,\"o\":0,\"p\":0,\"q\":{\"x\":1,\"x\":2},\"a\":1}",
             "Twin at 108",
         ),
         (
-            b"count",
-            b"{\"a\":0,\"b\":0,\"c\":0,\"d\":0,\"e\":0,\"f\":0,\"g\":0,\"h\":0,\"i\":0,\"j\":0,\"k\":0,\"l\":0,\"m\":0,\"n\":0,\"o\":0,\"p\":0,\"a\":{\"x\":1,\"x\":2},\"b\":1}",
+            "count",
+            "{\"a\":0,\"b\":0,\"c\":0,\"d\":0,\"e\":0,\"f\":0,\"g\":0,\"h\":0,\"i\":0,\"j\":0,\"k\":0,\"l\":0,\"m\":0,\"n\":0,\"o\":0,\"p\":0,\"a\":{\"x\":1,\"x\":2},\"b\":1}",
             "Twin at 97",
         ),
         (
-            b"count",
-            b"{\"a\":[{\"a\":1,\"b\":2},{\"b\":1,\"b\":2}],\"b\":0,\"c\":0,\"d\":0,\"e\":0,\"f\":0,\"g\":0,\"h\":0,\"i\":0,\"j\":0,\"k\":0,\"l\":0,\"m\":0,\"n\":0,\"o\":0,\"p\":0,\"q\":0,\"b\":1}",
+            "count",
+            "{\"a\":[{\"a\":1,\"b\":2},{\"b\":1,\"b\":2}],\"b\":0,\"c\":0,\"d\":0,\"e\":0,\"f\":0,\"g\":0,\"h\":0,\"i\":0,\"j\":0,\"k\":0,\"l\":0,\"m\":0,\"n\":0,\"o\":0,\"p\":0,\"q\":0,\"b\":1}",
             "Twin at 27",
         ),
         (
-            b"count",
-            b"{\"a\":0,\"b\":0,\"c\":0,\"d\":0,\"e\":0,\"f\":0,\"g\":0,\"h\":0,\"i\":0,\"j\":0,\"k\":0,\"l\":0,\"m\":0,\"n\":0,\"o\":0,\"p\":0,\"q\":0,\"\\u0061\":1}",
+            "count",
+            "{\"a\":0,\"b\":0,\"c\":0,\"d\":0,\"e\":0,\"f\":0,\"g\":0,\"h\":0,\"i\":0,\"j\":0,\"k\":0,\"l\":0,\"m\":0,\"n\":0,\"o\":0,\"p\":0,\"q\":0,\"\\u0061\":1}",
             "Twin at 103",
         ),
     ];
@@ -276,23 +282,23 @@ fn names_of_many(rt: HostRuntime) -> Result<(), Fail> {
 fn names_of_one_hash(rt: HostRuntime) -> Result<(), Fail> {
     let rows: [Row; 4] = [
         (
-            b"count",
-            b"{\"anjnaagaahaacf\":0,\"faaacfagfandaa\":0,\"b\":0,\"c\":0,\"d\":0,\"e\":0,\"f\":0,\"g\":0,\"h\":0,\"i\":0,\"j\":0,\"k\":0,\"l\":0,\"m\":0,\"n\":0,\"o\":0,\"p\":0}",
+            "count",
+            "{\"anjnaagaahaacf\":0,\"faaacfagfandaa\":0,\"b\":0,\"c\":0,\"d\":0,\"e\":0,\"f\":0,\"g\":0,\"h\":0,\"i\":0,\"j\":0,\"k\":0,\"l\":0,\"m\":0,\"n\":0,\"o\":0,\"p\":0}",
             "Form at 0",
         ),
         (
-            b"count",
-            b"{\"anjnaagaahaacf\":0,\"faaacfagfandaa\":0,\"b\":0,\"c\":0,\"d\":0,\"e\":0,\"f\":0,\"g\":0,\"h\":0,\"i\":0,\"j\":0,\"k\":0,\"l\":0,\"m\":0,\"n\":0,\"o\":0,\"p\":0,\"faaacfagfandaa\":1}",
+            "count",
+            "{\"anjnaagaahaacf\":0,\"faaacfagfandaa\":0,\"b\":0,\"c\":0,\"d\":0,\"e\":0,\"f\":0,\"g\":0,\"h\":0,\"i\":0,\"j\":0,\"k\":0,\"l\":0,\"m\":0,\"n\":0,\"o\":0,\"p\":0,\"faaacfagfandaa\":1}",
             "Twin at 129",
         ),
         (
-            b"count",
-            b"{\"anjnaagaahaacf\":0,\"faaacfagfandaa\":0,\"b\":0,\"c\":0,\"d\":0,\"e\":0,\"f\":0,\"g\":0,\"h\":0,\"i\":0,\"j\":0,\"k\":0,\"l\":0,\"m\":0,\"n\":0,\"o\":0,\"p\":0,\"anjnaagaahaacf\":1}",
+            "count",
+            "{\"anjnaagaahaacf\":0,\"faaacfagfandaa\":0,\"b\":0,\"c\":0,\"d\":0,\"e\":0,\"f\":0,\"g\":0,\"h\":0,\"i\":0,\"j\":0,\"k\":0,\"l\":0,\"m\":0,\"n\":0,\"o\":0,\"p\":0,\"anjnaagaahaacf\":1}",
             "Twin at 129",
         ),
         (
-            b"count",
-            b"{\"d\":1,\"anjnaagaahaacf\":0,\"b\":0,\"c\":0,\"d\":0,\"e\":0,\"f\":0,\"g\":0,\"h\":0,\"i\":0,\"j\":0,\"k\":0,\"l\":0,\"m\":0,\"n\":0,\"o\":0,\"p\":0,\"faaacfagfandaa\":0}",
+            "count",
+            "{\"d\":1,\"anjnaagaahaacf\":0,\"b\":0,\"c\":0,\"d\":0,\"e\":0,\"f\":0,\"g\":0,\"h\":0,\"i\":0,\"j\":0,\"k\":0,\"l\":0,\"m\":0,\"n\":0,\"o\":0,\"p\":0,\"faaacfagfandaa\":0}",
             "Twin at 38",
         ),
     ];
@@ -304,48 +310,48 @@ fn names_of_one_hash(rt: HostRuntime) -> Result<(), Fail> {
 fn features(rt: HostRuntime) -> Result<(), Fail> {
     let rows: [Row; 9] = [
         (
-            b"select",
-            b"{\"type\":\"FeatureCollection\",\"features\":[{\"type\":\"Feature\",\"geometry\":null,\"properties\":null}]}",
+            "select",
+            "{\"type\":\"FeatureCollection\",\"features\":[{\"type\":\"Feature\",\"geometry\":null,\"properties\":null}]}",
             "40\n",
         ),
         (
-            b"select where has \"k\" = \"a\\\"b}]{\"",
-            b"{\"type\":\"Feature\",\"properties\":{\"k\":\"a\\\"b}]{\"},\"geometry\":null}",
+            "select where has \"k\" = \"a\\\"b}]{\"",
+            "{\"type\":\"Feature\",\"properties\":{\"k\":\"a\\\"b}]{\"},\"geometry\":null}",
             "0\n",
         ),
         (
-            b"select where has \"k\" = \"other\"",
-            b"{\"type\":\"Feature\",\"properties\":{\"k\":\"a\\\"b}]{\"},\"geometry\":null}",
+            "select where has \"k\" = \"other\"",
+            "{\"type\":\"Feature\",\"properties\":{\"k\":\"a\\\"b}]{\"},\"geometry\":null}",
             "",
         ),
         (
-            b"count",
-            b"{\"type\":\"Feature\",\"properties\":{\"x\":{\"type\":\"Feature\",\"geometry\":{\"type\":\"Point\",\"coordinates\":[1]},\"properties\":null}},\"geometry\":null}",
+            "count",
+            "{\"type\":\"Feature\",\"properties\":{\"x\":{\"type\":\"Feature\",\"geometry\":{\"type\":\"Point\",\"coordinates\":[1]},\"properties\":null}},\"geometry\":null}",
             "1\n",
         ),
         (
-            b"count",
-            b"{\"type\":\"FeatureCollection\",\"features\":[{\"geometry\":{\"coordinates\":[],\"type\":\"Polygon\"},\"type\":\"Feature\"},{\"type\":\"Feature\",\"geometry\":null}]}",
+            "count",
+            "{\"type\":\"FeatureCollection\",\"features\":[{\"geometry\":{\"coordinates\":[],\"type\":\"Polygon\"},\"type\":\"Feature\"},{\"type\":\"Feature\",\"geometry\":null}]}",
             "2\n",
         ),
         (
-            b"extent",
-            b"{\"type\":\"FeatureCollection\",\"features\":[{\"geometry\":{\"coordinates\":[],\"type\":\"Polygon\"},\"type\":\"Feature\"},{\"type\":\"Feature\",\"geometry\":null}]}",
+            "extent",
+            "{\"type\":\"FeatureCollection\",\"features\":[{\"geometry\":{\"coordinates\":[],\"type\":\"Polygon\"},\"type\":\"Feature\"},{\"type\":\"Feature\",\"geometry\":null}]}",
             "empty\n",
         ),
         (
-            b"count",
-            b"{\"type\":\"FeatureCollection\",\"features\":{}}",
+            "count",
+            "{\"type\":\"FeatureCollection\",\"features\":{}}",
             "Form at 0",
         ),
         (
-            b"count",
-            b"{\"type\":\"FeatureCollection\",\"features\":[{\"type\":\"Point\",\"coordinates\":[]}]}",
+            "count",
+            "{\"type\":\"FeatureCollection\",\"features\":[{\"type\":\"Point\",\"coordinates\":[]}]}",
             "Form at 40",
         ),
         (
-            b"count",
-            b"{\"type\":\"Feature\",\"properties\":[],\"geometry\":3}",
+            "count",
+            "{\"type\":\"Feature\",\"properties\":[],\"geometry\":3}",
             "Form at 31",
         ),
     ];
@@ -357,53 +363,53 @@ fn features(rt: HostRuntime) -> Result<(), Fail> {
 fn shapes(rt: HostRuntime) -> Result<(), Fail> {
     let rows: [Row; 10] = [
         (
-            b"count",
-            b"{\"type\":\"Polygon\",\"coordinates\":[[[0,0],[1,0],[1,1],[0,1]]]}",
+            "count",
+            "{\"type\":\"Polygon\",\"coordinates\":[[[0,0],[1,0],[1,1],[0,1]]]}",
             "Ring at 33",
         ),
         (
-            b"count",
-            b"{\"type\":\"Point\",\"coordinates\":[1]}",
+            "count",
+            "{\"type\":\"Point\",\"coordinates\":[1]}",
             "Form at 30",
         ),
         (
-            b"count",
-            b"{\"type\":\"MultiPolygon\",\"coordinates\":[[]]}",
+            "count",
+            "{\"type\":\"MultiPolygon\",\"coordinates\":[[]]}",
             "Form at 37",
         ),
         (
-            b"count",
-            b"{\"type\":\"MultiPolygon\",\"coordinates\":[[[]]]}",
+            "count",
+            "{\"type\":\"MultiPolygon\",\"coordinates\":[[[]]]}",
             "Ring at 39",
         ),
         (
-            b"count",
-            b"{\"type\":\"MultiLineString\",\"coordinates\":[[]]}",
+            "count",
+            "{\"type\":\"MultiLineString\",\"coordinates\":[[]]}",
             "Short at 41",
         ),
         (
-            b"count",
-            b"{\"type\":\"LineString\",\"coordinates\":[[]]}",
+            "count",
+            "{\"type\":\"LineString\",\"coordinates\":[[]]}",
             "Form at 35",
         ),
         (
-            b"area",
-            b"{\"type\":\"Polygon\",\"coordinates\":[[[0,0],[1,0],[1,1],[0,1],[0,0]]]}",
+            "area",
+            "{\"type\":\"Polygon\",\"coordinates\":[[[0,0],[1,0],[1,1],[0,1],[0,0]]]}",
             "200000000000000\n",
         ),
         (
-            b"extent",
-            b"{\"type\":\"GeometryCollection\",\"geometries\":[{\"type\":\"LineString\",\"coordinates\":[[1,2],[3,4]]},{\"type\":\"\\u0050oint\",\"coordinates\":[90e-1,-1,7]}]}",
+            "extent",
+            "{\"type\":\"GeometryCollection\",\"geometries\":[{\"type\":\"LineString\",\"coordinates\":[[1,2],[3,4]]},{\"type\":\"\\u0050oint\",\"coordinates\":[90e-1,-1,7]}]}",
             "1.0000000 -1.0000000 9.0000000 4.0000000\n",
         ),
         (
-            b"count",
-            b"{\"type\":\"GeometryCollection\",\"geometries\":[{\"type\":\"LineString\",\"coordinates\":[[1,2]]},{\"type\":\"Point\"}]}",
+            "count",
+            "{\"type\":\"GeometryCollection\",\"geometries\":[{\"type\":\"LineString\",\"coordinates\":[[1,2]]},{\"type\":\"Point\"}]}",
             "Short at 78",
         ),
         (
-            b"count",
-            b"{\"type\":\"GeometryCollection\",\"geometries\":[1,{}]}",
+            "count",
+            "{\"type\":\"GeometryCollection\",\"geometries\":[1,{}]}",
             "Form at 43",
         ),
     ];
@@ -415,48 +421,48 @@ fn shapes(rt: HostRuntime) -> Result<(), Fail> {
 fn nested(rt: HostRuntime) -> Result<(), Fail> {
     let rows: [Row; 9] = [
         (
-            b"area",
-            b"{\"type\":\"MultiPolygon\",\"coordinates\":[[[[0,0],[2,0],[2,2],[0,2],[0,0]],[[0.5,0.5],[1.5,0.5],[1.5,1.5],[0.5,1.5],[0.5,0.5]]],[[[10,0],[11,0],[11,1],[10,1],[10,0]]]]}",
+            "area",
+            "{\"type\":\"MultiPolygon\",\"coordinates\":[[[[0,0],[2,0],[2,2],[0,2],[0,0]],[[0.5,0.5],[1.5,0.5],[1.5,1.5],[0.5,1.5],[0.5,0.5]]],[[[10,0],[11,0],[11,1],[10,1],[10,0]]]]}",
             "800000000000000\n",
         ),
         (
-            b"extent",
-            b"{\"type\":\"MultiLineString\",\"coordinates\": [ [ [0, 1] , [2,3] ] , [ [ -5,7],[8 ,9]]]}",
+            "extent",
+            "{\"type\":\"MultiLineString\",\"coordinates\": [ [ [0, 1] , [2,3] ] , [ [ -5,7],[8 ,9]]]}",
             "-5.0000000 1.0000000 8.0000000 9.0000000\n",
         ),
         (
-            b"count",
-            b"{\"type\":\"MultiPolygon\",\"coordinates\":[[[[0,0],[1,0],[1,1],[0,0]]],[[[0,0],[1,0],[1,1],[0,1]]]]}",
+            "count",
+            "{\"type\":\"MultiPolygon\",\"coordinates\":[[[[0,0],[1,0],[1,1],[0,0]]],[[[0,0],[1,0],[1,1],[0,1]]]]}",
             "Ring at 67",
         ),
         (
-            b"area",
-            b"{\"type\":\"MultiPolygon\",\"coordinates\":[[[[0,0],[1,0],[1,1],[0,0]]],[[[0,0],[1,0],[1,1],[0,1]]]]}",
+            "area",
+            "{\"type\":\"MultiPolygon\",\"coordinates\":[[[[0,0],[1,0],[1,1],[0,0]]],[[[0,0],[1,0],[1,1],[0,1]]]]}",
             "Ring at 67",
         ),
         (
-            b"count",
-            b"{\"type\":\"MultiLineString\",\"coordinates\":[[[0,0],[1,0]],[[0,0]]]}",
+            "count",
+            "{\"type\":\"MultiLineString\",\"coordinates\":[[[0,0],[1,0]],[[0,0]]]}",
             "Short at 55",
         ),
         (
-            b"area",
-            b"{\"type\":\"Polygon\",\"coordinates\":[[[0,0],[2,0],[2,2],[0,2],[0,0,7]]]}",
+            "area",
+            "{\"type\":\"Polygon\",\"coordinates\":[[[0,0],[2,0],[2,2],[0,2],[0,0,7]]]}",
             "800000000000000\n",
         ),
         (
-            b"count",
-            b"{\"type\":\"MultiPolygon\",\"coordinates\":[[[[[0,0]]]]]}",
+            "count",
+            "{\"type\":\"MultiPolygon\",\"coordinates\":[[[[[0,0]]]]]}",
             "Form at 37",
         ),
         (
-            b"count",
-            b"{\"type\":\"Polygon\",\"coordinates\":[[[[0,0],[1,0],[1,1],[0,0]]]]}",
+            "count",
+            "{\"type\":\"Polygon\",\"coordinates\":[[[[0,0],[1,0],[1,1],[0,0]]]]}",
             "Form at 32",
         ),
         (
-            b"count",
-            b"{\"type\":\"Polygon\",\"coordinates\":[[[0,0],[1,0],[1,1],[0,0]]}",
+            "count",
+            "{\"type\":\"Polygon\",\"coordinates\":[[[0,0],[1,0],[1,1],[0,0]]}",
             "Syntax at 58",
         ),
     ];
@@ -468,98 +474,98 @@ fn nested(rt: HostRuntime) -> Result<(), Fail> {
 fn series(rt: HostRuntime) -> Result<(), Fail> {
     let rows: [Row; 19] = [
         (
-            b"extent",
-            b"{\"type\":\"MultiLineString\",\"coordinates\":[[[0,1],[2,3]],[[-5,7],[8,9]],[[4,5],[6,-7]],[[1,1],[1,1,9],[2,2]]]}",
+            "extent",
+            "{\"type\":\"MultiLineString\",\"coordinates\":[[[0,1],[2,3]],[[-5,7],[8,9]],[[4,5],[6,-7]],[[1,1],[1,1,9],[2,2]]]}",
             "-5.0000000 -7.0000000 8.0000000 9.0000000\n",
         ),
         (
-            b"count",
-            b"{\"type\":\"MultiLineString\",\"coordinates\":[[[0,1],[2,3]],[[-5,7],[8,9]],[[4,5],[6,-7]],[[1,1],[1,1,9],[2,2]]]}",
+            "count",
+            "{\"type\":\"MultiLineString\",\"coordinates\":[[[0,1],[2,3]],[[-5,7],[8,9]],[[4,5],[6,-7]],[[1,1],[1,1,9],[2,2]]]}",
             "1\n",
         ),
         (
-            b"area",
-            b"{\"type\":\"Polygon\",\"coordinates\":[[[0,0],[4,0],[4,4],[0,4],[0,0]],[[1,1],[2,1],[2,2],[1,2],[1,1]],[[2,2],[3,2],[3,3],[2,3],[2,2]]]}",
+            "area",
+            "{\"type\":\"Polygon\",\"coordinates\":[[[0,0],[4,0],[4,4],[0,4],[0,0]],[[1,1],[2,1],[2,2],[1,2],[1,1]],[[2,2],[3,2],[3,3],[2,3],[2,2]]]}",
             "2800000000000000\n",
         ),
         (
-            b"area",
-            b"{\"type\":\"Polygon\",\"coordinates\":[[[0,0],[4,0],[4,4],[0,0]],[[1,1],[2,1],[2,2],[1,2]],[]]}",
+            "area",
+            "{\"type\":\"Polygon\",\"coordinates\":[[[0,0],[4,0],[4,4],[0,0]],[[1,1],[2,1],[2,2],[1,2]],[]]}",
             "Ring at 59",
         ),
         (
-            b"extent",
-            b"{\"type\":\"MultiLineString\",\"coordinates\":[[[0,1],[2,3]],[],[[4,5],[6,7]],[[8,9]]]}",
+            "extent",
+            "{\"type\":\"MultiLineString\",\"coordinates\":[[[0,1],[2,3]],[],[[4,5],[6,7]],[[8,9]]]}",
             "Short at 55",
         ),
         (
-            b"count",
-            b"{\"type\":\"MultiLineString\",\"coordinates\":[[],[],[[0,0]]]}",
+            "count",
+            "{\"type\":\"MultiLineString\",\"coordinates\":[[],[],[[0,0]]]}",
             "Short at 41",
         ),
         (
-            b"extent",
-            b"{\"type\":\"MultiLineString\",\"coordinates\":[[[0,0],[1,1]],[[2,2],[3,3]],5,[[4,4],[5,5]],[]]}",
+            "extent",
+            "{\"type\":\"MultiLineString\",\"coordinates\":[[[0,0],[1,1]],[[2,2],[3,3]],5,[[4,4],[5,5]],[]]}",
             "Form at 40",
         ),
         (
-            b"count",
-            b"{\"type\":\"MultiLineString\",\"coordinates\":[[],[[[0,0]]],[]]}",
+            "count",
+            "{\"type\":\"MultiLineString\",\"coordinates\":[[],[[[0,0]]],[]]}",
             "Form at 40",
         ),
         (
-            b"count",
-            b"{\"type\":\"MultiLineString\",\"coordinates\":[[[0,0],[1,1]],[],{\"type\":\"Point\",\"coordinates\":[0,0]}]}",
+            "count",
+            "{\"type\":\"MultiLineString\",\"coordinates\":[[[0,0],[1,1]],[],{\"type\":\"Point\",\"coordinates\":[0,0]}]}",
             "Form at 40",
         ),
         (
-            b"count",
-            b"{\"type\":\"MultiLineString\",\"coordinates\":[[[0,0],[1,1]],[],{\"a\":1,\"a\":2}]}",
+            "count",
+            "{\"type\":\"MultiLineString\",\"coordinates\":[[[0,0],[1,1]],[],{\"a\":1,\"a\":2}]}",
             "Twin at 65",
         ),
         (
-            b"count",
-            b"{\"type\":\"MultiPolygon\",\"coordinates\":[[[0,0],[1,1]],[[2,2],[3,3]]]}",
+            "count",
+            "{\"type\":\"MultiPolygon\",\"coordinates\":[[[0,0],[1,1]],[[2,2],[3,3]]]}",
             "Form at 37",
         ),
         (
-            b"area",
-            b"{\"type\":\"MultiPolygon\",\"coordinates\":[[[[0,0],[1,0],[1,1],[0,0]],[]]]}",
+            "area",
+            "{\"type\":\"MultiPolygon\",\"coordinates\":[[[[0,0],[1,0],[1,1],[0,0]],[]]]}",
             "Ring at 65",
         ),
         (
-            b"extent",
-            b"{\"type\":\"MultiLineString\",\"coordinates\":[[[0,0],[1,1]],[[0,0],[40000000,1]],[[2,2],[3,3]]]}",
+            "extent",
+            "{\"type\":\"MultiLineString\",\"coordinates\":[[[0,0],[1,1]],[[0,0],[40000000,1]],[[2,2],[3,3]]]}",
             "Range at 63",
         ),
         (
-            b"count",
-            b"{\"type\":\"LineString\",\"coordinates\":[[],[],[]]}",
+            "count",
+            "{\"type\":\"LineString\",\"coordinates\":[[],[],[]]}",
             "Form at 35",
         ),
         (
-            b"count",
-            b"{\"type\":\"Point\",\"coordinates\":[[],[],[]]}",
+            "count",
+            "{\"type\":\"Point\",\"coordinates\":[[],[],[]]}",
             "Form at 30",
         ),
         (
-            b"extent",
-            b"{\"type\":\"GeometryCollection\",\"geometries\":[[[0,0],[1,1]],[],[[2,2]]]}",
+            "extent",
+            "{\"type\":\"GeometryCollection\",\"geometries\":[[[0,0],[1,1]],[],[[2,2]]]}",
             "Form at 43",
         ),
         (
-            b"extent",
-            b"{\"type\":\"GeometryCollection\",\"geometries\":[{\"type\":\"Point\",\"coordinates\":[1,2]},[[0,0],[1,1]],[]]}",
+            "extent",
+            "{\"type\":\"GeometryCollection\",\"geometries\":[{\"type\":\"Point\",\"coordinates\":[1,2]},[[0,0],[1,1]],[]]}",
             "Form at 80",
         ),
         (
-            b"count",
-            b"{\"type\":\"GeometryCollection\",\"geometries\":[[],[[0,0]],{\"type\":\"Point\"}]}",
+            "count",
+            "{\"type\":\"GeometryCollection\",\"geometries\":[[],[[0,0]],{\"type\":\"Point\"}]}",
             "Form at 43",
         ),
         (
-            b"count",
-            b"{\"type\":\"FeatureCollection\",\"features\":[7,[],[[0,0]],{\"type\":\"Feature\",\"geometry\":null}]}",
+            "count",
+            "{\"type\":\"FeatureCollection\",\"features\":[7,[],[[0,0]],{\"type\":\"Feature\",\"geometry\":null}]}",
             "Form at 40",
         ),
     ];
@@ -571,60 +577,69 @@ fn series(rt: HostRuntime) -> Result<(), Fail> {
 fn runs(rt: HostRuntime) -> Result<(), Fail> {
     let rows: [Row; 6] = [
         (
-            b"select",
-            b"{\"type\":\"FeatureCollection\",\"features\":[{\"type\":\"Feature\",\"geometry\":null},{\"type\":\"Feature\",\"geometry\":null},{\"type\":\"Feature\",\"geometry\":null}]}",
+            "select",
+            "{\"type\":\"FeatureCollection\",\"features\":[{\"type\":\"Feature\",\"geometry\":null},{\"type\":\"Feature\",\"geometry\":null},{\"type\":\"Feature\",\"geometry\":null}]}",
             "40\n75\n110\n",
         ),
         (
-            b"count",
-            b"{\"type\":\"FeatureCollection\",\"features\":[{\"type\":\"Feature\",\"geometry\":null},{\"type\":\"Feature\",\"geometry\":null},null,{\"type\":\"Feature\",\"geometry\":null}]}",
+            "count",
+            "{\"type\":\"FeatureCollection\",\"features\":[{\"type\":\"Feature\",\"geometry\":null},{\"type\":\"Feature\",\"geometry\":null},null,{\"type\":\"Feature\",\"geometry\":null}]}",
             "Form at 110",
         ),
         (
-            b"count",
-            b"{\"type\":\"FeatureCollection\",\"features\":[[],{\"type\":\"Feature\",\"geometry\":null},{\"type\":\"Feature\",\"geometry\":null}]}",
+            "count",
+            "{\"type\":\"FeatureCollection\",\"features\":[[],{\"type\":\"Feature\",\"geometry\":null},{\"type\":\"Feature\",\"geometry\":null}]}",
             "Form at 40",
         ),
         (
-            b"count",
-            b"{\"type\":\"FeatureCollection\",\"features\":[{\"type\":\"Feature\",\"geometry\":null},{\"a\":1,\"a\":2},{\"type\":\"Feature\",\"geometry\":null}]}",
+            "count",
+            "{\"type\":\"FeatureCollection\",\"features\":[{\"type\":\"Feature\",\"geometry\":null},{\"a\":1,\"a\":2},{\"type\":\"Feature\",\"geometry\":null}]}",
             "Twin at 82",
         ),
         (
-            b"extent",
-            b"{\"type\":\"GeometryCollection\",\"geometries\":[{\"type\":\"Point\",\"coordinates\":[1,2]},{\"type\":\"GeometryCollection\",\"geometries\":[{\"type\":\"Point\",\"coordinates\":[3,4]},{\"type\":\"Point\",\"coordinates\":[5,0]}]},{\"type\":\"Point\",\"coordinates\":[0,7]}]}",
+            "extent",
+            "{\"type\":\"GeometryCollection\",\"geometries\":[{\"type\":\"Point\",\"coordinates\":[1,2]},{\"type\":\"GeometryCollection\",\"geometries\":[{\"type\":\"Point\",\"coordinates\":[3,4]},{\"type\":\"Point\",\"coordinates\":[5,0]}]},{\"type\":\"Point\",\"coordinates\":[0,7]}]}",
             "0.0000000 0.0000000 5.0000000 7.0000000\n",
         ),
         (
-            b"count",
-            b"{\"type\":\"GeometryCollection\",\"geometries\":[{\"type\":\"Point\",\"coordinates\":[1,2]},{\"type\":\"Point\",\"coordinates\":[3]},{\"type\":\"Point\",\"coordinates\":[4,\"y\"]}]}",
+            "count",
+            "{\"type\":\"GeometryCollection\",\"geometries\":[{\"type\":\"Point\",\"coordinates\":[1,2]},{\"type\":\"Point\",\"coordinates\":[3]},{\"type\":\"Point\",\"coordinates\":[4,\"y\"]}]}",
             "Form at 110",
         ),
     ];
     compare_rows(&rt, &rows)
 }
 
-/// A geometry of which a text tells in short: a digit is a point, a small letter a line, a capital one a polygon, a
-/// full stop a point of nothing, and round brackets are a collection.
+/// What a letter stands for, with `#` for its number: a digit is a point, a small letter a line, a capital one a
+/// polygon, a full stop a point of nothing, and round brackets are a collection.
+fn letter_text(letter: u8) -> &'static str {
+    match letter {
+        b'(' => "{\"type\":\"GeometryCollection\",\"geometries\":[",
+        b')' => "]}",
+        b',' => ",",
+        b'.' => "{\"type\":\"Point\",\"coordinates\":[]}",
+        b'0'..=b'9' => "{\"type\":\"Point\",\"coordinates\":[#,0]}",
+        b'a'..=b'z' => "{\"type\":\"LineString\",\"coordinates\":[[#,0],[#,1]]}",
+        _ => "{\"type\":\"Polygon\",\"coordinates\":[[[#,0],[20,0],[20,1],[#,0]]]}",
+    }
+}
+
+fn put_letter(text: &mut String, letter: u8) -> Result<(), Fail> {
+    let x = u32::from(letter % 16);
+    for (index, part) in letter_text(letter).split('#').enumerate() {
+        if index > 0 {
+            write!(text, "{x}")?;
+        }
+        text.push_str(part)?;
+    }
+    Ok(())
+}
+
+/// A geometry of which a text tells in short.
 fn geometry_text(alloc: Global, short: &str) -> Result<String, Fail> {
     let mut text = String::new(alloc);
     for letter in short.bytes() {
-        let x = letter % 16;
-        match letter {
-            b'(' => text.push_str("{\"type\":\"GeometryCollection\",\"geometries\":[")?,
-            b')' => text.push_str("]}")?,
-            b',' => text.push(',')?,
-            b'.' => text.push_str("{\"type\":\"Point\",\"coordinates\":[]}")?,
-            b'0'..=b'9' => write!(text, "{{\"type\":\"Point\",\"coordinates\":[{x},0]}}")?,
-            b'a'..=b'z' => write!(
-                text,
-                "{{\"type\":\"LineString\",\"coordinates\":[[{x},0],[{x},1]]}}"
-            )?,
-            _ => write!(
-                text,
-                "{{\"type\":\"Polygon\",\"coordinates\":[[[{x},0],[20,0],[20,1],[{x},0]]]}}"
-            )?,
-        }
+        put_letter(&mut text, letter)?;
     }
     Ok(text)
 }
@@ -759,12 +774,12 @@ const PLACES: &[u8] =
 fn compare_places<R: Abort + AllocGlobal>(
     rt: &R,
     how: Coords,
-    rows: &[(&'static [u8], &'static str)],
+    rows: &[(&'static str, &'static str)],
 ) -> Result<(), Fail> {
     for row in rows {
         assert!(rt; row.0.len() < 100);
         for at in [0, 100, 200, 254, 300, 494] {
-            let found = told(rt.alloc(), row.0, PLACES, how, at)?;
+            let found = told(rt.alloc(), row.0.as_bytes(), PLACES, how, at)?;
             assert_eq!(rt; found.as_str(), row.1, "{at}");
         }
     }
@@ -773,13 +788,13 @@ fn compare_places<R: Abort + AllocGlobal>(
 
 #[test]
 fn places(rt: HostRuntime) -> Result<(), Fail> {
-    let rows: [(&'static [u8], &'static str); 4] = [
-        (b"select", "149\n282\n416\n"),
-        (b"extent", "7.1000000 48.4000000 9.9876543 50.7333333\n"),
-        (b"select where has \"name\" = \"Bonn\"", "282\n"),
-        (b"select where in box(7 48,10 49)", "149\n"),
+    let rows: [(&'static str, &'static str); 4] = [
+        ("select", "149\n282\n416\n"),
+        ("extent", "7.1000000 48.4000000 9.9876543 50.7333333\n"),
+        ("select where has \"name\" = \"Bonn\"", "282\n"),
+        ("select where in box(7 48,10 49)", "149\n"),
     ];
     compare_places(&rt, Coords::Round, &rows)?;
-    let exact: [(&'static [u8], &'static str); 1] = [(b"select", "Scale at 251")];
+    let exact: [(&'static str, &'static str); 1] = [("select", "Scale at 251")];
     compare_places(&rt, Coords::Exact, &exact)
 }

@@ -11,38 +11,38 @@ use std::test::Fail;
 fn positions(rt: HostRuntime) -> Result<(), Fail> {
     let rows: [Row; 7] = [
         (
-            b"join",
-            b"{\"type\":\"LineString\",\"coordinates\":[[1,2],[3,4],[5,6],[7,8],[9,10,11]]}",
+            "join",
+            "{\"type\":\"LineString\",\"coordinates\":[[1,2],[3,4],[5,6],[7,8],[9,10,11]]}",
             "0: | 1,2 3,4 5,6 7,8 9,10\n",
         ),
         (
-            b"join",
-            b"{\"type\":\"MultiPoint\",\"coordinates\":[[1,2],[3,4],[5,6],[7,8],[9,10,11]]}",
+            "join",
+            "{\"type\":\"MultiPoint\",\"coordinates\":[[1,2],[3,4],[5,6],[7,8],[9,10,11]]}",
             "0: 1,2 3,4 5,6 7,8 9,10\n",
         ),
         (
-            b"count",
-            b"{\"type\":\"LineString\",\"coordinates\":[[1,2],[3,4],[5,6],[7,8],[9,10,11]]}",
+            "count",
+            "{\"type\":\"LineString\",\"coordinates\":[[1,2],[3,4],[5,6],[7,8],[9,10,11]]}",
             "1\n",
         ),
         (
-            b"join",
-            b"{\"type\":\"Polygon\",\"coordinates\":[[[0,0],[4,0],[4,4],[0,4],[0,0]]]}",
+            "join",
+            "{\"type\":\"Polygon\",\"coordinates\":[[[0,0],[4,0],[4,4],[0,4],[0,0]]]}",
             "0: # 0,0 4,0 4,4 0,4 0,0\n",
         ),
         (
-            b"area",
-            b"{\"type\":\"Polygon\",\"coordinates\":[[[0,0],[4,0],[4,4],[0,4],[0,0]]]}",
+            "area",
+            "{\"type\":\"Polygon\",\"coordinates\":[[[0,0],[4,0],[4,4],[0,4],[0,0]]]}",
             "3200000000000000\n",
         ),
         (
-            b"join",
-            b"{\"type\":\"MultiPolygon\",\"coordinates\":[[[[0,0],[4,0],[4,4],[0,0]],[[1,1],[2,1],[2,2],[1,1]]],[[[5,5],[6,5],[6,6],[5,5]]]]}",
+            "join",
+            "{\"type\":\"MultiPolygon\",\"coordinates\":[[[[0,0],[4,0],[4,4],[0,0]],[[1,1],[2,1],[2,2],[1,1]]],[[[5,5],[6,5],[6,6],[5,5]]]]}",
             "0: # 0,0 4,0 4,4 0,0 # 1,1 2,1 2,2 1,1 # 5,5 6,5 6,6 5,5\n",
         ),
         (
-            b"join",
-            b"{\"type\":\"MultiLineString\",\"coordinates\":[[[1,1],[2,2],[3,3]],[[4,4],[5,5]],[[6,6],[7,7],[8,8]]]}",
+            "join",
+            "{\"type\":\"MultiLineString\",\"coordinates\":[[[1,1],[2,2],[3,3]],[[4,4],[5,5]],[[6,6],[7,7],[8,8]]]}",
             "0: | 1,1 2,2 3,3 | 4,4 5,5 | 6,6 7,7 8,8\n",
         ),
     ];
@@ -55,68 +55,68 @@ fn positions(rt: HostRuntime) -> Result<(), Fail> {
 fn faults_in_lists(rt: HostRuntime) -> Result<(), Fail> {
     let rows: [Row; 13] = [
         (
-            b"area",
-            b"{\"type\":\"Polygon\",\"coordinates\":[[[0,0],[4,0],[4,4],[0,4],[0,1]]]}",
+            "area",
+            "{\"type\":\"Polygon\",\"coordinates\":[[[0,0],[4,0],[4,4],[0,4],[0,1]]]}",
             "Ring at 33",
         ),
         (
-            b"count",
-            b"{\"type\":\"Polygon\",\"coordinates\":[[[0,0],[4,0],[4,4],[1,4],[1,0]]]}",
+            "count",
+            "{\"type\":\"Polygon\",\"coordinates\":[[[0,0],[4,0],[4,4],[1,4],[1,0]]]}",
             "Ring at 33",
         ),
         (
-            b"count",
-            b"{\"type\":\"Polygon\",\"coordinates\":[[[0,0],[1,0],[0,0]]]}",
+            "count",
+            "{\"type\":\"Polygon\",\"coordinates\":[[[0,0],[1,0],[0,0]]]}",
             "Ring at 33",
         ),
         (
-            b"area",
-            b"{\"type\":\"Polygon\",\"coordinates\":[[[0,0],[1,1]]]}",
+            "area",
+            "{\"type\":\"Polygon\",\"coordinates\":[[[0,0],[1,1]]]}",
             "Ring at 33",
         ),
         (
-            b"count",
-            b"{\"type\":\"LineString\",\"coordinates\":[[5,6]]}",
+            "count",
+            "{\"type\":\"LineString\",\"coordinates\":[[5,6]]}",
             "Short at 35",
         ),
         (
-            b"extent",
-            b"{\"type\":\"LineString\",\"coordinates\":[[0,0],[1,1],[40000000,1],[2,2],[0,50000000]]}",
+            "extent",
+            "{\"type\":\"LineString\",\"coordinates\":[[0,0],[1,1],[40000000,1],[2,2],[0,50000000]]}",
             "Range at 49",
         ),
         (
-            b"extent",
-            b"{\"type\":\"MultiPoint\",\"coordinates\":[[0,0],[1,40000000],[2,2]]}",
+            "extent",
+            "{\"type\":\"MultiPoint\",\"coordinates\":[[0,0],[1,40000000],[2,2]]}",
             "Range at 45",
         ),
         (
-            b"area",
-            b"{\"type\":\"Polygon\",\"coordinates\":[[[40000000,0],[1,0],[1,1],[2,2]]]}",
+            "area",
+            "{\"type\":\"Polygon\",\"coordinates\":[[[40000000,0],[1,0],[1,1],[2,2]]]}",
             "Range at 35",
         ),
         (
-            b"area",
-            b"{\"type\":\"Polygon\",\"coordinates\":[[[0,0],[1,0],[1,1],[2,40000000]]]}",
+            "area",
+            "{\"type\":\"Polygon\",\"coordinates\":[[[0,0],[1,0],[1,1],[2,40000000]]]}",
             "Range at 55",
         ),
         (
-            b"area",
-            b"{\"type\":\"Polygon\",\"coordinates\":[[[0,0],[1,0],[1,40000000],[2,2],[3,3]]]}",
+            "area",
+            "{\"type\":\"Polygon\",\"coordinates\":[[[0,0],[1,0],[1,40000000],[2,2],[3,3]]]}",
             "Ring at 33",
         ),
         (
-            b"count",
-            b"{\"type\":\"Polygon\",\"coordinates\":[[[0,0],[1,0],[1,40000000],[2,2],[0,0]]]}",
+            "count",
+            "{\"type\":\"Polygon\",\"coordinates\":[[[0,0],[1,0],[1,40000000],[2,2],[0,0]]]}",
             "Range at 49",
         ),
         (
-            b"count",
-            b"{\"type\":\"Polygon\",\"coordinates\":[[[0,0],[1,40000000],[0,0]]]}",
+            "count",
+            "{\"type\":\"Polygon\",\"coordinates\":[[[0,0],[1,40000000],[0,0]]]}",
             "Ring at 33",
         ),
         (
-            b"extent",
-            b"{\"type\":\"MultiLineString\",\"coordinates\":[[[0,0],[1,1],[2,2]],[[0,0],[1,1],[2,40000000]],[[5,5]]]}",
+            "extent",
+            "{\"type\":\"MultiLineString\",\"coordinates\":[[[0,0],[1,1],[2,2]],[[0,0],[1,1],[2,40000000]],[[5,5]]]}",
             "Range at 77",
         ),
     ];
@@ -128,73 +128,73 @@ fn faults_in_lists(rt: HostRuntime) -> Result<(), Fail> {
 fn other_items(rt: HostRuntime) -> Result<(), Fail> {
     let rows: [Row; 14] = [
         (
-            b"extent",
-            b"{\"type\":\"LineString\",\"coordinates\":[[0,0],[1,1],5,[2,2],[3,3]]}",
+            "extent",
+            "{\"type\":\"LineString\",\"coordinates\":[[0,0],[1,1],5,[2,2],[3,3]]}",
             "Form at 35",
         ),
         (
-            b"count",
-            b"{\"type\":\"LineString\",\"coordinates\":[[0,0],[1,1],[],[2,2]]}",
+            "count",
+            "{\"type\":\"LineString\",\"coordinates\":[[0,0],[1,1],[],[2,2]]}",
             "Form at 35",
         ),
         (
-            b"count",
-            b"{\"type\":\"MultiLineString\",\"coordinates\":[[[0,0],[1,1]],[2,2],[3,3]]}",
+            "count",
+            "{\"type\":\"MultiLineString\",\"coordinates\":[[[0,0],[1,1]],[2,2],[3,3]]}",
             "Form at 40",
         ),
         (
-            b"count",
-            b"{\"type\":\"MultiLineString\",\"coordinates\":[[0,0],[1,1],[[2,2],[3,3]]]}",
+            "count",
+            "{\"type\":\"MultiLineString\",\"coordinates\":[[0,0],[1,1],[[2,2],[3,3]]]}",
             "Form at 40",
         ),
         (
-            b"count",
-            b"{\"type\":\"MultiLineString\",\"coordinates\":[[0,0],[1,1],[2,2]]}",
+            "count",
+            "{\"type\":\"MultiLineString\",\"coordinates\":[[0,0],[1,1],[2,2]]}",
             "Form at 40",
         ),
         (
-            b"count",
-            b"{\"type\":\"MultiPolygon\",\"coordinates\":[[0,0],[1,1],[2,2]]}",
+            "count",
+            "{\"type\":\"MultiPolygon\",\"coordinates\":[[0,0],[1,1],[2,2]]}",
             "Form at 37",
         ),
         (
-            b"count",
-            b"{\"type\":\"MultiPolygon\",\"coordinates\":[[[0,0],[1,0],[1,1],[0,0]]]}",
+            "count",
+            "{\"type\":\"MultiPolygon\",\"coordinates\":[[[0,0],[1,0],[1,1],[0,0]]]}",
             "Form at 37",
         ),
         (
-            b"count",
-            b"{\"type\":\"Point\",\"coordinates\":[[0,0],[1,1],[2,2]]}",
+            "count",
+            "{\"type\":\"Point\",\"coordinates\":[[0,0],[1,1],[2,2]]}",
             "Form at 30",
         ),
         (
-            b"count",
-            b"{\"type\":\"LineString\",\"coordinates\":[[0,0],[1,1],{\"a\":1,\"a\":2},[2,2]]}",
+            "count",
+            "{\"type\":\"LineString\",\"coordinates\":[[0,0],[1,1],{\"a\":1,\"a\":2},[2,2]]}",
             "Twin at 55",
         ),
         (
-            b"extent",
-            b"{\"type\":\"LineString\",\"coordinates\":[[0,0],[1,1],{\"type\":\"Point\",\"coordinates\":[2,2]},[3,3]]}",
+            "extent",
+            "{\"type\":\"LineString\",\"coordinates\":[[0,0],[1,1],{\"type\":\"Point\",\"coordinates\":[2,2]},[3,3]]}",
             "Form at 35",
         ),
         (
-            b"extent",
-            b"{\"type\":\"GeometryCollection\",\"geometries\":[[0,0],[1,1],[2,2]]}",
+            "extent",
+            "{\"type\":\"GeometryCollection\",\"geometries\":[[0,0],[1,1],[2,2]]}",
             "Form at 43",
         ),
         (
-            b"extent",
-            b"{\"type\":\"GeometryCollection\",\"geometries\":[{\"type\":\"Point\",\"coordinates\":[1,2]},[3,4],[5,6]]}",
+            "extent",
+            "{\"type\":\"GeometryCollection\",\"geometries\":[{\"type\":\"Point\",\"coordinates\":[1,2]},[3,4],[5,6]]}",
             "Form at 80",
         ),
         (
-            b"count",
-            b"{\"type\":\"FeatureCollection\",\"features\":[{\"type\":\"Feature\",\"geometry\":null},[3,4],[5,6],7]}",
+            "count",
+            "{\"type\":\"FeatureCollection\",\"features\":[{\"type\":\"Feature\",\"geometry\":null},[3,4],[5,6],7]}",
             "Form at 75",
         ),
         (
-            b"count",
-            b"{\"type\":\"FeatureCollection\",\"features\":[[3,4],[5,6],{\"type\":\"Feature\",\"geometry\":null}]}",
+            "count",
+            "{\"type\":\"FeatureCollection\",\"features\":[[3,4],[5,6],{\"type\":\"Feature\",\"geometry\":null}]}",
             "Form at 40",
         ),
     ];
@@ -220,7 +220,7 @@ fn long_line(alloc: Global, count: u32) -> Result<String, Fail> {
 fn compare_long<R: Abort + AllocGlobal>(
     rt: &R,
     count: u32,
-    row: (&'static [u8], &'static str),
+    row: (&'static str, &'static str),
 ) -> Result<(), Fail> {
     let text = long_line(rt.alloc(), count)?;
     let bytes = text.as_bytes();
@@ -228,7 +228,7 @@ fn compare_long<R: Abort + AllocGlobal>(
     assert!(rt; bytes.len() < 200_000);
     let len = bytes.len() as u32;
     for at in [0, len / 5, len / 2, len - len.min(3)] {
-        let found = told(rt.alloc(), row.0, bytes, Coords::Round, at)?;
+        let found = told(rt.alloc(), row.0.as_bytes(), bytes, Coords::Round, at)?;
         assert_eq!(rt; found.as_str(), row.1, "{at}");
     }
     Ok(())
@@ -238,7 +238,7 @@ fn compare_long<R: Abort + AllocGlobal>(
 #[test]
 fn long_lines(rt: HostRuntime) -> Result<(), Fail> {
     let extent = "0.0000000 0.0000000 299.0000000 89401.0000000\n";
-    compare_long(&rt, 300, (b"extent", extent))?;
-    compare_long(&rt, 5000, (b"extent", extent))?;
-    compare_long(&rt, 5000, (b"count", "1\n"))
+    compare_long(&rt, 300, ("extent", extent))?;
+    compare_long(&rt, 5000, ("extent", extent))?;
+    compare_long(&rt, 5000, ("count", "1\n"))
 }

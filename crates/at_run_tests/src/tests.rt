@@ -10,9 +10,10 @@ use at_fixed::Coords;
 use at_geom::{Extent, Pos};
 use at_lex::Units;
 use at_query::{Query, Test, Tests, Verb, answer_text};
-use at_run::{Cuts, Form, RunFault, answer, answer_join};
-use at_text::base_of;
+use at_run::{Cuts, Form, JoinFault, RunFault, answer, answer_join};
+use at_text::{Fault, base_of};
 use std::alloc::{AllocError, Global};
+use std::process::Abort;
 use std::sync::atomic::{AtomicU64, Ordering};
 use std::test::Fail;
 use std::thread::Threads;
@@ -49,6 +50,13 @@ fn asked(alloc: Global, verb: Verb, test: Option<Test>) -> Result<Query, AllocEr
         verb,
         tests: Tests::from_vec(items),
     })
+}
+
+/// A fault, behind the name of its file.
+fn fault_text(alloc: Global, file: &str, fault: Fault) -> Result<String, Fail> {
+    let kind = fault.kind;
+    let at = fault.at;
+    Ok(format!(in alloc; "{file}{kind:?} {at}")?)
 }
 
 /// What a file is found to be under cuts: the printed answer, or its first fault. Coordinates are read exactly.
@@ -90,11 +98,7 @@ fn told<R: Threads + Sync, G: Gate>(
         gate,
     ) {
         Ok(answer) => Ok(answer_text(alloc, &answer, 7)?),
-        Err(RunFault::Found(fault)) => {
-            let kind = fault.kind;
-            let at = fault.at;
-            Ok(format!(in alloc; "{kind:?} {at}")?)
-        }
+        Err(RunFault::Found(fault)) => fault_text(alloc, "", fault),
         Err(RunFault::Memory) => Ok(String::from_str(alloc, "memory")?),
     }
 }
@@ -249,17 +253,27 @@ fn told_of_places<R: Threads + Sync>(
     Ok(all)
 }
 
+/// Whether `select` prints this over a file, wherever it is cut once.
+fn is_told_of_places<R: Threads + Sync>(
+    rt: &R,
+    alloc: Global,
+    file: &str,
+    expected: &str,
+) -> Result<bool, Fail> {
+    let query = asked(alloc, Verb::Select, None)?;
+    let bytes = bytes_of(alloc, file)?;
+    let told = told_of_places(rt, alloc, bytes.as_slice(), Form::Wkt, &query)?;
+    Ok(told.as_str() == expected)
+}
+
 #[test]
 fn one_cut(rt: HostRuntime) -> Result<(), Fail> {
-    let query = asked(rt.alloc(), Verb::Select, None)?;
-    let plain = bytes_of(rt.alloc(), "POINT (1 2)^~ \t~POINT (3 4)^")?;
-    assert_eq!(rt; plain.len(), 28);
-    let told = told_of_places(&rt, rt.alloc(), plain.as_slice(), Form::Wkt, &query)?;
-    assert_eq!(rt; told.as_str(), "0\n16\n");
-    let marked = bytes_of(rt.alloc(), "\u{FEFF}POINT (1 2)^~ \t~POINT (3 4)^")?;
-    assert_eq!(rt; marked.len(), 31);
-    let told = told_of_places(&rt, rt.alloc(), marked.as_slice(), Form::Wkt, &query)?;
-    assert_eq!(rt; told.as_str(), "3\n19\n");
+    let plain = "POINT (1 2)^~ \t~POINT (3 4)^";
+    assert!(rt; plain.len() == 28);
+    assert!(rt; is_told_of_places(&rt, rt.alloc(), plain, "0\n16\n")?);
+    let marked = "\u{FEFF}POINT (1 2)^~ \t~POINT (3 4)^";
+    assert!(rt; marked.len() == 31);
+    assert!(rt; is_told_of_places(&rt, rt.alloc(), marked, "3\n19\n")?);
     Ok(())
 }
 
@@ -301,31 +315,36 @@ fn labels_at_every_cut(rt: HostRuntime) -> Result<(), Fail> {
     Ok(())
 }
 
-/// What `select` prints of the lines of a file that have this label.
-fn told_of_label<R: Threads + Sync>(
+/// The test of a label.
+fn labelled(alloc: Global, label: &[u16]) -> Result<Test, AllocError>
+    ensures { IfOk result IsTestInRange }
+{
+    let name = Units::from_slice(alloc, &[0x6C, 0x61, 0x62, 0x65, 0x6C])?;
+    let label = Units::from_slice(alloc, label)?;
+    Ok(Test::Has(name, label))
+}
+
+/// Whether `select` prints this of the lines of a file that have this label.
+fn is_told_of_label<R: Threads + Sync>(
     rt: &R,
     alloc: Global,
-    label: Vec<u16>,
+    label: &[u16],
     file: &str,
-) -> Result<String, Fail> {
-    let name = vec![in alloc; 0x6C, 0x61, 0x62, 0x65, 0x6C]?;
-    let name = Units::from_slice(alloc, name.as_slice())?;
-    let label = Units::from_slice(alloc, label.as_slice())?;
-    let test = Test::Has(name, label);
-    let query = asked(alloc, Verb::Select, Some(test))?;
+    expected: &str,
+) -> Result<bool, Fail> {
+    let query = asked(alloc, Verb::Select, Some(labelled(alloc, label)?))?;
     let bytes = bytes_of(alloc, file)?;
-    told_of_places(rt, alloc, bytes.as_slice(), Form::Wkt, &query)
+    let told = told_of_places(rt, alloc, bytes.as_slice(), Form::Wkt, &query)?;
+    Ok(told.as_str() == expected)
 }
 
 #[test]
 fn lines_of_a_label(rt: HostRuntime) -> Result<(), Fail> {
     let file = r#""Bonn" POINT (7.1 50.7)~"\u0042onn" POINT EMPTY~POINT (1 2)~"Ulm" POINT (9 48)"#;
-    let bonn = vec![in rt.alloc(); 0x42, 0x6F, 0x6E, 0x6E]?;
-    let told = told_of_label(&rt, rt.alloc(), bonn, file)?;
-    assert_eq!(rt; told.as_str(), "0\n24\n");
-    let ulm = vec![in rt.alloc(); 0x55, 0x6C, 0x6D]?;
-    let told = told_of_label(&rt, rt.alloc(), ulm, file)?;
-    assert_eq!(rt; told.as_str(), "60\n");
+    let bonn: &[u16] = &[0x42, 0x6F, 0x6E, 0x6E];
+    assert!(rt; is_told_of_label(&rt, rt.alloc(), bonn, file, "0\n24\n")?);
+    let ulm: &[u16] = &[0x55, 0x6C, 0x6D];
+    assert!(rt; is_told_of_label(&rt, rt.alloc(), ulm, file, "60\n")?);
     Ok(())
 }
 
@@ -374,29 +393,25 @@ fn one_cut_of_a_text(rt: HostRuntime) -> Result<(), Fail> {
     Ok(())
 }
 
+/// A query for the features in which `k` is `a"b}]{`.
+fn asked_for_brackets(alloc: Global) -> Result<Query, Fail>
+    ensures in_range { IfOk result IsQueryInRange }
+    ensures verb { IfOk result (λ query. query.verb ≡ Verb.Select) }
+{
+    let name = Units::from_slice(alloc, &[0x6B])?;
+    let value = Units::from_slice(alloc, &[0x61, 0x22, 0x62, 0x7D, 0x5D, 0x7B])?;
+    Ok(asked(alloc, Verb::Select, Some(Test::Has(name, value)))?)
+}
+
 /// A feature that has the text of which a test asks, cut before its escape, within it and behind it.
 #[test]
 fn cuts_round_an_escape(rt: HostRuntime) -> Result<(), Fail> {
-    let name = vec![in rt.alloc(); 0x6B]?;
-    let value = vec![in rt.alloc(); 0x61, 0x22, 0x62, 0x7D, 0x5D, 0x7B]?;
-    let name = Units::from_slice(rt.alloc(), name.as_slice())?;
-    let value = Units::from_slice(rt.alloc(), value.as_slice())?;
-    let has = Test::Has(name, value);
-    let query = asked(rt.alloc(), Verb::Select, Some(has))?;
-    let bytes = bytes_of(
-        rt.alloc(),
-        r#"{"type":"Feature","properties":{"k":"a\"b}]{"},"geometry":null}"#,
-    )?;
+    let query = asked_for_brackets(rt.alloc())?;
+    let text = r#"{"type":"Feature","properties":{"k":"a\"b}]{"},"geometry":null}"#;
     let places = vec![in rt.alloc(); 0, 38, 39, 40, 63]?;
-    let told = told_at(
-        &rt,
-        rt.alloc(),
-        bytes.as_slice(),
-        Form::GeoJson,
-        places,
-        &query,
-    )?;
-    assert_eq!(rt; told.as_str(), "0\n");
+    let bytes = text.as_bytes();
+    let told = told_at(&rt, rt.alloc(), bytes, Form::GeoJson, places, &query)?;
+    assert!(rt; told.as_str() == "0\n");
     Ok(())
 }
 
@@ -443,7 +458,9 @@ fn told_joined<R: Threads + Sync>(
         &Free,
     ) {
         Ok(answer) => Ok(answer_text(alloc, &answer, 7)?),
-        Err(fault) => Ok(format!(in alloc; "{fault:?}")?),
+        Err(JoinFault::First(fault)) => fault_text(alloc, "first ", fault),
+        Err(JoinFault::Second(fault)) => fault_text(alloc, "second ", fault),
+        Err(JoinFault::Memory) => Ok(String::from_str(alloc, "memory")?),
     }
 }
 
@@ -452,11 +469,11 @@ fn joins_of_two_forms(rt: HostRuntime) -> Result<(), Fail> {
     let lines = "POINT (1 2)~POINT (3 4)";
     let text = r#"{"type":"Point","coordinates":[3,4]}"#;
     let told = told_joined(&rt, rt.alloc(), lines, Form::Wkt, text, Form::GeoJson)?;
-    assert_eq!(rt; told.as_str(), "12 0\n");
+    assert!(rt; told.as_str() == "12 0\n");
     let told = told_joined(&rt, rt.alloc(), text, Form::GeoJson, lines, Form::Wkt)?;
-    assert_eq!(rt; told.as_str(), "0 12\n");
+    assert!(rt; told.as_str() == "0 12\n");
     let told = told_joined(&rt, rt.alloc(), lines, Form::Wkt, lines, Form::GeoJson)?;
-    assert_eq!(rt; told.as_str(), "Second(Fault { kind: Syntax, at: 0 })");
+    assert!(rt; told.as_str() == "second Syntax 0");
     Ok(())
 }
 
@@ -469,29 +486,33 @@ fn told_of_square<R: Threads + Sync>(rt: &R, alloc: Global, verb: Verb) -> Resul
     told_of_pairs(rt, alloc, bytes.as_slice(), &query)
 }
 
+fn compare_square<R: Abort + Threads + Sync + AllocGlobal>(
+    rt: &R,
+    verb: Verb,
+    expected: &str,
+) -> Result<(), Fail>
+    requires { verb ≢ Verb.Join }
+{
+    let told = told_of_square(rt, rt.alloc(), verb)?;
+    assert!(rt; told.as_str() == expected, "{expected}");
+    Ok(())
+}
+
 #[test]
 fn other_verbs(rt: HostRuntime) -> Result<(), Fail> {
-    assert_eq!(rt;
-        told_of_square(&rt, rt.alloc(), Verb::Select)?.as_str(),
-        "0\n32\n"
-    );
-    assert_eq!(rt;
-        told_of_square(&rt, rt.alloc(), Verb::Count)?.as_str(),
-        "2\n"
-    );
-    assert_eq!(rt;
-        told_of_square(&rt, rt.alloc(), Verb::Area)?.as_str(),
-        "800000000000000\n"
-    );
-    assert_eq!(rt;
-        told_of_square(&rt, rt.alloc(), Verb::Extent)?.as_str(),
-        "0.0000000 -1.0000000 5.0000000 2.0000000\n"
-    );
-    assert_eq!(rt;
-        told_of_square(&rt, rt.alloc(), Verb::Hull)?.as_str(),
-        "5.0000000 -1.0000000\n2.0000000 2.0000000\n0.0000000 2.0000000\n0.0000000 0.0000000\n"
-    );
-    Ok(())
+    compare_square(&rt, Verb::Select, "0\n32\n")?;
+    compare_square(&rt, Verb::Count, "2\n")?;
+    compare_square(&rt, Verb::Area, "800000000000000\n")?;
+    compare_square(
+        &rt,
+        Verb::Extent,
+        "0.0000000 -1.0000000 5.0000000 2.0000000\n",
+    )?;
+    compare_square(
+        &rt,
+        Verb::Hull,
+        "5.0000000 -1.0000000\n2.0000000 2.0000000\n0.0000000 2.0000000\n0.0000000 0.0000000\n",
+    )
 }
 
 /// Points on one line, two of which the ends of a line across it hold.
@@ -503,10 +524,9 @@ fn hull_at_every_cut(rt: HostRuntime) -> Result<(), Fail> {
         "POINT (1 1)~POINT (3 3)~POINT (2 2)~LINESTRING (0 3,3 0)~",
     )?;
     let told = told_of_places(&rt, rt.alloc(), bytes.as_slice(), Form::Wkt, &query)?;
-    assert_eq!(rt;
-        told.as_str(),
-        "3.0000000 0.0000000\n3.0000000 3.0000000\n0.0000000 3.0000000\n1.0000000 1.0000000\n"
-    );
+    let corners =
+        "3.0000000 0.0000000\n3.0000000 3.0000000\n0.0000000 3.0000000\n1.0000000 1.0000000\n";
+    assert!(rt; told.as_str() == corners);
     Ok(())
 }
 
@@ -526,37 +546,66 @@ fn tests_of_queries(rt: HostRuntime) -> Result<(), Fail> {
         "POINT (1 1)~POINT EMPTY~POINT (1.0000001 0)~POINT (0 1)",
     )?;
     let told = told_of_pairs(&rt, rt.alloc(), bytes.as_slice(), &query)?;
-    assert_eq!(rt; told.as_str(), "0\n44\n");
+    assert!(rt; told.as_str() == "0\n44\n");
     Ok(())
+}
+
+/// Whether so many blocks have these borders.
+fn is_even(
+    alloc: Global,
+    first: u32,
+    last: u32,
+    blocks: u32,
+    expected: &[u32],
+) -> Result<bool, Fail>
+    requires order { first ≤ last }
+    requires end { last ≤ 2 ^ 28 }
+    requires some { 1 ≤ blocks }
+    requires few { blocks ≤ 4096 }
+{
+    let even = Cuts::even(alloc, first, last, blocks)?;
+    Ok(even.as_slice() == expected)
 }
 
 #[test]
 fn places(rt: HostRuntime) -> Result<(), Fail> {
-    let even = Cuts::even(rt.alloc(), 0, 3, 3)?;
-    assert_eq!(rt; even.as_slice(), [0, 0, 1, 2, 3].as_slice());
-    let even = Cuts::even(rt.alloc(), 3, 31, 2)?;
-    assert_eq!(rt; even.as_slice(), [3, 17, 31].as_slice());
-    let even = Cuts::even(rt.alloc(), 5, 5, 1)?;
-    assert_eq!(rt; even.as_slice(), [5, 5].as_slice());
+    assert!(rt; is_even(rt.alloc(), 0, 3, 3, &[0, 0, 1, 2, 3])?);
+    assert!(rt; is_even(rt.alloc(), 3, 31, 2, &[3, 17, 31])?);
+    assert!(rt; is_even(rt.alloc(), 5, 5, 1, &[5, 5])?);
     let most = Cuts::even(rt.alloc(), 0, 268_435_456, 4096)?;
-    assert_eq!(rt; most.as_slice().len(), 4097);
+    assert!(rt; most.as_slice().len() == 4097);
     Ok(())
 }
 
-fn is_accepted(places: Vec<u32>) -> bool {
-    Cuts::from_places(places).is_some()
+fn is_accepted(alloc: Global, places: &[u32]) -> Result<bool, AllocError> {
+    Ok(Cuts::from_places(Vec::from_slice(alloc, places)?).is_some())
+}
+
+fn compare_lists<R: Abort + AllocGlobal>(
+    rt: &R,
+    lists: &[&'static [u32]],
+    expected: bool,
+) -> Result<(), Fail> {
+    for (row, places) in lists.iter().enumerate() {
+        let accepted = is_accepted(rt.alloc(), places)?;
+        assert!(rt; accepted == expected, "list {row}");
+    }
+    Ok(())
+}
+
+/// Whether a list of so many zeros is accepted.
+fn are_zeros_accepted(alloc: Global, count: usize) -> Result<bool, AllocError> {
+    Ok(Cuts::from_places(vec![in alloc; 0; count]?).is_some())
 }
 
 #[test]
 fn lists_of_places(rt: HostRuntime) -> Result<(), Fail> {
-    assert!(rt; !is_accepted(vec![in rt.alloc(); 0, 5, 3]?));
-    assert!(rt; !is_accepted(vec![in rt.alloc(); 0, 1, 2, 3]?));
-    assert!(rt; !is_accepted(vec![in rt.alloc(); 0]?));
-    assert!(rt; !is_accepted(Vec::new(rt.alloc())));
-    assert!(rt; is_accepted(vec![in rt.alloc(); 7, 7]?));
-    assert!(rt; is_accepted(vec![in rt.alloc(); 0, 5, 5]?));
-    assert!(rt; is_accepted(vec![in rt.alloc(); 0; 4097]?));
-    assert!(rt; !is_accepted(vec![in rt.alloc(); 0; 8193]?));
+    let refused: [&'static [u32]; 4] = [&[0, 5, 3], &[0, 1, 2, 3], &[0], &[]];
+    let accepted: [&'static [u32]; 2] = [&[7, 7], &[0, 5, 5]];
+    compare_lists(&rt, &refused, false)?;
+    compare_lists(&rt, &accepted, true)?;
+    assert!(rt; are_zeros_accepted(rt.alloc(), 4097)?);
+    assert!(rt; !are_zeros_accepted(rt.alloc(), 8193)?);
     Ok(())
 }
 
@@ -595,12 +644,21 @@ fn told_without<R: Threads + Sync>(rt: &R, alloc: Global, block: u32) -> Result<
     )
 }
 
+fn compare_without<R: Abort + Threads + Sync + AllocGlobal>(
+    rt: &R,
+    block: u32,
+    expected: &str,
+) -> Result<(), Fail> {
+    let told = told_without(rt, rt.alloc(), block)?;
+    assert!(rt; told.as_str() == expected, "without block {block}");
+    Ok(())
+}
+
 #[test]
 fn blocks_given_up(rt: HostRuntime) -> Result<(), Fail> {
-    assert_eq!(rt; told_without(&rt, rt.alloc(), 0)?.as_str(), "memory");
-    assert_eq!(rt; told_without(&rt, rt.alloc(), 1)?.as_str(), "memory");
-    assert_eq!(rt; told_without(&rt, rt.alloc(), 2)?.as_str(), "0\n12\n");
-    Ok(())
+    compare_without(&rt, 0, "memory")?;
+    compare_without(&rt, 1, "memory")?;
+    compare_without(&rt, 2, "0\n12\n")
 }
 
 /// A gate that counts how often each of two blocks is entered, and holds block 0 until block 1 was entered, for some
@@ -664,9 +722,10 @@ fn two_blocks_at_once(rt: HostRuntime) -> Result<(), Fail> {
         entries: [AtomicU64::new(0), AtomicU64::new(0)],
         gave_up_waiting: AtomicU64::new(0),
     };
-    assert_eq!(rt; told_held(&rt, rt.alloc(), &gate)?.as_str(), "0\n12\n");
-    assert_eq!(rt; gate.entries[0].load(Ordering::SeqCst), 1);
-    assert_eq!(rt; gate.entries[1].load(Ordering::SeqCst), 1);
-    assert_eq!(rt; gate.gave_up_waiting.load(Ordering::SeqCst), 0);
+    let told = told_held(&rt, rt.alloc(), &gate)?;
+    assert!(rt; told.as_str() == "0\n12\n");
+    assert!(rt; gate.entries[0].load(Ordering::SeqCst) == 1);
+    assert!(rt; gate.entries[1].load(Ordering::SeqCst) == 1);
+    assert!(rt; gate.gave_up_waiting.load(Ordering::SeqCst) == 0);
     Ok(())
 }

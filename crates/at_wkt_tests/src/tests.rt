@@ -9,17 +9,20 @@ use at_wkt::{Fold, LineFault, Room, finish_lines, read_geometry, read_line, run_
 use std::alloc::{AllocError, Global};
 use std::test::Fail;
 
+/// A fault's kind and offset.
+fn fault_text(alloc: Global, fault: Fault) -> Result<String, AllocError> {
+    let kind = fault.kind;
+    let at = fault.at;
+    format!(in alloc; "{kind:?} {at}")
+}
+
 /// What a line that begins at the offset 100 is found to be, with exact coordinates: none, or its first fault.
 fn told_of_line(alloc: Global, line: &[u8]) -> Result<String, AllocError>
     requires { length line.now ≤ 2 ^ 27 }
 {
     match read_line(alloc, line, 100, 7, Coords::Exact) {
         Ok(_) => String::from_str(alloc, "none"),
-        Err(LineFault::Found(fault)) => {
-            let kind = fault.kind;
-            let at = fault.at;
-            format!(in alloc; "{kind:?} {at}")
-        }
+        Err(LineFault::Found(fault)) => fault_text(alloc, fault),
         Err(LineFault::Memory) => String::from_str(alloc, "memory"),
     }
 }
@@ -197,11 +200,7 @@ fn told_in_room(
 {
     match room.check_line(alloc, ahead, len, 100, 7, Coords::Exact) {
         Ok(None) => String::from_str(alloc, "none"),
-        Ok(Some(fault)) => {
-            let kind = fault.kind;
-            let at = fault.at;
-            format!(in alloc; "{kind:?} {at}")
-        }
+        Ok(Some(fault)) => fault_text(alloc, fault),
         Err(_) => String::from_str(alloc, "memory"),
     }
 }
@@ -250,28 +249,53 @@ Ended 100||POINT (1.5 2.5)
 none|POLYGON ((0 0,1 0,1 1,0 0))|,(0 0,1 0,1 1,0 0))
 Syntax 111|POINT (1 2))|and more";
 
+/// The three parts of a row, between which bars stand.
+fn parts_of(row: &str) -> Result<(&str, &str, &str), Fail> {
+    let (expected, both) = row.split_once('|').ok_or("a bar")?;
+    let (line, behind) = both.split_once('|').ok_or("a second bar")?;
+    Ok((expected, line, behind))
+}
+
+/// A line and what stands behind it.
+fn ahead_of(alloc: Global, line: &str, behind: &str) -> Result<String, AllocError> {
+    let mut ahead = String::from_str(alloc, line)?;
+    ahead.push_str(behind)?;
+    Ok(ahead)
+}
+
+/// Whether the line of a row is found to be what the row tells.
+fn is_followed(room: &mut Room, alloc: Global, row: &str) -> Result<bool, Fail> {
+    let (expected, line, behind) = parts_of(row)?;
+    let ahead = ahead_of(alloc, line, behind)?;
+    if ahead.len() >= 200 || line.len() > ahead.len() {
+        return Ok(false);
+    }
+    let told = told_in_room(room, alloc, ahead.as_bytes(), line.len())?;
+    Ok(told.as_str() == expected)
+}
+
 #[test]
 fn followed_lines(rt: HostRuntime) -> Result<(), Fail> {
     let mut room = Room::new(rt.alloc());
     for row in FOLLOWED.lines() {
-        let (expected, both) = row.split_once('|').ok_or("a bar")?;
-        let (line, behind) = both.split_once('|').ok_or("a second bar")?;
-        let ahead = format!(in rt.alloc(); "{line}{behind}")?;
-        assert!(rt; ahead.len() < 100 && line.len() <= ahead.len());
-        let told = told_in_room(&mut room, rt.alloc(), ahead.as_bytes(), line.len())?;
-        assert_eq!(rt; told.as_str(), expected, "{row}");
+        assert!(rt; is_followed(&mut room, rt.alloc(), row)?, "{row}");
     }
     Ok(())
 }
 
+/// The coordinates of a position behind a text.
+fn push_pos(alloc: Global, text: &mut String, pos: Pos) -> Result<(), AllocError> {
+    let Pos { x, y } = pos;
+    text.push_str(format!(in alloc; "{x} {y}")?.as_str())
+}
+
 /// The positions of a path behind a text, with commas between them.
 fn push_path(alloc: Global, text: &mut String, path: &[Pos]) -> Result<(), AllocError> {
-    let mut first = true;
+    let mut comma = "";
     for pos in path {
-        let Pos { x, y } = *pos;
-        let comma = if first { "" } else { "," };
-        text.push_str(format!(in alloc; "{comma}{x} {y}")?.as_str())?;
-        first = false;
+        text.push_str(comma)?;
+        push_pos(alloc, text, *pos)?;
+        comma = ",";
     }
     Ok(())
 }
@@ -309,11 +333,7 @@ fn lent_in_room(
 {
     match room.read_line(alloc, ahead, len, 100, 1, Coords::Exact) {
         Ok(shape) => positions_of_shape(alloc, shape),
-        Err(LineFault::Found(fault)) => {
-            let kind = fault.kind;
-            let at = fault.at;
-            format!(in alloc; "{kind:?} {at}")
-        }
+        Err(LineFault::Found(fault)) => fault_text(alloc, fault),
         Err(LineFault::Memory) => String::from_str(alloc, "memory"),
     }
 }
@@ -343,17 +363,23 @@ Syntax 111|POINT (1 2))|
 Ended 100||POINT (1 2)
 10 20|point ( 1   2 )|";
 
+/// Whether the shape of the line of a row, or its first fault, is what the row tells.
+fn is_lent(room: &mut Room, alloc: Global, row: &str) -> Result<bool, Fail> {
+    let (expected, line, behind) = parts_of(row)?;
+    let ahead = ahead_of(alloc, line, behind)?;
+    if ahead.len() >= 200 || line.len() > ahead.len() {
+        return Ok(false);
+    }
+    let told = lent_in_room(room, alloc, ahead.as_bytes(), line.len())?;
+    Ok(told.as_str() == expected)
+}
+
 #[test]
 fn lent_lines(rt: HostRuntime) -> Result<(), Fail> {
     let mut room = Room::new(rt.alloc());
     let mut count = 0u32;
     for row in LENT.lines() {
-        let (expected, both) = row.split_once('|').ok_or("a bar")?;
-        let (line, behind) = both.split_once('|').ok_or("a second bar")?;
-        let ahead = format!(in rt.alloc(); "{line}{behind}")?;
-        assert!(rt; ahead.len() < 200 && line.len() <= ahead.len());
-        let told = lent_in_room(&mut room, rt.alloc(), ahead.as_bytes(), line.len())?;
-        assert_eq!(rt; told.as_str(), expected, "{row}");
+        assert!(rt; is_lent(&mut room, rt.alloc(), row)?, "{row}");
         count = count.wrapping_add(1);
     }
     assert_eq!(rt; count, 22);
@@ -392,11 +418,7 @@ fn told_of_prefix(alloc: Global, text: &[u8]) -> Result<String, AllocError>
                 }
             }
         }
-        Err(LineFault::Found(fault)) => {
-            let kind = fault.kind;
-            let at = fault.at;
-            format!(in alloc; "{kind:?} {at}")
-        }
+        Err(LineFault::Found(fault)) => fault_text(alloc, fault),
         Err(LineFault::Memory) => String::from_str(alloc, "memory"),
     }
 }
@@ -425,37 +447,32 @@ fn prefixes(rt: HostRuntime) -> Result<(), Fail> {
     Ok(())
 }
 
+/// Whether one position is kept of a line, and its coordinates are those.
+fn is_kept(alloc: Global, line: &[u8], digits: u8, how: Coords, pos: Pos) -> Result<bool, Fail>
+    requires { length line.now ≤ 2 ^ 27 }
+{
+    match read_line(alloc, line, 0, digits, how) {
+        Ok(shape) => Ok(shape.points.as_slice() == [pos].as_slice()),
+        Err(_) => Err(Fail::from("the line is refused")),
+    }
+}
+
 /// The values that are kept of a position: rounded to the even one of two, and with nine decimals.
 #[test]
-fn kept_values(rt: HostRuntime) {
-    match read_line(
-        rt.alloc(),
-        b"POINT (1.00000015 -2.5 1e999)",
-        0,
-        7,
-        Coords::Round,
-    ) {
-        Ok(shape) => assert_eq!(rt;
-            shape.points.as_slice(),
-            [Pos {
-                x: 10_000_002,
-                y: -25_000_000
-            }]
-            .as_slice()
-        ),
-        Err(refusal) => assert_eq!(rt; Some(refusal), None),
-    }
-    match read_line(rt.alloc(), b"POINT (0.123456789 0)", 0, 9, Coords::Exact) {
-        Ok(shape) => assert_eq!(rt;
-            shape.points.as_slice(),
-            [Pos {
-                x: 123_456_789,
-                y: 0
-            }]
-            .as_slice()
-        ),
-        Err(refusal) => assert_eq!(rt; Some(refusal), None),
-    }
+fn kept_values(rt: HostRuntime) -> Result<(), Fail> {
+    let rounded = Pos {
+        x: 10_000_002,
+        y: -25_000_000,
+    };
+    let line = b"POINT (1.00000015 -2.5 1e999)";
+    assert!(rt; is_kept(rt.alloc(), line, 7, Coords::Round, rounded)?);
+    let exact = Pos {
+        x: 123_456_789,
+        y: 0,
+    };
+    let line = b"POINT (0.123456789 0)";
+    assert!(rt; is_kept(rt.alloc(), line, 9, Coords::Exact, exact)?);
+    Ok(())
 }
 
 /// It counts lines, and keeps the first of their faults.
@@ -505,11 +522,7 @@ fn told_of_file(alloc: Global, bytes: &[u8]) -> Result<String, AllocError>
     let whole = run_lines(alloc, &Checking, &bytes[begin as usize..], begin);
     match finish_lines(alloc, &Checking, bytes, whole) {
         Ok(checked) => match utf8_fault(bytes).or(checked.fault) {
-            Some(fault) => {
-                let kind = fault.kind;
-                let at = fault.at;
-                format!(in alloc; "{kind:?} {at}")
-            }
+            Some(fault) => fault_text(alloc, fault),
             None => {
                 let count = checked.count;
                 format!(in alloc; "{count}")

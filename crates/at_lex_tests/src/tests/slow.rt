@@ -32,11 +32,17 @@ fn state_before(piece: &[u8], start: Start, place: usize) -> Start {
     state
 }
 
-fn is_run_at(piece: &[u8], place: usize) -> bool {
-    match piece.get(place) {
-        Some(b) => is_run(*b),
-        None => false,
+/// The byte at a place, and a space behind the piece.
+fn byte_at(piece: &[u8], place: usize) -> u8 {
+    if place < piece.len() {
+        piece[place]
+    } else {
+        b' '
     }
+}
+
+fn is_run_at(piece: &[u8], place: usize) -> bool {
+    is_run(byte_at(piece, place))
 }
 
 /// The first place from `from` on that no byte of a run stands at.
@@ -60,7 +66,7 @@ fn text_end(piece: &[u8], start: Start, from: usize) -> Option<usize> {
 }
 
 fn is_hex(b: u8) -> bool {
-    b.is_ascii_hexdigit()
+    (b'0' <= b && b <= b'9') || (b'a' <= b && b <= b'f') || (b'A' <= b && b <= b'F')
 }
 
 /// How many bytes of a string its first character has, where one begins the text.
@@ -91,12 +97,14 @@ fn is_string(text: &[u8]) -> bool {
     false
 }
 
+/// What may be missing of a string.
+static ENDS: [&[u8]; 8] = [
+    b"", b"\"", b"\"\"", b"u0000\"", b"0000\"", b"000\"", b"00\"", b"0\"",
+];
+
 /// Whether some further bytes make the text a string.
 fn begins_string(alloc: Global, text: &[u8]) -> Result<bool, AllocError> {
-    let ends: [&[u8]; 8] = [
-        b"", b"\"", b"\"\"", b"u0000\"", b"0000\"", b"000\"", b"00\"", b"0\"",
-    ];
-    for end in ends {
+    for end in &ENDS {
         let mut whole = text.to_vec(alloc)?;
         whole.extend_from_slice(end)?;
         if is_string(whole.as_slice()) {
@@ -184,7 +192,7 @@ fn item(
     from: usize,
 ) -> Result<(Option<Token>, Pend), AllocError> {
     let place = from.min(1 << 28) as u32;
-    let b = piece.get(from).copied().unwrap_or(b' ');
+    let b = byte_at(piece, from);
     if b == b'"' {
         return Ok(match text_end(piece, start, from.saturating_add(1)) {
             Some(to) => (Some(text_token(alloc, piece, from, to)?), Pend::Nothing),
