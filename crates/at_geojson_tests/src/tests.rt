@@ -2,9 +2,9 @@
 
 ghost use Rattle.std.specs.Prelude.{◌≡◌, ◌≤◌, ◌<◌, ◌^◌, length, IfOk};
 ghost use Rattle.at_query.specs.Ranges.{IsQueryInRange};
-ghost use Rattle.at_nest.specs.Holding.{Kept};
+ghost use Rattle.at_nest.specs.KeptItems.{Kept};
 ghost use Rattle.at_text.specs.Spans.{part_of};
-ghost use Rattle.at_nest.specs.Standing.{StandsFor};
+ghost use Rattle.at_nest.specs.FragmentMeanings.{StandsFor};
 ghost use Rattle.at_geojson.specs.Atoms.{IsOwn, IsFold, IsRun};
 
 use at_fixed::Coords;

@@ -12,7 +12,7 @@ use Rattle.at_nest.specs.Tree.{Tree, text}
 use Rattle.at_nest.specs.Forms.{Meaning, Piece, opens, closes, mark, comma, colon, quoted, entry}
 use Rattle.at_nest.specs.Levels.{Level, Form, Pushed, further, stopped, push, push_mark, push_all, push_then}
 use Rattle.at_nest.specs.Shown.{Held, Shown, AreOwn, show_as, comma_added, colon_added}
-use Rattle.at_nest.specs.Holding.{free, Content, one, Kept, EachHeld, EachPiece, AreRow, Pushes, PushesValue, PushesRow, PushesClosers, IsHeldPiece, IsShown, IsPushedAs, IsTextAt, IsPartOf, IsOfItems, CanAdd, Adds}
+use Rattle.at_nest.specs.KeptItems.{free, Content, one, Kept, EachHeld, EachPiece, AreRow, Pushes, PushesValue, PushesRow, PushesClosers, IsHeldPiece, IsShown, IsPushedAs, IsTextAt, IsPartOf, IsOfItems, CanAdd, Adds}
 use Rattle.at_nest.proofs.Held.{held_own}
 use Rattle.at_nest.proofs.Showing.{comma_pushes, colon_pushes}
 

@@ -17,7 +17,7 @@ use Rattle.at_nest.specs.Forms.{entry, mark, IsNoText}
 use Rattle.at_nest.specs.Folds.{IsAttempt}
 use Rattle.at_nest.specs.Levels.{further, first_mode}
 use Rattle.at_nest.specs.Shown.{Shown, show_as, opened_as}
-use Rattle.at_nest.specs.Holding.{Content, PushesValue, Kept}
+use Rattle.at_nest.specs.KeptItems.{Content, PushesValue, Kept}
 use Rattle.at_nest.specs.Reading.{ReadsAhead}
 use Rattle.at_nest.proofs.Walks.{ends_append}
 use Rattle.at_nest.proofs.Showing.{open_pushes}

@@ -14,9 +14,9 @@ use Rattle.at_nest.specs.declared.fragments.Slot.{Slot}
 use Rattle.at_nest.specs.declared.fragments.Slot.TheVariants as slot
 use Rattle.at_nest.specs.declared.variants.Variant.{Variant}
 use Rattle.at_nest.specs.declared.variants.Variant.TheVariants.{AllLead, Whole, Broken}
-use Rattle.at_nest.specs.Holding.{Content, IsPartOf}
-use Rattle.at_nest.specs.Stands.{HoldsVariant, HaveUnion}
-use Rattle.at_nest.specs.Standing.{HoldsEscape, HoldsParts, HoldsSome, StandsFor, parts_of}
+use Rattle.at_nest.specs.KeptItems.{Content, IsPartOf}
+use Rattle.at_nest.specs.VariantMeanings.{HoldsVariant, HaveUnion}
+use Rattle.at_nest.specs.FragmentMeanings.{HoldsEscape, HoldsParts, HoldsSome, StandsFor, parts_of}
 use Rattle.at_nest.specs.Slots.{end_in, slot_in, IsSame, Stays, HoldsIn, CanTake, Takes, GoesOn, AreBeside}
 use Rattle.at_nest.proofs.UnionsHeld.{broken_union}
 

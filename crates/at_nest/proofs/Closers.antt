@@ -13,7 +13,7 @@ use Rattle.at_nest.specs.Levels.{Level, Form, further, push, push_close, push_al
 use Rattle.at_nest.specs.Closers.{IsLonger, turn}
 use Rattle.at_nest.specs.Refusals.{last_of}
 use Rattle.at_nest.specs.Shown.{Shown, show_as}
-use Rattle.at_nest.specs.Holding.{Content, free, closers, AreClosers, IsHeldPiece, ArePieces, EachPiece, EachHeld, IsShown, IsPushedAs, IsOfItems, Pushes, PushesClosers}
+use Rattle.at_nest.specs.KeptItems.{Content, free, closers, AreClosers, IsHeldPiece, ArePieces, EachPiece, EachHeld, IsShown, IsPushedAs, IsOfItems, Pushes, PushesClosers}
 use Rattle.at_nest.proofs.Adding.{push_all_append}
 use Rattle.at_nest.proofs.Joining.{went_on, did_stop}
 use Rattle.at_nest.proofs.Nests.{all_but_last}

@@ -12,7 +12,7 @@ use Rattle.at_nest.specs.declared.bodies.Body.{Body}
 use Rattle.at_nest.specs.declared.pieces.Halt.{Halt}
 use Rattle.at_nest.specs.declared.variants.Variant.{Variant}
 use Rattle.at_nest.specs.declared.variants.Variant.TheVariants.{Whole, Broken}
-use Rattle.at_nest.specs.Stands.{HoldsVariant}
+use Rattle.at_nest.specs.VariantMeanings.{HoldsVariant}
 use Rattle.at_nest.specs.declared.pieces.Piece.{Piece as CodePiece}
 use Rattle.at_nest.specs.declared.pieces.Piece.TheVariants.{Closes, Comma, Colon, Text, Value, Row as RowPiece, Members as MembersPiece, Closers as ClosersPiece}
 use Rattle.at_nest.specs.declared.pieces.Row.{Row}
@@ -23,7 +23,7 @@ use Rattle.at_nest.specs.Tree.{Tree, text}
 use Rattle.at_nest.specs.Forms.{Piece, opens, closes, mark, comma, colon, quoted, entry}
 use Rattle.at_nest.specs.Levels.{Level, Form, marks}
 use Rattle.at_nest.specs.Shown.{Held, Shown, array_level, object_level, top_of, helds_of, open_levels, opens_of, OwnPiece, OwnLevel, OwnBody, shown}
-use Rattle.at_nest.specs.Holding.{Content, one, run, Holds, Kept, Each, EachMember, IsHeld, EachHeld, IsHeldPiece, EachPiece, ArePieces, AreRow, IsRow, EachNamed, AreMembers, IsTextAt, CopiesNamed, row_marks, row_trees, IsOfItems, CanAdd, IsShown, CopiesItems, CopiesMember, CopiesMembers, CopiesHeld, CopiesLevels, CopiesPiece, CopiesPieces, CopiesShown}
+use Rattle.at_nest.specs.KeptItems.{Content, one, run, Holds, Kept, Each, EachMember, IsHeld, EachHeld, IsHeldPiece, EachPiece, ArePieces, AreRow, IsRow, EachNamed, AreMembers, IsTextAt, CopiesNamed, row_marks, row_trees, IsOfItems, CanAdd, IsShown, CopiesItems, CopiesMember, CopiesMembers, CopiesHeld, CopiesLevels, CopiesPiece, CopiesPieces, CopiesShown}
 use Rattle.at_nest.proofs.Held.{held_own, each_own, each_cut, each_append}
 use Rattle.at_nest.proofs.Showing.{pieces_append, pieces_cut}
 use Rattle.at_nest.proofs.Stretches.{own_levels}

@@ -19,7 +19,7 @@ use Rattle.at_nest.specs.Forms.{Mark, comma, colon, quoted, entry}
 use Rattle.at_nest.specs.Walks.{mark_kind, comma_kind, colon_kind, text_kind, value_kind}
 use Rattle.at_nest.specs.Levels.{Mode, at_items, at_value, at_after, at_members, at_name, at_colon, at_member, at_further, Level, values_in, pairs_in, built, move, closes_at, first_mode}
 use Rattle.at_nest.specs.Shown.{Held, array_level, object_level, AreOwn, held_of, IsStep, comma_next, colon_next, value_next, name_next, takes_name, closes_with, opened_as}
-use Rattle.at_nest.specs.Holding.{tree_members, free, Content, one, Kept, Holds, Each, Gains, GainsIn, EachMember, IsNamed, IsHeld, pending_in}
+use Rattle.at_nest.specs.KeptItems.{tree_members, free, Content, one, Kept, Holds, Each, Gains, GainsIn, EachMember, IsNamed, IsHeld, pending_in}
 
 -- ---- a level that is closed
 

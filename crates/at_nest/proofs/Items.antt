@@ -28,9 +28,9 @@ use Rattle.at_nest.specs.Stops.{IsForm, IsStop}
 use Rattle.at_nest.specs.Unions.{Ends, merged, empty_form}
 use Rattle.at_nest.specs.Variants.{IsAllLead, IsLeadEnd, IsPending, none_pending, run_pending, text_pending}
 use Rattle.at_nest.specs.Shown.{Shown, shown}
-use Rattle.at_nest.specs.Holding.{Content, free, IsShown, IsPushedAs, IsOfItems, halt_of}
+use Rattle.at_nest.specs.KeptItems.{Content, free, IsShown, IsPushedAs, IsOfItems, halt_of}
 use Rattle.at_nest.specs.Reading.{IsPlaced, ReadsToken, ReadsAhead, HasBytes, pend_from}
-use Rattle.at_nest.specs.Stands.{HoldsVariant, HoldsBehind}
+use Rattle.at_nest.specs.VariantMeanings.{HoldsVariant, HoldsBehind}
 use Rattle.at_nest.proofs.Steps.{and_false}
 use Rattle.at_nest.proofs.Walks.{ends_append, spaces_apart}
 use Rattle.at_nest.proofs.Joins.{apart_front, formed_append, formed_out, end_append}

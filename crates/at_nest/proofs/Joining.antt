@@ -13,7 +13,7 @@ use Rattle.at_nest.specs.Walks.{mark_kind}
 use Rattle.at_nest.specs.Levels.{Mode, Level, Form, marks, opened, pieces_of, Pushed, further, stopped, move, moves, first_mode, push_all, push_then, with_mark}
 use Rattle.at_nest.specs.Stops.{AreLevels}
 use Rattle.at_nest.specs.Shown.{Held, Shown, show_as}
-use Rattle.at_nest.specs.Holding.{Content, free, EachHeld, EachPiece, ArePieces, IsShown, IsPushedAs, IsPartOf, CanAdd, Adds, CanJoin, Joins}
+use Rattle.at_nest.specs.KeptItems.{Content, free, EachHeld, EachPiece, ArePieces, IsShown, IsPushedAs, IsPartOf, CanAdd, Adds, CanJoin, Joins}
 use Rattle.at_nest.proofs.Adding.{push_all_append}
 
 -- what the iterator of a vector has given is a front of its items

@@ -40,10 +40,10 @@ pub mod Passed
 pub mod Neighbours
 pub mod UnionsHeld
 pub mod Copies
-pub mod Nexts
+pub mod NextItems
 pub mod StretchesNext
 pub mod OneTree
 pub mod Told
-pub mod Lasts
+pub mod LastBytes
 pub mod WholeTexts
 pub mod Behind

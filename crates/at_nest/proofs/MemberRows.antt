@@ -24,7 +24,7 @@ use Rattle.at_nest.specs.Walks.{comma_kind, colon_kind, text_kind}
 use Rattle.at_nest.specs.Levels.{Mode, at_name, at_member, at_further, Level, pairs_in, marks, move, moves, further, with_mark, push_mark, push_all, push_then}
 use Rattle.at_nest.specs.Shown.{Held, held_of, array_level, object_level, Shown, show_as, kept_outside, put_back, comma_next, stop_at}
 use Rattle.at_nest.specs.MemberMarks.{ValueMark, string_value, other_value, mark_of, tree_of, MemberMarks, marks_behind_comma, member_marks, member_pairs, Awaits}
-use Rattle.at_nest.specs.Holding.{Content, one, free, pending_in, EachMember, IsNamed, IsHeld, EachHeld, IsHeldPiece, EachNamed, AreMembers, ArePieces, EachPiece, IsPushedAs, IsTextAt, IsPartOf, AddsTo, CanAdd, Adds, PushesKeptText, PushesMember, PushesAwaited, PushesMembers, BeginsMembers, LengthensMembers, HasMembers, HasName, NamesMember, GainsMembers, IsBehindComma, PutsMembers}
+use Rattle.at_nest.specs.KeptItems.{Content, one, free, pending_in, EachMember, IsNamed, IsHeld, EachHeld, IsHeldPiece, EachNamed, AreMembers, ArePieces, EachPiece, IsPushedAs, IsTextAt, IsPartOf, AddsTo, CanAdd, Adds, PushesKeptText, PushesMember, PushesAwaited, PushesMembers, BeginsMembers, LengthensMembers, HasMembers, HasName, NamesMember, GainsMembers, IsBehindComma, PutsMembers}
 use Rattle.at_nest.proofs.Held.{with_one, IsMoved, comma_moves, text_moves, pairs_append, pending_append, each_member_append}
 use Rattle.at_nest.proofs.Pushes.{marks_append}
 use Rattle.at_nest.proofs.Joining.{push_marks}

@@ -18,9 +18,9 @@ use Rattle.at_nest.specs.Variants.{IsAllLead, IsLeadEnd, IsWhole, IsBroken, IsVa
 use Rattle.at_nest.specs.Shown.{Shown}
 use Rattle.at_nest.specs.declared.pieces.NamedValue.{NamedValue}
 use Rattle.at_nest.specs.MemberMarks.{MemberMarks}
-use Rattle.at_nest.specs.Holding.{Content, EachNamed, AreRow, free, EachPiece, ArePieces, IsHeldPiece, IsShown, IsPushedAs, IsTextAt, IsPartOf, CanJoin, Joins}
+use Rattle.at_nest.specs.KeptItems.{Content, EachNamed, AreRow, free, EachPiece, ArePieces, IsHeldPiece, IsShown, IsPushedAs, IsTextAt, IsPartOf, CanJoin, Joins}
 use Rattle.at_nest.specs.Reading.{IsPlaced, Reads}
-use Rattle.at_nest.specs.Stands.{CanMeet, Meets}
+use Rattle.at_nest.specs.VariantMeanings.{CanMeet, Meets}
 use Rattle.at_nest.proofs.Joins.{apart_front}
 use Rattle.at_nest.proofs.Unions.{whole_end, token_of, token_apart, joined_apart, right_place, ends_variant, ends_right, ends_token, apart_pending, union_split, lead_more, lead_bytes, both_apart, ended_by, pending_on, left_nil, ends_broken, right_stops}
 

@@ -13,9 +13,9 @@ use Rattle.at_nest.specs.declared.levels.ArrayState.TheVariants as array
 use Rattle.at_nest.specs.Tree.{Tree}
 use Rattle.at_nest.specs.Levels.{Level}
 use Rattle.at_nest.specs.Shown.{Held, array_level, held_of, round_of, helds_of, open_levels, nested}
-use Rattle.at_nest.specs.Holding.{Content, EachHeld, CopiesLevels}
+use Rattle.at_nest.specs.KeptItems.{Content, EachHeld, CopiesLevels}
 use Rattle.at_nest.specs.Nests.{nest_in, PutsLast}
-use Rattle.at_nest.specs.Nexts.{levels_next, level_after, IsNoValue}
+use Rattle.at_nest.specs.NextItems.{levels_next, level_after, IsNoValue}
 use Rattle.at_nest.specs.Refusals.{last_of}
 use Rattle.at_nest.proofs.Showing.{open_last, open_append}
 

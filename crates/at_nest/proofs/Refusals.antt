@@ -30,9 +30,9 @@ use Rattle.at_nest.specs.Stops.{IsDeadHere, AreLevels, IsStop}
 use Rattle.at_nest.specs.Shown.{Held, array_level, object_level, Shown, shown, stop_at, takes_value}
 use Rattle.at_nest.specs.MemberMarks.{ValueMark, string_value, other_value, mark_of, MemberMarks, member_marks}
 use Rattle.at_nest.specs.Closers.{turn}
-use Rattle.at_nest.specs.Holding.{Content, free, closers, row_marks, IsHeld, EachHeld, IsHeldPiece, ArePieces, EachPiece, IsShown, halt_of}
+use Rattle.at_nest.specs.KeptItems.{Content, free, closers, row_marks, IsHeld, EachHeld, IsHeldPiece, ArePieces, EachPiece, IsShown, halt_of}
 use Rattle.at_nest.specs.Refusals.{not_behind_value, not_behind_text, not_behind_mark, not_behind_piece, not_behind_last, last_of, not_in, is_refused}
-use Rattle.at_nest.specs.Stands.{HoldsBehind}
+use Rattle.at_nest.specs.VariantMeanings.{HoldsBehind}
 use Rattle.at_nest.proofs.JsonNumber as num
 use Rattle.at_nest.proofs.JsonMachine.{State, Frame, in_array, in_object, value, items, members, name, colon as colon_state, after, in_number, in_string, in_name, in_word, step, after_step}
 use Rattle.at_nest.proofs.Steps.{Settled, is_clear, run_ended, settled_step, and_false}

@@ -14,7 +14,7 @@ use Rattle.at_nest.specs.Forms.{Mark, Piece, opens, closes, mark, comma, colon, 
 use Rattle.at_nest.specs.Walks.{comma_kind, value_kind}
 use Rattle.at_nest.specs.Levels.{Mode, at_after, at_name, Level, values_in, marks, move, moves, further, with_mark, push_mark, push_all, push_then}
 use Rattle.at_nest.specs.Shown.{Held, held_of, AreOwn, IsStep, array_level, object_level, Shown, show_as, kept_outside, put_back, comma_next, stop_at}
-use Rattle.at_nest.specs.Holding.{Content, free, row_marks, row_trees, Each, Gains, GainsAll, IsHeld, EachHeld, IsHeldPiece, IsRow, ArePieces, EachPiece, IsOfItems, IsPushedAs, PushesValue, PushesBehind, PushesRow, LongerRow, IsRowNext}
+use Rattle.at_nest.specs.KeptItems.{Content, free, row_marks, row_trees, Each, Gains, GainsAll, IsHeld, EachHeld, IsHeldPiece, IsRow, ArePieces, EachPiece, IsOfItems, IsPushedAs, PushesValue, PushesBehind, PushesRow, LongerRow, IsRowNext}
 use Rattle.at_nest.proofs.Held.{values_append, with_one, IsMoved, comma_moves, each_cut}
 use Rattle.at_nest.proofs.Pushes.{marks_append}
 use Rattle.at_nest.proofs.Joining.{push_marks}

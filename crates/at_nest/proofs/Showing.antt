@@ -13,7 +13,7 @@ use Rattle.at_nest.specs.Forms.{Mark, Piece, opens, closes, mark, comma, colon, 
 use Rattle.at_nest.specs.Walks.{mark_kind, mark_at}
 use Rattle.at_nest.specs.Levels.{Mode, Level, Form, built, move, with_mark, push_mark, push_close, close_level, push}
 use Rattle.at_nest.specs.Shown.{Held, Shown, helds_of, open_levels, show_as, put_back, kept_outside, comma_added, colon_added, comma_next, colon_next, value_next, closes_with, from_of, opened_as, stop_at}
-use Rattle.at_nest.specs.Holding.{free, Content, one, IsHeld, GainsIn, PushesValue, EachHeld, EachPiece, ArePieces, IsHeldPiece, IsShown, IsPushedAs, IsTextAt, IsPartOf, halt_of}
+use Rattle.at_nest.specs.KeptItems.{free, Content, one, IsHeld, GainsIn, PushesValue, EachHeld, EachPiece, ArePieces, IsHeldPiece, IsShown, IsPushedAs, IsTextAt, IsPartOf, halt_of}
 use Rattle.at_nest.specs.Shown.{array_level, object_level}
 use Rattle.at_nest.proofs.Held.{IsMoved, comma_moves, colon_moves, value_moves, closes_same, opened_is}
 

@@ -7,7 +7,7 @@ use Rattle.at_nest.specs.declared.levels.Open.{Open}
 use Rattle.at_nest.specs.declared.open_levels.Stretch.{Stretch}
 use Rattle.at_nest.specs.declared.open_levels.Levels.{Levels}
 use Rattle.at_nest.specs.Shown.{helds_of, open_levels, stretched, opens_of, OwnLevel, OwnStretch, OwnLevels}
-use Rattle.at_nest.specs.Holding.{Content, CopiesLevels}
+use Rattle.at_nest.specs.KeptItems.{Content, CopiesLevels}
 use Rattle.at_nest.specs.Nests.{PutsLast}
 use Rattle.at_nest.specs.Refusals.{last_of}
 use Rattle.at_nest.proofs.Showing.{open_append}

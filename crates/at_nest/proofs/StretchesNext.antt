@@ -3,8 +3,8 @@ use Rattle.std.proofs.Common.{◌≡◌, ℕ, List, [], ◌∷◌, ◌++◌, Res
 use Rattle.at_nest.specs.declared.finishing.Next.{Next}
 use Rattle.at_nest.specs.declared.open_levels.Stretch.{Stretch}
 use Rattle.at_nest.specs.Shown.{helds_of, open_levels, stretched}
-use Rattle.at_nest.specs.Nexts.{levels_next}
-use Rattle.at_nest.proofs.Nexts.{next_step, next_more, next_off}
+use Rattle.at_nest.specs.NextItems.{levels_next}
+use Rattle.at_nest.proofs.NextItems.{next_step, next_more, next_off}
 use Rattle.at_nest.proofs.Stretches.{stretched_append}
 
 pub in_stretch : {X : Type 0} (r : Result Next ℕ) (s : Stretch X) (n : Next) (k : Result Next ℕ) → levels_next r (open_levels s.round.items) ≡ Ok n → k ≡ levels_next (Ok n) (helds_of s.innermost) → k ≡ levels_next r (open_levels (stretched (s ∷ [])))

@@ -12,7 +12,7 @@ use Rattle.at_nest.specs.Forms.{closes, mark, comma, colon}
 use Rattle.at_nest.specs.Levels.{further, first_mode, push_mark}
 use Rattle.at_nest.specs.Unions.{IsToken}
 use Rattle.at_nest.specs.Shown.{Shown, show_as, opened_as, comma_added, colon_added}
-use Rattle.at_nest.specs.Holding.{Content, IsPushedAs, Pushes}
+use Rattle.at_nest.specs.KeptItems.{Content, IsPushedAs, Pushes}
 use Rattle.at_nest.specs.Reading.{ReadsToken}
 use Rattle.at_nest.proofs.Showing.{open_pushes, comma_pushes, colon_pushes}
 use Rattle.at_nest.proofs.JsonMachine.{eq_of_test}

@@ -22,7 +22,7 @@ use Rattle.at_nest.specs.Forms.{Meaning, Piece, opens, closes, mark, Mark, quote
 use Rattle.at_nest.specs.Levels.{Form, Pushed, further, stopped, Halt, plain_halt, in_run, in_text, push, push_then, first_mode}
 use Rattle.at_nest.specs.Unions.{IsToken, no_token, a_run, a_text, Ends, merged, empty_form}
 use Rattle.at_nest.specs.Shown.{Shown}
-use Rattle.at_nest.specs.Holding.{Content, free, IsShown, IsPushedAs, halt_of, PushesText}
+use Rattle.at_nest.specs.KeptItems.{Content, free, IsShown, IsPushedAs, halt_of, PushesText}
 use Rattle.at_nest.specs.Reading.{stop_within, within_from, Reads, ReadsToken, ReadsRun}
 use Rattle.at_nest.specs.Stops.{IsForm}
 use Rattle.at_nest.proofs.Longest.{string_runs}

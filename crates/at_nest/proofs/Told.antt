@@ -11,10 +11,10 @@ use Rattle.at_nest.specs.Syntax.{JsonText}
 use Rattle.at_nest.specs.Forms.{fold_of, folds_of, folds_of_members}
 use Rattle.at_nest.specs.Answers.{Answer, folded, syntax, ended, IsAnswer}
 use Rattle.at_nest.specs.Folds.{trees}
-use Rattle.at_nest.specs.Holding.{Content, one, free, tree_members}
-use Rattle.at_nest.specs.Ending.{Answers}
+use Rattle.at_nest.specs.KeptItems.{Content, one, free, tree_members}
+use Rattle.at_nest.specs.TextAnswers.{Answers}
 use Rattle.at_nest.proofs.JsonMachine.{accepted-JsonText}
-use Rattle.at_nest.proofs.Nexts.{Tells}
+use Rattle.at_nest.proofs.NextItems.{Tells}
 use Rattle.at_nest.proofs.OneTree.{one_tree}
 
 mutual

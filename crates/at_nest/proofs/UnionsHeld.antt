@@ -11,9 +11,9 @@ use Rattle.at_nest.specs.Levels.{Form, Pushed, further, stopped, Halt, push_then
 use Rattle.at_nest.specs.Unions.{IsToken, Ends, merged, variant_of}
 use Rattle.at_nest.specs.Variants.{IsAllLead, IsLeadEnd, IsBroken, IsVariant}
 use Rattle.at_nest.specs.Shown.{Shown, shown}
-use Rattle.at_nest.specs.Holding.{Content, free, IsShown, IsPushedAs, IsPartOf, halt_of}
+use Rattle.at_nest.specs.KeptItems.{Content, free, IsShown, IsPushedAs, IsPartOf, halt_of}
 use Rattle.at_nest.specs.Reading.{IsPlaced}
-use Rattle.at_nest.specs.Stands.{HoldsWhole, HoldsBroken, HoldsVariant, CanMeet, Meets, Neighbours, HaveUnion}
+use Rattle.at_nest.specs.VariantMeanings.{HoldsWhole, HoldsBroken, HoldsVariant, CanMeet, Meets, Neighbours, HaveUnion}
 use Rattle.at_nest.proofs.Joins.{end_append, at_end}
 use Rattle.at_nest.proofs.Unions.{whole_end, token_of, all_lead_left, all_lead_broken, broken_left, lead_goes_on}
 use Rattle.at_nest.proofs.Neighbours.{shown_right, shown_left, joint_bytes, joint_placed, whole_whole, whole_all, whole_broken}

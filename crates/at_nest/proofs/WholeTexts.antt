@@ -15,17 +15,17 @@ use Rattle.at_nest.specs.Unions.{IsToken, no_token, a_run, Ends, merged, empty_f
 use Rattle.at_nest.specs.Variants.{IsLeadEnd, IsPending, none_pending, run_pending}
 use Rattle.at_nest.specs.Answers.{finished}
 use Rattle.at_nest.specs.Shown.{Shown, show_as}
-use Rattle.at_nest.specs.Holding.{Content, IsOfItems, free, halt_of, IsShown, IsPushedAs, IsPartOf}
-use Rattle.at_nest.specs.Stands.{HoldsWhole, HoldsBroken, CanMeet, Meets}
-use Rattle.at_nest.specs.Nexts.{next_of, stop_of}
-use Rattle.at_nest.specs.Lasts.{EndsSo}
-use Rattle.at_nest.specs.Ending.{Answers}
+use Rattle.at_nest.specs.KeptItems.{Content, IsOfItems, free, halt_of, IsShown, IsPushedAs, IsPartOf}
+use Rattle.at_nest.specs.VariantMeanings.{HoldsWhole, HoldsBroken, CanMeet, Meets}
+use Rattle.at_nest.specs.NextItems.{next_of, stop_of}
+use Rattle.at_nest.specs.LastBytes.{EndsSo}
+use Rattle.at_nest.specs.TextAnswers.{Answers}
 use Rattle.at_nest.proofs.Joins.{apart_nothing}
 use Rattle.at_nest.proofs.Unions.{ends_token, ends_right, token_apart, run_begins_or, both_apart}
 use Rattle.at_nest.proofs.UnionsHeld.{stops_behind}
 use Rattle.at_nest.proofs.TokenStops.{nothing_is}
 use Rattle.at_nest.proofs.Finished.{finished_ok}
-use Rattle.at_nest.proofs.Nexts.{stop_tells}
+use Rattle.at_nest.proofs.NextItems.{stop_tells}
 use Rattle.at_nest.proofs.Told.{told}
 
 -- ---- the bytes of a span

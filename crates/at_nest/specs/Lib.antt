@@ -5,13 +5,13 @@ pub mod Folds
 pub mod Passing
 pub mod Shown
 pub mod MemberMarks
-pub mod Holding
+pub mod KeptItems
 pub mod Reading
 pub mod Refusals
 pub mod Nests
 pub mod Closers
-pub mod Stands
-pub mod Standing
+pub mod VariantMeanings
+pub mod FragmentMeanings
 pub mod Slots
 pub mod NumberStates
 pub mod States
@@ -23,6 +23,6 @@ pub mod Stops
 pub mod Variants
 pub mod Unions
 pub mod Answers
-pub mod Ending
-pub mod Nexts
-pub mod Lasts
+pub mod TextAnswers
+pub mod NextItems
+pub mod LastBytes

@@ -13,7 +13,7 @@ use Rattle.at_nest.specs.Borders.{ends_run}
 use Rattle.at_nest.specs.Forms.{mark, entry}
 use Rattle.at_nest.specs.Levels.{Form, Pushed, further, push}
 use Rattle.at_nest.specs.Shown.{Shown, stop_at}
-use Rattle.at_nest.specs.Holding.{Content, free, IsShown, IsPushedAs}
+use Rattle.at_nest.specs.KeptItems.{Content, free, IsShown, IsPushedAs}
 use Rattle.at_nest.specs.Unions.{IsToken, Ends, merged}
 
 -- the bytes v stand at the offset `at`, in bytes w that stand at `base`

@@ -10,9 +10,9 @@ use Rattle.at_nest.specs.declared.fragments.Slot.{Slot}
 use Rattle.at_nest.specs.declared.fragments.Slot.TheVariants as slot
 use Rattle.at_nest.specs.declared.variants.Variant.{Variant}
 use Rattle.at_nest.specs.declared.variants.Variant.TheVariants.{AllLead, Whole, Broken}
-use Rattle.at_nest.specs.Holding.{Content, IsPartOf}
-use Rattle.at_nest.specs.Stands.{HoldsVariant}
-use Rattle.at_nest.specs.Standing.{HoldsParts}
+use Rattle.at_nest.specs.KeptItems.{Content, IsPartOf}
+use Rattle.at_nest.specs.VariantMeanings.{HoldsVariant}
+use Rattle.at_nest.specs.FragmentMeanings.{HoldsParts}
 
 -- the state in which what stands behind begins; none where the span stops
 abbrev pub end_in : {X : Type 0} → Variant X → Option Start

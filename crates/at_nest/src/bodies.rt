@@ -15,8 +15,8 @@ ghost use Rattle.at_nest.specs.Nests.{nest_in, PutsLast};
 ghost use Rattle.at_nest.specs.declared.levels.ArrayState.TheVariants.{Empty};
 ghost use Rattle.at_nest.specs.declared.levels.Nest.{Nest};
 ghost use Rattle.at_nest.specs.declared.levels.Open.TheVariants.{Nested};
-ghost use Rattle.at_nest.specs.Holding.{Kept, IsOfItems, Pushes, PushesClosers, PushesText, PushesValue, PushesBehind};
-ghost use Rattle.at_nest.specs.Holding.{PushesRow, Lengthens, PutsRow, PushesKeptText, CanAdd, Adds, CanJoin, Joins};
+ghost use Rattle.at_nest.specs.KeptItems.{Kept, IsOfItems, Pushes, PushesClosers, PushesText, PushesValue, PushesBehind};
+ghost use Rattle.at_nest.specs.KeptItems.{PushesRow, Lengthens, PutsRow, PushesKeptText, CanAdd, Adds, CanJoin, Joins};
 
 use crate::algebra::Algebra;
 use crate::levels::{

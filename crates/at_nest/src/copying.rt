@@ -4,9 +4,9 @@ ghost use Rattle.std.specs.Prelude.{◌≡◌, ℕ, All, List, [], ◌∷◌, If
 ghost use Rattle.at_lex.specs.declared.tokens.Start.{Start};
 ghost use Rattle.at_nest.specs.Shown.{array_held, object_held, helds_of, shown, open_levels, stretched, opens_of};
 ghost use Rattle.at_nest.specs.Shown.{AreOwn, OwnPiece, OwnLevel, OwnStretch, OwnLevels, OwnBody};
-ghost use Rattle.at_nest.specs.Holding.{Kept, CopiesItems, CopiesMember, CopiesMembers, CopiesNamed, CopiesHeld};
-ghost use Rattle.at_nest.specs.Holding.{CopiesLevels, CopiesPiece, CopiesPieces, CopiesShown};
-ghost use Rattle.at_nest.specs.Stands.{HoldsVariant};
+ghost use Rattle.at_nest.specs.KeptItems.{Kept, CopiesItems, CopiesMember, CopiesMembers, CopiesNamed, CopiesHeld};
+ghost use Rattle.at_nest.specs.KeptItems.{CopiesLevels, CopiesPiece, CopiesPieces, CopiesShown};
+ghost use Rattle.at_nest.specs.VariantMeanings.{HoldsVariant};
 
 use crate::algebra::{Algebra, Member};
 use crate::bodies::Body;

@@ -3,10 +3,10 @@
 ghost use Rattle.std.specs.Prelude.{◌≡◌, ℕ, ◌+◌, ◌≤◌, ◌^◌, ◌++◌, true, List, length, IfOk};
 ghost use Rattle.at_text.specs.Spans.{AreNeighbours, IsMerged};
 ghost use Rattle.at_lex.specs.declared.tokens.Start.{Start};
-ghost use Rattle.at_nest.specs.Holding.{Kept};
-ghost use Rattle.at_nest.specs.Stands.{HoldsVariant};
+ghost use Rattle.at_nest.specs.KeptItems.{Kept};
+ghost use Rattle.at_nest.specs.VariantMeanings.{HoldsVariant};
 ghost use Rattle.at_nest.specs.Slots.{HoldsSome, StandsAs, GoesOn, AreBeside, CanTake, Takes, Stays, slot_in, no_items};
-ghost use Rattle.at_nest.specs.Standing.{HoldsEscape, HoldsParts, StandsFor, parts_of};
+ghost use Rattle.at_nest.specs.FragmentMeanings.{HoldsEscape, HoldsParts, StandsFor, parts_of};
 
 use crate::algebra::Algebra;
 use crate::copying::copy_variant;

@@ -7,7 +7,7 @@ ghost use Rattle.at_nest.specs.Shown.{held_of, helds_of, top_of, opened_as, from
 ghost use Rattle.at_nest.specs.Shown.{value_next, name_next, takes_name, takes_value, closes_with, IsStep, AreOwn};
 ghost use Rattle.at_nest.specs.Refusals.{not_in_level};
 ghost use Rattle.at_nest.specs.Nests.{nest_in};
-ghost use Rattle.at_nest.specs.Holding.{Kept, IsHeld, AddsTo, GainsAll, free};
+ghost use Rattle.at_nest.specs.KeptItems.{Kept, IsHeld, AddsTo, GainsAll, free};
 
 use crate::algebra::{Algebra, Member};
 use at_lex::{Bracket, TokenKind, Units};

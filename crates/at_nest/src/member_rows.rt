@@ -3,9 +3,9 @@
 ghost use Rattle.std.specs.Prelude.{◌≡◌, ◌≤◌, ◌^◌, [], length, All, IfOk};
 ghost use Rattle.at_nest.specs.Shown.{held_of, AreOwn, shown};
 ghost use Rattle.at_nest.specs.MemberMarks.{Awaits};
-ghost use Rattle.at_nest.specs.Holding.{Kept, IsOfItems, HasName, HasMembers, IsBehindComma, NamesMember, GainsMembers};
-ghost use Rattle.at_nest.specs.Holding.{BeginsMembers, LengthensMembers, PushesMember, PushesAwaited, PushesMembers};
-ghost use Rattle.at_nest.specs.Holding.{PutsMembers};
+ghost use Rattle.at_nest.specs.KeptItems.{Kept, IsOfItems, HasName, HasMembers, IsBehindComma, NamesMember, GainsMembers};
+ghost use Rattle.at_nest.specs.KeptItems.{BeginsMembers, LengthensMembers, PushesMember, PushesAwaited, PushesMembers};
+ghost use Rattle.at_nest.specs.KeptItems.{PutsMembers};
 
 use crate::algebra::{Algebra, Member};
 use crate::bodies::Body;

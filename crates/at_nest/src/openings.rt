@@ -3,7 +3,7 @@
 ghost use Rattle.std.specs.Prelude.{◌≡◌, ℕ, ◌+◌, ◌≤◌, ◌^◌, List, ◌∷◌, length, IfOk};
 ghost use Rattle.at_lex.specs.Spans.{opening};
 ghost use Rattle.at_nest.specs.Shown.{shown};
-ghost use Rattle.at_nest.specs.Holding.{Kept, IsOfItems};
+ghost use Rattle.at_nest.specs.KeptItems.{Kept, IsOfItems};
 ghost use Rattle.at_nest.specs.Reading.{ReadsAhead};
 
 use crate::algebra::{Algebra, Attempt};

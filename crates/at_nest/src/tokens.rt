@@ -4,7 +4,7 @@ ghost use Rattle.std.specs.Prelude.{◌≡◌, ℕ, ◌+◌, ◌<◌, ◌≤◌,
 ghost use Rattle.at_lex.specs.Runs.{JsonRun};
 ghost use Rattle.at_lex.specs.Spans.{begins_run, is_broken, IsText, IsToken as IsLexed};
 ghost use Rattle.at_nest.specs.Shown.{shown};
-ghost use Rattle.at_nest.specs.Holding.{Kept, IsOfItems};
+ghost use Rattle.at_nest.specs.KeptItems.{Kept, IsOfItems};
 ghost use Rattle.at_nest.specs.Unions.{IsToken};
 ghost use Rattle.at_nest.specs.Reading.{stop_within, within_from, Reads, ReadsToken, ReadsRun};
 

@@ -3,10 +3,10 @@
 ghost use Rattle.std.specs.Prelude.{◌≡◌, ℕ, ◌+◌, ◌-◌, ◌≤◌, ◌^◌, ◌++◌, List, [], length, take, drop, IfOk};
 ghost use Rattle.at_lex.specs.declared.tokens.Start.{Start};
 ghost use Rattle.at_nest.specs.Shown.{shown};
-ghost use Rattle.at_nest.specs.Holding.{Kept};
+ghost use Rattle.at_nest.specs.KeptItems.{Kept};
 ghost use Rattle.at_nest.specs.Reading.{HasBytes, pend_from};
 ghost use Rattle.at_nest.specs.Slots.{end_in};
-ghost use Rattle.at_nest.specs.Stands.{HoldsVariant, HoldsBehind, CanMeet, Meets, Neighbours, HaveUnion};
+ghost use Rattle.at_nest.specs.VariantMeanings.{HoldsVariant, HoldsBehind, CanMeet, Meets, Neighbours, HaveUnion};
 
 use crate::algebra::Algebra;
 use crate::bodies::{Body, join};

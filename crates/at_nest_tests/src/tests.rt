@@ -3,8 +3,8 @@
 ghost use Rattle.std.specs.Prelude.{◌≡◌, ◌≤◌, ◌<◌, ◌^◌, drop, length};
 ghost use Rattle.at_text.specs.Spans.{part_of};
 ghost use Rattle.at_text.specs.Texts.{base_of as base_in};
-ghost use Rattle.at_nest.specs.Holding.{Kept};
-ghost use Rattle.at_nest.specs.Standing.{StandsFor};
+ghost use Rattle.at_nest.specs.KeptItems.{Kept};
+ghost use Rattle.at_nest.specs.FragmentMeanings.{StandsFor};
 
 mod leaping;
 mod slow;

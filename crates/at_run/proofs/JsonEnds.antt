@@ -5,8 +5,8 @@ use Rattle.at_text.specs.Texts.{base_of, utf8_fault}
 use Rattle.at_text.specs.declared.faults.Fault.{Fault}
 use Rattle.at_text.specs.declared.faults.FaultKind.TheVariants as kinds
 use Rattle.at_nest.specs.Tree.{Tree}
-use Rattle.at_nest.specs.Holding.{Kept}
-use Rattle.at_nest.specs.Ending.{Answers, IsEnd}
+use Rattle.at_nest.specs.KeptItems.{Kept}
+use Rattle.at_nest.specs.TextAnswers.{Answers, IsEnd}
 use Rattle.at_nest.specs.Syntax.{HasJsonFault}
 use Rattle.at_nest.specs.declared.finishing.NestEnd.{NestEnd}
 use Rattle.at_nest.specs.declared.finishing.NestEnd.TheVariants as texts

@@ -2,8 +2,8 @@
 use Rattle.std.proofs.Common.{ℕ, List}
 use Rattle.at_text.specs.Spans.{AreNeighbours, IsMerged}
 use Rattle.at_text.specs.declared.texts.Span.{Span}
-use Rattle.at_nest.specs.Holding.{Kept}
-use Rattle.at_nest.specs.Standing.{StandsFor}
+use Rattle.at_nest.specs.KeptItems.{Kept}
+use Rattle.at_nest.specs.FragmentMeanings.{StandsFor}
 use Rattle.at_nest.specs.declared.fragments.Fragment.{Fragment}
 use Rattle.at_geojson.specs.declared.asked.GeoAlgebra.{GeoAlgebra}
 use Rattle.at_geojson.specs.declared.atoms.GeoAtom.{GeoAtom}

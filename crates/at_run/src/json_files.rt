@@ -2,8 +2,8 @@
 
 ghost use Rattle.std.specs.Prelude.{◌≡◌, ◌≤◌, ◌^◌, length, drop, MatchResult, Some};
 ghost use Rattle.at_text.specs.Texts.{base_of as text_begin};
-ghost use Rattle.at_nest.specs.Holding.{Kept};
-ghost use Rattle.at_nest.specs.Standing.{StandsFor};
+ghost use Rattle.at_nest.specs.KeptItems.{Kept};
+ghost use Rattle.at_nest.specs.FragmentMeanings.{StandsFor};
 ghost use Rattle.at_geojson.specs.Atoms.{IsOwn, IsFold, IsRun};
 ghost use Rattle.at_run.specs.declared.forms.Form.TheVariants.{GeoJson};
 ghost use Rattle.at_run.specs.Files.{HasFileFaultIn};

@@ -10,8 +10,8 @@ use Rattle.at_fixed.specs.declared.rounding.Coords.{Coords}
 use Rattle.at_wkt.proofs.Exits.{first_of-append}
 use Rattle.at_nest.specs.Tree.{Tree}
 use Rattle.at_nest.specs.Syntax.{JsonText}
-use Rattle.at_nest.specs.Ending.{Answers, IsEnd}
-use Rattle.at_nest.specs.Holding.{Kept as KeptAtom}
+use Rattle.at_nest.specs.TextAnswers.{Answers, IsEnd}
+use Rattle.at_nest.specs.KeptItems.{Kept as KeptAtom}
 use Rattle.at_nest.specs.declared.finishing.NestEnd.{NestEnd}
 use Rattle.at_nest.specs.declared.finishing.NestEnd.TheVariants as texts
 use Rattle.at_query.specs.declared.features.Feature.{Feature}

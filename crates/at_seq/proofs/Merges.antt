@@ -3,8 +3,8 @@ use Rattle.std.proofs.Common.{◌≡◌, ℕ, ◌+◌, ◌-◌, ◌<◌, ◌≤�
 use Rattle.std.specs.List.{position_or_len}
 use Rattle.at_text.specs.Spans.{part_of, AreNeighbours, IsMerged}
 use Rattle.at_text.specs.declared.texts.Span.{Span}
-use Rattle.at_nest.specs.Holding.{Kept as KeptAtom}
-use Rattle.at_nest.specs.Standing.{StandsFor}
+use Rattle.at_nest.specs.KeptItems.{Kept as KeptAtom}
+use Rattle.at_nest.specs.FragmentMeanings.{StandsFor}
 use Rattle.at_nest.specs.declared.fragments.Fragment.{Fragment}
 use Rattle.at_geojson.specs.declared.asked.GeoAlgebra.{GeoAlgebra}
 use Rattle.at_geojson.specs.declared.atoms.GeoAtom.{GeoAtom}

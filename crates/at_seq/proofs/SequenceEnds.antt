@@ -13,8 +13,8 @@ use Rattle.at_lex.proofs.FrontLemmas.{front_all}
 use Rattle.at_nest.specs.Tree.{Spells, IsTextOf}
 use Rattle.at_nest.specs.Folds.{IsAttempt}
 use Rattle.at_nest.specs.declared.algebra.Attempt.TheVariants.{Whole}
-use Rattle.at_nest.specs.Ending.{Answers}
-use Rattle.at_nest.specs.Holding.{Kept as KeptAtom}
+use Rattle.at_nest.specs.TextAnswers.{Answers}
+use Rattle.at_nest.specs.KeptItems.{Kept as KeptAtom}
 use Rattle.at_nest.proofs.OneTree.{one_tree}
 use Rattle.at_query.specs.declared.parts.Part.{Part}
 use Rattle.at_wkt.proofs.Exits.{first_of-append}

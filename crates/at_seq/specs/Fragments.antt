@@ -2,8 +2,8 @@
 -- Only contracts of private functions cite this.
 use Rattle.std.specs.Prelude.{◌≡◌, ℕ, ◌+◌, ◌≤◌, ◌<◌, List, [], ◌∷◌, ◌++◌, length}
 use Rattle.at_text.specs.Spans.{part_of}
-use Rattle.at_nest.specs.Holding.{Kept as KeptAtom}
-use Rattle.at_nest.specs.Standing.{StandsFor}
+use Rattle.at_nest.specs.KeptItems.{Kept as KeptAtom}
+use Rattle.at_nest.specs.FragmentMeanings.{StandsFor}
 use Rattle.at_nest.specs.declared.fragments.Fragment.{Fragment}
 use Rattle.at_geojson.specs.declared.asked.GeoAlgebra.{GeoAlgebra}
 use Rattle.at_geojson.specs.declared.atoms.GeoAtom.{GeoAtom}

@@ -4,9 +4,9 @@ ghost use Rattle.std.specs.Prelude.{◌≡◌, ℕ, ◌+◌, ◌≤◌, ◌<◌,
 ghost use Rattle.at_text.specs.Spans.{part_of};
 ghost use Rattle.at_text.specs.Texts.{is_space};
 ghost use Rattle.at_lex.specs.Fronts.{IsFront};
-ghost use Rattle.at_nest.specs.Ending.{Answers};
-ghost use Rattle.at_nest.specs.Holding.{Kept};
-ghost use Rattle.at_nest.specs.Standing.{StandsFor};
+ghost use Rattle.at_nest.specs.TextAnswers.{Answers};
+ghost use Rattle.at_nest.specs.KeptItems.{Kept};
+ghost use Rattle.at_nest.specs.FragmentMeanings.{StandsFor};
 ghost use Rattle.at_geojson.specs.Atoms.{IsOwn, IsFold, IsRun};
 ghost use Rattle.at_query.specs.Parts.{IsProper};
 ghost use Rattle.at_seq.specs.Records.{Piece, records_in};

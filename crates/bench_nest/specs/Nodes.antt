@@ -4,7 +4,7 @@ use Rattle.std.specs.Bool.{⊤}
 use Rattle.at_nest.specs.Tree.{Tree, literal, number, text, array, object, Trees, no_trees, tree_and, Members}
 use Rattle.at_nest.specs.Tree.{no_members, member_and}
 use Rattle.at_nest.specs.Folds.{trees}
-use Rattle.at_nest.specs.Holding.{Content, Kept}
+use Rattle.at_nest.specs.KeptItems.{Content, Kept}
 
 abbrev mutual
   pub nodes_of : Tree → ℕ

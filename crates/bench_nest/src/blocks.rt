@@ -1,8 +1,8 @@
 //! A text read in blocks.
 
 ghost use Rattle.std.specs.Prelude.{◌≤◌, ◌<◌, ◌^◌, length};
-ghost use Rattle.at_nest.specs.Standing.{StandsFor};
-ghost use Rattle.at_nest.specs.Ending.{Answers};
+ghost use Rattle.at_nest.specs.FragmentMeanings.{StandsFor};
+ghost use Rattle.at_nest.specs.TextAnswers.{Answers};
 ghost use Rattle.bench_nest.specs.Nodes.{IsCount};
 
 use crate::nodes::Nodes;

@@ -4,7 +4,7 @@
 #![tactic(auto)]
 
 ghost use Rattle.std.specs.Prelude.{◌≤◌, ◌<◌, ◌^◌, length};
-ghost use Rattle.at_nest.specs.Ending.{Answers};
+ghost use Rattle.at_nest.specs.TextAnswers.{Answers};
 ghost use Rattle.bench_nest.specs.Nodes.{IsCount};
 
 mod blocks;

@@ -4,7 +4,7 @@ use Rattle.std.proofs.lemmas.Result.{IfOk-weaker}
 use Rattle.at_nest.specs.declared.pieces.Piece.{Piece}
 use Rattle.at_nest.specs.declared.pieces.Piece.TheVariants.{Value, Row as RowPiece}
 use Rattle.at_nest.specs.Shown.{shown}
-use Rattle.at_nest.specs.Holding.{Kept, CanAdd}
+use Rattle.at_nest.specs.KeptItems.{Kept, CanAdd}
 use Rattle.at_nest.proofs.Adding.{adds_close, adds_row, adds_closers, adds_comma, adds_colon, adds_value, some_items}
 use Rattle.at_nest.proofs.Copies.{can_add_own}
 use Rattle.at_nest.proofs.MemberRows.{has_members, adds_members}

@@ -2,7 +2,7 @@
 use Rattle.std.proofs.Common.{None, sym}
 use Rattle.std.proofs.lemmas.Result.{IfOk-weaker}
 use Rattle.at_nest.specs.Shown.{shown, held_of, comma_next}
-use Rattle.at_nest.specs.Holding.{Kept}
+use Rattle.at_nest.specs.KeptItems.{Kept}
 use Rattle.at_nest.proofs.Adding.{innermost_own}
 use Rattle.at_nest.proofs.Rows.{row_outside, row_refused, row_put, step_on, step_refused, comma_own}
 use Rattle.at_nest.proofs.bodies.add_row.Goals as goal

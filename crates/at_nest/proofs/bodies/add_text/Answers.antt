@@ -4,7 +4,7 @@ use Rattle.std.proofs.lemmas.Result.{IfOk-weaker}
 use Rattle.at_nest.specs.declared.levels.MemberName.{MemberName}
 use Rattle.at_nest.specs.declared.pieces.Piece.TheVariants.{Text}
 use Rattle.at_nest.specs.Shown.{shown, held_of, name_next, value_next}
-use Rattle.at_nest.specs.Holding.{Kept}
+use Rattle.at_nest.specs.KeptItems.{Kept}
 use Rattle.at_nest.proofs.Held.{name_moves, text_moves}
 use Rattle.at_nest.proofs.MemberRows.{text_same}
 use Rattle.at_nest.proofs.Showing.{text_put, text_bytes}

@@ -2,7 +2,7 @@
 use Rattle.std.proofs.lemmas.Result.{IfOk-weaker}
 use Rattle.std.proofs.Common.{subst, List}
 use Rattle.at_nest.specs.Shown.{shown}
-use Rattle.at_nest.specs.Holding.{Kept, Gains}
+use Rattle.at_nest.specs.KeptItems.{Kept, Gains}
 use Rattle.at_nest.proofs.Held.{gains}
 use Rattle.at_nest.proofs.Rows.{row_begun}
 use Rattle.at_nest.proofs.bodies.begin_row.Goals as goal

@@ -2,7 +2,7 @@
 use Rattle.std.proofs.Common.{refl, sym, ◌∙◌, subst, None}
 use Rattle.std.proofs.lemmas.Result.{IfOk-weaker}
 use Rattle.at_nest.specs.Shown.{shown, held_of}
-use Rattle.at_nest.specs.Holding.{Kept, PushesValue}
+use Rattle.at_nest.specs.KeptItems.{Kept, PushesValue}
 use Rattle.at_nest.proofs.Adding.{innermost_own, without_innermost}
 use Rattle.at_nest.proofs.Showing.{close_refused, close_closes}
 use Rattle.at_nest.proofs.Closers.{pushes_same}

@@ -1,7 +1,7 @@
 -- Each bracket goes behind what is kept.
 use Rattle.std.proofs.Common.{arith, sym, ◌∙◌}
 use Rattle.at_nest.specs.Shown.{shown}
-use Rattle.at_nest.specs.Holding.{Kept}
+use Rattle.at_nest.specs.KeptItems.{Kept}
 use Rattle.at_nest.proofs.Closers.{closed_none, closed_on, closed_all, closed_halt}
 use Rattle.at_nest.proofs.bodies.close_all.Goals as goal
 

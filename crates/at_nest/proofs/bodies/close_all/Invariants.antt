@@ -1,6 +1,6 @@
 -- The brackets so far were all pushed.
 use Rattle.at_nest.specs.Shown.{shown}
-use Rattle.at_nest.specs.Holding.{Kept}
+use Rattle.at_nest.specs.KeptItems.{Kept}
 use Rattle.at_nest.proofs.Closers.{Closed}
 use Rattle.at_nest.proofs.bodies.close_all.Given as goal
 

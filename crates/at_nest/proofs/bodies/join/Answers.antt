@@ -4,7 +4,7 @@ use Rattle.std.specs.Vec.Iter.{into_iter_items}
 use Rattle.at_nest.specs.declared.levels.Open.{Open}
 use Rattle.at_nest.specs.declared.pieces.Piece.{Piece}
 use Rattle.at_nest.specs.Shown.{shown, show_as, open_levels, opens_of}
-use Rattle.at_nest.specs.Holding.{Kept}
+use Rattle.at_nest.specs.KeptItems.{Kept}
 use Rattle.at_nest.proofs.Showing.{open_append}
 use Rattle.at_nest.proofs.Joining.{taken_front, can_add, joins_halt, so_far_next, joins_all, none_left, SoFar}
 use Rattle.at_nest.proofs.bodies.join.Goals as goal

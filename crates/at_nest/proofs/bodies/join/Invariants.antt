@@ -1,6 +1,6 @@
 -- The items so far were all pushed.
 use Rattle.at_nest.specs.Shown.{shown}
-use Rattle.at_nest.specs.Holding.{Kept}
+use Rattle.at_nest.specs.KeptItems.{Kept}
 use Rattle.at_nest.proofs.Joining.{SoFar}
 use Rattle.at_nest.proofs.bodies.join.Given as goal
 

@@ -3,7 +3,7 @@ use Rattle.std.proofs.Common.{[], ◌∷◌, ◌++◌, ◌∙◌, ap}
 use Rattle.std.proofs.lemmas.Result.{IfOk-weaker}
 use Rattle.at_nest.specs.declared.pieces.Piece.{Piece}
 use Rattle.at_nest.specs.Shown.{shown}
-use Rattle.at_nest.specs.Holding.{Kept}
+use Rattle.at_nest.specs.KeptItems.{Kept}
 use Rattle.at_nest.proofs.Copies.{row_own}
 use Rattle.at_nest.proofs.Rows.{row_longer}
 use Rattle.at_nest.proofs.bodies.keep_behind.Goals as goal

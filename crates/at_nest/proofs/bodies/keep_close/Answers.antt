@@ -2,7 +2,7 @@
 use Rattle.std.proofs.Common.{refl}
 use Rattle.std.proofs.lemmas.Result.{IfOk-weaker}
 use Rattle.at_nest.specs.Shown.{shown}
-use Rattle.at_nest.specs.Holding.{Kept}
+use Rattle.at_nest.specs.KeptItems.{Kept}
 use Rattle.at_nest.proofs.Showing.{close_outside}
 use Rattle.at_nest.proofs.Closers.{longer_pushes}
 use Rattle.at_nest.proofs.bodies.keep_close.Goals as goal

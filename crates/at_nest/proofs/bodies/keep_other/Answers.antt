@@ -4,7 +4,7 @@ use Rattle.std.proofs.lemmas.Result.{IfOk-weaker}
 use Rattle.at_nest.specs.declared.pieces.Piece.{Piece}
 use Rattle.at_nest.specs.declared.pieces.Piece.TheVariants.{Comma}
 use Rattle.at_nest.specs.Shown.{shown}
-use Rattle.at_nest.specs.Holding.{Kept}
+use Rattle.at_nest.specs.KeptItems.{Kept}
 use Rattle.at_nest.proofs.Rows.{without_last, value_behind}
 use Rattle.at_nest.proofs.Showing.{value_outside}
 use Rattle.at_nest.proofs.bodies.keep_other.Goals as goal

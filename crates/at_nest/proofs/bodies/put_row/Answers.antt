@@ -6,7 +6,7 @@ use Rattle.at_nest.specs.declared.levels.Level.TheVariants as level
 use Rattle.at_nest.specs.declared.levels.ArrayLevel.{ArrayLevel}
 use Rattle.at_nest.specs.declared.levels.ArrayState.TheVariants as array
 use Rattle.at_nest.specs.Shown.{shown, held_of, array_level}
-use Rattle.at_nest.specs.Holding.{Content, Kept, IsRowNext, PutsRow}
+use Rattle.at_nest.specs.KeptItems.{Content, Kept, IsRowNext, PutsRow}
 use Rattle.at_nest.proofs.bodies.put_row.Goals as goal
 
 takes_no_row : {X : Type 0} (IsKept : X → Content → Type 0) (l : Level X) → ((a : ArrayLevel X) → l ≡ level.Array a → ⊥) → (zs : List X) → IsRowNext IsKept (held_of l) zs None

@@ -1,6 +1,6 @@
 -- One more is copied.
 use Rattle.std.proofs.Common.{◌<◌, ◌∷◌, ◌++◌, [], List, length, take, arith, sym, subst, ap, ◌∙◌, get_or}
-use Rattle.at_nest.specs.Holding.{Kept, CopiesItems}
+use Rattle.at_nest.specs.KeptItems.{Kept, CopiesItems}
 use Rattle.at_nest.proofs.Copies.{take_next, items_on}
 use Rattle.at_nest.proofs.copying.copy_items.Goals as goal
 

@@ -1,4 +1,4 @@
-use Rattle.at_nest.specs.Holding.{Kept}
+use Rattle.at_nest.specs.KeptItems.{Kept}
 use Rattle.at_nest.proofs.Stretches.{levels_copied}
 use Rattle.at_nest.proofs.copying.copy_levels.Goals as goal
 

@@ -1,7 +1,7 @@
 -- One more is copied.
 use Rattle.std.proofs.Common.{◌<◌, ◌∷◌, ◌++◌, [], List, length, take, arith, sym, subst, ap, ◌∙◌, get_or}
 use Rattle.at_nest.specs.declared.algebra.Member.{Member}
-use Rattle.at_nest.specs.Holding.{Kept, CopiesMembers}
+use Rattle.at_nest.specs.KeptItems.{Kept, CopiesMembers}
 use Rattle.at_nest.proofs.Copies.{take_next, members_on}
 use Rattle.at_nest.proofs.copying.copy_members.Goals as goal
 

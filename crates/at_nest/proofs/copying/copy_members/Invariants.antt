@@ -1,6 +1,6 @@
 -- What was copied so far stands for all that the first ones stand for.
 use Rattle.std.proofs.Common.{take}
-use Rattle.at_nest.specs.Holding.{Kept, CopiesMembers}
+use Rattle.at_nest.specs.KeptItems.{Kept, CopiesMembers}
 use Rattle.at_nest.proofs.copying.copy_members.Given as goal
 
 abbrev pub invariant-loop-member : goal.invariant-loop-member

@@ -1,7 +1,7 @@
 -- One more is copied.
 use Rattle.std.proofs.Common.{◌<◌, ◌∷◌, ◌++◌, [], List, length, take, arith, refl, sym, subst, ap, ◌∙◌, get_or}
 use Rattle.at_nest.specs.declared.pieces.NamedValue.{NamedValue}
-use Rattle.at_nest.specs.Holding.{Kept, CopiesNamed}
+use Rattle.at_nest.specs.KeptItems.{Kept, CopiesNamed}
 use Rattle.at_nest.proofs.Copies.{take_next, named_on}
 use Rattle.at_nest.proofs.copying.copy_named.Goals as goal
 

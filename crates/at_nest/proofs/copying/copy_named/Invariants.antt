@@ -1,6 +1,6 @@
 -- What was copied so far stands for all that the first ones stand for.
 use Rattle.std.proofs.Common.{take}
-use Rattle.at_nest.specs.Holding.{Kept, CopiesNamed}
+use Rattle.at_nest.specs.KeptItems.{Kept, CopiesNamed}
 use Rattle.at_nest.proofs.copying.copy_named.Given as goal
 
 abbrev pub invariant-loop-item : goal.invariant-loop-item

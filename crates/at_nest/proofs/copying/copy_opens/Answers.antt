@@ -2,7 +2,7 @@
 use Rattle.std.proofs.Common.{◌<◌, ◌∷◌, ◌++◌, [], List, length, take, arith, sym, subst, ap, ◌∙◌, get_or}
 use Rattle.at_nest.specs.declared.levels.Open.{Open}
 use Rattle.at_nest.specs.Shown.{open_levels}
-use Rattle.at_nest.specs.Holding.{Kept, CopiesLevels}
+use Rattle.at_nest.specs.KeptItems.{Kept, CopiesLevels}
 use Rattle.at_nest.proofs.Copies.{take_next}
 use Rattle.at_nest.proofs.Nests.{levels_on}
 use Rattle.at_nest.proofs.copying.copy_opens.Goals as goal

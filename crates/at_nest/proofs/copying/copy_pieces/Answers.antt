@@ -1,7 +1,7 @@
 -- One more is copied.
 use Rattle.std.proofs.Common.{◌<◌, ◌∷◌, ◌++◌, [], List, length, take, arith, sym, subst, ap, ◌∙◌, get_or}
 use Rattle.at_nest.specs.declared.pieces.Piece.{Piece}
-use Rattle.at_nest.specs.Holding.{Kept, CopiesPieces}
+use Rattle.at_nest.specs.KeptItems.{Kept, CopiesPieces}
 use Rattle.at_nest.proofs.Copies.{take_next, pieces_on}
 use Rattle.at_nest.proofs.copying.copy_pieces.Goals as goal
 

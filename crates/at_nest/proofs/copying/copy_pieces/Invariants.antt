@@ -1,6 +1,6 @@
 -- What was copied so far stands for all that the first ones stand for.
 use Rattle.std.proofs.Common.{take}
-use Rattle.at_nest.specs.Holding.{Kept, CopiesPieces}
+use Rattle.at_nest.specs.KeptItems.{Kept, CopiesPieces}
 use Rattle.at_nest.proofs.copying.copy_pieces.Given as goal
 
 abbrev pub invariant-loop-piece : goal.invariant-loop-piece

@@ -1,4 +1,4 @@
-use Rattle.at_nest.specs.Holding.{Kept}
+use Rattle.at_nest.specs.KeptItems.{Kept}
 use Rattle.at_nest.proofs.Stretches.{stretch_copied}
 use Rattle.at_nest.proofs.copying.copy_stretch.Goals as goal
 

@@ -1,6 +1,6 @@
 -- What was copied so far stands for all that the first ones stand for.
 use Rattle.std.proofs.Common.{take}
-use Rattle.at_nest.specs.Holding.{Kept, CopiesLevels}
+use Rattle.at_nest.specs.KeptItems.{Kept, CopiesLevels}
 use Rattle.at_nest.specs.Shown.{open_levels, stretched}
 use Rattle.at_nest.proofs.copying.copy_stretches.Given as goal
 

@@ -1,5 +1,5 @@
 -- The bytes up to the end are all that stand behind the base.
-use Rattle.at_nest.specs.Holding.{Kept}
+use Rattle.at_nest.specs.KeptItems.{Kept}
 use Rattle.at_nest.proofs.WholeTexts.{answers_all}
 use Rattle.at_text.specs.Texts.{base_of as base_in}
 use Rattle.at_nest.proofs.finishing.finish.Goals as goal

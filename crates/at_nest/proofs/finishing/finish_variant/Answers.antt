@@ -6,9 +6,9 @@ use Rattle.at_nest.specs.declared.finishing.NestEnd.{NestEnd}
 use Rattle.at_nest.specs.declared.pieces.Halt.{Halt}
 use Rattle.at_nest.specs.Shown.{Shown, shown}
 use Rattle.at_nest.specs.Unions.{empty_form}
-use Rattle.at_nest.specs.Holding.{Kept, IsShown}
-use Rattle.at_nest.specs.Stands.{HoldsVariant}
-use Rattle.at_nest.specs.Ending.{Answers}
+use Rattle.at_nest.specs.KeptItems.{Kept, IsShown}
+use Rattle.at_nest.specs.VariantMeanings.{HoldsVariant}
+use Rattle.at_nest.specs.TextAnswers.{Answers}
 use Rattle.at_nest.proofs.WholeTexts.{lead_pends, answers_lead, opens_whole, opens_broken, pends_whole, items_whole, whole_goes, whole_stops, broken_stops, first_halt}
 use Rattle.at_nest.proofs.finishing.finish_variant.Goals as goal
 

@@ -1,8 +1,8 @@
 use Rattle.std.proofs.Common.{Ok, Err, sym, ◌∙◌, ap}
 use Rattle.at_nest.specs.declared.levels.Open.{Open}
 use Rattle.at_nest.specs.Shown.{helds_of, top_of}
-use Rattle.at_nest.specs.Nexts.{levels_next, level_after}
-use Rattle.at_nest.proofs.Nexts.{after_refused}
+use Rattle.at_nest.specs.NextItems.{levels_next, level_after}
+use Rattle.at_nest.proofs.NextItems.{after_refused}
 use Rattle.at_nest.proofs.Nests.{nested_off, no_round}
 use Rattle.at_nest.proofs.finishing.first_of.Goals as goal
 

@@ -2,9 +2,9 @@
 use Rattle.std.proofs.Common.{sym, subst, Err, Result}
 use Rattle.at_nest.specs.declared.finishing.NestEnd.{NestEnd}
 use Rattle.at_nest.specs.Shown.{shown}
-use Rattle.at_nest.specs.Holding.{Kept}
-use Rattle.at_nest.specs.Lasts.{EndsSo}
-use Rattle.at_nest.proofs.Lasts.{ends_nothing, ends_stop, ends_open}
+use Rattle.at_nest.specs.KeptItems.{Kept}
+use Rattle.at_nest.specs.LastBytes.{EndsSo}
+use Rattle.at_nest.proofs.LastBytes.{ends_nothing, ends_stop, ends_open}
 use Rattle.at_nest.proofs.finishing.last.Goals as goal
 
 pub returns-in-Nothing : goal.returns-in-Nothing

@@ -3,9 +3,9 @@ use Rattle.std.proofs.Common.{sym, ◌∙◌, ap, Err}
 use Rattle.std.proofs.lemmas.Option.{none-some}
 use Rattle.std.proofs.lemmas.Result.{err_from_is_err_and}
 use Rattle.at_nest.specs.Shown.{shown}
-use Rattle.at_nest.specs.Holding.{Kept}
-use Rattle.at_nest.specs.Nexts.{next_of, stop_of}
-use Rattle.at_nest.proofs.Lasts.{ends_run, ends_refused, same_halt}
+use Rattle.at_nest.specs.KeptItems.{Kept}
+use Rattle.at_nest.specs.NextItems.{next_of, stop_of}
+use Rattle.at_nest.proofs.LastBytes.{ends_run, ends_refused, same_halt}
 use Rattle.at_nest.proofs.finishing.last_run.Goals as goal
 
 pub returns-in_err-atom : goal.returns-in_err-atom

@@ -3,8 +3,8 @@ use Rattle.std.proofs.Common.{◌∙◌, sym, ap, List, Ok}
 use Rattle.at_nest.specs.declared.levels.Open.{Open}
 use Rattle.at_nest.specs.declared.open_levels.Stretch.{Stretch}
 use Rattle.at_nest.specs.Shown.{open_levels, stretched}
-use Rattle.at_nest.specs.Nexts.{levels_next}
-use Rattle.at_nest.proofs.Nexts.{next_more, next_off}
+use Rattle.at_nest.specs.NextItems.{levels_next}
+use Rattle.at_nest.proofs.NextItems.{next_more, next_off}
 use Rattle.at_nest.proofs.finishing.levels_next.Goals as goal
 
 pub returns-in-Ok : goal.returns-in-Ok

@@ -1,8 +1,8 @@
 -- The first item that may not stand where it does stays so behind the open levels.
 use Rattle.std.proofs.Common.{◌∙◌, ap}
 use Rattle.at_nest.specs.Shown.{shown}
-use Rattle.at_nest.specs.Nexts.{outer_next}
-use Rattle.at_nest.proofs.Nexts.{next_error}
+use Rattle.at_nest.specs.NextItems.{outer_next}
+use Rattle.at_nest.proofs.NextItems.{next_error}
 use Rattle.at_nest.proofs.finishing.next_of.Goals as goal
 
 pub returns-in-Err : goal.returns-in-Err

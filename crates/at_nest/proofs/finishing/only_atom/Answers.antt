@@ -1,7 +1,7 @@
 -- The last item is the one that is taken.
 use Rattle.std.proofs.Common.{sym, ◌∙◌, ap}
-use Rattle.at_nest.specs.Nexts.{only_of}
-use Rattle.at_nest.proofs.Nexts.{only_last}
+use Rattle.at_nest.specs.NextItems.{only_of}
+use Rattle.at_nest.proofs.NextItems.{only_last}
 use Rattle.at_nest.proofs.finishing.only_atom.Goals as goal
 
 pub returns : goal.returns

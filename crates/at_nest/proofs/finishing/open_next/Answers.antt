@@ -2,9 +2,9 @@
 use Rattle.std.proofs.Common.{Ok, sym, ◌∙◌, ap}
 use Rattle.at_nest.specs.declared.finishing.Next.{Next}
 use Rattle.at_nest.specs.Shown.{helds_of, top_of}
-use Rattle.at_nest.specs.Nexts.{levels_next, level_after}
+use Rattle.at_nest.specs.NextItems.{levels_next, level_after}
 use Rattle.at_nest.proofs.Nests.{round_next}
-use Rattle.at_nest.proofs.Nexts.{no_value}
+use Rattle.at_nest.proofs.NextItems.{no_value}
 use Rattle.at_nest.proofs.finishing.open_next.Goals as goal
 
 pub returns-in-Value : goal.returns-in-Value

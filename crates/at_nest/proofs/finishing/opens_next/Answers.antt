@@ -1,9 +1,9 @@
 -- One level more, or the first that may not stand where it does.
 use Rattle.std.proofs.Common.{◌+◌, ◌∷◌, ◌++◌, [], ◌<◌, length, take, drop, take-append-drop, arith, sym, ◌∙◌, ap, Ok, Err}
 use Rattle.at_nest.specs.Shown.{open_levels}
-use Rattle.at_nest.specs.Nexts.{levels_next}
+use Rattle.at_nest.specs.NextItems.{levels_next}
 use Rattle.at_nest.proofs.Copies.{take_next}
-use Rattle.at_nest.proofs.Nexts.{next_step, next_off}
+use Rattle.at_nest.proofs.NextItems.{next_step, next_off}
 use Rattle.at_nest.proofs.finishing.opens_next.Goals as goal
 
 pub loop-level-preserved : goal.loop-level-preserved

@@ -1,10 +1,10 @@
 -- A run that is nothing whole either stops at a byte, or can go on.
 use Rattle.std.proofs.Common.{sym, subst, arith}
 use Rattle.at_nest.specs.declared.pieces.Halt.{Halt}
-use Rattle.at_nest.specs.Holding.{free, halt_of}
+use Rattle.at_nest.specs.KeptItems.{free, halt_of}
 use Rattle.at_nest.specs.Stops.{IsStop}
 use Rattle.at_nest.specs.Unions.{empty_form}
-use Rattle.at_nest.proofs.Lasts.{run_open, run_stops}
+use Rattle.at_nest.proofs.LastBytes.{run_open, run_stops}
 use Rattle.at_nest.proofs.finishing.run_tail.Goals as goal
 
 pub returns-then-len-text : goal.returns-then-len-text

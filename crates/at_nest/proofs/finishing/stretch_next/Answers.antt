@@ -2,7 +2,7 @@
 use Rattle.std.proofs.Common.{◌∙◌, sym, ap, List, Ok}
 use Rattle.at_nest.specs.declared.levels.Open.{Open}
 use Rattle.at_nest.specs.Shown.{open_levels}
-use Rattle.at_nest.specs.Nexts.{levels_next}
+use Rattle.at_nest.specs.NextItems.{levels_next}
 use Rattle.at_nest.proofs.StretchesNext.{in_stretch, off_stretch}
 use Rattle.at_nest.proofs.finishing.stretch_next.Goals as goal
 

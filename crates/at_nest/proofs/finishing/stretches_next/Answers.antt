@@ -2,7 +2,7 @@
 use Rattle.std.proofs.Common.{◌+◌, ◌∷◌, ◌++◌, [], ◌<◌, List, length, take, drop, take-append-drop, arith, sym, ◌∙◌, ap, Ok, Err}
 use Rattle.at_nest.specs.declared.open_levels.Stretch.{Stretch}
 use Rattle.at_nest.specs.Shown.{open_levels, stretched}
-use Rattle.at_nest.specs.Nexts.{levels_next}
+use Rattle.at_nest.specs.NextItems.{levels_next}
 use Rattle.at_nest.proofs.Copies.{take_next}
 use Rattle.at_nest.proofs.StretchesNext.{stretch_more, stretches_off}
 use Rattle.at_nest.proofs.finishing.stretches_next.Goals as goal

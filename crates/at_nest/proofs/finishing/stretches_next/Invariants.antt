@@ -1,7 +1,7 @@
 -- What may stand behind the stretches so far.
 use Rattle.std.proofs.Common.{◌≡◌, Ok, take}
 use Rattle.at_nest.specs.Shown.{open_levels, stretched}
-use Rattle.at_nest.specs.Nexts.{levels_next}
+use Rattle.at_nest.specs.NextItems.{levels_next}
 use Rattle.at_nest.proofs.finishing.stretches_next.Given as goal
 
 abbrev pub invariant-loop-stretch : goal.invariant-loop-stretch

@@ -1,6 +1,6 @@
 -- What is taken goes on behind the left variant; where nothing is wanted, the left one stops.
 use Rattle.std.proofs.lemmas.Result.{IfOk-weaker}
-use Rattle.at_nest.specs.Holding.{Kept}
+use Rattle.at_nest.specs.KeptItems.{Kept}
 use Rattle.at_nest.proofs.Behind.{can_take, taken_union, none_union}
 use Rattle.at_nest.proofs.fragments.joined.Goals as goal
 

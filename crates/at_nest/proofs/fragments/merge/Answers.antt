@@ -2,8 +2,8 @@
 use Rattle.std.proofs.Common.{sym, ◌∙◌, subst}
 use Rattle.std.proofs.lemmas.Result.{IfOk-weaker}
 use Rattle.at_text.specs.Spans.{part_of}
-use Rattle.at_nest.specs.Holding.{Kept}
-use Rattle.at_nest.specs.Standing.{HoldsParts}
+use Rattle.at_nest.specs.KeptItems.{Kept}
+use Rattle.at_nest.specs.FragmentMeanings.{HoldsParts}
 use Rattle.at_nest.proofs.Behind.{parts_beside, part_joined}
 use Rattle.at_nest.proofs.fragments.merge.Goals as goal
 

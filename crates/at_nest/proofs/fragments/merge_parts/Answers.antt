@@ -1,6 +1,6 @@
 -- Both go on; what the first takes, the second doesn't want, or it is copied.
 use Rattle.at_lex.specs.declared.tokens.Start.TheVariants.{Out, InString}
-use Rattle.at_nest.specs.Holding.{Kept}
+use Rattle.at_nest.specs.KeptItems.{Kept}
 use Rattle.at_nest.proofs.Behind.{out_goes, string_goes, still_goes, escape_union, both_ends}
 use Rattle.at_nest.proofs.fragments.merge_parts.Goals as goal
 

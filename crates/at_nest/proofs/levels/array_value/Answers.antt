@@ -1,7 +1,7 @@
 -- The algebra puts the atom behind the others, or the array wants a comma.
 use Rattle.std.proofs.Common.{[], ◌∷◌, ◌++◌, ap}
 use Rattle.at_nest.specs.Shown.{held_of}
-use Rattle.at_nest.specs.Holding.{Kept}
+use Rattle.at_nest.specs.KeptItems.{Kept}
 use Rattle.at_nest.proofs.Held.{each_append, gains, value_refused, value_taken}
 use Rattle.at_nest.proofs.levels.array_value.Goals as goal
 

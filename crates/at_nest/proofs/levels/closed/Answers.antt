@@ -3,7 +3,7 @@ use Rattle.std.proofs.Common.{sym, subst}
 use Rattle.std.proofs.lemmas.Result.{IfOk-weaker}
 use Rattle.at_nest.proofs.Held.{array_built, object_built}
 use Rattle.at_nest.specs.Shown.{held_of, object_held}
-use Rattle.at_nest.specs.Holding.{IsHeld, Kept}
+use Rattle.at_nest.specs.KeptItems.{IsHeld, Kept}
 use Rattle.at_nest.proofs.levels.closed.Goals as goal
 
 pub returns-in-Array-clause-fold : goal.returns-in-Array-clause-fold

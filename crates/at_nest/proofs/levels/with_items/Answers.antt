@@ -1,5 +1,5 @@
 -- One atom more stands behind the others.
-use Rattle.at_nest.specs.Holding.{Kept}
+use Rattle.at_nest.specs.KeptItems.{Kept}
 use Rattle.at_nest.proofs.Held.{gains}
 use Rattle.at_nest.proofs.Rows.{gains_on}
 use Rattle.at_nest.proofs.levels.with_items.Goals as goal

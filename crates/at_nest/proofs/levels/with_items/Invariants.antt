@@ -1,6 +1,6 @@
 -- The atoms so far stand behind the others.
 use Rattle.std.proofs.Common.{All}
-use Rattle.at_nest.specs.Holding.{Kept, GainsAll}
+use Rattle.at_nest.specs.KeptItems.{Kept, GainsAll}
 use Rattle.at_nest.proofs.levels.with_items.Given as goal
 
 abbrev pub invariant-loop-atom : goal.invariant-loop-atom

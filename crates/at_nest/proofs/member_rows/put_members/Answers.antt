@@ -3,7 +3,7 @@ use Rattle.std.proofs.Common.{◌≡◌, Some, sym, ◌∙◌, ap, subst}
 use Rattle.std.proofs.lemmas.Result.{IfOk-weaker}
 use Rattle.at_nest.specs.declared.levels.ObjectState.TheVariants as object
 use Rattle.at_nest.specs.Shown.{Held, shown, held_of, object_held, object_level}
-use Rattle.at_nest.specs.Holding.{Kept, IsBehindComma, PutsMembers}
+use Rattle.at_nest.specs.KeptItems.{Kept, IsBehindComma, PutsMembers}
 use Rattle.at_nest.proofs.MemberRows.{each_has_name, members_in_object}
 use Rattle.at_nest.proofs.member_rows.put_members.Goals as goal
 

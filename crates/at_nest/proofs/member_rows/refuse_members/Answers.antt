@@ -5,7 +5,7 @@ use Rattle.at_nest.specs.declared.levels.Level.TheVariants.{Array}
 use Rattle.at_nest.specs.declared.levels.Step.{Step}
 use Rattle.at_nest.specs.Tree.{text}
 use Rattle.at_nest.specs.Shown.{shown, held_of}
-use Rattle.at_nest.specs.Holding.{Kept, AddsTo}
+use Rattle.at_nest.specs.KeptItems.{Kept, AddsTo}
 use Rattle.at_nest.proofs.Showing.{text_bytes}
 use Rattle.at_nest.proofs.MemberRows.{first_name, members_in_array}
 use Rattle.at_nest.proofs.member_rows.refuse_members.Goals as goal

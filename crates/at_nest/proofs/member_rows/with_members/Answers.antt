@@ -5,7 +5,7 @@ use Rattle.std.proofs.lemmas.List.Elements.{All-drop, All-head}
 use Rattle.std.specs.Vec.Iter.{into_iter_items}
 use Rattle.at_nest.specs.declared.pieces.NamedValue.{NamedValue}
 use Rattle.at_nest.proofs.Joining.{taken_front}
-use Rattle.at_nest.specs.Holding.{Kept, HasName}
+use Rattle.at_nest.specs.KeptItems.{Kept, HasName}
 use Rattle.at_nest.proofs.MemberRows.{gains_member}
 use Rattle.at_nest.proofs.member_rows.with_members.Goals as goal
 

@@ -1,5 +1,5 @@
 -- The members so far stand behind the others.
-use Rattle.at_nest.specs.Holding.{Kept, GainsMembers}
+use Rattle.at_nest.specs.KeptItems.{Kept, GainsMembers}
 use Rattle.at_nest.proofs.member_rows.with_members.Given as goal
 
 abbrev pub invariant-loop-member : goal.invariant-loop-member

@@ -1,6 +1,6 @@
 -- The bracket opens a level.
 use Rattle.at_nest.specs.Shown.{shown}
-use Rattle.at_nest.specs.Holding.{Kept}
+use Rattle.at_nest.specs.KeptItems.{Kept}
 use Rattle.at_nest.proofs.Ahead.{opened_ahead}
 use Rattle.at_nest.proofs.openings.opened.Goals as goal
 

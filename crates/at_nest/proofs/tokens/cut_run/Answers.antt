@@ -3,7 +3,7 @@ use Rattle.std.proofs.Common.{sym, subst, Some}
 use Rattle.std.proofs.lemmas.Result.{IfOk-weaker}
 use Rattle.at_nest.specs.declared.pieces.Halt.{Halt}
 use Rattle.at_nest.specs.Shown.{shown}
-use Rattle.at_nest.specs.Holding.{Kept}
+use Rattle.at_nest.specs.KeptItems.{Kept}
 use Rattle.at_nest.specs.Reading.{Reads}
 use Rattle.at_nest.proofs.TokenReads.{run_end_is, cut_reads_run, cut_stops_run}
 use Rattle.at_nest.proofs.tokens.cut_run.Goals as goal

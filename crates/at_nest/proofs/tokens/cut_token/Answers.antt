@@ -1,7 +1,7 @@
 -- No byte is no token.
 use Rattle.std.proofs.Common.{sym, ◌∙◌}
 use Rattle.at_nest.specs.Shown.{shown}
-use Rattle.at_nest.specs.Holding.{Kept}
+use Rattle.at_nest.specs.KeptItems.{Kept}
 use Rattle.at_nest.proofs.TokenReads.{cut_nothing}
 use Rattle.at_nest.proofs.TokenMarks.{empty_is, other_is_run}
 use Rattle.at_nest.proofs.tokens.cut_token.Goals as goal

@@ -3,7 +3,7 @@ use Rattle.std.proofs.Common.{sym, ◌∙◌, ap, subst, Some, ◌-◌}
 use Rattle.std.proofs.lemmas.Result.{IfOk-weaker}
 use Rattle.at_nest.specs.declared.pieces.Halt.{Halt}
 use Rattle.at_nest.specs.Shown.{shown}
-use Rattle.at_nest.specs.Holding.{Kept}
+use Rattle.at_nest.specs.KeptItems.{Kept}
 use Rattle.at_nest.specs.Reading.{ReadsToken, stop_within}
 use Rattle.at_nest.proofs.TokenReads.{lexed_text, lexed_run, broken_reads}
 use Rattle.at_nest.proofs.TokenMarks.{lexed_open, lexed_close, lexed_comma, lexed_colon, text_of_lexed, run_of_lexed}

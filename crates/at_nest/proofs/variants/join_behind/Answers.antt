@@ -2,7 +2,7 @@
 use Rattle.std.proofs.Common.{Option, subst, ◌++◌}
 use Rattle.at_nest.specs.declared.pieces.Halt.{Halt}
 use Rattle.at_nest.specs.Shown.{shown}
-use Rattle.at_nest.specs.Holding.{Kept}
+use Rattle.at_nest.specs.KeptItems.{Kept}
 use Rattle.at_nest.proofs.UnionsHeld.{put_whole, put_broken, union_all, union_whole, union_broken, right_is, Together, TogetherBroken}
 use Rattle.at_nest.proofs.variants.join_behind.Goals as goal
 

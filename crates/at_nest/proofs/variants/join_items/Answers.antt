@@ -3,7 +3,7 @@ use Rattle.std.proofs.Common.{Option, subst, ◌-◌, take, drop}
 use Rattle.std.proofs.lemmas.Result.{IfOk-weaker}
 use Rattle.at_nest.specs.declared.pieces.Halt.{Halt}
 use Rattle.at_nest.specs.Shown.{shown}
-use Rattle.at_nest.specs.Holding.{Kept}
+use Rattle.at_nest.specs.KeptItems.{Kept}
 use Rattle.at_nest.specs.Reading.{Reads}
 use Rattle.at_nest.proofs.Neighbours.{meets_on, meets_stop}
 use Rattle.at_nest.proofs.variants.join_items.Goals as goal

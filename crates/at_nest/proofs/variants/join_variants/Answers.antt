@@ -1,5 +1,5 @@
 -- A left span that is all lead, or that stops, takes no item from the right one.
-use Rattle.at_nest.specs.Holding.{Kept}
+use Rattle.at_nest.specs.KeptItems.{Kept}
 use Rattle.at_nest.proofs.UnionsHeld.{union_lead, union_stop}
 use Rattle.at_nest.proofs.variants.join_variants.Goals as goal
 

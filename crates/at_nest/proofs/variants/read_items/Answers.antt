@@ -5,9 +5,9 @@ use Rattle.at_nest.specs.declared.pieces.Halt.{Halt}
 use Rattle.at_nest.specs.declared.variants.Variant.TheVariants.{Whole, Broken}
 use Rattle.at_nest.specs.Shown.{Shown, shown}
 use Rattle.at_nest.specs.Unions.{empty_form}
-use Rattle.at_nest.specs.Holding.{Kept, IsShown}
+use Rattle.at_nest.specs.KeptItems.{Kept, IsShown}
 use Rattle.at_nest.specs.Reading.{ReadsToken, ReadsAhead}
-use Rattle.at_nest.specs.Stands.{HoldsBehind}
+use Rattle.at_nest.specs.VariantMeanings.{HoldsBehind}
 use Rattle.at_nest.proofs.Items.{consumed_none, consumed_on, consumed_stop, consumed_end, token_bytes, ahead_bytes, opens_bytes, consumed_ahead, consumed_ahead_stop}
 use Rattle.at_nest.proofs.Refusals.{consumed_refused}
 use Rattle.at_nest.proofs.variants.read_items.Goals as goal

@@ -1,7 +1,7 @@
 -- What has been read stands in a form; each token is shorter than what is left.
 use Rattle.std.proofs.Common.{length}
 use Rattle.at_nest.specs.Shown.{shown}
-use Rattle.at_nest.specs.Holding.{Kept}
+use Rattle.at_nest.specs.KeptItems.{Kept}
 use Rattle.at_nest.proofs.Items.{Consumed}
 use Rattle.at_nest.proofs.variants.read_items.Given as goal
 

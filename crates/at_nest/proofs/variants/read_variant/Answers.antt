@@ -3,7 +3,7 @@ use Rattle.std.proofs.Common.{ap, sym, ◌∙◌, subst, true≢false, length, �
 use Rattle.std.proofs.lemmas.Result.{IfOk-weaker}
 use Rattle.at_lex.specs.Stream.{IsBegun}
 use Rattle.at_lex.specs.declared.tokens.Lead.{Lead}
-use Rattle.at_nest.specs.Holding.{Kept}
+use Rattle.at_nest.specs.KeptItems.{Kept}
 use Rattle.at_nest.proofs.Items.{begun_text, behind_nothing, behind_run, behind_text}
 use Rattle.at_nest.proofs.variants.read_variant.Goals as goal
 

@@ -1,8 +1,8 @@
 -- What is read so far stands for its bytes.
 use Rattle.std.proofs.Common.{◌≤◌}
 use Rattle.at_text.specs.Spans.{part_of}
-use Rattle.at_nest.specs.Holding.{Kept}
-use Rattle.at_nest.specs.Standing.{StandsFor}
+use Rattle.at_nest.specs.KeptItems.{Kept}
+use Rattle.at_nest.specs.FragmentMeanings.{StandsFor}
 use Rattle.at_nest_tests.proofs.tests.cut_at.Given as goal
 
 abbrev pub invariant-loop-place : goal.invariant-loop-place

@@ -1,6 +1,6 @@
 use Rattle.std.proofs.Common.{Result, subst}
-use Rattle.at_nest.specs.Ending.{Answers}
-use Rattle.at_nest.specs.Holding.{Kept}
+use Rattle.at_nest.specs.TextAnswers.{Answers}
+use Rattle.at_nest.specs.KeptItems.{Kept}
 use Rattle.at_nest.specs.declared.finishing.NestEnd.{NestEnd}
 use Rattle.at_geojson.specs.declared.atoms.GeoAtom.{GeoAtom}
 use Rattle.at_geojson.specs.Atoms.{IsOwn, IsFold, IsRun}

@@ -11,7 +11,7 @@ use Rattle.at_nest.specs.Stops.{AreLevels}
 use Rattle.at_nest.specs.Unions.{IsToken, Ends, merged}
 use Rattle.at_nest.specs.Variants.{IsAllLead, IsLeadEnd, IsWhole, IsBroken}
 use Rattle.at_nest.specs.Shown.{Shown, shown}
-use Rattle.at_nest.specs.Holding.{Content, free, IsShown, IsPushedAs, IsPartOf, halt_of}
+use Rattle.at_nest.specs.KeptItems.{Content, free, IsShown, IsPushedAs, IsPartOf, halt_of}
 use Rattle.at_nest.specs.Reading.{IsPlaced}
 
 module _ {X : Type 0} (IsKept : X → Content → Type 0) where

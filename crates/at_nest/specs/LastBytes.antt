@@ -15,8 +15,8 @@ use Rattle.at_nest.specs.Levels.{Form}
 use Rattle.at_nest.specs.Stops.{IsForm, IsStop}
 use Rattle.at_nest.specs.Unions.{empty_form}
 use Rattle.at_nest.specs.Shown.{Shown}
-use Rattle.at_nest.specs.Holding.{Content, free, halt_of, IsShown}
-use Rattle.at_nest.specs.Ending.{Answers}
+use Rattle.at_nest.specs.KeptItems.{Content, free, halt_of, IsShown}
+use Rattle.at_nest.specs.TextAnswers.{Answers}
 
 -- the first byte is a quote
 abbrev pub begins_text : List ℕ → Bool

@@ -8,8 +8,8 @@ use Rattle.at_nest.specs.declared.fragments.Escape.{Escape}
 use Rattle.at_nest.specs.declared.fragments.Escape.TheVariants.{AsString, Unread}
 use Rattle.at_nest.specs.declared.fragments.Parts.{Parts}
 use Rattle.at_nest.specs.declared.fragments.Fragment.{Fragment}
-use Rattle.at_nest.specs.Stands.{HoldsVariant}
-use Rattle.at_nest.specs.Holding.{Content}
+use Rattle.at_nest.specs.VariantMeanings.{HoldsVariant}
+use Rattle.at_nest.specs.KeptItems.{Content}
 
 abbrev pub parts_in : {X : Type 0} → Option (Box (Parts X) Global) → Option (Parts X)
 parts_in None = None

@@ -25,11 +25,11 @@ use Rattle.at_nest.specs.Unions.{empty_form}
 use Rattle.at_nest.specs.Variants.{IsPending, none_pending, run_pending, text_pending}
 use Rattle.at_nest.specs.Answers.{finished, IsAnswer}
 use Rattle.at_nest.specs.Shown.{Shown}
-use Rattle.at_nest.specs.Holding.{Content, one, PushesValue, free, halt_of, IsPushedAs}
+use Rattle.at_nest.specs.KeptItems.{Content, one, PushesValue, free, halt_of, IsPushedAs}
 use Rattle.at_nest.specs.Reading.{stop_within}
-use Rattle.at_nest.specs.Nexts.{next_of, answer_of, stop_of, open_of}
-use Rattle.at_nest.specs.Lasts.{begins_text, IsOpen, EndsSo}
-use Rattle.at_nest.specs.Ending.{Answers}
+use Rattle.at_nest.specs.NextItems.{next_of, answer_of, stop_of, open_of}
+use Rattle.at_nest.specs.LastBytes.{begins_text, IsOpen, EndsSo}
+use Rattle.at_nest.specs.TextAnswers.{Answers}
 use Rattle.at_nest.proofs.Longest.{string_runs, rest_runs}
 use Rattle.at_nest.proofs.Unions.{stays_in}
 use Rattle.at_nest.proofs.Strings.{text_run, closed_is}
@@ -41,7 +41,7 @@ use Rattle.at_nest.proofs.Pushes.{push_ok}
 use Rattle.at_nest.proofs.Joins.{formed_append}
 use Rattle.at_nest.proofs.Texts.{mark_formed, last_answer, no_last, last_mark, last_stop, last_open}
 use Rattle.at_nest.proofs.Open as unended
-use Rattle.at_nest.proofs.Nexts.{each_closed, answer_tells, stop_tells, open_tells}
+use Rattle.at_nest.proofs.NextItems.{each_closed, answer_tells, stop_tells, open_tells}
 use Rattle.at_nest.proofs.Told.{told}
 
 -- ---- what may go on at the end of a text

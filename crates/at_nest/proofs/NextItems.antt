@@ -24,8 +24,8 @@ use Rattle.at_nest.specs.Stops.{AreLevels}
 use Rattle.at_nest.specs.Answers.{Answer, folded, syntax, ended, single, folded_or, by_walk, choose, halt_place, stop_by, finished}
 use Rattle.at_nest.specs.Shown.{Held, array_level, object_level, helds_of, Shown, open_levels, from_of, first_of_piece, is_value_piece, takes_name, takes_value}
 use Rattle.at_nest.specs.MemberMarks.{mark_of, marks_behind_comma, member_marks}
-use Rattle.at_nest.specs.Holding.{Content, one, free, row_marks, closers, IsHeld, EachHeld, IsHeldPiece, AreRow, ArePieces, EachPiece, IsShown, halt_of, within_of}
-use Rattle.at_nest.specs.Nexts.{takes, level_next, level_after, IsNoValue, levels_next, outer_next, next_of, value_of, only_of, answer_by, answer_of, stop_of, open_of}
+use Rattle.at_nest.specs.KeptItems.{Content, one, free, row_marks, closers, IsHeld, EachHeld, IsHeldPiece, AreRow, ArePieces, EachPiece, IsShown, halt_of, within_of}
+use Rattle.at_nest.specs.NextItems.{takes, level_next, level_after, IsNoValue, levels_next, outer_next, next_of, value_of, only_of, answer_by, answer_of, stop_of, open_of}
 use Rattle.at_nest.proofs.Walks.{cases}
 use Rattle.at_nest.proofs.Pushes.{moves_walk}
 use Rattle.at_nest.proofs.Finished.{AreClosed}

@@ -8,7 +8,7 @@ use Rattle.at_nest.specs.declared.finishing.NestEnd.{NestEnd}
 use Rattle.at_nest.specs.declared.finishing.NestEnd.TheVariants.{Syntax, Ended, Memory}
 use Rattle.at_nest.specs.Tree.{Tree, IsTextOf}
 use Rattle.at_nest.specs.Syntax.{JsonText}
-use Rattle.at_nest.specs.Holding.{Content, one}
+use Rattle.at_nest.specs.KeptItems.{Content, one}
 
 -- the bytes w, which stand at `at`, are no JSON text, and this is where their longest prefix that can become one ends:
 -- before a byte, or at their end. Want of memory says nothing of them
