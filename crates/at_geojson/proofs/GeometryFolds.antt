@@ -19,7 +19,7 @@ use Rattle.at_geojson.specs.declared.kinds.Kind.{Kind}
 use Rattle.at_geojson.specs.declared.kinds.Kind.TheVariants as kinds
 use Rattle.at_geojson.specs.Names.{items_of}
 use Rattle.at_geojson.specs.Coordinates.{each, position_of, positions_of, lists_of, area_of, areas_of, if_some_items, geometry_of, geometry_of_form}
-use Rattle.at_geojson.specs.Roles.{Reading, not_geometry, coordinates_reading}
+use Rattle.at_geojson.specs.Roles.{GeometryRead, not_geometry, coordinates_reading}
 use Rattle.at_geojson.specs.Keeping.{Asked, needs_shapes, kept, kept_shape}
 use Rattle.at_geojson.specs.Atoms.{no_roles, at_of, is_empty, as_position, as_points, as_lists, as_area, as_areas, PositionView, PointsView, ListsView, AreasView, array_trees, Alike, HasShape, IsPosition, IsPoints, IsLists, IsArea, IsAreas, IsRead}
 use Rattle.at_geojson.specs.Gathering.{seen}
@@ -144,10 +144,10 @@ module _ (asked : Asked) where
   not_nil (atoms.Series s) t r n e = absurd (none-some (no_roles s.at) (sym r.single))
   not_nil (atoms.Track x) t r n e = absurd (none-some (no_roles x.at) (sym r.single))
 
-  abbrev of_geometry : wkt.Geometry → Reading
+  abbrev of_geometry : wkt.Geometry → GeometryRead
   of_geometry g = record { shape = shape_of asked.digits asked.how g; faults = faults_of asked.digits asked.how g }
 
-  abbrev geometry_read : ℕ → Option wkt.Geometry → Reading
+  abbrev geometry_read : ℕ → Option wkt.Geometry → GeometryRead
   geometry_read at o = elim o [ None ↦ not_geometry at | Some g ↦ of_geometry g ]
 
   module _ {X Y : Type 0} (kind : Kind) (f : Tree → Option Y) (view : GeoAtom → Option X) (R : X → Y → Type 0) (tell : X → Result Shape Fault) (g : Y → wkt.Geometry)

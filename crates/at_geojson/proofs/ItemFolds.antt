@@ -17,7 +17,7 @@ use Rattle.at_query.specs.declared.parts.Part.{Part}
 use Rattle.at_query.specs.declared.queries.Query.{Query}
 use Rattle.at_geojson.specs.declared.atoms.GeoAtom.{GeoAtom}
 use Rattle.at_geojson.specs.declared.atoms.Items.{Items}
-use Rattle.at_geojson.specs.Roles.{Reading, Features, both_read, geometry_reading, items_reading, item_reading}
+use Rattle.at_geojson.specs.Roles.{GeometryRead, Features, both_read, geometry_reading, items_reading, item_reading}
 use Rattle.at_geojson.specs.Keeping.{Asked, needs_shapes, kept_shape}
 use Rattle.at_geojson.specs.Names.{items_of}
 use Rattle.at_geojson.specs.Atoms.{HasShape, HasPart, HaveItems, items_features, IsRead, IsRun, at_of, role_of, role_geometry, role_item}
@@ -50,16 +50,16 @@ trees_of_items (tree_and t ts) = ap (tree_and t) (trees_of_items ts)
 
 -- ---- readings, joined
 
-abbrev reading : List Pos → List (List Pos) → List Polygon → List Fault → Reading
+abbrev reading : List Pos → List (List Pos) → List Polygon → List Fault → GeometryRead
 reading p l g f = record { shape = record { points = p; lines = l; polygons = g }; faults = f }
 
-both_nothing : (r : Reading) → both_read r (record { shape = empty_shape; faults = [] }) ≡ both_read (record { shape = empty_shape; faults = [] }) r
+both_nothing : (r : GeometryRead) → both_read r (record { shape = empty_shape; faults = [] }) ≡ both_read (record { shape = empty_shape; faults = [] }) r
 both_nothing r = ap (λ z. reading z (r.shape.lines ++ []) (r.shape.polygons ++ []) (r.faults ++ [])) (append-nil r.shape.points)
     ∙ (ap (λ z. reading r.shape.points z (r.shape.polygons ++ []) (r.faults ++ [])) (append-nil r.shape.lines)
     ∙ (ap (λ z. reading r.shape.points r.shape.lines z (r.faults ++ [])) (append-nil r.shape.polygons)
     ∙ ap (λ z. reading r.shape.points r.shape.lines r.shape.polygons z) (append-nil r.faults)))
 
-both_assoc : (r s q : Reading) → both_read r (both_read s q) ≡ both_read (both_read r s) q
+both_assoc : (r s q : GeometryRead) → both_read r (both_read s q) ≡ both_read (both_read r s) q
 both_assoc r s q = ap (λ z. reading z (r.shape.lines ++ (s.shape.lines ++ q.shape.lines)) (r.shape.polygons ++ (s.shape.polygons ++ q.shape.polygons)) (r.faults ++ (s.faults ++ q.faults))) (sym (append_assoc r.shape.points s.shape.points q.shape.points))
     ∙ (ap (λ z. reading ((r.shape.points ++ s.shape.points) ++ q.shape.points) z (r.shape.polygons ++ (s.shape.polygons ++ q.shape.polygons)) (r.faults ++ (s.faults ++ q.faults))) (sym (append_assoc r.shape.lines s.shape.lines q.shape.lines))
     ∙ (ap (λ z. reading ((r.shape.points ++ s.shape.points) ++ q.shape.points) ((r.shape.lines ++ s.shape.lines) ++ q.shape.lines) z (r.faults ++ (s.faults ++ q.faults))) (sym (append_assoc r.shape.polygons s.shape.polygons q.shape.polygons))
@@ -93,7 +93,7 @@ first_right fs gs e = ap (λ z. first_of (z ++ gs)) e
 first_both : (fs gs : List Fault) (f g k : Fault) → first_of fs ≡ Some f → first_of gs ≡ Some g → Some k ≡ first_fault (Some f) (Some g) → first_of (fs ++ gs) ≡ Some k
 first_both fs gs f g k ef eg ek = first_of-append fs gs ∙ (ap (λ o. first_fault o (first_of gs)) ef ∙ (ap (first_fault (Some f)) eg ∙ sym ek))
 
-pub shapes_join : (b : Bool) (l g n : Result Shape Fault) (r s : Reading) → JoinsShapes l g n → HasShape b l r → HasShape b g s → HasShape b n (both_read r s)
+pub shapes_join : (b : Bool) (l g n : Result Shape Fault) (r s : GeometryRead) → JoinsShapes l g n → HasShape b l r → HasShape b g s → HasShape b n (both_read r s)
 shapes_join b (Ok x) (Ok y) n r s j h k = subst (λ z. HasShape b z (both_read r s)) (sym j) (both_nil r.faults s.faults h.0 k.0, ap (λ z. both z y) h.1 ∙ (ap (both (kept_shape b r.shape)) k.1 ∙ kept_both b r.shape s.shape))
 shapes_join b (Ok x) (Err f) n r s j h k = subst (λ z. HasShape b z (both_read r s)) (sym j) (first_right r.faults s.faults h.0 ∙ k)
 shapes_join b (Err e) (Ok y) n r s j h k = subst (λ z. HasShape b z (both_read r s)) (sym j) (first_left r.faults s.faults k.0 ∙ h)

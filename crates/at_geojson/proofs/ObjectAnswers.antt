@@ -13,7 +13,7 @@ use Rattle.at_geojson.specs.declared.atoms.Role.TheVariants as roles
 use Rattle.at_geojson.specs.declared.kinds.Kind.{Kind}
 use Rattle.at_geojson.specs.declared.kinds.Kind.TheVariants as kinds
 use Rattle.at_geojson.specs.Names.{member_named}
-use Rattle.at_geojson.specs.Roles.{Reading, Features, kind_reading, collection_reading, if_feature}
+use Rattle.at_geojson.specs.Roles.{GeometryRead, Features, kind_reading, collection_reading, if_feature}
 use Rattle.at_geojson.specs.Keeping.{Asked, needs_shapes}
 use Rattle.at_geojson.specs.Atoms.{Alike, HasShape, HasPart, role_geometry, role_item, IsRead}
 use Rattle.at_geojson.specs.Objects.{value_named, coordinates_shape, IsRoleOf}
@@ -22,10 +22,10 @@ use Rattle.at_geojson.proofs.GeometryFolds.{point_is, points_is, line_is, lines_
 use Rattle.at_geojson.proofs.ObjectFolds.{coordinates_is, collection_is, feature_is}
 
 module _ (asked : Asked) (at : ℕ) (xs : List (Member GeoAtom)) (ms : Members) (h : AreMemberFolds (IsRead asked) xs ms) where
-  abbrev read_as : Option Kind → Reading
+  abbrev read_as : Option Kind → GeometryRead
   read_as kind = kind_reading asked.digits asked.how at ms (collection_reading asked.digits asked.how at ms) kind
 
-  coordinates : (kind : Kind) (role : Role) → role ≡ roles.Geometry (coordinates_shape (needs_shapes asked.query) at kind (value_named (codes "coordinates") xs)) → (r : Reading)
+  coordinates : (kind : Kind) (role : Role) → role ≡ roles.Geometry (coordinates_shape (needs_shapes asked.query) at kind (value_named (codes "coordinates") xs)) → (r : GeometryRead)
       → HasShape (needs_shapes asked.query) (coordinates_shape (needs_shapes asked.query) at kind (value_named (codes "coordinates") xs)) r → HasShape (needs_shapes asked.query) (role_geometry at role) r
   coordinates kind role e r k = subst (λ z. HasShape (needs_shapes asked.query) (role_geometry at z) r) (sym e) k
 

@@ -17,7 +17,7 @@ use Rattle.at_query.specs.declared.parts.Part.{Part}
 use Rattle.at_geojson.specs.declared.atoms.GeoAtom.{GeoAtom}
 use Rattle.at_geojson.specs.declared.kinds.Kind.{Kind}
 use Rattle.at_geojson.specs.Names.{is_named, member_named, units_of_text}
-use Rattle.at_geojson.specs.Roles.{Reading, not_geometry, texts_of, properties_texts, properties_faults, feature_of, coordinates_reading, geometry_reading, items_reading, collection_reading, geometries_reading, geometry_member_reading, feature_reading}
+use Rattle.at_geojson.specs.Roles.{GeometryRead, not_geometry, texts_of, properties_texts, properties_faults, feature_of, coordinates_reading, geometry_reading, items_reading, collection_reading, geometries_reading, geometry_member_reading, feature_reading}
 use Rattle.at_geojson.specs.Keeping.{Asked, needs_shapes, asks_value, asks_pair, asked_texts, kept_shape}
 use Rattle.at_geojson.specs.Atoms.{at_of, is_null, is_null_tree, as_texts, as_geometries, asked_text, asked_units, role_of, role_geometry, object_members, array_trees, Alike, HasShape, HasPart, IsRead}
 use Rattle.at_geojson.specs.Gathering.{seen}
@@ -62,7 +62,7 @@ module _ (asked : Asked) where
   coordinates_is at kind each None (Some t) h = absurd h
   coordinates_is at kind each (Some a) None h = absurd h
 
-  abbrev collection_of : ℕ → Option Tree → Reading
+  abbrev collection_of : ℕ → Option Tree → GeometryRead
   collection_of at None = not_geometry at
   collection_of at (Some t) = geometries_reading asked.digits asked.how at t
 
@@ -165,7 +165,7 @@ module _ (asked : Asked) where
     go true e = subst (λ c. HasTexts (if c then Ok [] else seen (Err (fault_at Form (at_of a))) (λ pairs. Ok pairs) (as_texts a)) (Some t)) (sym e) (null_texts t (sym h.scalar.is_null ∙ e))
     go false e = subst (λ c. HasTexts (if c then Ok [] else seen (Err (fault_at Form (at_of a))) (λ pairs. Ok pairs) (as_texts a)) (Some t)) (sym e) (texts_seen (at_of a) (as_texts a) t h.at (sym h.scalar.is_null ∙ e) h.object.texts)
 
-  feature_joins : (at : ℕ) (s : Result Shape Fault) (x : Result (List TextPair) Fault) (g : Reading) (p : Option Tree) (r : Result Part Fault) → JoinsFeature asked.query at s x r → HasShape (needs_shapes asked.query) s g → HasTexts x p
+  feature_joins : (at : ℕ) (s : Result Shape Fault) (x : Result (List TextPair) Fault) (g : GeometryRead) (p : Option Tree) (r : Result Part Fault) → JoinsFeature asked.query at s x r → HasShape (needs_shapes asked.query) s g → HasTexts x p
       → HasPart asked.query r (record { features = feature_of at g (properties_texts p) ∷ []; faults = g.faults ++ properties_faults p })
   feature_joins at (Ok s) (Ok x) g p r (part, e, k) h q = subst (λ z. HasPart asked.query z (record { features = feature_of at g (properties_texts p) ∷ []; faults = g.faults ++ properties_faults p })) (sym e)
       (ap (λ z. z ++ properties_faults p) h.0 ∙ q.0, same_part asked.query (feature_of at g (properties_texts p)) (record { at = at; shape = s; texts = x }) refl h.1 q.1 part k)

@@ -18,7 +18,7 @@ use Rattle.at_geojson.specs.declared.atoms.Role.TheVariants as roles
 use Rattle.at_geojson.specs.declared.kinds.Kind.{Kind}
 use Rattle.at_geojson.specs.declared.kinds.Kind.TheVariants as kinds
 use Rattle.at_geojson.specs.Names.{member_named, kind_of}
-use Rattle.at_geojson.specs.Roles.{Reading, Features, geometry_reading, item_reading, if_feature, root_reading, features_reading, root_of_kind, texts_of, lone_geometry, feature_of}
+use Rattle.at_geojson.specs.Roles.{GeometryRead, Features, geometry_reading, item_reading, if_feature, root_reading, features_reading, root_of_kind, texts_of, lone_geometry, feature_of}
 use Rattle.at_geojson.specs.Keeping.{Asked, needs_shapes, asked_texts}
 use Rattle.at_geojson.specs.Atoms.{role_geometry, role_item, twin_of, is_empty, as_features, array_trees, items_features, Alike, HasShape, HasPart, IsRoot, IsRead, IsFold}
 use Rattle.at_geojson.specs.Gathering.{seen, member_twins}
@@ -68,7 +68,7 @@ module _ (asked : Asked) (at : ℕ) where
     abbrev t : Tree
     t = object at ms
 
-    lone : (g : Result Shape Fault) (r : Reading) → root_reading asked.digits asked.how t ≡ lone_geometry at r → HasShape (needs_shapes asked.query) g r → IsRoot asked at (roles.Geometry g) t
+    lone : (g : Result Shape Fault) (r : GeometryRead) → root_reading asked.digits asked.how t ≡ lone_geometry at r → HasShape (needs_shapes asked.query) g r → IsRoot asked at (roles.Geometry g) t
     lone (Ok s) r e k = (feature_of at r [], e ∙ ap (λ z. record { features = feature_of at r [] ∷ []; faults = z }) k.0, refl, k.1, refl)
     lone (Err f) r e k = ap (λ (z : Features). first_of z.faults) e ∙ k
 

@@ -21,7 +21,7 @@ use Rattle.at_geojson.specs.declared.kinds.Kind.{Kind}
 use Rattle.at_geojson.specs.declared.kinds.Kind.TheVariants as kinds
 use Rattle.at_geojson.specs.Names.{is_named, member_named, kind_of, items_of}
 use Rattle.at_geojson.specs.Coordinates.{geometry_of}
-use Rattle.at_geojson.specs.Roles.{Reading, not_geometry, properties_faults, coordinates_reading, kind_reading, geometry_reading, collection_reading, geometries_reading, items_reading, geometry_member_reading, feature_reading, if_feature, item_reading, all_features, features_reading, root_of_kind, role_faults_of}
+use Rattle.at_geojson.specs.Roles.{GeometryRead, not_geometry, properties_faults, coordinates_reading, kind_reading, geometry_reading, collection_reading, geometries_reading, items_reading, geometry_member_reading, feature_reading, if_feature, item_reading, all_features, features_reading, root_of_kind, role_faults_of}
 
 -- every fault is of the tier
 abbrev AreOf : ℕ → List Fault → Type 0
@@ -105,7 +105,7 @@ module _ (digits : ℕ) (how : Coords) where
     shapes_fourth no_geometries = tt
     shapes_fourth (geometry_and g gs) = of_append 4 (faults_of digits how g) (faults_of_all digits how gs) (shape_fourth g) (shapes_fourth gs)
 
-  abbrev made : ℕ → Option Geometry → Reading
+  abbrev made : ℕ → Option Geometry → GeometryRead
   made at o = elim o [ None ↦ not_geometry at | Some g ↦ record { shape = shape_of digits how g; faults = faults_of digits how g } ]
 
   made_fourth : (at : ℕ) (o : Option Geometry) → AreOf 4 (made at o).faults
@@ -118,7 +118,7 @@ module _ (digits : ℕ) (how : Coords) where
 
   -- ---- roles
 
-  kind_fourth : (at : ℕ) (ms : Members) (collected : Reading) (o : Option Kind) → AreOf 4 collected.faults → AreOf 4 (kind_reading digits how at ms collected o).faults
+  kind_fourth : (at : ℕ) (ms : Members) (collected : GeometryRead) (o : Option Kind) → AreOf 4 collected.faults → AreOf 4 (kind_reading digits how at ms collected o).faults
   kind_fourth at ms collected None h = (refl, tt)
   kind_fourth at ms collected (Some kinds.FeatureCollection) h = (refl, tt)
   kind_fourth at ms collected (Some kinds.Feature) h = (refl, tt)
@@ -130,7 +130,7 @@ module _ (digits : ℕ) (how : Coords) where
   kind_fourth at ms collected (Some kinds.Polygon) h = coordinates_fourth at kinds.Polygon (member_named (codes "coordinates") ms)
   kind_fourth at ms collected (Some kinds.MultiPolygon) h = coordinates_fourth at kinds.MultiPolygon (member_named (codes "coordinates") ms)
 
-  found_fourth : (b : Bool) (r s : Reading) → AreOf 4 r.faults → AreOf 4 s.faults → AreOf 4 (if b then r else s).faults
+  found_fourth : (b : Bool) (r s : GeometryRead) → AreOf 4 r.faults → AreOf 4 s.faults → AreOf 4 (if b then r else s).faults
   found_fourth true r s h k = h
   found_fourth false r s h k = k
 

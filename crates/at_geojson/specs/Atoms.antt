@@ -39,7 +39,7 @@ use Rattle.at_geojson.specs.declared.atoms.Track.{Track}
 use Rattle.at_geojson.specs.declared.atoms.TrackAtom.{TrackAtom}
 use Rattle.at_geojson.specs.Names.{units_of_text, kind_of_text, items_of}
 use Rattle.at_geojson.specs.Coordinates.{each, number_at, position_of, positions_of, lists_of, areas_of, area_of}
-use Rattle.at_geojson.specs.Roles.{Reading, Features, geometry_reading, items_reading, item_reading, all_features}
+use Rattle.at_geojson.specs.Roles.{GeometryRead, Features, geometry_reading, items_reading, item_reading, all_features}
 use Rattle.at_geojson.specs.Roles.{root_reading, texts_of}
 use Rattle.at_geojson.specs.Keeping.{Asked, needs_shapes, asks_value, asked_texts, kept, kept_shape}
 
@@ -250,7 +250,7 @@ Alike R None None = ⊤
 Alike R _ _ = ⊥
 
 -- the shape where there is no fault, and else the first fault
-abbrev pub HasShape : Bool → Result Shape Fault → Reading → Type 0
+abbrev pub HasShape : Bool → Result Shape Fault → GeometryRead → Type 0
 HasShape needs (Ok shape) r = (r.faults ≡ []) × (shape ≡ kept_shape needs r.shape)
 HasShape needs (Err fault) r = first_of r.faults ≡ Some fault
 

@@ -20,7 +20,7 @@ use Rattle.at_geojson.specs.Names.{is_named, member_named, kind_of, items_of}
 use Rattle.at_geojson.specs.Coordinates.{geometry_of}
 
 -- the shape of a value in the role of a geometry, and its faults
-pub record Reading : Type 0 where
+pub record GeometryRead : Type 0 where
   pub shape : Shape
   pub faults : List Fault
 
@@ -30,13 +30,13 @@ pub record Features : Type 0 where
   pub faults : List Fault
 
 -- Form at the offset, and no other fault
-abbrev pub not_geometry : ℕ → Reading
+abbrev pub not_geometry : ℕ → GeometryRead
 not_geometry at = record { shape = empty_shape; faults = fault_at Form at ∷ [] }
 
 abbrev pub not_features : ℕ → Features
 not_features at = record { features = []; faults = fault_at Form at ∷ [] }
 
-abbrev pub both_read : Reading → Reading → Reading
+abbrev pub both_read : GeometryRead → GeometryRead → GeometryRead
 both_read a b = record { shape = both a.shape b.shape; faults = a.faults ++ b.faults }
 
 abbrev pub all_features : List Features → Features
@@ -60,17 +60,17 @@ properties_faults (Some (literal at the_null)) = []
 properties_faults (Some (object at ms)) = []
 properties_faults (Some t) = fault_at Form (offset_of t) ∷ []
 
-abbrev pub feature_of : ℕ → Reading → List TextPair → Feature
+abbrev pub feature_of : ℕ → GeometryRead → List TextPair → Feature
 feature_of at geometry texts = record { at = at; shape = geometry.shape; texts = texts }
 
 -- a root geometry is one feature without texts
-abbrev pub lone_geometry : ℕ → Reading → Features
+abbrev pub lone_geometry : ℕ → GeometryRead → Features
 lone_geometry at geometry = record { features = feature_of at geometry [] ∷ []; faults = geometry.faults }
 
 module _ (digits : ℕ) (how : Coords) where
   -- coordinates of the kind: Form at the geometry where they are missing, Form at the coordinates where they have not
   -- its form, else the faults inside them
-  abbrev pub coordinates_reading : ℕ → Kind → Option Tree → Reading
+  abbrev pub coordinates_reading : ℕ → Kind → Option Tree → GeometryRead
   coordinates_reading at kind None = not_geometry at
   coordinates_reading at kind (Some t) = elim (geometry_of kind t) [
     | None ↦ not_geometry (offset_of t)
@@ -78,7 +78,7 @@ module _ (digits : ℕ) (how : Coords) where
   ]
 
   -- an object in the role of a geometry, by the kind that it says it is; collected is its reading as a collection
-  abbrev pub kind_reading : ℕ → Members → Reading → Option Kind → Reading
+  abbrev pub kind_reading : ℕ → Members → GeometryRead → Option Kind → GeometryRead
   kind_reading at ms collected None = not_geometry at
   kind_reading at ms collected (Some kinds.FeatureCollection) = not_geometry at
   kind_reading at ms collected (Some kinds.Feature) = not_geometry at
@@ -87,7 +87,7 @@ module _ (digits : ℕ) (how : Coords) where
 
   abbrev mutual
     -- a value in the role of a geometry
-    pub geometry_reading : Tree → Reading
+    pub geometry_reading : Tree → GeometryRead
     geometry_reading (object at ms) = kind_reading at ms (collection_reading at ms) (kind_of ms)
     geometry_reading (array at ts) = not_geometry at
     geometry_reading (text at cs) = not_geometry at
@@ -96,24 +96,24 @@ module _ (digits : ℕ) (how : Coords) where
 
     -- the members of a geometry collection at the offset: its member `geometries` is an array of geometries, else Form
     -- at the collection
-    pub collection_reading : ℕ → Members → Reading
+    pub collection_reading : ℕ → Members → GeometryRead
     collection_reading at no_members = not_geometry at
     collection_reading at (member_and name i t ms) = if is_named (codes "geometries") name then geometries_reading at t
         else collection_reading at ms
 
-    pub geometries_reading : ℕ → Tree → Reading
+    pub geometries_reading : ℕ → Tree → GeometryRead
     geometries_reading at (array i ts) = items_reading ts
     geometries_reading at (object i ms) = not_geometry at
     geometries_reading at (text i cs) = not_geometry at
     geometries_reading at (number i n) = not_geometry at
     geometries_reading at (literal i l) = not_geometry at
 
-    pub items_reading : Trees → Reading
+    pub items_reading : Trees → GeometryRead
     items_reading no_trees = record { shape = empty_shape; faults = [] }
     items_reading (tree_and t ts) = both_read (geometry_reading t) (items_reading ts)
 
   -- the member `geometry` of a feature: missing or null, or a geometry
-  abbrev pub geometry_member_reading : Option Tree → Reading
+  abbrev pub geometry_member_reading : Option Tree → GeometryRead
   geometry_member_reading None = record { shape = empty_shape; faults = [] }
   geometry_member_reading (Some (literal at the_null)) = record { shape = empty_shape; faults = [] }
   geometry_member_reading (Some t) = geometry_reading t

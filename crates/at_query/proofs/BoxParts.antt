@@ -6,7 +6,7 @@ use Rattle.at_geom.specs.declared.rectangles.Extent.{Extent}
 use Rattle.at_query.specs.declared.boxes.Corners.{Corners}
 use Rattle.at_query.specs.Spelling.{Placed, SpelledBox}
 use Rattle.at_query.specs.Queries.{lesser, least_of, faults_with, is_reversed, numbers_faults, placed_faults}
-use Rattle.at_query.specs.Reading.{Ends, Stops, WordStands, WordBreaks, Behind, Then, NumberMeaning, BoxMeaning, Four, fault_with, number_meaning, Number, FourNumbers, box_meaning, Box, box_in, four_in, extent_in, four_fault}
+use Rattle.at_query.specs.Readers.{Ends, Stops, WordStands, WordBreaks, Behind, Then, NumberMeaning, BoxMeaning, Four, fault_with, number_meaning, Number, FourNumbers, box_meaning, Box, box_in, four_in, extent_in, four_fault}
 use Rattle.at_query.proofs.Parted.{Lives, Tells, then_ends, then_stops, first_stops, told_ends, told_stops, behind_ends, behind_stops, behind_word, behind_lives, then_lives, told_lives}
 
 -- ---- the least of offsets

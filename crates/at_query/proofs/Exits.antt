@@ -3,7 +3,7 @@ use Rattle.std.proofs.Common.{◌≡◌, ℕ, Result, Ok, Err, sym, subst}
 use Rattle.std.specs.Result.{MatchResult, IsErrAnd}
 use Rattle.at_query.specs.declared.halts.Halt.{Halt}
 use Rattle.at_query.specs.declared.halts.Halt.TheVariants.{At, Memory}
-use Rattle.at_query.specs.Reading.{IfStopped}
+use Rattle.at_query.specs.Readers.{IfStopped}
 
 pub stopped_by : (h : Halt) (Q R : ℕ → Type 0) → ((n : ℕ) → Q n → R n) → IfStopped h Q → IfStopped h R
 stopped_by (At n) Q R f q = f n q

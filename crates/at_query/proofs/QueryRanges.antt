@@ -26,7 +26,7 @@ use Rattle.at_query.specs.declared.reading.QueryRead.{QueryRead}
 use Rattle.at_query.specs.Spelling.{Spelled, in_box, meets_box, meets, has, SpelledBox}
 use Rattle.at_query.specs.Ranges.{IsTestInRange, IsQueryInRange}
 use Rattle.at_query.specs.Queries.{box_shape, ring_of, extent_of_box, test_of, IsQueryOf, HasQueryFault, IfFaultAt}
-use Rattle.at_query.specs.Reading.{QueryCovers}
+use Rattle.at_query.specs.Readers.{QueryCovers}
 use Rattle.at_query.proofs.QueryParts.{query_answer, query_wrong}
 
 -- ---- values

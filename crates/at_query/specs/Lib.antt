@@ -7,4 +7,4 @@ pub mod Accumulators
 pub mod Printing
 pub mod Spelling
 pub mod Queries
-pub mod Reading
+pub mod Readers

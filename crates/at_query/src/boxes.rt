@@ -2,12 +2,12 @@
 
 ghost use Rattle.std.specs.Prelude.{◌≡◌, ◌^◌, ◌≤◌, length, MatchResult};
 ghost use Rattle.at_query.specs.Queries.{lesser, is_reversed as reversed_test};
-ghost use Rattle.at_query.specs.Reading.{Ends, Stops, IfStopped, FourNumbers, Box, four_in, box_in, extent_in};
-ghost use Rattle.at_query.specs.Reading.{four_fault, fault_with};
+ghost use Rattle.at_query.specs.Readers.{Ends, Stops, IfStopped, FourNumbers, Box, four_in, box_in, extent_in};
+ghost use Rattle.at_query.specs.Readers.{four_fault, fault_with};
 
 use crate::bytes::skip_word;
 use crate::coordinates::{NumberRead, read_number};
-use crate::halts::{Halt, Rules};
+use crate::halts::{Halt, Precision};
 use at_geom::{Extent, Pos};
 
 /// A box.
@@ -76,7 +76,7 @@ fn extent_of(corners: Corners) -> Extent
 }
 
 /// Reads the four numbers of a box, each with the byte behind it.
-fn read_corners(text: &[u8], at: usize, rules: Rules) -> Result<Corners, Halt>
+fn read_corners(text: &[u8], at: usize, rules: Precision) -> Result<Corners, Halt>
     requires inside { at ≤ length text.now }
     requires short { length text.now ≤ 2 ^ 28 }
     ensures { MatchResult result
@@ -96,7 +96,7 @@ fn read_corners(text: &[u8], at: usize, rules: Rules) -> Result<Corners, Halt>
 }
 
 /// Reads a box.
-pub fn read_box(text: &[u8], at: usize, rules: Rules) -> Result<BoxRead, Halt>
+pub fn read_box(text: &[u8], at: usize, rules: Precision) -> Result<BoxRead, Halt>
     requires inside { at ≤ length text.now }
     requires short { length text.now ≤ 2 ^ 28 }
     ensures { MatchResult result

@@ -1,7 +1,7 @@
 //! Single bytes and fixed words of a query line.
 
 ghost use Rattle.std.specs.Prelude.{◌≡◌, ◌==◌, ◌≤◌, length, MatchResult};
-ghost use Rattle.at_query.specs.Reading.{next, WordStands, WordBreaks, IfStopped};
+ghost use Rattle.at_query.specs.Readers.{next, WordStands, WordBreaks, IfStopped};
 
 use crate::halts::Halt;
 

@@ -3,10 +3,10 @@
 ghost use Rattle.std.specs.Prelude.{◌≡◌, ◌^◌, ◌≤◌, length, IsTrue, MatchResult};
 ghost use Rattle.at_wkt.specs.Positions.{value_in, faults_in};
 ghost use Rattle.at_query.specs.Queries.{ats_of, least_of};
-ghost use Rattle.at_query.specs.Reading.{Ends, Stops, IfStopped, is_delimiter, Number, number_in};
+ghost use Rattle.at_query.specs.Readers.{Ends, Stops, IfStopped, is_delimiter, Number, number_in};
 
 use crate::bytes::skip_word;
-use crate::halts::{Halt, Rules};
+use crate::halts::{Halt, Precision};
 use at_fixed::{FixedFault, Notation, leading_number};
 
 /// A number and the byte behind it.
@@ -41,7 +41,12 @@ fn number_of(value: Result<i64, FixedFault>, at: u32, end: usize) -> NumberRead
 }
 
 /// Reads a number and the byte behind it.
-pub fn read_number(text: &[u8], at: usize, delimiter: u8, rules: Rules) -> Result<NumberRead, Halt>
+pub fn read_number(
+    text: &[u8],
+    at: usize,
+    delimiter: u8,
+    rules: Precision,
+) -> Result<NumberRead, Halt>
     requires inside { at ≤ length text.now }
     requires short { length text.now ≤ 2 ^ 28 }
     requires delimits { IsTrue (is_delimiter delimiter) }

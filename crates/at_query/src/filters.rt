@@ -1,11 +1,11 @@
 //! One test of a query line, by its first word.
 
 ghost use Rattle.std.specs.Prelude.{◌+◌, ◌^◌, ◌<◌, ◌≤◌, length, MatchResult};
-ghost use Rattle.at_query.specs.Reading.{Ends, Stops, Behind, InTest, MeetsTest, HasTest, OneTest, test_in, IfStopped};
+ghost use Rattle.at_query.specs.Readers.{Ends, Stops, Behind, InTest, MeetsTest, HasTest, OneTest, test_in, IfStopped};
 
 use crate::boxes::read_box;
 use crate::bytes::{skip_word, stands};
-use crate::halts::{Halt, Rules};
+use crate::halts::{Halt, Precision};
 use crate::queries::Test;
 use crate::strings::read_string;
 use crate::targets::read_target;
@@ -22,7 +22,7 @@ pub struct TestRead {
 }
 
 /// Reads a test whose shapes are in a box.
-fn read_in(text: &[u8], at: usize, rules: Rules) -> Result<TestRead, Halt>
+fn read_in(text: &[u8], at: usize, rules: Precision) -> Result<TestRead, Halt>
     requires inside { at ≤ length text.now }
     requires short { length text.now ≤ 2 ^ 28 }
     ensures { MatchResult result
@@ -39,7 +39,7 @@ fn read_in(text: &[u8], at: usize, rules: Rules) -> Result<TestRead, Halt>
 }
 
 /// Reads a test whose shapes meet a box or a geometry.
-fn read_meets(alloc: Global, text: &[u8], at: usize, rules: Rules) -> Result<TestRead, Halt>
+fn read_meets(alloc: Global, text: &[u8], at: usize, rules: Precision) -> Result<TestRead, Halt>
     requires inside { at ≤ length text.now }
     requires short { length text.now ≤ 2 ^ 28 }
     ensures { MatchResult result
@@ -69,7 +69,7 @@ fn read_has(alloc: Global, text: &[u8], at: usize) -> Result<TestRead, Halt>
 }
 
 /// Reads a test. Each begins with a letter of its own.
-fn read_test(alloc: Global, text: &[u8], at: usize, rules: Rules) -> Result<TestRead, Halt>
+fn read_test(alloc: Global, text: &[u8], at: usize, rules: Precision) -> Result<TestRead, Halt>
     requires inside { at ≤ length text.now }
     requires short { length text.now ≤ 2 ^ 28 }
     ensures { MatchResult result
@@ -94,7 +94,7 @@ pub fn read_behind(
     text: &[u8],
     at: usize,
     word: &[u8],
-    rules: Rules,
+    rules: Precision,
 ) -> Result<TestRead, Halt>
     requires inside { at ≤ length text.now }
     requires short { length text.now ≤ 2 ^ 28 }

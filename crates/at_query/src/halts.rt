@@ -18,7 +18,7 @@ pub enum Halt {
 
 /// How numbers are taken.
 #[derive(Clone, Copy)]
-pub struct Rules {
+pub struct Precision {
     pub digits: u8,
     pub how: Coords,
 }

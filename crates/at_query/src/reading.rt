@@ -3,13 +3,13 @@
 ghost use Rattle.std.specs.Prelude.{◌≡◌, [], Some, None, ◌^◌, ◌≤◌, codes, length, IfOk, MatchResult};
 ghost use Rattle.at_query.specs.Ranges.{IsQueryInRange};
 ghost use Rattle.at_query.specs.Queries.{IsQueryOf, HasQueryFault, IfFaultAt};
-ghost use Rattle.at_query.specs.Reading.{Ends, Stops, Breaks, Then, VerbPart, Tests as TestsPart, TestsCover};
-ghost use Rattle.at_query.specs.Reading.{QueryCovers, WordStands, WordBreaks, IfStopped, joint_of};
+ghost use Rattle.at_query.specs.Readers.{Ends, Stops, Breaks, Then, VerbPart, Tests as TestsPart, TestsCover};
+ghost use Rattle.at_query.specs.Readers.{QueryCovers, WordStands, WordBreaks, IfStopped, joint_of};
 
 use crate::boxes::least;
 use crate::bytes::{skip_word, stands};
 use crate::filters::read_behind;
-use crate::halts::{Halt, Rules};
+use crate::halts::{Halt, Precision};
 use crate::queries::{Query, Test, Tests, Verb};
 use at_fixed::Coords;
 use std::alloc::Global;
@@ -40,7 +40,7 @@ fn read_tests(
     items: &mut Vec<Test>,
     text: &[u8],
     at: usize,
-    rules: Rules,
+    rules: Precision,
 ) -> Result<Option<u32>, Halt>
     requires none { items.old.items ≡ [] }
     requires inside { at ≤ length text.now }
@@ -111,7 +111,7 @@ struct QueryRead {
 }
 
 /// Reads a verb, and tests behind it.
-fn read_whole(alloc: Global, text: &[u8], rules: Rules) -> Result<QueryRead, Halt>
+fn read_whole(alloc: Global, text: &[u8], rules: Precision) -> Result<QueryRead, Halt>
     requires { length text.now ≤ 2 ^ 28 }
     ensures { MatchResult result
         (λ read. QueryCovers rules.digits rules.how text.now read.query.verb read.query.tests read.fault)
@@ -154,7 +154,7 @@ pub fn read_query(alloc: Global, text: &[u8], digits: u8, how: Coords) -> Result
         (λ end. IfFaultAt end (HasQueryFault digits how text.now)) }
     ensures in_range { IfOk result IsQueryInRange }
 {
-    match read_whole(alloc, text, Rules { digits, how }) {
+    match read_whole(alloc, text, Precision { digits, how }) {
         Ok(read) => without_fault(read),
         Err(Halt::At(at)) => Err(QueryEnd::Fault(at as u32)),
         Err(Halt::Memory) => Err(QueryEnd::Memory),

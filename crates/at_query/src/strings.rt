@@ -1,7 +1,7 @@
 //! A string of a query line.
 
 ghost use Rattle.std.specs.Prelude.{◌^◌, ◌≤◌, length, MatchResult};
-ghost use Rattle.at_query.specs.Reading.{Ends, Stops, Text, IfStopped};
+ghost use Rattle.at_query.specs.Readers.{Ends, Stops, Text, IfStopped};
 
 use crate::halts::Halt;
 use at_lex::{Units, take_text, units};

@@ -5,12 +5,12 @@ ghost use Rattle.at_text.specs.declared.faults.Fault.{Fault};
 ghost use Rattle.at_query.specs.declared.queries.Test.TheVariants.{MeetsShape};
 ghost use Rattle.at_query.specs.declared.halts.Halt.TheVariants as halts;
 ghost use Rattle.at_query.specs.Queries.{ring_of as ring_from, box_shape as shape_of_box};
-ghost use Rattle.at_query.specs.Reading.{Ends, Stops, Target, GeometryTarget, BoxTarget, test_in, IfStopped};
+ghost use Rattle.at_query.specs.Readers.{Ends, Stops, Target, GeometryTarget, BoxTarget, test_in, IfStopped};
 
 use crate::boxes::read_box;
 use crate::bytes::stands;
 use crate::filters::TestRead;
-use crate::halts::{Halt, Rules};
+use crate::halts::{Halt, Precision};
 use crate::queries::Test;
 use at_band::Bands;
 use at_geom::{Extent, Path, Paths, Polygon, Polygons, Pos, Shape};
@@ -46,7 +46,7 @@ fn box_shape(alloc: Global, extent: Extent) -> Result<Shape, AllocError>
 }
 
 /// Reads a box that a shape is to meet.
-fn read_met_box(alloc: Global, text: &[u8], at: usize, rules: Rules) -> Result<TestRead, Halt>
+fn read_met_box(alloc: Global, text: &[u8], at: usize, rules: Precision) -> Result<TestRead, Halt>
     requires inside { at ≤ length text.now }
     requires short { length text.now ≤ 2 ^ 28 }
     ensures { MatchResult result
@@ -88,7 +88,12 @@ fn met_read(alloc: Global, end: usize, shape: &Shape, fault: Option<u32>) -> Res
 }
 
 /// Reads a geometry that a shape is to meet.
-fn read_met_geometry(alloc: Global, text: &[u8], at: usize, rules: Rules) -> Result<TestRead, Halt>
+fn read_met_geometry(
+    alloc: Global,
+    text: &[u8],
+    at: usize,
+    rules: Precision,
+) -> Result<TestRead, Halt>
     requires inside { at ≤ length text.now }
     requires short { length text.now ≤ 2 ^ 28 }
     ensures { MatchResult result
@@ -106,7 +111,12 @@ fn read_met_geometry(alloc: Global, text: &[u8], at: usize, rules: Rules) -> Res
 }
 
 /// Reads a box or a geometry that a shape is to meet.
-pub fn read_target(alloc: Global, text: &[u8], at: usize, rules: Rules) -> Result<TestRead, Halt>
+pub fn read_target(
+    alloc: Global,
+    text: &[u8],
+    at: usize,
+    rules: Precision,
+) -> Result<TestRead, Halt>
     requires inside { at ≤ length text.now }
     requires short { length text.now ≤ 2 ^ 28 }
     ensures { MatchResult result

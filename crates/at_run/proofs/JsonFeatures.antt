@@ -25,7 +25,7 @@ use Rattle.at_geojson.specs.declared.kinds.Kind.{Kind}
 use Rattle.at_geojson.specs.declared.kinds.Kind.TheVariants as kinds
 use Rattle.at_geojson.specs.Names.{is_named, member_named, kind_of, items_of}
 use Rattle.at_geojson.specs.Coordinates.{geometry_of}
-use Rattle.at_geojson.specs.Roles.{Reading, not_geometry, both_read, Features, not_features, all_features, feature_of, properties_texts, properties_faults, coordinates_reading, kind_reading, geometry_reading, collection_reading, geometries_reading, items_reading, geometry_member_reading, feature_reading, if_feature, item_reading, features_reading, root_of_kind, root_reading, features_of, role_faults_of}
+use Rattle.at_geojson.specs.Roles.{GeometryRead, not_geometry, both_read, Features, not_features, all_features, feature_of, properties_texts, properties_faults, coordinates_reading, kind_reading, geometry_reading, collection_reading, geometries_reading, items_reading, geometry_member_reading, feature_reading, if_feature, item_reading, features_reading, root_of_kind, root_reading, features_of, role_faults_of}
 use Rattle.at_geojson.specs.Wholes.{faults_of}
 use Rattle.at_run.specs.JsonFiles.{HasJsonFaultBehind, HasJsonFileFault}
 use Rattle.at_run.proofs.ShapeRanges.{with_points, with_both, geometry_in_range}
@@ -34,7 +34,7 @@ use Rattle.at_run.proofs.ProperFeatures.{empties, not_empty, all_joined, no_firs
 -- ---- what is read of geometries
 
 -- the coordinates are in range, and the rings are closed where nothing is wrong
-abbrev IsProper : Reading → Type 0
+abbrev IsProper : GeometryRead → Type 0
 IsProper r = IsShapeInRange r.shape × (r.faults ≡ [] → AreRingsClosed r.shape)
 
 nothing_in_range : IsShapeInRange empty_shape
@@ -43,13 +43,13 @@ nothing_in_range = with_points [] (All-nil IsInRange)
 no_geometry : (at : ℕ) → IsProper (not_geometry at)
 no_geometry at = (nothing_in_range, λ e. tt)
 
-both_proper : (r q : Reading) → IsProper r → IsProper q → IsProper (both_read r q)
+both_proper : (r q : GeometryRead) → IsProper r → IsProper q → IsProper (both_read r q)
 both_proper r q (in_range, closed) (also, shut) = (
   with_both r.shape q.shape in_range also,
   λ e. let (a, b) = empties r.faults q.faults e in all_joined HasClosedRings r.shape.polygons q.shape.polygons (closed a) (shut b),
 )
 
-either_proper : (b : Bool) (r q : Reading) → IsProper r → IsProper q → IsProper (if b then r else q)
+either_proper : (b : Bool) (r q : GeometryRead) → IsProper r → IsProper q → IsProper (if b then r else q)
 either_proper true r q h k = h
 either_proper false r q h k = k
 
@@ -62,7 +62,7 @@ module _ (digits : ℕ) (how : Coords) where
   coordinates_proper at kind None = no_geometry at
   coordinates_proper at kind (Some t) = spelled_proper (geometry_of kind t) (offset_of t)
 
-  kind_proper : (at : ℕ) (ms : Members) (collected : Reading) (kind : Option Kind) → IsProper collected → IsProper (kind_reading digits how at ms collected kind)
+  kind_proper : (at : ℕ) (ms : Members) (collected : GeometryRead) (kind : Option Kind) → IsProper collected → IsProper (kind_reading digits how at ms collected kind)
   kind_proper at ms collected None h = no_geometry at
   kind_proper at ms collected (Some kinds.FeatureCollection) h = no_geometry at
   kind_proper at ms collected (Some kinds.Feature) h = no_geometry at
@@ -116,7 +116,7 @@ module _ (digits : ℕ) (how : Coords) where
   no_features : (at : ℕ) → AreProper (not_features at)
   no_features at = (All-nil IsFeatureInRange, λ e. tt)
 
-  one_proper : (f : Feature) (r : Reading) (faults : List Fault) → f.shape ≡ r.shape → IsProper r → (faults ≡ [] → r.faults ≡ []) → AreProper (record { features = f ∷ []; faults = faults })
+  one_proper : (f : Feature) (r : GeometryRead) (faults : List Fault) → f.shape ≡ r.shape → IsProper r → (faults ≡ [] → r.faults ≡ []) → AreProper (record { features = f ∷ []; faults = faults })
   one_proper f r faults same (in_range, closed) none =
       let here : IsShapeInRange f.shape = subst IsShapeInRange (sym same) in_range in (
         All-cons IsFeatureInRange f [] here (All-nil IsFeatureInRange),
@@ -168,7 +168,7 @@ module _ (digits : ℕ) (how : Coords) where
   listed_proper at (Some (object i ms)) = no_features at
   listed_proper at (Some (array i ts)) = all_proper ts
 
-  lone_proper : (at : ℕ) (r : Reading) → IsProper r → AreProper (record { features = feature_of at r [] ∷ []; faults = r.faults })
+  lone_proper : (at : ℕ) (r : GeometryRead) → IsProper r → AreProper (record { features = feature_of at r [] ∷ []; faults = r.faults })
   lone_proper at r h = one_proper (feature_of at r []) r r.faults refl h (λ e. e)
 
   root_proper : (at : ℕ) (ms : Members) (kind : Option Kind) → AreProper (root_of_kind digits how at ms kind)

@@ -20,7 +20,7 @@ use Rattle.at_geojson.specs.declared.kinds.Kind.{Kind}
 use Rattle.at_geojson.specs.declared.kinds.Kind.TheVariants as kinds
 use Rattle.at_geojson.specs.Names.{is_named, member_named, kind_of, items_of}
 use Rattle.at_geojson.specs.Coordinates.{each, array_items, number_at, position_of_numbers, position_of, positions_of, lists_of, if_some_items, area_of, areas_of, geometry_of_form, geometry_of}
-use Rattle.at_geojson.specs.Roles.{Reading, not_geometry, both_read, all_features, feature_of, properties_texts, coordinates_reading, kind_reading, geometry_reading, collection_reading, geometries_reading, items_reading, geometry_member_reading, feature_reading, if_feature, item_reading, features_reading, root_of_kind, features_of}
+use Rattle.at_geojson.specs.Roles.{GeometryRead, not_geometry, both_read, all_features, feature_of, properties_texts, coordinates_reading, kind_reading, geometry_reading, collection_reading, geometries_reading, items_reading, geometry_member_reading, feature_reading, if_feature, item_reading, features_reading, root_of_kind, features_of}
 use Rattle.at_run.proofs.LineSizes.{AtLeast, number_size, total, each_one, one_of, items_of as count_of, listed_of, rings_of, weight_of}
 use Rattle.at_run.proofs.FileSizes.{size, positions_size, both_size, shape_size}
 
@@ -259,7 +259,7 @@ named_size name (member_and n i t ms) = go (is_named name n) (named_size name ms
 
 module _ (digits : ℕ) (how : Coords) where
   -- four times the positions of a reading
-  abbrev room : Reading → ℕ
+  abbrev room : GeometryRead → ℕ
   room r = 4 * size r.shape
 
   spelled_room : (o : Option wkt.Geometry) (at n : ℕ) → ((g : wkt.Geometry) → o ≡ Some g → 4 * weight_of g ≤ n)
@@ -274,7 +274,7 @@ module _ (digits : ℕ) (how : Coords) where
   named_room : (at : ℕ) (kind : Kind) (ms : Members) → room (coordinates_reading digits how at kind (member_named (codes "coordinates") ms)) ≤ weight_members ms
   named_room at kind ms = let l = coordinates_room at kind (member_named (codes "coordinates") ms) in let m = named_size (codes "coordinates") ms in omega (arith, l, m)
 
-  kind_room : (at : ℕ) (ms : Members) (collected : Reading) (kind : Option Kind) → room collected ≤ weight_members ms → room (kind_reading digits how at ms collected kind) ≤ weight_members ms
+  kind_room : (at : ℕ) (ms : Members) (collected : GeometryRead) (kind : Option Kind) → room collected ≤ weight_members ms → room (kind_reading digits how at ms collected kind) ≤ weight_members ms
   kind_room at ms collected None h = omega arith
   kind_room at ms collected (Some kinds.FeatureCollection) h = omega arith
   kind_room at ms collected (Some kinds.Feature) h = omega arith
@@ -286,11 +286,11 @@ module _ (digits : ℕ) (how : Coords) where
   kind_room at ms collected (Some kinds.Polygon) h = named_room at kinds.Polygon ms
   kind_room at ms collected (Some kinds.MultiPolygon) h = named_room at kinds.MultiPolygon ms
 
-  either_room : (b : Bool) (r q : Reading) (m n : ℕ) → room r ≤ m → room q ≤ n → room (if b then r else q) ≤ m + n
+  either_room : (b : Bool) (r q : GeometryRead) (m n : ℕ) → room r ≤ m → room q ≤ n → room (if b then r else q) ≤ m + n
   either_room true r q m n h k = omega (arith, h)
   either_room false r q m n h k = omega (arith, k)
 
-  both_room : (r q : Reading) (m n : ℕ) → room r ≤ m → room q ≤ n → room (both_read r q) ≤ m + n
+  both_room : (r q : GeometryRead) (m n : ℕ) → room r ≤ m → room q ≤ n → room (both_read r q) ≤ m + n
   both_room r q m n h k = let b = both_size r.shape q.shape in omega (arith, h, k, b)
 
   mutual

@@ -12,7 +12,7 @@ use Rattle.at_wkt.specs.declared.positions.NumbersRead.{NumbersRead}
 use Rattle.at_wkt.specs.declared.parts.Read.{Read}
 use Rattle.at_wkt.specs.declared.parts.ItemRead.{ItemRead}
 use Rattle.at_wkt.specs.declared.checks.ListPassed.{ListPassed}
-use Rattle.at_wkt.specs.Reading.{ends_same, Grows, IsPassed, HasCount, IsPassedList, IsPassedRow, IsPassedPart, PartStands, ItemStands, PositionStands, PositionsSoFar, HeadStands, IsPassedBody, IsPassedGeometry, Meaning, Spelt, joined, no_meaning, meaning_of, point_faults, line_faults}
+use Rattle.at_wkt.specs.Readers.{ends_same, Grows, IsPassed, HasCount, IsPassedList, IsPassedRow, IsPassedPart, PartStands, ItemStands, PositionStands, PositionsSoFar, HeadStands, IsPassedBody, IsPassedGeometry, Meaning, Spelt, joined, no_meaning, meaning_of, point_faults, line_faults}
 use Rattle.at_wkt.specs.declared.kinds.Head.{Head}
 use Rattle.at_wkt.specs.declared.kinds.Kind.{Kind}
 use Rattle.at_wkt.specs.declared.kinds.Kind.TheVariants.{Point, LineString, Polygon}

@@ -11,7 +11,7 @@ use Rattle.at_wkt.specs.declared.kinds.Kind.{Kind}
 use Rattle.at_wkt.specs.declared.kinds.Kind.TheVariants.{Point, LineString, Polygon, MultiPoint, MultiLineString, MultiPolygon, GeometryCollection}
 use Rattle.at_wkt.specs.declared.kinds.Head.{Head}
 use Rattle.at_wkt.specs.Geometry.{Geometry, point, collection, no_geometries, geometry_and, is_blank, SpellsGeometry, SpellsFurtherGeometries, SpellsPoint, SpellsList, SpellsArea, SpellsPointMember, SpellsRing}
-use Rattle.at_wkt.specs.Reading.{opens, next, Spelt, Stuck, Leads, SkipsBlanks, delimiter, Delimiter, HasCount, word_of, KindBreaks, HeadStands, Meaning, joined, no_meaning, Body, meaning_of, meaning_of_all, After, Expected, EnclosedPosition}
+use Rattle.at_wkt.specs.Readers.{opens, next, Spelt, Stuck, Leads, SkipsBlanks, delimiter, Delimiter, HasCount, word_of, KindBreaks, HeadStands, Meaning, joined, no_meaning, Body, meaning_of, meaning_of_all, After, Expected, EnclosedPosition}
 use Rattle.at_wkt.proofs.Leads.{part-one, Begins, Inhabited}
 use Rattle.at_wkt.proofs.Steps.{Then, Same, When, when_leads, same_leads, trans_leads, then_leads, then_stuck, fixed_leads, pad_leads, no_blank}
 use Rattle.at_wkt.proofs.Lists.{to_left, to_right, behind}

@@ -7,7 +7,7 @@ use Rattle.at_text.specs.declared.faults.Fault.{Fault}
 use Rattle.at_text.specs.Faults.{comes_first, first_fault, first_of, tier_of, number_of}
 use Rattle.at_wkt.specs.declared.halts.Halt.{Halt}
 use Rattle.at_wkt.specs.declared.halts.Halt.TheVariants.{At, Memory}
-use Rattle.at_wkt.specs.Reading.{IfStopped}
+use Rattle.at_wkt.specs.Readers.{IfStopped}
 
 pub stopped_by : (h : Halt) (Q R : ℕ → Type 0) → ((n : ℕ) → Q n → R n) → IfStopped h Q → IfStopped h R
 stopped_by (At n) Q R f q = f n q

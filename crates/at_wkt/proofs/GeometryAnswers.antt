@@ -18,7 +18,7 @@ use Rattle.at_wkt.specs.declared.geometries.Gathered.{Gathered}
 use Rattle.at_wkt.specs.Positions.{pos_of, path_of, position_faults, faults_of_line}
 use Rattle.at_wkt.specs.Meaning.{present, shape_of, faults_of, polygons_of, faults_of_area}
 use Rattle.at_wkt.specs.Geometry.{Geometry, point, line_string, polygon, multi_point, multi_line_string, multi_polygon, collection, no_geometries, SpellsPoint, SpellsList, SpellsArea, EmptyOrParted, SpellsPointMember, geometry_and}
-use Rattle.at_wkt.specs.Reading.{next, Spelt, Stuck, HasCount, IfStopped, WordStands, WordBreaks, Body, BodyStands, PartStands, Grows, point_faults, added_point, line_faults, added_line}
+use Rattle.at_wkt.specs.Readers.{next, Spelt, Stuck, HasCount, IfStopped, WordStands, WordBreaks, Body, BodyStands, PartStands, Grows, point_faults, added_point, line_faults, added_line}
 use Rattle.at_wkt.proofs.Leads.{Begins}
 use Rattle.at_wkt.proofs.Steps.{Same, When, when_leads, same_leads}
 use Rattle.at_wkt.proofs.WordSteps.{Word, word_spelt, word_stuck}

@@ -3,7 +3,7 @@
 use Rattle.std.proofs.Common.{◌≡◌, ℕ, ◌+◌, Bool, true, false, List, [], ◌∷◌, ◌++◌, length, codes, refl, sym, ◌∙◌, ap, subst, arith, append-nil, append_assoc, length-append}
 use Rattle.at_text.specs.Parts.{Many, Exactly, ◌▸◌}
 use Rattle.at_wkt.specs.Geometry.{is_blank, ◌‿◌, InBrackets, Parted}
-use Rattle.at_wkt.specs.Reading.{Delimiter, Item, Items, RestOf}
+use Rattle.at_wkt.specs.Readers.{Delimiter, Item, Items, RestOf}
 use Rattle.at_wkt.proofs.Steps.{Then, Same}
 
 -- ---- parts regrouped

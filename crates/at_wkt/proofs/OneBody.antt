@@ -8,7 +8,7 @@ use Rattle.at_fixed.specs.Numerals.{Numeral}
 use Rattle.at_fixed.proofs.NumeralParts.{one_numeral}
 use Rattle.at_wkt.specs.Positions.{Position}
 use Rattle.at_wkt.specs.Geometry.{is_blank, SpellsNumber, SpellsFurther, SpellsPosition, EmptyWord, EmptyOrParted, SpellsRing, SpellsList, SpellsPoint, SpellsPointMember, SpellsArea}
-use Rattle.at_wkt.specs.Reading.{opens, delimiter, Delimiter, Item, Items, FurtherNumbers, EnclosedPosition}
+use Rattle.at_wkt.specs.Readers.{opens, delimiter, Delimiter, Item, Items, FurtherNumbers, EnclosedPosition}
 use Rattle.at_wkt.proofs.Agreement.{pair_same, Agree, OneValue, Fails, Passes, agree_then, agree_map, agree_exactly, agree_any_case, agree_front, agree_many, agree_some, agree_apart, agree_turned, agree_as, fails_then, passes_then, fails_many, fails_some, not_fails}
 use Rattle.at_wkt.proofs.Leads.{Begins}
 use Rattle.at_wkt.proofs.Steps.{no_blank}

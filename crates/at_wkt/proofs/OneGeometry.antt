@@ -9,14 +9,14 @@ use Rattle.at_wkt.specs.declared.kinds.Kind.{Kind}
 use Rattle.at_wkt.specs.Positions.{Position, Positions}
 use Rattle.at_wkt.specs.declared.kinds.Kind.TheVariants.{Point, LineString, Polygon, MultiPoint, MultiLineString, MultiPolygon, GeometryCollection}
 use Rattle.at_wkt.specs.Geometry.{Geometry, point, line_string, polygon, multi_point, multi_line_string, multi_polygon, collection, Geometries, no_geometries, geometry_and, is_blank, EmptyWord, EmptyOrParted, Letter, SpellsPoint, SpellsList, SpellsPointMember, SpellsArea, SpellsGeometry, SpellsGeometries, SpellsFurtherGeometries, IsLineOf}
-use Rattle.at_wkt.specs.Reading.{opens, word_of, Delimiter, Body, FurtherThen}
+use Rattle.at_wkt.specs.Readers.{opens, word_of, Delimiter, Body, FurtherThen}
 use Rattle.at_wkt.proofs.Agreement.{Agree, OneValue, Fails, Passes, agree_then, agree_map, agree_exactly, agree_any_case, agree_many, agree_apart, agree_turned, agree_as, fails_then, not_fails}
 use Rattle.at_wkt.proofs.Lists.{to_left, to_right, behind}
 use Rattle.at_wkt.proofs.WordSteps.{kind_only, one_letter, two_letters}
 use Rattle.at_wkt.proofs.BodySteps.{is_open, empty_first, choice_begins, point_choice, list_choice, parted_choice, Bracketed}
 use Rattle.at_wkt.proofs.GeometrySteps.{geometry_parts, further_join, Spelling}
 use Rattle.at_wkt.proofs.CollectionSteps.{kind_first}
-use Rattle.at_wkt.specs.Reading.{EnclosedPosition}
+use Rattle.at_wkt.specs.Readers.{EnclosedPosition}
 use Rattle.at_wkt.specs.Geometry.{SpellsRing}
 use Rattle.at_wkt.proofs.OneBody.{blank_delimiter, one_point, one_list, one_area, one_points, one_lines, one_areas}
 

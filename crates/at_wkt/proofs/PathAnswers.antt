@@ -18,7 +18,7 @@ use Rattle.at_wkt.specs.declared.paths.Role.TheVariants.{Line, Ring}
 use Rattle.at_wkt.specs.declared.parts.ItemRead.{ItemRead}
 use Rattle.at_wkt.specs.Positions.{Position, Positions, pos_of, position_faults, items_faults, last_of, is_faultless, is_closed}
 use Rattle.at_wkt.specs.Geometry.{SpellsPosition, SpellsRing}
-use Rattle.at_wkt.specs.Reading.{PartStands, next, Spelt, Stuck, Item, Items, ItemsRead, HasCount, PositionStands, PositionsSoFar, ends_same, PositionsStand, ItemsSoFar, ItemStands, Grows, PathStands, fault_of_path, faults_of_path}
+use Rattle.at_wkt.specs.Readers.{PartStands, next, Spelt, Stuck, Item, Items, ItemsRead, HasCount, PositionStands, PositionsSoFar, ends_same, PositionsStand, ItemsSoFar, ItemStands, Grows, PathStands, fault_of_path, faults_of_path}
 use Rattle.at_wkt.proofs.ListSteps.{ItemLives, items_start, items_more, items_stuck, items_end, position_lives, ring_leads}
 use Rattle.at_wkt.proofs.Exits.{first_of-append}
 

@@ -7,7 +7,7 @@ use Rattle.std.proofs.lemmas.Bool.Decides.{Decides-eqb}
 use Rattle.std.proofs.lemmas.List.{drop-take, take_rest}
 use Rattle.std.proofs.lemmas.Slice.Eq.{starts_is}
 use Rattle.std.proofs.Math.Seq.{take-append_seam}
-use Rattle.at_wkt.specs.Reading.{WordStands}
+use Rattle.at_wkt.specs.Readers.{WordStands}
 
 word_here : (w p rest : List ℕ) (i : ℕ) → i ≤ length w → str_to_ascii_uppercase p ≡ p → drop i w ≡ p ++ rest → WordStands w i (i + length p) p
 word_here w p rest i h capitals e = record {

@@ -15,7 +15,7 @@ use Rattle.at_wkt.specs.declared.sources.Rules.{Rules}
 use Rattle.at_wkt.specs.declared.numbers.Coordinate.{Coordinate}
 use Rattle.at_wkt.specs.declared.positions.NumbersRead.{NumbersRead}
 use Rattle.at_wkt.specs.Positions.{value_of, number_fault}
-use Rattle.at_wkt.specs.Reading.{next, allows, allows_more, Spelt, Stuck, Leads, SkipsBlanks, NumberStands, NumberBreaks, NumberSkips, delimiter, is_delimiter, FurtherNumbers, Reaches, IfStopped, IsCoordinate, PositionStands}
+use Rattle.at_wkt.specs.Readers.{next, allows, allows_more, Spelt, Stuck, Leads, SkipsBlanks, NumberStands, NumberBreaks, NumberSkips, delimiter, is_delimiter, FurtherNumbers, Reaches, IfStopped, IsCoordinate, PositionStands}
 use Rattle.at_wkt.proofs.Steps.{trans_leads}
 use Rattle.at_wkt.proofs.PositionSteps.{further_begins, further_leads, skip_leads, skip_stuck, further_lives}
 use Rattle.at_wkt.proofs.ItemSteps.{further_spelt, further_few, allows_by, more_by}

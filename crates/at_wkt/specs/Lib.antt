@@ -3,5 +3,5 @@ pub mod Geometry
 pub mod Meaning
 pub mod Lines
 pub mod Answers
-pub mod Reading
+pub mod Readers
 pub mod Folding

@@ -3,7 +3,7 @@
 ghost use Rattle.std.specs.Prelude.{◌≡◌, ◌≤◌, ◌<◌, ◌==◌, length};
 ghost use Rattle.std.specs.Char.{to_ascii_uppercase};
 ghost use Rattle.at_wkt.specs.Geometry.{is_blank as blank_test};
-ghost use Rattle.at_wkt.specs.Reading.{next, SkipsBlanks};
+ghost use Rattle.at_wkt.specs.Readers.{next, SkipsBlanks};
 
 /// Whether a byte is a space or a tab.
 #[inline(always)]

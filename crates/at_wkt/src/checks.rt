@@ -8,9 +8,9 @@ ghost use Rattle.at_wkt.specs.Answers.{HasLineShape};
 ghost use Rattle.at_wkt.specs.Geometry.{SpellsArea, SpellsList, SpellsPoint, SpellsRing};
 ghost use Rattle.at_wkt.specs.Meaning.{faults_of_area};
 ghost use Rattle.at_wkt.specs.Positions.{faults_of_ring};
-ghost use Rattle.at_wkt.specs.Reading.{next, ends_same, HasCount, IsEndedList, IsPassedGeometry, IsPassedBody};
-ghost use Rattle.at_wkt.specs.Reading.{IsPassedItem, IsPassedList, IsPassedRow, IsPassedPart, Items, faults_of_path};
-ghost use Rattle.at_wkt.specs.Reading.{line_faults, point_faults};
+ghost use Rattle.at_wkt.specs.Readers.{next, ends_same, HasCount, IsEndedList, IsPassedGeometry, IsPassedBody};
+ghost use Rattle.at_wkt.specs.Readers.{IsPassedItem, IsPassedList, IsPassedRow, IsPassedPart, Items, faults_of_path};
+ghost use Rattle.at_wkt.specs.Readers.{line_faults, point_faults};
 
 use crate::bytes::{skip_blanks, stands};
 use crate::kinds::{Head, Kind, read_head};

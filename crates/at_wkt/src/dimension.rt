@@ -1,7 +1,7 @@
 //! How many numbers positions have.
 
 ghost use Rattle.std.specs.Prelude.{◌≡◌};
-ghost use Rattle.at_wkt.specs.Reading.{allows as allowed, allows_more as more_allowed};
+ghost use Rattle.at_wkt.specs.Readers.{allows as allowed, allows_more as more_allowed};
 
 /// How many numbers the positions of a kind word have (OGC 06-103r4 section 7.2.2).
 #[derive(Clone, Copy, Debug, PartialEq, Eq)]

@@ -3,8 +3,8 @@
 ghost use Rattle.std.specs.Prelude.{◌≡◌, ℕ, ◌+◌, ◌^◌, ◌≤◌, false, zero, None, [], length, MatchResult};
 ghost use Rattle.at_fixed.specs.declared.rounding.Coords.{Coords};
 ghost use Rattle.at_wkt.specs.declared.dimension.Dimension.TheVariants.{Open};
-ghost use Rattle.at_wkt.specs.Reading.{Stuck, HasCount, Body, After, Expected, Advances, BodyStands, StepStands};
-ghost use Rattle.at_wkt.specs.Reading.{WholeStands, HeadStands, IfStopped, no_meaning, opens_at};
+ghost use Rattle.at_wkt.specs.Readers.{Stuck, HasCount, Body, After, Expected, Advances, BodyStands, StepStands};
+ghost use Rattle.at_wkt.specs.Readers.{WholeStands, HeadStands, IfStopped, no_meaning, opens_at};
 
 use crate::bytes::{skip_blanks, stands};
 use crate::halts::Halt;

@@ -1,8 +1,8 @@
 //! The words of the seven kinds, and the letters Z and M behind them.
 
 ghost use Rattle.std.specs.Prelude.{◌≡◌, ◌≤◌, ◌+◌, ◌⊎◌, length, IfSome, MatchResult};
-ghost use Rattle.at_wkt.specs.Reading.{next, word_of, WordStands, KindBreaks, LetterStands, HeadStands, SkipsBlanks};
-ghost use Rattle.at_wkt.specs.Reading.{IfStopped};
+ghost use Rattle.at_wkt.specs.Readers.{next, word_of, WordStands, KindBreaks, LetterStands, HeadStands, SkipsBlanks};
+ghost use Rattle.at_wkt.specs.Readers.{IfStopped};
 
 use crate::bytes::{letter_stands, skip_blanks, stands};
 use crate::dimension::Dimension;

@@ -5,7 +5,7 @@ ghost use Rattle.at_fixed.specs.Numerals.{Numeral};
 ghost use Rattle.at_text.specs.Faults.{first_of};
 ghost use Rattle.at_wkt.specs.declared.numbers.Coordinate.{Coordinate as CoordinateRead};
 ghost use Rattle.at_wkt.specs.Positions.{fault_of as the_fault, value_in, faults_in};
-ghost use Rattle.at_wkt.specs.Reading.{NumberStands, NumberSkips, NumberBreaks, IsCoordinate, IfStopped};
+ghost use Rattle.at_wkt.specs.Readers.{NumberStands, NumberSkips, NumberBreaks, IsCoordinate, IfStopped};
 
 use crate::halts::Halt;
 use crate::sources::Source;

@@ -6,10 +6,10 @@ ghost use Rattle.at_wkt.specs.Positions.{position_faults, faults_of_ring};
 ghost use Rattle.at_wkt.specs.Geometry.{SpellsPosition, SpellsRing, SpellsList, SpellsPoint, SpellsPointMember};
 ghost use Rattle.at_wkt.specs.Geometry.{SpellsArea, EmptyOrParted};
 ghost use Rattle.at_wkt.specs.Meaning.{faults_of_area, polygons_of};
-ghost use Rattle.at_wkt.specs.Reading.{next, Stuck, HasCount, Item, Items, EnclosedPosition, faults_of_path};
-ghost use Rattle.at_wkt.specs.Reading.{added_point, point_faults, added_line, line_faults, added_path, added_position};
-ghost use Rattle.at_wkt.specs.Reading.{opens, Grows, PartStands, ItemStands, DelimiterStands, DelimiterBreaks};
-ghost use Rattle.at_wkt.specs.Reading.{WordStands, WordBreaks, IfStopped};
+ghost use Rattle.at_wkt.specs.Readers.{next, Stuck, HasCount, Item, Items, EnclosedPosition, faults_of_path};
+ghost use Rattle.at_wkt.specs.Readers.{added_point, point_faults, added_line, line_faults, added_path, added_position};
+ghost use Rattle.at_wkt.specs.Readers.{opens, Grows, PartStands, ItemStands, DelimiterStands, DelimiterBreaks};
+ghost use Rattle.at_wkt.specs.Readers.{WordStands, WordBreaks, IfStopped};
 
 use crate::bytes::{letter_stands, skip_blanks, stands};
 use crate::halts::Halt;

@@ -5,8 +5,8 @@ ghost use Rattle.std.specs.Ordering.{int_eq};
 ghost use Rattle.at_text.specs.Faults.{first_fault as the_first};
 ghost use Rattle.at_wkt.specs.declared.halts.Halt.TheVariants.{Memory};
 ghost use Rattle.at_wkt.specs.Geometry.{SpellsPosition, SpellsRing};
-ghost use Rattle.at_wkt.specs.Reading.{next, Stuck, HasCount, Item, Items, PositionStands, PositionsStand, PathStands};
-ghost use Rattle.at_wkt.specs.Reading.{fault_of_path, IfStopped};
+ghost use Rattle.at_wkt.specs.Readers.{next, Stuck, HasCount, Item, Items, PositionStands, PositionsStand, PathStands};
+ghost use Rattle.at_wkt.specs.Readers.{fault_of_path, IfStopped};
 
 use crate::halts::Halt;
 use crate::positions::{PositionRead, read_position};

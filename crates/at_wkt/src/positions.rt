@@ -2,9 +2,9 @@
 
 ghost use Rattle.std.specs.Prelude.{◌≡◌, ℕ, ◌+◌, ◌<◌, ◌≤◌, ◌^◌, ◌⊎◌, true, false, IfSome, length, None, MatchResult};
 ghost use Rattle.at_wkt.specs.Geometry.{SpellsPosition};
-ghost use Rattle.at_wkt.specs.Reading.{next, allows, Spelt, Stuck, HasCount, Reaches, Item, FurtherNumbers, delimiter};
-ghost use Rattle.at_wkt.specs.Reading.{is_delimiter, DelimiterStands, DelimiterBreaks, PositionStands, IfStopped};
-ghost use Rattle.at_wkt.specs.Reading.{IsPassed};
+ghost use Rattle.at_wkt.specs.Readers.{next, allows, Spelt, Stuck, HasCount, Reaches, Item, FurtherNumbers, delimiter};
+ghost use Rattle.at_wkt.specs.Readers.{is_delimiter, DelimiterStands, DelimiterBreaks, PositionStands, IfStopped};
+ghost use Rattle.at_wkt.specs.Readers.{IsPassed};
 ghost use Rattle.at_wkt.specs.declared.dimension.Dimension.TheVariants.{Fixed};
 
 use crate::bytes::{skip_blanks, stands};

@@ -2,8 +2,8 @@
 
 ghost use Rattle.std.specs.Prelude.{◌≡◌, [], None, ◌+◌, ◌^◌, ◌≤◌, IsTrue, length, take, MatchResult};
 ghost use Rattle.at_text.specs.Syntax.{stop_fault};
-ghost use Rattle.at_wkt.specs.Reading.{refusal as refusal_at, gathered_shape, kept_shape as shape_kept};
-ghost use Rattle.at_wkt.specs.Reading.{line_answer as answer_of, IsGatheredLine, LineStands, LineStops, IfStopped};
+ghost use Rattle.at_wkt.specs.Readers.{refusal as refusal_at, gathered_shape, kept_shape as shape_kept};
+ghost use Rattle.at_wkt.specs.Readers.{line_answer as answer_of, IsGatheredLine, LineStands, LineStops, IfStopped};
 ghost use Rattle.at_wkt.specs.Answers.{IfFound, HasLineShape, HasFirstLineFault, IsPrefixOf, IsPrefixFault};
 
 use crate::answers::{LineFault, Prefix};

@@ -3,7 +3,7 @@
 ghost use Rattle.std.specs.Prelude.{◌≡◌, [], ℕ, ◌+◌, ◌≤◌, ◌^◌, length, take, IfOk, MatchResult};
 ghost use Rattle.at_fixed.specs.declared.rounding.Coords.{Coords};
 ghost use Rattle.at_wkt.specs.Answers.{HasFaultOrShape, HasLineShape, HasFirstLineFault, IfFound};
-ghost use Rattle.at_wkt.specs.Reading.{IfStopped, LineStops};
+ghost use Rattle.at_wkt.specs.Readers.{IfStopped, LineStops};
 
 use crate::answers::LineFault;
 use crate::checks::is_plain_line;

@@ -2,7 +2,7 @@
 
 ghost use Rattle.std.specs.Prelude.{◌≡◌, ◌≤◌, codes, length, IfSome, MatchResult};
 ghost use Rattle.std.specs.Str.{str_to_ascii_uppercase};
-ghost use Rattle.at_wkt.specs.Reading.{Matches, WordStands, WordBreaks, IfStopped};
+ghost use Rattle.at_wkt.specs.Readers.{Matches, WordStands, WordBreaks, IfStopped};
 
 use crate::bytes::letter_stands;
 use crate::halts::Halt;

@@ -23,7 +23,7 @@ use std::rt::{Env, Files};
 use std::thread::Threads;
 
 /// The decimal digits of a coordinate: a unit is 10^-7.
-const UNITS: u8 = 7;
+const DIGITS: u8 = 7;
 
 /// The form of a file of that name.
 fn form_of(name: &str) -> Form {
@@ -61,13 +61,13 @@ fn answer_in_blocks<R: Threads + Sync>(
     requires blocks { (1 ≤ blocks) × (blocks ≤ 4096) }
     requires no_join { query.verb ≢ Verb.Join }
     requires in_range { IsQueryInRange query }
-    ensures { MatchResult result (IsFileAnswer form UNITS Coords.Round query bytes.now)
-        (λ end. IfFound end (λ fault. HasFileFaultIn form UNITS Coords.Round bytes.now (Some fault))) }
+    ensures { MatchResult result (IsFileAnswer form DIGITS Coords.Round query bytes.now)
+        (λ end. IfFound end (λ fault. HasFileFaultIn form DIGITS Coords.Round bytes.now (Some fault))) }
 {
     let Ok(cuts) = Cuts::even(alloc, base_of(bytes), bytes.len() as u32, blocks) else {
         return Err(RunFault::Memory);
     };
-    answer(rt, alloc, bytes, form, &cuts, query, UNITS, Coords::Round)
+    answer(rt, alloc, bytes, form, &cuts, query, DIGITS, Coords::Round)
 }
 
 /// The printed answer to a query over the bytes of the file of that name, or the line of its first fault.
@@ -85,7 +85,7 @@ fn told_of_bytes<R: Threads + Sync>(
     requires in_range { IsQueryInRange query }
 {
     match answer_in_blocks(rt, alloc, bytes, form_of(name), query, blocks) {
-        Ok(answer) => answer_text(alloc, &answer, UNITS),
+        Ok(answer) => answer_text(alloc, &answer, DIGITS),
         Err(RunFault::Found(fault)) => {
             let kind = fault.kind;
             let at = fault.at;
@@ -126,7 +126,7 @@ fn told<R: Files + Input + Threads + Sync>(
     requires text { length text.now ≤ 2 ^ 28 }
     requires blocks { (1 ≤ blocks) × (blocks ≤ 4096) }
 {
-    match read_query(alloc, text, UNITS, Coords::Round) {
+    match read_query(alloc, text, DIGITS, Coords::Round) {
         Ok(query) => {
             if is_join(query.verb) {
                 return Ok(format!(in alloc; "files: join takes two, every other verb one\n")?);

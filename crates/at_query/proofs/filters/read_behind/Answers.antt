@@ -1,5 +1,5 @@
 use Rattle.std.proofs.Common.{arith}
-use Rattle.at_query.specs.Reading.{WordBreaks, OneTest, test_in}
+use Rattle.at_query.specs.Readers.{WordBreaks, OneTest, test_in}
 use Rattle.at_query.proofs.Parted.{behind_word, behind_ends, behind_stops}
 use Rattle.at_query.proofs.TestParts.{one_lives}
 use Rattle.at_query.proofs.Exits.{exits, answers_by}

@@ -1,5 +1,5 @@
 use Rattle.std.proofs.Common.{codes}
-use Rattle.at_query.specs.Reading.{Stops, WordBreaks, Text}
+use Rattle.at_query.specs.Readers.{Stops, WordBreaks, Text}
 use Rattle.at_query.proofs.TestParts.{has_word, has_name, has_equals, has_value, has_ends}
 use Rattle.at_query.proofs.Exits.{exits}
 use Rattle.at_query.proofs.filters.read_has.Goals as goal

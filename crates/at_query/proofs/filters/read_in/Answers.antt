@@ -1,5 +1,5 @@
 use Rattle.std.proofs.Common.{codes}
-use Rattle.at_query.specs.Reading.{Stops, WordBreaks, Box, box_in}
+use Rattle.at_query.specs.Readers.{Stops, WordBreaks, Box, box_in}
 use Rattle.at_query.proofs.TestParts.{in_word, in_stops, in_ends}
 use Rattle.at_query.proofs.Exits.{exits}
 use Rattle.at_query.proofs.filters.read_in.Goals as goal

@@ -1,5 +1,5 @@
 use Rattle.std.proofs.Common.{sym, ◌∙◌}
-use Rattle.at_query.specs.Reading.{test_in}
+use Rattle.at_query.specs.Readers.{test_in}
 use Rattle.at_query.proofs.GeometryParts.{target_box_ends, target_box_stops, target_geometry_ends, target_geometry_stops}
 use Rattle.at_query.proofs.Exits.{answers_by}
 use Rattle.at_query.proofs.targets.read_target.Goals as goal

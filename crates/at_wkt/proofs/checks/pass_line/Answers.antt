@@ -1,6 +1,6 @@
 use Rattle.std.proofs.Common.{◌+◌, None, refl, sym, ◌∙◌, ap}
 use Rattle.at_wkt.specs.declared.paths.Role.TheVariants.{Line}
-use Rattle.at_wkt.specs.Reading.{fault_of_path}
+use Rattle.at_wkt.specs.Readers.{fault_of_path}
 use Rattle.at_wkt.proofs.PathAnswers.{path_passed}
 use Rattle.at_wkt.proofs.checks.pass_line.Goals as goal
 

@@ -1,7 +1,7 @@
 use Rattle.std.proofs.Common.{[], Some, None, Ok, refl, sym, ◌∙◌}
 use Rattle.at_wkt.specs.Geometry.{SpellsRing, SpellsList}
 use Rattle.at_wkt.specs.declared.paths.Role.TheVariants.{Line}
-use Rattle.at_wkt.specs.Reading.{faults_of_path, line_faults}
+use Rattle.at_wkt.specs.Readers.{faults_of_path, line_faults}
 use Rattle.at_wkt.proofs.BodySteps.{list_choice}
 use Rattle.at_wkt.proofs.PartAnswers.{opened_stands, none_faults}
 use Rattle.at_wkt.proofs.CheckAnswers.{nothing_of, adds_nothing, part_passed}

@@ -3,7 +3,7 @@ use Rattle.at_wkt.specs.declared.parts.Read.{Read}
 use Rattle.at_wkt.specs.declared.positions.NumbersRead.{NumbersRead}
 use Rattle.at_wkt.specs.Positions.{position_faults}
 use Rattle.at_wkt.specs.Geometry.{SpellsPoint}
-use Rattle.at_wkt.specs.Reading.{EnclosedPosition, IsPassedPart, added_point, point_faults, added_position}
+use Rattle.at_wkt.specs.Readers.{EnclosedPosition, IsPassedPart, added_point, point_faults, added_position}
 use Rattle.at_wkt.proofs.BodySteps.{point_choice}
 use Rattle.at_wkt.proofs.PartAnswers.{enclosed_stands, opened_stands, none_faults, open_byte}
 use Rattle.at_wkt.proofs.CheckAnswers.{part_passed}

@@ -2,7 +2,7 @@ use Rattle.std.proofs.Common.{[], ◌∙◌, ap, ap₂, arith}
 use Rattle.at_text.specs.Faults.{first_fault}
 use Rattle.at_wkt.specs.Positions.{faults_of_ring}
 use Rattle.at_wkt.specs.Geometry.{SpellsRing}
-use Rattle.at_wkt.specs.Reading.{Items}
+use Rattle.at_wkt.specs.Readers.{Items}
 use Rattle.at_wkt.proofs.PathAnswers.{so_far_start, so_far_more}
 use Rattle.at_wkt.proofs.PartAnswers.{items_stand}
 use Rattle.at_wkt.proofs.Exits.{flag_off, flag_on}

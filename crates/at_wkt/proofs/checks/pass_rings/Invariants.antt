@@ -1,7 +1,7 @@
 use Rattle.std.proofs.Common.{[], ◌≡◌, None, length, ◌-◌}
 use Rattle.at_wkt.specs.Positions.{faults_of_ring}
 use Rattle.at_wkt.specs.Geometry.{SpellsRing}
-use Rattle.at_wkt.specs.Reading.{ItemsSoFar}
+use Rattle.at_wkt.specs.Readers.{ItemsSoFar}
 use Rattle.at_wkt.proofs.CheckAnswers.{nothing_of}
 use Rattle.at_wkt.proofs.checks.pass_rings.Given as goal
 

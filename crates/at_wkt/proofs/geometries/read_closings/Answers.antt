@@ -1,5 +1,5 @@
 use Rattle.std.proofs.Common.{arith}
-use Rattle.at_wkt.specs.Reading.{DelimiterBreaks}
+use Rattle.at_wkt.specs.Readers.{DelimiterBreaks}
 use Rattle.at_wkt.proofs.ProgressAnswers.{closes_start, closes_more, closes_stuck, closes_next, closes_over}
 use Rattle.at_wkt.proofs.Exits.{exits, flag_off, flag_on}
 use Rattle.at_wkt.proofs.geometries.read_closings.Goals as goal

@@ -1,5 +1,5 @@
 use Rattle.std.proofs.Common.{sym, ◌∙◌, arith}
-use Rattle.at_wkt.specs.Reading.{KindBreaks}
+use Rattle.at_wkt.specs.Readers.{KindBreaks}
 use Rattle.at_wkt.proofs.CollectionSteps.{kind_broken}
 use Rattle.at_wkt.proofs.ProgressAnswers.{head_count, opens_true, opening_stands}
 use Rattle.at_wkt.proofs.Exits.{exits}

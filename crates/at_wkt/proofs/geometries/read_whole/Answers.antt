@@ -1,6 +1,6 @@
 use Rattle.std.proofs.Common.{arith}
 use Rattle.at_wkt.specs.declared.dimension.Dimension.TheVariants.{Open}
-use Rattle.at_wkt.specs.Reading.{Stuck, Expected}
+use Rattle.at_wkt.specs.Readers.{Stuck, Expected}
 use Rattle.at_wkt.proofs.ProgressAnswers.{steps_start, steps_more, steps_stuck, steps_end}
 use Rattle.at_wkt.proofs.Exits.{exits, flag_off, flag_on}
 use Rattle.at_wkt.proofs.geometries.read_whole.Goals as goal

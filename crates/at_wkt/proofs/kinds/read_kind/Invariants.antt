@@ -1,5 +1,5 @@
 use Rattle.std.proofs.Common.{take}
-use Rattle.at_wkt.specs.Reading.{KindsTried}
+use Rattle.at_wkt.specs.Readers.{KindsTried}
 use Rattle.at_wkt.proofs.kinds.read_kind.Given as goal
 
 abbrev pub invariant-loop-kind : goal.invariant-loop-kind

@@ -1,6 +1,6 @@
 use Rattle.std.proofs.Common.{length, ◌-◌}
 use Rattle.at_wkt.specs.Geometry.{SpellsList}
-use Rattle.at_wkt.specs.Reading.{ItemsSoFar, added_line, line_faults}
+use Rattle.at_wkt.specs.Readers.{ItemsSoFar, added_line, line_faults}
 use Rattle.at_wkt.proofs.parts.read_line_members.Given as goal
 
 abbrev pub invariant-members : goal.invariant-members

@@ -1,6 +1,6 @@
 use Rattle.std.proofs.Common.{length, ◌-◌}
 use Rattle.at_wkt.specs.Geometry.{SpellsPointMember}
-use Rattle.at_wkt.specs.Reading.{ItemsSoFar, added_point, point_faults}
+use Rattle.at_wkt.specs.Readers.{ItemsSoFar, added_point, point_faults}
 use Rattle.at_wkt.proofs.parts.read_point_members.Given as goal
 
 abbrev pub invariant-members : goal.invariant-members

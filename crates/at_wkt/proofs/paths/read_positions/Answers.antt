@@ -1,6 +1,6 @@
 use Rattle.std.proofs.Common.{◌≡◌, [], ◌∷◌, ◌++◌, refl, sym, ◌∙◌, ap, subst, arith}
 use Rattle.at_wkt.specs.Geometry.{SpellsPosition}
-use Rattle.at_wkt.specs.Reading.{Item, Stuck, PositionsSoFar}
+use Rattle.at_wkt.specs.Readers.{Item, Stuck, PositionsSoFar}
 use Rattle.at_wkt.proofs.PathAnswers.{positions_start, positions_more, positions_stuck, positions_stuck_first, positions_end}
 use Rattle.at_wkt.proofs.Exits.{exits, flag_off, flag_on}
 use Rattle.at_wkt.proofs.paths.read_positions.Goals as goal

@@ -1,5 +1,5 @@
 use Rattle.std.proofs.Common.{length, ◌-◌}
-use Rattle.at_wkt.specs.Reading.{PositionsSoFar}
+use Rattle.at_wkt.specs.Readers.{PositionsSoFar}
 use Rattle.at_wkt.proofs.paths.read_positions.Given as goal
 
 abbrev pub invariant-positions : goal.invariant-positions

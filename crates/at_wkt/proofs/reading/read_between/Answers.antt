@@ -1,6 +1,6 @@
 use Rattle.std.proofs.Common.{zero, refl, arith}
 use Rattle.at_wkt.specs.declared.dimension.Dimension.TheVariants.{Open}
-use Rattle.at_wkt.specs.Reading.{Stuck, Expected}
+use Rattle.at_wkt.specs.Readers.{Stuck, Expected}
 use Rattle.at_wkt.proofs.LineAnswers.{line_stuck, line_spelled, line_beyond}
 use Rattle.at_wkt.proofs.Exits.{exits}
 use Rattle.at_wkt.proofs.reading.read_between.Goals as goal

@@ -1,5 +1,5 @@
 use Rattle.std.proofs.Common.{take}
-use Rattle.at_wkt.specs.Reading.{gathered_shape}
+use Rattle.at_wkt.specs.Readers.{gathered_shape}
 use Rattle.at_wkt.proofs.LineAnswers.{line_gathered}
 use Rattle.at_wkt.proofs.FileAnswers.{line_read}
 use Rattle.at_wkt.proofs.rooms.Room.check_line.Goals as goal
