@@ -6,6 +6,7 @@ use Rattle.at_text.specs.declared.texts.Span.{Span}
 use Rattle.at_lex.specs.Strings.{Character, AreCharacters, string_text, units_of}
 use Rattle.at_lex.specs.declared.tokens.Bracket.{Bracket}
 use Rattle.at_lex.specs.declared.tokens.Bracket.TheVariants.{Brace, Square}
+use Rattle.at_nest.specs.declared.algebra.Algebra.{Ghosts}
 use Rattle.at_nest.specs.declared.algebra.Member.{Member}
 use Rattle.at_nest.specs.declared.levels.ArrayState.{ArrayState}
 use Rattle.at_nest.specs.declared.levels.ArrayState.TheVariants as array
@@ -59,6 +60,10 @@ pub data Content : Type 0 where
 abbrev pub Kept : {X : Type 0} → (X → Type 0) → (X → Tree → Type 0) → (X → List Tree → Type 0) → X → Content → Type 0
 Kept IsOwn IsFold IsRun x (one t) = IsOwn x × IsFold x t
 Kept IsOwn IsFold IsRun x (run ts) = IsOwn x × IsRun x ts
+
+-- an atom of this algebra's that stands for the tree, or the trees
+abbrev pub IsAtomOf : {A X : Type 0} → Ghosts A X → A → X → Content → Type 0
+IsAtomOf algebras algebra = Kept (algebras.is_own algebra) (algebras.is_fold algebra) (algebras.is_run algebra)
 
 abbrev pub array_mode : ArrayState → Mode
 array_mode array.Empty = at_items

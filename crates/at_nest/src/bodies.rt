@@ -15,7 +15,8 @@ ghost use Rattle.at_nest.specs.Nests.{nest_in, PutsLast};
 ghost use Rattle.at_nest.specs.declared.levels.ArrayState.TheVariants.{Empty};
 ghost use Rattle.at_nest.specs.declared.levels.Nest.{Nest};
 ghost use Rattle.at_nest.specs.declared.levels.Open.TheVariants.{Nested};
-ghost use Rattle.at_nest.specs.KeptItems.{Kept, IsOfItems, Pushes, PushesClosers, PushesText, PushesValue, PushesBehind};
+ghost use Rattle.at_nest.specs.KeptItems.{IsAtomOf};
+ghost use Rattle.at_nest.specs.KeptItems.{IsOfItems, Pushes, PushesClosers, PushesText, PushesValue, PushesBehind};
 ghost use Rattle.at_nest.specs.KeptItems.{PushesRow, Lengthens, PutsRow, PushesKeptText, CanAdd, Adds, CanJoin, Joins};
 
 use crate::algebra::Algebra;
@@ -281,7 +282,7 @@ fn begin_row<A: Algebra>(
     requires outside { (shown body.old).levels ≡ [] }
     requires own { A.is_own algebra.now atom }
     ensures { IfOk result (λ r.
-        PushesBehind (Kept (A.is_own algebra.now) (A.is_fold algebra.now) (A.is_run algebra.now))
+        PushesBehind (IsAtomOf A.Algebra algebra.now)
         (shown body.old) (shown body.new) r comma from atom) }
 {
     let mut items = Vec::new(alloc);
@@ -304,7 +305,7 @@ fn lengthen_row<A: Algebra>(
     requires outside { (shown body.old).levels ≡ [] }
     requires items { All (A.is_own algebra.now) row.items.items }
     requires own { A.is_own algebra.now atom }
-    ensures { IfOk result (λ r. Lengthens (Kept (A.is_own algebra.now) (A.is_fold algebra.now) (A.is_run algebra.now))
+    ensures { IfOk result (λ r. Lengthens (IsAtomOf A.Algebra algebra.now)
         (shown body.old) (shown body.new, r) row atom) }
 {
     let Row {
@@ -330,11 +331,10 @@ fn keep_behind<A: Algebra>(
     atom: A::Atom,
 ) -> Result<Option<Halt>, Memory>
     requires outside { (shown body.old).levels ≡ [] }
-    requires held { IsOfItems (Kept (A.is_own algebra.now) (A.is_fold algebra.now) (A.is_run algebra.now))
-        (shown body.old) }
+    requires held { IsOfItems (IsAtomOf A.Algebra algebra.now) (shown body.old) }
     requires own { A.is_own algebra.now atom }
     ensures { IfOk result (λ r.
-        PushesBehind (Kept (A.is_own algebra.now) (A.is_fold algebra.now) (A.is_run algebra.now))
+        PushesBehind (IsAtomOf A.Algebra algebra.now)
         (shown body.old) (shown body.new) r comma from atom) }
 {
     match body.outer.pop() {
@@ -357,10 +357,9 @@ fn keep_other<A: Algebra>(
     atom: A::Atom,
 ) -> Result<Option<Halt>, Memory>
     requires outside { (shown body.old).levels ≡ [] }
-    requires held { IsOfItems (Kept (A.is_own algebra.now) (A.is_fold algebra.now) (A.is_run algebra.now))
-        (shown body.old) }
+    requires held { IsOfItems (IsAtomOf A.Algebra algebra.now) (shown body.old) }
     requires own { A.is_own algebra.now atom }
-    ensures { IfOk result (λ r. PushesValue (Kept (A.is_own algebra.now) (A.is_fold algebra.now) (A.is_run algebra.now))
+    ensures { IfOk result (λ r. PushesValue (IsAtomOf A.Algebra algebra.now)
         (shown body.old) (shown body.new) r from atom) }
 {
     match body.outer.pop() {
@@ -383,10 +382,9 @@ fn keep_value<A: Algebra>(
     atom: A::Atom,
 ) -> Result<Option<Halt>, Memory>
     requires outside { (shown body.old).levels ≡ [] }
-    requires held { IsOfItems (Kept (A.is_own algebra.now) (A.is_fold algebra.now) (A.is_run algebra.now))
-        (shown body.old) }
+    requires held { IsOfItems (IsAtomOf A.Algebra algebra.now) (shown body.old) }
     requires own { A.is_own algebra.now atom }
-    ensures { IfOk result (λ r. PushesValue (Kept (A.is_own algebra.now) (A.is_fold algebra.now) (A.is_run algebra.now))
+    ensures { IfOk result (λ r. PushesValue (IsAtomOf A.Algebra algebra.now)
         (shown body.old) (shown body.new) r from atom) }
 {
     match awaited_member(body.outer.as_slice()) {
@@ -404,10 +402,9 @@ pub fn read_value<A: Algebra>(
     from: u32,
     atom: A::Atom,
 ) -> Result<Option<Halt>, Memory>
-    requires held { IsOfItems (Kept (A.is_own algebra.now) (A.is_fold algebra.now) (A.is_run algebra.now))
-        (shown body.old) }
+    requires held { IsOfItems (IsAtomOf A.Algebra algebra.now) (shown body.old) }
     requires own { A.is_own algebra.now atom }
-    ensures { IfOk result (λ r. PushesValue (Kept (A.is_own algebra.now) (A.is_fold algebra.now) (A.is_run algebra.now))
+    ensures { IfOk result (λ r. PushesValue (IsAtomOf A.Algebra algebra.now)
         (shown body.old) (shown body.new) r from atom) }
 {
     match body.innermost(alloc) {
@@ -426,8 +423,7 @@ fn keep_text<A: Algebra>(
     atom: A::Atom,
 ) -> Result<Option<Halt>, Memory>
     requires { (shown body.old).levels ≡ [] }
-    ensures { IfOk result (λ r. PushesKeptText (Kept (A.is_own algebra.now) (A.is_fold algebra.now)
-        (A.is_run algebra.now))
+    ensures { IfOk result (λ r. PushesKeptText (IsAtomOf A.Algebra algebra.now)
         (shown body.old) (shown body.new) r span atom) }
 {
     match awaited_member(body.outer.as_slice()) {
@@ -447,10 +443,9 @@ pub fn read_text<A: Algebra>(
 ) -> Result<Option<Halt>, Memory>
     requires whole { JsonString text.now }
     requires fits { at + length text.now ≤ 2 ^ 28 }
-    requires held { IsOfItems (Kept (A.is_own algebra.now) (A.is_fold algebra.now) (A.is_run algebra.now))
-        (shown body.old) }
+    requires held { IsOfItems (IsAtomOf A.Algebra algebra.now) (shown body.old) }
     ensures { IfOk result (λ r. (cs : List Character) → AreCharacters cs → text.now ≡ string_text cs
-        → PushesText (Kept (A.is_own algebra.now) (A.is_fold algebra.now) (A.is_run algebra.now)) (shown body.old)
+        → PushesText (IsAtomOf A.Algebra algebra.now) (shown body.old)
         (shown body.new) r
         (record { from = at; to = at + length text.now }) cs) }
 {
@@ -484,7 +479,7 @@ fn keep_close<A: Algebra>(
     at: u32,
 ) -> Result<Option<Halt>, Memory>
     requires outside { (shown body.old).levels ≡ [] }
-    ensures { IfOk result (λ r. Pushes (Kept (A.is_own algebra.now) (A.is_fold algebra.now) (A.is_run algebra.now))
+    ensures { IfOk result (λ r. Pushes (IsAtomOf A.Algebra algebra.now)
         (shown body.old) (shown body.new) r (closing_piece bracket at)) }
 {
     let _ = algebra;
@@ -506,8 +501,8 @@ pub fn close<A: Algebra>(
     bracket: Bracket,
     at: u32,
 ) -> Result<Option<Halt>, Memory>
-    requires { IsOfItems (Kept (A.is_own algebra.now) (A.is_fold algebra.now) (A.is_run algebra.now)) (shown body.old) }
-    ensures { IfOk result (λ r. Pushes (Kept (A.is_own algebra.now) (A.is_fold algebra.now) (A.is_run algebra.now))
+    requires { IsOfItems (IsAtomOf A.Algebra algebra.now) (shown body.old) }
+    ensures { IfOk result (λ r. Pushes (IsAtomOf A.Algebra algebra.now)
         (shown body.old) (shown body.new) r (closing_piece bracket at)) }
 {
     match body.innermost(alloc) {
@@ -532,7 +527,7 @@ fn put_row<A: Algebra>(
 ) -> Result<Option<Halt>, Memory>
     requires level { AreOwn (A.is_own algebra.now) (held_of level) }
     requires row { All (A.is_own algebra.now) row.items.items }
-    ensures { IfOk result (λ r. PutsRow (Kept (A.is_own algebra.now) (A.is_fold algebra.now) (A.is_run algebra.now))
+    ensures { IfOk result (λ r. PutsRow (IsAtomOf A.Algebra algebra.now)
         (shown body.old) (shown body.new, r) (held_of level) row) }
 {
     match level {
@@ -551,11 +546,9 @@ fn add_row<A: Algebra>(
     algebra: &A,
     row: Row<A::Atom>,
 ) -> Result<Option<Halt>, Memory>
-    requires held { IsOfItems (Kept (A.is_own algebra.now) (A.is_fold algebra.now) (A.is_run algebra.now))
-        (shown body.old) }
+    requires held { IsOfItems (IsAtomOf A.Algebra algebra.now) (shown body.old) }
     requires row { All (A.is_own algebra.now) row.items.items }
-    ensures { IfOk result (λ r. PushesRow (Kept (A.is_own algebra.now) (A.is_fold algebra.now) (A.is_run algebra.now))
-        (shown body.old) (shown body.new) r row) }
+    ensures { IfOk result (λ r. PushesRow (IsAtomOf A.Algebra algebra.now) (shown body.old) (shown body.new) r row) }
 {
     match body.innermost(alloc) {
         None => body.keep(Piece::Row(row)),
@@ -573,10 +566,8 @@ fn close_all<A: Algebra>(
     algebra: &A,
     closers: Closers,
 ) -> Result<Option<Halt>, Memory>
-    requires held { IsOfItems (Kept (A.is_own algebra.now) (A.is_fold algebra.now) (A.is_run algebra.now))
-        (shown body.old) }
-    ensures { IfOk result (λ r. PushesClosers (Kept (A.is_own algebra.now) (A.is_fold algebra.now)
-        (A.is_run algebra.now))
+    requires held { IsOfItems (IsAtomOf A.Algebra algebra.now) (shown body.old) }
+    ensures { IfOk result (λ r. PushesClosers (IsAtomOf A.Algebra algebra.now)
         (shown body.old) (shown body.new) r closers) }
 {
     for at in closers.from..closers.to {
@@ -597,9 +588,8 @@ fn add<A: Algebra>(
     piece: Piece<A::Atom>,
 ) -> Result<Option<Halt>, Memory>
     requires fits { length bytes.now ≤ 2 ^ 28 }
-    requires held { CanAdd (Kept (A.is_own algebra.now) (A.is_fold algebra.now) (A.is_run algebra.now)) bytes.now
-        (shown body.old) piece }
-    ensures { IfOk result (λ r. Adds (Kept (A.is_own algebra.now) (A.is_fold algebra.now) (A.is_run algebra.now))
+    requires held { CanAdd (IsAtomOf A.Algebra algebra.now) bytes.now (shown body.old) piece }
+    ensures { IfOk result (λ r. Adds (IsAtomOf A.Algebra algebra.now)
         bytes.now
         (shown body.old) piece (shown body.new) r) }
 {
@@ -625,9 +615,8 @@ fn add_text<A: Algebra>(
     atom: A::Atom,
 ) -> Result<Option<Halt>, Memory>
     requires fits { length bytes.now ≤ 2 ^ 28 }
-    requires held { CanAdd (Kept (A.is_own algebra.now) (A.is_fold algebra.now) (A.is_run algebra.now)) bytes.now
-        (shown body.old) (Piece.Text span atom) }
-    ensures { IfOk result (λ r. Adds (Kept (A.is_own algebra.now) (A.is_fold algebra.now) (A.is_run algebra.now))
+    requires held { CanAdd (IsAtomOf A.Algebra algebra.now) bytes.now (shown body.old) (Piece.Text span atom) }
+    ensures { IfOk result (λ r. Adds (IsAtomOf A.Algebra algebra.now)
         bytes.now
         (shown body.old) (Piece.Text span atom) (shown body.new) r) }
 {
@@ -654,9 +643,8 @@ pub fn join<A: Algebra>(
     behind: Body<A::Atom>,
 ) -> Result<Option<Halt>, Memory>
     requires fits { length bytes.now ≤ 2 ^ 28 }
-    requires held { CanJoin (Kept (A.is_own algebra.now) (A.is_fold algebra.now) (A.is_run algebra.now)) bytes.now
-        (shown body.old) (shown behind) }
-    ensures { IfOk result (λ r. Joins (Kept (A.is_own algebra.now) (A.is_fold algebra.now) (A.is_run algebra.now))
+    requires held { CanJoin (IsAtomOf A.Algebra algebra.now) bytes.now (shown body.old) (shown behind) }
+    ensures { IfOk result (λ r. Joins (IsAtomOf A.Algebra algebra.now)
         bytes.now
         (shown body.old) (shown behind) (shown body.new) r) }
 {

@@ -4,7 +4,7 @@ ghost use Rattle.std.specs.Prelude.{◌≡◌, ℕ, All, List, [], ◌∷◌, If
 ghost use Rattle.at_lex.specs.declared.tokens.Start.{Start};
 ghost use Rattle.at_nest.specs.Shown.{array_held, object_held, helds_of, shown, open_levels, stretched, opens_of};
 ghost use Rattle.at_nest.specs.Shown.{AreOwn, OwnPiece, OwnLevel, OwnStretch, OwnLevels, OwnBody};
-ghost use Rattle.at_nest.specs.KeptItems.{Kept, CopiesItems, CopiesMember, CopiesMembers, CopiesNamed, CopiesHeld};
+ghost use Rattle.at_nest.specs.KeptItems.{CopiesItems, CopiesMember, CopiesMembers, CopiesNamed, CopiesHeld, IsAtomOf};
 ghost use Rattle.at_nest.specs.KeptItems.{CopiesLevels, CopiesPiece, CopiesPieces, CopiesShown};
 ghost use Rattle.at_nest.specs.VariantMeanings.{HoldsVariant};
 
@@ -44,8 +44,7 @@ fn copy_items<A: Algebra>(
     items: &Vec<A::Atom>,
 ) -> Result<Vec<A::Atom>, Memory>
     requires { All (A.is_own algebra.now) items.now.items }
-    ensures { IfOk result (λ v. CopiesItems (Kept (A.is_own algebra.now) (A.is_fold algebra.now) (A.is_run algebra.now))
-        items.now.items v.items) }
+    ensures { IfOk result (λ v. CopiesItems (IsAtomOf A.Algebra algebra.now) items.now.items v.items) }
 {
     let mut copied = Vec::with_capacity(alloc, items.len())?;
     for item in items {
@@ -60,8 +59,7 @@ fn copy_member<A: Algebra>(
     member: &Member<A::Atom>,
 ) -> Result<Member<A::Atom>, Memory>
     requires { A.is_own algebra.now member.now.value }
-    ensures { IfOk result (CopiesMember (Kept (A.is_own algebra.now) (A.is_fold algebra.now) (A.is_run algebra.now))
-        member.now) }
+    ensures { IfOk result (CopiesMember (IsAtomOf A.Algebra algebra.now) member.now) }
 {
     Ok(Member {
         name: member.name.copy(alloc)?,
@@ -76,8 +74,7 @@ fn copy_members<A: Algebra>(
     members: &Vec<Member<A::Atom>>,
 ) -> Result<Vec<Member<A::Atom>>, Memory>
     requires { All (λ m. A.is_own algebra.now m.value) members.now.items }
-    ensures { IfOk result (λ v. CopiesMembers (Kept (A.is_own algebra.now) (A.is_fold algebra.now)
-        (A.is_run algebra.now)) members.now.items v.items) }
+    ensures { IfOk result (λ v. CopiesMembers (IsAtomOf A.Algebra algebra.now) members.now.items v.items) }
 {
     let mut copied = Vec::with_capacity(alloc, members.len())?;
     for member in members {
@@ -92,8 +89,7 @@ fn copy_array<A: Algebra>(
     level: &ArrayLevel<A::Atom>,
 ) -> Result<ArrayLevel<A::Atom>, Memory>
     requires { AreOwn (A.is_own algebra.now) (array_held level.now) }
-    ensures { IfOk result (λ l. CopiesHeld (Kept (A.is_own algebra.now) (A.is_fold algebra.now) (A.is_run algebra.now))
-        (array_held level.now) (array_held l)) }
+    ensures { IfOk result (λ l. CopiesHeld (IsAtomOf A.Algebra algebra.now) (array_held level.now) (array_held l)) }
 {
     Ok(ArrayLevel {
         from: level.from,
@@ -108,8 +104,7 @@ fn copy_object<A: Algebra>(
     level: &ObjectLevel<A::Atom>,
 ) -> Result<ObjectLevel<A::Atom>, Memory>
     requires { AreOwn (A.is_own algebra.now) (object_held level.now) }
-    ensures { IfOk result (λ l. CopiesHeld (Kept (A.is_own algebra.now) (A.is_fold algebra.now) (A.is_run algebra.now))
-        (object_held level.now) (object_held l)) }
+    ensures { IfOk result (λ l. CopiesHeld (IsAtomOf A.Algebra algebra.now) (object_held level.now) (object_held l)) }
 {
     Ok(ObjectLevel {
         from: level.from,
@@ -124,9 +119,7 @@ fn copy_open<A: Algebra>(
     level: &Open<A::Atom>,
 ) -> Result<Open<A::Atom>, Memory>
     requires { OwnLevel (A.is_own algebra.now) level.now }
-    ensures { IfOk result (λ o.
-        CopiesLevels (Kept (A.is_own algebra.now) (A.is_fold algebra.now) (A.is_run algebra.now)) (helds_of level.now)
-        (helds_of o)) }
+    ensures { IfOk result (λ o. CopiesLevels (IsAtomOf A.Algebra algebra.now) (helds_of level.now) (helds_of o)) }
 {
     match level {
         Open::Array(level) => Ok(Open::Array(copy_array(alloc, algebra, level)?)),
@@ -155,8 +148,7 @@ fn copy_named<A: Algebra>(
     items: &Vec<NamedValue<A::Atom>>,
 ) -> Result<Vec<NamedValue<A::Atom>>, Memory>
     requires { All (λ m. A.is_own algebra.now m.value) items.now.items }
-    ensures { IfOk result (λ v. CopiesNamed (Kept (A.is_own algebra.now) (A.is_fold algebra.now) (A.is_run algebra.now))
-        items.now.items v.items) }
+    ensures { IfOk result (λ v. CopiesNamed (IsAtomOf A.Algebra algebra.now) items.now.items v.items) }
 {
     let mut copied = Vec::with_capacity(alloc, items.len())?;
     for item in items {
@@ -174,8 +166,7 @@ fn copy_piece<A: Algebra>(
     piece: &Piece<A::Atom>,
 ) -> Result<Piece<A::Atom>, Memory>
     requires { OwnPiece (A.is_own algebra.now) piece.now }
-    ensures { IfOk result (CopiesPiece (Kept (A.is_own algebra.now) (A.is_fold algebra.now) (A.is_run algebra.now))
-        piece.now) }
+    ensures { IfOk result (CopiesPiece (IsAtomOf A.Algebra algebra.now) piece.now) }
 {
     match piece {
         Piece::Closes(bracket, at) => Ok(Piece::Closes(*bracket, *at)),
@@ -209,9 +200,7 @@ fn copy_pieces<A: Algebra>(
     pieces: &Vec<Piece<A::Atom>>,
 ) -> Result<Vec<Piece<A::Atom>>, Memory>
     requires { All (OwnPiece (A.is_own algebra.now)) pieces.now.items }
-    ensures { IfOk result (λ v.
-        CopiesPieces (Kept (A.is_own algebra.now) (A.is_fold algebra.now) (A.is_run algebra.now)) pieces.now.items
-        v.items) }
+    ensures { IfOk result (λ v. CopiesPieces (IsAtomOf A.Algebra algebra.now) pieces.now.items v.items) }
 {
     let mut copied = Vec::with_capacity(alloc, pieces.len())?;
     for piece in pieces {
@@ -226,9 +215,8 @@ fn copy_opens<A: Algebra>(
     opens: &Vec<Open<A::Atom>>,
 ) -> Result<Vec<Open<A::Atom>>, Memory>
     requires { All (OwnLevel (A.is_own algebra.now)) opens.now.items }
-    ensures { IfOk result (λ v.
-        CopiesLevels (Kept (A.is_own algebra.now) (A.is_fold algebra.now) (A.is_run algebra.now))
-        (open_levels opens.now.items) (open_levels v.items)) }
+    ensures { IfOk result (λ v. CopiesLevels (IsAtomOf A.Algebra algebra.now) (open_levels opens.now.items)
+        (open_levels v.items)) }
 {
     let mut copied = Vec::with_capacity(alloc, opens.len())?;
     for level in opens {
@@ -243,8 +231,7 @@ fn copy_stretch<A: Algebra>(
     stretch: &Stretch<A::Atom>,
 ) -> Result<Stretch<A::Atom>, Memory>
     requires { OwnStretch (A.is_own algebra.now) stretch.now }
-    ensures { IfOk result (λ s.
-        CopiesLevels (Kept (A.is_own algebra.now) (A.is_fold algebra.now) (A.is_run algebra.now))
+    ensures { IfOk result (λ s. CopiesLevels (IsAtomOf A.Algebra algebra.now)
         (open_levels (stretched (stretch.now ∷ []))) (open_levels (stretched (s ∷ [])))) }
 {
     Ok(Stretch {
@@ -259,8 +246,7 @@ fn copy_stretches<A: Algebra>(
     stretches: &Vec<Stretch<A::Atom>>,
 ) -> Result<Vec<Stretch<A::Atom>>, Memory>
     requires { All (OwnStretch (A.is_own algebra.now)) stretches.now.items }
-    ensures { IfOk result (λ v.
-        CopiesLevels (Kept (A.is_own algebra.now) (A.is_fold algebra.now) (A.is_run algebra.now))
+    ensures { IfOk result (λ v. CopiesLevels (IsAtomOf A.Algebra algebra.now)
         (open_levels (stretched stretches.now.items)) (open_levels (stretched v.items))) }
 {
     let mut copied = Vec::with_capacity(alloc, stretches.len())?;
@@ -276,9 +262,8 @@ fn copy_levels<A: Algebra>(
     levels: &Levels<A::Atom>,
 ) -> Result<Levels<A::Atom>, Memory>
     requires { OwnLevels (A.is_own algebra.now) levels.now }
-    ensures { IfOk result (λ l.
-        CopiesLevels (Kept (A.is_own algebra.now) (A.is_fold algebra.now) (A.is_run algebra.now))
-        (open_levels (opens_of levels.now)) (open_levels (opens_of l))) }
+    ensures { IfOk result (λ l. CopiesLevels (IsAtomOf A.Algebra algebra.now) (open_levels (opens_of levels.now))
+        (open_levels (opens_of l))) }
 {
     Ok(Levels {
         before: copy_stretches(alloc, algebra, &levels.before)?,
@@ -292,8 +277,7 @@ fn copy_body<A: Algebra>(
     body: &Body<A::Atom>,
 ) -> Result<Body<A::Atom>, Memory>
     requires { OwnBody (A.is_own algebra.now) body.now }
-    ensures { IfOk result (λ b. CopiesShown (Kept (A.is_own algebra.now) (A.is_fold algebra.now) (A.is_run algebra.now))
-        (shown body.now) (shown b)) }
+    ensures { IfOk result (λ b. CopiesShown (IsAtomOf A.Algebra algebra.now) (shown body.now) (shown b)) }
 {
     Ok(Body {
         outer: copy_pieces(alloc, algebra, &body.outer)?,
@@ -308,10 +292,10 @@ pub fn copy_variant<A: Algebra>(
     variant: &Variant<A::Atom>,
 ) -> Result<Variant<A::Atom>, Memory>
     requires { (s : Start) × (at : ℕ) × (w : List ℕ)
-        × HoldsVariant (Kept (A.is_own algebra.now) (A.is_fold algebra.now) (A.is_run algebra.now)) s at w variant.now }
+        × HoldsVariant (IsAtomOf A.Algebra algebra.now) s at w variant.now }
     ensures { IfOk result (λ v. (s : Start) (at : ℕ) (w : List ℕ)
-        → HoldsVariant (Kept (A.is_own algebra.now) (A.is_fold algebra.now) (A.is_run algebra.now)) s at w variant.now
-        → HoldsVariant (Kept (A.is_own algebra.now) (A.is_fold algebra.now) (A.is_run algebra.now)) s at w v) }
+        → HoldsVariant (IsAtomOf A.Algebra algebra.now) s at w variant.now
+        → HoldsVariant (IsAtomOf A.Algebra algebra.now) s at w v) }
 {
     match variant {
         Variant::AllLead { end } => Ok(Variant::AllLead { end: *end }),

@@ -8,7 +8,7 @@ ghost use Rattle.at_lex.specs.Spans.{begins_run};
 ghost use Rattle.at_nest.specs.Shown.{helds_of, top_of, shown, open_levels, stretched, opens_of};
 ghost use Rattle.at_nest.specs.declared.finishing.Next.{Next};
 ghost use Rattle.at_nest.specs.declared.finishing.Next.TheVariants as next;
-ghost use Rattle.at_nest.specs.KeptItems.{Kept, IsOfItems};
+ghost use Rattle.at_nest.specs.KeptItems.{IsOfItems, IsAtomOf};
 ghost use Rattle.at_nest.specs.FragmentMeanings.{StandsFor, parts_of};
 ghost use Rattle.at_nest.specs.VariantMeanings.{HoldsVariant};
 ghost use Rattle.at_nest.specs.Variants.{IsPending};
@@ -324,10 +324,8 @@ fn last_run<A: Algebra>(
 ) -> Result<A::Atom, NestEnd>
     requires whole { JsonRun text.now }
     requires fits { from + length text.now ≤ 2 ^ 28 }
-    requires held { IsOfItems (Kept (A.is_own algebra.now) (A.is_fold algebra.now) (A.is_run algebra.now))
-        (shown body) }
-    ensures { EndsSo (Kept (A.is_own algebra.now) (A.is_fold algebra.now) (A.is_run algebra.now)) (shown body) from
-        text.now result }
+    requires held { IsOfItems (IsAtomOf A.Algebra algebra.now) (shown body) }
+    ensures { EndsSo (IsAtomOf A.Algebra algebra.now) (shown body) from text.now result }
 {
     let atom = algebra.scalar(alloc, text, from)?;
     match read_value(&mut body, alloc, algebra, from, atom)? {
@@ -346,10 +344,8 @@ fn last<A: Algebra>(
 ) -> Result<A::Atom, NestEnd>
     requires pending { IsPending text.now }
     requires fits { from + length text.now ≤ 2 ^ 28 }
-    requires held { IsOfItems (Kept (A.is_own algebra.now) (A.is_fold algebra.now) (A.is_run algebra.now))
-        (shown body) }
-    ensures { EndsSo (Kept (A.is_own algebra.now) (A.is_fold algebra.now) (A.is_run algebra.now)) (shown body) from
-        text.now result }
+    requires held { IsOfItems (IsAtomOf A.Algebra algebra.now) (shown body) }
+    ensures { EndsSo (IsAtomOf A.Algebra algebra.now) (shown body) from text.now result }
 {
     match tail_of(text, from) {
         Tail::Nothing => answer_of(body),
@@ -373,10 +369,8 @@ pub fn finish_span<A: Algebra>(
     requires fits { length bytes.now ≤ 2 ^ 28 }
     requires order { span.from ≤ span.to }
     requires end { span.to ≤ length bytes.now }
-    requires whole { StandsFor (Kept (A.is_own algebra.now) (A.is_fold algebra.now) (A.is_run algebra.now)) span.from
-        (part_of bytes.now span.from span.to) whole }
-    ensures answers { Answers (Kept (A.is_own algebra.now) (A.is_fold algebra.now) (A.is_run algebra.now)) span.from
-        (part_of bytes.now span.from span.to) result }
+    requires whole { StandsFor (IsAtomOf A.Algebra algebra.now) span.from (part_of bytes.now span.from span.to) whole }
+    ensures answers { Answers (IsAtomOf A.Algebra algebra.now) span.from (part_of bytes.now span.from span.to) result }
     ensures lost { parts_of whole ≡ None → result ≡ Err NestEnd.Memory }
 {
     let Some(parts) = whole.into_parts() else {
@@ -396,10 +390,9 @@ fn finish_variant<A: Algebra>(
     requires fits { length bytes.now ≤ 2 ^ 28 }
     requires order { span.from ≤ span.to }
     requires end { span.to ≤ length bytes.now }
-    requires held { HoldsVariant (Kept (A.is_own algebra.now) (A.is_fold algebra.now) (A.is_run algebra.now)) Start.Out
-        span.from (part_of bytes.now span.from span.to) variant }
-    ensures { Answers (Kept (A.is_own algebra.now) (A.is_fold algebra.now) (A.is_run algebra.now)) span.from
-        (part_of bytes.now span.from span.to) result }
+    requires held { HoldsVariant (IsAtomOf A.Algebra algebra.now) Start.Out span.from
+        (part_of bytes.now span.from span.to) variant }
+    ensures { Answers (IsAtomOf A.Algebra algebra.now) span.from (part_of bytes.now span.from span.to) result }
 {
     let mut body = Body::new(alloc);
     match variant {
@@ -441,10 +434,10 @@ pub fn finish<A: Algebra>(
     whole: Fragment<A>,
 ) -> Result<A::Atom, NestEnd>
     requires fits { length bytes.now ≤ 2 ^ 28 }
-    requires whole { StandsFor (Kept (A.is_own algebra.now) (A.is_fold algebra.now) (A.is_run algebra.now))
-        (base_in bytes.now) (drop (base_in bytes.now) bytes.now) whole }
-    ensures answers { Answers (Kept (A.is_own algebra.now) (A.is_fold algebra.now) (A.is_run algebra.now))
-        (base_in bytes.now) (drop (base_in bytes.now) bytes.now) result }
+    requires whole { StandsFor (IsAtomOf A.Algebra algebra.now) (base_in bytes.now) (drop (base_in bytes.now) bytes.now)
+        whole }
+    ensures answers { Answers (IsAtomOf A.Algebra algebra.now) (base_in bytes.now) (drop (base_in bytes.now) bytes.now)
+        result }
     ensures lost { parts_of whole ≡ None → result ≡ Err NestEnd.Memory }
 {
     let span = Span {

@@ -3,7 +3,7 @@
 ghost use Rattle.std.specs.Prelude.{◌≡◌, ℕ, ◌+◌, ◌≤◌, ◌^◌, ◌++◌, true, List, length, IfOk};
 ghost use Rattle.at_text.specs.Spans.{AreNeighbours, IsMerged};
 ghost use Rattle.at_lex.specs.declared.tokens.Start.{Start};
-ghost use Rattle.at_nest.specs.KeptItems.{Kept};
+ghost use Rattle.at_nest.specs.KeptItems.{IsAtomOf};
 ghost use Rattle.at_nest.specs.VariantMeanings.{HoldsVariant};
 ghost use Rattle.at_nest.specs.Slots.{HoldsSome, StandsAs, GoesOn, AreBeside, CanTake, Takes, Stays, slot_in, no_items};
 ghost use Rattle.at_nest.specs.FragmentMeanings.{HoldsEscape, HoldsParts, StandsFor, parts_of};
@@ -68,8 +68,8 @@ fn fragment_of<A: Algebra>(
     parts: Result<Parts<A::Atom>, Memory>,
 ) -> Fragment<A>
     ensures { (at : ℕ) (w : List ℕ)
-        → IfOk parts (HoldsParts (Kept (A.is_own algebra.now) (A.is_fold algebra.now) (A.is_run algebra.now)) at w)
-        → StandsFor (Kept (A.is_own algebra.now) (A.is_fold algebra.now) (A.is_run algebra.now)) at w result }
+        → IfOk parts (HoldsParts (IsAtomOf A.Algebra algebra.now) at w)
+        → StandsFor (IsAtomOf A.Algebra algebra.now) at w result }
 {
     let _ = algebra;
     match parts {
@@ -98,8 +98,7 @@ fn read_parts<A: Algebra>(
     base: u32,
 ) -> Result<Parts<A::Atom>, Memory>
     requires { base + length piece.now ≤ 2 ^ 28 }
-    ensures { IfOk result (HoldsParts (Kept (A.is_own algebra.now) (A.is_fold algebra.now) (A.is_run algebra.now)) base
-        piece.now) }
+    ensures { IfOk result (HoldsParts (IsAtomOf A.Algebra algebra.now) base piece.now) }
 {
     let out = read_variant(alloc, algebra, piece, base, Start::Out)?;
     let string = read_variant(alloc, algebra, piece, base, Start::InString)?;
@@ -116,8 +115,7 @@ fn read_parts<A: Algebra>(
 /// memory is wanted, the fragment is lost.
 pub fn run_block<A: Algebra>(alloc: Global, algebra: &A, piece: &[u8], base: u32) -> Fragment<A>
     requires { base + length piece.now ≤ 2 ^ 28 }
-    ensures { StandsFor (Kept (A.is_own algebra.now) (A.is_fold algebra.now) (A.is_run algebra.now)) base piece.now
-        result }
+    ensures { StandsFor (IsAtomOf A.Algebra algebra.now) base piece.now result }
 {
     let parts = read_parts(alloc, algebra, piece, base);
     fragment_of(alloc, algebra, parts)
@@ -163,9 +161,8 @@ fn taken_from<A: Algebra>(
     variant: &mut Variant<A::Atom>,
     again: bool,
 ) -> Result<Variant<A::Atom>, Memory>
-    requires { HoldsSome (Kept (A.is_own algebra.now) (A.is_fold algebra.now) (A.is_run algebra.now)) variant.old }
-    ensures same { IfOk result (StandsAs (Kept (A.is_own algebra.now) (A.is_fold algebra.now) (A.is_run algebra.now))
-        variant.old) }
+    requires { HoldsSome (IsAtomOf A.Algebra algebra.now) variant.old }
+    ensures same { IfOk result (StandsAs (IsAtomOf A.Algebra algebra.now) variant.old) }
     ensures stays { again ≡ true → variant.new ≡ variant.old }
 {
     if again {
@@ -187,9 +184,9 @@ fn taken<A: Algebra>(
     again: bool,
 ) -> Result<Variant<A::Atom>, Memory>
     requires fits { length bytes.now ≤ 2 ^ 28 }
-    requires held { CanTake (Kept (A.is_own algebra.now) (A.is_fold algebra.now) (A.is_run algebra.now))
+    requires held { CanTake (IsAtomOf A.Algebra algebra.now)
         bytes.now parts.old slot }
-    ensures same { IfOk result (Takes (Kept (A.is_own algebra.now) (A.is_fold algebra.now) (A.is_run algebra.now))
+    ensures same { IfOk result (Takes (IsAtomOf A.Algebra algebra.now)
         bytes.now parts.old slot) }
     ensures stays { Stays (Some slot) again parts.old parts.new }
 {
@@ -215,12 +212,12 @@ fn joined<A: Algebra>(
 ) -> Result<Variant<A::Atom>, Memory>
     requires fits { length bytes.now ≤ 2 ^ 28 }
     requires held { (s : Start) × (at : ℕ) × (w : List ℕ) × (x : List ℕ)
-        × GoesOn (Kept (A.is_own algebra.now) (A.is_fold algebra.now) (A.is_run algebra.now)) bytes.now s at w x left
+        × GoesOn (IsAtomOf A.Algebra algebra.now) bytes.now s at w x left
         right.old wanted }
     ensures union { IfOk result (λ v. (s : Start) (at : ℕ) (w x : List ℕ)
-        → GoesOn (Kept (A.is_own algebra.now) (A.is_fold algebra.now) (A.is_run algebra.now)) bytes.now s at w x left
+        → GoesOn (IsAtomOf A.Algebra algebra.now) bytes.now s at w x left
         right.old wanted
-        → HoldsVariant (Kept (A.is_own algebra.now) (A.is_fold algebra.now) (A.is_run algebra.now)) s at (w ++ x) v) }
+        → HoldsVariant (IsAtomOf A.Algebra algebra.now) s at (w ++ x) v) }
     ensures stays { Stays wanted again right.old right.new }
 {
     match wanted {
@@ -254,12 +251,12 @@ fn merge_parts<A: Algebra>(
 ) -> Result<Parts<A::Atom>, Memory>
     requires fits { length bytes.now ≤ 2 ^ 28 }
     requires beside { (at : ℕ) × (w : List ℕ) × (x : List ℕ)
-        × AreBeside (Kept (A.is_own algebra.now) (A.is_fold algebra.now) (A.is_run algebra.now)) bytes.now at w x left
+        × AreBeside (IsAtomOf A.Algebra algebra.now) bytes.now at w x left
         right }
     ensures { IfOk result (λ p. (at : ℕ) (w x : List ℕ)
-        → AreBeside (Kept (A.is_own algebra.now) (A.is_fold algebra.now) (A.is_run algebra.now)) bytes.now at w x left
+        → AreBeside (IsAtomOf A.Algebra algebra.now) bytes.now at w x left
         right
-        → HoldsParts (Kept (A.is_own algebra.now) (A.is_fold algebra.now) (A.is_run algebra.now)) at (w ++ x) p) }
+        → HoldsParts (IsAtomOf A.Algebra algebra.now) at (w ++ x) p) }
 {
     let Parts {
         from,
@@ -294,10 +291,8 @@ pub fn merge<A: Algebra>(
 ) -> Fragment<A>
     requires fits { length bytes.now ≤ 2 ^ 28 }
     requires neighbours { (i : ℕ) × (j : ℕ) × (k : ℕ)
-        × AreNeighbours (StandsFor (Kept (A.is_own algebra.now) (A.is_fold algebra.now) (A.is_run algebra.now)))
-        bytes.now i j k left right }
-    ensures union { IsMerged (StandsFor (Kept (A.is_own algebra.now) (A.is_fold algebra.now) (A.is_run algebra.now)))
-        bytes.now left right result }
+        × AreNeighbours (StandsFor (IsAtomOf A.Algebra algebra.now)) bytes.now i j k left right }
+    ensures union { IsMerged (StandsFor (IsAtomOf A.Algebra algebra.now)) bytes.now left right result }
     ensures left_lost { parts_of left ≡ None → parts_of result ≡ None }
     ensures right_lost { parts_of right ≡ None → parts_of result ≡ None }
 {

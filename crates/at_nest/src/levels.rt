@@ -7,7 +7,7 @@ ghost use Rattle.at_nest.specs.Shown.{held_of, helds_of, top_of, opened_as, from
 ghost use Rattle.at_nest.specs.Shown.{value_next, name_next, takes_name, takes_value, closes_with, IsStep, AreOwn};
 ghost use Rattle.at_nest.specs.Refusals.{not_in_level};
 ghost use Rattle.at_nest.specs.Nests.{nest_in};
-ghost use Rattle.at_nest.specs.KeptItems.{Kept, IsHeld, AddsTo, GainsAll, free};
+ghost use Rattle.at_nest.specs.KeptItems.{IsHeld, AddsTo, GainsAll, free, IsAtomOf};
 
 use crate::algebra::{Algebra, Member};
 use at_lex::{Bracket, TokenKind, Units};
@@ -433,7 +433,7 @@ fn array_value<A: Algebra>(
 ) -> Result<Step<A::Atom>, Memory>
     requires level { AreOwn (A.is_own algebra.now) (held_of (Level.Array level)) }
     requires atom { A.is_own algebra.now atom }
-    ensures { IfOk result (AddsTo (Kept (A.is_own algebra.now) (A.is_fold algebra.now) (A.is_run algebra.now))
+    ensures { IfOk result (AddsTo (IsAtomOf A.Algebra algebra.now)
         (held_of (Level.Array level)) atom) }
 {
     let ArrayLevel {
@@ -460,7 +460,7 @@ pub fn with_value<A: Algebra>(
 ) -> Result<Step<A::Atom>, Memory>
     requires level { AreOwn (A.is_own algebra.now) (held_of level) }
     requires atom { A.is_own algebra.now atom }
-    ensures { IfOk result (AddsTo (Kept (A.is_own algebra.now) (A.is_fold algebra.now) (A.is_run algebra.now))
+    ensures { IfOk result (AddsTo (IsAtomOf A.Algebra algebra.now)
         (held_of level) atom) }
 {
     match level {
@@ -480,7 +480,7 @@ pub fn with_items<A: Algebra>(
 ) -> Result<Vec<A::Atom>, Memory>
     requires items { All (A.is_own algebra.now) items.items }
     requires more { All (A.is_own algebra.now) more.items }
-    ensures { IfOk result (λ all. GainsAll (Kept (A.is_own algebra.now) (A.is_fold algebra.now) (A.is_run algebra.now))
+    ensures { IfOk result (λ all. GainsAll (IsAtomOf A.Algebra algebra.now)
         items.items more.items all.items) }
 {
     for atom in more {
@@ -498,7 +498,7 @@ pub fn closed<A: Algebra>(
     requires own { AreOwn (A.is_own algebra.now) (held_of level) }
     ensures own { IfOk result (A.is_own algebra.now) }
     ensures fold { IfOk result (λ atom. (l : ModelLevel Tree)
-        → IsHeld (Kept (A.is_own algebra.now) (A.is_fold algebra.now) (A.is_run algebra.now)) (held_of level) l
+        → IsHeld (IsAtomOf A.Algebra algebra.now) (held_of level) l
         → A.is_fold algebra.now atom (built free l.bracket l.from l.inside)) }
 {
     match level {

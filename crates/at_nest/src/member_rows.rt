@@ -3,7 +3,8 @@
 ghost use Rattle.std.specs.Prelude.{◌≡◌, ◌≤◌, ◌^◌, [], length, All, IfOk};
 ghost use Rattle.at_nest.specs.Shown.{held_of, AreOwn, shown};
 ghost use Rattle.at_nest.specs.MemberMarks.{Awaits};
-ghost use Rattle.at_nest.specs.KeptItems.{Kept, IsOfItems, HasName, HasMembers, IsBehindComma, NamesMember, GainsMembers};
+ghost use Rattle.at_nest.specs.KeptItems.{IsAtomOf};
+ghost use Rattle.at_nest.specs.KeptItems.{IsOfItems, HasName, HasMembers, IsBehindComma, NamesMember, GainsMembers};
 ghost use Rattle.at_nest.specs.KeptItems.{BeginsMembers, LengthensMembers, PushesMember, PushesAwaited, PushesMembers};
 ghost use Rattle.at_nest.specs.KeptItems.{PutsMembers};
 
@@ -69,7 +70,7 @@ fn keep_member<A: Algebra>(
 ) -> Result<Option<Halt>, Memory>
     requires { (shown body.old).levels ≡ [] }
     ensures { IfOk result (λ r.
-        PushesMember (Kept (A.is_own algebra.now) (A.is_fold algebra.now) (A.is_run algebra.now))
+        PushesMember (IsAtomOf A.Algebra algebra.now)
         (shown body.old) (shown body.new) r member value) }
 {
     let _ = algebra;
@@ -96,8 +97,7 @@ pub fn keep_awaited<A: Algebra>(
 ) -> Result<Option<Halt>, Memory>
     requires outside { (shown body.old).levels ≡ [] }
     requires awaits { Awaits (shown body.old).outer member }
-    ensures { IfOk result (λ r. PushesAwaited (Kept (A.is_own algebra.now) (A.is_fold algebra.now)
-        (A.is_run algebra.now))
+    ensures { IfOk result (λ r. PushesAwaited (IsAtomOf A.Algebra algebra.now)
         (shown body.old) (shown body.new) r value) }
 {
     body.outer.truncate(body.outer.len().saturating_sub(3));
@@ -133,7 +133,7 @@ fn with_members<A: Algebra>(
     requires fits { length bytes.now ≤ 2 ^ 28 }
     requires names { All (HasName bytes.now) more.items }
     ensures { IfOk result (λ all.
-        GainsMembers (Kept (A.is_own algebra.now) (A.is_fold algebra.now) (A.is_run algebra.now))
+        GainsMembers (IsAtomOf A.Algebra algebra.now)
         bytes.now members.items more.items all.items) }
 {
     let _ = algebra;
@@ -155,9 +155,8 @@ fn refuse_members<A: Algebra>(
     requires fits { length bytes.now ≤ 2 ^ 28 }
     requires level { AreOwn (A.is_own algebra.now) (held_of (Level.Array level)) }
     requires comma { IsBehindComma (held_of (Level.Array level)) }
-    requires row { HasMembers (Kept (A.is_own algebra.now) (A.is_fold algebra.now) (A.is_run algebra.now)) bytes.now
-        row }
-    ensures { IfOk result (λ r. PutsMembers (Kept (A.is_own algebra.now) (A.is_fold algebra.now) (A.is_run algebra.now))
+    requires row { HasMembers (IsAtomOf A.Algebra algebra.now) bytes.now row }
+    ensures { IfOk result (λ r. PutsMembers (IsAtomOf A.Algebra algebra.now)
         bytes.now (shown body.old) (shown body.new) r (held_of (Level.Array level)) row) }
 {
     let name = row.items[0].name;
@@ -181,9 +180,8 @@ fn put_members<A: Algebra>(
     requires fits { length bytes.now ≤ 2 ^ 28 }
     requires level { AreOwn (A.is_own algebra.now) (held_of level) }
     requires comma { IsBehindComma (held_of level) }
-    requires row { HasMembers (Kept (A.is_own algebra.now) (A.is_fold algebra.now) (A.is_run algebra.now)) bytes.now
-        row }
-    ensures { IfOk result (λ r. PutsMembers (Kept (A.is_own algebra.now) (A.is_fold algebra.now) (A.is_run algebra.now))
+    requires row { HasMembers (IsAtomOf A.Algebra algebra.now) bytes.now row }
+    ensures { IfOk result (λ r. PutsMembers (IsAtomOf A.Algebra algebra.now)
         bytes.now (shown body.old) (shown body.new) r (held_of level) row) }
 {
     match level {
@@ -212,12 +210,9 @@ pub fn add_members<A: Algebra>(
     row: MemberRow<A::Atom>,
 ) -> Result<Option<Halt>, Memory>
     requires fits { length bytes.now ≤ 2 ^ 28 }
-    requires held { IsOfItems (Kept (A.is_own algebra.now) (A.is_fold algebra.now) (A.is_run algebra.now))
-        (shown body.old) }
-    requires row { HasMembers (Kept (A.is_own algebra.now) (A.is_fold algebra.now) (A.is_run algebra.now)) bytes.now
-        row }
-    ensures { IfOk result (λ r. PushesMembers (Kept (A.is_own algebra.now) (A.is_fold algebra.now)
-        (A.is_run algebra.now))
+    requires held { IsOfItems (IsAtomOf A.Algebra algebra.now) (shown body.old) }
+    requires row { HasMembers (IsAtomOf A.Algebra algebra.now) bytes.now row }
+    ensures { IfOk result (λ r. PushesMembers (IsAtomOf A.Algebra algebra.now)
         bytes.now (shown body.old) (shown body.new) r row) }
 {
     match body.innermost(alloc) {

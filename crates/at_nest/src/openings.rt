@@ -3,7 +3,7 @@
 ghost use Rattle.std.specs.Prelude.{◌≡◌, ℕ, ◌+◌, ◌≤◌, ◌^◌, List, ◌∷◌, length, IfOk};
 ghost use Rattle.at_lex.specs.Spans.{opening};
 ghost use Rattle.at_nest.specs.Shown.{shown};
-ghost use Rattle.at_nest.specs.KeptItems.{Kept, IsOfItems};
+ghost use Rattle.at_nest.specs.KeptItems.{IsOfItems, IsAtomOf};
 ghost use Rattle.at_nest.specs.Reading.{ReadsAhead};
 
 use crate::algebra::{Algebra, Attempt};
@@ -70,7 +70,7 @@ fn opened<A: Algebra>(
 ) -> Result<Read, Memory>
     requires begins { (more : List ℕ) × (ahead.now ≡ opening bracket ∷ more) }
     requires fits { at + length ahead.now ≤ 2 ^ 28 }
-    ensures { IfOk result (λ r. ReadsAhead (Kept (A.is_own algebra.now) (A.is_fold algebra.now) (A.is_run algebra.now))
+    ensures { IfOk result (λ r. ReadsAhead (IsAtomOf A.Algebra algebra.now)
         (shown body.old) (shown body.new) r.halt at ahead.now r.to) }
 {
     let _ = algebra;
@@ -96,9 +96,8 @@ pub fn read_opening<A: Algebra>(
 ) -> Result<Read, Memory>
     requires begins { (more : List ℕ) × (ahead.now ≡ opening bracket ∷ more) }
     requires fits { at + length ahead.now ≤ 2 ^ 28 }
-    requires held { IsOfItems (Kept (A.is_own algebra.now) (A.is_fold algebra.now) (A.is_run algebra.now))
-        (shown body.old) }
-    ensures { IfOk result (λ r. ReadsAhead (Kept (A.is_own algebra.now) (A.is_fold algebra.now) (A.is_run algebra.now))
+    requires held { IsOfItems (IsAtomOf A.Algebra algebra.now) (shown body.old) }
+    ensures { IfOk result (λ r. ReadsAhead (IsAtomOf A.Algebra algebra.now)
         (shown body.old) (shown body.new) r.halt at ahead.now r.to) }
 {
     let seen = tries.window(at, ahead.len());

@@ -4,7 +4,7 @@ ghost use Rattle.std.specs.Prelude.{◌≡◌, ℕ, ◌+◌, ◌<◌, ◌≤◌,
 ghost use Rattle.at_lex.specs.Runs.{JsonRun};
 ghost use Rattle.at_lex.specs.Spans.{begins_run, is_broken, IsText, IsToken as IsLexed};
 ghost use Rattle.at_nest.specs.Shown.{shown};
-ghost use Rattle.at_nest.specs.KeptItems.{Kept, IsOfItems};
+ghost use Rattle.at_nest.specs.KeptItems.{IsOfItems, IsAtomOf};
 ghost use Rattle.at_nest.specs.Unions.{IsToken};
 ghost use Rattle.at_nest.specs.Reading.{stop_within, within_from, Reads, ReadsToken, ReadsRun};
 
@@ -52,9 +52,8 @@ fn read_run<A: Algebra>(
 ) -> Result<Option<Halt>, Memory>
     requires whole { JsonRun text.now }
     requires fits { at + length text.now ≤ 2 ^ 28 }
-    requires held { IsOfItems (Kept (A.is_own algebra.now) (A.is_fold algebra.now) (A.is_run algebra.now))
-        (shown body.old) }
-    ensures { IfOk result (λ r. ReadsRun (Kept (A.is_own algebra.now) (A.is_fold algebra.now) (A.is_run algebra.now))
+    requires held { IsOfItems (IsAtomOf A.Algebra algebra.now) (shown body.old) }
+    ensures { IfOk result (λ r. ReadsRun (IsAtomOf A.Algebra algebra.now)
         (shown body.old) (shown body.new) r at text.now) }
 {
     let atom = algebra.scalar(alloc, text, at)?;
@@ -72,10 +71,9 @@ pub fn read_token<A: Algebra>(
 ) -> Result<Option<Halt>, Memory>
     requires token { (after : List ℕ) × IsLexed token.from text.now after token }
     requires fits { token.from + length text.now ≤ 2 ^ 28 }
-    requires held { IsOfItems (Kept (A.is_own algebra.now) (A.is_fold algebra.now) (A.is_run algebra.now))
-        (shown body.old) }
+    requires held { IsOfItems (IsAtomOf A.Algebra algebra.now) (shown body.old) }
     ensures reads { IfOk result
-        (λ r. ReadsToken (Kept (A.is_own algebra.now) (A.is_fold algebra.now) (A.is_run algebra.now))
+        (λ r. ReadsToken (IsAtomOf A.Algebra algebra.now)
         (shown body.old) (shown body.new) r text.now token) }
     ensures whole { IfOk result (λ r. r ≡ None → is_broken token.kind ≡ false) }
 {
@@ -104,9 +102,8 @@ fn cut_text<A: Algebra>(
 ) -> Result<Option<Halt>, Memory>
     requires closed { IsText text.now }
     requires fits { at + length text.now ≤ 2 ^ 28 }
-    requires held { IsOfItems (Kept (A.is_own algebra.now) (A.is_fold algebra.now) (A.is_run algebra.now))
-        (shown body.old) }
-    ensures { IfOk result (λ r. Reads (Kept (A.is_own algebra.now) (A.is_fold algebra.now) (A.is_run algebra.now))
+    requires held { IsOfItems (IsAtomOf A.Algebra algebra.now) (shown body.old) }
+    ensures { IfOk result (λ r. Reads (IsAtomOf A.Algebra algebra.now)
         (shown body.old) (shown body.new) r at text.now) }
 {
     let taken = take_text(text);
@@ -127,9 +124,8 @@ pub fn cut_run<A: Algebra>(
 ) -> Result<Option<Halt>, Memory>
     requires begins { begins_run text.now ≡ true }
     requires fits { at + length text.now ≤ 2 ^ 28 }
-    requires held { IsOfItems (Kept (A.is_own algebra.now) (A.is_fold algebra.now) (A.is_run algebra.now))
-        (shown body.old) }
-    ensures { IfOk result (λ r. Reads (Kept (A.is_own algebra.now) (A.is_fold algebra.now) (A.is_run algebra.now))
+    requires held { IsOfItems (IsAtomOf A.Algebra algebra.now) (shown body.old) }
+    ensures { IfOk result (λ r. Reads (IsAtomOf A.Algebra algebra.now)
         (shown body.old) (shown body.new) r at text.now) }
 {
     match check_run(text) {
@@ -148,9 +144,8 @@ pub fn cut_token<A: Algebra>(
 ) -> Result<Option<Halt>, Memory>
     requires token { (more : List ℕ) × IsToken text.now more }
     requires fits { at + length text.now ≤ 2 ^ 28 }
-    requires held { IsOfItems (Kept (A.is_own algebra.now) (A.is_fold algebra.now) (A.is_run algebra.now))
-        (shown body.old) }
-    ensures { IfOk result (λ r. Reads (Kept (A.is_own algebra.now) (A.is_fold algebra.now) (A.is_run algebra.now))
+    requires held { IsOfItems (IsAtomOf A.Algebra algebra.now) (shown body.old) }
+    ensures { IfOk result (λ r. Reads (IsAtomOf A.Algebra algebra.now)
         (shown body.old) (shown body.new) r at text.now) }
 {
     if text.is_empty() {

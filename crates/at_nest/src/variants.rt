@@ -3,7 +3,7 @@
 ghost use Rattle.std.specs.Prelude.{◌≡◌, ℕ, ◌+◌, ◌-◌, ◌≤◌, ◌^◌, ◌++◌, List, [], length, take, drop, IfOk};
 ghost use Rattle.at_lex.specs.declared.tokens.Start.{Start};
 ghost use Rattle.at_nest.specs.Shown.{shown};
-ghost use Rattle.at_nest.specs.KeptItems.{Kept};
+ghost use Rattle.at_nest.specs.KeptItems.{IsAtomOf};
 ghost use Rattle.at_nest.specs.Reading.{HasBytes, pend_from};
 ghost use Rattle.at_nest.specs.Slots.{end_in};
 ghost use Rattle.at_nest.specs.VariantMeanings.{HoldsVariant, HoldsBehind, CanMeet, Meets, Neighbours, HaveUnion};
@@ -84,7 +84,7 @@ fn read_items<A: Algebra>(
     requires fits { base + length piece.now ≤ 2 ^ 28 }
     requires behind { HasBytes base piece.now lexer.at lexer.rest }
     requires out { lexer.state ≡ Start.Out }
-    ensures { IfOk result (HoldsBehind (Kept (A.is_own algebra.now) (A.is_fold algebra.now) (A.is_run algebra.now)) base
+    ensures { IfOk result (HoldsBehind (IsAtomOf A.Algebra algebra.now) base
         piece.now
         lexer.entry.at lexer.entry.rest lead) }
 {
@@ -149,8 +149,7 @@ pub fn read_variant<A: Algebra>(
     start: Start,
 ) -> Result<Variant<A::Atom>, Memory>
     requires { base + length piece.now ≤ 2 ^ 28 }
-    ensures { IfOk result (HoldsVariant (Kept (A.is_own algebra.now) (A.is_fold algebra.now) (A.is_run algebra.now))
-        start base piece.now) }
+    ensures { IfOk result (HoldsVariant (IsAtomOf A.Algebra algebra.now) start base piece.now) }
 {
     let (lead, lexer) = Lexer::new(piece, base, start);
     match lead {
@@ -192,10 +191,10 @@ pub fn join_items<A: Algebra>(
     requires fits { length bytes.now ≤ 2 ^ 28 }
     requires order { from ≤ to }
     requires end { to ≤ length bytes.now }
-    requires held { CanMeet (Kept (A.is_own algebra.now) (A.is_fold algebra.now) (A.is_run algebra.now)) bytes.now
+    requires held { CanMeet (IsAtomOf A.Algebra algebra.now) bytes.now
         (shown body.old) (shown behind)
         from (take (to - from) (drop from bytes.now)) }
-    ensures { IfOk result (λ r. Meets (Kept (A.is_own algebra.now) (A.is_fold algebra.now) (A.is_run algebra.now))
+    ensures { IfOk result (λ r. Meets (IsAtomOf A.Algebra algebra.now)
         bytes.now
         (shown body.old) (shown behind) (shown body.new) r from (take (to - from) (drop from bytes.now))) }
 {
@@ -216,12 +215,12 @@ pub fn join_variants<A: Algebra>(
 ) -> Result<Variant<A::Atom>, Memory>
     requires fits { length bytes.now ≤ 2 ^ 28 }
     requires held { (s : Start) × (at : ℕ) × (w : List ℕ) × (x : List ℕ)
-        × HaveUnion (Kept (A.is_own algebra.now) (A.is_fold algebra.now) (A.is_run algebra.now)) bytes.now s at w x left
+        × HaveUnion (IsAtomOf A.Algebra algebra.now) bytes.now s at w x left
         right }
     ensures { IfOk result (λ v. (s : Start) (at : ℕ) (w x : List ℕ)
-        → HaveUnion (Kept (A.is_own algebra.now) (A.is_fold algebra.now) (A.is_run algebra.now)) bytes.now s at w x left
+        → HaveUnion (IsAtomOf A.Algebra algebra.now) bytes.now s at w x left
         right
-        → HoldsVariant (Kept (A.is_own algebra.now) (A.is_fold algebra.now) (A.is_run algebra.now)) s at (w ++ x) v) }
+        → HoldsVariant (IsAtomOf A.Algebra algebra.now) s at (w ++ x) v) }
 {
     match left {
         Variant::AllLead { .. } => Ok(right),
@@ -246,12 +245,12 @@ fn join_behind<A: Algebra>(
 ) -> Result<Variant<A::Atom>, Memory>
     requires fits { length bytes.now ≤ 2 ^ 28 }
     requires held { (s : Start) × (at : ℕ) × (w : List ℕ) × (x : List ℕ)
-        × Neighbours (Kept (A.is_own algebra.now) (A.is_fold algebra.now) (A.is_run algebra.now)) bytes.now s at w x
+        × Neighbours (IsAtomOf A.Algebra algebra.now) bytes.now s at w x
         lead (shown body) from right }
     ensures { IfOk result (λ v. (s : Start) (at : ℕ) (w x : List ℕ)
-        → Neighbours (Kept (A.is_own algebra.now) (A.is_fold algebra.now) (A.is_run algebra.now)) bytes.now s at w x
+        → Neighbours (IsAtomOf A.Algebra algebra.now) bytes.now s at w x
         lead (shown body) from right
-        → HoldsVariant (Kept (A.is_own algebra.now) (A.is_fold algebra.now) (A.is_run algebra.now)) s at (w ++ x) v) }
+        → HoldsVariant (IsAtomOf A.Algebra algebra.now) s at (w ++ x) v) }
 {
     match right {
         Variant::AllLead { end } => Ok(Variant::Whole {
