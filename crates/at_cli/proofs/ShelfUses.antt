@@ -12,7 +12,7 @@ use Rattle.at_cli.specs.declared.ending.Ending.{Ending}
 use Rattle.at_cli.specs.declared.ending.Ending.TheVariants.{ReadFailed, TooLarge}
 use Rattle.at_cli.specs.declared.line.Line.{Line}
 use Rattle.at_cli.specs.Made.{is_made, IsMadeText}
-use Rattle.at_cli.specs.Texts.{read_line, size_line}
+use Rattle.at_cli.specs.Texts.{unread_line, size_line}
 use Rattle.at_cli.specs.Outcomes.{Outcome, stopped, has_right_count, HasBytesBy, HasBytes, Sized}
 use Rattle.at_cli.specs.Failures.{asked_name, asked_second, asked_names, begun_with, last_begun, WasAsked, AsksFor, HaveSized, FailedOn}
 use Rattle.at_cli.specs.Endings.{status_of, line_of, outcome_by, Ends}
@@ -113,7 +113,7 @@ both_sized (Some told) [] ms h k = k
 both_sized (Some told) (n ∷ ns) ms (one, h) k = (one, both_sized (Some told) ns ms h k)
 
 pub failed_name : (name : List ℕ) (more : List (List ℕ)) (files : Option Files) (f f1 b b1 k t t1 : ℕ) (n n1 : Option (List ℕ)) → is_made name ≡ false → Rose f f1 → k ≡ b1
-    → WasAsked (asked_name name) files b b1 t t1 n n1 → FailedOn (asked_name name ++ more) (read_line name) files f f1 b b1 k t t1 n n1
+    → WasAsked (asked_name name) files b b1 t t1 n n1 → FailedOn (asked_name name ++ more) (unread_line name) files f f1 b b1 k t t1 n n1
 failed_name name more files f f1 b b1 k t t1 n n1 e rose broken asked = record {
   before = [];
   name = name;

@@ -4,7 +4,7 @@ use Rattle.at_io.specs.Files.{Files}
 use Rattle.at_query.specs.declared.queries.Query.{Query}
 use Rattle.at_cli.specs.declared.line.Line.{Line}
 use Rattle.at_cli.specs.Outcomes.{Outcome, HasBytesOutcome, HasPairOutcome}
-use Rattle.at_cli.specs.Texts.{usage_line, query_line, files_line, fault_line, read_line, size_line, memory_line}
+use Rattle.at_cli.specs.Texts.{usage_line, query_line, files_line, fault_line, unread_line, size_line, memory_line}
 use Rattle.at_cli.specs.declared.ending.Ending.{Ending}
 use Rattle.at_cli.specs.declared.ending.Ending.TheVariants.{Usage, QueryFault, Names, Faulty, ReadFailed, TooLarge}
 use Rattle.at_cli.specs.declared.ending.Ending.TheVariants.{NoMemory, Answered}
@@ -32,7 +32,7 @@ line_of (Faulty name fault) = fault_line name fault
 line_of Usage = usage_line
 line_of (QueryFault at) = query_line at
 line_of Names = files_line
-line_of (ReadFailed name) = read_line name
+line_of (ReadFailed name) = unread_line name
 line_of NoMemory = memory_line
 line_of (TooLarge name) = size_line name
 

@@ -3,9 +3,10 @@ use Rattle.std.specs.Prelude.{◌≡◌, ◌+◌, ◌*◌, ◌≤◌, ◌^◌, �
 use Rattle.std.specs.Prelude.{None, IfSome}
 use Rattle.at_io.specs.Counts.{next_count, Rose}
 use Rattle.at_io.specs.Files.{Files, bytes_named, name_among}
+use Rattle.at_io.specs.declared.shelf.Shelf.{Ghosts}
 use Rattle.at_cli.specs.declared.line.Line.{Line}
 use Rattle.at_cli.specs.Made.{is_made}
-use Rattle.at_cli.specs.Texts.{read_line}
+use Rattle.at_cli.specs.Texts.{unread_line}
 
 -- the name, unless it is a made file's, of which no shelf is asked
 abbrev pub asked_name : List ℕ → List (List ℕ)
@@ -61,8 +62,23 @@ pub record FailedOn (names : List (List ℕ)) (line : List ℕ) (files : Option 
   pub name : List ℕ
   pub behind : List (List ℕ)
   pub in_turn : names ≡ before ++ (name ∷ behind)
-  pub told : line ≡ read_line name
+  pub told : line ≡ unread_line name
   pub cause : Rose faults faults'
   pub broken : broken' ≡ begins'
   pub was_asked : WasAsked (before ++ (name ∷ [])) files begins begins' taken taken' named named'
   pub before_sized : IfSome files (λ told. HaveSized told before)
+
+-- the same of a shelf before and after, by all that it tells of itself
+module _ {S : Type 0} (shelves : Ghosts S) where
+  abbrev pub ShelfWasAsked : List (List ℕ) → S → S → Type 0
+  ShelfWasAsked names before after = WasAsked names (shelves.files before) (shelves.begins before)
+      (shelves.begins after) (shelves.taken before) (shelves.taken after) (shelves.named before) (shelves.named after)
+
+  abbrev pub ShelfAsksFor : List (List ℕ) → S → S → Type 0
+  ShelfAsksFor names before after = AsksFor names (shelves.files before) (shelves.begins before)
+      (shelves.begins after) (shelves.taken before) (shelves.taken after) (shelves.named before) (shelves.named after)
+
+  abbrev pub ShelfFailedOn : List (List ℕ) → List ℕ → S → S → Type 0
+  ShelfFailedOn names line before after = FailedOn names line (shelves.files before) (shelves.faults before)
+      (shelves.faults after) (shelves.begins before) (shelves.begins after) (shelves.broken after)
+      (shelves.taken before) (shelves.taken after) (shelves.named before) (shelves.named after)

@@ -29,8 +29,8 @@ files_line = codes "files: join takes two, every other verb one\n"
 abbrev pub fault_line : List ℕ → Fault → List ℕ
 fault_line name fault = name ++ codes ": " ++ kind_name fault.kind ++ codes " at " ++ decimal fault.at ++ codes "\n"
 
-abbrev pub read_line : List ℕ → List ℕ
-read_line name = name ++ codes ": read failed\n"
+abbrev pub unread_line : List ℕ → List ℕ
+unread_line name = name ++ codes ": read failed\n"
 
 abbrev pub size_line : List ℕ → List ℕ
 size_line name = name ++ codes ": more than 268435456 bytes\n"

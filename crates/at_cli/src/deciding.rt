@@ -7,7 +7,7 @@ ghost use Rattle.at_run.specs.Answers.{IfFound};
 ghost use Rattle.at_cli.specs.Answers.{HasFaultAs, IsAnswerAs, IsJoinAs, IsJoinFaultAs};
 ghost use Rattle.at_cli.specs.LineOf.{form_of as form_told, KeepsLimits};
 ghost use Rattle.at_cli.specs.Gates.{PassesGate};
-ghost use Rattle.at_cli.specs.Failures.{asked_names, asked_second, WasAsked, AsksFor, FailedOn};
+ghost use Rattle.at_cli.specs.Failures.{ShelfWasAsked, ShelfAsksFor, ShelfFailedOn, asked_names, asked_second};
 ghost use Rattle.at_cli.specs.Outcomes.{has_right_count as count_is_right, Sized, HasPairOutcome, HasFilesOutcome};
 ghost use Rattle.at_cli.specs.Outcomes.{HasCountedOutcome, HasLineOutcome, IsLineRefused, IsQueryRefused};
 ghost use Rattle.at_cli.specs.Outcomes.{IsQueryAccepted, IsLineAccepted};
@@ -200,12 +200,9 @@ fn end_of_second<S: Shelf, G: Gate, R: Threads + Sync>(
         → Ends (λ told. Sized told second (HasPairOutcome line query.now second a.now)) (S.files shelf.old) result }
     ensures status { status_of result ≢ 2 }
     ensures failed { status_of result ≡ 3
-        → FailedOn (asked_second line.second) (line_of result) (S.files shelf.old) (S.faults shelf.old)
-        (S.faults shelf.new) (S.begins shelf.old) (S.begins shelf.new) (S.broken shelf.new) (S.taken shelf.old)
-        (S.taken shelf.new) (S.named shelf.old) (S.named shelf.new) }
+        → ShelfFailedOn S.Shelf (asked_second line.second) (line_of result) shelf.old shelf.new }
     ensures large { status_of result ≡ 6 → S.taken shelf.old + (2 ^ 28 + 1) ≤ S.taken shelf.new }
-    ensures asked { WasAsked (asked_second line.second) (S.files shelf.old) (S.begins shelf.old) (S.begins shelf.new)
-        (S.taken shelf.old) (S.taken shelf.new) (S.named shelf.old) (S.named shelf.new) }
+    ensures asked { ShelfWasAsked S.Shelf (asked_second line.second) shelf.old shelf.new }
     ensures same_files { S.files shelf.new ≡ S.files shelf.old }
     ensures passes { status_of result ≡ 0 → PassesGate (G.given_up gate.now) line }
 {
@@ -245,12 +242,9 @@ fn end_of_two<S: Shelf, G: Gate, R: Threads + Sync>(
         → Ends (HasFilesOutcome (Some second) line query.now) (S.files shelf.old) result }
     ensures status { status_of result ≢ 2 }
     ensures failed { status_of result ≡ 3
-        → FailedOn (asked_names line) (line_of result) (S.files shelf.old) (S.faults shelf.old) (S.faults shelf.new)
-        (S.begins shelf.old) (S.begins shelf.new) (S.broken shelf.new) (S.taken shelf.old) (S.taken shelf.new)
-        (S.named shelf.old) (S.named shelf.new) }
+        → ShelfFailedOn S.Shelf (asked_names line) (line_of result) shelf.old shelf.new }
     ensures large { status_of result ≡ 6 → S.taken shelf.old + (2 ^ 28 + 1) ≤ S.taken shelf.new }
-    ensures asked { AsksFor (asked_names line) (S.files shelf.old) (S.begins shelf.old) (S.begins shelf.new)
-        (S.taken shelf.old) (S.taken shelf.new) (S.named shelf.old) (S.named shelf.new) }
+    ensures asked { ShelfAsksFor S.Shelf (asked_names line) shelf.old shelf.new }
     ensures same_files { S.files shelf.new ≡ S.files shelf.old }
     ensures passes { status_of result ≡ 0 → PassesGate (G.given_up gate.now) line }
 {
@@ -278,12 +272,9 @@ fn end_of_one<S: Shelf, G: Gate, R: Threads + Sync>(
     ensures outcome { Ends (HasFilesOutcome None line query.now) (S.files shelf.old) result }
     ensures status { status_of result ≢ 2 }
     ensures failed { status_of result ≡ 3
-        → FailedOn (asked_names line) (line_of result) (S.files shelf.old) (S.faults shelf.old) (S.faults shelf.new)
-        (S.begins shelf.old) (S.begins shelf.new) (S.broken shelf.new) (S.taken shelf.old) (S.taken shelf.new)
-        (S.named shelf.old) (S.named shelf.new) }
+        → ShelfFailedOn S.Shelf (asked_names line) (line_of result) shelf.old shelf.new }
     ensures large { status_of result ≡ 6 → S.taken shelf.old + (2 ^ 28 + 1) ≤ S.taken shelf.new }
-    ensures asked { AsksFor (asked_names line) (S.files shelf.old) (S.begins shelf.old) (S.begins shelf.new)
-        (S.taken shelf.old) (S.taken shelf.new) (S.named shelf.old) (S.named shelf.new) }
+    ensures asked { ShelfAsksFor S.Shelf (asked_names line) shelf.old shelf.new }
     ensures same_files { S.files shelf.new ≡ S.files shelf.old }
     ensures passes { status_of result ≡ 0 → PassesGate (G.given_up gate.now) line }
 {
@@ -310,12 +301,9 @@ fn end_of_files<S: Shelf, G: Gate, R: Threads + Sync>(
     ensures outcome { Ends (HasFilesOutcome line.second line query.now) (S.files shelf.old) result }
     ensures status { status_of result ≢ 2 }
     ensures failed { status_of result ≡ 3
-        → FailedOn (asked_names line) (line_of result) (S.files shelf.old) (S.faults shelf.old) (S.faults shelf.new)
-        (S.begins shelf.old) (S.begins shelf.new) (S.broken shelf.new) (S.taken shelf.old) (S.taken shelf.new)
-        (S.named shelf.old) (S.named shelf.new) }
+        → ShelfFailedOn S.Shelf (asked_names line) (line_of result) shelf.old shelf.new }
     ensures large { status_of result ≡ 6 → S.taken shelf.old + (2 ^ 28 + 1) ≤ S.taken shelf.new }
-    ensures asked { AsksFor (asked_names line) (S.files shelf.old) (S.begins shelf.old) (S.begins shelf.new)
-        (S.taken shelf.old) (S.taken shelf.new) (S.named shelf.old) (S.named shelf.new) }
+    ensures asked { ShelfAsksFor S.Shelf (asked_names line) shelf.old shelf.new }
     ensures same_files { S.files shelf.new ≡ S.files shelf.old }
     ensures passes { status_of result ≡ 0 → PassesGate (G.given_up gate.now) line }
 {
@@ -365,13 +353,10 @@ fn end_of_query<S: Shelf, G: Gate, R: Threads + Sync>(
     ensures refused { status_of result ≡ 2 → IsQueryRefused line query.now (line_of result) × (shelf.new ≡ shelf.old) }
     ensures accepted { status_of result ≢ 2 → IsQueryAccepted line query.now }
     ensures failed { status_of result ≡ 3
-        → FailedOn (asked_names line) (line_of result) (S.files shelf.old) (S.faults shelf.old) (S.faults shelf.new)
-        (S.begins shelf.old) (S.begins shelf.new) (S.broken shelf.new) (S.taken shelf.old) (S.taken shelf.new)
-        (S.named shelf.old) (S.named shelf.new) }
+        → ShelfFailedOn S.Shelf (asked_names line) (line_of result) shelf.old shelf.new }
     ensures large { status_of result ≡ 6 → S.taken shelf.old + (2 ^ 28 + 1) ≤ S.taken shelf.new }
     ensures asked { (shelf.new ≡ shelf.old) ⊎ (IsQueryAccepted line query.now
-        × AsksFor (asked_names line) (S.files shelf.old) (S.begins shelf.old) (S.begins shelf.new) (S.taken shelf.old)
-        (S.taken shelf.new) (S.named shelf.old) (S.named shelf.new)) }
+        × ShelfAsksFor S.Shelf (asked_names line) shelf.old shelf.new) }
     ensures same_files { S.files shelf.new ≡ S.files shelf.old }
     ensures passes { status_of result ≡ 0 → PassesGate (G.given_up gate.now) line }
 {
@@ -395,13 +380,10 @@ pub fn end_of_line<S: Shelf, G: Gate, R: Threads + Sync>(
     ensures refuses { (refusal : List ℕ) → IsLineRefused line refusal → (status_of result ≡ 2)
         ⊎ (status_of result ≡ 5) }
     ensures failed { status_of result ≡ 3 → IsLineAccepted line
-        × FailedOn (asked_names line) (line_of result) (S.files shelf.old) (S.faults shelf.old) (S.faults shelf.new)
-        (S.begins shelf.old) (S.begins shelf.new) (S.broken shelf.new) (S.taken shelf.old) (S.taken shelf.new)
-        (S.named shelf.old) (S.named shelf.new) }
+        × ShelfFailedOn S.Shelf (asked_names line) (line_of result) shelf.old shelf.new }
     ensures large { status_of result ≡ 6 → S.taken shelf.old + (2 ^ 28 + 1) ≤ S.taken shelf.new }
     ensures asked { (shelf.new ≡ shelf.old) ⊎ (IsLineAccepted line
-        × AsksFor (asked_names line) (S.files shelf.old) (S.begins shelf.old) (S.begins shelf.new) (S.taken shelf.old)
-        (S.taken shelf.new) (S.named shelf.old) (S.named shelf.new)) }
+        × ShelfAsksFor S.Shelf (asked_names line) shelf.old shelf.new) }
     ensures same_files { S.files shelf.new ≡ S.files shelf.old }
     ensures passes { status_of result ≡ 0 → PassesGate (G.given_up gate.now) line }
 {

@@ -1,27 +1,32 @@
 //! The program's words, its outcome, and its top call.
 #![tactic(auto)]
 
-mod deciding;
-mod ending;
-mod files;
+// The words.
 mod flags;
 mod form;
 mod line;
-mod lines;
-mod made;
 mod names;
 mod pieces;
+mod said;
+mod values;
+
+// The texts of files that the program makes.
+mod made;
+mod squares;
+
+// The outcome: files are read, an end is decided, and the end is told.
+mod deciding;
+mod ending;
+mod files;
 mod reading;
 mod run;
-mod said;
-mod squares;
-mod values;
+mod telling;
 
 pub use form::{FileForm, form_of};
 pub use line::{Line, WordsEnd, read_words};
-pub use lines::tell_no_memory;
 pub use made::made_file;
 pub use run::top;
+pub use telling::tell_no_memory;
 
 #[cfg(test)]
 mod file_tests;

@@ -6,7 +6,7 @@ ghost use Rattle.at_io.specs.Counts.{Rose};
 ghost use Rattle.at_cli.specs.Values.{IsFileName};
 ghost use Rattle.at_cli.specs.Made.{is_made as made, IsMadeText};
 ghost use Rattle.at_cli.specs.Outcomes.{HasBytes};
-ghost use Rattle.at_cli.specs.Failures.{WasAsked, asked_name};
+ghost use Rattle.at_cli.specs.Failures.{ShelfWasAsked, asked_name};
 
 use crate::made::made_file;
 use at_io::{ReadError, Shelf, read_whole};
@@ -23,8 +23,7 @@ fn shelf_bytes<S: Shelf>(alloc: Global, shelf: &mut S, name: &str) -> Result<Vec
     ensures large { IsErrOf result ReadError.TooLarge
         → IfSome (S.files shelf.old) (λ told. (bytes : List ℕ) × HasBytes told name.now bytes
         × (2 ^ 28 < length bytes)) }
-    ensures asked { WasAsked (asked_name name.now) (S.files shelf.old) (S.begins shelf.old) (S.begins shelf.new)
-        (S.taken shelf.old) (S.taken shelf.new) (S.named shelf.old) (S.named shelf.new) }
+    ensures asked { ShelfWasAsked S.Shelf (asked_name name.now) shelf.old shelf.new }
     ensures same_files { S.files shelf.new ≡ S.files shelf.old }
     ensures counted { S.faults shelf.old ≤ S.faults shelf.new }
 {
@@ -75,8 +74,7 @@ pub fn named_bytes<S: Shelf>(alloc: Global, shelf: &mut S, name: &str) -> Result
     ensures large { IsErrOf result ReadError.TooLarge
         → IfSome (S.files shelf.old) (λ told. (bytes : List ℕ) × HasBytes told name.now bytes
         × (2 ^ 28 < length bytes)) }
-    ensures asked { WasAsked (asked_name name.now) (S.files shelf.old) (S.begins shelf.old) (S.begins shelf.new)
-        (S.taken shelf.old) (S.taken shelf.new) (S.named shelf.old) (S.named shelf.new) }
+    ensures asked { ShelfWasAsked S.Shelf (asked_name name.now) shelf.old shelf.new }
     ensures same_files { S.files shelf.new ≡ S.files shelf.old }
     ensures counted { S.faults shelf.old ≤ S.faults shelf.new }
 {

@@ -1,21 +1,19 @@
 //! The top call: a run from its words to its status.
 
 ghost use Rattle.std.specs.Prelude.{◌≡◌, ◌≢◌, ◌⊎◌, ◌+◌, ◌≤◌, ◌^◌, ℕ, List, [], map, IfSome, string_bytes};
-ghost use Rattle.at_io.specs.Counts.{Rose};
-ghost use Rattle.at_io.specs.Sinks.{Grows, GrowsByPrefix};
 ghost use Rattle.at_cli.specs.Gates.{PassesSaid};
 ghost use Rattle.at_cli.specs.Texts.{write_line, memory_line};
 ghost use Rattle.at_cli.specs.Outcomes.{Outcome, stopped, answered, HasOutcome, TheOutcome, SayNoLine, AreRefused};
 ghost use Rattle.at_cli.specs.Outcomes.{AreAccepted};
-ghost use Rattle.at_cli.specs.Telling.{Tells};
-ghost use Rattle.at_cli.specs.Failures.{asked_names, AsksFor, FailedOn};
+ghost use Rattle.at_cli.specs.Failures.{ShelfAsksFor, ShelfFailedOn, asked_names};
 ghost use Rattle.at_cli.specs.Endings.{status_of, text_of, line_of, Ends};
 ghost use Rattle.at_cli.specs.declared.line.Line.{Line};
+ghost use Rattle.at_cli.specs.Telling.{WasTold, HasGrown, HasGrownByPrefix, HasFailed};
 
 use crate::deciding::end_of_line;
 use crate::ending::Ending;
 use crate::line::{WordsEnd, read_words};
-use crate::lines::{put_pieces, tell_line, tell_write_failed};
+use crate::telling::{put_pieces, tell_line, tell_write_failed};
 use at_crew::Gate;
 use at_io::{Shelf, Sink};
 use std::alloc::Global;
@@ -36,13 +34,10 @@ fn decide<S: Shelf, G: Gate, R: Threads + Sync>(
     ensures usage { SayNoLine (map string_bytes words.now) → status_of result ≡ 2 }
     ensures untouched { status_of result ≡ 2 → shelf.new ≡ shelf.old }
     ensures failed { status_of result ≡ 3 → (line : Line) × AreAccepted (map string_bytes words.now) line
-        × FailedOn (asked_names line) (line_of result) (S.files shelf.old) (S.faults shelf.old) (S.faults shelf.new)
-        (S.begins shelf.old) (S.begins shelf.new) (S.broken shelf.new) (S.taken shelf.old) (S.taken shelf.new)
-        (S.named shelf.old) (S.named shelf.new) }
+        × ShelfFailedOn S.Shelf (asked_names line) (line_of result) shelf.old shelf.new }
     ensures large { status_of result ≡ 6 → S.taken shelf.old + (2 ^ 28 + 1) ≤ S.taken shelf.new }
     ensures asked { (shelf.new ≡ shelf.old) ⊎ ((line : Line) × AreAccepted (map string_bytes words.now) line
-        × AsksFor (asked_names line) (S.files shelf.old) (S.begins shelf.old) (S.begins shelf.new) (S.taken shelf.old)
-        (S.taken shelf.new) (S.named shelf.old) (S.named shelf.new)) }
+        × ShelfAsksFor S.Shelf (asked_names line) shelf.old shelf.new) }
     ensures same_files { S.files shelf.new ≡ S.files shelf.old }
     ensures passes { status_of result ≡ 0 → PassesSaid (G.given_up gate.now) (map string_bytes words.now) }
 {
@@ -56,14 +51,14 @@ fn decide<S: Shelf, G: Gate, R: Threads + Sync>(
 /// Writes what the end says, and answers the status.
 fn tell<O: Sink, E: Sink>(ending: &Ending, out: &mut O, err: &mut E) -> u8
     ensures status { (result ≡ status_of ending.now) ⊎ ((result ≡ 4) × (status_of ending.now ≡ 0)) }
-    ensures answered { result ≡ 0 → Grows (O.written out.old) (O.written out.new) (text_of ending.now)
+    ensures answered { result ≡ 0 → HasGrown O.Sink out.old out.new (text_of ending.now)
         × (err.new ≡ err.old) }
     ensures empty { result ≡ 0 → text_of ending.now ≡ [] → out.new ≡ out.old }
-    ensures write_failed { result ≡ 4 → Rose (O.faults out.old) (O.faults out.new)
-        × GrowsByPrefix (O.written out.old) (O.written out.new) (text_of ending.now)
-        × Tells (E.faults err.old) (E.faults err.new) (E.written err.old) (E.written err.new) write_line }
+    ensures write_failed { result ≡ 4 → HasFailed O.Sink out.old out.new
+        × HasGrownByPrefix O.Sink out.old out.new (text_of ending.now)
+        × WasTold E.Sink err.old err.new write_line }
     ensures told { result ≢ 0 → result ≢ 4 → (out.new ≡ out.old)
-        × Tells (E.faults err.old) (E.faults err.new) (E.written err.old) (E.written err.new) (line_of ending.now) }
+        × WasTold E.Sink err.old err.new (line_of ending.now) }
 {
     if let Ending::Answered(text) = ending {
         if put_pieces(out, text.as_bytes()).is_ok() {
@@ -104,7 +99,7 @@ pub fn top<R: Threads + Sync, S: Shelf, O: Sink, E: Sink, G: Gate>(
     ensures status { result ≤ 6 }
 
     // 0: the answer of the words and the files is written, and nothing else.
-    ensures answered { result ≡ 0 → (text : List ℕ) × Grows (O.written out.old) (O.written out.new) text
+    ensures answered { result ≡ 0 → (text : List ℕ) × HasGrown O.Sink out.old out.new text
         × (err.new ≡ err.old) × (text ≡ [] → out.new ≡ out.old)
         × IfSome (S.files shelf.old) (λ told. TheOutcome (map string_bytes words.now) told (answered text)) }
 
@@ -113,7 +108,7 @@ pub fn top<R: Threads + Sync, S: Shelf, O: Sink, E: Sink, G: Gate>(
 
     // 1 and 6: the line of the words and the files is told.
     ensures stopped { ((result ≡ 1) ⊎ (result ≡ 6)) → (line : List ℕ)
-        × Tells (E.faults err.old) (E.faults err.new) (E.written err.old) (E.written err.new) line
+        × WasTold E.Sink err.old err.new line
         × IfSome (S.files shelf.old) (λ told. TheOutcome (map string_bytes words.now) told (stopped result line)) }
     ensures too_large { result ≡ 6 → S.taken shelf.old + (2 ^ 28 + 1) ≤ S.taken shelf.new }
 
@@ -121,35 +116,31 @@ pub fn top<R: Threads + Sync, S: Shelf, O: Sink, E: Sink, G: Gate>(
     // what is refused; nothing is read. The words are refused whatever memory there is.
     ensures refused { result ≡ 2 → (refusal : List ℕ) × AreRefused (map string_bytes words.now) refusal
         × (shelf.new ≡ shelf.old)
-        × Tells (E.faults err.old) (E.faults err.new) (E.written err.old) (E.written err.new) refusal }
+        × WasTold E.Sink err.old err.new refusal }
     ensures refuses { (refusal : List ℕ) → AreRefused (map string_bytes words.now) refusal → (result ≡ 2)
         ⊎ (result ≡ 5) }
     ensures usage { SayNoLine (map string_bytes words.now) → result ≡ 2 }
 
     // 3: only where the shelf failed on a file that the words name, in its turn; the line told is that of its name.
     ensures read_failed { result ≡ 3 → (line : Line) × AreAccepted (map string_bytes words.now) line × ((told : List ℕ)
-        × FailedOn (asked_names line) told (S.files shelf.old) (S.faults shelf.old) (S.faults shelf.new)
-        (S.begins shelf.old) (S.begins shelf.new) (S.broken shelf.new) (S.taken shelf.old) (S.taken shelf.new)
-        (S.named shelf.old) (S.named shelf.new)
-        × Tells (E.faults err.old) (E.faults err.new) (E.written err.old) (E.written err.new) told) }
+        × ShelfFailedOn S.Shelf (asked_names line) told shelf.old shelf.new
+        × WasTold E.Sink err.old err.new told) }
 
     // 4: only where the output failed on the answer, of which a prefix is written.
-    ensures write_failed { result ≡ 4 → (text : List ℕ) × Rose (O.faults out.old) (O.faults out.new)
-        × GrowsByPrefix (O.written out.old) (O.written out.new) text
-        × Tells (E.faults err.old) (E.faults err.new) (E.written err.old) (E.written err.new) write_line
+    ensures write_failed { result ≡ 4 → (text : List ℕ) × HasFailed O.Sink out.old out.new
+        × HasGrownByPrefix O.Sink out.old out.new text
+        × WasTold E.Sink err.old err.new write_line
         × IfSome (S.files shelf.old) (λ told. TheOutcome (map string_bytes words.now) told (answered text)) }
 
     // 5: want of memory.
-    ensures no_memory { result ≡ 5
-        → Tells (E.faults err.old) (E.faults err.new) (E.written err.old) (E.written err.new) memory_line }
+    ensures no_memory { result ≡ 5 → WasTold E.Sink err.old err.new memory_line }
 
     // The output is as before but for an answer, and of the shelf no file is begun but those that the words name, in
     // turn, without those that are made. The status is that of the one outcome of the words and the files, but for 3, 4
     // and 5, whose causes are told above; so what writes nothing to the output is no other where the output fails.
     ensures same_out { result ≢ 0 → result ≢ 4 → out.new ≡ out.old }
     ensures asked { (shelf.new ≡ shelf.old) ⊎ ((line : Line) × AreAccepted (map string_bytes words.now) line
-        × AsksFor (asked_names line) (S.files shelf.old) (S.begins shelf.old) (S.begins shelf.new) (S.taken shelf.old)
-        (S.taken shelf.new) (S.named shelf.old) (S.named shelf.new)) }
+        × ShelfAsksFor S.Shelf (asked_names line) shelf.old shelf.new) }
     ensures same_files { S.files shelf.new ≡ S.files shelf.old }
     ensures complete { (result ≡ 3) ⊎ ((result ≡ 4) ⊎ ((result ≡ 5)
         ⊎ IfSome (S.files shelf.old) (λ told. (outcome : Outcome) × TheOutcome (map string_bytes words.now) told outcome

@@ -1,7 +1,7 @@
 use Rattle.std.proofs.Common.{◌≡◌, ◌≤◌, ◌^◌, List, [], ◌++◌, ℕ, length, false, Err, IfSome, sym, ◌∙◌, ap, subst, append-nil}
 use Rattle.std.proofs.lemmas.Option.{same_Some}
 use Rattle.at_cli.specs.Made.{is_made}
-use Rattle.at_cli.specs.Texts.{read_line}
+use Rattle.at_cli.specs.Texts.{unread_line}
 use Rattle.at_cli.specs.Outcomes.{HasBytes, HasPairOutcome}
 use Rattle.at_cli.specs.Failures.{asked_name, asked_second, WasAsked, FailedOn}
 use Rattle.at_cli.proofs.ShelfUses.{ends_sized, failed_name}
@@ -30,7 +30,7 @@ returns-in-Err-Failed-clause-failed g c three =
     let (unmade, rose, broken) = c.named_bytes.ensures.failed (c.in-Err-Failed.is ∙ ap Err c.in-Err-Failed.field-0-is) in
     let M : List ℕ → Type 0 = λ name. is_made name ≡ false in
     let A : List ℕ → Type 0 = λ name. WasAsked (asked_name name) (o.files before) (o.begins before) (o.begins after) (o.taken before) (o.taken after) (o.named before) (o.named after) in
-    let F : List (List ℕ) → Type 0 = λ names. FailedOn names (read_line name) (o.files before) (o.faults before) (o.faults after) (o.begins before) (o.begins after) (o.broken after) (o.taken before) (o.taken after) (o.named before) (o.named after) in
+    let F : List (List ℕ) → Type 0 = λ names. FailedOn names (unread_line name) (o.files before) (o.faults before) (o.faults after) (o.begins before) (o.begins after) (o.broken after) (o.taken before) (o.taken after) (o.named before) (o.named after) in
     let names : asked_name name ++ [] ≡ asked_second c.args.line.second = append-nil (asked_name name) ∙ ap asked_second c.second_of.ensures in
     subst F names (failed_name name [] (o.files before) (o.faults before) (o.faults after) (o.begins before) (o.begins after) (o.broken after) (o.taken before) (o.taken after) (o.named before) (o.named after)
     (subst M same unmade) rose broken (subst A same c.named_bytes.ensures.asked))

@@ -1,6 +1,6 @@
 use Rattle.std.proofs.Common.{◌≡◌, ◌≤◌, ◌-◌, length, take}
 use Rattle.at_io.specs.Sinks.{Grows}
-use Rattle.at_cli.proofs.lines.put_pieces.Given as goal
+use Rattle.at_cli.proofs.telling.put_pieces.Given as goal
 
 -- the text up to the place is written
 abbrev pub invariant-loop-at : goal.invariant-loop-at

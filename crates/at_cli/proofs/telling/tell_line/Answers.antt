@@ -1,5 +1,5 @@
 use Rattle.std.proofs.Common.{sym}
-use Rattle.at_cli.proofs.lines.tell_line.Goals as goal
+use Rattle.at_cli.proofs.telling.tell_line.Goals as goal
 
 pub returns-in-Usage : goal.returns-in-Usage
 returns-in-Usage g c = rw c.in-Usage.is c.put_parts.ensures

@@ -2,7 +2,7 @@ use Rattle.std.proofs.Common.{ℕ, List, [], inr}
 use Rattle.std.specs.Borrow.{Bor}
 use Rattle.at_io.specs.Counts.{Rose}
 use Rattle.at_cli.proofs.Growth.{prefix_at_part, rose_on}
-use Rattle.at_cli.proofs.lines.put_parts.Goals as goal
+use Rattle.at_cli.proofs.telling.put_parts.Goals as goal
 
 pub returns-in_default : goal.returns-in_default
 returns-in_default g c =

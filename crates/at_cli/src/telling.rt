@@ -2,10 +2,8 @@
 
 ghost use Rattle.std.specs.Prelude.{◌≡◌, ◌≤◌, ◌++◌, [], codes, OnOk, OnErr};
 ghost use Rattle.std.specs.List.{flat_map};
-ghost use Rattle.at_io.specs.Counts.{Rose};
-ghost use Rattle.at_io.specs.Sinks.{Grows, GrowsByPrefix};
 ghost use Rattle.at_cli.specs.Texts.{kind_name as name_of_kind, query_line, fault_line, memory_line, write_line};
-ghost use Rattle.at_cli.specs.Telling.{Tells};
+ghost use Rattle.at_cli.specs.Telling.{WasTold, HasGrown, HasGrownByPrefix, HasFailed};
 ghost use Rattle.at_cli.specs.Endings.{line_of};
 
 use crate::ending::Ending;
@@ -21,8 +19,7 @@ const USAGE: &str =
 
 /// Puts the parts of a line one after another, up to the first put that fails.
 fn put_parts<E: Sink>(err: &mut E, parts: &[&str])
-    ensures { Tells (E.faults err.old) (E.faults err.new) (E.written err.old) (E.written err.new)
-        (flat_map (λ (part : _). part.now) parts.now) }
+    ensures { WasTold E.Sink err.old err.new (flat_map (λ (part : _). part.now) parts.now) }
 {
     for part in parts {
         let Ok(()) = err.put(part.as_bytes()) else {
@@ -34,9 +31,9 @@ fn put_parts<E: Sink>(err: &mut E, parts: &[&str])
 /// Puts a text in pieces of 65,536 bytes, the last one shorter, up to the first put that fails. An empty text
 /// is no put.
 pub fn put_pieces<O: Sink>(out: &mut O, text: &[u8]) -> Result<(), Failed>
-    ensures ok { OnOk result (Grows (O.written out.old) (O.written out.new) text.now) }
-    ensures failed { OnErr result (Rose (O.faults out.old) (O.faults out.new)) }
-    ensures kept { OnErr result (GrowsByPrefix (O.written out.old) (O.written out.new) text.now) }
+    ensures ok { OnOk result (HasGrown O.Sink out.old out.new text.now) }
+    ensures failed { OnErr result (HasFailed O.Sink out.old out.new) }
+    ensures kept { OnErr result (HasGrownByPrefix O.Sink out.old out.new text.now) }
     ensures empty { text.now ≡ [] → out.new ≡ out.old }
 {
     let mut at = 0;
@@ -67,7 +64,7 @@ fn kind_name(kind: FaultKind) -> &'static str
 
 /// Puts `name: kind at place` as a line.
 fn put_fault<'a, E: Sink>(err: &mut E, name: &'a str, kind: &'a str, at: &'a str)
-    ensures { Tells (E.faults err.old) (E.faults err.new) (E.written err.old) (E.written err.new)
+    ensures { WasTold E.Sink err.old err.new
         (name.now ++ codes ": " ++ kind.now ++ codes " at " ++ at.now ++ codes "\n") }
 {
     put_parts(err, &[name, ": ", kind, " at ", at, "\n"]);
@@ -75,8 +72,7 @@ fn put_fault<'a, E: Sink>(err: &mut E, name: &'a str, kind: &'a str, at: &'a str
 
 /// Tells the fault of a file.
 fn tell_fault<E: Sink>(err: &mut E, name: &str, fault: Fault)
-    ensures { Tells (E.faults err.old) (E.faults err.new) (E.written err.old) (E.written err.new)
-        (fault_line name.now fault) }
+    ensures { WasTold E.Sink err.old err.new (fault_line name.now fault) }
 {
     let mut digits = itoa::Buffer::new();
     let at = digits.format(fault.at);
@@ -85,7 +81,7 @@ fn tell_fault<E: Sink>(err: &mut E, name: &str, fault: Fault)
 
 /// Tells the fault of a query.
 fn tell_query_fault<E: Sink>(err: &mut E, at: u32)
-    ensures { Tells (E.faults err.old) (E.faults err.new) (E.written err.old) (E.written err.new) (query_line at) }
+    ensures { WasTold E.Sink err.old err.new (query_line at) }
 {
     let mut digits = itoa::Buffer::new();
     let at = digits.format(at);
@@ -94,15 +90,14 @@ fn tell_query_fault<E: Sink>(err: &mut E, at: u32)
 
 /// Puts `query: at place` as a line.
 fn put_query_fault<E: Sink>(err: &mut E, at: &str)
-    ensures { Tells (E.faults err.old) (E.faults err.new) (E.written err.old) (E.written err.new) (codes "query: at "
-        ++ at.now ++ codes "\n") }
+    ensures { WasTold E.Sink err.old err.new (codes "query: at " ++ at.now ++ codes "\n") }
 {
     put_parts(err, &["query: at ", at, "\n"]);
 }
 
 /// Tells the line of an end. It takes no memory.
 pub fn tell_line<E: Sink>(err: &mut E, ending: &Ending)
-    ensures { Tells (E.faults err.old) (E.faults err.new) (E.written err.old) (E.written err.new) (line_of ending.now) }
+    ensures { WasTold E.Sink err.old err.new (line_of ending.now) }
 {
     match ending {
         Ending::Answered(_) => {}
@@ -118,7 +113,7 @@ pub fn tell_line<E: Sink>(err: &mut E, ending: &Ending)
 
 /// Tells that a write to the output failed. It takes no memory.
 pub fn tell_write_failed<E: Sink>(err: &mut E)
-    ensures { Tells (E.faults err.old) (E.faults err.new) (E.written err.old) (E.written err.new) write_line }
+    ensures { WasTold E.Sink err.old err.new write_line }
 {
     put_parts(err, &["output: write failed\n"]);
 }
@@ -126,7 +121,7 @@ pub fn tell_write_failed<E: Sink>(err: &mut E)
 /// Tells that memory was wanted, and answers the status of that, 5. It takes no memory.
 pub fn tell_no_memory<E: Sink>(err: &mut E) -> u8
     ensures status { result ≡ 5 }
-    ensures line { Tells (E.faults err.old) (E.faults err.new) (E.written err.old) (E.written err.new) memory_line }
+    ensures line { WasTold E.Sink err.old err.new memory_line }
 {
     put_parts(err, &["out of memory\n"]);
     5

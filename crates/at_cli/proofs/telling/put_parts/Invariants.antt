@@ -1,7 +1,7 @@
 use Rattle.std.proofs.Common.{◌≤◌, take}
 use Rattle.std.specs.List.{flat_map}
 use Rattle.at_io.specs.Sinks.{Grows}
-use Rattle.at_cli.proofs.lines.put_parts.Given as goal
+use Rattle.at_cli.proofs.telling.put_parts.Given as goal
 
 -- the parts so far are written
 abbrev pub invariant-loop-part : goal.invariant-loop-part

@@ -1,7 +1,7 @@
 use Rattle.std.proofs.Common.{arith}
 use Rattle.std.proofs.lemmas.Result.{err_from_is_err_and}
 use Rattle.at_cli.proofs.Growth.{grows_to, prefix_to}
-use Rattle.at_cli.proofs.lines.put_pieces.Goals as goal
+use Rattle.at_cli.proofs.telling.put_pieces.Goals as goal
 
 pub returns-in_err-put-clause-kept : goal.returns-in_err-put-clause-kept
 returns-in_err-put-clause-kept g c =
