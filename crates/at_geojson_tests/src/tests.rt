@@ -2,10 +2,9 @@
 
 ghost use Rattle.std.specs.Prelude.{◌≡◌, ◌≤◌, ◌<◌, ◌^◌, length, IfOk};
 ghost use Rattle.at_query.specs.Ranges.{IsQueryInRange};
-ghost use Rattle.at_nest.specs.KeptItems.{Kept};
 ghost use Rattle.at_text.specs.Spans.{part_of};
 ghost use Rattle.at_nest.specs.FragmentMeanings.{StandsFor};
-ghost use Rattle.at_geojson.specs.Atoms.{IsOwn, IsFold, IsRun};
+ghost use Rattle.at_geojson.specs.Atoms.{IsOwn, IsGeoAtom};
 
 use at_fixed::Coords;
 use at_geojson::{GeoAlgebra, GeoAtom, RootEnd, root_part};
@@ -37,7 +36,7 @@ fn piece(
     requires fits { length bytes.now ≤ 2 ^ 28 }
     requires order { from ≤ to }
     requires end { to ≤ length bytes.now }
-    ensures { StandsFor (Kept (IsOwn algebra.now) (IsFold algebra.now) (IsRun algebra.now)) from
+    ensures { StandsFor (IsGeoAtom algebra.now) from
         (part_of bytes.now from to) result }
 {
     run_block(alloc, algebra, &bytes[from as usize..to as usize], from)
@@ -56,11 +55,11 @@ fn joined(
     requires fits { length bytes.now ≤ 2 ^ 28 }
     requires order { at ≤ to }
     requires end { to ≤ length bytes.now }
-    requires left { StandsFor (Kept (IsOwn algebra.now) (IsFold algebra.now) (IsRun algebra.now)) 0
+    requires left { StandsFor (IsGeoAtom algebra.now) 0
         (part_of bytes.now 0 at) left }
-    requires right { StandsFor (Kept (IsOwn algebra.now) (IsFold algebra.now) (IsRun algebra.now)) at
+    requires right { StandsFor (IsGeoAtom algebra.now) at
         (part_of bytes.now at to) right }
-    ensures { StandsFor (Kept (IsOwn algebra.now) (IsFold algebra.now) (IsRun algebra.now)) 0 (part_of bytes.now 0 to)
+    ensures { StandsFor (IsGeoAtom algebra.now) 0 (part_of bytes.now 0 to)
         result }
 {
     merge(alloc, algebra, bytes, left, right)

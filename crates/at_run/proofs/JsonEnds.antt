@@ -5,7 +5,6 @@ use Rattle.at_text.specs.Texts.{base_of, utf8_fault}
 use Rattle.at_text.specs.declared.faults.Fault.{Fault}
 use Rattle.at_text.specs.declared.faults.FaultKind.TheVariants as kinds
 use Rattle.at_nest.specs.Tree.{Tree}
-use Rattle.at_nest.specs.KeptItems.{Kept}
 use Rattle.at_nest.specs.TextAnswers.{Answers, IsEnd}
 use Rattle.at_nest.specs.Syntax.{HasJsonFault}
 use Rattle.at_nest.specs.declared.finishing.NestEnd.{NestEnd}
@@ -16,7 +15,7 @@ use Rattle.at_geojson.specs.declared.atoms.GeoAtom.{GeoAtom}
 use Rattle.at_geojson.specs.declared.root.RootEnd.{RootEnd}
 use Rattle.at_geojson.specs.declared.root.RootEnd.TheVariants as roots
 use Rattle.at_geojson.specs.Keeping.{Asked}
-use Rattle.at_geojson.specs.Atoms.{IsOwn, IsFold, IsRun}
+use Rattle.at_geojson.specs.Atoms.{IsFold, IsGeoAtom}
 use Rattle.at_geojson.specs.Roles.{features_of}
 use Rattle.at_geojson.specs.Wholes.{faults_of, IsAnswer}
 use Rattle.at_run.specs.declared.faults.RunFault.{RunFault}
@@ -29,7 +28,7 @@ module _ (asked : Asked) (bytes : List ℕ) where
   abbrev Ends : Result Part RunFault → Type 0
   Ends end = EndsJson asked.digits asked.how asked.query bytes end
 
-  pub tree_answered : (atom : GeoAtom) (end : Result Part RootEnd) → Answers (Kept (IsOwn asked) (IsFold asked) (IsRun asked)) (base_of bytes) (drop (base_of bytes) bytes) (Ok atom)
+  pub tree_answered : (atom : GeoAtom) (end : Result Part RootEnd) → Answers (IsGeoAtom asked) (base_of bytes) (drop (base_of bytes) bytes) (Ok atom)
       → ((t : Tree) → IsFold asked atom t → IsAnswer asked t end) → EndsJson asked.digits asked.how asked.query bytes (root_end end)
   tree_answered atom (Ok part) (t, (is, only), (own, fold)) h = let (none, part_is) = h t fold in (t, is, none, part_is)
   tree_answered atom (Err (roots.Found fault)) (t, (is, only), (own, fold)) h = (faults_of asked.digits asked.how t, inr (t, is, refl), sym (h t fold))

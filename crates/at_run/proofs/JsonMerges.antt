@@ -2,13 +2,12 @@
 use Rattle.std.proofs.Common.{ℕ, List}
 use Rattle.at_text.specs.Spans.{AreNeighbours, IsMerged}
 use Rattle.at_text.specs.declared.texts.Span.{Span}
-use Rattle.at_nest.specs.KeptItems.{Kept}
 use Rattle.at_nest.specs.FragmentMeanings.{StandsFor}
 use Rattle.at_nest.specs.declared.fragments.Fragment.{Fragment}
 use Rattle.at_geojson.specs.declared.asked.GeoAlgebra.{GeoAlgebra}
 use Rattle.at_geojson.specs.declared.atoms.GeoAtom.{GeoAtom}
 use Rattle.at_geojson.specs.Keeping.{Asked}
-use Rattle.at_geojson.specs.Atoms.{IsOwn, IsFold, IsRun}
+use Rattle.at_geojson.specs.Atoms.{IsGeoAtom}
 use Rattle.at_run.specs.declared.json_fragments.JsonFragment.{JsonFragment}
 use Rattle.at_run.specs.Encodings.{IsValidIn}
 use Rattle.at_run.specs.JsonFragments.{StandsForText}
@@ -17,12 +16,12 @@ module _ (asked : Asked) (bytes : List ℕ) (left right : JsonFragment) where
   abbrev AreBeside : Type 0
   AreBeside = (i : ℕ) × (j : ℕ) × (k : ℕ) × AreNeighbours (StandsForText asked) bytes i j k left right
 
-  pub texts_beside : AreBeside → (i : ℕ) × (j : ℕ) × (k : ℕ) × AreNeighbours (StandsFor (Kept (IsOwn asked) (IsFold asked) (IsRun asked))) bytes i j k left.text right.text
+  pub texts_beside : AreBeside → (i : ℕ) × (j : ℕ) × (k : ℕ) × AreNeighbours (StandsFor (IsGeoAtom asked)) bytes i j k left.text right.text
   texts_beside (i, j, k, (ij, jk, end, l, r)) = (i, j, k, (ij, jk, end, l.0, r.0))
 
   pub spans_beside : AreBeside → (i : ℕ) × (j : ℕ) × (k : ℕ) × AreNeighbours IsValidIn bytes i j k left.valid right.valid
   spans_beside (i, j, k, (ij, jk, end, l, r)) = (i, j, k, (ij, jk, end, l.1, r.1))
 
-  pub fragments_merged : (text : Fragment GeoAlgebra GeoAtom) (valid : Span) → IsMerged (StandsFor (Kept (IsOwn asked) (IsFold asked) (IsRun asked))) bytes left.text right.text text → IsMerged IsValidIn bytes left.valid right.valid valid
+  pub fragments_merged : (text : Fragment GeoAlgebra GeoAtom) (valid : Span) → IsMerged (StandsFor (IsGeoAtom asked)) bytes left.text right.text text → IsMerged IsValidIn bytes left.valid right.valid valid
       → IsMerged (StandsForText asked) bytes left right (record { text = text; valid = valid })
   fragments_merged text valid texts spans i j k (ij, jk, end, l, r) = (texts i j k (ij, jk, end, l.0, r.0), spans i j k (ij, jk, end, l.1, r.1))

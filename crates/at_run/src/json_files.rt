@@ -2,9 +2,8 @@
 
 ghost use Rattle.std.specs.Prelude.{◌≡◌, ◌≤◌, ◌^◌, length, drop, MatchResult, Some};
 ghost use Rattle.at_text.specs.Texts.{base_of as text_begin};
-ghost use Rattle.at_nest.specs.KeptItems.{Kept};
 ghost use Rattle.at_nest.specs.FragmentMeanings.{StandsFor};
-ghost use Rattle.at_geojson.specs.Atoms.{IsOwn, IsFold, IsRun};
+ghost use Rattle.at_geojson.specs.Atoms.{IsGeoAtom};
 ghost use Rattle.at_run.specs.declared.forms.Form.TheVariants.{GeoJson};
 ghost use Rattle.at_run.specs.Files.{HasFileFaultIn};
 ghost use Rattle.at_run.specs.Answers.{IfFound, IsFilePart};
@@ -56,7 +55,7 @@ fn tree_part(
     whole: Fragment<GeoAlgebra>,
 ) -> Result<Part, RunFault>
     requires fits { length bytes.now ≤ 2 ^ 28 }
-    requires whole { StandsFor (Kept (IsOwn algebra.now) (IsFold algebra.now) (IsRun algebra.now))
+    requires whole { StandsFor (IsGeoAtom algebra.now)
         (text_begin bytes.now) (drop (text_begin bytes.now) bytes.now) whole }
     ensures { EndsJson algebra.now.digits algebra.now.how algebra.now.query bytes.now result }
 {
@@ -79,7 +78,7 @@ pub fn finish_json(
     whole: Fragment<GeoAlgebra>,
 ) -> Result<Part, RunFault>
     requires fits { length bytes.now ≤ 2 ^ 28 }
-    requires whole { StandsFor (Kept (IsOwn algebra.now) (IsFold algebra.now) (IsRun algebra.now))
+    requires whole { StandsFor (IsGeoAtom algebra.now)
         (text_begin bytes.now) (drop (text_begin bytes.now) bytes.now) whole }
     ensures { MatchResult result (IsFilePart GeoJson algebra.now.digits algebra.now.how algebra.now.query bytes.now)
         (λ end. IfFound end (λ fault. HasFileFaultIn GeoJson algebra.now.digits algebra.now.how bytes.now

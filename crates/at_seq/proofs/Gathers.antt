@@ -11,7 +11,6 @@ use Rattle.at_wkt.proofs.Exits.{first_of-append}
 use Rattle.at_nest.specs.Tree.{Tree}
 use Rattle.at_nest.specs.Syntax.{JsonText}
 use Rattle.at_nest.specs.TextAnswers.{Answers, IsEnd}
-use Rattle.at_nest.specs.KeptItems.{Kept as KeptAtom}
 use Rattle.at_nest.specs.declared.finishing.NestEnd.{NestEnd}
 use Rattle.at_nest.specs.declared.finishing.NestEnd.TheVariants as texts
 use Rattle.at_query.specs.declared.features.Feature.{Feature}
@@ -25,7 +24,7 @@ use Rattle.at_geojson.specs.declared.atoms.GeoAtom.{GeoAtom}
 use Rattle.at_geojson.specs.declared.root.RootEnd.{RootEnd}
 use Rattle.at_geojson.specs.declared.root.RootEnd.TheVariants as roots
 use Rattle.at_geojson.specs.Keeping.{Asked}
-use Rattle.at_geojson.specs.Atoms.{IsOwn, IsFold, IsRun}
+use Rattle.at_geojson.specs.Atoms.{IsOwn, IsFold, IsGeoAtom}
 use Rattle.at_geojson.specs.Roles.{features_of}
 use Rattle.at_geojson.specs.Wholes.{faults_of, IsAnswer}
 use Rattle.at_run.specs.declared.gathered.Gathered.{Gathered}
@@ -74,19 +73,19 @@ module _ (asked : Asked) where
   gathered_joined (Failed f) (Failed g) both rs ss (first, e, is) h k = subst (λ z. IsGathered asked z (rs ++ ss)) (sym e) (first_joined asked.digits asked.how rs ss (Some f) (Some g) (Some first) h k is)
 
   -- the part of a text is proper
-  pub root_proper : (at : ℕ) (text : List ℕ) (atom : GeoAtom) (end : Result Part RootEnd) → Answers (KeptAtom (IsOwn asked) (IsFold asked) (IsRun asked)) at text (Ok atom)
+  pub root_proper : (at : ℕ) (text : List ℕ) (atom : GeoAtom) (end : Result Part RootEnd) → Answers (IsGeoAtom asked) at text (Ok atom)
       → ((t : Tree) → IsFold asked atom t → IsAnswer asked t end) → IfOk end IsProper
   root_proper at text atom (Ok part) (t, (is, only), (own, fold)) h = part_is_proper asked.query (features_of asked.digits asked.how t) part (h t fold).1
   root_proper at text atom (Err end) answers h = tt
 
-  pub root_own : (at : ℕ) (text : List ℕ) (atom : GeoAtom) → Answers (KeptAtom (IsOwn asked) (IsFold asked) (IsRun asked)) at text (Ok atom) → IsOwn asked atom
+  pub root_own : (at : ℕ) (text : List ℕ) (atom : GeoAtom) → Answers (IsGeoAtom asked) at text (Ok atom) → IsOwn asked atom
   root_own at text atom (t, (is, only), (own, fold)) = own
 
   -- ---- one record
 
   module _ (r : Piece) where
     -- that spells a tree
-    pub root_gathered : (atom : GeoAtom) (end : Result Part RootEnd) (result : Result Gathered Memory) → Answers (KeptAtom (IsOwn asked) (IsFold asked) (IsRun asked)) r.at r.text (Ok atom)
+    pub root_gathered : (atom : GeoAtom) (end : Result Part RootEnd) (result : Result Gathered Memory) → Answers (IsGeoAtom asked) r.at r.text (Ok atom)
         → ((t : Tree) → IsFold asked atom t → IsAnswer asked t end) → IsRootKept end result → IfOk result (λ kept. IsGathered asked kept (r ∷ []))
     root_gathered atom (Ok part) result (t, (is, only), (own, fold)) h (kept, e, keeps) =
         let (none, part_is) = h t fold in

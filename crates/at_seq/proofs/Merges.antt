@@ -3,13 +3,12 @@ use Rattle.std.proofs.Common.{◌≡◌, ℕ, ◌+◌, ◌-◌, ◌<◌, ◌≤�
 use Rattle.std.specs.List.{position_or_len}
 use Rattle.at_text.specs.Spans.{part_of, AreNeighbours, IsMerged}
 use Rattle.at_text.specs.declared.texts.Span.{Span}
-use Rattle.at_nest.specs.KeptItems.{Kept as KeptAtom}
 use Rattle.at_nest.specs.FragmentMeanings.{StandsFor}
 use Rattle.at_nest.specs.declared.fragments.Fragment.{Fragment}
 use Rattle.at_geojson.specs.declared.asked.GeoAlgebra.{GeoAlgebra}
 use Rattle.at_geojson.specs.declared.atoms.GeoAtom.{GeoAtom}
 use Rattle.at_geojson.specs.Keeping.{Asked}
-use Rattle.at_geojson.specs.Atoms.{IsOwn, IsFold, IsRun}
+use Rattle.at_geojson.specs.Atoms.{IsGeoAtom}
 use Rattle.at_run.specs.declared.gathered.Gathered.{Gathered}
 use Rattle.at_run.specs.Encodings.{IsValidIn}
 use Rattle.at_run.specs.Gathering.{AreJoinable, IsJoinOf}
@@ -29,7 +28,7 @@ use Rattle.at_seq.proofs.Gathers.{gathered_joinable, gathered_joined}
 
 module _ (asked : Asked) (bytes : List ℕ) where
   abbrev Stands : ℕ → List ℕ → Fragment GeoAlgebra GeoAtom → Type 0
-  Stands = StandsFor (KeptAtom (IsOwn asked) (IsFold asked) (IsRun asked))
+  Stands = StandsFor (IsGeoAtom asked)
 
   -- ---- what is read
 

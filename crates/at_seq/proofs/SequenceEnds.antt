@@ -14,7 +14,6 @@ use Rattle.at_nest.specs.Tree.{Spells, IsTextOf}
 use Rattle.at_nest.specs.Folds.{IsAttempt}
 use Rattle.at_nest.specs.declared.algebra.Attempt.TheVariants.{Whole}
 use Rattle.at_nest.specs.TextAnswers.{Answers}
-use Rattle.at_nest.specs.KeptItems.{Kept as KeptAtom}
 use Rattle.at_nest.proofs.OneTree.{one_tree}
 use Rattle.at_query.specs.declared.parts.Part.{Part}
 use Rattle.at_wkt.proofs.Exits.{first_of-append}
@@ -23,7 +22,7 @@ use Rattle.at_geojson.specs.declared.atoms.GeoAtom.{GeoAtom}
 use Rattle.at_geojson.specs.declared.asked.GeoAlgebra.{GeoAlgebra}
 use Rattle.at_nest.specs.declared.fragments.Fragment.{Fragment}
 use Rattle.at_geojson.specs.Keeping.{Asked}
-use Rattle.at_geojson.specs.Atoms.{IsOwn, IsFold, IsRun}
+use Rattle.at_geojson.specs.Atoms.{IsOwn, IsFold, IsGeoAtom}
 use Rattle.at_run.specs.declared.gathered.Gathered.{Gathered}
 use Rattle.at_run.specs.declared.gathered.Gathered.TheVariants.{Kept, Failed}
 use Rattle.at_seq.specs.declared.ends.SeqEnd.{SeqEnd}
@@ -70,7 +69,7 @@ module _ (asked : Asked) where
   -- white space, a value and white space
   pub at_once : (at : ℕ) (text : List ℕ) (spaces len more : ℕ) (atom : GeoAtom) → IsFront is_space text spaces
       → IsAttempt (IsOwn asked) (IsFold asked) (at + spaces) (drop spaces text) (Whole len atom) → IsFront is_space (drop len (drop spaces text)) more → more ≡ length (drop len (drop spaces text))
-      → Answers (KeptAtom (IsOwn asked) (IsFold asked) (IsRun asked)) at text (Ok atom)
+      → Answers (IsGeoAtom asked) at text (Ok atom)
   at_once at text spaces len more atom front (v, r, same, size, t, spelled, own, fold) rest ends =
       let left : drop len (drop spaces text) ≡ r = ap (drop len) same ∙ (ap (λ n. drop n (v ++ r)) size ∙ drop-append_seam v r) in
       let behind : AreSpaces r = subst AreSpaces left (all_spaces (drop len (drop spaces text)) more rest ends) in
@@ -83,7 +82,7 @@ module _ (asked : Asked) where
   -- as the code's slices show it
   pub read_at_once : (at : ℕ) (text value behind : List ℕ) (spaces len more : ℕ) (atom : GeoAtom) → value ≡ drop spaces text → behind ≡ drop len value → IsFront is_space text spaces
       → IsAttempt (IsOwn asked) (IsFold asked) (at + spaces) value (Whole len atom) → IsFront is_space behind more → more ≡ length behind
-      → Answers (KeptAtom (IsOwn asked) (IsFold asked) (IsRun asked)) at text (Ok atom)
+      → Answers (IsGeoAtom asked) at text (Ok atom)
   read_at_once at text value behind spaces len more atom e f front attempt rest ends =
       let g : behind ≡ drop len (drop spaces text) = f ∙ ap (drop len) e in
       at_once at text spaces len more atom front (subst (λ z. IsAttempt (IsOwn asked) (IsFold asked) (at + spaces) z (Whole len atom)) e attempt)

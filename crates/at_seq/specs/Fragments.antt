@@ -2,13 +2,12 @@
 -- Only contracts of private functions cite this.
 use Rattle.std.specs.Prelude.{◌≡◌, ℕ, ◌+◌, ◌≤◌, ◌<◌, List, [], ◌∷◌, ◌++◌, length}
 use Rattle.at_text.specs.Spans.{part_of}
-use Rattle.at_nest.specs.KeptItems.{Kept as KeptAtom}
 use Rattle.at_nest.specs.FragmentMeanings.{StandsFor}
 use Rattle.at_nest.specs.declared.fragments.Fragment.{Fragment}
 use Rattle.at_geojson.specs.declared.asked.GeoAlgebra.{GeoAlgebra}
 use Rattle.at_geojson.specs.declared.atoms.GeoAtom.{GeoAtom}
 use Rattle.at_geojson.specs.Keeping.{Asked}
-use Rattle.at_geojson.specs.Atoms.{IsOwn, IsFold, IsRun}
+use Rattle.at_geojson.specs.Atoms.{IsGeoAtom}
 use Rattle.at_run.specs.Encodings.{IsValidIn}
 use Rattle.at_seq.specs.declared.fragments.Inner.{Inner}
 use Rattle.at_seq.specs.declared.fragments.PartedText.{PartedText}
@@ -44,7 +43,7 @@ module _ {F : Type 0} (Holds : ℕ → ℕ → F → Type 0) (bytes : List ℕ) 
 module _ (asked : Asked) (bytes : List ℕ) where
   -- the fragment stands for the bytes from i up to k as a span of JSON
   abbrev pub HoldsJson : ℕ → ℕ → Fragment GeoAlgebra GeoAtom → Type 0
-  HoldsJson i k f = StandsFor (KeptAtom (IsOwn asked) (IsFold asked) (IsRun asked)) i (part_of bytes i k) f
+  HoldsJson i k f = StandsFor (IsGeoAtom asked) i (part_of bytes i k) f
 
   -- the bytes from i up to k are those before their first separator, the records between that and their last one, and
   -- those behind it

@@ -7,7 +7,7 @@ ghost use Rattle.at_lex.specs.Fronts.{IsFront};
 ghost use Rattle.at_nest.specs.TextAnswers.{Answers};
 ghost use Rattle.at_nest.specs.KeptItems.{Kept};
 ghost use Rattle.at_nest.specs.FragmentMeanings.{StandsFor};
-ghost use Rattle.at_geojson.specs.Atoms.{IsOwn, IsFold, IsRun};
+ghost use Rattle.at_geojson.specs.Atoms.{IsGeoAtom};
 ghost use Rattle.at_query.specs.Parts.{IsProper};
 ghost use Rattle.at_seq.specs.Records.{Piece, records_in};
 ghost use Rattle.at_seq.specs.Gathering.{IsGathered, AddsRecords, IsRootKept, IsEndKept};
@@ -56,10 +56,10 @@ fn kept_of(
     to: u32,
     answer: Result<GeoAtom, NestEnd>,
 ) -> Result<Gathered, Memory>
-    requires { (at : ℕ) × (text : List ℕ) × Answers (Kept (IsOwn algebra.now) (IsFold algebra.now) (IsRun algebra.now))
+    requires { (at : ℕ) × (text : List ℕ) × Answers (IsGeoAtom algebra.now)
         at text answer }
     ensures { (at : ℕ) (text : List ℕ) → to ≡ at + length text
-        → Answers (Kept (IsOwn algebra.now) (IsFold algebra.now) (IsRun algebra.now)) at text answer
+        → Answers (IsGeoAtom algebra.now) at text answer
         → IfOk result (λ kept. IsGathered algebra.now kept (record { at = at; text = text } ∷ [])) }
 {
     match answer {
@@ -81,7 +81,7 @@ fn atom_at_once(
     requires spaces { IsFront is_space text.now spaces }
     requires some { spaces < length text.now }
     ensures { IfOk result (λ found.
-        IfSome found (λ atom. Answers (Kept (IsOwn algebra.now) (IsFold algebra.now) (IsRun algebra.now)) at text.now
+        IfSome found (λ atom. Answers (IsGeoAtom algebra.now) at text.now
         (Ok atom))) }
 {
     let value = &text[spaces..];
@@ -111,7 +111,7 @@ fn span_answer(
     requires within { span.to ≤ length bytes.now }
     requires spaces { IsFront is_space (part_of bytes.now span.from span.to) spaces }
     requires some { spaces < length (part_of bytes.now span.from span.to) }
-    ensures { Answers (Kept (IsOwn algebra.now) (IsFold algebra.now) (IsRun algebra.now)) span.from
+    ensures { Answers (IsGeoAtom algebra.now) span.from
         (part_of bytes.now span.from span.to) result }
 {
     let text = &bytes[span.from as usize..span.to as usize];
@@ -160,7 +160,7 @@ pub fn add_fragment(
     requires order { span.from ≤ span.to }
     requires within { span.to ≤ length bytes.now }
     requires own { (before : List Piece) × IsGathered algebra.now gathered.old before }
-    requires whole { StandsFor (Kept (IsOwn algebra.now) (IsFold algebra.now) (IsRun algebra.now)) span.from
+    requires whole { StandsFor (IsGeoAtom algebra.now) span.from
         (part_of bytes.now span.from span.to) whole }
     ensures { IfOk result (λ _. AddsRecords algebra.now gathered.old
         (records_in (record { at = span.from; text = part_of bytes.now span.from span.to } ∷ [])) gathered.new) }
