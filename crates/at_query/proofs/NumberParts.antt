@@ -8,13 +8,14 @@ use Rattle.at_fixed.specs.declared.rounding.FixedFault.{FixedFault}
 use Rattle.at_fixed.specs.Numerals.{Numeral, numeral_text, IsWktNumeral, WktNumber}
 use Rattle.at_fixed.specs.Fixed.{fixed_of}
 use Rattle.at_wkt.specs.Positions.{value_in, faults_in}
-use Rattle.at_wkt.specs.Readers.{NumberStands, NumberBreaks}
+use Rattle.at_wkt.specs.Readers.{NumberStands, NumberBreaks, next}
 use Rattle.at_wkt.proofs.Leads.{part-length, part-part, part-one}
 use Rattle.at_wkt.proofs.NumberSteps.{in_number, number_ends, front_viable, next_end}
 use Rattle.at_query.specs.declared.coordinates.NumberRead.{NumberRead}
 use Rattle.at_query.specs.Spelling.{Placed, SpellsPlaced}
 use Rattle.at_query.specs.Queries.{ats_of, least_of}
-use Rattle.at_query.specs.Readers.{part, next, Ends, Stops, WordStands, WordBreaks, is_delimiter, number_meaning, Number, number_in}
+use Rattle.at_fixed.specs.Kept.{part}
+use Rattle.at_query.specs.Readers.{Ends, Stops, WordStands, WordBreaks, is_delimiter, number_meaning, Number, number_in}
 use Rattle.at_query.proofs.Parted.{onward_ahead}
 
 no_number_byte : (b : ℕ) → is_delimiter b ≡ true → in_number b ≡ false

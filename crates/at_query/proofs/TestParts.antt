@@ -4,7 +4,8 @@ use Rattle.at_fixed.specs.declared.rounding.Coords.{Coords}
 use Rattle.at_lex.specs.Strings.{units_of}
 use Rattle.at_query.specs.declared.queries.Test.TheVariants.{Has}
 use Rattle.at_query.specs.Spelling.{Spelled, in_box, meets_box, meets, has, SpellsTest}
-use Rattle.at_query.specs.Readers.{next, Ends, Stops, WordStands, WordBreaks, Behind, Then, TestMeaning, BoxMeaning, kept_in, met_box, box_meaning, Box, Text, Target, InTest, MeetsTest, HasTest, test_meaning, OneTest}
+use Rattle.at_wkt.specs.Readers.{next}
+use Rattle.at_query.specs.Readers.{Ends, Stops, WordStands, WordBreaks, Behind, Then, TestMeaning, BoxMeaning, kept_in, met_box, box_meaning, Box, Text, Target, InTest, MeetsTest, HasTest, test_meaning, OneTest}
 use Rattle.at_query.proofs.Parted.{Lives, Begins, When, Tells, then_ends, then_stops, first_stops, told_ends, told_stops, when_ends, when_stops, none_stops, behind_ends, behind_stops, behind_word, behind_lives, then_lives}
 use Rattle.at_query.proofs.BoxParts.{box_lives}
 use Rattle.at_query.proofs.GeometryParts.{target_lives}

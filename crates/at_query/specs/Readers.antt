@@ -5,11 +5,13 @@ use Rattle.at_text.specs.declared.faults.Fault.{Fault}
 use Rattle.at_text.specs.Parts.{Exactly, ◌▸◌}
 use Rattle.at_text.specs.Texts.{is_one_of}
 use Rattle.at_text.specs.Faults.{first_of}
+use Rattle.at_fixed.specs.Kept.{part}
 use Rattle.at_fixed.specs.declared.rounding.Coords.{Coords}
 use Rattle.at_lex.specs.Strings.{Character, units_of, SpellsString}
 use Rattle.at_geom.specs.declared.rectangles.Extent.{Extent}
 use Rattle.at_wkt.specs.Geometry.{Geometry, SpellsGeometry}
 use Rattle.at_wkt.specs.Meaning.{shape_of, faults_of, empty_shape}
+use Rattle.at_wkt.specs.Readers.{next}
 use Rattle.at_query.specs.declared.halts.Halt.{Halt}
 use Rattle.at_query.specs.declared.halts.Halt.TheVariants.{At, Memory}
 use Rattle.at_query.specs.declared.coordinates.NumberRead.{NumberRead}
@@ -23,14 +25,6 @@ use Rattle.at_query.specs.Spelling.{Placed, SpellsPlaced, SpelledBox, SpellsBox,
 use Rattle.at_query.specs.Spelling.{has, SpellsTest, SpellsTests, verb_text}
 use Rattle.at_query.specs.Queries.{lesser, least_of, placed_value, placed_faults, extent_of_box, box_faults}
 use Rattle.at_query.specs.Queries.{box_shape, is_reversed}
-
--- the bytes of a text from a place up to another
-abbrev pub part : List ℕ → ℕ → ℕ → List ℕ
-part w i j = drop i (take j w)
-
--- the byte at a place, and at the end a number that is no byte
-abbrev pub next : List ℕ → ℕ → ℕ
-next w i = slice_index_or w i 256
 
 -- A part P of a text says of a value, an offset and the bytes that begin there that they spell the value.
 

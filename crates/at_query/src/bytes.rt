@@ -1,7 +1,8 @@
 //! Single bytes and fixed words of a query line.
 
 ghost use Rattle.std.specs.Prelude.{◌≡◌, ◌==◌, ◌≤◌, length, MatchResult};
-ghost use Rattle.at_query.specs.Readers.{next, WordStands, WordBreaks, IfStopped};
+ghost use Rattle.at_wkt.specs.Readers.{next};
+ghost use Rattle.at_query.specs.Readers.{WordStands, WordBreaks, IfStopped};
 
 use crate::halts::Halt;
 

@@ -5,7 +5,8 @@ use native.Mathlib.Decide.{dec_lt}
 use Rattle.std.proofs.lemmas.List.{drop-append-le, drop_all, append_cancel_left}
 use Rattle.at_wkt.specs.declared.dimension.Dimension.{Dimension}
 use Rattle.at_wkt.specs.declared.dimension.Dimension.TheVariants.{Open, Fixed}
-use Rattle.at_wkt.specs.Readers.{part, next, Allows, Spelt, Leads}
+use Rattle.at_fixed.specs.Kept.{part}
+use Rattle.at_wkt.specs.Readers.{next, Allows, Spelt, Leads}
 
 -- ---- parts of a list
 

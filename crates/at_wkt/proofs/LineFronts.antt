@@ -6,7 +6,8 @@ use Rattle.std.proofs.lemmas.List.{get_or-take, get_or_past, take-take}
 use Rattle.at_wkt.specs.declared.dimension.Dimension.{Dimension}
 use Rattle.at_wkt.specs.Geometry.{is_blank}
 use Rattle.at_wkt.specs.Lines.{without_return}
-use Rattle.at_wkt.specs.Readers.{part, SkipsBlanks, Spelt}
+use Rattle.at_fixed.specs.Kept.{part}
+use Rattle.at_wkt.specs.Readers.{SkipsBlanks, Spelt}
 use Rattle.at_wkt.proofs.Steps.{AreBlanks}
 
 part_within : (w : List ℕ) (e i j : ℕ) → j ≤ e → part (take e w) i j ≡ part w i j

@@ -3,7 +3,8 @@
 use Rattle.std.proofs.Common.{◌≡◌, ℕ, ◌+◌, ◌<◌, ◌≤◌, ◌⊎◌, inl, inr, true, not, List, [], ◌∷◌, length, sym, ◌∙◌, ap, subst, arith}
 use Rattle.at_fixed.specs.Numerals.{Numeral}
 use Rattle.at_wkt.specs.Geometry.{is_blank}
-use Rattle.at_wkt.specs.Readers.{part, next, is_delimiter, SkipsBlanks, NumberStands}
+use Rattle.at_fixed.specs.Kept.{part}
+use Rattle.at_wkt.specs.Readers.{next, is_delimiter, SkipsBlanks, NumberStands}
 use Rattle.at_wkt.proofs.Leads.{part-none, part-one, part-cons, same_or_less}
 use Rattle.at_wkt.proofs.Steps.{AreBlanks}
 use Rattle.at_wkt.proofs.PositionSteps.{begins_number, number_first}

@@ -5,7 +5,8 @@ use Rattle.std.specs.List.{AllByRecursion}
 use Rattle.at_text.specs.Parts.{Many, OneOrMore, ◌▸◌}
 use Rattle.at_wkt.specs.declared.dimension.Dimension.{Dimension}
 use Rattle.at_wkt.specs.Geometry.{is_blank}
-use Rattle.at_wkt.specs.Readers.{part, next, Allows, Spelt, Stuck, Leads}
+use Rattle.at_fixed.specs.Kept.{part}
+use Rattle.at_wkt.specs.Readers.{next, Allows, Spelt, Stuck, Leads}
 use Rattle.at_wkt.proofs.Leads.{part-none, offset, Ahead, Begins, Inhabited, append_cases, same_length, leads_plain, leads_ahead, counts}
 
 pub trans_leads : {X Y Z : Type 0} {P : ℕ → X → ℕ → List ℕ → Type 0} {Q : ℕ → Y → ℕ → List ℕ → Type 0} {R : ℕ → Z → ℕ → List ℕ → Type 0} {base : ℕ} {w : List ℕ}

@@ -9,6 +9,7 @@ use Rattle.std.specs.Char.{to_ascii_uppercase}
 use Rattle.std.specs.List.{AllByRecursion}
 use Rattle.at_text.specs.Prefix.{LongestViable}
 use Rattle.at_text.specs.Parts.{Many, Exactly, ◌▸◌}
+use Rattle.at_fixed.specs.Kept.{part}
 use Rattle.at_fixed.specs.Numerals.{Numeral, IsWktNumeral, numeral_text, WktNumber}
 use Rattle.at_wkt.specs.declared.kinds.Kind.{Kind}
 use Rattle.at_wkt.specs.declared.kinds.Kind.TheVariants.{Point, LineString, Polygon, MultiPoint, MultiLineString}
@@ -50,10 +51,6 @@ use Rattle.at_wkt.specs.Geometry.{SpellsGeometries, SpellsPoint, SpellsList, Spe
 use Rattle.at_wkt.specs.Geometry.{SpellsPointMember, is_blank, SpellsFurther, SpellsPosition, SpellsRing, InBrackets}
 use Rattle.at_wkt.specs.declared.dimension.Dimension.{Dimension}
 use Rattle.at_wkt.specs.declared.dimension.Dimension.TheVariants.{Open, Fixed}
-
--- the bytes of a text from a place up to another
-abbrev pub part : List ℕ → ℕ → ℕ → List ℕ
-part w i j = drop i (take j w)
 
 -- the byte at a place, and at the end a number that is no byte
 abbrev pub next : List ℕ → ℕ → ℕ

@@ -1,5 +1,5 @@
 use Rattle.std.proofs.Common.{length, ◌-◌, ◌+◌, ◌≤◌, ◌≡◌, take}
-use Rattle.at_query.specs.Readers.{part}
+use Rattle.at_fixed.specs.Kept.{part}
 use Rattle.at_query.proofs.bytes.skip_word.Given as goal
 
 abbrev pub invariant-loop-count : goal.invariant-loop-count

@@ -1,5 +1,5 @@
 use Rattle.std.proofs.Common.{length, ◌-◌, ◌≤◌}
-use Rattle.at_wkt.specs.Readers.{part}
+use Rattle.at_fixed.specs.Kept.{part}
 use Rattle.at_wkt.proofs.Steps.{AreBlanks}
 use Rattle.at_wkt.proofs.bytes.skip_blanks.Given as goal
 
