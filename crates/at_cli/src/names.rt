@@ -10,9 +10,7 @@ ghost use Rattle.at_cli.specs.declared.line.Line.{Line};
 
 use crate::pieces::Places;
 use crate::values::is_file_name;
-
-/// The most bytes of a query.
-const QUERY_LIMIT: usize = 1 << 28;
+use at_text::MOST_BYTES;
 
 /// The query and the names of the files.
 #[derive(Clone, Copy)]
@@ -41,7 +39,7 @@ fn tested(names: Names<'_>) -> Option<Names<'_>>
         (λ (tested : _). (length names.entry.query.now ≤ 2 ^ 28) × IsFileName names.entry.first.now
         × IfSome (option_copied names.entry.second) IsFileName) }
 {
-    if names.query.len() > QUERY_LIMIT {
+    if names.query.len() > MOST_BYTES {
         return None;
     }
     if !is_file_name(names.first) {

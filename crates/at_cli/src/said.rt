@@ -21,7 +21,7 @@ const BLOCKS: u32 = 64;
 const WORKERS: u32 = 4;
 
 /// The most blocks and the most workers.
-const MOST_BLOCKS: u32 = 4096;
+const MOST_BLOCKS: u32 = at_text::MOST_BLOCKS as u32;
 
 const MOST_WORKERS: u32 = 64;
 

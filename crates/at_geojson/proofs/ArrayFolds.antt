@@ -6,7 +6,7 @@ use Rattle.std.proofs.Math.Nat.{min-eq_left, min-eq_right}
 use Rattle.at_text.specs.Faults.{comes_first, first_fault, first_of, fault_at}
 use Rattle.at_text.specs.declared.faults.Fault.{Fault}
 use Rattle.at_text.specs.declared.faults.FaultKind.TheVariants.{Form}
-use Rattle.at_wkt.proofs.Exits.{first_of-append}
+use Rattle.at_wkt.proofs.FaultOrder.{first_of-append}
 use Rattle.at_nest.specs.Folds.{AreFolds}
 use Rattle.at_nest.specs.Tree.{Tree, array, Trees, no_trees, tree_and}
 use Rattle.at_geojson.specs.declared.atoms.GeoAtom.{GeoAtom}

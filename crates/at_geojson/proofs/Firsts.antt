@@ -3,7 +3,7 @@ use Rattle.std.proofs.Common.{◌≡◌, Bool, true, false, if◌then◌else◌,
 use Rattle.std.proofs.lemmas.Option.{none-some}
 use Rattle.at_text.specs.Faults.{comes_first, first_fault, first_of}
 use Rattle.at_text.specs.declared.faults.Fault.{Fault}
-use Rattle.at_wkt.proofs.Exits.{first_fault-assoc}
+use Rattle.at_wkt.proofs.FaultOrder.{first_fault-assoc}
 use Rattle.at_geojson.specs.Gathering.{firsts}
 
 pub none_right : (o : Option Fault) → first_fault o None ≡ o

@@ -12,7 +12,7 @@ use Rattle.at_geom.specs.Shapes.{line_fault, ring_fault}
 use Rattle.at_wkt.specs.Positions.{Position, Positions, faults_in, number_fault, position_faults, items_faults, faults_of_line, faults_of_ring, is_closed}
 use Rattle.at_wkt.specs.Geometry.{Geometry, point, line_string, polygon, multi_point, multi_line_string, multi_polygon, collection, Geometries, no_geometries, geometry_and}
 use Rattle.at_wkt.specs.Meaning.{present, faults_of, faults_of_all, faults_of_area, shape_of}
-use Rattle.at_wkt.proofs.Exits.{first_of-append}
+use Rattle.at_wkt.proofs.FaultOrder.{first_of-append}
 use Rattle.at_lex.specs.Strings.{units_of}
 use Rattle.at_lex.specs.Runs.{the_null, the_true, the_false}
 use Rattle.at_nest.specs.Tree.{Tree, literal, number, text, array, object, Trees, no_trees, tree_and, Members, no_members, member_and, offset_of}

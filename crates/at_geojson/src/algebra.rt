@@ -10,12 +10,11 @@ use crate::atoms::GeoAtom;
 use crate::copying::copy_atom;
 use crate::object_atoms::object_atom;
 use crate::pairs::Whole;
-use crate::places::Stop;
 use crate::runs::{add_item, closed_array};
 use crate::scalars::scalar_atom;
 use crate::values::whole_value;
 use at_nest::{Algebra, Attempt, Member};
-use at_text::Memory;
+use at_text::{Halt, Memory};
 use std::alloc::Global;
 
 impl Algebra for GeoAlgebra {
@@ -65,10 +64,10 @@ impl Algebra for GeoAlgebra {
                 len: end as u32,
                 atom,
             }),
-            Err(Stop::At(place)) => Ok(Attempt::Unsaid {
+            Err(Halt::At(place)) => Ok(Attempt::Unsaid {
                 looked: place.min(text.len()) as u32,
             }),
-            Err(Stop::Memory) => Err(Memory),
+            Err(Halt::Memory) => Err(Memory),
         }
     }
 

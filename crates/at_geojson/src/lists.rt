@@ -19,11 +19,11 @@ use crate::asked::GeoAlgebra;
 use crate::atoms::{GeoAtom, Items, ItemsAtom, OtherAtom, Role};
 use crate::coordinates::{areas_atom, lists_atom, pair_atom, points_atom};
 use crate::geometries::Geometry;
-use crate::shapes::{empty_shape, first_of_two, joined_shapes};
+use crate::shapes::{empty_shape, joined_shapes};
 use crate::sorts::{Sort, at_of, least_of, sort_of_all};
 use crate::twins::first_twin;
 use at_query::{Part, Query, part_merge, part_none};
-use at_text::{Fault, FaultKind, Memory};
+use at_text::{Fault, FaultKind, Memory, first_of_two};
 use std::alloc::Global;
 
 /// Form at the offset.

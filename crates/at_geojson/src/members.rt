@@ -10,9 +10,10 @@ ghost use Rattle.at_geojson.specs.Members.{name_in, IsPlainName, is_named_among,
 ghost use Rattle.at_geojson.specs.Members.{AddsName, IsNewName};
 
 use crate::fields::{Field, Fields, field_of_bytes, is_other};
-use crate::places::{NamePlace, Stop, name_place, skip_spaces, stands};
+use crate::places::{NamePlace, name_place, skip_spaces, stands};
 use crate::scalars::is_simple;
 use crate::short_texts::short_text_end;
+use at_text::Halt;
 use std::alloc::Global;
 
 /// So many names of members for which no kind asks are kept in place.
@@ -62,7 +63,7 @@ fn is_among(text: &[u8], names: &[NamePlace], name: NamePlace) -> bool
 
 /// White space and a colon behind a name.
 #[inline(always)]
-fn ended_name(text: &[u8], at: usize, first: usize, end: usize) -> Result<NamePlace, Stop>
+fn ended_name(text: &[u8], at: usize, first: usize, end: usize) -> Result<NamePlace, Halt>
     requires order { at ≤ first }
     requires spaces { AreSpaces (part text.now at first) }
     requires text { IsTextAt text.now first end }
@@ -74,13 +75,13 @@ fn ended_name(text: &[u8], at: usize, first: usize, end: usize) -> Result<NamePl
     if stands(text, colon, b':') {
         Ok(NamePlace { first, end, colon })
     } else {
-        Err(Stop::At(colon))
+        Err(Halt::At(colon))
     }
 }
 
 /// White space, a name in which each byte stands for the unit of its own number, white space and a colon.
 #[inline(never)]
-fn long_name(text: &[u8], at: usize) -> Result<NamePlace, Stop>
+fn long_name(text: &[u8], at: usize) -> Result<NamePlace, Halt>
     requires inside { at ≤ length text.now }
     requires short { length text.now ≤ 2 ^ 28 }
     ensures place { IfOk result (IsNameAt text.now at) }
@@ -88,14 +89,14 @@ fn long_name(text: &[u8], at: usize) -> Result<NamePlace, Stop>
 {
     let name = name_place(text, at)?;
     if !is_simple(&text[name.first..name.end]) {
-        return Err(Stop::At(name.end));
+        return Err(Halt::At(name.end));
     }
     Ok(name)
 }
 
 /// White space and a colon behind a name of ASCII without escapes.
 #[inline(always)]
-fn short_name(text: &[u8], at: usize, first: usize, end: usize) -> Result<NamePlace, Stop>
+fn short_name(text: &[u8], at: usize, first: usize, end: usize) -> Result<NamePlace, Halt>
     requires order { at ≤ first }
     requires spaces { AreSpaces (part text.now at first) }
     requires text { IsSimpleTextAt text.now first end }
@@ -108,7 +109,7 @@ fn short_name(text: &[u8], at: usize, first: usize, end: usize) -> Result<NamePl
 
 /// A name as of `long_name`, whose bytes are looked at together where it is short.
 #[inline(always)]
-fn plain_name(text: &[u8], at: usize) -> Result<NamePlace, Stop>
+fn plain_name(text: &[u8], at: usize) -> Result<NamePlace, Halt>
     requires inside { at ≤ length text.now }
     requires short { length text.now ≤ 2 ^ 28 }
     ensures place { IfOk result (IsNameAt text.now at) }
@@ -153,7 +154,7 @@ impl OtherNames {
     }
 
     /// One more name, unless they are too many.
-    fn add(&mut self, name: NamePlace) -> Result<(), Stop>
+    fn add(&mut self, name: NamePlace) -> Result<(), Halt>
         requires { self.old.count ≤ 4 }
         ensures { IfOk result (λ _. (w : List ℕ) → AddsName w name self.old self.new) }
     {
@@ -163,7 +164,7 @@ impl OtherNames {
             return Ok(());
         }
         if self.far.len() >= MOST {
-            return Err(Stop::At(name.end));
+            return Err(Halt::At(name.end));
         }
         self.far.push(name)?;
         Ok(())
@@ -171,14 +172,14 @@ impl OtherNames {
 }
 
 /// Puts a name to those of members for which no kind asks, unless it is among them.
-fn add_other(text: &[u8], others: &mut OtherNames, name: NamePlace) -> Result<(), Stop>
+fn add_other(text: &[u8], others: &mut OtherNames, name: NamePlace) -> Result<(), Halt>
     requires names { ArePlainOthers text.now others.old }
     requires name { IsPlainName text.now name }
     ensures new { IfOk result (λ _. is_among_others text.now others.old (name_in text.now name) ≡ false) }
     ensures adds { IfOk result (λ _. AddsName text.now name others.old others.new) }
 {
     if others.has(text, name) {
-        return Err(Stop::At(name.end));
+        return Err(Halt::At(name.end));
     }
     others.add(name)?;
     Ok(())
@@ -192,7 +193,7 @@ pub fn new_name(
     fields: &Fields,
     others: &mut OtherNames,
     at: usize,
-) -> Result<FieldName, Stop>
+) -> Result<FieldName, Halt>
     requires inside { at ≤ length text.now }
     requires short { length text.now ≤ 2 ^ 28 }
     requires names { ArePlainOthers text.now others.old }
@@ -208,7 +209,7 @@ pub fn new_name(
         return Ok(FieldName { place, field });
     }
     if fields.has(field) {
-        return Err(Stop::At(place.end));
+        return Err(Halt::At(place.end));
     }
     Ok(FieldName { place, field })
 }

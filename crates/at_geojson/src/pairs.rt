@@ -10,9 +10,10 @@ ghost use Rattle.at_geojson.specs.Rows.{EndsRow, EndsPoints, ArePointsPassed, Ar
 use crate::asked::GeoAlgebra;
 use crate::atoms::{GeoAtom, Points, PositionAtom};
 use crate::coordinates::same_or_faulty;
-use crate::places::{Stop, skip_spaces, stands};
+use crate::places::{skip_spaces, stands};
 use at_fixed::{Notation, PlainNumber, plain_len, plain_number};
 use at_geom::{Pos, line_fault, ring_fault};
+use at_text::Halt;
 use std::alloc::Global;
 
 /// A value that was read: the place behind it, and its atom.
@@ -125,7 +126,7 @@ pub fn read_pair(algebra: &GeoAlgebra, text: &[u8], base: u32, at: usize) -> Opt
 }
 
 /// The values of a list whose first position this is.
-fn new_path(alloc: Global, first: Pos) -> Result<Vec<Pos>, Stop>
+fn new_path(alloc: Global, first: Pos) -> Result<Vec<Pos>, Halt>
     ensures { IfOk result (λ path. path.items ≡ first ∷ []) }
 {
     let mut path = Vec::with_capacity(alloc, ROOM)?;
@@ -237,7 +238,7 @@ fn last_point(
     at: usize,
     end: usize,
     row: Row,
-) -> Result<PointsRead, Stop>
+) -> Result<PointsRead, Halt>
     requires opens { slice_index text.now at ≡ 0x5B }
     requires inside { end < length text.now }
     requires comma { slice_index text.now end ≡ 0x2C }
@@ -247,10 +248,10 @@ fn last_point(
     ensures { IfOk result (ArePointsWhole algebra.now base text.now at) }
 {
     let Some(last) = read_spaced(algebra, text, base, end + 1) else {
-        return Err(Stop::At(end));
+        return Err(Halt::At(end));
     };
     if !stands(text, last.end, b']') {
-        return Err(Stop::At(last.end));
+        return Err(Halt::At(last.end));
     }
     let whole = Row {
         first: row.first,
@@ -270,7 +271,7 @@ fn pass_points(
     base: u32,
     at: usize,
     first: PairRead,
-) -> Result<PointsRead, Stop>
+) -> Result<PointsRead, Halt>
     requires inside { at < length text.now }
     requires opens { slice_index text.now at ≡ 0x5B }
     requires fits { base + length text.now ≤ 2 ^ 28 }
@@ -290,7 +291,7 @@ fn pass_points(
     }
     'positions: while stands(text, end, b',') {
         let Some(next) = pass_spaced(algebra, text, end + 1) else {
-            return Err(Stop::At(end));
+            return Err(Halt::At(end));
         };
         if stands(text, next, b']') {
             return last_point(algebra, text, base, at, end, row);
@@ -298,7 +299,7 @@ fn pass_points(
         row.count = one_more(row.count);
         end = next;
     }
-    Err(Stop::At(end))
+    Err(Halt::At(end))
 }
 
 /// A list of positions of which the first was read, where shapes are kept.
@@ -309,7 +310,7 @@ fn keep_points(
     base: u32,
     at: usize,
     first: PairRead,
-) -> Result<PointsRead, Stop>
+) -> Result<PointsRead, Halt>
     requires inside { at < length text.now }
     requires opens { slice_index text.now at ≡ 0x5B }
     requires fits { base + length text.now ≤ 2 ^ 28 }
@@ -323,10 +324,10 @@ fn keep_points(
     let mut end = first.end;
     'positions: while !stands(text, end, b']') {
         if !stands(text, end, b',') {
-            return Err(Stop::At(end));
+            return Err(Halt::At(end));
         }
         let Some(next) = read_spaced(algebra, text, base, end + 1) else {
-            return Err(Stop::At(end));
+            return Err(Halt::At(end));
         };
         path.push(next.pair.pos)?;
         last = next.pair.pos;
@@ -349,14 +350,14 @@ pub fn read_points(
     text: &[u8],
     base: u32,
     at: usize,
-) -> Result<PointsRead, Stop>
+) -> Result<PointsRead, Halt>
     requires inside { at < length text.now }
     requires opens { slice_index text.now at ≡ 0x5B }
     requires fits { base + length text.now ≤ 2 ^ 28 }
     ensures { IfOk result (ArePointsWhole algebra.now base text.now at) }
 {
     let Some(first) = read_spaced(algebra, text, base, at + 1) else {
-        return Err(Stop::At(at + 1));
+        return Err(Halt::At(at + 1));
     };
     if algebra.needs_shapes() {
         keep_points(algebra, alloc, text, base, at, first)

@@ -6,34 +6,8 @@ ghost use Rattle.at_lex.specs.Spans.{AreSpaces};
 ghost use Rattle.at_geojson.specs.Places.{IsTextAt, IsNameAt};
 
 use at_lex::take_text;
-use at_text::{Memory, is_space};
+use at_text::{Halt, Memory, is_space};
 use std::alloc::{AllocError, AllocFailed};
-
-/// Why a value of a text was not read at once.
-#[derive(Clone, Copy)]
-pub enum Stop {
-    /// Nothing is said of it. The text was looked at up to this place.
-    At(usize),
-    Memory,
-}
-
-impl From<Memory> for Stop {
-    fn from(_refused: Memory) -> Stop {
-        Stop::Memory
-    }
-}
-
-impl From<AllocError> for Stop {
-    fn from(_refused: AllocError) -> Stop {
-        Stop::Memory
-    }
-}
-
-impl<T: Drop> From<AllocFailed<T>> for Stop {
-    fn from(_refused: AllocFailed<T>) -> Stop {
-        Stop::Memory
-    }
-}
 
 /// Where a member's name stands: the place of its opening quote, the place behind it, and the place of its colon.
 #[derive(Clone, Copy)]
@@ -68,7 +42,7 @@ pub fn skip_spaces(text: &[u8], at: usize) -> usize
 }
 
 /// The place behind the string that begins at the place.
-pub fn text_end(text: &[u8], at: usize) -> Result<usize, Stop>
+pub fn text_end(text: &[u8], at: usize) -> Result<usize, Halt>
     requires inside { at ≤ length text.now }
     requires short { length text.now ≤ 2 ^ 28 }
     ensures { IfOk result (IsTextAt text.now at) }
@@ -78,12 +52,12 @@ pub fn text_end(text: &[u8], at: usize) -> Result<usize, Stop>
     if taken.whole {
         Ok(end)
     } else {
-        Err(Stop::At(end))
+        Err(Halt::At(end))
     }
 }
 
 /// White space, a name, white space and a colon.
-pub fn name_place(text: &[u8], at: usize) -> Result<NamePlace, Stop>
+pub fn name_place(text: &[u8], at: usize) -> Result<NamePlace, Halt>
     requires inside { at ≤ length text.now }
     requires short { length text.now ≤ 2 ^ 28 }
     ensures { IfOk result (IsNameAt text.now at) }
@@ -94,6 +68,6 @@ pub fn name_place(text: &[u8], at: usize) -> Result<NamePlace, Stop>
     if stands(text, colon, b':') {
         Ok(NamePlace { first, end, colon })
     } else {
-        Err(Stop::At(colon))
+        Err(Halt::At(colon))
     }
 }

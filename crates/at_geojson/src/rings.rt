@@ -9,10 +9,10 @@ ghost use Rattle.at_geojson.specs.Rings.{AreAreasWhole};
 use crate::asked::GeoAlgebra;
 use crate::atoms::{Areas, AreasAtom, GeoAtom, Lists, ListsAtom, Points, PointsAtom};
 use crate::pairs::{PointsRead, Whole, read_points};
-use crate::places::{Stop, skip_spaces, stands};
+use crate::places::{skip_spaces, stands};
 use crate::shapes::{one_line, one_polygon};
 use at_geom::{Path, Paths, Polygon};
-use at_text::first_fault;
+use at_text::{Halt, first_fault};
 use std::alloc::Global;
 
 /// An array of lists of positions that was read: its offset, that of the first list, the place behind it, and what is
@@ -41,14 +41,14 @@ fn points_item(
     text: &[u8],
     base: u32,
     at: usize,
-) -> Result<PointsRead, Stop>
+) -> Result<PointsRead, Halt>
     requires inside { at ≤ length text.now }
     requires fits { base + length text.now ≤ 2 ^ 28 }
     ensures { IfOk result (ArePointsItem algebra.now base text.now at) }
 {
     let first = skip_spaces(text, at);
     if !stands(text, first, b'[') {
-        return Err(Stop::At(first));
+        return Err(Halt::At(first));
     }
     let mut read = read_points(algebra, alloc, text, base, first)?;
     read.end = skip_spaces(text, read.end);
@@ -56,7 +56,7 @@ fn points_item(
 }
 
 /// What is kept of the first of lists of positions.
-fn first_list(alloc: Global, needs: bool, points: Points) -> Result<Lists, Stop>
+fn first_list(alloc: Global, needs: bool, points: Points) -> Result<Lists, Halt>
     ensures paths { IfOk result (λ lists. lists.paths.items ≡ kept needs (points.path.items ∷ [])) }
     ensures as_lines { IfOk result (λ lists. lists.as_lines ≡ points.as_line) }
     ensures as_rings { IfOk result (λ lists. lists.as_rings ≡ points.as_ring) }
@@ -70,7 +70,7 @@ fn first_list(alloc: Global, needs: bool, points: Points) -> Result<Lists, Stop>
 
 /// One more list of positions behind others.
 #[inline(always)]
-fn add_list(lists: &mut Lists, needs: bool, points: Points) -> Result<(), Stop>
+fn add_list(lists: &mut Lists, needs: bool, points: Points) -> Result<(), Halt>
     ensures { IfOk result (λ _. LengthensLists needs lists.old points lists.new) }
 {
     lists.as_lines = first_fault(lists.as_lines, points.as_line);
@@ -88,7 +88,7 @@ fn read_lists(
     text: &[u8],
     base: u32,
     at: usize,
-) -> Result<ListsRead, Stop>
+) -> Result<ListsRead, Halt>
     requires inside { at < length text.now }
     requires opens { slice_index text.now at ≡ 0x5B }
     requires fits { base + length text.now ≤ 2 ^ 28 }
@@ -101,7 +101,7 @@ fn read_lists(
     let mut lists = first_list(alloc, needs, first.points)?;
     'lists: while !stands(text, end, b']') {
         if !stands(text, end, b',') {
-            return Err(Stop::At(end));
+            return Err(Halt::At(end));
         }
         let next = points_item(algebra, alloc, text, base, end + 1)?;
         end = next.end;
@@ -122,14 +122,14 @@ fn lists_item(
     text: &[u8],
     base: u32,
     at: usize,
-) -> Result<ListsRead, Stop>
+) -> Result<ListsRead, Halt>
     requires inside { at ≤ length text.now }
     requires fits { base + length text.now ≤ 2 ^ 28 }
     ensures { IfOk result (AreListsItem algebra.now base text.now at) }
 {
     let first = skip_spaces(text, at);
     if !stands(text, first, b'[') {
-        return Err(Stop::At(first));
+        return Err(Halt::At(first));
     }
     let mut read = read_lists(algebra, alloc, text, base, first)?;
     read.end = skip_spaces(text, read.end);
@@ -137,7 +137,7 @@ fn lists_item(
 }
 
 /// What is kept of the first of areas.
-fn first_area(alloc: Global, needs: bool, lists: Lists) -> Result<Areas, Stop>
+fn first_area(alloc: Global, needs: bool, lists: Lists) -> Result<Areas, Halt>
     ensures polygons { IfOk result (λ areas. areas.polygons.items ≡ kept needs (record { rings = lists.paths.items }
         ∷ [])) }
     ensures fault { IfOk result (λ areas. areas.fault ≡ lists.as_rings) }
@@ -150,7 +150,7 @@ fn first_area(alloc: Global, needs: bool, lists: Lists) -> Result<Areas, Stop>
 
 /// One more area behind others.
 #[inline(always)]
-fn add_area(areas: &mut Areas, needs: bool, lists: Lists) -> Result<(), Stop>
+fn add_area(areas: &mut Areas, needs: bool, lists: Lists) -> Result<(), Halt>
     ensures { IfOk result (λ _. LengthensAreas needs areas.old lists areas.new) }
 {
     areas.fault = first_fault(areas.fault, lists.as_rings);
@@ -169,7 +169,7 @@ fn read_areas(
     text: &[u8],
     base: u32,
     at: usize,
-) -> Result<AreasRead, Stop>
+) -> Result<AreasRead, Halt>
     requires inside { at < length text.now }
     requires opens { slice_index text.now at ≡ 0x5B }
     requires fits { base + length text.now ≤ 2 ^ 28 }
@@ -182,7 +182,7 @@ fn read_areas(
     let mut areas = first_area(alloc, needs, first.lists)?;
     'areas: while !stands(text, end, b']') {
         if !stands(text, end, b',') {
-            return Err(Stop::At(end));
+            return Err(Halt::At(end));
         }
         let next = lists_item(algebra, alloc, text, base, end + 1)?;
         end = next.end;
@@ -203,7 +203,7 @@ fn points_value(
     text: &[u8],
     base: u32,
     at: usize,
-) -> Result<Whole, Stop>
+) -> Result<Whole, Halt>
     requires inside { at < length text.now }
     requires opens { slice_index text.now at ≡ 0x5B }
     requires fits { base + length text.now ≤ 2 ^ 28 }
@@ -227,7 +227,7 @@ fn lists_value(
     text: &[u8],
     base: u32,
     at: usize,
-) -> Result<Whole, Stop>
+) -> Result<Whole, Halt>
     requires inside { at < length text.now }
     requires opens { slice_index text.now at ≡ 0x5B }
     requires fits { base + length text.now ≤ 2 ^ 28 }
@@ -251,7 +251,7 @@ fn areas_value(
     text: &[u8],
     base: u32,
     at: usize,
-) -> Result<Whole, Stop>
+) -> Result<Whole, Halt>
     requires inside { at < length text.now }
     requires opens { slice_index text.now at ≡ 0x5B }
     requires fits { base + length text.now ≤ 2 ^ 28 }
@@ -293,7 +293,7 @@ pub fn read_coordinates(
     text: &[u8],
     base: u32,
     at: usize,
-) -> Result<Whole, Stop>
+) -> Result<Whole, Halt>
     requires inside { at < length text.now }
     requires opens { slice_index text.now at ≡ 0x5B }
     requires fits { base + length text.now ≤ 2 ^ 28 }
@@ -303,6 +303,6 @@ pub fn read_coordinates(
         2 => points_value(algebra, alloc, text, base, at),
         3 => lists_value(algebra, alloc, text, base, at),
         4 => areas_value(algebra, alloc, text, base, at),
-        _ => Err(Stop::At(at)),
+        _ => Err(Halt::At(at)),
     }
 }

@@ -9,7 +9,7 @@ ghost use Rattle.at_geojson.specs.Gathering.{JoinsShapes};
 
 use crate::geometries::Geometry;
 use at_geom::{Path, Paths, Polygon, Polygons, Pos, Shape};
-use at_text::{Fault, Memory, first_fault};
+use at_text::{Fault, Memory, first_fault, first_of_two};
 use std::alloc::Global;
 
 /// The shape of points.
@@ -88,16 +88,6 @@ pub fn one_polygon(alloc: Global, needs: bool, rings: Vec<Path>) -> Result<Vec<P
         rings: Paths::from_vec(rings),
     })?;
     Ok(polygons)
-}
-
-/// The first of two faults.
-pub fn first_of_two(left: Fault, right: Fault) -> Fault
-    ensures { Some result ≡ the_first (Some left) (Some right) }
-{
-    match first_fault(Some(left), Some(right)) {
-        Some(first) => first,
-        None => left,
-    }
 }
 
 /// Shapes one behind another: both, where neither has a fault, and else the first fault.

@@ -17,7 +17,7 @@ use crate::members::{OtherNames, new_name};
 use crate::object_atoms::{fields_atom, object_atom};
 use crate::pairs::{PairRead, Whole, read_pair};
 use crate::passing::pass_item;
-use crate::places::{Stop, name_place, skip_spaces, stands, text_end};
+use crate::places::{name_place, skip_spaces, stands, text_end};
 use crate::rings::read_coordinates;
 use crate::scalars::{plain_text_atom, scalar_atom, simple_atom};
 use crate::short_texts::short_text_end;
@@ -26,6 +26,7 @@ use at_fixed::{Notation, plain_number};
 use at_lex::{take_run, units};
 use at_nest::Member;
 use at_query::TextPairs;
+use at_text::Halt;
 use std::alloc::Global;
 
 /// Room that a list of items or members is given at first.
@@ -38,7 +39,7 @@ fn read_number(
     text: &[u8],
     base: u32,
     at: usize,
-) -> Result<Whole, Stop>
+) -> Result<Whole, Halt>
     requires inside { at ≤ length text.now }
     requires fits { base + length text.now ≤ 2 ^ 28 }
     ensures { IfOk result (IsWhole algebra.now base text.now at) }
@@ -62,7 +63,7 @@ fn read_run(
     text: &[u8],
     base: u32,
     at: usize,
-) -> Result<Whole, Stop>
+) -> Result<Whole, Halt>
     requires inside { at ≤ length text.now }
     requires fits { base + length text.now ≤ 2 ^ 28 }
     ensures { IfOk result (IsWhole algebra.now base text.now at) }
@@ -70,7 +71,7 @@ fn read_run(
     let taken = take_run(&text[at..]);
     let end = at + taken.len as usize;
     if !taken.whole {
-        return Err(Stop::At(end));
+        return Err(Halt::At(end));
     }
     let atom = scalar_atom(algebra, alloc, &text[at..end], base + at as u32)?;
     Ok(Whole { end, atom })
@@ -85,7 +86,7 @@ fn short_string(
     base: u32,
     at: usize,
     end: usize,
-) -> Result<Whole, Stop>
+) -> Result<Whole, Halt>
     requires string { IsSimpleTextAt text.now at end }
     requires fits { base + length text.now ≤ 2 ^ 28 }
     ensures { IfOk result (IsWhole algebra.now base text.now at) }
@@ -102,7 +103,7 @@ fn read_string(
     text: &[u8],
     base: u32,
     at: usize,
-) -> Result<Whole, Stop>
+) -> Result<Whole, Halt>
     requires inside { at ≤ length text.now }
     requires fits { base + length text.now ≤ 2 ^ 28 }
     ensures { IfOk result (IsWhole algebra.now base text.now at) }
@@ -121,7 +122,7 @@ fn long_string(
     text: &[u8],
     base: u32,
     at: usize,
-) -> Result<Whole, Stop>
+) -> Result<Whole, Halt>
     requires inside { at ≤ length text.now }
     requires fits { base + length text.now ≤ 2 ^ 28 }
     ensures { IfOk result (IsWhole algebra.now base text.now at) }
@@ -140,13 +141,13 @@ fn read_value(
     base: u32,
     at: usize,
     depth: u8,
-) -> Result<Whole, Stop>
+) -> Result<Whole, Halt>
     requires inside { at ≤ length text.now }
     requires fits { base + length text.now ≤ 2 ^ 28 }
     ensures { IfOk result (IsWhole algebra.now base text.now at) }
 {
     if at == text.len() {
-        return Err(Stop::At(at));
+        return Err(Halt::At(at));
     }
     match text[at] {
         b'[' => read_list(algebra, alloc, text, base, at, depth),
@@ -167,7 +168,7 @@ fn read_any(
     base: u32,
     at: usize,
     depth: u8,
-) -> Result<Whole, Stop>
+) -> Result<Whole, Halt>
     requires inside { at ≤ length text.now }
     requires fits { base + length text.now ≤ 2 ^ 28 }
     ensures { IfOk result (IsWhole algebra.now base text.now at) }
@@ -191,7 +192,7 @@ fn read_item(
     base: u32,
     at: usize,
     depth: u8,
-) -> Result<Whole, Stop>
+) -> Result<Whole, Halt>
     requires inside { at ≤ length text.now }
     requires fits { base + length text.now ≤ 2 ^ 28 }
     ensures { IfOk result (IsItem algebra.now base text.now at) }
@@ -209,7 +210,7 @@ fn ended_array(
     at: u32,
     end: usize,
     items: Vec<GeoAtom>,
-) -> Result<Whole, Stop>
+) -> Result<Whole, Halt>
     requires { All (IsOwn algebra.now) items.items }
     ensures { IfOk result (EndsArray algebra.now at end items.items) }
 {
@@ -226,14 +227,14 @@ fn read_array(
     base: u32,
     at: usize,
     depth: u8,
-) -> Result<Whole, Stop>
+) -> Result<Whole, Halt>
     requires inside { at < length text.now }
     requires opens { slice_index text.now at ≡ 0x5B }
     requires fits { base + length text.now ≤ 2 ^ 28 }
     ensures { IfOk result (IsWhole algebra.now base text.now at) }
 {
     if depth == 0 {
-        return Err(Stop::At(at));
+        return Err(Halt::At(at));
     }
     let first = skip_spaces(text, at + 1);
     if stands(text, first, b']') {
@@ -251,7 +252,7 @@ fn read_array(
             return ended_array(algebra, alloc, base + at as u32, end + 1, items);
         }
         if !stands(text, end, b',') {
-            return Err(Stop::At(end));
+            return Err(Halt::At(end));
         }
         place = end + 1;
     }
@@ -266,7 +267,7 @@ fn read_list(
     base: u32,
     at: usize,
     depth: u8,
-) -> Result<Whole, Stop>
+) -> Result<Whole, Halt>
     requires inside { at < length text.now }
     requires opens { slice_index text.now at ≡ 0x5B }
     requires fits { base + length text.now ≤ 2 ^ 28 }
@@ -274,8 +275,8 @@ fn read_list(
 {
     match read_coordinates(algebra, alloc, text, base, at) {
         Ok(whole) => Ok(whole),
-        Err(Stop::Memory) => Err(Stop::Memory),
-        Err(Stop::At(_)) => read_array(algebra, alloc, text, base, at, depth),
+        Err(Halt::Memory) => Err(Halt::Memory),
+        Err(Halt::At(_)) => read_array(algebra, alloc, text, base, at, depth),
     }
 }
 
@@ -286,7 +287,7 @@ fn ended_object(
     at: u32,
     end: usize,
     members: Vec<Member<GeoAtom>>,
-) -> Result<Whole, Stop>
+) -> Result<Whole, Halt>
     requires { All (λ m. IsOwn algebra.now m.value) members.items }
     ensures { IfOk result (EndsObject algebra.now at end members.items) }
 {
@@ -303,7 +304,7 @@ fn read_object(
     base: u32,
     at: usize,
     depth: u8,
-) -> Result<Whole, Stop>
+) -> Result<Whole, Halt>
     requires inside { at < length text.now }
     requires opens { slice_index text.now at ≡ 0x7B }
     requires fits { base + length text.now ≤ 2 ^ 28 }
@@ -323,7 +324,7 @@ fn ended_fields(
     at: u32,
     end: usize,
     fields: &mut Fields,
-) -> Result<Whole, Stop>
+) -> Result<Whole, Halt>
     requires { AreOwnFields algebra.now fields.old }
     ensures { IfOk result (EndsFields algebra.now at end fields.old) }
 {
@@ -343,14 +344,14 @@ fn put_field(
     depth: u8,
     field: Field,
     fields: &mut Fields,
-) -> Result<usize, Stop>
+) -> Result<usize, Halt>
     requires inside { at ≤ length text.now }
     requires fits { base + length text.now ≤ 2 ^ 28 }
     ensures { IfOk result (IsFieldRead algebra.now base text.now at field fields.old fields.new) }
 {
     let Whole { end, atom } = read_item(algebra, alloc, text, base, at, depth)?;
     if is_twin(&atom) {
-        return Err(Stop::At(end));
+        return Err(Halt::At(end));
     }
     fields.put(field, atom);
     Ok(end)
@@ -369,7 +370,7 @@ fn other_field(
     depth: u8,
     field: Field,
     fields: &mut Fields,
-) -> Result<usize, Stop>
+) -> Result<usize, Halt>
     requires inside { at ≤ length text.now }
     requires fits { base + length text.now ≤ 2 ^ 28 }
     requires unasked { list_any looks_at_texts algebra.now.query.tests ≡ false }
@@ -423,7 +424,7 @@ fn text_field(
     depth: u8,
     field: Field,
     fields: &mut Fields,
-) -> Result<usize, Stop>
+) -> Result<usize, Halt>
     requires inside { at ≤ length text.now }
     requires fits { base + length text.now ≤ 2 ^ 28 }
     requires unasked { list_any looks_at_texts algebra.now.query.tests ≡ false }
@@ -450,7 +451,7 @@ fn read_field(
     depth: u8,
     field: Field,
     fields: &mut Fields,
-) -> Result<usize, Stop>
+) -> Result<usize, Halt>
     requires inside { at ≤ length text.now }
     requires fits { base + length text.now ≤ 2 ^ 28 }
     requires unasked { list_any looks_at_texts algebra.now.query.tests ≡ false }
@@ -474,7 +475,7 @@ fn read_fields(
     base: u32,
     at: usize,
     depth: u8,
-) -> Result<Whole, Stop>
+) -> Result<Whole, Halt>
     requires inside { at < length text.now }
     requires opens { slice_index text.now at ≡ 0x7B }
     requires fits { base + length text.now ≤ 2 ^ 28 }
@@ -482,7 +483,7 @@ fn read_fields(
     ensures { IfOk result (IsWhole algebra.now base text.now at) }
 {
     if depth == 0 {
-        return Err(Stop::At(at));
+        return Err(Halt::At(at));
     }
     let first = skip_spaces(text, at + 1);
     let mut fields = Fields::none();
@@ -507,7 +508,7 @@ fn read_fields(
             return ended_fields(algebra, alloc, base + at as u32, end + 1, &mut fields);
         }
         if !stands(text, end, b',') {
-            return Err(Stop::At(end));
+            return Err(Halt::At(end));
         }
         place = end + 1;
     }
@@ -522,14 +523,14 @@ fn read_members(
     base: u32,
     at: usize,
     depth: u8,
-) -> Result<Whole, Stop>
+) -> Result<Whole, Halt>
     requires inside { at < length text.now }
     requires opens { slice_index text.now at ≡ 0x7B }
     requires fits { base + length text.now ≤ 2 ^ 28 }
     ensures { IfOk result (IsWhole algebra.now base text.now at) }
 {
     if depth == 0 {
-        return Err(Stop::At(at));
+        return Err(Halt::At(at));
     }
     let first = skip_spaces(text, at + 1);
     let mut members = Vec::with_capacity(alloc, ROOM)?;
@@ -550,7 +551,7 @@ fn read_members(
             return ended_object(algebra, alloc, base + at as u32, end + 1, members);
         }
         if !stands(text, end, b',') {
-            return Err(Stop::At(end));
+            return Err(Halt::At(end));
         }
         place = end + 1;
     }
@@ -565,7 +566,7 @@ pub fn whole_value(
     alloc: Global,
     text: &[u8],
     base: u32,
-) -> Result<Whole, Stop>
+) -> Result<Whole, Halt>
     requires { base + length text.now ≤ 2 ^ 28 }
     ensures { IfOk result (IsWhole algebra.now base text.now 0) }
 {
@@ -575,5 +576,5 @@ pub fn whole_value(
     if stands(text, 0, b'{') {
         return read_object(algebra, alloc, text, base, 0, DEEPEST);
     }
-    Err(Stop::At(0))
+    Err(Halt::At(0))
 }

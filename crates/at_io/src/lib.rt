@@ -23,4 +23,4 @@ pub use repeat_shelf::RepeatShelf;
 pub use shelf::{Failed, Shelf};
 pub use sink::Sink;
 pub use streams::StdSink;
-pub use whole::{LARGEST_FILE, ReadError, TURN, read_whole};
+pub use whole::{ReadError, read_whole};

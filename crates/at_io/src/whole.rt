@@ -6,13 +6,11 @@ ghost use Rattle.at_io.specs.Counts.{next_count, Rose};
 ghost use Rattle.at_io.specs.Files.{bytes_named, name_among};
 
 use crate::shelf::{Failed, Shelf};
+use at_text::MOST_BYTES;
 use std::alloc::{AllocError, Global};
 
-/// The most bytes that a file may have, 2^28.
-pub const LARGEST_FILE: usize = 1 << 28;
-
 /// The most bytes that one turn reads.
-pub const TURN: usize = 65_536;
+const TURN: usize = 65_536;
 
 /// Why a file wasn't read.
 #[derive(Clone, Copy, Debug, PartialEq, Eq)]
@@ -50,15 +48,15 @@ impl From<AllocError> for ReadError {
 /// Reads what is left of the file that was begun last, in turns of at most 65,536 bytes.
 fn read_left<S: Shelf>(alloc: Global, shelf: &mut S) -> Result<Vec<u8>, ReadError>
     ensures bytes { IfOk result (λ v. IfSome (S.left shelf.old) (λ told. v.items ≡ told)) }
-    ensures size { IfOk result (λ v. (vec_len v ≤ LARGEST_FILE) × (S.taken shelf.new ≡ S.taken shelf.old + vec_len v)) }
+    ensures size { IfOk result (λ v. (vec_len v ≤ MOST_BYTES) × (S.taken shelf.new ≡ S.taken shelf.old + vec_len v)) }
     ensures too_large { IsErrOf result ReadError.TooLarge
-        ↔ (S.taken shelf.new ≡ S.taken shelf.old + (LARGEST_FILE + 1)) }
-    ensures large { IsErrOf result ReadError.TooLarge → IfSome (S.left shelf.old) (λ told. LARGEST_FILE < length told) }
+        ↔ (S.taken shelf.new ≡ S.taken shelf.old + (MOST_BYTES + 1)) }
+    ensures large { IsErrOf result ReadError.TooLarge → IfSome (S.left shelf.old) (λ told. MOST_BYTES < length told) }
     ensures failed { IsErrOf result ReadError.Failed → Rose (S.faults shelf.old) (S.faults shelf.new)
         × (S.broken shelf.new ≡ S.begins shelf.new) }
     ensures unbroken { IsErrOf result ReadError.Failed ⊎ (S.broken shelf.new ≡ S.broken shelf.old) }
     ensures taken { S.taken shelf.old ≤ S.taken shelf.new }
-    ensures limit { S.taken shelf.new ≤ S.taken shelf.old + (LARGEST_FILE + 1) }
+    ensures limit { S.taken shelf.new ≤ S.taken shelf.old + (MOST_BYTES + 1) }
     ensures same_files { S.files shelf.new ≡ S.files shelf.old }
     ensures same_begins { S.begins shelf.new ≡ S.begins shelf.old }
     ensures same_named { S.named shelf.new ≡ S.named shelf.old }
@@ -67,12 +65,12 @@ fn read_left<S: Shelf>(alloc: Global, shelf: &mut S) -> Result<Vec<u8>, ReadErro
     let mut bytes = Vec::new(alloc);
     let mut room = [0u8; TURN];
     loop {
-        let want = TURN.min(LARGEST_FILE + 1 - bytes.len());
+        let want = TURN.min(MOST_BYTES + 1 - bytes.len());
         let given = shelf.read(&mut room[..want])?;
         if given == 0 {
             return Ok(bytes);
         }
-        if bytes.len() + given > LARGEST_FILE {
+        if bytes.len() + given > MOST_BYTES {
             return Err(ReadError::TooLarge);
         }
         bytes.extend_from_slice(&room[..given])?;
@@ -85,15 +83,15 @@ fn read_left<S: Shelf>(alloc: Global, shelf: &mut S) -> Result<Vec<u8>, ReadErro
 /// all; each turn but the last takes a byte.
 pub fn read_whole<S: Shelf>(alloc: Global, shelf: &mut S, name: &str) -> Result<Vec<u8>, ReadError>
     ensures bytes { IfOk result (λ v. IfSome (S.files shelf.old) (λ told. bytes_named told name.now ≡ Some v.items)) }
-    ensures size { IfOk result (λ v. (vec_len v ≤ LARGEST_FILE) × (S.taken shelf.new ≡ S.taken shelf.old + vec_len v)) }
+    ensures size { IfOk result (λ v. (vec_len v ≤ MOST_BYTES) × (S.taken shelf.new ≡ S.taken shelf.old + vec_len v)) }
 
     // Each refusal has its cause.
     ensures failed { IsErrOf result ReadError.Failed → Rose (S.faults shelf.old) (S.faults shelf.new)
         × (S.broken shelf.new ≡ S.begins shelf.new) }
     ensures too_large { IsErrOf result ReadError.TooLarge
-        ↔ (S.taken shelf.new ≡ S.taken shelf.old + (LARGEST_FILE + 1)) }
+        ↔ (S.taken shelf.new ≡ S.taken shelf.old + (MOST_BYTES + 1)) }
     ensures large { IsErrOf result ReadError.TooLarge
-        → IfSome (S.files shelf.old) (λ told. IfSome (bytes_named told name.now) (λ bytes. LARGEST_FILE
+        → IfSome (S.files shelf.old) (λ told. IfSome (bytes_named told name.now) (λ bytes. MOST_BYTES
         < length bytes)) }
     ensures there { (IsErrOf result ReadError.Failed)
         ⊎ IfSome (S.files shelf.old) (λ told. IsSome (bytes_named told name.now)) }
@@ -104,7 +102,7 @@ pub fn read_whole<S: Shelf>(alloc: Global, shelf: &mut S, name: &str) -> Result<
     ensures unbroken { IsErrOf result ReadError.Failed ⊎ (S.broken shelf.new ≡ S.broken shelf.old) }
     ensures same_files { S.files shelf.new ≡ S.files shelf.old }
     ensures taken { S.taken shelf.old ≤ S.taken shelf.new }
-    ensures limit { S.taken shelf.new ≤ S.taken shelf.old + (LARGEST_FILE + 1) }
+    ensures limit { S.taken shelf.new ≤ S.taken shelf.old + (MOST_BYTES + 1) }
     ensures counted { S.faults shelf.old ≤ S.faults shelf.new }
 {
     shelf.begin(name)?;

@@ -3,8 +3,8 @@
 ghost use Rattle.std.specs.Prelude.{◌≤◌, ◌≡◌, IfOk};
 
 use at_io::{
-    DiskShelf, LARGEST_FILE, MemShelf, MemSink, NamedFile, PutFail, ReadError, RepeatShelf, Shelf,
-    Sink, StdSink, TURN, read_whole,
+    DiskShelf, MemShelf, MemSink, NamedFile, PutFail, ReadError, RepeatShelf, Shelf, Sink, StdSink,
+    read_whole,
 };
 use at_text::{Bytes, Word};
 use std::alloc::{AllocError, Global};

@@ -19,7 +19,6 @@ pub mod TestParts
 pub mod TestLists
 pub mod QueryParts
 pub mod QueryRanges
-pub mod Exits
 pub mod OneAnswer
 pub mod OneQuery
 pub mod OneSpelled

@@ -12,8 +12,6 @@ use Rattle.at_geom.specs.declared.rectangles.Extent.{Extent}
 use Rattle.at_wkt.specs.Geometry.{Geometry, SpellsGeometry}
 use Rattle.at_wkt.specs.Meaning.{shape_of, faults_of, empty_shape}
 use Rattle.at_wkt.specs.Readers.{next}
-use Rattle.at_query.specs.declared.halts.Halt.{Halt}
-use Rattle.at_query.specs.declared.halts.Halt.TheVariants.{At, Memory}
 use Rattle.at_query.specs.declared.coordinates.NumberRead.{NumberRead}
 use Rattle.at_query.specs.declared.boxes.BoxRead.{BoxRead}
 use Rattle.at_query.specs.declared.boxes.Corners.{Corners}
@@ -60,11 +58,6 @@ pub record Breaks {X : Type 0} (P : X → ℕ → List ℕ → Type 0) (w : List
   pub within : n ≤ length w
   pub viable : (x : X) × (more : List ℕ) × P x i (part w i n ++ more)
   pub dead : (x : X) (v : List ℕ) → P x i v → Onward w i n v → ⊥
-
--- a fact of the place at which reading stops; want of memory has no place
-abbrev pub IfStopped : Halt → (ℕ → Type 0) → Type 0
-IfStopped (At n) P = P n
-IfStopped Memory P = Unit {0}
 
 -- the word stands from a place up to another
 pub record WordStands (w : List ℕ) (i j : ℕ) (word : List ℕ) : Type 0 where

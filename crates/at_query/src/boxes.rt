@@ -2,13 +2,15 @@
 
 ghost use Rattle.std.specs.Prelude.{◌≡◌, ◌^◌, ◌≤◌, length, MatchResult};
 ghost use Rattle.at_query.specs.Queries.{lesser, is_reversed as reversed_test};
-ghost use Rattle.at_query.specs.Readers.{Ends, Stops, IfStopped, FourNumbers, Box, four_in, box_in, extent_in};
+ghost use Rattle.at_text.specs.Halts.{IfStopped};
+ghost use Rattle.at_query.specs.Readers.{Ends, Stops, FourNumbers, Box, four_in, box_in, extent_in};
 ghost use Rattle.at_query.specs.Readers.{four_fault, fault_with};
 
 use crate::bytes::skip_word;
 use crate::coordinates::{NumberRead, read_number};
-use crate::halts::{Halt, Precision};
+use crate::precision::Precision;
 use at_geom::{Extent, Pos};
+use at_text::Halt;
 
 /// A box.
 #[derive(Clone, Copy)]

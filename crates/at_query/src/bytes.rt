@@ -2,9 +2,10 @@
 
 ghost use Rattle.std.specs.Prelude.{◌≡◌, ◌==◌, ◌≤◌, length, MatchResult};
 ghost use Rattle.at_wkt.specs.Readers.{next};
-ghost use Rattle.at_query.specs.Readers.{WordStands, WordBreaks, IfStopped};
+ghost use Rattle.at_text.specs.Halts.{IfStopped};
+ghost use Rattle.at_query.specs.Readers.{WordStands, WordBreaks};
 
-use crate::halts::Halt;
+use at_text::Halt;
 
 /// Whether the byte stands at a place of the text.
 pub fn stands(text: &[u8], at: usize, byte: u8) -> bool

@@ -3,11 +3,13 @@
 ghost use Rattle.std.specs.Prelude.{◌≡◌, ◌^◌, ◌≤◌, length, IsTrue, MatchResult};
 ghost use Rattle.at_wkt.specs.Positions.{value_in, faults_in};
 ghost use Rattle.at_query.specs.Queries.{ats_of, least_of};
-ghost use Rattle.at_query.specs.Readers.{Ends, Stops, IfStopped, is_delimiter, Number, number_in};
+ghost use Rattle.at_text.specs.Halts.{IfStopped};
+ghost use Rattle.at_query.specs.Readers.{Ends, Stops, is_delimiter, Number, number_in};
 
 use crate::bytes::skip_word;
-use crate::halts::{Halt, Precision};
+use crate::precision::Precision;
 use at_fixed::{FixedFault, Notation, leading_number};
+use at_text::Halt;
 
 /// A number and the byte behind it.
 #[derive(Clone, Copy)]

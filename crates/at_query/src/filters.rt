@@ -1,14 +1,16 @@
 //! One test of a query line, by its first word.
 
 ghost use Rattle.std.specs.Prelude.{◌+◌, ◌^◌, ◌<◌, ◌≤◌, length, MatchResult};
-ghost use Rattle.at_query.specs.Readers.{Ends, Stops, Behind, InTest, MeetsTest, HasTest, OneTest, test_in, IfStopped};
+ghost use Rattle.at_text.specs.Halts.{IfStopped};
+ghost use Rattle.at_query.specs.Readers.{Ends, Stops, Behind, InTest, MeetsTest, HasTest, OneTest, test_in};
 
 use crate::boxes::read_box;
 use crate::bytes::{skip_word, stands};
-use crate::halts::{Halt, Precision};
+use crate::precision::Precision;
 use crate::queries::Test;
 use crate::strings::read_string;
 use crate::targets::read_target;
+use at_text::Halt;
 use std::alloc::Global;
 
 /// A test.

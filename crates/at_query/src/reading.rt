@@ -4,14 +4,16 @@ ghost use Rattle.std.specs.Prelude.{◌≡◌, [], Some, None, ◌^◌, ◌≤�
 ghost use Rattle.at_query.specs.Ranges.{IsQueryInRange};
 ghost use Rattle.at_query.specs.Queries.{IsQueryOf, HasQueryFault, IfFaultAt};
 ghost use Rattle.at_query.specs.Readers.{Ends, Stops, Breaks, Then, VerbPart, Tests as TestsPart, TestsCover};
-ghost use Rattle.at_query.specs.Readers.{QueryCovers, WordStands, WordBreaks, IfStopped, joint_of};
+ghost use Rattle.at_text.specs.Halts.{IfStopped};
+ghost use Rattle.at_query.specs.Readers.{QueryCovers, WordStands, WordBreaks, joint_of};
 
 use crate::boxes::least;
 use crate::bytes::{skip_word, stands};
 use crate::filters::read_behind;
-use crate::halts::{Halt, Precision};
+use crate::precision::Precision;
 use crate::queries::{Query, Test, Tests, Verb};
 use at_fixed::Coords;
+use at_text::Halt;
 use std::alloc::Global;
 
 /// Why a query line is refused.

@@ -1,10 +1,11 @@
 //! A string of a query line.
 
 ghost use Rattle.std.specs.Prelude.{◌^◌, ◌≤◌, length, MatchResult};
-ghost use Rattle.at_query.specs.Readers.{Ends, Stops, Text, IfStopped};
+ghost use Rattle.at_text.specs.Halts.{IfStopped};
+ghost use Rattle.at_query.specs.Readers.{Ends, Stops, Text};
 
-use crate::halts::Halt;
 use at_lex::{Units, take_text, units};
+use at_text::Halt;
 use std::alloc::Global;
 
 /// A string.

@@ -3,18 +3,19 @@
 ghost use Rattle.std.specs.Prelude.{◌≡◌, ◌∷◌, [], ◌^◌, ◌≤◌, length, option_map, IfOk, MatchResult};
 ghost use Rattle.at_text.specs.declared.faults.Fault.{Fault};
 ghost use Rattle.at_query.specs.declared.queries.Test.TheVariants.{MeetsShape};
-ghost use Rattle.at_query.specs.declared.halts.Halt.TheVariants as halts;
+ghost use Rattle.at_text.specs.declared.halts.Halt.TheVariants as halts;
 ghost use Rattle.at_query.specs.Queries.{ring_of as ring_from, box_shape as shape_of_box};
-ghost use Rattle.at_query.specs.Readers.{Ends, Stops, Target, GeometryTarget, BoxTarget, test_in, IfStopped};
+ghost use Rattle.at_text.specs.Halts.{IfStopped};
+ghost use Rattle.at_query.specs.Readers.{Ends, Stops, Target, GeometryTarget, BoxTarget, test_in};
 
 use crate::boxes::read_box;
 use crate::bytes::stands;
 use crate::filters::TestRead;
-use crate::halts::{Halt, Precision};
+use crate::precision::Precision;
 use crate::queries::Test;
 use at_band::Bands;
 use at_geom::{Extent, Path, Paths, Polygon, Polygons, Pos, Shape};
-use at_text::Fault;
+use at_text::{Fault, Halt};
 use at_wkt::{LineFault, read_geometry};
 use std::alloc::{AllocError, Global};
 

@@ -7,12 +7,9 @@ ghost use Rattle.at_crew.specs.Nodes.{IsBlockCount};
 ghost use Rattle.at_run.specs.Places.{IsLeastCount, AreCuts, AreEven, first_place, last_place};
 ghost use Rattle.at_run.specs.Places.{even_place};
 
-use at_text::Memory;
+use at_text::{MOST_BLOCKS, Memory};
 use std::alloc::Global;
 use std::marker::Model;
-
-/// The most blocks that a file is cut into.
-const MOST_BLOCKS: usize = 4096;
 
 /// Places that never fall, at which a file is cut into blocks: one place more than there are blocks, of which there
 /// are a power of two from 1 to 4,096. Blocks may be empty.

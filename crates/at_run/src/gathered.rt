@@ -12,7 +12,7 @@ ghost use Rattle.at_run.specs.Gathering.{counted_of, IsOwnOf, AddsFeature, AreJo
 ghost use Rattle.at_run.specs.Gathering.{KeepsOwn};
 
 use at_query::{Accumulator, Feature, LentFeature, Part, Query};
-use at_text::{Fault, Memory, first_fault};
+use at_text::{Fault, Memory, first_fault, first_of_two};
 use at_wkt::LineFault;
 use std::mem;
 
@@ -21,16 +21,6 @@ use std::mem;
 pub enum Gathered {
     Kept(Accumulator),
     Failed(Fault),
-}
-
-/// The first of two faults.
-fn first_of_two(left: Fault, right: Fault) -> Fault
-    ensures { Some result ≡ the_first (Some left) (Some right) }
-{
-    match first_fault(Some(left), Some(right)) {
-        Some(first) => first,
-        None => left,
-    }
 }
 
 /// What is kept of the features of the one and, behind them, of the other.

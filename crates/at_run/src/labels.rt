@@ -14,7 +14,7 @@ ghost use Rattle.at_run.specs.Labelling.{AreKeptTexts, AreFrontTexts};
 use crate::encodings::is_valid;
 use at_lex::{Units, take_text, units};
 use at_query::{Test, TextPair, TextPairs};
-use at_text::{Fault, FaultKind, Memory};
+use at_text::{Fault, FaultKind, Memory, stop_at};
 use std::alloc::Global;
 
 /// The code units of the name that a label has among the texts of its feature.
@@ -61,26 +61,6 @@ fn quote_place(text: &[u8]) -> Option<usize>
         return Some(place);
     }
     None
-}
-
-/// The syntax fault of a line where no line goes on: before the byte at the place, or at the text's end.
-fn stop_at(text: &[u8], at: u32, place: usize) -> Fault
-    requires inside { place ≤ length text.now }
-    requires short { at + length text.now ≤ 2 ^ 28 }
-    ensures { result ≡ stop_fault at text.now place }
-{
-    let offset = at + place as u32;
-    if place < text.len() {
-        Fault {
-            kind: FaultKind::Syntax,
-            at: offset,
-        }
-    } else {
-        Fault {
-            kind: FaultKind::Ended,
-            at: offset,
-        }
-    }
 }
 
 /// Where the label that begins with the quote of a line ends.

@@ -16,7 +16,7 @@ use Rattle.at_nest.specs.declared.algebra.Attempt.TheVariants.{Whole}
 use Rattle.at_nest.specs.TextAnswers.{Answers}
 use Rattle.at_nest.proofs.OneTree.{one_tree}
 use Rattle.at_query.specs.declared.parts.Part.{Part}
-use Rattle.at_wkt.proofs.Exits.{first_of-append}
+use Rattle.at_wkt.proofs.FaultOrder.{first_of-append}
 use Rattle.at_wkt.proofs.LineMerges.{base_within, length-part_of}
 use Rattle.at_geojson.specs.declared.atoms.GeoAtom.{GeoAtom}
 use Rattle.at_geojson.specs.declared.asked.GeoAlgebra.{GeoAlgebra}

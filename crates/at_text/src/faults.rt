@@ -1,7 +1,8 @@
 //! What is wrong with a file, and which of two faults is told.
 
-ghost use Rattle.std.specs.Prelude.{◌≡◌};
+ghost use Rattle.std.specs.Prelude.{◌≡◌, ◌+◌, ◌≤◌, ◌^◌, length, Some};
 ghost use Rattle.at_text.specs.Faults.{number_of, tier_of, comes_first as comes_before, first_fault as the_first};
+ghost use Rattle.at_text.specs.Syntax.{stop_fault};
 
 /// What is wrong at a place of a file, a line or a query.
 #[derive(Clone, Copy, Debug, PartialEq, Eq)]
@@ -82,5 +83,36 @@ pub fn first_fault(a: Option<Fault>, b: Option<Fault>) -> Option<Fault>
         (Some(first), Some(second)) => { if first.comes_first(second) { a } else { b } }
         (None, _) => b,
         (_, None) => a,
+    }
+}
+
+/// The first of two faults, where both are there.
+pub fn first_of_two(left: Fault, right: Fault) -> Fault
+    ensures { Some result ≡ the_first (Some left) (Some right) }
+{
+    match first_fault(Some(left), Some(right)) {
+        Some(first) => first,
+        None => left,
+    }
+}
+
+/// The fault of a text that is read up to a place, and whose first byte has the offset `base`: Syntax before a byte,
+/// and Ended at the end.
+pub fn stop_at(text: &[u8], base: u32, at: usize) -> Fault
+    requires inside { at ≤ length text.now }
+    requires short { base + length text.now ≤ 2 ^ 28 }
+    ensures { result ≡ stop_fault base text.now at }
+{
+    let offset = base + at as u32;
+    if at < text.len() {
+        Fault {
+            kind: FaultKind::Syntax,
+            at: offset,
+        }
+    } else {
+        Fault {
+            kind: FaultKind::Ended,
+            at: offset,
+        }
     }
 }

@@ -5,6 +5,8 @@
 mod classes;
 mod encoding;
 mod faults;
+mod halts;
+mod limits;
 mod memory;
 mod pieces;
 mod prefixes;
@@ -12,7 +14,9 @@ mod texts;
 
 pub use classes::{is_digit, is_run, is_space};
 pub use encoding::{base_of, utf8_fault};
-pub use faults::{Fault, FaultKind, first_fault};
+pub use faults::{Fault, FaultKind, first_fault, first_of_two, stop_at};
+pub use halts::Halt;
+pub use limits::{MOST_BLOCKS, MOST_BYTES};
 pub use memory::Memory;
 pub use pieces::Pieces;
 pub use prefixes::Taken;

@@ -9,7 +9,7 @@ use Rattle.at_fixed.specs.declared.rounding.Coords.{Coords}
 use Rattle.at_geom.specs.declared.positions.Pos.{Pos}
 use Rattle.at_geom.specs.declared.shapes.Polygon.{Polygon as PolygonOf}
 use Rattle.at_wkt.specs.declared.dimension.Dimension.{Dimension}
-use Rattle.at_wkt.specs.declared.halts.Halt.{Halt}
+use Rattle.at_text.specs.declared.halts.Halt.{Halt}
 use Rattle.at_wkt.specs.declared.kinds.Kind.{Kind}
 use Rattle.at_wkt.specs.declared.kinds.Kind.TheVariants.{Point, LineString, Polygon, MultiPoint, MultiLineString, MultiPolygon, GeometryCollection}
 use Rattle.at_wkt.specs.declared.kinds.Head.{Head}
@@ -18,12 +18,13 @@ use Rattle.at_wkt.specs.declared.geometries.Gathered.{Gathered}
 use Rattle.at_wkt.specs.Positions.{pos_of, path_of, position_faults, faults_of_line}
 use Rattle.at_wkt.specs.Meaning.{present, shape_of, faults_of, polygons_of, faults_of_area}
 use Rattle.at_wkt.specs.Geometry.{Geometry, point, line_string, polygon, multi_point, multi_line_string, multi_polygon, collection, no_geometries, SpellsPoint, SpellsList, SpellsArea, EmptyOrParted, SpellsPointMember, geometry_and}
-use Rattle.at_wkt.specs.Readers.{next, Spelt, Stuck, HasCount, IfStopped, WordStands, WordBreaks, Body, BodyStands, PartStands, Grows, point_faults, added_point, line_faults, added_line}
+use Rattle.at_text.specs.Halts.{IfStopped}
+use Rattle.at_wkt.specs.Readers.{next, Spelt, Stuck, HasCount, WordStands, WordBreaks, Body, BodyStands, PartStands, Grows, point_faults, added_point, line_faults, added_line}
 use Rattle.at_wkt.proofs.Leads.{Begins}
 use Rattle.at_wkt.proofs.Steps.{Same, When, when_leads, same_leads}
 use Rattle.at_wkt.proofs.WordSteps.{Word, word_spelt, word_stuck}
 use Rattle.at_wkt.proofs.BodySteps.{is_open, is_shut, empty_first}
-use Rattle.at_wkt.proofs.Exits.{answers_by}
+use Rattle.at_text.proofs.Exits.{answers_by}
 
 -- ---- what the members of a list give together
 

@@ -10,7 +10,7 @@ pub mod ListSteps
 pub mod WordSteps
 pub mod LetterSteps
 pub mod ByteSteps
-pub mod Exits
+pub mod FaultOrder
 pub mod PositionAnswers
 pub mod PlainAnswers
 pub mod PathAnswers

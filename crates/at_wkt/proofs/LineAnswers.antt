@@ -14,14 +14,15 @@ use Rattle.std.specs.Result.{MatchResult}
 use Rattle.at_wkt.specs.declared.answers.Prefix.{Prefix}
 use Rattle.at_wkt.specs.declared.answers.LineFault.{LineFault}
 use Rattle.at_wkt.specs.declared.answers.LineFault.TheVariants.{Found}
-use Rattle.at_wkt.specs.declared.halts.Halt.{Halt}
-use Rattle.at_wkt.specs.declared.halts.Halt.TheVariants.{At, Memory as NoMemory}
+use Rattle.at_text.specs.declared.halts.Halt.{Halt}
+use Rattle.at_text.specs.declared.halts.Halt.TheVariants.{At, Memory as NoMemory}
 use Rattle.at_wkt.specs.declared.geometries.Gathered.{Gathered}
 use Rattle.at_wkt.specs.Meaning.{empty_shape}
 use Rattle.at_wkt.specs.Geometry.{Geometry, SpellsGeometry, IsLineOf, WktLine}
 use Rattle.at_wkt.specs.Answers.{IsPrefixOf, IsPrefixFault, SpellsLine, IfFound, HasFirstLineFault, unspelled, faulty, HasLineShape}
 use Rattle.at_fixed.specs.Kept.{part}
-use Rattle.at_wkt.specs.Readers.{next, Spelt, Stuck, SkipsBlanks, Meaning, joined, no_meaning, meaning_of, Expected, Gathers, IfStopped, refusal, gathered_shape, kept_shape, line_answer, LineStops}
+use Rattle.at_text.specs.Halts.{IfStopped}
+use Rattle.at_wkt.specs.Readers.{next, Spelt, Stuck, SkipsBlanks, Meaning, joined, no_meaning, meaning_of, Expected, Gathers, refusal, gathered_shape, kept_shape, line_answer, LineStops}
 use Rattle.at_wkt.proofs.Leads.{part-more, part-length, part-part, part-cons, Ahead, ahead_stuck, same_or_less}
 use Rattle.at_wkt.proofs.Steps.{AreBlanks, one_blanks, not_blank, blank_at}
 use Rattle.at_wkt.proofs.GeometrySteps.{Awaited, joined-none}

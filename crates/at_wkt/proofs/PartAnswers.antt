@@ -9,7 +9,7 @@ use Rattle.at_text.specs.Faults.{first_of}
 use Rattle.at_geom.specs.declared.positions.Pos.{Pos}
 use Rattle.at_geom.specs.declared.shapes.Polygon.{Polygon as PolygonOf}
 use Rattle.at_wkt.specs.declared.dimension.Dimension.{Dimension}
-use Rattle.at_wkt.specs.declared.halts.Halt.{Halt}
+use Rattle.at_text.specs.declared.halts.Halt.{Halt}
 use Rattle.at_wkt.specs.declared.sources.Rules.{Rules}
 use Rattle.at_wkt.specs.declared.positions.PositionRead.{PositionRead}
 use Rattle.at_wkt.specs.declared.paths.PathRead.{PathRead}
@@ -20,7 +20,8 @@ use Rattle.at_wkt.specs.Positions.{Position, Positions, position_faults, path_of
 use Rattle.at_wkt.specs.Meaning.{polygons_of, faults_of_area}
 use Rattle.at_wkt.specs.Geometry.{SpellsPosition, SpellsRing, SpellsPoint, SpellsPointMember, EmptyOrParted}
 use Rattle.at_fixed.specs.Kept.{part}
-use Rattle.at_wkt.specs.Readers.{next, Spelt, Stuck, SkipsBlanks, Delimiter, Item, Items, HasCount, WordStands, WordBreaks, DelimiterStands, DelimiterBreaks, IfStopped, opens, PositionStands, PathStands, PartStands, ItemStands, ItemsSoFar, Grows, EnclosedPosition, added_position, added_path, added_point, point_faults, faults_of_path}
+use Rattle.at_text.specs.Halts.{IfStopped}
+use Rattle.at_wkt.specs.Readers.{next, Spelt, Stuck, SkipsBlanks, Delimiter, Item, Items, HasCount, WordStands, WordBreaks, DelimiterStands, DelimiterBreaks, opens, PositionStands, PathStands, PartStands, ItemStands, ItemsSoFar, Grows, EnclosedPosition, added_position, added_path, added_point, point_faults, faults_of_path}
 use Rattle.at_wkt.proofs.Leads.{part-part, part-cons, Begins, counts}
 use Rattle.at_wkt.proofs.Steps.{no_blank, AreBlanks, blank_at, not_blank, stuck_first, when_leads}
 use Rattle.at_wkt.proofs.ItemSteps.{delimiter_spelt, delimiter_stuck}
@@ -28,7 +29,7 @@ use Rattle.at_wkt.proofs.ListSteps.{item_stuck, item_spelt, item_unended, bracke
 use Rattle.at_wkt.proofs.PositionSteps.{begins_number}
 use Rattle.at_wkt.proofs.BodySteps.{Choice, is_open, choice_open, choice_empty, choice_broken, choice_begins, parted_choice, point_choice, Bracketed, ring_begins, ring_inhabited, member_when, member_begins, bare_spelt, bare_stuck}
 use Rattle.at_wkt.proofs.PathAnswers.{so_far_end}
-use Rattle.at_wkt.proofs.Exits.{answers_by}
+use Rattle.at_text.proofs.Exits.{answers_by}
 
 -- ---- EMPTY or brackets
 

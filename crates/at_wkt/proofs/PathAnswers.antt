@@ -20,7 +20,7 @@ use Rattle.at_wkt.specs.Positions.{Position, Positions, pos_of, position_faults,
 use Rattle.at_wkt.specs.Geometry.{SpellsPosition, SpellsRing}
 use Rattle.at_wkt.specs.Readers.{PartStands, next, Spelt, Stuck, Item, Items, ItemsRead, HasCount, PositionStands, PositionsSoFar, ends_same, PositionsStand, ItemsSoFar, ItemStands, Grows, PathStands, fault_of_path, faults_of_path}
 use Rattle.at_wkt.proofs.ListSteps.{ItemLives, items_start, items_more, items_stuck, items_end, position_lives, ring_leads}
-use Rattle.at_wkt.proofs.Exits.{first_of-append}
+use Rattle.at_wkt.proofs.FaultOrder.{first_of-append}
 
 last_of-append : (p : Position) (ps : List Position) (q : Position) → last_of p (ps ++ (q ∷ [])) ≡ q
 last_of-append p [] q = refl

@@ -10,17 +10,19 @@ use Rattle.at_fixed.specs.Numerals.{Numeral}
 use Rattle.at_geom.specs.declared.positions.Pos.{Pos}
 use Rattle.at_wkt.specs.declared.dimension.Dimension.{Dimension}
 use Rattle.at_wkt.specs.declared.dimension.Dimension.TheVariants.{Fixed}
-use Rattle.at_wkt.specs.declared.halts.Halt.{Halt}
+use Rattle.at_text.specs.declared.halts.Halt.{Halt}
 use Rattle.at_wkt.specs.declared.sources.Rules.{Rules}
 use Rattle.at_wkt.specs.declared.numbers.Coordinate.{Coordinate}
 use Rattle.at_wkt.specs.declared.positions.NumbersRead.{NumbersRead}
 use Rattle.at_wkt.specs.Positions.{value_of, number_fault}
-use Rattle.at_wkt.specs.Readers.{next, allows, allows_more, Spelt, Stuck, Leads, SkipsBlanks, NumberStands, NumberBreaks, NumberSkips, delimiter, is_delimiter, FurtherNumbers, Reaches, IfStopped, IsCoordinate, PositionStands}
+use Rattle.at_text.specs.Halts.{IfStopped}
+use Rattle.at_wkt.specs.Readers.{next, allows, allows_more, Spelt, Stuck, Leads, SkipsBlanks, NumberStands, NumberBreaks, NumberSkips, delimiter, is_delimiter, FurtherNumbers, Reaches, IsCoordinate, PositionStands}
 use Rattle.at_wkt.proofs.Steps.{trans_leads}
 use Rattle.at_wkt.proofs.PositionSteps.{further_begins, further_leads, skip_leads, skip_stuck, further_lives}
 use Rattle.at_wkt.proofs.ItemSteps.{further_spelt, further_few, allows_by, more_by}
 use Rattle.at_wkt.proofs.ListSteps.{position_further}
-use Rattle.at_wkt.proofs.Exits.{answers_by, first_of-append}
+use Rattle.at_text.proofs.Exits.{answers_by}
+use Rattle.at_wkt.proofs.FaultOrder.{first_of-append}
 
 module _ (w : List ℕ) (j m : ℕ) (c : Dimension) (k : ℕ) (skips : SkipsBlanks w j m) (reaches : Reaches c k) (two : 2 ≤ k) where
   FurtherOk : NumbersRead → Type 0

@@ -19,8 +19,8 @@ use Rattle.at_text.specs.Syntax.{IsSyntaxFault, stop_fault}
 use Rattle.at_wkt.specs.declared.answers.LineFault.{LineFault}
 use Rattle.at_wkt.specs.declared.answers.LineFault.TheVariants.{Found, Memory as NoMemory}
 use Rattle.at_wkt.specs.Answers.{SpellsLine}
-use Rattle.at_wkt.specs.declared.halts.Halt.{Halt}
-use Rattle.at_wkt.specs.declared.halts.Halt.TheVariants.{At, Memory}
+use Rattle.at_text.specs.declared.halts.Halt.{Halt}
+use Rattle.at_text.specs.declared.halts.Halt.TheVariants.{At, Memory}
 use Rattle.at_wkt.specs.declared.sources.Rules.{Rules}
 use Rattle.at_wkt.specs.declared.numbers.Coordinate.{Coordinate}
 use Rattle.at_wkt.specs.declared.positions.DelimiterRead.{DelimiterRead}
@@ -235,11 +235,6 @@ pub record Matches (w : List ℕ) (i : ℕ) (word : List ℕ) (count : ℕ) : Ty
   pub within : i + count ≤ length w
   pub text : str_to_ascii_uppercase (part w i (i + count)) ≡ take count word
   pub stops : count < length word → to_ascii_uppercase (next w (i + count)) ≢ slice_index word count
-
--- a fact of the place at which reading stops; want of memory has no place
-abbrev pub IfStopped : Halt → (ℕ → Type 0) → Type 0
-IfStopped (At n) P = P n
-IfStopped Memory P = Unit {0}
 
 -- some count of numbers is left for positions
 abbrev pub HasCount : Dimension → Type 0

@@ -4,10 +4,10 @@ ghost use Rattle.std.specs.Prelude.{◌≡◌, ℕ, ◌+◌, ◌^◌, ◌≤◌,
 ghost use Rattle.at_fixed.specs.declared.rounding.Coords.{Coords};
 ghost use Rattle.at_wkt.specs.declared.dimension.Dimension.TheVariants.{Open};
 ghost use Rattle.at_wkt.specs.Readers.{Stuck, HasCount, Body, After, Expected, Advances, BodyStands, StepStands};
-ghost use Rattle.at_wkt.specs.Readers.{WholeStands, HeadStands, IfStopped, no_meaning, opens_at};
+ghost use Rattle.at_text.specs.Halts.{IfStopped};
+ghost use Rattle.at_wkt.specs.Readers.{WholeStands, HeadStands, no_meaning, opens_at};
 
 use crate::bytes::{skip_blanks, stands};
-use crate::halts::Halt;
 use crate::kinds::{Head, Kind, read_head};
 use crate::parts::{
     Read, read_line_string, read_line_strings, read_nothing, read_point, read_points, read_polygon,
@@ -17,7 +17,7 @@ use crate::paths::{Maker, add_fault, clear_paths};
 use crate::positions::read_delimiter;
 use crate::sources::Source;
 use at_geom::{Path, Polygon, Pos};
-use at_text::Fault;
+use at_text::{Fault, Halt};
 use std::alloc::Global;
 
 /// What the geometries that were read cover, and their first fault.

@@ -2,13 +2,13 @@
 
 ghost use Rattle.std.specs.Prelude.{◌≡◌, ◌≤◌, ◌+◌, ◌⊎◌, length, IfSome, MatchResult};
 ghost use Rattle.at_wkt.specs.Readers.{next, word_of, WordStands, KindBreaks, LetterStands, HeadStands, SkipsBlanks};
-ghost use Rattle.at_wkt.specs.Readers.{IfStopped};
+ghost use Rattle.at_text.specs.Halts.{IfStopped};
 
 use crate::bytes::{letter_stands, skip_blanks, stands};
 use crate::dimension::Dimension;
-use crate::halts::Halt;
 use crate::sources::Place;
 use crate::words::{matching, plain_word};
+use at_text::Halt;
 
 /// The kinds of geometry (OGC 06-103r4 section 7.2.2).
 #[derive(Clone, Copy, Debug, PartialEq, Eq)]

@@ -11,7 +11,6 @@ mod bytes;
 mod checks;
 mod dimension;
 mod geometries;
-mod halts;
 mod kinds;
 mod numbers;
 mod parts;

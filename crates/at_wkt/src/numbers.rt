@@ -5,12 +5,12 @@ ghost use Rattle.at_fixed.specs.Numerals.{Numeral};
 ghost use Rattle.at_text.specs.Faults.{first_of};
 ghost use Rattle.at_wkt.specs.declared.numbers.Coordinate.{Coordinate as CoordinateRead};
 ghost use Rattle.at_wkt.specs.Positions.{fault_of as the_fault, value_in, faults_in};
-ghost use Rattle.at_wkt.specs.Readers.{NumberStands, NumberSkips, NumberBreaks, IsCoordinate, IfStopped};
+ghost use Rattle.at_text.specs.Halts.{IfStopped};
+ghost use Rattle.at_wkt.specs.Readers.{NumberStands, NumberSkips, NumberBreaks, IsCoordinate};
 
-use crate::halts::Halt;
 use crate::sources::Source;
 use at_fixed::{FixedFault, Notation, leading_number, plain_len, plain_number, wkt_number};
-use at_text::{Fault, FaultKind};
+use at_text::{Fault, FaultKind, Halt};
 
 /// A coordinate: its value, 0 where it has a fault, and the place behind it.
 #[derive(Clone, Copy)]

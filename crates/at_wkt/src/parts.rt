@@ -9,17 +9,17 @@ ghost use Rattle.at_wkt.specs.Meaning.{faults_of_area, polygons_of};
 ghost use Rattle.at_wkt.specs.Readers.{next, Stuck, HasCount, Item, Items, EnclosedPosition, faults_of_path};
 ghost use Rattle.at_wkt.specs.Readers.{added_point, point_faults, added_line, line_faults, added_path, added_position};
 ghost use Rattle.at_wkt.specs.Readers.{opens, Grows, PartStands, ItemStands, DelimiterStands, DelimiterBreaks};
-ghost use Rattle.at_wkt.specs.Readers.{WordStands, WordBreaks, IfStopped};
+ghost use Rattle.at_text.specs.Halts.{IfStopped};
+ghost use Rattle.at_wkt.specs.Readers.{WordStands, WordBreaks};
 
 use crate::bytes::{letter_stands, skip_blanks, stands};
-use crate::halts::Halt;
 use crate::paths::{Maker, Role, add_fault, empty_rings, read_path};
 use crate::positions::{read_delimiter, read_position};
 use crate::sites::{BARE_POINT, POINT};
 use crate::sources::{Place, Source};
 use crate::words::read_empty;
 use at_geom::{Path, Paths, Polygon, Pos};
-use at_text::Fault;
+use at_text::{Fault, Halt};
 
 /// A part of a geometry that was read: its first fault, and the place behind it.
 #[derive(Clone, Copy)]

@@ -3,17 +3,17 @@
 ghost use Rattle.std.specs.Prelude.{◌≡◌, ◌+◌, ◌<◌, ◌≤◌, ◌^◌, ◌&&◌, ◌||◌, [], not, is_none, length, MatchResult};
 ghost use Rattle.std.specs.Ordering.{int_eq};
 ghost use Rattle.at_text.specs.Faults.{first_fault as the_first};
-ghost use Rattle.at_wkt.specs.declared.halts.Halt.TheVariants.{Memory};
+ghost use Rattle.at_text.specs.declared.halts.Halt.TheVariants.{Memory};
 ghost use Rattle.at_wkt.specs.Geometry.{SpellsPosition, SpellsRing};
 ghost use Rattle.at_wkt.specs.Readers.{next, Stuck, HasCount, Item, Items, PositionStands, PositionsStand, PathStands};
-ghost use Rattle.at_wkt.specs.Readers.{fault_of_path, IfStopped};
+ghost use Rattle.at_text.specs.Halts.{IfStopped};
+ghost use Rattle.at_wkt.specs.Readers.{fault_of_path};
 
-use crate::halts::Halt;
 use crate::positions::{PositionRead, read_position};
 use crate::sites::{FIRST, FURTHER};
 use crate::sources::{Place, Source};
 use at_geom::{Path, Pos, line_fault, ring_fault};
-use at_text::{Fault, first_fault};
+use at_text::{Fault, Halt, first_fault};
 use std::alloc::Global;
 use std::mem;
 

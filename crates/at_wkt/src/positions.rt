@@ -3,17 +3,17 @@
 ghost use Rattle.std.specs.Prelude.{◌≡◌, ℕ, ◌+◌, ◌<◌, ◌≤◌, ◌^◌, ◌⊎◌, true, false, IfSome, length, None, MatchResult};
 ghost use Rattle.at_wkt.specs.Geometry.{SpellsPosition};
 ghost use Rattle.at_wkt.specs.Readers.{next, allows, Spelt, Stuck, HasCount, Reaches, Item, FurtherNumbers, delimiter};
-ghost use Rattle.at_wkt.specs.Readers.{is_delimiter, DelimiterStands, DelimiterBreaks, PositionStands, IfStopped};
+ghost use Rattle.at_text.specs.Halts.{IfStopped};
+ghost use Rattle.at_wkt.specs.Readers.{is_delimiter, DelimiterStands, DelimiterBreaks, PositionStands};
 ghost use Rattle.at_wkt.specs.Readers.{IsPassed};
 ghost use Rattle.at_wkt.specs.declared.dimension.Dimension.TheVariants.{Fixed};
 
 use crate::bytes::{skip_blanks, stands};
 use crate::dimension::Dimension;
-use crate::halts::Halt;
 use crate::numbers::{Coordinate, pass_plain_number, read_number, read_plain_number, skip_number};
 use crate::sources::{Place, Source};
 use at_geom::Pos;
-use at_text::{Fault, first_fault};
+use at_text::{Fault, Halt, first_fault};
 
 /// What stands behind an item in brackets: whether it was the last, and the place behind the comma or the bracket.
 #[derive(Clone, Copy)]

@@ -3,18 +3,18 @@
 ghost use Rattle.std.specs.Prelude.{◌≡◌, [], None, ◌+◌, ◌^◌, ◌≤◌, IsTrue, length, take, MatchResult};
 ghost use Rattle.at_text.specs.Syntax.{stop_fault};
 ghost use Rattle.at_wkt.specs.Readers.{refusal as refusal_at, gathered_shape, kept_shape as shape_kept};
-ghost use Rattle.at_wkt.specs.Readers.{line_answer as answer_of, IsGatheredLine, LineStands, LineStops, IfStopped};
+ghost use Rattle.at_text.specs.Halts.{IfStopped};
+ghost use Rattle.at_wkt.specs.Readers.{line_answer as answer_of, IsGatheredLine, LineStands, LineStops};
 ghost use Rattle.at_wkt.specs.Answers.{IfFound, HasLineShape, HasFirstLineFault, IsPrefixOf, IsPrefixFault};
 
 use crate::answers::{LineFault, Prefix};
 use crate::bytes::skip_blanks;
 use crate::geometries::{Gathered, clear, read_whole};
-use crate::halts::Halt;
 use crate::paths::no_paths;
 use crate::sources::{Rules, Source};
 use at_fixed::Coords;
 use at_geom::{Path, Paths, Polygons, Shape};
-use at_text::{Fault, FaultKind};
+use at_text::{Fault, FaultKind, Halt, stop_at};
 use std::alloc::Global;
 
 /// Nothing, before anything is read.
@@ -61,26 +61,6 @@ fn line_answer(gathered: Gathered) -> Result<Shape, LineFault>
     match gathered.fault {
         None => Ok(shape_of(gathered)),
         Some(fault) => Err(LineFault::Found(fault)),
-    }
-}
-
-/// The fault of syntax at a place of a text.
-pub fn stop_at(text: &[u8], base: u32, at: usize) -> Fault
-    requires inside { at ≤ length text.now }
-    requires short { base + length text.now ≤ 2 ^ 28 }
-    ensures { result ≡ stop_fault base text.now at }
-{
-    let offset = base + at as u32;
-    if at < text.len() {
-        Fault {
-            kind: FaultKind::Syntax,
-            at: offset,
-        }
-    } else {
-        Fault {
-            kind: FaultKind::Ended,
-            at: offset,
-        }
     }
 }
 

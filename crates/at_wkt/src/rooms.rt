@@ -3,17 +3,17 @@
 ghost use Rattle.std.specs.Prelude.{◌≡◌, [], ℕ, ◌+◌, ◌≤◌, ◌^◌, length, take, IfOk, MatchResult};
 ghost use Rattle.at_fixed.specs.declared.rounding.Coords.{Coords};
 ghost use Rattle.at_wkt.specs.Answers.{HasFaultOrShape, HasLineShape, HasFirstLineFault, IfFound};
-ghost use Rattle.at_wkt.specs.Readers.{IfStopped, LineStops};
+ghost use Rattle.at_text.specs.Halts.{IfStopped};
+ghost use Rattle.at_wkt.specs.Readers.{LineStops};
 
 use crate::answers::LineFault;
 use crate::checks::is_plain_line;
 use crate::geometries::{Gathered, clear};
-use crate::halts::Halt;
-use crate::reading::{nothing_gathered, read_between, read_front, refusal_of, stop_at};
+use crate::reading::{nothing_gathered, read_between, read_front, refusal_of};
 use crate::sources::{Rules, Source};
 use at_fixed::Coords;
 use at_geom::{Path, Paths, Polygon, Polygons, Shape};
-use at_text::{Fault, Memory};
+use at_text::{Fault, Halt, Memory, stop_at};
 use std::alloc::Global;
 use std::mem;
 

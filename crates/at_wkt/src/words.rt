@@ -2,10 +2,11 @@
 
 ghost use Rattle.std.specs.Prelude.{◌≡◌, ◌≤◌, codes, length, IfSome, MatchResult};
 ghost use Rattle.std.specs.Str.{str_to_ascii_uppercase};
-ghost use Rattle.at_wkt.specs.Readers.{Matches, WordStands, WordBreaks, IfStopped};
+ghost use Rattle.at_text.specs.Halts.{IfStopped};
+ghost use Rattle.at_wkt.specs.Readers.{Matches, WordStands, WordBreaks};
 
 use crate::bytes::letter_stands;
-use crate::halts::Halt;
+use at_text::Halt;
 
 /// How many letters of the word, which is in capitals, stand at a place of the text in either case.
 pub fn matching(text: &[u8], at: usize, word: &[u8]) -> usize

@@ -16,7 +16,7 @@ use at_fixed::Coords;
 use at_io::{DiskShelf, ReadError, read_whole};
 use at_query::{Answer, Query, QueryEnd, Verb, answer_text, read_query};
 use at_run::{Cuts, Form, RunFault};
-use at_text::{Memory, base_of};
+use at_text::{MOST_BYTES, Memory, base_of};
 use std::alloc::Global;
 use std::io;
 use std::rt::{Env, Files};
@@ -152,7 +152,7 @@ fn run<R: Env + Files + Input + Print + AllocGlobal + Threads + Sync>(rt: &R) ->
         Some(word) => word.as_str().parse::<u16>().unwrap_or(1),
         None => 1,
     };
-    if query.len() > 1 << 28 {
+    if query.len() > MOST_BYTES {
         return Ok(());
     }
     let blocks = u32::from(blocks).clamp(1, 4096);

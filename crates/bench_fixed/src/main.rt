@@ -4,6 +4,7 @@
 
 mod sums;
 
+use at_text::MOST_BYTES;
 use std::rt::{Env, Files};
 use std::{fs, io};
 use sums::{sum_in_one_pass, sum_in_two_passes};
@@ -21,7 +22,7 @@ fn sum_of<R: Env + Files + AllocGlobal>(rt: &R) -> io::Result<i64> {
         return Ok(0);
     };
     let text = fs::read(rt, name.as_str())?;
-    if text.len() > 1 << 28 {
+    if text.len() > MOST_BYTES {
         return Ok(0);
     }
     Ok(if in_two_passes {

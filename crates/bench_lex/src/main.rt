@@ -4,6 +4,7 @@
 
 mod counts;
 
+use at_text::MOST_BYTES;
 use counts::count_rounds;
 use std::rt::{Env, Files};
 use std::{fs, io};
@@ -20,7 +21,7 @@ fn run<R: Env + Files + Print + AllocGlobal>(rt: &R) -> io::Result<()> {
         None => 1,
     };
     let bytes = fs::read(rt, name.as_str())?;
-    if bytes.len() > 1 << 28 {
+    if bytes.len() > MOST_BYTES {
         return Ok(());
     }
     let counts = count_rounds(bytes.as_slice(), rounds);

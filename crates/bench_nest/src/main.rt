@@ -13,6 +13,7 @@ mod passing;
 mod tokens;
 
 use at_nest::NestEnd;
+use at_text::MOST_BYTES;
 use blocks::count_nodes;
 use std::alloc::Global;
 use std::rt::{Env, Files};
@@ -79,7 +80,7 @@ fn run<R: Env + Files + Print + AllocGlobal + Threads + Sync>(rt: &R) -> io::Res
         None => 1,
     };
     let bytes = fs::read(rt, name.as_str())?;
-    if bytes.len() > 1 << 28 {
+    if bytes.len() > MOST_BYTES {
         return Ok(());
     }
     match count_rounds(

@@ -1,7 +1,7 @@
 use Rattle.std.proofs.Common.{codes, subst}
 use Rattle.at_query.specs.Readers.{Ends, Stops, WordBreaks, FourNumbers, Box, four_in}
 use Rattle.at_query.proofs.BoxParts.{box_word, box_stops, box_ends, box_is}
-use Rattle.at_query.proofs.Exits.{exits}
+use Rattle.at_text.proofs.Exits.{exits}
 use Rattle.at_query.proofs.boxes.read_box.Goals as goal
 
 pub returns-in_err-from : goal.returns-in_err-from

@@ -1,6 +1,6 @@
 use Rattle.at_query.specs.Readers.{Stops, Number, number_in}
 use Rattle.at_query.proofs.BoxParts.{corners_first, corners_second, corners_third, corners_fourth, corners_end}
-use Rattle.at_query.proofs.Exits.{exits}
+use Rattle.at_text.proofs.Exits.{exits}
 use Rattle.at_query.proofs.boxes.read_corners.Goals as goal
 
 pub returns-in_err-low_x : goal.returns-in_err-low_x

@@ -2,7 +2,7 @@ use Rattle.std.proofs.Common.{◌+◌, ◌∷◌, [], is_some, sym, ap, subst}
 use Rattle.at_wkt.proofs.NumberSteps.{number_stands, number_breaks}
 use Rattle.at_query.specs.Readers.{Ends, Number, number_in, WordBreaks}
 use Rattle.at_query.proofs.NumberParts.{number_stops, delimiter_stops, number_ends_there, number_is}
-use Rattle.at_query.proofs.Exits.{exits}
+use Rattle.at_text.proofs.Exits.{exits}
 use Rattle.at_query.proofs.coordinates.read_number.Goals as goal
 
 pub returns-in_default : goal.returns-in_default

@@ -2,7 +2,7 @@ use Rattle.std.proofs.Common.{arith}
 use Rattle.at_query.specs.Readers.{WordBreaks, OneTest, test_in}
 use Rattle.at_query.proofs.Parted.{behind_word, behind_ends, behind_stops}
 use Rattle.at_query.proofs.TestParts.{one_lives}
-use Rattle.at_query.proofs.Exits.{exits, answers_by}
+use Rattle.at_text.proofs.Exits.{exits, answers_by}
 use Rattle.at_query.proofs.filters.read_behind.Goals as goal
 
 pub returns-in_err-from : goal.returns-in_err-from

@@ -1,7 +1,7 @@
 use Rattle.std.proofs.Common.{codes}
 use Rattle.at_query.specs.Readers.{Stops, WordBreaks, Text}
 use Rattle.at_query.proofs.TestParts.{has_word, has_name, has_equals, has_value, has_ends}
-use Rattle.at_query.proofs.Exits.{exits}
+use Rattle.at_text.proofs.Exits.{exits}
 use Rattle.at_query.proofs.filters.read_has.Goals as goal
 
 pub returns-in_err-from : goal.returns-in_err-from

@@ -1,7 +1,7 @@
 use Rattle.std.proofs.Common.{codes}
 use Rattle.at_query.specs.Readers.{Stops, WordBreaks, Box, box_in}
 use Rattle.at_query.proofs.TestParts.{in_word, in_stops, in_ends}
-use Rattle.at_query.proofs.Exits.{exits}
+use Rattle.at_text.proofs.Exits.{exits}
 use Rattle.at_query.proofs.filters.read_in.Goals as goal
 
 pub returns-in_err-from : goal.returns-in_err-from

@@ -1,7 +1,7 @@
 use Rattle.std.proofs.Common.{codes}
 use Rattle.at_query.specs.Readers.{WordBreaks, test_in}
 use Rattle.at_query.proofs.TestParts.{meets_word, meets_stops, meets_ends}
-use Rattle.at_query.proofs.Exits.{exits, answers_by}
+use Rattle.at_text.proofs.Exits.{exits, answers_by}
 use Rattle.at_query.proofs.filters.read_meets.Goals as goal
 
 pub returns-in_err-from : goal.returns-in_err-from

@@ -1,7 +1,7 @@
 use Rattle.std.proofs.Common.{sym, ◌∙◌}
 use Rattle.at_query.specs.Readers.{test_in}
 use Rattle.at_query.proofs.TestParts.{test_in_ends, test_in_stops, test_meets_ends, test_meets_stops, test_has_ends, test_has_stops, test_stops}
-use Rattle.at_query.proofs.Exits.{answers_by}
+use Rattle.at_text.proofs.Exits.{answers_by}
 use Rattle.at_query.proofs.filters.read_test.Goals as goal
 
 pub returns-then-stands : goal.returns-then-stands

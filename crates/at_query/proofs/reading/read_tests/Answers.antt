@@ -1,7 +1,7 @@
 use Rattle.std.proofs.Common.{sym, ◌∙◌, ap, subst}
 use Rattle.at_query.specs.Readers.{Ends, Stops, Behind, OneTest, test_in, joint_of}
 use Rattle.at_query.proofs.TestLists.{SoFar, joint_is, at_end, so_far_stops, so_far_more}
-use Rattle.at_query.proofs.Exits.{exits}
+use Rattle.at_text.proofs.Exits.{exits}
 use Rattle.at_query.proofs.reading.read_tests.Goals as goal
 
 pub returns-in_err-read : goal.returns-in_err-read

@@ -1,7 +1,7 @@
 use Rattle.std.proofs.Common.{sym, ◌∙◌}
 use Rattle.at_query.specs.declared.queries.Verb.TheVariants.{Select, Count, Area, Extent, Hull, Join}
 use Rattle.at_query.proofs.QueryParts.{verb_ends, verb_stops, no_verb}
-use Rattle.at_query.proofs.Exits.{answers_by}
+use Rattle.at_text.proofs.Exits.{answers_by}
 use Rattle.at_query.proofs.reading.read_verb.Goals as goal
 
 pub returns-then-stands : goal.returns-then-stands

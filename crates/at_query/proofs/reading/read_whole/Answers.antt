@@ -1,7 +1,7 @@
 use Rattle.std.proofs.Common.{codes, sym, subst}
 use Rattle.at_query.specs.Readers.{Stops, Breaks, VerbPart, Tests, QueryCovers}
 use Rattle.at_query.proofs.QueryParts.{verb_breaks, tests_break, whole_covers}
-use Rattle.at_query.proofs.Exits.{exits}
+use Rattle.at_text.proofs.Exits.{exits}
 use Rattle.at_query.proofs.reading.read_whole.Goals as goal
 
 pub returns-in_err-front : goal.returns-in_err-front

@@ -1,6 +1,6 @@
 use Rattle.std.proofs.Common.{subst}
 use Rattle.at_lex.specs.Strings.{AreUnitsOf}
-use Rattle.at_wkt.proofs.Exits.{flag_off, flag_on}
+use Rattle.at_wkt.proofs.FaultOrder.{flag_off, flag_on}
 use Rattle.at_query.proofs.StringParts.{slice_part, text_ends, text_stops}
 use Rattle.at_query.proofs.strings.read_string.Goals as goal
 

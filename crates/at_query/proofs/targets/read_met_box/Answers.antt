@@ -2,7 +2,7 @@ use Rattle.std.proofs.Common.{sym, subst, ◌∙◌}
 use Rattle.at_query.specs.declared.queries.Test.TheVariants.{MeetsShape}
 use Rattle.at_query.specs.Readers.{Ends, Stops, Box, BoxTarget, box_in}
 use Rattle.at_query.proofs.GeometryParts.{met_box_stops, met_box_ends}
-use Rattle.at_query.proofs.Exits.{exits}
+use Rattle.at_text.proofs.Exits.{exits}
 use Rattle.at_query.proofs.targets.read_met_box.Goals as goal
 
 pub returns-in_err-found : goal.returns-in_err-found

@@ -2,8 +2,9 @@ use Rattle.std.proofs.Common.{◌+◌, sym, subst}
 use Rattle.at_query.specs.declared.queries.Test.TheVariants.{MeetsShape}
 use Rattle.std.proofs.lemmas.Result.{MatchResult-weaker}
 use Rattle.at_query.specs.declared.filters.TestRead.{TestRead}
-use Rattle.at_query.specs.declared.halts.Halt.{Halt}
-use Rattle.at_query.specs.Readers.{Ends, Stops, GeometryTarget, IfStopped, test_in}
+use Rattle.at_text.specs.declared.halts.Halt.{Halt}
+use Rattle.at_text.specs.Halts.{IfStopped}
+use Rattle.at_query.specs.Readers.{Ends, Stops, GeometryTarget, test_in}
 use Rattle.at_query.proofs.GeometryParts.{geometry_ends, geometry_stops}
 use Rattle.at_query.proofs.targets.read_met_geometry.Goals as goal
 

@@ -1,7 +1,7 @@
 use Rattle.std.proofs.Common.{sym, ◌∙◌}
 use Rattle.at_query.specs.Readers.{test_in}
 use Rattle.at_query.proofs.GeometryParts.{target_box_ends, target_box_stops, target_geometry_ends, target_geometry_stops}
-use Rattle.at_query.proofs.Exits.{answers_by}
+use Rattle.at_text.proofs.Exits.{answers_by}
 use Rattle.at_query.proofs.targets.read_target.Goals as goal
 
 pub returns-then-stands : goal.returns-then-stands

@@ -1,6 +1,6 @@
 use Rattle.std.proofs.Common.{◌+◌, ◌≤◌, length, sym, subst, arith}
 use Rattle.at_text.specs.Syntax.{IsSyntaxFault}
-use Rattle.at_wkt.proofs.Exits.{flag_off}
+use Rattle.at_wkt.proofs.FaultOrder.{flag_off}
 use Rattle.at_query.proofs.StringParts.{text_stops}
 use Rattle.at_run.specs.Labels.{LabelledLine}
 use Rattle.at_run.proofs.LabelSteps.{label_stops}

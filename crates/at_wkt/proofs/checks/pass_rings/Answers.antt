@@ -5,7 +5,7 @@ use Rattle.at_wkt.specs.Geometry.{SpellsRing}
 use Rattle.at_wkt.specs.Readers.{Items}
 use Rattle.at_wkt.proofs.PathAnswers.{so_far_start, so_far_more}
 use Rattle.at_wkt.proofs.PartAnswers.{items_stand}
-use Rattle.at_wkt.proofs.Exits.{flag_off, flag_on}
+use Rattle.at_wkt.proofs.FaultOrder.{flag_off, flag_on}
 use Rattle.at_wkt.proofs.CheckAnswers.{nothing_of, item_adds_nothing, part_passed}
 use Rattle.at_wkt.proofs.checks.pass_rings.Goals as goal
 

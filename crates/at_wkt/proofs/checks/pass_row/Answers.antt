@@ -1,4 +1,4 @@
-use Rattle.at_wkt.proofs.Exits.{flag_off, flag_on}
+use Rattle.at_wkt.proofs.FaultOrder.{flag_off, flag_on}
 use Rattle.at_wkt.proofs.CheckAnswers.{row_start, row_more, row_end}
 use Rattle.at_wkt.proofs.checks.pass_row.Goals as goal
 

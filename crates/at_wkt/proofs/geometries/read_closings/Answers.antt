@@ -1,7 +1,8 @@
 use Rattle.std.proofs.Common.{arith}
 use Rattle.at_wkt.specs.Readers.{DelimiterBreaks}
 use Rattle.at_wkt.proofs.ProgressAnswers.{closes_start, closes_more, closes_stuck, closes_next, closes_over}
-use Rattle.at_wkt.proofs.Exits.{exits, flag_off, flag_on}
+use Rattle.at_text.proofs.Exits.{exits}
+use Rattle.at_wkt.proofs.FaultOrder.{flag_off, flag_on}
 use Rattle.at_wkt.proofs.geometries.read_closings.Goals as goal
 
 pub loop-depth-init : goal.loop-depth-init

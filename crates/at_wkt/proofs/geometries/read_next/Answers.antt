@@ -2,7 +2,7 @@ use Rattle.std.proofs.Common.{sym, ◌∙◌, arith}
 use Rattle.at_wkt.specs.Readers.{KindBreaks}
 use Rattle.at_wkt.proofs.CollectionSteps.{kind_broken}
 use Rattle.at_wkt.proofs.ProgressAnswers.{head_count, opens_true, opening_stands}
-use Rattle.at_wkt.proofs.Exits.{exits}
+use Rattle.at_text.proofs.Exits.{exits}
 use Rattle.at_wkt.proofs.geometries.read_next.Goals as goal
 
 pub returns-in_err-head : goal.returns-in_err-head

@@ -1,7 +1,7 @@
 use Rattle.std.proofs.Common.{refl}
 use Rattle.at_wkt.specs.Readers.{Stuck, Body}
 use Rattle.at_wkt.proofs.ProgressAnswers.{simple_stuck, simple_stands, simple_behind}
-use Rattle.at_wkt.proofs.Exits.{exits, answers_by}
+use Rattle.at_text.proofs.Exits.{exits, answers_by}
 use Rattle.at_wkt.proofs.geometries.read_simple.Goals as goal
 
 pub returns-in_err-read : goal.returns-in_err-read

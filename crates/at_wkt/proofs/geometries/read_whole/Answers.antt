@@ -2,7 +2,8 @@ use Rattle.std.proofs.Common.{arith}
 use Rattle.at_wkt.specs.declared.dimension.Dimension.TheVariants.{Open}
 use Rattle.at_wkt.specs.Readers.{Stuck, Expected}
 use Rattle.at_wkt.proofs.ProgressAnswers.{steps_start, steps_more, steps_stuck, steps_end}
-use Rattle.at_wkt.proofs.Exits.{exits, flag_off, flag_on}
+use Rattle.at_text.proofs.Exits.{exits}
+use Rattle.at_wkt.proofs.FaultOrder.{flag_off, flag_on}
 use Rattle.at_wkt.proofs.geometries.read_whole.Goals as goal
 
 pub geometries-init : goal.geometries-init

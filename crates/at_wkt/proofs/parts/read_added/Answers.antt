@@ -1,7 +1,7 @@
 use Rattle.at_wkt.specs.Geometry.{SpellsRing}
 use Rattle.at_wkt.specs.Readers.{Stuck}
 use Rattle.at_wkt.proofs.PartAnswers.{added_stands}
-use Rattle.at_wkt.proofs.Exits.{exits}
+use Rattle.at_text.proofs.Exits.{exits}
 use Rattle.at_wkt.proofs.parts.read_added.Goals as goal
 
 pub returns-in_err-read : goal.returns-in_err-read

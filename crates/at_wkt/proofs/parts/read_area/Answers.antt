@@ -3,7 +3,7 @@ use Rattle.at_wkt.specs.Positions.{faults_of_ring}
 use Rattle.at_wkt.specs.Geometry.{SpellsRing}
 use Rattle.at_wkt.specs.Readers.{Stuck, Items, added_path, Grows, PartStands}
 use Rattle.at_wkt.proofs.PartAnswers.{area_stands}
-use Rattle.at_wkt.proofs.Exits.{exits}
+use Rattle.at_text.proofs.Exits.{exits}
 use Rattle.at_wkt.proofs.parts.read_area.Goals as goal
 
 pub returns-in_err-read : goal.returns-in_err-read

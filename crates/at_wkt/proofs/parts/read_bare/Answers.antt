@@ -1,7 +1,7 @@
 use Rattle.at_wkt.specs.Geometry.{SpellsPosition}
 use Rattle.at_wkt.specs.Readers.{Stuck, Item}
 use Rattle.at_wkt.proofs.PartAnswers.{position_item}
-use Rattle.at_wkt.proofs.Exits.{exits}
+use Rattle.at_text.proofs.Exits.{exits}
 use Rattle.at_wkt.proofs.parts.read_bare.Goals as goal
 
 pub returns-in_err-read : goal.returns-in_err-read

@@ -2,7 +2,8 @@ use Rattle.std.proofs.Common.{◌+◌}
 use Rattle.at_wkt.specs.Geometry.{SpellsPosition}
 use Rattle.at_wkt.specs.Readers.{Stuck, Item}
 use Rattle.at_wkt.proofs.PartAnswers.{enclosed_stuck, enclosed_comma, enclosed_stands}
-use Rattle.at_wkt.proofs.Exits.{exits, flag_off, flag_on}
+use Rattle.at_text.proofs.Exits.{exits}
+use Rattle.at_wkt.proofs.FaultOrder.{flag_off, flag_on}
 use Rattle.at_wkt.proofs.parts.read_enclosed.Goals as goal
 
 pub returns-in_err-read : goal.returns-in_err-read

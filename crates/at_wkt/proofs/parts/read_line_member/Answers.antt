@@ -4,7 +4,7 @@ use Rattle.at_wkt.specs.Readers.{Stuck, added_line, line_faults}
 use Rattle.at_wkt.proofs.BodySteps.{list_choice, blankless, choice_begins}
 use Rattle.at_wkt.proofs.ListSteps.{item_stuck}
 use Rattle.at_wkt.proofs.PartAnswers.{ended_item}
-use Rattle.at_wkt.proofs.Exits.{exits}
+use Rattle.at_text.proofs.Exits.{exits}
 use Rattle.at_wkt.proofs.parts.read_line_member.Goals as goal
 
 pub returns-in_err-line : goal.returns-in_err-line

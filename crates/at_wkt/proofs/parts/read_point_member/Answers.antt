@@ -3,7 +3,7 @@ use Rattle.at_wkt.specs.Geometry.{SpellsPoint, SpellsPointMember}
 use Rattle.at_wkt.specs.Readers.{Stuck, added_point, point_faults}
 use Rattle.at_wkt.proofs.BodySteps.{member_begins}
 use Rattle.at_wkt.proofs.PartAnswers.{ended_item, member_stands, member_stuck, bare_stands}
-use Rattle.at_wkt.proofs.Exits.{exits}
+use Rattle.at_text.proofs.Exits.{exits}
 use Rattle.at_wkt.proofs.parts.read_point_member.Goals as goal
 
 pub returns-in_err-point : goal.returns-in_err-point

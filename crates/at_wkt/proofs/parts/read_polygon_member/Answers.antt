@@ -5,7 +5,7 @@ use Rattle.at_wkt.specs.Readers.{Stuck}
 use Rattle.at_wkt.proofs.BodySteps.{parted_choice, blankless, choice_begins}
 use Rattle.at_wkt.proofs.ListSteps.{item_stuck}
 use Rattle.at_wkt.proofs.PartAnswers.{ended_item}
-use Rattle.at_wkt.proofs.Exits.{exits}
+use Rattle.at_text.proofs.Exits.{exits}
 use Rattle.at_wkt.proofs.parts.read_polygon_member.Goals as goal
 
 pub returns-in_err-polygon : goal.returns-in_err-polygon

@@ -5,7 +5,7 @@ use Rattle.at_wkt.specs.Readers.{Stuck, added_path}
 use Rattle.at_wkt.proofs.BodySteps.{ring_no_blank}
 use Rattle.at_wkt.proofs.ListSteps.{item_stuck}
 use Rattle.at_wkt.proofs.PartAnswers.{ended_item, ring_missing}
-use Rattle.at_wkt.proofs.Exits.{exits}
+use Rattle.at_text.proofs.Exits.{exits}
 use Rattle.at_wkt.proofs.parts.read_ring.Goals as goal
 
 pub returns-then-not-stands : goal.returns-then-not-stands

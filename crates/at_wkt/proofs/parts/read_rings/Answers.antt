@@ -6,7 +6,8 @@ use Rattle.at_wkt.proofs.BodySteps.{ring_inhabited}
 use Rattle.at_wkt.proofs.ListSteps.{inhabited_lives}
 use Rattle.at_wkt.proofs.PathAnswers.{so_far_start, so_far_more, so_far_stuck}
 use Rattle.at_wkt.proofs.PartAnswers.{items_stand}
-use Rattle.at_wkt.proofs.Exits.{exits, flag_off, flag_on}
+use Rattle.at_text.proofs.Exits.{exits}
+use Rattle.at_wkt.proofs.FaultOrder.{flag_off, flag_on}
 use Rattle.at_wkt.proofs.parts.read_rings.Goals as goal
 
 pub rings-init : goal.rings-init

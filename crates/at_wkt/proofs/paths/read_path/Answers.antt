@@ -2,7 +2,7 @@ use Rattle.std.proofs.Common.{◌+◌, length, ◌∙◌, ap, refl}
 use Rattle.at_wkt.specs.Geometry.{SpellsPosition}
 use Rattle.at_wkt.specs.Readers.{Items, Stuck, fault_of_path}
 use Rattle.at_wkt.proofs.PathAnswers.{path_stands, path_stuck}
-use Rattle.at_wkt.proofs.Exits.{exits}
+use Rattle.at_text.proofs.Exits.{exits}
 use Rattle.at_wkt.proofs.paths.read_path.Goals as goal
 
 pub returns-in_err-read : goal.returns-in_err-read

@@ -2,7 +2,8 @@ use Rattle.std.proofs.Common.{◌≡◌, [], ◌∷◌, ◌++◌, refl, sym, ◌
 use Rattle.at_wkt.specs.Geometry.{SpellsPosition}
 use Rattle.at_wkt.specs.Readers.{Item, Stuck, PositionsSoFar}
 use Rattle.at_wkt.proofs.PathAnswers.{positions_start, positions_more, positions_stuck, positions_stuck_first, positions_end}
-use Rattle.at_wkt.proofs.Exits.{exits, flag_off, flag_on}
+use Rattle.at_text.proofs.Exits.{exits}
+use Rattle.at_wkt.proofs.FaultOrder.{flag_off, flag_on}
 use Rattle.at_wkt.proofs.paths.read_positions.Goals as goal
 
 pub returns-in_err-first : goal.returns-in_err-first

@@ -2,7 +2,7 @@ use Rattle.std.proofs.Common.{sym, ◌∙◌, arith}
 use Rattle.at_wkt.specs.Readers.{NumberBreaks}
 use Rattle.at_wkt.proofs.ItemSteps.{further_joined, further_many, more_by}
 use Rattle.at_wkt.proofs.PositionAnswers.{further_ended, further_broken, further_goes, delimiter_inside, apart}
-use Rattle.at_wkt.proofs.Exits.{exits}
+use Rattle.at_text.proofs.Exits.{exits}
 use Rattle.at_wkt.proofs.positions.+read_further.Goals as goal
 
 pub returns-then-delimiter_stands : goal.returns-then-delimiter_stands

@@ -3,7 +3,7 @@ use Rattle.at_wkt.specs.Geometry.{SpellsPosition}
 use Rattle.at_wkt.specs.Readers.{Item, Stuck, FurtherNumbers, NumberBreaks, SkipsBlanks}
 use Rattle.at_wkt.proofs.PositionAnswers.{position_stands, apart}
 use Rattle.at_wkt.proofs.ListSteps.{position_broken_first, position_joined, position_broken_second, position_further}
-use Rattle.at_wkt.proofs.Exits.{exits}
+use Rattle.at_text.proofs.Exits.{exits}
 use Rattle.at_wkt.proofs.positions.any_position.Goals as goal
 
 pub returns-in_err-x : goal.returns-in_err-x

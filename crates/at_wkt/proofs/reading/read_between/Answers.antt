@@ -2,7 +2,7 @@ use Rattle.std.proofs.Common.{zero, refl, arith}
 use Rattle.at_wkt.specs.declared.dimension.Dimension.TheVariants.{Open}
 use Rattle.at_wkt.specs.Readers.{Stuck, Expected}
 use Rattle.at_wkt.proofs.LineAnswers.{line_stuck, line_spelled, line_beyond}
-use Rattle.at_wkt.proofs.Exits.{exits}
+use Rattle.at_text.proofs.Exits.{exits}
 use Rattle.at_wkt.proofs.reading.read_between.Goals as goal
 
 pub returns-in_err-end : goal.returns-in_err-end

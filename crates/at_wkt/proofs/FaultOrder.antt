@@ -1,34 +1,9 @@
--- The exits of `?`, and the order in which faults are told.
+-- The order in which faults are told.
 -- For `read_line`, `read_geometry` and `Room::check_line`: each call that may stop.
 use Rattle.std.proofs.Common.{◌≡◌, ℕ, ◌<◌, ◌≤◌, ◌⊎◌, inl, inr, Bool, true, false, not, ◌&&◌, ◌||◌, ◌==◌, nat_lt, nat_le, if◌then◌else◌, List, [], ◌∷◌, ◌++◌, Option, Some, None, Result, Ok, Err, refl, sym, ◌∙◌, ap, subst, arith, true≢false}
 use native.Mathlib.Decide.{dec_lt}
-use Rattle.std.specs.Result.{MatchResult, IsErrAnd}
 use Rattle.at_text.specs.declared.faults.Fault.{Fault}
 use Rattle.at_text.specs.Faults.{comes_first, first_fault, first_of, tier_of, number_of}
-use Rattle.at_wkt.specs.declared.halts.Halt.{Halt}
-use Rattle.at_wkt.specs.declared.halts.Halt.TheVariants.{At, Memory}
-use Rattle.at_wkt.specs.Readers.{IfStopped}
-
-pub stopped_by : (h : Halt) (Q R : ℕ → Type 0) → ((n : ℕ) → Q n → R n) → IfStopped h Q → IfStopped h R
-stopped_by (At n) Q R f q = f n q
-stopped_by Memory Q R f q = tt
-
--- the halt of a callee goes on as it is
-pub exits : {X : Type 0} (r : Result X Halt) (h : Halt) (P : X → Type 0) (Q R : ℕ → Type 0) → IsErrAnd r (λ y. y ≡ h) → ((n : ℕ) → Q n → R n) → IfStopped h Q → MatchResult r P (λ e. IfStopped e R)
-exits (Ok x) h P Q R e f q = absurd e
-exits (Err g) h P Q R e f q = let G : Halt → Type 0 = λ z. IfStopped z R in subst G (sym e) (stopped_by h Q R f q)
-
--- want of memory
-pub exits_memory : {X : Type 0} (r : Result X Halt) (P : X → Type 0) (R : ℕ → Type 0) → IsErrAnd r (λ y. y ≡ Memory) → MatchResult r P (λ e. IfStopped e R)
-exits_memory (Ok x) P R e = absurd e
-exits_memory (Err g) P R e = let G : Halt → Type 0 = λ z. IfStopped z R in subst G (sym e) tt
-
--- what a call answers, said in another way
-pub answers_by : {X : Type 0} (r : Result X Halt) (P P' : X → Type 0) (Q Q' : ℕ → Type 0) → MatchResult r P (λ e. IfStopped e Q) → ((x : X) → P x → P' x) → ((n : ℕ) → Q n → Q' n) → MatchResult r P' (λ e. IfStopped e Q')
-answers_by (Ok x) P P' Q Q' h f g = f x h
-answers_by (Err e) P P' Q Q' h f g = stopped_by e Q Q' g h
-
--- ---- the order of faults
 
 -- a comes before b or is told with it, by three numbers each
 abbrev Earlier : ℕ → ℕ → ℕ → ℕ → ℕ → ℕ → Type 0

@@ -1,26 +1,18 @@
-//! Why a query line isn't read on, and how its numbers are taken.
+//! Why a reader stops: at a place of the text, or for want of memory.
 
 ghost use Rattle.std.specs.Prelude.{◌≡◌};
-ghost use Rattle.at_query.specs.declared.halts.Halt.TheVariants as halts;
+ghost use Rattle.at_text.specs.declared.halts.Halt.TheVariants as halts;
 
-use at_fixed::Coords;
-use at_text::Memory;
+use crate::memory::Memory;
 use std::alloc::{AllocError, AllocFailed};
 
-/// Why the text isn't read on.
+/// Why a text isn't read on.
 #[derive(Clone, Copy, Debug, PartialEq, Eq)]
 pub enum Halt {
-    /// No query goes on as the text does from this place on.
+    /// The place in the text up to which it was read: nothing that is looked for goes on there.
     At(usize),
     /// An allocation was refused.
     Memory,
-}
-
-/// How numbers are taken.
-#[derive(Clone, Copy)]
-pub struct Precision {
-    pub digits: u8,
-    pub how: Coords,
 }
 
 impl From<AllocError> for Halt {

@@ -1,9 +1,9 @@
--- The exits of `?`.
+-- The exits of `?` where a reader stops at a place or for want of memory.
 use Rattle.std.proofs.Common.{◌≡◌, ℕ, Result, Ok, Err, sym, subst}
 use Rattle.std.specs.Result.{MatchResult, IsErrAnd}
-use Rattle.at_query.specs.declared.halts.Halt.{Halt}
-use Rattle.at_query.specs.declared.halts.Halt.TheVariants.{At, Memory}
-use Rattle.at_query.specs.Readers.{IfStopped}
+use Rattle.at_text.specs.declared.halts.Halt.{Halt}
+use Rattle.at_text.specs.declared.halts.Halt.TheVariants.{At, Memory}
+use Rattle.at_text.specs.Halts.{IfStopped}
 
 pub stopped_by : (h : Halt) (Q R : ℕ → Type 0) → ((n : ℕ) → Q n → R n) → IfStopped h Q → IfStopped h R
 stopped_by (At n) Q R f q = f n q
