@@ -6,26 +6,26 @@ use Rattle.std.proofs.lemmas.List.{drop-append-le, drop_all}
 use Rattle.std.proofs.Math.Nat.{pow-suc}
 use Rattle.at_text.specs.Texts.{is_digit}
 use Rattle.at_fixed.specs.Numerals.{AreDigits}
-use Rattle.at_fixed.specs.Kept.{part, digits_behind, Keeps}
+use Rattle.at_fixed.specs.Kept.{between, digits_behind, Keeps}
 
-pub part-none : (w : List ℕ) (from : ℕ) → from ≤ length w → part w from from ≡ []
+pub part-none : (w : List ℕ) (from : ℕ) → from ≤ length w → between w from from ≡ []
 part-none w from h = drop_all from (take from w) (omega (arith, length-take from w))
 
-pub part-more : (w : List ℕ) (from to : ℕ) → from ≤ to → to < length w → part w from (to + 1) ≡ part w from to ++ (slice_index w to ∷ [])
+pub part-more : (w : List ℕ) (from to : ℕ) → from ≤ to → to < length w → between w from (to + 1) ≡ between w from to ++ (slice_index w to ∷ [])
 part-more w from to h k =
     let fits : from ≤ length (take to w) = omega (arith, length-take to w) in
     rw (add-one to, take-suc w to 0 k) (drop-append-le from (take to w) (slice_index w to ∷ []) fits)
 
-pub part-place : (w : List ℕ) (from to : ℕ) → from ≤ to → take to w ≡ take from w ++ part w from to
-part-place w from to h = sym (take-append-drop from (take to w)) ∙ ap (λ x. x ++ part w from to) (take-take from to w h)
+pub part-place : (w : List ℕ) (from to : ℕ) → from ≤ to → take to w ≡ take from w ++ between w from to
+part-place w from to h = sym (take-append-drop from (take to w)) ∙ ap (λ x. x ++ between w from to) (take-take from to w h)
 
-pub part-length : (w : List ℕ) (from to : ℕ) → from ≤ to → to ≤ length w → from + length (part w from to) ≡ to
+pub part-length : (w : List ℕ) (from to : ℕ) → from ≤ to → to ≤ length w → from + length (between w from to) ≡ to
 part-length w from to h k = omega (arith, length-drop from (take to w), length-take to w)
 
-pub part-part : (w : List ℕ) (from mid to : ℕ) → from ≤ mid → mid ≤ to → to ≤ length w → part w from to ≡ part w from mid ++ part w mid to
+pub part-part : (w : List ℕ) (from mid to : ℕ) → from ≤ mid → mid ≤ to → to ≤ length w → between w from to ≡ between w from mid ++ between w mid to
 part-part w from mid to h k l =
     let fits : from ≤ length (take mid w) = omega (arith, length-take mid w) in
-    ap (drop from) (part-place w mid to k) ∙ drop-append-le from (take mid w) (part w mid to) fits
+    ap (drop from) (part-place w mid to k) ∙ drop-append-le from (take mid w) (between w mid to) fits
 
 pub digits-more : (ds : List ℕ) (b : ℕ) → AreDigits ds → is_digit b ≡ true → AreDigits (ds ++ (b ∷ []))
 digits-more [] b h k = (k, tt)
@@ -44,13 +44,13 @@ behind-both m [] es = refl
 behind-both m (d ∷ ds) es = behind-both (10 * m + (d - 0x30)) ds es
 
 -- a part that isn't empty begins with the byte at its place
-pub part-cons : (w : List ℕ) (from to : ℕ) → from < to → to ≤ length w → part w from to ≡ slice_index w from ∷ part w (from + 1) to
+pub part-cons : (w : List ℕ) (from to : ℕ) → from < to → to ≤ length w → between w from to ≡ slice_index w from ∷ between w (from + 1) to
 part-cons w from to h k =
-    let first : part w from (from + 1) ≡ slice_index w from ∷ [] = part-more w from from (omega arith) (omega arith) ∙ ap (λ x. x ++ (slice_index w from ∷ [])) (part-none w from (omega arith)) in
-    part-part w from (from + 1) to (omega arith) (omega arith) k ∙ ap (λ x. x ++ part w (from + 1) to) first
+    let first : between w from (from + 1) ≡ slice_index w from ∷ [] = part-more w from from (omega arith) (omega arith) ∙ ap (λ x. x ++ (slice_index w from ∷ [])) (part-none w from (omega arith)) in
+    part-part w from (from + 1) to (omega arith) (omega arith) k ∙ ap (λ x. x ++ between w (from + 1) to) first
 
-pub part-first : (w : List ℕ) (from to : ℕ) → from < to → to ≤ length w → AreDigits (part w from to) → is_digit (slice_index w from) ≡ true
-part-first w from to h k ds = let both : AreDigits (slice_index w from ∷ part w (from + 1) to) = subst AreDigits (part-cons w from to h k) ds in both.0
+pub part-first : (w : List ℕ) (from to : ℕ) → from < to → to ≤ length w → AreDigits (between w from to) → is_digit (slice_index w from) ≡ true
+part-first w from to h k ds = let both : AreDigits (slice_index w from ∷ between w (from + 1) to) = subst AreDigits (part-cons w from to h k) ds in both.0
 
 -- ---- what is kept
 
@@ -118,26 +118,26 @@ keeps_more K d m next cut after ps qs h e fits none are_digits full cuts =
 
 -- the same over the bytes of a text: digits are kept up to `stop`, and dropped from there on
 pub run_keeps : (w : List ℕ) (from stop to K d m next : ℕ) (cut after : Bool) → from ≤ stop → stop ≤ to → to ≤ length w
-    → Keeps K d cut m → next ≡ digits_behind K (part w from stop) → next < 10 ^ 19 → (10 ^ 18 ≤ K → stop ≡ from)
-    → AreDigits (part w stop to) → (stop < length w → is_digit (slice_index w stop) ≡ true → 10 ^ 18 ≤ next)
-    → ((rest : ℕ) → cut ≡ nat_lt 0 rest → after ≡ nat_lt 0 (digits_behind rest (part w stop to)))
-    → Keeps next (d + (to - stop)) after (digits_behind m (part w from to))
+    → Keeps K d cut m → next ≡ digits_behind K (between w from stop) → next < 10 ^ 19 → (10 ^ 18 ≤ K → stop ≡ from)
+    → AreDigits (between w stop to) → (stop < length w → is_digit (slice_index w stop) ≡ true → 10 ^ 18 ≤ next)
+    → ((rest : ℕ) → cut ≡ nat_lt 0 rest → after ≡ nat_lt 0 (digits_behind rest (between w stop to)))
+    → Keeps next (d + (to - stop)) after (digits_behind m (between w from to))
 run_keeps w from stop to K d m next cut after order more within h e fits full are_digits stops cuts =
-    let count : length (part w stop to) ≡ to - stop = omega (arith, part-length w stop to more within) in
-    let none : 10 ^ 18 ≤ K → part w from stop ≡ [] = λ big. ap (part w from) (full big) ∙ part-none w from (omega arith) in
-    let room : 0 < length (part w stop to) → 10 ^ 18 ≤ next = λ some.
+    let count : length (between w stop to) ≡ to - stop = omega (arith, part-length w stop to more within) in
+    let none : 10 ^ 18 ≤ K → between w from stop ≡ [] = λ big. ap (between w from) (full big) ∙ part-none w from (omega arith) in
+    let room : 0 < length (between w stop to) → 10 ^ 18 ≤ next = λ some.
     let before : stop < to = omega (arith, count, some) in
     let inside : stop < length w = omega (arith, before, within) in
     stops inside (part-first w stop to before within are_digits) in
-    let whole : part w from to ≡ part w from stop ++ part w stop to = part-part w from stop to order more within in
-    let all : Keeps next (d + length (part w stop to)) after (digits_behind m (part w from stop ++ part w stop to)) =
-    keeps_more K d m next cut after (part w from stop) (part w stop to) h e fits none are_digits room cuts in
-    let P : ℕ → Type 0 = λ n. Keeps next (d + n) after (digits_behind m (part w from to)) in
-    subst P count (subst (λ x. Keeps next (d + length (part w stop to)) after (digits_behind m x)) (sym whole) all)
+    let whole : between w from to ≡ between w from stop ++ between w stop to = part-part w from stop to order more within in
+    let all : Keeps next (d + length (between w stop to)) after (digits_behind m (between w from stop ++ between w stop to)) =
+    keeps_more K d m next cut after (between w from stop) (between w stop to) h e fits none are_digits room cuts in
+    let P : ℕ → Type 0 = λ n. Keeps next (d + n) after (digits_behind m (between w from to)) in
+    subst P count (subst (λ x. Keeps next (d + length (between w stop to)) after (digits_behind m x)) (sym whole) all)
 
 -- the same where all of them are kept
 pub run_whole : (w : List ℕ) (from stop K d m next : ℕ) (cut : Bool) → from ≤ stop → stop ≤ length w
-    → Keeps K d cut m → next ≡ digits_behind K (part w from stop) → next < 10 ^ 19 → (10 ^ 18 ≤ K → stop ≡ from)
-    → Keeps next d cut (digits_behind m (part w from stop))
+    → Keeps K d cut m → next ≡ digits_behind K (between w from stop) → next < 10 ^ 19 → (10 ^ 18 ≤ K → stop ≡ from)
+    → Keeps next d cut (digits_behind m (between w from stop))
 run_whole w from stop K d m next cut order within h e fits full =
-    kept_more K d m next cut (part w from stop) h e fits (λ big. ap (part w from) (full big) ∙ part-none w from (omega arith))
+    kept_more K d m next cut (between w from stop) h e fits (λ big. ap (between w from) (full big) ∙ part-none w from (omega arith))

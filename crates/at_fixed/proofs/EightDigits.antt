@@ -10,7 +10,7 @@ use Rattle.std.proofs.lemmas.Nat.Bits.{same_from_bits, bit_at_and, bit_at_cat_lo
 use Rattle.std.specs.Int.Bits.{and_zero_r}
 use Rattle.at_text.specs.Texts.{is_digit}
 use Rattle.at_fixed.specs.Numerals.{AreDigits}
-use Rattle.at_fixed.specs.Kept.{part, digits_behind}
+use Rattle.at_fixed.specs.Kept.{between, digits_behind}
 use Rattle.at_fixed.proofs.DigitParts.{part-none, part-more, part-part, part-length, digits-more, digits-both, behind-both, behind_split, behind_small}
 use Rattle.at_fixed.specs.Eights.{eight_bytes, digits_in, pairs_in, fours_in, eights_in, folded}
 
@@ -228,20 +228,20 @@ dropped_bytes zero w h = h
 dropped_bytes (suc at) [] h = tt
 dropped_bytes (suc at) (b ∷ w) (h, hs) = dropped_bytes at w hs
 
-pub run_digits : (w : List ℕ) (at n : ℕ) → at + n ≤ length w → ((k : ℕ) → at ≤ k → k < at + n → is_digit (slice_index w k) ≡ true) → AreDigits (part w at (at + n))
+pub run_digits : (w : List ℕ) (at n : ℕ) → at + n ≤ length w → ((k : ℕ) → at ≤ k → k < at + n → is_digit (slice_index w k) ≡ true) → AreDigits (between w at (at + n))
 run_digits w at zero room h = let none : at + 0 ≡ at = omega arith in rw (none, part-none w at (omega arith)) tt
 run_digits w at (suc n) room h =
     let place : at + suc n ≡ at + n + 1 = omega arith in
     rw (place, part-more w at (at + n) (omega arith) (omega arith))
-    (digits-more (part w at (at + n)) (slice_index w (at + n)) (run_digits w at n (omega arith) (λ k from to. h k from (omega arith))) (h (at + n) (omega arith) (omega arith)))
+    (digits-more (between w at (at + n)) (slice_index w (at + n)) (run_digits w at n (omega arith) (λ k from to. h k from (omega arith))) (h (at + n) (omega arith) (omega arith)))
 
 pub eight_digits : (w : List ℕ) (at count word result : ℕ) → at + 8 ≤ length w → ((k : ℕ) → Fits w8 (get_or w k 0)) → count ≤ 8
-    → AreDigits (part w at (at + count)) → word ≡ eight_bytes w at → result ≡ folded word count → result ≡ digits_behind 0 (part w at (at + count))
+    → AreDigits (between w at (at + count)) → word ≡ eight_bytes w at → result ≡ folded word count → result ≡ digits_behind 0 (between w at (at + count))
 eight_digits w at count word result room fits few are_digits e r =
     let bs : List ℕ = take 8 (drop at w) in
     let long : length bs ≡ 8 = omega (arith, length-take 8 (drop at w), length-drop at w, room) in
     let below : Below 256 bs = taken 8 (drop at w) (dropped_bytes at w (bytes_below w fits)) in
-    let same : part w at (at + count) ≡ take count bs = drop-take at count w ∙ sym (take-take count 8 (drop at w) few) in
+    let same : between w at (at + count) ≡ take count bs = drop-take at count w ∙ sym (take-take count 8 (drop at w) few) in
     let is : word ≡ number_l 256 bs = e ∙ (at_place w at ∙ eight_of (drop at w) (omega (arith, length-drop at w, room))) in
     r ∙ (ap (λ k. folded k count) is ∙ (folded_is count bs few long below (subst AreDigits same are_digits) ∙ ap (digits_behind 0) (sym same)))
 
@@ -249,18 +249,18 @@ eight_digits w at count word result room fits few are_digits e r =
 
 -- what is kept after so many further digits
 pub record EightKept (w : List ℕ) (from to before next : ℕ) : Type 0 where
-  pub digits : AreDigits (part w from to)
-  pub value : next ≡ digits_behind before (part w from to)
+  pub digits : AreDigits (between w from to)
+  pub value : next ≡ digits_behind before (between w from to)
   pub full : 10 ^ 18 ≤ before → to ≡ from
   pub fits : next < 10 ^ 19
 
-pub kept_both : (w : List ℕ) (from mid to before kept next : ℕ) → from ≤ mid → mid ≤ to → to ≤ length w → AreDigits (part w from mid) → AreDigits (part w mid to)
-    → kept ≡ digits_behind before (part w from mid) → next ≡ digits_behind kept (part w mid to)
-    → AreDigits (part w from to) × (next ≡ digits_behind before (part w from to))
+pub kept_both : (w : List ℕ) (from mid to before kept next : ℕ) → from ≤ mid → mid ≤ to → to ≤ length w → AreDigits (between w from mid) → AreDigits (between w mid to)
+    → kept ≡ digits_behind before (between w from mid) → next ≡ digits_behind kept (between w mid to)
+    → AreDigits (between w from to) × (next ≡ digits_behind before (between w from to))
 kept_both w from mid to before kept next order more within first second e f =
-    let whole : part w from to ≡ part w from mid ++ part w mid to = part-part w from mid to order more within in (
-      subst AreDigits (sym whole) (digits-both (part w from mid) (part w mid to) first second),
-      f ∙ (ap (λ n. digits_behind n (part w mid to)) e ∙ (sym (behind-both before (part w from mid) (part w mid to)) ∙ ap (digits_behind before) (sym whole))),
+    let whole : between w from to ≡ between w from mid ++ between w mid to = part-part w from mid to order more within in (
+      subst AreDigits (sym whole) (digits-both (between w from mid) (between w mid to) first second),
+      f ∙ (ap (λ n. digits_behind n (between w mid to)) e ∙ (sym (behind-both before (between w from mid) (between w mid to)) ∙ ap (digits_behind before) (sym whole))),
     )
 
 few_digits : (from end count before kept : ℕ) → (10 ^ 18 ≤ before → end ≡ from) → (end ≡ from → kept ≡ before) → kept < 10 ^ (19 - count) → 10 ^ 18 ≤ before → end + count ≡ from
@@ -272,11 +272,11 @@ few_digits from end (suc count) before kept full none room big =
     absurd (omega (arith, none (full big), most, room, big))
 
 pub eight_kept : (w : List ℕ) (from end count before kept number power : ℕ) → from ≤ end → end + 8 ≤ length w → count ≤ 8
-    → AreDigits (part w from end) → kept ≡ digits_behind before (part w from end) → (10 ^ 18 ≤ before → end ≡ from)
-    → AreDigits (part w end (end + count)) → number ≡ digits_behind 0 (part w end (end + count)) → power ≡ 10 ^ count → kept < 10 ^ (19 - count)
+    → AreDigits (between w from end) → kept ≡ digits_behind before (between w from end) → (10 ^ 18 ≤ before → end ≡ from)
+    → AreDigits (between w end (end + count)) → number ≡ digits_behind 0 (between w end (end + count)) → power ≡ 10 ^ count → kept < 10 ^ (19 - count)
     → EightKept w from (end + count) before (kept * power + number)
 eight_kept w from end count before kept number power order inside few first e full second v p room =
-    let ds : List ℕ = part w end (end + count) in
+    let ds : List ℕ = between w end (end + count) in
     let long : length ds ≡ count = omega (arith, part-length w end (end + count) (omega arith) (omega arith)) in
     let none : kept ≡ kept + 0 = omega arith in
     let behind : digits_behind kept ds ≡ kept * 10 ^ length ds + digits_behind 0 ds = ap (λ n. digits_behind n ds) none ∙ behind_split kept 0 ds in
@@ -289,16 +289,16 @@ eight_kept w from end count before kept number power order inside few first e fu
     let top : 10 ^ (19 - count) * 10 ^ count ≡ 10 ^ 19 = sym (pow-add 10 (19 - count) count) ∙ ap (λ n. 10 ^ n) total in
     let more : (kept + 1) * 10 ^ count ≤ 10 ^ (19 - count) * 10 ^ count = mul-le-mul_right (10 ^ count) (omega arith) in
     let fits : kept * power + number < 10 ^ 19 = rw p (grind (arith, below, more, top)) in
-    let same : end ≡ from → kept ≡ before = λ at. e ∙ (ap (λ k. digits_behind before (part w from k)) at ∙ ap (digits_behind before) (part-none w from (omega arith))) in
+    let same : end ≡ from → kept ≡ before = λ at. e ∙ (ap (λ k. digits_behind before (between w from k)) at ∙ ap (digits_behind before) (part-none w from (omega arith))) in
     let both = kept_both w from end (end + count) before kept (kept * power + number) order (omega arith) (omega arith) first second e next in
     record { digits = both.0; value = both.1; full = few_digits from end count before kept full same room; fits = fits }
 
 -- the first eight bytes
-pub first_kept : (w : List ℕ) (from count before number power : ℕ) → from + 8 ≤ length w → count ≤ 8 → AreDigits (part w from (from + count))
-    → number ≡ digits_behind 0 (part w from (from + count)) → power ≡ 10 ^ count → before < 10 ^ (19 - count)
+pub first_kept : (w : List ℕ) (from count before number power : ℕ) → from + 8 ≤ length w → count ≤ 8 → AreDigits (between w from (from + count))
+    → number ≡ digits_behind 0 (between w from (from + count)) → power ≡ 10 ^ count → before < 10 ^ (19 - count)
     → EightKept w from (from + count) before (before * power + number)
 first_kept w from count before number power inside few are_digits v p room =
-    let none : part w from from ≡ [] = part-none w from (omega arith) in
+    let none : between w from from ≡ [] = part-none w from (omega arith) in
     eight_kept w from from count before before number power (omega arith) inside few (subst AreDigits (sym none) tt) (sym (ap (digits_behind before) none)) (λ big. refl)
     are_digits v p room
 

@@ -10,7 +10,7 @@ use Rattle.at_fixed.specs.declared.scanning.Mantissa.{Mantissa}
 use Rattle.at_fixed.specs.declared.scanning.Power.{Power}
 use Rattle.at_fixed.specs.Numerals.{Exponent, Numeral, fraction_text, exponent_text, numeral_text, AreDigits, IsAtMostOneOf, IsExponent, IsNumeralOf, NumberOf, digits_value}
 use Rattle.at_fixed.specs.Fixed.{has_minus, exponent_above, exponent_below}
-use Rattle.at_fixed.specs.Kept.{part, SameOrHuge}
+use Rattle.at_fixed.specs.Kept.{between, SameOrHuge}
 use Rattle.at_fixed.specs.Decimals.{IsDecimalOf}
 use Rattle.at_fixed.specs.States.{State, Reads, letter, power_sign, power, is_letter, is_sign, step, accepts}
 use Rattle.at_fixed.specs.Scanned.{IsScanned, both_halves}
@@ -80,11 +80,11 @@ lettered_by g w i sign r (inr (e, inside, h, m)) = rw e (record {
   stops = λ more none. ap (λ c. cond c (Some power) None) none;
 })
 
-exponent_end : (g : Notation) (w : List ℕ) (i end : ℕ) → Lettered g w i → i ≤ end → end ≤ length w → AreDigits (part w i end)
+exponent_end : (g : Notation) (w : List ℕ) (i end : ℕ) → Lettered g w i → i ≤ end → end ≤ length w → AreDigits (between w i end)
     → (end < length w → is_digit (slice_index w end) ≡ false) → Finished g w end (nat_lt i end)
 exponent_end g w i end h order within digits stops = elim (cases_lt i end) [
   | inl some ↦ (let cells = part-cons w i end some within in
-      let all : AreDigits (slice_index w i ∷ part w (i + 1) end) = subst AreDigits cells digits in
+      let all : AreDigits (slice_index w i ∷ between w (i + 1) end) = subst AreDigits cells digits in
       rw (lt_true i end some) (record {
         state = power;
         reads = reads_digits g w i end h.state power h.reads some within digits (h.digit (slice_index w i) all.0) (power_stays g);
@@ -162,8 +162,8 @@ no_power p m s = record { is_exponent = tt; above = rw (m, s) (inl refl); below 
 
 -- the sign of an exponent
 record IsExponentSign (w : List ℕ) (i : ℕ) (sign : Sign) : Type 0 where
-  is_sign : IsAtMostOneOf (0x2B ∷ 0x2D ∷ []) (part w i sign.end)
-  minus : sign.is_minus ≡ has_minus (part w i sign.end)
+  is_sign : IsAtMostOneOf (0x2B ∷ 0x2D ∷ []) (between w i sign.end)
+  minus : sign.is_minus ≡ has_minus (between w i sign.end)
   order : i ≤ sign.end
 
 or_false : (b : Bool) → (b || false) ≡ b
@@ -172,11 +172,11 @@ or_false false = refl
 
 sign_by : (w : List ℕ) (i : ℕ) (sign : Sign) → i ≤ length w → ReadsSign Wkt w i sign → IsExponentSign w i sign
 sign_by w i sign inside (inl (e, m, h)) =
-    let none : part w i sign.end ≡ [] = ap (part w i) e ∙ part-none w i inside in
+    let none : between w i sign.end ≡ [] = ap (between w i) e ∙ part-none w i inside in
     record { is_sign = rw none tt; minus = rw (none, m) refl; order = omega (arith, e) }
 sign_by w i sign inside (inr (e, more, h, m)) =
-    let one : part w i sign.end ≡ slice_index w i ∷ [] =
-    ap (part w i) e ∙ (part-more w i i (omega arith) more ∙ ap (λ x. x ++ (slice_index w i ∷ [])) (part-none w i inside)) in
+    let one : between w i sign.end ≡ slice_index w i ∷ [] =
+    ap (between w i) e ∙ (part-more w i i (omega arith) more ∙ ap (λ x. x ++ (slice_index w i ∷ [])) (part-none w i inside)) in
     record { is_sign = rw one h; minus = rw (one, m) (sym (or_false (slice_index w i == 0x2D))); order = omega (arith, e) }
 
 above_same : (m k : Bool) (size v : ℕ) → m ≡ k → SameOrHuge size v → SameOrHuge (cond m 0 size) (cond k 0 v)
@@ -189,28 +189,28 @@ below_same false k size v e h = let P : Bool → Type 0 = λ b. SameOrHuge 0 (co
 
 -- the exponent that is read at a place
 abbrev exponent_at : List ℕ → ℕ → Sign → Power → Exponent
-exponent_at w from sign p = record { letter = slice_index w from; sign = part w (from + 1) sign.end; digits = part w sign.end p.end }
+exponent_at w from sign p = record { letter = slice_index w from; sign = between w (from + 1) sign.end; digits = between w sign.end p.end }
 
 power_by : (w : List ℕ) (from : ℕ) (p : Power) (x : ReadsExponent w from p) → IsTrue p.is_number → IsPowerOf p (Some (exponent_at w from x.sign p))
 power_by w from p x e =
     let sign = sign_by w (from + 1) x.sign (omega (arith, x.inside)) x.reads_sign in
-    let minus : p.is_minus ≡ has_minus (part w (from + 1) x.sign.end) = x.minus ∙ sign.minus in
+    let minus : p.is_minus ≡ has_minus (between w (from + 1) x.sign.end) = x.minus ∙ sign.minus in
     let some : x.sign.end < p.end = from_lt x.sign.end p.end (sym x.ends ∙ e) in
     record {
       is_exponent = record {
         letter = x.letter;
         sign = sign.is_sign;
-        digits = some_digits (part w x.sign.end p.end) x.digits (omega (arith, part-length w x.sign.end p.end x.order x.within, some));
+        digits = some_digits (between w x.sign.end p.end) x.digits (omega (arith, part-length w x.sign.end p.end x.order x.within, some));
       };
-      above = above_same p.is_minus (has_minus (part w (from + 1) x.sign.end)) p.size (digits_value (part w x.sign.end p.end)) minus x.size;
-      below = below_same p.is_minus (has_minus (part w (from + 1) x.sign.end)) p.size (digits_value (part w x.sign.end p.end)) minus x.size;
+      above = above_same p.is_minus (has_minus (between w (from + 1) x.sign.end)) p.size (digits_value (between w x.sign.end p.end)) minus x.size;
+      below = below_same p.is_minus (has_minus (between w (from + 1) x.sign.end)) p.size (digits_value (between w x.sign.end p.end)) minus x.size;
     }
 
 exponent_place : (w : List ℕ) (from : ℕ) (p : Power) (x : ReadsExponent w from p)
-    → take p.end w ≡ take from w ++ (slice_index w from ∷ (part w (from + 1) x.sign.end ++ part w x.sign.end p.end))
+    → take p.end w ≡ take from w ++ (slice_index w from ∷ (between w (from + 1) x.sign.end ++ between w x.sign.end p.end))
 exponent_place w from p x =
     let sign = sign_by w (from + 1) x.sign (omega (arith, x.inside)) x.reads_sign in
-    let b : ℕ = slice_index w from in let s : List ℕ = part w (from + 1) x.sign.end in let d : List ℕ = part w x.sign.end p.end in
+    let b : ℕ = slice_index w from in let s : List ℕ = between w (from + 1) x.sign.end in let d : List ℕ = between w x.sign.end p.end in
     let one : take (from + 1) w ≡ take from w ++ (b ∷ []) = (rw (add-one from, take-suc w from 0 x.inside) refl) in
     let two : take x.sign.end w ≡ (take from w ++ (b ∷ [])) ++ s = part-place w (from + 1) x.sign.end sign.order ∙ ap (λ y. y ++ s) one in
     part-place w x.sign.end p.end x.order ∙ (ap (λ y. y ++ d) two

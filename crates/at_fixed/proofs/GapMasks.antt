@@ -10,7 +10,7 @@ use Rattle.std.proofs.lemmas.List.{length-map, get_or-map}
 use lib.Lanes.{chunk, mask_l, top}
 use Rattle.at_text.specs.Texts.{is_digit}
 use Rattle.at_fixed.specs.Numerals.{AreDigits}
-use Rattle.at_fixed.specs.Kept.{part}
+use Rattle.at_fixed.specs.Kept.{between}
 use Rattle.at_fixed.specs.Scans.{EndsRun, ReadsSign}
 use Rattle.at_fixed.specs.declared.notation.Notation.{Notation}
 use Rattle.at_fixed.specs.declared.notation.Notation.TheVariants.{Json, Wkt}
@@ -187,10 +187,10 @@ marked_gap : (w : List ℕ) (at count gaps k j : ℕ) → MarksGaps w at count g
 marked_gap w at count gaps k j marks few e set =
     let P : ℕ → Type 0 = λ i. is_digit (slice_index w i) ≡ false in subst P e (is_clear (is_digit (slice_index w (at + k))) (sym (marks.each k few) ∙ set))
 
-digits_to : (w : List ℕ) (from to : ℕ) → from ≤ to → to ≤ length w → ((k : ℕ) → from ≤ k → k < to → is_digit (slice_index w k) ≡ true) → AreDigits (part w from to)
+digits_to : (w : List ℕ) (from to : ℕ) → from ≤ to → to ≤ length w → ((k : ℕ) → from ≤ k → k < to → is_digit (slice_index w k) ≡ true) → AreDigits (between w from to)
 digits_to w from to order within each =
     let place : from + (to - from) ≡ to = omega arith in
-    subst (λ z. AreDigits (part w from z)) place (run_digits w from (to - from) (omega arith) (λ k after before. each k after (omega (arith, before, place))))
+    subst (λ z. AreDigits (between w from z)) place (run_digits w from (to - from) (omega arith) (λ k after before. each k after (omega (arith, before, place))))
 
 -- they end among the bytes that were looked at
 pub ends_within : (w : List ℕ) (count from end gaps : ℕ) → count ≤ length w → MarksGaps w 0 count gaps → IsFirstSet gaps from end → EndsRun w from end

@@ -9,7 +9,7 @@ use Rattle.at_fixed.specs.declared.digits.DigitsRun.{DigitsRun}
 use Rattle.at_fixed.specs.declared.scanning.Sign.{Sign}
 use Rattle.at_fixed.specs.Numerals.{AreDigits, IsJsonWhole}
 use Rattle.at_fixed.specs.Fixed.{has_minus}
-use Rattle.at_fixed.specs.Kept.{part}
+use Rattle.at_fixed.specs.Kept.{between}
 use Rattle.at_fixed.specs.States.{State, Reads, start, signed, zero_digit, whole, fraction, power, is_first_digit, is_lead_sign, after_fraction, after_whole, lone_point, lead, step, accepts}
 use Rattle.at_fixed.specs.Scans.{ReadsSign, IsLead, ReadsLead, IsSignOf, IsWholeOf, after_lead, ReadsWhole}
 use Rattle.at_fixed.proofs.DigitParts.{part-none, part-place, part-cons, part-more}
@@ -25,10 +25,10 @@ run-both {S} step (b ∷ u) v s t x e f =
 pub reads_start : (g : Notation) (w : List ℕ) → Reads g w 0 start
 reads_start g w = record { fits = omega arith; run = refl }
 
-pub reads_part : (g : Notation) (w : List ℕ) (i j : ℕ) (s t : State) → Reads g w i s → i ≤ j → j ≤ length w → run (step g) s (part w i j) ≡ Some t → Reads g w j t
+pub reads_part : (g : Notation) (w : List ℕ) (i j : ℕ) (s t : State) → Reads g w i s → i ≤ j → j ≤ length w → run (step g) s (between w i j) ≡ Some t → Reads g w j t
 reads_part g w i j s t r h k e = record {
   fits = k;
-  run = subst (λ x. run (step g) start x ≡ Some t) (sym (part-place w i j h)) (run-both (step g) (take i w) (part w i j) start s t r.run e);
+  run = subst (λ x. run (step g) start x ≡ Some t) (sym (part-place w i j h)) (run-both (step g) (take i w) (between w i j) start s t r.run e);
 }
 
 pub reads_byte : (g : Notation) (w : List ℕ) (i : ℕ) (s t : State) → Reads g w i s → i < length w → step g s (slice_index w i) ≡ Some t → Reads g w (i + 1) t
@@ -55,14 +55,14 @@ run-digits g s stays [] h = refl
 run-digits g s stays (d ∷ ds) (h, hs) = ap (option_and_then (λ t. run (step g) t ds)) (stays d h) ∙ run-digits g s stays ds hs
 
 -- the first digit leads to a state that further ones don't leave
-pub reads_digits : (g : Notation) (w : List ℕ) (i j : ℕ) (s t : State) → Reads g w i s → i < j → j ≤ length w → AreDigits (part w i j)
+pub reads_digits : (g : Notation) (w : List ℕ) (i j : ℕ) (s t : State) → Reads g w i s → i < j → j ≤ length w → AreDigits (between w i j)
     → step g s (slice_index w i) ≡ Some t → Stays g t → Reads g w j t
 reads_digits g w i j s t r h k digits first stays =
     let cells = part-cons w i j h k in
-    let all : AreDigits (slice_index w i ∷ part w (i + 1) j) = subst AreDigits cells digits in
-    let rest : run (step g) t (part w (i + 1) j) ≡ Some t = run-digits g t stays (part w (i + 1) j) all.1 in
+    let all : AreDigits (slice_index w i ∷ between w (i + 1) j) = subst AreDigits cells digits in
+    let rest : run (step g) t (between w (i + 1) j) ≡ Some t = run-digits g t stays (between w (i + 1) j) all.1 in
     reads_part g w i j s t r (omega arith) k
-    (rw cells (ap (option_and_then (λ x. run (step g) x (part w (i + 1) j))) first ∙ rest))
+    (rw cells (ap (option_and_then (λ x. run (step g) x (between w (i + 1) j))) first ∙ rest))
 
 -- ---- the sign and the digits before the point
 
@@ -123,7 +123,7 @@ pub record Led (g : Notation) (w : List ℕ) (i end : ℕ) (led : Bool) : Type 0
   pub reads : Reads g w end state
   pub ends : accepts state ≡ led
   pub next : end < length w → step g state (slice_index w end) ≡ after_lead g led (slice_index w end)
-  pub whole_is : IsWholeOf g led (part w i end)
+  pub whole_is : IsWholeOf g led (between w i end)
 
 lead_none : (g : Notation) (b : ℕ) → is_digit b ≡ false → lead g b ≡ lone_point g b
 lead_none Json b h =
@@ -158,22 +158,22 @@ led_zero w i minus h inside e = record {
   reads = reads_byte Json w i h.state zero_digit h.reads inside (h.leads inside ∙ ap (lead Json) e);
   ends = refl;
   next = λ more. refl;
-  whole_is = (let one : part w i (i + 1) ≡ slice_index w i ∷ [] = part-more w i i (omega arith) inside ∙ ap (λ x. x ++ (slice_index w i ∷ [])) (part-none w i h.reads.fits) in
+  whole_is = (let one : between w i (i + 1) ≡ slice_index w i ∷ [] = part-more w i i (omega arith) inside ∙ ap (λ x. x ++ (slice_index w i ∷ [])) (part-none w i h.reads.fits) in
       subst IsJsonWhole (sym one) (inl (e, refl)));
 }
 
-led_digits : (g : Notation) (w : List ℕ) (i end : ℕ) (minus : Bool) → Signed g w i minus → i < end → end ≤ length w → AreDigits (part w i end)
+led_digits : (g : Notation) (w : List ℕ) (i end : ℕ) (minus : Bool) → Signed g w i minus → i < end → end ≤ length w → AreDigits (between w i end)
     → (g ≡ Json → (slice_index w i == 0x30) ≡ false) → (end < length w → is_digit (slice_index w end) ≡ false) → Led g w i end true
 led_digits g w i end minus h some within digits first stops =
     let inside : i < length w = omega arith in
     let cells = part-cons w i end some within in
-    let all : AreDigits (slice_index w i ∷ part w (i + 1) end) = subst AreDigits cells digits in
+    let all : AreDigits (slice_index w i ∷ between w (i + 1) end) = subst AreDigits cells digits in
     record {
       state = whole;
       reads = reads_digits g w i end h.state whole h.reads some within digits (h.leads inside ∙ lead_digit g (slice_index w i) all.0 first) (whole_stays g);
       ends = refl;
       next = λ more. ap (λ c. cond c (Some whole) (after_whole g (slice_index w end))) (stops more);
-      whole_is = subst (IsWholeOf g true) (sym cells) (whole_digits g (slice_index w i) (part w (i + 1) end) all first);
+      whole_is = subst (IsWholeOf g true) (sym cells) (whole_digits g (slice_index w i) (between w (i + 1) end) all first);
     }
 
 not_above : (i : ℕ) → nat_lt i i ≡ false
@@ -182,7 +182,7 @@ not_above i = grind arith
 above : (i j : ℕ) → i < j → nat_lt i j ≡ true
 above i j h = grind (arith, h)
 
-pub led_by : (g : Notation) (w : List ℕ) (i end : ℕ) (minus : Bool) → Signed g w i minus → end ≤ length w → AreDigits (part w i end) → IsLead g w i end
+pub led_by : (g : Notation) (w : List ℕ) (i end : ℕ) (minus : Bool) → Signed g w i minus → end ≤ length w → AreDigits (between w i end) → IsLead g w i end
     → Led g w i end (nat_lt i end)
 led_by g w i end minus h within digits (inl (e, stops)) = rw (e, not_above i) (led_none g w i minus h stops)
 led_by g w i end minus h within digits (inr (inl (json, e, first))) =
@@ -201,7 +201,7 @@ whole_by g w sign run h r =
       ends = led.ends;
       next = led.next;
       sign = take sign.end w;
-      whole = part w sign.end run.end;
+      whole = between w sign.end run.end;
       text = part-place w sign.end run.end r.order;
       sign_is = h.sign_is;
       whole_is = led.whole_is;

@@ -3,7 +3,7 @@ use Rattle.std.proofs.Common.{◌≡◌, ◌^◌, ℕ, ◌+◌, true, false, ari
 use Rattle.std.proofs.Math.Nat.{pow-le-pow_right}
 use Rattle.at_fixed.specs.declared.digits.KeptRun.{KeptRun}
 use Rattle.at_fixed.specs.Numerals.{AreDigits}
-use Rattle.at_fixed.specs.Kept.{part}
+use Rattle.at_fixed.specs.Kept.{between}
 use Rattle.at_fixed.specs.Scans.{EndsRun, KeepsRun, KeepsTo}
 use Rattle.at_fixed.specs.Kept.{digits_behind}
 use Rattle.at_fixed.proofs.DigitParts.{part-part, part-length, behind_small}
@@ -32,11 +32,11 @@ digits_split : (ds es : List ℕ) → AreDigits (ds ++ es) → AreDigits ds × A
 digits_split [] es h = (tt, h)
 digits_split (d ∷ ds) es (first, h) = let (front, back) = digits_split ds es h in ((first, front), back)
 
-pub first_digits : (w : List ℕ) (from mid to : ℕ) → from ≤ mid → mid ≤ to → to ≤ length w → AreDigits (part w from to) → AreDigits (part w from mid) × AreDigits (part w mid to)
-first_digits w from mid to order more within h = digits_split (part w from mid) (part w mid to) (subst AreDigits (part-part w from mid to order more within) h)
+pub first_digits : (w : List ℕ) (from mid to : ℕ) → from ≤ mid → mid ≤ to → to ≤ length w → AreDigits (between w from to) → AreDigits (between w from mid) × AreDigits (between w mid to)
+first_digits w from mid to order more within h = digits_split (between w from mid) (between w mid to) (subst AreDigits (part-part w from mid to order more within) h)
 
 -- digits behind those that were kept
-pub kept_on : (w : List ℕ) (from mid to before kept next : ℕ) → from < mid → mid ≤ to → to ≤ length w → AreDigits (part w from to) → KeepsTo w from mid before kept → KeepsTo w mid to kept next → KeepsTo w from to before next
+pub kept_on : (w : List ℕ) (from mid to before kept next : ℕ) → from < mid → mid ≤ to → to ≤ length w → AreDigits (between w from to) → KeepsTo w from mid before kept → KeepsTo w mid to kept next → KeepsTo w from to before next
 kept_on w from mid to before kept next order more within digits h k =
     let (front, back) = first_digits w from mid to (omega (arith, order)) more within digits in
     record {
@@ -62,9 +62,9 @@ run_to w from to before kept h k = record {
 pub room_more : (n k l : ℕ) → n < 10 ^ k → k ≤ l → n < 10 ^ l
 room_more n k l small more = let ten : 0 < 10 = lit< tt in let least : 10 ^ k ≤ 10 ^ l = pow-le-pow_right ten more in omega (arith, small, least)
 
-pub kept_small : (w : List ℕ) (from to before kept k : ℕ) → from ≤ to → to ≤ length w → AreDigits (part w from to) → kept ≡ digits_behind before (part w from to) → before < 10 ^ k → kept < 10 ^ (k + (to - from))
+pub kept_small : (w : List ℕ) (from to before kept k : ℕ) → from ≤ to → to ≤ length w → AreDigits (between w from to) → kept ≡ digits_behind before (between w from to) → before < 10 ^ k → kept < 10 ^ (k + (to - from))
 kept_small w from to before kept k order within digits value small =
-    let ds : List ℕ = part w from to in
+    let ds : List ℕ = between w from to in
     let count : length ds ≡ to - from = omega (arith, part-length w from to order within) in
     let below : digits_behind before ds < 10 ^ k * 10 ^ length ds = behind_small before (10 ^ k) ds small digits in
     let top : 10 ^ k * 10 ^ length ds ≡ 10 ^ (k + (to - from)) = ap (λ n. 10 ^ k * 10 ^ n) count ∙ sym (pow-add 10 k (to - from)) in

@@ -7,7 +7,7 @@ use Rattle.at_fixed.specs.declared.notation.Notation.TheVariants.{Json, Wkt}
 use Rattle.at_fixed.specs.declared.digits.DigitsRun.{DigitsRun}
 use Rattle.at_fixed.specs.declared.scanning.Mantissa.{Mantissa}
 use Rattle.at_fixed.specs.Numerals.{AreDigits, AreSomeDigits, AreWktDigits, digits_value}
-use Rattle.at_fixed.specs.Kept.{part, digits_behind, Keeps}
+use Rattle.at_fixed.specs.Kept.{between, digits_behind, Keeps}
 use Rattle.at_fixed.specs.States.{State, Reads, point, fraction, behind_digits, after_fraction, step, accepts}
 use Rattle.at_fixed.specs.Scans.{IsSignOf, IsWholeOf, after_lead, ReadsWhole, may_take_point, is_wkt, IsFrontOf, after_mantissa, ReadsMantissa}
 use Rattle.at_fixed.proofs.DigitParts.{part-place, part-cons, part-length, behind-both}
@@ -109,11 +109,11 @@ record Behind (g : Notation) (w : List ℕ) (end : ℕ) (is_number : Bool) : Typ
 pub not_above : (i : ℕ) → nat_lt i i ≡ false
 not_above i = grind arith
 
-behind_by : (g : Notation) (w : List ℕ) (i end : ℕ) (led : Bool) → Reads g w i (after_point g led) → i ≤ end → end ≤ length w → AreDigits (part w i end)
+behind_by : (g : Notation) (w : List ℕ) (i end : ℕ) (led : Bool) → Reads g w i (after_point g led) → i ≤ end → end ≤ length w → AreDigits (between w i end)
     → (end < length w → is_digit (slice_index w end) ≡ false) → Behind g w end (nat_lt i end || (led && is_wkt g))
 behind_by g w i end led r order within digits stops = elim (cases_lt i end) [
   | inl some ↦ rw (lt_true i end some) (let cells = part-cons w i end some within in
-      let all : AreDigits (slice_index w i ∷ part w (i + 1) end) = subst AreDigits cells digits in
+      let all : AreDigits (slice_index w i ∷ between w (i + 1) end) = subst AreDigits cells digits in
       record {
         state = fraction;
         reads = reads_digits g w i end (after_point g led) fraction r some within digits (digit_behind g led (slice_index w i) all.0) (fraction_stays g);
@@ -151,10 +151,10 @@ point_front Wkt false true sign whole fs h k digits m more e = (h, let P : List 
 point_front Wkt false false sign whole fs h k digits m more e = absurd (true≢false (sym e))
 
 pub fraction_by : (g : Notation) (w : List ℕ) (whole : Mantissa) (run : DigitsRun) (is_number : Bool) → ReadsWhole g w whole → IsTrue (may_take_point g w whole)
-    → whole.end + 1 ≤ run.end → run.end ≤ length w → AreDigits (part w (whole.end + 1) run.end)
+    → whole.end + 1 ≤ run.end → run.end ≤ length w → AreDigits (between w (whole.end + 1) run.end)
     → (run.end < length w → is_digit (slice_index w run.end) ≡ false) → run.digits.kept < 10 ^ 19 → run.digits.dropped ≤ run.end
     → ((m : ℕ) → Keeps whole.digits.kept whole.digits.dropped whole.digits.is_cut m
-    → Keeps run.digits.kept run.digits.dropped run.digits.is_cut (digits_behind m (part w (whole.end + 1) run.end)))
+    → Keeps run.digits.kept run.digits.dropped run.digits.is_cut (digits_behind m (between w (whole.end + 1) run.end)))
     → is_number ≡ (nat_lt (whole.end + 1) run.end || (whole.is_number && is_wkt g))
     → ReadsMantissa g w (record { end = run.end; is_number = is_number; is_minus = whole.is_minus; digits = run.digits; fraction = run.end - (whole.end + 1) })
 fraction_by g w whole run is_number h may order within digits stops fits dropped keeps e =
@@ -162,7 +162,7 @@ fraction_by g w whole run is_number h may order within digits stops fits dropped
     let (byte_test, led_test) = and_true (slice_index w whole.end == 0x2E) _ rest_test in
     let inside : whole.end < length w = from_lt whole.end (length w) inside_test in
     let byte : slice_index w whole.end ≡ 0x2E = from_eq (slice_index w whole.end) 0x2E byte_test in
-    let fs : List ℕ = part w (whole.end + 1) run.end in
+    let fs : List ℕ = between w (whole.end + 1) run.end in
     let goes = h.next inside ∙ (ap (after_lead g whole.is_number) byte ∙ point_step g whole.is_number led_test) in
     let r : Reads g w (whole.end + 1) (after_point g whole.is_number) = reads_byte g w whole.end h.state (after_point g whole.is_number) h.reads inside goes in
     let behind = behind_by g w (whole.end + 1) run.end whole.is_number r order within digits stops in

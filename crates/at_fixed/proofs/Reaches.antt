@@ -6,7 +6,7 @@ use Rattle.at_fixed.specs.declared.rounding.Coords.{Coords}
 use Rattle.at_fixed.specs.declared.scanning.Mantissa.{Mantissa}
 use Rattle.at_fixed.specs.declared.scanning.Power.{Power}
 use Rattle.at_fixed.specs.declared.scanning.Sign.{Sign}
-use Rattle.at_fixed.specs.Kept.{part, digits_behind, Keeps}
+use Rattle.at_fixed.specs.Kept.{between, digits_behind, Keeps}
 use Rattle.at_fixed.specs.Scans.{EndsRun, IsExtent, IsLead, ReadsMantissa, ReadsSign, ReadsWhole, SurelyFits, is_wkt, may_take_point}
 use Rattle.at_fixed.specs.Scanned.{IsValued}
 use Rattle.at_fixed.specs.States.{is_letter}
@@ -24,7 +24,7 @@ nothing_kept = record { rest = 0; split = refl; small = lit< tt; cut = refl; ful
 module _ (g : Notation) (w : List ℕ) (sign : Sign) (point : ℕ) (signs : ReadsSign g w 0 sign) (run : EndsRun w sign.end point) (some : sign.end < point) (lead : IsLead g w sign.end point) where
   -- what the digits before the point spell
   abbrev lead_value : ℕ
-  lead_value = digits_behind 0 (part w sign.end point)
+  lead_value = digits_behind 0 (between w sign.end point)
 
   lead_small : lead_value < 10 ^ (0 + (point - sign.end))
   lead_small = kept_small w sign.end point 0 lead_value 0 run.order (omega (arith, run.within)) run.digits refl (lit< tt)
@@ -68,7 +68,7 @@ module _ (g : Notation) (w : List ℕ) (sign : Sign) (point : ℕ) (signs : Read
   module _ (extent : Extent) (behind : EndsRun w (point + 1) extent.end) (count : extent.end ≡ point + 1 + extent.fraction) (more : 0 < extent.fraction) (few : extent.end ≤ 20) where
     -- what all digits spell
     abbrev value : ℕ
-    value = digits_behind lead_value (part w (point + 1) extent.end)
+    value = digits_behind lead_value (between w (point + 1) extent.end)
 
     value_small : value < 10 ^ ((0 + (point - sign.end)) + (extent.end - (point + 1)))
     value_small = kept_small w (point + 1) extent.end lead_value value (0 + (point - sign.end)) behind.order (omega (arith, behind.within)) behind.digits refl lead_small

@@ -2,8 +2,8 @@
 use Rattle.std.specs.Prelude.{◌≡◌, ℕ, ◌+◌, ◌-◌, ◌*◌, ◌^◌, ◌<◌, ◌≤◌, ◌⊎◌, Bool, nat_lt, List, take, drop, fold}
 
 -- the bytes from one place to another
-abbrev pub part : List ℕ → ℕ → ℕ → List ℕ
-part w from to = drop from (take to w)
+abbrev pub between : List ℕ → ℕ → ℕ → List ℕ
+between w from to = drop from (take to w)
 
 -- the number that digits spell behind a number
 abbrev pub digits_behind : ℕ → List ℕ → ℕ

@@ -15,7 +15,7 @@ use Rattle.at_fixed.specs.declared.scanning.Power.{Power}
 use Rattle.at_fixed.specs.Numerals.{fraction_text, IsAtMostOneOf, AreDigits, AreSomeDigits, IsJsonWhole, AreWktDigits}
 use Rattle.at_fixed.specs.Numerals.{digits_value}
 use Rattle.at_fixed.specs.Fixed.{has_minus}
-use Rattle.at_fixed.specs.Kept.{part, digits_behind, Keeps, SameOrHuge}
+use Rattle.at_fixed.specs.Kept.{between, digits_behind, Keeps, SameOrHuge}
 use Rattle.at_fixed.specs.States.{State, Reads, step, accepts, is_letter, is_lead_sign, after_fraction, after_whole}
 use Rattle.at_fixed.specs.States.{lone_point}
 
@@ -36,8 +36,8 @@ ReadsSign notation w from sign =
 pub record KeepsRun (w : List ℕ) (from before : ℕ) (run : KeptRun) : Type 0 where
   pub order : from ≤ run.end
   pub within : run.end ≤ length w
-  pub digits : AreDigits (part w from run.end)
-  pub value : run.kept ≡ digits_behind before (part w from run.end)
+  pub digits : AreDigits (between w from run.end)
+  pub value : run.kept ≡ digits_behind before (between w from run.end)
   pub fits : run.kept < 10 ^ 19
   pub full : 10 ^ 18 ≤ before → run.end ≡ from
   pub stops : run.is_whole ≡ true → run.end < length w → is_digit (slice_index w run.end) ≡ false
@@ -47,12 +47,12 @@ pub record KeepsRun (w : List ℕ) (from before : ℕ) (run : KeptRun) : Type 0 
 pub record EndsRun (w : List ℕ) (from to : ℕ) : Type 0 where
   pub order : from ≤ to
   pub within : to < length w
-  pub digits : AreDigits (part w from to)
+  pub digits : AreDigits (between w from to)
   pub stops : is_digit (slice_index w to) ≡ false
 
 -- what is kept of the digits up to a place, behind a number
 pub record KeepsTo (w : List ℕ) (from to before kept : ℕ) : Type 0 where
-  pub value : kept ≡ digits_behind before (part w from to)
+  pub value : kept ≡ digits_behind before (between w from to)
   pub full : 10 ^ 18 ≤ before → to ≡ from
   pub fits : kept < 10 ^ 19
 
@@ -79,8 +79,8 @@ IsLead notation w from end =
 pub record ReadsLead (notation : Notation) (w : List ℕ) (from : ℕ) (run : DigitsRun) : Type 0 where
   pub order : from ≤ run.end
   pub within : run.end ≤ length w
-  pub digits : AreDigits (part w from run.end)
-  pub keeps : Keeps run.digits.kept run.digits.dropped run.digits.is_cut (digits_value (part w from run.end))
+  pub digits : AreDigits (between w from run.end)
+  pub keeps : Keeps run.digits.kept run.digits.dropped run.digits.is_cut (digits_value (between w from run.end))
   pub dropped : run.digits.dropped ≤ run.end
   pub cases : IsLead notation w from run.end
 
@@ -181,9 +181,9 @@ pub record ReadsExponent (w : List ℕ) (from : ℕ) (power : Power) : Type 0 wh
   pub minus : power.is_minus ≡ sign.is_minus
   pub order : sign.end ≤ power.end
   pub within : power.end ≤ length w
-  pub digits : AreDigits (part w sign.end power.end)
+  pub digits : AreDigits (between w sign.end power.end)
   pub stops : power.end < length w → is_digit (slice_index w power.end) ≡ false
-  pub size : SameOrHuge power.size (digits_value (part w sign.end power.end))
+  pub size : SameOrHuge power.size (digits_value (between w sign.end power.end))
   pub ends : power.is_number ≡ nat_lt sign.end power.end
 
 -- no exponent stands there

@@ -4,7 +4,7 @@ ghost use Rattle.std.specs.Prelude.{◌≡◌, ℕ, ◌+◌, ◌-◌, ◌^◌, �
 ghost use Rattle.std.specs.Prelude.{slice_index};
 ghost use Rattle.at_text.specs.Texts.{is_digit as digit_test};
 ghost use Rattle.at_fixed.specs.Numerals.{AreDigits};
-ghost use Rattle.at_fixed.specs.Kept.{part, digits_behind, Keeps, SameOrHuge};
+ghost use Rattle.at_fixed.specs.Kept.{between, digits_behind, Keeps, SameOrHuge};
 
 use crate::eights::leading_digits;
 use crate::powers::power_of_ten;
@@ -42,8 +42,8 @@ pub fn keep_single_digits(text: &[u8], from: usize, before: u64) -> (usize, u64)
     requires before_fits { before < 10 ^ 19 }
     ensures order { from ≤ result.0 }
     ensures within { result.0 ≤ length text.now }
-    ensures digits { AreDigits (part text.now from result.0) }
-    ensures value { result.1 ≡ digits_behind before (part text.now from result.0) }
+    ensures digits { AreDigits (between text.now from result.0) }
+    ensures value { result.1 ≡ digits_behind before (between text.now from result.0) }
     ensures fits { result.1 < 10 ^ 19 }
     ensures stops { result.0 < length text.now → digit_test (slice_index text.now result.0) ≡ true
         → 10 ^ 18 ≤ result.1 }
@@ -74,8 +74,8 @@ fn keep_more_digits(text: &[u8], from: usize, before: u64) -> (usize, u64)
     requires before_fits { before < 10 ^ 19 }
     ensures order { from ≤ result.0 }
     ensures within { result.0 ≤ length text.now }
-    ensures digits { AreDigits (part text.now from result.0) }
-    ensures value { result.1 ≡ digits_behind before (part text.now from result.0) }
+    ensures digits { AreDigits (between text.now from result.0) }
+    ensures value { result.1 ≡ digits_behind before (between text.now from result.0) }
     ensures fits { result.1 < 10 ^ 19 }
     ensures stops { result.0 < length text.now → digit_test (slice_index text.now result.0) ≡ true
         → 10 ^ 18 ≤ result.1 }
@@ -113,8 +113,8 @@ fn keep_digits(text: &[u8], from: usize, before: u64) -> KeptRun
     requires before_fits { before < 10 ^ 19 }
     ensures order { from ≤ result.end }
     ensures within { result.end ≤ length text.now }
-    ensures digits { AreDigits (part text.now from result.end) }
-    ensures value { result.kept ≡ digits_behind before (part text.now from result.end) }
+    ensures digits { AreDigits (between text.now from result.end) }
+    ensures value { result.kept ≡ digits_behind before (between text.now from result.end) }
     ensures fits { result.kept < 10 ^ 19 }
     ensures stops { result.end < length text.now → digit_test (slice_index text.now result.end) ≡ true
         → 10 ^ 18 ≤ result.kept }
@@ -155,10 +155,10 @@ fn drop_digits(text: &[u8], from: usize, before: bool) -> (usize, bool)
     requires { from ≤ length text.now }
     ensures order { from ≤ result.0 }
     ensures within { result.0 ≤ length text.now }
-    ensures digits { AreDigits (part text.now from result.0) }
+    ensures digits { AreDigits (between text.now from result.0) }
     ensures stops { result.0 < length text.now → digit_test (slice_index text.now result.0) ≡ false }
     ensures cut { (rest : ℕ) → before ≡ nat_lt 0 rest
-        → result.1 ≡ nat_lt 0 (digits_behind rest (part text.now from result.0)) }
+        → result.1 ≡ nat_lt 0 (digits_behind rest (between text.now from result.0)) }
 {
     let mut is_cut = before;
     let mut end = from;
@@ -177,13 +177,13 @@ pub fn read_digits(text: &[u8], from: usize, before: Digits) -> DigitsRun
     requires before_dropped { before.dropped ≤ from }
     ensures order { from ≤ result.end }
     ensures within { result.end ≤ length text.now }
-    ensures digits { AreDigits (part text.now from result.end) }
+    ensures digits { AreDigits (between text.now from result.end) }
     ensures stops { result.end < length text.now → digit_test (slice_index text.now result.end) ≡ false }
     ensures fits { result.digits.kept < 10 ^ 19 }
     ensures dropped { result.digits.dropped ≤ result.end }
     ensures keeps { (m : ℕ) → Keeps before.kept before.dropped before.is_cut m
         → Keeps result.digits.kept result.digits.dropped result.digits.is_cut
-        (digits_behind m (part text.now from result.end)) }
+        (digits_behind m (between text.now from result.end)) }
 {
     let run = keep_digits(text, from, before.kept);
     if run.is_whole {
@@ -214,9 +214,9 @@ pub fn read_power(text: &[u8], from: usize) -> (usize, u64)
     requires { from ≤ length text.now }
     ensures order { from ≤ result.0 }
     ensures within { result.0 ≤ length text.now }
-    ensures digits { AreDigits (part text.now from result.0) }
+    ensures digits { AreDigits (between text.now from result.0) }
     ensures stops { result.0 < length text.now → digit_test (slice_index text.now result.0) ≡ false }
-    ensures size { SameOrHuge result.1 (digits_behind 0 (part text.now from result.0)) }
+    ensures size { SameOrHuge result.1 (digits_behind 0 (between text.now from result.0)) }
     ensures fits { result.1 < 2 ^ 40 }
 {
     let mut size = 0;

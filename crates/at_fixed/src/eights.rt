@@ -3,7 +3,7 @@
 ghost use Rattle.std.specs.Prelude.{◌≡◌, ◌+◌, ◌<◌, ◌≤◌, false, length, slice_index};
 ghost use Rattle.at_text.specs.Texts.{is_digit as digit_test};
 ghost use Rattle.at_fixed.specs.Numerals.{AreDigits};
-ghost use Rattle.at_fixed.specs.Kept.{part, digits_behind};
+ghost use Rattle.at_fixed.specs.Kept.{between, digits_behind};
 ghost use Rattle.at_fixed.specs.Eights.{IsDigitRun, first_set as lowest_set, eight_bytes, folded};
 
 use std::simd::prelude::*;
@@ -68,8 +68,8 @@ pub fn spelled_number(text: &[u8], at: usize, count: usize) -> u64
     requires inside { at + 8 ≤ length text.now }
     requires some { 0 < count }
     requires few { count ≤ 8 }
-    requires digits { AreDigits (part text.now at (at + count)) }
-    ensures { result ≡ digits_behind 0 (part text.now at (at + count)) }
+    requires digits { AreDigits (between text.now at (at + count)) }
+    ensures { result ≡ digits_behind 0 (between text.now at (at + count)) }
 {
     number_of(word_at(text, at), count)
 }
@@ -79,9 +79,9 @@ pub fn spelled_number(text: &[u8], at: usize, count: usize) -> u64
 pub fn leading_digits(text: &[u8], at: usize) -> (usize, u64)
     requires { at + 8 ≤ length text.now }
     ensures few { result.0 ≤ 8 }
-    ensures digits { AreDigits (part text.now at (at + result.0)) }
+    ensures digits { AreDigits (between text.now at (at + result.0)) }
     ensures stops { result.0 < 8 → digit_test (slice_index text.now (at + result.0)) ≡ false }
-    ensures value { result.1 ≡ digits_behind 0 (part text.now at (at + result.0)) }
+    ensures value { result.1 ≡ digits_behind 0 (between text.now at (at + result.0)) }
 {
     let count = leading_count(text, at);
     if count == 0 {

@@ -4,7 +4,7 @@
 ghost use Rattle.std.specs.Prelude.{◌≡◌, ◌+◌, ◌^◌, ◌<◌, ◌≤◌, ◌&&◌, ◌-◌, IfSome, IsTrue, true, false, nat_lt, length};
 ghost use Rattle.std.specs.Prelude.{slice_index};
 ghost use Rattle.at_fixed.specs.Numerals.{AreDigits};
-ghost use Rattle.at_fixed.specs.Kept.{part};
+ghost use Rattle.at_fixed.specs.Kept.{between};
 ghost use Rattle.at_fixed.specs.Scans.{EndsRun, IsLoneZero, KeepsFar, KeepsRun, KeepsTo, ReadsSign, ReadsLead};
 ghost use Rattle.at_fixed.specs.Scans.{ReadsWhole, ReadsMantissa, ReadsPower, may_take_point};
 ghost use Rattle.at_fixed.specs.Scanned.{IsScanned};
@@ -202,7 +202,7 @@ fn keep_counted(text: &[u8], from: usize, count: usize, before: u64) -> u64
     requires inside { from + 8 ≤ length text.now }
     requires some { 0 < count }
     requires few { count ≤ 8 }
-    requires digits { AreDigits (part text.now from (from + count)) }
+    requires digits { AreDigits (between text.now from (from + count)) }
     requires room { before < 10 ^ (19 - count) }
     ensures { KeepsTo text.now from (from + count) before result }
 {
@@ -216,7 +216,7 @@ fn keep_long(text: &[u8], from: usize, to: usize, before: u64) -> u64
     requires inside { from + 16 ≤ length text.now }
     requires many { from + 8 < to }
     requires few { to ≤ from + 16 }
-    requires digits { AreDigits (part text.now from to) }
+    requires digits { AreDigits (between text.now from to) }
     requires room { before < 10 ^ (19 - (to - from)) }
     ensures { KeepsTo text.now from to before result }
 {

@@ -8,7 +8,7 @@ use Rattle.std.proofs.lemmas.List.Folds.{list_any-append}
 use Rattle.std.proofs.lemmas.Slice.Eq.{bytes_eq-Decides}
 use Rattle.at_text.specs.Faults.{first_fault}
 use Rattle.at_text.specs.declared.faults.Fault.{Fault}
-use Rattle.at_fixed.specs.Kept.{part}
+use Rattle.at_fixed.specs.Kept.{between}
 use Rattle.at_fixed.proofs.DigitParts.{part-length, part-more, part-cons}
 use Rattle.at_nest.specs.declared.algebra.Member.{Member}
 use Rattle.at_query.specs.declared.queries.Test.{Test}
@@ -43,15 +43,15 @@ pub plain_name_is : (w : List ℕ) (at : ℕ) (n : NamePlace) → IsNameAt w at 
 plain_name_is w at n h simple =
     let f = n.first in let e = n.end in
     let s : List ℕ = take (n.end - n.first) (drop n.first w) in
-    let same : s ≡ part w n.first n.end = slice_part w n.first n.end (omega (arith, h.text.0)) in
-    let long : n.first + length s ≡ n.end = (let k : n.first + length (part w n.first n.end) ≡ n.end = part-length w n.first n.end (omega (arith, h.text.0)) h.text.1 in omega (arith, k, ap length same)) in
+    let same : s ≡ between w n.first n.end = slice_part w n.first n.end (omega (arith, h.text.0)) in
+    let long : n.first + length s ≡ n.end = (let k : n.first + length (between w n.first n.end) ≡ n.end = part-length w n.first n.end (omega (arith, h.text.0)) h.text.1 in omega (arith, k, ap length same)) in
     let two = (simple_units s h.text.2.0 h.text.2.1 (same ∙ h.text.2.2) simple).0 in
     let order : n.first + 1 ≤ n.end - 1 = omega (arith, two, long) in
-    let xs : List ℕ = part w (n.first + 1) (n.end - 1) in
+    let xs : List ℕ = between w (n.first + 1) (n.end - 1) in
     let last : n.end ≡ n.end - 1 + 1 = omega (arith, order) in
     let within : n.end - 1 < length w = omega (arith, order, h.text.1) in
     let split : s ≡ slice_index w n.first ∷ (xs ++ slice_index w (n.end - 1) ∷ []) = same ∙ (part-cons w n.first n.end h.text.0 h.text.1
-    ∙ ap (λ z. slice_index w n.first ∷ z) (ap (part w (n.first + 1)) last ∙ part-more w (n.first + 1) (n.end - 1) order within)) in
+    ∙ ap (λ z. slice_index w n.first ∷ z) (ap (between w (n.first + 1)) last ∙ part-more w (n.first + 1) (n.end - 1) order within)) in
     let inside : n.first + 1 + length xs ≡ n.end - 1 = part-length w (n.first + 1) (n.end - 1) order (omega (arith, within)) in
     let count : length xs ≡ length s - 1 - 1 = omega (arith, inside, long, order) in
     let middle : xs ≡ take (length s - 1 - 1) (drop 1 s) = sym (take-append_seam xs (slice_index w (n.end - 1) ∷ [])) ∙ (ap (λ k. take k (xs ++ slice_index w (n.end - 1) ∷ [])) count ∙ ap (λ z. take (length s - 1 - 1) (drop 1 z)) (sym split)) in

@@ -6,7 +6,7 @@ use Rattle.std.proofs.lemmas.List.Folds.{list_all-append}
 use Rattle.std.proofs.lemmas.List.Sums.{fold-append}
 use Rattle.at_text.specs.Faults.{first_fault}
 use Rattle.at_text.specs.declared.faults.Fault.{Fault}
-use Rattle.at_fixed.specs.Kept.{part}
+use Rattle.at_fixed.specs.Kept.{between}
 use Rattle.at_lex.specs.Spans.{AreSpaces}
 use Rattle.at_geojson.specs.declared.atoms.GeoAtom.{GeoAtom}
 use Rattle.at_geojson.specs.declared.atoms.GeoAtom.TheVariants as atoms
@@ -120,7 +120,7 @@ module _ (asked : Asked) (base : ℕ) (w : List ℕ) where
 
   -- ---- lists of positions
 
-  pub points_padded : (at first end : ℕ) (p : PointsRead) → at ≤ first → AreSpaces (part w at first) → ArePointsWhole asked base w first p → p.end ≤ end → end ≤ length w → AreSpaces (part w p.end end)
+  pub points_padded : (at first end : ℕ) (p : PointsRead) → at ≤ first → AreSpaces (between w at first) → ArePointsWhole asked base w first p → p.end ≤ end → end ≤ length w → AreSpaces (between w p.end end)
       → ArePointsItem asked base w at (record { at = p.at; least = p.least; end = end; points = p.points })
   points_padded at first end p h spaces whole k fits more = record {
     within = fits;
@@ -184,7 +184,7 @@ module _ (asked : Asked) (base : ℕ) (w : List ℕ) where
 
   -- ---- areas
 
-  pub lists_padded : (at first end : ℕ) (p : ListsRead) → at ≤ first → AreSpaces (part w at first) → AreListsWhole asked base w first p → p.end ≤ end → end ≤ length w → AreSpaces (part w p.end end)
+  pub lists_padded : (at first end : ℕ) (p : ListsRead) → at ≤ first → AreSpaces (between w at first) → AreListsWhole asked base w first p → p.end ≤ end → end ≤ length w → AreSpaces (between w p.end end)
       → AreListsItem asked base w at (record { at = p.at; least = p.least; end = end; lists = p.lists })
   lists_padded at first end p h spaces whole k fits more = record {
     within = fits;

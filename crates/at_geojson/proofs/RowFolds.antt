@@ -6,7 +6,7 @@ use Rattle.std.proofs.lemmas.Bool.{ltb-true, ltb-false}
 use Rattle.std.proofs.lemmas.List.{map-append, length-append}
 use Rattle.std.proofs.lemmas.List.Elements.{All-nil, All-cons, All-append}
 use Rattle.at_text.specs.Faults.{first_fault}
-use Rattle.at_fixed.specs.Kept.{part}
+use Rattle.at_fixed.specs.Kept.{between}
 use Rattle.at_geom.specs.declared.positions.Pos.{Pos}
 use Rattle.at_geom.specs.Shapes.{line_fault, ring_fault}
 use Rattle.at_nest.specs.Tree.{array, Spells}
@@ -204,7 +204,7 @@ module _ (asked : Asked) (base : ℕ) (w : List ℕ) where
               within = omega (arith, inside, ends.behind);
               own = points_own asked (base + at) row.first.at all (atoms.Points m) read.own made;
               tree = array (base + at) ts;
-              spells = subst (λ e. Spells (base + at) (part w at e) (array (base + at) ts)) (sym ends.behind) (items_end base w at read.place end read.done read.last read.order read.behind inside opens byte read.before read.spells);
+              spells = subst (λ e. Spells (base + at) (between w at e) (array (base + at) ts)) (sym ends.behind) (items_end base w at read.place end read.done read.last read.order read.behind inside opens byte read.before read.spells);
               fold = points_fold asked (base + at) all (λ e. cc) twins (needs_shapes asked.query) row.first.at (atoms.Points m) refl least sort made ts read.folds;
             });
       }

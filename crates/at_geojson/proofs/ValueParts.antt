@@ -8,7 +8,7 @@ use Rattle.at_text.specs.Prefix.{TakesLongest}
 use Rattle.at_text.specs.declared.prefixes.Taken.{Taken}
 use Rattle.at_fixed.specs.declared.rounding.Coords.{Coords}
 use Rattle.at_fixed.specs.declared.rounding.FixedFault.{FixedFault}
-use Rattle.at_fixed.specs.Kept.{part}
+use Rattle.at_fixed.specs.Kept.{between}
 use Rattle.at_fixed.specs.Numerals.{Numeral, JsonNumber}
 use Rattle.at_fixed.specs.Fixed.{IsFixedOf, fixed_of}
 use Rattle.at_fixed.proofs.DigitParts.{part-length}
@@ -51,7 +51,7 @@ taken_whole L w at taken h e =
     let k : TakesLongest L (drop at w) taken = subst (λ z. TakesLongest L z taken) (suffix_is w at) h in
     (k.longest.fits, (k.whole).0 e)
 
-pub front_part : (w : List ℕ) (at n : ℕ) → take n (drop at w) ≡ part w at (at + n)
+pub front_part : (w : List ℕ) (at n : ℕ) → take n (drop at w) ≡ between w at (at + n)
 front_part w at n = sym (drop-take at n w)
 
 some_bytes : (L : List ℕ → Type 0) (w : List ℕ) (at n : ℕ) → (L [] → ⊥) → L (take n (drop at w)) → at < at + n
@@ -74,7 +74,7 @@ no_empty_string (cs, ok, e) = cc
 pub record IsTaken (L : List ℕ → Type 0) (w : List ℕ) (at end : ℕ) : Type 0 where
   pub order : at < end
   pub within : end ≤ length w
-  pub word : L (part w at end)
+  pub word : L (between w at end)
 
 pub word_taken : (L : List ℕ → Type 0) (w : List ℕ) (at : ℕ) (taken : Taken) → (L [] → ⊥) → at ≤ length w → TakesLongest L (take (length w - at) (drop at w)) taken → taken.whole ≡ true → IsTaken L w at (at + taken.len)
 word_taken L w at taken none inside h e =
@@ -92,13 +92,13 @@ text_taken w at taken inside h e = let t = word_taken JsonString w at taken no_e
 
 -- the value of a number that was taken
 pub value_taken : (w : List ℕ) (at n digits : ℕ) (how : Coords) (asked : Asked) (v : ℤ) → digits ≡ asked.digits → how ≡ asked.how
-    → IsFixedOf (take n (take (length w - at) (drop at w))) digits how (Ok v) → IsFixedOf (part w at (at + n)) asked.digits asked.how (Ok v)
+    → IsFixedOf (take n (take (length w - at) (drop at w))) digits how (Ok v) → IsFixedOf (between w at (at + n)) asked.digits asked.how (Ok v)
 value_taken w at n digits how asked v ed eh h =
-    subst (λ d. IsFixedOf (part w at (at + n)) d asked.how (Ok v)) ed (subst (λ k. IsFixedOf (part w at (at + n)) digits k (Ok v)) eh
+    subst (λ d. IsFixedOf (between w at (at + n)) d asked.how (Ok v)) ed (subst (λ k. IsFixedOf (between w at (at + n)) digits k (Ok v)) eh
     (subst (λ z. IsFixedOf z digits how (Ok v)) (ap (take n) (suffix_is w at) ∙ front_part w at n) h))
 
-pub slice_part : (w : List ℕ) (at end : ℕ) → at ≤ end → take (end - at) (drop at w) ≡ part w at end
-slice_part w at end h = front_part w at (end - at) ∙ ap (part w at) (let e : at + (end - at) ≡ end = omega (arith, h) in e)
+pub slice_part : (w : List ℕ) (at end : ℕ) → at ≤ end → take (end - at) (drop at w) ≡ between w at end
+slice_part w at end h = front_part w at (end - at) ∙ ap (between w at) (let e : at + (end - at) ≡ end = omega (arith, h) in e)
 
 -- the bytes of a whole scalar
 pub run_text : (w : List ℕ) (at end : ℕ) → IsTaken JsonRun w at end → IsScalarText (take (end - at) (drop at w))
@@ -114,7 +114,7 @@ string_taken w at end (order, within, s) = subst JsonString (sym (slice_part w a
 pub name_text : (w : List ℕ) (at : ℕ) (n : NamePlace) → IsNameAt w at n → JsonString (take (n.end - n.first) (drop n.first w))
 name_text w at n h = subst JsonString (sym (slice_part w n.first n.end (omega (arith, h.text.0)))) h.text.2
 
-pub name_units : (w : List ℕ) (at : ℕ) (n : NamePlace) (units : List ℕ) → IsNameAt w at n → AreUnitsOf (take (n.end - n.first) (drop n.first w)) units → AreUnitsOf (part w n.first n.end) units
+pub name_units : (w : List ℕ) (at : ℕ) (n : NamePlace) (units : List ℕ) → IsNameAt w at n → AreUnitsOf (take (n.end - n.first) (drop n.first w)) units → AreUnitsOf (between w n.first n.end) units
 name_units w at n units h u = subst (λ z. AreUnitsOf z units) (slice_part w n.first n.end (omega (arith, h.text.0))) u
 
 -- ---- scalars
@@ -124,33 +124,33 @@ module _ (asked : Asked) (base : ℕ) (w : List ℕ) where
   abbrev StandsAt : ℕ → ℕ → GeoAtom → Type 0
   StandsAt at end a = (t : Tree) → Spells (base + at) (take (end - at) (drop at w)) t → IsFold asked a t
 
-  spelled : (at end : ℕ) (a : GeoAtom) → at < end → StandsAt at end a → (t : Tree) → Spells (base + at) (part w at end) t → IsFold asked a t
+  spelled : (at end : ℕ) (a : GeoAtom) → at < end → StandsAt at end a → (t : Tree) → Spells (base + at) (between w at end) t → IsFold asked a t
   spelled at end a h fold t s = fold t (subst (λ z. Spells (base + at) z t) (sym (slice_part w at end (omega (arith, h)))) s)
 
   pub run_read : (at end : ℕ) (a : GeoAtom) → IsTaken JsonRun w at end → IsOwn asked a → StandsAt at end a → IsWhole asked base w at (record { end = end; atom = a })
   run_read at end a taken own fold = go taken.word where
-    whole : (t : Tree) → Spells (base + at) (part w at end) t → IsWhole asked base w at (record { end = end; atom = a })
+    whole : (t : Tree) → Spells (base + at) (between w at end) t → IsWhole asked base w at (record { end = end; atom = a })
     whole t s = record { order = taken.order; within = taken.within; own = own; tree = t; spells = s; fold = spelled at end a taken.order fold t s }
 
-    go : JsonRun (part w at end) → IsWhole asked base w at (record { end = end; atom = a })
+    go : JsonRun (between w at end) → IsWhole asked base w at (record { end = end; atom = a })
     go (inl (l, e)) = whole (literal (base + at) l) (refl, e)
     go (inr (n, j, e)) = whole (number (base + at) n) (refl, j, e)
 
   pub string_read : (at end : ℕ) (a : GeoAtom) → IsTextAt w at end → IsOwn asked a → StandsAt at end a → IsWhole asked base w at (record { end = end; atom = a })
   string_read at end a (order, within, (cs, j, e)) own fold =
-      let s : Spells (base + at) (part w at end) (text (base + at) cs) = (refl, j, e) in
+      let s : Spells (base + at) (between w at end) (text (base + at) cs) = (refl, j, e) in
       record { order = order; within = within; own = own; tree = text (base + at) cs; spells = s; fold = spelled at end a order fold (text (base + at) cs) s }
 
   -- a number that has a value
   record IsValued (at end : ℕ) (v : ℤ) : Type 0 where
     pub numeral : Numeral
-    pub spells : Spells (base + at) (part w at end) (number (base + at) numeral)
+    pub spells : Spells (base + at) (between w at end) (number (base + at) numeral)
     pub value : Ok v ≡ fixed_of numeral asked.digits asked.how
 
-  valued : (at end : ℕ) (v u : ℤ) → v ≡ u → JsonNumber (part w at end) → IsFixedOf (part w at end) asked.digits asked.how (Ok u) → IsValued at end v
-  valued at end v u same j f = let (n, s, e) = number_found asked (base + at) (part w at end) (Ok u) asked.digits asked.how refl refl j f in record { numeral = n; spells = s; value = ap Ok same ∙ e }
+  valued : (at end : ℕ) (v u : ℤ) → v ≡ u → JsonNumber (between w at end) → IsFixedOf (between w at end) asked.digits asked.how (Ok u) → IsValued at end v
+  valued at end v u same j f = let (n, s, e) = number_found asked (base + at) (between w at end) (Ok u) asked.digits asked.how refl refl j f in record { numeral = n; spells = s; value = ap Ok same ∙ e }
 
-  pub number_read : (at end : ℕ) (v u : ℤ) → v ≡ u → IsTaken JsonNumber w at end → IsFixedOf (part w at end) asked.digits asked.how (Ok u)
+  pub number_read : (at end : ℕ) (v u : ℤ) → v ≡ u → IsTaken JsonNumber w at end → IsFixedOf (between w at end) asked.digits asked.how (Ok u)
       → IsWhole asked base w at (record { end = end; atom = atoms.Number (record { at = base + at; value = v }) })
   number_read at end v u e taken f =
       let n = valued at end v u e taken.word f in let a : NumberAtom = record { at = base + at; value = v } in
@@ -163,29 +163,29 @@ module _ (asked : Asked) (base : ℕ) (w : List ℕ) where
     pub no_twin : twin_of atom ≡ None
 
   module _ (at end : ℕ) (order : at < end) (within : end ≤ length w) where
-    passed_text : list_any looks_at_texts asked.query.tests ≡ false → JsonString (part w at end) → IsPassed at end
+    passed_text : list_any looks_at_texts asked.query.tests ≡ false → JsonString (between w at end) → IsPassed at end
     passed_text unasked (cs, j, e) =
         let a : TextAtom = record { at = base + at; kind = kind_of_text (units_of cs); units = None } in
         let u = ap (λ b. if b then Some (units_of cs) else None) (sym (none_asked asked.query.tests (units_of cs) unasked)) in
         record { atom = atoms.Text a; whole = record { order = order; within = within; own = tt; tree = text (base + at) cs; spells = (refl, j, e); fold = text_folds asked a cs refl u }; no_twin = refl }
 
-    passed_literal : (l : Literal) → part w at end ≡ literal_text l → IsPassed at end
+    passed_literal : (l : Literal) → between w at end ≡ literal_text l → IsPassed at end
     passed_literal the_null e = record { atom = atoms.Null (base + at); whole = record { order = order; within = within; own = tt; tree = literal (base + at) the_null; spells = (refl, e); fold = null_folds asked (base + at) }; no_twin = refl }
     passed_literal the_true e = record { atom = atoms.Plain (base + at); whole = record { order = order; within = within; own = tt; tree = literal (base + at) the_true; spells = (refl, e); fold = true_folds asked (base + at) }; no_twin = refl }
     passed_literal the_false e = record { atom = atoms.Plain (base + at); whole = record { order = order; within = within; own = tt; tree = literal (base + at) the_false; spells = (refl, e); fold = false_folds asked (base + at) }; no_twin = refl }
 
-    passed_number : (n : Numeral) → Spells (base + at) (part w at end) (number (base + at) n) → IsPassed at end
+    passed_number : (n : Numeral) → Spells (base + at) (between w at end) (number (base + at) n) → IsPassed at end
     passed_number n s = go (fixed_of n asked.digits asked.how) refl where
       go : (r : Result ℤ FixedFault) → r ≡ fixed_of n asked.digits asked.how → IsPassed at end
       go (Ok v) e = let a : NumberAtom = record { at = base + at; value = v } in
           record { atom = atoms.Number a; whole = record { order = order; within = within; own = own_number asked a n e; tree = number (base + at) n; spells = s; fold = number_folds asked a n e }; no_twin = refl }
       go (Err why) e = record { atom = atoms.BadNumber (fault_of why (base + at)); whole = record { order = order; within = within; own = tt; tree = number (base + at) n; spells = s; fold = bad_number_at asked (base + at) n why e }; no_twin = refl }
 
-    passed_run : JsonRun (part w at end) → IsPassed at end
+    passed_run : JsonRun (between w at end) → IsPassed at end
     passed_run (inl (l, e)) = passed_literal l e
     passed_run (inr (n, j, e)) = passed_number n (refl, j, e)
 
-    scalar_passed : list_any looks_at_texts asked.query.tests ≡ false → IsScalarText (part w at end) → IsPassed at end
+    scalar_passed : list_any looks_at_texts asked.query.tests ≡ false → IsScalarText (between w at end) → IsPassed at end
     scalar_passed unasked s = elim s [ inl t ↦ passed_text unasked t | inr r ↦ passed_run r ]
 
   -- ---- positions
@@ -231,7 +231,7 @@ module _ (asked : Asked) (base : ℕ) (w : List ℕ) where
   pub pair_whole : (at : ℕ) (p : PairRead) → IsPair asked base w at p → IsWhole asked base w at (record { end = p.end; atom = atoms.Position p.pair })
   pair_whole at p h = record { order = h.order; within = h.within; own = h.own; tree = h.tree; spells = h.spells; fold = h.fold }
 
-  pub pair_spaced : (at first end : ℕ) (p : PairRead) → at ≤ first → AreSpaces (part w at first) → IsPair asked base w first p → p.end ≤ end → end ≤ length w → AreSpaces (part w p.end end) → IsSpacedPair asked base w at (record { end = end; pair = p.pair })
+  pub pair_spaced : (at first end : ℕ) (p : PairRead) → at ≤ first → AreSpaces (between w at first) → IsPair asked base w first p → p.end ≤ end → end ≤ length w → AreSpaces (between w p.end end) → IsSpacedPair asked base w at (record { end = end; pair = p.pair })
   pair_spaced at first end p h spaces pair k fits more = record {
     order = omega (arith, h, pair.order, k);
     within = fits;
@@ -245,7 +245,7 @@ module _ (asked : Asked) (base : ℕ) (w : List ℕ) where
 
   -- ---- values with white space round them
 
-  pub item_read : (at first end : ℕ) (p : Whole) → at ≤ first → AreSpaces (part w at first) → IsWhole asked base w first p → p.end ≤ end → end ≤ length w → AreSpaces (part w p.end end) → IsItem asked base w at (record { end = end; atom = p.atom })
+  pub item_read : (at first end : ℕ) (p : Whole) → at ≤ first → AreSpaces (between w at first) → IsWhole asked base w first p → p.end ≤ end → end ≤ length w → AreSpaces (between w p.end end) → IsItem asked base w at (record { end = end; atom = p.atom })
   item_read at first end p h spaces whole k fits more = record {
     order = omega (arith, h, whole.order, k);
     within = fits;
@@ -256,7 +256,7 @@ module _ (asked : Asked) (base : ℕ) (w : List ℕ) where
   }
 
   -- a scalar of which the place behind it and the white space alone is told
-  pub item_passed : (at first last end : ℕ) → list_any looks_at_texts asked.query.tests ≡ false → at ≤ first → AreSpaces (part w at first) → IsScalarAt w first last → last ≤ end → end ≤ length w → AreSpaces (part w last end)
+  pub item_passed : (at first last end : ℕ) → list_any looks_at_texts asked.query.tests ≡ false → at ≤ first → AreSpaces (between w at first) → IsScalarAt w first last → last ≤ end → end ≤ length w → AreSpaces (between w last end)
       → (a : GeoAtom) × IsItem asked base w at (record { end = end; atom = a }) × (twin_of a ≡ None)
   item_passed at first last end unasked h spaces (order, within, s) k fits more =
       let p = scalar_passed first last order within unasked s in
@@ -291,12 +291,12 @@ module _ (asked : Asked) (base : ℕ) (w : List ℕ) where
     within = omega (arith, inside, ends.behind);
     own = ends.own;
     tree = array (base + at) (items_of (read.done ++ item.tree ∷ []));
-    spells = subst (λ e. Spells (base + at) (part w at e) (array (base + at) (items_of (read.done ++ item.tree ∷ [])))) (sym ends.behind)
+    spells = subst (λ e. Spells (base + at) (between w at e) (array (base + at) (items_of (read.done ++ item.tree ∷ [])))) (sym ends.behind)
         (items_end base w at place p.end read.done item.tree h (omega (arith, item.order)) inside opens byte read.before item.spells);
     fold = ends.fold (items_of (read.done ++ item.tree ∷ [])) (folds_last items p.atom read.done item.tree read.folds item.fold);
   }
 
-  pub empty_read : (at end : ℕ) → at < end → end < length w → slice_index w at ≡ 0x5B → slice_index w end ≡ 0x5D → AreSpaces (part w (at + 1) end) → IsWhole asked base w at (record { end = end + 1; atom = atoms.Empty (base + at) })
+  pub empty_read : (at end : ℕ) → at < end → end < length w → slice_index w at ≡ 0x5B → slice_index w end ≡ 0x5D → AreSpaces (between w (at + 1) end) → IsWhole asked base w at (record { end = end + 1; atom = atoms.Empty (base + at) })
   empty_read at end h inside opens byte spaces = record {
     order = omega (arith, h);
     within = omega (arith, inside);
@@ -325,14 +325,14 @@ module _ (asked : Asked) (base : ℕ) (w : List ℕ) where
   abbrev pub member_of : NamePlace → List ℕ → GeoAtom → Member GeoAtom
   member_of n units a = record { name = units; name_at = base + n.first; value = a }
 
-  member_folds : (place : ℕ) (n : NamePlace) (units : List ℕ) (p : Whole) (h : IsNameAt w place n) → AreUnitsOf (part w n.first n.end) units → (item : IsItem asked base w (n.colon + 1) p)
+  member_folds : (place : ℕ) (n : NamePlace) (units : List ℕ) (p : Whole) (h : IsNameAt w place n) → AreUnitsOf (between w n.first n.end) units → (item : IsItem asked base w (n.colon + 1) p)
       → AreMemberFolds (IsFold asked) (member_of n units p.atom ∷ []) (members_of (record { name = h.text.2.0; at = base + n.first; tree = item.tree } ∷ []))
   member_folds place n units p h u item = (u h.text.2.0 h.text.2.1 h.text.2.2, refl, item.fold, tt)
 
   pub members_own : (at place : ℕ) (members : List (Member GeoAtom)) (n : NamePlace) (units : List ℕ) (p : Whole) → AreMembersRead asked base w at place members → IsItem asked base w (n.colon + 1) p → All (λ (m : Member GeoAtom). IsOwn asked m.value) (members ++ member_of n units p.atom ∷ [])
   members_own at place members n units p read item = All-append (λ (m : Member GeoAtom). IsOwn asked m.value) members (member_of n units p.atom ∷ []) read.own (All-cons (λ (m : Member GeoAtom). IsOwn asked m.value) (member_of n units p.atom) [] item.own (All-nil (λ (m : Member GeoAtom). IsOwn asked m.value)))
 
-  pub members_go_on : (at place : ℕ) (members : List (Member GeoAtom)) (n : NamePlace) (units : List ℕ) (p : Whole) → at < place → AreMembersRead asked base w at place members → IsNameAt w place n → AreUnitsOf (part w n.first n.end) units
+  pub members_go_on : (at place : ℕ) (members : List (Member GeoAtom)) (n : NamePlace) (units : List ℕ) (p : Whole) → at < place → AreMembersRead asked base w at place members → IsNameAt w place n → AreUnitsOf (between w n.first n.end) units
       → IsItem asked base w (n.colon + 1) p → p.end < length w → slice_index w p.end ≡ 0x2C → AreMembersRead asked base w at (p.end + 1) (members ++ member_of n units p.atom ∷ [])
   members_go_on at place members n units p h read name u item inside byte =
       let m : Named = record { name = name.text.2.0; at = base + n.first; tree = item.tree } in
@@ -343,7 +343,7 @@ module _ (asked : Asked) (base : ℕ) (w : List ℕ) where
         folds = members_last members (member_of n units p.atom) read.done m read.folds (member_folds place n units p name u item);
       }
 
-  pub object_read : (at place : ℕ) (members : List (Member GeoAtom)) (n : NamePlace) (units : List ℕ) (p q : Whole) → at < place → slice_index w at ≡ 0x7B → AreMembersRead asked base w at place members → IsNameAt w place n → AreUnitsOf (part w n.first n.end) units
+  pub object_read : (at place : ℕ) (members : List (Member GeoAtom)) (n : NamePlace) (units : List ℕ) (p q : Whole) → at < place → slice_index w at ≡ 0x7B → AreMembersRead asked base w at place members → IsNameAt w place n → AreUnitsOf (between w n.first n.end) units
       → IsItem asked base w (n.colon + 1) p → p.end < length w → slice_index w p.end ≡ 0x7D → EndsObject asked (base + at) (p.end + 1) (members ++ member_of n units p.atom ∷ []) q → IsWhole asked base w at q
   object_read at place members n units p q h opens read name u item inside byte ends =
       let m : Named = record { name = name.text.2.0; at = base + n.first; tree = item.tree } in
@@ -352,18 +352,18 @@ module _ (asked : Asked) (base : ℕ) (w : List ℕ) where
         within = omega (arith, inside, ends.behind);
         own = ends.own;
         tree = object (base + at) (members_of (read.done ++ m ∷ []));
-        spells = subst (λ e. Spells (base + at) (part w at e) (object (base + at) (members_of (read.done ++ m ∷ [])))) (sym ends.behind)
+        spells = subst (λ e. Spells (base + at) (between w at e) (object (base + at) (members_of (read.done ++ m ∷ [])))) (sym ends.behind)
             (members_end base w at place n.colon p.end read.done m h (omega (arith, name.before, name.text.0, name.behind)) (omega (arith, item.order)) inside opens name.byte byte read.before (named place n name) item.spells);
         fold = ends.fold (members_of (read.done ++ m ∷ [])) (members_last members (member_of n units p.atom) read.done m read.folds (member_folds place n units p name u item));
       }
 
-  pub void_read : (at end : ℕ) (q : Whole) → at < end → end < length w → slice_index w at ≡ 0x7B → slice_index w end ≡ 0x7D → AreSpaces (part w (at + 1) end) → EndsObject asked (base + at) (end + 1) [] q → IsWhole asked base w at q
+  pub void_read : (at end : ℕ) (q : Whole) → at < end → end < length w → slice_index w at ≡ 0x7B → slice_index w end ≡ 0x7D → AreSpaces (between w (at + 1) end) → EndsObject asked (base + at) (end + 1) [] q → IsWhole asked base w at q
   void_read at end q h inside opens byte spaces ends = record {
     order = omega (arith, h, ends.behind);
     within = omega (arith, inside, ends.behind);
     own = ends.own;
     tree = object (base + at) (members_of []);
-    spells = subst (λ e. Spells (base + at) (part w at e) (object (base + at) (members_of []))) (sym ends.behind) (members_empty base w at end h inside opens byte spaces);
+    spells = subst (λ e. Spells (base + at) (between w at e) (object (base + at) (members_of []))) (sym ends.behind) (members_empty base w at end h inside opens byte spaces);
     fold = ends.fold (members_of []) tt;
   }
 
@@ -371,12 +371,12 @@ module _ (asked : Asked) (base : ℕ) (w : List ℕ) where
 
 pub attempt_of : (asked : Asked) (at : ℕ) (w : List ℕ) (p : Whole) → IsWhole asked at w 0 p → IsAttempt (IsOwn asked) (IsFold asked) at w (WholeAttempt p.end p.atom)
 attempt_of asked at w p h = (
-  part w 0 p.end,
+  between w 0 p.end,
   drop p.end w,
-  sym (take-append-drop p.end w) ∙ ap (λ z. z ++ drop p.end w) (front_part w 0 p.end ∙ ap (part w 0) (let e : 0 + p.end ≡ p.end = omega arith in e)),
+  sym (take-append-drop p.end w) ∙ ap (λ z. z ++ drop p.end w) (front_part w 0 p.end ∙ ap (between w 0) (let e : 0 + p.end ≡ p.end = omega arith in e)),
   omega (arith, part-length w 0 p.end (omega arith) h.within),
   h.tree,
-  subst (λ n. Spells n (part w 0 p.end) h.tree) (let e : at + 0 ≡ at = omega arith in e) h.spells,
+  subst (λ n. Spells n (between w 0 p.end) h.tree) (let e : at + 0 ≡ at = omega arith in e) h.spells,
   h.own,
   h.fold,
 )

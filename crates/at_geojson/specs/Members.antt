@@ -2,7 +2,7 @@
 use Rattle.std.specs.Prelude.{◌≡◌, ℕ, ◌+◌, ◌-◌, ◌≤◌, Bool, true, false, ◌||◌, bytes_eq, List, [], All, length, take}
 use Rattle.std.specs.Prelude.{drop, None}
 use Rattle.std.specs.List.{list_any}
-use Rattle.at_fixed.specs.Kept.{part}
+use Rattle.at_fixed.specs.Kept.{between}
 use Rattle.at_lex.specs.Strings.{AreUnitsOf}
 use Rattle.at_nest.specs.declared.algebra.Member.{Member}
 use Rattle.at_geojson.specs.declared.atoms.GeoAtom.{GeoAtom}
@@ -27,7 +27,7 @@ name_in w n = take (n.end - 1 - (n.first + 1)) (drop (n.first + 1) w)
 pub record IsPlainName (w : List ℕ) (n : NamePlace) : Type 0 where
   pub order : n.first + 1 ≤ n.end - 1
   pub within : n.end ≤ length w
-  pub units : AreUnitsOf (part w n.first n.end) (name_in w n)
+  pub units : AreUnitsOf (between w n.first n.end) (name_in w n)
 
 abbrev pub is_named_among : List ℕ → List NamePlace → List ℕ → Bool
 is_named_among w names name = list_any (λ n. bytes_eq name (name_in w n)) names

@@ -1,7 +1,7 @@
 -- Whole values that are read of a text w from place to place; the text stands at the offset `base`. Only contracts of
 -- private functions cite this.
 use Rattle.std.specs.Prelude.{◌≡◌, ℕ, ◌+◌, ◌<◌, ◌≤◌, List, length, All, Ok}
-use Rattle.at_fixed.specs.Kept.{part}
+use Rattle.at_fixed.specs.Kept.{between}
 use Rattle.at_fixed.specs.Numerals.{JsonNumber}
 use Rattle.at_fixed.specs.Fixed.{IsFixedOf}
 use Rattle.at_lex.specs.Spans.{AreSpaces}
@@ -20,13 +20,13 @@ use Rattle.at_geojson.specs.Atoms.{IsOwn, IsFold}
 -- white space, a number that has a value, and white space
 pub record IsPlain (asked : Asked) (w : List ℕ) (at : ℕ) (p : Plain) : Type 0 where
   pub before : at ≤ p.first
-  pub spaces : AreSpaces (part w at p.first)
+  pub spaces : AreSpaces (between w at p.first)
   pub order : p.first < p.last
   pub behind : p.last ≤ p.end
-  pub more_spaces : AreSpaces (part w p.last p.end)
+  pub more_spaces : AreSpaces (between w p.last p.end)
   pub within : p.end ≤ length w
-  pub number : JsonNumber (part w p.first p.last)
-  pub value : IsFixedOf (part w p.first p.last) asked.digits asked.how (Ok p.number.value)
+  pub number : JsonNumber (between w p.first p.last)
+  pub value : IsFixedOf (between w p.first p.last) asked.digits asked.how (Ok p.number.value)
 
 -- a value from the place on: the bytes spell a tree for which the atom stands
 pub record IsWhole (asked : Asked) (base : ℕ) (w : List ℕ) (at : ℕ) (p : Whole) : Type 0 where
@@ -34,7 +34,7 @@ pub record IsWhole (asked : Asked) (base : ℕ) (w : List ℕ) (at : ℕ) (p : W
   pub within : p.end ≤ length w
   pub own : IsOwn asked p.atom
   pub tree : Tree
-  pub spells : Spells (base + at) (part w at p.end) tree
+  pub spells : Spells (base + at) (between w at p.end) tree
   pub fold : IsFold asked p.atom tree
 
 -- a position from the place on
@@ -44,7 +44,7 @@ pub record IsPair (asked : Asked) (base : ℕ) (w : List ℕ) (at : ℕ) (p : Pa
   pub at_is : p.pair.at ≡ base + at
   pub own : IsOwn asked (atoms.Position p.pair)
   pub tree : Tree
-  pub spells : Spells (base + at) (part w at p.end) tree
+  pub spells : Spells (base + at) (between w at p.end) tree
   pub fold : IsFold asked (atoms.Position p.pair) tree
 
 -- white space, a position, white space

@@ -2,7 +2,7 @@
 
 ghost use Rattle.std.specs.Prelude.{◌≡◌, ℕ, List, ◌≤◌, ◌^◌, All, bytes_eq, false, length, IfOk};
 ghost use Rattle.std.specs.List.{list_any};
-ghost use Rattle.at_fixed.specs.Kept.{part};
+ghost use Rattle.at_fixed.specs.Kept.{between};
 ghost use Rattle.at_lex.specs.Spans.{AreSpaces};
 ghost use Rattle.at_geojson.specs.Places.{IsNameAt, IsTextAt, IsSimpleTextAt};
 ghost use Rattle.at_geojson.specs.Fields.{field_of};
@@ -65,7 +65,7 @@ fn is_among(text: &[u8], names: &[NamePlace], name: NamePlace) -> bool
 #[inline(always)]
 fn ended_name(text: &[u8], at: usize, first: usize, end: usize) -> Result<NamePlace, Halt>
     requires order { at ≤ first }
-    requires spaces { AreSpaces (part text.now at first) }
+    requires spaces { AreSpaces (between text.now at first) }
     requires text { IsTextAt text.now first end }
     ensures place { IfOk result (IsNameAt text.now at) }
     ensures first { IfOk result (λ name. name.first ≡ first) }
@@ -98,7 +98,7 @@ fn long_name(text: &[u8], at: usize) -> Result<NamePlace, Halt>
 #[inline(always)]
 fn short_name(text: &[u8], at: usize, first: usize, end: usize) -> Result<NamePlace, Halt>
     requires order { at ≤ first }
-    requires spaces { AreSpaces (part text.now at first) }
+    requires spaces { AreSpaces (between text.now at first) }
     requires text { IsSimpleTextAt text.now first end }
     ensures place { IfOk result (IsNameAt text.now at) }
     ensures plain { IfOk result (IsPlainName text.now) }

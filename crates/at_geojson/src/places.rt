@@ -1,7 +1,7 @@
 //! What stands at the places of a text: bytes, white space, strings and the names of members.
 
 ghost use Rattle.std.specs.Prelude.{◌≡◌, ◌+◌, ◌<◌, ◌≤◌, ◌^◌, length, slice_index, true, IfOk};
-ghost use Rattle.at_fixed.specs.Kept.{part};
+ghost use Rattle.at_fixed.specs.Kept.{between};
 ghost use Rattle.at_lex.specs.Spans.{AreSpaces};
 ghost use Rattle.at_geojson.specs.Places.{IsTextAt, IsNameAt};
 
@@ -32,7 +32,7 @@ pub fn skip_spaces(text: &[u8], at: usize) -> usize
     requires { at ≤ length text.now }
     ensures order { at ≤ result }
     ensures within { result ≤ length text.now }
-    ensures spaces { AreSpaces (part text.now at result) }
+    ensures spaces { AreSpaces (between text.now at result) }
 {
     let mut end = at;
     while end < text.len() && is_space(text[end]) {

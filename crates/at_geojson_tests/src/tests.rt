@@ -2,7 +2,7 @@
 
 ghost use Rattle.std.specs.Prelude.{◌≡◌, ◌≤◌, ◌<◌, ◌^◌, length, IfOk};
 ghost use Rattle.at_query.specs.Ranges.{IsQueryInRange};
-ghost use Rattle.at_text.specs.Spans.{part_of};
+ghost use Rattle.at_text.specs.Spans.{span_of};
 ghost use Rattle.at_nest.specs.FragmentMeanings.{StandsFor};
 ghost use Rattle.at_geojson.specs.Atoms.{IsOwn, IsGeoAtom};
 
@@ -37,7 +37,7 @@ fn piece(
     requires order { from ≤ to }
     requires end { to ≤ length bytes.now }
     ensures { StandsFor (IsGeoAtom algebra.now) from
-        (part_of bytes.now from to) result }
+        (span_of bytes.now from to) result }
 {
     run_block(alloc, algebra, &bytes[from as usize..to as usize], from)
 }
@@ -56,10 +56,10 @@ fn joined(
     requires order { at ≤ to }
     requires end { to ≤ length bytes.now }
     requires left { StandsFor (IsGeoAtom algebra.now) 0
-        (part_of bytes.now 0 at) left }
+        (span_of bytes.now 0 at) left }
     requires right { StandsFor (IsGeoAtom algebra.now) at
-        (part_of bytes.now at to) right }
-    ensures { StandsFor (IsGeoAtom algebra.now) 0 (part_of bytes.now 0 to)
+        (span_of bytes.now at to) right }
+    ensures { StandsFor (IsGeoAtom algebra.now) 0 (span_of bytes.now 0 to)
         result }
 {
     merge(alloc, algebra, bytes, left, right)

@@ -2,7 +2,7 @@
 use Rattle.std.proofs.Common.{◌≡◌, ◌≢◌, ℕ, ◌+◌, ◌-◌, ◌≤◌, ◌==◌, Bool, true, false, Option, Some, None, List, [], ◌∷◌, ◌++◌, refl, sym, ◌∙◌, ap, subst, arith, append_assoc, length, length-append, take, drop}
 use Rattle.std.proofs.lemmas.Bool.{ne_eqb}
 use Rattle.std.proofs.lemmas.List.{take-append-drop, take-take, drop-take, drop-drop, length-take-le, length-drop}
-use Rattle.at_text.specs.Spans.{part_of, AreNeighbours}
+use Rattle.at_text.specs.Spans.{span_of, AreNeighbours}
 use Rattle.at_lex.specs.Spans.{after_byte, end_of, ClosesText, StaysInText}
 use Rattle.at_lex.specs.declared.tokens.Start.{Start}
 use Rattle.at_lex.specs.declared.tokens.Start.TheVariants.{Out, InString, InEscape}
@@ -131,23 +131,23 @@ module _ {X : Type 0} (IsKept : X → Content → Type 0) where
 
 -- ---- a part of the bytes
 
-pub part_length : (bytes : List ℕ) (i j : ℕ) → i ≤ j → j ≤ length bytes → i + length (part_of bytes i j) ≡ j
+pub part_length : (bytes : List ℕ) (i j : ℕ) → i ≤ j → j ≤ length bytes → i + length (span_of bytes i j) ≡ j
 part_length bytes i j h k = let n = length-take-le (j - i) (drop i bytes) (omega (arith, length-drop i bytes)) in omega (arith, n)
 
 parts_joined : (w : List ℕ) (n m : ℕ) → take n w ++ take m (drop n w) ≡ take (n + m) w
 parts_joined w n m = ap (λ z. z ++ take m (drop n w)) (sym (take-take n (n + m) w (omega arith))) ∙ (ap (λ z. take n (take (n + m) w) ++ z) (sym (drop-take n m w)) ∙ take-append-drop n (take (n + m) w))
 
-pub part_joined : (bytes : List ℕ) (i j k : ℕ) → i ≤ j → j ≤ k → part_of bytes i j ++ part_of bytes j k ≡ part_of bytes i k
+pub part_joined : (bytes : List ℕ) (i j k : ℕ) → i ≤ j → j ≤ k → span_of bytes i j ++ span_of bytes j k ≡ span_of bytes i k
 part_joined bytes i j k h g = let e : i + (j - i) ≡ j = omega arith in let f : (j - i) + (k - j) ≡ k - i = omega arith in
-    ap (λ z. part_of bytes i j ++ take (k - j) (drop z bytes)) (sym e) ∙ (ap (λ z. part_of bytes i j ++ take (k - j) z) (sym (drop-drop (j - i) i bytes)) ∙ (parts_joined (drop i bytes) (j - i) (k - j) ∙ ap (λ z. take z (drop i bytes)) f))
+    ap (λ z. span_of bytes i j ++ take (k - j) (drop z bytes)) (sym e) ∙ (ap (λ z. span_of bytes i j ++ take (k - j) z) (sym (drop-drop (j - i) i bytes)) ∙ (parts_joined (drop i bytes) (j - i) (k - j) ∙ ap (λ z. take z (drop i bytes)) f))
 
-pub is_part : (bytes : List ℕ) (i k : ℕ) → i ≤ k → k ≤ length bytes → IsPartOf bytes i (part_of bytes i k)
+pub is_part : (bytes : List ℕ) (i k : ℕ) → i ≤ k → k ≤ length bytes → IsPartOf bytes i (span_of bytes i k)
 is_part bytes i k h g = (take i bytes, drop (k - i) (drop i bytes), sym (ap (λ z. take i bytes ++ z) (take-append-drop (k - i) (drop i bytes)) ∙ take-append-drop i bytes), sym (length-take-le i bytes (omega arith)))
 
 module _ {A X : Type 0} (IsKept : X → Content → Type 0) where
-  pub parts_beside : (bytes : List ℕ) (i j k : ℕ) (left right : Fragment A X) (l r : Parts X) → parts_of left ≡ Some l → parts_of right ≡ Some r → AreNeighbours (StandsFor IsKept) bytes i j k left right → AreBeside IsKept bytes i (part_of bytes i j) (part_of bytes j k) l r
+  pub parts_beside : (bytes : List ℕ) (i j k : ℕ) (left right : Fragment A X) (l r : Parts X) → parts_of left ≡ Some l → parts_of right ≡ Some r → AreNeighbours (StandsFor IsKept) bytes i j k left right → AreBeside IsKept bytes i (span_of bytes i j) (span_of bytes j k) l r
   parts_beside bytes i j k left right l r e f (h, g, m, hl, hr) = (
     subst (IsPartOf bytes i) (sym (part_joined bytes i j k h g)) (is_part bytes i k (omega (arith, h, g)) m),
-    subst (HoldsSome IsKept i (part_of bytes i j)) e hl,
-    subst (λ n. HoldsParts IsKept n (part_of bytes j k) r) (sym (part_length bytes i j h (omega (arith, g, m)))) (subst (HoldsSome IsKept j (part_of bytes j k)) f hr),
+    subst (HoldsSome IsKept i (span_of bytes i j)) e hl,
+    subst (λ n. HoldsParts IsKept n (span_of bytes j k) r) (sym (part_length bytes i j h (omega (arith, g, m)))) (subst (HoldsSome IsKept j (span_of bytes j k)) f hr),
   )

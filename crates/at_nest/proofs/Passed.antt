@@ -1,6 +1,6 @@
 -- From what is known of the parts of a text to the tree that it spells: arrays item by item, objects member by member.
 use Rattle.std.proofs.Common.{◌≡◌, ℕ, List, [], ◌∷◌, ◌++◌, refl, sym, ◌∙◌, ap, subst, arith, append_assoc, append-nil, ◌+◌, ◌<◌, ◌≤◌, length, slice_index}
-use Rattle.at_fixed.specs.Kept.{part}
+use Rattle.at_fixed.specs.Kept.{between}
 use Rattle.at_fixed.proofs.DigitParts.{part-none, part-more, part-length, part-part, part-cons}
 use Rattle.at_lex.specs.Spans.{AreSpaces}
 use Rattle.at_nest.specs.Tree.{Tree, array, object, Trees, no_trees, tree_and, Members, no_members, member_and, Spells, SpellsName, Padded, After, SpellsItems, SpellsFurtherItems, SpellsMembers, SpellsFurtherMembers}
@@ -9,25 +9,25 @@ use Rattle.at_nest.specs.Passing.{IsPadded, items_then, items_of, ItemsBefore, N
 -- ---- bytes
 
 -- up to a place, from there to another, and the byte there
-through : (w : List ℕ) (from place end b : ℕ) (r : List ℕ) → from ≤ place → place ≤ end → end < length w → slice_index w end ≡ b → part w from place ++ (part w place end ++ (b ∷ r)) ≡ part w from (end + 1) ++ r
+through : (w : List ℕ) (from place end b : ℕ) (r : List ℕ) → from ≤ place → place ≤ end → end < length w → slice_index w end ≡ b → between w from place ++ (between w place end ++ (b ∷ r)) ≡ between w from (end + 1) ++ r
 through w from place end b r h k l e =
-    sym (append_assoc (part w from place) (part w place end) (b ∷ r)) ∙ (ap (λ z. z ++ (b ∷ r)) (sym (part-part w from place end h k (omega (arith, l)))) ∙ (ap (λ z. part w from end ++ (z ∷ r)) (sym e)
-    ∙ (sym (append_assoc (part w from end) (slice_index w end ∷ []) r) ∙ ap (λ z. z ++ r) (sym (part-more w from end (omega (arith, h, k)) l)))))
+    sym (append_assoc (between w from place) (between w place end) (b ∷ r)) ∙ (ap (λ z. z ++ (b ∷ r)) (sym (part-part w from place end h k (omega (arith, l)))) ∙ (ap (λ z. between w from end ++ (z ∷ r)) (sym e)
+    ∙ (sym (append_assoc (between w from end) (slice_index w end ∷ []) r) ∙ ap (λ z. z ++ r) (sym (part-more w from end (omega (arith, h, k)) l)))))
 
-to_end : (w : List ℕ) (from place end : ℕ) → from ≤ place → place ≤ end → end < length w → part w from place ++ (part w place end ++ []) ≡ part w from end
-to_end w from place end h k l = ap (λ z. part w from place ++ z) (append-nil (part w place end)) ∙ sym (part-part w from place end h k (omega (arith, l)))
+to_end : (w : List ℕ) (from place end : ℕ) → from ≤ place → place ≤ end → end < length w → between w from place ++ (between w place end ++ []) ≡ between w from end
+to_end w from place end h k l = ap (λ z. between w from place ++ z) (append-nil (between w place end)) ∙ sym (part-part w from place end h k (omega (arith, l)))
 
 -- between two bytes
-enclosed : (w : List ℕ) (from end b c : ℕ) → from < end → end < length w → slice_index w from ≡ b → slice_index w end ≡ c → part w from (end + 1) ≡ b ∷ (part w (from + 1) end ++ c ∷ [])
-enclosed w from end b c h l e f = part-cons w from (end + 1) (omega (arith, h)) (omega (arith, l)) ∙ (ap (λ z. z ∷ part w (from + 1) (end + 1)) e ∙ ap (λ z. b ∷ z) (part-more w (from + 1) end (omega (arith, h)) l ∙ ap (λ z. part w (from + 1) end ++ z ∷ []) f))
+enclosed : (w : List ℕ) (from end b c : ℕ) → from < end → end < length w → slice_index w from ≡ b → slice_index w end ≡ c → between w from (end + 1) ≡ b ∷ (between w (from + 1) end ++ c ∷ [])
+enclosed w from end b c h l e f = part-cons w from (end + 1) (omega (arith, h)) (omega (arith, l)) ∙ (ap (λ z. z ∷ between w (from + 1) (end + 1)) e ∙ ap (λ z. b ∷ z) (part-more w (from + 1) end (omega (arith, h)) l ∙ ap (λ z. between w (from + 1) end ++ z ∷ []) f))
 
-pub padded_gives : (Part Then : ℕ → List ℕ → Type 0) (base : ℕ) (w : List ℕ) (from to : ℕ) (r : List ℕ) → to ≤ length w → IsPadded Part base w from to → Then (base + to) r → Padded Part Then (base + from) (part w from to ++ r)
+pub padded_gives : (Part Then : ℕ → List ℕ → Type 0) (base : ℕ) (w : List ℕ) (from to : ℕ) (r : List ℕ) → to ≤ length w → IsPadded Part base w from to → Then (base + to) r → Padded Part Then (base + from) (between w from to ++ r)
 padded_gives Part Then base w from to r fits h more =
-    let a : List ℕ = part w from h.first in let v : List ℕ = part w h.first h.last in let b : List ℕ = part w h.last to in
+    let a : List ℕ = between w from h.first in let v : List ℕ = between w h.first h.last in let b : List ℕ = between w h.last to in
     let la : from + length a ≡ h.first = part-length w from h.first h.before (omega (arith, h.order, h.behind, fits)) in
     let lv : h.first + length v ≡ h.last = part-length w h.first h.last h.order (omega (arith, h.behind, fits)) in
     let lb : h.last + length b ≡ to = part-length w h.last to h.behind fits in
-    let split : part w from to ++ r ≡ a ++ (v ++ (b ++ r)) = ap (λ z. z ++ r) (part-part w from h.first to h.before (omega (arith, h.order, h.behind)) fits ∙ ap (λ z. a ++ z) (part-part w h.first h.last to h.order h.behind fits)) ∙ (append_assoc a (v ++ b) r ∙ ap (λ z. a ++ z) (append_assoc v b r)) in
+    let split : between w from to ++ r ≡ a ++ (v ++ (b ++ r)) = ap (λ z. z ++ r) (part-part w from h.first to h.before (omega (arith, h.order, h.behind)) fits ∙ ap (λ z. a ++ z) (part-part w h.first h.last to h.order h.behind fits)) ∙ (append_assoc a (v ++ b) r ∙ ap (λ z. a ++ z) (append_assoc v b r)) in
     let here : base + h.first ≡ base + from + length a = omega (arith, la) in
     let there : base + to ≡ base + from + length a + length v + length b = omega (arith, la, lv, lb) in
     (a, v, b, r, split, h.spaces, h.more_spaces, subst (λ n. Part n v) here h.is_part, subst (λ n. Then n r) there more)
@@ -50,22 +50,22 @@ pub items_on : (base : ℕ) (w : List ℕ) (from place end : ℕ) (done : List T
 items_on base w from place end done t h k l e before item r u ts more =
     let here : base + (end + 1) ≡ base + end + 1 = omega arith in
     let further : SpellsFurtherItems (base + end) (0x2C ∷ r) (tree_and u ts) = (r, refl, subst (λ n. Padded (λ j v. Spells j v u) (λ j v. SpellsFurtherItems j v ts) n r) here more) in
-    let all = before (part w place end ++ (0x2C ∷ r)) t (tree_and u ts) (padded_gives (λ j v. Spells j v t) (λ j v. SpellsFurtherItems j v (tree_and u ts)) base w place end (0x2C ∷ r) (omega (arith, l)) item further) in
+    let all = before (between w place end ++ (0x2C ∷ r)) t (tree_and u ts) (padded_gives (λ j v. Spells j v t) (λ j v. SpellsFurtherItems j v (tree_and u ts)) base w place end (0x2C ∷ r) (omega (arith, l)) item further) in
     subst (λ z. SpellsItems (base + from + 1) z (items_then (done ++ t ∷ []) (tree_and u ts))) (through w (from + 1) place end 0x2C r (omega (arith, h)) k l e)
-    (subst (λ z. SpellsItems (base + from + 1) (part w (from + 1) place ++ (part w place end ++ (0x2C ∷ r))) z) (sym (items_last done t (tree_and u ts))) all)
+    (subst (λ z. SpellsItems (base + from + 1) (between w (from + 1) place ++ (between w place end ++ (0x2C ∷ r))) z) (sym (items_last done t (tree_and u ts))) all)
 
 -- the last one, with the bracket that stands behind it at the place `end`
 pub items_end : (base : ℕ) (w : List ℕ) (from place end : ℕ) (done : List Tree) (t : Tree) → from < place → place ≤ end → end < length w → slice_index w from ≡ 0x5B → slice_index w end ≡ 0x5D → ItemsBefore base w from place done → IsPadded (λ j v. Spells j v t) base w place end
-    → Spells (base + from) (part w from (end + 1)) (array (base + from) (items_of (done ++ t ∷ [])))
+    → Spells (base + from) (between w from (end + 1)) (array (base + from) (items_of (done ++ t ∷ [])))
 items_end base w from place end done t h k l opens e before item =
-    let all = before (part w place end ++ []) t no_trees (padded_gives (λ j v. Spells j v t) (λ j v. SpellsFurtherItems j v no_trees) base w place end [] (omega (arith, l)) item refl) in
-    let inside : SpellsItems (base + from + 1) (part w (from + 1) end) (items_of (done ++ t ∷ [])) =
+    let all = before (between w place end ++ []) t no_trees (padded_gives (λ j v. Spells j v t) (λ j v. SpellsFurtherItems j v no_trees) base w place end [] (omega (arith, l)) item refl) in
+    let inside : SpellsItems (base + from + 1) (between w (from + 1) end) (items_of (done ++ t ∷ [])) =
     subst (λ z. SpellsItems (base + from + 1) z (items_of (done ++ t ∷ []))) (to_end w (from + 1) place end (omega (arith, h)) k l)
-    (subst (λ z. SpellsItems (base + from + 1) (part w (from + 1) place ++ (part w place end ++ [])) z) (sym (items_last done t no_trees)) all) in
-    (refl, (part w (from + 1) end, enclosed w from end 0x5B 0x5D (omega (arith, h, k)) l opens e, inside))
+    (subst (λ z. SpellsItems (base + from + 1) (between w (from + 1) place ++ (between w place end ++ [])) z) (sym (items_last done t no_trees)) all) in
+    (refl, (between w (from + 1) end, enclosed w from end 0x5B 0x5D (omega (arith, h, k)) l opens e, inside))
 
-pub items_empty : (base : ℕ) (w : List ℕ) (from end : ℕ) → from < end → end < length w → slice_index w from ≡ 0x5B → slice_index w end ≡ 0x5D → AreSpaces (part w (from + 1) end) → Spells (base + from) (part w from (end + 1)) (array (base + from) (items_of []))
-items_empty base w from end h l opens e spaces = (refl, (part w (from + 1) end, enclosed w from end 0x5B 0x5D h l opens e, spaces))
+pub items_empty : (base : ℕ) (w : List ℕ) (from end : ℕ) → from < end → end < length w → slice_index w from ≡ 0x5B → slice_index w end ≡ 0x5D → AreSpaces (between w (from + 1) end) → Spells (base + from) (between w from (end + 1)) (array (base + from) (items_of []))
+items_empty base w from end h l opens e spaces = (refl, (between w (from + 1) end, enclosed w from end 0x5B 0x5D h l opens e, spaces))
 
 -- ---- objects
 
@@ -81,16 +81,16 @@ members_none base w from l r name i t ms h =
 
 -- a member from the place up to `end`, with its colon at the place `colon`
 member_gives : (base : ℕ) (w : List ℕ) (place colon end : ℕ) (n : Named) (ms : Members) (r : List ℕ) → place ≤ colon → colon < end → end ≤ length w → slice_index w colon ≡ 0x3A → IsPadded (SpellsName n.name n.at) base w place colon → IsPadded (λ j v. Spells j v n.tree) base w (colon + 1) end
-    → SpellsFurtherMembers (base + end) r ms → Padded (SpellsName n.name n.at) (After 0x3A (Padded (λ j v. Spells j v n.tree) (λ j v. SpellsFurtherMembers j v ms))) (base + place) (part w place end ++ r)
+    → SpellsFurtherMembers (base + end) r ms → Padded (SpellsName n.name n.at) (After 0x3A (Padded (λ j v. Spells j v n.tree) (λ j v. SpellsFurtherMembers j v ms))) (base + place) (between w place end ++ r)
 member_gives base w place colon end n ms r h k l e name item further =
     let here : base + (colon + 1) ≡ base + colon + 1 = omega arith in
     let value = padded_gives (λ j v. Spells j v n.tree) (λ j v. SpellsFurtherMembers j v ms) base w (colon + 1) end r l item further in
-    let behind : After 0x3A (Padded (λ j v. Spells j v n.tree) (λ j v. SpellsFurtherMembers j v ms)) (base + colon) (0x3A ∷ (part w (colon + 1) end ++ r)) =
-    (part w (colon + 1) end ++ r, refl, subst (λ i. Padded (λ j v. Spells j v n.tree) (λ j v. SpellsFurtherMembers j v ms) i (part w (colon + 1) end ++ r)) here value) in
-    let all = padded_gives (SpellsName n.name n.at) (After 0x3A (Padded (λ j v. Spells j v n.tree) (λ j v. SpellsFurtherMembers j v ms))) base w place colon (0x3A ∷ (part w (colon + 1) end ++ r)) (omega (arith, k, l)) name behind in
-    let bytes : part w place colon ++ (0x3A ∷ (part w (colon + 1) end ++ r)) ≡ part w place end ++ r =
-    ap (λ z. part w place colon ++ (z ∷ (part w (colon + 1) end ++ r))) (sym e) ∙ (sym (append_assoc (part w place colon) (slice_index w colon ∷ part w (colon + 1) end) r)
-    ∙ ap (λ z. z ++ r) (ap (λ z. part w place colon ++ z) (sym (part-cons w colon end k l)) ∙ sym (part-part w place colon end h (omega (arith, k)) l))) in
+    let behind : After 0x3A (Padded (λ j v. Spells j v n.tree) (λ j v. SpellsFurtherMembers j v ms)) (base + colon) (0x3A ∷ (between w (colon + 1) end ++ r)) =
+    (between w (colon + 1) end ++ r, refl, subst (λ i. Padded (λ j v. Spells j v n.tree) (λ j v. SpellsFurtherMembers j v ms) i (between w (colon + 1) end ++ r)) here value) in
+    let all = padded_gives (SpellsName n.name n.at) (After 0x3A (Padded (λ j v. Spells j v n.tree) (λ j v. SpellsFurtherMembers j v ms))) base w place colon (0x3A ∷ (between w (colon + 1) end ++ r)) (omega (arith, k, l)) name behind in
+    let bytes : between w place colon ++ (0x3A ∷ (between w (colon + 1) end ++ r)) ≡ between w place end ++ r =
+    ap (λ z. between w place colon ++ (z ∷ (between w (colon + 1) end ++ r))) (sym e) ∙ (sym (append_assoc (between w place colon) (slice_index w colon ∷ between w (colon + 1) end) r)
+    ∙ ap (λ z. z ++ r) (ap (λ z. between w place colon ++ z) (sym (part-cons w colon end k l)) ∙ sym (part-part w place colon end h (omega (arith, k)) l))) in
     subst (λ z. Padded (SpellsName n.name n.at) (After 0x3A (Padded (λ j v. Spells j v n.tree) (λ j v. SpellsFurtherMembers j v ms))) (base + place) z) bytes all
 
 pub members_on : (base : ℕ) (w : List ℕ) (from place colon end : ℕ) (done : List Named) (n : Named) → from < place → place ≤ colon → colon < end → end < length w → slice_index w colon ≡ 0x3A → slice_index w end ≡ 0x2C → MembersBefore base w from place done
@@ -99,18 +99,18 @@ members_on base w from place colon end done n h k k2 l c e before name item r ot
     let here : base + (end + 1) ≡ base + end + 1 = omega arith in
     let further : SpellsFurtherMembers (base + end) (0x2C ∷ r) (member_and other i u ms) =
     (r, refl, subst (λ m. Padded (SpellsName other i) (After 0x3A (Padded (λ j v. Spells j v u) (λ j v. SpellsFurtherMembers j v ms))) m r) here more) in
-    let all = before (part w place end ++ (0x2C ∷ r)) n.name n.at n.tree (member_and other i u ms) (member_gives base w place colon end n (member_and other i u ms) (0x2C ∷ r) k k2 (omega (arith, l)) c name item further) in
+    let all = before (between w place end ++ (0x2C ∷ r)) n.name n.at n.tree (member_and other i u ms) (member_gives base w place colon end n (member_and other i u ms) (0x2C ∷ r) k k2 (omega (arith, l)) c name item further) in
     subst (λ z. SpellsMembers (base + from + 1) z (members_then (done ++ n ∷ []) (member_and other i u ms))) (through w (from + 1) place end 0x2C r (omega (arith, h)) (omega (arith, k, k2)) l e)
-    (subst (λ z. SpellsMembers (base + from + 1) (part w (from + 1) place ++ (part w place end ++ (0x2C ∷ r))) z) (sym (members_last done n (member_and other i u ms))) all)
+    (subst (λ z. SpellsMembers (base + from + 1) (between w (from + 1) place ++ (between w place end ++ (0x2C ∷ r))) z) (sym (members_last done n (member_and other i u ms))) all)
 
 pub members_end : (base : ℕ) (w : List ℕ) (from place colon end : ℕ) (done : List Named) (n : Named) → from < place → place ≤ colon → colon < end → end < length w → slice_index w from ≡ 0x7B → slice_index w colon ≡ 0x3A → slice_index w end ≡ 0x7D → MembersBefore base w from place done
-    → IsPadded (SpellsName n.name n.at) base w place colon → IsPadded (λ j v. Spells j v n.tree) base w (colon + 1) end → Spells (base + from) (part w from (end + 1)) (object (base + from) (members_of (done ++ n ∷ [])))
+    → IsPadded (SpellsName n.name n.at) base w place colon → IsPadded (λ j v. Spells j v n.tree) base w (colon + 1) end → Spells (base + from) (between w from (end + 1)) (object (base + from) (members_of (done ++ n ∷ [])))
 members_end base w from place colon end done n h k k2 l opens c e before name item =
-    let all = before (part w place end ++ []) n.name n.at n.tree no_members (member_gives base w place colon end n no_members [] k k2 (omega (arith, l)) c name item refl) in
-    let inside : SpellsMembers (base + from + 1) (part w (from + 1) end) (members_of (done ++ n ∷ [])) =
+    let all = before (between w place end ++ []) n.name n.at n.tree no_members (member_gives base w place colon end n no_members [] k k2 (omega (arith, l)) c name item refl) in
+    let inside : SpellsMembers (base + from + 1) (between w (from + 1) end) (members_of (done ++ n ∷ [])) =
     subst (λ z. SpellsMembers (base + from + 1) z (members_of (done ++ n ∷ []))) (to_end w (from + 1) place end (omega (arith, h)) (omega (arith, k, k2)) l)
-    (subst (λ z. SpellsMembers (base + from + 1) (part w (from + 1) place ++ (part w place end ++ [])) z) (sym (members_last done n no_members)) all) in
-    (refl, (part w (from + 1) end, enclosed w from end 0x7B 0x7D (omega (arith, h, k, k2)) l opens e, inside))
+    (subst (λ z. SpellsMembers (base + from + 1) (between w (from + 1) place ++ (between w place end ++ [])) z) (sym (members_last done n no_members)) all) in
+    (refl, (between w (from + 1) end, enclosed w from end 0x7B 0x7D (omega (arith, h, k, k2)) l opens e, inside))
 
-pub members_empty : (base : ℕ) (w : List ℕ) (from end : ℕ) → from < end → end < length w → slice_index w from ≡ 0x7B → slice_index w end ≡ 0x7D → AreSpaces (part w (from + 1) end) → Spells (base + from) (part w from (end + 1)) (object (base + from) (members_of []))
-members_empty base w from end h l opens e spaces = (refl, (part w (from + 1) end, enclosed w from end 0x7B 0x7D h l opens e, spaces))
+pub members_empty : (base : ℕ) (w : List ℕ) (from end : ℕ) → from < end → end < length w → slice_index w from ≡ 0x7B → slice_index w end ≡ 0x7D → AreSpaces (between w (from + 1) end) → Spells (base + from) (between w from (end + 1)) (object (base + from) (members_of []))
+members_empty base w from end h l opens e spaces = (refl, (between w (from + 1) end, enclosed w from end 0x7B 0x7D h l opens e, spaces))

@@ -2,7 +2,7 @@
 -- values at once state their readers in these words; proofs/Passed has their lemmas. The text is the bytes w, which
 -- stand at the offset `base`; places are counted from there.
 use Rattle.std.specs.Prelude.{ℕ, ◌+◌, ◌≤◌, List, [], ◌∷◌, ◌++◌}
-use Rattle.at_fixed.specs.Kept.{part}
+use Rattle.at_fixed.specs.Kept.{between}
 use Rattle.at_lex.specs.Strings.{Character}
 use Rattle.at_lex.specs.Spans.{AreSpaces}
 use Rattle.at_nest.specs.Tree.{Tree, Trees, no_trees, tree_and, Members, no_members, member_and, Spells, SpellsName}
@@ -15,9 +15,9 @@ pub record IsPadded (Part : ℕ → List ℕ → Type 0) (base : ℕ) (w : List 
   pub before : from ≤ first
   pub order : first ≤ last
   pub behind : last ≤ to
-  pub spaces : AreSpaces (part w from first)
-  pub is_part : Part (base + first) (part w first last)
-  pub more_spaces : AreSpaces (part w last to)
+  pub spaces : AreSpaces (between w from first)
+  pub is_part : Part (base + first) (between w first last)
+  pub more_spaces : AreSpaces (between w last to)
 
 -- the trees in front of others
 abbrev pub items_then : List Tree → Trees → Trees
@@ -33,7 +33,7 @@ items_of done = items_then done no_trees
 abbrev pub ItemsBefore : ℕ → List ℕ → ℕ → ℕ → List Tree → Type 0
 ItemsBefore base w from place done = (r : List ℕ) (t : Tree) (ts : Trees)
     → Padded (λ j v. Spells j v t) (λ j r. SpellsFurtherItems j r ts) (base + place) r
-    → SpellsItems (base + from + 1) (part w (from + 1) place ++ r) (items_then done (tree_and t ts))
+    → SpellsItems (base + from + 1) (between w (from + 1) place ++ r) (items_then done (tree_and t ts))
 
 -- a member: its name, the offset of its name, and its value
 pub record Named : Type 0 where
@@ -55,4 +55,4 @@ abbrev pub MembersBefore : ℕ → List ℕ → ℕ → ℕ → List Named → T
 MembersBefore base w from place done = (r : List ℕ) (name : List Character) (i : ℕ) (t : Tree) (ms : Members)
     → Padded (SpellsName name i) (After 0x3A (Padded (λ j v. Spells j v t) (λ j r. SpellsFurtherMembers j r ms)))
     (base + place) r
-    → SpellsMembers (base + from + 1) (part w (from + 1) place ++ r) (members_then done (member_and name i t ms))
+    → SpellsMembers (base + from + 1) (between w (from + 1) place ++ r) (members_then done (member_and name i t ms))

@@ -1,7 +1,7 @@
 //! The answer of a whole text.
 
 ghost use Rattle.std.specs.Prelude.{◌≡◌, ◌+◌, ◌≤◌, ◌^◌, [], ◌∷◌, true, drop, length, Ok, Err, None};
-ghost use Rattle.at_text.specs.Spans.{part_of};
+ghost use Rattle.at_text.specs.Spans.{span_of};
 ghost use Rattle.at_text.specs.Texts.{base_of as base_in};
 ghost use Rattle.at_lex.specs.Runs.{JsonRun};
 ghost use Rattle.at_lex.specs.Spans.{begins_run};
@@ -369,8 +369,8 @@ pub fn finish_span<A: Algebra>(
     requires fits { length bytes.now ≤ 2 ^ 28 }
     requires order { span.from ≤ span.to }
     requires end { span.to ≤ length bytes.now }
-    requires whole { StandsFor (IsAtomOf A.Algebra algebra.now) span.from (part_of bytes.now span.from span.to) whole }
-    ensures answers { Answers (IsAtomOf A.Algebra algebra.now) span.from (part_of bytes.now span.from span.to) result }
+    requires whole { StandsFor (IsAtomOf A.Algebra algebra.now) span.from (span_of bytes.now span.from span.to) whole }
+    ensures answers { Answers (IsAtomOf A.Algebra algebra.now) span.from (span_of bytes.now span.from span.to) result }
     ensures lost { parts_of whole ≡ None → result ≡ Err NestEnd.Memory }
 {
     let Some(parts) = whole.into_parts() else {
@@ -391,8 +391,8 @@ fn finish_variant<A: Algebra>(
     requires order { span.from ≤ span.to }
     requires end { span.to ≤ length bytes.now }
     requires held { HoldsVariant (IsAtomOf A.Algebra algebra.now) Start.Out span.from
-        (part_of bytes.now span.from span.to) variant }
-    ensures { Answers (IsAtomOf A.Algebra algebra.now) span.from (part_of bytes.now span.from span.to) result }
+        (span_of bytes.now span.from span.to) variant }
+    ensures { Answers (IsAtomOf A.Algebra algebra.now) span.from (span_of bytes.now span.from span.to) result }
 {
     let mut body = Body::new(alloc);
     match variant {

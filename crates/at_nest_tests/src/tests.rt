@@ -1,7 +1,7 @@
 //! Tables of texts, each cut at every place, under algebras that count.
 
 ghost use Rattle.std.specs.Prelude.{◌≡◌, ◌≤◌, ◌<◌, ◌^◌, drop, length};
-ghost use Rattle.at_text.specs.Spans.{part_of};
+ghost use Rattle.at_text.specs.Spans.{span_of};
 ghost use Rattle.at_text.specs.Texts.{base_of as base_in};
 ghost use Rattle.at_nest.specs.KeptItems.{IsAtomOf};
 ghost use Rattle.at_nest.specs.FragmentMeanings.{StandsFor};
@@ -23,7 +23,7 @@ fn piece<A: Algebra>(alloc: Global, algebra: &A, bytes: &[u8], from: u32, to: u3
     requires fits { length bytes.now ≤ 2 ^ 28 }
     requires order { from ≤ to }
     requires end { to ≤ length bytes.now }
-    ensures { StandsFor (IsAtomOf A.Algebra algebra.now) from (part_of bytes.now from to) result }
+    ensures { StandsFor (IsAtomOf A.Algebra algebra.now) from (span_of bytes.now from to) result }
 {
     run_block(alloc, algebra, &bytes[from as usize..to as usize], from)
 }
@@ -42,9 +42,9 @@ fn joined<A: Algebra>(
     requires before { span.from ≤ at }
     requires order { at ≤ span.to }
     requires end { span.to ≤ length bytes.now }
-    requires left { StandsFor (IsAtomOf A.Algebra algebra.now) span.from (part_of bytes.now span.from at) left }
-    requires right { StandsFor (IsAtomOf A.Algebra algebra.now) at (part_of bytes.now at span.to) right }
-    ensures { StandsFor (IsAtomOf A.Algebra algebra.now) span.from (part_of bytes.now span.from span.to) result }
+    requires left { StandsFor (IsAtomOf A.Algebra algebra.now) span.from (span_of bytes.now span.from at) left }
+    requires right { StandsFor (IsAtomOf A.Algebra algebra.now) at (span_of bytes.now at span.to) right }
+    ensures { StandsFor (IsAtomOf A.Algebra algebra.now) span.from (span_of bytes.now span.from span.to) result }
 {
     merge(alloc, algebra, bytes, left, right)
 }
@@ -62,8 +62,8 @@ fn with_piece<A: Algebra>(
     requires before { span.from ≤ at }
     requires order { at ≤ span.to }
     requires end { span.to ≤ length bytes.now }
-    requires whole { StandsFor (IsAtomOf A.Algebra algebra.now) span.from (part_of bytes.now span.from at) whole }
-    ensures { StandsFor (IsAtomOf A.Algebra algebra.now) span.from (part_of bytes.now span.from span.to) result }
+    requires whole { StandsFor (IsAtomOf A.Algebra algebra.now) span.from (span_of bytes.now span.from at) whole }
+    ensures { StandsFor (IsAtomOf A.Algebra algebra.now) span.from (span_of bytes.now span.from span.to) result }
 {
     let next = piece(alloc, algebra, bytes, at, span.to);
     joined(alloc, algebra, bytes, span, at, whole, next)
@@ -80,7 +80,7 @@ fn cut_at<A: Algebra>(
     requires fits { length bytes.now ≤ 2 ^ 28 }
     requires order { span.from ≤ span.to }
     requires end { span.to ≤ length bytes.now }
-    ensures { StandsFor (IsAtomOf A.Algebra algebra.now) span.from (part_of bytes.now span.from span.to) result }
+    ensures { StandsFor (IsAtomOf A.Algebra algebra.now) span.from (span_of bytes.now span.from span.to) result }
 {
     let mut at = span.from;
     let mut whole = piece(alloc, algebra, bytes, at, at);
@@ -413,7 +413,7 @@ fn by_first_byte<A: Algebra>(alloc: Global, algebra: &A, bytes: &[u8], span: Spa
     requires fits { length bytes.now ≤ 2 ^ 28 }
     requires order { span.from < span.to }
     requires end { span.to ≤ length bytes.now }
-    ensures { StandsFor (IsAtomOf A.Algebra algebra.now) span.from (part_of bytes.now span.from span.to) result }
+    ensures { StandsFor (IsAtomOf A.Algebra algebra.now) span.from (span_of bytes.now span.from span.to) result }
 {
     let at = span.from + 1;
     let left = piece(alloc, algebra, bytes, span.from, at);

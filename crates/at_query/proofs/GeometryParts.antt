@@ -12,7 +12,7 @@ use Rattle.at_wkt.specs.Geometry.{Geometry, point, line_string, polygon, multi_p
 use Rattle.at_wkt.specs.Meaning.{shape_of, faults_of, empty_shape}
 use Rattle.at_wkt.specs.Answers.{IsPrefixOf, IsPrefixFault}
 use Rattle.at_query.specs.declared.queries.Test.TheVariants.{MeetsShape}
-use Rattle.at_fixed.specs.Kept.{part}
+use Rattle.at_fixed.specs.Kept.{between}
 use Rattle.at_wkt.specs.Readers.{next}
 use Rattle.at_query.specs.Readers.{Ends, Stops, TestMeaning, BoxMeaning, met_box, Box, geometry_meaning, BoxTarget, GeometryTarget, Target}
 use Rattle.at_query.proofs.Parted.{Lives, Begins, When, Tells, when_ends, when_stops, told_ends, told_stops}
@@ -89,7 +89,7 @@ module _ (digits : ℕ) (how : Coords) where
 
       pub geometry_stops : Stops (GeometryTarget digits how) w i fault.at
       geometry_stops =
-          let none : (v x : List ℕ) → WktGeometry i v → v ++ x ≡ part w i (i + h.taken) → ⊥ = (λ v x (g, s) line.
+          let none : (v x : List ℕ) → WktGeometry i v → v ++ x ≡ between w i (i + h.taken) → ⊥ = (λ v x (g, s) line.
           let front : v ++ x ≡ take h.taken (take (length w - i) (drop i w)) = line ∙ sym (slice_part w i h.taken) in
           let all : take (length w - i) (drop i w) ≡ v ++ (x ++ drop h.taken (take (length w - i) (drop i w))) =
           sym (take-append-drop h.taken (take (length w - i) (drop i w))) ∙ (ap (λ z. z ++ drop h.taken (take (length w - i) (drop i w))) (sym front) ∙ append_assoc v x (drop h.taken (take (length w - i) (drop i w)))) in

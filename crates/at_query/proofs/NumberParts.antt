@@ -14,7 +14,7 @@ use Rattle.at_wkt.proofs.NumberSteps.{in_number, number_ends, front_viable, next
 use Rattle.at_query.specs.declared.coordinates.NumberRead.{NumberRead}
 use Rattle.at_query.specs.Spelling.{Placed, SpellsPlaced}
 use Rattle.at_query.specs.Queries.{ats_of, least_of}
-use Rattle.at_fixed.specs.Kept.{part}
+use Rattle.at_fixed.specs.Kept.{between}
 use Rattle.at_query.specs.Readers.{Ends, Stops, WordStands, WordBreaks, is_delimiter, number_meaning, Number, number_in}
 use Rattle.at_query.proofs.Parted.{onward_ahead}
 
@@ -25,10 +25,10 @@ is_byte : (b : ℕ) → is_delimiter b ≡ true → b ≢ 256
 is_byte b h e = let bad : is_delimiter 256 ≡ true = ap is_delimiter (sym e) ∙ h in true≢false (sym bad)
 
 -- a word of one byte that breaks off does so at once
-one_byte : (w : List ℕ) (j n b : ℕ) → WordBreaks w j n (b ∷ []) → (n ≡ j) × (n < length w → part w j (n + 1) ≡ b ∷ [] → ⊥)
+one_byte : (w : List ℕ) (j n b : ℕ) → WordBreaks w j n (b ∷ []) → (n ≡ j) × (n < length w → between w j (n + 1) ≡ b ∷ [] → ⊥)
 one_byte w j n b h = go h.front h.word_is h.text h.differs where
-  go : (front : List ℕ) → b ∷ [] ≡ front ++ (h.byte ∷ h.rest) → part w j n ≡ front → (n < length w → part w j (n + 1) ≡ front ++ (h.byte ∷ []) → ⊥)
-      → (n ≡ j) × (n < length w → part w j (n + 1) ≡ b ∷ [] → ⊥)
+  go : (front : List ℕ) → b ∷ [] ≡ front ++ (h.byte ∷ h.rest) → between w j n ≡ front → (n < length w → between w j (n + 1) ≡ front ++ (h.byte ∷ []) → ⊥)
+      → (n ≡ j) × (n < length w → between w j (n + 1) ≡ b ∷ [] → ⊥)
   go [] e t d = (omega (arith, ap length t, part-length w j n h.order h.within), λ below f. d below (f ∙ (let same : b ≡ h.byte = cc in ap (λ z. z ∷ []) same)))
   go (a ∷ front) e t d = absurd (let rest : [] ≡ front ++ (h.byte ∷ h.rest) = cc in omega (arith, ap length rest, length-append front (h.byte ∷ h.rest)))
 
@@ -37,26 +37,26 @@ module _ (digits : ℕ) (how : Coords) (delimiter : ℕ) (d : is_delimiter delim
   record Agrees (j : ℕ) (n : Placed) (v : List ℕ) : Type 0 where
     at_is : n.at ≡ i
     numeral : IsWktNumeral n.number
-    text : part w i j ≡ numeral_text n.number
-    word : v ≡ part w i j ++ (delimiter ∷ [])
+    text : between w i j ≡ numeral_text n.number
+    word : v ≡ between w i j ++ (delimiter ∷ [])
     byte : delimiter ≡ next w j
 
   agrees : (j : ℕ) → i ≤ j → j ≤ length w → LongestViable WktNumber (drop i w) (j - i) → (n : Placed) (v r s : List ℕ)
-      → SpellsPlaced n (delimiter ∷ []) i v → v ++ r ≡ part w i j ++ (next w j ∷ s) → Agrees j n v
+      → SpellsPlaced n (delimiter ∷ []) i v → v ++ r ≡ between w i j ++ (next w j ∷ s) → Agrees j n v
   agrees j h k l n v r s (v1, v2, ev, (ei, (hn, en)), ed) e =
       let whole : v ≡ v1 ++ (delimiter ∷ []) = ev ∙ ap (λ z. v1 ++ z) ed in
-      let line : v1 ++ (delimiter ∷ r) ≡ part w i j ++ (next w j ∷ s) = sym (append_assoc v1 (delimiter ∷ []) r) ∙ (ap (λ z. z ++ r) (sym whole) ∙ e) in
-      let same : v1 ≡ part w i j = number_ends w i j h k l v1 delimiter r (next w j ∷ s) (n.number, hn, en) (no_number_byte delimiter d) (s, refl) line in
-      let rest : delimiter ∷ r ≡ next w j ∷ s = append_cancel_left (part w i j) _ _ (ap (λ z. z ++ (delimiter ∷ r)) (sym same) ∙ line) in
+      let line : v1 ++ (delimiter ∷ r) ≡ between w i j ++ (next w j ∷ s) = sym (append_assoc v1 (delimiter ∷ []) r) ∙ (ap (λ z. z ++ r) (sym whole) ∙ e) in
+      let same : v1 ≡ between w i j = number_ends w i j h k l v1 delimiter r (next w j ∷ s) (n.number, hn, en) (no_number_byte delimiter d) (s, refl) line in
+      let rest : delimiter ∷ r ≡ next w j ∷ s = append_cancel_left (between w i j) _ _ (ap (λ z. z ++ (delimiter ∷ r)) (sym same) ∙ line) in
       record { at_is = ei; numeral = hn; text = sym same ∙ en; word = whole ∙ ap (λ z. z ++ (delimiter ∷ [])) same; byte = cc }
 
-  viable_there : (j : ℕ) → i ≤ j → LongestViable WktNumber (drop i w) (j - i) → (m : _) × (more : List ℕ) × Number digits how delimiter m i (part w i j ++ more)
+  viable_there : (j : ℕ) → i ≤ j → LongestViable WktNumber (drop i w) (j - i) → (m : _) × (more : List ℕ) × Number digits how delimiter m i (between w i j ++ more)
   viable_there j h l =
       let (more, (n, hn, en)) = front_viable w i j h l in
       let p : Placed = record { number = n; at = i } in (
         number_meaning digits how p,
         more ++ (delimiter ∷ []),
-        (p, refl, (part w i j ++ more, delimiter ∷ [], sym (append_assoc (part w i j) more (delimiter ∷ [])), (refl, (hn, en)), refl)),
+        (p, refl, (between w i j ++ more, delimiter ∷ [], sym (append_assoc (between w i j) more (delimiter ∷ [])), (refl, (hn, en)), refl)),
       )
 
   -- no number stands
@@ -84,7 +84,7 @@ module _ (digits : ℕ) (how : Coords) (delimiter : ℕ) (d : is_delimiter delim
               let (r2, t, line) = onward_ahead w i j h.order (v ++ r) on in
               let a = agrees j h.order h.within h.longest p v (r ++ r2) t q (sym (append_assoc v r r2) ∙ line) in
               elim (dec_lt j (length w)) [
-                | yes below ↦ differs (omega (arith, e)) (ap (λ z. part w j (z + 1)) e ∙ (part-one w j below ∙ ap (λ z. z ∷ []) (sym a.byte)))
+                | yes below ↦ differs (omega (arith, e)) (ap (λ z. between w j (z + 1)) e ∙ (part-one w j below ∙ ap (λ z. z ∷ []) (sym a.byte)))
                 | no past ↦ is_byte delimiter d (a.byte ∙ next_end w j (omega arith))
               ];
         } in
@@ -95,16 +95,16 @@ module _ (digits : ℕ) (how : Coords) (delimiter : ℕ) (d : is_delimiter delim
         let low : i ≤ j = h.order in
         let next_is : k ≡ j + 1 = s.end in
         let mid : j ≤ k = omega arith in
-        let joint : part w i k ≡ part w i j ++ (delimiter ∷ []) = part-part w i j k low mid s.within ∙ ap (λ z. part w i j ++ z) s.text in
-        let one : next w j ∷ [] ≡ delimiter ∷ [] = sym (part-one w j (omega (arith, s.within))) ∙ (ap (part w j) (sym next_is) ∙ s.text) in
+        let joint : between w i k ≡ between w i j ++ (delimiter ∷ []) = part-part w i j k low mid s.within ∙ ap (λ z. between w i j ++ z) s.text in
+        let one : next w j ∷ [] ≡ delimiter ∷ [] = sym (part-one w j (omega (arith, s.within))) ∙ (ap (between w j) (sym next_is) ∙ s.text) in
         let byte : delimiter ≡ next w j = cc in
         let p : Placed = record { number = n; at = i } in
         record {
           order = omega arith;
           within = s.within;
-          sound = (p, refl, (part w i j, delimiter ∷ [], joint, (refl, (h.numeral, h.text)), refl));
+          sound = (p, refl, (between w i j, delimiter ∷ [], joint, (refl, (h.numeral, h.text)), refl));
           only = λ m v r t (q, em, sp) e.
-              let line : v ++ r ≡ part w i j ++ (next w j ∷ t) = e ∙ (ap (λ z. z ++ t) joint ∙ (append_assoc (part w i j) (delimiter ∷ []) t ∙ ap (λ z. part w i j ++ (z ∷ t)) byte)) in
+              let line : v ++ r ≡ between w i j ++ (next w j ∷ t) = e ∙ (ap (λ z. z ++ t) joint ∙ (append_assoc (between w i j) (delimiter ∷ []) t ∙ ap (λ z. between w i j ++ (z ∷ t)) byte)) in
               let a = agrees j low h.within h.longest q v r t sp line in
               let en : q.number ≡ n = h.only q.number a.numeral a.text in
               (em ∙ (ap (λ z. number_meaning digits how (record { number = z; at = q.at })) en ∙ ap (λ z. number_meaning digits how (record { number = n; at = z })) a.at_is), a.word ∙ sym joint);

@@ -19,7 +19,7 @@ use Rattle.at_query.specs.declared.queries.Test.{Test}
 use Rattle.at_query.specs.declared.queries.Test.TheVariants.{MeetsShape}
 use Rattle.at_query.specs.Spelling.{Spelled, in_box, meets_box, meets, has, SpelledQuery, IsSpelled, verb_text}
 use Rattle.at_query.specs.Queries.{ats_of, lesser, least_of, test_faults, test_of, spelled_fault, query_of, IsQueryOf, IsWrongAt, IsNoQuery}
-use Rattle.at_fixed.specs.Kept.{part}
+use Rattle.at_fixed.specs.Kept.{between}
 use Rattle.at_wkt.specs.Readers.{next}
 use Rattle.at_query.specs.Readers.{Ends, past, Stops, Breaks, WordStands, WordBreaks, Word, Then, VerbPart, TestMeaning, test_meaning, Tests, tests_of, fault_of, QueryCovers, TestsCover}
 use Rattle.at_query.proofs.Parted.{Lives, Begins, When, rest_onward, when_ends, when_stops, none_stops, word_ends, word_stops, then_covers, then_breaks, first_breaks}
@@ -272,7 +272,7 @@ module _ (digits : ℕ) (how : Coords) where
       no_query = λ (q, s). h.dead (meant_by q) w (whole_of q w s) (rest_onward w 0 n h.order h.within);
       longest = record {
         fits = h.within;
-        front = (let (p, more, s) = h.viable in let (q, t, e) = line_of p (part w 0 n ++ more) s in (more, (q, t)));
+        front = (let (p, more, s) = h.viable in let (q, t, e) = line_of p (between w 0 n ++ more) s in (more, (q, t)));
         longest = λ below (more, (q, s)). h.dead (meant_by q) (take (n + 1) w ++ more) (whole_of q (take (n + 1) w ++ more) s) (past below more refl);
       };
     }

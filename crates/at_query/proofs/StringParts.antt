@@ -7,18 +7,18 @@ use Rattle.at_lex.specs.Strings.{units_of, AreUnitsOf, JsonString}
 use Rattle.at_lex.specs.StringStates.{State, opening, inside, escaped, hex4, hex3, hex2, hex1, closed, step}
 use Rattle.at_lex.proofs.JsonString.{Rest, machine, opening-JsonString}
 use Rattle.at_wkt.proofs.Leads.{part-more, append_cases}
-use Rattle.at_fixed.specs.Kept.{part}
+use Rattle.at_fixed.specs.Kept.{between}
 use Rattle.at_wkt.specs.Readers.{next}
 use Rattle.at_query.specs.Readers.{Ends, Onward, past, over, Stops, Text}
 use Rattle.at_query.proofs.Parted.{Lives}
 
 -- ---- what is left of a text
 
-pub rest_part : (w : List ℕ) (i n : ℕ) → take n (drop i w) ≡ part w i (i + n)
+pub rest_part : (w : List ℕ) (i n : ℕ) → take n (drop i w) ≡ between w i (i + n)
 rest_part w i n = sym (drop-take i n w)
 
 -- what the code's slice shows of it
-pub slice_part : (w : List ℕ) (i n : ℕ) → take n (take (length w - i) (drop i w)) ≡ part w i (i + n)
+pub slice_part : (w : List ℕ) (i n : ℕ) → take n (take (length w - i) (drop i w)) ≡ between w i (i + n)
 slice_part w i n = ap (take n) (take_rest w i) ∙ rest_part w i n
 
 pub slice_fits : (w : List ℕ) (i n : ℕ) → i ≤ length w → n ≤ length (take (length w - i) (drop i w)) → i + n ≤ length w
@@ -30,28 +30,28 @@ module _ (L : List ℕ → Type 0) (w : List ℕ) (i n : ℕ) (inside_text : i �
   pub language_within : i + n ≤ length w
   language_within = slice_fits w i n inside_text longest.fits
 
-  pub language_viable : (more : List ℕ) × L (part w i (i + n) ++ more)
+  pub language_viable : (more : List ℕ) × L (between w i (i + n) ++ more)
   language_viable = let (more, word) = longest.front in (more, subst (λ z. L (z ++ more)) (slice_part w i n) word)
 
-  no_longer : (v r s : List ℕ) → L v → i + n < length w → v ++ r ≡ part w i (i + n) ++ (next w (i + n) ∷ s) → ((x : List ℕ) → v ++ x ≡ part w i (i + n) → ⊥) → ⊥
-  no_longer v r s word below e none = elim (append_cases v r (part w i (i + n)) (next w (i + n) ∷ s) e) [
+  no_longer : (v r s : List ℕ) → L v → i + n < length w → v ++ r ≡ between w i (i + n) ++ (next w (i + n) ∷ s) → ((x : List ℕ) → v ++ x ≡ between w i (i + n) → ⊥) → ⊥
+  no_longer v r s word below e none = elim (append_cases v r (between w i (i + n)) (next w (i + n) ∷ s) e) [
     | inl (same, rest) ↦ none [] (append-nil v ∙ same)
     | inr (inl (b, bs, f, g)) ↦ none (b ∷ bs) (sym f)
     | inr (inr (b, bs, f, g)) ↦ (
         let first : b ≡ next w (i + n) = cc in
         let order : i ≤ i + n = omega arith in
         let size : i + n + 1 ≡ i + (n + 1) = omega arith in
-        let more : part w i (i + (n + 1)) ≡ part w i (i + n) ++ (next w (i + n) ∷ []) = ap (part w i) (sym size) ∙ part-more w i (i + n) order below in
+        let more : between w i (i + (n + 1)) ≡ between w i (i + n) ++ (next w (i + n) ∷ []) = ap (between w i) (sym size) ∙ part-more w i (i + n) order below in
         let whole : take (n + 1) (take (length w - i) (drop i w)) ++ bs ≡ v =
-        ap (λ z. z ++ bs) (slice_part w i (n + 1) ∙ more) ∙ (append_assoc (part w i (i + n)) (next w (i + n) ∷ []) bs ∙ (ap (λ z. part w i (i + n) ++ (z ∷ bs)) (sym first) ∙ sym f)) in
+        ap (λ z. z ++ bs) (slice_part w i (n + 1) ∙ more) ∙ (append_assoc (between w i (i + n)) (next w (i + n) ∷ []) bs ∙ (ap (λ z. between w i (i + n) ++ (z ∷ bs)) (sym first) ∙ sym f)) in
         longest.longest (omega (arith, ap length (take_rest w i), length-drop i w)) (bs, subst L (sym whole) word))
   ]
 
   -- no word goes on as the text does, where none is a prefix of the part
-  pub language_dead : ((v x : List ℕ) → L v → v ++ x ≡ part w i (i + n) → ⊥) → (v r : List ℕ) → L v → Onward w i (i + n) (v ++ r) → ⊥
+  pub language_dead : ((v x : List ℕ) → L v → v ++ x ≡ between w i (i + n) → ⊥) → (v r : List ℕ) → L v → Onward w i (i + n) (v ++ r) → ⊥
   language_dead none v r word (past below s e) =
       let order : i ≤ i + n = omega arith in
-      no_longer v r s word below (e ∙ (ap (λ z. z ++ s) (part-more w i (i + n) order below) ∙ append_assoc (part w i (i + n)) (next w (i + n) ∷ []) s)) (λ x. none v x word)
+      no_longer v r s word below (e ∙ (ap (λ z. z ++ s) (part-more w i (i + n) order below) ∙ append_assoc (between w i (i + n)) (next w (i + n) ∷ []) s)) (λ x. none v x word)
   language_dead none v r word (over end e) = none v r word e
 
 -- ---- no string is a proper prefix of another
@@ -91,7 +91,7 @@ text_lives at = ([], 0x22 ∷ 0x22 ∷ [], ([], refl, (tt, refl)))
 
 module _ (w : List ℕ) (i n : ℕ) (within : i ≤ length w) (whole : Bool) (h : TakesLongest JsonString (take (length w - i) (drop i w)) (record { len = n; whole = whole })) where
   -- a string stands
-  pub text_ends : whole ≡ true → (units : List ℕ) → AreUnitsOf (part w i (i + n)) units → Ends Text w i (i + n) units
+  pub text_ends : whole ≡ true → (units : List ℕ) → AreUnitsOf (between w i (i + n)) units → Ends Text w i (i + n) units
   text_ends e units u =
       let (cs, hs, es) = subst JsonString (slice_part w i n) (h.whole.0 e) in
       record {
@@ -99,7 +99,7 @@ module _ (w : List ℕ) (i n : ℕ) (within : i ≤ length w) (whole : Bool) (h 
         within = language_within JsonString w i n within h.longest;
         sound = (cs, u cs hs es, (hs, es));
         only = λ y v r s (ds, ey, (hd, ed)) line.
-            let same : v ≡ part w i (i + n) = same_string v r (part w i (i + n)) s (ds, hd, ed) (cs, hs, es) line in
+            let same : v ≡ between w i (i + n) = same_string v r (between w i (i + n)) s (ds, hd, ed) (cs, hs, es) line in
             (ey ∙ sym (u ds hd (sym same ∙ ed)), same);
       }
 
@@ -107,11 +107,11 @@ module _ (w : List ℕ) (i n : ℕ) (within : i ≤ length w) (whole : Bool) (h 
   pub text_stops : whole ≡ false → Stops Text w i (i + n)
   text_stops e =
       let viable = language_viable JsonString w i n within h.longest in
-      let none : (v x : List ℕ) → JsonString v → v ++ x ≡ part w i (i + n) → ⊥ = (λ v x word line.
+      let none : (v x : List ℕ) → JsonString v → v ++ x ≡ between w i (i + n) → ⊥ = (λ v x word line.
       let (more, longer) = viable in
       let empty : x ++ more ≡ [] = one_string v (x ++ more) word (subst JsonString (ap (λ z. z ++ more) (sym line) ∙ append_assoc v x more) longer) in
       let nil : x ≡ [] = left_nil x more empty in
-      let word2 : JsonString (part w i (i + n)) = subst JsonString (sym (append-nil v) ∙ (ap (λ z. v ++ z) (sym nil) ∙ line)) word in
+      let word2 : JsonString (between w i (i + n)) = subst JsonString (sym (append-nil v) ∙ (ap (λ z. v ++ z) (sym nil) ∙ line)) word in
       true≢false (sym (h.whole.1 (subst JsonString (sym (slice_part w i n)) word2)) ∙ e)) in
       record {
         order = omega arith;

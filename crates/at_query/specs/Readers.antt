@@ -5,7 +5,7 @@ use Rattle.at_text.specs.declared.faults.Fault.{Fault}
 use Rattle.at_text.specs.Parts.{Exactly, ◌▸◌}
 use Rattle.at_text.specs.Texts.{is_one_of}
 use Rattle.at_text.specs.Faults.{first_of}
-use Rattle.at_fixed.specs.Kept.{part}
+use Rattle.at_fixed.specs.Kept.{between}
 use Rattle.at_fixed.specs.declared.rounding.Coords.{Coords}
 use Rattle.at_lex.specs.Strings.{Character, units_of, SpellsString}
 use Rattle.at_geom.specs.declared.rectangles.Extent.{Extent}
@@ -31,19 +31,19 @@ use Rattle.at_query.specs.Queries.{box_shape, is_reversed}
 pub record Ends {X : Type 0} (P : X → ℕ → List ℕ → Type 0) (w : List ℕ) (i j : ℕ) (x : X) : Type 0 where
   pub order : i ≤ j
   pub within : j ≤ length w
-  pub sound : P x i (part w i j)
-  pub only : (y : X) (v r s : List ℕ) → P y i v → v ++ r ≡ part w i j ++ s → (y ≡ x) × (v ≡ part w i j)
+  pub sound : P x i (between w i j)
+  pub only : (y : X) (v r s : List ℕ) → P y i v → v ++ r ≡ between w i j ++ s → (y ≡ x) × (v ≡ between w i j)
 
 -- the bytes go on as the text does from i through the byte at n, or are the text from i on, which ends at n
 pub data Onward (w : List ℕ) (i n : ℕ) (u : List ℕ) : Type 0 where
-  past : n < length w → (s : List ℕ) → u ≡ part w i (n + 1) ++ s → Onward w i n u
-  over : n ≡ length w → u ≡ part w i n → Onward w i n u
+  past : n < length w → (s : List ℕ) → u ≡ between w i (n + 1) ++ s → Onward w i n u
+  over : n ≡ length w → u ≡ between w i n → Onward w i n u
 
 -- some spelling agrees with the text from i up to n, and none further
 pub record Stops {X : Type 0} (P : X → ℕ → List ℕ → Type 0) (w : List ℕ) (i n : ℕ) : Type 0 where
   pub order : i ≤ n
   pub within : n ≤ length w
-  pub viable : (x : X) × (more : List ℕ) × P x i (part w i n ++ more)
+  pub viable : (x : X) × (more : List ℕ) × P x i (between w i n ++ more)
   pub dead : (x : X) (v r : List ℕ) → P x i v → Onward w i n (v ++ r) → ⊥
 
 -- the text spells the value from the place i up to its end, and no other
@@ -56,14 +56,14 @@ pub record Covers {X : Type 0} (P : X → ℕ → List ℕ → Type 0) (w : List
 pub record Breaks {X : Type 0} (P : X → ℕ → List ℕ → Type 0) (w : List ℕ) (i n : ℕ) : Type 0 where
   pub order : i ≤ n
   pub within : n ≤ length w
-  pub viable : (x : X) × (more : List ℕ) × P x i (part w i n ++ more)
+  pub viable : (x : X) × (more : List ℕ) × P x i (between w i n ++ more)
   pub dead : (x : X) (v : List ℕ) → P x i v → Onward w i n v → ⊥
 
 -- the word stands from a place up to another
 pub record WordStands (w : List ℕ) (i j : ℕ) (word : List ℕ) : Type 0 where
   pub end : j ≡ i + length word
   pub within : j ≤ length w
-  pub text : part w i j ≡ word
+  pub text : between w i j ≡ word
 
 -- so many bytes of the word stand from a place on, and the next one doesn't
 pub record WordBreaks (w : List ℕ) (i n : ℕ) (word : List ℕ) : Type 0 where
@@ -73,8 +73,8 @@ pub record WordBreaks (w : List ℕ) (i n : ℕ) (word : List ℕ) : Type 0 wher
   pub byte : ℕ
   pub rest : List ℕ
   pub word_is : word ≡ front ++ (byte ∷ rest)
-  pub text : part w i n ≡ front
-  pub differs : n < length w → part w i (n + 1) ≡ front ++ (byte ∷ []) → ⊥
+  pub text : between w i n ≡ front
+  pub differs : n < length w → between w i (n + 1) ≡ front ++ (byte ∷ []) → ⊥
 
 -- the word
 abbrev pub Word : List ℕ → Unit {0} → ℕ → List ℕ → Type 0

@@ -7,14 +7,14 @@ use Rattle.std.specs.Str.{IsUtf8}
 use Rattle.std.proofs.lemmas.Str.{IsUtf8-take, IsUtf8-drop, IsCharBoundary-before_ascii, IsCharBoundary-after_ascii}
 use Rattle.at_text.specs.declared.faults.Fault.{Fault}
 use Rattle.at_text.specs.Prefix.{Viable, LongestViable}
-use Rattle.at_text.specs.Spans.{part_of}
+use Rattle.at_text.specs.Spans.{span_of}
 use Rattle.at_text.specs.Syntax.{IsSyntaxFault, stop_fault}
 use Rattle.at_lex.specs.Fronts.{IsFront}
 use Rattle.at_lex.specs.Strings.{Character, character_text, SpellsString}
 use Rattle.at_lex.proofs.FrontLemmas.{front_all, suffix_is}
 use Rattle.at_wkt.specs.Geometry.{Geometry, point, is_blank, SpellsGeometry, IsLineOf, WktLine}
 use Rattle.at_wkt.proofs.Leads.{append_cases}
-use Rattle.at_fixed.specs.Kept.{part}
+use Rattle.at_fixed.specs.Kept.{between}
 use Rattle.at_query.specs.Readers.{Text, Stops, past, over}
 use Rattle.at_run.specs.Labels.{SpellsLabelled, LabelledLine}
 use Rattle.at_run.specs.declared.labels.Behind.{Behind}
@@ -35,14 +35,14 @@ front_blanks : (a u : List ℕ) → AreBlanks (a ++ u) → AreBlanks a
 front_blanks [] u h = tt
 front_blanks (b ∷ a) u h = (h.0, front_blanks a u h.1)
 
-rest_split : (text : List ℕ) (i j : ℕ) → i ≤ j → part_of text i j ++ drop j text ≡ drop i text
+rest_split : (text : List ℕ) (i j : ℕ) → i ≤ j → span_of text i j ++ drop j text ≡ drop i text
 rest_split text i j h =
     let e : i + (j - i) ≡ j = omega arith in
     let rest : drop (j - i) (drop i text) ≡ drop j text = drop-drop (j - i) i text ∙ ap (λ z. drop z text) e in
     ap (λ z. take (j - i) (drop i text) ++ z) (sym rest) ∙ take-append-drop (j - i) (drop i text)
 
 -- a text up to a place, from there up to another, and from there on
-split_text : (text : List ℕ) (i j : ℕ) → i ≤ j → text ≡ take i text ++ (part_of text i j ++ drop j text)
+split_text : (text : List ℕ) (i j : ℕ) → i ≤ j → text ≡ take i text ++ (span_of text i j ++ drop j text)
 split_text text i j h = sym (ap (λ z. take i text ++ z) (rest_split text i j h) ∙ take-append-drop i text)
 
 front_length : (text : List ℕ) (i : ℕ) → i ≤ length text → length (take i text) ≡ i
@@ -55,7 +55,7 @@ rest_is w len end h =
     ap (take (len - end)) (suffix_is w end) ∙ (sym (drop-take end (len - end) w) ∙ ap (λ n. drop end (take n w)) e)
 
 -- and a part of it
-pub part_front : (w : List ℕ) (len i j : ℕ) → i ≤ j → j ≤ len → part_of w i j ≡ part_of (take len w) i j
+pub part_front : (w : List ℕ) (len i j : ℕ) → i ≤ j → j ≤ len → span_of w i j ≡ span_of (take len w) i j
 part_front w len i j h k =
     let e : i + (len - i) ≡ len = omega arith in
     let cut : drop i (take len w) ≡ take (len - i) (drop i w) = ap (λ n. drop i (take n w)) (sym e) ∙ drop-take i (len - i) w in
@@ -157,27 +157,27 @@ regrouped : (a p m e : List ℕ) → (a ++ p) ++ (m ++ e) ≡ a ++ ((p ++ m) ++ 
 regrouped a p m e = append_assoc a p (m ++ e) ∙ ap (λ z. a ++ z) (sym (append_assoc p m e))
 
 module _ (at : ℕ) (text : List ℕ) (quote n : ℕ) (q : QuoteStands text quote) (stops : Stops Text text quote n) where
-  front_is : (m : ℕ) → quote ≤ m → take m text ≡ take quote text ++ part text quote m
-  front_is m h = sym (ap (λ z. z ++ part text quote m) (sym (take-take quote m text h)) ∙ take-append-drop quote (take m text))
+  front_is : (m : ℕ) → quote ≤ m → take m text ≡ take quote text ++ between text quote m
+  front_is m h = sym (ap (λ z. z ++ between text quote m) (sym (take-take quote m text h)) ∙ take-append-drop quote (take m text))
 
-  quoted_rest : (m : ℕ) → quote < m → BeginsQuoted (part text quote m)
+  quoted_rest : (m : ℕ) → quote < m → BeginsQuoted (between text quote m)
   quoted_rest m h =
       let i = q.inside in
       let size : m ≡ quote + suc (m - quote - 1) = omega (arith, h) in
-      let cut : part text quote m ≡ take (suc (m - quote - 1)) (drop quote text) = ap (part text quote) size ∙ drop-take quote (suc (m - quote - 1)) text in
+      let cut : between text quote m ≡ take (suc (m - quote - 1)) (drop quote text) = ap (between text quote) size ∙ drop-take quote (suc (m - quote - 1)) text in
       let byte : drop quote text ≡ 0x22 ∷ drop (quote + 1) text = drop_more text quote 0 i ∙ ap (λ z. z ∷ drop (quote + 1) text) q.byte in
       (take (m - quote - 1) (drop (quote + 1) text), cut ∙ ap (take (suc (m - quote - 1))) byte)
 
   -- the words of lines that go on with a beginning of the text beyond the quote begin with a label
-  beyond : (m : ℕ) (more : List ℕ) → quote < m → LabelledLine at (take m text ++ more) → (cs : List Character) × (v r : List ℕ) × SpellsString cs quote v × (v ++ r ≡ part text quote m ++ more)
+  beyond : (m : ℕ) (more : List ℕ) → quote < m → LabelledLine at (take m text ++ more) → (cs : List Character) × (v r : List ℕ) × SpellsString cs quote v × (v ++ r ≡ between text quote m ++ more)
   beyond m more h (l, g, p) = go l g (subst (SpellsLabelled l g at) whole p) where
-    whole : take m text ++ more ≡ take quote text ++ (part text quote m ++ more)
-    whole = ap (λ z. z ++ more) (front_is m (omega (arith, h))) ∙ append_assoc (take quote text) (part text quote m) more
+    whole : take m text ++ more ≡ take quote text ++ (between text quote m ++ more)
+    whole = ap (λ z. z ++ more) (front_is m (omega (arith, h))) ∙ append_assoc (take quote text) (between text quote m) more
 
-    go : (l : Option (List Character)) (g : Geometry) → SpellsLabelled l g at (take quote text ++ (part text quote m ++ more)) → (cs : List Character) × (v r : List ℕ) × SpellsString cs quote v × (v ++ r ≡ part text quote m ++ more)
-    go None g p = absurd (quoted_not_plain (take quote text) (part text quote m ++ more) at (take quote text ++ (part text quote m ++ more)) g q.blanks (quoted_on (part text quote m) more (quoted_rest m h)) refl p)
+    go : (l : Option (List Character)) (g : Geometry) → SpellsLabelled l g at (take quote text ++ (between text quote m ++ more)) → (cs : List Character) × (v r : List ℕ) × SpellsString cs quote v × (v ++ r ≡ between text quote m ++ more)
+    go None g p = absurd (quoted_not_plain (take quote text) (between text quote m ++ more) at (take quote text ++ (between text quote m ++ more)) g q.blanks (quoted_on (between text quote m) more (quoted_rest m h)) refl p)
     go (Some cs) g (a, v, e, ha, (s, r, f, hs, hr)) =
-        let (same, behind) = same_blanks (take quote text) a (part text quote m ++ more) v q.blanks ha (quote_stops (part text quote m ++ more) (quoted_on (part text quote m) more (quoted_rest m h)))
+        let (same, behind) = same_blanks (take quote text) a (between text quote m ++ more) v q.blanks ha (quote_stops (between text quote m ++ more) (quoted_on (between text quote m) more (quoted_rest m h)))
         (quote_stops v (quoted_front s r v (string_begins cs (at + length a) s hs) f)) e in
         (cs, s, r, hs, sym f ∙ sym behind)
 
@@ -190,16 +190,16 @@ module _ (at : ℕ) (text : List ℕ) (quote n : ℕ) (q : QuoteStands text quot
           let end : n ≡ length text = omega (arith, f, within) in
           let all : take n text ++ [] ≡ text = append-nil (take n text) ∙ (ap (λ z. take z text) end ∙ take-length text) in
           let (cs, v, r, hs, e) = beyond n [] (omega (arith, end, q.inside)) (subst (LabelledLine at) (sym all) word) in
-          stops.dead _ v r (cs, refl, hs) (over end (e ∙ append-nil (part text quote n))))
+          stops.dead _ v r (cs, refl, hs) (over end (e ∙ append-nil (between text quote n))))
     ]);
     taken = n;
     longest = record {
       fits = stops.within;
       front = (let (units, more, (cs, e, hs)) = stops.viable in
-          let label : SpellsString cs (at + length (take quote text)) (part text quote n ++ more) = hs in
-          let (g, line) = some_line ((at + length (take quote text)) + length (part text quote n ++ more)) [] tt in
-          let word : LabelledLine at (take quote text ++ ((part text quote n ++ more) ++ codes "POINTEMPTY")) = line_with_label at (take quote text) (part text quote n ++ more) cs q.blanks label (codes "POINTEMPTY") (g, line) in
-          let whole = ap (λ z. z ++ (more ++ codes "POINTEMPTY")) (front_is n stops.order) ∙ regrouped (take quote text) (part text quote n) more (codes "POINTEMPTY") in
+          let label : SpellsString cs (at + length (take quote text)) (between text quote n ++ more) = hs in
+          let (g, line) = some_line ((at + length (take quote text)) + length (between text quote n ++ more)) [] tt in
+          let word : LabelledLine at (take quote text ++ ((between text quote n ++ more) ++ codes "POINTEMPTY")) = line_with_label at (take quote text) (between text quote n ++ more) cs q.blanks label (codes "POINTEMPTY") (g, line) in
+          let whole = ap (λ z. z ++ (more ++ codes "POINTEMPTY")) (front_is n stops.order) ∙ regrouped (take quote text) (between text quote n) more (codes "POINTEMPTY") in
           (more ++ codes "POINTEMPTY", subst (LabelledLine at) (sym whole) word));
       longest = λ below (more, word). no_further below more word;
     };
@@ -224,10 +224,10 @@ valid_label w r front e valid =
     subst IsUtf8 (taken_on front (0x22 ∷ r) 1 ∙ sym e) (IsUtf8-take (front ++ 0x22 ∷ r) (length front + 1) h boundary)
 
 module _ (at : ℕ) (text : List ℕ) (quote end : ℕ) (label : LabelStands text quote end) where
-  pub label_front : text ≡ take quote text ++ (part_of text quote end ++ drop end text)
+  pub label_front : text ≡ take quote text ++ (span_of text quote end ++ drop end text)
   label_front = split_text text quote end label.order
 
-  pub label_place : (at + length (take quote text)) + length (part_of text quote end) ≡ at + end
+  pub label_place : (at + length (take quote text)) + length (span_of text quote end) ≡ at + end
   label_place =
       let order = label.order in let within = label.within in
       let m = front_length text quote (omega (arith, order, within)) in
@@ -236,47 +236,47 @@ module _ (at : ℕ) (text : List ℕ) (quote end : ℕ) (label : LabelStands tex
       omega (arith, m, n, k, order, within)
 
   -- the label of a line that is UTF-8 is
-  pub label_valid : IsUtf8 text → IsUtf8 (part_of text quote end)
+  pub label_valid : IsUtf8 text → IsUtf8 (span_of text quote end)
   label_valid valid =
       let inside = label.begins.inside in
       let (cs, are, same) = label.string in
       let small : slice_index text quote < 128 = subst (λ z. z < 128) (sym label.begins.byte) (omega arith) in
-      let rest : IsUtf8 (part_of text quote end ++ drop end text) = subst IsUtf8 (sym (rest_split text quote end label.order)) (IsUtf8-drop text quote valid (IsCharBoundary-before_ascii text quote inside small)) in
-      valid_label (part_of text quote end) (drop end text) (0x22 ∷ flat_map character_text cs) same rest
+      let rest : IsUtf8 (span_of text quote end ++ drop end text) = subst IsUtf8 (sym (rest_split text quote end label.order)) (IsUtf8-drop text quote valid (IsCharBoundary-before_ascii text quote inside small)) in
+      valid_label (span_of text quote end) (drop end text) (0x22 ∷ flat_map character_text cs) same rest
 
-  module _ (cs : List Character) (hs : SpellsString cs quote (part_of text quote end)) where
+  module _ (cs : List Character) (hs : SpellsString cs quote (span_of text quote end)) where
     pub label_spelled : (g : Geometry) → IsLineOf (at + end) (drop end text) g → SpellsLabelled (Some cs) g at text
     label_spelled g h = subst (SpellsLabelled (Some cs) g at) (sym label_front)
-        (label_added at (take quote text) (part_of text quote end) cs label.begins.blanks hs g (drop end text) (subst (λ i. IsLineOf i (drop end text) g) (sym label_place) h))
+        (label_added at (take quote text) (span_of text quote end) cs label.begins.blanks hs g (drop end text) (subst (λ i. IsLineOf i (drop end text) g) (sym label_place) h))
 
     pub label_syntax : (fault : Fault) → IsSyntaxFault (WktLine (at + end)) (at + end) (drop end text) fault → IsSyntaxFault (LabelledLine at) at text fault
     label_syntax fault h = record {
       no_word = λ word. h.no_word (taken (drop end text) (subst (LabelledLine at) label_front word));
       taken = length front + h.taken;
       longest = subst (λ w. LongestViable (LabelledLine at) w (length front + h.taken)) (sym whole)
-          (longest_behind (LabelledLine at) (WktLine (at + end)) front (drop end text) h.taken (λ u m. subst (LabelledLine at) (sym (append_assoc (take quote text) (part_of text quote end) u)) (put u m))
-          (λ more l. taken (take (h.taken + 1) (drop end text) ++ more) (subst (LabelledLine at) (append_assoc (take quote text) (part_of text quote end) (take (h.taken + 1) (drop end text) ++ more)) l)) h.longest);
+          (longest_behind (LabelledLine at) (WktLine (at + end)) front (drop end text) h.taken (λ u m. subst (LabelledLine at) (sym (append_assoc (take quote text) (span_of text quote end) u)) (put u m))
+          (λ more l. taken (take (h.taken + 1) (drop end text) ++ more) (subst (LabelledLine at) (append_assoc (take quote text) (span_of text quote end) (take (h.taken + 1) (drop end text) ++ more)) l)) h.longest);
       place = h.place ∙ (ap (λ z. stop_fault z (drop end text) h.taken) size ∙ (stop_behind at front (drop end text) h.taken ∙ ap (λ w. stop_fault at w (length front + h.taken)) (sym whole)));
     } where
       front : List ℕ
-      front = take quote text ++ part_of text quote end
+      front = take quote text ++ span_of text quote end
 
       whole : text ≡ front ++ drop end text
-      whole = label_front ∙ sym (append_assoc (take quote text) (part_of text quote end) (drop end text))
+      whole = label_front ∙ sym (append_assoc (take quote text) (span_of text quote end) (drop end text))
 
       size : at + end ≡ at + length front
-      size = let e = label_place in let n = length-append (take quote text) (part_of text quote end) in omega (arith, e, n)
+      size = let e = label_place in let n = length-append (take quote text) (span_of text quote end) in omega (arith, e, n)
 
-      put : (u : List ℕ) → WktLine (at + end) u → LabelledLine at (take quote text ++ (part_of text quote end ++ u))
-      put u m = line_with_label at (take quote text) (part_of text quote end) cs label.begins.blanks hs u (subst (λ i. WktLine i u) (sym label_place) m)
+      put : (u : List ℕ) → WktLine (at + end) u → LabelledLine at (take quote text ++ (span_of text quote end ++ u))
+      put u m = line_with_label at (take quote text) (span_of text quote end) cs label.begins.blanks hs u (subst (λ i. WktLine i u) (sym label_place) m)
 
-      taken : (u : List ℕ) → LabelledLine at (take quote text ++ (part_of text quote end ++ u)) → WktLine (at + end) u
-      taken u l = subst (λ i. WktLine i u) label_place (label_taken at (take quote text) (part_of text quote end) cs label.begins.blanks hs u l)
+      taken : (u : List ℕ) → LabelledLine at (take quote text ++ (span_of text quote end ++ u)) → WktLine (at + end) u
+      taken u l = subst (λ i. WktLine i u) label_place (label_taken at (take quote text) (span_of text quote end) cs label.begins.blanks hs u l)
 
 -- ---- a line as it is read
 
 -- behind its label
-pub is_behind : (ahead : List ℕ) (len at quote end : ℕ) (line : Behind) → len ≤ length ahead → LabelStands (take len ahead) quote end → IsUtf8 (part_of ahead quote end) → line.label.now ≡ part_of ahead quote end
+pub is_behind : (ahead : List ℕ) (len at quote end : ℕ) (line : Behind) → len ≤ length ahead → LabelStands (take len ahead) quote end → IsUtf8 (span_of ahead quote end) → line.label.now ≡ span_of ahead quote end
     → line.ahead.now ≡ take (length ahead - end) (drop end ahead) → line.len ≡ len - end → line.at ≡ at + end → IsBehind ahead len at line
 is_behind ahead len at quote end line inside stands valid label rest size place =
     let near = line_end ahead len quote end inside stands in

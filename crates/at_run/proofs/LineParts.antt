@@ -6,7 +6,7 @@ use Rattle.std.specs.Str.{IsUtf8}
 use Rattle.std.proofs.lemmas.Str.{IsUtf8-append}
 use Rattle.at_text.specs.declared.faults.Fault.{Fault}
 use Rattle.at_text.specs.Faults.{first_fault, first_of}
-use Rattle.at_text.specs.Spans.{part_of}
+use Rattle.at_text.specs.Spans.{span_of}
 use Rattle.at_text.specs.Syntax.{IsSyntaxFault}
 use Rattle.at_fixed.specs.declared.rounding.Coords.{Coords}
 use Rattle.at_geom.specs.declared.shapes.Shape.{Shape}
@@ -99,14 +99,14 @@ module _ (asked : Asked) where
       (λ before kept is. subst (λ ts. IsAccumulated asked.query (before ++ record { at = at; shape = shape; texts = ts } ∷ []) kept) none is)
 
   -- of a line with a label, of which only the texts that are asked for are kept
-  read_labelled : (at : ℕ) (text : List ℕ) (quote end : ℕ) (shape : Shape) (texts : List TextPair) → LabelStands text quote end → IsUtf8 (part_of text quote end)
-      → HasLineShape asked.digits asked.how (at + end) (drop end text) shape → IsShapeInRange shape → AreKeptTexts asked.query.tests (part_of text quote end) texts
+  read_labelled : (at : ℕ) (text : List ℕ) (quote end : ℕ) (shape : Shape) (texts : List TextPair) → LabelStands text quote end → IsUtf8 (span_of text quote end)
+      → HasLineShape asked.digits asked.how (at + end) (drop end text) shape → IsShapeInRange shape → AreKeptTexts asked.query.tests (span_of text quote end) texts
       → IsLineRead asked (record { at = at; text = text }) (record { at = at; shape = shape; texts = texts })
   read_labelled at text quote end shape texts label valid h range kept =
       let (cs, are, same) = label.string in
       let behind : IsUtf8 (drop end text) = plain_valid (at + end) (drop end text) (h.geometry, h.spelled) in
       let front : IsUtf8 (take quote text) = blanks_valid (take quote text) label.begins.blanks in
-      let whole : IsUtf8 text = subst IsUtf8 (sym (label_front at text quote end label)) (IsUtf8-append (take quote text) (part_of text quote end ++ drop end text) front (IsUtf8-append (part_of text quote end) (drop end text) valid behind)) in
+      let whole : IsUtf8 text = subst IsUtf8 (sym (label_front at text quote end label)) (IsUtf8-append (take quote text) (span_of text quote end ++ drop end text) front (IsUtf8-append (span_of text quote end) (drop end text) valid behind)) in
       read_line at text (Some cs) h.geometry shape texts whole (label_spelled at text quote end label cs (are, same) h.geometry h.spelled) h.fault_is h.shape_is range
       (λ before acc is. kept_label asked.query at shape cs before texts acc (kept cs are same) is)
 

@@ -5,7 +5,7 @@ use Rattle.std.specs.Str.Lossy.{utf8_valid_len, valid_len_up_to}
 use Rattle.std.proofs.lemmas.List.{drop-take, take_rest}
 use Rattle.std.proofs.lemmas.Str.{IsUtf8-nil, IsUtf8-append, IsUtf8-from_is_utf8, is_utf8-from_IsUtf8, utf8_valid_len_le, utf8_valid_len-IsUtf8}
 use Rattle.at_text.specs.Faults.{fault_at}
-use Rattle.at_text.specs.Spans.{part_of, StandsAt, AreNeighbours, IsMerged}
+use Rattle.at_text.specs.Spans.{span_of, StandsAt, AreNeighbours, IsMerged}
 use Rattle.at_text.specs.Texts.{utf8_fault}
 use Rattle.at_text.specs.declared.faults.Fault.{Fault}
 use Rattle.at_text.specs.declared.faults.FaultKind.TheVariants.{NotUtf8}
@@ -60,7 +60,7 @@ fault_within bytes fault some = let e = fault_place bytes fault some in let h = 
 
 -- ---- a part of a part
 
-part_within : (bytes : List ℕ) (i k m n : ℕ) → i ≤ m → m ≤ n → n ≤ k → part_of (part_of bytes i k) (m - i) (n - i) ≡ part_of bytes m n
+part_within : (bytes : List ℕ) (i k m n : ℕ) → i ≤ m → m ≤ n → n ≤ k → span_of (span_of bytes i k) (m - i) (n - i) ≡ span_of bytes m n
 part_within bytes i k m n low order high =
     let e : k - i ≡ (m - i) + (k - m) = omega arith in
     let f : i + (m - i) ≡ m = omega arith in
@@ -70,7 +70,7 @@ part_within bytes i k m n low order high =
     ∙ (ap (λ z. take z (take (k - m) (drop m bytes))) g ∙ take-take (n - m) (k - m) (drop m bytes) (omega arith)))
 
 -- the longest front of what stands behind the first bytes of a piece
-pub span_stands : (piece : List ℕ) (base skipped len : ℕ) → skipped ≤ length piece → len ≡ utf8_valid_len (part_of piece skipped (length piece)) → IsValidIn base piece (record { from = base + skipped; to = base + skipped + len })
+pub span_stands : (piece : List ℕ) (base skipped len : ℕ) → skipped ≤ length piece → len ≡ utf8_valid_len (span_of piece skipped (length piece)) → IsValidIn base piece (record { from = base + skipped; to = base + skipped + len })
 span_stands piece base skipped len within longest =
     let rest : List ℕ = drop skipped piece in
     let is : len ≡ utf8_valid_len rest = longest ∙ ap utf8_valid_len (take_rest piece skipped) in
@@ -89,10 +89,10 @@ module _ (bytes : List ℕ) where
   ends_in : (i k : ℕ) (valid : Span) → i ≤ k → k ≤ length bytes → StandsAt IsValidIn bytes i k valid → valid.to ≤ k
   ends_in i k valid order within h = let n = part_length bytes i k order within in let e = h.ends in omega (arith, n, e)
 
-  utf8_in : (i k : ℕ) (valid : Span) → i ≤ k → k ≤ length bytes → StandsAt IsValidIn bytes i k valid → IsUtf8 (part_of bytes valid.from valid.to)
+  utf8_in : (i k : ℕ) (valid : Span) → i ≤ k → k ≤ length bytes → StandsAt IsValidIn bytes i k valid → IsUtf8 (span_of bytes valid.from valid.to)
   utf8_in i k valid order within h = subst IsUtf8 (part_within bytes i k valid.from valid.to h.begins h.order (ends_in i k valid order within h)) h.utf8
 
-  stands_in : (i k : ℕ) (valid : Span) → k ≤ length bytes → i ≤ valid.from → valid.from ≤ valid.to → valid.to ≤ k → IsUtf8 (part_of bytes valid.from valid.to) → StandsAt IsValidIn bytes i k valid
+  stands_in : (i k : ℕ) (valid : Span) → k ≤ length bytes → i ≤ valid.from → valid.from ≤ valid.to → valid.to ≤ k → IsUtf8 (span_of bytes valid.from valid.to) → StandsAt IsValidIn bytes i k valid
   stands_in i k valid within begins order ends utf8 = record {
     begins = begins;
     order = order;
@@ -100,17 +100,17 @@ module _ (bytes : List ℕ) where
     utf8 = subst IsUtf8 (sym (part_within bytes i k valid.from valid.to begins order ends)) utf8;
   }
 
-  utf8_joined : (i j k : ℕ) → i ≤ j → j ≤ k → IsUtf8 (part_of bytes i j) → IsUtf8 (part_of bytes j k) → IsUtf8 (part_of bytes i k)
-  utf8_joined i j k low high left right = subst IsUtf8 (part_joined bytes i j k low high) (IsUtf8-append (part_of bytes i j) (part_of bytes j k) left right)
+  utf8_joined : (i j k : ℕ) → i ≤ j → j ≤ k → IsUtf8 (span_of bytes i j) → IsUtf8 (span_of bytes j k) → IsUtf8 (span_of bytes i k)
+  utf8_joined i j k low high left right = subst IsUtf8 (part_joined bytes i j k low high) (IsUtf8-append (span_of bytes i j) (span_of bytes j k) left right)
 
   -- ---- two neighbours
 
-  pub spans_joined : (left right : Span) → IsUtf8 (part_of bytes left.to right.from) → IsMerged IsValidIn bytes left right (record { from = left.from; to = right.to })
+  pub spans_joined : (left right : Span) → IsUtf8 (span_of bytes left.to right.from) → IsMerged IsValidIn bytes left right (record { from = left.from; to = right.to })
   spans_joined left right between i j k (ij, jk, end, l, r) =
       let l_ends : left.to ≤ j = ends_in i j left ij (omega (arith, jk, end)) l in
       let r_ends : right.to ≤ k = ends_in j k right jk end r in
       let l_order = l.order in let r_begins = r.begins in let r_order = r.order in
-      let front : IsUtf8 (part_of bytes left.from right.from) = utf8_joined left.from left.to right.from l_order (omega (arith, l_ends, r_begins)) (utf8_in i j left ij (omega (arith, jk, end)) l) between in
+      let front : IsUtf8 (span_of bytes left.from right.from) = utf8_joined left.from left.to right.from l_order (omega (arith, l_ends, r_begins)) (utf8_in i j left ij (omega (arith, jk, end)) l) between in
       stands_in i k (record { from = left.from; to = right.to }) end l.begins (omega (arith, l_order, l_ends, r_begins, r_order)) r_ends
       (utf8_joined left.from right.from right.to (omega (arith, l_order, l_ends, r_begins)) r_order front (utf8_in j k right jk end r))
 
@@ -133,11 +133,11 @@ module _ (bytes : List ℕ) where
   pub span_ends : (at : ℕ) (valid : Span) → at ≤ length bytes → IsValidIn at (drop at bytes) valid → valid.to ≤ length bytes
   span_ends at valid within h = let n = length-drop at bytes in let e = h.ends in omega (arith, n, e)
 
-  pub valid_around : (at : ℕ) (valid : Span) → at ≤ length bytes → IsValidIn at (drop at bytes) valid → IsUtf8 (take valid.from bytes) → IsUtf8 (part_of bytes valid.to (length bytes)) → utf8_fault bytes ≡ None
+  pub valid_around : (at : ℕ) (valid : Span) → at ≤ length bytes → IsValidIn at (drop at bytes) valid → IsUtf8 (take valid.from bytes) → IsUtf8 (span_of bytes valid.to (length bytes)) → utf8_fault bytes ≡ None
   valid_around at valid within h front back =
       let P : List ℕ → Type 0 = λ w. IsValidIn at w valid in
-      let own : IsUtf8 (part_of bytes valid.from valid.to) = utf8_in at (length bytes) valid within (omega arith) (subst P (sym (take_rest bytes at)) h) in
-      let rest : IsUtf8 (part_of bytes valid.from (length bytes)) = utf8_joined valid.from valid.to (length bytes) h.order (span_ends at valid within h) own back in
-      let split : take valid.from bytes ++ part_of bytes valid.from (length bytes) ≡ bytes = ap (λ z. take valid.from bytes ++ z) (take_rest bytes valid.from) ∙ take-append-drop valid.from bytes in
-      let whole : IsUtf8 bytes = subst IsUtf8 split (IsUtf8-append (take valid.from bytes) (part_of bytes valid.from (length bytes)) front rest) in
+      let own : IsUtf8 (span_of bytes valid.from valid.to) = utf8_in at (length bytes) valid within (omega arith) (subst P (sym (take_rest bytes at)) h) in
+      let rest : IsUtf8 (span_of bytes valid.from (length bytes)) = utf8_joined valid.from valid.to (length bytes) h.order (span_ends at valid within h) own back in
+      let split : take valid.from bytes ++ span_of bytes valid.from (length bytes) ≡ bytes = ap (λ z. take valid.from bytes ++ z) (take_rest bytes valid.from) ∙ take-append-drop valid.from bytes in
+      let whole : IsUtf8 bytes = subst IsUtf8 split (IsUtf8-append (take valid.from bytes) (span_of bytes valid.from (length bytes)) front rest) in
       valid_faultless bytes whole

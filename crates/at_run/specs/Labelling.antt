@@ -3,7 +3,7 @@ use Rattle.std.specs.Prelude.{◌≡◌, ℕ, ◌+◌, ◌<◌, ◌≤◌, ◌�
 use Rattle.std.specs.Prelude.{length, take, drop, slice_index, Option, Some, None}
 use Rattle.std.specs.List.{AllByRecursion, list_any}
 use Rattle.std.specs.Str.{IsUtf8}
-use Rattle.at_text.specs.Spans.{part_of}
+use Rattle.at_text.specs.Spans.{span_of}
 use Rattle.at_lex.specs.Strings.{Character, AreCharacters, string_text, JsonString}
 use Rattle.at_wkt.specs.Geometry.{is_blank}
 use Rattle.at_query.specs.declared.features.TextPair.{TextPair}
@@ -28,13 +28,13 @@ pub record LabelStands (text : List ℕ) (quote end : ℕ) : Type 0 where
   pub begins : QuoteStands text quote
   pub order : quote ≤ end
   pub within : end ≤ length text
-  pub string : JsonString (part_of text quote end)
+  pub string : JsonString (span_of text quote end)
 
 -- what stands before the place in a line at which the text of its geometry begins: nothing where no quote begins the
 -- line past its blanks, and else a label that is UTF-8 (RFC 3629)
 abbrev pub HasFront : List ℕ → List ℕ → ℕ → Type 0
 HasFront text label end = (QuoteIs text None × (label ≡ []) × (end ≡ 0))
-    ⊎ ((quote : ℕ) × LabelStands text quote end × IsUtf8 label × (label ≡ part_of text quote end))
+    ⊎ ((quote : ℕ) × LabelStands text quote end × IsUtf8 label × (label ≡ span_of text quote end))
 
 -- the first len of the bytes ahead, which begin at the offset, are a line that is read so
 pub record IsBehind (ahead : List ℕ) (len at : ℕ) (line : Behind) : Type 0 where

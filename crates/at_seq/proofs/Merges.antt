@@ -1,7 +1,7 @@
 -- What is read of a span, and what two neighbouring spans give.
 use Rattle.std.proofs.Common.{◌≡◌, ℕ, ◌+◌, ◌-◌, ◌<◌, ◌≤◌, List, [], ◌∷◌, ◌++◌, length, refl, sym, ◌∙◌, ap, subst, arith, append_assoc}
 use Rattle.std.specs.List.{position_or_len}
-use Rattle.at_text.specs.Spans.{part_of, AreNeighbours, IsMerged}
+use Rattle.at_text.specs.Spans.{span_of, AreNeighbours, IsMerged}
 use Rattle.at_text.specs.declared.texts.Span.{Span}
 use Rattle.at_nest.specs.FragmentMeanings.{StandsFor}
 use Rattle.at_nest.specs.declared.fragments.Fragment.{Fragment}
@@ -12,7 +12,7 @@ use Rattle.at_geojson.specs.Atoms.{IsGeoAtom}
 use Rattle.at_run.specs.declared.gathered.Gathered.{Gathered}
 use Rattle.at_run.specs.Encodings.{IsValidIn}
 use Rattle.at_run.specs.Gathering.{AreJoinable, IsJoinOf}
-use Rattle.at_wkt.proofs.LineMerges.{length-part_of}
+use Rattle.at_wkt.proofs.LineMerges.{length-span_of}
 use Rattle.at_seq.specs.Records.{Piece, is_separator, records_in}
 use Rattle.at_seq.specs.Gathering.{IsGathered, AddsRecords}
 use Rattle.at_seq.specs.declared.fragments.PartedText.{PartedText}
@@ -43,7 +43,7 @@ module _ (asked : Asked) (bytes : List ℕ) where
   pub none_read : (i k : ℕ) (kept : Gathered) → i ≤ k → IsGathered asked kept [] → ReadSoFar i k i kept
   none_read i k kept h empty = record { inner = []; split = refl; kept = empty; begins = omega arith; ends = h }
 
-  module _ (i k start : ℕ) (kept : Gathered) (h : ReadSoFar i k start kept) (within : k ≤ length bytes) (p : ℕ) (first : p ≡ position_or_len is_separator (part_of bytes start k)) where
+  module _ (i k start : ℕ) (kept : Gathered) (h : ReadSoFar i k start kept) (within : k ≤ length bytes) (p : ℕ) (first : p ≡ position_or_len is_separator (span_of bytes start k)) where
     pub more_read : (next : Gathered) → start + p < k → AddsRecords asked kept (records_in (piece_in bytes start (start + p) ∷ [])) next → ReadSoFar i k (start + p + 1) next
     more_read next inside adds = record {
       inner = h.inner ++ (piece_in bytes start (start + p) ∷ []);
@@ -64,7 +64,7 @@ module _ (asked : Asked) (bytes : List ℕ) where
     }
 
   -- a span with a separator
-  pub parted_read : (i k first : ℕ) (kept : Gathered) (last : ℕ) (before behind : Fragment GeoAlgebra GeoAtom) → i ≤ first → first < k → k ≤ length bytes → first - i ≡ position_or_len is_separator (part_of bytes i k)
+  pub parted_read : (i k first : ℕ) (kept : Gathered) (last : ℕ) (before behind : Fragment GeoAlgebra GeoAtom) → i ≤ first → first < k → k ≤ length bytes → first - i ≡ position_or_len is_separator (span_of bytes i k)
       → HoldsInner asked bytes (first + 1) k (record { kept = kept; last = last }) → HoldsJson asked bytes i first before → HoldsJson asked bytes last k behind
       → HoldsParted asked bytes i k (record { before = before; first = first; kept = kept; last = last; behind = behind })
   parted_read i k first kept last before behind h inside within at inner front rest =
@@ -82,7 +82,7 @@ module _ (asked : Asked) (bytes : List ℕ) where
       }
 
   -- and one without
-  pub lone_read : (i k p : ℕ) (f : Fragment GeoAlgebra GeoAtom) → i ≤ k → k ≤ length bytes → p ≡ position_or_len is_separator (part_of bytes i k) → i + p ≡ k → HoldsJson asked bytes i k f → HoldsText asked bytes i k (Lone f)
+  pub lone_read : (i k p : ℕ) (f : Fragment GeoAlgebra GeoAtom) → i ≤ k → k ≤ length bytes → p ≡ position_or_len is_separator (span_of bytes i k) → i + p ≡ k → HoldsJson asked bytes i k f → HoldsText asked bytes i k (Lone f)
   lone_read i k p f h within first ends holds = (pieces_alone bytes i k p h within first ends, holds)
 
   -- ---- two neighbouring spans
@@ -212,8 +212,8 @@ module _ (asks : SeqAsks) (bytes : List ℕ) where
   -- fragments that stand for neighbouring spans, as those of the reader's file
   pub read_beside : (left right : SeqRead) (i j k : ℕ) → AreNeighbours (StandsInFile asks) bytes i j k (Read left) (Read right) → AreBeside (HoldsSpan asks.asked asks.bytes) asks.bytes i j k left right
   read_beside left right i j k (h, g, l, a, b) =
-      let near : i + length (part_of bytes i j) ≡ j = length-part_of bytes i j h (omega (arith, g, l)) in
-      let far : j + length (part_of bytes j k) ≡ k = length-part_of bytes j k g l in
+      let near : i + length (span_of bytes i j) ≡ j = length-span_of bytes i j h (omega (arith, g, l)) in
+      let far : j + length (span_of bytes j k) ≡ k = length-span_of bytes j k g l in
       let first : HoldsSpan asks.asked asks.bytes i j left = subst (λ n. HoldsSpan asks.asked asks.bytes i n left) near a in
       let second : HoldsSpan asks.asked asks.bytes j k right = subst (λ n. HoldsSpan asks.asked asks.bytes j n right) far b in
       (h, g, second.within, first, second)
@@ -222,7 +222,7 @@ module _ (asks : SeqAsks) (bytes : List ℕ) where
   pub pieces_merged : (left right : SeqRead) (both : SeqFragment) → IsOfBoth Holds asks.bytes (Read left) (Read right) both → IsMerged (StandsInFile asks) bytes (Read left) (Read right) both
   pieces_merged left right both of_both i j k n =
       let m = read_beside left right i j k n in
-      let whole : i + length (part_of bytes i k) ≡ k = length-part_of bytes i k (omega (arith, n.0, n.1)) n.2 in
+      let whole : i + length (span_of bytes i k) ≡ k = length-span_of bytes i k (omega (arith, n.0, n.1)) n.2 in
       subst (λ e. Holds i e both) (sym whole) (of_both i j k (m.0, m.1, m.2, m.3, m.4))
 
   pub reads_beside : (a b : SeqFragment) (left right : SeqRead) → a ≡ Read left → b ≡ Read right → ((i : ℕ) × (j : ℕ) × (k : ℕ) × AreNeighbours (StandsInFile asks) bytes i j k a b)

@@ -2,12 +2,12 @@
 use Rattle.std.proofs.Common.{◌≡◌, ℕ, ◌+◌, ◌-◌, ◌<◌, ◌≤◌, zero, suc, Bool, true, false, not, ◌&&◌, List, [], ◌∷◌, ◌++◌, length, slice_index, filter, take, drop, refl, sym, ◌∙◌, ap, subst, arith, append_assoc, take_all}
 use Rattle.std.specs.List.{position_or_len}
 use Rattle.std.proofs.Math.Seq.{take-append_seam, drop-append_seam}
-use Rattle.at_text.specs.Spans.{part_of}
+use Rattle.at_text.specs.Spans.{span_of}
 use Rattle.at_text.specs.Texts.{is_space}
 use Rattle.at_lex.specs.Fronts.{IsFront}
 use Rattle.at_lex.specs.Spans.{AreSpaces}
 use Rattle.at_lex.proofs.FrontLemmas.{front_all}
-use Rattle.at_wkt.proofs.LineMerges.{part_of-joined, length-part_of}
+use Rattle.at_wkt.proofs.LineMerges.{span_of-joined, length-span_of}
 use Rattle.at_seq.specs.Records.{Piece, pieces_from, is_separator, are_spaces, records_in}
 use Rattle.at_seq.specs.Fragments.{piece_in, pieces_in}
 use Rattle.at_seq.proofs.Splits.{glued, pieces_joined, pieces_first, pieces_last}
@@ -71,38 +71,38 @@ module _ (bytes : List ℕ) where
   -- the pieces of two neighbouring spans
   pub pieces_both : (i j k : ℕ) → i ≤ j → j ≤ k → k ≤ length bytes → pieces_in bytes i k ≡ glued (pieces_in bytes i j) (pieces_in bytes j k)
   pieces_both i j k h g l =
-      ap (pieces_from i) (part_of-joined bytes i j k h g) ∙ (pieces_joined (part_of bytes j k) i (part_of bytes i j)
-      ∙ ap (λ n. glued (pieces_in bytes i j) (pieces_from n (part_of bytes j k))) (length-part_of bytes i j h (omega (arith, g, l))))
+      ap (pieces_from i) (span_of-joined bytes i j k h g) ∙ (pieces_joined (span_of bytes j k) i (span_of bytes i j)
+      ∙ ap (λ n. glued (pieces_in bytes i j) (pieces_from n (span_of bytes j k))) (length-span_of bytes i j h (omega (arith, g, l))))
 
   -- two neighbouring parts as one piece
-  pub piece_both : (i j k : ℕ) → i ≤ j → j ≤ k → record { at = i; text = part_of bytes i j ++ part_of bytes j k } ≡ piece_in bytes i k
-  piece_both i j k h g = ap (λ z. record { at = i; text = z }) (sym (part_of-joined bytes i j k h g))
+  pub piece_both : (i j k : ℕ) → i ≤ j → j ≤ k → record { at = i; text = span_of bytes i j ++ span_of bytes j k } ≡ piece_in bytes i k
+  piece_both i j k h g = ap (λ z. record { at = i; text = z }) (sym (span_of-joined bytes i j k h g))
 
-  part_front : (i p k : ℕ) → i + p ≤ k → k ≤ length bytes → take p (part_of bytes i k) ≡ part_of bytes i (i + p)
+  part_front : (i p k : ℕ) → i + p ≤ k → k ≤ length bytes → take p (span_of bytes i k) ≡ span_of bytes i (i + p)
   part_front i p k h l =
       let width : i + p - i ≡ p = omega arith in
-      let joined = part_of-joined bytes i (i + p) k (omega arith) h in
-      let size : length (part_of bytes i (i + p)) ≡ p = omega (arith, length-part_of bytes i (i + p) (omega arith) (omega (arith, h, l))) in
-      ap (take p) joined ∙ (ap (λ n. take n (part_of bytes i (i + p) ++ part_of bytes (i + p) k)) (sym size) ∙ take-append_seam (part_of bytes i (i + p)) (part_of bytes (i + p) k))
+      let joined = span_of-joined bytes i (i + p) k (omega arith) h in
+      let size : length (span_of bytes i (i + p)) ≡ p = omega (arith, length-span_of bytes i (i + p) (omega arith) (omega (arith, h, l))) in
+      ap (take p) joined ∙ (ap (λ n. take n (span_of bytes i (i + p) ++ span_of bytes (i + p) k)) (sym size) ∙ take-append_seam (span_of bytes i (i + p)) (span_of bytes (i + p) k))
 
-  part_rest : (i p k : ℕ) → i + p ≤ k → k ≤ length bytes → drop p (part_of bytes i k) ≡ part_of bytes (i + p) k
+  part_rest : (i p k : ℕ) → i + p ≤ k → k ≤ length bytes → drop p (span_of bytes i k) ≡ span_of bytes (i + p) k
   part_rest i p k h l =
-      let joined = part_of-joined bytes i (i + p) k (omega arith) h in
-      let size : length (part_of bytes i (i + p)) ≡ p = omega (arith, length-part_of bytes i (i + p) (omega arith) (omega (arith, h, l))) in
-      ap (drop p) joined ∙ (ap (λ n. drop n (part_of bytes i (i + p) ++ part_of bytes (i + p) k)) (sym size) ∙ drop-append_seam (part_of bytes i (i + p)) (part_of bytes (i + p) k))
+      let joined = span_of-joined bytes i (i + p) k (omega arith) h in
+      let size : length (span_of bytes i (i + p)) ≡ p = omega (arith, length-span_of bytes i (i + p) (omega arith) (omega (arith, h, l))) in
+      ap (drop p) joined ∙ (ap (λ n. drop n (span_of bytes i (i + p) ++ span_of bytes (i + p) k)) (sym size) ∙ drop-append_seam (span_of bytes i (i + p)) (span_of bytes (i + p) k))
 
   -- the bytes up to the first separator, and the pieces behind it
-  pub pieces_ahead : (i k p : ℕ) → i ≤ k → k ≤ length bytes → p ≡ position_or_len is_separator (part_of bytes i k) → i + p < k
+  pub pieces_ahead : (i k p : ℕ) → i ≤ k → k ≤ length bytes → p ≡ position_or_len is_separator (span_of bytes i k) → i + p < k
       → pieces_in bytes i k ≡ piece_in bytes i (i + p) ∷ pieces_in bytes (i + p + 1) k
   pieces_ahead i k p h l e inside =
-      let size : i + length (part_of bytes i k) ≡ k = length-part_of bytes i k h l in
+      let size : i + length (span_of bytes i k) ≡ k = length-span_of bytes i k h l in
       let place : i + (p + 1) ≡ i + p + 1 = omega arith in
-      pieces_first i (part_of bytes i k) p e (omega (arith, size, inside))
-      ∙ (ap (λ z. record { at = i; text = z } ∷ pieces_from (i + p + 1) (drop (p + 1) (part_of bytes i k))) (part_front i p k (omega (arith, inside)) l)
-      ∙ ap (λ z. piece_in bytes i (i + p) ∷ pieces_from (i + p + 1) z) (part_rest i (p + 1) k (omega (arith, inside)) l ∙ ap (λ n. part_of bytes n k) place))
+      pieces_first i (span_of bytes i k) p e (omega (arith, size, inside))
+      ∙ (ap (λ z. record { at = i; text = z } ∷ pieces_from (i + p + 1) (drop (p + 1) (span_of bytes i k))) (part_front i p k (omega (arith, inside)) l)
+      ∙ ap (λ z. piece_in bytes i (i + p) ∷ pieces_from (i + p + 1) z) (part_rest i (p + 1) k (omega (arith, inside)) l ∙ ap (λ n. span_of bytes n k) place))
 
   -- bytes without a separator
-  pub pieces_alone : (i k p : ℕ) → i ≤ k → k ≤ length bytes → p ≡ position_or_len is_separator (part_of bytes i k) → i + p ≡ k → pieces_in bytes i k ≡ piece_in bytes i k ∷ []
+  pub pieces_alone : (i k p : ℕ) → i ≤ k → k ≤ length bytes → p ≡ position_or_len is_separator (span_of bytes i k) → i + p ≡ k → pieces_in bytes i k ≡ piece_in bytes i k ∷ []
   pieces_alone i k p h l e ends =
-      let size : i + length (part_of bytes i k) ≡ k = length-part_of bytes i k h l in
-      pieces_last i (part_of bytes i k) (sym e ∙ omega (arith, size, ends))
+      let size : i + length (span_of bytes i k) ≡ k = length-span_of bytes i k h l in
+      pieces_last i (span_of bytes i k) (sym e ∙ omega (arith, size, ends))

@@ -3,7 +3,7 @@ use Rattle.std.proofs.Common.{◌≡◌, ◌≢◌, ℕ, zero, suc, ◌+◌, ◌
 use Rattle.std.proofs.Math.Seq.{drop-append_seam}
 use Rattle.std.proofs.lemmas.List.{take-append-drop, take_rest}
 use Rattle.at_text.specs.Faults.{fault_at, first_fault, first_of}
-use Rattle.at_text.specs.Spans.{part_of, StandsAt}
+use Rattle.at_text.specs.Spans.{span_of, StandsAt}
 use Rattle.at_text.specs.Texts.{base_of, is_space, utf8_fault}
 use Rattle.at_text.specs.declared.faults.Fault.{Fault}
 use Rattle.at_text.specs.declared.faults.FaultKind.TheVariants.{Syntax}
@@ -17,7 +17,7 @@ use Rattle.at_nest.specs.TextAnswers.{Answers}
 use Rattle.at_nest.proofs.OneTree.{one_tree}
 use Rattle.at_query.specs.declared.parts.Part.{Part}
 use Rattle.at_wkt.proofs.FaultOrder.{first_of-append}
-use Rattle.at_wkt.proofs.LineMerges.{base_within, length-part_of}
+use Rattle.at_wkt.proofs.LineMerges.{base_within, length-span_of}
 use Rattle.at_geojson.specs.declared.atoms.GeoAtom.{GeoAtom}
 use Rattle.at_geojson.specs.declared.asked.GeoAlgebra.{GeoAlgebra}
 use Rattle.at_nest.specs.declared.fragments.Fragment.{Fragment}
@@ -92,7 +92,7 @@ module _ (asked : Asked) where
 
 -- what stands before the first separator, and all records
 module _ (asked : Asked) (bytes : List ℕ) where
-  all_bytes : part_of bytes (base_of bytes) (length bytes) ≡ drop (base_of bytes) bytes
+  all_bytes : span_of bytes (base_of bytes) (length bytes) ≡ drop (base_of bytes) bytes
   all_bytes = take_rest bytes (base_of bytes)
 
   pieces_are : pieces_of bytes ≡ pieces_in bytes (base_of bytes) (length bytes)
@@ -109,7 +109,7 @@ module _ (asked : Asked) (bytes : List ℕ) where
         ap (λ z. records_in (drop 1 z)) whole_pieces ∙ records_in-append h.inner (piece_in bytes parted.last (length bytes) ∷ []) in
         subst (IsGathered asked kept) (sym same) (adds (records_in h.inner) h.kept)
 
-    pub parted_head : head_faults (pieces_of bytes) ≡ stray_faults (base_of bytes) (part_of bytes (base_of bytes) parted.first)
+    pub parted_head : head_faults (pieces_of bytes) ≡ stray_faults (base_of bytes) (span_of bytes (base_of bytes) parted.first)
     parted_head = ap head_faults whole_pieces
 
   -- without one
@@ -117,7 +117,7 @@ module _ (asked : Asked) (bytes : List ℕ) where
     pub lone_gathered : (kept : Gathered) → IsGathered asked kept [] → IsGathered asked kept (records_of bytes)
     lone_gathered kept h = subst (IsGathered asked kept) (sym (ap (λ z. records_in (drop 1 z)) (pieces_are ∙ whole))) h
 
-    pub lone_head : head_faults (pieces_of bytes) ≡ stray_faults (base_of bytes) (part_of bytes (base_of bytes) (length bytes))
+    pub lone_head : head_faults (pieces_of bytes) ≡ stray_faults (base_of bytes) (span_of bytes (base_of bytes) (length bytes))
     lone_head = ap head_faults (pieces_are ∙ whole)
 
   -- ---- the first fault, or the part
@@ -148,7 +148,7 @@ module _ (asked : Asked) (bytes : List ℕ) where
 -- what stands for all bytes of the reader's file, as a crew says it
 pub whole_stands : (asks : SeqAsks) (whole : SeqFragment) → StandsAt (StandsInFile asks) asks.bytes (base_of asks.bytes) (length asks.bytes) whole → HoldsFragment asks.asked asks.bytes (base_of asks.bytes) (length asks.bytes) whole
 whole_stands asks whole h =
-    let size = length-part_of asks.bytes (base_of asks.bytes) (length asks.bytes) (base_within asks.bytes) (omega arith) in
+    let size = length-span_of asks.bytes (base_of asks.bytes) (length asks.bytes) (base_within asks.bytes) (omega arith) in
     subst (λ n. HoldsFragment asks.asked asks.bytes (base_of asks.bytes) n whole) size h
 
 -- the span of the whole file that is said to be UTF-8
@@ -159,17 +159,17 @@ valid_stands asked bytes whole read e h =
 
 -- the fault of what stands before the first separator
 pub head_found : (asked : Asked) (bytes : List ℕ) (text : SeqText) (parted : PartedText) (base : ℕ) (head : Option Fault) → text ≡ Parted parted → base ≡ base_of bytes → HoldsText asked bytes (base_of bytes) (length bytes) text
-    → head ≡ first_of (stray_faults base (part_of bytes base parted.first)) → head ≡ first_of (head_faults (pieces_of bytes))
+    → head ≡ first_of (stray_faults base (span_of bytes base parted.first)) → head ≡ first_of (head_faults (pieces_of bytes))
 head_found asked bytes text parted base head e same h is =
     let held : HoldsParted asked bytes (base_of bytes) (length bytes) parted = subst (HoldsText asked bytes (base_of bytes) (length bytes)) e h in
-    subst (λ n. head ≡ first_of (stray_faults n (part_of bytes n parted.first))) same is ∙ ap first_of (sym (parted_head asked bytes parted held))
+    subst (λ n. head ≡ first_of (stray_faults n (span_of bytes n parted.first))) same is ∙ ap first_of (sym (parted_head asked bytes parted held))
 
 -- the same where there is no separator, and what is then gathered
 pub lone_found : (asked : Asked) (bytes : List ℕ) (text : SeqText) (whole : Fragment GeoAlgebra GeoAtom) (base : ℕ) (head : Option Fault) → text ≡ Lone whole → base ≡ base_of bytes → HoldsText asked bytes (base_of bytes) (length bytes) text
-    → head ≡ first_of (stray_faults base (part_of bytes base (length bytes))) → head ≡ first_of (head_faults (pieces_of bytes))
+    → head ≡ first_of (stray_faults base (span_of bytes base (length bytes))) → head ≡ first_of (head_faults (pieces_of bytes))
 lone_found asked bytes text whole base head e same h is =
     let held = subst (HoldsText asked bytes (base_of bytes) (length bytes)) e h in
-    subst (λ n. head ≡ first_of (stray_faults n (part_of bytes n (length bytes)))) same is ∙ ap first_of (sym (lone_head asked bytes held.0))
+    subst (λ n. head ≡ first_of (stray_faults n (span_of bytes n (length bytes)))) same is ∙ ap first_of (sym (lone_head asked bytes held.0))
 
 pub lone_kept : (asked : Asked) (bytes : List ℕ) (text : SeqText) (whole : Fragment GeoAlgebra GeoAtom) (kept : Gathered) → text ≡ Lone whole → HoldsText asked bytes (base_of bytes) (length bytes) text
     → IsGathered asked kept [] → IsGathered asked kept (records_of bytes)

@@ -1,7 +1,7 @@
 -- What a fragment of a sequence stands for: the texts at its ends, and what is gathered of the records between them.
 -- Only contracts of private functions cite this.
 use Rattle.std.specs.Prelude.{◌≡◌, ℕ, ◌+◌, ◌≤◌, ◌<◌, List, [], ◌∷◌, ◌++◌, length}
-use Rattle.at_text.specs.Spans.{part_of}
+use Rattle.at_text.specs.Spans.{span_of}
 use Rattle.at_nest.specs.FragmentMeanings.{StandsFor}
 use Rattle.at_nest.specs.declared.fragments.Fragment.{Fragment}
 use Rattle.at_geojson.specs.declared.asked.GeoAlgebra.{GeoAlgebra}
@@ -26,11 +26,11 @@ pub record SeqAsks : Type 0 where
 
 -- the bytes of the file from one place up to another, as a piece
 abbrev pub piece_in : List ℕ → ℕ → ℕ → Piece
-piece_in bytes i k = record { at = i; text = part_of bytes i k }
+piece_in bytes i k = record { at = i; text = span_of bytes i k }
 
 -- the pieces of these bytes
 abbrev pub pieces_in : List ℕ → ℕ → ℕ → List Piece
-pieces_in bytes i k = pieces_from i (part_of bytes i k)
+pieces_in bytes i k = pieces_from i (span_of bytes i k)
 
 -- for any meaning of what spans of a file give: the two are of neighbouring spans, and the third is of both
 module _ {F : Type 0} (Holds : ℕ → ℕ → F → Type 0) (bytes : List ℕ) where
@@ -43,7 +43,7 @@ module _ {F : Type 0} (Holds : ℕ → ℕ → F → Type 0) (bytes : List ℕ) 
 module _ (asked : Asked) (bytes : List ℕ) where
   -- the fragment stands for the bytes from i up to k as a span of JSON
   abbrev pub HoldsJson : ℕ → ℕ → Fragment GeoAlgebra GeoAtom → Type 0
-  HoldsJson i k f = StandsFor (IsGeoAtom asked) i (part_of bytes i k) f
+  HoldsJson i k f = StandsFor (IsGeoAtom asked) i (span_of bytes i k) f
 
   -- the bytes from i up to k are those before their first separator, the records between that and their last one, and
   -- those behind it
@@ -67,7 +67,7 @@ module _ (asked : Asked) (bytes : List ℕ) where
     pub order : i ≤ k
     pub within : k ≤ length bytes
     pub text : HoldsText i k read.text
-    pub valid : IsValidIn i (part_of bytes i k) read.valid
+    pub valid : IsValidIn i (span_of bytes i k) read.valid
 
   abbrev pub HoldsFragment : ℕ → ℕ → SeqFragment → Type 0
   HoldsFragment i k Lost = Unit {0}

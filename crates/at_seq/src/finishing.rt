@@ -1,7 +1,7 @@
 //! What a whole sequence gives.
 
 ghost use Rattle.std.specs.Prelude.{◌≡◌, ◌+◌, ◌≤◌, ◌^◌, length, MatchResult, IfOk, None, Some, drop};
-ghost use Rattle.at_text.specs.Spans.{part_of};
+ghost use Rattle.at_text.specs.Spans.{span_of};
 ghost use Rattle.at_text.specs.Faults.{first_fault as first_one, first_of};
 ghost use Rattle.at_text.specs.Texts.{utf8_fault as encoding_fault, base_of as text_begin};
 ghost use Rattle.at_run.specs.Encodings.{IsValidIn};

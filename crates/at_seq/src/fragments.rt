@@ -2,7 +2,7 @@
 
 ghost use Rattle.std.specs.Prelude.{◌≡◌, ℕ, ◌-◌, ◌≤◌, ◌<◌, ◌^◌, length, IfOk};
 ghost use Rattle.std.specs.List.{position_or_len};
-ghost use Rattle.at_text.specs.Spans.{part_of};
+ghost use Rattle.at_text.specs.Spans.{span_of};
 ghost use Rattle.at_seq.specs.Records.{is_separator};
 ghost use Rattle.at_seq.specs.Fragments.{AreBeside, IsOfBoth, HoldsInner, HoldsText, HoldsParted, HoldsSpan};
 ghost use Rattle.at_seq.specs.Fragments.{HoldsFragment};
@@ -104,7 +104,7 @@ fn read_parted(
     requires begins { span.from ≤ first }
     requires inside { first < span.to }
     requires within { span.to ≤ length bytes.now }
-    requires first { first - span.from ≡ position_or_len is_separator (part_of bytes.now span.from span.to) }
+    requires first { first - span.from ≡ position_or_len is_separator (span_of bytes.now span.from span.to) }
     ensures { IfOk result (HoldsParted algebra.now bytes.now span.from span.to) }
 {
     let records = Span {

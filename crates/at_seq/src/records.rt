@@ -1,7 +1,7 @@
 //! What is kept of records: the part of their features, or their first fault.
 
 ghost use Rattle.std.specs.Prelude.{◌≡◌, ℕ, ◌+◌, ◌≤◌, ◌<◌, ◌^◌, List, [], ◌∷◌, length, Ok, IfOk, IfSome};
-ghost use Rattle.at_text.specs.Spans.{part_of};
+ghost use Rattle.at_text.specs.Spans.{span_of};
 ghost use Rattle.at_text.specs.Texts.{is_space};
 ghost use Rattle.at_lex.specs.Fronts.{IsFront};
 ghost use Rattle.at_nest.specs.TextAnswers.{Answers};
@@ -109,10 +109,10 @@ fn span_answer(
     requires fits { length bytes.now ≤ 2 ^ 28 }
     requires order { span.from ≤ span.to }
     requires within { span.to ≤ length bytes.now }
-    requires spaces { IsFront is_space (part_of bytes.now span.from span.to) spaces }
-    requires some { spaces < length (part_of bytes.now span.from span.to) }
+    requires spaces { IsFront is_space (span_of bytes.now span.from span.to) spaces }
+    requires some { spaces < length (span_of bytes.now span.from span.to) }
     ensures { Answers (IsGeoAtom algebra.now) span.from
-        (part_of bytes.now span.from span.to) result }
+        (span_of bytes.now span.from span.to) result }
 {
     let text = &bytes[span.from as usize..span.to as usize];
     if let Some(atom) = atom_at_once(alloc, algebra, text, span.from, spaces)? {
@@ -135,7 +135,7 @@ pub fn add_record(
     requires within { span.to ≤ length bytes.now }
     requires own { (before : List Piece) × IsGathered algebra.now gathered.old before }
     ensures { IfOk result (λ _. AddsRecords algebra.now gathered.old
-        (records_in (record { at = span.from; text = part_of bytes.now span.from span.to } ∷ [])) gathered.new) }
+        (records_in (record { at = span.from; text = span_of bytes.now span.from span.to } ∷ [])) gathered.new) }
 {
     let text = &bytes[span.from as usize..span.to as usize];
     let spaces = spaces_len(text);
@@ -161,9 +161,9 @@ pub fn add_fragment(
     requires within { span.to ≤ length bytes.now }
     requires own { (before : List Piece) × IsGathered algebra.now gathered.old before }
     requires whole { StandsFor (IsGeoAtom algebra.now) span.from
-        (part_of bytes.now span.from span.to) whole }
+        (span_of bytes.now span.from span.to) whole }
     ensures { IfOk result (λ _. AddsRecords algebra.now gathered.old
-        (records_in (record { at = span.from; text = part_of bytes.now span.from span.to } ∷ [])) gathered.new) }
+        (records_in (record { at = span.from; text = span_of bytes.now span.from span.to } ∷ [])) gathered.new) }
 {
     let text = &bytes[span.from as usize..span.to as usize];
     if spaces_len(text) == text.len() {

@@ -3,14 +3,14 @@
 use Rattle.std.specs.Prelude.{ℕ, ◌-◌, ◌≤◌, List, length, take, drop}
 
 -- the bytes from the place i up to, not including, the place k
-abbrev pub part_of : List ℕ → ℕ → ℕ → List ℕ
-part_of bytes i k = take (k - i) (drop i bytes)
+abbrev pub span_of : List ℕ → ℕ → ℕ → List ℕ
+span_of bytes i k = take (k - i) (drop i bytes)
 
 -- for any meaning of fragments: that one stands for bytes, the first of which has the offset
 module _ {F : Type 0} (Stands : ℕ → List ℕ → F → Type 0) where
   -- the fragment stands for the bytes from i up to k
   abbrev pub StandsAt : List ℕ → ℕ → ℕ → F → Type 0
-  StandsAt bytes i k fragment = Stands i (part_of bytes i k) fragment
+  StandsAt bytes i k fragment = Stands i (span_of bytes i k) fragment
 
   -- the fragments stand for the bytes from i up to j, and from j up to k
   abbrev pub AreNeighbours : List ℕ → ℕ → ℕ → ℕ → F → F → Type 0

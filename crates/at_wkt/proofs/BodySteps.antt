@@ -8,7 +8,7 @@ use Rattle.at_text.specs.Parts.{Many, Exactly, ◌▸◌}
 use Rattle.at_wkt.specs.declared.dimension.Dimension.{Dimension}
 use Rattle.at_wkt.specs.Positions.{Position, Positions}
 use Rattle.at_wkt.specs.Geometry.{is_blank, SpellsPosition, InBrackets, Parted, EmptyWord, EmptyOrParted, SpellsRing, SpellsList, SpellsPoint, SpellsPointMember}
-use Rattle.at_fixed.specs.Kept.{part}
+use Rattle.at_fixed.specs.Kept.{between}
 use Rattle.at_wkt.specs.Readers.{opens, next, Spelt, Stuck, Leads, SkipsBlanks, Item, WordStands, WordBreaks, HasCount, EnclosedPosition}
 use Rattle.at_wkt.proofs.Leads.{part-part, part-cons, ahead_stuck, Begins, Inhabited, same_or_less}
 use Rattle.at_wkt.proofs.Steps.{When, when_leads, no_blank, one_blanks}
@@ -211,14 +211,14 @@ member_begins d y at v h = elim (member_when.from d y at v h) [
 
 module _ (base : ℕ) (w : List ℕ) (i a : ℕ) (c : Dimension) (skips : SkipsBlanks w i a) (bare : opens (next w a) ≡ false) where
   -- a member's item whose first byte opens nothing is a position's
-  bare_item : (d : ℕ) (y : Option Position) (last : Bool) (at : ℕ) (v r t : List ℕ) → Item SpellsPointMember d (y, last) at v → v ++ r ≡ part w i a ++ (next w a ∷ t)
+  bare_item : (d : ℕ) (y : Option Position) (last : Bool) (at : ℕ) (v r t : List ℕ) → Item SpellsPointMember d (y, last) at v → v ++ r ≡ between w i a ++ (next w a ∷ t)
       → (p : Position) × (y ≡ Some p) × Item SpellsPosition d (p, last) at v
   bare_item d y last at v r t (b1, r1, e1, hb, (x, z, ez, hm, hd)) f = go y hm where
     no_opener : (b : ℕ) (u : List ℕ) → x ≡ b ∷ u → opens b ≡ true → ⊥
     no_opener b u ex ob =
-        let line : b1 ++ (b ∷ ((u ++ z) ++ r)) ≡ part w i a ++ (next w a ∷ t) = ap (λ q. b1 ++ ((q ++ z) ++ r)) (sym ex) ∙ (sym (append_assoc b1 (x ++ z) r) ∙ (ap (λ q. (b1 ++ q) ++ r) (sym ez) ∙ (ap (λ q. q ++ r) (sym e1) ∙ f))) in
-        let same : b1 ≡ part w i a = one_blanks b1 (part w i a) b (next w a) ((u ++ z) ++ r) t hb skips.blanks (opens_no_blank b ob) skips.stops line in
-        let rest : b ∷ ((u ++ z) ++ r) ≡ next w a ∷ t = append_cancel_left (part w i a) _ _ (ap (λ q. q ++ (b ∷ ((u ++ z) ++ r))) (sym same) ∙ line) in
+        let line : b1 ++ (b ∷ ((u ++ z) ++ r)) ≡ between w i a ++ (next w a ∷ t) = ap (λ q. b1 ++ ((q ++ z) ++ r)) (sym ex) ∙ (sym (append_assoc b1 (x ++ z) r) ∙ (ap (λ q. (b1 ++ q) ++ r) (sym ez) ∙ (ap (λ q. q ++ r) (sym e1) ∙ f))) in
+        let same : b1 ≡ between w i a = one_blanks b1 (between w i a) b (next w a) ((u ++ z) ++ r) t hb skips.blanks (opens_no_blank b ob) skips.stops line in
+        let rest : b ∷ ((u ++ z) ++ r) ≡ next w a ∷ t = append_cancel_left (between w i a) _ _ (ap (λ q. q ++ (b ∷ ((u ++ z) ++ r))) (sym same) ∙ line) in
         let byte : b ≡ next w a = cc in
         true≢false (sym ob ∙ (ap opens byte ∙ bare))
 
@@ -228,15 +228,15 @@ module _ (base : ℕ) (w : List ℕ) (i a : ℕ) (c : Dimension) (skips : SkipsB
     go (Some p) (inr h) = absurd (let (b, u, eb, o) = choice_begins SpellsPoint EnclosedPosition (λ p. Some p) None point_choice d (Some p) (at + length b1) x h in no_opener b u eb o)
 
   -- the text goes on with the byte behind the blanks
-  behind_blanks : (n : ℕ) (s : List ℕ) → a ≤ n → n ≤ length w → (t : List ℕ) × (part w i n ++ (next w n ∷ s) ≡ part w i a ++ (next w a ∷ t))
+  behind_blanks : (n : ℕ) (s : List ℕ) → a ≤ n → n ≤ length w → (t : List ℕ) × (between w i n ++ (next w n ∷ s) ≡ between w i a ++ (next w a ∷ t))
   behind_blanks n s low high = let (t, e) = ahead_stuck w a n s low high (same_or_less a n low) in
-      (t, ap (λ z. z ++ (next w n ∷ s)) (part-part w i a n skips.order low high) ∙ (append_assoc (part w i a) (part w a n) (next w n ∷ s) ∙ ap (λ z. part w i a ++ z) e))
+      (t, ap (λ z. z ++ (next w n ∷ s)) (part-part w i a n skips.order low high) ∙ (append_assoc (between w i a) (between w a n) (next w n ∷ s) ∙ ap (λ z. between w i a ++ z) e))
 
   pub bare_stuck : (n : ℕ) → a ≤ n → Stuck (Item SpellsPosition) base w i c n → Stuck (Item SpellsPointMember) base w i c n
   bare_stuck n low h = record {
     order = h.order;
     within = h.within;
-    viable = (let (d, x, more, b, q) = h.viable in (d, (Some x.0, x.1), more, b, member_of d x.0 x.1 (base + i) (part w i n ++ more) q));
+    viable = (let (d, x, more, b, q) = h.viable in (d, (Some x.0, x.1), more, b, member_of d x.0 x.1 (base + i) (between w i n ++ more) q));
     dead = λ d y v r s b q e.
         let (t, f) = behind_blanks n s low h.within in
         let (p, ey, q') = bare_item d y.0 y.1 (base + i) v r t q (e ∙ f) in
@@ -251,11 +251,11 @@ module _ (base : ℕ) (w : List ℕ) (i a : ℕ) (c : Dimension) (skips : SkipsB
     within = h.within;
     some = h.some;
     narrows = h.narrows;
-    sound = λ d b. member_of d p last (base + i) (part w i j) (h.sound d b);
+    sound = λ d b. member_of d p last (base + i) (between w i j) (h.sound d b);
     only = λ d y v r s b q e.
-        let joint : part w i j ++ s ≡ part w i a ++ (next w a ∷ (part w (a + 1) j ++ s)) =
-        ap (λ z. z ++ s) (part-part w i a j skips.order (let l : a ≤ j = omega arith in l) h.within ∙ ap (λ z. part w i a ++ z) (part-cons w a j low h.within)) ∙ append_assoc (part w i a) (next w a ∷ part w (a + 1) j) s in
-        let (q0, ey, q') = bare_item d y.0 y.1 (base + i) v r (part w (a + 1) j ++ s) q (e ∙ joint) in
+        let joint : between w i j ++ s ≡ between w i a ++ (next w a ∷ (between w (a + 1) j ++ s)) =
+        ap (λ z. z ++ s) (part-part w i a j skips.order (let l : a ≤ j = omega arith in l) h.within ∙ ap (λ z. between w i a ++ z) (part-cons w a j low h.within)) ∙ append_assoc (between w i a) (next w a ∷ between w (a + 1) j) s in
+        let (q0, ey, q') = bare_item d y.0 y.1 (base + i) v r (between w (a + 1) j ++ s) q (e ∙ joint) in
         let (ep, ev, b') = h.only d (q0, y.1) v r s b q' e in
         (ap (λ z. (z, y.1)) ey ∙ ap (λ (z : Position × Bool). (Some z.0, z.1)) ep, ev, b');
   } where

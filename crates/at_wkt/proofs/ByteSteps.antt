@@ -7,7 +7,7 @@ use Rattle.std.specs.Char.{to_ascii_uppercase}
 use native.Mathlib.Decide.{dec_lt}
 use Rattle.std.proofs.lemmas.List.{map-append, take_more, get_or_past, get_or_default}
 use Rattle.at_wkt.specs.Geometry.{is_blank}
-use Rattle.at_fixed.specs.Kept.{part}
+use Rattle.at_fixed.specs.Kept.{between}
 use Rattle.at_wkt.specs.Readers.{next, Matches, WordStands, WordBreaks}
 use Rattle.at_wkt.proofs.Leads.{part-more}
 use Rattle.at_wkt.proofs.Steps.{AreBlanks}
@@ -45,16 +45,16 @@ pub blanks_end : (a : List ℕ) (b : ℕ) → AreBlanks a → is_blank b ≡ tru
 blanks_end [] b h k = (k, tt)
 blanks_end (x ∷ a) b (h, hs) k = (h, blanks_end a b hs k)
 
-pub blanks_more : (w : List ℕ) (i j : ℕ) → i ≤ j → j < length w → AreBlanks (part w i j) → is_blank (next w j) ≡ true → AreBlanks (part w i (j + 1))
-blanks_more w i j low h blanks k = subst AreBlanks (sym (part-more w i j low h)) (blanks_end (part w i j) (next w j) blanks k)
+pub blanks_more : (w : List ℕ) (i j : ℕ) → i ≤ j → j < length w → AreBlanks (between w i j) → is_blank (next w j) ≡ true → AreBlanks (between w i (j + 1))
+blanks_more w i j low h blanks k = subst AreBlanks (sym (part-more w i j low h)) (blanks_end (between w i j) (next w j) blanks k)
 
 -- one more letter of the word
-pub letters_more : (w : List ℕ) (i : ℕ) (word : List ℕ) (count : ℕ) → count < length word → i + count < length w → str_to_ascii_uppercase (part w i (i + count)) ≡ take count word
-    → to_ascii_uppercase (next w (i + count)) ≡ slice_index word count → str_to_ascii_uppercase (part w i (i + (count + 1))) ≡ take (count + 1) word
+pub letters_more : (w : List ℕ) (i : ℕ) (word : List ℕ) (count : ℕ) → count < length word → i + count < length w → str_to_ascii_uppercase (between w i (i + count)) ≡ take count word
+    → to_ascii_uppercase (next w (i + count)) ≡ slice_index word count → str_to_ascii_uppercase (between w i (i + (count + 1))) ≡ take (count + 1) word
 letters_more w i word count less inside e h =
     let place : (i + count) + 1 ≡ i + (count + 1) = omega arith in
-    ap (λ z. str_to_ascii_uppercase (part w i z)) (sym place) ∙ (ap str_to_ascii_uppercase (part-more w i (i + count) (omega arith) inside)
-    ∙ (map-append to_ascii_uppercase (part w i (i + count)) (next w (i + count) ∷ []) ∙ (ap (λ z. z ++ (to_ascii_uppercase (next w (i + count)) ∷ [])) e
+    ap (λ z. str_to_ascii_uppercase (between w i z)) (sym place) ∙ (ap str_to_ascii_uppercase (part-more w i (i + count) (omega arith) inside)
+    ∙ (map-append to_ascii_uppercase (between w i (i + count)) (next w (i + count) ∷ []) ∙ (ap (λ z. z ++ (to_ascii_uppercase (next w (i + count)) ∷ [])) e
     ∙ (ap (λ z. take count word ++ (z ∷ [])) h ∙ sym (take_more word count 0 less)))))
 
 pub word_whole : (w : List ℕ) (i : ℕ) (word : List ℕ) (count : ℕ) → Matches w i word count → count ≡ length word → WordStands w i (i + count) word

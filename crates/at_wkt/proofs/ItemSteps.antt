@@ -8,7 +8,7 @@ use Rattle.at_wkt.specs.declared.dimension.Dimension.{Dimension}
 use Rattle.at_wkt.specs.declared.dimension.Dimension.TheVariants.{Open, Fixed}
 use Rattle.at_wkt.specs.Positions.{Position}
 use Rattle.at_wkt.specs.Geometry.{is_blank, SpellsNumber, SpellsFurther, SpellsPosition}
-use Rattle.at_fixed.specs.Kept.{part}
+use Rattle.at_fixed.specs.Kept.{between}
 use Rattle.at_wkt.specs.Readers.{next, allows, allows_more, Allows, Spelt, Stuck, SkipsBlanks, delimiter, Delimiter, FurtherNumbers, is_delimiter, Reaches}
 use Rattle.at_wkt.proofs.Leads.{part-none, part-more, Ahead, counts}
 use Rattle.at_wkt.proofs.Steps.{Then, Same, no_blank, AreBlanks, one_blanks}
@@ -55,16 +55,16 @@ delimiter_no_blank false = refl
 
 module _ (base : ℕ) (w : List ℕ) (j m : ℕ) (skips : SkipsBlanks w j m) where
   -- what a delimiter behind blanks agrees with
-  delimiter_agrees : (last : Bool) (v x r s : List ℕ) → AreBlanks x → v ≡ x ++ (delimiter last ∷ []) → Ahead w m s → v ++ r ≡ part w j m ++ s
-      → (x ≡ part w j m) × (delimiter last ≡ next w m)
+  delimiter_agrees : (last : Bool) (v x r s : List ℕ) → AreBlanks x → v ≡ x ++ (delimiter last ∷ []) → Ahead w m s → v ++ r ≡ between w j m ++ s
+      → (x ≡ between w j m) × (delimiter last ≡ next w m)
   delimiter_agrees last v x r s hx ev (t, es) e =
-      let line : x ++ (delimiter last ∷ r) ≡ part w j m ++ (next w m ∷ t) = sym (append_assoc x (delimiter last ∷ []) r) ∙ (ap (λ z. z ++ r) (sym ev) ∙ (e ∙ ap (λ z. part w j m ++ z) es)) in
-      let same : x ≡ part w j m = one_blanks x (part w j m) (delimiter last) (next w m) r t hx skips.blanks (delimiter_no_blank last) skips.stops line in
-      let rest : delimiter last ∷ r ≡ next w m ∷ t = append_cancel_left (part w j m) _ _ (ap (λ z. z ++ (delimiter last ∷ r)) (sym same) ∙ line) in
+      let line : x ++ (delimiter last ∷ r) ≡ between w j m ++ (next w m ∷ t) = sym (append_assoc x (delimiter last ∷ []) r) ∙ (ap (λ z. z ++ r) (sym ev) ∙ (e ∙ ap (λ z. between w j m ++ z) es)) in
+      let same : x ≡ between w j m = one_blanks x (between w j m) (delimiter last) (next w m) r t hx skips.blanks (delimiter_no_blank last) skips.stops line in
+      let rest : delimiter last ∷ r ≡ next w m ∷ t = append_cancel_left (between w j m) _ _ (ap (λ z. z ++ (delimiter last ∷ r)) (sym same) ∙ line) in
       (same, cc)
 
   module _ (last : Bool) (here : next w m ≡ delimiter last) (inside : m < length w) where
-    past : part w j (m + 1) ≡ part w j m ++ (next w m ∷ [])
+    past : between w j (m + 1) ≡ between w j m ++ (next w m ∷ [])
     past = part-more w j m skips.order inside
 
     pub delimiter_spelt : (c : Dimension) → (d : ℕ) × Allows c d → Spelt Delimiter base w j c (m + 1) c last
@@ -73,12 +73,12 @@ module _ (base : ℕ) (w : List ℕ) (j m : ℕ) (skips : SkipsBlanks w j m) whe
       within = omega arith;
       some = some;
       narrows = λ d a. a;
-      sound = λ d a. (part w j m, next w m ∷ [], past, skips.blanks, ap (λ z. z ∷ []) here);
+      sound = λ d a. (between w j m, next w m ∷ [], past, skips.blanks, ap (λ z. z ∷ []) here);
       only = λ d y v r s a (x, z, ev, hx, hz) e.
-          let line : v ++ r ≡ part w j m ++ (next w m ∷ s) = e ∙ (ap (λ z. z ++ s) past ∙ append_assoc (part w j m) (next w m ∷ []) s) in
+          let line : v ++ r ≡ between w j m ++ (next w m ∷ s) = e ∙ (ap (λ z. z ++ s) past ∙ append_assoc (between w j m) (next w m ∷ []) s) in
           let text : v ≡ x ++ (delimiter y ∷ []) = ev ∙ ap (λ u. x ++ u) hz in
           let (same, byte) = delimiter_agrees y v x r (next w m ∷ s) hx text (s, refl) line in
-          (delimiter_same y last (byte ∙ here), text ∙ (ap (λ u. u ++ (delimiter y ∷ [])) same ∙ (ap (λ b. part w j m ++ (b ∷ [])) byte ∙ sym past)), a);
+          (delimiter_same y last (byte ∙ here), text ∙ (ap (λ u. u ++ (delimiter y ∷ [])) same ∙ (ap (λ b. between w j m ++ (b ∷ [])) byte ∙ sym past)), a);
     }
 
     pub further_spelt : (c : Dimension) (k : ℕ) → Allows c k → Spelt (FurtherNumbers k) base w j c (m + 1) (Fixed k) last
@@ -87,17 +87,17 @@ module _ (base : ℕ) (w : List ℕ) (j m : ℕ) (skips : SkipsBlanks w j m) whe
       within = omega arith;
       some = (k, (refl, two, four));
       narrows = λ d (e, low, high). subst (Allows c) (sym e) ak;
-      sound = λ d (e, low, high). ([], omega (arith, e), ([], part w j (m + 1), refl, refl, (part w j m, next w m ∷ [], past, skips.blanks, ap (λ z. z ∷ []) here)));
-      only = λ d y v r s a q e. only d y v r s a q (e ∙ (ap (λ z. z ++ s) past ∙ append_assoc (part w j m) (next w m ∷ []) s));
+      sound = λ d (e, low, high). ([], omega (arith, e), ([], between w j (m + 1), refl, refl, (between w j m, next w m ∷ [], past, skips.blanks, ap (λ z. z ∷ []) here)));
+      only = λ d y v r s a q e. only d y v r s a q (e ∙ (ap (λ z. z ++ s) past ∙ append_assoc (between w j m) (next w m ∷ []) s));
     } where
-      only : (d : ℕ) (y : Bool) (v r s : List ℕ) → Allows c d → FurtherNumbers k d y (base + j) v → v ++ r ≡ part w j m ++ (next w m ∷ s)
-          → (y ≡ last) × (v ≡ part w j (m + 1)) × Allows (Fixed k) d
+      only : (d : ℕ) (y : Bool) (v r s : List ℕ) → Allows c d → FurtherNumbers k d y (base + j) v → v ++ r ≡ between w j m ++ (next w m ∷ s)
+          → (y ≡ last) × (v ≡ between w j (m + 1)) × Allows (Fixed k) d
       only d y v r s a ([], en, (p, q, ep, none, (x, z, ez, hx, hz))) e =
           let text : v ≡ x ++ (delimiter y ∷ []) = ep ∙ (ap (λ u. u ++ q) none ∙ (ez ∙ ap (λ u. x ++ u) hz)) in
           let (same, byte) = delimiter_agrees y v x r (next w m ∷ s) hx text (s, refl) e in
           let (low, high) = counts c d a in
           let is : d ≡ k = omega (arith, en) in
-          (delimiter_same y last (byte ∙ here), text ∙ (ap (λ u. u ++ (delimiter y ∷ [])) same ∙ (ap (λ b. part w j m ++ (b ∷ [])) byte ∙ sym past)), (is, low, high))
+          (delimiter_same y last (byte ∙ here), text ∙ (ap (λ u. u ++ (delimiter y ∷ [])) same ∙ (ap (λ b. between w j m ++ (b ∷ [])) byte ∙ sym past)), (is, low, high))
       only d y v r s a (n ∷ ns, en, q) e = absurd (elim (further_agrees base w j m c k skips d y (base + j) v r (next w m ∷ s) (n ∷ ns, en, q) (s, refl) e) [
         | inl (h, f) ↦ omega (arith, en)
         | inr (h, less, some) ↦ true≢false (sym (delimiter_is last) ∙ (ap is_delimiter (sym here) ∙ h))
@@ -107,7 +107,7 @@ module _ (base : ℕ) (w : List ℕ) (j m : ℕ) (skips : SkipsBlanks w j m) whe
   delimiter_stuck c (d0, a0) none = record {
     order = skips.order;
     within = skips.within;
-    viable = (d0, true, 0x29 ∷ [], a0, (part w j m, 0x29 ∷ [], refl, skips.blanks, refl));
+    viable = (d0, true, 0x29 ∷ [], a0, (between w j m, 0x29 ∷ [], refl, skips.blanks, refl));
     dead = λ d y v r s a (x, z, ev, hx, hz) e.
         let text : v ≡ x ++ (delimiter y ∷ []) = ev ∙ ap (λ u. x ++ u) hz in
         let (same, byte) = delimiter_agrees y v x r (next w m ∷ s) hx text (s, refl) e in
@@ -126,7 +126,7 @@ module _ (base : ℕ) (w : List ℕ) (j m : ℕ) (c : Dimension) (k : ℕ) (skip
   pub further_joined : is_delimiter (next w m) ≡ false → m ≡ j → Stuck (FurtherNumbers k) base w j c m
   further_joined none e = further_dead base w j m c k skips reaches (λ d a f. elim f [
     | inl (h, g) ↦ true≢false (sym h ∙ none)
-    | inr (h, less, some) ↦ some (ap (part w j) e ∙ part-none w j (omega (arith, skips.within, e)))
+    | inr (h, less, some) ↦ some (ap (between w j) e ∙ part-none w j (omega (arith, skips.within, e)))
   ])
 
   pub further_many : is_delimiter (next w m) ≡ false → allows_more c k ≡ false → Stuck (FurtherNumbers k) base w j c m

@@ -5,7 +5,7 @@ use Rattle.std.specs.List.{AllByRecursion}
 use Rattle.std.specs.Str.{str_to_ascii_uppercase}
 use Rattle.at_wkt.specs.declared.kinds.Kind.{Kind}
 use Rattle.at_wkt.specs.declared.kinds.Kind.TheVariants.{Point, LineString, Polygon, MultiPoint, MultiLineString, MultiPolygon, GeometryCollection}
-use Rattle.at_fixed.specs.Kept.{part}
+use Rattle.at_fixed.specs.Kept.{between}
 use Rattle.at_wkt.specs.Readers.{word_of, Matches, WordBreaks, KindBreaks, KindsTried}
 use Rattle.at_wkt.proofs.Leads.{part-none}
 use Rattle.at_wkt.proofs.ByteSteps.{word_broken}
@@ -14,7 +14,7 @@ pub tried_none : (w : List ℕ) (i : ℕ) → i ≤ length w → KindsTried w i 
 tried_none w i h = record {
   within = omega arith;
   kind = Point;
-  text = ap str_to_ascii_uppercase (ap (part w i) (let same : i + 0 ≡ i = omega arith in same) ∙ part-none w i h);
+  text = ap str_to_ascii_uppercase (ap (between w i) (let same : i + 0 ≡ i = omega arith in same) ∙ part-none w i h);
   breaks = tt;
 }
 
@@ -44,13 +44,13 @@ module _ (w : List ℕ) (i : ℕ) where
         | inl e ↦ record {
           within = omega (arith, h.within, e);
           kind = h.kind;
-          text = subst (λ z. str_to_ascii_uppercase (part w i (i + z)) ≡ take z (word_of h.kind)) (sym e) h.text;
+          text = subst (λ z. str_to_ascii_uppercase (between w i (i + z)) ≡ take z (word_of h.kind)) (sym e) h.text;
           breaks = subst (AreBroken longest') (sym ek) all;
         }
         | inr e ↦ record {
           within = omega (arith, found.within, e);
           kind = k;
-          text = subst (λ z. str_to_ascii_uppercase (part w i (i + z)) ≡ take z (word_of k)) (sym e) found.text;
+          text = subst (λ z. str_to_ascii_uppercase (between w i (i + z)) ≡ take z (word_of k)) (sym e) found.text;
           breaks = subst (AreBroken longest') (sym ek) all;
         }
       ]

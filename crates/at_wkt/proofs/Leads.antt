@@ -5,50 +5,50 @@ use native.Mathlib.Decide.{dec_lt}
 use Rattle.std.proofs.lemmas.List.{drop-append-le, drop_all, append_cancel_left}
 use Rattle.at_wkt.specs.declared.dimension.Dimension.{Dimension}
 use Rattle.at_wkt.specs.declared.dimension.Dimension.TheVariants.{Open, Fixed}
-use Rattle.at_fixed.specs.Kept.{part}
+use Rattle.at_fixed.specs.Kept.{between}
 use Rattle.at_wkt.specs.Readers.{next, Allows, Spelt, Leads}
 
 -- ---- parts of a list
 
-pub part-none : (w : List ℕ) (i : ℕ) → i ≤ length w → part w i i ≡ []
+pub part-none : (w : List ℕ) (i : ℕ) → i ≤ length w → between w i i ≡ []
 part-none w i h = drop_all i (take i w) (omega (arith, length-take i w))
 
-pub part-more : (w : List ℕ) (i j : ℕ) → i ≤ j → j < length w → part w i (j + 1) ≡ part w i j ++ (next w j ∷ [])
+pub part-more : (w : List ℕ) (i j : ℕ) → i ≤ j → j < length w → between w i (j + 1) ≡ between w i j ++ (next w j ∷ [])
 part-more w i j h k =
     let fits : i ≤ length (take j w) = omega (arith, length-take j w) in
     rw (add-one j, take-suc w j 256 k) (drop-append-le i (take j w) (next w j ∷ []) fits)
 
-pub part-place : (w : List ℕ) (i j : ℕ) → i ≤ j → take j w ≡ take i w ++ part w i j
-part-place w i j h = sym (take-append-drop i (take j w)) ∙ ap (λ x. x ++ part w i j) (take-take i j w h)
+pub part-place : (w : List ℕ) (i j : ℕ) → i ≤ j → take j w ≡ take i w ++ between w i j
+part-place w i j h = sym (take-append-drop i (take j w)) ∙ ap (λ x. x ++ between w i j) (take-take i j w h)
 
-pub part-length : (w : List ℕ) (i j : ℕ) → i ≤ j → j ≤ length w → i + length (part w i j) ≡ j
+pub part-length : (w : List ℕ) (i j : ℕ) → i ≤ j → j ≤ length w → i + length (between w i j) ≡ j
 part-length w i j h k = omega (arith, length-drop i (take j w), length-take j w)
 
-pub part-part : (w : List ℕ) (i j k : ℕ) → i ≤ j → j ≤ k → k ≤ length w → part w i k ≡ part w i j ++ part w j k
+pub part-part : (w : List ℕ) (i j k : ℕ) → i ≤ j → j ≤ k → k ≤ length w → between w i k ≡ between w i j ++ between w j k
 part-part w i j k h l m =
     let fits : i ≤ length (take j w) = omega (arith, length-take j w) in
-    ap (drop i) (part-place w j k l) ∙ drop-append-le i (take j w) (part w j k) fits
+    ap (drop i) (part-place w j k l) ∙ drop-append-le i (take j w) (between w j k) fits
 
-pub part-cons : (w : List ℕ) (i j : ℕ) → i < j → j ≤ length w → part w i j ≡ next w i ∷ part w (i + 1) j
+pub part-cons : (w : List ℕ) (i j : ℕ) → i < j → j ≤ length w → between w i j ≡ next w i ∷ between w (i + 1) j
 part-cons w i j h k =
-    let first : part w i (i + 1) ≡ next w i ∷ [] = part-more w i i (omega arith) (omega arith) ∙ ap (λ x. x ++ (next w i ∷ [])) (part-none w i (omega arith)) in
-    part-part w i (i + 1) j (omega arith) (omega arith) k ∙ ap (λ x. x ++ part w (i + 1) j) first
+    let first : between w i (i + 1) ≡ next w i ∷ [] = part-more w i i (omega arith) (omega arith) ∙ ap (λ x. x ++ (next w i ∷ [])) (part-none w i (omega arith)) in
+    part-part w i (i + 1) j (omega arith) (omega arith) k ∙ ap (λ x. x ++ between w (i + 1) j) first
 
-pub part-one : (w : List ℕ) (i : ℕ) → i < length w → part w i (i + 1) ≡ next w i ∷ []
+pub part-one : (w : List ℕ) (i : ℕ) → i < length w → between w i (i + 1) ≡ next w i ∷ []
 part-one w i h = part-cons w i (i + 1) (omega arith) (omega arith) ∙ ap (λ x. next w i ∷ x) (part-none w (i + 1) (omega arith))
 
 -- an offset behind a part
-pub offset : (base : ℕ) (w : List ℕ) (i j : ℕ) → i ≤ j → j ≤ length w → (base + i) + length (part w i j) ≡ base + j
+pub offset : (base : ℕ) (w : List ℕ) (i j : ℕ) → i ≤ j → j ≤ length w → (base + i) + length (between w i j) ≡ base + j
 offset base w i j h k = omega (arith, part-length w i j h k)
 
 -- the text goes on with the byte at its place
 abbrev pub Ahead : List ℕ → ℕ → List ℕ → Type 0
 Ahead w j s = (t : List ℕ) × (s ≡ next w j ∷ t)
 
-pub ahead_stuck : (w : List ℕ) (j n : ℕ) (s : List ℕ) → j ≤ n → n ≤ length w → (j ≡ n) ⊎ (j < n) → Ahead w j (part w j n ++ (next w n ∷ s))
-ahead_stuck w j n s h k (inl e) = let P : ℕ → Type 0 = λ m. Ahead w j (part w j m ++ (next w m ∷ s)) in
+pub ahead_stuck : (w : List ℕ) (j n : ℕ) (s : List ℕ) → j ≤ n → n ≤ length w → (j ≡ n) ⊎ (j < n) → Ahead w j (between w j n ++ (next w n ∷ s))
+ahead_stuck w j n s h k (inl e) = let P : ℕ → Type 0 = λ m. Ahead w j (between w j m ++ (next w m ∷ s)) in
     subst P e (s, ap (λ x. x ++ (next w j ∷ s)) (part-none w j (omega arith)))
-ahead_stuck w j n s h k (inr l) = (part w (j + 1) n ++ (next w n ∷ s), ap (λ x. x ++ (next w n ∷ s)) (part-cons w j n l k))
+ahead_stuck w j n s h k (inr l) = (between w (j + 1) n ++ (next w n ∷ s), ap (λ x. x ++ (next w n ∷ s)) (part-cons w j n l k))
 
 pub same_or_less : (j n : ℕ) → j ≤ n → (j ≡ n) ⊎ (j < n)
 same_or_less j n h = elim (dec_lt j n) [ yes l ↦ inr l | no f ↦ inl (omega arith) ]
@@ -82,45 +82,45 @@ same_length a s b t n h = elim (append_cases a s b t h) [
 module _ {X Y : Type 0} (P : ℕ → X → ℕ → List ℕ → Type 0) (Q : ℕ → Y → ℕ → List ℕ → Type 0) (base : ℕ) (w : List ℕ) (i : ℕ) (c : Dimension) (j : ℕ) (c' : Dimension) (f : Y → X) (T : List ℕ → Type 0) where
   -- what is to be shown of the bytes between, where the rest of the text satisfies T
   abbrev pub Comes : Type 0
-  Comes = (d : ℕ) (x : X) (v r s : List ℕ) → Allows c d → P d x (base + i) v → T s → v ++ r ≡ part w i j ++ s
-      → (y : Y) × (u : List ℕ) × (v ≡ part w i j ++ u) × (x ≡ f y) × Q d y (base + j) u × Allows c' d
+  Comes = (d : ℕ) (x : X) (v r s : List ℕ) → Allows c d → P d x (base + i) v → T s → v ++ r ≡ between w i j ++ s
+      → (y : Y) × (u : List ℕ) × (v ≡ between w i j ++ u) × (x ≡ f y) × Q d y (base + j) u × Allows c' d
 
   abbrev pub Goes : Type 0
-  Goes = (d : ℕ) (y : Y) (r : List ℕ) → Allows c' d → Q d y (base + j) r → P d (f y) (base + i) (part w i j ++ r)
+  Goes = (d : ℕ) (y : Y) (r : List ℕ) → Allows c' d → Q d y (base + j) r → P d (f y) (base + i) (between w i j ++ r)
 
   pub leads_by : i ≤ j → j ≤ length w → ((d : ℕ) → Allows c' d → Allows c d) → Goes → Comes
-      → ((k : ℕ) (c'' : Dimension) (y : Y) (s : List ℕ) → Spelt Q base w j c' k c'' y → T (part w j k ++ s))
-      → ((n : ℕ) (s : List ℕ) → j ≤ n → n ≤ length w → T (part w j n ++ (next w n ∷ s)))
+      → ((k : ℕ) (c'' : Dimension) (y : Y) (s : List ℕ) → Spelt Q base w j c' k c'' y → T (between w j k ++ s))
+      → ((n : ℕ) (s : List ℕ) → j ≤ n → n ≤ length w → T (between w j n ++ (next w n ∷ s)))
       → Leads P Q base w i c j c' f
   leads_by order within narrows goes comes words ends = record {
     spelt = λ k c'' y q.
-        let joint : part w i k ≡ part w i j ++ part w j k = part-part w i j k order q.order q.within in
+        let joint : between w i k ≡ between w i j ++ between w j k = part-part w i j k order q.order q.within in
         let small : i ≤ k = omega (arith, q.order) in
         record {
           order = small;
           within = q.within;
           some = q.some;
           narrows = λ d a. narrows d (q.narrows d a);
-          sound = λ d a. subst (P d (f y) (base + i)) (sym joint) (goes d y (part w j k) (q.narrows d a) (q.sound d a));
+          sound = λ d a. subst (P d (f y) (base + i)) (sym joint) (goes d y (between w j k) (q.narrows d a) (q.sound d a));
           only = λ d x v r s a p e.
-              let split : v ++ r ≡ part w i j ++ (part w j k ++ s) = e ∙ (ap (λ z. z ++ s) joint ∙ append_assoc (part w i j) (part w j k) s) in
-              let (y', u, ev, ex, q', a') = comes d x v r (part w j k ++ s) a p (words k c'' y s q) split in
-              let rest : u ++ r ≡ part w j k ++ s = append_cancel_left (part w i j) (u ++ r) (part w j k ++ s) (sym (append_assoc (part w i j) u r) ∙ (ap (λ z. z ++ r) (sym ev) ∙ split)) in
+              let split : v ++ r ≡ between w i j ++ (between w j k ++ s) = e ∙ (ap (λ z. z ++ s) joint ∙ append_assoc (between w i j) (between w j k) s) in
+              let (y', u, ev, ex, q', a') = comes d x v r (between w j k ++ s) a p (words k c'' y s q) split in
+              let rest : u ++ r ≡ between w j k ++ s = append_cancel_left (between w i j) (u ++ r) (between w j k ++ s) (sym (append_assoc (between w i j) u r) ∙ (ap (λ z. z ++ r) (sym ev) ∙ split)) in
               let (ey, eu, a'') = q.only d y' u r s a' q' rest in
-              (ex ∙ ap f ey, ev ∙ (ap (λ z. part w i j ++ z) eu ∙ sym joint), a'');
+              (ex ∙ ap f ey, ev ∙ (ap (λ z. between w i j ++ z) eu ∙ sym joint), a'');
         };
     stuck = λ n q.
-        let joint : part w i n ≡ part w i j ++ part w j n = part-part w i j n order q.order q.within in
+        let joint : between w i n ≡ between w i j ++ between w j n = part-part w i j n order q.order q.within in
         let small : i ≤ n = omega (arith, q.order) in
         record {
           order = small;
           within = q.within;
           viable = (let (d, y, more, a, p) = q.viable in
-              (d, f y, more, narrows d a, subst (P d (f y) (base + i)) (sym (ap (λ z. z ++ more) joint ∙ append_assoc (part w i j) (part w j n) more)) (goes d y (part w j n ++ more) a p)));
+              (d, f y, more, narrows d a, subst (P d (f y) (base + i)) (sym (ap (λ z. z ++ more) joint ∙ append_assoc (between w i j) (between w j n) more)) (goes d y (between w j n ++ more) a p)));
           dead = λ d x v r s a p e.
-              let split : v ++ r ≡ part w i j ++ (part w j n ++ (next w n ∷ s)) = e ∙ (ap (λ z. z ++ (next w n ∷ s)) joint ∙ append_assoc (part w i j) (part w j n) (next w n ∷ s)) in
-              let (y', u, ev, ex, q', a') = comes d x v r (part w j n ++ (next w n ∷ s)) a p (ends n s q.order q.within) split in
-              let rest : u ++ r ≡ part w j n ++ (next w n ∷ s) = append_cancel_left (part w i j) (u ++ r) (part w j n ++ (next w n ∷ s)) (sym (append_assoc (part w i j) u r) ∙ (ap (λ z. z ++ r) (sym ev) ∙ split)) in
+              let split : v ++ r ≡ between w i j ++ (between w j n ++ (next w n ∷ s)) = e ∙ (ap (λ z. z ++ (next w n ∷ s)) joint ∙ append_assoc (between w i j) (between w j n) (next w n ∷ s)) in
+              let (y', u, ev, ex, q', a') = comes d x v r (between w j n ++ (next w n ∷ s)) a p (ends n s q.order q.within) split in
+              let rest : u ++ r ≡ between w j n ++ (next w n ∷ s) = append_cancel_left (between w i j) (u ++ r) (between w j n ++ (next w n ∷ s)) (sym (append_assoc (between w i j) u r) ∙ (ap (λ z. z ++ r) (sym ev) ∙ split)) in
               q.dead d y' u r s a' q' rest;
         };
   }
@@ -152,7 +152,7 @@ module _ {X Y : Type 0} (P : ℕ → X → ℕ → List ℕ → Type 0) (Q : ℕ
   leads_ahead test begins order within narrows goes comes = leads_by P Q base w i c j c' f (Ahead w j) order within narrows goes comes
       (λ k c'' y s q.
       let (d, a) = q.some in
-      let (b, t, e, h) = begins d y (base + j) (part w j k) (q.sound d a) in
+      let (b, t, e, h) = begins d y (base + j) (between w j k) (q.sound d a) in
       let long : j < k = omega (arith, part-length w j k q.order q.within, ap length e) in
-      (part w (j + 1) k ++ s, ap (λ z. z ++ s) (part-cons w j k long q.within)))
+      (between w (j + 1) k ++ s, ap (λ z. z ++ s) (part-cons w j k long q.within)))
       (λ n s h k. ahead_stuck w j n s h k (same_or_less j n h))

@@ -8,7 +8,7 @@ use Rattle.at_text.specs.Parts.{Many, ◌▸◌}
 use Rattle.at_wkt.specs.declared.dimension.Dimension.{Dimension}
 use Rattle.at_wkt.specs.declared.dimension.Dimension.TheVariants.{Open, Fixed}
 use Rattle.at_wkt.specs.Geometry.{is_blank, Letter}
-use Rattle.at_fixed.specs.Kept.{part}
+use Rattle.at_fixed.specs.Kept.{between}
 use Rattle.at_wkt.specs.Readers.{opens, next, Allows, Spelt, Stuck, SkipsBlanks, LetterAt, LetterStands}
 use Rattle.at_wkt.proofs.Leads.{part-none, part-one, part-length, part-part, part-cons, Ahead, ahead_stuck, Begins, same_or_less}
 use Rattle.at_wkt.proofs.Steps.{no_blank, AreBlanks, one_blanks, not_blank}
@@ -21,7 +21,7 @@ all_both (x ∷ a) b (h, hs) k = (h, all_both a b hs k)
 pub no_gap : (w : List ℕ) (i j : ℕ) → SkipsBlanks w i j → no_blank (next w i) ≡ true → j ≡ i
 no_gap w i j h none = elim (same_or_less i j h.order) [
   | inl e ↦ sym e
-  | inr less ↦ absurd (let blanks : AreBlanks (next w i ∷ part w (i + 1) j) = subst AreBlanks (part-cons w i j less h.within) h.blanks in not_blank (next w i) none blanks.0)
+  | inr less ↦ absurd (let blanks : AreBlanks (next w i ∷ between w (i + 1) j) = subst AreBlanks (part-cons w i j less h.within) h.blanks in not_blank (next w i) none blanks.0)
 ]
 
 unlike : (a b c : ℕ) → a ≡ b → a ≡ c → (b == c) ≡ false → ⊥
@@ -31,18 +31,18 @@ module _ (w : List ℕ) (h i e j : ℕ) (c : Dimension) (pad : SkipsBlanks w h i
   pub letter_order : i ≤ e
   letter_order = elim letter [ inl q ↦ omega (arith, q.0) | inr (inl q) ↦ omega (arith, q.0) | inr (inr (inl q)) ↦ omega (arith, q.0) | inr (inr (inr q)) ↦ omega (arith, q.0) ]
 
-  pub letter_sound : (d at : ℕ) → Allows c d → Letter d at (part w i e)
+  pub letter_sound : (d at : ℕ) → Allows c d → Letter d at (between w i e)
   letter_sound d at a = go letter where
-    none : (same : e ≡ i) → part w i e ≡ []
-    none same = ap (part w i) same ∙ part-none w i (omega (arith, fits, same))
+    none : (same : e ≡ i) → between w i e ≡ []
+    none same = ap (between w i) same ∙ part-none w i (omega (arith, fits, same))
 
-    one : (same : e ≡ i + 1) → part w i e ≡ next w i ∷ []
-    one same = ap (part w i) same ∙ part-one w i (omega (arith, fits, same))
+    one : (same : e ≡ i + 1) → between w i e ≡ next w i ∷ []
+    one same = ap (between w i) same ∙ part-one w i (omega (arith, fits, same))
 
-    two : (same : e ≡ i + 2) → part w i e ≡ next w i ∷ (next w (i + 1) ∷ [])
-    two same = part-cons w i e (omega (arith, same)) fits ∙ ap (λ z. next w i ∷ z) (ap (part w (i + 1)) (let more : e ≡ (i + 1) + 1 = omega (arith, same) in more) ∙ part-one w (i + 1) (omega (arith, fits, same)))
+    two : (same : e ≡ i + 2) → between w i e ≡ next w i ∷ (next w (i + 1) ∷ [])
+    two same = part-cons w i e (omega (arith, same)) fits ∙ ap (λ z. next w i ∷ z) (ap (between w (i + 1)) (let more : e ≡ (i + 1) + 1 = omega (arith, same) in more) ∙ part-one w (i + 1) (omega (arith, fits, same)))
 
-    go : LetterStands w i e c → Letter d at (part w i e)
+    go : LetterStands w i e c → Letter d at (between w i e)
     go (inl (same, ec, nz, nm)) = let f = subst (λ z. Allows z d) ec a in inl (none same, f.0, f.1)
     go (inr (inl (same, ec, m))) = let f = subst (λ z. Allows z d) ec a in inr (inl (inr (ap str_to_ascii_uppercase (one same) ∙ ap (λ b. b ∷ []) m), f.0))
     go (inr (inr (inl (same, ec, z, m)))) = let f = subst (λ z. Allows z d) ec a in inr (inr (ap str_to_ascii_uppercase (two same) ∙ (ap (λ b. b ∷ (to_ascii_uppercase (next w (i + 1)) ∷ [])) z ∙ ap (λ b. 0x5A ∷ (b ∷ [])) m), f.0))
@@ -51,38 +51,38 @@ module _ (w : List ℕ) (h i e j : ℕ) (c : Dimension) (pad : SkipsBlanks w h i
   low : i ≤ j
   low = omega (arith, letter_order, gap.order)
 
-  joint : part w h j ≡ part w h i ++ part w i j
+  joint : between w h j ≡ between w h i ++ between w i j
   joint = part-part w h i j pad.order low gap.within
 
   -- blanks and the byte behind them
-  tail_blanks : (b2 : List ℕ) (b : ℕ) (x s : List ℕ) → AreBlanks b2 → opens b ≡ true → Ahead w j s → b2 ++ (b ∷ x) ≡ part w e j ++ s → b2 ≡ part w e j
-  tail_blanks b2 b x s hb ob (t, es) f = one_blanks b2 (part w e j) b (next w j) x t hb gap.blanks (opens_no_blank b ob) gap.stops (f ∙ ap (λ z. part w e j ++ z) es)
+  tail_blanks : (b2 : List ℕ) (b : ℕ) (x s : List ℕ) → AreBlanks b2 → opens b ≡ true → Ahead w j s → b2 ++ (b ∷ x) ≡ between w e j ++ s → b2 ≡ between w e j
+  tail_blanks b2 b x s hb ob (t, es) f = one_blanks b2 (between w e j) b (next w j) x t hb gap.blanks (opens_no_blank b ob) gap.stops (f ∙ ap (λ z. between w e j ++ z) es)
 
   module _ (b1 b2 : List ℕ) (b : ℕ) (x s : List ℕ) (hb1 : AreBlanks b1) (hb2 : AreBlanks b2) (ob : opens b ≡ true) (ahead : Ahead w j s) where
-    no_letter : (b1 ++ b2) ++ (b ∷ x) ≡ part w h j ++ s → (d : ℕ) → (2 ≤ d) × (d ≤ 4) → (b1 ++ b2 ≡ part w h j) × Allows c d
+    no_letter : (b1 ++ b2) ++ (b ∷ x) ≡ between w h j ++ s → (d : ℕ) → (2 ≤ d) × (d ≤ 4) → (b1 ++ b2 ≡ between w h j) × Allows c d
     no_letter f d bounds =
         let (t, et, more) = stream w i j s low gap.within ahead in
-        let line : (b1 ++ b2) ++ (b ∷ x) ≡ part w h i ++ (next w i ∷ t) = f ∙ (ap (λ z. z ++ s) joint ∙ (append_assoc (part w h i) (part w i j) s ∙ ap (λ z. part w h i ++ z) et)) in
-        let same : b1 ++ b2 ≡ part w h i = one_blanks (b1 ++ b2) (part w h i) b (next w i) x t (all_both b1 b2 hb1 hb2) pad.blanks (opens_no_blank b ob) pad.stops line in
-        let rest : b ∷ x ≡ next w i ∷ t = append_cancel_left (part w h i) _ _ (ap (λ z. z ++ (b ∷ x)) (sym same) ∙ line) in
+        let line : (b1 ++ b2) ++ (b ∷ x) ≡ between w h i ++ (next w i ∷ t) = f ∙ (ap (λ z. z ++ s) joint ∙ (append_assoc (between w h i) (between w i j) s ∙ ap (λ z. between w h i ++ z) et)) in
+        let same : b1 ++ b2 ≡ between w h i = one_blanks (b1 ++ b2) (between w h i) b (next w i) x t (all_both b1 b2 hb1 hb2) pad.blanks (opens_no_blank b ob) pad.stops line in
+        let rest : b ∷ x ≡ next w i ∷ t = append_cancel_left (between w h i) _ _ (ap (λ z. z ++ (b ∷ x)) (sym same) ∙ line) in
         let byte : b ≡ next w i = cc in
         elim letter [
           | inl (ee, ec, nz, nm) ↦ (
               let stays : j ≡ i = no_gap w i j (subst (λ z. SkipsBlanks w z j) ee gap) pad.stops in
-              (same ∙ ap (part w h) (sym stays), subst (λ z. Allows z d) (sym ec) bounds))
+              (same ∙ ap (between w h) (sym stays), subst (λ z. Allows z d) (sym ec) bounds))
           | inr (inl (ee, ec, m)) ↦ absurd (opens_no_letter b ob (inr (ap to_ascii_uppercase byte ∙ m)))
           | inr (inr (inl (ee, ec, z, m))) ↦ absurd (opens_no_letter b ob (inl (ap to_ascii_uppercase byte ∙ z)))
           | inr (inr (inr (ee, ec, z, m))) ↦ absurd (opens_no_letter b ob (inl (ap to_ascii_uppercase byte ∙ z)))
         ]
 
     -- the first letter is the byte behind the blanks
-    first_letter : (y : ℕ) (r : List ℕ) → no_blank y ≡ true → b1 ++ (y ∷ r) ≡ part w h j ++ s
-        → (b1 ≡ part w h i) × (y ≡ next w i) × (i < j → r ≡ part w (i + 1) j ++ s)
+    first_letter : (y : ℕ) (r : List ℕ) → no_blank y ≡ true → b1 ++ (y ∷ r) ≡ between w h j ++ s
+        → (b1 ≡ between w h i) × (y ≡ next w i) × (i < j → r ≡ between w (i + 1) j ++ s)
     first_letter y r ny f =
         let (t, et, more) = stream w i j s low gap.within ahead in
-        let line : b1 ++ (y ∷ r) ≡ part w h i ++ (next w i ∷ t) = f ∙ (ap (λ z. z ++ s) joint ∙ (append_assoc (part w h i) (part w i j) s ∙ ap (λ z. part w h i ++ z) et)) in
-        let same : b1 ≡ part w h i = one_blanks b1 (part w h i) y (next w i) r t hb1 pad.blanks ny pad.stops line in
-        let rest : y ∷ r ≡ next w i ∷ t = append_cancel_left (part w h i) _ _ (ap (λ z. z ++ (y ∷ r)) (sym same) ∙ line) in
+        let line : b1 ++ (y ∷ r) ≡ between w h i ++ (next w i ∷ t) = f ∙ (ap (λ z. z ++ s) joint ∙ (append_assoc (between w h i) (between w i j) s ∙ ap (λ z. between w h i ++ z) et)) in
+        let same : b1 ≡ between w h i = one_blanks b1 (between w h i) y (next w i) r t hb1 pad.blanks ny pad.stops line in
+        let rest : y ∷ r ≡ next w i ∷ t = append_cancel_left (between w h i) _ _ (ap (λ z. z ++ (y ∷ r)) (sym same) ∙ line) in
         let byte : y ≡ next w i = cc in
         let tails : r ≡ t = cc in
         (same, byte, (λ less. tails ∙ more less))
@@ -94,20 +94,20 @@ module _ (w : List ℕ) (h i e j : ℕ) (c : Dimension) (pad : SkipsBlanks w h i
       go [] hb f = let byte : b ≡ next w (i + 1) = cc in opens_no_letter b ob (inr (ap to_ascii_uppercase byte ∙ m))
       go (y ∷ ys) (hy, hs) f = let byte : y ≡ next w (i + 1) = cc in blank_no_letter y hy (ap to_ascii_uppercase byte ∙ m)
 
-    one_text : (y : ℕ) → b1 ≡ part w h i → y ≡ next w i → e ≡ i + 1 → b2 ≡ part w e j → b1 ++ ((y ∷ []) ++ b2) ≡ part w h j
+    one_text : (y : ℕ) → b1 ≡ between w h i → y ≡ next w i → e ≡ i + 1 → b2 ≡ between w e j → b1 ++ ((y ∷ []) ++ b2) ≡ between w h j
     one_text y f g ee k =
         let less : i < j = omega (arith, ee, gap.order) in
-        ap (λ z. z ++ (y ∷ b2)) f ∙ (ap (λ z. part w h i ++ (z ∷ b2)) g ∙ (ap (λ z. part w h i ++ (next w i ∷ z)) (k ∙ ap (λ z. part w z j) ee) ∙ (ap (λ z. part w h i ++ z) (sym (part-cons w i j less gap.within)) ∙ sym joint)))
+        ap (λ z. z ++ (y ∷ b2)) f ∙ (ap (λ z. between w h i ++ (z ∷ b2)) g ∙ (ap (λ z. between w h i ++ (next w i ∷ z)) (k ∙ ap (λ z. between w z j) ee) ∙ (ap (λ z. between w h i ++ z) (sym (part-cons w i j less gap.within)) ∙ sym joint)))
 
-    one_case : (y : ℕ) (z : ℕ) → to_ascii_uppercase y ≡ z → (z ≡ 0x5A) ⊎ (z ≡ 0x4D) → b1 ++ (y ∷ (b2 ++ (b ∷ x))) ≡ part w h j ++ s → (d : ℕ) → d ≡ 3
-        → (b1 ++ ((y ∷ []) ++ b2) ≡ part w h j) × Allows c d
+    one_case : (y : ℕ) (z : ℕ) → to_ascii_uppercase y ≡ z → (z ≡ 0x5A) ⊎ (z ≡ 0x4D) → b1 ++ (y ∷ (b2 ++ (b ∷ x))) ≡ between w h j ++ s → (d : ℕ) → d ≡ 3
+        → (b1 ++ ((y ∷ []) ++ b2) ≡ between w h j) × Allows c d
     one_case y z up which f d ed =
         let kind : (to_ascii_uppercase y ≡ 0x5A) ⊎ (to_ascii_uppercase y ≡ 0x4D) = elim which [ inl k ↦ inl (up ∙ k) | inr k ↦ inr (up ∙ k) ] in
         let (same, byte, rest) = first_letter y (b2 ++ (b ∷ x)) (letter_no_blank y kind) f in
         let upper : to_ascii_uppercase (next w i) ≡ z = ap to_ascii_uppercase (sym byte) ∙ up in
-        let three : (e ≡ i + 1) → (c ≡ Fixed 3) → (b1 ++ ((y ∷ []) ++ b2) ≡ part w h j) × Allows c d = (λ ee ec.
+        let three : (e ≡ i + 1) → (c ≡ Fixed 3) → (b1 ++ ((y ∷ []) ++ b2) ≡ between w h j) × Allows c d = (λ ee ec.
         let less : i < j = omega (arith, ee, gap.order) in
-        let tail : b2 ++ (b ∷ x) ≡ part w e j ++ s = rest less ∙ ap (λ z. part w z j ++ s) (sym ee) in
+        let tail : b2 ++ (b ∷ x) ≡ between w e j ++ s = rest less ∙ ap (λ z. between w z j ++ s) (sym ee) in
         (one_text y same byte ee (tail_blanks b2 b x s hb2 ob ahead tail), subst (λ z. Allows z d) (sym ec) (ed, omega (arith, ed), omega (arith, ed)))) in
         elim letter [
           | inl (ee, ec, nz, nm) ↦ absurd (elim which [ inl k ↦ nz (upper ∙ k) | inr k ↦ nm (upper ∙ k) ])
@@ -115,12 +115,12 @@ module _ (w : List ℕ) (h i e j : ℕ) (c : Dimension) (pad : SkipsBlanks w h i
           | inr (inr (inl (ee, ec, zz, m))) ↦ absurd (
               let less : i + 1 < j = omega (arith, ee, gap.order) in
               let two : i < j = omega arith in
-              behind_one (part w ((i + 1) + 1) j ++ s) (rest two ∙ ap (λ z. z ++ s) (part-cons w (i + 1) j less gap.within)) m)
+              behind_one (between w ((i + 1) + 1) j ++ s) (rest two ∙ ap (λ z. z ++ s) (part-cons w (i + 1) j less gap.within)) m)
           | inr (inr (inr (ee, ec, zz, m))) ↦ three ee ec
         ]
 
-    two_case : (y z : ℕ) → to_ascii_uppercase y ≡ 0x5A → to_ascii_uppercase z ≡ 0x4D → b1 ++ (y ∷ (z ∷ (b2 ++ (b ∷ x)))) ≡ part w h j ++ s → (d : ℕ) → d ≡ 4
-        → (b1 ++ ((y ∷ (z ∷ [])) ++ b2) ≡ part w h j) × Allows c d
+    two_case : (y z : ℕ) → to_ascii_uppercase y ≡ 0x5A → to_ascii_uppercase z ≡ 0x4D → b1 ++ (y ∷ (z ∷ (b2 ++ (b ∷ x)))) ≡ between w h j ++ s → (d : ℕ) → d ≡ 4
+        → (b1 ++ ((y ∷ (z ∷ [])) ++ b2) ≡ between w h j) × Allows c d
     two_case y z uy uz f d ed =
         let (same, byte, rest) = first_letter y (z ∷ (b2 ++ (b ∷ x))) (letter_no_blank y (inl uy)) f in
         let upper : to_ascii_uppercase (next w i) ≡ 0x5A = ap to_ascii_uppercase (sym byte) ∙ uy in
@@ -130,34 +130,34 @@ module _ (w : List ℕ) (h i e j : ℕ) (c : Dimension) (pad : SkipsBlanks w h i
           | inr (inr (inl (ee, ec, zz, m))) ↦ (
               let less : i + 1 < j = omega (arith, ee, gap.order) in
               let two : i < j = omega arith in
-              let line : z ∷ (b2 ++ (b ∷ x)) ≡ next w (i + 1) ∷ (part w ((i + 1) + 1) j ++ s) = rest two ∙ ap (λ z. z ++ s) (part-cons w (i + 1) j less gap.within) in
+              let line : z ∷ (b2 ++ (b ∷ x)) ≡ next w (i + 1) ∷ (between w ((i + 1) + 1) j ++ s) = rest two ∙ ap (λ z. z ++ s) (part-cons w (i + 1) j less gap.within) in
               let second : z ≡ next w (i + 1) = cc in
               let there : (i + 1) + 1 ≡ e = omega (arith, ee) in
-              let tails : b2 ++ (b ∷ x) ≡ part w ((i + 1) + 1) j ++ s = cc in
-              let tail : b2 ++ (b ∷ x) ≡ part w e j ++ s = tails ∙ ap (λ z. part w z j ++ s) there in
-              let blanks : b2 ≡ part w e j = tail_blanks b2 b x s hb2 ob ahead tail in (
-                ap (λ u. u ++ (y ∷ (z ∷ b2))) same ∙ (ap (λ u. part w h i ++ (u ∷ (z ∷ b2))) byte ∙ (ap (λ u. part w h i ++ (next w i ∷ (u ∷ b2))) second
-                    ∙ (ap (λ u. part w h i ++ (next w i ∷ (next w (i + 1) ∷ u))) (blanks ∙ ap (λ z. part w z j) (sym there))
-                    ∙ (ap (λ u. part w h i ++ (next w i ∷ u)) (sym (part-cons w (i + 1) j less gap.within)) ∙ (ap (λ u. part w h i ++ u) (sym (part-cons w i j two gap.within)) ∙ sym joint))))),
+              let tails : b2 ++ (b ∷ x) ≡ between w ((i + 1) + 1) j ++ s = cc in
+              let tail : b2 ++ (b ∷ x) ≡ between w e j ++ s = tails ∙ ap (λ z. between w z j ++ s) there in
+              let blanks : b2 ≡ between w e j = tail_blanks b2 b x s hb2 ob ahead tail in (
+                ap (λ u. u ++ (y ∷ (z ∷ b2))) same ∙ (ap (λ u. between w h i ++ (u ∷ (z ∷ b2))) byte ∙ (ap (λ u. between w h i ++ (next w i ∷ (u ∷ b2))) second
+                    ∙ (ap (λ u. between w h i ++ (next w i ∷ (next w (i + 1) ∷ u))) (blanks ∙ ap (λ z. between w z j) (sym there))
+                    ∙ (ap (λ u. between w h i ++ (next w i ∷ u)) (sym (part-cons w (i + 1) j less gap.within)) ∙ (ap (λ u. between w h i ++ u) (sym (part-cons w i j two gap.within)) ∙ sym joint))))),
                 subst (λ z. Allows z d) (sym ec) (ed, omega (arith, ed), omega (arith, ed)),
               ))
           | inr (inr (inr (ee, ec, zz, m))) ↦ absurd (elim (same_or_less (i + 1) j (omega (arith, ee, gap.order))) [
             | inl last ↦ (
                 let (t, es) = ahead in
                 let two : i < j = omega (arith, last) in
-                let line : z ∷ (b2 ++ (b ∷ x)) ≡ next w (i + 1) ∷ t = rest two ∙ (ap (λ u. part w (i + 1) u ++ s) (sym last) ∙ (ap (λ u. u ++ s) (part-none w (i + 1) (omega (arith, last, gap.within))) ∙ (es ∙ ap (λ u. next w u ∷ t) (sym last)))) in
+                let line : z ∷ (b2 ++ (b ∷ x)) ≡ next w (i + 1) ∷ t = rest two ∙ (ap (λ u. between w (i + 1) u ++ s) (sym last) ∙ (ap (λ u. u ++ s) (part-none w (i + 1) (omega (arith, last, gap.within))) ∙ (es ∙ ap (λ u. next w u ∷ t) (sym last)))) in
                 let second : z ≡ next w (i + 1) = cc in
                 m (ap to_ascii_uppercase (sym second) ∙ uz))
             | inr less ↦ (
                 let two : i < j = omega arith in
-                let line : z ∷ (b2 ++ (b ∷ x)) ≡ next w (i + 1) ∷ (part w ((i + 1) + 1) j ++ s) = rest two ∙ ap (λ z. z ++ s) (part-cons w (i + 1) j less gap.within) in
+                let line : z ∷ (b2 ++ (b ∷ x)) ≡ next w (i + 1) ∷ (between w ((i + 1) + 1) j ++ s) = rest two ∙ ap (λ z. z ++ s) (part-cons w (i + 1) j less gap.within) in
                 let second : z ≡ next w (i + 1) = cc in
                 m (ap to_ascii_uppercase (sym second) ∙ uz))
           ])
         ]
 
     -- blanks, a letter or none, and blanks that agree with the text are those that stand there
-    pub letter_agrees : (d at : ℕ) (l : List ℕ) → Letter d at l → b1 ++ (l ++ (b2 ++ (b ∷ x))) ≡ part w h j ++ s → (b1 ++ (l ++ b2) ≡ part w h j) × Allows c d
+    pub letter_agrees : (d at : ℕ) (l : List ℕ) → Letter d at l → b1 ++ (l ++ (b2 ++ (b ∷ x))) ≡ between w h j ++ s → (b1 ++ (l ++ b2) ≡ between w h j) × Allows c d
     letter_agrees d at l (inl (none, two, four)) f =
         let (same, a) = no_letter (append_assoc b1 b2 (b ∷ x) ∙ (ap (λ z. b1 ++ (z ++ (b2 ++ (b ∷ x)))) (sym none) ∙ f)) d (two, four) in (ap (λ z. b1 ++ (z ++ b2)) none ∙ same, a)
     letter_agrees d at l (inr (inl (inl z, ed))) f =
@@ -189,21 +189,21 @@ module _ {Y : Type 0} (Q : ℕ → Y → ℕ → List ℕ → Type 0) (begins : 
   middle : i ≤ e
   middle = letter_order w h i e j c pad letter fits gap
 
-  goes : (d : ℕ) (y : Y) (r : List ℕ) → Allows c d → Q d y (base + j) r → (Many is_blank ▸ (Letter d ▸ (Many is_blank ▸ Q d y))) (base + h) (part w h j ++ r)
+  goes : (d : ℕ) (y : Y) (r : List ℕ) → Allows c d → Q d y (base + j) r → (Many is_blank ▸ (Letter d ▸ (Many is_blank ▸ Q d y))) (base + h) (between w h j ++ r)
   goes d y r a q =
-      let text : part w h j ++ r ≡ part w h i ++ (part w i e ++ (part w e j ++ r)) =
-      ap (λ z. z ++ r) (part-part w h i j pad.order (omega (arith, middle, gap.order)) gap.within ∙ ap (λ z. part w h i ++ z) (part-part w i e j middle gap.order gap.within))
-      ∙ (append_assoc (part w h i) (part w i e ++ part w e j) r ∙ ap (λ z. part w h i ++ z) (append_assoc (part w i e) (part w e j) r)) in
-      let place : base + j ≡ (((base + h) + length (part w h i)) + length (part w i e)) + length (part w e j) =
+      let text : between w h j ++ r ≡ between w h i ++ (between w i e ++ (between w e j ++ r)) =
+      ap (λ z. z ++ r) (part-part w h i j pad.order (omega (arith, middle, gap.order)) gap.within ∙ ap (λ z. between w h i ++ z) (part-part w i e j middle gap.order gap.within))
+      ∙ (append_assoc (between w h i) (between w i e ++ between w e j) r ∙ ap (λ z. between w h i ++ z) (append_assoc (between w i e) (between w e j) r)) in
+      let place : base + j ≡ (((base + h) + length (between w h i)) + length (between w i e)) + length (between w e j) =
       omega (arith, part-length w h i pad.order pad.within, part-length w i e middle fits, part-length w e j gap.order gap.within) in
-      (part w h i, part w i e ++ (part w e j ++ r), text, pad.blanks, (part w i e, part w e j ++ r, refl, letter_sound w h i e j c pad letter fits gap d 0 a, (part w e j, r, refl, gap.blanks, subst (λ o. Q d y o r) place q)))
+      (between w h i, between w i e ++ (between w e j ++ r), text, pad.blanks, (between w i e, between w e j ++ r, refl, letter_sound w h i e j c pad letter fits gap d 0 a, (between w e j, r, refl, gap.blanks, subst (λ o. Q d y o r) place q)))
 
-  comes : (d : ℕ) (y : Y) (v r s : List ℕ) → (Many is_blank ▸ (Letter d ▸ (Many is_blank ▸ Q d y))) (base + h) v → Ahead w j s → v ++ r ≡ part w h j ++ s
-      → (u : List ℕ) × (v ≡ part w h j ++ u) × Q d y (base + j) u × Allows c d
+  comes : (d : ℕ) (y : Y) (v r s : List ℕ) → (Many is_blank ▸ (Letter d ▸ (Many is_blank ▸ Q d y))) (base + h) v → Ahead w j s → v ++ r ≡ between w h j ++ s
+      → (u : List ℕ) × (v ≡ between w h j ++ u) × Q d y (base + j) u × Allows c d
   comes d y v r s (b1, r1, e1, hb1, (l, r2, e2, hl, (b2, u, e3, hb2, q))) ahead f =
       let (b, x, eu, ob) = begins d y _ u q in
       let whole : v ≡ b1 ++ (l ++ (b2 ++ u)) = e1 ∙ ap (λ z. b1 ++ z) (e2 ∙ ap (λ z. l ++ z) e3) in
-      let line : b1 ++ (l ++ (b2 ++ (b ∷ (x ++ r)))) ≡ part w h j ++ s =
+      let line : b1 ++ (l ++ (b2 ++ (b ∷ (x ++ r)))) ≡ between w h j ++ s =
       sym (ap (λ z. z ++ r) whole ∙ (append_assoc b1 (l ++ (b2 ++ u)) r ∙ ap (λ z. b1 ++ z) (append_assoc l (b2 ++ u) r ∙ ap (λ z. l ++ z) (append_assoc b2 u r ∙ ap (λ z. b2 ++ (z ++ r)) eu)))) ∙ f in
       let (same, a) = letter_agrees w h i e j c pad letter fits gap b1 b2 b (x ++ r) s hb1 hb2 ob ahead d 0 l hl line in
       let regroup : b1 ++ (l ++ (b2 ++ u)) ≡ (b1 ++ (l ++ b2)) ++ u = sym (append_assoc b1 (l ++ b2) u ∙ ap (λ z. b1 ++ z) (append_assoc l b2 u)) in
@@ -214,36 +214,36 @@ module _ {Y : Type 0} (Q : ℕ → Y → ℕ → List ℕ → Type 0) (begins : 
   pub letter_encloses : Encloses (Lettered Q) Q base w h j c (λ y. y)
   letter_encloses = record {
     spelt = λ k c' y q.
-        let joint : part w h k ≡ part w h j ++ part w j k = part-part w h j k order q.order q.within in
+        let joint : between w h k ≡ between w h j ++ between w j k = part-part w h j k order q.order q.within in
         let small : h ≤ k = omega (arith, order, q.order) in
         record {
           order = small;
           within = q.within;
           some = (2, (lit≤ tt, lit≤ tt));
           narrows = λ d a. a;
-          sound = λ d0 a0. let (d, a) = q.some in (d, subst ((Many is_blank ▸ (Letter d ▸ (Many is_blank ▸ Q d y))) (base + h)) (sym joint) (goes d y (part w j k) (q.narrows d a) (q.sound d a)));
+          sound = λ d0 a0. let (d, a) = q.some in (d, subst ((Many is_blank ▸ (Letter d ▸ (Many is_blank ▸ Q d y))) (base + h)) (sym joint) (goes d y (between w j k) (q.narrows d a) (q.sound d a)));
           only = λ d0 y' v r s a0 (d, p) f.
               let (d1, a1) = q.some in
-              let (b, t, eb, ob) = begins d1 y (base + j) (part w j k) (q.sound d1 a1) in
+              let (b, t, eb, ob) = begins d1 y (base + j) (between w j k) (q.sound d1 a1) in
               let long : j < k = omega (arith, part-length w j k q.order q.within, ap length eb) in
-              let split : v ++ r ≡ part w h j ++ (part w j k ++ s) = f ∙ (ap (λ z. z ++ s) joint ∙ append_assoc (part w h j) (part w j k) s) in
-              let (u, ev, q', a') = comes d y' v r (part w j k ++ s) p (part w (j + 1) k ++ s, ap (λ z. z ++ s) (part-cons w j k long q.within)) split in
-              let rest : u ++ r ≡ part w j k ++ s = append_cancel_left (part w h j) (u ++ r) (part w j k ++ s) (sym (append_assoc (part w h j) u r) ∙ (ap (λ z. z ++ r) (sym ev) ∙ split)) in
+              let split : v ++ r ≡ between w h j ++ (between w j k ++ s) = f ∙ (ap (λ z. z ++ s) joint ∙ append_assoc (between w h j) (between w j k) s) in
+              let (u, ev, q', a') = comes d y' v r (between w j k ++ s) p (between w (j + 1) k ++ s, ap (λ z. z ++ s) (part-cons w j k long q.within)) split in
+              let rest : u ++ r ≡ between w j k ++ s = append_cancel_left (between w h j) (u ++ r) (between w j k ++ s) (sym (append_assoc (between w h j) u r) ∙ (ap (λ z. z ++ r) (sym ev) ∙ split)) in
               let (ey, eu, a'') = q.only d y' u r s a' q' rest in
-              (ey, ev ∙ (ap (λ z. part w h j ++ z) eu ∙ sym joint), a0);
+              (ey, ev ∙ (ap (λ z. between w h j ++ z) eu ∙ sym joint), a0);
         };
     stuck = λ n q.
-        let joint : part w h n ≡ part w h j ++ part w j n = part-part w h j n order q.order q.within in
+        let joint : between w h n ≡ between w h j ++ between w j n = part-part w h j n order q.order q.within in
         let small : h ≤ n = omega (arith, order, q.order) in
         record {
           order = small;
           within = q.within;
           viable = (let (d, y, more, a, p) = q.viable in
-              (2, y, more, (lit≤ tt, lit≤ tt), (d, subst ((Many is_blank ▸ (Letter d ▸ (Many is_blank ▸ Q d y))) (base + h)) (sym (ap (λ z. z ++ more) joint ∙ append_assoc (part w h j) (part w j n) more)) (goes d y (part w j n ++ more) a p))));
+              (2, y, more, (lit≤ tt, lit≤ tt), (d, subst ((Many is_blank ▸ (Letter d ▸ (Many is_blank ▸ Q d y))) (base + h)) (sym (ap (λ z. z ++ more) joint ∙ append_assoc (between w h j) (between w j n) more)) (goes d y (between w j n ++ more) a p))));
           dead = λ d0 y' v r s a0 (d, p) f.
-              let split : v ++ r ≡ part w h j ++ (part w j n ++ (next w n ∷ s)) = f ∙ (ap (λ z. z ++ (next w n ∷ s)) joint ∙ append_assoc (part w h j) (part w j n) (next w n ∷ s)) in
-              let (u, ev, q', a') = comes d y' v r (part w j n ++ (next w n ∷ s)) p (ahead_stuck w j n s q.order q.within (same_or_less j n q.order)) split in
-              let rest : u ++ r ≡ part w j n ++ (next w n ∷ s) = append_cancel_left (part w h j) (u ++ r) (part w j n ++ (next w n ∷ s)) (sym (append_assoc (part w h j) u r) ∙ (ap (λ z. z ++ r) (sym ev) ∙ split)) in
+              let split : v ++ r ≡ between w h j ++ (between w j n ++ (next w n ∷ s)) = f ∙ (ap (λ z. z ++ (next w n ∷ s)) joint ∙ append_assoc (between w h j) (between w j n) (next w n ∷ s)) in
+              let (u, ev, q', a') = comes d y' v r (between w j n ++ (next w n ∷ s)) p (ahead_stuck w j n s q.order q.within (same_or_less j n q.order)) split in
+              let rest : u ++ r ≡ between w j n ++ (next w n ∷ s) = append_cancel_left (between w h j) (u ++ r) (between w j n ++ (next w n ∷ s)) (sym (append_assoc (between w h j) u r) ∙ (ap (λ z. z ++ r) (sym ev) ∙ split)) in
               q.dead d y' u r s a' q' rest;
         };
   }

@@ -6,11 +6,11 @@ use Rattle.std.proofs.lemmas.List.{get_or-take, get_or_past, take-take}
 use Rattle.at_wkt.specs.declared.dimension.Dimension.{Dimension}
 use Rattle.at_wkt.specs.Geometry.{is_blank}
 use Rattle.at_wkt.specs.Lines.{without_return}
-use Rattle.at_fixed.specs.Kept.{part}
+use Rattle.at_fixed.specs.Kept.{between}
 use Rattle.at_wkt.specs.Readers.{SkipsBlanks, Spelt}
 use Rattle.at_wkt.proofs.Steps.{AreBlanks}
 
-part_within : (w : List ℕ) (e i j : ℕ) → j ≤ e → part (take e w) i j ≡ part w i j
+part_within : (w : List ℕ) (e i j : ℕ) → j ≤ e → between (take e w) i j ≡ between w i j
 part_within w e i j near = ap (drop i) (take-take j e w near)
 
 module _ (w : List ℕ) (e : ℕ) (inside : e ≤ length w) where
@@ -30,7 +30,7 @@ module _ (w : List ℕ) (e : ℕ) (inside : e ≤ length w) where
 
   pub spelt_within : {X : Type 0} {P : ℕ → X → ℕ → List ℕ → Type 0} {base : ℕ} (i j : ℕ) {c d : Dimension} {x : X} → Spelt P base w i c j d x → j ≤ e → Spelt P base (take e w) i c j d x
   spelt_within {X} {P} {base} i j {c} {d} {x} h near =
-      let same : part w i j ≡ part (take e w) i j = sym (part_within w e i j near) in
+      let same : between w i j ≡ between (take e w) i j = sym (part_within w e i j near) in
       record {
         order = h.order;
         within = omega (arith, front_length, near);

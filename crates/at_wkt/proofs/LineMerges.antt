@@ -6,7 +6,7 @@ use Rattle.std.proofs.Math.Seq.{take-add, take-append_seam, drop-append_seam}
 use Rattle.std.proofs.lemmas.List.{map-append, take-append-drop}
 use Rattle.at_text.specs.declared.texts.Span.{Span}
 use Rattle.at_text.specs.Texts.{base_of, byte_order_mark}
-use Rattle.at_text.specs.Spans.{part_of, AreNeighbours}
+use Rattle.at_text.specs.Spans.{span_of, AreNeighbours}
 use Rattle.at_wkt.specs.Lines.{FileLine, pieces_from, is_line_feed, line_of, is_blank_text, lines_in}
 use Rattle.at_wkt.specs.declared.fragments.WholeLines.{WholeLines}
 use Rattle.at_wkt.specs.declared.fragments.Inner.{Inner}
@@ -42,8 +42,8 @@ lines_around ps p qs = lines_in-append ps (p ∷ qs) ∙ (ap (λ z. lines_in ps 
 pub record HasPiece (bytes : List ℕ) (span : Span) (p : FileLine) : Type 0 where
   pub order : span.from ≤ span.to
   pub within : span.to ≤ length bytes
-  pub one : list_any is_line_feed (part_of bytes span.from span.to) ≡ false
-  pub line : record { at = span.from; text = part_of bytes span.from span.to } ≡ p
+  pub one : list_any is_line_feed (span_of bytes span.from span.to) ≡ false
+  pub line : record { at = span.from; text = span_of bytes span.from span.to } ≡ p
 
 text_at : (d front text rest more : List ℕ) → d ≡ (front ++ (text ++ rest)) ++ more → take (length text) (drop (length front) d) ≡ text
 text_at d front text rest more e =
@@ -57,36 +57,36 @@ span_has bytes u more i span p inside e h (from, to) =
     let size : length (drop i bytes) ≡ length h.front + length p.text + length h.rest + length more = ap length all ∙ (length-append (h.front ++ (p.text ++ h.rest)) more ∙ omega (arith, length-append h.front (p.text ++ h.rest), length-append p.text h.rest)) in
     let start : span.from ≡ i + length h.front = from ∙ h.place in
     let width : span.to - span.from ≡ length p.text = omega (arith, from, to) in
-    let text : part_of bytes span.from span.to ≡ p.text =
+    let text : span_of bytes span.from span.to ≡ p.text =
     ap (λ n. take n (drop span.from bytes)) width ∙ (ap (λ n. take (length p.text) (drop n bytes)) start ∙ (ap (take (length p.text)) (sym (drop-drop (length h.front) i bytes)) ∙ text_at (drop i bytes) h.front p.text h.rest more all)) in
     record {
       order = omega (arith, from, to);
       within = omega (arith, size, length-drop i bytes, start, to, from);
       one = ap (list_any is_line_feed) text ∙ h.one;
-      line = ap (λ n. record { at = n; text = part_of bytes span.from span.to }) from ∙ ap (λ z. record { at = p.at; text = z }) text;
+      line = ap (λ n. record { at = n; text = span_of bytes span.from span.to }) from ∙ ap (λ z. record { at = p.at; text = z }) text;
     }
 
 -- ---- neighbouring parts of bytes
 
-pub length-part_of : (bytes : List ℕ) (i k : ℕ) → i ≤ k → k ≤ length bytes → i + length (part_of bytes i k) ≡ k
-length-part_of bytes i k h g = omega (arith, length-take (k - i) (drop i bytes), length-drop i bytes)
+pub length-span_of : (bytes : List ℕ) (i k : ℕ) → i ≤ k → k ≤ length bytes → i + length (span_of bytes i k) ≡ k
+length-span_of bytes i k h g = omega (arith, length-take (k - i) (drop i bytes), length-drop i bytes)
 
-pub part_of-joined : (bytes : List ℕ) (i j k : ℕ) → i ≤ j → j ≤ k → part_of bytes i k ≡ part_of bytes i j ++ part_of bytes j k
-part_of-joined bytes i j k h g =
+pub span_of-joined : (bytes : List ℕ) (i j k : ℕ) → i ≤ j → j ≤ k → span_of bytes i k ≡ span_of bytes i j ++ span_of bytes j k
+span_of-joined bytes i j k h g =
     let width : k - i ≡ (j - i) + (k - j) = omega arith in
     let place : i + (j - i) ≡ j = omega arith in
     ap (λ n. take n (drop i bytes)) width ∙ (take-add (j - i) (k - j) (drop i bytes)
-    ∙ ap (λ z. part_of bytes i j ++ take (k - j) z) (drop-drop (j - i) i bytes ∙ ap (λ n. drop n bytes) place))
+    ∙ ap (λ z. span_of bytes i j ++ take (k - j) z) (drop-drop (j - i) i bytes ∙ ap (λ n. drop n bytes) place))
 
 -- what stands behind i is the part up to k, and the rest
-part_more : (bytes : List ℕ) (i k : ℕ) → i ≤ k → drop i bytes ≡ part_of bytes i k ++ drop (k - i) (drop i bytes)
+part_more : (bytes : List ℕ) (i k : ℕ) → i ≤ k → drop i bytes ≡ span_of bytes i k ++ drop (k - i) (drop i bytes)
 part_more bytes i k h = sym (take-append-drop (k - i) (drop i bytes))
 
 -- the pieces of both parts
-pub pieces_both : (bytes : List ℕ) (i j k : ℕ) → i ≤ j → j ≤ k → k ≤ length bytes → pieces_from i (part_of bytes i k) ≡ glued (pieces_from i (part_of bytes i j)) (pieces_from j (part_of bytes j k))
+pub pieces_both : (bytes : List ℕ) (i j k : ℕ) → i ≤ j → j ≤ k → k ≤ length bytes → pieces_from i (span_of bytes i k) ≡ glued (pieces_from i (span_of bytes i j)) (pieces_from j (span_of bytes j k))
 pieces_both bytes i j k h g l =
-    ap (pieces_from i) (part_of-joined bytes i j k h g) ∙ (pieces_joined i (part_of bytes i j) (part_of bytes j k)
-    ∙ ap (λ n. glued (pieces_from i (part_of bytes i j)) (pieces_from n (part_of bytes j k))) (length-part_of bytes i j h (omega arith)))
+    ap (pieces_from i) (span_of-joined bytes i j k h g) ∙ (pieces_joined i (span_of bytes i j) (span_of bytes j k)
+    ∙ ap (λ n. glued (pieces_from i (span_of bytes i j)) (pieces_from n (span_of bytes j k))) (length-span_of bytes i j h (omega arith)))
 
 -- where the text begins is in the bytes
 marked_within : (bytes mark : List ℕ) → starts_with nat_eq bytes mark ≡ true → length mark ≤ length bytes
@@ -116,44 +116,44 @@ module _ {P : Type 0} (IsOwn : P → Type 0) (IsFold : P → List FileLine → T
         let P2 : LineFragment P → Type 0 = λ z. AreNeighbours (StandsFor IsKept) bytes i j k c z in
         subst P2 f (subst P1 e h)
 
-    pub pieces_merged : (left right both : Span) → AreNeighbours (StandsFor IsKept) bytes i j k (Piece left) (Piece right) → both.from ≡ left.from → both.to ≡ right.to → HoldsPiece i (part_of bytes i k) both
+    pub pieces_merged : (left right both : Span) → AreNeighbours (StandsFor IsKept) bytes i j k (Piece left) (Piece right) → both.from ≡ left.from → both.to ≡ right.to → HoldsPiece i (span_of bytes i k) both
     pieces_merged left right both (h, g, l, (p, (pf, pt)), (q, (qf, qt))) ef et =
-        let size = length-part_of bytes i k (omega arith) l in
-        let far = length-part_of bytes j k g l in (
-          pieces_both bytes i j k h g l ∙ (ap (λ z. glued z (pieces_from j (part_of bytes j k))) p ∙ (ap (glued (record { at = i; text = part_of bytes i j } ∷ [])) q
-              ∙ ap (λ z. record { at = i; text = z } ∷ []) (sym (part_of-joined bytes i j k h g)))),
+        let size = length-span_of bytes i k (omega arith) l in
+        let far = length-span_of bytes j k g l in (
+          pieces_both bytes i j k h g l ∙ (ap (λ z. glued z (pieces_from j (span_of bytes j k))) p ∙ (ap (glued (record { at = i; text = span_of bytes i j } ∷ [])) q
+              ∙ ap (λ z. record { at = i; text = z } ∷ []) (sym (span_of-joined bytes i j k h g)))),
           (ef ∙ pf, et ∙ (qt ∙ (far ∙ sym size))),
         )
 
     pub piece_lines_merged : (left : Span) (right : WholeLines P) (before : Span) → AreNeighbours (StandsFor IsKept) bytes i j k (Piece left) (Lines right) → before.from ≡ left.from → before.to ≡ right.before.to
-        → HoldsLines IsKept i (part_of bytes i k) (record { before = before; part = right.part; behind = right.behind })
+        → HoldsLines IsKept i (span_of bytes i k) (record { before = before; part = right.part; behind = right.behind })
     piece_lines_merged left right before (h, g, l, (p, (pf, pt)), r) ef et =
-        let near = length-part_of bytes i j h (omega arith) in
-        let begins = first_begins j (part_of bytes j k) r.first (r.inner ++ (r.last ∷ [])) r.pieces in
-        let size = length-append (part_of bytes i j) r.first.text in
+        let near = length-span_of bytes i j h (omega arith) in
+        let begins = first_begins j (span_of bytes j k) r.first (r.inner ++ (r.last ∷ [])) r.pieces in
+        let size = length-append (span_of bytes i j) r.first.text in
         let ends = r.before.1 in
         record {
-          first = record { at = i; text = part_of bytes i j ++ r.first.text };
+          first = record { at = i; text = span_of bytes i j ++ r.first.text };
           inner = r.inner;
           last = r.last;
-          pieces = pieces_both bytes i j k h g l ∙ (ap (λ z. glued z (pieces_from j (part_of bytes j k))) p ∙ ap (glued (record { at = i; text = part_of bytes i j } ∷ [])) r.pieces);
+          pieces = pieces_both bytes i j k h g l ∙ (ap (λ z. glued z (pieces_from j (span_of bytes j k))) p ∙ ap (glued (record { at = i; text = span_of bytes i j } ∷ [])) r.pieces);
           before = (ef ∙ pf, omega (arith, et, ends, begins, size, near));
           kept = r.kept;
           behind = r.behind;
         }
 
     pub lines_piece_merged : (left : WholeLines P) (right : Span) (behind : Span) → AreNeighbours (StandsFor IsKept) bytes i j k (Lines left) (Piece right) → behind.from ≡ left.behind.from → behind.to ≡ right.to
-        → HoldsLines IsKept i (part_of bytes i k) (record { before = left.before; part = left.part; behind = behind })
+        → HoldsLines IsKept i (span_of bytes i k) (record { before = left.before; part = left.part; behind = behind })
     lines_piece_merged left right behind (h, g, l, r, (q, (qf, qt))) ef et =
-        let near = length-part_of bytes i j h (omega arith) in
-        let ends = last_ends i (part_of bytes i j) (r.first ∷ r.inner) r.last r.pieces in
-        let size = length-append r.last.text (part_of bytes j k) in
+        let near = length-span_of bytes i j h (omega arith) in
+        let ends = last_ends i (span_of bytes i j) (r.first ∷ r.inner) r.last r.pieces in
+        let size = length-append r.last.text (span_of bytes j k) in
         record {
           first = r.first;
           inner = r.inner;
-          last = record { at = r.last.at; text = r.last.text ++ part_of bytes j k };
-          pieces = pieces_both bytes i j k h g l ∙ (ap (λ z. glued z (pieces_from j (part_of bytes j k))) r.pieces ∙ (ap (glued ((r.first ∷ r.inner) ++ (r.last ∷ []))) q
-              ∙ glued_end (r.first ∷ r.inner) r.last (record { at = j; text = part_of bytes j k }) []));
+          last = record { at = r.last.at; text = r.last.text ++ span_of bytes j k };
+          pieces = pieces_both bytes i j k h g l ∙ (ap (λ z. glued z (pieces_from j (span_of bytes j k))) r.pieces ∙ (ap (glued ((r.first ∷ r.inner) ++ (r.last ∷ []))) q
+              ∙ glued_end (r.first ∷ r.inner) r.last (record { at = j; text = span_of bytes j k }) []));
           before = r.before;
           kept = r.kept;
           behind = (ef ∙ r.behind.0, omega (arith, et, qt, ends, size, near));
@@ -161,33 +161,33 @@ module _ {P : Type 0} (IsOwn : P → Type 0) (IsFold : P → List FileLine → T
 
     -- two with lines: the line that lies in both
     module _ (left right : WholeLines P) (n : AreNeighbours (StandsFor IsKept) bytes i j k (Lines left) (Lines right)) where
-      abbrev hl : HoldsLines IsKept i (part_of bytes i j) left
+      abbrev hl : HoldsLines IsKept i (span_of bytes i j) left
       hl = n.3
 
-      abbrev hr : HoldsLines IsKept j (part_of bytes j k) right
+      abbrev hr : HoldsLines IsKept j (span_of bytes j k) right
       hr = n.4
 
       abbrev broken : FileLine
       broken = record { at = hl.last.at; text = hl.last.text ++ hr.first.text }
 
-      both_pieces : pieces_from i (part_of bytes i k) ≡ (hl.first ∷ hl.inner) ++ (broken ∷ (hr.inner ++ (hr.last ∷ [])))
-      both_pieces = pieces_both bytes i j k n.0 n.1 n.2 ∙ (ap (λ z. glued z (pieces_from j (part_of bytes j k))) hl.pieces ∙ (ap (glued ((hl.first ∷ hl.inner) ++ (hl.last ∷ []))) hr.pieces
+      both_pieces : pieces_from i (span_of bytes i k) ≡ (hl.first ∷ hl.inner) ++ (broken ∷ (hr.inner ++ (hr.last ∷ [])))
+      both_pieces = pieces_both bytes i j k n.0 n.1 n.2 ∙ (ap (λ z. glued z (pieces_from j (span_of bytes j k))) hl.pieces ∙ (ap (glued ((hl.first ∷ hl.inner) ++ (hl.last ∷ []))) hr.pieces
           ∙ glued_end (hl.first ∷ hl.inner) hl.last hr.first (hr.inner ++ (hr.last ∷ []))))
 
       pub broken_has : (span : Span) → span.from ≡ left.behind.from → span.to ≡ right.before.to → HasPiece bytes span broken
       broken_has span ef et =
-          let ends = last_ends i (part_of bytes i j) (hl.first ∷ hl.inner) hl.last hl.pieces in
-          let near : i + length (part_of bytes i j) ≡ j = length-part_of bytes i j n.0 (omega (arith, n.1, n.2)) in
-          let begins = first_begins j (part_of bytes j k) hr.first (hr.inner ++ (hr.last ∷ [])) hr.pieces in
+          let ends = last_ends i (span_of bytes i j) (hl.first ∷ hl.inner) hl.last hl.pieces in
+          let near : i + length (span_of bytes i j) ≡ j = length-span_of bytes i j n.0 (omega (arith, n.1, n.2)) in
+          let begins = first_begins j (span_of bytes j k) hr.first (hr.inner ++ (hr.last ∷ [])) hr.pieces in
           let size = length-append hl.last.text hr.first.text in
-          span_has bytes (part_of bytes i k) (drop (k - i) (drop i bytes)) i span broken (omega (arith, n.0, n.1, n.2)) (part_more bytes i k (omega (arith, n.0, n.1)))
-          (piece_of i (part_of bytes i k) (hl.first ∷ hl.inner) broken (hr.inner ++ (hr.last ∷ [])) both_pieces)
+          span_has bytes (span_of bytes i k) (drop (k - i) (drop i bytes)) i span broken (omega (arith, n.0, n.1, n.2)) (part_more bytes i k (omega (arith, n.0, n.1)))
+          (piece_of i (span_of bytes i k) (hl.first ∷ hl.inner) broken (hr.inner ++ (hr.last ∷ [])) both_pieces)
           (ef ∙ hl.behind.0, omega (arith, et, hr.before.1, begins, ends, near, size))
 
       pub lines_merged : (span : Span) → span.from ≡ left.behind.from → span.to ≡ right.before.to → (added part : P) → IsOwn part
-          → AddsLines IsFold left.part (lines_in (record { at = span.from; text = part_of bytes span.from span.to } ∷ [])) added
+          → AddsLines IsFold left.part (lines_in (record { at = span.from; text = span_of bytes span.from span.to } ∷ [])) added
           → ((before behind : List FileLine) → IsFold added before → IsFold right.part behind → IsFold part (before ++ behind))
-          → HoldsLines IsKept i (part_of bytes i k) (record { before = left.before; part = part; behind = right.behind })
+          → HoldsLines IsKept i (span_of bytes i k) (record { before = left.before; part = part; behind = right.behind })
       lines_merged span ef et added part own adds joins =
           let has = broken_has span ef et in
           let P1 : FileLine → Type 0 = λ z. IsFold added (lines_in hl.inner ++ lines_in (z ∷ [])) in
@@ -222,16 +222,16 @@ module _ {P : Type 0} (IsOwn : P → Type 0) (IsFold : P → List FileLine → T
     behind_has whole h = whole_has (h.first ∷ h.inner) h.last [] whole.behind h.pieces h.behind
 
     pub piece_finished : (span : Span) (none part : P) → HoldsPiece at (drop at bytes) span → IsFold none []
-        → AddsLines IsFold none (lines_in (record { at = span.from; text = part_of bytes span.from span.to } ∷ [])) part → IsFold part (lines_in (pieces_from at (drop at bytes)))
+        → AddsLines IsFold none (lines_in (record { at = span.from; text = span_of bytes span.from span.to } ∷ [])) part → IsFold part (lines_in (pieces_from at (drop at bytes)))
     piece_finished span none part h empty adds =
         let has = piece_has span h in
-        let e : lines_in (record { at = span.from; text = part_of bytes span.from span.to } ∷ []) ≡ lines_in (pieces_from at (drop at bytes)) = ap (λ (z : FileLine). lines_in (z ∷ [])) has.line ∙ ap lines_in (sym h.0) in
+        let e : lines_in (record { at = span.from; text = span_of bytes span.from span.to } ∷ []) ≡ lines_in (pieces_from at (drop at bytes)) = ap (λ (z : FileLine). lines_in (z ∷ [])) has.line ∙ ap lines_in (sym h.0) in
         subst (λ (z : List FileLine). IsFold part z) e (adds [] empty)
 
     pub lines_finished : (whole : WholeLines P) (none first joined part : P) → HoldsLines IsKept at (drop at bytes) whole → IsFold none []
-        → AddsLines IsFold none (lines_in (record { at = whole.before.from; text = part_of bytes whole.before.from whole.before.to } ∷ [])) first
+        → AddsLines IsFold none (lines_in (record { at = whole.before.from; text = span_of bytes whole.before.from whole.before.to } ∷ [])) first
         → ((before behind : List FileLine) → IsFold first before → IsFold whole.part behind → IsFold joined (before ++ behind))
-        → AddsLines IsFold joined (lines_in (record { at = whole.behind.from; text = part_of bytes whole.behind.from whole.behind.to } ∷ [])) part
+        → AddsLines IsFold joined (lines_in (record { at = whole.behind.from; text = span_of bytes whole.behind.from whole.behind.to } ∷ [])) part
         → IsFold part (lines_in (pieces_from at (drop at bytes)))
     lines_finished whole none first joined part h empty adds joins more =
         let P1 : FileLine → Type 0 = λ z. IsFold first (lines_in (z ∷ [])) in
@@ -244,7 +244,7 @@ module _ {P : Type 0} (IsOwn : P → Type 0) (IsFold : P → List FileLine → T
         subst (λ (z : List FileLine). IsFold part z) (sym e) three
 
   -- what stands for all bytes from where the text begins, as a merge says it
-  pub whole_stands : (bytes : List ℕ) (base : ℕ) (whole : LineFragment P) → base ≡ base_of bytes → StandsFor IsKept base (part_of bytes base (length bytes)) whole → StandsFor IsKept (base_of bytes) (drop (base_of bytes) bytes) whole
+  pub whole_stands : (bytes : List ℕ) (base : ℕ) (whole : LineFragment P) → base ≡ base_of bytes → StandsFor IsKept base (span_of bytes base (length bytes)) whole → StandsFor IsKept (base_of bytes) (drop (base_of bytes) bytes) whole
   whole_stands bytes base whole e h =
       let P1 : List ℕ → Type 0 = λ z. StandsFor IsKept base z whole in
       let P2 : ℕ → Type 0 = λ n. StandsFor IsKept n (drop n bytes) whole in

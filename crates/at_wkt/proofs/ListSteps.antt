@@ -6,7 +6,7 @@ use Rattle.at_fixed.specs.Numerals.{Numeral}
 use Rattle.at_wkt.specs.declared.dimension.Dimension.{Dimension}
 use Rattle.at_wkt.specs.Positions.{Position}
 use Rattle.at_wkt.specs.Geometry.{is_blank, SpellsPosition, InBrackets, Parted, SpellsRing}
-use Rattle.at_fixed.specs.Kept.{part}
+use Rattle.at_fixed.specs.Kept.{between}
 use Rattle.at_wkt.specs.Readers.{next, Allows, Spelt, Stuck, Leads, SkipsBlanks, NumberStands, NumberBreaks, delimiter, Delimiter, Item, Items, ItemsRead, FurtherNumbers}
 use Rattle.at_wkt.proofs.Leads.{part-one, part-more, Begins, Inhabited, same_length}
 use Rattle.at_wkt.proofs.Steps.{Then, same_leads, trans_leads, then_leads, then_stuck, fixed_leads, pad_leads, gap_leads, stuck_first, no_blank, AreBlanks, spelt_over}
@@ -229,8 +229,8 @@ last_stuck base w i n c h = record {
   order = h.order;
   within = h.within;
   viable = (let (d, x, more, a, q) = h.viable in
-      let some : more ≢ [] = (λ e. h.dead d x (part w i n ++ more) (next w n ∷ []) [] a q (ap (λ z. z ++ (next w n ∷ [])) (ap (λ z. part w i n ++ z) e ∙ append-nil (part w i n)))) in
-      let (m, p) = closes_from d x.0 x.1 (base + i) (part w i n) more q some in (d, x.0, m, a, p));
+      let some : more ≢ [] = (λ e. h.dead d x (between w i n ++ more) (next w n ∷ []) [] a q (ap (λ z. z ++ (next w n ∷ [])) (ap (λ z. between w i n ++ z) e ∙ append-nil (between w i n)))) in
+      let (m, p) = closes_from d x.0 x.1 (base + i) (between w i n) more q some in (d, x.0, m, a, p));
   dead = λ d p v r s a q e. h.dead d (p, true) v r s a q e;
 }
 
@@ -238,17 +238,17 @@ last_stuck base w i n c h = record {
 pub comma_stuck : (base : ℕ) (w : List ℕ) (i j n : ℕ) (c c' : Dimension) (p : Position) → n + 1 ≡ j → Spelt (Item SpellsPosition) base w i c j c' (p, false) → i ≤ n → Stuck LastPosition base w i c n
 comma_stuck base w i j n c c' p en h low =
     let (d, a) = h.some in
-    let (z, ez, q) = item_closes d p false (base + i) (part w i j) (h.sound d a) in
+    let (z, ez, q) = item_closes d p false (base + i) (between w i j) (h.sound d a) in
     let inside : n < length w = omega (arith, h.within) in
-    let joint : part w i j ≡ part w i n ++ (next w n ∷ []) = ap (part w i) (sym en) ∙ part-more w i n low inside in
-    let line : part w i n ++ (next w n ∷ []) ≡ z ++ (0x2C ∷ []) = sym joint ∙ ez in
-    let long : length (part w i n) ≡ length z = omega (arith, ap length line, length-append (part w i n) (next w n ∷ []), length-append z (0x2C ∷ [])) in
-    let same : part w i n ≡ z = same_length (part w i n) (next w n ∷ []) z (0x2C ∷ []) long line in
+    let joint : between w i j ≡ between w i n ++ (next w n ∷ []) = ap (between w i) (sym en) ∙ part-more w i n low inside in
+    let line : between w i n ++ (next w n ∷ []) ≡ z ++ (0x2C ∷ []) = sym joint ∙ ez in
+    let long : length (between w i n) ≡ length z = omega (arith, ap length line, length-append (between w i n) (next w n ∷ []), length-append z (0x2C ∷ [])) in
+    let same : between w i n ≡ z = same_length (between w i n) (next w n ∷ []) z (0x2C ∷ []) long line in
     record {
       order = low;
       within = omega arith;
       viable = (d, p, 0x29 ∷ [], h.narrows d a, subst (λ y. LastPosition d p (base + i) (y ++ (0x29 ∷ []))) (sym same) q);
       dead = λ d q v r s a t e.
-          let (ep, ev, a') = h.only d (q, true) v r s a t (e ∙ (sym (append_assoc (part w i n) (next w n ∷ []) s) ∙ ap (λ y. y ++ s) (sym joint))) in
+          let (ep, ev, a') = h.only d (q, true) v r s a t (e ∙ (sym (append_assoc (between w i n) (next w n ∷ []) s) ∙ ap (λ y. y ++ s) (sym joint))) in
           true≢false (ap (λ y. y.1) ep);
     }

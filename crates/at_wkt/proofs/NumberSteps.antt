@@ -15,7 +15,7 @@ use Rattle.at_text.specs.Parts.{At}
 use Rattle.at_fixed.specs.Numerals.{Exponent, Numeral, fraction_text, exponent_text, numeral_text, IsAtMostOneOf, AreDigits, AreSomeDigits, IsExponent, AreWktDigits, IsWktNumeral, WktNumber, NumberOf, SpellsNumeral}
 use Rattle.at_wkt.specs.declared.dimension.Dimension.{Dimension}
 use Rattle.at_wkt.specs.Geometry.{SpellsNumber}
-use Rattle.at_fixed.specs.Kept.{part}
+use Rattle.at_fixed.specs.Kept.{between}
 use Rattle.at_wkt.specs.Readers.{next, Allows, Stuck, Leads, NumberStands, NumberBreaks, NumberSkips}
 use Rattle.at_wkt.proofs.Leads.{part-more, offset, Ahead, Begins, Inhabited, append_cases, leads_ahead, counts}
 use Rattle.at_wkt.proofs.Steps.{Then}
@@ -72,17 +72,17 @@ byte_in [] e es (h, hs) = h
 byte_in (b ∷ a) e es (h, hs) = byte_in a e es hs
 
 -- the bytes of the rest up to a place
-pub rest_part : (w : List ℕ) (i n : ℕ) → take n (drop i w) ≡ part w i (i + n)
+pub rest_part : (w : List ℕ) (i n : ℕ) → take n (drop i w) ≡ between w i (i + n)
 rest_part w i n = sym (drop-take i n w)
 
-rest_to : (w : List ℕ) (i j : ℕ) → i ≤ j → take (j - i) (drop i w) ≡ part w i j
-rest_to w i j h = rest_part w i (j - i) ∙ ap (part w i) (omega arith)
+rest_to : (w : List ℕ) (i j : ℕ) → i ≤ j → take (j - i) (drop i w) ≡ between w i j
+rest_to w i j h = rest_part w i (j - i) ∙ ap (between w i) (omega arith)
 
-rest_beyond : (w : List ℕ) (i j : ℕ) → i ≤ j → take (j - i + 1) (drop i w) ≡ part w i (j + 1)
-rest_beyond w i j h = rest_part w i (j - i + 1) ∙ ap (part w i) (omega arith)
+rest_beyond : (w : List ℕ) (i j : ℕ) → i ≤ j → take (j - i + 1) (drop i w) ≡ between w i (j + 1)
+rest_beyond w i j h = rest_part w i (j - i + 1) ∙ ap (between w i) (omega arith)
 
 -- the longest beginning of a number up to a place: it is one, and nothing longer is
-pub front_viable : (w : List ℕ) (i j : ℕ) → i ≤ j → LongestViable WktNumber (drop i w) (j - i) → (more : List ℕ) × WktNumber (part w i j ++ more)
+pub front_viable : (w : List ℕ) (i j : ℕ) → i ≤ j → LongestViable WktNumber (drop i w) (j - i) → (more : List ℕ) × WktNumber (between w i j ++ more)
 front_viable w i j h l = let (more, word) = l.front in (more, subst (λ z. WktNumber (z ++ more)) (rest_to w i j h) word)
 
 end_no_byte : (b : ℕ) → b ≡ 256 → in_number b ≡ true → ⊥
@@ -91,17 +91,17 @@ end_no_byte b e h = let no : in_number 256 ≡ true = ap in_number (sym e) ∙ h
 pub next_end : (w : List ℕ) (j : ℕ) → length w ≤ j → next w j ≡ 256
 next_end w j h = get_or_past w j 256 h
 
-nothing_beyond : (w : List ℕ) (i j : ℕ) (es : List ℕ) → i ≤ j → j ≤ length w → LongestViable WktNumber (drop i w) (j - i) → WktNumber (part w i j ++ (next w j ∷ es)) → ⊥
+nothing_beyond : (w : List ℕ) (i j : ℕ) (es : List ℕ) → i ≤ j → j ≤ length w → LongestViable WktNumber (drop i w) (j - i) → WktNumber (between w i j ++ (next w j ∷ es)) → ⊥
 nothing_beyond w i j es h k l (n, hn, en) = elim (dec_lt j (length w)) [
-  | yes below ↦ l.longest (omega (arith, length-drop i w)) (es, (n, hn, ap (λ z. z ++ es) (rest_beyond w i j h ∙ part-more w i j h below) ∙ (append_assoc (part w i j) (next w j ∷ []) es ∙ en)))
-  | no past ↦ end_no_byte (next w j) (next_end w j (omega arith)) (byte_in (part w i j) (next w j) es (subst AreNumberBytes (sym en) (number_bytes n hn)))
+  | yes below ↦ l.longest (omega (arith, length-drop i w)) (es, (n, hn, ap (λ z. z ++ es) (rest_beyond w i j h ∙ part-more w i j h below) ∙ (append_assoc (between w i j) (next w j ∷ []) es ∙ en)))
+  | no past ↦ end_no_byte (next w j) (next_end w j (omega arith)) (byte_in (between w i j) (next w j) es (subst AreNumberBytes (sym en) (number_bytes n hn)))
 ]
 
 -- a number that agrees with the text, where a byte that no number has follows it, stands up to the place
 pub number_ends : (w : List ℕ) (i j : ℕ) → i ≤ j → j ≤ length w → LongestViable WktNumber (drop i w) (j - i)
-    → (v : List ℕ) (b : ℕ) (x s : List ℕ) → WktNumber v → in_number b ≡ false → Ahead w j s → v ++ (b ∷ x) ≡ part w i j ++ s → v ≡ part w i j
+    → (v : List ℕ) (b : ℕ) (x s : List ℕ) → WktNumber v → in_number b ≡ false → Ahead w j s → v ++ (b ∷ x) ≡ between w i j ++ s → v ≡ between w i j
 number_ends w i j h k l v b x s word stops (t, es) e =
-    elim (append_cases v (b ∷ x) (part w i j) s e) [
+    elim (append_cases v (b ∷ x) (between w i j) s e) [
       | inl (same, rest) ↦ same
       | inr (inl (m, ms, f, g)) ↦ absurd (
           let (more, (n, hn, en)) = front_viable w i j h l in
@@ -111,7 +111,7 @@ number_ends w i j h k l v b x s word stops (t, es) e =
       | inr (inr (m, ms, f, g)) ↦ absurd (
           let line : m ∷ (ms ++ (b ∷ x)) ≡ next w j ∷ t = sym g ∙ es in
           let first : m ≡ next w j = cc in
-          nothing_beyond w i j ms h k l (subst WktNumber (f ∙ ap (λ z. part w i j ++ (z ∷ ms)) first) word))
+          nothing_beyond w i j ms h k l (subst WktNumber (f ∙ ap (λ z. between w i j ++ (z ∷ ms)) first) word))
     ]
 
 -- a number with its offset
@@ -127,17 +127,17 @@ stops_false b false e h = refl
 
 module _ {Y : Type 0} (Q : ℕ → Y → ℕ → List ℕ → Type 0) (begins : Begins stops_number Q) (base : ℕ) (w : List ℕ) (i : ℕ) (c : Dimension) (j : ℕ) where
   pub ends_there : i ≤ j → j ≤ length w → LongestViable WktNumber (drop i w) (j - i) → (d : ℕ) (y : Y) (v u r s : List ℕ) (at : ℕ)
-      → WktNumber v → Q d y at u → Ahead w j s → v ++ (u ++ r) ≡ part w i j ++ s → v ≡ part w i j
+      → WktNumber v → Q d y at u → Ahead w j s → v ++ (u ++ r) ≡ between w i j ++ s → v ≡ between w i j
   ends_there h k l d y v u r s at word q ahead e =
       let (b, x, eu, stops) = begins d y at u q in
       number_ends w i j h k l v b (x ++ r) s word (stops_false b (in_number b) refl stops) ahead (ap (λ z. v ++ (z ++ r)) (sym eu) ∙ e)
 
   pub number_leads : (n : Numeral) → NumberStands w i j n → Leads (Then Number (λ p. Q)) Q base w i c j c (λ y. ((n, base + i), y))
   number_leads n h = leads_ahead (Then Number (λ p. Q)) Q base w i c j c (λ y. ((n, base + i), y)) stops_number begins h.order h.within (λ d a. a)
-      (λ d y r a q. (part w i j, r, refl, (refl, (h.numeral, h.text)), subst (λ o. Q d y o r) (sym (offset base w i j h.order h.within)) q))
+      (λ d y r a q. (between w i j, r, refl, (refl, (h.numeral, h.text)), subst (λ o. Q d y o r) (sym (offset base w i j h.order h.within)) q))
       (λ d p v r s a (v1, v2, ev, (ei, (hm, em)), q) t e.
-      let line : v1 ++ (v2 ++ r) ≡ part w i j ++ s = sym (append_assoc v1 v2 r) ∙ (ap (λ z. z ++ r) (sym ev) ∙ e) in
-      let same : v1 ≡ part w i j = ends_there h.order h.within h.longest d p.1 v1 v2 r s ((base + i) + length v1) (p.0.0, hm, em) q t line in
+      let line : v1 ++ (v2 ++ r) ≡ between w i j ++ s = sym (append_assoc v1 v2 r) ∙ (ap (λ z. z ++ r) (sym ev) ∙ e) in
+      let same : v1 ≡ between w i j = ends_there h.order h.within h.longest d p.1 v1 v2 r s ((base + i) + length v1) (p.0.0, hm, em) q t line in
       let en : p.0.0 ≡ n = h.only p.0.0 hm (sym same ∙ em) in
       let place : (base + i) + length v1 ≡ base + j = ap (λ z. (base + i) + length z) same ∙ offset base w i j h.order h.within in
       (p.1, v2, ev ∙ ap (λ z. z ++ v2) same, ap (λ z. ((z, p.0.1), p.1)) en ∙ ap (λ z. ((n, z), p.1)) ei, subst (λ o. Q d p.1 o v2) place q, a))
@@ -147,11 +147,11 @@ module _ {Y : Type 0} (Q : ℕ → Y → ℕ → List ℕ → Type 0) (begins : 
     order = h.order;
     within = h.within;
     viable = (let (more, (n, hn, en)) = front_viable w i j h.order h.longest in
-        let (y, u, q) = lives d0 ((base + i) + length (part w i j ++ more)) (counts c d0 a0) in
-        (d0, ((n, base + i), y), more ++ u, a0, (part w i j ++ more, u, sym (append_assoc (part w i j) more u), (refl, (hn, en)), q)));
+        let (y, u, q) = lives d0 ((base + i) + length (between w i j ++ more)) (counts c d0 a0) in
+        (d0, ((n, base + i), y), more ++ u, a0, (between w i j ++ more, u, sym (append_assoc (between w i j) more u), (refl, (hn, en)), q)));
     dead = λ d p v r s a (v1, v2, ev, (ei, (hm, em)), q) e.
-        let line : v1 ++ (v2 ++ r) ≡ part w i j ++ (next w j ∷ s) = sym (append_assoc v1 v2 r) ∙ (ap (λ z. z ++ r) (sym ev) ∙ e) in
-        let same : v1 ≡ part w i j = ends_there h.order h.within h.longest d p.1 v1 v2 r (next w j ∷ s) ((base + i) + length v1) (p.0.0, hm, em) q (s, refl) line in
+        let line : v1 ++ (v2 ++ r) ≡ between w i j ++ (next w j ∷ s) = sym (append_assoc v1 v2 r) ∙ (ap (λ z. z ++ r) (sym ev) ∙ e) in
+        let same : v1 ≡ between w i j = ends_there h.order h.within h.longest d p.1 v1 v2 r (next w j ∷ s) ((base + i) + length v1) (p.0.0, hm, em) q (s, refl) line in
         h.no_number (p.0.0, hm, sym same ∙ em);
   }
 
@@ -164,7 +164,7 @@ module _ (w : List ℕ) (at len : ℕ) (inside : at ≤ length w) where
   rest_fits : LongestViable WktNumber (take (length w - at) (drop at w)) len → at + len ≤ length w
   rest_fits h = omega (arith, h.fits, ap length (take_rest w at), length-drop at w)
 
-  rest_word : take len (take (length w - at) (drop at w)) ≡ part w at (at + len)
+  rest_word : take len (take (length w - at) (drop at w)) ≡ between w at (at + len)
   rest_word = ap (take len) (take_rest w at) ∙ rest_part w at len
 
   module _ (whole : Bool) (h : TakesLongest WktNumber (take (length w - at) (drop at w)) (record { len = len; whole = whole })) where
@@ -190,9 +190,9 @@ module _ (w : List ℕ) (at len : ℕ) (inside : at ≤ length w) where
       → (n : Numeral) × NumberStands w at (at + len) n × (answer ≡ fixed_of n digits how)
   number_stands digits how None answer e h f = absurd (none-some answer e)
   number_stands digits how (Some v) answer e h f =
-      let word : WktNumber (part w at (at + len)) = subst WktNumber rest_word (h.whole.0 refl) in
-      let spelled : SpellsNumeral (part w at (at + len)) f.numeral = subst (λ z. SpellsNumeral z f.numeral) rest_word f.spelled in
-      let only : (m : Numeral) → IsWktNumeral m → part w at (at + len) ≡ numeral_text m → m ≡ f.numeral = (λ m hm em. f.only m (inr hm, rest_word ∙ em)) in
+      let word : WktNumber (between w at (at + len)) = subst WktNumber rest_word (h.whole.0 refl) in
+      let spelled : SpellsNumeral (between w at (at + len)) f.numeral = subst (λ z. SpellsNumeral z f.numeral) rest_word f.spelled in
+      let only : (m : Numeral) → IsWktNumeral m → between w at (at + len) ≡ numeral_text m → m ≡ f.numeral = (λ m hm em. f.only m (inr hm, rest_word ∙ em)) in
       let same : word.0 ≡ f.numeral = only word.0 word.1 word.2 in (
         f.numeral,
         record {

@@ -19,7 +19,7 @@ use Rattle.at_wkt.specs.declared.parts.ItemRead.{ItemRead}
 use Rattle.at_wkt.specs.Positions.{Position, Positions, position_faults, path_of, faults_of_ring}
 use Rattle.at_wkt.specs.Meaning.{polygons_of, faults_of_area}
 use Rattle.at_wkt.specs.Geometry.{SpellsPosition, SpellsRing, SpellsPoint, SpellsPointMember, EmptyOrParted}
-use Rattle.at_fixed.specs.Kept.{part}
+use Rattle.at_fixed.specs.Kept.{between}
 use Rattle.at_text.specs.Halts.{IfStopped}
 use Rattle.at_wkt.specs.Readers.{next, Spelt, Stuck, SkipsBlanks, Delimiter, Item, Items, HasCount, WordStands, WordBreaks, DelimiterStands, DelimiterBreaks, opens, PositionStands, PathStands, PartStands, ItemStands, ItemsSoFar, Grows, EnclosedPosition, added_position, added_path, added_point, point_faults, faults_of_path}
 use Rattle.at_wkt.proofs.Leads.{part-part, part-cons, Begins, counts}
@@ -147,7 +147,7 @@ area_stands rules w i c read rings old new polygon h ep e = record {
   value = h.value;
   spelt = h.spelt;
   fault = h.fault;
-  added = e ∙ ap (λ z. old ++ z) (ap (λ z. z ∷ []) (ep ∙ ap (λ z. record { rings = z }) h.added) ∙ (let (d, a) = h.spelt.some in one h.value d (rules.base + i) (part w i read.behind.at) (h.spelt.sound d a)));
+  added = e ∙ ap (λ z. old ++ z) (ap (λ z. z ∷ []) (ep ∙ ap (λ z. record { rings = z }) h.added) ∙ (let (d, a) = h.spelt.some in one h.value d (rules.base + i) (between w i read.behind.at) (h.spelt.sound d a)));
 } where
   paths : (xs : List Positions) → flat_map (added_path rules.digits rules.how) xs ≡ map (path_of rules.digits rules.how) xs
   paths [] = refl
@@ -184,9 +184,9 @@ module _ (rules : Rules) (w : List ℕ) (i a : ℕ) (c : Dimension) (skips : Ski
         let (b1, r, e, hb, q) = h.sound d allowed in
         let (b, t, eb, hn) = ended_begins d (p, last) _ r q in
         let low : j ≤ a = omega arith in
-        let blanks : AreBlanks (part w i j ++ part w j a) = subst AreBlanks (part-part w i j a h.order low skips.within) skips.blanks in
-        let here : part w i j ++ part w j a ≡ b1 ++ (b ∷ (t ++ part w j a)) = ap (λ z. z ++ part w j a) (e ∙ ap (λ z. b1 ++ z) eb) ∙ append_assoc b1 (b ∷ t) (part w j a) in
-        not_blank b (number_no_blank b hn) (blank_at b1 b (t ++ part w j a) (subst AreBlanks here blanks)))
+        let blanks : AreBlanks (between w i j ++ between w j a) = subst AreBlanks (part-part w i j a h.order low skips.within) skips.blanks in
+        let here : between w i j ++ between w j a ≡ b1 ++ (b ∷ (t ++ between w j a)) = ap (λ z. z ++ between w j a) (e ∙ ap (λ z. b1 ++ z) eb) ∙ append_assoc b1 (b ∷ t) (between w j a) in
+        not_blank b (number_no_blank b hn) (blank_at b1 b (t ++ between w j a) (subst AreBlanks here blanks)))
   ] where
     number_no_blank : (b : ℕ) → begins_number b ≡ true → no_blank b ≡ true
     number_no_blank b h = grind (arith, h)
@@ -195,10 +195,10 @@ module _ (rules : Rules) (w : List ℕ) (i a : ℕ) (c : Dimension) (skips : Ski
   bare_low n (d, allowed) h = elim (dec_lt n a) [
     | no f ↦ omega arith
     | yes less ↦ absurd (
-        let (x, v, q) = position_inhabited d (rules.base + i + length (part w i a)) (counts c d allowed) true in
-        let text : part w i a ++ v ≡ part w i n ++ (next w n ∷ (part w (n + 1) a ++ v)) =
-        ap (λ z. z ++ v) (part-part w i n a h.order (let l : n ≤ a = omega arith in l) skips.within ∙ ap (λ z. part w i n ++ z) (part-cons w n a less skips.within)) ∙ append_assoc (part w i n) (next w n ∷ part w (n + 1) a) v in
-        h.dead d (x, true) (part w i a ++ v) [] (part w (n + 1) a ++ v) allowed (part w i a, v, refl, skips.blanks, q) (append-nil (part w i a ++ v) ∙ text))
+        let (x, v, q) = position_inhabited d (rules.base + i + length (between w i a)) (counts c d allowed) true in
+        let text : between w i a ++ v ≡ between w i n ++ (next w n ∷ (between w (n + 1) a ++ v)) =
+        ap (λ z. z ++ v) (part-part w i n a h.order (let l : n ≤ a = omega arith in l) skips.within ∙ ap (λ z. between w i n ++ z) (part-cons w n a less skips.within)) ∙ append_assoc (between w i n) (next w n ∷ between w (n + 1) a) v in
+        h.dead d (x, true) (between w i a ++ v) [] (between w (n + 1) a ++ v) allowed (between w i a, v, refl, skips.blanks, q) (append-nil (between w i a ++ v) ∙ text))
   ]
 
   pub bare_stands : (old new : List Pos) (r : Result ItemRead Halt) → HasCount c → opens (next w a) ≡ false

@@ -3,7 +3,7 @@
 use Rattle.std.proofs.Common.{◌≡◌, ℕ, ◌+◌, ◌<◌, ◌≤◌, ◌⊎◌, inl, inr, true, not, List, [], ◌∷◌, length, sym, ◌∙◌, ap, subst, arith}
 use Rattle.at_fixed.specs.Numerals.{Numeral}
 use Rattle.at_wkt.specs.Geometry.{is_blank}
-use Rattle.at_fixed.specs.Kept.{part}
+use Rattle.at_fixed.specs.Kept.{between}
 use Rattle.at_wkt.specs.Readers.{next, is_delimiter, SkipsBlanks, NumberStands}
 use Rattle.at_wkt.proofs.Leads.{part-none, part-one, part-cons, same_or_less}
 use Rattle.at_wkt.proofs.Steps.{AreBlanks}
@@ -22,10 +22,10 @@ none_skipped w i h stops = record { order = omega arith; within = h; blanks = su
 pub number_free : (w : List ℕ) (i j : ℕ) (n : Numeral) → NumberStands w i j n → not (is_blank (next w i)) ≡ true
 number_free w i j n h =
     let (x, t, f, begins) = number_first n h.numeral in
-    let text : part w i j ≡ x ∷ t = h.text ∙ f in
+    let text : between w i j ≡ x ∷ t = h.text ∙ f in
     elim (same_or_less i j h.order) [
-      | inl same ↦ absurd (let none : part w i j ≡ [] = ap (part w i) (sym same) ∙ part-none w i (omega (arith, h.order, h.within)) in cc)
-      | inr less ↦ (let first : next w i ∷ part w (i + 1) j ≡ x ∷ t = sym (part-cons w i j less h.within) ∙ text in
+      | inl same ↦ absurd (let none : between w i j ≡ [] = ap (between w i) (sym same) ∙ part-none w i (omega (arith, h.order, h.within)) in cc)
+      | inr less ↦ (let first : next w i ∷ between w (i + 1) j ≡ x ∷ t = sym (part-cons w i j less h.within) ∙ text in
           let byte : x ≡ next w i = cc in subst (λ b. not (is_blank b) ≡ true) byte (number_no_blank x begins))
     ]
 

@@ -7,7 +7,7 @@ use Rattle.at_text.specs.Parts.{◌▸◌}
 use Rattle.at_fixed.specs.Numerals.{Numeral, fraction_text, exponent_text, numeral_text, IsAtMostOneOf, AreWktDigits, IsWktNumeral, WktNumber}
 use Rattle.at_wkt.specs.declared.dimension.Dimension.{Dimension}
 use Rattle.at_wkt.specs.Geometry.{is_blank, SpellsNumber, SpellsFurther}
-use Rattle.at_fixed.specs.Kept.{part}
+use Rattle.at_fixed.specs.Kept.{between}
 use Rattle.at_wkt.specs.Readers.{next, Allows, Stuck, Leads, SkipsBlanks, NumberBreaks, NumberSkips, delimiter, Delimiter, FurtherNumbers, Reaches, is_delimiter}
 use Rattle.at_wkt.proofs.Leads.{part-length, offset, Ahead, Begins, Inhabited, leads_ahead}
 use Rattle.at_wkt.proofs.Steps.{Then, no_blank, AreBlanks, one_blanks}
@@ -185,47 +185,47 @@ further_inhabited d at (low, high) = let (v, q) = further_lives (d - 2) 2 d (ome
 -- ---- reading on
 
 module _ (base : ℕ) (w : List ℕ) (j m : ℕ) (c : Dimension) (k : ℕ) (skips : SkipsBlanks w j m) where
-  pub skips_blanks : AreBlanks (part w j m)
+  pub skips_blanks : AreBlanks (between w j m)
   skips_blanks = skips.blanks
 
   pub skips_stops : no_blank (next w m) ≡ true
   skips_stops = skips.stops
 
   -- a word that agrees with the text has its blanks, and then its byte
-  pub further_agrees : (d : ℕ) (last : Bool) (at : ℕ) (v r s : List ℕ) → FurtherNumbers k d last at v → Ahead w m s → v ++ r ≡ part w j m ++ s
-      → ((is_delimiter (next w m) ≡ true) × (k ≡ d)) ⊎ ((is_delimiter (next w m) ≡ false) × (k < d) × (part w j m ≢ []))
+  pub further_agrees : (d : ℕ) (last : Bool) (at : ℕ) (v r s : List ℕ) → FurtherNumbers k d last at v → Ahead w m s → v ++ r ≡ between w j m ++ s
+      → ((is_delimiter (next w m) ≡ true) × (k ≡ d)) ⊎ ((is_delimiter (next w m) ≡ false) × (k < d) × (between w j m ≢ []))
   further_agrees d last at v r s q (t, es) e =
       let f = further_word k d last at v q in
-      let line : f.blanks ++ (f.byte ∷ (f.rest ++ r)) ≡ part w j m ++ (next w m ∷ t) = sym (append_assoc f.blanks (f.byte ∷ f.rest) r) ∙ (ap (λ z. z ++ r) (sym f.text) ∙ (e ∙ ap (λ z. part w j m ++ z) es)) in
-      let same : f.blanks ≡ part w j m = one_blanks f.blanks (part w j m) f.byte (next w m) (f.rest ++ r) t f.are_blanks skips.blanks f.is_none skips.stops line in
-      let rest : f.byte ∷ (f.rest ++ r) ≡ next w m ∷ t = append_cancel_left (part w j m) _ _ (ap (λ z. z ++ (f.byte ∷ (f.rest ++ r))) (sym same) ∙ line) in
+      let line : f.blanks ++ (f.byte ∷ (f.rest ++ r)) ≡ between w j m ++ (next w m ∷ t) = sym (append_assoc f.blanks (f.byte ∷ f.rest) r) ∙ (ap (λ z. z ++ r) (sym f.text) ∙ (e ∙ ap (λ z. between w j m ++ z) es)) in
+      let same : f.blanks ≡ between w j m = one_blanks f.blanks (between w j m) f.byte (next w m) (f.rest ++ r) t f.are_blanks skips.blanks f.is_none skips.stops line in
+      let rest : f.byte ∷ (f.rest ++ r) ≡ next w m ∷ t = append_cancel_left (between w j m) _ _ (ap (λ z. z ++ (f.byte ∷ (f.rest ++ r))) (sym same) ∙ line) in
       let byte : f.byte ≡ next w m = cc in
       let P : ℕ → List ℕ → Type 0 = λ b x. ((is_delimiter b ≡ true) × (k ≡ d)) ⊎ ((is_delimiter b ≡ false) × (k < d) × (x ≢ [])) in
       subst (P (next w m)) same (subst (λ b. P b f.blanks) byte f.cases)
 
   -- where no word agrees with the text, it is stuck behind the blanks
-  pub further_dead : Reaches c k → ((d : ℕ) → Allows c d → ((is_delimiter (next w m) ≡ true) × (k ≡ d)) ⊎ ((is_delimiter (next w m) ≡ false) × (k < d) × (part w j m ≢ [])) → ⊥)
+  pub further_dead : Reaches c k → ((d : ℕ) → Allows c d → ((is_delimiter (next w m) ≡ true) × (k ≡ d)) ⊎ ((is_delimiter (next w m) ≡ false) × (k < d) × (between w j m ≢ [])) → ⊥)
       → Stuck (FurtherNumbers k) base w j c m
   further_dead (d0, a0, h0) never = record {
     order = skips.order;
     within = skips.within;
-    viable = (let (v, q) = further_lives (d0 - k) k d0 (omega arith) true ((base + j) + length (part w j m)) in
-        (d0, true, v, a0, further_pad k d0 true (base + j) (part w j m) v skips.blanks q));
+    viable = (let (v, q) = further_lives (d0 - k) k d0 (omega arith) true ((base + j) + length (between w j m)) in
+        (d0, true, v, a0, further_pad k d0 true (base + j) (between w j m) v skips.blanks q));
     dead = λ d last v r s a q e. never d a (further_agrees d last (base + j) v r (next w m ∷ s) q (s, refl) e);
   }
 
   pub further_leads : j < m → is_delimiter (next w m) ≡ false → Leads (FurtherNumbers k) (Skipped (FurtherNumbers (k + 1))) base w j c m c (λ y. y)
   further_leads long none = leads_ahead (FurtherNumbers k) (Skipped (FurtherNumbers (k + 1))) base w j c m c (λ y. y) begins_number begins skips.order skips.within (λ d a. a)
-      (λ d y r a q. further_more k d y (base + j) (part w j m) r some skips.blanks (subst (λ o. Skipped (FurtherNumbers (k + 1)) d y o r) (sym (offset base w j m skips.order skips.within)) q))
+      (λ d y r a q. further_more k d y (base + j) (between w j m) r some skips.blanks (subst (λ o. Skipped (FurtherNumbers (k + 1)) d y o r) (sym (offset base w j m skips.order skips.within)) q))
       comes where
-        some : part w j m ≢ []
+        some : between w j m ≢ []
         some e = absurd (omega (arith, part-length w j m skips.order skips.within, ap length e))
 
         begins : Begins begins_number (Skipped (FurtherNumbers (k + 1)))
         begins d last at v (a, b, e, (n, hn, en), q) = let (x, t, f, h) = number_first n hn in (x, t ++ b, e ∙ ap (λ z. z ++ b) (en ∙ f), h)
 
-        comes : (d : ℕ) (x : Bool) (v r s : List ℕ) → Allows c d → FurtherNumbers k d x (base + j) v → Ahead w m s → v ++ r ≡ part w j m ++ s
-            → (y : Bool) × (u : List ℕ) × (v ≡ part w j m ++ u) × (x ≡ y) × Skipped (FurtherNumbers (k + 1)) d y (base + m) u × Allows c d
+        comes : (d : ℕ) (x : Bool) (v r s : List ℕ) → Allows c d → FurtherNumbers k d x (base + j) v → Ahead w m s → v ++ r ≡ between w j m ++ s
+            → (y : Bool) × (u : List ℕ) × (v ≡ between w j m ++ u) × (x ≡ y) × Skipped (FurtherNumbers (k + 1)) d y (base + m) u × Allows c d
         comes d x v r s a ([], en, q) t e = absurd (elim (further_agrees d x (base + j) v r s ([], en, q) t e) [
           | inl (h, f) ↦ true≢false (sym h ∙ none)
           | inr (h, less, f) ↦ omega (arith, en)
@@ -233,8 +233,8 @@ module _ (base : ℕ) (w : List ℕ) (j m : ℕ) (c : Dimension) (k : ℕ) (skip
         comes d x v r s a (n ∷ ns, en, (p, y, ev, (b, z, f, (sb, hb), (num, fs, g, hn, more)), q)) (t, es) e =
             let (c0, t0, tf, hc) = number_first n hn.0 in
             let text : v ≡ b ++ (c0 ∷ (t0 ++ (fs ++ y))) = ev ∙ (ap (λ z. z ++ y) (f ∙ ap (λ z. b ++ z) (g ∙ ap (λ z. z ++ fs) (hn.1 ∙ tf))) ∙ (append_assoc b ((c0 ∷ t0) ++ fs) y ∙ ap (λ z. b ++ (c0 ∷ z)) (append_assoc t0 fs y))) in
-            let line : b ++ (c0 ∷ ((t0 ++ (fs ++ y)) ++ r)) ≡ part w j m ++ (next w m ∷ t) = sym (append_assoc b (c0 ∷ (t0 ++ (fs ++ y))) r) ∙ (ap (λ z. z ++ r) (sym text) ∙ (e ∙ ap (λ z. part w j m ++ z) es)) in
-            let same : b ≡ part w j m = one_blanks b (part w j m) c0 (next w m) _ t hb skips.blanks (begin_no_blank c0 hc) skips.stops line in
+            let line : b ++ (c0 ∷ ((t0 ++ (fs ++ y)) ++ r)) ≡ between w j m ++ (next w m ∷ t) = sym (append_assoc b (c0 ∷ (t0 ++ (fs ++ y))) r) ∙ (ap (λ z. z ++ r) (sym text) ∙ (e ∙ ap (λ z. between w j m ++ z) es)) in
+            let same : b ≡ between w j m = one_blanks b (between w j m) c0 (next w m) _ t hb skips.blanks (begin_no_blank c0 hc) skips.stops line in
             let place : (base + j) + length b ≡ base + m = ap (λ z. (base + j) + length z) same ∙ offset base w j m skips.order skips.within in
             let one : ((base + j) + length b) + length num ≡ (base + m) + length num = ap (λ z. z + length num) place in
             let two : (base + j) + length p ≡ ((base + m) + length num) + length fs = omega (arith, place, ap length f, ap length g, length-append b z, length-append num fs) in (
@@ -250,10 +250,10 @@ module _ (base : ℕ) (w : List ℕ) (j m : ℕ) (c : Dimension) (k : ℕ) (skip
 module _ {Y : Type 0} (Q : ℕ → Y → ℕ → List ℕ → Type 0) (begins : Begins stops_number Q) (base : ℕ) (w : List ℕ) (i : ℕ) (c : Dimension) (j : ℕ) where
   pub skip_leads : NumberSkips w i j → Leads (Skipped Q) Q base w i c j c (λ y. y)
   skip_leads h = leads_ahead (Skipped Q) Q base w i c j c (λ y. y) stops_number begins h.order h.within (λ d a. a)
-      (λ d y r a q. (part w i j, r, refl, h.number, subst (λ o. Q d y o r) (sym (offset base w i j h.order h.within)) q))
+      (λ d y r a q. (between w i j, r, refl, h.number, subst (λ o. Q d y o r) (sym (offset base w i j h.order h.within)) q))
       (λ d p v r s a (v1, v2, ev, word, q) t e.
-      let line : v1 ++ (v2 ++ r) ≡ part w i j ++ s = sym (append_assoc v1 v2 r) ∙ (ap (λ z. z ++ r) (sym ev) ∙ e) in
-      let same : v1 ≡ part w i j = ends_there Q begins base w i c j h.order h.within h.longest d p v1 v2 r s ((base + i) + length v1) word q t line in
+      let line : v1 ++ (v2 ++ r) ≡ between w i j ++ s = sym (append_assoc v1 v2 r) ∙ (ap (λ z. z ++ r) (sym ev) ∙ e) in
+      let same : v1 ≡ between w i j = ends_there Q begins base w i c j h.order h.within h.longest d p v1 v2 r s ((base + i) + length v1) word q t line in
       let place : (base + i) + length v1 ≡ base + j = ap (λ z. (base + i) + length z) same ∙ offset base w i j h.order h.within in
       (p, v2, ev ∙ ap (λ z. z ++ v2) same, refl, subst (λ o. Q d p o v2) place q, a))
 
@@ -262,10 +262,10 @@ module _ {Y : Type 0} (Q : ℕ → Y → ℕ → List ℕ → Type 0) (begins : 
     order = h.order;
     within = h.within;
     viable = (let (more, word) = front_viable w i j h.order h.longest in
-        let (y, u, q) = lives ((base + i) + length (part w i j ++ more)) in
-        (d0, y, more ++ u, a0, (part w i j ++ more, u, sym (append_assoc (part w i j) more u), word, q)));
+        let (y, u, q) = lives ((base + i) + length (between w i j ++ more)) in
+        (d0, y, more ++ u, a0, (between w i j ++ more, u, sym (append_assoc (between w i j) more u), word, q)));
     dead = λ d p v r s a (v1, v2, ev, word, q) e.
-        let line : v1 ++ (v2 ++ r) ≡ part w i j ++ (next w j ∷ s) = sym (append_assoc v1 v2 r) ∙ (ap (λ z. z ++ r) (sym ev) ∙ e) in
-        let same : v1 ≡ part w i j = ends_there Q begins base w i c j h.order h.within h.longest d p v1 v2 r (next w j ∷ s) ((base + i) + length v1) word q (s, refl) line in
+        let line : v1 ++ (v2 ++ r) ≡ between w i j ++ (next w j ∷ s) = sym (append_assoc v1 v2 r) ∙ (ap (λ z. z ++ r) (sym ev) ∙ e) in
+        let same : v1 ≡ between w i j = ends_there Q begins base w i c j h.order h.within h.longest d p v1 v2 r (next w j ∷ s) ((base + i) + length v1) word q (s, refl) line in
         h.no_number (subst WktNumber same word);
   }

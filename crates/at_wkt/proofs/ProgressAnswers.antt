@@ -15,7 +15,7 @@ use Rattle.at_wkt.specs.declared.positions.DelimiterRead.{DelimiterRead}
 use Rattle.at_wkt.specs.declared.parts.Read.{Read}
 use Rattle.at_wkt.specs.declared.geometries.Gathered.{Gathered}
 use Rattle.at_wkt.specs.declared.geometries.Progress.{Progress}
-use Rattle.at_fixed.specs.Kept.{part}
+use Rattle.at_fixed.specs.Kept.{between}
 use Rattle.at_text.specs.Halts.{IfStopped}
 use Rattle.at_wkt.specs.Readers.{next, Spelt, Stuck, Leads, SkipsBlanks, Delimiter, delimiter, HasCount, HeadStands, LetterStands, opens_at, WordStands, word_of, DelimiterStands, DelimiterBreaks, Meaning, joined, no_meaning, Body, meaning_of, Expected, Onward, Advances, BodyStands, StepStands, WholeStands, Gathers}
 use Rattle.at_wkt.proofs.Leads.{part-length}
@@ -83,7 +83,7 @@ closes_over w i k j m so_far none low inside base digits how =
 -- a kind's word has letters
 word_long : (w : List ℕ) (i j : ℕ) (kind : Kind) → WordStands w i j (word_of kind) → i < j
 word_long w i j kind h =
-    let (b, t, e, n) = kind_first kind (part w i j) h.text in
+    let (b, t, e, n) = kind_first kind (between w i j) h.text in
     omega (arith, part-length w i j h.order h.within, ap length e)
 
 module _ (digits : ℕ) (how : Coords) (base : ℕ) (w : List ℕ) (i : ℕ) (k : ℕ) (head : Head) (h : HeadStands w i head) (old new after : Gathered) where

@@ -5,7 +5,7 @@ use Rattle.std.specs.List.{AllByRecursion}
 use Rattle.at_text.specs.Parts.{Many, OneOrMore, ◌▸◌}
 use Rattle.at_wkt.specs.declared.dimension.Dimension.{Dimension}
 use Rattle.at_wkt.specs.Geometry.{is_blank}
-use Rattle.at_fixed.specs.Kept.{part}
+use Rattle.at_fixed.specs.Kept.{between}
 use Rattle.at_wkt.specs.Readers.{next, Allows, Spelt, Stuck, Leads}
 use Rattle.at_wkt.proofs.Leads.{part-none, offset, Ahead, Begins, Inhabited, append_cases, same_length, leads_plain, leads_ahead, counts}
 
@@ -19,12 +19,12 @@ trans_leads {g = g} a b = record {
 -- ---- a part of one length
 
 module _ {Y : Type 0} (E : ℕ → List ℕ → Type 0) (Q : ℕ → Y → ℕ → List ℕ → Type 0) (base : ℕ) (w : List ℕ) (i : ℕ) (c : Dimension) (j : ℕ) where
-  pub fixed_leads : i ≤ j → j ≤ length w → E (base + i) (part w i j) → ((v : List ℕ) → E (base + i) v → length v ≡ length (part w i j))
+  pub fixed_leads : i ≤ j → j ≤ length w → E (base + i) (between w i j) → ((v : List ℕ) → E (base + i) v → length v ≡ length (between w i j))
       → Leads (λ d y. E ▸ Q d y) Q base w i c j c (λ y. y)
   fixed_leads order within here long = leads_plain (λ d y. E ▸ Q d y) Q base w i c j c (λ y. y) order within (λ d a. a)
-      (λ d y r a q. (part w i j, r, refl, here, subst (λ o. Q d y o r) (sym (offset base w i j order within)) q))
+      (λ d y r a q. (between w i j, r, refl, here, subst (λ o. Q d y o r) (sym (offset base w i j order within)) q))
       (λ d y v r s a (v1, v2, ev, p, q) t e.
-      let same : v1 ≡ part w i j = same_length v1 (v2 ++ r) (part w i j) s (long v1 p) (sym (append_assoc v1 v2 r) ∙ (ap (λ z. z ++ r) (sym ev) ∙ e)) in
+      let same : v1 ≡ between w i j = same_length v1 (v2 ++ r) (between w i j) s (long v1 p) (sym (append_assoc v1 v2 r) ∙ (ap (λ z. z ++ r) (sym ev) ∙ e)) in
       let place : (base + i) + length v1 ≡ base + j = ap (λ z. (base + i) + length z) same ∙ offset base w i j order within in
       (y, v2, ev ∙ ap (λ z. z ++ v2) same, refl, subst (λ o. Q d y o v2) place q, a))
 
@@ -54,29 +54,29 @@ one_blanks a u b h x y ha hu nb nh e = elim (append_cases a (b ∷ x) u (h ∷ y
 ]
 
 module _ {Y : Type 0} (Q : ℕ → Y → ℕ → List ℕ → Type 0) (base : ℕ) (w : List ℕ) (i : ℕ) (c : Dimension) (j : ℕ) where
-  same_blanks : AreBlanks (part w i j) → Begins no_blank Q → no_blank (next w j) ≡ true
-      → (d : ℕ) (y : Y) (v1 v2 r s : List ℕ) (at : ℕ) → AreBlanks v1 → Q d y at v2 → Ahead w j s → v1 ++ (v2 ++ r) ≡ part w i j ++ s → v1 ≡ part w i j
+  same_blanks : AreBlanks (between w i j) → Begins no_blank Q → no_blank (next w j) ≡ true
+      → (d : ℕ) (y : Y) (v1 v2 r s : List ℕ) (at : ℕ) → AreBlanks v1 → Q d y at v2 → Ahead w j s → v1 ++ (v2 ++ r) ≡ between w i j ++ s → v1 ≡ between w i j
   same_blanks blanks begins stops d y v1 v2 r s at hv q (t, es) e =
       let (b, x, eb, nb) = begins d y at v2 q in
-      one_blanks v1 (part w i j) b (next w j) (x ++ r) t hv blanks nb stops (ap (λ z. v1 ++ (z ++ r)) (sym eb) ∙ (e ∙ ap (λ z. part w i j ++ z) es))
+      one_blanks v1 (between w i j) b (next w j) (x ++ r) t hv blanks nb stops (ap (λ z. v1 ++ (z ++ r)) (sym eb) ∙ (e ∙ ap (λ z. between w i j ++ z) es))
 
-  pub pad_leads : i ≤ j → j ≤ length w → AreBlanks (part w i j) → no_blank (next w j) ≡ true → Begins no_blank Q
+  pub pad_leads : i ≤ j → j ≤ length w → AreBlanks (between w i j) → no_blank (next w j) ≡ true → Begins no_blank Q
       → Leads (λ d y. Many is_blank ▸ Q d y) Q base w i c j c (λ y. y)
   pad_leads order within blanks stops begins = leads_ahead (λ d y. Many is_blank ▸ Q d y) Q base w i c j c (λ y. y) no_blank begins order within (λ d a. a)
-      (λ d y r a q. (part w i j, r, refl, blanks, subst (λ o. Q d y o r) (sym (offset base w i j order within)) q))
+      (λ d y r a q. (between w i j, r, refl, blanks, subst (λ o. Q d y o r) (sym (offset base w i j order within)) q))
       (λ d y v r s a (v1, v2, ev, p, q) t e.
-      let same : v1 ≡ part w i j = same_blanks blanks begins stops d y v1 v2 r s ((base + i) + length v1) p q t (sym (append_assoc v1 v2 r) ∙ (ap (λ z. z ++ r) (sym ev) ∙ e)) in
+      let same : v1 ≡ between w i j = same_blanks blanks begins stops d y v1 v2 r s ((base + i) + length v1) p q t (sym (append_assoc v1 v2 r) ∙ (ap (λ z. z ++ r) (sym ev) ∙ e)) in
       let place : (base + i) + length v1 ≡ base + j = ap (λ z. (base + i) + length z) same ∙ offset base w i j order within in
       (y, v2, ev ∙ ap (λ z. z ++ v2) same, refl, subst (λ o. Q d y o v2) place q, a))
 
-  pub gap_leads : i < j → j ≤ length w → AreBlanks (part w i j) → no_blank (next w j) ≡ true → Begins no_blank Q
+  pub gap_leads : i < j → j ≤ length w → AreBlanks (between w i j) → no_blank (next w j) ≡ true → Begins no_blank Q
       → Leads (λ d y. OneOrMore is_blank ▸ Q d y) Q base w i c j c (λ y. y)
   gap_leads order within blanks stops begins =
       let low : i ≤ j = omega arith in
       leads_ahead (λ d y. OneOrMore is_blank ▸ Q d y) Q base w i c j c (λ y. y) no_blank begins low within (λ d a. a)
-      (λ d y r a q. (part w i j, r, refl, ((λ none. absurd (omega (arith, offset base w i j low within, ap length none))), blanks), subst (λ o. Q d y o r) (sym (offset base w i j low within)) q))
+      (λ d y r a q. (between w i j, r, refl, ((λ none. absurd (omega (arith, offset base w i j low within, ap length none))), blanks), subst (λ o. Q d y o r) (sym (offset base w i j low within)) q))
       (λ d y v r s a (v1, v2, ev, p, q) t e.
-      let same : v1 ≡ part w i j = same_blanks blanks begins stops d y v1 v2 r s ((base + i) + length v1) p.1 q t (sym (append_assoc v1 v2 r) ∙ (ap (λ z. z ++ r) (sym ev) ∙ e)) in
+      let same : v1 ≡ between w i j = same_blanks blanks begins stops d y v1 v2 r s ((base + i) + length v1) p.1 q t (sym (append_assoc v1 v2 r) ∙ (ap (λ z. z ++ r) (sym ev) ∙ e)) in
       let place : (base + i) + length v1 ≡ base + j = ap (λ z. (base + i) + length z) same ∙ offset base w i j low within in
       (y, v2, ev ∙ ap (λ z. z ++ v2) same, refl, subst (λ o. Q d y o v2) place q, a))
 
@@ -88,7 +88,7 @@ Then P Q d p = P d p.0 ▸ Q p.0 d p.1
 module _ {X Y : Type 0} (P : ℕ → X → ℕ → List ℕ → Type 0) (Q : X → ℕ → Y → ℕ → List ℕ → Type 0) (base : ℕ) (w : List ℕ) (i : ℕ) (c : Dimension) (j : ℕ) (c' : Dimension) (x : X) where
   pub then_leads : Spelt P base w i c j c' x → Leads (Then P Q) (Q x) base w i c j c' (λ y. (x, y))
   then_leads h = leads_plain (Then P Q) (Q x) base w i c j c' (λ y. (x, y)) h.order h.within h.narrows
-      (λ d y r a q. (part w i j, r, refl, h.sound d a, subst (λ o. Q x d y o r) (sym (offset base w i j h.order h.within)) q))
+      (λ d y r a q. (between w i j, r, refl, h.sound d a, subst (λ o. Q x d y o r) (sym (offset base w i j h.order h.within)) q))
       (λ d p v r s a (v1, v2, ev, p1, q) t e.
       let (ex, same, a') = h.only d p.0 v1 (v2 ++ r) s a p1 (sym (append_assoc v1 v2 r) ∙ (ap (λ z. z ++ r) (sym ev) ∙ e)) in
       let place : (base + i) + length v1 ≡ base + j = ap (λ z. (base + i) + length z) same ∙ offset base w i j h.order h.within in
@@ -100,8 +100,8 @@ then_stuck P Q base w i c n lives h = record {
   order = h.order;
   within = h.within;
   viable = (let (d, x, more, a, p) = h.viable in
-      let (y, u, q) = lives x d ((base + i) + length (part w i n ++ more)) (counts c d a) in
-      (d, (x, y), more ++ u, a, (part w i n ++ more, u, sym (append_assoc (part w i n) more u), p, q)));
+      let (y, u, q) = lives x d ((base + i) + length (between w i n ++ more)) (counts c d a) in
+      (d, (x, y), more ++ u, a, (between w i n ++ more, u, sym (append_assoc (between w i n) more u), p, q)));
   dead = λ d p v r s a (v1, v2, ev, p1, q) e. h.dead d p.0 v1 (v2 ++ r) s a p1 (sym (append_assoc v1 v2 r) ∙ (ap (λ z. z ++ r) (sym ev) ∙ e));
 }
 
@@ -115,7 +115,7 @@ pub record When {X Y : Type 0} (P : ℕ → X → ℕ → List ℕ → Type 0) (
 pub when_leads : {X Y : Type 0} (P : ℕ → X → ℕ → List ℕ → Type 0) (Q : ℕ → Y → ℕ → List ℕ → Type 0) (f : ℕ → Y → X) (test some : ℕ → Bool) (base : ℕ) (w : List ℕ) (i : ℕ) (c : Dimension)
     → When P Q f test → Begins some Q → i ≤ length w → test (next w i) ≡ true → Leads P Q base w i c i c (f (base + i))
 when_leads {X} {Y} P Q f test some base w i c h begins within here =
-    let none : part w i i ≡ [] = part-none w i within in
+    let none : between w i i ≡ [] = part-none w i within in
     leads_ahead P Q base w i c i c (f (base + i)) some begins (omega arith) within (λ d a. a)
     (λ d y r a q. subst (P d (f (base + i) y) (base + i)) (ap (λ z. z ++ r) (sym none)) (h.to d y (base + i) r q))
     (λ d x v r s a p (t, es) e.
@@ -135,7 +135,7 @@ pub record Same {X Y : Type 0} (P : ℕ → X → ℕ → List ℕ → Type 0) (
 pub same_leads : {X Y : Type 0} (P : ℕ → X → ℕ → List ℕ → Type 0) (Q : ℕ → Y → ℕ → List ℕ → Type 0) (f : ℕ → Y → X) (base : ℕ) (w : List ℕ) (i : ℕ) (c : Dimension)
     → Same P Q f → i ≤ length w → Leads P Q base w i c i c (f (base + i))
 same_leads {X} {Y} P Q f base w i c h within =
-    let none : part w i i ≡ [] = part-none w i within in
+    let none : between w i i ≡ [] = part-none w i within in
     leads_plain P Q base w i c i c (f (base + i)) (omega arith) within (λ d a. a)
     (λ d y r a q. subst (P d (f (base + i) y) (base + i)) (ap (λ z. z ++ r) (sym none)) (h.to d y (base + i) r q))
     (λ d x v r s a p t e. let (y, ex, q) = h.from d x (base + i) v p in (y, v, ap (λ z. z ++ v) (sym none), ex, q, a))
@@ -145,7 +145,7 @@ same_leads {X} {Y} P Q f base w i c h within =
 pub stuck_first : {X : Type 0} (P : ℕ → X → ℕ → List ℕ → Type 0) (test : ℕ → Bool) (base : ℕ) (w : List ℕ) (i : ℕ) (c : Dimension)
     → Begins test P → Inhabited P → (d : ℕ) → Allows c d → i ≤ length w → test (next w i) ≡ false → Stuck P base w i c i
 stuck_first P test base w i c begins lives d0 a0 within fails =
-    let none : part w i i ≡ [] = part-none w i within in
+    let none : between w i i ≡ [] = part-none w i within in
     record {
       order = omega arith;
       within = within;

@@ -11,7 +11,7 @@ use Rattle.at_wkt.specs.declared.dimension.Dimension.{Dimension}
 use Rattle.at_wkt.specs.declared.kinds.Kind.{Kind}
 use Rattle.at_wkt.specs.declared.kinds.Kind.TheVariants.{Point, LineString, Polygon, MultiPoint, MultiLineString, MultiPolygon, GeometryCollection}
 use Rattle.at_wkt.specs.Geometry.{is_blank}
-use Rattle.at_fixed.specs.Kept.{part}
+use Rattle.at_fixed.specs.Kept.{between}
 use Rattle.at_wkt.specs.Readers.{next, Allows, Spelt, Stuck, WordStands, WordBreaks, word_of, KindBreaks, opens}
 use Rattle.at_wkt.proofs.Leads.{part-none, part-length, part-part, part-cons, Ahead, ahead_stuck, append_cases, same_length, same_or_less}
 use Rattle.at_wkt.proofs.Steps.{no_blank}
@@ -39,25 +39,25 @@ word_spelt word x base w i j c h some = record {
   narrows = λ d a. a;
   sound = λ d a. (refl, h.text);
   only = λ d y v r s a (ey, ev) e.
-      let long : length v ≡ length (part w i j) = sym (capitals-length v) ∙ (ap length (ev ∙ sym h.text) ∙ capitals-length (part w i j)) in
-      (ey, same_length v r (part w i j) s long e, a);
+      let long : length v ≡ length (between w i j) = sym (capitals-length v) ∙ (ap length (ev ∙ sym h.text) ∙ capitals-length (between w i j)) in
+      (ey, same_length v r (between w i j) s long e, a);
 }
 
 -- a word that agrees with letters that stand has none that differs
-pub word_dead : (word : List ℕ) (w : List ℕ) (i n m : ℕ) (v r s : List ℕ) → WordBreaks w i n word → n ≤ m → m ≤ length w → capitals v ≡ word → v ++ r ≡ part w i m ++ (next w m ∷ s) → ⊥
+pub word_dead : (word : List ℕ) (w : List ℕ) (i n m : ℕ) (v r s : List ℕ) → WordBreaks w i n word → n ≤ m → m ≤ length w → capitals v ≡ word → v ++ r ≡ between w i m ++ (next w m ∷ s) → ⊥
 word_dead word w i n m v r s h low high ev e =
     let (t, et) = ahead_stuck w n m s low high (same_or_less n m low) in
-    let line : v ++ r ≡ part w i n ++ (next w n ∷ t) = e ∙ (ap (λ z. z ++ (next w m ∷ s)) (part-part w i n m h.order low high) ∙ (append_assoc (part w i n) (part w n m) (next w m ∷ s) ∙ ap (λ z. part w i n ++ z) et)) in
-    let count : length (part w i n) ≡ n - i = omega (arith, part-length w i n h.order h.within) in
-    elim (append_cases v r (part w i n) (next w n ∷ t) line) [
+    let line : v ++ r ≡ between w i n ++ (next w n ∷ t) = e ∙ (ap (λ z. z ++ (next w m ∷ s)) (part-part w i n m h.order low high) ∙ (append_assoc (between w i n) (between w n m) (next w m ∷ s) ∙ ap (λ z. between w i n ++ z) et)) in
+    let count : length (between w i n) ≡ n - i = omega (arith, part-length w i n h.order h.within) in
+    elim (append_cases v r (between w i n) (next w n ∷ t) line) [
       | inl (same, rest) ↦ omega (arith, h.short, ap length same, capitals-length v, ap length ev)
       | inr (inl (x, xs, f, g)) ↦ omega (arith, h.short, ap length f, length-append v (x ∷ xs), capitals-length v, ap length ev)
       | inr (inr (x, xs, f, g)) ↦ (
           let first : next w n ≡ x = cc in
-          let letters : word ≡ capitals (part w i n) ++ (to_ascii_uppercase x ∷ capitals xs) = sym ev ∙ (ap capitals f ∙ capitals-append (part w i n) (x ∷ xs)) in
-          let place : n - i ≡ length (capitals (part w i n)) = sym (capitals-length (part w i n) ∙ count) in
-          let here : slice_index word (n - i) ≡ to_ascii_uppercase x = ap (λ z. slice_index z (n - i)) letters ∙ (ap (slice_index (capitals (part w i n) ++ (to_ascii_uppercase x ∷ capitals xs))) place
-          ∙ get_or-append_seam (capitals (part w i n)) (to_ascii_uppercase x) (capitals xs) 0) in
+          let letters : word ≡ capitals (between w i n) ++ (to_ascii_uppercase x ∷ capitals xs) = sym ev ∙ (ap capitals f ∙ capitals-append (between w i n) (x ∷ xs)) in
+          let place : n - i ≡ length (capitals (between w i n)) = sym (capitals-length (between w i n) ∙ count) in
+          let here : slice_index word (n - i) ≡ to_ascii_uppercase x = ap (λ z. slice_index z (n - i)) letters ∙ (ap (slice_index (capitals (between w i n) ++ (to_ascii_uppercase x ∷ capitals xs))) place
+          ∙ get_or-append_seam (capitals (between w i n)) (to_ascii_uppercase x) (capitals xs) 0) in
           h.differs (ap to_ascii_uppercase first ∙ sym here))
     ]
 
@@ -69,7 +69,7 @@ pub word_stuck : {X : Type 0} (word : List ℕ) (x : X) (base : ℕ) (w : List �
 word_stuck word x base w i n c whole h (d0, a0) = record {
   order = h.order;
   within = h.within;
-  viable = (d0, x, drop (n - i) word, a0, (refl, word_viable word (part w i n) (n - i) whole h.text));
+  viable = (d0, x, drop (n - i) word, a0, (refl, word_viable word (between w i n) (n - i) whole h.text));
   dead = λ d y v r s a (ey, ev) e. word_dead word w i n n v r s h (omega arith) h.within ev e;
 }
 
@@ -142,14 +142,14 @@ kind_spelt k base w i j c h some = record {
   some = some;
   narrows = λ d a. a;
   sound = λ d a. h.text;
-  only = λ d m v r s a ev e. let (em, same) = kind_only k m v (part w i j) r s h.text ev e in (em, same, a);
+  only = λ d m v r s a ev e. let (em, same) = kind_only k m v (between w i j) r s h.text ev e in (em, same, a);
 }
 
 pub kind_stuck : (base : ℕ) (w : List ℕ) (i n : ℕ) (c : Dimension) → KindBreaks w i n → (d : ℕ) × Allows c d → Stuck KindWord base w i c n
 kind_stuck base w i n c h (d0, a0) = record {
   order = h.order;
   within = h.within;
-  viable = (d0, h.kind, drop (n - i) (word_of h.kind), a0, word_viable (word_of h.kind) (part w i n) (n - i) (kind_capitals h.kind) h.text);
+  viable = (d0, h.kind, drop (n - i) (word_of h.kind), a0, word_viable (word_of h.kind) (between w i n) (n - i) (kind_capitals h.kind) h.text);
   dead = λ d m v r s a ev e. let (q, low, breaks) = h.breaks m in word_dead (word_of m) w i q n v r s breaks low h.within ev e;
 }
 
@@ -170,10 +170,10 @@ pub blank_no_letter : (b : ℕ) → is_blank b ≡ true → to_ascii_uppercase b
 blank_no_letter b h k = grind (arith, h, k)
 
 -- the text from a place on begins with its byte
-pub stream : (w : List ℕ) (i j : ℕ) (s : List ℕ) → i ≤ j → j ≤ length w → Ahead w j s → (t : List ℕ) × (part w i j ++ s ≡ next w i ∷ t) × (i < j → t ≡ part w (i + 1) j ++ s)
+pub stream : (w : List ℕ) (i j : ℕ) (s : List ℕ) → i ≤ j → j ≤ length w → Ahead w j s → (t : List ℕ) × (between w i j ++ s ≡ next w i ∷ t) × (i < j → t ≡ between w (i + 1) j ++ s)
 stream w i j s low high (t, e) = elim (same_or_less i j low) [
-  | inl same ↦ (t, ap (λ z. part w i z ++ s) (sym same) ∙ (ap (λ z. z ++ s) (part-none w i (omega (arith, same))) ∙ (e ∙ ap (λ z. next w z ∷ t) (sym same))), (λ less. absurd (omega (arith, same, less))))
-  | inr less ↦ (part w (i + 1) j ++ s, ap (λ z. z ++ s) (part-cons w i j less high), (λ l. refl))
+  | inl same ↦ (t, ap (λ z. between w i z ++ s) (sym same) ∙ (ap (λ z. z ++ s) (part-none w i (omega (arith, same))) ∙ (e ∙ ap (λ z. next w z ∷ t) (sym same))), (λ less. absurd (omega (arith, same, less))))
+  | inr less ↦ (between w (i + 1) j ++ s, ap (λ z. z ++ s) (part-cons w i j less high), (λ l. refl))
 ]
 
 -- what the letter and what stands behind it is: a word of one, two or no letters

@@ -9,7 +9,7 @@ use Rattle.std.specs.Char.{to_ascii_uppercase}
 use Rattle.std.specs.List.{AllByRecursion}
 use Rattle.at_text.specs.Prefix.{LongestViable}
 use Rattle.at_text.specs.Parts.{Many, Exactly, ◌▸◌}
-use Rattle.at_fixed.specs.Kept.{part}
+use Rattle.at_fixed.specs.Kept.{between}
 use Rattle.at_fixed.specs.Numerals.{Numeral, IsWktNumeral, numeral_text, WktNumber}
 use Rattle.at_wkt.specs.declared.kinds.Kind.{Kind}
 use Rattle.at_wkt.specs.declared.kinds.Kind.TheVariants.{Point, LineString, Polygon, MultiPoint, MultiLineString}
@@ -87,9 +87,9 @@ pub record Spelt {X : Type 0} (P : ℕ → X → ℕ → List ℕ → Type 0) (b
   pub within : j ≤ length w
   pub some : (d : ℕ) × Allows c' d
   pub narrows : (d : ℕ) → Allows c' d → Allows c d
-  pub sound : (d : ℕ) → Allows c' d → P d x (base + i) (part w i j)
-  pub only : (d : ℕ) (y : X) (v r s : List ℕ) → Allows c d → P d y (base + i) v → v ++ r ≡ part w i j ++ s
-      → (y ≡ x) × (v ≡ part w i j) × Allows c' d
+  pub sound : (d : ℕ) → Allows c' d → P d x (base + i) (between w i j)
+  pub only : (d : ℕ) (y : X) (v r s : List ℕ) → Allows c d → P d y (base + i) v → v ++ r ≡ between w i j ++ s
+      → (y ≡ x) × (v ≡ between w i j) × Allows c' d
 
 -- no value's spelling agrees with the text from the place i through the byte at n, or is the rest of the text, and some
 -- agrees up to n
@@ -97,8 +97,8 @@ pub record Stuck {X : Type 0} (P : ℕ → X → ℕ → List ℕ → Type 0) (b
     : Type 0 where
   pub order : i ≤ n
   pub within : n ≤ length w
-  pub viable : (d : ℕ) × (x : X) × (more : List ℕ) × Allows c d × P d x (base + i) (part w i n ++ more)
-  pub dead : (d : ℕ) (x : X) (v r s : List ℕ) → Allows c d → P d x (base + i) v → v ++ r ≡ part w i n ++ (next w n ∷ s)
+  pub viable : (d : ℕ) × (x : X) × (more : List ℕ) × Allows c d × P d x (base + i) (between w i n ++ more)
+  pub dead : (d : ℕ) (x : X) (v r s : List ℕ) → Allows c d → P d x (base + i) v → v ++ r ≡ between w i n ++ (next w n ∷ s)
       → ⊥
 
 -- where the text spells Q from the place j, it spells P from the place i, and where it is stuck there, it is stuck
@@ -112,7 +112,7 @@ pub record Leads {X Y : Type 0} (P : ℕ → X → ℕ → List ℕ → Type 0) 
 pub record SkipsBlanks (w : List ℕ) (i j : ℕ) : Type 0 where
   pub order : i ≤ j
   pub within : j ≤ length w
-  pub blanks : AllByRecursion (λ b. IsTrue (is_blank b)) (part w i j)
+  pub blanks : AllByRecursion (λ b. IsTrue (is_blank b)) (between w i j)
   pub stops : not (is_blank (next w j)) ≡ true
 
 -- the number n stands from a place up to another, and no longer prefix of the rest is the beginning of a number
@@ -120,15 +120,15 @@ pub record NumberStands (w : List ℕ) (i j : ℕ) (n : Numeral) : Type 0 where
   pub order : i ≤ j
   pub within : j ≤ length w
   pub numeral : IsWktNumeral n
-  pub text : part w i j ≡ numeral_text n
+  pub text : between w i j ≡ numeral_text n
   pub longest : LongestViable WktNumber (drop i w) (j - i)
-  pub only : (m : Numeral) → IsWktNumeral m → part w i j ≡ numeral_text m → m ≡ n
+  pub only : (m : Numeral) → IsWktNumeral m → between w i j ≡ numeral_text m → m ≡ n
 
 -- the longest prefix of the rest that is the beginning of a number ends at the place, and is none
 pub record NumberBreaks (w : List ℕ) (i j : ℕ) : Type 0 where
   pub order : i ≤ j
   pub within : j ≤ length w
-  pub no_number : ¬ WktNumber (part w i j)
+  pub no_number : ¬ WktNumber (between w i j)
   pub longest : LongestViable WktNumber (drop i w) (j - i)
 
 -- a comma, or the closing bracket behind the last item
@@ -173,20 +173,20 @@ Reaches c k = (d : ℕ) × Allows c d × (k ≤ d)
 pub record NumberSkips (w : List ℕ) (i j : ℕ) : Type 0 where
   pub order : i ≤ j
   pub within : j ≤ length w
-  pub number : WktNumber (part w i j)
+  pub number : WktNumber (between w i j)
   pub longest : LongestViable WktNumber (drop i w) (j - i)
 
 -- the word, in capitals, stands from a place up to another in either case
 pub record WordStands (w : List ℕ) (i j : ℕ) (word : List ℕ) : Type 0 where
   pub order : i ≤ j
   pub within : j ≤ length w
-  pub text : str_to_ascii_uppercase (part w i j) ≡ word
+  pub text : str_to_ascii_uppercase (between w i j) ≡ word
 
 -- so many letters of the word stand from a place on, and the next one doesn't
 pub record WordBreaks (w : List ℕ) (i j : ℕ) (word : List ℕ) : Type 0 where
   pub order : i ≤ j
   pub within : j ≤ length w
-  pub text : str_to_ascii_uppercase (part w i j) ≡ take (j - i) word
+  pub text : str_to_ascii_uppercase (between w i j) ≡ take (j - i) word
   pub short : j - i < length word
   pub differs : to_ascii_uppercase (next w j) ≢ slice_index word (j - i)
 
@@ -203,7 +203,7 @@ word_of GeometryCollection = codes "GEOMETRYCOLLECTION"
 -- letters of the word of some kind stand up to a place, and of each kind's word no more than these
 pub record KindBreaks (w : List ℕ) (i j : ℕ) : Type 0 where
   pub kind : Kind
-  pub text : str_to_ascii_uppercase (part w i j) ≡ take (j - i) (word_of kind)
+  pub text : str_to_ascii_uppercase (between w i j) ≡ take (j - i) (word_of kind)
   pub breaks : (k : Kind) → (n : ℕ) × (n ≤ j) × WordBreaks w i n (word_of k)
   pub order : i ≤ j
   pub within : j ≤ length w
@@ -233,7 +233,7 @@ pub record HeadStands (w : List ℕ) (i : ℕ) (head : Head) : Type 0 where
 pub record Matches (w : List ℕ) (i : ℕ) (word : List ℕ) (count : ℕ) : Type 0 where
   pub fits : count ≤ length word
   pub within : i + count ≤ length w
-  pub text : str_to_ascii_uppercase (part w i (i + count)) ≡ take count word
+  pub text : str_to_ascii_uppercase (between w i (i + count)) ≡ take count word
   pub stops : count < length word → to_ascii_uppercase (next w (i + count)) ≢ slice_index word count
 
 -- some count of numbers is left for positions
@@ -459,7 +459,7 @@ module _ (digits : ℕ) (how : Coords) where
 pub record KindsTried (w : List ℕ) (i : ℕ) (longest : ℕ) (tried : List Kind) : Type 0 where
   pub within : i + longest ≤ length w
   pub kind : Kind
-  pub text : str_to_ascii_uppercase (part w i (i + longest)) ≡ take longest (word_of kind)
+  pub text : str_to_ascii_uppercase (between w i (i + longest)) ≡ take longest (word_of kind)
   pub breaks : AllByRecursion (λ k. (n : ℕ) × (n ≤ i + longest) × WordBreaks w i n (word_of k)) tried
 
 -- the lists grew by the shape, and the fault is the first of that before and these

@@ -3,7 +3,7 @@
 ghost use Rattle.std.specs.Prelude.{◌≡◌, ℕ, ◌+◌, ◌≤◌, ◌^◌, ◌<◌, ◌⊎◌, false, IsErr, [], ◌∷◌, length, drop, IfOk};
 ghost use Rattle.std.specs.List.{list_any, position_or_len};
 ghost use Rattle.at_text.specs.Texts.{base_of as base_in};
-ghost use Rattle.at_text.specs.Spans.{AreNeighbours, IsMerged, part_of};
+ghost use Rattle.at_text.specs.Spans.{AreNeighbours, IsMerged, span_of};
 ghost use Rattle.at_wkt.specs.Lines.{lines_of, lines_in, is_line_feed};
 ghost use Rattle.at_wkt.specs.Folding.{AddsLines, HoldsInner, HoldsLines, IsLost, IsPiece, Kept, StandsFor};
 ghost use Rattle.at_wkt.specs.Folding.{fragment_of};
@@ -149,12 +149,12 @@ fn fold_span<F: Fold>(
     requires fits { length bytes.now ≤ 2 ^ 28 }
     requires order { span.from ≤ span.to }
     requires within { span.to ≤ length bytes.now }
-    requires one { list_any is_line_feed (part_of bytes.now span.from span.to) ≡ false }
+    requires one { list_any is_line_feed (span_of bytes.now span.from span.to) ≡ false }
     requires own { F.is_own fold.now part }
     ensures own { IfOk result (F.is_own fold.now) }
     ensures fold { IfOk result
         (AddsLines (F.is_fold fold.now) part
-        (lines_in (record { at = span.from; text = part_of bytes.now span.from span.to } ∷ []))) }
+        (lines_in (record { at = span.from; text = span_of bytes.now span.from span.to } ∷ []))) }
 {
     let piece = &bytes[span.from as usize..span.to as usize];
     let mut room = Room::new(alloc);

@@ -4,7 +4,7 @@ ghost use Rattle.std.specs.Prelude.{◌≡◌, ◌+◌, ◌≤◌, ◌^◌, ◌�
 ghost use Rattle.std.specs.List.{flat_map};
 ghost use Rattle.at_text.specs.Texts.{base_of as base_in};
 ghost use Rattle.at_wkt.specs.Lines.{FileLine, lines_of};
-ghost use Rattle.at_text.specs.Spans.{part_of};
+ghost use Rattle.at_text.specs.Spans.{span_of};
 ghost use Rattle.at_wkt.specs.Folding.{Kept, StandsFor};
 
 use at_text::{Memory, Span, base_of};
@@ -74,7 +74,7 @@ fn run_span<F: Fold>(
     requires order { from ≤ to }
     requires within { to ≤ length bytes.now }
     requires fits { length bytes.now ≤ 2 ^ 28 }
-    ensures { StandsFor (Kept (F.is_own fold.now) (F.is_fold fold.now)) from (part_of bytes.now from to) result }
+    ensures { StandsFor (Kept (F.is_own fold.now) (F.is_fold fold.now)) from (span_of bytes.now from to) result }
 {
     run_lines(alloc, fold, &bytes[from as usize..to as usize], from)
 }

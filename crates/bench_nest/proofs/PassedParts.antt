@@ -5,7 +5,7 @@ use Rattle.std.proofs.lemmas.List.{drop-take, length-drop}
 use Rattle.at_text.specs.Prefix.{TakesLongest}
 use Rattle.at_text.specs.declared.prefixes.Taken.{Taken}
 use Rattle.at_lex.proofs.FrontLemmas.{suffix_is}
-use Rattle.at_fixed.specs.Kept.{part}
+use Rattle.at_fixed.specs.Kept.{between}
 use Rattle.at_fixed.specs.Numerals.{JsonNumber}
 use Rattle.at_lex.specs.Strings.{JsonString}
 use Rattle.at_lex.specs.Runs.{JsonRun}
@@ -29,7 +29,7 @@ taken_whole L w at taken h e =
     let k : TakesLongest L (drop at w) taken = subst (λ z. TakesLongest L z taken) (suffix_is w at) h in
     (k.longest.fits, (k.whole).0 e)
 
-pub front_part : (w : List ℕ) (at n : ℕ) → take n (drop at w) ≡ part w at (at + n)
+pub front_part : (w : List ℕ) (at n : ℕ) → take n (drop at w) ≡ between w at (at + n)
 front_part w at n = sym (drop-take at n w)
 
 some_bytes : (L : List ℕ → Type 0) (w : List ℕ) (at n : ℕ) → (L [] → ⊥) → L (take n (drop at w)) → at < at + n
@@ -65,21 +65,21 @@ pub run_passed : (w : List ℕ) (at n : ℕ) → at ≤ length w → n ≤ lengt
 run_passed w at n h k (inr j) = number_passed w at n h k j
 run_passed w at n h k (inl (l, e)) = (some_bytes JsonRun w at n no_nil (inl (l, e)), end_fits w at n h k, λ base. (literal (base + at) l, (refl, sym (front_part w at n) ∙ e), refl))
 
-pub item_passed : (w : List ℕ) (at first end : ℕ) (p : Passed) → at ≤ first → AreSpaces (part w at first) → IsPassed w first p → p.end ≤ end → end ≤ length w → AreSpaces (part w p.end end) → IsPassedItem w at (record { end = end; count = p.count })
+pub item_passed : (w : List ℕ) (at first end : ℕ) (p : Passed) → at ≤ first → AreSpaces (between w at first) → IsPassed w first p → p.end ≤ end → end ≤ length w → AreSpaces (between w p.end end) → IsPassedItem w at (record { end = end; count = p.count })
 item_passed w at first end p h spaces (order, fits, value) k fits2 more = (
   omega (arith, h, order, k),
   fits2,
   λ base. let v = value base in (v.0, record { first = first; last = p.end; before = h; order = omega (arith, order); behind = k; spaces = spaces; is_part = v.1; more_spaces = more }, v.2),
 )
 
-no_spaces : (w : List ℕ) (at : ℕ) → AreSpaces (part w at at)
-no_spaces w at = subst AreSpaces (front_part w at 0 ∙ ap (part w at) (let e : at + 0 ≡ at = omega arith in e)) tt
+no_spaces : (w : List ℕ) (at : ℕ) → AreSpaces (between w at at)
+no_spaces w at = subst AreSpaces (front_part w at 0 ∙ ap (between w at) (let e : at + 0 ≡ at = omega arith in e)) tt
 
 -- with no white space behind the value
-pub item_ended : (w : List ℕ) (at first end : ℕ) (count : ℕ) → at ≤ first → AreSpaces (part w at first) → IsPassed w first (record { end = end; count = count }) → IsPassedItem w at (record { end = end; count = count })
+pub item_ended : (w : List ℕ) (at first end : ℕ) (count : ℕ) → at ≤ first → AreSpaces (between w at first) → IsPassed w first (record { end = end; count = count }) → IsPassedItem w at (record { end = end; count = count })
 item_ended w at first end count h spaces passed = item_passed w at first end (record { end = end; count = count }) h spaces passed (omega arith) passed.1 (no_spaces w end)
 
-pub name_passed : (w : List ℕ) (at first end colon : ℕ) → at ≤ first → AreSpaces (part w at first) → IsPassedText w first end → end ≤ colon → AreSpaces (part w end colon) → colon < length w → slice_index w colon ≡ 0x3A → IsPassedName w at colon
+pub name_passed : (w : List ℕ) (at first end colon : ℕ) → at ≤ first → AreSpaces (between w at first) → IsPassedText w first end → end ≤ colon → AreSpaces (between w end colon) → colon < length w → slice_index w colon ≡ 0x3A → IsPassedName w at colon
 name_passed w at first end colon h spaces (order, fits, j) k more inside byte = (
   omega (arith, h, order, k),
   inside,
@@ -138,7 +138,7 @@ array_ends w at place n p h opens counted (order, fits, item) inside byte = (
       (array (base + at) (items_of (done ++ t ∷ [])), items_end base w at place p.end done t h (omega (arith, order)) inside opens byte before padded, array_counted ((n + p.count) % 2 ^ 64) (base + at) (done ++ t ∷ []) (items_counted n p.count done t e f))),
 )
 
-pub empty_array : (w : List ℕ) (at end : ℕ) → at < end → end < length w → slice_index w at ≡ 0x5B → slice_index w end ≡ 0x5D → AreSpaces (part w (at + 1) end) → IsPassed w at (record { end = end + 1; count = 1 })
+pub empty_array : (w : List ℕ) (at end : ℕ) → at < end → end < length w → slice_index w at ≡ 0x5B → slice_index w end ≡ 0x5D → AreSpaces (between w (at + 1) end) → IsPassed w at (record { end = end + 1; count = 1 })
 empty_array w at end h inside opens byte spaces = (omega (arith, h), omega (arith, inside), λ base. (array (base + at) (items_of []), items_empty base w at end h inside opens byte spaces, refl))
 
 -- ---- objects
@@ -162,19 +162,19 @@ object_ends w at place colon n p h opens counted (order, within, colon_byte, nam
       (object (base + at) (members_of (done ++ m ∷ [])), members_end base w at place colon p.end done m h order (omega (arith, order2)) inside opens colon_byte byte before named padded, object_counted ((n + p.count) % 2 ^ 64) (base + at) (done ++ m ∷ []) (members_counted n p.count done m e f))),
 )
 
-pub empty_object : (w : List ℕ) (at end : ℕ) → at < end → end < length w → slice_index w at ≡ 0x7B → slice_index w end ≡ 0x7D → AreSpaces (part w (at + 1) end) → IsPassed w at (record { end = end + 1; count = 1 })
+pub empty_object : (w : List ℕ) (at end : ℕ) → at < end → end < length w → slice_index w at ≡ 0x7B → slice_index w end ≡ 0x7D → AreSpaces (between w (at + 1) end) → IsPassed w at (record { end = end + 1; count = 1 })
 empty_object w at end h inside opens byte spaces = (omega (arith, h), omega (arith, inside), λ base. (object (base + at) (members_of []), members_empty base w at end h inside opens byte spaces, refl))
 
 -- ---- what the algebra answers
 
 pub attempt_of : (at : ℕ) (w : List ℕ) (p : Passed) → IsPassed w 0 p → IsAttempt IsAny CountsNodes at w (Whole p.end p.count)
 attempt_of at w p (order, fits, value) = let (t, spells, count) = value at in (
-  part w 0 p.end,
+  between w 0 p.end,
   drop p.end w,
-  sym (take-append-drop p.end w) ∙ ap (λ z. z ++ drop p.end w) (front_part w 0 p.end ∙ ap (part w 0) (let e : 0 + p.end ≡ p.end = omega arith in e)),
+  sym (take-append-drop p.end w) ∙ ap (λ z. z ++ drop p.end w) (front_part w 0 p.end ∙ ap (between w 0) (let e : 0 + p.end ≡ p.end = omega arith in e)),
   omega (arith, part-length w 0 p.end (omega arith) fits),
   t,
-  subst (λ n. Spells n (part w 0 p.end) t) (let e : at + 0 ≡ at = omega arith in e) spells,
+  subst (λ n. Spells n (between w 0 p.end) t) (let e : at + 0 ≡ at = omega arith in e) spells,
   tt,
   count,
 )

@@ -1,7 +1,7 @@
 -- Values that were passed over in a text from place to place, with the count of the values in them. The bytes w may
 -- stand at any offset.
 use Rattle.std.specs.Prelude.{◌≡◌, ℕ, ◌+◌, ◌<◌, ◌≤◌, ◌%◌, ◌^◌, List, [], ◌∷◌, length, slice_index}
-use Rattle.at_fixed.specs.Kept.{part}
+use Rattle.at_fixed.specs.Kept.{between}
 use Rattle.at_lex.specs.Strings.{JsonString}
 use Rattle.at_nest.specs.Tree.{Tree, Spells, SpellsName}
 use Rattle.at_nest.specs.Passing.{IsPadded, ItemsBefore, MembersBefore, Named}
@@ -11,12 +11,12 @@ use Rattle.at_lex.specs.Strings.{Character}
 
 -- a value begins at the place
 abbrev pub IsPassed : List ℕ → ℕ → Passed → Type 0
-IsPassed w at p = (at < p.end) × (p.end ≤ length w) × ((base : ℕ) → (t : Tree) × Spells (base + at) (part w at p.end) t
+IsPassed w at p = (at < p.end) × (p.end ≤ length w) × ((base : ℕ) → (t : Tree) × Spells (base + at) (between w at p.end) t
     × CountsNodes p.count t)
 
 -- a string
 abbrev pub IsPassedText : List ℕ → ℕ → ℕ → Type 0
-IsPassedText w at end = (at < end) × (end ≤ length w) × JsonString (part w at end)
+IsPassedText w at end = (at < end) × (end ≤ length w) × JsonString (between w at end)
 
 -- white space, a value, white space
 abbrev pub IsPassedItem : List ℕ → ℕ → Passed → Type 0

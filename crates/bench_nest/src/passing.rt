@@ -2,7 +2,7 @@
 
 ghost use Rattle.std.specs.Prelude.{◌≡◌, ◌+◌, ◌<◌, ◌≤◌, ◌^◌, ◌&&◌, length, slice_index, nat_lt, nat_eq, true, IfOk};
 ghost use Rattle.std.specs.Prelude.{IfSome};
-ghost use Rattle.at_fixed.specs.Kept.{part};
+ghost use Rattle.at_fixed.specs.Kept.{between};
 ghost use Rattle.at_lex.specs.Spans.{AreSpaces};
 ghost use Rattle.bench_nest.specs.Passed.{IsPassed, IsPassedText, IsPassedItem, IsPassedName};
 
@@ -32,7 +32,7 @@ fn skip_spaces(text: &[u8], at: usize) -> usize
     requires { at ≤ length text.now }
     ensures order { at ≤ result }
     ensures within { result ≤ length text.now }
-    ensures spaces { AreSpaces (part text.now at result) }
+    ensures spaces { AreSpaces (between text.now at result) }
 {
     let mut end = at;
     while end < text.len() && is_space(text[end]) {

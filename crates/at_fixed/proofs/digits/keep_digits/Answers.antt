@@ -1,6 +1,6 @@
 use Rattle.std.proofs.Common.{◌≡◌, ◌+◌, ◌-◌, ◌*◌, ◌^◌, ◌<◌, rules, subst, arith}
 use Rattle.at_fixed.specs.Numerals.{AreDigits}
-use Rattle.at_fixed.specs.Kept.{part, digits_behind}
+use Rattle.at_fixed.specs.Kept.{between, digits_behind}
 use Rattle.at_fixed.proofs.EightDigits.{EightKept, first_kept, kept_both}
 use Rattle.at_fixed.proofs.digits.keep_digits.Goals as goal
 use Rattle.at_fixed.proofs.digits.keep_digits.Goals.{After-power_of_ten, Then-count-lt8, Else-count-lt8, After-keep_more_digits-end}
@@ -37,8 +37,8 @@ kept_last c =
     first_kept c.args.text.now c.args.from c.leading_digits-count.result.0 c.args.before c.leading_digits-count.result.1 c.power_of_ten.result
     (omega (arith, c.if-text-from-ge8.true, c.requires.from_within)) eight.few eight.digits eight.value c.power_of_ten.ensures room
 
-both_kept : (c : After-keep_more_digits-end) → AreDigits (part c.args.text.now c.args.from c.keep_more_digits-end.result.0)
-    × (c.keep_more_digits-end.result.1 ≡ digits_behind c.args.before (part c.args.text.now c.args.from c.keep_more_digits-end.result.0))
+both_kept : (c : After-keep_more_digits-end) → AreDigits (between c.args.text.now c.args.from c.keep_more_digits-end.result.0)
+    × (c.keep_more_digits-end.result.1 ≡ digits_behind c.args.before (between c.args.text.now c.args.from c.keep_more_digits-end.result.0))
 both_kept c =
     let kept = kept_last c in
     let more = c.keep_more_digits-end.ensures in

@@ -1,6 +1,6 @@
 use Rattle.std.proofs.Common.{◌+◌, ◌-◌, ◌≡◌, subst, arith}
 use Rattle.at_fixed.specs.Numerals.{AreDigits}
-use Rattle.at_fixed.specs.Kept.{part}
+use Rattle.at_fixed.specs.Kept.{between}
 use Rattle.at_fixed.specs.Scans.{KeepsTo}
 use Rattle.at_fixed.proofs.PlainRuns.{first_digits, kept_on, kept_small, room_more}
 use Rattle.at_fixed.proofs.plain_numbers.keep_long.Goals as goal
@@ -15,12 +15,12 @@ keep_counted-first-requires-clause-room c = room_more c.args.before (19 - (c.arg
 pub keep_counted-requires-clause-digits : goal.keep_counted-requires-clause-digits
 keep_counted-requires-clause-digits c =
     let place : c.args.to ≡ c.args.from + 8 + (c.args.to - c.args.from - 8) = omega (arith, c.requires.many) in
-    subst (λ z. AreDigits (part c.args.text.now (c.args.from + 8) z)) place
+    subst (λ z. AreDigits (between c.args.text.now (c.args.from + 8) z)) place
     (first_digits c.args.text.now c.args.from (c.args.from + 8) c.args.to (omega arith) (omega (arith, c.requires.many)) (omega (arith, c.requires.few, c.requires.inside)) c.requires.digits).1
 
 pub keep_counted-requires-clause-room : goal.keep_counted-requires-clause-room
 keep_counted-requires-clause-room c =
-    let first : AreDigits (part c.args.text.now c.args.from (c.args.from + 8)) =
+    let first : AreDigits (between c.args.text.now c.args.from (c.args.from + 8)) =
     (first_digits c.args.text.now c.args.from (c.args.from + 8) c.args.to (omega arith) (omega (arith, c.requires.many)) (omega (arith, c.requires.few, c.requires.inside)) c.requires.digits).0 in
     room_more c.keep_counted-first.result (19 - (c.args.to - c.args.from) + (c.args.from + 8 - c.args.from)) (19 - (c.args.to - c.args.from - 8))
     (kept_small c.args.text.now c.args.from (c.args.from + 8) c.args.before c.keep_counted-first.result (19 - (c.args.to - c.args.from)) (omega arith) (omega (arith, c.requires.inside)) first c.keep_counted-first.ensures.value c.requires.room)

@@ -1,7 +1,7 @@
 -- A position with white space round it.
 use Rattle.std.proofs.Common.{◌≤◌, refl, sym, subst, arith}
 use Rattle.at_lex.specs.Spans.{AreSpaces}
-use Rattle.at_fixed.specs.Kept.{part}
+use Rattle.at_fixed.specs.Kept.{between}
 use Rattle.at_geojson.proofs.ValueParts.{pair_spaced}
 use Rattle.at_geojson.proofs.pairs.pass_spaced.Goals as goal
 
@@ -19,7 +19,7 @@ returns c =
             record { end = end; pair = p.pair },
             refl,
             pair_spaced c.args.algebra.now base w c.args.at first end p before c.skip_spaces-first.ensures.spaces h
-                (subst (λ k. k ≤ end) (sym e) c.skip_spaces.ensures.order) c.skip_spaces.ensures.within (subst (λ k. AreSpaces (part w k end)) (sym e) c.skip_spaces.ensures.spaces),
+                (subst (λ k. k ≤ end) (sym e) c.skip_spaces.ensures.order) c.skip_spaces.ensures.within (subst (λ k. AreSpaces (between w k end)) (sym e) c.skip_spaces.ensures.spaces),
           )
           ),
     )

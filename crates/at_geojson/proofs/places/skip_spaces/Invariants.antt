@@ -1,11 +1,11 @@
 -- The bytes that were passed are white space.
 use Rattle.std.proofs.Common.{◌-◌, ◌≤◌, length}
-use Rattle.at_fixed.specs.Kept.{part}
+use Rattle.at_fixed.specs.Kept.{between}
 use Rattle.at_lex.specs.Spans.{AreSpaces}
 use Rattle.at_geojson.proofs.places.skip_spaces.Given as goal
 
 abbrev pub invariant-loop-end : goal.invariant-loop-end
-invariant-loop-end l = record { order : l.at ≤ l.end; within : l.end ≤ length l.text; spaces : AreSpaces (part l.text l.at l.end) }
+invariant-loop-end l = record { order : l.at ≤ l.end; within : l.end ≤ length l.text; spaces : AreSpaces (between l.text l.at l.end) }
 
 abbrev pub decreases-loop-end : goal.decreases-loop-end
 decreases-loop-end l = length l.text - l.end

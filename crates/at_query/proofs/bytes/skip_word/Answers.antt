@@ -1,7 +1,7 @@
 use Rattle.std.proofs.Common.{◌≡◌, ◌≢◌, ℕ, suc, ◌+◌, ◌<◌, ◌≤◌, ◌==◌, false, List, [], ◌∷◌, ◌++◌, length, take, drop, sym, ◌∙◌, ap, arith, take-append-drop, drop-cons, slice_index}
 use Rattle.std.proofs.lemmas.List.{append_cancel_left}
 use Rattle.at_wkt.proofs.Leads.{part-more}
-use Rattle.at_fixed.specs.Kept.{part}
+use Rattle.at_fixed.specs.Kept.{between}
 use Rattle.at_wkt.specs.Readers.{next}
 use Rattle.at_query.specs.Readers.{WordBreaks}
 use Rattle.at_query.proofs.bytes.skip_word.Goals as goal
@@ -9,7 +9,7 @@ use Rattle.at_query.proofs.bytes.skip_word.Goals as goal
 apart : (a b : ℕ) → (a == b) ≡ false → a ≢ b
 apart a b h = grind (arith, h)
 
-word_breaks : (w : List ℕ) (i count : ℕ) (word : List ℕ) → count < length word → i + count ≤ length w → part w i (i + count) ≡ take count word
+word_breaks : (w : List ℕ) (i count : ℕ) (word : List ℕ) → count < length word → i + count ≤ length w → between w i (i + count) ≡ take count word
     → (next w (i + count) == slice_index word count) ≡ false → WordBreaks w i (i + count) word
 word_breaks w i count word short within text differs =
     let order : i ≤ i + count = omega arith in
