@@ -5,7 +5,7 @@ ghost use Rattle.std.specs.List.{list_any, position_or_len};
 ghost use Rattle.at_text.specs.Texts.{base_of as base_in};
 ghost use Rattle.at_text.specs.Spans.{AreNeighbours, IsMerged, span_of};
 ghost use Rattle.at_wkt.specs.Lines.{lines_of, lines_in, is_line_feed};
-ghost use Rattle.at_wkt.specs.Folding.{AddsLines, HoldsInner, HoldsLines, IsLost, IsPiece, Kept, StandsFor};
+ghost use Rattle.at_wkt.specs.Folding.{AddsLines, HoldsInner, HoldsLines, IsLost, IsPiece, IsPartOf, StandsFor};
 ghost use Rattle.at_wkt.specs.Folding.{fragment_of};
 
 use crate::folding::{Fold, fold_piece};
@@ -49,7 +49,7 @@ fn read_inner<F: Fold>(
     at: u32,
 ) -> Result<Inner<F::Part>, Memory>
     requires { at + length bytes.now ≤ 2 ^ 28 }
-    ensures { IfOk result (HoldsInner (Kept (F.is_own fold.now) (F.is_fold fold.now)) at bytes.now) }
+    ensures { IfOk result (HoldsInner (IsPartOf F.Fold fold.now) at bytes.now) }
 {
     let mut part = fold.none(alloc);
     let mut room = Room::new(alloc);
@@ -83,7 +83,7 @@ fn read_whole<F: Fold>(
     requires short { base + length piece.now ≤ 2 ^ 28 }
     requires first { first ≡ position_or_len is_line_feed piece.now }
     requires inside { first < length piece.now }
-    ensures { IfOk result (HoldsLines (Kept (F.is_own fold.now) (F.is_fold fold.now)) base piece.now) }
+    ensures { IfOk result (HoldsLines (IsPartOf F.Fold fold.now) base piece.now) }
 {
     let before = Span {
         from: base,
@@ -116,7 +116,7 @@ fn lines_or_lost<P: Drop>(lines: Result<WholeLines<P>, Memory>) -> LineFragment<
 /// memory is wanted, the fragment is lost.
 pub fn run_lines<F: Fold>(alloc: Global, fold: &F, piece: &[u8], base: u32) -> LineFragment<F::Part>
     requires { base + length piece.now ≤ 2 ^ 28 }
-    ensures { StandsFor (Kept (F.is_own fold.now) (F.is_fold fold.now)) base piece.now result }
+    ensures { StandsFor (IsPartOf F.Fold fold.now) base piece.now result }
 {
     let first = first_place(b'\n', piece);
     if first == piece.len() {
@@ -181,9 +181,9 @@ fn merge_whole<F: Fold>(
 ) -> Result<WholeLines<F::Part>, Memory>
     requires fits { length bytes.now ≤ 2 ^ 28 }
     requires neighbours { (i : ℕ) × (j : ℕ) × (k : ℕ)
-        × AreNeighbours (StandsFor (Kept (F.is_own fold.now) (F.is_fold fold.now))) bytes.now i j k
+        × AreNeighbours (StandsFor (IsPartOf F.Fold fold.now)) bytes.now i j k
         (LineFragment.Lines left) (LineFragment.Lines right) }
-    ensures { IfOk result (λ both. IsMerged (StandsFor (Kept (F.is_own fold.now) (F.is_fold fold.now))) bytes.now
+    ensures { IfOk result (λ both. IsMerged (StandsFor (IsPartOf F.Fold fold.now)) bytes.now
         (LineFragment.Lines left) (LineFragment.Lines right) (LineFragment.Lines both)) }
 {
     let broken = joined(left.behind, right.before);
@@ -208,8 +208,8 @@ pub fn merge_lines<F: Fold>(
 ) -> LineFragment<F::Part>
     requires fits { length bytes.now ≤ 2 ^ 28 }
     requires neighbours { (i : ℕ) × (j : ℕ) × (k : ℕ)
-        × AreNeighbours (StandsFor (Kept (F.is_own fold.now) (F.is_fold fold.now))) bytes.now i j k left right }
-    ensures merged { IsMerged (StandsFor (Kept (F.is_own fold.now) (F.is_fold fold.now))) bytes.now left right result }
+        × AreNeighbours (StandsFor (IsPartOf F.Fold fold.now)) bytes.now i j k left right }
+    ensures merged { IsMerged (StandsFor (IsPartOf F.Fold fold.now)) bytes.now left right result }
     ensures left_lost { IsLost left → IsLost result }
     ensures right_lost { IsLost right → IsLost result }
 
@@ -249,7 +249,7 @@ fn finish_whole<F: Fold>(
     whole: WholeLines<F::Part>,
 ) -> Result<F::Part, Memory>
     requires fits { length bytes.now ≤ 2 ^ 28 }
-    requires whole { HoldsLines (Kept (F.is_own fold.now) (F.is_fold fold.now)) (base_in bytes.now)
+    requires whole { HoldsLines (IsPartOf F.Fold fold.now) (base_in bytes.now)
         (drop (base_in bytes.now) bytes.now) whole }
     ensures own { IfOk result (F.is_own fold.now) }
     ensures fold { IfOk result (λ part. F.is_fold fold.now part (lines_of bytes.now)) }
@@ -272,7 +272,7 @@ pub fn finish_lines<F: Fold>(
     whole: LineFragment<F::Part>,
 ) -> Result<F::Part, Memory>
     requires fits { length bytes.now ≤ 2 ^ 28 }
-    requires whole { StandsFor (Kept (F.is_own fold.now) (F.is_fold fold.now)) (base_in bytes.now)
+    requires whole { StandsFor (IsPartOf F.Fold fold.now) (base_in bytes.now)
         (drop (base_in bytes.now) bytes.now) whole }
     ensures own { IfOk result (F.is_own fold.now) }
     ensures fold { IfOk result (λ part. F.is_fold fold.now part (lines_of bytes.now)) }

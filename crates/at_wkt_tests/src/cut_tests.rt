@@ -5,7 +5,7 @@ ghost use Rattle.std.specs.List.{flat_map};
 ghost use Rattle.at_text.specs.Texts.{base_of as base_in};
 ghost use Rattle.at_wkt.specs.Lines.{FileLine, lines_of};
 ghost use Rattle.at_text.specs.Spans.{span_of};
-ghost use Rattle.at_wkt.specs.Folding.{Kept, StandsFor};
+ghost use Rattle.at_wkt.specs.Folding.{IsPartOf, StandsFor};
 
 use at_text::{Memory, Span, base_of};
 use at_wkt::{Fold, LineFragment, finish_lines, merge_lines, run_lines};
@@ -74,7 +74,7 @@ fn run_span<F: Fold>(
     requires order { from ≤ to }
     requires within { to ≤ length bytes.now }
     requires fits { length bytes.now ≤ 2 ^ 28 }
-    ensures { StandsFor (Kept (F.is_own fold.now) (F.is_fold fold.now)) from (span_of bytes.now from to) result }
+    ensures { StandsFor (IsPartOf F.Fold fold.now) from (span_of bytes.now from to) result }
 {
     run_lines(alloc, fold, &bytes[from as usize..to as usize], from)
 }
