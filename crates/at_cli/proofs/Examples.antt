@@ -2,9 +2,9 @@
 use Rattle.std.proofs.Common.{◌≡◌, ◌==◌, ℕ, Bool, false, List, [], ◌∷◌, Some, None, refl, sym, ◌∙◌, ap, codes, lit≤, inl, inr, true≢false}
 use Rattle.std.specs.Fmt.{digits}
 use Rattle.at_fixed.specs.declared.rounding.Coords.TheVariants.{Exact, Round}
-use Rattle.at_cli.specs.declared.flags.Setting.TheVariants.{Form, Coords, Digits, Blocks, Workers}
-use Rattle.at_cli.specs.declared.form.FileForm.TheVariants.{GeoJson, Wkt, Seq}
-use Rattle.at_cli.specs.declared.line.Line.{Line}
+use Rattle.at_cli.specs.declared.words.flags.Setting.TheVariants.{Form, Coords, Digits, Blocks, Workers}
+use Rattle.at_cli.specs.declared.words.form.FileForm.TheVariants.{GeoJson, Wkt, Seq}
+use Rattle.at_cli.specs.declared.words.line.Line.{Line}
 use Rattle.at_cli.specs.Pieces.{apart, joined, positional}
 use Rattle.at_cli.specs.Values.{IsFileName}
 use Rattle.at_cli.specs.LineOf.{SaysLine}

@@ -1,15 +1,15 @@
 -- The part of a file of any form, the answer that it gives, and the join of two.
 use Rattle.std.proofs.Common.{◌≡◌, ◌≢◌, ℕ, ◌^◌, ◌≤◌, List, [], length, Some, Result, Ok, Err, IfOk, MatchResult}
 use Rattle.at_fixed.specs.declared.rounding.Coords.{Coords}
-use Rattle.at_query.specs.declared.queries.Verb.TheVariants.{Join}
-use Rattle.at_query.specs.declared.queries.Query.{Query}
+use Rattle.at_query.specs.declared.query.queries.Verb.TheVariants.{Join}
+use Rattle.at_query.specs.declared.query.queries.Query.{Query}
 use Rattle.at_query.specs.declared.features.Feature.{Feature}
-use Rattle.at_query.specs.declared.parts.Entry.{Entry}
-use Rattle.at_query.specs.declared.parts.Part.{Part}
-use Rattle.at_query.specs.declared.parts.Part.TheVariants.{Entries}
-use Rattle.at_query.specs.declared.answers.Pair.{Pair}
-use Rattle.at_query.specs.declared.answers.Answer.{Answer}
-use Rattle.at_query.specs.declared.answers.Answer.TheVariants.{Pairs}
+use Rattle.at_query.specs.declared.answer.parts.Entry.{Entry}
+use Rattle.at_query.specs.declared.answer.parts.Part.{Part}
+use Rattle.at_query.specs.declared.answer.parts.Part.TheVariants.{Entries}
+use Rattle.at_query.specs.declared.answer.answers.Pair.{Pair}
+use Rattle.at_query.specs.declared.answer.answers.Answer.{Answer}
+use Rattle.at_query.specs.declared.answer.answers.Answer.TheVariants.{Pairs}
 use Rattle.at_query.specs.Ranges.{AreFeaturesInRange}
 use Rattle.at_query.specs.Results.{IsResult}
 use Rattle.at_query.specs.Parts.{IsPart, IsAnswerable, AreFew}
@@ -22,8 +22,8 @@ use Rattle.at_run.specs.Answers.{IfFound, IsFilePart}
 use Rattle.at_run.proofs.Results.{part_answerable, features_few, features_in_range}
 use Rattle.at_run.proofs.JoinedFiles.{all_pairs_joined, file_entries_proper}
 use Rattle.at_seq.specs.Answers.{HasProperEntries}
-use Rattle.at_cli.specs.declared.form.FileForm.{FileForm}
-use Rattle.at_cli.specs.declared.form.FileForm.TheVariants.{GeoJson, Wkt, Seq}
+use Rattle.at_cli.specs.declared.words.form.FileForm.{FileForm}
+use Rattle.at_cli.specs.declared.words.form.FileForm.TheVariants.{GeoJson, Wkt, Seq}
 use Rattle.at_cli.specs.Answers.{HasFaultAs, AreFeaturesAs, IsPartAs, IsAnswerAs, IsJoinAs}
 use Rattle.at_cli.proofs.Sequences.{seq_features_few, seq_features_in_range}
 

@@ -1,12 +1,12 @@
 -- Where files have an answer, the gate gave up none of their blocks, and no cell.
 use Rattle.std.proofs.Common.{◌≡◌, ℕ, ◌-◌, List, length, Option, Some, None, Result, Ok, Err, IfOk, sym, subst, arith}
-use Rattle.at_query.specs.declared.answers.Answer.{Answer}
+use Rattle.at_query.specs.declared.answer.answers.Answer.{Answer}
 use Rattle.at_run.specs.declared.faults.RunFault.{RunFault}
 use Rattle.at_run.specs.declared.faults.RunFault.TheVariants.{Memory}
 use Rattle.at_run.specs.declared.faults.JoinFault.{JoinFault}
 use Rattle.at_run.specs.Places.{AreEven}
 use Rattle.at_run.specs.Blocks.{NoneGivenUp, SomeGivenUp}
-use Rattle.at_cli.specs.declared.line.Line.{Line}
+use Rattle.at_cli.specs.declared.words.line.Line.{Line}
 use Rattle.at_cli.specs.Gates.{PassesCells, PassesGate}
 
 pub gate_passed : (line : Line) (given_up places : List ℕ) (base len : ℕ) (result : Result Answer RunFault) → AreEven base len line.blocks places

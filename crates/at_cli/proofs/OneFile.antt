@@ -3,15 +3,15 @@ use Rattle.std.proofs.Common.{◌≡◌, ℕ, List, Option, Some, None, subst}
 use Rattle.std.proofs.lemmas.Option.{none-some}
 use Rattle.at_text.specs.declared.faults.Fault.{Fault}
 use Rattle.at_fixed.specs.declared.rounding.Coords.{Coords}
-use Rattle.at_query.specs.declared.queries.Query.{Query}
+use Rattle.at_query.specs.declared.query.queries.Query.{Query}
 use Rattle.at_query.specs.declared.features.Feature.{Feature}
-use Rattle.at_query.specs.declared.answers.Answer.{Answer}
+use Rattle.at_query.specs.declared.answer.answers.Answer.{Answer}
 use Rattle.at_query.specs.Results.{IsResult, IsJoined}
 use Rattle.at_query.proofs.OneAnswer.{one_result, one_join}
 use Rattle.at_run.specs.declared.forms.Form.TheVariants as forms
 use Rattle.at_run.proofs.OneAnswer.{one_file_fault_in, one_file_features_in}
-use Rattle.at_cli.specs.declared.form.FileForm.{FileForm}
-use Rattle.at_cli.specs.declared.form.FileForm.TheVariants.{GeoJson, Wkt, Seq}
+use Rattle.at_cli.specs.declared.words.form.FileForm.{FileForm}
+use Rattle.at_cli.specs.declared.words.form.FileForm.TheVariants.{GeoJson, Wkt, Seq}
 use Rattle.at_cli.specs.Answers.{HasFaultAs, AreFeaturesAs, IsAnswerAs, IsJoinAs}
 use Rattle.at_seq.proofs.OneSequence.{one_seq_fault, one_seq_features}
 

@@ -4,15 +4,15 @@ use Rattle.std.proofs.lemmas.Option.{none-some, same_Some, option_and_then_some}
 use Rattle.std.proofs.lemmas.Fmt.{decimal_injective}
 use Rattle.at_fixed.specs.declared.rounding.Coords.{Coords}
 use Rattle.at_fixed.specs.declared.rounding.Coords.TheVariants.{Exact, Round}
-use Rattle.at_cli.specs.declared.flags.Setting.{Setting}
-use Rattle.at_cli.specs.declared.flags.Setting.TheVariants as settings
-use Rattle.at_cli.specs.declared.form.FileForm.{FileForm}
-use Rattle.at_cli.specs.declared.form.FileForm.TheVariants.{GeoJson, Wkt, Seq}
-use Rattle.at_cli.specs.declared.line.Line.{Line}
-use Rattle.at_cli.specs.declared.line.WordsEnd.{WordsEnd}
-use Rattle.at_cli.specs.declared.line.WordsEnd.TheVariants.{Refused, Memory}
-use Rattle.at_cli.specs.declared.pieces.Next.{Next}
-use Rattle.at_cli.specs.declared.pieces.Next.TheVariants as nexts
+use Rattle.at_cli.specs.declared.words.flags.Setting.{Setting}
+use Rattle.at_cli.specs.declared.words.flags.Setting.TheVariants as settings
+use Rattle.at_cli.specs.declared.words.form.FileForm.{FileForm}
+use Rattle.at_cli.specs.declared.words.form.FileForm.TheVariants.{GeoJson, Wkt, Seq}
+use Rattle.at_cli.specs.declared.words.line.Line.{Line}
+use Rattle.at_cli.specs.declared.words.line.WordsEnd.{WordsEnd}
+use Rattle.at_cli.specs.declared.words.line.WordsEnd.TheVariants.{Refused, Memory}
+use Rattle.at_cli.specs.declared.words.pieces.Next.{Next}
+use Rattle.at_cli.specs.declared.words.pieces.Next.TheVariants as nexts
 use Rattle.at_cli.specs.Pieces.{Piece, SpellPieces, values_of, positionals_of}
 use Rattle.at_cli.specs.Values.{form_text, coords_text, SpellsDigits, IsWhole}
 use Rattle.at_cli.specs.LineOf.{IsChosen, SpellsForm, HasNames, HasValues, SaysLine}

@@ -2,17 +2,17 @@
 use Rattle.std.proofs.Common.{◌≡◌, inl, inr, ℕ, ◌<◌, ◌≤◌, ◌^◌, Bool, true, false, List, [], length, Option, Some, None, refl, sym, ◌∙◌, ap, subst, arith, true≢false}
 use Rattle.std.proofs.lemmas.Option.{none-some, same_Some}
 use Rattle.at_io.specs.Files.{Files}
-use Rattle.at_query.specs.declared.queries.Query.{Query}
+use Rattle.at_query.specs.declared.query.queries.Query.{Query}
 use Rattle.at_query.specs.Printing.{printed}
 use Rattle.at_query.proofs.OneQuery.{one_query, one_query_fault, query_or_fault}
-use Rattle.at_cli.specs.declared.form.FileForm.{FileForm}
-use Rattle.at_cli.specs.declared.line.Line.{Line}
+use Rattle.at_cli.specs.declared.words.form.FileForm.{FileForm}
+use Rattle.at_cli.specs.declared.words.line.Line.{Line}
 use Rattle.at_cli.specs.LineOf.{form_of}
 use Rattle.at_cli.specs.Made.{is_made}
 use Rattle.at_cli.proofs.OneMade.{one_made_text}
 use Rattle.at_cli.specs.Texts.{usage_line, query_line, files_line, size_line, fault_line}
 use Rattle.at_cli.specs.Outcomes.{Outcome, stopped, answered, has_right_count, HasBytesBy, Sized, HasBytesOutcome, HasPairOutcome, HasFilesOutcome, HasCountedOutcome, HasLineOutcome, HasOutcome, TheOutcome, IsQueryRefused, IsLineRefused, AreRefused, IsLineAccepted, AreAccepted}
-use Rattle.at_cli.specs.declared.ending.Ending.{Ending}
+use Rattle.at_cli.specs.declared.outcome.ending.Ending.{Ending}
 use Rattle.at_cli.specs.Endings.{outcome_by, Ends}
 use Rattle.at_cli.proofs.OneLine.{one_line}
 use Rattle.at_cli.proofs.OneFile.{one_fault_as, one_answer_as, answer_or_fault_as, one_join_as, join_or_first_fault_as, join_or_second_fault_as}

@@ -1,14 +1,14 @@
 -- The end of a run is the outcome of what the words say, over the files.
 use Rattle.std.proofs.Common.{◌≡◌, ◌≢◌, ◌↔◌, ◌⊎◌, ◌∙◌, sym, ap, Result, Err, ℕ, ◌≤◌, ◌^◌, List, [], ◌∷◌, length, Option, Some, None, IfSome, inl, inr, refl, subst, arith}
 use Rattle.at_io.specs.Files.{Files}
-use Rattle.at_cli.specs.declared.ending.Ending.{Ending}
-use Rattle.at_cli.specs.declared.line.Line.{Line}
+use Rattle.at_cli.specs.declared.outcome.ending.Ending.{Ending}
+use Rattle.at_cli.specs.declared.words.line.Line.{Line}
 use Rattle.at_cli.specs.Values.{SpellsDigits, IsWhole}
 use Rattle.at_cli.specs.LineOf.{IsChosen, SaysLine, KeepsLimits}
 use Rattle.at_query.specs.Queries.{HasQueryFault}
-use Rattle.at_cli.specs.declared.ending.Ending.TheVariants.{Usage, QueryFault, Names, Faulty, ReadFailed, TooLarge, NoMemory, Answered}
-use Rattle.at_cli.specs.declared.line.WordsEnd.{WordsEnd}
-use Rattle.at_cli.specs.declared.line.WordsEnd.TheVariants.{Refused}
+use Rattle.at_cli.specs.declared.outcome.ending.Ending.TheVariants.{Usage, QueryFault, Names, Faulty, ReadFailed, TooLarge, NoMemory, Answered}
+use Rattle.at_cli.specs.declared.words.line.WordsEnd.{WordsEnd}
+use Rattle.at_cli.specs.declared.words.line.WordsEnd.TheVariants.{Refused}
 use Rattle.at_cli.specs.Outcomes.{Outcome, stopped, answered, HasLineOutcome, HasOutcome, SayNoLine, IsLineRefused, IsLineAccepted, AreRefused, AreAccepted}
 use Rattle.at_cli.specs.Endings.{status_of, text_of, line_of, outcome_by, Ends}
 

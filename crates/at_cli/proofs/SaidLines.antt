@@ -1,7 +1,7 @@
 -- The words say what is said of what is gathered from them, and nothing else.
 use Rattle.std.proofs.Common.{◌≡◌, ℕ, List, Option, Some, None, MatchOption, sym}
-use Rattle.at_cli.specs.declared.line.Line.{Line}
-use Rattle.at_cli.specs.declared.said.Said.{Said}
+use Rattle.at_cli.specs.declared.words.line.Line.{Line}
+use Rattle.at_cli.specs.declared.words.said.Said.{Said}
 use Rattle.at_cli.specs.LineOf.{HasValues, SaysLine}
 use Rattle.at_cli.specs.Said.{line_said}
 use Rattle.at_cli.specs.Steps.{State, gathered, given_in}

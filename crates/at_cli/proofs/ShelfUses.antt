@@ -6,11 +6,11 @@ use Rattle.at_io.specs.Counts.{next_count, Rose}
 use Rattle.at_io.specs.declared.whole.ReadError.{ReadError}
 use Rattle.at_io.specs.declared.whole.ReadError.TheVariants.{Failed, TooLarge as Large}
 use Rattle.at_io.specs.Files.{Files, bytes_named, name_among}
-use Rattle.at_query.specs.declared.queries.Verb.{Verb}
-use Rattle.at_query.specs.declared.queries.Verb.TheVariants as verbs
-use Rattle.at_cli.specs.declared.ending.Ending.{Ending}
-use Rattle.at_cli.specs.declared.ending.Ending.TheVariants.{ReadFailed, TooLarge}
-use Rattle.at_cli.specs.declared.line.Line.{Line}
+use Rattle.at_query.specs.declared.query.queries.Verb.{Verb}
+use Rattle.at_query.specs.declared.query.queries.Verb.TheVariants as verbs
+use Rattle.at_cli.specs.declared.outcome.ending.Ending.{Ending}
+use Rattle.at_cli.specs.declared.outcome.ending.Ending.TheVariants.{ReadFailed, TooLarge}
+use Rattle.at_cli.specs.declared.words.line.Line.{Line}
 use Rattle.at_cli.specs.Made.{is_made, IsMadeText}
 use Rattle.at_cli.specs.Texts.{unread_line, size_line}
 use Rattle.at_cli.specs.Outcomes.{Outcome, stopped, has_right_count, HasBytesBy, HasBytes, Sized}

@@ -7,10 +7,10 @@ use Rattle.std.specs.Prelude.{⊤}
 use Rattle.std.specs.List.{AllByRecursion, cons_option}
 use Rattle.std.specs.Option.{option_or}
 use Rattle.at_cli.specs.Words.{begins_with}
-use Rattle.at_cli.specs.declared.flags.Setting.{Setting}
-use Rattle.at_cli.specs.declared.flags.Setting.TheVariants as settings
-use Rattle.at_cli.specs.declared.pieces.Next.{Next}
-use Rattle.at_cli.specs.declared.pieces.Next.TheVariants as nexts
+use Rattle.at_cli.specs.declared.words.flags.Setting.{Setting}
+use Rattle.at_cli.specs.declared.words.flags.Setting.TheVariants as settings
+use Rattle.at_cli.specs.declared.words.pieces.Next.{Next}
+use Rattle.at_cli.specs.declared.words.pieces.Next.TheVariants as nexts
 use Rattle.at_cli.specs.Pieces.{setting_name, Piece, apart, joined, positional, words_of, IsPiece, end_words, SpellPieces, value_in, values_of, positionals_of}
 use Rattle.at_cli.specs.Steps.{FlagWord, flag_behind, flag_for, flag_in, behind, State, value_at, set_value, unless_given, with_value, with_place, with_flag_value, with_flag, with_piece, step_by, step, walk, given_in}
 use Rattle.at_cli.proofs.Prefixes.{behind-is}

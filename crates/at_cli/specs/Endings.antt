@@ -1,13 +1,13 @@
 -- The ends that a run can come to before anything is written.
 use Rattle.std.specs.Prelude.{◌≡◌, ◌⊎◌, ℕ, List, [], Option, IfSome, string_bytes}
 use Rattle.at_io.specs.Files.{Files}
-use Rattle.at_query.specs.declared.queries.Query.{Query}
-use Rattle.at_cli.specs.declared.line.Line.{Line}
+use Rattle.at_query.specs.declared.query.queries.Query.{Query}
+use Rattle.at_cli.specs.declared.words.line.Line.{Line}
 use Rattle.at_cli.specs.Outcomes.{Outcome, HasBytesOutcome, HasPairOutcome}
 use Rattle.at_cli.specs.Texts.{usage_line, query_line, files_line, fault_line, unread_line, size_line, memory_line}
-use Rattle.at_cli.specs.declared.ending.Ending.{Ending}
-use Rattle.at_cli.specs.declared.ending.Ending.TheVariants.{Usage, QueryFault, Names, Faulty, ReadFailed, TooLarge}
-use Rattle.at_cli.specs.declared.ending.Ending.TheVariants.{NoMemory, Answered}
+use Rattle.at_cli.specs.declared.outcome.ending.Ending.{Ending}
+use Rattle.at_cli.specs.declared.outcome.ending.Ending.TheVariants.{Usage, QueryFault, Names, Faulty, ReadFailed, TooLarge}
+use Rattle.at_cli.specs.declared.outcome.ending.Ending.TheVariants.{NoMemory, Answered}
 
 -- the status of the end, if an answer can be written
 abbrev pub status_of : Ending → ℕ

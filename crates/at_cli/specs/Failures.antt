@@ -4,7 +4,7 @@ use Rattle.std.specs.Prelude.{None, IfSome}
 use Rattle.at_io.specs.Counts.{next_count, Rose}
 use Rattle.at_io.specs.Files.{Files, bytes_named, name_among}
 use Rattle.at_io.specs.declared.shelf.Shelf.{Ghosts}
-use Rattle.at_cli.specs.declared.line.Line.{Line}
+use Rattle.at_cli.specs.declared.words.line.Line.{Line}
 use Rattle.at_cli.specs.Made.{is_made}
 use Rattle.at_cli.specs.Texts.{unread_line}
 

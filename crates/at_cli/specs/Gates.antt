@@ -2,7 +2,7 @@
 use Rattle.std.specs.Prelude.{ℕ, List, Option, Some, None}
 use Rattle.at_run.specs.Places.{IsLeastCount}
 use Rattle.at_run.specs.Blocks.{NoneGivenUp}
-use Rattle.at_cli.specs.declared.line.Line.{Line}
+use Rattle.at_cli.specs.declared.words.line.Line.{Line}
 use Rattle.at_cli.specs.LineOf.{SaysLine}
 
 -- nor any cell of a join

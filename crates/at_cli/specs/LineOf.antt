@@ -2,10 +2,10 @@
 use Rattle.std.specs.Prelude.{◌≡◌, ◌⊎◌, ℕ, ◌^◌, ◌≤◌, List, [], ◌∷◌, length, Option, Some, None, IfSome, option_to_list}
 use Rattle.std.specs.Prelude.{unwrap_or}
 use Rattle.at_fixed.specs.declared.rounding.Coords.TheVariants.{Round}
-use Rattle.at_cli.specs.declared.flags.Setting.{Setting}
-use Rattle.at_cli.specs.declared.flags.Setting.TheVariants as settings
-use Rattle.at_cli.specs.declared.form.FileForm.{FileForm}
-use Rattle.at_cli.specs.declared.line.Line.{Line}
+use Rattle.at_cli.specs.declared.words.flags.Setting.{Setting}
+use Rattle.at_cli.specs.declared.words.flags.Setting.TheVariants as settings
+use Rattle.at_cli.specs.declared.words.form.FileForm.{FileForm}
+use Rattle.at_cli.specs.declared.words.line.Line.{Line}
 use Rattle.at_cli.specs.Pieces.{Piece, SpellPieces, values_of, positionals_of}
 use Rattle.at_cli.specs.Values.{form_text, coords_text, SpellsDigits, IsWhole, IsFileName, form_by_name}
 

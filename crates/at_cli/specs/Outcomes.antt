@@ -3,13 +3,13 @@
 use Rattle.std.specs.Prelude.{◌≡◌, ◌⊎◌, ℕ, ◌^◌, ◌<◌, ◌≤◌, Bool, true, false, List, [], length, Option, Some, None}
 use Rattle.at_text.specs.declared.faults.Fault.{Fault}
 use Rattle.at_io.specs.Files.{Files, bytes_named}
-use Rattle.at_query.specs.declared.queries.Verb.{Verb}
-use Rattle.at_query.specs.declared.queries.Verb.TheVariants as verbs
-use Rattle.at_query.specs.declared.queries.Query.{Query}
-use Rattle.at_query.specs.declared.answers.Answer.{Answer}
+use Rattle.at_query.specs.declared.query.queries.Verb.{Verb}
+use Rattle.at_query.specs.declared.query.queries.Verb.TheVariants as verbs
+use Rattle.at_query.specs.declared.query.queries.Query.{Query}
+use Rattle.at_query.specs.declared.answer.answers.Answer.{Answer}
 use Rattle.at_query.specs.Queries.{IsQueryOf, HasQueryFault}
 use Rattle.at_query.specs.Printing.{printed}
-use Rattle.at_cli.specs.declared.line.Line.{Line}
+use Rattle.at_cli.specs.declared.words.line.Line.{Line}
 use Rattle.at_cli.specs.LineOf.{SaysLine, form_of}
 use Rattle.at_cli.specs.Answers.{HasFaultAs, IsAnswerAs, IsJoinAs, SecondFailsAs}
 use Rattle.at_cli.specs.Made.{is_made, IsMadeText}

@@ -3,8 +3,8 @@ use Rattle.std.specs.Prelude.{◌≡◌, ℕ, Bool, false, ⊤, bytes_eq, if◌t
 use Rattle.std.specs.Prelude.{Option, Some, None, unwrap_or}
 use Rattle.std.specs.List.{AllByRecursion, filter_map}
 use Rattle.at_cli.specs.Words.{begins_with}
-use Rattle.at_cli.specs.declared.flags.Setting.{Setting}
-use Rattle.at_cli.specs.declared.flags.Setting.TheVariants as settings
+use Rattle.at_cli.specs.declared.words.flags.Setting.{Setting}
+use Rattle.at_cli.specs.declared.words.flags.Setting.TheVariants as settings
 
 abbrev pub setting_name : Setting → List ℕ
 setting_name settings.Form = codes "--form"

@@ -1,7 +1,7 @@
 -- A line whose texts are the words themselves. Private contracts alone cite it.
 use Rattle.std.specs.Option.{option_copied}
-use Rattle.at_cli.specs.declared.line.Line.{Line}
-use Rattle.at_cli.specs.declared.said.Said.{Said}
+use Rattle.at_cli.specs.declared.words.line.Line.{Line}
+use Rattle.at_cli.specs.declared.words.said.Said.{Said}
 
 abbrev pub line_said : Said → Line
 line_said s = record {

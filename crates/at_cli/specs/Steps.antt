@@ -4,14 +4,14 @@ use Rattle.std.specs.Prelude.{Some, None, option_map, option_and_then, option_to
 use Rattle.std.specs.Option.{option_or, option_copied}
 use Rattle.at_cli.specs.Words.{begins_with}
 use Rattle.at_cli.specs.Pieces.{setting_name}
-use Rattle.at_cli.specs.declared.flags.Setting.{Setting}
-use Rattle.at_cli.specs.declared.flags.Setting.TheVariants as settings
-use Rattle.at_cli.specs.declared.flags.Flag.{Flag}
-use Rattle.at_cli.specs.declared.pieces.Next.{Next}
-use Rattle.at_cli.specs.declared.pieces.Next.TheVariants as nexts
-use Rattle.at_cli.specs.declared.pieces.Places.{Places}
-use Rattle.at_cli.specs.declared.pieces.Places.TheVariants as slots
-use Rattle.at_cli.specs.declared.pieces.Pieces.{Pieces}
+use Rattle.at_cli.specs.declared.words.flags.Setting.{Setting}
+use Rattle.at_cli.specs.declared.words.flags.Setting.TheVariants as settings
+use Rattle.at_cli.specs.declared.words.flags.Flag.{Flag}
+use Rattle.at_cli.specs.declared.words.pieces.Next.{Next}
+use Rattle.at_cli.specs.declared.words.pieces.Next.TheVariants as nexts
+use Rattle.at_cli.specs.declared.words.pieces.Places.{Places}
+use Rattle.at_cli.specs.declared.words.pieces.Places.TheVariants as slots
+use Rattle.at_cli.specs.declared.words.pieces.Pieces.{Pieces}
 
 -- what is behind the prefix of the text
 abbrev pub behind : List ℕ → List ℕ → Option (List ℕ)

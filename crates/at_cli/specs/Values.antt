@@ -4,8 +4,8 @@ use Rattle.std.specs.List.{ends_with}
 use Rattle.at_fixed.specs.declared.rounding.Coords.{Coords}
 use Rattle.at_fixed.specs.declared.rounding.Coords.TheVariants.{Exact, Round}
 use Rattle.at_cli.specs.Words.{begins_with}
-use Rattle.at_cli.specs.declared.form.FileForm.{FileForm}
-use Rattle.at_cli.specs.declared.form.FileForm.TheVariants.{GeoJson, Wkt, Seq}
+use Rattle.at_cli.specs.declared.words.form.FileForm.{FileForm}
+use Rattle.at_cli.specs.declared.words.form.FileForm.TheVariants.{GeoJson, Wkt, Seq}
 
 abbrev pub form_text : FileForm → List ℕ
 form_text GeoJson = codes "geojson"

@@ -2,7 +2,7 @@
 //! both files.
 
 use super::*;
-use crate::files::join_as;
+use crate::outcome::files::join_as;
 use at_crew::Free;
 use at_fixed::Coords;
 use at_query::answer_text;

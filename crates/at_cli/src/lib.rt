@@ -1,32 +1,21 @@
 //! The program's words, its outcome, and its top call.
 #![tactic(auto)]
 
-// The words.
-mod flags;
-mod form;
-mod line;
-mod names;
-mod pieces;
-mod said;
-mod values;
+// The words behind the name of the program.
+mod words;
 
 // The texts of files that the program makes.
 mod made;
 mod squares;
 
-// The outcome: files are read, an end is decided, and the end is told.
-mod deciding;
-mod ending;
-mod files;
-mod reading;
-mod run;
-mod telling;
+// What comes of the words and the files, and how it is told.
+mod outcome;
 
-pub use form::{FileForm, form_of};
-pub use line::{Line, WordsEnd, read_words};
 pub use made::made_file;
-pub use run::top;
-pub use telling::tell_no_memory;
+pub use outcome::run::top;
+pub use outcome::telling::tell_no_memory;
+pub use words::form::{FileForm, form_of};
+pub use words::line::{Line, WordsEnd, read_words};
 
 #[cfg(test)]
 mod file_tests;

@@ -9,9 +9,9 @@ ghost use Rattle.at_cli.specs.Made.{IsMadeText};
 ghost use Rattle.at_cli.specs.Squares.{AreLineTexts, AreFeatureTexts};
 ghost use Rattle.at_cli.specs.Values.{IsWhole, IsFileName};
 
-use crate::flags::text_behind;
 use crate::squares::{RowTexts, push_all};
-use crate::values::{MOST_MADE, number_within};
+use crate::words::flags::text_behind;
+use crate::words::values::{MOST_MADE, number_within};
 use at_text::Memory;
 use itoa::Buffer;
 use std::alloc::{AllocError, Global};

@@ -13,8 +13,8 @@ use Rattle.at_wkt.proofs.FaultOrder.{first_of-append}
 use Rattle.at_nest.specs.Folds.{trees, AreFolds, Covers, AreItemFolds}
 use Rattle.at_nest.specs.Tree.{Tree, Trees, no_trees, tree_and}
 use Rattle.at_query.specs.declared.features.Feature.{Feature}
-use Rattle.at_query.specs.declared.parts.Part.{Part}
-use Rattle.at_query.specs.declared.queries.Query.{Query}
+use Rattle.at_query.specs.declared.answer.parts.Part.{Part}
+use Rattle.at_query.specs.declared.query.queries.Query.{Query}
 use Rattle.at_geojson.specs.declared.atoms.GeoAtom.{GeoAtom}
 use Rattle.at_geojson.specs.declared.atoms.Items.{Items}
 use Rattle.at_geojson.specs.Roles.{GeometryRead, Features, both_read, geometry_reading, items_reading, item_reading}

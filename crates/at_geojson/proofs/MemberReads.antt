@@ -11,8 +11,8 @@ use Rattle.at_text.specs.declared.faults.Fault.{Fault}
 use Rattle.at_fixed.specs.Kept.{between}
 use Rattle.at_fixed.proofs.DigitParts.{part-length, part-more, part-cons}
 use Rattle.at_nest.specs.declared.algebra.Member.{Member}
-use Rattle.at_query.specs.declared.queries.Test.{Test}
-use Rattle.at_query.specs.declared.queries.Test.TheVariants.{InBox, MeetsShape, Has}
+use Rattle.at_query.specs.declared.query.queries.Test.{Test}
+use Rattle.at_query.specs.declared.query.queries.Test.TheVariants.{InBox, MeetsShape, Has}
 use Rattle.at_query.specs.declared.features.TextPair.{TextPair}
 use Rattle.at_geojson.specs.declared.atoms.GeoAtom.{GeoAtom}
 use Rattle.at_geojson.specs.declared.fields.Field.{Field}

@@ -13,7 +13,7 @@ use Rattle.at_nest.specs.declared.algebra.Member.{Member}
 use Rattle.at_nest.specs.Folds.{AreMemberFolds}
 use Rattle.at_nest.specs.Tree.{Tree, literal, number, text, array, object, Members, no_members, member_and, offset_of}
 use Rattle.at_query.specs.declared.features.TextPair.{TextPair}
-use Rattle.at_query.specs.declared.parts.Part.{Part}
+use Rattle.at_query.specs.declared.answer.parts.Part.{Part}
 use Rattle.at_geojson.specs.declared.atoms.GeoAtom.{GeoAtom}
 use Rattle.at_geojson.specs.declared.kinds.Kind.{Kind}
 use Rattle.at_geojson.specs.Names.{is_named, member_named, units_of_text}

@@ -9,7 +9,7 @@ use Rattle.at_geom.specs.declared.shapes.Shape.{Shape}
 use Rattle.at_nest.specs.declared.algebra.Member.{Member}
 use Rattle.at_nest.specs.Folds.{AreMemberFolds}
 use Rattle.at_nest.specs.Tree.{Tree, literal, number, text, array, object, Trees, no_trees, tree_and, Members}
-use Rattle.at_query.specs.declared.parts.Part.{Part}
+use Rattle.at_query.specs.declared.answer.parts.Part.{Part}
 use Rattle.at_query.specs.declared.features.TextPair.{TextPair}
 use Rattle.at_geojson.specs.declared.atoms.GeoAtom.{GeoAtom}
 use Rattle.at_geojson.specs.declared.atoms.GeoAtom.TheVariants as atoms

@@ -6,7 +6,7 @@ use Rattle.at_text.specs.declared.faults.FaultKind.TheVariants.{Form}
 use Rattle.at_geom.specs.declared.shapes.Shape.{Shape}
 use Rattle.at_nest.specs.Tree.{Tree}
 use Rattle.at_nest.specs.Twins.{twins_of}
-use Rattle.at_query.specs.declared.parts.Part.{Part}
+use Rattle.at_query.specs.declared.answer.parts.Part.{Part}
 use Rattle.at_query.specs.Parts.{IsPart}
 use Rattle.at_geojson.specs.declared.atoms.GeoAtom.{GeoAtom}
 use Rattle.at_geojson.specs.declared.atoms.Role.{Role}

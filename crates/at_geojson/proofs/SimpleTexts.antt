@@ -5,8 +5,8 @@ use Rattle.std.proofs.lemmas.Bool.{true≢false}
 use Rattle.at_lex.specs.Strings.{Character, character_text, string_text, AreCharacters, units_of}
 use Rattle.at_lex.specs.UnitSteps.{Content}
 use Rattle.at_lex.proofs.UnitLemmas.{ascii_steps, no_rest}
-use Rattle.at_query.specs.declared.queries.Test.{Test}
-use Rattle.at_query.specs.declared.queries.Test.TheVariants.{InBox, MeetsShape, Has}
+use Rattle.at_query.specs.declared.query.queries.Test.{Test}
+use Rattle.at_query.specs.declared.query.queries.Test.TheVariants.{InBox, MeetsShape, Has}
 use Rattle.at_geojson.specs.Keeping.{looks_at_texts, asks_value}
 use Rattle.at_geojson.specs.Gathering.{is_simple}
 

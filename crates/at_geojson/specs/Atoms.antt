@@ -22,11 +22,11 @@ use Rattle.at_nest.specs.Folds.{trees}
 use Rattle.at_nest.specs.KeptItems.{Content, Kept}
 use Rattle.at_nest.specs.Twins.{twins_of, twins_of_items}
 use Rattle.at_lex.specs.Runs.{the_null}
-use Rattle.at_query.specs.declared.queries.Query.{Query}
-use Rattle.at_query.specs.declared.queries.Test.{Test}
+use Rattle.at_query.specs.declared.query.queries.Query.{Query}
+use Rattle.at_query.specs.declared.query.queries.Test.{Test}
 use Rattle.at_query.specs.declared.features.TextPair.{TextPair}
 use Rattle.at_query.specs.declared.features.Feature.{Feature}
-use Rattle.at_query.specs.declared.parts.Part.{Part}
+use Rattle.at_query.specs.declared.answer.parts.Part.{Part}
 use Rattle.at_query.specs.Parts.{IsPart}
 use Rattle.at_geojson.specs.declared.kinds.Kind.{Kind}
 use Rattle.at_geojson.specs.declared.atoms.GeoAtom.{GeoAtom}

@@ -15,9 +15,9 @@ use Rattle.at_geojson.specs.declared.atoms.GeoAtom.TheVariants as atoms
 use Rattle.at_geojson.specs.declared.atoms.ObjectAtom.{ObjectAtom}
 use Rattle.at_geojson.specs.declared.atoms.Role.{Role}
 use Rattle.at_geojson.specs.declared.atoms.Role.TheVariants as roles
-use Rattle.at_query.specs.declared.queries.Query.{Query}
-use Rattle.at_query.specs.declared.queries.Test.{Test}
-use Rattle.at_query.specs.declared.parts.Part.{Part}
+use Rattle.at_query.specs.declared.query.queries.Query.{Query}
+use Rattle.at_query.specs.declared.query.queries.Test.{Test}
+use Rattle.at_query.specs.declared.answer.parts.Part.{Part}
 use Rattle.at_query.specs.Parts.{IsPart}
 use Rattle.at_geojson.specs.Keeping.{kept, needs_shapes, asks_pair}
 use Rattle.at_geojson.specs.Atoms.{at_of, is_empty, is_null, as_position, as_points, as_lists, as_area, as_areas}

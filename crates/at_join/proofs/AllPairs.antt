@@ -17,8 +17,8 @@ use Rattle.at_geom.specs.Closed as geom
 use Rattle.at_geom.specs.Shapes.{Meet}
 use Rattle.at_geom.proofs.ApartShapes.{empty_first, empty_second, meet_touches}
 use Rattle.at_geom.proofs.Found.{both_true}
-use Rattle.at_query.specs.declared.parts.Entry.{Entry}
-use Rattle.at_query.specs.declared.answers.Pair.{Pair}
+use Rattle.at_query.specs.declared.answer.parts.Entry.{Entry}
+use Rattle.at_query.specs.declared.answer.answers.Pair.{Pair}
 use Rattle.at_query.specs.Joined.{upper}
 use Rattle.at_query.specs.Parts.{last_of, IsClosed, IsProperEntry, AreProper}
 use Rattle.at_query.specs.Results.{Keeps}

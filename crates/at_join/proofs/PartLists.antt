@@ -5,8 +5,8 @@ use Rattle.std.proofs.lemmas.Bool.{cases_lt, eqb-true}
 use Rattle.std.proofs.lemmas.List.Sums.{sum_by-append, sum_by-cons}
 use Rattle.std.proofs.lemmas.List.Elements.{All-append, All-weaker, recursion_from_All}
 use Rattle.at_geom.specs.declared.rectangles.Extent.{Extent}
-use Rattle.at_query.specs.declared.parts.Entry.{Entry}
-use Rattle.at_query.specs.declared.answers.Pair.{Pair}
+use Rattle.at_query.specs.declared.answer.parts.Entry.{Entry}
+use Rattle.at_query.specs.declared.answer.answers.Pair.{Pair}
 use Rattle.at_query.specs.Parts.{AreProper}
 use Rattle.at_join.specs.declared.job.Joining.{Joining}
 use Rattle.at_join.specs.declared.job.PairPart.{PairPart}

@@ -7,7 +7,7 @@ use Rattle.std.proofs.lemmas.List.{drop_more}
 use Rattle.std.proofs.lemmas.List.Sums.{sum_by-append, sum_by-cons}
 use Rattle.std.proofs.lemmas.List.Sorted.{sum_by-IsPermutation}
 use Rattle.at_geom.specs.declared.rectangles.Extent.{Extent}
-use Rattle.at_query.specs.declared.parts.Entry.{Entry}
+use Rattle.at_query.specs.declared.answer.parts.Entry.{Entry}
 use Rattle.at_query.specs.Joined.{around, around_both}
 use Rattle.at_query.specs.Parts.{IsProperEntry}
 use Rattle.at_join.specs.declared.places.Place.{Place}

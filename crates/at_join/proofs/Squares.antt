@@ -8,7 +8,7 @@ use Rattle.at_geom.specs.declared.shapes.Polygon.{Polygon}
 use Rattle.at_geom.specs.declared.shapes.Shape.{Shape}
 use Rattle.at_geom.specs.Segments.{IsInRange}
 use Rattle.at_geom.specs.Shapes.{IsShapeInRange, positions, extent_of}
-use Rattle.at_query.specs.declared.parts.Entry.{Entry}
+use Rattle.at_query.specs.declared.answer.parts.Entry.{Entry}
 use Rattle.at_query.specs.Parts.{AreRising, AreRingsClosed, IsProperEntry, AreProper}
 use Rattle.at_join.specs.Meetings.{AreInRange}
 

@@ -9,8 +9,8 @@ use Rattle.std.proofs.Math.Seq.{take-add}
 use Rattle.at_geom.specs.declared.rectangles.Extent.{Extent}
 use Rattle.at_geom.specs.Shapes.{encloses}
 use Rattle.at_query.specs.Results.{Keeps}
-use Rattle.at_query.specs.declared.parts.Entry.{Entry}
-use Rattle.at_query.specs.declared.answers.Pair.{Pair}
+use Rattle.at_query.specs.declared.answer.parts.Entry.{Entry}
+use Rattle.at_query.specs.declared.answer.answers.Pair.{Pair}
 use Rattle.at_query.proofs.KeptLists.{kept_all}
 use Rattle.at_join.specs.declared.places.Place.{Place}
 use Rattle.at_join.specs.Boxes.{IsWide, common_of}

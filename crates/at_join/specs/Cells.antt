@@ -4,8 +4,8 @@ use Rattle.std.specs.Prelude.{false, ◌&&◌, List, [], ◌∷◌, ◌++◌, Op
 use Rattle.at_geom.specs.declared.positions.Pos.{Pos}
 use Rattle.at_geom.specs.declared.rectangles.Extent.{Extent}
 use Rattle.at_geom.specs.Shapes.{Meet}
-use Rattle.at_query.specs.declared.parts.Entry.{Entry}
-use Rattle.at_query.specs.declared.answers.Pair.{Pair}
+use Rattle.at_query.specs.declared.answer.parts.Entry.{Entry}
+use Rattle.at_query.specs.declared.answer.answers.Pair.{Pair}
 use Rattle.at_query.specs.Joined.{upper, around_both}
 use Rattle.at_join.specs.Boxes.{touch_of}
 use Rattle.at_join.specs.Meetings.{at_entries}

@@ -1,8 +1,8 @@
 -- The pairs of two lists of entries of which the shapes meet.
 use Rattle.std.specs.Prelude.{◌≡◌, List, [], ◌++◌, All, map, flat_map}
 use Rattle.at_geom.specs.Shapes.{IsShapeInRange, Meet}
-use Rattle.at_query.specs.declared.parts.Entry.{Entry}
-use Rattle.at_query.specs.declared.answers.Pair.{Pair}
+use Rattle.at_query.specs.declared.answer.parts.Entry.{Entry}
+use Rattle.at_query.specs.declared.answer.answers.Pair.{Pair}
 use Rattle.at_query.specs.Results.{Keeps}
 
 -- all coordinates are in range

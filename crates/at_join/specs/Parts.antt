@@ -1,6 +1,6 @@
 -- What the parts of a join by cells stand for.
 use Rattle.std.specs.Prelude.{ℕ, ◌+◌, ◌*◌, ◌<◌, ◌≤◌, List, Contains}
-use Rattle.at_query.specs.declared.answers.Pair.{Pair}
+use Rattle.at_query.specs.declared.answer.answers.Pair.{Pair}
 use Rattle.at_query.specs.Parts.{AreProper}
 use Rattle.at_join.specs.declared.job.Joining.{Joining}
 use Rattle.at_join.specs.declared.job.PairPart.{PairPart}

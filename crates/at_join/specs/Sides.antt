@@ -6,8 +6,8 @@ use Rattle.std.specs.List.Sorted.{IsPermutation}
 use Rattle.at_geom.specs.declared.rectangles.Extent.{Extent}
 use Rattle.at_geom.specs.declared.shapes.Shape.{Shape}
 use Rattle.at_geom.specs.Shapes.{encloses, Meet}
-use Rattle.at_query.specs.declared.parts.Entry.{Entry}
-use Rattle.at_query.specs.declared.answers.Pair.{Pair}
+use Rattle.at_query.specs.declared.answer.parts.Entry.{Entry}
+use Rattle.at_query.specs.declared.answer.answers.Pair.{Pair}
 use Rattle.at_join.specs.declared.places.Place.{Place}
 use Rattle.at_join.specs.declared.sides.Side.{Side}
 use Rattle.at_query.specs.Joined.{around_both}

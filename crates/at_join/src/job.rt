@@ -1,7 +1,7 @@
 //! The cells of a grid as a job for a crew.
 
 ghost use Rattle.std.specs.Prelude.{◌≡◌, ◌+◌, ◌<◌, List, ◌++◌, IfOk};
-ghost use Rattle.at_query.specs.declared.answers.Pair.{Pair};
+ghost use Rattle.at_query.specs.declared.answer.answers.Pair.{Pair};
 ghost use Rattle.at_join.specs.Cells.{InCells, ListsEach};
 ghost use Rattle.at_join.specs.Parts.{StandsFor, grid_of, gate_of};
 

@@ -1,7 +1,7 @@
 //! The pairs of two lists by the cells of a grid, which a crew shares out.
 
 ghost use Rattle.std.specs.Prelude.{◌≡◌, ℕ, ◌<◌, ◌≤◌, ◌*◌, ◌+◌, IfOk, All, Contains};
-ghost use Rattle.at_query.specs.declared.answers.Pair.{Pair};
+ghost use Rattle.at_query.specs.declared.answer.answers.Pair.{Pair};
 ghost use Rattle.std.specs.List.Sorted.{IsPermutation, IsNonDecreasingBy};
 ghost use Rattle.at_query.specs.Parts.{AreProper};
 ghost use Rattle.at_join.specs.Meetings.{IsAllPairs};

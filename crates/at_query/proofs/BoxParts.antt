@@ -3,7 +3,7 @@ use Rattle.std.proofs.Common.{◌≡◌, ℕ, Bool, true, false, if◌then◌els
 use Rattle.at_fixed.specs.declared.rounding.Coords.{Coords}
 use Rattle.at_fixed.specs.Numerals.{Numeral}
 use Rattle.at_geom.specs.declared.rectangles.Extent.{Extent}
-use Rattle.at_query.specs.declared.boxes.Corners.{Corners}
+use Rattle.at_query.specs.declared.query.boxes.Corners.{Corners}
 use Rattle.at_query.specs.Spelling.{Placed, SpelledBox}
 use Rattle.at_query.specs.Queries.{lesser, least_of, faults_with, is_reversed, numbers_faults, placed_faults}
 use Rattle.at_query.specs.Readers.{Ends, Stops, WordStands, WordBreaks, Behind, Then, NumberMeaning, BoxMeaning, Four, fault_with, number_meaning, Number, FourNumbers, box_meaning, Box, box_in, four_in, extent_in, four_fault}

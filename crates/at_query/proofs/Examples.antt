@@ -4,11 +4,11 @@ use Rattle.std.specs.Fmt.{digits}
 use Rattle.at_geom.specs.declared.positions.Pos.{Pos}
 use Rattle.at_geom.specs.declared.shapes.Shape.{Shape}
 use Rattle.at_geom.specs.Shapes.{Meet}
-use Rattle.at_query.specs.declared.queries.Query.{Query}
+use Rattle.at_query.specs.declared.query.queries.Query.{Query}
 use Rattle.at_query.specs.declared.features.Feature.{Feature}
-use Rattle.at_query.specs.declared.answers.Answer.TheVariants.{Offsets, Number, Spread}
-use Rattle.at_query.specs.declared.queries.Verb.TheVariants as verbs
-use Rattle.at_query.specs.declared.queries.Test.TheVariants.{InBox}
+use Rattle.at_query.specs.declared.answer.answers.Answer.TheVariants.{Offsets, Number, Spread}
+use Rattle.at_query.specs.declared.query.queries.Verb.TheVariants as verbs
+use Rattle.at_query.specs.declared.query.queries.Test.TheVariants.{InBox}
 use Rattle.at_fixed.specs.declared.rounding.Coords.TheVariants.{Round}
 use Rattle.at_text.specs.Texts.{is_digit}
 use Rattle.at_query.specs.Spelling.{Placed, SpellsPlaced, SpelledBox, SpellsBox, SpelledQuery, in_box, meets_box, IsSpelled}

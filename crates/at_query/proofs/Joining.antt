@@ -9,13 +9,13 @@ use Rattle.at_hull.specs.Hulls.{IsHull}
 use Rattle.at_hull.proofs.Laws.{hull_of_hull}
 use Rattle.at_geom.specs.declared.rectangles.Extent.{Extent}
 use Rattle.at_geom.specs.Shapes.{positions, extent_of}
-use Rattle.at_query.specs.declared.queries.Verb.{Verb}
-use Rattle.at_query.specs.declared.queries.Verb.TheVariants as verbs
-use Rattle.at_query.specs.declared.queries.Query.{Query}
+use Rattle.at_query.specs.declared.query.queries.Verb.{Verb}
+use Rattle.at_query.specs.declared.query.queries.Verb.TheVariants as verbs
+use Rattle.at_query.specs.declared.query.queries.Query.{Query}
 use Rattle.at_query.specs.declared.features.Feature.{Feature}
-use Rattle.at_query.specs.declared.parts.Entry.{Entry}
-use Rattle.at_query.specs.declared.parts.Part.{Part}
-use Rattle.at_query.specs.declared.parts.Part.TheVariants.{Offsets, Count, Area, Spread, Entries, Hull}
+use Rattle.at_query.specs.declared.answer.parts.Entry.{Entry}
+use Rattle.at_query.specs.declared.answer.parts.Part.{Part}
+use Rattle.at_query.specs.declared.answer.parts.Part.TheVariants.{Offsets, Count, Area, Spread, Entries, Hull}
 use Rattle.at_query.specs.Holding.{Holds}
 use Rattle.at_query.specs.Results.{all_positions, all_polygons}
 use Rattle.at_query.specs.Parts.{entry_of, IsHullInRange, IsKeptOf, wrapped_sum, IsPart, IsProper, AreAlike, JoinsParts}

@@ -11,7 +11,7 @@ use Rattle.at_wkt.specs.Positions.{value_in, faults_in}
 use Rattle.at_wkt.specs.Readers.{NumberStands, NumberBreaks, next}
 use Rattle.at_wkt.proofs.Leads.{part-length, part-part, part-one}
 use Rattle.at_wkt.proofs.NumberSteps.{in_number, number_ends, front_viable, next_end}
-use Rattle.at_query.specs.declared.coordinates.NumberRead.{NumberRead}
+use Rattle.at_query.specs.declared.query.coordinates.NumberRead.{NumberRead}
 use Rattle.at_query.specs.Spelling.{Placed, SpellsPlaced}
 use Rattle.at_query.specs.Queries.{ats_of, least_of}
 use Rattle.at_fixed.specs.Kept.{between}

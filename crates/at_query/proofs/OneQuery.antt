@@ -3,7 +3,7 @@ use Rattle.std.proofs.Common.{◌≡◌, ℕ, inl, inr, List, sym, ◌∙◌}
 use Rattle.std.proofs.lemmas.Option.{none-some, same_Some}
 use Rattle.at_text.proofs.Machine.{longest_unique}
 use Rattle.at_fixed.specs.declared.rounding.Coords.{Coords}
-use Rattle.at_query.specs.declared.queries.Query.{Query}
+use Rattle.at_query.specs.declared.query.queries.Query.{Query}
 use Rattle.at_query.specs.Spelling.{QueryText}
 use Rattle.at_query.specs.Queries.{IsQueryOf, IsWrongAt, HasQueryFault}
 

@@ -11,8 +11,8 @@ use Rattle.at_wkt.proofs.Agreement.{Agree, Fails, Passes, agree_then, agree_map,
 use Rattle.at_wkt.proofs.NumberSteps.{in_number}
 use Rattle.at_wkt.proofs.OneBody.{one_number}
 use Rattle.at_wkt.proofs.OneGeometry.{one_geometry}
-use Rattle.at_query.specs.declared.queries.Verb.{Verb}
-use Rattle.at_query.specs.declared.queries.Verb.TheVariants as verbs
+use Rattle.at_query.specs.declared.query.queries.Verb.{Verb}
+use Rattle.at_query.specs.declared.query.queries.Verb.TheVariants as verbs
 use Rattle.at_query.specs.Spelling.{Placed, SpelledBox, Spelled, in_box, meets_box, meets, has, SpelledQuery, verb_text, SpellsPlaced, SpellsBox, SpellsTest, SpellsTests, IsSpelled}
 use Rattle.at_query.specs.Queries.{query_of, spelled_fault, IsQueryOf, IsWrongAt}
 use Rattle.at_query.proofs.GeometryParts.{is_b, geometry_letter}

@@ -13,10 +13,10 @@ use Rattle.at_geom.specs.Shapes.{line_fault, ring_fault}
 use Rattle.at_wkt.specs.Positions.{Position, Positions, faults_in, number_fault, position_faults, items_faults, faults_of_line, faults_of_ring, is_closed}
 use Rattle.at_wkt.specs.Geometry.{Geometry, Geometries, point, line_string, polygon, multi_point, multi_line_string, multi_polygon, collection, no_geometries, geometry_and}
 use Rattle.at_wkt.specs.Meaning.{shape_of, empty_shape, present, faults_of_area, faults_of, faults_of_all}
-use Rattle.at_query.specs.declared.queries.Verb.{Verb}
-use Rattle.at_query.specs.declared.queries.Verb.TheVariants.{Select, Count, Area, Extent, Hull, Join}
-use Rattle.at_query.specs.declared.queries.Test.{Test}
-use Rattle.at_query.specs.declared.queries.Test.TheVariants.{MeetsShape}
+use Rattle.at_query.specs.declared.query.queries.Verb.{Verb}
+use Rattle.at_query.specs.declared.query.queries.Verb.TheVariants.{Select, Count, Area, Extent, Hull, Join}
+use Rattle.at_query.specs.declared.query.queries.Test.{Test}
+use Rattle.at_query.specs.declared.query.queries.Test.TheVariants.{MeetsShape}
 use Rattle.at_query.specs.Spelling.{Spelled, in_box, meets_box, meets, has, SpelledQuery, IsSpelled, verb_text}
 use Rattle.at_query.specs.Queries.{ats_of, lesser, least_of, test_faults, test_of, spelled_fault, query_of, IsQueryOf, IsWrongAt, IsNoQuery}
 use Rattle.at_fixed.specs.Kept.{between}

@@ -19,10 +19,10 @@ use Rattle.at_geom.specs.Shapes.{ArePathsInRange, ArePolygonsInRange, IsShapeInR
 use Rattle.at_wkt.specs.Positions.{Position, Positions, value_in, value_of, pos_of, path_of}
 use Rattle.at_wkt.specs.Geometry.{Geometry, Geometries, point, line_string, polygon, multi_point, multi_line_string, multi_polygon, collection, no_geometries, geometry_and}
 use Rattle.at_wkt.specs.Meaning.{of_points, of_lines, of_polygons, both, present, polygons_of, shape_of, shape_of_all}
-use Rattle.at_query.specs.declared.queries.Query.{Query}
-use Rattle.at_query.specs.declared.reading.QueryEnd.{QueryEnd}
-use Rattle.at_query.specs.declared.reading.QueryEnd.TheVariants.{Fault as FaultAt, Memory as NoMemory}
-use Rattle.at_query.specs.declared.reading.QueryRead.{QueryRead}
+use Rattle.at_query.specs.declared.query.queries.Query.{Query}
+use Rattle.at_query.specs.declared.query.reading.QueryEnd.{QueryEnd}
+use Rattle.at_query.specs.declared.query.reading.QueryEnd.TheVariants.{Fault as FaultAt, Memory as NoMemory}
+use Rattle.at_query.specs.declared.query.reading.QueryRead.{QueryRead}
 use Rattle.at_query.specs.Spelling.{Spelled, in_box, meets_box, meets, has, SpelledBox}
 use Rattle.at_query.specs.Ranges.{IsTestInRange, IsQueryInRange}
 use Rattle.at_query.specs.Queries.{box_shape, ring_of, extent_of_box, test_of, IsQueryOf, HasQueryFault, IfFaultAt}

@@ -5,8 +5,8 @@ use Rattle.at_text.specs.Parts.{Exactly}
 use Rattle.at_fixed.specs.declared.rounding.Coords.{Coords}
 use Rattle.at_wkt.proofs.Leads.{part-cons}
 use Rattle.at_wkt.proofs.Lists.{to_right, to_left}
-use Rattle.at_query.specs.declared.queries.Test.{Test}
-use Rattle.at_query.specs.declared.filters.TestRead.{TestRead}
+use Rattle.at_query.specs.declared.query.queries.Test.{Test}
+use Rattle.at_query.specs.declared.query.filters.TestRead.{TestRead}
 use Rattle.at_query.specs.Spelling.{Spelled, SpellsTest, SpellsTests}
 use Rattle.at_query.specs.Queries.{lesser}
 use Rattle.at_fixed.specs.Kept.{between}

@@ -2,7 +2,7 @@
 use Rattle.std.proofs.Common.{◌≡◌, ℕ, ◌+◌, ◌≤◌, ◌==◌, ◌||◌, ◌⊎◌, inl, inr, Bool, true, false, List, ◌∷◌, ◌++◌, length, codes, None, refl, ◌∙◌, ap, arith}
 use Rattle.at_fixed.specs.declared.rounding.Coords.{Coords}
 use Rattle.at_lex.specs.Strings.{units_of}
-use Rattle.at_query.specs.declared.queries.Test.TheVariants.{Has}
+use Rattle.at_query.specs.declared.query.queries.Test.TheVariants.{Has}
 use Rattle.at_query.specs.Spelling.{Spelled, in_box, meets_box, meets, has, SpellsTest}
 use Rattle.at_wkt.specs.Readers.{next}
 use Rattle.at_query.specs.Readers.{Ends, Stops, WordStands, WordBreaks, Behind, Then, TestMeaning, BoxMeaning, kept_in, met_box, box_meaning, Box, Text, Target, InTest, MeetsTest, HasTest, test_meaning, OneTest}

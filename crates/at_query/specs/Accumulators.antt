@@ -2,14 +2,14 @@
 use Rattle.std.specs.Prelude.{◌≡◌, ◌≢◌, Bool, true, false, List, [], ◌∷◌, ◌++◌}
 use Rattle.at_hull.specs.Growth.{HaveOneHull, held}
 use Rattle.at_geom.specs.Shapes.{positions, extent_of}
-use Rattle.at_query.specs.declared.queries.Verb.{Verb}
-use Rattle.at_query.specs.declared.queries.Verb.TheVariants as verbs
-use Rattle.at_query.specs.declared.queries.Query.{Query}
+use Rattle.at_query.specs.declared.query.queries.Verb.{Verb}
+use Rattle.at_query.specs.declared.query.queries.Verb.TheVariants as verbs
+use Rattle.at_query.specs.declared.query.queries.Query.{Query}
 use Rattle.at_query.specs.declared.features.Feature.{Feature}
-use Rattle.at_query.specs.declared.parts.Part.{Part}
-use Rattle.at_query.specs.declared.parts.Part.TheVariants as parts
-use Rattle.at_query.specs.declared.accumulators.Accumulator.{Accumulator}
-use Rattle.at_query.specs.declared.accumulators.Accumulator.TheVariants.{Part as APart, Hull}
+use Rattle.at_query.specs.declared.answer.parts.Part.{Part}
+use Rattle.at_query.specs.declared.answer.parts.Part.TheVariants as parts
+use Rattle.at_query.specs.declared.answer.accumulators.Accumulator.{Accumulator}
+use Rattle.at_query.specs.declared.answer.accumulators.Accumulator.TheVariants.{Part as APart, Hull}
 use Rattle.at_query.specs.Holding.{Holds}
 use Rattle.at_query.specs.Results.{Keeps, all_positions}
 use Rattle.at_query.specs.Parts.{IsKeptOf, IsOfOneSize, AreAlike, entry_of, wrapped_sum}

@@ -10,15 +10,15 @@ use Rattle.at_geom.specs.Segments.{IsInRange}
 use Rattle.at_geom.specs.Regions.{sum_of, wrapped_area}
 use Rattle.at_geom.specs.Shapes.{positions, extent_of, IsShapeInRange}
 use Rattle.at_hull.specs.Hulls.{IsHull}
-use Rattle.at_query.specs.declared.queries.Verb.{Verb}
-use Rattle.at_query.specs.declared.queries.Verb.TheVariants as verbs
-use Rattle.at_query.specs.declared.queries.Query.{Query}
+use Rattle.at_query.specs.declared.query.queries.Verb.{Verb}
+use Rattle.at_query.specs.declared.query.queries.Verb.TheVariants as verbs
+use Rattle.at_query.specs.declared.query.queries.Query.{Query}
 use Rattle.at_query.specs.declared.features.Feature.{Feature}
-use Rattle.at_query.specs.declared.answers.Answer.{Answer}
-use Rattle.at_query.specs.declared.answers.Answer.TheVariants as answers
-use Rattle.at_query.specs.declared.parts.Entry.{Entry}
-use Rattle.at_query.specs.declared.parts.Part.{Part}
-use Rattle.at_query.specs.declared.parts.Part.TheVariants.{Offsets, Count, Area, Spread, Entries, Hull}
+use Rattle.at_query.specs.declared.answer.answers.Answer.{Answer}
+use Rattle.at_query.specs.declared.answer.answers.Answer.TheVariants as answers
+use Rattle.at_query.specs.declared.answer.parts.Entry.{Entry}
+use Rattle.at_query.specs.declared.answer.parts.Part.{Part}
+use Rattle.at_query.specs.declared.answer.parts.Part.TheVariants.{Offsets, Count, Area, Spread, Entries, Hull}
 use Rattle.at_query.specs.Holding.{Holds}
 use Rattle.at_query.specs.Results.{Keeps, all_positions, all_polygons}
 

@@ -3,9 +3,9 @@ use Rattle.std.specs.Prelude.{ℕ, ℤ, pos, negsuc, suc, List, [], ◌∷◌, �
 use Rattle.at_fixed.specs.Fixed.{written}
 use Rattle.at_geom.specs.declared.positions.Pos.{Pos}
 use Rattle.at_geom.specs.declared.rectangles.Extent.{Extent}
-use Rattle.at_query.specs.declared.answers.Pair.{Pair}
-use Rattle.at_query.specs.declared.answers.Answer.{Answer}
-use Rattle.at_query.specs.declared.answers.Answer.TheVariants.{Offsets, Number, Spread, Pairs, Hull}
+use Rattle.at_query.specs.declared.answer.answers.Pair.{Pair}
+use Rattle.at_query.specs.declared.answer.answers.Answer.{Answer}
+use Rattle.at_query.specs.declared.answer.answers.Answer.TheVariants.{Offsets, Number, Spread, Pairs, Hull}
 
 -- a line with its end
 abbrev pub ended : List ℕ → List ℕ

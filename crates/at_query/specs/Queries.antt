@@ -10,11 +10,11 @@ use Rattle.at_geom.specs.declared.rectangles.Extent.{Extent}
 use Rattle.at_geom.specs.declared.shapes.Shape.{Shape}
 use Rattle.at_wkt.specs.Positions.{number_fault, value_of}
 use Rattle.at_wkt.specs.Meaning.{shape_of, faults_of, of_polygons}
-use Rattle.at_query.specs.declared.queries.Query.{Query}
-use Rattle.at_query.specs.declared.queries.Test.{Test}
-use Rattle.at_query.specs.declared.queries.Test.TheVariants.{InBox, MeetsShape, Has}
-use Rattle.at_query.specs.declared.reading.QueryEnd.{QueryEnd}
-use Rattle.at_query.specs.declared.reading.QueryEnd.TheVariants.{Fault as FaultAt, Memory}
+use Rattle.at_query.specs.declared.query.queries.Query.{Query}
+use Rattle.at_query.specs.declared.query.queries.Test.{Test}
+use Rattle.at_query.specs.declared.query.queries.Test.TheVariants.{InBox, MeetsShape, Has}
+use Rattle.at_query.specs.declared.query.reading.QueryEnd.{QueryEnd}
+use Rattle.at_query.specs.declared.query.reading.QueryEnd.TheVariants.{Fault as FaultAt, Memory}
 use Rattle.at_query.specs.Spelling.{Placed, SpelledBox, Spelled, in_box, meets_box, meets, has, SpelledQuery}
 use Rattle.at_query.specs.Spelling.{IsSpelled, QueryText}
 

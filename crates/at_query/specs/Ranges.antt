@@ -1,9 +1,9 @@
 -- Queries and features whose coordinates are in range, at most 30,000,000 in size at seven decimal digits.
 use Rattle.std.specs.Prelude.{List, All}
 use Rattle.at_geom.specs.Shapes.{IsShapeInRange}
-use Rattle.at_query.specs.declared.queries.Test.{Test}
-use Rattle.at_query.specs.declared.queries.Test.TheVariants.{InBox, MeetsShape, Has}
-use Rattle.at_query.specs.declared.queries.Query.{Query}
+use Rattle.at_query.specs.declared.query.queries.Test.{Test}
+use Rattle.at_query.specs.declared.query.queries.Test.TheVariants.{InBox, MeetsShape, Has}
+use Rattle.at_query.specs.declared.query.queries.Query.{Query}
 use Rattle.at_query.specs.declared.features.Feature.{Feature}
 
 -- the coordinates of the shape that a test compares with

@@ -12,13 +12,13 @@ use Rattle.at_geom.specs.declared.rectangles.Extent.{Extent}
 use Rattle.at_wkt.specs.Geometry.{Geometry, SpellsGeometry}
 use Rattle.at_wkt.specs.Meaning.{shape_of, faults_of, empty_shape}
 use Rattle.at_wkt.specs.Readers.{next}
-use Rattle.at_query.specs.declared.coordinates.NumberRead.{NumberRead}
-use Rattle.at_query.specs.declared.boxes.BoxRead.{BoxRead}
-use Rattle.at_query.specs.declared.boxes.Corners.{Corners}
-use Rattle.at_query.specs.declared.filters.TestRead.{TestRead}
-use Rattle.at_query.specs.declared.queries.Verb.{Verb}
-use Rattle.at_query.specs.declared.queries.Test.{Test}
-use Rattle.at_query.specs.declared.queries.Test.TheVariants.{InBox, MeetsShape, Has}
+use Rattle.at_query.specs.declared.query.coordinates.NumberRead.{NumberRead}
+use Rattle.at_query.specs.declared.query.boxes.BoxRead.{BoxRead}
+use Rattle.at_query.specs.declared.query.boxes.Corners.{Corners}
+use Rattle.at_query.specs.declared.query.filters.TestRead.{TestRead}
+use Rattle.at_query.specs.declared.query.queries.Verb.{Verb}
+use Rattle.at_query.specs.declared.query.queries.Test.{Test}
+use Rattle.at_query.specs.declared.query.queries.Test.TheVariants.{InBox, MeetsShape, Has}
 use Rattle.at_query.specs.Spelling.{Placed, SpellsPlaced, SpelledBox, SpellsBox, Spelled, in_box, meets_box, meets}
 use Rattle.at_query.specs.Spelling.{has, SpellsTest, SpellsTests, verb_text}
 use Rattle.at_query.specs.Queries.{lesser, least_of, placed_value, placed_faults, extent_of_box, box_faults}

@@ -5,13 +5,13 @@ use Rattle.at_geom.specs.declared.shapes.Polygon.{Polygon}
 use Rattle.at_geom.specs.Regions.{doubled_area, sum_of}
 use Rattle.at_geom.specs.Shapes.{positions, extent_of, Meet}
 use Rattle.at_hull.specs.Hulls.{IsHull}
-use Rattle.at_query.specs.declared.queries.Verb.{Verb}
-use Rattle.at_query.specs.declared.queries.Verb.TheVariants as verbs
-use Rattle.at_query.specs.declared.queries.Query.{Query}
+use Rattle.at_query.specs.declared.query.queries.Verb.{Verb}
+use Rattle.at_query.specs.declared.query.queries.Verb.TheVariants as verbs
+use Rattle.at_query.specs.declared.query.queries.Query.{Query}
 use Rattle.at_query.specs.declared.features.Feature.{Feature}
-use Rattle.at_query.specs.declared.answers.Pair.{Pair}
-use Rattle.at_query.specs.declared.answers.Answer.{Answer}
-use Rattle.at_query.specs.declared.answers.Answer.TheVariants.{Offsets, Number, Spread, Pairs, Hull}
+use Rattle.at_query.specs.declared.answer.answers.Pair.{Pair}
+use Rattle.at_query.specs.declared.answer.answers.Answer.{Answer}
+use Rattle.at_query.specs.declared.answer.answers.Answer.TheVariants.{Offsets, Number, Spread, Pairs, Hull}
 use Rattle.at_query.specs.Holding.{Holds}
 
 -- ys are the elements of xs that have the property, in order

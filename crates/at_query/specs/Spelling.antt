@@ -4,8 +4,8 @@ use Rattle.at_text.specs.Parts.{Nothing, Exactly, ◌▸◌, At}
 use Rattle.at_fixed.specs.Numerals.{Numeral}
 use Rattle.at_lex.specs.Strings.{Character, SpellsString}
 use Rattle.at_wkt.specs.Geometry.{Geometry, SpellsGeometry, SpellsNumber}
-use Rattle.at_query.specs.declared.queries.Verb.{Verb}
-use Rattle.at_query.specs.declared.queries.Verb.TheVariants as verbs
+use Rattle.at_query.specs.declared.query.queries.Verb.{Verb}
+use Rattle.at_query.specs.declared.query.queries.Verb.TheVariants as verbs
 
 -- a number and the offset at which it stands
 pub record Placed : Type 0 where

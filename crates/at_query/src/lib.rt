@@ -7,34 +7,20 @@
 //! place and becomes the part of all.
 #![tactic(auto)]
 
-mod accumulators;
-mod adding;
-mod answers;
-mod boxes;
-mod bytes;
-mod coordinates;
-mod copying;
+// What is asked: features, the line of a query, and its tests.
 mod features;
-mod filters;
-mod holding;
-mod merging;
-mod parts;
-mod precision;
-mod printing;
-mod queries;
-mod reading;
-mod results;
-mod shape_hulls;
-mod strings;
-mod targets;
+mod query;
 
-pub use accumulators::Accumulator;
-pub use answers::{Answer, Offsets, Pair, Pairs};
+// What is answered: which features are kept, parts, and printed answers.
+mod answer;
+
+pub use answer::accumulators::Accumulator;
+pub use answer::answers::{Answer, Offsets, Pair, Pairs};
+pub use answer::holding::{holds, lent_holds};
+pub use answer::merging::part_merge;
+pub use answer::parts::{Entries, Entry, Part};
+pub use answer::printing::answer_text;
+pub use answer::results::{answer_of, part_none, part_of};
 pub use features::{Feature, LentFeature, TextPair, TextPairs};
-pub use holding::{holds, lent_holds};
-pub use merging::part_merge;
-pub use parts::{Entries, Entry, Part};
-pub use printing::answer_text;
-pub use queries::{Query, Test, Tests, Verb};
-pub use reading::{QueryEnd, read_query};
-pub use results::{answer_of, part_none, part_of};
+pub use query::queries::{Query, Test, Tests, Verb};
+pub use query::reading::{QueryEnd, read_query};

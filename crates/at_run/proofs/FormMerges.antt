@@ -4,7 +4,7 @@ use Rattle.std.proofs.lemmas.List.{take_rest}
 use Rattle.at_text.specs.Spans.{StandsAt, AreNeighbours, IsMerged}
 use Rattle.at_text.specs.Texts.{base_of}
 use Rattle.at_wkt.specs.Folding.{Kept, StandsFor}
-use Rattle.at_wkt.specs.declared.fragments.LineFragment.{LineFragment}
+use Rattle.at_wkt.specs.declared.file.fragments.LineFragment.{LineFragment}
 use Rattle.at_geojson.specs.Keeping.{Asked as JsonAsked}
 use Rattle.at_run.specs.declared.forms.Form.TheVariants.{GeoJson}
 use Rattle.at_run.specs.declared.gathered.Gathered.{Gathered}

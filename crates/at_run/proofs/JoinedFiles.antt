@@ -2,13 +2,13 @@
 use Rattle.std.proofs.Common.{◌≡◌, ℕ, inl, inr, List, [], ◌∷◌, ◌++◌, map, None, refl, sym, ap, ◌∙◌, subst}
 use Rattle.std.proofs.lemmas.List.{map-append}
 use Rattle.at_fixed.specs.declared.rounding.Coords.{Coords}
-use Rattle.at_query.specs.declared.queries.Verb.TheVariants as verbs
-use Rattle.at_query.specs.declared.queries.Query.{Query}
+use Rattle.at_query.specs.declared.query.queries.Verb.TheVariants as verbs
+use Rattle.at_query.specs.declared.query.queries.Query.{Query}
 use Rattle.at_query.specs.declared.features.Feature.{Feature}
-use Rattle.at_query.specs.declared.parts.Entry.{Entry}
-use Rattle.at_query.specs.declared.parts.Part.TheVariants.{Entries}
-use Rattle.at_query.specs.declared.answers.Pair.{Pair}
-use Rattle.at_query.specs.declared.answers.Answer.TheVariants.{Pairs}
+use Rattle.at_query.specs.declared.answer.parts.Entry.{Entry}
+use Rattle.at_query.specs.declared.answer.parts.Part.TheVariants.{Entries}
+use Rattle.at_query.specs.declared.answer.answers.Pair.{Pair}
+use Rattle.at_query.specs.declared.answer.answers.Answer.TheVariants.{Pairs}
 use Rattle.at_query.specs.Holding.{Holds}
 use Rattle.at_query.specs.Results.{Keeps, pairs_of, Joins, at_pair, IsJoined}
 use Rattle.at_query.specs.Parts.{entry_of, IsPart, AreProper, AreProperFeatures}

@@ -9,7 +9,7 @@ use Rattle.at_nest.specs.TextAnswers.{Answers, IsEnd}
 use Rattle.at_nest.specs.Syntax.{HasJsonFault}
 use Rattle.at_nest.specs.declared.finishing.NestEnd.{NestEnd}
 use Rattle.at_nest.specs.declared.finishing.NestEnd.TheVariants as texts
-use Rattle.at_query.specs.declared.parts.Part.{Part}
+use Rattle.at_query.specs.declared.answer.parts.Part.{Part}
 use Rattle.at_wkt.proofs.LineMerges.{base_within}
 use Rattle.at_geojson.specs.declared.atoms.GeoAtom.{GeoAtom}
 use Rattle.at_geojson.specs.declared.root.RootEnd.{RootEnd}

@@ -9,17 +9,17 @@ use Rattle.std.proofs.lemmas.Slice.Eq.{bytes_eq-Decides}
 use Rattle.at_lex.specs.Strings.{Character, units_of}
 use Rattle.at_geom.specs.declared.shapes.Shape.{Shape}
 use Rattle.at_geom.specs.Shapes.{positions, extent_of}
-use Rattle.at_query.specs.declared.queries.Query.{Query}
-use Rattle.at_query.specs.declared.queries.Test.{Test}
-use Rattle.at_query.specs.declared.queries.Test.TheVariants.{InBox, MeetsShape, Has}
-use Rattle.at_query.specs.declared.queries.Verb.{Verb}
-use Rattle.at_query.specs.declared.queries.Verb.TheVariants as verbs
+use Rattle.at_query.specs.declared.query.queries.Query.{Query}
+use Rattle.at_query.specs.declared.query.queries.Test.{Test}
+use Rattle.at_query.specs.declared.query.queries.Test.TheVariants.{InBox, MeetsShape, Has}
+use Rattle.at_query.specs.declared.query.queries.Verb.{Verb}
+use Rattle.at_query.specs.declared.query.queries.Verb.TheVariants as verbs
 use Rattle.at_query.specs.declared.features.Feature.{Feature}
 use Rattle.at_query.specs.declared.features.TextPair.{TextPair}
-use Rattle.at_query.specs.declared.parts.Part.{Part}
-use Rattle.at_query.specs.declared.parts.Part.TheVariants.{Offsets, Count, Area, Spread, Entries}
-use Rattle.at_query.specs.declared.accumulators.Accumulator.{Accumulator}
-use Rattle.at_query.specs.declared.accumulators.Accumulator.TheVariants.{Part as APart, Hull as AHull}
+use Rattle.at_query.specs.declared.answer.parts.Part.{Part}
+use Rattle.at_query.specs.declared.answer.parts.Part.TheVariants.{Offsets, Count, Area, Spread, Entries}
+use Rattle.at_query.specs.declared.answer.accumulators.Accumulator.{Accumulator}
+use Rattle.at_query.specs.declared.answer.accumulators.Accumulator.TheVariants.{Part as APart, Hull as AHull}
 use Rattle.at_query.specs.Holding.{TestHolds, Holds}
 use Rattle.at_query.specs.Parts.{entry_of, wrapped_sum, IsHullInRange, IsKeptOf}
 use Rattle.at_query.specs.Accumulators.{IsKeptIn, IsAccumulated}

@@ -20,13 +20,13 @@ use Rattle.at_wkt.specs.Answers.{IfFound, HasLineShape, HasFirstLineFault, HasFa
 use Rattle.at_wkt.specs.Lines.{FileLine}
 use Rattle.at_query.specs.declared.features.Feature.{Feature}
 use Rattle.at_query.specs.declared.features.TextPair.{TextPair}
-use Rattle.at_query.specs.declared.parts.Part.{Part}
-use Rattle.at_query.specs.declared.parts.Part.TheVariants.{Count}
-use Rattle.at_query.specs.declared.accumulators.Accumulator.{Accumulator}
-use Rattle.at_query.specs.declared.accumulators.Accumulator.TheVariants.{Part as APart}
-use Rattle.at_query.specs.declared.queries.Verb.{Verb}
-use Rattle.at_query.specs.declared.queries.Test.{Test}
-use Rattle.at_query.specs.declared.queries.Query.{Query}
+use Rattle.at_query.specs.declared.answer.parts.Part.{Part}
+use Rattle.at_query.specs.declared.answer.parts.Part.TheVariants.{Count}
+use Rattle.at_query.specs.declared.answer.accumulators.Accumulator.{Accumulator}
+use Rattle.at_query.specs.declared.answer.accumulators.Accumulator.TheVariants.{Part as APart}
+use Rattle.at_query.specs.declared.query.queries.Verb.{Verb}
+use Rattle.at_query.specs.declared.query.queries.Test.{Test}
+use Rattle.at_query.specs.declared.query.queries.Query.{Query}
 use Rattle.at_query.specs.Holding.{TestHolds}
 use Rattle.at_query.specs.Accumulators.{IsKeptIn, IsAccumulated, JoinsAccumulators}
 use Rattle.at_query.proofs.Accumulating.{are_of_one_verb}

@@ -9,10 +9,10 @@ use Rattle.at_wkt.specs.Lines.{FileLine, lines_of}
 use Rattle.at_wkt.proofs.OneFile.{one_syntax_fault}
 use Rattle.at_nest.specs.Syntax.{JsonText}
 use Rattle.at_nest.proofs.OneTree.{one_tree}
-use Rattle.at_query.specs.declared.queries.Query.{Query}
+use Rattle.at_query.specs.declared.query.queries.Query.{Query}
 use Rattle.at_query.specs.declared.features.Feature.{Feature}
-use Rattle.at_query.specs.declared.parts.Part.{Part}
-use Rattle.at_query.specs.declared.answers.Answer.{Answer}
+use Rattle.at_query.specs.declared.answer.parts.Part.{Part}
+use Rattle.at_query.specs.declared.answer.answers.Answer.{Answer}
 use Rattle.at_query.specs.Results.{IsResult, IsJoined}
 use Rattle.at_query.specs.Parts.{IsPart}
 use Rattle.at_query.proofs.OneAnswer.{one_result, one_part, one_join}

@@ -2,10 +2,10 @@
 use Rattle.std.specs.Prelude.{ℕ, List, Some, None}
 use Rattle.at_text.specs.declared.faults.Fault.{Fault}
 use Rattle.at_fixed.specs.declared.rounding.Coords.{Coords}
-use Rattle.at_query.specs.declared.queries.Query.{Query}
+use Rattle.at_query.specs.declared.query.queries.Query.{Query}
 use Rattle.at_query.specs.declared.features.Feature.{Feature}
-use Rattle.at_query.specs.declared.parts.Part.{Part}
-use Rattle.at_query.specs.declared.answers.Answer.{Answer}
+use Rattle.at_query.specs.declared.answer.parts.Part.{Part}
+use Rattle.at_query.specs.declared.answer.answers.Answer.{Answer}
 use Rattle.at_query.specs.Results.{IsResult, IsJoined}
 use Rattle.at_query.specs.Parts.{IsPart}
 use Rattle.at_run.specs.declared.faults.RunFault.{RunFault}

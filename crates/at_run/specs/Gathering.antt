@@ -7,12 +7,12 @@ use Rattle.at_text.specs.declared.faults.Fault.{Fault}
 use Rattle.at_text.specs.Faults.{first_fault, first_of}
 use Rattle.at_fixed.specs.declared.rounding.Coords.{Coords}
 use Rattle.at_wkt.specs.Lines.{FileLine}
-use Rattle.at_query.specs.declared.queries.Query.{Query}
+use Rattle.at_query.specs.declared.query.queries.Query.{Query}
 use Rattle.at_query.specs.declared.features.Feature.{Feature}
-use Rattle.at_query.specs.declared.queries.Verb.TheVariants as verbs
-use Rattle.at_query.specs.declared.parts.Part.TheVariants.{Count}
-use Rattle.at_query.specs.declared.accumulators.Accumulator.{Accumulator}
-use Rattle.at_query.specs.declared.accumulators.Accumulator.TheVariants.{Part}
+use Rattle.at_query.specs.declared.query.queries.Verb.TheVariants as verbs
+use Rattle.at_query.specs.declared.answer.parts.Part.TheVariants.{Count}
+use Rattle.at_query.specs.declared.answer.accumulators.Accumulator.{Accumulator}
+use Rattle.at_query.specs.declared.answer.accumulators.Accumulator.TheVariants.{Part}
 use Rattle.at_query.specs.Ranges.{IsFeatureInRange}
 use Rattle.at_query.specs.Accumulators.{IsAccumulated, AreOfOneVerb, JoinsAccumulators}
 use Rattle.at_run.specs.declared.gathered.Gathered.{Gathered}

@@ -10,8 +10,8 @@ use Rattle.at_nest.specs.Tree.{Tree}
 use Rattle.at_nest.specs.Syntax.{IsFileOf, HasJsonFault}
 use Rattle.at_nest.specs.declared.finishing.NestEnd.{NestEnd}
 use Rattle.at_nest.specs.declared.finishing.NestEnd.TheVariants as texts
-use Rattle.at_query.specs.declared.queries.Query.{Query}
-use Rattle.at_query.specs.declared.parts.Part.{Part}
+use Rattle.at_query.specs.declared.query.queries.Query.{Query}
+use Rattle.at_query.specs.declared.answer.parts.Part.{Part}
 use Rattle.at_query.specs.Parts.{IsPart}
 use Rattle.at_geojson.specs.declared.root.RootEnd.{RootEnd}
 use Rattle.at_geojson.specs.declared.root.RootEnd.TheVariants as roots

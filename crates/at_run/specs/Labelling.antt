@@ -7,8 +7,8 @@ use Rattle.at_text.specs.Spans.{span_of}
 use Rattle.at_lex.specs.Strings.{Character, AreCharacters, string_text, JsonString}
 use Rattle.at_wkt.specs.Geometry.{is_blank}
 use Rattle.at_query.specs.declared.features.TextPair.{TextPair}
-use Rattle.at_query.specs.declared.queries.Test.{Test}
-use Rattle.at_query.specs.declared.queries.Test.TheVariants.{InBox, MeetsShape, Has}
+use Rattle.at_query.specs.declared.query.queries.Test.{Test}
+use Rattle.at_query.specs.declared.query.queries.Test.TheVariants.{InBox, MeetsShape, Has}
 use Rattle.at_run.specs.declared.labels.Behind.{Behind}
 use Rattle.at_run.specs.Labels.{label_name, texts_of}
 

@@ -5,7 +5,7 @@ ghost use Rattle.at_text.specs.Faults.{first_fault as the_first};
 ghost use Rattle.at_text.specs.declared.faults.Fault.{Fault};
 ghost use Rattle.at_query.specs.Ranges.{IsQueryInRange, IsFeatureInRange};
 ghost use Rattle.at_query.specs.Holding.{lent_feature};
-ghost use Rattle.at_query.specs.declared.queries.Verb.{Verb};
+ghost use Rattle.at_query.specs.declared.query.queries.Verb.{Verb};
 ghost use Rattle.at_query.specs.Parts.{AreAlike, JoinsParts};
 ghost use Rattle.at_query.specs.Accumulators.{AreOfOneVerb, JoinsAccumulators};
 ghost use Rattle.at_run.specs.Gathering.{counted_of, IsOwnOf, AddsFeature, AreJoinable, IsJoinOf, JoinsGathered};

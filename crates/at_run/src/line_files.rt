@@ -6,7 +6,7 @@ ghost use Rattle.at_wkt.specs.Folding.{Kept, StandsFor};
 ghost use Rattle.at_wkt.specs.Lines.{lines_of};
 ghost use Rattle.at_query.specs.Parts.{IsPart};
 ghost use Rattle.at_query.specs.Accumulators.{IsAccumulated};
-ghost use Rattle.at_query.specs.declared.queries.Query.{Query};
+ghost use Rattle.at_query.specs.declared.query.queries.Query.{Query};
 ghost use Rattle.at_query.specs.declared.features.Feature.{Feature};
 ghost use Rattle.at_run.specs.declared.forms.Form.TheVariants.{Wkt};
 ghost use Rattle.at_run.specs.Gathering.{Asked, IsOwn, IsGathered};

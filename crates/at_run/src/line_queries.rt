@@ -4,7 +4,7 @@ ghost use Rattle.std.specs.Prelude.{◌≡◌, ◌≢◌, false, ◌+◌, ◌≤
 ghost use Rattle.at_wkt.specs.Answers.{IfFound};
 ghost use Rattle.at_wkt.specs.Folding.{AddsLines};
 ghost use Rattle.at_query.specs.Ranges.{IsQueryInRange};
-ghost use Rattle.at_query.specs.declared.queries.Verb.{Verb};
+ghost use Rattle.at_query.specs.declared.query.queries.Verb.{Verb};
 ghost use Rattle.at_run.specs.Gathering.{Asked, CountsAll, IsOwn, IsGathered, IsChecked, IsLineRead};
 
 use crate::gathered::{Gathered, add_end, add_fault, add_feature, add_lent, count_line, joined};

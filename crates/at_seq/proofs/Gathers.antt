@@ -14,8 +14,8 @@ use Rattle.at_nest.specs.TextAnswers.{Answers, IsEnd}
 use Rattle.at_nest.specs.declared.finishing.NestEnd.{NestEnd}
 use Rattle.at_nest.specs.declared.finishing.NestEnd.TheVariants as texts
 use Rattle.at_query.specs.declared.features.Feature.{Feature}
-use Rattle.at_query.specs.declared.parts.Part.{Part}
-use Rattle.at_query.specs.declared.accumulators.Accumulator.{Accumulator}
+use Rattle.at_query.specs.declared.answer.parts.Part.{Part}
+use Rattle.at_query.specs.declared.answer.accumulators.Accumulator.{Accumulator}
 use Rattle.at_query.specs.Parts.{IsProper}
 use Rattle.at_query.specs.Accumulators.{IsAccumulated}
 use Rattle.at_query.proofs.Joining.{part_is_proper}

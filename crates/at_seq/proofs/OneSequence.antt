@@ -14,7 +14,7 @@ use Rattle.at_seq.specs.declared.ends.SeqEnd.{SeqEnd}
 use Rattle.at_seq.specs.declared.ends.SeqEnd.TheVariants.{Found, Memory}
 use Rattle.at_seq.specs.Records.{Piece, pieces_of, records_of}
 use Rattle.at_seq.specs.Sequences.{head_faults, HasRecordFaults, HaveRecordFaults, HasSeqFaultBehind, HasSeqFault, TheSeqFault, AreRecordFeatures, AreSeqFeatures}
-use Rattle.at_query.specs.declared.parts.Part.{Part}
+use Rattle.at_query.specs.declared.answer.parts.Part.{Part}
 use Rattle.at_geojson.specs.Keeping.{Asked}
 use Rattle.at_seq.specs.Answers.{IfFound, IsSeqPart}
 

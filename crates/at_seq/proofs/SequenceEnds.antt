@@ -15,7 +15,7 @@ use Rattle.at_nest.specs.Folds.{IsAttempt}
 use Rattle.at_nest.specs.declared.algebra.Attempt.TheVariants.{Whole}
 use Rattle.at_nest.specs.TextAnswers.{Answers}
 use Rattle.at_nest.proofs.OneTree.{one_tree}
-use Rattle.at_query.specs.declared.parts.Part.{Part}
+use Rattle.at_query.specs.declared.answer.parts.Part.{Part}
 use Rattle.at_wkt.proofs.FaultOrder.{first_of-append}
 use Rattle.at_wkt.proofs.LineMerges.{base_within, length-span_of}
 use Rattle.at_geojson.specs.declared.atoms.GeoAtom.{GeoAtom}

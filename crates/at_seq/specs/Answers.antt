@@ -2,10 +2,10 @@
 use Rattle.std.specs.Prelude.{ℕ, List, None}
 use Rattle.at_text.specs.declared.faults.Fault.{Fault}
 use Rattle.at_fixed.specs.declared.rounding.Coords.{Coords}
-use Rattle.at_query.specs.declared.queries.Query.{Query}
+use Rattle.at_query.specs.declared.query.queries.Query.{Query}
 use Rattle.at_query.specs.declared.features.Feature.{Feature}
-use Rattle.at_query.specs.declared.parts.Part.{Part}
-use Rattle.at_query.specs.declared.parts.Part.TheVariants.{Entries}
+use Rattle.at_query.specs.declared.answer.parts.Part.{Part}
+use Rattle.at_query.specs.declared.answer.parts.Part.TheVariants.{Entries}
 use Rattle.at_query.specs.Parts.{IsPart, AreProper}
 use Rattle.at_seq.specs.declared.ends.SeqEnd.{SeqEnd}
 use Rattle.at_seq.specs.declared.ends.SeqEnd.TheVariants.{Found, Memory}

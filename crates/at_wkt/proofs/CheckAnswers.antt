@@ -5,18 +5,18 @@ use Rattle.at_text.specs.declared.faults.Fault.{Fault}
 use Rattle.at_text.specs.Faults.{first_fault}
 use Rattle.at_fixed.specs.declared.rounding.Coords.{Coords}
 use Rattle.at_geom.specs.declared.positions.Pos.{Pos}
-use Rattle.at_wkt.specs.declared.dimension.Dimension.{Dimension}
-use Rattle.at_wkt.specs.declared.sources.Rules.{Rules}
-use Rattle.at_wkt.specs.declared.positions.PositionRead.{PositionRead}
-use Rattle.at_wkt.specs.declared.positions.NumbersRead.{NumbersRead}
-use Rattle.at_wkt.specs.declared.parts.Read.{Read}
-use Rattle.at_wkt.specs.declared.parts.ItemRead.{ItemRead}
-use Rattle.at_wkt.specs.declared.checks.ListPassed.{ListPassed}
+use Rattle.at_wkt.specs.declared.line.dimension.Dimension.{Dimension}
+use Rattle.at_wkt.specs.declared.line.sources.Rules.{Rules}
+use Rattle.at_wkt.specs.declared.line.positions.PositionRead.{PositionRead}
+use Rattle.at_wkt.specs.declared.line.positions.NumbersRead.{NumbersRead}
+use Rattle.at_wkt.specs.declared.line.parts.Read.{Read}
+use Rattle.at_wkt.specs.declared.line.parts.ItemRead.{ItemRead}
+use Rattle.at_wkt.specs.declared.line.checks.ListPassed.{ListPassed}
 use Rattle.at_wkt.specs.Readers.{ends_same, Grows, IsPassed, HasCount, IsPassedList, IsPassedRow, IsPassedPart, PartStands, ItemStands, PositionStands, PositionsSoFar, HeadStands, IsPassedBody, IsPassedGeometry, Meaning, Spelt, joined, no_meaning, meaning_of, point_faults, line_faults}
-use Rattle.at_wkt.specs.declared.kinds.Head.{Head}
-use Rattle.at_wkt.specs.declared.kinds.Kind.{Kind}
-use Rattle.at_wkt.specs.declared.kinds.Kind.TheVariants.{Point, LineString, Polygon}
-use Rattle.at_wkt.specs.declared.dimension.Dimension.TheVariants.{Open}
+use Rattle.at_wkt.specs.declared.line.kinds.Head.{Head}
+use Rattle.at_wkt.specs.declared.line.kinds.Kind.{Kind}
+use Rattle.at_wkt.specs.declared.line.kinds.Kind.TheVariants.{Point, LineString, Polygon}
+use Rattle.at_wkt.specs.declared.line.dimension.Dimension.TheVariants.{Open}
 use Rattle.at_wkt.specs.Geometry.{point, line_string, polygon, SpellsPoint, SpellsList, SpellsArea}
 use Rattle.at_wkt.specs.Meaning.{faults_of_area}
 use Rattle.at_wkt.proofs.GeometryAnswers.{body_of}

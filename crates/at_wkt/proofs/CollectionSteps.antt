@@ -5,11 +5,11 @@ use Rattle.std.specs.Str.{str_to_ascii_uppercase}
 use Rattle.std.specs.Char.{to_ascii_uppercase}
 use Rattle.at_text.specs.Parts.{Many, Exactly, ◌▸◌}
 use Rattle.at_fixed.specs.declared.rounding.Coords.{Coords}
-use Rattle.at_wkt.specs.declared.dimension.Dimension.{Dimension}
-use Rattle.at_wkt.specs.declared.dimension.Dimension.TheVariants.{Open}
-use Rattle.at_wkt.specs.declared.kinds.Kind.{Kind}
-use Rattle.at_wkt.specs.declared.kinds.Kind.TheVariants.{Point, LineString, Polygon, MultiPoint, MultiLineString, MultiPolygon, GeometryCollection}
-use Rattle.at_wkt.specs.declared.kinds.Head.{Head}
+use Rattle.at_wkt.specs.declared.line.dimension.Dimension.{Dimension}
+use Rattle.at_wkt.specs.declared.line.dimension.Dimension.TheVariants.{Open}
+use Rattle.at_wkt.specs.declared.line.kinds.Kind.{Kind}
+use Rattle.at_wkt.specs.declared.line.kinds.Kind.TheVariants.{Point, LineString, Polygon, MultiPoint, MultiLineString, MultiPolygon, GeometryCollection}
+use Rattle.at_wkt.specs.declared.line.kinds.Head.{Head}
 use Rattle.at_wkt.specs.Geometry.{Geometry, point, collection, no_geometries, geometry_and, is_blank, SpellsGeometry, SpellsFurtherGeometries, SpellsPoint, SpellsList, SpellsArea, SpellsPointMember, SpellsRing}
 use Rattle.at_wkt.specs.Readers.{opens, next, Spelt, Stuck, Leads, SkipsBlanks, delimiter, Delimiter, HasCount, word_of, KindBreaks, HeadStands, Meaning, joined, no_meaning, Body, meaning_of, meaning_of_all, After, Expected, EnclosedPosition}
 use Rattle.at_wkt.proofs.Leads.{part-one, Begins, Inhabited}

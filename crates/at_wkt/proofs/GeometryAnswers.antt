@@ -8,13 +8,13 @@ use Rattle.at_text.specs.Faults.{first_of}
 use Rattle.at_fixed.specs.declared.rounding.Coords.{Coords}
 use Rattle.at_geom.specs.declared.positions.Pos.{Pos}
 use Rattle.at_geom.specs.declared.shapes.Polygon.{Polygon as PolygonOf}
-use Rattle.at_wkt.specs.declared.dimension.Dimension.{Dimension}
+use Rattle.at_wkt.specs.declared.line.dimension.Dimension.{Dimension}
 use Rattle.at_text.specs.declared.halts.Halt.{Halt}
-use Rattle.at_wkt.specs.declared.kinds.Kind.{Kind}
-use Rattle.at_wkt.specs.declared.kinds.Kind.TheVariants.{Point, LineString, Polygon, MultiPoint, MultiLineString, MultiPolygon, GeometryCollection}
-use Rattle.at_wkt.specs.declared.kinds.Head.{Head}
-use Rattle.at_wkt.specs.declared.parts.Read.{Read}
-use Rattle.at_wkt.specs.declared.geometries.Gathered.{Gathered}
+use Rattle.at_wkt.specs.declared.line.kinds.Kind.{Kind}
+use Rattle.at_wkt.specs.declared.line.kinds.Kind.TheVariants.{Point, LineString, Polygon, MultiPoint, MultiLineString, MultiPolygon, GeometryCollection}
+use Rattle.at_wkt.specs.declared.line.kinds.Head.{Head}
+use Rattle.at_wkt.specs.declared.line.parts.Read.{Read}
+use Rattle.at_wkt.specs.declared.line.geometries.Gathered.{Gathered}
 use Rattle.at_wkt.specs.Positions.{pos_of, path_of, position_faults, faults_of_line}
 use Rattle.at_wkt.specs.Meaning.{present, shape_of, faults_of, polygons_of, faults_of_area}
 use Rattle.at_wkt.specs.Geometry.{Geometry, point, line_string, polygon, multi_point, multi_line_string, multi_polygon, collection, no_geometries, SpellsPoint, SpellsList, SpellsArea, EmptyOrParted, SpellsPointMember, geometry_and}

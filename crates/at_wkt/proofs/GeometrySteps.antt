@@ -6,10 +6,10 @@ use Rattle.at_text.specs.declared.faults.Fault.{Fault}
 use Rattle.at_fixed.specs.declared.rounding.Coords.{Coords}
 use Rattle.at_geom.specs.declared.positions.Pos.{Pos}
 use Rattle.at_geom.specs.declared.shapes.Polygon.{Polygon as PolygonOf}
-use Rattle.at_wkt.specs.declared.dimension.Dimension.{Dimension}
-use Rattle.at_wkt.specs.declared.dimension.Dimension.TheVariants.{Open}
-use Rattle.at_wkt.specs.declared.kinds.Kind.{Kind}
-use Rattle.at_wkt.specs.declared.kinds.Kind.TheVariants.{Point, LineString, Polygon, MultiPoint, MultiLineString, MultiPolygon, GeometryCollection}
+use Rattle.at_wkt.specs.declared.line.dimension.Dimension.{Dimension}
+use Rattle.at_wkt.specs.declared.line.dimension.Dimension.TheVariants.{Open}
+use Rattle.at_wkt.specs.declared.line.kinds.Kind.{Kind}
+use Rattle.at_wkt.specs.declared.line.kinds.Kind.TheVariants.{Point, LineString, Polygon, MultiPoint, MultiLineString, MultiPolygon, GeometryCollection}
 use Rattle.at_wkt.specs.Geometry.{Geometry, point, line_string, polygon, multi_point, multi_line_string, multi_polygon, collection, Geometries, no_geometries, geometry_and, is_blank, Letter, SpellsGeometry, SpellsFurtherGeometries}
 use Rattle.at_wkt.specs.Readers.{Spelt, Stuck, Delimiter, HasCount, word_of, Meaning, joined, no_meaning, Body, FurtherThen, meaning_of, After, Expected}
 use Rattle.at_wkt.proofs.Steps.{Then, Same}

@@ -4,8 +4,8 @@ use Rattle.std.proofs.Common.{◌≡◌, ℕ, ◌+◌, ◌<◌, ◌≤◌, inl, 
 use Rattle.std.proofs.lemmas.List.{append_cancel_left}
 use Rattle.at_text.specs.Parts.{OneOrMore, At, ◌▸◌}
 use Rattle.at_fixed.specs.Numerals.{Numeral}
-use Rattle.at_wkt.specs.declared.dimension.Dimension.{Dimension}
-use Rattle.at_wkt.specs.declared.dimension.Dimension.TheVariants.{Open, Fixed}
+use Rattle.at_wkt.specs.declared.line.dimension.Dimension.{Dimension}
+use Rattle.at_wkt.specs.declared.line.dimension.Dimension.TheVariants.{Open, Fixed}
 use Rattle.at_wkt.specs.Positions.{Position}
 use Rattle.at_wkt.specs.Geometry.{is_blank, SpellsNumber, SpellsFurther, SpellsPosition}
 use Rattle.at_fixed.specs.Kept.{between}

@@ -3,8 +3,8 @@
 use Rattle.std.proofs.Common.{◌≡◌, ◌≢◌, ℕ, ◌+◌, ◌-◌, ◌≤◌, ◌⊎◌, inl, inr, List, [], ◌∷◌, ◌++◌, length, take, sym, ◌∙◌, ap, subst, arith}
 use Rattle.std.specs.List.{AllByRecursion}
 use Rattle.std.specs.Str.{str_to_ascii_uppercase}
-use Rattle.at_wkt.specs.declared.kinds.Kind.{Kind}
-use Rattle.at_wkt.specs.declared.kinds.Kind.TheVariants.{Point, LineString, Polygon, MultiPoint, MultiLineString, MultiPolygon, GeometryCollection}
+use Rattle.at_wkt.specs.declared.line.kinds.Kind.{Kind}
+use Rattle.at_wkt.specs.declared.line.kinds.Kind.TheVariants.{Point, LineString, Polygon, MultiPoint, MultiLineString, MultiPolygon, GeometryCollection}
 use Rattle.at_fixed.specs.Kept.{between}
 use Rattle.at_wkt.specs.Readers.{word_of, Matches, WordBreaks, KindBreaks, KindsTried}
 use Rattle.at_wkt.proofs.Leads.{part-none}

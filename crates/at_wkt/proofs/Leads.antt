@@ -3,8 +3,8 @@
 use Rattle.std.proofs.Common.{◌≡◌, ℕ, ◌+◌, ◌<◌, ◌≤◌, ◌⊎◌, inl, inr, Bool, true, List, [], ◌∷◌, ◌++◌, length, take, drop, refl, sym, ◌∙◌, ap, subst, arith, add-one, take-suc, append_assoc, length-append, length-take, length-drop, take-append-drop, take-take}
 use native.Mathlib.Decide.{dec_lt}
 use Rattle.std.proofs.lemmas.List.{drop-append-le, drop_all, append_cancel_left}
-use Rattle.at_wkt.specs.declared.dimension.Dimension.{Dimension}
-use Rattle.at_wkt.specs.declared.dimension.Dimension.TheVariants.{Open, Fixed}
+use Rattle.at_wkt.specs.declared.line.dimension.Dimension.{Dimension}
+use Rattle.at_wkt.specs.declared.line.dimension.Dimension.TheVariants.{Open, Fixed}
 use Rattle.at_fixed.specs.Kept.{between}
 use Rattle.at_wkt.specs.Readers.{next, Allows, Spelt, Leads}
 

@@ -9,14 +9,14 @@ use Rattle.at_text.specs.Faults.{first_fault, first_of}
 use Rattle.at_text.specs.Syntax.{IsSyntaxFault, stop_fault}
 use Rattle.at_fixed.specs.declared.rounding.Coords.{Coords}
 use Rattle.at_geom.specs.declared.shapes.Shape.{Shape}
-use Rattle.at_wkt.specs.declared.dimension.Dimension.TheVariants.{Open}
+use Rattle.at_wkt.specs.declared.line.dimension.Dimension.TheVariants.{Open}
 use Rattle.std.specs.Result.{MatchResult}
 use Rattle.at_wkt.specs.declared.answers.Prefix.{Prefix}
 use Rattle.at_wkt.specs.declared.answers.LineFault.{LineFault}
 use Rattle.at_wkt.specs.declared.answers.LineFault.TheVariants.{Found}
 use Rattle.at_text.specs.declared.halts.Halt.{Halt}
 use Rattle.at_text.specs.declared.halts.Halt.TheVariants.{At, Memory as NoMemory}
-use Rattle.at_wkt.specs.declared.geometries.Gathered.{Gathered}
+use Rattle.at_wkt.specs.declared.line.geometries.Gathered.{Gathered}
 use Rattle.at_wkt.specs.Meaning.{empty_shape}
 use Rattle.at_wkt.specs.Geometry.{Geometry, SpellsGeometry, IsLineOf, WktLine}
 use Rattle.at_wkt.specs.Answers.{IsPrefixOf, IsPrefixFault, SpellsLine, IfFound, HasFirstLineFault, unspelled, faulty, HasLineShape}

@@ -8,10 +8,10 @@ use Rattle.at_text.specs.declared.texts.Span.{Span}
 use Rattle.at_text.specs.Texts.{base_of, byte_order_mark}
 use Rattle.at_text.specs.Spans.{span_of, AreNeighbours}
 use Rattle.at_wkt.specs.Lines.{FileLine, pieces_from, is_line_feed, line_of, is_blank_text, lines_in}
-use Rattle.at_wkt.specs.declared.fragments.WholeLines.{WholeLines}
-use Rattle.at_wkt.specs.declared.fragments.Inner.{Inner}
-use Rattle.at_wkt.specs.declared.fragments.LineFragment.{LineFragment}
-use Rattle.at_wkt.specs.declared.fragments.LineFragment.TheVariants.{Piece, Lines}
+use Rattle.at_wkt.specs.declared.file.fragments.WholeLines.{WholeLines}
+use Rattle.at_wkt.specs.declared.file.fragments.Inner.{Inner}
+use Rattle.at_wkt.specs.declared.file.fragments.LineFragment.{LineFragment}
+use Rattle.at_wkt.specs.declared.file.fragments.LineFragment.TheVariants.{Piece, Lines}
 use Rattle.at_wkt.specs.Folding.{IsSpanOf, Kept, AddsLines, HoldsPiece, HoldsLines, HoldsInner, StandsFor}
 use Rattle.at_wkt.proofs.Pieces.{pieces_first, pieces_last, left_is}
 use Rattle.at_wkt.proofs.LinePieces.{pieces_joined, glued, glued_end, first_begins, last_ends, IsPieceOf, piece_of}

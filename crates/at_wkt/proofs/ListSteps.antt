@@ -3,7 +3,7 @@
 use Rattle.std.proofs.Common.{◌≡◌, ◌≢◌, ℕ, ◌+◌, ◌-◌, ◌<◌, ◌≤◌, ◌⊎◌, inl, inr, Bool, true, false, List, [], ◌∷◌, ◌++◌, length, codes, refl, sym, ◌∙◌, ap, subst, arith, append-nil, append_assoc, length-append, true≢false}
 use Rattle.at_text.specs.Parts.{Exactly}
 use Rattle.at_fixed.specs.Numerals.{Numeral}
-use Rattle.at_wkt.specs.declared.dimension.Dimension.{Dimension}
+use Rattle.at_wkt.specs.declared.line.dimension.Dimension.{Dimension}
 use Rattle.at_wkt.specs.Positions.{Position}
 use Rattle.at_wkt.specs.Geometry.{is_blank, SpellsPosition, InBrackets, Parted, SpellsRing}
 use Rattle.at_fixed.specs.Kept.{between}

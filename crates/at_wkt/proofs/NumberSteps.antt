@@ -13,7 +13,7 @@ use Rattle.at_fixed.specs.declared.rounding.FixedFault.{FixedFault}
 use Rattle.at_fixed.specs.Fixed.{fixed_of, IsFixedOf}
 use Rattle.at_text.specs.Parts.{At}
 use Rattle.at_fixed.specs.Numerals.{Exponent, Numeral, fraction_text, exponent_text, numeral_text, IsAtMostOneOf, AreDigits, AreSomeDigits, IsExponent, AreWktDigits, IsWktNumeral, WktNumber, NumberOf, SpellsNumeral}
-use Rattle.at_wkt.specs.declared.dimension.Dimension.{Dimension}
+use Rattle.at_wkt.specs.declared.line.dimension.Dimension.{Dimension}
 use Rattle.at_wkt.specs.Geometry.{SpellsNumber}
 use Rattle.at_fixed.specs.Kept.{between}
 use Rattle.at_wkt.specs.Readers.{next, Allows, Stuck, Leads, NumberStands, NumberBreaks, NumberSkips}

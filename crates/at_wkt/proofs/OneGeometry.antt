@@ -5,9 +5,9 @@ use Rattle.std.specs.List.{AllByRecursion}
 use Rattle.std.specs.Char.{to_ascii_uppercase}
 use Rattle.std.proofs.lemmas.List.{append_cancel_left}
 use Rattle.at_text.specs.Parts.{Nothing, Exactly, AnyCase, Many, ◌▸◌}
-use Rattle.at_wkt.specs.declared.kinds.Kind.{Kind}
+use Rattle.at_wkt.specs.declared.line.kinds.Kind.{Kind}
 use Rattle.at_wkt.specs.Positions.{Position, Positions}
-use Rattle.at_wkt.specs.declared.kinds.Kind.TheVariants.{Point, LineString, Polygon, MultiPoint, MultiLineString, MultiPolygon, GeometryCollection}
+use Rattle.at_wkt.specs.declared.line.kinds.Kind.TheVariants.{Point, LineString, Polygon, MultiPoint, MultiLineString, MultiPolygon, GeometryCollection}
 use Rattle.at_wkt.specs.Geometry.{Geometry, point, line_string, polygon, multi_point, multi_line_string, multi_polygon, collection, Geometries, no_geometries, geometry_and, is_blank, EmptyWord, EmptyOrParted, Letter, SpellsPoint, SpellsList, SpellsPointMember, SpellsArea, SpellsGeometry, SpellsGeometries, SpellsFurtherGeometries, IsLineOf}
 use Rattle.at_wkt.specs.Readers.{opens, word_of, Delimiter, Body, FurtherThen}
 use Rattle.at_wkt.proofs.Agreement.{Agree, OneValue, Fails, Passes, agree_then, agree_map, agree_exactly, agree_any_case, agree_many, agree_apart, agree_turned, agree_as, fails_then, not_fails}

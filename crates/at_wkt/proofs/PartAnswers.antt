@@ -8,14 +8,14 @@ use Rattle.at_text.specs.declared.faults.Fault.{Fault}
 use Rattle.at_text.specs.Faults.{first_of}
 use Rattle.at_geom.specs.declared.positions.Pos.{Pos}
 use Rattle.at_geom.specs.declared.shapes.Polygon.{Polygon as PolygonOf}
-use Rattle.at_wkt.specs.declared.dimension.Dimension.{Dimension}
+use Rattle.at_wkt.specs.declared.line.dimension.Dimension.{Dimension}
 use Rattle.at_text.specs.declared.halts.Halt.{Halt}
-use Rattle.at_wkt.specs.declared.sources.Rules.{Rules}
-use Rattle.at_wkt.specs.declared.positions.PositionRead.{PositionRead}
-use Rattle.at_wkt.specs.declared.paths.PathRead.{PathRead}
-use Rattle.at_wkt.specs.declared.paths.Role.{Role}
-use Rattle.at_wkt.specs.declared.parts.Read.{Read}
-use Rattle.at_wkt.specs.declared.parts.ItemRead.{ItemRead}
+use Rattle.at_wkt.specs.declared.line.sources.Rules.{Rules}
+use Rattle.at_wkt.specs.declared.line.positions.PositionRead.{PositionRead}
+use Rattle.at_wkt.specs.declared.line.paths.PathRead.{PathRead}
+use Rattle.at_wkt.specs.declared.line.paths.Role.{Role}
+use Rattle.at_wkt.specs.declared.line.parts.Read.{Read}
+use Rattle.at_wkt.specs.declared.line.parts.ItemRead.{ItemRead}
 use Rattle.at_wkt.specs.Positions.{Position, Positions, position_faults, path_of, faults_of_ring}
 use Rattle.at_wkt.specs.Meaning.{polygons_of, faults_of_area}
 use Rattle.at_wkt.specs.Geometry.{SpellsPosition, SpellsRing, SpellsPoint, SpellsPointMember, EmptyOrParted}

@@ -8,12 +8,12 @@ use Rattle.at_text.specs.declared.faults.Fault.{Fault}
 use Rattle.at_text.specs.Faults.{first_fault, first_of}
 use Rattle.at_fixed.specs.Numerals.{Numeral}
 use Rattle.at_geom.specs.declared.positions.Pos.{Pos}
-use Rattle.at_wkt.specs.declared.dimension.Dimension.{Dimension}
-use Rattle.at_wkt.specs.declared.dimension.Dimension.TheVariants.{Fixed}
+use Rattle.at_wkt.specs.declared.line.dimension.Dimension.{Dimension}
+use Rattle.at_wkt.specs.declared.line.dimension.Dimension.TheVariants.{Fixed}
 use Rattle.at_text.specs.declared.halts.Halt.{Halt}
-use Rattle.at_wkt.specs.declared.sources.Rules.{Rules}
-use Rattle.at_wkt.specs.declared.numbers.Coordinate.{Coordinate}
-use Rattle.at_wkt.specs.declared.positions.NumbersRead.{NumbersRead}
+use Rattle.at_wkt.specs.declared.line.sources.Rules.{Rules}
+use Rattle.at_wkt.specs.declared.line.numbers.Coordinate.{Coordinate}
+use Rattle.at_wkt.specs.declared.line.positions.NumbersRead.{NumbersRead}
 use Rattle.at_wkt.specs.Positions.{value_of, number_fault}
 use Rattle.at_text.specs.Halts.{IfStopped}
 use Rattle.at_wkt.specs.Readers.{next, allows, allows_more, Spelt, Stuck, Leads, SkipsBlanks, NumberStands, NumberBreaks, NumberSkips, delimiter, is_delimiter, FurtherNumbers, Reaches, IsCoordinate, PositionStands}

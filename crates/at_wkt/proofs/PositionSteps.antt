@@ -5,7 +5,7 @@ use Rattle.std.proofs.lemmas.List.{append_cancel_left}
 use Rattle.at_text.specs.Texts.{is_digit, is_one_of}
 use Rattle.at_text.specs.Parts.{◌▸◌}
 use Rattle.at_fixed.specs.Numerals.{Numeral, fraction_text, exponent_text, numeral_text, IsAtMostOneOf, AreWktDigits, IsWktNumeral, WktNumber}
-use Rattle.at_wkt.specs.declared.dimension.Dimension.{Dimension}
+use Rattle.at_wkt.specs.declared.line.dimension.Dimension.{Dimension}
 use Rattle.at_wkt.specs.Geometry.{is_blank, SpellsNumber, SpellsFurther}
 use Rattle.at_fixed.specs.Kept.{between}
 use Rattle.at_wkt.specs.Readers.{next, Allows, Stuck, Leads, SkipsBlanks, NumberBreaks, NumberSkips, delimiter, Delimiter, FurtherNumbers, Reaches, is_delimiter}

@@ -5,16 +5,16 @@ use Rattle.std.specs.Result.{MatchResult}
 use Rattle.at_text.specs.declared.faults.Fault.{Fault}
 use Rattle.at_text.specs.Faults.{first_fault, first_of}
 use Rattle.at_fixed.specs.declared.rounding.Coords.{Coords}
-use Rattle.at_wkt.specs.declared.dimension.Dimension.{Dimension}
-use Rattle.at_wkt.specs.declared.dimension.Dimension.TheVariants.{Open}
+use Rattle.at_wkt.specs.declared.line.dimension.Dimension.{Dimension}
+use Rattle.at_wkt.specs.declared.line.dimension.Dimension.TheVariants.{Open}
 use Rattle.at_text.specs.declared.halts.Halt.{Halt}
-use Rattle.at_wkt.specs.declared.kinds.Kind.{Kind}
-use Rattle.at_wkt.specs.declared.kinds.Kind.TheVariants.{Point, LineString, Polygon, MultiPoint, MultiLineString, MultiPolygon, GeometryCollection}
-use Rattle.at_wkt.specs.declared.kinds.Head.{Head}
-use Rattle.at_wkt.specs.declared.positions.DelimiterRead.{DelimiterRead}
-use Rattle.at_wkt.specs.declared.parts.Read.{Read}
-use Rattle.at_wkt.specs.declared.geometries.Gathered.{Gathered}
-use Rattle.at_wkt.specs.declared.geometries.Progress.{Progress}
+use Rattle.at_wkt.specs.declared.line.kinds.Kind.{Kind}
+use Rattle.at_wkt.specs.declared.line.kinds.Kind.TheVariants.{Point, LineString, Polygon, MultiPoint, MultiLineString, MultiPolygon, GeometryCollection}
+use Rattle.at_wkt.specs.declared.line.kinds.Head.{Head}
+use Rattle.at_wkt.specs.declared.line.positions.DelimiterRead.{DelimiterRead}
+use Rattle.at_wkt.specs.declared.line.parts.Read.{Read}
+use Rattle.at_wkt.specs.declared.line.geometries.Gathered.{Gathered}
+use Rattle.at_wkt.specs.declared.line.geometries.Progress.{Progress}
 use Rattle.at_fixed.specs.Kept.{between}
 use Rattle.at_text.specs.Halts.{IfStopped}
 use Rattle.at_wkt.specs.Readers.{next, Spelt, Stuck, Leads, SkipsBlanks, Delimiter, delimiter, HasCount, HeadStands, LetterStands, opens_at, WordStands, word_of, DelimiterStands, DelimiterBreaks, Meaning, joined, no_meaning, Body, meaning_of, Expected, Onward, Advances, BodyStands, StepStands, WholeStands, Gathers}

@@ -7,9 +7,9 @@ use Rattle.std.proofs.lemmas.List.{length-map, map-append, drop-map}
 use Rattle.std.proofs.lemmas.Option.{same_Some}
 use Rattle.std.proofs.Math.Seq.{get_or-append_seam}
 use Rattle.at_text.specs.Parts.{AnyCase}
-use Rattle.at_wkt.specs.declared.dimension.Dimension.{Dimension}
-use Rattle.at_wkt.specs.declared.kinds.Kind.{Kind}
-use Rattle.at_wkt.specs.declared.kinds.Kind.TheVariants.{Point, LineString, Polygon, MultiPoint, MultiLineString, MultiPolygon, GeometryCollection}
+use Rattle.at_wkt.specs.declared.line.dimension.Dimension.{Dimension}
+use Rattle.at_wkt.specs.declared.line.kinds.Kind.{Kind}
+use Rattle.at_wkt.specs.declared.line.kinds.Kind.TheVariants.{Point, LineString, Polygon, MultiPoint, MultiLineString, MultiPolygon, GeometryCollection}
 use Rattle.at_wkt.specs.Geometry.{is_blank}
 use Rattle.at_fixed.specs.Kept.{between}
 use Rattle.at_wkt.specs.Readers.{next, Allows, Spelt, Stuck, WordStands, WordBreaks, word_of, KindBreaks, opens}

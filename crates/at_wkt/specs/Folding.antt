@@ -5,11 +5,11 @@ use Rattle.std.specs.Bool.{⊤}
 use Rattle.at_text.specs.declared.memory.Memory.{Memory}
 use Rattle.at_text.specs.declared.texts.Span.{Span}
 use Rattle.at_wkt.specs.Lines.{FileLine, pieces_from, lines_in}
-use Rattle.at_wkt.specs.declared.folding.Fold.{Ghosts}
-use Rattle.at_wkt.specs.declared.fragments.Inner.{Inner}
-use Rattle.at_wkt.specs.declared.fragments.WholeLines.{WholeLines}
-use Rattle.at_wkt.specs.declared.fragments.LineFragment.{LineFragment}
-use Rattle.at_wkt.specs.declared.fragments.LineFragment.TheVariants.{Lost, Piece, Lines}
+use Rattle.at_wkt.specs.declared.file.folding.Fold.{Ghosts}
+use Rattle.at_wkt.specs.declared.file.fragments.Inner.{Inner}
+use Rattle.at_wkt.specs.declared.file.fragments.WholeLines.{WholeLines}
+use Rattle.at_wkt.specs.declared.file.fragments.LineFragment.{LineFragment}
+use Rattle.at_wkt.specs.declared.file.fragments.LineFragment.TheVariants.{Lost, Piece, Lines}
 
 -- the span has the piece's bytes
 abbrev pub IsSpanOf : FileLine → Span → Type 0

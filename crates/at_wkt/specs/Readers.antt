@@ -11,34 +11,34 @@ use Rattle.at_text.specs.Prefix.{LongestViable}
 use Rattle.at_text.specs.Parts.{Many, Exactly, ◌▸◌}
 use Rattle.at_fixed.specs.Kept.{between}
 use Rattle.at_fixed.specs.Numerals.{Numeral, IsWktNumeral, numeral_text, WktNumber}
-use Rattle.at_wkt.specs.declared.kinds.Kind.{Kind}
-use Rattle.at_wkt.specs.declared.kinds.Kind.TheVariants.{Point, LineString, Polygon, MultiPoint, MultiLineString}
-use Rattle.at_wkt.specs.declared.kinds.Kind.TheVariants.{MultiPolygon, GeometryCollection}
-use Rattle.at_wkt.specs.declared.kinds.Head.{Head}
+use Rattle.at_wkt.specs.declared.line.kinds.Kind.{Kind}
+use Rattle.at_wkt.specs.declared.line.kinds.Kind.TheVariants.{Point, LineString, Polygon, MultiPoint, MultiLineString}
+use Rattle.at_wkt.specs.declared.line.kinds.Kind.TheVariants.{MultiPolygon, GeometryCollection}
+use Rattle.at_wkt.specs.declared.line.kinds.Head.{Head}
 use Rattle.at_text.specs.Syntax.{IsSyntaxFault, stop_fault}
 use Rattle.at_wkt.specs.declared.answers.LineFault.{LineFault}
 use Rattle.at_wkt.specs.declared.answers.LineFault.TheVariants.{Found, Memory as NoMemory}
 use Rattle.at_wkt.specs.Answers.{SpellsLine}
 use Rattle.at_text.specs.declared.halts.Halt.{Halt}
 use Rattle.at_text.specs.declared.halts.Halt.TheVariants.{At, Memory}
-use Rattle.at_wkt.specs.declared.sources.Rules.{Rules}
-use Rattle.at_wkt.specs.declared.numbers.Coordinate.{Coordinate}
-use Rattle.at_wkt.specs.declared.positions.DelimiterRead.{DelimiterRead}
-use Rattle.at_wkt.specs.declared.positions.PositionRead.{PositionRead}
-use Rattle.at_wkt.specs.declared.positions.NumbersRead.{NumbersRead}
-use Rattle.at_wkt.specs.declared.checks.ListPassed.{ListPassed}
-use Rattle.at_wkt.specs.declared.checks.RowPassed.{RowPassed}
-use Rattle.at_wkt.specs.declared.paths.Role.{Role}
-use Rattle.at_wkt.specs.declared.paths.Role.TheVariants.{Line, Ring}
-use Rattle.at_wkt.specs.declared.paths.ListRead.{ListRead}
-use Rattle.at_wkt.specs.declared.paths.PathRead.{PathRead}
-use Rattle.at_wkt.specs.declared.parts.Read.{Read}
-use Rattle.at_wkt.specs.declared.parts.ItemRead.{ItemRead}
+use Rattle.at_wkt.specs.declared.line.sources.Rules.{Rules}
+use Rattle.at_wkt.specs.declared.line.numbers.Coordinate.{Coordinate}
+use Rattle.at_wkt.specs.declared.line.positions.DelimiterRead.{DelimiterRead}
+use Rattle.at_wkt.specs.declared.line.positions.PositionRead.{PositionRead}
+use Rattle.at_wkt.specs.declared.line.positions.NumbersRead.{NumbersRead}
+use Rattle.at_wkt.specs.declared.line.checks.ListPassed.{ListPassed}
+use Rattle.at_wkt.specs.declared.line.checks.RowPassed.{RowPassed}
+use Rattle.at_wkt.specs.declared.line.paths.Role.{Role}
+use Rattle.at_wkt.specs.declared.line.paths.Role.TheVariants.{Line, Ring}
+use Rattle.at_wkt.specs.declared.line.paths.ListRead.{ListRead}
+use Rattle.at_wkt.specs.declared.line.paths.PathRead.{PathRead}
+use Rattle.at_wkt.specs.declared.line.parts.Read.{Read}
+use Rattle.at_wkt.specs.declared.line.parts.ItemRead.{ItemRead}
 use Rattle.at_text.specs.declared.faults.Fault.{Fault}
 use Rattle.at_geom.specs.declared.positions.Pos.{Pos}
 use Rattle.at_geom.specs.Shapes.{line_fault, ring_fault}
-use Rattle.at_wkt.specs.declared.geometries.Gathered.{Gathered}
-use Rattle.at_wkt.specs.declared.geometries.Progress.{Progress}
+use Rattle.at_wkt.specs.declared.line.geometries.Gathered.{Gathered}
+use Rattle.at_wkt.specs.declared.line.geometries.Progress.{Progress}
 use Rattle.at_text.specs.Faults.{first_of, first_fault}
 use Rattle.at_fixed.specs.declared.rounding.Coords.{Coords}
 use Rattle.at_wkt.specs.Positions.{Position, Positions, value_of, number_fault, pos_of, position_faults, path_of}
@@ -49,8 +49,8 @@ use Rattle.at_wkt.specs.Geometry.{Geometry, point, line_string, polygon, multi_p
 use Rattle.at_wkt.specs.Geometry.{collection, Geometries, no_geometries, geometry_and, WktLine, SpellsGeometry}
 use Rattle.at_wkt.specs.Geometry.{SpellsGeometries, SpellsPoint, SpellsList, SpellsArea, EmptyOrParted}
 use Rattle.at_wkt.specs.Geometry.{SpellsPointMember, is_blank, SpellsFurther, SpellsPosition, SpellsRing, InBrackets}
-use Rattle.at_wkt.specs.declared.dimension.Dimension.{Dimension}
-use Rattle.at_wkt.specs.declared.dimension.Dimension.TheVariants.{Open, Fixed}
+use Rattle.at_wkt.specs.declared.line.dimension.Dimension.{Dimension}
+use Rattle.at_wkt.specs.declared.line.dimension.Dimension.TheVariants.{Open, Fixed}
 
 -- the byte at a place, and at the end a number that is no byte
 abbrev pub next : List ℕ → ℕ → ℕ

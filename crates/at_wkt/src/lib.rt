@@ -6,33 +6,17 @@
 //!   the fragments of two neighbouring pieces, and `finish_lines` gives the fold of the whole.
 #![tactic(auto)]
 
-// one line: bytes, numbers, positions, lists of them, parts, geometries
-mod bytes;
-mod checks;
-mod dimension;
-mod geometries;
-mod kinds;
-mod numbers;
-mod parts;
-mod paths;
-mod positions;
-mod reading;
-mod rooms;
-mod sites;
-mod sources;
-mod words;
+// One line of text.
+mod line;
 
-// the lines of a file
-mod files;
-mod folding;
-mod fragments;
-mod searches;
+// The lines of a file.
+mod file;
 
-// what is answered
+// What is answered of both.
 mod answers;
 
 pub use answers::{LineFault, Prefix};
-pub use folding::Fold;
-pub use fragments::{LineFragment, WholeLines, finish_lines, merge_lines, run_lines};
-pub use reading::{read_geometry, read_line};
-pub use rooms::Room;
+pub use file::folding::Fold;
+pub use file::fragments::{LineFragment, WholeLines, finish_lines, merge_lines, run_lines};
+pub use line::reading::{read_geometry, read_line};
+pub use line::rooms::Room;

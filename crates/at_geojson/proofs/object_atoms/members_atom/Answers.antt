@@ -1,6 +1,6 @@
 use Rattle.std.proofs.lemmas.Result.{IfOk-weaker}
 use Rattle.std.proofs.Common.{◌∙◌, ap}
-use Rattle.at_query.specs.declared.queries.Query.{Query}
+use Rattle.at_query.specs.declared.query.queries.Query.{Query}
 use Rattle.at_geojson.specs.Objects.{kept_texts}
 use Rattle.at_geojson.proofs.FieldFolds.{own_fields, object_of_fields}
 use Rattle.at_geojson.proofs.object_atoms.members_atom.Goals as goal

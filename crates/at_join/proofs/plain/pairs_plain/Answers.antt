@@ -1,7 +1,7 @@
 use Rattle.std.proofs.Common.{◌≡◌, List, [], sym, subst}
 use Rattle.at_geom.specs.Shapes.{IsShapeInRange}
-use Rattle.at_query.specs.declared.parts.Entry.{Entry}
-use Rattle.at_query.specs.declared.answers.Pair.{Pair}
+use Rattle.at_query.specs.declared.answer.parts.Entry.{Entry}
+use Rattle.at_query.specs.declared.answer.answers.Pair.{Pair}
 use Rattle.at_join.specs.Meetings.{AreInRange, Finds, Meeting, MeetsWith, at_entries, pair_with}
 use Rattle.at_join.proofs.FoundLists.{finds_row}
 use Rattle.at_join.proofs.plain.pairs_plain.Goals as goal

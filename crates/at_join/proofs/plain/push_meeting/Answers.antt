@@ -1,6 +1,6 @@
 use Rattle.std.proofs.Common.{◌∷◌, [], sym, subst}
 use Rattle.at_geom.specs.Shapes.{IsShapeInRange}
-use Rattle.at_query.specs.declared.parts.Entry.{Entry}
+use Rattle.at_query.specs.declared.answer.parts.Entry.{Entry}
 use Rattle.at_join.specs.Meetings.{Finds, MeetsWith, pair_with}
 use Rattle.at_join.proofs.FoundLists.{finds_more}
 use Rattle.at_join.proofs.plain.push_meeting.Goals as goal

@@ -1,5 +1,5 @@
 use Rattle.std.proofs.Common.{◌<◌, All, take}
-use Rattle.at_query.specs.declared.answers.Pair.{Pair}
+use Rattle.at_query.specs.declared.answer.answers.Pair.{Pair}
 use Rattle.at_join.proofs.run.all_fit.Given as goal
 
 abbrev pub invariant-loop-pair : goal.invariant-loop-pair

@@ -1,5 +1,5 @@
 use Rattle.std.proofs.Common.{refl}
-use Rattle.at_query.specs.declared.parts.Part.TheVariants.{Count}
+use Rattle.at_query.specs.declared.answer.parts.Part.TheVariants.{Count}
 use Rattle.at_query.proofs.Joining.{joins_counts}
 use Rattle.at_run.proofs.gathered.count_in.Goals as goal
 

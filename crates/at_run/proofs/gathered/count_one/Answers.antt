@@ -1,7 +1,7 @@
 use Rattle.std.proofs.Common.{subst, sym}
-use Rattle.at_query.specs.declared.parts.Part.TheVariants.{Count}
-use Rattle.at_query.specs.declared.accumulators.Accumulator.{Accumulator}
-use Rattle.at_query.specs.declared.accumulators.Accumulator.TheVariants.{Part}
+use Rattle.at_query.specs.declared.answer.parts.Part.TheVariants.{Count}
+use Rattle.at_query.specs.declared.answer.accumulators.Accumulator.{Accumulator}
+use Rattle.at_query.specs.declared.answer.accumulators.Accumulator.TheVariants.{Part}
 use Rattle.at_query.specs.Accumulators.{JoinsAccumulators}
 use Rattle.at_query.proofs.Accumulating.{parts_joined}
 use Rattle.at_run.proofs.gathered.count_one.Goals as goal

@@ -1,5 +1,5 @@
-use Rattle.at_query.specs.declared.parts.Part.TheVariants.{Count}
-use Rattle.at_query.specs.declared.accumulators.Accumulator.TheVariants.{Part}
+use Rattle.at_query.specs.declared.answer.parts.Part.TheVariants.{Count}
+use Rattle.at_query.specs.declared.answer.accumulators.Accumulator.TheVariants.{Part}
 use Rattle.at_run.proofs.LineParts.{owns_more, joins_more, stays_failed}
 use Rattle.at_run.proofs.gathered.count_shape.Goals as goal
 

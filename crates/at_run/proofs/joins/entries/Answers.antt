@@ -1,5 +1,5 @@
 use Rattle.std.proofs.Common.{subst}
-use Rattle.at_query.specs.declared.parts.Part.{Part}
+use Rattle.at_query.specs.declared.answer.parts.Part.{Part}
 use Rattle.at_run.specs.Answers.{IsFilePart}
 use Rattle.at_run.proofs.JoinedFiles.{file_entries_proper}
 use Rattle.at_run.proofs.joins.entries.Goals as goal

@@ -1,5 +1,5 @@
 use Rattle.std.proofs.Common.{Result, Err, length, refl, sym, subst}
-use Rattle.at_query.specs.declared.parts.Part.{Part}
+use Rattle.at_query.specs.declared.answer.parts.Part.{Part}
 use Rattle.at_run.specs.declared.faults.RunFault.{RunFault}
 use Rattle.at_run.specs.JsonFiles.{EndsJson}
 use Rattle.at_run.proofs.JsonEnds.{tree_answered, text_ended}

@@ -3,10 +3,10 @@ use Rattle.std.specs.Option.{unwrap_or}
 use Rattle.at_text.specs.declared.faults.Fault.{Fault}
 use Rattle.at_text.specs.Texts.{utf8_fault}
 use Rattle.at_wkt.specs.Lines.{lines_of}
-use Rattle.at_query.specs.declared.queries.Query.{Query}
+use Rattle.at_query.specs.declared.query.queries.Query.{Query}
 use Rattle.at_query.specs.declared.features.Feature.{Feature}
-use Rattle.at_query.specs.declared.parts.Part.{Part}
-use Rattle.at_query.specs.declared.accumulators.Accumulator.{Accumulator}
+use Rattle.at_query.specs.declared.answer.parts.Part.{Part}
+use Rattle.at_query.specs.declared.answer.accumulators.Accumulator.{Accumulator}
 use Rattle.at_query.specs.Parts.{IsPart}
 use Rattle.at_query.specs.Accumulators.{IsAccumulated}
 use Rattle.at_run.specs.declared.faults.RunFault.{RunFault}

@@ -1,5 +1,5 @@
 use Rattle.std.proofs.Common.{[], subst}
-use Rattle.at_query.specs.declared.queries.Query.{Query}
+use Rattle.at_query.specs.declared.query.queries.Query.{Query}
 use Rattle.at_query.specs.Accumulators.{IsAccumulated}
 use Rattle.at_run.specs.declared.gathered.Gathered.TheVariants.{Kept}
 use Rattle.at_seq.proofs.Gathers.{gathered_none}

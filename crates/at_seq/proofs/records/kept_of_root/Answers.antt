@@ -1,6 +1,6 @@
 use Rattle.std.proofs.Common.{Result, Ok, refl, sym, subst}
 use Rattle.std.proofs.lemmas.Result.{IfOk-at_ok}
-use Rattle.at_query.specs.declared.parts.Part.{Part}
+use Rattle.at_query.specs.declared.answer.parts.Part.{Part}
 use Rattle.at_query.specs.Parts.{IsProper}
 use Rattle.at_geojson.specs.declared.root.RootEnd.{RootEnd}
 use Rattle.at_run.specs.declared.gathered.Gathered.TheVariants.{Kept}

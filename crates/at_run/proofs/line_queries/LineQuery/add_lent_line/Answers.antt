@@ -1,7 +1,7 @@
 use Rattle.std.proofs.Common.{List, [], ◌∷◌, take, subst}
 use Rattle.std.proofs.lemmas.Result.{IfOk-weaker}
 use Rattle.at_query.specs.declared.features.Feature.{Feature}
-use Rattle.at_query.specs.declared.queries.Test.{Test}
+use Rattle.at_query.specs.declared.query.queries.Test.{Test}
 use Rattle.at_wkt.specs.declared.answers.LineFault.{LineFault}
 use Rattle.at_wkt.specs.Answers.{IfFound, HasLineShape, HasFirstLineFault}
 use Rattle.at_wkt.specs.Lines.{FileLine}

@@ -4,7 +4,7 @@ use Rattle.std.proofs.Math.Seq.{take-length}
 use Rattle.std.proofs.lemmas.Result.{err_from_is_err_and}
 use Rattle.at_text.specs.Syntax.{IsSyntaxFault}
 use Rattle.at_query.specs.declared.features.Feature.{Feature}
-use Rattle.at_query.specs.declared.queries.Test.{Test}
+use Rattle.at_query.specs.declared.query.queries.Test.{Test}
 use Rattle.at_wkt.specs.declared.answers.LineFault.{LineFault}
 use Rattle.at_wkt.specs.Answers.{IfFound, HasLineShape, HasFirstLineFault}
 use Rattle.at_run.specs.declared.gathered.Gathered.TheVariants.{Failed}

@@ -1,0 +1,29 @@
+use Rattle.std.proofs.Common.{◌≡◌, ◌≤◌, ◌^◌, List, ℕ, length, false, Err, IfSome, sym, ◌∙◌, ap, subst}
+use Rattle.at_cli.specs.Made.{is_made}
+use Rattle.at_cli.specs.Outcomes.{HasBytes, HasBytesOutcome}
+use Rattle.at_cli.specs.Failures.{asked_name, asked_second, WasAsked}
+use Rattle.at_cli.proofs.ShelfUses.{ends_sized, failed_name}
+use Rattle.at_cli.proofs.outcome.deciding.end_of_one.Goals as goal
+
+pub returns-in-Ok-clause-outcome : goal.returns-in-Ok-clause-outcome
+returns-in-Ok-clause-outcome g c =
+    let files = g.S.Shelf.files c.args.shelf.now in
+    let bytes = c.deref.result.now in
+    let P : List ℕ → Type 0 = λ w. length w ≤ 2 ^ 28 in
+    let small : P bytes = subst P (sym c.deref.ensures.value) c.in-Ok.ensures.size in
+    let Q : List ℕ → Type 0 = λ w. IfSome files (λ told. HasBytes told c.as_str.result.now w) in
+    let read : Q bytes = subst Q (sym c.deref.ensures.value) c.in-Ok.ensures.bytes in
+    let N : List ℕ → Type 0 = λ name. IfSome files (λ told. HasBytes told name bytes) in
+    let named : N c.args.line.first = subst N c.as_str.ensures read in
+    ends_sized files c.args.line.first bytes (HasBytesOutcome c.args.line c.args.query.now) c.end_of_bytes.result named small c.end_of_bytes.ensures.outcome
+
+pub returns-in-Err-Failed-clause-failed : goal.returns-in-Err-Failed-clause-failed
+returns-in-Err-Failed-clause-failed g c three =
+    let o = g.S.Shelf in
+    let before = c.args.shelf.now in
+    let after = c.named_bytes.new.shelf in
+    let (unmade, rose, broken) = c.named_bytes.ensures.failed (c.in-Err-Failed.is ∙ ap Err c.in-Err-Failed.field-0-is) in
+    let M : List ℕ → Type 0 = λ name. is_made name ≡ false in
+    let A : List ℕ → Type 0 = λ name. WasAsked (asked_name name) (o.files before) (o.begins before) (o.begins after) (o.taken before) (o.taken after) (o.named before) (o.named after) in
+    failed_name c.args.line.first (asked_second c.args.line.second) (o.files before) (o.faults before) (o.faults after) (o.begins before) (o.begins after) (o.broken after) (o.taken before) (o.taken after) (o.named before) (o.named after)
+    (subst M c.as_str.ensures unmade) rose broken (subst A c.as_str.ensures c.named_bytes.ensures.asked)

@@ -1,7 +1,0 @@
-use Rattle.std.proofs.Common.{◌++◌, take}
-use Rattle.at_geom.specs.Shapes.{joined}
-use Rattle.at_hull.specs.Growth.{HaveOneHull, held}
-use Rattle.at_query.proofs.adding.add_paths.Given as goal
-
-abbrev pub invariant-loop-path : goal.invariant-loop-path
-invariant-loop-path l = HaveOneHull (held l.initial.hull ++ joined (take l.path-index l.paths)) (held l.hull)

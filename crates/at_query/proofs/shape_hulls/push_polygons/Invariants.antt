@@ -1,6 +1,0 @@
-use Rattle.std.proofs.Common.{◌≡◌, ◌++◌, take}
-use Rattle.at_geom.specs.Shapes.{positions_of_polygons}
-use Rattle.at_query.proofs.shape_hulls.push_polygons.Given as goal
-
-abbrev pub invariant-loop-polygon : goal.invariant-loop-polygon
-invariant-loop-polygon l = l.items.items ≡ l.initial.items.items ++ positions_of_polygons (take l.polygon-index l.polygons)

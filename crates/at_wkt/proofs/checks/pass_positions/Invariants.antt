@@ -1,9 +1,0 @@
-use Rattle.std.proofs.Common.{length, ◌-◌}
-use Rattle.at_wkt.proofs.CheckAnswers.{PassedSoFar}
-use Rattle.at_wkt.proofs.checks.pass_positions.Given as goal
-
-abbrev pub invariant-positions : goal.invariant-positions
-invariant-positions l = PassedSoFar l.source.rules l.source.text.now l.fn.from.at l.fn.from.dimension l.first l.next.at l.next.dimension l.count
-
-abbrev pub decreases-positions : goal.decreases-positions
-decreases-positions l = length l.source.text.now - l.next.at

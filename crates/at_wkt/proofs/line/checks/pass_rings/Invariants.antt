@@ -1,0 +1,12 @@
+use Rattle.std.proofs.Common.{[], ◌≡◌, None, length, ◌-◌}
+use Rattle.at_wkt.specs.Positions.{faults_of_ring}
+use Rattle.at_wkt.specs.Geometry.{SpellsRing}
+use Rattle.at_wkt.specs.Readers.{ItemsSoFar}
+use Rattle.at_wkt.proofs.CheckAnswers.{nothing_of}
+use Rattle.at_wkt.proofs.line.checks.pass_rings.Given as goal
+
+abbrev pub invariant-rings : goal.invariant-rings
+invariant-rings l = (l.last.fault ≡ None) × ItemsSoFar SpellsRing (faults_of_ring l.source.rules.digits l.source.rules.how) nothing_of [] [] l.source.rules.base l.source.text.now l.fn.from.at l.fn.from.dimension l.last
+
+abbrev pub decreases-rings : goal.decreases-rings
+decreases-rings l = length l.source.text.now - l.last.behind.at

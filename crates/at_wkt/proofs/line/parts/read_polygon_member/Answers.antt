@@ -1,0 +1,16 @@
+use Rattle.std.proofs.Common.{[]}
+use Rattle.at_wkt.specs.Meaning.{polygons_of, faults_of_area}
+use Rattle.at_wkt.specs.Geometry.{SpellsRing, SpellsArea}
+use Rattle.at_wkt.specs.Readers.{Stuck}
+use Rattle.at_wkt.proofs.BodySteps.{parted_choice, blankless, choice_begins}
+use Rattle.at_wkt.proofs.ListSteps.{item_stuck}
+use Rattle.at_wkt.proofs.PartAnswers.{ended_item}
+use Rattle.at_text.proofs.Exits.{exits}
+use Rattle.at_wkt.proofs.line.parts.read_polygon_member.Goals as goal
+
+pub returns-in_err-polygon : goal.returns-in_err-polygon
+returns-in_err-polygon c = exits c.from_residual.result c.in_err-polygon.field-0.0 _ (Stuck SpellsArea c.args.source.now.rules.base c.args.source.now.text.now c.skip_blanks-start.result c.args.from.dimension) _ c.from_residual.ensures.1
+    (item_stuck SpellsArea c.args.source.now.rules.base c.args.source.now.text.now c.args.from.at c.skip_blanks-start.result c.args.from.dimension c.skip_blanks-start.ensures (blankless SpellsArea (choice_begins _ _ (λ xs. xs) [] (parted_choice SpellsRing)))) c.in_err-polygon.ensures
+
+pub returns : goal.returns
+returns c = ended_item SpellsArea (faults_of_area c.args.source.now.rules.digits c.args.source.now.rules.how) (polygons_of c.args.source.now.rules.digits c.args.source.now.rules.how) c.args.source.now.rules.base c.args.source.now.text.now c.args.from.at c.skip_blanks-start.result c.args.from.dimension c.skip_blanks-start.ensures (blankless SpellsArea (choice_begins _ _ (λ xs. xs) [] (parted_choice SpellsRing))) _ _ c.in_ok-polygon.polygon c.in_ok-polygon.ensures c.end_item.result c.end_item.ensures

@@ -1,0 +1,19 @@
+use Rattle.std.proofs.Common.{sym, ◌∙◌}
+use Rattle.at_wkt.specs.Positions.{faults_of_ring}
+use Rattle.at_wkt.specs.Geometry.{SpellsRing}
+use Rattle.at_wkt.specs.Readers.{Stuck, added_path}
+use Rattle.at_wkt.proofs.BodySteps.{ring_no_blank}
+use Rattle.at_wkt.proofs.ListSteps.{item_stuck}
+use Rattle.at_wkt.proofs.PartAnswers.{ended_item, ring_missing}
+use Rattle.at_text.proofs.Exits.{exits}
+use Rattle.at_wkt.proofs.line.parts.read_ring.Goals as goal
+
+pub returns-then-not-stands : goal.returns-then-not-stands
+returns-then-not-stands c = ring_missing c.args.source.now.rules.base c.args.source.now.text.now c.args.from.at c.skip_blanks-start.result c.args.from.dimension c.skip_blanks-start.ensures c.requires.count (sym c.stands.ensures ∙ c.if-not-stands.true) ring_no_blank
+
+pub returns-in_err-ring : goal.returns-in_err-ring
+returns-in_err-ring c = exits c.from_residual.result c.in_err-ring.field-0.0 _ (Stuck SpellsRing c.args.source.now.rules.base c.args.source.now.text.now c.skip_blanks-start.result c.args.from.dimension) _ c.from_residual.ensures.1
+    (item_stuck SpellsRing c.args.source.now.rules.base c.args.source.now.text.now c.args.from.at c.skip_blanks-start.result c.args.from.dimension c.skip_blanks-start.ensures ring_no_blank) c.in_err-ring.ensures
+
+pub returns : goal.returns
+returns c = ended_item SpellsRing (faults_of_ring c.args.source.now.rules.digits c.args.source.now.rules.how) (added_path c.args.source.now.rules.digits c.args.source.now.rules.how) c.args.source.now.rules.base c.args.source.now.text.now c.args.from.at c.skip_blanks-start.result c.args.from.dimension c.skip_blanks-start.ensures ring_no_blank _ _ c.in_ok-ring.ring c.in_ok-ring.ensures c.end_item.result c.end_item.ensures

@@ -1,0 +1,14 @@
+use Rattle.std.proofs.Common.{length, ◌-◌, ◌+◌, ◌≤◌, ◌≡◌, take}
+use Rattle.std.specs.Str.{str_to_ascii_uppercase}
+use Rattle.at_fixed.specs.Kept.{between}
+use Rattle.at_wkt.proofs.line.words.matching.Given as goal
+
+abbrev pub invariant-loop-count : goal.invariant-loop-count
+invariant-loop-count l = record {
+  fits : l.count ≤ length l.word;
+  within : l.at + l.count ≤ length l.text;
+  text : str_to_ascii_uppercase (between l.text l.at (l.at + l.count)) ≡ take l.count l.word;
+}
+
+abbrev pub decreases-loop-count : goal.decreases-loop-count
+decreases-loop-count l = length l.word - l.count
