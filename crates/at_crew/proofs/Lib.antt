@@ -1,4 +1,4 @@
-mod Tree
+pub mod Tree
 mod Above
 mod Sums
 mod Claims

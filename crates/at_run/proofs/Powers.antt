@@ -1,20 +1,14 @@
 -- Counts of blocks are the powers of two up to 4,096.
-use Rattle.std.proofs.Common.{◌≡◌, ℕ, zero, suc, ◌*◌, ◌/◌, ◌%◌, ◌^◌, ◌<◌, ◌≤◌, ◌⊎◌, inl, inr, max, true, count_ones, eq-eqb, sym, ap, ◌∙◌, subst, arith, add-one}
+use Rattle.std.proofs.Common.{◌≡◌, ℕ, zero, suc, ◌*◌, ◌/◌, ◌%◌, ◌^◌, ◌<◌, ◌≤◌, ◌⊎◌, inl, inr, max, true, count_ones, eq-eqb, sym, ap, ◌∙◌, subst, arith}
 use Rattle.std.specs.Int.{is_power_of_two, IsPowerOfTwo}
 use Rattle.std.specs.Int.Count.{ones_step}
 use Rattle.std.proofs.Math.Nat.{pow-le-pow_right}
-use Rattle.std.proofs.lemmas.Nat.{pow-add, ones_le_self}
+use Rattle.std.proofs.lemmas.Nat.{ones_le_self}
 use Rattle.std.proofs.lemmas.Bool.{cases_lt}
 use Rattle.at_crew.specs.Nodes.{IsBlockCount}
 use Rattle.at_crew.proofs.Powers.{power_of, block_count}
+use Rattle.at_crew.proofs.Tree.{two_suc, pow_pos}
 use Rattle.at_run.specs.Places.{IsLeastCount}
-
-pub two_suc : (n : ℕ) → 2 ^ suc n ≡ 2 * 2 ^ n
-two_suc n = let e = pow-add 2 n 1 in ap (λ x. 2 ^ x) (sym (add-one n)) ∙ omega (arith, e)
-
-pub pow_pos : (n : ℕ) → 0 < 2 ^ n
-pow_pos zero = omega arith
-pow_pos (suc n) = let e : 2 ^ (suc n) ≡ 2 * 2 ^ n = two_suc n in let p = pow_pos n in omega (arith, e, p)
 
 pow_le : (i j : ℕ) → i ≤ j → 2 ^ i ≤ 2 ^ j
 pow_le i j h = pow-le-pow_right {n = 2} (omega arith) h
