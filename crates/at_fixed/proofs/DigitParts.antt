@@ -6,7 +6,7 @@ use Rattle.std.proofs.lemmas.List.{drop-append-le, drop_all}
 use Rattle.std.proofs.Math.Nat.{pow-suc}
 use Rattle.at_text.specs.Texts.{is_digit}
 use Rattle.at_fixed.specs.Numerals.{AreDigits}
-use Rattle.at_fixed.specs.Kept.{between, digits_behind, Keeps}
+use Rattle.at_fixed.specs.NumberSoFar.{between, digits_behind, Keeps}
 
 pub part-none : (w : List ℕ) (from : ℕ) → from ≤ length w → between w from from ≡ []
 part-none w from h = drop_all from (take from w) (omega (arith, length-take from w))

@@ -10,7 +10,7 @@ use Rattle.std.proofs.lemmas.Nat.Bits.{same_from_bits, bit_at_and, bit_at_cat_lo
 use Rattle.std.specs.Int.Bits.{and_zero_r}
 use Rattle.at_text.specs.Texts.{is_digit}
 use Rattle.at_fixed.specs.Numerals.{AreDigits}
-use Rattle.at_fixed.specs.Kept.{between, digits_behind}
+use Rattle.at_fixed.specs.NumberSoFar.{between, digits_behind}
 use Rattle.at_fixed.proofs.DigitParts.{part-none, part-more, part-part, part-length, digits-more, digits-both, behind-both, behind_split, behind_small}
 use Rattle.at_fixed.specs.Eights.{eight_bytes, digits_in, pairs_in, fours_in, eights_in, folded}
 

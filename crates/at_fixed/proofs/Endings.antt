@@ -10,7 +10,7 @@ use Rattle.at_fixed.specs.declared.scanning.Mantissa.{Mantissa}
 use Rattle.at_fixed.specs.declared.scanning.Power.{Power}
 use Rattle.at_fixed.specs.Numerals.{Exponent, Numeral, fraction_text, exponent_text, numeral_text, AreDigits, IsAtMostOneOf, IsExponent, IsNumeralOf, NumberOf, digits_value}
 use Rattle.at_fixed.specs.Fixed.{has_minus, exponent_above, exponent_below}
-use Rattle.at_fixed.specs.Kept.{between, SameOrHuge}
+use Rattle.at_fixed.specs.NumberSoFar.{between, SameOrHuge}
 use Rattle.at_fixed.specs.Decimals.{IsDecimalOf}
 use Rattle.at_fixed.specs.States.{State, Reads, letter, power_sign, power, is_letter, is_sign, step, accepts}
 use Rattle.at_fixed.specs.Scanned.{IsScanned, both_halves}

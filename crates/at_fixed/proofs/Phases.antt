@@ -9,7 +9,7 @@ use Rattle.at_fixed.specs.declared.digits.DigitsRun.{DigitsRun}
 use Rattle.at_fixed.specs.declared.scanning.Sign.{Sign}
 use Rattle.at_fixed.specs.Numerals.{AreDigits, IsJsonWhole}
 use Rattle.at_fixed.specs.Fixed.{has_minus}
-use Rattle.at_fixed.specs.Kept.{between}
+use Rattle.at_fixed.specs.NumberSoFar.{between}
 use Rattle.at_fixed.specs.States.{State, Reads, start, signed, zero_digit, whole, fraction, power, is_first_digit, is_lead_sign, after_fraction, after_whole, lone_point, lead, step, accepts}
 use Rattle.at_fixed.specs.Scans.{ReadsSign, IsLead, ReadsLead, IsSignOf, IsWholeOf, after_lead, ReadsWhole}
 use Rattle.at_fixed.proofs.DigitParts.{part-none, part-place, part-cons, part-more}

@@ -3,9 +3,9 @@ use Rattle.std.proofs.Common.{◌≡◌, ◌^◌, ℕ, ◌+◌, true, false, ari
 use Rattle.std.proofs.Math.Nat.{pow-le-pow_right}
 use Rattle.at_fixed.specs.declared.digits.KeptRun.{KeptRun}
 use Rattle.at_fixed.specs.Numerals.{AreDigits}
-use Rattle.at_fixed.specs.Kept.{between}
+use Rattle.at_fixed.specs.NumberSoFar.{between}
 use Rattle.at_fixed.specs.Scans.{EndsRun, KeepsRun, KeepsTo}
-use Rattle.at_fixed.specs.Kept.{digits_behind}
+use Rattle.at_fixed.specs.NumberSoFar.{digits_behind}
 use Rattle.at_fixed.proofs.DigitParts.{part-part, part-length, behind_small}
 use Rattle.at_fixed.proofs.EightDigits.{kept_both}
 

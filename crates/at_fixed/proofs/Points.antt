@@ -7,7 +7,7 @@ use Rattle.at_fixed.specs.declared.notation.Notation.TheVariants.{Json, Wkt}
 use Rattle.at_fixed.specs.declared.digits.DigitsRun.{DigitsRun}
 use Rattle.at_fixed.specs.declared.scanning.Mantissa.{Mantissa}
 use Rattle.at_fixed.specs.Numerals.{AreDigits, AreSomeDigits, AreWktDigits, digits_value}
-use Rattle.at_fixed.specs.Kept.{between, digits_behind, Keeps}
+use Rattle.at_fixed.specs.NumberSoFar.{between, digits_behind, Keeps}
 use Rattle.at_fixed.specs.States.{State, Reads, point, fraction, behind_digits, after_fraction, step, accepts}
 use Rattle.at_fixed.specs.Scans.{IsSignOf, IsWholeOf, after_lead, ReadsWhole, may_take_point, is_wkt, IsFrontOf, after_mantissa, ReadsMantissa}
 use Rattle.at_fixed.proofs.DigitParts.{part-place, part-cons, part-length, behind-both}

@@ -6,7 +6,7 @@ use Rattle.at_fixed.specs.declared.rounding.Coords.{Coords}
 use Rattle.at_fixed.specs.declared.scanning.Mantissa.{Mantissa}
 use Rattle.at_fixed.specs.declared.scanning.Power.{Power}
 use Rattle.at_fixed.specs.declared.scanning.Sign.{Sign}
-use Rattle.at_fixed.specs.Kept.{between, digits_behind, Keeps}
+use Rattle.at_fixed.specs.NumberSoFar.{between, digits_behind, Keeps}
 use Rattle.at_fixed.specs.Scans.{EndsRun, IsExtent, IsLead, ReadsMantissa, ReadsSign, ReadsWhole, SurelyFits, is_wkt, may_take_point}
 use Rattle.at_fixed.specs.Scanned.{IsValued}
 use Rattle.at_fixed.specs.States.{is_letter}

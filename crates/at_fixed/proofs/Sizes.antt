@@ -8,7 +8,7 @@ use Rattle.at_fixed.specs.declared.rounding.FixedFault.{FixedFault}
 use Rattle.at_fixed.specs.declared.rounding.FixedFault.TheVariants.{Range}
 use Rattle.at_fixed.specs.Numerals.{Exponent, digits_value}
 use Rattle.at_fixed.specs.Fixed.{largest, quotient, size_of, has_minus, exponent_above, exponent_below}
-use Rattle.at_fixed.specs.Kept.{Keeps, huge, SameOrHuge}
+use Rattle.at_fixed.specs.NumberSoFar.{Keeps, huge, SameOrHuge}
 use Rattle.at_fixed.proofs.Quotients.{lt_true, far_above, whole_quotient}
 
 ten : 0 < 10

@@ -10,7 +10,7 @@ use Rattle.at_fixed.specs.declared.rounding.FixedFault.TheVariants.{Range}
 use Rattle.at_fixed.specs.declared.scanning.Mantissa.{Mantissa}
 use Rattle.at_fixed.specs.Numerals.{Numeral, fraction_text, numeral_text, IsNumeralOf}
 use Rattle.at_fixed.specs.Fixed.{has_minus, largest, nearest, quotient, size_of, signed, fixed_of, mantissa}
-use Rattle.at_fixed.specs.Kept.{Keeps}
+use Rattle.at_fixed.specs.NumberSoFar.{Keeps}
 use Rattle.at_fixed.specs.Scans.{digits_of, IsKeptFront, SurelyFits}
 use Rattle.at_fixed.proofs.DigitParts.{none_dropped}
 use Rattle.at_fixed.proofs.Endings.{numeral_by}

@@ -3,7 +3,7 @@ use Rattle.std.specs.Prelude.{◌≡◌, ℕ, ◌+◌, ◌^◌, ◌≤◌, lengt
 use Rattle.at_fixed.specs.declared.scanning.Decimal.{Decimal}
 use Rattle.at_fixed.specs.Numerals.{Numeral}
 use Rattle.at_fixed.specs.Fixed.{fraction_digits, has_minus, mantissa, exponent_above, exponent_below}
-use Rattle.at_fixed.specs.Kept.{Keeps, SameOrHuge}
+use Rattle.at_fixed.specs.NumberSoFar.{Keeps, SameOrHuge}
 
 -- what is kept of the number n
 pub record IsDecimalOf (decimal : Decimal) (n : Numeral) : Type 0 where

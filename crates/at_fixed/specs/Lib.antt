@@ -3,7 +3,7 @@ pub mod Fixed
 pub mod Gaps
 pub mod Products
 pub mod States
-pub mod Kept
+pub mod NumberSoFar
 pub mod Eights
 pub mod Scans
 pub mod Decimals

@@ -15,7 +15,7 @@ use Rattle.at_fixed.specs.declared.scanning.Power.{Power}
 use Rattle.at_fixed.specs.Numerals.{fraction_text, IsAtMostOneOf, AreDigits, AreSomeDigits, IsJsonWhole, AreWktDigits}
 use Rattle.at_fixed.specs.Numerals.{digits_value}
 use Rattle.at_fixed.specs.Fixed.{has_minus}
-use Rattle.at_fixed.specs.Kept.{between, digits_behind, Keeps, SameOrHuge}
+use Rattle.at_fixed.specs.NumberSoFar.{between, digits_behind, Keeps, SameOrHuge}
 use Rattle.at_fixed.specs.States.{State, Reads, step, accepts, is_letter, is_lead_sign, after_fraction, after_whole}
 use Rattle.at_fixed.specs.States.{lone_point}
 

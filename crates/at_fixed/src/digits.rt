@@ -4,7 +4,7 @@ ghost use Rattle.std.specs.Prelude.{◌≡◌, ℕ, ◌+◌, ◌-◌, ◌^◌, �
 ghost use Rattle.std.specs.Prelude.{slice_index};
 ghost use Rattle.at_text.specs.Texts.{is_digit as digit_test};
 ghost use Rattle.at_fixed.specs.Numerals.{AreDigits};
-ghost use Rattle.at_fixed.specs.Kept.{between, digits_behind, Keeps, SameOrHuge};
+ghost use Rattle.at_fixed.specs.NumberSoFar.{between, digits_behind, Keeps, SameOrHuge};
 
 use crate::eights::leading_digits;
 use crate::powers::power_of_ten;

@@ -3,7 +3,7 @@
 ghost use Rattle.std.specs.Prelude.{◌≡◌, ◌+◌, ◌<◌, ◌≤◌, false, length, slice_index};
 ghost use Rattle.at_text.specs.Texts.{is_digit as digit_test};
 ghost use Rattle.at_fixed.specs.Numerals.{AreDigits};
-ghost use Rattle.at_fixed.specs.Kept.{between, digits_behind};
+ghost use Rattle.at_fixed.specs.NumberSoFar.{between, digits_behind};
 ghost use Rattle.at_fixed.specs.Eights.{IsDigitRun, first_set as lowest_set, eight_bytes, folded};
 
 use std::simd::prelude::*;

@@ -4,7 +4,7 @@
 ghost use Rattle.std.specs.Prelude.{◌≡◌, ◌+◌, ◌^◌, ◌<◌, ◌≤◌, ◌&&◌, ◌-◌, IfSome, IsTrue, true, false, nat_lt, length};
 ghost use Rattle.std.specs.Prelude.{slice_index};
 ghost use Rattle.at_fixed.specs.Numerals.{AreDigits};
-ghost use Rattle.at_fixed.specs.Kept.{between};
+ghost use Rattle.at_fixed.specs.NumberSoFar.{between};
 ghost use Rattle.at_fixed.specs.Scans.{EndsRun, IsLoneZero, KeepsFar, KeepsRun, KeepsTo, ReadsSign, ReadsLead};
 ghost use Rattle.at_fixed.specs.Scans.{ReadsWhole, ReadsMantissa, ReadsPower, may_take_point};
 ghost use Rattle.at_fixed.specs.Scanned.{IsScanned};

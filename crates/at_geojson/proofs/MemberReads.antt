@@ -8,7 +8,7 @@ use Rattle.std.proofs.lemmas.List.Folds.{list_any-append}
 use Rattle.std.proofs.lemmas.Slice.Eq.{bytes_eq-Decides}
 use Rattle.at_text.specs.Faults.{first_fault}
 use Rattle.at_text.specs.declared.faults.Fault.{Fault}
-use Rattle.at_fixed.specs.Kept.{between}
+use Rattle.at_fixed.specs.NumberSoFar.{between}
 use Rattle.at_fixed.proofs.DigitParts.{part-length, part-more, part-cons}
 use Rattle.at_nest.specs.declared.algebra.Member.{Member}
 use Rattle.at_query.specs.declared.query.queries.Test.{Test}

@@ -6,7 +6,7 @@ use Rattle.std.proofs.lemmas.Bool.{ltb-true, ltb-false}
 use Rattle.std.proofs.lemmas.List.{map-append, length-append}
 use Rattle.std.proofs.lemmas.List.Elements.{All-nil, All-cons, All-append}
 use Rattle.at_text.specs.Faults.{first_fault}
-use Rattle.at_fixed.specs.Kept.{between}
+use Rattle.at_fixed.specs.NumberSoFar.{between}
 use Rattle.at_geom.specs.declared.positions.Pos.{Pos}
 use Rattle.at_geom.specs.Shapes.{line_fault, ring_fault}
 use Rattle.at_nest.specs.Tree.{array, Spells}

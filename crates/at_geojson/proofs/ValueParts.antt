@@ -8,7 +8,7 @@ use Rattle.at_text.specs.Prefix.{TakesLongest}
 use Rattle.at_text.specs.declared.prefixes.Taken.{Taken}
 use Rattle.at_fixed.specs.declared.rounding.Coords.{Coords}
 use Rattle.at_fixed.specs.declared.rounding.FixedFault.{FixedFault}
-use Rattle.at_fixed.specs.Kept.{between}
+use Rattle.at_fixed.specs.NumberSoFar.{between}
 use Rattle.at_fixed.specs.Numerals.{Numeral, JsonNumber}
 use Rattle.at_fixed.specs.Fixed.{IsFixedOf, fixed_of}
 use Rattle.at_fixed.proofs.DigitParts.{part-length}

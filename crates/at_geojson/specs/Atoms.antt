@@ -19,7 +19,7 @@ use Rattle.at_wkt.specs.Positions.{items_faults, faults_of_line, faults_of_ring,
 use Rattle.at_wkt.specs.Meaning.{empty_shape, polygons_of, faults_of_area}
 use Rattle.at_nest.specs.Tree.{Tree, literal, array, object, Trees, Members, offset_of}
 use Rattle.at_nest.specs.Folds.{trees}
-use Rattle.at_nest.specs.KeptItems.{Content, Kept}
+use Rattle.at_nest.specs.KeptItems.{Content, OwnAtom}
 use Rattle.at_nest.specs.Twins.{twins_of, twins_of_items}
 use Rattle.at_lex.specs.Runs.{the_null}
 use Rattle.at_query.specs.declared.query.queries.Query.{Query}
@@ -446,4 +446,4 @@ module _ (asked : Asked) where
 
   -- an atom of the algebra's own that stands for the tree, or the trees
   abbrev pub IsGeoAtom : GeoAtom → Content → Type 0
-  IsGeoAtom = Kept IsOwn IsFold IsRun
+  IsGeoAtom = OwnAtom IsOwn IsFold IsRun

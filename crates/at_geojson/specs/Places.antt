@@ -1,7 +1,7 @@
 -- What stands at the places of a text. Only contracts of private functions cite this.
 use Rattle.std.specs.Prelude.{◌≡◌, ℕ, ◌-◌, ◌<◌, ◌≤◌, ◌&&◌, Bool, true, List, length, take, drop, slice_index}
 use Rattle.std.specs.List.{list_all}
-use Rattle.at_fixed.specs.Kept.{between}
+use Rattle.at_fixed.specs.NumberSoFar.{between}
 use Rattle.at_lex.specs.Strings.{JsonString, is_plain}
 use Rattle.at_lex.specs.Spans.{AreSpaces}
 use Rattle.at_nest.specs.Folds.{IsScalarText}

@@ -1,7 +1,7 @@
 -- Whole values that are read of a text w from place to place; the text stands at the offset `base`. Only contracts of
 -- private functions cite this.
 use Rattle.std.specs.Prelude.{◌≡◌, ℕ, ◌+◌, ◌<◌, ◌≤◌, List, length, All, Ok}
-use Rattle.at_fixed.specs.Kept.{between}
+use Rattle.at_fixed.specs.NumberSoFar.{between}
 use Rattle.at_fixed.specs.Numerals.{JsonNumber}
 use Rattle.at_fixed.specs.Fixed.{IsFixedOf}
 use Rattle.at_lex.specs.Spans.{AreSpaces}

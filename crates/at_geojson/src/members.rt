@@ -2,7 +2,7 @@
 
 ghost use Rattle.std.specs.Prelude.{◌≡◌, ℕ, List, ◌≤◌, ◌^◌, All, bytes_eq, false, length, IfOk};
 ghost use Rattle.std.specs.List.{list_any};
-ghost use Rattle.at_fixed.specs.Kept.{between};
+ghost use Rattle.at_fixed.specs.NumberSoFar.{between};
 ghost use Rattle.at_lex.specs.Spans.{AreSpaces};
 ghost use Rattle.at_geojson.specs.Places.{IsNameAt, IsTextAt, IsSimpleTextAt};
 ghost use Rattle.at_geojson.specs.Fields.{field_of};

@@ -1,7 +1,7 @@
 //! What stands at the places of a text: bytes, white space, strings and the names of members.
 
 ghost use Rattle.std.specs.Prelude.{◌≡◌, ◌+◌, ◌<◌, ◌≤◌, ◌^◌, length, slice_index, true, IfOk};
-ghost use Rattle.at_fixed.specs.Kept.{between};
+ghost use Rattle.at_fixed.specs.NumberSoFar.{between};
 ghost use Rattle.at_lex.specs.Spans.{AreSpaces};
 ghost use Rattle.at_geojson.specs.Places.{IsTextAt, IsNameAt};
 

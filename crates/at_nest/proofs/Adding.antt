@@ -7,12 +7,12 @@ use Rattle.at_nest.specs.declared.pieces.Piece.TheVariants.{Closes, Comma, Colon
 use Rattle.at_nest.specs.declared.pieces.Row.{Row}
 use Rattle.at_nest.specs.declared.pieces.Closers.{Closers}
 use Rattle.at_lex.specs.declared.tokens.Bracket.{Bracket}
-use Rattle.at_nest.specs.declared.pieces.Halt.{Halt as CodeHalt}
+use Rattle.at_nest.specs.declared.pieces.SpanStop.{SpanStop as CodeHalt}
 use Rattle.at_nest.specs.Tree.{Tree, text}
 use Rattle.at_nest.specs.Forms.{Meaning, Piece, opens, closes, mark, comma, colon, quoted, entry}
 use Rattle.at_nest.specs.Levels.{Level, Form, Pushed, further, stopped, push, push_mark, push_all, push_then}
 use Rattle.at_nest.specs.Shown.{Held, Shown, AreOwn, show_as, comma_added, colon_added}
-use Rattle.at_nest.specs.KeptItems.{free, Content, one, Kept, EachHeld, EachPiece, AreRow, Pushes, PushesValue, PushesRow, PushesClosers, IsHeldPiece, IsShown, IsPushedAs, IsTextAt, IsPartOf, IsOfItems, CanAdd, Adds}
+use Rattle.at_nest.specs.KeptItems.{free, Content, one, OwnAtom, EachHeld, EachPiece, AreRow, Pushes, PushesValue, PushesRow, PushesClosers, IsHeldPiece, IsShown, IsPushedAs, IsTextAt, IsPartOf, IsOfItems, CanAdd, Adds}
 use Rattle.at_nest.proofs.Held.{held_own}
 use Rattle.at_nest.proofs.Showing.{comma_pushes, colon_pushes}
 
@@ -25,10 +25,10 @@ without_innermost IsKept s outer h hs (base, w, f, k) e e2 = first f.levels (sub
     first (l ∷ ls) u = (base, w, record { outer = f.outer; levels = ls }, (subst (λ z. EachPiece IsKept base w z f.outer) e2 k.0, u.1))
 
 -- the innermost level's atoms are the algebra's own
-pub innermost_own : {X : Type 0} (IsOwn : X → Type 0) (IsFold : X → Tree → Type 0) (IsRun : X → List Tree → Type 0) (s : Shown X) (h : Held X) (hs : List (Held X)) → IsOfItems (Kept IsOwn IsFold IsRun) s → s.levels ≡ h ∷ hs → AreOwn IsOwn h
-innermost_own IsOwn IsFold IsRun s h hs (base, w, f, k) e = first f.levels (subst (λ z. EachHeld (Kept IsOwn IsFold IsRun) z f.levels) e k.1)
+pub innermost_own : {X : Type 0} (IsOwn : X → Type 0) (IsFold : X → Tree → Type 0) (IsRun : X → List Tree → Type 0) (s : Shown X) (h : Held X) (hs : List (Held X)) → IsOfItems (OwnAtom IsOwn IsFold IsRun) s → s.levels ≡ h ∷ hs → AreOwn IsOwn h
+innermost_own IsOwn IsFold IsRun s h hs (base, w, f, k) e = first f.levels (subst (λ z. EachHeld (OwnAtom IsOwn IsFold IsRun) z f.levels) e k.1)
   where
-    first : (ls : List (Level Tree)) → EachHeld (Kept IsOwn IsFold IsRun) (h ∷ hs) ls → AreOwn IsOwn h
+    first : (ls : List (Level Tree)) → EachHeld (OwnAtom IsOwn IsFold IsRun) (h ∷ hs) ls → AreOwn IsOwn h
     first [] u = absurd u
     first (l ∷ ls) u = held_own IsOwn IsFold IsRun h l u.0
 

@@ -8,7 +8,7 @@ use Rattle.at_lex.specs.declared.tokens.Bracket.TheVariants.{Brace, Square}
 use Rattle.at_fixed.specs.Numerals.{Numeral, numeral_text, IsJsonNumeral, IsJsonWhole}
 use Rattle.at_lex.specs.Strings.{Character, string_text}
 use Rattle.at_lex.proofs.RunBytes.{word_run}
-use Rattle.at_nest.specs.declared.pieces.Halt.{Halt as CodeHalt}
+use Rattle.at_nest.specs.declared.pieces.SpanStop.{SpanStop as CodeHalt}
 use Rattle.at_nest.specs.declared.algebra.Attempt.TheVariants.{Whole, Unsaid}
 use Rattle.at_nest.specs.declared.algebra.Attempt.{Attempt}
 use Rattle.at_nest.specs.Tree.{Tree, literal, number, text, array, object, Spells}
@@ -17,7 +17,7 @@ use Rattle.at_nest.specs.Forms.{entry, mark, IsNoText}
 use Rattle.at_nest.specs.Folds.{IsAttempt}
 use Rattle.at_nest.specs.Levels.{further, first_mode}
 use Rattle.at_nest.specs.Shown.{Shown, show_as, opened_as}
-use Rattle.at_nest.specs.KeptItems.{Content, PushesValue, Kept}
+use Rattle.at_nest.specs.KeptItems.{Content, PushesValue, OwnAtom}
 use Rattle.at_nest.specs.Reading.{ReadsAhead}
 use Rattle.at_nest.proofs.Walks.{ends_append}
 use Rattle.at_nest.proofs.Showing.{open_pushes}
@@ -106,7 +106,7 @@ value_no_text at v r more b (array i ts) e h = tt
 value_no_text at v r more b (object i ms) e h = tt
 
 pub whole_ahead : {X : Type 0} (IsOwn : X → Type 0) (IsFold : X → Tree → Type 0) (IsRun : X → List Tree → Type 0) (old new : Shown X) (r : Option CodeHalt) (b : Bracket) (at : ℕ) (ahead : List ℕ) (len : ℕ) (x : X) → (more : List ℕ) × (ahead ≡ opening b ∷ more) → IsAttempt IsOwn IsFold at ahead (Whole len x)
-    → PushesValue (Kept IsOwn IsFold IsRun) old new r at x → ReadsAhead (Kept IsOwn IsFold IsRun) old new r at ahead (at + len)
+    → PushesValue (OwnAtom IsOwn IsFold IsRun) old new r at x → ReadsAhead (OwnAtom IsOwn IsFold IsRun) old new r at ahead (at + len)
 whole_ahead IsOwn IsFold IsRun old new r b at ahead len x (more, e) (v, rest, split, size, t, spells, own, fold) pushes =
     let ended = value_ended at v rest more b t (sym split ∙ e) spells in (
       v,
@@ -118,7 +118,7 @@ whole_ahead IsOwn IsFold IsRun old new r b at ahead len x (more, e) (v, rest, sp
       λ base w f h. (
         further (record { outer = mark (entry at t) ∷ []; levels = [] }),
         mark_ends at v rest (entry at t) (refl, t, spells, value_no_text at v rest more b t (sym split ∙ e) spells, sym (fold_free t)),
-        one_mark (Kept IsOwn IsFold IsRun) base w new r f (entry at t) (pushes base w f t h (own, fold)),
+        one_mark (OwnAtom IsOwn IsFold IsRun) base w new r f (entry at t) (pushes base w f t h (own, fold)),
       ),
     )
 

@@ -9,7 +9,7 @@ use Rattle.at_nest.specs.declared.levels.Open.{Open}
 use Rattle.at_nest.specs.declared.levels.ObjectState.{ObjectState}
 use Rattle.at_lex.specs.declared.tokens.Start.{Start}
 use Rattle.at_nest.specs.declared.bodies.Body.{Body}
-use Rattle.at_nest.specs.declared.pieces.Halt.{Halt}
+use Rattle.at_nest.specs.declared.pieces.SpanStop.{SpanStop}
 use Rattle.at_nest.specs.declared.variants.Variant.{Variant}
 use Rattle.at_nest.specs.declared.variants.Variant.TheVariants.{Whole, Broken}
 use Rattle.at_nest.specs.VariantMeanings.{HoldsVariant}
@@ -23,7 +23,7 @@ use Rattle.at_nest.specs.Tree.{Tree, text}
 use Rattle.at_nest.specs.Forms.{Piece, opens, closes, mark, comma, colon, quoted, entry}
 use Rattle.at_nest.specs.Levels.{Level, Form, marks}
 use Rattle.at_nest.specs.Shown.{Held, Shown, array_level, object_level, top_of, helds_of, open_levels, opens_of, OwnPiece, OwnLevel, OwnBody, shown}
-use Rattle.at_nest.specs.KeptItems.{Content, one, run, Holds, Kept, Each, EachMember, IsHeld, EachHeld, IsHeldPiece, EachPiece, ArePieces, AreRow, IsRow, EachNamed, AreMembers, IsTextAt, CopiesNamed, row_marks, row_trees, IsOfItems, CanAdd, IsShown, CopiesItems, CopiesMember, CopiesMembers, CopiesHeld, CopiesLevels, CopiesPiece, CopiesPieces, CopiesShown}
+use Rattle.at_nest.specs.KeptItems.{Content, one, run, Holds, OwnAtom, Each, EachMember, IsHeld, EachHeld, IsHeldPiece, EachPiece, ArePieces, AreRow, IsRow, EachNamed, AreMembers, IsTextAt, CopiesNamed, row_marks, row_trees, IsOfItems, CanAdd, IsShown, CopiesItems, CopiesMember, CopiesMembers, CopiesHeld, CopiesLevels, CopiesPiece, CopiesPieces, CopiesShown}
 use Rattle.at_nest.proofs.Held.{held_own, each_own, each_cut, each_append}
 use Rattle.at_nest.proofs.Showing.{pieces_append, pieces_cut}
 use Rattle.at_nest.proofs.Stretches.{own_levels}
@@ -156,7 +156,7 @@ module _ {X : Type 0} (IsKept : X → Content → Type 0) where
 
 -- what stands for items is the algebra's own
 module _ {X : Type 0} (IsOwn : X → Type 0) (IsFold : X → Tree → Type 0) (IsRun : X → List Tree → Type 0) where
-  pub piece_own : (base : ℕ) (w : List ℕ) (c : CodePiece X) (p : Piece Tree) → IsHeldPiece (Kept IsOwn IsFold IsRun) base w c p → OwnPiece IsOwn c
+  pub piece_own : (base : ℕ) (w : List ℕ) (c : CodePiece X) (p : Piece Tree) → IsHeldPiece (OwnAtom IsOwn IsFold IsRun) base w c p → OwnPiece IsOwn c
   piece_own base w (Closes b i) p h = tt
   piece_own base w (Comma i) p h = tt
   piece_own base w (Colon i) p h = tt
@@ -178,13 +178,13 @@ module _ {X : Type 0} (IsOwn : X → Type 0) (IsFold : X → Tree → Type 0) (I
   piece_own base w (MembersPiece r) p h = absurd h
   piece_own base w (ClosersPiece r) p h = tt
 
-  each_named_own : (base : ℕ) (w : List ℕ) (ms : List (NamedValue X)) (es : List MemberMarks) → EachNamed (Kept IsOwn IsFold IsRun) base w ms es → All (λ m. IsOwn m.value) ms
+  each_named_own : (base : ℕ) (w : List ℕ) (ms : List (NamedValue X)) (es : List MemberMarks) → EachNamed (OwnAtom IsOwn IsFold IsRun) base w ms es → All (λ m. IsOwn m.value) ms
   each_named_own base w [] [] h = All-nil (λ m. IsOwn m.value)
   each_named_own base w (m ∷ ms) (e ∷ es) h = All-cons (λ m. IsOwn m.value) m ms h.2.0 (each_named_own base w ms es h.3)
   each_named_own base w [] (e ∷ es) h = absurd h
   each_named_own base w (m ∷ ms) [] h = absurd h
 
-  are_own : (base : ℕ) (w : List ℕ) (c : CodePiece X) (ps : List (Piece Tree)) → ArePieces (Kept IsOwn IsFold IsRun) base w c ps → OwnPiece IsOwn c
+  are_own : (base : ℕ) (w : List ℕ) (c : CodePiece X) (ps : List (Piece Tree)) → ArePieces (OwnAtom IsOwn IsFold IsRun) base w c ps → OwnPiece IsOwn c
   are_own base w c ps (inl (p, e, h)) = piece_own base w c p h
   are_own base w (RowPiece r) ps (inr h) = each_own IsOwn IsFold IsRun r.items.items (h.tree ∷ row_trees h.others) h.items
   are_own base w (MembersPiece r) ps (inr h) = each_named_own base w r.items.items (h.first ∷ h.others) h.items
@@ -195,34 +195,34 @@ module _ {X : Type 0} (IsOwn : X → Type 0) (IsFold : X → Tree → Type 0) (I
   are_own base w (Text span x) ps (inr h) = absurd h
   are_own base w (Value i x) ps (inr h) = absurd h
 
-  pub pieces_own : (base : ℕ) (w : List ℕ) (cs : List (CodePiece X)) (ps : List (Piece Tree)) → EachPiece (Kept IsOwn IsFold IsRun) base w cs ps → All (OwnPiece IsOwn) cs
+  pub pieces_own : (base : ℕ) (w : List ℕ) (cs : List (CodePiece X)) (ps : List (Piece Tree)) → EachPiece (OwnAtom IsOwn IsFold IsRun) base w cs ps → All (OwnPiece IsOwn) cs
   pieces_own base w [] ps h = All-nil (OwnPiece IsOwn)
   pieces_own base w (c ∷ cs) ps (us, vs, s, h, hs) = All-cons (OwnPiece IsOwn) c cs (are_own base w c us h) (pieces_own base w cs vs hs)
 
   -- the atoms of a row that is the last of what is kept
-  pub row_own : (s : Shown X) (front : List (CodePiece X)) (r : Row X) → IsOfItems (Kept IsOwn IsFold IsRun) s → s.outer ≡ front ++ RowPiece r ∷ [] → All IsOwn r.items.items
-  row_own s front r (base, w, f, h) e = let c = pieces_cut (Kept IsOwn IsFold IsRun) base w front (RowPiece r) f.outer (subst (λ z. EachPiece (Kept IsOwn IsFold IsRun) base w z f.outer) e h.0) in are_own base w (RowPiece r) c.1 c.4
+  pub row_own : (s : Shown X) (front : List (CodePiece X)) (r : Row X) → IsOfItems (OwnAtom IsOwn IsFold IsRun) s → s.outer ≡ front ++ RowPiece r ∷ [] → All IsOwn r.items.items
+  row_own s front r (base, w, f, h) e = let c = pieces_cut (OwnAtom IsOwn IsFold IsRun) base w front (RowPiece r) f.outer (subst (λ z. EachPiece (OwnAtom IsOwn IsFold IsRun) base w z f.outer) e h.0) in are_own base w (RowPiece r) c.1 c.4
 
-  pub can_add_row : (bytes : List ℕ) (old : Shown X) (r : Row X) → CanAdd (Kept IsOwn IsFold IsRun) bytes old (RowPiece r) → All IsOwn r.items.items
+  pub can_add_row : (bytes : List ℕ) (old : Shown X) (r : Row X) → CanAdd (OwnAtom IsOwn IsFold IsRun) bytes old (RowPiece r) → All IsOwn r.items.items
   can_add_row bytes old r (base, w, f, ps, part, h, k) = are_own base w (RowPiece r) ps k
 
-  pub can_add_own : (bytes : List ℕ) (old : Shown X) (c : CodePiece X) → CanAdd (Kept IsOwn IsFold IsRun) bytes old c → OwnPiece IsOwn c
+  pub can_add_own : (bytes : List ℕ) (old : Shown X) (c : CodePiece X) → CanAdd (OwnAtom IsOwn IsFold IsRun) bytes old c → OwnPiece IsOwn c
   can_add_own bytes old c (base, w, f, ps, part, h, k) = are_own base w c ps k
 
-  level_cut : (xs ys : List (Held X)) (ls : List (Level Tree)) → EachHeld (Kept IsOwn IsFold IsRun) (xs ++ ys) ls → (us vs : List (Level Tree)) × EachHeld (Kept IsOwn IsFold IsRun) xs us × EachHeld (Kept IsOwn IsFold IsRun) ys vs
+  level_cut : (xs ys : List (Held X)) (ls : List (Level Tree)) → EachHeld (OwnAtom IsOwn IsFold IsRun) (xs ++ ys) ls → (us vs : List (Level Tree)) × EachHeld (OwnAtom IsOwn IsFold IsRun) xs us × EachHeld (OwnAtom IsOwn IsFold IsRun) ys vs
   level_cut [] ys ls h = ([], ls, tt, h)
   level_cut (x ∷ xs) ys [] h = absurd h
   level_cut (x ∷ xs) ys (l ∷ ls) h = let r = level_cut xs ys ls h.1 in (l ∷ r.0, r.1, (h.0, r.2), r.3)
 
-  pub levels_own : (xs : List (Open X)) (ls : List (Level Tree)) → EachHeld (Kept IsOwn IsFold IsRun) (open_levels xs) ls → All (OwnLevel IsOwn) xs
+  pub levels_own : (xs : List (Open X)) (ls : List (Level Tree)) → EachHeld (OwnAtom IsOwn IsFold IsRun) (open_levels xs) ls → All (OwnLevel IsOwn) xs
   levels_own [] ls h = All-nil (OwnLevel IsOwn)
   levels_own (x ∷ xs) ls h = let r = level_cut (open_levels xs) (helds_of x) ls h in All-cons (OwnLevel IsOwn) x xs (open_own x r.1 r.3) (levels_own xs r.0 r.2)
     where
-      open_own : (x : Open X) (ls : List (Level Tree)) → EachHeld (Kept IsOwn IsFold IsRun) (helds_of x) ls → OwnLevel IsOwn x
+      open_own : (x : Open X) (ls : List (Level Tree)) → EachHeld (OwnAtom IsOwn IsFold IsRun) (helds_of x) ls → OwnLevel IsOwn x
       open_own x [] h = absurd h
       open_own x (l ∷ ls) h = held_own IsOwn IsFold IsRun (top_of x) l h.0
 
-  pub body_own : (base : ℕ) (w : List ℕ) (b : Body X) (f : Form Tree) → IsShown (Kept IsOwn IsFold IsRun) base w (shown b) f → OwnBody IsOwn b
+  pub body_own : (base : ℕ) (w : List ℕ) (b : Body X) (f : Form Tree) → IsShown (OwnAtom IsOwn IsFold IsRun) base w (shown b) f → OwnBody IsOwn b
   body_own base w b f h = (pieces_own base w b.outer.items f.outer h.0, own_levels IsOwn b.levels (levels_own (opens_of b.levels) f.levels h.1))
 
 -- one element more of a front
@@ -231,18 +231,18 @@ take_next xs i x h e = (rw (add-one i, take-suc xs i x h) refl) ∙ ap (λ z. ta
 
 -- the variants
 module _ {X : Type 0} (IsOwn : X → Type 0) (IsFold : X → Tree → Type 0) (IsRun : X → List Tree → Type 0) where
-  pub whole_own : (s : Start) (at : ℕ) (w : List ℕ) (v : Variant X) (lead : ℕ) (body : Body X) (pend : ℕ) (end : Start) → v ≡ Whole lead body pend end → HoldsVariant (Kept IsOwn IsFold IsRun) s at w v → OwnBody IsOwn body
-  whole_own s at w v lead body pend end e h = let k = subst (HoldsVariant (Kept IsOwn IsFold IsRun) s at w) e h in body_own IsOwn IsFold IsRun at w body k.form k.is_shown
+  pub whole_own : (s : Start) (at : ℕ) (w : List ℕ) (v : Variant X) (lead : ℕ) (body : Body X) (pend : ℕ) (end : Start) → v ≡ Whole lead body pend end → HoldsVariant (OwnAtom IsOwn IsFold IsRun) s at w v → OwnBody IsOwn body
+  whole_own s at w v lead body pend end e h = let k = subst (HoldsVariant (OwnAtom IsOwn IsFold IsRun) s at w) e h in body_own IsOwn IsFold IsRun at w body k.form k.is_shown
 
-  pub broken_own : (s : Start) (at : ℕ) (w : List ℕ) (v : Variant X) (lead : ℕ) (body : Body X) (halt : Halt) → v ≡ Broken lead body halt → HoldsVariant (Kept IsOwn IsFold IsRun) s at w v → OwnBody IsOwn body
-  broken_own s at w v lead body halt e h = let k = subst (HoldsVariant (Kept IsOwn IsFold IsRun) s at w) e h in body_own IsOwn IsFold IsRun at w body k.form k.is_shown
+  pub broken_own : (s : Start) (at : ℕ) (w : List ℕ) (v : Variant X) (lead : ℕ) (body : Body X) (halt : SpanStop) → v ≡ Broken lead body halt → HoldsVariant (OwnAtom IsOwn IsFold IsRun) s at w v → OwnBody IsOwn body
+  broken_own s at w v lead body halt e h = let k = subst (HoldsVariant (OwnAtom IsOwn IsFold IsRun) s at w) e h in body_own IsOwn IsFold IsRun at w body k.form k.is_shown
 
-  pub whole_copy : (s : Start) (at : ℕ) (w : List ℕ) (v : Variant X) (lead : ℕ) (body body2 : Body X) (pend : ℕ) (end : Start) → v ≡ Whole lead body pend end → CopiesShown (Kept IsOwn IsFold IsRun) (shown body) (shown body2) → HoldsVariant (Kept IsOwn IsFold IsRun) s at w v
-      → HoldsVariant (Kept IsOwn IsFold IsRun) s at w (Whole lead body2 pend end)
-  whole_copy s at w v lead body body2 pend end e c h = let k = subst (HoldsVariant (Kept IsOwn IsFold IsRun) s at w) e h in
+  pub whole_copy : (s : Start) (at : ℕ) (w : List ℕ) (v : Variant X) (lead : ℕ) (body body2 : Body X) (pend : ℕ) (end : Start) → v ≡ Whole lead body pend end → CopiesShown (OwnAtom IsOwn IsFold IsRun) (shown body) (shown body2) → HoldsVariant (OwnAtom IsOwn IsFold IsRun) s at w v
+      → HoldsVariant (OwnAtom IsOwn IsFold IsRun) s at w (Whole lead body2 pend end)
+  whole_copy s at w v lead body body2 pend end e c h = let k = subst (HoldsVariant (OwnAtom IsOwn IsFold IsRun) s at w) e h in
       record { first = k.first; form = k.form; last = k.last; is_whole = k.is_whole; is_shown = c at w k.form k.is_shown; lead_at = k.lead_at; pend_at = k.pend_at; end_is = k.end_is }
 
-  pub broken_copy : (s : Start) (at : ℕ) (w : List ℕ) (v : Variant X) (lead : ℕ) (body body2 : Body X) (halt : Halt) → v ≡ Broken lead body halt → CopiesShown (Kept IsOwn IsFold IsRun) (shown body) (shown body2) → HoldsVariant (Kept IsOwn IsFold IsRun) s at w v
-      → HoldsVariant (Kept IsOwn IsFold IsRun) s at w (Broken lead body2 halt)
-  broken_copy s at w v lead body body2 halt e c h = let k = subst (HoldsVariant (Kept IsOwn IsFold IsRun) s at w) e h in
+  pub broken_copy : (s : Start) (at : ℕ) (w : List ℕ) (v : Variant X) (lead : ℕ) (body body2 : Body X) (halt : SpanStop) → v ≡ Broken lead body halt → CopiesShown (OwnAtom IsOwn IsFold IsRun) (shown body) (shown body2) → HoldsVariant (OwnAtom IsOwn IsFold IsRun) s at w v
+      → HoldsVariant (OwnAtom IsOwn IsFold IsRun) s at w (Broken lead body2 halt)
+  broken_copy s at w v lead body body2 halt e c h = let k = subst (HoldsVariant (OwnAtom IsOwn IsFold IsRun) s at w) e h in
       record { first = k.first; form = k.form; is_broken = k.is_broken; is_shown = c at w k.form k.is_shown; lead_at = k.lead_at }

@@ -17,7 +17,7 @@ use Rattle.at_nest.proofs.Values.{go, run_then}
 use Rattle.at_nest.specs.Walks.{an_opener, value_kind, text_kind, kind_of, at_of, next, walks, walk_on, Walk, reached, refused}
 use Rattle.at_nest.proofs.Walks.{Reads, Halted, walk_reads, walk_halts, spaces_read, no_walk, reached_is, cases, spaces_apart, swap}
 use Rattle.at_nest.proofs.Joins.{same_split, at_end}
-use Rattle.at_nest.specs.Levels.{Mode, at_items, at_value, at_after, at_members, at_name, at_colon, at_member, at_further, full, first_mode, moves, Level, Form, marks, opened, pieces_of, Pushed, further, stopped, Halt, Within, at_first, in_run, in_text}
+use Rattle.at_nest.specs.Levels.{Mode, at_items, at_value, at_after, at_members, at_name, at_colon, at_member, at_further, full, first_mode, moves, Level, Form, marks, opened, pieces_of, Pushed, further, stopped, SpanStop, Within, at_first, in_run, in_text}
 use Rattle.at_nest.proofs.Pushes.{AreLevels, IsForm, IsStop, IsPushed, IsDeadHere, IsBegun, IsRunBegun, IsTextBegun, moves_walk}
 use Rattle.at_nest.proofs.Begun.{run_goes, run_halts, text_goes_on, text_stops}
 pub use Rattle.at_nest.specs.Answers.{Answer, folded, syntax, ended, single, folded_or, by_walk, choose, halt_place, stop_by, finished, IsAnswer}
@@ -189,7 +189,7 @@ dead_stops at i w u b o l h e p r =
     ]
 
 -- behind the form and the white space the machine is settled as the grammar's state t, clear of what is begun
-pub record Behind {X : Type 0} (m : Meaning X) (at : ℕ) (w : List ℕ) (f : Form X) (h : Halt) (t : State) : Type 0 where
+pub record Behind {X : Type 0} (m : Meaning X) (at : ℕ) (w : List ℕ) (f : Form X) (h : SpanStop) (t : State) : Type 0 where
   pub front : List ℕ
   pub begun : List ℕ
   pub byte : ℕ
@@ -204,7 +204,7 @@ pub record Behind {X : Type 0} (m : Meaning X) (at : ℕ) (w : List ℕ) (f : Fo
   pub is_begun : IsBegun h.kind begun
   pub dead : IsDeadHere at w h.place
 
-stop_behind : {X : Type 0} (m : Meaning X) (at : ℕ) (w : List ℕ) (f : Form X) (i : Halt) (t : State) (h : IsStop m at w f i) → Reads (value []) t h.front → Behind m at w f i t
+stop_behind : {X : Type 0} (m : Meaning X) (at : ℕ) (w : List ℕ) (f : Form X) (i : SpanStop) (t : State) (h : IsStop m at w f i) → Reads (value []) t h.front → Behind m at w f i t
 stop_behind m at w f i t h r =
     let more : List ℕ = h.begun ++ (h.byte ∷ h.others) in
     let sp : Reads r.last t h.spaces = spaces_read r.last t h.spaces r.settled h.are_spaces in
@@ -225,7 +225,7 @@ stop_behind m at w f i t h r =
     }
 
 -- at the item's first byte
-item_halts : {X : Type 0} (m : Meaning X) (at : ℕ) (w : List ℕ) (f : Form X) (i : Halt) (t : State) (h : Behind m at w f i t) (b : ℕ) (v : List ℕ) → h.begun ≡ b ∷ v → step t b ≡ None → Halted (value []) at w i.item
+item_halts : {X : Type 0} (m : Meaning X) (at : ℕ) (w : List ℕ) (f : Form X) (i : SpanStop) (t : State) (h : Behind m at w f i t) (b : ℕ) (v : List ℕ) → h.begun ≡ b ∷ v → step t b ≡ None → Halted (value []) at w i.item
 item_halts m at w f i t h b v e n = record {
   before = h.front;
   byte = b;
@@ -238,7 +238,7 @@ item_halts m at w f i t h b v e n = record {
 }
 
 -- in the item, or at its end
-place_halts : {X : Type 0} (m : Meaning X) (at : ℕ) (w : List ℕ) (f : Form X) (i : Halt) (t : State) (h : Behind m at w f i t) (b : ℕ) (v : List ℕ) (l : State) → h.begun ≡ b ∷ v → go t (b ∷ v) ≡ Some l → Halted (value []) at w i.place
+place_halts : {X : Type 0} (m : Meaning X) (at : ℕ) (w : List ℕ) (f : Form X) (i : SpanStop) (t : State) (h : Behind m at w f i t) (b : ℕ) (v : List ℕ) (l : State) → h.begun ≡ b ∷ v → go t (b ∷ v) ≡ Some l → Halted (value []) at w i.place
 place_halts m at w f i t h b v l e g =
     let clear1 : is_clear h.last ((b ∷ v) ++ []) ≡ true = ap (λ z. is_clear h.last (z ++ (h.byte ∷ h.others))) (sym e) ∙ h.clear in
     let begun1 : go h.last (b ∷ v) ≡ Some l = ap (go h.last) (sym (append-nil (b ∷ v))) ∙ (swap h.last t (b ∷ v) [] b v refl h.settled clear1 ∙ (ap (go t) (append-nil (b ∷ v)) ∙ g)) in
@@ -256,7 +256,7 @@ place_halts m at w f i t h b v l e g =
       halts = dead_stops at i.place w (h.front ++ h.begun) h.byte h.others l h.dead split1 place1 all;
     }
 
-none_begun : {X : Type 0} (m : Meaning X) (at : ℕ) (w : List ℕ) (f : Form X) (i : Halt) (t : State) (h : Behind m at w f i t) → h.begun ≡ [] → Halted (value []) at w i.item
+none_begun : {X : Type 0} (m : Meaning X) (at : ℕ) (w : List ℕ) (f : Form X) (i : SpanStop) (t : State) (h : Behind m at w f i t) → h.begun ≡ [] → Halted (value []) at w i.item
 none_begun m at w f i t h e =
     let split1 : w ≡ h.front ++ (h.byte ∷ h.others) = h.split ∙ ap (λ z. h.front ++ (z ++ (h.byte ∷ h.others))) e in
     let place1 : i.place ≡ i.item = h.place ∙ (ap (λ z. i.item + length z) e ∙ nothing i.item) in
@@ -274,7 +274,7 @@ none_begun m at w f i t h e =
     nothing : (n : ℕ) → n + 0 ≡ n
     nothing n = omega arith
 
-by_kind : {X : Type 0} (m : Meaning X) (at : ℕ) (w : List ℕ) (f : Form X) (i : Halt) (t : State) (h : Behind m at w f i t) (k : Within) → i.kind ≡ k → IsBegun k h.begun → Halted (value []) at w (halt_place t k i.item i.place)
+by_kind : {X : Type 0} (m : Meaning X) (at : ℕ) (w : List ℕ) (f : Form X) (i : SpanStop) (t : State) (h : Behind m at w f i t) (k : Within) → i.kind ≡ k → IsBegun k h.begun → Halted (value []) at w (halt_place t k i.item i.place)
 by_kind m at w f i t h at_first e g = none_begun m at w f i t h g
 by_kind m at w f i t h in_run e (b, v, d, g) = elim (cases (next t value_kind)) [
   | inl n ↦ subst (λ o. Halted (value []) at w (choose o i.item i.place)) (sym n)
@@ -287,7 +287,7 @@ by_kind m at w f i t h in_text e (b, v, d, g) = elim (cases (next t text_kind)) 
   | inr (q, n) ↦ subst (λ o. Halted (value []) at w (choose o i.item i.place)) (sym n) (let (l, r) = text_goes_on t q b v (subst IsTextBegun d g) n in place_halts m at w f i t h b v l d r)
 ]
 
-stop_halts : {X : Type 0} (m : Meaning X) (at : ℕ) (w : List ℕ) (f : Form X) (i : Halt) (t : State) (h : IsStop m at w f i) → Reads (value []) t h.front → Halted (value []) at w (halt_place t i.kind i.item i.place)
+stop_halts : {X : Type 0} (m : Meaning X) (at : ℕ) (w : List ℕ) (f : Form X) (i : SpanStop) (t : State) (h : IsStop m at w f i) → Reads (value []) t h.front → Halted (value []) at w (halt_place t i.kind i.item i.place)
 stop_halts m at w f i t h r = let k : Behind m at w f i t = stop_behind m at w f i t h r in by_kind m at w f i t k i.kind refl k.is_begun
 
 abbrev pub IsReduced : {X : Type 0} → Pushed X → Type 0

@@ -19,23 +19,23 @@ use Rattle.at_nest.specs.Forms.{Mark, comma, colon, quoted, entry}
 use Rattle.at_nest.specs.Walks.{mark_kind, comma_kind, colon_kind, text_kind, value_kind}
 use Rattle.at_nest.specs.Levels.{Mode, at_items, at_value, at_after, at_members, at_name, at_colon, at_member, at_further, Level, values_in, pairs_in, built, move, closes_at, first_mode}
 use Rattle.at_nest.specs.Shown.{Held, array_level, object_level, AreOwn, held_of, IsStep, comma_next, colon_next, value_next, name_next, takes_name, closes_with, opened_as}
-use Rattle.at_nest.specs.KeptItems.{tree_members, free, Content, one, Kept, Holds, Each, Gains, GainsIn, EachMember, IsNamed, IsHeld, pending_in}
+use Rattle.at_nest.specs.KeptItems.{tree_members, free, Content, one, OwnAtom, Holds, Each, Gains, GainsIn, EachMember, IsNamed, IsHeld, pending_in}
 
 -- ---- a level that is closed
 
-holds_covers : {X : Type 0} (IsOwn : X → Type 0) (IsFold : X → Tree → Type 0) (IsRun : X → List Tree → Type 0) (x : X) (ts : List Tree) → Holds (Kept IsOwn IsFold IsRun) x ts → IsOwn x × Covers IsFold IsRun x ts
+holds_covers : {X : Type 0} (IsOwn : X → Type 0) (IsFold : X → Tree → Type 0) (IsRun : X → List Tree → Type 0) (x : X) (ts : List Tree) → Holds (OwnAtom IsOwn IsFold IsRun) x ts → IsOwn x × Covers IsFold IsRun x ts
 holds_covers IsOwn IsFold IsRun x ts (inl (t, e, k)) = (k.0, inl (t, e, k.1))
 holds_covers IsOwn IsFold IsRun x ts (inr k) = (k.0, inr k.1)
 
-covers_holds : {X : Type 0} (IsOwn : X → Type 0) (IsFold : X → Tree → Type 0) (IsRun : X → List Tree → Type 0) (x : X) (ts : List Tree) → IsOwn x → Covers IsFold IsRun x ts → Holds (Kept IsOwn IsFold IsRun) x ts
+covers_holds : {X : Type 0} (IsOwn : X → Type 0) (IsFold : X → Tree → Type 0) (IsRun : X → List Tree → Type 0) (x : X) (ts : List Tree) → IsOwn x → Covers IsFold IsRun x ts → Holds (OwnAtom IsOwn IsFold IsRun) x ts
 covers_holds IsOwn IsFold IsRun x ts own (inl (t, e, k)) = inl (t, e, (own, k))
 covers_holds IsOwn IsFold IsRun x ts own (inr k) = inr (own, k)
 
-each_folds : {X : Type 0} (IsOwn : X → Type 0) (IsFold : X → Tree → Type 0) (IsRun : X → List Tree → Type 0) (xs : List X) (ts : List Tree) → Each (Kept IsOwn IsFold IsRun) xs ts → AreItemFolds IsFold IsRun xs ts
+each_folds : {X : Type 0} (IsOwn : X → Type 0) (IsFold : X → Tree → Type 0) (IsRun : X → List Tree → Type 0) (xs : List X) (ts : List Tree) → Each (OwnAtom IsOwn IsFold IsRun) xs ts → AreItemFolds IsFold IsRun xs ts
 each_folds IsOwn IsFold IsRun [] ts h = h
 each_folds IsOwn IsFold IsRun (x ∷ xs) ts (us, vs, e, k, h) = (us, vs, e, (holds_covers IsOwn IsFold IsRun x us k).1, each_folds IsOwn IsFold IsRun xs vs h)
 
-folds_each : {X : Type 0} (IsOwn : X → Type 0) (IsFold : X → Tree → Type 0) (IsRun : X → List Tree → Type 0) (xs : List X) (ts : List Tree) → All IsOwn xs → AreItemFolds IsFold IsRun xs ts → Each (Kept IsOwn IsFold IsRun) xs ts
+folds_each : {X : Type 0} (IsOwn : X → Type 0) (IsFold : X → Tree → Type 0) (IsRun : X → List Tree → Type 0) (xs : List X) (ts : List Tree) → All IsOwn xs → AreItemFolds IsFold IsRun xs ts → Each (OwnAtom IsOwn IsFold IsRun) xs ts
 folds_each IsOwn IsFold IsRun [] ts own h = h
 folds_each IsOwn IsFold IsRun (x ∷ xs) ts own (us, vs, e, k, h) = (us, vs, e, covers_holds IsOwn IsFold IsRun x us (All-head IsOwn x xs own) k, folds_each IsOwn IsFold IsRun xs vs (All-tail IsOwn x xs own) h)
 
@@ -46,26 +46,26 @@ folds_append IsFold IsRun (y ∷ xs) ts x us (vs, ws, e, h, hs) k = (vs, ws ++ u
 
 -- what an algebra's own step makes of an array's atoms
 pub gains : {X : Type 0} (IsOwn : X → Type 0) (IsFold : X → Tree → Type 0) (IsRun : X → List Tree → Type 0) (xs : List X) (x : X) (ys : List X) → All IsOwn ys
-    → ((ts us : List Tree) → AreItemFolds IsFold IsRun xs ts → Covers IsFold IsRun x us → AreItemFolds IsFold IsRun ys (ts ++ us)) → Gains (Kept IsOwn IsFold IsRun) xs x ys
+    → ((ts us : List Tree) → AreItemFolds IsFold IsRun xs ts → Covers IsFold IsRun x us → AreItemFolds IsFold IsRun ys (ts ++ us)) → Gains (OwnAtom IsOwn IsFold IsRun) xs x ys
 gains IsOwn IsFold IsRun xs x ys own more ts us h k = folds_each IsOwn IsFold IsRun ys (ts ++ us) own (more ts us (each_folds IsOwn IsFold IsRun xs ts h) (holds_covers IsOwn IsFold IsRun x us k).1)
 
-each_member_folds : {X : Type 0} (IsOwn : X → Type 0) (IsFold : X → Tree → Type 0) (IsRun : X → List Tree → Type 0) (xs : List (Member X)) (ps : List (List Character × ℕ × Tree)) → EachMember (Kept IsOwn IsFold IsRun) xs ps → AreMemberFolds IsFold xs (tree_members ps)
+each_member_folds : {X : Type 0} (IsOwn : X → Type 0) (IsFold : X → Tree → Type 0) (IsRun : X → List Tree → Type 0) (xs : List (Member X)) (ps : List (List Character × ℕ × Tree)) → EachMember (OwnAtom IsOwn IsFold IsRun) xs ps → AreMemberFolds IsFold xs (tree_members ps)
 each_member_folds IsOwn IsFold IsRun [] [] h = tt
 each_member_folds IsOwn IsFold IsRun (x ∷ xs) (p ∷ ps) h = (h.0, h.1, h.2.1, each_member_folds IsOwn IsFold IsRun xs ps h.3)
 each_member_folds IsOwn IsFold IsRun [] (p ∷ ps) h = absurd h
 each_member_folds IsOwn IsFold IsRun (x ∷ xs) [] h = absurd h
 
-pub each_own : {X : Type 0} (IsOwn : X → Type 0) (IsFold : X → Tree → Type 0) (IsRun : X → List Tree → Type 0) (xs : List X) (ts : List Tree) → Each (Kept IsOwn IsFold IsRun) xs ts → All IsOwn xs
+pub each_own : {X : Type 0} (IsOwn : X → Type 0) (IsFold : X → Tree → Type 0) (IsRun : X → List Tree → Type 0) (xs : List X) (ts : List Tree) → Each (OwnAtom IsOwn IsFold IsRun) xs ts → All IsOwn xs
 each_own IsOwn IsFold IsRun [] ts h = All-nil IsOwn
 each_own IsOwn IsFold IsRun (x ∷ xs) ts (us, vs, e, k, h) = All-cons IsOwn x xs (holds_covers IsOwn IsFold IsRun x us k).0 (each_own IsOwn IsFold IsRun xs vs h)
 
-each_member_own : {X : Type 0} (IsOwn : X → Type 0) (IsFold : X → Tree → Type 0) (IsRun : X → List Tree → Type 0) (xs : List (Member X)) (ps : List (List Character × ℕ × Tree)) → EachMember (Kept IsOwn IsFold IsRun) xs ps → All (λ m. IsOwn m.value) xs
+each_member_own : {X : Type 0} (IsOwn : X → Type 0) (IsFold : X → Tree → Type 0) (IsRun : X → List Tree → Type 0) (xs : List (Member X)) (ps : List (List Character × ℕ × Tree)) → EachMember (OwnAtom IsOwn IsFold IsRun) xs ps → All (λ m. IsOwn m.value) xs
 each_member_own IsOwn IsFold IsRun [] [] h = All-nil (λ m. IsOwn m.value)
 each_member_own IsOwn IsFold IsRun (x ∷ xs) (p ∷ ps) h = All-cons (λ m. IsOwn m.value) x xs h.2.0 (each_member_own IsOwn IsFold IsRun xs ps h.3)
 each_member_own IsOwn IsFold IsRun [] (p ∷ ps) h = absurd h
 each_member_own IsOwn IsFold IsRun (x ∷ xs) [] h = absurd h
 
-pub held_own : {X : Type 0} (IsOwn : X → Type 0) (IsFold : X → Tree → Type 0) (IsRun : X → List Tree → Type 0) (h : Held X) (l : Level Tree) → IsHeld (Kept IsOwn IsFold IsRun) h l → AreOwn IsOwn h
+pub held_own : {X : Type 0} (IsOwn : X → Type 0) (IsFold : X → Tree → Type 0) (IsRun : X → List Tree → Type 0) (h : Held X) (l : Level Tree) → IsHeld (OwnAtom IsOwn IsFold IsRun) h l → AreOwn IsOwn h
 held_own IsOwn IsFold IsRun (array_level i s xs) l k = each_own IsOwn IsFold IsRun xs (values_in free l.inside) k.3
 held_own IsOwn IsFold IsRun (object_level i s ms) l k = each_member_own IsOwn IsFold IsRun ms (pairs_in free None l.inside) k.3
 
@@ -76,11 +76,11 @@ built_brace : (b : Bracket) (i j : ℕ) (xs : List (Mark Tree)) → b ≡ Brace 
 built_brace b i j xs e f = ap (λ n. object_tree n (tree_members (pairs_in free None xs))) (sym f) ∙ ap (λ c. built free c j xs) (sym e)
 
 pub array_built : {X : Type 0} (IsOwn : X → Type 0) (IsFold : X → Tree → Type 0) (IsRun : X → List Tree → Type 0) (i : ℕ) (s : ArrayState) (xs : List X) (x : X) (l : Level Tree) → ((ts : List Tree) → AreItemFolds IsFold IsRun xs ts → IsFold x (array_tree i (trees ts)))
-    → IsHeld (Kept IsOwn IsFold IsRun) (array_level i s xs) l → IsFold x (built free l.bracket l.from l.inside)
+    → IsHeld (OwnAtom IsOwn IsFold IsRun) (array_level i s xs) l → IsFold x (built free l.bracket l.from l.inside)
 array_built IsOwn IsFold IsRun i s xs x l f h = subst (IsFold x) (built_square l.bracket i l.from l.inside h.0 h.1) (f (values_in free l.inside) (each_folds IsOwn IsFold IsRun xs (values_in free l.inside) h.3))
 
 pub object_built : {X : Type 0} (IsOwn : X → Type 0) (IsFold : X → Tree → Type 0) (IsRun : X → List Tree → Type 0) (i : ℕ) (s : ObjectState) (ms : List (Member X)) (x : X) (l : Level Tree) → ((ts : Members) → AreMemberFolds IsFold ms ts → IsFold x (object_tree i ts))
-    → IsHeld (Kept IsOwn IsFold IsRun) (object_level i s ms) l → IsFold x (built free l.bracket l.from l.inside)
+    → IsHeld (OwnAtom IsOwn IsFold IsRun) (object_level i s ms) l → IsFold x (built free l.bracket l.from l.inside)
 object_built IsOwn IsFold IsRun i s ms x l f h =
     subst (IsFold x) (built_brace l.bracket i l.from l.inside h.0 h.1) (f (tree_members (pairs_in free None l.inside)) (each_member_folds IsOwn IsFold IsRun ms (pairs_in free None l.inside) h.3))
 

@@ -17,7 +17,7 @@ use Rattle.at_lex.specs.declared.tokens.Lead.TheVariants as leads
 use Rattle.at_lex.specs.declared.tokens.Pend.{Pend}
 use Rattle.at_lex.specs.declared.tokens.Pend.TheVariants as pends
 use Rattle.at_nest.specs.declared.bodies.Body.{Body}
-use Rattle.at_nest.specs.declared.pieces.Halt.{Halt as CodeHalt}
+use Rattle.at_nest.specs.declared.pieces.SpanStop.{SpanStop as CodeHalt}
 use Rattle.at_nest.specs.declared.variants.Variant.{Variant}
 use Rattle.at_nest.specs.declared.variants.Variant.TheVariants.{Whole, Broken}
 use Rattle.at_nest.specs.Tree.{Tree}

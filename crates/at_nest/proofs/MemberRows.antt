@@ -17,7 +17,7 @@ use Rattle.at_nest.specs.declared.pieces.Piece.TheVariants.{Comma, Colon, Text, 
 use Rattle.at_nest.specs.declared.pieces.NamedValue.{NamedValue}
 use Rattle.at_nest.specs.declared.pieces.MemberRow.{MemberRow}
 use Rattle.at_nest.specs.declared.pieces.Awaited.{Awaited}
-use Rattle.at_nest.specs.declared.pieces.Halt.{Halt as CodeHalt}
+use Rattle.at_nest.specs.declared.pieces.SpanStop.{SpanStop as CodeHalt}
 use Rattle.at_nest.specs.Tree.{Tree, text}
 use Rattle.at_nest.specs.Forms.{Mark, Piece, opens, closes, mark, comma, colon, quoted, entry}
 use Rattle.at_nest.specs.Walks.{comma_kind, colon_kind, text_kind}

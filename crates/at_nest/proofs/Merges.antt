@@ -9,7 +9,7 @@ use Rattle.at_nest.specs.Forms.{Meaning, Piece, IsPiece, Formed}
 use Rattle.at_nest.proofs.PieceSteps.{piece_first}
 use Rattle.at_nest.proofs.Walks.{ends_append}
 use Rattle.at_nest.proofs.Joins.{formed_append, end_append, at_end, at_end3, apart_front, apart_nothing}
-use Rattle.at_nest.specs.Levels.{Form, pieces_of, Pushed, further, stopped, Halt, push, push_then, push_all}
+use Rattle.at_nest.specs.Levels.{Form, pieces_of, Pushed, further, stopped, SpanStop, push, push_then, push_all}
 use Rattle.at_nest.proofs.Pushes.{IsForm, IsStop, IsPushed, IsDeadHere, push_ok}
 pub use Rattle.at_nest.specs.Unions.{merged}
 
@@ -47,7 +47,7 @@ apart_longer v [] [] o y b h = h
 apart_longer v [] (c ∷ g) o y b h = h
 apart_longer v (c ∷ a) g o y b h = h
 
-pub stop_right : {X : Type 0} (m : Meaning X) (at : ℕ) (w y : List ℕ) (f : Form X) (i : Halt) → IsStop m at w f i → IsStop m at (w ++ y) f i
+pub stop_right : {X : Type 0} (m : Meaning X) (at : ℕ) (w y : List ℕ) (f : Form X) (i : SpanStop) → IsStop m at w f i → IsStop m at (w ++ y) f i
 stop_right m at w y f i h = record {
   front = h.front;
   spaces = h.spaces;

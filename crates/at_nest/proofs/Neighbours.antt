@@ -7,11 +7,11 @@ use Rattle.at_lex.specs.Spans.{end_of}
 use Rattle.at_lex.specs.declared.tokens.Start.{Start}
 use Rattle.at_nest.specs.declared.pieces.Piece.{Piece as CodePiece}
 use Rattle.at_nest.specs.declared.pieces.Piece.TheVariants.{Closes, Comma, Colon, Text, Value, Row, Members as MembersPiece, Closers as ClosersPiece}
-use Rattle.at_nest.specs.declared.pieces.Halt.{Halt as CodeHalt}
+use Rattle.at_nest.specs.declared.pieces.SpanStop.{SpanStop as CodeHalt}
 use Rattle.at_nest.specs.Tree.{Tree}
 use Rattle.at_nest.specs.Borders.{are_apart}
 use Rattle.at_nest.specs.Forms.{Piece, opens, closes, mark, comma, colon, quoted, entry}
-use Rattle.at_nest.specs.Levels.{Form, Pushed, further, stopped, Halt, push_then}
+use Rattle.at_nest.specs.Levels.{Form, Pushed, further, stopped, SpanStop, push_then}
 use Rattle.at_nest.specs.Stops.{IsForm, IsStop}
 use Rattle.at_nest.specs.Unions.{IsToken, Ends, merged, variant_of}
 use Rattle.at_nest.specs.Variants.{IsAllLead, IsLeadEnd, IsWhole, IsBroken, IsVariant}
@@ -194,7 +194,7 @@ whole_all s at w1 x u f v h k = record {
   ended = λ n. h.ended (left_nil v x n);
 }
 
-pub whole_broken : (s : Start) (at : ℕ) (w1 w2 u : List ℕ) (f : Form Tree) (v x : List ℕ) (g : Form Tree) (i : Halt) (p : Pushed Tree) (h : IsWhole free s at w1 u f v) (k : IsBroken free (end_of s w1) (at + length w1) w2 x g i)
+pub whole_broken : (s : Start) (at : ℕ) (w1 w2 u : List ℕ) (f : Form Tree) (v x : List ℕ) (g : Form Tree) (i : SpanStop) (p : Pushed Tree) (h : IsWhole free s at w1 u f v) (k : IsBroken free (end_of s w1) (at + length w1) w2 x g i)
     → Ends free (at + length u + length h.middle) (v ++ x) k.more p
     → IsVariant free s at (w1 ++ w2) (variant_of u [] (push_then (λ q. merged free (further q) (stopped g i)) (merged free (further f) p)))
 whole_broken s at w1 w2 u f v x g i p h k ends =

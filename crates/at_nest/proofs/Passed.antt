@@ -1,6 +1,6 @@
 -- From what is known of the parts of a text to the tree that it spells: arrays item by item, objects member by member.
 use Rattle.std.proofs.Common.{◌≡◌, ℕ, List, [], ◌∷◌, ◌++◌, refl, sym, ◌∙◌, ap, subst, arith, append_assoc, append-nil, ◌+◌, ◌<◌, ◌≤◌, length, slice_index}
-use Rattle.at_fixed.specs.Kept.{between}
+use Rattle.at_fixed.specs.NumberSoFar.{between}
 use Rattle.at_fixed.proofs.DigitParts.{part-none, part-more, part-length, part-part, part-cons}
 use Rattle.at_lex.specs.Spans.{AreSpaces}
 use Rattle.at_nest.specs.Tree.{Tree, array, object, Trees, no_trees, tree_and, Members, no_members, member_and, Spells, SpellsName, Padded, After, SpellsItems, SpellsFurtherItems, SpellsMembers, SpellsFurtherMembers}

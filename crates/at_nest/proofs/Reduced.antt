@@ -13,7 +13,7 @@ use Rattle.at_nest.specs.Walks.{mark_kind}
 use Rattle.at_nest.proofs.Steps.{and_false}
 use Rattle.at_nest.proofs.Walks.{ends_append}
 use Rattle.at_nest.proofs.Joins.{end_append, at_end}
-use Rattle.at_nest.specs.Levels.{Mode, Level, Form, move, closes_at, built, pieces_of, Pushed, further, stopped, Halt, with_mark, push_mark, close_level, push_close, push, push_then, push_all}
+use Rattle.at_nest.specs.Levels.{Mode, Level, Form, move, closes_at, built, pieces_of, Pushed, further, stopped, SpanStop, with_mark, push_mark, close_level, push_close, push, push_then, push_all}
 use Rattle.at_nest.proofs.Merges.{merged}
 use Rattle.at_nest.proofs.Finished.{AreClosed, IsReduced}
 use Rattle.at_nest.proofs.Unions.{IsBroken, IsLeadEnd, lead_out, closes_last}
@@ -84,7 +84,7 @@ lead_apart InString x u more h = apart_by (x ++ u) more (lead_last InString x u 
 lead_apart InEscape x u more h = apart_by (x ++ u) more (lead_last InEscape x u no_escape h)
 
 -- no bytes before the span that lead into its start state make the stop's byte viable
-pub broken_dead : {X : Type 0} (m : Meaning X) (s : Start) (at : ℕ) (w u : List ℕ) (f : Form X) (i : Halt) → IsBroken m s at w u f i → IsDead s at w i.place
+pub broken_dead : {X : Type 0} (m : Meaning X) (s : Start) (at : ℕ) (w u : List ℕ) (f : Form X) (i : SpanStop) → IsBroken m s at w u f i → IsDead s at w i.place
 broken_dead m s at w u f i h = record {
   before = u ++ h.stop.dead.before;
   byte = h.stop.dead.byte;

@@ -7,7 +7,7 @@ use Rattle.at_lex.specs.declared.tokens.Bracket.{Bracket}
 use Rattle.at_nest.specs.declared.levels.Open.{Open}
 use Rattle.at_nest.specs.declared.pieces.Piece.{Piece as CodePiece}
 use Rattle.at_nest.specs.declared.pieces.Piece.TheVariants.{Closes, Comma, Colon, Text, Value}
-use Rattle.at_nest.specs.declared.pieces.Halt.{Halt as CodeHalt}
+use Rattle.at_nest.specs.declared.pieces.SpanStop.{SpanStop as CodeHalt}
 use Rattle.at_nest.specs.Tree.{Tree, text}
 use Rattle.at_nest.specs.Forms.{Mark, Piece, opens, closes, mark, comma, colon, quoted, entry}
 use Rattle.at_nest.specs.Walks.{mark_kind, mark_at}

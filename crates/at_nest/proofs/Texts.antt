@@ -5,7 +5,7 @@ use Rattle.at_nest.specs.Borders.{are_apart}
 use Rattle.at_nest.specs.Forms.{Meaning, Mark, mark, IsMark, Formed}
 use Rattle.at_nest.proofs.Joins.{apart_nothing, formed_append, formed_out}
 use Rattle.at_nest.specs.Walks.{walks}
-use Rattle.at_nest.specs.Levels.{pieces_of, Pushed, further, stopped, Halt, push}
+use Rattle.at_nest.specs.Levels.{pieces_of, Pushed, further, stopped, SpanStop, push}
 use Rattle.at_nest.proofs.Pushes.{IsForm, IsStop, push_ok}
 use Rattle.at_nest.proofs.Merges.{merged_ok}
 use Rattle.at_nest.proofs.Finished.{IsReduced, Answer, IsAnswer, finished, finished_ok}
@@ -18,7 +18,7 @@ use Rattle.at_nest.proofs.Open.{IsOpen, open_by, open_answer}
 pub data Last (X : Type 0) : Type 0 where
   no_last : Last X
   last_mark : Mark X → Last X
-  last_stop : Halt → Last X
+  last_stop : SpanStop → Last X
   last_open : Bool → ℕ → Last X
 
 abbrev pub IsLast : {X : Type 0} → Meaning X → ℕ → List ℕ → Last X → Type 0

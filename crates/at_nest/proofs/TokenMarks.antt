@@ -7,7 +7,7 @@ use Rattle.at_lex.specs.declared.tokens.Bracket.{Bracket}
 use Rattle.at_lex.specs.declared.tokens.Token.{Token}
 use Rattle.at_lex.specs.declared.tokens.TokenKind.{TokenKind}
 use Rattle.at_lex.specs.declared.tokens.TokenKind.TheVariants as kinds
-use Rattle.at_nest.specs.declared.pieces.Halt.{Halt as CodeHalt}
+use Rattle.at_nest.specs.declared.pieces.SpanStop.{SpanStop as CodeHalt}
 use Rattle.at_nest.specs.Forms.{closes, mark, comma, colon}
 use Rattle.at_nest.specs.Levels.{further, first_mode, push_mark}
 use Rattle.at_nest.specs.Unions.{IsToken}

@@ -16,10 +16,10 @@ use Rattle.at_lex.specs.declared.runs.RunEnd.{RunEnd}
 use Rattle.at_lex.specs.declared.runs.RunEnd.TheVariants.{Null, True, False, Number, BadAt}
 use Rattle.at_lex.proofs.JsonString as str
 use Rattle.at_nest.specs.declared.pieces.Within.TheVariants as code
-use Rattle.at_nest.specs.declared.pieces.Halt.{Halt as CodeHalt}
+use Rattle.at_nest.specs.declared.pieces.SpanStop.{SpanStop as CodeHalt}
 use Rattle.at_nest.specs.Tree.{Tree, literal, number, Spells}
 use Rattle.at_nest.specs.Forms.{Meaning, Piece, opens, closes, mark, Mark, quoted, entry, IsPiece, IsMark, Formed, IsNoText, fold_of}
-use Rattle.at_nest.specs.Levels.{Form, Pushed, further, stopped, Halt, plain_halt, in_run, in_text, push, push_then, first_mode}
+use Rattle.at_nest.specs.Levels.{Form, Pushed, further, stopped, SpanStop, plain_halt, in_run, in_text, push, push_then, first_mode}
 use Rattle.at_nest.specs.Unions.{IsToken, no_token, a_run, a_text, Ends, merged, empty_form}
 use Rattle.at_nest.specs.Shown.{Shown}
 use Rattle.at_nest.specs.KeptItems.{Content, free, IsShown, IsPushedAs, halt_of, PushesText}
@@ -98,7 +98,7 @@ text_whole t u n e ending longest all = let (q, r, stops) = string_runs t n long
 
 -- ---- runs
 
-abbrev pub run_halt : ℕ → ℕ → Halt
+abbrev pub run_halt : ℕ → ℕ → SpanStop
 run_halt at zero = plain_halt at
 run_halt at (suc n) = record { kind = in_run; item = at; place = at + suc n }
 
@@ -170,7 +170,7 @@ pub open_ends : (at : ℕ) (v more : List ℕ) (b : Bracket) → v ≡ opening b
 open_ends at v more b e = record { formed = one_formed at v (opens b at) (refl, e); levels = (refl, tt) }
 
 -- a stop in a token: what is kept stays
-pub stop_pushed : {X : Type 0} (IsKept : X → Content → Type 0) (base : ℕ) (w : List ℕ) (s : Shown X) (h : CodeHalt) (f : Form Tree) (i : Halt) → IsShown IsKept base w s f → halt_of h ≡ i → IsPushedAs IsKept base w s (Some h) (merged free (further f) (stopped empty_form i))
+pub stop_pushed : {X : Type 0} (IsKept : X → Content → Type 0) (base : ℕ) (w : List ℕ) (s : Shown X) (h : CodeHalt) (f : Form Tree) (i : SpanStop) → IsShown IsKept base w s f → halt_of h ≡ i → IsPushedAs IsKept base w s (Some h) (merged free (further f) (stopped empty_form i))
 stop_pushed IsKept base w s h f i k e = (k, e)
 
 pub run_halt_is : (at n : ℕ) → halt_of (stop_within code.Run at n) ≡ run_halt at n

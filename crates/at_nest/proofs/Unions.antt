@@ -11,7 +11,7 @@ use Rattle.at_nest.specs.Forms.{Meaning}
 use Rattle.at_nest.proofs.Steps.{and_false}
 use Rattle.at_nest.proofs.Walks.{ends_append}
 use Rattle.at_nest.proofs.Joins.{formed_out, end_append, at_end, at_end3, apart_front}
-use Rattle.at_nest.specs.Levels.{Form, pieces_of, Pushed, further, stopped, Halt, push_then, push_all}
+use Rattle.at_nest.specs.Levels.{Form, pieces_of, Pushed, further, stopped, SpanStop, push_then, push_all}
 use Rattle.at_nest.proofs.Pushes.{IsForm, IsStop, IsPushed}
 use Rattle.at_nest.proofs.Merges.{merged, merged_ok, stop_right, push_all_ok}
 pub use Rattle.at_nest.specs.Variants.{Variant, all_lead, whole, broken, IsAllLead, IsLeadEnd, IsPending, none_pending, run_pending, text_pending, IsWhole, IsBroken, IsVariant}
@@ -124,7 +124,7 @@ all_lead_left m s at w x u f v h k = record {
   ended = k.ended;
 }
 
-pub all_lead_broken : {X : Type 0} (m : Meaning X) (s : Start) (at : ℕ) (w x u : List ℕ) (f : Form X) (i : Halt) → IsAllLead s w → IsBroken m (end_of s w) (at + length w) x u f i → IsBroken m s at (w ++ x) (w ++ u) f i
+pub all_lead_broken : {X : Type 0} (m : Meaning X) (s : Start) (at : ℕ) (w x u : List ℕ) (f : Form X) (i : SpanStop) → IsAllLead s w → IsBroken m (end_of s w) (at + length w) x u f i → IsBroken m s at (w ++ x) (w ++ u) f i
 all_lead_broken m s at w x u f i h k = record {
   more = k.more;
   split = ap (λ z. w ++ z) k.split ∙ sym (append_assoc w u k.more);
@@ -132,7 +132,7 @@ all_lead_broken m s at w x u f i h k = record {
   stop = subst (λ n. IsStop m n k.more f i) (at_end at w u) k.stop;
 }
 
-pub broken_left : {X : Type 0} (m : Meaning X) (s : Start) (at : ℕ) (w x u : List ℕ) (f : Form X) (i : Halt) → IsBroken m s at w u f i → IsBroken m s at (w ++ x) u f i
+pub broken_left : {X : Type 0} (m : Meaning X) (s : Start) (at : ℕ) (w x u : List ℕ) (f : Form X) (i : SpanStop) → IsBroken m s at w u f i → IsBroken m s at (w ++ x) u f i
 broken_left m s at w x u f i h = record {
   more = h.more ++ x;
   split = ap (λ z. z ++ x) h.split ∙ append_assoc u h.more x;
@@ -229,7 +229,7 @@ token_last x t more (a_run r b k c o e) n = absurd (not_nil c o (sym e ∙ n))
     not_nil b o e = let P : List ℕ → Type 0 = λ z. elim z [ [] ↦ ⊥ | c ∷ v ↦ ⊤ ] in subst P e tt
 token_last x t more (a_text u e k) n = ap (λ z. ends_run (x ++ z)) e ∙ (ends_append x 0x22 u ∙ string_last u k)
 
-pub stop_ends : {X : Type 0} (m : Meaning X) (at : ℕ) (x t more : List ℕ) (h : Halt) (o : Pushed X) → IsPushed m at (x ++ (t ++ more)) (push_then (λ z. stopped z h) o) → Ends m at (x ++ t) more (push_then (λ z. stopped z h) o)
+pub stop_ends : {X : Type 0} (m : Meaning X) (at : ℕ) (x t more : List ℕ) (h : SpanStop) (o : Pushed X) → IsPushed m at (x ++ (t ++ more)) (push_then (λ z. stopped z h) o) → Ends m at (x ++ t) more (push_then (λ z. stopped z h) o)
 stop_ends m at x t more h (further f) k = subst (λ z. IsStop m at z f h) (sym (append_assoc x t more)) k
 stop_ends m at x t more h (stopped f i) k = subst (λ z. IsStop m at z f i) (sym (append_assoc x t more)) k
 
@@ -293,11 +293,11 @@ abbrev pub IsStopped : {X : Type 0} → Pushed X → Type 0
 IsStopped (further k) = ⊥
 IsStopped (stopped k i) = ⊤
 
-then_stops : {X : Type 0} (i : Halt) (o : Pushed X) → IsStopped (push_then (λ z. stopped z i) o)
+then_stops : {X : Type 0} (i : SpanStop) (o : Pushed X) → IsStopped (push_then (λ z. stopped z i) o)
 then_stops i (further k) = tt
 then_stops i (stopped k j) = tt
 
-pub right_stops : {X : Type 0} (m : Meaning X) (g : Form X) (i : Halt) (q : Pushed X) → IsStopped (push_then (λ k. merged m (further k) (stopped g i)) q)
+pub right_stops : {X : Type 0} (m : Meaning X) (g : Form X) (i : SpanStop) (q : Pushed X) → IsStopped (push_then (λ k. merged m (further k) (stopped g i)) q)
 right_stops m g i (further k) = then_stops i (push_all m (pieces_of g) k)
 right_stops m g i (stopped k j) = tt
 

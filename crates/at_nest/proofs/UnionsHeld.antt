@@ -3,11 +3,11 @@ use Rattle.std.proofs.Common.{◌≡◌, ℕ, Option, Some, None, List, [], ◌+
 use Rattle.at_lex.specs.Spans.{end_of}
 use Rattle.at_lex.specs.declared.tokens.Start.{Start}
 use Rattle.at_nest.specs.declared.bodies.Body.{Body}
-use Rattle.at_nest.specs.declared.pieces.Halt.{Halt as CodeHalt}
+use Rattle.at_nest.specs.declared.pieces.SpanStop.{SpanStop as CodeHalt}
 use Rattle.at_nest.specs.declared.variants.Variant.{Variant}
 use Rattle.at_nest.specs.declared.variants.Variant.TheVariants.{AllLead, Whole, Broken}
 use Rattle.at_nest.specs.Tree.{Tree}
-use Rattle.at_nest.specs.Levels.{Form, Pushed, further, stopped, Halt, push_then}
+use Rattle.at_nest.specs.Levels.{Form, Pushed, further, stopped, SpanStop, push_then}
 use Rattle.at_nest.specs.Unions.{IsToken, Ends, merged, variant_of}
 use Rattle.at_nest.specs.Variants.{IsAllLead, IsLeadEnd, IsBroken, IsVariant}
 use Rattle.at_nest.specs.Shown.{Shown, shown}
@@ -101,7 +101,7 @@ module _ {X : Type 0} (IsKept : X → Content → Type 0) where
   together_broken None s at w u lead kept last (stopped k j) h q l = absurd q
   together_broken (Some i) s at w u lead kept last (further k) h q l = absurd q
 
-  pub stops_behind : (g : Form Tree) (i : Halt) (o : Pushed Tree) → push_then (λ q. merged free (further q) (stopped g i)) o ≡ push_then (λ q. stopped q i) (push_then (λ q. merged free (further q) (further g)) o)
+  pub stops_behind : (g : Form Tree) (i : SpanStop) (o : Pushed Tree) → push_then (λ q. merged free (further q) (stopped g i)) o ≡ push_then (λ q. stopped q i) (push_then (λ q. merged free (further q) (further g)) o)
   stops_behind g i (further k) = refl
   stops_behind g i (stopped k j) = refl
 

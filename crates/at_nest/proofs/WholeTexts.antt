@@ -6,7 +6,7 @@ use Rattle.at_lex.specs.Spans.{AreRun}
 use Rattle.at_lex.specs.declared.tokens.Start.{Start}
 use Rattle.at_lex.specs.declared.tokens.Start.TheVariants.{Out}
 use Rattle.at_nest.specs.declared.finishing.NestEnd.{NestEnd}
-use Rattle.at_nest.specs.declared.pieces.Halt.{Halt as CodeHalt}
+use Rattle.at_nest.specs.declared.pieces.SpanStop.{SpanStop as CodeHalt}
 use Rattle.at_nest.specs.Tree.{Tree}
 use Rattle.at_nest.specs.Borders.{are_apart}
 use Rattle.at_nest.specs.Levels.{Form, Pushed, further, stopped, push_then}

@@ -6,7 +6,7 @@ use Rattle.at_nest.specs.Syntax.{JsonText}
 use Rattle.at_nest.specs.States.{State, value, accepts}
 use Rattle.at_nest.specs.Forms.{Meaning, fold_of, Piece, mark, quoted, entry}
 use Rattle.at_nest.specs.Walks.{value_kind, text_kind, next, walks, Walk, reached, refused}
-use Rattle.at_nest.specs.Levels.{pieces_of, Pushed, further, stopped, Halt, Within, at_first, in_run, in_text}
+use Rattle.at_nest.specs.Levels.{pieces_of, Pushed, further, stopped, SpanStop, Within, at_first, in_run, in_text}
 
 pub data Answer (X : Type 0) : Type 0 where
   folded : X → Answer X
@@ -37,7 +37,7 @@ halt_place t at_first i j = i
 halt_place t in_run i j = choose (next t value_kind) i j
 halt_place t in_text i j = choose (next t text_kind) i j
 
-abbrev pub stop_by : {X : Type 0} → Halt → Walk → Answer X
+abbrev pub stop_by : {X : Type 0} → SpanStop → Walk → Answer X
 stop_by h (refused k) = syntax k
 stop_by h (reached t) = syntax (halt_place t h.kind h.item h.place)
 

@@ -21,7 +21,7 @@ use Rattle.at_nest.specs.declared.pieces.NamedValue.{NamedValue}
 use Rattle.at_nest.specs.declared.pieces.MemberRow.{MemberRow}
 use Rattle.at_nest.specs.declared.pieces.Awaited.{Awaited}
 use Rattle.at_nest.specs.declared.pieces.Closers.{Closers}
-use Rattle.at_nest.specs.declared.pieces.Halt.{Halt as CodeHalt}
+use Rattle.at_nest.specs.declared.pieces.SpanStop.{SpanStop as CodeHalt}
 use Rattle.at_nest.specs.declared.pieces.Within.{Within as CodeWithin}
 use Rattle.at_nest.specs.declared.pieces.Within.TheVariants.{First as FirstByte, Run as RunByte, Text as TextByte}
 use Rattle.at_nest.specs.Tree.{Tree, literal, number, text, array as array_tree, object as object_tree, Members}
@@ -30,7 +30,7 @@ use Rattle.at_nest.specs.Folds.{trees}
 use Rattle.at_nest.specs.Forms.{Meaning, Mark, Piece, closes, mark, comma, colon, quoted, entry}
 use Rattle.at_nest.specs.Levels.{Mode, at_items, at_value, at_after, at_members, at_name, at_colon, at_member}
 use Rattle.at_nest.specs.Levels.{at_further, Level, Form, values_in, pairs_in, marks, pieces_of, push, push_all, Within}
-use Rattle.at_nest.specs.Levels.{at_first, in_run, in_text, Halt, Pushed, further, stopped}
+use Rattle.at_nest.specs.Levels.{at_first, in_run, in_text, SpanStop, Pushed, further, stopped}
 use Rattle.at_nest.specs.Stops.{AreLevels}
 use Rattle.at_nest.specs.MemberMarks.{ValueMark, mark_of, tree_of, MemberMarks, marks_behind_comma, member_marks}
 use Rattle.at_nest.specs.MemberMarks.{member_pairs}
@@ -57,13 +57,13 @@ pub data Content : Type 0 where
   run : List Tree → Content
 
 -- an atom of the algebra's own that is what it makes of the tree, or of the trees
-abbrev pub Kept : {X : Type 0} → (X → Type 0) → (X → Tree → Type 0) → (X → List Tree → Type 0) → X → Content → Type 0
-Kept IsOwn IsFold IsRun x (one t) = IsOwn x × IsFold x t
-Kept IsOwn IsFold IsRun x (run ts) = IsOwn x × IsRun x ts
+abbrev pub OwnAtom : {X : Type 0} → (X → Type 0) → (X → Tree → Type 0) → (X → List Tree → Type 0) → X → Content → Type 0
+OwnAtom IsOwn IsFold IsRun x (one t) = IsOwn x × IsFold x t
+OwnAtom IsOwn IsFold IsRun x (run ts) = IsOwn x × IsRun x ts
 
 -- an atom of this algebra's that stands for the tree, or the trees
 abbrev pub IsAtomOf : {A X : Type 0} → Ghosts A X → A → X → Content → Type 0
-IsAtomOf algebras algebra = Kept (algebras.is_own algebra) (algebras.is_fold algebra) (algebras.is_run algebra)
+IsAtomOf algebras algebra = OwnAtom (algebras.is_own algebra) (algebras.is_fold algebra) (algebras.is_run algebra)
 
 abbrev pub array_mode : ArrayState → Mode
 array_mode array.Empty = at_items
@@ -114,7 +114,7 @@ within_of FirstByte = at_first
 within_of RunByte = in_run
 within_of TextByte = in_text
 
-abbrev pub halt_of : CodeHalt → Halt
+abbrev pub halt_of : CodeHalt → SpanStop
 halt_of h = record { kind = within_of h.within; item = h.item; place = h.place }
 
 -- the bytes w stand at `base` in all bytes

@@ -110,18 +110,18 @@ pub data Within : Type 0 where
   at_first in_run in_text : Within
 
 -- where the item begins, and the byte that no bytes before make viable
-pub record Halt : Type 0 where
+pub record SpanStop : Type 0 where
   pub kind : Within
   pub item : ℕ
   pub place : ℕ
 
-abbrev pub plain_halt : ℕ → Halt
+abbrev pub plain_halt : ℕ → SpanStop
 plain_halt i = record { kind = at_first; item = i; place = i }
 
 -- a form, or a form and where what is behind it cannot go on
 pub data Pushed (X : Type 0) : Type 0 where
   further : Form X → Pushed X
-  stopped : Form X → Halt → Pushed X
+  stopped : Form X → SpanStop → Pushed X
 
 abbrev pub with_mark : {X : Type 0} → List (Piece X) → List (Level X) → Level X → Mark X → Option Mode → Pushed X
 with_mark outer ls l x None = stopped (record { outer = outer; levels = l ∷ ls }) (plain_halt (mark_at x))

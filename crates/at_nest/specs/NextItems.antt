@@ -8,7 +8,7 @@ use Rattle.at_nest.specs.declared.finishing.NestEnd.{NestEnd}
 use Rattle.at_nest.specs.declared.finishing.NestEnd.TheVariants.{Syntax, Ended}
 use Rattle.at_nest.specs.declared.pieces.Piece.{Piece}
 use Rattle.at_nest.specs.declared.pieces.Piece.TheVariants.{Text, Value}
-use Rattle.at_nest.specs.declared.pieces.Halt.{Halt}
+use Rattle.at_nest.specs.declared.pieces.SpanStop.{SpanStop}
 use Rattle.at_nest.specs.declared.pieces.Within.{Within}
 use Rattle.at_nest.specs.declared.pieces.Within.TheVariants as within
 use Rattle.at_nest.specs.Shown.{Held, Shown, first_of_piece, is_value_piece, from_of, takes_name, takes_value}
@@ -71,7 +71,7 @@ abbrev pub answer_of : {X : Type 0} → Shown X → Result X NestEnd
 answer_of s = answer_by (next_of s) s.outer
 
 -- where a text stops that stops behind its items
-abbrev pub stop_of : Result Next ℕ → Halt → NestEnd
+abbrev pub stop_of : Result Next ℕ → SpanStop → NestEnd
 stop_of (Err i) h = Syntax i
 stop_of (Ok n) h = if takes h.within n then Syntax h.place else Syntax h.item
 

@@ -2,7 +2,7 @@
 -- values at once state their readers in these words; proofs/Passed has their lemmas. The text is the bytes w, which
 -- stand at the offset `base`; places are counted from there.
 use Rattle.std.specs.Prelude.{ℕ, ◌+◌, ◌≤◌, List, [], ◌∷◌, ◌++◌}
-use Rattle.at_fixed.specs.Kept.{between}
+use Rattle.at_fixed.specs.NumberSoFar.{between}
 use Rattle.at_lex.specs.Strings.{Character}
 use Rattle.at_lex.specs.Spans.{AreSpaces}
 use Rattle.at_nest.specs.Tree.{Tree, Trees, no_trees, tree_and, Members, no_members, member_and, Spells, SpellsName}

@@ -23,7 +23,7 @@ use Rattle.at_nest.specs.declared.levels.Step.TheVariants.{On, Refused}
 use Rattle.at_nest.specs.declared.pieces.Piece.{Piece}
 use Rattle.at_nest.specs.declared.pieces.Piece.TheVariants.{Closes, Comma, Colon, Text, Value, Row as RowPiece}
 use Rattle.at_nest.specs.declared.pieces.Piece.TheVariants.{Members as MembersPiece, Closers as ClosersPiece}
-use Rattle.at_nest.specs.declared.pieces.Halt.{Halt}
+use Rattle.at_nest.specs.declared.pieces.SpanStop.{SpanStop}
 use Rattle.at_nest.specs.declared.pieces.Within.TheVariants.{First}
 use Rattle.at_nest.specs.declared.bodies.Body.{Body}
 
@@ -152,9 +152,9 @@ show_as outer levels = record { outer = outer; levels = levels }
 
 -- what is kept behind an item, and where the span stops, if it does
 abbrev pub Added : Type 0 → Type 0
-Added X = Shown X × Option Halt
+Added X = Shown X × Option SpanStop
 
-abbrev pub stop_at : ℕ → Halt
+abbrev pub stop_at : ℕ → SpanStop
 stop_at i = record { within = First; item = i; place = i }
 
 abbrev pub kept_outside : {X : Type 0} → List (Piece X) → Piece X → Added X

@@ -11,7 +11,7 @@ use Rattle.at_lex.specs.declared.tokens.Start.TheVariants.{Out}
 use Rattle.at_nest.specs.Syntax.{JsonText}
 use Rattle.at_nest.specs.Borders.{are_apart}
 use Rattle.at_nest.specs.Forms.{Meaning, Formed}
-use Rattle.at_nest.specs.Levels.{Level, Form, pieces_of, first_mode, moves, Within, at_first, in_run, in_text, Halt}
+use Rattle.at_nest.specs.Levels.{Level, Form, pieces_of, first_mode, moves, Within, at_first, in_run, in_text, SpanStop}
 use Rattle.at_nest.specs.Levels.{Pushed, further, stopped}
 
 -- the byte at the offset i of the bytes w, which stand at `at`, is not viable, whatever stands before them that leads
@@ -49,7 +49,7 @@ IsBegun in_run u = (b : ℕ) × (v : List ℕ) × (u ≡ b ∷ v) × IsRunBegun 
 IsBegun in_text u = (b : ℕ) × (v : List ℕ) × (u ≡ b ∷ v) × IsTextBegun u
 
 -- the form is of the bytes before an item, in which or at whose end a byte stands that no bytes before make viable
-pub record IsStop {X : Type 0} (m : Meaning X) (at : ℕ) (w : List ℕ) (f : Form X) (h : Halt) : Type 0 where
+pub record IsStop {X : Type 0} (m : Meaning X) (at : ℕ) (w : List ℕ) (f : Form X) (h : SpanStop) : Type 0 where
   pub front : List ℕ
   pub spaces : List ℕ
   pub begun : List ℕ

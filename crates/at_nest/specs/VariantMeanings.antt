@@ -2,7 +2,7 @@
 use Rattle.std.specs.Prelude.{◌≡◌, ℕ, ◌+◌, Option, List, ◌++◌, length}
 use Rattle.at_lex.specs.Spans.{end_of}
 use Rattle.at_lex.specs.declared.tokens.Start.{Start}
-use Rattle.at_nest.specs.declared.pieces.Halt.{Halt}
+use Rattle.at_nest.specs.declared.pieces.SpanStop.{SpanStop}
 use Rattle.at_nest.specs.declared.variants.Variant.{Variant}
 use Rattle.at_nest.specs.declared.variants.Variant.TheVariants.{AllLead, Whole, Broken}
 use Rattle.at_nest.specs.Tree.{Tree}
@@ -28,7 +28,7 @@ module _ {X : Type 0} (IsKept : X → Content → Type 0) where
     pub end_is : end ≡ end_of s w
 
   -- they are a lead, the items that are kept, and an item at which no bytes before them let the span go on
-  pub record HoldsBroken (s : Start) (at : ℕ) (w : List ℕ) (lead : ℕ) (kept : Shown X) (halt : Halt) : Type 0 where
+  pub record HoldsBroken (s : Start) (at : ℕ) (w : List ℕ) (lead : ℕ) (kept : Shown X) (halt : SpanStop) : Type 0 where
     pub first : List ℕ
     pub form : Form Tree
     pub is_broken : IsBroken free s at w first form (halt_of halt)
@@ -53,7 +53,7 @@ module _ {X : Type 0} (IsKept : X → Content → Type 0) where
       × IsToken v more
 
   -- behind the first the token, and behind it the second
-  abbrev pub Meets : List ℕ → Shown X → Shown X → Shown X → Option Halt → ℕ → List ℕ → Type 0
+  abbrev pub Meets : List ℕ → Shown X → Shown X → Shown X → Option SpanStop → ℕ → List ℕ → Type 0
   Meets bytes old behind new r at v = (base : ℕ) (w : List ℕ) (f g : Form Tree) (more : List ℕ) → IsPartOf bytes base w
       → IsShown IsKept base w old f → IsShown IsKept base w behind g → AreLevels g.levels → IsPlaced base w at v
       → IsToken v more

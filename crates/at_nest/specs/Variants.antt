@@ -5,7 +5,7 @@ use Rattle.at_lex.specs.declared.tokens.Start.{Start}
 use Rattle.at_lex.specs.declared.tokens.Start.TheVariants.{Out, InString, InEscape}
 use Rattle.at_nest.specs.Borders.{ends_run, are_apart}
 use Rattle.at_nest.specs.Forms.{Meaning}
-use Rattle.at_nest.specs.Levels.{Form, Halt}
+use Rattle.at_nest.specs.Levels.{Form, SpanStop}
 use Rattle.at_nest.specs.Stops.{IsForm, IsStop}
 
 -- one variant of a fragment: a span that is all lead, or its lead with a form and what is pending, or its lead with a
@@ -13,7 +13,7 @@ use Rattle.at_nest.specs.Stops.{IsForm, IsStop}
 pub data Variant (X : Type 0) : Type 0 where
   all_lead : List ℕ → Variant X
   whole : List ℕ → Form X → List ℕ → Variant X
-  broken : List ℕ → Form X → Halt → Variant X
+  broken : List ℕ → Form X → SpanStop → Variant X
 
 -- the bytes are the beginning of a lead that doesn't end in them
 abbrev pub IsAllLead : Start → List ℕ → Type 0
@@ -43,7 +43,7 @@ pub record IsWhole {X : Type 0} (m : Meaning X) (s : Start) (at : ℕ) (w u : Li
   pub apart : are_apart middle v ≡ true
   pub ended : v ≡ [] → ends_run middle ≡ false
 
-pub record IsBroken {X : Type 0} (m : Meaning X) (s : Start) (at : ℕ) (w u : List ℕ) (f : Form X) (h : Halt)
+pub record IsBroken {X : Type 0} (m : Meaning X) (s : Start) (at : ℕ) (w u : List ℕ) (f : Form X) (h : SpanStop)
     : Type 0 where
   pub more : List ℕ
   pub split : w ≡ u ++ more

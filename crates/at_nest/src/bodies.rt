@@ -26,7 +26,7 @@ use crate::levels::{
 };
 use crate::member_rows::{add_members, keep_awaited};
 use crate::open_levels::Levels;
-use crate::pieces::{Closers, Halt, Piece, Row, awaited_member, first_byte};
+use crate::pieces::{Closers, Piece, Row, SpanStop, awaited_member, first_byte};
 use at_lex::{Bracket, TokenKind, units};
 use at_text::{Memory, Span};
 use std::alloc::Global;
@@ -188,7 +188,7 @@ impl<T: Drop> Body<T> {
 
     /// Puts a level back behind what came next at the offset; where that is refused, the span stops there.
     #[inline(always)]
-    pub fn put(&mut self, step: Step<T>, at: u32) -> Result<Option<Halt>, Memory>
+    pub fn put(&mut self, step: Step<T>, at: u32) -> Result<Option<SpanStop>, Memory>
         ensures { IfOk result (λ r. (old : Held T) (o : Option (Held T)) → IsStep old o step
             → (shown self.new, r) ≡ put_back (shown self.old).outer (shown self.old).levels at old o) }
     {
@@ -206,7 +206,7 @@ impl<T: Drop> Body<T> {
 
     /// Puts an item behind those of the outermost level.
     #[inline(always)]
-    pub fn keep(&mut self, piece: Piece<T>) -> Result<Option<Halt>, Memory>
+    pub fn keep(&mut self, piece: Piece<T>) -> Result<Option<SpanStop>, Memory>
         requires { (shown self.old).levels ≡ [] }
         ensures { IfOk result (λ r. (shown self.new, r) ≡ kept_outside (shown self.old).outer piece) }
     {
@@ -248,7 +248,7 @@ impl<T: Drop> Body<T> {
     }
 
     #[inline(always)]
-    pub fn comma(&mut self, alloc: Global, at: u32) -> Result<Option<Halt>, Memory>
+    pub fn comma(&mut self, alloc: Global, at: u32) -> Result<Option<SpanStop>, Memory>
         ensures { IfOk result (λ r. (shown self.new, r) ≡ comma_added at (shown self.old).outer
             (shown self.old).levels) }
     {
@@ -259,7 +259,7 @@ impl<T: Drop> Body<T> {
     }
 
     #[inline(always)]
-    pub fn colon(&mut self, alloc: Global, at: u32) -> Result<Option<Halt>, Memory>
+    pub fn colon(&mut self, alloc: Global, at: u32) -> Result<Option<SpanStop>, Memory>
         ensures { IfOk result (λ r. (shown self.new, r) ≡ colon_added at (shown self.old).outer
             (shown self.old).levels) }
     {
@@ -278,7 +278,7 @@ fn begin_row<A: Algebra>(
     comma: u32,
     from: u32,
     atom: A::Atom,
-) -> Result<Option<Halt>, Memory>
+) -> Result<Option<SpanStop>, Memory>
     requires outside { (shown body.old).levels ≡ [] }
     requires own { A.is_own algebra.now atom }
     ensures { IfOk result (λ r.
@@ -301,7 +301,7 @@ fn lengthen_row<A: Algebra>(
     algebra: &A,
     row: Row<A::Atom>,
     atom: A::Atom,
-) -> Result<Option<Halt>, Memory>
+) -> Result<Option<SpanStop>, Memory>
     requires outside { (shown body.old).levels ≡ [] }
     requires items { All (A.is_own algebra.now) row.items.items }
     requires own { A.is_own algebra.now atom }
@@ -329,7 +329,7 @@ fn keep_behind<A: Algebra>(
     comma: u32,
     from: u32,
     atom: A::Atom,
-) -> Result<Option<Halt>, Memory>
+) -> Result<Option<SpanStop>, Memory>
     requires outside { (shown body.old).levels ≡ [] }
     requires held { IsOfItems (IsAtomOf A.Algebra algebra.now) (shown body.old) }
     requires own { A.is_own algebra.now atom }
@@ -355,7 +355,7 @@ fn keep_other<A: Algebra>(
     algebra: &A,
     from: u32,
     atom: A::Atom,
-) -> Result<Option<Halt>, Memory>
+) -> Result<Option<SpanStop>, Memory>
     requires outside { (shown body.old).levels ≡ [] }
     requires held { IsOfItems (IsAtomOf A.Algebra algebra.now) (shown body.old) }
     requires own { A.is_own algebra.now atom }
@@ -380,7 +380,7 @@ fn keep_value<A: Algebra>(
     algebra: &A,
     from: u32,
     atom: A::Atom,
-) -> Result<Option<Halt>, Memory>
+) -> Result<Option<SpanStop>, Memory>
     requires outside { (shown body.old).levels ≡ [] }
     requires held { IsOfItems (IsAtomOf A.Algebra algebra.now) (shown body.old) }
     requires own { A.is_own algebra.now atom }
@@ -401,7 +401,7 @@ pub fn read_value<A: Algebra>(
     algebra: &A,
     from: u32,
     atom: A::Atom,
-) -> Result<Option<Halt>, Memory>
+) -> Result<Option<SpanStop>, Memory>
     requires held { IsOfItems (IsAtomOf A.Algebra algebra.now) (shown body.old) }
     requires own { A.is_own algebra.now atom }
     ensures { IfOk result (λ r. PushesValue (IsAtomOf A.Algebra algebra.now)
@@ -421,7 +421,7 @@ fn keep_text<A: Algebra>(
     algebra: &A,
     span: Span,
     atom: A::Atom,
-) -> Result<Option<Halt>, Memory>
+) -> Result<Option<SpanStop>, Memory>
     requires { (shown body.old).levels ≡ [] }
     ensures { IfOk result (λ r. PushesKeptText (IsAtomOf A.Algebra algebra.now)
         (shown body.old) (shown body.new) r span atom) }
@@ -440,7 +440,7 @@ pub fn read_text<A: Algebra>(
     algebra: &A,
     text: &[u8],
     at: u32,
-) -> Result<Option<Halt>, Memory>
+) -> Result<Option<SpanStop>, Memory>
     requires whole { JsonString text.now }
     requires fits { at + length text.now ≤ 2 ^ 28 }
     requires held { IsOfItems (IsAtomOf A.Algebra algebra.now) (shown body.old) }
@@ -477,7 +477,7 @@ fn keep_close<A: Algebra>(
     algebra: &A,
     bracket: Bracket,
     at: u32,
-) -> Result<Option<Halt>, Memory>
+) -> Result<Option<SpanStop>, Memory>
     requires outside { (shown body.old).levels ≡ [] }
     ensures { IfOk result (λ r. Pushes (IsAtomOf A.Algebra algebra.now)
         (shown body.old) (shown body.new) r (closing_piece bracket at)) }
@@ -500,7 +500,7 @@ pub fn close<A: Algebra>(
     algebra: &A,
     bracket: Bracket,
     at: u32,
-) -> Result<Option<Halt>, Memory>
+) -> Result<Option<SpanStop>, Memory>
     requires { IsOfItems (IsAtomOf A.Algebra algebra.now) (shown body.old) }
     ensures { IfOk result (λ r. Pushes (IsAtomOf A.Algebra algebra.now)
         (shown body.old) (shown body.new) r (closing_piece bracket at)) }
@@ -524,7 +524,7 @@ fn put_row<A: Algebra>(
     algebra: &A,
     level: Level<A::Atom>,
     row: Row<A::Atom>,
-) -> Result<Option<Halt>, Memory>
+) -> Result<Option<SpanStop>, Memory>
     requires level { AreOwn (A.is_own algebra.now) (held_of level) }
     requires row { All (A.is_own algebra.now) row.items.items }
     ensures { IfOk result (λ r. PutsRow (IsAtomOf A.Algebra algebra.now)
@@ -545,7 +545,7 @@ fn add_row<A: Algebra>(
     alloc: Global,
     algebra: &A,
     row: Row<A::Atom>,
-) -> Result<Option<Halt>, Memory>
+) -> Result<Option<SpanStop>, Memory>
     requires held { IsOfItems (IsAtomOf A.Algebra algebra.now) (shown body.old) }
     requires row { All (A.is_own algebra.now) row.items.items }
     ensures { IfOk result (λ r. PushesRow (IsAtomOf A.Algebra algebra.now) (shown body.old) (shown body.new) r row) }
@@ -565,7 +565,7 @@ fn close_all<A: Algebra>(
     alloc: Global,
     algebra: &A,
     closers: Closers,
-) -> Result<Option<Halt>, Memory>
+) -> Result<Option<SpanStop>, Memory>
     requires held { IsOfItems (IsAtomOf A.Algebra algebra.now) (shown body.old) }
     ensures { IfOk result (λ r. PushesClosers (IsAtomOf A.Algebra algebra.now)
         (shown body.old) (shown body.new) r closers) }
@@ -586,7 +586,7 @@ fn add<A: Algebra>(
     algebra: &A,
     bytes: &[u8],
     piece: Piece<A::Atom>,
-) -> Result<Option<Halt>, Memory>
+) -> Result<Option<SpanStop>, Memory>
     requires fits { length bytes.now ≤ 2 ^ 28 }
     requires held { CanAdd (IsAtomOf A.Algebra algebra.now) bytes.now (shown body.old) piece }
     ensures { IfOk result (λ r. Adds (IsAtomOf A.Algebra algebra.now)
@@ -613,7 +613,7 @@ fn add_text<A: Algebra>(
     bytes: &[u8],
     span: Span,
     atom: A::Atom,
-) -> Result<Option<Halt>, Memory>
+) -> Result<Option<SpanStop>, Memory>
     requires fits { length bytes.now ≤ 2 ^ 28 }
     requires held { CanAdd (IsAtomOf A.Algebra algebra.now) bytes.now (shown body.old) (Piece.Text span atom) }
     ensures { IfOk result (λ r. Adds (IsAtomOf A.Algebra algebra.now)
@@ -641,7 +641,7 @@ pub fn join<A: Algebra>(
     algebra: &A,
     bytes: &[u8],
     behind: Body<A::Atom>,
-) -> Result<Option<Halt>, Memory>
+) -> Result<Option<SpanStop>, Memory>
     requires fits { length bytes.now ≤ 2 ^ 28 }
     requires held { CanJoin (IsAtomOf A.Algebra algebra.now) bytes.now (shown body.old) (shown behind) }
     ensures { IfOk result (λ r. Joins (IsAtomOf A.Algebra algebra.now)

@@ -23,7 +23,7 @@ use crate::bodies::{Body, read_value};
 use crate::fragments::Fragment;
 use crate::levels::Open;
 use crate::open_levels::{Levels, Stretch};
-use crate::pieces::{Halt, Piece, Within};
+use crate::pieces::{Piece, SpanStop, Within};
 use crate::tokens::stop_in;
 use crate::variants::{Variant, join_items};
 use at_lex::{RunEnd, Start, check_run, take_text};
@@ -229,7 +229,7 @@ fn answer_of<T: Drop>(body: Body<T>) -> Result<T, NestEnd>
 }
 
 /// Where a text stops whose items are these, and which stops behind them.
-fn stop_of<T: Drop>(body: &Body<T>, halt: Halt) -> NestEnd
+fn stop_of<T: Drop>(body: &Body<T>, halt: SpanStop) -> NestEnd
     ensures { result ≡ stop_behind (next_end (shown body.now)) halt }
 {
     match next_of(body) {
@@ -263,7 +263,7 @@ enum Tail {
     /// A whole literal or number.
     Value,
     /// A run or a string that stops before its end.
-    Stops(Halt),
+    Stops(SpanStop),
     /// The beginning of a run or a string.
     Open(Within),
 }

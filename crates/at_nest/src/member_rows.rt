@@ -11,7 +11,7 @@ ghost use Rattle.at_nest.specs.KeptItems.{PutsMembers};
 use crate::algebra::{Algebra, Member};
 use crate::bodies::Body;
 use crate::levels::{ArrayLevel, Level, ObjectLevel, ObjectState, Step, with_value};
-use crate::pieces::{Awaited, Halt, MemberRow, NamedValue, Piece};
+use crate::pieces::{Awaited, MemberRow, NamedValue, Piece, SpanStop};
 use at_lex::units;
 use at_text::Memory;
 use std::alloc::Global;
@@ -22,7 +22,7 @@ fn begin_members<T: Drop>(
     alloc: Global,
     member: Awaited,
     value: T,
-) -> Result<Option<Halt>, Memory>
+) -> Result<Option<SpanStop>, Memory>
     requires { (shown body.old).levels ≡ [] }
     ensures { IfOk result (λ r. BeginsMembers (shown body.old) (shown body.new, r) member value) }
 {
@@ -43,7 +43,7 @@ fn lengthen_members<T: Drop>(
     body: &mut Body<T>,
     row: MemberRow<T>,
     member: NamedValue<T>,
-) -> Result<Option<Halt>, Memory>
+) -> Result<Option<SpanStop>, Memory>
     requires { (shown body.old).levels ≡ [] }
     ensures { IfOk result (λ r. LengthensMembers (shown body.old) (shown body.new, r) row member) }
 {
@@ -67,7 +67,7 @@ fn keep_member<A: Algebra>(
     algebra: &A,
     member: Awaited,
     value: A::Atom,
-) -> Result<Option<Halt>, Memory>
+) -> Result<Option<SpanStop>, Memory>
     requires { (shown body.old).levels ≡ [] }
     ensures { IfOk result (λ r.
         PushesMember (IsAtomOf A.Algebra algebra.now)
@@ -94,7 +94,7 @@ pub fn keep_awaited<A: Algebra>(
     algebra: &A,
     member: Awaited,
     value: A::Atom,
-) -> Result<Option<Halt>, Memory>
+) -> Result<Option<SpanStop>, Memory>
     requires outside { (shown body.old).levels ≡ [] }
     requires awaits { Awaits (shown body.old).outer member }
     ensures { IfOk result (λ r. PushesAwaited (IsAtomOf A.Algebra algebra.now)
@@ -151,7 +151,7 @@ fn refuse_members<A: Algebra>(
     bytes: &[u8],
     level: ArrayLevel<A::Atom>,
     row: MemberRow<A::Atom>,
-) -> Result<Option<Halt>, Memory>
+) -> Result<Option<SpanStop>, Memory>
     requires fits { length bytes.now ≤ 2 ^ 28 }
     requires level { AreOwn (A.is_own algebra.now) (held_of (Level.Array level)) }
     requires comma { IsBehindComma (held_of (Level.Array level)) }
@@ -176,7 +176,7 @@ fn put_members<A: Algebra>(
     bytes: &[u8],
     level: Level<A::Atom>,
     row: MemberRow<A::Atom>,
-) -> Result<Option<Halt>, Memory>
+) -> Result<Option<SpanStop>, Memory>
     requires fits { length bytes.now ≤ 2 ^ 28 }
     requires level { AreOwn (A.is_own algebra.now) (held_of level) }
     requires comma { IsBehindComma (held_of level) }
@@ -208,7 +208,7 @@ pub fn add_members<A: Algebra>(
     algebra: &A,
     bytes: &[u8],
     row: MemberRow<A::Atom>,
-) -> Result<Option<Halt>, Memory>
+) -> Result<Option<SpanStop>, Memory>
     requires fits { length bytes.now ≤ 2 ^ 28 }
     requires held { IsOfItems (IsAtomOf A.Algebra algebra.now) (shown body.old) }
     requires row { HasMembers (IsAtomOf A.Algebra algebra.now) bytes.now row }

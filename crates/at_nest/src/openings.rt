@@ -8,7 +8,7 @@ ghost use Rattle.at_nest.specs.Reading.{ReadsAhead};
 
 use crate::algebra::{Algebra, Attempt};
 use crate::bodies::{Body, read_value};
-use crate::pieces::Halt;
+use crate::pieces::SpanStop;
 use at_lex::Bracket;
 use at_text::Memory;
 use std::alloc::Global;
@@ -55,7 +55,7 @@ impl Tries {
 #[derive(Clone, Copy)]
 pub struct Read {
     pub to: u32,
-    pub halt: Option<Halt>,
+    pub halt: Option<SpanStop>,
 }
 
 /// Behind the bracket alone.

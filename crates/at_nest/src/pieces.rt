@@ -259,17 +259,17 @@ pub enum Within {
 
 /// Where a span stops: its item, and the first byte that no bytes before the span can make viable.
 #[derive(Clone, Copy, Debug, PartialEq, Eq)]
-pub struct Halt {
+pub struct SpanStop {
     pub within: Within,
     pub item: u32,
     pub place: u32,
 }
 
 /// A stop at an item's first byte.
-pub fn first_byte(at: u32) -> Halt
+pub fn first_byte(at: u32) -> SpanStop
     ensures { result ≡ stop_at at }
 {
-    Halt {
+    SpanStop {
         within: Within::First,
         item: at,
         place: at,

@@ -10,20 +10,20 @@ ghost use Rattle.at_nest.specs.Reading.{stop_within, within_from, Reads, ReadsTo
 
 use crate::algebra::Algebra;
 use crate::bodies::{Body, close, read_text, read_value};
-use crate::pieces::{Halt, Within, first_byte};
+use crate::pieces::{SpanStop, Within, first_byte};
 use at_lex::{RunEnd, Token, TokenKind, check_run, take_text};
 use at_text::Memory;
 use std::alloc::Global;
 
 /// The stop in a string or a run, of which so many bytes read on.
-pub fn stop_in(within: Within, item: u32, len: u32) -> Halt
+pub fn stop_in(within: Within, item: u32, len: u32) -> SpanStop
     requires { item + len < 2 ^ 32 }
     ensures { result ≡ stop_within within item len }
 {
     if len == 0 {
         first_byte(item)
     } else {
-        Halt {
+        SpanStop {
             within,
             item,
             place: item + len,
@@ -49,7 +49,7 @@ fn read_run<A: Algebra>(
     algebra: &A,
     text: &[u8],
     at: u32,
-) -> Result<Option<Halt>, Memory>
+) -> Result<Option<SpanStop>, Memory>
     requires whole { JsonRun text.now }
     requires fits { at + length text.now ≤ 2 ^ 28 }
     requires held { IsOfItems (IsAtomOf A.Algebra algebra.now) (shown body.old) }
@@ -68,7 +68,7 @@ pub fn read_token<A: Algebra>(
     algebra: &A,
     text: &[u8],
     token: Token,
-) -> Result<Option<Halt>, Memory>
+) -> Result<Option<SpanStop>, Memory>
     requires token { (after : List ℕ) × IsLexed token.from text.now after token }
     requires fits { token.from + length text.now ≤ 2 ^ 28 }
     requires held { IsOfItems (IsAtomOf A.Algebra algebra.now) (shown body.old) }
@@ -99,7 +99,7 @@ fn cut_text<A: Algebra>(
     algebra: &A,
     text: &[u8],
     at: u32,
-) -> Result<Option<Halt>, Memory>
+) -> Result<Option<SpanStop>, Memory>
     requires closed { IsText text.now }
     requires fits { at + length text.now ≤ 2 ^ 28 }
     requires held { IsOfItems (IsAtomOf A.Algebra algebra.now) (shown body.old) }
@@ -121,7 +121,7 @@ pub fn cut_run<A: Algebra>(
     algebra: &A,
     text: &[u8],
     at: u32,
-) -> Result<Option<Halt>, Memory>
+) -> Result<Option<SpanStop>, Memory>
     requires begins { begins_run text.now ≡ true }
     requires fits { at + length text.now ≤ 2 ^ 28 }
     requires held { IsOfItems (IsAtomOf A.Algebra algebra.now) (shown body.old) }
@@ -141,7 +141,7 @@ pub fn cut_token<A: Algebra>(
     algebra: &A,
     text: &[u8],
     at: u32,
-) -> Result<Option<Halt>, Memory>
+) -> Result<Option<SpanStop>, Memory>
     requires token { (more : List ℕ) × IsToken text.now more }
     requires fits { at + length text.now ≤ 2 ^ 28 }
     requires held { IsOfItems (IsAtomOf A.Algebra algebra.now) (shown body.old) }

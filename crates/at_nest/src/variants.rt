@@ -11,7 +11,7 @@ ghost use Rattle.at_nest.specs.VariantMeanings.{HoldsVariant, HoldsBehind, CanMe
 use crate::algebra::Algebra;
 use crate::bodies::{Body, join};
 use crate::openings::{Tries, read_opening};
-use crate::pieces::{Halt, first_byte};
+use crate::pieces::{SpanStop, first_byte};
 use crate::tokens::{cut_token, read_token};
 use at_lex::{Item, Lead, Lexer, Pend, Start, TokenKind};
 use at_text::Memory;
@@ -36,7 +36,7 @@ pub enum Variant<T> {
     Broken {
         lead: u32,
         body: Body<T>,
-        halt: Halt,
+        halt: SpanStop,
     },
 }
 
@@ -187,7 +187,7 @@ pub fn join_items<A: Algebra>(
     from: u32,
     to: u32,
     behind: Body<A::Atom>,
-) -> Result<Option<Halt>, Memory>
+) -> Result<Option<SpanStop>, Memory>
     requires fits { length bytes.now ≤ 2 ^ 28 }
     requires order { from ≤ to }
     requires end { to ≤ length bytes.now }

@@ -12,7 +12,7 @@ use Rattle.at_wkt.specs.Geometry.{Geometry, point, line_string, polygon, multi_p
 use Rattle.at_wkt.specs.Meaning.{shape_of, faults_of, empty_shape}
 use Rattle.at_wkt.specs.Answers.{IsPrefixOf, IsPrefixFault}
 use Rattle.at_query.specs.declared.query.queries.Test.TheVariants.{MeetsShape}
-use Rattle.at_fixed.specs.Kept.{between}
+use Rattle.at_fixed.specs.NumberSoFar.{between}
 use Rattle.at_wkt.specs.Readers.{next}
 use Rattle.at_query.specs.Readers.{Ends, Stops, TestMeaning, BoxMeaning, met_box, Box, geometry_meaning, BoxTarget, GeometryTarget, Target}
 use Rattle.at_query.proofs.Parted.{Lives, Begins, When, Tells, when_ends, when_stops, told_ends, told_stops}

@@ -14,7 +14,7 @@ use Rattle.at_wkt.proofs.NumberSteps.{in_number, number_ends, front_viable, next
 use Rattle.at_query.specs.declared.query.coordinates.NumberRead.{NumberRead}
 use Rattle.at_query.specs.Spelling.{Placed, SpellsPlaced}
 use Rattle.at_query.specs.Queries.{ats_of, least_of}
-use Rattle.at_fixed.specs.Kept.{between}
+use Rattle.at_fixed.specs.NumberSoFar.{between}
 use Rattle.at_query.specs.Readers.{Ends, Stops, WordStands, WordBreaks, is_delimiter, number_meaning, Number, number_in}
 use Rattle.at_query.proofs.Parted.{onward_ahead}
 

@@ -19,7 +19,7 @@ use Rattle.at_query.specs.declared.query.queries.Test.{Test}
 use Rattle.at_query.specs.declared.query.queries.Test.TheVariants.{MeetsShape}
 use Rattle.at_query.specs.Spelling.{Spelled, in_box, meets_box, meets, has, SpelledQuery, IsSpelled, verb_text}
 use Rattle.at_query.specs.Queries.{ats_of, lesser, least_of, test_faults, test_of, spelled_fault, query_of, IsQueryOf, IsWrongAt, IsNoQuery}
-use Rattle.at_fixed.specs.Kept.{between}
+use Rattle.at_fixed.specs.NumberSoFar.{between}
 use Rattle.at_wkt.specs.Readers.{next}
 use Rattle.at_query.specs.Readers.{Ends, past, Stops, Breaks, WordStands, WordBreaks, Word, Then, VerbPart, TestMeaning, test_meaning, Tests, tests_of, fault_of, QueryCovers, TestsCover}
 use Rattle.at_query.proofs.Parted.{Lives, Begins, When, rest_onward, when_ends, when_stops, none_stops, word_ends, word_stops, then_covers, then_breaks, first_breaks}

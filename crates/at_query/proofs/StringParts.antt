@@ -7,7 +7,7 @@ use Rattle.at_lex.specs.Strings.{units_of, AreUnitsOf, JsonString}
 use Rattle.at_lex.specs.StringStates.{State, opening, inside, escaped, hex4, hex3, hex2, hex1, closed, step}
 use Rattle.at_lex.proofs.JsonString.{Rest, machine, opening-JsonString}
 use Rattle.at_wkt.proofs.Leads.{part-more, append_cases}
-use Rattle.at_fixed.specs.Kept.{between}
+use Rattle.at_fixed.specs.NumberSoFar.{between}
 use Rattle.at_wkt.specs.Readers.{next}
 use Rattle.at_query.specs.Readers.{Ends, Onward, past, over, Stops, Text}
 use Rattle.at_query.proofs.Parted.{Lives}

@@ -9,7 +9,7 @@ use Rattle.at_query.specs.declared.query.queries.Test.{Test}
 use Rattle.at_query.specs.declared.query.filters.TestRead.{TestRead}
 use Rattle.at_query.specs.Spelling.{Spelled, SpellsTest, SpellsTests}
 use Rattle.at_query.specs.Queries.{lesser}
-use Rattle.at_fixed.specs.Kept.{between}
+use Rattle.at_fixed.specs.NumberSoFar.{between}
 use Rattle.at_query.specs.Readers.{Ends, Onward, past, over, Stops, Covers, Breaks, Behind, Then, TestMeaning, test_meaning, OneTest, Tests, joint_of, tests_of, fault_of, test_in, TestsCover}
 use Rattle.at_query.proofs.Parted.{Lives, then_covers, then_breaks, first_breaks}
 use Rattle.at_query.proofs.BoxParts.{lesser-assoc, lesser-none}

@@ -5,7 +5,7 @@ use Rattle.at_text.specs.declared.faults.Fault.{Fault}
 use Rattle.at_text.specs.Parts.{Exactly, ◌▸◌}
 use Rattle.at_text.specs.Texts.{is_one_of}
 use Rattle.at_text.specs.Faults.{first_of}
-use Rattle.at_fixed.specs.Kept.{between}
+use Rattle.at_fixed.specs.NumberSoFar.{between}
 use Rattle.at_fixed.specs.declared.rounding.Coords.{Coords}
 use Rattle.at_lex.specs.Strings.{Character, units_of, SpellsString}
 use Rattle.at_geom.specs.declared.rectangles.Extent.{Extent}

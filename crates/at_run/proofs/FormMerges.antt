@@ -3,7 +3,7 @@ use Rattle.std.proofs.Common.{◌≡◌, ℕ, List, length, drop, sym, subst}
 use Rattle.std.proofs.lemmas.List.{take_rest}
 use Rattle.at_text.specs.Spans.{StandsAt, AreNeighbours, IsMerged}
 use Rattle.at_text.specs.Texts.{base_of}
-use Rattle.at_wkt.specs.Folding.{Kept, StandsFor}
+use Rattle.at_wkt.specs.Folding.{OwnFold, StandsFor}
 use Rattle.at_wkt.specs.declared.file.fragments.LineFragment.{LineFragment}
 use Rattle.at_geojson.specs.Keeping.{Asked as JsonAsked}
 use Rattle.at_run.specs.declared.forms.Form.TheVariants.{GeoJson}
@@ -16,7 +16,7 @@ use Rattle.at_run.specs.JsonFragments.{StandsForText}
 use Rattle.at_run.specs.Readers.{Asks, of_lines, of_json, StandsInForm}
 
 module _ (asks : Asks) (bytes : List ℕ) where
-  lines_merged : (l r both : LineFragment Gathered) → IsMerged (StandsFor (Kept (IsOwn (of_lines asks)) (IsGathered (of_lines asks)))) bytes l r both → IsMerged (StandsInForm asks) bytes (Lines l) (Lines r) (Lines both)
+  lines_merged : (l r both : LineFragment Gathered) → IsMerged (StandsFor (OwnFold (IsOwn (of_lines asks)) (IsGathered (of_lines asks)))) bytes l r both → IsMerged (StandsInForm asks) bytes (Lines l) (Lines r) (Lines both)
   lines_merged l r both h i j k (ij, jk, end, (form, stands), (again, beside)) = (form, h i j k (ij, jk, end, stands, beside))
 
   json_merged : (l r both : JsonFragment) → IsMerged (StandsForText (of_json asks)) bytes l r both → IsMerged (StandsInForm asks) bytes (Json l) (Json r) (Json both)
@@ -29,9 +29,9 @@ module _ (asks : Asks) (bytes : List ℕ) where
   json_beside l r (i, j, k, (ij, jk, end, (form, stands), (again, beside))) = (i, j, k, (ij, jk, end, stands, beside))
 
 pub merged_lines : (asks : Asks) (asked : Asked) (bytes : List ℕ) (left right : FileFragment) (l r both : LineFragment Gathered) → left ≡ Lines l → right ≡ Lines r → asked ≡ of_lines asks
-    → IsMerged (StandsFor (Kept (IsOwn asked) (IsGathered asked))) bytes l r both → IsMerged (StandsInForm asks) bytes left right (Lines both)
+    → IsMerged (StandsFor (OwnFold (IsOwn asked) (IsGathered asked))) bytes l r both → IsMerged (StandsInForm asks) bytes left right (Lines both)
 merged_lines asks asked bytes left right l r both left_is right_is same h =
-    let A : Asked → Type 0 = λ a. IsMerged (StandsFor (Kept (IsOwn a) (IsGathered a))) bytes l r both in
+    let A : Asked → Type 0 = λ a. IsMerged (StandsFor (OwnFold (IsOwn a) (IsGathered a))) bytes l r both in
     let L : FileFragment → Type 0 = λ x. IsMerged (StandsInForm asks) bytes x (Lines r) (Lines both) in
     let R : FileFragment → Type 0 = λ x. IsMerged (StandsInForm asks) bytes left x (Lines both) in
     subst R (sym right_is) (subst L (sym left_is) (lines_merged asks bytes l r both (subst A same h)))

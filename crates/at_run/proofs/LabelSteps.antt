@@ -14,7 +14,7 @@ use Rattle.at_lex.specs.Strings.{Character, character_text, SpellsString}
 use Rattle.at_lex.proofs.FrontLemmas.{front_all, suffix_is}
 use Rattle.at_wkt.specs.Geometry.{Geometry, point, is_blank, SpellsGeometry, IsLineOf, WktLine}
 use Rattle.at_wkt.proofs.Leads.{append_cases}
-use Rattle.at_fixed.specs.Kept.{between}
+use Rattle.at_fixed.specs.NumberSoFar.{between}
 use Rattle.at_query.specs.Readers.{Text, Stops, past, over}
 use Rattle.at_run.specs.Labels.{SpellsLabelled, LabelledLine}
 use Rattle.at_run.specs.declared.labels.Behind.{Behind}

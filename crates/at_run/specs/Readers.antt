@@ -2,7 +2,7 @@
 -- reader.
 use Rattle.std.specs.Prelude.{◌≡◌, ℕ, List}
 use Rattle.at_fixed.specs.declared.rounding.Coords.{Coords}
-use Rattle.at_wkt.specs.Folding.{Kept, StandsFor}
+use Rattle.at_wkt.specs.Folding.{OwnFold, StandsFor}
 use Rattle.at_query.specs.declared.query.queries.Query.{Query}
 use Rattle.at_geojson.specs.Keeping.{Asked as JsonAsked}
 use Rattle.at_run.specs.declared.forms.Form.{Form}
@@ -28,5 +28,5 @@ of_json asks = record { query = asks.query; digits = asks.digits; how = asks.how
 -- the fragment is of the reader's form, and stands for the bytes as one of that form does
 abbrev pub StandsInForm : Asks → ℕ → List ℕ → FileFragment → Type 0
 StandsInForm asks at bytes (Lines fragment) = (asks.form ≡ Wkt)
-    × StandsFor (Kept (IsOwn (of_lines asks)) (IsGathered (of_lines asks))) at bytes fragment
+    × StandsFor (OwnFold (IsOwn (of_lines asks)) (IsGathered (of_lines asks))) at bytes fragment
 StandsInForm asks at bytes (Json fragment) = (asks.form ≡ GeoJson) × StandsForText (of_json asks) at bytes fragment

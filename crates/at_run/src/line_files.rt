@@ -2,7 +2,7 @@
 
 ghost use Rattle.std.specs.Prelude.{◌≡◌, ◌≤◌, ◌^◌, List, length, drop, MatchResult, Some};
 ghost use Rattle.at_text.specs.Texts.{base_of as text_begin};
-ghost use Rattle.at_wkt.specs.Folding.{Kept, StandsFor};
+ghost use Rattle.at_wkt.specs.Folding.{OwnFold, StandsFor};
 ghost use Rattle.at_wkt.specs.Lines.{lines_of};
 ghost use Rattle.at_query.specs.Parts.{IsPart};
 ghost use Rattle.at_query.specs.Accumulators.{IsAccumulated};
@@ -43,7 +43,7 @@ fn end_of(bytes: &[u8], gathered: Gathered) -> Result<Part, RunFault>
         (λ end. IfFound end (λ fault. HasFileFaultIn Wkt asked.digits asked.how bytes.now (Some fault))) }
 {
     match gathered {
-        Gathered::Kept(kept) => part_of_kept(kept),
+        Gathered::OwnFold(kept) => part_of_kept(kept),
         Gathered::Failed(fault) => Err(RunFault::Found(utf8_fault(bytes).unwrap_or(fault))),
     }
 }
@@ -60,7 +60,7 @@ pub fn finish_line_file(
     whole: LineFragment<Gathered>,
 ) -> Result<Part, RunFault>
     requires fits { length bytes.now ≤ 2 ^ 28 }
-    requires whole { StandsFor (Kept (IsOwn query.now) (IsGathered query.now)) (text_begin bytes.now)
+    requires whole { StandsFor (OwnFold (IsOwn query.now) (IsGathered query.now)) (text_begin bytes.now)
         (drop (text_begin bytes.now) bytes.now) whole }
     ensures { MatchResult result (IsFilePart Wkt query.now.digits query.now.how query.now.query bytes.now)
         (λ end. IfFound end (λ fault. HasFileFaultIn Wkt query.now.digits query.now.how bytes.now (Some fault))) }

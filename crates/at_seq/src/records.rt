@@ -5,7 +5,7 @@ ghost use Rattle.at_text.specs.Spans.{span_of};
 ghost use Rattle.at_text.specs.Texts.{is_space};
 ghost use Rattle.at_lex.specs.Fronts.{IsFront};
 ghost use Rattle.at_nest.specs.TextAnswers.{Answers};
-ghost use Rattle.at_nest.specs.KeptItems.{Kept};
+ghost use Rattle.at_nest.specs.KeptItems.{OwnAtom};
 ghost use Rattle.at_nest.specs.FragmentMeanings.{StandsFor};
 ghost use Rattle.at_geojson.specs.Atoms.{IsGeoAtom};
 ghost use Rattle.at_query.specs.Parts.{IsProper};
@@ -26,7 +26,7 @@ fn kept_of_root(end: Result<Part, RootEnd>) -> Result<Gathered, Memory>
     ensures { IsRootKept end result }
 {
     match end {
-        Ok(part) => Ok(Gathered::Kept(Accumulator::from_part(part))),
+        Ok(part) => Ok(Gathered::OwnAtom(Accumulator::from_part(part))),
         Err(RootEnd::Found(fault)) => Ok(Gathered::Failed(fault)),
         Err(RootEnd::Memory) => Err(Memory),
     }

@@ -7,7 +7,7 @@ use Rattle.std.specs.Char.{to_ascii_uppercase}
 use native.Mathlib.Decide.{dec_lt}
 use Rattle.std.proofs.lemmas.List.{map-append, take_more, get_or_past, get_or_default}
 use Rattle.at_wkt.specs.Geometry.{is_blank}
-use Rattle.at_fixed.specs.Kept.{between}
+use Rattle.at_fixed.specs.NumberSoFar.{between}
 use Rattle.at_wkt.specs.Readers.{next, Matches, WordStands, WordBreaks}
 use Rattle.at_wkt.proofs.Leads.{part-more}
 use Rattle.at_wkt.proofs.Steps.{AreBlanks}

@@ -8,7 +8,7 @@ use Rattle.at_wkt.specs.declared.line.dimension.Dimension.{Dimension}
 use Rattle.at_wkt.specs.declared.line.dimension.Dimension.TheVariants.{Open, Fixed}
 use Rattle.at_wkt.specs.Positions.{Position}
 use Rattle.at_wkt.specs.Geometry.{is_blank, SpellsNumber, SpellsFurther, SpellsPosition}
-use Rattle.at_fixed.specs.Kept.{between}
+use Rattle.at_fixed.specs.NumberSoFar.{between}
 use Rattle.at_wkt.specs.Readers.{next, allows, allows_more, Allows, Spelt, Stuck, SkipsBlanks, delimiter, Delimiter, FurtherNumbers, is_delimiter, Reaches}
 use Rattle.at_wkt.proofs.Leads.{part-none, part-more, Ahead, counts}
 use Rattle.at_wkt.proofs.Steps.{Then, Same, no_blank, AreBlanks, one_blanks}

@@ -8,7 +8,7 @@ use Rattle.at_text.specs.Parts.{Many, ◌▸◌}
 use Rattle.at_wkt.specs.declared.line.dimension.Dimension.{Dimension}
 use Rattle.at_wkt.specs.declared.line.dimension.Dimension.TheVariants.{Open, Fixed}
 use Rattle.at_wkt.specs.Geometry.{is_blank, Letter}
-use Rattle.at_fixed.specs.Kept.{between}
+use Rattle.at_fixed.specs.NumberSoFar.{between}
 use Rattle.at_wkt.specs.Readers.{opens, next, Allows, Spelt, Stuck, SkipsBlanks, LetterAt, LetterStands}
 use Rattle.at_wkt.proofs.Leads.{part-none, part-one, part-length, part-part, part-cons, Ahead, ahead_stuck, Begins, same_or_less}
 use Rattle.at_wkt.proofs.Steps.{no_blank, AreBlanks, one_blanks, not_blank}

@@ -20,7 +20,7 @@ use Rattle.at_wkt.specs.declared.line.geometries.Gathered.{Gathered}
 use Rattle.at_wkt.specs.Meaning.{empty_shape}
 use Rattle.at_wkt.specs.Geometry.{Geometry, SpellsGeometry, IsLineOf, WktLine}
 use Rattle.at_wkt.specs.Answers.{IsPrefixOf, IsPrefixFault, SpellsLine, IfFound, HasFirstLineFault, unspelled, faulty, HasLineShape}
-use Rattle.at_fixed.specs.Kept.{between}
+use Rattle.at_fixed.specs.NumberSoFar.{between}
 use Rattle.at_text.specs.Halts.{IfStopped}
 use Rattle.at_wkt.specs.Readers.{next, Spelt, Stuck, SkipsBlanks, Meaning, joined, no_meaning, meaning_of, Expected, Gathers, refusal, gathered_shape, kept_shape, line_answer, LineStops}
 use Rattle.at_wkt.proofs.Leads.{part-more, part-length, part-part, part-cons, Ahead, ahead_stuck, same_or_less}

@@ -6,7 +6,7 @@ use Rattle.std.proofs.lemmas.List.{get_or-take, get_or_past, take-take}
 use Rattle.at_wkt.specs.declared.line.dimension.Dimension.{Dimension}
 use Rattle.at_wkt.specs.Geometry.{is_blank}
 use Rattle.at_wkt.specs.Lines.{without_return}
-use Rattle.at_fixed.specs.Kept.{between}
+use Rattle.at_fixed.specs.NumberSoFar.{between}
 use Rattle.at_wkt.specs.Readers.{SkipsBlanks, Spelt}
 use Rattle.at_wkt.proofs.Steps.{AreBlanks}
 

@@ -12,7 +12,7 @@ use Rattle.at_wkt.specs.declared.file.fragments.WholeLines.{WholeLines}
 use Rattle.at_wkt.specs.declared.file.fragments.Inner.{Inner}
 use Rattle.at_wkt.specs.declared.file.fragments.LineFragment.{LineFragment}
 use Rattle.at_wkt.specs.declared.file.fragments.LineFragment.TheVariants.{Piece, Lines}
-use Rattle.at_wkt.specs.Folding.{IsSpanOf, Kept, AddsLines, HoldsPiece, HoldsLines, HoldsInner, StandsFor}
+use Rattle.at_wkt.specs.Folding.{IsSpanOf, OwnFold, AddsLines, HoldsPiece, HoldsLines, HoldsInner, StandsFor}
 use Rattle.at_wkt.proofs.Pieces.{pieces_first, pieces_last, left_is}
 use Rattle.at_wkt.proofs.LinePieces.{pieces_joined, glued, glued_end, first_begins, last_ends, IsPieceOf, piece_of}
 
@@ -107,7 +107,7 @@ base_within bytes = by_test (starts_with nat_eq bytes byte_order_mark) refl wher
 
 module _ {P : Type 0} (IsOwn : P → Type 0) (IsFold : P → List FileLine → Type 0) where
   abbrev IsKept : P → List FileLine → Type 0
-  IsKept = Kept IsOwn IsFold
+  IsKept = OwnFold IsOwn IsFold
 
   module _ (bytes : List ℕ) (i j k : ℕ) where
     pub neighbours_are : (a b c d : LineFragment P) → a ≡ c → b ≡ d → AreNeighbours (StandsFor IsKept) bytes i j k a b → AreNeighbours (StandsFor IsKept) bytes i j k c d
@@ -256,7 +256,7 @@ module _ {P : Type 0} (IsOwn : P → Type 0) (IsFold : P → List FileLine → T
   pub record FoldedSoFar (at : ℕ) (bytes : List ℕ) (start : ℕ) (part : P) : Type 0 where
     pub inner : List FileLine
     pub split : pieces_from at bytes ≡ inner ++ pieces_from (at + start) (drop start bytes)
-    pub kept : Kept IsOwn IsFold part (lines_in inner)
+    pub kept : OwnFold IsOwn IsFold part (lines_in inner)
     pub within : start ≤ length bytes
 
   module _ (at : ℕ) (bytes : List ℕ) (start : ℕ) (part : P) (h : FoldedSoFar at bytes start part) (p : ℕ) (first : p ≡ position_or_len is_line_feed (take (length bytes - start) (drop start bytes))) where
@@ -290,7 +290,7 @@ module _ {P : Type 0} (IsOwn : P → Type 0) (IsFold : P → List FileLine → T
       within = omega arith;
     }
 
-    pub folded_all : start + p ≡ length bytes → HoldsInner (Kept IsOwn IsFold) at bytes (record { part = part; end = start })
+    pub folded_all : start + p ≡ length bytes → HoldsInner (OwnFold IsOwn IsFold) at bytes (record { part = part; end = start })
     folded_all ends = record {
       inner = h.inner;
       pieces = h.split ∙ ap (λ z. h.inner ++ z) (pieces_last (at + start) (drop start bytes) (sym first_left ∙ omega (arith, length-drop start bytes, h.within)));
@@ -305,12 +305,12 @@ module _ {P : Type 0} (IsOwn : P → Type 0) (IsFold : P → List FileLine → T
 
   -- a piece with a line feed
   pub whole_read : (base : ℕ) (piece : List ℕ) (first : ℕ) (before behind : Span) (read : Inner P) → first ≡ position_or_len is_line_feed piece → first < length piece
-      → HoldsInner (Kept IsOwn IsFold) (base + first + 1) (take (length piece - (first + 1)) (drop (first + 1) piece)) read
+      → HoldsInner (OwnFold IsOwn IsFold) (base + first + 1) (take (length piece - (first + 1)) (drop (first + 1) piece)) read
       → before.from ≡ base → before.to ≡ base + first → behind.from ≡ base + first + 1 + read.end → behind.to ≡ base + length piece
-      → HoldsLines (Kept IsOwn IsFold) base piece (record { before = before; part = read.part; behind = behind })
+      → HoldsLines (OwnFold IsOwn IsFold) base piece (record { before = before; part = read.part; behind = behind })
   whole_read base piece first before behind read e inside h bf bt df dt =
       let rest : take (length piece - (first + 1)) (drop (first + 1) piece) ≡ drop (first + 1) piece = left_is piece (first + 1) in
-      let g : HoldsInner (Kept IsOwn IsFold) (base + first + 1) (drop (first + 1) piece) read = subst (λ (z : List ℕ). HoldsInner (Kept IsOwn IsFold) (base + first + 1) z read) rest h in
+      let g : HoldsInner (OwnFold IsOwn IsFold) (base + first + 1) (drop (first + 1) piece) read = subst (λ (z : List ℕ). HoldsInner (OwnFold IsOwn IsFold) (base + first + 1) z read) rest h in
       record {
         first = record { at = base; text = take first piece };
         inner = g.inner;

@@ -6,7 +6,7 @@ use Rattle.at_fixed.specs.Numerals.{Numeral}
 use Rattle.at_wkt.specs.declared.line.dimension.Dimension.{Dimension}
 use Rattle.at_wkt.specs.Positions.{Position}
 use Rattle.at_wkt.specs.Geometry.{is_blank, SpellsPosition, InBrackets, Parted, SpellsRing}
-use Rattle.at_fixed.specs.Kept.{between}
+use Rattle.at_fixed.specs.NumberSoFar.{between}
 use Rattle.at_wkt.specs.Readers.{next, Allows, Spelt, Stuck, Leads, SkipsBlanks, NumberStands, NumberBreaks, delimiter, Delimiter, Item, Items, ItemsRead, FurtherNumbers}
 use Rattle.at_wkt.proofs.Leads.{part-one, part-more, Begins, Inhabited, same_length}
 use Rattle.at_wkt.proofs.Steps.{Then, same_leads, trans_leads, then_leads, then_stuck, fixed_leads, pad_leads, gap_leads, stuck_first, no_blank, AreBlanks, spelt_over}

@@ -19,7 +19,7 @@ use Rattle.at_wkt.specs.declared.line.parts.ItemRead.{ItemRead}
 use Rattle.at_wkt.specs.Positions.{Position, Positions, position_faults, path_of, faults_of_ring}
 use Rattle.at_wkt.specs.Meaning.{polygons_of, faults_of_area}
 use Rattle.at_wkt.specs.Geometry.{SpellsPosition, SpellsRing, SpellsPoint, SpellsPointMember, EmptyOrParted}
-use Rattle.at_fixed.specs.Kept.{between}
+use Rattle.at_fixed.specs.NumberSoFar.{between}
 use Rattle.at_text.specs.Halts.{IfStopped}
 use Rattle.at_wkt.specs.Readers.{next, Spelt, Stuck, SkipsBlanks, Delimiter, Item, Items, HasCount, WordStands, WordBreaks, DelimiterStands, DelimiterBreaks, opens, PositionStands, PathStands, PartStands, ItemStands, ItemsSoFar, Grows, EnclosedPosition, added_position, added_path, added_point, point_faults, faults_of_path}
 use Rattle.at_wkt.proofs.Leads.{part-part, part-cons, Begins, counts}

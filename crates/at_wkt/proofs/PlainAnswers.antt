@@ -3,7 +3,7 @@
 use Rattle.std.proofs.Common.{◌≡◌, ℕ, ◌+◌, ◌<◌, ◌≤◌, ◌⊎◌, inl, inr, true, not, List, [], ◌∷◌, length, sym, ◌∙◌, ap, subst, arith}
 use Rattle.at_fixed.specs.Numerals.{Numeral}
 use Rattle.at_wkt.specs.Geometry.{is_blank}
-use Rattle.at_fixed.specs.Kept.{between}
+use Rattle.at_fixed.specs.NumberSoFar.{between}
 use Rattle.at_wkt.specs.Readers.{next, is_delimiter, SkipsBlanks, NumberStands}
 use Rattle.at_wkt.proofs.Leads.{part-none, part-one, part-cons, same_or_less}
 use Rattle.at_wkt.proofs.Steps.{AreBlanks}

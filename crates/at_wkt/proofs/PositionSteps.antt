@@ -7,7 +7,7 @@ use Rattle.at_text.specs.Parts.{◌▸◌}
 use Rattle.at_fixed.specs.Numerals.{Numeral, fraction_text, exponent_text, numeral_text, IsAtMostOneOf, AreWktDigits, IsWktNumeral, WktNumber}
 use Rattle.at_wkt.specs.declared.line.dimension.Dimension.{Dimension}
 use Rattle.at_wkt.specs.Geometry.{is_blank, SpellsNumber, SpellsFurther}
-use Rattle.at_fixed.specs.Kept.{between}
+use Rattle.at_fixed.specs.NumberSoFar.{between}
 use Rattle.at_wkt.specs.Readers.{next, Allows, Stuck, Leads, SkipsBlanks, NumberBreaks, NumberSkips, delimiter, Delimiter, FurtherNumbers, Reaches, is_delimiter}
 use Rattle.at_wkt.proofs.Leads.{part-length, offset, Ahead, Begins, Inhabited, leads_ahead}
 use Rattle.at_wkt.proofs.Steps.{Then, no_blank, AreBlanks, one_blanks}

@@ -15,7 +15,7 @@ use Rattle.at_wkt.specs.declared.line.positions.DelimiterRead.{DelimiterRead}
 use Rattle.at_wkt.specs.declared.line.parts.Read.{Read}
 use Rattle.at_wkt.specs.declared.line.geometries.Gathered.{Gathered}
 use Rattle.at_wkt.specs.declared.line.geometries.Progress.{Progress}
-use Rattle.at_fixed.specs.Kept.{between}
+use Rattle.at_fixed.specs.NumberSoFar.{between}
 use Rattle.at_text.specs.Halts.{IfStopped}
 use Rattle.at_wkt.specs.Readers.{next, Spelt, Stuck, Leads, SkipsBlanks, Delimiter, delimiter, HasCount, HeadStands, LetterStands, opens_at, WordStands, word_of, DelimiterStands, DelimiterBreaks, Meaning, joined, no_meaning, Body, meaning_of, Expected, Onward, Advances, BodyStands, StepStands, WholeStands, Gathers}
 use Rattle.at_wkt.proofs.Leads.{part-length}

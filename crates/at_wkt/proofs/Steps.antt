@@ -5,7 +5,7 @@ use Rattle.std.specs.List.{AllByRecursion}
 use Rattle.at_text.specs.Parts.{Many, OneOrMore, ◌▸◌}
 use Rattle.at_wkt.specs.declared.line.dimension.Dimension.{Dimension}
 use Rattle.at_wkt.specs.Geometry.{is_blank}
-use Rattle.at_fixed.specs.Kept.{between}
+use Rattle.at_fixed.specs.NumberSoFar.{between}
 use Rattle.at_wkt.specs.Readers.{next, Allows, Spelt, Stuck, Leads}
 use Rattle.at_wkt.proofs.Leads.{part-none, offset, Ahead, Begins, Inhabited, append_cases, same_length, leads_plain, leads_ahead, counts}
 

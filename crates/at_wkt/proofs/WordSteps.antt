@@ -11,7 +11,7 @@ use Rattle.at_wkt.specs.declared.line.dimension.Dimension.{Dimension}
 use Rattle.at_wkt.specs.declared.line.kinds.Kind.{Kind}
 use Rattle.at_wkt.specs.declared.line.kinds.Kind.TheVariants.{Point, LineString, Polygon, MultiPoint, MultiLineString, MultiPolygon, GeometryCollection}
 use Rattle.at_wkt.specs.Geometry.{is_blank}
-use Rattle.at_fixed.specs.Kept.{between}
+use Rattle.at_fixed.specs.NumberSoFar.{between}
 use Rattle.at_wkt.specs.Readers.{next, Allows, Spelt, Stuck, WordStands, WordBreaks, word_of, KindBreaks, opens}
 use Rattle.at_wkt.proofs.Leads.{part-none, part-length, part-part, part-cons, Ahead, ahead_stuck, append_cases, same_length, same_or_less}
 use Rattle.at_wkt.proofs.Steps.{no_blank}

@@ -16,12 +16,12 @@ abbrev pub IsSpanOf : FileLine → Span → Type 0
 IsSpanOf piece span = (span.from ≡ piece.at) × (span.to ≡ piece.at + length piece.text)
 
 -- a part of the fold's own that is the fold of the lines
-abbrev pub Kept : {P : Type 0} → (P → Type 0) → (P → List FileLine → Type 0) → P → List FileLine → Type 0
-Kept IsOwn IsFold part lines = IsOwn part × IsFold part lines
+abbrev pub OwnFold : {P : Type 0} → (P → Type 0) → (P → List FileLine → Type 0) → P → List FileLine → Type 0
+OwnFold IsOwn IsFold part lines = IsOwn part × IsFold part lines
 
 -- the same of a fold
 abbrev pub IsPartOf : {F P : Type 0} → Ghosts F P → F → P → List FileLine → Type 0
-IsPartOf folds fold = Kept (folds.is_own fold) (folds.is_fold fold)
+IsPartOf folds fold = OwnFold (folds.is_own fold) (folds.is_fold fold)
 
 -- of whatever lines the one part is the fold, the next is the fold of those and of these behind them
 abbrev pub AddsLines : {P : Type 0} → (P → List FileLine → Type 0) → P → List FileLine → P → Type 0

@@ -5,7 +5,7 @@ use Rattle.std.proofs.lemmas.List.{drop-take, length-drop}
 use Rattle.at_text.specs.Prefix.{TakesLongest}
 use Rattle.at_text.specs.declared.prefixes.Taken.{Taken}
 use Rattle.at_lex.proofs.FrontLemmas.{suffix_is}
-use Rattle.at_fixed.specs.Kept.{between}
+use Rattle.at_fixed.specs.NumberSoFar.{between}
 use Rattle.at_fixed.specs.Numerals.{JsonNumber}
 use Rattle.at_lex.specs.Strings.{JsonString}
 use Rattle.at_lex.specs.Runs.{JsonRun}

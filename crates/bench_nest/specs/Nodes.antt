@@ -4,7 +4,7 @@ use Rattle.std.specs.Bool.{⊤}
 use Rattle.at_nest.specs.Tree.{Tree, literal, number, text, array, object, Trees, no_trees, tree_and, Members}
 use Rattle.at_nest.specs.Tree.{no_members, member_and}
 use Rattle.at_nest.specs.Folds.{trees}
-use Rattle.at_nest.specs.KeptItems.{Content, Kept}
+use Rattle.at_nest.specs.KeptItems.{Content, OwnAtom}
 
 abbrev mutual
   pub nodes_of : Tree → ℕ
@@ -35,4 +35,4 @@ abbrev pub IsAny : ℕ → Type 0
 IsAny n = ⊤
 
 abbrev pub IsCount : ℕ → Content → Type 0
-IsCount = Kept IsAny CountsNodes CountsMany
+IsCount = OwnAtom IsAny CountsNodes CountsMany

@@ -1,7 +1,7 @@
 -- Values that were passed over in a text from place to place, with the count of the values in them. The bytes w may
 -- stand at any offset.
 use Rattle.std.specs.Prelude.{◌≡◌, ℕ, ◌+◌, ◌<◌, ◌≤◌, ◌%◌, ◌^◌, List, [], ◌∷◌, length, slice_index}
-use Rattle.at_fixed.specs.Kept.{between}
+use Rattle.at_fixed.specs.NumberSoFar.{between}
 use Rattle.at_lex.specs.Strings.{JsonString}
 use Rattle.at_nest.specs.Tree.{Tree, Spells, SpellsName}
 use Rattle.at_nest.specs.Passing.{IsPadded, ItemsBefore, MembersBefore, Named}

@@ -2,7 +2,7 @@
 
 ghost use Rattle.std.specs.Prelude.{◌≡◌, ◌+◌, ◌<◌, ◌≤◌, ◌^◌, ◌&&◌, length, slice_index, nat_lt, nat_eq, true, IfOk};
 ghost use Rattle.std.specs.Prelude.{IfSome};
-ghost use Rattle.at_fixed.specs.Kept.{between};
+ghost use Rattle.at_fixed.specs.NumberSoFar.{between};
 ghost use Rattle.at_lex.specs.Spans.{AreSpaces};
 ghost use Rattle.bench_nest.specs.Passed.{IsPassed, IsPassedText, IsPassedItem, IsPassedName};
 

@@ -1,6 +1,6 @@
 use Rattle.std.proofs.Common.{◌≡◌, ◌+◌, ◌-◌, ◌*◌, ◌^◌, ◌<◌, rules, subst, arith}
 use Rattle.at_fixed.specs.Numerals.{AreDigits}
-use Rattle.at_fixed.specs.Kept.{between, digits_behind}
+use Rattle.at_fixed.specs.NumberSoFar.{between, digits_behind}
 use Rattle.at_fixed.proofs.EightDigits.{EightKept, first_kept, kept_both}
 use Rattle.at_fixed.proofs.digits.keep_digits.Goals as goal
 use Rattle.at_fixed.proofs.digits.keep_digits.Goals.{After-power_of_ten, Then-count-lt8, Else-count-lt8, After-keep_more_digits-end}

@@ -1,6 +1,6 @@
 use Rattle.std.proofs.Common.{length, ◌-◌, ◌≡◌, ◌≤◌, ◌<◌, ◌^◌}
 use Rattle.at_fixed.specs.Numerals.{AreDigits}
-use Rattle.at_fixed.specs.Kept.{between, digits_behind}
+use Rattle.at_fixed.specs.NumberSoFar.{between, digits_behind}
 use Rattle.at_fixed.proofs.digits.keep_single_digits.Given as goal
 
 abbrev pub invariant-loop-end : goal.invariant-loop-end

@@ -1,6 +1,6 @@
 use Rattle.std.proofs.Common.{◌+◌, ◌-◌, ◌≡◌, subst, arith}
 use Rattle.at_fixed.specs.Numerals.{AreDigits}
-use Rattle.at_fixed.specs.Kept.{between}
+use Rattle.at_fixed.specs.NumberSoFar.{between}
 use Rattle.at_fixed.specs.Scans.{KeepsTo}
 use Rattle.at_fixed.proofs.PlainRuns.{first_digits, kept_on, kept_small, room_more}
 use Rattle.at_fixed.proofs.plain_numbers.keep_long.Goals as goal

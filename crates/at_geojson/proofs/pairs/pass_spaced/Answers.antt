@@ -1,7 +1,7 @@
 -- A position with white space round it.
 use Rattle.std.proofs.Common.{◌≤◌, refl, sym, subst, arith}
 use Rattle.at_lex.specs.Spans.{AreSpaces}
-use Rattle.at_fixed.specs.Kept.{between}
+use Rattle.at_fixed.specs.NumberSoFar.{between}
 use Rattle.at_geojson.proofs.ValueParts.{pair_spaced}
 use Rattle.at_geojson.proofs.pairs.pass_spaced.Goals as goal
 

@@ -1,6 +1,6 @@
 -- The bytes that were passed are white space.
 use Rattle.std.proofs.Common.{◌-◌, ◌≤◌, length}
-use Rattle.at_fixed.specs.Kept.{between}
+use Rattle.at_fixed.specs.NumberSoFar.{between}
 use Rattle.at_lex.specs.Spans.{AreSpaces}
 use Rattle.at_geojson.proofs.places.skip_spaces.Given as goal
 

@@ -1,22 +1,22 @@
 -- Each bracket goes behind what is kept.
 use Rattle.std.proofs.Common.{arith, sym, ◌∙◌}
 use Rattle.at_nest.specs.Shown.{shown}
-use Rattle.at_nest.specs.KeptItems.{Kept}
+use Rattle.at_nest.specs.KeptItems.{OwnAtom}
 use Rattle.at_nest.proofs.Closers.{closed_none, closed_on, closed_all, closed_halt}
 use Rattle.at_nest.proofs.bodies.close_all.Goals as goal
 
 pub loop-at-init : goal.loop-at-init
 loop-at-init g c = let own = g.A.Algebra.is_own c.args.algebra.now in let fold = g.A.Algebra.is_fold c.args.algebra.now in let run = g.A.Algebra.is_run c.args.algebra.now in
-    closed_none (Kept own fold run) (shown c.args.body.now) c.args.closers c.requires.held
+    closed_none (OwnAtom own fold run) (shown c.args.body.now) c.args.closers c.requires.held
 
 pub returns-then-is_some : goal.returns-then-is_some
 returns-then-is_some g c = let own = g.A.Algebra.is_own c.args.algebra.now in let fold = g.A.Algebra.is_fold c.args.algebra.now in let run = g.A.Algebra.is_run c.args.algebra.now in
-    closed_halt (Kept own fold run) (shown c.args.body.now) (shown c.loop-at.body) (shown c.close.new.body) c.args.closers c.kind_at.result c.loop-at.at c.in_ok-halt.halt c.kind_at.ensures (sym c.is_some.ensures ∙ c.if-is_some.true) (omega (arith, c.loop-at-test.true)) c.loop-at.invariant c.in_ok-halt.ensures
+    closed_halt (OwnAtom own fold run) (shown c.args.body.now) (shown c.loop-at.body) (shown c.close.new.body) c.args.closers c.kind_at.result c.loop-at.at c.in_ok-halt.halt c.kind_at.ensures (sym c.is_some.ensures ∙ c.if-is_some.true) (omega (arith, c.loop-at-test.true)) c.loop-at.invariant c.in_ok-halt.ensures
 
 pub loop-at-preserved : goal.loop-at-preserved
 loop-at-preserved g c = let own = g.A.Algebra.is_own c.args.algebra.now in let fold = g.A.Algebra.is_fold c.args.algebra.now in let run = g.A.Algebra.is_run c.args.algebra.now in
-    closed_on (Kept own fold run) (shown c.args.body.now) (shown c.loop-at.body) (shown c.close.new.body) c.args.closers c.kind_at.result c.loop-at.at c.in_ok-halt.halt c.kind_at.ensures (sym c.is_some.ensures ∙ c.if-is_some.false) (omega (arith, c.loop-at-test.true)) c.loop-at.invariant c.in_ok-halt.ensures
+    closed_on (OwnAtom own fold run) (shown c.args.body.now) (shown c.loop-at.body) (shown c.close.new.body) c.args.closers c.kind_at.result c.loop-at.at c.in_ok-halt.halt c.kind_at.ensures (sym c.is_some.ensures ∙ c.if-is_some.false) (omega (arith, c.loop-at-test.true)) c.loop-at.invariant c.in_ok-halt.ensures
 
 pub returns : goal.returns
 returns g c = let own = g.A.Algebra.is_own c.args.algebra.now in let fold = g.A.Algebra.is_fold c.args.algebra.now in let run = g.A.Algebra.is_run c.args.algebra.now in
-    closed_all (Kept own fold run) (shown c.args.body.now) (shown c.loop-at.body) c.args.closers c.loop-at.at (omega (arith, c.loop-at-test.false)) c.loop-at.invariant
+    closed_all (OwnAtom own fold run) (shown c.args.body.now) (shown c.loop-at.body) c.args.closers c.loop-at.at (omega (arith, c.loop-at-test.false)) c.loop-at.invariant

@@ -1,6 +1,6 @@
 -- The items so far were all pushed.
 use Rattle.at_nest.specs.Shown.{shown}
-use Rattle.at_nest.specs.KeptItems.{Kept}
+use Rattle.at_nest.specs.KeptItems.{OwnAtom}
 use Rattle.at_nest.proofs.Joining.{SoFar}
 use Rattle.at_nest.proofs.bodies.join.Given as goal
 
@@ -8,4 +8,4 @@ abbrev pub invariant-loop-piece : goal.invariant-loop-piece
 invariant-loop-piece g l =
     (goal.iterator-loop-piece g).can_next l.piece-iterator ×
     (goal.iterator-loop-piece g).is_finite l.piece-iterator ×
-    SoFar (Kept (g.A.Algebra.is_own l.algebra) (g.A.Algebra.is_fold l.algebra) (g.A.Algebra.is_run l.algebra)) l.bytes (shown l.fn.body) l.yielded (shown l.body)
+    SoFar (OwnAtom (g.A.Algebra.is_own l.algebra) (g.A.Algebra.is_fold l.algebra) (g.A.Algebra.is_run l.algebra)) l.bytes (shown l.fn.body) l.yielded (shown l.body)

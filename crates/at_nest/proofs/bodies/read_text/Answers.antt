@@ -4,7 +4,7 @@ use Rattle.std.proofs.lemmas.Result.{IfOk-weaker}
 use Rattle.at_nest.specs.declared.levels.MemberName.{MemberName}
 use Rattle.at_nest.specs.Tree.{text}
 use Rattle.at_nest.specs.Shown.{shown, held_of, name_next, value_next}
-use Rattle.at_nest.specs.KeptItems.{Kept}
+use Rattle.at_nest.specs.KeptItems.{OwnAtom}
 use Rattle.at_nest.proofs.Held.{name_moves, text_moves}
 use Rattle.at_nest.proofs.Adding.{innermost_own}
 use Rattle.at_nest.proofs.MemberRows.{text_same}
@@ -14,7 +14,7 @@ use Rattle.at_nest.proofs.bodies.read_text.Goals as goal
 pub returns-in_ok-atom-in-None : goal.returns-in_ok-atom-in-None
 returns-in_ok-atom-in-None g c = let own = g.A.Algebra.is_own c.args.algebra.now in let fold = g.A.Algebra.is_fold c.args.algebra.now in let run = g.A.Algebra.is_run c.args.algebra.now in
     IfOk-weaker c.keep_text.result _ _
-    (λ r d cs ok e base w f h t. text_same (Kept own fold run) (shown c.args.body.now) (shown c.innermost.new.self) (shown c.keep_text.new.body) r _ c.in_ok-atom-in-None.atom c.innermost.ensures.outer (c.in-None.ensures.levels.1 ∙ sym c.in-None.ensures.levels.0) d base w f cs h t
+    (λ r d cs ok e base w f h t. text_same (OwnAtom own fold run) (shown c.args.body.now) (shown c.innermost.new.self) (shown c.keep_text.new.body) r _ c.in_ok-atom-in-None.atom c.innermost.ensures.outer (c.in-None.ensures.levels.1 ∙ sym c.in-None.ensures.levels.0) d base w f cs h t
     (c.in_ok-atom-in-None.ensures.own, c.in_ok-atom-in-None.ensures.fold (text c.args.at cs) (refl, ok, e)))
     c.keep_text.ensures
 
@@ -23,9 +23,9 @@ returns-in_ok-units-in-Some g c = let own = g.A.Algebra.is_own c.args.algebra.no
     let name : MemberName = record { units = c.in_ok-units-in-Some.field-0; at = c.args.at } in
     let next = name_next (held_of c.in-Some.level) name in
     IfOk-weaker c.put.result _ _
-    (λ r d cs ok e base w f h t. text_put (Kept own fold run) base w (shown c.args.body.now) (shown c.innermost.new.self).outer (shown c.innermost.new.self).levels (shown c.put.new.self) r (held_of c.in-Some.level) c.args.at next cs f c.in-Some.ensures.levels
+    (λ r d cs ok e base w f h t. text_put (OwnAtom own fold run) base w (shown c.args.body.now) (shown c.innermost.new.self).outer (shown c.innermost.new.self).levels (shown c.put.new.self) r (held_of c.in-Some.level) c.args.at next cs f c.in-Some.ensures.levels
     (sym c.innermost.ensures.outer) (d (held_of c.in-Some.level) next c.name.ensures) h
-    (λ l k. name_moves (Kept own fold run) (held_of c.in-Some.level) l c.args.at name cs (sym c.wants_name.ensures ∙ c.if-wants_name.true) k (c.in_ok-units-in-Some.ensures cs ok e) refl))
+    (λ l k. name_moves (OwnAtom own fold run) (held_of c.in-Some.level) l c.args.at name cs (sym c.wants_name.ensures ∙ c.if-wants_name.true) k (c.in_ok-units-in-Some.ensures cs ok e) refl))
     c.put.ensures
 
 pub with_value-requires-clause-level : goal.with_value-requires-clause-level
@@ -37,7 +37,7 @@ returns-in_ok-with_value-in-Some g c = let own = g.A.Algebra.is_own c.args.algeb
     let (ys, more, step) = c.in_ok-with_value-in-Some.ensures in
     let next = value_next (held_of c.in-Some.level) x ys in
     IfOk-weaker c.put-else-wants_name.result _ _
-    (λ r d cs ok e base w f h t. text_put (Kept own fold run) base w (shown c.args.body.now) (shown c.innermost.new.self).outer (shown c.innermost.new.self).levels (shown c.put-else-wants_name.new.self) r (held_of c.in-Some.level) c.args.at next cs f c.in-Some.ensures.levels
+    (λ r d cs ok e base w f h t. text_put (OwnAtom own fold run) base w (shown c.args.body.now) (shown c.innermost.new.self).outer (shown c.innermost.new.self).levels (shown c.put-else-wants_name.new.self) r (held_of c.in-Some.level) c.args.at next cs f c.in-Some.ensures.levels
     (sym c.innermost.ensures.outer) (d (held_of c.in-Some.level) next step) h
-    (λ l k. text_moves (Kept own fold run) (held_of c.in-Some.level) l c.args.at x ys cs (sym c.wants_name.ensures ∙ c.if-wants_name.false) k (c.in_ok-atom-in-Some.ensures.own, c.in_ok-atom-in-Some.ensures.fold (text c.args.at cs) (refl, ok, e)) more))
+    (λ l k. text_moves (OwnAtom own fold run) (held_of c.in-Some.level) l c.args.at x ys cs (sym c.wants_name.ensures ∙ c.if-wants_name.false) k (c.in_ok-atom-in-Some.ensures.own, c.in_ok-atom-in-Some.ensures.fold (text c.args.at cs) (refl, ok, e)) more))
     c.put-else-wants_name.ensures

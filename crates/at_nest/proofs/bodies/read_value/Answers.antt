@@ -2,7 +2,7 @@
 use Rattle.std.proofs.Common.{sym, ◌∙◌}
 use Rattle.std.proofs.lemmas.Result.{IfOk-weaker}
 use Rattle.at_nest.specs.Shown.{shown, held_of, value_next}
-use Rattle.at_nest.specs.KeptItems.{Kept}
+use Rattle.at_nest.specs.KeptItems.{OwnAtom}
 use Rattle.at_nest.proofs.Adding.{innermost_own}
 use Rattle.at_nest.proofs.Showing.{value_put}
 use Rattle.at_nest.proofs.Rows.{items_same, value_same}
@@ -13,18 +13,18 @@ with_value-requires-clause-level g c κs within = innermost_own (g.A.Algebra.is_
 
 pub keep_value-requires-clause-held : goal.keep_value-requires-clause-held
 keep_value-requires-clause-held g c κs within = let own = g.A.Algebra.is_own c.args.algebra.now in let fold = g.A.Algebra.is_fold c.args.algebra.now in let run = g.A.Algebra.is_run c.args.algebra.now in
-    items_same (Kept own fold run) (shown c.args.body.now) (shown c.innermost.new.self) c.innermost.ensures.outer (c.in-None.ensures.levels.1 ∙ sym c.in-None.ensures.levels.0) c.requires.held
+    items_same (OwnAtom own fold run) (shown c.args.body.now) (shown c.innermost.new.self) c.innermost.ensures.outer (c.in-None.ensures.levels.1 ∙ sym c.in-None.ensures.levels.0) c.requires.held
 
 pub returns-in-None : goal.returns-in-None
 returns-in-None g c = let own = g.A.Algebra.is_own c.args.algebra.now in let fold = g.A.Algebra.is_fold c.args.algebra.now in let run = g.A.Algebra.is_run c.args.algebra.now in
     IfOk-weaker c.keep_value.result _ _
-    (λ r d. value_same (Kept own fold run) (shown c.args.body.now) (shown c.innermost.new.self) (shown c.keep_value.new.body) r c.args.from c.args.atom c.innermost.ensures.outer (c.in-None.ensures.levels.1 ∙ sym c.in-None.ensures.levels.0) d)
+    (λ r d. value_same (OwnAtom own fold run) (shown c.args.body.now) (shown c.innermost.new.self) (shown c.keep_value.new.body) r c.args.from c.args.atom c.innermost.ensures.outer (c.in-None.ensures.levels.1 ∙ sym c.in-None.ensures.levels.0) d)
     c.keep_value.ensures
 
 pub returns-in_ok-with_value-in-Some : goal.returns-in_ok-with_value-in-Some
 returns-in_ok-with_value-in-Some g c = let own = g.A.Algebra.is_own c.args.algebra.now in let fold = g.A.Algebra.is_fold c.args.algebra.now in let run = g.A.Algebra.is_run c.args.algebra.now in
     let (ys, more, step) = c.in_ok-with_value-in-Some.ensures in
     IfOk-weaker c.put.result _ _
-    (λ r d base w f t h k. value_put (Kept own fold run) base w (shown c.args.body.now) (shown c.innermost.new.self).outer (shown c.innermost.new.self).levels (shown c.put.new.self) r (held_of c.in-Some.level) c.args.from c.args.atom ys t f c.in-Some.ensures.levels (sym c.innermost.ensures.outer)
+    (λ r d base w f t h k. value_put (OwnAtom own fold run) base w (shown c.args.body.now) (shown c.innermost.new.self).outer (shown c.innermost.new.self).levels (shown c.put.new.self) r (held_of c.in-Some.level) c.args.from c.args.atom ys t f c.in-Some.ensures.levels (sym c.innermost.ensures.outer)
     (d (held_of c.in-Some.level) (value_next (held_of c.in-Some.level) c.args.atom ys) step) more h k)
     c.put.ensures

@@ -5,13 +5,13 @@ use Rattle.std.proofs.lemmas.List.Elements.{All-drop, All-head}
 use Rattle.std.specs.Vec.Iter.{into_iter_items}
 use Rattle.at_nest.specs.declared.pieces.NamedValue.{NamedValue}
 use Rattle.at_nest.proofs.Joining.{taken_front}
-use Rattle.at_nest.specs.KeptItems.{Kept, HasName}
+use Rattle.at_nest.specs.KeptItems.{OwnAtom, HasName}
 use Rattle.at_nest.proofs.MemberRows.{gains_member}
 use Rattle.at_nest.proofs.member_rows.with_members.Goals as goal
 
 pub loop-member-preserved : goal.loop-member-preserved
 loop-member-preserved g c = let own = g.A.Algebra.is_own c.args.algebra.now in let fold = g.A.Algebra.is_fold c.args.algebra.now in let run = g.A.Algebra.is_run c.args.algebra.now in
-    (tt, tt, gains_member (Kept own fold run) c.args.bytes.now c.args.members.items c.loop-member.members.items c.push.new.self.items c.loop-member.yielded c.in-Some.member c.in_ok-named_member.field-0 c.loop-member.invariant.2 c.in_ok-named_member.ensures c.in_ok-push.ensures.items)
+    (tt, tt, gains_member (OwnAtom own fold run) c.args.bytes.now c.args.members.items c.loop-member.members.items c.push.new.self.items c.loop-member.yielded c.in-Some.member c.in_ok-named_member.field-0 c.loop-member.invariant.2 c.in_ok-named_member.ensures c.in_ok-push.ensures.items)
 
 pub named_member-requires-clause-name : goal.named_member-requires-clause-name
 named_member-requires-clause-name g c =

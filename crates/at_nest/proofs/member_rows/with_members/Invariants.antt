@@ -1,9 +1,9 @@
 -- The members so far stand behind the others.
-use Rattle.at_nest.specs.KeptItems.{Kept, GainsMembers}
+use Rattle.at_nest.specs.KeptItems.{OwnAtom, GainsMembers}
 use Rattle.at_nest.proofs.member_rows.with_members.Given as goal
 
 abbrev pub invariant-loop-member : goal.invariant-loop-member
 invariant-loop-member g l =
     (goal.iterator-loop-member g).can_next l.member-iterator ×
     (goal.iterator-loop-member g).is_finite l.member-iterator ×
-    GainsMembers (Kept (g.A.Algebra.is_own l.fn.algebra) (g.A.Algebra.is_fold l.fn.algebra) (g.A.Algebra.is_run l.fn.algebra)) l.bytes l.fn.members.items l.yielded l.members.items
+    GainsMembers (OwnAtom (g.A.Algebra.is_own l.fn.algebra) (g.A.Algebra.is_fold l.fn.algebra) (g.A.Algebra.is_run l.fn.algebra)) l.bytes l.fn.members.items l.yielded l.members.items

@@ -1,7 +1,7 @@
 use Rattle.std.proofs.Common.{◌≡◌, ◌≢◌, ℕ, suc, ◌+◌, ◌<◌, ◌≤◌, ◌==◌, false, List, [], ◌∷◌, ◌++◌, length, take, drop, sym, ◌∙◌, ap, arith, take-append-drop, drop-cons, slice_index}
 use Rattle.std.proofs.lemmas.List.{append_cancel_left}
 use Rattle.at_wkt.proofs.Leads.{part-more}
-use Rattle.at_fixed.specs.Kept.{between}
+use Rattle.at_fixed.specs.NumberSoFar.{between}
 use Rattle.at_wkt.specs.Readers.{next}
 use Rattle.at_query.specs.Readers.{WordBreaks}
 use Rattle.at_query.proofs.query.bytes.skip_word.Goals as goal

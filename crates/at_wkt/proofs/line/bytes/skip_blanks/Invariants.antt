@@ -1,5 +1,5 @@
 use Rattle.std.proofs.Common.{length, ◌-◌, ◌≤◌}
-use Rattle.at_fixed.specs.Kept.{between}
+use Rattle.at_fixed.specs.NumberSoFar.{between}
 use Rattle.at_wkt.proofs.Steps.{AreBlanks}
 use Rattle.at_wkt.proofs.line.bytes.skip_blanks.Given as goal
 

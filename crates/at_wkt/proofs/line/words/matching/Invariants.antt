@@ -1,6 +1,6 @@
 use Rattle.std.proofs.Common.{length, ◌-◌, ◌+◌, ◌≤◌, ◌≡◌, take}
 use Rattle.std.specs.Str.{str_to_ascii_uppercase}
-use Rattle.at_fixed.specs.Kept.{between}
+use Rattle.at_fixed.specs.NumberSoFar.{between}
 use Rattle.at_wkt.proofs.line.words.matching.Given as goal
 
 abbrev pub invariant-loop-count : goal.invariant-loop-count
