@@ -26,13 +26,14 @@ module _ {F : Type 0} (Stands : ℕ → List ℕ → F → Type 0) (bytes places
         → AreNeighbours Stands bytes (slice_index places a) (slice_index places b) (slice_index places c) left right
     parts_beside l r left right e f a b c hl hr last =
         let h : Blocks (Read left) a b = subst (λ z. Blocks z a b) e hl in
-        let k : Blocks (Read right) b c = subst (λ z. Blocks z b c) f hr in (
-          place_order places a b order h.0 (let q = k.0 in omega (arith, q, last, some)),
-          place_order places b c order k.0 (omega (arith, last, some)),
-          place_within places c (length bytes) order (omega (arith, last, some)) within,
-          h.2,
-          k.2,
-        )
+        let k : Blocks (Read right) b c = subst (λ z. Blocks z b c) f hr in
+        record {
+          first = place_order places a b order h.0 (let q = k.0 in omega (arith, q, last, some));
+          second = place_order places b c order k.0 (omega (arith, last, some));
+          within = place_within places c (length bytes) order (omega (arith, last, some)) within;
+          left = h.2;
+          right = k.2;
+        }
 
     pub read_merged : (l r : FilePart F) (left right both : F) → l ≡ Read left → r ≡ Read right → IsMerged Stands bytes left right both → (a b c : ℕ) → Blocks l a b → Blocks r b c → c ≤ length places - 1 → Blocks (Read both) a c
     read_merged l r left right both e f merged a b c hl hr last =

@@ -17,10 +17,10 @@ pub next_neighbours : {F : Type 0} (Stands : ℕ → List ℕ → F → Type 0) 
     → StandsAt Stands bytes (first_place places) (slice_index places i) whole
     → StandsAt Stands bytes (slice_index places i) (slice_index places (i + 1)) block
     → AreNeighbours Stands bytes (first_place places) (slice_index places i) (slice_index places (i + 1)) whole block
-next_neighbours Stands bytes places i whole block order within inside h k = (
-  place_order places 0 i order (omega arith) (omega (arith, inside)),
-  place_order places i (i + 1) order (omega arith) inside,
-  place_within places (i + 1) (length bytes) order inside within,
-  h,
-  k,
-)
+next_neighbours Stands bytes places i whole block order within inside h k = record {
+  first = place_order places 0 i order (omega arith) (omega (arith, inside));
+  second = place_order places i (i + 1) order (omega arith) inside;
+  within = place_within places (i + 1) (length bytes) order inside within;
+  left = h;
+  right = k;
+}

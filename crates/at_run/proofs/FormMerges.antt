@@ -17,16 +17,16 @@ use Rattle.at_run.specs.Readers.{Asks, of_lines, of_json, StandsInForm}
 
 module _ (asks : Asks) (bytes : List ℕ) where
   lines_merged : (l r both : LineFragment Gathered) → IsMerged (StandsFor (OwnFold (IsOwn (of_lines asks)) (IsGathered (of_lines asks)))) bytes l r both → IsMerged (StandsInForm asks) bytes (Lines l) (Lines r) (Lines both)
-  lines_merged l r both h i j k (ij, jk, end, (form, stands), (again, beside)) = (form, h i j k (ij, jk, end, stands, beside))
+  lines_merged l r both h i j k n = (n.left.0, h i j k (record { first = n.first; second = n.second; within = n.within; left = n.left.1; right = n.right.1 }))
 
   json_merged : (l r both : JsonFragment) → IsMerged (StandsForText (of_json asks)) bytes l r both → IsMerged (StandsInForm asks) bytes (Json l) (Json r) (Json both)
-  json_merged l r both h i j k (ij, jk, end, (form, stands), (again, beside)) = (form, h i j k (ij, jk, end, stands, beside))
+  json_merged l r both h i j k n = (n.left.0, h i j k (record { first = n.first; second = n.second; within = n.within; left = n.left.1; right = n.right.1 }))
 
   abbrev NeighboursInForm : FileFragment → FileFragment → Type 0
   NeighboursInForm left right = (i : ℕ) × (j : ℕ) × (k : ℕ) × AreNeighbours (StandsInForm asks) bytes i j k left right
 
   json_beside : (l r : JsonFragment) → NeighboursInForm (Json l) (Json r) → (i : ℕ) × (j : ℕ) × (k : ℕ) × AreNeighbours (StandsForText (of_json asks)) bytes i j k l r
-  json_beside l r (i, j, k, (ij, jk, end, (form, stands), (again, beside))) = (i, j, k, (ij, jk, end, stands, beside))
+  json_beside l r (i, j, k, n) = (i, j, k, record { first = n.first; second = n.second; within = n.within; left = n.left.1; right = n.right.1 })
 
 pub merged_lines : (asks : Asks) (asked : Asked) (bytes : List ℕ) (left right : FileFragment) (l r both : LineFragment Gathered) → left ≡ Lines l → right ≡ Lines r → asked ≡ of_lines asks
     → IsMerged (StandsFor (OwnFold (IsOwn asked) (IsGathered asked))) bytes l r both → IsMerged (StandsInForm asks) bytes left right (Lines both)

@@ -17,11 +17,14 @@ module _ (asked : Asked) (bytes : List ℕ) (left right : JsonFragment) where
   AreBeside = (i : ℕ) × (j : ℕ) × (k : ℕ) × AreNeighbours (StandsForText asked) bytes i j k left right
 
   pub texts_beside : AreBeside → (i : ℕ) × (j : ℕ) × (k : ℕ) × AreNeighbours (StandsFor (IsGeoAtom asked)) bytes i j k left.text right.text
-  texts_beside (i, j, k, (ij, jk, end, l, r)) = (i, j, k, (ij, jk, end, l.0, r.0))
+  texts_beside (i, j, k, n) = (i, j, k, record { first = n.first; second = n.second; within = n.within; left = n.left.0; right = n.right.0 })
 
   pub spans_beside : AreBeside → (i : ℕ) × (j : ℕ) × (k : ℕ) × AreNeighbours IsValidIn bytes i j k left.valid right.valid
-  spans_beside (i, j, k, (ij, jk, end, l, r)) = (i, j, k, (ij, jk, end, l.1, r.1))
+  spans_beside (i, j, k, n) = (i, j, k, record { first = n.first; second = n.second; within = n.within; left = n.left.1; right = n.right.1 })
 
   pub fragments_merged : (text : Fragment GeoAlgebra GeoAtom) (valid : Span) → IsMerged (StandsFor (IsGeoAtom asked)) bytes left.text right.text text → IsMerged IsValidIn bytes left.valid right.valid valid
       → IsMerged (StandsForText asked) bytes left right (record { text = text; valid = valid })
-  fragments_merged text valid texts spans i j k (ij, jk, end, l, r) = (texts i j k (ij, jk, end, l.0, r.0), spans i j k (ij, jk, end, l.1, r.1))
+  fragments_merged text valid texts spans i j k n = (
+    texts i j k (record { first = n.first; second = n.second; within = n.within; left = n.left.0; right = n.right.0 }),
+    spans i j k (record { first = n.first; second = n.second; within = n.within; left = n.left.1; right = n.right.1 }),
+  )

@@ -106,7 +106,8 @@ module _ (bytes : List ℕ) where
   -- ---- two neighbours
 
   pub spans_joined : (left right : Span) → IsUtf8 (span_of bytes left.to right.from) → IsMerged IsValidIn bytes left right (record { from = left.from; to = right.to })
-  spans_joined left right between i j k (ij, jk, end, l, r) =
+  spans_joined left right between i j k n =
+      let (ij, jk, end) = (n.first, n.second, n.within) in let (l, r) = (n.left, n.right) in
       let l_ends : left.to ≤ j = ends_in i j left ij (omega (arith, jk, end)) l in
       let r_ends : right.to ≤ k = ends_in j k right jk end r in
       let l_order = l.order in let r_begins = r.begins in let r_order = r.order in
@@ -115,17 +116,20 @@ module _ (bytes : List ℕ) where
       (utf8_joined left.from right.from right.to (omega (arith, l_order, l_ends, r_begins)) r_order front (utf8_in j k right jk end r))
 
   pub left_alone : (left right : Span) → IsMerged IsValidIn bytes left right left
-  left_alone left right i j k (ij, jk, end, l, r) =
+  left_alone left right i j k n =
+      let (ij, jk, end) = (n.first, n.second, n.within) in let (l, r) = (n.left, n.right) in
       let l_ends : left.to ≤ j = ends_in i j left ij (omega (arith, jk, end)) l in
       stands_in i k left end l.begins l.order (omega (arith, l_ends, jk)) (utf8_in i j left ij (omega (arith, jk, end)) l)
 
   -- between two neighbours
   pub between_order : (left right : Span) → ((i : ℕ) × (j : ℕ) × (k : ℕ) × AreNeighbours IsValidIn bytes i j k left right) → left.to ≤ right.from
-  between_order left right (i, j, k, (ij, jk, end, l, r)) =
+  between_order left right (i, j, k, n) =
+      let (ij, jk, end) = (n.first, n.second, n.within) in let (l, r) = (n.left, n.right) in
       let l_ends : left.to ≤ j = ends_in i j left ij (omega (arith, jk, end)) l in let r_begins = r.begins in omega (arith, l_ends, r_begins)
 
   pub between_ends : (left right : Span) → ((i : ℕ) × (j : ℕ) × (k : ℕ) × AreNeighbours IsValidIn bytes i j k left right) → right.from ≤ length bytes
-  between_ends left right (i, j, k, (ij, jk, end, l, r)) =
+  between_ends left right (i, j, k, n) =
+      let (ij, jk, end) = (n.first, n.second, n.within) in let (l, r) = (n.left, n.right) in
       let r_ends : right.to ≤ k = ends_in j k right jk end r in let r_order = r.order in omega (arith, r_ends, r_order, end)
 
   -- ---- the whole file

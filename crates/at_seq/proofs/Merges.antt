@@ -144,7 +144,13 @@ module _ (asked : Asked) (bytes : List ℕ) where
       record_within = omega (arith, hr.order, hr.ends, n.2)
 
       pub record_beside : AreNeighbours Stands bytes left.last j right.first left.behind right.before
-      record_beside = (hl.ends, hr.begins, record_within, hl.behind, hr.before)
+      record_beside = record {
+        first = hl.ends;
+        second = hr.begins;
+        within = record_within;
+        left = hl.behind;
+        right = hr.before;
+      }
 
       pub record_holds : (whole : Fragment GeoAlgebra GeoAtom) → IsMerged Stands bytes left.behind right.before whole → HoldsJson asked bytes left.last right.first whole
       record_holds whole merged = merged left.last j right.first record_beside
@@ -179,7 +185,13 @@ module _ (asked : Asked) (bytes : List ℕ) where
     text_beside left right (h, g, l, a, b) = (h, g, l, a.text, b.text)
 
     pub valid_beside : (left right : SeqRead) → AreBeside (HoldsSpan asked bytes) bytes i j k left right → AreNeighbours IsValidIn bytes i j k left.valid right.valid
-    valid_beside left right (h, g, l, a, b) = (h, g, l, a.valid, b.valid)
+    valid_beside left right (h, g, l, a, b) = record {
+      first = h;
+      second = g;
+      within = l;
+      left = a.valid;
+      right = b.valid;
+    }
 
     pub spans_merged : (left right : SeqRead) (text : SeqText) (valid : Span) → AreBeside (HoldsSpan asked bytes) bytes i j k left right → IsOfBoth (HoldsText asked bytes) bytes left.text right.text text
         → IsMerged IsValidIn bytes left.valid right.valid valid → HoldsSpan asked bytes i k (record { text = text; valid = valid })
@@ -194,14 +206,24 @@ module _ (asked : Asked) (bytes : List ℕ) where
   pub lone_before : (a b : SeqText) (left : Fragment GeoAlgebra GeoAtom) (right : PartedText) → a ≡ Lone left → b ≡ Parted right → ((i : ℕ) × (j : ℕ) × (k : ℕ) × AreBeside (HoldsText asked bytes) bytes i j k a b)
       → (i : ℕ) × (j : ℕ) × (k : ℕ) × AreNeighbours Stands bytes i j k left right.before
   lone_before a b left right e f (i, j, k, n) =
-      let (h, g, l, (p, x), r) = texts_are i j k a b (Lone left) (Parted right) e f n in
-      (i, j, right.first, (h, r.begins, (omega (arith, r.order, r.ends, l)), x, r.before))
+      let (h, g, l, (p, x), r) = texts_are i j k a b (Lone left) (Parted right) e f n in (
+        i,
+        j,
+        right.first,
+        record {
+          first = h;
+          second = r.begins;
+          within = omega (arith, r.order, r.ends, l);
+          left = x;
+          right = r.before;
+        },
+      )
 
   pub behind_lone : (a b : SeqText) (left : PartedText) (right : Fragment GeoAlgebra GeoAtom) → a ≡ Parted left → b ≡ Lone right → ((i : ℕ) × (j : ℕ) × (k : ℕ) × AreBeside (HoldsText asked bytes) bytes i j k a b)
       → (i : ℕ) × (j : ℕ) × (k : ℕ) × AreNeighbours Stands bytes i j k left.behind right
   behind_lone a b left right e f (i, j, k, n) =
       let (h, g, l, r, (q, x)) = texts_are i j k a b (Parted left) (Lone right) e f n in
-      (left.last, j, k, (r.ends, g, l, r.behind, x))
+      (left.last, j, k, record { first = r.ends; second = g; within = l; left = r.behind; right = x })
 
 -- ---- the reader's pieces
 
@@ -211,7 +233,8 @@ module _ (asks : SeqAsks) (bytes : List ℕ) where
 
   -- fragments that stand for neighbouring spans, as those of the reader's file
   pub read_beside : (left right : SeqRead) (i j k : ℕ) → AreNeighbours (StandsInFile asks) bytes i j k (Read left) (Read right) → AreBeside (HoldsSpan asks.asked asks.bytes) asks.bytes i j k left right
-  read_beside left right i j k (h, g, l, a, b) =
+  read_beside left right i j k n =
+      let (h, g, l) = (n.first, n.second, n.within) in let (a, b) = (n.left, n.right) in
       let near : i + length (span_of bytes i j) ≡ j = length-span_of bytes i j h (omega (arith, g, l)) in
       let far : j + length (span_of bytes j k) ≡ k = length-span_of bytes j k g l in
       let first : HoldsSpan asks.asked asks.bytes i j left = subst (λ n. HoldsSpan asks.asked asks.bytes i n left) near a in
@@ -222,7 +245,7 @@ module _ (asks : SeqAsks) (bytes : List ℕ) where
   pub pieces_merged : (left right : SeqRead) (both : SeqFragment) → IsOfBoth Holds asks.bytes (Read left) (Read right) both → IsMerged (StandsInFile asks) bytes (Read left) (Read right) both
   pieces_merged left right both of_both i j k n =
       let m = read_beside left right i j k n in
-      let whole : i + length (span_of bytes i k) ≡ k = length-span_of bytes i k (omega (arith, n.0, n.1)) n.2 in
+      let whole : i + length (span_of bytes i k) ≡ k = length-span_of bytes i k (let (a, b) = (n.first, n.second) in omega (arith, a, b)) n.within in
       subst (λ e. Holds i e both) (sym whole) (of_both i j k (m.0, m.1, m.2, m.3, m.4))
 
   pub reads_beside : (a b : SeqFragment) (left right : SeqRead) → a ≡ Read left → b ≡ Read right → ((i : ℕ) × (j : ℕ) × (k : ℕ) × AreNeighbours (StandsInFile asks) bytes i j k a b)

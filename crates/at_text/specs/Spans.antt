@@ -12,10 +12,13 @@ module _ {F : Type 0} (Stands : ℕ → List ℕ → F → Type 0) where
   abbrev pub StandsAt : List ℕ → ℕ → ℕ → F → Type 0
   StandsAt bytes i k fragment = Stands i (span_of bytes i k) fragment
 
-  -- the fragments stand for the bytes from i up to j, and from j up to k
-  abbrev pub AreNeighbours : List ℕ → ℕ → ℕ → ℕ → F → F → Type 0
-  AreNeighbours bytes i j k left right = (i ≤ j) × (j ≤ k) × (k ≤ length bytes) × StandsAt bytes i j left
-      × StandsAt bytes j k right
+  -- the fragments a and b stand for the bytes from i up to j, and from j up to k
+  pub record AreNeighbours (bytes : List ℕ) (i j k : ℕ) (a b : F) : Type 0 where
+    pub first : i ≤ j
+    pub second : j ≤ k
+    pub within : k ≤ length bytes
+    pub left : StandsAt bytes i j a
+    pub right : StandsAt bytes j k b
 
   -- wherever the fragments are neighbours, the third stands for both spans
   abbrev pub IsMerged : List ℕ → F → F → F → Type 0

@@ -117,7 +117,8 @@ module _ {P : Type 0} (IsOwn : P → Type 0) (IsFold : P → List FileLine → T
         subst P2 f (subst P1 e h)
 
     pub pieces_merged : (left right both : Span) → AreNeighbours (StandsFor IsKept) bytes i j k (Piece left) (Piece right) → both.from ≡ left.from → both.to ≡ right.to → HoldsPiece i (span_of bytes i k) both
-    pieces_merged left right both (h, g, l, (p, (pf, pt)), (q, (qf, qt))) ef et =
+    pieces_merged left right both n ef et =
+        let (h, g, l) = (n.first, n.second, n.within) in let (p, (pf, pt)) = n.left in let (q, (qf, qt)) = n.right in
         let size = length-span_of bytes i k (omega arith) l in
         let far = length-span_of bytes j k g l in (
           pieces_both bytes i j k h g l ∙ (ap (λ z. glued z (pieces_from j (span_of bytes j k))) p ∙ (ap (glued (record { at = i; text = span_of bytes i j } ∷ [])) q
@@ -127,7 +128,8 @@ module _ {P : Type 0} (IsOwn : P → Type 0) (IsFold : P → List FileLine → T
 
     pub piece_lines_merged : (left : Span) (right : WholeLines P) (before : Span) → AreNeighbours (StandsFor IsKept) bytes i j k (Piece left) (Lines right) → before.from ≡ left.from → before.to ≡ right.before.to
         → HoldsLines IsKept i (span_of bytes i k) (record { before = before; part = right.part; behind = right.behind })
-    piece_lines_merged left right before (h, g, l, (p, (pf, pt)), r) ef et =
+    piece_lines_merged left right before n ef et =
+        let (h, g, l) = (n.first, n.second, n.within) in let (p, (pf, pt)) = n.left in let r = n.right in
         let near = length-span_of bytes i j h (omega arith) in
         let begins = first_begins j (span_of bytes j k) r.first (r.inner ++ (r.last ∷ [])) r.pieces in
         let size = length-append (span_of bytes i j) r.first.text in
@@ -144,7 +146,8 @@ module _ {P : Type 0} (IsOwn : P → Type 0) (IsFold : P → List FileLine → T
 
     pub lines_piece_merged : (left : WholeLines P) (right : Span) (behind : Span) → AreNeighbours (StandsFor IsKept) bytes i j k (Lines left) (Piece right) → behind.from ≡ left.behind.from → behind.to ≡ right.to
         → HoldsLines IsKept i (span_of bytes i k) (record { before = left.before; part = left.part; behind = behind })
-    lines_piece_merged left right behind (h, g, l, r, (q, (qf, qt))) ef et =
+    lines_piece_merged left right behind n ef et =
+        let (h, g, l) = (n.first, n.second, n.within) in let r = n.left in let (q, (qf, qt)) = n.right in
         let near = length-span_of bytes i j h (omega arith) in
         let ends = last_ends i (span_of bytes i j) (r.first ∷ r.inner) r.last r.pieces in
         let size = length-append r.last.text (span_of bytes j k) in
@@ -162,25 +165,25 @@ module _ {P : Type 0} (IsOwn : P → Type 0) (IsFold : P → List FileLine → T
     -- two with lines: the line that lies in both
     module _ (left right : WholeLines P) (n : AreNeighbours (StandsFor IsKept) bytes i j k (Lines left) (Lines right)) where
       abbrev hl : HoldsLines IsKept i (span_of bytes i j) left
-      hl = n.3
+      hl = n.left
 
       abbrev hr : HoldsLines IsKept j (span_of bytes j k) right
-      hr = n.4
+      hr = n.right
 
       abbrev broken : FileLine
       broken = record { at = hl.last.at; text = hl.last.text ++ hr.first.text }
 
       both_pieces : pieces_from i (span_of bytes i k) ≡ (hl.first ∷ hl.inner) ++ (broken ∷ (hr.inner ++ (hr.last ∷ [])))
-      both_pieces = pieces_both bytes i j k n.0 n.1 n.2 ∙ (ap (λ z. glued z (pieces_from j (span_of bytes j k))) hl.pieces ∙ (ap (glued ((hl.first ∷ hl.inner) ++ (hl.last ∷ []))) hr.pieces
+      both_pieces = pieces_both bytes i j k n.first n.second n.within ∙ (ap (λ z. glued z (pieces_from j (span_of bytes j k))) hl.pieces ∙ (ap (glued ((hl.first ∷ hl.inner) ++ (hl.last ∷ []))) hr.pieces
           ∙ glued_end (hl.first ∷ hl.inner) hl.last hr.first (hr.inner ++ (hr.last ∷ []))))
 
       pub broken_has : (span : Span) → span.from ≡ left.behind.from → span.to ≡ right.before.to → HasPiece bytes span broken
       broken_has span ef et =
           let ends = last_ends i (span_of bytes i j) (hl.first ∷ hl.inner) hl.last hl.pieces in
-          let near : i + length (span_of bytes i j) ≡ j = length-span_of bytes i j n.0 (omega (arith, n.1, n.2)) in
+          let near : i + length (span_of bytes i j) ≡ j = length-span_of bytes i j n.first (omega (arith, n.second, n.within)) in
           let begins = first_begins j (span_of bytes j k) hr.first (hr.inner ++ (hr.last ∷ [])) hr.pieces in
           let size = length-append hl.last.text hr.first.text in
-          span_has bytes (span_of bytes i k) (drop (k - i) (drop i bytes)) i span broken (omega (arith, n.0, n.1, n.2)) (part_more bytes i k (omega (arith, n.0, n.1)))
+          span_has bytes (span_of bytes i k) (drop (k - i) (drop i bytes)) i span broken (omega (arith, n.first, n.second, n.within)) (part_more bytes i k (omega (arith, n.first, n.second)))
           (piece_of i (span_of bytes i k) (hl.first ∷ hl.inner) broken (hr.inner ++ (hr.last ∷ [])) both_pieces)
           (ef ∙ hl.behind.0, omega (arith, et, hr.before.1, begins, ends, near, size))
 

@@ -17,5 +17,5 @@ returns-in-Some-Some-clause-union g c = let own = g.A.Algebra.is_own c.args.alge
     λ i j k n. let beside = parts_beside (OwnAtom own fold run) c.args.bytes.now i j k c.args.left c.args.right c.in-Some-Some.left c.in-Some-Some.right (sym c.into_parts.ensures ∙ c.in-Some-Some.is-0) (sym c.into_parts-2.ensures ∙ c.in-Some-Some.is-1) n in
     c.fragment_of.ensures i (span_of c.args.bytes.now i k)
     (IfOk-weaker c.merge_parts-parts.result _ _
-    (λ p f. subst (λ z. HoldsParts (OwnAtom own fold run) i z p) (part_joined c.args.bytes.now i j k n.0 n.1) (f i (span_of c.args.bytes.now i j) (span_of c.args.bytes.now j k) beside))
+    (λ p f. subst (λ z. HoldsParts (OwnAtom own fold run) i z p) (part_joined c.args.bytes.now i j k n.first n.second) (f i (span_of c.args.bytes.now i j) (span_of c.args.bytes.now j k) beside))
     c.merge_parts-parts.ensures)
