@@ -5,7 +5,6 @@ use Rattle.std.specs.Bool.{⊤}
 use Rattle.at_text.specs.declared.memory.Memory.{Memory}
 use Rattle.at_text.specs.declared.texts.Span.{Span}
 use Rattle.at_wkt.specs.Lines.{FileLine, pieces_from, lines_in}
-use Rattle.at_wkt.specs.declared.file.folding.Fold.{Ghosts}
 use Rattle.at_wkt.specs.declared.file.fragments.Inner.{Inner}
 use Rattle.at_wkt.specs.declared.file.fragments.WholeLines.{WholeLines}
 use Rattle.at_wkt.specs.declared.file.fragments.LineFragment.{LineFragment}
@@ -18,10 +17,6 @@ IsSpanOf piece span = (span.from ≡ piece.at) × (span.to ≡ piece.at + length
 -- a part of the fold's own that is the fold of the lines
 abbrev pub OwnFold : {P : Type 0} → (P → Type 0) → (P → List FileLine → Type 0) → P → List FileLine → Type 0
 OwnFold IsOwn IsFold part lines = IsOwn part × IsFold part lines
-
--- the same of a fold
-abbrev pub IsPartOf : {F P : Type 0} → Ghosts F P → F → P → List FileLine → Type 0
-IsPartOf folds fold = OwnFold (folds.is_own fold) (folds.is_fold fold)
 
 -- of whatever lines the one part is the fold, the next is the fold of those and of these behind them
 abbrev pub AddsLines : {P : Type 0} → (P → List FileLine → Type 0) → P → List FileLine → P → Type 0

@@ -5,3 +5,4 @@ pub mod Lines
 pub mod Answers
 pub mod Readers
 pub mod Folding
+pub mod FoldParts

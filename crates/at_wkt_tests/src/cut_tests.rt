@@ -5,7 +5,8 @@ ghost use Rattle.std.specs.List.{flat_map};
 ghost use Rattle.at_text.specs.Texts.{base_of as base_in};
 ghost use Rattle.at_wkt.specs.Lines.{FileLine, lines_of};
 ghost use Rattle.at_text.specs.Spans.{span_of};
-ghost use Rattle.at_wkt.specs.Folding.{IsPartOf, StandsFor};
+ghost use Rattle.at_wkt.specs.FoldParts.{IsPartOf};
+ghost use Rattle.at_wkt.specs.Folding.{StandsFor};
 
 use at_text::{Memory, Span, base_of};
 use at_wkt::{Fold, LineFragment, finish_lines, merge_lines, run_lines};

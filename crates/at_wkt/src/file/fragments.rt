@@ -5,7 +5,8 @@ ghost use Rattle.std.specs.List.{list_any, position_or_len};
 ghost use Rattle.at_text.specs.Texts.{base_of as base_in};
 ghost use Rattle.at_text.specs.Spans.{AreNeighbours, IsMerged, span_of};
 ghost use Rattle.at_wkt.specs.Lines.{lines_of, lines_in, is_line_feed};
-ghost use Rattle.at_wkt.specs.Folding.{AddsLines, HoldsInner, HoldsLines, IsLost, IsPiece, IsPartOf, StandsFor};
+ghost use Rattle.at_wkt.specs.FoldParts.{IsPartOf};
+ghost use Rattle.at_wkt.specs.Folding.{AddsLines, HoldsInner, HoldsLines, IsLost, IsPiece, StandsFor};
 ghost use Rattle.at_wkt.specs.Folding.{fragment_of};
 
 use crate::file::folding::{Fold, fold_piece};
