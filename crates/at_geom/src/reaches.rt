@@ -83,6 +83,7 @@ fn is_in_some(p: Pos, polygons: &[Polygon], reach: Option<Extent>) -> bool
     }
 }
 
+/// Whether a position is in one of the polygons, each with its border.
 pub fn is_in_any(p: Pos, polygons: &[Polygon]) -> bool
     requires p_in_range { IsInRange p }
     requires polygons_in_range { ArePolygonsInRange polygons.now }

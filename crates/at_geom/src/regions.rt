@@ -51,6 +51,7 @@ pub fn in_polygon(p: Pos, polygon: &Polygon) -> bool
     }
 }
 
+/// Whether a position is inside none of the holes. It may lie on the border of one.
 pub fn is_in_no_hole(p: Pos, holes: &[Path]) -> bool
     requires p_in_range { IsInRange p }
     requires holes_in_range { All (All IsInRange) holes.now }
@@ -64,6 +65,7 @@ pub fn is_in_no_hole(p: Pos, holes: &[Path]) -> bool
     true
 }
 
+/// Whether a position is inside a ring, on it, or outside.
 pub fn place_in_ring(p: Pos, ring: &[Pos]) -> RingPlace
     requires p_in_range { IsInRange p }
     requires ring_in_range { All IsInRange ring.now }

@@ -15,6 +15,7 @@ pub enum Start {
     InEscape,
 }
 
+/// The kind of a bracket.
 #[derive(Clone, Copy, Debug, PartialEq, Eq)]
 pub enum Bracket {
     /// `{` or `}`.
