@@ -146,7 +146,7 @@ is_part bytes i k h g = (take i bytes, drop (k - i) (drop i bytes), sym (ap (λ 
 
 module _ {A X : Type 0} (IsKept : X → Content → Type 0) where
   pub parts_beside : (bytes : List ℕ) (i j k : ℕ) (left right : Fragment A X) (l r : Parts X) → parts_of left ≡ Some l → parts_of right ≡ Some r → AreNeighbours (StandsFor IsKept) bytes i j k left right → AreBeside IsKept bytes i (span_of bytes i j) (span_of bytes j k) l r
-  parts_beside bytes i j k left right l r e f n = let (h, g, m) = (n.first, n.second, n.within) in (
+  parts_beside bytes i j k left right l r e f n = let h = n.first in let g = n.second in let m = n.within in (
     subst (IsPartOf bytes i) (sym (part_joined bytes i j k h g)) (is_part bytes i k (omega (arith, h, g)) m),
     subst (HoldsSome IsKept i (span_of bytes i j)) e n.left,
     subst (λ at. HoldsParts IsKept at (span_of bytes j k) r) (sym (part_length bytes i j h (omega (arith, g, m)))) (subst (HoldsSome IsKept j (span_of bytes j k)) f n.right),

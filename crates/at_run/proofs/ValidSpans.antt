@@ -107,7 +107,7 @@ module _ (bytes : List ℕ) where
 
   pub spans_joined : (left right : Span) → IsUtf8 (span_of bytes left.to right.from) → IsMerged IsValidIn bytes left right (record { from = left.from; to = right.to })
   spans_joined left right between i j k n =
-      let (ij, jk, end) = (n.first, n.second, n.within) in let (l, r) = (n.left, n.right) in
+      let ij = n.first in let jk = n.second in let end = n.within in let l = n.left in let r = n.right in
       let l_ends : left.to ≤ j = ends_in i j left ij (omega (arith, jk, end)) l in
       let r_ends : right.to ≤ k = ends_in j k right jk end r in
       let l_order = l.order in let r_begins = r.begins in let r_order = r.order in
@@ -117,19 +117,19 @@ module _ (bytes : List ℕ) where
 
   pub left_alone : (left right : Span) → IsMerged IsValidIn bytes left right left
   left_alone left right i j k n =
-      let (ij, jk, end) = (n.first, n.second, n.within) in let (l, r) = (n.left, n.right) in
+      let ij = n.first in let jk = n.second in let end = n.within in let l = n.left in let r = n.right in
       let l_ends : left.to ≤ j = ends_in i j left ij (omega (arith, jk, end)) l in
       stands_in i k left end l.begins l.order (omega (arith, l_ends, jk)) (utf8_in i j left ij (omega (arith, jk, end)) l)
 
   -- between two neighbours
   pub between_order : (left right : Span) → ((i : ℕ) × (j : ℕ) × (k : ℕ) × AreNeighbours IsValidIn bytes i j k left right) → left.to ≤ right.from
   between_order left right (i, j, k, n) =
-      let (ij, jk, end) = (n.first, n.second, n.within) in let (l, r) = (n.left, n.right) in
+      let ij = n.first in let jk = n.second in let end = n.within in let l = n.left in let r = n.right in
       let l_ends : left.to ≤ j = ends_in i j left ij (omega (arith, jk, end)) l in let r_begins = r.begins in omega (arith, l_ends, r_begins)
 
   pub between_ends : (left right : Span) → ((i : ℕ) × (j : ℕ) × (k : ℕ) × AreNeighbours IsValidIn bytes i j k left right) → right.from ≤ length bytes
   between_ends left right (i, j, k, n) =
-      let (ij, jk, end) = (n.first, n.second, n.within) in let (l, r) = (n.left, n.right) in
+      let ij = n.first in let jk = n.second in let end = n.within in let l = n.left in let r = n.right in
       let r_ends : right.to ≤ k = ends_in j k right jk end r in let r_order = r.order in omega (arith, r_ends, r_order, end)
 
   -- ---- the whole file

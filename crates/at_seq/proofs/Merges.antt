@@ -234,7 +234,7 @@ module _ (asks : SeqAsks) (bytes : List ℕ) where
   -- fragments that stand for neighbouring spans, as those of the reader's file
   pub read_beside : (left right : SeqRead) (i j k : ℕ) → AreNeighbours (StandsInFile asks) bytes i j k (Read left) (Read right) → AreBeside (HoldsSpan asks.asked asks.bytes) asks.bytes i j k left right
   read_beside left right i j k n =
-      let (h, g, l) = (n.first, n.second, n.within) in let (a, b) = (n.left, n.right) in
+      let h = n.first in let g = n.second in let l = n.within in let a = n.left in let b = n.right in
       let near : i + length (span_of bytes i j) ≡ j = length-span_of bytes i j h (omega (arith, g, l)) in
       let far : j + length (span_of bytes j k) ≡ k = length-span_of bytes j k g l in
       let first : HoldsSpan asks.asked asks.bytes i j left = subst (λ n. HoldsSpan asks.asked asks.bytes i n left) near a in
@@ -245,7 +245,7 @@ module _ (asks : SeqAsks) (bytes : List ℕ) where
   pub pieces_merged : (left right : SeqRead) (both : SeqFragment) → IsOfBoth Holds asks.bytes (Read left) (Read right) both → IsMerged (StandsInFile asks) bytes (Read left) (Read right) both
   pieces_merged left right both of_both i j k n =
       let m = read_beside left right i j k n in
-      let whole : i + length (span_of bytes i k) ≡ k = length-span_of bytes i k (let (a, b) = (n.first, n.second) in omega (arith, a, b)) n.within in
+      let whole : i + length (span_of bytes i k) ≡ k = length-span_of bytes i k (let a = n.first in let b = n.second in omega (arith, a, b)) n.within in
       subst (λ e. Holds i e both) (sym whole) (of_both i j k (m.0, m.1, m.2, m.3, m.4))
 
   pub reads_beside : (a b : SeqFragment) (left right : SeqRead) → a ≡ Read left → b ≡ Read right → ((i : ℕ) × (j : ℕ) × (k : ℕ) × AreNeighbours (StandsInFile asks) bytes i j k a b)

@@ -118,7 +118,7 @@ module _ {P : Type 0} (IsOwn : P → Type 0) (IsFold : P → List FileLine → T
 
     pub pieces_merged : (left right both : Span) → AreNeighbours (StandsFor IsKept) bytes i j k (Piece left) (Piece right) → both.from ≡ left.from → both.to ≡ right.to → HoldsPiece i (span_of bytes i k) both
     pieces_merged left right both n ef et =
-        let (h, g, l) = (n.first, n.second, n.within) in let (p, (pf, pt)) = n.left in let (q, (qf, qt)) = n.right in
+        let h = n.first in let g = n.second in let l = n.within in let (p, (pf, pt)) = n.left in let (q, (qf, qt)) = n.right in
         let size = length-span_of bytes i k (omega arith) l in
         let far = length-span_of bytes j k g l in (
           pieces_both bytes i j k h g l ∙ (ap (λ z. glued z (pieces_from j (span_of bytes j k))) p ∙ (ap (glued (record { at = i; text = span_of bytes i j } ∷ [])) q
@@ -129,7 +129,7 @@ module _ {P : Type 0} (IsOwn : P → Type 0) (IsFold : P → List FileLine → T
     pub piece_lines_merged : (left : Span) (right : WholeLines P) (before : Span) → AreNeighbours (StandsFor IsKept) bytes i j k (Piece left) (Lines right) → before.from ≡ left.from → before.to ≡ right.before.to
         → HoldsLines IsKept i (span_of bytes i k) (record { before = before; part = right.part; behind = right.behind })
     piece_lines_merged left right before n ef et =
-        let (h, g, l) = (n.first, n.second, n.within) in let (p, (pf, pt)) = n.left in let r = n.right in
+        let h = n.first in let g = n.second in let l = n.within in let (p, (pf, pt)) = n.left in let r = n.right in
         let near = length-span_of bytes i j h (omega arith) in
         let begins = first_begins j (span_of bytes j k) r.first (r.inner ++ (r.last ∷ [])) r.pieces in
         let size = length-append (span_of bytes i j) r.first.text in
@@ -147,7 +147,7 @@ module _ {P : Type 0} (IsOwn : P → Type 0) (IsFold : P → List FileLine → T
     pub lines_piece_merged : (left : WholeLines P) (right : Span) (behind : Span) → AreNeighbours (StandsFor IsKept) bytes i j k (Lines left) (Piece right) → behind.from ≡ left.behind.from → behind.to ≡ right.to
         → HoldsLines IsKept i (span_of bytes i k) (record { before = left.before; part = left.part; behind = behind })
     lines_piece_merged left right behind n ef et =
-        let (h, g, l) = (n.first, n.second, n.within) in let r = n.left in let (q, (qf, qt)) = n.right in
+        let h = n.first in let g = n.second in let l = n.within in let r = n.left in let (q, (qf, qt)) = n.right in
         let near = length-span_of bytes i j h (omega arith) in
         let ends = last_ends i (span_of bytes i j) (r.first ∷ r.inner) r.last r.pieces in
         let size = length-append r.last.text (span_of bytes j k) in
