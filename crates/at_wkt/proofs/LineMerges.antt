@@ -119,7 +119,7 @@ module _ {P : Type 0} (IsOwn : P → Type 0) (IsFold : P → List FileLine → T
     pub pieces_merged : (left right both : Span) → AreNeighbours (StandsFor IsKept) bytes i j k (Piece left) (Piece right) → both.from ≡ left.from → both.to ≡ right.to → HoldsPiece i (span_of bytes i k) both
     pieces_merged left right both n ef et =
         let h = n.first in let g = n.second in let l = n.within in let (p, (pf, pt)) = n.left in let (q, (qf, qt)) = n.right in
-        let size = length-span_of bytes i k (omega arith) l in
+        let size = length-span_of bytes i k (omega (arith, h, g, l)) l in
         let far = length-span_of bytes j k g l in (
           pieces_both bytes i j k h g l ∙ (ap (λ z. glued z (pieces_from j (span_of bytes j k))) p ∙ (ap (glued (record { at = i; text = span_of bytes i j } ∷ [])) q
               ∙ ap (λ z. record { at = i; text = z } ∷ []) (sym (span_of-joined bytes i j k h g)))),
@@ -130,7 +130,7 @@ module _ {P : Type 0} (IsOwn : P → Type 0) (IsFold : P → List FileLine → T
         → HoldsLines IsKept i (span_of bytes i k) (record { before = before; part = right.part; behind = right.behind })
     piece_lines_merged left right before n ef et =
         let h = n.first in let g = n.second in let l = n.within in let (p, (pf, pt)) = n.left in let r = n.right in
-        let near = length-span_of bytes i j h (omega arith) in
+        let near = length-span_of bytes i j h (omega (arith, h, g, l)) in
         let begins = first_begins j (span_of bytes j k) r.first (r.inner ++ (r.last ∷ [])) r.pieces in
         let size = length-append (span_of bytes i j) r.first.text in
         let ends = r.before.1 in
@@ -148,7 +148,7 @@ module _ {P : Type 0} (IsOwn : P → Type 0) (IsFold : P → List FileLine → T
         → HoldsLines IsKept i (span_of bytes i k) (record { before = left.before; part = left.part; behind = behind })
     lines_piece_merged left right behind n ef et =
         let h = n.first in let g = n.second in let l = n.within in let r = n.left in let (q, (qf, qt)) = n.right in
-        let near = length-span_of bytes i j h (omega arith) in
+        let near = length-span_of bytes i j h (omega (arith, h, g, l)) in
         let ends = last_ends i (span_of bytes i j) (r.first ∷ r.inner) r.last r.pieces in
         let size = length-append r.last.text (span_of bytes j k) in
         record {
