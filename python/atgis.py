@@ -2,13 +2,13 @@
 
     import atgis
 
-    atgis.count("towns.geojson")                                       3
-    atgis.select("towns.geojson", atgis.has("kind", "town"))           [45, 188]
-    atgis.extent("lakes.wkt", atgis.meets_box(9, 47, 10, 48))          Extent(min_x=Decimal('9.0000000'), ..)
-    atgis.hull("towns.geojson", atgis.has("kind", "town"))             [(Decimal('9.1750000'), Decimal('47.6600000')), ..]
-    atgis.square_degrees(atgis.area("lakes.wkt"))                      Decimal('0.228500000000000')
-    atgis.join("towns.geojson", "lakes.wkt")                           [(45, 0), (338, 57)]
-    atgis.features("towns.geojson", [45])                              [{'type': 'Feature', ..}]
+    atgis.count("towns.geojson")                               3
+    atgis.select("towns.geojson", atgis.has("kind", "town"))   [45, 188]
+    atgis.extent("lakes.wkt", atgis.meets_box(9, 47, 10, 48))  Extent(min_x=Decimal('9.0000000'), ..)
+    atgis.hull("towns.geojson", atgis.has("kind", "town"))     [(Decimal('9.1750000'), Decimal('47.6600000')), ..]
+    atgis.square_degrees(atgis.area("lakes.wkt"))              Decimal('0.228500000000000')
+    atgis.join("towns.geojson", "lakes.wkt")                   [(45, 0), (338, 57)]
+    atgis.features("towns.geojson", [45])                      [{'type': 'Feature', ..}]
 
 Each function runs the program once and reads what it prints. A file is the name of one, `@in` for the standard input,
 or the name of a made file such as `@g:1000`. Tests are a query's text behind ` where `, or a list of such texts, all of
@@ -24,8 +24,8 @@ which must hold; None and an empty text are no test. These options stand behind 
               PATH
 
 Everything that the program refuses is raised as an AtgisError: Fault, WordsError, QueryError, FilesError, ReadError,
-WriteError, OutOfMemory or TooLarge; and as ProgramError where it can't be run. The module needs Python 3.9 or later, and
-geopandas for `frame` alone.
+WriteError, OutOfMemory or TooLarge; and as ProgramError where it can't be run. The module needs Python 3.9 or later,
+and geopandas for `frame` alone.
 """
 from __future__ import annotations
 
@@ -38,8 +38,8 @@ from typing import Any, Dict, Iterable, List, NamedTuple, Optional, Sequence, Tu
 
 __all__ = [
     "AtgisError", "Extent", "Fault", "FileError", "FilesError", "OutOfMemory", "ProgramError", "QueryError",
-    "ReadError", "TooLarge", "WordsError", "WriteError", "area", "count", "extent", "features", "frame", "has", "hull", "in_box",
-    "join", "meets", "meets_box", "select", "square_degrees",
+    "ReadError", "TooLarge", "WordsError", "WriteError", "area", "count", "extent", "features", "frame", "has", "hull",
+    "in_box", "join", "meets", "meets_box", "select", "square_degrees",
 ]
 
 LIMIT = 268_435_456
@@ -137,7 +137,10 @@ def count(file: Name, where: Tests = None, **options: Any) -> int:
 
 
 def area(file: Name, where: Tests = None, **options: Any) -> int:
-    """Twice the area of all polygons, exactly, in squares of a unit: 10**-14 square degrees at 7 digits, else 10**-18."""
+    """Twice the area of all polygons, exactly, in squares of a unit.
+
+    Such a square is 10**-14 square degrees at 7 digits, and 10**-18 at 9.
+    """
     return int(_lines("area", [file], where, options)[0])
 
 
@@ -153,7 +156,10 @@ def extent(file: Name, where: Tests = None, **options: Any) -> Optional[Extent]:
 
 
 def hull(file: Name, where: Tests = None, **options: Any) -> List[Tuple[Decimal, Decimal]]:
-    """The corners of the convex hull of all positions, counterclockwise from the lowest; none where there is no position."""
+    """The corners of the convex hull of all positions, counterclockwise from the lowest.
+
+    There are none where there is no position.
+    """
     lines = _lines("hull", [file], where, options)
     return [] if lines == ["empty"] else [(Decimal(x), Decimal(y)) for x, y in (line.split(" ") for line in lines)]
 

@@ -1,15 +1,17 @@
+-- What public contracts say: a reader has to believe these.
 pub mod Words
 pub mod Pieces
 pub mod Values
 pub mod LineOf
 pub mod Answers
 pub mod Gates
-pub mod Steps
-pub mod Said
 pub mod Texts
 pub mod Outcomes
 pub mod Telling
-pub mod Endings
 pub mod Failures
 pub mod Made
+-- Between private functions: nothing here has to be believed.
+pub mod Steps
+pub mod Said
+pub mod Endings
 pub mod Squares

@@ -132,7 +132,9 @@ no_points at = record { path = []; as_points = None; as_line = line_fault 0 at; 
 
 abbrev pub as_points : GeoAtom → Option PointsView
 as_points (atoms.Empty at) = Some (no_points at)
-as_points (atoms.Points a) = let p = a.points.value in Some (record { path = p.path.items; as_points = p.as_points; as_line = p.as_line; as_ring = p.as_ring })
+as_points (atoms.Points a) =
+    let p = a.points.value in
+    Some (record { path = p.path.items; as_points = p.as_points; as_line = p.as_line; as_ring = p.as_ring })
 as_points _ = None
 
 abbrev pub as_lists : GeoAtom → Option ListsView

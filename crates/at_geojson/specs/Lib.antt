@@ -1,8 +1,11 @@
+-- What public contracts say: a reader has to believe these.
 pub mod Names
 pub mod Coordinates
 pub mod Roles
 pub mod Keeping
 pub mod Atoms
+pub mod Wholes
+-- Between private functions: nothing here has to be believed.
 pub mod Gathering
 pub mod Hashes
 pub mod Arrays
@@ -12,7 +15,6 @@ pub mod Objects
 pub mod Fields
 pub mod Ends
 pub mod Copies
-pub mod Wholes
 pub mod Places
 pub mod Values
 pub mod Rows

@@ -41,7 +41,9 @@ both_read a b = record { shape = both a.shape b.shape; faults = a.faults ++ b.fa
 
 abbrev pub all_features : List Features → Features
 all_features [] = record { features = []; faults = [] }
-all_features (a ∷ rest) = let b = all_features rest in record { features = a.features ++ b.features; faults = a.faults ++ b.faults }
+all_features (a ∷ rest) =
+    let b = all_features rest in
+    record { features = a.features ++ b.features; faults = a.faults ++ b.faults }
 
 -- the members whose value is a string, as pairs of units
 abbrev pub texts_of : Members → List TextPair

@@ -258,7 +258,8 @@ fn no_bytes(rt: HostRuntime) -> Result<(), Fail> {
     Ok(())
 }
 
-/// Pieces whose last token is broken, with where it begins, the place of the first byte that is refused and the token's end.
+/// Pieces whose last token is broken, with where it begins, the place of the first byte that is refused and the token's
+/// end.
 static BROKEN: [(&[u8], u32, u32, u32); 9] = [
     (b"[1 tru ]", 3, 6, 6),
     (b"[01]", 1, 2, 3),

@@ -1,18 +1,14 @@
+-- What public contracts say: a reader has to believe these.
 pub mod Tree
 pub mod Syntax
 pub mod Twins
 pub mod Folds
-pub mod Passing
 pub mod Shown
 pub mod MemberMarks
 pub mod KeptItems
 pub mod Reading
-pub mod Refusals
-pub mod Nests
-pub mod Closers
 pub mod VariantMeanings
 pub mod FragmentMeanings
-pub mod Slots
 pub mod NumberStates
 pub mod States
 pub mod Borders
@@ -22,7 +18,13 @@ pub mod Levels
 pub mod Stops
 pub mod Variants
 pub mod Unions
-pub mod Answers
 pub mod TextAnswers
+-- Between private functions: nothing here has to be believed.
+pub mod Passing
+pub mod Refusals
+pub mod Nests
+pub mod Closers
+pub mod Slots
+pub mod Answers
 pub mod NextItems
 pub mod LastBytes

@@ -1,3 +1,4 @@
+-- What public contracts say: a reader has to believe these.
 pub mod Holding
 pub mod Results
 pub mod Ranges
@@ -7,4 +8,5 @@ pub mod Accumulators
 pub mod Printing
 pub mod Spelling
 pub mod Queries
+-- Between private functions: nothing here has to be believed.
 pub mod Readers

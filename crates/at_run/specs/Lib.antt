@@ -1,7 +1,7 @@
+-- What public contracts say: a reader has to believe these.
 pub mod Places
 pub mod Labels
 pub mod LineFaults
-pub mod Labelling
 pub mod Features
 pub mod JsonFiles
 pub mod Encodings
@@ -11,3 +11,5 @@ pub mod Answers
 pub mod Gathering
 pub mod Readers
 pub mod Blocks
+-- Between private functions: nothing here has to be believed.
+pub mod Labelling

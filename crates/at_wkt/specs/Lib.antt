@@ -1,8 +1,10 @@
+-- What public contracts say: a reader has to believe these.
 pub mod Positions
 pub mod Geometry
 pub mod Meaning
 pub mod Lines
 pub mod Answers
-pub mod Readers
 pub mod Folding
 pub mod FoldParts
+-- Between private functions: nothing here has to be believed.
+pub mod Readers
