@@ -4,6 +4,15 @@
 //! text, and from inside a string. [`merge`] joins what two neighbouring pieces gave; where the left one ends behind a
 //! backslash, it may have to read the right one once more. [`finish`] answers what an [`Algebra`] makes of the file's
 //! tree, or the first place at which no JSON text goes on.
+//!
+//! `Tally` is an [`Algebra`] that counts the values of a text: here an object, an array and two numbers.
+//! ```
+//! let text: &[u8] = b"{\"a\":[1,2]}";
+//! let left = run_block(alloc, &Tally, &text[..6], 0);
+//! let right = run_block(alloc, &Tally, &text[6..], 6);
+//! let whole = merge(alloc, &Tally, text, left, right);
+//! assert_eq!(rt; finish(alloc, &Tally, text, whole)?, 4);
+//! ```
 #![tactic(auto)]
 
 mod algebra;
