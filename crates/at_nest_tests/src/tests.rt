@@ -685,9 +685,9 @@ fn lost_fragments(rt: HostRuntime) {
 fn the_example_of_the_crate(rt: HostRuntime) -> Result<(), Fail> {
     let alloc = rt.alloc();
     let text: &[u8] = b"{\"a\":[1,2]}";
-    let left = run_block(alloc, &Tally, &text[..6], 0);
-    let right = run_block(alloc, &Tally, &text[6..], 6);
-    let whole = merge(alloc, &Tally, text, left, right);
+    let whole = run_block(alloc, &Tally, text, 0);
     assert_eq!(rt; finish(alloc, &Tally, text, whole)?, 4);
+    let front = run_block(alloc, &Tally, b"[1,", 0);
+    assert!(rt; finish(alloc, &Tally, b"[1,", front) == Err(NestEnd::Ended));
     Ok(())
 }
