@@ -438,3 +438,19 @@ fn one_height(rt: HostRuntime) -> Result<(), Fail> {
     assert_eq!(rt; count_as_told(rt.alloc(), &bands, AROUND_FLAT)?, 8);
     Ok(())
 }
+
+/// What the page of `at_band` shows.
+#[test]
+fn the_example_of_the_crate(rt: HostRuntime) -> Result<(), Fail> {
+    let alloc = rt.alloc();
+    let town = shape(alloc, "2,2|||")?;
+    let line = Path::from_vec(vec![in alloc; Pos { x: 0, y: 0 }, Pos { x: 4, y: 4 }]?);
+    let road = Shape {
+        points: Path::from_vec(Vec::new(alloc)),
+        lines: Paths::from_vec(vec![in alloc; line]?),
+        polygons: Polygons::from_vec(Vec::new(alloc)),
+    };
+    let bands = Bands::new(alloc, &road)?;
+    assert!(rt; bands.meets(&town));
+    Ok(())
+}

@@ -5,6 +5,16 @@
 //! [`HullBuilder`] is given positions bit by bit. Each list has one hull and no more, whatever the
 //! order of its positions.
 //! Coordinates are in range as at_geom has it, so every turn is exact.
+//!
+//! Of three positions on one line, the hull has the two ends:
+//! ```
+//! let low = Pos { x: 0, y: 0 };
+//! let middle = Pos { x: 2, y: 1 };
+//! let high = Pos { x: 4, y: 2 };
+//! let points = Path::from_vec(vec![in alloc; high, middle, low]?);
+//! let ends = hull(alloc, &points)?;
+//! assert!(rt; ends.as_slice() == [low, high].as_slice());
+//! ```
 #![tactic(auto)]
 
 mod builder;

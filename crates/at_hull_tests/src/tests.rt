@@ -423,3 +423,16 @@ fn positions_inside_and_outside(rt: HostRuntime) -> Result<(), Fail> {
     assert_eq!(rt; covered(rt.alloc(), &OUTSIDE)?, 0);
     Ok(())
 }
+
+/// What the page of `at_hull` shows.
+#[test]
+fn the_example_of_the_crate(rt: HostRuntime) -> Result<(), Fail> {
+    let alloc = rt.alloc();
+    let low = Pos { x: 0, y: 0 };
+    let middle = Pos { x: 2, y: 1 };
+    let high = Pos { x: 4, y: 2 };
+    let points = Path::from_vec(vec![in alloc; high, middle, low]?);
+    let ends = hull(alloc, &points)?;
+    assert!(rt; ends.as_slice() == [low, high].as_slice());
+    Ok(())
+}

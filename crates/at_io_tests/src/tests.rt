@@ -253,3 +253,16 @@ fn streams_of_std(rt: HostRuntime) {
     assert!(rt; refusing.put(b"").is_ok());
     assert!(rt; refusing.put(b"a").is_err());
 }
+
+/// What the page of `at_io` shows.
+#[test]
+fn the_example_of_the_crate(rt: HostRuntime) -> Result<(), Fail> {
+    let alloc = rt.alloc();
+    let name = String::from_str(alloc, "blanks.wkt")?;
+    let mut shelf = RepeatShelf::new(name, b' ', 3);
+    let bytes = read_whole(alloc, &mut shelf, "blanks.wkt")?;
+    let mut sink = MemSink::new(alloc, 5, Vec::new(alloc))?;
+    sink.put(bytes.as_slice())?;
+    assert!(rt; sink.written() == b"   ".as_slice());
+    Ok(())
+}

@@ -9,6 +9,14 @@
 //! round them: where it is off, all of them are passed over at once. The second list is gone over once for each run of
 //! 16 of the first, and each of these looks only at what was near the run; only where the second is far longer, once
 //! for each entry of the first. Which entries are neighbours decides the time alone and no answer.
+//!
+//! `towns` and `lakes` are lists of two squares each, of which three pairs meet:
+//! ```
+//! let plain = pairs_plain(alloc, &towns, &lakes)?;
+//! let pairs = pairs_grid(&rt, alloc, towns, lakes, 4, &Free)?;
+//! assert!(rt; pairs.as_slice() == plain.as_slice());
+//! assert_eq!(rt; pairs.as_slice().len(), 3);
+//! ```
 #![tactic(auto)]
 
 mod boxes;

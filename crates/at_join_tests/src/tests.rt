@@ -287,3 +287,16 @@ fn cell_given_up(rt: HostRuntime) -> Result<(), Fail> {
     assert!(rt; answer.is_err());
     Ok(())
 }
+
+/// What the page of `at_join` shows.
+#[test]
+fn the_example_of_the_crate(rt: HostRuntime) -> Result<(), Fail> {
+    let alloc = rt.alloc();
+    let towns = whole_squares(alloc)?;
+    let lakes = half_squares(alloc)?;
+    let plain = pairs_plain(alloc, &towns, &lakes)?;
+    let pairs = pairs_grid(&rt, alloc, towns, lakes, 4, &Free)?;
+    assert!(rt; pairs.as_slice() == plain.as_slice());
+    assert_eq!(rt; pairs.as_slice().len(), 3);
+    Ok(())
+}

@@ -679,3 +679,15 @@ fn lost_fragments(rt: HostRuntime) {
     let found = finish_span(rt.alloc(), &Tally, bytes, span, whole);
     assert!(rt; found == Err(NestEnd::Memory));
 }
+
+/// What the page of `at_nest` shows.
+#[test]
+fn the_example_of_the_crate(rt: HostRuntime) -> Result<(), Fail> {
+    let alloc = rt.alloc();
+    let text: &[u8] = b"{\"a\":[1,2]}";
+    let whole = run_block(alloc, &Tally, text, 0);
+    assert_eq!(rt; finish(alloc, &Tally, text, whole)?, 4);
+    let front = run_block(alloc, &Tally, b"[1,", 0);
+    assert!(rt; finish(alloc, &Tally, b"[1,", front) == Err(NestEnd::Ended));
+    Ok(())
+}

@@ -5,6 +5,17 @@
 //! two neighbouring lists of features give, in any grouping, and [`answer_of`] and [`answer_text`] make the answer and
 //! its printed text of the whole list's part. Where features come one after another, an [`Accumulator`] takes each in
 //! place and becomes the part of all.
+//!
+//! A query is read, and asked of `river`, a feature with the name Rhine:
+//! ```
+//! let line = br#"count where has "name" = "Rhine""#;
+//! let query = read_query(alloc, line, 7, Coords::Exact)?;
+//! assert!(rt; holds(&query, &river));
+//! let part = part_of(alloc, &query, river)?;
+//! assert!(rt; matches!(part, Part::Count(1)));
+//! let text = answer_text(alloc, &answer_of(part), 7)?;
+//! assert_eq!(rt; text.as_str(), "1\n");
+//! ```
 #![tactic(auto)]
 
 // What is asked: features, the line of a query, and its tests.

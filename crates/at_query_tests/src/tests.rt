@@ -12,11 +12,13 @@ mod hulls;
 mod lines;
 
 use at_band::Bands;
+use at_fixed::Coords;
 use at_geom::{Extent, Path, Paths, Polygon, Polygons, Pos, Shape};
 use at_lex::Units;
 use at_query::{
     Accumulator, Answer, Entries, Feature, Offsets, Pair, Pairs, Part, Query, Test, Tests,
     TextPair, TextPairs, Verb, answer_of, answer_text, holds, part_merge, part_none, part_of,
+    read_query,
 };
 use std::alloc::{AllocError, Global};
 use std::test::Fail;
@@ -574,5 +576,20 @@ fn printed_hulls(rt: HostRuntime) -> Result<(), Fail> {
     let hull = Answer::Hull(path(rt.alloc(), &[(-15_000_000, 5), (0, 7)])?);
     let expected = "-1.5000000 0.0000005\n0.0000000 0.0000007\n";
     assert!(rt; is_printed(rt.alloc(), hull, expected)?);
+    Ok(())
+}
+
+/// What the page of `at_query` shows.
+#[test]
+fn the_example_of_the_crate(rt: HostRuntime) -> Result<(), Fail> {
+    let alloc = rt.alloc();
+    let river = feature(alloc, &AROUND_BOX[0])?;
+    let line = br#"count where has "name" = "Rhine""#;
+    let query = read_query(alloc, line, 7, Coords::Exact)?;
+    assert!(rt; holds(&query, &river));
+    let part = part_of(alloc, &query, river)?;
+    assert!(rt; matches!(part, Part::Count(1)));
+    let text = answer_text(alloc, &answer_of(part), 7)?;
+    assert_eq!(rt; text.as_str(), "1\n");
     Ok(())
 }

@@ -11,6 +11,15 @@
 //!
 //! What is done with a block is a reader's own (`Pieces` of at_text). [`run_file`] has a crew run the blocks of any
 //! reader, and [`run_blocks`] runs them one after another.
+//!
+//! `query` counts features. It is asked of a file of two lines, which two passes read in two blocks:
+//! ```
+//! let file = b"POINT (1 2)\nPOINT (3 4)\n";
+//! let (form, how) = (Form::Wkt, Coords::Exact);
+//! let cuts = Cuts::even(alloc, 0, 24, 2)?;
+//! let found = answer(&rt, alloc, file, form, &cuts, &query, 7, how, 2, &Free)?;
+//! assert_eq!(rt; answer_text(alloc, &found, 7)?.as_str(), "2\n");
+//! ```
 #![tactic(auto)]
 
 mod answers;

@@ -729,3 +729,16 @@ fn two_blocks_at_once(rt: HostRuntime) -> Result<(), Fail> {
     assert!(rt; gate.gave_up_waiting.load(Ordering::SeqCst) == 0);
     Ok(())
 }
+
+/// What the page of `at_run` shows.
+#[test]
+fn the_example_of_the_crate(rt: HostRuntime) -> Result<(), Fail> {
+    let alloc = rt.alloc();
+    let query = asked(alloc, Verb::Count, None)?;
+    let file = b"POINT (1 2)\nPOINT (3 4)\n";
+    let (form, how) = (Form::Wkt, Coords::Exact);
+    let cuts = Cuts::even(alloc, 0, 24, 2)?;
+    let found = answer(&rt, alloc, file, form, &cuts, &query, 7, how, 2, &Free)?;
+    assert_eq!(rt; answer_text(alloc, &found, 7)?.as_str(), "2\n");
+    Ok(())
+}

@@ -303,3 +303,16 @@ fn counts(rt: HostRuntime) -> Result<(), Fail> {
     assert_eq!(rt; two.as_str(), "2");
     Ok(())
 }
+
+/// What the page of `at_seq` shows.
+#[test]
+fn the_example_of_the_crate(rt: HostRuntime) -> Result<(), Fail> {
+    let alloc = rt.alloc();
+    let query = asked(alloc, Verb::Count);
+    let bytes = b"\x1E{\"type\":\"Point\",\"coordinates\":[1,2]}\n";
+    let how = Coords::Exact;
+    let cuts = Cuts::even(alloc, 0, 38, 2)?;
+    let part = part_seq(&rt, alloc, bytes, &cuts, &query, 7, how, 2, &Free)?;
+    assert!(rt; matches!(part, Part::Count(1)));
+    Ok(())
+}

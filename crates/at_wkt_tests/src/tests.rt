@@ -600,3 +600,17 @@ fn deep_collections(rt: HostRuntime) -> Result<(), Fail> {
     assert_eq!(rt; told_of_line(rt.alloc(), line)?.as_str(), "none");
     Ok(())
 }
+
+/// What the page of `at_wkt` shows.
+#[test]
+fn the_example_of_the_crate(rt: HostRuntime) -> Result<(), Fail> {
+    let alloc = rt.alloc();
+    let bonn = Pos {
+        x: 71_000_000,
+        y: 507_000_000,
+    };
+    let shape = read_line(alloc, b"POINT (7.1 50.7)", 0, 7, Coords::Exact)?;
+    assert!(rt; shape.points.as_slice() == [bonn].as_slice());
+    assert!(rt; read_line(alloc, b"POINT (7.1", 0, 7, Coords::Exact).is_err());
+    Ok(())
+}
