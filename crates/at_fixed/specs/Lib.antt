@@ -1,8 +1,10 @@
+-- What public contracts say: a reader has to believe these.
 pub mod Numerals
 pub mod Fixed
-pub mod Gaps
 pub mod Products
 pub mod States
+-- Between private functions: nothing here has to be believed.
+pub mod Gaps
 pub mod NumberSoFar
 pub mod Eights
 pub mod Scans

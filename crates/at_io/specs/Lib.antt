@@ -1,3 +1,4 @@
+-- What public contracts say: a reader has to believe these.
 pub mod Counts
 pub mod Distinct
 pub mod Files

@@ -1,11 +1,13 @@
+-- What public contracts say: a reader has to believe these.
 pub mod Strings
 pub mod Runs
-pub mod Beginnings
-pub mod EndedNumbers
 pub mod StringStates
-pub mod Fronts
 pub mod Spans
 pub mod CodeUnits
+pub mod Stream
+-- Between private functions: nothing here has to be believed.
+pub mod Beginnings
+pub mod EndedNumbers
+pub mod Fronts
 pub mod UnitSteps
 pub mod Endings
-pub mod Stream
