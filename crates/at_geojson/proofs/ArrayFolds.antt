@@ -14,7 +14,7 @@ use Rattle.at_geojson.specs.declared.atoms.GeoAtom.TheVariants as atoms
 use Rattle.at_geojson.specs.declared.atoms.ItemsAtom.{ItemsAtom}
 use Rattle.at_fixed.specs.Numerals.{Numeral}
 use Rattle.at_wkt.specs.Positions.{Positions}
-use Rattle.std.proofs.lemmas.Option.{none-some}
+use Rattle.std.proofs.lemmas.Option.{none-some, same_Some}
 use Rattle.at_geojson.specs.declared.atoms.Role.TheVariants as roles
 use Rattle.at_geojson.specs.Names.{items_of}
 use Rattle.at_geojson.specs.Coordinates.{each, number_at, position_of, position_of_numbers, positions_of, lists_of, area_of, areas_of, if_some_items}
@@ -61,10 +61,7 @@ kept_nil : {X : Type 0} (b : Bool) → ◌≡◌ {A = List X} [] (kept b [])
 kept_nil true = refl
 kept_nil false = refl
 
-some_same : (x y : GeoAtom) → Some x ≡ Some y → x ≡ y
-some_same x y e = ap (λ o. elim o [ None ↦ x | Some z ↦ z ]) e
-
-kept_empty : (b : Bool) → empty_shape ≡ kept_shape b empty_shape
+pub kept_empty : (b : Bool) → empty_shape ≡ kept_shape b empty_shape
 kept_empty true = refl
 kept_empty false = refl
 
@@ -72,7 +69,7 @@ kept_empty false = refl
 pub twin_of_pair : (at least : ℕ) (items : List GeoAtom) (r : GeoAtom) → pair_atom at least items ≡ Some r → twin_of r ≡ None
 twin_of_pair at least [] r e = absurd (none-some r e)
 twin_of_pair at least (x ∷ []) r e = absurd (none-some r e)
-twin_of_pair at least (x ∷ y ∷ rest) r e = ap twin_of (sym (some_same (position_atom at least x y) r e)) ∙ go (first_fault (number_fault x) (number_fault y)) where
+twin_of_pair at least (x ∷ y ∷ rest) r e = ap twin_of (sym (same_Some (position_atom at least x y) r e)) ∙ go (first_fault (number_fault x) (number_fault y)) where
   go : (o : Option Fault) → twin_of (position_made at least x y o) ≡ None
   go None = refl
   go (Some f) = refl
@@ -308,7 +305,7 @@ module _ (asked : Asked) where
       go : (rest : List GeoAtom) → aa ≡ rest → IsRead asked r t
       go [] q = absurd (none-some r (ap (λ z. pair_atom at least (a ∷ z)) (sym q) ∙ p))
       go (b ∷ bb) q =
-          let made : position_atom at least a b ≡ r = some_same (position_atom at least a b) r (ap (λ z. pair_at at least (Some a) (slice_get (a ∷ z) 1)) (sym q) ∙ p) in
+          let made : position_atom at least a b ≡ r = same_Some (position_atom at least a b) r (ap (λ z. pair_at at least (Some a) (slice_get (a ∷ z) 1)) (sym q) ∙ p) in
           let (ys, es, each_is) = some_numbers asked at (a ∷ aa) ts h all in
           subst (λ z. IsRead asked z t) made (array_read (position_atom at least a b) (position_atom_is a b) (no_objects 0 (a ∷ aa) all)
           (forms b bb q ys es (subst (λ z. EachIs number_at as_number (IsNumber asked) (a ∷ z) ys) q each_is)))

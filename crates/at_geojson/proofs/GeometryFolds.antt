@@ -26,6 +26,7 @@ use Rattle.at_geojson.specs.Gathering.{seen}
 use Rattle.at_geojson.specs.Objects.{unless, shape_seen, point_shape, points_shape, line_shape, lines_shape, polygon_shape, polygons_shape}
 use Rattle.at_geojson.proofs.Firsts.{none_first}
 use Rattle.at_geojson.proofs.CoordinateFolds.{items_none}
+use Rattle.at_geojson.proofs.ArrayFolds.{kept_empty}
 use Rattle.at_geom.specs.Shapes.{line_fault}
 
 -- ---- empty arrays
@@ -85,10 +86,6 @@ polygon_form (literal i l) n = refl
 
 abbrev polygon_of : List (List Pos) → Polygon
 polygon_of paths = record { rings = paths }
-
-kept_empty : (b : Bool) → empty_shape ≡ kept_shape b empty_shape
-kept_empty true = refl
-kept_empty false = refl
 
 kept_points : (b : Bool) (xs : List Pos) → of_points (kept b xs) ≡ kept_shape b (of_points xs)
 kept_points true xs = refl

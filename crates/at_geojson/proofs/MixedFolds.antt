@@ -2,7 +2,7 @@
 use Rattle.std.proofs.Common.{◌≡◌, inl, inr, ℕ, ◌≤◌, min, fold, Bool, true, false, ◌&&◌, ◌||◌, List, [], ◌∷◌, ◌++◌, Option, Some, None, is_some, refl, sym, ◌∙◌, ap, subst, append-nil, append_assoc, option_map, option_and_then, arith}
 use Rattle.std.specs.List.{list_all, list_any}
 use Rattle.std.proofs.Math.Nat.{min-eq_left}
-use Rattle.std.proofs.lemmas.Bool.{true≢false}
+use Rattle.std.proofs.lemmas.Bool.{true≢false, or_parts}
 use Rattle.at_text.specs.Faults.{fault_at}
 use Rattle.at_text.specs.declared.faults.FaultKind.TheVariants.{Form}
 use Rattle.at_nest.specs.Folds.{trees, Covers, AreItemFolds}
@@ -112,10 +112,6 @@ form_features (atoms.Run x) e = absurd (true≢false e)
 form_features (atoms.Series s) e = refl
 form_features (atoms.Track t) e = refl
 
-or_false : (a b : Bool) → (a || b) ≡ false → (a ≡ false) × (b ≡ false)
-or_false true b e = absurd (true≢false e)
-or_false false b e = (refl, e)
-
 -- ---- Form of both of two
 
 shapes_form : (m n : ℕ) → JoinsShapes (no_roles m).geometries (no_roles n).geometries (no_roles (min m n)).geometries
@@ -135,13 +131,13 @@ module _ (asked : Asked) where
       → HaveItems asked (no_roles (fold (λ least a. min least (at_of a)) m aa)) (trees (us ++ vs))
   forms_more us m [] vs h f e = subst (λ z. HaveItems asked (no_roles m) (trees z)) (sym (ap (λ z. us ++ z) f ∙ append-nil us)) h
   forms_more us m (a ∷ aa) vs h (ps, qs, s, c, f) e =
-      let none = or_false (is_object a) (list_any is_object aa) e in
+      let none = or_parts (is_object a) (list_any is_object aa) e in
       subst (λ z. HaveItems asked (no_roles (fold (λ least b. min least (at_of b)) (min m (at_of a)) aa)) (trees z)) (append_assoc us ps qs ∙ ap (λ z. us ++ z) (sym s))
       (forms_more (us ++ ps) (min m (at_of a)) aa qs (forms_both us ps m (at_of a) h (form_covers a ps none.0 c)) f none.1)
 
   forms_all : (a : GeoAtom) (aa : List GeoAtom) (ts : List Tree) → AreItemFolds (IsRead asked) (IsRun asked) (a ∷ aa) ts → list_any is_object (a ∷ aa) ≡ false → HaveItems asked (no_roles (least_of (a ∷ aa))) (trees ts)
   forms_all a aa ts (ps, qs, s, c, f) e =
-      let none = or_false (is_object a) (list_any is_object aa) e in
+      let none = or_parts (is_object a) (list_any is_object aa) e in
       let l : min (at_of a) (at_of a) ≡ at_of a = (let k : at_of a ≤ at_of a = omega arith in min-eq_left k) in
       subst (λ n. HaveItems asked (no_roles (fold (λ least b. min least (at_of b)) n aa)) (trees ts)) (sym l)
       (subst (λ z. HaveItems asked (no_roles (fold (λ least b. min least (at_of b)) (at_of a) aa)) (trees z)) (sym s) (forms_more ps (at_of a) aa qs (form_covers a ps none.0 c) f none.1))

@@ -18,15 +18,12 @@ use Rattle.at_geojson.specs.declared.atoms.GeoAtom.{GeoAtom}
 use Rattle.at_geojson.specs.declared.kinds.Kind.{Kind}
 use Rattle.at_geojson.specs.Names.{is_named, member_named, units_of_text}
 use Rattle.at_geojson.specs.Roles.{GeometryRead, not_geometry, texts_of, properties_texts, properties_faults, feature_of, coordinates_reading, geometry_reading, items_reading, collection_reading, geometries_reading, geometry_member_reading, feature_reading}
-use Rattle.at_geojson.specs.Keeping.{Asked, needs_shapes, asks_value, asks_pair, asked_texts, kept_shape}
+use Rattle.at_geojson.specs.Keeping.{Asked, needs_shapes, asks_value, asks_pair, asked_texts}
 use Rattle.at_geojson.specs.Atoms.{at_of, is_null, is_null_tree, as_texts, as_geometries, asked_text, asked_units, role_of, role_geometry, object_members, array_trees, Alike, HasShape, HasPart, IsRead}
 use Rattle.at_geojson.specs.Gathering.{seen}
 use Rattle.at_geojson.specs.Objects.{value_named, kind_shape, coordinates_shape, geometries_shape, feature_shape, texts_in, texts_named, pair_kept, kept_texts, JoinsFeature}
 use Rattle.at_geojson.proofs.QueryFacts.{no_value, same_part}
-
-kept_nothing : (b : Bool) → empty_shape ≡ kept_shape b empty_shape
-kept_nothing true = refl
-kept_nothing false = refl
+use Rattle.at_geojson.proofs.ArrayFolds.{kept_empty}
 
 module _ (asked : Asked) where
   -- ---- texts
@@ -117,13 +114,13 @@ module _ (asked : Asked) where
   is_nothing (object i ms) e = absurd (true≢false (sym e))
 
   pub feature_shape_is : (o : Option GeoAtom) (p : Option Tree) → Alike (IsRead asked) o p → HasShape (needs_shapes asked.query) (feature_shape o) (geometry_member_reading asked.digits asked.how p)
-  feature_shape_is None None h = (refl, kept_nothing (needs_shapes asked.query))
+  feature_shape_is None None h = (refl, kept_empty (needs_shapes asked.query))
   feature_shape_is None (Some t) h = absurd h
   feature_shape_is (Some a) None h = absurd h
   feature_shape_is (Some a) (Some t) h = go (is_null a) refl where
     go : (b : Bool) → is_null a ≡ b → HasShape (needs_shapes asked.query) (feature_shape (Some a)) (geometry_member_reading asked.digits asked.how (Some t))
     go true e = subst (λ c. HasShape (needs_shapes asked.query) (if c then Ok empty_shape else role_geometry (at_of a) (role_of a)) (geometry_member_reading asked.digits asked.how (Some t))) (sym e)
-        (subst (HasShape (needs_shapes asked.query) (Ok empty_shape)) (sym (is_nothing t (sym h.scalar.is_null ∙ e))) (refl, kept_nothing (needs_shapes asked.query)))
+        (subst (HasShape (needs_shapes asked.query) (Ok empty_shape)) (sym (is_nothing t (sym h.scalar.is_null ∙ e))) (refl, kept_empty (needs_shapes asked.query)))
     go false e = subst (λ c. HasShape (needs_shapes asked.query) (if c then Ok empty_shape else role_geometry (at_of a) (role_of a)) (geometry_member_reading asked.digits asked.how (Some t))) (sym e)
         (subst (HasShape (needs_shapes asked.query) (role_geometry (at_of a) (role_of a))) (sym (not_null t (sym h.scalar.is_null ∙ e))) h.object.geometry)
 

@@ -1,7 +1,7 @@
 -- The algebra's own atoms: coordinates in range, and parts of the query.
-use Rattle.std.proofs.Common.{◌≡◌, ℕ, ◌≤◌, nat_abs, Bool, true, false, List, [], ◌∷◌, ◌++◌, map, Option, Some, None, Result, Ok, Err, All, sym, ap, subst, arith}
+use Rattle.std.proofs.Common.{◌≡◌, ℕ, ◌≤◌, nat_abs, Bool, true, false, List, [], ◌∷◌, ◌++◌, map, Option, Some, None, Result, Ok, Err, All, sym, subst, arith}
 use Rattle.std.proofs.lemmas.List.Elements.{All-nil, All-cons, All-head, All-tail, All-append}
-use Rattle.std.proofs.lemmas.Option.{none-some}
+use Rattle.std.proofs.lemmas.Option.{none-some, same_Some}
 use Rattle.at_text.specs.Faults.{first_fault}
 use Rattle.at_text.specs.declared.faults.Fault.{Fault}
 use Rattle.at_geom.specs.declared.shapes.Polygon.{Polygon}
@@ -28,9 +28,6 @@ all_kept P false xs h = All-nil P
 
 pub nowhere_in : IsInRange nowhere
 nowhere_in = (omega arith, omega arith)
-
-some_is : (x y : GeoAtom) → Some x ≡ Some y → x ≡ y
-some_is x y e = ap (λ o. elim o [ None ↦ x | Some z ↦ z ]) e
 
 module _ (asked : Asked) where
   role_shape : (at : ℕ) (r : Role) → IsOwnRole asked r → IfOwnShape asked (role_geometry at r)
@@ -214,7 +211,7 @@ module _ (asked : Asked) where
   pub pair_own : (at least : ℕ) (items : List GeoAtom) (r : GeoAtom) → All (IsOwn asked) items → pair_atom at least items ≡ Some r → IsOwn asked r
   pair_own at least [] r h e = absurd (none-some r e)
   pair_own at least (x ∷ []) r h e = absurd (none-some r e)
-  pair_own at least (x ∷ y ∷ rest) r h e = subst (IsOwn asked) (some_is (position_atom at least x y) r e) (go (first_fault (number_fault x) (number_fault y))) where
+  pair_own at least (x ∷ y ∷ rest) r h e = subst (IsOwn asked) (same_Some (position_atom at least x y) r e) (go (first_fault (number_fault x) (number_fault y))) where
     hx : IsOwn asked x
     hx = All-head (IsOwn asked) x (y ∷ rest) h
 

@@ -1,7 +1,7 @@
 -- A feature whose shape and texts are kept only as far as the query looks at them gives the part of the feature itself.
 use Rattle.std.proofs.Common.{◌≡◌, inl, inr, ℕ, Bool, true, false, ◌&&◌, ◌||◌, cond, bytes_eq, List, [], ◌∷◌, ◌++◌, refl, sym, ◌∙◌, ap, subst}
 use Rattle.std.specs.List.{AllByRecursion, list_any}
-use Rattle.std.proofs.lemmas.Bool.{true≢false}
+use Rattle.std.proofs.lemmas.Bool.{true≢false, and_parts, and_from, or_left, or_right}
 use Rattle.std.proofs.lemmas.Slice.Eq.{bytes_eq-Decides}
 use Rattle.std.proofs.lemmas.List.Concat.{flat_map-cons}
 use Rattle.at_geom.specs.declared.shapes.Shape.{Shape}
@@ -25,26 +25,6 @@ use Rattle.at_query.proofs.KeptLists.{keeps_one}
 
 abbrev entry_at : ℕ → Shape → Entry
 entry_at at shape = record { at = at; shape = shape; extent = extent_of (positions shape) }
-
-or_here : (a b : Bool) → a ≡ true → (a || b) ≡ true
-or_here true b e = refl
-or_here false b e = absurd (true≢false (sym e))
-
-or_right : (a b : Bool) → b ≡ true → (a || b) ≡ true
-or_right true b e = refl
-or_right false b e = e
-
-and_left : (a b : Bool) → (a && b) ≡ true → a ≡ true
-and_left true b e = refl
-and_left false b e = e
-
-and_right : (a b : Bool) → (a && b) ≡ true → b ≡ true
-and_right true b e = e
-and_right false b e = absurd (true≢false (sym e))
-
-both_true : (a b : Bool) → a ≡ true → b ≡ true → (a && b) ≡ true
-both_true true b e f = f
-both_true false b e f = e
 
 -- where nothing of shapes is left out
 pub kept_whole : (b : Bool) (s : Shape) → b ≡ true → kept_shape b s ≡ s
@@ -72,8 +52,8 @@ has_same tests name value asks (p ∷ ps) = go (asks_pair tests p.name p.value) 
   other : (b : Bool) → (bytes_eq p.name name && bytes_eq p.value value) ≡ b → asks_pair tests p.name p.value ≡ false → b ≡ false
   other false e n = refl
   other true e n =
-      let en = (bytes_eq-Decides p.name name).0 (and_left (bytes_eq p.name name) (bytes_eq p.value value) e) in
-      let ev = (bytes_eq-Decides p.value value).0 (and_right (bytes_eq p.name name) (bytes_eq p.value value) e) in
+      let en = (bytes_eq-Decides p.name name).0 (and_parts (bytes_eq p.name name) (bytes_eq p.value value) e).0 in
+      let ev = (bytes_eq-Decides p.value value).0 (and_parts (bytes_eq p.name name) (bytes_eq p.value value) e).1 in
       absurd (true≢false (sym asks ∙ (ap (λ z. asks_pair tests z value) (sym en) ∙ (ap (asks_pair tests p.name) (sym ev) ∙ n))))
 
   go : (b : Bool) → asks_pair tests p.name p.value ≡ b → has_text (asked_texts tests ps) name value ≡ has_text ps name value → has_text (asked_texts tests (p ∷ ps)) name value ≡ has_text (p ∷ ps) name value
@@ -87,14 +67,14 @@ module _ (query : Query) (f g : Feature) (at_same : g.at ≡ f.at) (shape_kept :
   one_test (InBox e) looks asks = let s = shape_kept ∙ kept_whole (needs_shapes query) f.shape (looks refl) in let P : Shape → Type 0 = λ z. IsTrue (are_all_within e (positions z)) in (subst P s, subst P (sym s))
   one_test (MeetsShape u) looks asks = let s = shape_kept ∙ kept_whole (needs_shapes query) f.shape (looks refl) in let P : Shape → Type 0 = λ z. Meet z u in (subst P s, subst P (sym s))
   one_test (Has n v) looks asks =
-      let e = ap (λ z. has_text z n v) texts_kept ∙ has_same query.tests n v (asks n v (both_true (bytes_eq n n) (bytes_eq v v) ((bytes_eq-Decides n n).1 refl) ((bytes_eq-Decides v v).1 refl))) f.texts in
+      let e = ap (λ z. has_text z n v) texts_kept ∙ has_same query.tests n v (asks n v (and_from (bytes_eq n n) (bytes_eq v v) ((bytes_eq-Decides n n).1 refl) ((bytes_eq-Decides v v).1 refl))) f.texts in
       (subst IsTrue e, subst IsTrue (sym e))
 
   all_tests : (ts : List Test) → (list_any looks_at_shapes ts ≡ true → needs_shapes query ≡ true) → ((name value : List ℕ) → asks_pair ts name value ≡ true → asks_pair query.tests name value ≡ true)
       → (AllByRecursion (λ t. TestHolds t g) ts → AllByRecursion (λ t. TestHolds t f) ts) × (AllByRecursion (λ t. TestHolds t f) ts → AllByRecursion (λ t. TestHolds t g) ts)
   all_tests [] looks asks = (λ h. h, λ h. h)
   all_tests (t ∷ ts) looks asks =
-      let one = one_test t (λ e. looks (or_here (looks_at_shapes t) (list_any looks_at_shapes ts) e)) (λ n v e. asks n v (or_here (wants_pair n v t) (asks_pair ts n v) e)) in
+      let one = one_test t (λ e. looks (or_left (looks_at_shapes t) (list_any looks_at_shapes ts) e)) (λ n v e. asks n v (or_left (wants_pair n v t) (asks_pair ts n v) e)) in
       let more = all_tests ts (λ e. looks (or_right (looks_at_shapes t) (list_any looks_at_shapes ts) e)) (λ n v e. asks n v (or_right (wants_pair n v t) (asks_pair ts n v) e)) in
       (λ h. (one.0 h.0, more.0 h.1), λ h. (one.1 h.0, more.1 h.1))
 
@@ -102,7 +82,7 @@ module _ (query : Query) (f g : Feature) (at_same : g.at ≡ f.at) (shape_kept :
   holds_both = all_tests query.tests (λ e. or_right (tells_shapes query.verb) (list_any looks_at_shapes query.tests) e) (λ n v e. e)
 
   shape_told : tells_shapes query.verb ≡ true → g.shape ≡ f.shape
-  shape_told e = shape_kept ∙ kept_whole (needs_shapes query) f.shape (or_here (tells_shapes query.verb) (list_any looks_at_shapes query.tests) e)
+  shape_told e = shape_kept ∙ kept_whole (needs_shapes query) f.shape (or_left (tells_shapes query.verb) (list_any looks_at_shapes query.tests) e)
 
   same_positions : g.shape ≡ f.shape → all_positions (g ∷ []) ≡ all_positions (f ∷ [])
   same_positions e = flat_map-cons (λ (x : Feature). positions x.shape) g [] ∙ (ap (λ (z : Shape). positions z ++ []) e ∙ sym (flat_map-cons (λ (x : Feature). positions x.shape) f []))

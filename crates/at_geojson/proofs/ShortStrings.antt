@@ -1,21 +1,13 @@
 -- Bytes of ASCII that stand for themselves, between quotes, are a string in which each byte stands for the unit of its own number.
-use Rattle.std.proofs.Common.{◌≡◌, ℕ, zero, suc, ◌+◌, ◌-◌, ◌<◌, ◌≤◌, ◌&&◌, Bool, true, false, List, [], ◌∷◌, ◌++◌, length, slice_index, flat_map, refl, sym, ◌∙◌, ap, subst, arith}
+use Rattle.std.proofs.Common.{◌≡◌, ℕ, zero, suc, ◌+◌, ◌-◌, ◌<◌, ◌≤◌, ◌&&◌, true, List, [], ◌∷◌, ◌++◌, length, slice_index, flat_map, refl, sym, ◌∙◌, ap, subst, arith}
 use Rattle.std.specs.List.{list_all}
-use Rattle.std.proofs.lemmas.Bool.{true≢false}
+use Rattle.std.proofs.lemmas.Bool.{and_parts}
 use Rattle.at_fixed.specs.NumberSoFar.{between}
 use Rattle.at_fixed.proofs.DigitParts.{part-none, part-more, part-cons}
 use Rattle.at_lex.specs.Strings.{Character, plain, is_plain, AreCharacters, character_text}
 use Rattle.at_geojson.specs.Gathering.{is_simple}
 use Rattle.at_geojson.specs.Places.{is_common, IsSimpleTextAt}
 use Rattle.at_geojson.proofs.ValueParts.{slice_part}
-
-left_true : (a b : Bool) → (a && b) ≡ true → a ≡ true
-left_true true b e = refl
-left_true false b e = absurd (true≢false (sym e))
-
-right_true : (a b : Bool) → (a && b) ≡ true → b ≡ true
-right_true true b e = e
-right_true false b e = absurd (true≢false (sym e))
 
 -- bytes, as characters of a string
 record AreCommon (w : List ℕ) (from to : ℕ) : Type 0 where
@@ -36,9 +28,9 @@ common w (suc n) from to e h all =
     let split = part-cons w from to l h in
     record {
       characters = plain b ∷ rest.characters;
-      are = (left_true (is_plain b) (is_simple b) both, rest.are);
+      are = ((and_parts (is_plain b) (is_simple b) both).0, rest.are);
       text = ap (λ z. b ∷ z) rest.text ∙ sym split;
-      simple = λ v s. subst (λ z. list_all is_simple (z ++ v) ≡ true) (sym split) (ap (λ t. t && list_all is_simple (between w (from + 1) to ++ v)) (right_true (is_plain b) (is_simple b) both) ∙ rest.simple v s);
+      simple = λ v s. subst (λ z. list_all is_simple (z ++ v) ≡ true) (sym split) (ap (λ t. t && list_all is_simple (between w (from + 1) to ++ v)) (and_parts (is_plain b) (is_simple b) both).1 ∙ rest.simple v s);
     }
 
 pub short_text : (w : List ℕ) (at last : ℕ) → at < last → last < length w → slice_index w at ≡ 0x22 → slice_index w last ≡ 0x22 → ((k : ℕ) → at + 1 ≤ k → k < last → is_common (slice_index w k) ≡ true) → IsSimpleTextAt w at (last + 1)

@@ -1,7 +1,7 @@
 -- The units of a string of ASCII without escapes are the bytes between its quotes, and what no test asks for isn't kept.
-use Rattle.std.proofs.Common.{◌≡◌, ◌≢◌, ℕ, ◌+◌, ◌-◌, ◌<◌, ◌≤◌, ◌==◌, nat_lt, not, ◌&&◌, Bool, true, false, List, [], ◌∷◌, ◌++◌, length, take, drop, flat_map, refl, sym, ◌∙◌, ap, arith, length-append}
+use Rattle.std.proofs.Common.{◌≡◌, ◌≢◌, ℕ, ◌+◌, ◌-◌, ◌<◌, ◌≤◌, ◌==◌, nat_lt, not, true, false, List, [], ◌∷◌, ◌++◌, length, take, drop, flat_map, refl, sym, ◌∙◌, ap, arith, length-append}
 use Rattle.std.specs.List.{list_all, list_any}
-use Rattle.std.proofs.lemmas.Bool.{true≢false}
+use Rattle.std.proofs.lemmas.Bool.{true≢false, and_parts}
 use Rattle.at_lex.specs.Strings.{Character, character_text, string_text, AreCharacters, units_of}
 use Rattle.at_lex.specs.UnitSteps.{Content}
 use Rattle.at_lex.proofs.UnitLemmas.{ascii_steps, no_rest}
@@ -10,19 +10,11 @@ use Rattle.at_query.specs.declared.query.queries.Test.TheVariants.{InBox, MeetsS
 use Rattle.at_geojson.specs.Keeping.{looks_at_texts, asks_value}
 use Rattle.at_geojson.specs.Gathering.{is_simple}
 
-first_true : (a b : Bool) → (a && b) ≡ true → a ≡ true
-first_true true b e = refl
-first_true false b e = absurd (true≢false (sym e))
-
-second_true : (a b : Bool) → (a && b) ≡ true → b ≡ true
-second_true true b e = e
-second_true false b e = absurd (true≢false (sym e))
-
 is_low : (b : ℕ) → is_simple b ≡ true → b < 128
-is_low b h = grind (arith, first_true (nat_lt b 128) (not (b == 0x5C)) h)
+is_low b h = grind (arith, (and_parts (nat_lt b 128) (not (b == 0x5C)) h).0)
 
 no_escape : (b : ℕ) → is_simple b ≡ true → b ≢ 0x5C
-no_escape b h e = let n = second_true (nat_lt b 128) (not (b == 0x5C)) h in absurd (grind (arith, n, e))
+no_escape b h e = let n = (and_parts (nat_lt b 128) (not (b == 0x5C)) h).1 in absurd (grind (arith, n, e))
 
 -- from some byte on, the closing quote included
 units_ahead : (w : List ℕ) (cs : List Character) → Content cs w → list_all is_simple w ≡ true → units_of cs ++ 0x22 ∷ [] ≡ w
@@ -31,10 +23,10 @@ units_ahead (b ∷ []) cs h s =
     let e = no_rest cs (b ∷ []) h (omega arith) in
     ap (λ z. units_of z ++ 0x22 ∷ []) e ∙ sym (h.1 ∙ ap (λ z. flat_map character_text z ++ 0x22 ∷ []) e)
 units_ahead (b ∷ c ∷ v) cs h s =
-    let simple = first_true (is_simple b) (list_all is_simple (c ∷ v)) s in
+    let simple = (and_parts (is_simple b) (list_all is_simple (c ∷ v)) s).0 in
     let steps = ascii_steps cs (b ∷ c ∷ v) h (omega arith) (no_escape b simple) (is_low b simple) in
     let (ds, content, units) = steps.stand cs h in
-    ap (λ z. z ++ 0x22 ∷ []) units ∙ ap (λ z. b ∷ z) (units_ahead (c ∷ v) ds content (second_true (is_simple b) (list_all is_simple (c ∷ v)) s))
+    ap (λ z. z ++ 0x22 ∷ []) units ∙ ap (λ z. b ∷ z) (units_ahead (c ∷ v) ds content (and_parts (is_simple b) (list_all is_simple (c ∷ v)) s).1)
 
 all_but_last : (xs : List ℕ) (x : ℕ) → take (length xs) (xs ++ x ∷ []) ≡ xs
 all_but_last [] x = refl
@@ -47,7 +39,7 @@ simple_units w cs h e s = go w e s where
   go [] e s = absurd (omega (arith, ap length e))
   go (b ∷ v) e s =
       let rest : v ≡ flat_map character_text cs ++ 0x22 ∷ [] = ap (drop 1) e in
-      let units = units_ahead v cs (h, rest) (second_true (is_simple b) (list_all is_simple v) s) in
+      let units = units_ahead v cs (h, rest) (and_parts (is_simple b) (list_all is_simple v) s).1 in
       let long : length v ≡ length (units_of cs) + 1 = ap length (sym units) ∙ length-append (units_of cs) (0x22 ∷ []) in
       let count : length (b ∷ v) - 1 - 1 ≡ length (units_of cs) = omega (arith, long) in
       (omega (arith, long), ap (λ n. take n v) count ∙ (ap (take (length (units_of cs))) (sym units) ∙ all_but_last (units_of cs) 0x22))

@@ -1,7 +1,7 @@
 -- Which items have which role, told by the sort of all of them.
 use Rattle.std.proofs.Common.{◌≡◌, ℕ, suc, ◌==◌, Bool, true, false, ◌&&◌, ◌||◌, if◌then◌else◌, List, [], ◌∷◌, is_some, refl, sym, ◌∙◌, ap, arith}
 use Rattle.std.specs.List.{list_all, list_any}
-use Rattle.std.proofs.lemmas.Bool.{true≢false, eqb-true}
+use Rattle.std.proofs.lemmas.Bool.{true≢false, eqb-true, and_parts}
 use Rattle.at_geojson.specs.declared.atoms.GeoAtom.{GeoAtom}
 use Rattle.at_geojson.specs.declared.atoms.GeoAtom.TheVariants as atoms
 use Rattle.at_geojson.specs.declared.atoms.Role.TheVariants as roles
@@ -144,16 +144,8 @@ pub all_same : (p q : GeoAtom → Bool) → ((a : GeoAtom) → p a ≡ q a) → 
 all_same p q h [] = refl
 all_same p q h (a ∷ aa) = ap (λ b. b && list_all p aa) (h a) ∙ ap (λ b. q a && b) (all_same p q h aa)
 
-and_left : (a b : Bool) → (a && b) ≡ true → a ≡ true
-and_left true b e = refl
-and_left false b e = e
-
-and_right : (a b : Bool) → (a && b) ≡ true → b ≡ true
-and_right true b e = e
-and_right false b e = absurd (true≢false (sym e))
-
 pub first_of_all : (k : ℕ) (a : GeoAtom) (aa : List GeoAtom) → are_all k (a ∷ aa) ≡ true → rank (sort_of a) ≡ k
-first_of_all k a aa e = eqb-true (rank (sort_of a)) k (and_left (rank (sort_of a) == k) (are_all k aa) e)
+first_of_all k a aa e = eqb-true (rank (sort_of a)) k (and_parts (rank (sort_of a) == k) (are_all k aa) e).0
 
 -- the items are all of the sort that all of them have
 pub all_sorted : (k : ℕ) (a : GeoAtom) (aa : List GeoAtom) → rank (sort_of_all (a ∷ aa)) ≡ suc k → are_all (suc k) (a ∷ aa) ≡ true
@@ -178,7 +170,7 @@ no_other k a aa n = go (are_all k (a ∷ aa)) refl where
 -- items of a sort are no objects
 pub no_objects : (k : ℕ) (aa : List GeoAtom) → are_all (suc k) aa ≡ true → list_any is_object aa ≡ false
 no_objects k [] e = refl
-no_objects k (a ∷ aa) e = go (is_object a) refl (no_objects k aa (and_right (rank (sort_of a) == suc k) (are_all (suc k) aa) e)) where
+no_objects k (a ∷ aa) e = go (is_object a) refl (no_objects k aa (and_parts (rank (sort_of a) == suc k) (are_all (suc k) aa) e).1) where
   go : (b : Bool) → is_object a ≡ b → list_any is_object aa ≡ false → list_any is_object (a ∷ aa) ≡ false
-  go true h n = absurd (let z : 0 ≡ suc k = sym (sorted_no_object a h) ∙ eqb-true (rank (sort_of a)) (suc k) (and_left (rank (sort_of a) == suc k) (are_all (suc k) aa) e) in omega (arith, z))
+  go true h n = absurd (let z : 0 ≡ suc k = sym (sorted_no_object a h) ∙ eqb-true (rank (sort_of a)) (suc k) (and_parts (rank (sort_of a) == suc k) (are_all (suc k) aa) e).0 in omega (arith, z))
   go false h n = ap (λ b. b || list_any is_object aa) h ∙ n

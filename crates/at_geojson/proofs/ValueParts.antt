@@ -2,7 +2,7 @@
 use Rattle.std.proofs.Common.{false, None, Result, Err, if◌then◌else◌, ◌≡◌, ℕ, zero, suc, ◌+◌, ◌-◌, ◌<◌, ◌≤◌, min, inl, inr, ℤ, true, Some, Ok, List, [], ◌∷◌, ◌++◌, All, length, take, drop, slice_index, take-append-drop, refl, sym, ◌∙◌, ap, subst, arith}
 use Rattle.std.specs.List.{list_any}
 use Rattle.std.proofs.Math.Nat.{min-eq_left}
-use Rattle.std.proofs.lemmas.List.{drop-take, length-drop}
+use Rattle.std.proofs.lemmas.List.{length-drop}
 use Rattle.std.proofs.lemmas.List.Elements.{All-nil, All-cons, All-append}
 use Rattle.at_text.specs.Prefix.{TakesLongest}
 use Rattle.at_text.specs.declared.prefixes.Taken.{Taken}
@@ -17,6 +17,7 @@ use Rattle.at_lex.specs.Runs.{JsonRun, Literal, the_null, the_true, the_false, l
 use Rattle.at_lex.specs.Spans.{AreSpaces}
 use Rattle.at_lex.proofs.FrontLemmas.{suffix_is}
 use Rattle.at_wkt.specs.Positions.{fault_of}
+use Rattle.at_wkt.proofs.NumberSteps.{rest_part}
 use Rattle.at_nest.specs.declared.algebra.Member.{Member}
 use Rattle.at_nest.specs.declared.algebra.Attempt.TheVariants.{Whole as WholeAttempt}
 use Rattle.at_nest.specs.Folds.{IsScalarText, IsAttempt, AreFolds, AreMemberFolds}
@@ -51,23 +52,20 @@ taken_whole L w at taken h e =
     let k : TakesLongest L (drop at w) taken = subst (λ z. TakesLongest L z taken) (suffix_is w at) h in
     (k.longest.fits, (k.whole).0 e)
 
-pub front_part : (w : List ℕ) (at n : ℕ) → take n (drop at w) ≡ between w at (at + n)
-front_part w at n = sym (drop-take at n w)
-
-some_bytes : (L : List ℕ → Type 0) (w : List ℕ) (at n : ℕ) → (L [] → ⊥) → L (take n (drop at w)) → at < at + n
+pub some_bytes : (L : List ℕ → Type 0) (w : List ℕ) (at n : ℕ) → (L [] → ⊥) → L (take n (drop at w)) → at < at + n
 some_bytes L w at n none h = by_count n h
   where
     by_count : (n : ℕ) → L (take n (drop at w)) → at < at + n
     by_count zero h = absurd (none h)
     by_count (suc n) h = omega arith
 
-end_fits : (w : List ℕ) (at n : ℕ) → at ≤ length w → n ≤ length (drop at w) → at + n ≤ length w
+pub end_fits : (w : List ℕ) (at n : ℕ) → at ≤ length w → n ≤ length (drop at w) → at + n ≤ length w
 end_fits w at n h k = omega (arith, h, k, length-drop at w)
 
-no_empty_number : JsonNumber [] → ⊥
+pub no_empty_number : JsonNumber [] → ⊥
 no_empty_number h = no_nil (inr h)
 
-no_empty_string : JsonString [] → ⊥
+pub no_empty_string : JsonString [] → ⊥
 no_empty_string (cs, ok, e) = cc
 
 -- a word of the bytes ahead, from its place to its end
@@ -79,7 +77,7 @@ pub record IsTaken (L : List ℕ → Type 0) (w : List ℕ) (at end : ℕ) : Typ
 pub word_taken : (L : List ℕ → Type 0) (w : List ℕ) (at : ℕ) (taken : Taken) → (L [] → ⊥) → at ≤ length w → TakesLongest L (take (length w - at) (drop at w)) taken → taken.whole ≡ true → IsTaken L w at (at + taken.len)
 word_taken L w at taken none inside h e =
     let (fits, word) = taken_whole L w at taken h e in
-    record { order = some_bytes L w at taken.len none word; within = end_fits w at taken.len inside fits; word = subst L (front_part w at taken.len) word }
+    record { order = some_bytes L w at taken.len none word; within = end_fits w at taken.len inside fits; word = subst L (rest_part w at taken.len) word }
 
 pub number_taken : (w : List ℕ) (at : ℕ) (taken : Taken) → at ≤ length w → TakesLongest JsonNumber (take (length w - at) (drop at w)) taken → taken.whole ≡ true → IsTaken JsonNumber w at (at + taken.len)
 number_taken w at taken inside h e = word_taken JsonNumber w at taken no_empty_number inside h e
@@ -95,10 +93,10 @@ pub value_taken : (w : List ℕ) (at n digits : ℕ) (how : Coords) (asked : Ask
     → IsFixedOf (take n (take (length w - at) (drop at w))) digits how (Ok v) → IsFixedOf (between w at (at + n)) asked.digits asked.how (Ok v)
 value_taken w at n digits how asked v ed eh h =
     subst (λ d. IsFixedOf (between w at (at + n)) d asked.how (Ok v)) ed (subst (λ k. IsFixedOf (between w at (at + n)) digits k (Ok v)) eh
-    (subst (λ z. IsFixedOf z digits how (Ok v)) (ap (take n) (suffix_is w at) ∙ front_part w at n) h))
+    (subst (λ z. IsFixedOf z digits how (Ok v)) (ap (take n) (suffix_is w at) ∙ rest_part w at n) h))
 
 pub slice_part : (w : List ℕ) (at end : ℕ) → at ≤ end → take (end - at) (drop at w) ≡ between w at end
-slice_part w at end h = front_part w at (end - at) ∙ ap (between w at) (let e : at + (end - at) ≡ end = omega (arith, h) in e)
+slice_part w at end h = rest_part w at (end - at) ∙ ap (between w at) (let e : at + (end - at) ≡ end = omega (arith, h) in e)
 
 -- the bytes of a whole scalar
 pub run_text : (w : List ℕ) (at end : ℕ) → IsTaken JsonRun w at end → IsScalarText (take (end - at) (drop at w))
@@ -373,7 +371,7 @@ pub attempt_of : (asked : Asked) (at : ℕ) (w : List ℕ) (p : Whole) → IsWho
 attempt_of asked at w p h = (
   between w 0 p.end,
   drop p.end w,
-  sym (take-append-drop p.end w) ∙ ap (λ z. z ++ drop p.end w) (front_part w 0 p.end ∙ ap (between w 0) (let e : 0 + p.end ≡ p.end = omega arith in e)),
+  sym (take-append-drop p.end w) ∙ ap (λ z. z ++ drop p.end w) (rest_part w 0 p.end ∙ ap (between w 0) (let e : 0 + p.end ≡ p.end = omega arith in e)),
   omega (arith, part-length w 0 p.end (omega arith) h.within),
   h.tree,
   subst (λ n. Spells n (between w 0 p.end) h.tree) (let e : at + 0 ≡ at = omega arith in e) h.spells,

@@ -2,7 +2,7 @@
 use Rattle.std.proofs.Common.{◌≡◌, inl, inr, true, List, [], ◌∷◌, subst, refl}
 use Rattle.at_geom.specs.declared.positions.Pos.{Pos}
 use Rattle.at_hull.specs.Hulls.{IsBelow, IsIn, HasSame, IsAscending, IsHull}
-use Rattle.at_hull.proofs.Ways.{by_order, walk_of, end_of}
+use Rattle.at_hull.proofs.Ways.{by_order, walk_of, end_of, only_one}
 use Rattle.at_hull.proofs.Rings.{joined_ways, hull_of_ways}
 use Rattle.at_hull.proofs.Sorted.{rises_of, end_above, walk_back}
 use Rattle.at_hull.proofs.Laws.{hull_of_same}
@@ -85,10 +85,6 @@ ascending_of (p ∷ ps) =
 pub record HasHull (ps : List Pos) : Type 0 where
   pub list : List Pos
   pub is : IsHull ps list
-
-only_one : (a p : Pos) → IsIn p (a ∷ []) → p ≡ a
-only_one a p (inl e) = e
-only_one a p (inr m) = absurd m
 
 of_ascending : (xs : List Pos) → IsAscending xs → HasHull xs
 of_ascending [] h = record { list = []; is = refl }

@@ -6,7 +6,7 @@ use Rattle.at_geom.specs.Segments.{turn}
 use Rattle.at_geom.proofs.RingLaws.{expand}
 use Rattle.at_hull.specs.Hulls.{IsBelow, IsAtMost, IsIn, Each, HasSame, NoneRight, IsRing, AreEnds, IsHull, round}
 use Rattle.at_hull.proofs.Planes.{div_pos}
-use Rattle.at_hull.proofs.Ways.{same_pos}
+use Rattle.at_hull.proofs.Ways.{same_pos, only_one}
 use Rattle.at_hull.proofs.Members.{in_left, in_right, in_parts}
 use Rattle.at_hull.proofs.Rings.{on_one_line}
 use Rattle.at_hull.proofs.Covers.{Covers, hull_covers}
@@ -220,10 +220,6 @@ none_right_of_fewer : (S T : Pos → Type 0) (l : List Pos) → ((p : Pos) → T
 none_right_of_fewer S T [] f h = tt
 none_right_of_fewer S T (a ∷ []) f h = tt
 none_right_of_fewer S T (a ∷ b ∷ l) f h = (λ p m. h.0 p (f p m), none_right_of_fewer S T (b ∷ l) f h.1)
-
-only_one : (a p : Pos) → IsIn p (a ∷ []) → p ≡ a
-only_one a p (inl e) = e
-only_one a p (inr m) = absurd m
 
 own_ring : (ps : List Pos) (a b : Pos) (r : List Pos) → IsRing ps a b r → IsRing (a ∷ b ∷ r) a b r
 own_ring ps a b r h = record {

@@ -5,7 +5,7 @@ use Rattle.std.specs.Ordering.{ordering_then, int_eq}
 use Rattle.std.specs.declared.cmp.Ordering.TheVariants.{Less, Equal}
 use Rattle.std.specs.Cmp.{int_cmp_is}
 use Rattle.std.specs.List.{dedup, dedup_from}
-use Rattle.std.proofs.lemmas.Bool.{false≢true}
+use Rattle.std.proofs.lemmas.Bool.{false≢true, and_parts, and_from}
 use Rattle.std.proofs.lemmas.Bool.Decides.{Decides-int_eq}
 use Rattle.std.proofs.lemmas.List.Sorted.{All-permutation, IsPermutation-sym}
 use Rattle.at_geom.specs.declared.positions.Pos.{Pos}
@@ -122,19 +122,8 @@ same_once E t (x ∷ xs) = (λ p m. from_dedup E p x xs m, λ p m. to_dedup E t 
 pub same_moved : (E : Pos → Pos → Bool) → IsTest E → (ps xs : List Pos) → IsPermutation ps xs → HasSame (dedup E xs) ps
 same_moved E t ps xs h = (λ p m. in_moved ps xs p h ((same_once E t xs).0 p m), λ p m. (same_once E t xs).1 p (in_moved xs ps p (IsPermutation-sym ps xs h) m))
 
-and_left : (u v : Bool) → (u && v) ≡ true → u ≡ true
-and_left true v e = refl
-and_left false v e = e
-
-and_right : (u v : Bool) → (u && v) ≡ true → v ≡ true
-and_right true v e = e
-and_right false v e = absurd (false≢true e)
-
 same_of_test : (a b : Pos) → is_same a b ≡ true → a ≡ b
-same_of_test a b e = same_pos a b ((Decides-int_eq a.x b.x).0 (and_left (int_eq a.x b.x) (int_eq a.y b.y) e)) ((Decides-int_eq a.y b.y).0 (and_right (int_eq a.x b.x) (int_eq a.y b.y) e))
-
-both_true : (u v : Bool) → u ≡ true → v ≡ true → (u && v) ≡ true
-both_true u v e f = rw (e, f) refl
+same_of_test a b e = same_pos a b ((Decides-int_eq a.x b.x).0 (and_parts (int_eq a.x b.x) (int_eq a.y b.y) e).0) ((Decides-int_eq a.y b.y).0 (and_parts (int_eq a.x b.x) (int_eq a.y b.y) e).1)
 
 pub is_test : IsTest is_same
-is_test = (same_of_test, λ a b e. both_true (int_eq a.x b.x) (int_eq a.y b.y) ((Decides-int_eq a.x b.x).1 (ap (λ (p : Pos). p.x) e)) ((Decides-int_eq a.y b.y).1 (ap (λ (p : Pos). p.y) e)))
+is_test = (same_of_test, λ a b e. and_from (int_eq a.x b.x) (int_eq a.y b.y) ((Decides-int_eq a.x b.x).1 (ap (λ (p : Pos). p.x) e)) ((Decides-int_eq a.y b.y).1 (ap (λ (p : Pos). p.y) e)))

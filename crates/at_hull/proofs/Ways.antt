@@ -297,9 +297,9 @@ walked u S low t rest (c ∷ cs) w h =
       way = way_of_same u (or_in (or_at S c) cs) (or_in S (c ∷ cs)) low (end_of c cs) r.rest (λ p m. from_longer S c cs p m) (λ p m. to_longer S c cs p m) r.way;
     }
 
-same_to_only : (a p : Pos) → IsIn p (a ∷ []) → p ≡ a
-same_to_only a p (inl e) = e
-same_to_only a p (inr h) = absurd h
+pub only_one : (a p : Pos) → IsIn p (a ∷ []) → p ≡ a
+only_one a p (inl e) = e
+only_one a p (inr h) = absurd h
 
 start : (u : Bool) (a : Pos) → Way u (λ p. p ≡ a) a a []
 start u a = record {
@@ -309,7 +309,7 @@ start u a = record {
   from_low = refl;
   lowest = λ p e. subst (λ (z : Pos). NotAfter u a z) (sym e) (itself u a);
   highest = λ p e. subst (λ (z : Pos). NotAfter u z a) (sym e) (itself u a);
-  seen = λ p m. same_to_only a p m;
+  seen = λ p m. only_one a p m;
 }
 
 to_list : (a : Pos) (cs : List Pos) (p : Pos) → or_in (λ q. q ≡ a) cs p → IsIn p (a ∷ cs)

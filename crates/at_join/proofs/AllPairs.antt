@@ -9,6 +9,7 @@ use Rattle.std.proofs.lemmas.List.{map-append}
 use Rattle.std.proofs.lemmas.List.Sums.{sum_by-append, sum_by-cons}
 use Rattle.std.proofs.lemmas.List.Sorted.{sum_by-IsPermutation, All-permutation}
 use Rattle.std.proofs.lemmas.List.Elements.{recursion_from_All, All-head, All-tail}
+use Rattle.std.proofs.ByRecursion.{All-append}
 use Rattle.at_geom.specs.declared.positions.Pos.{Pos}
 use Rattle.at_geom.specs.declared.shapes.Polygon.{Polygon}
 use Rattle.at_geom.specs.declared.rectangles.Extent.{Extent}
@@ -28,10 +29,10 @@ use Rattle.at_join.specs.Meetings.{Meeting, at_entries, pairs_of, IsAllPairs}
 use Rattle.at_join.specs.Cells.{cell_of, spread_of, is_pair_of, InCells, is_pair, times, ListsEach}
 use Rattle.at_join.specs.Parts.{rank_of}
 use Rattle.at_join.proofs.FoundLists.{count_mapped}
-use Rattle.at_join.proofs.Extents.{from_touching, reference_inside, shape_span}
+use Rattle.at_join.proofs.Extents.{from_touching, reference_inside, shape_span, two_differ}
 use Rattle.at_join.proofs.CellRects.{cell_below}
 use Rattle.at_join.proofs.Offsets.{In, Rises, in_from, contains_from, of_all, one_entry, above, rest_rises, AreAbove}
-use Rattle.at_join.proofs.CellPairs.{gone, spread_round, pair_is, kept_times, same_pair, each_joined, keeps_have, both_all}
+use Rattle.at_join.proofs.CellPairs.{gone, spread_round, pair_is, kept_times, same_pair, keeps_have, both_all, each_weaker}
 use Rattle.at_join.proofs.PartLists.{times_none, times_cons}
 use Rattle.at_geom.proofs.Elements.{some_left, some_right}
 
@@ -148,13 +149,9 @@ entry_times p (q ∷ xs) ys one =
 
 -- ---- what is kept of all pairs
 
-two_ways : (b : Bool) → b ≡ true → b ≡ false → ⊥
-two_ways true e f = cc
-two_ways false e f = cc
-
 filter_by : {X : Type 0} (P : X → Type 0) (x : X) (xs ks : List X) (b : Bool) → (b ≡ true → P x) → (P x → b ≡ true) → Keeps P xs ks → Keeps P (x ∷ xs) (cond b (x ∷ ks) ks)
 filter_by P x xs ks true to from k = inl (to refl, (ks, refl, k))
-filter_by P x xs ks false to from k = inr ((λ p. two_ways false (from p) refl), k)
+filter_by P x xs ks false to from k = inr ((λ p. two_differ false (from p) refl), k)
 
 keeps_filter : {X : Type 0} (P : X → Type 0) (test : X → Bool) (xs : List X) → AllByRecursion (λ (x : X). (test x ≡ true → P x) × (P x → test x ≡ true)) xs → Keeps P xs (filter test xs)
 keeps_filter P test [] h = refl
@@ -170,11 +167,7 @@ in_row a b e (f ∷ fs) h k = ((h, k.0), in_row a b e fs h k.1)
 
 in_rows : (a b es fs : List Entry) → AllByRecursion (λ (e : Entry). In e a) es → AllByRecursion (λ (f : Entry). In f b) fs → AllByRecursion (AreIn a b) (pairs_of es fs)
 in_rows a b [] fs h k = tt
-in_rows a b (e ∷ es) fs h k = each_joined (AreIn a b) (map (λ (f : Entry). (e, f)) fs) (pairs_of es fs) (in_row a b e fs h.0 k) (in_rows a b es fs h.1 k)
-
-each_weaker : {X : Type 0} (P Q : X → Type 0) → ((x : X) → P x → Q x) → (xs : List X) → AllByRecursion P xs → AllByRecursion Q xs
-each_weaker P Q to [] h = tt
-each_weaker P Q to (x ∷ xs) h = (to x h.0, each_weaker P Q to xs h.1)
+in_rows a b (e ∷ es) fs h k = All-append (AreIn a b) (map (λ (f : Entry). (e, f)) fs) (pairs_of es fs) (in_row a b e fs h.0 k) (in_rows a b es fs h.1 k)
 
 in_itself : {X : Type 0} (xs : List X) → AllByRecursion (λ (x : X). In x xs) xs
 in_itself [] = tt
@@ -254,7 +247,7 @@ rows_later : (n : ℕ) (es fs : List Entry) → AreAbove n es → AllByRecursion
 rows_later n [] fs h = tt
 rows_later n (e ∷ es) fs h =
     subst (AllByRecursion (Past n)) (sym (map-append at_entries (map (λ (f : Entry). (e, f)) fs) (pairs_of es fs)))
-    (each_joined (Past n) (map at_entries (map (λ (f : Entry). (e, f)) fs)) (map at_entries (pairs_of es fs)) (row_past n e fs h.0) (rows_later n es fs h.1))
+    (All-append (Past n) (map at_entries (map (λ (f : Entry). (e, f)) fs)) (map at_entries (pairs_of es fs)) (row_past n e fs h.0) (rows_later n es fs h.1))
 
 past_before : (n : ℕ) (p : Pair) (qs : List Pair) → p.first ≡ n → AllByRecursion (Past n) qs → AllByRecursion (Before p) qs
 past_before n p [] e h = tt
@@ -262,7 +255,7 @@ past_before n p (q ∷ qs) e h = (inl (omega (arith, e, h.0)), past_before n p q
 
 ascends_both : (n : ℕ) (ps qs : List Pair) → Ascends ps → Ascends qs → AllByRecursion (Has n) ps → AllByRecursion (Past n) qs → Ascends (ps ++ qs)
 ascends_both n [] qs a b h k = b
-ascends_both n (p ∷ ps) qs a b h k = (each_joined (Before p) ps qs a.0 (past_before n p qs h.0 k), ascends_both n ps qs a.1 b h.1 k)
+ascends_both n (p ∷ ps) qs a b h k = (All-append (Before p) ps qs a.0 (past_before n p qs h.0 k), ascends_both n ps qs a.1 b h.1 k)
 
 kept_by : (Q : Pair → Type 0) (x : Entry × Entry) (ks : List (Entry × Entry)) (b : Bool) → Q (at_entries x) → AllByRecursion Q (map at_entries ks) → AllByRecursion Q (map at_entries (cond b (x ∷ ks) ks))
 kept_by Q x ks true h k = (h, k)

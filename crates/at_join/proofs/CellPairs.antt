@@ -1,10 +1,11 @@
 -- What is found among the places of a grid's sides is what the contract of a cell tells.
-use Rattle.std.proofs.Common.{◌≡◌, ℕ, ◌+◌, ◌==◌, Bool, true, false, ◌&&◌, cond, List, [], ◌∷◌, ◌++◌, map, Option, Some, None, inl, inr, arith, refl, sym, ap, subst, ◌∙◌}
+use Rattle.std.proofs.Common.{◌≡◌, ℕ, ◌+◌, ◌==◌, true, ◌&&◌, cond, List, [], ◌∷◌, ◌++◌, map, Option, Some, None, inl, inr, arith, refl, sym, ap, subst, ◌∙◌}
 use Rattle.std.specs.Prelude.{All}
 use Rattle.std.specs.List.{AllByRecursion}
-use Rattle.std.proofs.lemmas.Bool.{eqb-true}
+use Rattle.std.proofs.lemmas.Bool.{eqb-true, false_from_ne_true, and_parts}
 use Rattle.std.proofs.lemmas.List.Sums.{sum_by-cons}
 use Rattle.std.proofs.lemmas.List.Elements.{recursion_from_All, All-from_recursion}
+use Rattle.std.proofs.ByRecursion.{All-append}
 use Rattle.at_geom.specs.declared.rectangles.Extent.{Extent}
 use Rattle.at_geom.specs.Shapes.{encloses, Meet}
 use Rattle.at_geom.proofs.Elements.{some_left, some_right}
@@ -20,7 +21,7 @@ use Rattle.at_join.specs.Boxes.{touch_of, is_here_of, IsWide}
 use Rattle.at_join.specs.Meetings.{Finds, pairs_of}
 use Rattle.at_join.specs.Cells.{rect_of, spread_of, is_pair_of, belongs, InCells, is_pair, times, ListsEach}
 use Rattle.at_join.specs.Sides.{IsAt, IsPlaceOf, IsGrid, CellHit, at_places}
-use Rattle.at_join.proofs.Extents.{not_true, encloses_through, head_round, tail_round, reference_inside, shape_span}
+use Rattle.at_join.proofs.Extents.{encloses_through, head_round, tail_round, reference_inside, shape_span}
 use Rattle.at_join.proofs.CellRects.{rect_is_cell}
 use Rattle.at_join.proofs.Rows.{one_at}
 use Rattle.at_join.proofs.Offsets.{In, in_from, of_all, one_entry, place_once, pair_times}
@@ -128,13 +129,9 @@ pub both_all : {X Y : Type 0} (P Q : X → Type 0) (R : Y → Type 0) (f : X →
 both_all P Q R f to [] h k = tt
 both_all P Q R f to (x ∷ xs) h k = (to x h.0 k.0, both_all P Q R f to xs h.1 k.1)
 
-each_weaker : {X : Type 0} (P Q : X → Type 0) → ((x : X) → P x → Q x) → (xs : List X) → AllByRecursion P xs → AllByRecursion Q xs
+pub each_weaker : {X : Type 0} (P Q : X → Type 0) → ((x : X) → P x → Q x) → (xs : List X) → AllByRecursion P xs → AllByRecursion Q xs
 each_weaker P Q to [] h = tt
 each_weaker P Q to (x ∷ xs) h = (to x h.0, each_weaker P Q to xs h.1)
-
-pub each_joined : {X : Type 0} (P : X → Type 0) (xs ys : List X) → AllByRecursion P xs → AllByRecursion P ys → AllByRecursion P (xs ++ ys)
-each_joined P [] ys h k = k
-each_joined P (x ∷ xs) ys h k = (h.0, each_joined P xs ys h.1 k)
 
 abbrev AreKnown : List Entry → List Entry → Place × Place → Type 0
 AreKnown a b (p, q) = IsPlaceOf a p × IsPlaceOf b q
@@ -145,20 +142,12 @@ known_row a b p (y ∷ ys) h k = ((h, k.0), known_row a b p ys h k.1)
 
 known_pairs : (a b : List Entry) (xs ys : List Place) → AllByRecursion (IsPlaceOf a) xs → AllByRecursion (IsPlaceOf b) ys → AllByRecursion (AreKnown a b) (pairs_of xs ys)
 known_pairs a b [] ys h k = tt
-known_pairs a b (x ∷ xs) ys h k = each_joined (AreKnown a b) (map (λ (y : Place). (x, y)) ys) (pairs_of xs ys) (known_row a b x ys h.0 k) (known_pairs a b xs ys h.1 k)
-
-pub first_so : (a b : Bool) → (a && b) ≡ true → a ≡ true
-first_so true b h = refl
-first_so false b h = h
-
-pub second_so : (a b : Bool) → (a && b) ≡ true → b ≡ true
-second_so true b h = h
-second_so false b h = absurd (cc)
+known_pairs a b (x ∷ xs) ys h k = All-append (AreKnown a b) (map (λ (y : Place). (x, y)) ys) (pairs_of xs ys) (known_row a b x ys h.0 k) (known_pairs a b xs ys h.1 k)
 
 pub pair_is : (p q : Pair) → is_pair p q ≡ true → q ≡ p
 pair_is p q h =
-    let e = eqb-true q.first p.first (first_so (q.first == p.first) (q.second == p.second) h) in
-    let f = eqb-true q.second p.second (second_so (q.first == p.first) (q.second == p.second) h) in
+    let e = eqb-true q.first p.first (and_parts (q.first == p.first) (q.second == p.second) h).0 in
+    let f = eqb-true q.second p.second (and_parts (q.first == p.first) (q.second == p.second) h).1 in
     same_pair q.first q.second p.first p.second e f
 
 -- a pair whose places are all kept stands among the kept as often as among all
@@ -168,7 +157,7 @@ kept_times P f r (x ∷ xs) ks (inl (p, (zs, e, h))) all =
     ap (λ l. times r (map f l)) e ∙ sum_by-cons (λ q. cond (is_pair r q) 1 0) (f x) (map f zs)
     ∙ ap (λ n. cond (is_pair r (f x)) 1 0 + n) (kept_times P f r xs zs h all.1) ∙ sym (sum_by-cons (λ q. cond (is_pair r q) 1 0) (f x) (map f xs))
 kept_times P f r (x ∷ xs) ks (inr (n, h)) all =
-    let off = not_true (is_pair r (f x)) (λ t. n (all.0 (pair_is r (f x) t))) in
+    let off = false_from_ne_true (is_pair r (f x)) (λ t. n (all.0 (pair_is r (f x) t))) in
     let none = ap {B = ℕ} (λ b. cond b 1 0) off in
     let more = sum_by-cons (λ q. cond (is_pair r q) 1 0) (f x) (map f xs) in
     let rest = kept_times P f r xs ks h all.1 in

@@ -4,6 +4,7 @@ use Rattle.std.specs.Prelude.{int_le, IsTrue}
 use Rattle.std.specs.List.{AllByRecursion}
 use Rattle.std.proofs.lemmas.Int.{ints, clamps}
 use Rattle.std.proofs.lemmas.List.Elements.{recursion_from_All}
+use Rattle.std.proofs.lemmas.Bool.{false_from_ne_true}
 use Rattle.at_geom.specs.declared.positions.Pos.{Pos}
 use Rattle.at_geom.specs.declared.shapes.Shape.{Shape}
 use Rattle.at_geom.specs.declared.rectangles.Extent.{Extent}
@@ -14,10 +15,6 @@ use Rattle.at_geom.proofs.Found.{left_true, right_true, IsInside, sides, from_si
 use Rattle.at_query.proofs.Hulls.{positions_in_range}
 use Rattle.at_query.specs.Joined.{upper, around, around_both}
 use Rattle.at_join.specs.Boxes.{touch_of, common_of, is_here_of, IsWide, IsSpan}
-
-pub not_true : (b : Bool) → (b ≡ true → ⊥) → b ≡ false
-not_true true h = absurd (h refl)
-not_true false h = refl
 
 pub two_differ : (b : Bool) → b ≡ true → b ≡ false → ⊥
 two_differ true e f = cc
@@ -68,7 +65,7 @@ from_enclosing x y t =
 
 -- what is in an extent that is off a window is off the window
 pub covered_off : (c y w : Extent) → encloses c y ≡ true → touch_of c w ≡ false → touch_of y w ≡ false
-covered_off c y w h off = not_true (touch_of y w) (λ t.
+covered_off c y w h off = false_from_ne_true (touch_of y w) (λ t.
     let e = enclosing c y h in
     let i = touching y w t in
     two_differ (touch_of c w) (from_touching c w (record {

@@ -1,7 +1,7 @@
 -- The parts of neighbouring cells, joined, and the pairs of all cells put in order.
 use Rattle.std.proofs.Common.{◌≡◌, ℕ, ◌+◌, ◌<◌, ◌≤◌, true, cond, List, [], ◌∷◌, ◌++◌, Option, Some, None, inl, inr, ◌⊎◌, arith, refl, sym, ap, subst, ◌∙◌}
 use Rattle.std.specs.List.{AllByRecursion}
-use Rattle.std.proofs.lemmas.Bool.{cases_lt, eqb-true}
+use Rattle.std.proofs.lemmas.Bool.{cases_lt, eqb-true, false_from_ne_true, and_parts}
 use Rattle.std.proofs.lemmas.List.Sums.{sum_by-append, sum_by-cons}
 use Rattle.std.proofs.lemmas.List.Elements.{All-append, All-weaker, recursion_from_All}
 use Rattle.at_geom.specs.declared.rectangles.Extent.{Extent}
@@ -13,9 +13,8 @@ use Rattle.at_join.specs.declared.job.PairPart.{PairPart}
 use Rattle.at_join.specs.declared.job.PairPart.TheVariants.{Pairs, Lost}
 use Rattle.at_join.specs.Cells.{spread_of, is_pair_of, belongs, InCells, is_pair, times}
 use Rattle.at_join.specs.Parts.{ListsCells, StandsFor}
-use Rattle.at_join.proofs.Extents.{not_true}
 use Rattle.at_join.proofs.Offsets.{in_from, one_entry}
-use Rattle.at_join.proofs.CellPairs.{pair_is, second_so}
+use Rattle.at_join.proofs.CellPairs.{pair_is}
 
 -- ---- a pair of offsets belongs to one cell
 
@@ -23,7 +22,7 @@ one_number : (o x y : Option Extent) (m n : ℕ) → is_pair_of o x y m ≡ true
 one_number None x y m n h k = absurd (cc)
 one_number (Some j) None y m n h k = absurd (cc)
 one_number (Some j) (Some x) None m n h k = absurd (cc)
-one_number (Some j) (Some x) (Some y) m n h k = sym (eqb-true _ m (second_so _ _ h)) ∙ eqb-true _ n (second_so _ _ k)
+one_number (Some j) (Some x) (Some y) m n h k = sym (eqb-true _ m (and_parts _ _ h).1) ∙ eqb-true _ n (and_parts _ _ k).1
 
 pub one_cell : (a b : List Entry) (from to low high : ℕ) (p : Pair) → AreProper a → AreProper b → (v : InCells a b from to p) (w : InCells a b low high p) → v.cell ≡ w.cell
 one_cell a b from to low high p pa pb v w =
@@ -56,7 +55,7 @@ times_cons p q ps = sum_by-cons (λ x. cond (is_pair p x) 1 0) q ps
 pub times_none : (W : Pair → Type 0) (p : Pair) (ps : List Pair) → AllByRecursion W ps → (W p → ⊥) → times p ps ≡ 0
 times_none W p [] all miss = refl
 times_none W p (q ∷ ps) all miss =
-    let off = not_true (is_pair p q) (λ t. miss (subst W (pair_is p q t) all.0)) in
+    let off = false_from_ne_true (is_pair p q) (λ t. miss (subst W (pair_is p q t) all.0)) in
     let zero_here = ap {B = ℕ} (λ b. cond b 1 0) off in
     let rest = times_none W p ps all.1 miss in
     omega (arith, times_cons p q ps, zero_here, rest)

@@ -6,6 +6,7 @@ use Rattle.std.proofs.lemmas.Int.{ints, clamps}
 use Rattle.std.proofs.lemmas.List.{drop_more}
 use Rattle.std.proofs.lemmas.List.Sums.{sum_by-append, sum_by-cons}
 use Rattle.std.proofs.lemmas.List.Sorted.{sum_by-IsPermutation}
+use Rattle.std.proofs.ByRecursion.{All-append}
 use Rattle.at_geom.specs.declared.rectangles.Extent.{Extent}
 use Rattle.at_query.specs.declared.answer.parts.Entry.{Entry}
 use Rattle.at_query.specs.Joined.{around, around_both}
@@ -53,12 +54,8 @@ spread_span : (es : List Entry) (j : Extent) → AllByRecursion IsProperEntry es
 spread_span [] j h e = absurd (cc)
 spread_span (y ∷ es) j h e = both_span y.extent (spread_of es) j (λ x f. shape_span y.shape x h.0.in_range (sym h.0.extent ∙ f)) (λ x f. spread_span es x h.1 f) e
 
-each_joined : {X : Type 0} (P : X → Type 0) (xs ys : List X) → AllByRecursion P xs → AllByRecursion P ys → AllByRecursion P (xs ++ ys)
-each_joined P [] ys h k = k
-each_joined P (x ∷ xs) ys h k = (h.0, each_joined P xs ys h.1 k)
-
 pub grid_span : (a b : Side) (j : Extent) (o : Option Extent) → IsGrid a b o → o ≡ Some j → IsSpan j
-grid_span a b j o g e = spread_span (a.entries ++ b.entries) j (each_joined IsProperEntry a.entries b.entries g.first.entries g.second.entries) (sym g.joint ∙ e)
+grid_span a b j o g e = spread_span (a.entries ++ b.entries) j (All-append IsProperEntry a.entries b.entries g.first.entries g.second.entries) (sym g.joint ∙ e)
 
 -- ---- how many pairs of places are of a cell
 

@@ -59,7 +59,7 @@ no_opening : (b : Bracket) (c : ℕ) → is_run c ≡ true → c ≡ opening b �
 no_opening Brace c h e = true≢false (sym h ∙ ap is_run e)
 no_opening Square c h e = true≢false (sym h ∙ ap is_run e)
 
-same_first : (c d : ℕ) (x y : List ℕ) → c ∷ x ≡ d ∷ y → c ≡ d
+pub same_first : (c d : ℕ) (x y : List ℕ) → c ∷ x ≡ d ∷ y → c ≡ d
 same_first c d x y e = cc
 
 no_bracket_run : (v r more : List ℕ) (b : Bracket) → v ++ r ≡ opening b ∷ more → JsonRun v → ⊥

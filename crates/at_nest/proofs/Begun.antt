@@ -1,12 +1,13 @@
 -- An item that is only begun: where the machine goes in it, and where it stops at its first byte.
 use Rattle.std.proofs.Common.{◌≡◌, ℕ, inl, inr, List, [], ◌∷◌, ◌++◌, Some, None, option_map, option_and_then, Bool, true, false, cond, not, ◌&&◌, ◌==◌, refl, sym, ◌∙◌, ap, true≢false, codes}
 use Rattle.std.proofs.lemmas.Option.{none-some, same_Some, option_and_then_some}
+use Rattle.std.proofs.lemmas.Bool.{eqb-true}
 use Rattle.at_text.specs.Texts.{is_space, is_run, is_one_of}
 use Rattle.at_text.proofs.Machine.{run}
 use Rattle.at_nest.proofs.JsonNumber as num
 use Rattle.at_lex.specs.Runs.{Literal, literal_text, the_null, the_true, the_false}
 use Rattle.at_lex.proofs.JsonString as str
-use Rattle.at_nest.proofs.JsonMachine.{State, Frame, in_array, in_object, value, items, members, name, colon, after, in_number, in_string, in_name, in_word, step, within, begin_value, after_step, colon_step, eq_of_test, same_byte, chosen}
+use Rattle.at_nest.proofs.JsonMachine.{State, Frame, in_array, in_object, value, items, members, name, colon, after, in_number, in_string, in_name, in_word, step, within, begin_value, after_step, colon_step, same_byte, chosen}
 use Rattle.at_nest.proofs.Steps.{IsStill}
 use Rattle.at_nest.proofs.Values.{go, run_byte}
 use Rattle.at_nest.specs.Walks.{value_kind, text_kind, next}
@@ -18,7 +19,7 @@ unlike P b c h e = by_bool (b == c) refl
   where
     by_bool : (p : Bool) → (b == c) ≡ p → (b == c) ≡ false
     by_bool false f = f
-    by_bool true f = absurd (true≢false (sym e ∙ (ap P (eq_of_test b c f) ∙ h)))
+    by_bool true f = absurd (true≢false (sym e ∙ (ap P (eqb-true b c f) ∙ h)))
 
 pub run_no_space : (b : ℕ) → is_run b ≡ true → is_space b ≡ false
 run_no_space b h = by_bool (is_space b) refl
@@ -55,7 +56,7 @@ not_this b c s h e = by_bool (b == c) refl
   where
     by_bool : (p : Bool) → (b == c) ≡ p → (b == c) ≡ false
     by_bool false f = f
-    by_bool true f = absurd (none-some s (sym h ∙ (ap (num.step num.start) (sym (eq_of_test b c f)) ∙ e)))
+    by_bool true f = absurd (none-some s (sym h ∙ (ap (num.step num.start) (sym (eqb-true b c f)) ∙ e)))
 
 pub pass : {A : Type 0} (p : Bool) (x y z : A) → p ≡ false → y ≡ z → cond p x y ≡ z
 pass p x y z e f = ap (λ c. cond c x y) e ∙ f
@@ -66,7 +67,7 @@ number_begins st b s e =
     (pass (b == 0x6E) _ _ _ (not_this b 0x6E s refl e) (pass (b == 0x74) _ _ _ (not_this b 0x74 s refl e) (pass (b == 0x66) _ _ _ (not_this b 0x66 s refl e)
     (ap (option_map (λ v. in_number v st)) e))))))
 
-tail_of : List ℕ → List ℕ
+abbrev pub tail_of : List ℕ → List ℕ
 tail_of [] = []
 tail_of (b ∷ w) = w
 
@@ -80,7 +81,6 @@ word_at st b c v r w e f h k = record {
 }
 
 pub literal_begins : (st : List Frame) (l : Literal) (b : ℕ) (v r : List ℕ) → b ∷ (v ++ r) ≡ literal_text l → RunBegins st b v
-unfolding tail_of
 literal_begins st the_null b v r e = word_at st b 0x6E v r (codes "ull") (ap first e) (ap tail_of e) refl refl
 literal_begins st the_true b v r e = word_at st b 0x74 v r (codes "rue") (ap first e) (ap tail_of e) refl refl
 literal_begins st the_false b v r e = word_at st b 0x66 v r (codes "alse") (ap first e) (ap tail_of e) refl refl
@@ -132,7 +132,7 @@ name_run s n st (c ∷ u) e = option_and_then_some (λ x. run str.step x u) (str
 
 pub text_first : (b : ℕ) (v : List ℕ) → IsTextBegun (b ∷ v) → (b ≡ 0x22) × (n : str.State) × (run str.step str.inside v ≡ Some n)
 text_first b v (n, e) = option_and_then_some (λ x. run str.step x v) (str.step str.opening b) n e (λ s f g. elim (chosen (b == 0x22) (Some str.inside) None (Some s) f) [
-  | inl q ↦ (eq_of_test b 0x22 q.0, n, ap (λ x. run str.step x v) (same_Some str.inside s q.1) ∙ g)
+  | inl q ↦ (eqb-true b 0x22 q.0, n, ap (λ x. run str.step x v) (same_Some str.inside s q.1) ∙ g)
   | inr q ↦ absurd (none-some s q.1)
 ])
 

@@ -2,12 +2,10 @@
 use Rattle.std.proofs.Common.{◌≡◌, ℕ, List, [], ◌∷◌, ◌++◌, Some, None, Bool, true, false, cond, not, ◌&&◌, refl, sym, ◌∙◌, ap, subst, arith, ◌+◌, ◌≤◌, length, true≢false}
 use Rattle.std.proofs.lemmas.Option.{none-some, same_Some, option_and_then_some}
 use Rattle.std.proofs.lemmas.Bool.{not-true}
-use Rattle.std.specs.Bool.{⊤}
 use Rattle.at_text.specs.Texts.{is_run}
 use Rattle.at_nest.proofs.JsonNumber as num
 use Rattle.at_lex.proofs.JsonString as str
-use Rattle.at_lex.specs.declared.tokens.Start.{Start}
-use Rattle.at_lex.specs.declared.tokens.Start.TheVariants.{Out, InString, InEscape}
+use Rattle.at_lex.specs.declared.tokens.Start.TheVariants.{Out}
 use Rattle.at_nest.proofs.JsonMachine.{State, value, items, members, name, colon, after, in_number, in_string, in_name, in_word, step, after_step}
 use Rattle.at_lex.specs.Spans.{begins_run}
 use Rattle.at_nest.specs.Borders.{ends_run, are_apart}
@@ -17,7 +15,7 @@ use Rattle.at_nest.proofs.Values.{go}
 use Rattle.at_nest.specs.Walks.{walks, refused}
 use Rattle.at_nest.proofs.Walks.{Halted, walk_halts}
 use Rattle.at_nest.proofs.Joins.{run_split, viable_runs}
-use Rattle.at_nest.proofs.Lexical.{At, at_run, bracket_number, word_off}
+use Rattle.at_nest.proofs.Lexical.{At, at_run, bracket_number, word_off, not_out_string, not_out_escape}
 use Rattle.at_nest.proofs.Ran.{Ran, ran_step}
 use Rattle.at_nest.proofs.TokenStops.{none_goes}
 use Rattle.at_nest.proofs.Pushes.{IsDeadHere}
@@ -30,12 +28,6 @@ ran_by q t b (c ∷ w) r h e = option_and_then_some (λ z. go z (c ∷ w)) (step
 ran_start : (t : State) (w : List ℕ) → go (value []) w ≡ Some t → Ran t (ends_run w)
 ran_start t [] e = subst (λ z. Ran z false) (same_Some (value []) t e) tt
 ran_start t (b ∷ w) e = ran_by (value []) t b w false tt e
-
-not_in : Out ≡ InString → ⊥
-not_in e = let P : Start → Type 0 = λ x. elim x [ Out ↦ ⊤ | InString ↦ ⊥ | InEscape ↦ ⊤ ] in subst P e tt
-
-not_escape : Out ≡ InEscape → ⊥
-not_escape e = let P : Start → Type 0 = λ x. elim x [ Out ↦ ⊤ | InString ↦ ⊤ | InEscape ↦ ⊥ ] in subst P e tt
 
 no_run_behind : (p : Bool) (c : ℕ) → p ≡ true → not (p && is_run c) ≡ true → is_run c ≡ false
 no_run_behind true c e h = not-true (is_run c) h
@@ -62,20 +54,20 @@ goes_settled (in_word [] st) t p c y (h, l) (k, m) a e = (after st, (refl, refl)
 goes_settled (in_word (d ∷ w) st) t p c y (h, (l, ls)) (k, m) a e = absurd (word_off d c w st t (no_run_behind p c k a) l e)
 goes_settled (in_string str.closed st) t p c y h k a e = (after st, (refl, refl), refl)
 goes_settled (in_string str.opening st) t p c y h k a e = absurd h
-goes_settled (in_string str.inside st) t p c y h k a e = absurd (not_in h)
-goes_settled (in_string str.hex4 st) t p c y h k a e = absurd (not_in h)
-goes_settled (in_string str.hex3 st) t p c y h k a e = absurd (not_in h)
-goes_settled (in_string str.hex2 st) t p c y h k a e = absurd (not_in h)
-goes_settled (in_string str.hex1 st) t p c y h k a e = absurd (not_in h)
-goes_settled (in_string str.escaped st) t p c y h k a e = absurd (not_escape h)
+goes_settled (in_string str.inside st) t p c y h k a e = absurd (not_out_string h)
+goes_settled (in_string str.hex4 st) t p c y h k a e = absurd (not_out_string h)
+goes_settled (in_string str.hex3 st) t p c y h k a e = absurd (not_out_string h)
+goes_settled (in_string str.hex2 st) t p c y h k a e = absurd (not_out_string h)
+goes_settled (in_string str.hex1 st) t p c y h k a e = absurd (not_out_string h)
+goes_settled (in_string str.escaped st) t p c y h k a e = absurd (not_out_escape h)
 goes_settled (in_name str.closed st) t p c y h k a e = (colon st, (refl, refl), refl)
 goes_settled (in_name str.opening st) t p c y h k a e = absurd h
-goes_settled (in_name str.inside st) t p c y h k a e = absurd (not_in h)
-goes_settled (in_name str.hex4 st) t p c y h k a e = absurd (not_in h)
-goes_settled (in_name str.hex3 st) t p c y h k a e = absurd (not_in h)
-goes_settled (in_name str.hex2 st) t p c y h k a e = absurd (not_in h)
-goes_settled (in_name str.hex1 st) t p c y h k a e = absurd (not_in h)
-goes_settled (in_name str.escaped st) t p c y h k a e = absurd (not_escape h)
+goes_settled (in_name str.inside st) t p c y h k a e = absurd (not_out_string h)
+goes_settled (in_name str.hex4 st) t p c y h k a e = absurd (not_out_string h)
+goes_settled (in_name str.hex3 st) t p c y h k a e = absurd (not_out_string h)
+goes_settled (in_name str.hex2 st) t p c y h k a e = absurd (not_out_string h)
+goes_settled (in_name str.hex1 st) t p c y h k a e = absurd (not_out_string h)
+goes_settled (in_name str.escaped st) t p c y h k a e = absurd (not_out_escape h)
 
 abbrev head_or : List ℕ → ℕ
 head_or [] = 0

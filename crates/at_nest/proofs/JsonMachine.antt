@@ -1,6 +1,7 @@
 -- A machine for JSON texts, with a stack of what is open, and that it is one for the grammar.
 use Rattle.std.proofs.Common.{◌≡◌, ℕ, ◌⊎◌, inl, inr, ◌↔◌, List, [], ◌∷◌, ◌++◌, Option, Some, None, option_map, IsTrue, Bool, true, false, cond, ◌&&◌, ◌==◌, refl, sym, ◌∙◌, ap, subst, arith, true≢false, append_assoc, append-nil, codes, ◌+◌, ◌<◌, ◌≤◌, length, take, slice_index}
 use Rattle.std.proofs.lemmas.Option.{none-some, same_Some}
+use Rattle.std.proofs.lemmas.Bool.{eqb-true, and_parts}
 use Rattle.at_text.specs.Texts.{is_space}
 use Rattle.at_text.specs.Prefix.{TakesLongest}
 use Rattle.at_text.proofs.Machine.{IsMachine, Accepts, accepts_machine, run, longest_at, TakesLongest-same}
@@ -111,9 +112,6 @@ Suffix (in_word r st) w = (y : List ℕ) × (w ≡ r ++ y) × After st y
 
 -- ---- one byte in front
 
-pub eq_of_test : (a b : ℕ) → (a == b) ≡ true → a ≡ b
-eq_of_test a b h = grind (arith, h)
-
 pub moved : (s t : State) (w : List ℕ) → ◌≡◌ {A = Option State} (Some s) (Some t) → Suffix t w → Suffix s w
 moved s t w f r = let P : State → Type 0 = λ x. Suffix x w in subst P (sym (same_Some s t f)) r
 
@@ -122,7 +120,7 @@ by_test true s t o w e r = inl (refl, moved s t w e r)
 by_test false s t o w e r = inr e
 
 pub by_byte : (b c : ℕ) (s t : State) (o : Option State) (w : List ℕ) → cond (b == c) (Some s) o ≡ Some t → Suffix t w → ((b ≡ c) × Suffix s w) ⊎ (o ≡ Some t)
-by_byte b c s t o w e r = elim (by_test (b == c) s t o w e r) [ inl q ↦ inl (eq_of_test b c q.0, q.1) | inr f ↦ inr f ]
+by_byte b c s t o w e r = elim (by_test (b == c) s t o w e r) [ inl q ↦ inl (eqb-true b c q.0, q.1) | inr f ↦ inr f ]
 
 pub by_last : (b c : ℕ) (s t : State) (w : List ℕ) → cond (b == c) (Some s) None ≡ Some t → Suffix t w → (b ≡ c) × Suffix s w
 by_last b c s t w e r = elim (by_byte b c s t None w e r) [ inl q ↦ q | inr f ↦ absurd (none-some t f) ]
@@ -294,9 +292,6 @@ comes (in_name s st) t b w e r = name_comes s st t b w (str.step s b) (str.accep
 comes (in_word [] st) t b w e r = (b ∷ w, refl, after_comes st t b w e r)
 comes (in_word (c ∷ x) st) t b w e r = let (h, (y, f, k)) = by_last b c (in_word x st) t w e r in (y, ap (λ z. z ∷ w) h ∙ ap (λ z. c ∷ z) f, k)
 
-pub parts_true : (a b : Bool) → (a && b) ≡ true → (a ≡ true) × (b ≡ true)
-parts_true a b h = (grind (arith, h), grind (arith, h))
-
 pub wrong : {P : Type 0} → false ≡ true → P
 wrong e = absurd (true≢false (sym e))
 
@@ -311,8 +306,8 @@ ends_well (members st) h = wrong h
 ends_well (name st) h = wrong h
 ends_well (colon st) h = wrong h
 ends_well (after st) h = empty_after st h
-ends_well (in_number s st) h = let (p, q) = parts_true (num.accepts s) (is_nil st) h in ([], [], refl, (num.machine.ends s).1 p, empty_after st q)
-ends_well (in_string s st) h = let (p, q) = parts_true (str.accepts s) (is_nil st) h in ([], [], refl, (str.machine.ends s).1 p, empty_after st q)
+ends_well (in_number s st) h = let (p, q) = and_parts (num.accepts s) (is_nil st) h in ([], [], refl, (num.machine.ends s).1 p, empty_after st q)
+ends_well (in_string s st) h = let (p, q) = and_parts (str.accepts s) (is_nil st) h in ([], [], refl, (str.machine.ends s).1 p, empty_after st q)
 ends_well (in_name s st) h = wrong h
 ends_well (in_word [] st) h = ([], refl, empty_after st h)
 ends_well (in_word (c ∷ w) st) h = wrong h
@@ -411,8 +406,8 @@ chosen false x y z e = inr (refl, e)
 
 pub two_stop : (b c d : ℕ) (s t u : State) → Stops c → Stops d → cond (b == c) (Some s) (cond (b == d) (Some t) None) ≡ Some u → Stops b
 two_stop b c d s t u hc hd e = elim (chosen (b == c) (Some s) (cond (b == d) (Some t) None) (Some u) e) [
-  | inl q ↦ stops_at b c (eq_of_test b c q.0) hc
-  | inr q ↦ elim (chosen (b == d) (Some t) None (Some u) q.1) [ inl r ↦ stops_at b d (eq_of_test b d r.0) hd | inr r ↦ absurd (none-some u r.1) ]
+  | inl q ↦ stops_at b c (eqb-true b c q.0) hc
+  | inr q ↦ elim (chosen (b == d) (Some t) None (Some u) q.1) [ inl r ↦ stops_at b d (eqb-true b d r.0) hd | inr r ↦ absurd (none-some u r.1) ]
 ]
 
 pub byte_stops : (st : List Frame) (b : ℕ) (t : State) → after_byte st b ≡ Some t → Stops b

@@ -1,6 +1,5 @@
 -- How the last bytes of a text read, and the answer of a text that ends in them.
 use Rattle.std.proofs.Common.{◌≡◌, ℕ, inl, inr, List, [], ◌∷◌, ◌++◌, Option, Some, None, Bool, true, false, Result, Err, refl, sym, ◌∙◌, ap, subst, append-nil, ◌+◌, ◌<◌, length, take, true≢false}
-use Rattle.std.specs.Bool.{⊤}
 use Rattle.std.proofs.Math.Seq.{take-length}
 use Rattle.std.proofs.lemmas.Option.{same_Some, none-some}
 use Rattle.at_text.specs.Prefix.{Viable, LongestViable}
@@ -43,6 +42,7 @@ use Rattle.at_nest.proofs.Texts.{mark_formed, last_answer, no_last, last_mark, l
 use Rattle.at_nest.proofs.Open as unended
 use Rattle.at_nest.proofs.NextItems.{each_closed, answer_tells, stop_tells, open_tells}
 use Rattle.at_nest.proofs.Told.{told}
+use Rattle.at_nest.proofs.Lexical.{not_out_string}
 
 -- ---- what may go on at the end of a text
 
@@ -78,16 +78,13 @@ stays_front InString (b ∷ v) x h n = stays_front (after_byte InString b) v x h
 stays_front InEscape [] x h n = tt
 stays_front InEscape (b ∷ v) x h n = stays_front InString v x h (λ e. subst (λ t. StaysInText t (v ++ x)) e h)
 
-not_out : InString ≡ Out → ⊥
-not_out e = let P : Start → Type 0 = λ x. elim x [ Out ↦ ⊥ | InString ↦ ⊤ | InEscape ↦ ⊤ ] in subst P e tt
-
 -- the reader is in a string that goes on
 unfinished : (v x : List ℕ) (n : str.State) → StaysInText InString (v ++ x) → run str.step str.inside v ≡ Some n → str.accepts n ≡ false
 unfinished v x n h e = by_bool (str.accepts n) refl
   where
     by_bool : (p : Bool) → str.accepts n ≡ p → str.accepts n ≡ false
     by_bool false f = f
-    by_bool true f = absurd (stays_in InString v (stays_front InString v x h not_out) (closed_is n (end_of InString v) (text_run str.inside n v InString refl e) f))
+    by_bool true f = absurd (stays_in InString v (stays_front InString v x h (λ e. not_out_string (sym e))) (closed_is n (end_of InString v) (text_run str.inside n v InString refl e) f))
 
 -- a string without its closing quote is none
 pub no_string : (u : List ℕ) → StaysInText InString u → ¬ (JsonString (0x22 ∷ u))

@@ -1,6 +1,7 @@
 -- The lexical state in each state of the machine, and what an opening bracket leads to.
 use Rattle.std.proofs.Common.{◌≡◌, ℕ, ◌⊎◌, inl, inr, List, [], ◌∷◌, Option, Some, None, option_map, Bool, true, false, cond, ◌==◌, refl, sym, ◌∙◌, ap, subst, true≢false, codes}
 use Rattle.std.proofs.lemmas.Option.{none-some, same_Some, option_and_then_some}
+use Rattle.std.proofs.lemmas.Bool.{eqb-true}
 use Rattle.std.specs.Bool.{⊤}
 use Rattle.std.specs.Char.{is_ascii_hexdigit}
 use Rattle.at_text.specs.Texts.{is_space, is_run}
@@ -8,7 +9,7 @@ use Rattle.at_nest.proofs.JsonNumber as num
 use Rattle.at_lex.specs.declared.tokens.Start.{Start}
 use Rattle.at_lex.specs.declared.tokens.Start.TheVariants.{Out, InString, InEscape}
 use Rattle.at_lex.proofs.JsonString as str
-use Rattle.at_nest.proofs.JsonMachine.{State, Frame, in_array, in_object, value, items, members, name, colon, after, in_number, in_string, in_name, in_word, step, within, begin_value, after_step, after_byte as after_json, colon_step, eq_of_test, chosen}
+use Rattle.at_nest.proofs.JsonMachine.{State, Frame, in_array, in_object, value, items, members, name, colon, after, in_number, in_string, in_name, in_word, step, within, begin_value, after_step, after_byte as after_json, colon_step, chosen}
 use Rattle.at_lex.specs.Spans.{after_byte, end_of, AreRun}
 use Rattle.at_nest.proofs.Steps.{number_none, Settled}
 use Rattle.at_nest.proofs.Values.{go, run_byte}
@@ -37,7 +38,7 @@ unquoted P b h e = by_bool (b == 0x22) refl
   where
     by_bool : (p : Bool) → (b == 0x22) ≡ p → (b == 0x22) ≡ false
     by_bool false f = f
-    by_bool true f = absurd (true≢false (sym e ∙ (ap P (eq_of_test b 0x22 f) ∙ h)))
+    by_bool true f = absurd (true≢false (sym e ∙ (ap P (eqb-true b 0x22 f) ∙ h)))
 
 stays_out : (P : ℕ → Bool) (b : ℕ) → P 0x22 ≡ false → P b ≡ true → after_byte Out b ≡ Out
 stays_out P b h e = ap (λ c. cond c InString Out) (unquoted P b h e)
@@ -47,7 +48,7 @@ slashless P b h e = by_bool (b == 0x5C) refl
   where
     by_bool : (p : Bool) → (b == 0x5C) ≡ p → (b == 0x5C) ≡ false
     by_bool false f = f
-    by_bool true f = absurd (true≢false (sym e ∙ (ap P (eq_of_test b 0x5C f) ∙ h)))
+    by_bool true f = absurd (true≢false (sym e ∙ (ap P (eqb-true b 0x5C f) ∙ h)))
 
 stays_in : (P : ℕ → Bool) (b : ℕ) → P 0x22 ≡ false → P 0x5C ≡ false → P b ≡ true → after_byte InString b ≡ InString
 stays_in P b h k e = ap (λ c. cond c InEscape (cond (b == 0x22) Out InString)) (slashless P b k e) ∙ ap (λ c. cond c Out InString) (unquoted P b h e)
@@ -68,9 +69,9 @@ hex_step t u b i e = elim (chosen (is_ascii_hexdigit b) (Some u) None (Some t) e
 pub text_step : (q t : str.State) (b : ℕ) (s : Start) → InText q s → str.step q b ≡ Some t → InText t (after_byte s b)
 text_step str.opening t b s h e = absurd h
 text_step str.inside t b s h e = let P : Start → Type 0 = λ x. InText t (after_byte x b) in subst P (sym h) (elim (chosen (b == 0x22) (Some str.closed) _ (Some t) e) [
-  | inl q ↦ put str.closed t (after_byte InString b) q.1 (ap (after_byte InString) (eq_of_test b 0x22 q.0))
+  | inl q ↦ put str.closed t (after_byte InString b) q.1 (ap (after_byte InString) (eqb-true b 0x22 q.0))
   | inr q ↦ elim (chosen (b == 0x5C) (Some str.escaped) _ (Some t) q.1) [
-    | inl r ↦ put str.escaped t (after_byte InString b) r.1 (ap (after_byte InString) (eq_of_test b 0x5C r.0))
+    | inl r ↦ put str.escaped t (after_byte InString b) r.1 (ap (after_byte InString) (eqb-true b 0x5C r.0))
     | inr r ↦ elim (chosen _ (Some str.inside) None (Some t) r.1) [
       | inl k ↦ put str.inside t (after_byte InString b) k.1 (ap (λ c. cond c InEscape (cond (b == 0x22) Out InString)) r.0 ∙ ap (λ c. cond c Out InString) q.0)
       | inr k ↦ none_put t k.1
@@ -109,7 +110,7 @@ begin_at st t b e = elim (chosen (b == 0x5B) (Some (items st)) _ (Some t) e) [
   | inr e1 ↦ elim (chosen (b == 0x7B) (Some (members st)) _ (Some t) e1.1) [
     | inl q ↦ to_still (λ c. c == 0x7B) (members st) t b refl q.0 (λ s h. h) q.1
     | inr e2 ↦ elim (chosen (b == 0x22) (Some (in_string str.inside st)) _ (Some t) e2.1) [
-      | inl q ↦ become (in_string str.inside st) t (after_byte Out b) q.1 (ap (after_byte Out) (eq_of_test b 0x22 q.0))
+      | inl q ↦ become (in_string str.inside st) t (after_byte Out b) q.1 (ap (after_byte Out) (eqb-true b 0x22 q.0))
       | inr e3 ↦ elim (chosen (b == 0x6E) (Some (in_word (codes "ull") st)) _ (Some t) e3.1) [
         | inl q ↦ to_still (λ c. c == 0x6E) (in_word (codes "ull") st) t b refl q.0 (letters (codes "ull") (refl, (refl, (refl, tt)))) q.1
         | inr e4 ↦ elim (chosen (b == 0x74) (Some (in_word (codes "rue") st)) _ (Some t) e4.1) [
@@ -149,7 +150,7 @@ colon_at st t b e = elim (chosen (is_space b) (Some (colon st)) _ (Some t) e) [
 
 name_at : (st : List Frame) (t : State) (b : ℕ) → cond (b == 0x22) (Some (in_name str.inside st)) None ≡ Some t → At t (after_byte Out b)
 name_at st t b e = elim (chosen (b == 0x22) (Some (in_name str.inside st)) None (Some t) e) [
-  | inl q ↦ become (in_name str.inside st) t (after_byte Out b) q.1 (ap (after_byte Out) (eq_of_test b 0x22 q.0))
+  | inl q ↦ become (in_name str.inside st) t (after_byte Out b) q.1 (ap (after_byte Out) (eqb-true b 0x22 q.0))
   | inr q ↦ none_put t q.1
 ]
 
@@ -202,7 +203,7 @@ at_step (in_string q st) t b s h e = string_at q st t b s (str.step q b) refl h 
 at_step (in_name q st) t b s h e = in_name_at q st t b s (str.step q b) refl h e
 at_step (in_word [] st) t b s (h, k) e = from_out t b s h (after_at st t b e)
 at_step (in_word (c ∷ w) st) t b s (h, (k, l)) e = from_out t b s h (elim (chosen (b == c) (Some (in_word w st)) None (Some t) e) [
-  | inl q ↦ become (in_word w st) t (after_byte Out b) q.1 (stays_out is_run b refl (ap is_run (eq_of_test b c q.0) ∙ k), l)
+  | inl q ↦ become (in_word w st) t (after_byte Out b) q.1 (stays_out is_run b refl (ap is_run (eqb-true b c q.0) ∙ k), l)
   | inr q ↦ none_put t q.1
 ])
 
@@ -232,11 +233,11 @@ after_brace (in_object ∷ st) = refl
 
 pub word_off : (c b : ℕ) (w : List ℕ) (st : List Frame) (t : State) → is_run b ≡ false → is_run c ≡ true → step (in_word (c ∷ w) st) b ≡ Some t → ⊥
 word_off c b w st t h k e = elim (chosen (b == c) (Some (in_word w st)) None (Some t) e) [
-  | inl q ↦ true≢false (sym k ∙ (ap is_run (sym (eq_of_test b c q.0)) ∙ h))
+  | inl q ↦ true≢false (sym k ∙ (ap is_run (sym (eqb-true b c q.0)) ∙ h))
   | inr q ↦ none-some t q.1
 ]
 
-not_out_string : Out ≡ InString → ⊥
+pub not_out_string : Out ≡ InString → ⊥
 not_out_string e = let P : Start → Type 0 = λ x. elim x [ Out ↦ ⊤ | InString ↦ ⊥ | InEscape ↦ ⊥ ] in subst P e tt
 
 pub opens_square : (q t : State) → At q Out → step q 0x5B ≡ Some t → (st : List Frame) × (t ≡ items st)
@@ -298,7 +299,7 @@ after_quote [] = refl
 after_quote (in_array ∷ st) = refl
 after_quote (in_object ∷ st) = refl
 
-not_out_escape : Out ≡ InEscape → ⊥
+pub not_out_escape : Out ≡ InEscape → ⊥
 not_out_escape e = let P : Start → Type 0 = λ x. elim x [ Out ↦ ⊤ | InString ↦ ⊤ | InEscape ↦ ⊥ ] in subst P e tt
 
 pub opens_quote : (q t : State) → At q Out → step q 0x22 ≡ Some t → (st : List Frame) × ((t ≡ in_string str.inside st) ⊎ (t ≡ in_name str.inside st))

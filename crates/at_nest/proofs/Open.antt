@@ -20,7 +20,7 @@ use Rattle.at_nest.proofs.PieceSteps.{first}
 use Rattle.at_nest.proofs.Walks.{Reads, walk_reads, walk_halts, cases, swap}
 use Rattle.at_nest.specs.Levels.{Form, pieces_of}
 use Rattle.at_nest.proofs.Pushes.{IsForm, IsRunBegun}
-use Rattle.at_nest.proofs.Begun.{number_run, number_begins, word_run, string_run, name_run, text_first, pass, run_no_space, unlike, run_halts, text_stops}
+use Rattle.at_nest.proofs.Begun.{number_run, number_begins, word_run, string_run, name_run, text_first, pass, run_no_space, unlike, run_halts, text_stops, tail_of}
 use Rattle.at_nest.proofs.Finished.{Answer, syntax, ended, IsAnswer, halted_answer, halted_longer, walk_cases}
 
 -- a run that is no value yet, and a string without its end
@@ -50,12 +50,7 @@ word_open st b c d v r w e f h k = record {
   more = record { last = in_word (d ∷ r) st; goes = ap (λ z. go (in_word z st) v) (sym f) ∙ word_run v (d ∷ r) st; unfinished = refl };
 }
 
-tail_of : List ℕ → List ℕ
-tail_of [] = []
-tail_of (b ∷ w) = w
-
 run_open : (st : List Frame) (b : ℕ) (v : List ℕ) → IsRunOpen (b ∷ v) → BeginsOpen st b v
-unfolding tail_of
 run_open st b v (inl (n, e, h)) = option_and_then_some (λ x. run num.step x v) (num.step num.start b) n e (λ s f g. record {
   next_state = in_number s st;
   begins = number_begins st b s f;

@@ -1,13 +1,14 @@
 -- What one piece of a form leads to in the machine for bytes.
 use Rattle.std.proofs.Common.{◌≡◌, ℕ, inl, inr, List, [], ◌∷◌, ◌++◌, Option, Some, None, option_and_then, Bool, true, false, cond, ◌==◌, refl, sym, ◌∙◌, ap, subst, arith, append-nil}
 use Rattle.std.proofs.lemmas.Option.{none-some, same_Some}
+use Rattle.std.proofs.lemmas.Bool.{eqb-true}
 use Rattle.at_text.specs.Texts.{is_space}
 use Rattle.at_nest.proofs.JsonNumber as num
 use Rattle.at_lex.specs.declared.tokens.Bracket.TheVariants.{Brace, Square}
 use Rattle.at_lex.specs.Strings.{JsonString}
 use Rattle.at_lex.specs.Runs.{Literal, literal_text, the_null, the_true, the_false}
 use Rattle.at_nest.specs.Tree.{Tree, literal, number, text, array, object, Spells}
-use Rattle.at_nest.proofs.JsonMachine.{State, Frame, in_array, in_object, value, items, members, name, colon, after, in_number, in_string, in_name, in_word, step, begin_value, eq_of_test, opening_split}
+use Rattle.at_nest.proofs.JsonMachine.{State, Frame, in_array, in_object, value, items, members, name, colon, after, in_number, in_string, in_name, in_word, step, begin_value, opening_split}
 use Rattle.at_nest.specs.Borders.{are_apart}
 use Rattle.at_lex.specs.Spans.{opening, closing}
 use Rattle.at_nest.specs.Forms.{Meaning, Piece, comma as a_comma, colon as a_colon, quoted, entry, opens, closes, mark, IsPiece, IsNoText}
@@ -105,7 +106,7 @@ not_byte b c st s e f = by_bool (b == c) refl
   where
     by_bool : (p : Bool) → (b == c) ≡ p → (b == c) ≡ false
     by_bool false g = g
-    by_bool true g = absurd (none-some s (sym e ∙ (ap (begin_value st) (sym (eq_of_test b c g)) ∙ f)))
+    by_bool true g = absurd (none-some s (sym e ∙ (ap (begin_value st) (sym (eqb-true b c g)) ∙ f)))
 
 -- the machine goes through the piece, wherever it may stand
 pub record Goes (s t : State) (v : List ℕ) : Type 0 where

@@ -1,18 +1,18 @@
 -- The machine is in a run only where the last byte was of a run.
 use Rattle.std.proofs.Common.{◌≡◌, ℕ, inl, inr, List, [], ◌∷◌, Option, Some, None, option_map, Bool, true, false, cond, ◌==◌, refl, sym, ◌∙◌, ap, subst, true≢false, codes}
 use Rattle.std.proofs.lemmas.Option.{same_Some, option_and_then_some}
+use Rattle.std.proofs.lemmas.Bool.{eqb-true}
 use Rattle.std.specs.Bool.{⊤}
 use Rattle.at_text.specs.Texts.{is_space, is_run}
 use Rattle.at_nest.proofs.JsonNumber as num
-use Rattle.at_lex.specs.declared.tokens.Start.{Start}
-use Rattle.at_lex.specs.declared.tokens.Start.TheVariants.{Out, InString, InEscape}
+use Rattle.at_lex.specs.declared.tokens.Start.TheVariants.{Out}
 use Rattle.at_lex.proofs.JsonString as str
-use Rattle.at_nest.proofs.JsonMachine.{State, Frame, in_array, in_object, value, items, members, name, colon, after, in_number, in_string, in_name, in_word, step, within, begin_value, after_step, after_byte as after_json, colon_step, eq_of_test, chosen}
+use Rattle.at_nest.proofs.JsonMachine.{State, Frame, in_array, in_object, value, items, members, name, colon, after, in_number, in_string, in_name, in_word, step, within, begin_value, after_step, after_byte as after_json, colon_step, chosen}
 use Rattle.at_nest.specs.Borders.{ends_run}
 use Rattle.at_lex.specs.Spans.{AreRun}
 use Rattle.at_nest.proofs.Steps.{Settled, run_ended}
 use Rattle.at_nest.proofs.Values.{go, run_byte}
-use Rattle.at_nest.proofs.Lexical.{At, none_put}
+use Rattle.at_nest.proofs.Lexical.{At, none_put, not_out_string, not_out_escape}
 
 abbrev pub Ran : State → Bool → Type 0
 Ran (in_number n st) r = r ≡ true
@@ -23,7 +23,7 @@ ran : (q t : State) (r : Bool) → ◌≡◌ {A = Option State} (Some q) (Some t
 ran q t r e h = let P : State → Type 0 = λ x. Ran x r in subst P (same_Some q t e) h
 
 byte_run : (b c : ℕ) → (b == c) ≡ true → is_run c ≡ true → is_run b ≡ true
-byte_run b c e h = ap is_run (eq_of_test b c e) ∙ h
+byte_run b c e h = ap is_run (eqb-true b c e) ∙ h
 
 begin_ran_number : (st : List Frame) (t : State) (b : ℕ) (o : Option num.State) → num.step num.start b ≡ o → option_map (λ s. in_number s st) o ≡ Some t → Ran t (is_run b)
 begin_ran_number st t b None f e = none_put t e
@@ -112,12 +112,6 @@ pub start_ran : (t : State) (w : List ℕ) → go (value []) w ≡ Some t → en
 start_ran t [] e n = subst (λ z. Ran z false) (same_Some (value []) t e) tt
 start_ran t (b ∷ w) e n = ran_run (value []) t b w false tt e n
 
-not_in : Out ≡ InString → ⊥
-not_in e = let P : Start → Type 0 = λ x. elim x [ Out ↦ ⊤ | InString ↦ ⊥ | InEscape ↦ ⊥ ] in subst P e tt
-
-not_escape : Out ≡ InEscape → ⊥
-not_escape e = let P : Start → Type 0 = λ x. elim x [ Out ↦ ⊤ | InString ↦ ⊥ | InEscape ↦ ⊥ ] in subst P e tt
-
 -- outside text and in no run, the machine is settled
 pub ran_settled : (t : State) → At t Out → Ran t false → (u : State) × Settled t u × (run_ended t ≡ false)
 ran_settled (value st) h k = (value st, refl, refl)
@@ -130,17 +124,17 @@ ran_settled (in_number n st) h k = absurd (true≢false (sym k))
 ran_settled (in_word w st) h (k, l) = absurd (true≢false (sym k))
 ran_settled (in_string str.closed st) h k = (after st, (refl, refl), refl)
 ran_settled (in_string str.opening st) h k = absurd h
-ran_settled (in_string str.inside st) h k = absurd (not_in h)
-ran_settled (in_string str.hex4 st) h k = absurd (not_in h)
-ran_settled (in_string str.hex3 st) h k = absurd (not_in h)
-ran_settled (in_string str.hex2 st) h k = absurd (not_in h)
-ran_settled (in_string str.hex1 st) h k = absurd (not_in h)
-ran_settled (in_string str.escaped st) h k = absurd (not_escape h)
+ran_settled (in_string str.inside st) h k = absurd (not_out_string h)
+ran_settled (in_string str.hex4 st) h k = absurd (not_out_string h)
+ran_settled (in_string str.hex3 st) h k = absurd (not_out_string h)
+ran_settled (in_string str.hex2 st) h k = absurd (not_out_string h)
+ran_settled (in_string str.hex1 st) h k = absurd (not_out_string h)
+ran_settled (in_string str.escaped st) h k = absurd (not_out_escape h)
 ran_settled (in_name str.closed st) h k = (colon st, (refl, refl), refl)
 ran_settled (in_name str.opening st) h k = absurd h
-ran_settled (in_name str.inside st) h k = absurd (not_in h)
-ran_settled (in_name str.hex4 st) h k = absurd (not_in h)
-ran_settled (in_name str.hex3 st) h k = absurd (not_in h)
-ran_settled (in_name str.hex2 st) h k = absurd (not_in h)
-ran_settled (in_name str.hex1 st) h k = absurd (not_in h)
-ran_settled (in_name str.escaped st) h k = absurd (not_escape h)
+ran_settled (in_name str.inside st) h k = absurd (not_out_string h)
+ran_settled (in_name str.hex4 st) h k = absurd (not_out_string h)
+ran_settled (in_name str.hex3 st) h k = absurd (not_out_string h)
+ran_settled (in_name str.hex2 st) h k = absurd (not_out_string h)
+ran_settled (in_name str.hex1 st) h k = absurd (not_out_string h)
+ran_settled (in_name str.escaped st) h k = absurd (not_out_escape h)

@@ -1,6 +1,5 @@
 -- Forms stay reduced; and a stop of a span is dead from the span's start state on.
 use Rattle.std.proofs.Common.{◌≡◌, ℕ, List, [], ◌∷◌, ◌++◌, Option, Some, None, Bool, true, false, not, ◌&&◌, refl, sym, ◌∙◌, ap, subst, append_assoc}
-use Rattle.std.specs.Bool.{⊤}
 use Rattle.at_text.specs.Prefix.{Viable}
 use Rattle.at_lex.specs.declared.tokens.Start.{Start}
 use Rattle.at_lex.specs.declared.tokens.Start.TheVariants.{Out, InString, InEscape}
@@ -17,6 +16,7 @@ use Rattle.at_nest.specs.Levels.{Mode, Level, Form, move, closes_at, built, piec
 use Rattle.at_nest.proofs.Merges.{merged}
 use Rattle.at_nest.proofs.Finished.{AreClosed, IsReduced}
 use Rattle.at_nest.proofs.Unions.{IsBroken, IsLeadEnd, lead_out, closes_last}
+use Rattle.at_nest.proofs.Lexical.{not_out_string, not_out_escape}
 
 closed_with : {X : Type 0} (ps qs : List (Piece X)) → AreClosed ps → AreClosed qs → AreClosed (ps ++ qs)
 closed_with [] qs h k = k
@@ -72,16 +72,10 @@ lead_last s x (b ∷ u) n h = ends_append x b u ∙ closes_last s (b ∷ u) n h
 apart_by : (x more : List ℕ) → ends_run x ≡ false → are_apart x more ≡ true
 apart_by x more h = ap (λ z. not (z && begins_run more)) h
 
-no_string : InString ≡ Out → ⊥
-no_string e = let P : Start → Type 0 = λ x. elim x [ Out ↦ ⊥ | InString ↦ ⊤ | InEscape ↦ ⊤ ] in subst P e tt
-
-no_escape : InEscape ≡ Out → ⊥
-no_escape e = let P : Start → Type 0 = λ x. elim x [ Out ↦ ⊥ | InString ↦ ⊤ | InEscape ↦ ⊤ ] in subst P e tt
-
 lead_apart : (s : Start) (x u more : List ℕ) → IsLeadEnd s u more → are_apart (x ++ u) more ≡ true
 lead_apart Out x u more (h, k, b, o, e) = ap not (and_false (ends_run (x ++ u)) (begins_run more) k)
-lead_apart InString x u more h = apart_by (x ++ u) more (lead_last InString x u no_string h)
-lead_apart InEscape x u more h = apart_by (x ++ u) more (lead_last InEscape x u no_escape h)
+lead_apart InString x u more h = apart_by (x ++ u) more (lead_last InString x u (λ e. not_out_string (sym e)) h)
+lead_apart InEscape x u more h = apart_by (x ++ u) more (lead_last InEscape x u (λ e. not_out_escape (sym e)) h)
 
 -- no bytes before the span that lead into its start state make the stop's byte viable
 pub broken_dead : {X : Type 0} (m : Meaning X) (s : Start) (at : ℕ) (w u : List ℕ) (f : Form X) (i : SpanStop) → IsBroken m s at w u f i → IsDead s at w i.place

@@ -2,13 +2,11 @@
 use Rattle.std.proofs.Common.{◌≡◌, ℕ, ◌⊎◌, inl, inr, List, [], ◌∷◌, ◌++◌, Option, Some, None, option_and_then, Bool, true, false, cond, not, ◌&&◌, refl, sym, ◌∙◌, ap, subst, arith, append_assoc, append-nil, ◌+◌, length, length-append, true≢false}
 use Rattle.std.proofs.lemmas.Option.{none-some, same_Some, option_and_then_some}
 use Rattle.std.proofs.lemmas.Bool.{not-true}
-use Rattle.std.specs.Bool.{⊤}
 use Rattle.at_text.specs.Texts.{is_run}
 use Rattle.at_lex.proofs.JsonString as str
 use Rattle.at_lex.specs.Spans.{end_of, IsKind}
 use Rattle.at_lex.specs.Stream.{Left, GivesItem}
-use Rattle.at_lex.specs.declared.tokens.Start.{Start}
-use Rattle.at_lex.specs.declared.tokens.Start.TheVariants.{Out, InString, InEscape}
+use Rattle.at_lex.specs.declared.tokens.Start.TheVariants.{Out}
 use Rattle.at_lex.specs.declared.tokens.Bracket.{Bracket}
 use Rattle.at_lex.specs.declared.tokens.Bracket.TheVariants.{Brace, Square}
 use Rattle.at_lex.specs.declared.tokens.Token.{Token}
@@ -39,7 +37,7 @@ use Rattle.at_nest.proofs.Steps.{Settled, is_clear, run_ended, settled_step, and
 use Rattle.at_nest.proofs.Values.{go}
 use Rattle.at_nest.proofs.PieceSteps.{Halts, piece_first, piece_at, piece_halts, next_still}
 use Rattle.at_nest.proofs.Walks.{Reads, Halted, walk_reads, walk_halts, cases, spaces_apart}
-use Rattle.at_nest.proofs.Lexical.{At, at_run, bracket_number, word_off}
+use Rattle.at_nest.proofs.Lexical.{At, at_run, bracket_number, word_off, not_out_string, not_out_escape}
 use Rattle.at_nest.proofs.Joins.{Cut, formed_cut, formed_append, formed_out, end_append, run_split, viable_runs, apart_front, apart_nothing, apart_join}
 use Rattle.at_nest.proofs.Ran.{start_ran, ran_settled}
 use Rattle.at_nest.proofs.Unions.{both_apart}
@@ -49,6 +47,7 @@ use Rattle.at_nest.proofs.TokenStops.{apart_of_run}
 use Rattle.at_nest.proofs.TokenReads.{run_tree}
 use Rattle.at_nest.proofs.Items.{Consumed}
 use Rattle.at_nest.proofs.Closers.{closers_more}
+use Rattle.at_nest.proofs.Ahead.{same_first}
 
 -- ---- what the grammar's states are behind a piece
 
@@ -202,12 +201,6 @@ behind_colon k h s t e = let (st, f) = colon_leads s t e in mark_then k h st t (
 
 -- ---- the machine for bytes, behind any bytes that lead outside text
 
-not_in_text : Out ≡ InString → ⊥
-not_in_text e = let P : Start → Type 0 = λ x. elim x [ Out ↦ ⊤ | InString ↦ ⊥ | InEscape ↦ ⊥ ] in subst P e tt
-
-not_in_escape : Out ≡ InEscape → ⊥
-not_in_escape e = let P : Start → Type 0 = λ x. elim x [ Out ↦ ⊤ | InString ↦ ⊥ | InEscape ↦ ⊥ ] in subst P e tt
-
 number_done : (p : Bool) (o : Option State) (t : State) → cond p o None ≡ Some t → p ≡ true
 number_done true o t e = refl
 number_done false o t e = absurd (none-some t e)
@@ -225,20 +218,20 @@ settles (in_word [] st) t d h n e = (after st, (refl, refl))
 settles (in_word (c ∷ w) st) t d (h, (k, l)) n e = absurd (word_off c d w st t n k e)
 settles (in_string str.closed st) t d h n e = (after st, (refl, refl))
 settles (in_string str.opening st) t d h n e = absurd h
-settles (in_string str.inside st) t d h n e = absurd (not_in_text h)
-settles (in_string str.hex4 st) t d h n e = absurd (not_in_text h)
-settles (in_string str.hex3 st) t d h n e = absurd (not_in_text h)
-settles (in_string str.hex2 st) t d h n e = absurd (not_in_text h)
-settles (in_string str.hex1 st) t d h n e = absurd (not_in_text h)
-settles (in_string str.escaped st) t d h n e = absurd (not_in_escape h)
+settles (in_string str.inside st) t d h n e = absurd (not_out_string h)
+settles (in_string str.hex4 st) t d h n e = absurd (not_out_string h)
+settles (in_string str.hex3 st) t d h n e = absurd (not_out_string h)
+settles (in_string str.hex2 st) t d h n e = absurd (not_out_string h)
+settles (in_string str.hex1 st) t d h n e = absurd (not_out_string h)
+settles (in_string str.escaped st) t d h n e = absurd (not_out_escape h)
 settles (in_name str.closed st) t d h n e = (colon_state st, (refl, refl))
 settles (in_name str.opening st) t d h n e = absurd h
-settles (in_name str.inside st) t d h n e = absurd (not_in_text h)
-settles (in_name str.hex4 st) t d h n e = absurd (not_in_text h)
-settles (in_name str.hex3 st) t d h n e = absurd (not_in_text h)
-settles (in_name str.hex2 st) t d h n e = absurd (not_in_text h)
-settles (in_name str.hex1 st) t d h n e = absurd (not_in_text h)
-settles (in_name str.escaped st) t d h n e = absurd (not_in_escape h)
+settles (in_name str.inside st) t d h n e = absurd (not_out_string h)
+settles (in_name str.hex4 st) t d h n e = absurd (not_out_string h)
+settles (in_name str.hex3 st) t d h n e = absurd (not_out_string h)
+settles (in_name str.hex2 st) t d h n e = absurd (not_out_string h)
+settles (in_name str.hex1 st) t d h n e = absurd (not_out_string h)
+settles (in_name str.escaped st) t d h n e = absurd (not_out_escape h)
 
 -- where the bytes from d on go on behind the bytes y, the machine is settled before them
 abbrev IsReady : State → List ℕ → Type 0
@@ -260,9 +253,6 @@ some_byte (d ∷ a) v z c u e = (d, a ++ (v ++ z), refl)
 regroup : (a v b z : List ℕ) → a ++ (v ++ (b ++ z)) ≡ (a ++ (v ++ b)) ++ z
 regroup a v b z = ap (λ y. a ++ y) (sym (append_assoc v b z)) ∙ sym (append_assoc a (v ++ b) z)
 
-same_head : (b c : ℕ) (u v : List ℕ) → b ∷ u ≡ c ∷ v → b ≡ c
-same_head b c u v e = cc
-
 halted_goes : (q t : State) (k i : ℕ) (w : List ℕ) → Halted q k w i → go q w ≡ Some t → ⊥
 halted_goes q t k i w h e = let (p, f, g) = run_split q t h.before (h.byte ∷ h.others) (ap (go q) (sym h.split) ∙ e) in
     let none : step p h.byte ≡ None = ap (λ z. step z h.byte) (same_Some p h.last (sym f ∙ h.goes)) ∙ h.halts in
@@ -275,7 +265,7 @@ two_stop m c p k j w v b u q s t refuses settled clear clear2 formed apart hp e 
   | inl n ↦ halted_goes q q2 k (at_of c) w (walk_halts m (c ∷ []) k w q s (at_of c) settled clear formed (ap (λ o. walk_on o (at_of c) (λ z. reached z)) n)) f
   | inr (s2, n) ↦ (let r : Reads q s2 w = walk_reads m (c ∷ []) k w q s s2 settled clear formed (ap (λ o. walk_on o (at_of c) (λ z. reached z)) n) in
       let h : Halts s2 v = piece_halts m s2 j v p (next_still s (kind_of c) s2 n) hp (refuses s s2 n) in
-      let none : step s2 b ≡ None = ap (step s2) (same_head b h.byte u h.others (sym e ∙ h.split)) ∙ h.halts in
+      let none : step s2 b ≡ None = ap (step s2) (same_first b h.byte u h.others (sym e ∙ h.split)) ∙ h.halts in
       halts_after q r.last t w b r.goes (settled_step r.last s2 b r.settled (not-true _ (r.clear (b ∷ []) apart clear2)) ∙ none) g)
 ]
 

@@ -1,11 +1,12 @@
 -- A run that is no value: its longest viable prefix, and the byte behind it, stop the machine.
 use Rattle.std.proofs.Common.{◌≡◌, ℕ, ◌⊎◌, inl, inr, List, [], ◌∷◌, ◌++◌, Option, Some, None, option_map, option_and_then, Bool, true, false, ◌==◌, refl, sym, ◌∙◌, ap, subst, append_assoc, append-nil, codes, ◌+◌, length, true≢false}
+use Rattle.std.proofs.lemmas.Bool.{eqb-true}
 use Rattle.at_text.specs.Prefix.{Viable}
 use Rattle.at_text.specs.Texts.{is_run}
 use Rattle.at_text.proofs.Machine.{run, run-rest, run_more}
 use Rattle.at_nest.proofs.JsonNumber as num
 use Rattle.at_lex.specs.Runs.{Literal, literal_text, the_null, the_true, the_false, JsonRun}
-use Rattle.at_nest.proofs.JsonMachine.{Frame, in_number, begin_value, eq_of_test}
+use Rattle.at_nest.proofs.JsonMachine.{Frame, in_number, begin_value}
 use Rattle.at_lex.specs.Spans.{AreRun}
 use Rattle.at_nest.specs.Forms.{Meaning}
 use Rattle.at_nest.proofs.Steps.{number_none}
@@ -61,7 +62,7 @@ word_rest l u (c ∷ r) byte e b = by_bool (byte == c) refl
 
     by_bool : (p : Bool) → (byte == c) ≡ p → (byte == c) ≡ false
     by_bool false f = f
-    by_bool true f = absurd (not_byte (eq_of_test byte c f) b)
+    by_bool true f = absurd (not_byte (eqb-true byte c f) b)
 
 pub run_stops : (u : List ℕ) (byte : ℕ) → IsRunBegun u → IsBehind u byte → RunStops u byte
 run_stops u byte (inl (n, e)) b = inl (n, e, step_none u n byte e b, number_rest u n byte e b)
@@ -73,7 +74,7 @@ not_letter byte c w l e h = by_bool (byte == c) refl
   where
     by_bool : (p : Bool) → (byte == c) ≡ p → (byte == c) ≡ false
     by_bool false f = f
-    by_bool true f = absurd (h (w, inl (l, ap (λ z. z ∷ w) (eq_of_test byte c f) ∙ e)))
+    by_bool true f = absurd (h (w, inl (l, ap (λ z. z ∷ w) (eqb-true byte c f) ∙ e)))
 
 pub first_none : (byte : ℕ) → is_run byte ≡ true → ¬ (Viable JsonRun (byte ∷ [])) → (st : List Frame) → begin_value st byte ≡ None
 first_none byte k h st = pass (byte == 0x5B) _ _ _ (unlike is_run byte 0x5B refl k) (pass (byte == 0x7B) _ _ _ (unlike is_run byte 0x7B refl k) (pass (byte == 0x22) _ _ _ (unlike is_run byte 0x22 refl k)

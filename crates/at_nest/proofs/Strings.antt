@@ -1,7 +1,6 @@
 -- A string that is cut in two and closed: either its text is a JSON string, or a byte in it stops.
 use Rattle.std.proofs.Common.{◌≡◌, ℕ, List, [], ◌∷◌, ◌++◌, Some, None, Bool, true, false, refl, sym, ap, subst, ◌+◌, length, true≢false, append-nil}
 use Rattle.std.proofs.lemmas.Option.{same_Some, option_and_then_some}
-use Rattle.std.specs.Bool.{⊤}
 use Rattle.at_text.proofs.Machine.{run, run-rest}
 use Rattle.at_lex.specs.declared.tokens.Start.{Start}
 use Rattle.at_lex.specs.declared.tokens.Start.TheVariants.{Out, InString, InEscape}
@@ -9,7 +8,7 @@ use Rattle.at_lex.specs.Strings.{JsonString}
 use Rattle.at_lex.proofs.JsonString as str
 use Rattle.at_lex.specs.Spans.{after_byte, end_of, ClosesText}
 use Rattle.at_nest.specs.Forms.{Meaning}
-use Rattle.at_nest.proofs.Lexical.{InText, text_step}
+use Rattle.at_nest.proofs.Lexical.{InText, text_step, not_out_escape, not_out_string}
 use Rattle.at_nest.proofs.Unions.{closes_out}
 use Rattle.at_nest.specs.Levels.{in_text}
 use Rattle.at_nest.proofs.Pushes.{IsStop}
@@ -38,21 +37,15 @@ closed_is str.hex3 s h a = absurd (true≢false (sym a))
 closed_is str.hex2 s h a = absurd (true≢false (sym a))
 closed_is str.hex1 s h a = absurd (true≢false (sym a))
 
-no_string : InString ≡ Out → ⊥
-no_string e = let P : Start → Type 0 = λ x. elim x [ Out ↦ ⊥ | InString ↦ ⊤ | InEscape ↦ ⊤ ] in subst P e tt
-
-no_escape : InEscape ≡ Out → ⊥
-no_escape e = let P : Start → Type 0 = λ x. elim x [ Out ↦ ⊥ | InString ↦ ⊤ | InEscape ↦ ⊤ ] in subst P e tt
-
 out_is : (n : str.State) → InText n Out → str.accepts n ≡ true
 out_is str.closed h = refl
 out_is str.opening h = absurd h
-out_is str.inside h = absurd (no_string (sym h))
-out_is str.escaped h = absurd (no_escape (sym h))
-out_is str.hex4 h = absurd (no_string (sym h))
-out_is str.hex3 h = absurd (no_string (sym h))
-out_is str.hex2 h = absurd (no_string (sym h))
-out_is str.hex1 h = absurd (no_string (sym h))
+out_is str.inside h = absurd (not_out_string h)
+out_is str.escaped h = absurd (not_out_escape h)
+out_is str.hex4 h = absurd (not_out_string h)
+out_is str.hex3 h = absurd (not_out_string h)
+out_is str.hex2 h = absurd (not_out_string h)
+out_is str.hex1 h = absurd (not_out_string h)
 
 -- a byte in a closed string stops it before it is whole
 unfinished : (v : List ℕ) (byte : ℕ) (o : List ℕ) (n : str.State) → ClosesText InString (v ++ (byte ∷ o)) → run str.step str.inside v ≡ Some n → str.accepts n ≡ false

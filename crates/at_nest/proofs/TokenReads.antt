@@ -2,6 +2,7 @@
 use Rattle.std.proofs.Common.{◌≡◌, ◌≢◌, ℕ, zero, suc, ◌⊎◌, inl, inr, List, [], ◌∷◌, ◌++◌, Option, Some, None, Bool, true, false, not, refl, sym, ◌∙◌, ap, subst, arith, append_assoc, append-nil, ◌+◌, ◌-◌, ◌==◌, ◌<◌, ◌≤◌, length, length-append, take, slice_index, true≢false, IsTrue, if◌then◌else◌}
 use Rattle.std.proofs.Math.Seq.{take-append_seam, take-length, get_or-append_seam}
 use Rattle.std.proofs.lemmas.Option.{none-some, same_Some}
+use Rattle.std.proofs.lemmas.Bool.{eqb-true}
 use Rattle.at_text.specs.Prefix.{Viable, LongestViable}
 use Rattle.at_text.specs.Texts.{is_run}
 use Rattle.at_text.proofs.Machine.{run}
@@ -28,7 +29,6 @@ use Rattle.at_nest.specs.Stops.{IsForm}
 use Rattle.at_nest.proofs.Longest.{string_runs}
 use Rattle.at_nest.proofs.Strings.{whole_string}
 use Rattle.at_nest.proofs.Joins.{apart_nothing}
-use Rattle.at_nest.proofs.JsonMachine.{eq_of_test}
 use Rattle.at_nest.proofs.Readings.{IsReading, string_stops, run_stops, first_stops, reading_ends}
 
 -- ---- lists cut at a place
@@ -194,7 +194,7 @@ run_no_quote b h = by_test (b == 0x22) refl
   where
     by_test : (p : Bool) → (b == 0x22) ≡ p → (b == 0x22) ≡ false
     by_test false e = e
-    by_test true e = absurd (true≢false (sym h ∙ ap is_run (eq_of_test b 0x22 e)))
+    by_test true e = absurd (true≢false (sym h ∙ ap is_run (eqb-true b 0x22 e)))
 
 within_run : (v : List ℕ) → begins_run v ≡ true → within_from v ≡ code.Run
 within_run [] h = refl

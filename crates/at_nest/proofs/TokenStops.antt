@@ -18,7 +18,7 @@ use Rattle.at_nest.specs.Forms.{Meaning, quoted, entry, mark, IsNoText, fold_of}
 use Rattle.at_nest.proofs.Values.{go}
 use Rattle.at_nest.proofs.Joins.{run_split, viable_runs, apart_nothing}
 use Rattle.at_nest.proofs.Lexical.{At, at_run, opens_quote}
-use Rattle.at_nest.proofs.Begun.{string_run, name_run, text_first, number_run, word_run, number_begins, pass, run_no_space, unlike, run_unmarked}
+use Rattle.at_nest.proofs.Begun.{string_run, name_run, text_first, number_run, word_run, number_begins, pass, run_no_space, unlike, run_unmarked, tail_of}
 use Rattle.at_nest.proofs.Ran.{start_ran, ran_settled}
 use Rattle.at_nest.proofs.Steps.{IsStill, run_ended, settled_step, settled_still}
 use Rattle.at_nest.specs.Walks.{next, value_kind}
@@ -101,13 +101,8 @@ stuck_by s l v byte e f t g = let (q, h, k) = run_split s t v (byte ∷ []) g in
 stuck_from : (s s1 : State) (b : ℕ) (v : List ℕ) (byte : ℕ) → step s b ≡ Some s1 → Stuck s1 v byte → Stuck s (b ∷ v) byte
 stuck_from s s1 b v byte e h t g = h t (ap (option_and_then (λ z. go z (v ++ (byte ∷ [])))) (sym e) ∙ g)
 
-pub tail_of : List ℕ → List ℕ
-tail_of [] = []
-tail_of (b ∷ w) = w
-
 -- where a value begins with the run's first byte
 run_stuck : (st : List Frame) (b : ℕ) (v : List ℕ) (byte : ℕ) → RunStops (b ∷ v) byte → (s : State) × (begin_value st b ≡ Some s) × Stuck s v byte
-unfolding tail_of
 run_stuck st b v byte (inl (n, e, f, g)) = option_and_then_some (λ x. run num.step x v) (num.step num.start b) n e (λ s h k.
     (in_number s st, number_begins st b s h, stuck_by (in_number s st) (in_number n st) v byte (number_run s n st v k) (number_stuck n st byte f g)))
 run_stuck st b v byte (inr (the_null, r, e, f)) = (in_word (codes "ull") st, ap (begin_value st) (ap first e), stuck_by (in_word (codes "ull") st) (in_word r st) v byte (ap (λ z. go (in_word z st) v) (sym (ap tail_of e)) ∙ word_run v r st) (word_stuck r st byte f))

@@ -1,10 +1,10 @@
 -- A span from a start state: its lead, a form or a stop, and what is pending; and the merge of two neighbours.
 use Rattle.std.proofs.Common.{◌≡◌, ℕ, ◌⊎◌, inl, inr, List, [], ◌∷◌, ◌++◌, Bool, true, false, cond, ◌==◌, not, ◌&&◌, refl, sym, ◌∙◌, ap, subst, arith, append_assoc, append-nil, ◌+◌, length, true≢false}
+use Rattle.std.proofs.lemmas.Bool.{eqb-true}
 use Rattle.std.specs.Bool.{⊤}
 use Rattle.at_text.specs.Texts.{is_run}
 use Rattle.at_lex.specs.declared.tokens.Start.{Start}
 use Rattle.at_lex.specs.declared.tokens.Start.TheVariants.{Out, InString, InEscape}
-use Rattle.at_nest.proofs.JsonMachine.{eq_of_test}
 use Rattle.at_lex.specs.Spans.{begins_run, end_of, after_byte, ClosesText, StaysInText, AreRun}
 use Rattle.at_nest.specs.Borders.{ends_run, are_apart}
 use Rattle.at_nest.specs.Forms.{Meaning}
@@ -196,7 +196,7 @@ last_quote b h = by_tests (b == 0x5C) (b == 0x22) refl h
     by_tests : (p q : Bool) → (b == 0x22) ≡ q → ClosesText (cond p InEscape (cond q Out InString)) [] → is_run b ≡ false
     by_tests true q e h = absurd h
     by_tests false false e h = absurd h
-    by_tests false true e h = ap is_run (eq_of_test b 0x22 e)
+    by_tests false true e h = ap is_run (eqb-true b 0x22 e)
 
 -- a string's last byte is in no run
 pub closes_last : (s : Start) (u : List ℕ) → (s ≡ Out → ⊥) → ClosesText s u → ends_run u ≡ false

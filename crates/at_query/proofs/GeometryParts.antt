@@ -3,6 +3,7 @@ use Rattle.std.proofs.Common.{◌≡◌, ℕ, ◌+◌, ◌-◌, ◌≤◌, ◌==
 use Rattle.std.specs.Char.{to_ascii_uppercase}
 use Rattle.std.specs.Str.{str_to_ascii_uppercase}
 use Rattle.std.proofs.Math.Seq.{take-append_seam}
+use Rattle.std.proofs.lemmas.Bool.{eqb-true}
 use Rattle.at_text.specs.declared.faults.Fault.{Fault}
 use Rattle.at_text.specs.declared.faults.FaultKind.TheVariants.{Syntax, Ended}
 use Rattle.at_text.specs.Faults.{first_of, fault_at}
@@ -26,14 +27,11 @@ is_b b = b == 0x62
 abbrev pub is_no_b : ℕ → Bool
 is_no_b b = not (b == 0x62)
 
-equal : (a b : ℕ) → (a == b) ≡ true → a ≡ b
-equal a b h = grind (arith, h)
-
 -- a letter other than B in either case
 no_b : (b letter : ℕ) (t : Bool) → (b == 0x62) ≡ t → to_ascii_uppercase b ≡ letter → (letter == 0x42) ≡ false → not t ≡ true
 no_b b letter false e u h = refl
 no_b b letter true e u h =
-    let capital : 0x42 ≡ letter = ap to_ascii_uppercase (sym (equal b 0x62 e)) ∙ u in
+    let capital : 0x42 ≡ letter = ap to_ascii_uppercase (sym (eqb-true b 0x62 e)) ∙ u in
     absurd (true≢false (ap (λ z. z == 0x42) capital ∙ h))
 
 first_letter : (a r v : List ℕ) (letter : ℕ) (rest : List ℕ) → v ≡ a ++ r → str_to_ascii_uppercase a ≡ letter ∷ rest → (letter == 0x42) ≡ false

@@ -1,5 +1,5 @@
 -- The hull of a shape's positions, and of two hulls, has coordinates in range.
-use Rattle.std.proofs.Common.{◌≡◌, ◌<◌, inl, inr, List, [], ◌∷◌, ◌++◌, All, length, arith, refl}
+use Rattle.std.proofs.Common.{◌<◌, inl, List, [], ◌∷◌, ◌++◌, All, length, arith, refl}
 use Rattle.std.specs.Prelude.{Result, Ok, Err, IfOk}
 use Rattle.std.specs.List.{AllByRecursion}
 use Rattle.std.proofs.lemmas.List.Elements.{recursion_from_All, All-append, All-nil}
@@ -10,9 +10,10 @@ use Rattle.at_geom.specs.declared.shapes.Polygon.{Polygon}
 use Rattle.at_geom.specs.declared.shapes.Shape.{Shape}
 use Rattle.at_geom.specs.Segments.{IsInRange}
 use Rattle.at_geom.specs.Shapes.{positions, joined, positions_of_polygons, IsShapeInRange}
-use Rattle.at_hull.specs.Hulls.{IsIn, IsHull}
+use Rattle.at_hull.specs.Hulls.{IsHull}
 use Rattle.at_hull.proofs.Laws.{hull_of_hull, hull_elements}
 use Rattle.at_hull.proofs.Sorts.{all_of_each, each_of_all}
+use Rattle.at_hull.proofs.Ways.{only_one}
 use Rattle.at_query.specs.Parts.{IsHullInRange}
 use Rattle.at_query.specs.Joined.{JoinsHulls}
 
@@ -33,14 +34,10 @@ positions_in_range s r =
 pub hull_in_range : (ps h : List Pos) → All IsInRange ps → IsHull ps h → IsHullInRange ps h
 hull_in_range ps h range k = (k, all_of_each IsInRange h (λ p m. each_of_all IsInRange ps p range (hull_elements ps h k p m)))
 
-only_here : (a p : Pos) → IsIn p (a ∷ []) → p ≡ a
-only_here a p (inl e) = e
-only_here a p (inr m) = absurd m
-
 -- nothing, and a position alone
 pub short_hull : (ps : List Pos) → All IsInRange ps → length ps < 2 → IsHullInRange ps ps
 short_hull [] range n = (refl, range)
-short_hull (a ∷ []) range n = ((inl refl, λ p m. only_here a p m), range)
+short_hull (a ∷ []) range n = ((inl refl, λ p m. only_one a p m), range)
 short_hull (a ∷ b ∷ r) range n = absurd (omega (arith, n))
 
 -- a hull that joins two is one of its own

@@ -1,21 +1,19 @@
 -- A string, and whatever else is read as the longest beginning of a word of a language.
 use Rattle.std.proofs.Common.{◌≡◌, ℕ, ◌+◌, ◌-◌, ◌<◌, ◌≤◌, inl, inr, Bool, true, false, List, [], ◌∷◌, ◌++◌, length, take, drop, Some, option_and_then, refl, sym, ◌∙◌, ap, subst, arith, append-nil, append_assoc, length-drop, true≢false}
-use Rattle.std.proofs.lemmas.List.{drop-take, take_rest}
+use Rattle.std.proofs.lemmas.List.{take_rest}
 use Rattle.at_text.specs.Prefix.{LongestViable, TakesLongest}
 use Rattle.at_text.proofs.Machine.{run, rest-run}
 use Rattle.at_lex.specs.Strings.{units_of, AreUnitsOf, JsonString}
 use Rattle.at_lex.specs.StringStates.{State, opening, inside, escaped, hex4, hex3, hex2, hex1, closed, step}
 use Rattle.at_lex.proofs.JsonString.{Rest, machine, opening-JsonString}
 use Rattle.at_wkt.proofs.Leads.{part-more, append_cases}
+use Rattle.at_wkt.proofs.NumberSteps.{rest_part}
 use Rattle.at_fixed.specs.NumberSoFar.{between}
 use Rattle.at_wkt.specs.Readers.{next}
 use Rattle.at_query.specs.Readers.{Ends, Onward, past, over, Stops, Text}
 use Rattle.at_query.proofs.Parted.{Lives}
 
 -- ---- what is left of a text
-
-pub rest_part : (w : List ℕ) (i n : ℕ) → take n (drop i w) ≡ between w i (i + n)
-rest_part w i n = sym (drop-take i n w)
 
 -- what the code's slice shows of it
 pub slice_part : (w : List ℕ) (i n : ℕ) → take n (take (length w - i) (drop i w)) ≡ between w i (i + n)

@@ -4,6 +4,7 @@ use Rattle.std.proofs.Common.{◌≡◌, ℕ, ◌+◌, ◌-◌, ◌<◌, ◌≤�
 use Rattle.std.specs.List.{list_any, position_or_len, starts_with}
 use Rattle.std.proofs.Math.Seq.{take-add, take-append_seam, drop-append_seam}
 use Rattle.std.proofs.lemmas.List.{map-append, take-append-drop}
+use Rattle.std.proofs.lemmas.List.Elements.{filter-append}
 use Rattle.at_text.specs.declared.texts.Span.{Span}
 use Rattle.at_text.specs.Texts.{base_of, byte_order_mark}
 use Rattle.at_text.specs.Spans.{span_of, AreNeighbours}
@@ -18,19 +19,11 @@ use Rattle.at_wkt.proofs.LinePieces.{pieces_joined, glued, glued_end, first_begi
 
 -- ---- the lines of pieces
 
-filter_step : {X : Type 0} (p : X → Bool) (x : X) (xs ys : List X) (t : Bool) → p x ≡ t → filter p (xs ++ ys) ≡ filter p xs ++ filter p ys → filter p ((x ∷ xs) ++ ys) ≡ filter p (x ∷ xs) ++ filter p ys
-filter_step p x xs ys true e h = rw (e) (ap (λ z. x ∷ z) h)
-filter_step p x xs ys false e h = rw (e) h
-
-filter_append : {X : Type 0} (p : X → Bool) (xs ys : List X) → filter p (xs ++ ys) ≡ filter p xs ++ filter p ys
-filter_append p [] ys = refl
-filter_append p (x ∷ xs) ys = filter_step p x xs ys (p x) refl (filter_append p xs ys)
-
 abbrev some_line : FileLine → Bool
 some_line l = not (is_blank_text l.text)
 
 pub lines_in-append : (ps qs : List FileLine) → lines_in (ps ++ qs) ≡ lines_in ps ++ lines_in qs
-lines_in-append ps qs = ap (filter some_line) (map-append line_of ps qs) ∙ filter_append some_line (map line_of ps) (map line_of qs)
+lines_in-append ps qs = ap (filter some_line) (map-append line_of ps qs) ∙ filter-append some_line (map line_of ps) (map line_of qs)
 
 -- the lines of pieces, of one and of more
 lines_around : (ps : List FileLine) (p : FileLine) (qs : List FileLine) → lines_in (ps ++ (p ∷ qs)) ≡ (lines_in ps ++ lines_in (p ∷ [])) ++ lines_in qs

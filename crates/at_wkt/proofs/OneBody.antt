@@ -1,6 +1,7 @@
 -- What stands behind a geometry's word spells one value: positions, items in brackets, and what may be EMPTY.
 -- For the laws of OneGeometry.
 use Rattle.std.proofs.Common.{◌≡◌, ℕ, ◌+◌, ◌⊎◌, inl, inr, Bool, true, false, ◌||◌, ◌==◌, IsTrue, List, [], ◌∷◌, ◌++◌, length, codes, Option, Some, None, refl, sym, ◌∙◌, ap, subst, append_assoc, true≢false, arith}
+use Rattle.std.proofs.ByRecursion.{All-append}
 use Rattle.std.specs.List.{AllByRecursion}
 use Rattle.std.specs.Char.{to_ascii_uppercase}
 use Rattle.at_text.specs.Parts.{Exactly, Many, ◌▸◌, At}
@@ -75,21 +76,17 @@ wider : (p q : ℕ → Bool) → ((b : ℕ) → p b ≡ true → q b ≡ true) �
 wider p q f [] h = tt
 wider p q f (b ∷ w) (h, hs) = (f b h, wider p q f w hs)
 
-joined : (p : ℕ → Bool) (a b : List ℕ) → AllByRecursion (λ b. IsTrue (p b)) a → AllByRecursion (λ b. IsTrue (p b)) b → AllByRecursion (λ b. IsTrue (p b)) (a ++ b)
-joined p [] b h k = k
-joined p (x ∷ a) b (h, hs) k = (h, joined p a b hs k)
-
 further_bytes : (ns : List Numeral) (at : ℕ) (v : List ℕ) → SpellsFurther ns at v → AllByRecursion (λ b. IsTrue (in_further b)) v
 further_bytes [] at v none = subst (AllByRecursion (λ b. IsTrue (in_further b))) (sym none) tt
 further_bytes (n ∷ ns) at v (a, b, e, (some, ha), (c, d, f, (hn, en), more)) =
     let blanks = wider is_blank in_further blank_further a ha in
     let number = wider in_number in_further number_further c (subst (AllByRecursion (λ b. IsTrue (in_number b))) (sym en) (number_bytes n hn)) in
-    subst (AllByRecursion (λ b. IsTrue (in_further b))) (sym (e ∙ ap (λ z. a ++ z) f)) (joined in_further a (c ++ d) blanks (joined in_further c d number (further_bytes ns _ d more)))
+    subst (AllByRecursion (λ b. IsTrue (in_further b))) (sym (e ∙ ap (λ z. a ++ z) f)) (All-append (λ b. IsTrue (in_further b)) a (c ++ d) blanks (All-append (λ b. IsTrue (in_further b)) c d number (further_bytes ns _ d more)))
 
 -- further numbers, as bytes that pass and the delimiter
 further_plain : (k d : ℕ) (last : Bool) (at : ℕ) (v : List ℕ) → FurtherNumbers k d last at v → (Many in_further ▸ Exactly (delimiter last ∷ [])) at v
 further_plain k d last at v (ns, en, (a, b, e, more, (x, y, f, hx, hy))) =
-    (a ++ x, y, e ∙ (ap (λ z. a ++ z) f ∙ sym (append_assoc a x y)), joined in_further a x (further_bytes ns at a more) (wider is_blank in_further blank_further x hx), hy)
+    (a ++ x, y, e ∙ (ap (λ z. a ++ z) f ∙ sym (append_assoc a x y)), All-append (λ b. IsTrue (in_further b)) a x (further_bytes ns at a more) (wider is_blank in_further blank_further x hx), hy)
 
 one_further : (k l d e : ℕ) (a b : Bool) → Agree (FurtherNumbers k d a) (FurtherNumbers l e b) (a ≡ b)
 unfolding in_further

@@ -1,13 +1,10 @@
-use Rattle.std.proofs.Common.{◌≡◌, ◌+◌, ◌*◌, ◌/◌, Bool, true, false, not, sym, ap, arith, refl, ◌∙◌}
+use Rattle.std.proofs.Common.{◌+◌, ◌*◌, ◌/◌, false, sym, ap, arith, ◌∙◌}
 use Rattle.std.proofs.Math.Nat.{mod-add-div}
 use Rattle.std.proofs.lemmas.List.{get_or_default}
+use Rattle.std.proofs.lemmas.Bool.{not-true}
 use Rattle.at_join.specs.Boxes.{touch_of}
 use Rattle.at_join.proofs.Covering.{no_extent}
 use Rattle.at_join.proofs.covers.is_clear.Goals as goal
-
-not_so : (b : Bool) → not b ≡ true → b ≡ false
-not_so true h = absurd (cc)
-not_so false h = refl
 
 pub returns : goal.returns
 returns c t =
@@ -16,5 +13,5 @@ returns c t =
     let z = c.if-at-size-ne0.false in (
       number,
       (sym e ∙ ap (λ r. r + c.args.size * number) z ∙ omega (arith)),
-      λ d. ap (λ x. touch_of x c.args.window) (get_or_default c.args.covers.now number d no_extent c.if-number-covers.false) ∙ sym (c.touch.ensures) ∙ not_so c.touch.result t,
+      λ d. ap (λ x. touch_of x c.args.window) (get_or_default c.args.covers.now number d no_extent c.if-number-covers.false) ∙ sym (c.touch.ensures) ∙ not-true c.touch.result t,
     )
