@@ -1,4 +1,4 @@
--- Between private functions: nothing here has to be believed.
+-- Of private functions and fields: nothing here has to be believed.
 pub mod Thinned
 pub mod Banded
 pub mod Touched

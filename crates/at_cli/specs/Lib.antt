@@ -10,7 +10,7 @@ pub mod Outcomes
 pub mod Telling
 pub mod Failures
 pub mod Made
--- Between private functions: nothing here has to be believed.
+-- Of private functions and fields: nothing here has to be believed.
 pub mod Steps
 pub mod Said
 pub mod Endings

@@ -3,6 +3,6 @@ pub mod Nodes
 pub mod Views
 pub mod Rule
 pub mod Shown
--- Between private functions: nothing here has to be believed.
+-- Of private functions and fields: nothing here has to be believed.
 pub mod Steps
 pub mod Seats

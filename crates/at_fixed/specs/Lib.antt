@@ -3,7 +3,7 @@ pub mod Numerals
 pub mod Fixed
 pub mod Products
 pub mod States
--- Between private functions: nothing here has to be believed.
+-- Of private functions and fields: nothing here has to be believed.
 pub mod Gaps
 pub mod NumberSoFar
 pub mod Eights

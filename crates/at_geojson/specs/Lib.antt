@@ -5,7 +5,7 @@ pub mod Roles
 pub mod Keeping
 pub mod Atoms
 pub mod Wholes
--- Between private functions: nothing here has to be believed.
+-- Of private functions and fields: nothing here has to be believed.
 pub mod Gathering
 pub mod Hashes
 pub mod Arrays

@@ -3,5 +3,5 @@ pub mod Meetings
 pub mod Boxes
 pub mod Cells
 pub mod Parts
--- Between private functions: nothing here has to be believed.
+-- Of private functions and fields: nothing here has to be believed.
 pub mod Sides

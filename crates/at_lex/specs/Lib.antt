@@ -5,7 +5,7 @@ pub mod StringStates
 pub mod Spans
 pub mod CodeUnits
 pub mod Stream
--- Between private functions: nothing here has to be believed.
+-- Of private functions and fields: nothing here has to be believed.
 pub mod Beginnings
 pub mod EndedNumbers
 pub mod Fronts

@@ -1,4 +1,4 @@
--- What public contracts say: a reader has to believe these.
+-- What public contracts say. docs/DEFINITIONS.md tells which of these the outcome rests on.
 pub mod Tree
 pub mod Syntax
 pub mod Twins
@@ -19,7 +19,7 @@ pub mod Stops
 pub mod Variants
 pub mod Unions
 pub mod TextAnswers
--- Between private functions: nothing here has to be believed.
+-- Of private functions and fields: nothing here has to be believed.
 pub mod Passing
 pub mod Refusals
 pub mod Nests

@@ -8,5 +8,5 @@ pub mod Accumulators
 pub mod Printing
 pub mod Spelling
 pub mod Queries
--- Between private functions: nothing here has to be believed.
+-- Of private functions and fields: nothing here has to be believed.
 pub mod Readers

@@ -11,5 +11,5 @@ pub mod Answers
 pub mod Gathering
 pub mod Readers
 pub mod Blocks
--- Between private functions: nothing here has to be believed.
+-- Of private functions and fields: nothing here has to be believed.
 pub mod Labelling

@@ -2,7 +2,7 @@
 pub mod Records
 pub mod Sequences
 pub mod Answers
--- Between private functions: nothing here has to be believed.
+-- Of private functions and fields: nothing here has to be believed.
 pub mod Gathering
 pub mod Fragments
 pub mod Ends

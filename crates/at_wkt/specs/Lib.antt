@@ -6,5 +6,5 @@ pub mod Lines
 pub mod Answers
 pub mod Folding
 pub mod FoldParts
--- Between private functions: nothing here has to be believed.
+-- Of private functions and fields: nothing here has to be believed.
 pub mod Readers
