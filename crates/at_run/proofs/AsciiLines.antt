@@ -8,13 +8,13 @@ use Rattle.std.proofs.lemmas.Str.{IsUtf8-from_ascii}
 use Rattle.std.proofs.lemmas.Str.Ascii.{IsAscii-nil, IsAscii-cons, uppercase_is}
 use Rattle.std.proofs.lemmas.List.Sums.{AllPass-from_list_all}
 use Rattle.std.proofs.lemmas.List.Elements.{recursion_from_All}
+use Rattle.std.proofs.ByRecursion.{All-append}
 use Rattle.at_text.specs.Parts.{Exactly, AnyCase, Many, OneOrMore, ◌▸◌, At}
 use Rattle.at_text.specs.Texts.{is_digit, is_one_of}
 use Rattle.at_fixed.specs.Numerals.{Numeral, Exponent, IsExponent, IsAtMostOneOf, AreDigits, AreSomeDigits, AreWktDigits, fraction_text, exponent_text}
 use Rattle.at_wkt.specs.Positions.{Position, Positions}
 use Rattle.at_wkt.specs.Geometry.{Geometry, point, line_string, polygon, multi_point, multi_line_string, multi_polygon, collection, Geometries, no_geometries, geometry_and, is_blank, SpellsNumber, SpellsFurther, SpellsPosition, InBrackets, EmptyWord, Parted, EmptyOrParted, SpellsRing, SpellsList, SpellsPoint, SpellsPointMember, SpellsArea, Letter, Kind, SpellsGeometry, SpellsGeometries, SpellsFurtherGeometries, WktLine}
 use Rattle.at_wkt.specs.Lines.{is_line_feed, is_blank_text}
-use Rattle.at_join.proofs.CellPairs.{each_joined}
 
 -- each byte is below 0x80
 abbrev AreAscii : List ℕ → Type 0
@@ -25,7 +25,7 @@ abbrev Ascii : (ℕ → List ℕ → Type 0) → Type 0
 Ascii P = (at : ℕ) (w : List ℕ) → P at w → AreAscii w
 
 joined_ascii : (v w : List ℕ) → AreAscii v → AreAscii w → AreAscii (v ++ w)
-joined_ascii v w = each_joined (λ b. b < 128) v w
+joined_ascii v w = All-append (λ b. b < 128) v w
 
 both_parts : (P Q : ℕ → List ℕ → Type 0) → Ascii P → Ascii Q → Ascii (P ▸ Q)
 both_parts P Q p q at w (v, r, e, hp, hq) = subst AreAscii (sym e) (joined_ascii v r (p at v hp) (q (at + length v) r hq))

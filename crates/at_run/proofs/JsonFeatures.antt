@@ -4,6 +4,7 @@ use Rattle.std.specs.List.{AllByRecursion}
 use Rattle.std.proofs.lemmas.Option.{none-some}
 use Rattle.std.proofs.lemmas.List.{map-append}
 use Rattle.std.proofs.lemmas.List.Elements.{All-nil, All-cons, All-append}
+use Rattle.std.proofs.ByRecursion.{All-append as all_joined}
 use Rattle.at_text.specs.declared.faults.Fault.{Fault}
 use Rattle.at_text.specs.declared.faults.FaultKind.TheVariants.{Form}
 use Rattle.at_text.specs.Faults.{fault_at}
@@ -29,7 +30,7 @@ use Rattle.at_geojson.specs.Roles.{GeometryRead, not_geometry, both_read, Featur
 use Rattle.at_geojson.specs.Wholes.{faults_of}
 use Rattle.at_run.specs.JsonFiles.{HasJsonFaultBehind, HasJsonFileFault}
 use Rattle.at_run.proofs.ShapeRanges.{with_points, with_both, geometry_in_range}
-use Rattle.at_run.proofs.ProperFeatures.{empties, not_empty, all_joined, no_first, HasClosedRings, geometry_closed, at_of}
+use Rattle.at_run.proofs.ProperFeatures.{empties, not_empty, no_first, HasClosedRings, geometry_closed, at_of}
 
 -- ---- what is read of geometries
 

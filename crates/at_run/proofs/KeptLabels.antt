@@ -6,6 +6,7 @@ use Rattle.std.proofs.lemmas.Grind.{flat_map-append}
 use Rattle.std.specs.List.{AllByRecursion, list_any}
 use Rattle.std.proofs.lemmas.List.Concat.{flat_map-cons}
 use Rattle.std.proofs.lemmas.Slice.Eq.{bytes_eq-Decides}
+use Rattle.std.proofs.lemmas.Bool.{or_parts}
 use Rattle.at_lex.specs.Strings.{Character, units_of}
 use Rattle.at_geom.specs.declared.shapes.Shape.{Shape}
 use Rattle.at_geom.specs.Shapes.{positions, extent_of}
@@ -28,10 +29,6 @@ use Rattle.at_query.proofs.Accumulating.{same_hull}
 use Rattle.at_query.proofs.KeptLists.{keeps-append, keeps_parts, keeps_one, drops_one}
 use Rattle.at_run.specs.Labels.{label_name, texts_of}
 use Rattle.at_run.specs.Labelling.{asks_label}
-
-none_of : (a b : Bool) → (a || b) ≡ false → (a ≡ false) × (b ≡ false)
-none_of true b e = absurd (true≢false e)
-none_of false b e = (refl, e)
 
 other_name : (name : List ℕ) (t : Bool) → bytes_eq label_name name ≡ t → bytes_eq name label_name ≡ false → t ≡ false
 other_name name false e h = refl
@@ -62,7 +59,7 @@ module _ (query : Query) (at : ℕ) (shape : Shape) (cs : List Character) where
       → (AllByRecursion (λ t. TestHolds t full) ts → AllByRecursion (λ t. TestHolds t bare) ts) × (AllByRecursion (λ t. TestHolds t bare) ts → AllByRecursion (λ t. TestHolds t full) ts)
   all_tests [] h = (λ k. k, λ k. k)
   all_tests (t ∷ ts) h =
-      let (a, b) = none_of (asks_label t) (list_any asks_label ts) h in
+      let (a, b) = or_parts (asks_label t) (list_any asks_label ts) h in
       let one = one_test t a in let more = all_tests ts b in
       (λ k. (one.0 k.0, more.0 k.1), λ k. (one.1 k.0, more.1 k.1))
 

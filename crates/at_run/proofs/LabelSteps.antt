@@ -23,11 +23,11 @@ use Rattle.at_run.proofs.LabelledLines.{AreBlanks, BeginsQuoted, string_begins, 
 
 -- ---- lists
 
-front_of : (a v : List ℕ) → take (length a) (a ++ v) ≡ a
+pub front_of : (a v : List ℕ) → take (length a) (a ++ v) ≡ a
 front_of [] v = refl
 front_of (b ∷ a) v = ap (λ z. b ∷ z) (front_of a v)
 
-byte_behind : (a t : List ℕ) (b : ℕ) → slice_index (a ++ b ∷ t) (length a) ≡ b
+pub byte_behind : (a t : List ℕ) (b : ℕ) → slice_index (a ++ b ∷ t) (length a) ≡ b
 byte_behind [] t b = refl
 byte_behind (c ∷ a) t b = byte_behind a t b
 

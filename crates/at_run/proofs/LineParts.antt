@@ -4,6 +4,7 @@ use Rattle.std.specs.List.{AllByRecursion, list_any}
 use Rattle.std.specs.Result.{IfOk}
 use Rattle.std.specs.Str.{IsUtf8}
 use Rattle.std.proofs.lemmas.Str.{IsUtf8-append}
+use Rattle.std.proofs.ByRecursion.{All-append}
 use Rattle.at_text.specs.declared.faults.Fault.{Fault}
 use Rattle.at_text.specs.Faults.{first_fault, first_of}
 use Rattle.at_text.specs.Spans.{span_of}
@@ -47,10 +48,6 @@ use Rattle.at_run.proofs.ShapeRanges.{line_in_range}
 
 abbrev IsValidLine : FileLine → Type 0
 IsValidLine l = IsUtf8 l.text
-
-each_joined : (P : FileLine → Type 0) (ls ms : List FileLine) → AllByRecursion P ls → AllByRecursion P ms → AllByRecursion P (ls ++ ms)
-each_joined P [] ms h k = k
-each_joined P (l ∷ ls) ms (h, hs) k = (h, each_joined P ls ms hs k)
 
 each_before : (P : FileLine → Type 0) (ls ms : List FileLine) → AllByRecursion P (ls ++ ms) → AllByRecursion P ls
 each_before P [] ms h = tt
@@ -202,7 +199,7 @@ module _ (asked : Asked) where
 
   both_kept : (a b c : Accumulator) (ls ms : List FileLine) → JoinsAccumulators a b c → IsGathered asked (Kept a) ls → IsGathered asked (Kept b) ms → IsGathered asked (Kept c) (ls ++ ms)
   both_kept a b c ls ms joins (v, h, (fs, hf, pa)) (w, k, (gs, kg, pb)) =
-      (each_joined IsValidLine ls ms v w, first_joined asked.digits asked.how ls ms None None None h k refl, (fs ++ gs, features_joined asked.digits asked.how ls ms fs gs hf kg, joins asked.query fs gs pa pb))
+      (All-append IsValidLine ls ms v w, first_joined asked.digits asked.how ls ms None None None h k refl, (fs ++ gs, features_joined asked.digits asked.how ls ms fs gs hf kg, joins asked.query fs gs pa pb))
 
 pub joins_kept : (left : Accumulator) (right : Gathered) (b c : Accumulator) → right ≡ Kept b → JoinsAccumulators left b c → JoinsGathered (Kept left) right (Kept c)
 joins_kept left right b c q joins = rw (q) (λ asked ls ms h k. both_kept asked left b c ls ms joins h k)
@@ -260,7 +257,7 @@ pub adds_feature : (asked : Asked) (line : FileLine) (read : Feature) (old new :
 adds_feature asked line read (Kept old) new is (kept, e, adds) lines (v, h, (fs, hf, acc)) =
     let P : Gathered → Type 0 = λ z. IsGathered asked z (lines ++ line ∷ []) in
     subst P (sym e) (
-      each_joined IsValidLine lines (line ∷ []) v (is.valid, tt),
+      All-append IsValidLine lines (line ∷ []) v (is.valid, tt),
       first_joined asked.digits asked.how lines (line ∷ []) None None None h is.faultless refl,
       (
         fs ++ is.feature ∷ [],

@@ -2,6 +2,7 @@
 use Rattle.std.proofs.Common.{◌≡◌, ℕ, ◌+◌, ◌≤◌, inl, inr, Bool, true, false, not, ◌&&◌, ◌||◌, cond, if◌then◌else◌, nat_lt, List, [], ◌∷◌, ◌++◌, length, map, filter, flat_map, drop, Option, Some, None, option_to_list, refl, sym, ap, ◌∙◌, subst, arith}
 use Rattle.std.specs.List.{AllByRecursion, slice_split}
 use Rattle.std.proofs.lemmas.Option.{none-some}
+use Rattle.std.proofs.ByRecursion.{All-append}
 use Rattle.at_text.specs.declared.faults.Fault.{Fault}
 use Rattle.at_text.specs.declared.faults.FaultKind.TheVariants.{Ring}
 use Rattle.at_text.specs.Faults.{comes_first, first_fault, first_of, fault_at}
@@ -29,10 +30,6 @@ empties (x ∷ xs) ys e = absurd (let n = ap length e in omega (arith, n))
 
 pub not_empty : {X : Type 0} (x : X) (xs : List X) → x ∷ xs ≡ [] → ⊥
 not_empty x xs e = let n = ap length e in omega (arith, n)
-
-pub all_joined : {X : Type 0} (P : X → Type 0) (xs ys : List X) → AllByRecursion P xs → AllByRecursion P ys → AllByRecursion P (xs ++ ys)
-all_joined P [] ys h k = k
-all_joined P (x ∷ xs) ys h k = (h.0, all_joined P xs ys h.1 k)
 
 first_is_some : (a : Fault) (b : Option Fault) → first_fault (Some a) b ≡ None → ⊥
 first_is_some a None e = none-some a (sym e)
@@ -101,7 +98,7 @@ module _ (digits : ℕ) (how : Coords) where
   areas_closed [] e = tt
   areas_closed (rings ∷ areas) e =
       let (a, b) = empties (faults_of_area digits how rings) (flat_map (faults_of_area digits how) areas) e in
-      all_joined HasClosedRings (polygons_of digits how rings) (flat_map (polygons_of digits how) areas) (area_closed rings a) (areas_closed areas b)
+      All-append HasClosedRings (polygons_of digits how rings) (flat_map (polygons_of digits how) areas) (area_closed rings a) (areas_closed areas b)
 
   mutual
     pub geometry_closed : (g : Geometry) → faults_of digits how g ≡ [] → AreRingsClosed (shape_of digits how g)
@@ -117,7 +114,7 @@ module _ (digits : ℕ) (how : Coords) where
     geometries_closed no_geometries e = tt
     geometries_closed (geometry_and g gs) e =
         let (a, b) = empties (faults_of digits how g) (faults_of_all digits how gs) e in
-        all_joined HasClosedRings (shape_of digits how g).polygons (shape_of_all digits how gs).polygons (geometry_closed g a) (geometries_closed gs b)
+        All-append HasClosedRings (shape_of digits how g).polygons (shape_of_all digits how gs).polygons (geometry_closed g a) (geometries_closed gs b)
 
 -- ---- offsets
 

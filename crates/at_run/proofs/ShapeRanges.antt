@@ -1,44 +1,17 @@
 -- The coordinates of what a line spells are in range: a number without a value counts as 0 in a shape.
-use Rattle.std.proofs.Common.{◌≡◌, ℕ, zero, suc, ◌+◌, ◌*◌, ◌^◌, ◌≤◌, ℤ, pos, nat_abs, Bool, true, false, List, [], ◌∷◌, length, map, flat_map, All, Result, Ok, Err, option_to_list, refl, sym, ◌∙◌, subst, arith}
-use Rattle.std.specs.Prelude.{neg_ℤ}
+use Rattle.std.proofs.Common.{◌≡◌, ℕ, List, [], ◌∷◌, map, flat_map, All, option_to_list, sym, subst}
 use Rattle.std.proofs.lemmas.List.Elements.{All-nil, All-cons, All-append}
-use Rattle.std.proofs.Math.Nat.{le_of_mul-le-mul_right}
 use Rattle.at_fixed.specs.declared.rounding.Coords.{Coords}
-use Rattle.at_fixed.specs.declared.rounding.Coords.TheVariants.{Exact, Round}
-use Rattle.at_fixed.specs.declared.rounding.FixedFault.{FixedFault}
-use Rattle.at_fixed.specs.Numerals.{Numeral}
-use Rattle.at_fixed.specs.Fixed.{largest, signed, mantissa, has_minus, fraction_digits, exponent_above, exponent_below}
-use Rattle.at_fixed.specs.Products.{IsQuotient, IsSize}
-use Rattle.at_fixed.proofs.FixedLaws.{value_means}
-use Rattle.at_fixed.proofs.Sizes.{pow_positive}
 use Rattle.at_geom.specs.declared.positions.Pos.{Pos}
 use Rattle.at_geom.specs.declared.shapes.Polygon.{Polygon}
 use Rattle.at_geom.specs.declared.shapes.Shape.{Shape}
 use Rattle.at_geom.specs.Segments.{IsInRange}
 use Rattle.at_geom.specs.Shapes.{ArePathsInRange, ArePolygonsInRange, IsShapeInRange}
-use Rattle.at_wkt.specs.Positions.{Position, Positions, value_in, value_of, pos_of, path_of}
+use Rattle.at_wkt.specs.Positions.{Position, Positions, pos_of, path_of}
 use Rattle.at_wkt.specs.Geometry.{Geometry, point, line_string, polygon, multi_point, multi_line_string, multi_polygon, collection, Geometries, no_geometries, geometry_and}
 use Rattle.at_wkt.specs.Meaning.{both, of_points, of_lines, of_polygons, present, polygons_of, shape_of, shape_of_all}
 use Rattle.at_wkt.specs.Answers.{HasLineShape}
-
--- ---- numbers
-
-quotient_small : (how : Coords) (p b : ℕ) (size : Result ℕ FixedFault) → IsQuotient how p (10 ^ b) size → (r : ℕ) → size ≡ Ok r → r ≤ largest
-quotient_small Exact p b size h r e = let (product, small) = h.value r e in let t = pow_positive b in le_of_mul-le-mul_right (omega (arith, product, small)) t
-quotient_small Round p b size h r e = (h.value r e).1
-
-size_small : (how : Coords) (m a b : ℕ) (size : Result ℕ FixedFault) → IsSize how m a b size → (r : ℕ) → size ≡ Ok r → r ≤ largest
-size_small how zero a b size h r e = let z : r ≡ 0 = (let both_are : Ok r ≡ Ok 0 = sym e ∙ h in cc) in omega (arith, z)
-size_small how (suc m) a b size h r e = quotient_small how (suc m * 10 ^ a) b size h r e
-
-negated : (r : ℕ) → nat_abs (neg_ℤ (pos r)) ≡ r
-negated zero = refl
-negated (suc r) = refl
-
-signed_small : (minus : Bool) (size : Result ℕ FixedFault) → ((r : ℕ) → size ≡ Ok r → r ≤ largest) → nat_abs (value_in (signed minus size)) ≤ 300000000000000
-signed_small true (Ok r) h = let l = h r refl in let n = negated r in omega (arith, l, n)
-signed_small false (Ok r) h = h r refl
-signed_small minus (Err e) h = omega arith
+use Rattle.at_geojson.proofs.Ranges.{value_small}
 
 -- ---- shapes
 
@@ -59,14 +32,8 @@ with_both s u h k = record {
 }
 
 module _ (digits : ℕ) (how : Coords) where
-  value_small : (n : Numeral) → nat_abs (value_of digits how n) ≤ 300000000000000
-  value_small n =
-      let v = value_means n digits how in
-      let s = signed_small (has_minus n.sign) v.size (size_small how (mantissa n) (digits + exponent_above n.exponent) (length (fraction_digits n) + exponent_below n.exponent) v.size v.is_size) in
-      let P : Result ℤ FixedFault → Type 0 = λ z. nat_abs (value_in z) ≤ 300000000000000 in subst P (sym v.sign) s
-
   pos_small : (p : Position) → IsInRange (pos_of digits how p)
-  pos_small p = (value_small p.x, value_small p.y)
+  pos_small p = (value_small digits how p.x, value_small digits how p.y)
 
   -- ---- lists
 

@@ -10,16 +10,9 @@ use Rattle.at_wkt.proofs.LineMerges.{base_within}
 use Rattle.at_run.specs.Gathering.{AreValid}
 use Rattle.at_run.proofs.AsciiLines.{feed_ascii, return_byte, blank_text_valid, byte_valid}
 use Rattle.at_run.proofs.ValidSpans.{faultless, valid_faultless}
+use Rattle.at_run.proofs.LabelSteps.{front_of, byte_behind}
 
 -- ---- text before and behind an ASCII byte
-
-byte_at : (u v : List ℕ) (b : ℕ) → slice_index (u ++ b ∷ v) (length u) ≡ b
-byte_at [] v b = refl
-byte_at (c ∷ u) v b = byte_at u v b
-
-front_of : (u v : List ℕ) → take (length u) (u ++ v) ≡ u
-front_of [] v = refl
-front_of (c ∷ u) v = ap (λ z. c ∷ z) (front_of u v)
 
 rest_of : (u v : List ℕ) (b : ℕ) → drop (length u + 1) (u ++ b ∷ v) ≡ v
 rest_of [] v b = refl
@@ -31,7 +24,7 @@ cut_at u v b small h =
     let w : List ℕ = u ++ b ∷ v in
     let n = length-append u (b ∷ v) in
     let inside : length u < length w = omega (arith, n) in
-    let ascii : slice_index w (length u) < 128 = subst (λ z. z < 128) (sym (byte_at u v b)) small in (
+    let ascii : slice_index w (length u) < 128 = subst (λ z. z < 128) (sym (byte_behind u v b)) small in (
       subst IsUtf8 (front_of u (b ∷ v)) (IsUtf8-take w (length u) h (IsCharBoundary-before_ascii w (length u) inside ascii)),
       subst IsUtf8 (rest_of u v b) (IsUtf8-drop w (length u + 1) h (IsCharBoundary-after_ascii w (length u) h inside ascii)),
     )

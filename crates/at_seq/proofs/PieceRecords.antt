@@ -1,7 +1,8 @@
 -- The pieces of a file by their places: of two neighbouring spans, of one that begins with a piece, and the records among them.
-use Rattle.std.proofs.Common.{◌≡◌, ℕ, ◌+◌, ◌-◌, ◌<◌, ◌≤◌, zero, suc, Bool, true, false, not, ◌&&◌, List, [], ◌∷◌, ◌++◌, length, slice_index, filter, take, drop, refl, sym, ◌∙◌, ap, subst, arith, append_assoc, take_all}
+use Rattle.std.proofs.Common.{◌≡◌, ℕ, ◌+◌, ◌-◌, ◌<◌, ◌≤◌, zero, suc, Bool, true, false, not, ◌&&◌, List, [], ◌∷◌, ◌++◌, length, slice_index, take, drop, refl, sym, ◌∙◌, ap, subst, arith, append_assoc, take_all}
 use Rattle.std.specs.List.{position_or_len}
 use Rattle.std.proofs.Math.Seq.{take-append_seam, drop-append_seam}
+use Rattle.std.proofs.lemmas.List.Elements.{filter-append}
 use Rattle.at_text.specs.Spans.{span_of}
 use Rattle.at_text.specs.Texts.{is_space}
 use Rattle.at_lex.specs.Fronts.{IsFront}
@@ -14,19 +15,11 @@ use Rattle.at_seq.proofs.Splits.{glued, pieces_joined, pieces_first, pieces_last
 
 -- ---- records
 
-filter_step : {X : Type 0} (p : X → Bool) (x : X) (xs ys : List X) (t : Bool) → p x ≡ t → filter p (xs ++ ys) ≡ filter p xs ++ filter p ys → filter p ((x ∷ xs) ++ ys) ≡ filter p (x ∷ xs) ++ filter p ys
-filter_step p x xs ys true e h = rw (e) (ap (λ z. x ∷ z) h)
-filter_step p x xs ys false e h = rw (e) h
-
-filter_append : {X : Type 0} (p : X → Bool) (xs ys : List X) → filter p (xs ++ ys) ≡ filter p xs ++ filter p ys
-filter_append p [] ys = refl
-filter_append p (x ∷ xs) ys = filter_step p x xs ys (p x) refl (filter_append p xs ys)
-
 abbrev is_record : Piece → Bool
 is_record p = not (are_spaces p.text)
 
 pub records_in-append : (ps qs : List Piece) → records_in (ps ++ qs) ≡ records_in ps ++ records_in qs
-records_in-append ps qs = filter_append is_record ps qs
+records_in-append ps qs = filter-append is_record ps qs
 
 pub records_around : (ps : List Piece) (p : Piece) (qs : List Piece) → records_in (ps ++ (p ∷ qs)) ≡ (records_in ps ++ records_in (p ∷ [])) ++ records_in qs
 records_around ps p qs = records_in-append ps (p ∷ qs) ∙ (ap (λ z. records_in ps ++ z) (records_in-append (p ∷ []) qs) ∙ sym (append_assoc (records_in ps) (records_in (p ∷ [])) (records_in qs)))

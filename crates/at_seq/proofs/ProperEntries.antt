@@ -3,6 +3,7 @@ use Rattle.std.proofs.Common.{◌≡◌, ℕ, ◌+◌, ◌≤◌, inl, inr, Bool
 use Rattle.std.specs.List.{AllByRecursion, slice_split}
 use Rattle.std.proofs.lemmas.Option.{none-some}
 use Rattle.std.proofs.lemmas.List.{map-append}
+use Rattle.std.proofs.ByRecursion.{All-append}
 use Rattle.at_text.specs.declared.faults.Fault.{Fault}
 use Rattle.at_text.specs.Texts.{base_of, utf8_fault}
 use Rattle.at_fixed.specs.declared.rounding.Coords.{Coords}
@@ -19,7 +20,7 @@ use Rattle.at_query.specs.Parts.{IsKeptOf, IsProperFeature, AreProperFeatures}
 use Rattle.at_query.proofs.ProperEntries.{entries_are_proper}
 use Rattle.at_geojson.specs.Roles.{features_of}
 use Rattle.at_geojson.specs.Wholes.{faults_of}
-use Rattle.at_run.proofs.ProperFeatures.{empties, not_empty, all_joined, no_first, at_of}
+use Rattle.at_run.proofs.ProperFeatures.{empties, not_empty, no_first, at_of}
 use Rattle.at_run.proofs.JsonFeatures.{Climbs, climbs_rise, climbs_wider, climbs_on, text_climbs, text_features_proper}
 use Rattle.at_seq.specs.Records.{Piece, placed, are_spaces, is_separator, pieces_of, records_in}
 use Rattle.at_seq.proofs.PieceRecords.{records_in-append, no_record, one_record}
@@ -39,7 +40,7 @@ module _ (digits : ℕ) (how : Coords) where
   records_proper [] faults fs h none e = subst (AllByRecursion IsProperFeature) (sym e) tt
   records_proper (r ∷ rs) faults fs (first, more, hf, hs, e) none (t, others, is, are, k) =
       let (a, b) = empties first more (sym e ∙ none) in
-      subst (AllByRecursion IsProperFeature) (sym k) (all_joined IsProperFeature (features_of digits how t) others (text_features_proper digits how t (record_none r first t hf a is)) (records_proper rs more others hs b are))
+      subst (AllByRecursion IsProperFeature) (sym k) (All-append IsProperFeature (features_of digits how t) others (text_features_proper digits how t (record_none r first t hf a is)) (records_proper rs more others hs b are))
 
   -- where the pieces end
   abbrev end_of : ℕ → List (List ℕ) → ℕ

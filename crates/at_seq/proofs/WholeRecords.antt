@@ -7,6 +7,7 @@ use Rattle.std.specs.Char.{is_ascii_hexdigit}
 use Rattle.std.proofs.lemmas.List.Elements.{All-from_recursion}
 use Rattle.std.proofs.lemmas.List.Folds.{list_any_none}
 use Rattle.std.proofs.lemmas.List.Splits.{slice_split_none, slice_split_at}
+use Rattle.std.proofs.ByRecursion.{All-append}
 use Rattle.at_text.specs.Parts.{Many}
 use Rattle.at_text.specs.Texts.{is_space, is_digit, is_one_of}
 use Rattle.at_fixed.specs.Numerals.{Numeral, Exponent, IsExponent, IsAtMostOneOf, AreDigits, AreSomeDigits, IsJsonWhole, IsJsonNumeral, fraction_text, exponent_text, numeral_text}
@@ -15,8 +16,8 @@ use Rattle.at_lex.specs.Runs.{Literal, the_null, the_true, the_false, literal_te
 use Rattle.at_lex.specs.Spans.{AreSpaces}
 use Rattle.at_nest.specs.Tree.{Tree, literal, number, text, array, object, Trees, no_trees, tree_and, Members, no_members, member_and, Padded, After, IsEnd, Spells, SpellsItems, SpellsFurtherItems, SpellsName, SpellsMembers, SpellsFurtherMembers, IsTextOf}
 use Rattle.at_nest.specs.Syntax.{JsonText}
-use Rattle.at_join.proofs.CellPairs.{each_joined}
 use Rattle.at_seq.specs.Records.{placed, pieces_from, is_separator}
+use Rattle.at_join.proofs.Extents.{four_true}
 
 -- none of the bytes is RS
 abbrev IsUnparted : List ℕ → Type 0
@@ -27,7 +28,7 @@ abbrev SaysUnparted : (ℕ → List ℕ → Type 0) → Type 0
 SaysUnparted P = (at : ℕ) (w : List ℕ) → P at w → IsUnparted w
 
 joined : (v w : List ℕ) → IsUnparted v → IsUnparted w → IsUnparted (v ++ w)
-joined v w = each_joined (λ b. is_separator b ≡ false) v w
+joined v w = All-append (λ b. is_separator b ≡ false) v w
 
 -- ---- bytes that pass a test which RS fails
 
@@ -88,9 +89,6 @@ number_unparted n h =
 
 -- ---- strings
 
-all_four : (a b c d : Bool) → ((a && b) && (c && d)) ≡ true → (a ≡ true) × (b ≡ true) × (c ≡ true) × (d ≡ true)
-all_four a b c d h = (grind (arith, h), grind (arith, h), grind (arith, h), grind (arith, h))
-
 hex_digit : (b : ℕ) → is_ascii_hexdigit b ≡ true → is_separator b ≡ false
 hex_digit b h = other is_ascii_hexdigit refl b h
 
@@ -98,7 +96,7 @@ character_unparted : (c : Character) → IsCharacter c → IsUnparted (character
 character_unparted (plain b) h = (other is_plain refl b h, tt)
 character_unparted (escape letter) h = (refl, (other (λ b. list_any (λ (e : ℕ × ℕ). e.0 == b) escapes) refl letter h, tt))
 character_unparted (unit a b c d) h =
-    let (p, q, r, s) = all_four (is_ascii_hexdigit a) (is_ascii_hexdigit b) (is_ascii_hexdigit c) (is_ascii_hexdigit d) h in
+    let (p, q, r, s) = four_true (is_ascii_hexdigit a) (is_ascii_hexdigit b) (is_ascii_hexdigit c) (is_ascii_hexdigit d) h in
     (refl, (refl, (hex_digit a p, (hex_digit b q, (hex_digit c r, (hex_digit d s, tt))))))
 
 characters_unparted : (cs : List Character) → AreCharacters cs → IsUnparted (flat_map character_text cs)

@@ -1,10 +1,6 @@
 -- What the readers of whole values find of a text: the parts that they pass over spell trees, and the values in these are counted.
-use Rattle.std.proofs.Common.{◌≡◌, ℕ, zero, suc, ◌+◌, ◌-◌, ◌<◌, ◌≤◌, ◌%◌, ◌^◌, inl, inr, true, List, [], ◌∷◌, ◌++◌, length, take, drop, slice_index, take-append-drop, refl, sym, ◌∙◌, ap, subst, arith}
+use Rattle.std.proofs.Common.{◌≡◌, ℕ, ◌+◌, ◌-◌, ◌<◌, ◌≤◌, ◌%◌, ◌^◌, inl, inr, List, [], ◌∷◌, ◌++◌, length, take, drop, slice_index, take-append-drop, refl, sym, ◌∙◌, ap, subst, arith}
 use Rattle.std.proofs.Math.Nat.{mod-add-mod, add-mod-mod}
-use Rattle.std.proofs.lemmas.List.{drop-take, length-drop}
-use Rattle.at_text.specs.Prefix.{TakesLongest}
-use Rattle.at_text.specs.declared.prefixes.Taken.{Taken}
-use Rattle.at_lex.proofs.FrontLemmas.{suffix_is}
 use Rattle.at_fixed.specs.NumberSoFar.{between}
 use Rattle.at_fixed.specs.Numerals.{JsonNumber}
 use Rattle.at_lex.specs.Strings.{JsonString}
@@ -20,50 +16,27 @@ use Rattle.at_nest.proofs.Passed.{items_none, items_on, items_end, items_empty, 
 use Rattle.bench_nest.specs.declared.passing.Passed.{Passed}
 use Rattle.bench_nest.specs.Nodes.{nodes_of, nodes_of_items, nodes_of_members, IsAny, CountsNodes}
 use Rattle.bench_nest.specs.Passed.{IsPassed, IsPassedText, IsPassedItem, IsPassedName, nodes_in, nodes_in_members, AreItemsCounted, AreMembersCounted}
+use Rattle.at_geojson.proofs.ValueParts.{some_bytes, end_fits, no_empty_number, no_empty_string}
+use Rattle.at_wkt.proofs.NumberSteps.{rest_part}
 
 -- ---- bytes that were taken from a place on
-
--- what a reader of the bytes ahead takes as a whole word
-pub taken_whole : (L : List ℕ → Type 0) (w : List ℕ) (at : ℕ) (taken : Taken) → TakesLongest L (take (length w - at) (drop at w)) taken → taken.whole ≡ true → (taken.len ≤ length (drop at w)) × L (take taken.len (drop at w))
-taken_whole L w at taken h e =
-    let k : TakesLongest L (drop at w) taken = subst (λ z. TakesLongest L z taken) (suffix_is w at) h in
-    (k.longest.fits, (k.whole).0 e)
-
-pub front_part : (w : List ℕ) (at n : ℕ) → take n (drop at w) ≡ between w at (at + n)
-front_part w at n = sym (drop-take at n w)
-
-some_bytes : (L : List ℕ → Type 0) (w : List ℕ) (at n : ℕ) → (L [] → ⊥) → L (take n (drop at w)) → at < at + n
-some_bytes L w at n none h = by_count n h
-  where
-    by_count : (n : ℕ) → L (take n (drop at w)) → at < at + n
-    by_count zero h = absurd (none h)
-    by_count (suc n) h = omega arith
-
-end_fits : (w : List ℕ) (at n : ℕ) → at ≤ length w → n ≤ length (drop at w) → at + n ≤ length w
-end_fits w at n h k = omega (arith, h, k, length-drop at w)
-
-no_empty_number : JsonNumber [] → ⊥
-no_empty_number h = no_nil (inr h)
-
-no_empty_string : JsonString [] → ⊥
-no_empty_string (cs, ok, e) = cc
 
 pub number_passed : (w : List ℕ) (at n : ℕ) → at ≤ length w → n ≤ length (drop at w) → JsonNumber (take n (drop at w)) → IsPassed w at (record { end = at + n; count = 1 })
 number_passed w at n h k j = (
   some_bytes JsonNumber w at n no_empty_number j,
   end_fits w at n h k,
-  λ base. (number (base + at) j.0, (refl, j.1, sym (front_part w at n) ∙ j.2), refl),
+  λ base. (number (base + at) j.0, (refl, j.1, sym (rest_part w at n) ∙ j.2), refl),
 )
 
 pub text_passed : (w : List ℕ) (at n : ℕ) → at ≤ length w → n ≤ length (drop at w) → JsonString (take n (drop at w)) → IsPassedText w at (at + n)
-text_passed w at n h k j = (some_bytes JsonString w at n no_empty_string j, end_fits w at n h k, subst JsonString (front_part w at n) j)
+text_passed w at n h k j = (some_bytes JsonString w at n no_empty_string j, end_fits w at n h k, subst JsonString (rest_part w at n) j)
 
 pub string_passed : (w : List ℕ) (at end : ℕ) → IsPassedText w at end → IsPassed w at (record { end = end; count = 1 })
 string_passed w at end (order, fits, j) = (order, fits, λ base. (text (base + at) j.0, (refl, j.1, j.2), refl))
 
 pub run_passed : (w : List ℕ) (at n : ℕ) → at ≤ length w → n ≤ length (drop at w) → JsonRun (take n (drop at w)) → IsPassed w at (record { end = at + n; count = 1 })
 run_passed w at n h k (inr j) = number_passed w at n h k j
-run_passed w at n h k (inl (l, e)) = (some_bytes JsonRun w at n no_nil (inl (l, e)), end_fits w at n h k, λ base. (literal (base + at) l, (refl, sym (front_part w at n) ∙ e), refl))
+run_passed w at n h k (inl (l, e)) = (some_bytes JsonRun w at n no_nil (inl (l, e)), end_fits w at n h k, λ base. (literal (base + at) l, (refl, sym (rest_part w at n) ∙ e), refl))
 
 pub item_passed : (w : List ℕ) (at first end : ℕ) (p : Passed) → at ≤ first → AreSpaces (between w at first) → IsPassed w first p → p.end ≤ end → end ≤ length w → AreSpaces (between w p.end end) → IsPassedItem w at (record { end = end; count = p.count })
 item_passed w at first end p h spaces (order, fits, value) k fits2 more = (
@@ -73,7 +46,7 @@ item_passed w at first end p h spaces (order, fits, value) k fits2 more = (
 )
 
 no_spaces : (w : List ℕ) (at : ℕ) → AreSpaces (between w at at)
-no_spaces w at = subst AreSpaces (front_part w at 0 ∙ ap (between w at) (let e : at + 0 ≡ at = omega arith in e)) tt
+no_spaces w at = subst AreSpaces (rest_part w at 0 ∙ ap (between w at) (let e : at + 0 ≡ at = omega arith in e)) tt
 
 -- with no white space behind the value
 pub item_ended : (w : List ℕ) (at first end : ℕ) (count : ℕ) → at ≤ first → AreSpaces (between w at first) → IsPassed w first (record { end = end; count = count }) → IsPassedItem w at (record { end = end; count = count })
@@ -171,7 +144,7 @@ pub attempt_of : (at : ℕ) (w : List ℕ) (p : Passed) → IsPassed w 0 p → I
 attempt_of at w p (order, fits, value) = let (t, spells, count) = value at in (
   between w 0 p.end,
   drop p.end w,
-  sym (take-append-drop p.end w) ∙ ap (λ z. z ++ drop p.end w) (front_part w 0 p.end ∙ ap (between w 0) (let e : 0 + p.end ≡ p.end = omega arith in e)),
+  sym (take-append-drop p.end w) ∙ ap (λ z. z ++ drop p.end w) (rest_part w 0 p.end ∙ ap (between w 0) (let e : 0 + p.end ≡ p.end = omega arith in e)),
   omega (arith, part-length w 0 p.end (omega arith) fits),
   t,
   subst (λ n. Spells n (between w 0 p.end) t) (let e : at + 0 ≡ at = omega arith in e) spells,

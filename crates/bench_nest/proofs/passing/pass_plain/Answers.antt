@@ -1,8 +1,9 @@
 -- A number behind white space.
 use Rattle.std.proofs.Common.{true, refl, ◌+◌}
 use Rattle.at_fixed.specs.Numerals.{JsonNumber}
-use Rattle.bench_nest.proofs.PassedParts.{taken_whole, number_passed, item_ended}
+use Rattle.bench_nest.proofs.PassedParts.{number_passed, item_ended}
 use Rattle.bench_nest.proofs.passing.pass_plain.Goals as goal
+use Rattle.at_geojson.proofs.ValueParts.{taken_whole}
 
 pub returns : goal.returns
 returns c =
