@@ -43,7 +43,7 @@ fn end_of(bytes: &[u8], gathered: Gathered) -> Result<Part, RunFault>
         (λ end. IfFound end (λ fault. HasFileFaultIn Wkt asked.digits asked.how bytes.now (Some fault))) }
 {
     match gathered {
-        Gathered::OwnFold(kept) => part_of_kept(kept),
+        Gathered::Kept(kept) => part_of_kept(kept),
         Gathered::Failed(fault) => Err(RunFault::Found(utf8_fault(bytes).unwrap_or(fault))),
     }
 }

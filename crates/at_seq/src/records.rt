@@ -26,7 +26,7 @@ fn kept_of_root(end: Result<Part, RootEnd>) -> Result<Gathered, Memory>
     ensures { IsRootKept end result }
 {
     match end {
-        Ok(part) => Ok(Gathered::OwnAtom(Accumulator::from_part(part))),
+        Ok(part) => Ok(Gathered::Kept(Accumulator::from_part(part))),
         Err(RootEnd::Found(fault)) => Ok(Gathered::Failed(fault)),
         Err(RootEnd::Memory) => Err(Memory),
     }
