@@ -14,6 +14,17 @@
 //! Nothing is said of speed, of progress, or of which pass does what.
 //!
 //! `docs/CREW.md` tells the rule behind it, with a figure.
+//!
+//! `Spelling` is a [`Job`] whose part of a block is a letter, or none for want of memory. By two
+//! threads too, the letters of the whole stand in the order of the blocks:
+//! ```
+//! let job = Spelling { blocks: 4 };
+//! let whole = run_crew(&rt, alloc, &job, 4, 2, &Free)?;
+//! let Some(text) = whole else {
+//!     return Err(Memory.into());
+//! };
+//! assert!(rt; text.as_str() == "abcd");
+//! ```
 #![tactic(auto)]
 
 mod chief;

@@ -299,3 +299,16 @@ fn two_blocks_at_once(rt: HostRuntime) -> Result<(), Fail> {
     assert!(rt; was_entered_once(&gate), "the blocks are entered");
     Ok(())
 }
+
+/// What the page of `at_crew` shows.
+#[test]
+fn the_example_of_the_crate(rt: HostRuntime) -> Result<(), Fail> {
+    let alloc = rt.alloc();
+    let job = Spelling { blocks: 4 };
+    let whole = run_crew(&rt, alloc, &job, 4, 2, &Free)?;
+    let Some(text) = whole else {
+        return Err(Memory.into());
+    };
+    assert!(rt; text.as_str() == "abcd");
+    Ok(())
+}

@@ -396,3 +396,16 @@ fn texts(rt: HostRuntime) -> Result<(), Fail> {
     }
     Ok(())
 }
+
+/// What the page of `at_fixed` shows.
+#[test]
+fn the_example_of_the_crate(rt: HostRuntime) -> Result<(), Fail> {
+    let alloc = rt.alloc();
+    let nearest = leading_number(b"7.25,1", Notation::Json, 1, Coords::Round);
+    assert!(rt; nearest.len == 4 && nearest.value == Some(Ok(72)));
+    let exact = leading_number(b"7.25,1", Notation::Json, 1, Coords::Exact);
+    assert!(rt; exact.value == Some(Err(FixedFault::Scale)));
+    let text = write_fixed(alloc, 72, 1)?;
+    assert!(rt; text.as_str() == "7.2");
+    Ok(())
+}

@@ -4,6 +4,19 @@
 //! A coordinate is a count of units of 10^-7 (or of another power of ten that the caller keeps to), and is at
 //! most 300,000,000,000,000 in size where a call asks for it. Differences then fit 64 bits and products of two
 //! differences fit 128 bits, so every answer is exact. No call takes memory.
+//!
+//! Three positions turn counterclockwise, and twice the area of their triangle is 3 squares:
+//! ```
+//! let low = Pos { x: 0, y: 0 };
+//! let right = Pos { x: 3, y: 0 };
+//! let high = Pos { x: 3, y: 1 };
+//! assert!(rt; orient(low, right, high) == 1);
+//! let ring = Path::from_vec(vec![in alloc; low, right, high, low]?);
+//! let triangle = Polygon {
+//!     rings: Paths::from_vec(vec![in alloc; ring]?),
+//! };
+//! assert!(rt; doubled_area(&triangle) == 3);
+//! ```
 #![tactic(auto)]
 
 mod areas;

@@ -530,3 +530,19 @@ fn lists(rt: HostRuntime) -> Result<(), Fail> {
     assert!(rt; keeps_polygons(none, 0), "polygons");
     Ok(())
 }
+
+/// What the page of `at_geom` shows.
+#[test]
+fn the_example_of_the_crate(rt: HostRuntime) -> Result<(), Fail> {
+    let alloc = rt.alloc();
+    let low = Pos { x: 0, y: 0 };
+    let right = Pos { x: 3, y: 0 };
+    let high = Pos { x: 3, y: 1 };
+    assert!(rt; orient(low, right, high) == 1);
+    let ring = Path::from_vec(vec![in alloc; low, right, high, low]?);
+    let triangle = Polygon {
+        rings: Paths::from_vec(vec![in alloc; ring]?),
+    };
+    assert!(rt; doubled_area(&triangle) == 3);
+    Ok(())
+}

@@ -4,6 +4,19 @@
 //! string. [`Lexer`] reads a piece from its start state and gives one token at a time, without memory; [`lex`]
 //! collects what it gives. [`take_text`] and [`check_run`] read one string, literal or number, and [`units`]
 //! says what a string stands for.
+//!
+//! This piece begins in a string. Behind the string's end are a comma and a number that may go on:
+//! ```
+//! let found = lex(alloc, b"b\",4", 0, Start::InString)?;
+//! assert!(rt; found.lead == Lead::TextEnds(2));
+//! let comma = Token {
+//!     kind: TokenKind::Comma,
+//!     from: 2,
+//!     to: 3,
+//! };
+//! assert!(rt; found.tokens.as_slice() == [comma].as_slice());
+//! assert!(rt; found.pend == Pend::Run(3) && found.end == Start::Out);
+//! ```
 #![tactic(auto)]
 
 mod code_units;

@@ -497,3 +497,19 @@ fn all_cuts(rt: HostRuntime) -> Result<(), Fail> {
     }
     Ok(())
 }
+
+/// What the page of `at_lex` shows.
+#[test]
+fn the_example_of_the_crate(rt: HostRuntime) -> Result<(), Fail> {
+    let alloc = rt.alloc();
+    let found = lex(alloc, b"b\",4", 0, Start::InString)?;
+    assert!(rt; found.lead == Lead::TextEnds(2));
+    let comma = Token {
+        kind: TokenKind::Comma,
+        from: 2,
+        to: 3,
+    };
+    assert!(rt; found.tokens.as_slice() == [comma].as_slice());
+    assert!(rt; found.pend == Pend::Run(3) && found.end == Start::Out);
+    Ok(())
+}

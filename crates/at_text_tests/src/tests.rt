@@ -1,7 +1,8 @@
 //! Tables for the faults, the encoding and the classes of bytes.
 
 use at_text::{
-    Bytes, Fault, FaultKind, Word, base_of, first_fault, is_digit, is_run, is_space, utf8_fault,
+    Bytes, Fault, FaultKind, Word, base_of, first_fault, is_digit, is_run, is_space, stop_at,
+    utf8_fault,
 };
 use std::process::Abort;
 use std::test::Fail;
@@ -107,4 +108,17 @@ fn lists_and_texts(rt: HostRuntime) -> Result<(), Fail> {
     assert!(rt; FaultKind::Range.number() == 9);
     assert!(rt; FaultKind::Ended.tier() == 2);
     Ok(())
+}
+
+/// What the page of `at_text` shows.
+#[test]
+fn the_example_of_the_crate(rt: HostRuntime) {
+    let bytes: &[u8] = b"{}x\xFF";
+    let syntax = stop_at(bytes, 0, 2);
+    let encoding = Fault {
+        kind: FaultKind::NotUtf8,
+        at: 3,
+    };
+    assert!(rt; utf8_fault(bytes) == Some(encoding));
+    assert!(rt; first_fault(Some(syntax), Some(encoding)) == Some(encoding));
 }
