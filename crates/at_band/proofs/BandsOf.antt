@@ -1,4 +1,5 @@
 -- What the bands of a shape decide of the shape.
+-- For `meets`.
 use Rattle.std.proofs.Common.{◌≡◌, ℕ, ℤ, ◌+◌, ◌<◌, length, drop, get_or, inl, inr, true, List, [], ◌∷◌, Option, None, arith, sym, subst}
 use Rattle.std.specs.Prelude.{All, IsTrue, map}
 use Rattle.std.specs.Int.{int_min, int_max}

@@ -1,4 +1,5 @@
 -- Heights that are cut: each height is one of a part's.
+-- For `copy`, `meets` and `new`.
 use Rattle.std.proofs.Common.{◌≡◌, ℤ, ◌≤ℤ◌, ◌<ℤ◌, inl, List, [], ◌∷◌, ◌++◌, arith, sym, subst}
 use Rattle.std.proofs.lemmas.Int.{ints, by_lt_z}
 use Rattle.at_text.specs.Lists.{SomeOf}

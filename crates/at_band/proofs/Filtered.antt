@@ -1,4 +1,5 @@
 -- What elements of a list decide, all of which pass a test.
+-- For `copy`, `meets` and `new`.
 use Rattle.std.proofs.Common.{◌≡◌, ◌+◌, inl, inr, Bool, true, false, cond, List, [], ◌∷◌, refl, sym, ap, subst, ◌∙◌, zero-add}
 use Rattle.std.specs.Prelude.{count_by}
 use Rattle.std.specs.List.{filter}

@@ -1,4 +1,5 @@
 -- What is kept of a shape for some heights, and of that for some of these, is kept of the shape.
+-- For `copy`, `meets` and `new`.
 use Rattle.std.proofs.Common.{◌≡◌, ℤ, inl, inr, Bool, true, false, List, [], ◌∷◌, arith, refl, sym, ap, subst, ◌∙◌}
 use Rattle.std.specs.Prelude.{All, map}
 use Rattle.std.specs.List.{filter}

@@ -1,5 +1,6 @@
 -- A thinned path has the same edges that reach into the heights: two kept edges that don't follow one another are
 -- joined by an edge beside the heights, since the path doesn't pass them between the two.
+-- For `copy`, `meets` and `new`.
 use Rattle.std.proofs.Common.{◌≡◌, ℤ, ◌≤ℤ◌, ◌<ℤ◌, ◌⊎◌, inl, inr, Bool, true, false, ◌&&◌, List, [], ◌∷◌, ◌++◌, arith, refl, sym, ap, subst, ◌∙◌}
 use Rattle.std.specs.Prelude.{int_le, flat_map}
 use Rattle.std.specs.Int.{int_min, int_max}

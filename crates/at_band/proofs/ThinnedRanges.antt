@@ -1,4 +1,5 @@
 -- What is true of all positions of a shape is true of all that are kept.
+-- For `copy`, `meets` and `new`.
 use Rattle.std.proofs.Common.{◌≡◌, ℤ, Bool, true, false, List, [], ◌∷◌, refl, sym, subst}
 use Rattle.std.specs.Prelude.{All}
 use Rattle.std.specs.List.{filter}

@@ -1,4 +1,5 @@
 -- At a height, a position is in the same polygons of a shape and of what is kept of the shape for heights round it.
+-- For `copy`, `meets` and `new`.
 use Rattle.std.proofs.Common.{◌≡◌, ℤ, ◌≤ℤ◌, ◌⊎◌, inl, inr, Bool, true, false, not, List, [], ◌∷◌, ◌++◌, arith, refl, sym, ap, subst, ◌∙◌}
 use Rattle.std.specs.Prelude.{IsTrue, ◌%◌, ◌==◌}
 use Rattle.std.specs.List.{AllByRecursion}

@@ -1,4 +1,5 @@
 -- Positions that lie on a shape, by its parts, and by what is kept of it for a band.
+-- For `meets`.
 use Rattle.std.proofs.Common.{◌≡◌, ℤ, ◌⊎◌, inl, inr, Bool, true, false, not, Some, List, [], ◌∷◌, ◌++◌, sym, subst}
 use Rattle.std.specs.Prelude.{IsTrue, flat_map}
 use Rattle.std.specs.List.{AllByRecursion}

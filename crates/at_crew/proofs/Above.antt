@@ -1,4 +1,5 @@
 -- What lies below a made node is settled, so two nodes with nothing made above them share no block.
+-- For most public calls of the crate, `claim`, `close`, `pass` among them.
 use Rattle.std.proofs.Common.{◌≡◌, ℕ, zero, suc, ◌+◌, ◌-◌, ◌*◌, ◌/◌, ◌<◌, ◌≤◌, List, slice_index, sym, subst, inl, inr, ⊎_elim, arith}
 use native.Mathlib.Decide.{dec_le, ℕ_discrete}
 use Rattle.at_crew.specs.Nodes.{IsNode, Made, Settled, IsTop}

@@ -1,4 +1,5 @@
 -- A claim keeps the rule: below k it takes the leaf's slot, and past k it ends the pass.
+-- For most public calls of the crate, `claim`, `close`, `pass` among them.
 use Rattle.std.proofs.Common.{◌≡◌, ◌≢◌, ℕ, suc, ◌+◌, ◌*◌, ◌/◌, ◌%◌, ◌^◌, ◌<◌, ◌≤◌, ◌⊎◌, Option, Some, None, Bool, true, false, true≢false, List, set, length, sum_by, slice_index, slice_set, refl, sym, ap, ◌∙◌, subst, inl, inr, ⊎_elim, arith, length-set}
 use mathlib.Core.Option.{some, none}
 use lib.ListN.{get_elem?}

@@ -1,4 +1,5 @@
 -- Once no pass is away, and one was made, the whole lies in slot 0, and all blocks and inner nodes stand in the chief's lists.
+-- For `close` and `run_crew`.
 use Rattle.std.proofs.Common.{◌≡◌, ◌≢◌, ℕ, zero, suc, ◌+◌, ◌-◌, ◌*◌, ◌/◌, ◌^◌, ◌<◌, ◌≤◌, ◌==◌, Option, Some, None, Bool, true, false, true≢false, List, length, sum_by, slice_index, refl, sym, ap, ◌∙◌, subst, inl, inr, ⊎_elim, arith}
 use mathlib.Core.Option.{some, some-injective}
 use lib.ListN.{get_elem?}

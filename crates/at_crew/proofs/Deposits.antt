@@ -1,4 +1,5 @@
 -- A deposit at a parent and at the root, as steps of the table.
+-- For `claim`, `run_crew`, `settle` and `work`.
 use Rattle.std.proofs.Common.{◌≡◌, ◌≢◌, ℕ, zero, suc, ◌+◌, ◌*◌, ◌/◌, ◌<◌, ◌⊎◌, Option, Some, None, bit_or, List, [], ◌∷◌, set, length, slice_index, slice_set, refl, sym, ap, ◌∙◌, subst, inl, inr, ⊎_elim, arith, length-set}
 use mathlib.Core.Option.{some, none}
 use mathlib.Core.Option as maybe

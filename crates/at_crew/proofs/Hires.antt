@@ -1,4 +1,5 @@
 -- A new pass, and one that comes back, keep the rule.
+-- For `close`, `pass`, `run_crew` and `take_back`.
 use Rattle.std.proofs.Common.{◌≡◌, ◌≢◌, ℕ, ◌+◌, ◌<◌, ◌≤◌, min, None, true, true≢false, List, [], ◌∷◌, ◌++◌, set, sum_by, slice_index, refl, sym, ap, ◌∙◌, subst, ⊎_elim, arith}
 use mathlib.Core.Option.{some}
 use lib.ListN.{get_elem?}

@@ -1,4 +1,5 @@
 -- A pass that has put a block's part into its slot bears the leaf.
+-- For `run_crew`, `settle` and `work`.
 use Rattle.std.proofs.Common.{◌≡◌, ◌∙◌, ℕ, ◌+◌, ◌^◌, ◌<◌, [], ◌∷◌, Option, Some, sym, ap, subst, arith}
 use Rattle.atomic_table.specs.Table.{Me, rest}
 use Rattle.at_crew.specs.declared.view.View.{View}

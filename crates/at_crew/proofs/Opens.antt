@@ -1,4 +1,5 @@
 -- The rule holds of a new table.
+-- For `new` and `run_crew`.
 use Rattle.std.proofs.Common.{◌≡◌, ℕ, zero, suc, ◌+◌, ◌/◌, ◌^◌, ◌<◌, ◌≤◌, Option, None, List, [], ◌∷◌, replicate, map, slice_index, refl, sym, ◌∙◌, subst, inl, inr, ⊎_elim, arith}
 use Rattle.std.proofs.lemmas.List.{length-replicate, length-map}
 use mathlib.Core.Option.{some, some-injective, some-ne-none}

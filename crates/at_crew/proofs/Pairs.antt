@@ -1,4 +1,5 @@
 -- What a seat with two slots has after plain steps.
+-- For `run_crew`, `settle` and `work`.
 use Rattle.std.proofs.Common.{◌≡◌, ◌∙◌, ℕ, List, [], ◌∷◌, Option, Some, None, ap, sym}
 use Rattle.atomic_table.specs.Table.{rest, turned}
 

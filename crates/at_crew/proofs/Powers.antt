@@ -1,4 +1,5 @@
 -- The counts of blocks that a crew can have are the powers of two up to 4,096.
+-- For `new`, `run_crew`, `settle` and `work`.
 use Rattle.std.proofs.Common.{◌≡◌, ◌≢◌, ◌∙◌, ℕ, zero, suc, ◌+◌, ◌/◌, ◌%◌, ◌^◌, ◌<◌, ◌≤◌, ◌||◌, Bool, true, IsTrue, count_ones, eq-eqb, ne_eqb, refl, sym, ap, subst, rules, arith}
 use Rattle.std.specs.Int.{is_power_of_two, IsPowerOfTwo}
 use Rattle.std.proofs.lemmas.Nat.{zero_from_ones, ones_le_self}

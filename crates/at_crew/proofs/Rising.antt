@@ -1,4 +1,5 @@
 -- A pass's numbers rise: what it claimed is at most its last number, and less than the next.
+-- For `claim`, `run_crew`, `settle` and `work`.
 use Rattle.std.proofs.Common.{◌≡◌, ◌∙◌, ℕ, ◌+◌, ◌-◌, ◌<◌, ◌≤◌, List, [], ◌∷◌, ◌++◌, All, Option, Some, None, refl, ap, sym, subst, ⊎_elim, arith}
 use Rattle.std.proofs.lemmas.List.Elements.{All-push}
 use Rattle.atomic_table.specs.Table.{Me, Step}

@@ -1,4 +1,5 @@
 -- A fact of each element, where the list is cut, and where its elements were written.
+-- For `run_crew`.
 use Rattle.std.proofs.Common.{◌≡◌, ◌∙◌, ℕ, zero, suc, List, [], ◌∷◌, ◌++◌, All, Option, Some, take, drop, length, ap, sym, subst, arith}
 use Rattle.std.specs.Option.{option_to_list}
 use Rattle.std.proofs.lemmas.List.{take-append-le}

@@ -1,4 +1,5 @@
 -- The second deposit at a node keeps the rule: the pass takes its neighbour's slot, and holds the parent, which it has merged.
+-- For `claim`, `run_crew`, `settle` and `work`.
 use Rattle.std.proofs.Common.{◌≡◌, ◌≢◌, ℕ, suc, ◌+◌, ◌*◌, ◌/◌, ◌<◌, Option, Some, List, set, length, sum_by, slice_index, refl, sym, ap, ◌∙◌, subst, inl, inr, ⊎_elim, arith}
 use mathlib.Core.Option.{some, none}
 use mathlib.Core.Option as maybe

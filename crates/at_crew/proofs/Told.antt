@@ -1,4 +1,5 @@
 -- What a deposit tells, in the words of the functions around it.
+-- For `run_crew`, `settle` and `work`.
 use Rattle.std.proofs.Common.{◌≡◌, ◌∙◌, ℕ, zero, suc, ◌+◌, ◌*◌, ◌/◌, ◌%◌, ◌<◌, ◌≤◌, ◌==◌, ◌⊎◌, eq-eqb, ne_eqb, Bool, true, false, List, [], ◌∷◌, ◌++◌, Option, Some, None, append_assoc, refl, ap, sym, subst, ⊎_elim, arith}
 use mathlib.Core.Option.{none}
 use Rattle.std.proofs.lemmas.List.{append-nil}

@@ -1,4 +1,5 @@
 -- The arithmetic of nodes: children and parents, spans, and what lies above what.
+-- For most public calls of the crate, `claim`, `close`, `new` among them.
 use Rattle.std.proofs.Common.{◌≡◌, ◌≢◌, ℕ, zero, suc, ◌+◌, ◌-◌, ◌*◌, ◌/◌, ◌%◌, ◌^◌, ◌<◌, ◌≤◌, refl, sym, ap, ◌∙◌, subst, arith, add-zero, add-one, mul-le-mul_right}
 use Rattle.std.proofs.lemmas.Nat.{pow-add}
 use native.Mathlib.Decide.{dec_le, ℕ_discrete}

@@ -1,4 +1,5 @@
 -- Eight bytes joined to the number that the digits among them spell.
+-- For `json_number`, `leading_number`, `plain_len`, `plain_number`, `read_fixed` and `wkt_number`.
 use Rattle.std.proofs.Common.{◌≡◌, ℕ, zero, suc, ◌+◌, ◌-◌, ◌*◌, ◌/◌, ◌%◌, ◌^◌, ◌<◌, ◌≤◌, List, [], ◌∷◌, ◌++◌, length, take, drop, map, fold, slice_index, replicate, bit_and, inl, inr, true, refl, sym, ◌∙◌, ap, subst, arith, lit<, get_or, Fits, w8, add-zero, length-take, length-drop, length-append, take-take}
 use Rattle.std.proofs.lemmas.List.{drop-take, get_or-drop, length-map, length-replicate}
 use Rattle.std.specs.List.{AllByRecursion}

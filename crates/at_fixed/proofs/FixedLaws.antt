@@ -1,4 +1,5 @@
 -- The value of a number without division: what each answer says by products alone.
+-- For `read_fixed`.
 use Rattle.std.proofs.Common.{◌≡◌, ◌≢◌, ℕ, zero, suc, length, ◌^◌, ◌+◌, ◌*◌, ◌/◌, ◌%◌, ◌<◌, ◌≤◌, Bool, true, false, cond, nat_lt, ◌==◌, Result, Ok, Err, refl, sym, ◌∙◌, ap, arith, div-add-mod', mod-lt, add-zero, mul-le-mul_right, one-mul, lit<}
 use Rattle.std.proofs.Math.Nat.{mul-mod_left}
 use Rattle.at_fixed.specs.declared.rounding.FixedFault.{FixedFault}

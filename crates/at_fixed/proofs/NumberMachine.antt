@@ -1,4 +1,5 @@
 -- A machine for the numbers of JSON and of WKT, and that it is one for their grammars.
+-- For `json_number`, `leading_number`, `plain_len`, `plain_number`, `read_fixed` and `wkt_number`.
 use Rattle.std.proofs.Common.{◌≡◌, ℕ, ◌⊎◌, inl, inr, ◌↔◌, List, [], ◌∷◌, ◌++◌, Option, Some, None, IfSome, IsTrue, Bool, true, false, cond, ◌==◌, refl, sym, ◌∙◌, ap, subst, arith, true≢false, ◌<◌, ◌≤◌, length, take, slice_index}
 use Rattle.std.proofs.lemmas.Option.{none-some, same_Some}
 use Rattle.std.specs.Bool.{⊤}

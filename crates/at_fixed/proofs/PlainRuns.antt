@@ -1,4 +1,5 @@
 -- Digits that are read eight at a time, and all kept.
+-- For `leading_number`, `plain_len` and `plain_number`.
 use Rattle.std.proofs.Common.{◌≡◌, ◌^◌, ℕ, ◌+◌, true, false, arith, List, [], ◌∷◌, ◌++◌, ◌≤◌, ◌<◌, ◌-◌, ◌*◌, length, subst, sym, ap, ◌∙◌, lit<, pow-add}
 use Rattle.std.proofs.Math.Nat.{pow-le-pow_right}
 use Rattle.at_fixed.specs.declared.digits.KeptRun.{KeptRun}

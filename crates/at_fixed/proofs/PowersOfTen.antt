@@ -1,4 +1,5 @@
 -- A table of powers of ten.
+-- For `json_number`, `leading_number`, `plain_number`, `read_fixed`, `wkt_number` and `write_fixed`.
 use Rattle.std.proofs.Common.{◌≡◌, ℕ, zero, suc, ◌*◌, ◌/◌, ◌^◌, ◌<◌, List, [], ◌∷◌, slice_index, sym, ◌∙◌, ap, arith, lit<}
 use Rattle.std.proofs.Math.Nat.{pow-suc, mul-div_cancel}
 

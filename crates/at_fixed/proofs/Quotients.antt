@@ -1,5 +1,6 @@
 -- The whole number of a fraction, exact or rounded, found from a part of its digits: what is left of them only has to be known
 -- to be nothing or not.
+-- For `leading_number`, `plain_len`, `plain_number`, `read_fixed` and `write_fixed`.
 use Rattle.std.proofs.Common.{◌≡◌, ◌≢◌, ℕ, ◌+◌, ◌*◌, ◌/◌, ◌%◌, ◌<◌, ◌≤◌, inl, inr, Bool, true, false, cond, nat_lt, ◌==◌, ◌||◌, ◌&&◌, not, Result, Ok, Err, refl, sym, ◌∙◌, ap, subst, arith, mod-lt, div-add-mod', lit<}
 use Rattle.std.proofs.lemmas.Nat.{div-mul-add, mod-mul-add, mul-add-lt, le-div}
 use Rattle.std.proofs.lemmas.Bool.{cases_order, cases_lt, cases_eq}

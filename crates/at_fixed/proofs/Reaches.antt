@@ -1,4 +1,5 @@
 -- How far plain numbers reach, where their digits are told by a mask and not read.
+-- For `plain_len`.
 use Rattle.std.proofs.Common.{◌≡◌, ℕ, ◌+◌, ◌-◌, ◌^◌, ◌<◌, ◌≤◌, Bool, true, false, nat_lt, ◌==◌, ◌&&◌, ◌||◌, List, length, slice_index, Ok, take, inl, refl, sym, ap, subst, arith, lit<}
 use Rattle.at_fixed.specs.declared.extents.Extent.{Extent}
 use Rattle.at_fixed.specs.declared.notation.Notation.{Notation}

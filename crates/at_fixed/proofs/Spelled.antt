@@ -1,4 +1,5 @@
 -- A text spells at most one number, of JSON or of WKT, and a reader that takes the longest viable prefix takes a number whole.
+-- For `leading_number`, `plain_len`, `plain_number` and `read_fixed`.
 use Rattle.std.proofs.Common.{◌≡◌, ℕ, ◌⊎◌, inl, inr, List, [], ◌∷◌, ◌++◌, length, take, Option, Some, None, IfSome, IsTrue, ◌&&◌, nat_le, Result, ℤ, refl, sym, ◌∙◌, ap, subst, arith, append-nil}
 use Rattle.std.proofs.Math.Seq.{take-length}
 use Rattle.at_text.specs.declared.prefixes.Taken.{Taken}

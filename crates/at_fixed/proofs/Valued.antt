@@ -1,4 +1,5 @@
 -- Numbers that surely have a value.
+-- For `plain_len`.
 use Rattle.std.proofs.Common.{◌≡◌, ℕ, zero, suc, ◌+◌, ◌-◌, ◌*◌, ◌/◌, ◌%◌, ◌^◌, ◌<◌, ◌≤◌, ◌⊎◌, inl, inr, pos, neg_ℤ, if◌then◌else◌, mul-le-mul_right, Bool, true, false, cond, nat_lt, ◌==◌, ℤ, None, Result, Ok, Err, List, ◌++◌, length, take, refl, sym, ap, ◌∙◌, subst, arith, lit<, mod-lt, pow-add, append-nil}
 use Rattle.std.proofs.Math.Nat.{div-lt_iff_lt-mul}
 use Rattle.std.proofs.lemmas.Bool.{cases_lt}

@@ -1,4 +1,5 @@
 -- Shapes that don't meet: one without positions, and two of which the extents are apart.
+-- For `shapes_meet`.
 use Rattle.std.proofs.Common.{◌≡◌, pos, inl, inr, List, [], ◌∷◌, ◌++◌, Some, None, arith}
 use Rattle.std.specs.Prelude.{IsTrue}
 use Rattle.std.specs.List.{AllByRecursion}

@@ -1,4 +1,5 @@
 -- How large products of coordinates get.
+-- For most public calls of the crate, `doubled_area`, `in_polygon`, `is_in_any` among them.
 use Rattle.std.proofs.Common.{ℤ, ◌≤◌, ◌*ℤ◌, nat_abs, arith}
 use Rattle.std.proofs.Math.Nat.{mul-le-mul}
 use Rattle.std.proofs.lemmas.Int.{unsigned_abs-mul}

@@ -1,5 +1,6 @@
 -- No position outside the extent of a closed ring is in the ring: beside it no edge is crossed, and to the left of it
 -- the ray crosses each edge that passes the position's height, of which a closed ring has an even number.
+-- For `are_closed`, `reach` and `shapes_meet`.
 use Rattle.std.proofs.Common.{◌≡◌, ℕ, suc, ℤ, pos, negsuc, ◌+◌, ◌-ℤ◌, ◌*ℤ◌, ◌+ℤ◌, ◌≤ℤ◌, ◌<ℤ◌, inl, inr, Bool, true, false, ◌&&◌, int_eq, List, [], ◌∷◌, length, get_or, ◌-◌, arith, refl, sym, ap, ◌∙◌}
 use Rattle.std.specs.Prelude.{int_le, IsTrue}
 use Rattle.std.specs.List.{AllByRecursion}

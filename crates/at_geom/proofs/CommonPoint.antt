@@ -1,6 +1,7 @@
 -- When two closed segments have a common point: exactly where their boxes overlap and neither lies strictly on one side
 -- of the other's line. All numbers are whole, and a segment may be one position.
 -- A segment ab has the vector u, a segment cd the vector v, and w leads from a to c.
+-- For most public calls of the crate, `are_closed`, `doubled_area`, `in_polygon` among them.
 use Rattle.std.proofs.Common.{◌≡◌, ◌≢◌, ℕ, zero, suc, ℤ, pos, negsuc, ◌+◌, ◌-◌, ◌*◌, ◌≤◌, ◌+ℤ◌, ◌-ℤ◌, ◌*ℤ◌, ◌≤ℤ◌, ◌<ℤ◌, ◌⊎◌, inl, inr, neg_ℤ, nat_abs, arith, sym, ap, ◌∙◌, subst}
 use Rattle.std.proofs.Math.IntN.{ℤ_discrete, *ℤ_comm}
 use Rattle.std.specs.Int.{int_min, int_max}

@@ -1,4 +1,5 @@
 -- What a test of two whole numbers says.
+-- For most public calls of the crate, `are_closed`, `doubled_area`, `in_polygon` among them.
 use Rattle.std.proofs.Common.{◌≡◌, ℤ, true, false, ◌≤ℤ◌, ◌<ℤ◌, sym}
 use Rattle.std.specs.Prelude.{int_le, int_lt}
 use borrow.Author.Differences.{at_most_in, le-true, true_is_le, true_is_lt, false_is_le, false_is_lt, le_out, lt_out}

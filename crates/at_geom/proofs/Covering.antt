@@ -1,4 +1,5 @@
 -- The least extent of positions, taken one after another, and which extents it lies in.
+-- For `all_in`, `are_closed`, `extent`, `reach` and `shapes_meet`.
 use Rattle.std.proofs.Common.{◌≡◌, ℤ, Bool, true, false, ◌&&◌, List, [], ◌∷◌, ◌++◌, Option, Some, None, arith, refl, sym, ap, ◌∙◌}
 use Rattle.std.specs.Prelude.{fold, int_le}
 use Rattle.std.specs.List.{list_all}

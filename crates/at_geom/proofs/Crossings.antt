@@ -1,4 +1,5 @@
 -- Where a position is against an edge and a ring: the two tests of heights, the side of the edge's line, and parity.
+-- For most public calls of the crate, `are_closed`, `doubled_area`, `in_polygon` among them.
 use Rattle.std.proofs.Common.{◌≡◌, ◌≢◌, ℕ, suc, ℤ, pos, ◌+◌, ◌<◌, ◌-ℤ◌, ◌≤ℤ◌, ◌<ℤ◌, inl, inr, Bool, true, false, not, cond, List, ◌∷◌, length, get_or, drop, zero-add, arith, refl, sym, ap, subst, ◌∙◌}
 use mathlib.Core.Bool.{beq}
 use Rattle.std.specs.Prelude.{int_le, int_lt, ◌%◌, ◌==◌, if◌then◌else◌, count_by, All}

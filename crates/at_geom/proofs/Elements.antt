@@ -1,4 +1,5 @@
 -- What is true of each element of a list, and of some element of a list.
+-- For most public calls of the crate, `are_closed`, `doubled_area`, `in_polygon` among them.
 use Rattle.std.proofs.Common.{◌≡◌, ℕ, suc, ◌+◌, ◌<◌, ◌⊎◌, inl, inr, Bool, false, List, [], ◌∷◌, ◌++◌, length, get_or, drop, arith, subst, sym, ◌∙◌}
 use Rattle.std.specs.Prelude.{All, flat_map, IsTrue}
 use Rattle.std.proofs.lemmas.Bool.{false≢true}

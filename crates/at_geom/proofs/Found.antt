@@ -1,4 +1,5 @@
 -- Where a shape's positions and segments lie: within its extent.
+-- For `are_closed`, `reach` and `shapes_meet`.
 use Rattle.std.proofs.Common.{◌≡◌, Bool, true, false, ◌&&◌, ◌≤ℤ◌, inl, inr, List, [], ◌∷◌, ◌++◌, Some, arith, refl, sym, ◌∙◌}
 use Rattle.std.specs.Prelude.{flat_map, int_le, IsTrue}
 use Rattle.std.specs.Int.{int_min, int_max}

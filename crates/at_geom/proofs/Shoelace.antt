@@ -1,4 +1,5 @@
 -- Sums round a ring, wrapped and unwrapped, and how large they get.
+-- For `doubled_area`.
 use Rattle.std.proofs.Common.{◌≡◌, ℕ, suc, ℤ, pos, ◌+◌, ◌*◌, ◌≤◌, ◌<◌, ◌+ℤ◌, ◌-ℤ◌, ◌*ℤ◌, neg_ℤ, nat_abs, List, [], ◌∷◌, length, length-append, get_or, drop, map, arith, refl, ap, ◌∙◌}
 use Rattle.std.specs.Prelude.{fold, All, FitsSigned, ◌^◌}
 use Rattle.std.specs.Int.{w128, int_wrap, cast_signed}

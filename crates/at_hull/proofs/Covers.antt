@@ -1,4 +1,5 @@
 -- What holds of a list where it holds of its hull, and the hull of lists that have the same hull.
+-- For most public calls of the crate, `add`, `covers`, `covers_all` among them.
 use Rattle.std.proofs.Common.{◌≡◌, ℤ, pos, ◌+ℤ◌, ◌-ℤ◌, ◌*ℤ◌, ◌≤ℤ◌, ◌<ℤ◌, ◌⊎◌, inl, inr, List, [], ◌∷◌, ◌++◌, arith, sym, ap, subst, refl}
 use Rattle.std.proofs.lemmas.Int.{ints, by_lt_z}
 use Rattle.at_geom.specs.declared.positions.Pos.{Pos}

@@ -1,4 +1,5 @@
 -- Each list has a hull.
+-- For `add`, `covers` and `join`.
 use Rattle.std.proofs.Common.{◌≡◌, inl, inr, true, List, [], ◌∷◌, subst, refl}
 use Rattle.at_geom.specs.declared.positions.Pos.{Pos}
 use Rattle.at_hull.specs.Hulls.{IsBelow, IsIn, HasSame, IsAscending, IsHull}

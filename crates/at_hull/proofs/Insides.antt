@@ -1,4 +1,5 @@
 -- Positions inside a hull add nothing to it.
+-- For `add`, `covers`, `covers_all` and `join`.
 use Rattle.std.proofs.Common.{◌≡◌, ℕ, ◌+◌, ◌<◌, ◌≤◌, ℤ, pos, negsuc, zero, suc, ◌≤ℤ◌, ◌<ℤ◌, inl, inr, IsTrue, List, [], ◌∷◌, ◌++◌, All, length, take, get_or, arith, sym, subst, refl, true≢false}
 use Rattle.std.specs.Prelude.{int_le, int_lt}
 use Rattle.std.proofs.lemmas.Int.{ints}

@@ -1,4 +1,5 @@
 -- Where the way up and the way down meet: the end of one and the beginning of the other turn left, unless both are one edge.
+-- For most public calls of the crate, `add`, `covers`, `covers_all` among them.
 use Rattle.std.proofs.Common.{◌≡◌, ℤ, pos, ◌-ℤ◌, ◌≤ℤ◌, ◌<ℤ◌, ◌⊎◌, inl, inr, neg_ℤ, Bool, true, false, arith, sym, ◌∙◌, subst}
 use Rattle.std.proofs.lemmas.Int.{ints, by_lt_z}
 use Rattle.at_geom.specs.declared.positions.Pos.{Pos}

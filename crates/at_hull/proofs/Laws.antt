@@ -1,4 +1,5 @@
 -- The hull depends on the set of the positions alone, and two lists' hulls together have the hull of the two lists together.
+-- For most public calls of the crate, `add`, `covers`, `covers_all` among them.
 use Rattle.std.proofs.Common.{◌≡◌, ℤ, pos, ◌+ℤ◌, ◌-ℤ◌, ◌*ℤ◌, ◌≤ℤ◌, ◌<ℤ◌, ◌⊎◌, inl, inr, neg_ℤ, List, [], ◌∷◌, ◌++◌, arith, sym, ap, ◌∙◌, subst, refl}
 use Rattle.std.proofs.lemmas.Int.{ints, by_lt_z}
 use Rattle.at_geom.specs.declared.positions.Pos.{Pos}

@@ -1,4 +1,5 @@
 -- Elements of lists, joined and turned round.
+-- For most public calls of the crate, `add`, `covers`, `covers_all` among them.
 use Rattle.std.proofs.Common.{◌≡◌, ◌⊎◌, inl, inr, List, [], ◌∷◌, ◌++◌, reverse, sym, ap, ◌∙◌, subst, refl}
 use Rattle.std.proofs.lemmas.List.{reverse-append, append_assoc}
 use Rattle.at_geom.specs.declared.positions.Pos.{Pos}

@@ -1,4 +1,5 @@
 -- The lesser and the greater of two numbers are in the range of both.
+-- For `add`, `covers`, `hull`, `hull_join`, `into_hull` and `join`.
 use Rattle.std.proofs.Common.{◌≡◌, ℕ, ◌≤◌, ℤ, FitsSigned, to_z, of_z, w64, nat_abs, arith, ap₂, ◌∙◌, subst, sym}
 use Rattle.std.specs.Int.{int_min, int_max}
 use Rattle.std.proofs.lemmas.Int.{ints, clamps, to_z-of_z}

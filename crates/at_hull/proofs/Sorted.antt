@@ -1,4 +1,5 @@
 -- The walks over ascending positions and over the same from the last to the first.
+-- For `add`, `covers`, `hull`, `hull_join`, `into_hull` and `join`.
 use Rattle.std.proofs.Common.{◌≡◌, ℕ, ◌-◌, ◌≤◌, length, take, arith, true, false, List, [], ◌∷◌, ◌++◌, reverse, fold, sym, ap, ap₂, ◌∙◌, subst, refl}
 use Rattle.std.proofs.lemmas.List.{append-nil, reverse-reverse, length-append}
 use Rattle.std.proofs.Math.Seq.{take-append_seam}

@@ -1,4 +1,5 @@
 -- What a sort by y and x and the removal of equal neighbours leave: each position once, from the lowest up.
+-- For most public calls of the crate, `add`, `covers`, `covers_all` among them.
 use Rattle.std.proofs.Common.{◌≡◌, ℕ, zero, suc, ◌+◌, ◌<◌, ◌≤◌, inl, inr, Bool, true, false, cond, List, [], ◌∷◌, length, get_or, arith, sym, ap, ◌∙◌, subst, refl, is_lt, int_cmp, IsPermutation}
 use Rattle.std.specs.Prelude.{All, ◌&&◌}
 use Rattle.std.specs.Ordering.{ordering_then, int_eq}

@@ -1,4 +1,5 @@
 -- A vector of which the end is read and dropped, as a stack with its end first.
+-- For `add`, `covers`, `hull`, `hull_join`, `into_hull` and `join`.
 use Rattle.std.proofs.Common.{◌≡◌, ℕ, zero, suc, ℤ, pos, negsuc, ◌<◌, Bool, true, false, List, [], ◌∷◌, ◌++◌, reverse, length, get_or, arith, sym, ap, ◌∙◌, subst, refl}
 use Rattle.std.specs.Prelude.{int_le, if◌then◌else◌, All}
 use Rattle.std.proofs.lemmas.List.{reverse-append, length-append}

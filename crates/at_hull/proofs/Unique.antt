@@ -1,4 +1,5 @@
 -- A list has one hull.
+-- For `add`, `covers` and `join`.
 use Rattle.std.proofs.Common.{◌≡◌, ℤ, pos, ◌+ℤ◌, ◌-ℤ◌, ◌*ℤ◌, ◌≤ℤ◌, ◌<ℤ◌, inl, inr, neg_ℤ, List, [], ◌∷◌, ◌++◌, arith, sym, ap, ◌∙◌, subst, refl}
 use Rattle.std.proofs.lemmas.Int.{ints}
 use Rattle.at_geom.specs.declared.positions.Pos.{Pos}

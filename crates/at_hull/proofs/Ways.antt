@@ -1,5 +1,6 @@
 -- A chain of the walk, as a stack with its end first: it turns left, and nothing that was seen is to the right of it.
 -- A chain goes up, or down: the same facts of the order stand for both.
+-- For most public calls of the crate, `add`, `covers`, `covers_all` among them.
 use Rattle.std.proofs.Common.{◌≡◌, ℤ, pos, ◌≤ℤ◌, ◌<ℤ◌, ◌⊎◌, inl, inr, Bool, true, false, List, [], ◌∷◌, fold, arith, sym, ap, ◌∙◌, subst, refl}
 use Rattle.std.specs.Prelude.{if◌then◌else◌}
 use Rattle.std.proofs.lemmas.Int.{ints, by_lt_z}

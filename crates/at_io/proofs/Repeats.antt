@@ -1,4 +1,5 @@
 -- Lists of one element again and again.
+-- For `read` and `read_whole`.
 use Rattle.std.proofs.Common.{arith, ◌≡◌, ◌≤◌, ℕ, List, ◌++◌, take, length, replicate, sym, ◌∙◌, ap}
 use Rattle.std.proofs.lemmas.List.{take-replicate, length-replicate, take-append-le}
 

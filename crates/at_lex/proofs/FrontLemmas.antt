@@ -1,4 +1,5 @@
 -- What is known of the bytes of a front, and of the byte behind them.
+-- For most public calls of the crate, `copy`, `from_slice`, `lex` among them.
 use Rattle.std.proofs.Common.{◌≡◌, ℕ, zero, suc, ◌+◌, ◌-◌, ◌<◌, ◌≤◌, List, [], ◌∷◌, length, take, drop, slice_index, Bool, true, false, IsTrue, refl, sym, ◌∙◌, ap, subst, arith, length-drop, get_or-drop}
 use native.Mathlib.Decide.{dec_lt}
 use Rattle.std.proofs.lemmas.List.{take_all}

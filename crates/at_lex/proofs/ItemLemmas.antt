@@ -1,4 +1,5 @@
 -- The items that a reader finds: leads, strings and runs, whole, refused or begun.
+-- For most public calls of the crate, `copy`, `from_slice`, `lex` among them.
 use Rattle.std.proofs.Common.{◌≡◌, ◌≢◌, ℕ, zero, suc, ◌+◌, ◌-◌, ◌<◌, ◌≤◌, ◌⊎◌, inl, inr, List, [], ◌∷◌, ◌++◌, length, take, drop, Option, Some, None, Bool, true, false, cond, ◌||◌, ◌==◌, not, refl, sym, ◌∙◌, ap, subst, arith, length-drop, take-append-drop, take-take, true≢false, drop-drop}
 use Rattle.std.proofs.Math.ListN.{drop_of_length-le}
 use native.Mathlib.Decide.{dec_lt}

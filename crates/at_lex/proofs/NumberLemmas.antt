@@ -1,4 +1,5 @@
 -- Numbers from their parts.
+-- For `lex` and `next_item`.
 use Rattle.std.proofs.Common.{◌≡◌, ◌≢◌, ℕ, zero, suc, ◌+◌, ◌-◌, ◌<◌, ◌≤◌, inr, List, [], ◌∷◌, ◌++◌, length, take, drop, slice_index, Some, true, ◌&&◌, nat_le, not, refl, ◌∙◌, ap, subst, arith, append_assoc, length-drop}
 use Rattle.std.proofs.Math.Seq.{take-add}
 use Rattle.std.proofs.lemmas.List.{length-take-le}

@@ -1,4 +1,5 @@
 -- Literals and numbers are runs of bytes, and so is what begins one.
+-- For most public calls of the crate, `copy`, `from_slice`, `lex` among them.
 use Rattle.std.proofs.Common.{◌≡◌, ◌≢◌, ℕ, ◌<◌, ◌⊎◌, inl, inr, List, [], ◌∷◌, ◌++◌, length, Option, Some, None, IfSome, true, false, cond, ◌==◌, refl, sym, ◌∙◌, ap, subst, arith, true≢false}
 use Rattle.at_text.specs.Prefix.{Viable}
 use Rattle.at_text.specs.Texts.{is_digit, is_space, is_run, is_one_of}

@@ -1,4 +1,5 @@
 -- Literals and numbers: by their first byte, as runs of bytes, and their longest viable prefix.
+-- For `check_run`, `lex`, `next_item` and `take_run`.
 use Rattle.std.proofs.Common.{◌≡◌, ◌≢◌, ℕ, zero, suc, ◌+◌, ◌<◌, ◌≤◌, ◌==◌, inl, inr, List, [], ◌∷◌, ◌++◌, length, take, drop, slice_index, Bool, true, false, ◌&&◌, nat_le, IsTrue, refl, sym, ◌∙◌, ap, subst, arith, length-append, length-take, take-append-drop, add-one, eq-eqb, true≢false, not}
 use Rattle.std.proofs.lemmas.List.{take_all}
 use native.Mathlib.Decide.{dec_lt}

@@ -1,4 +1,5 @@
 -- The front of the first four bytes in the place of that of all: no character in UTF-8 has more bytes.
+-- For `units`.
 use Rattle.std.proofs.Common.{◌≡◌, ◌≢◌, ℕ, [], ◌∷◌, flat_map, subst, refl, ◌<◌, ◌≤◌, List, length, take, slice_index, Some, None, Bool, sym, ◌∙◌, ap, arith, ◌⊎◌, inl, inr, true≢false, get_or-take, take-take}
 use Rattle.std.proofs.lemmas.Bool.{cases_lt}
 use Rattle.std.proofs.lemmas.List.{length-take}

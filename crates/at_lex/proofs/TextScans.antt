@@ -1,4 +1,5 @@
 -- What the reader of a string does at one byte, and at bytes that stand for themselves.
+-- For `lex`, `next_item` and `take_text`.
 use Rattle.std.proofs.Common.{◌≡◌, ◌≢◌, ℕ, ◌+◌, ◌-◌, ◌<◌, ◌≤◌, List, length, take, drop, slice_index, Some, None, ◌==◌, cond, false, sym, ◌∙◌, ap, arith, add-one, take-suc, length-drop, get_or-drop}
 use Rattle.std.proofs.Math.Seq.{take-add}
 use Rattle.std.proofs.lemmas.Bool.{ne_eqb}

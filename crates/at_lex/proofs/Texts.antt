@@ -1,4 +1,5 @@
 -- Strings by lexical states: how the parts of one join, and that the reader of a string goes through them.
+-- For most public calls of the crate, `copy`, `from_slice`, `lex` among them.
 use Rattle.std.proofs.Common.{◌≡◌, ◌≢◌, ℕ, ◌+◌, ◌<◌, ◌≤◌, List, [], ◌∷◌, ◌++◌, length, take, drop, slice_index, Option, Some, None, option_and_then, Bool, true, false, cond, ◌==◌, IsTrue, refl, sym, ◌∙◌, ap, subst, arith, ◌⊎◌, inl, inr, true≢false, add-one, take-suc, ◌-◌, length-drop, get_or-drop}
 use Rattle.std.proofs.Math.Seq.{take-add}
 use Rattle.std.proofs.lemmas.Option.{none-some, same_Some, option_and_then_some}

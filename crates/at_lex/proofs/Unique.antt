@@ -1,4 +1,5 @@
 -- A piece has one list of items from a state: its bytes can be split in one way.
+-- For most public calls of the crate, `copy`, `from_slice`, `lex` among them.
 use Rattle.std.proofs.Common.{◌≡◌, ◌≢◌, ℕ, ◌+◌, ◌⊎◌, inl, inr, List, [], ◌∷◌, ◌++◌, length, Bool, true, false, cond, ◌==◌, ◌||◌, not, IsTrue, refl, sym, ◌∙◌, ap, subst, arith, true≢false, append-nil}
 use Rattle.std.specs.List.{AllByRecursion}
 use Rattle.at_text.specs.Texts.{is_space, is_run, is_one_of}

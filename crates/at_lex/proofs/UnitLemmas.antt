@@ -1,4 +1,5 @@
 -- The units of a string from left to right: what each step over its first bytes gives.
+-- For `units`.
 use Rattle.std.proofs.Common.{◌≡◌, ◌≢◌, ℕ, zero, suc, ◌+◌, ◌-◌, ◌<◌, ◌≤◌, min, List, [], ◌∷◌, ◌++◌, length, take, drop, slice_index, flat_map, Option, Some, None, Bool, true, false, ◌==◌, ◌&&◌, nat_lt, refl, sym, ◌∙◌, ap, subst, arith, true≢false, append-nil, length-append, length-take, length-drop, map}
 use Rattle.std.specs.List.{list_any}
 use Rattle.std.specs.Str.{is_utf8, chars, IsAscii}

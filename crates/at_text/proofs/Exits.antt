@@ -1,4 +1,5 @@
 -- The exits of `?` where a reader stops at a place or for want of memory.
+-- For the crates above.
 use Rattle.std.proofs.Common.{◌≡◌, ℕ, Result, Ok, Err, sym, subst}
 use Rattle.std.specs.Result.{MatchResult, IsErrAnd}
 use Rattle.at_text.specs.declared.halts.Halt.{Halt}

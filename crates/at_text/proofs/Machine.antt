@@ -1,5 +1,6 @@
 -- How a machine that reads bytes one by one, and every state of which can still end well, gives the longest
 -- viable prefix. `Rest s` is what may follow in the state s, told without the machine.
+-- For the crates above.
 use Rattle.std.proofs.Common.{◌≡◌, ℕ, ◌+◌, ◌<◌, ◌≤◌, List, [], ◌∷◌, ◌++◌, length, take, drop, slice_index, Option, Some, None, option_and_then, Bool, IsTrue, ◌↔◌, sym, ◌∙◌, ap, subst, append_assoc, append-nil, arith, take-suc, take-append-drop, take-take, add-one, lt_of_lt_of_le, ◌⊎◌, inl, inr}
 use Rattle.std.proofs.lemmas.Option.{none-some, same_Some, option_and_then_some}
 use native.Mathlib.Decide.{dec_lt}
