@@ -1,4 +1,5 @@
 -- What follows the front of a made file's name, and which names are in order.
+-- For `read_words` and `top`.
 use Rattle.std.proofs.Common.{◌≡◌, ℕ, ◌^◌, ◌≤◌, ◌↔◌, ◌⊎◌, inl, inr, List, ◌∷◌, length, sym, ◌∙◌, ap, subst, Option, Some, None, IfSome, is_some, Bool, true, IsTrue, MatchOption, codes, option_to_list}
 use Rattle.std.proofs.lemmas.Option.{none-some, same_Some}
 use Rattle.std.specs.Borrow.{Bor}

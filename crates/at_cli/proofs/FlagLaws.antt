@@ -1,4 +1,5 @@
 -- The first of several options that a word may be, as it is shown.
+-- For `read_words` and `top`.
 use Rattle.std.proofs.Common.{◌≡◌, ◌∙◌, ap, Option, Some, None, option_map}
 use Rattle.std.specs.Option.{option_or}
 

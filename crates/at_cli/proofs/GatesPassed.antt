@@ -1,4 +1,5 @@
 -- Where files have an answer, the gate gave up none of their blocks, and no cell.
+-- For `top`.
 use Rattle.std.proofs.Common.{◌≡◌, ℕ, ◌-◌, List, length, Option, Some, None, Result, Ok, Err, IfOk, sym, subst, arith}
 use Rattle.at_query.specs.declared.answer.answers.Answer.{Answer}
 use Rattle.at_run.specs.declared.faults.RunFault.{RunFault}

@@ -1,4 +1,5 @@
 -- How the content of a sink grows by one text after another.
+-- For `tell_no_memory` and `top`.
 use Rattle.std.proofs.Common.{◌≡◌, ℕ, ◌+◌, ◌-◌, ◌<◌, ◌≤◌, inl, inr, List, [], ◌++◌, length, take, drop, get_or, take-append-drop, suc, Option, Some, None, sym, ◌∙◌, ap, append_assoc, append-nil, arith, length-append, subst}
 use Rattle.std.proofs.lemmas.List.{take-append-le}
 use Rattle.std.proofs.Math.Seq.{take-append-add, take-add, drop-cons}

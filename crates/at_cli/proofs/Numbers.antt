@@ -1,4 +1,5 @@
 -- Numbers that are read from a text of decimal digits, with no sign and no leading zero.
+-- For `made_file`, `read_words` and `top`.
 use Rattle.std.proofs.Common.{◌≡◌, ◌≢◌, ℕ, zero, suc, ◌<◌, ◌≤◌, ◌^◌, List, length, get_or, sym, ◌∙◌, ap, subst, Result, Ok, Err, decimal, MatchOption, ◌⊎◌, inl, inr, arith}
 use Rattle.std.specs.Result.{result_ok}
 use Rattle.std.specs.Str.Parse.{ParsesUnsigned, AllDigits, IsNumeral, digits_value, without_leading_plus}

@@ -1,4 +1,5 @@
 -- A file of any form has one first fault, or none, one answer to a query, and two files have one join; and where there is one, there is no fault.
+-- For `top`.
 use Rattle.std.proofs.Common.{◌≡◌, ℕ, List, Option, Some, None, subst}
 use Rattle.std.proofs.lemmas.Option.{none-some}
 use Rattle.at_text.specs.declared.faults.Fault.{Fault}

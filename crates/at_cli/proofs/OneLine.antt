@@ -1,4 +1,5 @@
 -- Each list of words says at most one line: the one of what is gathered from it.
+-- For `read_words` and `top`.
 use Rattle.std.proofs.Common.{◌≡◌, ℕ, ◌^◌, ◌<◌, ◌≤◌, List, [], ◌∷◌, ◌++◌, get_or, length, refl, sym, ◌∙◌, ap, subst, Option, Some, None, Result, Ok, Err, IfOk, IfErr, ◌↔◌, option_and_then, option_to_list, codes, lit<, arith, inl, inr}
 use Rattle.std.proofs.lemmas.Option.{none-some, same_Some, option_and_then_some}
 use Rattle.std.proofs.lemmas.Fmt.{decimal_injective}

@@ -1,4 +1,5 @@
 -- The words and the files have at most one outcome: a law of the definitions, which no function's contract is needed for.
+-- For `top`.
 use Rattle.std.proofs.Common.{◌≡◌, inl, inr, ℕ, ◌<◌, ◌≤◌, ◌^◌, Bool, true, false, List, [], length, Option, Some, None, refl, sym, ◌∙◌, ap, subst, arith, true≢false}
 use Rattle.std.proofs.lemmas.Option.{none-some, same_Some}
 use Rattle.at_io.specs.Files.{Files}

@@ -1,4 +1,5 @@
 -- The words say what is said of what is gathered from them, and nothing else.
+-- For `read_words` and `top`.
 use Rattle.std.proofs.Common.{◌≡◌, ℕ, List, Option, Some, None, MatchOption, sym}
 use Rattle.at_cli.specs.declared.words.line.Line.{Line}
 use Rattle.at_cli.specs.declared.words.said.Said.{Said}

@@ -1,4 +1,5 @@
 -- What the shelf was asked for, name after name, and what the end is over the names' bytes.
+-- For `top`.
 use Rattle.std.proofs.Common.{◌≡◌, ℕ, ◌+◌, ◌*◌, ◌^◌, ◌<◌, ◌≤◌, ◌⊎◌, inl, inr, Bool, true, false, if◌then◌else◌, List, [], ◌∷◌, ◌++◌, length, Option, Some, None, IfSome, is_some, Result, Err, refl, sym, ◌∙◌, ap, subst, arith, append-nil, append_assoc, length-append, true≢false}
 use Rattle.std.proofs.lemmas.Option.{none-some, same_Some}
 use Rattle.std.specs.Prelude.{IsSome}

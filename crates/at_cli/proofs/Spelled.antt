@@ -1,4 +1,5 @@
 -- The words that are read one by one are the words of pieces, and the words of pieces are read one by one.
+-- For `read_words` and `top`.
 use Rattle.std.proofs.Common.{◌≡◌, ℕ, ◌<◌, ◌≤◌, Bool, true, false, cond, List, [], ◌∷◌, ◌++◌, flat_map, length, refl, sym, ◌∙◌, ap, subst, append_assoc, append-nil, length-append, Option, Some, None, option_map, option_and_then, option_to_list, arith, bytes_eq, codes, nat_lt}
 use Rattle.std.proofs.lemmas.Slice.Eq.{bytes_eq-Decides}
 use Rattle.std.proofs.lemmas.Bool.{lt-ltb}

@@ -1,4 +1,5 @@
 -- The atom of an array by the sort of its items.
+-- For `add`, `array` and `value`.
 use Rattle.std.proofs.Common.{◌≡◌, ◌≢◌, inl, inr, ℕ, Bool, List, [], ◌∷◌, Some, None, refl, sym, ◌∙◌, ap, subst}
 use Rattle.at_nest.specs.Folds.{AreFolds}
 use Rattle.at_nest.specs.Tree.{array, Trees, no_trees, tree_and}

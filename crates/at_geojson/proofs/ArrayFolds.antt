@@ -1,4 +1,5 @@
 -- Arrays: what is made of their items is what the definitions read of the array in each role.
+-- For `add`, `array`, `object` and `value`.
 use Rattle.std.proofs.Common.{◌≡◌, ℕ, ◌<◌, ◌≤◌, ◌==◌, min, fold, Bool, true, false, ◌&&◌, ◌||◌, if◌then◌else◌, List, [], ◌∷◌, nat_lt, slice_get, Option, Some, None, refl, sym, ◌∙◌, ap, subst, arith}
 use Rattle.std.specs.List.{list_any}
 use Rattle.std.proofs.lemmas.Bool.{true≢false, ltb-true, ltb-false, eqb-true}

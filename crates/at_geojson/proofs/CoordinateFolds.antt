@@ -1,4 +1,5 @@
 -- Arrays of coordinates: what they are made of items that are all of one sort is what the definitions read of the array.
+-- For `add`, `array`, `object` and `value`.
 use Rattle.std.proofs.Common.{◌≡◌, ℕ, zero, suc, ◌-◌, ◌≤◌, pos, Bool, true, false, not, ◌&&◌, ◌||◌, if◌then◌else◌, List, [], ◌∷◌, ◌++◌, length, map, flat_map, slice_get, Option, Some, None, is_some, is_none, option_map, option_and_then, option_to_list, refl, sym, ◌∙◌, ap, subst, arith}
 use Rattle.std.specs.Ordering.{int_eq}
 use Rattle.std.proofs.lemmas.Bool.{true≢false, le-ltb}

@@ -1,4 +1,5 @@
 -- What a copy is in each role is what the atom is.
+-- For `add`, `array`, `copy`, `object` and `value`.
 use Rattle.std.proofs.Common.{◌≡◌, inl, inr, ℕ, List, Option, Some, All, refl, sym, ◌∙◌, ap, subst}
 use Rattle.std.proofs.lemmas.Option.{none-some}
 use Rattle.at_text.specs.declared.faults.Fault.{Fault}

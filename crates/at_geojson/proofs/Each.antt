@@ -1,4 +1,5 @@
 -- Lists of atoms beside the trees for which they stand: what each item is in a role, and when one has not the role.
+-- For `add`, `array`, `object` and `value`.
 use Rattle.std.proofs.Common.{◌≡◌, suc, Bool, true, false, ◌&&◌, if◌then◌else◌, List, [], ◌∷◌, length, map, flat_map, Option, Some, None, is_some, option_map, option_and_then, refl, sym, ◌∙◌, ap}
 use Rattle.std.specs.List.{list_all}
 use Rattle.std.proofs.lemmas.Bool.{true≢false}

@@ -1,4 +1,5 @@
 -- The first of the faults that a pass over a list finds, and the first fault of joined lists.
+-- For `add`, `array`, `object`, `root_part` and `value`.
 use Rattle.std.proofs.Common.{◌≡◌, Bool, true, false, if◌then◌else◌, List, [], ◌∷◌, fold, Option, Some, None, refl, sym, ◌∙◌, ap}
 use Rattle.std.proofs.lemmas.Option.{none-some}
 use Rattle.at_text.specs.Faults.{comes_first, first_fault, first_of}

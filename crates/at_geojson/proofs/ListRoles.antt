@@ -1,4 +1,5 @@
 -- Trees one behind another: what a position and a list of positions are not, and what is read of joined lists of trees.
+-- For `add`, `array` and `value`.
 use Rattle.std.proofs.Common.{◌≡◌, ℕ, List, [], ◌∷◌, ◌++◌, Option, Some, None, refl, sym, ◌∙◌, ap, option_map, option_and_then}
 use Rattle.std.proofs.lemmas.Option.{none-some}
 use Rattle.at_fixed.specs.Numerals.{Numeral}

@@ -1,4 +1,5 @@
 -- Members of an object: equal names among them, and the value of a name.
+-- For `object` and `value`.
 use Rattle.std.proofs.Common.{◌≡◌, ℕ, Bool, true, false, ◌||◌, if◌then◌else◌, bytes_eq, codes, List, [], ◌∷◌, ◌++◌, Option, Some, None, option_and_then, refl, sym, ◌∙◌, ap, subst}
 use Rattle.std.proofs.lemmas.List.Folds.{list_any-append}
 use Rattle.at_text.specs.Faults.{first_fault, first_of, fault_at}

@@ -1,4 +1,5 @@
 -- Arrays of which some items stand for several values, and which are neither all lists of positions nor all positions.
+-- For `add`, `array` and `value`.
 use Rattle.std.proofs.Common.{◌≡◌, inl, inr, ℕ, ◌≤◌, min, fold, Bool, true, false, ◌&&◌, ◌||◌, List, [], ◌∷◌, ◌++◌, Option, Some, None, is_some, refl, sym, ◌∙◌, ap, subst, append-nil, append_assoc, option_map, option_and_then, arith}
 use Rattle.std.specs.List.{list_all, list_any}
 use Rattle.std.proofs.Math.Nat.{min-eq_left}

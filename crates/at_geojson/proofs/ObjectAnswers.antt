@@ -1,4 +1,5 @@
 -- The atom of an object, by the kind that it says it is.
+-- For `object` and `value`.
 use Rattle.std.proofs.Common.{◌≡◌, ℕ, codes, List, Option, Some, None, Result, refl, sym, subst}
 use Rattle.at_text.specs.Faults.{first_of, fault_at}
 use Rattle.at_text.specs.declared.faults.Fault.{Fault}

@@ -1,4 +1,5 @@
 -- An object in each role, from what its members are.
+-- For `object` and `value`.
 use Rattle.std.proofs.Common.{◌≡◌, ℕ, Bool, true, false, cond, if◌then◌else◌, codes, List, [], ◌∷◌, ◌++◌, Option, Some, None, Result, Ok, Err, refl, sym, ◌∙◌, ap, subst, append-nil}
 use Rattle.std.proofs.lemmas.Bool.{true≢false}
 use Rattle.at_text.specs.Faults.{first_fault, first_of, fault_at}

@@ -1,4 +1,5 @@
 -- A number's value is in range.
+-- For `add`, `array`, `scalar` and `value`.
 use Rattle.std.proofs.Common.{◌≡◌, ℕ, zero, suc, ◌+◌, ◌*◌, ◌^◌, ◌≤◌, ℤ, pos, nat_abs, Bool, true, false, length, Result, Ok, Err, refl, sym, ◌∙◌, subst, arith}
 use Rattle.std.specs.Prelude.{neg_ℤ}
 use Rattle.std.proofs.Math.Nat.{le_of_mul-le-mul_right}

@@ -1,4 +1,5 @@
 -- Lists of positions, and areas, one behind another: what is kept of them is what is kept of the list of their atoms.
+-- For `value`.
 use Rattle.std.proofs.Common.{◌≡◌, ℕ, ◌+◌, ◌<◌, ◌≤◌, ◌==◌, min, Bool, true, ◌&&◌, List, Option, [], ◌∷◌, ◌++◌, All, map, length, slice_index, None, refl, sym, ◌∙◌, ap, subst, arith}
 use Rattle.std.proofs.Math.Nat.{min-eq_left}
 use Rattle.std.proofs.lemmas.List.{map-append}

@@ -1,4 +1,5 @@
 -- What an atom ends in as a whole text is the answer of each tree for which it stands.
+-- For `root_part`.
 use Rattle.std.proofs.Common.{◌≡◌, ℕ, [], ◌++◌, Option, Some, None, Result, Ok, Err, refl, sym, ◌∙◌, ap, subst}
 use Rattle.at_text.specs.Faults.{first_of, fault_at}
 use Rattle.at_text.specs.declared.faults.Fault.{Fault}

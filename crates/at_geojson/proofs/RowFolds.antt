@@ -1,4 +1,5 @@
 -- Rows of positions: what is made of them is what is made of the list of their atoms.
+-- For `add`, `array` and `value`.
 use Rattle.std.proofs.Common.{◌≡◌, ℕ, ◌+◌, ◌<◌, ◌≤◌, ◌⊎◌, inl, inr, min, Bool, true, false, not, ◌&&◌, ◌||◌, ◌==◌, if◌then◌else◌, nat_lt, List, [], ◌∷◌, ◌++◌, All, fold, map, length, slice_index, None, is_none, refl, sym, ◌∙◌, ap, subst, arith, append-nil}
 use Rattle.std.specs.Ordering.{int_eq}
 use Rattle.std.proofs.Math.Nat.{min-eq_left}

@@ -1,4 +1,5 @@
 -- Arrays of which some items are a run: what their items are one behind another.
+-- For `add`, `array` and `value`.
 use Rattle.std.proofs.Common.{◌≡◌, inl, inr, ◌⊎◌, ℕ, Bool, true, false, ◌||◌, List, [], ◌∷◌, ◌++◌, All, Option, Some, None, is_some, refl, sym, ◌∙◌, ap, subst, append-nil, append_assoc}
 use Rattle.std.proofs.Common.{option_map, option_and_then}
 use Rattle.std.specs.List.{list_any}

@@ -1,4 +1,5 @@
 -- Faults of equal names are of the third tier and faults of roles of the fourth: of both, the first is the first of equal names where there is one.
+-- For `root_part`.
 use Rattle.std.proofs.Common.{◌≡◌, ℕ, Bool, true, false, not, ◌||◌, nat_lt, if◌then◌else◌, codes, List, [], ◌∷◌, ◌++◌, length, map, flat_map, Option, Some, None, Result, Ok, Err, option_to_list, IfSome, ℤ, refl, ◌∙◌, ap, subst}
 use Rattle.std.specs.List.{AllByRecursion}
 use Rattle.at_text.specs.Faults.{comes_first, first_fault, first_of, tier_of, fault_at}

@@ -1,4 +1,5 @@
 -- The first fault of equal names among members, one member more.
+-- For `object` and `value`.
 use Rattle.std.proofs.Common.{◌≡◌, ℕ, Bor, Bool, true, false, not, cond, ◌||◌, bytes_eq, suc, ◌+◌, ◌==◌, ◌<◌, ◌≤◌, List, [], ◌∷◌, ◌++◌, Contains, length, map, take, drop, get_or, Option, refl, sym, ◌∙◌, ap, subst, arith}
 use Rattle.std.specs.Ordering.{nat_cmp}
 use Rattle.std.specs.Cmp.Lexicographic.{slice_cmp, nat_list_eq_equiv}

@@ -1,4 +1,5 @@
 -- What the readers of whole values find of a text: the parts that they read spell trees, for which the atoms stand.
+-- For `add`, `array` and `value`.
 use Rattle.std.proofs.Common.{false, None, Result, Err, if◌then◌else◌, ◌≡◌, ℕ, zero, suc, ◌+◌, ◌-◌, ◌<◌, ◌≤◌, min, inl, inr, ℤ, true, Some, Ok, List, [], ◌∷◌, ◌++◌, All, length, take, drop, slice_index, take-append-drop, refl, sym, ◌∙◌, ap, subst, arith}
 use Rattle.std.specs.List.{list_any}
 use Rattle.std.proofs.Math.Nat.{min-eq_left}

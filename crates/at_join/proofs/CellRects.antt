@@ -1,4 +1,5 @@
 -- A cell's positions are those of its rectangle.
+-- For `cell_pairs`, `merge`, `new`, `pairs_grid`, `pairs_plain` and `run`.
 use Rattle.std.proofs.Common.{◌≡◌, ℕ, ◌+◌, ◌*◌, ◌/◌, ◌%◌, ◌<◌, ◌≤◌, ◌==◌, Bool, true, false, ℤ, pos, nat_abs, ◌≤ℤ◌, ◌+ℤ◌, ◌-ℤ◌, inl, inr, arith, refl, sym}
 use Rattle.std.specs.Prelude.{IsTrue}
 use Rattle.std.proofs.Math.Nat.{mul-le-mul_right, div-mul-le_self, lt-div-mul-add}

@@ -1,4 +1,5 @@
 -- Extents that touch, enclose one another, and are round the positions of a shape.
+-- For `cell_pairs`, `merge`, `new`, `pairs_grid`, `pairs_plain` and `run`.
 use Rattle.std.proofs.Common.{◌≡◌, Bool, true, false, ◌&&◌, ◌≤ℤ◌, ◌+ℤ◌, pos, List, [], ◌∷◌, Option, Some, None, arith, refl, sym, subst}
 use Rattle.std.specs.Prelude.{int_le, IsTrue}
 use Rattle.std.specs.List.{AllByRecursion}

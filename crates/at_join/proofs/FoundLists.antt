@@ -1,4 +1,5 @@
 -- What is found in a list: in its parts, one element after another, and past elements that haven't the property.
+-- For `cell_pairs`, `merge`, `new`, `pairs_grid`, `pairs_plain` and `run`.
 use Rattle.std.proofs.Common.{◌≡◌, ℕ, zero, suc, ◌+◌, ◌-◌, ◌<◌, ◌≤◌, Bool, List, [], ◌∷◌, ◌++◌, length, get_or, take, drop, map, arith, refl, sym, ap, subst, ◌∙◌, inl, inr}
 use Rattle.std.specs.Prelude.{count_by, cond}
 use Rattle.std.proofs.lemmas.List.{append_assoc, append-nil, map-append, take_all, take-append-drop}

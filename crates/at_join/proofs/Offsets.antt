@@ -1,4 +1,5 @@
 -- Offsets that rise: each stands once, so a pair of offsets names one pair of entries.
+-- For `cell_pairs`, `merge`, `new`, `pairs_grid`, `pairs_plain` and `run`.
 use Rattle.std.proofs.Common.{◌≡◌, ℕ, zero, suc, ◌+◌, ◌<◌, ◌==◌, Bool, true, false, ◌&&◌, cond, List, [], ◌∷◌, ◌++◌, map, Option, Some, None, inl, inr, arith, refl, sym, ap, subst, ◌∙◌}
 use Rattle.std.specs.Prelude.{count_by, Contains}
 use Rattle.std.specs.List.{AllByRecursion}

@@ -1,4 +1,5 @@
 -- The places of a side: what each stands for, and what is no pair of a cell.
+-- For `cell_pairs`, `merge`, `new`, `pairs_grid`, `pairs_plain` and `run`.
 use Rattle.std.proofs.Common.{◌≡◌, ℕ, ◌+◌, ◌<◌, true, false, List, [], ◌∷◌, ◌++◌, length, length-append, get_or, Option, Some, None, arith, refl, sym, subst, ◌∙◌}
 use Rattle.std.specs.Prelude.{All}
 use Rattle.std.specs.List.{AllByRecursion}

@@ -1,4 +1,5 @@
 -- Lists without some elements that haven't a property: what is found in them is what is found in the whole.
+-- For `cell_pairs`, `merge` and `run`.
 use Rattle.std.proofs.Common.{◌≡◌, ◌≤◌, Bool, List, [], ◌∷◌, ◌++◌, map, arith, refl, sym, ap, subst, ◌⊎◌, inl, inr}
 use Rattle.std.specs.Prelude.{count_by, cond}
 use Rattle.std.specs.List.{AllByRecursion}

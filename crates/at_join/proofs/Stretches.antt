@@ -1,4 +1,5 @@
 -- Stretches of a side's places: what is near one, and what is found with these is found with all.
+-- For `cell_pairs`, `merge` and `run`.
 use Rattle.std.proofs.Common.{◌≡◌, ℕ, ◌+◌, ◌-◌, ◌<◌, ◌≤◌, Bool, true, List, [], ◌++◌, length, get_or, take, drop, map, arith, sym, ap, subst, ◌∙◌}
 use Rattle.std.specs.Prelude.{All, count_by, cond}
 use Rattle.std.proofs.lemmas.List.{get_or-drop, get_or-take, map-id}

@@ -1,4 +1,5 @@
 -- A whole value, and an opening bracket alone, as what is read of the bytes from the bracket on.
+-- For `merge` and `run_block`.
 use Rattle.std.proofs.Common.{◌≡◌, ℕ, inl, inr, List, [], ◌∷◌, ◌++◌, Option, None, true, false, true≢false, refl, sym, ◌∙◌, ap, subst, arith, append_assoc, ◌+◌, ◌<◌, suc, length}
 use Rattle.at_text.specs.Texts.{is_run}
 use Rattle.at_lex.specs.Runs.{JsonRun, Literal, literal_text, the_null, the_true, the_false}

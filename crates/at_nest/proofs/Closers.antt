@@ -1,4 +1,5 @@
 -- Closing brackets one right behind another: one more of them, and all of them put behind what is kept.
+-- For `finish`, `finish_span`, `merge` and `run_block`.
 use Rattle.std.proofs.Common.{◌≡◌, ℕ, ◌+◌, ◌-◌, ◌%◌, ◌<◌, ◌≤◌, zero, suc, Option, Some, None, List, [], ◌∷◌, ◌++◌, inl, inr, is_some, true, false, true≢false, refl, sym, ◌∙◌, ap, subst, append_assoc, arith, length, take, slice_set}
 use Rattle.std.proofs.Math.Nat.{add-mod_right}
 use Rattle.std.proofs.lemmas.Option.{none-some}

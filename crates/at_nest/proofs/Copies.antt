@@ -1,4 +1,5 @@
 -- A copy stands for all that the first stands for.
+-- For `finish`, `finish_span`, `merge` and `run_block`.
 use Rattle.std.proofs.Common.{◌≡◌, ℕ, List, [], ◌∷◌, ◌++◌, refl, sym, ◌∙◌, ap, subst, All, add-one, take-suc, get_or, take, length, ◌+◌, ◌<◌, inl, inr}
 use Rattle.std.proofs.lemmas.List.Elements.{All-nil, All-cons}
 use Rattle.at_lex.specs.Strings.{Character, units_of}

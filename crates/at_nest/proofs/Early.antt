@@ -1,4 +1,5 @@
 -- An early stop before an unmatched closer: where each state between tokens refuses the pieces by one place, no bytes before make that place viable.
+-- A law of the definitions: no contract rests on it.
 use Rattle.std.proofs.Common.{◌≡◌, ℕ, List, [], ◌∷◌, ◌++◌, Some, None, Bool, true, false, cond, not, ◌&&◌, refl, sym, ◌∙◌, ap, subst, arith, ◌+◌, ◌≤◌, length, true≢false}
 use Rattle.std.proofs.lemmas.Option.{none-some, same_Some, option_and_then_some}
 use Rattle.std.proofs.lemmas.Bool.{not-true}

@@ -1,4 +1,5 @@
 -- What the form of a whole text answers: the fold of its tree, or the end of the longest viable prefix.
+-- For `finish`, `finish_span`, `merge` and `run_block`.
 use Rattle.std.proofs.Common.{◌≡◌, ℕ, suc, ◌⊎◌, inl, inr, List, [], ◌∷◌, ◌++◌, Some, None, option_and_then, Bool, true, false, cond, ◌&&◌, refl, sym, ◌∙◌, ap, subst, arith, append_assoc, append-nil, ◌+◌, ◌<◌, ◌≤◌, length, length-append, take, drop, slice_index, take-append-drop, true≢false}
 use Rattle.std.proofs.lemmas.Bool.{not-true}
 use Rattle.std.proofs.Math.Seq.{take-append_seam, take-length, get_or-append_seam}

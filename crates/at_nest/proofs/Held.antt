@@ -1,4 +1,5 @@
 -- What an item does to what is kept, and to the items that it stands for: the two go on standing for each other.
+-- For `finish`, `finish_span`, `merge` and `run_block`.
 use Rattle.std.proofs.Common.{◌≡◌, ℕ, true, false, Option, Some, None, List, [], ◌∷◌, ◌++◌, refl, sym, ◌∙◌, ap, subst, inl, inr, All, append-nil, append_assoc, true≢false}
 use Rattle.std.proofs.lemmas.List.Elements.{All-nil, All-cons, All-head, All-tail}
 use Rattle.std.specs.Bool.{⊤}

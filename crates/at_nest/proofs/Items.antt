@@ -1,4 +1,5 @@
 -- The items of a piece, read one by one: what has been read stands in a form, and what is left is with the reader.
+-- For `merge` and `run_block`.
 use Rattle.std.proofs.Common.{◌≡◌, ◌≢◌, ℕ, Option, Some, None, List, [], ◌∷◌, ◌++◌, Bool, true, false, not, ◌&&◌, IsTrue, refl, sym, ◌∙◌, ap, subst, arith, append_assoc, append-nil, ◌+◌, ◌-◌, ◌≤◌, ◌<◌, suc, length, length-append, take, drop, if◌then◌else◌}
 use Rattle.std.proofs.Math.Seq.{take-append_seam, drop-append_seam}
 use Rattle.std.specs.Bool.{⊤}

@@ -1,4 +1,5 @@
 -- All items of the span behind, put behind what is kept.
+-- For `finish`, `finish_span`, `merge` and `run_block`.
 use Rattle.std.proofs.Common.{◌≡◌, ℕ, Option, Some, None, List, [], ◌∷◌, ◌++◌, true, false, true≢false, is_some, refl, sym, ◌∙◌, ap, subst, append_assoc, append-nil, arith, length}
 use Rattle.std.proofs.lemmas.Option.{same_Some, option_and_then_some}
 use Rattle.std.specs.Vec.Iter.{into_iter_items, into_iter_steps}

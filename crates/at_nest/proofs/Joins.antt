@@ -1,4 +1,5 @@
 -- Forms of joined bytes, where forms may be cut, and what viable bytes say of the machine.
+-- For `finish`, `finish_span`, `merge` and `run_block`.
 use Rattle.std.proofs.Common.{◌≡◌, ℕ, List, [], ◌∷◌, ◌++◌, Some, option_and_then, true, false, not, ◌&&◌, refl, sym, ◌∙◌, ap, subst, arith, append_assoc, append-nil, ◌+◌, length, length-append}
 use Rattle.std.proofs.lemmas.Option.{option_and_then_some}
 use Rattle.at_text.specs.Prefix.{Viable}

@@ -1,4 +1,5 @@
 -- A machine for JSON texts, with a stack of what is open, and that it is one for the grammar.
+-- For `finish`, `finish_span`, `merge` and `run_block`.
 use Rattle.std.proofs.Common.{◌≡◌, ℕ, ◌⊎◌, inl, inr, ◌↔◌, List, [], ◌∷◌, ◌++◌, Option, Some, None, option_map, IsTrue, Bool, true, false, cond, ◌&&◌, ◌==◌, refl, sym, ◌∙◌, ap, subst, arith, true≢false, append_assoc, append-nil, codes, ◌+◌, ◌<◌, ◌≤◌, length, take, slice_index}
 use Rattle.std.proofs.lemmas.Option.{none-some, same_Some}
 use Rattle.std.proofs.lemmas.Bool.{eqb-true, and_parts}

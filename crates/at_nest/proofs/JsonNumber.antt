@@ -1,4 +1,5 @@
 -- The machine of JSON numbers: that of all numbers, in JSON's notation.
+-- For `finish`, `finish_span`, `merge` and `run_block`.
 use Rattle.std.proofs.Common.{ℕ, List, ◌↔◌}
 use Rattle.at_text.proofs.Machine.{IsMachine}
 use Rattle.at_fixed.specs.Numerals.{JsonNumber}

@@ -1,4 +1,5 @@
 -- How the last bytes of a text read, and the answer of a text that ends in them.
+-- For `finish`, `finish_span`, `merge` and `run_block`.
 use Rattle.std.proofs.Common.{◌≡◌, ℕ, inl, inr, List, [], ◌∷◌, ◌++◌, Option, Some, None, Bool, true, false, Result, Err, refl, sym, ◌∙◌, ap, subst, append-nil, ◌+◌, ◌<◌, length, take, true≢false}
 use Rattle.std.proofs.Math.Seq.{take-length}
 use Rattle.std.proofs.lemmas.Option.{same_Some, none-some}

@@ -1,4 +1,5 @@
 -- The lexical state in each state of the machine, and what an opening bracket leads to.
+-- For `finish`, `finish_span`, `merge` and `run_block`.
 use Rattle.std.proofs.Common.{◌≡◌, ℕ, ◌⊎◌, inl, inr, List, [], ◌∷◌, Option, Some, None, option_map, Bool, true, false, cond, ◌==◌, refl, sym, ◌∙◌, ap, subst, true≢false, codes}
 use Rattle.std.proofs.lemmas.Option.{none-some, same_Some, option_and_then_some}
 use Rattle.std.proofs.lemmas.Bool.{eqb-true}

@@ -1,4 +1,5 @@
 -- What a longest viable prefix says of the machine: it goes through, and stops at the next byte. And a string cut in two is read by it.
+-- For `finish`, `finish_span`, `merge` and `run_block`.
 use Rattle.std.proofs.Common.{◌≡◌, ℕ, ◌⊎◌, inl, inr, List, [], ◌∷◌, ◌++◌, Option, Some, None, option_and_then, Bool, refl, ◌∙◌, ap, add-one, take-suc, ◌+◌, ◌<◌, length, take, slice_index}
 use Rattle.at_text.specs.Prefix.{LongestViable}
 use Rattle.at_text.proofs.Machine.{IsMachine, run, run-rest, run_more}

@@ -1,4 +1,5 @@
 -- Neighbouring spans that begin and end between tokens: what stands for each gives, merged, what stands for both.
+-- For `finish`, `finish_span`, `merge` and `run_block`.
 use Rattle.std.proofs.Common.{◌≡◌, ℕ, List, [], ◌∷◌, ◌++◌, true, not, ◌&&◌, refl, sym, ◌∙◌, ap, subst, append_assoc, append-nil, ◌+◌, length}
 use Rattle.at_text.specs.Prefix.{Viable}
 use Rattle.at_lex.specs.declared.tokens.Start.TheVariants.{Out}

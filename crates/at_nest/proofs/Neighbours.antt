@@ -1,4 +1,5 @@
 -- Two spans that stand one behind the other: what stands for each gives what stands for both.
+-- For `finish`, `finish_span` and `merge`.
 use Rattle.std.proofs.Common.{◌≡◌, ℕ, Option, Some, None, List, [], ◌∷◌, ◌++◌, true, refl, sym, ◌∙◌, ap, subst, arith, append_assoc, append-nil, ◌+◌, ◌-◌, ◌≤◌, length, length-append, take, drop, inl, inr}
 use Rattle.std.proofs.Math.Seq.{take-append_seam, drop-append_seam}
 use Rattle.at_text.specs.declared.texts.Span.{Span}

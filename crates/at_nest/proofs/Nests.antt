@@ -1,4 +1,5 @@
 -- The last of what is open, and arrays with nothing in them that are it.
+-- For `finish`, `finish_span`, `merge` and `run_block`.
 use Rattle.std.proofs.Common.{◌≡◌, ℕ, ◌-◌, zero, suc, Option, Some, None, List, [], ◌∷◌, ◌++◌, option_to_list, refl, sym, ◌∙◌, ap, subst, append-nil, append_assoc, arith, length, take, Ok, Err, MatchOption}
 use Rattle.std.proofs.lemmas.Option.{none-some, same_Some}
 use Rattle.std.specs.List.{slice_get, slice_set}

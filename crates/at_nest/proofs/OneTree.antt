@@ -1,4 +1,5 @@
 -- A text spells at most one tree: white space and runs go on as long as they can, and the byte behind them tells what stands there.
+-- For `finish`, `finish_span`, `merge` and `run_block`.
 use Rattle.std.proofs.Common.{◌≡◌, ℕ, List, [], ◌∷◌, ◌++◌, Option, Some, Bool, true, false, cond, ◌==◌, IsTrue, flat_map, refl, sym, ◌∙◌, ap, subst, arith, append_assoc, append-nil, ◌+◌, length, true≢false}
 use Rattle.std.specs.List.{AllByRecursion}
 use Rattle.std.proofs.lemmas.Option.{none-some, option_and_then_some}

@@ -1,4 +1,5 @@
 -- A text that ends in a run or a string that could go on.
+-- For `finish`, `finish_span`, `merge` and `run_block`.
 use Rattle.std.proofs.Common.{◌≡◌, ℕ, ◌⊎◌, inl, inr, List, [], ◌∷◌, ◌++◌, Option, Some, None, option_and_then, Bool, true, false, ◌&&◌, ◌==◌, refl, sym, ◌∙◌, ap, subst, arith, append-nil, codes, ◌+◌, length, true≢false}
 use Rattle.std.proofs.lemmas.Bool.{not-true}
 use Rattle.std.proofs.Math.Seq.{take-length}

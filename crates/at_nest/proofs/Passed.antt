@@ -1,4 +1,5 @@
 -- From what is known of the parts of a text to the tree that it spells: arrays item by item, objects member by member.
+-- For the crates above.
 use Rattle.std.proofs.Common.{◌≡◌, ℕ, List, [], ◌∷◌, ◌++◌, refl, sym, ◌∙◌, ap, subst, arith, append_assoc, append-nil, ◌+◌, ◌<◌, ◌≤◌, length, slice_index}
 use Rattle.at_fixed.specs.NumberSoFar.{between}
 use Rattle.at_fixed.proofs.DigitParts.{part-none, part-more, part-length, part-part, part-cons}

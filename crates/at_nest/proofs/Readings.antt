@@ -1,4 +1,5 @@
 -- How a whole token is read, as the clauses of the readers of strings and runs tell it; and that each reading is right.
+-- For `finish`, `finish_span`, `merge` and `run_block`.
 use Rattle.std.proofs.Common.{◌≡◌, ℕ, List, [], ◌∷◌, ◌++◌, Some, None, true, sym, subst, ◌+◌, length}
 use Rattle.at_text.specs.Prefix.{Viable}
 use Rattle.at_text.specs.Texts.{is_run}

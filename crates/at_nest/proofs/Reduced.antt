@@ -1,4 +1,5 @@
 -- Forms stay reduced; and a stop of a span is dead from the span's start state on.
+-- For `finish`, `finish_span`, `merge` and `run_block`.
 use Rattle.std.proofs.Common.{◌≡◌, ℕ, List, [], ◌∷◌, ◌++◌, Option, Some, None, Bool, true, false, not, ◌&&◌, refl, sym, ◌∙◌, ap, subst, append_assoc}
 use Rattle.at_text.specs.Prefix.{Viable}
 use Rattle.at_lex.specs.declared.tokens.Start.{Start}

@@ -1,4 +1,5 @@
 -- A row of values, each behind a comma: how it grows before the first open level, and what it does to the level behind which it is put.
+-- For `finish`, `finish_span`, `merge` and `run_block`.
 use Rattle.std.proofs.Common.{◌≡◌, ℕ, Option, Some, None, List, [], ◌∷◌, ◌++◌, inl, inr, refl, sym, ◌∙◌, ap, subst, append_assoc, append-nil}
 use Rattle.std.proofs.lemmas.Option.{none-some, same_Some}
 use Rattle.at_nest.specs.declared.levels.ArrayState.TheVariants as array

@@ -1,4 +1,5 @@
 -- A run that is no value: its longest viable prefix, and the byte behind it, stop the machine.
+-- For `finish`, `finish_span`, `merge` and `run_block`.
 use Rattle.std.proofs.Common.{◌≡◌, ℕ, ◌⊎◌, inl, inr, List, [], ◌∷◌, ◌++◌, Option, Some, None, option_map, option_and_then, Bool, true, false, ◌==◌, refl, sym, ◌∙◌, ap, subst, append_assoc, append-nil, codes, ◌+◌, length, true≢false}
 use Rattle.std.proofs.lemmas.Bool.{eqb-true}
 use Rattle.at_text.specs.Prefix.{Viable}

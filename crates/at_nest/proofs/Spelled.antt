@@ -1,4 +1,5 @@
 -- A level that is closed spells an array or an object, and its meaning is built from the marks.
+-- For `finish`, `finish_span`, `merge` and `run_block`.
 use Rattle.std.proofs.Common.{◌≡◌, ℕ, List, [], ◌∷◌, ◌++◌, Option, Some, None, true, false, refl, sym, ◌∙◌, ap, subst, append-nil, ◌+◌, length, true≢false}
 use Rattle.std.proofs.lemmas.Option.{none-some, same_Some, option_and_then_some}
 use Rattle.at_lex.specs.declared.tokens.Bracket.{Bracket}

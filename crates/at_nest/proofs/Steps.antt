@@ -1,4 +1,5 @@
 -- The machine for JSON texts, token by token: what a token leads to, whatever byte comes next.
+-- For `finish`, `finish_span`, `merge` and `run_block`.
 use Rattle.std.proofs.Common.{◌≡◌, ℕ, ◌⊎◌, inl, inr, List, [], ◌∷◌, ◌++◌, Some, None, option_map, option_and_then, Bool, true, false, cond, not, ◌&&◌, refl, sym, ◌∙◌, ap, subst, arith, true≢false}
 use Rattle.std.proofs.lemmas.Bool.{not-true}
 use Rattle.std.specs.Bool.{⊤}

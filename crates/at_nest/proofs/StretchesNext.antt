@@ -1,4 +1,5 @@
 -- What may stand behind stretches of open levels.
+-- For `finish`, `finish_span`, `merge` and `run_block`.
 use Rattle.std.proofs.Common.{◌≡◌, ℕ, List, [], ◌∷◌, ◌++◌, Result, Ok, Err, sym, ◌∙◌, ap, append-nil}
 use Rattle.at_nest.specs.declared.finishing.Next.{Next}
 use Rattle.at_nest.specs.declared.open_levels.Stretch.{Stretch}

@@ -1,4 +1,5 @@
 -- A string that is cut in two and closed: either its text is a JSON string, or a byte in it stops.
+-- For `finish`, `finish_span`, `merge` and `run_block`.
 use Rattle.std.proofs.Common.{◌≡◌, ℕ, List, [], ◌∷◌, ◌++◌, Some, None, Bool, true, false, refl, sym, ap, subst, ◌+◌, length, true≢false, append-nil}
 use Rattle.std.proofs.lemmas.Option.{same_Some, option_and_then_some}
 use Rattle.at_text.proofs.Machine.{run, run-rest}

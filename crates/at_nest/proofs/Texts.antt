@@ -1,4 +1,5 @@
 -- The answer of a whole text, with what is pending at its end.
+-- For `finish`, `finish_span`, `merge` and `run_block`.
 use Rattle.std.proofs.Common.{◌≡◌, ℕ, List, [], ◌∷◌, ◌++◌, Bool, true, sym, ◌∙◌, ap, subst, arith, append-nil, ◌+◌, length}
 use Rattle.at_nest.proofs.JsonMachine.{value}
 use Rattle.at_nest.specs.Borders.{are_apart}

@@ -1,4 +1,5 @@
 -- What the tokens of a piece push, by their kinds.
+-- For `finish`, `finish_span`, `merge` and `run_block`.
 use Rattle.std.proofs.Common.{◌≡◌, ℕ, Option, None, List, [], ◌∷◌, refl, sym, ap, subst, ◌==◌, length, true, false, true≢false, arith, ◌≢◌, slice_index}
 use Rattle.std.proofs.lemmas.Bool.{eqb-true}
 use Rattle.at_lex.specs.Strings.{JsonString}

@@ -1,4 +1,5 @@
 -- What the readers of strings and runs find of a token, told as what the token pushes.
+-- For `finish`, `finish_span`, `merge` and `run_block`.
 use Rattle.std.proofs.Common.{◌≡◌, ◌≢◌, ℕ, zero, suc, ◌⊎◌, inl, inr, List, [], ◌∷◌, ◌++◌, Option, Some, None, Bool, true, false, not, refl, sym, ◌∙◌, ap, subst, arith, append_assoc, append-nil, ◌+◌, ◌-◌, ◌==◌, ◌<◌, ◌≤◌, length, length-append, take, slice_index, true≢false, IsTrue, if◌then◌else◌}
 use Rattle.std.proofs.Math.Seq.{take-append_seam, take-length, get_or-append_seam}
 use Rattle.std.proofs.lemmas.Option.{none-some, same_Some}

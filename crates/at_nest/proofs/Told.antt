@@ -1,4 +1,5 @@
 -- The fold that gives the tree itself, and what an answer tells of the bytes at any offset.
+-- For `finish`, `finish_span`, `merge` and `run_block`.
 use Rattle.std.proofs.Common.{◌≡◌, ℕ, List, Result, Ok, Err, true, false, if◌then◌else◌, refl, sym, ◌∙◌, ap, subst, arith, ◌+◌, ◌<◌, length, nat_lt}
 use Rattle.at_text.specs.Prefix.{LongestViable}
 use Rattle.at_text.specs.Syntax.{stop_fault}

@@ -1,4 +1,5 @@
 -- A span from a start state: its lead, a form or a stop, and what is pending; and the merge of two neighbours.
+-- For `finish`, `finish_span`, `merge` and `run_block`.
 use Rattle.std.proofs.Common.{◌≡◌, ℕ, ◌⊎◌, inl, inr, List, [], ◌∷◌, ◌++◌, Bool, true, false, cond, ◌==◌, not, ◌&&◌, refl, sym, ◌∙◌, ap, subst, arith, append_assoc, append-nil, ◌+◌, length, true≢false}
 use Rattle.std.proofs.lemmas.Bool.{eqb-true}
 use Rattle.std.specs.Bool.{⊤}

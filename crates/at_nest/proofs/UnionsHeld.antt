@@ -1,4 +1,5 @@
 -- What is kept of two neighbouring spans, put together, stands for both.
+-- For `finish`, `finish_span` and `merge`.
 use Rattle.std.proofs.Common.{◌≡◌, ℕ, Option, Some, None, List, [], ◌++◌, refl, sym, ◌∙◌, ap, subst, arith, ◌+◌, ◌-◌, ◌≤◌, length, length-append, take, drop}
 use Rattle.at_lex.specs.Spans.{end_of}
 use Rattle.at_lex.specs.declared.tokens.Start.{Start}

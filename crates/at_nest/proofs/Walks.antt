@@ -1,4 +1,5 @@
 -- Where the pieces of a form lead, the machine for bytes goes; where a piece has no place, it stops at the first byte of the piece.
+-- For `finish`, `finish_span`, `merge` and `run_block`.
 use Rattle.std.proofs.Common.{◌≡◌, ℕ, ◌⊎◌, inl, inr, List, [], ◌∷◌, ◌++◌, Option, Some, None, option_and_then, true, false, not, ◌&&◌, refl, sym, ◌∙◌, ap, subst, arith, append_assoc, append-nil, ◌+◌, length, length-append}
 use Rattle.std.proofs.lemmas.Bool.{not-true}
 use Rattle.std.specs.Bool.{⊤}

@@ -1,4 +1,5 @@
 -- A span that is read as a whole text: its lead is a run of its own, and behind it stand the items that are kept.
+-- For `finish` and `finish_span`.
 use Rattle.std.proofs.Common.{◌≡◌, ℕ, inl, inr, Option, Some, None, List, [], ◌∷◌, ◌++◌, true, Result, Err, refl, sym, ◌∙◌, ap, subst, arith, append_assoc, append-nil, ◌+◌, ◌-◌, ◌≤◌, length, length-append, length-drop, length-take, take, drop, take-append-drop}
 use Rattle.std.proofs.Math.Seq.{take-append_seam, take-length, drop-append_seam}
 use Rattle.at_text.specs.Spans.{span_of}

@@ -1,4 +1,5 @@
 -- What is kept of features that are added one by one.
+-- For `add`, `add_lent`, `from_part`, `join` and `part_of`.
 use Rattle.std.proofs.Common.{◌≡◌, ◌≢◌, true, false, List, [], ◌∷◌, ◌++◌, refl, sym, ◌∙◌, ap, subst, true≢false}
 use Rattle.std.proofs.lemmas.List.{append-nil}
 use Rattle.std.proofs.lemmas.Grind.{flat_map-append}

@@ -1,4 +1,5 @@
 -- Sums of areas, wrapped and unwrapped, and how large they get.
+-- For most public calls of the crate, `add`, `add_lent`, `answer_of` among them.
 use Rattle.std.proofs.Common.{◌≡◌, ℕ, suc, ℤ, ◌+◌, ◌*◌, ◌≤◌, ◌<◌, ◌+ℤ◌, nat_abs, List, [], ◌∷◌, ◌++◌, length, length-append, get_or, drop, map, arith, refl, sym, ap, ◌∙◌}
 use Rattle.std.specs.Prelude.{All, FitsSigned, ◌^◌}
 use Rattle.std.specs.Int.{w128, int_wrap}

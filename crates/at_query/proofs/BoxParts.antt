@@ -1,4 +1,5 @@
 -- A box: four numbers, each with the byte behind it, behind the word.
+-- For `read_query`.
 use Rattle.std.proofs.Common.{◌≡◌, ℕ, Bool, true, false, if◌then◌else◌, min, List, [], ◌∷◌, ◌++◌, codes, Option, Some, None, refl, sym, ◌∙◌, ap, arith}
 use Rattle.at_fixed.specs.declared.rounding.Coords.{Coords}
 use Rattle.at_fixed.specs.Numerals.{Numeral}

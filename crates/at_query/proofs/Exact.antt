@@ -1,4 +1,5 @@
 -- With few features and positions, what a part holds is the answer itself.
+-- For `answer_of`.
 use Rattle.std.proofs.Common.{◌≡◌, ℕ, pos, ◌%◌, ◌^◌, ◌<◌, ◌≤◌, ℤ, List, [], ◌∷◌, ◌++◌, length, length-append, map, Option, arith, refl, ap, ◌∙◌, subst}
 use Rattle.std.specs.List.{AllByRecursion}
 use Rattle.std.proofs.lemmas.List.Elements.{recursion_from_All, All-append}

@@ -1,4 +1,5 @@
 -- What a shape is to meet: a box, or a geometry, whose word begins with another letter.
+-- For `read_query`.
 use Rattle.std.proofs.Common.{◌≡◌, ℕ, ◌+◌, ◌-◌, ◌≤◌, ◌==◌, inl, inr, Bool, true, false, not, List, [], ◌∷◌, ◌++◌, length, take, drop, codes, None, is_none, if◌then◌else◌, option_map, refl, sym, ◌∙◌, ap, subst, arith, append_assoc, take-append-drop, length-append, nat_lt, lit≤, true≢false}
 use Rattle.std.specs.Char.{to_ascii_uppercase}
 use Rattle.std.specs.Str.{str_to_ascii_uppercase}

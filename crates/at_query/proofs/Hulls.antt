@@ -1,4 +1,5 @@
 -- The hull of a shape's positions, and of two hulls, has coordinates in range.
+-- For `add`, `add_lent`, `join`, `part_merge` and `part_of`.
 use Rattle.std.proofs.Common.{◌<◌, inl, List, [], ◌∷◌, ◌++◌, All, length, arith, refl}
 use Rattle.std.specs.Prelude.{Result, Ok, Err, IfOk}
 use Rattle.std.specs.List.{AllByRecursion}

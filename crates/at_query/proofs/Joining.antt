@@ -1,4 +1,5 @@
 -- The part of joined lists, from the parts of both.
+-- For `add`, `add_lent`, `from_part`, `join`, `part_merge` and `part_of`.
 use Rattle.std.proofs.Common.{◌≡◌, ℕ, ◌+◌, ◌%◌, ◌^◌, ℤ, ◌+ℤ◌, List, ◌++◌, All, length, map, Option, arith, refl, sym, ap, ◌∙◌, subst, length-append}
 use Rattle.std.specs.Int.{w128, int_wrap}
 use Rattle.std.proofs.lemmas.List.{map-append}

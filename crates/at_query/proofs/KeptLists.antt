@@ -1,4 +1,5 @@
 -- The elements of a list that have a property, of joined lists, and how many they are.
+-- For most public calls of the crate, `add`, `add_lent`, `answer_of` among them.
 use Rattle.std.proofs.Common.{◌≡◌, ◌≤◌, ◌∙◌, List, [], ◌∷◌, ◌++◌, length, arith, refl, sym, ap, subst, inl, inr, length-append}
 use Rattle.std.specs.Prelude.{flat_map}
 use Rattle.std.specs.List.{AllByRecursion}

@@ -1,4 +1,5 @@
 -- A query over a list of features has one answer and one part: laws of the definitions, which no function's contract is needed for.
+-- For the crates above.
 use Rattle.std.proofs.Common.{◌≡◌, inl, inr, List, [], ◌∷◌, map, sym, ◌∙◌, ap, subst}
 use Rattle.at_hull.proofs.Unique.{one_hull}
 use Rattle.at_query.specs.declared.query.queries.Verb.{Verb}

@@ -1,4 +1,5 @@
 -- A line is one query, or has one fault: laws of the definitions, which no function's contract is needed for.
+-- For the crates above.
 use Rattle.std.proofs.Common.{◌≡◌, ℕ, inl, inr, List, sym, ◌∙◌}
 use Rattle.std.proofs.lemmas.Option.{none-some, same_Some}
 use Rattle.at_text.proofs.Machine.{longest_unique}

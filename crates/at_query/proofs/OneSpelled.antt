@@ -1,4 +1,5 @@
 -- A text spells at most one query line, so it is one query, or has one fault: laws of the definitions, which no function's contract is needed for.
+-- For the crates above.
 use Rattle.std.proofs.Common.{◌≡◌, ℕ, ◌+◌, Bool, true, false, ◌==◌, List, [], ◌∷◌, ◌++◌, length, codes, flat_map, Option, Some, None, refl, sym, ◌∙◌, ap, subst, append_assoc, true≢false, arith}
 use Rattle.std.proofs.lemmas.Option.{same_Some}
 use Rattle.std.proofs.lemmas.List.{append_cancel_left}

@@ -1,4 +1,5 @@
 -- How parts of a text end, stop, cover its rest and break: one behind another, and told in another way.
+-- For `read_query`.
 use Rattle.std.proofs.Common.{◌≡◌, ℕ, ◌+◌, ◌<◌, ◌≤◌, ◌⊎◌, inl, inr, Bool, true, false, List, [], ◌∷◌, ◌++◌, length, take, drop, refl, sym, ◌∙◌, ap, subst, arith, append-nil, append_assoc, true≢false}
 use native.Mathlib.Decide.{dec_lt}
 use Rattle.std.proofs.lemmas.List.{append_cancel_left, get_or_past}

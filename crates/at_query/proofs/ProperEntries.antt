@@ -1,4 +1,5 @@
 -- The part of a join is a proper list of entries, where its features are proper.
+-- For the crates above.
 use Rattle.std.proofs.Common.{◌≡◌, ℕ, ◌<◌, List, [], ◌∷◌, map, arith, refl, sym, subst, inl, inr}
 use Rattle.std.specs.List.{AllByRecursion}
 use Rattle.at_query.specs.declared.query.queries.Verb.TheVariants as verbs

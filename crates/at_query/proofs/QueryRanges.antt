@@ -1,4 +1,5 @@
 -- The coordinates of a query that is read are in range; and what is answered.
+-- For `read_query`.
 use Rattle.std.proofs.Common.{◌≡◌, ℕ, ℤ, pos, neg_ℤ, nat_abs, zero, suc, ◌+◌, ◌*◌, ◌^◌, ◌<◌, ◌≤◌, Bool, true, false, if◌then◌else◌, List, [], ◌∷◌, map, flat_map, length, Some, None, option_to_list, Result, Ok, Err, inr, refl, sym, subst, arith, lit≤}
 use Rattle.std.specs.Result.{MatchResult, IfOk}
 use Rattle.std.specs.List.{All}

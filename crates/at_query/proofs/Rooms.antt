@@ -1,4 +1,5 @@
 -- The room that is left beside the positions of some elements of a list.
+-- For `part_of`.
 use Rattle.std.proofs.Common.{◌≡◌, ℕ, ◌+◌, ◌<◌, List, length, take, get_or, Option, Some, None, arith}
 use Rattle.std.specs.Prelude.{flat_map}
 use Rattle.std.specs.Option.{IfNone}

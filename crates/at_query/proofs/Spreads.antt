@@ -1,4 +1,5 @@
 -- The extent of joined lists of positions is the extent round both extents.
+-- For `add`, `add_lent`, `from_part`, `join`, `part_merge` and `part_of`.
 use Rattle.std.proofs.Common.{◌≡◌, ℤ, List, [], ◌∷◌, ◌++◌, Option, Some, None, arith, refl, sym, ap, ◌∙◌}
 use Rattle.std.specs.Int.{int_min, int_max}
 use Rattle.std.proofs.lemmas.Int.{ints, clamps}

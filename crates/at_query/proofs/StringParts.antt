@@ -1,4 +1,5 @@
 -- A string, and whatever else is read as the longest beginning of a word of a language.
+-- For `read_query`.
 use Rattle.std.proofs.Common.{◌≡◌, ℕ, ◌+◌, ◌-◌, ◌<◌, ◌≤◌, inl, inr, Bool, true, false, List, [], ◌∷◌, ◌++◌, length, take, drop, Some, option_and_then, refl, sym, ◌∙◌, ap, subst, arith, append-nil, append_assoc, length-drop, true≢false}
 use Rattle.std.proofs.lemmas.List.{take_rest}
 use Rattle.at_text.specs.Prefix.{LongestViable, TakesLongest}

@@ -1,4 +1,5 @@
 -- Positions of elements that are added to those of a hull and let go of one by one, and the hull in the end.
+-- For `part_of`.
 use Rattle.std.proofs.Common.{◌≡◌, List, [], ◌∷◌, ◌++◌, All, sym, ◌∙◌, ap, subst, append_assoc}
 use Rattle.std.specs.Prelude.{flat_map, Result, Ok, Err, IfOk}
 use Rattle.std.proofs.lemmas.List.{append-nil}

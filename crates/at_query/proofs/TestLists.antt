@@ -1,4 +1,5 @@
 -- Tests behind one another, each behind its word, up to the end of the text.
+-- For `read_query`.
 use Rattle.std.proofs.Common.{◌≡◌, ℕ, ◌+◌, ◌<◌, ◌≤◌, ◌⊎◌, inl, inr, List, [], ◌∷◌, ◌++◌, length, drop, map, codes, Option, None, refl, sym, ◌∙◌, ap, subst, arith, append-nil, append_assoc, length-append, lit<}
 use Rattle.std.proofs.lemmas.List.{drop_all}
 use Rattle.at_text.specs.Parts.{Exactly}

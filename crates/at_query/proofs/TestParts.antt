@@ -1,4 +1,5 @@
 -- A test, told by its first letter, and tests behind one another up to the end of the text.
+-- For `read_query`.
 use Rattle.std.proofs.Common.{◌≡◌, ℕ, ◌+◌, ◌≤◌, ◌==◌, ◌||◌, ◌⊎◌, inl, inr, Bool, true, false, List, ◌∷◌, ◌++◌, length, codes, None, refl, ◌∙◌, ap, arith}
 use Rattle.at_fixed.specs.declared.rounding.Coords.{Coords}
 use Rattle.at_lex.specs.Strings.{units_of}

@@ -1,4 +1,5 @@
 -- What the grammar of lines spells is ASCII, but for labels, and so it is valid UTF-8.
+-- For `answer`, `answer_join`, `finish_pieces`, `join_into` and `part`.
 use Rattle.std.proofs.Common.{◌≡◌, ℕ, ◌+◌, ◌<◌, ◌==◌, inl, inr, Bool, true, IsTrue, List, [], ◌∷◌, ◌++◌, length, map, Option, Some, None, codes, refl, sym, subst, arith}
 use Rattle.std.specs.List.{AllByRecursion, list_all}
 use Rattle.std.specs.Option.{IfSome}

@@ -1,4 +1,5 @@
 -- Parts of the blocks of a file: what is merged of two neighbouring stretches, and what a block gives.
+-- For `answer`, `answer_join`, `merge_pieces`, `part`, `run_blocks` and `run_file`.
 use Rattle.std.proofs.Common.{◌≡◌, ℕ, ◌-◌, ◌<◌, ◌≤◌, ◌⊎◌, inl, inr, List, length, Contains, subst, arith}
 use Rattle.std.proofs.lemmas.Bool.{cases_lt}
 use Rattle.std.specs.Prelude.{slice_index}

@@ -1,4 +1,5 @@
 -- The blocks that lie between places cover the bytes from the first place to the last.
+-- For `answer`, `answer_join`, `merge_pieces`, `part`, `run_blocks` and `run_file`.
 use Rattle.std.proofs.Common.{ℕ, ◌+◌, ◌-◌, ◌<◌, ◌≤◌, List, length, arith}
 use Rattle.std.specs.Prelude.{slice_index}
 use Rattle.std.specs.List.Sorted.{IsNonDecreasing}

@@ -1,4 +1,5 @@
 -- What the test whether a list is sorted says of places.
+-- For `from_places`.
 use Rattle.std.proofs.Common.{ℕ, ◌+◌, ◌<◌, Bool, true, false, IsTrue, List, length, get_or, refl, arith}
 use Rattle.std.specs.Prelude.{◌↔◌}
 use Rattle.std.specs.Bool.{MatchBool}

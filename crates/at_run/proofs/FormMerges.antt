@@ -1,4 +1,5 @@
 -- The merged fragment of one form stands for both spans in the reader's form.
+-- For most public calls of the crate, `answer`, `answer_join`, `finish_pieces` among them.
 use Rattle.std.proofs.Common.{◌≡◌, ℕ, List, length, drop, sym, subst}
 use Rattle.std.proofs.lemmas.List.{take_rest}
 use Rattle.at_text.specs.Spans.{StandsAt, AreNeighbours, IsMerged}

@@ -1,4 +1,5 @@
 -- The pairs of the entries of two files are the answer to a join over the files' features.
+-- For `answer_join`.
 use Rattle.std.proofs.Common.{◌≡◌, ℕ, inl, inr, List, [], ◌∷◌, ◌++◌, map, None, refl, sym, ap, ◌∙◌, subst}
 use Rattle.std.proofs.lemmas.List.{map-append}
 use Rattle.at_fixed.specs.declared.rounding.Coords.{Coords}

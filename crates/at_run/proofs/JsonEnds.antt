@@ -1,4 +1,5 @@
 -- What a file of GeoJSON ends in, from what its text and its tree end in.
+-- For `answer`, `answer_join`, `finish_json`, `finish_pieces` and `part`.
 use Rattle.std.proofs.Common.{◌≡◌, ℕ, ◌+◌, List, ◌∷◌, [], length, drop, Option, Some, None, Result, Ok, Err, MatchResult, inl, inr, refl, sym, ap, subst, arith, length-drop}
 use Rattle.at_text.specs.Faults.{fault_at, first_of}
 use Rattle.at_text.specs.Texts.{base_of, utf8_fault}

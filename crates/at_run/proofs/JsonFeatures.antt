@@ -1,4 +1,5 @@
 -- The features of a file of GeoJSON have coordinates in range, and those of one without a fault are proper: rings are closed, and offsets rise.
+-- For `answer` and `answer_join`.
 use Rattle.std.proofs.Common.{◌≡◌, ℕ, ◌+◌, ◌≤◌, inl, inr, Bool, true, false, if◌then◌else◌, codes, List, [], ◌∷◌, ◌++◌, length, map, Option, Some, None, refl, sym, ap, ◌∙◌, subst, arith, length-append}
 use Rattle.std.specs.List.{AllByRecursion}
 use Rattle.std.proofs.lemmas.Option.{none-some}

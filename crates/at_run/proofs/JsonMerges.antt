@@ -1,4 +1,5 @@
 -- The merged fragment of a file of GeoJSON, from what is merged of its text and the joined span of its valid bytes.
+-- For `merge_pieces` and `run_blocks`.
 use Rattle.std.proofs.Common.{ℕ, List}
 use Rattle.at_text.specs.Spans.{AreNeighbours, IsMerged}
 use Rattle.at_text.specs.declared.texts.Span.{Span}

@@ -1,4 +1,5 @@
 -- What the reader of a label finds of a line: where a label stands, and that no line goes on where none does.
+-- For `answer`, `answer_join`, `finish_pieces`, `join_into` and `part`.
 use Rattle.std.proofs.Common.{◌≡◌, ℕ, zero, suc, ◌+◌, ◌-◌, ◌<◌, ◌≤◌, inl, inr, true, List, [], ◌∷◌, ◌++◌, length, take, drop, slice_index, flat_map, codes, Option, Some, None, refl, sym, ◌∙◌, ap, subst, arith, append-nil, append_assoc, length-append, length-take, length-drop, take-append-drop, take-take, drop-drop, lit≤}
 use native.Mathlib.Decide.{dec_lt}
 use Rattle.std.proofs.Math.Seq.{take-length}

@@ -1,4 +1,5 @@
 -- Lines with labels: a line spells one label or none and one geometry, and where reading one stops, no line goes on.
+-- For `answer`, `answer_join`, `finish_pieces`, `join_into` and `part`.
 use Rattle.std.proofs.Common.{◌≡◌, ℕ, suc, ◌+◌, ◌≤◌, ◌==◌, false, IsTrue, nat_lt, List, [], ◌∷◌, ◌++◌, length, take, codes, flat_map, Option, Some, None, refl, sym, ◌∙◌, ap, subst, arith, append_assoc, length-append, true≢false}
 use Rattle.std.specs.List.{AllByRecursion}
 use Rattle.std.specs.Char.{to_ascii_uppercase}

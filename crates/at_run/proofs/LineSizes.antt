@@ -1,4 +1,5 @@
 -- A position takes at least four bytes of a line, with the comma or bracket behind it.
+-- For `answer`.
 use Rattle.std.proofs.Common.{◌≡◌, ℕ, ◌+◌, ◌-◌, ◌*◌, ◌≤◌, inl, inr, List, [], ◌∷◌, ◌++◌, length, Option, Some, None, codes, refl, ap, ◌∙◌, arith, length-append}
 use Rattle.at_text.specs.Parts.{Exactly, AnyCase, Many, OneOrMore, ◌▸◌, At}
 use Rattle.at_fixed.specs.Numerals.{Numeral, AreWktDigits, fraction_text, exponent_text}

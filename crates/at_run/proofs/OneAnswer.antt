@@ -1,4 +1,5 @@
 -- A file has one list of features, one part and one answer to a query, and where it has one it has no fault: laws of the definitions, which no function's contract is needed for.
+-- For `answer`.
 use Rattle.std.proofs.Common.{◌≡◌, ℕ, inl, inr, List, [], ◌∷◌, drop, Option, Some, None, sym, ◌∙◌, ap, subst, arith}
 use Rattle.std.proofs.lemmas.Option.{none-some}
 use Rattle.at_text.specs.declared.faults.Fault.{Fault}

@@ -1,4 +1,5 @@
 -- The part of a file has an answer, and that is the exact answer over the file's features.
+-- For `answer`.
 use Rattle.std.proofs.Common.{◌≢◌, ℕ, ◌^◌, ◌≤◌, List, length, refl, sym, subst}
 use Rattle.at_fixed.specs.declared.rounding.Coords.{Coords}
 use Rattle.at_query.specs.declared.query.queries.Verb.{Verb}

@@ -1,4 +1,5 @@
 -- A file of lines is valid UTF-8 exactly where each line that isn't blank is: the bytes between them are ASCII.
+-- For `answer`, `answer_join`, `finish_pieces` and `part`.
 use Rattle.std.proofs.Common.{◌≡◌, ℕ, suc, ◌+◌, ◌<◌, ◌==◌, Bool, true, false, not, nat_eq, cond, if◌then◌else◌, List, [], ◌∷◌, ◌++◌, length, take, drop, slice_index, None, refl, sym, ap, ◌∙◌, subst, arith, append-nil, append_assoc, length-append, take-append-drop}
 use Rattle.std.specs.List.{AllByRecursion, starts_with, slice_split, onto_first}
 use Rattle.std.specs.Str.{IsUtf8}

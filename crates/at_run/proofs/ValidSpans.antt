@@ -1,4 +1,5 @@
 -- Spans of a file's bytes that are UTF-8, how two of neighbouring parts are joined, and the file around one.
+-- For most public calls of the crate, `answer`, `answer_join`, `finish_pieces` among them.
 use Rattle.std.proofs.Common.{◌≡◌, ℕ, zero, suc, ◌+◌, ◌-◌, ◌≤◌, Bool, true, false, if◌then◌else◌, List, ◌++◌, length, take, drop, Option, Some, None, is_some, not, IsTrue, ◌↔◌, refl, sym, ap, subst, ◌∙◌, arith, drop-drop, take-take, take-append-drop, length-drop}
 use Rattle.std.specs.Str.{IsUtf8, is_utf8}
 use Rattle.std.specs.Str.Lossy.{utf8_valid_len, valid_len_up_to}

@@ -1,4 +1,5 @@
 -- What is gathered of no record, of one, and of those of two lists.
+-- For `part_seq`.
 use Rattle.std.proofs.Common.{◌≡◌, ℕ, ◌+◌, List, [], ◌∷◌, ◌++◌, length, Option, Some, None, Result, Ok, Err, inl, inr, refl, sym, ap, ◌∙◌, subst, append-nil, append_assoc}
 use Rattle.std.specs.Result.{IfOk}
 use Rattle.at_text.specs.Faults.{fault_at, first_fault, first_of}

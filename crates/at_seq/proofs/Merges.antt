@@ -1,4 +1,5 @@
 -- What is read of a span, and what two neighbouring spans give.
+-- For the laws of the definitions.
 use Rattle.std.proofs.Common.{◌≡◌, ℕ, ◌+◌, ◌-◌, ◌<◌, ◌≤◌, List, [], ◌∷◌, ◌++◌, length, refl, sym, ◌∙◌, ap, subst, arith, append_assoc}
 use Rattle.std.specs.List.{position_or_len}
 use Rattle.at_text.specs.Spans.{span_of, AreNeighbours, IsMerged}

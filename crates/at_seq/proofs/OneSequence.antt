@@ -1,4 +1,5 @@
 -- A sequence has one first fault, or none, and one list of features.
+-- For `part_seq`.
 use Rattle.std.proofs.Common.{◌≡◌, ℕ, inl, inr, List, [], ◌∷◌, ◌++◌, Option, Some, None, Result, Ok, Err, MatchResult, sym, ◌∙◌, ap}
 use Rattle.at_text.specs.declared.faults.Fault.{Fault}
 use Rattle.at_text.specs.Faults.{first_of}

@@ -1,6 +1,7 @@
 -- No JSON text holds the byte RS (RFC 8259 sections 2, 6 and 7), so a JSON text behind a separator is one piece of a sequence, and
 -- cutting a file at its separators, as `pieces_from` does, loses no spelling. The records of `HasSeqFault` and `AreSeqFeatures`, which
 -- the contract of `part_seq` cites, are those pieces.
+-- A law of the definitions: no contract rests on it.
 use Rattle.std.proofs.Common.{◌≡◌, ℕ, ◌+◌, ◌==◌, inl, inr, Bool, true, false, ◌&&◌, nat_le, true≢false, List, [], ◌∷◌, ◌++◌, length, flat_map, Option, Some, None, IfSome, refl, sym, ◌∙◌, ap, subst, arith}
 use Rattle.std.specs.List.{AllByRecursion, list_any}
 use Rattle.std.specs.Char.{is_ascii_hexdigit}

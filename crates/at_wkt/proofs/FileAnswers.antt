@@ -1,4 +1,5 @@
 -- The end of a line, and the first fault of a line that was read: what `Room::check_line` and the folds of lines answer.
+-- For `check_line`, `finish_lines`, `merge_lines`, `read_geometry`, `read_line` and `run_lines`.
 use Rattle.std.proofs.Common.{◌≡◌, ℕ, ◌+◌, ◌-◌, ◌<◌, ◌==◌, Bool, true, false, if◌then◌else◌, ◌&&◌, nat_lt, slice_index, List, [], ◌∷◌, ◌++◌, length, take, Option, Some, None, refl, sym, ◌∙◌, ap, arith}
 use Rattle.std.proofs.Math.Seq.{take-length}
 use Rattle.std.proofs.lemmas.List.{take_more}

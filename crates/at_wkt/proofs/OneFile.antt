@@ -1,4 +1,5 @@
 -- A line has one shape or one first fault: laws of the definitions, which no function's contract is needed for.
+-- For the crates above.
 use Rattle.std.proofs.Common.{◌≡◌, ℕ, if◌then◌else◌, List, ◌++◌, length, take, drop, Option, Some, None, is_none, refl, sym, ◌∙◌, ap, arith, length-take, take-append-drop}
 use Rattle.std.proofs.lemmas.Option.{none-some, same_Some}
 use Rattle.at_text.specs.declared.faults.Fault.{Fault}
