@@ -92,7 +92,7 @@ module _ (asked : Asked) (bytes : List ℕ) where
     pub lone_lone : (left right both : Fragment GeoAlgebra GeoAtom) → AreBeside (HoldsText asked bytes) bytes i j k (Lone left) (Lone right) → IsMerged Stands bytes left right both → HoldsText asked bytes i k (Lone both)
     lone_lone left right both (h, g, l, (p, a), (q, b)) merged = (
       pieces_both bytes i j k h g l ∙ (ap (λ z. glued z (pieces_in bytes j k)) p ∙ (ap (glued (piece_in bytes i j ∷ [])) q ∙ ap (λ z. z ∷ []) (piece_both bytes i j k h g))),
-      merged i j k (h, g, l, a, b),
+      merged i j k (record { first = h; second = g; within = l; left = a; right = b }),
     )
 
     pub lone_parted : (left : Fragment GeoAlgebra GeoAtom) (right : PartedText) (both : Fragment GeoAlgebra GeoAtom) → AreBeside (HoldsText asked bytes) bytes i j k (Lone left) (Parted right) → IsMerged Stands bytes left right.before both
@@ -104,7 +104,7 @@ module _ (asked : Asked) (bytes : List ℕ) where
       begins = omega (arith, h, r.begins);
       order = r.order;
       ends = r.ends;
-      before = merged i j right.first (h, r.begins, (omega (arith, r.order, r.ends, l)), a, r.before);
+      before = merged i j right.first (record { first = h; second = r.begins; within = omega (arith, r.order, r.ends, l); left = a; right = r.before });
       kept = r.kept;
       behind = r.behind;
     }
@@ -121,7 +121,7 @@ module _ (asked : Asked) (bytes : List ℕ) where
       ends = omega (arith, r.ends, g);
       before = r.before;
       kept = r.kept;
-      behind = merged left.last j k (r.ends, g, l, r.behind, b);
+      behind = merged left.last j k (record { first = r.ends; second = g; within = l; left = r.behind; right = b });
     }
 
     pub texts_are : (a b c d : SeqText) → a ≡ c → b ≡ d → AreBeside (HoldsText asked bytes) bytes i j k a b → AreBeside (HoldsText asked bytes) bytes i j k c d

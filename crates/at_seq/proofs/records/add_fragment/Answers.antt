@@ -1,6 +1,6 @@
 use Rattle.std.proofs.Common.{◌≡◌, ◌+◌, ◌<◌, [], ◌∷◌, length, sym, arith}
 use Rattle.std.proofs.lemmas.Result.{IfOk-weaker}
-use Rattle.at_wkt.proofs.LineMerges.{length-part_of}
+use Rattle.at_wkt.proofs.LineMerges.{length-span_of}
 use Rattle.at_seq.specs.Records.{records_in}
 use Rattle.at_seq.specs.Fragments.{piece_in}
 use Rattle.at_seq.proofs.PieceRecords.{no_record, one_record, are_all_spaces, not_all_spaces}
@@ -15,14 +15,14 @@ returns-then-spaces_len-text c =
 pub join_into-requires : goal.join_into-requires
 join_into-requires c =
     let r = piece_in c.args.bytes.now c.args.span.from c.args.span.to in
-    let same : c.args.span.to ≡ c.args.span.from + length r.text = sym (length-part_of c.args.bytes.now c.args.span.from c.args.span.to c.requires.order c.requires.within) in
+    let same : c.args.span.to ≡ c.args.span.from + length r.text = sym (length-span_of c.args.bytes.now c.args.span.from c.args.span.to c.requires.order c.requires.within) in
     let (before, h) = c.requires.own in
     gathered_joinable c.args.algebra.now c.args.gathered.now c.in_ok-record.record before (r ∷ []) h (c.in_ok-record.ensures c.args.span.from r.text same c.finish_span-answer.ensures.answers)
 
 pub returns : goal.returns
 returns c =
     let r = piece_in c.args.bytes.now c.args.span.from c.args.span.to in
-    let same : c.args.span.to ≡ c.args.span.from + length r.text = sym (length-part_of c.args.bytes.now c.args.span.from c.args.span.to c.requires.order c.requires.within) in
+    let same : c.args.span.to ≡ c.args.span.from + length r.text = sym (length-span_of c.args.bytes.now c.args.span.from c.args.span.to c.requires.order c.requires.within) in
     let inside : c.spaces_len.result < length r.text = omega (arith, c.spaces_len.ensures.fits, c.if-spaces_len-text.false) in
     IfOk-weaker c.join_into.result _ _ (λ u both. adds_one c.args.algebra.now c.args.gathered.now c.in_ok-record.record c.join_into.new.gathered r (records_in (r ∷ []))
     (one_record r (not_all_spaces r.text c.spaces_len.result c.spaces_len.ensures inside)) (c.in_ok-record.ensures c.args.span.from r.text same c.finish_span-answer.ensures.answers) both) c.join_into.ensures.both
