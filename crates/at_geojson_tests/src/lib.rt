@@ -2,6 +2,8 @@
 #![tactic(auto)]
 
 #[cfg(test)]
+mod example_tests;
+#[cfg(test)]
 mod tests;
 #[cfg(test)]
 mod track_tests;

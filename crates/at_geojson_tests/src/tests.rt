@@ -9,7 +9,7 @@ ghost use Rattle.at_geojson.specs.Atoms.{IsOwn, IsGeoAtom};
 use at_fixed::Coords;
 use at_geojson::{GeoAlgebra, GeoAtom, RootEnd, root_part};
 use at_geom::{Pos, Shape};
-use at_nest::{Fragment, NestEnd, finish, finish_span, merge, run_block};
+use at_nest::{Fragment, NestEnd, finish_span, merge, run_block};
 use at_query::{Entry, Part, Query, answer_of, answer_text, read_query};
 use at_text::{Fault, Span};
 use std::alloc::Global;
@@ -796,18 +796,4 @@ fn places(rt: HostRuntime) -> Result<(), Fail> {
     compare_places(&rt, Coords::Round, &rows)?;
     let exact: [(&'static str, &'static str); 1] = [("select", "Scale at 251")];
     compare_places(&rt, Coords::Exact, &exact)
-}
-
-/// What the page of `at_geojson` shows.
-#[test]
-fn the_example_of_the_crate(rt: HostRuntime) -> Result<(), Fail> {
-    let alloc = rt.alloc();
-    let text: &[u8] = br#"{"type":"Point","coordinates":[1,2]}"#;
-    let query = read_query(alloc, b"count", 7, Coords::Exact)?;
-    let algebra = GeoAlgebra::new(query, 7, Coords::Exact);
-    let whole = run_block(alloc, &algebra, text, 0);
-    let atom = finish(alloc, &algebra, text, whole)?;
-    let part = root_part(alloc, &algebra, atom)?;
-    assert!(rt; matches!(part, Part::Count(1)));
-    Ok(())
 }
