@@ -6,12 +6,12 @@ use lib.ListN.{get_elem?}
 use native.Mathlib.Decide.{dec_le, ℕ_discrete}
 use Rattle.atomic_table.specs.Table.{State, Act, keeps, takes, Valid, Allows, stepped, carried_after, step}
 use Rattle.atomic_table.proofs.Lists.{at_set, set_else}
-use Rattle.at_crew.specs.declared.view.Place.{Place}
+use Rattle.at_crew.specs.declared.view.HeldNode.{HeldNode}
 use Rattle.at_crew.specs.declared.view.Climber.{Climber}
 use Rattle.at_crew.specs.declared.view.View.{View}
 use Rattle.at_crew.specs.declared.view.View.TheVariants.{Spent, Climbs, Leads}
 use Rattle.at_crew.specs.Nodes.{IsNode, first_of, Made, Settled, IsTop}
-use Rattle.at_crew.specs.Views.{one_if, times, place, is_at, leads, lives, is_over, made, back, has_number, holds, claimed, merged, claiming, ending, is_pass, held_of, over_of}
+use Rattle.at_crew.specs.Views.{one_if, times, held_node, is_at, leads, lives, is_over, made, back, has_number, holds, claimed, merged, claiming, ending, is_pass, held_of, over_of}
 use Rattle.at_crew.specs.Rule.{OneWhere, Knows, PassesCounted, WordsMarked, WorkListed, PartsStored, CrewRule}
 use Rattle.at_crew.specs.Steps.{ClaimTells}
 use Rattle.at_crew.proofs.Tree.{leaf_node, spans_first, node_pos, node_bound, first_small, pow_pos}
@@ -162,7 +162,7 @@ module _ {P F : Type 0} (stands : F → P → ℕ → ℕ → Type 0) (f : F) (k
     numbers = λ x. (let a = sum_same (has_number x) s.views id (Climbs v) (Climbs now) at refl in let d = sum_same made s.views id (Climbs v) (Climbs now) at refl in let l = g.numbers x in
         (omega (arith, a, l.0), λ h. a ∙ l.1 (omega (arith, d, h))));
     each = each_set f k c (slice_index words' 0) (omega (arith, z)) s.views id (Climbs now)
-        (((g.each id (Climbs v) at).0), (λ x e. (let y : c ≡ x = some-inj e in omega (arith, y, z))), (λ p e. (let q : place (k + c) 0 ≡ p = some-inj e in (good.power.0, subst (λ (r : Place). IsNode k good.power.0 r.height r.node) q (leaf_node k good.power.0 c good.power.1 lt)))), (λ e. absurd (true≢false (sym e)))) g.each;
+        (((g.each id (Climbs v) at).0), (λ x e. (let y : c ≡ x = some-inj e in omega (arith, y, z))), (λ p e. (let q : held_node (k + c) 0 ≡ p = some-inj e in (good.power.0, subst (λ (r : HeldNode). IsNode k good.power.0 r.height r.node) q (leaf_node k good.power.0 c good.power.1 lt)))), (λ e. absurd (true≢false (sym e)))) g.each;
   }
 
   claim_stored : c < k → PartsStored stands f k words' (set s.homes c none)

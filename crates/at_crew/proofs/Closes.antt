@@ -5,7 +5,7 @@ use mathlib.Core.Option.{some, some-injective}
 use lib.ListN.{get_elem?}
 use native.Mathlib.Decide.{dec_le, ℕ_discrete}
 use Rattle.atomic_table.specs.Table.{State, Final, Seen}
-use Rattle.at_crew.specs.declared.view.Place.{Place}
+use Rattle.at_crew.specs.declared.view.HeldNode.{HeldNode}
 use Rattle.at_crew.specs.declared.view.Leader.{Leader}
 use Rattle.at_crew.specs.declared.view.View.{View}
 use Rattle.at_crew.specs.declared.view.View.TheVariants.{Spent, Climbs, Leads}
@@ -58,7 +58,7 @@ module _ {P F : Type 0} (stands : F → P → ℕ → ℕ → Type 0) (f : F) (k
       bit true = omega arith
       bit false = omega arith
 
-      held : (o : Option Place) → is_at n o ≤ 1
+      held : (o : Option HeldNode) → is_at n o ≤ 1
       held None = omega arith
       held (Some p) = bit (p.node == n)
 

@@ -10,7 +10,7 @@ use Rattle.at_crew.specs.declared.view.Climber.{Climber}
 use Rattle.at_crew.specs.declared.view.View.{View}
 use Rattle.at_crew.specs.declared.view.View.TheVariants.{Spent, Climbs, Leads}
 use Rattle.at_crew.specs.Nodes.{IsNode, first_of, end_of, bit_of, sibling}
-use Rattle.at_crew.specs.Views.{place, held_of, resting, climbing, OnSome}
+use Rattle.at_crew.specs.Views.{held_node, held_of, resting, climbing, OnSome}
 use Rattle.at_crew.specs.Rule.{CrewRule}
 use Rattle.at_crew.specs.Steps.{DepositTells, RootHomeTells, carried, kept as kept'}
 use Rattle.at_crew.proofs.Tree.{Spans, spans_first, spans_right, spans_parent, first_small, node_bound}
@@ -67,7 +67,7 @@ laid_less k l (suc h) n o homes is inside = laid_set k (suc (suc h)) (n / 2) hom
     (laid_set k (suc (suc h)) (n / 2) homes homes (first_of k h (2 * n + 1)) (some None) (spans_parent k (suc h) n (first_of k h (2 * n + 1)) (spans_right k l h n is)) (laid_same k (suc (suc h)) (n / 2) homes))
 
 module _ {P F : Type 0} (stands : F → P → ℕ → ℕ → Type 0) (f : F) (k : ℕ) (count : F → ℕ) (counted : k ≡ count f) (s : State (Option P) (View F)) (good : CrewRule stands f k s) (id : ℕ) (v : Climber F) (at : get_elem? s.views id ≡ some (Climbs v))
-    (n h : ℕ) (held : v.held ≡ Some (place n h)) (x : P) (stood : stands f x (first_of k h n) (end_of k h n)) where
+    (n h : ℕ) (held : v.held ≡ Some (held_node n h)) (x : P) (stood : stands f x (first_of k h n) (end_of k h n)) where
   mine' : Holds k s.words n h
   mine' = holds_node stands f k s good id v at n h held
 
@@ -99,7 +99,7 @@ module _ {P F : Type 0} (stands : F → P → ℕ → ℕ → Type 0) (f : F) (k
         (
           facts_count,
           subst (λ o. OnSome o (λ p. ((u ≡ 0) × (me_of (Climbs (resting v)) (carried_after slots (all_home h)) ≡ me_of (Climbs (resting v)) []))
-              ⊎ ((0 < u) × ((y : P) × (me_of (Climbs (resting v)) (carried_after slots (all_home h)) ≡ me_of (Climbs (climbing (place (n / 2) (p.height + 1)) v)) ((first_of k p.height (sibling p.node), Some y) ∷ kept' p.height slots)) × stands v.facts y (first_of k p.height (sibling p.node)) (end_of k p.height (sibling p.node)))))) (sym held)
+              ⊎ ((0 < u) × ((y : P) × (me_of (Climbs (resting v)) (carried_after slots (all_home h)) ≡ me_of (Climbs (climbing (held_node (n / 2) (p.height + 1)) v)) ((first_of k p.height (sibling p.node), Some y) ∷ kept' p.height slots)) × stands v.facts y (first_of k p.height (sibling p.node)) (end_of k p.height (sibling p.node)))))) (sym held)
               (inl (e, λ i. (Climbs (resting v), g.2 i))),
         ),
       )
@@ -111,19 +111,19 @@ module _ {P F : Type 0} (stands : F → P → ℕ → ℕ → Type 0) (f : F) (k
       let o : ℕ = first_of k h (sibling n) in
       let theirs = sib_home stands f k s good id v at n h held deep (slice_set s.words (n / 2) 3) turn e in
       let g = takes_more k mine'.level h n (first_of k h (sibling n)) x theirs.0 s.homes mine'.is theirs.1 (sib_apart stands f k s good id v at n h held deep (slice_set s.words (n / 2) 3) turn e) in
-      let kept : CrewRule stands f k record { words = slice_set s.words (n / 2) 3; homes = homes_less k h n (first_of k h (sibling n)) s.homes; views = set s.views id (Climbs (climbing (place (n / 2) (h + 1)) v)) } =
+      let kept : CrewRule stands f k record { words = slice_set s.words (n / 2) 3; homes = homes_less k h n (first_of k h (sibling n)) s.homes; views = set s.views id (Climbs (climbing (held_node (n / 2) (h + 1)) v)) } =
       second_kept stands f k s good id v at n h held deep (slice_set s.words (n / 2) 3) turn e
       (homes_less k h n (first_of k h (sibling n)) s.homes) (laid_less k mine'.level h n (first_of k h (sibling n)) s.homes mine'.is (sib_inside stands f k s good id v at n h held deep (slice_set s.words (n / 2) 3) turn e)) (length-set s.words (n / 2) 3) in
       let facts : f ≡ v.facts = sym (good.counted.each id (Climbs v) at).0 in (
-        Climbs (climbing (place (n / 2) (h + 1)) v),
+        Climbs (climbing (held_node (n / 2) (h + 1)) v),
         one_more h (first_of k h (sibling n)) theirs.0,
         g.0,
-        subst (λ (z : ℕ × List (maybe.Option (Option P))). CrewRule stands f k record { words = slice_set s.words (n / 2) z.0; homes = z.1; views = set s.views id (Climbs (climbing (place (n / 2) (h + 1)) v)) }) (λ i. (sym or i, sym g.1 i)) kept,
+        subst (λ (z : ℕ × List (maybe.Option (Option P))). CrewRule stands f k record { words = slice_set s.words (n / 2) z.0; homes = z.1; views = set s.views id (Climbs (climbing (held_node (n / 2) (h + 1)) v)) }) (λ i. (sym or i, sym g.1 i)) kept,
         (
           facts_count,
-          subst (λ q. OnSome q (λ p. ((u ≡ 0) × (me_of (Climbs (climbing (place (n / 2) (h + 1)) v)) (carried_after slots (one_more h (first_of k h (sibling n)) theirs.0)) ≡ me_of (Climbs (resting v)) []))
-              ⊎ ((0 < u) × ((y : P) × (me_of (Climbs (climbing (place (n / 2) (h + 1)) v)) (carried_after slots (one_more h (first_of k h (sibling n)) theirs.0)) ≡ me_of (Climbs (climbing (place (n / 2) (p.height + 1)) v)) ((first_of k p.height (sibling p.node), Some y) ∷ kept' p.height slots)) × stands v.facts y (first_of k p.height (sibling p.node)) (end_of k p.height (sibling p.node)))))) (sym held)
-              (inr (omega (arith, e), (theirs.0, (λ i. (Climbs (climbing (place (n / 2) (h + 1)) v), g.2 i)), subst (λ (q : F). stands q theirs.0 (first_of k h (sibling n)) (end_of k h (sibling n))) facts theirs.2))),
+          subst (λ q. OnSome q (λ p. ((u ≡ 0) × (me_of (Climbs (climbing (held_node (n / 2) (h + 1)) v)) (carried_after slots (one_more h (first_of k h (sibling n)) theirs.0)) ≡ me_of (Climbs (resting v)) []))
+              ⊎ ((0 < u) × ((y : P) × (me_of (Climbs (climbing (held_node (n / 2) (h + 1)) v)) (carried_after slots (one_more h (first_of k h (sibling n)) theirs.0)) ≡ me_of (Climbs (climbing (held_node (n / 2) (p.height + 1)) v)) ((first_of k p.height (sibling p.node), Some y) ∷ kept' p.height slots)) × stands v.facts y (first_of k p.height (sibling p.node)) (end_of k p.height (sibling p.node)))))) (sym held)
+              (inr (omega (arith, e), (theirs.0, (λ i. (Climbs (climbing (held_node (n / 2) (h + 1)) v), g.2 i)), subst (λ (q : F). stands q theirs.0 (first_of k h (sibling n)) (end_of k h (sibling n))) facts theirs.2))),
         ),
       )
 
@@ -131,14 +131,14 @@ module _ {P F : Type 0} (stands : F → P → ℕ → ℕ → Type 0) (f : F) (k
   deposits_at deep = ⊎_elim (deposits_first deep) (deposits_second deep) (found_words k s.words n good.marked deep (node_bound k mine'.level h n mine'.is) mine'.loose)
 
 module _ {P F : Type 0} (stands : F → P → ℕ → ℕ → Type 0) (count : F → ℕ) (f : F) where
-  deposits_of : (size id : ℕ) (v : Climber F) (n h : ℕ) (x : P) → v.held ≡ Some (place n h) → 1 < n → stands f x (first_of size h n) (end_of size h n)
+  deposits_of : (size id : ℕ) (v : Climber F) (n h : ℕ) (x : P) → v.held ≡ Some (held_node n h) → 1 < n → stands f x (first_of size h n) (end_of size h n)
       → Allows (CrewRule stands f (count f)) size id (Climbs v, carried size h n (Some x)) (n / 2) (λ u. bit_or u (bit_of n)) (DepositTells stands count (step size (n / 2) (bit_of n) 0 none) (Climbs v, carried size h n (Some x)))
   deposits_of size id v n h x held deep stood s good len at lt = let e : count f ≡ size = sym good.deep ∙ len in
       subst (λ (k : ℕ). stands f x (first_of k h n) (end_of k h n) → (w : View F) × (a : Act (Option P)) × Valid s.homes (carried k h n (Some x)) a × CrewRule stands f (count f) (stepped s (n / 2) (bit_or (slice_index s.words (n / 2)) (bit_of n)) id (carried k h n (Some x)) w a)
       × DepositTells stands count (step k (n / 2) (bit_of n) 0 none) (Climbs v, carried k h n (Some x)) (slice_index s.words (n / 2)) (w, carried_after (carried k h n (Some x)) a)) e
       (λ stood'. deposits_at stands f (count f) count refl s good id v at n h held x stood' deep) stood
 
-  pub deposits : (size id : ℕ) (w : View F) (me : List (ℕ × Option P)) (n h : ℕ) (x : P) → held_of w ≡ Some (place n h) → me ≡ carried size h n (Some x) → 1 < n → stands f x (first_of size h n) (end_of size h n)
+  pub deposits : (size id : ℕ) (w : View F) (me : List (ℕ × Option P)) (n h : ℕ) (x : P) → held_of w ≡ Some (held_node n h) → me ≡ carried size h n (Some x) → 1 < n → stands f x (first_of size h n) (end_of size h n)
       → Allows (CrewRule stands f (count f)) size id (w, me) (n / 2) (λ u. bit_or u (bit_of n)) (DepositTells stands count (step size (n / 2) (bit_of n) 0 none) (w, me))
   deposits size id Spent me n h x held is deep stood s good len at lt = absurd (some≢none (sym held))
   deposits size id (Climbs v) me n h x held is deep stood s good len at lt = subst (λ (m : List (ℕ × Option P)). (w : View F) × (a : Act (Option P)) × Valid s.homes m a × CrewRule stands f (count f) (stepped s (n / 2) (bit_or (slice_index s.words (n / 2)) (bit_of n)) id m w a)
@@ -147,7 +147,7 @@ module _ {P F : Type 0} (stands : F → P → ℕ → ℕ → Type 0) (count : F
   deposits size id (Leads l) me n h x held is deep stood s good len at lt = absurd (some≢none (sym held))
 
   -- the root
-  root_homes_at : (s : State (Option P) (View F)) → CrewRule stands f (count f) s → (id : ℕ) (v : Climber F) → get_elem? s.views id ≡ some (Climbs v) → (h : ℕ) (x : P) → v.held ≡ Some (place 1 h) → stands f x (first_of (count f) h 1) (end_of (count f) h 1)
+  root_homes_at : (s : State (Option P) (View F)) → CrewRule stands f (count f) s → (id : ℕ) (v : Climber F) → get_elem? s.views id ≡ some (Climbs v) → (h : ℕ) (x : P) → v.held ≡ Some (held_node 1 h) → stands f x (first_of (count f) h 1) (end_of (count f) h 1)
       → (w : View F) × (a : Act (Option P)) × Valid s.homes (carried (count f) h 1 (Some x)) a × CrewRule stands f (count f) (stepped s (count f) (bit_or (slice_index s.words (count f)) 1) id (carried (count f) h 1 (Some x)) w a) × (me_of w (carried_after (carried (count f) h 1 (Some x)) a) ≡ me_of (Climbs (resting v)) [])
   root_homes_at s good id v at h x held stood = let k : ℕ = count f in let g = gives_all (count f) h 1 x s.homes in let mine = holds_node stands f (count f) s good id v at 1 h held in
       let inside : count f < length s.words = (let wide = good.wide in omega (arith, wide)) in
@@ -164,7 +164,7 @@ module _ {P F : Type 0} (stands : F → P → ℕ → ℕ → Type 0) (count : F
         λ i. (Climbs (resting v), g.2 i),
       )
 
-  pub root_homes : (size id : ℕ) (w : View F) (me : List (ℕ × Option P)) (h : ℕ) (x : P) → held_of w ≡ Some (place 1 h) → me ≡ carried size h 1 (Some x) → stands f x (first_of size h 1) (end_of size h 1)
+  pub root_homes : (size id : ℕ) (w : View F) (me : List (ℕ × Option P)) (h : ℕ) (x : P) → held_of w ≡ Some (held_node 1 h) → me ≡ carried size h 1 (Some x) → stands f x (first_of size h 1) (end_of size h 1)
       → Allows (CrewRule stands f (count f)) size id (w, me) size (λ u. bit_or u 1) (RootHomeTells (step size size 1 0 none) (w, me))
   root_homes size id Spent me h x held is stood s good len at lt = absurd (some≢none (sym held))
   root_homes size id (Climbs v) me h x held is stood s good len at lt = let e : count f ≡ size = sym good.deep ∙ len in
@@ -174,12 +174,12 @@ module _ {P F : Type 0} (stands : F → P → ℕ → ℕ → Type 0) (count : F
   root_homes size id (Leads l) me h x held is stood s good len at lt = absurd (some≢none (sym held))
 
   -- where the size are as many as b says
-  pub root_homes_sized : (size b id : ℕ) (w : View F) (me : List (ℕ × Option P)) (h : ℕ) (x : P) → size ≡ b → held_of w ≡ Some (place 1 h) → me ≡ carried b h 1 (Some x) → stands f x (first_of b h 1) (end_of b h 1)
+  pub root_homes_sized : (size b id : ℕ) (w : View F) (me : List (ℕ × Option P)) (h : ℕ) (x : P) → size ≡ b → held_of w ≡ Some (held_node 1 h) → me ≡ carried b h 1 (Some x) → stands f x (first_of b h 1) (end_of b h 1)
       → Allows (CrewRule stands f (count f)) size id (w, me) b (λ u. bit_or u 1) (RootHomeTells (step size b 1 0 none) (w, me))
   root_homes_sized size b id w me h x e held is stood = subst (λ (q : ℕ). me ≡ carried q h 1 (Some x) → stands f x (first_of q h 1) (end_of q h 1) → Allows (CrewRule stands f (count f)) size id (w, me) q (λ u. bit_or u 1) (RootHomeTells (step size q 1 0 none) (w, me))) e
       (λ is' stood'. root_homes size id w me h x held is' stood') is stood
 
-  pub deposits_sized : (size b id : ℕ) (w : View F) (me : List (ℕ × Option P)) (n h : ℕ) (x : P) → size ≡ b → held_of w ≡ Some (place n h) → me ≡ carried b h n (Some x) → 1 < n → stands f x (first_of b h n) (end_of b h n)
+  pub deposits_sized : (size b id : ℕ) (w : View F) (me : List (ℕ × Option P)) (n h : ℕ) (x : P) → size ≡ b → held_of w ≡ Some (held_node n h) → me ≡ carried b h n (Some x) → 1 < n → stands f x (first_of b h n) (end_of b h n)
       → Allows (CrewRule stands f (count f)) size id (w, me) (n / 2) (λ u. bit_or u (bit_of n)) (DepositTells stands count (step size (n / 2) (bit_of n) 0 none) (w, me))
   deposits_sized size b id w me n h x e held is deep stood = subst (λ (q : ℕ). me ≡ carried q h n (Some x) → stands f x (first_of q h n) (end_of q h n) → Allows (CrewRule stands f (count f)) size id (w, me) (n / 2) (λ u. bit_or u (bit_of n)) (DepositTells stands count (step size (n / 2) (bit_of n) 0 none) (w, me))) e
       (λ is' stood'. deposits size id w me n h x held is' deep stood') (is) (stood)

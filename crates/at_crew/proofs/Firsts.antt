@@ -10,7 +10,7 @@ use Rattle.at_crew.specs.declared.view.Climber.{Climber}
 use Rattle.at_crew.specs.declared.view.View.{View}
 use Rattle.at_crew.specs.declared.view.View.TheVariants.{Climbs}
 use Rattle.at_crew.specs.Nodes.{IsNode, first_of, end_of, bit_of, sibling, Made, Settled, IsTop}
-use Rattle.at_crew.specs.Views.{times, place, is_at, leads, lives, is_over, made, back, has_number, holds, claimed, merged, resting}
+use Rattle.at_crew.specs.Views.{times, held_node, is_at, leads, lives, is_over, made, back, has_number, holds, claimed, merged, resting}
 use Rattle.at_crew.specs.Rule.{OneWhere, PassesCounted, WordsMarked, WorkListed, PartsStored, CrewRule}
 use Rattle.at_crew.proofs.Tree.{spans_first, node_pos, node_bound, one_height, two_children, sibling_bit}
 use Rattle.at_crew.proofs.Above.{apart, all_claimed, held_is_top}
@@ -26,14 +26,14 @@ pub record Holds (k : ℕ) (words : List ℕ) (n h : ℕ) : Type 0 where
   pub loose : ¬ Settled k words n
 
 pub holds_node : {P F : Type 0} (stands : F → P → ℕ → ℕ → Type 0) (f : F) (k : ℕ) (s : State (Option P) (View F)) → CrewRule stands f k s → (id : ℕ) (v : Climber F) → get_elem? s.views id ≡ some (Climbs v)
-    → (n h : ℕ) → v.held ≡ Some (place n h) → Holds k s.words n h
-holds_node stands f k s good id v at n h held = let knows = (good.counted.each id (Climbs v) at).2 (place n h) held in
+    → (n h : ℕ) → v.held ≡ Some (held_node n h) → Holds k s.words n h
+holds_node stands f k s good id v at n h held = let knows = (good.counted.each id (Climbs v) at).2 (held_node n h) held in
     let one : holds n (Climbs v) ≡ 1 = ap (is_at n) held ∙ hit n n refl in let some_hold = sum_ge (holds n) s.views id (Climbs v) at in
     let yes = counts_yes _ _ (omega (arith, one, some_hold)) (good.listed.held n (node_pos k knows.0 h n knows.1) (node_bound k knows.0 h n knows.1)) in
     record { level = knows.0; is = knows.1; made = yes.0; loose = yes.1 }
 
 module _ {P F : Type 0} (stands : F → P → ℕ → ℕ → Type 0) (f : F) (k : ℕ) (s : State (Option P) (View F)) (good : CrewRule stands f k s) (id : ℕ) (v : Climber F) (at : get_elem? s.views id ≡ some (Climbs v))
-    (n h : ℕ) (held : v.held ≡ Some (place n h)) (deep : 1 < n) (words' : List ℕ) (turn : Turned s.words words' (n / 2) (bit_of n)) (nobody : slice_index s.words (n / 2) ≡ 0) where
+    (n h : ℕ) (held : v.held ≡ Some (held_node n h)) (deep : 1 < n) (words' : List ℕ) (turn : Turned s.words words' (n / 2) (bit_of n)) (nobody : slice_index s.words (n / 2) ≡ 0) where
   mine : Holds k s.words n h
   mine = holds_node stands f k s good id v at n h held
 

@@ -4,7 +4,7 @@ use Rattle.std.proofs.Common.{◌≡◌, ◌∙◌, ℕ, ◌+◌, ◌^◌, ◌<�
 use Rattle.atomic_table.specs.Table.{Me, rest}
 use Rattle.at_crew.specs.declared.view.View.{View}
 use Rattle.at_crew.specs.Nodes.{first_of, end_of}
-use Rattle.at_crew.specs.Views.{HasFacts, held_of, place}
+use Rattle.at_crew.specs.Views.{HasFacts, held_of, held_node}
 use Rattle.at_crew.specs.Seats.{Bears, leaf_of, slots_of}
 use Rattle.at_crew.proofs.Deposits.{me_of}
 use Rattle.at_crew.proofs.Tree.{leaf_node}
@@ -14,7 +14,7 @@ pub leaf_bears : {P F : Type 0} (stands : F → P → ℕ → ℕ → Type 0) (f
 leaf_bears {F = F} stands f k sl n hold old new x power lt facts held slots is size e stood = let first : n ≡ first_of k 0 (k + n) = omega arith in let last : n + 1 ≡ end_of k 0 (k + n) = omega arith in
     let lt' : n < k = omega (arith, lt, size) in (
       subst (λ (w : View F). HasFacts f w) (sym (ap (λ m. m.0) e)) facts,
-      ap (λ m. held_of m.0) e ∙ held ∙ ap (leaf_of sl) is ∙ ap (λ (q : ℕ). Some (place (q + n) 0)) size,
+      ap (λ m. held_of m.0) e ∙ held ∙ ap (leaf_of sl) is ∙ ap (λ (q : ℕ). Some (held_node (q + n) 0)) size,
       (
         x,
         ap (λ m. m.1) e ∙ ap (λ s. (n, Some x) ∷ rest s) (slots ∙ ap slots_of is) ∙ ap (λ (q : ℕ). (q, Some x) ∷ []) first,

@@ -10,7 +10,7 @@ use Rattle.at_crew.specs.declared.view.Climber.{Climber}
 use Rattle.at_crew.specs.declared.view.View.{View}
 use Rattle.at_crew.specs.declared.view.View.TheVariants.{Climbs}
 use Rattle.at_crew.specs.Nodes.{IsNode, first_of, end_of, Made, Settled, IsTop}
-use Rattle.at_crew.specs.Views.{times, place, is_at, leads, lives, is_over, made, back, has_number, holds, claimed, merged, resting}
+use Rattle.at_crew.specs.Views.{times, held_node, is_at, leads, lives, is_over, made, back, has_number, holds, claimed, merged, resting}
 use Rattle.at_crew.specs.Rule.{OneWhere, PassesCounted, WordsMarked, WorkListed, PartsStored, CrewRule}
 use Rattle.at_crew.proofs.Tree.{spans_first, node_pos, node_bound, one_height}
 use Rattle.at_crew.proofs.Above.{apart, all_claimed}
@@ -20,7 +20,7 @@ use Rattle.at_crew.proofs.Turns.{Turned, Laid}
 use Rattle.at_crew.proofs.Firsts.{Holds, holds_node}
 
 module _ {P F : Type 0} (stands : F → P → ℕ → ℕ → Type 0) (f : F) (k : ℕ) (s : State (Option P) (View F)) (good : CrewRule stands f k s) (id : ℕ) (v : Climber F) (at : get_elem? s.views id ≡ some (Climbs v))
-    (h : ℕ) (held : v.held ≡ Some (place 1 h)) (words' : List ℕ) (turn : Turned s.words words' k 1) where
+    (h : ℕ) (held : v.held ≡ Some (held_node 1 h)) (words' : List ℕ) (turn : Turned s.words words' k 1) where
   mine : Holds k s.words 1 h
   mine = holds_node stands f k s good id v at 1 h held
 

@@ -6,12 +6,12 @@ use mathlib.Core.Option as maybe
 use lib.ListN.{get_elem?}
 use native.Mathlib.Decide.{ℕ_discrete}
 use Rattle.atomic_table.specs.Table.{State}
-use Rattle.at_crew.specs.declared.view.Place.{Place}
+use Rattle.at_crew.specs.declared.view.HeldNode.{HeldNode}
 use Rattle.at_crew.specs.declared.view.Climber.{Climber}
 use Rattle.at_crew.specs.declared.view.View.{View}
 use Rattle.at_crew.specs.declared.view.View.TheVariants.{Climbs}
 use Rattle.at_crew.specs.Nodes.{IsNode, first_of, end_of, bit_of, sibling, Made, Settled, IsTop}
-use Rattle.at_crew.specs.Views.{times, place, is_at, leads, lives, is_over, made, back, has_number, holds, claimed, merged, climbing}
+use Rattle.at_crew.specs.Views.{times, held_node, is_at, leads, lives, is_over, made, back, has_number, holds, claimed, merged, climbing}
 use Rattle.at_crew.specs.Rule.{OneWhere, PassesCounted, WordsMarked, WorkListed, PartsStored, CrewRule}
 use Rattle.at_crew.proofs.Tree.{Spans, spans_first, node_pos, node_bound, two_children, sibling_bit, sibling_parent, sibling_other, above_node, child_node, spans_parent}
 use Rattle.at_crew.proofs.Above.{apart, all_claimed, held_is_top}
@@ -21,12 +21,12 @@ use Rattle.at_crew.proofs.Turns.{Turned, Laid}
 use Rattle.at_crew.proofs.Firsts.{Holds, holds_node}
 
 module _ {P F : Type 0} (stands : F → P → ℕ → ℕ → Type 0) (f : F) (k : ℕ) (s : State (Option P) (View F)) (good : CrewRule stands f k s) (id : ℕ) (v : Climber F) (at : get_elem? s.views id ≡ some (Climbs v))
-    (n h : ℕ) (held : v.held ≡ Some (place n h)) (deep : 1 < n) (words' : List ℕ) (turn : Turned s.words words' (n / 2) 3) (somebody : slice_index s.words (n / 2) + bit_of n ≡ 3) where
+    (n h : ℕ) (held : v.held ≡ Some (held_node n h)) (deep : 1 < n) (words' : List ℕ) (turn : Turned s.words words' (n / 2) 3) (somebody : slice_index s.words (n / 2) + bit_of n ≡ 3) where
   abbrev p : ℕ
   p = n / 2
 
   abbrev next : Climber F
-  next = climbing (place p (h + 1)) v
+  next = climbing (held_node p (h + 1)) v
 
   mine : Holds k s.words n h
   mine = holds_node stands f k s good id v at n h held
@@ -172,7 +172,7 @@ module _ {P F : Type 0} (stands : F → P → ℕ → ℕ → Type 0) (f : F) (k
         each = each_set f k (slice_index s.words 0) (slice_index words' 0) (omega (arith, z)) s.views id (Climbs next) (
           my.0,
           (λ x e. (let l = my.1 x e in omega (arith, l, z))),
-          (λ r e. (let q : place p (h + 1) ≡ r = some-inj e in let up : suc h ≡ h + 1 = omega arith in (parent.0, subst (λ (t : Place). IsNode k parent.0 t.height t.node) q (subst (λ (i : ℕ). IsNode k parent.0 i p) up parent.1)))),
+          (λ r e. (let q : held_node p (h + 1) ≡ r = some-inj e in let up : suc h ≡ h + 1 = omega arith in (parent.0, subst (λ (t : HeldNode). IsNode k parent.0 t.height t.node) q (subst (λ (i : ℕ). IsNode k parent.0 i p) up parent.1)))),
           (λ e. absurd (some≢none (sym held ∙ my.3 e))),
         ) g.each;
       }

@@ -3,14 +3,14 @@
 use Rattle.std.proofs.Common.{◌≡◌, ◌∙◌, ℕ, zero, suc, ◌+◌, ◌*◌, ◌/◌, ◌%◌, ◌<◌, ◌≤◌, ◌==◌, ◌⊎◌, eq-eqb, ne_eqb, Bool, true, false, List, [], ◌∷◌, ◌++◌, Option, Some, None, append_assoc, refl, ap, sym, subst, ⊎_elim, arith}
 use mathlib.Core.Option.{none}
 use Rattle.std.proofs.lemmas.List.{append-nil}
-use Rattle.at_crew.specs.declared.view.Place.{Place}
+use Rattle.at_crew.specs.declared.view.HeldNode.{HeldNode}
 use native.Mathlib.Decide.{ℕ_discrete}
 use Rattle.atomic_table.specs.Table.{Me, step, rest}
 use Rattle.at_crew.specs.declared.view.Climber.{Climber}
 use Rattle.at_crew.specs.declared.view.View.{View}
 use Rattle.at_crew.specs.declared.view.View.TheVariants.{Spent, Climbs, Leads}
 use Rattle.at_crew.specs.Nodes.{IsNode, first_of, end_of, bit_of, sibling, above, ancestors}
-use Rattle.at_crew.specs.Views.{place, held_of, climbs_to, climbing, resting, HasFacts, OnSome, rests, adds}
+use Rattle.at_crew.specs.Views.{held_node, held_of, climbs_to, climbing, resting, HasFacts, OnSome, rests, adds}
 use Rattle.at_crew.specs.Steps.{DepositTells, carried, kept}
 use Rattle.at_crew.specs.Seats.{children, HasChildren}
 use Rattle.at_crew.proofs.Claims.{some-inj}
@@ -42,12 +42,12 @@ module _ {P F : Type 0} (stands : F → P → ℕ → ℕ → Type 0) (count : F
         subst (λ (q : ℕ). stands f x (first_of k h q) (end_of k h q)) m sx,
       )
 
-  second_at : (slots : ℕ) → slots ≡ k → (v : Climber F) (m : List (ℕ × Option P)) → v.held ≡ Some (place n h) → v.facts ≡ f → m ≡ carried k h n (Some x) → stands f x (first_of k h n) (end_of k h n) → (¬ (found ≡ 0))
+  second_at : (slots : ℕ) → slots ≡ k → (v : Climber F) (m : List (ℕ × Option P)) → v.held ≡ Some (held_node n h) → v.facts ≡ f → m ≡ carried k h n (Some x) → stands f x (first_of k h n) (end_of k h n) → (¬ (found ≡ 0))
       → DepositTells stands count (step slots (n / 2) (bit_of n) 0 none) (Climbs v, m) found seat'
-      → (seat'.0 ≡ climbs_to (place (n / 2) (h + 1)) (Climbs v)) × HasChildren stands f k seat'.1 (n / 2) h (n % 2 == 0) × (count f ≡ k)
+      → (seat'.0 ≡ climbs_to (held_node (n / 2) (h + 1)) (Climbs v)) × HasChildren stands f k seat'.1 (n / 2) h (n % 2 == 0) × (count f ≡ k)
   second_at slots e v m held facts is sx some met = let told = subst (λ o. OnSome o (λ p.
       ((found ≡ 0) × (seat' ≡ me_of (Climbs (resting v)) []))
-      ⊎ ((0 < found) × ((y : P) × (seat' ≡ me_of (Climbs (climbing (place (n / 2) (p.height + 1)) v)) ((first_of slots p.height (sibling p.node), Some y) ∷ kept p.height m))
+      ⊎ ((0 < found) × ((y : P) × (seat' ≡ me_of (Climbs (climbing (held_node (n / 2) (p.height + 1)) v)) ((first_of slots p.height (sibling p.node), Some y) ∷ kept p.height m))
       × stands v.facts y (first_of slots p.height (sibling p.node)) (end_of slots p.height (sibling p.node)))))) held met.1 in
       ⊎_elim (λ t. absurd (some t.0))
       (λ t. (
@@ -57,9 +57,9 @@ module _ {P F : Type 0} (stands : F → P → ℕ → ℕ → Type 0) (count : F
         ap count (sym facts) ∙ met.0 ∙ e,
       )) told
 
-  pub second : (slots : ℕ) → slots ≡ k → (w : View F) (m : List (ℕ × Option P)) → held_of w ≡ Some (place n h) → HasFacts f w → m ≡ carried k h n (Some x) → stands f x (first_of k h n) (end_of k h n) → (¬ (found ≡ 0))
+  pub second : (slots : ℕ) → slots ≡ k → (w : View F) (m : List (ℕ × Option P)) → held_of w ≡ Some (held_node n h) → HasFacts f w → m ≡ carried k h n (Some x) → stands f x (first_of k h n) (end_of k h n) → (¬ (found ≡ 0))
       → DepositTells stands count (step slots (n / 2) (bit_of n) 0 none) (w, m) found seat'
-      → (seat'.0 ≡ climbs_to (place (n / 2) (h + 1)) w) × HasChildren stands f k seat'.1 (n / 2) h (n % 2 == 0) × (count f ≡ k)
+      → (seat'.0 ≡ climbs_to (held_node (n / 2) (h + 1)) w) × HasChildren stands f k seat'.1 (n / 2) h (n % 2 == 0) × (count f ≡ k)
   second slots e Spent m held facts is sx some met = absurd facts
   second slots e (Climbs v) m held facts is sx some met = second_at slots e v m held facts is sx some met
   second slots e (Leads l) m held facts is sx some met = absurd facts
@@ -93,21 +93,21 @@ pub parent_at : (k l h n : ℕ) → IsNode k l h n → 1 < n → (l' : ℕ) × I
 parent_at k l h n is lt = let r = above_node k l h n is lt in let up : suc h ≡ h + 1 = omega arith in (r.0, subst (λ (i : ℕ). IsNode k r.0 i (n / 2)) up r.1)
 
 module _ {F : Type 0} (f : F) where
-  pub climbs_facts : (p : Place) (w : View F) → HasFacts f w → HasFacts f (climbs_to p w) × (held_of (climbs_to p w) ≡ Some p)
+  pub climbs_facts : (p : HeldNode) (w : View F) → HasFacts f w → HasFacts f (climbs_to p w) × (held_of (climbs_to p w) ≡ Some p)
   climbs_facts p Spent h = absurd h
   climbs_facts p (Climbs v) h = (h, refl)
   climbs_facts p (Leads l) h = absurd h
 
 -- one step more
-pub climbs_adds : {F : Type 0} (p : Place) (w w0 : View F) (ns : List ℕ) → rests w ≡ adds ns (rests w0) → rests (climbs_to p w) ≡ adds (ns ++ p.node ∷ []) (rests w0)
+pub climbs_adds : {F : Type 0} (p : HeldNode) (w w0 : View F) (ns : List ℕ) → rests w ≡ adds ns (rests w0) → rests (climbs_to p w) ≡ adds (ns ++ p.node ∷ []) (rests w0)
 climbs_adds {F = F} p w w0 ns e = one p w ∙ ap (adds (p.node ∷ [])) e ∙ twice w0 p ns
   where
-    one : (p : Place) (w : View F) → rests (climbs_to p w) ≡ adds (p.node ∷ []) (rests w)
+    one : (p : HeldNode) (w : View F) → rests (climbs_to p w) ≡ adds (p.node ∷ []) (rests w)
     one p Spent = refl
     one p (Climbs v) = refl
     one p (Leads l) = refl
 
-    twice : (w0 : View F) (p : Place) (ns : List ℕ) → adds (p.node ∷ []) (adds ns (rests w0)) ≡ adds (ns ++ p.node ∷ []) (rests w0)
+    twice : (w0 : View F) (p : HeldNode) (ns : List ℕ) → adds (p.node ∷ []) (adds ns (rests w0)) ≡ adds (ns ++ p.node ∷ []) (rests w0)
     twice Spent p ns = refl
     twice (Climbs v) p ns = ap (λ (m : List ℕ). Climbs record { facts = v.facts; number = v.number; held = None; last = v.last; over = v.over; claimed = v.claimed; merged = m }) (append_assoc v.merged ns (p.node ∷ []))
     twice (Leads l) p ns = refl

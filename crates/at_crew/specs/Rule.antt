@@ -6,7 +6,7 @@ use mathlib.Core.Option.{some}
 use mathlib.Core.Option as maybe
 use lib.ListN.{get_elem?}
 use Rattle.atomic_table.specs.Table.{State}
-use Rattle.at_crew.specs.declared.view.Place.{Place}
+use Rattle.at_crew.specs.declared.view.HeldNode.{HeldNode}
 use Rattle.at_crew.specs.declared.view.View.{View}
 use Rattle.at_crew.specs.declared.view.View.TheVariants.{Spent, Climbs, Leads}
 use Rattle.at_crew.specs.Nodes.{IsNode, first_of, end_of, Made, Settled, IsTop}
@@ -22,7 +22,7 @@ module _ {F : Type 0} where
   abbrev pub Knows : F → ℕ → ℕ → View F → Type 0
   Knows f k c Spent = Unit {0}
   Knows f k c (Climbs v) = (v.facts ≡ f) × ((x : ℕ) → v.last ≡ Some x → x < c)
-      × ((p : Place) → v.held ≡ Some p → (l : ℕ) × IsNode k l p.height p.node) × (v.over ≡ true → v.held ≡ None)
+      × ((p : HeldNode) → v.held ≡ Some p → (l : ℕ) × IsNode k l p.height p.node) × (v.over ≡ true → v.held ≡ None)
   Knows f k c (Leads h) = h.facts ≡ f
 
 -- the words: an inner node's has no bits but its two, the root's is 0 or 1, and a bit stands only where its node is

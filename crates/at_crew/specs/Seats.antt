@@ -1,16 +1,16 @@
 -- What a pass and a chief have in their seats: a view, and the slots that are out with it.
 use Rattle.std.specs.Prelude.{◌≡◌, ℕ, ◌+◌, ◌*◌, List, [], ◌∷◌, Option, Some, None, Bool, true, false}
 use Rattle.atomic_table.specs.Table.{Me}
-use Rattle.at_crew.specs.declared.view.Place.{Place}
+use Rattle.at_crew.specs.declared.view.HeldNode.{HeldNode}
 use Rattle.at_crew.specs.declared.view.View.{View}
 use Rattle.at_crew.specs.Nodes.{IsNode, first_of, end_of}
-use Rattle.at_crew.specs.Views.{HasFacts, place, is_pass, is_chief, number_of, last_of, over_of, held_of, made, back}
+use Rattle.at_crew.specs.Views.{HasFacts, held_node, is_pass, is_chief, number_of, last_of, over_of, held_of, made, back}
 use Rattle.at_crew.specs.Steps.{carried}
 
 -- the leaf of the block that is held, if any, and its slot, which is empty
-abbrev pub leaf_of : ℕ → Option ℕ → Option Place
+abbrev pub leaf_of : ℕ → Option ℕ → Option HeldNode
 leaf_of k None = None
-leaf_of k (Some n) = Some (place (k + n) 0)
+leaf_of k (Some n) = Some (held_node (k + n) 0)
 
 abbrev pub slots_of : {P : Type 0} → Option ℕ → List (ℕ × Option P)
 slots_of None = []
@@ -41,6 +41,6 @@ module _ {P F : Type 0} where
 
   -- the seat holds a node with a part that stands for it, in its slot
   abbrev pub Bears : (F → P → ℕ → ℕ → Type 0) → F → ℕ → Me (Option P) (View F) → ℕ → ℕ → Type 0
-  Bears stands f k me n h = HasFacts f me.0 × (held_of me.0 ≡ Some (place n h))
+  Bears stands f k me n h = HasFacts f me.0 × (held_of me.0 ≡ Some (held_node n h))
       × ((x : P) × (me.1 ≡ carried k h n (Some x)) × stands f x (first_of k h n) (end_of k h n))
       × ((l : ℕ) × IsNode k l h n)

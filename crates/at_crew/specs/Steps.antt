@@ -4,7 +4,7 @@ use Rattle.atomic_table.specs.Table.{Me, Step, rest}
 use Rattle.at_crew.specs.declared.view.View.{View}
 use Rattle.at_crew.specs.declared.view.View.TheVariants.{Climbs}
 use Rattle.at_crew.specs.Nodes.{first_of, end_of, sibling}
-use Rattle.at_crew.specs.Views.{OnClimber, OnSome, place, claiming, ending, resting, climbing}
+use Rattle.at_crew.specs.Views.{OnClimber, OnSome, held_node, claiming, ending, resting, climbing}
 
 -- the slots that a pass has with it when it holds node n at height h, whose part is x: the node's own and, above the
 -- leaves, the emptied slot of its right child, which goes home at the pass's next step
@@ -36,7 +36,7 @@ module _ {P F : Type 0} where
     DepositTells s m n w = OnClimber m.0 (λ v. (count v.facts ≡ s.slots) × OnSome v.held (λ p.
         ((n ≡ 0) × (w ≡ (Climbs (resting v), [])))
         ⊎ ((0 < n) × ((y : P) × (w ≡ (
-          Climbs (climbing (place s.word (p.height + 1)) v),
+          Climbs (climbing (held_node s.word (p.height + 1)) v),
           (first_of s.slots p.height (sibling p.node), Some y) ∷ kept p.height m.1,
         ))
         × stands v.facts y (first_of s.slots p.height (sibling p.node)) (end_of s.slots p.height (sibling p.node))))))

@@ -2,7 +2,7 @@
 -- spent.
 use Rattle.std.specs.Prelude.{◌≡◌, ℕ, ◌+◌, ◌==◌, min, List, [], ◌∷◌, ◌++◌, count_by, cond, Option, Some, None, Bool}
 use Rattle.std.specs.Prelude.{true, false}
-use Rattle.at_crew.specs.declared.view.Place.{Place}
+use Rattle.at_crew.specs.declared.view.HeldNode.{HeldNode}
 use Rattle.at_crew.specs.declared.view.Climber.{Climber}
 use Rattle.at_crew.specs.declared.view.Leader.{Leader}
 use Rattle.at_crew.specs.declared.view.View.{View}
@@ -16,11 +16,11 @@ one_if b = cond b 1 0
 abbrev pub times : ℕ → List ℕ → ℕ
 times x xs = count_by (λ y. y == x) xs
 
-abbrev pub place : ℕ → ℕ → Place
-place n h = record { node = n; height = h }
+abbrev pub held_node : ℕ → ℕ → HeldNode
+held_node n h = record { node = n; height = h }
 
--- 1 where the place is node n
-abbrev pub is_at : ℕ → Option Place → ℕ
+-- 1 where what is held is node n
+abbrev pub is_at : ℕ → Option HeldNode → ℕ
 is_at n None = 0
 is_at n (Some p) = one_if (p.node == n)
 
@@ -102,7 +102,7 @@ module _ {F : Type 0} where
   claiming k n v = record {
     facts = v.facts;
     number = v.number;
-    held = Some (place (k + n) 0);
+    held = Some (held_node (k + n) 0);
     last = Some n;
     over = false;
     claimed = v.claimed ++ n ∷ [];
@@ -134,7 +134,7 @@ module _ {F : Type 0} where
   }
 
   -- with the parent, which the pass has merged
-  abbrev pub climbing : Place → Climber F → Climber F
+  abbrev pub climbing : HeldNode → Climber F → Climber F
   climbing p v = record {
     facts = v.facts;
     number = v.number;
@@ -190,7 +190,7 @@ module _ {F : Type 0} where
   number_of (Climbs v) = v.number
   number_of (Leads h) = 0
 
-  abbrev pub held_of : View F → Option Place
+  abbrev pub held_of : View F → Option HeldNode
   held_of Spent = None
   held_of (Climbs v) = v.held
   held_of (Leads h) = None
@@ -211,7 +211,7 @@ module _ {F : Type 0} where
   rests (Climbs v) = Climbs (resting v)
   rests (Leads h) = Leads h
 
-  abbrev pub climbs_to : Place → View F → View F
+  abbrev pub climbs_to : HeldNode → View F → View F
   climbs_to p Spent = Spent
   climbs_to p (Climbs v) = Climbs (climbing p v)
   climbs_to p (Leads h) = Leads h

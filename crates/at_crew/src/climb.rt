@@ -6,7 +6,7 @@ ghost use Rattle.at_crew.specs.Seats.{Bears, children, HasChildren};
 ghost use Rattle.at_crew.specs.Shown.{IsPassOf, job_of, blocks_of, pass_number, block_held, last_number, has_ended};
 ghost use Rattle.at_crew.specs.Shown.{blocks_claimed, nodes_merged};
 ghost use Rattle.at_crew.specs.Steps.{carried};
-ghost use Rattle.at_crew.specs.Views.{rests, climbs_to, adds, place};
+ghost use Rattle.at_crew.specs.Views.{rests, climbs_to, adds, held_node};
 
 use crate::crew::Crew;
 use crate::job::Job;
@@ -88,7 +88,7 @@ impl<J: Job> Crew<J> {
         requires bears { Bears J.stands (J.facts job.now) (blocks_of self.now) seat.old.me node height }
         requires below { 1 < node }
         ensures of { seat.new.table_id ≡ seat.old.table_id }
-        ensures second { IsTrue result → (seat.new.me.0 ≡ climbs_to (place (node / 2) (height + 1)) seat.old.me.0)
+        ensures second { IsTrue result → (seat.new.me.0 ≡ climbs_to (held_node (node / 2) (height + 1)) seat.old.me.0)
             × Bears J.stands (J.facts job.now) (blocks_of self.now) seat.new.me (node / 2) (height + 1) }
         ensures first { IsFalse result → (seat.new.me.0 ≡ rests seat.old.me.0) × (seat.new.me.1 ≡ []) }
     {
@@ -105,7 +105,7 @@ impl<J: Job> Crew<J> {
         requires bears { Bears J.stands (J.facts (job_of self.now)) (blocks_of self.now) seat.old.me node height }
         requires below { 1 < node }
         ensures of { seat.new.table_id ≡ seat.old.table_id }
-        ensures second { IsTrue result → (seat.new.me.0 ≡ climbs_to (place (node / 2) (height + 1)) seat.old.me.0)
+        ensures second { IsTrue result → (seat.new.me.0 ≡ climbs_to (held_node (node / 2) (height + 1)) seat.old.me.0)
             × HasChildren J.stands (J.facts (job_of self.now)) (blocks_of self.now) seat.new.me.1
             (node / 2) height (node % 2 == 0)
             × (J.count (J.facts (job_of self.now)) ≡ blocks_of self.now) }

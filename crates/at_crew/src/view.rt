@@ -3,7 +3,7 @@
 use std::collections::LinkedList;
 
 /// A node of the tree over the blocks, and its height above the leaves.
-pub struct Place {
+pub struct HeldNode {
     pub node: u64,
     pub height: u64,
 }
@@ -14,7 +14,7 @@ pub struct Climber<F> {
     pub facts: F,
     pub number: u64,
     /// The node that it holds, whose part is with it.
-    pub held: Option<Place>,
+    pub held: Option<HeldNode>,
     /// The number that it fetched last.
     pub last: Option<u64>,
     /// Whether that number was at or past the blocks.

@@ -7,7 +7,6 @@ ghost use Rattle.at_fixed.specs.Fixed.{IsFixedOf};
 ghost use Rattle.at_lex.specs.Strings.{JsonString};
 ghost use Rattle.at_lex.specs.Runs.{JsonRun};
 ghost use Rattle.at_text.specs.Faults.{fault_at};
-ghost use Rattle.at_wkt.specs.Positions.{fault_of};
 ghost use Rattle.at_nest.specs.Tree.{Tree, Spells};
 ghost use Rattle.at_nest.specs.Folds.{IsScalarText};
 ghost use Rattle.at_geojson.specs.Keeping.{looks_at_texts};
@@ -20,24 +19,9 @@ use crate::kinds::{kind_of_bytes, kind_of_units};
 use at_fixed::{Coords, FixedFault, Notation, plain_number, read_fixed};
 use at_lex::{RunEnd, Units, check_run, units};
 use at_query::Test;
-use at_text::{Fault, FaultKind, Memory};
+use at_text::Memory;
+use at_wkt::number_fault;
 use std::alloc::Global;
-
-/// The fault of a number at the offset that has no value.
-fn number_fault(why: FixedFault, at: u32) -> Fault
-    ensures { result ≡ fault_of why at }
-{
-    match why {
-        FixedFault::Scale => Fault {
-            kind: FaultKind::Scale,
-            at,
-        },
-        FixedFault::Range => Fault {
-            kind: FaultKind::Range,
-            at,
-        },
-    }
-}
 
 /// The units, where a test asks for them.
 fn asked_units(alloc: Global, tests: &[Test], units: Units) -> Result<Option<Box<Units>>, Memory>

@@ -1,4 +1,4 @@
--- What is found among the places of a grid's sides is what the contract of a cell tells.
+-- What is found among the outlines of a grid's sides is what the contract of a cell tells.
 -- For `cell_pairs`, `merge`, `new`, `pairs_grid`, `pairs_plain` and `run`.
 use Rattle.std.proofs.Common.{◌≡◌, ℕ, ◌+◌, ◌==◌, true, ◌&&◌, cond, List, [], ◌∷◌, ◌++◌, map, Option, Some, None, inl, inr, arith, refl, sym, ap, subst, ◌∙◌}
 use Rattle.std.specs.Prelude.{All}
@@ -16,16 +16,16 @@ use Rattle.at_query.specs.Joined.{upper, around_both}
 use Rattle.at_query.specs.Parts.{IsProperEntry}
 use Rattle.at_query.specs.Results.{Keeps}
 use Rattle.at_query.proofs.KeptLists.{kept_all}
-use Rattle.at_join.specs.declared.places.Place.{Place}
+use Rattle.at_join.specs.declared.outlines.Outline.{Outline}
 use Rattle.at_join.specs.declared.sides.Side.{Side}
 use Rattle.at_join.specs.Boxes.{touch_of, is_here_of, IsWide}
 use Rattle.at_join.specs.Meetings.{Finds, pairs_of}
 use Rattle.at_join.specs.Cells.{rect_of, spread_of, is_pair_of, belongs, InCells, is_pair, times, ListsEach}
-use Rattle.at_join.specs.Sides.{IsAt, IsPlaceOf, IsGrid, CellHit, at_places}
+use Rattle.at_join.specs.Sides.{IsAt, IsOutlineOf, IsGrid, CellHit, at_outlines}
 use Rattle.at_join.proofs.Extents.{encloses_through, head_round, tail_round, reference_inside, shape_span}
 use Rattle.at_join.proofs.CellRects.{rect_is_cell}
 use Rattle.at_join.proofs.Rows.{one_at}
-use Rattle.at_join.proofs.Offsets.{In, in_from, of_all, one_entry, place_once, pair_times}
+use Rattle.at_join.proofs.Offsets.{In, in_from, of_all, one_entry, outline_once, pair_times}
 
 -- ---- the joint extent is round that of each entry
 
@@ -82,8 +82,8 @@ made m n = record { first = m; second = n }
 pub same_pair : (m n k l : ℕ) → m ≡ k → n ≡ l → made m n ≡ made k l
 same_pair m n k l e f = rw (e, f) refl
 
-wanted_from_hit : (a b : Side) (j : Extent) (cell : ℕ) (p q : Place) → IsGrid a b (Some j) → IsPlaceOf a.entries p → IsPlaceOf b.entries q
-    → CellHit (rect_of j cell) a.entries b.entries (p, q) → InCells a.entries b.entries cell (cell + 1) (at_places (p, q))
+wanted_from_hit : (a b : Side) (j : Extent) (cell : ℕ) (p q : Outline) → IsGrid a b (Some j) → IsOutlineOf a.entries p → IsOutlineOf b.entries q
+    → CellHit (rect_of j cell) a.entries b.entries (p, q) → InCells a.entries b.entries cell (cell + 1) (at_outlines (p, q))
 wanted_from_hit a b j cell p q g (d, at_d, x_d, o_d) (c, at_c, x_c, o_c) (e, at_e, (here, f, at_f, meet)) =
     let same_e = one_at a.entries p.index d e at_d at_e in
     let same_f = one_at b.entries q.index c f at_c at_f in
@@ -104,8 +104,8 @@ wanted_from_hit a b j cell p q g (d, at_d, x_d, o_d) (c, at_c, x_c, o_c) (e, at_
       here = sym (entries_here a.entries b.entries j cell e f p.extent q.extent g.first.entries g.second.entries g.joint (in_at a.entries p.index e at_e) (in_at b.entries q.index f at_f) x_e x_f) ∙ here;
     }
 
-hit_from_wanted : (a b : Side) (j : Extent) (cell : ℕ) (p q : Place) (r : Pair) → IsGrid a b (Some j) → IsPlaceOf a.entries p → IsPlaceOf b.entries q
-    → InCells a.entries b.entries cell (cell + 1) r → at_places (p, q) ≡ r → CellHit (rect_of j cell) a.entries b.entries (p, q)
+hit_from_wanted : (a b : Side) (j : Extent) (cell : ℕ) (p q : Outline) (r : Pair) → IsGrid a b (Some j) → IsOutlineOf a.entries p → IsOutlineOf b.entries q
+    → InCells a.entries b.entries cell (cell + 1) r → at_outlines (p, q) ≡ r → CellHit (rect_of j cell) a.entries b.entries (p, q)
 hit_from_wanted a b j cell p q r g (d, at_d, x_d, o_d) (c, at_c, x_c, o_c) w same =
     let in_d = in_at a.entries p.index d at_d in
     let in_c = in_at b.entries q.index c at_c in
@@ -134,16 +134,16 @@ pub each_weaker : {X : Type 0} (P Q : X → Type 0) → ((x : X) → P x → Q x
 each_weaker P Q to [] h = tt
 each_weaker P Q to (x ∷ xs) h = (to x h.0, each_weaker P Q to xs h.1)
 
-abbrev AreKnown : List Entry → List Entry → Place × Place → Type 0
-AreKnown a b (p, q) = IsPlaceOf a p × IsPlaceOf b q
+abbrev AreKnown : List Entry → List Entry → Outline × Outline → Type 0
+AreKnown a b (p, q) = IsOutlineOf a p × IsOutlineOf b q
 
-known_row : (a b : List Entry) (p : Place) (ys : List Place) → IsPlaceOf a p → AllByRecursion (IsPlaceOf b) ys → AllByRecursion (AreKnown a b) (map (λ (y : Place). (p, y)) ys)
+known_row : (a b : List Entry) (p : Outline) (ys : List Outline) → IsOutlineOf a p → AllByRecursion (IsOutlineOf b) ys → AllByRecursion (AreKnown a b) (map (λ (y : Outline). (p, y)) ys)
 known_row a b p [] h k = tt
 known_row a b p (y ∷ ys) h k = ((h, k.0), known_row a b p ys h k.1)
 
-known_pairs : (a b : List Entry) (xs ys : List Place) → AllByRecursion (IsPlaceOf a) xs → AllByRecursion (IsPlaceOf b) ys → AllByRecursion (AreKnown a b) (pairs_of xs ys)
+known_pairs : (a b : List Entry) (xs ys : List Outline) → AllByRecursion (IsOutlineOf a) xs → AllByRecursion (IsOutlineOf b) ys → AllByRecursion (AreKnown a b) (pairs_of xs ys)
 known_pairs a b [] ys h k = tt
-known_pairs a b (x ∷ xs) ys h k = All-append (AreKnown a b) (map (λ (y : Place). (x, y)) ys) (pairs_of xs ys) (known_row a b x ys h.0 k) (known_pairs a b xs ys h.1 k)
+known_pairs a b (x ∷ xs) ys h k = All-append (AreKnown a b) (map (λ (y : Outline). (x, y)) ys) (pairs_of xs ys) (known_row a b x ys h.0 k) (known_pairs a b xs ys h.1 k)
 
 pub pair_is : (p q : Pair) → is_pair p q ≡ true → q ≡ p
 pair_is p q h =
@@ -151,7 +151,7 @@ pair_is p q h =
     let f = eqb-true q.second p.second (and_parts (q.first == p.first) (q.second == p.second) h).1 in
     same_pair q.first q.second p.first p.second e f
 
--- a pair whose places are all kept stands among the kept as often as among all
+-- a pair whose outlines are all kept stands among the kept as often as among all
 pub kept_times : {X : Type 0} (P : X → Type 0) (f : X → Pair) (r : Pair) (xs ks : List X) → Keeps P xs ks → AllByRecursion (λ (x : X). f x ≡ r → P x) xs → times r (map f ks) ≡ times r (map f xs)
 kept_times P f r [] ks e all = ap (λ l. times r (map f l)) e
 kept_times P f r (x ∷ xs) ks (inl (p, (zs, e, h))) all =
@@ -173,35 +173,35 @@ extents_of (Some j) (Some x) (Some y) cell h = ((x, refl), (y, refl))
 an_extent : (a b : List Entry) (o : Option Extent) (cell : ℕ) (e f : Entry) → is_pair_of o e.extent f.extent cell ≡ true → ((x : Extent) × (e.extent ≡ Some x)) × ((y : Extent) × (f.extent ≡ Some y))
 an_extent a b o cell e f h = extents_of o e.extent f.extent cell h
 
--- what is found among the places is each wanted pair once, and no other
+-- what is found among the outlines is each wanted pair once, and no other
 pub cell_lists : (a b : Side) (j : Extent) (cell : ℕ) (ps : List Pair) → IsGrid a b (Some j)
-    → Finds (CellHit (rect_of j cell) a.entries b.entries) at_places (pairs_of a.places.items b.places.items) [] ps → ListsEach (InCells a.entries b.entries cell (cell + 1)) ps
+    → Finds (CellHit (rect_of j cell) a.entries b.entries) at_outlines (pairs_of a.outlines.items b.outlines.items) [] ps → ListsEach (InCells a.entries b.entries cell (cell + 1)) ps
 cell_lists a b j cell ps g (kept, h, e) =
     let P = CellHit (rect_of j cell) a.entries b.entries in
     let W = InCells a.entries b.entries cell (cell + 1) in
-    let X = pairs_of a.places.items b.places.items in
-    let known = known_pairs a.entries b.entries a.places.items b.places.items (recursion_from_All (IsPlaceOf a.entries) a.places.items g.of_first.indices) (recursion_from_All (IsPlaceOf b.entries) b.places.items g.of_second.indices) in
+    let X = pairs_of a.outlines.items b.outlines.items in
+    let known = known_pairs a.entries b.entries a.outlines.items b.outlines.items (recursion_from_All (IsOutlineOf a.entries) a.outlines.items g.of_first.indices) (recursion_from_All (IsOutlineOf b.entries) b.outlines.items g.of_second.indices) in
     record {
       once = λ r w.
           let ext = an_extent a.entries b.entries (spread_of (a.entries ++ b.entries)) w.cell w.first w.second w.here in
           let first = ap (λ (z : Pair). z.first) w.is in
           let second = ap (λ (z : Pair). z.second) w.is in
-          let one_b = place_once r.second b.entries b.places.items w.second ext.1.0 g.of_second.places g.second.rising (in_from b.entries w.second w.of_second) (sym second) ext.1.1 in
-          let one_a = place_once r.first a.entries a.places.items w.first ext.0.0 g.of_first.places g.first.rising (in_from a.entries w.first w.of_first) (sym first) ext.0.1 in
-          let hits = each_weaker (AreKnown a.entries b.entries) (λ (x : Place × Place). at_places x ≡ r → P x) (λ x k same. hit_from_wanted a b j cell x.0 x.1 r g k.0 k.1 w same) X known in
-          ap (times r) e ∙ kept_times P at_places r X kept h hits ∙ pair_times r a.places.items b.places.items one_b ∙ one_a;
-      no_other = subst (All W) (sym e) (All-from_recursion W (map at_places kept)
-          (both_all (AreKnown a.entries b.entries) P W at_places (λ x k hit. wanted_from_hit a b j cell x.0 x.1 g k.0 k.1 hit) kept (kept_all P (AreKnown a.entries b.entries) X kept h known) (keeps_have P X kept h)));
+          let one_b = outline_once r.second b.entries b.outlines.items w.second ext.1.0 g.of_second.outlines g.second.rising (in_from b.entries w.second w.of_second) (sym second) ext.1.1 in
+          let one_a = outline_once r.first a.entries a.outlines.items w.first ext.0.0 g.of_first.outlines g.first.rising (in_from a.entries w.first w.of_first) (sym first) ext.0.1 in
+          let hits = each_weaker (AreKnown a.entries b.entries) (λ (x : Outline × Outline). at_outlines x ≡ r → P x) (λ x k same. hit_from_wanted a b j cell x.0 x.1 r g k.0 k.1 w same) X known in
+          ap (times r) e ∙ kept_times P at_outlines r X kept h hits ∙ pair_times r a.outlines.items b.outlines.items one_b ∙ one_a;
+      no_other = subst (All W) (sym e) (All-from_recursion W (map at_outlines kept)
+          (both_all (AreKnown a.entries b.entries) P W at_outlines (λ x k hit. wanted_from_hit a b j cell x.0 x.1 g k.0 k.1 hit) kept (kept_all P (AreKnown a.entries b.entries) X kept h known) (keeps_have P X kept h)));
     }
 
 -- the same, as the code has it
 pub cell_told : (a b : Side) (j : Extent) (cell : ℕ) (rect : Extent) (old new ps : List Pair) → IsGrid a b (Some j) → rect ≡ rect_of j cell → old ≡ [] → ps ≡ new
-    → Finds (CellHit rect a.entries b.entries) at_places (pairs_of a.places.items b.places.items) old new → ListsEach (InCells a.entries b.entries cell (cell + 1)) ps
+    → Finds (CellHit rect a.entries b.entries) at_outlines (pairs_of a.outlines.items b.outlines.items) old new → ListsEach (InCells a.entries b.entries cell (cell + 1)) ps
 cell_told a b j cell rect old new ps g e f h found =
     subst (ListsEach (InCells a.entries b.entries cell (cell + 1))) (sym h)
     (cell_lists a b j cell new g
-    (subst (λ l. Finds (CellHit (rect_of j cell) a.entries b.entries) at_places (pairs_of a.places.items b.places.items) l new) f
-    (subst (λ r. Finds (CellHit r a.entries b.entries) at_places (pairs_of a.places.items b.places.items) old new) e found)))
+    (subst (λ l. Finds (CellHit (rect_of j cell) a.entries b.entries) at_outlines (pairs_of a.outlines.items b.outlines.items) l new) f
+    (subst (λ r. Finds (CellHit r a.entries b.entries) at_outlines (pairs_of a.outlines.items b.outlines.items) old new) e found)))
 
 not_here : (x y : Option Extent) (cell : ℕ) → is_pair_of None x y cell ≡ true → ⊥
 not_here x y cell h = cc

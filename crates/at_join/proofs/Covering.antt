@@ -1,4 +1,4 @@
--- Extents round stretches of places.
+-- Extents round stretches of outlines.
 -- For `cell_pairs`, `merge`, `new`, `pairs_grid`, `pairs_plain` and `run`.
 use Rattle.std.proofs.Common.{◌≡◌, ℕ, ◌+◌, ◌-◌, ◌*◌, ◌/◌, ◌<◌, ◌≤◌, min, pos, true, false, List, [], ◌∷◌, ◌++◌, length, get_or, take, drop, inl, inr, arith, sym, ap, subst, ◌∙◌}
 use Rattle.std.proofs.Math.Nat.{mul-le-mul_right}
@@ -9,34 +9,34 @@ use Rattle.std.proofs.lemmas.Bool.{cases_lt}
 use Rattle.at_geom.specs.declared.rectangles.Extent.{Extent}
 use Rattle.at_geom.specs.Shapes.{encloses}
 use Rattle.at_query.specs.Joined.{around}
-use Rattle.at_join.specs.declared.places.Place.{Place}
+use Rattle.at_join.specs.declared.outlines.Outline.{Outline}
 use Rattle.at_join.specs.Boxes.{touch_of}
 use Rattle.at_join.specs.Sides.{Cover}
 use Rattle.at_join.proofs.Extents.{encloses_itself, beside, off_itself, covered_off, around_first, around_second}
 
--- what stands where a list has no place
+-- what stands where a list has no outline
 abbrev pub no_extent : Extent
 no_extent = record { low = record { x = pos 0; y = pos 0 }; high = record { x = pos 0; y = pos 0 } }
 
-abbrev pub no_place : Place
-no_place = record { extent = no_extent; at = 0; index = 0 }
+abbrev pub no_outline : Outline
+no_outline = record { extent = no_extent; at = 0; index = 0 }
 
--- the first k places of a list lie in the extent
-abbrev pub IsRound : Extent → List Place → ℕ → Type 0
-IsRound x places n = (k : ℕ) (e : Place) → k < n → encloses x (get_or places k e).extent ≡ true
+-- the first k outlines of a list lie in the extent
+abbrev pub IsRound : Extent → List Outline → ℕ → Type 0
+IsRound x outlines n = (k : ℕ) (e : Outline) → k < n → encloses x (get_or outlines k e).extent ≡ true
 
-pub round_more : (x : Extent) (places : List Place) (i : ℕ) (q : Place) → ((e : Place) → get_or places i e ≡ q) → IsRound x places i → IsRound (around x q.extent) places (i + 1)
-round_more x places i q is h = λ k e lt. elim (cases_lt k i) [
-  | inl below ↦ around_first x q.extent (get_or places k e).extent (h k e below)
+pub round_more : (x : Extent) (outlines : List Outline) (i : ℕ) (q : Outline) → ((e : Outline) → get_or outlines i e ≡ q) → IsRound x outlines i → IsRound (around x q.extent) outlines (i + 1)
+round_more x outlines i q is h = λ k e lt. elim (cases_lt k i) [
+  | inl below ↦ around_first x q.extent (get_or outlines k e).extent (h k e below)
   | inr from ↦
       let same : k ≡ i = omega (arith, lt, from) in
-      subst (λ (j : ℕ). encloses (around x q.extent) (get_or places j e).extent ≡ true) (sym same)
-      (subst (λ (p : Place). encloses (around x q.extent) p.extent ≡ true) (sym (is e)) (around_second x q.extent))
+      subst (λ (j : ℕ). encloses (around x q.extent) (get_or outlines j e).extent ≡ true) (sym same)
+      (subst (λ (p : Outline). encloses (around x q.extent) p.extent ≡ true) (sym (is e)) (around_second x q.extent))
 ]
 
--- the covers of the first places, up to a number
-abbrev pub CoverTo : ℕ → List Extent → List Place → ℕ → Type 0
-CoverTo size covers places n = (c j : ℕ) (d : Extent) (e : Place) → j < size → c * size + j < n → encloses (get_or covers c d) (get_or places (c * size + j) e).extent ≡ true
+-- the covers of the first outlines, up to a number
+abbrev pub CoverTo : ℕ → List Extent → List Outline → ℕ → Type 0
+CoverTo size covers outlines n = (c j : ℕ) (d : Extent) (e : Outline) → j < size → c * size + j < n → encloses (get_or covers c d) (get_or outlines (c * size + j) e).extent ≡ true
 
 -- c is below l where its stretch begins below that of l
 earlier : (c l j size : ℕ) → c * size + j < l * size → c < l
@@ -52,32 +52,32 @@ only_here c l j size small from to = elim (cases_lt c l) [
 ]
 
 -- one cover more
-pub cover_more : (size : ℕ) (covers : List Extent) (x : Extent) (places : List Place) (from to : ℕ) → from ≡ length covers * size → from ≤ to → to ≤ from + size
-    → IsRound x (take (to - from) (drop from places)) (to - from) → CoverTo size covers places from → CoverTo size (covers ++ x ∷ []) places to
-cover_more size covers x places from to at up far round h = λ c j d e small lt. elim (cases_lt (c * size + j) from) [
+pub cover_more : (size : ℕ) (covers : List Extent) (x : Extent) (outlines : List Outline) (from to : ℕ) → from ≡ length covers * size → from ≤ to → to ≤ from + size
+    → IsRound x (take (to - from) (drop from outlines)) (to - from) → CoverTo size covers outlines from → CoverTo size (covers ++ x ∷ []) outlines to
+cover_more size covers x outlines from to at up far round h = λ c j d e small lt. elim (cases_lt (c * size + j) from) [
   | inl before ↦
       let below = earlier c (length covers) j size (omega (arith, before, at)) in
-      subst (λ (y : Extent). encloses y (get_or places (c * size + j) e).extent ≡ true) (sym (get_or-append covers (x ∷ []) d c below)) (h c j d e small before)
+      subst (λ (y : Extent). encloses y (get_or outlines (c * size + j) e).extent ≡ true) (sym (get_or-append covers (x ∷ []) d c below)) (h c j d e small before)
   | inr behind ↦
       let same = only_here c (length covers) j size small (omega (arith, behind, at)) (omega (arith, lt, far, at)) in
       let k : ℕ = (c * size + j) - from in
       let within : k < to - from = omega (arith, lt, behind) in
-      let there : get_or (take (to - from) (drop from places)) k e ≡ get_or places (c * size + j) e =
-      get_or-take (to - from) (drop from places) k e within ∙ get_or-drop from places k e ∙ ap (λ m. get_or places m e) (omega (arith, behind)) in
-      subst (λ (y : Extent). encloses y (get_or places (c * size + j) e).extent ≡ true) (sym (ap (λ m. get_or (covers ++ x ∷ []) m d) same ∙ get_or-append_seam covers x [] d))
-      (subst (λ (p : Place). encloses x p.extent ≡ true) there (round k e within))
+      let there : get_or (take (to - from) (drop from outlines)) k e ≡ get_or outlines (c * size + j) e =
+      get_or-take (to - from) (drop from outlines) k e within ∙ get_or-drop from outlines k e ∙ ap (λ m. get_or outlines m e) (omega (arith, behind)) in
+      subst (λ (y : Extent). encloses y (get_or outlines (c * size + j) e).extent ≡ true) (sym (ap (λ m. get_or (covers ++ x ∷ []) m d) same ∙ get_or-append_seam covers x [] d))
+      (subst (λ (p : Outline). encloses x p.extent ≡ true) there (round k e within))
 ]
 
--- the places of a stretch whose cover is off a window
-pub stretch_off : (size c at : ℕ) (covers : List Extent) (places : List Place) (w : Extent) → Cover size covers places → at ≡ c * size → ((d : Extent) → touch_of (get_or covers c d) w ≡ false)
-    → (k : ℕ) (e : Place) → at ≤ k → k < at + size → k < length places → touch_of (get_or places k e).extent w ≡ false
-stretch_off size c at covers places w cover is off k e from to lt =
+-- the outlines of a stretch whose cover is off a window
+pub stretch_off : (size c at : ℕ) (covers : List Extent) (outlines : List Outline) (w : Extent) → Cover size covers outlines → at ≡ c * size → ((d : Extent) → touch_of (get_or covers c d) w ≡ false)
+    → (k : ℕ) (e : Outline) → at ≤ k → k < at + size → k < length outlines → touch_of (get_or outlines k e).extent w ≡ false
+stretch_off size c at covers outlines w cover is off k e from to lt =
     let j : ℕ = k - at in
     let here : c * size + j ≡ k = omega (arith, is, from) in
     let small : j < size = omega (arith, from, to) in
     let d : Extent = e.extent in
-    subst (λ (m : ℕ). touch_of (get_or places m e).extent w ≡ false) here
-    (covered_off (get_or covers c d) (get_or places (c * size + j) e).extent w (cover c j d e small (omega (arith, here, lt))) (off d))
+    subst (λ (m : ℕ). touch_of (get_or outlines m e).extent w ≡ false) here
+    (covered_off (get_or covers c d) (get_or outlines (c * size + j) e).extent w (cover c j d e small (omega (arith, here, lt))) (off d))
 
 -- where the stretch behind this one begins
 pub next_at : (size l n from to : ℕ) → from ≡ l * size → to ≡ min n (from + size) → to < n → to ≡ (l + 1) * size
@@ -88,34 +88,34 @@ next_at size l n from to at is lt =
 pub part_length : {X : Type 0} (xs : List X) (from to : ℕ) → from ≤ to → to ≤ length xs → length (take (to - from) (drop from xs)) ≡ to - from
 part_length xs from to le lt = length-take-le (to - from) (drop from xs) (omega (arith, length-drop from xs, le, lt))
 
--- ---- the extent round the stretch in which a place stands
+-- ---- the extent round the stretch in which an outline stands
 
--- a stretch with a place has an extent
-cover_there : (size c j : ℕ) (covers : List Extent) (places : List Place) → Cover size covers places → j < size → c * size + j < length places → c < length covers
-cover_there size c j covers places cover small lt = elim (cases_lt c (length covers)) [
+-- a stretch with an outline has an extent
+cover_there : (size c j : ℕ) (covers : List Extent) (outlines : List Outline) → Cover size covers outlines → j < size → c * size + j < length outlines → c < length covers
+cover_there size c j covers outlines cover small lt = elim (cases_lt c (length covers)) [
   | inl below ↦ below
   | inr from ↦
-      let x : Extent = (get_or places (c * size + j) no_place).extent in
-      absurd (off_itself x (subst (λ (y : Extent). encloses y x ≡ true) (get_or_past covers c (beside x) from) (cover c j (beside x) no_place small lt)))
+      let x : Extent = (get_or outlines (c * size + j) no_outline).extent in
+      absurd (off_itself x (subst (λ (y : Extent). encloses y x ≡ true) (get_or_past covers c (beside x) from) (cover c j (beside x) no_outline small lt)))
 ]
 
-pub round_there : (at : ℕ) (covers : List Extent) (places : List Place) → Cover 16 covers places → at < length places → at / 16 < length covers
-round_there at covers places cover lt =
+pub round_there : (at : ℕ) (covers : List Extent) (outlines : List Outline) → Cover 16 covers outlines → at < length outlines → at / 16 < length covers
+round_there at covers outlines cover lt =
     let j : ℕ = at - at / 16 * 16 in
-    cover_there 16 (at / 16) j covers places cover (omega arith) (omega (arith, lt))
+    cover_there 16 (at / 16) j covers outlines cover (omega arith) (omega (arith, lt))
 
-pub round_of : (at : ℕ) (covers : List Extent) (places : List Place) (x : Extent) → Cover 16 covers places → x ≡ get_or covers (at / 16) x
-    → (k : ℕ) (e : Place) → at ≤ k → k < at / 16 * 16 + 16 → k < length places → encloses x (get_or places k e).extent ≡ true
-round_of at covers places x cover is k e from to lt =
+pub round_of : (at : ℕ) (covers : List Extent) (outlines : List Outline) (x : Extent) → Cover 16 covers outlines → x ≡ get_or covers (at / 16) x
+    → (k : ℕ) (e : Outline) → at ≤ k → k < at / 16 * 16 + 16 → k < length outlines → encloses x (get_or outlines k e).extent ≡ true
+round_of at covers outlines x cover is k e from to lt =
     let j : ℕ = k - at / 16 * 16 in
     let here : at / 16 * 16 + j ≡ k = omega (arith, from) in
-    subst (λ (y : Extent). encloses y (get_or places k e).extent ≡ true) (sym is)
-    (subst (λ (m : ℕ). encloses (get_or covers (at / 16) x) (get_or places m e).extent ≡ true) here
+    subst (λ (y : Extent). encloses y (get_or outlines k e).extent ≡ true) (sym is)
+    (subst (λ (m : ℕ). encloses (get_or covers (at / 16) x) (get_or outlines m e).extent ≡ true) here
     (cover (at / 16) j x e (omega (arith, from, to)) (omega (arith, here, lt))))
 
-pub round_one : (at to : ℕ) (places : List Place) (q : Place) → to ≡ at + 1 → at < length places → q ≡ get_or places at q
-    → (k : ℕ) (e : Place) → at ≤ k → k < to → encloses q.extent (get_or places k e).extent ≡ true
-round_one at to places q end lt is k e from below =
+pub round_one : (at to : ℕ) (outlines : List Outline) (q : Outline) → to ≡ at + 1 → at < length outlines → q ≡ get_or outlines at q
+    → (k : ℕ) (e : Outline) → at ≤ k → k < to → encloses q.extent (get_or outlines k e).extent ≡ true
+round_one at to outlines q end lt is k e from below =
     let here : at ≡ k = omega (arith, from, below, end) in
-    subst (λ (m : ℕ). encloses q.extent (get_or places m e).extent ≡ true) here
-    (subst (λ (p : Place). encloses q.extent p.extent ≡ true) (is ∙ get_or_default places at q e lt) (encloses_itself q.extent))
+    subst (λ (m : ℕ). encloses q.extent (get_or outlines m e).extent ≡ true) here
+    (subst (λ (p : Outline). encloses q.extent p.extent ≡ true) (is ∙ get_or_default outlines at q e lt) (encloses_itself q.extent))

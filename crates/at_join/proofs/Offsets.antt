@@ -12,10 +12,10 @@ use Rattle.at_geom.specs.declared.rectangles.Extent.{Extent}
 use Rattle.at_query.specs.declared.answer.parts.Entry.{Entry}
 use Rattle.at_query.specs.declared.answer.answers.Pair.{Pair}
 use Rattle.at_query.specs.Parts.{AreRising}
-use Rattle.at_join.specs.declared.places.Place.{Place}
+use Rattle.at_join.specs.declared.outlines.Outline.{Outline}
 use Rattle.at_join.specs.Meetings.{pairs_of}
 use Rattle.at_join.specs.Cells.{is_pair, times}
-use Rattle.at_join.specs.Sides.{place_of, placed, at_places}
+use Rattle.at_join.specs.Sides.{outline_of, outlined, at_outlines}
 use Rattle.at_join.proofs.FoundLists.{count_mapped}
 
 abbrev pub In : {X : Type 0} → X → List X → Type 0
@@ -64,77 +64,77 @@ one_entry (x ∷ es) e f r (inl h) (inr k) same = absurd (let lt = of_all (λ (y
 one_entry (x ∷ es) e f r (inr h) (inl k) same = absurd (let lt = of_all (λ (y : Entry). x.at < y.at) es e (above x es r) h in let s = ap (λ (y : Entry). y.at) k in omega (arith, lt, s, same))
 one_entry (x ∷ es) e f r (inr h) (inr k) same = one_entry es e f (rest_rises x es r) h k same
 
--- ---- how often an offset stands among the places
+-- ---- how often an offset stands among the outlines
 
-abbrev pub has : ℕ → Place → Bool
+abbrev pub has : ℕ → Outline → Bool
 has n q = q.at == n
 
 count_joined : {X : Type 0} (p : X → Bool) (xs ys : List X) → count_by p (xs ++ ys) ≡ count_by p xs + count_by p ys
 count_joined p xs ys = sum_by-append (λ x. cond (p x) 1 0) xs ys
 
-one_place : (n k at : ℕ) (x : Extent) → at ≡ n → count_by (has n) (place_of k at (Some x)) ≡ 1
-one_place n k at x e = rw (eq-eqb at n e) refl
+one_outline : (n k at : ℕ) (x : Extent) → at ≡ n → count_by (has n) (outline_of k at (Some x)) ≡ 1
+one_outline n k at x e = rw (eq-eqb at n e) refl
 
-no_such_place : (n k at : ℕ) (o : Option Extent) → (at ≡ n → ⊥) → count_by (has n) (place_of k at o) ≡ 0
-no_such_place n k at None d = refl
-no_such_place n k at (Some x) d = rw (ne_eqb at n d) refl
+no_such_outline : (n k at : ℕ) (o : Option Extent) → (at ≡ n → ⊥) → count_by (has n) (outline_of k at o) ≡ 0
+no_such_outline n k at None d = refl
+no_such_outline n k at (Some x) d = rw (ne_eqb at n d) refl
 
-none_above : (n k : ℕ) (es : List Entry) → AreAbove n es → count_by (has n) (placed k es) ≡ 0
+none_above : (n k : ℕ) (es : List Entry) → AreAbove n es → count_by (has n) (outlined k es) ≡ 0
 none_above n k [] h = refl
 none_above n k (e ∷ es) h =
-    let a = no_such_place n k e.at e.extent (λ s. let lt = h.0 in omega (arith, lt, s)) in
+    let a = no_such_outline n k e.at e.extent (λ s. let lt = h.0 in omega (arith, lt, s)) in
     let b = none_above n (k + 1) es h.1 in
-    let c = count_joined (has n) (place_of k e.at e.extent) (placed (k + 1) es) in
+    let c = count_joined (has n) (outline_of k e.at e.extent) (outlined (k + 1) es) in
     omega (arith, a, b, c)
 
--- an entry with an extent has one place
-pub placed_once : (n k : ℕ) (es : List Entry) (e : Entry) (x : Extent) → Rises es → In e es → e.at ≡ n → e.extent ≡ Some x → count_by (has n) (placed k es) ≡ 1
-placed_once n k [] e x r h at is = absurd h
-placed_once n k (y ∷ es) e x r (inl h) at is =
+-- an entry with an extent has one outline
+pub outlined_once : (n k : ℕ) (es : List Entry) (e : Entry) (x : Extent) → Rises es → In e es → e.at ≡ n → e.extent ≡ Some x → count_by (has n) (outlined k es) ≡ 1
+outlined_once n k [] e x r h at is = absurd h
+outlined_once n k (y ∷ es) e x r (inl h) at is =
     let same : y.extent ≡ Some x = ap (λ (z : Entry). z.extent) h ∙ is in
     let here : y.at ≡ n = ap (λ (z : Entry). z.at) h ∙ at in
-    let a = ap (λ o. count_by (has n) (place_of k y.at o)) same ∙ one_place n k y.at x here in
+    let a = ap (λ o. count_by (has n) (outline_of k y.at o)) same ∙ one_outline n k y.at x here in
     let b = none_above n (k + 1) es (subst (λ m. AreAbove m es) here (above y es r)) in
-    let c = count_joined (has n) (place_of k y.at y.extent) (placed (k + 1) es) in
+    let c = count_joined (has n) (outline_of k y.at y.extent) (outlined (k + 1) es) in
     omega (arith, a, b, c)
-placed_once n k (y ∷ es) e x r (inr h) at is =
+outlined_once n k (y ∷ es) e x r (inr h) at is =
     let lt = of_all (λ (z : Entry). y.at < z.at) es e (above y es r) h in
-    let a = no_such_place n k y.at y.extent (λ s. omega (arith, lt, s, at)) in
-    let b = placed_once n (k + 1) es e x (rest_rises y es r) h at is in
-    let c = count_joined (has n) (place_of k y.at y.extent) (placed (k + 1) es) in
+    let a = no_such_outline n k y.at y.extent (λ s. omega (arith, lt, s, at)) in
+    let b = outlined_once n (k + 1) es e x (rest_rises y es r) h at is in
+    let c = count_joined (has n) (outline_of k y.at y.extent) (outlined (k + 1) es) in
     omega (arith, a, b, c)
 
-pub place_once : (n : ℕ) (es : List Entry) (places : List Place) (e : Entry) (x : Extent) → IsPermutation (placed 0 es) places → Rises es → In e es → e.at ≡ n → e.extent ≡ Some x → count_by (has n) places ≡ 1
-place_once n es places e x moved r h at is = sum_by-IsPermutation (λ q. cond (has n q) 1 0) (placed 0 es) places moved ∙ placed_once n 0 es e x r h at is
+pub outline_once : (n : ℕ) (es : List Entry) (outlines : List Outline) (e : Entry) (x : Extent) → IsPermutation (outlined 0 es) outlines → Rises es → In e es → e.at ≡ n → e.extent ≡ Some x → count_by (has n) outlines ≡ 1
+outline_once n es outlines e x moved r h at is = sum_by-IsPermutation (λ q. cond (has n q) 1 0) (outlined 0 es) outlines moved ∙ outlined_once n 0 es e x r h at is
 
--- ---- how often a pair of offsets stands among the pairs of places
+-- ---- how often a pair of offsets stands among the pairs of outlines
 
-row_times_true : (p : Pair) (q : Place) (ys : List Place) → (q.at == p.first) ≡ true → count_by (λ (y : Place). is_pair p (at_places (q, y))) ys ≡ count_by (has p.second) ys
+row_times_true : (p : Pair) (q : Outline) (ys : List Outline) → (q.at == p.first) ≡ true → count_by (λ (y : Outline). is_pair p (at_outlines (q, y))) ys ≡ count_by (has p.second) ys
 row_times_true p q [] e = refl
 row_times_true p q (y ∷ ys) e =
-    sum_by-cons (λ (z : Place). cond (is_pair p (at_places (q, z))) 1 0) y ys
-    ∙ ap (λ n. cond (is_pair p (at_places (q, y))) 1 0 + n) (row_times_true p q ys e)
+    sum_by-cons (λ (z : Outline). cond (is_pair p (at_outlines (q, z))) 1 0) y ys
+    ∙ ap (λ n. cond (is_pair p (at_outlines (q, y))) 1 0 + n) (row_times_true p q ys e)
     ∙ ap (λ b. cond (b && (y.at == p.second)) 1 0 + count_by (has p.second) ys) e
-    ∙ sym (sum_by-cons (λ (z : Place). cond (has p.second z) 1 0) y ys)
+    ∙ sym (sum_by-cons (λ (z : Outline). cond (has p.second z) 1 0) y ys)
 
-row_times_false : (p : Pair) (q : Place) (ys : List Place) → (q.at == p.first) ≡ false → count_by (λ (y : Place). is_pair p (at_places (q, y))) ys ≡ 0
+row_times_false : (p : Pair) (q : Outline) (ys : List Outline) → (q.at == p.first) ≡ false → count_by (λ (y : Outline). is_pair p (at_outlines (q, y))) ys ≡ 0
 row_times_false p q [] e = refl
 row_times_false p q (y ∷ ys) e =
-    sum_by-cons (λ (z : Place). cond (is_pair p (at_places (q, z))) 1 0) y ys
-    ∙ ap (λ n. cond (is_pair p (at_places (q, y))) 1 0 + n) (row_times_false p q ys e)
+    sum_by-cons (λ (z : Outline). cond (is_pair p (at_outlines (q, z))) 1 0) y ys
+    ∙ ap (λ n. cond (is_pair p (at_outlines (q, y))) 1 0 + n) (row_times_false p q ys e)
     ∙ ap (λ b. cond (b && (y.at == p.second)) 1 0 + 0) e
 
-row_times : (p : Pair) (q : Place) (ys : List Place) (b : Bool) → (q.at == p.first) ≡ b → count_by (has p.second) ys ≡ 1 → count_by (λ (y : Place). is_pair p (at_places (q, y))) ys ≡ cond b 1 0
+row_times : (p : Pair) (q : Outline) (ys : List Outline) (b : Bool) → (q.at == p.first) ≡ b → count_by (has p.second) ys ≡ 1 → count_by (λ (y : Outline). is_pair p (at_outlines (q, y))) ys ≡ cond b 1 0
 row_times p q ys true e one = row_times_true p q ys e ∙ one
 row_times p q ys false e one = row_times_false p q ys e
 
-pub pair_times : (p : Pair) (xs ys : List Place) → count_by (has p.second) ys ≡ 1 → times p (map at_places (pairs_of xs ys)) ≡ count_by (has p.first) xs
+pub pair_times : (p : Pair) (xs ys : List Outline) → count_by (has p.second) ys ≡ 1 → times p (map at_outlines (pairs_of xs ys)) ≡ count_by (has p.first) xs
 pair_times p [] ys one = refl
 pair_times p (q ∷ xs) ys one =
-    let row : List (Place × Place) = map (λ (y : Place). (q, y)) ys in
-    let whole = count_mapped (is_pair p) at_places (row ++ pairs_of xs ys) in
-    let parts = count_joined (λ (z : Place × Place). is_pair p (at_places z)) row (pairs_of xs ys) in
-    let first = count_mapped (λ (z : Place × Place). is_pair p (at_places z)) (λ (y : Place). (q, y)) ys ∙ row_times p q ys (has p.first q) refl one in
-    let rest = sym (count_mapped (is_pair p) at_places (pairs_of xs ys)) ∙ pair_times p xs ys one in
-    let goal = sum_by-cons (λ (z : Place). cond (has p.first z) 1 0) q xs in
+    let row : List (Outline × Outline) = map (λ (y : Outline). (q, y)) ys in
+    let whole = count_mapped (is_pair p) at_outlines (row ++ pairs_of xs ys) in
+    let parts = count_joined (λ (z : Outline × Outline). is_pair p (at_outlines z)) row (pairs_of xs ys) in
+    let first = count_mapped (λ (z : Outline × Outline). is_pair p (at_outlines z)) (λ (y : Outline). (q, y)) ys ∙ row_times p q ys (has p.first q) refl one in
+    let rest = sym (count_mapped (is_pair p) at_outlines (pairs_of xs ys)) ∙ pair_times p xs ys one in
+    let goal = sum_by-cons (λ (z : Outline). cond (has p.first z) 1 0) q xs in
     omega (arith, whole, parts, first, rest, goal)

@@ -12,12 +12,12 @@ use Rattle.at_geom.specs.declared.rectangles.Extent.{Extent}
 use Rattle.at_query.specs.declared.answer.parts.Entry.{Entry}
 use Rattle.at_query.specs.Joined.{around, around_both}
 use Rattle.at_query.specs.Parts.{IsProperEntry}
-use Rattle.at_join.specs.declared.places.Place.{Place}
+use Rattle.at_join.specs.declared.outlines.Outline.{Outline}
 use Rattle.at_join.specs.declared.sides.Side.{Side}
 use Rattle.at_join.specs.Boxes.{is_here_of, IsSpan}
 use Rattle.at_join.specs.Meetings.{pairs_of}
 use Rattle.at_join.specs.Cells.{rect_of, spread_of, belongs}
-use Rattle.at_join.specs.Sides.{IsGrid, place_of, placed, spread_onto, is_cell_here}
+use Rattle.at_join.specs.Sides.{IsGrid, outline_of, outlined, spread_onto, is_cell_here}
 use Rattle.at_join.proofs.Extents.{shape_span}
 use Rattle.at_join.proofs.FoundLists.{count_mapped}
 use Rattle.at_join.proofs.Offsets.{In}
@@ -58,27 +58,27 @@ spread_span (y ∷ es) j h e = both_span y.extent (spread_of es) j (λ x f. shap
 pub grid_span : (a b : Side) (j : Extent) (o : Option Extent) → IsGrid a b o → o ≡ Some j → IsSpan j
 grid_span a b j o g e = spread_span (a.entries ++ b.entries) j (All-append IsProperEntry a.entries b.entries g.first.entries g.second.entries) (sym g.joint ∙ e)
 
--- ---- how many pairs of places are of a cell
+-- ---- how many pairs of outlines are of a cell
 
 -- what an extent counts, where there is one
 abbrev optional : (Extent → ℕ) → Option Extent → ℕ
 optional n None = 0
 optional n (Some x) = n x
 
-place_sum : (n : Extent → ℕ) (k at : ℕ) (o : Option Extent) → sum_by (λ (q : Place). n q.extent) (place_of k at o) ≡ optional n o
-place_sum n k at None = refl
-place_sum n k at (Some x) = let e = sum_by-cons (λ (q : Place). n q.extent) (record { extent = x; at = at; index = k }) [] in omega (arith, e)
+outline_sum : (n : Extent → ℕ) (k at : ℕ) (o : Option Extent) → sum_by (λ (q : Outline). n q.extent) (outline_of k at o) ≡ optional n o
+outline_sum n k at None = refl
+outline_sum n k at (Some x) = let e = sum_by-cons (λ (q : Outline). n q.extent) (record { extent = x; at = at; index = k }) [] in omega (arith, e)
 
 same_optional : (n m : Extent → ℕ) → ((x : Extent) → n x ≡ m x) → (o : Option Extent) → optional n o ≡ optional m o
 same_optional n m e None = refl
 same_optional n m e (Some x) = e x
 
-placed_sum : (n : Extent → ℕ) (k : ℕ) (es : List Entry) → sum_by (λ (q : Place). n q.extent) (placed k es) ≡ sum_by (λ (e : Entry). optional n e.extent) es
-placed_sum n k [] = refl
-placed_sum n k (e ∷ es) =
-    let parts = sum_by-append (λ (q : Place). n q.extent) (place_of k e.at e.extent) (placed (k + 1) es) in
-    let one = place_sum n k e.at e.extent in
-    let rest = placed_sum n (k + 1) es in
+outlined_sum : (n : Extent → ℕ) (k : ℕ) (es : List Entry) → sum_by (λ (q : Outline). n q.extent) (outlined k es) ≡ sum_by (λ (e : Entry). optional n e.extent) es
+outlined_sum n k [] = refl
+outlined_sum n k (e ∷ es) =
+    let parts = sum_by-append (λ (q : Outline). n q.extent) (outline_of k e.at e.extent) (outlined (k + 1) es) in
+    let one = outline_sum n k e.at e.extent in
+    let rest = outlined_sum n (k + 1) es in
     let whole = sum_by-cons (λ (z : Entry). optional n z.extent) e es in
     omega (arith, parts, one, rest, whole)
 
@@ -116,24 +116,24 @@ row_counts a b j cell e (Some x) g h ex =
     (λ f k. entry_counts a b j cell e f (Some x) f.extent g h k ex refl)
 
 pub cell_steps : (a b : Side) (j : Extent) (cell : ℕ) → IsGrid a b (Some j)
-    → count_by (is_cell_here (rect_of j cell)) (pairs_of a.places.items b.places.items) ≤ count_by (belongs a.entries b.entries cell) (pairs_of a.entries b.entries)
+    → count_by (is_cell_here (rect_of j cell)) (pairs_of a.outlines.items b.outlines.items) ≤ count_by (belongs a.entries b.entries cell) (pairs_of a.entries b.entries)
 cell_steps a b j cell g =
     let rect = rect_of j cell in
-    let row : Extent → ℕ = λ x. sum_by (λ (q : Place). cond (is_here_of rect x q.extent) 1 0) b.places.items in
+    let row : Extent → ℕ = λ x. sum_by (λ (q : Outline). cond (is_here_of rect x q.extent) 1 0) b.outlines.items in
     let entry_row : Extent → ℕ = λ x. sum_by (λ (f : Entry). optional (λ y. cond (is_here_of rect x y) 1 0) f.extent) b.entries in
-    let rows = rows_sum (is_cell_here rect) a.places.items b.places.items in
-    let moved = sum_by-IsPermutation (λ (p : Place). row p.extent) (placed 0 a.entries) a.places.items g.of_first.places in
-    let first = placed_sum row 0 a.entries in
+    let rows = rows_sum (is_cell_here rect) a.outlines.items b.outlines.items in
+    let moved = sum_by-IsPermutation (λ (p : Outline). row p.extent) (outlined 0 a.entries) a.outlines.items g.of_first.outlines in
+    let first = outlined_sum row 0 a.entries in
     let inner : (x : Extent) → row x ≡ entry_row x = λ x.
-    sum_by-IsPermutation (λ (q : Place). cond (is_here_of rect x q.extent) 1 0) (placed 0 b.entries) b.places.items g.of_second.places ∙ placed_sum (λ y. cond (is_here_of rect x y) 1 0) 0 b.entries in
+    sum_by-IsPermutation (λ (q : Outline). cond (is_here_of rect x q.extent) 1 0) (outlined 0 b.entries) b.outlines.items g.of_second.outlines ∙ outlined_sum (λ y. cond (is_here_of rect x y) 1 0) 0 b.entries in
     let le = sum_least (λ (e : Entry). optional row e.extent) (λ (e : Entry). count_by (λ (f : Entry). belongs a.entries b.entries cell (e, f)) b.entries) a.entries
     (λ e h. let s = same_optional row entry_row inner e.extent in let n = row_counts a b j cell e e.extent g h refl in omega (arith, s, n)) in
     let whole = rows_sum (belongs a.entries b.entries cell) a.entries b.entries in
     omega (arith, rows, moved, first, le, whole)
 
 pub cell_stepped : (a b : Side) (j : Extent) (cell : ℕ) (rect : Extent) (m n : ℕ) → IsGrid a b (Some j) → rect ≡ rect_of j cell
-    → m ≤ n + count_by (is_cell_here rect) (pairs_of a.places.items b.places.items) → m ≤ n + count_by (belongs a.entries b.entries cell) (pairs_of a.entries b.entries)
+    → m ≤ n + count_by (is_cell_here rect) (pairs_of a.outlines.items b.outlines.items) → m ≤ n + count_by (belongs a.entries b.entries cell) (pairs_of a.entries b.entries)
 cell_stepped a b j cell rect m n g e h =
     let most = cell_steps a b j cell g in
-    let same = subst (λ r. m ≤ n + count_by (is_cell_here r) (pairs_of a.places.items b.places.items)) e h in
+    let same = subst (λ r. m ≤ n + count_by (is_cell_here r) (pairs_of a.outlines.items b.outlines.items)) e h in
     omega (arith, most, same)

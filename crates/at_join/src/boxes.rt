@@ -1,10 +1,10 @@
-//! Extents: whether two have a common point, and the least one round two.
+//! Extents: whether two have a common point, and what they have in common.
 
 ghost use Rattle.std.specs.Prelude.{◌≡◌, ◌&&◌, int_le};
 ghost use Rattle.at_join.specs.Boxes.{touch_of, common_of};
-ghost use Rattle.at_query.specs.Joined.{lower, upper, around};
 
-use at_geom::{Extent, Pos};
+use at_geom::Extent;
+use at_query::{lower_corner, upper_corner};
 
 /// Whether two extents have a common point.
 pub(crate) fn touch(x: Extent, y: Extent) -> bool
@@ -22,42 +22,12 @@ pub(crate) fn are_ordered(a: i64, b: i64, c: i64, d: i64) -> bool
     a <= b && c <= d
 }
 
-/// The least x and the least y of two positions.
-pub(crate) fn least_of(a: Pos, b: Pos) -> Pos
-    ensures { result ≡ lower a b }
-{
-    Pos {
-        x: a.x.min(b.x),
-        y: a.y.min(b.y),
-    }
-}
-
-/// The greatest x and the greatest y of two positions.
-pub(crate) fn greatest_of(a: Pos, b: Pos) -> Pos
-    ensures { result ≡ upper a b }
-{
-    Pos {
-        x: a.x.max(b.x),
-        y: a.y.max(b.y),
-    }
-}
-
-/// The least extent round two.
-pub(crate) fn around_two(x: Extent, y: Extent) -> Extent
-    ensures { result ≡ around x y }
-{
-    Extent {
-        low: least_of(x.low, y.low),
-        high: greatest_of(x.high, y.high),
-    }
-}
-
 /// What two extents have in common; where that is nothing, its low is past its high.
 pub(crate) fn common(x: Extent, y: Extent) -> Extent
     ensures { result ≡ common_of x y }
 {
     Extent {
-        low: greatest_of(x.low, y.low),
-        high: least_of(x.high, y.high),
+        low: upper_corner(x.low, y.low),
+        high: lower_corner(x.high, y.high),
     }
 }

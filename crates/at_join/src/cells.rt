@@ -5,8 +5,9 @@ ghost use Rattle.at_geom.specs.Shapes.{is_within};
 ghost use Rattle.at_join.specs.Cells.{edge_of, rect_of};
 ghost use Rattle.at_join.specs.Boxes.{is_here_of, IsSpan};
 
-use crate::boxes::{are_ordered, greatest_of, touch};
+use crate::boxes::{are_ordered, touch};
 use at_geom::{Extent, Pos};
+use at_query::upper_corner;
 
 /// The positions of a cell, which are all in one extent.
 pub(crate) fn cell_rect(joint: Extent, cell: u32) -> Extent
@@ -81,7 +82,7 @@ pub(crate) fn is_here(rect: Extent, x: Extent, y: Extent) -> bool
     ensures { result ≡ is_here_of rect x y }
 {
     if touch(x, y) {
-        is_in(rect, greatest_of(x.low, y.low))
+        is_in(rect, upper_corner(x.low, y.low))
     } else {
         false
     }

@@ -7,13 +7,12 @@ ghost use Rattle.at_query.specs.Joined.{around_both};
 ghost use Rattle.at_join.specs.Sides.{spread_onto};
 ghost use Rattle.at_join.specs.Cells.{belongs, InCells, ListsEach};
 
-use crate::boxes::around_two;
 use crate::cells::cell_rect;
 use crate::finding::push_cell;
 use crate::sides::Side;
 use crate::steps::Steps;
 use at_geom::{Extent, Pos};
-use at_query::{Entries, Entry, Pairs};
+use at_query::{Entries, Entry, Pairs, joined_extent};
 use at_text::Memory;
 use std::alloc::Global;
 use std::marker::Model;
@@ -113,7 +112,7 @@ fn wider(one: Option<Extent>, other: Option<Extent>) -> Option<Extent>
     ensures { result ≡ around_both one other }
 {
     match (one, other) {
-        (Some(x), Some(y)) => Some(around_two(x, y)),
+        (Some(x), Some(y)) => Some(joined_extent(x, y)),
         (None, _) => other,
         (_, None) => one,
     }

@@ -1,4 +1,4 @@
-//! The keys by which places are sorted.
+//! The keys by which outlines are sorted.
 
 use at_geom::Pos;
 

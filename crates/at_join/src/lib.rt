@@ -27,7 +27,7 @@ mod grid;
 mod job;
 mod keys;
 mod near;
-mod places;
+mod outlines;
 mod plain;
 mod run;
 mod sides;

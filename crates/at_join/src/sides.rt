@@ -4,24 +4,24 @@ ghost use Rattle.std.specs.Prelude.{◌≡◌, ℕ, ◌+◌, ◌*◌, ◌/◌, �
 ghost use Rattle.std.specs.List.{AllByRecursion};
 ghost use Rattle.at_geom.specs.Shapes.{encloses};
 ghost use Rattle.at_query.specs.Parts.{IsProperEntry};
-ghost use Rattle.at_join.specs.declared.places.Place.{Place};
+ghost use Rattle.at_join.specs.declared.outlines.Outline.{Outline};
 ghost use Rattle.at_join.specs.Boxes.{touch_of};
 ghost use Rattle.at_join.specs.Sides.{IsSide};
 
 use crate::covers::{covers_of, is_clear};
 use crate::keys::key_of;
-use crate::places::{Place, places_of};
+use crate::outlines::{Outline, outlines_of};
 use at_geom::{Extent, Pos};
 use at_query::Entries;
 use at_text::Memory;
 use std::alloc::Global;
 
-/// A list of entries, the places of those that have an extent, in an order in which near ones mostly are neighbours,
+/// A list of entries, the outlines of those that have an extent, in an order in which near ones mostly are neighbours,
 /// and the extents round each 16, 256 and 4,096 of these.
 #[derive(Drop)]
 pub(crate) struct Side {
     pub(crate) entries: Entries,
-    pub(crate) places: Vec<Place>,
+    pub(crate) outlines: Vec<Outline>,
     runs: Vec<Extent>,
     blocks: Vec<Extent>,
     fields: Vec<Extent>,
@@ -34,27 +34,27 @@ impl Side {
         ensures side { IfOk result IsSide }
         ensures entries { IfOk result (λ side. side.entries ≡ entries) }
     {
-        let mut places = places_of(alloc, entries.as_slice())?;
-        places.sort_by_cached_key(|place: &Place| key_of(low, place.extent.low))?;
-        let runs = covers_of(alloc, places.as_slice(), 16)?;
-        let blocks = covers_of(alloc, places.as_slice(), 256)?;
-        let fields = covers_of(alloc, places.as_slice(), 4096)?;
+        let mut outlines = outlines_of(alloc, entries.as_slice())?;
+        outlines.sort_by_cached_key(|outline: &Outline| key_of(low, outline.extent.low))?;
+        let runs = covers_of(alloc, outlines.as_slice(), 16)?;
+        let blocks = covers_of(alloc, outlines.as_slice(), 256)?;
+        let fields = covers_of(alloc, outlines.as_slice(), 4096)?;
         Ok(Side {
             entries,
-            places,
+            outlines,
             runs,
             blocks,
             fields,
         })
     }
 
-    /// A place at or behind this one; those before it, from this one on, have no common point with the window.
+    /// An outline at or behind this one; those before it, from this one on, have no common point with the window.
     pub(crate) fn ahead(&self, at: usize, window: Extent) -> usize
         requires side { IsSide self.now }
-        requires at { at < length self.now.places.items }
+        requires at { at < length self.now.outlines.items }
         ensures ahead { at ≤ result }
-        ensures clear { (k : ℕ) (e : Place) → at ≤ k → k < result → k < length self.now.places.items
-            → touch_of (slice_index_or self.now.places.items k e).extent window ≡ false }
+        ensures clear { (k : ℕ) (e : Outline) → at ≤ k → k < result → k < length self.now.outlines.items
+            → touch_of (slice_index_or self.now.outlines.items k e).extent window ≡ false }
     {
         if at % 16 != 0 {
             return at;
@@ -71,28 +71,28 @@ impl Side {
         at
     }
 
-    /// Where the stretch of 16 places ends in which this one stands, or that of this one alone.
+    /// Where the stretch of 16 outlines ends in which this one stands, or that of this one alone.
     pub(crate) fn stretch_end(&self, at: usize, alone: bool) -> usize
-        requires { at < length self.now.places.items }
-        ensures end { (at < result) × (result ≤ length self.now.places.items) }
+        requires { at < length self.now.outlines.items }
+        ensures end { (at < result) × (result ≤ length self.now.outlines.items) }
         ensures stretch { result ≤ at / 16 * 16 + 16 }
     {
         if alone {
             return at + 1;
         }
-        self.places.len().min(at / 16 * 16 + 16)
+        self.outlines.len().min(at / 16 * 16 + 16)
     }
 
-    /// An extent round some places of one stretch.
+    /// An extent round some outlines of one stretch.
     pub(crate) fn round(&self, from: usize, to: usize) -> Extent
         requires side { IsSide self.now }
-        requires some { (from < to) × (to ≤ length self.now.places.items) }
+        requires some { (from < to) × (to ≤ length self.now.outlines.items) }
         requires stretch { to ≤ from / 16 * 16 + 16 }
-        ensures { (k : ℕ) (e : Place) → from ≤ k → k < to
-            → encloses result (slice_index_or self.now.places.items k e).extent ≡ true }
+        ensures { (k : ℕ) (e : Outline) → from ≤ k → k < to
+            → encloses result (slice_index_or self.now.outlines.items k e).extent ≡ true }
     {
         if to == from + 1 {
-            return self.places[from].extent;
+            return self.outlines[from].extent;
         }
         self.runs[from / 16]
     }

@@ -15,6 +15,7 @@ use crate::encodings::is_valid;
 use at_lex::{Units, take_text, units};
 use at_query::{Test, TextPair, TextPairs};
 use at_text::{Fault, FaultKind, Memory, stop_at};
+use at_wkt::is_blank;
 use std::alloc::Global;
 
 /// The code units of the name that a label has among the texts of its feature.
@@ -28,13 +29,6 @@ pub struct Behind<'a> {
     pub ahead: &'a [u8],
     pub len: usize,
     pub at: u32,
-}
-
-/// Whether a byte is a space or a tab.
-fn is_blank(byte: u8) -> bool
-    ensures { result ≡ blank_test byte }
-{
-    byte == b' ' || byte == b'\t'
 }
 
 /// How many blanks a text begins with.

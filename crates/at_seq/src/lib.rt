@@ -25,6 +25,3 @@ mod sequences;
 
 pub use ends::SeqEnd;
 pub use sequences::part_seq;
-
-#[cfg(test)]
-mod tests;

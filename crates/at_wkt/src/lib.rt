@@ -29,5 +29,7 @@ mod answers;
 pub use answers::{LineFault, Prefix};
 pub use file::folding::Fold;
 pub use file::fragments::{LineFragment, WholeLines, finish_lines, merge_lines, run_lines};
+pub use line::bytes::is_blank;
+pub use line::numbers::number_fault;
 pub use line::reading::{read_geometry, read_line};
 pub use line::rooms::Room;

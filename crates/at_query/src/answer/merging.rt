@@ -2,11 +2,12 @@
 
 ghost use Rattle.std.specs.Prelude.{◌≡◌, ◌++◌, OnOk, IfOk, IsOk};
 ghost use Rattle.at_query.specs.Parts.{AreAlike, IsOfOneSize, IsProper, IsHullInRange, JoinsParts};
-ghost use Rattle.at_query.specs.Joined.{lower, upper, around, around_both, JoinsHulls};
+ghost use Rattle.at_query.specs.Joined.{around_both, JoinsHulls};
 
 use crate::answer::answers::Offsets;
+use crate::answer::extents::joined_extent;
 use crate::answer::parts::{Entries, Part};
-use at_geom::{Extent, Path, Pos};
+use at_geom::{Extent, Path};
 use at_hull::{covers_all, hull_join};
 use at_text::Memory;
 
@@ -28,36 +29,6 @@ fn joined_entries(left: Entries, right: Entries) -> Result<Entries, Memory>
     let mut others = right.into_vec();
     items.append(&mut others)?;
     Ok(Entries::from_vec(items))
-}
-
-/// The least x and the least y of two positions.
-fn least_of(a: Pos, b: Pos) -> Pos
-    ensures { result ≡ lower a b }
-{
-    Pos {
-        x: a.x.min(b.x),
-        y: a.y.min(b.y),
-    }
-}
-
-/// The greatest x and the greatest y of two positions.
-fn greatest_of(a: Pos, b: Pos) -> Pos
-    ensures { result ≡ upper a b }
-{
-    Pos {
-        x: a.x.max(b.x),
-        y: a.y.max(b.y),
-    }
-}
-
-/// The least extent round two.
-fn joined_extent(left: Extent, right: Extent) -> Extent
-    ensures { result ≡ around left right }
-{
-    Extent {
-        low: least_of(left.low, right.low),
-        high: greatest_of(left.high, right.high),
-    }
 }
 
 /// The least extent round two, where there are any.

@@ -3,6 +3,7 @@
 pub mod accumulators;
 pub mod adding;
 pub mod answers;
+pub mod extents;
 pub mod holding;
 pub mod merging;
 pub mod parts;

@@ -21,7 +21,7 @@ pub struct Coordinate {
 }
 
 /// The fault at an offset of a number that has no value.
-fn fault_of(fault: FixedFault, at: u32) -> Fault
+pub fn number_fault(fault: FixedFault, at: u32) -> Fault
     ensures { result ≡ the_fault fault at }
 {
     match fault {
@@ -51,7 +51,7 @@ fn coordinate_of(number: Result<i64, FixedFault>, at: u32, end: usize) -> Coordi
         },
         Err(fault) => Coordinate {
             value: 0,
-            fault: Some(fault_of(fault, at)),
+            fault: Some(number_fault(fault, at)),
             end,
         },
     }

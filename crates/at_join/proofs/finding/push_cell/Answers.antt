@@ -1,10 +1,10 @@
 use Rattle.std.proofs.Common.{get_or, sym, subst, arith}
 use Rattle.at_join.specs.Meetings.{AreInRange}
-use Rattle.at_join.specs.Sides.{CellHit, at_places, is_cell_here}
-use Rattle.at_join.proofs.Covering.{no_place}
+use Rattle.at_join.specs.Sides.{CellHit, at_outlines, is_cell_here}
+use Rattle.at_join.proofs.Covering.{no_outline}
 use Rattle.at_join.proofs.FoundLists.{past_rows, count_rows_up, count_rows_least}
 use Rattle.at_join.proofs.Rows.{cell_off}
-use Rattle.at_join.proofs.Stretches.{AreSlices, sifts_part, places_known, part_found, part_stepped}
+use Rattle.at_join.proofs.Stretches.{AreSlices, sifts_part, outlines_known, part_found, part_stepped}
 use Rattle.at_join.proofs.finding.push_cell.Goals as goal
 
 pub loop-from-preserved-then-next-from : goal.loop-from-preserved-then-next-from
@@ -13,25 +13,25 @@ loop-from-preserved-then-next-from g c =
     let a = c.args.a.now in
     let b = c.args.b.now in
     let up = c.ahead-next.ensures.ahead in
-    let more = count_rows_up (is_cell_here c.args.rect) a.places.items b.places.items c.loop-from.from c.ahead-next.result up in
+    let more = count_rows_up (is_cell_here c.args.rect) a.outlines.items b.outlines.items c.loop-from.from c.ahead-next.result up in
     record {
-      pairs = past_rows (CellHit c.args.rect a.entries b.entries) at_places a.places.items b.places.items c.loop-from.from c.ahead-next.result no_place c.args.pairs.now.items c.loop-from.pairs.items up
-          (λ k y from to lt. cell_off c.args.rect a.entries b.entries (get_or a.places.items k no_place) y (c.requires.sides.0.wide k no_place lt) (c.ahead-next.ensures.clear k no_place from to lt)) i.pairs;
+      pairs = past_rows (CellHit c.args.rect a.entries b.entries) at_outlines a.outlines.items b.outlines.items c.loop-from.from c.ahead-next.result no_outline c.args.pairs.now.items c.loop-from.pairs.items up
+          (λ k y from to lt. cell_off c.args.rect a.entries b.entries (get_or a.outlines.items k no_outline) y (c.requires.sides.0.wide k no_outline lt) (c.ahead-next.ensures.clear k no_outline from to lt)) i.pairs;
       steps = omega (arith, i.steps, more);
     }
 
 pub returns-in_err-push_near-clause-steps : goal.returns-in_err-push_near-clause-steps
 returns-in_err-push_near-clause-steps g c =
-    let all = count_rows_least (is_cell_here c.args.rect) c.args.a.now.places.items c.args.b.now.places.items c.loop-from.from in
+    let all = count_rows_least (is_cell_here c.args.rect) c.args.a.now.outlines.items c.args.b.now.outlines.items c.loop-from.from in
     omega (arith, c.loop-from.invariant.steps, all)
 
-pub push_stretch-requires-clause-places : goal.push_stretch-requires-clause-places
-push_stretch-requires-clause-places g c =
+pub push_stretch-requires-clause-outlines : goal.push_stretch-requires-clause-outlines
+push_stretch-requires-clause-outlines g c =
     let a = c.args.a.now in
     let b = c.args.b.now in
-    let same : AreSlices c.as_slice-first.result.now c.as_slice-second.result.now a.entries b.entries c.as_slice-places.result.now a.places.items c.as_slice.result.now c.push_near.new.near.items =
-    record { of_first = c.as_slice-first.ensures; of_second = c.as_slice-second.ensures; of_places = c.as_slice-places.ensures.value; of_near = c.as_slice.ensures.value } in
-    places_known c.as_slice-first.result.now c.as_slice-second.result.now a.entries b.entries c.as_slice-places.result.now a.places.items b.places.items c.clear.new.self.items c.as_slice.result.now c.push_near.new.near.items
+    let same : AreSlices c.as_slice-first.result.now c.as_slice-second.result.now a.entries b.entries c.as_slice-outlines.result.now a.outlines.items c.as_slice.result.now c.push_near.new.near.items =
+    record { of_first = c.as_slice-first.ensures; of_second = c.as_slice-second.ensures; of_outlines = c.as_slice-outlines.ensures.value; of_near = c.as_slice.ensures.value } in
+    outlines_known c.as_slice-first.result.now c.as_slice-second.result.now a.entries b.entries c.as_slice-outlines.result.now a.outlines.items b.outlines.items c.clear.new.self.items c.as_slice.result.now c.push_near.new.near.items
     c.common.result c.loop-from.from c.stretch_end-to.result same c.requires.sides.0.indices c.requires.sides.1.indices c.clear.ensures.items c.in_ok-push_near.ensures
 
 pub push_stretch-requires-clause-in_range : goal.push_stretch-requires-clause-in_range
@@ -43,13 +43,13 @@ returns-in_err-push_stretch-clause-steps g c =
     let b = c.args.b.now in
     let from = c.loop-from.from in
     let to = c.stretch_end-to.result in
-    let same : AreSlices c.as_slice-first.result.now c.as_slice-second.result.now a.entries b.entries c.as_slice-places.result.now a.places.items c.as_slice.result.now c.push_near.new.near.items =
-    record { of_first = c.as_slice-first.ensures; of_second = c.as_slice-second.ensures; of_places = c.as_slice-places.ensures.value; of_near = c.as_slice.ensures.value } in
-    let sifted = sifts_part c.args.rect c.round.result c.common.result a.entries b.entries a.places.items b.places.items c.clear.new.self.items c.push_near.new.near.items from to
+    let same : AreSlices c.as_slice-first.result.now c.as_slice-second.result.now a.entries b.entries c.as_slice-outlines.result.now a.outlines.items c.as_slice.result.now c.push_near.new.near.items =
+    record { of_first = c.as_slice-first.ensures; of_second = c.as_slice-second.ensures; of_outlines = c.as_slice-outlines.ensures.value; of_near = c.as_slice.ensures.value } in
+    let sifted = sifts_part c.args.rect c.round.result c.common.result a.entries b.entries a.outlines.items b.outlines.items c.clear.new.self.items c.push_near.new.near.items from to
     c.stretch_end-to.ensures.end.0 c.stretch_end-to.ensures.end.1 c.round.ensures c.requires.sides.1.wide c.common.ensures c.clear.ensures.items c.in_ok-push_near.ensures in
-    let some = part_stepped c.args.rect c.as_slice-first.result.now c.as_slice-second.result.now a.entries b.entries c.as_slice-places.result.now a.places.items b.places.items c.as_slice.result.now c.push_near.new.near.items from to
+    let some = part_stepped c.args.rect c.as_slice-first.result.now c.as_slice-second.result.now a.entries b.entries c.as_slice-outlines.result.now a.outlines.items b.outlines.items c.as_slice.result.now c.push_near.new.near.items from to
     c.args.steps.now c.loop-from.steps c.push_stretch.new.steps same c.stretch_end-to.ensures.end.0 sifted c.loop-from.invariant.steps c.in_err-push_stretch.ensures.steps in
-    let all = count_rows_least (is_cell_here c.args.rect) a.places.items b.places.items to in
+    let all = count_rows_least (is_cell_here c.args.rect) a.outlines.items b.outlines.items to in
     omega (arith, some, all)
 
 pub loop-from-preserved : goal.loop-from-preserved
@@ -59,13 +59,13 @@ loop-from-preserved g c =
     let b = c.args.b.now in
     let from = c.loop-from.from in
     let to = c.stretch_end-to.result in
-    let same : AreSlices c.as_slice-first.result.now c.as_slice-second.result.now a.entries b.entries c.as_slice-places.result.now a.places.items c.as_slice.result.now c.push_near.new.near.items =
-    record { of_first = c.as_slice-first.ensures; of_second = c.as_slice-second.ensures; of_places = c.as_slice-places.ensures.value; of_near = c.as_slice.ensures.value } in
-    let sifted = sifts_part c.args.rect c.round.result c.common.result a.entries b.entries a.places.items b.places.items c.clear.new.self.items c.push_near.new.near.items from to
+    let same : AreSlices c.as_slice-first.result.now c.as_slice-second.result.now a.entries b.entries c.as_slice-outlines.result.now a.outlines.items c.as_slice.result.now c.push_near.new.near.items =
+    record { of_first = c.as_slice-first.ensures; of_second = c.as_slice-second.ensures; of_outlines = c.as_slice-outlines.ensures.value; of_near = c.as_slice.ensures.value } in
+    let sifted = sifts_part c.args.rect c.round.result c.common.result a.entries b.entries a.outlines.items b.outlines.items c.clear.new.self.items c.push_near.new.near.items from to
     c.stretch_end-to.ensures.end.0 c.stretch_end-to.ensures.end.1 c.round.ensures c.requires.sides.1.wide c.common.ensures c.clear.ensures.items c.in_ok-push_near.ensures in
     record {
-      pairs = part_found c.args.rect c.as_slice-first.result.now c.as_slice-second.result.now a.entries b.entries c.as_slice-places.result.now a.places.items b.places.items c.as_slice.result.now c.push_near.new.near.items from to
+      pairs = part_found c.args.rect c.as_slice-first.result.now c.as_slice-second.result.now a.entries b.entries c.as_slice-outlines.result.now a.outlines.items b.outlines.items c.as_slice.result.now c.push_near.new.near.items from to
           c.args.pairs.now.items c.loop-from.pairs.items c.push_stretch.new.pairs.items same c.stretch_end-to.ensures.end.0 sifted i.pairs c.in_ok-push_stretch.ensures.pairs;
-      steps = part_stepped c.args.rect c.as_slice-first.result.now c.as_slice-second.result.now a.entries b.entries c.as_slice-places.result.now a.places.items b.places.items c.as_slice.result.now c.push_near.new.near.items from to
+      steps = part_stepped c.args.rect c.as_slice-first.result.now c.as_slice-second.result.now a.entries b.entries c.as_slice-outlines.result.now a.outlines.items b.outlines.items c.as_slice.result.now c.push_near.new.near.items from to
           c.args.steps.now c.loop-from.steps c.push_stretch.new.steps same c.stretch_end-to.ensures.end.0 sifted i.steps c.in_ok-push_stretch.ensures.steps;
     }

@@ -1,15 +1,15 @@
 use Rattle.std.proofs.Common.{◌+◌, ◌-◌, ◌≤◌, length, take}
 use Rattle.std.specs.Prelude.{count_by}
 use Rattle.at_join.specs.Meetings.{Finds, pairs_of}
-use Rattle.at_join.specs.Sides.{CellHit, at_places, is_cell_here}
+use Rattle.at_join.specs.Sides.{CellHit, at_outlines, is_cell_here}
 use Rattle.at_join.proofs.finding.push_cell.Given as goal
 
--- the places so far are those of which the pairs were found and the steps taken
+-- the outlines so far are those of which the pairs were found and the steps taken
 abbrev pub invariant-loop-from : goal.invariant-loop-from
 invariant-loop-from g l = record {
-  pairs : Finds (CellHit l.rect l.a.entries l.b.entries) at_places (pairs_of (take l.from l.a.places.items) l.b.places.items) l.fn.pairs.items l.pairs.items;
-  steps : l.steps ≤ l.fn.steps + count_by (is_cell_here l.rect) (pairs_of (take l.from l.a.places.items) l.b.places.items);
+  pairs : Finds (CellHit l.rect l.a.entries l.b.entries) at_outlines (pairs_of (take l.from l.a.outlines.items) l.b.outlines.items) l.fn.pairs.items l.pairs.items;
+  steps : l.steps ≤ l.fn.steps + count_by (is_cell_here l.rect) (pairs_of (take l.from l.a.outlines.items) l.b.outlines.items);
 }
 
 abbrev pub decreases-loop-from : goal.decreases-loop-from
-decreases-loop-from g l = length l.a.places.items - l.from
+decreases-loop-from g l = length l.a.outlines.items - l.from

@@ -1,6 +1,6 @@
 use Rattle.std.proofs.Common.{rules, ◌∙◌, ◌+◌, ◌/◌, ◌^◌, ◌<◌, ap, arith}
 use Rattle.at_crew.specs.Nodes.{ancestors}
-use Rattle.at_crew.specs.Views.{adds, place, rests}
+use Rattle.at_crew.specs.Views.{adds, held_node, rests}
 use Rattle.at_crew.proofs.Told.{above_more, ancestors_more, climbs_adds}
 use Rattle.at_crew.proofs.Tree.{height_small}
 use Rattle.at_crew.proofs.crew.Crew.climb.Goals as goal
@@ -12,7 +12,7 @@ pub overflow_add-height : goal.overflow_add-height
 overflow_add-height g c = let b = c.loop-node.invariant.bears.3 in let h = height_small c.args.self.now.blocks b.0 c.loop-node.height c.loop-node.node b.1 c.args.self.now.sized.3 in let q : c.loop-node.height + 1 < 2 ^ 32 = omega (arith, h) in search rules
 
 pub loop-node-preserved : goal.loop-node-preserved
-loop-node-preserved g c = let i = c.loop-node.invariant in let e = c.step_up.ensures in let up = e.second c.if-not-step_up.false in let p = place (c.loop-node.node / 2) (c.loop-node.height + 1) in record {
+loop-node-preserved g c = let i = c.loop-node.invariant in let e = c.step_up.ensures in let up = e.second c.if-not-step_up.false in let p = held_node (c.loop-node.node / 2) (c.loop-node.height + 1) in record {
   of = e.of ∙ i.of;
   bears = up.1;
   node = above_more c.args.leaf c.loop-node.height c.loop-node.node i.node;

@@ -1,6 +1,6 @@
 //! Tables of whole runs over a shelf in memory.
 
-use super::*;
+use at_cli::{tell_no_memory, top};
 use at_crew::Free;
 use at_io::{Failed, MemShelf, MemSink, NamedFile, PutFail, Shelf, Sink};
 use at_text::{Bytes, Word};

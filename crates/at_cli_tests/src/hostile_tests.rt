@@ -1,6 +1,6 @@
 //! A shelf or a sink of which one call fails, and a file that is too large.
 
-use super::*;
+use at_cli::top;
 use at_crew::Free;
 use at_io::{MemShelf, MemSink, NamedFile, PutFail, RepeatShelf, Shelf};
 use at_text::{Bytes, Word};

@@ -1,8 +1,7 @@
 //! Joins of files of different forms. No words ask for one with a sequence, since the form that they say is that of
 //! both files.
 
-use super::*;
-use crate::outcome::files::join_as;
+use at_cli::{FileForm, join_as};
 use at_crew::Free;
 use at_fixed::Coords;
 use at_query::answer_text;

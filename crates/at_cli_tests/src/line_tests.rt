@@ -1,6 +1,6 @@
 //! Tables of words, and the lines that they say.
 
-use super::*;
+use at_cli::{FileForm, Line, WordsEnd, form_of, read_words};
 use at_fixed::Coords;
 use std::alloc::Global;
 use std::process::Abort;

@@ -3,11 +3,11 @@
 ghost use Rattle.std.specs.Prelude.{◌≡◌, ◌≢◌, ◌≤◌, ◌^◌, [], length, IfSome, IfOk};
 ghost use Rattle.at_query.specs.Ranges.{IsQueryInRange};
 
-use super::*;
 use at_crew::{Free, Gate};
 use at_fixed::Coords;
 use at_query::{Offsets, Part, Query, Tests, Verb};
 use at_run::Cuts;
+use at_seq::{SeqEnd, part_seq};
 use at_text::base_of;
 use std::alloc::{AllocError, Global};
 use std::test::Fail;

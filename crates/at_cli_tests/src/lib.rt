@@ -1,0 +1,11 @@
+//! Tests of the public calls of `at_cli`, from outside, as a caller makes them.
+#![tactic(auto)]
+
+#[cfg(test)]
+mod file_tests;
+#[cfg(test)]
+mod hostile_tests;
+#[cfg(test)]
+mod line_tests;
+#[cfg(test)]
+mod tests;
