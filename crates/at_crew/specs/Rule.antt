@@ -52,8 +52,8 @@ pub record WorkListed {F : Type 0} (k : ℕ) (words : List ℕ) (views : List (V
 
 -- the parts: that of a settled node whose parent isn't made lies at home, in the slot of its first leaf, and stands for
 -- its blocks; and the slots of blocks that were not claimed are at home and empty
-pub record PartsStored {P F : Type 0} (stands : F → P → ℕ → ℕ → Type 0) (f : F) (k : ℕ) (words : List ℕ) (homes
-    : List (maybe.Option (Option P))) : Type 0 where
+pub record PartsStored {P F : Type 0} (stands : F → P → ℕ → ℕ → Type 0) (f : F) (k : ℕ) (words : List ℕ)
+    (homes : List (maybe.Option (Option P))) : Type 0 where
   pub tops : (l h n : ℕ) → IsNode k l h n → Settled k words n → IsTop k words n
       → (x : P) × (get_elem? homes (first_of k h n) ≡ some (some (Some x))) × stands f x (first_of k h n) (end_of k h n)
   pub fresh : (i : ℕ) → slice_index words 0 ≤ i → i < k → get_elem? homes i ≡ some (some None)

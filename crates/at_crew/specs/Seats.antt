@@ -4,7 +4,8 @@ use Rattle.atomic_table.specs.Table.{Me}
 use Rattle.at_crew.specs.declared.view.HeldNode.{HeldNode}
 use Rattle.at_crew.specs.declared.view.View.{View}
 use Rattle.at_crew.specs.Nodes.{IsNode, first_of, end_of}
-use Rattle.at_crew.specs.Views.{HasFacts, held_node, is_pass, is_chief, number_of, last_of, over_of, held_of, made, back}
+use Rattle.at_crew.specs.Views.{HasFacts, held_node, is_pass, is_chief, number_of, last_of, over_of, held_of, made}
+use Rattle.at_crew.specs.Views.{back}
 use Rattle.at_crew.specs.Steps.{carried}
 
 -- the leaf of the block that is held, if any, and its slot, which is empty

@@ -42,7 +42,8 @@ fn cover_of(outlines: &[Outline]) -> Extent
     cover
 }
 
-/// Whether a stretch of so many outlines begins at this one, and the extent round them and another have no common point.
+/// Whether a stretch of so many outlines begins at this one, and the extent round them and another have no common
+/// point.
 pub(crate) fn is_clear(covers: &[Extent], size: usize, at: usize, window: Extent) -> bool
     requires { 0 < size }
     ensures { IsTrue result → (c : ℕ) × (at ≡ c * size)

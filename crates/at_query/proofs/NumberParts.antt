@@ -16,14 +16,14 @@ use Rattle.at_query.specs.declared.query.coordinates.NumberRead.{NumberRead}
 use Rattle.at_query.specs.Spelling.{Placed, SpellsPlaced}
 use Rattle.at_query.specs.Queries.{ats_of, least_of}
 use Rattle.at_fixed.specs.NumberSoFar.{between}
-use Rattle.at_query.specs.Readers.{Ends, Stops, WordStands, WordBreaks, is_delimiter, number_meaning, Number, number_in}
+use Rattle.at_query.specs.Readers.{Ends, Stops, WordStands, WordBreaks, ends_number, number_meaning, Number, number_in}
 use Rattle.at_query.proofs.Parted.{onward_ahead}
 
-no_number_byte : (b : ℕ) → is_delimiter b ≡ true → in_number b ≡ false
+no_number_byte : (b : ℕ) → ends_number b ≡ true → in_number b ≡ false
 no_number_byte b h = grind (arith, h)
 
-is_byte : (b : ℕ) → is_delimiter b ≡ true → b ≢ 256
-is_byte b h e = let bad : is_delimiter 256 ≡ true = ap is_delimiter (sym e) ∙ h in true≢false (sym bad)
+is_byte : (b : ℕ) → ends_number b ≡ true → b ≢ 256
+is_byte b h e = let bad : ends_number 256 ≡ true = ap ends_number (sym e) ∙ h in true≢false (sym bad)
 
 -- a word of one byte that breaks off does so at once
 one_byte : (w : List ℕ) (j n b : ℕ) → WordBreaks w j n (b ∷ []) → (n ≡ j) × (n < length w → between w j (n + 1) ≡ b ∷ [] → ⊥)
@@ -33,7 +33,7 @@ one_byte w j n b h = go h.front h.word_is h.text h.differs where
   go [] e t d = (omega (arith, ap length t, part-length w j n h.order h.within), λ below f. d below (f ∙ (let same : b ≡ h.byte = cc in ap (λ z. z ∷ []) same)))
   go (a ∷ front) e t d = absurd (let rest : [] ≡ front ++ (h.byte ∷ h.rest) = cc in omega (arith, ap length rest, length-append front (h.byte ∷ h.rest)))
 
-module _ (digits : ℕ) (how : Coords) (delimiter : ℕ) (d : is_delimiter delimiter ≡ true) (w : List ℕ) (i : ℕ) where
+module _ (digits : ℕ) (how : Coords) (delimiter : ℕ) (d : ends_number delimiter ≡ true) (w : List ℕ) (i : ℕ) where
   -- a number with the byte that agrees with the text, as far as the longest beginning of a number goes
   record Agrees (j : ℕ) (n : Placed) (v : List ℕ) : Type 0 where
     at_is : n.at ≡ i

@@ -7,22 +7,22 @@ use Rattle.std.proofs.Math.Seq.{take-length}
 use Rattle.at_wkt.proofs.Leads.{part-none, part-more, part-length, part-part, part-cons}
 use Rattle.at_fixed.specs.NumberSoFar.{between}
 use Rattle.at_wkt.specs.Readers.{next}
-use Rattle.at_query.specs.Readers.{Ends, Onward, past, over, Stops, Covers, Breaks, WordStands, WordBreaks, Word, Behind, Then}
+use Rattle.at_query.specs.Readers.{Ends, AgreesThrough, past, over, Stops, Covers, Breaks, WordStands, WordBreaks, Word, Behind, Then}
 
 -- ---- how the text goes on
 
-pub onward_from : (w : List ℕ) (i j n : ℕ) → i ≤ j → j ≤ n → n ≤ length w → (u : List ℕ) → Onward w i n u → (t : List ℕ) × (u ≡ between w i j ++ t) × Onward w j n t
+pub onward_from : (w : List ℕ) (i j n : ℕ) → i ≤ j → j ≤ n → n ≤ length w → (u : List ℕ) → AgreesThrough w i n u → (t : List ℕ) × (u ≡ between w i j ++ t) × AgreesThrough w j n t
 onward_from w i j n h k l u (past below s e) =
     (between w j (n + 1) ++ s, e ∙ (ap (λ z. z ++ s) (part-part w i j (n + 1) h (omega arith) (omega arith)) ∙ append_assoc (between w i j) (between w j (n + 1)) s), past below s refl)
 onward_from w i j n h k l u (over end e) = (between w j n, e ∙ part-part w i j n h k l, over end refl)
 
 -- the same with a byte, which at the end of the text is none
-pub onward_ahead : (w : List ℕ) (i n : ℕ) → i ≤ n → (u : List ℕ) → Onward w i n u → (r t : List ℕ) × (u ++ r ≡ between w i n ++ (next w n ∷ t))
+pub onward_ahead : (w : List ℕ) (i n : ℕ) → i ≤ n → (u : List ℕ) → AgreesThrough w i n u → (r t : List ℕ) × (u ++ r ≡ between w i n ++ (next w n ∷ t))
 onward_ahead w i n h u (past below s e) = ([], s, append-nil u ∙ (e ∙ (ap (λ z. z ++ s) (part-more w i n h below) ∙ append_assoc (between w i n) (next w n ∷ []) s)))
 onward_ahead w i n h u (over end e) = (256 ∷ [], [], ap (λ z. z ++ (256 ∷ [])) e ∙ ap (λ z. between w i n ++ (z ∷ [])) (sym (get_or_past w n 256 (omega (arith, end)))))
 
 -- the rest of the text goes on as the text does
-pub rest_onward : (w : List ℕ) (i n : ℕ) → i ≤ n → n ≤ length w → Onward w i n (drop i w)
+pub rest_onward : (w : List ℕ) (i n : ℕ) → i ≤ n → n ≤ length w → AgreesThrough w i n (drop i w)
 rest_onward w i n h k = elim (dec_lt n (length w)) [
   | yes below ↦ past below (drop (n + 1) w) (rest_is (n + 1) (omega arith) (omega arith))
   | no f ↦ (let same : n ≡ length w = omega arith in over same (ap (drop i) (sym (ap (λ z. take z w) same ∙ take-length w))))
@@ -38,7 +38,7 @@ rest_split w i j a b =
     ap (drop i) whole ∙ (part-part w i j (length w) a b (omega arith) ∙ ap (λ z. between w i j ++ drop j z) (take-length w))
 
 -- the first byte of what goes on as the text does
-pub onward_first : (w : List ℕ) (i n : ℕ) → i ≤ n → n ≤ length w → (b : ℕ) (t : List ℕ) → Onward w i n (b ∷ t) → b ≡ next w i
+pub onward_first : (w : List ℕ) (i n : ℕ) → i ≤ n → n ≤ length w → (b : ℕ) (t : List ℕ) → AgreesThrough w i n (b ∷ t) → b ≡ next w i
 onward_first w i n h k b t (past below s e) =
     let line : b ∷ t ≡ next w i ∷ (between w (i + 1) (n + 1) ++ s) = e ∙ ap (λ z. z ++ s) (part-cons w i (n + 1) (omega arith) (omega arith)) in cc
 onward_first w i n h k b t (over end e) = elim (dec_lt i n) [
@@ -103,7 +103,7 @@ module _ {X Y : Type 0} (P : X → ℕ → List ℕ → Type 0) (Q : Y → ℕ �
             let (t, et, on2) = onward_from w i j n low mid q.within (v ++ r) on in
             let line : v1 ++ (v2 ++ r) ≡ between w i j ++ t = sym (append_assoc v1 v2 r) ∙ (ap (λ z. z ++ r) (sym ev) ∙ et) in
             let (ex, e1, hq2, rest) = agrees p v1 v2 r t hp hq line in
-            q.dead p.1 v2 r hq2 (subst (Onward w j n) (sym rest) on2);
+            q.dead p.1 v2 r hq2 (subst (AgreesThrough w j n) (sym rest) on2);
       }
 
   pub then_covers : (y : Y) → Covers Q w j y → Covers (Then P Q) w i (x, y)
@@ -132,7 +132,7 @@ module _ {X Y : Type 0} (P : X → ℕ → List ℕ → Type 0) (Q : Y → ℕ �
             let (t, et, on2) = onward_from w i j n low mid q.within v on in
             let line : v1 ++ (v2 ++ []) ≡ between w i j ++ t = ap (λ z. v1 ++ z) (append-nil v2) ∙ (sym ev ∙ et) in
             let (ex, e1, hq2, rest) = agrees p v1 v2 [] t hp hq line in
-            q.dead p.1 v2 hq2 (subst (Onward w j n) (sym (sym (append-nil v2) ∙ rest)) on2);
+            q.dead p.1 v2 hq2 (subst (AgreesThrough w j n) (sym (sym (append-nil v2) ∙ rest)) on2);
       }
 
 module _ {X Y : Type 0} (P : X → ℕ → List ℕ → Type 0) (Q : Y → ℕ → List ℕ → Type 0) (lives : Lives Q) (w : List ℕ) (i n : ℕ) (h : Stops P w i n) where
@@ -148,7 +148,7 @@ module _ {X Y : Type 0} (P : X → ℕ → List ℕ → Type 0) (Q : Y → ℕ �
     order = h.order;
     within = h.within;
     viable = first_viable;
-    dead = λ p v r (v1, v2, ev, hp, hq) on. h.dead p.0 v1 (v2 ++ r) hp (subst (Onward w i n) (ap (λ z. z ++ r) ev ∙ append_assoc v1 v2 r) on);
+    dead = λ p v r (v1, v2, ev, hp, hq) on. h.dead p.0 v1 (v2 ++ r) hp (subst (AgreesThrough w i n) (ap (λ z. z ++ r) ev ∙ append_assoc v1 v2 r) on);
   }
 
   pub first_breaks : Breaks (Then P Q) w i n
@@ -156,7 +156,7 @@ module _ {X Y : Type 0} (P : X → ℕ → List ℕ → Type 0) (Q : Y → ℕ �
     order = h.order;
     within = h.within;
     viable = first_viable;
-    dead = λ p v (v1, v2, ev, hp, hq) on. h.dead p.0 v1 v2 hp (subst (Onward w i n) ev on);
+    dead = λ p v (v1, v2, ev, hp, hq) on. h.dead p.0 v1 v2 hp (subst (AgreesThrough w i n) ev on);
   }
 
 -- ---- a part told in another way
@@ -238,7 +238,7 @@ module _ {X Y : Type 0} (P : X → ℕ → List ℕ → Type 0) (Q : Y → ℕ �
     viable = (let (y, more, q) = h.viable in (f y, more, c.to y i (between w i n ++ more) q));
     dead = λ x v r q on. elim (c.from x i v q) [
       | inl (z, ex, q2) ↦ h.dead z v r q2 on
-      | inr (b, t, ev, fails) ↦ other_first b (onward_first w i n h.order h.within b (t ++ r) (subst (Onward w i n) (ap (λ z. z ++ r) ev) on)) fails
+      | inr (b, t, ev, fails) ↦ other_first b (onward_first w i n h.order h.within b (t ++ r) (subst (AgreesThrough w i n) (ap (λ z. z ++ r) ev) on)) fails
     ];
   }
 
@@ -252,7 +252,7 @@ none_stops P test w i begins lives within fails =
       viable = (let (x, v, p) = lives i in (x, v, subst (P x i) (ap (λ z. z ++ v) (sym (part-none w i within))) p));
       dead = λ x v r p on.
           let (b, t, e, passes) = begins x i v p in
-          let first = onward_first w i i low within b (t ++ r) (subst (Onward w i i) (ap (λ z. z ++ r) e) on) in
+          let first = onward_first w i i low within b (t ++ r) (subst (AgreesThrough w i i) (ap (λ z. z ++ r) e) on) in
           true≢false (sym passes ∙ (ap test first ∙ fails));
     }
 
@@ -269,7 +269,7 @@ word_ends w i j word h = record {
   only = λ y v r s e line. (refl, e ∙ sym h.text);
 }
 
-no_further : (w : List ℕ) (i n : ℕ) (word r : List ℕ) → WordBreaks w i n word → Onward w i n (word ++ r) → ⊥
+no_further : (w : List ℕ) (i n : ℕ) (word r : List ℕ) → WordBreaks w i n word → AgreesThrough w i n (word ++ r) → ⊥
 no_further w i n word r h (past below s e) =
     let more : between w i (n + 1) ≡ between w i n ++ (next w n ∷ []) = part-more w i n h.order below in
     let one : word ++ r ≡ h.front ++ (h.byte ∷ (h.rest ++ r)) = ap (λ z. z ++ r) h.word_is ∙ append_assoc h.front (h.byte ∷ h.rest) r in
@@ -288,7 +288,7 @@ word_stops w i n word h = record {
   order = h.order;
   within = h.within;
   viable = (tt, h.byte ∷ h.rest, ap (λ z. z ++ (h.byte ∷ h.rest)) h.text ∙ sym h.word_is);
-  dead = λ x v r e on. no_further w i n word r h (subst (Onward w i n) (ap (λ z. z ++ r) e) on);
+  dead = λ x v r e on. no_further w i n word r h (subst (AgreesThrough w i n) (ap (λ z. z ++ r) e) on);
 }
 
 -- ---- a word before a part

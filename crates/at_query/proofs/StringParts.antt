@@ -11,7 +11,7 @@ use Rattle.at_wkt.proofs.Leads.{part-more, append_cases}
 use Rattle.at_wkt.proofs.NumberSteps.{rest_part}
 use Rattle.at_fixed.specs.NumberSoFar.{between}
 use Rattle.at_wkt.specs.Readers.{next}
-use Rattle.at_query.specs.Readers.{Ends, Onward, past, over, Stops, Text}
+use Rattle.at_query.specs.Readers.{Ends, AgreesThrough, past, over, Stops, Text}
 use Rattle.at_query.proofs.Parted.{Lives}
 
 -- ---- what is left of a text
@@ -47,7 +47,7 @@ module _ (L : List ℕ → Type 0) (w : List ℕ) (i n : ℕ) (inside_text : i �
   ]
 
   -- no word goes on as the text does, where none is a prefix of the part
-  pub language_dead : ((v x : List ℕ) → L v → v ++ x ≡ between w i (i + n) → ⊥) → (v r : List ℕ) → L v → Onward w i (i + n) (v ++ r) → ⊥
+  pub language_dead : ((v x : List ℕ) → L v → v ++ x ≡ between w i (i + n) → ⊥) → (v r : List ℕ) → L v → AgreesThrough w i (i + n) (v ++ r) → ⊥
   language_dead none v r word (past below s e) =
       let order : i ≤ i + n = omega arith in
       no_longer v r s word below (e ∙ (ap (λ z. z ++ s) (part-more w i (i + n) order below) ∙ append_assoc (between w i (i + n)) (next w (i + n) ∷ []) s)) (λ x. none v x word)

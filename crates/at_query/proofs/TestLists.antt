@@ -11,12 +11,12 @@ use Rattle.at_query.specs.declared.query.filters.TestRead.{TestRead}
 use Rattle.at_query.specs.Spelling.{Spelled, SpellsTest, SpellsTests}
 use Rattle.at_query.specs.Queries.{lesser}
 use Rattle.at_fixed.specs.NumberSoFar.{between}
-use Rattle.at_query.specs.Readers.{Ends, Onward, past, over, Stops, Covers, Breaks, Behind, Then, TestMeaning, test_meaning, OneTest, Tests, joint_of, tests_of, fault_of, test_in, TestsCover}
+use Rattle.at_query.specs.Readers.{Ends, AgreesThrough, past, over, Stops, Covers, Breaks, Behind, Then, TestMeaning, test_meaning, OneTest, Tests, joint_of, tests_of, fault_of, test_in, TestsCover}
 use Rattle.at_query.proofs.Parted.{Lives, then_covers, then_breaks, first_breaks}
 use Rattle.at_query.proofs.BoxParts.{lesser-assoc, lesser-none}
 
 -- what goes on as the text does is not nothing before its end
-nothing_on : (w : List ℕ) (i n : ℕ) → i < length w → i ≤ n → Onward w i n [] → ⊥
+nothing_on : (w : List ℕ) (i n : ℕ) → i < length w → i ≤ n → AgreesThrough w i n [] → ⊥
 nothing_on w i n short h (past below s e) = let line : [] ≡ (_ ∷ between w (i + 1) (n + 1)) ++ s = e ∙ ap (λ z. z ++ s) (part-cons w i (n + 1) (omega arith) (omega arith)) in cc
 nothing_on w i n short h (over end e) = let line : [] ≡ _ ∷ between w (i + 1) n = e ∙ part-cons w i n (omega (arith, end)) (omega (arith, end)) in cc
 
@@ -107,7 +107,7 @@ module _ (digits : ℕ) (how : Coords) where
       within = h.within;
       viable = (let (p, more, s) = h.viable in (p.0 ∷ p.1, more, from_some word p i (between w i n ++ more) s));
       dead = λ ns v q on. elim (to_some word ns i v q) [
-        | inl (f, g) ↦ nothing_on w i n short h.order (subst (Onward w i n) f on)
+        | inl (f, g) ↦ nothing_on w i n short h.order (subst (AgreesThrough w i n) f on)
         | inr (p, f, s) ↦ h.dead p v s on
       ];
     }

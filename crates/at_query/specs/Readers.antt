@@ -35,16 +35,16 @@ pub record Ends {X : Type 0} (P : X → ℕ → List ℕ → Type 0) (w : List �
   pub only : (y : X) (v r s : List ℕ) → P y i v → v ++ r ≡ between w i j ++ s → (y ≡ x) × (v ≡ between w i j)
 
 -- the bytes go on as the text does from i through the byte at n, or are the text from i on, which ends at n
-pub data Onward (w : List ℕ) (i n : ℕ) (u : List ℕ) : Type 0 where
-  past : n < length w → (s : List ℕ) → u ≡ between w i (n + 1) ++ s → Onward w i n u
-  over : n ≡ length w → u ≡ between w i n → Onward w i n u
+pub data AgreesThrough (w : List ℕ) (i n : ℕ) (u : List ℕ) : Type 0 where
+  past : n < length w → (s : List ℕ) → u ≡ between w i (n + 1) ++ s → AgreesThrough w i n u
+  over : n ≡ length w → u ≡ between w i n → AgreesThrough w i n u
 
 -- some spelling agrees with the text from i up to n, and none further
 pub record Stops {X : Type 0} (P : X → ℕ → List ℕ → Type 0) (w : List ℕ) (i n : ℕ) : Type 0 where
   pub order : i ≤ n
   pub within : n ≤ length w
   pub viable : (x : X) × (more : List ℕ) × P x i (between w i n ++ more)
-  pub dead : (x : X) (v r : List ℕ) → P x i v → Onward w i n (v ++ r) → ⊥
+  pub dead : (x : X) (v r : List ℕ) → P x i v → AgreesThrough w i n (v ++ r) → ⊥
 
 -- the text spells the value from the place i up to its end, and no other
 pub record Covers {X : Type 0} (P : X → ℕ → List ℕ → Type 0) (w : List ℕ) (i : ℕ) (x : X) : Type 0 where
@@ -57,7 +57,7 @@ pub record Breaks {X : Type 0} (P : X → ℕ → List ℕ → Type 0) (w : List
   pub order : i ≤ n
   pub within : n ≤ length w
   pub viable : (x : X) × (more : List ℕ) × P x i (between w i n ++ more)
-  pub dead : (x : X) (v : List ℕ) → P x i v → Onward w i n v → ⊥
+  pub dead : (x : X) (v : List ℕ) → P x i v → AgreesThrough w i n v → ⊥
 
 -- the word stands from a place up to another
 pub record WordStands (w : List ℕ) (i j : ℕ) (word : List ℕ) : Type 0 where
@@ -89,8 +89,8 @@ abbrev pub Then : {X Y : Type 0} → (X → ℕ → List ℕ → Type 0) → (Y 
 Then P Q p = P p.0 ▸ Q p.1
 
 -- a space, a comma or a closing bracket
-abbrev pub is_delimiter : ℕ → Bool
-is_delimiter b = is_one_of (0x20 ∷ 0x2C ∷ 0x29 ∷ []) b
+abbrev pub ends_number : ℕ → Bool
+ends_number b = is_one_of (0x20 ∷ 0x2C ∷ 0x29 ∷ []) b
 
 pub record NumberMeaning : Type 0 where
   pub value : ℤ

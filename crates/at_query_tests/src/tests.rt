@@ -17,8 +17,8 @@ use at_geom::{Extent, Path, Paths, Polygon, Polygons, Pos, Shape};
 use at_lex::Units;
 use at_query::{
     Accumulator, Answer, Entries, Feature, Offsets, Pair, Pairs, Part, Query, Test, Tests,
-    TextPair, TextPairs, Verb, answer_of, answer_text, holds, part_merge, part_none, part_of,
-    read_query,
+    TextPair, TextPairs, Verb, answer_of, answer_text, holds, joined_extent, lower_corner,
+    part_merge, part_none, part_of, read_query, upper_corner,
 };
 use std::alloc::{AllocError, Global};
 use std::test::Fail;
@@ -576,6 +576,19 @@ fn printed_hulls(rt: HostRuntime) -> Result<(), Fail> {
     let hull = Answer::Hull(path(rt.alloc(), &[(-15_000_000, 5), (0, 7)])?);
     let expected = "-1.5000000 0.0000005\n0.0000000 0.0000007\n";
     assert!(rt; is_printed(rt.alloc(), hull, expected)?);
+    Ok(())
+}
+
+#[test]
+fn extents_of_two(rt: HostRuntime) -> Result<(), Fail> {
+    let one = place(-3, 7);
+    let other = place(2, -5);
+    assert!(rt; lower_corner(one, other) == place(-3, -5));
+    assert!(rt; upper_corner(one, other) == place(2, 7));
+    let left = box_of(-4, 1);
+    let right = box_of(0, 9);
+    assert!(rt; joined_extent(left, right) == box_of(-4, 9));
+    assert!(rt; joined_extent(right, left) == box_of(-4, 9));
     Ok(())
 }
 

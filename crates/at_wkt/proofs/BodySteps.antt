@@ -9,7 +9,7 @@ use Rattle.at_wkt.specs.declared.line.dimension.Dimension.{Dimension}
 use Rattle.at_wkt.specs.Positions.{Position, Positions}
 use Rattle.at_wkt.specs.Geometry.{is_blank, SpellsPosition, InBrackets, Parted, EmptyWord, EmptyOrParted, SpellsRing, SpellsList, SpellsPoint, SpellsPointMember}
 use Rattle.at_fixed.specs.NumberSoFar.{between}
-use Rattle.at_wkt.specs.Readers.{opens, next, Spelt, Stuck, Leads, SkipsBlanks, Item, WordStands, WordBreaks, HasCount, EnclosedPosition}
+use Rattle.at_wkt.specs.Readers.{opens, next, Spelt, Stuck, Leads, SkipsBlanks, Item, KeywordStands, KeywordBreaks, HasCount, EnclosedPosition}
 use Rattle.at_wkt.proofs.Leads.{part-part, part-cons, ahead_stuck, Begins, Inhabited, same_or_less}
 use Rattle.at_wkt.proofs.Steps.{When, when_leads, no_blank, one_blanks}
 use Rattle.at_wkt.proofs.WordSteps.{Word, word_spelt, word_stuck}
@@ -81,11 +81,11 @@ module _ {X Y : Type 0} (P : ℕ → Y → ℕ → List ℕ → Type 0) (Q : ℕ
     pub choice_open : i ≤ length w → is_open (next w i) ≡ true → Leads P Q base w i c i c f
     choice_open inside here = when_leads P Q (λ at x. f x) is_open is_open base w i c open_when choice.bracket inside here
 
-    pub choice_empty : (j : ℕ) → is_open (next w i) ≡ false → WordStands w i j (codes "EMPTY") → HasCount c → Spelt P base w i c j c none
+    pub choice_empty : (j : ℕ) → is_open (next w i) ≡ false → KeywordStands w i j (codes "EMPTY") → HasCount c → Spelt P base w i c j c none
     choice_empty j here h some = (when_leads P (Word (codes "EMPTY") none) (λ at y. y) is_shut is_shut base w i c shut_when word_begins (omega (arith, h.order, h.within)) (ap not here)).spelt j c none
         (word_spelt (codes "EMPTY") none base w i j c h some)
 
-    pub choice_broken : (n : ℕ) → is_open (next w i) ≡ false → WordBreaks w i n (codes "EMPTY") → HasCount c → Stuck P base w i c n
+    pub choice_broken : (n : ℕ) → is_open (next w i) ≡ false → KeywordBreaks w i n (codes "EMPTY") → HasCount c → Stuck P base w i c n
     choice_broken n here h some = (when_leads P (Word (codes "EMPTY") none) (λ at y. y) is_shut is_shut base w i c shut_when word_begins (omega (arith, h.order, h.within)) (ap not here)).stuck n
         (word_stuck (codes "EMPTY") none base w i n c refl h some)
 

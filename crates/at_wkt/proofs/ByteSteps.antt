@@ -8,7 +8,7 @@ use native.Mathlib.Decide.{dec_lt}
 use Rattle.std.proofs.lemmas.List.{map-append, take_more, get_or_past, get_or_default}
 use Rattle.at_wkt.specs.Geometry.{is_blank}
 use Rattle.at_fixed.specs.NumberSoFar.{between}
-use Rattle.at_wkt.specs.Readers.{next, Matches, WordStands, WordBreaks}
+use Rattle.at_wkt.specs.Readers.{next, Matches, KeywordStands, KeywordBreaks}
 use Rattle.at_wkt.proofs.Leads.{part-more}
 use Rattle.at_wkt.proofs.Steps.{AreBlanks}
 
@@ -57,14 +57,14 @@ letters_more w i word count less inside e h =
     ∙ (map-append to_ascii_uppercase (between w i (i + count)) (next w (i + count) ∷ []) ∙ (ap (λ z. z ++ (to_ascii_uppercase (next w (i + count)) ∷ [])) e
     ∙ (ap (λ z. take count word ++ (z ∷ [])) h ∙ sym (take_more word count 0 less)))))
 
-pub word_whole : (w : List ℕ) (i : ℕ) (word : List ℕ) (count : ℕ) → Matches w i word count → count ≡ length word → WordStands w i (i + count) word
+pub word_whole : (w : List ℕ) (i : ℕ) (word : List ℕ) (count : ℕ) → Matches w i word count → count ≡ length word → KeywordStands w i (i + count) word
 word_whole w i word count h e = record {
   order = omega arith;
   within = h.within;
   text = h.text ∙ (ap (λ n. take n word) e ∙ take-length word);
 }
 
-pub word_broken : (w : List ℕ) (i : ℕ) (word : List ℕ) (count : ℕ) → Matches w i word count → count ≢ length word → WordBreaks w i (i + count) word
+pub word_broken : (w : List ℕ) (i : ℕ) (word : List ℕ) (count : ℕ) → Matches w i word count → count ≢ length word → KeywordBreaks w i (i + count) word
 word_broken w i word count h e =
     let size : count ≡ (i + count) - i = omega arith in
     let less : count < length word = omega (arith, h.fits, e) in record {

@@ -19,7 +19,7 @@ use Rattle.at_wkt.specs.Positions.{pos_of, path_of, position_faults, faults_of_l
 use Rattle.at_wkt.specs.Meaning.{present, shape_of, faults_of, polygons_of, faults_of_area}
 use Rattle.at_wkt.specs.Geometry.{Geometry, point, line_string, polygon, multi_point, multi_line_string, multi_polygon, collection, no_geometries, SpellsPoint, SpellsList, SpellsArea, EmptyOrParted, SpellsPointMember, geometry_and}
 use Rattle.at_text.specs.Halts.{IfStopped}
-use Rattle.at_wkt.specs.Readers.{next, Spelt, Stuck, HasCount, WordStands, WordBreaks, Body, BodyStands, PartStands, Grows, point_faults, added_point, line_faults, added_line}
+use Rattle.at_wkt.specs.Readers.{next, Spelt, Stuck, HasCount, KeywordStands, KeywordBreaks, Body, BodyStands, PartStands, Grows, point_faults, added_point, line_faults, added_line}
 use Rattle.at_wkt.proofs.Leads.{Begins}
 use Rattle.at_wkt.proofs.Steps.{Same, When, when_leads, same_leads}
 use Rattle.at_wkt.proofs.WordSteps.{Word, word_spelt, word_stuck}
@@ -167,7 +167,7 @@ module _ (digits : ℕ) (how : Coords) (base : ℕ) (w : List ℕ) (e : ℕ) (c 
     shut b h = ap not (letter_not_open b h)
 
   pub empty_body : is_open (next w e) ≡ false → e ≤ length w → HasCount c → new.points.items ≡ old.points.items → new.lines.items ≡ old.lines.items → new.polygons.items ≡ old.polygons.items
-      → MatchResult r (λ read. WordStands w e read.behind.at (codes "EMPTY") × (read.fault ≡ None) × (read.behind.dimension ≡ c)) (λ halt. IfStopped halt (λ n. WordBreaks w e n (codes "EMPTY")))
+      → MatchResult r (λ read. KeywordStands w e read.behind.at (codes "EMPTY") × (read.fault ≡ None) × (read.behind.dimension ≡ c)) (λ halt. IfStopped halt (λ n. KeywordBreaks w e n (codes "EMPTY")))
       → MatchResult r (BodyStands digits how base w (HeadOf GeometryCollection) old new) (λ halt. IfStopped halt (Stuck (Body GeometryCollection) base w e c))
   empty_body shut inside some sp sl sg h = answers_by r _ (BodyStands digits how base w (HeadOf GeometryCollection) old new) _ (Stuck (Body GeometryCollection) base w e c) h
       (λ read (word, ef, ed). record {

@@ -6,7 +6,7 @@ use Rattle.std.specs.Str.{str_to_ascii_uppercase}
 use Rattle.at_wkt.specs.declared.line.kinds.Kind.{Kind}
 use Rattle.at_wkt.specs.declared.line.kinds.Kind.TheVariants.{Point, LineString, Polygon, MultiPoint, MultiLineString, MultiPolygon, GeometryCollection}
 use Rattle.at_fixed.specs.NumberSoFar.{between}
-use Rattle.at_wkt.specs.Readers.{word_of, Matches, WordBreaks, KindBreaks, KindsTried}
+use Rattle.at_wkt.specs.Readers.{word_of, Matches, KeywordBreaks, KindBreaks, KindsTried}
 use Rattle.at_wkt.proofs.Leads.{part-none}
 use Rattle.at_wkt.proofs.ByteSteps.{word_broken}
 
@@ -20,16 +20,16 @@ tried_none w i h = record {
 
 module _ (w : List ℕ) (i : ℕ) where
   Broken : ℕ → Kind → Type 0
-  Broken longest k = (n : ℕ) × (n ≤ i + longest) × WordBreaks w i n (word_of k)
+  Broken longest k = (n : ℕ) × (n ≤ i + longest) × KeywordBreaks w i n (word_of k)
 
   abbrev AreBroken : ℕ → List Kind → Type 0
-  AreBroken longest ks = AllByRecursion (λ k. (n : ℕ) × (n ≤ i + longest) × WordBreaks w i n (word_of k)) ks
+  AreBroken longest ks = AllByRecursion (λ k. (n : ℕ) × (n ≤ i + longest) × KeywordBreaks w i n (word_of k)) ks
 
   farther : (m n : ℕ) → m ≤ n → (ks : List Kind) → AreBroken m ks → AreBroken n ks
   farther m n h [] b = tt
   farther m n h (k ∷ ks) ((q, low, x), bs) = ((q, omega arith, x), farther m n h ks bs)
 
-  one_more : (n : ℕ) (ks : List Kind) (k : Kind) → AreBroken n ks → (q : ℕ) × (q ≤ i + n) × WordBreaks w i q (word_of k) → AreBroken n (ks ++ (k ∷ []))
+  one_more : (n : ℕ) (ks : List Kind) (k : Kind) → AreBroken n ks → (q : ℕ) × (q ≤ i + n) × KeywordBreaks w i q (word_of k) → AreBroken n (ks ++ (k ∷ []))
   one_more n [] k b x = (x, tt)
   one_more n (y ∷ ks) k (b, bs) x = (b, one_more n ks k bs x)
 
@@ -38,7 +38,7 @@ module _ (w : List ℕ) (i : ℕ) where
   tried_more longest longest' count ks ks' k word h ew m differs (low, high, which) ek =
       let found : Matches w i (word_of k) count = subst (λ z. Matches w i z count) ew m in
       let unlike : count ≢ length (word_of k) = (λ e. differs (e ∙ ap length (sym ew))) in
-      let broken : WordBreaks w i (i + count) (word_of k) = word_broken w i (word_of k) count found unlike in
+      let broken : KeywordBreaks w i (i + count) (word_of k) = word_broken w i (word_of k) count found unlike in
       let all : AreBroken longest' (ks ++ (k ∷ [])) = one_more longest' ks k (farther longest longest' low ks h.breaks) (i + count, omega (arith, high), broken) in
       elim which [
         | inl e ↦ record {
@@ -63,7 +63,7 @@ module _ (w : List ℕ) (i : ℕ) where
     order = omega arith;
     within = h.within;
   } where
-    each : AreBroken longest (Point ∷ LineString ∷ Polygon ∷ MultiPoint ∷ MultiLineString ∷ MultiPolygon ∷ GeometryCollection ∷ []) → (k : Kind) → (n : ℕ) × (n ≤ i + longest) × WordBreaks w i n (word_of k)
+    each : AreBroken longest (Point ∷ LineString ∷ Polygon ∷ MultiPoint ∷ MultiLineString ∷ MultiPolygon ∷ GeometryCollection ∷ []) → (k : Kind) → (n : ℕ) × (n ≤ i + longest) × KeywordBreaks w i n (word_of k)
     each (a, (b, (c, (d, (e, (f, (g, z))))))) Point = a
     each (a, (b, (c, (d, (e, (f, (g, z))))))) LineString = b
     each (a, (b, (c, (d, (e, (f, (g, z))))))) Polygon = c

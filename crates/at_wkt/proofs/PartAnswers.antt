@@ -21,7 +21,7 @@ use Rattle.at_wkt.specs.Meaning.{polygons_of, faults_of_area}
 use Rattle.at_wkt.specs.Geometry.{SpellsPosition, SpellsRing, SpellsPoint, SpellsPointMember, EmptyOrParted}
 use Rattle.at_fixed.specs.NumberSoFar.{between}
 use Rattle.at_text.specs.Halts.{IfStopped}
-use Rattle.at_wkt.specs.Readers.{next, Spelt, Stuck, SkipsBlanks, Delimiter, Item, Items, HasCount, WordStands, WordBreaks, DelimiterStands, DelimiterBreaks, opens, PositionStands, PathStands, PartStands, ItemStands, ItemsSoFar, Grows, EnclosedPosition, added_position, added_path, added_point, point_faults, faults_of_path}
+use Rattle.at_wkt.specs.Readers.{next, Spelt, Stuck, SkipsBlanks, Delimiter, Item, Items, HasCount, KeywordStands, KeywordBreaks, DelimiterStands, DelimiterBreaks, opens, PositionStands, PathStands, PartStands, ItemStands, ItemsSoFar, Grows, EnclosedPosition, added_position, added_path, added_point, point_faults, faults_of_path}
 use Rattle.at_wkt.proofs.Leads.{part-part, part-cons, Begins, counts}
 use Rattle.at_wkt.proofs.Steps.{no_blank, AreBlanks, blank_at, not_blank, stuck_first, when_leads}
 use Rattle.at_wkt.proofs.ItemSteps.{delimiter_spelt, delimiter_stuck}
@@ -36,7 +36,7 @@ use Rattle.at_text.proofs.Exits.{answers_by}
 module _ {X Y Z : Type 0} (P : ℕ → Y → ℕ → List ℕ → Type 0) (Q : ℕ → X → ℕ → List ℕ → Type 0) (f : X → Y) (none : Y) (choice : Choice P Q f none)
     (faults : Y → List Fault) (added : Y → List Z) (base : ℕ) (w : List ℕ) (i : ℕ) (c : Dimension) where
   pub nothing_stands : faults none ≡ [] → added none ≡ [] → (list : List Z) → is_open (next w i) ≡ false → HasCount c → (r : Result Read Halt)
-      → MatchResult r (λ read. WordStands w i read.behind.at (codes "EMPTY") × (read.fault ≡ None) × (read.behind.dimension ≡ c)) (λ halt. IfStopped halt (λ n. WordBreaks w i n (codes "EMPTY")))
+      → MatchResult r (λ read. KeywordStands w i read.behind.at (codes "EMPTY") × (read.fault ≡ None) × (read.behind.dimension ≡ c)) (λ halt. IfStopped halt (λ n. KeywordBreaks w i n (codes "EMPTY")))
       → MatchResult r (PartStands P faults (Grows added list list) base w i c) (λ halt. IfStopped halt (Stuck P base w i c))
   nothing_stands hf ha list shut some r h = answers_by r _ (PartStands P faults (Grows added list list) base w i c) _ (Stuck P base w i c) h
       (λ read (word, ef, ed). record {

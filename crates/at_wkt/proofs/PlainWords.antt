@@ -7,9 +7,9 @@ use Rattle.std.proofs.lemmas.Bool.Decides.{Decides-eqb}
 use Rattle.std.proofs.lemmas.List.{drop-take, take_rest}
 use Rattle.std.proofs.lemmas.Slice.Eq.{starts_is}
 use Rattle.std.proofs.Math.Seq.{take-append_seam}
-use Rattle.at_wkt.specs.Readers.{WordStands}
+use Rattle.at_wkt.specs.Readers.{KeywordStands}
 
-word_here : (w p rest : List ℕ) (i : ℕ) → i ≤ length w → str_to_ascii_uppercase p ≡ p → drop i w ≡ p ++ rest → WordStands w i (i + length p) p
+word_here : (w p rest : List ℕ) (i : ℕ) → i ≤ length w → str_to_ascii_uppercase p ≡ p → drop i w ≡ p ++ rest → KeywordStands w i (i + length p) p
 word_here w p rest i h capitals e = record {
   order = omega arith;
   within = omega (arith, h, sym (length-drop i w) ∙ (ap length e ∙ length-append p rest));
@@ -17,7 +17,7 @@ word_here w p rest i h capitals e = record {
 }
 
 -- what a text that goes on with a word of capitals says
-pub word_plain : (w p : List ℕ) (i : ℕ) (r : Bool) → i ≤ length w → str_to_ascii_uppercase p ≡ p → r ≡ bytes_eq p (take (length p) (take (length w - i) (drop i w))) → r ≡ true → WordStands w i (i + length p) p
+pub word_plain : (w p : List ℕ) (i : ℕ) (r : Bool) → i ≤ length w → str_to_ascii_uppercase p ≡ p → r ≡ bytes_eq p (take (length p) (take (length w - i) (drop i w))) → r ≡ true → KeywordStands w i (i + length p) p
 word_plain w p i r h capitals e same =
     let rest : List ℕ = drop (length p) (take (length w - i) (drop i w)) in
     word_here w p rest i h capitals (sym (take_rest w i) ∙ (starts_is Decides-eqb (take (length w - i) (drop i w)) p r e).0 same)

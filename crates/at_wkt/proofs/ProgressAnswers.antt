@@ -17,7 +17,7 @@ use Rattle.at_wkt.specs.declared.line.geometries.Gathered.{Gathered}
 use Rattle.at_wkt.specs.declared.line.geometries.Progress.{Progress}
 use Rattle.at_fixed.specs.NumberSoFar.{between}
 use Rattle.at_text.specs.Halts.{IfStopped}
-use Rattle.at_wkt.specs.Readers.{next, Spelt, Stuck, Leads, SkipsBlanks, Delimiter, delimiter, HasCount, HeadStands, LetterStands, opens_at, WordStands, word_of, DelimiterStands, DelimiterBreaks, Meaning, joined, no_meaning, Body, meaning_of, Expected, Onward, Advances, BodyStands, StepStands, WholeStands, Gathers}
+use Rattle.at_wkt.specs.Readers.{next, Spelt, Stuck, Leads, SkipsBlanks, Delimiter, delimiter, HasCount, HeadStands, LetterStands, opens_at, KeywordStands, word_of, DelimiterStands, DelimiterBreaks, Meaning, joined, no_meaning, Body, meaning_of, Expected, Onward, Advances, BodyStands, StepStands, WholeStands, Gathers}
 use Rattle.at_wkt.proofs.Leads.{part-length}
 use Rattle.at_wkt.proofs.Steps.{spelt_over, trans_leads}
 use Rattle.at_wkt.proofs.ItemSteps.{delimiter_spelt, delimiter_stuck}
@@ -81,7 +81,7 @@ closes_over w i k j m so_far none low inside base digits how =
 -- ---- a step
 
 -- a kind's word has letters
-word_long : (w : List ℕ) (i j : ℕ) (kind : Kind) → WordStands w i j (word_of kind) → i < j
+word_long : (w : List ℕ) (i j : ℕ) (kind : Kind) → KeywordStands w i j (word_of kind) → i < j
 word_long w i j kind h =
     let (b, t, e, n) = kind_first kind (between w i j) h.text in
     omega (arith, part-length w i j h.order h.within, ap length e)

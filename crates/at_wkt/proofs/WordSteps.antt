@@ -12,7 +12,7 @@ use Rattle.at_wkt.specs.declared.line.kinds.Kind.{Kind}
 use Rattle.at_wkt.specs.declared.line.kinds.Kind.TheVariants.{Point, LineString, Polygon, MultiPoint, MultiLineString, MultiPolygon, GeometryCollection}
 use Rattle.at_wkt.specs.Geometry.{is_blank}
 use Rattle.at_fixed.specs.NumberSoFar.{between}
-use Rattle.at_wkt.specs.Readers.{next, Allows, Spelt, Stuck, WordStands, WordBreaks, word_of, KindBreaks, opens}
+use Rattle.at_wkt.specs.Readers.{next, Allows, Spelt, Stuck, KeywordStands, KeywordBreaks, word_of, KindBreaks, opens}
 use Rattle.at_wkt.proofs.Leads.{part-none, part-length, part-part, part-cons, Ahead, ahead_stuck, append_cases, same_length, same_or_less}
 use Rattle.at_wkt.proofs.Steps.{no_blank}
 
@@ -31,7 +31,7 @@ capitals-append a b = map-append to_ascii_uppercase a b
 abbrev pub Word : {X : Type 0} → List ℕ → X → ℕ → X → ℕ → List ℕ → Type 0
 Word word x d y at w = (y ≡ x) × AnyCase word at w
 
-pub word_spelt : {X : Type 0} (word : List ℕ) (x : X) (base : ℕ) (w : List ℕ) (i j : ℕ) (c : Dimension) → WordStands w i j word → (d : ℕ) × Allows c d → Spelt (Word word x) base w i c j c x
+pub word_spelt : {X : Type 0} (word : List ℕ) (x : X) (base : ℕ) (w : List ℕ) (i j : ℕ) (c : Dimension) → KeywordStands w i j word → (d : ℕ) × Allows c d → Spelt (Word word x) base w i c j c x
 word_spelt word x base w i j c h some = record {
   order = h.order;
   within = h.within;
@@ -44,7 +44,7 @@ word_spelt word x base w i j c h some = record {
 }
 
 -- a word that agrees with letters that stand has none that differs
-pub word_dead : (word : List ℕ) (w : List ℕ) (i n m : ℕ) (v r s : List ℕ) → WordBreaks w i n word → n ≤ m → m ≤ length w → capitals v ≡ word → v ++ r ≡ between w i m ++ (next w m ∷ s) → ⊥
+pub word_dead : (word : List ℕ) (w : List ℕ) (i n m : ℕ) (v r s : List ℕ) → KeywordBreaks w i n word → n ≤ m → m ≤ length w → capitals v ≡ word → v ++ r ≡ between w i m ++ (next w m ∷ s) → ⊥
 word_dead word w i n m v r s h low high ev e =
     let (t, et) = ahead_stuck w n m s low high (same_or_less n m low) in
     let line : v ++ r ≡ between w i n ++ (next w n ∷ t) = e ∙ (ap (λ z. z ++ (next w m ∷ s)) (part-part w i n m h.order low high) ∙ (append_assoc (between w i n) (between w n m) (next w m ∷ s) ∙ ap (λ z. between w i n ++ z) et)) in
@@ -65,7 +65,7 @@ word_dead word w i n m v r s h low high ev e =
 pub word_viable : (word u : List ℕ) (n : ℕ) → capitals word ≡ word → capitals u ≡ take n word → capitals (u ++ drop n word) ≡ word
 word_viable word u n whole e = capitals-append u (drop n word) ∙ (ap (λ z. z ++ capitals (drop n word)) e ∙ (ap (λ z. take n word ++ z) (sym (drop-map to_ascii_uppercase n word) ∙ ap (drop n) whole) ∙ take-append-drop n word))
 
-pub word_stuck : {X : Type 0} (word : List ℕ) (x : X) (base : ℕ) (w : List ℕ) (i n : ℕ) (c : Dimension) → capitals word ≡ word → WordBreaks w i n word → (d : ℕ) × Allows c d → Stuck (Word word x) base w i c n
+pub word_stuck : {X : Type 0} (word : List ℕ) (x : X) (base : ℕ) (w : List ℕ) (i n : ℕ) (c : Dimension) → capitals word ≡ word → KeywordBreaks w i n word → (d : ℕ) × Allows c d → Stuck (Word word x) base w i c n
 word_stuck word x base w i n c whole h (d0, a0) = record {
   order = h.order;
   within = h.within;
@@ -135,7 +135,7 @@ kind_only k m v u r s eu ev e = elim (append_cases v r u s e) [
       no_more (word_of k) (to_ascii_uppercase x) (capitals xs) (ap word_of same ∙ line))
 ]
 
-pub kind_spelt : (k : Kind) (base : ℕ) (w : List ℕ) (i j : ℕ) (c : Dimension) → WordStands w i j (word_of k) → (d : ℕ) × Allows c d → Spelt KindWord base w i c j c k
+pub kind_spelt : (k : Kind) (base : ℕ) (w : List ℕ) (i j : ℕ) (c : Dimension) → KeywordStands w i j (word_of k) → (d : ℕ) × Allows c d → Spelt KindWord base w i c j c k
 kind_spelt k base w i j c h some = record {
   order = h.order;
   within = h.within;

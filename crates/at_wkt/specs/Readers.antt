@@ -98,8 +98,8 @@ pub record Stuck {X : Type 0} (P : ℕ → X → ℕ → List ℕ → Type 0) (b
   pub order : i ≤ n
   pub within : n ≤ length w
   pub viable : (d : ℕ) × (x : X) × (more : List ℕ) × Allows c d × P d x (base + i) (between w i n ++ more)
-  pub dead : (d : ℕ) (x : X) (v r s : List ℕ) → Allows c d → P d x (base + i) v → v ++ r ≡ between w i n ++ (next w n ∷ s)
-      → ⊥
+  pub dead : (d : ℕ) (x : X) (v r s : List ℕ) → Allows c d → P d x (base + i) v
+      → v ++ r ≡ between w i n ++ (next w n ∷ s) → ⊥
 
 -- where the text spells Q from the place j, it spells P from the place i, and where it is stuck there, it is stuck
 pub record Leads {X Y : Type 0} (P : ℕ → X → ℕ → List ℕ → Type 0) (Q : ℕ → Y → ℕ → List ℕ → Type 0) (base : ℕ) (w
@@ -177,13 +177,13 @@ pub record NumberSkips (w : List ℕ) (i j : ℕ) : Type 0 where
   pub longest : LongestViable WktNumber (drop i w) (j - i)
 
 -- the word, in capitals, stands from a place up to another in either case
-pub record WordStands (w : List ℕ) (i j : ℕ) (word : List ℕ) : Type 0 where
+pub record KeywordStands (w : List ℕ) (i j : ℕ) (word : List ℕ) : Type 0 where
   pub order : i ≤ j
   pub within : j ≤ length w
   pub text : str_to_ascii_uppercase (between w i j) ≡ word
 
 -- so many letters of the word stand from a place on, and the next one doesn't
-pub record WordBreaks (w : List ℕ) (i j : ℕ) (word : List ℕ) : Type 0 where
+pub record KeywordBreaks (w : List ℕ) (i j : ℕ) (word : List ℕ) : Type 0 where
   pub order : i ≤ j
   pub within : j ≤ length w
   pub text : str_to_ascii_uppercase (between w i j) ≡ take (j - i) word
@@ -204,7 +204,7 @@ word_of GeometryCollection = codes "GEOMETRYCOLLECTION"
 pub record KindBreaks (w : List ℕ) (i j : ℕ) : Type 0 where
   pub kind : Kind
   pub text : str_to_ascii_uppercase (between w i j) ≡ take (j - i) (word_of kind)
-  pub breaks : (k : Kind) → (n : ℕ) × (n ≤ j) × WordBreaks w i n (word_of k)
+  pub breaks : (k : Kind) → (n : ℕ) × (n ≤ j) × KeywordBreaks w i n (word_of k)
   pub order : i ≤ j
   pub within : j ≤ length w
 
@@ -221,7 +221,7 @@ LetterStands w i j c = ((j ≡ i) × (c ≡ Open) × ¬ LetterAt w i 0x5A × ¬ 
 -- the word of a kind stands, then blanks, a letter or none, and blanks
 pub record HeadStands (w : List ℕ) (i : ℕ) (head : Head) : Type 0 where
   pub word_end : ℕ
-  pub word : WordStands w i word_end (word_of head.kind)
+  pub word : KeywordStands w i word_end (word_of head.kind)
   pub letter_at : ℕ
   pub blanks : SkipsBlanks w word_end letter_at
   pub letter_end : ℕ
@@ -460,7 +460,7 @@ pub record KindsTried (w : List ℕ) (i : ℕ) (longest : ℕ) (tried : List Kin
   pub within : i + longest ≤ length w
   pub kind : Kind
   pub text : str_to_ascii_uppercase (between w i (i + longest)) ≡ take longest (word_of kind)
-  pub breaks : AllByRecursion (λ k. (n : ℕ) × (n ≤ i + longest) × WordBreaks w i n (word_of k)) tried
+  pub breaks : AllByRecursion (λ k. (n : ℕ) × (n ≤ i + longest) × KeywordBreaks w i n (word_of k)) tried
 
 -- the lists grew by the shape, and the fault is the first of that before and these
 pub record Gathers (old new : Gathered) (m : Meaning) : Type 0 where

@@ -2,10 +2,12 @@
 
 ghost use Rattle.std.specs.Prelude.{◌≤◌, ◌^◌, length};
 
-use at_fixed::Coords;
+use at_fixed::{Coords, FixedFault};
 use at_geom::{Pos, Shape};
-use at_text::{Fault, Memory, base_of, first_fault, utf8_fault};
-use at_wkt::{Fold, LineFault, Room, finish_lines, read_geometry, read_line, run_lines};
+use at_text::{Fault, FaultKind, Memory, base_of, first_fault, utf8_fault};
+use at_wkt::{
+    Fold, LineFault, Room, finish_lines, is_blank, number_fault, read_geometry, read_line, run_lines,
+};
 use std::alloc::{AllocError, Global};
 use std::test::Fail;
 
@@ -598,6 +600,18 @@ fn deep_collections(rt: HostRuntime) -> Result<(), Fail> {
     let line = text.as_slice();
     assert!(rt; line.len() < 3_000_000);
     assert_eq!(rt; told_of_line(rt.alloc(), line)?.as_str(), "none");
+    Ok(())
+}
+
+#[test]
+fn blanks_and_faults_of_numbers(rt: HostRuntime) -> Result<(), Fail> {
+    for byte in 0..=255u8 {
+        assert!(rt; is_blank(byte) == (byte == 32 || byte == 9));
+    }
+    let scale = number_fault(FixedFault::Scale, 3);
+    assert!(rt; scale.kind == FaultKind::Scale && scale.at == 3);
+    let range = number_fault(FixedFault::Range, 4);
+    assert!(rt; range.kind == FaultKind::Range && range.at == 4);
     Ok(())
 }
 

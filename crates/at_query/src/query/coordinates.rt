@@ -4,7 +4,7 @@ ghost use Rattle.std.specs.Prelude.{◌≡◌, ◌^◌, ◌≤◌, length, IsTru
 ghost use Rattle.at_wkt.specs.Positions.{value_in, faults_in};
 ghost use Rattle.at_query.specs.Queries.{ats_of, least_of};
 ghost use Rattle.at_text.specs.Halts.{IfStopped};
-ghost use Rattle.at_query.specs.Readers.{Ends, Stops, is_delimiter, Number, number_in};
+ghost use Rattle.at_query.specs.Readers.{Ends, Stops, ends_number, Number, number_in};
 
 use crate::query::bytes::skip_word;
 use crate::query::precision::Precision;
@@ -51,7 +51,7 @@ pub fn read_number(
 ) -> Result<NumberRead, Halt>
     requires inside { at ≤ length text.now }
     requires short { length text.now ≤ 2 ^ 28 }
-    requires delimits { IsTrue (is_delimiter delimiter) }
+    requires delimits { IsTrue (ends_number delimiter) }
     ensures { MatchResult result
         (λ read. Ends (Number rules.digits rules.how delimiter) text.now at read.end (number_in read))
         (λ halt. IfStopped halt (Stops (Number rules.digits rules.how delimiter) text.now at)) }

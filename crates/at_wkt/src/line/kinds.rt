@@ -1,7 +1,7 @@
 //! The words of the seven kinds, and the letters Z and M behind them.
 
 ghost use Rattle.std.specs.Prelude.{◌≡◌, ◌≤◌, ◌+◌, ◌⊎◌, length, IfSome, MatchResult};
-ghost use Rattle.at_wkt.specs.Readers.{next, word_of, WordStands, KindBreaks, LetterStands, HeadStands, SkipsBlanks};
+ghost use Rattle.at_wkt.specs.Readers.{next, word_of, KeywordStands, KindBreaks, LetterStands, HeadStands, SkipsBlanks};
 ghost use Rattle.at_text.specs.Halts.{IfStopped};
 
 use crate::line::bytes::{letter_stands, skip_blanks, stands};
@@ -70,7 +70,7 @@ fn larger(a: usize, b: usize) -> usize
 /// Reads the word of a kind.
 fn read_kind(text: &[u8], at: usize) -> Result<KindRead, Halt>
     requires { at ≤ length text.now }
-    ensures { MatchResult result (λ read. WordStands text.now at read.end (word_of read.kind))
+    ensures { MatchResult result (λ read. KeywordStands text.now at read.end (word_of read.kind))
         (λ halt. IfStopped halt (KindBreaks text.now at)) }
 {
     let mut longest = 0;

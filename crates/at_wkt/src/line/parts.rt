@@ -10,7 +10,7 @@ ghost use Rattle.at_wkt.specs.Readers.{next, Stuck, HasCount, Item, Items, Enclo
 ghost use Rattle.at_wkt.specs.Readers.{added_point, point_faults, added_line, line_faults, added_path, added_position};
 ghost use Rattle.at_wkt.specs.Readers.{opens, Grows, PartStands, ItemStands, DelimiterStands, DelimiterBreaks};
 ghost use Rattle.at_text.specs.Halts.{IfStopped};
-ghost use Rattle.at_wkt.specs.Readers.{WordStands, WordBreaks};
+ghost use Rattle.at_wkt.specs.Readers.{KeywordStands, KeywordBreaks};
 
 use crate::line::bytes::{letter_stands, skip_blanks, stands};
 use crate::line::paths::{Maker, Role, add_fault, empty_rings, read_path};
@@ -39,10 +39,10 @@ pub struct ItemRead {
 /// Reads the word EMPTY, which adds nothing.
 pub fn read_nothing(text: &[u8], from: Place) -> Result<Read, Halt>
     requires { from.at ≤ length text.now }
-    ensures { MatchResult result (λ read. WordStands text.now from.at read.behind.at (codes "EMPTY")
+    ensures { MatchResult result (λ read. KeywordStands text.now from.at read.behind.at (codes "EMPTY")
         × (read.fault ≡ None)
         × (read.behind.dimension ≡ from.dimension))
-        (λ halt. IfStopped halt (λ n. WordBreaks text.now from.at n (codes "EMPTY"))) }
+        (λ halt. IfStopped halt (λ n. KeywordBreaks text.now from.at n (codes "EMPTY"))) }
 {
     let end = read_empty(text, from.at)?;
     Ok(Read {

@@ -3,7 +3,7 @@
 ghost use Rattle.std.specs.Prelude.{◌≡◌, ◌≤◌, codes, length, IfSome, MatchResult};
 ghost use Rattle.std.specs.Str.{str_to_ascii_uppercase};
 ghost use Rattle.at_text.specs.Halts.{IfStopped};
-ghost use Rattle.at_wkt.specs.Readers.{Matches, WordStands, WordBreaks};
+ghost use Rattle.at_wkt.specs.Readers.{Matches, KeywordStands, KeywordBreaks};
 
 use crate::line::bytes::letter_stands;
 use at_text::Halt;
@@ -25,7 +25,7 @@ pub fn matching(text: &[u8], at: usize, word: &[u8]) -> usize
 pub fn plain_word(text: &[u8], at: usize, word: &[u8]) -> Option<usize>
     requires inside { at ≤ length text.now }
     requires capitals { str_to_ascii_uppercase word.now ≡ word.now }
-    ensures { IfSome result (λ end. WordStands text.now at end word.now) }
+    ensures { IfSome result (λ end. KeywordStands text.now at end word.now) }
 {
     if text[at..].starts_with(word) {
         Some(at + word.len())
@@ -37,8 +37,8 @@ pub fn plain_word(text: &[u8], at: usize, word: &[u8]) -> Option<usize>
 /// The place behind the word EMPTY.
 pub fn read_empty(text: &[u8], at: usize) -> Result<usize, Halt>
     requires { at ≤ length text.now }
-    ensures { MatchResult result (λ end. WordStands text.now at end (codes "EMPTY"))
-        (λ halt. IfStopped halt (λ n. WordBreaks text.now at n (codes "EMPTY"))) }
+    ensures { MatchResult result (λ end. KeywordStands text.now at end (codes "EMPTY"))
+        (λ halt. IfStopped halt (λ n. KeywordBreaks text.now at n (codes "EMPTY"))) }
 {
     let count = matching(text, at, b"EMPTY");
     if count == 5 {
