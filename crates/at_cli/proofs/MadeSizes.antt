@@ -1,10 +1,10 @@
 -- The made files one square more, and how many bytes they have at most.
 -- For `made_file` and `top`.
-use Rattle.std.proofs.Common.{◌≡◌, ℕ, zero, suc, ◌+◌, ◌*◌, ◌/◌, ◌%◌, ◌^◌, ◌<◌, ◌≤◌, Bool, true, false, nat_eq, if◌then◌else◌, codes, decimal, List, [], ◌∷◌, ◌++◌, length, flat_map, refl, sym, ap, ◌∙◌, arith, add-one, append-nil, append_assoc, length-append}
+use Rattle.std.proofs.Common.{◌≡◌, ℕ, zero, suc, ◌+◌, ◌*◌, ◌^◌, ◌<◌, ◌≤◌, Bool, true, false, nat_eq, if◌then◌else◌, codes, decimal, List, [], ◌∷◌, ◌++◌, length, flat_map, sym, ap, ◌∙◌, arith, add-one, append-nil, append_assoc, length-append}
 use Rattle.std.specs.List.{range_with_len}
 use Rattle.std.proofs.lemmas.Grind.{flat_map-append}
 use Rattle.std.proofs.lemmas.Fmt.{length-decimal-le}
-use Rattle.at_cli.specs.Made.{column, row, line_by, wkt_line, feature_by, before_feature, feature_line, wkt_text, geojson_text}
+use Rattle.at_cli.specs.Made.{column, row, line_by, wkt_line, feature_by, feature_line, wkt_text, geojson_text}
 
 range_more : (a n j : ℕ) → a + n ≡ j → range_with_len a (suc n) ≡ range_with_len a n ++ j ∷ []
 range_more a zero j e = ap (λ z. z ∷ []) (omega (arith, e))

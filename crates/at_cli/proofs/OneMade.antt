@@ -1,6 +1,6 @@
 -- A made file's name has one text.
 -- For `top`.
-use Rattle.std.proofs.Common.{◌≡◌, ◌≢◌, ℕ, ◌^◌, ◌<◌, inl, inr, codes, decimal, List, [], ◌∷◌, ◌++◌, refl, sym, ◌∙◌, ap, arith}
+use Rattle.std.proofs.Common.{◌≡◌, ◌≢◌, ℕ, inl, inr, codes, decimal, List, ◌∷◌, sym, ◌∙◌, ap, arith}
 use Rattle.std.proofs.lemmas.List.{append_cancel_left}
 use Rattle.std.proofs.lemmas.Fmt.{decimal_injective}
 use Rattle.at_cli.specs.Made.{IsMadeText, wkt_text, geojson_text}

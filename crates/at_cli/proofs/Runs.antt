@@ -1,6 +1,6 @@
 -- The end of a run is the outcome of what the words say, over the files.
 -- For `top`.
-use Rattle.std.proofs.Common.{◌≡◌, ◌≢◌, ◌↔◌, ◌⊎◌, ◌∙◌, sym, ap, Result, Err, ℕ, ◌≤◌, ◌^◌, List, [], ◌∷◌, length, Option, Some, None, IfSome, inl, inr, refl, subst, arith}
+use Rattle.std.proofs.Common.{◌≡◌, ◌≢◌, ◌↔◌, ◌⊎◌, ◌∙◌, sym, ap, Result, Err, ℕ, ◌≤◌, List, [], ◌∷◌, Option, Some, None, IfSome, inl, inr, refl, subst, arith}
 use Rattle.at_io.specs.Files.{Files}
 use Rattle.at_cli.specs.declared.outcome.ending.Ending.{Ending}
 use Rattle.at_cli.specs.declared.words.line.Line.{Line}

@@ -1,7 +1,6 @@
 -- What the shelf was asked for, name after name, and what the end is over the names' bytes.
 -- For `top`.
-use Rattle.std.proofs.Common.{◌≡◌, ℕ, ◌+◌, ◌*◌, ◌^◌, ◌<◌, ◌≤◌, ◌⊎◌, inl, inr, Bool, true, false, if◌then◌else◌, List, [], ◌∷◌, ◌++◌, length, Option, Some, None, IfSome, is_some, Result, Err, refl, sym, ◌∙◌, ap, subst, arith, append-nil, append_assoc, length-append, true≢false}
-use Rattle.std.proofs.lemmas.Option.{none-some, same_Some}
+use Rattle.std.proofs.Common.{◌≡◌, ℕ, ◌+◌, ◌^◌, ◌<◌, ◌≤◌, ◌⊎◌, inl, inr, Bool, true, false, if◌then◌else◌, List, [], ◌∷◌, ◌++◌, length, Option, Some, None, IfSome, is_some, Result, Err, refl, sym, ◌∙◌, ap, subst, arith, append-nil, append_assoc, length-append, true≢false}
 use Rattle.std.specs.Prelude.{IsSome}
 use Rattle.at_io.specs.Counts.{next_count, Rose}
 use Rattle.at_io.specs.declared.whole.ReadError.{ReadError}
@@ -10,13 +9,12 @@ use Rattle.at_io.specs.Files.{Files, bytes_named, name_among}
 use Rattle.at_query.specs.declared.query.queries.Verb.{Verb}
 use Rattle.at_query.specs.declared.query.queries.Verb.TheVariants as verbs
 use Rattle.at_cli.specs.declared.outcome.ending.Ending.{Ending}
-use Rattle.at_cli.specs.declared.outcome.ending.Ending.TheVariants.{ReadFailed, TooLarge}
-use Rattle.at_cli.specs.declared.words.line.Line.{Line}
+use Rattle.at_cli.specs.declared.outcome.ending.Ending.TheVariants.{TooLarge}
 use Rattle.at_cli.specs.Made.{is_made, IsMadeText}
-use Rattle.at_cli.specs.Texts.{unread_line, size_line}
-use Rattle.at_cli.specs.Outcomes.{Outcome, stopped, has_right_count, HasBytesBy, HasBytes, Sized}
-use Rattle.at_cli.specs.Failures.{asked_name, asked_second, asked_names, begun_with, last_begun, WasAsked, AsksFor, HaveSized, FailedOn}
-use Rattle.at_cli.specs.Endings.{status_of, line_of, outcome_by, Ends}
+use Rattle.at_cli.specs.Texts.{unread_line}
+use Rattle.at_cli.specs.Outcomes.{Outcome, has_right_count, HasBytesBy, HasBytes, Sized}
+use Rattle.at_cli.specs.Failures.{asked_name, begun_with, last_begun, WasAsked, AsksFor, HaveSized, FailedOn}
+use Rattle.at_cli.specs.Endings.{status_of, outcome_by, Ends}
 
 -- ---- the bytes of a name
 

@@ -1,6 +1,6 @@
 -- Texts that are put together in groups are those that are put together one by one.
 -- For `made_file` and `top`.
-use Rattle.std.proofs.Common.{◌≡◌, ℕ, suc, ◌+◌, codes, decimal, List, [], ◌∷◌, ◌++◌, flat_map, refl, sym, ap, ◌∙◌, append_assoc}
+use Rattle.std.proofs.Common.{◌≡◌, ℕ, ◌+◌, codes, decimal, List, [], ◌∷◌, ◌++◌, refl, sym, ap, ◌∙◌}
 use Rattle.std.proofs.lemmas.Grind.{flat_map-append}
 use Rattle.at_cli.specs.declared.squares.RowTexts.{RowTexts}
 use Rattle.at_cli.specs.Made.{texts, line_by, feature_by}

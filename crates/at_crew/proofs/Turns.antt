@@ -1,7 +1,6 @@
 -- What a deposit at a parent changes: the word of the parent p of node n, and slots of blocks that the pass's node spans.
 -- For `claim`, `run_crew`, `settle` and `work`.
 use Rattle.std.proofs.Common.{◌≡◌, ◌≢◌, ℕ, ◌+◌, ◌*◌, ◌/◌, ◌%◌, ◌<◌, ◌⊎◌, Option, bit_or, List, set, length, slice_index, slice_set, refl, sym, ap, ◌∙◌, subst, inl, inr, arith, length-set}
-use mathlib.Core.Option.{some, none}
 use mathlib.Core.Option as maybe
 use lib.ListN.{get_elem?}
 use native.Mathlib.Decide.{ℕ_discrete}

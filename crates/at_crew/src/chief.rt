@@ -1,6 +1,6 @@
 //! The one that makes the passes of a crew and takes them back.
 
-ghost use Rattle.std.specs.Prelude.{◌≡◌, ℕ, ◌+◌, ◌-◌, ◌*◌, ◌<◌, ◌≤◌, [], ◌++◌, None, true, false};
+ghost use Rattle.std.specs.Prelude.{◌≡◌, ◌+◌, ◌-◌, ◌<◌, ◌≤◌, [], ◌++◌, None, true, false};
 ghost use Rattle.at_crew.specs.Seats.{IsChiefSeat};
 
 use crate::crew::Crew;

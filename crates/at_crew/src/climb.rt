@@ -1,5 +1,5 @@
 //! How a part is settled: it goes up the tree for as long as the neighbour's part is there.
-ghost use Rattle.std.specs.Prelude.{◌≡◌, ℕ, ◌+◌, ◌*◌, ◌/◌, ◌%◌, ◌^◌, ◌<◌, ◌≤◌, [], ◌∷◌, ◌++◌, IsSomeAnd, Some, None};
+ghost use Rattle.std.specs.Prelude.{◌≡◌, ℕ, ◌+◌, ◌*◌, ◌/◌, ◌%◌, ◌<◌, ◌≤◌, [], ◌∷◌, ◌++◌, IsSomeAnd, Some, None};
 ghost use Rattle.std.specs.Prelude.{IsTrue, IsFalse, ◌==◌};
 ghost use Rattle.at_crew.specs.Nodes.{IsNode, first_of, end_of, ancestors};
 ghost use Rattle.at_crew.specs.Seats.{Bears, children, HasChildren};

@@ -1,6 +1,6 @@
 //! The blocks of a job, shared out among passes and merged up a tree without a lock.
 
-ghost use Rattle.std.specs.Prelude.{◌≡◌, ℕ, ◌+◌, ◌*◌, ◌^◌, ◌<◌, ◌≤◌, [], ◌++◌, All, IfSome, IfNone, IfOk, IsSomeAnd};
+ghost use Rattle.std.specs.Prelude.{◌≡◌, ℕ, ◌+◌, ◌<◌, ◌≤◌, [], ◌++◌, All, IfSome, IfNone, IfOk, IsSomeAnd};
 ghost use Rattle.std.specs.Prelude.{Some, None, is_none, option_to_list, true, false, replicate, slice_index_or};
 ghost use Rattle.std.specs.Mem.Slots.{slots_filled, slots_len};
 ghost use Rattle.std.specs.Mem.Slots.Ownership.{Filled};

@@ -1,6 +1,6 @@
 //! A whole job, run by as many threads as are asked for.
 
-ghost use Rattle.std.specs.Prelude.{◌≡◌, ℕ, ◌<◌, ◌≤◌, All, IfOk, IsTrue, length};
+ghost use Rattle.std.specs.Prelude.{◌≡◌, ◌<◌, ◌≤◌, All, IfOk, length};
 ghost use Rattle.at_crew.specs.Nodes.{IsBlockCount};
 ghost use Rattle.at_crew.specs.Shown.{IsReady, IsDone, job_of};
 

@@ -1,6 +1,6 @@
 //! The members of an object for which some kind of object asks, by their names (RFC 7946 section 3).
 
-ghost use Rattle.std.specs.Prelude.{◌≡◌, [], is_some, IfOk};
+ghost use Rattle.std.specs.Prelude.{◌≡◌, [], is_some};
 ghost use Rattle.at_geojson.specs.Atoms.{as_kind};
 ghost use Rattle.at_geojson.specs.Fields.{field_of, put_if, put_first as first_put, is_kind as names_kind};
 ghost use Rattle.at_geojson.specs.Fields.{is_coordinates, is_geometry, is_geometries, is_properties, is_features};

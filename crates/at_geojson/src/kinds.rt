@@ -1,6 +1,6 @@
 //! The kinds of objects that GeoJSON names (RFC 7946 section 1.4).
 
-ghost use Rattle.std.specs.Prelude.{◌≡◌, bytes_eq, codes};
+ghost use Rattle.std.specs.Prelude.{◌≡◌};
 ghost use Rattle.at_geojson.specs.Names.{kind_of_text};
 
 /// What an object says by its member `type` that it is (RFC 7946 section 1.4).

@@ -1,7 +1,6 @@
 //! The members of an object whose names are plain, read without a copy of a name.
 
 ghost use Rattle.std.specs.Prelude.{◌≡◌, ℕ, List, ◌≤◌, ◌^◌, All, bytes_eq, false, length, IfOk};
-ghost use Rattle.std.specs.List.{list_any};
 ghost use Rattle.at_fixed.specs.NumberSoFar.{between};
 ghost use Rattle.at_lex.specs.Spans.{AreSpaces};
 ghost use Rattle.at_geojson.specs.Places.{IsNameAt, IsTextAt, IsSimpleTextAt};

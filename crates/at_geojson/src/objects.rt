@@ -1,6 +1,6 @@
 //! Geometries, features and collections of their members (RFC 7946 section 3).
 
-ghost use Rattle.std.specs.Prelude.{◌≡◌, ◌∷◌, [], true, IfOk, codes};
+ghost use Rattle.std.specs.Prelude.{◌≡◌, ◌∷◌, [], true, IfOk};
 ghost use Rattle.at_geom.specs.Shapes.{IsShapeInRange};
 ghost use Rattle.at_query.specs.Parts.{IsPart};
 ghost use Rattle.at_geojson.specs.Atoms.{IfOwnShape};

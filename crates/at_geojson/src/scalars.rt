@@ -1,12 +1,11 @@
 //! What is kept of a string, a literal or a number.
 
-ghost use Rattle.std.specs.Prelude.{◌≡◌, ℕ, ◌+◌, ◌≤◌, ◌^◌, length, get_or, true, false, Some, None, IfOk};
+ghost use Rattle.std.specs.Prelude.{◌≡◌, ◌≤◌, ◌^◌, length, get_or, true, false, Some, None, IfOk};
 ghost use Rattle.std.specs.List.{list_all, list_any};
 ghost use Rattle.at_fixed.specs.Numerals.{JsonNumber};
 ghost use Rattle.at_fixed.specs.Fixed.{IsFixedOf};
 ghost use Rattle.at_lex.specs.Strings.{JsonString};
 ghost use Rattle.at_lex.specs.Runs.{JsonRun};
-ghost use Rattle.at_text.specs.Faults.{fault_at};
 ghost use Rattle.at_nest.specs.Tree.{Tree, Spells};
 ghost use Rattle.at_nest.specs.Folds.{IsScalarText};
 ghost use Rattle.at_geojson.specs.Keeping.{looks_at_texts};

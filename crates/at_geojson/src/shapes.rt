@@ -1,7 +1,6 @@
 //! Geometries of points, lines and polygons, and how they are joined.
 
-ghost use Rattle.std.specs.Prelude.{◌≡◌, [], ◌∷◌, Some, IfOk};
-ghost use Rattle.at_text.specs.Faults.{first_fault as the_first};
+ghost use Rattle.std.specs.Prelude.{◌≡◌, [], ◌∷◌, IfOk};
 ghost use Rattle.at_wkt.specs.Meaning.{of_points as points_shape, of_lines as lines_shape};
 ghost use Rattle.at_wkt.specs.Meaning.{of_polygons as polygons_shape, empty_shape as nothing};
 ghost use Rattle.at_geojson.specs.Keeping.{kept};

@@ -7,7 +7,7 @@ ghost use Rattle.at_geojson.specs.Atoms.{twin_of, IsOwn};
 ghost use Rattle.at_geojson.specs.Fields.{AreOwnFields};
 ghost use Rattle.at_geojson.specs.Members.{EndsFields, IsFieldRead};
 ghost use Rattle.at_geojson.specs.Places.{IsSimpleTextAt};
-ghost use Rattle.at_geojson.specs.Values.{IsWhole, IsItem, AreItemsRead, AreMembersRead, EndsArray, EndsObject};
+ghost use Rattle.at_geojson.specs.Values.{IsWhole, IsItem, EndsArray, EndsObject};
 
 use crate::asked::{GeoAlgebra, needs_texts};
 use crate::atoms::{GeoAtom, NumberAtom};

@@ -1,6 +1,6 @@
 //! Tables of GeoJSON texts and what queries find in them, with each text cut in many ways.
 
-ghost use Rattle.std.specs.Prelude.{◌≡◌, ◌≤◌, ◌<◌, ◌^◌, length, IfOk};
+ghost use Rattle.std.specs.Prelude.{◌≤◌, ◌<◌, ◌^◌, length, IfOk};
 ghost use Rattle.at_query.specs.Ranges.{IsQueryInRange};
 ghost use Rattle.at_text.specs.Spans.{span_of};
 ghost use Rattle.at_nest.specs.FragmentMeanings.{StandsFor};

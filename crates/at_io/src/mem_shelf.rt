@@ -1,10 +1,10 @@
 //! The shelf in memory, whose calls fail where they are told to.
 
-ghost use Rattle.std.specs.Prelude.{false, ◌≡◌, ◌+◌, ◌^◌, ◌<◌, ◌≤◌, ◌↔◌, ℕ, [], length, take, drop, map, None, Some};
-ghost use Rattle.std.specs.Prelude.{slice_get, Contains, IsOk, IsErr, IfOk, OnOk, OnErr, IfSome, MatchOption, IsTrue};
+ghost use Rattle.std.specs.Prelude.{false, ◌≡◌, ◌+◌, ◌^◌, ◌<◌, ◌≤◌, ◌↔◌, [], length, take, drop, map, None, Some};
+ghost use Rattle.std.specs.Prelude.{slice_get, Contains, IsErr, IfOk, OnOk, OnErr, MatchOption, IsTrue};
 ghost use Rattle.std.specs.Prelude.{bytes_eq};
 ghost use Rattle.at_io.specs.Distinct.{all_differ};
-ghost use Rattle.at_io.specs.Counts.{next_count, last_count, Rose};
+ghost use Rattle.at_io.specs.Counts.{next_count, Rose};
 ghost use Rattle.at_io.specs.Files.{bytes_named, name_among};
 ghost use Rattle.at_io.specs.NamedFiles.{entries_of};
 

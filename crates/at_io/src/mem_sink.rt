@@ -1,7 +1,7 @@
 //! The sink in memory, whose puts fail where they are told to.
 
-ghost use Rattle.std.specs.Prelude.{◌≡◌, ◌+◌, ◌-◌, ◌<◌, ◌≤◌, ◌↔◌, ◌++◌, ℕ, [], length, take, map, None, Some, vec_len};
-ghost use Rattle.std.specs.Prelude.{vec_capacity, IfOk, IsErr, MatchOption, nat_eq, IsTrue};
+ghost use Rattle.std.specs.Prelude.{◌≡◌, ◌+◌, ◌-◌, ◌<◌, ◌≤◌, ◌↔◌, ◌++◌, [], take, map, None, Some, vec_len};
+ghost use Rattle.std.specs.Prelude.{vec_capacity, IfOk, IsErr, nat_eq, IsTrue};
 ghost use Rattle.at_io.specs.Distinct.{all_differ};
 ghost use Rattle.at_io.specs.Counts.{next_count};
 ghost use Rattle.at_io.specs.PutFails.{limit_at};

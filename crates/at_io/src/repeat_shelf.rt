@@ -1,7 +1,7 @@
 //! The shelf with one file of equal bytes.
 
 ghost use Rattle.std.specs.Prelude.{false, ◌≡◌, ◌+◌, ◌<◌, ◌≤◌, ◌↔◌, [], ◌∷◌, length, take, drop, replicate};
-ghost use Rattle.std.specs.Prelude.{string_bytes, None, Some, IsSome, IsErr, IfOk, OnOk, OnErr, IsTrue, bytes_eq};
+ghost use Rattle.std.specs.Prelude.{string_bytes, None, Some, IsSome, IsErr, IfOk, OnOk, OnErr};
 ghost use Rattle.at_io.specs.Counts.{next_count, Rose};
 ghost use Rattle.at_io.specs.Files.{bytes_named, name_among};
 

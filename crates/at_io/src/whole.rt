@@ -1,7 +1,7 @@
 //! A whole file of a shelf, read in turns.
 
-ghost use Rattle.std.specs.Prelude.{◌≡◌, ◌⊎◌, ◌+◌, ◌<◌, ◌≤◌, ◌^◌, ◌↔◌, ◌++◌, ℕ, List, length, vec_len, Option, Some};
-ghost use Rattle.std.specs.Prelude.{None, IsSome, IfSome, IfOk, IfErr, OnOk, IsErrOf};
+ghost use Rattle.std.specs.Prelude.{◌≡◌, ◌⊎◌, ◌+◌, ◌<◌, ◌≤◌, ◌^◌, ◌↔◌, length, vec_len, Some};
+ghost use Rattle.std.specs.Prelude.{IsSome, IfSome, IfOk, IsErrOf};
 ghost use Rattle.at_io.specs.Counts.{next_count, Rose};
 ghost use Rattle.at_io.specs.Files.{bytes_named, name_among};
 

@@ -1,6 +1,6 @@
 //! Tables for the shelves, the sinks and whole files.
 
-ghost use Rattle.std.specs.Prelude.{◌≤◌, ◌≡◌, IfOk};
+ghost use Rattle.std.specs.Prelude.{◌≤◌};
 
 use at_io::{
     DiskShelf, MemShelf, MemSink, NamedFile, PutFail, ReadError, RepeatShelf, Shelf, Sink, StdSink,

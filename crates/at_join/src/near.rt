@@ -1,6 +1,6 @@
 //! The outlines of a side that are near a stretch of the other.
 
-ghost use Rattle.std.specs.Prelude.{◌≡◌, OnOk, [], ◌∷◌};
+ghost use Rattle.std.specs.Prelude.{OnOk, [], ◌∷◌};
 ghost use Rattle.at_join.specs.Meetings.{Finds};
 ghost use Rattle.at_join.specs.Sides.{IsSide, IsInWindow, itself};
 

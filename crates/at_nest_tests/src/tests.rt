@@ -1,8 +1,7 @@
 //! Tables of texts, each cut at every place, under algebras that count.
 
-ghost use Rattle.std.specs.Prelude.{◌≡◌, ◌≤◌, ◌<◌, ◌^◌, drop, length};
+ghost use Rattle.std.specs.Prelude.{◌≤◌, ◌<◌, ◌^◌, length};
 ghost use Rattle.at_text.specs.Spans.{span_of};
-ghost use Rattle.at_text.specs.Texts.{base_of as base_in};
 ghost use Rattle.at_nest.specs.KeptItems.{IsAtomOf};
 ghost use Rattle.at_nest.specs.FragmentMeanings.{StandsFor};
 

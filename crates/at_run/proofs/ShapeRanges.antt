@@ -1,6 +1,6 @@
 -- The coordinates of what a line spells are in range: a number without a value counts as 0 in a shape.
 -- For `answer`, `answer_join` and `join_into`.
-use Rattle.std.proofs.Common.{◌≡◌, ℕ, List, [], ◌∷◌, map, flat_map, All, option_to_list, sym, subst}
+use Rattle.std.proofs.Common.{ℕ, List, [], ◌∷◌, map, flat_map, All, option_to_list, sym, subst}
 use Rattle.std.proofs.lemmas.List.Elements.{All-nil, All-cons, All-append}
 use Rattle.at_fixed.specs.declared.rounding.Coords.{Coords}
 use Rattle.at_geom.specs.declared.positions.Pos.{Pos}

@@ -1,7 +1,6 @@
 //! What is kept of lines or records: a part of the answer, or the first fault.
 
 ghost use Rattle.std.specs.Prelude.{◌≡◌, ◌≢◌, Some, IfOk};
-ghost use Rattle.at_text.specs.Faults.{first_fault as the_first};
 ghost use Rattle.at_text.specs.declared.faults.Fault.{Fault};
 ghost use Rattle.at_query.specs.Ranges.{IsQueryInRange, IsFeatureInRange};
 ghost use Rattle.at_query.specs.Holding.{lent_feature};

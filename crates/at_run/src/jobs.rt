@@ -1,6 +1,6 @@
 //! A file read in blocks by several threads at once, as a job of a crew.
 
-ghost use Rattle.std.specs.Prelude.{◌≡◌, ◌+◌, ◌-◌, ◌≤◌, ◌<◌, ◌^◌, IfOk, length, slice_index};
+ghost use Rattle.std.specs.Prelude.{◌+◌, ◌-◌, ◌≤◌, ◌<◌, ◌^◌, IfOk, length};
 ghost use Rattle.std.specs.List.Sorted.{IsNonDecreasing};
 ghost use Rattle.at_text.specs.Spans.{StandsAt};
 ghost use Rattle.at_run.specs.Places.{first_place, last_place};

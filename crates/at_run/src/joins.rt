@@ -1,10 +1,9 @@
 //! The answer to a join over two files.
 
-ghost use Rattle.std.specs.Prelude.{◌≡◌, ◌-◌, ◌<◌, ◌≤◌, ◌^◌, [], length, MatchResult, None, Some, IfOk};
+ghost use Rattle.std.specs.Prelude.{◌≡◌, ◌-◌, ◌<◌, ◌≤◌, ◌^◌, [], length, MatchResult, Some, IfOk};
 ghost use Rattle.at_text.specs.Texts.{base_of as text_begin};
 ghost use Rattle.at_query.specs.Ranges.{IsQueryInRange};
-ghost use Rattle.at_query.specs.Parts.{IsPart, AreProper};
-ghost use Rattle.at_query.specs.declared.features.Feature.{Feature};
+ghost use Rattle.at_query.specs.Parts.{AreProper};
 ghost use Rattle.at_run.specs.Places.{first_place, last_place};
 ghost use Rattle.at_run.specs.Blocks.{NoneGivenUp};
 ghost use Rattle.at_run.specs.Files.{HasFileFaultIn};

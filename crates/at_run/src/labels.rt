@@ -3,7 +3,7 @@
 ghost use Rattle.std.specs.Prelude.{◌≡◌, ◌⊎◌, ◌+◌, ◌≤◌, ◌^◌, [], ℕ, None, IsTrue, length, take, IfOk, MatchResult};
 ghost use Rattle.std.specs.List.{list_any};
 ghost use Rattle.std.specs.Str.{IsUtf8};
-ghost use Rattle.at_text.specs.Syntax.{IsSyntaxFault, stop_fault};
+ghost use Rattle.at_text.specs.Syntax.{IsSyntaxFault};
 ghost use Rattle.at_lex.specs.Fronts.{IsFront};
 ghost use Rattle.at_lex.specs.Strings.{JsonString};
 ghost use Rattle.at_wkt.specs.Geometry.{is_blank as blank_test};

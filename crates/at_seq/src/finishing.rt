@@ -1,7 +1,6 @@
 //! What a whole sequence gives.
 
 ghost use Rattle.std.specs.Prelude.{◌≡◌, ◌+◌, ◌≤◌, ◌^◌, length, MatchResult, IfOk, None, Some, drop};
-ghost use Rattle.at_text.specs.Spans.{span_of};
 ghost use Rattle.at_text.specs.Faults.{first_fault as first_one, first_of};
 ghost use Rattle.at_text.specs.Texts.{utf8_fault as encoding_fault, base_of as text_begin};
 ghost use Rattle.at_run.specs.Encodings.{IsValidIn};
@@ -9,7 +8,7 @@ ghost use Rattle.at_seq.specs.Records.{records_of};
 ghost use Rattle.at_seq.specs.Sequences.{stray_faults, HasSeqFault};
 ghost use Rattle.at_seq.specs.Answers.{IfFound, IsSeqPart};
 ghost use Rattle.at_seq.specs.Gathering.{IsGathered};
-ghost use Rattle.at_seq.specs.Fragments.{HoldsText, HoldsParted, HoldsSpan, HoldsFragment};
+ghost use Rattle.at_seq.specs.Fragments.{HoldsText, HoldsParted, HoldsFragment};
 ghost use Rattle.at_seq.specs.Ends.{BecomesPart, IsEndOf};
 
 use crate::ends::SeqEnd;

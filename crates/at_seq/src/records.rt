@@ -5,7 +5,6 @@ ghost use Rattle.at_text.specs.Spans.{span_of};
 ghost use Rattle.at_text.specs.Texts.{is_space};
 ghost use Rattle.at_lex.specs.Fronts.{IsFront};
 ghost use Rattle.at_nest.specs.TextAnswers.{Answers};
-ghost use Rattle.at_nest.specs.KeptItems.{OwnAtom};
 ghost use Rattle.at_nest.specs.FragmentMeanings.{StandsFor};
 ghost use Rattle.at_geojson.specs.Atoms.{IsGeoAtom};
 ghost use Rattle.at_query.specs.Parts.{IsProper};

@@ -1,6 +1,6 @@
 //! Tables of sequences, each cut at every place.
 
-ghost use Rattle.std.specs.Prelude.{◌≡◌, ◌≢◌, ◌≤◌, ◌^◌, [], length, IfSome, IfOk};
+ghost use Rattle.std.specs.Prelude.{◌^◌, []};
 ghost use Rattle.at_query.specs.Ranges.{IsQueryInRange};
 
 use at_crew::{Free, Gate};

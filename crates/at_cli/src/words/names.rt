@@ -1,6 +1,6 @@
 //! The query and the names of files among the words.
 
-ghost use Rattle.std.specs.Prelude.{◌≡◌, ◌≤◌, ◌^◌, ℕ, List, Option, ◌∷◌, length, IfSome, option_to_list, MatchOption};
+ghost use Rattle.std.specs.Prelude.{◌≡◌, ◌≤◌, ◌^◌, Option, length, IfSome, MatchOption};
 ghost use Rattle.std.specs.Prelude.{IsTrue, ◌↔◌};
 ghost use Rattle.std.specs.Option.{option_copied};
 ghost use Rattle.at_cli.specs.Values.{IsFileName};

@@ -1,8 +1,8 @@
 //! What is kept of features that are added one by one.
 
-ghost use Rattle.std.specs.Prelude.{◌≡◌, ◌≢◌, List, [], ◌∷◌, ◌++◌, IfOk, IsOk};
+ghost use Rattle.std.specs.Prelude.{◌≢◌, List, [], ◌∷◌, ◌++◌, IfOk, IsOk};
 ghost use Rattle.at_query.specs.Ranges.{IsQueryInRange, IsFeatureInRange};
-ghost use Rattle.at_query.specs.Parts.{IsPart, IsProper, AreAlike, JoinsParts, IsOfOneSize};
+ghost use Rattle.at_query.specs.Parts.{IsPart, IsProper, IsOfOneSize};
 ghost use Rattle.at_query.specs.Accumulators.{IsAccumulated, AreOfOneVerb, JoinsAccumulators, HasOneSize, IsSettled};
 ghost use Rattle.at_query.specs.Holding.{lent_feature};
 ghost use Rattle.at_query.specs.declared.query.queries.Query.{Query};

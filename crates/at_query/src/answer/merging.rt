@@ -1,6 +1,6 @@
 //! The part of two neighbouring lists of features, from the parts of both.
 
-ghost use Rattle.std.specs.Prelude.{◌≡◌, ◌++◌, OnOk, IfOk, IsOk};
+ghost use Rattle.std.specs.Prelude.{◌≡◌, ◌++◌, IfOk, IsOk};
 ghost use Rattle.at_query.specs.Parts.{AreAlike, IsOfOneSize, IsProper, IsHullInRange, JoinsParts};
 ghost use Rattle.at_query.specs.Joined.{around_both, JoinsHulls};
 

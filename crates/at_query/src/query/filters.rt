@@ -1,6 +1,6 @@
 //! One test of a query line, by its first word.
 
-ghost use Rattle.std.specs.Prelude.{◌+◌, ◌^◌, ◌<◌, ◌≤◌, length, MatchResult};
+ghost use Rattle.std.specs.Prelude.{◌^◌, ◌<◌, ◌≤◌, length, MatchResult};
 ghost use Rattle.at_text.specs.Halts.{IfStopped};
 ghost use Rattle.at_query.specs.Readers.{Ends, Stops, Behind, InTest, MeetsTest, HasTest, OneTest, test_in};
 

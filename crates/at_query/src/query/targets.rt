@@ -1,6 +1,6 @@
 //! What a test asks a shape to meet: a box, or a geometry in Well-Known Text.
 
-ghost use Rattle.std.specs.Prelude.{◌≡◌, ◌∷◌, [], ◌^◌, ◌≤◌, length, option_map, IfOk, MatchResult};
+ghost use Rattle.std.specs.Prelude.{◌≡◌, ◌^◌, ◌≤◌, length, option_map, IfOk, MatchResult};
 ghost use Rattle.at_text.specs.declared.faults.Fault.{Fault};
 ghost use Rattle.at_query.specs.declared.query.queries.Test.TheVariants.{MeetsShape};
 ghost use Rattle.at_text.specs.declared.halts.Halt.TheVariants as halts;

@@ -1,7 +1,7 @@
 //! Plain geometries without a fault: they are passed over, and what they cover isn't kept. For all others the answer is
 //! None.
 
-ghost use Rattle.std.specs.Prelude.{◌≡◌, ◌+◌, ◌<◌, ◌≤◌, ◌^◌, IsTrue, IfSome, None, length, take, flat_map};
+ghost use Rattle.std.specs.Prelude.{◌≡◌, ◌+◌, ◌<◌, ◌≤◌, IsTrue, IfSome, None, length, take, flat_map};
 ghost use Rattle.at_geom.specs.declared.shapes.Shape.{Shape};
 ghost use Rattle.at_wkt.specs.declared.line.paths.Role.TheVariants as Role;
 ghost use Rattle.at_wkt.specs.Answers.{HasLineShape};

@@ -1,6 +1,6 @@
 //! A geometry from its word to its end, collections of any depth among them, and what it adds to what was gathered.
 
-ghost use Rattle.std.specs.Prelude.{◌≡◌, ℕ, ◌+◌, ◌^◌, ◌≤◌, false, zero, None, [], length, MatchResult};
+ghost use Rattle.std.specs.Prelude.{◌≡◌, ℕ, ◌+◌, ◌≤◌, false, zero, None, [], length, MatchResult};
 ghost use Rattle.at_fixed.specs.declared.rounding.Coords.{Coords};
 ghost use Rattle.at_wkt.specs.declared.line.dimension.Dimension.TheVariants.{Open};
 ghost use Rattle.at_wkt.specs.Readers.{Stuck, HasCount, Body, After, Expected, Advances, BodyStands, StepStands};

@@ -1,6 +1,6 @@
 //! Numbers of a text, as coordinates or passed over.
 
-ghost use Rattle.std.specs.Prelude.{◌≡◌, ◌≤◌, ◌+◌, ◌^◌, Some, None, IfSome, length, MatchResult};
+ghost use Rattle.std.specs.Prelude.{◌≡◌, ◌≤◌, ◌+◌, Some, None, IfSome, length, MatchResult};
 ghost use Rattle.at_fixed.specs.Numerals.{Numeral};
 ghost use Rattle.at_text.specs.Faults.{first_of};
 ghost use Rattle.at_wkt.specs.declared.line.numbers.Coordinate.{Coordinate as CoordinateRead};

@@ -1,6 +1,6 @@
 //! What stands behind the head of a geometry: a point, a line, a polygon, or several of them in brackets.
 
-ghost use Rattle.std.specs.Prelude.{◌≡◌, ◌+◌, false, ◌<◌, ◌≤◌, ◌^◌, None, codes, flat_map, length, MatchResult};
+ghost use Rattle.std.specs.Prelude.{◌≡◌, ◌+◌, false, ◌<◌, ◌≤◌, None, codes, flat_map, length, MatchResult};
 ghost use Rattle.at_text.specs.Faults.{first_fault as the_first};
 ghost use Rattle.at_wkt.specs.Positions.{position_faults, faults_of_ring};
 ghost use Rattle.at_wkt.specs.Geometry.{SpellsPosition, SpellsRing, SpellsList, SpellsPoint, SpellsPointMember};

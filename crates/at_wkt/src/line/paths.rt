@@ -1,11 +1,11 @@
 //! Lists of positions in brackets: lines and rings.
 
-ghost use Rattle.std.specs.Prelude.{◌≡◌, ◌+◌, ◌<◌, ◌≤◌, ◌^◌, ◌&&◌, ◌||◌, [], not, is_none, length, MatchResult};
+ghost use Rattle.std.specs.Prelude.{◌≡◌, ◌+◌, ◌<◌, ◌≤◌, ◌&&◌, ◌||◌, [], not, is_none, length, MatchResult};
 ghost use Rattle.std.specs.Ordering.{int_eq};
 ghost use Rattle.at_text.specs.Faults.{first_fault as the_first};
 ghost use Rattle.at_text.specs.declared.halts.Halt.TheVariants.{Memory};
 ghost use Rattle.at_wkt.specs.Geometry.{SpellsPosition, SpellsRing};
-ghost use Rattle.at_wkt.specs.Readers.{next, Stuck, HasCount, Item, Items, PositionStands, PositionsStand, PathStands};
+ghost use Rattle.at_wkt.specs.Readers.{next, Stuck, HasCount, Items, PositionsStand, PathStands};
 ghost use Rattle.at_text.specs.Halts.{IfStopped};
 ghost use Rattle.at_wkt.specs.Readers.{fault_of_path};
 

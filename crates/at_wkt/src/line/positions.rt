@@ -1,6 +1,6 @@
 //! Positions and the delimiter behind each, plain ones first and all others out of line.
 
-ghost use Rattle.std.specs.Prelude.{◌≡◌, ℕ, ◌+◌, ◌<◌, ◌≤◌, ◌^◌, ◌⊎◌, true, false, IfSome, length, None, MatchResult};
+ghost use Rattle.std.specs.Prelude.{◌≡◌, ℕ, ◌+◌, ◌<◌, ◌≤◌, ◌⊎◌, true, false, IfSome, length, None, MatchResult};
 ghost use Rattle.at_wkt.specs.Geometry.{SpellsPosition};
 ghost use Rattle.at_wkt.specs.Readers.{next, allows, Spelt, Stuck, HasCount, Reaches, Item, FurtherNumbers, delimiter};
 ghost use Rattle.at_text.specs.Halts.{IfStopped};

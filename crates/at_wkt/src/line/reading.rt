@@ -1,7 +1,6 @@
 //! The two readers of one text: a line of a file, and the geometry that begins a text.
 
 ghost use Rattle.std.specs.Prelude.{◌≡◌, [], None, ◌+◌, ◌^◌, ◌≤◌, IsTrue, length, take, MatchResult};
-ghost use Rattle.at_text.specs.Syntax.{stop_fault};
 ghost use Rattle.at_wkt.specs.Readers.{refusal as refusal_at, gathered_shape, kept_shape as shape_kept};
 ghost use Rattle.at_text.specs.Halts.{IfStopped};
 ghost use Rattle.at_wkt.specs.Readers.{line_answer as answer_of, IsGatheredLine, LineStands, LineStops};

@@ -1,4 +1,4 @@
-use Rattle.std.proofs.Common.{length, take, refl, sym, subst, ◌∙◌, true≢false}
+use Rattle.std.proofs.Common.{take, refl, sym, subst, ◌∙◌, true≢false}
 use Rattle.std.specs.Str.{IsUtf8}
 use Rattle.at_text.specs.Spans.{span_of}
 use Rattle.at_run.proofs.LabelSteps.{line_end, part_front, label_valid, is_behind}

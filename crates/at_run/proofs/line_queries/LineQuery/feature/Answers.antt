@@ -1,16 +1,14 @@
-use Rattle.std.proofs.Common.{◌≡◌, List, [], ◌∷◌, Result, Err, MatchResult, length, take, subst, sym}
+use Rattle.std.proofs.Common.{List, [], ◌∷◌, length, take, subst}
 use Rattle.std.specs.Str.{IsUtf8}
 use Rattle.std.proofs.Math.Seq.{take-length}
 use Rattle.std.proofs.lemmas.Result.{err_from_is_err_and}
 use Rattle.at_text.specs.Syntax.{IsSyntaxFault}
-use Rattle.at_query.specs.declared.features.Feature.{Feature}
 use Rattle.at_query.specs.declared.query.queries.Test.{Test}
-use Rattle.at_wkt.specs.declared.answers.LineFault.{LineFault}
 use Rattle.at_wkt.specs.Answers.{IfFound, HasLineShape, HasFirstLineFault}
 use Rattle.at_run.specs.declared.gathered.Gathered.TheVariants.{Failed}
 use Rattle.at_run.specs.Gathering.{Asked, IsGathered, IsLineRead}
 use Rattle.at_run.specs.Labels.{LabelledLine}
-use Rattle.at_run.specs.Labelling.{IsBehind, AreFrontTexts}
+use Rattle.at_run.specs.Labelling.{AreFrontTexts}
 use Rattle.at_run.proofs.LineParts.{read_shape, read_fault, gathered_syntax, found_weaker}
 use Rattle.at_run.proofs.line_queries.LineQuery.feature.Goals as goal
 
