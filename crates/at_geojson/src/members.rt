@@ -3,13 +3,13 @@
 ghost use Rattle.std.specs.Prelude.{◌≡◌, ℕ, List, ◌≤◌, ◌^◌, All, bytes_eq, false, length, IfOk};
 ghost use Rattle.at_fixed.specs.NumberSoFar.{between};
 ghost use Rattle.at_lex.specs.Spans.{AreSpaces};
-ghost use Rattle.at_geojson.specs.Places.{IsNameAt, IsTextAt, IsSimpleTextAt};
+ghost use Rattle.at_geojson.specs.Places.{IsNameAt, IsSimpleTextAt};
 ghost use Rattle.at_geojson.specs.Fields.{field_of};
 ghost use Rattle.at_geojson.specs.Members.{name_in, IsPlainName, is_named_among, is_among_others, ArePlainOthers};
 ghost use Rattle.at_geojson.specs.Members.{AddsName, IsNewName};
 
 use crate::fields::{Field, Fields, field_of_bytes, is_other};
-use crate::places::{NamePlace, name_place, skip_spaces, stands};
+use crate::places::{NamePlace, ended_name, name_place, skip_spaces};
 use crate::scalars::is_simple;
 use crate::short_texts::short_text_end;
 use at_text::Halt;
@@ -58,24 +58,6 @@ fn is_among(text: &[u8], names: &[NamePlace], name: NamePlace) -> bool
         }
     }
     false
-}
-
-/// White space and a colon behind a name.
-#[inline(always)]
-fn ended_name(text: &[u8], at: usize, first: usize, end: usize) -> Result<NamePlace, Halt>
-    requires order { at ≤ first }
-    requires spaces { AreSpaces (between text.now at first) }
-    requires text { IsTextAt text.now first end }
-    ensures place { IfOk result (IsNameAt text.now at) }
-    ensures first { IfOk result (λ name. name.first ≡ first) }
-    ensures end { IfOk result (λ name. name.end ≡ end) }
-{
-    let colon = skip_spaces(text, end);
-    if stands(text, colon, b':') {
-        Ok(NamePlace { first, end, colon })
-    } else {
-        Err(Halt::At(colon))
-    }
 }
 
 /// White space, a name in which each byte stands for the unit of its own number, white space and a colon.

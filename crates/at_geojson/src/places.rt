@@ -56,6 +56,24 @@ pub fn text_end(text: &[u8], at: usize) -> Result<usize, Halt>
     }
 }
 
+/// White space and a colon behind a name.
+#[inline(always)]
+pub fn ended_name(text: &[u8], at: usize, first: usize, end: usize) -> Result<NamePlace, Halt>
+    requires order { at ≤ first }
+    requires spaces { AreSpaces (between text.now at first) }
+    requires text { IsTextAt text.now first end }
+    ensures place { IfOk result (IsNameAt text.now at) }
+    ensures first { IfOk result (λ name. name.first ≡ first) }
+    ensures end { IfOk result (λ name. name.end ≡ end) }
+{
+    let colon = skip_spaces(text, end);
+    if stands(text, colon, b':') {
+        Ok(NamePlace { first, end, colon })
+    } else {
+        Err(Halt::At(colon))
+    }
+}
+
 /// White space, a name, white space and a colon.
 pub fn name_place(text: &[u8], at: usize) -> Result<NamePlace, Halt>
     requires inside { at ≤ length text.now }
@@ -64,10 +82,5 @@ pub fn name_place(text: &[u8], at: usize) -> Result<NamePlace, Halt>
 {
     let first = skip_spaces(text, at);
     let end = text_end(text, first)?;
-    let colon = skip_spaces(text, end);
-    if stands(text, colon, b':') {
-        Ok(NamePlace { first, end, colon })
-    } else {
-        Err(Halt::At(colon))
-    }
+    ended_name(text, at, first, end)
 }

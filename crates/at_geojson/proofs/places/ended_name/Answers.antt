@@ -1,4 +1,4 @@
-use Rattle.at_geojson.proofs.members.ended_name.Goals as goal
+use Rattle.at_geojson.proofs.places.ended_name.Goals as goal
 
 pub returns-then-stands-clause-place : goal.returns-then-stands-clause-place
 returns-then-stands-clause-place c = record {
