@@ -1,6 +1,6 @@
 -- The part of a file of any form, the answer that it gives, and the join of two.
 -- For `top`.
-use Rattle.std.proofs.Common.{◌≡◌, ◌≢◌, ℕ, ◌^◌, ◌≤◌, List, [], length, Some, Result, Ok, Err, IfOk, MatchResult}
+use Rattle.std.proofs.Common.{◌≡◌, ℕ, ◌^◌, ◌≤◌, List, [], length, Some, Result, Ok, Err, IfOk, MatchResult}
 use Rattle.at_fixed.specs.declared.rounding.Coords.{Coords}
 use Rattle.at_query.specs.declared.query.queries.Verb.TheVariants.{Join}
 use Rattle.at_query.specs.declared.query.queries.Query.{Query}
@@ -13,14 +13,14 @@ use Rattle.at_query.specs.declared.answer.answers.Answer.{Answer}
 use Rattle.at_query.specs.declared.answer.answers.Answer.TheVariants.{Pairs}
 use Rattle.at_query.specs.Ranges.{AreFeaturesInRange}
 use Rattle.at_query.specs.Results.{IsResult}
-use Rattle.at_query.specs.Parts.{IsPart, IsAnswerable, AreFew}
+use Rattle.at_query.specs.Parts.{IsPart, AreFew}
 use Rattle.at_join.specs.Meetings.{IsAllPairs}
 use Rattle.at_run.specs.declared.faults.RunFault.{RunFault}
 use Rattle.at_run.specs.declared.forms.Form.{Form}
 use Rattle.at_run.specs.declared.forms.Form.TheVariants as forms
 use Rattle.at_run.specs.Files.{HasFileFaultIn}
 use Rattle.at_run.specs.Answers.{IfFound, IsFilePart}
-use Rattle.at_run.proofs.Results.{part_answerable, features_few, features_in_range}
+use Rattle.at_run.proofs.Results.{features_few, features_in_range}
 use Rattle.at_run.proofs.JoinedFiles.{all_pairs_joined, file_entries_proper}
 use Rattle.at_seq.specs.Answers.{HasProperEntries}
 use Rattle.at_cli.specs.declared.words.form.FileForm.{FileForm}
@@ -59,9 +59,6 @@ module _ (digits : ℕ) (how : Coords) where
   in_range_as Seq bytes fs are = seq_features_in_range digits how bytes fs are
 
   module _ (form : FileForm) (query : Query) (bytes : List ℕ) (part : Part) (h : IsPartAs form digits how query bytes part) where
-    -- the part can be handed to `answer_of`
-    pub answerable_as : query.verb ≢ Join → IsAnswerable part
-    answerable_as no_join = part_answerable query h.features part no_join h.is_part
 
     -- what `answer_of` ensures of its answer, over the features of the file
     pub result_as : (answer : Answer) → length bytes ≤ 2 ^ 28 → ((query : Query) (fs : List Feature) → IsPart query fs part → AreFeaturesInRange fs → AreFew fs → IsResult query fs answer)

@@ -1,17 +1,12 @@
 -- How the content of a sink grows by one text after another.
 -- For `tell_no_memory` and `top`.
-use Rattle.std.proofs.Common.{◌≡◌, ℕ, ◌+◌, ◌-◌, ◌<◌, ◌≤◌, inl, inr, List, [], ◌++◌, length, take, drop, get_or, take-append-drop, suc, Option, Some, None, sym, ◌∙◌, ap, append_assoc, append-nil, arith, length-append, subst}
+use Rattle.std.proofs.Common.{◌≡◌, ℕ, ◌+◌, ◌-◌, ◌<◌, ◌≤◌, inl, inr, List, ◌++◌, length, take, drop, get_or, take-append-drop, suc, Option, Some, None, sym, ◌∙◌, ap, append_assoc, arith, length-append, subst}
 use Rattle.std.proofs.lemmas.List.{take-append-le}
 use Rattle.std.proofs.Math.Seq.{take-append-add, take-add, drop-cons}
 use Rattle.std.proofs.lemmas.Grind.{flat_map-append}
 use Rattle.std.specs.List.{flat_map}
 use Rattle.at_io.specs.Counts.{Rose}
 use Rattle.at_io.specs.Sinks.{Grows, GrowsByPrefix}
-use Rattle.at_cli.specs.Telling.{Tells}
-
-pub grows_by_nothing : (w : Option (List ℕ)) → Grows w w []
-grows_by_nothing None = tt
-grows_by_nothing (Some old) = ap Some (sym (append-nil old))
 
 -- a text behind a text
 pub grows_on : (u v w : Option (List ℕ)) (x y : List ℕ) → Grows u v x → Grows v w y → Grows u w (x ++ y)
@@ -63,7 +58,3 @@ prefix_to text at end u v w h g kept =
     sym (take-append-drop end text) ∙ ap (λ t. t ++ drop end text) (ap (λ n. take n text) (omega arith) ∙ take-add at (end - at) text) in
     let P : List ℕ → Type 0 = λ t. GrowsByPrefix u w t in
     subst P (sym whole) (prefix_longer u w (take at text ++ take (end - at) (drop at text)) (drop end text) (prefix_on u v w (take at text) (take (end - at) (drop at text)) g kept))
-
--- a line that is told is told under each spelling of it
-pub tells_same : (f g : ℕ) (u v : Option (List ℕ)) (x y : List ℕ) → x ≡ y → Tells f g u v x → Tells f g u v y
-tells_same f g u v x y e told = let P : List ℕ → Type 0 = λ t. Tells f g u v t in subst P e told

@@ -1,11 +1,10 @@
 -- The end of a run is the outcome of what the words say, over the files.
 -- For `top`.
-use Rattle.std.proofs.Common.{◌≡◌, ◌≢◌, ◌↔◌, ◌⊎◌, ◌∙◌, sym, ap, Result, Err, ℕ, ◌≤◌, List, [], ◌∷◌, Option, Some, None, IfSome, inl, inr, refl, subst, arith}
+use Rattle.std.proofs.Common.{◌≡◌, ◌≢◌, ◌↔◌, ◌⊎◌, ◌∙◌, sym, ap, Result, Err, ℕ, List, Option, Some, None, IfSome, inl, inr, refl, subst, arith}
 use Rattle.at_io.specs.Files.{Files}
 use Rattle.at_cli.specs.declared.outcome.ending.Ending.{Ending}
 use Rattle.at_cli.specs.declared.words.line.Line.{Line}
-use Rattle.at_cli.specs.Values.{SpellsDigits, IsWhole}
-use Rattle.at_cli.specs.LineOf.{IsChosen, SaysLine, KeepsLimits}
+use Rattle.at_cli.specs.LineOf.{SaysLine}
 use Rattle.at_query.specs.Queries.{HasQueryFault}
 use Rattle.at_cli.specs.declared.outcome.ending.Ending.TheVariants.{Usage, QueryFault, Names, Faulty, ReadFailed, TooLarge, NoMemory, Answered}
 use Rattle.at_cli.specs.declared.words.line.WordsEnd.{WordsEnd}
@@ -136,20 +135,3 @@ is_no_answer status (inl one) = ((λ z. omega (arith, one, z)), (λ z. omega (ar
 is_no_answer status (inr six) = ((λ z. omega (arith, six, z)), (λ z. omega (arith, six, z)))
 
 -- ---- what words say keeps the limits
-
-chosen_within : (default most : ℕ) (values : List (List ℕ)) (n : ℕ) → 1 ≤ default → default ≤ most → IsChosen default (IsWhole 1 most) values n → (1 ≤ n) × (n ≤ most)
-chosen_within default most [] n low high e = (omega (arith, low, e), omega (arith, high, e))
-chosen_within default most (value ∷ []) n low high h = (h.least, h.most)
-chosen_within default most (value ∷ second ∷ more) n low high h = absurd h
-
-digits_within : (values : List (List ℕ)) (n : ℕ) → IsChosen 7 SpellsDigits values n → (n ≡ 7) ⊎ (n ≡ 9)
-digits_within [] n e = inl e
-digits_within (value ∷ []) n (inl (text, seven)) = inl seven
-digits_within (value ∷ []) n (inr (text, nine)) = inr nine
-digits_within (value ∷ second ∷ more) n h = absurd h
-
-pub said_keeps : (words : List (List ℕ)) (line : Line) → SaysLine words line → KeepsLimits line
-said_keeps words line (pieces, after, spelled, values) =
-    let (some, few) = chosen_within 64 4096 _ line.blocks (omega arith) (omega arith) values.blocks in
-    let (one, most) = chosen_within 4 64 _ line.workers (omega arith) (omega arith) values.workers in
-    record { digits = digits_within _ line.digits values.digits; some_blocks = some; few_blocks = few; some_workers = one; few_workers = most; query_fits = values.names.query_fits; first_names = values.names.first_names; second_names = values.names.second_names }

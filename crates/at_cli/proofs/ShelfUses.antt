@@ -9,8 +9,7 @@ use Rattle.at_io.specs.Files.{Files, bytes_named, name_among}
 use Rattle.at_query.specs.declared.query.queries.Verb.{Verb}
 use Rattle.at_query.specs.declared.query.queries.Verb.TheVariants as verbs
 use Rattle.at_cli.specs.declared.outcome.ending.Ending.{Ending}
-use Rattle.at_cli.specs.declared.outcome.ending.Ending.TheVariants.{TooLarge}
-use Rattle.at_cli.specs.Made.{is_made, IsMadeText}
+use Rattle.at_cli.specs.Made.{is_made}
 use Rattle.at_cli.specs.Texts.{unread_line}
 use Rattle.at_cli.specs.Outcomes.{Outcome, has_right_count, HasBytesBy, HasBytes, Sized}
 use Rattle.at_cli.specs.Failures.{asked_name, begun_with, last_begun, WasAsked, AsksFor, HaveSized, FailedOn}
@@ -21,10 +20,6 @@ use Rattle.at_cli.specs.Endings.{status_of, outcome_by, Ends}
 pub by_shelf : (files : Option Files) (name bytes : List ℕ) → is_made name ≡ false → IfSome files (λ told. bytes_named told name ≡ Some bytes) → IfSome files (λ told. HasBytes told name bytes)
 by_shelf None name bytes e h = tt
 by_shelf (Some told) name bytes e h = let P : Bool → Type 0 = λ t. HasBytesBy t told name bytes in subst P (sym e) h
-
-pub by_making : (files : Option Files) (name bytes : List ℕ) → is_made name ≡ true → IsMadeText name bytes → IfSome files (λ told. HasBytes told name bytes)
-by_making None name bytes e h = tt
-by_making (Some told) name bytes e h = let P : Bool → Type 0 = λ t. HasBytesBy t told name bytes in subst P (sym e) h
 
 abbrev pub IsLarge : Option Files → List ℕ → Type 0
 IsLarge files name = IfSome files (λ told. (bytes : List ℕ) × HasBytes told name bytes × (2 ^ 28 < length bytes))
@@ -51,10 +46,6 @@ nothing files begins taken named = record { begun = refl; least = omega arith; l
   same : (files : Option Files) → IfSome files (λ told. named ≡ last_begun told [] named)
   same None = tt
   same (Some told) = refl
-
-pub made_unasked : (name : List ℕ) (files : Option Files) (begins taken : ℕ) (named : Option (List ℕ)) → is_made name ≡ true → WasAsked (asked_name name) files begins begins taken taken named named
-made_unasked name files begins taken named e =
-    let P : Bool → Type 0 = λ t. WasAsked (if t then [] else name ∷ []) files begins begins taken taken named named in subst P (sym e) (nothing files begins taken named)
 
 asked_is : (name : List ℕ) → is_made name ≡ false → asked_name name ≡ name ∷ []
 asked_is name e = ap (λ t. if t then [] else name ∷ []) e
@@ -83,9 +74,6 @@ both_asked ns ms files b b1 b2 t t1 t2 n n1 n2 h k = record {
   last : (files : Option Files) → IfSome files (λ told. n1 ≡ last_begun told ns n) → IfSome files (λ told. n2 ≡ last_begun told ms n1) → IfSome files (λ told. n2 ≡ last_begun told (ns ++ ms) n)
   last None p q = tt
   last (Some told) p q = q ∙ (ap (last_begun told ms) p ∙ last_both told ns ms n)
-
-pub asks_front : (ns ms : List (List ℕ)) (files : Option Files) (b b1 t t1 : ℕ) (n n1 : Option (List ℕ)) → WasAsked ns files b b1 t t1 n n1 → AsksFor (ns ++ ms) files b b1 t t1 n n1
-asks_front ns ms files b b1 t t1 n n1 h = record { front = ns; behind = ms; in_turn = refl; was_asked = h }
 
 pub asks_all : (ns : List (List ℕ)) (files : Option Files) (b b1 t t1 : ℕ) (n n1 : Option (List ℕ)) → WasAsked ns files b b1 t t1 n n1 → AsksFor ns files b b1 t t1 n n1
 asks_all ns files b b1 t t1 n n1 h = record { front = ns; behind = []; in_turn = sym (append-nil ns); was_asked = h }
@@ -158,10 +146,6 @@ pub ends_sized : (files : Option Files) (name bytes : List ℕ) (Rest : List ℕ
 ends_sized files name bytes Rest e named small (inl five) = inr (inl five)
 ends_sized None name bytes Rest e named small (inr h) = inr (inr tt)
 ends_sized (Some told) name bytes Rest e named small (inr h) = inr (inr (bytes, named, inr (small, h)))
-
-pub ends_large : (files : Option Files) (name : List ℕ) (Rest : Files → List ℕ → Outcome → Type 0) → IsLarge files name → Ends (λ told. Sized told name (Rest told)) files (TooLarge name)
-ends_large None name Rest h = inr (inr tt)
-ends_large (Some told) name Rest (bytes, named, large) = inr (inr (bytes, named, inl (large, refl)))
 
 -- ---- counts of names
 

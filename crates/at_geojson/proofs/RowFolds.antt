@@ -76,24 +76,6 @@ to_four_is n = by_less (nat_lt n 4) refl where
   by_less true e = inl (ltb-true n 4 e, ap (λ b. if b then n else 4) e)
   by_less false e = inr (ltb-false n 4 e, ap (λ b. if b then n else 4) e)
 
-pub one_of_few : (c n : ℕ) → c < 4 → c ≡ to_four n → c + 1 ≡ to_four (n + 1)
-one_of_few c n h e = elim (to_four_is n) [
-  | inl few ↦ elim (to_four_is (n + 1)) [
-    | inl more ↦ omega (arith, e, few.1, more.1)
-    | inr many ↦ omega (arith, e, few.0, few.1, many.0, many.1)
-  ]
-  | inr many ↦ absurd (omega (arith, h, e, many.1))
-]
-
-pub one_of_many : (c n : ℕ) → 4 ≤ c → c ≡ to_four n → c ≡ to_four (n + 1)
-one_of_many c n h e = elim (to_four_is n) [
-  | inl few ↦ absurd (omega (arith, h, e, few.0, few.1))
-  | inr many ↦ elim (to_four_is (n + 1)) [
-    | inl more ↦ absurd (omega (arith, many.0, more.0))
-    | inr again ↦ omega (arith, e, many.1, again.1)
-  ]
-]
-
 -- ---- a row and one more position
 
 pub lengthened : (needs : Bool) (row longer : Row) (last : PositionAtom) → longer.first ≡ row.first → longer.last ≡ last.pos → longer.path.items ≡ row.path.items ++ kept needs (last.pos ∷ [])

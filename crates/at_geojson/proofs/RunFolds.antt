@@ -48,12 +48,6 @@ items_of_trees (t ∷ ts) = ap (λ z. t ∷ z) (items_of_trees ts)
 some_front : (us vs : List Tree) → list_any is_object_tree us ≡ true → list_any is_object_tree (us ++ vs) ≡ true
 some_front us vs e = list_any-append is_object_tree us vs ∙ ap (λ b. b || list_any is_object_tree vs) e
 
-some_behind : (us vs : List Tree) → list_any is_object_tree vs ≡ true → list_any is_object_tree (us ++ vs) ≡ true
-some_behind us vs e = list_any-append is_object_tree us vs ∙ (ap (λ b. list_any is_object_tree us || b) e ∙ or_true (list_any is_object_tree us)) where
-  or_true : (b : Bool) → (b || true) ≡ true
-  or_true true = refl
-  or_true false = refl
-
 -- ---- an object is no coordinates
 
 the_object : (t : Tree) → is_object_tree t ≡ true → (at : ℕ) × (ms : Members) × (t ≡ object at ms)

@@ -4,17 +4,14 @@ use Rattle.std.proofs.Common.{◌≡◌, ℕ, ◌+◌, ◌≤◌, inl, inr, ℤ,
 use Rattle.std.proofs.lemmas.Bool.{true≢false}
 use Rattle.std.proofs.lemmas.Option.{none-some}
 use Rattle.at_text.specs.Faults.{first_of}
-use Rattle.at_text.specs.Texts.{is_run}
 use Rattle.at_text.specs.declared.faults.Fault.{Fault}
 use Rattle.at_fixed.specs.declared.rounding.Coords.{Coords}
 use Rattle.at_fixed.specs.declared.rounding.FixedFault.{FixedFault}
 use Rattle.at_fixed.specs.declared.rounding.FixedFault.TheVariants.{Scale, Range}
 use Rattle.at_fixed.specs.Numerals.{Numeral, JsonNumber}
 use Rattle.at_fixed.specs.Fixed.{fixed_of, IsFixedOf}
-use Rattle.at_lex.specs.Strings.{Character, JsonString, units_of}
+use Rattle.at_lex.specs.Strings.{Character, units_of}
 use Rattle.at_lex.specs.Runs.{Literal, the_null, the_true, the_false, JsonRun, literal_text}
-use Rattle.at_lex.specs.Spans.{AreRun}
-use Rattle.at_lex.proofs.RunBytes.{word_run}
 use Rattle.at_wkt.specs.Positions.{value_in, faults_in, fault_of, value_of}
 use Rattle.at_nest.specs.Folds.{IsScalarText}
 use Rattle.at_nest.specs.Tree.{Tree, literal, number, text, Spells}
@@ -43,15 +40,6 @@ same_tree at w t u s r = one_tree at w t u ([], w, [], [], sym (append_all w), t
 
 head_of : (b : ℕ) (w v : List ℕ) → w ≡ b ∷ v → get_or w 0 0 ≡ b
 head_of b w v e = ap (λ z. get_or z 0 0) e
-
-run_head : (w : List ℕ) → JsonRun w → get_or w 0 0 ≡ 0x22 → ⊥
-run_head w r e = go w (word_run w r) e where
-  go : (v : List ℕ) → AreRun v → get_or v 0 0 ≡ 0x22 → ⊥
-  go [] a h = let n : 0 ≡ 0x22 = h in omega (arith, n)
-  go (b ∷ v) a h = true≢false (sym a.0 ∙ ap is_run h)
-
-pub string_first : (w : List ℕ) → IsScalarText w → get_or w 0 0 ≡ 0x22 → JsonString w
-string_first w h e = elim h [ inl s ↦ s | inr r ↦ absurd (run_head w r e) ]
 
 pub run_first : (w : List ℕ) → IsScalarText w → (get_or w 0 0 ≡ 0x22 → ⊥) → JsonRun w
 run_first w h e = elim h [ inl s ↦ absurd (e (head_of 0x22 w _ s.2)) | inr r ↦ r ]

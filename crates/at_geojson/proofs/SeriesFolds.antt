@@ -35,7 +35,6 @@ use Rattle.at_geojson.proofs.CopyFolds.{view_same}
 use Rattle.at_geojson.proofs.RowFolds.{kept_append}
 use Rattle.at_geojson.proofs.OwnFolds.{all_kept, path_in_range}
 use Rattle.at_geojson.proofs.ItemFolds.{last_covers}
-use Rattle.at_geojson.proofs.ArrayAnswers.{empty_folds}
 use Rattle.at_geojson.proofs.RunFolds.{items_of_trees, first_twins, twins_covers}
 use Rattle.at_geojson.proofs.ListRoles.{each_append, no_each, list_no_number, list_no_position, list_no_area}
 use Rattle.at_geojson.proofs.MixedFolds.{forms_both, form_covers, forms_read}
@@ -264,9 +263,6 @@ module _ (asked : Asked) where
           area = alike_at (IsArea asked) (as_area (atoms.Lists m)) (Some (l ∷ ls)) (area_of (array at (trees ts))) (ap (option_and_then if_some_items) lists) kept_is;
           areas = alike_at (IsAreas asked) None None (areas_of (array at (trees ts))) (them area_of ∙ no_each area_of positions_of list_no_area ts l ls e) tt;
         })
-
-  pub nothing_folds : (at : ℕ) (ts : List Tree) → ts ≡ [] → IsFold asked (atoms.Empty at) (array at (trees ts))
-  nothing_folds at ts e = subst (λ z. IsFold asked (atoms.Empty at) (array at (trees z))) (sym e) (empty_folds asked at (trees []) tt)
 
   -- ---- the algebra's own
 

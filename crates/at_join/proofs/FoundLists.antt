@@ -5,7 +5,7 @@ use Rattle.std.specs.Prelude.{count_by, cond}
 use Rattle.std.proofs.lemmas.List.{append_assoc, append-nil, map-append, take_all, take-append-drop}
 use Rattle.std.proofs.lemmas.Grind.{flat_map-append}
 use Rattle.std.proofs.lemmas.List.{take_more}
-use Rattle.std.proofs.lemmas.List.Sums.{sum_by-append, sum_by_push, sum_by-cons, sum_by-take-le}
+use Rattle.std.proofs.lemmas.List.Sums.{sum_by-append, sum_by_push, sum_by-cons}
 use Rattle.std.proofs.Math.Seq.{take-add}
 use Rattle.std.proofs.lemmas.Bool.{cases_lt}
 use Rattle.at_query.specs.Results.{Keeps}
@@ -110,12 +110,6 @@ past_rows P f xs ys i j d old new le miss h =
 pub count_more : {X : Type 0} (p : X → Bool) (xs : List X) (i : ℕ) (d : X) → i < length xs → count_by p (take (i + 1) xs) ≡ count_by p (take i xs) + cond (p (get_or xs i d)) 1 0
 count_more p xs i d lt = ap (count_by p) (take_more xs i d lt) ∙ sum_by_push (λ x. cond (p x) 1 0) (take i xs) (get_or xs i d)
 
-count_of_more : {X : Type 0} (p : X → Bool) (n : ℕ) (xs : List X) (i : ℕ) → count_by p (take i xs) ≤ count_by p (take (i + n) xs)
-count_of_more p n xs i = let e = ap (count_by p) (take-add i n xs) ∙ sum_by-append (λ x. cond (p x) 1 0) (take i xs) (take n (drop i xs)) in omega (arith, e)
-
-pub count_up : {X : Type 0} (p : X → Bool) (xs : List X) (i j : ℕ) → i ≤ j → count_by p (take i xs) ≤ count_by p (take j xs)
-count_up p xs i j le = let e : i + (j - i) ≡ j = omega (arith, le) in subst (λ (m : ℕ). count_by p (take i xs) ≤ count_by p (take m xs)) e (count_of_more p (j - i) xs i)
-
 pub count_mapped : {X Z : Type 0} (p : Z → Bool) (h : X → Z) (xs : List X) → count_by p (map h xs) ≡ count_by (λ (x : X). p (h x)) xs
 count_mapped p h [] = refl
 count_mapped p h (x ∷ xs) = sum_by-cons (λ z. cond (p z) 1 0) (h x) (map h xs) ∙ ap (λ n. cond (p (h x)) 1 0 + n) (count_mapped p h xs) ∙ sym (sum_by-cons (λ y. cond (p (h y)) 1 0) x xs)
@@ -136,9 +130,6 @@ count_of_rows {X} p n xs ys i =
 
 pub count_rows_up : {X : Type 0} (p : X × X → Bool) (xs ys : List X) (i j : ℕ) → i ≤ j → count_by p (pairs_of (take i xs) ys) ≤ count_by p (pairs_of (take j xs) ys)
 count_rows_up p xs ys i j le = let e : i + (j - i) ≡ j = omega (arith, le) in subst (λ (m : ℕ). count_by p (pairs_of (take i xs) ys) ≤ count_by p (pairs_of (take m xs) ys)) e (count_of_rows p (j - i) xs ys i)
-
-pub count_least : {X : Type 0} (p : X → Bool) (xs : List X) (i : ℕ) → count_by p (take i xs) ≤ count_by p xs
-count_least p xs i = sum_by-take-le (λ x. cond (p x) 1 0) xs i
 
 pub count_rows_least : {X : Type 0} (p : X × X → Bool) (xs ys : List X) (i : ℕ) → count_by p (pairs_of (take i xs) ys) ≤ count_by p (pairs_of xs ys)
 count_rows_least {X} p xs ys i =

@@ -18,7 +18,7 @@ use Rattle.at_join.specs.declared.outlines.Outline.{Outline}
 use Rattle.at_join.specs.Boxes.{IsWide, touch_of, is_here_of}
 use Rattle.at_join.specs.Meetings.{AreInRange, Finds}
 use Rattle.at_join.specs.Sides.{IsAt, IsOutlineOf, outline_of, outlined, RowHit, CellHit, row_pair, at_outlines}
-use Rattle.at_join.proofs.Extents.{shape_span, two_differ, off_rect}
+use Rattle.at_join.proofs.Extents.{shape_span, off_rect}
 use Rattle.at_join.proofs.FoundLists.{finds_same}
 
 -- both facts of an outline
@@ -57,9 +57,6 @@ one_at es i e f h k = sym h.1 ∙ get_or_default es i e f h.0 ∙ k.1
 
 pub row_hit : (rect : Extent) (p : Outline) (shape : Shape) (b : List Entry) (q : Outline) (f : Entry) → is_here_of rect p.extent q.extent ≡ true → IsAt b q.index f → Meet shape f.shape → RowHit rect p shape b q
 row_hit rect p shape b q f here at meet = (here, f, at, meet)
-
-pub row_miss : (rect : Extent) (p : Outline) (shape : Shape) (b : List Entry) (q : Outline) → is_here_of rect p.extent q.extent ≡ false → ¬ RowHit rect p shape b q
-row_miss rect p shape b q off (here, f, at, meet) = two_differ (is_here_of rect p.extent q.extent) here off
 
 pub row_apart : (rect : Extent) (p : Outline) (shape : Shape) (b : List Entry) (q : Outline) (f : Entry) → IsAt b q.index f → (Meet shape f.shape → ⊥) → ¬ RowHit rect p shape b q
 row_apart rect p shape b q f at apart (here, e, at_e, meet) = apart (subst (λ (x : Entry). Meet shape x.shape) (one_at b q.index e f at_e at) meet)

@@ -1,6 +1,6 @@
 -- Rectangles for the tests.
 -- For the crates above.
-use Rattle.std.proofs.Common.{◌≡◌, ℕ, ◌+◌, ◌<◌, List, [], ◌∷◌, ◌++◌, map, arith, refl, subst, sym}
+use Rattle.std.proofs.Common.{◌≡◌, ℕ, ◌+◌, ◌<◌, List, [], ◌∷◌, ◌++◌, map, arith, subst, sym}
 use Rattle.std.specs.Prelude.{All}
 use Rattle.std.specs.List.{AllByRecursion}
 use Rattle.std.proofs.lemmas.List.Elements.{All-from_recursion}
@@ -8,10 +8,9 @@ use Rattle.at_geom.specs.declared.positions.Pos.{Pos}
 use Rattle.at_geom.specs.declared.shapes.Polygon.{Polygon}
 use Rattle.at_geom.specs.declared.shapes.Shape.{Shape}
 use Rattle.at_geom.specs.Segments.{IsInRange}
-use Rattle.at_geom.specs.Shapes.{IsShapeInRange, positions, extent_of}
+use Rattle.at_geom.specs.Shapes.{IsShapeInRange}
 use Rattle.at_query.specs.declared.answer.parts.Entry.{Entry}
-use Rattle.at_query.specs.Parts.{AreRising, AreRingsClosed, IsProperEntry, AreProper}
-use Rattle.at_join.specs.Meetings.{AreInRange}
+use Rattle.at_query.specs.Parts.{AreRising, IsProperEntry}
 
 abbrev pub ring : Pos → Pos → List Pos
 ring low high = low ∷ record { x = high.x; y = low.y } ∷ high ∷ record { x = low.x; y = high.y } ∷ low ∷ []
@@ -32,19 +31,6 @@ shape_in_range low high h k = record {
   polygons = All-from_recursion (λ (p : Polygon). All (All IsInRange) p.rings) (polygons_of (ring low high))
       (All-from_recursion (All IsInRange) (ring low high ∷ []) (ring_in_range low high h k, tt), tt);
 }
-
-pub proper_rectangle : (e : Entry) (r : List Pos) (low high : Pos) → IsInRange low → IsInRange high → r ≡ ring low high → e.shape ≡ shape r → e.extent ≡ extent_of (positions e.shape) → IsProperEntry e
-proper_rectangle e r low high h k is_ring is_shape ext = record {
-  extent = ext;
-  closed = subst AreRingsClosed (sym is_shape) (subst (λ l. AreRingsClosed (shape l)) (sym is_ring) ((refl, tt), tt));
-  in_range = subst IsShapeInRange (sym is_shape) (subst (λ l. IsShapeInRange (shape l)) (sym is_ring) (shape_in_range low high h k));
-}
-
-pub two_proper : (e f : Entry) → IsProperEntry e → IsProperEntry f → e.at < f.at → AreProper (e ∷ f ∷ [])
-two_proper e f h k lt = record { rising = (lt, tt); entries = (h, (k, tt)) }
-
-pub two_in_range : (e f : Entry) → IsProperEntry e → IsProperEntry f → AreInRange (e ∷ f ∷ [])
-two_in_range e f h k = All-from_recursion (λ (z : Entry). IsShapeInRange z.shape) (e ∷ f ∷ []) (h.in_range, (k.in_range, tt))
 
 all_more : (P : Entry → Type 0) (es : List Entry) (e : Entry) → AllByRecursion P es → P e → AllByRecursion P (es ++ e ∷ [])
 all_more P [] e h p = (p, tt)
@@ -71,13 +57,3 @@ squares_more n es new e is h p at = subst (AreSquares (n + 1)) (sym is) (record 
   below = all_more (λ (x : Entry). x.at < n + 1) es e (below_next n es h.below) (omega (arith, at));
   entries = all_more IsProperEntry es e h.entries p;
 })
-
-pub squares_proper : (n : ℕ) (es : List Entry) → AreSquares n es → AreProper es
-squares_proper n es h = record { rising = h.rising; entries = h.entries }
-
-in_range_each : (es : List Entry) → AllByRecursion IsProperEntry es → AllByRecursion (λ (e : Entry). IsShapeInRange e.shape) es
-in_range_each [] h = tt
-in_range_each (e ∷ es) h = (h.0.in_range, in_range_each es h.1)
-
-pub squares_in_range : (n : ℕ) (es : List Entry) → AreSquares n es → AreInRange es
-squares_in_range n es h = All-from_recursion (λ (e : Entry). IsShapeInRange e.shape) es (in_range_each es h.entries)

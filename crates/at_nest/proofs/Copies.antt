@@ -3,11 +3,8 @@
 use Rattle.std.proofs.Common.{◌≡◌, ℕ, List, [], ◌∷◌, ◌++◌, refl, sym, ◌∙◌, ap, subst, All, add-one, take-suc, get_or, take, length, ◌+◌, ◌<◌, inl, inr}
 use Rattle.std.proofs.lemmas.List.Elements.{All-nil, All-cons}
 use Rattle.at_lex.specs.Strings.{Character, units_of}
-use Rattle.at_text.specs.declared.texts.Span.{Span}
 use Rattle.at_nest.specs.declared.algebra.Member.{Member}
-use Rattle.at_nest.specs.declared.levels.ArrayState.{ArrayState}
 use Rattle.at_nest.specs.declared.levels.Open.{Open}
-use Rattle.at_nest.specs.declared.levels.ObjectState.{ObjectState}
 use Rattle.at_lex.specs.declared.tokens.Start.{Start}
 use Rattle.at_nest.specs.declared.bodies.Body.{Body}
 use Rattle.at_nest.specs.declared.pieces.SpanStop.{SpanStop}
@@ -18,13 +15,12 @@ use Rattle.at_nest.specs.declared.pieces.Piece.{Piece as CodePiece}
 use Rattle.at_nest.specs.declared.pieces.Piece.TheVariants.{Closes, Comma, Colon, Text, Value, Row as RowPiece, Members as MembersPiece, Closers as ClosersPiece}
 use Rattle.at_nest.specs.declared.pieces.Row.{Row}
 use Rattle.at_nest.specs.declared.pieces.NamedValue.{NamedValue}
-use Rattle.at_nest.specs.declared.pieces.MemberRow.{MemberRow}
 use Rattle.at_nest.specs.MemberMarks.{MemberMarks, tree_of}
-use Rattle.at_nest.specs.Tree.{Tree, text}
+use Rattle.at_nest.specs.Tree.{Tree}
 use Rattle.at_nest.specs.Forms.{Piece, opens, closes, mark, comma, colon, quoted, entry}
-use Rattle.at_nest.specs.Levels.{Level, Form, marks}
-use Rattle.at_nest.specs.Shown.{Held, Shown, array_level, object_level, top_of, helds_of, open_levels, opens_of, OwnPiece, OwnLevel, OwnBody, shown}
-use Rattle.at_nest.specs.KeptItems.{Content, one, run, Holds, OwnAtom, Each, EachMember, IsHeld, EachHeld, IsHeldPiece, EachPiece, ArePieces, AreRow, IsRow, EachNamed, AreMembers, IsTextAt, CopiesNamed, row_marks, row_trees, IsOfItems, CanAdd, IsShown, CopiesItems, CopiesMember, CopiesMembers, CopiesHeld, CopiesLevels, CopiesPiece, CopiesPieces, CopiesShown}
+use Rattle.at_nest.specs.Levels.{Level, Form}
+use Rattle.at_nest.specs.Shown.{Held, Shown, top_of, helds_of, open_levels, opens_of, OwnPiece, OwnLevel, OwnBody, shown}
+use Rattle.at_nest.specs.KeptItems.{Content, one, run, Holds, OwnAtom, Each, EachMember, EachHeld, IsHeldPiece, EachPiece, ArePieces, EachNamed, IsTextAt, CopiesNamed, row_trees, IsOfItems, CanAdd, IsShown, CopiesItems, CopiesMember, CopiesMembers, CopiesPiece, CopiesPieces, CopiesShown}
 use Rattle.at_nest.proofs.Held.{held_own, each_own, each_cut, each_append}
 use Rattle.at_nest.proofs.Showing.{pieces_append, pieces_cut}
 use Rattle.at_nest.proofs.Stretches.{own_levels}
@@ -65,44 +61,8 @@ module _ {X : Type 0} (IsKept : X → Content → Type 0) where
       put [] y (u ∷ us) p e a b k = absurd e
       put (z ∷ ys) y [] p e a b k = absurd e
 
-  pub array_copy : (i : ℕ) (s : ArrayState) (xs ys : List X) → CopiesItems IsKept xs ys → CopiesHeld IsKept (array_level i s xs) (array_level i s ys)
-  array_copy i s xs ys h l k = (k.0, k.1, k.2, h _ k.3)
-
-  pub object_copy : (i : ℕ) (s t : ObjectState) (ms ns : List (Member X)) → t ≡ s → CopiesMembers IsKept ms ns → CopiesHeld IsKept (object_level i s ms) (object_level i t ns)
-  object_copy i s t ms ns e h l k = subst (λ z. IsHeld IsKept (object_level i z ns) l) (sym e) (k.0, k.1, k.2, h _ k.3, k.4)
-
-  pub levels_none : CopiesLevels IsKept [] []
-  levels_none [] h = tt
-  levels_none (l ∷ ls) h = absurd h
-
-  pub levels_cons : (hs ks : List (Held X)) (h k : Held X) → CopiesLevels IsKept hs ks → CopiesHeld IsKept h k → CopiesLevels IsKept (h ∷ hs) (k ∷ ks)
-  levels_cons hs ks h k a b [] e = absurd e
-  levels_cons hs ks h k a b (l ∷ ls) e = (b l e.0, a ls e.1)
-
-  pub pieces_none : CopiesPieces IsKept [] []
-  pieces_none base w ps h = h
-
   pub pieces_on : (xs ys : List (CodePiece X)) (x y : CodePiece X) → CopiesPieces IsKept xs ys → CopiesPiece IsKept x y → CopiesPieces IsKept (xs ++ x ∷ []) (ys ++ y ∷ [])
   pieces_on xs ys x y h k base w ps e = let c = pieces_cut IsKept base w xs x ps e in subst (EachPiece IsKept base w (ys ++ y ∷ [])) (sym c.2) (pieces_append IsKept base w ys c.0 y c.1 (h base w c.0 c.3) (k base w c.1 c.4))
-
-  -- what is kept of one item
-  one_copy : (c d : CodePiece X) → ((base : ℕ) (w : List ℕ) (p : Piece Tree) → IsHeldPiece IsKept base w c p → IsHeldPiece IsKept base w d p) → ((base : ℕ) (w : List ℕ) (ps : List (Piece Tree)) → AreRow IsKept base w c ps → ⊥) → CopiesPiece IsKept c d
-  one_copy c d k none base w ps (inl (p, e, h)) = inl (p, e, k base w p h)
-  one_copy c d k none base w ps (inr r) = absurd (none base w ps r)
-
-  pub row_copy : (c d : CodePiece X) (r s : Row X) → c ≡ RowPiece r → d ≡ RowPiece s → s.comma ≡ r.comma → s.first ≡ r.first → CopiesItems IsKept r.items.items s.items.items → CopiesPiece IsKept c d
-  row_copy c d r s e f a b k base w ps (inl (p, q, h)) = absurd (no_row base w p (subst (λ z. IsHeldPiece IsKept base w z p) e h))
-    where
-      no_row : (base : ℕ) (w : List ℕ) (p : Piece Tree) → IsHeldPiece IsKept base w (RowPiece r) p → ⊥
-      no_row base w (opens b j) u = u
-      no_row base w (closes b j) u = u
-      no_row base w (mark x) u = u
-  row_copy c d r s e f a b k base w ps (inr q) = let h : IsRow IsKept r ps = subst (λ z. AreRow IsKept base w z ps) e q in
-      subst (λ z. ArePieces IsKept base w z ps) (sym f)
-      (inr (record { tree = h.tree; others = h.others; split = h.split ∙ ap (λ (z : ℕ × ℕ). marks (row_marks ((z.0, z.1, h.tree) ∷ h.others))) (let u : (r.comma, r.first) ≡ (s.comma, s.first) = ap (λ z. (z, r.first)) (sym a) ∙ ap (λ z. (s.comma, z)) (sym b) in u); items = k (h.tree ∷ row_trees h.others) h.items }))
-
-  pub named_none : CopiesNamed IsKept [] []
-  named_none base w es h = h
 
   pub named_cut : (base : ℕ) (w : List ℕ) (xs : List (NamedValue X)) (x : NamedValue X) (es : List MemberMarks) → EachNamed IsKept base w (xs ++ x ∷ []) es
       → (us : List MemberMarks) × (e : MemberMarks) × ((es ≡ us ++ e ∷ []) × EachNamed IsKept base w xs us × EachNamed IsKept base w (x ∷ []) (e ∷ []))
@@ -121,39 +81,6 @@ module _ {X : Type 0} (IsKept : X → Content → Type 0) where
   pub named_on : (xs ys : List (NamedValue X)) (x y : NamedValue X) → CopiesNamed IsKept xs ys → y.name ≡ x.name → ((t : Tree) → IsKept x.value (one t) → IsKept y.value (one t)) → CopiesNamed IsKept (xs ++ x ∷ []) (ys ++ y ∷ [])
   named_on xs ys x y h e k base w es u = let c = named_cut base w xs x es u in subst (EachNamed IsKept base w (ys ++ y ∷ [])) (sym c.2.0)
       (named_append base w ys y c.0 c.1 (h base w c.0 c.2.1) (subst (λ z. (z.from ≡ c.1.name_at) × IsTextAt base w z c.1.characters × IsKept y.value (one (tree_of c.1.value)) × EachNamed IsKept base w [] []) (sym e) (c.2.2.0, c.2.2.1, k (tree_of c.1.value) c.2.2.2, tt)))
-
-  pub member_row_copy : (c d : CodePiece X) (r s : MemberRow X) → c ≡ MembersPiece r → d ≡ MembersPiece s → s.comma ≡ r.comma → s.colon ≡ r.colon → CopiesNamed IsKept r.items.items s.items.items → CopiesPiece IsKept c d
-  member_row_copy c d r s e f a b k base w ps (inl (p, q, h)) = absurd (no_members base w p (subst (λ z. IsHeldPiece IsKept base w z p) e h))
-    where
-      no_members : (base : ℕ) (w : List ℕ) (p : Piece Tree) → IsHeldPiece IsKept base w (MembersPiece r) p → ⊥
-      no_members base w (opens b j) u = u
-      no_members base w (closes b j) u = u
-      no_members base w (mark x) u = u
-  member_row_copy c d r s e f a b k base w ps (inr q) = let h : AreMembers IsKept base w r ps = subst (λ z. AreRow IsKept base w z ps) e q in
-      subst (λ z. ArePieces IsKept base w z ps) (sym f)
-      (inr (record { first = h.first; others = h.others; split = h.split; comma_is = a ∙ h.comma_is; colon_is = b ∙ h.colon_is; items = k base w (h.first ∷ h.others) h.items }))
-
-  pub text_copy : (c d : CodePiece X) (x y : X) (span : Span) → c ≡ Text span x → d ≡ Text span y → ((t : Tree) → IsKept x (one t) → IsKept y (one t)) → CopiesPiece IsKept c d
-  text_copy c d x y span e f k = one_copy c d (λ base w p h. subst (λ z. IsHeldPiece IsKept base w z p) (sym f) (by_piece base w p (subst (λ z. IsHeldPiece IsKept base w z p) e h))) (λ base w ps r. subst (λ z. AreRow IsKept base w z ps) e r)
-    where
-      by_piece : (base : ℕ) (w : List ℕ) (p : Piece Tree) → IsHeldPiece IsKept base w (Text span x) p → IsHeldPiece IsKept base w (Text span y) p
-      by_piece base w (opens b j) u = absurd u
-      by_piece base w (closes b j) u = absurd u
-      by_piece base w (mark (comma j)) u = absurd u
-      by_piece base w (mark (colon j)) u = absurd u
-      by_piece base w (mark (quoted j cs)) u = (u.0, u.1, k (text j cs) u.2)
-      by_piece base w (mark (entry j t)) u = absurd u
-
-  pub value_copy : (c d : CodePiece X) (x y : X) (i : ℕ) → c ≡ Value i x → d ≡ Value i y → ((t : Tree) → IsKept x (one t) → IsKept y (one t)) → CopiesPiece IsKept c d
-  value_copy c d x y i e f k = one_copy c d (λ base w p h. subst (λ z. IsHeldPiece IsKept base w z p) (sym f) (by_piece base w p (subst (λ z. IsHeldPiece IsKept base w z p) e h))) (λ base w ps r. subst (λ z. AreRow IsKept base w z ps) e r)
-    where
-      by_piece : (base : ℕ) (w : List ℕ) (p : Piece Tree) → IsHeldPiece IsKept base w (Value i x) p → IsHeldPiece IsKept base w (Value i y) p
-      by_piece base w (opens b j) u = absurd u
-      by_piece base w (closes b j) u = absurd u
-      by_piece base w (mark (comma j)) u = absurd u
-      by_piece base w (mark (colon j)) u = absurd u
-      by_piece base w (mark (quoted j cs)) u = absurd u
-      by_piece base w (mark (entry j t)) u = (u.0, k t u.1)
 
 -- what stands for items is the algebra's own
 module _ {X : Type 0} (IsOwn : X → Type 0) (IsFold : X → Tree → Type 0) (IsRun : X → List Tree → Type 0) where
@@ -203,9 +130,6 @@ module _ {X : Type 0} (IsOwn : X → Type 0) (IsFold : X → Tree → Type 0) (I
   -- the atoms of a row that is the last of what is kept
   pub row_own : (s : Shown X) (front : List (CodePiece X)) (r : Row X) → IsOfItems (OwnAtom IsOwn IsFold IsRun) s → s.outer ≡ front ++ RowPiece r ∷ [] → All IsOwn r.items.items
   row_own s front r (base, w, f, h) e = let c = pieces_cut (OwnAtom IsOwn IsFold IsRun) base w front (RowPiece r) f.outer (subst (λ z. EachPiece (OwnAtom IsOwn IsFold IsRun) base w z f.outer) e h.0) in are_own base w (RowPiece r) c.1 c.4
-
-  pub can_add_row : (bytes : List ℕ) (old : Shown X) (r : Row X) → CanAdd (OwnAtom IsOwn IsFold IsRun) bytes old (RowPiece r) → All IsOwn r.items.items
-  can_add_row bytes old r (base, w, f, ps, part, h, k) = are_own base w (RowPiece r) ps k
 
   pub can_add_own : (bytes : List ℕ) (old : Shown X) (c : CodePiece X) → CanAdd (OwnAtom IsOwn IsFold IsRun) bytes old c → OwnPiece IsOwn c
   can_add_own bytes old c (base, w, f, ps, part, h, k) = are_own base w c ps k

@@ -149,9 +149,6 @@ one_answer m at w ps f (inr (i, x, e)) = subst (λ z. IsAnswer m at w (folded_or
     entry_answer : Formed m at w (mark (entry i x) ∷ []) → IsAnswer m at w (folded x)
     entry_answer (a, v, r, d, ha, (fi, t, sp, nt, ex), hap, hr) = (t, (a, v, r, [], d ∙ ap (λ z. a ++ (v ++ z)) (sym (append-nil r)), ha, hr, sp, refl), sym ex)
 
-clear_start : (w : List ℕ) → is_clear (value []) w ≡ true
-clear_start w = refl
-
 reached_answer : {X : Type 0} (m : Meaning X) (at : ℕ) (w : List ℕ) (f : Form X) (t : State) (c : Bool) → accepts t ≡ c → IsForm m at w f → AreClosed f.outer → walks (value []) (pieces_of f) ≡ reached t
     → IsAnswer m at w (cond c (folded_or (single m (pieces_of f))) ended)
 reached_answer m at w f t true h g k e = one_answer m at w (pieces_of f) g.formed (whole_one m f.outer f.levels t k g.levels e h)

@@ -4,7 +4,7 @@ use Rattle.std.proofs.Common.{◌≡◌, ◌≢◌, ℕ, Option, Some, None, Lis
 use Rattle.std.proofs.Math.Seq.{take-append_seam, drop-append_seam}
 use Rattle.std.specs.Bool.{⊤}
 use Rattle.at_text.specs.Texts.{is_run}
-use Rattle.at_lex.specs.Spans.{AreSpaces, opening, end_of, begins_run, StaysInText, AreRun, is_broken, IsKind, IsToken as IsLexed, IsPend as IsLexedPend}
+use Rattle.at_lex.specs.Spans.{AreSpaces, opening, end_of, begins_run, is_broken, IsKind, IsToken as IsLexed, IsPend as IsLexedPend}
 use Rattle.at_lex.specs.Stream.{Left, GivesItem, IsBegun}
 use Rattle.at_lex.specs.declared.tokens.Start.{Start}
 use Rattle.at_lex.specs.declared.tokens.Start.TheVariants.{Out, InString, InEscape}
@@ -27,16 +27,16 @@ use Rattle.at_nest.specs.Forms.{Formed}
 use Rattle.at_nest.specs.Levels.{Form, pieces_of, Pushed, further, stopped}
 use Rattle.at_nest.specs.Stops.{IsForm, IsStop}
 use Rattle.at_nest.specs.Unions.{Ends, merged, empty_form}
-use Rattle.at_nest.specs.Variants.{IsAllLead, IsLeadEnd, IsPending, none_pending, run_pending, text_pending}
+use Rattle.at_nest.specs.Variants.{IsLeadEnd, IsPending, none_pending, run_pending, text_pending}
 use Rattle.at_nest.specs.Shown.{Shown, shown}
-use Rattle.at_nest.specs.KeptItems.{Content, free, IsShown, IsPushedAs, IsOfItems, halt_of}
+use Rattle.at_nest.specs.KeptItems.{Content, free, IsShown, IsPushedAs, halt_of}
 use Rattle.at_nest.specs.Reading.{IsPlaced, ReadsToken, ReadsAhead, HasBytes, pend_from}
 use Rattle.at_nest.specs.VariantMeanings.{HoldsVariant, HoldsBehind}
 use Rattle.at_nest.proofs.Steps.{and_false}
 use Rattle.at_nest.proofs.Walks.{ends_append, spaces_apart}
 use Rattle.at_nest.proofs.Joins.{apart_front, formed_append, formed_out, end_append}
 use Rattle.at_nest.proofs.Merges.{apart_last}
-use Rattle.at_nest.proofs.Unions.{ends_token, string_last, lead_out, closes_out, run_out}
+use Rattle.at_nest.proofs.Unions.{ends_token, string_last, lead_out, closes_out}
 
 -- ---- what ends a token
 
@@ -109,9 +109,6 @@ module _ {X : Type 0} (IsKept : X → Content → Type 0) where
 
   pub consumed_none : (base : ℕ) (piece : List ℕ) (kept : Shown X) (left : Left) → IsShown IsKept base piece kept empty_form → left.state ≡ Out → Consumed base piece left.at left.rest kept left
   consumed_none base piece kept left h e = record { read = []; form = empty_form; split = refl; is_form = record { formed = tt; levels = tt }; is_shown = h; apart = refl; ended = λ n. refl; place = (let q : left.at ≡ left.at + 0 = omega arith in q); out = e }
-
-  pub consumed_items : (base : ℕ) (piece : List ℕ) (from : ℕ) (bytes : List ℕ) (kept : Shown X) (left : Left) → Consumed base piece from bytes kept left → IsOfItems IsKept kept
-  consumed_items base piece from bytes kept left h = (base, piece, h.form, h.is_shown)
 
   split_item : (u x a v r bytes rest : List ℕ) (piece : List ℕ) → piece ≡ u ++ bytes → bytes ≡ x ++ rest → rest ≡ a ++ (v ++ r) → piece ≡ (u ++ (x ++ a)) ++ (v ++ r)
   split_item u x a v r bytes rest piece e f k = e ∙ (ap (λ z. u ++ z) (f ∙ (ap (λ z. x ++ z) k ∙ sym (append_assoc x a (v ++ r)))) ∙ sym (append_assoc u (x ++ a) (v ++ r)))
@@ -329,33 +326,10 @@ module _ {X : Type 0} (IsKept : X → Content → Type 0) where
 out_is : (s : Start) → s ≡ Out → end_of s [] ≡ Out
 out_is s e = e
 
-pub begun_nothing : (s : Start) (base : ℕ) (piece : List ℕ) (left : Left) → IsBegun s base piece leads.Nothing left → (s ≡ Out) × (piece ≡ left.rest) × (left.at ≡ base) × (left.state ≡ Out)
-begun_nothing Out base piece left (u, e, l, i, q) = (refl, e ∙ ap (λ z. z ++ left.rest) l.0, (let n : length u ≡ 0 = ap (λ z. length z) l.0 in omega (arith, i, n)), q ∙ ap (end_of Out) l.0)
-begun_nothing InString base piece left (u, e, l, i, q) = absurd l
-begun_nothing InEscape base piece left (u, e, l, i, q) = absurd l
-
-pub begun_run : (s : Start) (base : ℕ) (piece : List ℕ) (n : ℕ) (left : Left) → IsBegun s base piece (leads.RunEnds n) left → HasBytes base piece left.at left.rest × (left.state ≡ Out)
-begun_run Out base piece n left (u, e, l, i, q) = ((u, e, i), q ∙ run_out u l.1.0.1)
-begun_run InString base piece n left (u, e, l, i, q) = absurd l
-begun_run InEscape base piece n left (u, e, l, i, q) = absurd l
-
 pub begun_text : (s : Start) (base : ℕ) (piece : List ℕ) (n : ℕ) (left : Left) → IsBegun s base piece (leads.TextEnds n) left → HasBytes base piece left.at left.rest × (left.state ≡ Out)
 begun_text Out base piece n left (u, e, l, i, q) = absurd l
 begun_text InString base piece n left (u, e, l, i, q) = ((u, e, i), q ∙ closes_out InString u l.1)
 begun_text InEscape base piece n left (u, e, l, i, q) = ((u, e, i), q ∙ closes_out InEscape u l.1)
-
-all_is : (s : Start) (u : List ℕ) (piece : List ℕ) (left : Left) → piece ≡ u ++ left.rest → left.rest ≡ [] → left.state ≡ end_of s u → (u ≡ piece) × (left.state ≡ end_of s piece)
-all_is s u piece left e n q = let same : u ≡ piece = sym (e ∙ (ap (λ z. u ++ z) n ∙ append-nil u)) in (same, q ∙ ap (end_of s) same)
-
-pub begun_all_run : (s : Start) (base : ℕ) (piece : List ℕ) (left : Left) → IsBegun s base piece leads.AllRun left → (left.rest ≡ []) × IsAllLead s piece × (left.state ≡ end_of s piece)
-begun_all_run Out base piece left (u, e, l, i, q) = let a = all_is Out u piece left e l.1 q in (l.1, subst AreRun a.0 l.0.1, a.1)
-begun_all_run InString base piece left (u, e, l, i, q) = absurd l
-begun_all_run InEscape base piece left (u, e, l, i, q) = absurd l
-
-pub begun_all_text : (s : Start) (base : ℕ) (piece : List ℕ) (left : Left) → IsBegun s base piece leads.AllText left → (left.rest ≡ []) × IsAllLead s piece × (left.state ≡ end_of s piece)
-begun_all_text Out base piece left (u, e, l, i, q) = absurd l
-begun_all_text InString base piece left (u, e, l, i, q) = let a = all_is InString u piece left e l.1 q in (l.1, subst (StaysInText InString) a.0 l.0, a.1)
-begun_all_text InEscape base piece left (u, e, l, i, q) = let a = all_is InEscape u piece left e l.1 q in (l.1, subst (StaysInText InEscape) a.0 l.0, a.1)
 
 -- ---- the variants
 

@@ -50,9 +50,6 @@ module _ {X : Type 0} (IsKept : X → Content → Type 0) where
   SoFar bytes old cs new = (base : ℕ) (w : List ℕ) (f : Form Tree) (ps : List (Piece Tree)) → IsPartOf bytes base w → IsShown IsKept base w old f → EachPiece IsKept base w cs ps
       → (k : Form Tree) × (push_all free ps f ≡ further k) × IsShown IsKept base w new k
 
-  pub so_far_none : (bytes : List ℕ) (old : Shown X) → SoFar bytes old [] old
-  so_far_none bytes old base w f ps part h e = (f, ap (λ z. push_all free z f) e, h)
-
   -- the pieces of a front, of what stands behind it, and of the rest
   record HasCut (base : ℕ) (w : List ℕ) (ys : List (CodePiece X)) (x : CodePiece X) (zs : List (CodePiece X)) (ps : List (Piece Tree)) : Type 0 where
     front : List (Piece Tree)

@@ -61,15 +61,6 @@ pending_run v (none_pending e) t = absurd (true≢false (sym t ∙ ap begins_run
 pending_run v (run_pending r b) t = r
 pending_run v (text_pending u e k) t = absurd (true≢false (sym t ∙ ap begins_run e))
 
--- what is no string is a run, if it is anything
-pub pending_other : (v : List ℕ) (b : ℕ) (o : List ℕ) → IsPending v → v ≡ b ∷ o → begins_text v ≡ false → begins_run v ≡ true
-pending_other v b o (none_pending e) f n = absurd (not_nil b o (sym f ∙ e))
-  where
-    not_nil : (b : ℕ) (o : List ℕ) → b ∷ o ≡ [] → ⊥
-    not_nil b o e = cc
-pending_other v b o (run_pending r c) f n = c
-pending_other v b o (text_pending u e k) f n = absurd (true≢false (sym (ap begins_text e) ∙ n))
-
 -- ---- strings
 
 stays_front : (s : Start) (v x : List ℕ) → StaysInText s (v ++ x) → (s ≡ Out → ⊥) → StaysInText s v

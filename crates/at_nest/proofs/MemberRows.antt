@@ -1,6 +1,6 @@
 -- Members, each behind a comma: how they grow before the first open level, and what they do to the level behind which they are put.
 -- For `finish`, `finish_span`, `merge` and `run_block`.
-use Rattle.std.proofs.Common.{◌≡◌, ℕ, ◌+◌, ◌-◌, ◌<◌, Option, Some, None, List, [], ◌∷◌, ◌++◌, inl, inr, refl, sym, ◌∙◌, ap, subst, arith, append_assoc, append-nil, length, length-append, take, get_or, All}
+use Rattle.std.proofs.Common.{◌≡◌, ℕ, ◌+◌, ◌-◌, Option, Some, None, List, [], ◌∷◌, ◌++◌, inl, inr, refl, sym, ◌∙◌, ap, subst, arith, append_assoc, length, length-append, take, get_or, All}
 use Rattle.std.proofs.Math.Seq.{take-append_seam}
 use Rattle.std.proofs.lemmas.List.Elements.{All-nil, All-cons}
 use Rattle.std.proofs.lemmas.Option.{none-some, same_Some}
@@ -288,10 +288,6 @@ module _ {X : Type 0} (IsKept : X → Content → Type 0) where
       each [] (e ∷ es) h = absurd h
       each (m ∷ ms) [] h = absurd h
 
-  pub gains_no_member : (bytes : List ℕ) (ms : List (Member X)) → GainsMembers IsKept bytes ms [] ms
-  gains_no_member bytes ms base w ps [] part h k = subst (EachMember IsKept ms) (sym (append-nil ps)) h
-  gains_no_member bytes ms base w ps (e ∷ es) part h k = absurd k
-
   pub gains_member : (bytes : List ℕ) (ms all all2 : List (Member X)) (more : List (NamedValue X)) (m : NamedValue X) (n : Member X) → GainsMembers IsKept bytes ms more all → NamesMember bytes m n → all2 ≡ all ++ n ∷ [] → GainsMembers IsKept bytes ms (more ++ m ∷ []) all2
   gains_member bytes ms all all2 more m n gains (at, same, name) e base w ps es part h k = let c = named_cut IsKept base w more m es k in
       let p : List Character × ℕ × Tree = (c.1.characters, c.1.name_at, tree_of c.1.value) in
@@ -313,13 +309,6 @@ module _ {X : Type 0} (IsKept : X → Content → Type 0) where
       let size : length outer ≡ length front + 3 = ap (λ z. length z) e ∙ length-append front three in
       let here : n ≡ length front = omega (arith, i, size) in
       (y, e ∙ ap (λ z. z ++ three) (sym (f ∙ (ap (λ k. take k outer) here ∙ (ap (take (length front)) e ∙ take-append_seam front three)))))
-
-  pub some_named : (bytes : List ℕ) (r : MemberRow X) → HasMembers IsKept bytes r → 0 < length r.items.items
-  some_named bytes r (base, w, e, es, part, named) = some r.items.items named
-    where
-      some : (ms : List (NamedValue X)) → EachNamed IsKept base w ms (e ∷ es) → 0 < length ms
-      some [] h = absurd h
-      some (m ∷ ms) h = omega arith
 
   pub first_name : (bytes : List ℕ) (r : MemberRow X) (m : NamedValue X) → m ≡ get_or r.items.items 0 m → HasMembers IsKept bytes r → HasName bytes m
   first_name bytes r m i (base, w, e, es, part, named) = (base, w, e.characters, part, (first_named base w r.items.items e es m i named).1)

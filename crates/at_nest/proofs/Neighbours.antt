@@ -19,9 +19,9 @@ use Rattle.at_nest.specs.Variants.{IsAllLead, IsLeadEnd, IsWhole, IsBroken, IsVa
 use Rattle.at_nest.specs.Shown.{Shown}
 use Rattle.at_nest.specs.declared.pieces.NamedValue.{NamedValue}
 use Rattle.at_nest.specs.MemberMarks.{MemberMarks}
-use Rattle.at_nest.specs.KeptItems.{Content, EachNamed, AreRow, free, EachPiece, ArePieces, IsHeldPiece, IsShown, IsPushedAs, IsTextAt, IsPartOf, CanJoin, Joins}
+use Rattle.at_nest.specs.KeptItems.{Content, EachNamed, AreRow, free, EachPiece, ArePieces, IsHeldPiece, IsShown, IsPushedAs, IsTextAt, IsPartOf, Joins}
 use Rattle.at_nest.specs.Reading.{IsPlaced, Reads}
-use Rattle.at_nest.specs.VariantMeanings.{CanMeet, Meets}
+use Rattle.at_nest.specs.VariantMeanings.{Meets}
 use Rattle.at_nest.proofs.Joins.{apart_front}
 use Rattle.at_nest.proofs.Unions.{whole_end, token_of, token_apart, joined_apart, right_place, ends_variant, ends_right, ends_token, apart_pending, union_split, lead_more, lead_bytes, both_apart, ended_by, pending_on, left_nil, ends_broken, right_stops}
 
@@ -122,12 +122,6 @@ module _ {X : Type 0} (IsKept : X → Content → Type 0) where
       let q = reads base w f more hf placed token in
       let k = goes_on base w mid (merged free (further f) q.0) q.2 in
       (q.0, q.1, subst (λ o. IsPushedAs IsKept base w new r (push_then (λ z. merged free (further z) (further g)) o)) (sym k.1) (joins base w k.0 g part k.2 hg levels))
-
-  pub can_join : (bytes : List ℕ) (old mid behind : Shown X) (at : ℕ) (v : List ℕ) → CanMeet IsKept bytes old behind at v → Reads IsKept old mid None at v → CanJoin IsKept bytes mid behind
-  can_join bytes old mid behind at v (base, w, f, g, more, part, hf, hg, placed, token) reads =
-      let q = reads base w f more hf placed token in
-      let k = goes_on base w mid (merged free (further f) q.0) q.2 in
-      (base, w, k.0, g, part, k.2, hg)
 
   -- ---- the bytes of the token
 

@@ -74,13 +74,6 @@ less_nested old new last more m n e f g h i puts = let (hs, p, q) = puts (Nested
     p ∙ (ap (λ z. nested z (suc m.more) ++ hs) e ∙ (ap (λ z. array_level last array.Empty [] ∷ (nested (last - 1) z ++ hs)) f
     ∙ (ap (λ z. array_level last array.Empty [] ∷ (nested (last - 1) (suc z) ++ hs)) (sym h) ∙ (ap (λ z. array_level last array.Empty [] ∷ (nested z (suc n.more) ++ hs)) (sym g) ∙ ap (λ z. array_level last array.Empty [] ∷ z) (sym q)))))
 
--- and with one more
-pub more_nested : {X : Type 0} (old new : List (Open X)) (at : ℕ) (m n : Nest) → n.last ≡ at → m.last ≡ at - 1 → n.more ≡ suc m.more → last_of old ≡ Some (Nested m) → PutsLast old new (Nested n)
-    → open_levels new ≡ array_level at array.Empty [] ∷ open_levels old
-more_nested old new at m n e f g i puts = let (hs, p, q) = puts (Nested m) i in
-    q ∙ (ap (λ z. nested z (suc n.more) ++ hs) e ∙ (ap (λ z. array_level at array.Empty [] ∷ (nested (at - 1) z ++ hs)) g
-    ∙ (ap (λ z. array_level at array.Empty [] ∷ (nested z (suc m.more) ++ hs)) (sym f) ∙ ap (λ z. array_level at array.Empty [] ∷ z) (sym p))))
-
 -- the last of what is open was taken out
 pub popped : {X : Type 0} (old new : List (Open X)) (o : Option (Open X)) (x : Open X) → o ≡ Some x → old ≡ new ++ option_to_list o → open_levels old ≡ helds_of x ++ open_levels new
 popped old new o x e f = ap open_levels (f ∙ ap (λ z. new ++ option_to_list z) e) ∙ open_last new x
@@ -145,6 +138,3 @@ module _ {X : Type 0} (IsKept : X → Content → Type 0) where
   pub levels_both : (xs ys us vs : List (Open X)) → CopiesLevels IsKept (open_levels xs) (open_levels ys) → CopiesLevels IsKept (open_levels us) (open_levels vs) → CopiesLevels IsKept (open_levels (xs ++ us)) (open_levels (ys ++ vs))
   levels_both xs ys us vs a b ls h = let r = held_cut (open_levels us) (open_levels xs) ls (subst (λ z. EachHeld IsKept z ls) (open_append xs us) h) in
       subst (λ z. EachHeld IsKept z ls) (sym (open_append ys vs)) (subst (EachHeld IsKept (open_levels vs ++ open_levels ys)) (sym r.2) (held_joined (open_levels vs) r.0 (open_levels ys) r.1 (b r.0 r.3) (a r.1 r.4)))
-
-  pub same_levels : (hs : List (Held X)) → CopiesLevels IsKept hs hs
-  same_levels hs ls h = h

@@ -470,13 +470,3 @@ module _ {X : Type 0} (IsKept : X → Content → Type 0) where
         is_shown = h.is_shown;
         lead_at = at2;
       }
-
--- an array with nothing in it takes all
-pub nested_takes : {X : Type 0} (i : ℕ) (hs : List (Held X)) (outer : List (CodePiece X)) (k : TokenKind) → not_in (array_level i array.Empty [] ∷ hs) outer k ≡ false
-nested_takes i hs outer (token.Opens b) = refl
-nested_takes i hs outer (token.Closes b) = refl
-nested_takes i hs outer token.Comma = refl
-nested_takes i hs outer token.Colon = refl
-nested_takes i hs outer token.Text = refl
-nested_takes i hs outer token.Run = refl
-nested_takes i hs outer (token.Broken n) = refl

@@ -228,8 +228,5 @@ comma_own IsOwn (object_level j (object.Colon q) ms) h2 own e = absurd (none-som
 
 -- ---- an array's atoms, and further ones behind them
 
-pub gains_none : {X : Type 0} (IsKept : X → Content → Type 0) (xs : List X) → GainsAll IsKept xs [] xs
-gains_none IsKept xs ts us h e = subst (Each IsKept xs) (sym (ap (λ z. ts ++ z) e ∙ append-nil ts)) h
-
 pub gains_on : {X : Type 0} (IsKept : X → Content → Type 0) (xs zs ys ys2 : List X) (x : X) → GainsAll IsKept xs zs ys → Gains IsKept ys x ys2 → GainsAll IsKept xs (zs ++ x ∷ []) ys2
 gains_on IsKept xs zs ys ys2 x all more ts us h k = let c = each_cut IsKept zs x us k in subst (Each IsKept ys2) (append_assoc ts c.0 c.1 ∙ ap (λ z. ts ++ z) (sym c.2.0)) (more (ts ++ c.0) c.1 (all ts c.0 h c.2.1) c.2.2)

@@ -1,6 +1,6 @@
 -- What an item does to all that is kept of a span, and to the form that it stands for.
 -- For `finish`, `finish_span`, `merge` and `run_block`.
-use Rattle.std.proofs.Common.{◌≡◌, ℕ, ◌+◌, ◌-◌, ◌≤◌, true, false, Option, Some, None, List, [], ◌∷◌, ◌++◌, inl, refl, sym, ◌∙◌, ap, subst, arith, append_assoc, append-nil, length, length-append, take, drop}
+use Rattle.std.proofs.Common.{◌≡◌, ℕ, ◌+◌, ◌-◌, true, false, Option, Some, None, List, [], ◌∷◌, ◌++◌, inl, refl, sym, ◌∙◌, ap, subst, arith, append_assoc, append-nil, length, length-append, take, drop}
 use Rattle.std.proofs.Math.Seq.{take-append_seam, drop-append_seam}
 use Rattle.at_text.specs.declared.texts.Span.{Span}
 use Rattle.at_lex.specs.Strings.{Character, string_text}
@@ -142,9 +142,3 @@ text_bytes bytes base w span cs (y, z, e, b) (ok, a, q, d, i, j) =
     let at : span.from ≡ length (y ++ a) = omega (arith, i, b, length-append y a) in
     let size : span.to - span.from ≡ length (string_text cs) = omega (arith, j) in
     ap (λ n. take n (drop span.from bytes)) size ∙ (ap (λ v. take (length (string_text cs)) v) (ap (λ n. drop n bytes) at ∙ (ap (drop (length (y ++ a))) whole ∙ drop-append_seam (y ++ a) (string_text cs ++ (q ++ z)))) ∙ take-append_seam (string_text cs) (q ++ z))
-
-pub text_fits : (bytes : List ℕ) (base : ℕ) (w : List ℕ) (span : Span) (cs : List Character) → IsPartOf bytes base w → IsTextAt base w span cs → (span.from ≤ span.to) × (span.to ≤ length bytes)
-text_fits bytes base w span cs (y, z, e, b) (ok, a, q, d, i, j) =
-    let n : length bytes ≡ length y + (length w + length z) = ap (λ v. length v) e ∙ (length-append y (w ++ z) ∙ ap (λ k. length y + k) (length-append w z)) in
-    let k : length w ≡ length a + (length (string_text cs) + length q) = ap (λ v. length v) d ∙ (length-append a (string_text cs ++ q) ∙ ap (λ k. length a + k) (length-append (string_text cs) q)) in
-    (omega (arith, j), omega (arith, n, k, i, j, b))

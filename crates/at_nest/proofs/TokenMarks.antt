@@ -1,10 +1,10 @@
 -- What the tokens of a piece push, by their kinds.
 -- For `finish`, `finish_span`, `merge` and `run_block`.
-use Rattle.std.proofs.Common.{◌≡◌, ℕ, Option, None, List, [], ◌∷◌, refl, sym, ap, subst, ◌==◌, length, true, false, true≢false, arith, ◌≢◌, slice_index}
+use Rattle.std.proofs.Common.{◌≡◌, ℕ, Option, None, List, [], ◌∷◌, refl, sym, subst, ◌==◌, length, true, false, true≢false, arith, ◌≢◌, slice_index}
 use Rattle.std.proofs.lemmas.Bool.{eqb-true}
 use Rattle.at_lex.specs.Strings.{JsonString}
 use Rattle.at_lex.specs.Runs.{JsonRun}
-use Rattle.at_lex.specs.Spans.{IsKind, IsToken as IsLexed, IsText, begins_run}
+use Rattle.at_lex.specs.Spans.{IsKind, IsToken as IsLexed, begins_run}
 use Rattle.at_lex.specs.declared.tokens.Bracket.{Bracket}
 use Rattle.at_lex.specs.declared.tokens.Token.{Token}
 use Rattle.at_lex.specs.declared.tokens.TokenKind.{TokenKind}
@@ -17,7 +17,7 @@ use Rattle.at_nest.specs.Shown.{Shown, show_as, opened_as, comma_added, colon_ad
 use Rattle.at_nest.specs.KeptItems.{Content, IsPushedAs, Pushes}
 use Rattle.at_nest.specs.Reading.{ReadsToken}
 use Rattle.at_nest.proofs.Showing.{open_pushes, comma_pushes, colon_pushes}
-use Rattle.at_nest.proofs.TokenReads.{mark_ends, close_ends, open_ends, one_mark, one_close, cut_is_text, cut_is_run}
+use Rattle.at_nest.proofs.TokenReads.{mark_ends, close_ends, open_ends, one_mark, one_close, cut_is_run}
 
 kind_is : (token : Token) (t after : List ℕ) (k : TokenKind) → token.kind ≡ k → IsLexed token.from t after token → IsKind token.from t after k
 kind_is token t after k e h = subst (IsKind token.from t after) e h.2
@@ -56,10 +56,6 @@ module _ {X : Type 0} (IsKept : X → Content → Type 0) where
 pub empty_is : (t : List ℕ) → (length t == 0) ≡ true → t ≡ []
 empty_is [] e = refl
 empty_is (b ∷ t) e = let n : length (b ∷ t) ≡ 0 = eqb-true (length (b ∷ t)) 0 e in absurd (omega (arith, n))
-
-pub quote_is_text : (t : List ℕ) → (more : List ℕ) × IsToken t more → slice_index t 0 ≡ 0x22 → IsText t
-quote_is_text [] (more, h) e = absurd (omega (arith, e))
-quote_is_text (b ∷ t) (more, h) e = cut_is_text (b ∷ t) more t h (ap (λ z. z ∷ t) e)
 
 pub other_is_run : (t : List ℕ) → (more : List ℕ) × IsToken t more → (length t == 0) ≡ false → slice_index t 0 ≢ 0x22 → begins_run t ≡ true
 other_is_run [] (more, h) n e = absurd (true≢false n)

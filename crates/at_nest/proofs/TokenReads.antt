@@ -9,7 +9,7 @@ use Rattle.at_text.specs.Texts.{is_run}
 use Rattle.at_text.proofs.Machine.{run}
 use Rattle.at_lex.specs.Strings.{Character, JsonString, AreCharacters, string_text}
 use Rattle.at_lex.specs.Runs.{JsonRun, IsRunEnd, the_null, the_true, the_false}
-use Rattle.at_lex.specs.Spans.{begins_run, AreRun, ClosesText, IsText, EndsRun, IsRefused, opening, closing, IsKind, IsToken as IsLexed}
+use Rattle.at_lex.specs.Spans.{begins_run, AreRun, ClosesText, IsText, EndsRun, IsRefused, opening, closing, IsKind}
 use Rattle.at_lex.specs.declared.tokens.Start.TheVariants.{InString}
 use Rattle.at_lex.specs.declared.tokens.Bracket.{Bracket}
 use Rattle.at_lex.specs.declared.tokens.Token.{Token}
@@ -227,17 +227,6 @@ broken_reads IsKept s v token place e base w f after h placed lexed =
 
 -- ---- tokens that were cut
 
-no_run_quote : (t more u : List ℕ) → IsToken t more → t ≡ 0x22 ∷ u → (z : List ℕ) × (t ≡ 0x22 ∷ z) × ClosesText InString z
-no_run_quote t more u (no_token e b o f) q = absurd (not_nil 0x22 u (sym q ∙ e))
-  where
-    not_nil : (b : ℕ) (o : List ℕ) → b ∷ o ≡ [] → ⊥
-    not_nil b o e = cc
-no_run_quote t more u (a_run r k c b o e) q = absurd (true≢false (sym k ∙ ap begins_run q))
-no_run_quote t more u (a_text z e c) q = (z, e, c)
-
-pub cut_is_text : (t more u : List ℕ) → IsToken t more → t ≡ 0x22 ∷ u → IsText t
-cut_is_text t more u h q = no_run_quote t more u h q
-
 pub cut_is_run : (t more : List ℕ) (b : ℕ) (u : List ℕ) → IsToken t more → t ≡ b ∷ u → b ≢ 0x22 → begins_run t ≡ true
 cut_is_run t more b u (no_token e c o f) q n = absurd (not_nil b u (sym q ∙ e))
   where
@@ -287,6 +276,3 @@ lexed_run IsKept old new r t token j pushes base w f after h placed lexed = let 
 
 abbrev pub kind_at : Token → List ℕ → List ℕ → Type 0
 kind_at token t after = IsKind token.from t after token.kind
-
-pub kind_of_lexed : (token : Token) (t after : List ℕ) (at : ℕ) → at ≡ token.from → IsLexed at t after token → kind_at token t after
-kind_of_lexed token t after at e h = subst (λ n. IsKind n t after token.kind) (sym h.0) h.2

@@ -167,8 +167,5 @@ module _ {X : Type 0} (IsKept : X → Content → Type 0) where
   pub union_stop : (bytes : List ℕ) (s : Start) (at : ℕ) (w x : List ℕ) (left right : Variant X) (lead : ℕ) (body : Body X) (halt : CodeHalt) → left ≡ Broken lead body halt → HaveUnion IsKept bytes s at w x left right → HoldsVariant IsKept s at (w ++ x) left
   union_stop bytes s at w x left right lead body halt q h = subst (HoldsVariant IsKept s at (w ++ x)) (sym q) (broken_union s at w x lead body halt (subst (HoldsVariant IsKept s at w) q h.1))
 
-  pub union_neighbours : (bytes : List ℕ) (s : Start) (at : ℕ) (w x : List ℕ) (left right : Variant X) (lead : ℕ) (body : Body X) (pend : ℕ) (end : Start) → left ≡ Whole lead body pend end → HaveUnion IsKept bytes s at w x left right → Neighbours IsKept bytes s at w x lead (shown body) pend right
-  union_neighbours bytes s at w x left right lead body pend end q h = record { part = h.0; left_end = end; is_left = subst (HoldsVariant IsKept s at w) q h.1; is_right = h.2 }
-
   pub right_is : (bytes : List ℕ) (s : Start) (at : ℕ) (w x : List ℕ) (lead : ℕ) (kept : Shown X) (from : ℕ) (right v : Variant X) → right ≡ v → Neighbours IsKept bytes s at w x lead kept from right → Neighbours IsKept bytes s at w x lead kept from v
   right_is bytes s at w x lead kept from right v e n = subst (Neighbours IsKept bytes s at w x lead kept from) e n

@@ -1,13 +1,13 @@
 -- What is kept of features that are added one by one.
 -- For `add`, `add_lent`, `from_part`, `join` and `part_of`.
-use Rattle.std.proofs.Common.{◌≡◌, ◌≢◌, true, false, List, [], ◌∷◌, ◌++◌, refl, sym, ◌∙◌, ap, subst, true≢false}
+use Rattle.std.proofs.Common.{◌≡◌, ◌≢◌, List, [], ◌∷◌, ◌++◌, refl, sym, ◌∙◌, ap, subst}
 use Rattle.std.proofs.lemmas.List.{append-nil}
 use Rattle.std.proofs.lemmas.Grind.{flat_map-append}
 use Rattle.at_geom.specs.declared.positions.Pos.{Pos}
 use Rattle.at_geom.specs.Shapes.{positions}
 use Rattle.at_hull.specs.Hulls.{IsHull}
 use Rattle.at_hull.specs.Growth.{HaveOneHull, Growth, held}
-use Rattle.at_hull.proofs.OneHull.{one_hull_refl, one_hull_both, one_hull_own, one_hull_grown, one_hull_trans}
+use Rattle.at_hull.proofs.OneHull.{one_hull_both, one_hull_own, one_hull_grown, one_hull_trans}
 use Rattle.at_query.specs.declared.query.queries.Verb.{Verb}
 use Rattle.at_query.specs.declared.query.queries.Verb.TheVariants as verbs
 use Rattle.at_query.specs.declared.query.queries.Query.{Query}
@@ -19,41 +19,13 @@ use Rattle.at_query.specs.declared.answer.accumulators.Accumulator.TheVariants.{
 use Rattle.at_query.specs.Holding.{Holds}
 use Rattle.at_query.specs.Results.{Keeps, all_positions, all_polygons}
 use Rattle.at_query.specs.Parts.{IsHullInRange, IsKeptOf, IsPart, JoinsParts}
-use Rattle.at_query.specs.Accumulators.{IsKeptIn, IsAccumulated, AreOfOneVerb, JoinsAccumulators, IsNoHull, KeepsNoShape, added_by, is_entries, is_hull}
-use Rattle.at_query.proofs.KeptLists.{keeps-append, keeps_none, keeps_one, drops_one}
+use Rattle.at_query.specs.Accumulators.{IsKeptIn, IsAccumulated, AreOfOneVerb, JoinsAccumulators, IsNoHull, KeepsNoShape, added_by}
+use Rattle.at_query.proofs.KeptLists.{keeps-append, keeps_one, drops_one}
 use Rattle.at_query.proofs.Joining.{parts_are_alike}
 
 -- ---- nothing
 
-pub no_hull : (verb : Verb) → is_hull verb ≡ false → verb ≢ verbs.Hull
-no_hull verb h e = absurd (true≢false (sym (ap is_hull e) ∙ h))
-
-pub the_hull : (verb : Verb) → is_hull verb ≡ true → verb ≡ verbs.Hull
-the_hull verbs.Select h = absurd (true≢false (sym h))
-the_hull verbs.Count h = absurd (true≢false (sym h))
-the_hull verbs.Area h = absurd (true≢false (sym h))
-the_hull verbs.Extent h = absurd (true≢false (sym h))
-the_hull verbs.Hull h = refl
-the_hull verbs.Join h = absurd (true≢false (sym h))
-
-pub none_part : (query : Query) (part : Part) → is_hull query.verb ≡ false → IsPart query [] part → IsAccumulated query [] (APart part)
-none_part query part h (kept, keeps, is) = (kept, keeps, (no_hull query.verb h, is))
-
-pub none_hull : (query : Query) (growth : Growth) → is_hull query.verb ≡ true → held growth ≡ [] → IsAccumulated query [] (Hull growth)
-none_hull query growth h e = ([], keeps_none (Holds query), (the_hull query.verb h, subst (λ z. HaveOneHull [] z) (sym e) (one_hull_refl [])))
-
 -- ---- what a part becomes
-
-kept_no_hull : (verb : Verb) (kept : List Feature) (part : Part) → IsNoHull part → IsKeptOf verb kept part → verb ≢ verbs.Hull
-kept_no_hull verbs.Select kept part n is e = absurd (cc)
-kept_no_hull verbs.Count kept part n is e = absurd (cc)
-kept_no_hull verbs.Area kept part n is e = absurd (cc)
-kept_no_hull verbs.Extent kept part n is e = absurd (cc)
-kept_no_hull verbs.Hull kept part n (h, is, k) e = let P : Part → Type 0 = IsNoHull in absurd (subst P is n)
-kept_no_hull verbs.Join kept part n is e = absurd (cc)
-
-pub from_other : (part : Part) → IsNoHull part → (query : Query) (fs : List Feature) → IsPart query fs part → IsAccumulated query fs (APart part)
-from_other part n query fs (kept, keeps, is) = (kept, keeps, (kept_no_hull query.verb kept part n is, is))
 
 kept_hull : (h : List Pos) (growth : Growth) → IsHull h h → held growth ≡ h → (verb : Verb) (kept : List Feature) → IsKeptOf verb kept (parts.Hull h) → IsKeptIn verb kept (Hull growth)
 kept_hull h growth own e verbs.Select kept is = absurd (cc)
@@ -70,9 +42,6 @@ pub from_hull : (part : Part) (h : List Pos) (growth : Growth) → part ≡ part
 from_hull part h growth p own e query fs (kept, keeps, is) = (kept, keeps, kept_hull h growth own e query.verb kept (subst (IsKeptOf query.verb kept) p is))
 
 -- ---- and back
-
-pub into_other : (kept : Accumulator) (part : Part) → kept ≡ APart part → (query : Query) (fs : List Feature) → IsAccumulated query fs kept → IsPart query fs part
-into_other kept part e query fs is = let P : Accumulator → Type 0 = IsAccumulated query fs in let (left, keeps, k) = subst P e is in (left, keeps, k.1)
 
 pub into_hull : (kept : Accumulator) (growth : Growth) (h : List Pos) → kept ≡ Hull growth → IsHull (held growth) h → IsHullInRange h h
     → (query : Query) (fs : List Feature) → IsAccumulated query fs kept → IsPart query fs (parts.Hull h)
@@ -179,12 +148,3 @@ accumulated_no_shape query fs kept part m e is =
       of_verb verbs.Extent left part m n e = rw (e) tt
       of_verb verbs.Hull left part m n e = absurd (n refl)
       of_verb verbs.Join left part m n e = absurd (m refl)
-
--- a part that is no hull and no list of entries
-pub no_shape_kept : (part : Part) → IsNoHull part → is_entries part ≡ false → KeepsNoShape part
-no_shape_kept (parts.Offsets a) n e = tt
-no_shape_kept (parts.Count a) n e = tt
-no_shape_kept (parts.Area z) n e = tt
-no_shape_kept (parts.Spread s) n e = tt
-no_shape_kept (parts.Entries es) n e = absurd (true≢false e)
-no_shape_kept (parts.Hull h) n e = n

@@ -1,21 +1,19 @@
 -- With few features and positions, what a part holds is the answer itself.
 -- For `answer_of`.
-use Rattle.std.proofs.Common.{◌≡◌, ℕ, pos, ◌%◌, ◌^◌, ◌<◌, ◌≤◌, ℤ, List, [], ◌∷◌, ◌++◌, length, length-append, map, Option, arith, refl, ap, ◌∙◌, subst}
+use Rattle.std.proofs.Common.{◌≡◌, ℕ, pos, ◌%◌, ◌^◌, ◌<◌, ◌≤◌, ℤ, List, [], ◌∷◌, ◌++◌, length, length-append, arith, ap, ◌∙◌, subst}
 use Rattle.std.specs.List.{AllByRecursion}
 use Rattle.std.proofs.lemmas.List.Elements.{recursion_from_All, All-append}
 use Rattle.std.proofs.lemmas.Grind.{flat_map-append}
 use Rattle.at_geom.specs.declared.shapes.Polygon.{Polygon}
-use Rattle.at_geom.specs.declared.positions.Pos.{Pos}
 use Rattle.at_geom.specs.declared.rectangles.Extent.{Extent}
-use Rattle.at_hull.specs.Hulls.{IsHull}
-use Rattle.at_geom.specs.Shapes.{positions, extent_of, joined, positions_of_polygons, ArePathsInRange, ArePolygonsInRange}
+use Rattle.at_geom.specs.Shapes.{positions, joined, positions_of_polygons, ArePathsInRange, ArePolygonsInRange}
 use Rattle.at_query.specs.declared.query.queries.Verb.{Verb}
 use Rattle.at_query.specs.declared.query.queries.Verb.TheVariants as verbs
 use Rattle.at_query.specs.declared.query.queries.Query.{Query}
 use Rattle.at_query.specs.declared.features.Feature.{Feature}
 use Rattle.at_query.specs.declared.answer.answers.Answer.TheVariants as answers
 use Rattle.at_query.specs.declared.answer.parts.Part.{Part}
-use Rattle.at_query.specs.declared.answer.parts.Part.TheVariants.{Offsets, Count, Area, Spread, Hull}
+use Rattle.at_query.specs.declared.answer.parts.Part.TheVariants.{Count, Area, Hull}
 use Rattle.at_query.specs.Holding.{Holds}
 use Rattle.at_query.specs.Results.{Keeps, all_positions, all_polygons, IsAskedOf, IsResult}
 use Rattle.at_query.specs.Ranges.{IsFeatureInRange, AreFeaturesInRange}
@@ -51,14 +49,6 @@ are_left query fs kept h range few = record {
   positions = omega (arith, fewer_positions kept, kept_weight (Holds query) (λ (f : Feature). positions f.shape) fs kept h, few.positions);
 }
 
-offsets_answer : (a : List ℕ) (verb : Verb) (xs : List Feature) → IsKeptOf verb xs (Offsets a) → IsAskedOf verb xs (answers.Offsets a)
-offsets_answer a verbs.Select xs e = let p : a ≡ map (λ (f : Feature). f.at) xs = cc in ap answers.Offsets p
-offsets_answer a verbs.Count xs e = absurd (cc)
-offsets_answer a verbs.Area xs e = absurd (cc)
-offsets_answer a verbs.Extent xs e = absurd (cc)
-offsets_answer a verbs.Hull xs (h, e, k) = absurd (cc)
-offsets_answer a verbs.Join xs e = absurd (cc)
-
 count_answer : (n : ℕ) (verb : Verb) (xs : List Feature) → AreLeft xs → IsKeptOf verb xs (Count n) → IsAskedOf verb xs (answers.Number (pos n))
 count_answer n verbs.Count xs left e =
     let p : n ≡ length xs % 2 ^ 64 = cc in
@@ -79,22 +69,6 @@ area_answer z verbs.Extent xs left e = absurd (cc)
 area_answer z verbs.Hull xs left (h, e, k) = absurd (cc)
 area_answer z verbs.Join xs left e = absurd (cc)
 
-spread_answer : (z : Option Extent) (verb : Verb) (xs : List Feature) → IsKeptOf verb xs (Spread z) → IsAskedOf verb xs (answers.Spread z)
-spread_answer z verbs.Extent xs e = let p : z ≡ extent_of (all_positions xs) = cc in ap answers.Spread p
-spread_answer z verbs.Select xs e = absurd (cc)
-spread_answer z verbs.Count xs e = absurd (cc)
-spread_answer z verbs.Area xs e = absurd (cc)
-spread_answer z verbs.Hull xs (h, e, k) = absurd (cc)
-spread_answer z verbs.Join xs e = absurd (cc)
-
-hull_answer : (a : List Pos) (verb : Verb) (xs : List Feature) → IsKeptOf verb xs (Hull a) → IsAskedOf verb xs (answers.Hull a)
-hull_answer a verbs.Hull xs (h, e, k) = let p : h ≡ a = cc in (a, refl, subst (λ z. IsHull (all_positions xs) z) p k.0)
-hull_answer a verbs.Select xs e = absurd (cc)
-hull_answer a verbs.Count xs e = absurd (cc)
-hull_answer a verbs.Area xs e = absurd (cc)
-hull_answer a verbs.Extent xs e = absurd (cc)
-hull_answer a verbs.Join xs e = absurd (cc)
-
 pub count_is_exact : (part : Part) (n m : ℕ) → part ≡ Count n → m ≡ n → (query : Query) (fs : List Feature) → IsPart query fs part → AreFeaturesInRange fs → AreFew fs → IsResult query fs (answers.Number (pos m))
 count_is_exact part n m p q query fs (kept, h, e) range few =
     (kept, h, rw (q) (count_answer n query.verb kept (are_left query fs kept h range few) (subst (IsKeptOf query.verb kept) p e)))
@@ -102,12 +76,3 @@ count_is_exact part n m p q query fs (kept, h, e) range few =
 pub area_is_exact : (part : Part) (z : ℤ) → part ≡ Area z → (query : Query) (fs : List Feature) → IsPart query fs part → AreFeaturesInRange fs → AreFew fs → IsResult query fs (answers.Number z)
 area_is_exact part z p query fs (kept, h, e) range few =
     (kept, h, area_answer z query.verb kept (are_left query fs kept h range few) (subst (IsKeptOf query.verb kept) p e))
-
-pub offsets_are_exact : (part : Part) (a : List ℕ) → part ≡ Offsets a → (query : Query) (fs : List Feature) → IsPart query fs part → AreFeaturesInRange fs → AreFew fs → IsResult query fs (answers.Offsets a)
-offsets_are_exact part a p query fs (kept, h, e) range few = (kept, h, offsets_answer a query.verb kept (subst (IsKeptOf query.verb kept) p e))
-
-pub spread_is_exact : (part : Part) (z : Option Extent) → part ≡ Spread z → (query : Query) (fs : List Feature) → IsPart query fs part → AreFeaturesInRange fs → AreFew fs → IsResult query fs (answers.Spread z)
-spread_is_exact part z p query fs (kept, h, e) range few = (kept, h, spread_answer z query.verb kept (subst (IsKeptOf query.verb kept) p e))
-
-pub hull_is_exact : (part : Part) (a : List Pos) → part ≡ Hull a → (query : Query) (fs : List Feature) → IsPart query fs part → AreFeaturesInRange fs → AreFew fs → IsResult query fs (answers.Hull a)
-hull_is_exact part a p query fs (kept, h, e) range few = (kept, h, hull_answer a query.verb kept (subst (IsKeptOf query.verb kept) p e))

@@ -16,10 +16,6 @@ use Rattle.at_hull.specs.Growth.{HaveOneHull}
 use Rattle.at_hull.proofs.OneHull.{one_hull_refl, one_hull_grown}
 use Rattle.at_query.proofs.Hulls.{positions_in_range}
 
--- nothing is added yet
-pub none_grown : {X : Type 0} (f : X → List Pos) (old : List Pos) (xs : List X) → HaveOneHull (old ++ flat_map f (take 0 xs)) old
-none_grown f old xs = subst (λ z. HaveOneHull z old) (sym (append-nil old)) (one_hull_refl old)
-
 more_listed : {X : Type 0} (f : X → List Pos) (xs : List X) (i : ℕ) (x : X) → i < length xs → flat_map f (take (i + 1) xs) ≡ flat_map f (take i xs) ++ f (get_or xs i x)
 more_listed f xs i x lt =
     ap (flat_map f) (take_more xs i x lt) ∙ (flat_map-append f (take i xs) (get_or xs i x ∷ []) ∙ ap (λ z. flat_map f (take i xs) ++ z) (append-nil (f (get_or xs i x))))

@@ -20,10 +20,6 @@ keeps_parts P (x ∷ xs) ys zs (inr (n, h)) =
     let (vs, ws, same, a, b) = keeps_parts P xs ys zs h in
     (vs, ws, same, inr (n, a), b)
 
--- what has no elements keeps none
-pub keeps_none : {X : Type 0} (P : X → Type 0) → Keeps P [] []
-keeps_none P = refl
-
 pub keeps_one : {X : Type 0} (P : X → Type 0) (x : X) → P x → Keeps P (x ∷ []) (x ∷ [])
 keeps_one P x p = inl (p, ([], refl, refl))
 

@@ -183,21 +183,6 @@ module _ {X Y : Type 0} (P : X → ℕ → List ℕ → Type 0) (Q : Y → ℕ �
     dead = λ x v r p on. let (z, ex, q) = t.from x i v p in h.dead z v r q on;
   }
 
-  pub told_covers : (y : Y) → Covers Q w i y → Covers P w i (f i y)
-  told_covers y h = record {
-    within = h.within;
-    sound = t.to y i (drop i w) h.sound;
-    only = λ x p. let (z, ex, q) = t.from x i (drop i w) p in ex ∙ ap (f i) (h.only z q);
-  }
-
-  pub told_breaks : (n : ℕ) → Breaks Q w i n → Breaks P w i n
-  told_breaks n h = record {
-    order = h.order;
-    within = h.within;
-    viable = (let (y, more, q) = h.viable in (f i y, more, t.to y i (between w i n ++ more) q));
-    dead = λ x v p on. let (z, ex, q) = t.from x i v p in h.dead z v q on;
-  }
-
 -- ---- a part that is chosen by its first byte
 
 -- the words of P that begin with a byte that passes are those of Q, with other values
@@ -257,9 +242,6 @@ none_stops P test w i begins lives within fails =
     }
 
 -- ---- words
-
-pub word_lives : (word : List ℕ) → Lives (Word word)
-word_lives word at = (tt, word, refl)
 
 pub word_ends : (w : List ℕ) (i j : ℕ) (word : List ℕ) → WordStands w i j word → Ends (Word word) w i j tt
 word_ends w i j word h = record {

@@ -1,6 +1,6 @@
 -- The verbs, and a whole query line: what it says, and what is wrong with it.
 -- For `read_query`.
-use Rattle.std.proofs.Common.{◌≡◌, ℕ, ◌+◌, ◌≤◌, ◌==◌, ◌||◌, ◌&&◌, nat_lt, nat_le, ◌⊎◌, inl, inr, Bool, true, false, not, min, if◌then◌else◌, is_none, List, [], ◌∷◌, ◌++◌, length, take, drop, map, flat_map, codes, Option, Some, None, option_map, option_to_list, Result, Ok, Err, ℤ, refl, sym, ◌∙◌, ap, subst, arith}
+use Rattle.std.proofs.Common.{◌≡◌, ℕ, ◌+◌, ◌≤◌, ◌==◌, ◌||◌, ◌&&◌, nat_lt, nat_le, ◌⊎◌, inl, inr, Bool, true, false, not, min, if◌then◌else◌, is_none, List, [], ◌∷◌, ◌++◌, length, take, map, flat_map, codes, Option, Some, None, option_map, option_to_list, Result, Ok, Err, ℤ, refl, sym, ◌∙◌, ap, subst, arith}
 use Rattle.std.specs.Option.{IfSome}
 use Rattle.std.specs.List.{AllByRecursion}
 use Rattle.at_text.specs.declared.faults.Fault.{Fault}
@@ -265,8 +265,6 @@ module _ (digits : ℕ) (how : Coords) where
   whole_of q v (v1, v2, ev, hv, s) = (v1, v2, ev, hv, (q.tests, refl, s))
 
   module _ (w : List ℕ) where
-    all_of : drop 0 w ≡ w
-    all_of = refl
 
     pub query_breaks : (n : ℕ) → Breaks Whole w 0 n → IsNoQuery digits how w n
     query_breaks n h = record {

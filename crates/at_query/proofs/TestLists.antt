@@ -1,6 +1,6 @@
 -- Tests behind one another, each behind its word, up to the end of the text.
 -- For `read_query`.
-use Rattle.std.proofs.Common.{◌≡◌, ℕ, ◌+◌, ◌<◌, ◌≤◌, ◌⊎◌, inl, inr, List, [], ◌∷◌, ◌++◌, length, drop, map, codes, Option, None, refl, sym, ◌∙◌, ap, subst, arith, append-nil, append_assoc, length-append, lit<}
+use Rattle.std.proofs.Common.{◌≡◌, ℕ, ◌+◌, ◌<◌, ◌≤◌, ◌⊎◌, inl, inr, List, [], ◌∷◌, ◌++◌, length, drop, map, codes, Option, refl, sym, ◌∙◌, ap, subst, arith, append-nil, append_assoc, length-append, lit<}
 use Rattle.std.proofs.lemmas.List.{drop_all}
 use Rattle.at_text.specs.Parts.{Exactly}
 use Rattle.at_fixed.specs.declared.rounding.Coords.{Coords}
@@ -44,9 +44,6 @@ fault_more (n ∷ ms) m = ap (lesser n.fault) (fault_more ms m) ∙ sym (lesser-
 
 pub joint_is : (items : List Test) (ms : List TestMeaning) (word : List ℕ) → items ≡ tests_of ms → word ≡ joint_of items → word ≡ joint_of ms
 joint_is items ms word e f = f ∙ (ap joint_of e ∙ joint_map ms)
-
-pub joint_some : (items : List Test) (word : List ℕ) → word ≡ joint_of items → 0 < length word
-joint_some items word e = let long : 0 < length (joint_of items) = joint_long items in omega (arith, long, ap length e)
 
 module _ (digits : ℕ) (how : Coords) where
   -- a test behind its word, and behind it further ones
@@ -120,9 +117,6 @@ module _ (digits : ℕ) (how : Coords) where
     pub fault_is : fault ≡ fault_of done
     pub covers : (ms : List TestMeaning) → Covers (Tests digits how (joint_of done)) w at ms → Covers (Tests digits how (codes " where ")) w start (done ++ ms)
     pub breaks : (n : ℕ) → Breaks (Tests digits how (joint_of done)) w at n → Breaks (Tests digits how (codes " where ")) w start n
-
-  pub at_start : (w : List ℕ) (start : ℕ) (items : List Test) → start ≤ length w → items ≡ [] → SoFar w start start items None
-  at_start w start items within e = record { within = within; done = []; items_are = e; fault_is = refl; covers = λ ms h. h; breaks = λ n h. h }
 
   module _ (w : List ℕ) (start at : ℕ) (items : List Test) (fault : Option ℕ) (h : SoFar w start at items fault) where
     pub at_end : length w ≤ at → TestsCover digits how w start items fault

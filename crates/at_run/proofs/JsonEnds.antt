@@ -62,8 +62,3 @@ module _ (asked : Asked) (bytes : List ℕ) where
       let P : Option Fault → Type 0 = λ o. HasJsonFaultBehind asked.digits asked.how o bytes (Some fault) in
       subst P (sym valid) h
   json_ended (Err Memory) valid h = tt
-
-  pub json_encoded : (fault : Fault) → utf8_fault bytes ≡ Some fault → HasJsonFileFault asked.digits asked.how bytes (Some fault)
-  json_encoded fault found =
-      let P : Option Fault → Type 0 = λ o. HasJsonFaultBehind asked.digits asked.how o bytes (Some fault) in
-      subst P (sym found) refl

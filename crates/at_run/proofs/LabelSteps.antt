@@ -1,6 +1,6 @@
 -- What the reader of a label finds of a line: where a label stands, and that no line goes on where none does.
 -- For `answer`, `answer_join`, `finish_pieces`, `join_into` and `part`.
-use Rattle.std.proofs.Common.{◌≡◌, ℕ, zero, suc, ◌+◌, ◌-◌, ◌<◌, ◌≤◌, inl, inr, true, List, [], ◌∷◌, ◌++◌, length, take, drop, slice_index, flat_map, codes, Option, Some, None, refl, sym, ◌∙◌, ap, subst, arith, append-nil, append_assoc, length-append, length-take, length-drop, take-append-drop, take-take, drop-drop, lit≤}
+use Rattle.std.proofs.Common.{◌≡◌, ℕ, zero, suc, ◌+◌, ◌-◌, ◌<◌, ◌≤◌, inl, inr, List, [], ◌∷◌, ◌++◌, length, take, drop, slice_index, flat_map, codes, Option, Some, None, refl, sym, ◌∙◌, ap, subst, arith, append-nil, append_assoc, length-append, length-take, length-drop, take-append-drop, take-take, drop-drop, lit≤}
 use native.Mathlib.Decide.{dec_lt}
 use Rattle.std.proofs.Math.Seq.{take-length}
 use Rattle.std.proofs.lemmas.List.{drop_more, drop-take, get_or-take}
@@ -10,10 +10,9 @@ use Rattle.at_text.specs.declared.faults.Fault.{Fault}
 use Rattle.at_text.specs.Prefix.{Viable, LongestViable}
 use Rattle.at_text.specs.Spans.{span_of}
 use Rattle.at_text.specs.Syntax.{IsSyntaxFault, stop_fault}
-use Rattle.at_lex.specs.Fronts.{IsFront}
 use Rattle.at_lex.specs.Strings.{Character, character_text, SpellsString}
-use Rattle.at_lex.proofs.FrontLemmas.{front_all, suffix_is}
-use Rattle.at_wkt.specs.Geometry.{Geometry, point, is_blank, SpellsGeometry, IsLineOf, WktLine}
+use Rattle.at_lex.proofs.FrontLemmas.{suffix_is}
+use Rattle.at_wkt.specs.Geometry.{Geometry, point, SpellsGeometry, IsLineOf, WktLine}
 use Rattle.at_wkt.proofs.Leads.{append_cases}
 use Rattle.at_fixed.specs.NumberSoFar.{between}
 use Rattle.at_query.specs.Readers.{Text, Stops, past, over}
@@ -80,39 +79,14 @@ without_quote text none a v ha (t, q) e =
       byte = ap (λ z. slice_index z (length a)) whole ∙ byte_behind a t 0x22;
     })
 
-pub quote_here : (text : List ℕ) (n : ℕ) → IsFront is_blank text n → n < length text → slice_index text n ≡ 0x22 → QuoteStands text n
-quote_here text n h inside byte = record { inside = inside; blanks = front_all is_blank text n h; byte = byte }
-
--- blanks end where a byte stands that is none
-one_place : (text : List ℕ) (n : ℕ) → IsFront is_blank text n → (quote : ℕ) → QuoteStands text quote → quote ≡ n
-one_place text n h quote q = elim (dec_lt quote n) [
-  | yes less ↦ absurd (let blank = h.passes quote less in let e = ap is_blank q.byte in cc)
-  | no far ↦ elim (dec_lt n quote) [
-    | yes less ↦ absurd (let b = passed (take quote text) n q.blanks (omega (arith, less, front_length text quote (let i = q.inside in omega (arith, i)))) in
-        let same = taken_byte text quote n less in
-        let stop = h.stops (let i = q.inside in omega (arith, i, less)) in cc)
-    | no near ↦ omega (arith, far, near)
-  ]
-] where
-  passed : (w : List ℕ) (k : ℕ) → AreBlanks w → k < length w → is_blank (slice_index w k) ≡ true
-  passed [] k hw less = absurd (omega (arith, less))
-  passed (b ∷ w) zero hw less = hw.0
-  passed (b ∷ w) (suc k) hw less = passed w k hw.1 (omega (arith, less))
-
   taken_byte : (w : List ℕ) (n k : ℕ) → k < n → slice_index (take n w) k ≡ slice_index w k
   taken_byte w n k less = get_or-take n w k 0 less
-
-pub no_quote_here : (text : List ℕ) (n : ℕ) → IsFront is_blank text n → (slice_index text n ≡ 0x22 → ⊥) → QuoteIs text None
-no_quote_here text n h other quote q = let e = one_place text n h quote q in other (ap (slice_index text) (sym e) ∙ q.byte)
 
 -- nor does one begin a front of bytes that begin with a letter
 pub plain_front : (b : ℕ) (t : List ℕ) (n : ℕ) → 0x22 < b → QuoteIs (take n (b ∷ t)) None
 plain_front b t zero h quote q = let i = q.inside in omega (arith, i)
 plain_front b t (suc n) h zero q = let e = q.byte in omega (arith, e, h)
 plain_front b t (suc n) h (suc quote) q = let blank = q.blanks.0 in absurd (grind (arith, blank, h))
-
-pub no_quote_at_end : (text : List ℕ) (n : ℕ) → IsFront is_blank text n → n ≡ length text → QuoteIs text None
-no_quote_at_end text n h end quote q = let e = one_place text n h quote q in let i = q.inside in omega (arith, e, end, i)
 
 -- ---- a line without a label
 

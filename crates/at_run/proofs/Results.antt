@@ -1,16 +1,14 @@
--- The part of a file has an answer, and that is the exact answer over the file's features.
+-- The answer that is made of the part of a file is the exact answer over the file's features.
 -- For `answer`.
-use Rattle.std.proofs.Common.{◌≢◌, ℕ, ◌^◌, ◌≤◌, List, length, refl, sym, subst}
+use Rattle.std.proofs.Common.{ℕ, ◌^◌, ◌≤◌, List, length, sym, subst}
 use Rattle.at_fixed.specs.declared.rounding.Coords.{Coords}
-use Rattle.at_query.specs.declared.query.queries.Verb.{Verb}
-use Rattle.at_query.specs.declared.query.queries.Verb.TheVariants.{Select, Count, Area, Extent, Hull, Join}
 use Rattle.at_query.specs.declared.query.queries.Query.{Query}
 use Rattle.at_query.specs.declared.features.Feature.{Feature}
 use Rattle.at_query.specs.declared.answer.parts.Part.{Part}
 use Rattle.at_query.specs.declared.answer.answers.Answer.{Answer}
 use Rattle.at_query.specs.Ranges.{AreFeaturesInRange}
 use Rattle.at_query.specs.Results.{IsResult}
-use Rattle.at_query.specs.Parts.{IsKeptOf, IsPart, IsAnswerable, AreFew}
+use Rattle.at_query.specs.Parts.{IsPart, AreFew}
 use Rattle.at_geojson.specs.Roles.{features_of}
 use Rattle.at_run.specs.declared.forms.Form.{Form}
 use Rattle.at_run.specs.declared.forms.Form.TheVariants.{GeoJson, Wkt}
@@ -19,18 +17,6 @@ use Rattle.at_run.specs.Answers.{IsFilePart, IsFileAnswer}
 use Rattle.at_run.proofs.FileSizes.{few_of_size, file_features_few, file_features_in_range}
 use Rattle.at_run.proofs.JsonSizes.{json_features_size}
 use Rattle.at_run.proofs.JsonFeatures.{json_features_in_range}
-
-kept_answerable : (verb : Verb) (fs : List Feature) (part : Part) → verb ≢ Join → IsKeptOf verb fs part → IsAnswerable part
-kept_answerable Select fs part h e = rw (e) tt
-kept_answerable Count fs part h e = rw (e) tt
-kept_answerable Area fs part h e = rw (e) tt
-kept_answerable Extent fs part h e = rw (e) tt
-kept_answerable Hull fs part h (hull, e, k) = rw (e) tt
-kept_answerable Join fs part h e = absurd (h refl)
-
--- so the part of such a query can be handed to `answer_of`
-pub part_answerable : (query : Query) (fs : List Feature) (part : Part) → query.verb ≢ Join → IsPart query fs part → IsAnswerable part
-part_answerable query fs part h (kept, keeps, e) = kept_answerable query.verb kept part h e
 
 module _ (digits : ℕ) (how : Coords) (bytes : List ℕ) (fs : List Feature) where
   -- a file has few features
@@ -43,9 +29,6 @@ module _ (digits : ℕ) (how : Coords) (bytes : List ℕ) (fs : List Feature) wh
   features_in_range GeoJson (t, is, same) = subst AreFeaturesInRange (sym same) (json_features_in_range digits how t)
 
 module _ (form : Form) (digits : ℕ) (how : Coords) (query : Query) (bytes : List ℕ) (part : Part) (h : IsFilePart form digits how query bytes part) where
-  -- it can be handed to `answer_of`
-  pub file_answerable : query.verb ≢ Join → IsAnswerable part
-  file_answerable no_join = part_answerable query h.features part no_join h.is_part
 
   -- what `answer_of` ensures of its answer, over the features of the file
   pub file_result : (answer : Answer) → length bytes ≤ 2 ^ 28 → ((query : Query) (fs : List Feature) → IsPart query fs part → AreFeaturesInRange fs → AreFew fs → IsResult query fs answer)

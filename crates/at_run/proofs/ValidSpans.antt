@@ -6,7 +6,7 @@ use Rattle.std.specs.Str.Lossy.{utf8_valid_len, valid_len_up_to}
 use Rattle.std.proofs.lemmas.List.{drop-take, take_rest}
 use Rattle.std.proofs.lemmas.Str.{IsUtf8-nil, IsUtf8-append, IsUtf8-from_is_utf8, is_utf8-from_IsUtf8, utf8_valid_len_le, utf8_valid_len-IsUtf8}
 use Rattle.at_text.specs.Faults.{fault_at}
-use Rattle.at_text.specs.Spans.{span_of, StandsAt, AreNeighbours, IsMerged}
+use Rattle.at_text.specs.Spans.{span_of, StandsAt, IsMerged}
 use Rattle.at_text.specs.Texts.{utf8_fault}
 use Rattle.at_text.specs.declared.faults.Fault.{Fault}
 use Rattle.at_text.specs.declared.faults.FaultKind.TheVariants.{NotUtf8}
@@ -121,17 +121,6 @@ module _ (bytes : List ℕ) where
       let ij = n.first in let jk = n.second in let end = n.within in let l = n.left in let r = n.right in
       let l_ends : left.to ≤ j = ends_in i j left ij (omega (arith, jk, end)) l in
       stands_in i k left end l.begins l.order (omega (arith, l_ends, jk)) (utf8_in i j left ij (omega (arith, jk, end)) l)
-
-  -- between two neighbours
-  pub between_order : (left right : Span) → ((i : ℕ) × (j : ℕ) × (k : ℕ) × AreNeighbours IsValidIn bytes i j k left right) → left.to ≤ right.from
-  between_order left right (i, j, k, n) =
-      let ij = n.first in let jk = n.second in let end = n.within in let l = n.left in let r = n.right in
-      let l_ends : left.to ≤ j = ends_in i j left ij (omega (arith, jk, end)) l in let r_begins = r.begins in omega (arith, l_ends, r_begins)
-
-  pub between_ends : (left right : Span) → ((i : ℕ) × (j : ℕ) × (k : ℕ) × AreNeighbours IsValidIn bytes i j k left right) → right.from ≤ length bytes
-  between_ends left right (i, j, k, n) =
-      let ij = n.first in let jk = n.second in let end = n.within in let l = n.left in let r = n.right in
-      let r_ends : right.to ≤ k = ends_in j k right jk end r in let r_order = r.order in omega (arith, r_ends, r_order, end)
 
   -- ---- the whole file
 

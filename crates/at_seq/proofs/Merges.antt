@@ -1,6 +1,6 @@
 -- What is read of a span, and what two neighbouring spans give.
 -- For the laws of the definitions.
-use Rattle.std.proofs.Common.{◌≡◌, ℕ, ◌+◌, ◌-◌, ◌<◌, ◌≤◌, List, [], ◌∷◌, ◌++◌, length, refl, sym, ◌∙◌, ap, subst, arith, append_assoc}
+use Rattle.std.proofs.Common.{◌≡◌, ℕ, ◌+◌, ◌-◌, ◌<◌, ◌≤◌, List, [], ◌∷◌, ◌++◌, length, sym, ◌∙◌, ap, subst, arith, append_assoc}
 use Rattle.std.specs.List.{position_or_len}
 use Rattle.at_text.specs.Spans.{span_of, AreNeighbours, IsMerged}
 use Rattle.at_text.specs.declared.texts.Span.{Span}
@@ -40,9 +40,6 @@ module _ (asked : Asked) (bytes : List ℕ) where
     pub kept : IsGathered asked gathered (records_in inner)
     pub begins : i ≤ start
     pub ends : start ≤ k
-
-  pub none_read : (i k : ℕ) (kept : Gathered) → i ≤ k → IsGathered asked kept [] → ReadSoFar i k i kept
-  none_read i k kept h empty = record { inner = []; split = refl; kept = empty; begins = omega arith; ends = h }
 
   module _ (i k start : ℕ) (kept : Gathered) (h : ReadSoFar i k start kept) (within : k ≤ length bytes) (p : ℕ) (first : p ≡ position_or_len is_separator (span_of bytes start k)) where
     pub more_read : (next : Gathered) → start + p < k → AddsRecords asked kept (records_in (piece_in bytes start (start + p) ∷ [])) next → ReadSoFar i k (start + p + 1) next

@@ -140,12 +140,6 @@ module _ (asked : Asked) (bytes : List ℕ) where
   ended (Kept kept) (Some fault) result valid head_is (none, part_is) e = subst Ended (sym e) (first_behind (Some fault) None (Some fault) valid head_is none refl)
   ended (Failed fault) head result valid head_is h (first, e, is) = subst Ended (sym e) (first_behind head (Some fault) (Some first) valid head_is h is)
 
-  -- that of the encoding comes first
-  pub encoding_ended : (fault : Fault) → Some fault ≡ utf8_fault bytes → HasSeqFault asked.digits asked.how bytes (Some fault)
-  encoding_ended fault found =
-      let P : Option Fault → Type 0 = λ o. HasSeqFaultBehind asked.digits asked.how o bytes (Some fault) in
-      subst P found refl
-
 -- what stands for all bytes of the reader's file, as a crew says it
 pub whole_stands : (asks : SeqAsks) (whole : SeqFragment) → StandsAt (StandsInFile asks) asks.bytes (base_of asks.bytes) (length asks.bytes) whole → HoldsFragment asks.asked asks.bytes (base_of asks.bytes) (length asks.bytes) whole
 whole_stands asks whole h =

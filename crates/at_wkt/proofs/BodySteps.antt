@@ -158,10 +158,6 @@ ring_inhabited d at h =
     let (xs, v, q) = items_inhabited SpellsPosition position_lives d (at + 1) h in
     (record { at = at; items = xs }, 0x28 ∷ v, (refl, (brackets_same SpellsPosition).to d xs at (0x28 ∷ v) (0x28 ∷ [], v, refl, refl, q)))
 
--- a position, EMPTY or a position in brackets
-member_opens : ℕ → Bool
-member_opens b = opens b
-
 module _ where
   pub member_when : When SpellsPointMember SpellsPoint (λ at p. p) opens
   member_when = record {

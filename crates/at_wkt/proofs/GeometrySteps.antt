@@ -36,9 +36,6 @@ joined-none m =
     ∙ (ap (λ z. meaning m.shape.points m.shape.lines z (m.faults ++ [])) (append-nil m.shape.polygons)
     ∙ ap (λ z. meaning m.shape.points m.shape.lines m.shape.polygons z) (append-nil m.faults)))
 
-pub none-joined : (m : Meaning) → joined no_meaning m ≡ m
-none-joined m = refl
-
 -- ---- parts in which the counts of numbers bind nothing
 
 pub free_spelt : {X : Type 0} (P : X → ℕ → List ℕ → Type 0) (base : ℕ) (w : List ℕ) (i j : ℕ) (c c' : Dimension) (x : X) → HasCount c' → Spelt (λ d. P) base w i c j c x → Spelt (λ d. P) base w i c' j c' x

@@ -72,9 +72,6 @@ module _ (w : List ℕ) (i : ℕ) where
     each (a, (b, (c, (d, (e, (f, (g, z))))))) MultiPolygon = f
     each (a, (b, (c, (d, (e, (f, (g, z))))))) GeometryCollection = g
 
-  pub max_cases : (a b m : ℕ) → a ≤ m → b ≤ m → (m ≡ a) ⊎ (m ≡ b) → (a ≤ m) × (b ≤ m) × ((m ≡ a) ⊎ (m ≡ b))
-  max_cases a b m h k e = (h, k, e)
-
 abbrev pub kinds : List Kind
 kinds = Point ∷ LineString ∷ Polygon ∷ MultiPoint ∷ MultiLineString ∷ MultiPolygon ∷ GeometryCollection ∷ []
 

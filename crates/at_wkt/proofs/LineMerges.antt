@@ -217,13 +217,6 @@ module _ {P : Type 0} (IsOwn : P → Type 0) (IsFold : P → List FileLine → T
     pub behind_has : (whole : WholeLines P) (h : HoldsLines IsKept at (drop at bytes) whole) → HasPiece bytes whole.behind h.last
     behind_has whole h = whole_has (h.first ∷ h.inner) h.last [] whole.behind h.pieces h.behind
 
-    pub piece_finished : (span : Span) (none part : P) → HoldsPiece at (drop at bytes) span → IsFold none []
-        → AddsLines IsFold none (lines_in (record { at = span.from; text = span_of bytes span.from span.to } ∷ [])) part → IsFold part (lines_in (pieces_from at (drop at bytes)))
-    piece_finished span none part h empty adds =
-        let has = piece_has span h in
-        let e : lines_in (record { at = span.from; text = span_of bytes span.from span.to } ∷ []) ≡ lines_in (pieces_from at (drop at bytes)) = ap (λ (z : FileLine). lines_in (z ∷ [])) has.line ∙ ap lines_in (sym h.0) in
-        subst (λ (z : List FileLine). IsFold part z) e (adds [] empty)
-
     pub lines_finished : (whole : WholeLines P) (none first joined part : P) → HoldsLines IsKept at (drop at bytes) whole → IsFold none []
         → AddsLines IsFold none (lines_in (record { at = whole.before.from; text = span_of bytes whole.before.from whole.before.to } ∷ [])) first
         → ((before behind : List FileLine) → IsFold first before → IsFold whole.part behind → IsFold joined (before ++ behind))
@@ -293,11 +286,6 @@ module _ {P : Type 0} (IsOwn : P → Type 0) (IsFold : P → List FileLine → T
       kept = h.kept;
       within = h.within;
     }
-
-  pub folded_none : (at : ℕ) (bytes : List ℕ) (none : P) → IsOwn none → IsFold none [] → FoldedSoFar at bytes 0 none
-  folded_none at bytes none own empty =
-      let e : at ≡ at + 0 = omega arith in
-      record { inner = []; split = ap (λ n. pieces_from n bytes) e; kept = (own, empty); within = omega arith }
 
   -- a piece with a line feed
   pub whole_read : (base : ℕ) (piece : List ℕ) (first : ℕ) (before behind : Span) (read : Inner P) → first ≡ position_or_len is_line_feed piece → first < length piece

@@ -38,9 +38,6 @@ second_inhabited d at h = let (last, v, q) = further_inhabited d (at + 1) h in (
 gap_inhabited : Inhabited (Gap SecondNumber)
 gap_inhabited d at h = let (y, v, q) = second_inhabited d (at + 1) h in (y, 0x20 ∷ v, (0x20 ∷ [], v, refl, ((λ e. cc), (refl, tt)), q))
 
-two_inhabited : Inhabited TwoNumbers
-two_inhabited d at h = let (y, v, q) = gap_inhabited d (at + 1) h in (((nought, at), y), 0x30 ∷ v, (0x30 ∷ [], v, refl, (refl, (nought_numeral, refl)), q))
-
 pub ended_begins : Begins begins_number EndedPosition
 ended_begins d p at v h = let (y, e, q) = position_same.from d p at v h in number_begins (λ p. Gap SecondNumber) d y at v q
 

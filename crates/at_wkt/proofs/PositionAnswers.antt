@@ -25,11 +25,6 @@ use Rattle.at_text.proofs.Exits.{answers_by}
 use Rattle.at_wkt.proofs.FaultOrder.{first_of-append}
 
 module _ (w : List ℕ) (j m : ℕ) (c : Dimension) (k : ℕ) (skips : SkipsBlanks w j m) (reaches : Reaches c k) (two : 2 ≤ k) where
-  FurtherOk : NumbersRead → Type 0
-  FurtherOk read = (base : ℕ) → Spelt (FurtherNumbers k) base w j c read.behind.at read.behind.dimension read.is_last
-
-  FurtherErr : ℕ → Type 0
-  FurtherErr n = (base : ℕ) → Stuck (FurtherNumbers k) base w j c n
 
   -- a delimiter ends the position, or comes too early
   pub further_ended : m < length w → is_delimiter (next w m) ≡ true → (r : Result NumbersRead Halt)
