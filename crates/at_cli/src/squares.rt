@@ -8,7 +8,7 @@ ghost use Rattle.at_cli.specs.Squares.{AreRowTexts};
 use itoa::Buffer;
 use std::alloc::{AllocError, Global};
 
-/// The numbers of a row's lower and upper edge, each between its
+/// The numbers of a row's lower and upper edge, each between the texts that stand round it.
 #[derive(Drop)]
 pub struct RowTexts {
     pub row: u32,

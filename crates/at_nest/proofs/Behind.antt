@@ -20,6 +20,7 @@ use Rattle.at_nest.specs.VariantMeanings.{HoldsVariant, HaveUnion}
 use Rattle.at_nest.specs.FragmentMeanings.{HoldsEscape, HoldsParts, HoldsSome, StandsFor, parts_of}
 use Rattle.at_nest.specs.Slots.{end_in, slot_in, IsSame, Stays, HoldsIn, CanTake, Takes, GoesOn, AreBeside}
 use Rattle.at_nest.proofs.UnionsHeld.{broken_union}
+use Rattle.at_nest.proofs.WholeTexts.{part_part}
 
 -- ---- an escaped byte that is no quote and no backslash
 
@@ -142,13 +143,10 @@ pub part_joined : (bytes : List ℕ) (i j k : ℕ) → i ≤ j → j ≤ k → s
 part_joined bytes i j k h g = let e : i + (j - i) ≡ j = omega arith in let f : (j - i) + (k - j) ≡ k - i = omega arith in
     ap (λ z. span_of bytes i j ++ take (k - j) (drop z bytes)) (sym e) ∙ (ap (λ z. span_of bytes i j ++ take (k - j) z) (sym (drop-drop (j - i) i bytes)) ∙ (parts_joined (drop i bytes) (j - i) (k - j) ∙ ap (λ z. take z (drop i bytes)) f))
 
-pub is_part : (bytes : List ℕ) (i k : ℕ) → i ≤ k → k ≤ length bytes → IsPartOf bytes i (span_of bytes i k)
-is_part bytes i k h g = (take i bytes, drop (k - i) (drop i bytes), sym (ap (λ z. take i bytes ++ z) (take-append-drop (k - i) (drop i bytes)) ∙ take-append-drop i bytes), sym (length-take-le i bytes (omega arith)))
-
 module _ {A X : Type 0} (IsKept : X → Content → Type 0) where
   pub parts_beside : (bytes : List ℕ) (i j k : ℕ) (left right : Fragment A X) (l r : Parts X) → parts_of left ≡ Some l → parts_of right ≡ Some r → AreNeighbours (StandsFor IsKept) bytes i j k left right → AreBeside IsKept bytes i (span_of bytes i j) (span_of bytes j k) l r
   parts_beside bytes i j k left right l r e f n = let h = n.first in let g = n.second in let m = n.within in (
-    subst (IsPartOf bytes i) (sym (part_joined bytes i j k h g)) (is_part bytes i k (omega (arith, h, g)) m),
+    subst (IsPartOf bytes i) (sym (part_joined bytes i j k h g)) (part_part bytes i k (omega (arith, h, g)) m),
     subst (HoldsSome IsKept i (span_of bytes i j)) e n.left,
     subst (λ at. HoldsParts IsKept at (span_of bytes j k) r) (sym (part_length bytes i j h (omega (arith, g, m)))) (subst (HoldsSome IsKept j (span_of bytes j k)) f n.right),
   )

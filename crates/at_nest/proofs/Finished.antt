@@ -19,7 +19,7 @@ use Rattle.at_nest.specs.Walks.{an_opener, value_kind, text_kind, kind_of, at_of
 use Rattle.at_nest.proofs.Walks.{Reads, Halted, walk_reads, walk_halts, spaces_read, no_walk, reached_is, cases, spaces_apart, swap}
 use Rattle.at_nest.proofs.Joins.{same_split, at_end}
 use Rattle.at_nest.specs.Levels.{Mode, at_items, at_value, at_after, at_members, at_name, at_colon, at_member, at_further, full, first_mode, moves, Level, Form, marks, opened, pieces_of, Pushed, further, stopped, SpanStop, Within, at_first, in_run, in_text}
-use Rattle.at_nest.proofs.Pushes.{AreLevels, IsForm, IsStop, IsPushed, IsDeadHere, IsBegun, IsRunBegun, IsTextBegun, moves_walk}
+use Rattle.at_nest.proofs.Pushes.{AreLevels, IsForm, IsStop, IsPushed, IsDeadHere, IsBegun, IsRunBegun, IsTextBegun, moves_walk, same_length}
 use Rattle.at_nest.proofs.Begun.{run_goes, run_halts, text_goes_on, text_stops}
 pub use Rattle.at_nest.specs.Answers.{Answer, folded, syntax, ended, single, folded_or, by_walk, choose, halt_place, stop_by, finished, IsAnswer}
 
@@ -172,9 +172,6 @@ goes_viable w t e = let (v, k) = lives t in (v, (accepted-JsonText 0 (w ++ v)).0
       | inl n ↦ absurd (none-some t (sym (ap (option_and_then (λ x. go x u)) n) ∙ e))
       | inr (q, f) ↦ (q, f, run_accepted q t u v (sym (ap (option_and_then (λ x. go x u)) f) ∙ e) k)
     ]
-
-same_length : (i k : ℕ) (x y : List ℕ) → i ≡ k + length x → i ≡ k + length y → length x ≡ length y
-same_length i k x y e f = omega (arith, e, f)
 
 -- a byte that no bytes before make viable stops the machine, where the machine comes to it
 dead_stops : (at i : ℕ) (w u : List ℕ) (b : ℕ) (o : List ℕ) (l : State) → IsDeadHere at w i → w ≡ u ++ (b ∷ o) → i ≡ at + length u → go (value []) u ≡ Some l → step l b ≡ None

@@ -26,7 +26,7 @@ dead_right at w y i h = record {
   dead = λ x out xapart. h.dead x out (apart_front x w y xapart);
 }
 
-apart_both : (x w y : List ℕ) → are_apart x (w ++ y) ≡ true → are_apart w y ≡ true → are_apart (x ++ w) y ≡ true
+pub apart_both : (x w y : List ℕ) → are_apart x (w ++ y) ≡ true → are_apart w y ≡ true → are_apart (x ++ w) y ≡ true
 apart_both x [] y h k = ap (λ z. are_apart z y) (append-nil x) ∙ h
 apart_both x (c ∷ w) y h k = ap (λ b. not (b && begins_run y)) (ends_append x c w) ∙ k
 
@@ -99,10 +99,6 @@ push_all_ok m (p ∷ ps) at w x f h (a, v, r, d, ha, hp, hap, hf) ap1 =
 
 -- ---- the merge
 
-apart_stop : (w f y : List ℕ) → are_apart w (f ++ y) ≡ true → are_apart f y ≡ true → are_apart (w ++ f) y ≡ true
-apart_stop w [] y h k = ap (λ z. are_apart z y) (append-nil w) ∙ h
-apart_stop w (c ∷ f) y h k = ap (λ b. not (b && begins_run y)) (ends_append w c f) ∙ k
-
 pub merged_ok : {X : Type 0} (m : Meaning X) (at : ℕ) (w x : List ℕ) (left right : Pushed X) → IsPushed m at w left → IsPushed m (at + length w) x right → end_of Out w ≡ Out → are_apart w x ≡ true → IsPushed m at (w ++ x) (merged m left right)
 merged_ok m at w x (stopped f i) right h k out ap1 = stop_right m at w x f i h
 merged_ok m at w x (further f) (further g) h k out ap1 = push_all_ok m (pieces_of g) at w x f h k.formed ap1
@@ -125,6 +121,6 @@ merged_ok m at w x (further f) (stopped g i) h k out ap1 =
       item = k.item ∙ ap (λ n. n + length k.spaces) (at_end at w k.front);
       place = k.place;
       is_begun = k.is_begun;
-      apart = apart_stop w k.front behind ap2 k.apart;
+      apart = apart_both w k.front behind ap2 k.apart;
       dead = subst (λ z. IsDeadHere at z i.place) all (dead_left at w x i.place out ap1 k.dead);
     }))

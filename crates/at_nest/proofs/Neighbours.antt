@@ -23,7 +23,8 @@ use Rattle.at_nest.specs.KeptItems.{Content, EachNamed, AreRow, free, EachPiece,
 use Rattle.at_nest.specs.Reading.{IsPlaced, Reads}
 use Rattle.at_nest.specs.VariantMeanings.{Meets}
 use Rattle.at_nest.proofs.Joins.{apart_front}
-use Rattle.at_nest.proofs.Unions.{whole_end, token_of, token_apart, joined_apart, right_place, ends_variant, ends_right, ends_token, apart_pending, union_split, lead_more, lead_bytes, both_apart, ended_by, pending_on, left_nil, ends_broken, right_stops}
+use Rattle.at_nest.proofs.Unions.{whole_end, token_of, token_apart, joined_apart, right_place, ends_variant, ends_right, ends_token, apart_pending, union_split, lead_more, lead_bytes, ended_by, pending_on, left_nil, ends_broken, right_stops}
+use Rattle.at_nest.proofs.Merges.{apart_both}
 
 -- ---- what is kept of a part is kept of the whole
 
@@ -174,7 +175,7 @@ whole_whole s at w1 w2 u f v x g y p h k ends =
       split = union_split w1 w2 u h.middle v x more h.split k.split ∙ ap (λ z. u ++ z) (sym (append_assoc left k.middle y));
       lead = subst (IsLeadEnd s u) (lead_bytes h.middle v x k.middle y) (lead_more s u (h.middle ++ v) (x ++ more) h.lead);
       pending = k.pending;
-      apart = both_apart left k.middle y apart1 k.apart;
+      apart = apart_both left k.middle y apart1 k.apart;
       ended = λ n. ended_by h.middle (v ++ x) k.middle y is_token (k.ended n) n;
     })
 

@@ -18,6 +18,7 @@ use Rattle.at_nest.proofs.Begun.{unlike, pass, run_no_space}
 use Rattle.at_nest.proofs.Longest.{rest_runs}
 use Rattle.at_nest.proofs.Runs.{literal_runs}
 use Rattle.at_nest.proofs.JsonMachine.{regroup, same_byte}
+use Rattle.at_nest.proofs.Steps.{space_no_run}
 
 abbrev head : List ℕ → ℕ
 head [] = 0
@@ -154,13 +155,6 @@ record Same {A : Type 0} (x y : A) (v w r q : List ℕ) : Type 0 where
 record Ends (w : List ℕ) : Type 0 where
   pub no_space : begins is_space w ≡ false
   pub no_run : begins is_run w ≡ false
-
-space_no_run : (b : ℕ) → is_space b ≡ true → is_run b ≡ false
-space_no_run b h = by_bool (is_run b) refl
-  where
-    by_bool : (p : Bool) → is_run b ≡ p → is_run b ≡ false
-    by_bool false e = e
-    by_bool true e = absurd (true≢false (sym h ∙ run_no_space b e))
 
 behind_spaces : (b r : List ℕ) → AreSpaces b → Ends r → begins is_run (b ++ r) ≡ false
 behind_spaces [] r h k = k.no_run

@@ -101,7 +101,7 @@ opens_level : (b : Bracket) (q t : State) → At q Out → step q (opening b) �
 opens_level Square q t h e = opens_square q t h e
 opens_level Brace q t h e = opens_brace q t h e
 
-same_length : (i k : ℕ) (x y : List ℕ) → i ≡ k + length x → i ≡ k + length y → length x ≡ length y
+pub same_length : (i k : ℕ) (x y : List ℕ) → i ≡ k + length x → i ≡ k + length y → length x ≡ length y
 same_length i k x y e f = omega (arith, e, f)
 
 pub halts_after : (s l t : State) (x : List ℕ) (b : ℕ) → go s x ≡ Some l → step l b ≡ None → go s (x ++ (b ∷ [])) ≡ Some t → ⊥

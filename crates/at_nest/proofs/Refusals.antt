@@ -41,9 +41,8 @@ use Rattle.at_nest.proofs.Walks.{Reads, Halted, walk_reads, walk_halts, cases, s
 use Rattle.at_nest.proofs.Lexical.{At, at_run, bracket_number, word_off, not_out_string, not_out_escape}
 use Rattle.at_nest.proofs.Joins.{Cut, formed_cut, formed_append, formed_out, end_append, run_split, viable_runs, apart_front, apart_nothing, apart_join}
 use Rattle.at_nest.proofs.Ran.{start_ran, ran_settled}
-use Rattle.at_nest.proofs.Unions.{both_apart}
 use Rattle.at_nest.proofs.Pushes.{dead_level, level_more, stop_before, halts_after}
-use Rattle.at_nest.proofs.Merges.{stop_right}
+use Rattle.at_nest.proofs.Merges.{stop_right, apart_both}
 use Rattle.at_nest.proofs.TokenStops.{apart_of_run}
 use Rattle.at_nest.proofs.TokenReads.{run_tree}
 use Rattle.at_nest.proofs.Items.{Consumed}
@@ -303,7 +302,7 @@ dead_two {X} m at w front c p refuses f =
           let yout : end_of Out y ≡ Out = end_append Out x cut.front ∙ (ap (λ z. end_of z cut.front) xout ∙ formed_out m at cut.front front cut.first) in
           let at1 : At q Out = subst (At q) yout (at_run (value []) q y Out refl go1) in
           let apart_x : are_apart x (cut.front ++ w1) ≡ true = apart_front x (cut.front ++ w1) (b ∷ (u ++ r2)) (ap (are_apart x) (sym split) ∙ xapart) in
-          let apart_y : are_apart y (d0 ∷ o0) ≡ true = ap (are_apart y) (sym e0) ∙ both_apart x cut.front w1 apart_x apart_w in
+          let apart_y : are_apart y (d0 ∷ o0) ≡ true = ap (are_apart y) (sym e0) ∙ apart_both x cut.front w1 apart_x apart_w in
           let (q2, go3, go4) = run_split q t w1 (b ∷ []) go2 in
           let is_ready : IsReady q (d0 ∷ o0) = ready q q2 y d0 o0 go1 at1 apart_y (ap (go q) (sym e0) ∙ go3) in
           let (s, settled, clear) = is_ready in

@@ -36,7 +36,7 @@ literal_runs the_null = (refl, (refl, (refl, (refl, tt))))
 literal_runs the_true = (refl, (refl, (refl, (refl, tt))))
 literal_runs the_false = (refl, (refl, (refl, (refl, (refl, tt)))))
 
-run_there : (u : List ℕ) (c : ℕ) (r : List ℕ) → AreRun (u ++ (c ∷ r)) → is_run c ≡ true
+pub run_there : (u : List ℕ) (c : ℕ) (r : List ℕ) → AreRun (u ++ (c ∷ r)) → is_run c ≡ true
 run_there [] c r (e, h) = e
 run_there (b ∷ u) c r (e, h) = run_there u c r h
 

@@ -1,7 +1,7 @@
 -- A level that is closed spells an array or an object, and its meaning is built from the marks.
 -- For `finish`, `finish_span`, `merge` and `run_block`.
-use Rattle.std.proofs.Common.{◌≡◌, ℕ, List, [], ◌∷◌, ◌++◌, Option, Some, None, true, false, refl, sym, ◌∙◌, ap, subst, append-nil, ◌+◌, length, true≢false}
-use Rattle.std.proofs.lemmas.Option.{none-some, same_Some, option_and_then_some}
+use Rattle.std.proofs.Common.{◌≡◌, ℕ, List, [], ◌∷◌, ◌++◌, Option, Some, None, true, refl, sym, ◌∙◌, ap, subst, append-nil, ◌+◌, length}
+use Rattle.std.proofs.lemmas.Option.{same_Some, option_and_then_some}
 use Rattle.at_lex.specs.declared.tokens.Bracket.{Bracket}
 use Rattle.at_lex.specs.declared.tokens.Bracket.TheVariants.{Brace, Square}
 use Rattle.at_lex.specs.Strings.{Character}
@@ -10,12 +10,8 @@ use Rattle.at_nest.specs.Tree.{Tree, text, array, object, Trees, no_trees, tree_
 use Rattle.at_nest.specs.Forms.{Meaning, fold_of, folds_of, folds_of_members, Mark, comma as a_comma, colon as a_colon, quoted, entry, IsMark, Formed}
 use Rattle.at_nest.specs.Walks.{Kind, an_opener, a_closer, comma_kind, colon_kind, text_kind, value_kind, mark_kind}
 use Rattle.at_nest.specs.Levels.{Mode, at_items, at_value, at_after, at_members, at_name, at_colon, at_member, at_further, first_mode, move, closes_at, moves, values_in, pairs_in, built, marks}
-
-pub wrong : {P : Type 0} → false ≡ true → P
-wrong e = absurd (true≢false (sym e))
-
-pub none_is : {A : Type 0} {P : Type 0} (t : A) → ◌≡◌ {A = Option A} None (Some t) → P
-none_is t e = absurd (none-some t e)
+use Rattle.at_nest.proofs.JsonMachine.{wrong}
+use Rattle.at_nest.proofs.Lexical.{none_put}
 
 closed_end : (md n : Mode) (b : Bracket) → ◌≡◌ {A = Option Mode} (Some md) (Some n) → closes_at n b ≡ true → closes_at md b ≡ true
 closed_end md n b e h = ap (λ x. closes_at x b) (same_Some md n e) ∙ h
@@ -28,12 +24,12 @@ FurtherItems m at r xs = (b y : List ℕ) × (ts : Trees) × (r ≡ b ++ y) × A
 
 further_items : {X : Type 0} (m : Meaning X) (xs : List (Mark X)) (at : ℕ) (r : List ℕ) (n : Mode) → Formed m at r (marks xs) → moves at_after xs ≡ Some n → closes_at n Square ≡ true → FurtherItems m at r xs
 further_items m [] at r n f e h = (r, [], no_trees, sym (append-nil r), f, refl, refl)
-further_items m (a_colon i ∷ xs) at r n f e h = none_is n e
-further_items m (quoted i cs ∷ xs) at r n f e h = none_is n e
-further_items m (entry i x ∷ xs) at r n f e h = none_is n e
+further_items m (a_colon i ∷ xs) at r n f e h = none_put n e
+further_items m (quoted i cs ∷ xs) at r n f e h = none_put n e
+further_items m (entry i x ∷ xs) at r n f e h = none_put n e
 further_items m (a_comma i ∷ []) at r n f e h = wrong (closed_end at_value n Square e h)
-further_items m (a_comma i ∷ (a_comma j ∷ xs)) at r n f e h = none_is n e
-further_items m (a_comma i ∷ (a_colon j ∷ xs)) at r n f e h = none_is n e
+further_items m (a_comma i ∷ (a_comma j ∷ xs)) at r n f e h = none_put n e
+further_items m (a_comma i ∷ (a_colon j ∷ xs)) at r n f e h = none_put n e
 further_items m (a_comma i ∷ (quoted j cs ∷ xs)) at r n (a, v, y, d, ha, (fi, hv), hap, (a2, v2, y2, d2, ha2, hp2, hap2, hf2)) e h =
     let (b3, y3, ts, d3, hb3, s3, q3) = further_items m xs (at + length a + length v + length a2 + length v2) y2 n hf2 e h in
     let width : at + length a + length v ≡ at + length a + 1 = ap (λ z. at + length a + length z) hv in (
@@ -60,8 +56,8 @@ further_items m (a_comma i ∷ (entry j x ∷ xs)) at r n (a, v, y, d, ha, (fi, 
 items_spelled : {X : Type 0} (m : Meaning X) (xs : List (Mark X)) (at : ℕ) (r : List ℕ) (n : Mode) → Formed m at r (marks xs) → moves at_items xs ≡ Some n → closes_at n Square ≡ true
     → (ts : Trees) × SpellsItems at r ts × (folds_of m ts ≡ values_in m xs)
 items_spelled m [] at r n f e h = (no_trees, f, refl)
-items_spelled m (a_comma i ∷ xs) at r n f e h = none_is n e
-items_spelled m (a_colon i ∷ xs) at r n f e h = none_is n e
+items_spelled m (a_comma i ∷ xs) at r n f e h = none_put n e
+items_spelled m (a_colon i ∷ xs) at r n f e h = none_put n e
 items_spelled m (quoted i cs ∷ xs) at r n (a, v, y, d, ha, hp, hap, hf) e h = let (b, z, ts, d2, hb, s, q) = further_items m xs (at + length a + length v) y n hf e h in
     (tree_and (text i cs) ts, (a, v, b, z, d ∙ ap (λ k. a ++ (v ++ k)) d2, ha, hb, hp, s), ap (λ k. m.of_text i cs ∷ k) q)
 items_spelled m (entry i x ∷ xs) at r n (a, v, y, d, ha, (fi, t, sp, nt, ex), hap, hf) e h = let (b, z, ts, d2, hb, s, q) = further_items m xs (at + length a + length v) y n hf e h in
@@ -88,9 +84,9 @@ module _ {X : Type 0} (m : Meaning X) where
   mutual
     further_of : (xs : List (Mark X)) (at : ℕ) (r : List ℕ) (n : Mode) → Formed m at r (marks xs) → moves at_further xs ≡ Some n → closes_at n Brace ≡ true → FurtherOf at r xs
     further_of [] at r n f e h = (r, [], no_members, sym (append-nil r), f, refl, refl)
-    further_of (a_colon i ∷ xs) at r n f e h = none_is n e
-    further_of (quoted i cs ∷ xs) at r n f e h = none_is n e
-    further_of (entry i x ∷ xs) at r n f e h = none_is n e
+    further_of (a_colon i ∷ xs) at r n f e h = none_put n e
+    further_of (quoted i cs ∷ xs) at r n f e h = none_put n e
+    further_of (entry i x ∷ xs) at r n f e h = none_put n e
     further_of (a_comma i ∷ xs) at r n (a, v, y, d, ha, (fi, hv), hap, hf) e h =
         let (cs, j, t, ms, s, q) = name_of xs (at + length a + length v) y n hf e h in
         let width : at + length a + length v ≡ at + length a + 1 = ap (λ z. at + length a + length z) hv in (
@@ -105,18 +101,18 @@ module _ {X : Type 0} (m : Meaning X) where
 
     name_of : (xs : List (Mark X)) (at : ℕ) (r : List ℕ) (n : Mode) → Formed m at r (marks xs) → moves at_name xs ≡ Some n → closes_at n Brace ≡ true → NameOf at r xs
     name_of [] at r n f e h = wrong (closed_end at_name n Brace e h)
-    name_of (a_comma i ∷ xs) at r n f e h = none_is n e
-    name_of (a_colon i ∷ xs) at r n f e h = none_is n e
-    name_of (entry i x ∷ xs) at r n f e h = none_is n e
+    name_of (a_comma i ∷ xs) at r n f e h = none_put n e
+    name_of (a_colon i ∷ xs) at r n f e h = none_put n e
+    name_of (entry i x ∷ xs) at r n f e h = none_put n e
     name_of (quoted i cs ∷ xs) at r n (a, v, y, d, ha, hp, hap, hf) e h =
         let (t, ms, b, z, d2, hb, s, q) = colon_of (cs, i) xs (at + length a + length v) y n hf e h in
         (cs, i, t, ms, (a, v, b, z, d ∙ ap (λ k. a ++ (v ++ k)) d2, ha, hb, hp, s), q)
 
     colon_of : (p : List Character × ℕ) (xs : List (Mark X)) (at : ℕ) (r : List ℕ) (n : Mode) → Formed m at r (marks xs) → moves at_colon xs ≡ Some n → closes_at n Brace ≡ true → ColonOf p at r xs
     colon_of p [] at r n f e h = wrong (closed_end at_colon n Brace e h)
-    colon_of p (a_comma i ∷ xs) at r n f e h = none_is n e
-    colon_of p (quoted i cs ∷ xs) at r n f e h = none_is n e
-    colon_of p (entry i x ∷ xs) at r n f e h = none_is n e
+    colon_of p (a_comma i ∷ xs) at r n f e h = none_put n e
+    colon_of p (quoted i cs ∷ xs) at r n f e h = none_put n e
+    colon_of p (entry i x ∷ xs) at r n f e h = none_put n e
     colon_of p (a_colon i ∷ xs) at r n (a, v, y, d, ha, (fi, hv), hap, hf) e h =
         let (t, ms, s, q) = value_behind p xs (at + length a + length v) y n hf e h in
         let width : at + length a + length v ≡ at + length a + 1 = ap (λ z. at + length a + length z) hv in
@@ -124,8 +120,8 @@ module _ {X : Type 0} (m : Meaning X) where
 
     value_behind : (p : List Character × ℕ) (xs : List (Mark X)) (at : ℕ) (r : List ℕ) (n : Mode) → Formed m at r (marks xs) → moves at_member xs ≡ Some n → closes_at n Brace ≡ true → ValueOf p at r xs
     value_behind p [] at r n f e h = wrong (closed_end at_member n Brace e h)
-    value_behind p (a_comma i ∷ xs) at r n f e h = none_is n e
-    value_behind p (a_colon i ∷ xs) at r n f e h = none_is n e
+    value_behind p (a_comma i ∷ xs) at r n f e h = none_put n e
+    value_behind p (a_colon i ∷ xs) at r n f e h = none_put n e
     value_behind p (quoted i cs ∷ xs) at r n (a, v, y, d, ha, hp, hap, hf) e h =
         let (b, z, ms, d2, hb, s, q) = further_of xs (at + length a + length v) y n hf e h in
         (text i cs, ms, (a, v, b, z, d ∙ ap (λ k. a ++ (v ++ k)) d2, ha, hb, hp, s), ap (λ k. (p.0, p.1, m.of_text i cs) ∷ k) q)
@@ -136,9 +132,9 @@ module _ {X : Type 0} (m : Meaning X) where
 members_spelled : {X : Type 0} (m : Meaning X) (xs : List (Mark X)) (at : ℕ) (r : List ℕ) (n : Mode) → Formed m at r (marks xs) → moves at_members xs ≡ Some n → closes_at n Brace ≡ true
     → (ms : Members) × SpellsMembers at r ms × (folds_of_members m ms ≡ pairs_in m None xs)
 members_spelled m [] at r n f e h = (no_members, f, refl)
-members_spelled m (a_comma i ∷ xs) at r n f e h = none_is n e
-members_spelled m (a_colon i ∷ xs) at r n f e h = none_is n e
-members_spelled m (entry i x ∷ xs) at r n f e h = none_is n e
+members_spelled m (a_comma i ∷ xs) at r n f e h = none_put n e
+members_spelled m (a_colon i ∷ xs) at r n f e h = none_put n e
+members_spelled m (entry i x ∷ xs) at r n f e h = none_put n e
 members_spelled m (quoted i cs ∷ xs) at r n (a, v, y, d, ha, hp, hap, hf) e h =
     let (t, ms, b, z, d2, hb, s, q) = colon_of m (cs, i) xs (at + length a + length v) y n hf e h in
     (member_and cs i t ms, (a, v, b, z, d ∙ ap (λ k. a ++ (v ++ k)) d2, ha, hb, hp, s), q)
@@ -155,54 +151,54 @@ bracket_of at_member = Brace
 bracket_of at_further = Brace
 
 move_keeps : (md n : Mode) (k : Kind) → move md k ≡ Some n → bracket_of n ≡ bracket_of md
-move_keeps at_items n (an_opener b) e = none_is n e
-move_keeps at_items n (a_closer b) e = none_is n e
-move_keeps at_items n (comma_kind) e = none_is n e
-move_keeps at_items n (colon_kind) e = none_is n e
+move_keeps at_items n (an_opener b) e = none_put n e
+move_keeps at_items n (a_closer b) e = none_put n e
+move_keeps at_items n (comma_kind) e = none_put n e
+move_keeps at_items n (colon_kind) e = none_put n e
 move_keeps at_items n (text_kind) e = ap bracket_of (sym (same_Some _ n e))
 move_keeps at_items n (value_kind) e = ap bracket_of (sym (same_Some _ n e))
-move_keeps at_value n (an_opener b) e = none_is n e
-move_keeps at_value n (a_closer b) e = none_is n e
-move_keeps at_value n (comma_kind) e = none_is n e
-move_keeps at_value n (colon_kind) e = none_is n e
+move_keeps at_value n (an_opener b) e = none_put n e
+move_keeps at_value n (a_closer b) e = none_put n e
+move_keeps at_value n (comma_kind) e = none_put n e
+move_keeps at_value n (colon_kind) e = none_put n e
 move_keeps at_value n (text_kind) e = ap bracket_of (sym (same_Some _ n e))
 move_keeps at_value n (value_kind) e = ap bracket_of (sym (same_Some _ n e))
-move_keeps at_after n (an_opener b) e = none_is n e
-move_keeps at_after n (a_closer b) e = none_is n e
+move_keeps at_after n (an_opener b) e = none_put n e
+move_keeps at_after n (a_closer b) e = none_put n e
 move_keeps at_after n (comma_kind) e = ap bracket_of (sym (same_Some _ n e))
-move_keeps at_after n (colon_kind) e = none_is n e
-move_keeps at_after n (text_kind) e = none_is n e
-move_keeps at_after n (value_kind) e = none_is n e
-move_keeps at_members n (an_opener b) e = none_is n e
-move_keeps at_members n (a_closer b) e = none_is n e
-move_keeps at_members n (comma_kind) e = none_is n e
-move_keeps at_members n (colon_kind) e = none_is n e
+move_keeps at_after n (colon_kind) e = none_put n e
+move_keeps at_after n (text_kind) e = none_put n e
+move_keeps at_after n (value_kind) e = none_put n e
+move_keeps at_members n (an_opener b) e = none_put n e
+move_keeps at_members n (a_closer b) e = none_put n e
+move_keeps at_members n (comma_kind) e = none_put n e
+move_keeps at_members n (colon_kind) e = none_put n e
 move_keeps at_members n (text_kind) e = ap bracket_of (sym (same_Some _ n e))
-move_keeps at_members n (value_kind) e = none_is n e
-move_keeps at_name n (an_opener b) e = none_is n e
-move_keeps at_name n (a_closer b) e = none_is n e
-move_keeps at_name n (comma_kind) e = none_is n e
-move_keeps at_name n (colon_kind) e = none_is n e
+move_keeps at_members n (value_kind) e = none_put n e
+move_keeps at_name n (an_opener b) e = none_put n e
+move_keeps at_name n (a_closer b) e = none_put n e
+move_keeps at_name n (comma_kind) e = none_put n e
+move_keeps at_name n (colon_kind) e = none_put n e
 move_keeps at_name n (text_kind) e = ap bracket_of (sym (same_Some _ n e))
-move_keeps at_name n (value_kind) e = none_is n e
-move_keeps at_colon n (an_opener b) e = none_is n e
-move_keeps at_colon n (a_closer b) e = none_is n e
-move_keeps at_colon n (comma_kind) e = none_is n e
+move_keeps at_name n (value_kind) e = none_put n e
+move_keeps at_colon n (an_opener b) e = none_put n e
+move_keeps at_colon n (a_closer b) e = none_put n e
+move_keeps at_colon n (comma_kind) e = none_put n e
 move_keeps at_colon n (colon_kind) e = ap bracket_of (sym (same_Some _ n e))
-move_keeps at_colon n (text_kind) e = none_is n e
-move_keeps at_colon n (value_kind) e = none_is n e
-move_keeps at_member n (an_opener b) e = none_is n e
-move_keeps at_member n (a_closer b) e = none_is n e
-move_keeps at_member n (comma_kind) e = none_is n e
-move_keeps at_member n (colon_kind) e = none_is n e
+move_keeps at_colon n (text_kind) e = none_put n e
+move_keeps at_colon n (value_kind) e = none_put n e
+move_keeps at_member n (an_opener b) e = none_put n e
+move_keeps at_member n (a_closer b) e = none_put n e
+move_keeps at_member n (comma_kind) e = none_put n e
+move_keeps at_member n (colon_kind) e = none_put n e
 move_keeps at_member n (text_kind) e = ap bracket_of (sym (same_Some _ n e))
 move_keeps at_member n (value_kind) e = ap bracket_of (sym (same_Some _ n e))
-move_keeps at_further n (an_opener b) e = none_is n e
-move_keeps at_further n (a_closer b) e = none_is n e
+move_keeps at_further n (an_opener b) e = none_put n e
+move_keeps at_further n (a_closer b) e = none_put n e
 move_keeps at_further n (comma_kind) e = ap bracket_of (sym (same_Some _ n e))
-move_keeps at_further n (colon_kind) e = none_is n e
-move_keeps at_further n (text_kind) e = none_is n e
-move_keeps at_further n (value_kind) e = none_is n e
+move_keeps at_further n (colon_kind) e = none_put n e
+move_keeps at_further n (text_kind) e = none_put n e
+move_keeps at_further n (value_kind) e = none_put n e
 
 moves_keep : {X : Type 0} (xs : List (Mark X)) (md n : Mode) → moves md xs ≡ Some n → bracket_of n ≡ bracket_of md
 moves_keep [] md n e = ap bracket_of (sym (same_Some md n e))

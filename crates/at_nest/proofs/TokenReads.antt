@@ -31,6 +31,7 @@ use Rattle.at_nest.proofs.Longest.{string_runs}
 use Rattle.at_nest.proofs.Strings.{whole_string}
 use Rattle.at_nest.proofs.Joins.{apart_nothing}
 use Rattle.at_nest.proofs.Readings.{IsReading, string_stops, run_stops, first_stops, reading_ends}
+use Rattle.at_nest.proofs.Runs.{run_there}
 
 -- ---- lists cut at a place
 
@@ -103,20 +104,16 @@ abbrev pub run_halt : ℕ → ℕ → SpanStop
 run_halt at zero = plain_halt at
 run_halt at (suc n) = record { kind = in_run; item = at; place = at + suc n }
 
-run_byte_at : (a : List ℕ) (byte : ℕ) (o : List ℕ) → AreRun (a ++ (byte ∷ o)) → is_run byte ≡ true
-run_byte_at [] byte o h = h.0
-run_byte_at (b ∷ a) byte o h = run_byte_at a byte o h.1
-
 -- a byte in the run stops it
 pub run_refused_inside : {X : Type 0} (m : Meaning X) (at : ℕ) (t more : List ℕ) (n : ℕ) → AreRun t → LongestViable JsonRun t n → n < length t → IsReading m at t more (stopped empty_form (run_halt at n))
 run_refused_inside m at t more n are longest below = let (a, byte, y, s, l) = cut_at t n below in in_run_at a byte y s l
   where
     in_run_at : (a : List ℕ) (byte : ℕ) (y : List ℕ) → t ≡ a ++ (byte ∷ y) → length a ≡ n → IsReading m at t more (stopped empty_form (run_halt at n))
     in_run_at [] byte y s l = subst (λ z. IsReading m at t more (stopped empty_form (run_halt at z))) l
-        (first_stops byte (y ++ more) (ap (λ z. z ++ more) s) (run_byte_at [] byte y (subst AreRun s are)) (λ v. longest.longest (below_length t [] byte y n s l) (subst (Viable JsonRun) (sym (take_one_more t [] byte y n s l)) v)))
+        (first_stops byte (y ++ more) (ap (λ z. z ++ more) s) (run_there [] byte y (subst AreRun s are)) (λ v. longest.longest (below_length t [] byte y n s l) (subst (Viable JsonRun) (sym (take_one_more t [] byte y n s l)) v)))
     in_run_at (c ∷ v) byte y s l = subst (λ z. IsReading m at t more (stopped empty_form (run_halt at z))) l
         (run_stops c v byte (y ++ more) (ap (λ z. z ++ more) s ∙ append_assoc (c ∷ v) (byte ∷ y) more) (subst AreRun s are).0 (subst (Viable JsonRun) (take_is t (c ∷ v) byte y n s l) longest.front)
-        (inl (run_byte_at (c ∷ v) byte y (subst AreRun s are), λ x. longest.longest (below_length t (c ∷ v) byte y n s l) (subst (Viable JsonRun) (sym (take_one_more t (c ∷ v) byte y n s l)) x))))
+        (inl (run_there (c ∷ v) byte y (subst AreRun s are), λ x. longest.longest (below_length t (c ∷ v) byte y n s l) (subst (Viable JsonRun) (sym (take_one_more t (c ∷ v) byte y n s l)) x))))
 
 pub run_refused : {X : Type 0} (m : Meaning X) (at : ℕ) (t more : List ℕ) (b : ℕ) (o : List ℕ) (n : ℕ) → AreRun t → begins_run t ≡ true → more ≡ b ∷ o → begins_run more ≡ false → ¬ (JsonRun t) → LongestViable JsonRun t n
     → IsReading m at t more (stopped empty_form (run_halt at n))
@@ -186,7 +183,7 @@ some_first : (w : List ℕ) → w ≢ [] → (b : ℕ) × (o : List ℕ) × (w �
 some_first [] h = absurd (h refl)
 some_first (b ∷ o) h = (b, o, refl)
 
-not_of : (b : Bool) → IsTrue (not b) → b ≡ false
+pub not_of : (b : Bool) → IsTrue (not b) → b ≡ false
 not_of false h = refl
 not_of true h = absurd (true≢false (sym h))
 

@@ -14,7 +14,7 @@ use Rattle.at_nest.proofs.Walks.{ends_append}
 use Rattle.at_nest.proofs.Joins.{formed_out, end_append, at_end, at_end3, apart_front}
 use Rattle.at_nest.specs.Levels.{Form, pieces_of, Pushed, further, stopped, SpanStop, push_then, push_all}
 use Rattle.at_nest.proofs.Pushes.{IsForm, IsStop, IsPushed}
-use Rattle.at_nest.proofs.Merges.{merged, merged_ok, stop_right, push_all_ok}
+use Rattle.at_nest.proofs.Merges.{merged, merged_ok, stop_right, push_all_ok, apart_both}
 pub use Rattle.at_nest.specs.Variants.{Variant, all_lead, whole, broken, IsAllLead, IsLeadEnd, IsPending, none_pending, run_pending, text_pending, IsWhole, IsBroken, IsVariant}
 pub use Rattle.at_nest.specs.Unions.{IsToken, no_token, a_run, a_text, Ends, variant_of}
 
@@ -266,12 +266,8 @@ pub whole_end : {X : Type 0} (m : Meaning X) (s : Start) (at : ℕ) (w u : List 
 whole_end m s at w u f v h = ap (end_of s) h.split ∙ (end_append s u (h.middle ++ v) ∙ (ap (λ t. end_of t (h.middle ++ v)) (lead_out s u (h.middle ++ v) h.lead)
     ∙ (end_append Out h.middle v ∙ ap (λ t. end_of t v) (formed_out m (at + length u) h.middle (pieces_of f) h.form.formed))))
 
-pub both_apart : (a b c : List ℕ) → are_apart a (b ++ c) ≡ true → are_apart b c ≡ true → are_apart (a ++ b) c ≡ true
-both_apart a [] c h k = ap (λ z. are_apart z c) (append-nil a) ∙ h
-both_apart a (d ∷ b) c h k = ap (λ z. not (z && begins_run c)) (ends_append a d b) ∙ k
-
 pub joined_apart : (a v x more : List ℕ) → are_apart a v ≡ true → (v ≡ [] → ends_run a ≡ false) → are_apart (v ++ x) more ≡ true → are_apart (a ++ (v ++ x)) more ≡ true
-joined_apart a v x more h k l = both_apart a (v ++ x) more (ap (are_apart a) (append_assoc v x more) ∙ apart_pending a v (x ++ more) h k) l
+joined_apart a v x more h k l = apart_both a (v ++ x) more (ap (are_apart a) (append_assoc v x more) ∙ apart_pending a v (x ++ more) h k) l
 
 pub right_place : (at : ℕ) (w u a v x : List ℕ) → w ≡ u ++ (a ++ v) → at + length w + length x ≡ at + length u + length (a ++ (v ++ x))
 right_place at w u a v x e = ap (λ n. n + length x) (token_place at w u a v e) ∙ sym (at_end3 (at + length u) a v x)

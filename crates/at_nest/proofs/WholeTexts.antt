@@ -1,6 +1,6 @@
 -- A span that is read as a whole text: its lead is a run of its own, and behind it stand the items that are kept.
 -- For `finish` and `finish_span`.
-use Rattle.std.proofs.Common.{◌≡◌, ℕ, inl, inr, Option, Some, None, List, [], ◌∷◌, ◌++◌, true, Result, Err, refl, sym, ◌∙◌, ap, subst, arith, append_assoc, append-nil, ◌+◌, ◌-◌, ◌≤◌, length, length-append, length-drop, length-take, take, drop, take-append-drop}
+use Rattle.std.proofs.Common.{◌≡◌, ℕ, inl, inr, Option, Some, None, List, [], ◌++◌, true, Result, Err, refl, sym, ◌∙◌, ap, subst, arith, append_assoc, append-nil, ◌+◌, ◌-◌, ◌≤◌, length, length-append, length-drop, length-take, take, drop, take-append-drop}
 use Rattle.std.proofs.Math.Seq.{take-append_seam, take-length, drop-append_seam}
 use Rattle.at_text.specs.Spans.{span_of}
 use Rattle.at_lex.specs.Spans.{AreRun}
@@ -21,13 +21,14 @@ use Rattle.at_nest.specs.VariantMeanings.{HoldsWhole, HoldsBroken, CanMeet, Meet
 use Rattle.at_nest.specs.NextItems.{next_of, stop_of}
 use Rattle.at_nest.specs.LastBytes.{EndsSo}
 use Rattle.at_nest.specs.TextAnswers.{Answers}
-use Rattle.at_nest.proofs.Joins.{apart_nothing}
-use Rattle.at_nest.proofs.Unions.{ends_token, ends_right, token_apart, run_begins_or, both_apart}
+use Rattle.at_nest.proofs.Joins.{apart_front}
+use Rattle.at_nest.proofs.Unions.{ends_token, ends_right, token_apart, run_begins_or}
 use Rattle.at_nest.proofs.UnionsHeld.{stops_behind}
 use Rattle.at_nest.proofs.TokenStops.{nothing_is}
 use Rattle.at_nest.proofs.Finished.{finished_ok}
 use Rattle.at_nest.proofs.NextItems.{stop_tells}
 use Rattle.at_nest.proofs.Told.{told}
+use Rattle.at_nest.proofs.Merges.{apart_both}
 
 -- ---- the bytes of a span
 
@@ -76,10 +77,6 @@ lead_pends w r = elim (run_begins_or w r) [ inl n ↦ none_pending n | inr b ↦
 -- the lead's token, behind nothing
 first_token : (at : ℕ) (u more : List ℕ) (p : Pushed Tree) → Ends free at u more p → Ends free at u more (merged free (further empty_form) p)
 first_token at u more p h = ends_token free at [] u more empty_form p (nothing_is free at) (let e : at ≡ at + length {A = ℕ} [] = omega arith in subst (λ n. Ends free n u more p) e h) refl
-
-apart_cut : (u x v : List ℕ) → are_apart u (x ++ v) ≡ true → are_apart u x ≡ true
-apart_cut u [] v h = apart_nothing u
-apart_cut u (b ∷ x) v h = h
 
 -- a stop of the lead comes before that of the items
 abbrev pub first_halt : Option CodeHalt → CodeHalt → CodeHalt
@@ -174,9 +171,9 @@ module _ {X : Type 0} (K : X → Content → Type 0) where
       let q : Pushed Tree = merged free (further empty_form) m.0 in
       let all : span_of bytes from to ≡ (w.first ++ w.is_whole.middle) ++ w.last = w.is_whole.split ∙ sym (append_assoc w.first w.is_whole.middle w.last) in
       by_form (push_then (λ z. merged free (further z) (further w.form)) q)
-      (ends_right free from w.first w.is_whole.middle w.last q (further w.form) (first_token from w.first more m.0 m.1) w.is_whole.form (apart_cut w.first w.is_whole.middle w.last t))
+      (ends_right free from w.first w.is_whole.middle w.last q (further w.form) (first_token from w.first more m.0 m.1) w.is_whole.form (apart_front w.first w.is_whole.middle w.last t))
       (subst (λ z. IsPushedAs K from (span_of bytes from to) new z (push_then (λ z. merged free (further z) (further w.form)) q)) none m.2) all
-      (both_apart w.first w.is_whole.middle w.last t w.is_whole.apart) w.last (w.first ++ w.is_whole.middle) l.2 (subst (λ z. EndsSo K new pend z result) l.0 ends)
+      (apart_both w.first w.is_whole.middle w.last t w.is_whole.apart) w.last (w.first ++ w.is_whole.middle) l.2 (subst (λ z. EndsSo K new pend z result) l.0 ends)
     where
       by_form : (o : Pushed Tree) → Ends free from (w.first ++ w.is_whole.middle) w.last o → IsPushedAs K from (span_of bytes from to) new None o → span_of bytes from to ≡ (w.first ++ w.is_whole.middle) ++ w.last → are_apart (w.first ++ w.is_whole.middle) w.last ≡ true
           → (v x : List ℕ) → pend ≡ from + length (w.first ++ w.is_whole.middle) → EndsSo K new pend w.last result → Answers K from (span_of bytes from to) result
@@ -204,7 +201,7 @@ module _ {X : Type 0} (K : X → Content → Type 0) where
       let q : Pushed Tree = merged free (further empty_form) m.0 in
       let all : span_of bytes from to ≡ (w.first ++ w.is_whole.middle) ++ w.last = w.is_whole.split ∙ sym (append_assoc w.first w.is_whole.middle w.last) in
       by_stop (push_then (λ z. merged free (further z) (further w.form)) q)
-      (ends_right free from w.first w.is_whole.middle w.last q (further w.form) (first_token from w.first more m.0 m.1) w.is_whole.form (apart_cut w.first w.is_whole.middle w.last t))
+      (ends_right free from w.first w.is_whole.middle w.last q (further w.form) (first_token from w.first more m.0 m.1) w.is_whole.form (apart_front w.first w.is_whole.middle w.last t))
       (subst (λ z. IsPushedAs K from (span_of bytes from to) new z (push_then (λ z. merged free (further z) (further w.form)) q)) some m.2) all
     where
       by_stop : (o : Pushed Tree) → Ends free from (w.first ++ w.is_whole.middle) w.last o → IsPushedAs K from (span_of bytes from to) new (Some halt) o → span_of bytes from to ≡ (w.first ++ w.is_whole.middle) ++ w.last → Answers K from (span_of bytes from to) (Err (stop_of (next_of new) halt))

@@ -10,7 +10,8 @@ use Rattle.at_fixed.specs.Numerals.{Numeral, numeral_text, IsWktNumeral, WktNumb
 use Rattle.at_fixed.specs.Fixed.{fixed_of}
 use Rattle.at_wkt.specs.Positions.{value_in, faults_in}
 use Rattle.at_wkt.specs.Readers.{NumberStands, NumberBreaks, next}
-use Rattle.at_wkt.proofs.Leads.{part-length, part-part, part-one}
+use Rattle.at_fixed.proofs.DigitParts.{part-length, part-part}
+use Rattle.at_wkt.proofs.Leads.{part-one}
 use Rattle.at_wkt.proofs.NumberSteps.{in_number, number_ends, front_viable, next_end}
 use Rattle.at_query.specs.declared.query.coordinates.NumberRead.{NumberRead}
 use Rattle.at_query.specs.Spelling.{Placed, SpellsPlaced}

@@ -4,7 +4,8 @@ use Rattle.std.proofs.Common.{◌≡◌, ℕ, ◌+◌, ◌<◌, ◌≤◌, ◌�
 use native.Mathlib.Decide.{dec_lt}
 use Rattle.std.proofs.lemmas.List.{append_cancel_left, get_or_past}
 use Rattle.std.proofs.Math.Seq.{take-length}
-use Rattle.at_wkt.proofs.Leads.{part-none, part-more, part-length, part-part, part-cons}
+use Rattle.at_fixed.proofs.DigitParts.{part-none, part-length, part-part}
+use Rattle.at_wkt.proofs.Leads.{part-more, part-cons}
 use Rattle.at_fixed.specs.NumberSoFar.{between}
 use Rattle.at_wkt.specs.Readers.{next}
 use Rattle.at_query.specs.Readers.{Ends, AgreesThrough, past, over, Stops, Covers, Breaks, WordStands, WordBreaks, Word, Behind, Then}

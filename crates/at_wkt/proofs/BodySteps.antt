@@ -10,9 +10,10 @@ use Rattle.at_wkt.specs.Positions.{Position, Positions}
 use Rattle.at_wkt.specs.Geometry.{is_blank, SpellsPosition, InBrackets, Parted, EmptyWord, EmptyOrParted, SpellsRing, SpellsList, SpellsPoint, SpellsPointMember}
 use Rattle.at_fixed.specs.NumberSoFar.{between}
 use Rattle.at_wkt.specs.Readers.{opens, next, Spelt, Stuck, Leads, SkipsBlanks, Item, KeywordStands, KeywordBreaks, HasCount, EnclosedPosition}
-use Rattle.at_wkt.proofs.Leads.{part-part, part-cons, ahead_stuck, Begins, Inhabited, same_or_less}
+use Rattle.at_fixed.proofs.DigitParts.{part-part}
+use Rattle.at_wkt.proofs.Leads.{part-cons, ahead_stuck, Begins, Inhabited, same_or_less}
 use Rattle.at_wkt.proofs.Steps.{When, when_leads, no_blank, one_blanks}
-use Rattle.at_wkt.proofs.WordSteps.{Word, word_spelt, word_stuck}
+use Rattle.at_wkt.proofs.WordSteps.{Word, word_spelt, word_stuck, opens_no_blank}
 use Rattle.at_wkt.proofs.PositionSteps.{begins_number}
 use Rattle.at_wkt.proofs.ListSteps.{position_lives, items_inhabited, ended_begins}
 use Rattle.at_wkt.proofs.Lists.{brackets_same}
@@ -141,9 +142,6 @@ parted_choice {X} P = record {
   parted_cases d (x ∷ xs) at v h = inr (x ∷ xs, refl, h)
 
 -- ---- members
-
-opens_no_blank : (b : ℕ) → opens b ≡ true → no_blank b ≡ true
-opens_no_blank b h = grind (arith, h)
 
 pub blankless : {X : Type 0} (P : ℕ → X → ℕ → List ℕ → Type 0) → Begins opens P → Begins no_blank P
 blankless P begins d x at v h = let (b, t, e, o) = begins d x at v h in (b, t, e, opens_no_blank b o)

@@ -11,7 +11,7 @@ use Rattle.at_wkt.specs.declared.line.kinds.Kind.{Kind}
 use Rattle.at_wkt.specs.declared.line.kinds.Kind.TheVariants.{Point, LineString, Polygon, MultiPoint, MultiLineString, MultiPolygon, GeometryCollection}
 use Rattle.at_wkt.specs.declared.line.kinds.Head.{Head}
 use Rattle.at_wkt.specs.Geometry.{Geometry, point, collection, no_geometries, geometry_and, is_blank, SpellsGeometry, SpellsFurtherGeometries, SpellsPoint, SpellsList, SpellsArea, SpellsPointMember, SpellsRing}
-use Rattle.at_wkt.specs.Readers.{opens, next, Spelt, Stuck, Leads, SkipsBlanks, delimiter, Delimiter, HasCount, word_of, KindBreaks, HeadStands, Meaning, joined, no_meaning, Body, meaning_of, meaning_of_all, After, Expected, EnclosedPosition}
+use Rattle.at_wkt.specs.Readers.{opens, next, Spelt, Stuck, Leads, SkipsBlanks, Delimiter, HasCount, word_of, KindBreaks, HeadStands, Meaning, joined, no_meaning, Body, meaning_of, meaning_of_all, After, Expected, EnclosedPosition}
 use Rattle.at_wkt.proofs.Leads.{part-one, Begins, Inhabited}
 use Rattle.at_wkt.proofs.Steps.{Then, Same, When, when_leads, same_leads, trans_leads, then_leads, then_stuck, fixed_leads, pad_leads, no_blank}
 use Rattle.at_wkt.proofs.Lists.{to_left, to_right, behind}
@@ -19,10 +19,6 @@ use Rattle.at_wkt.proofs.WordSteps.{KindWord, kind_spelt, kind_stuck}
 use Rattle.at_wkt.proofs.LetterSteps.{Lettered, Encloses, letter_encloses}
 use Rattle.at_wkt.proofs.BodySteps.{is_open, empty_first, choice_begins, point_choice, list_choice, parted_choice}
 use Rattle.at_wkt.proofs.GeometrySteps.{joined-assoc, free_spelt, free_stuck, open_count, Spelling, further_split, further_join, Awaited, Behind, BodyAfter, expected_same, geometry_parts}
-
-delimiter_no_blank : (last : Bool) → no_blank (delimiter last) ≡ true
-delimiter_no_blank true = refl
-delimiter_no_blank false = refl
 
 -- the word of a kind begins with a letter
 pub kind_first : (k : Kind) (v : List ℕ) → str_to_ascii_uppercase v ≡ word_of k → (b : ℕ) × (t : List ℕ) × (v ≡ b ∷ t) × (no_blank b ≡ true)

@@ -10,11 +10,12 @@ use Rattle.at_wkt.specs.Positions.{Position}
 use Rattle.at_wkt.specs.Geometry.{is_blank, SpellsNumber, SpellsFurther, SpellsPosition}
 use Rattle.at_fixed.specs.NumberSoFar.{between}
 use Rattle.at_wkt.specs.Readers.{next, allows, allows_more, Allows, Spelt, Stuck, SkipsBlanks, delimiter, Delimiter, FurtherNumbers, is_delimiter, Reaches}
-use Rattle.at_wkt.proofs.Leads.{part-none, part-more, Ahead, counts}
-use Rattle.at_wkt.proofs.Steps.{Then, Same, no_blank, AreBlanks, one_blanks}
+use Rattle.at_fixed.proofs.DigitParts.{part-none}
+use Rattle.at_wkt.proofs.Leads.{part-more, Ahead, counts}
+use Rattle.at_wkt.proofs.Steps.{Then, Same, AreBlanks, one_blanks}
 use Rattle.at_wkt.proofs.NumberSteps.{Number}
 use Rattle.at_wkt.proofs.Lists.{to_left, to_right, behind}
-use Rattle.at_wkt.proofs.PositionSteps.{further_agrees, further_dead}
+use Rattle.at_wkt.proofs.PositionSteps.{further_agrees, further_dead, delimiter_no_blank, delimiter_is}
 
 -- ---- counts of numbers
 
@@ -44,14 +45,6 @@ delimiter_same true true e = refl
 delimiter_same false false e = refl
 delimiter_same true false e = absurd (unlike 0x29 0x2C e refl)
 delimiter_same false true e = absurd (unlike 0x2C 0x29 e refl)
-
-delimiter_is : (last : Bool) → is_delimiter (delimiter last) ≡ true
-delimiter_is true = refl
-delimiter_is false = refl
-
-delimiter_no_blank : (last : Bool) → no_blank (delimiter last) ≡ true
-delimiter_no_blank true = refl
-delimiter_no_blank false = refl
 
 module _ (base : ℕ) (w : List ℕ) (j m : ℕ) (skips : SkipsBlanks w j m) where
   -- what a delimiter behind blanks agrees with

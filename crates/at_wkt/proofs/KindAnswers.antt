@@ -7,7 +7,7 @@ use Rattle.at_wkt.specs.declared.line.kinds.Kind.{Kind}
 use Rattle.at_wkt.specs.declared.line.kinds.Kind.TheVariants.{Point, LineString, Polygon, MultiPoint, MultiLineString, MultiPolygon, GeometryCollection}
 use Rattle.at_fixed.specs.NumberSoFar.{between}
 use Rattle.at_wkt.specs.Readers.{word_of, Matches, KeywordBreaks, KindBreaks, KindsTried}
-use Rattle.at_wkt.proofs.Leads.{part-none}
+use Rattle.at_fixed.proofs.DigitParts.{part-none}
 use Rattle.at_wkt.proofs.ByteSteps.{word_broken}
 
 pub tried_none : (w : List ℕ) (i : ℕ) → i ≤ length w → KindsTried w i 0 []

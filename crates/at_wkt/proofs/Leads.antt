@@ -1,33 +1,20 @@
 -- How what a text spells from a place on follows from what it spells from a later place on.
 -- For `read_line`, `read_geometry` and `Room::check_line`: all readers below them are told by it.
-use Rattle.std.proofs.Common.{◌≡◌, ℕ, ◌+◌, ◌<◌, ◌≤◌, ◌⊎◌, inl, inr, Bool, true, List, [], ◌∷◌, ◌++◌, length, take, drop, refl, sym, ◌∙◌, ap, subst, arith, add-one, take-suc, append_assoc, length-append, length-take, length-drop, take-append-drop, take-take}
+use Rattle.std.proofs.Common.{◌≡◌, ℕ, ◌+◌, ◌<◌, ◌≤◌, ◌⊎◌, inl, inr, Bool, true, List, [], ◌∷◌, ◌++◌, length, take, refl, sym, ◌∙◌, ap, subst, arith, add-one, take-suc, append_assoc, length-append, length-take}
 use native.Mathlib.Decide.{dec_lt}
-use Rattle.std.proofs.lemmas.List.{drop-append-le, drop_all, append_cancel_left}
+use Rattle.std.proofs.lemmas.List.{drop-append-le, append_cancel_left}
 use Rattle.at_wkt.specs.declared.line.dimension.Dimension.{Dimension}
 use Rattle.at_wkt.specs.declared.line.dimension.Dimension.TheVariants.{Open, Fixed}
 use Rattle.at_fixed.specs.NumberSoFar.{between}
 use Rattle.at_wkt.specs.Readers.{next, Allows, Spelt, Leads}
+use Rattle.at_fixed.proofs.DigitParts.{part-none, part-length, part-part}
 
 -- ---- parts of a list
-
-pub part-none : (w : List ℕ) (i : ℕ) → i ≤ length w → between w i i ≡ []
-part-none w i h = drop_all i (take i w) (omega (arith, length-take i w))
 
 pub part-more : (w : List ℕ) (i j : ℕ) → i ≤ j → j < length w → between w i (j + 1) ≡ between w i j ++ (next w j ∷ [])
 part-more w i j h k =
     let fits : i ≤ length (take j w) = omega (arith, length-take j w) in
     rw (add-one j, take-suc w j 256 k) (drop-append-le i (take j w) (next w j ∷ []) fits)
-
-pub part-place : (w : List ℕ) (i j : ℕ) → i ≤ j → take j w ≡ take i w ++ between w i j
-part-place w i j h = sym (take-append-drop i (take j w)) ∙ ap (λ x. x ++ between w i j) (take-take i j w h)
-
-pub part-length : (w : List ℕ) (i j : ℕ) → i ≤ j → j ≤ length w → i + length (between w i j) ≡ j
-part-length w i j h k = omega (arith, length-drop i (take j w), length-take j w)
-
-pub part-part : (w : List ℕ) (i j k : ℕ) → i ≤ j → j ≤ k → k ≤ length w → between w i k ≡ between w i j ++ between w j k
-part-part w i j k h l m =
-    let fits : i ≤ length (take j w) = omega (arith, length-take j w) in
-    ap (drop i) (part-place w j k l) ∙ drop-append-le i (take j w) (between w j k) fits
 
 pub part-cons : (w : List ℕ) (i j : ℕ) → i < j → j ≤ length w → between w i j ≡ next w i ∷ between w (i + 1) j
 part-cons w i j h k =

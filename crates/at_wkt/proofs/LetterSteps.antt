@@ -10,13 +10,10 @@ use Rattle.at_wkt.specs.declared.line.dimension.Dimension.TheVariants.{Open, Fix
 use Rattle.at_wkt.specs.Geometry.{is_blank, Letter}
 use Rattle.at_fixed.specs.NumberSoFar.{between}
 use Rattle.at_wkt.specs.Readers.{opens, next, Allows, Spelt, Stuck, SkipsBlanks, LetterAt, LetterStands}
-use Rattle.at_wkt.proofs.Leads.{part-none, part-one, part-length, part-part, part-cons, Ahead, ahead_stuck, Begins, same_or_less}
-use Rattle.at_wkt.proofs.Steps.{no_blank, AreBlanks, one_blanks, not_blank}
+use Rattle.at_fixed.proofs.DigitParts.{part-none, part-length, part-part}
+use Rattle.at_wkt.proofs.Leads.{part-one, part-cons, Ahead, ahead_stuck, Begins, same_or_less}
+use Rattle.at_wkt.proofs.Steps.{no_blank, AreBlanks, one_blanks, not_blank, all_both}
 use Rattle.at_wkt.proofs.WordSteps.{opens_no_blank, letter_no_blank, opens_no_letter, blank_no_letter, stream, one_letter, two_letters}
-
-all_both : (a b : List ℕ) → AreBlanks a → AreBlanks b → AreBlanks (a ++ b)
-all_both [] b h k = k
-all_both (x ∷ a) b (h, hs) k = (h, all_both a b hs k)
 
 pub no_gap : (w : List ℕ) (i j : ℕ) → SkipsBlanks w i j → no_blank (next w i) ≡ true → j ≡ i
 no_gap w i j h none = elim (same_or_less i j h.order) [

@@ -23,7 +23,8 @@ use Rattle.at_wkt.specs.Answers.{IsPrefixOf, IsPrefixFault, SpellsLine, IfFound,
 use Rattle.at_fixed.specs.NumberSoFar.{between}
 use Rattle.at_text.specs.Halts.{IfStopped}
 use Rattle.at_wkt.specs.Readers.{next, Spelt, Stuck, SkipsBlanks, Meaning, joined, no_meaning, meaning_of, Expected, Gathers, refusal, gathered_shape, kept_shape, line_answer, LineStops}
-use Rattle.at_wkt.proofs.Leads.{part-more, part-length, part-part, part-cons, Ahead, ahead_stuck, same_or_less}
+use Rattle.at_fixed.proofs.DigitParts.{part-length, part-part}
+use Rattle.at_wkt.proofs.Leads.{part-more, part-cons, Ahead, ahead_stuck, same_or_less}
 use Rattle.at_wkt.proofs.Steps.{AreBlanks, one_blanks, not_blank, blank_at}
 use Rattle.at_wkt.proofs.GeometrySteps.{Awaited, joined-none}
 use Rattle.at_wkt.proofs.CollectionSteps.{geometry_first}

@@ -12,13 +12,10 @@ use Rattle.at_wkt.proofs.Leads.{part-one, part-more, Begins, Inhabited, same_len
 use Rattle.at_wkt.proofs.Steps.{Then, same_leads, trans_leads, then_leads, then_stuck, fixed_leads, pad_leads, gap_leads, stuck_first, no_blank, AreBlanks, spelt_over}
 use Rattle.at_wkt.proofs.NumberSteps.{stops_number, number_leads, number_stuck}
 use Rattle.at_wkt.proofs.Lists.{Rest, items_same, brackets_same, Opened}
-use Rattle.at_wkt.proofs.PositionSteps.{begins_number, number_begins, nought, nought_numeral, further_begins, further_inhabited, further_lives}
+use Rattle.at_wkt.proofs.PositionSteps.{begins_number, number_begins, nought, nought_numeral, further_begins, further_inhabited, further_lives, begin_no_blank}
 use Rattle.at_wkt.proofs.ItemSteps.{Gap, SecondNumber, TwoNumbers, position_of, EndedPosition, position_same}
 
 -- ---- a position
-
-number_no_blank : (b : ℕ) → begins_number b ≡ true → no_blank b ≡ true
-number_no_blank b h = grind (arith, h)
 
 begins_other : {X : Type 0} (p q : ℕ → Bool) (P : ℕ → X → ℕ → List ℕ → Type 0) → ((b : ℕ) → p b ≡ true → q b ≡ true) → Begins p P → Begins q P
 begins_other p q P h begins d x at v s = let (b, t, e, k) = begins d x at v s in (b, t, e, h b k)
@@ -46,7 +43,7 @@ module _ (base : ℕ) (w : List ℕ) (i a : ℕ) (c : Dimension) (skips : SkipsB
   -- the first number is expected
   pub position_first : Leads (Item SpellsPosition) TwoNumbers base w i c a c position_of
   position_first = trans_leads
-      (pad_leads EndedPosition base w i c a skips.order skips.within skips.blanks skips.stops (begins_other begins_number no_blank EndedPosition number_no_blank ended_begins))
+      (pad_leads EndedPosition base w i c a skips.order skips.within skips.blanks skips.stops (begins_other begins_number no_blank EndedPosition begin_no_blank ended_begins))
       (same_leads EndedPosition TwoNumbers (λ at p. position_of p) base w a c position_same skips.within)
 
   pub position_broken_first : (n : ℕ) → (d : ℕ) × Allows c d → NumberBreaks w a n → Stuck (Item SpellsPosition) base w i c n
@@ -70,7 +67,7 @@ module _ (base : ℕ) (w : List ℕ) (i a : ℕ) (c : Dimension) (skips : SkipsB
 
     module _ (e : ℕ) (gap : SkipsBlanks w b e) (wide : b < e) where
       second_expected : Leads (Item SpellsPosition) SecondNumber base w i c e c (λ y. position_of ((n, base + a), y))
-      second_expected = trans_leads gap_expected (gap_leads SecondNumber base w b c e wide gap.within gap.blanks gap.stops (begins_other begins_number no_blank SecondNumber number_no_blank (number_begins (λ q. FurtherNumbers 2))))
+      second_expected = trans_leads gap_expected (gap_leads SecondNumber base w b c e wide gap.within gap.blanks gap.stops (begins_other begins_number no_blank SecondNumber begin_no_blank (number_begins (λ q. FurtherNumbers 2))))
 
       pub position_broken_second : (k : ℕ) → (d : ℕ) × Allows c d → NumberBreaks w e k → Stuck (Item SpellsPosition) base w i c k
       position_broken_second k (d, allowed) h = second_expected.stuck k (number_stuck (FurtherNumbers 2) (further_begins 2) base w e c k further_inhabited d allowed h)

@@ -22,7 +22,8 @@ use Rattle.at_wkt.specs.Geometry.{SpellsPosition, SpellsRing, SpellsPoint, Spell
 use Rattle.at_fixed.specs.NumberSoFar.{between}
 use Rattle.at_text.specs.Halts.{IfStopped}
 use Rattle.at_wkt.specs.Readers.{next, Spelt, Stuck, SkipsBlanks, Delimiter, Item, Items, HasCount, KeywordStands, KeywordBreaks, DelimiterStands, DelimiterBreaks, opens, PositionStands, PathStands, PartStands, ItemStands, ItemsSoFar, Grows, EnclosedPosition, added_position, added_path, added_point, point_faults, faults_of_path}
-use Rattle.at_wkt.proofs.Leads.{part-part, part-cons, Begins, counts}
+use Rattle.at_fixed.proofs.DigitParts.{part-part}
+use Rattle.at_wkt.proofs.Leads.{part-cons, Begins, counts}
 use Rattle.at_wkt.proofs.Steps.{no_blank, AreBlanks, blank_at, not_blank, stuck_first, when_leads}
 use Rattle.at_wkt.proofs.ItemSteps.{delimiter_spelt, delimiter_stuck}
 use Rattle.at_wkt.proofs.ListSteps.{item_stuck, item_spelt, item_unended, bracket_leads, enclosed_leads, last_spelt, last_stuck, comma_stuck, position_inhabited, ended_begins}

@@ -5,7 +5,8 @@ use Rattle.at_fixed.specs.Numerals.{Numeral}
 use Rattle.at_wkt.specs.Geometry.{is_blank}
 use Rattle.at_fixed.specs.NumberSoFar.{between}
 use Rattle.at_wkt.specs.Readers.{next, is_delimiter, SkipsBlanks, NumberStands}
-use Rattle.at_wkt.proofs.Leads.{part-none, part-one, part-cons, same_or_less}
+use Rattle.at_fixed.proofs.DigitParts.{part-none}
+use Rattle.at_wkt.proofs.Leads.{part-one, part-cons, same_or_less}
 use Rattle.at_wkt.proofs.Steps.{AreBlanks}
 use Rattle.at_wkt.proofs.PositionSteps.{begins_number, number_first}
 

@@ -9,8 +9,9 @@ use Rattle.at_wkt.specs.declared.line.dimension.Dimension.{Dimension}
 use Rattle.at_wkt.specs.Geometry.{is_blank, SpellsNumber, SpellsFurther}
 use Rattle.at_fixed.specs.NumberSoFar.{between}
 use Rattle.at_wkt.specs.Readers.{next, Allows, Stuck, Leads, SkipsBlanks, NumberBreaks, NumberSkips, delimiter, Delimiter, FurtherNumbers, Reaches, is_delimiter}
-use Rattle.at_wkt.proofs.Leads.{part-length, offset, Ahead, Begins, Inhabited, leads_ahead}
-use Rattle.at_wkt.proofs.Steps.{Then, no_blank, AreBlanks, one_blanks}
+use Rattle.at_fixed.proofs.DigitParts.{part-length}
+use Rattle.at_wkt.proofs.Leads.{offset, Ahead, Begins, Inhabited, leads_ahead}
+use Rattle.at_wkt.proofs.Steps.{Then, no_blank, AreBlanks, one_blanks, all_both}
 use Rattle.at_wkt.proofs.NumberSteps.{Number, stops_number, ends_there, front_viable}
 
 -- ---- first bytes
@@ -19,11 +20,11 @@ use Rattle.at_wkt.proofs.NumberSteps.{Number, stops_number, ends_there, front_vi
 abbrev pub begins_number : ℕ → Bool
 begins_number b = is_digit b || is_one_of (0x2B ∷ 0x2D ∷ 0x2E ∷ []) b
 
-delimiter_is : (last : Bool) → is_delimiter (delimiter last) ≡ true
+pub delimiter_is : (last : Bool) → is_delimiter (delimiter last) ≡ true
 delimiter_is true = refl
 delimiter_is false = refl
 
-delimiter_no_blank : (last : Bool) → no_blank (delimiter last) ≡ true
+pub delimiter_no_blank : (last : Bool) → no_blank (delimiter last) ≡ true
 delimiter_no_blank true = refl
 delimiter_no_blank false = refl
 
@@ -34,7 +35,7 @@ delimiter_stops false = refl
 blank_stops : (b : ℕ) → is_blank b ≡ true → stops_number b ≡ true
 blank_stops b h = grind (arith, h)
 
-begin_no_blank : (b : ℕ) → begins_number b ≡ true → no_blank b ≡ true
+pub begin_no_blank : (b : ℕ) → begins_number b ≡ true → no_blank b ≡ true
 begin_no_blank b h = grind (arith, h)
 
 begin_no_delimiter : (b : ℕ) → begins_number b ≡ true → is_delimiter b ≡ false
@@ -77,10 +78,6 @@ pub nought_numeral : IsWktNumeral nought
 nought_numeral = record { sign = tt; digits = ((refl, tt), tt); exponent = tt }
 
 -- ---- further numbers
-
-all_both : (a b : List ℕ) → AreBlanks a → AreBlanks b → AreBlanks (a ++ b)
-all_both [] b h k = k
-all_both (x ∷ a) b (h, hs) k = (h, all_both a b hs k)
 
 -- what a word of further numbers is: blanks, and then the delimiter or a number
 pub record FurtherWord (k d : ℕ) (v : List ℕ) : Type 0 where

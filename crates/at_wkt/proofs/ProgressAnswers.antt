@@ -18,7 +18,7 @@ use Rattle.at_wkt.specs.declared.line.geometries.Progress.{Progress}
 use Rattle.at_fixed.specs.NumberSoFar.{between}
 use Rattle.at_text.specs.Halts.{IfStopped}
 use Rattle.at_wkt.specs.Readers.{next, Spelt, Stuck, Leads, SkipsBlanks, Delimiter, delimiter, HasCount, HeadStands, LetterStands, opens_at, KeywordStands, word_of, DelimiterStands, DelimiterBreaks, Meaning, joined, no_meaning, Body, meaning_of, Expected, Onward, Advances, BodyStands, StepStands, WholeStands, Gathers}
-use Rattle.at_wkt.proofs.Leads.{part-length}
+use Rattle.at_fixed.proofs.DigitParts.{part-length}
 use Rattle.at_wkt.proofs.Steps.{spelt_over, trans_leads}
 use Rattle.at_wkt.proofs.ItemSteps.{delimiter_spelt, delimiter_stuck}
 use Rattle.at_wkt.proofs.GeometrySteps.{joined-assoc, joined-none, Behind, Awaited, BodyAfter, open_count}

@@ -7,7 +7,8 @@ use Rattle.at_wkt.specs.declared.line.dimension.Dimension.{Dimension}
 use Rattle.at_wkt.specs.Geometry.{is_blank}
 use Rattle.at_fixed.specs.NumberSoFar.{between}
 use Rattle.at_wkt.specs.Readers.{next, Allows, Spelt, Stuck, Leads}
-use Rattle.at_wkt.proofs.Leads.{part-none, offset, Ahead, Begins, Inhabited, append_cases, same_length, leads_plain, leads_ahead, counts}
+use Rattle.at_fixed.proofs.DigitParts.{part-none}
+use Rattle.at_wkt.proofs.Leads.{offset, Ahead, Begins, Inhabited, append_cases, same_length, leads_plain, leads_ahead, counts}
 
 pub trans_leads : {X Y Z : Type 0} {P : ℕ → X → ℕ → List ℕ → Type 0} {Q : ℕ → Y → ℕ → List ℕ → Type 0} {R : ℕ → Z → ℕ → List ℕ → Type 0} {base : ℕ} {w : List ℕ}
     {i j k : ℕ} {c c' c'' : Dimension} {f : Y → X} {g : Z → Y} → Leads P Q base w i c j c' f → Leads Q R base w j c' k c'' g → Leads P R base w i c k c'' (λ z. f (g z))
@@ -35,6 +36,11 @@ no_blank b = not (is_blank b)
 
 abbrev pub AreBlanks : List ℕ → Type 0
 AreBlanks w = AllByRecursion (λ b. IsTrue (is_blank b)) w
+
+-- blanks behind blanks
+pub all_both : (a b : List ℕ) → AreBlanks a → AreBlanks b → AreBlanks (a ++ b)
+all_both [] b h k = k
+all_both (x ∷ a) b (h, hs) k = (h, all_both a b hs k)
 
 pub blank_at : (a : List ℕ) (e : ℕ) (es : List ℕ) → AreBlanks (a ++ (e ∷ es)) → is_blank e ≡ true
 blank_at [] e es (h, hs) = h

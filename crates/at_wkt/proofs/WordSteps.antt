@@ -13,7 +13,8 @@ use Rattle.at_wkt.specs.declared.line.kinds.Kind.TheVariants.{Point, LineString,
 use Rattle.at_wkt.specs.Geometry.{is_blank}
 use Rattle.at_fixed.specs.NumberSoFar.{between}
 use Rattle.at_wkt.specs.Readers.{next, Allows, Spelt, Stuck, KeywordStands, KeywordBreaks, word_of, KindBreaks, opens}
-use Rattle.at_wkt.proofs.Leads.{part-none, part-length, part-part, part-cons, Ahead, ahead_stuck, append_cases, same_length, same_or_less}
+use Rattle.at_fixed.proofs.DigitParts.{part-none, part-length, part-part}
+use Rattle.at_wkt.proofs.Leads.{part-cons, Ahead, ahead_stuck, append_cases, same_length, same_or_less}
 use Rattle.at_wkt.proofs.Steps.{no_blank}
 
 abbrev capitals : List ℕ → List ℕ
