@@ -14,6 +14,7 @@ use Rattle.at_cli.specs.Texts.{unread_line}
 use Rattle.at_cli.specs.Outcomes.{Outcome, has_right_count, HasBytesBy, HasBytes, Sized}
 use Rattle.at_cli.specs.Failures.{asked_name, begun_with, last_begun, WasAsked, AsksFor, HaveSized, FailedOn}
 use Rattle.at_cli.specs.Endings.{status_of, outcome_by, Ends}
+use Rattle.at_cli.proofs.Growth.{rose_on}
 
 -- ---- the bytes of a name
 
@@ -113,10 +114,6 @@ failed_name name more files f f1 b b1 k t t1 n n1 e rose broken asked = record {
   before_sized = none_before files;
 }
 
-rose_since : (f f1 f2 : ℕ) → f ≤ f1 → Rose f1 f2 → Rose f f2
-rose_since f f1 f2 le (inl lt) = inl (omega (arith, le, lt))
-rose_since f f1 f2 le (inr e) = inr e
-
 pub failed_behind : (ns ms : List (List ℕ)) (line : List ℕ) (files : Option Files) (f f1 f2 b b1 b2 k t t1 t2 : ℕ) (n n1 n2 : Option (List ℕ)) → WasAsked ns files b b1 t t1 n n1 → f ≤ f1
     → IfSome files (λ told. HaveSized told ns) → FailedOn ms line files f1 f2 b1 b2 k t1 t2 n1 n2 → FailedOn (ns ++ ms) line files f f2 b b2 k t t2 n n2
 failed_behind ns ms line files f f1 f2 b b1 b2 k t t1 t2 n n1 n2 h le sized failed = record {
@@ -125,7 +122,7 @@ failed_behind ns ms line files f f1 f2 b b1 b2 k t t1 t2 n n1 n2 h le sized fail
   behind = failed.behind;
   in_turn = ap (λ l. ns ++ l) failed.in_turn ∙ sym (append_assoc ns failed.before (failed.name ∷ failed.behind));
   told = failed.told;
-  cause = rose_since f f1 f2 le failed.cause;
+  cause = rose_on f f1 f2 le failed.cause;
   broken = failed.broken;
   was_asked = (let P : List (List ℕ) → Type 0 = λ l. WasAsked l files b b2 t t2 n n2 in
       subst P (sym (append_assoc ns failed.before (failed.name ∷ []))) (both_asked ns (failed.before ++ (failed.name ∷ [])) files b b1 b2 t t1 t2 n n1 n2 h failed.was_asked));

@@ -16,6 +16,7 @@ use Rattle.at_wkt.specs.Positions.{Position, Positions, last_of, number_fault as
 use Rattle.at_wkt.specs.Meaning.{polygons_of, faults_of_area}
 use Rattle.at_nest.specs.Folds.{AreFolds}
 use Rattle.at_nest.specs.Tree.{array, Trees}
+use Rattle.at_wkt.proofs.PathAnswers.{first_of-option}
 use Rattle.at_geojson.specs.declared.atoms.GeoAtom.{GeoAtom}
 use Rattle.at_geojson.specs.declared.atoms.GeoAtom.TheVariants as atoms
 use Rattle.at_geojson.specs.Names.{items_of}
@@ -31,10 +32,6 @@ use Rattle.at_geojson.proofs.SortFacts.{is_number, is_position, is_points, is_ar
 
 pub alike_at : {X Y : Type 0} (R : X → Y → Type 0) (o : Option X) (p q : Option Y) → q ≡ p → Alike R o p → Alike R o q
 alike_at R o p q e h = subst (λ z. Alike R o z) (sym e) h
-
-one_of : (o : Option Fault) → first_of (option_to_list o) ≡ o
-one_of None = refl
-one_of (Some f) = refl
 
 four : (n : ℕ) → to_four (suc (suc (suc (suc n)))) ≡ 4
 four n = ap (λ b. if b then suc (suc (suc (suc n))) else 4) (let l : 4 ≤ suc (suc (suc (suc n))) = omega arith in le-ltb (suc (suc (suc (suc n)))) 4 l)
@@ -57,7 +54,7 @@ ring_to_four (suc (suc (suc (suc n)))) b at = ap (λ k. ring_fault k b at) (four
 
 -- the first fault of what is wrong with the whole and with the items
 pub whole_and_items : (o : Option Fault) (fs : List Fault) (p : Option Fault) → p ≡ first_of fs → first_fault o p ≡ first_of (option_to_list o ++ fs)
-whole_and_items o fs p e = ap (first_fault o) e ∙ (ap (λ z. first_fault z (first_of fs)) (sym (one_of o)) ∙ sym (first_of-append (option_to_list o) fs))
+whole_and_items o fs p e = ap (first_fault o) e ∙ (ap (λ z. first_fault z (first_of fs)) (sym (first_of-option o)) ∙ sym (first_of-append (option_to_list o) fs))
 
 pub items_none : (o : Option Fault) (fs : List Fault) → first_of (option_to_list o ++ fs) ≡ None → first_of fs ≡ None
 items_none o fs e = none_behind (first_of (option_to_list o)) (first_of fs) (sym (first_of-append (option_to_list o) fs) ∙ e)

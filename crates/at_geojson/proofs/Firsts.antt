@@ -4,12 +4,8 @@ use Rattle.std.proofs.Common.{◌≡◌, Bool, true, false, if◌then◌else◌,
 use Rattle.std.proofs.lemmas.Option.{none-some}
 use Rattle.at_text.specs.Faults.{comes_first, first_fault, first_of}
 use Rattle.at_text.specs.declared.faults.Fault.{Fault}
-use Rattle.at_wkt.proofs.FaultOrder.{first_fault-assoc}
+use Rattle.at_wkt.proofs.FaultOrder.{first_fault-assoc, none_right}
 use Rattle.at_geojson.specs.Gathering.{firsts}
-
-pub none_right : (o : Option Fault) → first_fault o None ≡ o
-none_right None = refl
-none_right (Some a) = refl
 
 module _ {X : Type 0} (f : X → Option Fault) where
   pub firsts_from : (xs : List X) (o : Option Fault) → fold (λ first x. first_fault first (f x)) o xs ≡ first_fault o (firsts f xs)

@@ -1,9 +1,6 @@
 -- Items one behind another: what they are as geometries and as features, further items behind them.
 -- For `add`, `array` and `value`.
 use Rattle.std.proofs.Common.{◌≡◌, inl, inr, Bool, true, false, List, [], ◌∷◌, ◌++◌, Some, Result, Ok, Err, refl, sym, ◌∙◌, ap, subst, append-nil, append_assoc}
-use Rattle.std.specs.Vec.Iter.{into_iter_items, into_iter_steps}
-use Rattle.std.specs.declared.vec.IntoIter.{IntoIter}
-use Rattle.std.specs.Iterator.{Yields}
 use Rattle.at_text.specs.Faults.{first_fault, first_of}
 use Rattle.at_text.specs.declared.faults.Fault.{Fault}
 use Rattle.at_geom.specs.declared.positions.Pos.{Pos}
@@ -24,11 +21,6 @@ use Rattle.at_geojson.specs.Names.{items_of}
 use Rattle.at_geojson.specs.Atoms.{HasShape, HasPart, HaveItems, items_features, IsRead, IsRun, at_of, role_of, role_geometry, role_item}
 use Rattle.at_geojson.specs.Gathering.{seen, item_geometries, item_features, JoinsShapes, JoinsFound}
 use Rattle.at_geojson.specs.Arrays.{JoinsItems}
-
--- what the iterator of a vector has given is a front of its items
-pub taken_front : {X A : Type 0} (s : IntoIter X A) (xs : List X) (t : IntoIter X A) → Yields into_iter_steps s xs t → into_iter_items s ≡ xs ++ into_iter_items t
-taken_front s [] t y = ap into_iter_items y
-taken_front s (x ∷ xs) t y = y.1.0 ∙ ap (λ ys. x ∷ ys) (taken_front y.0 xs t y.2)
 
 -- ---- atoms beside the trees for which they stand one behind another
 

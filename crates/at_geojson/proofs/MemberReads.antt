@@ -15,6 +15,8 @@ use Rattle.at_nest.specs.declared.algebra.Member.{Member}
 use Rattle.at_query.specs.declared.query.queries.Test.{Test}
 use Rattle.at_query.specs.declared.query.queries.Test.TheVariants.{InBox, MeetsShape, Has}
 use Rattle.at_query.specs.declared.features.TextPair.{TextPair}
+use Rattle.at_wkt.proofs.FaultOrder.{none_right}
+use Rattle.at_wkt.proofs.NumberSteps.{rest_to}
 use Rattle.at_geojson.specs.declared.atoms.GeoAtom.{GeoAtom}
 use Rattle.at_geojson.specs.declared.fields.Field.{Field}
 use Rattle.at_geojson.specs.declared.fields.Field.TheVariants as variants
@@ -31,12 +33,11 @@ use Rattle.at_geojson.specs.Places.{IsNameAt}
 use Rattle.at_geojson.specs.Fields.{field_of, put_if, is_kind, is_coordinates, is_geometry, is_properties, is_features, is_geometries, is_no_field, AreFields}
 use Rattle.at_geojson.specs.Values.{IsItem, EndsObject}
 use Rattle.at_geojson.specs.Members.{name_in, IsPlainName, is_among_others, ArePlainOthers, IsNewName, PassesItem, IsFieldRead, EndsFields, AreFieldsRead}
-use Rattle.at_geojson.proofs.Firsts.{none_right}
 use Rattle.at_geojson.proofs.Each.{none_left, none_behind}
 use Rattle.at_geojson.proofs.SimpleTexts.{simple_units}
 use Rattle.at_geojson.proofs.FieldFolds.{field_absent, fields_more, object_of_fields}
 use Rattle.at_geojson.proofs.ObjectReads.{object_folds}
-use Rattle.at_geojson.proofs.ValueParts.{slice_part, member_of, members_begin, members_go_on}
+use Rattle.at_geojson.proofs.ValueParts.{member_of, members_begin, members_go_on}
 
 -- ---- names
 
@@ -44,7 +45,7 @@ pub plain_name_is : (w : List ℕ) (at : ℕ) (n : NamePlace) → IsNameAt w at 
 plain_name_is w at n h simple =
     let f = n.first in let e = n.end in
     let s : List ℕ = take (n.end - n.first) (drop n.first w) in
-    let same : s ≡ between w n.first n.end = slice_part w n.first n.end (omega (arith, h.text.0)) in
+    let same : s ≡ between w n.first n.end = rest_to w n.first n.end (omega (arith, h.text.0)) in
     let long : n.first + length s ≡ n.end = (let k : n.first + length (between w n.first n.end) ≡ n.end = part-length w n.first n.end (omega (arith, h.text.0)) h.text.1 in omega (arith, k, ap length same)) in
     let two = (simple_units s h.text.2.0 h.text.2.1 (same ∙ h.text.2.2) simple).0 in
     let order : n.first + 1 ≤ n.end - 1 = omega (arith, two, long) in
@@ -59,7 +60,7 @@ plain_name_is w at n h simple =
     record {
       order = order;
       within = h.text.1;
-      units = λ cs ok q. slice_part w (n.first + 1) (n.end - 1) order ∙ (middle ∙ (simple_units s cs ok (same ∙ q) simple).1);
+      units = λ cs ok q. rest_to w (n.first + 1) (n.end - 1) order ∙ (middle ∙ (simple_units s cs ok (same ∙ q) simple).1);
     }
 
 among_more : (ms : List (Member GeoAtom)) (m : Member GeoAtom) (name : List ℕ) → is_among (ms ++ m ∷ []) name ≡ (is_among ms name || bytes_eq name m.name)

@@ -27,13 +27,13 @@ use Rattle.at_geojson.proofs.OwnFolds.{all_kept, position_in, path_in_range, rin
 nothing_in : IsShapeInRange empty_shape
 nothing_in = record { points = All-nil IsInRange; lines = All-nil (All IsInRange); polygons = All-nil (λ (polygon : Polygon). ArePathsInRange polygon.rings) }
 
-points_in : (ps : List Pos) → All IsInRange ps → IsShapeInRange (of_points ps)
+pub points_in : (ps : List Pos) → All IsInRange ps → IsShapeInRange (of_points ps)
 points_in ps h = record { points = h; lines = All-nil (All IsInRange); polygons = All-nil (λ (polygon : Polygon). ArePathsInRange polygon.rings) }
 
-lines_in : (ls : List (List Pos)) → ArePathsInRange ls → IsShapeInRange (of_lines ls)
+pub lines_in : (ls : List (List Pos)) → ArePathsInRange ls → IsShapeInRange (of_lines ls)
 lines_in ls h = record { points = All-nil IsInRange; lines = h; polygons = All-nil (λ (polygon : Polygon). ArePathsInRange polygon.rings) }
 
-polygons_in : (ps : List Polygon) → ArePolygonsInRange ps → IsShapeInRange (of_polygons ps)
+pub polygons_in : (ps : List Polygon) → ArePolygonsInRange ps → IsShapeInRange (of_polygons ps)
 polygons_in ps h = record { points = All-nil IsInRange; lines = All-nil (All IsInRange); polygons = h }
 
 one : {X : Type 0} (P : X → Type 0) (b : Bool) (x : X) → P x → All P (kept b (x ∷ []))

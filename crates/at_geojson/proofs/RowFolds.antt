@@ -14,6 +14,7 @@ use Rattle.at_nest.specs.Tree.{array, Spells}
 use Rattle.at_nest.specs.Folds.{AreFolds}
 use Rattle.at_nest.specs.Passing.{items_of}
 use Rattle.at_nest.proofs.Passed.{items_none, items_on, items_end}
+use Rattle.at_wkt.proofs.FaultOrder.{none_right}
 use Rattle.at_geojson.specs.declared.atoms.GeoAtom.{GeoAtom}
 use Rattle.at_geojson.specs.declared.atoms.GeoAtom.TheVariants as atoms
 use Rattle.at_geojson.specs.declared.atoms.Points.{Points}
@@ -27,7 +28,7 @@ use Rattle.at_geojson.specs.Atoms.{to_four, twin_of, at_of, IsOwn, IsFold}
 use Rattle.at_geojson.specs.Gathering.{firsts, are_all, rank, sort_of, sort_of_all, least_of, last_atom, position_value, position_fault, closes}
 use Rattle.at_geojson.specs.Rows.{AreNext, IsRow, LengthensRow, EndsRow, EndsPoints, ArePointsRead, ArePointsPassed, ArePointsWhole}
 use Rattle.at_geojson.specs.Values.{IsSpacedPair, PassesSpacedPair}
-use Rattle.at_geojson.proofs.Firsts.{firsts-cons, none_right}
+use Rattle.at_geojson.proofs.Firsts.{firsts-cons}
 use Rattle.at_geojson.proofs.CoordinateFolds.{closes_is}
 use Rattle.at_geojson.proofs.OwnFolds.{points_own}
 use Rattle.at_geojson.proofs.ArrayAnswers.{points_fold}

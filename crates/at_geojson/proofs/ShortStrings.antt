@@ -6,9 +6,9 @@ use Rattle.std.proofs.lemmas.Bool.{and_parts}
 use Rattle.at_fixed.specs.NumberSoFar.{between}
 use Rattle.at_fixed.proofs.DigitParts.{part-none, part-more, part-cons}
 use Rattle.at_lex.specs.Strings.{Character, plain, is_plain, AreCharacters, character_text}
+use Rattle.at_wkt.proofs.NumberSteps.{rest_to}
 use Rattle.at_geojson.specs.Gathering.{is_simple}
 use Rattle.at_geojson.specs.Places.{is_common, IsSimpleTextAt}
-use Rattle.at_geojson.proofs.ValueParts.{slice_part}
 
 -- bytes, as characters of a string
 record AreCommon (w : List ℕ) (from to : ℕ) : Type 0 where
@@ -41,7 +41,7 @@ short_text w at last h inside opens closes all =
     let split : between w at (last + 1) ≡ 0x22 ∷ (between w (at + 1) last ++ 0x22 ∷ []) = part-cons w at (last + 1) (omega (arith, h)) (omega (arith, inside))
     ∙ (ap (λ z. slice_index w at ∷ z) (part-more w (at + 1) last (omega (arith, h)) inside) ∙ (ap (λ b. b ∷ (between w (at + 1) last ++ slice_index w last ∷ [])) opens ∙ ap (λ b. 0x22 ∷ (between w (at + 1) last ++ b ∷ [])) closes)) in (
       (omega (arith, h), omega (arith, inside), (a.characters, a.are, split ∙ ap (λ z. 0x22 ∷ (z ++ 0x22 ∷ [])) (sym a.text))),
-      ap (list_all is_simple) (slice_part w at (last + 1) (omega (arith, h)) ∙ split) ∙ a.simple (0x22 ∷ []) refl,
+      ap (list_all is_simple) (rest_to w at (last + 1) (omega (arith, h)) ∙ split) ∙ a.simple (0x22 ∷ []) refl,
     )
   where
     counted : (i j : ℕ) → i < j → (n : ℕ) × (i + 1 + n ≡ j)

@@ -18,7 +18,7 @@ use Rattle.at_lex.specs.Runs.{JsonRun, Literal, the_null, the_true, the_false, l
 use Rattle.at_lex.specs.Spans.{AreSpaces}
 use Rattle.at_lex.proofs.FrontLemmas.{suffix_is}
 use Rattle.at_wkt.specs.Positions.{fault_of}
-use Rattle.at_wkt.proofs.NumberSteps.{rest_part}
+use Rattle.at_wkt.proofs.NumberSteps.{rest_part, rest_to}
 use Rattle.at_nest.specs.declared.algebra.Member.{Member}
 use Rattle.at_nest.specs.declared.algebra.Attempt.TheVariants.{Whole as WholeAttempt}
 use Rattle.at_nest.specs.Folds.{IsScalarText, IsAttempt, AreFolds, AreMemberFolds}
@@ -96,25 +96,22 @@ value_taken w at n digits how asked v ed eh h =
     subst (λ d. IsFixedOf (between w at (at + n)) d asked.how (Ok v)) ed (subst (λ k. IsFixedOf (between w at (at + n)) digits k (Ok v)) eh
     (subst (λ z. IsFixedOf z digits how (Ok v)) (ap (take n) (suffix_is w at) ∙ rest_part w at n) h))
 
-pub slice_part : (w : List ℕ) (at end : ℕ) → at ≤ end → take (end - at) (drop at w) ≡ between w at end
-slice_part w at end h = rest_part w at (end - at) ∙ ap (between w at) (let e : at + (end - at) ≡ end = omega (arith, h) in e)
-
 -- the bytes of a whole scalar
 pub run_text : (w : List ℕ) (at end : ℕ) → IsTaken JsonRun w at end → IsScalarText (take (end - at) (drop at w))
-run_text w at end t = subst IsScalarText (sym (slice_part w at end (omega (arith, t.order)))) (inr t.word)
+run_text w at end t = subst IsScalarText (sym (rest_to w at end (omega (arith, t.order)))) (inr t.word)
 
 pub string_text : (w : List ℕ) (at end : ℕ) → IsTextAt w at end → IsScalarText (take (end - at) (drop at w))
-string_text w at end (order, within, s) = subst IsScalarText (sym (slice_part w at end (omega (arith, order)))) (inl s)
+string_text w at end (order, within, s) = subst IsScalarText (sym (rest_to w at end (omega (arith, order)))) (inl s)
 
 pub string_taken : (w : List ℕ) (at end : ℕ) → IsTextAt w at end → JsonString (take (end - at) (drop at w))
-string_taken w at end (order, within, s) = subst JsonString (sym (slice_part w at end (omega (arith, order)))) s
+string_taken w at end (order, within, s) = subst JsonString (sym (rest_to w at end (omega (arith, order)))) s
 
 -- the bytes of a name, and its units
 pub name_text : (w : List ℕ) (at : ℕ) (n : NamePlace) → IsNameAt w at n → JsonString (take (n.end - n.first) (drop n.first w))
-name_text w at n h = subst JsonString (sym (slice_part w n.first n.end (omega (arith, h.text.0)))) h.text.2
+name_text w at n h = subst JsonString (sym (rest_to w n.first n.end (omega (arith, h.text.0)))) h.text.2
 
 pub name_units : (w : List ℕ) (at : ℕ) (n : NamePlace) (units : List ℕ) → IsNameAt w at n → AreUnitsOf (take (n.end - n.first) (drop n.first w)) units → AreUnitsOf (between w n.first n.end) units
-name_units w at n units h u = subst (λ z. AreUnitsOf z units) (slice_part w n.first n.end (omega (arith, h.text.0))) u
+name_units w at n units h u = subst (λ z. AreUnitsOf z units) (rest_to w n.first n.end (omega (arith, h.text.0))) u
 
 -- ---- scalars
 
@@ -124,7 +121,7 @@ module _ (asked : Asked) (base : ℕ) (w : List ℕ) where
   StandsAt at end a = (t : Tree) → Spells (base + at) (take (end - at) (drop at w)) t → IsFold asked a t
 
   spelled : (at end : ℕ) (a : GeoAtom) → at < end → StandsAt at end a → (t : Tree) → Spells (base + at) (between w at end) t → IsFold asked a t
-  spelled at end a h fold t s = fold t (subst (λ z. Spells (base + at) z t) (sym (slice_part w at end (omega (arith, h)))) s)
+  spelled at end a h fold t s = fold t (subst (λ z. Spells (base + at) z t) (sym (rest_to w at end (omega (arith, h)))) s)
 
   pub run_read : (at end : ℕ) (a : GeoAtom) → IsTaken JsonRun w at end → IsOwn asked a → StandsAt at end a → IsWhole asked base w at (record { end = end; atom = a })
   run_read at end a taken own fold = go taken.word where

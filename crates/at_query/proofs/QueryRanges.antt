@@ -49,7 +49,7 @@ small_size : (how : Coords) (m a b : ℕ) (size : Result ℕ FixedFault) → IsS
 small_size how zero a b size h = subst IsSmall (sym h) (lit≤ tt)
 small_size how (suc m) a b size h = small_quotient how (suc m * 10 ^ a) (10 ^ b) size (pow_positive b) h
 
-abs_minus : (n : ℕ) → nat_abs (neg_ℤ (pos n)) ≡ n
+pub abs_minus : (n : ℕ) → nat_abs (neg_ℤ (pos n)) ≡ n
 abs_minus zero = refl
 abs_minus (suc n) = refl
 

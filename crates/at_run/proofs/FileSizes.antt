@@ -100,7 +100,7 @@ abbrev pub parts_size : List (List ℕ) → ℕ
 parts_size [] = 0
 parts_size (p ∷ ps) = length p + parts_size ps
 
-placed_size : (at : ℕ) (ps : List (List ℕ)) → text_size (placed at ps) ≡ parts_size ps
+pub placed_size : (at : ℕ) (ps : List (List ℕ)) → text_size (placed at ps) ≡ parts_size ps
 placed_size at [] = refl
 placed_size at (p ∷ ps) = ap (λ n. length p + n) (placed_size (at + length p + 1) ps)
 

@@ -29,8 +29,9 @@ use Rattle.at_geojson.specs.Names.{is_named, member_named, kind_of, items_of}
 use Rattle.at_geojson.specs.Coordinates.{geometry_of}
 use Rattle.at_geojson.specs.Roles.{GeometryRead, not_geometry, both_read, Features, not_features, all_features, feature_of, properties_texts, properties_faults, coordinates_reading, kind_reading, geometry_reading, collection_reading, geometries_reading, items_reading, geometry_member_reading, feature_reading, if_feature, item_reading, features_reading, root_of_kind, root_reading, features_of, role_faults_of}
 use Rattle.at_geojson.specs.Wholes.{faults_of}
+use Rattle.at_geojson.proofs.ObjectOwns.{points_in}
 use Rattle.at_run.specs.JsonFiles.{HasJsonFaultBehind, HasJsonFileFault}
-use Rattle.at_run.proofs.ShapeRanges.{with_points, with_both, geometry_in_range}
+use Rattle.at_run.proofs.ShapeRanges.{with_both, geometry_in_range}
 use Rattle.at_run.proofs.ProperFeatures.{empties, not_empty, no_first, HasClosedRings, geometry_closed, at_of}
 
 -- ---- what is read of geometries
@@ -40,7 +41,7 @@ abbrev IsProper : GeometryRead → Type 0
 IsProper r = IsShapeInRange r.shape × (r.faults ≡ [] → AreRingsClosed r.shape)
 
 nothing_in_range : IsShapeInRange empty_shape
-nothing_in_range = with_points [] (All-nil IsInRange)
+nothing_in_range = points_in [] (All-nil IsInRange)
 
 no_geometry : (at : ℕ) → IsProper (not_geometry at)
 no_geometry at = (nothing_in_range, λ e. tt)

@@ -3,27 +3,18 @@
 use Rattle.std.proofs.Common.{ℕ, List, [], ◌∷◌, map, flat_map, All, option_to_list, sym, subst}
 use Rattle.std.proofs.lemmas.List.Elements.{All-nil, All-cons, All-append}
 use Rattle.at_fixed.specs.declared.rounding.Coords.{Coords}
-use Rattle.at_geom.specs.declared.positions.Pos.{Pos}
 use Rattle.at_geom.specs.declared.shapes.Polygon.{Polygon}
 use Rattle.at_geom.specs.declared.shapes.Shape.{Shape}
 use Rattle.at_geom.specs.Segments.{IsInRange}
 use Rattle.at_geom.specs.Shapes.{ArePathsInRange, ArePolygonsInRange, IsShapeInRange}
 use Rattle.at_wkt.specs.Positions.{Position, Positions, pos_of, path_of}
 use Rattle.at_wkt.specs.Geometry.{Geometry, point, line_string, polygon, multi_point, multi_line_string, multi_polygon, collection, Geometries, no_geometries, geometry_and}
-use Rattle.at_wkt.specs.Meaning.{both, of_points, of_lines, of_polygons, present, polygons_of, shape_of, shape_of_all}
+use Rattle.at_wkt.specs.Meaning.{both, present, polygons_of, shape_of, shape_of_all}
 use Rattle.at_wkt.specs.Answers.{HasLineShape}
 use Rattle.at_geojson.proofs.Ranges.{value_small}
+use Rattle.at_geojson.proofs.ObjectOwns.{points_in, lines_in, polygons_in}
 
 -- ---- shapes
-
-pub with_points : (ps : List Pos) → All IsInRange ps → IsShapeInRange (of_points ps)
-with_points ps h = record { points = h; lines = All-nil (All IsInRange); polygons = All-nil (λ (polygon : Polygon). ArePathsInRange polygon.rings) }
-
-with_lines : (ls : List (List Pos)) → ArePathsInRange ls → IsShapeInRange (of_lines ls)
-with_lines ls h = record { points = All-nil IsInRange; lines = h; polygons = All-nil (λ (polygon : Polygon). ArePathsInRange polygon.rings) }
-
-with_polygons : (ps : List Polygon) → ArePolygonsInRange ps → IsShapeInRange (of_polygons ps)
-with_polygons ps h = record { points = All-nil IsInRange; lines = All-nil (All IsInRange); polygons = h }
 
 pub with_both : (s u : Shape) → IsShapeInRange s → IsShapeInRange u → IsShapeInRange (both s u)
 with_both s u h k = record {
@@ -66,16 +57,16 @@ module _ (digits : ℕ) (how : Coords) where
 
   mutual
     pub geometry_in_range : (g : Geometry) → IsShapeInRange (shape_of digits how g)
-    geometry_in_range (point p) = with_points _ (points_small (option_to_list p))
-    geometry_in_range (line_string ps) = with_lines _ (paths_small (option_to_list ps))
-    geometry_in_range (polygon rings) = with_polygons _ (area_small rings)
-    geometry_in_range (multi_point ps) = with_points _ (points_small (present ps))
-    geometry_in_range (multi_line_string ls) = with_lines _ (paths_small (present ls))
-    geometry_in_range (multi_polygon areas) = with_polygons _ (areas_small areas)
+    geometry_in_range (point p) = points_in _ (points_small (option_to_list p))
+    geometry_in_range (line_string ps) = lines_in _ (paths_small (option_to_list ps))
+    geometry_in_range (polygon rings) = polygons_in _ (area_small rings)
+    geometry_in_range (multi_point ps) = points_in _ (points_small (present ps))
+    geometry_in_range (multi_line_string ls) = lines_in _ (paths_small (present ls))
+    geometry_in_range (multi_polygon areas) = polygons_in _ (areas_small areas)
     geometry_in_range (collection gs) = geometries_in_range gs
 
     geometries_in_range : (gs : Geometries) → IsShapeInRange (shape_of_all digits how gs)
-    geometries_in_range no_geometries = with_points [] (All-nil IsInRange)
+    geometries_in_range no_geometries = points_in [] (All-nil IsInRange)
     geometries_in_range (geometry_and g gs) = with_both _ _ (geometry_in_range g) (geometries_in_range gs)
 
   pub line_in_range : (at : ℕ) (text : List ℕ) (shape : Shape) → HasLineShape digits how at text shape → IsShapeInRange shape

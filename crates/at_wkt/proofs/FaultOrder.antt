@@ -84,7 +84,7 @@ module _ (a b c : Fault) where
   three false false true e f g = absurd (true≢false (sym (first_trans a c b g (later_first b c f)) ∙ e))
   three false false false e f g = left false e ∙ (ap (λ t. if t then Some b else Some c) f ∙ sym (right false f ∙ ap (λ t. if t then Some a else Some c) g))
 
-none_right : (o : Option Fault) → first_fault o None ≡ o
+pub none_right : (o : Option Fault) → first_fault o None ≡ o
 none_right None = refl
 none_right (Some a) = refl
 

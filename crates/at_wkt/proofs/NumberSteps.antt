@@ -75,7 +75,7 @@ byte_in (b ∷ a) e es (h, hs) = byte_in a e es hs
 pub rest_part : (w : List ℕ) (i n : ℕ) → take n (drop i w) ≡ between w i (i + n)
 rest_part w i n = sym (drop-take i n w)
 
-rest_to : (w : List ℕ) (i j : ℕ) → i ≤ j → take (j - i) (drop i w) ≡ between w i j
+pub rest_to : (w : List ℕ) (i j : ℕ) → i ≤ j → take (j - i) (drop i w) ≡ between w i j
 rest_to w i j h = rest_part w i (j - i) ∙ ap (between w i) (omega arith)
 
 rest_beyond : (w : List ℕ) (i j : ℕ) → i ≤ j → take (j - i + 1) (drop i w) ≡ between w i (j + 1)

@@ -144,7 +144,7 @@ module _ {X Y : Type 0} (P : ℕ → X → ℕ → List ℕ → Type 0) (faults 
 
 -- ---- lines and rings
 
-first_of-option : (o : Option Fault) → first_of (option_to_list o) ≡ o
+pub first_of-option : (o : Option Fault) → first_of (option_to_list o) ≡ o
 first_of-option None = refl
 first_of-option (Some f) = refl
 

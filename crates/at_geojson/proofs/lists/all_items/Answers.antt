@@ -1,9 +1,10 @@
 use Rattle.std.proofs.Common.{◌++◌, List, sym, ◌∙◌, ap, subst}
 use Rattle.std.specs.Vec.Iter.{into_iter_items}
+use Rattle.at_nest.proofs.Joining.{taken_front}
 use Rattle.at_geojson.specs.declared.atoms.GeoAtom.{GeoAtom}
 use Rattle.at_geojson.specs.Atoms.{IfOwnShape, IfOwnPart}
 use Rattle.at_geojson.proofs.OwnFolds.{own_joined, own_middle, joinable, shapes_own, parts_own}
-use Rattle.at_geojson.proofs.ItemFolds.{taken_front, one_item_more}
+use Rattle.at_geojson.proofs.ItemFolds.{one_item_more}
 use Rattle.at_geojson.proofs.lists.all_items.Goals as goal
 
 pub joined_items-requires : goal.joined_items-requires

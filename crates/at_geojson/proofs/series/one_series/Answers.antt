@@ -1,8 +1,8 @@
 use Rattle.std.proofs.Common.{◌++◌, List, sym, ◌∙◌, ap}
 use Rattle.std.specs.Vec.Iter.{into_iter_items}
+use Rattle.at_nest.proofs.Joining.{taken_front}
 use Rattle.at_geojson.specs.declared.atoms.GeoAtom.{GeoAtom}
 use Rattle.at_geojson.proofs.OwnFolds.{own_middle}
-use Rattle.at_geojson.proofs.ItemFolds.{taken_front}
 use Rattle.at_geojson.proofs.SeriesFolds.{one_more, joins_if_own}
 use Rattle.at_geojson.proofs.series.one_series.Goals as goal
 

@@ -1,8 +1,8 @@
 use Rattle.std.proofs.Common.{◌++◌, List, sym, ◌∙◌, ap}
 use Rattle.std.specs.Vec.Iter.{into_iter_items}
+use Rattle.at_nest.proofs.Joining.{taken_front}
 use Rattle.at_geojson.specs.declared.atoms.GeoAtom.{GeoAtom}
 use Rattle.at_geojson.proofs.OwnFolds.{own_middle}
-use Rattle.at_geojson.proofs.ItemFolds.{taken_front}
 use Rattle.at_geojson.proofs.TrackFolds.{one_more, joins_if_own}
 use Rattle.at_geojson.proofs.tracks.one_track.Goals as goal
 
