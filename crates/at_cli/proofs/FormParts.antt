@@ -59,7 +59,6 @@ module _ (digits : ℕ) (how : Coords) where
   in_range_as Seq bytes fs are = seq_features_in_range digits how bytes fs are
 
   module _ (form : FileForm) (query : Query) (bytes : List ℕ) (part : Part) (h : IsPartAs form digits how query bytes part) where
-
     -- what `answer_of` ensures of its answer, over the features of the file
     pub result_as : (answer : Answer) → length bytes ≤ 2 ^ 28 → ((query : Query) (fs : List Feature) → IsPart query fs part → AreFeaturesInRange fs → AreFew fs → IsResult query fs answer)
         → IsAnswerAs form digits how query bytes answer

@@ -15,7 +15,11 @@ use at_text::Memory;
 use std::alloc::Global;
 
 /// The least extents round each so many outlines, in order; the last may be round fewer.
-pub(crate) fn covers_of(alloc: Global, outlines: &[Outline], size: usize) -> Result<Vec<Extent>, Memory>
+pub(crate) fn covers_of(
+    alloc: Global,
+    outlines: &[Outline],
+    size: usize,
+) -> Result<Vec<Extent>, Memory>
     requires { (0 < size) × (size ≤ 4096) }
     ensures { IfOk result (λ covers. Cover size covers.items outlines.now) }
 {

@@ -265,7 +265,6 @@ module _ (digits : ℕ) (how : Coords) where
   whole_of q v (v1, v2, ev, hv, s) = (v1, v2, ev, hv, (q.tests, refl, s))
 
   module _ (w : List ℕ) where
-
     pub query_breaks : (n : ℕ) → Breaks Whole w 0 n → IsNoQuery digits how w n
     query_breaks n h = record {
       no_query = λ (q, s). h.dead (meant_by q) w (whole_of q w s) (rest_onward w 0 n h.order h.within);

@@ -3,7 +3,7 @@
 use Rattle.std.proofs.Common.{◌≡◌, ℕ, zero, suc, ◌+◌, ◌-◌, ◌<◌, ◌≤◌, inl, inr, List, [], ◌∷◌, ◌++◌, length, take, drop, slice_index, flat_map, codes, Option, Some, None, refl, sym, ◌∙◌, ap, subst, arith, append-nil, append_assoc, length-append, length-take, length-drop, take-append-drop, take-take, drop-drop, lit≤}
 use native.Mathlib.Decide.{dec_lt}
 use Rattle.std.proofs.Math.Seq.{take-length}
-use Rattle.std.proofs.lemmas.List.{drop_more, drop-take, get_or-take}
+use Rattle.std.proofs.lemmas.List.{drop_more, drop-take}
 use Rattle.std.specs.Str.{IsUtf8}
 use Rattle.std.proofs.lemmas.Str.{IsUtf8-take, IsUtf8-drop, IsCharBoundary-before_ascii, IsCharBoundary-after_ascii}
 use Rattle.at_text.specs.declared.faults.Fault.{Fault}
@@ -78,9 +78,6 @@ without_quote text none a v ha (t, q) e =
       blanks = subst AreBlanks (sym (ap (take (length a)) whole ∙ front_of a (0x22 ∷ t))) ha;
       byte = ap (λ z. slice_index z (length a)) whole ∙ byte_behind a t 0x22;
     })
-
-  taken_byte : (w : List ℕ) (n k : ℕ) → k < n → slice_index (take n w) k ≡ slice_index w k
-  taken_byte w n k less = get_or-take n w k 0 less
 
 -- nor does one begin a front of bytes that begin with a letter
 pub plain_front : (b : ℕ) (t : List ℕ) (n : ℕ) → 0x22 < b → QuoteIs (take n (b ∷ t)) None

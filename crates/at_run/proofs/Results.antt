@@ -29,7 +29,6 @@ module _ (digits : ℕ) (how : Coords) (bytes : List ℕ) (fs : List Feature) wh
   features_in_range GeoJson (t, is, same) = subst AreFeaturesInRange (sym same) (json_features_in_range digits how t)
 
 module _ (form : Form) (digits : ℕ) (how : Coords) (query : Query) (bytes : List ℕ) (part : Part) (h : IsFilePart form digits how query bytes part) where
-
   -- what `answer_of` ensures of its answer, over the features of the file
   pub file_result : (answer : Answer) → length bytes ≤ 2 ^ 28 → ((query : Query) (fs : List Feature) → IsPart query fs part → AreFeaturesInRange fs → AreFew fs → IsResult query fs answer)
       → IsFileAnswer form digits how query bytes answer

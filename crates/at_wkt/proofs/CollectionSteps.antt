@@ -32,7 +32,6 @@ kind_first k [] e = absurd (no_word k e) where
   no_word MultiPolygon e = omega (arith, ap length e)
   no_word GeometryCollection e = omega (arith, ap length e)
 kind_first k (b ∷ t) e = (b, t, refl, letter k e) where
-
   clear : (c : ℕ) → 0x41 ≤ c → to_ascii_uppercase b ≡ c → no_blank b ≡ true
   clear c low h = grind (arith, low, h)
 

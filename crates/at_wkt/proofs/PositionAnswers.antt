@@ -25,7 +25,6 @@ use Rattle.at_text.proofs.Exits.{answers_by}
 use Rattle.at_wkt.proofs.FaultOrder.{first_of-append}
 
 module _ (w : List ℕ) (j m : ℕ) (c : Dimension) (k : ℕ) (skips : SkipsBlanks w j m) (reaches : Reaches c k) (two : 2 ≤ k) where
-
   -- a delimiter ends the position, or comes too early
   pub further_ended : m < length w → is_delimiter (next w m) ≡ true → (r : Result NumbersRead Halt)
       → MatchResult r (λ read. (allows c k ≡ true) × (read.behind.at ≡ m + 1) × (read.behind.dimension ≡ Fixed k) × (next w m ≡ delimiter read.is_last)) (λ halt. IfStopped halt (λ n. (n ≡ m) × (allows c k ≡ false)))

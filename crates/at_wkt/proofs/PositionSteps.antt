@@ -182,7 +182,6 @@ further_inhabited d at (low, high) = let (v, q) = further_lives (d - 2) 2 d (ome
 -- ---- reading on
 
 module _ (base : ℕ) (w : List ℕ) (j m : ℕ) (c : Dimension) (k : ℕ) (skips : SkipsBlanks w j m) where
-
   -- a word that agrees with the text has its blanks, and then its byte
   pub further_agrees : (d : ℕ) (last : Bool) (at : ℕ) (v r s : List ℕ) → FurtherNumbers k d last at v → Ahead w m s → v ++ r ≡ between w j m ++ s
       → ((is_delimiter (next w m) ≡ true) × (k ≡ d)) ⊎ ((is_delimiter (next w m) ≡ false) × (k < d) × (between w j m ≢ []))

@@ -6,7 +6,8 @@ use at_fixed::{Coords, FixedFault};
 use at_geom::{Pos, Shape};
 use at_text::{Fault, FaultKind, Memory, base_of, first_fault, utf8_fault};
 use at_wkt::{
-    Fold, LineFault, Room, finish_lines, is_blank, number_fault, read_geometry, read_line, run_lines,
+    Fold, LineFault, Room, finish_lines, is_blank, number_fault, read_geometry, read_line,
+    run_lines,
 };
 use std::alloc::{AllocError, Global};
 use std::test::Fail;
