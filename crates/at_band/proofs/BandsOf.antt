@@ -12,6 +12,7 @@ use Rattle.at_geom.specs.Segments.{HaveCommonPoint}
 use Rattle.at_geom.specs.Shapes.{MeetsSome, segments, positions, extent_of}
 use Rattle.at_geom.proofs.CommonPoint.{common_point_out}
 use Rattle.at_geom.proofs.Found.{found_segment, extent_covers, sides}
+use Rattle.at_geom.proofs.Elements.{not_first}
 use Rattle.at_band.specs.declared.zones.Band.{Band}
 use Rattle.at_band.specs.declared.zones.Zone.{Zone}
 use Rattle.at_band.specs.declared.bands.Frame.{Frame}
@@ -132,10 +133,6 @@ met_by_some s a b (band ∷ bands) (inl h) = met_somewhere band.heights.low band
 met_by_some s a b (band ∷ bands) (inr h) = met_by_some s a b bands h
 
 -- ---- one more element of a list is passed
-
-not_first : {X : Type 0} (Q : X → Type 0) (x : X) (xs : List X) → ¬ Q x → SomeOf Q (x ∷ xs) → SomeOf Q xs
-not_first Q x xs f (inl h) = absurd (f h)
-not_first Q x xs f (inr h) = h
 
 pub some_next : {X : Type 0} (Q : X → Type 0) (xs : List X) (i : ℕ) (d y : X) → i < length xs → y ≡ get_or xs i d → ¬ Q y → SomeOf Q (drop i xs) → SomeOf Q (drop (i + 1) xs)
 some_next {X} Q xs i d y lt e f h = not_first Q (get_or xs i d) (drop (i + 1) xs) (λ k. f (subst Q (sym e) k)) (subst (SomeOf Q) (drop_more xs i d lt) h)

@@ -20,6 +20,3 @@ covering_more low end parts next e f y h k =
 
 pub covering_next : (low end : ℤ) (parts : List Heights) (next : Heights) → next.low ≡ end → AreCoveringBelow low end parts → AreCoveringBelow low next.high (parts ++ next ∷ [])
 covering_next low end parts next e f y h k = covering_more low end parts next e f y h (omega (arith, ints, k))
-
-pub covering_none : (low end : ℤ) → end ≡ low → AreCoveringBelow low end []
-covering_none low end e y h k = absurd (omega (arith, ints, e, h, k))

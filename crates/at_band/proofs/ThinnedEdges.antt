@@ -1,12 +1,12 @@
 -- A thinned path has the same edges that reach into the heights: two kept edges that don't follow one another are
 -- joined by an edge beside the heights, since the path doesn't pass them between the two.
 -- For `copy`, `meets` and `new`.
-use Rattle.std.proofs.Common.{◌≡◌, ℤ, ◌≤ℤ◌, ◌<ℤ◌, ◌⊎◌, inl, inr, Bool, true, false, ◌&&◌, List, [], ◌∷◌, ◌++◌, arith, refl, sym, ap, subst, ◌∙◌}
+use Rattle.std.proofs.Common.{◌≡◌, ℤ, ◌≤ℤ◌, ◌<ℤ◌, ◌⊎◌, inl, inr, Bool, true, false, List, [], ◌∷◌, ◌++◌, arith, refl, sym, ap, subst, ◌∙◌}
 use Rattle.std.specs.Prelude.{int_le, flat_map}
 use Rattle.std.specs.Int.{int_min, int_max}
 use Rattle.std.specs.List.{filter}
 use Rattle.std.proofs.lemmas.Int.{ints, clamps, by_lt_z}
-use Rattle.std.proofs.lemmas.Bool.{false≢true}
+use Rattle.std.proofs.lemmas.Bool.{false≢true, and_left, and_right}
 use Rattle.std.proofs.lemmas.List.Elements.{filter-append}
 use Rattle.at_geom.specs.declared.positions.Pos.{Pos}
 use Rattle.at_geom.specs.declared.shapes.Polygon.{Polygon}
@@ -22,16 +22,9 @@ use Rattle.at_band.proofs.Filtered.{keep_head, drop_head}
 abbrev pub AreBeside : ℤ → ℤ → Pos → Pos → Type 0
 AreBeside low high a b = ((high <ℤ a.y) × (high <ℤ b.y)) ⊎ ((a.y <ℤ low) × (b.y <ℤ low))
 
-left_out : (u v : Bool) → u ≡ false → (u && v) ≡ false
-left_out u v e = rw e refl
-
-right_out : (u v : Bool) → v ≡ false → (u && v) ≡ false
-right_out true v e = e
-right_out false v e = refl
-
 pub beside_out : (low high : ℤ) (a b : Pos) → AreBeside low high a b → spans low high (a, b) ≡ false
-beside_out low high a b (inl h) = left_out (int_le (int_min a.y b.y) high) (int_le low (int_max a.y b.y)) (le_false (int_min a.y b.y) high (let k = h.0 in let m = h.1 in omega (arith, ints, clamps)))
-beside_out low high a b (inr h) = right_out (int_le (int_min a.y b.y) high) (int_le low (int_max a.y b.y)) (le_false low (int_max a.y b.y) (let k = h.0 in let m = h.1 in omega (arith, ints, clamps)))
+beside_out low high a b (inl h) = and_left (int_le (int_min a.y b.y) high) (int_le low (int_max a.y b.y)) (le_false (int_min a.y b.y) high (let k = h.0 in let m = h.1 in omega (arith, ints, clamps)))
+beside_out low high a b (inr h) = and_right (int_le (int_min a.y b.y) high) (int_le low (int_max a.y b.y)) (le_false low (int_max a.y b.y) (let k = h.0 in let m = h.1 in omega (arith, ints, clamps)))
 
 pub spans_true : (low high : ℤ) (a b : Pos) → int_min a.y b.y ≤ℤ high → low ≤ℤ int_max a.y b.y → spans low high (a, b) ≡ true
 spans_true low high a b h k = both_true (int_le (int_min a.y b.y) high) (int_le low (int_max a.y b.y)) (le_true (int_min a.y b.y) high h) (le_true low (int_max a.y b.y) k)

@@ -10,7 +10,7 @@
 //! The bands hold about n segments where m is small, and some nine times n at worst. In a comb, whose teeth have all
 //! heights, m is n: it stays whole, in one band, and a position costs a pass over it.
 
-ghost use Rattle.std.specs.Prelude.{◌≡◌, IsTrue, ◌↔◌, ◌≤ℤ◌, IfOk, IfSome, All, Some, None};
+ghost use Rattle.std.specs.Prelude.{◌≡◌, IsTrue, ◌↔◌, IfOk, IfSome, All, Some, None};
 ghost use Rattle.at_text.specs.Lists.{SomeOf};
 ghost use Rattle.at_geom.specs.declared.positions.Pos.{Pos};
 ghost use Rattle.at_geom.specs.Segments.{IsInRange};

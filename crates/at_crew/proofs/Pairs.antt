@@ -1,6 +1,6 @@
 -- What a seat with two slots has after plain steps.
 -- For `run_crew`, `settle` and `work`.
-use Rattle.std.proofs.Common.{◌≡◌, ◌∙◌, ℕ, List, [], ◌∷◌, Option, Some, None, ap, sym}
+use Rattle.std.proofs.Common.{◌≡◌, ◌∙◌, ℕ, List, [], ◌∷◌, Option, None, ap, sym}
 use Rattle.atomic_table.specs.Table.{rest, turned}
 
 module _ {P : Type 0} where
@@ -17,11 +17,3 @@ module _ {P : Type 0} where
 
   pub same_part : (m : List (ℕ × Option P)) (a : ℕ) (r x : Option P) (xs : List (ℕ × Option P)) → m ≡ (a, x) ∷ xs → m ≡ (a, r) ∷ rest m → r ≡ x
   same_part m a r x xs e e' = sym (ap head_part e') ∙ ap head_part e
-
-  pub two_known : (m m2 : List (ℕ × Option P)) (a b : ℕ) (y x t o : P) (r r2 : Option P) → m ≡ (a, Some y) ∷ (b, Some x) ∷ [] → m ≡ (a, r) ∷ rest m → r ≡ Some t → m2 ≡ (b, Some x) ∷ (a, None) ∷ [] → m2 ≡ (b, r2) ∷ rest m2 → r2 ≡ Some o
-      → m ≡ (a, Some t) ∷ (b, Some o) ∷ []
-  two_known m m2 a b y x t o r r2 e e' is e2 e2' is2 = let p : Some y ≡ Some t = sym (same_part m a r (Some y) ((b, Some x) ∷ []) e e') ∙ is in let q : Some x ≡ Some o = sym (same_part m2 b r2 (Some x) ((a, None) ∷ []) e2 e2') ∙ is2 in
-      e ∙ (λ i. (a, p i) ∷ (b, q i) ∷ [])
-
-  pub replaced : (m m' : List (ℕ × Option P)) (b : ℕ) (x w : Option P) (xs : List (ℕ × Option P)) → m ≡ (b, x) ∷ xs → m' ≡ (b, w) ∷ rest m → m' ≡ (b, w) ∷ xs
-  replaced m m' b x w xs e e' = e' ∙ ap (λ t. (b, w) ∷ rest t) e

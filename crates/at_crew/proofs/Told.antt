@@ -65,12 +65,6 @@ module _ {P F : Type 0} (stands : F → P → ℕ → ℕ → Type 0) (count : F
   second slots e (Leads l) m held facts is sx some met = absurd facts
 
 module _ {P : Type 0} where
-  second_part : List (ℕ × Option P) → Option P
-  second_part [] = None
-  second_part (x ∷ xs) = head_part xs
-
-  part_inj : (a b : P) → Some a ≡ Some b → a ≡ b
-  part_inj a b e = some-inj e
 
 -- the parts of two children, found twice, are the same
 pub same_children : {P : Type 0} (own : Bool) (left right : ℕ) (a b c d : P) → children own left right a b ≡ children own left right c d → (a ≡ c) × (b ≡ d)

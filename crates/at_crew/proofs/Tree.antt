@@ -107,10 +107,6 @@ abbrev pub up : ℕ → ℕ → ℕ
 up zero n = n
 up (suc j) n = up j (n / 2)
 
-pub up_zero : (j : ℕ) → up j 0 ≡ 0
-up_zero zero = refl
-up_zero (suc j) = up_zero j
-
 pub up_reaches : (k h n m x j : ℕ) → Spans k h n x → Spans k (h + j) m x → up j n ≡ m
 up_reaches k h n m x zero s t = same_node k h n m x s (subst (λ (i : ℕ). Spans k i m x) (add-zero h) t)
 up_reaches k h n m x (suc j) s t = let e : h + suc j ≡ suc h + j = omega arith in up_reaches k (suc h) (n / 2) m x j (spans_parent k h n x s) (subst (λ (i : ℕ). Spans k i m x) e t)
@@ -130,11 +126,6 @@ one_height k l h n l' h' is is' = cases (dec_le (suc h) h') (dec_le (suc h') h)
     cases (yes a) b = let e : h' ≡ h + suc (h' - suc h) = omega (arith, a) in absurd (taller k l h n l' (h' - suc h) is (subst (λ (i : ℕ). IsNode k l' i n) e is'))
     cases (no a) (yes b) = let e : h ≡ h' + suc (h - suc h') = omega (arith, b) in absurd (taller k l' h' n l (h - suc h') is' (subst (λ (i : ℕ). IsNode k l i n) e is))
     cases (no a) (no b) = omega arith
-
--- the sibling of a node below the root
-pub inner_level : (k l h n : ℕ) → IsNode k l h n → 1 < n → (l' : ℕ) × (l ≡ suc l')
-inner_level k zero h n is lt = let e = low_is_root k h n is in absurd (omega (arith, e, lt))
-inner_level k (suc l) h n is lt = (l, refl)
 
 pub above_node : (k l h n : ℕ) → IsNode k l h n → 1 < n → (l' : ℕ) × IsNode k l' (suc h) (n / 2)
 above_node k zero h n is lt = let e = low_is_root k h n is in absurd (omega (arith, e, lt))

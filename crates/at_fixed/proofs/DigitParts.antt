@@ -36,10 +36,6 @@ pub digits-both : (ds es : List ℕ) → AreDigits ds → AreDigits es → AreDi
 digits-both [] es h k = k
 digits-both (d ∷ ds) es (h, hs) k = (h, digits-both ds es hs k)
 
-pub behind-more : (m : ℕ) (ds : List ℕ) (b : ℕ) → digits_behind m (ds ++ (b ∷ [])) ≡ 10 * digits_behind m ds + (b - 0x30)
-behind-more m [] b = refl
-behind-more m (d ∷ ds) b = behind-more (10 * m + (d - 0x30)) ds b
-
 pub behind-both : (m : ℕ) (ds es : List ℕ) → digits_behind m (ds ++ es) ≡ digits_behind (digits_behind m ds) es
 behind-both m [] es = refl
 behind-both m (d ∷ ds) es = behind-both (10 * m + (d - 0x30)) ds es

@@ -1,7 +1,7 @@
 -- The end of a number, with an exponent or without one: its longest viable prefix, its parts, and what is kept of them.
 -- For `json_number`, `leading_number`, `plain_len`, `plain_number`, `read_fixed` and `wkt_number`.
 use Rattle.std.proofs.Common.{◌≡◌, ℕ, ◌+◌, ◌^◌, ◌<◌, ◌≤◌, ◌⊎◌, inl, inr, Bool, true, false, cond, nat_lt, ◌==◌, ◌||◌, IsTrue, Option, Some, None, IfSome, List, [], ◌∷◌, ◌++◌, length, take, slice_index, refl, sym, ◌∙◌, ap, subst, arith, add-one, take-suc, append-nil, append_assoc}
-use Rattle.std.proofs.lemmas.Bool.{cases_lt}
+use Rattle.std.proofs.lemmas.Bool.{cases_lt, ltb-true, lt-ltb}
 use Rattle.at_text.specs.Prefix.{TakesLongest}
 use Rattle.at_text.specs.Texts.{is_digit}
 use Rattle.at_fixed.specs.declared.notation.Notation.{Notation}
@@ -19,7 +19,7 @@ use Rattle.at_fixed.specs.Scans.{ReadsSign, IsFrontOf, IsMantissaOf, after_manti
 use Rattle.at_fixed.proofs.DigitParts.{part-none, part-place, part-cons, part-more, part-length}
 use Rattle.at_fixed.proofs.NumberMachine.{number_at}
 use Rattle.at_fixed.proofs.Phases.{reads_byte, reads_digits, power_stays}
-use Rattle.at_fixed.proofs.Points.{lt_true, not_above, from_lt, some_digits}
+use Rattle.at_fixed.proofs.Points.{not_above, some_digits}
 
 -- the machine stands at the end, and no further byte can follow
 record Finished (g : Notation) (w : List ℕ) (end : ℕ) (is_number : Bool) : Type 0 where
@@ -86,7 +86,7 @@ exponent_end : (g : Notation) (w : List ℕ) (i end : ℕ) → Lettered g w i �
 exponent_end g w i end h order within digits stops = elim (cases_lt i end) [
   | inl some ↦ (let cells = part-cons w i end some within in
       let all : AreDigits (slice_index w i ∷ between w (i + 1) end) = subst AreDigits cells digits in
-      rw (lt_true i end some) (record {
+      rw (lt-ltb i end some) (record {
         state = power;
         reads = reads_digits g w i end h.state power h.reads some within digits (h.digit (slice_index w i) all.0) (power_stays g);
         ends = refl;
@@ -196,7 +196,7 @@ power_by : (w : List ℕ) (from : ℕ) (p : Power) (x : ReadsExponent w from p) 
 power_by w from p x e =
     let sign = sign_by w (from + 1) x.sign (omega (arith, x.inside)) x.reads_sign in
     let minus : p.is_minus ≡ has_minus (between w (from + 1) x.sign.end) = x.minus ∙ sign.minus in
-    let some : x.sign.end < p.end = from_lt x.sign.end p.end (sym x.ends ∙ e) in
+    let some : x.sign.end < p.end = ltb-true x.sign.end p.end (sym x.ends ∙ e) in
     record {
       is_exponent = record {
         letter = x.letter;

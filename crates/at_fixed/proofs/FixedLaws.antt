@@ -1,6 +1,7 @@
 -- The value of a number without division: what each answer says by products alone.
 -- For `read_fixed`.
 use Rattle.std.proofs.Common.{◌≡◌, ◌≢◌, ℕ, zero, suc, length, ◌^◌, ◌+◌, ◌*◌, ◌/◌, ◌%◌, ◌<◌, ◌≤◌, Bool, true, false, cond, nat_lt, ◌==◌, Result, Ok, Err, refl, sym, ◌∙◌, ap, arith, div-add-mod', mod-lt, add-zero, mul-le-mul_right, one-mul, lit<}
+use Rattle.std.proofs.lemmas.Bool.{eqb-true, eqb-false, ltb-true}
 use Rattle.std.proofs.Math.Nat.{mul-mod_left}
 use Rattle.at_fixed.specs.declared.rounding.FixedFault.{FixedFault}
 use Rattle.at_fixed.specs.declared.rounding.FixedFault.TheVariants.{Scale, Range}
@@ -14,15 +15,6 @@ use Rattle.at_fixed.proofs.Sizes.{pow_positive}
 not_less : (a b : ℕ) → nat_lt a b ≡ false → b ≤ a
 not_less a b h = grind (arith, h)
 
-less : (a b : ℕ) → nat_lt a b ≡ true → a < b
-less a b h = grind (arith, h)
-
-same : (a b : ℕ) → (a == b) ≡ true → a ≡ b
-same a b h = grind (arith, h)
-
-apart : (a b : ℕ) → (a == b) ≡ false → a ≢ b
-apart a b h = grind (arith, h)
-
 abbrev ok_or_zero : Result ℕ FixedFault → ℕ
 ok_or_zero (Ok n) = n
 ok_or_zero (Err e) = 0
@@ -33,17 +25,17 @@ no_multiple p q r f e = f (ap (λ n. n % q) (sym e) ∙ mul-mod_left r q)
 -- what the two tests of an exact value say
 exact_by : (p q : ℕ) (out whole : Bool) → nat_lt (largest * q) p ≡ out → (p % q == 0) ≡ whole
     → IsExact p q (cond out (Err Range) (cond whole (Ok (p / q)) (Err Scale)))
-exact_by p q true whole h k = record { value = λ r e. cc; range = λ e. less (largest * q) p h; scale = λ e. cc }
+exact_by p q true whole h k = record { value = λ r e. cc; range = λ e. ltb-true (largest * q) p h; scale = λ e. cc }
 exact_by p q false true h k = record {
   value = λ r e. let same_r : p / q ≡ r = ap ok_or_zero e in
-      (rw (← same_r) (sym (add-zero (p / q * q)) ∙ ap (λ n. p / q * q + n) (sym (same (p % q) 0 k)) ∙ div-add-mod' p q), not_less (largest * q) p h);
+      (rw (← same_r) (sym (add-zero (p / q * q)) ∙ ap (λ n. p / q * q + n) (sym (eqb-true (p % q) 0 k)) ∙ div-add-mod' p q), not_less (largest * q) p h);
   range = λ e. cc;
   scale = λ e. cc;
 }
 exact_by p q false false h k = record {
   value = λ r e. cc;
   range = λ e. cc;
-  scale = λ e. (not_less (largest * q) p h, λ r. no_multiple p q r (apart (p % q) 0 k));
+  scale = λ e. (not_less (largest * q) p h, λ r. no_multiple p q r (eqb-false (p % q) 0 k));
 }
 
 pub exact_quotient_means : (p q : ℕ) → IsExact p q (exact_quotient p q)
@@ -68,18 +60,18 @@ half p q d m n e k h even =
 
 nearest_by : (p q : ℕ) → 0 < q → (over at_half : Bool) → nat_lt q (2 * (p % q)) ≡ over → (2 * (p % q) == q) ≡ at_half
     → IsNearest p q (cond over (p / q + 1) (cond at_half (p / q + (p / q) % 2) (p / q)))
-nearest_by p q positive true at_half h k = more_than_half p q (p / q) (p % q) (sym (div-add-mod' p q)) (mod-lt p positive) (less q (2 * (p % q)) h)
+nearest_by p q positive true at_half h k = more_than_half p q (p / q) (p % q) (sym (div-add-mod' p q)) (mod-lt p positive) (ltb-true q (2 * (p % q)) h)
 nearest_by p q positive false true h k =
     let two : 0 < 2 = lit< tt in let below : (p / q) % 2 < 2 = mod-lt (p / q) two in let bit : (p / q) % 2 ≤ 1 = omega (arith, below) in
-    half p q (p / q) (p % q) ((p / q) % 2) (sym (div-add-mod' p q)) (same (2 * (p % q)) q k) (grind (arith, mul-le-mul_right q bit, one-mul q)) (even_next' (p / q))
+    half p q (p / q) (p % q) ((p / q) % 2) (sym (div-add-mod' p q)) (eqb-true (2 * (p % q)) q k) (grind (arith, mul-le-mul_right q bit, one-mul q)) (even_next' (p / q))
 nearest_by p q positive false false h k = less_than_half p q (p / q) (p % q) (sym (div-add-mod' p q))
-    (omega (arith, not_less q (2 * (p % q)) h, apart (2 * (p % q)) q k))
+    (omega (arith, not_less q (2 * (p % q)) h, eqb-false (2 * (p % q)) q k))
 
 pub nearest_means : (p q : ℕ) → 0 < q → IsNearest p q (nearest p q)
 nearest_means p q positive = nearest_by p q positive (nat_lt q (2 * (p % q))) (2 * (p % q) == q) refl refl
 
 rounded_by : (n p q : ℕ) (out : Bool) → IsNearest p q n → nat_lt largest n ≡ out → IsRounded p q (cond out (Err Range) (Ok n))
-rounded_by n p q true h e = record { nearest = n; is_nearest = h; value = λ r f. cc; range = λ f. less largest n e; scale = λ f. cc }
+rounded_by n p q true h e = record { nearest = n; is_nearest = h; value = λ r f. cc; range = λ f. ltb-true largest n e; scale = λ f. cc }
 rounded_by n p q false h e = record {
   nearest = n;
   is_nearest = h;

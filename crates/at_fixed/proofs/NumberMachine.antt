@@ -1,6 +1,7 @@
 -- A machine for the numbers of JSON and of WKT, and that it is one for their grammars.
 -- For `json_number`, `leading_number`, `plain_len`, `plain_number`, `read_fixed` and `wkt_number`.
 use Rattle.std.proofs.Common.{◌≡◌, ℕ, ◌⊎◌, inl, inr, ◌↔◌, List, [], ◌∷◌, ◌++◌, Option, Some, None, IfSome, IsTrue, Bool, true, false, cond, ◌==◌, refl, sym, ◌∙◌, ap, subst, arith, true≢false, ◌<◌, ◌≤◌, length, take, slice_index}
+use Rattle.std.proofs.lemmas.Bool.{eqb-true}
 use Rattle.std.proofs.lemmas.Option.{none-some, same_Some}
 use Rattle.std.specs.Bool.{⊤}
 use Rattle.at_text.specs.Texts.{is_digit, is_one_of}
@@ -38,7 +39,7 @@ Rest g power (b ∷ w) = (is_digit b ≡ true) × Rest g power w
 
 -- ---- tests
 
-one_of_two : (x y b : ℕ) → is_one_of (x ∷ y ∷ []) b ≡ true → (b ≡ x) ⊎ (b ≡ y)
+pub one_of_two : (x y b : ℕ) → is_one_of (x ∷ y ∷ []) b ≡ true → (b ≡ x) ⊎ (b ≡ y)
 one_of_two x y b h = grind (arith, h)
 
 pub letter_is : (P : ℕ → Type 0) → P 0x65 → P 0x45 → (b : ℕ) → is_letter b ≡ true → P b
@@ -46,9 +47,6 @@ letter_is P p q b h = elim (one_of_two 0x65 0x45 b h) [ inl e ↦ subst P (sym e
 
 pub sign_is : (P : ℕ → Type 0) → P 0x2B → P 0x2D → (b : ℕ) → is_sign b ≡ true → P b
 sign_is P p q b h = elim (one_of_two 0x2B 0x2D b h) [ inl e ↦ subst P (sym e) p | inr e ↦ subst P (sym e) q ]
-
-eq_of_test : (a b : ℕ) → (a == b) ≡ true → a ≡ b
-eq_of_test a b h = grind (arith, h)
 
 -- ---- the machine is one
 
@@ -61,15 +59,11 @@ json_lead_at b h = let apart : (b == 0x30) ≡ false = grind (arith, h) in rw (a
 json_start_at : (b : ℕ) → is_first_digit b ≡ true → step Json start b ≡ Some whole
 json_start_at b h = let apart : (b == 0x2D) ≡ false = grind (arith, h) in rw apart (json_lead_at b h)
 
-digit_no_sign : (b : ℕ) → is_digit b ≡ true → is_sign b ≡ false
+pub digit_no_sign : (b : ℕ) → is_digit b ≡ true → is_sign b ≡ false
 digit_no_sign b h = grind (arith, h)
 
 wkt_start_at : (b : ℕ) → is_digit b ≡ true → step Wkt start b ≡ Some whole
 wkt_start_at b h = rw (digit_no_sign b h, h) refl
-
-point_at : (g : Notation) → after_whole g 0x2E ≡ Some (behind_digits g)
-point_at Json = refl
-point_at Wkt = refl
 
 letter_at : (g : Notation) (s : State) (b : ℕ) → step g s 0x65 ≡ Some letter → step g s 0x45 ≡ Some letter → is_letter b ≡ true → step g s b ≡ Some letter
 letter_at g s b p q h = letter_is (λ c. step g s c ≡ Some letter) p q b h
@@ -109,23 +103,23 @@ by_last g false s t w e r = absurd (none-some t e)
 
 after_whole_comes : (g : Notation) (t : State) (b : ℕ) (w : List ℕ) → after_whole g b ≡ Some t → Rest g t w → Rest g zero_digit (b ∷ w)
 after_whole_comes g t b w e r = elim (by_test g (b == 0x2E) (behind_digits g) t (after_fraction b) w e r) [
-  | inl (h, q) ↦ inl (eq_of_test b 0x2E h, q)
+  | inl (h, q) ↦ inl (eqb-true b 0x2E h, q)
   | inr f ↦ inr (by_last g (is_letter b) letter t w f r)
 ]
 
 lead_comes : (g : Notation) (t : State) (b : ℕ) (w : List ℕ) → lead g b ≡ Some t → Rest g t w → Rest g signed (b ∷ w)
 lead_comes Json t b w e r = elim (by_test Json (b == 0x30) zero_digit t (cond (is_first_digit b) (Some whole) None) w e r) [
-  | inl (h, q) ↦ inl (eq_of_test b 0x30 h, q)
+  | inl (h, q) ↦ inl (eqb-true b 0x30 h, q)
   | inr f ↦ inr (by_last Json (is_first_digit b) whole t w f r)
 ]
 lead_comes Wkt t b w e r = elim (by_test Wkt (is_digit b) whole t (lone_point Wkt b) w e r) [
   | inl q ↦ inl q
-  | inr f ↦ (let q = by_last Wkt (b == 0x2E) point t w f r in inr (eq_of_test b 0x2E q.0, q.1))
+  | inr f ↦ (let q = by_last Wkt (b == 0x2E) point t w f r in inr (eqb-true b 0x2E q.0, q.1))
 ]
 
 start_comes : (g : Notation) (t : State) (b : ℕ) (w : List ℕ) → step g start b ≡ Some t → Rest g t w → Rest g start (b ∷ w)
 start_comes Json t b w e r = elim (by_test Json (b == 0x2D) signed t (lead Json b) w e r) [
-  | inl (h, q) ↦ inl (eq_of_test b 0x2D h, q)
+  | inl (h, q) ↦ inl (eqb-true b 0x2D h, q)
   | inr f ↦ inr (lead_comes Json t b w f r)
 ]
 start_comes Wkt t b w e r = elim (by_test Wkt (is_sign b) signed t (lead Wkt b) w e r) [

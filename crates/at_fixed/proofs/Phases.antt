@@ -1,6 +1,7 @@
 -- The steps of reading a number follow the machine.
 -- For `json_number`, `leading_number`, `plain_len`, `plain_number`, `read_fixed` and `wkt_number`.
 use Rattle.std.proofs.Common.{◌≡◌, ℕ, ◌+◌, ◌<◌, ◌≤◌, inl, inr, Bool, true, false, cond, nat_lt, ◌==◌, ◌||◌, Option, Some, None, option_and_then, List, [], ◌∷◌, ◌++◌, length, take, slice_index, refl, sym, ◌∙◌, ap, subst, arith, add-one, take-suc}
+use Rattle.std.proofs.lemmas.Bool.{lt-ltb}
 use Rattle.std.proofs.lemmas.Option.{same_Some, option_and_then_some}
 use Rattle.at_text.specs.Texts.{is_digit}
 use Rattle.at_text.proofs.Machine.{run, run_more}
@@ -180,17 +181,14 @@ led_digits g w i end minus h some within digits first stops =
 not_above : (i : ℕ) → nat_lt i i ≡ false
 not_above i = grind arith
 
-above : (i j : ℕ) → i < j → nat_lt i j ≡ true
-above i j h = grind (arith, h)
-
 pub led_by : (g : Notation) (w : List ℕ) (i end : ℕ) (minus : Bool) → Signed g w i minus → end ≤ length w → AreDigits (between w i end) → IsLead g w i end
     → Led g w i end (nat_lt i end)
 led_by g w i end minus h within digits (inl (e, stops)) = rw (e, not_above i) (led_none g w i minus h stops)
 led_by g w i end minus h within digits (inr (inl (json, e, first))) =
     let P : Notation → Type 0 = λ x. Signed x w i minus → Led x w i (i + 1) true in
-    rw (e, above i (i + 1) (omega arith)) (subst P (sym json) (λ x. led_zero w i minus x (omega arith) first) h)
+    rw (e, lt-ltb i (i + 1) (omega arith)) (subst P (sym json) (λ x. led_zero w i minus x (omega arith) first) h)
 led_by g w i end minus h within digits (inr (inr (some, first, stops))) =
-    rw (above i end some) (led_digits g w i end minus h some within digits first stops)
+    rw (lt-ltb i end some) (led_digits g w i end minus h some within digits first stops)
 
 pub whole_by : (g : Notation) (w : List ℕ) (sign : Sign) (run : DigitsRun) → Signed g w sign.end sign.is_minus → ReadsLead g w sign.end run
     → ReadsWhole g w (record { end = run.end; is_number = nat_lt sign.end run.end; is_minus = sign.is_minus; digits = run.digits; fraction = 0 })

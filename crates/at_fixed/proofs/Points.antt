@@ -1,7 +1,7 @@
 -- The point of a number and the digits behind it follow the machine.
 -- For `json_number`, `leading_number`, `plain_len`, `plain_number`, `read_fixed` and `wkt_number`.
 use Rattle.std.proofs.Common.{◌≡◌, ℕ, ◌+◌, ◌-◌, ◌^◌, ◌<◌, ◌≤◌, inl, inr, Bool, true, false, cond, nat_lt, ◌==◌, ◌&&◌, ◌||◌, IsTrue, Option, Some, None, IfSome, List, [], ◌∷◌, ◌++◌, length, take, slice_index, refl, sym, ◌∙◌, ap, subst, arith, add-one, take-suc, append-nil, append_assoc, true≢false}
-use Rattle.std.proofs.lemmas.Bool.{cases_lt}
+use Rattle.std.proofs.lemmas.Bool.{cases_lt, eqb-true, ltb-true, lt-ltb}
 use Rattle.at_text.specs.Texts.{is_digit}
 use Rattle.at_fixed.specs.declared.notation.Notation.{Notation}
 use Rattle.at_fixed.specs.declared.notation.Notation.TheVariants.{Json, Wkt}
@@ -23,15 +23,6 @@ and_true false b h = absurd (true≢false (sym h))
 and_after : (a b : Bool) → a ≡ true → (a && b) ≡ false → b ≡ false
 and_after true b h k = k
 and_after false b h k = absurd (true≢false (sym h))
-
-pub lt_true : (a b : ℕ) → a < b → nat_lt a b ≡ true
-lt_true a b h = grind (arith, h)
-
-pub from_lt : (a b : ℕ) → nat_lt a b ≡ true → a < b
-from_lt a b h = grind (arith, h)
-
-from_eq : (a b : ℕ) → (a == b) ≡ true → a ≡ b
-from_eq a b h = grind (arith, h)
 
 -- ---- no point
 
@@ -58,7 +49,7 @@ plain_by g w read h none = record {
   state = h.state;
   reads = h.reads;
   ends = h.ends;
-  next = λ inside. h.next inside ∙ plain_next g read.is_number (slice_index w read.end) (and_after (nat_lt read.end (length w)) _ (lt_true read.end (length w) inside) none);
+  next = λ inside. h.next inside ∙ plain_next g read.is_number (slice_index w read.end) (and_after (nat_lt read.end (length w)) _ (lt-ltb read.end (length w) inside) none);
   parts = λ led. record {
     sign = h.sign;
     whole = h.whole;
@@ -113,7 +104,7 @@ not_above i = grind arith
 behind_by : (g : Notation) (w : List ℕ) (i end : ℕ) (led : Bool) → Reads g w i (after_point g led) → i ≤ end → end ≤ length w → AreDigits (between w i end)
     → (end < length w → is_digit (slice_index w end) ≡ false) → Behind g w end (nat_lt i end || (led && is_wkt g))
 behind_by g w i end led r order within digits stops = elim (cases_lt i end) [
-  | inl some ↦ rw (lt_true i end some) (let cells = part-cons w i end some within in
+  | inl some ↦ rw (lt-ltb i end some) (let cells = part-cons w i end some within in
       let all : AreDigits (slice_index w i ∷ between w (i + 1) end) = subst AreDigits cells digits in
       record {
         state = fraction;
@@ -161,8 +152,8 @@ pub fraction_by : (g : Notation) (w : List ℕ) (whole : Mantissa) (run : Digits
 fraction_by g w whole run is_number h may order within digits stops fits dropped keeps e =
     let (inside_test, rest_test) = and_true (nat_lt whole.end (length w)) _ may in
     let (byte_test, led_test) = and_true (slice_index w whole.end == 0x2E) _ rest_test in
-    let inside : whole.end < length w = from_lt whole.end (length w) inside_test in
-    let byte : slice_index w whole.end ≡ 0x2E = from_eq (slice_index w whole.end) 0x2E byte_test in
+    let inside : whole.end < length w = ltb-true whole.end (length w) inside_test in
+    let byte : slice_index w whole.end ≡ 0x2E = eqb-true (slice_index w whole.end) 0x2E byte_test in
     let fs : List ℕ = between w (whole.end + 1) run.end in
     let goes = h.next inside ∙ (ap (after_lead g whole.is_number) byte ∙ point_step g whole.is_number led_test) in
     let r : Reads g w (whole.end + 1) (after_point g whole.is_number) = reads_byte g w whole.end h.state (after_point g whole.is_number) h.reads inside goes in
@@ -181,7 +172,7 @@ fraction_by g w whole run is_number h may order within digits stops fits dropped
         fraction = Some fs;
         text = point_text w whole.end h.sign h.whole fs (take run.end w) inside byte h.text (part-place w (whole.end + 1) run.end order);
         is_front = point_front g whole.is_number (nat_lt (whole.end + 1) run.end) h.sign h.whole fs h.sign_is h.whole_is digits led_test
-            (λ some. some_digits fs digits (omega (arith, count, from_lt (whole.end + 1) run.end some))) (sym e ∙ ok);
+            (λ some. some_digits fs digits (omega (arith, count, ltb-true (whole.end + 1) run.end some))) (sym e ∙ ok);
         minus = h.minus;
         keeps = subst (λ n. Keeps run.digits.kept run.digits.dropped run.digits.is_cut n) (sym (behind-both 0 h.whole fs)) (keeps (digits_value h.whole) h.keeps);
         count = omega (arith, count);

@@ -3,7 +3,7 @@
 -- For `leading_number`, `plain_len`, `plain_number`, `read_fixed` and `write_fixed`.
 use Rattle.std.proofs.Common.{◌≡◌, ◌≢◌, ℕ, ◌+◌, ◌*◌, ◌/◌, ◌%◌, ◌<◌, ◌≤◌, inl, inr, Bool, true, false, cond, nat_lt, ◌==◌, ◌||◌, ◌&&◌, not, Result, Ok, Err, refl, sym, ◌∙◌, ap, subst, arith, mod-lt, div-add-mod', lit<}
 use Rattle.std.proofs.lemmas.Nat.{div-mul-add, mod-mul-add, mul-add-lt, le-div}
-use Rattle.std.proofs.lemmas.Bool.{cases_order, cases_lt, cases_eq}
+use Rattle.std.proofs.lemmas.Bool.{cases_order, cases_lt, cases_eq, lt-ltb}
 use Rattle.std.proofs.Math.Nat.{mul-le-mul_right, mul_comm}
 use Rattle.at_fixed.specs.declared.rounding.Coords.{Coords}
 use Rattle.at_fixed.specs.declared.rounding.Coords.TheVariants.{Exact, Round}
@@ -13,9 +13,6 @@ use Rattle.at_fixed.specs.Fixed.{largest, exact_quotient, nearest, rounded_quoti
 
 -- ---- tests
 
-pub lt_true : (a b : ℕ) → a < b → nat_lt a b ≡ true
-lt_true a b h = grind (arith, h)
-
 pub lt_false : (a b : ℕ) → b ≤ a → nat_lt a b ≡ false
 lt_false a b h = grind (arith, h)
 
@@ -24,12 +21,6 @@ eq_true a b h = grind (arith, h)
 
 pub eq_false : (a b : ℕ) → a ≢ b → (a == b) ≡ false
 eq_false a b h = grind (arith, h)
-
-positive_rest : (r : ℕ) → (r == 0) ≡ false → 0 < r
-positive_rest r h = grind (arith, h)
-
-zero_rest : (r : ℕ) → (r == 0) ≡ true → r ≡ 0
-zero_rest r h = grind (arith, h)
 
 -- the shape of an exact answer, whatever its numbers
 abbrev exact_shape : Bool → Bool → ℕ → Result ℕ FixedFault
@@ -59,7 +50,7 @@ rounded_by p q n e = rw (rounded_quotient, e) refl
 more_than : (x rest : ℕ) → nat_lt x (x + rest) ≡ nat_lt 0 rest
 more_than x rest = elim (cases_eq rest 0) [
   | inl none ↦ lt_false x (x + rest) (omega (arith, none)) ∙ sym (lt_false 0 rest (omega (arith, none)))
-  | inr some ↦ lt_true x (x + rest) (omega (arith, some)) ∙ sym (lt_true 0 rest (omega (arith, some)))
+  | inr some ↦ lt-ltb x (x + rest) (omega (arith, some)) ∙ sym (lt-ltb 0 rest (omega (arith, some)))
 ]
 
 -- whether d times q and a rest is more than `most` times q
@@ -67,7 +58,7 @@ above_by : (most d q rest : ℕ) → rest < q → nat_lt (most * q) (d * q + res
 above_by most d q rest h = elim (cases_order most d) [
   | inl same ↦ rw (lt_false most d (omega (arith, same)), eq_true d most (sym same), same) (more_than (d * q) rest)
   | inr (inl less) ↦ (let k : most * q + q ≤ d * q = grind (arith, mul-le-mul_right q less) in
-      rw (lt_true most d less, lt_true (most * q) (d * q + rest) (omega (arith, k, h))) refl)
+      rw (lt-ltb most d less, lt-ltb (most * q) (d * q + rest) (omega (arith, k, h))) refl)
   | inr (inr greater) ↦ (let k : d * q + q ≤ most * q = grind (arith, mul-le-mul_right q greater) in
       rw (lt_false most d (omega (arith, greater)), eq_false d most (λ e. omega (arith, e, greater)), lt_false (most * q) (d * q + rest) (omega (arith, k, h))) refl)
 ]
@@ -108,17 +99,17 @@ nearest_least p q = at_least (nat_lt q (2 * (p % q))) (2 * (p % q) == q) (p / q)
 
 -- a fraction beyond the largest
 pub far_above : (how : Coords) (p q : ℕ) → 0 < q → (largest + 1) * q ≤ p → quotient how p q ≡ Err Range
-far_above Exact p q positive h = rw (exact_quotient, lt_true (largest * q) p (omega arith)) refl
+far_above Exact p q positive h = rw (exact_quotient, lt-ltb (largest * q) p (omega arith)) refl
 far_above Round p q positive h =
     let low : largest + 1 ≤ p / q = le-div (largest + 1) p q positive h in
-    rounded_by p q (nearest p q) refl ∙ ap (λ b. range_shape b (nearest p q)) (lt_true largest (nearest p q) (omega (arith, low, nearest_least p q)))
+    rounded_by p q (nearest p q) refl ∙ ap (λ b. range_shape b (nearest p q)) (lt-ltb largest (nearest p q) (omega (arith, low, nearest_least p q)))
 
 -- ---- near
 
 some_or_none : (rest : ℕ) → (rest == 0) ≡ not (nat_lt 0 rest)
 some_or_none rest = elim (cases_eq rest 0) [
   | inl none ↦ eq_true rest 0 none ∙ ap not (sym (lt_false 0 rest (omega (arith, none))))
-  | inr some ↦ eq_false rest 0 some ∙ ap not (sym (lt_true 0 rest (omega (arith, some))))
+  | inr some ↦ eq_false rest 0 some ∙ ap not (sym (lt-ltb 0 rest (omega (arith, some))))
 ]
 
 turned : (out some : Bool) (n : ℕ) → exact_shape out (not some) n ≡ cond out (Err Range) (cond some (Err Scale) (Ok n))
@@ -141,7 +132,7 @@ parity d = elim (cases_eq (d % 2) 1) [
 
 double_lt : (x y : ℕ) → nat_lt (2 * x) (2 * y) ≡ nat_lt x y
 double_lt x y = elim (cases_lt x y) [
-  | inl less ↦ lt_true (2 * x) (2 * y) (omega arith) ∙ sym (lt_true x y less)
+  | inl less ↦ lt-ltb (2 * x) (2 * y) (omega arith) ∙ sym (lt-ltb x y less)
   | inr more ↦ lt_false (2 * x) (2 * y) (omega arith) ∙ sym (lt_false x y more)
 ]
 
@@ -151,7 +142,7 @@ tie_by half r D R h = elim (cases_order half r) [
     | inl none ↦ (let k : 2 * (r * D + R) ≡ 2 * half * D = rw (none, same) (grind arith) in
         rw (eq_true r half (sym same), eq_true (2 * (r * D + R)) (2 * half * D) k, lt_false 0 R (omega (arith, none))) refl)
     | inr some ↦ (let k : half * D ≡ r * D = ap (λ n. n * D) same in let two : 2 * half * D ≡ 2 * (half * D) = grind arith in
-        rw (eq_true r half (sym same), eq_false (2 * (r * D + R)) (2 * half * D) (λ e. omega (arith, e, k, two, some)), lt_true 0 R (omega (arith, some))) refl)
+        rw (eq_true r half (sym same), eq_false (2 * (r * D + R)) (2 * half * D) (λ e. omega (arith, e, k, two, some)), lt-ltb 0 R (omega (arith, some))) refl)
   ]
   | inr (inl less) ↦ (let k : half * D + D ≤ r * D = grind (arith, mul-le-mul_right D less) in let two : 2 * half * D ≡ 2 * (half * D) = grind arith in
       rw (eq_false r half (λ e. omega (arith, e, less)), eq_false (2 * (r * D + R)) (2 * half * D) (λ e. omega (arith, e, k, two, h))) refl)
@@ -188,9 +179,9 @@ some_of r D R h = elim (cases_eq R 0) [
   | inl none ↦ elim (cases_eq r 0) [
     | inl zero ↦ (let all : 0 * D + 0 ≡ 0 = omega arith in rw (none, zero, all) refl)
     | inr some ↦ (let positive : 0 < r = omega arith in let least : 1 * D ≤ r * D = mul-le-mul_right D positive in
-        rw (lt_true 0 r positive, lt_true 0 (r * D + R) (omega (arith, least, h)), none) refl)
+        rw (lt-ltb 0 r positive, lt-ltb 0 (r * D + R) (omega (arith, least, h)), none) refl)
   ]
-  | inr some ↦ (let positive : 0 < R = omega arith in rw (lt_true 0 R positive, lt_true 0 (r * D + R) (omega (arith, positive))) refl)
+  | inr some ↦ (let positive : 0 < R = omega arith in rw (lt-ltb 0 R positive, lt-ltb 0 (r * D + R) (omega (arith, positive))) refl)
 ]
 
 divided : (K Q D R : ℕ) → K * D + R ≡ (K / Q) * (Q * D) + ((K % Q) * D + R)

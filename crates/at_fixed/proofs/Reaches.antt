@@ -1,6 +1,7 @@
 -- How far plain numbers reach, where their digits are told by a mask and not read.
 -- For `plain_len`.
 use Rattle.std.proofs.Common.{◌≡◌, ℕ, ◌+◌, ◌-◌, ◌^◌, ◌<◌, ◌≤◌, Bool, true, false, nat_lt, ◌==◌, ◌&&◌, ◌||◌, List, length, slice_index, Ok, take, inl, refl, sym, ap, subst, arith, lit<}
+use Rattle.std.proofs.lemmas.Bool.{lt-ltb}
 use Rattle.at_fixed.specs.declared.extents.Extent.{Extent}
 use Rattle.at_fixed.specs.declared.notation.Notation.{Notation}
 use Rattle.at_fixed.specs.declared.rounding.Coords.{Coords}
@@ -15,7 +16,7 @@ use Rattle.at_fixed.proofs.DigitParts.{run_whole}
 use Rattle.at_fixed.proofs.Endings.{longest_by}
 use Rattle.at_fixed.proofs.Phases.{signed_by, whole_by}
 use Rattle.at_fixed.proofs.PlainRuns.{kept_small, room_more}
-use Rattle.at_fixed.proofs.Points.{fraction_by, lt_true, plain_by}
+use Rattle.at_fixed.proofs.Points.{fraction_by, plain_by}
 use Rattle.at_fixed.proofs.Spelled.{fixed_by}
 use Rattle.at_fixed.proofs.Valued.{valued}
 
@@ -38,7 +39,7 @@ module _ (g : Notation) (w : List ℕ) (sign : Sign) (point : ℕ) (signs : Read
       let within : point ≤ length w = omega (arith, run.within) in
       let fits : lead_value < 10 ^ 19 = room_more lead_value (0 + (point - sign.end)) 19 lead_small (omega (arith, few)) in
       let P : Bool → Type 0 = λ z. ReadsWhole g w (record { end = point; is_number = z; is_minus = sign.is_minus; digits = record { kept = lead_value; dropped = 0; is_cut = false }; fraction = 0 }) in
-      subst P (lt_true sign.end point some) (whole_by g w sign (record { end = point; digits = record { kept = lead_value; dropped = 0; is_cut = false } }) (signed_by g w sign signs) (record {
+      subst P (lt-ltb sign.end point some) (whole_by g w sign (record { end = point; digits = record { kept = lead_value; dropped = 0; is_cut = false } }) (signed_by g w sign signs) (record {
         order = run.order;
         within = within;
         digits = run.digits;
@@ -87,11 +88,11 @@ module _ (g : Notation) (w : List ℕ) (sign : Sign) (point : ℕ) (signs : Read
     reads : (slice_index w point == 0x2E) ≡ true → ReadsMantissa g w front
     reads stands =
         let inside : point < length w = run.within in
-        let may : may_take_point g w lead_read ≡ true = point_taken (nat_lt point (length w)) (slice_index w point == 0x2E) (lt_true point (length w) inside) stands in
+        let may : may_take_point g w lead_read ≡ true = point_taken (nat_lt point (length w)) (slice_index w point == 0x2E) (lt-ltb point (length w) inside) stands in
         fraction_by g w lead_read (record { end = extent.end; digits = record { kept = value; dropped = 0; is_cut = false } }) true (lead_reads (omega (arith, count, few, more)))
         may behind.order (omega (arith, behind.within)) behind.digits (λ _. behind.stops) fits (omega arith)
         (λ m h. run_whole w (point + 1) extent.end lead_value 0 m value false behind.order (omega (arith, behind.within)) h refl fits (λ big. absurd (omega (arith, big, lead_room))))
-        (sym (ap (λ b. b || (true && is_wkt g)) (lt_true (point + 1) extent.end (omega (arith, count, more))))) where
+        (sym (ap (λ b. b || (true && is_wkt g)) (lt-ltb (point + 1) extent.end (omega (arith, count, more))))) where
           point_taken : (a b : Bool) → a ≡ true → b ≡ true → (a && (b && true)) ≡ true
           point_taken a b h k = rw (h, k) refl
 

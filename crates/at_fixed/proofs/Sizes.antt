@@ -2,7 +2,7 @@
 -- For `leading_number`, `plain_len`, `plain_number`, `read_fixed` and `write_fixed`.
 use Rattle.std.proofs.Common.{◌≡◌, ℕ, zero, suc, ◌+◌, ◌-◌, ◌*◌, ◌^◌, ◌<◌, ◌≤◌, ◌⊎◌, inl, inr, Bool, true, false, cond, nat_lt, Option, Some, None, Result, Ok, Err, refl, sym, ◌∙◌, ap, subst, arith, lit<}
 use Rattle.std.proofs.lemmas.Nat.{pow-add}
-use Rattle.std.proofs.lemmas.Bool.{cases_lt, cases_eq}
+use Rattle.std.proofs.lemmas.Bool.{cases_lt, cases_eq, lt-ltb}
 use Rattle.std.proofs.Math.Nat.{mul-le-mul_right, pow-le-pow_right, mul-lt-mul_of_pos_right, le-mul_of_pos_right, mul-pos, one-le-pow, mul_assoc}
 use Rattle.at_fixed.specs.declared.rounding.Coords.{Coords}
 use Rattle.at_fixed.specs.declared.rounding.FixedFault.{FixedFault}
@@ -10,7 +10,7 @@ use Rattle.at_fixed.specs.declared.rounding.FixedFault.TheVariants.{Range}
 use Rattle.at_fixed.specs.Numerals.{Exponent, digits_value}
 use Rattle.at_fixed.specs.Fixed.{largest, quotient, size_of, has_minus, exponent_above, exponent_below}
 use Rattle.at_fixed.specs.NumberSoFar.{Keeps, huge, SameOrHuge}
-use Rattle.at_fixed.proofs.Quotients.{lt_true, far_above, whole_quotient}
+use Rattle.at_fixed.proofs.Quotients.{far_above, whole_quotient}
 
 ten : 0 < 10
 ten = lit< tt
@@ -40,7 +40,7 @@ rest_below R d A h = mul-lt-mul_of_pos_right h (pow_positive A)
 pub rest_some : (R A : ℕ) → nat_lt 0 (R * 10 ^ A) ≡ nat_lt 0 R
 rest_some R A = elim (cases_eq R 0) [
   | inl none ↦ (let zero : 0 * 10 ^ A ≡ 0 = omega arith in rw (none, zero) refl)
-  | inr some ↦ (let positive : 0 < R = omega arith in lt_true 0 (R * 10 ^ A) (mul-pos positive (pow_positive A)) ∙ sym (lt_true 0 R positive))
+  | inr some ↦ (let positive : 0 < R = omega arith in lt-ltb 0 (R * 10 ^ A) (mul-pos positive (pow_positive A)) ∙ sym (lt-ltb 0 R positive))
 ]
 
 -- a number with twenty places less than its denominator is below a half
@@ -66,7 +66,7 @@ pub vast_kept : (K E s : ℕ) → 10 ^ s ≤ K → 15 ≤ s + E → nat_lt large
 vast_kept K E s h k =
     let top : 10 ^ (s + E) ≡ 10 ^ s * 10 ^ E = pow-add 10 s E in
     let least : 10 ^ 15 ≤ 10 ^ (s + E) = pow-le-pow_right ten k in
-    lt_true largest (K * 10 ^ E) (omega (arith, top, least, mul-le-mul_right (10 ^ E) h))
+    lt-ltb largest (K * 10 ^ E) (omega (arith, top, least, mul-le-mul_right (10 ^ E) h))
 
 -- ---- the size of a number
 
@@ -89,9 +89,6 @@ pub record Sized (K d : ℕ) (cut : Bool) (M digits f above below A B : ℕ) : T
   pub few_dropped : d ≤ 2 ^ 28
   pub few_digits : f ≤ 2 ^ 28
   pub few_places : digits < 256
-
-huge_value : huge ≡ 10000000000
-huge_value = refl
 
 -- where one side is huge the other is nothing
 nothing : (kept size : ℕ) → SameOrHuge kept size → size ≡ 0 → kept ≡ 0
@@ -193,7 +190,7 @@ limit_by s h =
     mul_assoc 3 (10 ^ (14 - s)) (10 ^ s) ∙ ap (λ n. 3 * n) both
 
 pub above_limit : (K s : ℕ) → s ≤ 14 → 3 * 10 ^ (14 - s) < K → nat_lt largest (K * 10 ^ s) ≡ true
-above_limit K s h k = lt_true largest (K * 10 ^ s) (subst (λ n. n < K * 10 ^ s) (limit_by s h) (mul-lt-mul_of_pos_right k (pow_positive s)))
+above_limit K s h k = lt-ltb largest (K * 10 ^ s) (subst (λ n. n < K * 10 ^ s) (limit_by s h) (mul-lt-mul_of_pos_right k (pow_positive s)))
 
 pub within_limit : (K s : ℕ) → s ≤ 14 → K ≤ 3 * 10 ^ (14 - s) → K * 10 ^ s ≤ largest
 within_limit K s h k = subst (λ n. K * 10 ^ s ≤ n) (limit_by s h) (mul-le-mul_right (10 ^ s) k)

@@ -1,6 +1,6 @@
 //! What is kept of decimal digits, read one by one.
 
-ghost use Rattle.std.specs.Prelude.{◌≡◌, ℕ, ◌+◌, ◌-◌, ◌^◌, ◌<◌, ◌≤◌, Bool, IsTrue, true, false, nat_lt, length};
+ghost use Rattle.std.specs.Prelude.{◌≡◌, ℕ, ◌+◌, ◌-◌, ◌^◌, ◌<◌, ◌≤◌, IsTrue, true, false, nat_lt, length};
 ghost use Rattle.std.specs.Prelude.{slice_index};
 ghost use Rattle.at_text.specs.Texts.{is_digit as digit_test};
 ghost use Rattle.at_fixed.specs.Numerals.{AreDigits};

@@ -101,7 +101,7 @@ crossed_right p a b h k = by_heights p a b (λ u v. right_up p a b h k u v) (λ 
 
 -- ---- a ring
 
-clash : (b : Bool) → b ≡ true → b ≡ false → ⊥
+pub clash : (b : Bool) → b ≡ true → b ≡ false → ⊥
 clash b e f = cc
 
 before : (p : Pos) (x : Extent) (a : Pos) → p.x <ℤ x.low.x → IsTrue (is_within x a) → p.x <ℤ a.x

@@ -10,10 +10,10 @@ use Rattle.at_geom.specs.declared.positions.Pos.{Pos}
 use Rattle.at_geom.specs.declared.rectangles.Extent.{Extent}
 use Rattle.at_geom.specs.Shapes.{widened, extent_of, is_within, encloses, are_all_within}
 
-int_min_assoc : (a b c : ℤ) → int_min (int_min a b) c ≡ int_min a (int_min b c)
+pub int_min_assoc : (a b c : ℤ) → int_min (int_min a b) c ≡ int_min a (int_min b c)
 int_min_assoc a b c = omega (arith, ints, clamps)
 
-int_max_assoc : (a b c : ℤ) → int_max (int_max a b) c ≡ int_max a (int_max b c)
+pub int_max_assoc : (a b c : ℤ) → int_max (int_max a b) c ≡ int_max a (int_max b c)
 int_max_assoc a b c = omega (arith, ints, clamps)
 
 int_min_comm : (a b : ℤ) → int_min a b ≡ int_min b a

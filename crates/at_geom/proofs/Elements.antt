@@ -50,14 +50,10 @@ not_here {X} {Y} P f xs i d y lt e g h =
       | inr k ↦ k
     ]
 
--- the edges from a place of a path on: the one that leads to the place, or those from there
-pub edge_here : (P : Pos × Pos → Type 0) (a : Pos) (rest : List Pos) (i : ℕ) (d : Pos) → i < length rest → P (a, get_or rest i d) → SomeOf P (edges (a ∷ drop i rest))
-edge_here P a rest i d lt h = subst (λ (r : List Pos). SomeOf P (edges (a ∷ r))) (sym (drop_more rest i d lt)) (inl h)
-
 pub edge_later : (P : Pos × Pos → Type 0) (a : Pos) (rest : List Pos) (i : ℕ) (d : Pos) → i < length rest → SomeOf P (edges (get_or rest i d ∷ drop (i + 1) rest)) → SomeOf P (edges (a ∷ drop i rest))
 edge_later P a rest i d lt h = subst (λ (r : List Pos). SomeOf P (edges (a ∷ r))) (sym (drop_more rest i d lt)) (inr h)
 
-not_first : {X : Type 0} (P : X → Type 0) (x : X) (xs : List X) → ¬ P x → SomeOf P (x ∷ xs) → SomeOf P xs
+pub not_first : {X : Type 0} (P : X → Type 0) (x : X) (xs : List X) → ¬ P x → SomeOf P (x ∷ xs) → SomeOf P xs
 not_first P x xs f (inl h) = absurd (f h)
 not_first P x xs f (inr h) = h
 

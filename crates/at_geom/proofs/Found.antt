@@ -60,7 +60,7 @@ listed : (x : Extent) (ps : List Pos) → list_all (is_within x) ps ≡ true →
 listed x [] h = tt
 listed x (p ∷ ps) h = (left_true (is_within x p) (list_all (is_within x) ps) h, listed x ps (right_true (is_within x p) (list_all (is_within x) ps) h))
 
-encloses_itself : (x : Extent) → encloses x x ≡ true
+pub encloses_itself : (x : Extent) → encloses x x ≡ true
 encloses_itself x =
     both_true (int_le x.low.x x.low.x && int_le x.high.x x.high.x) (int_le x.low.y x.low.y && int_le x.high.y x.high.y)
     (both_true (int_le x.low.x x.low.x) (int_le x.high.x x.high.x) (le_true x.low.x x.low.x (omega (arith, ints))) (le_true x.high.x x.high.x (omega (arith, ints))))

@@ -60,7 +60,7 @@ shoelace_bound a [] h = omega arith
 shoelace_bound a (b ∷ r) h =
     omega (arith, ints, shoelace-cons a b r, term_bound a b (h 0 a (omega arith)) (h 1 a (omega arith)), shoelace_bound b r (λ k d lt. h (suc k) d (omega arith)))
 
-ring_bound : (ring : List Pos) → All IsInRange ring → nat_abs (shoelace ring) ≤ length ring * most
+pub ring_bound : (ring : List Pos) → All IsInRange ring → nat_abs (shoelace ring) ≤ length ring * most
 ring_bound [] h = omega arith
 ring_bound (a ∷ r) h = omega (arith, shoelace_bound a r h)
 

@@ -22,9 +22,6 @@ use Rattle.at_hull.proofs.OneHull.{one_hull_by, one_hull_own, one_hull_sym, one_
 
 -- ---- a value that grows by a direction is least at a corner
 
-both_up : (a b : ℤ) → pos 0 ≤ℤ a → pos 0 ≤ℤ b → pos 0 ≤ℤ (a *ℤ b)
-both_up a b h k = mul_pos a b h k
-
 both_down : (a b : ℤ) → a ≤ℤ pos 0 → b ≤ℤ pos 0 → pos 0 ≤ℤ (a *ℤ b)
 both_down a b h k =
     let m = simp expand at (mul_pos (neg_ℤ a) (neg_ℤ b) (omega (arith, ints, h)) (omega (arith, ints, k))) in
@@ -61,9 +58,9 @@ corner_side c d p e i f =
     (both_down (d.x -ℤ c.x) (p.y -ℤ e.high.y) (omega (arith, ints, h)) (omega (arith, ints, above))) (second_down (d.y -ℤ c.y) (p.x -ℤ e.high.x) k (omega (arith, ints, right)))))
     (λ h. by_lt_z (d.y -ℤ c.y) (pos 0)
     (λ k. no_less _ _ _ _ (by_difference c d e.low p) (f e.low (inl refl))
-    (both_up (d.x -ℤ c.x) (p.y -ℤ e.low.y) h (omega (arith, ints, below))) (first_down (d.y -ℤ c.y) (p.x -ℤ e.low.x) (omega (arith, ints, k)) (omega (arith, ints, left))))
+    (mul_pos (d.x -ℤ c.x) (p.y -ℤ e.low.y) h (omega (arith, ints, below))) (first_down (d.y -ℤ c.y) (p.x -ℤ e.low.x) (omega (arith, ints, k)) (omega (arith, ints, left))))
     (λ k. no_less _ _ _ _ (by_difference c d (record { x = e.high.x; y = e.low.y }) p) (f (record { x = e.high.x; y = e.low.y }) (inr (inl refl)))
-    (both_up (d.x -ℤ c.x) (p.y -ℤ e.low.y) h (omega (arith, ints, below))) (second_down (d.y -ℤ c.y) (p.x -ℤ e.high.x) k (omega (arith, ints, right)))))
+    (mul_pos (d.x -ℤ c.x) (p.y -ℤ e.low.y) h (omega (arith, ints, below))) (second_down (d.y -ℤ c.y) (p.x -ℤ e.high.x) k (omega (arith, ints, right)))))
 
 from_low : (e : Extent) (p : Pos) → IsInside e p → IsAtMost e.low p
 from_low e p i =

@@ -7,6 +7,7 @@ use Rattle.at_hull.proofs.Ways.{by_order, walk_of, end_of, only_one}
 use Rattle.at_hull.proofs.Rings.{joined_ways, hull_of_ways}
 use Rattle.at_hull.proofs.Sorted.{rises_of, end_above, walk_back}
 use Rattle.at_hull.proofs.Laws.{hull_of_same}
+use Rattle.at_hull.proofs.Sorts.{later}
 
 abbrev IsAbove : Pos → List Pos → Type 0
 IsAbove q [] = Unit {0}
@@ -35,13 +36,9 @@ either : (x p a : Pos) (r : List Pos) → p ≡ a → IsIn x (p ∷ a ∷ r) →
 either x p a r e (inl f) = inl (subst (λ (z : Pos). x ≡ z) e f)
 either x p a r e (inr m) = m
 
-over : (x p a : Pos) (r : List Pos) → IsIn x (p ∷ r) → IsIn x (p ∷ a ∷ r)
-over x p a r (inl e) = inl e
-over x p a r (inr m) = inr (inr m)
-
 behind : (x p a : Pos) (r l : List Pos) → (IsIn x l → IsIn x (p ∷ r)) → IsIn x (a ∷ l) → IsIn x (p ∷ a ∷ r)
 behind x p a r l f (inl e) = inr (inl e)
-behind x p a r l f (inr m) = over x p a r (f m)
+behind x p a r l f (inr m) = later x p a r (f m)
 
 back : (x p a : Pos) (r l : List Pos) → (IsIn x (p ∷ r) → IsIn x l) → IsIn x (p ∷ a ∷ r) → IsIn x (a ∷ l)
 back x p a r l f (inl e) = inr (f (inl e))

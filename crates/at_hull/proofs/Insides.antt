@@ -7,13 +7,13 @@ use Rattle.std.proofs.lemmas.List.{append-nil, take_more}
 use Rattle.std.proofs.lemmas.List.Elements.{All-append, All-cons, All-nil}
 use Rattle.at_geom.specs.declared.positions.Pos.{Pos}
 use Rattle.at_geom.specs.Segments.{turn, sign_of}
-use Rattle.at_geom.proofs.RingLaws.{expand}
 use Rattle.at_hull.specs.Hulls.{IsAtMost, IsIn, Each, NoneRight, IsRing, IsHull, round}
 use Rattle.at_hull.specs.Within.{IsInTriangle, IsInOneOf, IsWithin}
 use Rattle.at_hull.proofs.Members.{in_left, in_parts}
 use Rattle.at_hull.proofs.Covers.{by_ring, valley}
 use Rattle.at_hull.proofs.Sorts.{each_of_all, get_in}
 use Rattle.at_hull.proofs.Laws.{hull_of_both, hull_of_hull}
+use Rattle.at_hull.proofs.Joints.{turn_round}
 
 -- ---- what the tests tell
 
@@ -49,9 +49,6 @@ all_more P xs i d l h p = subst (All P) (sym (take_more xs i d l)) (All-append P
 
 -- ---- what lies in a triangle
 
-turned_once : (x y z : Pos) → turn y z x ≡ turn x y z
-turned_once x y z = simp expand (omega (arith, ints))
-
 of_three : (P : Pos → Type 0) (x y z : Pos) → P x → P y → P z → Each P (x ∷ y ∷ z ∷ [])
 of_three P x y z h k l p (inl e) = subst P (sym e) h
 of_three P x y z h k l p (inr (inl e)) = subst P (sym e) k
@@ -62,8 +59,8 @@ of_three P x y z h k l p (inr (inr (inr m))) = absurd m
 in_triangle_side : (c d p x y z : Pos) → IsInTriangle p x y z → pos 0 ≤ℤ turn c d x → pos 0 ≤ℤ turn c d y → pos 0 ≤ℤ turn c d z → pos 0 ≤ℤ turn c d p
 in_triangle_side c d p x y z t h k l =
     let L : (a b : Pos) → pos 0 ≤ℤ turn a b p → (q : Pos) → q ≡ p → pos 0 ≤ℤ turn a b q = λ a b m q e. subst (λ (w : Pos). pos 0 ≤ℤ turn a b w) (sym e) m in
-    let once : pos 0 <ℤ turn y z x = subst (λ w. pos 0 <ℤ w) (sym (turned_once x y z)) t.turns in
-    let twice : pos 0 <ℤ turn z x y = subst (λ w. pos 0 <ℤ w) (sym (turned_once y z x)) once in
+    let once : pos 0 <ℤ turn y z x = subst (λ w. pos 0 <ℤ w) (sym (turn_round x y z)) t.turns in
+    let twice : pos 0 <ℤ turn z x y = subst (λ w. pos 0 <ℤ w) (sym (turn_round y z x)) once in
     by_ring (λ q. turn c d q) (λ q. q ≡ p) p x y z [] (λ u v w. valley c d p u v w) refl (t.turns, (once, (twice, tt)))
     (L x y t.first, (L y z t.second, (L z x t.third, (L x y t.first, tt)))) (of_three (λ q. pos 0 ≤ℤ turn c d q) x y z h k l)
 

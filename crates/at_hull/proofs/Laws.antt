@@ -9,7 +9,7 @@ use Rattle.at_hull.specs.Hulls.{IsBelow, IsAtMost, IsIn, Each, HasSame, NoneRigh
 use Rattle.at_hull.proofs.Planes.{div_pos}
 use Rattle.at_hull.proofs.Ways.{same_pos, only_one}
 use Rattle.at_hull.proofs.Members.{in_left, in_right, in_parts}
-use Rattle.at_hull.proofs.Rings.{on_one_line}
+use Rattle.at_hull.proofs.Rings.{on_one_line, turn_swap}
 use Rattle.at_hull.proofs.Covers.{Covers, hull_covers}
 
 abbrev away : ℤ → ℤ → Pos → Pos
@@ -80,7 +80,7 @@ zero_factor a z l e =
     let k = div_pos a (neg_ℤ z) l (simp expand (omega (arith, ints, e))) in
     omega (arith, ints, h, k)
 
-zero_part : (z w : ℤ) → z -ℤ (pos 0 *ℤ w) ≡ z
+pub zero_part : (z w : ℤ) → z -ℤ (pos 0 *ℤ w) ≡ z
 zero_part z w = omega (arith, ints)
 
 flat_turn : (a b p : Pos) → a.y ≡ b.y → turn a b p ≡ (b.x -ℤ a.x) *ℤ (p.y -ℤ a.y)
@@ -118,11 +118,8 @@ to_end xs ps a b p c m f g t (inr l) =
 
 -- ---- the hull of what a list covers
 
-turn_swapped : (a b p : Pos) → turn b a p ≡ neg_ℤ (turn a b p)
-turn_swapped a b p = simp expand (omega (arith, ints))
-
 swap_zero : (a b v : Pos) → turn a b v ≡ pos 0 → pos 0 ≤ℤ turn b a v
-swap_zero a b v e = let f = turn_swapped a b v in omega (arith, ints, e, f)
+swap_zero a b v e = let f = turn_swap a b v in omega (arith, ints, e, f)
 
 on_line_of : (xs ps : List Pos) (a b p : Pos) → Covers xs ps → IsIn p ps → Each (λ v. turn a b v ≡ pos 0) xs → turn a b p ≡ pos 0
 on_line_of xs ps a b p c m f = on_one_line a b p

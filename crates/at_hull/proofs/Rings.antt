@@ -44,10 +44,6 @@ record Inner (u : Bool) (S : Pos → Type 0) (v : Pos) : Type 0 where
   left : pos 0 <ℤ turn w v x
   sees : SeesAll S v x
 
-lefts_on : (t b : Pos) (s : List Pos) → Lefts (t ∷ b ∷ s) → Lefts (b ∷ s)
-lefts_on t b [] l = tt
-lefts_on t b (z ∷ s) l = l.1
-
 inner : (u : Bool) (S : Pos → Type 0) (t v : Pos) (s : List Pos) → Falls u (t ∷ s) → Lefts (t ∷ s) → Clear S (t ∷ s) → ((p : Pos) → IsIn p (t ∷ s) → S p) → IsIn v s → (v ≡ bottom t s) ⊎ Inner u S v
 inner u S t v [] f l c m h = absurd h
 inner u S t v (b ∷ []) f l c m (inl e) = inl e

@@ -87,7 +87,7 @@ ascends E t k (x ∷ xs) c = by_bool (E x k)
     (λ e. subst (λ (b : Bool). IsAscending (cond b (dedup_from E k xs) (k ∷ dedup_from E x xs))) (sym e) (ascends E t k xs (subst (λ (q : Pos). Climbs q xs) (t.0 x k e) c.1)))
     (λ e. subst (λ (b : Bool). IsAscending (cond b (dedup_from E k xs) (k ∷ dedup_from E x xs))) (sym e) (ascends_on E t k x xs (above E k x t c.0 e) c.1))
 
-later : (p k x : Pos) (xs : List Pos) → IsIn p (k ∷ xs) → IsIn p (k ∷ x ∷ xs)
+pub later : (p k x : Pos) (xs : List Pos) → IsIn p (k ∷ xs) → IsIn p (k ∷ x ∷ xs)
 later p k x xs (inl e) = inl e
 later p k x xs (inr h) = inr (inr h)
 

@@ -1,6 +1,6 @@
 -- A vector of which the end is read and dropped, as a stack with its end first.
 -- For `add`, `covers`, `hull`, `hull_join`, `into_hull` and `join`.
-use Rattle.std.proofs.Common.{◌≡◌, ℕ, zero, suc, ℤ, pos, negsuc, ◌<◌, Bool, true, false, List, [], ◌∷◌, ◌++◌, reverse, length, get_or, arith, sym, ap, ◌∙◌, subst, refl}
+use Rattle.std.proofs.Common.{◌≡◌, ℕ, zero, suc, ℤ, pos, negsuc, ◌<◌, Bool, false, List, [], ◌∷◌, ◌++◌, reverse, length, get_or, arith, sym, ap, ◌∙◌, subst, refl}
 use Rattle.std.specs.Prelude.{int_le, if◌then◌else◌, All}
 use Rattle.std.proofs.lemmas.List.{reverse-append, length-append}
 use Rattle.std.proofs.lemmas.Int.{ints}
@@ -19,9 +19,6 @@ reverse_end front b = reverse-append front (b ∷ [])
 
 pub dropped_at : (next b a : Pos) (way front rest : List Pos) → way ≡ front ++ b ∷ [] → front ≡ rest ++ a ∷ [] → is_dropped next (reverse way) ≡ int_le (turn a b next) (pos 0)
 dropped_at next b a way front rest e f = ap (λ (w : List Pos). is_dropped next w) (ap reverse e ∙ reverse_end front b ∙ ap (λ (w : List Pos). b ∷ w) (ap reverse f ∙ reverse_end rest a))
-
-pub dropped_on_one : (next b : Pos) (way front : List Pos) → way ≡ front ++ b ∷ [] → front ≡ [] → is_dropped next (reverse way) ≡ false
-dropped_on_one next b way front e f = ap (λ (w : List Pos). is_dropped next w) (ap reverse e ∙ reverse_end front b ∙ ap (λ (w : List Pos). b ∷ reverse w) f)
 
 last_at : (front : List Pos) (b : Pos) → get_or (front ++ b ∷ []) (length front) b ≡ b
 last_at [] b = refl
@@ -43,14 +40,6 @@ shorter front b k h = omega (arith, h, length-append front (b ∷ []))
 
 pub front_has : (P : Pos → Type 0) (b : Pos) (way front : List Pos) → way ≡ front ++ b ∷ [] → All P way → All P front
 front_has P b way front e h = λ k d l. subst P (front_at front b d k l) ((subst (λ (w : List Pos). All P w) e h) k d (shorter front b k l))
-
--- one is dropped, or none
-drop_from : (next : Pos) (w : List Pos) (b : Pos) (rest : List Pos) → w ≡ b ∷ rest → is_dropped next w ≡ true → popped next w ≡ popped next rest
-drop_from next w b rest e d =
-    ap (popped next) e ∙ ap (λ (t : Bool). if t then popped next rest else (b ∷ rest)) (sym (ap (is_dropped next) e) ∙ d)
-
-pub drop_one : (next b : Pos) (way front : List Pos) → way ≡ front ++ b ∷ [] → is_dropped next (reverse way) ≡ true → popped next (reverse way) ≡ popped next (reverse front)
-drop_one next b way front e d = drop_from next (reverse way) b (reverse front) (ap reverse e ∙ reverse_end front b) d
 
 pub drop_none : (next : Pos) (w : List Pos) → is_dropped next w ≡ false → popped next w ≡ w
 drop_none next [] d = refl

@@ -11,7 +11,7 @@ use Rattle.at_hull.proofs.Planes.{mul_pos, div_pos, by_middle, up_of, IsUp, turn
 use Rattle.at_hull.proofs.Ways.{same_pos, antisym, not_below_self}
 use Rattle.at_hull.proofs.Joints.{SeesAll}
 use Rattle.at_hull.proofs.Covers.{by_difference, spread, first_axis, second_axis, along_x, along_y, times_zero, first_of}
-use Rattle.at_hull.proofs.Laws.{zero_factor, hull_of_both}
+use Rattle.at_hull.proofs.Laws.{zero_factor, hull_of_both, zero_part}
 
 -- ---- of two ways on from one edge
 
@@ -106,9 +106,6 @@ one_corner S u v c e m n h k =
     let g = k.here in
     one_way_on (v.x -ℤ u.x) (v.y -ℤ u.y) v c h.d e k.d (omega (arith, ints, i, f)) (omega (arith, ints, j, g)) (h.sees e n) (k.sees c m) h.next k.next (h.sees_on e n) (k.sees_on c m)
 
-turns_from : (u v w a b : Pos) (xs : List Pos) → TurnsLeft (u ∷ v ∷ w ∷ (xs ++ a ∷ b ∷ [])) → TurnsLeft (v ∷ w ∷ (xs ++ a ∷ b ∷ []))
-turns_from u v w a b xs h = h.1
-
 -- the rest of two rings behind one edge
 one_rest : (S : Pos → Type 0) (a b u v : Pos) (xs ys : List Pos) → S a → Each S xs → Each S ys → (IsIn a xs → ⊥) → (IsIn a ys → ⊥) → TurnsLeft (u ∷ v ∷ (xs ++ a ∷ b ∷ [])) → NoneRight S (u ∷ v ∷ (xs ++ a ∷ b ∷ []))
     → TurnsLeft (u ∷ v ∷ (ys ++ a ∷ b ∷ [])) → NoneRight S (u ∷ v ∷ (ys ++ a ∷ b ∷ [])) → xs ≡ ys
@@ -126,13 +123,10 @@ one_rest S a b u v (x ∷ xs) (y ∷ ys) m f g h k t n p q =
 
 -- ---- the first edge
 
-no_part : (z w : ℤ) → z -ℤ (pos 0 *ℤ w) ≡ z
-no_part z w = omega (arith, ints)
-
 by_flat : (a b c : Pos) → b.y ≡ a.y → turn a b c ≡ (b.x -ℤ a.x) *ℤ (c.y -ℤ a.y)
 by_flat a b c e =
     let f : b.y -ℤ a.y ≡ pos 0 = omega (arith, ints, e) in
-    ap (λ (t : ℤ). ((b.x -ℤ a.x) *ℤ (c.y -ℤ a.y)) -ℤ (t *ℤ (c.x -ℤ a.x))) f ∙ no_part ((b.x -ℤ a.x) *ℤ (c.y -ℤ a.y)) (c.x -ℤ a.x)
+    ap (λ (t : ℤ). ((b.x -ℤ a.x) *ℤ (c.y -ℤ a.y)) -ℤ (t *ℤ (c.x -ℤ a.x))) f ∙ zero_part ((b.x -ℤ a.x) *ℤ (c.y -ℤ a.y)) (c.x -ℤ a.x)
 
 above_ones : (x y : ℤ) → pos 1 ≤ℤ x → pos 1 ≤ℤ y → pos 1 ≤ℤ (x *ℤ y)
 above_ones x y h k =

@@ -313,9 +313,6 @@ start u a = record {
   seen = λ p m. only_one a p m;
 }
 
-to_list : (a : Pos) (cs : List Pos) (p : Pos) → or_in (λ q. q ≡ a) cs p → IsIn p (a ∷ cs)
-to_list a cs p h = h
-
 -- the walk over a list of which each is before the next
 pub walk_of : (u : Bool) (a : Pos) (cs : List Pos) → Rises u a cs → Walked u (λ p. IsIn p (a ∷ cs)) a (end_of a cs) (fold pushed [] (a ∷ cs))
 walk_of u a cs h = walked u (λ p. p ≡ a) a a [] cs (start u a) h

@@ -1,5 +1,5 @@
 //! The hull of positions that are added bit by bit.
-ghost use Rattle.std.specs.Prelude.{◌≡◌, ◌<◌, ◌++◌, [], List, All, IfOk, OnOk, OnErr, IsOk, IsTrue, length, max, take};
+ghost use Rattle.std.specs.Prelude.{◌≡◌, ◌<◌, ◌++◌, [], All, IfOk, OnOk, OnErr, IsOk, IsTrue, length, max, take};
 ghost use Rattle.at_geom.specs.Segments.{IsInRange};
 ghost use Rattle.at_hull.specs.Hulls.{IsHull};
 ghost use Rattle.at_hull.specs.Growth.{AddsNothing, HaveOneHull, HoldsFront, IsExtentInRange, held};

@@ -1,5 +1,5 @@
 //! Extents that add nothing to a hull.
-ghost use Rattle.std.specs.Prelude.{◌≡◌, List, All, IsTrue, Option, IfSome, IsSomeAnd};
+ghost use Rattle.std.specs.Prelude.{◌≡◌, List, All, IsTrue, Option, IfSome};
 ghost use Rattle.at_geom.specs.declared.positions.Pos.{Pos};
 ghost use Rattle.at_geom.specs.Segments.{IsInRange};
 ghost use Rattle.at_hull.specs.Hulls.{IsHull};

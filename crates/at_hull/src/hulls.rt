@@ -1,5 +1,5 @@
 //! The hull of a list of positions, from a chain up and a chain down, and the hull of two lists.
-ghost use Rattle.std.specs.Prelude.{◌≡◌, ◌≤◌, List, All, IfOk, ◌++◌, length};
+ghost use Rattle.std.specs.Prelude.{◌≤◌, List, All, IfOk, ◌++◌, length};
 ghost use Rattle.at_geom.specs.declared.positions.Pos.{Pos};
 ghost use Rattle.at_geom.specs.Segments.{IsInRange};
 ghost use Rattle.at_hull.specs.Hulls.{IsHull, HasSame, IsAscending};

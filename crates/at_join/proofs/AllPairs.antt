@@ -25,12 +25,13 @@ use Rattle.at_query.specs.Joined.{upper}
 use Rattle.at_query.specs.Parts.{last_of, IsClosed, IsProperEntry, AreProper}
 use Rattle.at_query.specs.Results.{Keeps}
 use Rattle.at_query.proofs.KeptLists.{kept_all}
+use Rattle.at_geom.proofs.ClosedRings.{clash}
 use Rattle.at_join.specs.Boxes.{touch_of}
 use Rattle.at_join.specs.Meetings.{Meeting, at_entries, pairs_of, IsAllPairs}
 use Rattle.at_join.specs.Cells.{cell_of, spread_of, is_pair_of, InCells, is_pair, times, ListsEach}
 use Rattle.at_join.specs.Parts.{rank_of}
 use Rattle.at_join.proofs.FoundLists.{count_mapped}
-use Rattle.at_join.proofs.Extents.{from_touching, reference_inside, shape_span, two_differ}
+use Rattle.at_join.proofs.Extents.{from_touching, reference_inside, shape_span}
 use Rattle.at_join.proofs.CellRects.{cell_below}
 use Rattle.at_join.proofs.Offsets.{In, Rises, in_from, contains_from, of_all, one_entry, above, rest_rises, AreAbove}
 use Rattle.at_join.proofs.CellPairs.{gone, spread_round, pair_is, kept_times, same_pair, keeps_have, both_all, each_weaker}
@@ -152,7 +153,7 @@ entry_times p (q ∷ xs) ys one =
 
 filter_by : {X : Type 0} (P : X → Type 0) (x : X) (xs ks : List X) (b : Bool) → (b ≡ true → P x) → (P x → b ≡ true) → Keeps P xs ks → Keeps P (x ∷ xs) (cond b (x ∷ ks) ks)
 filter_by P x xs ks true to from k = inl (to refl, (ks, refl, k))
-filter_by P x xs ks false to from k = inr ((λ p. two_differ false (from p) refl), k)
+filter_by P x xs ks false to from k = inr ((λ p. clash false (from p) refl), k)
 
 keeps_filter : {X : Type 0} (P : X → Type 0) (test : X → Bool) (xs : List X) → AllByRecursion (λ (x : X). (test x ≡ true → P x) × (P x → test x ≡ true)) xs → Keeps P xs (filter test xs)
 keeps_filter P test [] h = refl

@@ -9,10 +9,11 @@ use Rattle.std.proofs.lemmas.Bool.{cases_lt}
 use Rattle.at_geom.specs.declared.rectangles.Extent.{Extent}
 use Rattle.at_geom.specs.Shapes.{encloses}
 use Rattle.at_query.specs.Joined.{around}
+use Rattle.at_geom.proofs.Found.{encloses_itself}
 use Rattle.at_join.specs.declared.outlines.Outline.{Outline}
 use Rattle.at_join.specs.Boxes.{touch_of}
 use Rattle.at_join.specs.Sides.{Cover}
-use Rattle.at_join.proofs.Extents.{encloses_itself, beside, off_itself, covered_off, around_first, around_second}
+use Rattle.at_join.proofs.Extents.{beside, off_itself, covered_off, around_first, around_second}
 
 -- what stands where a list has no outline
 abbrev pub no_extent : Extent

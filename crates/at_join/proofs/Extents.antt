@@ -12,14 +12,11 @@ use Rattle.at_geom.specs.declared.rectangles.Extent.{Extent}
 use Rattle.at_geom.specs.Segments.{IsInRange}
 use Rattle.at_geom.specs.Shapes.{IsShapeInRange, positions, extent_of, widened, is_within, encloses}
 use Rattle.at_geom.proofs.Comparisons.{le_true, le_from}
-use Rattle.at_geom.proofs.Found.{left_true, right_true, IsInside, sides, from_sides}
+use Rattle.at_geom.proofs.Found.{left_true, right_true, IsInside, sides, from_sides, encloses_itself}
 use Rattle.at_query.proofs.Hulls.{positions_in_range}
 use Rattle.at_query.specs.Joined.{upper, around, around_both}
+use Rattle.at_geom.proofs.ClosedRings.{clash}
 use Rattle.at_join.specs.Boxes.{touch_of, common_of, is_here_of, IsWide, IsSpan}
-
-pub two_differ : (b : Bool) → b ≡ true → b ≡ false → ⊥
-two_differ true e f = cc
-two_differ false e f = cc
 
 pub four_true : (a b c d : Bool) → ((a && b) && (c && d)) ≡ true → (a ≡ true) × (b ≡ true) × (c ≡ true) × (d ≡ true)
 four_true true true true true h = (refl, refl, refl, refl)
@@ -69,7 +66,7 @@ pub covered_off : (c y w : Extent) → encloses c y ≡ true → touch_of c w �
 covered_off c y w h off = false_from_ne_true (touch_of y w) (λ t.
     let e = enclosing c y h in
     let i = touching y w t in
-    two_differ (touch_of c w) (from_touching c w (record {
+    clash (touch_of c w) (from_touching c w (record {
       left = omega (arith, ints, e.left, i.left);
       right = omega (arith, ints, e.right, i.right);
       below = omega (arith, ints, e.below, i.below);
@@ -92,14 +89,6 @@ around_first x y z h = let e = enclosing x z h in from_enclosing (around x y) z 
   above = omega (arith, ints, clamps, e.above);
 })
 
-pub encloses_itself : (x : Extent) → encloses x x ≡ true
-encloses_itself x = from_enclosing x x (record {
-  left = omega (arith, ints);
-  right = omega (arith, ints);
-  below = omega (arith, ints);
-  above = omega (arith, ints);
-})
-
 -- an extent that doesn't enclose this one
 abbrev pub beside : Extent → Extent
 beside x = record { low = record { x = x.low.x +ℤ pos 1; y = x.low.y }; high = x.high }
@@ -120,7 +109,7 @@ pub off_rect : (rect x y : Extent) → IsWide x → touch_of x rect ≡ false �
 off_rect rect x y w off h =
     let t = here_touches rect x y h in
     let i = here_inside rect x y h in
-    two_differ (touch_of x rect) (from_touching x rect (record {
+    clash (touch_of x rect) (from_touching x rect (record {
       left = omega (arith, ints, clamps, i.right);
       right = omega (arith, ints, clamps, i.left, w.along_x, t.right);
       below = omega (arith, ints, clamps, i.above);

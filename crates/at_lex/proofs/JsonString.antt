@@ -1,6 +1,7 @@
 -- A machine for the strings of JSON, and that it is one for the grammar.
 -- For most public calls of the crate, `copy`, `from_slice`, `lex` among them.
 use Rattle.std.proofs.Common.{◌≡◌, ℕ, ◌⊎◌, inl, inr, ◌↔◌, List, [], ◌∷◌, ◌++◌, Option, Some, None, IsTrue, Bool, true, false, cond, ◌&&◌, ◌==◌, flat_map, refl, sym, ◌∙◌, ap, subst, arith, true≢false, ◌<◌, ◌≤◌, length, take, slice_index}
+use Rattle.std.proofs.lemmas.Bool.{eqb-true}
 use Rattle.std.proofs.lemmas.Option.{none-some, same_Some}
 use Rattle.std.specs.Bool.{⊤}
 use Rattle.std.specs.Char.{is_ascii_hexdigit}
@@ -27,9 +28,6 @@ Rest hex1 [] = ⊥
 Rest hex1 (b ∷ w) = (is_ascii_hexdigit b ≡ true) × Rest inside w
 Rest closed [] = ⊤
 Rest closed (b ∷ w) = ⊥
-
-eq_of_test : (a b : ℕ) → (a == b) ≡ true → a ≡ b
-eq_of_test a b h = grind (arith, h)
 
 plain_at : (b : ℕ) → is_plain b ≡ true → step inside b ≡ Some inside
 plain_at b h = let p : (b == 0x22) ≡ false = grind (arith, h) in let q : (b == 0x5C) ≡ false = grind (arith, h) in
@@ -63,7 +61,7 @@ by_last true s t w e r = (refl, moved s t w e r)
 by_last false s t w e r = absurd (none-some t e)
 
 by_byte : (b c : ℕ) {A : Type 0} → (b == c) ≡ true → A → (b ≡ c) × A
-by_byte b c h a = (eq_of_test b c h, a)
+by_byte b c h a = (eqb-true b c h, a)
 
 comes : (s t : State) (b : ℕ) (w : List ℕ) → step s b ≡ Some t → Rest t w → Rest s (b ∷ w)
 comes opening t b w e r = let q = by_last (b == 0x22) inside t w e r in by_byte b 0x22 q.0 q.1
@@ -112,7 +110,7 @@ machine = record { ends = ends; goes = goes; comes = comes; lives = lives }
 
 -- ---- the grammar
 
-all_four : (a b c d : Bool) → ((a && b) && (c && d)) ≡ true → (a ≡ true) × (b ≡ true) × (c ≡ true) × (d ≡ true)
+pub all_four : (a b c d : Bool) → ((a && b) && (c && d)) ≡ true → (a ≡ true) × (b ≡ true) × (c ≡ true) × (d ≡ true)
 all_four a b c d h = (grind (arith, h), grind (arith, h), grind (arith, h), grind (arith, h))
 
 from_four : (a b c d : Bool) → a ≡ true → b ≡ true → c ≡ true → d ≡ true → ((a && b) && (c && d)) ≡ true

@@ -1,13 +1,14 @@
 -- Literals and numbers are runs of bytes, and so is what begins one.
 -- For most public calls of the crate, `copy`, `from_slice`, `lex` among them.
-use Rattle.std.proofs.Common.{◌≡◌, ◌≢◌, ℕ, ◌<◌, ◌⊎◌, inl, inr, List, [], ◌∷◌, ◌++◌, length, Option, Some, None, IfSome, true, false, cond, ◌==◌, refl, sym, ◌∙◌, ap, subst, arith, true≢false}
+use Rattle.std.proofs.Common.{◌≡◌, ◌≢◌, ℕ, ◌<◌, inl, inr, List, [], ◌∷◌, ◌++◌, length, Option, Some, None, IfSome, true, false, cond, ◌==◌, refl, sym, ◌∙◌, ap, subst, arith}
 use Rattle.at_text.specs.Prefix.{Viable}
 use Rattle.at_text.specs.Texts.{is_digit, is_space, is_run, is_one_of}
 use Rattle.at_fixed.specs.Numerals.{Exponent, fraction_text, exponent_text, IsAtMostOneOf, AreDigits, AreSomeDigits, IsExponent, IsJsonWhole}
+use Rattle.at_fixed.proofs.NumberMachine.{one_of_two}
 use Rattle.at_lex.specs.declared.tokens.Start.{Start}
 use Rattle.at_lex.specs.declared.tokens.Start.TheVariants.{Out, InString}
 use Rattle.at_lex.specs.Runs.{Literal, the_null, the_true, the_false, literal_text, JsonRun}
-use Rattle.at_lex.specs.Spans.{AreRun, AreSpaces, IsRun, begins_run, end_of}
+use Rattle.at_lex.specs.Spans.{AreRun, AreSpaces, IsRun, end_of}
 
 pub run_append : (u v : List ℕ) → AreRun u → AreRun v → AreRun (u ++ v)
 run_append [] v h k = k
@@ -19,9 +20,6 @@ run_front (b ∷ u) v (h, hs) = (h, run_front u v hs)
 
 digit_run : (b : ℕ) → is_digit b ≡ true → is_run b ≡ true
 digit_run b h = grind (arith, h)
-
-one_of_two : (x y b : ℕ) → is_one_of (x ∷ y ∷ []) b ≡ true → (b ≡ x) ⊎ (b ≡ y)
-one_of_two x y b h = grind (arith, h)
 
 sign_run : (b : ℕ) → is_one_of (0x2B ∷ 0x2D ∷ []) b ≡ true → is_run b ≡ true
 sign_run b h = elim (one_of_two 0x2B 0x2D b h) [ inl e ↦ ap is_run e | inr e ↦ ap is_run e ]
@@ -101,7 +99,3 @@ some_run (b ∷ w) h (k, ks) = (k, (k, ks))
 
 pub some_bytes : (w : List ℕ) → 0 < length w → w ≢ []
 some_bytes w h e = absurd (omega (arith, h, ap length e))
-
-pub run_length : (w : List ℕ) → begins_run w ≡ true → 0 < length w
-run_length [] h = absurd (true≢false (sym h))
-run_length (b ∷ w) h = omega arith

@@ -1,6 +1,6 @@
 -- Literals and numbers: by their first byte, as runs of bytes, and their longest viable prefix.
 -- For `check_run`, `lex`, `next_item` and `take_run`.
-use Rattle.std.proofs.Common.{◌≡◌, ◌≢◌, ℕ, zero, suc, ◌+◌, ◌<◌, ◌≤◌, ◌==◌, inl, inr, List, [], ◌∷◌, ◌++◌, length, take, drop, slice_index, Bool, true, false, ◌&&◌, nat_le, IsTrue, refl, sym, ◌∙◌, ap, subst, arith, length-append, length-take, take-append-drop, add-one, eq-eqb, true≢false, not}
+use Rattle.std.proofs.Common.{◌≡◌, ◌≢◌, ℕ, zero, suc, ◌+◌, ◌<◌, ◌≤◌, ◌==◌, inl, inr, List, [], ◌∷◌, ◌++◌, length, take, drop, slice_index, true, false, ◌&&◌, nat_le, IsTrue, refl, sym, ◌∙◌, ap, subst, arith, length-append, length-take, take-append-drop, add-one, eq-eqb, true≢false, not}
 use Rattle.std.proofs.lemmas.List.{take_all}
 use native.Mathlib.Decide.{dec_lt}
 use Rattle.at_text.specs.declared.prefixes.Taken.{Taken}
@@ -222,11 +222,3 @@ is_literal l w e run = only_literal l w e (has_byte l w e) run
 pub is_number : (w : List ℕ) → NoLetter w → JsonRun w → JsonNumber w
 is_number w h (inl (l, e)) = absurd (no_literal w h l e)
 is_number w h (inr n) = n
-
-pub not-false : (b : Bool) → not b ≡ false → b ≡ true
-not-false true e = refl
-not-false false e = sym e
-
-pub not-true : (b : Bool) → not b ≡ true → b ≡ false
-not-true true e = sym e
-not-true false e = refl

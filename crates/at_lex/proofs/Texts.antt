@@ -1,6 +1,7 @@
 -- Strings by lexical states: how the parts of one join, and that the reader of a string goes through them.
 -- For most public calls of the crate, `copy`, `from_slice`, `lex` among them.
 use Rattle.std.proofs.Common.{◌≡◌, ◌≢◌, ℕ, ◌+◌, ◌<◌, ◌≤◌, List, [], ◌∷◌, ◌++◌, length, take, drop, slice_index, Option, Some, None, option_and_then, Bool, true, false, cond, ◌==◌, IsTrue, refl, sym, ◌∙◌, ap, subst, arith, ◌⊎◌, inl, inr, true≢false, add-one, take-suc, ◌-◌, length-drop, get_or-drop}
+use Rattle.std.proofs.lemmas.Bool.{eqb-true}
 use Rattle.std.proofs.Math.Seq.{take-add}
 use Rattle.std.proofs.lemmas.Option.{none-some, same_Some, option_and_then_some}
 use Rattle.std.specs.List.{AllByRecursion}
@@ -79,9 +80,6 @@ chosen : {X : Type 0} (c : Bool) (x y z : X) → cond c x y ≡ z → ((c ≡ tr
 chosen true x y z e = inl (refl, e)
 chosen false x y z e = inr (refl, e)
 
-eq_of_test : (a b : ℕ) → (a == b) ≡ true → a ≡ b
-eq_of_test a b h = grind (arith, h)
-
 lexical_is : (s t : State) → ◌≡◌ {A = Option State} (Some s) (Some t) → lexical_of s ≡ lexical_of t
 lexical_is s t e = ap lexical_of (same_Some s t e)
 
@@ -103,9 +101,9 @@ lexical_step opening t b e = elim (chosen (b == 0x22) (Some inside) None (Some t
   | inr q ↦ none_is t q.1
 ]
 lexical_step inside t b e = elim (chosen (b == 0x22) (Some closed) _ (Some t) e) [
-  | inl q ↦ ap (after_byte InString) (eq_of_test b 0x22 q.0) ∙ lexical_is closed t q.1
+  | inl q ↦ ap (after_byte InString) (eqb-true b 0x22 q.0) ∙ lexical_is closed t q.1
   | inr q ↦ elim (chosen (b == 0x5C) (Some escaped) _ (Some t) q.1) [
-    | inl r ↦ ap (after_byte InString) (eq_of_test b 0x5C r.0) ∙ lexical_is escaped t r.1
+    | inl r ↦ ap (after_byte InString) (eqb-true b 0x5C r.0) ∙ lexical_is escaped t r.1
     | inr r ↦ elim (chosen _ (Some inside) None (Some t) r.1) [
       | inl k ↦ ap (λ c. cond c InEscape (cond (b == 0x22) Out InString)) r.0 ∙ (ap (λ c. cond c Out InString) q.0 ∙ lexical_is inside t k.1)
       | inr k ↦ none_is t k.1

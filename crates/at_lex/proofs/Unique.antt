@@ -24,13 +24,13 @@ use Rattle.at_lex.specs.Spans.{after_byte, end_of, ClosesText, StaysInText, AreS
 
 -- ---- fronts
 
-head_same : (b c : ℕ) (v w : List ℕ) → b ∷ v ≡ c ∷ w → b ≡ c
+pub head_same : (b c : ℕ) (v w : List ℕ) → b ∷ v ≡ c ∷ w → b ≡ c
 head_same b c v w e = cc
 
-tail_same : (b c : ℕ) (v w : List ℕ) → b ∷ v ≡ c ∷ w → v ≡ w
+pub tail_same : (b c : ℕ) (v w : List ℕ) → b ∷ v ≡ c ∷ w → v ≡ w
 tail_same b c v w e = cc
 
-not-false : (b : Bool) → IsTrue (not b) → b ≡ false
+pub not-false : (b : Bool) → IsTrue (not b) → b ≡ false
 not-false false h = refl
 not-false true h = absurd (true≢false (sym h))
 

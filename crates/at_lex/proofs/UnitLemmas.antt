@@ -1,6 +1,6 @@
 -- The units of a string from left to right: what each step over its first bytes gives.
 -- For `units`.
-use Rattle.std.proofs.Common.{◌≡◌, ◌≢◌, ℕ, zero, suc, ◌+◌, ◌-◌, ◌<◌, ◌≤◌, min, List, [], ◌∷◌, ◌++◌, length, take, drop, slice_index, flat_map, Option, Some, None, Bool, true, false, ◌==◌, ◌&&◌, nat_lt, refl, sym, ◌∙◌, ap, subst, arith, true≢false, append-nil, length-append, length-take, length-drop, map}
+use Rattle.std.proofs.Common.{◌≡◌, ◌≢◌, ℕ, zero, suc, ◌+◌, ◌-◌, ◌<◌, ◌≤◌, min, List, [], ◌∷◌, ◌++◌, length, take, drop, slice_index, flat_map, Option, Some, None, Bool, true, false, ◌==◌, nat_lt, refl, sym, ◌∙◌, ap, subst, arith, true≢false, append-nil, length-append, length-take, length-drop, map}
 use Rattle.std.specs.List.{list_any}
 use Rattle.std.specs.Str.{is_utf8, chars, IsAscii}
 use Rattle.std.proofs.lemmas.Str.{is_utf8-from_IsUtf8, IsUtf8-from_ascii, chars-IsAscii}
@@ -9,6 +9,7 @@ use Rattle.std.specs.Char.Escape.{encode_utf16}
 use Rattle.at_lex.specs.Strings.{Character, plain, escape, unit, escapes, is_plain, AreCharacters, character_text, string_text, bytes_ahead, char_len, first_units, further_bytes, escape_unit, hex_unit, units_after, units_of}
 use Rattle.at_lex.specs.Fronts.{IsFront}
 use Rattle.at_lex.specs.UnitSteps.{Content, HasDigits, StepsOver}
+use Rattle.at_lex.proofs.JsonString.{all_four}
 
 -- the bytes of the characters and of the closing quote
 abbrev pub rest_text : List Character → List ℕ
@@ -27,9 +28,6 @@ no_rest (escape l ∷ cs) w (h, e) k = absurd (omega (arith, k, ap length e))
 no_rest (unit a b c d ∷ cs) w (h, e) k = absurd (omega (arith, k, ap length e))
 
 -- ---- escapes
-
-all_four : (a b c d : Bool) → ((a && b) && (c && d)) ≡ true → (a ≡ true) × (b ≡ true) × (c ≡ true) × (d ≡ true)
-all_four a b c d h = (grind (arith, h), grind (arith, h), grind (arith, h), grind (arith, h))
 
 abbrev Hex : List Character → List ℕ → Type 0
 Hex cs w = (ds : List Character) × Content ds (drop 6 w) × (units_after 0 cs ≡ hex_unit (slice_index w 2) (slice_index w 3) (slice_index w 4) (slice_index w 5) ∷ units_after 0 ds)

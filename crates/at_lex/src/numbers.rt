@@ -1,8 +1,8 @@
 //! Numbers that end before the piece does, passed over part by part (RFC 8259 section 6).
 
-ghost use Rattle.std.specs.Prelude.{◌≡◌, ◌<◌, ◌≤◌, [], ◌∷◌, length, take, slice_index, false, IfSome};
-ghost use Rattle.at_text.specs.Texts.{is_run as run_test, is_one_of};
-ghost use Rattle.at_fixed.specs.Numerals.{JsonNumber, IsAtMostOneOf, IsJsonWhole};
+ghost use Rattle.std.specs.Prelude.{◌≡◌, ◌<◌, ◌≤◌, [], ◌∷◌, length, take, IfSome};
+ghost use Rattle.at_text.specs.Texts.{is_one_of};
+ghost use Rattle.at_fixed.specs.Numerals.{IsAtMostOneOf, IsJsonWhole};
 ghost use Rattle.at_lex.specs.EndedNumbers.{IsEndedNumber, IsFraction, IsPower};
 
 use crate::fronts::digit_len;

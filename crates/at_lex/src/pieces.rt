@@ -1,6 +1,6 @@
 //! The items of a piece as a list.
 
-ghost use Rattle.std.specs.Prelude.{◌≡◌, ◌+◌, ◌≤◌, ◌^◌, length, IfOk};
+ghost use Rattle.std.specs.Prelude.{◌+◌, ◌≤◌, ◌^◌, length, IfOk};
 ghost use Rattle.at_lex.specs.Spans.{HasItems, IsOnlyLexed};
 
 use crate::stream::Lexer;

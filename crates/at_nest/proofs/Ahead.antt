@@ -9,6 +9,7 @@ use Rattle.at_lex.specs.declared.tokens.Bracket.TheVariants.{Brace, Square}
 use Rattle.at_fixed.specs.Numerals.{Numeral, numeral_text, IsJsonNumeral, IsJsonWhole}
 use Rattle.at_lex.specs.Strings.{Character, string_text}
 use Rattle.at_lex.proofs.RunBytes.{word_run}
+use Rattle.at_lex.proofs.Unique.{head_same}
 use Rattle.at_nest.specs.declared.pieces.SpanStop.{SpanStop as CodeHalt}
 use Rattle.at_nest.specs.declared.algebra.Attempt.TheVariants.{Whole, Unsaid}
 use Rattle.at_nest.specs.declared.algebra.Attempt.{Attempt}
@@ -60,18 +61,15 @@ no_opening : (b : Bracket) (c : ℕ) → is_run c ≡ true → c ≡ opening b �
 no_opening Brace c h e = true≢false (sym h ∙ ap is_run e)
 no_opening Square c h e = true≢false (sym h ∙ ap is_run e)
 
-pub same_first : (c d : ℕ) (x y : List ℕ) → c ∷ x ≡ d ∷ y → c ≡ d
-same_first c d x y e = cc
-
 no_bracket_run : (v r more : List ℕ) (b : Bracket) → v ++ r ≡ opening b ∷ more → JsonRun v → ⊥
 no_bracket_run [] r more b e h = no_nil h
-no_bracket_run (c ∷ v) r more b e h = no_opening b c (word_run (c ∷ v) h).0 (same_first c (opening b) (v ++ r) more e)
+no_bracket_run (c ∷ v) r more b e h = no_opening b c (word_run (c ∷ v) h).0 (head_same c (opening b) (v ++ r) more e)
 
 between : (c d : ℕ) (u v : List ℕ) → v ≡ c ∷ (u ++ d ∷ []) → is_run d ≡ false → (0 < length v) × (ends_run v ≡ false)
 between c d u v e n = (let size : length v ≡ suc (length (u ++ d ∷ [])) = ap (λ z. length z) e in omega (arith, size), ap ends_run e ∙ (ends_append (c ∷ u) d [] ∙ n))
 
 other_first : (c : ℕ) (x y : List ℕ) → (c ≡ 0x22 → ⊥) → c ∷ x ≡ 0x22 ∷ y → ⊥
-other_first c x y other e = other (same_first c 0x22 x y e)
+other_first c x y other e = other (head_same c 0x22 x y e)
 
 no_quote : (b : Bracket) (x y : List ℕ) → opening b ∷ x ≡ 0x22 ∷ y → ⊥
 no_quote Brace x y e = other_first 0x7B x y (λ e. omega (arith, e)) e

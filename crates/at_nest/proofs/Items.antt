@@ -1,6 +1,7 @@
 -- The items of a piece, read one by one: what has been read stands in a form, and what is left is with the reader.
 -- For `merge` and `run_block`.
 use Rattle.std.proofs.Common.{◌≡◌, ◌≢◌, ℕ, Option, Some, None, List, [], ◌∷◌, ◌++◌, Bool, true, false, not, ◌&&◌, IsTrue, refl, sym, ◌∙◌, ap, subst, arith, append_assoc, append-nil, ◌+◌, ◌-◌, ◌≤◌, ◌<◌, suc, length, length-append, take, drop, if◌then◌else◌}
+use Rattle.std.proofs.lemmas.Bool.{and_right}
 use Rattle.std.proofs.Math.Seq.{take-append_seam, drop-append_seam}
 use Rattle.std.specs.Bool.{⊤}
 use Rattle.at_text.specs.Texts.{is_run}
@@ -17,6 +18,7 @@ use Rattle.at_lex.specs.declared.tokens.Item.TheVariants.{Whole as WholeItem, En
 use Rattle.at_lex.specs.declared.tokens.Lead.TheVariants as leads
 use Rattle.at_lex.specs.declared.tokens.Pend.{Pend}
 use Rattle.at_lex.specs.declared.tokens.Pend.TheVariants as pends
+use Rattle.at_lex.proofs.Unique.{not-false}
 use Rattle.at_nest.specs.declared.bodies.Body.{Body}
 use Rattle.at_nest.specs.declared.pieces.SpanStop.{SpanStop as CodeHalt}
 use Rattle.at_nest.specs.declared.variants.Variant.{Variant}
@@ -32,12 +34,10 @@ use Rattle.at_nest.specs.Shown.{Shown, shown}
 use Rattle.at_nest.specs.KeptItems.{Content, free, IsShown, IsPushedAs, halt_of}
 use Rattle.at_nest.specs.Reading.{IsPlaced, ReadsToken, ReadsAhead, HasBytes, pend_from}
 use Rattle.at_nest.specs.VariantMeanings.{HoldsVariant, HoldsBehind}
-use Rattle.at_nest.proofs.Steps.{and_false}
 use Rattle.at_nest.proofs.Walks.{ends_append, spaces_apart}
 use Rattle.at_nest.proofs.Joins.{apart_front, formed_append, formed_out, end_append}
 use Rattle.at_nest.proofs.Merges.{apart_last}
 use Rattle.at_nest.proofs.Unions.{ends_token, string_last, lead_out, closes_out}
-use Rattle.at_nest.proofs.TokenReads.{not_of}
 
 -- ---- what ends a token
 
@@ -67,7 +67,7 @@ lexed_ends at v r kinds.Comma n h = one_byte v r 0x2C h refl
 lexed_ends at v r kinds.Colon n h = one_byte v r 0x3A h refl
 lexed_ends at v r kinds.Text n h = let (u, e, c) = h.0 in let f : ends_run v ≡ false = ap ends_run e ∙ string_last u c in record { first = 0x22; others = u; some = e; apart = open_end v r f; ended = λ q. f }
 lexed_ends at v r kinds.Run n h = let (b, o, e) = run_some v h.0.0.0 in
-    record { first = b; others = o; some = e; apart = ap not (and_false (ends_run v) (begins_run r) (not_of (begins_run r) h.0.2)); ended = λ q. absurd (h.0.1 q) }
+    record { first = b; others = o; some = e; apart = ap not (and_right (ends_run v) (begins_run r) (not-false (begins_run r) h.0.2)); ended = λ q. absurd (h.0.1 q) }
 lexed_ends at v r (kinds.Broken place) n h = absurd (let P : Bool → Type 0 = λ z. elim z [ true ↦ ⊤ | false ↦ ⊥ ] in subst P n tt)
 
 -- ---- white space
@@ -337,12 +337,12 @@ module _ {X : Type 0} (IsKept : X → Content → Type 0) where
     where
       ends_here : (rest : List ℕ) → IsTrue (not (begins_run rest)) → rest ≢ [] → IsLeadEnd Out [] rest
       ends_here [] k m = absurd (m refl)
-      ends_here (b ∷ o) k m = (tt, not_of (begins_run (b ∷ o)) k, b, o, refl)
+      ends_here (b ∷ o) k m = (tt, not-false (begins_run (b ∷ o)) k, b, o, refl)
   behind_nothing InString base piece left v (u, e, l, i, q) n h = absurd l
   behind_nothing InEscape base piece left v (u, e, l, i, q) n h = absurd l
 
   pub behind_run : (s : Start) (base : ℕ) (piece : List ℕ) (n : ℕ) (left : Left) (v : Variant X) → IsBegun s base piece (leads.RunEnds n) left → HoldsBehind IsKept base piece left.at left.rest n v → HoldsVariant IsKept s base piece v
-  behind_run Out base piece n left v (u, e, l, i, q) h = let c = some_left left.rest l.1.1 in h Out u e (l.1.0.1, not_of (begins_run left.rest) l.1.2, c.0, c.1, c.2) i l.0
+  behind_run Out base piece n left v (u, e, l, i, q) h = let c = some_left left.rest l.1.1 in h Out u e (l.1.0.1, not-false (begins_run left.rest) l.1.2, c.0, c.1, c.2) i l.0
     where
       some_left : (w : List ℕ) → w ≢ [] → (b : ℕ) × (o : List ℕ) × (w ≡ b ∷ o)
       some_left [] k = absurd (k refl)

@@ -1,6 +1,7 @@
 -- Forms of joined bytes, where forms may be cut, and what viable bytes say of the machine.
 -- For `finish`, `finish_span`, `merge` and `run_block`.
 use Rattle.std.proofs.Common.{◌≡◌, ℕ, List, [], ◌∷◌, ◌++◌, Some, option_and_then, true, false, not, ◌&&◌, refl, sym, ◌∙◌, ap, subst, arith, append_assoc, append-nil, ◌+◌, length, length-append}
+use Rattle.std.proofs.lemmas.Bool.{and_right}
 use Rattle.std.proofs.lemmas.Option.{option_and_then_some}
 use Rattle.at_text.specs.Prefix.{Viable}
 use Rattle.at_text.specs.Texts.{is_space}
@@ -12,7 +13,6 @@ use Rattle.at_nest.specs.Syntax.{JsonText}
 use Rattle.at_nest.proofs.JsonMachine.{State, value, after, step, Acc, accepted-JsonText}
 use Rattle.at_nest.specs.Borders.{ends_run, are_apart}
 use Rattle.at_nest.specs.Forms.{Meaning, Piece, comma as a_comma, colon as a_colon, quoted, entry, opens, closes, mark, IsPiece, Formed}
-use Rattle.at_nest.proofs.Steps.{and_false}
 use Rattle.at_nest.proofs.Values.{go, Enters, value_enters, value_at, string_enters}
 use Rattle.at_nest.proofs.Walks.{ends_append, apart_more}
 use Rattle.at_nest.proofs.PieceSteps.{piece_first}
@@ -21,7 +21,7 @@ use Rattle.at_nest.proofs.Lexical.{at_run, settled_out}
 -- ---- apartness
 
 pub apart_nothing : (v : List ℕ) → are_apart v [] ≡ true
-apart_nothing v = ap not (and_false (ends_run v) false refl)
+apart_nothing v = ap not (and_right (ends_run v) false refl)
 
 -- what begins alike is apart alike
 pub apart_front : (v r x : List ℕ) → are_apart v (r ++ x) ≡ true → are_apart v r ≡ true

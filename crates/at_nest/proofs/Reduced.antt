@@ -1,6 +1,7 @@
 -- Forms stay reduced; and a stop of a span is dead from the span's start state on.
 -- For `finish`, `finish_span`, `merge` and `run_block`.
 use Rattle.std.proofs.Common.{◌≡◌, ℕ, List, [], ◌∷◌, ◌++◌, Option, Some, None, Bool, true, false, not, ◌&&◌, refl, sym, ◌∙◌, ap, subst, append_assoc}
+use Rattle.std.proofs.lemmas.Bool.{and_right}
 use Rattle.at_text.specs.Prefix.{Viable}
 use Rattle.at_lex.specs.declared.tokens.Start.{Start}
 use Rattle.at_lex.specs.declared.tokens.Start.TheVariants.{Out, InString, InEscape}
@@ -10,7 +11,6 @@ use Rattle.at_lex.specs.Spans.{begins_run, end_of, ClosesText}
 use Rattle.at_nest.specs.Borders.{ends_run, are_apart}
 use Rattle.at_nest.specs.Forms.{Meaning, Mark, Piece, opens, closes, mark, entry, IsDead}
 use Rattle.at_nest.specs.Walks.{mark_kind}
-use Rattle.at_nest.proofs.Steps.{and_false}
 use Rattle.at_nest.proofs.Walks.{ends_append}
 use Rattle.at_nest.proofs.Joins.{end_append, at_end}
 use Rattle.at_nest.specs.Levels.{Mode, Level, Form, move, closes_at, built, pieces_of, Pushed, further, stopped, SpanStop, with_mark, push_mark, close_level, push_close, push, push_then, push_all}
@@ -74,7 +74,7 @@ apart_by : (x more : List ℕ) → ends_run x ≡ false → are_apart x more ≡
 apart_by x more h = ap (λ z. not (z && begins_run more)) h
 
 lead_apart : (s : Start) (x u more : List ℕ) → IsLeadEnd s u more → are_apart (x ++ u) more ≡ true
-lead_apart Out x u more (h, k, b, o, e) = ap not (and_false (ends_run (x ++ u)) (begins_run more) k)
+lead_apart Out x u more (h, k, b, o, e) = ap not (and_right (ends_run (x ++ u)) (begins_run more) k)
 lead_apart InString x u more h = apart_by (x ++ u) more (lead_last InString x u (λ e. not_out_string (sym e)) h)
 lead_apart InEscape x u more h = apart_by (x ++ u) more (lead_last InEscape x u (λ e. not_out_escape (sym e)) h)
 

@@ -2,7 +2,7 @@
 -- For `merge` and `run_block`.
 use Rattle.std.proofs.Common.{◌≡◌, ℕ, ◌⊎◌, inl, inr, List, [], ◌∷◌, ◌++◌, Option, Some, None, option_and_then, Bool, true, false, cond, not, ◌&&◌, refl, sym, ◌∙◌, ap, subst, arith, append_assoc, append-nil, ◌+◌, length, length-append, true≢false}
 use Rattle.std.proofs.lemmas.Option.{none-some, same_Some, option_and_then_some}
-use Rattle.std.proofs.lemmas.Bool.{not-true}
+use Rattle.std.proofs.lemmas.Bool.{not-true, and_right}
 use Rattle.at_text.specs.Texts.{is_run}
 use Rattle.at_lex.proofs.JsonString as str
 use Rattle.at_lex.specs.Spans.{end_of, IsKind}
@@ -14,6 +14,7 @@ use Rattle.at_lex.specs.declared.tokens.Token.{Token}
 use Rattle.at_lex.specs.declared.tokens.TokenKind.{TokenKind}
 use Rattle.at_lex.specs.declared.tokens.TokenKind.TheVariants as token
 use Rattle.at_lex.specs.declared.tokens.Item.TheVariants.{Whole as WholeItem}
+use Rattle.at_lex.proofs.Unique.{head_same}
 use Rattle.at_nest.specs.declared.bodies.Body.{Body}
 use Rattle.at_nest.specs.declared.levels.ArrayState.TheVariants as array
 use Rattle.at_nest.specs.declared.levels.ObjectState.TheVariants as object
@@ -34,7 +35,7 @@ use Rattle.at_nest.specs.Refusals.{not_behind_value, not_behind_text, not_behind
 use Rattle.at_nest.specs.VariantMeanings.{HoldsBehind}
 use Rattle.at_nest.proofs.JsonNumber as num
 use Rattle.at_nest.proofs.JsonMachine.{State, Frame, in_array, in_object, value, items, members, name, colon as colon_state, after, in_number, in_string, in_name, in_word, step, after_step}
-use Rattle.at_nest.proofs.Steps.{Settled, is_clear, run_ended, settled_step, and_false}
+use Rattle.at_nest.proofs.Steps.{Settled, is_clear, run_ended, settled_step}
 use Rattle.at_nest.proofs.Values.{go}
 use Rattle.at_nest.proofs.PieceSteps.{Halts, piece_first, piece_at, piece_halts, next_still}
 use Rattle.at_nest.proofs.Walks.{Reads, Halted, walk_reads, walk_halts, cases, spaces_apart}
@@ -47,7 +48,6 @@ use Rattle.at_nest.proofs.TokenStops.{apart_of_run}
 use Rattle.at_nest.proofs.TokenReads.{run_tree}
 use Rattle.at_nest.proofs.Items.{Consumed}
 use Rattle.at_nest.proofs.Closers.{closers_more}
-use Rattle.at_nest.proofs.Ahead.{same_first}
 
 -- ---- what the grammar's states are behind a piece
 
@@ -242,7 +242,7 @@ ready q t y d w e at1 apart g = by_byte (is_run d) refl
   where
     by_byte : (p : Bool) → is_run d ≡ p → IsReady q (d ∷ w)
     by_byte true n = let (u, settled, clear) = ran_settled q at1 (start_ran q y e (apart_of_run y (d ∷ w) n apart)) in (u, settled, ap (λ z. not (z && is_run d)) clear)
-    by_byte false n = option_and_then_some (λ z. go z w) (step q d) t g (λ v f k. let (u, settled) = settles q v d at1 n f in (u, settled, ap (λ z. not (run_ended q && z)) n ∙ ap not (and_false (run_ended q) false refl)))
+    by_byte false n = option_and_then_some (λ z. go z w) (step q d) t g (λ v f k. let (u, settled) = settles q v d at1 n f in (u, settled, ap (λ z. not (run_ended q && z)) n ∙ ap not (and_right (run_ended q) false refl)))
 
 -- ---- two pieces of which the second has no place
 
@@ -265,7 +265,7 @@ two_stop m c p k j w v b u q s t refuses settled clear clear2 formed apart hp e 
   | inl n ↦ halted_goes q q2 k (at_of c) w (walk_halts m (c ∷ []) k w q s (at_of c) settled clear formed (ap (λ o. walk_on o (at_of c) (λ z. reached z)) n)) f
   | inr (s2, n) ↦ (let r : Reads q s2 w = walk_reads m (c ∷ []) k w q s s2 settled clear formed (ap (λ o. walk_on o (at_of c) (λ z. reached z)) n) in
       let h : Halts s2 v = piece_halts m s2 j v p (next_still s (kind_of c) s2 n) hp (refuses s s2 n) in
-      let none : step s2 b ≡ None = ap (step s2) (same_first b h.byte u h.others (sym e ∙ h.split)) ∙ h.halts in
+      let none : step s2 b ≡ None = ap (step s2) (head_same b h.byte u h.others (sym e ∙ h.split)) ∙ h.halts in
       halts_after q r.last t w b r.goes (settled_step r.last s2 b r.settled (not-true _ (r.clear (b ∷ []) apart clear2)) ∙ none) g)
 ]
 

@@ -1,7 +1,7 @@
 -- The machine for JSON texts, token by token: what a token leads to, whatever byte comes next.
 -- For `finish`, `finish_span`, `merge` and `run_block`.
 use Rattle.std.proofs.Common.{◌≡◌, ℕ, ◌⊎◌, inl, inr, List, [], ◌∷◌, ◌++◌, Some, None, option_map, option_and_then, Bool, true, false, cond, not, ◌&&◌, refl, sym, ◌∙◌, ap, subst, arith, true≢false}
-use Rattle.std.proofs.lemmas.Bool.{not-true}
+use Rattle.std.proofs.lemmas.Bool.{not-true, and_right}
 use Rattle.std.specs.Bool.{⊤}
 use Rattle.at_text.specs.Texts.{is_space, is_run, is_one_of}
 use Rattle.at_text.proofs.Machine.{run}
@@ -167,12 +167,8 @@ pub still_spaces : (t : State) (a w : List ℕ) → IsStill t → AreSpaces a �
 still_spaces t [] w h s = refl
 still_spaces t (b ∷ a) w h (s, r) = ap (option_and_then (λ x. run step x (a ++ w))) (still_space t b h s) ∙ still_spaces t a w h r
 
-pub and_false : (a b : Bool) → b ≡ false → (a && b) ≡ false
-and_false true b h = h
-and_false false b h = refl
-
 -- white space, and then a byte, do the same in both
 pub settled_run : (s t : State) (a : List ℕ) (c : ℕ) (r : List ℕ) → Settled s t → AreSpaces a → is_clear s (a ++ (c ∷ r)) ≡ true → run step s (a ++ (c ∷ r)) ≡ run step t (c ∷ r)
 settled_run s t [] c r h sp g = ap (option_and_then (λ x. run step x r)) (settled_step s t c h (not-true _ g))
-settled_run s t (b ∷ a) c r h (e, sp) g = ap (option_and_then (λ x. run step x (a ++ (c ∷ r)))) (settled_step s t b h (and_false (run_ended s) _ (space_no_run b e)))
+settled_run s t (b ∷ a) c r h (e, sp) g = ap (option_and_then (λ x. run step x (a ++ (c ∷ r)))) (settled_step s t b h (and_right (run_ended s) _ (space_no_run b e)))
     ∙ (ap (option_and_then (λ x. run step x (a ++ (c ∷ r)))) (still_space t b (settled_still s t h) e) ∙ still_spaces t a (c ∷ r) (settled_still s t h) sp)

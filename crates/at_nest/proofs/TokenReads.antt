@@ -1,6 +1,6 @@
 -- What the readers of strings and runs find of a token, told as what the token pushes.
 -- For `finish`, `finish_span`, `merge` and `run_block`.
-use Rattle.std.proofs.Common.{◌≡◌, ◌≢◌, ℕ, zero, suc, ◌⊎◌, inl, inr, List, [], ◌∷◌, ◌++◌, Option, Some, None, Bool, true, false, not, refl, sym, ◌∙◌, ap, subst, arith, append_assoc, append-nil, ◌+◌, ◌-◌, ◌==◌, ◌<◌, ◌≤◌, length, length-append, take, slice_index, true≢false, IsTrue, if◌then◌else◌}
+use Rattle.std.proofs.Common.{◌≡◌, ◌≢◌, ℕ, zero, suc, ◌⊎◌, inl, inr, List, [], ◌∷◌, ◌++◌, Option, Some, None, Bool, true, false, refl, sym, ◌∙◌, ap, subst, arith, append_assoc, append-nil, ◌+◌, ◌-◌, ◌==◌, ◌<◌, ◌≤◌, length, length-append, take, slice_index, true≢false, if◌then◌else◌}
 use Rattle.std.proofs.Math.Seq.{take-append_seam, take-length, get_or-append_seam}
 use Rattle.std.proofs.lemmas.Option.{none-some, same_Some}
 use Rattle.std.proofs.lemmas.Bool.{eqb-true}
@@ -17,6 +17,7 @@ use Rattle.at_lex.specs.declared.tokens.TokenKind.TheVariants as kinds
 use Rattle.at_lex.specs.declared.runs.RunEnd.{RunEnd}
 use Rattle.at_lex.specs.declared.runs.RunEnd.TheVariants.{Null, True, False, Number, BadAt}
 use Rattle.at_lex.proofs.JsonString as str
+use Rattle.at_lex.proofs.Unique.{not-false}
 use Rattle.at_nest.specs.declared.pieces.Within.TheVariants as code
 use Rattle.at_nest.specs.declared.pieces.SpanStop.{SpanStop as CodeHalt}
 use Rattle.at_nest.specs.Tree.{Tree, literal, number, Spells}
@@ -183,10 +184,6 @@ some_first : (w : List ℕ) → w ≢ [] → (b : ℕ) × (o : List ℕ) × (w �
 some_first [] h = absurd (h refl)
 some_first (b ∷ o) h = (b, o, refl)
 
-pub not_of : (b : Bool) → IsTrue (not b) → b ≡ false
-not_of false h = refl
-not_of true h = absurd (true≢false (sym h))
-
 pub run_no_quote : (b : ℕ) → is_run b ≡ true → (b == 0x22) ≡ false
 run_no_quote b h = by_test (b == 0x22) refl
   where
@@ -218,7 +215,7 @@ broken_reads IsKept s v token place e base w f after h placed lexed =
     )
     by_kind n (inr (is, refused)) = let (b, o, q) = some_first after is.1 in (
       stopped empty_form (run_halt token.from n),
-      reading_ends free token.from v after _ (run_refused free token.from v after b o n is.0.1 is.0.0 q (not_of (begins_run after) is.2) refused.0 refused.1),
+      reading_ends free token.from v after _ (run_refused free token.from v after b o n is.0.1 is.0.0 q (not-false (begins_run after) is.2) refused.0 refused.1),
       stop_pushed IsKept base w s (stop_within (within_from v) token.from n) f _ h (ap (λ z. halt_of (stop_within z token.from n)) (within_run v is.0.0) ∙ run_halt_is token.from n),
     )
 

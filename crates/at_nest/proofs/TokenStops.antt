@@ -1,6 +1,7 @@
 -- How a token that was cut in two is read: a string or a run that is whole is a mark, one that is not stops.
 -- For `finish`, `finish_span`, `merge` and `run_block`.
 use Rattle.std.proofs.Common.{◌≡◌, ℕ, ◌⊎◌, inl, inr, List, [], ◌∷◌, ◌++◌, Option, Some, None, option_map, option_and_then, Bool, true, false, cond, not, ◌&&◌, ◌==◌, refl, sym, ◌∙◌, ap, subst, arith, append-nil, codes, ◌+◌, length, true≢false}
+use Rattle.std.proofs.lemmas.Bool.{and_left}
 use Rattle.std.proofs.lemmas.Option.{none-some, same_Some, option_and_then_some}
 use Rattle.at_text.specs.Prefix.{Viable}
 use Rattle.at_text.proofs.Machine.{run}
@@ -126,9 +127,6 @@ run_byte_of b v byte h k (in_string n st) i = absurd i
 run_byte_of b v byte h k (in_name n st) i = absurd i
 run_byte_of b v byte h k (in_word n st) i = absurd i
 
-pub both_no : (p q : Bool) → p ≡ false → (p && q) ≡ false
-both_no p q e = ap (λ z. z && q) e
-
 -- bytes in a run that a byte stops are dead, whatever is before, if no run goes on in them
 run_dead : (b : ℕ) (v : List ℕ) (byte : ℕ) → RunStops (b ∷ v) byte → is_run b ≡ true → (x : List ℕ) → end_of Out x ≡ Out → ends_run x ≡ false → ¬ (Viable (JsonText 0) (x ++ ((b ∷ v) ++ (byte ∷ []))))
 run_dead b v byte h k x out last viable =
@@ -136,7 +134,7 @@ run_dead b v byte h k x out last viable =
     let (q, e, g) = run_split (value []) t x ((b ∷ v) ++ (byte ∷ [])) all in
     let at1 : At q Out = subst (At q) out (at_run (value []) q x Out refl e) in
     let (u, settled, clear) = ran_settled q at1 (start_ran q x e last) in
-    run_byte_of b v byte h k u (settled_still q u settled) t (ap (option_and_then (λ z. go z (v ++ (byte ∷ [])))) (sym (settled_step q u b settled (both_no (run_ended q) (is_run b) clear))) ∙ g)
+    run_byte_of b v byte h k u (settled_still q u settled) t (ap (option_and_then (λ z. go z (v ++ (byte ∷ [])))) (sym (settled_step q u b settled (and_left (run_ended q) (is_run b) clear))) ∙ g)
 
 -- ---- the token
 
@@ -218,7 +216,7 @@ first_stops_at m at w byte others e k h = record {
         let (q, f, g) = run_split (value []) t x (byte ∷ []) all in
         let at1 : At q Out = subst (At q) out (at_run (value []) q x Out refl f) in
         let (u, settled, clear) = ran_settled q at1 (start_ran q x f (apart_of_run x w (ap begins_run e ∙ k) a)) in
-        none_goes q t byte (settled_step q u byte settled (both_no (run_ended q) (is_run byte) clear) ∙ first_stuck u (settled_still q u settled)) g;
+        none_goes q t byte (settled_step q u byte settled (and_left (run_ended q) (is_run byte) clear) ∙ first_stuck u (settled_still q u settled)) g;
   };
 }
   where

@@ -1,7 +1,7 @@
 -- A span from a start state: its lead, a form or a stop, and what is pending; and the merge of two neighbours.
 -- For `finish`, `finish_span`, `merge` and `run_block`.
 use Rattle.std.proofs.Common.{◌≡◌, ℕ, ◌⊎◌, inl, inr, List, [], ◌∷◌, ◌++◌, Bool, true, false, cond, ◌==◌, not, ◌&&◌, refl, sym, ◌∙◌, ap, subst, arith, append_assoc, append-nil, ◌+◌, length, true≢false}
-use Rattle.std.proofs.lemmas.Bool.{eqb-true}
+use Rattle.std.proofs.lemmas.Bool.{eqb-true, and_right}
 use Rattle.std.specs.Bool.{⊤}
 use Rattle.at_text.specs.Texts.{is_run}
 use Rattle.at_lex.specs.declared.tokens.Start.{Start}
@@ -9,7 +9,6 @@ use Rattle.at_lex.specs.declared.tokens.Start.TheVariants.{Out, InString, InEsca
 use Rattle.at_lex.specs.Spans.{begins_run, end_of, after_byte, ClosesText, StaysInText, AreRun}
 use Rattle.at_nest.specs.Borders.{ends_run, are_apart}
 use Rattle.at_nest.specs.Forms.{Meaning}
-use Rattle.at_nest.proofs.Steps.{and_false}
 use Rattle.at_nest.proofs.Walks.{ends_append}
 use Rattle.at_nest.proofs.Joins.{formed_out, end_append, at_end, at_end3, apart_front}
 use Rattle.at_nest.specs.Levels.{Form, pieces_of, Pushed, further, stopped, SpanStop, push_then, push_all}
@@ -215,7 +214,7 @@ string_last (b ∷ u) h = closes_last InString (b ∷ u) (λ e. subst (λ t. Clo
 
 pub token_apart : (t more : List ℕ) → IsToken t more → are_apart t more ≡ true
 token_apart t more (no_token e b o f) = ap (λ z. are_apart z more) e
-token_apart t more (a_run r b k c o e) = ap not (and_false (ends_run t) (begins_run more) k)
+token_apart t more (a_run r b k c o e) = ap not (and_right (ends_run t) (begins_run more) k)
 token_apart t more (a_text u e k) = ap (λ z. not (z && begins_run more)) (ap ends_run e ∙ string_last u k)
 
 -- where nothing is behind the token, it is a string

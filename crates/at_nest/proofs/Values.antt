@@ -1,6 +1,7 @@
 -- The machine reads the bytes of a value to their end, and is settled behind it.
 -- For `finish`, `finish_span`, `merge` and `run_block`.
 use Rattle.std.proofs.Common.{◌≡◌, ℕ, inl, inr, List, [], ◌∷◌, ◌++◌, Option, Some, None, option_map, option_and_then, Bool, true, false, cond, not, ◌&&◌, ◌==◌, refl, sym, ◌∙◌, ap, arith, codes, ◌+◌, length}
+use Rattle.std.proofs.lemmas.Bool.{and_right}
 use Rattle.std.proofs.lemmas.Option.{none-some, same_Some, option_and_then_some}
 use Rattle.at_text.specs.Texts.{is_space, is_run}
 use Rattle.at_text.proofs.Machine.{run}
@@ -12,7 +13,7 @@ use Rattle.at_lex.specs.Spans.{AreSpaces, begins_run}
 use Rattle.at_nest.specs.Tree.{Tree, literal, number, text, array, object, Trees, no_trees, tree_and, Members as TreeMembers, no_members as no_tree_members, member_and, Spells, SpellsItems, SpellsFurtherItems, SpellsMembers, SpellsFurtherMembers}
 use Rattle.at_nest.proofs.JsonMachine.{State, Frame, in_array, in_object, value, items, members, name, colon, after, in_number, in_string, in_name, in_word, step, within, begin_value, after_step, colon_step, same_byte, digit_begins, opening_split, regroup, regroup_member}
 use Rattle.at_nest.specs.Borders.{ends_run, are_apart}
-use Rattle.at_nest.proofs.Steps.{Settled, run_ended, is_clear, settled_run, number_none, still_spaces, space_no_run, and_false}
+use Rattle.at_nest.proofs.Steps.{Settled, run_ended, is_clear, settled_run, number_none, still_spaces, space_no_run}
 
 abbrev pub go : State → List ℕ → Option State
 go = run step
@@ -180,8 +181,8 @@ named st w h = let (u, e, r) = opening_split w h in let (n, f, a) = on_name str.
 }
 
 pub clear_spaces : (s : State) (b : List ℕ) (c : ℕ) (r : List ℕ) → AreSpaces b → is_run c ≡ false → is_clear s (b ++ (c ∷ r)) ≡ true
-clear_spaces s [] c r h e = ap not (and_false (run_ended s) (is_run c) e)
-clear_spaces s (d ∷ b) c r (h, hs) e = ap not (and_false (run_ended s) (is_run d) (space_no_run d h))
+clear_spaces s [] c r h e = ap not (and_right (run_ended s) (is_run c) e)
+clear_spaces s (d ∷ b) c r (h, hs) e = ap not (and_right (run_ended s) (is_run d) (space_no_run d h))
 
 -- white space, a colon, white space, a value, and what the rest leads to
 colon_run : (st : List Frame) (s : State) (b c v tail : List ℕ) (o : Option State) (enter : Enters (in_object ∷ st) v) → Settled s (colon st) → AreSpaces b → AreSpaces c

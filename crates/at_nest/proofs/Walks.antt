@@ -1,13 +1,13 @@
 -- Where the pieces of a form lead, the machine for bytes goes; where a piece has no place, it stops at the first byte of the piece.
 -- For `finish`, `finish_span`, `merge` and `run_block`.
 use Rattle.std.proofs.Common.{◌≡◌, ℕ, ◌⊎◌, inl, inr, List, [], ◌∷◌, ◌++◌, Option, Some, None, option_and_then, true, false, not, ◌&&◌, refl, sym, ◌∙◌, ap, subst, arith, append_assoc, append-nil, ◌+◌, length, length-append}
-use Rattle.std.proofs.lemmas.Bool.{not-true}
+use Rattle.std.proofs.lemmas.Bool.{not-true, and_right}
 use Rattle.std.specs.Bool.{⊤}
 use Rattle.at_lex.specs.Spans.{AreSpaces, begins_run}
 use Rattle.at_nest.proofs.JsonMachine.{State, step}
 use Rattle.at_nest.specs.Borders.{ends_run, are_apart}
 use Rattle.at_nest.specs.Forms.{Meaning, Piece, Formed}
-use Rattle.at_nest.proofs.Steps.{Settled, IsStill, is_clear, settled_run, settled_step, settled_still, still_space, still_settled, space_no_run, and_false, run_ended}
+use Rattle.at_nest.proofs.Steps.{Settled, IsStill, is_clear, settled_run, settled_step, settled_still, still_space, still_settled, space_no_run, run_ended}
 use Rattle.at_nest.proofs.Values.{go, run_then}
 use Rattle.at_nest.specs.Walks.{next, kind_of, at_of, walks, walk_on, Walk, reached, refused}
 use Rattle.at_nest.proofs.PieceSteps.{Goes, Halts, piece_goes, piece_halts, piece_first, piece_at, still_clear}
@@ -43,7 +43,7 @@ pub spaces_read : (s t : State) (a : List ℕ) → Settled s t → AreSpaces a �
 spaces_read s t [] h sp = record { last = s; goes = refl; settled = h; clear = λ x k c. c }
 spaces_read s t (b ∷ a) h (e, sp) = let i : IsStill t = settled_still s t h in record {
   last = t;
-  goes = ap (option_and_then (λ x. go x a)) (settled_step s t b h (and_false (run_ended s) _ (space_no_run b e)) ∙ still_space t b i e) ∙ still_all t a i sp;
+  goes = ap (option_and_then (λ x. go x a)) (settled_step s t b h (and_right (run_ended s) _ (space_no_run b e)) ∙ still_space t b i e) ∙ still_all t a i sp;
   settled = still_settled t i;
   clear = λ x k c. still_clear t x i;
 }

@@ -9,10 +9,9 @@ use Rattle.std.proofs.lemmas.List.{drop_more}
 use Rattle.at_geom.specs.declared.positions.Pos.{Pos}
 use Rattle.at_geom.specs.declared.shapes.Polygon.{Polygon}
 use Rattle.at_geom.specs.Segments.{IsInRange}
-use Rattle.at_geom.specs.Regions.{sum_of, shoelace, ring_size, doubled_area, doubled_area_of_rings, wrapped_area}
+use Rattle.at_geom.specs.Regions.{sum_of, ring_size, doubled_area, doubled_area_of_rings, wrapped_area}
 use Rattle.at_geom.specs.Shapes.{joined, positions_of_polygons, ArePolygonsInRange}
-use Rattle.at_geom.proofs.Bounds.{coordinates_bound}
-use Rattle.at_geom.proofs.Shoelace.{sum_of-cons, shoelace-cons, term, most, wrapped-area_of_rings}
+use Rattle.at_geom.proofs.Shoelace.{sum_of-cons, most, wrapped-area_of_rings, ring_bound}
 use Rattle.at_query.specs.Parts.{wrapped_sum}
 
 pub sum_of-append : (xs ys : List ℤ) → sum_of (xs ++ ys) ≡ sum_of xs +ℤ sum_of ys
@@ -40,18 +39,6 @@ area_step s s' ps i d lt e =
     (int_wrap-add_left w128 (s +ℤ t) rest ∙ ap (int_wrap w128) (+ℤ_assoc s t rest))
 
 -- ---- how large they get
-
-term_bound : (a b : Pos) → IsInRange a → IsInRange b → nat_abs (term a b) ≤ most
-term_bound a b h k = omega (arith, ints, coordinates_bound a.x b.y h.0 k.1, coordinates_bound b.x a.y k.0 h.1)
-
-shoelace_bound : (a : Pos) (r : List Pos) → All IsInRange (a ∷ r) → nat_abs (shoelace (a ∷ r)) ≤ length r * most
-shoelace_bound a [] h = omega arith
-shoelace_bound a (b ∷ r) h =
-    omega (arith, ints, shoelace-cons a b r, term_bound a b (h 0 a (omega arith)) (h 1 a (omega arith)), shoelace_bound b r (λ k d lt. h (suc k) d (omega arith)))
-
-ring_bound : (ring : List Pos) → All IsInRange ring → nat_abs (shoelace ring) ≤ length ring * most
-ring_bound [] h = omega arith
-ring_bound (a ∷ r) h = omega (arith, shoelace_bound a r h)
 
 holes_bound : (rings : List (List Pos)) → All (All IsInRange) rings → nat_abs (sum_of (map ring_size rings)) ≤ length (joined rings) * most
 holes_bound [] h = omega arith

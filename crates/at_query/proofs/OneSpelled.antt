@@ -12,6 +12,7 @@ use Rattle.at_wkt.proofs.Agreement.{Agree, Fails, Passes, agree_then, agree_map,
 use Rattle.at_wkt.proofs.NumberSteps.{in_number}
 use Rattle.at_wkt.proofs.OneBody.{one_number}
 use Rattle.at_wkt.proofs.OneGeometry.{one_geometry}
+use Rattle.at_lex.proofs.Unique.{head_same, tail_same}
 use Rattle.at_query.specs.declared.query.queries.Verb.{Verb}
 use Rattle.at_query.specs.declared.query.queries.Verb.TheVariants as verbs
 use Rattle.at_query.specs.Spelling.{Placed, SpelledBox, Spelled, in_box, meets_box, meets, has, SpelledQuery, verb_text, SpellsPlaced, SpellsBox, SpellsTest, SpellsTests, IsSpelled}
@@ -74,12 +75,6 @@ not_u letter h e = let no : list_any (λ (p : ℕ × ℕ). p.0 == 0x75) escapes 
 two_bytes : (a b : ℕ) → (a == b) ≡ false → a ≡ b → ⊥
 two_bytes a b h e = grind (arith, h, e)
 
-heads : (a b : ℕ) (v w : List ℕ) → a ∷ v ≡ b ∷ w → a ≡ b
-heads a b v w e = cc
-
-tails : (a b : ℕ) (v w : List ℕ) → a ∷ v ≡ b ∷ w → v ≡ w
-tails a b v w e = cc
-
 -- the characters and the quote behind them
 abbrev content : List Character → List ℕ → List ℕ
 content cs r = (flat_map character_text cs ++ (0x22 ∷ [])) ++ r
@@ -88,45 +83,45 @@ unit_same : (a b c d e f g h : ℕ) → a ≡ e → b ≡ f → c ≡ g → d �
 unit_same a b c d e f g h i j k l = cc
 
 one_content : (cs ds : List Character) (r s : List ℕ) → AreCharacters cs → AreCharacters ds → content cs r ≡ content ds s → (cs ≡ ds) × (r ≡ s)
-one_content [] [] r s h k e = (refl, tails 0x22 0x22 r s e)
-one_content [] (plain b ∷ ds) r s h (k, ks) e = absurd (not_quote b k (sym (heads 0x22 b r (content ds s) e)))
-one_content [] (escape l ∷ ds) r s h (k, ks) e = absurd (two_bytes 0x22 0x5C refl (heads 0x22 0x5C r (l ∷ content ds s) e))
-one_content [] (unit m n o p ∷ ds) r s h (k, ks) e = absurd (two_bytes 0x22 0x5C refl (heads 0x22 0x5C r (0x75 ∷ (m ∷ (n ∷ (o ∷ (p ∷ content ds s))))) e))
-one_content (plain b ∷ cs) [] r s (h, hs) k e = absurd (not_quote b h (heads b 0x22 (content cs r) s e))
+one_content [] [] r s h k e = (refl, tail_same 0x22 0x22 r s e)
+one_content [] (plain b ∷ ds) r s h (k, ks) e = absurd (not_quote b k (sym (head_same 0x22 b r (content ds s) e)))
+one_content [] (escape l ∷ ds) r s h (k, ks) e = absurd (two_bytes 0x22 0x5C refl (head_same 0x22 0x5C r (l ∷ content ds s) e))
+one_content [] (unit m n o p ∷ ds) r s h (k, ks) e = absurd (two_bytes 0x22 0x5C refl (head_same 0x22 0x5C r (0x75 ∷ (m ∷ (n ∷ (o ∷ (p ∷ content ds s))))) e))
+one_content (plain b ∷ cs) [] r s (h, hs) k e = absurd (not_quote b h (head_same b 0x22 (content cs r) s e))
 one_content (plain b ∷ cs) (plain c ∷ ds) r s (h, hs) (k, ks) e =
-    let (same, rest) = one_content cs ds r s hs ks (tails b c (content cs r) (content ds s) e) in
-    (ap (λ z. plain z ∷ cs) (heads b c (content cs r) (content ds s) e) ∙ ap (λ z. plain c ∷ z) same, rest)
-one_content (plain b ∷ cs) (escape l ∷ ds) r s (h, hs) (k, ks) e = absurd (not_backslash b h (heads b 0x5C (content cs r) (l ∷ content ds s) e))
-one_content (plain b ∷ cs) (unit m n o p ∷ ds) r s (h, hs) (k, ks) e = absurd (not_backslash b h (heads b 0x5C (content cs r) (0x75 ∷ (m ∷ (n ∷ (o ∷ (p ∷ content ds s))))) e))
-one_content (escape l ∷ cs) [] r s (h, hs) k e = absurd (two_bytes 0x5C 0x22 refl (heads 0x5C 0x22 (l ∷ content cs r) s e))
-one_content (escape l ∷ cs) (plain c ∷ ds) r s (h, hs) (k, ks) e = absurd (not_backslash c k (sym (heads 0x5C c (l ∷ content cs r) (content ds s) e)))
+    let (same, rest) = one_content cs ds r s hs ks (tail_same b c (content cs r) (content ds s) e) in
+    (ap (λ z. plain z ∷ cs) (head_same b c (content cs r) (content ds s) e) ∙ ap (λ z. plain c ∷ z) same, rest)
+one_content (plain b ∷ cs) (escape l ∷ ds) r s (h, hs) (k, ks) e = absurd (not_backslash b h (head_same b 0x5C (content cs r) (l ∷ content ds s) e))
+one_content (plain b ∷ cs) (unit m n o p ∷ ds) r s (h, hs) (k, ks) e = absurd (not_backslash b h (head_same b 0x5C (content cs r) (0x75 ∷ (m ∷ (n ∷ (o ∷ (p ∷ content ds s))))) e))
+one_content (escape l ∷ cs) [] r s (h, hs) k e = absurd (two_bytes 0x5C 0x22 refl (head_same 0x5C 0x22 (l ∷ content cs r) s e))
+one_content (escape l ∷ cs) (plain c ∷ ds) r s (h, hs) (k, ks) e = absurd (not_backslash c k (sym (head_same 0x5C c (l ∷ content cs r) (content ds s) e)))
 one_content (escape l ∷ cs) (escape m ∷ ds) r s (h, hs) (k, ks) e =
-    let behind : l ∷ content cs r ≡ m ∷ content ds s = tails 0x5C 0x5C (l ∷ content cs r) (m ∷ content ds s) e in
-    let (same, rest) = one_content cs ds r s hs ks (tails l m (content cs r) (content ds s) behind) in
-    (ap (λ z. escape z ∷ cs) (heads l m (content cs r) (content ds s) behind) ∙ ap (λ z. escape m ∷ z) same, rest)
+    let behind : l ∷ content cs r ≡ m ∷ content ds s = tail_same 0x5C 0x5C (l ∷ content cs r) (m ∷ content ds s) e in
+    let (same, rest) = one_content cs ds r s hs ks (tail_same l m (content cs r) (content ds s) behind) in
+    (ap (λ z. escape z ∷ cs) (head_same l m (content cs r) (content ds s) behind) ∙ ap (λ z. escape m ∷ z) same, rest)
 one_content (escape l ∷ cs) (unit m n o p ∷ ds) r s (h, hs) (k, ks) e =
     let U : List ℕ = m ∷ (n ∷ (o ∷ (p ∷ content ds s))) in
-    absurd (not_u l h (heads l 0x75 (content cs r) U (tails 0x5C 0x5C (l ∷ content cs r) (0x75 ∷ U) e)))
-one_content (unit a b c d ∷ cs) [] r s (h, hs) k e = absurd (two_bytes 0x5C 0x22 refl (heads 0x5C 0x22 (0x75 ∷ (a ∷ (b ∷ (c ∷ (d ∷ content cs r))))) s e))
-one_content (unit a b c d ∷ cs) (plain x ∷ ds) r s (h, hs) (k, ks) e = absurd (not_backslash x k (sym (heads 0x5C x (0x75 ∷ (a ∷ (b ∷ (c ∷ (d ∷ content cs r))))) (content ds s) e)))
+    absurd (not_u l h (head_same l 0x75 (content cs r) U (tail_same 0x5C 0x5C (l ∷ content cs r) (0x75 ∷ U) e)))
+one_content (unit a b c d ∷ cs) [] r s (h, hs) k e = absurd (two_bytes 0x5C 0x22 refl (head_same 0x5C 0x22 (0x75 ∷ (a ∷ (b ∷ (c ∷ (d ∷ content cs r))))) s e))
+one_content (unit a b c d ∷ cs) (plain x ∷ ds) r s (h, hs) (k, ks) e = absurd (not_backslash x k (sym (head_same 0x5C x (0x75 ∷ (a ∷ (b ∷ (c ∷ (d ∷ content cs r))))) (content ds s) e)))
 one_content (unit a b c d ∷ cs) (escape m ∷ ds) r s (h, hs) (k, ks) e =
     let U : List ℕ = a ∷ (b ∷ (c ∷ (d ∷ content cs r))) in
-    absurd (not_u m k (sym (heads 0x75 m U (content ds s) (tails 0x5C 0x5C (0x75 ∷ U) (m ∷ content ds s) e))))
+    absurd (not_u m k (sym (head_same 0x75 m U (content ds s) (tail_same 0x5C 0x5C (0x75 ∷ U) (m ∷ content ds s) e))))
 one_content (unit a b c d ∷ cs) (unit m n o p ∷ ds) r s (h, hs) (k, ks) e =
     let A = content cs r in let B = content ds s in
-    let e1 : 0x75 ∷ (a ∷ (b ∷ (c ∷ (d ∷ A)))) ≡ 0x75 ∷ (m ∷ (n ∷ (o ∷ (p ∷ B)))) = tails 0x5C 0x5C _ _ e in
-    let e2 : a ∷ (b ∷ (c ∷ (d ∷ A))) ≡ m ∷ (n ∷ (o ∷ (p ∷ B))) = tails 0x75 0x75 _ _ e1 in
-    let e3 : b ∷ (c ∷ (d ∷ A)) ≡ n ∷ (o ∷ (p ∷ B)) = tails a m _ _ e2 in
-    let e4 : c ∷ (d ∷ A) ≡ o ∷ (p ∷ B) = tails b n _ _ e3 in
-    let e5 : d ∷ A ≡ p ∷ B = tails c o _ _ e4 in
-    let (same, rest) = one_content cs ds r s hs ks (tails d p A B e5) in
-    (ap (λ z. z ∷ cs) (unit_same a b c d m n o p (heads a m _ _ e2) (heads b n _ _ e3) (heads c o _ _ e4) (heads d p A B e5)) ∙ ap (λ z. unit m n o p ∷ z) same, rest)
+    let e1 : 0x75 ∷ (a ∷ (b ∷ (c ∷ (d ∷ A)))) ≡ 0x75 ∷ (m ∷ (n ∷ (o ∷ (p ∷ B)))) = tail_same 0x5C 0x5C _ _ e in
+    let e2 : a ∷ (b ∷ (c ∷ (d ∷ A))) ≡ m ∷ (n ∷ (o ∷ (p ∷ B))) = tail_same 0x75 0x75 _ _ e1 in
+    let e3 : b ∷ (c ∷ (d ∷ A)) ≡ n ∷ (o ∷ (p ∷ B)) = tail_same a m _ _ e2 in
+    let e4 : c ∷ (d ∷ A) ≡ o ∷ (p ∷ B) = tail_same b n _ _ e3 in
+    let e5 : d ∷ A ≡ p ∷ B = tail_same c o _ _ e4 in
+    let (same, rest) = one_content cs ds r s hs ks (tail_same d p A B e5) in
+    (ap (λ z. z ∷ cs) (unit_same a b c d m n o p (head_same a m _ _ e2) (head_same b n _ _ e3) (head_same c o _ _ e4) (head_same d p A B e5)) ∙ ap (λ z. unit m n o p ∷ z) same, rest)
 
 -- a text spells at most one string, and no string is a proper prefix of another
 pub one_string : (cs ds : List Character) → Agree (SpellsString cs) (SpellsString ds) (cs ≡ ds)
 one_string cs ds at v w r s (h, e) (k, f) line =
     let whole : 0x22 ∷ content cs r ≡ 0x22 ∷ content ds s = ap (λ z. z ++ r) (sym e) ∙ (line ∙ ap (λ z. z ++ s) f) in
-    let (same, rest) = one_content cs ds r s h k (tails 0x22 0x22 (content cs r) (content ds s) whole) in
+    let (same, rest) = one_content cs ds r s h k (tail_same 0x22 0x22 (content cs r) (content ds s) whole) in
     (same, e ∙ (ap string_text same ∙ sym f))
 
 -- ---- tests

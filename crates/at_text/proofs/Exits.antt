@@ -15,11 +15,6 @@ pub exits : {X : Type 0} (r : Result X Halt) (h : Halt) (P : X → Type 0) (Q R 
 exits (Ok x) h P Q R e f q = absurd e
 exits (Err g) h P Q R e f q = let G : Halt → Type 0 = λ z. IfStopped z R in subst G (sym e) (stopped_by h Q R f q)
 
--- want of memory
-pub exits_memory : {X : Type 0} (r : Result X Halt) (P : X → Type 0) (R : ℕ → Type 0) → IsErrAnd r (λ y. y ≡ Memory) → MatchResult r P (λ e. IfStopped e R)
-exits_memory (Ok x) P R e = absurd e
-exits_memory (Err g) P R e = let G : Halt → Type 0 = λ z. IfStopped z R in subst G (sym e) tt
-
 -- what a call answers, said in another way
 pub answers_by : {X : Type 0} (r : Result X Halt) (P P' : X → Type 0) (Q Q' : ℕ → Type 0) → MatchResult r P (λ e. IfStopped e Q) → ((x : X) → P x → P' x) → ((n : ℕ) → Q n → Q' n) → MatchResult r P' (λ e. IfStopped e Q')
 answers_by (Ok x) P P' Q Q' h f g = f x h

@@ -1,6 +1,6 @@
 -- The order in which faults are told.
 -- For `read_line`, `read_geometry` and `Room::check_line`: each call that may stop.
-use Rattle.std.proofs.Common.{◌≡◌, ℕ, ◌<◌, ◌≤◌, ◌⊎◌, inl, inr, Bool, true, false, not, ◌&&◌, ◌||◌, ◌==◌, nat_lt, nat_le, if◌then◌else◌, List, [], ◌∷◌, ◌++◌, Option, Some, None, refl, sym, ◌∙◌, ap, arith, true≢false}
+use Rattle.std.proofs.Common.{◌≡◌, ℕ, ◌<◌, ◌≤◌, ◌⊎◌, inl, inr, Bool, true, false, ◌&&◌, ◌||◌, ◌==◌, nat_lt, nat_le, if◌then◌else◌, List, [], ◌∷◌, ◌++◌, Option, Some, None, refl, sym, ◌∙◌, ap, arith, true≢false}
 use native.Mathlib.Decide.{dec_lt}
 use Rattle.at_text.specs.declared.faults.Fault.{Fault}
 use Rattle.at_text.specs.Faults.{comes_first, first_fault, first_of, tier_of, number_of}
@@ -98,12 +98,3 @@ first_fault-assoc (Some a) (Some b) (Some c) = three a b c (comes_first a b) (co
 pub first_of-append : (fs gs : List Fault) → first_of (fs ++ gs) ≡ first_fault (first_of fs) (first_of gs)
 first_of-append [] gs = refl
 first_of-append (f ∷ fs) gs = ap (first_fault (Some f)) (first_of-append fs gs) ∙ sym (first_fault-assoc (Some f) (first_of fs) (first_of gs))
-
--- a flag that is negated
-pub flag_off : (b : Bool) → not b ≡ true → b ≡ false
-flag_off true h = absurd (true≢false (sym h))
-flag_off false h = refl
-
-pub flag_on : (b : Bool) → not b ≡ false → b ≡ true
-flag_on true h = refl
-flag_on false h = absurd (true≢false h)

@@ -12,13 +12,13 @@ use Rattle.at_lex.proofs.RunBytes.{word_run}
 use Rattle.at_nest.specs.declared.algebra.Member.{Member}
 use Rattle.at_nest.specs.Folds.{IsScalarText, trees, Covers, AreItemFolds, AreMemberFolds}
 use Rattle.at_nest.specs.Tree.{Tree, literal, number, text, array, object, Trees, no_trees, tree_and, Members, no_members, member_and, Spells}
-use Rattle.at_nest.proofs.Ahead.{same_first}
+use Rattle.at_lex.proofs.Unique.{head_same}
 use Rattle.bench_nest.specs.Nodes.{nodes_of, nodes_of_items, nodes_of_members, CountsNodes, CountsMany}
 
 -- ---- a string, literal or number is one value
 
 string_no : (b : ℕ) (w v : List ℕ) → w ≡ b ∷ v → (b ≡ 0x22 → ⊥) → JsonString w → ⊥
-string_no b w v e other s = other (same_first b 0x22 v _ (sym e ∙ s.2))
+string_no b w v e other s = other (head_same b 0x22 v _ (sym e ∙ s.2))
 
 run_no : (b : ℕ) (w v : List ℕ) → w ≡ b ∷ v → is_run b ≡ false → JsonRun w → ⊥
 run_no b w v e none r = true≢false (sym (subst AreRun e (word_run w r)).0 ∙ none)

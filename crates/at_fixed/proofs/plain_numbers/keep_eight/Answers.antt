@@ -1,6 +1,6 @@
 use Rattle.std.proofs.Common.{◌+◌, ◌-◌, ◌*◌, ◌^◌, ◌<◌, rules, arith}
+use Rattle.std.proofs.lemmas.Bool.{ltb-true}
 use Rattle.at_fixed.proofs.EightDigits.{EightKept, first_kept}
-use Rattle.at_fixed.proofs.Points.{from_lt}
 use Rattle.at_fixed.proofs.plain_numbers.keep_eight.Goals as goal
 
 kept : (c : goal.After-power_of_ten) → EightKept c.args.text.now c.args.from (c.args.from + c.leading_digits-count.result.0) c.args.before
@@ -27,6 +27,6 @@ returns c =
       value = (kept c).value;
       fits = (kept c).fits;
       full = (kept c).full;
-      stops = λ e _. eight.stops (from_lt c.leading_digits-count.result.0 8 e);
+      stops = λ e _. eight.stops (ltb-true c.leading_digits-count.result.0 8 e);
       filled = λ e. grind (arith, e, eight.few);
     }

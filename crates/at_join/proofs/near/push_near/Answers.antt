@@ -1,11 +1,11 @@
 use Rattle.std.proofs.Common.{◌∷◌, [], ◌<◌, length, get_or, subst, rules, ◌∙◌}
 use Rattle.std.proofs.lemmas.List.{get_or_default}
+use Rattle.at_geom.proofs.ClosedRings.{clash}
 use Rattle.at_join.specs.declared.outlines.Outline.{Outline}
 use Rattle.at_join.specs.Meetings.{Finds}
 use Rattle.at_join.specs.Boxes.{touch_of}
 use Rattle.at_join.specs.Sides.{IsInWindow, itself}
 use Rattle.at_join.proofs.Covering.{no_outline}
-use Rattle.at_join.proofs.Extents.{two_differ}
 use Rattle.at_join.proofs.FoundLists.{finds_more, finds_past}
 use Rattle.at_join.proofs.near.push_near.Goals as goal
 
@@ -13,7 +13,7 @@ pub loop-at-preserved-then-next-at : goal.loop-at-preserved-then-next-at
 loop-at-preserved-then-next-at c =
     let outlines = c.args.side.now.outlines.items in
     finds_past (IsInWindow c.args.window) itself outlines c.loop-at.at c.ahead-next.result no_outline c.args.near.now.items c.loop-at.near.items c.ahead-next.ensures.ahead
-    (λ k from to lt h. two_differ (touch_of (get_or outlines k no_outline).extent c.args.window) h (c.ahead-next.ensures.clear k no_outline from to lt)) c.loop-at.invariant
+    (λ k from to lt h. clash (touch_of (get_or outlines k no_outline).extent c.args.window) h (c.ahead-next.ensures.clear k no_outline from to lt)) c.loop-at.invariant
 
 pub loop-at-preserved : goal.loop-at-preserved
 loop-at-preserved c =

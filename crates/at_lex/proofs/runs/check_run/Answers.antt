@@ -1,6 +1,7 @@
 use Rattle.std.proofs.Common.{sym, ◌∙◌, arith}
+use Rattle.std.proofs.lemmas.Bool.{not-true, not-false}
 use Rattle.at_lex.specs.Runs.{JsonRun, the_null, the_true, the_false}
-use Rattle.at_lex.proofs.RunLemmas.{is_literal, is_number, whole_is_word, part_no_word, unfinished_no_word, letter_null, letter_true, letter_false, not-false, not-true}
+use Rattle.at_lex.proofs.RunLemmas.{is_literal, is_number, whole_is_word, part_no_word, unfinished_no_word, letter_null, letter_true, letter_false}
 use Rattle.at_lex.proofs.runs.check_run.Goals as goal
 use Rattle.at_lex.proofs.runs.check_run.Goals.{then-not-taken-via-then-not-taken, then-not-taken-via-else-not-taken+then-taken-text}
 

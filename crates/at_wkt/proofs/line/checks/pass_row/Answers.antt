@@ -1,4 +1,4 @@
-use Rattle.at_wkt.proofs.FaultOrder.{flag_off, flag_on}
+use Rattle.std.proofs.lemmas.Bool.{not-false, not-true}
 use Rattle.at_wkt.proofs.CheckAnswers.{row_start, row_more, row_end}
 use Rattle.at_wkt.proofs.line.checks.pass_row.Goals as goal
 
@@ -7,7 +7,7 @@ positions-init c = row_start c.args.source.now.rules c.args.source.now.text.now 
 
 pub positions-preserved : goal.positions-preserved
 positions-preserved c =
-    row_more c.args.source.now.rules c.args.source.now.text.now c.args.from.at c.args.from.dimension c.positions.last c.positions.count c.positions.invariant (flag_off c.positions.last.is_last c.positions-test.true) c.in_ok-last-2.last c.in_ok-last-2.ensures
+    row_more c.args.source.now.rules c.args.source.now.text.now c.args.from.at c.args.from.dimension c.positions.last c.positions.count c.positions.invariant (not-true c.positions.last.is_last c.positions-test.true) c.in_ok-last-2.last c.in_ok-last-2.ensures
 
 pub returns : goal.returns
-returns c = row_end c.args.source.now.rules c.args.source.now.text.now c.args.from.at c.args.from.dimension c.positions.last c.positions.count c.positions.invariant (flag_on c.positions.last.is_last c.positions-test.false)
+returns c = row_end c.args.source.now.rules c.args.source.now.text.now c.args.from.at c.args.from.dimension c.positions.last c.positions.count c.positions.invariant (not-false c.positions.last.is_last c.positions-test.false)

@@ -1,8 +1,8 @@
 use Rattle.std.proofs.Common.{arith}
+use Rattle.std.proofs.lemmas.Bool.{not-false, not-true}
 use Rattle.at_wkt.specs.Readers.{DelimiterBreaks}
 use Rattle.at_wkt.proofs.ProgressAnswers.{closes_start, closes_more, closes_stuck, closes_next, closes_over}
 use Rattle.at_text.proofs.Exits.{exits}
-use Rattle.at_wkt.proofs.FaultOrder.{flag_off, flag_on}
 use Rattle.at_wkt.proofs.line.geometries.read_closings.Goals as goal
 
 pub loop-depth-init : goal.loop-depth-init
@@ -12,7 +12,7 @@ pub loop-depth-preserved : goal.loop-depth-preserved
 loop-depth-preserved c =
     let d = c.in_ok-delimiter.ensures in
     record {
-      closes = closes_more c.args.text.now c.args.from c.args.opened c.loop-depth.at c.loop-depth.depth c.loop-depth.invariant.closes c.loop-depth-test.true c.in_ok-delimiter.delimiter d (flag_on c.in_ok-delimiter.delimiter.is_last c.if-not-delimiter.false);
+      closes = closes_more c.args.text.now c.args.from c.args.opened c.loop-depth.at c.loop-depth.depth c.loop-depth.invariant.closes c.loop-depth-test.true c.in_ok-delimiter.delimiter d (not-false c.in_ok-delimiter.delimiter.is_last c.if-not-delimiter.false);
       low = omega (arith, c.loop-depth.invariant.low, d.blanks.order, d.end_is);
       inside = omega (arith, d.inside, d.end_is);
       deep = omega (arith, c.loop-depth.invariant.deep, d.blanks.order, d.end_is);
@@ -28,7 +28,7 @@ returns-then-not-delimiter c =
     let s = c.skip_blanks-next.ensures in (
       omega (arith, c.loop-depth.invariant.deep, d.blanks.order, d.end_is, s.order),
       closes_next c.args.text.now c.args.from c.args.opened c.loop-depth.at c.loop-depth.depth c.loop-depth.invariant.closes c.loop-depth-test.true c.in_ok-delimiter.delimiter c.skip_blanks-next.result d
-          (flag_off c.in_ok-delimiter.delimiter.is_last c.if-not-delimiter.true) s c.loop-depth.invariant.low,
+          (not-true c.in_ok-delimiter.delimiter.is_last c.if-not-delimiter.true) s c.loop-depth.invariant.low,
     )
 
 pub returns : goal.returns

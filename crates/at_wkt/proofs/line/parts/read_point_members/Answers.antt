@@ -1,4 +1,5 @@
 use Rattle.std.proofs.Common.{ap, arith}
+use Rattle.std.proofs.lemmas.Bool.{not-false, not-true}
 use Rattle.at_wkt.specs.Geometry.{SpellsPointMember}
 use Rattle.at_wkt.specs.Readers.{Stuck, Item, added_point, point_faults}
 use Rattle.at_wkt.proofs.BodySteps.{member_inhabited}
@@ -6,7 +7,6 @@ use Rattle.at_wkt.proofs.ListSteps.{inhabited_lives}
 use Rattle.at_wkt.proofs.PathAnswers.{so_far_start, so_far_more, so_far_stuck}
 use Rattle.at_wkt.proofs.PartAnswers.{items_stand}
 use Rattle.at_text.proofs.Exits.{exits}
-use Rattle.at_wkt.proofs.FaultOrder.{flag_off, flag_on}
 use Rattle.at_wkt.proofs.line.parts.read_point_members.Goals as goal
 
 pub members-init : goal.members-init
@@ -15,14 +15,14 @@ members-init c = so_far_start SpellsPointMember (point_faults c.args.source.now.
 
 pub members-preserved : goal.members-preserved
 members-preserved c = so_far_more SpellsPointMember (point_faults c.args.source.now.rules.digits c.args.source.now.rules.how) (added_point c.args.source.now.rules.digits c.args.source.now.rules.how) c.args.points.now.items c.args.source.now.rules.base c.args.source.now.text.now c.args.from.at c.args.from.dimension c.members.last c.in_ok-member.member c.next_item-last.result _ _
-    c.members.invariant (flag_off c.members.last.is_last c.members-test.true) c.in_ok-member.ensures c.next_item-last.ensures
+    c.members.invariant (not-true c.members.last.is_last c.members-test.true) c.in_ok-member.ensures c.next_item-last.ensures
 
 pub members-smaller : goal.members-smaller
 members-smaller c = omega (arith, c.in_ok-member.ensures.longer, c.in_ok-member.ensures.spelt.within, ap (λ z. z.behind.at) c.next_item-last.ensures)
 
 pub returns-in_err-member : goal.returns-in_err-member
 returns-in_err-member c = exits c.from_residual.result c.in_err-member.field-0.0 _ (Stuck (Item SpellsPointMember) c.args.source.now.rules.base c.args.source.now.text.now c.members.last.behind.at c.members.last.behind.dimension) _ c.from_residual.ensures.1
-    (λ n h. so_far_stuck SpellsPointMember (point_faults c.args.source.now.rules.digits c.args.source.now.rules.how) (added_point c.args.source.now.rules.digits c.args.source.now.rules.how) c.args.points.now.items c.args.source.now.rules.base c.args.source.now.text.now c.args.from.at c.args.from.dimension (inhabited_lives SpellsPointMember member_inhabited) c.members.last _ n c.members.invariant (flag_off c.members.last.is_last c.members-test.true) h) c.in_err-member.ensures
+    (λ n h. so_far_stuck SpellsPointMember (point_faults c.args.source.now.rules.digits c.args.source.now.rules.how) (added_point c.args.source.now.rules.digits c.args.source.now.rules.how) c.args.points.now.items c.args.source.now.rules.base c.args.source.now.text.now c.args.from.at c.args.from.dimension (inhabited_lives SpellsPointMember member_inhabited) c.members.last _ n c.members.invariant (not-true c.members.last.is_last c.members-test.true) h) c.in_err-member.ensures
 
 pub returns : goal.returns
-returns c = items_stand SpellsPointMember (point_faults c.args.source.now.rules.digits c.args.source.now.rules.how) (added_point c.args.source.now.rules.digits c.args.source.now.rules.how) c.args.points.now.items _ c.args.source.now.rules.base c.args.source.now.text.now c.args.from.at c.args.from.dimension c.members.last c.items_read.result c.members.invariant (flag_on c.members.last.is_last c.members-test.false) c.items_read.ensures
+returns c = items_stand SpellsPointMember (point_faults c.args.source.now.rules.digits c.args.source.now.rules.how) (added_point c.args.source.now.rules.digits c.args.source.now.rules.how) c.args.points.now.items _ c.args.source.now.rules.base c.args.source.now.text.now c.args.from.at c.args.from.dimension c.members.last c.items_read.result c.members.invariant (not-false c.members.last.is_last c.members-test.false) c.items_read.ensures

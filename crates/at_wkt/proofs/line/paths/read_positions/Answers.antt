@@ -1,9 +1,9 @@
 use Rattle.std.proofs.Common.{◌≡◌, [], ◌∷◌, ◌++◌, refl, sym, ◌∙◌, ap, subst, arith}
+use Rattle.std.proofs.lemmas.Bool.{not-false, not-true}
 use Rattle.at_wkt.specs.Geometry.{SpellsPosition}
 use Rattle.at_wkt.specs.Readers.{Item, Stuck, PositionsSoFar}
 use Rattle.at_wkt.proofs.PathAnswers.{positions_start, positions_more, positions_stuck, positions_stuck_first, positions_end}
 use Rattle.at_text.proofs.Exits.{exits}
-use Rattle.at_wkt.proofs.FaultOrder.{flag_off, flag_on}
 use Rattle.at_wkt.proofs.line.paths.read_positions.Goals as goal
 
 pub returns-in_err-first : goal.returns-in_err-first
@@ -19,15 +19,15 @@ positions-init c =
 
 pub positions-preserved : goal.positions-preserved
 positions-preserved c = positions_more c.args.source.now.rules c.args.source.now.text.now c.args.from.at c.args.from.dimension c.in_ok-first.first c.positions.last c.in_ok-last.last c.positions.path.items c.push-in-positions.new.self.items
-    c.positions.fault c.add_fault-fault.result c.positions.invariant (flag_off c.positions.last.is_last c.positions-test.true) c.in_ok-last.ensures c.in_ok-push-2.ensures.items c.add_fault-fault.ensures
+    c.positions.fault c.add_fault-fault.result c.positions.invariant (not-true c.positions.last.is_last c.positions-test.true) c.in_ok-last.ensures c.in_ok-push-2.ensures.items c.add_fault-fault.ensures
 
 pub positions-smaller : goal.positions-smaller
 positions-smaller c = omega (arith, c.in_ok-last.ensures.longer, c.in_ok-last.ensures.spelt.within)
 
 pub returns-in_err-last : goal.returns-in_err-last
 returns-in_err-last c = exits c.from_residual-in_err-last.result c.in_err-last.field-0.0 _ (Stuck (Item SpellsPosition) c.args.source.now.rules.base c.args.source.now.text.now c.positions.last.behind.at c.positions.last.behind.dimension) _ c.from_residual-in_err-last.ensures.1
-    (λ n h. positions_stuck c.args.source.now.rules c.args.source.now.text.now c.args.from.at c.args.from.dimension c.in_ok-first.first c.positions.last c.positions.path.items c.positions.fault n c.positions.invariant (flag_off c.positions.last.is_last c.positions-test.true) h) c.in_err-last.ensures
+    (λ n h. positions_stuck c.args.source.now.rules c.args.source.now.text.now c.args.from.at c.args.from.dimension c.in_ok-first.first c.positions.last c.positions.path.items c.positions.fault n c.positions.invariant (not-true c.positions.last.is_last c.positions-test.true) h) c.in_err-last.ensures
 
 pub returns : goal.returns
-returns c = positions_end c.args.source.now.rules c.args.source.now.text.now c.args.from.at c.args.from.dimension c.in_ok-first.first c.positions.last c.positions.path.items c.positions.fault _ c.positions.invariant (flag_on c.positions.last.is_last c.positions-test.false)
+returns c = positions_end c.args.source.now.rules c.args.source.now.text.now c.args.from.at c.args.from.dimension c.in_ok-first.first c.positions.last c.positions.path.items c.positions.fault _ c.positions.invariant (not-false c.positions.last.is_last c.positions-test.false)
     refl c.closes_with.ensures refl refl
