@@ -64,8 +64,6 @@ module _ {P F : Type 0} (stands : F → P → ℕ → ℕ → Type 0) (count : F
   second slots e (Climbs v) m held facts is sx some met = second_at slots e v m held facts is sx some met
   second slots e (Leads l) m held facts is sx some met = absurd facts
 
-module _ {P : Type 0} where
-
 -- the parts of two children, found twice, are the same
 pub same_children : {P : Type 0} (own : Bool) (left right : ℕ) (a b c d : P) → children own left right a b ≡ children own left right c d → (a ≡ c) × (b ≡ d)
 same_children true left right a b c d e = (some-inj (ap (λ m. head_part (rest m)) e), some-inj (ap head_part e))
