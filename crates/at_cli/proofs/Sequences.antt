@@ -1,6 +1,6 @@
 -- The features of a sequence of at most 2^28 bytes are few, and their coordinates are in range: what an exact answer asks of them.
 -- For `top`.
-use Rattle.std.proofs.Common.{ℕ, ◌+◌, ◌*◌, ◌^◌, ◌≤◌, Bool, true, false, not, cond, List, [], ◌∷◌, filter, drop, length, sym, ◌∙◌, ap, subst, arith, length-append, length-drop}
+use Rattle.std.proofs.Common.{◌≡◌, ℕ, ◌+◌, ◌*◌, ◌^◌, ◌≤◌, Bool, true, false, not, cond, List, [], ◌∷◌, filter, drop, length, refl, sym, ◌∙◌, ap, subst, arith, length-append, length-drop}
 use Rattle.std.specs.List.{slice_split}
 use Rattle.std.proofs.lemmas.Grind.{flat_map-append}
 use Rattle.std.proofs.lemmas.List.Elements.{All-nil, All-append}
@@ -12,10 +12,10 @@ use Rattle.at_query.specs.Ranges.{IsFeatureInRange, AreFeaturesInRange}
 use Rattle.at_query.specs.Results.{all_positions}
 use Rattle.at_query.specs.Parts.{AreFew}
 use Rattle.at_geojson.specs.Roles.{features_of}
-use Rattle.at_run.proofs.FileSizes.{split_size, few_of_size, placed_size}
+use Rattle.at_run.proofs.FileSizes.{parts_size, split_size, few_of_size}
 use Rattle.at_run.proofs.JsonSizes.{text_features_size}
 use Rattle.at_run.proofs.JsonFeatures.{json_features_in_range}
-use Rattle.at_seq.specs.Records.{Piece, is_separator, pieces_from, are_spaces, records_of}
+use Rattle.at_seq.specs.Records.{Piece, placed, is_separator, pieces_from, are_spaces, records_of}
 use Rattle.at_seq.specs.Sequences.{AreRecordFeatures, AreSeqFeatures}
 
 -- ---- how many bytes records have
@@ -23,6 +23,10 @@ use Rattle.at_seq.specs.Sequences.{AreRecordFeatures, AreSeqFeatures}
 abbrev text_size : List Piece → ℕ
 text_size [] = 0
 text_size (p ∷ ps) = length p.text + text_size ps
+
+placed_size : (at : ℕ) (parts : List (List ℕ)) → text_size (placed at parts) ≡ parts_size parts
+placed_size at [] = refl
+placed_size at (text ∷ rest) = ap (λ n. length text + n) (placed_size (at + length text + 1) rest)
 
 kept_size : (p : Piece → Bool) (rs : List Piece) → text_size (filter p rs) ≤ text_size rs
 kept_size p [] = omega arith
