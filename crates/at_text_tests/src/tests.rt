@@ -1,8 +1,8 @@
 //! Tables for the faults, the encoding and the classes of bytes.
 
 use at_text::{
-    Bytes, Fault, FaultKind, Word, base_of, first_fault, is_digit, is_run, is_space, stop_at,
-    utf8_fault,
+    Bytes, Fault, FaultKind, Halt, Taken, Word, base_of, first_fault, is_digit, is_run, is_space,
+    stop_at, utf8_fault,
 };
 use std::process::Abort;
 use std::test::Fail;
@@ -108,6 +108,19 @@ fn lists_and_texts(rt: HostRuntime) -> Result<(), Fail> {
     assert!(rt; FaultKind::Range.number() == 9);
     assert!(rt; FaultKind::Ended.tier() == 2);
     Ok(())
+}
+
+/// Where a word ends that was taken from a place on, and where reading stops if it is none.
+#[test]
+fn ends_of_words(rt: HostRuntime) {
+    for (at, len, whole, end) in [
+        (0, 0, true, Ok(0)),
+        (3, 2, true, Ok(5)),
+        (3, 2, false, Err(Halt::At(5))),
+        (7, 0, false, Err(Halt::At(7))),
+    ] {
+        assert!(rt; Taken { len, whole }.end_from(at) == end, "{at} {len}");
+    }
 }
 
 /// What the page of `at_text` shows.
