@@ -40,7 +40,7 @@ BeginFails s name = Contains (failing_calls s) s.calls ⊎ (bytes_named (files_o
 
 -- a read into a room of that length fails: its number is listed, or the count of bytes would pass its end
 abbrev pub ReadFails : MemShelf → ℕ → Type 0
-ReadFails s room = Contains (failing_calls s) s.calls ⊎ (last_count < s.taken + given_of s room)
+ReadFails s room = Contains (failing_calls s) s.calls ⊎ (last_count < s.counts.taken + given_of s room)
 
 -- how many calls of begin and read there were
 abbrev pub calls_of : MemShelf → ℕ
@@ -52,13 +52,13 @@ piece_of s = s.piece
 
 -- its counts: of bytes given, of begins, of the begins at the last failure, of failures
 abbrev pub taken_of : MemShelf → ℕ
-taken_of s = s.taken
+taken_of s = s.counts.taken
 
 abbrev pub begins_of : MemShelf → ℕ
-begins_of s = s.begins
+begins_of s = s.counts.begins
 
 abbrev pub broken_of : MemShelf → ℕ
-broken_of s = s.broken
+broken_of s = s.counts.broken
 
 abbrev pub faults_of : MemShelf → ℕ
-faults_of s = s.faults
+faults_of s = s.counts.faults

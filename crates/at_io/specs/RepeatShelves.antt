@@ -35,17 +35,17 @@ BeginFails s name = bytes_named (files_of s) name ≡ None
 
 -- a read into a room of that length fails: the count of bytes would pass its end
 abbrev pub ReadFails : RepeatShelf → ℕ → Type 0
-ReadFails s room = last_count < s.taken + given_of s room
+ReadFails s room = last_count < s.counts.taken + given_of s room
 
 -- its counts: of bytes given, of begins, of the begins at the last failure, of failures
 abbrev pub taken_of : RepeatShelf → ℕ
-taken_of s = s.taken
+taken_of s = s.counts.taken
 
 abbrev pub begins_of : RepeatShelf → ℕ
-begins_of s = s.begins
+begins_of s = s.counts.begins
 
 abbrev pub broken_of : RepeatShelf → ℕ
-broken_of s = s.broken
+broken_of s = s.counts.broken
 
 abbrev pub faults_of : RepeatShelf → ℕ
-faults_of s = s.faults
+faults_of s = s.counts.faults

@@ -3,7 +3,7 @@
 ghost use Rattle.std.specs.Prelude.{◌≡◌, ◌≤◌, length, IfOk};
 ghost use Rattle.at_io.specs.Counts.{Rose};
 
-use crate::counts;
+use crate::counts::Counts;
 use crate::shelf::{Failed, Shelf};
 use std::fs;
 use std::io::Read;
@@ -26,10 +26,7 @@ enum Source<F, I> {
 pub struct DiskShelf<'r, R: Files + Input> {
     rt: &'r R,
     source: Source<R::File, R::Reader>,
-    taken: u64,
-    begins: u64,
-    broken: u64,
-    faults: u64,
+    counts: Counts,
 }
 
 impl<'r, R: Files + Input> DiskShelf<'r, R> {
@@ -43,24 +40,8 @@ impl<'r, R: Files + Input> DiskShelf<'r, R> {
         DiskShelf {
             rt,
             source: Source::Nothing,
-            taken: 0,
-            begins: 0,
-            broken: 0,
-            faults: 0,
+            counts: Counts::zero(),
         }
-    }
-
-    /// Counts a fault.
-    fn fail(&mut self) -> Failed
-        ensures faults { Rose self.old.faults self.new.faults }
-        ensures counted { self.old.faults ≤ self.new.faults }
-        ensures broken { self.new.broken ≡ self.new.begins }
-        ensures begins { self.new.begins ≡ self.old.begins }
-        ensures taken { self.new.taken ≡ self.old.taken }
-    {
-        self.faults = counts::next(self.faults);
-        self.broken = self.begins;
-        Failed
     }
 }
 
@@ -84,18 +65,18 @@ impl<R: Files + Input> Shelf for DiskShelf<'_, R> {
 
     ghost left = { λ _. None };
 
-    ghost taken = { λ s. s.taken };
+    ghost taken = { λ s. s.counts.taken };
 
-    ghost begins = { λ s. s.begins };
+    ghost begins = { λ s. s.counts.begins };
 
     ghost named = { λ _. None };
 
-    ghost broken = { λ s. s.broken };
+    ghost broken = { λ s. s.counts.broken };
 
-    ghost faults = { λ s. s.faults };
+    ghost faults = { λ s. s.counts.faults };
 
     fn begin(&mut self, name: &str) -> Result<(), Failed> {
-        self.begins = counts::next(self.begins);
+        self.counts.begin();
         if name == INPUT_NAME {
             self.source = Source::Input(self.rt.reader());
             return Ok(());
@@ -107,22 +88,22 @@ impl<R: Files + Input> Shelf for DiskShelf<'_, R> {
             }
             Err(_) => {
                 self.source = Source::Nothing;
-                Err(self.fail())
+                Err(self.counts.fail())
             }
         }
     }
 
     fn read(&mut self, room: &mut [u8]) -> Result<usize, Failed> {
-        if self.begins == 0 {
+        if self.counts.begins == 0 {
             return Ok(0);
         }
         let Ok(given) = self.source.read(room) else {
-            return Err(self.fail());
+            return Err(self.counts.fail());
         };
-        let Some(taken) = self.taken.checked_add(given as u64) else {
-            return Err(self.fail());
+        let Some(taken) = self.counts.taken.checked_add(given as u64) else {
+            return Err(self.counts.fail());
         };
-        self.taken = taken;
+        self.counts.taken = taken;
         Ok(given)
     }
 }

@@ -8,7 +8,7 @@ ghost use Rattle.at_io.specs.Counts.{next_count, Rose};
 ghost use Rattle.at_io.specs.Files.{bytes_named, name_among};
 ghost use Rattle.at_io.specs.NamedFiles.{entries_of};
 
-use crate::counts;
+use crate::counts::{self, Counts};
 use crate::shelf::{Failed, Shelf};
 use at_text::{Bytes, Word};
 
@@ -31,12 +31,9 @@ pub struct MemShelf {
     begun: Option<usize>,
     is_open: bool,
     at: usize,
-    taken: u64,
-    begins: u64,
-    broken: u64,
-    faults: u64,
+    counts: Counts,
     ghost gives: { 1 ≤ piece },
-    ghost unbegun: { begins ≡ 0 → is_open ≡ false },
+    ghost unbegun: { counts.begins ≡ 0 → is_open ≡ false },
 }
 
 impl MemShelf {
@@ -63,10 +60,7 @@ impl MemShelf {
             begun: None,
             is_open: false,
             at: 0,
-            taken: 0,
-            begins: 0,
-            broken: 0,
-            faults: 0,
+            counts: Counts::zero(),
         }
     }
 }
@@ -112,16 +106,6 @@ impl MemShelf {
             _ => &[],
         }
     }
-
-    /// Counts a fault.
-    fn fail(&mut self) -> Failed
-        ensures after { self.new ≡ record self.old { faults = next_count self.old.faults; broken = self.old.begins } }
-        ensures counted { self.old.faults ≤ self.new.faults }
-    {
-        self.faults = counts::next(self.faults);
-        self.broken = self.begins;
-        Failed
-    }
 }
 
 impl Shelf for MemShelf {
@@ -166,14 +150,14 @@ impl Shelf for MemShelf {
         ensures same_piece { piece_of self.new ≡ piece_of self.old }
     {
         let fails = self.counts_failing_call();
-        self.begins = counts::next(self.begins);
+        self.counts.begin();
         self.begun = place_of(&self.files, name);
         self.is_open = !fails && self.begun.is_some();
         self.at = 0;
         if self.is_open {
             Ok(())
         } else {
-            Err(self.fail())
+            Err(self.counts.fail())
         }
     }
 
@@ -204,14 +188,14 @@ impl Shelf for MemShelf {
         let fails = self.counts_failing_call();
         let left = self.left();
         let given = left.len().min(room.len()).min(self.piece as usize);
-        let Some(taken) = self.taken.checked_add(given as u64) else {
-            return Err(self.fail());
+        let Some(taken) = self.counts.taken.checked_add(given as u64) else {
+            return Err(self.counts.fail());
         };
         if fails {
-            return Err(self.fail());
+            return Err(self.counts.fail());
         }
         room[..given].copy_from_slice(&left[..given]);
-        self.taken = taken;
+        self.counts.taken = taken;
         self.at += given;
         Ok(given)
     }

@@ -5,7 +5,7 @@ ghost use Rattle.std.specs.Prelude.{string_bytes, None, Some, IsSome, IsErr, IfO
 ghost use Rattle.at_io.specs.Counts.{next_count, Rose};
 ghost use Rattle.at_io.specs.Files.{bytes_named, name_among};
 
-use crate::counts;
+use crate::counts::Counts;
 use crate::shelf::{Failed, Shelf};
 
 /// A shelf with one file of equal bytes, which tells all that it holds and stores none of the bytes. A call fails
@@ -18,11 +18,8 @@ pub struct RepeatShelf {
     len: u64,
     is_begun: bool,
     left: u64,
-    taken: u64,
-    begins: u64,
-    broken: u64,
-    faults: u64,
-    ghost unbegun: { begins ≡ 0 → left ≡ 0 },
+    counts: Counts,
+    ghost unbegun: { counts.begins ≡ 0 → left ≡ 0 },
 }
 
 impl RepeatShelf {
@@ -41,21 +38,8 @@ impl RepeatShelf {
             len,
             is_begun: false,
             left: 0,
-            taken: 0,
-            begins: 0,
-            broken: 0,
-            faults: 0,
+            counts: Counts::zero(),
         }
-    }
-
-    /// Counts a fault.
-    fn fail(&mut self) -> Failed
-        ensures after { self.new ≡ record self.old { faults = next_count self.old.faults; broken = self.old.begins } }
-        ensures counted { self.old.faults ≤ self.new.faults }
-    {
-        self.faults = counts::next(self.faults);
-        self.broken = self.begins;
-        Failed
     }
 }
 
@@ -97,13 +81,13 @@ impl Shelf for RepeatShelf {
         // Exactly when it fails.
         ensures cause { IsErr result ↔ BeginFails self.old name.now }
     {
-        self.begins = counts::next(self.begins);
+        self.counts.begin();
         self.is_begun = self.name.as_str() == name;
         self.left = if self.is_begun { self.len } else { 0 };
         if self.is_begun {
             Ok(())
         } else {
-            Err(self.fail())
+            Err(self.counts.fail())
         }
     }
 
@@ -129,11 +113,11 @@ impl Shelf for RepeatShelf {
         ensures given { IfOk result (λ n. n ≡ given_of self.old (length room.old)) }
     {
         let given = self.left.min(room.len() as u64);
-        let Some(taken) = self.taken.checked_add(given) else {
-            return Err(self.fail());
+        let Some(taken) = self.counts.taken.checked_add(given) else {
+            return Err(self.counts.fail());
         };
         room[..given as usize].fill(self.byte);
-        self.taken = taken;
+        self.counts.taken = taken;
         self.left -= given;
         Ok(given as usize)
     }
