@@ -1,6 +1,6 @@
 -- A text spells at most one number, of JSON or of WKT, and a reader that takes the longest viable prefix takes a number whole.
 -- For `leading_number`, `plain_len`, `plain_number` and `read_fixed`.
-use Rattle.std.proofs.Common.{◌≡◌, ℕ, ◌⊎◌, inl, inr, List, [], ◌∷◌, ◌++◌, length, take, Option, Some, None, IfSome, IsTrue, ◌&&◌, nat_le, Result, ℤ, refl, sym, ◌∙◌, ap, subst, arith, append-nil}
+use Rattle.std.proofs.Common.{◌≡◌, ℕ, ◌⊎◌, inl, inr, List, [], ◌∷◌, ◌++◌, length, take, Option, Some, None, IfSome, IsTrue, ◌&&◌, nat_le, Result, Ok, ℤ, true, refl, sym, ◌∙◌, ap, subst, arith, append-nil}
 use Rattle.std.proofs.Math.Seq.{take-length}
 use Rattle.at_text.specs.declared.prefixes.Taken.{Taken}
 use Rattle.at_text.specs.Prefix.{LongestViable, TakesLongest}
@@ -12,6 +12,10 @@ use Rattle.at_fixed.specs.declared.rounding.Coords.{Coords}
 use Rattle.at_fixed.specs.declared.rounding.FixedFault.{FixedFault}
 use Rattle.at_fixed.specs.Numerals.{Numeral, numeral_text, IsAtMostOneOf, AreDigits, AreSomeDigits, IsJsonWhole, IsJsonNumeral, AreWktDigits, IsWktNumeral, IsNumeralOf, SpellsNumeral, JsonNumber, WktNumber}
 use Rattle.at_fixed.specs.Fixed.{fixed_of, IsFixedOf}
+use Rattle.at_fixed.specs.Decimals.{IsDecimalOf}
+use Rattle.at_fixed.specs.Scanned.{IsScanned}
+use Rattle.at_fixed.specs.declared.numbers.PlainNumber.{PlainNumber}
+use Rattle.at_fixed.specs.declared.scanning.Scanned.{Scanned}
 use Rattle.at_fixed.proofs.NumeralParts.{one_numeral, some_are_digits}
 
 json_sign : (s : List ℕ) → IsAtMostOneOf (0x2D ∷ []) s → IsAtMostOneOf (0x2B ∷ 0x2D ∷ []) s
@@ -55,6 +59,16 @@ fixed_by g text digits how answer n h e v = record {
   only = λ m k. one_spelled text n m (either_of g n h, e) k;
   value = v;
 }
+
+-- what a scan found at the beginning of a text, where it has a value
+pub valued_number : (g : Notation) (w : List ℕ) (digits : ℕ) (how : Coords) (scanned : Scanned) (found : Option PlainNumber)
+    → IsScanned g w scanned × (scanned.is_number ≡ true) → IfSome found (λ number. number.len ≡ scanned.len)
+    → IfSome found (λ number. (n : Numeral) → IsDecimalOf scanned.decimal n → Ok number.value ≡ fixed_of n digits how)
+    → IfSome found (λ number. IsFixedOf (take number.len w) digits how (Ok number.value))
+valued_number g w digits how scanned None h len value = tt
+valued_number g w digits how scanned (Some number) (h, is_number) len value =
+    let (n, m, e, kept) = h.value is_number in
+    fixed_by g (take number.len w) digits how (Ok number.value) n m (ap (λ l. take l w) len ∙ e) (value n kept)
 
 pub json_text : (w : List ℕ) → JsonNumber w ⊎ WktNumber w → WktNumber w
 json_text w (inl (n, h, e)) = (n, json_is_wkt n h, e)

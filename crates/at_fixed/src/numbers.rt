@@ -3,7 +3,8 @@
 ghost use Rattle.std.specs.Prelude.{◌≡◌, ◌⊎◌, ◌^◌, ◌<◌, ◌≤◌, length, take, is_some, IfSome, Ok, true, ℤ};
 ghost use Rattle.at_text.specs.Prefix.{TakesLongest};
 ghost use Rattle.at_fixed.specs.Numerals.{Numeral, SpellsNumeral, JsonNumber, WktNumber, NumberOf};
-ghost use Rattle.at_fixed.specs.Fixed.{IsFixedOf};
+ghost use Rattle.at_fixed.specs.Fixed.{IsFixedOf, fixed_of};
+ghost use Rattle.at_fixed.specs.Decimals.{IsDecimalOf};
 ghost use Rattle.at_fixed.specs.Products.{IsValue};
 
 use crate::extents::valued_end;
@@ -83,6 +84,25 @@ fn any_number(text: &[u8], notation: Notation, digits: u8, how: Coords) -> Leadi
     }
 }
 
+/// The number that a scan found, where it has a value.
+#[inline(always)]
+fn valued(scanned: Scanned, digits: u8, how: Coords) -> Option<PlainNumber>
+    requires len { scanned.len < 2 ^ 32 }
+    requires fits { scanned.decimal.kept < 10 ^ 19 }
+    requires small { scanned.decimal.up < 2 ^ 50 }
+    ensures len { IfSome result (λ number. number.len ≡ scanned.len) }
+    ensures value { IfSome result (λ number. (n : Numeral) → IsDecimalOf scanned.decimal n
+        → Ok number.value ≡ fixed_of n digits how) }
+{
+    match value_of(scanned.decimal, digits, how) {
+        Ok(value) => Some(PlainNumber {
+            len: scanned.len as u32,
+            value,
+        }),
+        Err(_) => None,
+    }
+}
+
 /// `plain_number` where sixteen bytes are left.
 #[inline(always)]
 fn far_number(text: &[u8], notation: Notation, digits: u8, how: Coords) -> Option<PlainNumber>
@@ -95,13 +115,7 @@ fn far_number(text: &[u8], notation: Notation, digits: u8, how: Coords) -> Optio
     ensures value { IfSome result (λ number. IsFixedOf (take number.len text.now) digits how (Ok number.value)) }
 {
     let scanned = scan_far(text, notation)?;
-    match value_of(scanned.decimal, digits, how) {
-        Ok(value) => Some(PlainNumber {
-            len: scanned.len as u32,
-            value,
-        }),
-        Err(_) => None,
-    }
+    valued(scanned, digits, how)
 }
 
 /// `plain_number` near the end of a text.
@@ -115,13 +129,7 @@ fn near_number(text: &[u8], notation: Notation, digits: u8, how: Coords) -> Opti
     ensures value { IfSome result (λ number. IsFixedOf (take number.len text.now) digits how (Ok number.value)) }
 {
     let scanned = scan_near(text, notation)?;
-    match value_of(scanned.decimal, digits, how) {
-        Ok(value) => Some(PlainNumber {
-            len: scanned.len as u32,
-            value,
-        }),
-        Err(_) => None,
-    }
+    valued(scanned, digits, how)
 }
 
 /// The number that begins a text, where it has a value and is written plainly: some digits, a point with some digits
