@@ -236,6 +236,7 @@ impl<T: Drop> Body<T> {
         self.outer[place] = Piece::Closers(closers);
     }
 
+    /// Puts an opening bracket behind the items.
     #[inline(always)]
     pub fn open(&mut self, alloc: Global, bracket: Bracket, at: u32) -> Result<(), Memory>
         ensures { IfOk result (λ u. shown self.new
@@ -247,6 +248,7 @@ impl<T: Drop> Body<T> {
         }
     }
 
+    /// Puts a comma behind the items, or tells where they stop because of it.
     #[inline(always)]
     pub fn comma(&mut self, alloc: Global, at: u32) -> Result<Option<SpanStop>, Memory>
         ensures { IfOk result (λ r. (shown self.new, r) ≡ comma_added at (shown self.old).outer
@@ -258,6 +260,7 @@ impl<T: Drop> Body<T> {
         }
     }
 
+    /// Puts a colon behind the items, or tells where they stop because of it.
     #[inline(always)]
     pub fn colon(&mut self, alloc: Global, at: u32) -> Result<Option<SpanStop>, Memory>
         ensures { IfOk result (λ r. (shown self.new, r) ≡ colon_added at (shown self.old).outer

@@ -141,12 +141,7 @@ fn opens_next<T: Drop>(next: Next, opens: &[Open<T>]) -> Result<Next, u32>
 {
     let mut next = next;
     for level in opens {
-        match open_next(next, level) {
-            Ok(behind) => {
-                next = behind;
-            }
-            Err(place) => return Err(place),
-        }
+        next = open_next(next, level)?;
     }
     Ok(next)
 }
@@ -167,12 +162,7 @@ fn stretches_next<T: Drop>(next: Next, stretches: &[Stretch<T>]) -> Result<Next,
 {
     let mut next = next;
     for stretch in stretches {
-        match stretch_next(next, stretch) {
-            Ok(behind) => {
-                next = behind;
-            }
-            Err(place) => return Err(place),
-        }
+        next = stretch_next(next, stretch)?;
     }
     Ok(next)
 }

@@ -294,10 +294,7 @@ impl<T: Drop> Level<T> {
     {
         match self {
             Level::Opened(_) => true,
-            Level::Object(level) => match level.state {
-                ObjectState::Empty | ObjectState::Comma => true,
-                _ => false,
-            },
+            Level::Object(level) => matches!(level.state, ObjectState::Empty | ObjectState::Comma),
             _ => false,
         }
     }
@@ -383,10 +380,7 @@ impl<T: Drop> Open<T> {
     {
         match self {
             Open::Opened(_) => true,
-            Open::Object(level) => match level.state {
-                ObjectState::Empty | ObjectState::Comma => true,
-                _ => false,
-            },
+            Open::Object(level) => matches!(level.state, ObjectState::Empty | ObjectState::Comma),
             _ => false,
         }
     }

@@ -27,6 +27,7 @@ pub struct Tries {
 }
 
 impl Tries {
+    /// Of a piece whose first byte has the offset, before the first attempt.
     pub fn new(base: u32) -> Self {
         Tries { base, vain: 0 }
     }
