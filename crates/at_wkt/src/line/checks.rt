@@ -111,13 +111,11 @@ fn pass_line(source: &Source, from: Place) -> Option<Read>
     ensures { IfSome result (IsPassedPart SpellsRing (faults_of_path source.now.rules.digits source.now.rules.how
         Role.Line) source.now.rules.base source.now.text.now from.at from.dimension) }
 {
-    let row = pass_row(
-        source,
-        Place {
-            at: from.at + 1,
-            ..from
-        },
-    )?;
+    let inside = Place {
+        at: from.at + 1,
+        ..from
+    };
+    let row = pass_row(source, inside)?;
     match line_fault(row.count, source.rules.base + from.at as u32) {
         None => Some(Read {
             fault: None,
@@ -135,13 +133,11 @@ fn pass_closed(source: &Source, from: Place) -> Option<Read>
     ensures { IfSome result (IsPassedPart SpellsRing (faults_of_path source.now.rules.digits source.now.rules.how
         Role.Ring) source.now.rules.base source.now.text.now from.at from.dimension) }
 {
-    let list = pass_positions(
-        source,
-        Place {
-            at: from.at + 1,
-            ..from
-        },
-    )?;
+    let inside = Place {
+        at: from.at + 1,
+        ..from
+    };
+    let list = pass_positions(source, inside)?;
     match ring_fault(list.count, list.closes, source.rules.base + from.at as u32) {
         None => Some(Read {
             fault: None,
@@ -185,23 +181,19 @@ fn pass_rings(source: &Source, from: Place) -> Option<Read>
     Some(items_read(last))
 }
 
-/// Passes over a position in brackets.
+/// Passes over a position in brackets, the opening one of which stands at the place.
 fn pass_point(source: &Source, from: Place) -> Option<Read>
-    requires inside { from.at ≤ length source.now.text.now }
+    requires inside { from.at < length source.now.text.now }
+    requires opener { next source.now.text.now from.at ≡ 0x28 }
     requires count { HasCount from.dimension }
     ensures { IfSome result (IsPassedPart SpellsPoint (point_faults source.now.rules.digits source.now.rules.how)
         source.now.rules.base source.now.text.now from.at from.dimension) }
 {
-    if !stands(source.text, from.at, b'(') {
-        return None;
-    }
-    let position = pass_position::<PASSED_POINT>(
-        source,
-        Place {
-            at: from.at + 1,
-            ..from
-        },
-    )?;
+    let inside = Place {
+        at: from.at + 1,
+        ..from
+    };
+    let position = pass_position::<PASSED_POINT>(source, inside)?;
     if position.is_last {
         Some(Read {
             fault: None,
@@ -212,37 +204,31 @@ fn pass_point(source: &Source, from: Place) -> Option<Read>
     }
 }
 
-/// Passes over the positions of a line in brackets.
+/// Passes over the positions of a line in brackets, the opening one of which stands at the place.
 fn pass_line_string(source: &Source, from: Place) -> Option<Read>
-    requires inside { from.at ≤ length source.now.text.now }
+    requires inside { from.at < length source.now.text.now }
+    requires opener { next source.now.text.now from.at ≡ 0x28 }
     requires count { HasCount from.dimension }
     ensures { IfSome result (IsPassedPart SpellsList (line_faults source.now.rules.digits source.now.rules.how)
         source.now.rules.base source.now.text.now from.at from.dimension) }
 {
-    if !stands(source.text, from.at, b'(') {
-        return None;
-    }
     let line = pass_line(source, from)?;
     Some(line)
 }
 
-/// Passes over the rings of a polygon in brackets.
+/// Passes over the rings of a polygon in brackets, the opening one of which stands at the place.
 fn pass_polygon(source: &Source, from: Place) -> Option<Read>
-    requires inside { from.at ≤ length source.now.text.now }
+    requires inside { from.at < length source.now.text.now }
+    requires opener { next source.now.text.now from.at ≡ 0x28 }
     requires count { HasCount from.dimension }
     ensures { IfSome result (IsPassedPart SpellsArea (faults_of_area source.now.rules.digits source.now.rules.how)
         source.now.rules.base source.now.text.now from.at from.dimension) }
 {
-    if !stands(source.text, from.at, b'(') {
-        return None;
-    }
-    let rings = pass_rings(
-        source,
-        Place {
-            at: from.at + 1,
-            ..from
-        },
-    )?;
+    let inside = Place {
+        at: from.at + 1,
+        ..from
+    };
+    let rings = pass_rings(source, inside)?;
     Some(rings)
 }
 
@@ -253,6 +239,9 @@ fn pass_body(source: &Source, head: Head) -> Option<Read>
     ensures { IfSome result (IsPassedBody source.now.rules.digits source.now.rules.how source.now.rules.base
         source.now.text.now head) }
 {
+    if !stands(source.text, head.behind.at, b'(') {
+        return None;
+    }
     match head.kind {
         Kind::Point => {
             let body = pass_point(source, head.behind)?;

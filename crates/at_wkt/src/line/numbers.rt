@@ -125,11 +125,5 @@ pub fn skip_number(source: &Source, at: usize) -> Result<usize, Halt>
     ensures { MatchResult result (NumberSkips source.now.text.now at)
         (λ halt. IfStopped halt (NumberBreaks source.now.text.now at)) }
 {
-    let taken = wkt_number(&source.text[at..]);
-    let end = at + taken.len as usize;
-    if taken.whole {
-        Ok(end)
-    } else {
-        Err(Halt::At(end))
-    }
+    wkt_number(&source.text[at..]).end_from(at)
 }

@@ -63,13 +63,11 @@ fn read_enclosed(points: &mut Vec<Pos>, source: &Source, from: Place) -> Result<
         (λ halt. IfStopped halt (Stuck EnclosedPosition source.now.rules.base source.now.text.now from.at
         from.dimension)) }
 {
-    let read = read_position::<POINT>(
-        source,
-        Place {
-            at: from.at + 1,
-            ..from
-        },
-    )?;
+    let inside = Place {
+        at: from.at + 1,
+        ..from
+    };
+    let read = read_position::<POINT>(source, inside)?;
     if !read.is_last {
         return Err(Halt::At(read.behind.at - 1));
     }
@@ -288,15 +286,11 @@ pub fn read_polygon(
         (λ halt. IfStopped halt (Stuck SpellsArea source.now.rules.base source.now.text.now from.at from.dimension)) }
 {
     if stands(source.text, from.at, b'(') {
-        read_area(
-            polygons,
-            maker,
-            source,
-            Place {
-                at: from.at + 1,
-                ..from
-            },
-        )
+        let inside = Place {
+            at: from.at + 1,
+            ..from
+        };
+        read_area(polygons, maker, source, inside)
     } else {
         read_nothing(source.text, from)
     }
@@ -380,14 +374,11 @@ pub fn read_points(points: &mut Vec<Pos>, source: &Source, from: Place) -> Resul
         source.now.text.now from.at from.dimension)) }
 {
     if stands(source.text, from.at, b'(') {
-        read_point_members(
-            points,
-            source,
-            Place {
-                at: from.at + 1,
-                ..from
-            },
-        )
+        let inside = Place {
+            at: from.at + 1,
+            ..from
+        };
+        read_point_members(points, source, inside)
     } else {
         read_nothing(source.text, from)
     }
@@ -454,15 +445,11 @@ pub fn read_line_strings(
         source.now.text.now from.at from.dimension)) }
 {
     if stands(source.text, from.at, b'(') {
-        read_line_members(
-            lines,
-            maker,
-            source,
-            Place {
-                at: from.at + 1,
-                ..from
-            },
-        )
+        let inside = Place {
+            at: from.at + 1,
+            ..from
+        };
+        read_line_members(lines, maker, source, inside)
     } else {
         read_nothing(source.text, from)
     }
@@ -529,15 +516,11 @@ pub fn read_polygons(
         source.now.text.now from.at from.dimension)) }
 {
     if stands(source.text, from.at, b'(') {
-        read_polygon_members(
-            polygons,
-            maker,
-            source,
-            Place {
-                at: from.at + 1,
-                ..from
-            },
-        )
+        let inside = Place {
+            at: from.at + 1,
+            ..from
+        };
+        read_polygon_members(polygons, maker, source, inside)
     } else {
         read_nothing(source.text, from)
     }

@@ -164,14 +164,11 @@ pub fn read_path(
         (λ halt. IfStopped halt (Stuck SpellsRing source.now.rules.base source.now.text.now from.at from.dimension)) }
 {
     let mut path = empty_path(maker)?;
-    let read = read_positions(
-        &mut path,
-        source,
-        Place {
-            at: from.at + 1,
-            ..from
-        },
-    )?;
+    let inside = Place {
+        at: from.at + 1,
+        ..from
+    };
+    let read = read_positions(&mut path, source, inside)?;
     let positions = path.as_slice();
     let count = positions.len() as u32;
     maker.expected = positions.len();

@@ -2,7 +2,7 @@ use Rattle.std.proofs.Common.{[], ◌+◌, Ok}
 use Rattle.at_wkt.specs.Geometry.{SpellsArea, SpellsRing}
 use Rattle.at_wkt.specs.Meaning.{faults_of_area}
 use Rattle.at_wkt.specs.Readers.{Items}
-use Rattle.at_wkt.proofs.PartAnswers.{bracketed_stands, open_byte}
+use Rattle.at_wkt.proofs.PartAnswers.{bracketed_stands}
 use Rattle.at_wkt.proofs.CheckAnswers.{nothing_of, adds_nothing, part_passed}
 use Rattle.at_wkt.proofs.line.checks.pass_polygon.Goals as goal
 
@@ -10,7 +10,6 @@ pub returns : goal.returns
 returns c =
     let w = c.args.source.now.text.now in let rules = c.args.source.now.rules in let faults = faults_of_area rules.digits rules.how in
     let (none, rings) = c.in_ok-rings.ensures in
-    let (inside, byte) = open_byte w c.args.from.at c.stands.result c.stands.ensures c.if-not-stands.false in
-    let part = bracketed_stands SpellsRing faults nothing_of rules.base w c.args.from.at c.args.from.dimension [] [] inside byte (Ok c.in_ok-rings.rings)
+    let part = bracketed_stands SpellsRing faults nothing_of rules.base w c.args.from.at c.args.from.dimension [] [] c.requires.inside c.requires.opener (Ok c.in_ok-rings.rings)
     (adds_nothing (Items SpellsRing) faults rules.base w (c.args.from.at + 1) c.args.from.dimension c.in_ok-rings.rings rings) in
     (none, part_passed SpellsArea faults rules.base w c.args.from.at c.args.from.dimension c.in_ok-rings.rings part)
