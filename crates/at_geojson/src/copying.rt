@@ -48,6 +48,7 @@ fn copy_polygons(alloc: Global, polygons: &[Polygon]) -> Result<Vec<Polygon>, Me
     Ok(items)
 }
 
+/// A second shape of the same parts.
 pub fn copy_shape(alloc: Global, shape: &Shape) -> Result<Shape, Memory>
     ensures { IfOk result (λ r. r ≡ shape.now) }
 {

@@ -44,15 +44,11 @@ fn joined_parts(
     requires { AreJoinable left right }
     ensures { IfOk result (JoinsFound left right) }
 {
-    match left {
-        Ok(before) => match right {
-            Ok(behind) => Ok(Ok(part_merge(before, behind)?)),
-            Err(fault) => Ok(Err(fault)),
-        },
-        Err(fault) => match right {
-            Ok(_) => Ok(Err(fault)),
-            Err(other) => Ok(Err(first_of_two(fault, other))),
-        },
+    match (left, right) {
+        (Ok(before), Ok(behind)) => Ok(Ok(part_merge(before, behind)?)),
+        (Ok(_), Err(fault)) => Ok(Err(fault)),
+        (Err(fault), Ok(_)) => Ok(Err(fault)),
+        (Err(fault), Err(other)) => Ok(Err(first_of_two(fault, other))),
     }
 }
 

@@ -10,7 +10,7 @@ ghost use Rattle.at_geojson.specs.Rows.{EndsRow, EndsPoints, ArePointsPassed, Ar
 use crate::asked::GeoAlgebra;
 use crate::atoms::{GeoAtom, Points, PositionAtom};
 use crate::coordinates::same_or_faulty;
-use crate::places::{skip_spaces, stands};
+use crate::places::{expect_comma, skip_spaces, stands};
 use at_fixed::{Notation, PlainNumber, plain_len, plain_number};
 use at_geom::{Pos, line_fault, ring_fault};
 use at_text::Halt;
@@ -323,9 +323,7 @@ fn keep_points(
     let mut count = 1;
     let mut end = first.end;
     'positions: while !stands(text, end, b']') {
-        if !stands(text, end, b',') {
-            return Err(Halt::At(end));
-        }
+        expect_comma(text, end)?;
         let Some(next) = read_spaced(algebra, text, base, end + 1) else {
             return Err(Halt::At(end));
         };

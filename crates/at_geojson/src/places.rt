@@ -26,6 +26,19 @@ pub fn stands(text: &[u8], at: usize, b: u8) -> bool
     at < text.len() && text[at] == b
 }
 
+/// Stops where no comma stands at the place.
+#[inline(always)]
+pub fn expect_comma(text: &[u8], at: usize) -> Result<(), Halt>
+    ensures inside { IfOk result (λ _. at < length text.now) }
+    ensures byte { IfOk result (λ _. slice_index text.now at ≡ 0x2C) }
+{
+    if stands(text, at, b',') {
+        Ok(())
+    } else {
+        Err(Halt::At(at))
+    }
+}
+
 /// The place behind the white space that begins at the place.
 #[inline(always)]
 pub fn skip_spaces(text: &[u8], at: usize) -> usize
@@ -47,13 +60,7 @@ pub fn text_end(text: &[u8], at: usize) -> Result<usize, Halt>
     requires short { length text.now ≤ 2 ^ 28 }
     ensures { IfOk result (IsTextAt text.now at) }
 {
-    let taken = take_text(&text[at..]);
-    let end = at + taken.len as usize;
-    if taken.whole {
-        Ok(end)
-    } else {
-        Err(Halt::At(end))
-    }
+    take_text(&text[at..]).end_from(at)
 }
 
 /// White space and a colon behind a name.

@@ -9,7 +9,7 @@ ghost use Rattle.at_geojson.specs.Rings.{AreAreasWhole};
 use crate::asked::GeoAlgebra;
 use crate::atoms::{Areas, AreasAtom, GeoAtom, Lists, ListsAtom, Points, PointsAtom};
 use crate::pairs::{PointsRead, Whole, read_points};
-use crate::places::{skip_spaces, stands};
+use crate::places::{expect_comma, skip_spaces, stands};
 use crate::shapes::{one_line, one_polygon};
 use at_geom::{Path, Paths, Polygon};
 use at_text::{Halt, first_fault};
@@ -100,9 +100,7 @@ fn read_lists(
     let mut end = first.end;
     let mut lists = first_list(alloc, needs, first.points)?;
     'lists: while !stands(text, end, b']') {
-        if !stands(text, end, b',') {
-            return Err(Halt::At(end));
-        }
+        expect_comma(text, end)?;
         let next = points_item(algebra, alloc, text, base, end + 1)?;
         end = next.end;
         add_list(&mut lists, needs, next.points)?;
@@ -181,9 +179,7 @@ fn read_areas(
     let mut end = first.end;
     let mut areas = first_area(alloc, needs, first.lists)?;
     'areas: while !stands(text, end, b']') {
-        if !stands(text, end, b',') {
-            return Err(Halt::At(end));
-        }
+        expect_comma(text, end)?;
         let next = lists_item(algebra, alloc, text, base, end + 1)?;
         end = next.end;
         add_area(&mut areas, needs, next.lists)?;

@@ -97,14 +97,10 @@ pub fn joined_shapes(
 ) -> Result<Result<Geometry, Fault>, Memory>
     ensures { IfOk result (JoinsShapes left right) }
 {
-    match left {
-        Ok(before) => match right {
-            Ok(behind) => Ok(Ok(Geometry::joined(alloc, before, behind)?)),
-            Err(fault) => Ok(Err(fault)),
-        },
-        Err(fault) => match right {
-            Ok(_) => Ok(Err(fault)),
-            Err(other) => Ok(Err(first_of_two(fault, other))),
-        },
+    match (left, right) {
+        (Ok(before), Ok(behind)) => Ok(Ok(Geometry::joined(alloc, before, behind)?)),
+        (Ok(_), Err(fault)) => Ok(Err(fault)),
+        (Err(fault), Ok(_)) => Ok(Err(fault)),
+        (Err(fault), Err(other)) => Ok(Err(first_of_two(fault, other))),
     }
 }

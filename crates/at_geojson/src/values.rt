@@ -17,7 +17,7 @@ use crate::members::{OtherNames, new_name};
 use crate::object_atoms::{fields_atom, object_atom};
 use crate::pairs::{PairRead, Whole, read_pair};
 use crate::passing::pass_item;
-use crate::places::{name_place, skip_spaces, stands, text_end};
+use crate::places::{expect_comma, name_place, skip_spaces, stands, text_end};
 use crate::rings::read_coordinates;
 use crate::scalars::{plain_text_atom, scalar_atom, simple_atom};
 use crate::short_texts::short_text_end;
@@ -251,9 +251,7 @@ fn read_array(
         if stands(text, end, b']') {
             return ended_array(algebra, alloc, base + at as u32, end + 1, items);
         }
-        if !stands(text, end, b',') {
-            return Err(Halt::At(end));
-        }
+        expect_comma(text, end)?;
         place = end + 1;
     }
 }
@@ -507,9 +505,7 @@ fn read_fields(
         if stands(text, end, b'}') {
             return ended_fields(algebra, alloc, base + at as u32, end + 1, &mut fields);
         }
-        if !stands(text, end, b',') {
-            return Err(Halt::At(end));
-        }
+        expect_comma(text, end)?;
         place = end + 1;
     }
 }
@@ -550,9 +546,7 @@ fn read_members(
         if stands(text, end, b'}') {
             return ended_object(algebra, alloc, base + at as u32, end + 1, members);
         }
-        if !stands(text, end, b',') {
-            return Err(Halt::At(end));
-        }
+        expect_comma(text, end)?;
         place = end + 1;
     }
 }

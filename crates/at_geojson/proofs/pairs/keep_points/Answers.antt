@@ -17,14 +17,13 @@ positions-init c =
 
 pub positions-preserved : goal.positions-preserved
 positions-preserved c =
-    let here = c.if-not-stands.false in
     let next = c.in-Some.next in
     let row : Row = record { first = c.args.first.pair; last = c.positions.last; count = c.positions.count; path = c.positions.path } in
     let longer : Row = record { first = c.args.first.pair; last = next.pair.pos; count = c.one_more-count.result; path = c.push.new.self } in
     record {
       within = c.in-Some.ensures.within;
       read = points_go_on c.args.algebra.now c.args.base c.args.text.now c.args.at c.positions.end next row longer c.positions.invariant.read
-          (c.stands-in-positions.ensures.inside here) (c.stands-in-positions.ensures.byte here) c.in-Some.ensures
+          c.in_ok-expect_comma.ensures.inside c.in_ok-expect_comma.ensures.byte c.in-Some.ensures
           (subst (λ needs. LengthensRow needs row next.pair longer) (sym c.requires.needed) (lengthened _ row longer next.pair refl refl c.in_ok-push.ensures.items c.one_more-count.ensures));
     }
 

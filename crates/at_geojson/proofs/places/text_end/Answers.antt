@@ -1,6 +1,10 @@
 -- A whole string.
+use Rattle.at_text.proofs.Exits.{taken_ok}
+use Rattle.at_geojson.specs.Places.{IsTextAt}
 use Rattle.at_geojson.proofs.ValueParts.{text_taken}
 use Rattle.at_geojson.proofs.places.text_end.Goals as goal
 
-pub returns-then-taken : goal.returns-then-taken
-returns-then-taken c = text_taken c.args.text.now c.args.at c.take_text-taken.result c.requires.inside c.take_text-taken.ensures c.if-taken.true
+pub returns : goal.returns
+returns c =
+    let taken = c.take_text.result in
+    taken_ok taken.whole c.end_from.result _ (IsTextAt c.args.text.now c.args.at) c.end_from.ensures.word c.end_from.ensures.stop (text_taken c.args.text.now c.args.at taken c.requires.inside c.take_text.ensures)

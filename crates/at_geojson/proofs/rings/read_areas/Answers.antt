@@ -14,13 +14,12 @@ areas-init c =
 
 pub areas-preserved : goal.areas-preserved
 areas-preserved c =
-    let here = c.if-not-stands.false in
     let item = c.in_ok-next.ensures in
     record {
       order = omega (arith, c.areas.invariant.order, item.begins, item.ends);
       within = item.within;
       read = areas_go_on c.args.algebra.now c.args.base c.args.text.now c.args.at c.areas.end c.in_ok-first.first.at c.in_ok-next.next c.areas.areas c.add_area.new.areas c.needs_shapes-needs.result c.needs_shapes-needs.ensures c.areas.invariant.read
-          (c.stands-in-areas.ensures.inside here) (c.stands-in-areas.ensures.byte here) item c.in_ok-add_area.ensures;
+          c.in_ok-expect_comma.ensures.inside c.in_ok-expect_comma.ensures.byte item c.in_ok-add_area.ensures;
     }
 
 pub returns : goal.returns

@@ -14,13 +14,12 @@ lists-init c =
 
 pub lists-preserved : goal.lists-preserved
 lists-preserved c =
-    let here = c.if-not-stands.false in
     let item = c.in_ok-next.ensures in
     record {
       order = omega (arith, c.lists.invariant.order, item.begins, item.ends);
       within = item.within;
       read = lists_go_on c.args.algebra.now c.args.base c.args.text.now c.args.at c.lists.end c.in_ok-first.first.at c.in_ok-next.next c.lists.lists c.add_list.new.lists c.needs_shapes-needs.result c.needs_shapes-needs.ensures c.lists.invariant.read
-          (c.stands-in-lists.ensures.inside here) (c.stands-in-lists.ensures.byte here) item c.in_ok-add_list.ensures;
+          c.in_ok-expect_comma.ensures.inside c.in_ok-expect_comma.ensures.byte item c.in_ok-add_list.ensures;
     }
 
 pub returns : goal.returns

@@ -29,13 +29,12 @@ read_array-returns-then-stands-2 t c = IfOk-weaker c.ended_array.result _ _ (λ 
 
 pub read_array-items-preserved : goal.read_array-items-preserved
 read_array-items-preserved t c =
-    let here = c.if-not-stands.false in
-    let inside = c.stands-in-items-2.ensures.inside here in
+    let inside = c.in_ok-expect_comma.ensures.inside in
     record {
       order = omega (arith, c.items.invariant.order, c.in_ok-end.ensures.order);
       within = omega (arith, inside);
       read = subst (AreItemsRead c.args.algebra.now c.args.base c.args.text.now c.args.at (c.in_ok-end.field-0.end + 1)) (sym c.in_ok-push.ensures.items)
-          (items_go_on c.args.algebra.now c.args.base c.args.text.now c.args.at c.items.place c.items.items.items c.in_ok-end.field-0 c.items.invariant.order c.items.invariant.read c.in_ok-end.ensures inside (c.stands-in-items-2.ensures.byte here));
+          (items_go_on c.args.algebra.now c.args.base c.args.text.now c.args.at c.items.place c.items.items.items c.in_ok-end.field-0 c.items.invariant.order c.items.invariant.read c.in_ok-end.ensures inside (c.in_ok-expect_comma.ensures.byte));
     }
 
 pub read_members-returns-then-stands : goal.read_members-returns-then-stands
@@ -60,14 +59,13 @@ read_members-returns-then-stands-2 t c = IfOk-weaker c.ended_object-then-stands-
 
 pub read_members-members-preserved : goal.read_members-members-preserved
 read_members-members-preserved t c =
-    let here = c.if-not-stands.false in
-    let inside = c.stands-in-members-2.ensures.inside here in
+    let inside = c.in_ok-expect_comma.ensures.inside in
     record {
       order = omega (arith, c.members.invariant.order, c.in_ok-name.ensures.before, c.in_ok-name.ensures.text.0, c.in_ok-name.ensures.behind, c.in_ok-end.ensures.order);
       within = omega (arith, inside);
       read = subst (AreMembersRead c.args.algebra.now c.args.base c.args.text.now c.args.at (c.in_ok-end.field-0.end + 1)) (sym c.in_ok-push.ensures.items)
           (members_go_on c.args.algebra.now c.args.base c.args.text.now c.args.at c.members.place c.members.members.items c.in_ok-name.name c.in_ok-units.units c.in_ok-end.field-0 c.members.invariant.order c.members.invariant.read c.in_ok-name.ensures
-          (name_units c.args.text.now c.members.place c.in_ok-name.name c.in_ok-units.units c.in_ok-name.ensures c.in_ok-units.ensures) c.in_ok-end.ensures inside (c.stands-in-members-2.ensures.byte here));
+          (name_units c.args.text.now c.members.place c.in_ok-name.name c.in_ok-units.units c.in_ok-name.ensures c.in_ok-units.ensures) c.in_ok-end.ensures inside (c.in_ok-expect_comma.ensures.byte));
     }
 
 pub read_any-returns-in-Some : goal.read_any-returns-in-Some
@@ -105,12 +103,11 @@ read_fields-fields-preserved t c =
     let r = c.in_ok-end.ensures in let p : Whole = record { end = c.in_ok-end.end; atom = r.atom } in
     let l = longer_fields c.args.algebra.now c.args.base c.args.text.now c.args.at c.fields.place c.fields.others c.new_name.new.others c.fields.fields c.in_ok-name.name p c.read_field.new.fields
     c.fields.invariant.read c.in_ok-name.ensures.plain c.in_ok-name.ensures.field c.in_ok-name.ensures.new r.no_twin r.kind r.coordinates r.geometry r.properties r.features r.geometries in
-    let here = c.if-not-stands.false in
-    let inside = c.stands-in-fields-2.ensures.inside here in
+    let inside = c.in_ok-expect_comma.ensures.inside in
     record {
       order = omega (arith, c.fields.invariant.order, c.in_ok-name.ensures.place.before, c.in_ok-name.ensures.place.text.0, c.in_ok-name.ensures.place.behind, r.item.order);
       within = omega (arith, inside);
-      read = fields_go_on c.args.algebra.now c.args.base c.args.text.now c.args.at c.fields.place c.fields.others c.new_name.new.others c.fields.fields c.in_ok-name.name.place p c.read_field.new.fields c.fields.invariant.order l c.in_ok-name.ensures.place r.item inside (c.stands-in-fields-2.ensures.byte here);
+      read = fields_go_on c.args.algebra.now c.args.base c.args.text.now c.args.at c.fields.place c.fields.others c.new_name.new.others c.fields.fields c.in_ok-name.name.place p c.read_field.new.fields c.fields.invariant.order l c.in_ok-name.ensures.place r.item inside (c.in_ok-expect_comma.ensures.byte);
     }
 
 pub put_field-returns : goal.put_field-returns
