@@ -23,3 +23,4 @@ pub mod FormMerges
 pub mod JsonEnds
 pub mod OneAnswer
 pub mod JoinedFiles
+pub mod JoinEnds

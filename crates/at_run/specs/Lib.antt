@@ -8,6 +8,7 @@ pub mod Encodings
 pub mod JsonFragments
 pub mod Files
 pub mod Answers
+pub mod Joins
 pub mod Gathering
 pub mod Readers
 pub mod Blocks

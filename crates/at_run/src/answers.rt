@@ -89,10 +89,8 @@ pub fn answer<G: Gate, R: Threads + Sync>(
         (λ end. IfFound end (λ fault. TheFileFaultIn form digits how bytes.now (Some fault))) }
     ensures given_up { SomeGivenUp (G.given_up gate.now) 0 (length cuts.now - 1) → result ≡ Err RunFault.Memory }
 {
-    match part(
+    let part = part(
         rt, alloc, bytes, form, cuts, query, digits, how, workers, gate,
-    ) {
-        Ok(part) => Ok(answer_of(part)),
-        Err(end) => Err(end),
-    }
+    )?;
+    Ok(answer_of(part))
 }

@@ -1,5 +1,8 @@
 //! Why a file, or two files, have no answer.
 
+ghost use Rattle.std.specs.Prelude.{◌≡◌};
+ghost use Rattle.at_run.specs.Joins.{first_end};
+
 use at_text::Fault;
 
 /// Why a file has no answer.
@@ -20,4 +23,16 @@ pub enum JoinFault {
     Second(Fault),
     /// An allocation was refused.
     Memory,
+}
+
+impl RunFault {
+    /// Why two files have no join, where this is why the first has no entries.
+    pub fn of_first(self) -> JoinFault
+        ensures { result ≡ first_end self }
+    {
+        match self {
+            RunFault::Found(fault) => JoinFault::First(fault),
+            RunFault::Memory => JoinFault::Memory,
+        }
+    }
 }

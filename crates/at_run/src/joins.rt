@@ -1,6 +1,6 @@
 //! The answer to a join over two files.
 
-ghost use Rattle.std.specs.Prelude.{◌≡◌, ◌-◌, ◌<◌, ◌≤◌, ◌^◌, [], length, MatchResult, Some, IfOk};
+ghost use Rattle.std.specs.Prelude.{◌≡◌, ◌-◌, ◌<◌, ◌≤◌, ◌^◌, [], length, MatchResult, Some, Err, IfOk};
 ghost use Rattle.at_text.specs.Texts.{base_of as text_begin};
 ghost use Rattle.at_query.specs.Ranges.{IsQueryInRange};
 ghost use Rattle.at_query.specs.Parts.{AreProper};
@@ -8,6 +8,7 @@ ghost use Rattle.at_run.specs.Places.{first_place, last_place};
 ghost use Rattle.at_run.specs.Blocks.{NoneGivenUp};
 ghost use Rattle.at_run.specs.Files.{HasFileFaultIn};
 ghost use Rattle.at_run.specs.Answers.{IfFound, IsFilePart, IsJoinAnswer, IsJoinFault};
+ghost use Rattle.at_run.specs.Joins.{PairsWith, EndsSecond};
 
 use crate::answers::part;
 use crate::cuts::Cuts;
@@ -17,6 +18,7 @@ use at_crew::Gate;
 use at_fixed::Coords;
 use at_join::pairs_grid;
 use at_query::{Answer, Entries, Part, Query, Tests, Verb};
+use at_text::Fault;
 use std::alloc::Global;
 use std::thread::Threads;
 
@@ -67,11 +69,42 @@ fn entries<G: Gate, R: Threads + Sync>(
     ensures proper { IfOk result AreProper }
     ensures given_up { IfOk result (λ _. NoneGivenUp (G.given_up gate.now) 0 (length cuts.now - 1)) }
 {
-    match part(
+    let part = part(
         rt, alloc, bytes, form, cuts, query, digits, how, workers, gate,
-    ) {
-        Ok(part) => Ok(entries_of(part)),
-        Err(end) => Err(end),
+    )?;
+    Ok(entries_of(part))
+}
+
+/// The answer to a join of entries with those of a second file, or why the second file has none.
+///
+/// The 64 cells of a grid over both are searched, by so many passes at once, and the gate is entered with each cell.
+///
+/// # Errors
+/// `Second` is the second file's fault, exactly where it has one. `Memory` comes where an allocation was refused, and in
+/// the place of an answer wherever the gate gives up a cell.
+pub fn join_with<G: Gate, R: Threads + Sync>(
+    rt: &R,
+    alloc: Global,
+    first: Entries,
+    second: Result<Entries, RunFault>,
+    workers: u32,
+    gate: &G,
+) -> Result<Answer, JoinFault>
+    requires first { AreProper first }
+    requires second { IfOk second AreProper }
+    requires workers { (0 < workers) × (workers ≤ 64) }
+    ensures answer { MatchResult result (PairsWith first second) (EndsSecond second) }
+    ensures found { (fault : Fault) → second ≡ Err (RunFault.Found fault) → result ≡ Err (JoinFault.Second fault) }
+    ensures gate { IfOk result (λ _. NoneGivenUp (G.given_up gate.now) 0 64) }
+{
+    let entries = match second {
+        Ok(entries) => entries,
+        Err(RunFault::Found(fault)) => return Err(JoinFault::Second(fault)),
+        Err(RunFault::Memory) => return Err(JoinFault::Memory),
+    };
+    match pairs_grid(rt, alloc, first, entries, workers, gate) {
+        Ok(pairs) => Ok(Answer::Pairs(pairs)),
+        Err(_) => Err(JoinFault::Memory),
     }
 }
 
@@ -116,23 +149,15 @@ pub fn answer_join<G: Gate, R: Threads + Sync>(
     ensures gate_b { IfOk result (λ _. NoneGivenUp (G.given_up gate.now) 0 (length cuts_b.now - 1)) }
     ensures gate_cells { IfOk result (λ _. NoneGivenUp (G.given_up gate.now) 0 64) }
 {
+    let all = of_all(alloc);
     let first = match entries(
         rt, alloc, a, form_a, cuts_a, query, digits, how, workers, gate,
     ) {
         Ok(entries) => entries,
-        Err(RunFault::Found(fault)) => return Err(JoinFault::First(fault)),
-        Err(RunFault::Memory) => return Err(JoinFault::Memory),
+        Err(end) => return Err(end.of_first()),
     };
-    let all = of_all(alloc);
-    let second = match entries(
+    let second = entries(
         rt, alloc, b, form_b, cuts_b, &all, digits, how, workers, gate,
-    ) {
-        Ok(entries) => entries,
-        Err(RunFault::Found(fault)) => return Err(JoinFault::Second(fault)),
-        Err(RunFault::Memory) => return Err(JoinFault::Memory),
-    };
-    match pairs_grid(rt, alloc, first, second, workers, gate) {
-        Ok(pairs) => Ok(Answer::Pairs(pairs)),
-        Err(_) => Err(JoinFault::Memory),
-    }
+    );
+    join_with(rt, alloc, first, second, workers, gate)
 }
