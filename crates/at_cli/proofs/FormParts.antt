@@ -1,6 +1,7 @@
 -- The part of a file of any form, the answer that it gives, and the join of two.
 -- For `top`.
-use Rattle.std.proofs.Common.{◌≡◌, ℕ, ◌^◌, ◌≤◌, List, [], length, Some, Result, Ok, Err, IfOk, MatchResult}
+use Rattle.std.proofs.Common.{◌≡◌, ℕ, ◌^◌, ◌≤◌, List, [], length, None, Some, Option, Result, Ok, Err, IfOk, MatchResult, sym, subst}
+use Rattle.std.proofs.lemmas.Option.{none-some, same_Some}
 use Rattle.at_fixed.specs.declared.rounding.Coords.{Coords}
 use Rattle.at_query.specs.declared.query.queries.Verb.TheVariants.{Join}
 use Rattle.at_query.specs.declared.query.queries.Query.{Query}
@@ -25,16 +26,21 @@ use Rattle.at_run.proofs.JoinedFiles.{all_pairs_joined, file_entries_proper}
 use Rattle.at_seq.specs.Answers.{HasProperEntries}
 use Rattle.at_cli.specs.declared.words.form.FileForm.{FileForm}
 use Rattle.at_cli.specs.declared.words.form.FileForm.TheVariants.{GeoJson, Wkt, Seq}
+use Rattle.at_cli.specs.Forms.{plain_form}
 use Rattle.at_cli.specs.Answers.{HasFaultAs, AreFeaturesAs, IsPartAs, IsAnswerAs, IsJoinAs}
 use Rattle.at_cli.proofs.Sequences.{seq_features_few, seq_features_in_range}
 
 module _ (digits : ℕ) (how : Coords) where
   module _ (query : Query) (bytes : List ℕ) where
-    -- what at_run tells of a file of GeoJSON
-    pub geojson_part : (result : Result Part RunFault) → MatchResult result (IsFilePart forms.GeoJson digits how query bytes) (λ end. IfFound end (λ fault. HasFileFaultIn forms.GeoJson digits how bytes (Some fault)))
-        → MatchResult result (IsPartAs GeoJson digits how query bytes) (λ end. IfFound end (λ fault. HasFaultAs GeoJson digits how bytes (Some fault)))
-    geojson_part (Ok part) h = record { faultless = h.faultless; features = h.features; are_features = h.are_features; is_part = h.is_part }
-    geojson_part (Err end) h = h
+    -- what at_run tells of a file that is no sequence
+    pub plain_part : (form : FileForm) (plain : Form) (result : Result Part RunFault) → plain_form form ≡ Some plain
+        → MatchResult result (IsFilePart plain digits how query bytes) (λ end. IfFound end (λ fault. HasFileFaultIn plain digits how bytes (Some fault)))
+        → MatchResult result (IsPartAs form digits how query bytes) (λ end. IfFound end (λ fault. HasFaultAs form digits how bytes (Some fault)))
+    plain_part GeoJson plain (Ok part) e h = let k = subst (λ f. IsFilePart f digits how query bytes part) (sym (same_Some forms.GeoJson plain e)) h in record { faultless = k.faultless; features = k.features; are_features = k.are_features; is_part = k.is_part }
+    plain_part GeoJson plain (Err end) e h = subst (λ f. IfFound end (λ fault. HasFileFaultIn f digits how bytes (Some fault))) (sym (same_Some forms.GeoJson plain e)) h
+    plain_part Wkt plain (Ok part) e h = let k = subst (λ f. IsFilePart f digits how query bytes part) (sym (same_Some forms.Wkt plain e)) h in record { faultless = k.faultless; features = k.features; are_features = k.are_features; is_part = k.is_part }
+    plain_part Wkt plain (Err end) e h = subst (λ f. IfFound end (λ fault. HasFileFaultIn f digits how bytes (Some fault))) (sym (same_Some forms.Wkt plain e)) h
+    plain_part Seq plain result e h = absurd (none-some plain e)
 
     -- the part of a join can be joined
     entries_proper : (form : Form) (part : Part) → query.verb ≡ Join → IsFilePart form digits how query bytes part → HasProperEntries part

@@ -1,10 +1,11 @@
 -- Texts that are put together in groups are those that are put together one by one.
 -- For `made_file` and `top`.
 use Rattle.std.proofs.Common.{◌≡◌, ℕ, ◌+◌, codes, decimal, List, [], ◌∷◌, ◌++◌, refl, sym, ap, ◌∙◌}
+use Rattle.std.proofs.lemmas.List.{append_assoc}
 use Rattle.std.proofs.lemmas.Grind.{flat_map-append}
 use Rattle.at_cli.specs.declared.squares.RowTexts.{RowTexts}
 use Rattle.at_cli.specs.Made.{texts, line_by, feature_by}
-use Rattle.at_cli.specs.Squares.{AreRowTexts, AreLineTexts, AreFeatureTexts}
+use Rattle.at_cli.specs.Squares.{AreRowTexts, AreLineTexts, AreFeatureTexts, corners}
 
 -- a text is these parts put together
 record Together (z : List ℕ) (parts : List (List ℕ)) : Type 0 where
@@ -22,31 +23,33 @@ one {z} part p e t = record { is = ap (λ x. x ++ z) e ∙ ap (λ x. part ++ x) 
 three : {z : List ℕ} {more : List (List ℕ)} (a b c g : List ℕ) → g ≡ texts (a ∷ b ∷ c ∷ []) → Together z more → Together (g ++ z) (a ∷ b ∷ c ∷ more)
 three {z} {more} a b c g e t = record { is = ap (λ x. x ++ z) e ∙ (ap (λ x. texts (a ∷ b ∷ c ∷ []) ++ x) t.is ∙ sym (flat_map-append (λ (part : List ℕ). part) (a ∷ b ∷ c ∷ []) more)) }
 
--- the corners of a square between two columns and two rows, by the texts of its row
-module _ (before behind end : List ℕ) (t : RowTexts) (h : AreRowTexts before behind end t) (left right low high last : List ℕ) where
-  corners : (c d : List ℕ) → left ≡ c → right ≡ d → low ≡ t.low.items → high ≡ t.high.items → last ≡ t.last.items
-      → Together (texts (left ∷ low ∷ right ∷ low ∷ right ∷ high ∷ left ∷ high ∷ left ∷ last ∷ []))
-      (c ∷ before ∷ decimal t.row ∷ behind ∷ d ∷ before ∷ decimal t.row ∷ behind ∷ d ∷ before ∷ decimal (t.row + 1) ∷ behind ∷ c ∷ before ∷ decimal (t.row + 1) ∷ behind ∷ c ∷ before ∷ decimal t.row ∷ end ∷ [])
-  corners c d is_c is_d is_low is_high is_last =
-      one c left is_c (three before (decimal t.row) behind low (is_low ∙ h.low)
-      (one d right is_d (three before (decimal t.row) behind low (is_low ∙ h.low)
-      (one d right is_d (three before (decimal (t.row + 1)) behind high (is_high ∙ h.high)
-      (one c left is_c (three before (decimal (t.row + 1)) behind high (is_high ∙ h.high)
-      (one c left is_c (three before (decimal t.row) end last (is_last ∙ h.last) no_parts)))))))))
+-- the corners of a square between two columns, written with these texts before and behind the numbers of its row
+abbrev corner_parts : List ℕ → List ℕ → List ℕ → ℕ → List ℕ → List ℕ → List (List ℕ)
+corner_parts before behind end row c d = c ∷ before ∷ decimal row ∷ behind ∷ d ∷ before ∷ decimal row ∷ behind ∷ d ∷ before ∷ decimal (row + 1) ∷ behind ∷ c ∷ before ∷ decimal (row + 1) ∷ behind ∷ c ∷ before ∷ decimal row ∷ end ∷ []
+
+corners_together : (before behind end : List ℕ) (t : RowTexts) → AreRowTexts before behind end t → (c d : List ℕ) → Together (corners c d t) (corner_parts before behind end t.row c d)
+corners_together before behind end t h c d =
+    one c c refl (three before (decimal t.row) behind t.low.items h.low (one d d refl (three before (decimal t.row) behind t.low.items h.low
+    (one d d refl (three before (decimal (t.row + 1)) behind t.high.items h.high (one c c refl (three before (decimal (t.row + 1)) behind t.high.items h.high
+    (one c c refl (three before (decimal t.row) end t.last.items h.last no_parts)))))))))
 
 -- what is put behind the text for a line is the line
-pub line_together : (t : RowTexts) → AreLineTexts t → (front left right low high last c d : List ℕ) → front ≡ codes "POLYGON ((" → left ≡ c → right ≡ d
-    → low ≡ t.low.items → high ≡ t.high.items → last ≡ t.last.items
-    → texts (front ∷ left ∷ low ∷ right ∷ low ∷ right ∷ high ∷ left ∷ high ∷ left ∷ last ∷ []) ≡ line_by c d (decimal t.row) (decimal (t.row + 1))
-line_together t h front left right low high last c d is_front is_c is_d is_low is_high is_last =
-    (one (codes "POLYGON ((") front is_front (corners (codes " ") (codes ",") (codes "))\n") t h left right low high last c d is_c is_d is_low is_high is_last)).is
+pub line_together : (old middle new c d : List ℕ) (t : RowTexts) → AreLineTexts t → middle ≡ old ++ codes "POLYGON ((" → new ≡ middle ++ corners c d t
+    → new ≡ old ++ line_by c d (decimal t.row) (decimal (t.row + 1))
+line_together old middle new c d t h m e =
+    e ∙ (ap (λ z. z ++ corners c d t) m ∙ (append_assoc old (codes "POLYGON ((") (corners c d t)
+    ∙ ap (λ z. old ++ z) (one (codes "POLYGON ((") (codes "POLYGON ((") refl (corners_together (codes " ") (codes ",") (codes "))\n") t h c d)).is))
 
 -- and for a feature, the feature
-pub feature_together : (t : RowTexts) → AreFeatureTexts t → (first front number middle left right low high last b i c d : List ℕ) → first ≡ b
-    → front ≡ codes "{\"type\":\"Feature\",\"properties\":{\"name\":\"g" → number ≡ i → middle ≡ codes "\"},\"geometry\":{\"type\":\"Polygon\",\"coordinates\":[[["
-    → left ≡ c → right ≡ d → low ≡ t.low.items → high ≡ t.high.items → last ≡ t.last.items
-    → texts (first ∷ front ∷ number ∷ middle ∷ left ∷ low ∷ right ∷ low ∷ right ∷ high ∷ left ∷ high ∷ left ∷ last ∷ []) ≡ b ++ feature_by i c d (decimal t.row) (decimal (t.row + 1))
-feature_together t h first front number middle left right low high last b i c d is_first is_front is_number is_middle is_c is_d is_low is_high is_last =
-    (one b first is_first (one (codes "{\"type\":\"Feature\",\"properties\":{\"name\":\"g") front is_front (one i number is_number
-    (one (codes "\"},\"geometry\":{\"type\":\"Polygon\",\"coordinates\":[[[") middle is_middle
-    (corners (codes ".5,") (codes "],[") (codes "]]]}}") t h left right low high last c d is_c is_d is_low is_high is_last))))).is
+pub feature_together : (old middle new b i c d : List ℕ) (t : RowTexts) → AreFeatureTexts t
+    → middle ≡ old ++ texts (b ∷ codes "{\"type\":\"Feature\",\"properties\":{\"name\":\"g" ∷ i ∷ codes "\"},\"geometry\":{\"type\":\"Polygon\",\"coordinates\":[[[" ∷ [])
+    → new ≡ middle ++ corners c d t → new ≡ old ++ (b ++ feature_by i c d (decimal t.row) (decimal (t.row + 1)))
+feature_together old middle new b i c d t h m e =
+    let front = codes "{\"type\":\"Feature\",\"properties\":{\"name\":\"g" in let between = codes "\"},\"geometry\":{\"type\":\"Polygon\",\"coordinates\":[[[" in
+    let four = b ∷ front ∷ i ∷ between ∷ [] in
+    e ∙ (ap (λ z. z ++ corners c d t) m ∙ (append_assoc old (texts four) (corners c d t) ∙ ap (λ z. old ++ z)
+    (ap (λ z. texts four ++ z) (corners_together (codes ".5,") (codes "],[") (codes "]]]}}") t h c d).is ∙ sym (flat_map-append (λ (part : List ℕ). part) four (corner_parts (codes ".5,") (codes "],[") (codes "]]]}}") t.row c d)))))
+
+-- four texts, by what they are
+pub four_texts : (a b c d p q r s : List ℕ) → a ≡ p → b ≡ q → c ≡ r → d ≡ s → texts (a ∷ b ∷ c ∷ d ∷ []) ≡ texts (p ∷ q ∷ r ∷ s ∷ [])
+four_texts a b c d p q r s ea eb ec ed = sym (one a p (sym ea) (one b q (sym eb) (one c r (sym ec) (one d s (sym ed) no_parts)))).is

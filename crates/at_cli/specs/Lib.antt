@@ -15,3 +15,4 @@ pub mod Steps
 pub mod Said
 pub mod Endings
 pub mod Squares
+pub mod Forms

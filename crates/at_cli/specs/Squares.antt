@@ -16,3 +16,7 @@ AreLineTexts t = AreRowTexts (codes " ") (codes ",") (codes "))\n") t
 -- the texts of a row of features
 abbrev pub AreFeatureTexts : RowTexts → Type 0
 AreFeatureTexts t = AreRowTexts (codes ".5,") (codes "],[") (codes "]]]}}") t
+
+-- the corners of a square between two columns, by the texts of its row
+abbrev pub corners : List ℕ → List ℕ → RowTexts → List ℕ
+corners c d t = texts (c ∷ t.low.items ∷ d ∷ t.low.items ∷ d ∷ t.high.items ∷ c ∷ t.high.items ∷ c ∷ t.last.items ∷ [])

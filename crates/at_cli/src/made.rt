@@ -6,7 +6,7 @@ ghost use Rattle.std.specs.List.{flat_map, range_with_len};
 ghost use Rattle.at_cli.specs.Made.{row as row_of, line_by, wkt_line, feature_by, before_feature as text_before};
 ghost use Rattle.at_cli.specs.Made.{feature_line, wkt_text as text_of_wkt, geojson_text as text_of_geojson, is_made};
 ghost use Rattle.at_cli.specs.Made.{IsMadeText};
-ghost use Rattle.at_cli.specs.Squares.{AreLineTexts, AreFeatureTexts};
+ghost use Rattle.at_cli.specs.Squares.{AreLineTexts, AreFeatureTexts, corners};
 ghost use Rattle.at_cli.specs.Values.{IsWhole, IsFileName};
 
 use crate::squares::{RowTexts, push_all};
@@ -68,32 +68,34 @@ fn feature_row(alloc: Global, row: u32) -> Result<RowTexts, AllocError>
     RowTexts::new(alloc, row, ".5,", "],[", "]]]}}")
 }
 
+/// Puts the corners of a square between two columns behind the text.
+fn push_corners(
+    text: &mut Vec<u8>,
+    left: &str,
+    right: &str,
+    row: &RowTexts,
+) -> Result<(), AllocError>
+    ensures { OnOk result (text.new.items ≡ text.old.items ++ corners left.now right.now row.now) }
+{
+    let left = left.as_bytes();
+    let right = right.as_bytes();
+    let low = row.low.as_slice();
+    let high = row.high.as_slice();
+    let last = row.last.as_slice();
+    push_all(
+        text,
+        &[left, low, right, low, right, high, left, high, left, last],
+    )
+}
+
 /// Puts the line of a square with these digits behind the text.
 fn push_line(text: &mut Vec<u8>, left: &str, right: &str, row: &RowTexts) -> Result<(), AllocError>
     requires { AreLineTexts row.now }
     ensures { OnOk result (text.new.items ≡ text.old.items
         ++ line_by left.now right.now (decimal row.now.row) (decimal (row.now.row + 1))) }
 {
-    let left = left.as_bytes();
-    let right = right.as_bytes();
-    let low = row.low.as_slice();
-    let high = row.high.as_slice();
-    push_all(
-        text,
-        &[
-            b"POLYGON ((".as_slice(),
-            left,
-            low,
-            right,
-            low,
-            right,
-            high,
-            left,
-            high,
-            left,
-            row.last.as_slice(),
-        ],
-    )
+    text.extend_from_slice(b"POLYGON ((")?;
+    push_corners(text, left, right, row)
 }
 
 /// Puts the feature of a square with these digits behind the text.
@@ -109,10 +111,6 @@ fn push_feature(
     ensures { OnOk result (text.new.items ≡ text.old.items ++ (before.now
         ++ feature_by number.now left.now right.now (decimal row.now.row) (decimal (row.now.row + 1)))) }
 {
-    let left = left.as_bytes();
-    let right = right.as_bytes();
-    let low = row.low.as_slice();
-    let high = row.high.as_slice();
     push_all(
         text,
         &[
@@ -120,18 +118,9 @@ fn push_feature(
             b"{\"type\":\"Feature\",\"properties\":{\"name\":\"g".as_slice(),
             number.as_bytes(),
             b"\"},\"geometry\":{\"type\":\"Polygon\",\"coordinates\":[[[".as_slice(),
-            left,
-            low,
-            right,
-            low,
-            right,
-            high,
-            left,
-            high,
-            left,
-            row.last.as_slice(),
         ],
-    )
+    )?;
+    push_corners(text, left, right, row)
 }
 
 /// Puts the line of square `index` behind the text.

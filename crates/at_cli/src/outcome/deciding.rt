@@ -49,17 +49,10 @@ fn answer_file<G: Gate, R: Threads + Sync>(
     let Ok(cuts) = Cuts::even(alloc, base_of(bytes), bytes.len() as u32, line.blocks) else {
         return Err(RunFault::Memory);
     };
+    let form = form_of(line, line.first.as_str());
+    let (digits, how, workers) = (line.digits, line.how, line.workers);
     answer_as(
-        rt,
-        alloc,
-        bytes,
-        form_of(line, line.first.as_str()),
-        &cuts,
-        query,
-        line.digits,
-        line.how,
-        line.workers,
-        gate,
+        rt, alloc, bytes, form, &cuts, query, digits, how, workers, gate,
     )
 }
 

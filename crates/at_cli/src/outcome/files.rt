@@ -9,14 +9,14 @@ ghost use Rattle.at_run.specs.Blocks.{NoneGivenUp, SomeGivenUp};
 ghost use Rattle.at_run.specs.Answers.{IfFound};
 ghost use Rattle.at_seq.specs.Answers.{HasProperEntries};
 ghost use Rattle.at_cli.specs.Answers.{HasFaultAs, IsPartAs, IsAnswerAs, IsJoinAs, IsJoinFaultAs};
+ghost use Rattle.at_cli.specs.Forms.{plain_form as plain_form_of};
 ghost use Rattle.at_cli.specs.declared.words.form.FileForm.TheVariants as forms;
 
 use crate::words::form::FileForm;
 use at_crew::Gate;
 use at_fixed::Coords;
-use at_join::pairs_grid;
 use at_query::{Answer, Entries, Part, Query, Verb, answer_of};
-use at_run::{Cuts, Form, JoinFault, RunFault, entries_of, of_all, part};
+use at_run::{Cuts, Form, JoinFault, RunFault, entries_of, join_with, of_all, part};
 use at_seq::{SeqEnd, part_seq};
 use std::alloc::Global;
 use std::thread::Threads;
@@ -50,6 +50,17 @@ fn part_of_seq<G: Gate, R: Threads + Sync>(
     }
 }
 
+/// The form of at_run, and None for sequences, which at_run doesn't know.
+fn plain_form(form: FileForm) -> Option<Form>
+    ensures { result ≡ plain_form_of form }
+{
+    match form {
+        FileForm::GeoJson => Some(Form::GeoJson),
+        FileForm::Wkt => Some(Form::Wkt),
+        FileForm::Seq => None,
+    }
+}
+
 /// The part of a file's features under a query, or the file's first fault.
 fn part_as<G: Gate, R: Threads + Sync>(
     rt: &R,
@@ -73,32 +84,11 @@ fn part_as<G: Gate, R: Threads + Sync>(
     ensures proper { query.now.verb ≡ Verb.Join → IfOk result HasProperEntries }
     ensures given_up { SomeGivenUp (G.given_up gate.now) 0 (length cuts.now - 1) → result ≡ Err RunFault.Memory }
 {
-    match form {
-        FileForm::GeoJson => part(
-            rt,
-            alloc,
-            bytes,
-            Form::GeoJson,
-            cuts,
-            query,
-            digits,
-            how,
-            workers,
-            gate,
+    match plain_form(form) {
+        Some(form) => part(
+            rt, alloc, bytes, form, cuts, query, digits, how, workers, gate,
         ),
-        FileForm::Wkt => part(
-            rt,
-            alloc,
-            bytes,
-            Form::Wkt,
-            cuts,
-            query,
-            digits,
-            how,
-            workers,
-            gate,
-        ),
-        FileForm::Seq => part_of_seq(rt, alloc, bytes, cuts, query, digits, how, workers, gate),
+        None => part_of_seq(rt, alloc, bytes, cuts, query, digits, how, workers, gate),
     }
 }
 
@@ -125,12 +115,10 @@ pub fn answer_as<G: Gate, R: Threads + Sync>(
         (λ end. IfFound end (λ fault. HasFaultAs form digits how bytes.now (Some fault))) }
     ensures given_up { SomeGivenUp (G.given_up gate.now) 0 (length cuts.now - 1) → result ≡ Err RunFault.Memory }
 {
-    match part_as(
+    let part = part_as(
         rt, alloc, bytes, form, cuts, query, digits, how, workers, gate,
-    ) {
-        Ok(part) => Ok(answer_of(part)),
-        Err(end) => Err(end),
-    }
+    )?;
+    Ok(answer_of(part))
 }
 
 /// The entries of a file's features under a query, or the file's first fault.
@@ -158,12 +146,10 @@ fn entries_as<G: Gate, R: Threads + Sync>(
     ensures proper { IfOk result AreProper }
     ensures given_up { IfOk result (λ _. NoneGivenUp (G.given_up gate.now) 0 (length cuts.now - 1)) }
 {
-    match part_as(
+    let part = part_as(
         rt, alloc, bytes, form, cuts, query, digits, how, workers, gate,
-    ) {
-        Ok(part) => Ok(entries_of(part)),
-        Err(end) => Err(end),
-    }
+    )?;
+    Ok(entries_of(part))
 }
 
 /// The answer to a join over the features of two files, each in a form of its own, or the first fault of the first file
@@ -207,23 +193,15 @@ pub fn join_as<G: Gate, R: Threads + Sync>(
     ensures gate_b { IfOk result (λ _. NoneGivenUp (G.given_up gate.now) 0 (length cuts_b.now - 1)) }
     ensures gate_cells { IfOk result (λ _. NoneGivenUp (G.given_up gate.now) 0 64) }
 {
+    let all = of_all(alloc);
     let first = match entries_as(
         rt, alloc, a, form_a, cuts_a, query, digits, how, workers, gate,
     ) {
         Ok(entries) => entries,
-        Err(RunFault::Found(fault)) => return Err(JoinFault::First(fault)),
-        Err(RunFault::Memory) => return Err(JoinFault::Memory),
+        Err(end) => return Err(end.of_first()),
     };
-    let all = of_all(alloc);
-    let second = match entries_as(
+    let second = entries_as(
         rt, alloc, b, form_b, cuts_b, &all, digits, how, workers, gate,
-    ) {
-        Ok(entries) => entries,
-        Err(RunFault::Found(fault)) => return Err(JoinFault::Second(fault)),
-        Err(RunFault::Memory) => return Err(JoinFault::Memory),
-    };
-    match pairs_grid(rt, alloc, first, second, workers, gate) {
-        Ok(pairs) => Ok(Answer::Pairs(pairs)),
-        Err(_) => Err(JoinFault::Memory),
-    }
+    );
+    join_with(rt, alloc, first, second, workers, gate)
 }

@@ -1,10 +1,25 @@
+-- The second file is read where the first has entries, and both are joined where the second has entries too.
+use Rattle.std.proofs.Common.{◌-◌, List, length, Result, Some, MatchResult, IfOk, subst}
+use Rattle.at_query.specs.declared.answer.parts.Entry.{Entry}
+use Rattle.at_query.specs.declared.answer.parts.Part.TheVariants.{Entries}
+use Rattle.at_run.specs.declared.faults.RunFault.{RunFault}
+use Rattle.at_run.specs.Answers.{IfFound}
+use Rattle.at_run.specs.Blocks.{NoneGivenUp}
+use Rattle.at_run.proofs.JoinEnds.{joins_by, joins_ok}
+use Rattle.at_cli.specs.Answers.{HasFaultAs, IsPartAs, IsJoinAs, IsJoinFaultAs}
 use Rattle.at_cli.proofs.FormParts.{joined_as}
 use Rattle.at_cli.proofs.outcome.files.join_as.Goals as goal
 
-pub returns-in-Ok-pairs_grid-clause-answer : goal.returns-in-Ok-pairs_grid-clause-answer
-returns-in-Ok-pairs_grid-clause-answer g c =
-    joined_as c.args.digits c.args.how c.args.form_a c.args.form_b c.args.query.now c.of_all-all.result c.args.a.now c.args.b.now c.in-Ok.entries c.in-Ok-entries_as.entries c.in-Ok-pairs_grid.pairs
-    c.requires.join c.of_all-all.ensures.verb c.of_all-all.ensures.tests c.in-Ok.ensures.part c.in-Ok-entries_as.ensures.part c.in-Ok-pairs_grid.ensures.pairs
+pub returns-clause-answer : goal.returns-clause-answer
+returns-clause-answer g c =
+    let digits = c.args.digits in let how = c.args.how in let a = c.args.a.now in let b = c.args.b.now in let all = c.of_all-all.result in
+    let M : Result (List Entry) RunFault → Type 0 = λ z. MatchResult z (λ entries. IsPartAs c.args.form_b digits how all b (Entries entries)) (λ end. IfFound end (λ fault. HasFaultAs c.args.form_b digits how b (Some fault))) in
+    joins_by c.in-Ok.entries c.entries_as-second.result c.join_with.result (IsJoinAs c.args.form_a c.args.form_b digits how c.args.query.now a b) (IsJoinFaultAs c.args.form_a c.args.form_b digits how a b) c.join_with.ensures.answer
+    (λ entries pairs e met. joined_as digits how c.args.form_a c.args.form_b c.args.query.now all a b c.in-Ok.entries entries pairs c.requires.join c.of_all-all.ensures.verb c.of_all-all.ensures.tests c.in-Ok.ensures.part (subst M e c.entries_as-second.ensures.part) met)
+    (λ fault e. (c.in-Ok.ensures.part.faultless, subst M e c.entries_as-second.ensures.part)) tt
 
-pub returns-in-Ok-pairs_grid-clause-gate_cells : goal.returns-in-Ok-pairs_grid-clause-gate_cells
-returns-in-Ok-pairs_grid-clause-gate_cells g c n low high h = c.in-Ok-pairs_grid.ensures.gate n high h
+pub returns-clause-gate_b : goal.returns-clause-gate_b
+returns-clause-gate_b g c =
+    let none = NoneGivenUp (g.G.Gate.given_up c.args.gate.now) 0 (length c.args.cuts_b.now - 1) in
+    let M : Result (List Entry) RunFault → Type 0 = λ z. IfOk z (λ _. none) in
+    joins_ok c.in-Ok.entries c.entries_as-second.result c.join_with.result none c.join_with.ensures.answer (λ entries e. subst M e c.entries_as-second.ensures.given_up)
