@@ -367,17 +367,15 @@ fn tooth_is_as_built(alloc: Global, bands: &Bands, tooth: i32) -> Result<bool, F
 }
 
 /// How many of a hundred of a comb's teeth are as they were built, up to the first that isn't.
-fn count_as_built(alloc: Global, bands: &Bands) -> Result<u32, Fail>
+fn count_as_built(alloc: Global, bands: &Bands) -> Result<i32, Fail>
     requires { IsShapeInRange bands.now }
 {
-    let mut count = 0u32;
     for index in 0..100i32 {
         if !tooth_is_as_built(alloc, bands, index.wrapping_mul(101))? {
-            return Ok(count);
+            return Ok(index);
         }
-        count = count.wrapping_add(1);
     }
-    Ok(count)
+    Ok(100)
 }
 
 #[test]

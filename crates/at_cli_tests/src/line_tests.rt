@@ -176,7 +176,7 @@ fn line_text(alloc: Global, line: &Line) -> Result<String, Fail> {
 }
 
 /// The words of a row.
-fn words_in(alloc: Global, text: &str) -> Result<Vec<String>, Fail> {
+pub(crate) fn words_in(alloc: Global, text: &str) -> Result<Vec<String>, Fail> {
     let mut words = Vec::new(alloc);
     for word in text.split('|') {
         words.push(String::from_str(alloc, word)?)?;

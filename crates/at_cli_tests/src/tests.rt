@@ -1,5 +1,6 @@
 //! Tables of whole runs over a shelf in memory.
 
+use crate::line_tests::words_in;
 use at_cli::{tell_no_memory, top};
 use at_crew::Free;
 use at_io::{Failed, MemShelf, MemSink, NamedFile, PutFail, Shelf, Sink};
@@ -36,6 +37,14 @@ const PLAIN: Run<'static> = Run {
     status: 0,
     out: "1\n",
     err: "",
+};
+
+/// The same run where a read fails.
+const READ_FAILED: Run<'static> = Run {
+    status: 3,
+    out: "",
+    err: "p.wkt: read failed\n",
+    ..PLAIN
 };
 
 /// The room of each sink.
@@ -116,17 +125,11 @@ fn failing_files_and_sinks(rt: HostRuntime) -> Result<(), Fail> {
         },
         Run {
             failing_calls: &[2],
-            status: 3,
-            out: "",
-            err: "p.wkt: read failed\n",
-            ..PLAIN
+            ..READ_FAILED
         },
         Run {
             failing_calls: &[0],
-            status: 3,
-            out: "",
-            err: "p.wkt: read failed\n",
-            ..PLAIN
+            ..READ_FAILED
         },
         Run {
             failing_calls: &[8],
@@ -381,15 +384,6 @@ fn bytes_of(alloc: Global, text: &str) -> Result<Vec<u8>, Fail> {
         })?;
     }
     Ok(bytes)
-}
-
-/// The words of a row.
-fn words_in(alloc: Global, text: &str) -> Result<Vec<String>, Fail> {
-    let mut words = Vec::new(alloc);
-    for word in text.split('|') {
-        words.push(String::from_str(alloc, word)?)?;
-    }
-    Ok(words)
 }
 
 /// The line that a row stands for.

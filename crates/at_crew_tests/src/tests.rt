@@ -1,6 +1,6 @@
 //! Crews of few blocks, step by step and by many threads.
 
-ghost use Rattle.std.specs.Prelude.{◌≡◌, ℕ, ◌+◌, ◌-◌, ◌<◌, ◌≤◌, [], Some, None, false};
+ghost use Rattle.std.specs.Prelude.{◌≡◌, ℕ, ◌+◌, ◌-◌, ◌<◌, ◌≤◌, [], Some, None, false, true};
 ghost use Rattle.at_crew.specs.Nodes.{IsBlockCount};
 ghost use Rattle.at_crew.specs.Shown.{IsPassOf, IsReady, job_of, blocks_of, block_held, has_ended};
 
@@ -83,6 +83,17 @@ fn claims<J: Job>(rt: &impl Abort, crew: &Crew<J>, pass: &mut Pass<J>, block: u3
     assert!(rt; pass.last() == Some(block), "block {block} is the last");
 }
 
+/// No block is left to the pass, which is over.
+fn claims_none<J: Job>(rt: &impl Abort, crew: &Crew<J>, pass: &mut Pass<J>)
+    requires { IsReady crew.now pass.old }
+    ensures pass { IsPassOf crew.now pass.new }
+    ensures over { has_ended pass.new ≡ true }
+{
+    let None = crew.claim(pass) else {
+        panic!(rt; "no block is left")
+    };
+}
+
 // The pass runs the block that it holds, and its part is merged at so many nodes.
 fn settles<J: Job>(
     rt: &impl Abort,
@@ -131,9 +142,7 @@ fn one_pass_over_four_blocks(rt: HostRuntime) -> Result<(), Fail> {
     claims(&rt, &crew, &mut pass, 3);
     settles(&rt, alloc, &crew, &job, &mut pass, 2);
     assert!(rt; !pass.is_over());
-    let None = crew.claim(&mut pass) else {
-        panic!(rt; "no block is left")
-    };
+    claims_none(&rt, &crew, &mut pass);
     assert!(rt; pass.is_over() && pass.last() == Some(4));
     chief.take_back(&crew, pass);
     assert!(rt; counts(&chief, 0, 0));
@@ -150,9 +159,7 @@ fn one_pass_over_one_block(rt: HostRuntime) -> Result<(), Fail> {
     let mut pass = chief.pass(&crew);
     claims(&rt, &crew, &mut pass, 0);
     settles(&rt, alloc, &crew, &job, &mut pass, 0);
-    let None = crew.claim(&mut pass) else {
-        panic!(rt; "no block is left")
-    };
+    claims_none(&rt, &crew, &mut pass);
     chief.take_back(&crew, pass);
     assert!(rt; crew.close(chief).whole == 1);
     Ok(())

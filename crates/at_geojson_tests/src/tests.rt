@@ -179,6 +179,7 @@ fn compare<R: Abort + AllocGlobal>(rt: &R, row: Row) -> Result<(), Fail> {
     Ok(())
 }
 
+/// Compares each row with what is found.
 pub fn compare_rows<R: Abort + AllocGlobal>(rt: &R, rows: &[Row]) -> Result<(), Fail> {
     for row in rows {
         compare(rt, *row)?;

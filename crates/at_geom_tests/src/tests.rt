@@ -105,6 +105,7 @@ const IN_CORNERS: [(i32, i32, bool); 5] = [
 ];
 
 /// A shape: points, at most one line, and at most one polygon.
+#[derive(Clone, Copy)]
 struct Parts {
     points: &'static [(i32, i32)],
     line: &'static [(i32, i32)],
@@ -142,82 +143,56 @@ const AROUND_SQUARE: [Parts; 10] = [
     // a point in the hole
     Parts {
         points: &[(5, 5)],
-        line: &[],
-        exterior: &[],
-        hole: &[],
-        meets: false,
+        ..EMPTY
     },
     // a point on the hole
     Parts {
         points: &[(4, 4)],
-        line: &[],
-        exterior: &[],
-        hole: &[],
         meets: true,
+        ..EMPTY
     },
     // a line across
     Parts {
-        points: &[],
         line: &[(-1, 5), (11, 5)],
-        exterior: &[],
-        hole: &[],
         meets: true,
+        ..EMPTY
     },
     // a line within
     Parts {
-        points: &[],
         line: &[(1, 1), (2, 2)],
-        exterior: &[],
-        hole: &[],
         meets: true,
+        ..EMPTY
     },
     // a line in the hole
     Parts {
-        points: &[],
         line: &[(5, 5), (5, 5)],
-        exterior: &[],
-        hole: &[],
-        meets: false,
+        ..EMPTY
     },
     // a polygon around
     Parts {
-        points: &[],
-        line: &[],
         exterior: &[(-9, -9), (90, -9), (-9, 90), (-9, -9)],
-        hole: &[],
         meets: true,
+        ..EMPTY
     },
     // a polygon beside
     Parts {
-        points: &[],
-        line: &[],
         exterior: &[(11, 0), (20, 0), (20, 10), (11, 0)],
-        hole: &[],
-        meets: false,
+        ..EMPTY
     },
     // an open exterior, whose only edge the rays of the square cross
     Parts {
-        points: &[],
-        line: &[],
         exterior: &[(30, -5), (30, 20)],
-        hole: &[],
         meets: true,
+        ..EMPTY
     },
     // nothing
-    Parts {
-        points: &[],
-        line: &[],
-        exterior: &[],
-        hole: &[],
-        meets: false,
-    },
+    EMPTY,
     // the square itself
     Parts {
-        points: &[],
-        line: &[],
         exterior: &EXTERIOR,
         hole: &HOLE,
         meets: true,
+        ..EMPTY
     },
 ];
 

@@ -66,13 +66,19 @@ fn are_whole_curves(alloc: Global, counts: &[u32]) -> Result<bool, Fail> {
     Ok(true)
 }
 
+/// Adds the position of that number, if it is in the set.
+fn add_chosen(builder: &mut HullBuilder, code: u32, number: u32) -> Result<(), Fail> {
+    if code.wrapping_shr(number) % 2 == 1 {
+        builder.add(&[cell(number)])?;
+    }
+    Ok(())
+}
+
 /// The positions of a set whose numbers are at least `from` and below `to`, added one by one.
 fn rising(alloc: Global, code: u32, from: u32, to: u32) -> Result<HullBuilder, Fail> {
     let mut builder = HullBuilder::new(alloc);
     for number in from..to {
-        if code.wrapping_shr(number) % 2 == 1 {
-            builder.add(&[cell(number)])?;
-        }
+        add_chosen(&mut builder, code, number)?;
     }
     Ok(builder)
 }
@@ -81,10 +87,7 @@ fn rising(alloc: Global, code: u32, from: u32, to: u32) -> Result<HullBuilder, F
 fn falling(alloc: Global, code: u32) -> Result<HullBuilder, Fail> {
     let mut builder = HullBuilder::new(alloc);
     for left in 0..9 {
-        let number = 8 - left;
-        if code.wrapping_shr(number) % 2 == 1 {
-            builder.add(&[cell(number)])?;
-        }
+        add_chosen(&mut builder, code, 8 - left)?;
     }
     Ok(builder)
 }

@@ -11,6 +11,7 @@ use std::test::Fail;
 const FAR: i64 = 300_000_000_000_000;
 
 /// Positions, and their hull.
+#[derive(Drop)]
 struct Row {
     ends: &'static [(i64, i64)],
     hull: &'static [(i64, i64)],
@@ -160,62 +161,36 @@ static FAR_OUT: [Row; 5] = [
     },
 ];
 
-/// The rings of squares of one unit: one, two in a row, and three of which one stands on another.
-/// Then a grid of three by three.
-static SQUARES: [Row; 4] = [
-    Row {
-        ends: &[(0, 0), (1, 0), (1, 1), (0, 1), (0, 0)],
-        hull: &[(0, 0), (1, 0), (1, 1), (0, 1)],
-    },
-    Row {
-        ends: &[
-            (0, 0),
-            (1, 0),
-            (1, 1),
-            (0, 1),
-            (0, 0),
-            (1, 0),
-            (2, 0),
-            (2, 1),
-            (1, 1),
-            (1, 0),
-        ],
-        hull: &[(0, 0), (2, 0), (2, 1), (0, 1)],
-    },
-    Row {
-        ends: &[
-            (0, 0),
-            (1, 0),
-            (1, 1),
-            (0, 1),
-            (0, 0),
-            (1, 0),
-            (2, 0),
-            (2, 1),
-            (1, 1),
-            (1, 0),
-            (0, 1),
-            (1, 1),
-            (1, 2),
-            (0, 2),
-            (0, 1),
-        ],
-        hull: &[(0, 0), (2, 0), (2, 1), (1, 2), (0, 2)],
-    },
-    Row {
-        ends: &[
-            (1, 1),
-            (0, 1),
-            (2, 2),
-            (2, 0),
-            (1, 0),
-            (0, 0),
-            (0, 2),
-            (1, 2),
-            (2, 1),
-        ],
-        hull: &[(0, 0), (2, 0), (2, 2), (0, 2)],
-    },
+/// The rings of three squares of one unit, of which the second stands beside the first, and the third on it.
+static THREE_SQUARES: [(i64, i64); 15] = [
+    (0, 0),
+    (1, 0),
+    (1, 1),
+    (0, 1),
+    (0, 0),
+    (1, 0),
+    (2, 0),
+    (2, 1),
+    (1, 1),
+    (1, 0),
+    (0, 1),
+    (1, 1),
+    (1, 2),
+    (0, 2),
+    (0, 1),
+];
+
+/// A grid of three by three.
+static GRID: [(i64, i64); 9] = [
+    (1, 1),
+    (0, 1),
+    (2, 2),
+    (2, 0),
+    (1, 0),
+    (0, 0),
+    (0, 2),
+    (1, 2),
+    (2, 1),
 ];
 
 /// Nothing on one side, lines that cross, parts of one line, a square beside another and within one,
@@ -356,7 +331,25 @@ fn limits_of_coordinates(rt: HostRuntime) -> Result<(), Fail> {
 
 #[test]
 fn squares_in_rows(rt: HostRuntime) -> Result<(), Fail> {
-    assert_eq!(rt; rows_told(rt.alloc(), &SQUARES)?, 4);
+    let rows = [
+        Row {
+            ends: &THREE_SQUARES[..5],
+            hull: &[(0, 0), (1, 0), (1, 1), (0, 1)],
+        },
+        Row {
+            ends: &THREE_SQUARES[..10],
+            hull: &[(0, 0), (2, 0), (2, 1), (0, 1)],
+        },
+        Row {
+            ends: &THREE_SQUARES,
+            hull: &[(0, 0), (2, 0), (2, 1), (1, 2), (0, 2)],
+        },
+        Row {
+            ends: &GRID,
+            hull: &[(0, 0), (2, 0), (2, 2), (0, 2)],
+        },
+    ];
+    assert_eq!(rt; rows_told(rt.alloc(), &rows)?, 4);
     Ok(())
 }
 

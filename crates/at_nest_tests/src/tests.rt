@@ -235,14 +235,8 @@ fn compare_from_right<R: Abort + AllocGlobal>(rt: &R, text: &[u8], expected: Res
     for first in 0..=end {
         for second in first..=end {
             let found = answer_from_right(rt.alloc(), text, first, second);
-            check(
-                rt,
-                "from the right at",
-                text,
-                &[first, second],
-                found,
-                expected,
-            );
+            let places = [first, second];
+            check(rt, "from the right at", text, &places, found, expected);
         }
     }
 }
@@ -333,14 +327,8 @@ fn compare_pairs<R: Abort + AllocGlobal>(rt: &R, text: &[u8], expected: Result<u
         for first in 0..=second {
             for third in second..=end {
                 let found = answer_in_pairs(rt.alloc(), text, first, second, third);
-                check(
-                    rt,
-                    "in pairs at",
-                    text,
-                    &[first, second, third],
-                    found,
-                    expected,
-                );
+                let places = [first, second, third];
+                check(rt, "in pairs at", text, &places, found, expected);
             }
         }
     }

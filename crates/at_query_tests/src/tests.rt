@@ -24,7 +24,7 @@ use std::alloc::{AllocError, Global};
 use std::test::Fail;
 
 /// A shape: points, and at most one line and one ring.
-#[derive(Drop)]
+#[derive(Clone, Copy)]
 struct Outline {
     at: u32,
     points: &'static [(i32, i32)],
@@ -34,93 +34,80 @@ struct Outline {
     meets: bool,
 }
 
+/// A shape of nothing, which each row changes.
+const NOTHING: Outline = Outline {
+    at: 0,
+    points: &[],
+    line: &[],
+    ring: &[],
+    is_in: false,
+    meets: false,
+};
+
 /// Shapes, and whether they are in the box (0, 0) to (10, 10), and meet it.
 static AROUND_BOX: [Outline; 10] = [
     Outline {
         at: 0,
         points: &[(5, 5)],
-        line: &[],
-        ring: &[],
         is_in: true,
         meets: true,
+        ..NOTHING
     },
     // a corner
     Outline {
         at: 9,
         points: &[(10, 10)],
-        line: &[],
-        ring: &[],
         is_in: true,
         meets: true,
+        ..NOTHING
     },
     Outline {
         at: 21,
         points: &[(11, 5)],
-        line: &[],
-        ring: &[],
-        is_in: false,
-        meets: false,
+        ..NOTHING
     },
     // one of two points
     Outline {
         at: 32,
         points: &[(5, 5), (11, 5)],
-        line: &[],
-        ring: &[],
-        is_in: false,
         meets: true,
+        ..NOTHING
     },
     Outline {
         at: 50,
-        points: &[],
         line: &[(1, 1), (9, 9)],
-        ring: &[],
         is_in: true,
         meets: true,
+        ..NOTHING
     },
     // a line across
     Outline {
         at: 77,
-        points: &[],
         line: &[(-5, 5), (15, 5)],
-        ring: &[],
-        is_in: false,
         meets: true,
+        ..NOTHING
     },
     Outline {
         at: 99,
-        points: &[],
         line: &[(20, 0), (20, 9)],
-        ring: &[],
-        is_in: false,
-        meets: false,
+        ..NOTHING
     },
     Outline {
         at: 120,
-        points: &[],
-        line: &[],
         ring: &[(2, 2), (4, 2), (4, 4), (2, 2)],
         is_in: true,
         meets: true,
+        ..NOTHING
     },
     // a polygon around the box
     Outline {
         at: 150,
-        points: &[],
-        line: &[],
         ring: &[(-9, -9), (30, -9), (30, 30), (-9, 30), (-9, -9)],
-        is_in: false,
         meets: true,
+        ..NOTHING
     },
     // nothing
-    Outline {
-        at: 200,
-        points: &[],
-        line: &[],
-        ring: &[],
-        is_in: false,
-        meets: false,
-    },
+    Outline { at: 200, ..NOTHING },
 ];
 
 /// What each verb prints of those shapes with no test, with one digit behind the point.

@@ -9,9 +9,9 @@ use at_crew::{Free, Gate};
 use at_fixed::Coords;
 use at_geom::{Extent, Pos};
 use at_lex::Units;
-use at_query::{Query, Test, Tests, Verb, answer_text};
-use at_run::{Cuts, Form, JoinFault, RunFault, answer, answer_join};
-use at_text::{Fault, base_of};
+use at_query::{Entries, Query, Test, Tests, Verb, answer_text};
+use at_run::{Cuts, Form, JoinFault, RunFault, answer, answer_join, join_with};
+use at_text::{Fault, FaultKind, base_of};
 use std::alloc::{AllocError, Global};
 use std::process::Abort;
 use std::sync::atomic::{AtomicU64, Ordering};
@@ -477,6 +477,28 @@ fn joins_of_two_forms(rt: HostRuntime) -> Result<(), Fail> {
     Ok(())
 }
 
+/// What two files are told of where one of them has no entries.
+#[test]
+fn ends_of_joins(rt: HostRuntime) -> Result<(), Fail> {
+    let fault = Fault {
+        kind: FaultKind::Syntax,
+        at: 3,
+    };
+    assert!(rt; RunFault::Found(fault).of_first() == JoinFault::First(fault));
+    assert!(rt; RunFault::Memory.of_first() == JoinFault::Memory);
+    for (end, told) in [
+        (RunFault::Found(fault), JoinFault::Second(fault)),
+        (RunFault::Memory, JoinFault::Memory),
+    ] {
+        let first = Entries::from_vec(Vec::new(rt.alloc()));
+        match join_with(&rt, rt.alloc(), first, Err(end), 2, &Free) {
+            Ok(_) => assert!(rt; false, "an answer"),
+            Err(found) => assert!(rt; found == told),
+        }
+    }
+    Ok(())
+}
+
 /// A square of the side 2 and a point beside it, under every pair of cuts.
 fn told_of_square<R: Threads + Sync>(rt: &R, alloc: Global, verb: Verb) -> Result<String, Fail>
     requires { verb ≢ Verb.Join }
@@ -625,11 +647,17 @@ impl Gate for Without {
     }
 }
 
-/// Two lines, one in each of two blocks, where the gate gives up a block.
-fn told_without<R: Threads + Sync>(rt: &R, alloc: Global, block: u32) -> Result<String, Fail> {
+/// What a file of two lines is found to be in two blocks, of which the second begins at the place, by two passes under
+/// the gate.
+fn told_of_two<R: Threads + Sync, G: Gate>(
+    rt: &R,
+    alloc: Global,
+    place: u32,
+    gate: &G,
+) -> Result<String, Fail> {
     let query = asked(alloc, Verb::Select, None)?;
     let bytes = bytes_of(alloc, "POINT (1 2)~POINT (3 4)")?;
-    let Some(cuts) = Cuts::from_places(vec![in alloc; 0, 12, 23]?) else {
+    let Some(cuts) = Cuts::from_places(vec![in alloc; 0, place, 23]?) else {
         return Err(Fail::from("no cuts"));
     };
     told(
@@ -640,7 +668,7 @@ fn told_without<R: Threads + Sync>(rt: &R, alloc: Global, block: u32) -> Result<
         &cuts,
         &query,
         2,
-        &Without { block },
+        gate,
     )
 }
 
@@ -649,7 +677,7 @@ fn compare_without<R: Abort + Threads + Sync + AllocGlobal>(
     block: u32,
     expected: &str,
 ) -> Result<(), Fail> {
-    let told = told_without(rt, rt.alloc(), block)?;
+    let told = told_of_two(rt, rt.alloc(), 12, &Without { block })?;
     assert!(rt; told.as_str() == expected, "without block {block}");
     Ok(())
 }
@@ -697,32 +725,13 @@ impl Gate for Held {
     }
 }
 
-/// What a file of two lines is found to be, in two blocks by two passes at once.
-fn told_held<R: Threads + Sync>(rt: &R, alloc: Global, gate: &Held) -> Result<String, Fail> {
-    let query = asked(alloc, Verb::Select, None)?;
-    let bytes = bytes_of(alloc, "POINT (1 2)~POINT (3 4)")?;
-    let Some(cuts) = Cuts::from_places(vec![in alloc; 0, 5, 23]?) else {
-        return Err(Fail::from("no cuts"));
-    };
-    told(
-        rt,
-        alloc,
-        bytes.as_slice(),
-        Form::Wkt,
-        &cuts,
-        &query,
-        2,
-        gate,
-    )
-}
-
 #[test]
 fn two_blocks_at_once(rt: HostRuntime) -> Result<(), Fail> {
     let gate = Held {
         entries: [AtomicU64::new(0), AtomicU64::new(0)],
         gave_up_waiting: AtomicU64::new(0),
     };
-    let told = told_held(&rt, rt.alloc(), &gate)?;
+    let told = told_of_two(&rt, rt.alloc(), 5, &gate)?;
     assert!(rt; told.as_str() == "0\n12\n");
     assert!(rt; gate.entries[0].load(Ordering::SeqCst) == 1);
     assert!(rt; gate.entries[1].load(Ordering::SeqCst) == 1);

@@ -1,13 +1,14 @@
 //! Files that are cut at every place, under a fold that lists lines and counts its calls.
 
-ghost use Rattle.std.specs.Prelude.{◌≡◌, ◌+◌, ◌≤◌, ◌^◌, ◌∷◌, map, length, IfOk};
+ghost use Rattle.std.specs.Prelude.{◌≡◌, ℕ, ◌+◌, ◌≤◌, ◌^◌, ◌∷◌, map, length, IfOk};
 ghost use Rattle.std.specs.List.{flat_map};
 ghost use Rattle.at_text.specs.Texts.{base_of as base_in};
 ghost use Rattle.at_wkt.specs.Lines.{FileLine, lines_of};
-ghost use Rattle.at_text.specs.Spans.{span_of};
+ghost use Rattle.at_text.specs.Spans.{AreNeighbours, span_of};
 ghost use Rattle.at_wkt.specs.FoldParts.{IsPartOf};
 ghost use Rattle.at_wkt.specs.Folding.{StandsFor};
 
+use crate::tests::bytes_of;
 use at_text::{Memory, Span, base_of};
 use at_wkt::{Fold, LineFragment, finish_lines, merge_lines, run_lines};
 use std::alloc::{AllocError, Global};
@@ -88,6 +89,32 @@ struct Steps<P> {
     in_finish: u32,
 }
 
+/// The fold of a file by two fragments, which are merged.
+fn finish_pair<F: Fold>(
+    alloc: Global,
+    fold: &F,
+    bytes: &[u8],
+    left: LineFragment<F::Part>,
+    right: LineFragment<F::Part>,
+    calls: &AtomicU32,
+) -> Result<Steps<F::Part>, Memory>
+    requires fits { length bytes.now ≤ 2 ^ 28 }
+    requires neighbours { (i : ℕ)
+        × AreNeighbours (StandsFor (IsPartOf F.Fold fold.now)) bytes.now (base_in bytes.now) i (length bytes.now) left right }
+    ensures { IfOk result (λ steps. F.is_fold fold.now steps.part (lines_of bytes.now)) }
+{
+    let before = calls.load(Ordering::SeqCst);
+    let whole = merge_lines(alloc, fold, bytes, left, right);
+    let merged = calls.load(Ordering::SeqCst);
+    let part = finish_lines(alloc, fold, bytes, whole)?;
+    let finished = calls.load(Ordering::SeqCst);
+    Ok(Steps {
+        part,
+        in_merge: merged.wrapping_sub(before),
+        in_finish: finished.wrapping_sub(merged),
+    })
+}
+
 /// The fold of a file that is cut at two places and merged from the left to the right.
 fn fold_from_left<F: Fold>(
     alloc: Global,
@@ -106,16 +133,7 @@ fn fold_from_left<F: Fold>(
     let second = run_span(alloc, fold, bytes, cuts.from, cuts.to);
     let third = run_span(alloc, fold, bytes, cuts.to, bytes.len() as u32);
     let front = merge_lines(alloc, fold, bytes, first, second);
-    let before = calls.load(Ordering::SeqCst);
-    let whole = merge_lines(alloc, fold, bytes, front, third);
-    let merged = calls.load(Ordering::SeqCst);
-    let part = finish_lines(alloc, fold, bytes, whole)?;
-    let finished = calls.load(Ordering::SeqCst);
-    Ok(Steps {
-        part,
-        in_merge: merged.wrapping_sub(before),
-        in_finish: finished.wrapping_sub(merged),
-    })
+    finish_pair(alloc, fold, bytes, front, third, calls)
 }
 
 /// The same, merged from the right to the left.
@@ -136,16 +154,7 @@ fn fold_from_right<F: Fold>(
     let second = run_span(alloc, fold, bytes, cuts.from, cuts.to);
     let third = run_span(alloc, fold, bytes, cuts.to, bytes.len() as u32);
     let back = merge_lines(alloc, fold, bytes, second, third);
-    let before = calls.load(Ordering::SeqCst);
-    let whole = merge_lines(alloc, fold, bytes, first, back);
-    let merged = calls.load(Ordering::SeqCst);
-    let part = finish_lines(alloc, fold, bytes, whole)?;
-    let finished = calls.load(Ordering::SeqCst);
-    Ok(Steps {
-        part,
-        in_merge: merged.wrapping_sub(before),
-        in_finish: finished.wrapping_sub(merged),
-    })
+    finish_pair(alloc, fold, bytes, first, back, calls)
 }
 
 /// The offsets that are listed, and behind them the texts, with `^` for a carriage return.
@@ -224,14 +233,7 @@ fn every_pair_of_cuts(rt: HostRuntime) -> Result<(), Fail> {
     let mut count = 0u32;
     for row in CUT.lines() {
         let (expected, file) = row.split_once('=').ok_or("an equals sign")?;
-        let mut bytes = Vec::new(rt.alloc());
-        for byte in file.as_bytes() {
-            bytes.push(match *byte {
-                b'~' => b'\n',
-                b'^' => b'\r',
-                other => other,
-            })?;
-        }
+        let bytes = bytes_of(rt.alloc(), file)?;
         let bytes = bytes.as_slice();
         assert!(rt; bytes.len() < 100);
         assert_cuts(&rt, rt.alloc(), bytes, expected)?;

@@ -516,6 +516,19 @@ impl Fold for Checking {
     }
 }
 
+/// The bytes of a text, in which `~` stands for a line feed and `^` for a carriage return.
+pub(crate) fn bytes_of(alloc: Global, text: &str) -> Result<Vec<u8>, AllocError> {
+    let mut bytes = Vec::new(alloc);
+    for byte in text.as_bytes() {
+        bytes.push(match *byte {
+            b'~' => b'\n',
+            b'^' => b'\r',
+            other => other,
+        })?;
+    }
+    Ok(bytes)
+}
+
 /// What a file is found to be: the fault of its encoding, or else the first fault of its lines, or else how many they
 /// are.
 fn told_of_file(alloc: Global, bytes: &[u8]) -> Result<String, AllocError>
@@ -563,14 +576,7 @@ Syntax 37| POINT (1 2) ~POINT (1 2)~POINT (1 2)y";
 fn files_of_lines(rt: HostRuntime) -> Result<(), Fail> {
     for row in FILES.lines() {
         let (expected, file) = row.split_once('|').ok_or("a bar")?;
-        let mut bytes = Vec::new(rt.alloc());
-        for byte in file.as_bytes() {
-            bytes.push(match *byte {
-                b'~' => b'\n',
-                b'^' => b'\r',
-                other => other,
-            })?;
-        }
+        let bytes = bytes_of(rt.alloc(), file)?;
         let bytes = bytes.as_slice();
         assert!(rt; bytes.len() < 100);
         let told = told_of_file(rt.alloc(), bytes)?;

@@ -7,6 +7,7 @@ use at_nest::{Algebra, Attempt, Member};
 use at_text::Memory;
 use std::alloc::Global;
 
+/// The algebra of these numbers, with the attempt.
 pub struct Leaping;
 
 impl Algebra for Leaping {

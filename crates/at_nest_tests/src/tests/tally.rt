@@ -7,6 +7,7 @@ use at_text::Memory;
 use std::alloc::Global;
 use std::sync::atomic::{AtomicU64, Ordering};
 
+/// The nodes of an array whose items have so many.
 pub fn nodes_of_items(items: Vec<u64>) -> u64 {
     let mut nodes: u64 = 1;
     for item in items {
@@ -15,6 +16,7 @@ pub fn nodes_of_items(items: Vec<u64>) -> u64 {
     nodes
 }
 
+/// The nodes of an object whose members have so many.
 pub fn nodes_of_members(members: Vec<Member<u64>>) -> u64 {
     let mut nodes: u64 = 1;
     for member in members {
@@ -23,6 +25,7 @@ pub fn nodes_of_members(members: Vec<Member<u64>>) -> u64 {
     nodes
 }
 
+/// The algebra of these numbers.
 pub struct Tally;
 
 impl Algebra for Tally {
@@ -62,12 +65,14 @@ pub struct Counted {
 }
 
 impl Counted {
+    /// No call yet.
     pub fn new() -> Counted {
         Counted {
             calls: AtomicU64::new(0),
         }
     }
 
+    /// How many calls there were.
     pub fn calls(&self) -> u64 {
         self.calls.load(Ordering::SeqCst)
     }
