@@ -12,6 +12,7 @@ pub struct Random {
 }
 
 impl Random {
+    /// Begins where the baseline begins.
     pub fn new() -> Self {
         Random { seed: 20 }
     }
@@ -36,6 +37,7 @@ impl Random {
         u64::from(self.coordinate() % 4_096)
     }
 
+    /// A position with both coordinates below 2^20.
     pub fn position(&mut self) -> Pos
         ensures { IsInRange result }
     {

@@ -54,6 +54,7 @@ pub fn ring(alloc: Global, random: &mut Random, edges: u64) -> Result<Path, Memo
     Ok(Path::from_vec(items))
 }
 
+/// The shape of a polygon of one ring.
 pub fn of_ring(alloc: Global, exterior: Path) -> Result<Shape, Memory>
     requires { All IsInRange exterior }
     ensures { IfOk result IsShapeInRange }
@@ -71,6 +72,7 @@ pub fn of_ring(alloc: Global, exterior: Path) -> Result<Shape, Memory>
     })
 }
 
+/// The shape of a point.
 pub fn of_point(alloc: Global, p: Pos) -> Result<Shape, Memory>
     requires { IsInRange p }
     ensures { IfOk result IsShapeInRange }
@@ -84,6 +86,7 @@ pub fn of_point(alloc: Global, p: Pos) -> Result<Shape, Memory>
     })
 }
 
+/// The shape of a line from one position to another.
 pub fn of_line(alloc: Global, a: Pos, b: Pos) -> Result<Shape, Memory>
     requires a_in_range { IsInRange a }
     requires b_in_range { IsInRange b }

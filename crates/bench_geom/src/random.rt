@@ -12,6 +12,7 @@ pub struct Random {
 }
 
 impl Random {
+    /// Begins where the baseline begins.
     pub fn new() -> Self {
         Random { seed: 20 }
     }
@@ -26,6 +27,7 @@ impl Random {
         (self.seed >> 44) as u32
     }
 
+    /// A position with both coordinates below 2^20.
     pub fn position(&mut self) -> Pos
         ensures { IsInRange result }
     {

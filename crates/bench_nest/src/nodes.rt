@@ -13,6 +13,7 @@ use std::alloc::Global;
 /// Brackets stand at most so deep in a value that is read at once.
 const DEEPEST: u8 = 12;
 
+/// The algebra: an atom is how many values the tree has.
 #[derive(Drop)]
 pub struct Nodes {}
 
