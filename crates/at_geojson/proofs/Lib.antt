@@ -28,6 +28,7 @@ pub mod Tiers
 pub mod Roots
 pub mod SimpleTexts
 pub mod ValueParts
+pub mod PassedPairs
 pub mod ShortStrings
 pub mod RowFolds
 pub mod RingFolds

@@ -26,8 +26,8 @@ use Rattle.at_geojson.specs.declared.sorts.Sort.TheVariants as sorts
 use Rattle.at_geojson.specs.Keeping.{Asked, kept, needs_shapes}
 use Rattle.at_geojson.specs.Atoms.{to_four, twin_of, at_of, IsOwn, IsFold}
 use Rattle.at_geojson.specs.Gathering.{firsts, are_all, rank, sort_of, sort_of_all, least_of, last_atom, position_value, position_fault, closes}
-use Rattle.at_geojson.specs.Rows.{AreNext, IsRow, LengthensRow, EndsRow, EndsPoints, ArePointsRead, ArePointsPassed, ArePointsWhole}
-use Rattle.at_geojson.specs.Values.{IsSpacedPair, PassesSpacedPair}
+use Rattle.at_geojson.specs.Rows.{AreNext, IsRow, LengthensRow, EndsRow, EndsPoints, ArePointsRead, ArePointsWhole}
+use Rattle.at_geojson.specs.Values.{IsSpacedPair}
 use Rattle.at_geojson.proofs.Firsts.{firsts-cons}
 use Rattle.at_geojson.proofs.CoordinateFolds.{closes_is}
 use Rattle.at_geojson.proofs.OwnFolds.{points_own}
@@ -203,21 +203,8 @@ module _ (asked : Asked) (base : ℕ) (w : List ℕ) where
       → ArePointsRead asked base w at p.end row
   unkept_begin at p row inside pair none ep ef el ec = points_begin at p row inside pair ef (subst (λ b. IsRow b row []) (sym none) (record { next = tt; path = ep; count = ec; last = el }))
 
-  pub passed_on : (at end next : ℕ) (row longer : Row) → needs_shapes asked.query ≡ false → ArePointsPassed asked base w at end row → end < length w → slice_index w end ≡ 0x2C → PassesSpacedPair asked w (end + 1) next
-      → longer.first ≡ row.first → longer.path.items ≡ row.path.items → ((n : ℕ) → row.count ≡ to_four n → longer.count ≡ to_four (n + 1)) → ArePointsPassed asked base w at next longer
-  passed_on at end next row longer none (known, ef, ec, ep, read) inside byte pass lf lp lc =
-      let (p, e, h) = pass.2 base in
-      let k : Row = record { first = known.first; last = p.pair.pos; count = longer.count; path = known.path } in (
-        k,
-        ef ∙ sym lf,
-        refl,
-        ep ∙ sym lp,
-        subst (λ j. ArePointsRead asked base w at j k) e
-            (points_go_on at end p known k read inside byte h (unkept known k p.pair none refl refl refl (λ n q. lc n (sym ec ∙ q)))),
-      )
-
-  pub passed_end : (at end : ℕ) (p : PairRead) (row whole : Row) (q : PointsRead) → needs_shapes asked.query ≡ false → ArePointsPassed asked base w at end row → end < length w → slice_index w end ≡ 0x2C → IsSpacedPair asked base w (end + 1) p
-      → whole.first ≡ row.first → whole.last ≡ p.pair.pos → whole.path.items ≡ row.path.items → ((n : ℕ) → row.count ≡ to_four n → whole.count ≡ to_four (n + 1))
-      → p.end < length w → slice_index w at ≡ 0x5B → slice_index w p.end ≡ 0x5D → EndsPoints (needs_shapes asked.query) (base + at) (p.end + 1) whole q → ArePointsWhole asked base w at q
-  passed_end at end p row whole q none (known, ef, ec, ep, read) inside byte pair lf ll lp lc within opens closes ends =
-      points_end at p.end whole q (points_go_on at end p known whole read inside byte pair (unkept known whole p.pair none (lf ∙ sym ef) ll (lp ∙ sym ep) (λ n j. lc n (sym ec ∙ j)))) within opens closes ends
+  pub passed_on : (at end count : ℕ) (p : PairRead) (row : Row) → needs_shapes asked.query ≡ false → ArePointsRead asked base w at end row → end < length w → slice_index w end ≡ 0x2C → IsSpacedPair asked base w (end + 1) p
+      → ((n : ℕ) → row.count ≡ to_four n → count ≡ to_four (n + 1)) → ArePointsRead asked base w at p.end (record { first = row.first; last = p.pair.pos; count = count; path = row.path })
+  passed_on at end count p row none read inside comma pair more =
+      let longer : Row = record { first = row.first; last = p.pair.pos; count = count; path = row.path } in
+      points_go_on at end p row longer read inside comma pair (unkept row longer p.pair none refl refl refl more)

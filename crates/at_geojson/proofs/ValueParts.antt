@@ -39,7 +39,7 @@ use Rattle.at_geojson.specs.Keeping.{Asked, looks_at_texts}
 use Rattle.at_geojson.specs.Atoms.{twin_of, IsOwn, IsFold}
 use Rattle.at_geojson.specs.Gathering.{least_of, pair_atom}
 use Rattle.at_geojson.specs.Places.{IsTextAt, IsNameAt, IsScalarAt}
-use Rattle.at_geojson.specs.Values.{IsPlain, PassesPlain, IsPair, IsSpacedPair, IsWhole, IsItem, AreItemsRead, AreMembersRead, EndsArray, EndsObject}
+use Rattle.at_geojson.specs.Values.{IsPlain, IsPair, IsSpacedPair, IsWhole, IsItem, AreItemsRead, AreMembersRead, EndsArray, EndsObject}
 use Rattle.at_geojson.proofs.SimpleTexts.{none_asked}
 use Rattle.at_geojson.proofs.ScalarFolds.{number_found, number_folds, own_number, text_folds, null_folds, true_folds, false_folds, bad_number_at}
 use Rattle.at_geojson.proofs.OwnFolds.{pair_own}
@@ -213,16 +213,6 @@ module _ (asked : Asked) (base : ℕ) (w : List ℕ) where
         spells = items_end base w at (x.end + 1) y.end (tx ∷ []) ty (omega (arith, px.before, px.order, px.behind)) (omega (arith, py.before, py.order, py.behind)) iy opens closes first two;
         fold = numbers_fold asked (base + at) items (λ e. cc) refl r refl (inl made) (items_of (tx ∷ ty ∷ [])) (number_folds asked a nx.numeral nx.value, (number_folds asked b ny.numeral ny.value, tt));
       }
-
-  -- a position of which the place behind it alone is told
-  pub pair_passed : (at m n : ℕ) → at < length w → slice_index w at ≡ 0x5B → PassesPlain asked w (at + 1) m → m < length w → slice_index w m ≡ 0x2C
-      → PassesPlain asked w (m + 1) n → n < length w → slice_index w n ≡ 0x5D → (p : PairRead) × (p.end ≡ n + 1) × IsPair asked base w at p
-  pair_passed at m n inside opens (x, ex, px) im comma (y, ey, py) jn closes = (
-    record { end = y.end + 1; pair = record { at = base + at; least = base + x.first; pos = record { x = x.number.value; y = y.number.value } } },
-    ap (λ k. k + 1) ey,
-    pair_read at x y x.number.value y.number.value refl refl inside opens px (subst (λ k. k < length w) (sym ex) im) (subst (λ k. slice_index w k ≡ 0x2C) (sym ex) comma)
-        (subst (λ k. IsPlain asked w (k + 1) y) (sym ex) py) (subst (λ k. k < length w) (sym ey) jn) (subst (λ k. slice_index w k ≡ 0x5D) (sym ey) closes),
-  )
 
   pub pair_whole : (at : ℕ) (p : PairRead) → IsPair asked base w at p → IsWhole asked base w at (record { end = p.end; atom = atoms.Position p.pair })
   pair_whole at p h = record { order = h.order; within = h.within; own = h.own; tree = h.tree; spells = h.spells; fold = h.fold }

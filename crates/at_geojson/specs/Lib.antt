@@ -18,6 +18,7 @@ pub mod Copies
 pub mod Places
 pub mod Values
 pub mod Rows
+pub mod Passing
 pub mod Rings
 pub mod Members
 pub mod Geometries

@@ -75,8 +75,3 @@ pub record ArePointsRead (asked : Asked) (base : ℕ) (w : List ℕ) (at end : �
   pub before : ItemsBefore base w at place done
   pub spells : IsPadded (λ j v. Spells j v last) base w place end
   pub folds : AreFolds (IsFold asked) (atoms.Position row.first ∷ rest) (items_of (done ++ last ∷ []))
-
--- the same of a row of which the last position isn't known yet
-abbrev pub ArePointsPassed : Asked → ℕ → List ℕ → ℕ → ℕ → Row → Type 0
-ArePointsPassed asked base w at end row = (known : Row) × (known.first ≡ row.first) × (known.count ≡ row.count)
-    × (known.path.items ≡ row.path.items) × ArePointsRead asked base w at end known

@@ -58,17 +58,6 @@ pub record IsSpacedPair (asked : Asked) (base : ℕ) (w : List ℕ) (at : ℕ) (
   pub spells : IsPadded (λ j v. Spells j v tree) base w at p.end
   pub fold : IsFold asked (atoms.Position p.pair) tree
 
--- the same, of which the place behind it alone is told
-abbrev pub PassesPlain : Asked → List ℕ → ℕ → ℕ → Type 0
-PassesPlain asked w at end = (p : Plain) × (p.end ≡ end) × IsPlain asked w at p
-
-abbrev pub PassesPair : Asked → List ℕ → ℕ → ℕ → Type 0
-PassesPair asked w at end = (end ≤ length w) × ((base : ℕ) → (p : PairRead) × (p.end ≡ end) × IsPair asked base w at p)
-
-abbrev pub PassesSpacedPair : Asked → List ℕ → ℕ → ℕ → Type 0
-PassesSpacedPair asked w at end = (at < end) × (end ≤ length w) × ((base : ℕ) → (p : PairRead) × (p.end ≡ end)
-    × IsSpacedPair asked base w at p)
-
 -- white space, a value, white space
 pub record IsItem (asked : Asked) (base : ℕ) (w : List ℕ) (at : ℕ) (p : Whole) : Type 0 where
   pub order : at < p.end

@@ -2,10 +2,13 @@
 
 ghost use Rattle.std.specs.Prelude.{◌≡◌, ℕ, ◌+◌, ◌<◌, ◌≤◌, ◌^◌, Bool, true, false, [], ◌∷◌, length, slice_index, IfOk};
 ghost use Rattle.std.specs.Prelude.{IfSome};
+ghost use Rattle.std.specs.Ordering.{int_eq};
 ghost use Rattle.at_geojson.specs.Keeping.{needs_shapes as needs_of};
 ghost use Rattle.at_geojson.specs.Atoms.{to_four};
-ghost use Rattle.at_geojson.specs.Values.{IsPlain, IsPair, IsSpacedPair, PassesPlain, PassesPair, PassesSpacedPair};
-ghost use Rattle.at_geojson.specs.Rows.{EndsRow, EndsPoints, ArePointsPassed, ArePointsWhole};
+ghost use Rattle.at_geojson.specs.Values.{IsPlain, IsPair, IsSpacedPair};
+ghost use Rattle.at_geojson.specs.Passing.{PassesNumber, PassesPair, HasOnlyValue, TellsSameValue, TellsSamePair};
+ghost use Rattle.at_geojson.specs.Passing.{EndsPassed};
+ghost use Rattle.at_geojson.specs.Rows.{EndsRow, EndsPoints, ArePointsWhole};
 
 use crate::asked::GeoAlgebra;
 use crate::atoms::{GeoAtom, Points, PositionAtom};
@@ -31,6 +34,25 @@ pub struct Plain {
     pub last: usize,
     pub end: usize,
     pub number: PlainNumber,
+}
+
+/// Where a number that is written plainly stands: the place of its first byte, the one behind it, and the one behind the
+/// white space.
+#[derive(Clone, Copy)]
+pub struct NumberPlace {
+    pub first: usize,
+    pub last: usize,
+    pub end: usize,
+}
+
+/// Where a position of two such numbers stands: the places of its bracket and of its numbers, and the one behind the
+/// white space.
+#[derive(Clone, Copy)]
+pub struct PairPlace {
+    pub bracket: usize,
+    pub x: NumberPlace,
+    pub y: NumberPlace,
+    pub end: usize,
 }
 
 /// A position that was read, and the place behind it.
@@ -182,10 +204,10 @@ fn read_spaced(algebra: &GeoAlgebra, text: &[u8], base: u32, at: usize) -> Optio
 
 /// White space, a number that is written plainly, and white space, passed over.
 #[inline(always)]
-fn pass_plain(algebra: &GeoAlgebra, text: &[u8], at: usize) -> Option<usize>
+fn pass_plain(algebra: &GeoAlgebra, text: &[u8], at: usize) -> Option<NumberPlace>
     requires inside { at ≤ length text.now }
     requires short { length text.now ≤ 2 ^ 28 }
-    ensures { IfSome result (PassesPlain algebra.now text.now at) }
+    ensures { IfSome result (PassesNumber algebra.now text.now at) }
 {
     let first = skip_spaces(text, at);
     let len = plain_len(
@@ -194,110 +216,172 @@ fn pass_plain(algebra: &GeoAlgebra, text: &[u8], at: usize) -> Option<usize>
         algebra.digits(),
         algebra.how(),
     )?;
-    Some(skip_spaces(text, first + len as usize))
+    let last = first + len as usize;
+    Some(NumberPlace {
+        first,
+        last,
+        end: skip_spaces(text, last),
+    })
 }
 
-/// A position of two numbers that are written plainly, passed over.
+/// A position of two numbers that are written plainly, behind white space and before white space, passed over.
 #[inline(always)]
-fn pass_pair(algebra: &GeoAlgebra, text: &[u8], at: usize) -> Option<usize>
-    requires { length text.now ≤ 2 ^ 28 }
-    ensures { IfSome result (PassesPair algebra.now text.now at) }
-{
-    if !stands(text, at, b'[') {
-        return None;
-    }
-    let x = pass_plain(algebra, text, at + 1)?;
-    if !stands(text, x, b',') {
-        return None;
-    }
-    let y = pass_plain(algebra, text, x + 1)?;
-    if !stands(text, y, b']') {
-        return None;
-    }
-    Some(y + 1)
-}
-
-/// A position, behind white space and before white space, passed over.
-#[inline(always)]
-fn pass_spaced(algebra: &GeoAlgebra, text: &[u8], at: usize) -> Option<usize>
+fn pass_pair(algebra: &GeoAlgebra, text: &[u8], at: usize) -> Option<PairPlace>
     requires inside { at ≤ length text.now }
     requires short { length text.now ≤ 2 ^ 28 }
-    ensures { IfSome result (PassesSpacedPair algebra.now text.now at) }
+    ensures { IfSome result (PassesPair algebra.now text.now at) }
 {
-    let first = skip_spaces(text, at);
-    let end = pass_pair(algebra, text, first)?;
-    Some(skip_spaces(text, end))
+    let bracket = skip_spaces(text, at);
+    if !stands(text, bracket, b'[') {
+        return None;
+    }
+    let x = pass_plain(algebra, text, bracket + 1)?;
+    if !stands(text, x.end, b',') {
+        return None;
+    }
+    let y = pass_plain(algebra, text, x.end + 1)?;
+    if !stands(text, y.end, b']') {
+        return None;
+    }
+    Some(PairPlace {
+        bracket,
+        x,
+        y,
+        end: skip_spaces(text, y.end + 1),
+    })
 }
 
-/// The last of positions of which all but the first were passed over, behind the comma at the place, and the closing
-/// bracket.
-fn last_point(
+/// The value of a number that was passed over.
+fn value_at(algebra: &GeoAlgebra, text: &[u8], place: NumberPlace) -> Option<i64>
+    requires inside { place.first ≤ length text.now }
+    requires short { length text.now ≤ 2 ^ 28 }
+    ensures { IfSome result (HasOnlyValue algebra.now text.now place) }
+{
+    let number = plain_number(
+        &text[place.first..],
+        Notation::Json,
+        algebra.digits(),
+        algebra.how(),
+    )?;
+    if place.first + number.len as usize == place.last {
+        Some(number.value)
+    } else {
+        None
+    }
+}
+
+/// Whether two values are the same.
+fn is_same(a: i64, b: i64) -> bool
+    ensures { result ≡ int_eq a b }
+{
+    a == b
+}
+
+/// Whether two numbers that were passed over have the same value.
+fn have_same_value(
     algebra: &GeoAlgebra,
     text: &[u8],
-    base: u32,
-    at: usize,
-    end: usize,
-    row: Row,
-) -> Result<PointsRead, Halt>
-    requires opens { slice_index text.now at ≡ 0x5B }
-    requires inside { end < length text.now }
-    requires comma { slice_index text.now end ≡ 0x2C }
-    requires fits { base + length text.now ≤ 2 ^ 28 }
-    requires unneeded { needs_of algebra.now.query ≡ false }
-    requires passed { ArePointsPassed algebra.now base text.now at end row }
-    ensures { IfOk result (ArePointsWhole algebra.now base text.now at) }
+    a: NumberPlace,
+    b: NumberPlace,
+) -> Option<bool>
+    requires short { length text.now ≤ 2 ^ 28 }
+    requires first { a.first ≤ length text.now }
+    requires second { b.first ≤ length text.now }
+    ensures { IfSome result (TellsSameValue algebra.now text.now a b) }
 {
-    let Some(last) = read_spaced(algebra, text, base, end + 1) else {
-        return Err(Halt::At(end));
-    };
-    if !stands(text, last.end, b']') {
-        return Err(Halt::At(last.end));
-    }
-    let whole = Row {
-        first: row.first,
-        last: last.pair.pos,
-        count: one_more(row.count),
-        path: row.path,
-    };
-    Ok(ended_row(base + at as u32, last.end + 1, whole))
+    let first = value_at(algebra, text, a)?;
+    let second = value_at(algebra, text, b)?;
+    Some(is_same(first, second))
 }
 
-/// A list of positions of which the first was read, where no shapes are kept: those between the first and the last are
-/// passed over.
+/// Whether a second position is the same as a first, both of which were passed over, from these places on. Where their
+/// bytes are the same no value is computed.
+fn closes_with(
+    algebra: &GeoAlgebra,
+    text: &[u8],
+    from: usize,
+    first: PairPlace,
+    at: usize,
+    last: PairPlace,
+) -> Option<bool>
+    requires short { length text.now ≤ 2 ^ 28 }
+    requires order { first.end ≤ at }
+    requires first { PassesPair algebra.now text.now from first }
+    requires last { PassesPair algebra.now text.now at last }
+    ensures { IfSome result (TellsSamePair algebra.now text.now from first at last) }
+{
+    if text[from..first.end] == text[at..last.end] {
+        return Some(true);
+    }
+    if !have_same_value(algebra, text, first.x, last.x)? {
+        return Some(false);
+    }
+    have_same_value(algebra, text, first.y, last.y)
+}
+
+/// The list of so many positions, up to four, that were passed over, none of whose values are kept: it begins at the
+/// offset, the least of the offsets of its positions is given, and it ends before the place.
+fn passed_list(
+    path: Vec<Pos>,
+    at: u32,
+    least: u32,
+    end: usize,
+    count: u32,
+    closes: bool,
+) -> PointsRead
+    requires { path.items ≡ [] }
+    ensures { EndsPassed at least end count closes result }
+{
+    PointsRead {
+        at,
+        least,
+        end,
+        points: Points {
+            path,
+            as_points: None,
+            as_line: line_fault(count, at),
+            as_ring: ring_fault(count, closes, at),
+        },
+    }
+}
+
+/// A list of positions where no shapes are kept: all of them are passed over.
 fn pass_points(
     algebra: &GeoAlgebra,
     alloc: Global,
     text: &[u8],
     base: u32,
     at: usize,
-    first: PairRead,
 ) -> Result<PointsRead, Halt>
     requires inside { at < length text.now }
     requires opens { slice_index text.now at ≡ 0x5B }
     requires fits { base + length text.now ≤ 2 ^ 28 }
     requires unneeded { needs_of algebra.now.query ≡ false }
-    requires first { IsSpacedPair algebra.now base text.now (at + 1) first }
     ensures { IfOk result (ArePointsWhole algebra.now base text.now at) }
 {
-    let mut row = Row {
-        first: first.pair,
-        last: first.pair.pos,
-        count: 1,
-        path: Vec::new(alloc),
+    let Some(first) = pass_pair(algebra, text, at + 1) else {
+        return Err(Halt::At(at + 1));
     };
+    let offset = base + at as u32;
+    let least = base + first.bracket as u32;
+    let path = Vec::new(alloc);
+    let mut count = 1;
     let mut end = first.end;
     if stands(text, end, b']') {
-        return Ok(ended_row(base + at as u32, end + 1, row));
+        return Ok(passed_list(path, offset, least, end + 1, count, true));
     }
     'positions: while stands(text, end, b',') {
-        let Some(next) = pass_spaced(algebra, text, end + 1) else {
+        let Some(next) = pass_pair(algebra, text, end + 1) else {
             return Err(Halt::At(end));
         };
-        if stands(text, next, b']') {
-            return last_point(algebra, text, base, at, end, row);
+        count = one_more(count);
+        if stands(text, next.end, b']') {
+            let Some(closes) = closes_with(algebra, text, at + 1, first, end + 1, next) else {
+                return Err(Halt::At(end));
+            };
+            return Ok(passed_list(path, offset, least, next.end + 1, count, closes));
         }
-        row.count = one_more(row.count);
-        end = next;
+        end = next.end;
     }
     Err(Halt::At(end))
 }
@@ -354,12 +438,11 @@ pub fn read_points(
     requires fits { base + length text.now ≤ 2 ^ 28 }
     ensures { IfOk result (ArePointsWhole algebra.now base text.now at) }
 {
+    if !algebra.needs_shapes() {
+        return pass_points(algebra, alloc, text, base, at);
+    }
     let Some(first) = read_spaced(algebra, text, base, at + 1) else {
         return Err(Halt::At(at + 1));
     };
-    if algebra.needs_shapes() {
-        keep_points(algebra, alloc, text, base, at, first)
-    } else {
-        pass_points(algebra, alloc, text, base, at, first)
-    }
+    keep_points(algebra, alloc, text, base, at, first)
 }

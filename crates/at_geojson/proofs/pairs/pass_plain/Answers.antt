@@ -1,5 +1,5 @@
 -- A number behind white space: its value is there, and isn't computed.
-use Rattle.std.proofs.Common.{◌+◌, true, refl}
+use Rattle.std.proofs.Common.{true, refl}
 use Rattle.at_geojson.proofs.ValueParts.{number_taken, value_taken}
 use Rattle.at_geojson.proofs.pairs.pass_plain.Goals as goal
 
@@ -8,8 +8,7 @@ returns c =
     let w = c.args.text.now in let first = c.skip_spaces-first.result in let len = c.in_ok-len.len in
     let (v, f) = c.in_ok-len.ensures.value in
     let t = number_taken w first (record { len = len; whole = true }) c.skip_spaces-first.ensures.within c.in_ok-len.ensures.taken refl in (
-      record { first = first; last = first + len; end = c.skip_spaces.result; number = record { len = len; value = v } },
-      refl,
+      v,
       record {
         before = c.skip_spaces-first.ensures.order;
         spaces = c.skip_spaces-first.ensures.spaces;

@@ -1,0 +1,77 @@
+-- Positions that are passed over: where their numbers stand, of which each has a value. Only contracts of private
+-- functions cite this.
+use Rattle.std.specs.Prelude.{◌≡◌, ℕ, ◌+◌, ◌<◌, ◌≤◌, Bool, false, ◌&&◌, List, [], length, slice_index, ℤ}
+use Rattle.std.specs.Ordering.{int_eq}
+use Rattle.at_fixed.specs.NumberSoFar.{between}
+use Rattle.at_geom.specs.declared.positions.Pos.{Pos}
+use Rattle.at_lex.specs.Spans.{AreSpaces}
+use Rattle.at_geojson.specs.declared.atoms.PositionAtom.{PositionAtom}
+use Rattle.at_geojson.specs.declared.pairs.NumberPlace.{NumberPlace}
+use Rattle.at_geojson.specs.declared.pairs.PairPlace.{PairPlace}
+use Rattle.at_geojson.specs.declared.pairs.Plain.{Plain}
+use Rattle.at_geojson.specs.declared.pairs.PointsRead.{PointsRead}
+use Rattle.at_geojson.specs.declared.pairs.Row.{Row}
+use Rattle.at_geojson.specs.Keeping.{Asked}
+use Rattle.at_geojson.specs.Rows.{ArePointsRead, EndsPoints}
+use Rattle.at_geojson.specs.Values.{IsPlain}
+
+-- the number that stands there, with this value
+abbrev pub plain_at : NumberPlace → ℤ → Plain
+plain_at n v = record { first = n.first; last = n.last; end = n.end; number = record { len = 0; value = v } }
+
+-- a number with some value stands there
+abbrev pub PassesNumber : Asked → List ℕ → ℕ → NumberPlace → Type 0
+PassesNumber asked w at n = (v : ℤ) × IsPlain asked w at (plain_at n v)
+
+-- white space, a position with this value, which stands there, and white space
+pub record IsPairAt (asked : Asked) (w : List ℕ) (at : ℕ) (p : PairPlace) (pos : Pos) : Type 0 where
+  pub before : at ≤ p.bracket
+  pub spaces : AreSpaces (between w at p.bracket)
+  pub inside : p.bracket < length w
+  pub opens : slice_index w p.bracket ≡ 0x5B
+  pub x : IsPlain asked w (p.bracket + 1) (plain_at p.x pos.x)
+  pub middle : p.x.end < length w
+  pub comma : slice_index w p.x.end ≡ 0x2C
+  pub y : IsPlain asked w (p.x.end + 1) (plain_at p.y pos.y)
+  pub last : p.y.end < length w
+  pub closes : slice_index w p.y.end ≡ 0x5D
+  pub behind : p.y.end + 1 ≤ p.end
+  pub more_spaces : AreSpaces (between w (p.y.end + 1) p.end)
+  pub within : p.end ≤ length w
+
+-- the same with some value
+abbrev pub PassesPair : Asked → List ℕ → ℕ → PairPlace → Type 0
+PassesPair asked w at p = (pos : Pos) × IsPairAt asked w at p pos
+
+-- the number that stands there has no other value
+abbrev pub HasOnlyValue : Asked → List ℕ → NumberPlace → ℤ → Type 0
+HasOnlyValue asked w n v = (at : ℕ) (u : ℤ) → IsPlain asked w at (plain_at n u) → u ≡ v
+
+abbrev pub same_values : Pos → Pos → Bool
+same_values p q = int_eq p.x q.x && int_eq p.y q.y
+
+-- whether the values of two numbers that stand there are the same
+abbrev pub TellsSameValue : Asked → List ℕ → NumberPlace → NumberPlace → Bool → Type 0
+TellsSameValue asked w a b same = (i j : ℕ) (u v : ℤ) → IsPlain asked w i (plain_at a u) → IsPlain asked w j (plain_at b v)
+    → same ≡ int_eq u v
+
+-- whether the value of the first is that of some position which stands there and ends where the last one ends
+abbrev pub TellsSamePair : Asked → List ℕ → ℕ → PairPlace → ℕ → PairPlace → Bool → Type 0
+TellsSamePair asked w from first at last same = (p : Pos) → IsPairAt asked w from first p
+    → (place : PairPlace) × (q : Pos) × (place.end ≡ last.end) × IsPairAt asked w at place q
+    × (same ≡ same_values p q)
+
+-- the position that stands there, as an atom
+abbrev pub pair_of : ℕ → PairPlace → Pos → PositionAtom
+pair_of base p pos = record { at = base + p.bracket; least = base + p.x.first; pos = pos }
+
+-- the positions from the bracket up to the place are so many, up to four, and the first of them stands there
+abbrev pub ArePassed : Asked → ℕ → List ℕ → ℕ → ℕ → PairPlace → ℕ → Type 0
+ArePassed asked base w at end first count = (pos : Pos) × (row : Row) × IsPairAt asked w (at + 1) first pos
+    × (row.first ≡ pair_of base first pos) × (row.count ≡ count) × (row.path.items ≡ [])
+    × ArePointsRead asked base w at end row
+
+-- the list of positions of which no values are kept
+abbrev pub EndsPassed : ℕ → ℕ → ℕ → ℕ → Bool → PointsRead → Type 0
+EndsPassed at least end count closes p = (row : Row) → row.first.at ≡ least → row.count ≡ count
+    → row.path.items ≡ [] → closes ≡ same_values row.first.pos row.last → EndsPoints false at end row p
