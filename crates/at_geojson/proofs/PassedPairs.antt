@@ -1,6 +1,6 @@
 -- Positions that are passed over are positions with white space round them, and the same bytes elsewhere are the same position.
 -- For `read_points`.
-use Rattle.std.proofs.Common.{◌≡◌, ℕ, ◌+◌, ◌-◌, ◌<◌, ◌≤◌, List, take, drop, length, slice_index, ℤ, true, Result, Ok, Err, refl, sym, ◌∙◌, ap, subst, arith}
+use Rattle.std.proofs.Common.{◌≡◌, ℕ, ◌+◌, ◌-◌, ◌<◌, ◌≤◌, List, take, drop, length, slice_index, ℤ, Bool, true, Option, None, Some, IfSome, Result, Ok, Err, refl, sym, ◌∙◌, ap, subst, arith}
 use Rattle.std.specs.Ordering.{int_eq}
 use Rattle.std.proofs.lemmas.Bool.{and_from}
 use Rattle.std.proofs.lemmas.Bool.Decides.{Decides-int_eq}
@@ -112,3 +112,7 @@ bytes_moved w from to at end h k l fits e =
 
 pub same_as_itself : (p : Pos) → same_values p p ≡ true
 same_as_itself p = and_from (int_eq p.x p.x) (int_eq p.y p.y) ((Decides-int_eq p.x p.x).1 refl) ((Decides-int_eq p.y p.y).1 refl)
+
+pub some_told : (r : Option Bool) (P Q : Bool → Type 0) → ((b : Bool) → P b → Q b) → IfSome r P → IfSome r Q
+some_told None P Q f h = tt
+some_told (Some b) P Q f h = f b h

@@ -43,6 +43,10 @@ pub record IsPairAt (asked : Asked) (w : List ℕ) (at : ℕ) (p : PairPlace) (p
 abbrev pub PassesPair : Asked → List ℕ → ℕ → PairPlace → Type 0
 PassesPair asked w at p = (pos : Pos) × IsPairAt asked w at p pos
 
+-- the same of a position that ends before the place
+abbrev pub PassesTo : Asked → List ℕ → ℕ → ℕ → Type 0
+PassesTo asked w at end = (place : PairPlace) × (place.end ≡ end) × PassesPair asked w at place
+
 -- the number that stands there has no other value
 abbrev pub HasOnlyValue : Asked → List ℕ → NumberPlace → ℤ → Type 0
 HasOnlyValue asked w n v = (at : ℕ) (u : ℤ) → IsPlain asked w at (plain_at n u) → u ≡ v
@@ -55,10 +59,10 @@ abbrev pub TellsSameValue : Asked → List ℕ → NumberPlace → NumberPlace �
 TellsSameValue asked w a b same = (i j : ℕ) (u v : ℤ) → IsPlain asked w i (plain_at a u) → IsPlain asked w j (plain_at b v)
     → same ≡ int_eq u v
 
--- whether the value of the first is that of some position which stands there and ends where the last one ends
-abbrev pub TellsSamePair : Asked → List ℕ → ℕ → PairPlace → ℕ → PairPlace → Bool → Type 0
-TellsSamePair asked w from first at last same = (p : Pos) → IsPairAt asked w from first p
-    → (place : PairPlace) × (q : Pos) × (place.end ≡ last.end) × IsPairAt asked w at place q
+-- whether the value of the first is that of some position which stands there and ends before the place
+abbrev pub TellsSamePair : Asked → List ℕ → ℕ → PairPlace → ℕ → ℕ → Bool → Type 0
+TellsSamePair asked w from first at end same = (p : Pos) → IsPairAt asked w from first p
+    → (place : PairPlace) × (q : Pos) × (place.end ≡ end) × IsPairAt asked w at place q
     × (same ≡ same_values p q)
 
 -- the position that stands there, as an atom

@@ -37,7 +37,7 @@ pub fn form_at(at: u32) -> Fault
 }
 
 /// Parts one behind another: both, where neither has a fault, and else the first fault.
-fn joined_parts(
+pub fn joined_parts(
     left: Result<Part, Fault>,
     right: Result<Part, Fault>,
 ) -> Result<Result<Part, Fault>, Memory>
@@ -106,7 +106,7 @@ pub fn into_items(atom: GeoAtom) -> Items
 }
 
 /// Items one behind another.
-pub fn joined_items(alloc: Global, left: Items, right: Items) -> Result<Items, Memory>
+fn joined_items(alloc: Global, left: Items, right: Items) -> Result<Items, Memory>
     requires { AreJoinable left.features right.features }
     ensures geometries { IfOk result (λ items. JoinsShapes left.geometries right.geometries items.geometries) }
     ensures features { IfOk result (λ items. JoinsFound left.features right.features items.features) }

@@ -6,7 +6,7 @@ ghost use Rattle.std.specs.Ordering.{int_eq};
 ghost use Rattle.at_geojson.specs.Keeping.{needs_shapes as needs_of};
 ghost use Rattle.at_geojson.specs.Atoms.{to_four};
 ghost use Rattle.at_geojson.specs.Values.{IsPlain, IsPair, IsSpacedPair};
-ghost use Rattle.at_geojson.specs.Passing.{PassesNumber, PassesPair, HasOnlyValue, TellsSameValue, TellsSamePair};
+ghost use Rattle.at_geojson.specs.Passing.{PassesNumber, PassesPair, PassesTo, HasOnlyValue, TellsSameValue, TellsSamePair};
 ghost use Rattle.at_geojson.specs.Passing.{EndsPassed};
 ghost use Rattle.at_geojson.specs.Rows.{EndsRow, EndsPoints, ArePointsWhole};
 
@@ -251,6 +251,17 @@ fn pass_pair(algebra: &GeoAlgebra, text: &[u8], at: usize) -> Option<PairPlace>
     })
 }
 
+/// The place behind a position that is passed over.
+#[inline(always)]
+fn pass_spaced(algebra: &GeoAlgebra, text: &[u8], at: usize) -> Option<usize>
+    requires inside { at ≤ length text.now }
+    requires short { length text.now ≤ 2 ^ 28 }
+    ensures { IfSome result (PassesTo algebra.now text.now at) }
+{
+    let place = pass_pair(algebra, text, at)?;
+    Some(place.end)
+}
+
 /// The value of a number that was passed over.
 fn value_at(algebra: &GeoAlgebra, text: &[u8], place: NumberPlace) -> Option<i64>
     requires inside { place.first ≤ length text.now }
@@ -294,24 +305,29 @@ fn have_same_value(
     Some(is_same(first, second))
 }
 
-/// Whether a second position is the same as a first, both of which were passed over, from these places on. Where their
-/// bytes are the same no value is computed.
+/// Whether a second position, which was passed over between these places, is the same as a first. Where their bytes are
+/// the same no value is computed.
+#[inline(never)]
 fn closes_with(
     algebra: &GeoAlgebra,
     text: &[u8],
     from: usize,
     first: PairPlace,
     at: usize,
-    last: PairPlace,
+    end: usize,
 ) -> Option<bool>
     requires short { length text.now ≤ 2 ^ 28 }
     requires order { first.end ≤ at }
     requires first { PassesPair algebra.now text.now from first }
-    requires last { PassesPair algebra.now text.now at last }
-    ensures { IfSome result (TellsSamePair algebra.now text.now from first at last) }
+    requires last { PassesTo algebra.now text.now at end }
+    ensures { IfSome result (TellsSamePair algebra.now text.now from first at end) }
 {
-    if text[from..first.end] == text[at..last.end] {
+    if text[from..first.end] == text[at..end] {
         return Some(true);
+    }
+    let last = pass_pair(algebra, text, at)?;
+    if last.end != end {
+        return None;
     }
     if !have_same_value(algebra, text, first.x, last.x)? {
         return Some(false);
@@ -371,17 +387,17 @@ fn pass_points(
         return Ok(passed_list(path, offset, least, end + 1, count, true));
     }
     'positions: while stands(text, end, b',') {
-        let Some(next) = pass_pair(algebra, text, end + 1) else {
+        let Some(next) = pass_spaced(algebra, text, end + 1) else {
             return Err(Halt::At(end));
         };
         count = one_more(count);
-        if stands(text, next.end, b']') {
+        if stands(text, next, b']') {
             let Some(closes) = closes_with(algebra, text, at + 1, first, end + 1, next) else {
                 return Err(Halt::At(end));
             };
-            return Ok(passed_list(path, offset, least, next.end + 1, count, closes));
+            return Ok(passed_list(path, offset, least, next + 1, count, closes));
         }
-        end = next.end;
+        end = next;
     }
     Err(Halt::At(end))
 }

@@ -12,12 +12,14 @@ ghost use Rattle.at_geojson.specs.Arrays.{joins_run, Adds, TakesRun, Settles, Cl
 
 use crate::asked::GeoAlgebra;
 use crate::atoms::{GeoAtom, Items};
-use crate::lists::{array_atom, form_at, into_items, joined_items, list_atom};
+use crate::geometries::Geometry;
+use crate::lists::{array_atom, form_at, into_items, joined_parts, list_atom};
 use crate::series::{add_list, are_lists, is_list, series_array};
+use crate::shapes::joined_shapes;
 use crate::tracks::{add_position, are_positions, is_position, track_array};
 use crate::twins::first_twin;
-use at_query::Part;
-use at_text::Memory;
+use at_query::{Part, part_merge};
+use at_text::{Fault, Memory, first_of_two};
 use std::alloc::Global;
 use std::mem::replace;
 
@@ -73,12 +75,41 @@ fn weight(items: &Items) -> usize {
     }
 }
 
-/// Items that mean nothing, to stand for a while where others are taken out.
-fn taken_items() -> Items {
-    Items {
-        geometries: Err(form_at(0)),
-        features: Err(form_at(0)),
+/// Puts geometries behind those of a run.
+fn join_geometries(
+    alloc: Global,
+    run: &mut Items,
+    more: Result<Geometry, Fault>,
+) -> Result<(), Memory>
+    ensures geometries { IfOk result (λ u. JoinsShapes run.old.geometries more run.new.geometries) }
+    ensures features { run.new.features ≡ run.old.features }
+{
+    if let Err(first) = &run.geometries
+        && let Err(second) = &more
+    {
+        run.geometries = Err(first_of_two(*first, *second));
+        return Ok(());
     }
+    let before = replace(&mut run.geometries, Err(form_at(0)));
+    run.geometries = joined_shapes(alloc, before, more)?;
+    Ok(())
+}
+
+/// Puts the part of features behind that of a run.
+fn join_features(run: &mut Items, more: Result<Part, Fault>) -> Result<(), Memory>
+    requires { AreJoinable run.old.features more }
+    ensures geometries { run.new.geometries ≡ run.old.geometries }
+    ensures features { IfOk result (λ u. JoinsFound run.old.features more run.new.features) }
+{
+    if let Ok(Part::Count(first)) = &run.features
+        && let Ok(Part::Count(second)) = &more
+    {
+        run.features = Ok(part_merge(Part::Count(*first), Part::Count(*second))?);
+        return Ok(());
+    }
+    let before = replace(&mut run.features, Err(form_at(0)));
+    run.features = joined_parts(before, more)?;
+    Ok(())
 }
 
 /// The items of a run, and further ones behind them.
@@ -88,8 +119,8 @@ fn joined_run(alloc: Global, run: Box<Items>, more: Items) -> Result<Box<Items>,
     ensures features { IfOk result (λ b. JoinsFound run.value.features more.features b.value.features) }
 {
     let mut run = run;
-    let items = replace(&mut *run, taken_items());
-    *run = joined_items(alloc, items, more)?;
+    join_geometries(alloc, &mut *run, more.geometries)?;
+    join_features(&mut *run, more.features)?;
     Ok(run)
 }
 

@@ -23,23 +23,24 @@ positions-init c =
 
 pub positions-preserved : goal.positions-preserved
 positions-preserved c =
-    let w = c.args.text.now in let asked = c.args.algebra.now in let base = c.args.base in let at = c.args.at in let next = c.in-Some-pass_pair.next in let end = c.positions.end in
+    let w = c.args.text.now in let asked = c.args.algebra.now in let base = c.args.base in let at = c.args.at in let next = c.in-Some-pass_spaced.next in let end = c.positions.end in
     let (p, row, h, ef, ec, ep, read) = c.positions.invariant.passed in
-    let (q, k) = c.in-Some-pass_pair.ensures in
-    let pair : PairRead = record { end = next.end; pair = pair_of base next q } in
+    let (place, told, (q, k)) = c.in-Some-pass_spaced.ensures in
+    let pair : PairRead = record { end = place.end; pair = pair_of base place q } in
+    let longer : Row = record { first = row.first; last = q; count = c.one_more-count.result; path = row.path } in
     let count = c.one_more-count.result in
     record {
-      order = omega (arith, c.positions.invariant.order, k.before, k.x.before, k.x.order, k.x.behind, k.y.before, k.y.order, k.y.behind, k.behind);
-      within = k.within;
+      order = omega (arith, told, c.positions.invariant.order, k.before, k.x.before, k.x.order, k.x.behind, k.y.before, k.y.order, k.y.behind, k.behind);
+      within = omega (arith, told, k.within);
       passed = (
         p,
-        record { first = row.first; last = q; count = count; path = row.path },
+        longer,
         h,
         ef,
         refl,
         ep,
-        passed_on asked base w at end count pair row c.requires.unneeded read (c.stands-in-positions.ensures.inside c.positions-test.true) (c.stands-in-positions.ensures.byte c.positions-test.true)
-            (placed_pair asked base w (end + 1) next q k) (λ n e. c.one_more-count.ensures n (sym ec ∙ e)),
+        subst (λ z. ArePointsRead asked base w at z longer) told (passed_on asked base w at end count pair row c.requires.unneeded read (c.stands-in-positions.ensures.inside c.positions-test.true)
+            (c.stands-in-positions.ensures.byte c.positions-test.true) (placed_pair asked base w (end + 1) place q k) (λ n e. c.one_more-count.ensures n (sym ec ∙ e))),
       );
     }
 
@@ -57,7 +58,7 @@ returns-then-stands c =
 
 pub returns-then-stands-2 : goal.returns-then-stands-2
 returns-then-stands-2 c =
-    let w = c.args.text.now in let asked = c.args.algebra.now in let base = c.args.base in let at = c.args.at in let next = c.in-Some-pass_pair.next in let end = c.positions.end in
+    let w = c.args.text.now in let asked = c.args.algebra.now in let base = c.args.base in let at = c.args.at in let next = c.in-Some-pass_spaced.next in let end = c.positions.end in
     let (p, row, h, ef, ec, ep, read) = c.positions.invariant.passed in
     let (place, r, e, k, same) = c.in-Some-closes_with.ensures p h in
     let pair : PairRead = record { end = place.end; pair = pair_of base place r } in
@@ -67,6 +68,6 @@ returns-then-stands-2 c =
     (placed_pair asked base w (end + 1) place r k) (λ n f. c.one_more-count.ensures n (sym ec ∙ f)) in
     let here = c.if-stands-2.true in
     let result = c.passed_list-then-stands-2.result in
-    points_end asked base w at next.end longer result (subst (λ z. ArePointsRead asked base w at z longer) e all) (c.stands-in-positions-2.ensures.inside here) c.requires.opens (c.stands-in-positions-2.ensures.byte here)
-    (subst (λ b. EndsPoints b (base + at) (next.end + 1) longer result) (sym c.requires.unneeded)
+    points_end asked base w at next longer result (subst (λ z. ArePointsRead asked base w at z longer) e all) (c.stands-in-positions-2.ensures.inside here) c.requires.opens (c.stands-in-positions-2.ensures.byte here)
+    (subst (λ b. EndsPoints b (base + at) (next + 1) longer result) (sym c.requires.unneeded)
     (c.passed_list-then-stands-2.ensures longer (ap (λ (f : PositionAtom). f.at) ef) refl ep (same ∙ ap (λ (f : PositionAtom). same_values f.pos r) (sym ef))))
