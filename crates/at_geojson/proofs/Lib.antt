@@ -33,3 +33,5 @@ pub mod ShortStrings
 pub mod RowFolds
 pub mod RingFolds
 pub mod MemberReads
+pub mod GeometryReads
+pub mod FeatureReads

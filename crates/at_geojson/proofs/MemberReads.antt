@@ -77,7 +77,7 @@ unlike_field name other e f = go (bytes_eq name other) refl where
 abbrev pub KeepsOthers : List ℕ → List (Member GeoAtom) → OtherNames → Type 0
 KeepsOthers w ms others = (name : List ℕ) → is_no_field (field_of name) ≡ true → is_among ms name ≡ is_among_others w others name
 
-no_twin_more : (earlier ms : List (Member GeoAtom)) (m : Member GeoAtom) → member_twins earlier ms ≡ None → is_among (earlier ++ ms) m.name ≡ false → twin_of m.value ≡ None → member_twins earlier (ms ++ m ∷ []) ≡ None
+pub no_twin_more : (earlier ms : List (Member GeoAtom)) (m : Member GeoAtom) → member_twins earlier ms ≡ None → is_among (earlier ++ ms) m.name ≡ false → twin_of m.value ≡ None → member_twins earlier (ms ++ m ∷ []) ≡ None
 no_twin_more earlier [] m e new value = none_right (twin_at (is_among earlier m.name) m) ∙ (ap (λ b. twin_at b m) (ap (λ z. is_among z m.name) (sym (append-nil earlier)) ∙ new) ∙ value)
 no_twin_more earlier (x ∷ ms) m e new value =
     let first = twin_at (is_among earlier x.name) x in

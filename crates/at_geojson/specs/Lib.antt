@@ -22,3 +22,5 @@ pub mod Passing
 pub mod Rings
 pub mod Members
 pub mod Geometries
+pub mod PlainGeometries
+pub mod Features

@@ -56,8 +56,8 @@ same_values p q = int_eq p.x q.x && int_eq p.y q.y
 
 -- whether the values of two numbers that stand there are the same
 abbrev pub TellsSameValue : Asked → List ℕ → NumberPlace → NumberPlace → Bool → Type 0
-TellsSameValue asked w a b same = (i j : ℕ) (u v : ℤ) → IsPlain asked w i (plain_at a u) → IsPlain asked w j (plain_at b v)
-    → same ≡ int_eq u v
+TellsSameValue asked w a b same = (i j : ℕ) (u v : ℤ) → IsPlain asked w i (plain_at a u)
+    → IsPlain asked w j (plain_at b v) → same ≡ int_eq u v
 
 -- whether the value of the first is that of some position which stands there and ends before the place
 abbrev pub TellsSamePair : Asked → List ℕ → ℕ → PairPlace → ℕ → ℕ → Bool → Type 0

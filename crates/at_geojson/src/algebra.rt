@@ -12,7 +12,7 @@ use crate::object_atoms::object_atom;
 use crate::pairs::Whole;
 use crate::runs::{add_item, closed_array};
 use crate::scalars::scalar_atom;
-use crate::values::whole_value;
+use crate::wholes::whole_value;
 use at_nest::{Algebra, Attempt, Member};
 use at_text::{Halt, Memory};
 use std::alloc::Global;

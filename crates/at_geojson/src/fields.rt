@@ -3,7 +3,8 @@
 ghost use Rattle.std.specs.Prelude.{◌≡◌, [], is_some};
 ghost use Rattle.at_geojson.specs.Atoms.{as_kind};
 ghost use Rattle.at_geojson.specs.Fields.{field_of, put_if, put_first as first_put, is_kind as names_kind};
-ghost use Rattle.at_geojson.specs.Fields.{is_coordinates, is_geometry, is_geometries, is_properties, is_features};
+ghost use Rattle.at_geojson.specs.Fields.{is_coordinates as names_coordinates, is_geometry, is_geometries};
+ghost use Rattle.at_geojson.specs.Fields.{is_properties, is_features};
 ghost use Rattle.at_geojson.specs.Fields.{is_no_field, value_in, AreFields, kind_in_fields};
 
 use crate::atoms::GeoAtom;
@@ -37,9 +38,22 @@ pub fn is_other(field: Field) -> bool
 
 /// Whether the member is `type`.
 #[inline(always)]
-pub fn is_kind(field: Field) -> bool {
+pub fn is_kind(field: Field) -> bool
+    ensures { result ≡ names_kind field }
+{
     match field {
         Field::Kind => true,
+        _ => false,
+    }
+}
+
+/// Whether the member is `coordinates`.
+#[inline(always)]
+pub fn is_coordinates(field: Field) -> bool
+    ensures { result ≡ names_coordinates field }
+{
+    match field {
+        Field::Coordinates => true,
         _ => false,
     }
 }
@@ -120,7 +134,7 @@ fn put_first(place: &mut Option<GeoAtom>, value: GeoAtom)
 }
 
 /// The kind that a value names.
-fn kind_named(atom: &GeoAtom) -> Option<Kind>
+pub fn kind_named(atom: &GeoAtom) -> Option<Kind>
     ensures { result ≡ as_kind atom.now }
 {
     match atom {
@@ -148,7 +162,7 @@ impl Fields {
     #[inline(always)]
     pub fn put(&mut self, field: Field, value: GeoAtom)
         ensures kind { self.new.kind ≡ put_if (names_kind field) self.old.kind value }
-        ensures coordinates { self.new.coordinates ≡ put_if (is_coordinates field) self.old.coordinates value }
+        ensures coordinates { self.new.coordinates ≡ put_if (names_coordinates field) self.old.coordinates value }
         ensures geometry { self.new.geometry ≡ put_if (is_geometry field) self.old.geometry value }
         ensures properties { self.new.properties ≡ put_if (is_properties field) self.old.properties value }
         ensures features { self.new.features ≡ put_if (is_features field) self.old.features value }

@@ -153,7 +153,7 @@ impl OtherNames {
 }
 
 /// Puts a name to those of members for which no kind asks, unless it is among them.
-fn add_other(text: &[u8], others: &mut OtherNames, name: NamePlace) -> Result<(), Halt>
+pub fn add_other(text: &[u8], others: &mut OtherNames, name: NamePlace) -> Result<(), Halt>
     requires names { ArePlainOthers text.now others.old }
     requires name { IsPlainName text.now name }
     ensures new { IfOk result (λ _. is_among_others text.now others.old (name_in text.now name) ≡ false) }
@@ -164,6 +164,20 @@ fn add_other(text: &[u8], others: &mut OtherNames, name: NamePlace) -> Result<()
     }
     others.add(name)?;
     Ok(())
+}
+
+/// The name of a member, which is plain.
+#[inline(always)]
+pub fn field_name(text: &[u8], at: usize) -> Result<FieldName, Halt>
+    requires inside { at ≤ length text.now }
+    requires short { length text.now ≤ 2 ^ 28 }
+    ensures place { IfOk result (λ name. IsNameAt text.now at name.place) }
+    ensures plain { IfOk result (λ name. IsPlainName text.now name.place) }
+    ensures field { IfOk result (λ name. name.field ≡ field_of (name_in text.now name.place)) }
+{
+    let place = plain_name(text, at)?;
+    let field = field_of_bytes(&text[place.first + 1..place.end - 1]);
+    Ok(FieldName { place, field })
 }
 
 /// A name like that of a member that is none of the fields and none of the others, to which it is put if no kind asks
@@ -183,14 +197,13 @@ pub fn new_name(
     ensures field { IfOk result (λ name. name.field ≡ field_of (name_in text.now name.place)) }
     ensures new { IfOk result (IsNewName text.now fields.now others.old others.new) }
 {
-    let place = plain_name(text, at)?;
-    let field = field_of_bytes(&text[place.first + 1..place.end - 1]);
-    if is_other(field) {
-        add_other(text, others, place)?;
-        return Ok(FieldName { place, field });
+    let name = field_name(text, at)?;
+    if is_other(name.field) {
+        add_other(text, others, name.place)?;
+        return Ok(name);
     }
-    if fields.has(field) {
-        return Err(Halt::At(place.end));
+    if fields.has(name.field) {
+        return Err(Halt::At(name.place.end));
     }
-    Ok(FieldName { place, field })
+    Ok(name)
 }

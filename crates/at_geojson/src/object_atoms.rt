@@ -24,7 +24,7 @@ use std::mem::replace;
 
 /// A role beside the texts for which the query asks.
 #[inline(always)]
-fn new_roles(alloc: Global, role: Role, texts: TextPairs) -> Result<Box<Roles>, Memory>
+pub fn new_roles(alloc: Global, role: Role, texts: TextPairs) -> Result<Box<Roles>, Memory>
     ensures role { IfOk result (λ roles. roles.value.role ≡ role) }
     ensures texts { IfOk result (λ roles. roles.value.texts ≡ texts) }
 {

@@ -6,8 +6,8 @@ ghost use Rattle.std.specs.Ordering.{int_eq};
 ghost use Rattle.at_geojson.specs.Keeping.{needs_shapes as needs_of};
 ghost use Rattle.at_geojson.specs.Atoms.{to_four};
 ghost use Rattle.at_geojson.specs.Values.{IsPlain, IsPair, IsSpacedPair};
-ghost use Rattle.at_geojson.specs.Passing.{PassesNumber, PassesPair, PassesTo, HasOnlyValue, TellsSameValue, TellsSamePair};
-ghost use Rattle.at_geojson.specs.Passing.{EndsPassed};
+ghost use Rattle.at_geojson.specs.Passing.{PassesNumber, PassesPair, PassesTo, HasOnlyValue, TellsSameValue};
+ghost use Rattle.at_geojson.specs.Passing.{TellsSamePair, EndsPassed};
 ghost use Rattle.at_geojson.specs.Rows.{EndsRow, EndsPoints, ArePointsWhole};
 
 use crate::asked::GeoAlgebra;
@@ -36,8 +36,8 @@ pub struct Plain {
     pub number: PlainNumber,
 }
 
-/// Where a number that is written plainly stands: the place of its first byte, the one behind it, and the one behind the
-/// white space.
+/// Where a number that is written plainly stands: the place of its first byte, the one behind it, and the one behind
+/// the white space.
 #[derive(Clone, Copy)]
 pub struct NumberPlace {
     pub first: usize,

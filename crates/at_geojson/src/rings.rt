@@ -82,7 +82,7 @@ fn add_list(lists: &mut Lists, needs: bool, points: Points) -> Result<(), Halt>
 }
 
 /// An array of lists of positions, from its opening bracket on, which stands at the place.
-fn read_lists(
+pub fn read_lists(
     algebra: &GeoAlgebra,
     alloc: Global,
     text: &[u8],
@@ -161,7 +161,7 @@ fn add_area(areas: &mut Areas, needs: bool, lists: Lists) -> Result<(), Halt>
 }
 
 /// An array of areas, from its opening bracket on, which stands at the place.
-fn read_areas(
+pub fn read_areas(
     algebra: &GeoAlgebra,
     alloc: Global,
     text: &[u8],

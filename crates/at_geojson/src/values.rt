@@ -185,7 +185,7 @@ fn read_any(
 /// White space, a value and white space.
 #[cycle(values)]
 #[inline(always)]
-fn read_item(
+pub fn read_item(
     algebra: &GeoAlgebra,
     alloc: Global,
     text: &[u8],
@@ -258,7 +258,7 @@ fn read_array(
 
 /// Coordinates of positions of two numbers that are written plainly, or another array, which stands at the place.
 #[cycle(values)]
-fn read_list(
+pub fn read_list(
     algebra: &GeoAlgebra,
     alloc: Global,
     text: &[u8],
@@ -295,7 +295,7 @@ fn ended_object(
 
 /// An object from its opening bracket on, which stands at the place.
 #[cycle(values)]
-fn read_object(
+pub fn read_object(
     algebra: &GeoAlgebra,
     alloc: Global,
     text: &[u8],
@@ -396,7 +396,7 @@ fn simple_string(algebra: &GeoAlgebra, text: &[u8], base: u32, at: usize, end: u
 
 /// A short string of ASCII without escapes, where no test looks at texts, with white space round it.
 #[inline(always)]
-fn read_simple(algebra: &GeoAlgebra, text: &[u8], base: u32, at: usize) -> Option<Whole>
+pub fn read_simple(algebra: &GeoAlgebra, text: &[u8], base: u32, at: usize) -> Option<Whole>
     requires inside { at ≤ length text.now }
     requires fits { base + length text.now ≤ 2 ^ 28 }
     requires unasked { list_any looks_at_texts algebra.now.query.tests ≡ false }
@@ -549,26 +549,4 @@ fn read_members(
         expect_comma(text, end)?;
         place = end + 1;
     }
-}
-
-/// Brackets stand at most so deep in a value that is read at once.
-const DEEPEST: u8 = 12;
-
-/// The array or object that begins the text, whose first byte stands at the offset.
-pub fn whole_value(
-    algebra: &GeoAlgebra,
-    alloc: Global,
-    text: &[u8],
-    base: u32,
-) -> Result<Whole, Halt>
-    requires { base + length text.now ≤ 2 ^ 28 }
-    ensures { IfOk result (IsWhole algebra.now base text.now 0) }
-{
-    if stands(text, 0, b'[') {
-        return read_list(algebra, alloc, text, base, 0, DEEPEST);
-    }
-    if stands(text, 0, b'{') {
-        return read_object(algebra, alloc, text, base, 0, DEEPEST);
-    }
-    Err(Halt::At(0))
 }

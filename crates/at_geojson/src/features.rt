@@ -1,0 +1,361 @@
+//! Features of a text, read at once where no test looks at texts: no atom is made of their members.
+
+ghost use Rattle.std.specs.Prelude.{◌≡◌, ◌+◌, ◌<◌, ◌≤◌, ◌^◌, true, false, [], None, length, slice_index, Ok, IfOk};
+ghost use Rattle.std.specs.List.{list_any};
+ghost use Rattle.at_geojson.specs.Keeping.{looks_at_texts};
+ghost use Rattle.at_geojson.specs.Members.{IsPlainName, ArePlainOthers};
+ghost use Rattle.at_geojson.specs.Objects.{texts_in};
+ghost use Rattle.at_geojson.specs.Values.{IsWhole};
+ghost use Rattle.at_geojson.specs.Features.{IsShapeRead, PassesProperties, ReadsField, ReadsMember, IfOwnGeometry};
+ghost use Rattle.at_geojson.specs.Features.{EndsFeature, IsFeatureRead};
+
+use crate::asked::GeoAlgebra;
+use crate::atoms::{GeoAtom, ObjectAtom, Role};
+use crate::fields::Field;
+use crate::geometries::Geometry;
+use crate::kinds::Kind;
+use crate::members::{FieldName, OtherNames, add_other, field_name};
+use crate::object_atoms::new_roles;
+use crate::objects::{feature_shape, of_feature};
+use crate::pairs::Whole;
+use crate::places::{expect_comma, skip_spaces, stands};
+use crate::plain_geometries::{KindRead, ShapeRead, read_geometry, read_kind};
+use crate::plain_objects::{pass_object, pass_other};
+use crate::shapes::empty_shape;
+use crate::twins::is_twin;
+use crate::values::read_item;
+use at_query::{Part, TextPairs};
+use at_text::{Fault, Halt};
+use std::alloc::Global;
+
+/// Brackets stand at most so deep in a member's value that is read at once.
+const DEEPEST: u8 = 10;
+
+/// A feature that was read: the place behind it, and its part or its first fault.
+#[derive(Drop)]
+pub struct FeatureRead {
+    pub end: usize,
+    pub part: Result<Part, Fault>,
+}
+
+/// What those members of a feature say that were read.
+#[derive(Drop)]
+pub struct FeatureMembers {
+    /// The member `type` names it a feature.
+    pub is_feature: bool,
+    pub geometry: Option<Result<Geometry, Fault>>,
+    /// There is a member `properties`, in which nothing is wrong.
+    pub has_properties: bool,
+}
+
+/// White space, any value as a geometry, and white space.
+fn other_geometry(
+    algebra: &GeoAlgebra,
+    alloc: Global,
+    text: &[u8],
+    base: u32,
+    at: usize,
+) -> Result<ShapeRead, Halt>
+    requires inside { at ≤ length text.now }
+    requires fits { base + length text.now ≤ 2 ^ 28 }
+    ensures { IfOk result (IsShapeRead algebra.now base text.now at) }
+{
+    let Whole { end, atom } = read_item(algebra, alloc, text, base, at, DEEPEST)?;
+    if is_twin(&atom) {
+        return Err(Halt::At(end));
+    }
+    let shape = feature_shape(alloc, Some(atom));
+    Ok(ShapeRead { end, shape })
+}
+
+/// White space, a value as a geometry, and white space.
+fn geometry_item(
+    algebra: &GeoAlgebra,
+    alloc: Global,
+    text: &[u8],
+    base: u32,
+    at: usize,
+) -> Result<ShapeRead, Halt>
+    requires inside { at ≤ length text.now }
+    requires fits { base + length text.now ≤ 2 ^ 28 }
+    requires unasked { list_any looks_at_texts algebra.now.query.tests ≡ false }
+    ensures { IfOk result (IsShapeRead algebra.now base text.now at) }
+{
+    let first = skip_spaces(text, at);
+    if !stands(text, first, b'{') {
+        return other_geometry(algebra, alloc, text, base, at);
+    }
+    match read_geometry(algebra, alloc, text, base, first) {
+        Ok(ShapeRead { end, shape }) => Ok(ShapeRead {
+            end: skip_spaces(text, end),
+            shape,
+        }),
+        Err(Halt::Memory) => Err(Halt::Memory),
+        Err(Halt::At(_)) => other_geometry(algebra, alloc, text, base, at),
+    }
+}
+
+/// Whether a value is `null` or an object without texts for which the query asks.
+fn has_no_texts(atom: &GeoAtom) -> bool
+    ensures { result ≡ true → texts_in atom.now ≡ Ok [] }
+{
+    match atom {
+        GeoAtom::Null(_) | GeoAtom::Void(_) => true,
+        GeoAtom::Object(object) => object.roles.texts.as_slice().is_empty(),
+        _ => false,
+    }
+}
+
+/// White space, any value as properties in which nothing is wrong and for whose texts no test asks, and white space.
+fn other_properties(
+    algebra: &GeoAlgebra,
+    alloc: Global,
+    text: &[u8],
+    base: u32,
+    at: usize,
+) -> Result<usize, Halt>
+    requires inside { at ≤ length text.now }
+    requires fits { base + length text.now ≤ 2 ^ 28 }
+    ensures { IfOk result (PassesProperties algebra.now base text.now at) }
+{
+    let Whole { end, atom } = read_item(algebra, alloc, text, base, at, DEEPEST)?;
+    if is_twin(&atom) {
+        return Err(Halt::At(end));
+    }
+    if !has_no_texts(&atom) {
+        return Err(Halt::At(end));
+    }
+    Ok(end)
+}
+
+/// White space, a value as properties in which nothing is wrong, and white space.
+fn pass_properties(
+    algebra: &GeoAlgebra,
+    alloc: Global,
+    text: &[u8],
+    base: u32,
+    at: usize,
+) -> Result<usize, Halt>
+    requires inside { at ≤ length text.now }
+    requires fits { base + length text.now ≤ 2 ^ 28 }
+    requires unasked { list_any looks_at_texts algebra.now.query.tests ≡ false }
+    ensures { IfOk result (PassesProperties algebra.now base text.now at) }
+{
+    let first = skip_spaces(text, at);
+    if !stands(text, first, b'{') {
+        return other_properties(algebra, alloc, text, base, at);
+    }
+    match pass_object(algebra, alloc, text, base, first) {
+        Ok(end) => Ok(skip_spaces(text, end)),
+        Err(Halt::Memory) => Err(Halt::Memory),
+        Err(Halt::At(_)) => other_properties(algebra, alloc, text, base, at),
+    }
+}
+
+impl FeatureMembers {
+    /// No members.
+    fn none() -> FeatureMembers
+        ensures kind { result.is_feature ≡ false }
+        ensures geometry { result.geometry ≡ None }
+        ensures properties { result.has_properties ≡ false }
+    {
+        FeatureMembers {
+            is_feature: false,
+            geometry: None,
+            has_properties: false,
+        }
+    }
+}
+
+/// Whether the kind is that of features.
+fn is_feature(kind: Kind) -> bool
+    ensures { result ≡ true → kind ≡ Kind.Feature }
+{
+    match kind {
+        Kind::Feature => true,
+        _ => false,
+    }
+}
+
+/// The value of the member `type`, with white space round it: it names a feature.
+#[inline(always)]
+fn kind_member(
+    algebra: &GeoAlgebra,
+    text: &[u8],
+    base: u32,
+    at: usize,
+    members: &mut FeatureMembers,
+) -> Result<usize, Halt>
+    requires inside { at ≤ length text.now }
+    requires fits { base + length text.now ≤ 2 ^ 28 }
+    requires unasked { list_any looks_at_texts algebra.now.query.tests ≡ false }
+    ensures { IfOk result (ReadsField algebra.now base text.now at Field.Kind members.old members.new) }
+{
+    let KindRead { end, kind } = read_kind(algebra, text, base, at)?;
+    if members.is_feature {
+        return Err(Halt::At(end));
+    }
+    if !is_feature(kind) {
+        return Err(Halt::At(end));
+    }
+    members.is_feature = true;
+    Ok(end)
+}
+
+/// The value of the member `geometry`, with white space round it.
+#[inline(always)]
+fn geometry_member(
+    algebra: &GeoAlgebra,
+    alloc: Global,
+    text: &[u8],
+    base: u32,
+    at: usize,
+    members: &mut FeatureMembers,
+) -> Result<usize, Halt>
+    requires inside { at ≤ length text.now }
+    requires fits { base + length text.now ≤ 2 ^ 28 }
+    requires unasked { list_any looks_at_texts algebra.now.query.tests ≡ false }
+    ensures { IfOk result (ReadsField algebra.now base text.now at Field.Geometry members.old members.new) }
+{
+    let ShapeRead { end, shape } = geometry_item(algebra, alloc, text, base, at)?;
+    if members.geometry.is_some() {
+        return Err(Halt::At(end));
+    }
+    members.geometry = Some(shape);
+    Ok(end)
+}
+
+/// The value of the member `properties`, with white space round it.
+#[inline(always)]
+fn properties_member(
+    algebra: &GeoAlgebra,
+    alloc: Global,
+    text: &[u8],
+    base: u32,
+    at: usize,
+    members: &mut FeatureMembers,
+) -> Result<usize, Halt>
+    requires inside { at ≤ length text.now }
+    requires fits { base + length text.now ≤ 2 ^ 28 }
+    requires unasked { list_any looks_at_texts algebra.now.query.tests ≡ false }
+    ensures { IfOk result (ReadsField algebra.now base text.now at Field.Properties members.old members.new) }
+{
+    let end = pass_properties(algebra, alloc, text, base, at)?;
+    if members.has_properties {
+        return Err(Halt::At(end));
+    }
+    members.has_properties = true;
+    Ok(end)
+}
+
+/// A feature's member behind its name. Of those of one name the first alone is read.
+#[inline(always)]
+fn read_member(
+    algebra: &GeoAlgebra,
+    alloc: Global,
+    text: &[u8],
+    base: u32,
+    name: FieldName,
+    members: &mut FeatureMembers,
+    others: &mut OtherNames,
+) -> Result<usize, Halt>
+    requires inside { name.place.colon < length text.now }
+    requires fits { base + length text.now ≤ 2 ^ 28 }
+    requires unasked { list_any looks_at_texts algebra.now.query.tests ≡ false }
+    requires plain { IsPlainName text.now name.place }
+    requires names { ArePlainOthers text.now others.old }
+    ensures { IfOk result (ReadsMember algebra.now base text.now name members.old members.new others.old
+        others.new) }
+{
+    let at = name.place.colon + 1;
+    match name.field {
+        Field::Kind => kind_member(algebra, text, base, at, members),
+        Field::Geometry => geometry_member(algebra, alloc, text, base, at, members),
+        Field::Properties => properties_member(algebra, alloc, text, base, at, members),
+        Field::Other => {
+            add_other(text, others, name.place)?;
+            pass_other(algebra, alloc, text, base, at)
+        }
+        _ => Err(Halt::At(at)),
+    }
+}
+
+/// A feature of its members, whose closing bracket stands before the place.
+fn ended_feature(
+    algebra: &GeoAlgebra,
+    alloc: Global,
+    at: u32,
+    end: usize,
+    members: FeatureMembers,
+) -> Result<FeatureRead, Halt>
+    requires { IfOwnGeometry algebra.now members.geometry }
+    ensures { IfOk result (EndsFeature algebra.now at end members) }
+{
+    let FeatureMembers {
+        is_feature,
+        geometry,
+        has_properties: _,
+    } = members;
+    if !is_feature {
+        return Err(Halt::At(end));
+    }
+    let shape = match geometry {
+        Some(shape) => shape,
+        None => Ok(empty_shape(alloc)),
+    };
+    let texts = TextPairs::from_vec(Vec::new(alloc));
+    let part = of_feature(alloc, algebra, at, shape, Ok(texts))?;
+    Ok(FeatureRead { end, part })
+}
+
+/// A feature where no test looks at texts, from its opening bracket on, which stands at the place.
+pub fn read_feature(
+    algebra: &GeoAlgebra,
+    alloc: Global,
+    text: &[u8],
+    base: u32,
+    at: usize,
+) -> Result<FeatureRead, Halt>
+    requires inside { at < length text.now }
+    requires opens { slice_index text.now at ≡ 0x7B }
+    requires fits { base + length text.now ≤ 2 ^ 28 }
+    requires unasked { list_any looks_at_texts algebra.now.query.tests ≡ false }
+    ensures { IfOk result (IsFeatureRead algebra.now base text.now at) }
+{
+    let mut members = FeatureMembers::none();
+    let mut others = OtherNames::none(alloc);
+    let mut place = at + 1;
+    'members: loop {
+        let name = field_name(text, place)?;
+        let end = read_member(algebra, alloc, text, base, name, &mut members, &mut others)?;
+        if stands(text, end, b'}') {
+            return ended_feature(algebra, alloc, base + at as u32, end + 1, members);
+        }
+        expect_comma(text, end)?;
+        place = end + 1;
+    }
+}
+
+/// A feature as a value.
+pub fn feature_value(
+    algebra: &GeoAlgebra,
+    alloc: Global,
+    text: &[u8],
+    base: u32,
+    at: usize,
+) -> Result<Whole, Halt>
+    requires inside { at < length text.now }
+    requires opens { slice_index text.now at ≡ 0x7B }
+    requires fits { base + length text.now ≤ 2 ^ 28 }
+    requires unasked { list_any looks_at_texts algebra.now.query.tests ≡ false }
+    ensures { IfOk result (IsWhole algebra.now base text.now at) }
+{
+    let FeatureRead { end, part } = read_feature(algebra, alloc, text, base, at)?;
+    let texts = TextPairs::from_vec(Vec::new(alloc));
+    let roles = new_roles(alloc, Role::Feature(part), texts)?;
+    let atom = GeoAtom::Object(ObjectAtom {
+        at: base + at as u32,
+        roles,
+    });
+    Ok(Whole { end, atom })
+}

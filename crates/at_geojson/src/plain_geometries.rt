@@ -1,0 +1,262 @@
+//! Geometries of a type and of coordinates that are written plainly, read at once: no atom is made of them.
+
+ghost use Rattle.std.specs.Prelude.{◌≡◌, ◌+◌, ◌<◌, ◌≤◌, ◌^◌, false, length, slice_index, IfOk};
+ghost use Rattle.std.specs.List.{list_any};
+ghost use Rattle.at_geojson.specs.Keeping.{looks_at_texts};
+ghost use Rattle.at_geojson.specs.PlainGeometries.{IsKindRead, AreCoordinatesOf, IsCoordinatesItem, IsGeometryRead};
+
+use crate::asked::GeoAlgebra;
+use crate::fields::{is_coordinates, is_kind, kind_named};
+use crate::geometries::Geometry;
+use crate::kinds::Kind;
+use crate::members::field_name;
+use crate::pairs::{PairRead, Whole, read_pair, read_points};
+use crate::places::{expect_comma, skip_spaces, stands};
+use crate::readings::{line_of, lines_of, point_of, points_of, polygon_of, polygons_of};
+use crate::rings::{read_areas, read_lists};
+use crate::values::read_simple;
+use at_text::{Fault, Halt};
+use std::alloc::Global;
+
+/// The kind that a text names, and the place behind it.
+#[derive(Clone, Copy)]
+pub struct KindRead {
+    pub end: usize,
+    pub kind: Kind,
+}
+
+/// A geometry that was read: the place behind it, and its shape or its first fault.
+#[derive(Drop)]
+pub struct ShapeRead {
+    pub end: usize,
+    pub shape: Result<Geometry, Fault>,
+}
+
+/// White space, the name of a kind, and white space.
+#[inline(always)]
+pub fn read_kind(algebra: &GeoAlgebra, text: &[u8], base: u32, at: usize) -> Result<KindRead, Halt>
+    requires inside { at ≤ length text.now }
+    requires fits { base + length text.now ≤ 2 ^ 28 }
+    requires unasked { list_any looks_at_texts algebra.now.query.tests ≡ false }
+    ensures { IfOk result (IsKindRead algebra.now base text.now at) }
+{
+    let Some(Whole { end, atom }) = read_simple(algebra, text, base, at) else {
+        return Err(Halt::At(at));
+    };
+    match kind_named(&atom) {
+        Some(kind) => Ok(KindRead { end, kind }),
+        None => Err(Halt::At(end)),
+    }
+}
+
+/// The coordinates of a point.
+fn read_point(
+    algebra: &GeoAlgebra,
+    alloc: Global,
+    text: &[u8],
+    base: u32,
+    at: usize,
+) -> Result<ShapeRead, Halt>
+    requires fits { base + length text.now ≤ 2 ^ 28 }
+    ensures { IfOk result (AreCoordinatesOf algebra.now base text.now at Kind.Point) }
+{
+    let Some(PairRead { end, pair }) = read_pair(algebra, text, base, at) else {
+        return Err(Halt::At(at));
+    };
+    let shape = Ok(point_of(alloc, algebra.needs_shapes(), pair.pos)?);
+    Ok(ShapeRead { end, shape })
+}
+
+/// The coordinates of points.
+fn read_multi_point(
+    algebra: &GeoAlgebra,
+    alloc: Global,
+    text: &[u8],
+    base: u32,
+    at: usize,
+) -> Result<ShapeRead, Halt>
+    requires inside { at < length text.now }
+    requires opens { slice_index text.now at ≡ 0x5B }
+    requires fits { base + length text.now ≤ 2 ^ 28 }
+    ensures { IfOk result (AreCoordinatesOf algebra.now base text.now at Kind.MultiPoint) }
+{
+    let read = read_points(algebra, alloc, text, base, at)?;
+    let shape = points_of(alloc, read.points);
+    Ok(ShapeRead {
+        end: read.end,
+        shape,
+    })
+}
+
+/// The coordinates of a line.
+fn read_line(
+    algebra: &GeoAlgebra,
+    alloc: Global,
+    text: &[u8],
+    base: u32,
+    at: usize,
+) -> Result<ShapeRead, Halt>
+    requires inside { at < length text.now }
+    requires opens { slice_index text.now at ≡ 0x5B }
+    requires fits { base + length text.now ≤ 2 ^ 28 }
+    ensures { IfOk result (AreCoordinatesOf algebra.now base text.now at Kind.LineString) }
+{
+    let read = read_points(algebra, alloc, text, base, at)?;
+    let shape = line_of(alloc, algebra.needs_shapes(), read.points)?;
+    Ok(ShapeRead {
+        end: read.end,
+        shape,
+    })
+}
+
+/// The coordinates of lines.
+fn read_multi_line(
+    algebra: &GeoAlgebra,
+    alloc: Global,
+    text: &[u8],
+    base: u32,
+    at: usize,
+) -> Result<ShapeRead, Halt>
+    requires inside { at < length text.now }
+    requires opens { slice_index text.now at ≡ 0x5B }
+    requires fits { base + length text.now ≤ 2 ^ 28 }
+    ensures { IfOk result (AreCoordinatesOf algebra.now base text.now at Kind.MultiLineString) }
+{
+    let read = read_lists(algebra, alloc, text, base, at)?;
+    let shape = lines_of(alloc, read.lists);
+    Ok(ShapeRead {
+        end: read.end,
+        shape,
+    })
+}
+
+/// The coordinates of a polygon.
+fn read_polygon(
+    algebra: &GeoAlgebra,
+    alloc: Global,
+    text: &[u8],
+    base: u32,
+    at: usize,
+) -> Result<ShapeRead, Halt>
+    requires inside { at < length text.now }
+    requires opens { slice_index text.now at ≡ 0x5B }
+    requires fits { base + length text.now ≤ 2 ^ 28 }
+    ensures { IfOk result (AreCoordinatesOf algebra.now base text.now at Kind.Polygon) }
+{
+    let read = read_lists(algebra, alloc, text, base, at)?;
+    let shape = polygon_of(alloc, algebra.needs_shapes(), read.lists)?;
+    Ok(ShapeRead {
+        end: read.end,
+        shape,
+    })
+}
+
+/// The coordinates of polygons.
+fn read_multi_polygon(
+    algebra: &GeoAlgebra,
+    alloc: Global,
+    text: &[u8],
+    base: u32,
+    at: usize,
+) -> Result<ShapeRead, Halt>
+    requires inside { at < length text.now }
+    requires opens { slice_index text.now at ≡ 0x5B }
+    requires fits { base + length text.now ≤ 2 ^ 28 }
+    ensures { IfOk result (AreCoordinatesOf algebra.now base text.now at Kind.MultiPolygon) }
+{
+    let read = read_areas(algebra, alloc, text, base, at)?;
+    let shape = polygons_of(alloc, read.areas);
+    Ok(ShapeRead {
+        end: read.end,
+        shape,
+    })
+}
+
+/// The coordinates of a geometry of the kind, from their opening bracket on, which stands at the place.
+fn read_coordinates_of(
+    algebra: &GeoAlgebra,
+    alloc: Global,
+    text: &[u8],
+    base: u32,
+    at: usize,
+    kind: Kind,
+) -> Result<ShapeRead, Halt>
+    requires inside { at < length text.now }
+    requires opens { slice_index text.now at ≡ 0x5B }
+    requires fits { base + length text.now ≤ 2 ^ 28 }
+    ensures { IfOk result (AreCoordinatesOf algebra.now base text.now at kind) }
+{
+    match kind {
+        Kind::Point => read_point(algebra, alloc, text, base, at),
+        Kind::MultiPoint => read_multi_point(algebra, alloc, text, base, at),
+        Kind::LineString => read_line(algebra, alloc, text, base, at),
+        Kind::MultiLineString => read_multi_line(algebra, alloc, text, base, at),
+        Kind::Polygon => read_polygon(algebra, alloc, text, base, at),
+        Kind::MultiPolygon => read_multi_polygon(algebra, alloc, text, base, at),
+        _ => Err(Halt::At(at)),
+    }
+}
+
+/// White space, the coordinates of a geometry of the kind, and white space.
+#[inline(always)]
+fn coordinates_item(
+    algebra: &GeoAlgebra,
+    alloc: Global,
+    text: &[u8],
+    base: u32,
+    at: usize,
+    kind: Kind,
+) -> Result<ShapeRead, Halt>
+    requires inside { at ≤ length text.now }
+    requires fits { base + length text.now ≤ 2 ^ 28 }
+    ensures { IfOk result (IsCoordinatesItem algebra.now base text.now at kind) }
+{
+    let first = skip_spaces(text, at);
+    if !stands(text, first, b'[') {
+        return Err(Halt::At(first));
+    }
+    let ShapeRead { end, shape } = read_coordinates_of(algebra, alloc, text, base, first, kind)?;
+    let end = skip_spaces(text, end);
+    Ok(ShapeRead { end, shape })
+}
+
+/// A geometry of two members, `type` and `coordinates`, from its opening bracket on, which stands at the place.
+pub fn read_geometry(
+    algebra: &GeoAlgebra,
+    alloc: Global,
+    text: &[u8],
+    base: u32,
+    at: usize,
+) -> Result<ShapeRead, Halt>
+    requires inside { at < length text.now }
+    requires opens { slice_index text.now at ≡ 0x7B }
+    requires fits { base + length text.now ≤ 2 ^ 28 }
+    requires unasked { list_any looks_at_texts algebra.now.query.tests ≡ false }
+    ensures { IfOk result (IsGeometryRead algebra.now base text.now at) }
+{
+    let first = field_name(text, at + 1)?;
+    if !is_kind(first.field) {
+        return Err(Halt::At(first.place.end));
+    }
+    let named = read_kind(algebra, text, base, first.place.colon + 1)?;
+    expect_comma(text, named.end)?;
+    let second = field_name(text, named.end + 1)?;
+    if !is_coordinates(second.field) {
+        return Err(Halt::At(second.place.end));
+    }
+    let ShapeRead { end, shape } = coordinates_item(
+        algebra,
+        alloc,
+        text,
+        base,
+        second.place.colon + 1,
+        named.kind,
+    )?;
+    if !stands(text, end, b'}') {
+        return Err(Halt::At(end));
+    }
+    Ok(ShapeRead {
+        end: end + 1,
+        shape,
+    })
+}
