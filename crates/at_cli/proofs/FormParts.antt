@@ -1,6 +1,6 @@
 -- The part of a file of any form, the answer that it gives, and the join of two.
 -- For `top`.
-use Rattle.std.proofs.Common.{◌≡◌, ℕ, ◌^◌, ◌≤◌, List, [], length, None, Some, Option, Result, Ok, Err, IfOk, MatchResult, sym, subst}
+use Rattle.std.proofs.Common.{◌≡◌, ℕ, ◌^◌, ◌≤◌, List, [], length, Some, Result, Ok, Err, IfOk, MatchResult, sym, subst}
 use Rattle.std.proofs.lemmas.Option.{none-some, same_Some}
 use Rattle.at_fixed.specs.declared.rounding.Coords.{Coords}
 use Rattle.at_query.specs.declared.query.queries.Verb.TheVariants.{Join}

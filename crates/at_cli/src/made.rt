@@ -6,13 +6,13 @@ ghost use Rattle.std.specs.List.{flat_map, range_with_len};
 ghost use Rattle.at_cli.specs.Made.{row as row_of, line_by, wkt_line, feature_by, before_feature as text_before};
 ghost use Rattle.at_cli.specs.Made.{feature_line, wkt_text as text_of_wkt, geojson_text as text_of_geojson, is_made};
 ghost use Rattle.at_cli.specs.Made.{IsMadeText};
-ghost use Rattle.at_cli.specs.Squares.{AreLineTexts, AreFeatureTexts, corners};
+ghost use Rattle.at_cli.specs.Squares.{AreLineTexts, AreFeatureTexts, corners, column_texts};
 ghost use Rattle.at_cli.specs.Values.{IsWhole, IsFileName};
 
-use crate::squares::{RowTexts, push_all};
+use crate::squares::{RowTexts, number_texts, push_all};
 use crate::words::flags::text_behind;
 use crate::words::values::{MOST_MADE, number_within};
-use at_text::Memory;
+use at_text::{Bytes, Memory};
 use itoa::Buffer;
 use std::alloc::{AllocError, Global};
 
@@ -24,17 +24,17 @@ const LINE: usize = 57;
 
 const FEATURE: usize = 165;
 
-/// The texts of a row of lines, which may be these.
-fn same_or_line_row(alloc: Global, texts: RowTexts, row: u32) -> Result<RowTexts, AllocError>
+/// Turns the texts of a row of lines into those of another, which may be the same.
+fn renew_line_row(alloc: Global, texts: &mut RowTexts, row: u32) -> Result<(), AllocError>
     requires row { row < 1000000 }
-    requires texts { AreLineTexts texts }
-    ensures row { IfOk result (λ made. made.row ≡ row) }
-    ensures texts { IfOk result AreLineTexts }
+    requires texts { AreLineTexts texts.old }
+    ensures row { OnOk result (texts.new.row ≡ row) }
+    ensures texts { OnOk result (AreLineTexts texts.new) }
 {
-    if texts.row == row {
-        return Ok(texts);
+    if texts.row != row {
+        *texts = line_row(alloc, row)?;
     }
-    line_row(alloc, row)
+    Ok(())
 }
 
 /// The texts of a row of lines.
@@ -46,17 +46,17 @@ fn line_row(alloc: Global, row: u32) -> Result<RowTexts, AllocError>
     RowTexts::new(alloc, row, " ", ",", "))\n")
 }
 
-/// The texts of a row of features, which may be these.
-fn same_or_feature_row(alloc: Global, texts: RowTexts, row: u32) -> Result<RowTexts, AllocError>
+/// Turns the texts of a row of features into those of another, which may be the same.
+fn renew_feature_row(alloc: Global, texts: &mut RowTexts, row: u32) -> Result<(), AllocError>
     requires row { row < 1000000 }
-    requires texts { AreFeatureTexts texts }
-    ensures row { IfOk result (λ made. made.row ≡ row) }
-    ensures texts { IfOk result AreFeatureTexts }
+    requires texts { AreFeatureTexts texts.old }
+    ensures row { OnOk result (texts.new.row ≡ row) }
+    ensures texts { OnOk result (AreFeatureTexts texts.new) }
 {
-    if texts.row == row {
-        return Ok(texts);
+    if texts.row != row {
+        *texts = feature_row(alloc, row)?;
     }
-    feature_row(alloc, row)
+    Ok(())
 }
 
 /// The texts of a row of features.
@@ -71,14 +71,12 @@ fn feature_row(alloc: Global, row: u32) -> Result<RowTexts, AllocError>
 /// Puts the corners of a square between two columns behind the text.
 fn push_corners(
     text: &mut Vec<u8>,
-    left: &str,
-    right: &str,
+    left: &[u8],
+    right: &[u8],
     row: &RowTexts,
 ) -> Result<(), AllocError>
     ensures { OnOk result (text.new.items ≡ text.old.items ++ corners left.now right.now row.now) }
 {
-    let left = left.as_bytes();
-    let right = right.as_bytes();
     let low = row.low.as_slice();
     let high = row.high.as_slice();
     let last = row.last.as_slice();
@@ -89,7 +87,12 @@ fn push_corners(
 }
 
 /// Puts the line of a square with these digits behind the text.
-fn push_line(text: &mut Vec<u8>, left: &str, right: &str, row: &RowTexts) -> Result<(), AllocError>
+fn push_line(
+    text: &mut Vec<u8>,
+    left: &[u8],
+    right: &[u8],
+    row: &RowTexts,
+) -> Result<(), AllocError>
     requires { AreLineTexts row.now }
     ensures { OnOk result (text.new.items ≡ text.old.items
         ++ line_by left.now right.now (decimal row.now.row) (decimal (row.now.row + 1))) }
@@ -103,8 +106,8 @@ fn push_feature(
     text: &mut Vec<u8>,
     before: &str,
     number: &str,
-    left: &str,
-    right: &str,
+    left: &[u8],
+    right: &[u8],
     row: &RowTexts,
 ) -> Result<(), AllocError>
     requires { AreFeatureTexts row.now }
@@ -124,18 +127,23 @@ fn push_feature(
 }
 
 /// Puts the line of square `index` behind the text.
-fn push_square(text: &mut Vec<u8>, index: u32, row: &RowTexts) -> Result<(), AllocError>
+fn push_square(
+    text: &mut Vec<u8>,
+    index: u32,
+    row: &RowTexts,
+    columns: &[Bytes],
+) -> Result<(), AllocError>
     requires index { index < 1000000 }
+    requires columns { columns.now ≡ column_texts }
     requires row { row.now.row ≡ row_of index }
     requires texts { AreLineTexts row.now }
     ensures { OnOk result (text.new.items ≡ text.old.items ++ wkt_line index) }
 {
-    let mut left = Buffer::new();
-    let mut right = Buffer::new();
+    let column = (index % COLUMNS) as usize;
     push_line(
         text,
-        left.format(index % COLUMNS),
-        right.format(index % COLUMNS + 1),
+        columns[column].as_slice(),
+        columns[column + 1].as_slice(),
         row,
     )
 }
@@ -148,21 +156,26 @@ fn before_feature(index: u32) -> &'static str
 }
 
 /// Puts feature `index` behind the text.
-fn push_numbered(text: &mut Vec<u8>, index: u32, row: &RowTexts) -> Result<(), AllocError>
+fn push_numbered(
+    text: &mut Vec<u8>,
+    index: u32,
+    row: &RowTexts,
+    columns: &[Bytes],
+) -> Result<(), AllocError>
     requires index { index < 1000000 }
+    requires columns { columns.now ≡ column_texts }
     requires row { row.now.row ≡ row_of index }
     requires texts { AreFeatureTexts row.now }
     ensures { OnOk result (text.new.items ≡ text.old.items ++ feature_line index) }
 {
     let mut number = Buffer::new();
-    let mut left = Buffer::new();
-    let mut right = Buffer::new();
+    let column = (index % COLUMNS) as usize;
     push_feature(
         text,
         before_feature(index),
         number.format(index),
-        left.format(index % COLUMNS),
-        right.format(index % COLUMNS + 1),
+        columns[column].as_slice(),
+        columns[column + 1].as_slice(),
         row,
     )
 }
@@ -172,10 +185,11 @@ fn push_squares(alloc: Global, text: &mut Vec<u8>, count: u32) -> Result<(), All
     requires { count ≤ 1000000 }
     ensures { OnOk result (text.new.items ≡ text.old.items ++ flat_map wkt_line (range_with_len 0 count)) }
 {
+    let columns = number_texts(alloc, COLUMNS + 1)?;
     let mut row = line_row(alloc, 0)?;
     for index in 0..count {
-        row = same_or_line_row(alloc, row, index / COLUMNS)?;
-        push_square(text, index, &row)?;
+        renew_line_row(alloc, &mut row, index / COLUMNS)?;
+        push_square(text, index, &row, columns.as_slice())?;
     }
     Ok(())
 }
@@ -185,10 +199,11 @@ fn push_features(alloc: Global, text: &mut Vec<u8>, count: u32) -> Result<(), Al
     requires { count ≤ 1000000 }
     ensures { OnOk result (text.new.items ≡ text.old.items ++ flat_map feature_line (range_with_len 0 count)) }
 {
+    let columns = number_texts(alloc, COLUMNS + 1)?;
     let mut row = feature_row(alloc, 0)?;
     for index in 0..count {
-        row = same_or_feature_row(alloc, row, index / COLUMNS)?;
-        push_numbered(text, index, &row)?;
+        renew_feature_row(alloc, &mut row, index / COLUMNS)?;
+        push_numbered(text, index, &row, columns.as_slice())?;
     }
     Ok(())
 }

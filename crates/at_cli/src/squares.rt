@@ -1,10 +1,12 @@
 //! How the corners of a made file's squares are written: what the squares of one row share is written once for the row.
 
 ghost use Rattle.std.specs.Prelude.{◌≡◌, ◌++◌, ◌∷◌, [], ◌+◌, ◌<◌, decimal, OnOk, IfOk};
-ghost use Rattle.std.specs.List.{flat_map};
+ghost use Rattle.std.specs.Prelude.{map};
+ghost use Rattle.std.specs.List.{flat_map, range_with_len};
 ghost use Rattle.at_cli.specs.Made.{texts};
 ghost use Rattle.at_cli.specs.Squares.{AreRowTexts};
 
+use at_text::Bytes;
 use itoa::Buffer;
 use std::alloc::{AllocError, Global};
 
@@ -42,6 +44,18 @@ fn marked(alloc: Global, before: &str, number: u32, behind: &str) -> Result<Vec<
         ],
     )?;
     Ok(text)
+}
+
+/// The texts of the first numbers, so many, from 0 on.
+pub fn number_texts(alloc: Global, count: u32) -> Result<Vec<Bytes>, AllocError>
+    requires { count < 1000000 }
+    ensures { IfOk result (λ (made : _). made.items ≡ map decimal (range_with_len 0 count)) }
+{
+    let mut numbers = Vec::with_capacity(alloc, count as usize)?;
+    for number in 0..count {
+        numbers.push(Bytes::from_vec(marked(alloc, "", number, "")?))?;
+    }
+    Ok(numbers)
 }
 
 impl RowTexts {
