@@ -80,8 +80,8 @@ fn entries<G: Gate, R: Threads + Sync>(
 /// The 64 cells of a grid over both are searched, by so many passes at once, and the gate is entered with each cell.
 ///
 /// # Errors
-/// `Second` is the second file's fault, exactly where it has one. `Memory` comes where an allocation was refused, and in
-/// the place of an answer wherever the gate gives up a cell.
+/// `Second` is the second file's fault, exactly where it has one. `Memory` comes where an allocation was refused, and
+/// in the place of an answer wherever the gate gives up a cell.
 pub fn join_with<G: Gate, R: Threads + Sync>(
     rt: &R,
     alloc: Global,

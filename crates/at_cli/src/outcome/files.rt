@@ -156,13 +156,14 @@ fn entries_as<G: Gate, R: Threads + Sync>(
 /// that has one. Each of the three forms is joined with each, where `answer_join` of at_run knows two.
 ///
 /// The query's tests are of the features of `a`: those of which all tests hold are joined with all features of `b`.
-/// Coordinates are whole multiples of 10^-digits. The blocks of each file are read, and then the 64 cells of a grid over
-/// both are searched, by so many passes at once; the gate is entered with each block of `a`, each of `b`, and each cell.
+/// Coordinates are whole multiples of 10^-digits. The blocks of each file are read, and then the 64 cells of a grid
+/// over both are searched, by so many passes at once; the gate is entered with each block of `a`, each of `b`, and each
+/// cell.
 ///
 /// # Errors
 /// `First` comes where `a` has a fault, and `Second` where `a` has none and `b` has one, each with the first of them.
-/// `Memory` comes where an allocation was refused, and in the place of an answer wherever the gate gives up a block or a
-/// cell.
+/// `Memory` comes where an allocation was refused, and in the place of an answer wherever the gate gives up a block or
+/// a cell.
 pub fn join_as<G: Gate, R: Threads + Sync>(
     rt: &R,
     alloc: Global,
