@@ -1,6 +1,6 @@
 -- A whole value, and an opening bracket alone, as what is read of the bytes from the bracket on.
 -- For `merge` and `run_block`.
-use Rattle.std.proofs.Common.{◌≡◌, ℕ, inl, inr, List, [], ◌∷◌, ◌++◌, Option, None, true, false, true≢false, refl, sym, ◌∙◌, ap, subst, arith, append_assoc, ◌+◌, ◌<◌, suc, length}
+use Rattle.std.proofs.Common.{◌≡◌, ℕ, inl, inr, List, [], ◌∷◌, ◌++◌, Option, None, true, false, true≢false, refl, sym, ◌∙◌, ap, subst, arith, append_assoc, ◌+◌, ◌<◌, ◌≤◌, suc, length, length-append}
 use Rattle.at_text.specs.Texts.{is_run}
 use Rattle.at_lex.specs.Runs.{JsonRun, Literal, literal_text, the_null, the_true, the_false}
 use Rattle.at_lex.specs.Spans.{opening}
@@ -16,7 +16,7 @@ use Rattle.at_nest.specs.declared.algebra.Attempt.{Attempt}
 use Rattle.at_nest.specs.Tree.{Tree, literal, number, text, array, object, Spells}
 use Rattle.at_nest.specs.Borders.{ends_run}
 use Rattle.at_nest.specs.Forms.{entry, mark, IsNoText}
-use Rattle.at_nest.specs.Folds.{IsAttempt}
+use Rattle.at_nest.specs.Folds.{IsAttempt, HasBrackets}
 use Rattle.at_nest.specs.Levels.{further, first_mode}
 use Rattle.at_nest.specs.Shown.{Shown, show_as, opened_as}
 use Rattle.at_nest.specs.KeptItems.{Content, PushesValue, OwnAtom}
@@ -65,7 +65,7 @@ no_bracket_run : (v r more : List ℕ) (b : Bracket) → v ++ r ≡ opening b �
 no_bracket_run [] r more b e h = no_nil h
 no_bracket_run (c ∷ v) r more b e h = no_opening b c (word_run (c ∷ v) h).0 (head_same c (opening b) (v ++ r) more e)
 
-between : (c d : ℕ) (u v : List ℕ) → v ≡ c ∷ (u ++ d ∷ []) → is_run d ≡ false → (0 < length v) × (ends_run v ≡ false)
+pub between : (c d : ℕ) (u v : List ℕ) → v ≡ c ∷ (u ++ d ∷ []) → is_run d ≡ false → (0 < length v) × (ends_run v ≡ false)
 between c d u v e n = (let size : length v ≡ suc (length (u ++ d ∷ [])) = ap (λ z. length z) e in omega (arith, size), ap ends_run e ∙ (ends_append (c ∷ u) d [] ∙ n))
 
 other_first : (c : ℕ) (x y : List ℕ) → (c ≡ 0x22 → ⊥) → c ∷ x ≡ 0x22 ∷ y → ⊥
@@ -78,7 +78,7 @@ no_quote Square x y e = other_first 0x5B x y (λ e. omega (arith, e)) e
 no_string : (b : Bracket) (v r more u : List ℕ) → v ++ r ≡ opening b ∷ more → v ≡ 0x22 ∷ u → ⊥
 no_string b v r more u e f = no_quote b more (u ++ r) (sym e ∙ ap (λ z. z ++ r) f)
 
-abbrev IsEnded : List ℕ → Type 0
+abbrev pub IsEnded : List ℕ → Type 0
 IsEnded v = (0 < length v) × (ends_run v ≡ false)
 
 literal_not : (v r more : List ℕ) (b : Bracket) (l : Literal) → v ++ r ≡ opening b ∷ more → v ≡ literal_text l → IsEnded v
@@ -104,6 +104,13 @@ value_no_text at v r more b (text i cs) e h = absurd (text_not v r more b cs e h
 value_no_text at v r more b (array i ts) e h = tt
 value_no_text at v r more b (object i ms) e h = tt
 
+pub value_brackets : (at : ℕ) (v r more : List ℕ) (b : Bracket) (t : Tree) → v ++ r ≡ opening b ∷ more → Spells at v t → HasBrackets t
+value_brackets at v r more b (literal i l) e h = absurd (no_bracket_run v r more b e (inl (l, h.1)))
+value_brackets at v r more b (number i n) e h = absurd (no_bracket_run v r more b e (inr (n, h.1, h.2)))
+value_brackets at v r more b (text i cs) e h = absurd (text_not v r more b cs e h.2)
+value_brackets at v r more b (array i ts) e h = tt
+value_brackets at v r more b (object i ms) e h = tt
+
 pub whole_ahead : {X : Type 0} (IsOwn : X → Type 0) (IsFold : X → Tree → Type 0) (IsRun : X → List Tree → Type 0) (old new : Shown X) (r : Option CodeHalt) (b : Bracket) (at : ℕ) (ahead : List ℕ) (len : ℕ) (x : X) → (more : List ℕ) × (ahead ≡ opening b ∷ more) → IsAttempt IsOwn IsFold at ahead (Whole len x)
     → PushesValue (OwnAtom IsOwn IsFold IsRun) old new r at x → ReadsAhead (OwnAtom IsOwn IsFold IsRun) old new r at ahead (at + len)
 whole_ahead IsOwn IsFold IsRun old new r b at ahead len x (more, e) (v, rest, split, size, t, spells, own, fold) pushes =
@@ -120,6 +127,9 @@ whole_ahead IsOwn IsFold IsRun old new r b at ahead len x (more, e) (v, rest, sp
         one_mark (OwnAtom IsOwn IsFold IsRun) base w new r f (entry at t) (pushes base w f t h (own, fold)),
       ),
     )
+
+pub whole_fits : {X : Type 0} (IsOwn : X → Type 0) (IsFold : X → Tree → Type 0) (at : ℕ) (w : List ℕ) (len : ℕ) (x : X) → IsAttempt IsOwn IsFold at w (Whole len x) → len ≤ length w
+whole_fits IsOwn IsFold at w len x (v, r, split, size, t, spells, own, fold) = let e : length w ≡ length (v ++ r) = ap (λ z. length z) split in omega (arith, size, e, length-append v r)
 
 -- a value of the first bytes alone
 pub attempt_front : {X : Type 0} (IsOwn : X → Type 0) (IsFold : X → Tree → Type 0) (at : ℕ) (front back w : List ℕ) (a : Attempt X) → front ++ back ≡ w → IsAttempt IsOwn IsFold at front a → IsAttempt IsOwn IsFold at w a

@@ -28,7 +28,7 @@ holds_covers : {X : Type 0} (IsOwn : X → Type 0) (IsFold : X → Tree → Type
 holds_covers IsOwn IsFold IsRun x ts (inl (t, e, k)) = (k.0, inl (t, e, k.1))
 holds_covers IsOwn IsFold IsRun x ts (inr k) = (k.0, inr k.1)
 
-covers_holds : {X : Type 0} (IsOwn : X → Type 0) (IsFold : X → Tree → Type 0) (IsRun : X → List Tree → Type 0) (x : X) (ts : List Tree) → IsOwn x → Covers IsFold IsRun x ts → Holds (OwnAtom IsOwn IsFold IsRun) x ts
+pub covers_holds : {X : Type 0} (IsOwn : X → Type 0) (IsFold : X → Tree → Type 0) (IsRun : X → List Tree → Type 0) (x : X) (ts : List Tree) → IsOwn x → Covers IsFold IsRun x ts → Holds (OwnAtom IsOwn IsFold IsRun) x ts
 covers_holds IsOwn IsFold IsRun x ts own (inl (t, e, k)) = inl (t, e, (own, k))
 covers_holds IsOwn IsFold IsRun x ts own (inr k) = inr (own, k)
 

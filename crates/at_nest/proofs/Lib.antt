@@ -36,6 +36,7 @@ pub mod TokenMarks
 pub mod Items
 pub mod Refusals
 pub mod Ahead
+pub mod SeveralAhead
 pub mod Passed
 pub mod Neighbours
 pub mod UnionsHeld

@@ -1,21 +1,24 @@
 -- A row of values, each behind a comma: how it grows before the first open level, and what it does to the level behind which it is put.
 -- For `finish`, `finish_span`, `merge` and `run_block`.
-use Rattle.std.proofs.Common.{◌≡◌, ℕ, Option, Some, None, List, [], ◌∷◌, ◌++◌, inl, inr, refl, sym, ◌∙◌, ap, subst, append_assoc, append-nil}
+use Rattle.std.proofs.Common.{◌≡◌, ℕ, Option, Some, None, List, [], ◌∷◌, ◌++◌, inl, inr, refl, sym, ◌∙◌, ap, subst, append_assoc, append-nil, true, true≢false}
 use Rattle.std.proofs.lemmas.Option.{none-some, same_Some}
+use Rattle.at_nest.specs.declared.levels.ArrayState.{ArrayState}
 use Rattle.at_nest.specs.declared.levels.ArrayState.TheVariants as array
 use Rattle.at_nest.specs.declared.levels.ObjectState.TheVariants as object
 use Rattle.at_nest.specs.declared.levels.Level.{Level as CodeLevel}
 use Rattle.at_nest.specs.declared.levels.Step.TheVariants.{On, Refused}
 use Rattle.at_nest.specs.declared.pieces.Piece.{Piece as CodePiece}
-use Rattle.at_nest.specs.declared.pieces.Piece.TheVariants.{Comma, Row as RowPiece}
+use Rattle.at_nest.specs.declared.pieces.Piece.TheVariants.{Closes, Comma, Colon, Text, Value, Row as RowPiece, Members as MembersPiece, Closers as ClosersPiece}
 use Rattle.at_nest.specs.declared.pieces.Row.{Row}
 use Rattle.at_nest.specs.declared.pieces.SpanStop.{SpanStop as CodeHalt}
 use Rattle.at_nest.specs.Tree.{Tree}
 use Rattle.at_nest.specs.Forms.{Mark, Piece, opens, closes, mark, comma, colon, quoted, entry}
 use Rattle.at_nest.specs.Walks.{comma_kind, value_kind}
-use Rattle.at_nest.specs.Levels.{Mode, at_after, at_name, Level, values_in, marks, move, moves, further, with_mark, push_mark, push_all, push_then}
-use Rattle.at_nest.specs.Shown.{Held, held_of, AreOwn, IsStep, array_level, object_level, Shown, show_as, kept_outside, put_back, comma_next, stop_at}
-use Rattle.at_nest.specs.KeptItems.{Content, free, row_marks, row_trees, Each, Gains, GainsAll, IsHeld, EachHeld, IsHeldPiece, IsRow, ArePieces, EachPiece, IsOfItems, IsPushedAs, PushesValue, PushesBehind, PushesRow, LongerRow, IsRowNext}
+use Rattle.at_nest.specs.Levels.{Mode, at_after, at_name, Level, values_in, marks, move, moves, Pushed, further, stopped, with_mark, push, push_all, push_then}
+use Rattle.at_nest.specs.Shown.{Held, held_of, AreOwn, IsStep, array_level, object_level, Shown, show_as, kept_outside, put_back, comma_next, value_next, stop_at}
+use Rattle.at_nest.specs.KeptItems.{Content, free, array_mode, row_marks, row_trees, Each, Gains, GainsAll, IsHeld, EachHeld, IsHeldPiece, IsRow, ArePieces, EachPiece, IsOfItems, IsPushedAs, PushesValue, PushesItems, PushesBehind, PushesRow, LongerRow, IsRowNext}
+use Rattle.at_nest.specs.Refusals.{last_of, is_comma as comma_piece, is_comma_last}
+use Rattle.at_nest.proofs.Nests.{last_behind}
 use Rattle.at_nest.proofs.Held.{values_append, with_one, IsMoved, comma_moves, each_cut}
 use Rattle.at_nest.proofs.Pushes.{marks_append}
 use Rattle.at_nest.proofs.Joining.{push_marks}
@@ -80,48 +83,63 @@ module _ {X : Type 0} (IsKept : X → Content → Type 0) where
   -- ---- before the first open level
 
   pub row_begun : (old new : Shown X) (r : Option CodeHalt) (row : Row X) (x : X) → old.levels ≡ [] → Gains IsKept [] x row.items.items → (new, r) ≡ kept_outside old.outer (RowPiece row) → PushesBehind IsKept old new r row.comma row.first x
-  row_begun old new r row x e more d base w f t h k = subst (λ a. IsPushedAs IsKept base w a.0 a.1 (push_all free (mark (comma row.comma) ∷ mark (entry row.first t) ∷ []) f)) (sym d) (here f.levels (subst (λ z. EachHeld IsKept z f.levels) e h.1))
+  row_begun old new r row x e more d base w f t others h k = let xs : List (Mark Tree) = row_marks ((row.comma, row.first, t) ∷ others) in
+      subst (λ a. IsPushedAs IsKept base w a.0 a.1 (push_all free (marks xs) f)) (sym d) (here f.levels (subst (λ z. EachHeld IsKept z f.levels) e h.1))
     where
-      here : (ls : List (Level Tree)) → EachHeld IsKept [] ls → IsPushedAs IsKept base w (show_as (old.outer ++ RowPiece row ∷ []) []) None (push_all free (mark (comma row.comma) ∷ mark (entry row.first t) ∷ []) (record { outer = f.outer; levels = ls }))
-      here [] u = subst (IsPushedAs IsKept base w (show_as (old.outer ++ RowPiece row ∷ []) []) None) (sym (push_outside (comma row.comma ∷ entry row.first t ∷ []) f.outer))
-          (pieces_append IsKept base w old.outer f.outer (RowPiece row) (mark (comma row.comma) ∷ mark (entry row.first t) ∷ []) h.0 (inr (record { tree = t; others = []; split = refl; items = more [] (t ∷ []) refl (inl (t, refl, k)) })), tt)
+      here : (ls : List (Level Tree)) → EachHeld IsKept [] ls → IsPushedAs IsKept base w (show_as (old.outer ++ RowPiece row ∷ []) []) None (push_all free (marks (row_marks ((row.comma, row.first, t) ∷ others))) (record { outer = f.outer; levels = ls }))
+      here [] u = subst (IsPushedAs IsKept base w (show_as (old.outer ++ RowPiece row ∷ []) []) None) (sym (push_outside (row_marks ((row.comma, row.first, t) ∷ others)) f.outer))
+          (pieces_append IsKept base w old.outer f.outer (RowPiece row) (marks (row_marks ((row.comma, row.first, t) ∷ others))) h.0 (inr (record { tree = t; others = others; split = refl; items = more [] (t ∷ row_trees others) refl k })), tt)
       here (l ∷ ls) u = absurd u
 
-  longer_split : (before row : Row X) (c i : ℕ) (tree t : Tree) (others : List (ℕ × ℕ × Tree)) (vs : List (Piece Tree)) → row.comma ≡ before.comma → row.first ≡ before.first → vs ≡ marks (row_marks ((before.comma, before.first, tree) ∷ others))
-      → vs ++ (mark (comma c) ∷ mark (entry i t) ∷ []) ≡ marks (row_marks ((row.comma, row.first, tree) ∷ (others ++ (c, i, t) ∷ [])))
-  longer_split before row c i tree t others vs ec ei e = ap (λ z. z ++ (mark (comma c) ∷ mark (entry i t) ∷ [])) e ∙ (sym (marks_append (row_marks ((before.comma, before.first, tree) ∷ others)) (comma c ∷ entry i t ∷ []))
-      ∙ (ap marks (sym (row_marks_append ((before.comma, before.first, tree) ∷ others) ((c, i, t) ∷ [])))
-      ∙ (ap (λ n. marks (row_marks ((n, before.first, tree) ∷ (others ++ (c, i, t) ∷ [])))) (sym ec) ∙ ap (λ n. marks (row_marks ((row.comma, n, tree) ∷ (others ++ (c, i, t) ∷ [])))) (sym ei))))
+  longer_split : (before row : Row X) (tree : Tree) (others gs : List (ℕ × ℕ × Tree)) (vs : List (Piece Tree)) → row.comma ≡ before.comma → row.first ≡ before.first → vs ≡ marks (row_marks ((before.comma, before.first, tree) ∷ others))
+      → vs ++ marks (row_marks gs) ≡ marks (row_marks ((row.comma, row.first, tree) ∷ (others ++ gs)))
+  longer_split before row tree others gs vs ec ei e = ap (λ z. z ++ marks (row_marks gs)) e ∙ (sym (marks_append (row_marks ((before.comma, before.first, tree) ∷ others)) (row_marks gs))
+      ∙ (ap marks (sym (row_marks_append ((before.comma, before.first, tree) ∷ others) gs))
+      ∙ (ap (λ n. marks (row_marks ((n, before.first, tree) ∷ (others ++ gs)))) (sym ec) ∙ ap (λ n. marks (row_marks ((row.comma, n, tree) ∷ (others ++ gs)))) (sym ei))))
 
   pub row_longer : (old new : Shown X) (r : Option CodeHalt) (front : List (CodePiece X)) (before row : Row X) (c i : ℕ) (x : X) → old.levels ≡ [] → old.outer ≡ front ++ RowPiece before ∷ [] → LongerRow IsKept before row x → (new, r) ≡ kept_outside front (RowPiece row) → PushesBehind IsKept old new r c i x
-  row_longer old new r front before row c i x e e2 (ec, ei, more) d base w f t h k = subst (λ a. IsPushedAs IsKept base w a.0 a.1 (push_all free (mark (comma c) ∷ mark (entry i t) ∷ []) f)) (sym d) (here f.levels (subst (λ z. EachHeld IsKept z f.levels) e h.1))
+  row_longer old new r front before row c i x e e2 (ec, ei, more) d base w f t others h k = subst (λ a. IsPushedAs IsKept base w a.0 a.1 (push_all free (marks (row_marks gs)) f)) (sym d) (here f.levels (subst (λ z. EachHeld IsKept z f.levels) e h.1))
     where
-      kept : EachPiece IsKept base w (front ++ RowPiece row ∷ []) (f.outer ++ (mark (comma c) ∷ mark (entry i t) ∷ []))
+      gs : List (ℕ × ℕ × Tree)
+      gs = (c, i, t) ∷ others
+
+      kept : EachPiece IsKept base w (front ++ RowPiece row ∷ []) (f.outer ++ marks (row_marks gs))
       kept = let s = pieces_cut IsKept base w front (RowPiece before) f.outer (subst (λ z. EachPiece IsKept base w z f.outer) e2 h.0) in
           let q : IsRow IsKept before s.1 = is_row before base w s.1 s.4 in
-          subst (EachPiece IsKept base w (front ++ RowPiece row ∷ [])) (sym (ap (λ z. z ++ (mark (comma c) ∷ mark (entry i t) ∷ [])) s.2 ∙ append_assoc s.0 s.1 (mark (comma c) ∷ mark (entry i t) ∷ [])))
-          (pieces_append IsKept base w front s.0 (RowPiece row) (s.1 ++ (mark (comma c) ∷ mark (entry i t) ∷ [])) s.3 (inr (record {
+          subst (EachPiece IsKept base w (front ++ RowPiece row ∷ [])) (sym (ap (λ z. z ++ marks (row_marks gs)) s.2 ∙ append_assoc s.0 s.1 (marks (row_marks gs))))
+          (pieces_append IsKept base w front s.0 (RowPiece row) (s.1 ++ marks (row_marks gs)) s.3 (inr (record {
             tree = q.tree;
-            others = q.others ++ (c, i, t) ∷ [];
-            split = longer_split before row c i q.tree t q.others s.1 ec ei q.split;
-            items = subst (λ z. Each IsKept row.items.items (q.tree ∷ z)) (sym (row_trees_append q.others ((c, i, t) ∷ []))) (more (q.tree ∷ row_trees q.others) (t ∷ []) q.items (inl (t, refl, k)));
+            others = q.others ++ gs;
+            split = longer_split before row q.tree q.others gs s.1 ec ei q.split;
+            items = subst (λ z. Each IsKept row.items.items (q.tree ∷ z)) (sym (row_trees_append q.others gs)) (more (q.tree ∷ row_trees q.others) (t ∷ row_trees others) q.items k);
           })))
 
-      here : (ls : List (Level Tree)) → EachHeld IsKept [] ls → IsPushedAs IsKept base w (show_as (front ++ RowPiece row ∷ []) []) None (push_all free (mark (comma c) ∷ mark (entry i t) ∷ []) (record { outer = f.outer; levels = ls }))
-      here [] u = subst (IsPushedAs IsKept base w (show_as (front ++ RowPiece row ∷ []) []) None) (sym (push_outside (comma c ∷ entry i t ∷ []) f.outer)) (kept, tt)
+      here : (ls : List (Level Tree)) → EachHeld IsKept [] ls → IsPushedAs IsKept base w (show_as (front ++ RowPiece row ∷ []) []) None (push_all free (marks (row_marks gs)) (record { outer = f.outer; levels = ls }))
+      here [] u = subst (IsPushedAs IsKept base w (show_as (front ++ RowPiece row ∷ []) []) None) (sym (push_outside (row_marks gs) f.outer)) (kept, tt)
       here (l ∷ ls) u = absurd u
 
-  -- a value, where a comma was the last
-  pub value_behind : (old new : Shown X) (r : Option CodeHalt) (front : List (CodePiece X)) (c i : ℕ) (x : X) → old.levels ≡ [] → old.outer ≡ front ++ Comma c ∷ [] → PushesBehind IsKept (show_as front old.levels) new r c i x → PushesValue IsKept old new r i x
-  value_behind old new r front c i x e e2 pushes base w f t h k = here f.levels (subst (λ z. EachHeld IsKept z f.levels) e h.1)
+  -- values, where a comma was the last
+  pub items_behind : (old new : Shown X) (r : Option CodeHalt) (front : List (CodePiece X)) (c i : ℕ) (x : X) → old.levels ≡ [] → old.outer ≡ front ++ Comma c ∷ [] → PushesBehind IsKept (show_as front old.levels) new r c i x → PushesItems IsKept old new r i x
+  items_behind old new r front c i x e e2 pushes base w f t others h k = here f.levels (subst (λ z. EachHeld IsKept z f.levels) e h.1)
     where
-      here : (ls : List (Level Tree)) → EachHeld IsKept [] ls → IsPushedAs IsKept base w new r (push_mark f.outer ls (entry i t))
+      ms : List (Mark Tree)
+      ms = entry i t ∷ row_marks others
+
+      here : (ls : List (Level Tree)) → EachHeld IsKept [] ls → IsPushedAs IsKept base w new r (push_all free (marks ms) (record { outer = f.outer; levels = ls }))
       here [] u = let s = pieces_cut IsKept base w front (Comma c) f.outer (subst (λ z. EachPiece IsKept base w z f.outer) e2 h.0) in
           let outer : f.outer ≡ s.0 ++ mark (comma c) ∷ [] = s.2 ∙ ap (λ z. s.0 ++ z) (is_comma c base w s.1 s.4) in
-          let all : s.0 ++ (mark (comma c) ∷ mark (entry i t) ∷ []) ≡ f.outer ++ mark (entry i t) ∷ [] = sym (append_assoc s.0 (mark (comma c) ∷ []) (mark (entry i t) ∷ [])) ∙ ap (λ z. z ++ mark (entry i t) ∷ []) (sym outer) in
-          subst (IsPushedAs IsKept base w new r) (push_outside (comma c ∷ entry i t ∷ []) s.0 ∙ ap (λ z. further (record { outer = z; levels = [] })) all)
-          (pushes base w (record { outer = s.0; levels = [] }) t (s.3, subst (λ z. EachHeld IsKept z []) (sym e) tt) k)
+          let all : s.0 ++ (mark (comma c) ∷ marks ms) ≡ f.outer ++ marks ms = sym (append_assoc s.0 (mark (comma c) ∷ []) (marks ms)) ∙ ap (λ z. z ++ marks ms) (sym outer) in
+          subst (IsPushedAs IsKept base w new r) (push_outside (comma c ∷ ms) s.0 ∙ (ap (λ z. further (record { outer = z; levels = [] })) all ∙ sym (push_outside ms f.outer)))
+          (pushes base w (record { outer = s.0; levels = [] }) t others (s.3, subst (λ z. EachHeld IsKept z []) (sym e) tt) k)
       here (l ∷ ls) u = absurd u
+
+  only_one : (base : ℕ) (w : List ℕ) (new : Shown X) (r : Option CodeHalt) (o : Pushed Tree) → IsPushedAs IsKept base w new r (push_then (push_all free []) o) → IsPushedAs IsKept base w new r o
+  only_one base w new r (further g) h = h
+  only_one base w new r (stopped g i) h = h
+
+  -- a value
+  pub value_behind : (old new : Shown X) (r : Option CodeHalt) (front : List (CodePiece X)) (c i : ℕ) (x : X) → old.levels ≡ [] → old.outer ≡ front ++ Comma c ∷ [] → PushesBehind IsKept (show_as front old.levels) new r c i x → PushesValue IsKept old new r i x
+  value_behind old new r front c i x e e2 pushes base w f t h k = only_one base w new r (push free f (mark (entry i t))) (items_behind old new r front c i x e e2 pushes base w f t [] h (inl (t, refl, k)))
 
   pub row_outside : (old new : Shown X) (r : Option CodeHalt) (row : Row X) (outer : List (CodePiece X)) → old.levels ≡ [] → old.outer ≡ outer → (new, r) ≡ kept_outside outer (RowPiece row) → PushesRow IsKept old new r row
   row_outside old new r row outer e e2 d base w f ps h k = subst (λ a. IsPushedAs IsKept base w a.0 a.1 (push_all free ps f)) (sym d) (here f.levels (subst (λ z. EachHeld IsKept z f.levels) e h.1))
@@ -134,19 +152,43 @@ module _ {X : Type 0} (IsKept : X → Content → Type 0) where
 
   -- ---- in a level
 
-  -- an array goes on with all of it
+  -- an array goes on with all values
+  items_in_array : (base : ℕ) (w : List ℕ) (outer : List (CodePiece X)) (hs : List (Held X)) (fo : List (Piece Tree)) (ls : List (Level Tree)) (j : ℕ) (s : ArrayState) (xs ys : List X) (l : Level Tree) (i : ℕ) (t : Tree) (es : List (ℕ × ℕ × Tree))
+      → EachPiece IsKept base w outer fo → EachHeld IsKept hs ls → IsHeld IsKept (array_level j s xs) l → moves (array_mode s) (entry i t ∷ row_marks es) ≡ Some at_after → Each IsKept ys (values_in free l.inside ++ (t ∷ row_trees es))
+      → IsPushedAs IsKept base w (show_as outer (array_level j array.Value ys ∷ hs)) None (push_all free (marks (entry i t ∷ row_marks es)) (record { outer = fo; levels = l ∷ ls }))
+  items_in_array base w outer hs fo ls j s xs ys l i t es ho hl k m items =
+      let ms : List (Mark Tree) = entry i t ∷ row_marks es in
+      let on : moves l.mode ms ≡ Some at_after = ap (λ z. moves z ms) k.2 ∙ m in
+      let values : values_in free (l.inside ++ ms) ≡ values_in free l.inside ++ (t ∷ row_trees es) = values_append l.inside ms ∙ ap (λ z. values_in free l.inside ++ (t ∷ z)) (row_values es) in
+      subst (IsPushedAs IsKept base w (show_as outer (array_level j array.Value ys ∷ hs)) None) (sym (push_marks ms l.inside l.bracket l.from l.mode at_after fo ls on))
+      (ho, ((k.0, k.1, refl, subst (Each IsKept ys) (sym values) items), hl))
+
+  -- an array goes on with all of a row
   row_in_array : (base : ℕ) (w : List ℕ) (outer : List (CodePiece X)) (hs : List (Held X)) (fo : List (Piece Tree)) (ls : List (Level Tree)) (j : ℕ) (xs : List X) (l : Level Tree) (row : Row X) (t : Tree) (es : List (ℕ × ℕ × Tree)) (o : Option (Held X))
       → EachPiece IsKept base w outer fo → EachHeld IsKept hs ls → IsHeld IsKept (array_level j array.Comma xs) l → Each IsKept row.items.items (t ∷ row_trees es) → IsRowNext IsKept (array_level j array.Comma xs) row.items.items o
       → IsPushedAs IsKept base w (put_back outer hs row.first (array_level j array.Comma xs) o).0 (put_back outer hs row.first (array_level j array.Comma xs) o).1 (push_all free (marks (entry row.first t ∷ row_marks es)) (record { outer = fo; levels = l ∷ ls }))
   row_in_array base w outer hs fo ls j xs l row t es None ho hl k items n = absurd n
   row_in_array base w outer hs fo ls j xs l row t es (Some h) ho hl k items (ys, eh, more) =
-      let ms : List (Mark Tree) = entry row.first t ∷ row_marks es in
-      let on : moves l.mode ms ≡ Some at_after = ap (λ z. moves z ms) k.2 ∙ row_moves es in
-      let values : values_in free (l.inside ++ ms) ≡ values_in free l.inside ++ (t ∷ row_trees es) = values_append l.inside ms ∙ ap (λ z. values_in free l.inside ++ (t ∷ z)) (row_values es) in
-      let held : IsHeld IsKept (array_level j array.Value ys) (record { bracket = l.bracket; from = l.from; inside = l.inside ++ ms; mode = at_after }) =
-      (k.0, k.1, refl, subst (Each IsKept ys) (sym values) (more (values_in free l.inside) (t ∷ row_trees es) k.3 items)) in
-      subst (IsPushedAs IsKept base w (show_as outer (h ∷ hs)) None) (sym (push_marks ms l.inside l.bracket l.from l.mode at_after fo ls on))
-      (ho, (subst (λ z. IsHeld IsKept z (record { bracket = l.bracket; from = l.from; inside = l.inside ++ ms; mode = at_after })) (sym eh) held, hl))
+      subst (λ z. IsPushedAs IsKept base w (show_as outer (z ∷ hs)) None (push_all free (marks (entry row.first t ∷ row_marks es)) (record { outer = fo; levels = l ∷ ls }))) (sym eh)
+      (items_in_array base w outer hs fo ls j array.Comma xs ys l row.first t es ho hl k (row_moves es) (more (values_in free l.inside) (t ∷ row_trees es) k.3 items))
+
+  -- values put into an array, or refused by one that wants a comma
+  items_pushed : (base : ℕ) (w : List ℕ) (outer : List (CodePiece X)) (hs : List (Held X)) (fo : List (Piece Tree)) (ls : List (Level Tree)) (j : ℕ) (s : ArrayState) (xs ys : List X) (l : Level Tree) (i : ℕ) (x : X) (t : Tree) (es : List (ℕ × ℕ × Tree))
+      → EachPiece IsKept base w outer fo → EachHeld IsKept hs ls → IsHeld IsKept (array_level j s xs) l → Each IsKept ys (values_in free l.inside ++ (t ∷ row_trees es))
+      → IsPushedAs IsKept base w (put_back outer hs i (array_level j s xs) (value_next (array_level j s xs) x ys)).0 (put_back outer hs i (array_level j s xs) (value_next (array_level j s xs) x ys)).1 (push_all free (marks (entry i t ∷ row_marks es)) (record { outer = fo; levels = l ∷ ls }))
+  items_pushed base w outer hs fo ls j array.Empty xs ys l i x t es ho hl k items = items_in_array base w outer hs fo ls j array.Empty xs ys l i t es ho hl k (row_moves es) items
+  items_pushed base w outer hs fo ls j array.Comma xs ys l i x t es ho hl k items = items_in_array base w outer hs fo ls j array.Comma xs ys l i t es ho hl k (row_moves es) items
+  items_pushed base w outer hs fo ls j array.Value xs ys l i x t es ho hl k items =
+      subst (λ md. IsPushedAs IsKept base w (show_as outer (array_level j array.Value xs ∷ hs)) (Some (stop_at i)) (push_then (push_all free (marks (row_marks es))) (with_mark fo ls l (entry i t) (move md value_kind)))) (sym k.2) ((ho, (k, hl)), refl)
+
+  pub items_put : (old : Shown X) (outer : List (CodePiece X)) (hs : List (Held X)) (new : Shown X) (r : Option CodeHalt) (j : ℕ) (s : ArrayState) (xs : List X) (i : ℕ) (x : X) (ys : List X) → old.levels ≡ array_level j s xs ∷ hs → old.outer ≡ outer
+      → (new, r) ≡ put_back outer hs i (array_level j s xs) (value_next (array_level j s xs) x ys) → Gains IsKept xs x ys → PushesItems IsKept old new r i x
+  items_put old outer hs new r j s xs i x ys e e2 d more base w f t others h k = subst (λ a. IsPushedAs IsKept base w a.0 a.1 (push_all free (marks (entry i t ∷ row_marks others)) f)) (sym d) (here f.levels (subst (λ z. EachHeld IsKept z f.levels) e h.1))
+    where
+      here : (ls : List (Level Tree)) → EachHeld IsKept (array_level j s xs ∷ hs) ls
+          → IsPushedAs IsKept base w (put_back outer hs i (array_level j s xs) (value_next (array_level j s xs) x ys)).0 (put_back outer hs i (array_level j s xs) (value_next (array_level j s xs) x ys)).1 (push_all free (marks (entry i t ∷ row_marks others)) (record { outer = f.outer; levels = ls }))
+      here [] u = absurd u
+      here (l ∷ ls) u = items_pushed base w outer hs f.outer ls j s xs ys l i x t others (subst (λ z. EachPiece IsKept base w z f.outer) e2 h.0) u.1 u.0 (more (values_in free l.inside) (t ∷ row_trees others) u.0.3 k)
 
   -- an object takes none of its values
   row_in_object : (base : ℕ) (w : List ℕ) (outer : List (CodePiece X)) (hs : List (Held X)) (fo : List (Piece Tree)) (ls : List (Level Tree)) (h : Held X) (l : Level Tree) (row : Row X) (t : Tree) (es : List (ℕ × ℕ × Tree))
@@ -205,6 +247,19 @@ module _ {X : Type 0} (IsKept : X → Content → Type 0) where
               → IsPushedAs IsKept base w (show_as outer (h ∷ hs)) (Some (stop_at row.comma)) (push_then (push_all free (marks (entry row.first q.tree ∷ row_marks q.others))) (with_mark f.outer ls l (comma row.comma) m))
           by_move None v = ((subst (λ z. EachPiece IsKept base w z f.outer) e2 k.0, u), refl)
           by_move (Some md) v = absurd v
+
+pub no_comma_last : {X : Type 0} (xs front : List (CodePiece X)) (p : CodePiece X) → xs ≡ front ++ p ∷ [] → is_comma_last (last_of xs) ≡ true → ((c : ℕ) → p ≡ Comma c → ⊥) → ⊥
+no_comma_last {X = X} xs front p e h none = by_piece p (sym (ap is_comma_last (ap last_of e ∙ last_behind front p)) ∙ h) none
+  where
+    by_piece : (p : CodePiece X) → comma_piece p ≡ true → ((c : ℕ) → p ≡ Comma c → ⊥) → ⊥
+    by_piece (Closes b i) h none = true≢false (sym h)
+    by_piece (Comma i) h none = none i refl
+    by_piece (Colon i) h none = true≢false (sym h)
+    by_piece (Text span x) h none = true≢false (sym h)
+    by_piece (Value i x) h none = true≢false (sym h)
+    by_piece (RowPiece q) h none = true≢false (sym h)
+    by_piece (MembersPiece q) h none = true≢false (sym h)
+    by_piece (ClosersPiece q) h none = true≢false (sym h)
 
 -- ---- a level behind a comma
 

@@ -1,6 +1,6 @@
 -- What an item does to all that is kept of a span, and to the form that it stands for.
 -- For `finish`, `finish_span`, `merge` and `run_block`.
-use Rattle.std.proofs.Common.{◌≡◌, ℕ, ◌+◌, ◌-◌, true, false, Option, Some, None, List, [], ◌∷◌, ◌++◌, inl, refl, sym, ◌∙◌, ap, subst, arith, append_assoc, append-nil, length, length-append, take, drop}
+use Rattle.std.proofs.Common.{◌≡◌, ℕ, ◌-◌, true, false, Option, Some, None, List, [], ◌∷◌, ◌++◌, inl, refl, sym, ◌∙◌, ap, subst, arith, append_assoc, append-nil, length, length-append, take, drop}
 use Rattle.std.proofs.Math.Seq.{take-append_seam, drop-append_seam}
 use Rattle.at_text.specs.declared.texts.Span.{Span}
 use Rattle.at_lex.specs.Strings.{Character, string_text}

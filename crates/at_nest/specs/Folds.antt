@@ -1,13 +1,14 @@
 -- What an algebra makes of a tree, from the leaves up: relations between what it holds and the trees for which that
 -- stands.
-use Rattle.std.specs.Prelude.{◌≡◌, ℕ, ◌⊎◌, List, [], ◌∷◌, ◌++◌, length}
+use Rattle.std.specs.Prelude.{◌≡◌, ℕ, ◌⊎◌, List, [], ◌∷◌, ◌++◌, length, All}
 use Rattle.std.specs.Bool.{⊤}
 use Rattle.at_lex.specs.Strings.{JsonString, units_of}
 use Rattle.at_lex.specs.Runs.{JsonRun}
 use Rattle.at_nest.specs.declared.algebra.Member.{Member}
 use Rattle.at_nest.specs.declared.algebra.Attempt.{Attempt}
 use Rattle.at_nest.specs.declared.algebra.Attempt.TheVariants.{Whole, Unsaid}
-use Rattle.at_nest.specs.Tree.{Tree, Spells, Trees, no_trees, tree_and, Members, no_members, member_and}
+use Rattle.at_nest.specs.Tree.{Tree, array, object, Spells, SpellsItems, Trees, no_trees, tree_and, Members, no_members}
+use Rattle.at_nest.specs.Tree.{member_and}
 
 -- the bytes are a whole string, literal or number (RFC 8259 section 3)
 abbrev pub IsScalarText : List ℕ → Type 0
@@ -48,3 +49,18 @@ abbrev pub IsAttempt : {X : Type 0} → (X → Type 0) → (X → Tree → Type 
 IsAttempt IsOwn IsFold at w (Whole len atom) = (v r : List ℕ) × (w ≡ v ++ r) × (len ≡ length v) × (t : Tree)
     × Spells at v t × IsOwn atom × IsFold atom t
 IsAttempt IsOwn IsFold at w (Unsaid looked) = ⊤
+
+-- an array or an object
+abbrev pub HasBrackets : Tree → Type 0
+HasBrackets (array at ts) = ⊤
+HasBrackets (object at ms) = ⊤
+HasBrackets _ = ⊥
+
+-- the first bytes of w, which stand at `at`, spell arrays and objects one behind another in an array, at least one, and
+-- the atom is the algebra's own and stands for them; or nothing is said
+abbrev pub IsItemsAttempt : {X : Type 0} → (X → Type 0) → (X → Tree → Type 0) → (X → List Tree → Type 0) → ℕ → List ℕ
+    → Attempt X → Type 0
+IsItemsAttempt IsOwn IsFold IsRun at w (Whole len atom) = (v r : List ℕ) × (w ≡ v ++ r) × (len ≡ length v) × (t : Tree)
+    × (ts : List Tree) × SpellsItems at v (trees (t ∷ ts)) × All HasBrackets (t ∷ ts) × IsOwn atom
+    × Covers IsFold IsRun atom (t ∷ ts)
+IsItemsAttempt IsOwn IsFold IsRun at w (Unsaid looked) = ⊤

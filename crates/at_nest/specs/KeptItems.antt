@@ -259,10 +259,17 @@ module _ {X : Type 0} (IsKept : X → Content → Type 0) where
   PushesValue old new r i x = (base : ℕ) (w : List ℕ) (f : Form Tree) (t : Tree) → IsShown base w old f
       → IsKept x (one t) → IsPushedAs base w new r (push free f (mark (entry i t)))
 
-  -- what is kept behind a comma and a value that is no string
+  -- what is kept behind values that are no strings, the first at the offset, the others each behind a comma
+  abbrev pub PushesItems : Shown X → Shown X → Option CodeHalt → ℕ → X → Type 0
+  PushesItems old new r i x = (base : ℕ) (w : List ℕ) (f : Form Tree) (t : Tree) (others : List (ℕ × ℕ × Tree))
+      → IsShown base w old f → Holds x (t ∷ row_trees others)
+      → IsPushedAs base w new r (push_all free (marks (entry i t ∷ row_marks others)) f)
+
+  -- what is kept behind a comma and such values
   abbrev pub PushesBehind : Shown X → Shown X → Option CodeHalt → ℕ → ℕ → X → Type 0
-  PushesBehind old new r c i x = (base : ℕ) (w : List ℕ) (f : Form Tree) (t : Tree) → IsShown base w old f
-      → IsKept x (one t) → IsPushedAs base w new r (push_all free (mark (comma c) ∷ mark (entry i t) ∷ []) f)
+  PushesBehind old new r c i x = (base : ℕ) (w : List ℕ) (f : Form Tree) (t : Tree) (others : List (ℕ × ℕ × Tree))
+      → IsShown base w old f → Holds x (t ∷ row_trees others)
+      → IsPushedAs base w new r (push_all free (marks (row_marks ((c, i, t) ∷ others))) f)
 
   -- in place of the row, one with a value more, before the first open level
   abbrev pub LongerRow : Row X → Row X → X → Type 0

@@ -58,8 +58,8 @@ module _ {X : Type 0} (IsKept : X → Content → Type 0) where
   ReadsRun old new r at v = (base : ℕ) (w : List ℕ) (f : Form Tree) (t : Tree) → IsShown IsKept base w old f
       → Spells at v t → IsPushedAs IsKept base w new r (push free f (mark (entry at t)))
 
-  -- what was read of the bytes that begin with an opening bracket, up to the offset `to`: the bracket alone, or a whole
-  -- value
+  -- what was read of the bytes that begin with an opening bracket, up to the offset `to`: the bracket alone, a whole
+  -- value, or several items of an array
   abbrev pub ReadsAhead : Shown X → Shown X → Option SpanStop → ℕ → List ℕ → ℕ → Type 0
   ReadsAhead old new r at ahead to = (v : List ℕ) × (more : List ℕ) × (ahead ≡ v ++ more) × (to ≡ at + length v)
       × (0 < length v) × (ends_run v ≡ false)

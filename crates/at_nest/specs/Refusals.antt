@@ -5,7 +5,7 @@ use Rattle.at_lex.specs.declared.tokens.TokenKind.TheVariants as token
 use Rattle.at_nest.specs.declared.pieces.Piece.{Piece}
 use Rattle.at_nest.specs.declared.pieces.Piece.TheVariants.{Closes, Comma, Colon, Text, Value, Row as RowPiece}
 use Rattle.at_nest.specs.declared.pieces.Piece.TheVariants.{Members as MembersPiece, Closers as ClosersPiece}
-use Rattle.at_nest.specs.Shown.{Held, Shown, takes_value}
+use Rattle.at_nest.specs.Shown.{Held, array_level, Shown, takes_value}
 
 abbrev pub opens_any : TokenKind → Bool
 opens_any (token.Opens b) = true
@@ -63,3 +63,24 @@ not_in (h ∷ hs) outer k = not_in_level h k
 
 abbrev pub is_refused : {X : Type 0} → Shown X → TokenKind → Bool
 is_refused s k = not_in s.levels s.outer k
+
+-- an array or object that comes next is an array's item, or stands where none may: an array is innermost, or a comma is
+-- the last of what stands outside all levels
+abbrev pub is_array : {X : Type 0} → Held X → Bool
+is_array (array_level i s xs) = true
+is_array _ = false
+
+abbrev pub is_comma : {X : Type 0} → Piece X → Bool
+is_comma (Comma i) = true
+is_comma _ = false
+
+abbrev pub is_comma_last : {X : Type 0} → Option (Piece X) → Bool
+is_comma_last None = false
+is_comma_last (Some c) = is_comma c
+
+abbrev pub items_in : {X : Type 0} → List (Held X) → List (Piece X) → Bool
+items_in [] outer = is_comma_last (last_of outer)
+items_in (h ∷ hs) outer = is_array h
+
+abbrev pub takes_items : {X : Type 0} → Shown X → Bool
+takes_items s = items_in s.levels s.outer

@@ -1,8 +1,11 @@
 //! What is made of a JSON tree, from the leaves up.
 
-ghost use Rattle.std.specs.Prelude.{◌+◌, ◌++◌, ◌≤◌, ◌^◌, List, length, All, IfOk};
+ghost use Rattle.std.specs.Prelude.{◌≡◌, ℕ, ◌+◌, ◌++◌, ◌∷◌, ◌≤◌, ◌^◌, List, length, All, IfOk};
+ghost use Rattle.at_lex.specs.Spans.{opening};
+ghost use Rattle.at_lex.specs.declared.tokens.Bracket.{Bracket};
 ghost use Rattle.at_nest.specs.Tree.{Tree, Members, Spells, array as array_tree, object as object_tree};
 ghost use Rattle.at_nest.specs.Folds.{IsScalarText, trees, Covers, AreItemFolds, AreMemberFolds, IsAttempt};
+ghost use Rattle.at_nest.specs.Folds.{IsItemsAttempt};
 
 use at_lex::Units;
 use at_text::Memory;
@@ -38,7 +41,8 @@ pub trait Algebra: Sync {
     /// The atom is what the algebra makes of the tree.
     ghost is_fold: { Self → Self.Atom → Tree → Type 0 };
 
-    /// The atom stands for these trees, one behind another in an array. Only `add` makes such atoms.
+    /// The atom stands for these trees, one behind another in an array. Only `add` and `items` make
+    /// such atoms.
     ghost is_run: { Self → Self.Atom → List Tree → Type 0 };
 
     /// The atom of a whole string, literal or number, which begins at the offset. The one refusal is want of memory.
@@ -99,6 +103,17 @@ pub trait Algebra: Sync {
         let _ = text;
         let _ = at;
         Ok(Attempt::Unsaid { looked: 0 })
+    }
+
+    /// The atom of arrays and objects one behind another in an array, at least one, with their commas, read at once:
+    /// the text begins with the first one's opening bracket, which stands at the offset, and may end before the first
+    /// one does. An algebra that lets no atom stand for several items gives one. Else it is as with `value`.
+    fn items(&self, alloc: Global, text: &[u8], at: u32) -> Result<Attempt<Self::Atom>, Memory>
+        requires begins { (b : Bracket) × (more : List ℕ) × (text.now ≡ opening b ∷ more) }
+        requires fits { at + length text.now ≤ 2 ^ 28 }
+        ensures { IfOk result (IsItemsAttempt (is_own self.now) (is_fold self.now) (is_run self.now) at text.now) }
+    {
+        self.value(alloc, text, at)
     }
 
     /// A second atom that stands for the trees of the first. The one refusal is want of memory.

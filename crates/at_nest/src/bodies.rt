@@ -1,13 +1,13 @@
 //! The whole items of a span behind its lead: those before its first open level, and the open levels.
 
-ghost use Rattle.std.specs.Prelude.{◌≡◌, ◌+◌, ◌-◌, ◌<◌, ◌≤◌, ◌^◌, suc, List, [], ◌∷◌, length, Option, Some, None};
+ghost use Rattle.std.specs.Prelude.{◌≡◌, ◌+◌, ◌-◌, ◌<◌, ◌≤◌, ◌^◌, suc, true, List, [], ◌∷◌, length, Option, Some, None};
 ghost use Rattle.std.specs.Prelude.{All, IfOk, IfSome, MatchOption, slice_set};
 ghost use Rattle.at_lex.specs.declared.tokens.Bracket.TheVariants.{Square};
 ghost use Rattle.at_lex.specs.Strings.{JsonString, Character, AreCharacters, string_text};
 ghost use Rattle.at_nest.specs.Forms.{closes as closing_piece};
 ghost use Rattle.at_nest.specs.Shown.{Held, array_level, held_of, AreOwn, opens_of, shown, opened_as, show_as};
 ghost use Rattle.at_nest.specs.Shown.{kept_outside, put_back, comma_added, colon_added, IsStep};
-ghost use Rattle.at_nest.specs.Refusals.{is_refused, last_of};
+ghost use Rattle.at_nest.specs.Refusals.{is_refused, last_of, is_comma_last, takes_items};
 ghost use Rattle.at_nest.specs.Closers.{IsLonger};
 ghost use Rattle.at_nest.specs.declared.pieces.Piece.{Piece};
 ghost use Rattle.at_nest.specs.declared.pieces.Piece.TheVariants.{Closers as ClosersPiece};
@@ -16,13 +16,14 @@ ghost use Rattle.at_nest.specs.declared.levels.ArrayState.TheVariants.{Empty};
 ghost use Rattle.at_nest.specs.declared.levels.Nest.{Nest};
 ghost use Rattle.at_nest.specs.declared.levels.Open.TheVariants.{Nested};
 ghost use Rattle.at_nest.specs.KeptItems.{IsAtomOf};
-ghost use Rattle.at_nest.specs.KeptItems.{IsOfItems, Pushes, PushesClosers, PushesText, PushesValue, PushesBehind};
+ghost use Rattle.at_nest.specs.KeptItems.{IsOfItems, Pushes, PushesClosers, PushesText, PushesValue, PushesItems};
+ghost use Rattle.at_nest.specs.KeptItems.{PushesBehind};
 ghost use Rattle.at_nest.specs.KeptItems.{PushesRow, Lengthens, PutsRow, PushesKeptText, CanAdd, Adds, CanJoin, Joins};
 
 use crate::algebra::Algebra;
 use crate::levels::{
-    ArrayLevel, ArrayState, Level, MemberName, Nest, Open, Step, array, closed, with_items,
-    with_value,
+    ArrayLevel, ArrayState, Level, MemberName, Nest, Open, Step, array, array_value, closed,
+    with_items, with_value,
 };
 use crate::member_rows::{add_members, keep_awaited};
 use crate::open_levels::Levels;
@@ -134,6 +135,21 @@ impl<T: Drop> Body<T> {
             Some(open) => open.refuses(kind),
             None => match self.outer.as_slice().last() {
                 Some(piece) => piece.refuses(kind),
+                None => false,
+            },
+        }
+    }
+
+    /// Whether an array or object that comes next can be nothing but an array's item, so that several may be read at
+    /// once: the innermost level is an array, or a comma is the last of what stands outside all levels.
+    #[inline(always)]
+    pub fn wants_items(&self) -> bool
+        ensures { result ≡ takes_items (shown self.now) }
+    {
+        match self.levels.innermost() {
+            Some(open) => open.is_array(),
+            None => match self.outer.as_slice().last() {
+                Some(piece) => piece.is_comma(),
                 None => false,
             },
         }
@@ -273,7 +289,7 @@ impl<T: Drop> Body<T> {
     }
 }
 
-/// The first value of a row.
+/// The first value of a row, or the first ones, for which the atom stands.
 fn begin_row<A: Algebra>(
     body: &mut Body<A::Atom>,
     alloc: Global,
@@ -297,7 +313,7 @@ fn begin_row<A: Algebra>(
     }))
 }
 
-/// One value more behind a row.
+/// One value more behind a row, or several, for which the atom stands.
 fn lengthen_row<A: Algebra>(
     body: &mut Body<A::Atom>,
     alloc: Global,
@@ -324,7 +340,7 @@ fn lengthen_row<A: Algebra>(
     }))
 }
 
-/// A value behind a comma: the two lengthen the row before them, or begin one.
+/// A value behind a comma, or several, for which the atom stands: they lengthen the row before them, or begin one.
 fn keep_behind<A: Algebra>(
     body: &mut Body<A::Atom>,
     alloc: Global,
@@ -413,6 +429,53 @@ pub fn read_value<A: Algebra>(
     match body.innermost(alloc) {
         None => keep_value(body, alloc, algebra, from, atom),
         Some(level) => body.put(with_value(alloc, algebra, level, atom)?, from),
+    }
+}
+
+/// Items of an array, of which no bracket was opened in the span, where a comma stands before them.
+#[inline(always)]
+fn keep_items<A: Algebra>(
+    body: &mut Body<A::Atom>,
+    alloc: Global,
+    algebra: &A,
+    from: u32,
+    atom: A::Atom,
+) -> Result<Option<SpanStop>, Memory>
+    requires outside { (shown body.old).levels ≡ [] }
+    requires held { IsOfItems (IsAtomOf A.Algebra algebra.now) (shown body.old) }
+    requires own { A.is_own algebra.now atom }
+    requires takes { is_comma_last (last_of (shown body.old).outer) ≡ true }
+    ensures { IfOk result (λ r. PushesItems (IsAtomOf A.Algebra algebra.now)
+        (shown body.old) (shown body.new) r from atom) }
+{
+    match body.outer.pop() {
+        Some(piece) => match piece {
+            Piece::Comma(comma) => keep_behind(body, alloc, algebra, comma, from, atom),
+            piece => body.keep(piece),
+        },
+        None => Ok(None),
+    }
+}
+
+/// Arrays and objects one behind another in an array, with their commas: the one atom stands for all of them.
+#[inline(always)]
+pub fn put_items<A: Algebra>(
+    body: &mut Body<A::Atom>,
+    alloc: Global,
+    algebra: &A,
+    from: u32,
+    atom: A::Atom,
+) -> Result<Option<SpanStop>, Memory>
+    requires held { IsOfItems (IsAtomOf A.Algebra algebra.now) (shown body.old) }
+    requires own { A.is_own algebra.now atom }
+    requires takes { takes_items (shown body.old) ≡ true }
+    ensures { IfOk result (λ r. PushesItems (IsAtomOf A.Algebra algebra.now)
+        (shown body.old) (shown body.new) r from atom) }
+{
+    match body.innermost(alloc) {
+        None => keep_items(body, alloc, algebra, from, atom),
+        Some(Level::Array(level)) => body.put(array_value(alloc, algebra, level, atom)?, from),
+        Some(level) => body.put(Step::Refused(level), from),
     }
 }
 

@@ -5,7 +5,7 @@ ghost use Rattle.at_nest.specs.Tree.{Tree};
 ghost use Rattle.at_nest.specs.Levels.{Level as ModelLevel, built};
 ghost use Rattle.at_nest.specs.Shown.{held_of, helds_of, top_of, opened_as, from_of, comma_next, colon_next};
 ghost use Rattle.at_nest.specs.Shown.{value_next, name_next, takes_name, takes_value, closes_with, IsStep, AreOwn};
-ghost use Rattle.at_nest.specs.Refusals.{not_in_level};
+ghost use Rattle.at_nest.specs.Refusals.{not_in_level, is_array as is_array_level};
 ghost use Rattle.at_nest.specs.Nests.{nest_in};
 ghost use Rattle.at_nest.specs.KeptItems.{IsHeld, AddsTo, GainsAll, free, IsAtomOf};
 
@@ -405,6 +405,18 @@ impl<T: Drop> Open<T> {
         }
     }
 
+    /// Whether the innermost level is an array.
+    #[inline(always)]
+    pub fn is_array(&self) -> bool
+        ensures { result ≡ is_array_level (top_of self.now) }
+    {
+        match self {
+            Open::Array(_) => true,
+            Open::Nested(_) => true,
+            _ => false,
+        }
+    }
+
     /// Whether no token of the kind may come next: an opening bracket, where no value may.
     #[inline(always)]
     pub fn refuses(&self, kind: TokenKind) -> bool
@@ -417,9 +429,9 @@ impl<T: Drop> Open<T> {
     }
 }
 
-/// An array behind a value, which has become the atom.
+/// An array behind a value, which has become the atom, or behind several, for which the atom stands.
 #[inline(always)]
-fn array_value<A: Algebra>(
+pub fn array_value<A: Algebra>(
     alloc: Global,
     algebra: &A,
     level: ArrayLevel<A::Atom>,

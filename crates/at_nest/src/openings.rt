@@ -1,13 +1,15 @@
-//! Opening brackets of a piece: the value behind one is read at once, where the algebra can, and else item by item.
+//! Opening brackets of a piece: the value behind one, or several items of an array, are read at once, where the algebra
+//! can, and else item by item.
 
-ghost use Rattle.std.specs.Prelude.{◌≡◌, ℕ, ◌+◌, ◌≤◌, ◌^◌, List, ◌∷◌, length, IfOk};
+ghost use Rattle.std.specs.Prelude.{◌≡◌, ℕ, ◌+◌, ◌<◌, ◌≤◌, ◌^◌, true, List, ◌∷◌, length, IfOk};
 ghost use Rattle.at_lex.specs.Spans.{opening};
 ghost use Rattle.at_nest.specs.Shown.{shown};
+ghost use Rattle.at_nest.specs.Refusals.{takes_items};
 ghost use Rattle.at_nest.specs.KeptItems.{IsOfItems, IsAtomOf};
 ghost use Rattle.at_nest.specs.Reading.{ReadsAhead};
 
 use crate::algebra::{Algebra, Attempt};
-use crate::bodies::{Body, read_value};
+use crate::bodies::{Body, put_items, read_value};
 use crate::pieces::SpanStop;
 use at_lex::Bracket;
 use at_text::Memory;
@@ -83,8 +85,74 @@ fn opened<A: Algebra>(
     })
 }
 
-/// Reads the bytes from an opening bracket on: the value that it opens, where the algebra reads it at once, or the
+/// The value that the bracket opens, where the algebra reads it at once, or the bracket alone.
+#[inline(always)]
+fn read_one<A: Algebra>(
+    body: &mut Body<A::Atom>,
+    alloc: Global,
+    algebra: &A,
+    tries: &mut Tries,
+    ahead: &[u8],
+    seen: usize,
+    bracket: Bracket,
+    at: u32,
+) -> Result<Read, Memory>
+    requires begins { (more : List ℕ) × (ahead.now ≡ opening bracket ∷ more) }
+    requires fits { at + length ahead.now ≤ 2 ^ 28 }
+    requires held { IsOfItems (IsAtomOf A.Algebra algebra.now) (shown body.old) }
+    requires seen { seen ≤ length ahead.now }
+    ensures { IfOk result (λ r. ReadsAhead (IsAtomOf A.Algebra algebra.now)
+        (shown body.old) (shown body.new) r.halt at ahead.now r.to) }
+{
+    match algebra.value(alloc, &ahead[..seen], at)? {
+        Attempt::Whole { len, atom } => {
+            let halt = read_value(body, alloc, algebra, at, atom)?;
+            Ok(Read { to: at + len, halt })
+        }
+        Attempt::Unsaid { looked } => {
+            tries.failed(looked);
+            opened(body, alloc, algebra, ahead, bracket, at)
+        }
+    }
+}
+
+/// In an array: the item that the bracket opens, with those behind it, as many as the algebra reads at once, or the
 /// bracket alone.
+#[inline(always)]
+fn read_several<A: Algebra>(
+    body: &mut Body<A::Atom>,
+    alloc: Global,
+    algebra: &A,
+    tries: &mut Tries,
+    ahead: &[u8],
+    seen: usize,
+    bracket: Bracket,
+    at: u32,
+) -> Result<Read, Memory>
+    requires begins { (more : List ℕ) × (ahead.now ≡ opening bracket ∷ more) }
+    requires fits { at + length ahead.now ≤ 2 ^ 28 }
+    requires held { IsOfItems (IsAtomOf A.Algebra algebra.now) (shown body.old) }
+    requires takes { takes_items (shown body.old) ≡ true }
+    requires some { 0 < seen }
+    requires seen { seen ≤ length ahead.now }
+    ensures { IfOk result (λ r. ReadsAhead (IsAtomOf A.Algebra algebra.now)
+        (shown body.old) (shown body.new) r.halt at ahead.now r.to) }
+{
+    match algebra.items(alloc, &ahead[..seen], at)? {
+        Attempt::Whole { len, atom } => {
+            let to = at + len;
+            let halt = put_items(body, alloc, algebra, at, atom)?;
+            Ok(Read { to, halt })
+        }
+        Attempt::Unsaid { looked } => {
+            tries.failed(looked);
+            opened(body, alloc, algebra, ahead, bracket, at)
+        }
+    }
+}
+
+/// Reads the bytes from an opening bracket on: the value that it opens, or several items of an array, where the algebra
+/// reads them at once, or the bracket alone.
 #[inline(always)]
 pub fn read_opening<A: Algebra>(
     body: &mut Body<A::Atom>,
@@ -105,14 +173,8 @@ pub fn read_opening<A: Algebra>(
     if seen == 0 {
         return opened(body, alloc, algebra, ahead, bracket, at);
     }
-    match algebra.value(alloc, &ahead[..seen], at)? {
-        Attempt::Whole { len, atom } => {
-            let halt = read_value(body, alloc, algebra, at, atom)?;
-            Ok(Read { to: at + len, halt })
-        }
-        Attempt::Unsaid { looked } => {
-            tries.failed(looked);
-            opened(body, alloc, algebra, ahead, bracket, at)
-        }
+    if body.wants_items() {
+        return read_several(body, alloc, algebra, tries, ahead, seen, bracket, at);
     }
+    read_one(body, alloc, algebra, tries, ahead, seen, bracket, at)
 }

@@ -6,6 +6,7 @@ ghost use Rattle.at_nest.specs.Closers.{IsLonger, turn};
 ghost use Rattle.at_nest.specs.MemberMarks.{Awaits};
 ghost use Rattle.at_nest.specs.Refusals.{not_behind_value as none_behind_value, not_behind_text as none_behind_text};
 ghost use Rattle.at_nest.specs.Refusals.{not_behind_mark as none_behind_mark, not_behind_piece};
+ghost use Rattle.at_nest.specs.Refusals.{is_comma as is_comma_piece};
 
 use at_lex::{Bracket, TokenKind};
 use at_text::Span;
@@ -131,6 +132,17 @@ impl<T: Drop> Piece<T> {
             Piece::Row(_) => not_behind_value(kind),
             Piece::Members(_) => not_behind_text(kind),
             Piece::Closers(_) => not_behind_value(kind),
+        }
+    }
+
+    /// Whether it is a comma.
+    #[inline(always)]
+    pub fn is_comma(&self) -> bool
+        ensures { result ≡ is_comma_piece self.now }
+    {
+        match self {
+            Piece::Comma(_) => true,
+            _ => false,
         }
     }
 

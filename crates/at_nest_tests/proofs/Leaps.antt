@@ -1,8 +1,9 @@
--- An empty array that begins a text.
-use Rattle.std.proofs.Common.{◌≡◌, ℕ, List, [], ◌∷◌, ◌++◌, refl, ◌∙◌, ap, arith, ◌≤◌, length, slice_index, drop}
+-- An empty array that begins a text, or two of them.
+use Rattle.std.proofs.Common.{◌≡◌, ℕ, List, [], ◌∷◌, ◌++◌, refl, ◌∙◌, ap, arith, ◌+◌, ◌≤◌, length, slice_index, drop, inr}
+use Rattle.std.proofs.lemmas.List.Elements.{All-nil, All-cons}
 use Rattle.at_nest.specs.declared.algebra.Attempt.TheVariants.{Whole}
-use Rattle.at_nest.specs.Tree.{array, no_trees}
-use Rattle.at_nest.specs.Folds.{IsAttempt}
+use Rattle.at_nest.specs.Tree.{Tree, array, no_trees}
+use Rattle.at_nest.specs.Folds.{IsAttempt, HasBrackets, IsItemsAttempt}
 
 two_first : (w : List ℕ) → 2 ≤ length w → w ≡ slice_index w 0 ∷ (slice_index w 1 ∷ drop 2 w)
 two_first [] h = absurd (omega (arith, h))
@@ -13,3 +14,19 @@ pub empty_attempt : (at : ℕ) (w : List ℕ) → 2 ≤ length w → slice_index
 empty_attempt at w long opens closes =
     let bytes : w ≡ (0x5B ∷ (0x5D ∷ [])) ++ drop 2 w = two_first w long ∙ (ap (λ z. z ∷ (slice_index w 1 ∷ drop 2 w)) opens ∙ ap (λ z. 0x5B ∷ (z ∷ drop 2 w)) closes) in
     (0x5B ∷ (0x5D ∷ []), drop 2 w, bytes, refl, array at no_trees, (refl, ([], refl, tt)), tt, tt)
+
+pub two_attempt : (at : ℕ) (w more : List ℕ) → w ≡ 0x5B ∷ (0x5D ∷ (0x2C ∷ (0x5B ∷ (0x5D ∷ more)))) → IsItemsAttempt {X = ℕ} (λ x. Unit {0}) (λ x t. Unit {0}) (λ x ts. Unit {0}) at w (Whole 5 2)
+two_attempt at w more e =
+    let first : Tree = array (at + 0) no_trees in
+    let second : Tree = array (at + 0 + 2 + 0 + 1 + 0) no_trees in (
+      0x5B ∷ (0x5D ∷ (0x2C ∷ (0x5B ∷ (0x5D ∷ [])))),
+      more,
+      e,
+      refl,
+      first,
+      second ∷ [],
+      ([], 0x5B ∷ (0x5D ∷ []), [], 0x2C ∷ (0x5B ∷ (0x5D ∷ [])), refl, tt, tt, (refl, ([], refl, tt)), (0x5B ∷ (0x5D ∷ []), refl, ([], 0x5B ∷ (0x5D ∷ []), [], [], refl, tt, tt, (refl, ([], refl, tt)), refl))),
+      All-cons HasBrackets first (second ∷ []) tt (All-cons HasBrackets second [] tt (All-nil HasBrackets)),
+      tt,
+      inr tt,
+    )

@@ -125,7 +125,7 @@ fn answer(alloc: Global, bytes: &[u8], places: &[u32]) -> Result<u64, NestEnd>
     finish(alloc, &Tally, bytes, whole)
 }
 
-/// The same by an algebra that reads empty arrays at once.
+/// The same by an algebra that reads empty arrays at once, and in an array two of them.
 fn leaping_answer(alloc: Global, bytes: &[u8], places: &[u32]) -> Result<u64, NestEnd>
     requires { length bytes.now ≤ 2 ^ 28 }
 {
@@ -484,7 +484,7 @@ fn compare_leaps<R: Abort + AllocGlobal>(rt: &R, texts: &[&'static [u8]]) {
 /// Values that are read at once change no answer: they stand where values may, where none may, and over a cut.
 #[test]
 fn values_at_once(rt: HostRuntime) {
-    let texts: [&'static [u8]; 16] = [
+    let texts: [&'static [u8]; 20] = [
         b"[]",
         b" [] ",
         b"[[],[ ],[[]]]",
@@ -501,6 +501,10 @@ fn values_at_once(rt: HostRuntime) {
         b"[\"[]\",\"\\\"[]\"]",
         b"[[]",
         b"[[]}",
+        b"[[],[],[[],[],[]],1,[],[]]",
+        b"[],[]",
+        b"{\"a\":[],[]}",
+        b"[{}[],[]]",
     ];
     compare_leaps(&rt, texts.as_slice());
 }

@@ -1,13 +1,25 @@
-//! An algebra that counts nodes and reads empty arrays at once; what it says of other values is nothing.
+//! An algebra that counts nodes and reads empty arrays at once, in an array two at a time; what it says of other values
+//! is nothing.
 
-ghost use Rattle.std.specs.Prelude.{IfOk};
+ghost use Rattle.std.specs.Prelude.{◌≡◌, ℕ, ◌∷◌, true, List, IfOk};
 
 use super::tally::{nodes_of_items, nodes_of_members};
 use at_nest::{Algebra, Attempt, Member};
 use at_text::Memory;
 use std::alloc::Global;
 
-/// The algebra of these numbers, with the attempt.
+/// Whether two empty arrays begin the text, with the comma between them.
+fn begins_two(text: &[u8]) -> bool
+    ensures { result ≡ true → (more : List ℕ)
+        × (text.now ≡ 0x5B ∷ (0x5D ∷ (0x2C ∷ (0x5B ∷ (0x5D ∷ more))))) }
+{
+    if text.len() < 5 || text[0] != b'[' || text[1] != b']' {
+        return false;
+    }
+    text[2] == b',' && text[3] == b'[' && text[4] == b']'
+}
+
+/// The algebra of these numbers, with the attempts.
 pub struct Leaping;
 
 impl Algebra for Leaping {
@@ -41,6 +53,14 @@ impl Algebra for Leaping {
             Ok(Attempt::Whole { len: 2, atom: 1 })
         } else {
             Ok(Attempt::Unsaid { looked: 2 })
+        }
+    }
+
+    fn items(&self, alloc: Global, text: &[u8], at: u32) -> Result<Attempt<u64>, Memory> {
+        if begins_two(text) {
+            Ok(Attempt::Whole { len: 5, atom: 2 })
+        } else {
+            self.value(alloc, text, at)
         }
     }
 
