@@ -35,3 +35,5 @@ pub mod RingFolds
 pub mod MemberReads
 pub mod GeometryReads
 pub mod FeatureReads
+pub mod FeatureJoins
+pub mod KnownNames

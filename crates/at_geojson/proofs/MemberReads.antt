@@ -29,7 +29,7 @@ use Rattle.at_geojson.specs.Keeping.{Asked, looks_at_texts, asks_pair}
 use Rattle.at_geojson.specs.Atoms.{twin_of, as_text}
 use Rattle.at_geojson.specs.Gathering.{is_simple, is_among, twin_at, member_twins}
 use Rattle.at_geojson.specs.Objects.{kept_texts, pair_kept}
-use Rattle.at_geojson.specs.Places.{IsNameAt}
+use Rattle.at_geojson.specs.Places.{IsTextAt, IsNameAt}
 use Rattle.at_geojson.specs.Fields.{field_of, put_if, is_kind, is_coordinates, is_geometry, is_properties, is_features, is_geometries, is_no_field, AreFields}
 use Rattle.at_geojson.specs.Values.{IsItem, EndsObject}
 use Rattle.at_geojson.specs.Members.{name_in, IsPlainName, is_among_others, ArePlainOthers, IsNewName, PassesItem, IsFieldRead, EndsFields, AreFieldsRead}
@@ -41,27 +41,29 @@ use Rattle.at_geojson.proofs.ValueParts.{member_of, members_begin, members_go_on
 
 -- ---- names
 
-pub plain_name_is : (w : List ℕ) (at : ℕ) (n : NamePlace) → IsNameAt w at n → list_all is_simple (take (n.end - n.first) (drop n.first w)) ≡ true → IsPlainName w n
-plain_name_is w at n h simple =
-    let f = n.first in let e = n.end in
+pub plain_text_is : (w : List ℕ) (n : NamePlace) → IsTextAt w n.first n.end → list_all is_simple (take (n.end - n.first) (drop n.first w)) ≡ true → IsPlainName w n
+plain_text_is w n h simple =
     let s : List ℕ = take (n.end - n.first) (drop n.first w) in
-    let same : s ≡ between w n.first n.end = rest_to w n.first n.end (omega (arith, h.text.0)) in
-    let long : n.first + length s ≡ n.end = (let k : n.first + length (between w n.first n.end) ≡ n.end = part-length w n.first n.end (omega (arith, h.text.0)) h.text.1 in omega (arith, k, ap length same)) in
-    let two = (simple_units s h.text.2.0 h.text.2.1 (same ∙ h.text.2.2) simple).0 in
+    let same : s ≡ between w n.first n.end = rest_to w n.first n.end (omega (arith, h.0)) in
+    let long : n.first + length s ≡ n.end = (let k : n.first + length (between w n.first n.end) ≡ n.end = part-length w n.first n.end (omega (arith, h.0)) h.1 in omega (arith, k, ap length same)) in
+    let two = (simple_units s h.2.0 h.2.1 (same ∙ h.2.2) simple).0 in
     let order : n.first + 1 ≤ n.end - 1 = omega (arith, two, long) in
     let xs : List ℕ = between w (n.first + 1) (n.end - 1) in
     let last : n.end ≡ n.end - 1 + 1 = omega (arith, order) in
-    let within : n.end - 1 < length w = omega (arith, order, h.text.1) in
-    let split : s ≡ slice_index w n.first ∷ (xs ++ slice_index w (n.end - 1) ∷ []) = same ∙ (part-cons w n.first n.end h.text.0 h.text.1
+    let within : n.end - 1 < length w = omega (arith, order, h.1) in
+    let split : s ≡ slice_index w n.first ∷ (xs ++ slice_index w (n.end - 1) ∷ []) = same ∙ (part-cons w n.first n.end h.0 h.1
     ∙ ap (λ z. slice_index w n.first ∷ z) (ap (between w (n.first + 1)) last ∙ part-more w (n.first + 1) (n.end - 1) order within)) in
     let inside : n.first + 1 + length xs ≡ n.end - 1 = part-length w (n.first + 1) (n.end - 1) order (omega (arith, within)) in
     let count : length xs ≡ length s - 1 - 1 = omega (arith, inside, long, order) in
     let middle : xs ≡ take (length s - 1 - 1) (drop 1 s) = sym (take-append_seam xs (slice_index w (n.end - 1) ∷ [])) ∙ (ap (λ k. take k (xs ++ slice_index w (n.end - 1) ∷ [])) count ∙ ap (λ z. take (length s - 1 - 1) (drop 1 z)) (sym split)) in
     record {
       order = order;
-      within = h.text.1;
+      within = h.1;
       units = λ cs ok q. rest_to w (n.first + 1) (n.end - 1) order ∙ (middle ∙ (simple_units s cs ok (same ∙ q) simple).1);
     }
+
+pub plain_name_is : (w : List ℕ) (at : ℕ) (n : NamePlace) → IsNameAt w at n → list_all is_simple (take (n.end - n.first) (drop n.first w)) ≡ true → IsPlainName w n
+plain_name_is w at n h simple = plain_text_is w n h.text simple
 
 among_more : (ms : List (Member GeoAtom)) (m : Member GeoAtom) (name : List ℕ) → is_among (ms ++ m ∷ []) name ≡ (is_among ms name || bytes_eq name m.name)
 among_more ms m name = list_any-append (λ (x : Member GeoAtom). bytes_eq name x.name) ms (m ∷ []) ∙ ap (λ b. is_among ms name || b) (or-false (bytes_eq name m.name))

@@ -50,7 +50,7 @@ some_front us vs e = list_any-append is_object_tree us vs ∙ ap (λ b. b || lis
 
 -- ---- an object is no coordinates
 
-the_object : (t : Tree) → is_object_tree t ≡ true → (at : ℕ) × (ms : Members) × (t ≡ object at ms)
+pub the_object : (t : Tree) → is_object_tree t ≡ true → (at : ℕ) × (ms : Members) × (t ≡ object at ms)
 the_object (object at ms) e = (at, ms, refl)
 the_object (array at ts) e = absurd (true≢false (sym e))
 the_object (text at cs) e = absurd (true≢false (sym e))
@@ -135,7 +135,7 @@ module _ (asked : Asked) where
   no_twin : (a : GeoAtom) → joins_run a ≡ true → twin_of a ≡ None
   no_twin a e = elim (joins_is a e) [ inl o ↦ ap twin_of o.1 | inr o ↦ ap twin_of o.1 ]
 
-  object_there : (x : ObjectAtom) (t : Tree) → IsRead asked (atoms.Object x) t → is_object_tree t ≡ true
+  pub object_there : (x : ObjectAtom) (t : Tree) → IsRead asked (atoms.Object x) t → is_object_tree t ≡ true
   object_there x t r = go (object_members t) r.object.texts where
     go : (o : Option Members) → Alike (λ kept ms. kept ≡ asked_texts asked.query.tests (texts_of ms)) (Some x.roles.value.texts) o → is_some o ≡ true
     go (Some ms) h = refl

@@ -13,7 +13,7 @@ use Rattle.at_fixed.specs.NumberSoFar.{between}
 use Rattle.at_fixed.specs.Numerals.{Numeral, JsonNumber}
 use Rattle.at_fixed.specs.Fixed.{IsFixedOf, fixed_of}
 use Rattle.at_fixed.proofs.DigitParts.{part-length}
-use Rattle.at_lex.specs.Strings.{JsonString, AreUnitsOf, units_of}
+use Rattle.at_lex.specs.Strings.{Character, AreCharacters, string_text as characters_text, JsonString, AreUnitsOf, units_of}
 use Rattle.at_lex.specs.Runs.{JsonRun, Literal, the_null, the_true, the_false, literal_text}
 use Rattle.at_lex.specs.Spans.{AreSpaces}
 use Rattle.at_lex.proofs.FrontLemmas.{suffix_is}
@@ -115,6 +115,10 @@ name_units w at n units h u = subst (λ z. AreUnitsOf z units) (rest_to w n.firs
 
 -- ---- scalars
 
+-- the atom of a string of which nothing but its kind is kept
+abbrev pub text_kind : ℕ → List Character → GeoAtom
+text_kind i cs = atoms.Text (record { at = i; kind = kind_of_text (units_of cs); units = None })
+
 module _ (asked : Asked) (base : ℕ) (w : List ℕ) where
   -- an atom of all trees that the bytes spell
   abbrev StandsAt : ℕ → ℕ → GeoAtom → Type 0
@@ -159,11 +163,14 @@ module _ (asked : Asked) (base : ℕ) (w : List ℕ) where
     pub no_twin : twin_of atom ≡ None
 
   module _ (at end : ℕ) (order : at < end) (within : end ≤ length w) where
-    passed_text : list_any looks_at_texts asked.query.tests ≡ false → JsonString (between w at end) → IsPassed at end
-    passed_text unasked (cs, j, e) =
+    pub text_whole : list_any looks_at_texts asked.query.tests ≡ false → (cs : List Character) → AreCharacters cs → between w at end ≡ characters_text cs → IsWhole asked base w at (record { end = end; atom = text_kind (base + at) cs })
+    text_whole unasked cs j e =
         let a : TextAtom = record { at = base + at; kind = kind_of_text (units_of cs); units = None } in
         let u = ap (λ b. if b then Some (units_of cs) else None) (sym (none_asked asked.query.tests (units_of cs) unasked)) in
-        record { atom = atoms.Text a; whole = record { order = order; within = within; own = tt; tree = text (base + at) cs; spells = (refl, j, e); fold = text_folds asked a cs refl u }; no_twin = refl }
+        record { order = order; within = within; own = tt; tree = text (base + at) cs; spells = (refl, j, e); fold = text_folds asked a cs refl u }
+
+    passed_text : list_any looks_at_texts asked.query.tests ≡ false → JsonString (between w at end) → IsPassed at end
+    passed_text unasked (cs, j, e) = record { atom = text_kind (base + at) cs; whole = text_whole unasked cs j e; no_twin = refl }
 
     passed_literal : (l : Literal) → between w at end ≡ literal_text l → IsPassed at end
     passed_literal the_null e = record { atom = atoms.Null (base + at); whole = record { order = order; within = within; own = tt; tree = literal (base + at) the_null; spells = (refl, e); fold = null_folds asked (base + at) }; no_twin = refl }
@@ -355,11 +362,14 @@ module _ (asked : Asked) (base : ℕ) (w : List ℕ) where
 
 -- ---- what the algebra answers
 
+pub front_split : (w : List ℕ) (end : ℕ) → w ≡ between w 0 end ++ drop end w
+front_split w end = sym (take-append-drop end w) ∙ ap (λ z. z ++ drop end w) (rest_part w 0 end ∙ ap (between w 0) (let e : 0 + end ≡ end = omega arith in e))
+
 pub attempt_of : (asked : Asked) (at : ℕ) (w : List ℕ) (p : Whole) → IsWhole asked at w 0 p → IsAttempt (IsOwn asked) (IsFold asked) at w (WholeAttempt p.end p.atom)
 attempt_of asked at w p h = (
   between w 0 p.end,
   drop p.end w,
-  sym (take-append-drop p.end w) ∙ ap (λ z. z ++ drop p.end w) (rest_part w 0 p.end ∙ ap (between w 0) (let e : 0 + p.end ≡ p.end = omega arith in e)),
+  front_split w p.end,
   omega (arith, part-length w 0 p.end (omega arith) h.within),
   h.tree,
   subst (λ n. Spells n (between w 0 p.end) h.tree) (let e : at + 0 ≡ at = omega arith in e) h.spells,

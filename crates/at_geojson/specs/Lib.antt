@@ -21,6 +21,8 @@ pub mod Rows
 pub mod Passing
 pub mod Rings
 pub mod Members
+pub mod KnownNames
 pub mod Geometries
 pub mod PlainGeometries
 pub mod Features
+pub mod FeatureRuns

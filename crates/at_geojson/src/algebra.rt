@@ -1,9 +1,10 @@
 //! GeoJSON as an algebra of JSON values: each call is made by a function of this crate.
 
-ghost use Rattle.std.specs.Prelude.{List, All, IfOk};
+ghost use Rattle.std.specs.Prelude.{◌≤◌, ◌^◌, List, All, IfOk};
 ghost use Rattle.at_nest.specs.Tree.{Tree, Members, array as array_tree, object as object_tree};
 ghost use Rattle.at_nest.specs.Folds.{trees, AreItemFolds, AreMemberFolds};
 ghost use Rattle.at_geojson.specs.Atoms.{IsOwn, IsFold, IsRun};
+ghost use Rattle.at_geojson.specs.FeatureRuns.{IsAttemptOf};
 
 use crate::asked::GeoAlgebra;
 use crate::atoms::GeoAtom;
@@ -12,10 +13,28 @@ use crate::object_atoms::object_atom;
 use crate::pairs::Whole;
 use crate::runs::{add_item, closed_array};
 use crate::scalars::scalar_atom;
-use crate::wholes::whole_value;
+use crate::wholes::{whole_items, whole_value};
 use at_nest::{Algebra, Attempt, Member};
 use at_text::{Halt, Memory};
 use std::alloc::Global;
+
+/// What an attempt to read so many bytes at once gave.
+fn attempted(found: Result<Whole, Halt>, seen: usize) -> Result<Attempt<GeoAtom>, Memory>
+    requires found { IfOk found (λ whole. whole.end ≤ 2 ^ 28) }
+    requires seen { seen ≤ 2 ^ 28 }
+    ensures { IfOk result (IsAttemptOf found) }
+{
+    match found {
+        Ok(Whole { end, atom }) => Ok(Attempt::Whole {
+            len: end as u32,
+            atom,
+        }),
+        Err(Halt::At(place)) => Ok(Attempt::Unsaid {
+            looked: place.min(seen) as u32,
+        }),
+        Err(Halt::Memory) => Err(Memory),
+    }
+}
 
 impl Algebra for GeoAlgebra {
     type Atom = GeoAtom;
@@ -59,16 +78,11 @@ impl Algebra for GeoAlgebra {
     }
 
     fn value(&self, alloc: Global, text: &[u8], at: u32) -> Result<Attempt<GeoAtom>, Memory> {
-        match whole_value(self, alloc, text, at) {
-            Ok(Whole { end, atom }) => Ok(Attempt::Whole {
-                len: end as u32,
-                atom,
-            }),
-            Err(Halt::At(place)) => Ok(Attempt::Unsaid {
-                looked: place.min(text.len()) as u32,
-            }),
-            Err(Halt::Memory) => Err(Memory),
-        }
+        attempted(whole_value(self, alloc, text, at), text.len())
+    }
+
+    fn items(&self, alloc: Global, text: &[u8], at: u32) -> Result<Attempt<GeoAtom>, Memory> {
+        attempted(whole_items(self, alloc, text, at), text.len())
     }
 
     fn copy(&self, alloc: Global, atom: &GeoAtom) -> Result<GeoAtom, Memory> {

@@ -23,13 +23,13 @@ use crate::plain_geometries::{KindRead, ShapeRead, read_geometry, read_kind};
 use crate::plain_objects::{pass_object, pass_other};
 use crate::shapes::empty_shape;
 use crate::twins::is_twin;
-use crate::values::read_item;
+use crate::values::{DEEPEST, read_item};
 use at_query::{Part, TextPairs};
 use at_text::{Fault, Halt};
 use std::alloc::Global;
 
-/// Brackets stand at most so deep in a member's value that is read at once.
-const DEEPEST: u8 = 10;
+/// So many members for which no kind asks may stand before the first of a feature's own.
+const EARLY: usize = 2;
 
 /// A feature that was read: the place behind it, and its part or its first fault.
 #[derive(Drop)]
@@ -165,6 +165,12 @@ impl FeatureMembers {
             has_properties: false,
         }
     }
+
+    /// Whether one of a feature's own members was read.
+    #[inline(always)]
+    fn has_begun(&self) -> bool {
+        self.is_feature || self.geometry.is_some() || self.has_properties
+    }
 }
 
 /// Whether the kind is that of features.
@@ -248,7 +254,8 @@ fn properties_member(
     Ok(end)
 }
 
-/// A feature's member behind its name. Of those of one name the first alone is read.
+/// A feature's member behind its name. Of those of one name the first alone is read. Before the first of a feature's own
+/// members few others are passed over, and no arrays and objects in them: an object that is none is soon given up.
 #[inline(always)]
 fn read_member(
     algebra: &GeoAlgebra,
@@ -273,8 +280,13 @@ fn read_member(
         Field::Geometry => geometry_member(algebra, alloc, text, base, at, members),
         Field::Properties => properties_member(algebra, alloc, text, base, at, members),
         Field::Other => {
+            let begun = members.has_begun();
+            if !begun && others.count >= EARLY {
+                return Err(Halt::At(at));
+            }
             add_other(text, others, name.place)?;
-            pass_other(algebra, alloc, text, base, at)
+            let depth = if begun { DEEPEST } else { 0 };
+            pass_other(algebra, alloc, text, base, at, depth)
         }
         _ => Err(Halt::At(at)),
     }

@@ -7,8 +7,10 @@ ghost use Rattle.at_geojson.specs.Places.{IsNameAt, IsSimpleTextAt};
 ghost use Rattle.at_geojson.specs.Fields.{field_of};
 ghost use Rattle.at_geojson.specs.Members.{name_in, IsPlainName, is_named_among, is_among_others, ArePlainOthers};
 ghost use Rattle.at_geojson.specs.Members.{AddsName, IsNewName};
+ghost use Rattle.at_geojson.specs.KnownNames.{IsFieldName};
 
 use crate::fields::{Field, Fields, field_of_bytes, is_other};
+use crate::known_names::known_name;
 use crate::places::{NamePlace, ended_name, name_place, skip_spaces};
 use crate::scalars::is_simple;
 use crate::short_texts::short_text_end;
@@ -166,6 +168,18 @@ pub fn add_other(text: &[u8], others: &mut OtherNames, name: NamePlace) -> Resul
     Ok(())
 }
 
+/// The name of a member that isn't looked at as a whole word.
+#[inline(always)]
+fn any_name(text: &[u8], at: usize) -> Result<FieldName, Halt>
+    requires inside { at ≤ length text.now }
+    requires short { length text.now ≤ 2 ^ 28 }
+    ensures { IfOk result (IsFieldName text.now at) }
+{
+    let place = plain_name(text, at)?;
+    let field = field_of_bytes(&text[place.first + 1..place.end - 1]);
+    Ok(FieldName { place, field })
+}
+
 /// The name of a member, which is plain.
 #[inline(always)]
 pub fn field_name(text: &[u8], at: usize) -> Result<FieldName, Halt>
@@ -175,9 +189,11 @@ pub fn field_name(text: &[u8], at: usize) -> Result<FieldName, Halt>
     ensures plain { IfOk result (λ name. IsPlainName text.now name.place) }
     ensures field { IfOk result (λ name. name.field ≡ field_of (name_in text.now name.place)) }
 {
-    let place = plain_name(text, at)?;
-    let field = field_of_bytes(&text[place.first + 1..place.end - 1]);
-    Ok(FieldName { place, field })
+    let first = skip_spaces(text, at);
+    match known_name(text, at, first) {
+        Some(name) => Ok(name),
+        None => any_name(text, at),
+    }
 }
 
 /// A name like that of a member that is none of the fields and none of the others, to which it is put if no kind asks

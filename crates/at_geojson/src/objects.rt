@@ -108,6 +108,7 @@ fn counts_all(query: &Query) -> bool
 }
 
 /// The part of the one feature at the offset.
+#[inline(always)]
 pub fn feature_part(
     alloc: Global,
     algebra: &GeoAlgebra,
@@ -127,6 +128,7 @@ pub fn feature_part(
 }
 
 /// The feature at the offset, of its shape and its texts.
+#[inline(always)]
 pub fn of_feature(
     alloc: Global,
     algebra: &GeoAlgebra,

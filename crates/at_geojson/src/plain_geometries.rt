@@ -9,6 +9,7 @@ use crate::asked::GeoAlgebra;
 use crate::fields::{is_coordinates, is_kind, kind_named};
 use crate::geometries::Geometry;
 use crate::kinds::Kind;
+use crate::known_names::known_kind;
 use crate::members::field_name;
 use crate::pairs::{PairRead, Whole, read_pair, read_points};
 use crate::places::{expect_comma, skip_spaces, stands};
@@ -32,9 +33,8 @@ pub struct ShapeRead {
     pub shape: Result<Geometry, Fault>,
 }
 
-/// White space, the name of a kind, and white space.
-#[inline(always)]
-pub fn read_kind(algebra: &GeoAlgebra, text: &[u8], base: u32, at: usize) -> Result<KindRead, Halt>
+/// White space, the name of a kind that isn't looked at as a whole word, and white space.
+fn any_kind(algebra: &GeoAlgebra, text: &[u8], base: u32, at: usize) -> Result<KindRead, Halt>
     requires inside { at ≤ length text.now }
     requires fits { base + length text.now ≤ 2 ^ 28 }
     requires unasked { list_any looks_at_texts algebra.now.query.tests ≡ false }
@@ -49,7 +49,24 @@ pub fn read_kind(algebra: &GeoAlgebra, text: &[u8], base: u32, at: usize) -> Res
     }
 }
 
+/// White space, the name of a kind, and white space.
+#[inline(always)]
+pub fn read_kind(algebra: &GeoAlgebra, text: &[u8], base: u32, at: usize) -> Result<KindRead, Halt>
+    requires inside { at ≤ length text.now }
+    requires fits { base + length text.now ≤ 2 ^ 28 }
+    requires unasked { list_any looks_at_texts algebra.now.query.tests ≡ false }
+    ensures { IfOk result (IsKindRead algebra.now base text.now at) }
+{
+    let first = skip_spaces(text, at);
+    let Some(KindRead { end, kind }) = known_kind(text, first) else {
+        return any_kind(algebra, text, base, at);
+    };
+    let end = skip_spaces(text, end);
+    Ok(KindRead { end, kind })
+}
+
 /// The coordinates of a point.
+#[inline(always)]
 fn read_point(
     algebra: &GeoAlgebra,
     alloc: Global,
@@ -89,6 +106,7 @@ fn read_multi_point(
 }
 
 /// The coordinates of a line.
+#[inline(always)]
 fn read_line(
     algebra: &GeoAlgebra,
     alloc: Global,
@@ -131,6 +149,7 @@ fn read_multi_line(
 }
 
 /// The coordinates of a polygon.
+#[inline(always)]
 fn read_polygon(
     algebra: &GeoAlgebra,
     alloc: Global,
@@ -173,6 +192,7 @@ fn read_multi_polygon(
 }
 
 /// The coordinates of a geometry of the kind, from their opening bracket on, which stands at the place.
+#[inline(always)]
 fn read_coordinates_of(
     algebra: &GeoAlgebra,
     alloc: Global,

@@ -14,14 +14,11 @@ use crate::pairs::Whole;
 use crate::passing::pass_item;
 use crate::places::{expect_comma, skip_spaces, stands};
 use crate::twins::is_twin;
-use crate::values::{read_item, read_simple};
+use crate::values::{DEEPEST, read_item, read_simple};
 use at_text::Halt;
 use std::alloc::Global;
 
-/// Brackets stand at most so deep in a member's value that is passed over.
-const DEEPEST: u8 = 10;
-
-/// White space, a value, and white space.
+/// White space, a value in which brackets stand at most so deep, and white space.
 #[inline(always)]
 pub fn pass_other(
     algebra: &GeoAlgebra,
@@ -29,6 +26,7 @@ pub fn pass_other(
     text: &[u8],
     base: u32,
     at: usize,
+    depth: u8,
 ) -> Result<usize, Halt>
     requires inside { at ≤ length text.now }
     requires fits { base + length text.now ≤ 2 ^ 28 }
@@ -38,7 +36,7 @@ pub fn pass_other(
     if let Some(end) = pass_item(algebra, text, at) {
         return Ok(end);
     }
-    let Whole { end, atom } = read_item(algebra, alloc, text, base, at, DEEPEST)?;
+    let Whole { end, atom } = read_item(algebra, alloc, text, base, at, depth)?;
     if is_twin(&atom) {
         return Err(Halt::At(end));
     }
@@ -106,7 +104,7 @@ fn pass_member(
     match name.field {
         Field::Other => {
             add_other(text, others, name.place)?;
-            pass_other(algebra, alloc, text, base, at)
+            pass_other(algebra, alloc, text, base, at, DEEPEST)
         }
         Field::Kind => pass_kind(algebra, text, base, at, named),
         _ => Err(Halt::At(at)),

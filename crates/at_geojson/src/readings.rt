@@ -18,6 +18,7 @@ use at_text::{Fault, Memory};
 use std::alloc::Global;
 
 /// The shape, or the fault where there is one.
+#[inline(always)]
 fn unless(fault: Option<Fault>, shape: Geometry) -> Result<Geometry, Fault>
     ensures { result ≡ shape_unless fault shape }
 {
@@ -28,6 +29,7 @@ fn unless(fault: Option<Fault>, shape: Geometry) -> Result<Geometry, Fault>
 }
 
 /// The geometry of a point.
+#[inline(always)]
 pub fn point_of(alloc: Global, needs: bool, pos: Pos) -> Result<Geometry, Memory>
     ensures { IfOk result (λ g. g ≡ points_are (kept needs (pos ∷ []))) }
 {
@@ -42,6 +44,7 @@ pub fn points_of(alloc: Global, points: Points) -> Result<Geometry, Fault>
 }
 
 /// The geometry of a line, or its first fault.
+#[inline(always)]
 pub fn line_of(
     alloc: Global,
     needs: bool,
@@ -61,6 +64,7 @@ pub fn lines_of(alloc: Global, lists: Lists) -> Result<Geometry, Fault>
 }
 
 /// The geometry of a polygon, or its first fault.
+#[inline(always)]
 pub fn polygon_of(
     alloc: Global,
     needs: bool,

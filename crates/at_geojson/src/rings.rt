@@ -35,6 +35,7 @@ pub struct AreasRead {
 }
 
 /// White space, a list of positions and white space.
+#[inline(always)]
 fn points_item(
     algebra: &GeoAlgebra,
     alloc: Global,
@@ -56,6 +57,7 @@ fn points_item(
 }
 
 /// What is kept of the first of lists of positions.
+#[inline(always)]
 fn first_list(alloc: Global, needs: bool, points: Points) -> Result<Lists, Halt>
     ensures paths { IfOk result (λ lists. lists.paths.items ≡ kept needs (points.path.items ∷ [])) }
     ensures as_lines { IfOk result (λ lists. lists.as_lines ≡ points.as_line) }

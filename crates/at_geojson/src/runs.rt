@@ -3,7 +3,7 @@
 //! Runs whose features have a hull of many corners are joined as in a binary counter, since a join takes a time that
 //! grows with the corners of both.
 
-ghost use Rattle.std.specs.Prelude.{◌≡◌, ◌++◌, ◌∷◌, [], All, IfOk, None, true};
+ghost use Rattle.std.specs.Prelude.{◌≡◌, ◌++◌, ◌∷◌, [], All, IfOk, IfSome, Ok, None, true};
 ghost use Rattle.std.specs.List.{list_any};
 ghost use Rattle.at_geojson.specs.Atoms.{twin_of as twin_in, IsOwn, AreOwnItems};
 ghost use Rattle.at_geojson.specs.Gathering.{firsts, is_run as run_is, item_geometries, item_features, JoinsShapes};
@@ -75,6 +75,12 @@ fn weight(items: &Items) -> usize {
     }
 }
 
+/// Whether a further feature is joined with the items' at no great cost.
+#[inline(always)]
+pub fn is_light(items: &Items) -> bool {
+    weight(items) <= LIGHT
+}
+
 /// Puts geometries behind those of a run.
 fn join_geometries(
     alloc: Global,
@@ -95,16 +101,30 @@ fn join_geometries(
     Ok(())
 }
 
+/// A part without lists, once more.
+#[inline(always)]
+fn small_part(part: &Result<Part, Fault>) -> Option<Part>
+    ensures { IfSome result (λ small. part.now ≡ Ok small) }
+{
+    match part {
+        Ok(Part::Count(count)) => Some(Part::Count(*count)),
+        Ok(Part::Area(area)) => Some(Part::Area(*area)),
+        Ok(Part::Spread(extent)) => Some(Part::Spread(*extent)),
+        _ => None,
+    }
+}
+
 /// Puts the part of features behind that of a run.
-fn join_features(run: &mut Items, more: Result<Part, Fault>) -> Result<(), Memory>
+#[inline(always)]
+pub fn join_features(run: &mut Items, more: Result<Part, Fault>) -> Result<(), Memory>
     requires { AreJoinable run.old.features more }
     ensures geometries { run.new.geometries ≡ run.old.geometries }
     ensures features { IfOk result (λ u. JoinsFound run.old.features more run.new.features) }
 {
-    if let Ok(Part::Count(first)) = &run.features
-        && let Ok(Part::Count(second)) = &more
+    if let Some(first) = small_part(&run.features)
+        && let Some(second) = small_part(&more)
     {
-        run.features = Ok(part_merge(Part::Count(*first), Part::Count(*second))?);
+        run.features = Ok(part_merge(first, second)?);
         return Ok(());
     }
     let before = replace(&mut run.features, Err(form_at(0)));
@@ -291,7 +311,7 @@ fn add_behind_run(
     ensures fold { IfOk result (λ u. Adds algebra.now (items.old.items ++ GeoAtom.Run before ∷ []) atom
         items.new.items) }
 {
-    if weight(&before) <= LIGHT {
+    if is_light(&before) {
         join_run(alloc, algebra, items, before, atom)
     } else {
         add_behind_heavy(alloc, algebra, items, before, atom)

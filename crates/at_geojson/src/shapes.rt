@@ -12,6 +12,7 @@ use at_text::{Fault, Memory, first_fault, first_of_two};
 use std::alloc::Global;
 
 /// The shape of points.
+#[inline(always)]
 pub fn of_points(alloc: Global, points: Vec<Pos>) -> Geometry
     ensures { result ≡ points_shape points.items }
 {
@@ -23,6 +24,7 @@ pub fn of_points(alloc: Global, points: Vec<Pos>) -> Geometry
 }
 
 /// The shape of lines.
+#[inline(always)]
 pub fn of_lines(alloc: Global, lines: Vec<Path>) -> Geometry
     ensures { result ≡ lines_shape lines.items }
 {
@@ -34,6 +36,7 @@ pub fn of_lines(alloc: Global, lines: Vec<Path>) -> Geometry
 }
 
 /// The shape of polygons.
+#[inline(always)]
 pub fn of_polygons(alloc: Global, polygons: Vec<Polygon>) -> Geometry
     ensures { result ≡ polygons_shape polygons.items }
 {
@@ -52,6 +55,7 @@ pub fn empty_shape(alloc: Global) -> Geometry
 }
 
 /// A list of one point, where shapes are kept.
+#[inline(always)]
 pub fn one_point(alloc: Global, needs: bool, pos: Pos) -> Result<Vec<Pos>, Memory>
     ensures { IfOk result (λ points. points.items ≡ kept needs (pos ∷ [])) }
 {
@@ -64,6 +68,7 @@ pub fn one_point(alloc: Global, needs: bool, pos: Pos) -> Result<Vec<Pos>, Memor
 }
 
 /// A list of one line, where shapes are kept.
+#[inline(always)]
 pub fn one_line(alloc: Global, needs: bool, path: Vec<Pos>) -> Result<Vec<Path>, Memory>
     ensures { IfOk result (λ lines. lines.items ≡ kept needs (path.items ∷ [])) }
 {
@@ -76,6 +81,7 @@ pub fn one_line(alloc: Global, needs: bool, path: Vec<Pos>) -> Result<Vec<Path>,
 }
 
 /// A list of one polygon, where shapes are kept.
+#[inline(always)]
 pub fn one_polygon(alloc: Global, needs: bool, rings: Vec<Path>) -> Result<Vec<Polygon>, Memory>
     ensures { IfOk result (λ polygons. polygons.items ≡ kept needs (record { rings = rings.items } ∷ [])) }
 {

@@ -8,12 +8,12 @@ ghost use Rattle.at_geojson.specs.Places.{IsSimpleTextAt, is_common};
 use crate::places::stands;
 use std::simd::prelude::*;
 
-/// So many bytes of a string are looked at together.
-const LANES: usize = 16;
+/// So many bytes of a text are looked at together.
+pub const LANES: usize = 16;
 
 /// The place of the lowest bit of a mask of sixteen that is set, or 16 where none is.
 #[inline(always)]
-fn first_set(mask: u64) -> usize
+pub fn first_set(mask: u64) -> usize
     ensures { result ≡ lowest_set mask 16 }
 {
     if mask == 0 {

@@ -29,6 +29,9 @@ use at_query::TextPairs;
 use at_text::Halt;
 use std::alloc::Global;
 
+/// Brackets stand at most so deep in a value that is read at once.
+pub const DEEPEST: u8 = 12;
+
 /// Room that a list of items or members is given at first.
 const ROOM: usize = 8;
 

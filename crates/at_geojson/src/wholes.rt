@@ -1,18 +1,22 @@
-//! The array or object that begins a text, read at once.
+//! The array or object that begins a text, read at once, and what stands behind it in an array.
 
-ghost use Rattle.std.specs.Prelude.{◌≡◌, ◌+◌, ◌<◌, ◌≤◌, ◌^◌, length, slice_index, IfOk};
+ghost use Rattle.std.specs.Prelude.{◌≡◌, ℕ, ◌+◌, ◌<◌, ◌≤◌, ◌^◌, List, ◌∷◌, false, length, slice_index, IfOk};
+ghost use Rattle.std.specs.List.{list_any};
+ghost use Rattle.at_lex.specs.Spans.{opening};
+ghost use Rattle.at_lex.specs.declared.tokens.Bracket.{Bracket};
+ghost use Rattle.at_geojson.specs.Keeping.{looks_at_texts};
 ghost use Rattle.at_geojson.specs.Values.{IsWhole};
+ghost use Rattle.at_geojson.specs.FeatureRuns.{AreItemsWhole};
 
 use crate::asked::{GeoAlgebra, needs_texts};
+use crate::atoms::GeoAtom;
+use crate::feature_runs::{FeaturesRead, read_features};
 use crate::features::feature_value;
 use crate::pairs::Whole;
 use crate::places::stands;
-use crate::values::{read_list, read_object};
+use crate::values::{DEEPEST, read_list, read_object};
 use at_text::Halt;
 use std::alloc::Global;
-
-/// Brackets stand at most so deep in a value that is read at once.
-const DEEPEST: u8 = 12;
 
 /// An object from its opening bracket on, which stands at the place. Where no test looks at texts, it is taken for a
 /// feature first.
@@ -55,4 +59,54 @@ pub fn whole_value(
         return object_value(algebra, alloc, text, base, 0);
     }
     Err(Halt::At(0))
+}
+
+/// One array or object as the only item.
+fn one_item(algebra: &GeoAlgebra, alloc: Global, text: &[u8], base: u32) -> Result<Whole, Halt>
+    requires begins { (b : Bracket) × (more : List ℕ) × (text.now ≡ opening b ∷ more) }
+    requires fits { base + length text.now ≤ 2 ^ 28 }
+    ensures { IfOk result (AreItemsWhole algebra.now base text.now 0) }
+{
+    let whole = whole_value(algebra, alloc, text, base)?;
+    Ok(whole)
+}
+
+/// Features that begin the text, or one object.
+fn object_items(algebra: &GeoAlgebra, alloc: Global, text: &[u8], base: u32) -> Result<Whole, Halt>
+    requires begins { (b : Bracket) × (more : List ℕ) × (text.now ≡ opening b ∷ more) }
+    requires inside { 0 < length text.now }
+    requires opens { slice_index text.now 0 ≡ 0x7B }
+    requires fits { base + length text.now ≤ 2 ^ 28 }
+    requires unasked { list_any looks_at_texts algebra.now.query.tests ≡ false }
+    ensures { IfOk result (AreItemsWhole algebra.now base text.now 0) }
+{
+    match read_features(algebra, alloc, text, base, 0) {
+        Ok(FeaturesRead { end, run }) => Ok(Whole {
+            end,
+            atom: GeoAtom::Run(run),
+        }),
+        Err(Halt::Memory) => Err(Halt::Memory),
+        Err(Halt::At(_)) => {
+            let whole = read_object(algebra, alloc, text, base, 0, DEEPEST)?;
+            Ok(whole)
+        }
+    }
+}
+
+/// Items of an array that begin the text, whose first byte, a bracket, stands at the offset: features as far as they go
+/// and no test looks at texts, or one array or object.
+pub fn whole_items(
+    algebra: &GeoAlgebra,
+    alloc: Global,
+    text: &[u8],
+    base: u32,
+) -> Result<Whole, Halt>
+    requires begins { (b : Bracket) × (more : List ℕ) × (text.now ≡ opening b ∷ more) }
+    requires fits { base + length text.now ≤ 2 ^ 28 }
+    ensures { IfOk result (AreItemsWhole algebra.now base text.now 0) }
+{
+    if !stands(text, 0, b'{') || needs_texts(algebra.query().tests.as_slice()) {
+        return one_item(algebra, alloc, text, base);
+    }
+    object_items(algebra, alloc, text, base)
 }

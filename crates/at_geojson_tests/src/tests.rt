@@ -572,44 +572,6 @@ fn series(rt: HostRuntime) -> Result<(), Fail> {
     compare_rows(&rt, &rows)
 }
 
-/// Objects one behind another in an array, and what stands between them.
-#[test]
-fn runs(rt: HostRuntime) -> Result<(), Fail> {
-    let rows: [Row; 6] = [
-        (
-            "select",
-            "{\"type\":\"FeatureCollection\",\"features\":[{\"type\":\"Feature\",\"geometry\":null},{\"type\":\"Feature\",\"geometry\":null},{\"type\":\"Feature\",\"geometry\":null}]}",
-            "40\n75\n110\n",
-        ),
-        (
-            "count",
-            "{\"type\":\"FeatureCollection\",\"features\":[{\"type\":\"Feature\",\"geometry\":null},{\"type\":\"Feature\",\"geometry\":null},null,{\"type\":\"Feature\",\"geometry\":null}]}",
-            "Form at 110",
-        ),
-        (
-            "count",
-            "{\"type\":\"FeatureCollection\",\"features\":[[],{\"type\":\"Feature\",\"geometry\":null},{\"type\":\"Feature\",\"geometry\":null}]}",
-            "Form at 40",
-        ),
-        (
-            "count",
-            "{\"type\":\"FeatureCollection\",\"features\":[{\"type\":\"Feature\",\"geometry\":null},{\"a\":1,\"a\":2},{\"type\":\"Feature\",\"geometry\":null}]}",
-            "Twin at 82",
-        ),
-        (
-            "extent",
-            "{\"type\":\"GeometryCollection\",\"geometries\":[{\"type\":\"Point\",\"coordinates\":[1,2]},{\"type\":\"GeometryCollection\",\"geometries\":[{\"type\":\"Point\",\"coordinates\":[3,4]},{\"type\":\"Point\",\"coordinates\":[5,0]}]},{\"type\":\"Point\",\"coordinates\":[0,7]}]}",
-            "0.0000000 0.0000000 5.0000000 7.0000000\n",
-        ),
-        (
-            "count",
-            "{\"type\":\"GeometryCollection\",\"geometries\":[{\"type\":\"Point\",\"coordinates\":[1,2]},{\"type\":\"Point\",\"coordinates\":[3]},{\"type\":\"Point\",\"coordinates\":[4,\"y\"]}]}",
-            "Form at 110",
-        ),
-    ];
-    compare_rows(&rt, &rows)
-}
-
 /// What a letter stands for, with `#` for its number: a digit is a point, a small letter a line, a capital one a
 /// polygon, a full stop a point of nothing, and round brackets are a collection.
 fn letter_text(letter: u8) -> &'static str {

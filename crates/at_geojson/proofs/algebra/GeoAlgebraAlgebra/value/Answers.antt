@@ -1,6 +1,7 @@
 -- The value that begins the text.
-use Rattle.at_geojson.proofs.ValueParts.{attempt_of}
+use Rattle.std.proofs.lemmas.Result.{IfOk-weaker}
+use Rattle.at_geojson.proofs.FeatureJoins.{value_told}
 use Rattle.at_geojson.proofs.algebra.GeoAlgebraAlgebra.value.Goals as goal
 
-pub returns-in-Ok : goal.returns-in-Ok
-returns-in-Ok c = attempt_of c.args.self.now c.args.at c.args.text.now c.in-Ok.field-0 c.in-Ok.ensures
+pub returns : goal.returns
+returns c = IfOk-weaker c.attempted.result _ _ (value_told c.args.self.now c.args.at c.args.text.now c.whole_value.result c.whole_value.ensures) c.attempted.ensures

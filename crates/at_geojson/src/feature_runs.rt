@@ -1,0 +1,106 @@
+//! Features one behind another in an array, read at once: of each nothing but its part is kept, which is joined with the
+//! parts before it.
+
+ghost use Rattle.std.specs.Prelude.{◌≡◌, ◌+◌, ◌<◌, ◌≤◌, ◌^◌, false, length, slice_index, IfOk, IfSome};
+ghost use Rattle.std.specs.List.{list_any};
+ghost use Rattle.at_geojson.specs.Keeping.{looks_at_texts};
+ghost use Rattle.at_geojson.specs.Atoms.{both_forms};
+ghost use Rattle.at_geojson.specs.FeatureRuns.{IsNextObject, AreFeaturesRead};
+
+use crate::asked::GeoAlgebra;
+use crate::atoms::Items;
+use crate::features::{FeatureRead, read_feature};
+use crate::lists::form_at;
+use crate::places::{skip_spaces, stands};
+use crate::runs::{is_light, join_features};
+use at_query::Part;
+use at_text::{Fault, Halt};
+use std::alloc::Global;
+
+/// Features that were read: the place behind them and the white space, and what they are as items of an array.
+#[derive(Drop)]
+pub struct FeaturesRead {
+    pub end: usize,
+    pub run: Box<Items>,
+}
+
+/// What a feature at the offset is as an item of an array.
+#[inline(always)]
+fn feature_items(at: u32, part: Result<Part, Fault>) -> Items
+    ensures geometries { result.geometries ≡ both_forms at }
+    ensures features { result.features ≡ part }
+{
+    Items {
+        geometries: Err(form_at(at)),
+        features: part,
+    }
+}
+
+/// The place of an object's bracket behind a comma, which stands at the place.
+#[inline(always)]
+fn next_object(text: &[u8], at: usize) -> Option<usize>
+    ensures { IfSome result (IsNextObject text.now at) }
+{
+    if !stands(text, at, b',') {
+        return None;
+    }
+    let first = skip_spaces(text, at + 1);
+    if stands(text, first, b'{') {
+        Some(first)
+    } else {
+        None
+    }
+}
+
+/// The first feature of several.
+fn begin_features(
+    algebra: &GeoAlgebra,
+    alloc: Global,
+    text: &[u8],
+    base: u32,
+    at: usize,
+) -> Result<FeaturesRead, Halt>
+    requires inside { at < length text.now }
+    requires opens { slice_index text.now at ≡ 0x7B }
+    requires fits { base + length text.now ≤ 2 ^ 28 }
+    requires unasked { list_any looks_at_texts algebra.now.query.tests ≡ false }
+    ensures { IfOk result (λ read. AreFeaturesRead algebra.now base text.now at read.end read.run.value) }
+{
+    let FeatureRead { end, part } = read_feature(algebra, alloc, text, base, at)?;
+    let run = Box::new(alloc, feature_items(base + at as u32, part))?;
+    let end = skip_spaces(text, end);
+    Ok(FeaturesRead { end, run })
+}
+
+/// Features one behind another in an array, where no test looks at texts, from the opening bracket of the first one on,
+/// which stands at the place. They end before the first item that is not read at once as a feature, or where joining
+/// one more feature would take long.
+pub fn read_features(
+    algebra: &GeoAlgebra,
+    alloc: Global,
+    text: &[u8],
+    base: u32,
+    at: usize,
+) -> Result<FeaturesRead, Halt>
+    requires inside { at < length text.now }
+    requires opens { slice_index text.now at ≡ 0x7B }
+    requires fits { base + length text.now ≤ 2 ^ 28 }
+    requires unasked { list_any looks_at_texts algebra.now.query.tests ≡ false }
+    ensures { IfOk result (λ read. AreFeaturesRead algebra.now base text.now at read.end read.run.value) }
+{
+    let FeaturesRead { mut end, mut run } = begin_features(algebra, alloc, text, base, at)?;
+    'features: while is_light(&run) {
+        let Some(first) = next_object(text, end) else {
+            return Ok(FeaturesRead { end, run });
+        };
+        match read_feature(algebra, alloc, text, base, first) {
+            Ok(FeatureRead { end: last, part }) => {
+                join_features(&mut *run, part)?;
+                end = skip_spaces(text, last);
+            }
+            Err(Halt::Memory) => return Err(Halt::Memory),
+            Err(Halt::At(_)) => return Ok(FeaturesRead { end, run }),
+        }
+    }
+    Ok(FeaturesRead { end, run })
+}
