@@ -1,6 +1,6 @@
 -- From a mask of bytes to the digits that it marks.
--- For `json_number`, `leading_number`, `plain_len`, `plain_number`, `read_fixed` and `wkt_number`.
-use Rattle.std.proofs.Common.{◌≡◌, ℕ, zero, suc, bit_and, ◌*◌, ◌+◌, ◌-◌, ◌/◌, ◌%◌, ◌^◌, ◌<◌, ◌≤◌, Bool, true, false, not, cond, List, map, length, get_or, slice_index, Fits, w8, w64, ◌⊎◌, refl, sym, ap, ◌∙◌, subst, arith, inl, inr}
+-- For `leading_number`, `plain_len` and `plain_number`.
+use Rattle.std.proofs.Common.{◌≡◌, ℕ, zero, suc, bit_and, ◌*◌, ◌+◌, ◌-◌, ◌/◌, ◌%◌, ◌^◌, ◌<◌, ◌≤◌, Bool, true, false, not, cond, List, map, length, get_or, slice_index, Fits, w8, w64, refl, sym, ap, ◌∙◌, subst, arith, inl, inr}
 use Rattle.std.specs.Int.{bit_at, trailing_zeros}
 use Rattle.std.proofs.Math.Nat.{div-div-eq-div-mul}
 use Rattle.std.proofs.lemmas.Nat.{pow-add, pow_pos}
@@ -17,7 +17,7 @@ use Rattle.at_fixed.specs.declared.notation.Notation.{Notation}
 use Rattle.at_fixed.specs.declared.notation.Notation.TheVariants.{Json, Wkt}
 use Rattle.at_fixed.specs.declared.scanning.Sign.{Sign}
 use Rattle.at_fixed.specs.States.{is_lead_sign}
-use Rattle.at_fixed.specs.Gaps.{MarksGaps, MarksGapsFrom, IsClearFrom, IsClearedTo, IsFirstSet}
+use Rattle.at_fixed.specs.Gaps.{AreFirstTwo, MarksGaps, MarksGapsFrom, IsClearedTo, IsFirstSet}
 use Rattle.at_fixed.proofs.EightDigits.{run_digits}
 
 -- a bit for each byte where no digit stands
@@ -46,34 +46,8 @@ gaps_marked w at count z f small room fits lanes all =
       small = let P : ℕ → Type 0 = λ m. m < 2 ^ count in let Q : ℕ → Type 0 = λ n. mask_l (map stops v) < 2 ^ n in subst P (sym mask) (subst Q same (mask_l-lt (map stops v)));
     }
 
--- ---- the next bit that is set
-
 shifted : (m from i : ℕ) → bit_at (m / 2 ^ from) i ≡ bit_at m (from + i)
 shifted m from i = ap (λ n. n % 2) (div-div-eq-div-mul m (2 ^ from) (2 ^ i) ∙ ap (λ n. m / n) (sym (pow-add 2 from i)))
-
-pub none_set : (m from : ℕ) → m / 2 ^ from ≡ 0 → IsClearFrom m from
-none_set m from none k after =
-    let place : from + (k - from) ≡ k = omega arith in
-    ap (bit_at m) (sym place) ∙ (sym (shifted m from (k - from)) ∙ (ap (λ n. bit_at n (k - from)) none ∙ bit_at-zero (k - from)))
-
-pub some_set : (m from : ℕ) → 0 < m / 2 ^ from → m / 2 ^ from < 2 ^ 64 → IsFirstSet m from (from + trailing_zeros w64 (m / 2 ^ from))
-some_set m from some fits =
-    let t = trailing_zeros w64 (m / 2 ^ from) in
-    let (_, one, clear) = bit_at-trailing_zeros w64 (m / 2 ^ from) some fits in
-    record {
-      order = omega arith;
-      clear = λ k after before.
-          let place : from + (k - from) ≡ k = omega arith in
-          ap (bit_at m) (sym place) ∙ (sym (shifted m from (k - from)) ∙ clear (k - from) (omega (arith, after, before)));
-      set = sym (shifted m from t) ∙ one;
-    }
-
--- a bit that is set is one of those that were looked at
-pub set_within : (w : List ℕ) (at count gaps n : ℕ) → MarksGaps w at count gaps → bit_at gaps n ≡ 1 → n < count
-set_within w at count gaps n marks one = elim (cases_lt n count) [
-  | inl less ↦ less
-  | inr more ↦ absurd (cc (one, bit_at_above gaps count n marks.small more))
-]
 
 -- ---- without the lowest bit that is set
 
@@ -180,44 +154,10 @@ is_clear false h = refl
 
 -- ---- the digits before it
 
-marked_digit : (w : List ℕ) (at count gaps k j : ℕ) → MarksGaps w at count gaps → k < count → at + k ≡ j → bit_at gaps k ≡ 0 → is_digit (slice_index w j) ≡ true
-marked_digit w at count gaps k j marks few e clear =
-    let P : ℕ → Type 0 = λ i. is_digit (slice_index w i) ≡ true in subst P e (is_set (is_digit (slice_index w (at + k))) (sym (marks.each k few) ∙ clear))
-
-marked_gap : (w : List ℕ) (at count gaps k j : ℕ) → MarksGaps w at count gaps → k < count → at + k ≡ j → bit_at gaps k ≡ 1 → is_digit (slice_index w j) ≡ false
-marked_gap w at count gaps k j marks few e set =
-    let P : ℕ → Type 0 = λ i. is_digit (slice_index w i) ≡ false in subst P e (is_clear (is_digit (slice_index w (at + k))) (sym (marks.each k few) ∙ set))
-
 digits_to : (w : List ℕ) (from to : ℕ) → from ≤ to → to ≤ length w → ((k : ℕ) → from ≤ k → k < to → is_digit (slice_index w k) ≡ true) → AreDigits (between w from to)
 digits_to w from to order within each =
     let place : from + (to - from) ≡ to = omega arith in
     subst (λ z. AreDigits (between w from z)) place (run_digits w from (to - from) (omega arith) (λ k after before. each k after (omega (arith, before, place))))
-
--- they end among the bytes that were looked at
-pub ends_within : (w : List ℕ) (count from end gaps : ℕ) → count ≤ length w → MarksGaps w 0 count gaps → IsFirstSet gaps from end → EndsRun w from end
-ends_within w count from end gaps long marks next =
-    let near : end < count = set_within w 0 count gaps end marks next.set in
-    record {
-      order = next.order;
-      within = omega (arith, near, long);
-      digits = digits_to w from end next.order (omega (arith, near, long)) (λ k after before. marked_digit w 0 count gaps k k marks (omega (arith, before, near)) (omega arith) (next.clear k after before));
-      stops = marked_gap w 0 count gaps end end marks near (omega arith) next.set;
-    }
-
--- or among the sixteen behind them
-pub ends_behind : (w : List ℕ) (from gaps more second : ℕ) → 32 ≤ length w → from ≤ 16 → MarksGaps w 0 16 gaps → IsClearFrom gaps from → MarksGaps w 16 16 second → IsFirstSet second 0 more
-    → EndsRun w from (16 + more)
-ends_behind w from gaps more second long few marks clear marks2 next =
-    let near : more < 16 = set_within w 16 16 second more marks2 next.set in
-    record {
-      order = omega (arith, few);
-      within = omega (arith, near, long);
-      digits = digits_to w from (16 + more) (omega (arith, few)) (omega (arith, near, long)) (λ k after before. each near k after before (cases_lt k 16));
-      stops = marked_gap w 16 16 second more (16 + more) marks2 near refl next.set;
-    } where
-      each : more < 16 → (k : ℕ) → from ≤ k → k < 16 + more → (k < 16) ⊎ (16 ≤ k) → is_digit (slice_index w k) ≡ true
-      each near k after before (inl first) = marked_digit w 0 16 gaps k k marks first (omega arith) (clear k after)
-      each near k after before (inr behind) = marked_digit w 16 16 second (k - 16) k marks2 (omega (arith, before, behind, near)) (omega (arith, behind)) (next.clear (k - 16) (omega arith) (omega (arith, before, behind)))
 
 -- they end at the first place that is marked
 pub ends_first : (w : List ℕ) (count from end gaps : ℕ) → count ≤ length w → MarksGapsFrom w count from gaps → IsFirstSet gaps 0 end → EndsRun w from end × (end < count)
@@ -232,3 +172,11 @@ ends_first w count from end gaps long marks first =
       },
       near,
     )
+
+-- and those behind it at the second
+pub ends_twice : (w : List ℕ) (count from gaps : ℕ) (places : ℕ × ℕ) → count ≤ length w → MarksGapsFrom w count from gaps → AreFirstTwo gaps places
+    → EndsRun w from places.0 × EndsRun w (places.0 + 1) places.1 × (places.1 < count)
+ends_twice w count from gaps places long marks two =
+    let (run, near) = ends_first w count from places.0 gaps long marks two.first in
+    let further = marks_further w count from gaps places.0 two.rest marks two.first run.order two.cleared two.less in
+    let (behind, last) = ends_first w count (places.0 + 1) places.1 two.rest long further two.second in (run, behind, last)

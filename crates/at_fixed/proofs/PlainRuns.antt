@@ -1,13 +1,14 @@
 -- Digits that are read eight at a time, and all kept.
 -- For `leading_number`, `plain_len` and `plain_number`.
-use Rattle.std.proofs.Common.{◌≡◌, ◌^◌, ℕ, ◌+◌, true, false, arith, List, [], ◌∷◌, ◌++◌, ◌≤◌, ◌<◌, ◌-◌, ◌*◌, length, subst, sym, ap, ◌∙◌, lit<, pow-add}
+use Rattle.std.proofs.Common.{◌≡◌, ◌==◌, not, IsTrue, slice_index, ◌^◌, ℕ, ◌+◌, true, false, arith, List, [], ◌∷◌, ◌++◌, ◌≤◌, ◌<◌, ◌-◌, ◌*◌, length, subst, sym, ap, ◌∙◌, lit<, pow-add}
 use Rattle.std.proofs.Math.Nat.{pow-le-pow_right}
+use Rattle.at_text.specs.Texts.{is_digit}
 use Rattle.at_fixed.specs.declared.digits.KeptRun.{KeptRun}
 use Rattle.at_fixed.specs.Numerals.{AreDigits}
 use Rattle.at_fixed.specs.NumberSoFar.{between}
 use Rattle.at_fixed.specs.Scans.{EndsRun, KeepsRun, KeepsTo}
 use Rattle.at_fixed.specs.NumberSoFar.{digits_behind}
-use Rattle.at_fixed.proofs.DigitParts.{part-part, part-length, behind_small}
+use Rattle.at_fixed.proofs.DigitParts.{behind-both, part-more, part-part, part-length, behind_small}
 use Rattle.at_fixed.proofs.EightDigits.{kept_both}
 
 -- eight digits, and the further ones behind them
@@ -58,6 +59,20 @@ run_to w from to before kept h k = record {
   filled = λ e. absurd (cc);
 }
 
+digit_above : (b : ℕ) → IsTrue (is_digit b) → IsTrue (not (b == 0x30)) → 0 < b - 0x30
+digit_above b h k = grind (arith, h, k)
+
+-- digits the last of which isn't a 0 spell more than 0
+pub above_zero : (w : List ℕ) (from to : ℕ) → from < to → to ≤ length w → AreDigits (between w from to) → IsTrue (not (slice_index w (to - 1) == 0x30)) → 0 < digits_behind 0 (between w from to)
+above_zero w from to order within digits last =
+    let b : ℕ = slice_index w (to - 1) in
+    let xs : List ℕ = between w from (to - 1) in
+    let back : to - 1 + 1 ≡ to = omega (arith, order) in
+    let parts : between w from to ≡ xs ++ (b ∷ []) = ap (between w from) (sym back) ∙ part-more w from (to - 1) (omega (arith, order)) (omega (arith, order, within)) in
+    let (is, none) = (digits_split xs (b ∷ []) (subst AreDigits parts digits)).1 in
+    let value : digits_behind 0 (between w from to) ≡ 10 * digits_behind 0 xs + (b - 0x30) = ap (digits_behind 0) parts ∙ behind-both 0 xs (b ∷ []) in
+    omega (arith, value, digit_above b is last)
+
 -- ---- how large what is kept may be
 
 pub room_more : (n k l : ℕ) → n < 10 ^ k → k ≤ l → n < 10 ^ l
@@ -70,3 +85,18 @@ kept_small w from to before kept k order within digits value small =
     let below : digits_behind before ds < 10 ^ k * 10 ^ length ds = behind_small before (10 ^ k) ds small digits in
     let top : 10 ^ k * 10 ^ length ds ≡ 10 ^ (k + (to - from)) = ap (λ n. 10 ^ k * 10 ^ n) count ∙ sym (pow-add 10 k (to - from)) in
     subst (λ n. kept < n) top (subst (λ n. n < 10 ^ k * 10 ^ length ds) (sym value) below)
+
+-- how large the number is that the first of some digits spell
+pub first_small : (w : List ℕ) (from count to number : ℕ) → EndsRun w from to → from + count ≤ to → number ≡ digits_behind 0 (between w from (from + count)) → number < 10 ^ count
+first_small w from count to number run more is =
+    let digits : AreDigits (between w from (from + count)) = (first_digits w from (from + count) to (omega arith) more (omega (arith, run.within)) run.digits).0 in
+    let long : 0 + (from + count - from) ≡ count = omega arith in
+    let P : ℕ → Type 0 = λ n. number < 10 ^ n in
+    subst P long (kept_small w from (from + count) 0 number 0 (omega arith) (omega (arith, run.within, more)) digits is (lit< tt))
+
+-- how large the number is that digits spell
+pub spelled_small : (w : List ℕ) (from count number : ℕ) → EndsRun w from (from + count) → number ≡ digits_behind 0 (between w from (from + count)) → number < 10 ^ count
+spelled_small w from count number run is =
+    let long : 0 + (from + count - from) ≡ count = omega arith in
+    let P : ℕ → Type 0 = λ n. number < 10 ^ n in
+    subst P long (kept_small w from (from + count) 0 number 0 run.order (omega (arith, run.within)) run.digits is (lit< tt))

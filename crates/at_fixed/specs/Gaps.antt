@@ -14,10 +14,6 @@ pub record IsFirstSet (mask from next : ℕ) : Type 0 where
   pub clear : (k : ℕ) → from ≤ k → k < next → bit_at mask k ≡ 0
   pub set : bit_at mask next ≡ 1
 
--- no bit is set from a place on
-abbrev pub IsClearFrom : ℕ → ℕ → Type 0
-IsClearFrom mask from = (k : ℕ) → from ≤ k → bit_at mask k ≡ 0
-
 -- the bits up to a place are cleared, and those behind it are those of the mask
 pub record IsClearedTo (mask place rest : ℕ) : Type 0 where
   pub clear : (k : ℕ) → k ≤ place → bit_at rest k ≡ 0
@@ -28,3 +24,11 @@ pub record MarksGapsFrom (w : List ℕ) (count from mask : ℕ) : Type 0 where
   pub each : (k : ℕ) → from ≤ k → k < count → bit_at mask k ≡ (if is_digit (slice_index w k) then 0 else 1)
   pub clear : (k : ℕ) → k < from → bit_at mask k ≡ 0
   pub small : mask < 2 ^ count
+
+-- the places of the two lowest bits that are set
+pub record AreFirstTwo (mask : ℕ) (places : ℕ × ℕ) : Type 0 where
+  pub rest : ℕ
+  pub first : IsFirstSet mask 0 places.0
+  pub cleared : IsClearedTo mask places.0 rest
+  pub less : rest ≤ mask
+  pub second : IsFirstSet rest 0 places.1

@@ -1,6 +1,6 @@
 -- What the steps of reading a number promise each other. Only contracts of private functions cite this.
 use Rattle.std.specs.Prelude.{◌≡◌, ℕ, ◌+◌, ◌-◌, ◌^◌, ◌<◌, ◌≤◌, ◌⊎◌, List, [], ◌∷◌, ◌++◌, length, take, slice_index}
-use Rattle.std.specs.Prelude.{Bool, true, false, nat_lt, ◌==◌, ◌&&◌, ◌||◌, Option, Some, None, IfSome}
+use Rattle.std.specs.Prelude.{Bool, true, false, nat_lt, ◌==◌, ◌&&◌, ◌||◌, Option, Some, None, IfSome, Ok, ◌/◌, ◌%◌}
 use Rattle.at_text.specs.Texts.{is_digit}
 use Rattle.at_fixed.specs.declared.notation.Notation.{Notation}
 use Rattle.at_fixed.specs.declared.notation.Notation.TheVariants.{Json, Wkt}
@@ -8,13 +8,15 @@ use Rattle.at_fixed.specs.declared.rounding.Coords.{Coords}
 use Rattle.at_fixed.specs.declared.rounding.Coords.TheVariants.{Round}
 use Rattle.at_fixed.specs.declared.digits.DigitsRun.{DigitsRun}
 use Rattle.at_fixed.specs.declared.digits.KeptRun.{KeptRun}
+use Rattle.at_fixed.specs.declared.ends.Ends.{Ends}
 use Rattle.at_fixed.specs.declared.extents.Extent.{Extent}
 use Rattle.at_fixed.specs.declared.scanning.Sign.{Sign}
 use Rattle.at_fixed.specs.declared.scanning.Mantissa.{Mantissa}
 use Rattle.at_fixed.specs.declared.scanning.Power.{Power}
+use Rattle.at_fixed.specs.declared.short_numbers.Whole.{Whole}
 use Rattle.at_fixed.specs.Numerals.{fraction_text, IsAtMostOneOf, AreDigits, AreSomeDigits, IsJsonWhole, AreWktDigits}
 use Rattle.at_fixed.specs.Numerals.{digits_value}
-use Rattle.at_fixed.specs.Fixed.{has_minus}
+use Rattle.at_fixed.specs.Fixed.{has_minus, largest, size_of}
 use Rattle.at_fixed.specs.NumberSoFar.{between, digits_behind, Keeps, SameOrHuge}
 use Rattle.at_fixed.specs.States.{State, Reads, step, accepts, is_letter, is_lead_sign, after_fraction, after_whole}
 use Rattle.at_fixed.specs.States.{lone_point}
@@ -49,6 +51,12 @@ pub record EndsRun (w : List ℕ) (from to : ℕ) : Type 0 where
   pub within : to < length w
   pub digits : AreDigits (between w from to)
   pub stops : is_digit (slice_index w to) ≡ false
+
+-- the sign of a number, and the first two places behind it where no digit stands
+pub record AreEnds (notation : Notation) (w : List ℕ) (ends : Ends) : Type 0 where
+  pub sign : ReadsSign notation w 0 ends.sign
+  pub lead : EndsRun w ends.sign.end ends.first
+  pub behind : EndsRun w (ends.first + 1) ends.second
 
 -- what is kept of the digits up to a place, behind a number
 pub record KeepsTo (w : List ℕ) (from to before kept : ℕ) : Type 0 where
@@ -167,6 +175,19 @@ pub record IsKeptFront (notation : Notation) (w : List ℕ) (read : Mantissa) : 
 abbrev pub IsExtent : Notation → List ℕ → Extent → Type 0
 IsExtent notation w extent = (front : Mantissa) × IsKeptFront notation w front × (front.end ≡ extent.end)
     × (front.fraction ≡ extent.fraction) × (extent.end < 32)
+
+-- a number up to its exponent, and its size in units of 10 ^ -digits, exact or rounded
+pub record IsSizedIn (notation : Notation) (w : List ℕ) (digits : ℕ) (how : Coords) (whole : Whole) : Type 0 where
+  pub front : Mantissa
+  pub kept : IsKeptFront notation w front
+  pub end : front.end ≡ whole.end
+  pub minus : front.is_minus ≡ whole.is_minus
+  pub size : size_of how front.digits.kept digits front.fraction ≡ Ok whole.size
+  pub bound : whole.size ≤ largest
+
+-- the whole number nearest to a tenth of a number with a fraction behind it, which is some where the number ends in a 5
+abbrev pub IsTenth : ℕ → ℕ → ℕ → Type 0
+IsTenth number fraction tenth = (tenth ≡ (number + 5) / 10) × (number % 10 ≡ 5 → 0 < fraction)
 
 -- a number of so many bytes, of which so many are digits behind its point, is not out of range, and is whole or rounded
 abbrev pub SurelyFits : ℕ → ℕ → ℕ → Coords → Type 0

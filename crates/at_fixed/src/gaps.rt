@@ -1,7 +1,7 @@
 //! Which bytes of a text are no digits: a bit for each byte, the lowest for the first.
 
 ghost use Rattle.std.specs.Prelude.{◌≡◌, ℕ, ◌+◌, ◌^◌, ◌<◌, ◌≤◌, None, IfSome, length};
-ghost use Rattle.at_fixed.specs.Gaps.{IsClearFrom, IsClearedTo, IsFirstSet, MarksGaps};
+ghost use Rattle.at_fixed.specs.Gaps.{AreFirstTwo, IsClearedTo, IsFirstSet, MarksGaps};
 
 use std::simd::prelude::*;
 
@@ -25,40 +25,27 @@ pub fn first_gaps(text: &[u8]) -> u64
     from_zero.simd_ge(u8x32::splat(10)).to_bitmask()
 }
 
-/// The place of the lowest bit that is set, where one is.
+/// The mask without its lowest bit that is set, where one is.
 #[inline(always)]
-pub fn first_set(mask: u64) -> Option<usize>
-    ensures { IfSome result (λ place. IsFirstSet mask 0 place × (0 < mask)) }
-{
-    if mask == 0 {
-        None
-    } else {
-        Some(mask.trailing_zeros() as usize)
-    }
-}
-
-/// The mask without its lowest bit that is set.
-#[inline(always)]
-pub fn without_first(mask: u64) -> u64
-    requires { 0 < mask }
+fn without_first(mask: u64) -> u64
     ensures bits { (place : ℕ) → IsFirstSet mask 0 place → IsClearedTo mask place result }
     ensures less { result ≤ mask }
 {
-    mask & (mask - 1)
+    if mask == 0 { 0 } else { mask & (mask - 1) }
 }
 
-/// The place of the lowest bit that is set, from a place on, where one is.
+/// The places of the two lowest bits that are set, where two are.
 #[inline(always)]
-pub fn next_set(mask: u64, from: usize) -> Option<usize>
-    requires few { from ≤ 32 }
-    requires small { mask < 2 ^ 32 }
-    ensures some { IfSome result (IsFirstSet mask from) }
-    ensures none { result ≡ None → IsClearFrom mask from }
+pub fn first_two(mask: u64) -> Option<(usize, usize)>
+    ensures { IfSome result (AreFirstTwo mask) }
 {
-    let rest = mask >> from as u32;
+    let rest = without_first(mask);
     if rest == 0 {
         None
     } else {
-        Some(from + rest.trailing_zeros() as usize)
+        Some((
+            mask.trailing_zeros() as usize,
+            rest.trailing_zeros() as usize,
+        ))
     }
 }

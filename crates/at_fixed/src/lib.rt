@@ -14,6 +14,7 @@
 
 mod digits;
 mod eights;
+mod ends;
 mod extents;
 mod gaps;
 mod notation;
@@ -22,6 +23,7 @@ mod plain_numbers;
 mod powers;
 mod rounding;
 mod scanning;
+mod short_numbers;
 mod units;
 mod writing;
 

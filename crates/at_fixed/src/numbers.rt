@@ -6,13 +6,16 @@ ghost use Rattle.at_fixed.specs.Numerals.{Numeral, SpellsNumeral, JsonNumber, Wk
 ghost use Rattle.at_fixed.specs.Fixed.{IsFixedOf, fixed_of};
 ghost use Rattle.at_fixed.specs.Decimals.{IsDecimalOf};
 ghost use Rattle.at_fixed.specs.Products.{IsValue};
+ghost use Rattle.at_fixed.specs.Scans.{AreEnds};
 
-use crate::extents::valued_end;
+use crate::ends::{Ends, far_ends, near_ends};
+use crate::extents::{is_exponent, valued_end};
 use crate::notation::Notation;
 use crate::plain_numbers::{scan_far, scan_near};
 use crate::rounding::{Coords, FixedFault};
 use crate::scanning::{Scanned, scan};
-use crate::units::value_of;
+use crate::short_numbers::short_whole;
+use crate::units::{value_of, with_sign};
 use at_text::Taken;
 
 /// The number that begins a text.
@@ -103,23 +106,59 @@ fn valued(scanned: Scanned, digits: u8, how: Coords) -> Option<PlainNumber>
     }
 }
 
-/// `plain_number` where sixteen bytes are left.
+/// `plain_number` where a number's parts end there, and twenty-four bytes are left.
 #[inline(always)]
-fn far_number(text: &[u8], notation: Notation, digits: u8, how: Coords) -> Option<PlainNumber>
+fn ended_number(
+    text: &[u8],
+    ends: Ends,
+    notation: Notation,
+    digits: u8,
+    how: Coords,
+) -> Option<PlainNumber>
     requires short { length text.now ≤ 2 ^ 28 }
-    requires long { 16 ≤ length text.now }
+    requires long { 24 ≤ length text.now }
+    requires ends { AreEnds notation text.now ends }
+    requires near { ends.second ≤ 20 }
     ensures taken { IfSome result (λ number. TakesLongest (NumberOf notation) text.now (record {
       len = number.len;
       whole = true;
     })) }
     ensures value { IfSome result (λ number. IsFixedOf (take number.len text.now) digits how (Ok number.value)) }
 {
-    let scanned = scan_far(text, notation)?;
+    let whole = short_whole(text, ends, digits, notation, how)?;
+    if is_exponent(text, whole.end) {
+        return None;
+    }
+    Some(PlainNumber {
+        len: whole.end as u32,
+        value: with_sign(whole.size, whole.is_minus),
+    })
+}
+
+/// `plain_number` where thirty-two bytes are left.
+#[inline(always)]
+fn far_number(text: &[u8], notation: Notation, digits: u8, how: Coords) -> Option<PlainNumber>
+    requires short { length text.now ≤ 2 ^ 28 }
+    requires long { 32 ≤ length text.now }
+    ensures taken { IfSome result (λ number. TakesLongest (NumberOf notation) text.now (record {
+      len = number.len;
+      whole = true;
+    })) }
+    ensures value { IfSome result (λ number. IsFixedOf (take number.len text.now) digits how (Ok number.value)) }
+{
+    let ends = far_ends(text, notation)?;
+    if let Some(number) = ended_number(text, ends, notation, digits, how) {
+        return Some(number);
+    }
+    if text.len() < 40 {
+        return None;
+    }
+    let scanned = scan_far(text, ends, notation)?;
     valued(scanned, digits, how)
 }
 
 /// `plain_number` near the end of a text.
-#[inline(never)]
+#[inline(always)]
 fn near_number(text: &[u8], notation: Notation, digits: u8, how: Coords) -> Option<PlainNumber>
     requires { length text.now ≤ 2 ^ 28 }
     ensures taken { IfSome result (λ number. TakesLongest (NumberOf notation) text.now (record {
@@ -130,6 +169,38 @@ fn near_number(text: &[u8], notation: Notation, digits: u8, how: Coords) -> Opti
 {
     let scanned = scan_near(text, notation)?;
     valued(scanned, digits, how)
+}
+
+/// `plain_number` where the number's parts end within sixteen bytes, and twenty-four bytes are left.
+#[inline(always)]
+fn short_number(text: &[u8], notation: Notation, digits: u8, how: Coords) -> Option<PlainNumber>
+    requires short { length text.now ≤ 2 ^ 28 }
+    requires long { 24 ≤ length text.now }
+    ensures taken { IfSome result (λ number. TakesLongest (NumberOf notation) text.now (record {
+      len = number.len;
+      whole = true;
+    })) }
+    ensures value { IfSome result (λ number. IsFixedOf (take number.len text.now) digits how (Ok number.value)) }
+{
+    ended_number(text, near_ends(text, notation)?, notation, digits, how)
+}
+
+/// `plain_number` where the number isn't short.
+#[inline(never)]
+fn long_number(text: &[u8], notation: Notation, digits: u8, how: Coords) -> Option<PlainNumber>
+    requires { length text.now ≤ 2 ^ 28 }
+    ensures taken { IfSome result (λ number. TakesLongest (NumberOf notation) text.now (record {
+      len = number.len;
+      whole = true;
+    })) }
+    ensures value { IfSome result (λ number. IsFixedOf (take number.len text.now) digits how (Ok number.value)) }
+{
+    if text.len() >= 32
+        && let Some(number) = far_number(text, notation, digits, how)
+    {
+        return Some(number);
+    }
+    near_number(text, notation, digits, how)
 }
 
 /// The number that begins a text, where it has a value and is written plainly: some digits, a point with some digits
@@ -143,12 +214,12 @@ pub fn plain_number(text: &[u8], notation: Notation, digits: u8, how: Coords) ->
     })) }
     ensures value { IfSome result (λ number. IsFixedOf (take number.len text.now) digits how (Ok number.value)) }
 {
-    if text.len() >= 16
-        && let Some(number) = far_number(text, notation, digits, how)
+    if text.len() >= 24
+        && let Some(number) = short_number(text, notation, digits, how)
     {
         return Some(number);
     }
-    near_number(text, notation, digits, how)
+    long_number(text, notation, digits, how)
 }
 
 /// The length of the number that begins a text, where it is written plainly and surely has a value: what `plain_number`

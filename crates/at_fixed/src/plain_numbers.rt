@@ -5,15 +5,14 @@ ghost use Rattle.std.specs.Prelude.{◌≡◌, ◌+◌, ◌^◌, ◌<◌, ◌≤
 ghost use Rattle.std.specs.Prelude.{slice_index};
 ghost use Rattle.at_fixed.specs.Numerals.{AreDigits};
 ghost use Rattle.at_fixed.specs.NumberSoFar.{between};
-ghost use Rattle.at_fixed.specs.Scans.{EndsRun, IsLoneZero, KeepsFar, KeepsRun, KeepsTo, ReadsSign, ReadsLead};
+ghost use Rattle.at_fixed.specs.Scans.{AreEnds, EndsRun, IsLoneZero, KeepsFar, KeepsRun, KeepsTo, ReadsSign, ReadsLead};
 ghost use Rattle.at_fixed.specs.Scans.{ReadsWhole, ReadsMantissa, ReadsPower, may_take_point};
 ghost use Rattle.at_fixed.specs.Scanned.{IsScanned};
-ghost use Rattle.at_fixed.specs.Gaps.{MarksGaps};
 ghost use Rattle.at_fixed.specs.States.{is_letter};
 
 use crate::digits::{Digits, DigitsRun, FULL, KeptRun, has_room, keep_single_digits};
 use crate::eights::{leading_digits, spelled_number};
-use crate::gaps::{next_set, sixteen_gaps};
+use crate::ends::Ends;
 use crate::notation::Notation;
 use crate::powers::power_of_ten;
 use crate::scanning::{Mantissa, Power, Scanned, Sign, has_point, read_sign, scanned_of};
@@ -176,26 +175,6 @@ fn near_front(text: &[u8], notation: Notation) -> Option<Mantissa>
     front_of(text, whole, run, notation)
 }
 
-/// Where the digits end that stand from a place on, within thirty-two bytes of which the first sixteen were looked at.
-#[inline(always)]
-fn run_end(text: &[u8], gaps: u64, from: usize) -> Option<usize>
-    requires long { 16 ≤ length text.now }
-    requires gaps { MarksGaps text.now 0 16 gaps }
-    ensures { IfSome result (EndsRun text.now from) }
-{
-    if from > 16 {
-        return None;
-    }
-    if let Some(end) = next_set(gaps, from) {
-        return Some(end);
-    }
-    if text.len() < 32 {
-        return None;
-    }
-    let more = next_set(sixteen_gaps(text, 16), 0)?;
-    Some(16 + more)
-}
-
 /// What is kept of so many digits behind the number before them.
 #[inline(always)]
 fn keep_counted(text: &[u8], from: usize, count: usize, before: u64) -> u64
@@ -224,64 +203,60 @@ fn keep_long(text: &[u8], from: usize, to: usize, before: u64) -> u64
     keep_counted(text, from + 8, to - from - 8, first)
 }
 
-/// What is kept of one to sixteen digits behind the number before them, behind which there is room for so many.
+/// What is kept of one to sixteen digits behind the number before them.
 #[inline(always)]
-fn keep_to(text: &[u8], from: usize, to: usize, before: u64, room: usize) -> Option<u64>
+fn keep_to(text: &[u8], from: usize, to: usize, before: u64) -> Option<u64>
     requires run { EndsRun text.now from to }
-    requires room { before < 10 ^ (19 - room) }
-    requires few { room ≤ 19 }
+    requires inside { from + 16 ≤ length text.now }
+    requires room { before < 10 ^ (19 - (to - from)) }
     ensures { IfSome result (λ kept. KeepsTo text.now from to before kept × (to ≤ from + 16)) }
 {
     let count = to - from;
-    let left = text.len() - from;
-    if count == 0 || count > room || left < 8 {
+    if count == 0 || count > 16 {
         None
     } else if count <= 8 {
         Some(keep_counted(text, from, count, before))
-    } else if count <= 16 && left >= 16 {
-        Some(keep_long(text, from, to, before))
     } else {
-        None
+        Some(keep_long(text, from, to, before))
     }
 }
 
-/// Reads all digits that stand at a place, behind the number before them, by what was seen of the first sixteen bytes.
-/// There is room for so many.
+/// Reads the digits that stand at a place up to another, behind the number before them, which has at most so many.
 #[inline(always)]
-fn far_run(text: &[u8], gaps: u64, from: usize, before: u64, room: usize) -> Option<KeptRun>
-    requires long { 16 ≤ length text.now }
-    requires gaps { MarksGaps text.now 0 16 gaps }
+fn far_run(text: &[u8], from: usize, to: usize, before: u64, room: usize) -> Option<KeptRun>
+    requires run { EndsRun text.now from to }
+    requires inside { from + 16 ≤ length text.now }
     requires room { before < 10 ^ (19 - room) }
+    requires fits { to ≤ from + room }
     requires few { room ≤ 19 }
-    ensures { IfSome result (KeepsFar text.now from before room) }
+    ensures keeps { IfSome result (KeepsFar text.now from before room) }
+    ensures end { IfSome result (λ run. run.end ≡ to) }
 {
-    let end = run_end(text, gaps, from)?;
-    let kept = keep_to(text, from, end, before, room)?;
+    let kept = keep_to(text, from, to, before)?;
     Some(KeptRun {
-        end,
+        end: to,
         kept,
         is_whole: true,
     })
 }
 
-/// Reads a number up to its exponent, whose bytes are looked at sixteen at a time: where one part of it ends doesn't
-/// wait for where the part before ends.
+/// Reads a number up to its exponent, whose parts end there.
 #[inline(always)]
-fn far_front(text: &[u8], notation: Notation) -> Option<Mantissa>
-    requires { 16 ≤ length text.now }
+fn far_front(text: &[u8], ends: Ends, notation: Notation) -> Option<Mantissa>
+    requires ends { AreEnds notation text.now ends }
+    requires near { ends.second ≤ 20 }
+    requires long { 40 ≤ length text.now }
     ensures { IfSome result (λ front. ReadsMantissa notation text.now front × (front.is_number ≡ true)) }
 {
-    let gaps = sixteen_gaps(text, 0);
-    let sign = read_sign(text, 0, notation);
-    let lead = far_run(text, gaps, sign.end, 0, 19)?;
-    let whole = whole_of(text, sign, lead, notation)?;
+    let from = ends.sign.end;
+    let lead = far_run(text, from, ends.first, 0, 19)?;
+    let whole = whole_of(text, ends.sign, lead, notation)?;
     if !has_point(text, whole, notation) {
         return Some(whole);
     }
-    let room = 19 - (lead.end - sign.end);
-    let run = far_run(text, gaps, whole.end + 1, whole.digits.kept, room)?;
-    let front = front_of(text, whole, run, notation)?;
-    Some(front)
+    let room = 19 - (ends.first - from);
+    let run = far_run(text, whole.end + 1, ends.second, whole.digits.kept, room)?;
+    front_of(text, whole, run, notation)
 }
 
 /// The exponent of a number that has none.
@@ -302,14 +277,16 @@ fn no_power(text: &[u8], front: Mantissa) -> Option<Power>
     })
 }
 
-/// Reads the number that begins a text, where it is written plainly and sixteen bytes are left.
+/// Reads the number that begins a text and whose parts end there, where it is written plainly and forty bytes are left.
 #[inline(always)]
-pub fn scan_far(text: &[u8], notation: Notation) -> Option<Scanned>
+pub fn scan_far(text: &[u8], ends: Ends, notation: Notation) -> Option<Scanned>
     requires short { length text.now ≤ 2 ^ 28 }
-    requires long { 16 ≤ length text.now }
+    requires long { 40 ≤ length text.now }
+    requires ends { AreEnds notation text.now ends }
+    requires near { ends.second ≤ 20 }
     ensures { IfSome result (λ scanned. IsScanned notation text.now scanned × (scanned.is_number ≡ true)) }
 {
-    let front = far_front(text, notation)?;
+    let front = far_front(text, ends, notation)?;
     let power = no_power(text, front)?;
     Some(scanned_of(front, power))
 }

@@ -183,7 +183,7 @@ fn size_of(decimal: Decimal, digits: u8, how: Coords) -> Result<u64, FixedFault>
 
 /// A size with its sign.
 #[inline(always)]
-fn with_sign(size: u64, is_minus: bool) -> i64
+pub fn with_sign(size: u64, is_minus: bool) -> i64
     requires { size ≤ largest }
     ensures { result ≡ (if is_minus then neg_ℤ (pos size) else pos size) }
 {

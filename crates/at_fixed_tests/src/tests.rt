@@ -253,6 +253,156 @@ fn numbers_before_bytes(rt: HostRuntime) {
     check_leading(&rt, &LEADING);
 }
 
+/// Numbers with more decimals than are kept, and enough bytes behind them to be looked at together.
+const ROUNDED: [Leading; 20] = [
+    (
+        b"0.12345671,and twenty-four more bytes",
+        Notation::Json,
+        10,
+        Ok(1234567),
+        true,
+    ),
+    (
+        b"0.12345678,and twenty-four more bytes",
+        Notation::Json,
+        10,
+        Ok(1234568),
+        true,
+    ),
+    (
+        b"0.00000005,and twenty-four more bytes",
+        Notation::Json,
+        10,
+        Ok(0),
+        true,
+    ),
+    (
+        b"0.00000015,and twenty-four more bytes",
+        Notation::Json,
+        10,
+        Ok(2),
+        true,
+    ),
+    (
+        b"1.12345665000 and twenty-four more bytes",
+        Notation::Wkt,
+        13,
+        Ok(11234566),
+        true,
+    ),
+    (
+        b"1.12345675000 and twenty-four more bytes",
+        Notation::Wkt,
+        13,
+        Ok(11234568),
+        true,
+    ),
+    (
+        b"-1.12345665001 and twenty-four more bytes",
+        Notation::Wkt,
+        14,
+        Ok(-11234567),
+        true,
+    ),
+    (
+        b"0.99999996,and twenty-four more bytes",
+        Notation::Json,
+        10,
+        Ok(10000000),
+        true,
+    ),
+    (
+        b"-9.99999995001 and twenty-four more bytes",
+        Notation::Wkt,
+        14,
+        Ok(-100000000),
+        true,
+    ),
+    (
+        b"-151.7251797613,and twenty-four more bytes",
+        Notation::Json,
+        15,
+        Ok(-1517251798),
+        true,
+    ),
+    (
+        b"1234567.99999999,and twenty-four more bytes",
+        Notation::Json,
+        16,
+        Ok(12345680000000),
+        true,
+    ),
+    (
+        b"12345678.12345678 and twenty-four more bytes",
+        Notation::Wkt,
+        17,
+        Ok(123456781234568),
+        true,
+    ),
+    (
+        b"160.18699291234567 and twenty-four more bytes",
+        Notation::Wkt,
+        18,
+        Ok(1601869929),
+        true,
+    ),
+    (
+        b"-125.29242860538805,and twenty-four more bytes",
+        Notation::Json,
+        19,
+        Ok(-1252924286),
+        true,
+    ),
+    (
+        b"-70.96300405374321,and twenty-four more bytes",
+        Notation::Json,
+        18,
+        Ok(-709630041),
+        true,
+    ),
+    (
+        b"10.1234567500000000 and twenty-four more bytes",
+        Notation::Wkt,
+        19,
+        Ok(101234568),
+        true,
+    ),
+    (
+        b"10.1234566500000000 and twenty-four more bytes",
+        Notation::Wkt,
+        19,
+        Ok(101234566),
+        true,
+    ),
+    (
+        b"99.99999996999999 and twenty-four more bytes",
+        Notation::Wkt,
+        17,
+        Ok(1000000000),
+        true,
+    ),
+    (
+        b"0.12345678e1,and twenty-four more bytes",
+        Notation::Json,
+        12,
+        Ok(12345678),
+        false,
+    ),
+    (
+        b"160.18699291234567E1 and twenty-four more bytes",
+        Notation::Wkt,
+        20,
+        Ok(16018699291),
+        false,
+    ),
+];
+
+/// Numbers rounded by the first digit that isn't kept, or by those behind it.
+#[test]
+fn rounded_numbers_before_bytes(rt: HostRuntime) {
+    check_leading(&rt, &ROUNDED);
+}
+
 /// A text of at least 32 bytes, how it is read, and the length of the plain number that begins it.
 type PlainText = (&'static [u8], Notation, u8, Coords, Option<u32>);
 

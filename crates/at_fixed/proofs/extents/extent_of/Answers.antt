@@ -1,21 +1,17 @@
-use Rattle.std.proofs.Common.{arith}
-use Rattle.at_fixed.proofs.GapMasks.{marks_further}
+use Rattle.std.proofs.Common.{◌-◌, refl, arith}
 use Rattle.at_fixed.proofs.Reaches.{plain_extent, pointed_extent}
 use Rattle.at_fixed.proofs.extents.extent_of.Goals as goal
 
-pub returns-in_ok-pointed : goal.returns-in_ok-pointed
-returns-in_ok-pointed c =
-    let (run, near, some, lead) = c.in_ok-end.ensures.run in
-    let (behind, count, more, few) = c.in_ok-pointed.ensures in
-    pointed_extent c.args.notation c.args.text.now c.read_sign-sign.result c.in_ok-end.end c.read_sign-sign.ensures run some lead c.in_ok-pointed.pointed behind count more few (grind (arith, c.if-text-end-eq46.true))
+pub returns-then-text-point-ne46-clause-reads : goal.returns-then-text-point-ne46-clause-reads
+returns-then-text-point-ne46-clause-reads c =
+    let ends = c.requires.ends in
+    let (some, lead) = c.if-not-is_lead.ensures refl in
+    plain_extent c.args.notation c.args.text.now c.args.ends.sign c.args.ends.first ends.sign ends.lead some lead (omega (arith, ends.behind.order, c.requires.few)) (grind (arith, c.if-text-point-ne46.true))
 
-pub returns-then-end-lt-LONGEST : goal.returns-then-end-lt-LONGEST
-returns-then-end-lt-LONGEST c =
-    let (run, near, some, lead) = c.in_ok-end.ensures.run in
-    plain_extent c.args.notation c.args.text.now c.read_sign-sign.result c.in_ok-end.end c.read_sign-sign.ensures run some lead (omega (arith, c.if-end-lt-LONGEST.true)) (grind (arith, c.if-text-end-eq46.false))
-
-pub pointed_extent-requires-clause-gaps : goal.pointed_extent-requires-clause-gaps
-pointed_extent-requires-clause-gaps c =
-    let (run, near, some, lead) = c.in_ok-end.ensures.run in
-    let (first, marked) = c.in_ok-end.ensures.first in
-    marks_further c.args.text.now 32 c.read_sign-sign.result.end c.behind_sign-gaps.result c.in_ok-end.end c.without_first.result c.behind_sign-gaps.ensures first run.order (c.without_first.ensures.bits c.in_ok-end.end first) c.without_first.ensures.less
+pub returns-clause-reads : goal.returns-clause-reads
+returns-clause-reads c =
+    let ends = c.requires.ends in
+    let (some, lead) = c.if-not-is_lead.ensures refl in
+    let count = ends.behind.order in
+    pointed_extent c.args.notation c.args.text.now c.args.ends.sign c.args.ends.first ends.sign ends.lead some lead (record { end = c.args.ends.second; fraction = c.args.ends.second - c.args.ends.first - 1 })
+    ends.behind (omega (arith, count)) (omega (arith, count, c.if-fraction-eq0.false)) c.requires.few (grind (arith, c.if-text-point-ne46.false))
