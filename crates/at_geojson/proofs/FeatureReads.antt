@@ -33,10 +33,6 @@ use Rattle.at_geojson.proofs.ValueParts.{object_read, void_read}
 use Rattle.at_geojson.proofs.MemberReads.{fields_begin, LongerFields, longer_fields, fields_go_on, ends_fields, ends_longer}
 use Rattle.at_geojson.proofs.GeometryReads.{no_fields, none_are}
 
-pub none_there : {X : Type 0} (o : Option X) (b : Bool) → b ≡ is_some o → b ≡ false → o ≡ None
-none_there None b e f = refl
-none_there (Some x) b e f = absurd (true≢false (sym e ∙ f))
-
 -- ---- the members of a feature
 
 module _ (asked : Asked) (base : ℕ) (w : List ℕ) where

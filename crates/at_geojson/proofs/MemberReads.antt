@@ -86,11 +86,12 @@ no_twin_more earlier (x ∷ ms) m e new value =
     ap (λ o. first_fault o (member_twins (earlier ++ x ∷ []) (ms ++ m ∷ []))) (none_left first (member_twins (earlier ++ x ∷ []) ms) e)
     ∙ no_twin_more (earlier ++ x ∷ []) ms m (none_behind first (member_twins (earlier ++ x ∷ []) ms) e) (ap (λ z. is_among z m.name) (append_assoc earlier (x ∷ []) ms) ∙ new) value
 
+pub none_there : {X : Type 0} (o : Option X) (b : Bool) → b ≡ is_some o → b ≡ false → o ≡ None
+none_there None b e f = refl
+none_there (Some x) b e f = absurd (true≢false (sym e ∙ f))
+
 pub no_twin_in : (a : GeoAtom) (b : Bool) → b ≡ is_some (twin_of a) → b ≡ false → twin_of a ≡ None
-no_twin_in a b e f = go (twin_of a) (sym e ∙ f) where
-  go : (o : Option Fault) → is_some o ≡ false → o ≡ None
-  go None e = refl
-  go (Some x) e = absurd (true≢false e)
+no_twin_in a b e f = none_there (twin_of a) b e f
 
 module _ (w : List ℕ) (fields : Fields) (old new : OtherNames) (n : FieldName) (ms : List (Member GeoAtom)) where
   name_absent : KeepsOthers w ms old → AreFields fields ms → n.field ≡ field_of (name_in w n.place) → IsNewName w fields old new n → is_among ms (name_in w n.place) ≡ false

@@ -137,6 +137,7 @@ impl OtherNames {
     }
 
     /// One more name, unless they are too many.
+    #[inline(always)]
     fn add(&mut self, name: NamePlace) -> Result<(), Halt>
         requires { self.old.count ≤ 4 }
         ensures { IfOk result (λ _. (w : List ℕ) → AddsName w name self.old self.new) }
@@ -155,6 +156,7 @@ impl OtherNames {
 }
 
 /// Puts a name to those of members for which no kind asks, unless it is among them.
+#[inline(always)]
 pub fn add_other(text: &[u8], others: &mut OtherNames, name: NamePlace) -> Result<(), Halt>
     requires names { ArePlainOthers text.now others.old }
     requires name { IsPlainName text.now name }

@@ -1,5 +1,6 @@
 use Rattle.std.proofs.Common.{refl}
-use Rattle.at_geojson.proofs.FeatureReads.{none_there, geometry_put}
+use Rattle.at_geojson.proofs.MemberReads.{none_there}
+use Rattle.at_geojson.proofs.FeatureReads.{geometry_put}
 use Rattle.at_geojson.proofs.features.geometry_member.Goals as goal
 
 pub returns : goal.returns
