@@ -63,8 +63,10 @@ fn shoelace(ring: &[Pos]) -> i128
     sum
 }
 
-/// What the edge `ab` adds to the sum, at most 1.8·10^29 in size.
-fn shoelace_term(a: Pos, b: Pos) -> i128
+/// What the edge `ab` of a ring adds to its shoelace sum, at most 1.8·10^29 squares of a unit in size: twice the area of
+/// the triangle of the origin, `a` and `b`, above 0 where they turn counterclockwise. The sum over a ring is twice its
+/// signed area (OGC 06-103r4 section 6.1.10.2, "Area").
+pub fn shoelace_term(a: Pos, b: Pos) -> i128
     requires a_in_range { IsInRange a }
     requires b_in_range { IsInRange b }
     ensures { result ≡ (a.x *ℤ b.y) -ℤ (b.x *ℤ a.y) }

@@ -32,7 +32,7 @@ mod rules;
 mod segments;
 mod shapes;
 
-pub use areas::doubled_area;
+pub use areas::{doubled_area, shoelace_term};
 pub use extents::{all_in, extent};
 pub use meetings::shapes_meet;
 pub use orientation::orient;

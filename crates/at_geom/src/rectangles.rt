@@ -19,7 +19,7 @@ impl Extent {
     ghost use Rattle.at_geom.specs.Shapes.{encloses as encloses_of, widened as widened_of, is_within};
 
     /// The least extent round this one and a position.
-    pub(crate) fn widened(self, p: Pos) -> Extent
+    pub fn widened(self, p: Pos) -> Extent
         ensures { result ≡ widened_of p (Some self) }
     {
         Extent {

@@ -6,7 +6,7 @@ ghost use Rattle.at_geom.specs.Shapes.{ArePathsInRange, ArePolygonsInRange, IsSh
 
 use at_geom::{
     Extent, Path, Paths, Polygon, Polygons, Pos, Shape, all_in, doubled_area, extent, in_polygon,
-    line_fault, orient, ring_fault, segments_meet, shapes_meet,
+    line_fault, orient, ring_fault, segments_meet, shapes_meet, shoelace_term,
 };
 use at_text::{Fault, FaultKind};
 use std::alloc::{AllocError, Global};
@@ -384,6 +384,8 @@ fn areas(rt: HostRuntime) -> Result<(), Fail> {
         "a larger hole"
     );
     assert!(rt; area(rt.alloc(), &[], &[])? == 0, "nothing");
+    assert!(rt; shoelace_term(at(3, 1), at(1, 2)) == 5, "an edge");
+    assert!(rt; shoelace_term(at(1, 2), at(3, 1)) == -5, "and back");
     Ok(())
 }
 
@@ -402,6 +404,8 @@ fn extents(rt: HostRuntime) -> Result<(), Fail> {
     assert!(rt; extent(&mixed) == Some(around));
     assert!(rt; all_in(&mixed, around));
     assert!(rt; !all_in(&mixed, smaller));
+    assert!(rt; smaller.widened(at(6, 7)) == around, "above");
+    assert!(rt; around.widened(at(3, 3)) == around, "inside");
     Ok(())
 }
 
