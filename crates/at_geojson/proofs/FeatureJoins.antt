@@ -1,10 +1,8 @@
 -- Features one behind another in an array, whose parts are joined as they are read. For `items` and `value`.
-use Rattle.std.proofs.Common.{◌≡◌, ◌==◌, ◌||◌, ◌&&◌, if◌then◌else◌, nat_lt, true, Some, inl, inr, ℕ, suc, ◌+◌, ◌<◌, ◌≤◌, List, [], ◌∷◌, ◌++◌, All, length, drop, slice_index, Result, IfOk, refl, sym, ◌∙◌, ap, subst, arith, append_assoc, append-nil, length-append}
+use Rattle.std.proofs.Common.{◌≡◌, ◌==◌, ◌||◌, ◌&&◌, if◌then◌else◌, nat_lt, true, Some, inl, ℕ, suc, ◌+◌, ◌<◌, ◌≤◌, List, [], ◌∷◌, ◌++◌, length, drop, slice_index, Result, IfOk, refl, sym, ◌∙◌, ap, subst, arith, append_assoc, append-nil, length-append}
 use Rattle.std.proofs.lemmas.List.Elements.{All-nil, All-cons, All-append}
 use Rattle.std.specs.declared.alloc.Global.{Global}
-use Rattle.std.specs.declared.boxed.Box.{Box}
 use denote.RawPtr.{null_ptr}
-use Rattle.at_text.specs.declared.faults.Fault.{Fault}
 use Rattle.at_text.specs.Faults.{fault_at}
 use Rattle.at_text.specs.declared.faults.FaultKind.TheVariants.{Form}
 use Rattle.at_text.specs.declared.halts.Halt.{Halt}
@@ -23,12 +21,11 @@ use Rattle.at_geojson.specs.declared.atoms.GeoAtom.{GeoAtom}
 use Rattle.at_geojson.specs.declared.atoms.GeoAtom.TheVariants as atoms
 use Rattle.at_geojson.specs.declared.atoms.Items.{Items}
 use Rattle.at_geojson.specs.declared.atoms.ObjectAtom.{ObjectAtom}
-use Rattle.at_geojson.specs.declared.atoms.Roles.{Roles}
 use Rattle.at_geojson.specs.declared.atoms.Role.TheVariants as roles
 use Rattle.at_geojson.specs.declared.pairs.Whole.{Whole}
 use Rattle.at_geojson.specs.declared.features.FeatureRead.{FeatureRead}
 use Rattle.at_geojson.specs.Keeping.{Asked}
-use Rattle.at_geojson.specs.Atoms.{both_forms, IsOwn, IsFold, IsRun, AreOwnItems, AreJoined, IfOwnShape, IfOwnPart}
+use Rattle.at_geojson.specs.Atoms.{both_forms, IsOwn, IsFold, IsRun, AreJoined, IfOwnShape, IfOwnPart}
 use Rattle.at_geojson.specs.Gathering.{JoinsShapes, JoinsFound, AreJoinable}
 use Rattle.at_geojson.specs.Values.{IsWhole}
 use Rattle.at_geojson.specs.Features.{IsFeatureRead}
@@ -159,9 +156,6 @@ module _ (asked : Asked) (base : ℕ) (w : List ℕ) where
         (value_brackets (base + 0) (between w 0 p.end) (drop p.end w) more b h.tree (sym (front_split w p.end) ∙ e) h.spells);
     covers = inl (h.tree, refl, h.fold);
   }
-
-  pub run_alone : (end : ℕ) (run : Box Items Global) → AreFeaturesRead asked base w 0 end run.value → AreItemsWhole asked base w 0 (record { end = end; atom = atoms.Run run })
-  run_alone end run h = record { own = h.own; first = h.first; others = h.others; there = h.there; covers = inr (inl (run, refl, h.joined)) }
 
 -- what the algebra answers
 items_attempt_of : (asked : Asked) (at : ℕ) (w : List ℕ) (p : Whole) → AreItemsWhole asked at w 0 p → IsItemsAttempt (IsOwn asked) (IsFold asked) (IsRun asked) at w (WholeAttempt p.end p.atom)

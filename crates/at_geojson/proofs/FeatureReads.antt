@@ -1,12 +1,12 @@
 -- Objects that are read at once, of whose members no atom is made: what is told of them is what the fields of their atoms
 -- say. For `value`.
-use Rattle.std.proofs.Common.{◌≡◌, inl, inr, ℕ, ◌+◌, ◌<◌, Bool, true, false, List, [], length, slice_index, Option, Some, None, is_some, Result, Ok, refl, sym, ◌∙◌, ap, subst}
+use Rattle.std.proofs.Common.{◌≡◌, inl, inr, ℕ, ◌+◌, ◌<◌, Bool, true, false, List, [], length, slice_index, Option, Some, None, Result, Ok, refl, sym, ◌∙◌, ap, subst}
 use Rattle.std.specs.List.{list_any}
 use Rattle.std.proofs.lemmas.Bool.{true≢false}
 use Rattle.at_text.specs.declared.faults.Fault.{Fault}
 use Rattle.at_fixed.specs.NumberSoFar.{between}
 use Rattle.at_lex.specs.Spans.{AreSpaces}
-use Rattle.at_geom.specs.declared.shapes.Shape.{Shape}
+use Rattle.at_query.specs.declared.answer.parts.Part.{Part}
 use Rattle.at_geojson.specs.declared.kinds.Kind.TheVariants as kinds
 use Rattle.at_geojson.specs.declared.atoms.GeoAtom.{GeoAtom}
 use Rattle.at_geojson.specs.declared.atoms.GeoAtom.TheVariants as atoms
@@ -15,7 +15,7 @@ use Rattle.at_geojson.specs.declared.fields.Fields.{Fields}
 use Rattle.at_geojson.specs.declared.members.FieldName.{FieldName}
 use Rattle.at_geojson.specs.declared.members.OtherNames.{OtherNames}
 use Rattle.at_geojson.specs.declared.plain_geometries.KindRead.{KindRead}
-use Rattle.at_geojson.specs.declared.plain_geometries.ShapeRead.{ShapeRead}
+use Rattle.at_geojson.specs.declared.measured_geometries.PartRead.{PartRead}
 use Rattle.at_geojson.specs.declared.features.FeatureRead.{FeatureRead}
 use Rattle.at_geojson.specs.declared.features.FeatureMembers.{FeatureMembers}
 use Rattle.at_geojson.specs.declared.pairs.Whole.{Whole}
@@ -26,8 +26,8 @@ use Rattle.at_geojson.specs.Places.{IsNameAt}
 use Rattle.at_geojson.specs.Fields.{field_of, put_if, kind_in_fields, IsRoleIn}
 use Rattle.at_geojson.specs.Values.{IsWhole}
 use Rattle.at_geojson.specs.Members.{name_in, IsPlainName, is_among_others, ArePlainOthers, EndsFields}
-use Rattle.at_geojson.specs.PlainGeometries.{IsKindRead}
-use Rattle.at_geojson.specs.Features.{IsShapeRead, PassesProperties, IfOwnGeometry, IsGeometryOf, AreMembersOf, IsValueRead, IsMemberRead, ReadsOne, AreRead, NameNoKind, NamesNoKind, IsVoid, shape_in, EndsFeature, IsFeatureRead}
+use Rattle.at_geojson.specs.PlainGeometries.{IsKindRead, HasPart}
+use Rattle.at_geojson.specs.Features.{IsShapeRead, PassesProperties, IsGeometryOf, AreMembersOf, IsValueRead, IsMemberRead, ReadsOne, AreRead, NameNoKind, NamesNoKind, IsVoid, IsPartIn, EndsFeature, IsFeatureRead}
 use Rattle.at_geojson.proofs.FieldFolds.{own_feature}
 use Rattle.at_geojson.proofs.ValueParts.{object_read, void_read}
 use Rattle.at_geojson.proofs.MemberReads.{fields_begin, LongerFields, longer_fields, fields_go_on, ends_fields, ends_longer}
@@ -36,42 +36,41 @@ use Rattle.at_geojson.proofs.GeometryReads.{no_fields, none_are}
 -- ---- the members of a feature
 
 module _ (asked : Asked) (base : ℕ) (w : List ℕ) where
-  module _ (at : ℕ) (old new : FeatureMembers) (f : Fields) (h : AreMembersOf asked f old) where
-    pub kind_put : (k : KindRead) → IsKindRead asked base w at k → k.kind ≡ kinds.Feature → old.is_feature ≡ false → new.is_feature ≡ true → new.geometry ≡ old.geometry → new.has_properties ≡ old.has_properties → IsValueRead asked base w at names.Kind f (λ g. AreMembersOf asked g new) k.end
-    kind_put k r feature e n g p =
+  module _ (feature at : ℕ) (old new : FeatureMembers) (f : Fields) (h : AreMembersOf asked feature f old) where
+    pub kind_put : (k : KindRead) → IsKindRead asked base w at k → k.kind ≡ kinds.Feature → old.is_feature ≡ false → new.is_feature ≡ true → new.geometry ≡ old.geometry → new.has_properties ≡ old.has_properties → IsValueRead asked base w at names.Kind f (λ g. AreMembersOf asked feature g new) k.end
+    kind_put k r named e n g p =
         let absent = h.no_kind e in
         record {
           absent = absent;
           fields = record { kind = Some r.atom; coordinates = f.coordinates; geometry = f.geometry; properties = f.properties; features = f.features; geometries = f.geometries };
           read = record { atom = r.atom; item = r.item; no_twin = r.no_twin; kind = sym (ap (λ o. put_if true o r.atom) absent); coordinates = refl; geometry = refl; properties = refl; features = refl; geometries = refl };
           are = record {
-            kind = λ _. r.kind ∙ ap Some feature;
+            kind = λ _. r.kind ∙ ap Some named;
             no_kind = λ no. absurd (true≢false (sym n ∙ no));
-            geometry = subst (λ z. IsGeometryOf z f.geometry) (sym g) h.geometry;
-            own = subst (IfOwnGeometry asked) (sym g) h.own;
+            geometry = subst (λ z. IsGeometryOf asked feature z f.geometry) (sym g) h.geometry;
             properties = λ yes. h.properties (sym p ∙ yes);
             no_properties = λ no. h.no_properties (sym p ∙ no);
           };
         }
 
-    pub geometry_put : (s : ShapeRead) → IsShapeRead asked base w at s → old.geometry ≡ None → new.geometry ≡ Some s.shape → new.is_feature ≡ old.is_feature → new.has_properties ≡ old.has_properties → IsValueRead asked base w at names.Geometry f (λ g. AreMembersOf asked g new) s.end
-    geometry_put s r e n k p =
-        let absent : f.geometry ≡ None = subst (λ z. IsGeometryOf z f.geometry) e h.geometry in
-        record {
+    pub geometry_put : (q : PartRead) → HasPart asked feature (IsShapeRead asked base w at) q → old.geometry ≡ None → new.geometry ≡ Some q.part → new.is_feature ≡ old.is_feature → new.has_properties ≡ old.has_properties → IsValueRead asked base w at names.Geometry f (λ g. AreMembersOf asked feature g new) q.end
+    geometry_put q (s, r, j) e n k p =
+        let absent : f.geometry ≡ None = subst (λ z. IsGeometryOf asked feature z f.geometry) e h.geometry in
+        subst (λ z. IsValueRead asked base w at names.Geometry f (λ g. AreMembersOf asked feature g new) z) j.behind
+        (record {
           absent = absent;
           fields = record { kind = f.kind; coordinates = f.coordinates; geometry = Some r.atom; properties = f.properties; features = f.features; geometries = f.geometries };
           read = record { atom = r.atom; item = r.item; no_twin = r.no_twin; kind = refl; coordinates = refl; geometry = sym (ap (λ o. put_if true o r.atom) absent); properties = refl; features = refl; geometries = refl };
           are = record {
             kind = λ yes. h.kind (sym k ∙ yes);
             no_kind = λ no. h.no_kind (sym k ∙ no);
-            geometry = subst (λ z. IsGeometryOf z (Some r.atom)) (sym n) r.shape;
-            own = subst (IfOwnGeometry asked) (sym n) r.own;
+            geometry = subst (λ z. IsGeometryOf asked feature z (Some r.atom)) (sym n) (subst (λ z. JoinsFeature asked.query feature z (Ok []) q.part) (sym r.shape) j.part);
             properties = λ yes. h.properties (sym p ∙ yes);
             no_properties = λ no. h.no_properties (sym p ∙ no);
           };
-        }
+        })
 
-    pub properties_put : (end : ℕ) → PassesProperties asked base w at end → old.has_properties ≡ false → new.has_properties ≡ true → new.is_feature ≡ old.is_feature → new.geometry ≡ old.geometry → IsValueRead asked base w at names.Properties f (λ g. AreMembersOf asked g new) end
+    pub properties_put : (end : ℕ) → PassesProperties asked base w at end → old.has_properties ≡ false → new.has_properties ≡ true → new.is_feature ≡ old.is_feature → new.geometry ≡ old.geometry → IsValueRead asked base w at names.Properties f (λ g. AreMembersOf asked feature g new) end
     properties_put end (a, item, none, texts) e n k g =
         let absent = h.no_properties e in
         record {
@@ -81,8 +80,7 @@ module _ (asked : Asked) (base : ℕ) (w : List ℕ) where
           are = record {
             kind = λ yes. h.kind (sym k ∙ yes);
             no_kind = λ no. h.no_kind (sym k ∙ no);
-            geometry = subst (λ z. IsGeometryOf z f.geometry) (sym g) h.geometry;
-            own = subst (IfOwnGeometry asked) (sym g) h.own;
+            geometry = subst (λ z. IsGeometryOf asked feature z f.geometry) (sym g) h.geometry;
             properties = λ _. texts;
             no_properties = λ no. absurd (true≢false (sym n ∙ no));
           };
@@ -140,31 +138,33 @@ module _ (asked : Asked) (base : ℕ) (w : List ℕ) where
 
   -- ---- features
 
-  pub no_members : (m : FeatureMembers) → m.is_feature ≡ false → m.geometry ≡ None → m.has_properties ≡ false → AreMembersOf asked no_fields m
-  no_members m k g p = record {
+  pub no_members : (feature : ℕ) (m : FeatureMembers) → m.is_feature ≡ false → m.geometry ≡ None → m.has_properties ≡ false → AreMembersOf asked feature no_fields m
+  no_members feature m k g p = record {
     kind = λ yes. absurd (true≢false (sym yes ∙ k));
     no_kind = λ _. refl;
-    geometry = subst (λ z. IsGeometryOf z None) (sym g) refl;
-    own = subst (IfOwnGeometry asked) (sym g) tt;
+    geometry = subst (λ z. IsGeometryOf asked feature z None) (sym g) refl;
     properties = λ yes. absurd (true≢false (sym yes ∙ p));
     no_properties = λ _. refl;
   }
 
-  shape_is : (g : Option (Result Shape Fault)) (o : Option GeoAtom) → IsGeometryOf g o → feature_shape o ≡ shape_in g
-  shape_is None o e = ap feature_shape e
-  shape_is (Some shape) o e = e
+  -- the part of a feature by its geometry
+  part_is : (at : ℕ) (g : Option (Result Part Fault)) (o : Option GeoAtom) (part : Result Part Fault) → IsGeometryOf asked at g o → IsPartIn asked at g part → JoinsFeature asked.query at (feature_shape o) (Ok []) part
+  part_is at None o part e p = subst (λ z. JoinsFeature asked.query at (feature_shape z) (Ok []) part) (sym e) p
+  part_is at (Some found) o part j e = subst (JoinsFeature asked.query at (feature_shape o) (Ok [])) (sym e) j
 
-  texts_are : (m : FeatureMembers) (f : Fields) → AreMembersOf asked f m → (b : Bool) → m.has_properties ≡ b → texts_named f.properties ≡ Ok []
-  texts_are m f h true e = h.properties e
-  texts_are m f h false e = ap texts_named (h.no_properties e)
+  texts_are : (feature : ℕ) (m : FeatureMembers) (f : Fields) → AreMembersOf asked feature f m → (b : Bool) → m.has_properties ≡ b → texts_named f.properties ≡ Ok []
+  texts_are feature m f h true e = h.properties e
+  texts_are feature m f h false e = ap texts_named (h.no_properties e)
 
-  module _ (at end : ℕ) (m : FeatureMembers) (f : Fields) (h : AreMembersOf asked f m) (p : FeatureRead) (ends : EndsFeature asked (base + at) end m p) where
+  module _ (at end : ℕ) (m : FeatureMembers) (f : Fields) (h : AreMembersOf asked (base + at) f m) (p : FeatureRead) (ends : EndsFeature asked (base + at) end m p) where
+    joined : JoinsFeature asked.query (base + at) (feature_shape f.geometry) (Ok []) p.part
+    joined = part_is (base + at) m.geometry f.geometry p.part h.geometry ends.part
+
     own : IfOwnPart asked p.part
-    own = own_feature asked (base + at) (shape_in m.geometry) (Ok []) p.part ends.part
+    own = own_feature asked (base + at) (feature_shape f.geometry) (Ok []) p.part joined
 
     joins : JoinsFeature asked.query (base + at) (feature_shape f.geometry) (texts_named f.properties) p.part
-    joins = subst (λ z. JoinsFeature asked.query (base + at) (feature_shape f.geometry) z p.part) (sym (texts_are m f h m.has_properties refl))
-        (subst (λ z. JoinsFeature asked.query (base + at) z (Ok []) p.part) (sym (shape_is m.geometry f.geometry h.geometry)) ends.part)
+    joins = subst (λ z. JoinsFeature asked.query (base + at) (feature_shape f.geometry) z p.part) (sym (texts_are (base + at) m f h m.has_properties refl)) joined
 
     pub feature_read : ((q : Whole) → EndsFields asked (base + at) end f q → IsWhole asked base w at q) → IsFeatureRead asked base w at p
     feature_read read = record {

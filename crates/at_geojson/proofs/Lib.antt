@@ -1,5 +1,8 @@
 pub mod Firsts
+pub mod MeasureFolds
+pub mod MeasuredParts
 pub mod Repeats
+pub mod TallyFolds
 pub mod TwinSteps
 pub mod Ranges
 pub mod ScalarFolds

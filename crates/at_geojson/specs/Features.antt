@@ -1,8 +1,7 @@
 -- Features that are read at once: no atom is made of their members. Only contracts of private functions cite this.
 use Rattle.std.specs.Prelude.{◌≡◌, ℕ, ◌+◌, Bool, true, false, List, [], Option, Some, None, Result, Ok}
-use Rattle.std.specs.Bool.{⊤}
 use Rattle.at_text.specs.declared.faults.Fault.{Fault}
-use Rattle.at_geom.specs.declared.shapes.Shape.{Shape}
+use Rattle.at_query.specs.declared.answer.parts.Part.{Part}
 use Rattle.at_wkt.specs.Meaning.{empty_shape}
 use Rattle.at_geojson.specs.declared.kinds.Kind.TheVariants as kinds
 use Rattle.at_geojson.specs.declared.atoms.GeoAtom.{GeoAtom}
@@ -41,21 +40,16 @@ abbrev pub PassesProperties : Asked → ℕ → List ℕ → ℕ → ℕ → Typ
 PassesProperties asked base w at end = (a : GeoAtom) × IsItem asked base w at (record { end = end; atom = a })
     × (twin_of a ≡ None) × (texts_in a ≡ Ok [])
 
-abbrev pub IfOwnGeometry : Asked → Option (Result Shape Fault) → Type 0
-IfOwnGeometry asked None = ⊤
-IfOwnGeometry asked (Some shape) = IfOwnShape asked shape
+-- the part of the feature at the offset by the member `geometry`, where there is one
+abbrev pub IsGeometryOf : Asked → ℕ → Option (Result Part Fault) → Option GeoAtom → Type 0
+IsGeometryOf asked feature None o = o ≡ None
+IsGeometryOf asked feature (Some part) o = JoinsFeature asked.query feature (feature_shape o) (Ok []) part
 
--- the shape of the member `geometry`, where there is one
-abbrev pub IsGeometryOf : Option (Result Shape Fault) → Option GeoAtom → Type 0
-IsGeometryOf None o = o ≡ None
-IsGeometryOf (Some shape) o = feature_shape o ≡ shape
-
--- the fields say what the feature's members say
-pub record AreMembersOf (asked : Asked) (f : Fields) (m : FeatureMembers) : Type 0 where
+-- the fields say what the members of the feature at the offset say
+pub record AreMembersOf (asked : Asked) (feature : ℕ) (f : Fields) (m : FeatureMembers) : Type 0 where
   pub kind : m.is_feature ≡ true → kind_in_fields f ≡ Some kinds.Feature
   pub no_kind : m.is_feature ≡ false → f.kind ≡ None
-  pub geometry : IsGeometryOf m.geometry f.geometry
-  pub own : IfOwnGeometry asked m.geometry
+  pub geometry : IsGeometryOf asked feature m.geometry f.geometry
   pub properties : m.has_properties ≡ true → texts_named f.properties ≡ Ok []
   pub no_properties : m.has_properties ≡ false → f.properties ≡ None
 
@@ -71,9 +65,9 @@ pub record IsValueRead (asked : Asked) (base : ℕ) (w : List ℕ) (at : ℕ) (f
 abbrev pub ReadsValue : Asked → ℕ → List ℕ → ℕ → Field → (Fields → Type 0) → (Fields → Type 0) → ℕ → Type 0
 ReadsValue asked base w at field Were Are end = (f : Fields) → Were f → IsValueRead asked base w at field f Are end
 
-abbrev pub ReadsField : Asked → ℕ → List ℕ → ℕ → Field → FeatureMembers → FeatureMembers → ℕ → Type 0
-ReadsField asked base w at field before after end =
-    ReadsValue asked base w at field (λ f. AreMembersOf asked f before) (λ f. AreMembersOf asked f after) end
+abbrev pub ReadsField : Asked → ℕ → ℕ → List ℕ → ℕ → Field → FeatureMembers → FeatureMembers → ℕ → Type 0
+ReadsField asked feature base w at field before after end = ReadsValue asked base w at field
+    (λ f. AreMembersOf asked feature f before) (λ f. AreMembersOf asked feature f after) end
 
 -- one member more, of a name that no member before has
 pub record IsMemberRead (asked : Asked) (base : ℕ) (w : List ℕ) (n : FieldName) (f : Fields) (Are : Fields → Type 0)
@@ -87,10 +81,10 @@ abbrev pub ReadsOne : Asked → ℕ → List ℕ → FieldName → (Fields → T
     → ℕ → Type 0
 ReadsOne asked base w n Were Are old new end = (f : Fields) → Were f → IsMemberRead asked base w n f Are old new end
 
-abbrev pub ReadsMember : Asked → ℕ → List ℕ → FieldName → FeatureMembers → FeatureMembers → OtherNames → OtherNames → ℕ
-    → Type 0
-ReadsMember asked base w n before after old new end =
-    ReadsOne asked base w n (λ f. AreMembersOf asked f before) (λ f. AreMembersOf asked f after) old new end
+abbrev pub ReadsMember : Asked → ℕ → ℕ → List ℕ → FieldName → FeatureMembers → FeatureMembers → OtherNames → OtherNames
+    → ℕ → Type 0
+ReadsMember asked feature base w n before after old new end = ReadsOne asked base w n
+    (λ f. AreMembersOf asked feature f before) (λ f. AreMembersOf asked feature f after) old new end
 
 -- between the members of an object: those before the place were read, and their fields are such as are wanted
 pub record AreRead (asked : Asked) (base : ℕ) (w : List ℕ) (at place : ℕ) (others : OtherNames) (Are : Fields → Type 0)
@@ -123,16 +117,16 @@ IsVoid asked base w at end = IsWhole asked base w at (record { end = end; atom =
 
 -- ---- features
 
--- what the members say of the feature's shape
-abbrev pub shape_in : Option (Result Shape Fault) → Result Shape Fault
-shape_in None = Ok empty_shape
-shape_in (Some shape) = shape
+-- the part by the geometry, where there is one, and else that of the feature at the offset without positions
+abbrev pub IsPartIn : Asked → ℕ → Option (Result Part Fault) → Result Part Fault → Type 0
+IsPartIn asked at None part = JoinsFeature asked.query at (Ok empty_shape) (Ok []) part
+IsPartIn asked at (Some found) part = part ≡ found
 
 -- the part of a feature at the offset, and the place behind the bracket
 pub record EndsFeature (asked : Asked) (at end : ℕ) (m : FeatureMembers) (p : FeatureRead) : Type 0 where
   pub behind : p.end ≡ end
   pub is_feature : m.is_feature ≡ true
-  pub part : JoinsFeature asked.query at (shape_in m.geometry) (Ok []) p.part
+  pub part : IsPartIn asked at m.geometry p.part
 
 -- a feature from the place on, told by the atom that keeps its part
 pub record IsFeatureRead (asked : Asked) (base : ℕ) (w : List ℕ) (at : ℕ) (p : FeatureRead) : Type 0 where

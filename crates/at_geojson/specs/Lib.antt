@@ -1,9 +1,11 @@
 -- What public contracts say: a reader has to believe these.
+pub mod Measures
 pub mod Names
 pub mod Coordinates
 pub mod Roles
 pub mod Keeping
 pub mod Atoms
+pub mod Tallies
 pub mod Wholes
 -- Of private functions and fields: nothing here has to be believed.
 pub mod Gathering

@@ -8,6 +8,13 @@ use Rattle.at_nest.specs.Folds.{IsScalarText}
 use Rattle.at_geojson.specs.Gathering.{is_simple}
 use Rattle.at_geojson.specs.declared.places.NamePlace.{NamePlace}
 
+-- the byte stands at the other place, with white space before it from the place on
+pub record StandsBehind (w : List ℕ) (at b place : ℕ) : Type 0 where
+  pub order : at ≤ place
+  pub spaces : AreSpaces (between w at place)
+  pub inside : place < length w
+  pub byte : slice_index w place ≡ b
+
 -- a string from the place to its end
 abbrev pub IsTextAt : List ℕ → ℕ → ℕ → Type 0
 IsTextAt w at end = (at < end) × (end ≤ length w) × JsonString (between w at end)

@@ -7,10 +7,22 @@ ghost use Rattle.at_geojson.specs.Keeping.{Asked, needs_shapes as needs_of, tell
 ghost use Rattle.at_geojson.specs.Keeping.{looks_at_shapes as looks_of, looks_at_texts as texts_looked_at};
 ghost use Rattle.at_geojson.specs.Keeping.{asks_value as value_asked, asks_pair as pair_asked};
 ghost use Rattle.at_geojson.specs.Keeping.{wants_value as value_wanted, wants_pair as pair_wanted};
+ghost use Rattle.at_geojson.specs.Tallies.{measured_by, measure_of};
 
 use at_fixed::Coords;
 use at_query::{Query, Test, Verb};
 use std::marker::Model;
+
+/// What a query without tests asks of positions, where it keeps none of them.
+#[derive(Clone, Copy)]
+pub enum Measure {
+    /// Nothing: features are counted.
+    Count,
+    /// The least extent round them.
+    Extent,
+    /// The area of the polygons that they bound.
+    Area,
+}
 
 /// A query that is asked of a GeoJSON text, and how its coordinates are read.
 #[derive(Drop)]
@@ -131,6 +143,18 @@ pub fn asks_pair(tests: &[Test], name: &[u16], value: &[u16]) -> bool
     false
 }
 
+/// What a verb asks of positions, where it keeps none of them.
+fn verb_measure(verb: Verb) -> Option<Measure>
+    ensures { result ≡ measured_by verb }
+{
+    match verb {
+        Verb::Count => Some(Measure::Count),
+        Verb::Area => Some(Measure::Area),
+        Verb::Extent => Some(Measure::Extent),
+        Verb::Select | Verb::Hull | Verb::Join => None,
+    }
+}
+
 impl GeoAlgebra {
     /// The algebra of a query, for coordinates in units of 10^-digits.
     pub fn new(query: Query, digits: u8, how: Coords) -> GeoAlgebra
@@ -173,5 +197,17 @@ impl GeoAlgebra {
         ensures { result ≡ needs_of self.now.query }
     {
         self.needs_shapes
+    }
+
+    /// What the query asks of positions, where it has no tests and keeps none of them.
+    #[inline(always)]
+    pub(crate) fn measure(&self) -> Option<Measure>
+        ensures { result ≡ measure_of self.now.query }
+    {
+        if self.query.tests.as_slice().is_empty() {
+            verb_measure(self.query.verb)
+        } else {
+            None
+        }
     }
 }

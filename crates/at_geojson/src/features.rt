@@ -1,31 +1,33 @@
 //! Features of a text, read at once where no test looks at texts: no atom is made of their members.
 
-ghost use Rattle.std.specs.Prelude.{◌≡◌, ◌+◌, ◌<◌, ◌≤◌, ◌^◌, true, false, [], None, length, slice_index, Ok, IfOk};
+ghost use Rattle.std.specs.Prelude.{◌≡◌, ◌+◌, ◌<◌, ◌≤◌, ◌^◌, ℕ, true, false, [], None, length, slice_index, Ok, IfOk};
 ghost use Rattle.std.specs.List.{list_any};
 ghost use Rattle.at_geojson.specs.Keeping.{looks_at_texts};
 ghost use Rattle.at_geojson.specs.Members.{IsPlainName, ArePlainOthers};
-ghost use Rattle.at_geojson.specs.Objects.{texts_in};
+ghost use Rattle.at_wkt.specs.Meaning.{empty_shape as nothing};
+ghost use Rattle.at_geojson.specs.Objects.{texts_in, JoinsFeature};
 ghost use Rattle.at_geojson.specs.Values.{IsWhole};
-ghost use Rattle.at_geojson.specs.Features.{IsShapeRead, PassesProperties, ReadsField, ReadsMember, IfOwnGeometry};
+ghost use Rattle.at_geojson.specs.PlainGeometries.{HasPart};
+ghost use Rattle.at_geojson.specs.Features.{IsShapeRead, PassesProperties, ReadsField, ReadsMember};
 ghost use Rattle.at_geojson.specs.Features.{EndsFeature, IsFeatureRead};
 
 use crate::asked::GeoAlgebra;
 use crate::atoms::{GeoAtom, ObjectAtom, Role};
 use crate::fields::Field;
-use crate::geometries::Geometry;
 use crate::kinds::Kind;
+use crate::measured_geometries::PartRead;
 use crate::members::{FieldName, OtherNames, add_other, field_name};
 use crate::object_atoms::new_roles;
 use crate::objects::{feature_shape, of_feature};
 use crate::pairs::Whole;
 use crate::places::{expect_comma, skip_spaces, stands};
-use crate::plain_geometries::{KindRead, ShapeRead, read_geometry, read_kind};
+use crate::plain_geometries::{KindRead, ShapeRead, read_geometry, read_kind, shape_part};
 use crate::plain_objects::{pass_object, pass_other};
 use crate::shapes::empty_shape;
 use crate::twins::is_twin;
 use crate::values::{DEEPEST, read_item};
 use at_query::{Part, TextPairs};
-use at_text::{Fault, Halt};
+use at_text::{Fault, Halt, Memory};
 use std::alloc::Global;
 
 /// So many members for which no kind asks may stand before the first of a feature's own.
@@ -43,55 +45,58 @@ pub struct FeatureRead {
 pub struct FeatureMembers {
     /// The member `type` names it a feature.
     pub is_feature: bool,
-    pub geometry: Option<Result<Geometry, Fault>>,
+    /// The feature's part by the member `geometry`, where there is one.
+    pub geometry: Option<Result<Part, Fault>>,
     /// There is a member `properties`, in which nothing is wrong.
     pub has_properties: bool,
 }
 
-/// White space, any value as a geometry, and white space.
+/// White space, any value as a geometry, and white space, and the part of the feature at the offset that has it.
 fn other_geometry(
     algebra: &GeoAlgebra,
     alloc: Global,
     text: &[u8],
     base: u32,
     at: usize,
-) -> Result<ShapeRead, Halt>
+    feature: u32,
+) -> Result<PartRead, Halt>
     requires inside { at ≤ length text.now }
     requires fits { base + length text.now ≤ 2 ^ 28 }
-    ensures { IfOk result (IsShapeRead algebra.now base text.now at) }
+    ensures { IfOk result (HasPart algebra.now feature (IsShapeRead algebra.now base text.now at)) }
 {
     let Whole { end, atom } = read_item(algebra, alloc, text, base, at, DEEPEST)?;
     if is_twin(&atom) {
         return Err(Halt::At(end));
     }
     let shape = feature_shape(alloc, Some(atom));
-    Ok(ShapeRead { end, shape })
+    shape_part(algebra, alloc, feature, ShapeRead { end, shape })
 }
 
-/// White space, a value as a geometry, and white space.
+/// White space, a value as a geometry, and white space, and the part of the feature at the offset that has it.
 fn geometry_item(
     algebra: &GeoAlgebra,
     alloc: Global,
     text: &[u8],
     base: u32,
     at: usize,
-) -> Result<ShapeRead, Halt>
+    feature: u32,
+) -> Result<PartRead, Halt>
     requires inside { at ≤ length text.now }
     requires fits { base + length text.now ≤ 2 ^ 28 }
     requires unasked { list_any looks_at_texts algebra.now.query.tests ≡ false }
-    ensures { IfOk result (IsShapeRead algebra.now base text.now at) }
+    ensures { IfOk result (HasPart algebra.now feature (IsShapeRead algebra.now base text.now at)) }
 {
     let first = skip_spaces(text, at);
     if !stands(text, first, b'{') {
-        return other_geometry(algebra, alloc, text, base, at);
+        return other_geometry(algebra, alloc, text, base, at, feature);
     }
-    match read_geometry(algebra, alloc, text, base, first) {
-        Ok(ShapeRead { end, shape }) => Ok(ShapeRead {
+    match read_geometry(algebra, alloc, text, base, first, feature) {
+        Ok(PartRead { end, part }) => Ok(PartRead {
             end: skip_spaces(text, end),
-            shape,
+            part,
         }),
         Err(Halt::Memory) => Err(Halt::Memory),
-        Err(Halt::At(_)) => other_geometry(algebra, alloc, text, base, at),
+        Err(Halt::At(_)) => other_geometry(algebra, alloc, text, base, at, feature),
     }
 }
 
@@ -195,7 +200,8 @@ fn kind_member(
     requires inside { at ≤ length text.now }
     requires fits { base + length text.now ≤ 2 ^ 28 }
     requires unasked { list_any looks_at_texts algebra.now.query.tests ≡ false }
-    ensures { IfOk result (ReadsField algebra.now base text.now at Field.Kind members.old members.new) }
+    ensures { IfOk result (λ end. (feature : ℕ)
+        → ReadsField algebra.now feature base text.now at Field.Kind members.old members.new end) }
 {
     let KindRead { end, kind } = read_kind(algebra, text, base, at)?;
     if members.is_feature {
@@ -208,7 +214,7 @@ fn kind_member(
     Ok(end)
 }
 
-/// The value of the member `geometry`, with white space round it.
+/// The value of the member `geometry` of the feature at the offset, with white space round it.
 #[inline(always)]
 fn geometry_member(
     algebra: &GeoAlgebra,
@@ -216,18 +222,19 @@ fn geometry_member(
     text: &[u8],
     base: u32,
     at: usize,
+    feature: u32,
     members: &mut FeatureMembers,
 ) -> Result<usize, Halt>
     requires inside { at ≤ length text.now }
     requires fits { base + length text.now ≤ 2 ^ 28 }
     requires unasked { list_any looks_at_texts algebra.now.query.tests ≡ false }
-    ensures { IfOk result (ReadsField algebra.now base text.now at Field.Geometry members.old members.new) }
+    ensures { IfOk result (ReadsField algebra.now feature base text.now at Field.Geometry members.old members.new) }
 {
-    let ShapeRead { end, shape } = geometry_item(algebra, alloc, text, base, at)?;
+    let PartRead { end, part } = geometry_item(algebra, alloc, text, base, at, feature)?;
     if members.geometry.is_some() {
         return Err(Halt::At(end));
     }
-    members.geometry = Some(shape);
+    members.geometry = Some(part);
     Ok(end)
 }
 
@@ -244,7 +251,8 @@ fn properties_member(
     requires inside { at ≤ length text.now }
     requires fits { base + length text.now ≤ 2 ^ 28 }
     requires unasked { list_any looks_at_texts algebra.now.query.tests ≡ false }
-    ensures { IfOk result (ReadsField algebra.now base text.now at Field.Properties members.old members.new) }
+    ensures { IfOk result (λ end. (feature : ℕ)
+        → ReadsField algebra.now feature base text.now at Field.Properties members.old members.new end) }
 {
     let end = pass_properties(algebra, alloc, text, base, at)?;
     if members.has_properties {
@@ -254,7 +262,7 @@ fn properties_member(
     Ok(end)
 }
 
-/// A feature's member behind its name. Of those of one name the first alone is read. Before the first of a feature's own
+/// A member of the feature at the offset, behind its name. Of those of one name the first alone is read. Before the first of a feature's own
 /// members few others are passed over, and no arrays and objects in them: an object that is none is soon given up.
 #[inline(always)]
 fn read_member(
@@ -263,6 +271,7 @@ fn read_member(
     text: &[u8],
     base: u32,
     name: FieldName,
+    feature: u32,
     members: &mut FeatureMembers,
     others: &mut OtherNames,
 ) -> Result<usize, Halt>
@@ -271,13 +280,13 @@ fn read_member(
     requires unasked { list_any looks_at_texts algebra.now.query.tests ≡ false }
     requires plain { IsPlainName text.now name.place }
     requires names { ArePlainOthers text.now others.old }
-    ensures { IfOk result (ReadsMember algebra.now base text.now name members.old members.new others.old
+    ensures { IfOk result (ReadsMember algebra.now feature base text.now name members.old members.new others.old
         others.new) }
 {
     let at = name.place.colon + 1;
     match name.field {
         Field::Kind => kind_member(algebra, text, base, at, members),
-        Field::Geometry => geometry_member(algebra, alloc, text, base, at, members),
+        Field::Geometry => geometry_member(algebra, alloc, text, base, at, feature, members),
         Field::Properties => properties_member(algebra, alloc, text, base, at, members),
         Field::Other => {
             let begun = members.has_begun();
@@ -292,6 +301,18 @@ fn read_member(
     }
 }
 
+/// The part of the feature at the offset, which has no geometry.
+fn part_without_geometry(
+    algebra: &GeoAlgebra,
+    alloc: Global,
+    at: u32,
+) -> Result<Result<Part, Fault>, Memory>
+    ensures { IfOk result (JoinsFeature algebra.now.query at (Ok nothing) (Ok [])) }
+{
+    let texts = TextPairs::from_vec(Vec::new(alloc));
+    of_feature(alloc, algebra, at, Ok(empty_shape(alloc)), Ok(texts))
+}
+
 /// A feature of its members, whose closing bracket stands before the place.
 fn ended_feature(
     algebra: &GeoAlgebra,
@@ -300,24 +321,18 @@ fn ended_feature(
     end: usize,
     members: FeatureMembers,
 ) -> Result<FeatureRead, Halt>
-    requires { IfOwnGeometry algebra.now members.geometry }
     ensures { IfOk result (EndsFeature algebra.now at end members) }
 {
-    let FeatureMembers {
-        is_feature,
-        geometry,
-        has_properties: _,
-    } = members;
-    if !is_feature {
+    if !members.is_feature {
         return Err(Halt::At(end));
     }
-    let shape = match geometry {
-        Some(shape) => shape,
-        None => Ok(empty_shape(alloc)),
-    };
-    let texts = TextPairs::from_vec(Vec::new(alloc));
-    let part = of_feature(alloc, algebra, at, shape, Ok(texts))?;
-    Ok(FeatureRead { end, part })
+    match members.geometry {
+        Some(part) => Ok(FeatureRead { end, part }),
+        None => {
+            let part = part_without_geometry(algebra, alloc, at)?;
+            Ok(FeatureRead { end, part })
+        }
+    }
 }
 
 /// A feature where no test looks at texts, from its opening bracket on, which stands at the place.
@@ -334,14 +349,24 @@ pub fn read_feature(
     requires unasked { list_any looks_at_texts algebra.now.query.tests ≡ false }
     ensures { IfOk result (IsFeatureRead algebra.now base text.now at) }
 {
+    let feature = base + at as u32;
     let mut members = FeatureMembers::none();
     let mut others = OtherNames::none(alloc);
     let mut place = at + 1;
     'members: loop {
         let name = field_name(text, place)?;
-        let end = read_member(algebra, alloc, text, base, name, &mut members, &mut others)?;
+        let end = read_member(
+            algebra,
+            alloc,
+            text,
+            base,
+            name,
+            feature,
+            &mut members,
+            &mut others,
+        )?;
         if stands(text, end, b'}') {
-            return ended_feature(algebra, alloc, base + at as u32, end + 1, members);
+            return ended_feature(algebra, alloc, feature, end + 1, members);
         }
         expect_comma(text, end)?;
         place = end + 1;

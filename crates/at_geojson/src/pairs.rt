@@ -13,7 +13,7 @@ ghost use Rattle.at_geojson.specs.Rows.{EndsRow, EndsPoints, ArePointsWhole};
 use crate::asked::GeoAlgebra;
 use crate::atoms::{GeoAtom, Points, PositionAtom};
 use crate::coordinates::same_or_faulty;
-use crate::places::{expect_comma, skip_spaces, stands};
+use crate::places::{behind_spaces, expect_comma, skip_spaces, stands};
 use at_fixed::{Notation, PlainNumber, plain_len, plain_number};
 use at_geom::{Pos, line_fault, ring_fault};
 use at_text::Halt;
@@ -158,7 +158,7 @@ fn new_path(alloc: Global, first: Pos) -> Result<Vec<Pos>, Halt>
 
 /// One more, up to four.
 #[inline(always)]
-fn one_more(count: u32) -> u32
+pub fn one_more(count: u32) -> u32
     ensures { (n : ℕ) → count ≡ to_four n → result ≡ to_four (n + 1) }
 {
     if count < 4 { count + 1 } else { count }
@@ -191,7 +191,7 @@ fn ended_row(at: u32, end: usize, row: Row) -> PointsRead
 
 /// A position, behind white space and before white space.
 #[inline(always)]
-fn read_spaced(algebra: &GeoAlgebra, text: &[u8], base: u32, at: usize) -> Option<PairRead>
+pub fn read_spaced(algebra: &GeoAlgebra, text: &[u8], base: u32, at: usize) -> Option<PairRead>
     requires inside { at ≤ length text.now }
     requires fits { base + length text.now ≤ 2 ^ 28 }
     ensures { IfSome result (IsSpacedPair algebra.now base text.now at) }
@@ -202,12 +202,14 @@ fn read_spaced(algebra: &GeoAlgebra, text: &[u8], base: u32, at: usize) -> Optio
     Some(PairRead { end, pair })
 }
 
-/// White space, a number that is written plainly, and white space, passed over.
+/// White space, a number that is written plainly, and white space in front of the byte, passed over.
 #[inline(always)]
-fn pass_plain(algebra: &GeoAlgebra, text: &[u8], at: usize) -> Option<NumberPlace>
+fn pass_plain(algebra: &GeoAlgebra, text: &[u8], at: usize, next: u8) -> Option<NumberPlace>
     requires inside { at ≤ length text.now }
     requires short { length text.now ≤ 2 ^ 28 }
-    ensures { IfSome result (PassesNumber algebra.now text.now at) }
+    ensures number { IfSome result (PassesNumber algebra.now text.now at) }
+    ensures inside { IfSome result (λ place. place.end < length text.now) }
+    ensures next { IfSome result (λ place. slice_index text.now place.end ≡ next) }
 {
     let first = skip_spaces(text, at);
     let len = plain_len(
@@ -217,32 +219,20 @@ fn pass_plain(algebra: &GeoAlgebra, text: &[u8], at: usize) -> Option<NumberPlac
         algebra.how(),
     )?;
     let last = first + len as usize;
-    Some(NumberPlace {
-        first,
-        last,
-        end: skip_spaces(text, last),
-    })
+    let end = behind_spaces(text, last, next)?;
+    Some(NumberPlace { first, last, end })
 }
 
 /// A position of two numbers that are written plainly, behind white space and before white space, passed over.
 #[inline(always)]
-fn pass_pair(algebra: &GeoAlgebra, text: &[u8], at: usize) -> Option<PairPlace>
+pub fn pass_pair(algebra: &GeoAlgebra, text: &[u8], at: usize) -> Option<PairPlace>
     requires inside { at ≤ length text.now }
     requires short { length text.now ≤ 2 ^ 28 }
     ensures { IfSome result (PassesPair algebra.now text.now at) }
 {
-    let bracket = skip_spaces(text, at);
-    if !stands(text, bracket, b'[') {
-        return None;
-    }
-    let x = pass_plain(algebra, text, bracket + 1)?;
-    if !stands(text, x.end, b',') {
-        return None;
-    }
-    let y = pass_plain(algebra, text, x.end + 1)?;
-    if !stands(text, y.end, b']') {
-        return None;
-    }
+    let bracket = behind_spaces(text, at, b'[')?;
+    let x = pass_plain(algebra, text, bracket + 1, b',')?;
+    let y = pass_plain(algebra, text, x.end + 1, b']')?;
     Some(PairPlace {
         bracket,
         x,
@@ -362,7 +352,8 @@ fn passed_list(
 }
 
 /// A list of positions where no shapes are kept: all of them are passed over.
-fn pass_points(
+#[inline(never)]
+pub fn pass_points(
     algebra: &GeoAlgebra,
     alloc: Global,
     text: &[u8],

@@ -8,6 +8,7 @@ ghost use Rattle.at_geojson.specs.Places.{IsScalarAt};
 
 use crate::asked::GeoAlgebra;
 use crate::places::{skip_spaces, stands, text_end};
+use crate::short_texts::short_text_end;
 use at_lex::take_run;
 
 /// The place behind the string that begins at the place.
@@ -17,6 +18,9 @@ fn pass_string(text: &[u8], at: usize) -> Option<usize>
     requires short { length text.now ≤ 2 ^ 28 }
     ensures { IfSome result (IsScalarAt text.now at) }
 {
+    if let Some(end) = short_text_end(text, at) {
+        return Some(end);
+    }
     match text_end(text, at) {
         Ok(end) => Some(end),
         Err(_) => None,

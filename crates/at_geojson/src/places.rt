@@ -1,9 +1,9 @@
 //! What stands at the places of a text: bytes, white space, strings and the names of members.
 
-ghost use Rattle.std.specs.Prelude.{◌≡◌, ◌+◌, ◌<◌, ◌≤◌, ◌^◌, length, slice_index, true, IfOk};
+ghost use Rattle.std.specs.Prelude.{◌≡◌, ◌+◌, ◌<◌, ◌≤◌, ◌^◌, length, slice_index, true, IfOk, IfSome};
 ghost use Rattle.at_fixed.specs.NumberSoFar.{between};
 ghost use Rattle.at_lex.specs.Spans.{AreSpaces};
-ghost use Rattle.at_geojson.specs.Places.{IsTextAt, IsNameAt};
+ghost use Rattle.at_geojson.specs.Places.{StandsBehind, IsTextAt, IsNameAt};
 
 use at_lex::take_text;
 use at_text::{Halt, Memory, is_space};
@@ -52,6 +52,23 @@ pub fn skip_spaces(text: &[u8], at: usize) -> usize
         end += 1;
     }
     end
+}
+
+/// The place of the byte, where it stands right there or behind white space.
+#[inline(always)]
+pub fn behind_spaces(text: &[u8], at: usize, b: u8) -> Option<usize>
+    requires { at ≤ length text.now }
+    ensures { IfSome result (StandsBehind text.now at b) }
+{
+    if stands(text, at, b) {
+        return Some(at);
+    }
+    let place = skip_spaces(text, at);
+    if stands(text, place, b) {
+        Some(place)
+    } else {
+        None
+    }
 }
 
 /// The place behind the string that begins at the place.

@@ -3,19 +3,24 @@
 ghost use Rattle.std.specs.Prelude.{◌≡◌, ◌+◌, ◌<◌, ◌≤◌, ◌^◌, false, length, slice_index, IfOk};
 ghost use Rattle.std.specs.List.{list_any};
 ghost use Rattle.at_geojson.specs.Keeping.{looks_at_texts};
+ghost use Rattle.at_geojson.specs.Atoms.{IfOwnShape};
 ghost use Rattle.at_geojson.specs.PlainGeometries.{IsKindRead, AreCoordinatesOf, IsCoordinatesItem, IsGeometryRead};
+ghost use Rattle.at_geojson.specs.PlainGeometries.{JoinsShape, HasPart};
 
 use crate::asked::GeoAlgebra;
 use crate::fields::{is_coordinates, is_kind, kind_named};
 use crate::geometries::Geometry;
 use crate::kinds::Kind;
 use crate::known_names::known_kind;
+use crate::measured_geometries::{PartRead, measure_coordinates};
 use crate::members::field_name;
+use crate::objects::of_feature;
 use crate::pairs::{PairRead, Whole, read_pair, read_points};
 use crate::places::{expect_comma, skip_spaces, stands};
 use crate::readings::{line_of, lines_of, point_of, points_of, polygon_of, polygons_of};
 use crate::rings::{read_areas, read_lists};
 use crate::values::read_simple;
+use at_query::TextPairs;
 use at_text::{Fault, Halt};
 use std::alloc::Global;
 
@@ -217,6 +222,48 @@ fn read_coordinates_of(
     }
 }
 
+/// The part of the feature at the offset that has this shape and no texts for which the query asks.
+pub fn shape_part(
+    algebra: &GeoAlgebra,
+    alloc: Global,
+    feature: u32,
+    read: ShapeRead,
+) -> Result<PartRead, Halt>
+    requires { IfOwnShape algebra.now read.shape }
+    ensures { IfOk result (JoinsShape algebra.now feature read) }
+{
+    let texts = TextPairs::from_vec(Vec::new(alloc));
+    let part = of_feature(alloc, algebra, feature, read.shape, Ok(texts))?;
+    Ok(PartRead {
+        end: read.end,
+        part,
+    })
+}
+
+/// The coordinates of a geometry of the kind, from their opening bracket on, which stands at the place, and the part of
+/// the feature at the offset that has them.
+#[inline(always)]
+fn read_part_of(
+    algebra: &GeoAlgebra,
+    alloc: Global,
+    text: &[u8],
+    base: u32,
+    at: usize,
+    kind: Kind,
+    feature: u32,
+) -> Result<PartRead, Halt>
+    requires inside { at < length text.now }
+    requires opens { slice_index text.now at ≡ 0x5B }
+    requires fits { base + length text.now ≤ 2 ^ 28 }
+    ensures { IfOk result (HasPart algebra.now feature (AreCoordinatesOf algebra.now base text.now at kind)) }
+{
+    if let Some(measure) = algebra.measure() {
+        return measure_coordinates(algebra, alloc, measure, text, base, at, kind);
+    }
+    let read = read_coordinates_of(algebra, alloc, text, base, at, kind)?;
+    shape_part(algebra, alloc, feature, read)
+}
+
 /// White space, the coordinates of a geometry of the kind, and white space.
 #[inline(always)]
 fn coordinates_item(
@@ -226,33 +273,36 @@ fn coordinates_item(
     base: u32,
     at: usize,
     kind: Kind,
-) -> Result<ShapeRead, Halt>
+    feature: u32,
+) -> Result<PartRead, Halt>
     requires inside { at ≤ length text.now }
     requires fits { base + length text.now ≤ 2 ^ 28 }
-    ensures { IfOk result (IsCoordinatesItem algebra.now base text.now at kind) }
+    ensures { IfOk result (HasPart algebra.now feature (IsCoordinatesItem algebra.now base text.now at kind)) }
 {
     let first = skip_spaces(text, at);
     if !stands(text, first, b'[') {
         return Err(Halt::At(first));
     }
-    let ShapeRead { end, shape } = read_coordinates_of(algebra, alloc, text, base, first, kind)?;
+    let PartRead { end, part } = read_part_of(algebra, alloc, text, base, first, kind, feature)?;
     let end = skip_spaces(text, end);
-    Ok(ShapeRead { end, shape })
+    Ok(PartRead { end, part })
 }
 
-/// A geometry of two members, `type` and `coordinates`, from its opening bracket on, which stands at the place.
+/// A geometry of two members, `type` and `coordinates`, from its opening bracket on, which stands at the place, and the
+/// part of the feature at the offset that has it.
 pub fn read_geometry(
     algebra: &GeoAlgebra,
     alloc: Global,
     text: &[u8],
     base: u32,
     at: usize,
-) -> Result<ShapeRead, Halt>
+    feature: u32,
+) -> Result<PartRead, Halt>
     requires inside { at < length text.now }
     requires opens { slice_index text.now at ≡ 0x7B }
     requires fits { base + length text.now ≤ 2 ^ 28 }
     requires unasked { list_any looks_at_texts algebra.now.query.tests ≡ false }
-    ensures { IfOk result (IsGeometryRead algebra.now base text.now at) }
+    ensures { IfOk result (HasPart algebra.now feature (IsGeometryRead algebra.now base text.now at)) }
 {
     let first = field_name(text, at + 1)?;
     if !is_kind(first.field) {
@@ -264,19 +314,17 @@ pub fn read_geometry(
     if !is_coordinates(second.field) {
         return Err(Halt::At(second.place.end));
     }
-    let ShapeRead { end, shape } = coordinates_item(
+    let PartRead { end, part } = coordinates_item(
         algebra,
         alloc,
         text,
         base,
         second.place.colon + 1,
         named.kind,
+        feature,
     )?;
     if !stands(text, end, b'}') {
         return Err(Halt::At(end));
     }
-    Ok(ShapeRead {
-        end: end + 1,
-        shape,
-    })
+    Ok(PartRead { end: end + 1, part })
 }

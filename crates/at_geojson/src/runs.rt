@@ -5,6 +5,7 @@
 
 ghost use Rattle.std.specs.Prelude.{◌≡◌, ◌++◌, ◌∷◌, [], All, IfOk, IfSome, Ok, None, true};
 ghost use Rattle.std.specs.List.{list_any};
+ghost use Rattle.at_query.specs.Parts.{JoinsParts};
 ghost use Rattle.at_geojson.specs.Atoms.{twin_of as twin_in, IsOwn, AreOwnItems};
 ghost use Rattle.at_geojson.specs.Gathering.{firsts, is_run as run_is, item_geometries, item_features, JoinsShapes};
 ghost use Rattle.at_geojson.specs.Gathering.{JoinsFound, AreJoinable};
@@ -101,6 +102,18 @@ fn join_geometries(
     Ok(())
 }
 
+/// Two counts, or two areas, together.
+#[inline(always)]
+fn joined_numbers(left: &Part, right: &Part) -> Option<Part>
+    ensures { IfSome result (JoinsParts left.now right.now) }
+{
+    match (left, right) {
+        (Part::Count(a), Part::Count(b)) => Some(Part::Count(a.wrapping_add(*b))),
+        (Part::Area(a), Part::Area(b)) => Some(Part::Area(a.wrapping_add(*b))),
+        _ => None,
+    }
+}
+
 /// A part without lists, once more.
 #[inline(always)]
 fn small_part(part: &Result<Part, Fault>) -> Option<Part>
@@ -121,6 +134,13 @@ pub fn join_features(run: &mut Items, more: Result<Part, Fault>) -> Result<(), M
     ensures geometries { run.new.geometries ≡ run.old.geometries }
     ensures features { IfOk result (λ u. JoinsFound run.old.features more run.new.features) }
 {
+    if let Ok(first) = &run.features
+        && let Ok(second) = &more
+        && let Some(part) = joined_numbers(first, second)
+    {
+        run.features = Ok(part);
+        return Ok(());
+    }
     if let Some(first) = small_part(&run.features)
         && let Some(second) = small_part(&more)
     {

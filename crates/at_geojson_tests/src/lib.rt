@@ -4,6 +4,8 @@
 #[cfg(test)]
 mod example_tests;
 #[cfg(test)]
+mod measure_tests;
+#[cfg(test)]
 mod run_tests;
 #[cfg(test)]
 mod tests;

@@ -1,5 +1,5 @@
 -- The run has the one feature's part.
-use Rattle.std.proofs.Common.{subst, sym, refl}
+use Rattle.std.proofs.Common.{subst, sym}
 use Rattle.at_geojson.specs.declared.atoms.Items.{Items}
 use Rattle.at_geojson.specs.FeatureRuns.{AreFeaturesRead}
 use Rattle.at_geojson.proofs.FeatureJoins.{feature_within, features_begin}

@@ -1,5 +1,5 @@
 -- Each feature is read behind those before it.
-use Rattle.std.proofs.Common.{arith, ◌+◌, ◌-◌, ◌<◌, ◌≤◌, sym, subst}
+use Rattle.std.proofs.Common.{arith, sym, subst}
 use Rattle.at_geojson.specs.declared.atoms.Items.{Items}
 use Rattle.at_geojson.specs.FeatureRuns.{AreFeaturesRead}
 use Rattle.at_geojson.proofs.FeatureJoins.{feature_within, feature_order, can_join, features_go_on}

@@ -9,11 +9,8 @@ members-init c = record {
   order = omega arith;
   within = omega (arith, c.requires.inside);
   read = reading_begins c.args.algebra.now c.args.base c.args.text.now c.args.at c.none-others.result _ c.requires.inside
-      (no_members c.args.algebra.now c.args.base c.args.text.now c.none-members.result c.none-members.ensures.kind c.none-members.ensures.geometry c.none-members.ensures.properties) (c.none-others.ensures.plain c.args.text.now) (c.none-others.ensures.none c.args.text.now);
+      (no_members c.args.algebra.now c.args.base c.args.text.now (c.args.base + c.args.at) c.none-members.result c.none-members.ensures.kind c.none-members.ensures.geometry c.none-members.ensures.properties) (c.none-others.ensures.plain c.args.text.now) (c.none-others.ensures.none c.args.text.now);
 }
-
-pub ended_feature-requires : goal.ended_feature-requires
-ended_feature-requires c = (c.in_ok-end.ensures c.members.invariant.read.fields c.members.invariant.read.are).are.own
 
 pub returns-then-stands : goal.returns-then-stands
 returns-then-stands c =

@@ -1,5 +1,5 @@
 -- The object has brackets, since the text begins with one.
-use Rattle.at_geojson.proofs.FeatureJoins.{item_alone, run_alone}
+use Rattle.at_geojson.proofs.FeatureJoins.{item_alone}
 use Rattle.at_geojson.proofs.wholes.object_items.Goals as goal
 
 pub returns-in_ok-whole-in-Err-At : goal.returns-in_ok-whole-in-Err-At

@@ -1,0 +1,226 @@
+-- What is told of positions one by one, of rings and of polygons is what the definitions say of their lists, and the part
+-- of a feature follows from it. For `value`.
+use Rattle.std.proofs.Common.{◌≡◌, ℕ, ℤ, pos, nat_abs, ◌+ℤ◌, ◌-ℤ◌, neg_ℤ, Bool, true, false, ◌||◌, List, [], ◌∷◌, ◌++◌, Option, Some, None, Ok, map, refl, sym, ◌∙◌, ap, subst, arith, append-nil}
+use Rattle.std.specs.Prelude.{FitsSigned}
+use Rattle.std.specs.Int.{w128, int_wrap}
+use Rattle.std.specs.List.{AllByRecursion, list_any}
+use Rattle.std.proofs.lemmas.Grind.{flat_map-append}
+use Rattle.std.proofs.lemmas.Int.{ints, int_wrap-add_left, int_wrap_fits, SFits-int_wrap, fits_signed_from_abs}
+use Rattle.std.proofs.lemmas.List.{map-append}
+use Rattle.std.proofs.lemmas.List.Sums.{fold-append}
+use Rattle.at_text.specs.declared.faults.Fault.{Fault}
+use Rattle.at_geom.specs.declared.positions.Pos.{Pos}
+use Rattle.at_geom.specs.declared.rectangles.Extent.{Extent}
+use Rattle.at_geom.specs.declared.shapes.Polygon.{Polygon}
+use Rattle.at_geom.specs.declared.shapes.Shape.{Shape}
+use Rattle.at_geom.specs.Regions.{sum_of, shoelace, wrapped_ring_size, wrapped_area, wrapped_area_of_rings}
+use Rattle.at_geom.specs.Shapes.{widened, joined, positions, positions_of_polygons, extent_of}
+use Rattle.at_geom.proofs.Shoelace.{term, shoelace-cons}
+use Rattle.at_geom.proofs.Covering.{extent_of_parts}
+use Rattle.at_wkt.specs.Meaning.{of_points, of_lines, of_polygons}
+use Rattle.at_query.specs.declared.query.queries.Query.{Query}
+use Rattle.at_query.specs.declared.query.queries.Test.{Test}
+use Rattle.at_query.specs.declared.query.queries.Verb.{Verb}
+use Rattle.at_query.specs.declared.query.queries.Verb.TheVariants as verbs
+use Rattle.at_query.specs.declared.features.Feature.{Feature}
+use Rattle.at_query.specs.declared.answer.parts.Part.{Part}
+use Rattle.at_query.specs.declared.answer.parts.Part.TheVariants as parts
+use Rattle.at_query.specs.Parts.{wrapped_sum, IsKeptOf}
+use Rattle.at_query.specs.Holding.{TestHolds, Holds}
+use Rattle.at_query.proofs.KeptLists.{keeps_one}
+use Rattle.at_geojson.specs.declared.asked.Measure.{Measure}
+use Rattle.at_geojson.specs.declared.asked.Measure.TheVariants as measures
+use Rattle.at_geojson.specs.declared.tallies.Tally.{Tally}
+use Rattle.at_geojson.specs.Keeping.{kept, needs_shapes, tells_shapes, looks_at_shapes}
+use Rattle.at_geojson.specs.Objects.{unless, JoinsFeature}
+use Rattle.at_geojson.specs.Tallies.{measured_by, measure_with, measure_of, widened_by, SumsUp, TalliesPath, IsAreaOf, TalliesLists, TalliesAreas, TalliesShape, part_unless, IsPartOfShape}
+use Rattle.at_geojson.proofs.ListRoles.{same_Some}
+
+-- ---- sums
+
+sum_of-last : (xs : List ℤ) (x : ℤ) → sum_of (xs ++ x ∷ []) ≡ sum_of xs +ℤ x
+sum_of-last xs x = fold-append ◌+ℤ◌ (pos 0) xs (x ∷ [])
+
+wrapped_again : (z : ℤ) → int_wrap w128 (int_wrap w128 z) ≡ int_wrap w128 z
+wrapped_again z = int_wrap_fits w128 (int_wrap w128 z) (SFits-int_wrap w128 z)
+
+no_area : wrapped_sum [] ≡ pos 0
+no_area = let f : FitsSigned w128 (pos 0) = fits_signed_from_abs w128 (pos 0) (omega arith) in int_wrap_fits w128 (pos 0) f
+
+-- ---- the positions of a list
+
+-- the edge to one more position
+shoelace_last : (front : List Pos) (a b : Pos) → shoelace ((front ++ a ∷ []) ++ b ∷ []) ≡ shoelace (front ++ a ∷ []) +ℤ term a b
+shoelace_last [] a b = shoelace-cons a b [] ∙ omega (arith, ints)
+shoelace_last (c ∷ []) a b = let e = shoelace-cons c a (b ∷ []) in let f = shoelace_last [] a b in let g = shoelace-cons c a [] in omega (arith, ints, e, f, g)
+shoelace_last (c ∷ d ∷ front) a b =
+    let e = shoelace-cons c d ((front ++ a ∷ []) ++ b ∷ []) in
+    let f = shoelace_last (d ∷ front) a b in
+    let g = shoelace-cons c d (front ++ a ∷ []) in
+    omega (arith, ints, e, f, g)
+
+pub area_more : (front : List Pos) (last p : Pos) (t u : Tally) → u.area ≡ int_wrap w128 (t.area +ℤ term last p) → t.area ≡ int_wrap w128 (shoelace (front ++ last ∷ [])) → u.area ≡ int_wrap w128 (shoelace ((front ++ last ∷ []) ++ p ∷ []))
+area_more front last p t u e h =
+    e ∙ (ap (λ z. int_wrap w128 (z +ℤ term last p)) h ∙ (int_wrap-add_left w128 (shoelace (front ++ last ∷ [])) (term last p) ∙ ap (int_wrap w128) (sym (shoelace_last front last p))))
+
+-- a whole list
+pub ring_told : (measure : Measure) (before : Option Extent) (path : List Pos) (t u : Tally) → u.extent ≡ t.extent → u.area ≡ int_wrap w128 (pos (nat_abs t.area)) → SumsUp measure before path t → TalliesPath measure before path u
+ring_told measures.Count before path t u e f h = tt
+ring_told measures.Extent before path t u e f h = e ∙ h
+ring_told measures.Area before path t u e f h = f ∙ ap (λ z. int_wrap w128 (pos (nat_abs z))) h
+
+-- ---- lists of positions
+
+joined_last : (paths : List (List Pos)) (path : List Pos) → joined (paths ++ path ∷ []) ≡ joined paths ++ path
+joined_last paths path = flat_map-append (λ (p : List Pos). p) paths (path ∷ []) ∙ ap (λ z. joined paths ++ z) (append-nil path)
+
+pub hole_told : (measure : Measure) (before : Option Extent) (paths : List (List Pos)) (path : List Pos) (t hole u : Tally) → u.extent ≡ hole.extent → u.area ≡ int_wrap w128 (t.area -ℤ hole.area) → TalliesLists measure before paths t → TalliesPath measure t.extent path hole
+    → TalliesLists measure before (paths ++ path ∷ []) u
+hole_told measures.Count before paths path t hole u e f h k = tt
+hole_told measures.Extent before paths path t hole u e f h k =
+    e ∙ (k ∙ (ap (λ z. widened_by z path) h ∙ (sym (fold-append (λ e p. Some (widened p e)) before (joined paths) path) ∙ ap (widened_by before) (sym (joined_last paths path)))))
+hole_told measures.Area before [] path t hole u e f h k = absurd h
+hole_told measures.Area before (a ∷ rest) path t hole u e f h k =
+    let x = wrapped_ring_size a -ℤ sum_of (map wrapped_ring_size rest) in
+    let s = ap sum_of (map-append wrapped_ring_size rest (path ∷ [])) ∙ sum_of-last (map wrapped_ring_size rest) (wrapped_ring_size path) in
+    f ∙ (ap (λ z. int_wrap w128 (z -ℤ hole.area)) h ∙ (ap (λ z. int_wrap w128 (int_wrap w128 x -ℤ z)) k
+    ∙ (int_wrap-add_left w128 x (neg_ℤ (wrapped_ring_size path)) ∙ ap (int_wrap w128) (omega (arith, ints, s)))))
+
+list_told : (measure : Measure) (before : Option Extent) (path : List Pos) (t : Tally) → TalliesPath measure before path t → TalliesLists measure before (path ∷ []) t
+list_told measures.Count before path t h = tt
+list_told measures.Extent before path t h = h ∙ ap (widened_by before) (sym (append-nil path))
+list_told measures.Area before path t h =
+    let x = pos (nat_abs (int_wrap w128 (shoelace path))) in
+    h ∙ (sym (wrapped_again x) ∙ ap (int_wrap w128) (omega (arith, ints)))
+
+-- ---- polygons
+
+area_is : (rings : List (List Pos)) (z : ℤ) → IsAreaOf rings z → z ≡ wrapped_area_of_rings rings
+area_is [] z h = absurd h
+area_is (a ∷ rest) z h = h
+
+wrapped_area_again : (rings : List (List Pos)) → int_wrap w128 (wrapped_area_of_rings rings) ≡ wrapped_area_of_rings rings
+wrapped_area_again [] = no_area
+wrapped_area_again (a ∷ rest) = wrapped_again (wrapped_ring_size a -ℤ sum_of (map wrapped_ring_size rest))
+
+polygons_last : (polygons : List Polygon) (more : Polygon) → positions_of_polygons (polygons ++ more ∷ []) ≡ positions_of_polygons polygons ++ joined more.rings
+polygons_last polygons more = flat_map-append (λ (p : Polygon). joined p.rings) polygons (more ∷ []) ∙ ap (λ z. positions_of_polygons polygons ++ z) (append-nil (joined more.rings))
+
+pub polygon_told : (measure : Measure) (before : Option Extent) (polygons : List Polygon) (more : Polygon) (t polygon u : Tally) → u.extent ≡ polygon.extent → u.area ≡ int_wrap w128 (t.area +ℤ polygon.area) → TalliesAreas measure before polygons t
+    → TalliesLists measure t.extent more.rings polygon → TalliesAreas measure before (polygons ++ more ∷ []) u
+polygon_told measures.Count before polygons more t polygon u e f h k = tt
+polygon_told measures.Extent before polygons more t polygon u e f h k =
+    e ∙ (k ∙ (ap (λ z. widened_by z (joined more.rings)) h ∙ (sym (fold-append (λ e p. Some (widened p e)) before (positions_of_polygons polygons) (joined more.rings)) ∙ ap (widened_by before) (sym (polygons_last polygons more)))))
+polygon_told measures.Area before polygons more t polygon u e f h k =
+    let s = ap sum_of (map-append wrapped_area polygons (more ∷ [])) ∙ sum_of-last (map wrapped_area polygons) (wrapped_area more) in
+    f ∙ (ap (λ z. int_wrap w128 (z +ℤ polygon.area)) h ∙ (ap (λ z. int_wrap w128 (wrapped_sum polygons +ℤ z)) (area_is more.rings polygon.area k)
+    ∙ (int_wrap-add_left w128 (sum_of (map wrapped_area polygons)) (wrapped_area more) ∙ ap (int_wrap w128) (sym s))))
+
+area_told : (measure : Measure) (before : Option Extent) (rings : List (List Pos)) (t : Tally) → TalliesLists measure before rings t → TalliesAreas measure before (record { rings = rings } ∷ []) t
+area_told measures.Count before rings t h = tt
+area_told measures.Extent before rings t h = h ∙ ap (widened_by before) (sym (append-nil (joined rings)))
+area_told measures.Area before rings t h = area_is rings t.area h ∙ (sym (wrapped_area_again rings) ∙ ap (int_wrap w128) (omega (arith, ints)))
+
+-- ---- what is asked
+
+-- whether values of positions are asked for
+abbrev pub asks_values : Measure → Bool
+asks_values measures.Count = false
+asks_values measures.Extent = true
+asks_values measures.Area = true
+
+verb_needs : (verb : Verb) (measure : Measure) → measured_by verb ≡ Some measure → tells_shapes verb ≡ asks_values measure
+verb_needs verbs.Select measure e = absurd (cc)
+verb_needs verbs.Count measure e = ap asks_values (same_Some measures.Count measure e)
+verb_needs verbs.Area measure e = ap asks_values (same_Some measures.Area measure e)
+verb_needs verbs.Extent measure e = ap asks_values (same_Some measures.Extent measure e)
+verb_needs verbs.Hull measure e = absurd (cc)
+verb_needs verbs.Join measure e = absurd (cc)
+
+or_none : (b : Bool) → (b || false) ≡ b
+or_none true = refl
+or_none false = refl
+
+needs_with : (verb : Verb) (tests : List Test) (measure : Measure) → measure_with verb tests ≡ Some measure → (tells_shapes verb || list_any looks_at_shapes tests) ≡ asks_values measure
+needs_with verb [] measure e = ap (λ b. b || false) (verb_needs verb measure e) ∙ or_none (asks_values measure)
+needs_with verb (t ∷ ts) measure e = absurd (cc)
+
+-- shapes are kept where values are asked for
+pub needs_are : (query : Query) (measure : Measure) → measure_of query ≡ Some measure → needs_shapes query ≡ asks_values measure
+needs_are query measure e = needs_with query.verb query.tests measure e
+
+-- ---- kept lists
+
+pub first_list : (measure : Measure) (before : Option Extent) (path : List Pos) (t : Tally) → TalliesPath measure before path t → TalliesLists measure before (kept (asks_values measure) (path ∷ [])) t
+first_list measures.Count before path t h = tt
+first_list measures.Extent before path t h = list_told measures.Extent before path t h
+first_list measures.Area before path t h = list_told measures.Area before path t h
+
+pub first_area : (measure : Measure) (before : Option Extent) (rings : List (List Pos)) (t : Tally) → TalliesLists measure before rings t → TalliesAreas measure before (kept (asks_values measure) (record { rings = rings } ∷ [])) t
+first_area measures.Count before rings t h = tt
+first_area measures.Extent before rings t h = area_told measures.Extent before rings t h
+first_area measures.Area before rings t h = area_told measures.Area before rings t h
+
+-- ---- shapes
+
+abbrev pub flat : Tally → Tally
+flat t = record { extent = t.extent; area = pos 0 }
+
+pub points_told : (measure : Measure) (path : List Pos) (t : Tally) → TalliesPath measure None path t → TalliesShape measure (of_points path) (flat t)
+points_told measures.Count path t h = tt
+points_told measures.Extent path t h = h ∙ extent_of_parts path [] []
+points_told measures.Area path t h = sym no_area
+
+pub lines_told : (measure : Measure) (paths : List (List Pos)) (t : Tally) → TalliesLists measure None paths t → TalliesShape measure (of_lines paths) (flat t)
+lines_told measures.Count paths t h = tt
+lines_told measures.Extent paths t h = h ∙ extent_of_parts [] (joined paths) []
+lines_told measures.Area paths t h = sym no_area
+
+pub line_told : (measure : Measure) (path : List Pos) (t : Tally) → TalliesPath measure None path t → TalliesShape measure (of_lines (kept (asks_values measure) (path ∷ []))) (flat t)
+line_told measures.Count path t h = tt
+line_told measures.Extent path t h = lines_told measures.Extent (path ∷ []) t (list_told measures.Extent None path t h)
+line_told measures.Area path t h = sym no_area
+
+pub areas_told : (measure : Measure) (polygons : List Polygon) (t : Tally) → TalliesAreas measure None polygons t → TalliesShape measure (of_polygons polygons) t
+areas_told measures.Count polygons t h = tt
+areas_told measures.Extent polygons t h = h ∙ extent_of_parts [] [] (positions_of_polygons polygons)
+areas_told measures.Area polygons t h = h
+
+pub rings_told : (measure : Measure) (rings : List (List Pos)) (t : Tally) → TalliesLists measure None rings t → TalliesShape measure (of_polygons (kept (asks_values measure) (record { rings = rings } ∷ []))) t
+rings_told measures.Count rings t h = tt
+rings_told measures.Extent rings t h = areas_told measures.Extent (record { rings = rings } ∷ []) t (area_told measures.Extent None rings t h)
+rings_told measures.Area rings t h = area_told measures.Area None rings t h
+
+pub point_told : (measure : Measure) (p : Pos) (t : Tally) → SumsUp measure None (p ∷ []) t → TalliesShape measure (of_points (kept (asks_values measure) (p ∷ []))) t
+point_told measures.Count p t h = tt
+point_told measures.Extent p t h = h ∙ extent_of_parts (p ∷ []) [] []
+point_told measures.Area p t h = h
+
+-- ---- parts
+
+module _ (f : Feature) (measure : Measure) (part : Part) (h : IsPartOfShape measure f.shape part) where
+  same_measure : (m : Measure) → Some m ≡ Some measure → IsPartOfShape m f.shape part
+  same_measure m e = subst (λ z. IsPartOfShape z f.shape part) (sym (same_Some m measure e)) h
+
+  verb_keeps : (verb : Verb) → measured_by verb ≡ Some measure → IsKeptOf verb (f ∷ []) part
+  verb_keeps verbs.Select e = absurd (cc)
+  verb_keeps verbs.Count e = same_measure measures.Count e
+  verb_keeps verbs.Area e = same_measure measures.Area e ∙ ap (λ z. parts.Area (wrapped_sum z)) (sym (append-nil f.shape.polygons))
+  verb_keeps verbs.Extent e = same_measure measures.Extent e ∙ ap (λ z. parts.Spread (extent_of z)) (sym (append-nil (positions f.shape)))
+  verb_keeps verbs.Hull e = absurd (cc)
+  verb_keeps verbs.Join e = absurd (cc)
+
+  keeps : (verb : Verb) (tests : List Test) → measure_with verb tests ≡ Some measure → AllByRecursion (λ (t : Test). TestHolds t f) tests × IsKeptOf verb (f ∷ []) part
+  keeps verb [] e = (tt, verb_keeps verb e)
+  keeps verb (t ∷ ts) e = absurd (cc)
+
+-- the part of a feature of this shape
+pub feature_told : (query : Query) (measure : Measure) → measure_of query ≡ Some measure → (at : ℕ) (shape : Shape) (part : Part) → IsPartOfShape measure shape part → JoinsFeature query at (Ok shape) (Ok []) (Ok part)
+feature_told query measure e at shape part h =
+    let f : Feature = record { at = at; shape = shape; texts = [] } in
+    let k = keeps f measure part h query.verb query.tests e in
+    (part, refl, (f ∷ [], keeps_one (Holds query) f k.0, k.1))
+
+pub part_told : (query : Query) (measure : Measure) → measure_of query ≡ Some measure → (at : ℕ) (fault : Option Fault) (shape : Shape) (part : Part) → IsPartOfShape measure shape part → JoinsFeature query at (unless fault shape) (Ok []) (part_unless fault part)
+part_told query measure e at None shape part h = feature_told query measure e at shape part h
+part_told query measure e at (Some fault) shape part h = refl
