@@ -3,13 +3,15 @@ the layout of a common exporter, and a million squares of one unit (the text of 
 
 What the goals speak of is the processor time, user and system, of one worker and one block, against simdjson's one pass
 that counts, takes extent and area, and decodes every number. Beside it stand simdjson's program for the one verb, which
-passes over what the verb doesn't want, and the straight reader, whose limits its head tells. The default of four
-workers is compared by the clock. simdjson chooses its first stage for the processor at hand, whose lanes may be wider
-than those of x86-64-v2, for which the other programs are built.
+passes over what the verb doesn't want, and the straight reader, whose limits its head tells; for scale `jq length` and
+`ogrinfo -so -al` are run once, where they are installed. The default of four workers is compared by the clock. simdjson
+chooses its first stage for the processor at hand, whose lanes may be wider than those of x86-64-v2, for which the other
+programs are built.
 """
 import json
 import math
 import random
+import shutil
 import sys
 
 import lex
@@ -19,7 +21,7 @@ SIZE = 200_000_000
 FEATURES = 6_000
 SQUARES = 1_000_000
 COLUMNS = 360
-ROUNDS = 5
+ROUNDS = 7
 KINDS = "bridge church ferry forest lake mill museum park pier quarry station tower".split()
 HEAD = """{
 "type": "FeatureCollection",
@@ -139,7 +141,18 @@ def ask_verbs(name, atgis, simdjson, straight, data):
         answers += answer
     if simdjson:
         measure.same(f"{name}, {ONE_PASS}", answers, measure.run([simdjson, "all", data]).printed)
+    tell_scale(name, atgis, data)
     return good
+
+
+def tell_scale(name, atgis, data):
+    """Tells what usual tools take that answer less: how many members the text's object has, and how many features there are."""
+    for tool, *words in (("jq", "length"), ("ogrinfo", "-so", "-al")):
+        if shutil.which(tool) is None:
+            print(f"{tool} isn't installed, so nothing is compared with it", flush=True)
+            continue
+        ours, theirs = measure.alternate(([atgis, "--workers", "1", "count", data], [tool, *words, data]), 1)
+        measure.tell(f"count of {name}, one worker, processor time against {' '.join((tool, *words))}", measure.cpus(ours), measure.cpus(theirs))
 
 
 def main():
