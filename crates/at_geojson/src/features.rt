@@ -20,9 +20,9 @@ use crate::members::{FieldName, OtherNames, add_other, field_name};
 use crate::object_atoms::new_roles;
 use crate::objects::{feature_shape, of_feature};
 use crate::pairs::Whole;
-use crate::places::{expect_comma, skip_spaces, stands};
+use crate::places::{OTHER_KIND, expect_comma, seems_cut, skip_spaces, stands};
 use crate::plain_geometries::{KindRead, ShapeRead, read_geometry, read_kind, shape_part};
-use crate::plain_objects::{pass_object, pass_other};
+use crate::plain_objects::{pass_early, pass_object, pass_other};
 use crate::shapes::empty_shape;
 use crate::twins::is_twin;
 use crate::values::{DEEPEST, read_item};
@@ -96,7 +96,11 @@ fn geometry_item(
             part,
         }),
         Err(Halt::Memory) => Err(Halt::Memory),
-        Err(Halt::At(_)) => other_geometry(algebra, alloc, text, base, at, feature),
+        Err(Halt::At(place)) => if seems_cut(text, first, place) {
+            Err(Halt::At(place))
+        } else {
+            other_geometry(algebra, alloc, text, base, at, feature)
+        },
     }
 }
 
@@ -128,7 +132,7 @@ fn other_properties(
         return Err(Halt::At(end));
     }
     if !has_no_texts(&atom) {
-        return Err(Halt::At(end));
+        return Err(Halt::At(OTHER_KIND));
     }
     Ok(end)
 }
@@ -152,8 +156,8 @@ fn pass_properties(
     }
     match pass_object(algebra, alloc, text, base, first) {
         Ok(end) => Ok(skip_spaces(text, end)),
-        Err(Halt::Memory) => Err(Halt::Memory),
-        Err(Halt::At(_)) => other_properties(algebra, alloc, text, base, at),
+        Err(Halt::At(OTHER_KIND)) => other_properties(algebra, alloc, text, base, at),
+        Err(halt) => Err(halt),
     }
 }
 
@@ -188,6 +192,15 @@ fn is_feature(kind: Kind) -> bool
     }
 }
 
+/// Where an object that names another kind is given up, behind its name. A collection of features isn't read as a value
+/// either: it is large, and its features are read one behind another.
+fn given_up(kind: Kind, end: usize) -> usize {
+    match kind {
+        Kind::FeatureCollection => end,
+        _ => OTHER_KIND,
+    }
+}
+
 /// The value of the member `type`, with white space round it: it names a feature.
 #[inline(always)]
 fn kind_member(
@@ -208,7 +221,7 @@ fn kind_member(
         return Err(Halt::At(end));
     }
     if !is_feature(kind) {
-        return Err(Halt::At(end));
+        return Err(Halt::At(given_up(kind, end)));
     }
     members.is_feature = true;
     Ok(end)
@@ -262,8 +275,9 @@ fn properties_member(
     Ok(end)
 }
 
-/// A member of the feature at the offset, behind its name. Of those of one name the first alone is read. Before the first of a feature's own
-/// members few others are passed over, and no arrays and objects in them: an object that is none is soon given up.
+/// A member of the feature at the offset, behind its name. Of those of one name the first alone is read. Before the
+/// first of a feature's own members few others are passed over, and no arrays and objects: an object that is no feature
+/// is soon given up.
 #[inline(always)]
 fn read_member(
     algebra: &GeoAlgebra,
@@ -291,13 +305,16 @@ fn read_member(
         Field::Other => {
             let begun = members.has_begun();
             if !begun && others.count >= EARLY {
-                return Err(Halt::At(at));
+                return Err(Halt::At(OTHER_KIND));
             }
             add_other(text, others, name.place)?;
-            let depth = if begun { DEEPEST } else { 0 };
-            pass_other(algebra, alloc, text, base, at, depth)
+            if begun {
+                pass_other(algebra, alloc, text, base, at, DEEPEST)
+            } else {
+                pass_early(algebra, text, base, at)
+            }
         }
-        _ => Err(Halt::At(at)),
+        _ => Err(Halt::At(OTHER_KIND)),
     }
 }
 
@@ -324,7 +341,7 @@ fn ended_feature(
     ensures { IfOk result (EndsFeature algebra.now at end members) }
 {
     if !members.is_feature {
-        return Err(Halt::At(end));
+        return Err(Halt::At(OTHER_KIND));
     }
     match members.geometry {
         Some(part) => Ok(FeatureRead { end, part }),

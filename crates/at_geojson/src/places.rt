@@ -17,6 +17,16 @@ pub struct NamePlace {
     pub colon: usize,
 }
 
+/// Where a reader gives up what is of another kind than it reads, so that a reader of that kind may be asked. One that
+/// gives up at any other place found what no reader of whole values reads.
+pub const OTHER_KIND: usize = 0;
+
+/// A reader that came so far was not made for another kind.
+const FAR: usize = 1 << 10;
+
+/// So many bytes before its end a text may end within the number or the position at a place.
+const CUT: usize = 1 << 6;
+
 /// Whether the byte stands at the place.
 #[inline(always)]
 pub fn stands(text: &[u8], at: usize, b: u8) -> bool
@@ -24,6 +34,12 @@ pub fn stands(text: &[u8], at: usize, b: u8) -> bool
     ensures byte { result ≡ true → slice_index text.now at ≡ b }
 {
     at < text.len() && text[at] == b
+}
+
+/// Whether a value from one place on, which a reader gave up at another, seems to be cut by the text's end: much of it
+/// was read, and hardly anything stands behind. Another reader would come no further.
+pub fn seems_cut(text: &[u8], from: usize, place: usize) -> bool {
+    from.saturating_add(FAR) < place && text.len() < place.saturating_add(CUT)
 }
 
 /// Stops where no comma stands at the place.

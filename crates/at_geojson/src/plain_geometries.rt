@@ -16,7 +16,7 @@ use crate::measured_geometries::{PartRead, measure_coordinates};
 use crate::members::field_name;
 use crate::objects::of_feature;
 use crate::pairs::{PairRead, Whole, read_pair, read_points};
-use crate::places::{expect_comma, skip_spaces, stands};
+use crate::places::{OTHER_KIND, expect_comma, skip_spaces, stands};
 use crate::readings::{line_of, lines_of, point_of, points_of, polygon_of, polygons_of};
 use crate::rings::{read_areas, read_lists};
 use crate::values::read_simple;
@@ -46,11 +46,11 @@ fn any_kind(algebra: &GeoAlgebra, text: &[u8], base: u32, at: usize) -> Result<K
     ensures { IfOk result (IsKindRead algebra.now base text.now at) }
 {
     let Some(Whole { end, atom }) = read_simple(algebra, text, base, at) else {
-        return Err(Halt::At(at));
+        return Err(Halt::At(OTHER_KIND));
     };
     match kind_named(&atom) {
         Some(kind) => Ok(KindRead { end, kind }),
-        None => Err(Halt::At(end)),
+        None => Err(Halt::At(OTHER_KIND)),
     }
 }
 

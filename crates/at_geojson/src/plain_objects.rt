@@ -12,7 +12,7 @@ use crate::fields::{Field, kind_named};
 use crate::members::{FieldName, OtherNames, add_other, field_name};
 use crate::pairs::Whole;
 use crate::passing::pass_item;
-use crate::places::{expect_comma, skip_spaces, stands};
+use crate::places::{OTHER_KIND, expect_comma, skip_spaces, stands};
 use crate::twins::is_twin;
 use crate::values::{DEEPEST, read_item, read_simple};
 use at_text::Halt;
@@ -43,6 +43,19 @@ pub fn pass_other(
     Ok(end)
 }
 
+/// White space, a string, literal or number, and white space, before it is known what the object is.
+pub fn pass_early(algebra: &GeoAlgebra, text: &[u8], base: u32, at: usize) -> Result<usize, Halt>
+    requires inside { at ≤ length text.now }
+    requires fits { base + length text.now ≤ 2 ^ 28 }
+    requires unasked { list_any looks_at_texts algebra.now.query.tests ≡ false }
+    ensures { IfOk result (PassesOther algebra.now base text.now at) }
+{
+    match pass_item(algebra, text, at) {
+        Some(end) => Ok(end),
+        None => Err(Halt::At(OTHER_KIND)),
+    }
+}
+
 /// White space, a short text that names no kind, and white space.
 fn pass_no_kind(algebra: &GeoAlgebra, text: &[u8], base: u32, at: usize) -> Result<usize, Halt>
     requires inside { at ≤ length text.now }
@@ -51,10 +64,10 @@ fn pass_no_kind(algebra: &GeoAlgebra, text: &[u8], base: u32, at: usize) -> Resu
     ensures { IfOk result (NamesNoKind algebra.now base text.now at) }
 {
     let Some(Whole { end, atom }) = read_simple(algebra, text, base, at) else {
-        return Err(Halt::At(at));
+        return Err(Halt::At(OTHER_KIND));
     };
     match kind_named(&atom) {
-        Some(_) => Err(Halt::At(end)),
+        Some(_) => Err(Halt::At(OTHER_KIND)),
         None => Ok(end),
     }
 }
@@ -107,7 +120,7 @@ fn pass_member(
             pass_other(algebra, alloc, text, base, at, DEEPEST)
         }
         Field::Kind => pass_kind(algebra, text, base, at, named),
-        _ => Err(Halt::At(at)),
+        _ => Err(Halt::At(OTHER_KIND)),
     }
 }
 

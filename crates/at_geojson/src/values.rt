@@ -17,7 +17,7 @@ use crate::members::{OtherNames, new_name};
 use crate::object_atoms::{fields_atom, object_atom};
 use crate::pairs::{PairRead, Whole, read_pair};
 use crate::passing::pass_item;
-use crate::places::{expect_comma, name_place, skip_spaces, stands, text_end};
+use crate::places::{expect_comma, name_place, seems_cut, skip_spaces, stands, text_end};
 use crate::rings::read_coordinates;
 use crate::scalars::{plain_text_atom, scalar_atom, simple_atom};
 use crate::short_texts::short_text_end;
@@ -277,7 +277,11 @@ pub fn read_list(
     match read_coordinates(algebra, alloc, text, base, at) {
         Ok(whole) => Ok(whole),
         Err(Halt::Memory) => Err(Halt::Memory),
-        Err(Halt::At(_)) => read_array(algebra, alloc, text, base, at, depth),
+        Err(Halt::At(place)) => if seems_cut(text, at, place) {
+            Err(Halt::At(place))
+        } else {
+            read_array(algebra, alloc, text, base, at, depth)
+        },
     }
 }
 

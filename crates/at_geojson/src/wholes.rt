@@ -13,7 +13,7 @@ use crate::atoms::GeoAtom;
 use crate::feature_runs::{FeaturesRead, read_features};
 use crate::features::feature_value;
 use crate::pairs::Whole;
-use crate::places::stands;
+use crate::places::{OTHER_KIND, skip_spaces, stands};
 use crate::values::{DEEPEST, read_list, read_object};
 use at_text::Halt;
 use std::alloc::Global;
@@ -36,10 +36,24 @@ fn object_value(
         return read_object(algebra, alloc, text, base, at, DEEPEST);
     }
     match feature_value(algebra, alloc, text, base, at) {
-        Ok(whole) => Ok(whole),
-        Err(Halt::Memory) => Err(Halt::Memory),
-        Err(Halt::At(_)) => read_object(algebra, alloc, text, base, at, DEEPEST),
+        Err(Halt::At(OTHER_KIND)) => read_object(algebra, alloc, text, base, at, DEEPEST),
+        read => read,
     }
+}
+
+/// An array from its opening bracket on, which begins the text. One of objects is given up: they are read one behind
+/// another as its items, as far as the text goes.
+fn list_value(algebra: &GeoAlgebra, alloc: Global, text: &[u8], base: u32) -> Result<Whole, Halt>
+    requires inside { 0 < length text.now }
+    requires opens { slice_index text.now 0 ≡ 0x5B }
+    requires fits { base + length text.now ≤ 2 ^ 28 }
+    ensures { IfOk result (IsWhole algebra.now base text.now 0) }
+{
+    let first = skip_spaces(text, 1);
+    if stands(text, first, b'{') {
+        return Err(Halt::At(first));
+    }
+    read_list(algebra, alloc, text, base, 0, DEEPEST)
 }
 
 /// The array or object that begins the text, whose first byte stands at the offset.
@@ -53,7 +67,7 @@ pub fn whole_value(
     ensures { IfOk result (IsWhole algebra.now base text.now 0) }
 {
     if stands(text, 0, b'[') {
-        return read_list(algebra, alloc, text, base, 0, DEEPEST);
+        return list_value(algebra, alloc, text, base);
     }
     if stands(text, 0, b'{') {
         return object_value(algebra, alloc, text, base, 0);
@@ -85,11 +99,11 @@ fn object_items(algebra: &GeoAlgebra, alloc: Global, text: &[u8], base: u32) -> 
             end,
             atom: GeoAtom::Run(run),
         }),
-        Err(Halt::Memory) => Err(Halt::Memory),
-        Err(Halt::At(_)) => {
+        Err(Halt::At(OTHER_KIND)) => {
             let whole = read_object(algebra, alloc, text, base, 0, DEEPEST)?;
             Ok(whole)
         }
+        Err(halt) => Err(halt),
     }
 }
 

@@ -18,33 +18,42 @@ use std::alloc::Global;
 /// An attempt to read a value at once sees so many bytes at least, where the piece has them.
 const WINDOW: u32 = 1 << 16;
 
+/// So many bytes at most may be looked at in vain before any are passed.
+const AHEAD: u32 = 4 * WINDOW;
+
 /// An attempt in vain counts as so many bytes at least, since it costs more than the few at which it may have looked.
-const LEAST: u32 = 1 << 8;
+const LEAST: u32 = 1 << 6;
 
 /// How many bytes of a piece were looked at in vain, by attempts to read a value at once.
 #[derive(Drop)]
 pub struct Tries {
     base: u32,
+    spare: u32,
     vain: u32,
 }
 
 impl Tries {
-    /// Of a piece whose first byte has the offset, before the first attempt.
-    pub fn new(base: u32) -> Self {
-        Tries { base, vain: 0 }
+    /// Of a piece of so many bytes whose first one has the offset, before the first attempt.
+    pub fn new(base: u32, len: usize) -> Self {
+        Tries {
+            base,
+            spare: (AHEAD as usize).min(len / 8) as u32,
+            vain: 0,
+        }
     }
 
-    /// How many of the bytes ahead of the offset an attempt may see: none while more were looked at in vain than twice
-    /// what was passed and four windows, else a window and a quarter of what was passed.
+    /// How many of the bytes ahead of the offset an attempt may see: none while more were looked at in vain than a
+    /// quarter of what was passed and a few windows or an eighth of the piece, else a window and a quarter of what was
+    /// passed.
     #[inline(always)]
     fn window(&self, at: u32, ahead: usize) -> usize
         ensures { result ≤ ahead }
     {
-        let passed = at.wrapping_sub(self.base);
-        if self.vain > passed.wrapping_mul(2).wrapping_add(4 * WINDOW) {
+        let quarter = at.wrapping_sub(self.base) / 4;
+        if self.vain > quarter.wrapping_add(self.spare) {
             return 0;
         }
-        ahead.min((passed / 4).wrapping_add(WINDOW) as usize)
+        ahead.min(quarter.wrapping_add(WINDOW) as usize)
     }
 
     /// One more attempt was in vain.

@@ -89,7 +89,7 @@ fn read_items<A: Algebra>(
         lexer.entry.at lexer.entry.rest lead) }
 {
     let mut body = Body::new(alloc);
-    let mut tries = Tries::new(base);
+    let mut tries = Tries::new(base, piece.len());
     loop {
         match lexer.next_item() {
             Item::Whole(token) => {
