@@ -24,10 +24,11 @@ const AHEAD: u32 = 4 * WINDOW;
 /// An attempt in vain counts as so many bytes at least, since it costs more than the few at which it may have looked.
 const LEAST: u32 = 1 << 6;
 
-/// How many bytes of a piece were looked at in vain, by attempts to read a value at once.
+/// How many bytes of a piece were looked at in vain, by attempts to read a value at once, and how many may be.
 #[derive(Drop)]
 pub struct Tries {
     base: u32,
+    /// So many may be looked at in vain besides a quarter of what was passed.
     spare: u32,
     vain: u32,
 }
@@ -42,9 +43,8 @@ impl Tries {
         }
     }
 
-    /// How many of the bytes ahead of the offset an attempt may see: none while more were looked at in vain than a
-    /// quarter of what was passed and a few windows or an eighth of the piece, else a window and a quarter of what was
-    /// passed.
+    /// How many of the bytes ahead of the offset an attempt may see: none while too many were looked at in vain, else a
+    /// window and a quarter of what was passed.
     #[inline(always)]
     fn window(&self, at: u32, ahead: usize) -> usize
         ensures { result ≤ ahead }
@@ -60,6 +60,12 @@ impl Tries {
     #[inline(always)]
     fn failed(&mut self, looked: u32) {
         self.vain = self.vain.saturating_add(looked.max(LEAST));
+    }
+
+    /// So many bytes were read at once, which saves what as many would cost in vain.
+    #[inline(always)]
+    fn succeeded(&mut self, len: u32) {
+        self.spare = self.spare.saturating_add(len);
     }
 }
 
@@ -115,6 +121,7 @@ fn read_one<A: Algebra>(
 {
     match algebra.value(alloc, &ahead[..seen], at)? {
         Attempt::Whole { len, atom } => {
+            tries.succeeded(len);
             let halt = read_value(body, alloc, algebra, at, atom)?;
             Ok(Read { to: at + len, halt })
         }
@@ -149,6 +156,7 @@ fn read_several<A: Algebra>(
 {
     match algebra.items(alloc, &ahead[..seen], at)? {
         Attempt::Whole { len, atom } => {
+            tries.succeeded(len);
             let to = at + len;
             let halt = put_items(body, alloc, algebra, at, atom)?;
             Ok(Read { to, halt })
