@@ -28,7 +28,7 @@ const LEAST: u32 = 1 << 6;
 #[derive(Drop)]
 pub struct Tries {
     base: u32,
-    /// So many may be looked at in vain besides a quarter of what was passed.
+    /// So many may be looked at in vain besides an eighth of what was passed.
     spare: u32,
     vain: u32,
 }
@@ -38,7 +38,7 @@ impl Tries {
     pub fn new(base: u32, len: usize) -> Self {
         Tries {
             base,
-            spare: (AHEAD as usize).min(len / 8) as u32,
+            spare: (AHEAD as usize).min(len / 16) as u32,
             vain: 0,
         }
     }
@@ -49,11 +49,11 @@ impl Tries {
     fn window(&self, at: u32, ahead: usize) -> usize
         ensures { result ≤ ahead }
     {
-        let quarter = at.wrapping_sub(self.base) / 4;
-        if self.vain > quarter.wrapping_add(self.spare) {
+        let passed = at.wrapping_sub(self.base);
+        if self.vain > (passed / 8).wrapping_add(self.spare) {
             return 0;
         }
-        ahead.min(quarter.wrapping_add(WINDOW) as usize)
+        ahead.min((passed / 4).wrapping_add(WINDOW) as usize)
     }
 
     /// One more attempt was in vain.
