@@ -7,7 +7,7 @@ ghost use Rattle.at_seq.specs.Records.{is_separator};
 ghost use Rattle.at_seq.specs.Fragments.{AreBeside, IsOfBoth, HoldsInner, HoldsText, HoldsParted, HoldsSpan};
 ghost use Rattle.at_seq.specs.Fragments.{HoldsFragment};
 
-use crate::records::{add_fragment, add_record};
+use crate::records::{Trials, add_fragment, add_record};
 use crate::searches::separator_place;
 use at_geojson::GeoAlgebra;
 use at_nest::{Fragment, merge, run_block};
@@ -76,6 +76,7 @@ fn read_records(
     ensures { IfOk result (HoldsInner algebra.now bytes.now span.from span.to) }
 {
     let mut kept = Gathered::Kept(Accumulator::none(alloc, algebra.query()));
+    let mut trials = Trials::new();
     let mut start = span.from;
     'records: loop {
         let ahead = &bytes[start as usize..span.to as usize];
@@ -87,7 +88,7 @@ fn read_records(
             from: start,
             to: end,
         };
-        add_record(alloc, algebra, &mut kept, bytes, record)?;
+        add_record(alloc, algebra, &mut kept, bytes, record, &mut trials)?;
         start = end + 1;
     }
 }

@@ -67,6 +67,36 @@ fn kept_of(
     }
 }
 
+/// So many records behind one that isn't read at once aren't tried.
+const UNTRIED: u8 = 15;
+
+/// Which records are tried to be read at once: where one isn't, few of those behind it are.
+#[derive(Drop)]
+pub struct Trials {
+    untried: u8,
+}
+
+impl Trials {
+    /// The next record is tried.
+    pub fn new() -> Trials {
+        Trials { untried: 0 }
+    }
+
+    /// Whether the next record is tried.
+    fn is_next(&mut self) -> bool {
+        if self.untried == 0 {
+            return true;
+        }
+        self.untried -= 1;
+        false
+    }
+
+    /// A record that was tried isn't read at once.
+    fn failed(&mut self) {
+        self.untried = UNTRIED;
+    }
+}
+
 /// The atom of a record that is read at once: so many bytes of white space, a whole value, and white space behind it.
 /// No clause says where it is: what is left out is read as any span of JSON.
 fn atom_at_once(
@@ -104,6 +134,7 @@ fn span_answer(
     bytes: &[u8],
     span: Span,
     spaces: usize,
+    trials: &mut Trials,
 ) -> Result<GeoAtom, NestEnd>
     requires fits { length bytes.now ≤ 2 ^ 28 }
     requires order { span.from ≤ span.to }
@@ -114,8 +145,11 @@ fn span_answer(
         (span_of bytes.now span.from span.to) result }
 {
     let text = &bytes[span.from as usize..span.to as usize];
-    if let Some(atom) = atom_at_once(alloc, algebra, text, span.from, spaces)? {
-        return Ok(atom);
+    if trials.is_next() {
+        if let Some(atom) = atom_at_once(alloc, algebra, text, span.from, spaces)? {
+            return Ok(atom);
+        }
+        trials.failed();
     }
     let whole = run_block(alloc, algebra, text, span.from);
     finish_span(alloc, algebra, bytes, span, whole)
@@ -128,6 +162,7 @@ pub fn add_record(
     gathered: &mut Gathered,
     bytes: &[u8],
     span: Span,
+    trials: &mut Trials,
 ) -> Result<(), Memory>
     requires fits { length bytes.now ≤ 2 ^ 28 }
     requires order { span.from ≤ span.to }
@@ -141,7 +176,7 @@ pub fn add_record(
     if spaces == text.len() {
         return Ok(());
     }
-    let answer = span_answer(alloc, algebra, bytes, span, spaces);
+    let answer = span_answer(alloc, algebra, bytes, span, spaces, trials);
     let record = kept_of(alloc, algebra, span.to, answer)?;
     join_into(gathered, record)
 }
