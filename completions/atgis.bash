@@ -59,7 +59,7 @@ _atgis_query() {
 }
 
 _atgis() {
-    local words word quote options='--form --coords --digits --blocks --workers' count=0 at option='' head='' is_end=
+    local words word quote options='--form --coords --digits --blocks --workers --feed' count=0 at option='' head='' is_end=
     local -a found=()
     _atgis_split
     for ((at = 1; at < ${#words[@]}; at++)); do
@@ -82,6 +82,7 @@ _atgis() {
     --digits) found=(7 9) ;;
     --blocks) found=(1 16 64 256 1024 4096) ;;
     --workers) found=(1 2 4 8 16 32 64) ;;
+    --feed) found=(1 4096 65536 1048576) ;;
     *)
         if [[ ! $is_end && $word == -* ]]; then
             mapfile -t found < <(compgen -W "$options --")

@@ -10,7 +10,7 @@ function __atgis_count
             set is_value 0
         else if test $is_end = 0; and test "$word" = --
             set is_end 1
-        else if test $is_end = 0; and contains -- $word --form --coords --digits --blocks --workers
+        else if test $is_end = 0; and contains -- $word --form --coords --digits --blocks --workers --feed
             set is_value 1
         else if test $is_end = 1; or not string match -q -- '-*' $word
             set count (math $count + 1)
@@ -60,6 +60,7 @@ complete -c atgis -x -l coords -a 'exact round' -d 'refuse or round coordinates 
 complete -c atgis -x -l digits -a '7 9' -d 'how many decimals a coordinate has'
 complete -c atgis -x -l blocks -a '1 16 64 256 1024 4096' -d 'how many pieces a file is cut into, 1 to 4096'
 complete -c atgis -x -l workers -a '1 2 4 8 16 32 64' -d 'how many workers read at once, 1 to 64'
+complete -c atgis -x -l feed -a '1 4096 65536 1048576' -d 'take a file in chunks of so many bytes, 1 to 1048576'
 complete -c atgis -n 'test (__atgis_count) = 0' -f -a '(__atgis_query)'
 complete -c atgis -n 'contains (__atgis_count) 1 2' -a '@in @w: @g:'
 complete -c atgis -n 'test (__atgis_count) -gt 2' -f

@@ -19,6 +19,7 @@ which must hold; None and an empty text are no test. These options stand behind 
     digits    7 or 9 decimals
     blocks    1 to 4096
     workers   1 to 64
+    feed      1 to 1048576: files are taken in chunks of so many bytes; not with the form "seq"
     input     bytes, or an open binary file, that the program reads under the name `@in`; without it that file is empty
     program   the path of the program; without it the one that the environment variable ATGIS names, or else `atgis` on
               PATH
@@ -43,7 +44,7 @@ __all__ = [
 ]
 
 LIMIT = 268_435_456
-NAMES_OF_OPTIONS = ("form", "coords", "digits", "blocks", "workers")
+NAMES_OF_OPTIONS = ("form", "coords", "digits", "blocks", "workers", "feed")
 
 Name = Union[str, bytes, "os.PathLike[str]", "os.PathLike[bytes]"]
 Number = Union[int, float, Decimal, str]

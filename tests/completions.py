@@ -17,6 +17,7 @@ FILES = ("lakes.wkt", "towns.geojson", "two words.wkt")
 # What a line becomes by a TAB at its end, in bash and in zsh.
 LINES = [
     ("atgis --fo", "atgis --form"),
+    ("atgis --fe", "atgis --feed"),
     ("atgis --form=w", "atgis --form=wkt"),
     ("atgis --form g", "atgis --form geojson"),
     ("atgis --form=s", "atgis --form=seq"),
@@ -25,6 +26,7 @@ LINES = [
     ("atgis --digits=9 --co", "atgis --digits=9 --coords"),
     ("atgis --workers 3", "atgis --workers 32"),
     ("atgis --blocks=4", "atgis --blocks=4096"),
+    ("atgis --feed 4", "atgis --feed 4096"),
     ("atgis se", "atgis select"),
     ("atgis --digits 9 ext", "atgis --digits 9 extent"),
     ("atgis 'select wh", "atgis 'select where "),
@@ -46,13 +48,14 @@ LINES = [
 
 # What fish lists for a line.
 LISTS = [
-    ("atgis --f", ["--form"]),
+    ("atgis --f", ["--feed", "--form"]),
     ("atgis --form ", ["geojson", "seq", "wkt"]),
     ("atgis --form=w", ["--form=wkt"]),
     ("atgis --coords ", ["exact", "round"]),
     ("atgis --digits ", ["7", "9"]),
     ("atgis --workers 3", ["32"]),
     ("atgis --blocks 4", ["4096"]),
+    ("atgis --feed 4", ["4096"]),
     ("atgis ", ["area", "count", "extent", "hull", "join", "select"]),
     ("atgis --digits 9 e", ["extent"]),
     ("atgis 'select wh", ["select where has \"", "select where in box(", "select where meets "]),

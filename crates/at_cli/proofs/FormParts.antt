@@ -1,7 +1,8 @@
 -- The part of a file of any form, the answer that it gives, and the join of two.
 -- For `top`.
-use Rattle.std.proofs.Common.{◌≡◌, ℕ, ◌^◌, ◌≤◌, List, [], length, Some, Result, Ok, Err, IfOk, MatchResult, sym, subst}
+use Rattle.std.proofs.Common.{◌≡◌, ℕ, ◌^◌, ◌≤◌, List, [], length, Option, Some, None, Result, Ok, Err, IfOk, MatchResult, sym, subst}
 use Rattle.std.proofs.lemmas.Option.{none-some, same_Some}
+use Rattle.at_text.specs.declared.faults.Fault.{Fault}
 use Rattle.at_fixed.specs.declared.rounding.Coords.{Coords}
 use Rattle.at_query.specs.declared.query.queries.Verb.TheVariants.{Join}
 use Rattle.at_query.specs.declared.query.queries.Query.{Query}
@@ -17,20 +18,51 @@ use Rattle.at_query.specs.Results.{IsResult}
 use Rattle.at_query.specs.Parts.{IsPart, AreFew}
 use Rattle.at_join.specs.Meetings.{IsAllPairs}
 use Rattle.at_run.specs.declared.faults.RunFault.{RunFault}
+use Rattle.at_run.specs.declared.faults.RunFault.TheVariants.{Found, Memory}
+use Rattle.at_run.specs.declared.faults.JoinFault.{JoinFault}
+use Rattle.at_run.specs.declared.faults.JoinFault.TheVariants as joins
 use Rattle.at_run.specs.declared.forms.Form.{Form}
 use Rattle.at_run.specs.declared.forms.Form.TheVariants as forms
-use Rattle.at_run.specs.Files.{HasFileFaultIn}
-use Rattle.at_run.specs.Answers.{IfFound, IsFilePart}
+use Rattle.at_run.specs.Files.{HasFileFaultIn, AreFileFeaturesIn}
+use Rattle.at_run.specs.Answers.{IfFound, IsFilePart, IsFileAnswer, IsJoinAnswer, IsJoinFault}
 use Rattle.at_run.proofs.Results.{features_few, features_in_range}
 use Rattle.at_run.proofs.JoinedFiles.{all_pairs_joined, file_entries_proper}
 use Rattle.at_seq.specs.Answers.{HasProperEntries}
 use Rattle.at_cli.specs.declared.words.form.FileForm.{FileForm}
 use Rattle.at_cli.specs.declared.words.form.FileForm.TheVariants.{GeoJson, Wkt, Seq}
 use Rattle.at_cli.specs.Forms.{plain_form}
-use Rattle.at_cli.specs.Answers.{HasFaultAs, AreFeaturesAs, IsPartAs, IsAnswerAs, IsJoinAs}
+use Rattle.at_cli.specs.Answers.{HasFaultAs, AreFeaturesAs, IsPartAs, IsAnswerAs, IsJoinAs, IsJoinFaultAs}
 use Rattle.at_cli.proofs.Sequences.{seq_features_few, seq_features_in_range}
 
 module _ (digits : ℕ) (how : Coords) where
+  -- the first fault and the features of a file that is no sequence
+  plain_fault : (form : FileForm) (plain : Form) (bytes : List ℕ) (first : Option Fault) → plain_form form ≡ Some plain → HasFileFaultIn plain digits how bytes first → HasFaultAs form digits how bytes first
+  plain_fault GeoJson plain bytes first e h = subst (λ f. HasFileFaultIn f digits how bytes first) (sym (same_Some forms.GeoJson plain e)) h
+  plain_fault Wkt plain bytes first e h = subst (λ f. HasFileFaultIn f digits how bytes first) (sym (same_Some forms.Wkt plain e)) h
+  plain_fault Seq plain bytes first e h = absurd (none-some plain e)
+
+  plain_features : (form : FileForm) (plain : Form) (bytes : List ℕ) (features : List Feature) → plain_form form ≡ Some plain → AreFileFeaturesIn plain digits how bytes features → AreFeaturesAs form digits how bytes features
+  plain_features GeoJson plain bytes features e h = subst (λ f. AreFileFeaturesIn f digits how bytes features) (sym (same_Some forms.GeoJson plain e)) h
+  plain_features Wkt plain bytes features e h = subst (λ f. AreFileFeaturesIn f digits how bytes features) (sym (same_Some forms.Wkt plain e)) h
+  plain_features Seq plain bytes features e h = absurd (none-some plain e)
+
+  -- what is told of the join of two files that are no sequences
+  pub plain_join : (form_a form_b : FileForm) (plain_a plain_b : Form) (query : Query) (a b : List ℕ) (result : Result Answer JoinFault) → plain_form form_a ≡ Some plain_a → plain_form form_b ≡ Some plain_b
+      → MatchResult result (IsJoinAnswer plain_a plain_b digits how query a b) (IsJoinFault plain_a plain_b digits how a b)
+      → MatchResult result (IsJoinAs form_a form_b digits how query a b) (IsJoinFaultAs form_a form_b digits how a b)
+  plain_join form_a form_b plain_a plain_b query a b (Ok answer) e f h = record {
+    first_faultless = plain_fault form_a plain_a a None e h.first_faultless;
+    second_faultless = plain_fault form_b plain_b b None f h.second_faultless;
+    first = h.first;
+    are_first = plain_features form_a plain_a a h.first e h.are_first;
+    second = h.second;
+    are_second = plain_features form_b plain_b b h.second f h.are_second;
+    is_joined = h.is_joined;
+  }
+  plain_join form_a form_b plain_a plain_b query a b (Err (joins.First fault)) e f h = plain_fault form_a plain_a a (Some fault) e h
+  plain_join form_a form_b plain_a plain_b query a b (Err (joins.Second fault)) e f h = (plain_fault form_a plain_a a None e h.0, plain_fault form_b plain_b b (Some fault) f h.1)
+  plain_join form_a form_b plain_a plain_b query a b (Err joins.Memory) e f h = tt
+
   module _ (query : Query) (bytes : List ℕ) where
     -- what at_run tells of a file that is no sequence
     pub plain_part : (form : FileForm) (plain : Form) (result : Result Part RunFault) → plain_form form ≡ Some plain
@@ -41,6 +73,19 @@ module _ (digits : ℕ) (how : Coords) where
     plain_part Wkt plain (Ok part) e h = let k = subst (λ f. IsFilePart f digits how query bytes part) (sym (same_Some forms.Wkt plain e)) h in record { faultless = k.faultless; features = k.features; are_features = k.are_features; is_part = k.is_part }
     plain_part Wkt plain (Err end) e h = subst (λ f. IfFound end (λ fault. HasFileFaultIn f digits how bytes (Some fault))) (sym (same_Some forms.Wkt plain e)) h
     plain_part Seq plain result e h = absurd (none-some plain e)
+
+    -- what is told of the answer over a file that is no sequence
+    pub plain_answer : (form : FileForm) (plain : Form) (result : Result Answer RunFault) → plain_form form ≡ Some plain
+        → MatchResult result (IsFileAnswer plain digits how query bytes) (λ end. IfFound end (λ fault. HasFileFaultIn plain digits how bytes (Some fault)))
+        → MatchResult result (IsAnswerAs form digits how query bytes) (λ end. IfFound end (λ fault. HasFaultAs form digits how bytes (Some fault)))
+    plain_answer form plain (Ok answer) e h = record {
+      faultless = plain_fault form plain bytes None e h.faultless;
+      features = h.features;
+      are_features = plain_features form plain bytes h.features e h.are_features;
+      is_result = h.is_result;
+    }
+    plain_answer form plain (Err (Found fault)) e h = plain_fault form plain bytes (Some fault) e h
+    plain_answer form plain (Err Memory) e h = tt
 
     -- the part of a join can be joined
     entries_proper : (form : Form) (part : Part) → query.verb ≡ Join → IsFilePart form digits how query bytes part → HasProperEntries part

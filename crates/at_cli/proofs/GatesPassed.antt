@@ -1,6 +1,7 @@
 -- Where files have an answer, the gate gave up none of their blocks, and no cell.
 -- For `top`.
-use Rattle.std.proofs.Common.{◌≡◌, ℕ, ◌-◌, List, length, Option, Some, None, Result, Ok, Err, IfOk, sym, subst, arith}
+use Rattle.std.proofs.Common.{◌≡◌, ℕ, ◌-◌, List, length, Option, Some, None, Result, Ok, Err, IfOk, sym, ◌∙◌, subst, arith}
+use Rattle.std.proofs.lemmas.Option.{none-some}
 use Rattle.at_query.specs.declared.answer.answers.Answer.{Answer}
 use Rattle.at_run.specs.declared.faults.RunFault.{RunFault}
 use Rattle.at_run.specs.declared.faults.RunFault.TheVariants.{Memory}
@@ -13,7 +14,7 @@ use Rattle.at_cli.specs.Gates.{PassesCells, PassesGate}
 pub gate_passed : (line : Line) (given_up places : List ℕ) (base len : ℕ) (result : Result Answer RunFault) → AreEven base len line.blocks places
     → (SomeGivenUp given_up 0 (length places - 1) → result ≡ Err Memory) → line.second ≡ None → IfOk result (λ _. PassesGate given_up line)
 gate_passed line given_up places base len (Ok answer) even f none =
-    (even.count, even.least, (λ n low high h. absurd (let c = even.counted in let e = f (n, low, omega (arith, c, high), h) in cc)), subst (PassesCells given_up) (sym none) tt)
+    ((λ _. (even.count, even.least, λ n low high h. absurd (let c = even.counted in let e = f (n, low, omega (arith, c, high), h) in cc))), subst (PassesCells given_up) (sym none) tt)
 gate_passed line given_up places base len (Err end) even f none = tt
 
 no_cell : (given_up : List ℕ) (second : Option (List ℕ)) → NoneGivenUp given_up 0 64 → PassesCells given_up second
@@ -23,5 +24,17 @@ no_cell given_up (Some second) h = h
 pub pair_passed : (line : Line) (given_up places : List ℕ) (base len : ℕ) (result : Result Answer JoinFault) → AreEven base len line.blocks places
     → IfOk result (λ _. NoneGivenUp given_up 0 (length places - 1)) → IfOk result (λ _. NoneGivenUp given_up 0 64) → IfOk result (λ _. PassesGate given_up line)
 pair_passed line given_up places base len (Ok answer) even blocks cells =
-    (even.count, even.least, (λ n low high h. let c = even.counted in blocks n low (omega (arith, c, high)) h), no_cell given_up line.second cells)
+    ((λ _. (even.count, even.least, λ n low high h. let c = even.counted in blocks n low (omega (arith, c, high)) h)), no_cell given_up line.second cells)
 pair_passed line given_up places base len (Err end) even blocks cells = tt
+
+-- what is read in chunks is cut into no blocks
+chunks_passed : (line : Line) (given_up : List ℕ) (size : ℕ) → line.feed ≡ Some size → PassesCells given_up line.second → PassesGate given_up line
+chunks_passed line given_up size fed cells = ((λ none. absurd (none-some size (sym none ∙ fed))), cells)
+
+pub fed_passed : (line : Line) (given_up : List ℕ) (size : ℕ) (result : Result Answer RunFault) → line.feed ≡ Some size → line.second ≡ None → IfOk result (λ _. PassesGate given_up line)
+fed_passed line given_up size (Ok answer) fed none = chunks_passed line given_up size fed (subst (PassesCells given_up) (sym none) tt)
+fed_passed line given_up size (Err end) fed none = tt
+
+pub fed_pair_passed : (line : Line) (given_up : List ℕ) (size : ℕ) (result : Result Answer JoinFault) → line.feed ≡ Some size → IfOk result (λ _. NoneGivenUp given_up 0 64) → IfOk result (λ _. PassesGate given_up line)
+fed_pair_passed line given_up size (Ok answer) fed cells = chunks_passed line given_up size fed (no_cell given_up line.second cells)
+fed_pair_passed line given_up size (Err end) fed cells = tt

@@ -16,7 +16,7 @@ use Rattle.at_cli.specs.declared.words.pieces.Next.{Next}
 use Rattle.at_cli.specs.declared.words.pieces.Next.TheVariants as nexts
 use Rattle.at_cli.specs.Pieces.{Piece, SpellPieces, values_of, positionals_of}
 use Rattle.at_cli.specs.Values.{form_text, coords_text, SpellsDigits, IsWhole}
-use Rattle.at_cli.specs.LineOf.{IsChosen, SpellsForm, HasNames, HasValues, SaysLine}
+use Rattle.at_cli.specs.LineOf.{IsChosen, SpellsForm, SpellsFeed, HasNames, HasValues, SaysLine}
 use Rattle.at_cli.specs.Steps.{State, start, walk, unless_waiting, gathered, given_in}
 use Rattle.at_cli.proofs.Spelled.{IsEnded, end_next, ReadsAs, walked, pieces_read, list_same}
 
@@ -28,6 +28,7 @@ values_same values others positionals places line same moved h =
     let D : List (List ℕ) → Type 0 = λ x. IsChosen 7 SpellsDigits x line.digits in
     let R : List (List ℕ) → Type 0 = λ x. IsChosen 64 (IsWhole 1 4096) x line.blocks in
     let S : List (List ℕ) → Type 0 = λ x. IsChosen 4 (IsWhole 1 64) x line.workers in
+    let F : List (List ℕ) → Type 0 = λ x. IsChosen None SpellsFeed x line.feed in
     let N : List (List ℕ) → Type 0 = λ x. HasNames x line.query line.first line.second in
     record {
       form = subst P (same settings.Form) h.form;
@@ -35,6 +36,8 @@ values_same values others positionals places line same moved h =
       digits = subst D (same settings.Digits) h.digits;
       blocks = subst R (same settings.Blocks) h.blocks;
       workers = subst S (same settings.Workers) h.workers;
+      feed = subst F (same settings.Feed) h.feed;
+      can_feed = h.can_feed;
       names = subst N moved h.names;
     }
 
@@ -44,6 +47,7 @@ given_at_start settings.Coords = refl
 given_at_start settings.Digits = refl
 given_at_start settings.Blocks = refl
 given_at_start settings.Workers = refl
+given_at_start settings.Feed = refl
 
 when_ended : (next : Next) (t st : State) → unless_waiting next t ≡ Some st → (t ≡ st) × IsEnded next
 when_ended nexts.Any t st e = (same_Some t st e, tt)
@@ -91,6 +95,7 @@ state_for pieces after = record {
   digits = first_of (values_of pieces settings.Digits);
   blocks = first_of (values_of pieces settings.Blocks);
   workers = first_of (values_of pieces settings.Workers);
+  feed = first_of (values_of pieces settings.Feed);
   places = positionals_of pieces after;
   next = end_next after;
 }
@@ -102,6 +107,7 @@ given_for pieces after line h settings.Coords = at_most_one Round (λ text how. 
 given_for pieces after line h settings.Digits = at_most_one 7 SpellsDigits (values_of pieces settings.Digits) line.digits h.digits
 given_for pieces after line h settings.Blocks = at_most_one 64 (IsWhole 1 4096) (values_of pieces settings.Blocks) line.blocks h.blocks
 given_for pieces after line h settings.Workers = at_most_one 4 (IsWhole 1 64) (values_of pieces settings.Workers) line.workers h.workers
+given_for pieces after line h settings.Feed = at_most_one None SpellsFeed (values_of pieces settings.Feed) line.feed h.feed
 
 walk_for : (words : List (List ℕ)) (pieces : List Piece) (after : Option (List (List ℕ))) (line : Line) → SpellPieces words pieces after
     → HasValues (values_of pieces) (positionals_of pieces after) line → walk start words ≡ Some (state_for pieces after)
@@ -152,7 +158,7 @@ one_form Seq GeoJson e = cc
 one_form Seq Wkt e = absurd (apart 115 119 (lit< tt) (ap (λ (text : List ℕ). get_or text 0 0) e))
 one_form Seq Seq e = refl
 
-one_said_form : (text : List ℕ) (a b : Option FileForm) → SpellsForm text a → SpellsForm text b → a ≡ b
+pub one_said_form : (text : List ℕ) (a b : Option FileForm) → SpellsForm text a → SpellsForm text b → a ≡ b
 one_said_form text a b (f, e, t) (g, h, u) = e ∙ ap Some (one_form f g (sym t ∙ u)) ∙ sym h
 
 one_text : (a b : Coords) → coords_text a ≡ coords_text b → a ≡ b
@@ -176,26 +182,30 @@ one_digits text a b (inr (nine, e)) (inr (also, f)) = e ∙ sym f
 pub one_whole : (low high : ℕ) → high < 2 ^ 32 → (text : List ℕ) (a b : ℕ) → IsWhole low high text a → IsWhole low high text b → a ≡ b
 one_whole low high small text a b g h = decimal_injective a b (omega (arith, g.most)) (omega (arith, h.most)) (sym g.written ∙ h.written)
 
-make_line : Option FileForm → Coords → ℕ → ℕ → ℕ → List ℕ → List ℕ → Option (List ℕ) → Line
-make_line form how digits blocks workers query first second = record {
+one_feed : (text : List ℕ) (a b : Option ℕ) → SpellsFeed text a → SpellsFeed text b → a ≡ b
+one_feed text a b (m, e, g) (n, f, h) = e ∙ ap Some (one_whole 1 1048576 (lit< tt) text m n g h) ∙ sym f
+
+make_line : Option FileForm → Coords → ℕ → ℕ → ℕ → Option ℕ → List ℕ → List ℕ → Option (List ℕ) → Line
+make_line form how digits blocks workers feed query first second = record {
   form = form;
   how = how;
   digits = digits;
   blocks = blocks;
   workers = workers;
+  feed = feed;
   query = query;
   first = first;
   second = second;
 }
 
-made_same : (f g : Option FileForm) (h k : Coords) (d e b c w v : ℕ) (q p x y : List ℕ) (s t : Option (List ℕ))
-    → f ≡ g → h ≡ k → d ≡ e → b ≡ c → w ≡ v → q ≡ p → x ≡ y → s ≡ t → make_line f h d b w q x s ≡ make_line g k e c v p y t
-made_same f g h k d e b c w v q p x y s t e1 e2 e3 e4 e5 e6 e7 e8 = cc
+made_same : (f g : Option FileForm) (h k : Coords) (d e b c w v : ℕ) (i j : Option ℕ) (q p x y : List ℕ) (s t : Option (List ℕ))
+    → f ≡ g → h ≡ k → d ≡ e → b ≡ c → w ≡ v → i ≡ j → q ≡ p → x ≡ y → s ≡ t → make_line f h d b w i q x s ≡ make_line g k e c v j p y t
+made_same f g h k d e b c w v i j q p x y s t e1 e2 e3 e4 e5 e6 e7 e8 e9 = cc
 
-line_same : (a b : Line) → a.form ≡ b.form → a.how ≡ b.how → a.digits ≡ b.digits → a.blocks ≡ b.blocks → a.workers ≡ b.workers → a.query ≡ b.query → a.first ≡ b.first → a.second ≡ b.second → a ≡ b
+line_same : (a b : Line) → a.form ≡ b.form → a.how ≡ b.how → a.digits ≡ b.digits → a.blocks ≡ b.blocks → a.workers ≡ b.workers → a.feed ≡ b.feed → a.query ≡ b.query → a.first ≡ b.first → a.second ≡ b.second → a ≡ b
 unfolding make_line
-line_same a b form how digits blocks workers query first second =
-    made_same a.form b.form a.how b.how a.digits b.digits a.blocks b.blocks a.workers b.workers a.query b.query a.first b.first a.second b.second form how digits blocks workers query first second
+line_same a b form how digits blocks workers feed query first second =
+    made_same a.form b.form a.how b.how a.digits b.digits a.blocks b.blocks a.workers b.workers a.feed b.feed a.query b.query a.first b.first a.second b.second form how digits blocks workers feed query first second
 
 one_line_of : (values : Setting → List (List ℕ)) (positionals : List (List ℕ)) (a b : Line) → HasValues values positionals a → HasValues values positionals b → a ≡ b
 one_line_of values positionals a b g h =
@@ -207,6 +217,7 @@ one_line_of values positionals a b g h =
     (chosen_once 7 SpellsDigits (values settings.Digits) a.digits b.digits one_digits g.digits h.digits)
     (chosen_once 64 (IsWhole 1 4096) (values settings.Blocks) a.blocks b.blocks (one_whole 1 4096 (lit< tt)) g.blocks h.blocks)
     (chosen_once 4 (IsWhole 1 64) (values settings.Workers) a.workers b.workers (one_whole 1 64 (lit< tt)) g.workers h.workers)
+    (chosen_once None SpellsFeed (values settings.Feed) a.feed b.feed one_feed g.feed h.feed)
     (cc) (cc) (list_same a.second b.second last)
 
 -- the same words say the same line

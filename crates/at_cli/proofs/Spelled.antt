@@ -24,6 +24,7 @@ piece_apart settings.Coords st = refl
 piece_apart settings.Digits st = refl
 piece_apart settings.Blocks st = refl
 piece_apart settings.Workers st = refl
+piece_apart settings.Feed st = refl
 
 pub piece_joined : (s : Setting) (v : List ℕ) (st : State) → with_piece (setting_name s ++ codes "=" ++ v) st ≡ with_value s v st
 piece_joined settings.Form v st = refl
@@ -31,6 +32,7 @@ piece_joined settings.Coords v st = refl
 piece_joined settings.Digits v st = refl
 piece_joined settings.Blocks v st = refl
 piece_joined settings.Workers v st = refl
+piece_joined settings.Feed v st = refl
 
 pub piece_positional : (w : List ℕ) (st : State) → begins_with (codes "-") w ≡ false → with_piece w st ≡ with_place w st
 piece_positional w st e = rw e refl
@@ -62,8 +64,8 @@ from_either (Some x) b f P left right e = left e
 
 pub flag_in-is : (word : List ℕ) (f : FlagWord) → flag_in word ≡ Some f → FlagSpells word f.setting f.value
 flag_in-is word f = let P : Type 0 = FlagSpells word f.setting f.value in
-    from_either _ _ f P (from_either _ _ f P (from_either _ _ f P (from_either _ _ f P (flag_for-is settings.Form word f) (flag_for-is settings.Coords word f)) (flag_for-is settings.Digits word f))
-    (flag_for-is settings.Blocks word f)) (flag_for-is settings.Workers word f)
+    from_either _ _ f P (from_either _ _ f P (from_either _ _ f P (from_either _ _ f P (from_either _ _ f P (flag_for-is settings.Form word f) (flag_for-is settings.Coords word f)) (flag_for-is settings.Digits word f))
+    (flag_for-is settings.Blocks word f)) (flag_for-is settings.Workers word f)) (flag_for-is settings.Feed word f)
 
 -- values and positionals after one piece
 
@@ -73,6 +75,7 @@ given-places st places settings.Coords = refl
 given-places st places settings.Digits = refl
 given-places st places settings.Blocks = refl
 given-places st places settings.Workers = refl
+given-places st places settings.Feed = refl
 
 given-next : (st : State) (next : Next) (t : Setting) → given_in (record st { next = next }) t ≡ given_in st t
 given-next st next settings.Form = refl
@@ -80,6 +83,7 @@ given-next st next settings.Coords = refl
 given-next st next settings.Digits = refl
 given-next st next settings.Blocks = refl
 given-next st next settings.Workers = refl
+given-next st next settings.Feed = refl
 
 value-next : (st : State) (next : Next) (t : Setting) → value_at (record st { next = next }) t ≡ value_at st t
 value-next st next settings.Form = refl
@@ -87,6 +91,7 @@ value-next st next settings.Coords = refl
 value-next st next settings.Digits = refl
 value-next st next settings.Blocks = refl
 value-next st next settings.Workers = refl
+value-next st next settings.Feed = refl
 
 -- what is given once is given first
 given-set : (st : State) (s t : Setting) (v : List ℕ) (more : List (List ℕ)) → value_at st s ≡ None
@@ -96,26 +101,37 @@ given-set st settings.Form settings.Coords v more e = refl
 given-set st settings.Form settings.Digits v more e = refl
 given-set st settings.Form settings.Blocks v more e = refl
 given-set st settings.Form settings.Workers v more e = refl
+given-set st settings.Form settings.Feed v more e = refl
 given-set st settings.Coords settings.Form v more e = refl
 given-set st settings.Coords settings.Coords v more e = rw e refl
 given-set st settings.Coords settings.Digits v more e = refl
 given-set st settings.Coords settings.Blocks v more e = refl
 given-set st settings.Coords settings.Workers v more e = refl
+given-set st settings.Coords settings.Feed v more e = refl
 given-set st settings.Digits settings.Form v more e = refl
 given-set st settings.Digits settings.Coords v more e = refl
 given-set st settings.Digits settings.Digits v more e = rw e refl
 given-set st settings.Digits settings.Blocks v more e = refl
 given-set st settings.Digits settings.Workers v more e = refl
+given-set st settings.Digits settings.Feed v more e = refl
 given-set st settings.Blocks settings.Form v more e = refl
 given-set st settings.Blocks settings.Coords v more e = refl
 given-set st settings.Blocks settings.Digits v more e = refl
 given-set st settings.Blocks settings.Blocks v more e = rw e refl
 given-set st settings.Blocks settings.Workers v more e = refl
+given-set st settings.Blocks settings.Feed v more e = refl
 given-set st settings.Workers settings.Form v more e = refl
 given-set st settings.Workers settings.Coords v more e = refl
 given-set st settings.Workers settings.Digits v more e = refl
 given-set st settings.Workers settings.Blocks v more e = refl
 given-set st settings.Workers settings.Workers v more e = rw e refl
+given-set st settings.Workers settings.Feed v more e = refl
+given-set st settings.Feed settings.Form v more e = refl
+given-set st settings.Feed settings.Coords v more e = refl
+given-set st settings.Feed settings.Digits v more e = refl
+given-set st settings.Feed settings.Blocks v more e = refl
+given-set st settings.Feed settings.Workers v more e = refl
+given-set st settings.Feed settings.Feed v more e = rw e refl
 
 set-places : (st : State) (s : Setting) (v : List ℕ) → (set_value s v st).places ≡ st.places
 set-places st settings.Form v = refl
@@ -123,6 +139,7 @@ set-places st settings.Coords v = refl
 set-places st settings.Digits v = refl
 set-places st settings.Blocks v = refl
 set-places st settings.Workers v = refl
+set-places st settings.Feed v = refl
 
 set-next : (st : State) (s : Setting) (v : List ℕ) → (set_value s v st).next ≡ nexts.Any
 set-next st settings.Form v = refl
@@ -130,6 +147,7 @@ set-next st settings.Coords v = refl
 set-next st settings.Digits v = refl
 set-next st settings.Blocks v = refl
 set-next st settings.Workers v = refl
+set-next st settings.Feed v = refl
 
 given_once : (o : Option (List ℕ)) (st u : State) → unless_given o st ≡ Some u → (o ≡ None) × (st ≡ u)
 given_once None st u e = (refl, same_Some st u e)
@@ -235,6 +253,7 @@ set-again st next settings.Coords v = refl
 set-again st next settings.Digits v = refl
 set-again st next settings.Blocks v = refl
 set-again st next settings.Workers v = refl
+set-again st next settings.Feed v = refl
 
 -- one word that is no option's value
 piece_walked : (w : List ℕ) (words : List (List ℕ)) (st t u : State) → st.next ≡ nexts.Any → with_piece w st ≡ Some t → walk t words ≡ Some u
@@ -299,30 +318,32 @@ list_same None (Some y) e = cc
 list_same (Some x) None e = cc
 list_same (Some x) (Some y) e = cc
 
-make_state : Option (List ℕ) → Option (List ℕ) → Option (List ℕ) → Option (List ℕ) → Option (List ℕ) → List (List ℕ) → Next → State
-make_state form coords digits blocks workers places next = record {
+make_state : Option (List ℕ) → Option (List ℕ) → Option (List ℕ) → Option (List ℕ) → Option (List ℕ) → Option (List ℕ) → List (List ℕ) → Next → State
+make_state form coords digits blocks workers feed places next = record {
   form = form;
   coords = coords;
   digits = digits;
   blocks = blocks;
   workers = workers;
+  feed = feed;
   places = places;
   next = next;
 }
 
-made_same : (a b c d e f g h i j : Option (List ℕ)) (p q : List (List ℕ)) (m n : Next)
-    → a ≡ b → c ≡ d → e ≡ f → g ≡ h → i ≡ j → p ≡ q → m ≡ n → make_state a c e g i p m ≡ make_state b d f h j q n
-made_same a b c d e f g h i j p q m n e1 e2 e3 e4 e5 e6 e7 = cc
+made_same : (a b c d e f g h i j k l : Option (List ℕ)) (p q : List (List ℕ)) (m n : Next)
+    → a ≡ b → c ≡ d → e ≡ f → g ≡ h → i ≡ j → k ≡ l → p ≡ q → m ≡ n → make_state a c e g i k p m ≡ make_state b d f h j l q n
+made_same a b c d e f g h i j k l p q m n e1 e2 e3 e4 e5 e6 e7 e8 = cc
 
 state_same : (st u : State) → ((s : Setting) → given_in u s ≡ given_in st s) → u.places ≡ st.places → u.next ≡ st.next → st ≡ u
 unfolding make_state
 state_same st u given places next =
-    made_same st.form u.form st.coords u.coords st.digits u.digits st.blocks u.blocks st.workers u.workers st.places u.places st.next u.next
+    made_same st.form u.form st.coords u.coords st.digits u.digits st.blocks u.blocks st.workers u.workers st.feed u.feed st.places u.places st.next u.next
     (sym (list_same u.form st.form (given settings.Form)))
     (sym (list_same u.coords st.coords (given settings.Coords)))
     (sym (list_same u.digits st.digits (given settings.Digits)))
     (sym (list_same u.blocks st.blocks (given settings.Blocks)))
     (sym (list_same u.workers st.workers (given settings.Workers)))
+    (sym (list_same u.feed st.feed (given settings.Feed)))
     (sym places) (sym next)
 
 none_given : (o p : Option (List ℕ)) (v : List ℕ) (more : List (List ℕ)) → option_to_list o ≡ option_to_list p ++ (v ∷ more) → p ≡ None
@@ -354,6 +375,7 @@ value_in-same settings.Coords v = refl
 value_in-same settings.Digits v = refl
 value_in-same settings.Blocks v = refl
 value_in-same settings.Workers v = refl
+value_in-same settings.Feed v = refl
 
 first_given : (st u : State) (s : Setting) (v : List ℕ) (more : List (List ℕ)) → given_in u s ≡ given_in st s ++ cons_option (value_in s (apart s v)) more → value_at st s ≡ None
 first_given st u s v more e = none_given (value_at u s) (value_at st s) v more (e ∙ ap (λ o. given_in st s ++ cons_option o more) (value_in-same s v))

@@ -12,6 +12,7 @@ setting_name settings.Coords = codes "--coords"
 setting_name settings.Digits = codes "--digits"
 setting_name settings.Blocks = codes "--blocks"
 setting_name settings.Workers = codes "--workers"
+setting_name settings.Feed = codes "--feed"
 
 -- an option whose value is a word of its own, an option with its value behind `=`, or a positional
 pub data Piece : Type 0 where

@@ -10,6 +10,7 @@ line_said s = record {
   digits = s.digits;
   blocks = s.blocks;
   workers = s.workers;
+  feed = s.feed;
   query = s.names.query.now;
   first = s.names.first.now;
   second = option_copied s.names.second;

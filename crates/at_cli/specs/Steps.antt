@@ -36,9 +36,9 @@ abbrev pub flag_for : Setting → List ℕ → Option FlagWord
 flag_for s word = option_and_then (flag_behind s) (behind (setting_name s) word)
 
 abbrev pub flag_in : List ℕ → Option FlagWord
-flag_in word = option_or (option_or (option_or (option_or (flag_for settings.Form word) (flag_for settings.Coords word))
-    (flag_for settings.Digits word)) (flag_for settings.Blocks word))
-    (flag_for settings.Workers word)
+flag_in word = option_or (option_or (option_or (option_or (option_or (flag_for settings.Form word)
+    (flag_for settings.Coords word)) (flag_for settings.Digits word)) (flag_for settings.Blocks word))
+    (flag_for settings.Workers word)) (flag_for settings.Feed word)
 
 -- what the words so far say
 pub record State : Type 0 where
@@ -47,6 +47,7 @@ pub record State : Type 0 where
   pub digits : Option (List ℕ)
   pub blocks : Option (List ℕ)
   pub workers : Option (List ℕ)
+  pub feed : Option (List ℕ)
   pub places : List (List ℕ)
   pub next : Next
 
@@ -63,6 +64,7 @@ shown p = record {
   digits = option_copied p.digits;
   blocks = option_copied p.blocks;
   workers = option_copied p.workers;
+  feed = option_copied p.feed;
   places = places_shown p.places;
   next = p.next;
 }
@@ -74,6 +76,7 @@ start = record {
   digits = None;
   blocks = None;
   workers = None;
+  feed = None;
   places = [];
   next = nexts.Any;
 }
@@ -84,6 +87,7 @@ value_at st settings.Coords = st.coords
 value_at st settings.Digits = st.digits
 value_at st settings.Blocks = st.blocks
 value_at st settings.Workers = st.workers
+value_at st settings.Feed = st.feed
 
 abbrev pub set_value : Setting → List ℕ → State → State
 set_value settings.Form value st = record st { form = Some value; next = nexts.Any }
@@ -91,6 +95,7 @@ set_value settings.Coords value st = record st { coords = Some value; next = nex
 set_value settings.Digits value st = record st { digits = Some value; next = nexts.Any }
 set_value settings.Blocks value st = record st { blocks = Some value; next = nexts.Any }
 set_value settings.Workers value st = record st { workers = Some value; next = nexts.Any }
+set_value settings.Feed value st = record st { feed = Some value; next = nexts.Any }
 
 -- the state, unless the option was given before
 abbrev pub unless_given : Option (List ℕ) → State → Option State

@@ -17,7 +17,7 @@ kind_name Scale = codes "Scale"
 kind_name Range = codes "Range"
 
 abbrev pub usage_line : List ℕ
-usage_line = codes "usage: atgis [--form geojson|wkt|seq] [--coords exact|round] [--digits 7|9] [--blocks 1..4096] [--workers 1..64] QUERY FILE [SECOND]\n"
+usage_line = codes "usage: atgis [--form geojson|wkt|seq] [--coords exact|round] [--digits 7|9] [--blocks 1..4096] [--workers 1..64] [--feed 1..1048576] QUERY FILE [SECOND]\n"
 
 -- the offset of a query's fault
 abbrev pub query_line : ℕ → List ℕ

@@ -4,8 +4,10 @@ use at_cli::top;
 use at_crew::Free;
 use at_io::{MemShelf, MemSink, NamedFile, PutFail, RepeatShelf, Shelf};
 use at_text::{Bytes, Word};
-use std::alloc::Global;
+use std::alloc::{AllocGlobal, Global};
 use std::process::Abort;
+use std::random::RandomSource;
+use std::sync::Wait;
 use std::test::Fail;
 use std::thread::Threads;
 
@@ -33,7 +35,7 @@ fn shelf_of(alloc: Global, failing_call: u32) -> Result<MemShelf, Fail> {
 }
 
 /// What a run writes to its output, and its status. What it writes to its error output has to be the line.
-fn output_of<R: Abort + Threads + Sync, S: Shelf>(
+fn output_of<R: Abort + Threads + Sync + Wait + RandomSource + AllocGlobal, S: Shelf>(
     rt: &R,
     alloc: Global,
     asked: (&str, &str),

@@ -5,8 +5,10 @@ use at_cli::{tell_no_memory, top};
 use at_crew::Free;
 use at_io::{Failed, MemShelf, MemSink, NamedFile, PutFail, Shelf, Sink};
 use at_text::{Bytes, Word};
-use std::alloc::Global;
+use std::alloc::{AllocGlobal, Global};
 use std::process::Abort;
+use std::random::RandomSource;
+use std::sync::Wait;
 use std::test::Fail;
 use std::thread::Threads;
 
@@ -52,7 +54,7 @@ const AMPLE: u32 = 1 << 20;
 
 const USAGE: &str =
     "usage: atgis [--form geojson|wkt|seq] [--coords exact|round] [--digits 7|9] [--blocks 1..4096] \
-     [--workers 1..64] QUERY FILE [SECOND]\n";
+     [--workers 1..64] [--feed 1..1048576] QUERY FILE [SECOND]\n";
 
 const NAMES: &str = "files: join takes two, every other verb one\n";
 
@@ -85,7 +87,7 @@ fn words_of(alloc: Global, words: &[&str]) -> Result<Vec<String>, Fail> {
 }
 
 /// Runs each row, and compares what it writes.
-fn run_rows<R: Abort + Threads + Sync>(
+fn run_rows<R: Abort + Threads + Sync + Wait + RandomSource + AllocGlobal>(
     rt: &R,
     alloc: Global,
     rows: &[Run<'_>],
@@ -315,6 +317,24 @@ const BLOCKS: &str =
 --blocks|4096|count|f.wkt => f.wkt => POINT (1 2~POINT (3 4) => 1 f.wkt: Ended at 10~
 ";
 
+/// Files in chunks of any size give the same answer, and the same first fault.
+const CHUNKS: &str =
+    "--feed|1|select|f.json => f.json => {\"type\":\"FeatureCollection\",\"features\":[{\"type\":\"Feature\",\"geometry\":null,\"properties\":null}]} => 0 40~
+--feed|7|select|g.json => g.json => {~\"type\": \"FeatureCollection\",~\"name\": \"places\",~\"crs\": { \"type\": \"name\", \"properties\": { \"name\": \"urn:ogc:def:crs:OGC:1.3:CRS84\" } },~\"features\": [~{ \"type\": \"Feature\", \"properties\": { \"name\": \"Ulm\" }, \"geometry\": { \"type\": \"Point\", \"coordinates\": [ 9.987654321012345, 48.4 ] } },~{ \"type\": \"Feature\", \"properties\": { \"name\": \"Bonn\" }, \"geometry\": { \"type\": \"Point\", \"coordinates\": [ 7.1, 50.733333333333334 ] } },~{ \"type\": \"Feature\", \"properties\": { \"name\": \"Jena\" }, \"geometry\": null }~]~}~ => 0 149~282~416~
+--feed|1|count|f.json => f.json => {1 tru => 1 f.json: Syntax at 1~
+--feed|1|count|f.json => f.json => \u{FEFF}{}x       % => 1 f.json: NotUtf8 at 13~
+--feed|0|count|e.wkt => e.wkt =>  => 2 usage
+--feed|2|count|e.wkt => e.wkt =>  => 0 0~
+--feed|2|count|e.json => e.json =>  => 1 e.json: Ended at 0~
+--feed|5|--form|seq|count|s => s =>  => 2 usage
+--feed|5|count|@g:720 => x =>  => 0 720~
+--feed=1048576|area|@g:720 => x =>  => 0 144000000000000000~
+--feed|3|--blocks|4096|--workers|64|select|f.wkt => f.wkt => POINT (1 1)~POINT (0 5)~POINT (4 5)~POINT (5 5)~ => 0 0~12~24~36~
+--feed|5|join|@w:2|@g:2 => x =>  => 0 0 41~32 41~32 176~
+--feed|1|join|a.wkt|a.wkt => a.wkt => POINT (x) => 1 a.wkt: Syntax at 7~
+--feed|4|join|@w:1|b.wkt => b.wkt => POINT (x) => 1 b.wkt: Syntax at 7~
+";
+
 /// Nine decimals: the unit of both files, of the query's numbers and of what is printed.
 const NINE: &str =
     "--digits|9|extent|f.wkt => f.wkt => POINT (1.000000001 2) => 0 1.000000001 2.000000000 1.000000001 2.000000000~
@@ -407,7 +427,7 @@ fn shelf_with(alloc: Global, name: &str, text: &str) -> Result<MemShelf, Fail> {
 }
 
 /// Runs the words over the shelf, and compares the status and what is written.
-fn compare_run<R: Abort + Threads + Sync>(
+fn compare_run<R: Abort + Threads + Sync + Wait + RandomSource + AllocGlobal>(
     rt: &R,
     alloc: Global,
     words: &[String],
@@ -431,7 +451,11 @@ fn compare_run<R: Abort + Threads + Sync>(
 }
 
 /// Runs each row of a table.
-fn run_table<R: Abort + Threads + Sync>(rt: &R, alloc: Global, table: &str) -> Result<(), Fail> {
+fn run_table<R: Abort + Threads + Sync + Wait + RandomSource + AllocGlobal>(
+    rt: &R,
+    alloc: Global,
+    table: &str,
+) -> Result<(), Fail> {
     for row in table.lines() {
         let (words, rest) = row.split_once(" => ").ok_or("words")?;
         let (name, rest) = rest.split_once(" => ").ok_or("a name")?;
@@ -476,6 +500,11 @@ fn sequences(rt: HostRuntime) -> Result<(), Fail> {
 #[test]
 fn any_blocks_and_workers(rt: HostRuntime) -> Result<(), Fail> {
     run_table(&rt, rt.alloc(), BLOCKS)
+}
+
+#[test]
+fn any_chunks(rt: HostRuntime) -> Result<(), Fail> {
+    run_table(&rt, rt.alloc(), CHUNKS)
 }
 
 #[test]

@@ -5,7 +5,9 @@ use at_cli::{tell_no_memory, top};
 use at_crew::Free;
 use at_io::{DiskShelf, StdSink};
 use std::process::ExitCode;
+use std::random::RandomSource;
 use std::rt::{Env, Files};
+use std::sync::Wait;
 use std::thread::Threads;
 use std::{env, io, process};
 
@@ -20,11 +22,11 @@ fn words<R: Env + AllocGlobal>(rt: &R) -> io::Result<Vec<String>> {
 
 /// Runs the program over the runtime's files, its standard input, and two streams. Words that are no UTF-8 are
 /// refused as no words are.
-fn run<R: Env + Files + Input + AllocGlobal + Threads + Sync, O: Print + Drop, E: Print + Drop>(
-    rt: &R,
-    out: O,
-    err: E,
-) -> u8 {
+fn run<
+    R: Env + Files + Input + AllocGlobal + Threads + Sync + Wait + RandomSource,
+    O: Print + Drop,
+    E: Print + Drop,
+>(rt: &R, out: O, err: E) -> u8 {
     let mut out = StdSink::new(out);
     let mut err = StdSink::new(err);
     let words = match words(rt) {

@@ -14,6 +14,7 @@ ghost use Rattle.at_cli.specs.Outcomes.{IsQueryAccepted, IsLineAccepted};
 ghost use Rattle.at_cli.specs.Endings.{status_of, line_of, EndsBytes, EndsPair, Ends};
 
 use crate::outcome::ending::Ending;
+use crate::outcome::feeding::{fed_answer, fed_join, form_to_feed};
 use crate::outcome::files::{answer_as, join_as};
 use crate::outcome::reading::named_bytes;
 use crate::words::form::form_of;
@@ -23,11 +24,13 @@ use at_io::{ReadError, Shelf};
 use at_query::{Answer, Query, QueryEnd, Verb, answer_text, read_query};
 use at_run::{Cuts, JoinFault, RunFault};
 use at_text::{Word, base_of};
-use std::alloc::Global;
+use std::alloc::{AllocGlobal, Global};
+use std::random::RandomSource;
+use std::sync::Wait;
 use std::thread::Threads;
 
 /// The answer to a query over the bytes of the line's file, cut into the blocks that the words ask for.
-fn answer_file<G: Gate, R: Threads + Sync>(
+fn answer_in_blocks<G: Gate, R: Threads + Sync>(
     rt: &R,
     alloc: Global,
     line: &Line,
@@ -56,21 +59,71 @@ fn answer_file<G: Gate, R: Threads + Sync>(
     )
 }
 
+/// The answer to a query over the bytes of the line's file, which a future takes in chunks of that size.
+fn answer_in_chunks<R: Wait + RandomSource + AllocGlobal>(
+    rt: &R,
+    alloc: Global,
+    line: &Line,
+    query: &Query,
+    bytes: Vec<u8>,
+    size: u32,
+) -> Result<Answer, RunFault>
+    requires limit { length bytes.items ≤ 2 ^ 28 }
+    requires line { KeepsLimits line.now }
+    requires in_range { IsQueryInRange query.now }
+    requires verb { query.now.verb ≢ Verb.Join }
+    requires feed { line.now.feed ≡ Some size }
+    ensures answer { MatchResult result (IsAnswerAs (form_told line.now line.now.first) line.now.digits line.now.how
+        query.now bytes.items)
+        (λ end. IfFound end (λ fault. HasFaultAs (form_told line.now line.now.first) line.now.digits line.now.how
+        bytes.items (Some fault))) }
+{
+    let form = form_to_feed(line, line.first.as_str());
+    let (digits, how) = (line.digits, line.how);
+    fed_answer(rt, alloc, bytes, form, query, digits, how, size)
+}
+
+/// The answer to a query over the bytes of the line's file: in blocks, or in chunks where the words ask for these.
+fn answer_file<G: Gate, R: Threads + Sync + Wait + RandomSource + AllocGlobal>(
+    rt: &R,
+    alloc: Global,
+    line: &Line,
+    query: &Query,
+    bytes: Vec<u8>,
+    gate: &G,
+) -> Result<Answer, RunFault>
+    requires limit { length bytes.items ≤ 2 ^ 28 }
+    requires line { KeepsLimits line.now }
+    requires in_range { IsQueryInRange query.now }
+    requires verb { query.now.verb ≢ Verb.Join }
+    requires second { line.now.second ≡ None }
+    ensures answer { MatchResult result (IsAnswerAs (form_told line.now line.now.first) line.now.digits line.now.how
+        query.now bytes.items)
+        (λ end. IfFound end (λ fault. HasFaultAs (form_told line.now line.now.first) line.now.digits line.now.how
+        bytes.items (Some fault))) }
+    ensures passes { IfOk result (λ _. PassesGate (G.given_up gate.now) line.now) }
+{
+    match line.feed {
+        None => answer_in_blocks(rt, alloc, line, query, bytes.as_slice(), gate),
+        Some(size) => answer_in_chunks(rt, alloc, line, query, bytes, size),
+    }
+}
+
 /// The end over the bytes of the line's file, which are within the limit.
-fn end_of_bytes<G: Gate, R: Threads + Sync>(
+fn end_of_bytes<G: Gate, R: Threads + Sync + Wait + RandomSource + AllocGlobal>(
     rt: &R,
     alloc: Global,
     line: Line,
     query: &Query,
-    bytes: &[u8],
+    bytes: Vec<u8>,
     gate: &G,
 ) -> Ending
-    requires limit { length bytes.now ≤ 2 ^ 28 }
+    requires limit { length bytes.items ≤ 2 ^ 28 }
     requires line { KeepsLimits line }
     requires in_range { IsQueryInRange query.now }
     requires verb { query.now.verb ≢ Verb.Join }
     requires second { line.second ≡ None }
-    ensures outcome { EndsBytes line query.now bytes.now result }
+    ensures outcome { EndsBytes line query.now bytes.items result }
     ensures status { (status_of result ≢ 2) × (status_of result ≢ 3) × (status_of result ≢ 6) }
     ensures passes { status_of result ≡ 0 → PassesGate (G.given_up gate.now) line }
 {
@@ -85,7 +138,7 @@ fn end_of_bytes<G: Gate, R: Threads + Sync>(
 }
 
 /// The answer to a join over the bytes of the line's two files, each cut into the blocks that the words ask for.
-fn join_files<G: Gate, R: Threads + Sync>(
+fn join_in_blocks<G: Gate, R: Threads + Sync>(
     rt: &R,
     alloc: Global,
     line: &Line,
@@ -130,6 +183,68 @@ fn join_files<G: Gate, R: Threads + Sync>(
     )
 }
 
+/// The answer to a join over the bytes of the line's two files, which a future takes in chunks of that size.
+fn join_in_chunks<G: Gate, R: Threads + Sync + Wait + RandomSource + AllocGlobal>(
+    rt: &R,
+    alloc: Global,
+    line: &Line,
+    query: &Query,
+    a: Vec<u8>,
+    b: Vec<u8>,
+    size: u32,
+    gate: &G,
+) -> Result<Answer, JoinFault>
+    requires limit_a { length a.items ≤ 2 ^ 28 }
+    requires limit_b { length b.items ≤ 2 ^ 28 }
+    requires line { KeepsLimits line.now }
+    requires feed { line.now.feed ≡ Some size }
+    requires second { IsSome line.now.second }
+    requires in_range { IsQueryInRange query.now }
+    requires verb { query.now.verb ≡ Verb.Join }
+    ensures answer { (second : List ℕ) → line.now.second ≡ Some second
+        → MatchResult result (IsJoinAs (form_told line.now line.now.first) (form_told line.now second) line.now.digits
+        line.now.how query.now a.items b.items)
+        (IsJoinFaultAs (form_told line.now line.now.first) (form_told line.now second) line.now.digits line.now.how
+        a.items b.items) }
+    ensures passes { IfOk result (λ _. PassesGate (G.given_up gate.now) line.now) }
+{
+    let form_a = form_to_feed(line, line.first.as_str());
+    let form_b = form_to_feed(line, second_text(line));
+    let (digits, how, workers) = (line.digits, line.how, line.workers);
+    fed_join(
+        rt, alloc, a, form_a, b, form_b, query, digits, how, size, workers, gate,
+    )
+}
+
+/// The answer to a join over the bytes of the line's two files: in blocks, or in chunks where the words ask for these.
+fn join_files<G: Gate, R: Threads + Sync + Wait + RandomSource + AllocGlobal>(
+    rt: &R,
+    alloc: Global,
+    line: &Line,
+    query: &Query,
+    a: Vec<u8>,
+    b: Vec<u8>,
+    gate: &G,
+) -> Result<Answer, JoinFault>
+    requires limit_a { length a.items ≤ 2 ^ 28 }
+    requires limit_b { length b.items ≤ 2 ^ 28 }
+    requires line { KeepsLimits line.now }
+    requires second { IsSome line.now.second }
+    requires in_range { IsQueryInRange query.now }
+    requires verb { query.now.verb ≡ Verb.Join }
+    ensures answer { (second : List ℕ) → line.now.second ≡ Some second
+        → MatchResult result (IsJoinAs (form_told line.now line.now.first) (form_told line.now second) line.now.digits
+        line.now.how query.now a.items b.items)
+        (IsJoinFaultAs (form_told line.now line.now.first) (form_told line.now second) line.now.digits line.now.how
+        a.items b.items) }
+    ensures passes { IfOk result (λ _. PassesGate (G.given_up gate.now) line.now) }
+{
+    match line.feed {
+        None => join_in_blocks(rt, alloc, line, query, a.as_slice(), b.as_slice(), gate),
+        Some(size) => join_in_chunks(rt, alloc, line, query, a, b, size, gate),
+    }
+}
+
 /// The name of the line's second file.
 fn second_of(line: Line) -> Word
     requires { IsSome line.second }
@@ -143,23 +258,23 @@ fn second_of(line: Line) -> Word
 }
 
 /// The end over the bytes of two files, which are within the limit.
-fn end_of_pair<G: Gate, R: Threads + Sync>(
+fn end_of_pair<G: Gate, R: Threads + Sync + Wait + RandomSource + AllocGlobal>(
     rt: &R,
     alloc: Global,
     line: Line,
     query: &Query,
-    a: &[u8],
-    b: &[u8],
+    a: Vec<u8>,
+    b: Vec<u8>,
     gate: &G,
 ) -> Ending
-    requires limit_a { length a.now ≤ 2 ^ 28 }
-    requires limit_b { length b.now ≤ 2 ^ 28 }
+    requires limit_a { length a.items ≤ 2 ^ 28 }
+    requires limit_b { length b.items ≤ 2 ^ 28 }
     requires line { KeepsLimits line }
     requires second { IsSome line.second }
     requires in_range { IsQueryInRange query.now }
     requires verb { query.now.verb ≡ Verb.Join }
     ensures outcome { (second : List ℕ) → line.second ≡ Some second
-        → EndsPair line query.now second a.now b.now result }
+        → EndsPair line query.now second a.items b.items result }
     ensures status { (status_of result ≢ 2) × (status_of result ≢ 3) × (status_of result ≢ 6) }
     ensures passes { status_of result ≡ 0 → PassesGate (G.given_up gate.now) line }
 {
@@ -175,22 +290,22 @@ fn end_of_pair<G: Gate, R: Threads + Sync>(
 }
 
 /// The end over the line's second file, beside the bytes of the first.
-fn end_of_second<S: Shelf, G: Gate, R: Threads + Sync>(
+fn end_of_second<S: Shelf, G: Gate, R: Threads + Sync + Wait + RandomSource + AllocGlobal>(
     rt: &R,
     alloc: Global,
     line: Line,
     query: &Query,
-    a: &[u8],
+    a: Vec<u8>,
     shelf: &mut S,
     gate: &G,
 ) -> Ending
-    requires limit { length a.now ≤ 2 ^ 28 }
+    requires limit { length a.items ≤ 2 ^ 28 }
     requires line { KeepsLimits line }
     requires second { IsSome line.second }
     requires in_range { IsQueryInRange query.now }
     requires verb { query.now.verb ≡ Verb.Join }
     ensures outcome { (second : List ℕ) → line.second ≡ Some second
-        → Ends (λ told. Sized told second (HasPairOutcome line query.now second a.now)) (S.files shelf.old) result }
+        → Ends (λ told. Sized told second (HasPairOutcome line query.now second a.items)) (S.files shelf.old) result }
     ensures status { status_of result ≢ 2 }
     ensures failed { status_of result ≡ 3
         → ShelfFailedOn S.Shelf (asked_second line.second) (line_of result) shelf.old shelf.new }
@@ -200,7 +315,7 @@ fn end_of_second<S: Shelf, G: Gate, R: Threads + Sync>(
     ensures passes { status_of result ≡ 0 → PassesGate (G.given_up gate.now) line }
 {
     match named_bytes(alloc, shelf, second_text(&line)) {
-        Ok(b) => end_of_pair(rt, alloc, line, query, a, &b, gate),
+        Ok(b) => end_of_pair(rt, alloc, line, query, a, b, gate),
         Err(ReadError::Failed) => Ending::ReadFailed(second_of(line)),
         Err(ReadError::TooLarge) => Ending::TooLarge(second_of(line)),
         Err(ReadError::Memory) => Ending::NoMemory,
@@ -219,7 +334,7 @@ fn second_text(line: &Line) -> &str
 }
 
 /// The end over the line's two files.
-fn end_of_two<S: Shelf, G: Gate, R: Threads + Sync>(
+fn end_of_two<S: Shelf, G: Gate, R: Threads + Sync + Wait + RandomSource + AllocGlobal>(
     rt: &R,
     alloc: Global,
     line: Line,
@@ -242,7 +357,7 @@ fn end_of_two<S: Shelf, G: Gate, R: Threads + Sync>(
     ensures passes { status_of result ≡ 0 → PassesGate (G.given_up gate.now) line }
 {
     match named_bytes(alloc, shelf, line.first.as_str()) {
-        Ok(a) => end_of_second(rt, alloc, line, query, &a, shelf, gate),
+        Ok(a) => end_of_second(rt, alloc, line, query, a, shelf, gate),
         Err(ReadError::Failed) => Ending::ReadFailed(line.first),
         Err(ReadError::TooLarge) => Ending::TooLarge(line.first),
         Err(ReadError::Memory) => Ending::NoMemory,
@@ -250,7 +365,7 @@ fn end_of_two<S: Shelf, G: Gate, R: Threads + Sync>(
 }
 
 /// The end over the line's one file.
-fn end_of_one<S: Shelf, G: Gate, R: Threads + Sync>(
+fn end_of_one<S: Shelf, G: Gate, R: Threads + Sync + Wait + RandomSource + AllocGlobal>(
     rt: &R,
     alloc: Global,
     line: Line,
@@ -272,7 +387,7 @@ fn end_of_one<S: Shelf, G: Gate, R: Threads + Sync>(
     ensures passes { status_of result ≡ 0 → PassesGate (G.given_up gate.now) line }
 {
     match named_bytes(alloc, shelf, line.first.as_str()) {
-        Ok(bytes) => end_of_bytes(rt, alloc, line, query, &bytes, gate),
+        Ok(bytes) => end_of_bytes(rt, alloc, line, query, bytes, gate),
         Err(ReadError::Failed) => Ending::ReadFailed(line.first),
         Err(ReadError::TooLarge) => Ending::TooLarge(line.first),
         Err(ReadError::Memory) => Ending::NoMemory,
@@ -280,7 +395,7 @@ fn end_of_one<S: Shelf, G: Gate, R: Threads + Sync>(
 }
 
 /// The end over the line's files, of which there are as many as the verb takes.
-fn end_of_files<S: Shelf, G: Gate, R: Threads + Sync>(
+fn end_of_files<S: Shelf, G: Gate, R: Threads + Sync + Wait + RandomSource + AllocGlobal>(
     rt: &R,
     alloc: Global,
     line: Line,
@@ -331,7 +446,7 @@ fn has_right_count(verb: Verb, second: &Option<Word>) -> bool
 }
 
 /// The end over a query that has no fault.
-fn end_of_query<S: Shelf, G: Gate, R: Threads + Sync>(
+fn end_of_query<S: Shelf, G: Gate, R: Threads + Sync + Wait + RandomSource + AllocGlobal>(
     rt: &R,
     alloc: Global,
     line: Line,
@@ -360,7 +475,7 @@ fn end_of_query<S: Shelf, G: Gate, R: Threads + Sync>(
 }
 
 /// The end over a line that the words say, and the shelf, with its cause.
-pub fn end_of_line<S: Shelf, G: Gate, R: Threads + Sync>(
+pub fn end_of_line<S: Shelf, G: Gate, R: Threads + Sync + Wait + RandomSource + AllocGlobal>(
     rt: &R,
     alloc: Global,
     line: Line,

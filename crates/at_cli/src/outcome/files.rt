@@ -51,7 +51,7 @@ fn part_of_seq<G: Gate, R: Threads + Sync>(
 }
 
 /// The form of at_run, and None for sequences, which at_run doesn't know.
-fn plain_form(form: FileForm) -> Option<Form>
+pub fn plain_form(form: FileForm) -> Option<Form>
     ensures { result ≡ plain_form_of form }
 {
     match form {

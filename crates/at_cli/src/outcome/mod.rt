@@ -2,6 +2,7 @@
 
 pub mod deciding;
 pub mod ending;
+pub mod feeding;
 pub mod files;
 pub mod reading;
 pub mod run;

@@ -18,11 +18,13 @@ use crate::outcome::telling::{put_pieces, tell_line, tell_write_failed};
 use crate::words::line::{WordsEnd, read_words};
 use at_crew::Gate;
 use at_io::{Shelf, Sink};
-use std::alloc::Global;
+use std::alloc::{AllocGlobal, Global};
+use std::random::RandomSource;
+use std::sync::Wait;
 use std::thread::Threads;
 
 /// The end over the words and the shelf, with its cause.
-fn decide<S: Shelf, G: Gate, R: Threads + Sync>(
+fn decide<S: Shelf, G: Gate, R: Threads + Sync + Wait + RandomSource + AllocGlobal>(
     rt: &R,
     alloc: Global,
     words: &[String],
@@ -81,7 +83,11 @@ fn tell<O: Sink, E: Sink>(ending: &Ending, out: &mut O, err: &mut E) -> u8
 /// Runs the program over the words behind its name: reads what they ask for from the shelf, writes
 /// the answer to `out` or one line to `err`, and answers the status. The blocks of the file are run
 /// by as many passes as the words ask for, each of which enters the gate with a block before it
-/// runs it; no clause knows of an order of their steps.
+/// runs it; no clause knows of an order of their steps. Where the words ask for chunks, a future
+/// takes the file's bytes in these instead, and no block is run.
+///
+/// What is said below holds where the call returns. It may wait only where the words ask for
+/// chunks: no call that is made otherwise takes `Wait` to wait by.
 ///
 /// | Status | Comes |
 /// |---|---|
@@ -96,15 +102,13 @@ fn tell<O: Sink, E: Sink>(ending: &Ending, out: &mut O, err: &mut E) -> u8
 /// What is said of content holds where the shelf tells its files and the sinks what is written. The
 /// words and the files have at most one outcome, so what is written where nothing fails is a
 /// function of them.
-pub fn top<R: Threads + Sync, S: Shelf, O: Sink, E: Sink, G: Gate>(
-    rt: &R,
-    alloc: Global,
-    words: &[String],
-    shelf: &mut S,
-    out: &mut O,
-    err: &mut E,
-    gate: &G,
-) -> u8
+pub fn top<
+    R: Threads + Sync + Wait + RandomSource + AllocGlobal,
+    S: Shelf,
+    O: Sink,
+    E: Sink,
+    G: Gate,
+>(rt: &R, alloc: Global, words: &[String], shelf: &mut S, out: &mut O, err: &mut E, gate: &G) -> u8
     ensures status { result ≤ 6 }
 
     // 0: the answer of the words and the files is written, and nothing else.
@@ -113,7 +117,7 @@ pub fn top<R: Threads + Sync, S: Shelf, O: Sink, E: Sink, G: Gate>(
         × IfSome (S.files shelf.old)
         (λ told. TheOutcome (map string_bytes words.now) told (answered text)) }
 
-    // 0: the gate gave up no block of the files that were read, and no cell of a join.
+    // 0: the gate gave up no cell of a join, and, where files are read in blocks, no block of theirs.
     ensures passes { result ≡ 0 → PassesSaid (G.given_up gate.now) (map string_bytes words.now) }
 
     // 1 and 6: the line of the words and the files is told.

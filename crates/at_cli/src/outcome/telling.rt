@@ -15,7 +15,7 @@ const PIECE: usize = 65_536;
 
 const USAGE: &str =
     "usage: atgis [--form geojson|wkt|seq] [--coords exact|round] [--digits 7|9] [--blocks 1..4096] \
-     [--workers 1..64] QUERY FILE [SECOND]\n";
+     [--workers 1..64] [--feed 1..1048576] QUERY FILE [SECOND]\n";
 
 /// Puts the parts of a line one after another, up to the first put that fails.
 fn put_parts<E: Sink>(err: &mut E, parts: &[&str])

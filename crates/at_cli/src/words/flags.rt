@@ -14,6 +14,7 @@ pub enum Setting {
     Digits,
     Blocks,
     Workers,
+    Feed,
 }
 
 impl Setting {
@@ -27,6 +28,7 @@ impl Setting {
             Setting::Digits => "--digits",
             Setting::Blocks => "--blocks",
             Setting::Workers => "--workers",
+            Setting::Feed => "--feed",
         }
     }
 }
@@ -79,4 +81,5 @@ pub fn flag_in(word: &str) -> Option<Flag<'_>>
         .or(flag_for(word, Setting::Digits))
         .or(flag_for(word, Setting::Blocks))
         .or(flag_for(word, Setting::Workers))
+        .or(flag_for(word, Setting::Feed))
 }

@@ -23,6 +23,8 @@ pub struct Line {
     pub blocks: u32,
     /// The workers that read them, 1 to 64.
     pub workers: u32,
+    /// The bytes of a chunk, 1 to 1048576, where files are read in chunks. No sequence is.
+    pub feed: Option<u32>,
     /// The query's text, of at most 2^28 bytes.
     pub query: Word,
     /// The name of the first file.
@@ -52,16 +54,16 @@ impl From<AllocError> for WordsEnd {
 
 /// The line that the words say.
 ///
-/// The words are read from left to right. An option is `--form`, `--coords`, `--digits`, `--blocks` or `--workers`,
-/// with its value as the next word, whatever that is, or behind `=` in the same word. The end word is the first `--`
-/// that is no option's value; it says nothing itself, and each word after it is a positional. Before it, a positional
-/// is a word that doesn't begin with `-`. The positionals are the query, the file and, where there is one, the second
-/// file.
+/// The words are read from left to right. An option is `--form`, `--coords`, `--digits`, `--blocks`, `--workers` or
+/// `--feed`, with its value as the next word, whatever that is, or behind `=` in the same word. The end word is the
+/// first `--` that is no option's value; it says nothing itself, and each word after it is a positional. Before it, a
+/// positional is a word that doesn't begin with `-`. The positionals are the query, the file and, where there is one,
+/// the second file.
 ///
 /// Words that say no line are refused, whatever memory there is: where an option is given twice or lacks its value,
 /// where another word begins with `-`, where there are fewer than two or more than three positionals, where a value
-/// isn't in form, where a name that begins with `@g:` or `@w:` doesn't go on with a number from 0 to 1000000, and where
-/// the query has more than 2^28 bytes.
+/// isn't in form, where `--feed` stands beside the form `seq`, where a name that begins with `@g:` or `@w:` doesn't go
+/// on with a number from 0 to 1000000, and where the query has more than 2^28 bytes.
 pub fn read_words(alloc: Global, words: &[String]) -> Result<Line, WordsEnd>
     ensures line { IfOk result (SaysLine (map string_bytes words.now)) }
     ensures only { IfOk result (λ (line : _). (other : Line) → SaysLine (map string_bytes words.now) other

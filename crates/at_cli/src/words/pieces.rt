@@ -50,6 +50,7 @@ pub struct Pieces<'w> {
     pub digits: Option<&'w str>,
     pub blocks: Option<&'w str>,
     pub workers: Option<&'w str>,
+    pub feed: Option<&'w str>,
     pub places: Places<'w>,
     pub next: Next,
 }
@@ -65,6 +66,7 @@ impl<'w> Pieces<'w> {
             digits: None,
             blocks: None,
             workers: None,
+            feed: None,
             places: Places::Empty,
             next: Next::Any,
         }
@@ -80,6 +82,7 @@ impl<'w> Pieces<'w> {
             Setting::Digits => self.digits,
             Setting::Blocks => self.blocks,
             Setting::Workers => self.workers,
+            Setting::Feed => self.feed,
         }
     }
 
@@ -110,6 +113,10 @@ impl<'w> Pieces<'w> {
             },
             Setting::Workers => Pieces {
                 workers: Some(value),
+                ..before
+            },
+            Setting::Feed => Pieces {
+                feed: Some(value),
                 ..before
             },
         }

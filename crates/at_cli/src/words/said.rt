@@ -10,7 +10,9 @@ use crate::words::form::FileForm;
 use crate::words::line::{Line, WordsEnd};
 use crate::words::names::{Names, names_of};
 use crate::words::pieces::{Pieces, gather};
-use crate::words::values::{coords_or_round, digits_or_seven, form_said, number_or};
+use crate::words::values::{
+    can_feed, coords_or_round, digits_or_seven, feed_said, form_said, number_or,
+};
 use at_fixed::Coords;
 use at_text::Word;
 use std::alloc::{AllocError, Global};
@@ -33,6 +35,7 @@ pub struct Said<'w> {
     pub digits: u8,
     pub blocks: u32,
     pub workers: u32,
+    pub feed: Option<u32>,
     pub names: Names<'w>,
 }
 
@@ -59,6 +62,7 @@ impl Said<'_> {
             digits: self.digits,
             blocks: self.blocks,
             workers: self.workers,
+            feed: self.feed,
             query: word_of(alloc, self.names.query)?,
             first: word_of(alloc, self.names.first)?,
             second,
@@ -77,6 +81,10 @@ fn said_in<'w>(pieces: &Pieces<'w>) -> Option<Said<'w>>
     let digits = digits_or_seven(pieces.digits)?;
     let blocks = number_or(BLOCKS, MOST_BLOCKS, pieces.blocks)?;
     let workers = number_or(WORKERS, MOST_WORKERS, pieces.workers)?;
+    let feed = feed_said(pieces.feed)?;
+    if !can_feed(form, feed) {
+        return None;
+    }
     let names = names_of(pieces.places)?;
     Some(Said {
         form,
@@ -84,6 +92,7 @@ fn said_in<'w>(pieces: &Pieces<'w>) -> Option<Said<'w>>
         digits,
         blocks,
         workers,
+        feed,
         names,
     })
 }

@@ -5,12 +5,15 @@ ghost use Rattle.std.specs.Prelude.{decimal, Option, option_to_list, MatchOption
 ghost use Rattle.std.specs.Option.{option_copied};
 ghost use Rattle.at_fixed.specs.declared.rounding.Coords.{Coords};
 ghost use Rattle.at_cli.specs.Values.{form_text, coords_text, SpellsDigits, IsWhole, GoesOn, IsFileName};
-ghost use Rattle.at_cli.specs.LineOf.{IsChosen, SpellsForm};
+ghost use Rattle.at_cli.specs.LineOf.{IsChosen, SpellsForm, SpellsFeed, CanFeed};
 ghost use Rattle.at_cli.specs.declared.words.form.FileForm.{FileForm};
 
 use crate::words::flags::text_behind;
 use crate::words::form::FileForm;
 use at_fixed::Coords;
+
+/// The most bytes of a chunk.
+const MOST_FEED: u32 = 1_048_576;
 
 /// The most features that a made file has.
 pub const MOST_MADE: u32 = 1_000_000;
@@ -128,6 +131,38 @@ pub fn digits_or_seven(text: Option<&str>) -> Option<u8>
     match text {
         None => Some(7),
         Some(text) => digits_named(text),
+    }
+}
+
+/// The bytes of a chunk that are said, or none where none are.
+pub fn feed_said(text: Option<&str>) -> Option<Option<u32>>
+    ensures { MatchOption result
+        ((feed : Option ℕ) → IsChosen None SpellsFeed (option_to_list (option_copied text.entry)) feed → ⊥)
+        (IsChosen None SpellsFeed (option_to_list (option_copied text.entry))) }
+{
+    match text {
+        None => Some(None),
+        Some(text) => Some(Some(number_within(text, 1, MOST_FEED)?)),
+    }
+}
+
+/// Whether files of the form can be read in chunks, where they are.
+pub fn can_feed(form: Option<FileForm>, feed: Option<u32>) -> bool
+    ensures { IsTrue result ↔ CanFeed form feed }
+{
+    match feed {
+        None => true,
+        Some(_) => !is_seq(form),
+    }
+}
+
+/// Whether the form is said to be a sequence.
+fn is_seq(form: Option<FileForm>) -> bool
+    ensures { MatchBool result (form ≡ Some FileForm.Seq) (form ≢ Some FileForm.Seq) }
+{
+    match form {
+        Some(FileForm::Seq) => true,
+        Some(FileForm::GeoJson | FileForm::Wkt) | None => false,
     }
 }
 

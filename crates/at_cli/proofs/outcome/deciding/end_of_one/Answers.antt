@@ -1,4 +1,4 @@
-use Rattle.std.proofs.Common.{◌≡◌, ◌≤◌, ◌^◌, List, ℕ, length, false, Err, IfSome, sym, ◌∙◌, ap, subst}
+use Rattle.std.proofs.Common.{◌≡◌, List, ℕ, false, Err, IfSome, ◌∙◌, ap, subst}
 use Rattle.at_cli.specs.Made.{is_made}
 use Rattle.at_cli.specs.Outcomes.{HasBytes, HasBytesOutcome}
 use Rattle.at_cli.specs.Failures.{asked_name, asked_second, WasAsked}
@@ -8,14 +8,10 @@ use Rattle.at_cli.proofs.outcome.deciding.end_of_one.Goals as goal
 pub returns-in-Ok-clause-outcome : goal.returns-in-Ok-clause-outcome
 returns-in-Ok-clause-outcome g c =
     let files = g.S.Shelf.files c.args.shelf.now in
-    let bytes = c.deref.result.now in
-    let P : List ℕ → Type 0 = λ w. length w ≤ 2 ^ 28 in
-    let small : P bytes = subst P (sym c.deref.ensures.value) c.in-Ok.ensures.size in
-    let Q : List ℕ → Type 0 = λ w. IfSome files (λ told. HasBytes told c.as_str.result.now w) in
-    let read : Q bytes = subst Q (sym c.deref.ensures.value) c.in-Ok.ensures.bytes in
+    let bytes = c.in-Ok.bytes.items in
     let N : List ℕ → Type 0 = λ name. IfSome files (λ told. HasBytes told name bytes) in
-    let named : N c.args.line.first = subst N c.as_str.ensures read in
-    ends_sized files c.args.line.first bytes (HasBytesOutcome c.args.line c.args.query.now) c.end_of_bytes.result named small c.end_of_bytes.ensures.outcome
+    let named : N c.args.line.first = subst N c.as_str.ensures c.in-Ok.ensures.bytes in
+    ends_sized files c.args.line.first bytes (HasBytesOutcome c.args.line c.args.query.now) c.end_of_bytes.result named c.in-Ok.ensures.size c.end_of_bytes.ensures.outcome
 
 pub returns-in-Err-Failed-clause-failed : goal.returns-in-Err-Failed-clause-failed
 returns-in-Err-Failed-clause-failed g c three =

@@ -1,4 +1,4 @@
-use Rattle.std.proofs.Common.{◌≡◌, ◌≤◌, ◌^◌, List, [], ◌++◌, ℕ, length, false, Err, IfSome, sym, ◌∙◌, ap, subst, append-nil}
+use Rattle.std.proofs.Common.{◌≡◌, List, [], ◌++◌, ℕ, false, Err, IfSome, sym, ◌∙◌, ap, subst, append-nil}
 use Rattle.std.proofs.lemmas.Option.{same_Some}
 use Rattle.at_cli.specs.Made.{is_made}
 use Rattle.at_cli.specs.Texts.{unread_line}
@@ -10,15 +10,11 @@ use Rattle.at_cli.proofs.outcome.deciding.end_of_second.Goals as goal
 pub returns-in-Ok-clause-outcome : goal.returns-in-Ok-clause-outcome
 returns-in-Ok-clause-outcome g c second e =
     let files = g.S.Shelf.files c.args.shelf.now in
-    let bytes = c.deref.result.now in
+    let bytes = c.in-Ok.b.items in
     let text = c.second_text.result.now in
-    let P : List ℕ → Type 0 = λ w. length w ≤ 2 ^ 28 in
-    let small : P bytes = subst P (sym c.deref.ensures.value) c.in-Ok.ensures.size in
-    let Q : List ℕ → Type 0 = λ w. IfSome files (λ told. HasBytes told text w) in
-    let read : Q bytes = subst Q (sym c.deref.ensures.value) c.in-Ok.ensures.bytes in
     let N : List ℕ → Type 0 = λ name. IfSome files (λ told. HasBytes told name bytes) in
-    let named : N second = subst N (same_Some text second (c.second_text.ensures ∙ e)) read in
-    ends_sized files second bytes (HasPairOutcome c.args.line c.args.query.now second c.args.a.now) c.end_of_pair.result named small (c.end_of_pair.ensures.outcome second e)
+    let named : N second = subst N (same_Some text second (c.second_text.ensures ∙ e)) c.in-Ok.ensures.bytes in
+    ends_sized files second bytes (HasPairOutcome c.args.line c.args.query.now second c.args.a.items) c.end_of_pair.result named c.in-Ok.ensures.size (c.end_of_pair.ensures.outcome second e)
 
 pub returns-in-Err-Failed-clause-failed : goal.returns-in-Err-Failed-clause-failed
 returns-in-Err-Failed-clause-failed g c three =

@@ -1,4 +1,4 @@
-use Rattle.std.proofs.Common.{◌≡◌, ◌≤◌, ◌^◌, List, ℕ, length, false, Option, Err, IfSome, sym, ◌∙◌, ap, subst}
+use Rattle.std.proofs.Common.{◌≡◌, List, ℕ, false, Option, Err, IfSome, ◌∙◌, ap, subst}
 use Rattle.at_io.specs.Files.{Files}
 use Rattle.at_cli.specs.Made.{is_made}
 use Rattle.at_cli.specs.Outcomes.{HasBytes, Sized, HasPairOutcome}
@@ -11,15 +11,11 @@ pub returns-in-Ok-clause-outcome : goal.returns-in-Ok-clause-outcome
 returns-in-Ok-clause-outcome g c second e =
     let o = g.S.Shelf in
     let files = o.files c.args.shelf.now in
-    let bytes = c.deref.result.now in
-    let P : List ℕ → Type 0 = λ w. length w ≤ 2 ^ 28 in
-    let small : P bytes = subst P (sym c.deref.ensures.value) c.in-Ok.ensures.size in
-    let Q : List ℕ → Type 0 = λ w. IfSome files (λ told. HasBytes told c.as_str.result.now w) in
-    let read : Q bytes = subst Q (sym c.deref.ensures.value) c.in-Ok.ensures.bytes in
+    let bytes = c.in-Ok.a.items in
     let N : List ℕ → Type 0 = λ name. IfSome files (λ told. HasBytes told name bytes) in
-    let named : N c.args.line.first = subst N c.as_str.ensures read in
+    let named : N c.args.line.first = subst N c.as_str.ensures c.in-Ok.ensures.bytes in
     let E : Option Files → Type 0 = λ w. Ends (λ told. Sized told second (HasPairOutcome c.args.line c.args.query.now second bytes)) w c.end_of_second.result in
-    ends_more files c.args.line.first bytes (λ told a. Sized told second (HasPairOutcome c.args.line c.args.query.now second a)) c.end_of_second.result named small
+    ends_more files c.args.line.first bytes (λ told a. Sized told second (HasPairOutcome c.args.line c.args.query.now second a)) c.end_of_second.result named c.in-Ok.ensures.size
     (subst E c.named_bytes.ensures.same_files (c.end_of_second.ensures.outcome second e))
 
 pub returns-in-Ok-clause-failed : goal.returns-in-Ok-clause-failed
@@ -30,18 +26,14 @@ returns-in-Ok-clause-failed g c three =
     let after = c.end_of_second.new.shelf in
     let line = c.args.line in
     let files = o.files before in
-    let bytes = c.deref.result.now in
-    let P : List ℕ → Type 0 = λ w. length w ≤ 2 ^ 28 in
-    let small : P bytes = subst P (sym c.deref.ensures.value) c.in-Ok.ensures.size in
-    let Q : List ℕ → Type 0 = λ w. IfSome files (λ told. HasBytes told c.as_str.result.now w) in
-    let read : Q bytes = subst Q (sym c.deref.ensures.value) c.in-Ok.ensures.bytes in
+    let bytes = c.in-Ok.a.items in
     let N : List ℕ → Type 0 = λ name. IfSome files (λ told. HasBytes told name bytes) in
-    let named : N line.first = subst N c.as_str.ensures read in
+    let named : N line.first = subst N c.as_str.ensures c.in-Ok.ensures.bytes in
     let A : List ℕ → Type 0 = λ name. WasAsked (asked_name name) (o.files before) (o.begins before) (o.begins mid) (o.taken before) (o.taken mid) (o.named before) (o.named mid) in
     let F : Option Files → Type 0 = λ w. FailedOn (asked_second line.second) (line_of c.end_of_second.result) w (o.faults mid) (o.faults after) (o.begins mid) (o.begins after) (o.broken after) (o.taken mid) (o.taken after) (o.named mid) (o.named after) in
     failed_behind (asked_name line.first) (asked_second line.second) (line_of c.end_of_second.result) (o.files before) (o.faults before) (o.faults mid) (o.faults after) (o.begins before) (o.begins mid) (o.begins after) (o.broken after)
     (o.taken before) (o.taken mid) (o.taken after) (o.named before) (o.named mid) (o.named after) (subst A c.as_str.ensures c.named_bytes.ensures.asked) c.named_bytes.ensures.counted
-    (name_sized files line.first bytes named small) (subst F c.named_bytes.ensures.same_files (c.end_of_second.ensures.failed three))
+    (name_sized files line.first bytes named c.in-Ok.ensures.size) (subst F c.named_bytes.ensures.same_files (c.end_of_second.ensures.failed three))
 
 pub returns-in-Ok-clause-asked : goal.returns-in-Ok-clause-asked
 returns-in-Ok-clause-asked g c =
