@@ -1,13 +1,13 @@
 //! The answer to a join over two files.
 
-ghost use Rattle.std.specs.Prelude.{◌≡◌, ◌-◌, ◌<◌, ◌≤◌, ◌^◌, [], length, MatchResult, Some, Err, IfOk};
+ghost use Rattle.std.specs.Prelude.{◌≡◌, ◌-◌, ◌<◌, ◌≤◌, ◌^◌, [], length, MatchResult, Some, None, Err, IfOk};
 ghost use Rattle.at_text.specs.Texts.{base_of as text_begin};
 ghost use Rattle.at_query.specs.Ranges.{IsQueryInRange};
 ghost use Rattle.at_query.specs.Parts.{AreProper};
 ghost use Rattle.at_run.specs.Places.{first_place, last_place};
 ghost use Rattle.at_run.specs.Blocks.{NoneGivenUp};
 ghost use Rattle.at_run.specs.Files.{HasFileFaultIn};
-ghost use Rattle.at_run.specs.Answers.{IfFound, IsFilePart, IsJoinAnswer, IsJoinFault};
+ghost use Rattle.at_run.specs.Answers.{IfFound, IsFilePart, IsJoinAnswer, IsJoinFault, TheFilesFaults, IsTheJoinFault};
 ghost use Rattle.at_run.specs.Joins.{PairsWith, EndsSecond};
 
 use crate::answers::part;
@@ -145,6 +145,8 @@ pub fn answer_join<G: Gate, R: Threads + Sync>(
     requires workers { (0 < workers) × (workers ≤ 64) }
     ensures answer { MatchResult result (IsJoinAnswer form_a form_b digits how query.now a.now b.now)
         (IsJoinFault form_a form_b digits how a.now b.now) }
+    ensures only { MatchResult result (λ _. TheFilesFaults form_a form_b digits how a.now b.now None None)
+        (IsTheJoinFault form_a form_b digits how a.now b.now) }
     ensures gate_a { IfOk result (λ _. NoneGivenUp (G.given_up gate.now) 0 (length cuts_a.now - 1)) }
     ensures gate_b { IfOk result (λ _. NoneGivenUp (G.given_up gate.now) 0 (length cuts_b.now - 1)) }
     ensures gate_cells { IfOk result (λ _. NoneGivenUp (G.given_up gate.now) 0 64) }

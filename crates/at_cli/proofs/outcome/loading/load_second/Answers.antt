@@ -5,16 +5,16 @@ use Rattle.at_cli.specs.Texts.{unread_line}
 use Rattle.at_cli.specs.Outcomes.{HasBytes, HasPairOutcome}
 use Rattle.at_cli.specs.Failures.{asked_name, asked_second, WasAsked, FailedOn}
 use Rattle.at_cli.proofs.ShelfUses.{ends_sized, failed_name}
-use Rattle.at_cli.proofs.outcome.deciding.end_of_second.Goals as goal
+use Rattle.at_cli.proofs.outcome.loading.load_second.Goals as goal
 
 pub returns-in-Ok-clause-outcome : goal.returns-in-Ok-clause-outcome
-returns-in-Ok-clause-outcome g c second e =
+returns-in-Ok-clause-outcome g c second e end leads =
     let files = g.S.Shelf.files c.args.shelf.now in
-    let bytes = c.in-Ok.b.items in
+    let bytes = c.in-Ok.second.items in
     let text = c.second_text.result.now in
     let N : List ℕ → Type 0 = λ name. IfSome files (λ told. HasBytes told name bytes) in
     let named : N second = subst N (same_Some text second (c.second_text.ensures ∙ e)) c.in-Ok.ensures.bytes in
-    ends_sized files second bytes (HasPairOutcome c.args.line c.args.query.now second c.args.a.items) c.end_of_pair.result named c.in-Ok.ensures.size (c.end_of_pair.ensures.outcome second e)
+    ends_sized files second bytes (HasPairOutcome c.args.line c.args.query second c.args.first.items) end named c.in-Ok.ensures.size (leads.0 second e)
 
 pub returns-in-Err-Failed-clause-failed : goal.returns-in-Err-Failed-clause-failed
 returns-in-Err-Failed-clause-failed g c three =

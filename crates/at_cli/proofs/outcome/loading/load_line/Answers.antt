@@ -2,7 +2,7 @@ use Rattle.std.proofs.Common.{◌≤◌, ◌^◌, List, ℕ, length, sym, subst,
 use Rattle.at_query.specs.declared.query.reading.QueryEnd.{QueryEnd}
 use Rattle.at_query.specs.Queries.{HasQueryFault, IfFaultAt}
 use Rattle.at_cli.proofs.Runs.{ends_query}
-use Rattle.at_cli.proofs.outcome.deciding.end_of_line.Goals as goal
+use Rattle.at_cli.proofs.outcome.loading.load_line.Goals as goal
 
 pub read_query-requires : goal.read_query-requires
 read_query-requires g c = let P : List ℕ → Type 0 = λ text. length text ≤ 2 ^ 28 in subst P (sym (c.as_bytes.ensures.value ∙ c.as_str.ensures)) c.requires.query_fits

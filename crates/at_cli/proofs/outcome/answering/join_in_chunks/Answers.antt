@@ -4,7 +4,7 @@ use Rattle.at_cli.specs.LineOf.{form_of}
 use Rattle.at_cli.specs.Forms.{plain_form}
 use Rattle.at_cli.proofs.FormParts.{plain_join}
 use Rattle.at_cli.proofs.GatesPassed.{fed_pair_passed}
-use Rattle.at_cli.proofs.outcome.deciding.join_in_chunks.Goals as goal
+use Rattle.at_cli.proofs.outcome.answering.join_in_chunks.Goals as goal
 
 pub returns-clause-answer : goal.returns-clause-answer
 returns-clause-answer g c second e =

@@ -2,7 +2,7 @@ use Rattle.std.proofs.Common.{◌≡◌, List, ℕ, Some, subst}
 use Rattle.at_cli.specs.LineOf.{form_of}
 use Rattle.at_cli.specs.Forms.{plain_form}
 use Rattle.at_cli.proofs.FormParts.{plain_answer}
-use Rattle.at_cli.proofs.outcome.deciding.answer_in_chunks.Goals as goal
+use Rattle.at_cli.proofs.outcome.answering.answer_in_chunks.Goals as goal
 
 pub returns : goal.returns
 returns g c =

@@ -3,15 +3,15 @@ use Rattle.at_cli.specs.Made.{is_made}
 use Rattle.at_cli.specs.Outcomes.{HasBytes, HasBytesOutcome}
 use Rattle.at_cli.specs.Failures.{asked_name, asked_second, WasAsked}
 use Rattle.at_cli.proofs.ShelfUses.{ends_sized, failed_name}
-use Rattle.at_cli.proofs.outcome.deciding.end_of_one.Goals as goal
+use Rattle.at_cli.proofs.outcome.loading.load_one.Goals as goal
 
 pub returns-in-Ok-clause-outcome : goal.returns-in-Ok-clause-outcome
-returns-in-Ok-clause-outcome g c =
+returns-in-Ok-clause-outcome g c end leads =
     let files = g.S.Shelf.files c.args.shelf.now in
     let bytes = c.in-Ok.bytes.items in
     let N : List ℕ → Type 0 = λ name. IfSome files (λ told. HasBytes told name bytes) in
     let named : N c.args.line.first = subst N c.as_str.ensures c.in-Ok.ensures.bytes in
-    ends_sized files c.args.line.first bytes (HasBytesOutcome c.args.line c.args.query.now) c.end_of_bytes.result named c.in-Ok.ensures.size c.end_of_bytes.ensures.outcome
+    ends_sized files c.args.line.first bytes (HasBytesOutcome c.args.line c.args.query) end named c.in-Ok.ensures.size leads.0
 
 pub returns-in-Err-Failed-clause-failed : goal.returns-in-Err-Failed-clause-failed
 returns-in-Err-Failed-clause-failed g c three =
