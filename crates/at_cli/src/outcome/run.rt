@@ -48,10 +48,10 @@ fn tell<O: Sink, E: Sink>(ending: &Ending, out: &mut O, err: &mut E) -> u8
 }
 
 /// Runs the program over the words behind its name: reads what they ask for from the shelf, writes
-/// the answer to `out` or one line to `err`, and answers the status. The blocks of the file are run
-/// by as many passes as the words ask for, each of which enters the gate with a block before it
-/// runs it; no clause knows of an order of their steps. Where the words ask for chunks, a future
-/// takes the file's bytes in these instead, and no block is run.
+/// the answer to `out` or one line to `err`, and answers the status. The words say in how many
+/// blocks a file is read, and by how many passes, or in chunks of how many bytes; no clause asks
+/// more of them than whether they are spelled rightly, knows of an order of steps, or says what is
+/// done with the gate but for what is given up.
 ///
 /// What is said below holds where the call returns. It may wait only where the words ask for
 /// chunks: otherwise no call that it makes takes `Wait`.
