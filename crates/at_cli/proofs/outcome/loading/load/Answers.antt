@@ -3,7 +3,7 @@ use Rattle.at_cli.specs.declared.words.line.Line.{Line}
 use Rattle.at_cli.specs.declared.outcome.ending.Ending.{Ending}
 use Rattle.at_cli.specs.LineOf.{SaysLine}
 use Rattle.at_cli.specs.Outcomes.{HasOutcome, HasLineOutcome, SayNoLine, IsLineRefused, IsLineAccepted, AreRefused, AreAccepted}
-use Rattle.at_cli.specs.Failures.{asked_names, AsksFor, ShelfFailedOn}
+use Rattle.at_cli.specs.Failures.{asked_names, ShelfAsksFor, ShelfFailedOn}
 use Rattle.at_cli.specs.Endings.{status_of, line_of, Ends}
 use Rattle.at_cli.proofs.Loads.{on_ends, if_loaded}
 use Rattle.at_cli.specs.declared.outcome.ending.Ending.TheVariants.{Usage}
@@ -59,8 +59,6 @@ returns-in-Err-Refused-clause-refused g c e =
 
 pub returns-in-Ok-clause-asked : goal.returns-in-Ok-clause-asked
 returns-in-Ok-clause-asked g c =
-    let o = g.S.Shelf in
     let before = c.args.shelf.now in
     let after = c.load_line.new.shelf in
-    asked_of (map string_bytes c.args.words.now) c.in-Ok.line (after ≡ before) (λ line. AsksFor (asked_names line) (o.files before) (o.begins before) (o.begins after) (o.taken before) (o.taken after) (o.named before) (o.named after))
-    c.in-Ok.ensures.line c.load_line.ensures.asked
+    asked_of (map string_bytes c.args.words.now) c.in-Ok.line (after ≡ before) (λ line. ShelfAsksFor g.S.Shelf (asked_names line) before after) c.in-Ok.ensures.line c.load_line.ensures.asked
