@@ -85,10 +85,6 @@ both_asked ns ms m mid after same h k = record {
 pub asks_all : (ns : List (List ℕ)) (m n : Meanings) → WasAsked ns m n → AsksFor ns m n
 asks_all ns m n h = record { front = ns; behind = []; in_turn = sym (append-nil ns); was_asked = h }
 
--- the first of some names were asked for
-pub asks_front : (ns ms : List (List ℕ)) (m n : Meanings) → WasAsked ns m n → AsksFor (ns ++ ms) m n
-asks_front ns ms m n h = record { front = ns; behind = ms; in_turn = refl; was_asked = h }
-
 -- ---- failures
 
 none_before : (files : Option Files) → IfSome files (λ told. HaveSized told [])
