@@ -15,7 +15,8 @@ use Rattle.at_run.specs.declared.gathered.Gathered.{Gathered}
 use Rattle.at_run.specs.Encodings.{IsValidIn}
 use Rattle.at_run.specs.Gathering.{AreJoinable, IsJoinOf}
 use Rattle.at_wkt.proofs.LineMerges.{length-span_of}
-use Rattle.at_seq.specs.Records.{Piece, is_separator, records_in}
+use Rattle.at_text.specs.Separated.{Piece}
+use Rattle.at_seq.specs.Records.{is_separator, records_in}
 use Rattle.at_seq.specs.Gathering.{IsGathered, AddsRecords}
 use Rattle.at_seq.specs.declared.fragments.PartedText.{PartedText}
 use Rattle.at_seq.specs.declared.fragments.SeqText.{SeqText}

@@ -11,7 +11,8 @@ use Rattle.at_lex.specs.Fronts.{IsFront}
 use Rattle.at_lex.specs.Spans.{AreSpaces}
 use Rattle.at_lex.proofs.FrontLemmas.{front_all}
 use Rattle.at_wkt.proofs.LineMerges.{span_of-joined, length-span_of}
-use Rattle.at_seq.specs.Records.{Piece, pieces_from, is_separator, are_spaces, records_in}
+use Rattle.at_text.specs.Separated.{Piece}
+use Rattle.at_seq.specs.Records.{pieces_from, is_separator, are_spaces, records_in}
 use Rattle.at_seq.specs.Fragments.{piece_in, pieces_in}
 
 -- ---- records

@@ -2,8 +2,7 @@
 use Rattle.std.specs.Prelude.{ℕ, ◌==◌, not, Bool, List, drop, filter}
 use Rattle.std.specs.List.{list_all}
 use Rattle.at_text.specs.Texts.{base_of, is_space}
-use Rattle.at_text.specs.Separated.{separated_by}
-pub use Rattle.at_text.specs.Separated.{Piece, placed}
+use Rattle.at_text.specs.Separated.{Piece, separated_by}
 
 -- the record separator, which stands before each record
 abbrev pub is_separator : ℕ → Bool
