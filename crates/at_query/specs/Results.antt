@@ -25,14 +25,15 @@ all_positions fs = flat_map (λ (f : Feature). positions f.shape) fs
 abbrev pub all_polygons : List Feature → List Polygon
 all_polygons fs = flat_map (λ (f : Feature). f.shape.polygons) fs
 
--- what a verb asks of the features that are left; a join asks for pairs, which IsJoined tells
+-- what a verb asks of the features that are left; a join asks for pairs of two lists, which IsJoined tells, and has no
+-- answer over one
 abbrev pub IsAskedOf : Verb → List Feature → Answer → Type 0
 IsAskedOf verbs.Select fs answer = answer ≡ Offsets (map (λ (f : Feature). f.at) fs)
 IsAskedOf verbs.Count fs answer = answer ≡ Number (pos (length fs))
 IsAskedOf verbs.Area fs answer = answer ≡ Number (sum_of (map doubled_area (all_polygons fs)))
 IsAskedOf verbs.Extent fs answer = answer ≡ Spread (extent_of (all_positions fs))
 IsAskedOf verbs.Hull fs answer = (h : List Pos) × (answer ≡ Hull h) × IsHull (all_positions fs) h
-IsAskedOf verbs.Join fs answer = answer ≡ Pairs []
+IsAskedOf verbs.Join fs answer = ⊥
 
 -- the answer to the query over the features
 abbrev pub IsResult : Query → List Feature → Answer → Type 0
