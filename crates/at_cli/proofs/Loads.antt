@@ -37,6 +37,17 @@ if_loaded (Ended end) P Q f h = tt
 if_loaded (One file) P Q f h = f file.line h
 if_loaded (Two files) P Q f h = f files.line h
 
+-- what is true of all is true of each
+pub on_all : (loaded : Loaded) (P : Ending → Type 0) → ((e : Ending) → P e) → OnEnd loaded P
+on_all (Ended end) P f = f end
+on_all (One file) P f = λ e leads. f e
+on_all (Two files) P f = λ e leads. f e
+
+pub on_both : (loaded : Loaded) (P Q : Ending → Type 0) → OnEnd loaded P → OnEnd loaded Q → OnEnd loaded (λ e. P e × Q e)
+on_both (Ended end) P Q h k = (h, k)
+on_both (One file) P Q h k = λ e leads. (h e leads, k e leads)
+on_both (Two files) P Q h k = λ e leads. (h e leads, k e leads)
+
 -- the gate that gave up nothing of what is loaded gave up nothing that the words ask for
 pub passes_said : (words : List (List ℕ)) (given_up : List ℕ) (loaded : Loaded) → IfLoaded loaded (SaysLine words) → PassesLoaded given_up loaded → PassesSaid given_up words
 passes_said words given_up (Ended end) says passes = absurd passes
