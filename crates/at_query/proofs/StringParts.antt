@@ -87,7 +87,7 @@ same_string v r u s h k e = elim (append_cases v r u s e) [
 ]
 
 pub text_lives : Lives Text
-text_lives at = ([], 0x22 ∷ 0x22 ∷ [], ([], refl, (tt, sym (units_by_step []))))
+text_lives at = ([], 0x22 ∷ 0x22 ∷ [], ([], sym (units_by_step []), (tt, refl)))
 
 module _ (w : List ℕ) (i n : ℕ) (within : i ≤ length w) (whole : Bool) (h : TakesLongest JsonString (take (length w - i) (drop i w)) (record { len = n; whole = whole })) where
   -- a string stands
