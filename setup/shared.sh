@@ -11,14 +11,16 @@ fail() {
 
 # The files that are installed: the mode, the file here, and its place under a prefix.
 files() {
-    local tool page
+    local tool page module
     echo "755 crates/atgis/out/atgis bin/atgis"
     for tool in tools/atgis-*; do echo "755 $tool bin/${tool##*/}"; done
     for page in man/*.[17]; do echo "644 $page share/man/man${page##*.}/${page##*/}"; done
     echo "644 completions/atgis.bash share/bash-completion/completions/atgis"
     echo "644 completions/_atgis share/zsh/site-functions/_atgis"
     echo "644 completions/atgis.fish share/fish/vendor_completions.d/atgis.fish"
-    echo "644 python/atgis.py share/atgis/python/atgis.py"
+    for module in python/*.py python/py.typed python/pyproject.toml python/backend/wheels.py; do
+        echo "644 $module share/atgis/$module"
+    done
 }
 
 # A manual page with the version in it, or another file as it is.

@@ -70,7 +70,9 @@ def wanted_files() -> Dict[str, str]:
     wanted.update({"share/bash-completion/completions/atgis": "completions/atgis.bash",
                    "share/zsh/site-functions/_atgis": "completions/_atgis",
                    "share/fish/vendor_completions.d/atgis.fish": "completions/atgis.fish"})
-    wanted["share/atgis/python/atgis.py"] = "python/atgis.py"
+    modules = [one for one in os.listdir(os.path.join(REPOSITORY, "python")) if one.endswith(".py")]
+    wanted.update({f"share/atgis/python/{one}": f"python/{one}"
+                   for one in [*modules, "py.typed", "pyproject.toml", "backend/wheels.py"]})
     return wanted
 
 
@@ -87,7 +89,8 @@ def placed(copy: Copy, prefix: str) -> Iterator[Check]:
     version = read(os.path.join(copy.top, "VERSION")).strip()
     for name, source in wanted_files().items():
         text = read(os.path.join(copy.top, source)).replace(b"@VERSION@", version)
-        yield f"install: {name}", None if text and read(os.path.join(prefix, name)) == text else "it isn't right"
+        is_right = os.path.isfile(os.path.join(prefix, name)) and read(os.path.join(prefix, name)) == text
+        yield f"install: {name}", None if is_right else "it isn't right"
     program = os.path.join(prefix, "bin", "atgis")
     is_right = read(program) == read(copy.program) and os.access(program, os.X_OK)
     yield "install: bin/atgis", None if is_right else "it isn't the program"
