@@ -114,6 +114,9 @@ def whole(copy: Copy) -> Iterator[Check]:
     yield differs("all passes", (ended(lines), status), (["31 passed, 0 failed", "./check: all is well"], 0))
     yield differs("the packages that skipped tests want", lines[-4],
                   f"./check: skipped: 4, as told above; for these are wanted: {WANTED}")
+    found = [line for line in lines if "minutes on two processors" in line and "on four" in line]
+    yield differs("how long it takes", len(found), 1)
+    yield differs("the machine", lines[0].startswith("./check: found "), True)
     yield differs("what the gate says is there", "fn atgis::main: proved" in lines, True)
     begun = [line.rsplit("/", 1)[1] for line in lines if line.startswith("./check: script")]
     yield differs("all scripts", sorted(begun), sorted(SCRIPTS))
@@ -134,6 +137,7 @@ def quick(copy: Copy) -> Iterator[Check]:
     """The tests of the built program alone."""
     program = os.path.join(copy.top, "crates", "atgis", "out", "atgis")
     lines, status = copy.run("./check", "quick", GATE_FAILS="yes")
+    yield differs("how long quick takes", "minutes on two processors" in lines[1] and "on four" in lines[1], True)
     yield differs("quick", (ended(lines), status), (["26 passed, 0 failed", "./check: all is well"], 0))
     lines, status = copy.run("./check", "quick", "/bin/false")
     yield differs("quick with a program", ([line for line in lines if line.startswith("run ")], status),
