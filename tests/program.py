@@ -12,6 +12,20 @@ TESTS = os.path.dirname(os.path.abspath(__file__))
 REPOSITORY = os.path.dirname(TESTS)
 NOBODY = 65534
 FEW, PAUSE = 9, 0.005
+# The Debian packages of commands and of Python's modules, where a name differs; what has none comes by pip.
+PACKAGES = {
+    "awk": "mawk", "cc": "gcc", "dpkg-deb": "dpkg", "find": "findutils", "geopandas": "python3-geopandas",
+    "matplotlib": "python3-matplotlib", "ogr2ogr": "gdal-bin", "ogrinfo": "gdal-bin", "pip": "python3-pip",
+    "shapely": "python3-shapely", "split": "coreutils", "ssh": "openssh-client", "ssh-keygen": "openssh-client",
+    "sshd": "openssh-server", "tr": "coreutils", "venv": "python3-venv", "xargs": "findutils", "xz": "xz-utils",
+    "dask": "python3-dask", "pyspark": "pip:pyspark", "spark-submit": "pip:pyspark",
+}
+
+
+def to_install(*names):
+    """What a skipped test wants, as `(install PACKAGE ..)`, by the names of commands and modules; ./check reads it."""
+    found = {PACKAGES.get(name.split(".")[0], name) for name in names}
+    return f"(install {' '.join(sorted(found))})"
 
 
 def built():
