@@ -22,11 +22,11 @@ use Rattle.at_query.specs.declared.answer.parts.Entry.{Entry}
 use Rattle.at_query.specs.declared.answer.answers.Pair.{Pair}
 use Rattle.at_query.specs.Joined.{upper}
 use Rattle.at_query.specs.Parts.{IsProperEntry, AreProper}
-use Rattle.at_query.specs.Results.{Keeps}
+use Rattle.at_query.specs.Results.{Keeps, pairs_of}
 use Rattle.at_query.proofs.KeptLists.{kept_all}
 use Rattle.at_geom.proofs.ClosedRings.{clash}
 use Rattle.at_join.specs.Boxes.{touch_of}
-use Rattle.at_join.specs.Meetings.{Meeting, at_entries, pairs_of, IsAllPairs}
+use Rattle.at_join.specs.Meetings.{Meeting, at_entries, IsAllPairs}
 use Rattle.at_join.specs.Cells.{cell_of, spread_of, is_pair_of, InCells, is_pair, times, ListsEach}
 use Rattle.at_join.specs.Parts.{rank_of}
 use Rattle.at_join.proofs.FoundLists.{count_mapped}

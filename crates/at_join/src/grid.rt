@@ -2,7 +2,7 @@
 
 ghost use Rattle.std.specs.Prelude.{◌≡◌, ◌+◌, ◌<◌, ◌≤◌, IfOk, count_by};
 ghost use Rattle.at_query.specs.Parts.{AreProper};
-ghost use Rattle.at_join.specs.Meetings.{pairs_of};
+ghost use Rattle.at_query.specs.Results.{pairs_of};
 ghost use Rattle.at_query.specs.Joined.{around_both};
 ghost use Rattle.at_join.specs.Sides.{spread_onto};
 ghost use Rattle.at_join.specs.Cells.{belongs, InCells, ListsEach};

@@ -38,9 +38,9 @@ IsAskedOf verbs.Join fs answer = answer ≡ Pairs []
 abbrev pub IsResult : Query → List Feature → Answer → Type 0
 IsResult query fs answer = (kept : List Feature) × Keeps (Holds query) fs kept × IsAskedOf query.verb kept answer
 
--- all pairs, in order of the first list, then the second
-abbrev pub pairs_of : List Feature → List Feature → List (Feature × Feature)
-pairs_of fs gs = flat_map (λ (f : Feature). map (λ (g : Feature). (f, g)) gs) fs
+-- all pairs of an element of the one list and an element of the other, in order of the first, then the second
+abbrev pub pairs_of : {X : Type 0} → List X → List X → List (X × X)
+pairs_of {X} xs ys = flat_map (λ (x : X). map (λ (y : X). (x, y)) ys) xs
 
 -- the query holds of the first, and the shapes meet
 abbrev pub Joins : Query → Feature × Feature → Type 0
