@@ -4,6 +4,7 @@ use Rattle.std.proofs.Common.{◌≡◌, ℕ, ◌+◌, ◌-◌, ◌<◌, ◌≤�
 use Rattle.std.specs.List.{position_or_len}
 use Rattle.at_text.specs.Spans.{span_of, AreNeighbours, IsMerged}
 use Rattle.at_text.specs.declared.texts.Span.{Span}
+use Rattle.at_text.proofs.Separated.{glued, glued_end}
 use Rattle.at_nest.specs.FragmentMeanings.{StandsFor}
 use Rattle.at_nest.specs.declared.fragments.Fragment.{Fragment}
 use Rattle.at_geojson.specs.declared.asked.GeoAlgebra.{GeoAlgebra}
@@ -23,7 +24,6 @@ use Rattle.at_seq.specs.declared.fragments.SeqRead.{SeqRead}
 use Rattle.at_seq.specs.declared.fragments.SeqFragment.{SeqFragment}
 use Rattle.at_seq.specs.declared.fragments.SeqFragment.TheVariants.{Read}
 use Rattle.at_seq.specs.Fragments.{SeqAsks, piece_in, pieces_in, AreBeside, IsOfBoth, HoldsJson, HoldsParted, HoldsText, HoldsSpan, HoldsFragment, HoldsInner, StandsInFile}
-use Rattle.at_seq.proofs.Splits.{glued, glued_end}
 use Rattle.at_seq.proofs.PieceRecords.{records_in-append, records_around, pieces_both, piece_both, pieces_ahead, pieces_alone}
 use Rattle.at_seq.proofs.Gathers.{gathered_joinable, gathered_joined}
 
