@@ -5,11 +5,12 @@ use Rattle.at_io.specs.Files.{Files}
 use Rattle.at_cli.specs.declared.outcome.ending.Ending.{Ending}
 use Rattle.at_cli.specs.declared.words.line.Line.{Line}
 use Rattle.at_cli.specs.LineOf.{SaysLine}
-use Rattle.at_query.specs.Queries.{HasQueryFault}
+use Rattle.at_query.specs.declared.query.queries.Query.{Query}
+use Rattle.at_query.specs.Queries.{IsQueryOf, HasQueryFault}
 use Rattle.at_cli.specs.declared.outcome.ending.Ending.TheVariants.{Usage, QueryFault, Names, Faulty, ReadFailed, TooLarge, NoMemory, Answered}
 use Rattle.at_cli.specs.declared.words.line.WordsEnd.{WordsEnd}
 use Rattle.at_cli.specs.declared.words.line.WordsEnd.TheVariants.{Refused}
-use Rattle.at_cli.specs.Outcomes.{Outcome, stopped, answered, HasLineOutcome, HasOutcome, SayNoLine, IsLineRefused, IsLineAccepted, AreRefused, AreAccepted}
+use Rattle.at_cli.specs.Outcomes.{Outcome, stopped, answered, has_right_count, HasCountedOutcome, HasLineOutcome, HasOutcome, SayNoLine, IsLineRefused, IsLineAccepted, AreRefused, AreAccepted}
 use Rattle.at_cli.specs.Endings.{status_of, text_of, line_of, outcome_by, Ends}
 
 -- what holds over all files holds over these
@@ -23,6 +24,14 @@ ends_said words line files e says (inl three) = inl three
 ends_said words line files e says (inr (inl five)) = inr (inl five)
 ends_said words line None e says (inr (inr h)) = inr (inr tt)
 ends_said words line (Some told) e says (inr (inr h)) = inr (inr (inr (line, says, h)))
+
+-- the end over the line's query, whose names are counted, is that over the line
+pub ends_asked : (line : Line) (query : Query) (files : Option Files) (e : Ending) → IsQueryOf line.digits line.how line.query query → Ends (HasCountedOutcome (has_right_count query.verb line.second) line query) files e
+    → Ends (HasLineOutcome line) files e
+ends_asked line query files e is (inl three) = inl three
+ends_asked line query files e is (inr (inl five)) = inr (inl five)
+ends_asked line query None e is (inr (inr h)) = inr (inr tt)
+ends_asked line query (Some told) e is (inr (inr h)) = inr (inr (inr (query, is, h)))
 
 -- a query with a fault ends the run
 pub ends_query : (line : Line) (files : Option Files) (text : List ℕ) (at : ℕ) → text ≡ line.query → HasQueryFault line.digits line.how text at → Ends (HasLineOutcome line) files (QueryFault at)
