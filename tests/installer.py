@@ -166,6 +166,9 @@ def checks(program: str, folder: str) -> List[Check]:
         found.append(differs(f"install: the {turn} time", (out, status), (f"{last}\n", 0)))
         found += list(progress(err))
         found += placed(copy, prefix)
+    for kept in ("python/__pycache__", "python/backend/__pycache__"):
+        os.mkdir(os.path.join(prefix, "share", "atgis", kept))
+        shutil.copy(__file__, os.path.join(prefix, "share", "atgis", kept, "atgis.cpython-311.pyc"))
     found.append(differs("install: uninstall", copy.run("--uninstall", prefix), ("", "", 0)))
     found.append(differs("install: all of it is taken away, and nothing else", tree(prefix), before))
     return found
