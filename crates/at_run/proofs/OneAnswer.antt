@@ -33,6 +33,7 @@ use Rattle.at_run.proofs.LabelledLines.{one_labelled}
 use Rattle.at_run.proofs.FaultLists.{one_lines_fault}
 use Rattle.at_run.specs.JsonFiles.{HaveJsonFaults, HasJsonFaultBehind}
 use Rattle.at_run.specs.Files.{HasFileFaultIn, TheFileFaultIn, AreJsonFeatures, AreFileFeaturesIn}
+use Rattle.at_run.specs.Joins.{first_end}
 use Rattle.at_run.specs.Answers.{IfFound, IsFilePart, IsFileAnswer, IsJoinAnswer, IsJoinFault, TheFilesFaults, IsTheJoinFault}
 
 -- the least count of blocks that serves is one
@@ -136,3 +137,8 @@ module _ (form_a form_b : Form) (digits : ℕ) (how : Coords) (query : Query) (f
   only_join_fault (Err (joins.First fault)) h = the_file_fault_in form_a digits how first (Some fault) h
   only_join_fault (Err (joins.Second fault)) h = (the_file_fault_in form_a digits how first None h.0, the_file_fault_in form_b digits how second (Some fault) h.1)
   only_join_fault (Err joins.Memory) h = tt
+
+  -- where the first file's fault is why there is no join, no other one is its first
+  pub only_first_fault : (end : RunFault) (fault : JoinFault) → fault ≡ first_end end → IfFound end (λ f. HasFileFaultIn form_a digits how first (Some f)) → IsTheJoinFault form_a form_b digits how first second fault
+  only_first_fault (Found f) fault e h = let P : JoinFault → Type 0 = λ z. IsTheJoinFault form_a form_b digits how first second z in subst P (sym e) (the_file_fault_in form_a digits how first (Some f) h)
+  only_first_fault Memory fault e h = let P : JoinFault → Type 0 = λ z. IsTheJoinFault form_a form_b digits how first second z in subst P (sym e) tt

@@ -8,7 +8,7 @@ use Rattle.at_run.specs.Files.{HasFileFaultIn}
 use Rattle.at_run.specs.Answers.{IfFound, IsFilePart, IsJoinAnswer, IsJoinFault}
 use Rattle.at_run.proofs.JoinEnds.{joins_by, joins_ok}
 use Rattle.at_run.proofs.JoinedFiles.{files_joined}
-use Rattle.at_run.proofs.OneAnswer.{only_join_fault}
+use Rattle.at_run.proofs.OneAnswer.{only_join_fault, only_first_fault}
 use Rattle.at_run.proofs.joins.answer_join.Goals as goal
 
 pub returns-clause-answer : goal.returns-clause-answer
@@ -22,6 +22,10 @@ returns-clause-answer g c =
 pub returns-clause-only : goal.returns-clause-only
 returns-clause-only g c =
     only_join_fault c.args.form_a c.args.form_b c.args.digits c.args.how c.args.query.now c.args.a.now c.args.b.now c.join_with.result (returns-clause-answer g c)
+
+pub returns-in-Err-clause-only : goal.returns-in-Err-clause-only
+returns-in-Err-clause-only g c =
+    only_first_fault c.args.form_a c.args.form_b c.args.digits c.args.how c.args.query.now c.args.a.now c.args.b.now c.in-Err.end c.of_first.result c.of_first.ensures c.in-Err.ensures.part
 
 pub returns-clause-gate_b : goal.returns-clause-gate_b
 returns-clause-gate_b g c =

@@ -38,9 +38,12 @@ returns g c =
       stopped = λ h. let (n0, n4) = is_no_answer status h in (line_of ending, (told.told n0 n4).1, told_line (TheOutcome words) files ending status only told.status h);
       too_large = λ six. on_end loaded (λ end. status_of end ≡ 6 → o.taken before + (2 ^ 28 + 1) ≤ o.taken after) ending said.large leads (own_status status own 6 told.status six (λ z. omega (arith, z)));
       refused = λ two.
-          let own_two = own_status status own 2 told.status two (λ z. omega (arith, z)) in
-          (line_of ending, on_end loaded (λ end. status_of end ≡ 2 → AreRefused words (line_of end)) ending said.refused leads own_two,
-          on_end loaded (λ end. status_of end ≡ 2 → after ≡ before) ending said.untouched leads own_two, (told.told (λ z. omega (arith, two, z)) (λ z. omega (arith, two, z))).1);
+          let own_two = own_status status own 2 told.status two (λ z. omega (arith, z)) in (
+            line_of ending,
+            on_end loaded (λ end. status_of end ≡ 2 → AreRefused words (line_of end)) ending said.refused leads own_two,
+            on_end loaded (λ end. status_of end ≡ 2 → after ≡ before) ending said.untouched leads own_two,
+            (told.told (λ z. omega (arith, two, z)) (λ z. omega (arith, two, z))).1,
+          );
       refuses = λ refusal h. told_refusal status own told.status (on_end loaded (λ end. (status_of end ≡ 2) ⊎ (status_of end ≡ 5)) ending (said.refuses refusal h) leads);
       usage = λ none. as_told status own 2 told.status (on_end loaded (λ end. status_of end ≡ 2) ending (said.usage none) leads) (λ z. omega (arith, z));
       read_failed = λ three.
