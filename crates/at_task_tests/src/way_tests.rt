@@ -62,21 +62,39 @@ const LINES: [(&[u8], &str); 16] = [
     (b"\"\xC3\n\xA9\" POINT (1 2)\n", "NotUtf8 1"),
 ];
 
-/// Whether the same is told of a file in chunks of every size up to its length and one more, with each call pending in
-/// turn, and none.
+/// Whether a count of a file in chunks of that size is told to be the text, where these calls are pending.
+fn is_told<R: Wait + RandomSource + AllocGlobal>(
+    rt: &R,
+    file: (bool, &[u8], &str),
+    size: u32,
+    waits: &[u32],
+) -> Result<bool, Fail> {
+    let (is_lines, bytes, text) = file;
+    let form = if is_lines { Form::Wkt } else { Form::GeoJson };
+    let query = asked(rt.alloc(), Verb::Count);
+    let found = told(rt, bytes, form, query, size, waits, 1 + size % 5)?;
+    Ok(found.as_str() == text)
+}
+
+/// Whether the same is told of a file in chunks of every size up to its length and one more, where each second call is
+/// pending; and in chunks of two and of five bytes, where each call is pending in turn and no other.
 fn is_told_always<R: Wait + RandomSource + AllocGlobal>(
     rt: &R,
-    is_lines: bool,
-    bytes: &[u8],
-    text: &str,
+    file: (bool, &[u8], &str),
 ) -> Result<bool, Fail> {
-    let most = (bytes.len() as u32).saturating_add(2);
+    let most = (file.1.len() as u32).saturating_add(2);
+    let mut seconds = Vec::new(rt.alloc());
+    for call in 0..most {
+        seconds.push(call.saturating_mul(2))?;
+    }
     for size in 1..most {
+        if !is_told(rt, file, size, seconds.as_slice())? {
+            return Ok(false);
+        }
+    }
+    for size in [2u32, 5] {
         for call in 0..most {
-            let form = if is_lines { Form::Wkt } else { Form::GeoJson };
-            let query = asked(rt.alloc(), Verb::Count);
-            let found = told(rt, bytes, form, query, size, &[call], 1 + call % 5)?;
-            if found.as_str() != text {
+            if !is_told(rt, file, size, &[call])? {
                 return Ok(false);
             }
             if call.saturating_mul(size) > most {
@@ -95,7 +113,7 @@ fn count_always<R: Wait + RandomSource + AllocGlobal>(
 ) -> Result<usize, Fail> {
     for file in 0..files.len() {
         let (bytes, text) = files[file];
-        if !is_told_always(rt, is_lines, bytes, text)? {
+        if !is_told_always(rt, (is_lines, bytes, text))? {
             return Ok(file);
         }
     }
