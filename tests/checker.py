@@ -158,8 +158,10 @@ def quick(copy: Copy) -> Iterator[Check]:
     lines, status = copy.run("./check", "quick", "/bin/false")
     yield differs("quick with a program", ([line for line in lines if line.startswith("run ")], status),
                   (["run false"], 0))
-    os.remove(program)
+    shutil.rmtree(os.path.dirname(os.path.dirname(program)))
     lines, status = copy.run("./check", "quick")
+    yield differs("quick says which program isn't there", lines[2].split(",")[0],
+                  f"./check: there is no program at {program}")
     yield differs("quick without a program", (ended(lines), status),
                   (["0 passed, 1 failed", "./check: FAILED: no-program"], 1))
     for words in (["slow"], ["quick", "a", "b"], ["--help"], [""] * 2):
