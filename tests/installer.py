@@ -58,15 +58,16 @@ def tree(folder: str) -> Set[str]:
 
 def wanted_files() -> Dict[str, str]:
     """What has to stand under PREFIX, and the file that each is of."""
-    tools = [f"tools/{name}" for name in ("atgis-show", "atgis-where", "atgis-explain")]
-    pages = [f"man/{name}" for name in ("atgis.1", "atgis-show.1", "atgis-where.1", "atgis-explain.1", "atgis-query.7")]
+    tools = [f"tools/{name}" for name in ("atgis-show", "atgis-where", "atgis-explain", "atgis-many", "atgis-table")]
+    pages = [f"man/{name}" for name in ("atgis.1", "atgis-show.1", "atgis-where.1", "atgis-explain.1", "atgis-many.1",
+                                        "atgis-table.1", "atgis-query.7")]
     wanted = {f"bin/{one.split('/')[1]}": one for one in tools}
     wanted.update({f"share/man/man{one[-1]}/{one.split('/')[1]}": one for one in pages})
     wanted.update({"share/bash-completion/completions/atgis": "completions/atgis.bash",
                    "share/zsh/site-functions/_atgis": "completions/_atgis",
                    "share/fish/vendor_completions.d/atgis.fish": "completions/atgis.fish"})
-    if os.path.exists(os.path.join(REPOSITORY, "python", "atgis.py")):
-        wanted["share/atgis/python/atgis.py"] = "python/atgis.py"
+    modules = ("atgis", "atgis_many", "atgis_parts", "atgis_asking", "atgis_running", "atgis_settling")
+    wanted.update({f"share/atgis/python/{name}.py": f"python/{name}.py" for name in modules})
     return wanted
 
 
@@ -114,6 +115,18 @@ def refusals(copy: Copy, prefix: str) -> Iterator[Check]:
     yield differs("install: nothing was put in place by these", os.path.exists(prefix), False)
 
 
+def used(prefix: str) -> Check:
+    """Runs a tool that is installed and that needs the modules, of which Python keeps something beside them."""
+    path = os.path.join(prefix, "a.wkt")
+    with open(path, "w", encoding="ascii") as file:
+        file.write("POINT (1 2)\n")
+    env = {name: value for name, value in os.environ.items() if name not in ("PYTHONPATH", "PYTHONDONTWRITEBYTECODE")}
+    done = subprocess.run([os.path.join(prefix, "bin", "atgis-many"), "count", path], capture_output=True, text=True,
+                          env={**env, "ATGIS": os.path.join(prefix, "bin", "atgis")}, check=False)
+    os.remove(path)
+    return differs("install: atgis-many finds its modules", (done.stdout, done.stderr, done.returncode), ("1\n", "", 0))
+
+
 def checks(program: str, folder: str) -> List[Check]:
     """What was checked of the installer, and what is wrong with it."""
     copy = Copy(program, folder)
@@ -127,6 +140,7 @@ def checks(program: str, folder: str) -> List[Check]:
         out, _, status = copy.run("pre fix", cwd=folder)
         found.append(differs(f"install: the {turn} time", (out, status), (f"{prefix}/bin/atgis\n", 0)))
         found += placed(copy, prefix)
+    found.append(used(prefix))
     found.append(differs("install: uninstall", copy.run("--uninstall", prefix), ("", "", 0)))
     found.append(differs("install: all of it is taken away, and nothing else", tree(prefix), before))
     return found
