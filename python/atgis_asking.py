@@ -57,7 +57,7 @@ def ask(task: Task, _attempt: int = 0) -> Told:
         else:
             with tempfile.TemporaryDirectory(prefix="atgis-many-") as folder:
                 told = told_of_two(command, task.parts, folder)
-        if task.is_scanned and told.status in (0, 1):
+        if task.is_scanned and told.status == 0:
             with open(task.parts[0].file, "rb") as file:
                 return told._replace(may_leave=may_leave(mapped(file), task.parts[0]))
         return told

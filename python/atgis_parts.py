@@ -17,7 +17,7 @@ from typing import Any, Iterator, List, NamedTuple, Optional, Tuple, Union
 
 __all__ = [
     "CannotCut", "Head", "LIMIT", "PART", "Part", "alone", "around_fault", "as_record", "cut", "form_of", "head_of",
-    "ends_before", "inner", "last", "mapped", "may_leave", "next_cut", "pieces", "sentinel_place", "type_behind",
+    "has_end", "inner", "last", "mapped", "may_leave", "next_cut", "pieces", "sentinel_place", "type_behind",
     "value_end", "with_sentinel",
 ]
 
@@ -112,6 +112,7 @@ ITEM = re.compile(SPACE + nested(3) + SPACE + b",", re.DOTALL)
 FIRST_MEMBER = re.compile(rb"\{" + SPACE + b"(" + STRING + b")" + SPACE + b":" + SPACE + b"(" + STRING + b")?", re.DOTALL)
 ANY_SEPARATOR = re.compile(rb"\}" + SPACE + b"," + SPACE + rb"(?=\{)")
 LEAVING = re.compile(rb"\}" + SPACE + rb"\]" + SPACE + b"," + SPACE + b'"')
+LEAVING_ANY = re.compile(rb"\]" + SPACE + b"," + SPACE + b'"')
 
 
 # ---- files and their forms -------------------------------------------------------------------------------------------
@@ -259,7 +260,7 @@ def sentinel_place(part: Part) -> int:
 
 
 def may_leave(data: Data, part: Part) -> bool:
-    """Whether anything in a part looks as if the array of features ended there and another member followed."""
+    """Whether anything in a part looks as if the array of features ended there, behind one, and another member followed."""
     at = part.begin
     while at < part.end:
         stop = data.find(b"}", at + STEP, part.end)             # no match goes on over a further bracket
@@ -389,12 +390,14 @@ def next_cut(data: Data, begin: int, least: int) -> Optional[Tuple[int, int]]:
         at = following
 
 
-def ends_before(data: Data, begin: int, stop: int) -> bool:
-    """Whether the array in which an item begins ends before a place, by walking over its items."""
-    at: Optional[int] = begin
+def has_end(data: Data, part: Part) -> bool:
+    """Whether the array in which a part begins ends in it, by walking over its items: the part's JSON has to be right."""
+    if not LEAVING_ANY.search(data, part.begin, part.end):
+        return False
+    at: Optional[int] = part.begin
     while at is not None:
         end, at = item_end(data, at)
-        if end >= stop:
+        if end >= part.end:
             return False
     return True
 

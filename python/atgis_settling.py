@@ -163,10 +163,10 @@ class Settling:
         """Whether the array of features ends within a part that isn't the last one, though its JSON is right."""
         if found and (found.tier < 3 or part.is_behind(found.inner)):
             return found.tier == 3
+        if found:
+            return parts_of.has_end(data, part)
         if not told.may_leave:
             return False
-        if found:
-            return parts_of.ends_before(data, part.begin, part.end)
         other = parts_of.with_sentinel(part)
         said = found_in(other, self.runner.told(self.question._replace(query="count").of(other)))
         return said is None or said.inner != parts_of.sentinel_place(part)

@@ -119,7 +119,9 @@ def fault_in_cut_checks(folder: str) -> Iterator[Check]:
     typed = collection(ten, "", f',"type":[{others}],"type":"FeatureCollection"')
     bare = collection(ten, "", f',"type":[{others}]')
     item = collection([*ten[:7], "0", *ten[7:]], back=f',"old":[{others}],"old":1')
+    late = collection([*ten, "0"], back=f',"old":[{others}],"old":[{others}],"older":[{others}]')
     files = {
+        "a name twice, behind an item that is no feature": (late, f'Twin at {late.rindex(chr(34) + "old" + chr(34))}'),
         "a name twice behind the features": (twice, f'Twin at {twice.rindex(chr(34) + "old")}'),
         "the type twice behind the features": (typed, f'Twin at {typed.rindex(chr(34) + "type" + chr(34) + ":" + chr(34) + "FeatureC")}'),
         "the type is an array": (bare, "Form at 0"),

@@ -116,9 +116,9 @@ def ran(way: str, python: str, folder: str) -> Iterator[Check]:
            "OMPI_ALLOW_RUN_AS_ROOT_CONFIRM": "1", "PYTHONPATH": os.path.join(REPOSITORY, "python")}
     try:
         done = subprocess.run([*start, os.path.abspath(__file__), way, folder], env=env, capture_output=True, text=True,
-                              timeout=120, check=False)
+                              timeout=400, check=False)
     except subprocess.TimeoutExpired:
-        yield f"{way}: it ends", "it was stopped after two minutes"
+        yield f"{way}: it ends", "it was stopped after 400 seconds"
         return
     found = [json.loads(line) for line in done.stdout.splitlines() if line.startswith("[")]
     yield from ((what, wrong) for what, wrong in found)
