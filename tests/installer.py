@@ -63,9 +63,10 @@ def wanted_files() -> Dict[str, str]:
                                         "atgis-table.1", "atgis-query.7")]
     wanted = {f"bin/{one.split('/')[1]}": one for one in tools}
     wanted.update({f"share/man/man{one[-1]}/{one.split('/')[1]}": one for one in pages})
-    wanted.update({"share/bash-completion/completions/atgis": "completions/atgis.bash",
-                   "share/zsh/site-functions/_atgis": "completions/_atgis",
-                   "share/fish/vendor_completions.d/atgis.fish": "completions/atgis.fish"})
+    for name in ("atgis", "atgis-many"):
+        wanted.update({f"share/bash-completion/completions/{name}": "completions/atgis.bash",
+                       f"share/fish/vendor_completions.d/{name}.fish": "completions/atgis.fish"})
+    wanted["share/zsh/site-functions/_atgis"] = "completions/_atgis"
     modules = ("atgis", "atgis_many", "atgis_parts", "atgis_asking", "atgis_running", "atgis_settling")
     wanted.update({f"share/atgis/python/{name}.py": f"python/{name}.py" for name in modules})
     return wanted
