@@ -1,7 +1,7 @@
 """Asks atgis about parts of files: what a worker of `atgis_many` does, on this machine or on another.
 
-What travels to a worker is the function `ask` with a Task, and what comes back is a Told. So each machine has `atgis` (or
-the environment variable ATGIS), sees the files at the same names, and can import this module and `atgis_parts`.
+What travels to a worker is the function `ask` with a Task, and what comes back is a Told. So each machine has `atgis`
+(or the environment variable ATGIS), sees the files at the same names, and can import this module and `atgis_parts`.
 
 The standard library alone, Python 3.9 or later.
 """

@@ -21,8 +21,8 @@ those of atgis, and `lines`: a GeoJSON text on each line. These options stand be
     coords, digits, program   as those of the module atgis
     progress   True or False: whether a line on the error output tells how much is done; on a terminal alone
 
-docs/SCALE.md says how files are cut, why that is exact, and how to use many machines. The standard library alone, Python
-3.9 or later.
+docs/SCALE.md says how files are cut, why that is exact, and how to use many machines. The standard library alone,
+Python 3.9 or later.
 """
 from __future__ import annotations
 
@@ -130,8 +130,8 @@ class Dataset:
     def join(self, second: "Dataset", where: atgis.Tests = None) -> Iterator[Tuple[Place, Place]]:
         """The places of each pair of features that meet, in order of the first and then the second.
 
-        The tests are of the features of this data set. Pairs come as the parts of this data set are done; a fault of any
-        file is raised before the first of them.
+        The tests are of the features of this data set. Pairs come as the parts of this data set are done; a fault of
+        any file is raised before the first of them.
         """
         if self.options != second.options:
             raise ValueError("the two data sets of a join have different coords or digits")
@@ -234,7 +234,8 @@ class Dataset:
                 yield from merged_pairs(one, second.files, told)
 
 
-def merged_pairs(one: Part, files: Sequence[str], told: List[Tuple[Part, Task, bytes]]) -> Iterator[Tuple[Place, Place]]:
+def merged_pairs(one: Part, files: Sequence[str], told: List[Tuple[Part, Task, bytes]]
+                 ) -> Iterator[Tuple[Place, Place]]:
     """The pairs of a part with others, in order, of what the program printed of each."""
     def pairs(other: Part, task: Task, text: bytes) -> Iterator[Tuple[int, int, int]]:
         number, numbers = files.index(other.file), (int(word.group()) for word in WORD.finditer(text))
@@ -267,7 +268,7 @@ def meet(one: Optional[Extent], other: Optional[Extent]) -> bool:
 
 
 def refuse_forms(forms: Iterable[str]) -> None:
-    """Raises that a join can't be asked, since `--form` of the program is of both files and no name means a sequence."""
+    """Raises that a join can't be asked: `--form` of the program is of both files, and no name means a sequence."""
     if {"wkt", "seq"} <= set(forms):
         raise CannotCut("join: lines of Well-Known Text can't be joined with a text sequence or with lines of GeoJSON; "
                         "make these a FeatureCollection first, as by `atgis-show --as collection`")

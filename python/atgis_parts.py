@@ -109,7 +109,8 @@ PLAIN = re.compile(rb'[^][{}",: \t\r\n]+')
 BRACKET = re.compile(rb'[^]{}["]*(?:' + STRING + rb'[^]{}["]*)*([]{}[])', re.DOTALL)
 OBJECT = re.compile(nested(3), re.DOTALL)
 ITEM = re.compile(SPACE + nested(3) + SPACE + b",", re.DOTALL)
-FIRST_MEMBER = re.compile(rb"\{" + SPACE + b"(" + STRING + b")" + SPACE + b":" + SPACE + b"(" + STRING + b")?", re.DOTALL)
+FIRST_MEMBER = re.compile(rb"\{" + SPACE + b"(" + STRING + b")" + SPACE + b":" + SPACE + b"(" + STRING + b")?",
+                          re.DOTALL)
 ANY_SEPARATOR = re.compile(rb"\}" + SPACE + b"," + SPACE + rb"(?=\{)")
 LEAVING = re.compile(rb"\}" + SPACE + rb"\]" + SPACE + b"," + SPACE + b'"')
 LEAVING_ANY = re.compile(rb"\]" + SPACE + b"," + SPACE + b'"')
@@ -130,7 +131,8 @@ def front_of(name: str) -> bytes:
         front = file.read(FRONT_SIZE)
     for begin, (packing, command) in PACKED.items():
         if front.startswith(begin):
-            raise CannotCut(f"{name}: it is packed by {packing}, so it can't be cut; unpack it first, as by `{command}`")
+            raise CannotCut(f"{name}: it is packed by {packing}, so it can't be cut; unpack it first, as by "
+                            f"`{command}`")
     return front
 
 
@@ -228,8 +230,8 @@ def separator_of(data: Data, first: int) -> Optional["re.Pattern[bytes]"]:
     if not found:
         return ANY_SEPARATOR if data[first:first + 1] == b"{" else None
     value = re.escape(found.group(2)) if found.group(1) == b'"type"' and found.group(2) else b""
-    return re.compile(rb"\}" + SPACE + b"," + SPACE + rb"(?=\{" + SPACE + re.escape(found.group(1)) + SPACE + b":" + SPACE
-                      + value + b")")
+    return re.compile(rb"\}" + SPACE + b"," + SPACE + rb"(?=\{" + SPACE + re.escape(found.group(1)) + SPACE + b":"
+                      + SPACE + value + b")")
 
 
 def inner(name: str, head: Head, begin: int, end: int) -> Part:
@@ -247,7 +249,7 @@ def alone(name: str, head: Head) -> Part:
     return Part(name, 0, head.first, "geojson", after=head.back())
 
 
-# ---- parts that ask something else ------------------------------------------------------------------------------------
+# ---- parts that ask something else -----------------------------------------------------------------------------------
 
 def with_sentinel(part: Part) -> Part:
     """The part with an item behind it that is no feature, which is a fault where it is among the features."""
@@ -260,7 +262,7 @@ def sentinel_place(part: Part) -> int:
 
 
 def may_leave(data: Data, part: Part) -> bool:
-    """Whether anything in a part looks as if the array of features ended there, behind one, and another member followed."""
+    """Whether anything in a part looks as if the features ended there, behind one, and another member followed."""
     at = part.begin
     while at < part.end:
         stop = data.find(b"}", at + STEP, part.end)             # no match goes on over a further bracket
@@ -391,7 +393,7 @@ def next_cut(data: Data, begin: int, least: int) -> Optional[Tuple[int, int]]:
 
 
 def has_end(data: Data, part: Part) -> bool:
-    """Whether the array in which a part begins ends in it, by walking over its items: the part's JSON has to be right."""
+    """Whether the array in which a part begins ends in it, by walking over its items; its JSON has to be right."""
     if not LEAVING_ANY.search(data, part.begin, part.end):
         return False
     at: Optional[int] = part.begin

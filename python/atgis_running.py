@@ -1,6 +1,7 @@
 """Has parts of files asked by an executor, in order and again where that failed, and keeps what was answered.
 
-An executor is whatever has the `submit` of `concurrent.futures.Executor`. The standard library alone, Python 3.9 or later.
+An executor is whatever has the `submit` of `concurrent.futures.Executor`. The standard library alone, Python 3.9 or
+later.
 """
 from __future__ import annotations
 
@@ -164,11 +165,15 @@ class Runner:
                 self.submit(task)
 
     def submit(self, task: Task) -> None:
-        """Hands a task to the executor. No two calls are equal, since Dask would answer the second by the first."""
+        """Hands a task to the executor, with names that don't depend on where a worker runs.
+
+        No two calls are equal, since Dask would answer the second by the first.
+        """
         self.begun.add(task)
         self.count += 1
+        parts = tuple(part._replace(file=os.path.abspath(part.file)) for part in task.parts)
         try:
-            self.running[task] = self.executor.submit(ask, task, f"{self.tag}-{self.count}")
+            self.running[task] = self.executor.submit(ask, task._replace(parts=parts), f"{self.tag}-{self.count}")
         except RuntimeError as error:
             raise PartFailed(f"the executor takes no more work: {error or type(error).__name__}") from error
 
@@ -187,7 +192,7 @@ class Runner:
         for _ in range(0 if told else self.tries):
             if task not in self.running:
                 self.submit(task)
-            told = result_of(self.running.pop(task))
+            told = result_of(task, self.running.pop(task))
             self.fill()
             if told.status in IS_LAST:
                 break
@@ -205,12 +210,17 @@ class Runner:
         self.progress.clear()
 
 
-def result_of(future: Any) -> Told:
-    """What came of a task, also where the executor failed."""
+def result_of(task: Task, future: Any) -> Told:
+    """What came of a task, with names as they were given; also where the executor failed."""
     try:
-        return future.result()
+        told = future.result()
     except Exception as error:  # Whatever an executor raises, the task may be tried again.
         return Told(-1, f"{type(error).__name__}: {error}", b"")
+    for part in task.parts:
+        path = os.path.abspath(part.file)
+        if told.line.startswith(f"{path}: "):
+            return told._replace(line=part.file + told.line[len(path):])
+    return told
 
 
 def is_too_large(task: Task) -> bool:

@@ -1,7 +1,7 @@
 """Makes sure what the parts of a file say, by what atgis tells of them.
 
-A collection is cut at places that look like ends of features. What atgis tells of the parts, from the first to the last,
-shows whether they are; where one isn't, the cut is made anew. docs/SCALE.md has why this is exact.
+A collection is cut at places that look like ends of features. What atgis tells of the parts, from the first to the
+last, shows whether they are; where one isn't, the cut is made anew. docs/SCALE.md has why this is exact.
 
 The standard library alone, Python 3.9 or later.
 """

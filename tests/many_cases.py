@@ -116,14 +116,15 @@ def fault_in_cut_checks(folder: str) -> Iterator[Check]:
     """Faults of collections that are cut: where they stand is worked out from the text."""
     ten, others = points(10), ",".join(points(10))
     twice = collection(ten, back=f',"old":[{others}],"old":[]')
-    typed = collection(ten, "", f',"type":[{others}],"type":"FeatureCollection"')
+    kind = '"type":"FeatureCollection"'
+    typed = collection(ten, "", f',"type":[{others}],{kind}')
     bare = collection(ten, "", f',"type":[{others}]')
     item = collection([*ten[:7], "0", *ten[7:]], back=f',"old":[{others}],"old":1')
     late = collection([*ten, "0"], back=f',"old":[{others}],"old":[{others}],"older":[{others}]')
     files = {
         "a name twice, behind an item that is no feature": (late, f'Twin at {late.rindex(chr(34) + "old" + chr(34))}'),
         "a name twice behind the features": (twice, f'Twin at {twice.rindex(chr(34) + "old")}'),
-        "the type twice behind the features": (typed, f'Twin at {typed.rindex(chr(34) + "type" + chr(34) + ":" + chr(34) + "FeatureC")}'),
+        "the type twice behind the features": (typed, f'Twin at {typed.rindex(kind)}'),
         "the type is an array": (bare, "Form at 0"),
         "an item that is no feature, and a name twice": (item, f'Twin at {item.rindex(chr(34) + "old")}'),
         "an item that is no feature": (collection([*ten[:7], "0", *ten[7:]]), "Form at {0}"),
@@ -139,12 +140,13 @@ def fault_in_cut_checks(folder: str) -> Iterator[Check]:
 
 
 def tier_checks(folder: str) -> Iterator[Check]:
-    """A fault of each tier in an early, a middle and a late part of each form, beside one of the last tier elsewhere."""
+    """A fault of each tier in an early, a middle and a late part of each form, beside one of the last tier."""
     good, last = "POINT (1 2)", "POINT (1e99 2)"
     wkt = {"NotUtf8": (b"POINT (1 2)\xff", 11), "Syntax": (b"PINT (1 2)", 1), "Ended": (b"POINT (1 2", 10),
            "Ring": (b"POLYGON ((0 0,1 1))", 9)}
     json_texts = {"NotUtf8": (b'{"type":"\xff"}', 9), "Syntax": (b'{"type":"Feature";}', 17),
-                  "Twin": (b'{"type":"Feature","type":"Feature"}', 18), "Form": (b'{"type":"Feature","geometry":1}', 29)}
+                  "Twin": (b'{"type":"Feature","type":"Feature"}', 18),
+                  "Form": (b'{"type":"Feature","geometry":1}', 29)}
     rows = [(form, kind, place) for form in ("wkt", "lines", "seq", "geojson")
             for kind in (wkt if form == "wkt" else json_texts) for place in (0, 15, 29)]
     for form, kind, place in rows:
@@ -177,7 +179,8 @@ def late_check(folder: str) -> Check:
         file.seek(begin)
         file.write(b"POINT (1 2)\xff\n")
     try:
-        return differs("a fault behind 2^31", refused(dataset(path, 2**26, jobs=2).count), f"{path}: NotUtf8 at {begin + 11}")
+        got = refused(dataset(path, 2**26, jobs=2).count)
+        return differs("a fault behind 2^31", got, f"{path}: NotUtf8 at {begin + 11}")
     finally:
         os.remove(path)
 
@@ -208,7 +211,7 @@ def edge_checks(folder: str) -> Iterator[Check]:
     yield differs("edges: a line that ends early", refused(dataset(path, 5).count), f"{path}: Ended at {at - 2}")
 
 
-# ---- all faults, features, memory --------------------------------------------------------------------------------------
+# ---- all faults, features, memory ------------------------------------------------------------------------------------
 
 def faults_checks(folder: str) -> Iterator[Check]:
     """Files with features that are wrong here and there, each of which has to be told."""
@@ -234,7 +237,8 @@ def faults_checks(folder: str) -> Iterator[Check]:
         yield f"all faults: the first of {form} {case} is among them", None if is_told else f"{first} {told}"
     text = collection([point(1), BAD[3], point(2), BAD[1], point(3) + "}", BAD[1]])
     path = put(folder, "faults", text)
-    wanted = [f"{path}: Twin at {text.index(BAD[3]) + BAD[3].rindex(chr(34) + 'a')}", f"{path}: Form at {text.index(BAD[1])}",
+    wanted = [f"{path}: Twin at {text.index(BAD[3]) + BAD[3].rindex(chr(34) + 'a')}",
+              f"{path}: Form at {text.index(BAD[1])}",
               f"{path}: Syntax at {text.index(point(3)) + len(point(3))}"]
     yield differs("all faults: up to one of the JSON", [one.line for one in dataset(path, 50).faults()], wanted)
 
@@ -269,7 +273,7 @@ def offsets(path: str, form: str) -> List[int]:
 
 
 def memory_check(folder: str) -> Check:
-    """The most memory that a join of many pairs takes here, by the pair: 90,000 of them in one part of the first file."""
+    """The most memory that a join of many pairs takes here: 90,000 of them, of one part of the first file."""
     one = put(folder, "one.wkt", "POLYGON ((0 0,1 0,1 1,0 1,0 0))\n" * 300)
     other = put(folder, "other.wkt", "POINT (0.5 0.5)\n" * 300)
     tracemalloc.start()
@@ -293,7 +297,8 @@ def flaky(folder: str, times: int, failure: str) -> Dict[str, str]:
 def command(words: List[str], env: Optional[Dict[str, str]] = None) -> Outcome:
     """What the command writes to both outputs, and its status."""
     done = subprocess.run([sys.executable, TOOL, *words], env=env, capture_output=True, check=False)
-    return done.stdout.decode("utf-8", "surrogateescape"), done.stderr.decode("utf-8", "surrogateescape"), done.returncode
+    out, err = (text.decode("utf-8", "surrogateescape") for text in (done.stdout, done.stderr))
+    return out, err, done.returncode
 
 
 def failure_checks(folder: str) -> Iterator[Check]:
@@ -331,8 +336,9 @@ def journal_checks(folder: str) -> Iterator[Check]:
     yield differs("journal: all parts are known, behind half a line", command(words, env), ("100\n", "", 0))
     put(folder, "journal.wkt", "POINT (1 2)\n" * 99 + "POINT (1\n")
     env = flaky(folder, 0, "exit 9")
-    yield differs("journal: the file was changed", command(words, env), ("", f"{path}: Ended at 1196\n", 1))
-    yield differs("journal: a fault is kept", command(words, flaky(folder, 999, "exit 9"))[1:], (f"{path}: Ended at 1196\n", 1))
+    wanted = "", f"{path}: Ended at 1196\n", 1
+    yield differs("journal: the file was changed", command(words, env), wanted)
+    yield differs("journal: a fault is kept", command(words, flaky(folder, 999, "exit 9")), wanted)
     before = put(folder, "own", "of somebody else\n")
     out, err, status = command(["--journal", before, "count", path])
     with open(before, encoding="ascii") as file:
@@ -344,7 +350,7 @@ def journal_checks(folder: str) -> Iterator[Check]:
             f"atgis-many: {journal}: another run uses this journal\n", 2))
 
 
-# ---- the command -------------------------------------------------------------------------------------------------------
+# ---- the command -----------------------------------------------------------------------------------------------------
 
 def command_checks(folder: str) -> Iterator[Check]:
     """What the command prints, and its statuses."""
@@ -359,8 +365,10 @@ def command_checks(folder: str) -> Iterator[Check]:
         (["select where in box(0 0,1 1)", one, two], f"{two}:{first}\n{two}:{second}\n", "", 0),
         (["extent", one, two], "0.0000000 0.0000000 5.0000000 5.0000000\n", "", 0),
         (["--digits=9", "extent", one], "0.000000000 0.000000000 5.000000000 5.000000000\n", "", 0),
-        (["hull", one, two], "0.0000000 0.0000000\n2.0000000 0.0000000\n5.0000000 5.0000000\n0.0000000 2.0000000\n", "", 0),
-        (["extent where in box(7 7,8 8)", one], "empty\n", "", 0), (["hull where in box(7 7,8 8)", one], "empty\n", "", 0),
+        (["hull", one, two],
+         "0.0000000 0.0000000\n2.0000000 0.0000000\n5.0000000 5.0000000\n0.0000000 2.0000000\n", "", 0),
+        (["extent where in box(7 7,8 8)", one], "empty\n", "", 0),
+        (["hull where in box(7 7,8 8)", one], "empty\n", "", 0),
         (["area", one, one], "1600000000000000\n", "", 0),
         (["--each", "count", one, two], f"2\t{one}\n3\t{two}\n", "", 0),
         (["--each", "extent", two], f"0.0000000 0.0000000 2.0000000 2.0000000\t{two}\n", "", 0),
@@ -371,8 +379,10 @@ def command_checks(folder: str) -> Iterator[Check]:
         (["--faults", one, bad], f"{bad}: Ended at 20\n{bad}: Short at 32\n", "", 1), (["--faults", one], "", "", 0),
         (["counts", one], "", "query: at 5\n", 2), (["count where", one], "", "query: at 11\n", 2),
         (["join", one], "", "files: join takes two, every other verb one\n", 2),
-        (["count", one + ".none"], "", f"{one}.none: read failed\n", 3), (["count", folder], "", f"{folder}: read failed\n", 3),
-        (["count", packed], "", f"{packed}: it is packed by gzip, so it can't be cut; unpack it first, as by `gzip -dk`\n", 7),
+        (["count", one + ".none"], "", f"{one}.none: read failed\n", 3),
+        (["count", folder], "", f"{folder}: read failed\n", 3),
+        (["count", packed], "",
+         f"{packed}: it is packed by gzip, so it can't be cut; unpack it first, as by `gzip -dk`\n", 7),
         (["count", "@in"], "", "@in: it is no file on the disk, so it can't be cut; save it as one, or ask atgis\n", 7)]
     for words, out, err, status in rows:
         yield differs(f"command: {words[:2]}", command(["--part", "30", *words]), (out, err, status))
@@ -407,7 +417,8 @@ def module_checks(folder: str) -> Iterator[Check]:
     for error in (atgis.Fault("f: Ring at 3", 1, "f", "Ring", 3), atgis.QueryError("query: at 5", 2, "q", 5),
                   atgis.OutOfMemory("out of memory", 5), atgis.ReadError("f: read failed", 3, "f")):
         copy = pickle.loads(pickle.dumps(error))
-        yield differs(f"module: {error!r} elsewhere", (type(copy), str(copy), vars(copy)), (type(error), str(error), vars(error)))
+        got, wanted = ((type(one), str(one), vars(one)) for one in (copy, error))
+        yield differs(f"module: {error!r} elsewhere", got, wanted)
     yield differs("module: places that stand before a fault", next(iter(dataset(path, 5).select())), (path, 0))
     for wrong in (lambda: dataset(path, form="shp"), lambda: dataset(path, digit=9),
                   lambda: dataset(path).join(dataset(path, digits=9))):
@@ -422,7 +433,7 @@ def module_checks(folder: str) -> Iterator[Check]:
 def checks(folder: str) -> List[Check]:
     """All of these."""
     found: List[Check] = []
-    for some in (cut_checks, fault_in_cut_checks, tier_checks, edge_checks, faults_checks, features_checks, failure_checks,
-                 journal_checks, command_checks, module_checks):
+    for some in (cut_checks, fault_in_cut_checks, tier_checks, edge_checks, faults_checks, features_checks,
+                 failure_checks, journal_checks, command_checks, module_checks):
         found += some(folder)
     return [*found, late_check(folder), memory_check(folder), terminal_check(folder)]

@@ -1,4 +1,4 @@
-"""Random files of all forms for `many`, with what looks like a feature in strings, in properties and beside the features.
+"""Random files of all forms for `many`, with what looks like a feature in texts, in properties and beside the features.
 
 Each is made by a seeded generator, so a case is the same everywhere.
 """
@@ -9,7 +9,8 @@ TESTS = ("", 'has "kind" = "a"', 'has "label" = "a"', "in box(-5 -5,5 5)", "meet
          "meets POLYGON ((0 0,6 0,3 6,0 0))", 'has "kind" = "b" and meets box(-2 -2,9 9)')
 OPTIONS = ({}, {}, {"digits": 9}, {"coords": "exact"})
 SIZES = (30, 100, 300, 300, 1000, 3000)
-TRAPS = ('', '', '', ',"t":"},{\\"type\\":\\"Feature\\"}"', ',"s":"\\"},{"', ',"q":"]}"', ',"u":"ä€😀"', ',"e":[{"a":1}],"f":2',
+TRAPS = ('', '', '', ',"t":"},{\\"type\\":\\"Feature\\"}"', ',"s":"\\"},{"', ',"q":"]}"', ',"u":"ä€😀"',
+         ',"e":[{"a":1}],"f":2',
          ',"n":[{"type":"Feature"},{"type":"Feature","geometry":null},{"properties":1},{"geometry":2}]',
          ',"p":{"features":[{"type":"Feature"},{"type":"Feature"}],"o":[{"type":"Feature"}]}')
 
@@ -57,8 +58,11 @@ def geometry_of(one: tuple, rng: random.Random) -> str:
 
     def text(part) -> str:
         return "[" + ",".join(part if isinstance(part, tuple) else map(text, part)) + "]"
-    inner = '"geometries":[' + ",".join(geometry_of(one, rng) for one in value) + "]" if kind == "GeometryCollection" else ""
-    members = [f'"type":"{kind}"', inner or f'"coordinates":{text(value)}']
+    if kind == "GeometryCollection":
+        body = '"geometries":[' + ",".join(geometry_of(inner, rng) for inner in value) + "]"
+    else:
+        body = f'"coordinates":{text(value)}'
+    members = [f'"type":"{kind}"', body]
     rng.shuffle(members)
     return "{" + ",".join(members) + "}"
 
@@ -128,9 +132,11 @@ def collection(rng: random.Random) -> bytes:
     members = ['"type":"FeatureCollection"', f'"features":[{space}' + comma.join(items) + f"{space}]"]
     members += rng.sample((
         '"name":"x"', '"crs":{"type":"name","properties":{"name":"},{\\"type\\":\\"Feature\\""}}', '"bbox":[1,2,3,4]',
-        f'"old":[{space}' + comma.join(others) + f"{space}]", '"older":[' + comma.join(others[:6]) + "]"), rng.randrange(4))
+        f'"old":[{space}' + comma.join(others) + f"{space}]", '"older":[' + comma.join(others[:6]) + "]"),
+        rng.randrange(4))
     if rng.random() < .04:
-        members[0] = rng.choice(('"type":"Feature","geometry":null', '"x":1', '"type":"FeatureCollection","features":[]'))
+        members[0] = rng.choice(('"type":"Feature","geometry":null', '"x":1',
+                                 '"type":"FeatureCollection","features":[]'))
     if rng.random() < .04:
         members.append(rng.choice(('"type":[' + comma.join(others) + "]", '"old":[' + comma.join(others) + "]")))
     rng.shuffle(members)

@@ -79,8 +79,8 @@ def dask_checks(folder: str) -> Iterator[Check]:
             path = os.path.join(folder, "m.geojsonl")
             yield killed_check(client, path)
         words = [sys.executable, os.path.join(REPOSITORY, "tools", "atgis-many"), "--dask", cluster.scheduler_address,
-                 "--part", "4k", "count", path]
-        done = subprocess.run(words, capture_output=True, text=True, cwd="/", check=False)
+                 "--part", "4k", "count", os.path.basename(path)]
+        done = subprocess.run(words, capture_output=True, text=True, cwd=folder, check=False)
         yield differs("dask: the command", (done.stdout, done.returncode), (f"{COUNT}\n", 0))
 
 
