@@ -53,24 +53,19 @@ def ask(task: Task, _attempt: int = 0) -> Told:
     command = [program, *task.options, *form, "--", task.query]
     try:
         if len(task.parts) == 1:
-            told = told_of_one(command, task.parts[0])
-        else:
-            with tempfile.TemporaryDirectory(prefix="atgis-many-") as folder:
-                told = told_of_two(command, task.parts, folder)
-        if task.is_scanned and told.status == 0:
-            with open(task.parts[0].file, "rb") as file:
-                return told._replace(may_leave=may_leave(mapped(file), task.parts[0]))
-        return told
+            return told_of_one(command, task.parts[0], task.is_scanned)
+        with tempfile.TemporaryDirectory(prefix="atgis-many-") as folder:
+            return told_of_two(command, task.parts, folder)
     except OSError as error:
         return Told(NO_ANSWER, f"{error.filename or program}: {error.strerror}", b"")
 
 
-def told_of_one(command: List[str], part: Part) -> Told:
+def told_of_one(command: List[str], part: Part, is_scanned: bool) -> Told:
     """The same of one part, which goes through the standard input."""
     if part.is_whole:
         return answer([*command, part.file], [], None, (part.file,), (part,))
     end, pipe = wide_pipe()
-    return answer([*command, "@in"], [(part, pipe)], end, ("@in",), (part,))
+    return answer([*command, "@in"], [(part, pipe)], end, ("@in",), (part,), is_scanned=is_scanned)
 
 
 def told_of_two(command: List[str], parts: Tuple[Part, ...], folder: str) -> Told:
@@ -89,8 +84,11 @@ def told_of_two(command: List[str], parts: Tuple[Part, ...], folder: str) -> Tol
 
 
 def answer(command: List[str], sent: List[Tuple[Part, int]], source: Optional[int], names: Tuple[str, ...],
-           parts: Tuple[Part, ...], passed: Tuple[int, ...] = ()) -> Told:
-    """Runs a command, sends it the parts, and reads what it writes. All ends of pipes are closed."""
+           parts: Tuple[Part, ...], passed: Tuple[int, ...] = (), is_scanned: bool = False) -> Told:
+    """Runs a command, sends it the parts, and reads what it writes. All ends of pipes are closed.
+
+    While the program works, the part is looked through where that is wanted.
+    """
     try:
         run = subprocess.Popen(command, stdin=subprocess.DEVNULL if source is None else source, stdout=subprocess.PIPE,
                                stderr=subprocess.PIPE, pass_fds=passed)
@@ -102,18 +100,26 @@ def answer(command: List[str], sent: List[Tuple[Part, int]], source: Optional[in
         for end in passed if source is None else (source,):
             os.close(end)
     with run:
-        problem = None
+        problem, found = None, False
         for part, pipe in sent:
             problem = send(part, pipe, bool(problem)) or problem
         if problem:
             run.kill()
+        elif is_scanned:
+            found = looked_through(parts[0])
         text, line = run.communicate()
     if problem:
         return Told(3, problem, b"")
     told = line.decode("utf-8", "surrogateescape").rstrip("\n")
     for name, part in zip(names, parts):
         told = part.file + told[len(name):] if told.startswith(f"{name}: ") else told
-    return Told(run.returncode, told, text)
+    return Told(run.returncode, told, text, found)
+
+
+def looked_through(part: Part) -> bool:
+    """Whether a part may go on behind the array of features."""
+    with open(part.file, "rb") as file:
+        return may_leave(mapped(file), part)
 
 
 def send(part: Part, pipe: int, is_given_up: bool) -> Optional[str]:

@@ -420,6 +420,9 @@ def module_checks(folder: str) -> Iterator[Check]:
         got, wanted = ((type(one), str(one), vars(one)) for one in (copy, error))
         yield differs(f"module: {error!r} elsewhere", got, wanted)
     yield differs("module: places that stand before a fault", next(iter(dataset(path, 5).select())), (path, 0))
+    head = put(folder, "h.json", collection(points(10), '"type":"FeatureCollection","x":[}],'))
+    yield differs("module: no place behind a head that is no JSON",
+                  refused(lambda: next(iter(dataset(head, 100).select()))), f"{head}: Syntax at 33")
     for wrong in (lambda: dataset(path, form="shp"), lambda: dataset(path, digit=9),
                   lambda: dataset(path).join(dataset(path, digits=9))):
         try:
