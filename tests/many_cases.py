@@ -386,6 +386,14 @@ def command_checks(folder: str) -> Iterator[Check]:
         (["count", "@in"], "", "@in: it is no file on the disk, so it can't be cut; save it as one, or ask atgis\n", 7)]
     for words, out, err, status in rows:
         yield differs(f"command: {words[:2]}", command(["--part", "30", *words]), (out, err, status))
+    odd = os.path.join(folder, "odd")
+    os.mkdir(odd)
+    for name in (b"-p.wkt", b"@w:5", b"\xff.wkt"):
+        with open(os.path.join(os.fsencode(odd), name), "wb") as file:
+            file.write(b"POINT (1 2)\n" * 50)
+        for size in ("100", "9000"):
+            got = command(["--form=wkt", "--part", size, "count", os.path.join(odd, os.fsdecode(name))])
+            yield differs(f"command: a file {name!r}", got, ("50\n", "", 0))
     for words in ([], ["count"], ["--faults"], ["--part", "0", "count", one], ["--jobs", "x", "count", one],
                   ["--each", "select", one], ["--features", "count", one], ["--each", "--faults", one]):
         out, err, status = command(words)
