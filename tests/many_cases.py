@@ -4,8 +4,10 @@ import pickle
 import pty
 import random
 import re
+import signal
 import subprocess
 import sys
+import time
 import tracemalloc
 from typing import Any, Callable, Dict, Iterator, List, Optional, Tuple
 
@@ -419,6 +421,19 @@ def terminal_check(folder: str) -> Check:
     return "command: a terminal", None if is_right and told.endswith("\r\x1b[K") else repr((done.stdout, told))
 
 
+def interrupt_check(folder: str) -> Check:
+    """That a run that is interrupted while the program works ends with its status, and says nothing."""
+    env = flaky(folder, 999, "sleep 60")
+    with subprocess.Popen([sys.executable, TOOL, "count", put(folder, "i.wkt", "POINT (1 2)\n")], env=env,
+                          stdout=subprocess.PIPE, stderr=subprocess.PIPE, start_new_session=True) as run:
+        end = time.monotonic() + 60
+        while os.path.getsize(env["STATE"]) == 0 and time.monotonic() < end:
+            time.sleep(0.05)
+        os.killpg(run.pid, signal.SIGINT)
+        out, err = run.communicate()
+    return differs("command: an interrupt", (out, err, run.returncode), (b"", b"", 130))
+
+
 def module_checks(folder: str) -> Iterator[Check]:
     """What the module raises, and that exceptions go to other processes."""
     path = put(folder, "m.wkt", "POINT (1 2)\nPOINT (1\n")
@@ -447,4 +462,4 @@ def checks(folder: str) -> List[Check]:
     for some in (cut_checks, fault_in_cut_checks, tier_checks, edge_checks, faults_checks, features_checks,
                  failure_checks, journal_checks, command_checks, module_checks):
         found += some(folder)
-    return [*found, late_check(folder), memory_check(folder), terminal_check(folder)]
+    return [*found, late_check(folder), memory_check(folder), terminal_check(folder), interrupt_check(folder)]
