@@ -114,7 +114,7 @@ class ReadError(FileError):
 
 
 class TooLarge(FileError):
-    """A file has more than 268,435,456 bytes."""
+    """A file has more than 268,435,456 bytes, and is one for `atgis_many`."""
 
 
 class WriteError(AtgisError):

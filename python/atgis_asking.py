@@ -57,13 +57,15 @@ def ask(task: Task, _attempt: int = 0) -> Told:
         with tempfile.TemporaryDirectory(prefix="atgis-many-") as folder:
             return told_of_two(command, task.parts, folder)
     except OSError as error:
+        if error.filename in [part.file for part in task.parts]:
+            return Told(3, f"{error.filename}: read failed", b"")
         return Told(NO_ANSWER, f"{error.filename or program}: {error.strerror}", b"")
 
 
 def told_of_one(command: List[str], part: Part, is_scanned: bool) -> Told:
-    """The same of one part, which goes through the standard input."""
+    """The same of one part, which is the standard input, so that no name of a file means anything else."""
     if part.is_whole:
-        return answer([*command, part.file], [], None, (part.file,), (part,))
+        return answer([*command, "@in"], [], os.open(part.file, os.O_RDONLY), ("@in",), (part,))
     end, pipe = wide_pipe()
     return answer([*command, "@in"], [(part, pipe)], end, ("@in",), (part,), is_scanned=is_scanned)
 

@@ -56,7 +56,7 @@ class Part(NamedTuple):
     after: bytes = b""
     head: Tuple[int, int] = (0, 0)
     has_lines: bool = False  # the form is a sequence that is made of lines: each line feed becomes an RS
-    is_whole: bool = False   # the program reads the file itself, by its name
+    is_whole: bool = False   # the program reads the file itself
 
     def front(self) -> int:
         """How many bytes the program gets before those from `begin` on."""

@@ -4,8 +4,10 @@ import pickle
 import pty
 import random
 import re
+import signal
 import subprocess
 import sys
+import time
 import tracemalloc
 from typing import Any, Callable, Dict, Iterator, List, Optional, Tuple
 
@@ -386,6 +388,14 @@ def command_checks(folder: str) -> Iterator[Check]:
         (["count", "@in"], "", "@in: it is no file on the disk, so it can't be cut; save it as one, or ask atgis\n", 7)]
     for words, out, err, status in rows:
         yield differs(f"command: {words[:2]}", command(["--part", "30", *words]), (out, err, status))
+    odd = os.path.join(folder, "odd")
+    os.mkdir(odd)
+    for name in (b"-p.wkt", b"@w:5", b"\xff.wkt"):
+        with open(os.path.join(os.fsencode(odd), name), "wb") as file:
+            file.write(b"POINT (1 2)\n" * 50)
+        for size in ("100", "9000"):
+            got = command(["--form=wkt", "--part", size, "count", os.path.join(odd, os.fsdecode(name))])
+            yield differs(f"command: a file {name!r}", got, ("50\n", "", 0))
     for words in ([], ["count"], ["--faults"], ["--part", "0", "count", one], ["--jobs", "x", "count", one],
                   ["--each", "select", one], ["--features", "count", one], ["--each", "--faults", one]):
         out, err, status = command(words)
@@ -409,6 +419,19 @@ def terminal_check(folder: str) -> Check:
     os.close(ours)
     is_right = done.stdout == b"300\n" and re.search(r"\r\[#+ *\] +\d+ % +\d+ MB/s, \d+ s left", told)
     return "command: a terminal", None if is_right and told.endswith("\r\x1b[K") else repr((done.stdout, told))
+
+
+def interrupt_check(folder: str) -> Check:
+    """That a run that is interrupted while the program works ends with its status, and says nothing."""
+    env = flaky(folder, 999, "sleep 60")
+    with subprocess.Popen([sys.executable, TOOL, "count", put(folder, "i.wkt", "POINT (1 2)\n")], env=env,
+                          stdout=subprocess.PIPE, stderr=subprocess.PIPE, start_new_session=True) as run:
+        end = time.monotonic() + 60
+        while os.path.getsize(env["STATE"]) == 0 and time.monotonic() < end:
+            time.sleep(0.05)
+        os.killpg(run.pid, signal.SIGINT)
+        out, err = run.communicate()
+    return differs("command: an interrupt", (out, err, run.returncode), (b"", b"", 130))
 
 
 def module_checks(folder: str) -> Iterator[Check]:
@@ -439,4 +462,4 @@ def checks(folder: str) -> List[Check]:
     for some in (cut_checks, fault_in_cut_checks, tier_checks, edge_checks, faults_checks, features_checks,
                  failure_checks, journal_checks, command_checks, module_checks):
         found += some(folder)
-    return [*found, late_check(folder), memory_check(folder), terminal_check(folder)]
+    return [*found, late_check(folder), memory_check(folder), terminal_check(folder), interrupt_check(folder)]
