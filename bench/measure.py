@@ -6,6 +6,8 @@ than two commands run in turn or where a part of the time is asked for. Only rat
 since a time alone says nothing on a machine that does other work too.
 """
 import os
+import re
+import shutil
 import statistics
 import subprocess
 import sys
@@ -179,3 +181,13 @@ def peak(command):
         return None
     done = subprocess.run([GNU_TIME, "-f", "%M", *command], stdout=subprocess.DEVNULL, stderr=subprocess.PIPE, check=True, text=True)
     return int(done.stderr.split()[-1]) * 1024
+
+
+def instructions(command):
+    """How many instructions a command takes, as callgrind counts them; None where valgrind isn't installed."""
+    if shutil.which("valgrind") is None:
+        print("valgrind isn't installed, so no instructions are told", flush=True)
+        return None
+    words = ["valgrind", "--tool=callgrind", "--callgrind-out-file=/dev/null", *command]
+    done = subprocess.run(words, stdout=subprocess.DEVNULL, stderr=subprocess.PIPE, check=True, text=True)
+    return int(re.search(r"Collected : (\d+)", done.stderr)[1])

@@ -24,6 +24,9 @@ which must hold; None and an empty text are no test. These options stand behind 
     program   the path of the program; without it the one that the environment variable ATGIS names, or else `atgis` on
               PATH
 
+Coordinates are exact decimals, as the program prints them. Python spells the zero among them `0E-7`, and `f"{x:f}"`
+spells it plainly; an Extent does so by itself.
+
 Everything that the program refuses is raised as an AtgisError: Fault, WordsError, QueryError, FilesError, ReadError,
 WriteError, OutOfMemory or TooLarge; and as ProgramError where it can't be run. The module needs Python 3.9 or later,
 and geopandas for `frame` alone.
@@ -35,7 +38,7 @@ import os
 import re
 import subprocess
 from decimal import Decimal
-from typing import Any, Dict, Iterable, List, NamedTuple, Optional, Sequence, Tuple, Union
+from typing import Any, Callable, Dict, Iterable, List, NamedTuple, Optional, Sequence, Tuple, Union
 
 __all__ = [
     "AtgisError", "Extent", "Fault", "FileError", "FilesError", "OutOfMemory", "ProgramError", "QueryError",
@@ -44,6 +47,11 @@ __all__ = [
 ]
 
 LIMIT = 268_435_456
+DEFAULT_SYSTEM = "OGC:CRS84"
+ABSENT = object()
+# A string "crs", each of its letters as it is or escaped.
+CRS_NAME = re.compile(rb'"(?:c|\\u0063)(?:r|\\u0072)(?:s|\\u0073)"')
+SPACES = re.compile(rb"[ \t\r\n]*")
 NAMES_OF_OPTIONS = ("form", "coords", "digits", "blocks", "workers", "feed")
 
 Name = Union[str, bytes, "os.PathLike[str]", "os.PathLike[bytes]"]
@@ -122,12 +130,19 @@ class ProgramError(AtgisError):
 
 
 class Extent(NamedTuple):
-    """The least and greatest x and y over all positions."""
+    """The least and greatest x and y over all positions; as a text it is the line that the program prints."""
 
     min_x: Decimal
     min_y: Decimal
     max_x: Decimal
     max_y: Decimal
+
+    def __str__(self) -> str:
+        return " ".join(f"{number:f}" for number in self)
+
+    def __repr__(self) -> str:
+        spelled = (f"{name}=Decimal('{number:f}')" for name, number in zip(self._fields, self))
+        return f"Extent({', '.join(spelled)})"
 
 
 def select(file: Name, where: Tests = None, **options: Any) -> List[int]:
@@ -210,25 +225,126 @@ def features(file: Name, offsets: Iterable[int], form: Optional[str] = None) -> 
 
 
 def frame(
-    file: Name, offsets: Optional[Iterable[int]] = None, form: Optional[str] = None, crs: Any = "OGC:CRS84"
+    file: Name, offsets: Optional[Iterable[int]] = None, form: Optional[str] = None, crs: Any = None
 ) -> Any:
     """The features at byte offsets of a file, all of them without offsets, as a GeoDataFrame whose index they are.
 
     Its columns are the properties of GeoJSON, or `label` of Well-Known Text. It raises ImportError where geopandas
     isn't installed.
+
+    The coordinates are taken as they stand, and `crs` says what they are. Without it a file of GeoJSON is asked. RFC
+    7946 (2016) has one system alone, longitudes and latitudes of WGS 84, which is `OGC:CRS84`, and no member `crs`; so
+    this is what a file without one has. GeoJSON of 2008 names another by a member `crs` of its outermost object, as
+    ogr2ogr and geopandas still write it, and then that name is taken; the member with the value null is no system.
+    Where it has another form, as a link, or where the texts of a sequence name several, ValueError is raised: give
+    `crs`. Well-Known Text names no system, and so its frame has none.
     """
     import geopandas
     places = list(select(file, **({"form": form} if form else {})) if offsets is None else offsets)
     read = features(file, places, form)
+    system = _system(file, form) if crs is None else crs
     if _form_of(file, form) == "wkt":
         shapes = geopandas.GeoSeries.from_wkt([one["wkt"] for one in read])
-        made = geopandas.GeoDataFrame({"label": [one["label"] for one in read]}, geometry=list(shapes), crs=crs)
+        made = geopandas.GeoDataFrame({"label": [one["label"] for one in read]}, geometry=list(shapes), crs=system)
     elif read:
-        made = geopandas.GeoDataFrame.from_features([_plain(one) for one in read], crs=crs)
+        made = geopandas.GeoDataFrame.from_features([_plain(one) for one in read], crs=system)
     else:
-        made = geopandas.GeoDataFrame(geometry=[], crs=crs)
+        made = geopandas.GeoDataFrame(geometry=[], crs=system)
     made.index = places
     return made
+
+
+def _system(file: Name, form: Optional[str]) -> Optional[str]:
+    """The coordinate system that a file names, as `frame` tells."""
+    kind = _form_of(file, form)
+    if kind == "wkt":
+        return None
+    with open(file, "rb") as opened:
+        data = opened.read()
+    if not CRS_NAME.search(data):
+        return DEFAULT_SYSTEM
+    if kind != "seq":
+        return _named_system(_root_member(data, "crs", lambda: select(file, form=kind)))
+    roots = [json.loads(text) for text in data.split(b"\x1e") if text.strip(b" \t\r\n\xef\xbb\xbf")]
+    found = {_named_system(root.get("crs", ABSENT)) for root in roots}
+    if len(found) > 1:
+        raise ValueError(f"the texts of the sequence name several coordinate systems: give crs ({_listed(found)})")
+    return found.pop()
+
+
+def _listed(names: Iterable[Any]) -> str:
+    """Names in their order, separated by commas."""
+    return ", ".join(sorted(map(str, names)))
+
+
+def _named_system(member: Any) -> Optional[str]:
+    """The coordinate system that the value of a member `crs` names."""
+    if member is ABSENT:
+        return DEFAULT_SYSTEM
+    if member is None:
+        return None
+    named = member.get("properties") if isinstance(member, dict) and member.get("type") == "name" else None
+    name = named.get("name") if isinstance(named, dict) else None
+    if not isinstance(name, str):
+        raise ValueError(f"the file's member crs names no coordinate system: give crs ({json.dumps(member)})")
+    return name
+
+
+def _root_member(data: bytes, wanted: str, offsets: Callable[[], List[int]]) -> Any:
+    """A member of the outermost object of GeoJSON, or ABSENT; the features are passed over by their offsets."""
+    text, decoder = _Text(data), json.JSONDecoder(strict=False)
+    text.expect(b"{")
+    while not text.is_next(b"}"):
+        name = text.value(decoder)
+        text.expect(b":")
+        if name == wanted:
+            return text.value(decoder)
+        last = offsets()[-1:] if name == "features" else []
+        if last and last[0] > text.at:
+            text.at = last[0]
+            text.value(decoder)
+            text.expect(b"]")
+        else:
+            text.value(decoder)
+        text.is_next(b",")
+    return ABSENT
+
+
+class _Text:
+    """A place in the bytes of a JSON text that the program has accepted."""
+
+    def __init__(self, data: bytes) -> None:
+        self.data = data
+        self.at = 3 if data.startswith(b"\xef\xbb\xbf") else 0
+
+    def is_next(self, byte: bytes) -> bool:
+        """Whether a byte is the next one that is no space, which is then passed over."""
+        self.at = SPACES.match(self.data, self.at).end()
+        is_it = self.data.startswith(byte, self.at)
+        self.at += is_it
+        return is_it
+
+    def expect(self, byte: bytes) -> None:
+        """Passes over a byte."""
+        if not self.is_next(byte):
+            raise ValueError(f"no GeoJSON at byte {self.at}: ask the program, which tells the file's first fault")
+
+    def value(self, decoder: json.JSONDecoder) -> Any:
+        """Reads a value, of which it decodes a front as long as need be."""
+        self.is_next(b" ")
+        size = 1 << 16
+        while True:
+            piece = self.data[self.at:self.at + size].decode("utf-8", "ignore")
+            try:
+                found, end = decoder.raw_decode(piece)
+            except ValueError:
+                end = len(piece)
+            if end < len(piece) or self.at + size >= len(self.data):
+                break
+            size *= 8
+        found, end = decoder.raw_decode(piece)
+        self.at += len(piece[:end].encode("utf-8"))
+        return found
 
 
 def _plain(feature: Dict[str, Any]) -> Dict[str, Any]:

@@ -1,15 +1,20 @@
 """The installer, run in a copy of what it installs."""
 import os
+import re
 import shutil
 import subprocess
 from typing import Dict, Iterator, List, Optional, Set, Tuple
 
 from program import REPOSITORY
 
-COPIED = ("install", "VERSION", "man", "completions", "tools", "python")
+COPIED = ("install", "setup", "VERSION", "crates.txt", "man", "completions", "tools", "python")
 STUB = """#!/bin/sh
-# In place of rt: puts a program where a build would leave it, and fails where it is told to.
+# In place of rt: puts a program where a build would leave it, says what rt says, and fails where it is told to.
 [ "$*" = "run -- count data/points.wkt" ] || exit 9
+echo 'so far: 0 of 9 functions checked; the verdict comes last' >&2
+echo 'fn at_text::utf::is_mark: proved' >&2
+echo 'rt: at_cli: begins with what a check kept in /elsewhere' >&2
+echo 'error: something is wrong' >&2
 [ -z "$STUB_FAILS" ] || exit 7
 mkdir -p out && cp "$STUB_PROGRAM" out/atgis
 """
@@ -58,17 +63,17 @@ def tree(folder: str) -> Set[str]:
 
 def wanted_files() -> Dict[str, str]:
     """What has to stand under PREFIX, and the file that each is of."""
-    tools = [f"tools/{name}" for name in ("atgis-show", "atgis-where", "atgis-explain", "atgis-many", "atgis-table")]
-    pages = [f"man/{name}" for name in ("atgis.1", "atgis-show.1", "atgis-where.1", "atgis-explain.1", "atgis-many.1",
-                                        "atgis-table.1", "atgis-query.7")]
+    tools = [f"tools/{name}" for name in os.listdir(os.path.join(REPOSITORY, "tools"))]
+    pages = [f"man/{name}.1" for name in ["atgis", *(one.split("/")[1] for one in tools)]] + ["man/atgis-query.7"]
     wanted = {f"bin/{one.split('/')[1]}": one for one in tools}
     wanted.update({f"share/man/man{one[-1]}/{one.split('/')[1]}": one for one in pages})
     for name in ("atgis", "atgis-many"):
         wanted.update({f"share/bash-completion/completions/{name}": "completions/atgis.bash",
                        f"share/fish/vendor_completions.d/{name}.fish": "completions/atgis.fish"})
     wanted["share/zsh/site-functions/_atgis"] = "completions/_atgis"
-    modules = ("atgis", "atgis_many", "atgis_parts", "atgis_asking", "atgis_running", "atgis_settling")
-    wanted.update({f"share/atgis/python/{name}.py": f"python/{name}.py" for name in modules})
+    modules = [one for one in os.listdir(os.path.join(REPOSITORY, "python")) if one.endswith(".py")]
+    wanted.update({f"share/atgis/python/{one}": f"python/{one}"
+                   for one in [*modules, "py.typed", "pyproject.toml", "backend/wheels.py"]})
     return wanted
 
 
@@ -85,7 +90,8 @@ def placed(copy: Copy, prefix: str) -> Iterator[Check]:
     version = read(os.path.join(copy.top, "VERSION")).strip()
     for name, source in wanted_files().items():
         text = read(os.path.join(copy.top, source)).replace(b"@VERSION@", version)
-        yield f"install: {name}", None if text and read(os.path.join(prefix, name)) == text else "it isn't right"
+        is_right = os.path.isfile(os.path.join(prefix, name)) and read(os.path.join(prefix, name)) == text
+        yield f"install: {name}", None if is_right else "it isn't right"
     program = os.path.join(prefix, "bin", "atgis")
     is_right = read(program) == read(copy.program) and os.access(program, os.X_OK)
     yield "install: bin/atgis", None if is_right else "it isn't the program"
@@ -106,8 +112,14 @@ def refusals(copy: Copy, prefix: str) -> Iterator[Check]:
     yield "install: without rt", None if (out, status) == ("", 1) and is_told else f"{(out, err, status)!r}"
     copy.stub()
     out, err, status = copy.run(prefix, fails="yes")
-    yield differs("install: rt fails", (out, err.split("\n")[1:], status),
-                  ("", ["./install: rt didn't prove and build the program", ""], 1))
+    yield differs("install: rt fails", (out, err.split("\n")[-3:], status), ("", [
+        "error: something is wrong",
+        "./install: rt didn't prove and build the program; out/build.log has all that it said", ""], 1))
+    with open(f"{prefix} is a file", "w", encoding="ascii"):
+        pass
+    yield differs("install: no folder", copy.run(f"{prefix} is a file"), (
+        "", f"./install: nothing can be put into {prefix} is a file: name another folder, as ./install ~/.local, or do "
+            "it as root\n", 1))
     for words in (["--help"], [prefix, prefix], ["--uninstall", "--uninstall"]):
         yield differs(f"install: {' '.join(words)[:20]}", copy.run(*words),
                       ("", "./install: usage: ./install [--uninstall] [PREFIX]\n", 2))
@@ -128,6 +140,30 @@ def used(prefix: str) -> Check:
     return differs("install: atgis-many finds its modules", (done.stdout, done.stderr, done.returncode), ("1\n", "", 0))
 
 
+def progress(err: str) -> Iterator[Check]:
+    """What the installer says of the machine and of how far it is."""
+    crates = len(order("atgis"))
+    said = err.split("\n")
+    found = re.fullmatch(r"./install: found (\d+) processors? and (\d+) GiB of memory", said[0])
+    yield "install: the machine", None if found and int(found[1]) == len(os.sched_getaffinity(0)) else repr(said[0])
+    yield "install: how long it takes", None if "on two processors" in said[1] and "on four" in said[1] else repr(said[1])
+    wanted = [f"./install: crate 1 of {crates}: at_text", f"./install: crate {crates - 1} of {crates}: at_cli"]
+    yield differs("install: how far it is", [line for line in said if ": crate " in line], wanted)
+
+
+def order(name: str) -> Set[str]:
+    """A crate, and those of crates.txt that it stands on."""
+    with open(os.path.join(REPOSITORY, "crates.txt"), encoding="utf-8") as file:
+        rows = dict(re.findall(r"^(\w+)[^:#\n]*:(.*)$", file.read(), re.MULTILINE))
+    found, open_ones = set(), [name]
+    while open_ones:
+        one = open_ones.pop()
+        if one in rows and one not in found:
+            found.add(one)
+            open_ones += rows[one].split()
+    return found
+
+
 def checks(program: str, folder: str) -> List[Check]:
     """What was checked of the installer, and what is wrong with it."""
     copy = Copy(program, folder)
@@ -138,10 +174,15 @@ def checks(program: str, folder: str) -> List[Check]:
         file.write("of somebody else\n")
     before = tree(prefix)
     for turn in ("first", "second"):
-        out, _, status = copy.run("pre fix", cwd=folder)
-        found.append(differs(f"install: the {turn} time", (out, status), (f"{prefix}/bin/atgis\n", 0)))
+        out, err, status = copy.run("pre fix", cwd=folder)
+        last = f"./install: installed atgis {read(os.path.join(copy.top, 'VERSION')).decode().strip()} as {prefix}/bin/atgis"
+        found.append(differs(f"install: the {turn} time", (out, status), (f"{last}\n", 0)))
+        found += list(progress(err))
         found += placed(copy, prefix)
     found.append(used(prefix))
+    for kept in ("python/__pycache__", "python/backend/__pycache__"):
+        os.makedirs(os.path.join(prefix, "share", "atgis", kept), exist_ok=True)
+        shutil.copy(__file__, os.path.join(prefix, "share", "atgis", kept, "atgis.cpython-311.pyc"))
     found.append(differs("install: uninstall", copy.run("--uninstall", prefix), ("", "", 0)))
     found.append(differs("install: all of it is taken away, and nothing else", tree(prefix), before))
     return found

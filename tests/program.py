@@ -4,10 +4,28 @@ import os
 import shutil
 import subprocess
 import sys
+import threading
+import time
+from contextlib import suppress
 
 TESTS = os.path.dirname(os.path.abspath(__file__))
 REPOSITORY = os.path.dirname(TESTS)
 NOBODY = 65534
+FEW, PAUSE = 9, 0.005
+# The Debian packages of commands and of Python's modules, where a name differs; what has none comes by pip.
+PACKAGES = {
+    "awk": "mawk", "cc": "gcc", "dpkg-deb": "dpkg", "find": "findutils", "geopandas": "python3-geopandas",
+    "matplotlib": "python3-matplotlib", "ogr2ogr": "gdal-bin", "ogrinfo": "gdal-bin", "pip": "python3-pip",
+    "shapely": "python3-shapely", "split": "coreutils", "ssh": "openssh-client", "ssh-keygen": "openssh-client",
+    "sshd": "openssh-server", "tr": "coreutils", "venv": "python3-venv", "xargs": "findutils", "xz": "xz-utils",
+    "dask": "python3-dask", "pyspark": "pip:pyspark", "spark-submit": "pip:pyspark",
+}
+
+
+def to_install(*names):
+    """What a skipped test wants, as `(install PACKAGE ..)`, by the names of commands and modules; ./check reads it."""
+    found = {PACKAGES.get(name.split(".")[0], name) for name in names}
+    return f"(install {' '.join(sorted(found))})"
 
 
 def built():
@@ -28,15 +46,33 @@ def copied(source, folder):
     return binary
 
 
-def written(binary, words, folder, stdin=b"", out=subprocess.PIPE, is_nobody=False):
-    """What the program writes to its output and its error output, and its status."""
+def written(binary, words, folder, stdin=b"", out=subprocess.PIPE, is_nobody=False, is_slow=False):
+    """What the program writes to its output and its error output, and its status. Input that is slow has pauses."""
     user = {"user": NOBODY} if is_nobody else {}
+    source = {"stdin": slow_pipe(stdin)} if is_slow else {"input": stdin}
     try:
         done = subprocess.run(
-            [binary] + words, cwd=folder, input=stdin, stdout=out, stderr=subprocess.PIPE, timeout=60, **user)
+            [binary] + words, cwd=folder, stdout=out, stderr=subprocess.PIPE, timeout=60, **source, **user)
     except subprocess.TimeoutExpired:
         return "", "stopped after 60 seconds", -1
+    finally:
+        if is_slow:
+            os.close(source["stdin"])
     return (done.stdout or b"").decode("latin-1"), done.stderr.decode("latin-1"), done.returncode
+
+
+def slow_pipe(data):
+    """A pipe to read the data from, into which a thread puts a few bytes at a time."""
+    reading, writing = os.pipe()
+
+    def write():
+        with open(writing, "wb", buffering=0) as file, suppress(BrokenPipeError):
+            for place in range(0, len(data), FEW):
+                time.sleep(PAUSE)
+                file.write(data[place:place + FEW])
+
+    threading.Thread(target=write, daemon=True).start()
+    return reading
 
 
 @functools.lru_cache(maxsize=None)

@@ -6,7 +6,7 @@ import sys
 
 TESTS = os.path.dirname(os.path.abspath(__file__))
 MEMBERS = {"name", "note", "words", "files", "inputs", "stdin", "out", "err", "status", "folders", "unreadable",
-           "out_is_full", "out_is_unread", "stdin_is_closed", "raw_words"}
+           "out_is_full", "out_is_unread", "stdin_is_closed", "stdin_is_slow", "raw_words"}
 TOLD = re.compile(r"\d+|[A-Z]\w+ at \d+")
 
 

@@ -31,9 +31,8 @@ pair_passed line given_up places base len (Err end) even blocks cells = tt
 chunks_passed : (line : Line) (given_up : List ℕ) (size : ℕ) → line.feed ≡ Some size → PassesCells given_up line.second → PassesGate given_up line
 chunks_passed line given_up size fed cells = ((λ none. absurd (none-some size (sym none ∙ fed))), cells)
 
-pub fed_passed : (line : Line) (given_up : List ℕ) (size : ℕ) (result : Result Answer RunFault) → line.feed ≡ Some size → line.second ≡ None → IfOk result (λ _. PassesGate given_up line)
-fed_passed line given_up size (Ok answer) fed none = chunks_passed line given_up size fed (subst (PassesCells given_up) (sym none) tt)
-fed_passed line given_up size (Err end) fed none = tt
+pub fed_passed : (line : Line) (given_up : List ℕ) (size : ℕ) → line.feed ≡ Some size → line.second ≡ None → PassesGate given_up line
+fed_passed line given_up size fed none = chunks_passed line given_up size fed (subst (PassesCells given_up) (sym none) tt)
 
 pub fed_pair_passed : (line : Line) (given_up : List ℕ) (size : ℕ) (result : Result Answer JoinFault) → line.feed ≡ Some size → IfOk result (λ _. NoneGivenUp given_up 0 64) → IfOk result (λ _. PassesGate given_up line)
 fed_pair_passed line given_up size (Ok answer) fed cells = chunks_passed line given_up size fed (no_cell given_up line.second cells)

@@ -17,3 +17,4 @@ pub mod MadeSizes
 pub mod SquareTexts
 pub mod OneMade
 pub mod ShelfUses
+pub mod Loads

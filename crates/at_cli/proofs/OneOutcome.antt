@@ -97,7 +97,7 @@ module _ (line : Line) where
   one_refused_line a b (inr (p, h, e)) (inl (n, k, i)) = absurd (query_or_fault line.digits line.how line.query p n h k)
   one_refused_line a b (inr (p, h, e)) (inr (q, k, i)) = one_refused_query q a b (subst (λ z. IsQueryRefused line z a) (one_query line.digits line.how line.query p q h k) e) i
 
-  refused_not_accepted : (refusal : List ℕ) → IsLineRefused line refusal → IsLineAccepted line → ⊥
+  pub refused_not_accepted : (refusal : List ℕ) → IsLineRefused line refusal → IsLineAccepted line → ⊥
   refused_not_accepted refusal (inl (m, h, e)) (q, k, i) = query_or_fault line.digits line.how line.query q m k h
   refused_not_accepted refusal (inr (p, h, e)) (q, k, right) =
       let (wrong, i) = subst (λ z. IsQueryRefused line z refusal) (one_query line.digits line.how line.query p q h k) e in true≢false (sym right ∙ wrong)

@@ -1,15 +1,17 @@
 -- The end of a run is the outcome of what the words say, over the files.
 -- For `top`.
-use Rattle.std.proofs.Common.{◌≡◌, ◌≢◌, ◌↔◌, ◌⊎◌, ◌∙◌, sym, ap, Result, Err, ℕ, List, Option, Some, None, IfSome, inl, inr, refl, subst, arith}
+use Rattle.std.proofs.Common.{◌≡◌, ◌≢◌, ◌≤◌, ◌↔◌, ◌⊎◌, ◌∙◌, sym, ap, Result, Err, ℕ, List, Option, Some, None, IfSome, inl, inr, refl, subst, arith}
 use Rattle.at_io.specs.Files.{Files}
 use Rattle.at_cli.specs.declared.outcome.ending.Ending.{Ending}
 use Rattle.at_cli.specs.declared.words.line.Line.{Line}
 use Rattle.at_cli.specs.LineOf.{SaysLine}
-use Rattle.at_query.specs.Queries.{HasQueryFault}
+use Rattle.at_query.specs.declared.query.queries.Query.{Query}
+use Rattle.at_query.specs.Queries.{IsQueryOf, HasQueryFault}
 use Rattle.at_cli.specs.declared.outcome.ending.Ending.TheVariants.{Usage, QueryFault, Names, Faulty, ReadFailed, TooLarge, NoMemory, Answered}
 use Rattle.at_cli.specs.declared.words.line.WordsEnd.{WordsEnd}
 use Rattle.at_cli.specs.declared.words.line.WordsEnd.TheVariants.{Refused}
-use Rattle.at_cli.specs.Outcomes.{Outcome, stopped, answered, HasLineOutcome, HasOutcome, SayNoLine, IsLineRefused, IsLineAccepted, AreRefused, AreAccepted}
+use Rattle.at_cli.specs.Outcomes.{Outcome, stopped, answered, has_right_count, HasCountedOutcome, HasLineOutcome, HasOutcome, SayNoLine, IsLineRefused, IsLineAccepted, AreRefused, AreAccepted}
+use Rattle.at_cli.specs.Texts.{memory_line}
 use Rattle.at_cli.specs.Endings.{status_of, text_of, line_of, outcome_by, Ends}
 
 -- what holds over all files holds over these
@@ -23,6 +25,14 @@ ends_said words line files e says (inl three) = inl three
 ends_said words line files e says (inr (inl five)) = inr (inl five)
 ends_said words line None e says (inr (inr h)) = inr (inr tt)
 ends_said words line (Some told) e says (inr (inr h)) = inr (inr (inr (line, says, h)))
+
+-- the end over the line's query, whose names are counted, is that over the line
+pub ends_asked : (line : Line) (query : Query) (files : Option Files) (e : Ending) → IsQueryOf line.digits line.how line.query query → Ends (HasCountedOutcome (has_right_count query.verb line.second) line query) files e
+    → Ends (HasLineOutcome line) files e
+ends_asked line query files e is (inl three) = inl three
+ends_asked line query files e is (inr (inl five)) = inr (inl five)
+ends_asked line query None e is (inr (inr h)) = inr (inr tt)
+ends_asked line query (Some told) e is (inr (inr h)) = inr (inr (inr (query, is, h)))
 
 -- a query with a fault ends the run
 pub ends_query : (line : Line) (files : Option Files) (text : List ℕ) (at : ℕ) → text ≡ line.query → HasQueryFault line.digits line.how text at → Ends (HasLineOutcome line) files (QueryFault at)
@@ -133,5 +143,44 @@ told_refusal status own (inr (four, zero)) (inr five) = absurd (omega (arith, ze
 pub is_no_answer : (status : ℕ) → (status ≡ 1) ⊎ (status ≡ 6) → (status ≢ 0) × (status ≢ 4)
 is_no_answer status (inl one) = ((λ z. omega (arith, one, z)), (λ z. omega (arith, one, z)))
 is_no_answer status (inr six) = ((λ z. omega (arith, six, z)), (λ z. omega (arith, six, z)))
+
+-- a status but 4 is told of an end of that status alone, and an end of a status but 0 is told by its own
+pub own_status : (status own n : ℕ) → (status ≡ own) ⊎ ((status ≡ 4) × (own ≡ 0)) → status ≡ n → n ≢ 4 → own ≡ n
+own_status status own n (inl same) e other = sym same ∙ e
+own_status status own n (inr (four, zero)) e other = absurd (other (sym e ∙ four))
+
+pub as_told : (status own n : ℕ) → (status ≡ own) ⊎ ((status ≡ 4) × (own ≡ 0)) → own ≡ n → n ≢ 0 → status ≡ n
+as_told status own n (inl same) e other = same ∙ e
+as_told status own n (inr (four, zero)) e other = absurd (other (sym e ∙ zero))
+
+-- 0 and 4 are told of an answer
+pub answered_status : (e : Ending) (status : ℕ) → (status ≡ status_of e) ⊎ ((status ≡ 4) × (status_of e ≡ 0)) → (status ≡ 0) ⊎ (status ≡ 4) → status_of e ≡ 0
+answered_status e status (inr (four, zero)) h = zero
+answered_status e status (inl same) (inl zero) = sym same ∙ zero
+answered_status e status (inl same) (inr four) = absurd (never_four e (sym same ∙ four))
+
+status_small : (e : Ending) → status_of e ≤ 6
+status_small (Answered text) = omega arith
+status_small Usage = omega arith
+status_small (QueryFault at) = omega arith
+status_small Names = omega arith
+status_small (Faulty name fault) = omega arith
+status_small (ReadFailed name) = omega arith
+status_small (TooLarge name) = omega arith
+status_small NoMemory = omega arith
+
+pub told_small : (e : Ending) (status : ℕ) → (status ≡ status_of e) ⊎ ((status ≡ 4) × (status_of e ≡ 0)) → status ≤ 6
+told_small e status (inl same) = let small = status_small e in omega (arith, same, small)
+told_small e status (inr (four, zero)) = omega (arith, four)
+
+pub line_of_memory : (e : Ending) → status_of e ≡ 5 → line_of e ≡ memory_line
+line_of_memory (Answered text) h = absurd (omega (arith, h))
+line_of_memory Usage h = absurd (omega (arith, h))
+line_of_memory (QueryFault at) h = absurd (omega (arith, h))
+line_of_memory Names h = absurd (omega (arith, h))
+line_of_memory (Faulty name fault) h = absurd (omega (arith, h))
+line_of_memory (ReadFailed name) h = absurd (omega (arith, h))
+line_of_memory (TooLarge name) h = absurd (omega (arith, h))
+line_of_memory NoMemory h = refl
 
 -- ---- what words say keeps the limits

@@ -15,7 +15,8 @@ use Rattle.at_geojson.specs.Roles.{features_of}
 use Rattle.at_run.proofs.FileSizes.{parts_size, split_size, few_of_size}
 use Rattle.at_run.proofs.JsonSizes.{text_features_size}
 use Rattle.at_run.proofs.JsonFeatures.{json_features_in_range}
-use Rattle.at_seq.specs.Records.{Piece, placed, is_separator, pieces_from, are_spaces, records_of}
+use Rattle.at_text.specs.Separated.{Piece, placed}
+use Rattle.at_seq.specs.Records.{is_separator, pieces_from, are_spaces, records_of}
 use Rattle.at_seq.specs.Sequences.{AreRecordFeatures, AreSeqFeatures}
 
 -- ---- how many bytes records have

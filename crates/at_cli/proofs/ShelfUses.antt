@@ -12,7 +12,7 @@ use Rattle.at_cli.specs.declared.outcome.ending.Ending.{Ending}
 use Rattle.at_cli.specs.Made.{is_made}
 use Rattle.at_cli.specs.Texts.{unread_line}
 use Rattle.at_cli.specs.Outcomes.{Outcome, has_right_count, HasBytesBy, HasBytes, Sized}
-use Rattle.at_cli.specs.Failures.{asked_name, begun_with, last_begun, WasAsked, AsksFor, HaveSized, FailedOn}
+use Rattle.at_cli.specs.Failures.{asked_name, begun_with, last_begun, Meanings, WasAsked, AsksFor, HaveSized, FailedOn}
 use Rattle.at_cli.specs.Endings.{status_of, outcome_by, Ends}
 use Rattle.at_cli.proofs.Growth.{rose_on}
 
@@ -42,19 +42,20 @@ there_of {X} r P e (inl failed) = absurd (let clash : ◌≡◌ {A = Result X Re
 
 -- ---- what was asked
 
-nothing : (files : Option Files) (begins taken : ℕ) (named : Option (List ℕ)) → WasAsked [] files begins begins taken taken named named
-nothing files begins taken named = record { begun = refl; least = omega arith; limit = omega arith; last = same files } where
-  same : (files : Option Files) → IfSome files (λ told. named ≡ last_begun told [] named)
-  same None = tt
-  same (Some told) = refl
+-- a shelf of which nothing is asked tells the same
+pub none_asked : (m : Meanings) → WasAsked [] m m
+none_asked m = record { begun = refl; least = omega arith; limit = omega arith; last = same m.files m.named } where
+  same : (files : Option Files) (named : Option (List ℕ)) → IfSome files (λ told. named ≡ last_begun told [] named)
+  same None named = tt
+  same (Some told) named = refl
 
 asked_is : (name : List ℕ) → is_made name ≡ false → asked_name name ≡ name ∷ []
 asked_is name e = ap (λ t. if t then [] else name ∷ []) e
 
-pub name_asked : (name : List ℕ) (files : Option Files) (begins begins' taken taken' : ℕ) (named named' : Option (List ℕ)) → is_made name ≡ false
-    → begins' ≡ next_count begins → taken ≤ taken' → taken' ≤ taken + (2 ^ 28 + 1) → IfSome files (λ told. named' ≡ name_among told name) → WasAsked (asked_name name) files begins begins' taken taken' named named'
-name_asked name files begins begins' taken taken' named named' e begun least limit last =
-    let P : List (List ℕ) → Type 0 = λ l. WasAsked l files begins begins' taken taken' named named' in
+pub name_asked : (name : List ℕ) (m n : Meanings) → is_made name ≡ false
+    → n.begins ≡ next_count m.begins → m.taken ≤ n.taken → n.taken ≤ m.taken + (2 ^ 28 + 1) → IfSome m.files (λ told. n.named ≡ name_among told name) → WasAsked (asked_name name) m n
+name_asked name m n e begun least limit last =
+    let P : List (List ℕ) → Type 0 = λ l. WasAsked l m n in
     subst P (sym (asked_is name e)) (record { begun = begun; least = least; limit = omega (arith, limit); last = last })
 
 begun_both : (ns ms : List (List ℕ)) (n : ℕ) → begun_with ms (begun_with ns n) ≡ begun_with (ns ++ ms) n
@@ -65,19 +66,24 @@ last_both : (told : Files) (ns ms : List (List ℕ)) (named : Option (List ℕ))
 last_both told [] ms named = refl
 last_both told (x ∷ ns) ms named = last_both told ns ms (name_among told x)
 
-pub both_asked : (ns ms : List (List ℕ)) (files : Option Files) (b b1 b2 t t1 t2 : ℕ) (n n1 n2 : Option (List ℕ)) → WasAsked ns files b b1 t t1 n n1 → WasAsked ms files b1 b2 t1 t2 n1 n2 → WasAsked (ns ++ ms) files b b2 t t2 n n2
-both_asked ns ms files b b1 b2 t t1 t2 n n1 n2 h k = record {
-  begun = k.begun ∙ (ap (begun_with ms) h.begun ∙ begun_both ns ms b);
-  least = (let l = h.least in let m = k.least in omega (arith, l, m));
-  limit = (let l = h.limit in let m = k.limit in omega (arith, l, m, length-append ns ms));
-  last = last files h.last k.last;
-} where
-  last : (files : Option Files) → IfSome files (λ told. n1 ≡ last_begun told ns n) → IfSome files (λ told. n2 ≡ last_begun told ms n1) → IfSome files (λ told. n2 ≡ last_begun told (ns ++ ms) n)
-  last None p q = tt
-  last (Some told) p q = q ∙ (ap (last_begun told ms) p ∙ last_both told ns ms n)
+-- what holds of the files holds of the same files
+with_files : (files other : Option Files) (P : Files → Type 0) → other ≡ files → IfSome other P → IfSome files P
+with_files files other P e h = subst (λ o. IfSome o P) e h
 
-pub asks_all : (ns : List (List ℕ)) (files : Option Files) (b b1 t t1 : ℕ) (n n1 : Option (List ℕ)) → WasAsked ns files b b1 t t1 n n1 → AsksFor ns files b b1 t t1 n n1
-asks_all ns files b b1 t t1 n n1 h = record { front = ns; behind = []; in_turn = sym (append-nil ns); was_asked = h }
+pub both_asked : (ns ms : List (List ℕ)) (m mid after : Meanings) → mid.files ≡ m.files → WasAsked ns m mid → WasAsked ms mid after → WasAsked (ns ++ ms) m after
+both_asked ns ms m mid after same h k = record {
+  begun = k.begun ∙ (ap (begun_with ms) h.begun ∙ begun_both ns ms m.begins);
+  least = (let l = h.least in let o = k.least in omega (arith, l, o));
+  limit = (let l = h.limit in let o = k.limit in omega (arith, l, o, length-append ns ms));
+  last = last m.files h.last (with_files m.files mid.files (λ told. after.named ≡ last_begun told ms mid.named) same k.last);
+} where
+  last : (files : Option Files) → IfSome files (λ told. mid.named ≡ last_begun told ns m.named) → IfSome files (λ told. after.named ≡ last_begun told ms mid.named)
+      → IfSome files (λ told. after.named ≡ last_begun told (ns ++ ms) m.named)
+  last None p q = tt
+  last (Some told) p q = q ∙ (ap (last_begun told ms) p ∙ last_both told ns ms m.named)
+
+pub asks_all : (ns : List (List ℕ)) (m n : Meanings) → WasAsked ns m n → AsksFor ns m n
+asks_all ns m n h = record { front = ns; behind = []; in_turn = sym (append-nil ns); was_asked = h }
 
 -- ---- failures
 
@@ -100,33 +106,33 @@ both_sized None ns ms h k = tt
 both_sized (Some told) [] ms h k = k
 both_sized (Some told) (n ∷ ns) ms (one, h) k = (one, both_sized (Some told) ns ms h k)
 
-pub failed_name : (name : List ℕ) (more : List (List ℕ)) (files : Option Files) (f f1 b b1 k t t1 : ℕ) (n n1 : Option (List ℕ)) → is_made name ≡ false → Rose f f1 → k ≡ b1
-    → WasAsked (asked_name name) files b b1 t t1 n n1 → FailedOn (asked_name name ++ more) (unread_line name) files f f1 b b1 k t t1 n n1
-failed_name name more files f f1 b b1 k t t1 n n1 e rose broken asked = record {
-  before = [];
+pub failed_name : (name : List ℕ) (more : List (List ℕ)) (m n : Meanings) → is_made name ≡ false → Rose m.faults n.faults → n.broken ≡ n.begins
+    → WasAsked (asked_name name) m n → FailedOn (asked_name name ++ more) (unread_line name) m n
+failed_name name more m n e rose broken asked = record {
+  earlier = [];
   name = name;
   behind = more;
   in_turn = ap (λ l. l ++ more) (asked_is name e);
   told = refl;
   cause = rose;
   broken = broken;
-  was_asked = (let P : List (List ℕ) → Type 0 = λ l. WasAsked l files b b1 t t1 n n1 in subst P (asked_is name e) asked);
-  before_sized = none_before files;
+  was_asked = (let P : List (List ℕ) → Type 0 = λ l. WasAsked l m n in subst P (asked_is name e) asked);
+  earlier_sized = none_before m.files;
 }
 
-pub failed_behind : (ns ms : List (List ℕ)) (line : List ℕ) (files : Option Files) (f f1 f2 b b1 b2 k t t1 t2 : ℕ) (n n1 n2 : Option (List ℕ)) → WasAsked ns files b b1 t t1 n n1 → f ≤ f1
-    → IfSome files (λ told. HaveSized told ns) → FailedOn ms line files f1 f2 b1 b2 k t1 t2 n1 n2 → FailedOn (ns ++ ms) line files f f2 b b2 k t t2 n n2
-failed_behind ns ms line files f f1 f2 b b1 b2 k t t1 t2 n n1 n2 h le sized failed = record {
-  before = ns ++ failed.before;
+pub failed_behind : (ns ms : List (List ℕ)) (line : List ℕ) (m mid after : Meanings) → mid.files ≡ m.files → WasAsked ns m mid → m.faults ≤ mid.faults
+    → IfSome m.files (λ told. HaveSized told ns) → FailedOn ms line mid after → FailedOn (ns ++ ms) line m after
+failed_behind ns ms line m mid after same h le sized failed = record {
+  earlier = ns ++ failed.earlier;
   name = failed.name;
   behind = failed.behind;
-  in_turn = ap (λ l. ns ++ l) failed.in_turn ∙ sym (append_assoc ns failed.before (failed.name ∷ failed.behind));
+  in_turn = ap (λ l. ns ++ l) failed.in_turn ∙ sym (append_assoc ns failed.earlier (failed.name ∷ failed.behind));
   told = failed.told;
-  cause = rose_on f f1 f2 le failed.cause;
+  cause = rose_on m.faults mid.faults after.faults le failed.cause;
   broken = failed.broken;
-  was_asked = (let P : List (List ℕ) → Type 0 = λ l. WasAsked l files b b2 t t2 n n2 in
-      subst P (sym (append_assoc ns failed.before (failed.name ∷ []))) (both_asked ns (failed.before ++ (failed.name ∷ [])) files b b1 b2 t t1 t2 n n1 n2 h failed.was_asked));
-  before_sized = both_sized files ns failed.before sized failed.before_sized;
+  was_asked = (let P : List (List ℕ) → Type 0 = λ l. WasAsked l m after in
+      subst P (sym (append_assoc ns failed.earlier (failed.name ∷ []))) (both_asked ns (failed.earlier ++ (failed.name ∷ [])) m mid after same h failed.was_asked));
+  earlier_sized = both_sized m.files ns failed.earlier sized (with_files m.files mid.files (λ told. HaveSized told failed.earlier) same failed.earlier_sized);
 }
 
 -- ---- ends

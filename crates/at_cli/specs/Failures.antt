@@ -30,22 +30,29 @@ abbrev pub last_begun : Files → List (List ℕ) → Option (List ℕ) → Opti
 last_begun told [] named = named
 last_begun told (name ∷ names) named = last_begun told names (name_among told name)
 
--- of a shelf with these files the files of these names were asked for in turn: as many were begun, the last by the last
--- name, and in all no more was taken than tells that each is too large
-pub record WasAsked (names : List (List ℕ)) (files : Option Files) (begins begins' taken taken' : ℕ) (named named'
-    : Option (List ℕ)) : Type 0 where
-  pub begun : begins' ≡ begun_with names begins
-  pub least : taken ≤ taken'
-  pub limit : taken' ≤ taken + length names * (2 ^ 28 + 1)
-  pub last : IfSome files (λ told. named' ≡ last_begun told names named)
+-- all that a shelf tells of itself
+pub record Meanings : Type 0 where
+  pub files : Option Files
+  pub taken : ℕ
+  pub begins : ℕ
+  pub named : Option (List ℕ)
+  pub broken : ℕ
+  pub faults : ℕ
 
--- it was asked for the first of these names, so many as were needed, and for no other
-pub record AsksFor (names : List (List ℕ)) (files : Option Files) (begins begins' taken taken' : ℕ) (named named'
-    : Option (List ℕ)) : Type 0 where
+-- the files of these names were asked for in turn: as many were begun, the last by the last name, and in all no more was
+-- taken than tells that each is too large
+pub record WasAsked (names : List (List ℕ)) (before after : Meanings) : Type 0 where
+  pub begun : after.begins ≡ begun_with names before.begins
+  pub least : before.taken ≤ after.taken
+  pub limit : after.taken ≤ before.taken + length names * (2 ^ 28 + 1)
+  pub last : IfSome before.files (λ told. after.named ≡ last_begun told names before.named)
+
+-- the shelf was asked for the first of these names, so many as were needed, and for no other
+pub record AsksFor (names : List (List ℕ)) (before after : Meanings) : Type 0 where
   pub front : List (List ℕ)
   pub behind : List (List ℕ)
   pub in_turn : names ≡ front ++ behind
-  pub was_asked : WasAsked front files begins begins' taken taken' named named'
+  pub was_asked : WasAsked front before after
 
 -- the files have each of these names, with at most 2^28 bytes
 abbrev pub HaveSized : Files → List (List ℕ) → Type 0
@@ -53,32 +60,37 @@ HaveSized told [] = Unit {0}
 HaveSized told (name ∷ names) = ((bytes : List ℕ) × (bytes_named told name ≡ Some bytes) × (length bytes ≤ 2 ^ 28))
     × HaveSized told names
 
--- a shelf with these files failed on the file of one of these names, which the line tells: its count of faults rose,
--- the file was begun in its turn, once and by that name, and the last call that failed came after that; the files have
--- the names before it, within the limit
-pub record FailedOn (names : List (List ℕ)) (line : List ℕ) (files : Option Files)
-    (faults faults' begins begins' broken' taken taken' : ℕ) (named named' : Option (List ℕ)) : Type 0 where
-  pub before : List (List ℕ)
+-- the shelf failed on the file of one of these names, which the line tells: its count of faults rose, the file was begun
+-- in its turn, once and by that name, and the last call that failed came after that; the files have the names before
+-- it, within the limit
+pub record FailedOn (names : List (List ℕ)) (line : List ℕ) (before after : Meanings) : Type 0 where
+  pub earlier : List (List ℕ)
   pub name : List ℕ
   pub behind : List (List ℕ)
-  pub in_turn : names ≡ before ++ (name ∷ behind)
+  pub in_turn : names ≡ earlier ++ (name ∷ behind)
   pub told : line ≡ unread_line name
-  pub cause : Rose faults faults'
-  pub broken : broken' ≡ begins'
-  pub was_asked : WasAsked (before ++ (name ∷ [])) files begins begins' taken taken' named named'
-  pub before_sized : IfSome files (λ told. HaveSized told before)
+  pub cause : Rose before.faults after.faults
+  pub broken : after.broken ≡ after.begins
+  pub was_asked : WasAsked (earlier ++ (name ∷ [])) before after
+  pub earlier_sized : IfSome before.files (λ told. HaveSized told earlier)
 
--- the same of a shelf before and after, by all that it tells of itself
+-- the same of a shelf before and after
 module _ {S : Type 0} (shelves : Ghosts S) where
+  abbrev pub meanings_of : S → Meanings
+  meanings_of shelf = record {
+    files = shelves.files shelf;
+    taken = shelves.taken shelf;
+    begins = shelves.begins shelf;
+    named = shelves.named shelf;
+    broken = shelves.broken shelf;
+    faults = shelves.faults shelf;
+  }
+
   abbrev pub ShelfWasAsked : List (List ℕ) → S → S → Type 0
-  ShelfWasAsked names before after = WasAsked names (shelves.files before) (shelves.begins before)
-      (shelves.begins after) (shelves.taken before) (shelves.taken after) (shelves.named before) (shelves.named after)
+  ShelfWasAsked names before after = WasAsked names (meanings_of before) (meanings_of after)
 
   abbrev pub ShelfAsksFor : List (List ℕ) → S → S → Type 0
-  ShelfAsksFor names before after = AsksFor names (shelves.files before) (shelves.begins before)
-      (shelves.begins after) (shelves.taken before) (shelves.taken after) (shelves.named before) (shelves.named after)
+  ShelfAsksFor names before after = AsksFor names (meanings_of before) (meanings_of after)
 
   abbrev pub ShelfFailedOn : List (List ℕ) → List ℕ → S → S → Type 0
-  ShelfFailedOn names line before after = FailedOn names line (shelves.files before) (shelves.faults before)
-      (shelves.faults after) (shelves.begins before) (shelves.begins after) (shelves.broken after)
-      (shelves.taken before) (shelves.taken after) (shelves.named before) (shelves.named after)
+  ShelfFailedOn names line before after = FailedOn names line (meanings_of before) (meanings_of after)

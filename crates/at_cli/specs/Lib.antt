@@ -14,5 +14,6 @@ pub mod Made
 pub mod Steps
 pub mod Said
 pub mod Endings
+pub mod Loading
 pub mod Squares
 pub mod Forms

@@ -1,5 +1,5 @@
--- What the program writes and how it ends, by its words and the files. It knows nothing of how they are read, of
--- blocks, or of workers.
+-- What the program writes and how it ends, by its words and the files. It knows nothing of how these are read: of
+-- blocks, workers and chunks it asks only whether the words spell them rightly.
 use Rattle.std.specs.Prelude.{◌≡◌, ◌⊎◌, ℕ, ◌^◌, ◌<◌, ◌≤◌, Bool, true, false, List, [], length, Option, Some, None}
 use Rattle.at_text.specs.declared.faults.Fault.{Fault}
 use Rattle.at_io.specs.Files.{Files, bytes_named}

@@ -47,7 +47,7 @@ impl<J: Job> Crew<J> {
     /// A crew for the job, and its chief, who can make so many passes.
     ///
     /// The blocks are a power of two up to 4,096, and as many as the job has; the passes are 1 to 64. All memory that
-    /// the crew itself wants is taken here.
+    /// the crew itself wants is taken here: none of its other calls has a refusal.
     pub fn new(
         alloc: Global,
         job: &J,
@@ -116,8 +116,9 @@ impl<J: Job> Crew<J> {
         }
     }
 
-    /// Claims blocks, and enters the gate with each, runs it and settles its part, until none is left. The pass is then
-    /// over.
+    /// Claims blocks until none is left; the pass is then over. In the code it enters the gate with each block, runs
+    /// it once and settles its part. No clause says so: that what is settled stands for its block is what `settle` asks
+    /// for, and that all blocks are there in the end is what `close` says.
     ///
     /// It takes no memory but what the job's `run` and `merge` take.
     pub fn work<G: Gate>(&self, alloc: Global, job: &J, pass: &mut Pass<J>, gate: &G)

@@ -1,15 +1,16 @@
-//! What is told of each block before it is run.
+//! Which blocks are given up, and where a block is told of before it is run.
 
 ghost use Rattle.std.specs.Prelude.{ℕ, List, [], IsTrue, ◌↔◌, Contains};
 
-/// What is told of each block before it is run, and which blocks are given up.
+/// Which blocks are given up, and where a block is told of before it is run.
 ///
-/// The crew enters the gate with each block that it claims. Whether a block is given up is for the job to ask.
+/// The code of `Crew::work` enters the gate with each block that it claims; no clause says so, so a gate can't rest on
+/// it. Whether a block is given up is for the job to ask.
 pub trait Gate: Sync {
     /// The blocks that are given up, which no call changes.
     ghost given_up: { Self → List ℕ };
 
-    /// Told once of each block, by the thread that claimed it, before the block is run.
+    /// Is told of a block, by the thread that claimed it. No clause says when, how often, or that it is told at all.
     fn enter(&self, block: u32);
 
     /// Whether the block is given up.

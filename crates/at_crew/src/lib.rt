@@ -6,12 +6,13 @@
 //! settles each part: it climbs the tree over the blocks for as long as the neighbour's part is there, and merges the
 //! two. Whoever comes first to a node leaves its part there and goes on to the next block, so no pass waits for
 //! another. Once all passes are taken back, the crew closes with the part of the whole. [`run_crew`] does all of this
-//! with threads of its own, which it joins at the end.
+//! with threads of its own.
 //!
-//! Proved for every job, and for whatever way the steps of the threads fall in: each block is claimed once, each inner
-//! node of the tree is merged once, no slot is touched by two threads at a time, and the whole stands for all blocks.
-//! To claim, to settle and to work waits for no other thread: no call takes `Wait`, without which no lock can be taken.
-//! Nothing is said of speed, of progress, or of which pass does what.
+//! Proved for every job, and for whatever way the steps of the threads fall in: each block stands once in the lists of
+//! what was claimed, each inner node of the tree once in the lists of what was merged, no slot is touched by two
+//! threads at a time, and the whole stands for all blocks. To claim, to settle and to work waits for no other thread:
+//! no call takes `Wait`, without which no lock can be waited for. Nothing is said of speed, of progress, of which pass
+//! does what, or of what a pass does with the gate.
 //!
 //! `docs/CREW.md` tells the rule behind it, with a figure.
 //!

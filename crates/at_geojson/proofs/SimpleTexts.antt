@@ -4,7 +4,8 @@ use Rattle.std.proofs.Common.{◌≡◌, ◌≢◌, ℕ, ◌+◌, ◌-◌, ◌<�
 use Rattle.std.specs.List.{list_all, list_any}
 use Rattle.std.proofs.lemmas.Bool.{true≢false, and_parts}
 use Rattle.at_lex.specs.Strings.{Character, character_text, string_text, AreCharacters, units_of}
-use Rattle.at_lex.specs.UnitSteps.{Content}
+use Rattle.at_lex.specs.UnitSteps.{Content, units_after}
+use Rattle.at_lex.proofs.Stretches.{units_by_step}
 use Rattle.at_lex.proofs.UnitLemmas.{ascii_steps, no_rest}
 use Rattle.at_query.specs.declared.query.queries.Test.{Test}
 use Rattle.at_query.specs.declared.query.queries.Test.TheVariants.{InBox, MeetsShape, Has}
@@ -18,11 +19,11 @@ no_escape : (b : ℕ) → is_simple b ≡ true → b ≢ 0x5C
 no_escape b h e = let n = (and_parts (nat_lt b 128) (not (b == 0x5C)) h).1 in absurd (grind (arith, n, e))
 
 -- from some byte on, the closing quote included
-units_ahead : (w : List ℕ) (cs : List Character) → Content cs w → list_all is_simple w ≡ true → units_of cs ++ 0x22 ∷ [] ≡ w
+units_ahead : (w : List ℕ) (cs : List Character) → Content cs w → list_all is_simple w ≡ true → units_after 0 cs ++ 0x22 ∷ [] ≡ w
 units_ahead [] cs (h, e) s = absurd (omega (arith, ap length e, length-append (flat_map character_text cs) (0x22 ∷ [])))
 units_ahead (b ∷ []) cs h s =
     let e = no_rest cs (b ∷ []) h (omega arith) in
-    ap (λ z. units_of z ++ 0x22 ∷ []) e ∙ sym (h.1 ∙ ap (λ z. flat_map character_text z ++ 0x22 ∷ []) e)
+    ap (λ z. units_after 0 z ++ 0x22 ∷ []) e ∙ sym (h.1 ∙ ap (λ z. flat_map character_text z ++ 0x22 ∷ []) e)
 units_ahead (b ∷ c ∷ v) cs h s =
     let simple = (and_parts (is_simple b) (list_all is_simple (c ∷ v)) s).0 in
     let steps = ascii_steps cs (b ∷ c ∷ v) h (omega arith) (no_escape b simple) (is_low b simple) in
@@ -40,7 +41,7 @@ simple_units w cs h e s = go w e s where
   go [] e s = absurd (omega (arith, ap length e))
   go (b ∷ v) e s =
       let rest : v ≡ flat_map character_text cs ++ 0x22 ∷ [] = ap (drop 1) e in
-      let units = units_ahead v cs (h, rest) (and_parts (is_simple b) (list_all is_simple v) s).1 in
+      let units = ap (λ z. z ++ 0x22 ∷ []) (units_by_step cs) ∙ units_ahead v cs (h, rest) (and_parts (is_simple b) (list_all is_simple v) s).1 in
       let long : length v ≡ length (units_of cs) + 1 = ap length (sym units) ∙ length-append (units_of cs) (0x22 ∷ []) in
       let count : length (b ∷ v) - 1 - 1 ≡ length (units_of cs) = omega (arith, long) in
       (omega (arith, long), ap (λ n. take n v) count ∙ (ap (take (length (units_of cs))) (sym units) ∙ all_but_last (units_of cs) 0x22))

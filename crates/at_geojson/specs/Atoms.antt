@@ -14,7 +14,8 @@ use Rattle.at_geom.specs.declared.shapes.Polygon.{Polygon}
 use Rattle.at_geom.specs.declared.shapes.Shape.{Shape}
 use Rattle.at_geom.specs.Segments.{IsInRange}
 use Rattle.at_geom.specs.Shapes.{line_fault, ring_fault, ArePathsInRange, ArePolygonsInRange, IsShapeInRange}
-use Rattle.at_wkt.specs.Positions.{Position, Positions, last_of, is_faultless, number_fault, value_of, position_faults}
+use Rattle.at_geom.specs.Closed.{last_of}
+use Rattle.at_wkt.specs.Positions.{Position, Positions, is_faultless, number_fault, value_of, position_faults}
 use Rattle.at_wkt.specs.Positions.{items_faults, faults_of_line, faults_of_ring, pos_of, path_of}
 use Rattle.at_wkt.specs.Meaning.{empty_shape, polygons_of, faults_of_area}
 use Rattle.at_nest.specs.Tree.{Tree, literal, array, object, Trees, Members, offset_of}

@@ -11,10 +11,11 @@ use Rattle.at_geom.specs.declared.shapes.Polygon.{Polygon}
 use Rattle.at_geom.specs.declared.rectangles.Extent.{Extent}
 use Rattle.at_geom.specs.Closed.{last_of, IsClosed, HasClosedFirst, HasClosedExterior}
 use Rattle.at_geom.specs.Segments.{IsOn}
-use Rattle.at_geom.specs.Regions.{is_crossed, run_of_edge, run_to_point, is_odd_for, IsInRings}
+use Rattle.at_geom.specs.Regions.{is_crossed, is_odd_for, IsInRings}
 use Rattle.at_geom.specs.Shapes.{joined, is_within, positions_of_polygons, IsInSome}
 use Rattle.at_geom.proofs.CommonPoint.{Between, on_out, above_by}
-use Rattle.at_geom.proofs.Crossings.{flip, odd_step, not_level, not_crossed, crossed_up, crossed_down, by_heights}
+use Rattle.at_geom.proofs.Crossings.{flip, odd_step, not_level, not_crossed, by_heights}
+use Rattle.at_geom.proofs.EdgePoints.{run_of_edge, run_to_point, crossed_up, crossed_down}
 use Rattle.at_geom.proofs.Found.{left_true, right_true, AreWithin, sides, from_sides, found_edges, first_within, second_within}
 use Rattle.at_geom.proofs.RingLaws.{expand}
 use Rattle.at_geom.proofs.Comparisons.{le_true, le_false, lt_true, lt_false}

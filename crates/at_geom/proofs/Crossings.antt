@@ -1,39 +1,46 @@
 -- Where a position is against an edge and a ring: the two tests of heights, the side of the edge's line, and parity.
 -- For most public calls of the crate, `are_closed`, `doubled_area`, `in_polygon` among them.
-use Rattle.std.proofs.Common.{◌≡◌, ◌≢◌, ℕ, suc, ℤ, pos, ◌+◌, ◌<◌, ◌-ℤ◌, ◌≤ℤ◌, ◌<ℤ◌, inl, inr, Bool, true, false, not, cond, List, ◌∷◌, length, get_or, drop, zero-add, arith, refl, sym, ap, subst, ◌∙◌}
+use Rattle.std.proofs.Common.{◌≡◌, ◌≢◌, ℕ, suc, ℤ, pos, ◌+◌, ◌<◌, ◌≤ℤ◌, ◌<ℤ◌, inl, inr, Bool, true, false, not, ◌&&◌, ◌||◌, cond, List, ◌∷◌, length, get_or, drop, zero-add, arith, refl, sym, ap, subst, ◌∙◌}
 use mathlib.Core.Bool.{beq}
-use Rattle.std.specs.Prelude.{int_le, int_lt, ◌%◌, ◌==◌, if◌then◌else◌, count_by, All}
-use Rattle.std.proofs.Math.IntN.{*ℤ_comm}
+use Rattle.std.specs.Prelude.{int_le, int_lt, ◌%◌, ◌==◌, count_by, All}
+use Rattle.std.proofs.lemmas.Bool.{and_from, and_left, and_right}
 use Rattle.std.proofs.lemmas.Int.{ints, clamps, by_lt_z}
 use Rattle.at_geom.specs.declared.positions.Pos.{Pos}
 use Rattle.std.proofs.lemmas.List.{drop_more}
 use Rattle.std.proofs.lemmas.List.Sums.{sum_by-cons}
 use Rattle.at_geom.specs.Segments.{IsInRange, IsOn, edges, turn}
-use Rattle.at_geom.specs.Regions.{is_crossed, run_of_edge, run_to_point, is_odd_for, IsOnRing}
+use Rattle.at_geom.specs.Regions.{rises_past, is_crossed, is_odd_for, IsOnRing}
 use Rattle.at_geom.proofs.CommonPoint.{Between, on_out}
-use Rattle.at_geom.proofs.Comparisons.{le_true, le_false, lt_true, lt_false}
+use Rattle.at_geom.proofs.Comparisons.{le_true, le_false, lt_true, lt_false, le_from}
 
-pick_up : (u v f g : Bool) → u ≡ true → v ≡ false → (if u then (if v then false else f) else (if v then g else false)) ≡ f
-pick_up u v f g d e = rw (d, e) refl
+pick_rising : (u v f g : Bool) → u ≡ true → v ≡ false → ((u && f) || (v && g)) ≡ f
+pick_rising true false true g d e = refl
+pick_rising true false false g d e = refl
+pick_rising false v f g d e = absurd (cc)
+pick_rising true true f g d e = absurd (cc)
 
-pick_down : (u v f g : Bool) → u ≡ false → v ≡ true → (if u then (if v then false else f) else (if v then g else false)) ≡ g
-pick_down u v f g d e = rw (d, e) refl
+pick_falling : (u v f g : Bool) → u ≡ false → v ≡ true → ((u && f) || (v && g)) ≡ g
+pick_falling u v f g d e = rw (d, e) refl
 
-pick_none : (u v f g : Bool) → u ≡ v → (if u then (if v then false else f) else (if v then g else false)) ≡ false
-pick_none true true f g e = refl
-pick_none true false f g e = absurd (cc)
-pick_none false true f g e = absurd (cc)
-pick_none false false f g e = refl
+pick_none : (u v f g : Bool) → u ≡ false → v ≡ false → ((u && f) || (v && g)) ≡ false
+pick_none u v f g d e = rw (d, e) refl
+
+-- an edge rises past p, or it doesn't
+rises : (p a b : Pos) → a.y ≤ℤ p.y → p.y <ℤ b.y → rises_past p a b ≡ true
+rises p a b h k = and_from (int_le a.y p.y) (int_lt p.y b.y) (le_true a.y p.y h) (lt_true p.y b.y k)
+
+begins_higher : (p a b : Pos) → p.y <ℤ a.y → rises_past p a b ≡ false
+begins_higher p a b h = and_left (int_le a.y p.y) (int_lt p.y b.y) (le_false a.y p.y h)
+
+ends_low : (p a b : Pos) → b.y ≤ℤ p.y → rises_past p a b ≡ false
+ends_low p a b h = and_right (int_le a.y p.y) (int_lt p.y b.y) (lt_false p.y b.y h)
 
 -- an edge that rises past p, and one that falls past it
-pub crossed_up : (p a b : Pos) → a.y ≤ℤ p.y → p.y <ℤ b.y → is_crossed p (a, b) ≡ int_lt (run_to_point p a b) (run_of_edge p a b)
-crossed_up p a b h k = pick_up (int_le a.y p.y) (int_le b.y p.y) (int_lt (run_to_point p a b) (run_of_edge p a b)) (int_lt (run_of_edge p a b) (run_to_point p a b)) (le_true a.y p.y h) (le_false b.y p.y k)
+crossed_up : (p a b : Pos) → a.y ≤ℤ p.y → p.y <ℤ b.y → is_crossed p (a, b) ≡ int_lt (pos 0) (turn a b p)
+crossed_up p a b h k = pick_rising (rises_past p a b) (rises_past p b a) (int_lt (pos 0) (turn a b p)) (int_lt (turn a b p) (pos 0)) (rises p a b h k) (begins_higher p b a k)
 
-pub crossed_down : (p a b : Pos) → p.y <ℤ a.y → b.y ≤ℤ p.y → is_crossed p (a, b) ≡ int_lt (run_of_edge p a b) (run_to_point p a b)
-crossed_down p a b h k = pick_down (int_le a.y p.y) (int_le b.y p.y) (int_lt (run_to_point p a b) (run_of_edge p a b)) (int_lt (run_of_edge p a b) (run_to_point p a b)) (le_false a.y p.y h) (le_true b.y p.y k)
-
-pub not_crossed : (p a b : Pos) → int_le a.y p.y ≡ int_le b.y p.y → is_crossed p (a, b) ≡ false
-not_crossed p a b e = pick_none (int_le a.y p.y) (int_le b.y p.y) (int_lt (run_to_point p a b) (run_of_edge p a b)) (int_lt (run_of_edge p a b) (run_to_point p a b)) e
+crossed_down : (p a b : Pos) → p.y <ℤ a.y → b.y ≤ℤ p.y → is_crossed p (a, b) ≡ int_lt (turn a b p) (pos 0)
+crossed_down p a b h k = pick_falling (rises_past p a b) (rises_past p b a) (int_lt (pos 0) (turn a b p)) (int_lt (turn a b p) (pos 0)) (begins_higher p a b h) (rises p b a k h)
 
 -- by the four cases of the heights
 pub by_heights : {P : Type 0} (p a b : Pos) → (a.y ≤ℤ p.y → p.y <ℤ b.y → P) → (p.y <ℤ a.y → b.y ≤ℤ p.y → P) → (int_le a.y p.y ≡ int_le b.y p.y → P) → P
@@ -42,24 +49,29 @@ by_heights p a b up down level =
     (λ h. by_lt_z p.y b.y (λ k. level (le_false a.y p.y h ∙ sym (le_false b.y p.y k))) (λ k. down h k))
     (λ h. by_lt_z p.y b.y (λ k. up h k) (λ k. level (le_true a.y p.y h ∙ sym (le_true b.y p.y k))))
 
+-- both ends at most as high as p, and both higher
+both_lower : (p a b : Pos) → int_le b.y p.y ≡ true → rises_past p a b ≡ false
+both_lower p a b e = ends_low p a b (le_from b.y p.y e)
+
+both_higher : (p a b : Pos) → int_le a.y p.y ≡ false → rises_past p a b ≡ false
+both_higher p a b e = and_left (int_le a.y p.y) (int_lt p.y b.y) e
+
+beside_height : (p a b : Pos) → rises_past p a b ≡ false → rises_past p b a ≡ false → is_crossed p (a, b) ≡ false
+beside_height p a b h k = pick_none (rises_past p a b) (rises_past p b a) (int_lt (pos 0) (turn a b p)) (int_lt (turn a b p) (pos 0)) h k
+
+pub not_crossed : (p a b : Pos) → int_le a.y p.y ≡ int_le b.y p.y → is_crossed p (a, b) ≡ false
+not_crossed p a b e =
+    by_lt_z p.y a.y
+    (λ h. beside_height p a b (begins_higher p a b h) (both_higher p b a (sym e ∙ le_false a.y p.y h)))
+    (λ h. beside_height p a b (both_lower p a b (sym e ∙ le_true a.y p.y h)) (ends_low p b a h))
+
 -- ---- the side
 
-run_difference : (p a b : Pos) → turn a b p ≡ run_of_edge p a b -ℤ run_to_point p a b
-run_difference p a b = omega (arith, ints, *ℤ_comm (b.x -ℤ a.x) (p.y -ℤ a.y), *ℤ_comm (b.y -ℤ a.y) (p.x -ℤ a.x))
-
-lt_of_difference : (s x y : ℤ) → s ≡ y -ℤ x → int_lt (pos 0) s ≡ int_lt x y
-lt_of_difference s x y e =
-    by_lt_z x y (λ h. lt_true (pos 0) s (omega (arith, ints)) ∙ sym (lt_true x y h)) (λ h. lt_false (pos 0) s (omega (arith, ints)) ∙ sym (lt_false x y h))
-
-gt_of_difference : (s x y : ℤ) → s ≡ y -ℤ x → int_lt s (pos 0) ≡ int_lt y x
-gt_of_difference s x y e =
-    by_lt_z y x (λ h. lt_true s (pos 0) (omega (arith, ints)) ∙ sym (lt_true y x h)) (λ h. lt_false s (pos 0) (omega (arith, ints)) ∙ sym (lt_false y x h))
-
 pub side_up : (p a b : Pos) (s : ℤ) → s ≡ turn a b p → a.y ≤ℤ p.y → p.y <ℤ b.y → int_lt (pos 0) s ≡ is_crossed p (a, b)
-side_up p a b s e h k = lt_of_difference s (run_to_point p a b) (run_of_edge p a b) (e ∙ run_difference p a b) ∙ sym (crossed_up p a b h k)
+side_up p a b s e h k = ap (int_lt (pos 0)) e ∙ sym (crossed_up p a b h k)
 
 pub side_down : (p a b : Pos) (s : ℤ) → s ≡ turn a b p → p.y <ℤ a.y → b.y ≤ℤ p.y → int_lt s (pos 0) ≡ is_crossed p (a, b)
-side_down p a b s e h k = gt_of_difference s (run_to_point p a b) (run_of_edge p a b) (e ∙ run_difference p a b) ∙ sym (crossed_down p a b h k)
+side_down p a b s e h k = ap (λ (z : ℤ). int_lt z (pos 0)) e ∙ sym (crossed_down p a b h k)
 
 pub zero_not_crossed : (p a b : Pos) → turn a b p ≡ pos 0 → is_crossed p (a, b) ≡ false
 zero_not_crossed p a b e =

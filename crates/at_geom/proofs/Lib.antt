@@ -5,6 +5,7 @@ pub mod Elements
 mod Examples
 pub mod Covering
 pub mod Crossings
+pub mod EdgePoints
 pub mod Found
 pub mod ClosedRings
 pub mod RingLaws

@@ -1,32 +1,26 @@
 -- The region of a polygon: its exterior and what it encloses, without the insides of its holes (OGC 06-103r4 section
 -- 6.1.11; RFC 7946 section 3.1.6).
-use Rattle.std.specs.Prelude.{◌%◌, ℤ, pos, ◌+ℤ◌, ◌-ℤ◌, ◌*ℤ◌, nat_abs, Bool, false, not, ◌==◌, if◌then◌else◌, int_le}
-use Rattle.std.specs.Prelude.{int_lt, IsTrue, ◌⊎◌, List, [], ◌∷◌, count_by, map, fold}
+use Rattle.std.specs.Prelude.{◌%◌, ℤ, pos, ◌+ℤ◌, ◌-ℤ◌, ◌*ℤ◌, nat_abs, Bool, not, ◌&&◌, ◌||◌, ◌==◌, int_le, int_lt}
+use Rattle.std.specs.Prelude.{IsTrue, ◌⊎◌, List, [], ◌∷◌, count_by, map, fold}
 use Rattle.std.specs.Int.{w128, int_wrap}
 use Rattle.std.specs.List.{AllByRecursion}
 use Rattle.at_text.specs.Lists.{SomeOf}
 use Rattle.at_geom.specs.declared.positions.Pos.{Pos}
 use Rattle.at_geom.specs.declared.shapes.Polygon.{Polygon}
-use Rattle.at_geom.specs.Segments.{IsOn, edges}
+use Rattle.at_geom.specs.Segments.{IsOn, edges, turn}
 
 -- p is on an edge of the ring
 abbrev pub IsOnRing : Pos → List Pos → Type 0
 IsOnRing p ring = SomeOf (λ (e : Pos × Pos). IsOn p e.0 e.1) (edges ring)
 
--- how far the edge ab has gone to the right at the height of p, and how far p is to the right of a, both times the rise
--- of ab
-abbrev pub run_of_edge : Pos → Pos → Pos → ℤ
-run_of_edge p a b = (p.y -ℤ a.y) *ℤ (b.x -ℤ a.x)
+-- ab rises past the height of p: a is at most as high as p, and b is higher
+abbrev pub rises_past : Pos → Pos → Pos → Bool
+rises_past p a b = int_le a.y p.y && int_lt p.y b.y
 
-abbrev pub run_to_point : Pos → Pos → Pos → ℤ
-run_to_point p a b = (p.x -ℤ a.x) *ℤ (b.y -ℤ a.y)
-
--- exactly one end of ab is at most as high as p, and the edge's point at the height of p is to the right of p
+-- ab rises past the height of p with p to its left, or falls past it with p to its right: the edge's point at that height
+-- is to the right of p
 abbrev pub is_crossed : Pos → Pos × Pos → Bool
-is_crossed p (a, b) =
-    if int_le a.y p.y
-    then (if int_le b.y p.y then false else int_lt (run_to_point p a b) (run_of_edge p a b))
-    else (if int_le b.y p.y then int_lt (run_of_edge p a b) (run_to_point p a b) else false)
+is_crossed p (a, b) = (rises_past p a b && int_lt (pos 0) (turn a b p)) || (rises_past p b a && int_lt (turn a b p) (pos 0))
 
 -- the ray from p to the right crosses an odd number of the ring's edges
 abbrev pub is_odd_for : Pos → List Pos → Bool

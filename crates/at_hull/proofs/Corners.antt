@@ -1,17 +1,18 @@
 -- An extent of which the corners lie within a hull adds nothing to it.
 -- For `add`, `covers` and `join`.
-use Rattle.std.proofs.Common.{◌≡◌, ℤ, pos, neg_ℤ, ◌+ℤ◌, ◌-ℤ◌, ◌*ℤ◌, ◌≤ℤ◌, ◌⊎◌, inl, inr, IsTrue, List, [], ◌∷◌, ◌++◌, Some, arith, refl, sym, ap, ◌∙◌, subst, append_assoc}
+use Rattle.std.proofs.Common.{◌≡◌, ℤ, pos, neg_ℤ, ◌+ℤ◌, ◌-ℤ◌, ◌*ℤ◌, ◌≤ℤ◌, ◌⊎◌, inl, inr, IsTrue, List, [], ◌∷◌, ◌++◌, All, Contains, Some, arith, sym, ap, subst, append_assoc}
 use Rattle.std.proofs.lemmas.Int.{ints, by_lt_z}
+use Rattle.std.proofs.lemmas.List.Elements.{All-nil, All-cons, All-contains, All-weaker, All-from_recursion, Contains-append_left, Contains-append_cases}
 use Rattle.at_geom.specs.declared.positions.Pos.{Pos}
 use Rattle.at_geom.specs.declared.rectangles.Extent.{Extent}
 use Rattle.at_geom.specs.Segments.{turn}
 use Rattle.at_geom.specs.Shapes.{is_within, extent_of}
 use Rattle.at_geom.proofs.Found.{AreWithin, IsInside, sides, from_sides, extent_covers}
 use Rattle.at_geom.proofs.RingLaws.{expand}
-use Rattle.at_hull.specs.Hulls.{IsAtMost, IsIn, Each, IsHull}
+use Rattle.at_hull.specs.Hulls.{IsAtMost, IsHull}
 use Rattle.at_hull.specs.Within.{IsWithin}
 use Rattle.at_hull.specs.Growth.{HaveOneHull, AddsNothing}
-use Rattle.at_hull.proofs.Members.{in_left, in_parts}
+use Rattle.at_hull.proofs.Members.{all_by}
 use Rattle.at_hull.proofs.Planes.{mul_pos}
 use Rattle.at_hull.proofs.Ways.{same_pos}
 use Rattle.at_hull.proofs.Covers.{Covers, by_difference, at_most_trans}
@@ -44,7 +45,7 @@ no_less t s a b e h k l = omega (arith, ints, e, h, k, l)
 abbrev pub corners : Extent → List Pos
 corners e = e.low ∷ record { x = e.high.x; y = e.low.y } ∷ e.high ∷ record { x = e.low.x; y = e.high.y } ∷ []
 
-corner_side : (c d p : Pos) (e : Extent) → IsInside e p → Each (λ v. pos 0 ≤ℤ turn c d v) (corners e) → pos 0 ≤ℤ turn c d p
+corner_side : (c d p : Pos) (e : Extent) → IsInside e p → All (λ v. pos 0 ≤ℤ turn c d v) (corners e) → pos 0 ≤ℤ turn c d p
 corner_side c d p e i f =
     let left = i.left in
     let right = i.right in
@@ -52,14 +53,14 @@ corner_side c d p e i f =
     let above = i.above in
     by_lt_z (d.x -ℤ c.x) (pos 0)
     (λ h. by_lt_z (d.y -ℤ c.y) (pos 0)
-    (λ k. no_less _ _ _ _ (by_difference c d (record { x = e.low.x; y = e.high.y }) p) (f (record { x = e.low.x; y = e.high.y }) (inr (inr (inr (inl refl)))))
+    (λ k. no_less _ _ _ _ (by_difference c d (record { x = e.low.x; y = e.high.y }) p) (f 3 e.low (omega arith))
     (both_down (d.x -ℤ c.x) (p.y -ℤ e.high.y) (omega (arith, ints, h)) (omega (arith, ints, above))) (first_down (d.y -ℤ c.y) (p.x -ℤ e.low.x) (omega (arith, ints, k)) (omega (arith, ints, left))))
-    (λ k. no_less _ _ _ _ (by_difference c d e.high p) (f e.high (inr (inr (inl refl))))
+    (λ k. no_less _ _ _ _ (by_difference c d e.high p) (f 2 e.low (omega arith))
     (both_down (d.x -ℤ c.x) (p.y -ℤ e.high.y) (omega (arith, ints, h)) (omega (arith, ints, above))) (second_down (d.y -ℤ c.y) (p.x -ℤ e.high.x) k (omega (arith, ints, right)))))
     (λ h. by_lt_z (d.y -ℤ c.y) (pos 0)
-    (λ k. no_less _ _ _ _ (by_difference c d e.low p) (f e.low (inl refl))
+    (λ k. no_less _ _ _ _ (by_difference c d e.low p) (f 0 e.low (omega arith))
     (mul_pos (d.x -ℤ c.x) (p.y -ℤ e.low.y) h (omega (arith, ints, below))) (first_down (d.y -ℤ c.y) (p.x -ℤ e.low.x) (omega (arith, ints, k)) (omega (arith, ints, left))))
-    (λ k. no_less _ _ _ _ (by_difference c d (record { x = e.high.x; y = e.low.y }) p) (f (record { x = e.high.x; y = e.low.y }) (inr (inl refl)))
+    (λ k. no_less _ _ _ _ (by_difference c d (record { x = e.high.x; y = e.low.y }) p) (f 1 e.low (omega arith))
     (mul_pos (d.x -ℤ c.x) (p.y -ℤ e.low.y) h (omega (arith, ints, below))) (second_down (d.y -ℤ c.y) (p.x -ℤ e.high.x) k (omega (arith, ints, right)))))
 
 from_low : (e : Extent) (p : Pos) → IsInside e p → IsAtMost e.low p
@@ -71,19 +72,19 @@ from_low e p i =
 
 -- ---- what lies within the extent adds nothing to its corners
 
-side_of : (c d p : Pos) (e : Extent) (qs : List Pos) → Each (λ q. IsTrue (is_within e q)) qs → Each (λ v. pos 0 ≤ℤ turn c d v) (corners e) → IsIn p (corners e) ⊎ IsIn p qs → pos 0 ≤ℤ turn c d p
-side_of c d p e qs w f (inl m) = f p m
-side_of c d p e qs w f (inr m) = corner_side c d p e (sides e p (w p m)) f
+side_of : (c d p : Pos) (e : Extent) (qs : List Pos) → All (λ q. IsTrue (is_within e q)) qs → All (λ v. pos 0 ≤ℤ turn c d v) (corners e) → Contains (corners e) p ⊎ Contains qs p → pos 0 ≤ℤ turn c d p
+side_of c d p e qs w f (inl m) = All-contains (λ v. pos 0 ≤ℤ turn c d v) (corners e) p f m
+side_of c d p e qs w f (inr m) = corner_side c d p e (sides e p (All-contains (λ q. IsTrue (is_within e q)) qs p w m)) f
 
-low_of : (a p : Pos) (e : Extent) (qs : List Pos) → Each (λ q. IsTrue (is_within e q)) qs → Each (λ v. IsAtMost a v) (corners e) → IsIn p (corners e) ⊎ IsIn p qs → IsAtMost a p
-low_of a p e qs w f (inl m) = f p m
-low_of a p e qs w f (inr m) = at_most_trans a e.low p (f e.low (inl refl)) (from_low e p (sides e p (w p m)))
+low_of : (a p : Pos) (e : Extent) (qs : List Pos) → All (λ q. IsTrue (is_within e q)) qs → All (IsAtMost a) (corners e) → Contains (corners e) p ⊎ Contains qs p → IsAtMost a p
+low_of a p e qs w f (inl m) = All-contains (IsAtMost a) (corners e) p f m
+low_of a p e qs w f (inr m) = at_most_trans a e.low p (f 0 e.low (omega arith)) (from_low e p (sides e p (All-contains (λ q. IsTrue (is_within e q)) qs p w m)))
 
-corners_cover : (e : Extent) (qs : List Pos) → Each (λ q. IsTrue (is_within e q)) qs → Covers (corners e) (corners e ++ qs)
+corners_cover : (e : Extent) (qs : List Pos) → All (λ q. IsTrue (is_within e q)) qs → Covers (corners e) (corners e ++ qs)
 corners_cover e qs w = record {
-  elements = λ p m. in_left p (corners e) qs m;
-  sides = λ c d p m f. side_of c d p e qs w f (in_parts p (corners e) qs m);
-  low = λ a p m f. low_of a p e qs w f (in_parts p (corners e) qs m);
+  elements = all_by (Contains (corners e ++ qs)) (corners e) (λ p m. Contains-append_left (corners e) qs p m);
+  sides = λ c d p m f. side_of c d p e qs w f (Contains-append_cases (corners e) qs p m);
+  low = λ a p m f. low_of a p e qs w f (Contains-append_cases (corners e) qs p m);
   some = λ p m h. absurd (cc);
 }
 
@@ -102,7 +103,7 @@ by_corners ps e o qs w =
     (subst (λ (l : List Pos). HaveOneHull l (ps ++ corners e)) (sym (append_assoc ps (corners e) qs)) (one_hull_both ps (corners e ++ qs) ps (corners e) (one_hull_refl ps) (corners_add_nothing e qs w)))
     o)
 
-pub adds_nothing_within : (h : List Pos) (e : Extent) → IsHull h h → Each (IsWithin h) (corners e) → AddsNothing h e
+pub adds_nothing_within : (h : List Pos) (e : Extent) → IsHull h h → All (IsWithin h) (corners e) → AddsNothing h e
 adds_nothing_within h e own f = by_corners h e (one_hull_by (h ++ corners e) h h (own_with h (corners e) f own) own)
 
 -- more positions behind
@@ -116,10 +117,9 @@ adds_nothing_same ps rs e o f qs w =
 
 -- ---- the positions of an extent
 
-each_within : (e : Extent) (qs : List Pos) → AreWithin e qs → Each (λ q. IsTrue (is_within e q)) qs
-each_within e [] w p m = absurd m
-each_within e (q ∷ qs) w p (inl h) = subst (λ (z : Pos). IsTrue (is_within e z)) (sym h) w.0
-each_within e (q ∷ qs) w p (inr m) = each_within e qs w.1 p m
+each_within : (e : Extent) (qs : List Pos) → AreWithin e qs → All (λ q. IsTrue (is_within e q)) qs
+each_within e [] w = All-nil (λ q. IsTrue (is_within e q))
+each_within e (q ∷ qs) w = All-cons (λ p. IsTrue (is_within e p)) q qs w.0 (each_within e qs w.1)
 
 -- positions add nothing where their extent does
 pub adds_nothing_round : (ps qs : List Pos) (e : Extent) → extent_of qs ≡ Some e → AddsNothing ps e → HaveOneHull (ps ++ qs) ps
@@ -135,7 +135,8 @@ inside_both e f p a b c = record {
 
 -- an extent that lies in one that adds nothing
 pub adds_nothing_inside : (ps : List Pos) (e f : Extent) → IsTrue (is_within e f.low) → IsTrue (is_within e f.high) → AddsNothing ps e → AddsNothing ps f
-adds_nothing_inside ps e f low high h qs w = h qs (λ p m. from_sides e p (inside_both e f p (sides e f.low low) (sides e f.high high) (sides f p (w p m))))
+adds_nothing_inside ps e f low high h qs w =
+    h qs (All-weaker (λ q. IsTrue (is_within f q)) (λ q. IsTrue (is_within e q)) (λ p m. from_sides e p (inside_both e f p (sides e f.low low) (sides e f.high high) (sides f p m))) qs w)
 
 -- the hull of the list and of what waited
 pub adds_nothing_settled : (h waiting both : List Pos) (e : Extent) → IsHull (h ++ waiting) both → IsHull both both → AddsNothing h e → AddsNothing both e
@@ -144,13 +145,9 @@ adds_nothing_settled h waiting both e k own f = adds_nothing_same (h ++ waiting)
 -- ---- where the corners are
 
 pub four_within : (h : List Pos) (e : Extent) (right left : Pos) → right ≡ record { x = e.high.x; y = e.low.y } → left ≡ record { x = e.low.x; y = e.high.y }
-    → IsWithin h e.low → IsWithin h e.high → IsWithin h right → IsWithin h left → Each (IsWithin h) (corners e)
-four_within h e right left r l a b c d p (inl k) = subst (IsWithin h) (sym k) a
-four_within h e right left r l a b c d p (inr (inl k)) = subst (IsWithin h) (r ∙ sym k) c
-four_within h e right left r l a b c d p (inr (inr (inl k))) = subst (IsWithin h) (sym k) b
-four_within h e right left r l a b c d p (inr (inr (inr (inl k)))) = subst (IsWithin h) (l ∙ sym k) d
-four_within h e right left r l a b c d p (inr (inr (inr (inr m)))) = absurd m
+    → IsWithin h e.low → IsWithin h e.high → IsWithin h right → IsWithin h left → All (IsWithin h) (corners e)
+four_within h e right left r l a b c d = All-from_recursion (IsWithin h) (corners e) (a, (subst (IsWithin h) r c, (b, (subst (IsWithin h) l d, tt))))
 
-pub one_within : (h : List Pos) (e : Extent) → e.low ≡ e.high → IsWithin h e.low → Each (IsWithin h) (corners e)
+pub one_within : (h : List Pos) (e : Extent) → e.low ≡ e.high → IsWithin h e.low → All (IsWithin h) (corners e)
 one_within h e s a =
     four_within h e e.low e.low (ap (λ (q : Pos). record { x = q.x; y = e.low.y }) s) (ap (λ (q : Pos). record { x = e.low.x; y = q.y }) s) a (subst (IsWithin h) s a) a a

@@ -1,15 +1,16 @@
 -- What holds of a list where it holds of its hull, and the hull of lists that have the same hull.
 -- For most public calls of the crate, `add`, `covers`, `covers_all` among them.
-use Rattle.std.proofs.Common.{◌≡◌, ℤ, pos, ◌+ℤ◌, ◌-ℤ◌, ◌*ℤ◌, ◌≤ℤ◌, ◌<ℤ◌, ◌⊎◌, inl, inr, List, [], ◌∷◌, ◌++◌, arith, sym, ap, subst, refl}
+use Rattle.std.proofs.Common.{◌≡◌, ℤ, pos, ◌+ℤ◌, ◌-ℤ◌, ◌*ℤ◌, ◌≤ℤ◌, ◌<ℤ◌, ◌⊎◌, inl, inr, List, [], ◌∷◌, ◌++◌, All, Contains, arith, sym, ap, subst, refl}
 use Rattle.std.proofs.lemmas.Int.{ints, by_lt_z}
+use Rattle.std.proofs.lemmas.List.Elements.{All-nil, All-tail, All-append, All-take, All-drop, All-contains, All-from_recursion}
 use Rattle.at_geom.specs.declared.positions.Pos.{Pos}
 use Rattle.at_geom.specs.Segments.{turn}
 use Rattle.at_geom.proofs.RingLaws.{expand, products}
 use Rattle.at_geom.proofs.CommonPoint.{cross}
-use Rattle.at_hull.specs.Hulls.{IsAtMost, IsIn, Each, TurnsLeft, NoneRight, IsRing, AreEnds, IsHull, round}
+use Rattle.at_hull.specs.Hulls.{IsAtMost, TurnsLeft, NoneRight, IsRing, AreEnds, IsHull, round}
 use Rattle.at_hull.proofs.Planes.{mul_pos, div_pos, up_or_none, up_of, height_of, IsUp, IsUpOrNone}
 use Rattle.at_hull.proofs.Ways.{at_most_below, end_of}
-use Rattle.at_hull.proofs.Members.{in_parts}
+use Rattle.at_hull.proofs.Members.{in_none}
 
 -- ---- a value that grows by a direction, at a position between others
 
@@ -62,13 +63,13 @@ abbrev Least : (Pos → ℤ) → Pos → Type 0
 Least g p = (u v w : Pos) → pos 0 <ℤ turn u v w → pos 0 ≤ℤ turn u v p → pos 0 ≤ℤ turn v w p → g v ≤ℤ g u → g v ≤ℤ g w → pos 0 ≤ℤ g v → pos 0 ≤ℤ g p
 
 -- down from v on, all the way, or to a corner
-down : (g : Pos → ℤ) (S : Pos → Type 0) (p u v : Pos) (rest : List Pos) (k : ℤ) → Least g p → S p → TurnsLeft (u ∷ v ∷ rest) → NoneRight S (u ∷ v ∷ rest) → Each (λ q. pos 0 ≤ℤ g q) (v ∷ rest)
+down : (g : Pos → ℤ) (S : Pos → Type 0) (p u v : Pos) (rest : List Pos) (k : ℤ) → Least g p → S p → TurnsLeft (u ∷ v ∷ rest) → NoneRight S (u ∷ v ∷ rest) → All (λ q. pos 0 ≤ℤ g q) (v ∷ rest)
     → g v ≤ℤ g u → g v <ℤ k → (pos 0 ≤ℤ g p) ⊎ (g (end_of v rest) <ℤ k)
 down g S p u v [] k least m t n e h l = inr l
 down g S p u v (w ∷ rest) k least m t n e h l =
     by_lt_z (g w) (g v)
-    (λ f. down g S p v w rest k least m t.1 n.1 (λ q i. e q (inr i)) (omega (arith, ints, f)) (omega (arith, ints, f, l)))
-    (λ f. inl (least u v w t.0 (n.0 p m) (n.1.0 p m) h f (e v (inl refl))))
+    (λ f. down g S p v w rest k least m t.1 n.1 (All-tail (λ q. pos 0 ≤ℤ g q) v (w ∷ rest) e) (omega (arith, ints, f)) (omega (arith, ints, f, l)))
+    (λ f. inl (least u v w t.0 (n.0 p m) (n.1.0 p m) h f (e 0 v (omega arith))))
 
 abbrev pub first_of : List Pos → Pos → Pos
 first_of [] y = y
@@ -83,28 +84,20 @@ up_step g S p u v w y x least m t a b n (inr h) =
     (λ f. inl (least u v w t (a p m) (b p m) f (omega (arith, ints, h.1)) n))
 
 -- up to the end, from u on, or a corner
-up : (g : Pos → ℤ) (S : Pos → Type 0) (p u y x : Pos) (xs : List Pos) → Least g p → S p → TurnsLeft (u ∷ (xs ++ y ∷ x ∷ [])) → NoneRight S (u ∷ (xs ++ y ∷ x ∷ [])) → Each (λ q. pos 0 ≤ℤ g q) (xs ++ y ∷ x ∷ [])
+up : (g : Pos → ℤ) (S : Pos → Type 0) (p u y x : Pos) (xs : List Pos) → Least g p → S p → TurnsLeft (u ∷ (xs ++ y ∷ x ∷ [])) → NoneRight S (u ∷ (xs ++ y ∷ x ∷ [])) → All (λ q. pos 0 ≤ℤ g q) (xs ++ y ∷ x ∷ [])
     → g y <ℤ g x → (pos 0 ≤ℤ g p) ⊎ ((g u ≤ℤ g y) × (g u <ℤ g (first_of xs y)))
 up g S p u y x [] least m t n e h =
     by_lt_z (g u) (g y)
     (λ f. inr (omega (arith, ints, f), f))
-    (λ f. inl (least u y x t.0 (n.0 p m) (n.1.0 p m) f (omega (arith, ints, h)) (e y (inl refl))))
+    (λ f. inl (least u y x t.0 (n.0 p m) (n.1.0 p m) f (omega (arith, ints, h)) (e 0 y (omega arith))))
 up g S p u y x (v ∷ []) least m t n e h =
-    up_step g S p u v y y x least m t.0 n.0 n.1.0 (e v (inl refl)) (up g S p v y x [] least m t.1 n.1 (λ q i. e q (inr i)) h)
+    up_step g S p u v y y x least m t.0 n.0 n.1.0 (e 0 v (omega arith)) (up g S p v y x [] least m t.1 n.1 (All-tail (λ q. pos 0 ≤ℤ g q) v (y ∷ x ∷ []) e) h)
 up g S p u y x (v ∷ w ∷ xs) least m t n e h =
-    up_step g S p u v w y x least m t.0 n.0 n.1.0 (e v (inl refl)) (up g S p v y x (w ∷ xs) least m t.1 n.1 (λ q i. e q (inr i)) h)
+    up_step g S p u v w y x least m t.0 n.0 n.1.0 (e 0 v (omega arith)) (up g S p v y x (w ∷ xs) least m t.1 n.1 (All-tail (λ q. pos 0 ≤ℤ g q) v (w ∷ (xs ++ y ∷ x ∷ [])) e) h)
 
 last_is : (c a b : Pos) (r : List Pos) → end_of c (r ++ a ∷ b ∷ []) ≡ b
 last_is c a b [] = refl
 last_is c a b (x ∷ r) = last_is x a b r
-
-in_two : (a b c v : Pos) (r : List Pos) → IsIn v (a ∷ b ∷ []) → IsIn v (a ∷ b ∷ c ∷ r)
-in_two a b c v r (inl e) = inl e
-in_two a b c v r (inr (inl e)) = inr (inl e)
-in_two a b c v r (inr (inr h)) = absurd h
-
-in_round : (a b c v : Pos) (r : List Pos) → IsIn v (a ∷ b ∷ c ∷ (r ++ a ∷ b ∷ [])) → IsIn v (a ∷ b ∷ c ∷ r)
-in_round a b c v r h = elim (in_parts v (a ∷ b ∷ c ∷ r) (a ∷ b ∷ []) h) [ inl k ↦ k | inr k ↦ in_two a b c v r k ]
 
 found : (P : Type 0) (x y : ℤ) → P ⊎ (x <ℤ y) → y ≤ℤ x → P
 found P x y (inl h) k = h
@@ -114,23 +107,25 @@ found_up : (P Q : Type 0) (x y : ℤ) → P ⊎ ((x ≤ℤ y) × Q) → y <ℤ x
 found_up P Q x y (inl h) k = h
 found_up P Q x y (inr h) k = absurd (omega (arith, ints, h.0, k))
 
-pub by_ring : (g : Pos → ℤ) (S : Pos → Type 0) (p a b c : Pos) (r : List Pos) → Least g p → S p → TurnsLeft (round a b (c ∷ r)) → NoneRight S (round a b (c ∷ r)) → Each (λ q. pos 0 ≤ℤ g q) (a ∷ b ∷ c ∷ r) → pos 0 ≤ℤ g p
+pub by_ring : (g : Pos → ℤ) (S : Pos → Type 0) (p a b c : Pos) (r : List Pos) → Least g p → S p → TurnsLeft (round a b (c ∷ r)) → NoneRight S (round a b (c ∷ r)) → All (λ q. pos 0 ≤ℤ g q) (a ∷ b ∷ c ∷ r) → pos 0 ≤ℤ g p
 by_ring g S p a b c r least m t n e =
-    let all : Each (λ q. pos 0 ≤ℤ g q) (a ∷ b ∷ c ∷ (r ++ a ∷ b ∷ [])) = λ q i. e q (in_round a b c q r i) in
+    let two : All (λ q. pos 0 ≤ℤ g q) (a ∷ b ∷ []) = All-take (λ q. pos 0 ≤ℤ g q) 2 (a ∷ b ∷ c ∷ r) e in
+    let all : All (λ q. pos 0 ≤ℤ g q) (a ∷ b ∷ c ∷ (r ++ a ∷ b ∷ [])) = All-append (λ q. pos 0 ≤ℤ g q) (a ∷ b ∷ c ∷ r) (a ∷ b ∷ []) e two in
+    let on : All (λ q. pos 0 ≤ℤ g q) (c ∷ (r ++ a ∷ b ∷ [])) = All-drop (λ q. pos 0 ≤ℤ g q) 2 (a ∷ b ∷ c ∷ (r ++ a ∷ b ∷ [])) all in
     by_lt_z (g a) (g b)
-    (λ f. found_up (pos 0 ≤ℤ g p) (g b <ℤ g c) (g b) (g a) (up g S p b a b (c ∷ r) least m t.1 n.1 (λ q i. all q (inr (inr i))) f) f)
+    (λ f. found_up (pos 0 ≤ℤ g p) (g b <ℤ g c) (g b) (g a) (up g S p b a b (c ∷ r) least m t.1 n.1 on f) f)
     (λ f. by_lt_z (g c) (g b)
-    (λ h. found (pos 0 ≤ℤ g p) (g (end_of c (r ++ a ∷ b ∷ []))) (g b) (down g S p b c (r ++ a ∷ b ∷ []) (g b) least m t.1 n.1 (λ q i. all q (inr (inr i))) (omega (arith, ints, h)) h)
+    (λ h. found (pos 0 ≤ℤ g p) (g (end_of c (r ++ a ∷ b ∷ []))) (g b) (down g S p b c (r ++ a ∷ b ∷ []) (g b) least m t.1 n.1 on (omega (arith, ints, h)) h)
     (subst (λ (z : Pos). g b ≤ℤ g z) (sym (last_is c a b r)) (omega (arith, ints))))
-    (λ h. least a b c t.0 (n.0 p m) (n.1.0 p m) f h (e b (inr (inl refl)))))
+    (λ h. least a b c t.0 (n.0 p m) (n.1.0 p m) f h (e 1 b (omega arith))))
 
 -- ---- between two ends
 
 pub record Covers (xs ps : List Pos) : Type 0 where
-  pub elements : Each (λ p. IsIn p ps) xs
-  pub sides : (a b p : Pos) → IsIn p ps → Each (λ v. pos 0 ≤ℤ turn a b v) xs → pos 0 ≤ℤ turn a b p
-  pub low : (a p : Pos) → IsIn p ps → Each (λ v. IsAtMost a v) xs → IsAtMost a p
-  pub some : (p : Pos) → IsIn p ps → xs ≡ [] → ⊥
+  pub elements : All (Contains ps) xs
+  pub sides : (a b p : Pos) → Contains ps p → All (λ v. pos 0 ≤ℤ turn a b v) xs → pos 0 ≤ℤ turn a b p
+  pub low : (a p : Pos) → Contains ps p → All (IsAtMost a) xs → IsAtMost a p
+  pub some : (p : Pos) → Contains ps p → xs ≡ [] → ⊥
 
 pub along_y : (dx dy ux uy qx qy : ℤ) → uy *ℤ cross dx dy qx qy ≡ (qy *ℤ cross dx dy ux uy) +ℤ (dy *ℤ cross ux uy qx qy)
 along_y dx dy ux uy qx qy = simp expand (omega (arith, products))
@@ -175,44 +170,37 @@ line_side c d a b p (inr u) q r e h k =
 
 -- ---- a hull covers its list
 
-of_one : (ps : List Pos) (a p : Pos) → IsIn a ps → IsIn p (a ∷ []) → IsIn p ps
-of_one ps a p h (inl e) = subst (λ (z : Pos). IsIn z ps) (sym e) h
-of_one ps a p h (inr m) = absurd m
-
-covers_one : (ps : List Pos) (a : Pos) → IsIn a ps → Each (λ p. p ≡ a) ps → Covers (a ∷ []) ps
+covers_one : (ps : List Pos) (a : Pos) → Contains ps a → All (λ p. p ≡ a) ps → Covers (a ∷ []) ps
 covers_one ps a h f = record {
-  elements = λ p m. of_one ps a p h m;
-  sides = λ c d p m g. subst (λ (z : Pos). pos 0 ≤ℤ turn c d z) (sym (f p m)) (g a (inl refl));
-  low = λ c p m g. subst (λ (z : Pos). IsAtMost c z) (sym (f p m)) (g a (inl refl));
+  elements = All-from_recursion (Contains ps) (a ∷ []) (h, tt);
+  sides = λ c d p m g. subst (λ (z : Pos). pos 0 ≤ℤ turn c d z) (sym (All-contains (λ q. q ≡ a) ps p f m)) (g 0 a (omega arith));
+  low = λ c p m g. subst (λ (z : Pos). IsAtMost c z) (sym (All-contains (λ q. q ≡ a) ps p f m)) (g 0 a (omega arith));
   some = λ p m e. absurd (cc);
 }
 
-of_ends : (ps : List Pos) (a b p : Pos) → IsIn a ps → IsIn b ps → IsIn p (a ∷ b ∷ []) → IsIn p ps
-of_ends ps a b p h k (inl e) = subst (λ (z : Pos). IsIn z ps) (sym e) h
-of_ends ps a b p h k (inr m) = of_one ps b p k m
-
 covers_ends : (ps : List Pos) (a b : Pos) → AreEnds ps a b → Covers (a ∷ b ∷ []) ps
 covers_ends ps a b h = record {
-  elements = λ p m. of_ends ps a b p h.lower h.upper m;
-  sides = λ c d p m g. line_side c d a b p (up_of a b h.apart) (up_or_none a p (h.from_lower p m)) (up_or_none p b (h.to_upper p m)) (h.on_line p m) (g a (inl refl)) (g b (inr (inl refl)));
-  low = λ c p m g. at_most_trans c a p (g a (inl refl)) (h.from_lower p m);
+  elements = All-from_recursion (Contains ps) (a ∷ b ∷ []) (h.lower, (h.upper, tt));
+  sides = λ c d p m g. line_side c d a b p (up_of a b h.apart) (up_or_none a p (All-contains (IsAtMost a) ps p h.from_lower m)) (up_or_none p b (All-contains (λ q. IsAtMost q b) ps p h.to_upper m))
+      (All-contains (λ q. turn a b q ≡ pos 0) ps p h.on_line m) (g 0 a (omega arith)) (g 1 b (omega arith));
+  low = λ c p m g. at_most_trans c a p (g 0 a (omega arith)) (All-contains (IsAtMost a) ps p h.from_lower m);
   some = λ p m e. absurd (cc);
 }
 
 covers_ring : (ps : List Pos) (a b c : Pos) (r : List Pos) → IsRing ps a b (c ∷ r) → Covers (a ∷ b ∷ c ∷ r) ps
 covers_ring ps a b c r h = record {
   elements = h.of_list;
-  sides = λ c0 d0 p m g. by_ring (λ q. turn c0 d0 q) (λ q. IsIn q ps) p a b c r (λ u v w. valley c0 d0 p u v w) m h.left h.none_right g;
-  low = λ e p m g. at_most_trans e a p (g a (inl refl)) (h.lowest.1 p m);
+  sides = λ c0 d0 p m g. by_ring (λ q. turn c0 d0 q) (Contains ps) p a b c r (λ u v w. valley c0 d0 p u v w) m h.left h.none_right g;
+  low = λ e p m g. at_most_trans e a p (g 0 a (omega arith)) (All-contains (IsAtMost a) ps p h.lowest.1 m);
   some = λ p m e. absurd (cc);
 }
 
 covers_none : (ps : List Pos) → ps ≡ [] → Covers [] ps
 covers_none ps e = record {
-  elements = λ p m. absurd m;
-  sides = λ a b p m g. absurd (subst (λ (l : List Pos). IsIn p l) e m);
-  low = λ a p m g. absurd (subst (λ (l : List Pos). IsIn p l) e m);
-  some = λ p m f. subst (λ (l : List Pos). IsIn p l) e m;
+  elements = All-nil (Contains ps);
+  sides = λ a b p m g. absurd (in_none p (subst (λ (l : List Pos). Contains l p) e m));
+  low = λ a p m g. absurd (in_none p (subst (λ (l : List Pos). Contains l p) e m));
+  some = λ p m f. in_none p (subst (λ (l : List Pos). Contains l p) e m);
 }
 
 pub hull_covers : (ps h : List Pos) → IsHull ps h → Covers h ps

@@ -1,17 +1,16 @@
 -- Positions inside a hull add nothing to it.
 -- For `add`, `covers`, `covers_all` and `join`.
-use Rattle.std.proofs.Common.{◌≡◌, ℕ, ◌+◌, ◌<◌, ◌≤◌, ℤ, pos, negsuc, zero, suc, ◌≤ℤ◌, ◌<ℤ◌, inl, inr, IsTrue, List, [], ◌∷◌, ◌++◌, All, length, take, get_or, arith, sym, subst, refl, true≢false}
+use Rattle.std.proofs.Common.{◌≡◌, ℕ, ◌<◌, ◌≤◌, ℤ, pos, negsuc, zero, suc, ◌≤ℤ◌, ◌<ℤ◌, inl, inr, IsTrue, List, [], ◌∷◌, ◌++◌, All, Contains, length, get_or, arith, sym, subst, refl, true≢false}
 use Rattle.std.specs.Prelude.{int_le, int_lt}
 use Rattle.std.proofs.lemmas.Int.{ints}
-use Rattle.std.proofs.lemmas.List.{append-nil, take_more}
-use Rattle.std.proofs.lemmas.List.Elements.{All-append, All-cons, All-nil}
+use Rattle.std.proofs.lemmas.List.{append-nil}
+use Rattle.std.proofs.lemmas.List.Elements.{All-append, All-contains, All-weaker, All-from_recursion, Contains-get_or, Contains-append_left, Contains-append_cases}
 use Rattle.at_geom.specs.declared.positions.Pos.{Pos}
 use Rattle.at_geom.specs.Segments.{turn, sign_of}
-use Rattle.at_hull.specs.Hulls.{IsAtMost, IsIn, Each, NoneRight, IsRing, IsHull, round}
+use Rattle.at_hull.specs.Hulls.{IsAtMost, NoneRight, IsRing, IsHull, round}
 use Rattle.at_hull.specs.Within.{IsInTriangle, IsInOneOf, IsWithin}
-use Rattle.at_hull.proofs.Members.{in_left, in_parts}
+use Rattle.at_hull.proofs.Members.{all_by}
 use Rattle.at_hull.proofs.Covers.{by_ring, valley}
-use Rattle.at_hull.proofs.Sorts.{each_of_all, get_in}
 use Rattle.at_hull.proofs.Laws.{hull_of_both, hull_of_hull}
 use Rattle.at_hull.proofs.Joints.{turn_round}
 
@@ -37,23 +36,14 @@ within_by (a ∷ b ∷ c ∷ r) p d d1 d2 d3 i j k n u v w m t = (
     x = get_or (a ∷ b ∷ c ∷ r) i d1;
     y = get_or (a ∷ b ∷ c ∷ r) j d2;
     z = get_or (a ∷ b ∷ c ∷ r) k d3;
-    has_x = get_in (a ∷ b ∷ c ∷ r) i d1 u;
-    has_y = get_in (a ∷ b ∷ c ∷ r) j d2 v;
-    has_z = get_in (a ∷ b ∷ c ∷ r) k d3 w;
+    has_x = Contains-get_or (a ∷ b ∷ c ∷ r) i d1 u;
+    has_y = Contains-get_or (a ∷ b ∷ c ∷ r) j d2 v;
+    has_z = Contains-get_or (a ∷ b ∷ c ∷ r) k d3 w;
     inside = t;
   },
 )
 
-pub all_more : (P : Pos → Type 0) (xs : List Pos) (i : ℕ) (d : Pos) → i < length xs → All P (take i xs) → P (get_or xs i d) → All P (take (i + 1) xs)
-all_more P xs i d l h p = subst (All P) (sym (take_more xs i d l)) (All-append P (take i xs) (get_or xs i d ∷ []) h (All-cons P (get_or xs i d) [] p (All-nil P)))
-
 -- ---- what lies in a triangle
-
-of_three : (P : Pos → Type 0) (x y z : Pos) → P x → P y → P z → Each P (x ∷ y ∷ z ∷ [])
-of_three P x y z h k l p (inl e) = subst P (sym e) h
-of_three P x y z h k l p (inr (inl e)) = subst P (sym e) k
-of_three P x y z h k l p (inr (inr (inl e))) = subst P (sym e) l
-of_three P x y z h k l p (inr (inr (inr m))) = absurd m
 
 -- what isn't to the right of a way at three corners isn't there inside their triangle either
 in_triangle_side : (c d p x y z : Pos) → IsInTriangle p x y z → pos 0 ≤ℤ turn c d x → pos 0 ≤ℤ turn c d y → pos 0 ≤ℤ turn c d z → pos 0 ≤ℤ turn c d p
@@ -62,35 +52,39 @@ in_triangle_side c d p x y z t h k l =
     let once : pos 0 <ℤ turn y z x = subst (λ w. pos 0 <ℤ w) (sym (turn_round x y z)) t.turns in
     let twice : pos 0 <ℤ turn z x y = subst (λ w. pos 0 <ℤ w) (sym (turn_round y z x)) once in
     by_ring (λ q. turn c d q) (λ q. q ≡ p) p x y z [] (λ u v w. valley c d p u v w) refl (t.turns, (once, (twice, tt)))
-    (L x y t.first, (L y z t.second, (L z x t.third, (L x y t.first, tt)))) (of_three (λ q. pos 0 ≤ℤ turn c d q) x y z h k l)
+    (L x y t.first, (L y z t.second, (L z x t.third, (L x y t.first, tt)))) (All-from_recursion (λ q. pos 0 ≤ℤ turn c d q) (x ∷ y ∷ z ∷ []) (h, (k, (l, tt))))
 
-in_one_side : (c d p : Pos) (ps : List Pos) → IsInOneOf ps p → Each (λ q. pos 0 ≤ℤ turn c d q) ps → pos 0 ≤ℤ turn c d p
-in_one_side c d p ps o f = in_triangle_side c d p o.x o.y o.z o.inside (f o.x o.has_x) (f o.y o.has_y) (f o.z o.has_z)
+in_one_side : (c d p : Pos) (ps : List Pos) → IsInOneOf ps p → All (λ q. pos 0 ≤ℤ turn c d q) ps → pos 0 ≤ℤ turn c d p
+in_one_side c d p ps o f =
+    let at = All-contains (λ q. pos 0 ≤ℤ turn c d q) ps in
+    in_triangle_side c d p o.x o.y o.z o.inside (at o.x f o.has_x) (at o.y f o.has_y) (at o.z f o.has_z)
 
-none_right_of_both : (h k l : List Pos) → Each (IsInOneOf h) k → NoneRight (λ p. IsIn p h) l → NoneRight (λ p. IsIn p (h ++ k)) l
+none_right_of_both : (h k l : List Pos) → All (IsInOneOf h) k → NoneRight (Contains h) l → NoneRight (Contains (h ++ k)) l
 none_right_of_both h k [] f n = tt
 none_right_of_both h k (a ∷ []) f n = tt
-none_right_of_both h k (a ∷ b ∷ l) f n =
-    (λ p m. elim (in_parts p h k m) [ inl i ↦ n.0 p i | inr i ↦ in_one_side a b p h (f p i) n.0 ], none_right_of_both h k (b ∷ l) f n.1)
+none_right_of_both h k (a ∷ b ∷ l) f n = (
+  λ p m. elim (Contains-append_cases h k p m) [
+    | inl i ↦ n.0 p i
+    | inr i ↦ in_one_side a b p h (All-contains (IsInOneOf h) k p f i) (all_by (λ q. pos 0 ≤ℤ turn a b q) h n.0)
+  ],
+  none_right_of_both h k (b ∷ l) f n.1,
+)
 
-lowest_of_both : (a : Pos) (h k : List Pos) → Each (λ p. IsAtMost a p) h → Each (λ p. IsAtMost a p) k → Each (λ p. IsAtMost a p) (h ++ k)
-lowest_of_both a h k f g p m = elim (in_parts p h k m) [ inl i ↦ f p i | inr i ↦ g p i ]
-
-ring_of_both : (a b c : Pos) (r k : List Pos) → Each (IsWithin (a ∷ b ∷ c ∷ r)) k → IsRing (a ∷ b ∷ c ∷ r) a b (c ∷ r) → IsRing ((a ∷ b ∷ c ∷ r) ++ k) a b (c ∷ r)
+ring_of_both : (a b c : Pos) (r k : List Pos) → All (IsWithin (a ∷ b ∷ c ∷ r)) k → IsRing (a ∷ b ∷ c ∷ r) a b (c ∷ r) → IsRing ((a ∷ b ∷ c ∷ r) ++ k) a b (c ∷ r)
 ring_of_both a b c r k f h = record {
-  of_list = λ p m. in_left p (a ∷ b ∷ c ∷ r) k m;
+  of_list = all_by (Contains ((a ∷ b ∷ c ∷ r) ++ k)) (a ∷ b ∷ c ∷ r) (λ p m. Contains-append_left (a ∷ b ∷ c ∷ r) k p m);
   different = h.different;
-  lowest = (inl refl, lowest_of_both a (a ∷ b ∷ c ∷ r) k h.lowest.1 (λ p m. (f p m).0));
+  lowest = ((0, omega arith, refl), All-append (IsAtMost a) (a ∷ b ∷ c ∷ r) k h.lowest.1 (All-weaker (IsWithin (a ∷ b ∷ c ∷ r)) (IsAtMost a) (λ p i. i.0) k f));
   left = h.left;
-  none_right = none_right_of_both (a ∷ b ∷ c ∷ r) k (round a b (c ∷ r)) (λ p m. (f p m).1) h.none_right;
+  none_right = none_right_of_both (a ∷ b ∷ c ∷ r) k (round a b (c ∷ r)) (All-weaker (IsWithin (a ∷ b ∷ c ∷ r)) (IsInOneOf (a ∷ b ∷ c ∷ r)) (λ p i. i.1) k f) h.none_right;
 }
 
-pub own_with : (h k : List Pos) → Each (IsWithin h) k → IsHull h h → IsHull (h ++ k) h
+pub own_with : (h k : List Pos) → All (IsWithin h) k → IsHull h h → IsHull (h ++ k) h
 own_with h [] f o = subst (λ l. IsHull l h) (sym (append-nil h)) o
-own_with [] (p ∷ k) f o = absurd (f p (inl refl))
-own_with (a ∷ []) (p ∷ k) f o = absurd (f p (inl refl))
-own_with (a ∷ b ∷ []) (p ∷ k) f o = absurd (f p (inl refl))
+own_with [] (p ∷ k) f o = absurd (f 0 p (omega arith))
+own_with (a ∷ []) (p ∷ k) f o = absurd (f 0 p (omega arith))
+own_with (a ∷ b ∷ []) (p ∷ k) f o = absurd (f 0 p (omega arith))
 own_with (a ∷ b ∷ c ∷ r) (p ∷ k) f o = ring_of_both a b c r (p ∷ k) f o
 
 pub covered : (h k : List Pos) → All (IsWithin h) k → (ps qs : List Pos) → IsHull ps h → IsHull qs k → IsHull (ps ++ qs) h
-covered h k f ps qs hp hq = hull_of_both ps qs h k h hp hq (own_with h k (λ p m. each_of_all (IsWithin h) k p f m) (hull_of_hull ps h hp))
+covered h k f ps qs hp hq = hull_of_both ps qs h k h hp hq (own_with h k f (hull_of_hull ps h hp))

@@ -1,23 +1,45 @@
 -- Elements of lists, joined and turned round.
 -- For most public calls of the crate, `add`, `covers`, `covers_all` among them.
-use Rattle.std.proofs.Common.{◌≡◌, ◌⊎◌, inl, inr, List, [], ◌∷◌, ◌++◌, reverse, sym, ap, ◌∙◌, subst, refl}
+use Rattle.std.proofs.Common.{◌≡◌, ◌⊎◌, inl, inr, zero, suc, List, [], ◌∷◌, ◌++◌, get_or, reverse, All, Contains, arith, sym, ap, ◌∙◌, subst, refl}
 use Rattle.std.proofs.lemmas.List.{reverse-append, append_assoc}
+use Rattle.std.proofs.lemmas.List.Elements.{All-contains, All-weaker, Contains-get_or, Contains-append_left, Contains-append_right, Contains-append_cases}
 use Rattle.at_geom.specs.declared.positions.Pos.{Pos}
-use Rattle.at_hull.specs.Hulls.{IsIn, AreDifferent}
+use Rattle.at_hull.specs.Hulls.{AreDifferent}
 
-pub in_left : (p : Pos) (xs ys : List Pos) → IsIn p xs → IsIn p (xs ++ ys)
-in_left p [] ys h = absurd h
-in_left p (x ∷ xs) ys (inl e) = inl e
-in_left p (x ∷ xs) ys (inr h) = inr (in_left p xs ys h)
+-- ---- an element is the first, or one of those behind it
 
-pub in_right : (p : Pos) (xs ys : List Pos) → IsIn p ys → IsIn p (xs ++ ys)
-in_right p [] ys h = h
-in_right p (x ∷ xs) ys h = inr (in_right p xs ys h)
+pub at_first : (p x : Pos) (xs : List Pos) → p ≡ x → Contains (x ∷ xs) p
+at_first p x xs e = (0, omega arith, sym e)
 
-pub in_parts : (p : Pos) (xs ys : List Pos) → IsIn p (xs ++ ys) → IsIn p xs ⊎ IsIn p ys
-in_parts p [] ys h = inr h
-in_parts p (x ∷ xs) ys (inl e) = inl (inl e)
-in_parts p (x ∷ xs) ys (inr h) = elim (in_parts p xs ys h) [ inl k ↦ inl (inr k) | inr k ↦ inr k ]
+pub at_later : (p x : Pos) (xs : List Pos) → Contains xs p → Contains (x ∷ xs) p
+at_later p x xs m = (suc m.0, omega (arith, m.1), m.2)
+
+pub first_or_later : (p x : Pos) (xs : List Pos) → Contains (x ∷ xs) p → (p ≡ x) ⊎ Contains xs p
+first_or_later p x xs (zero, l, e) = inl (sym e)
+first_or_later p x xs (suc k, l, e) = inr (k, omega (arith, l), e)
+
+pub in_none : (p : Pos) → Contains [] p → ⊥
+in_none p m = omega (arith, m.1)
+
+pub only_one : (a p : Pos) → Contains (a ∷ []) p → p ≡ a
+only_one a p m = elim (first_or_later p a [] m) [ inl e ↦ e | inr n ↦ absurd (in_none p n) ]
+
+-- ---- all elements
+
+pub all_by : (P : Pos → Type 0) (xs : List Pos) → ((p : Pos) → Contains xs p → P p) → All P xs
+all_by P xs f = λ k d l. f (get_or xs k d) (Contains-get_or xs k d l)
+
+-- what holds of all positions holds of some of them
+pub all_of_fewer : (P : Pos → Type 0) (xs ps : List Pos) → All (Contains ps) xs → All P ps → All P xs
+all_of_fewer P xs ps h f = All-weaker (Contains ps) P (λ p m. All-contains P ps p f m) xs h
+
+pub all_left : (P : Pos → Type 0) (xs ys : List Pos) → All P (xs ++ ys) → All P xs
+all_left P xs ys f = all_by P xs (λ p m. All-contains P (xs ++ ys) p f (Contains-append_left xs ys p m))
+
+pub all_right : (P : Pos → Type 0) (xs ys : List Pos) → All P (xs ++ ys) → All P ys
+all_right P xs ys f = all_by P ys (λ p m. All-contains P (xs ++ ys) p f (Contains-append_right xs ys p m))
+
+-- ---- turned round
 
 pub reverse_cons : (x : Pos) (xs : List Pos) → reverse (x ∷ xs) ≡ reverse xs ++ x ∷ []
 reverse_cons x xs = reverse-append (x ∷ []) xs
@@ -26,35 +48,39 @@ reverse_cons x xs = reverse-append (x ∷ []) xs
 pub unreel : (x : Pos) (xs ys : List Pos) → reverse (x ∷ xs) ++ ys ≡ reverse xs ++ x ∷ ys
 unreel x xs ys = ap (λ (w : List Pos). w ++ ys) (reverse_cons x xs) ∙ append_assoc (reverse xs) (x ∷ []) ys
 
-in_one : (p x : Pos) → IsIn p (x ∷ []) → p ≡ x
-in_one p x (inl e) = e
-in_one p x (inr h) = absurd h
-
-pub in_reverse : (p : Pos) (xs : List Pos) → IsIn p (reverse xs) → IsIn p xs
+pub in_reverse : (p : Pos) (xs : List Pos) → Contains (reverse xs) p → Contains xs p
 in_reverse p [] h = h
 in_reverse p (x ∷ xs) h =
-    elim (in_parts p (reverse xs) (x ∷ []) (subst (λ (w : List Pos). IsIn p w) (reverse_cons x xs) h)) [
-      | inl k ↦ inr (in_reverse p xs k)
-      | inr k ↦ inl (in_one p x k)
+    elim (Contains-append_cases (reverse xs) (x ∷ []) p (subst (λ (w : List Pos). Contains w p) (reverse_cons x xs) h)) [
+      | inl k ↦ at_later p x xs (in_reverse p xs k)
+      | inr k ↦ at_first p x xs (only_one x p k)
     ]
 
-pub to_reverse : (p : Pos) (xs : List Pos) → IsIn p xs → IsIn p (reverse xs)
+at_end : (p x : Pos) (xs ys : List Pos) → (Contains xs p → Contains ys p) → Contains (x ∷ xs) p → Contains (ys ++ x ∷ []) p
+at_end p x xs ys f h =
+    elim (first_or_later p x xs h) [
+      | inl e ↦ Contains-append_right ys (x ∷ []) p (at_first p x [] e)
+      | inr m ↦ Contains-append_left ys (x ∷ []) p (f m)
+    ]
+
+pub to_reverse : (p : Pos) (xs : List Pos) → Contains xs p → Contains (reverse xs) p
 to_reverse p [] h = h
-to_reverse p (x ∷ xs) (inl e) = subst (λ (w : List Pos). IsIn p w) (sym (reverse_cons x xs)) (in_right p (reverse xs) (x ∷ []) (inl e))
-to_reverse p (x ∷ xs) (inr h) = subst (λ (w : List Pos). IsIn p w) (sym (reverse_cons x xs)) (in_left p (reverse xs) (x ∷ []) (to_reverse p xs h))
+to_reverse p (x ∷ xs) h = subst (λ (w : List Pos). Contains w p) (sym (reverse_cons x xs)) (at_end p x xs (reverse xs) (λ m. to_reverse p xs m) h)
 
-not_in_either : (p : Pos) (xs ys : List Pos) → (IsIn p xs → ⊥) → (IsIn p ys → ⊥) → IsIn p (xs ++ ys) → ⊥
-not_in_either p xs ys f g h = elim (in_parts p xs ys h) [ inl k ↦ f k | inr k ↦ g k ]
+-- ---- no position twice
 
-pub different_parts : (xs ys : List Pos) → AreDifferent xs → AreDifferent ys → ((p : Pos) → IsIn p xs → IsIn p ys → ⊥) → AreDifferent (xs ++ ys)
+not_in_either : (p : Pos) (xs ys : List Pos) → (Contains xs p → ⊥) → (Contains ys p → ⊥) → Contains (xs ++ ys) p → ⊥
+not_in_either p xs ys f g h = elim (Contains-append_cases xs ys p h) [ inl k ↦ f k | inr k ↦ g k ]
+
+pub different_parts : (xs ys : List Pos) → AreDifferent xs → AreDifferent ys → ((p : Pos) → Contains xs p → Contains ys p → ⊥) → AreDifferent (xs ++ ys)
 different_parts [] ys h k f = k
-different_parts (x ∷ xs) ys h k f = (λ m. not_in_either x xs ys h.0 (λ n. f x (inl refl) n) m, different_parts xs ys h.1 k (λ p m n. f p (inr m) n))
+different_parts (x ∷ xs) ys h k f = (λ m. not_in_either x xs ys h.0 (λ n. f x (at_first x x xs refl) n) m, different_parts xs ys h.1 k (λ p m n. f p (at_later p x xs m) n))
 
-only_one : (x : Pos) → AreDifferent (x ∷ [])
-only_one x = (λ h. h, tt)
+one_different : (x : Pos) → AreDifferent (x ∷ [])
+one_different x = (λ h. in_none x h, tt)
 
 pub different_reverse : (xs : List Pos) → AreDifferent xs → AreDifferent (reverse xs)
 different_reverse [] h = tt
 different_reverse (x ∷ xs) h =
-    subst AreDifferent (sym (reverse_cons x xs)) (different_parts (reverse xs) (x ∷ []) (different_reverse xs h.1) (only_one x)
-    (λ p m n. h.0 (subst (λ (q : Pos). IsIn q xs) (in_one p x n) (in_reverse p xs m))))
+    subst AreDifferent (sym (reverse_cons x xs)) (different_parts (reverse xs) (x ∷ []) (different_reverse xs h.1) (one_different x)
+    (λ p m n. h.0 (subst (Contains xs) (only_one x p n) (in_reverse p xs m))))

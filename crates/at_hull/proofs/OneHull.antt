@@ -1,14 +1,15 @@
 -- Lists that have one hull.
 -- For `add`, `covers` and `join`.
-use Rattle.std.proofs.Common.{◌≡◌, ℕ, ◌+◌, ◌-◌, ◌<◌, ◌⊎◌, inl, inr, List, [], ◌∷◌, ◌++◌, length, take, drop, get_or, min, arith, sym, ap, ◌∙◌, subst, append_assoc, Result, Ok, Err}
+use Rattle.std.proofs.Common.{◌≡◌, ℕ, ◌+◌, ◌-◌, ◌<◌, inl, inr, List, [], ◌∷◌, ◌++◌, length, take, drop, get_or, min, Contains, arith, sym, ap, ◌∙◌, subst, append_assoc, Result, Ok, Err}
 use Rattle.std.specs.Prelude.{OnErr}
 use Rattle.std.proofs.lemmas.List.{append-nil, take_all, take_more, take_min, take-append-drop, take-append-le}
 use Rattle.std.proofs.Math.Seq.{take-add, take-append-add, take-length}
+use Rattle.std.proofs.lemmas.List.Elements.{All-from_recursion, Contains-append_left, Contains-append_right, Contains-append_cases}
 use Rattle.at_geom.specs.declared.positions.Pos.{Pos}
-use Rattle.at_hull.specs.Hulls.{IsIn, HasSame, IsHull}
+use Rattle.at_hull.specs.Hulls.{HasSame, IsHull}
 use Rattle.at_hull.specs.Within.{IsWithin}
 use Rattle.at_hull.specs.Growth.{HaveOneHull, Growth, HoldsFront, held}
-use Rattle.at_hull.proofs.Members.{in_left, in_right, in_parts}
+use Rattle.at_hull.proofs.Members.{all_by}
 use Rattle.at_hull.proofs.Exists.{hull_exists}
 use Rattle.at_hull.proofs.Insides.{own_with}
 use Rattle.at_hull.proofs.Laws.{hull_of_same, hull_of_both}
@@ -54,23 +55,22 @@ one_hull_more ps qs rs o = one_hull_both ps rs qs rs o (one_hull_refl rs)
 pub one_hull_grown : (ps old qs new : List Pos) → HaveOneHull ps old → HaveOneHull (old ++ qs) new → HaveOneHull (ps ++ qs) new
 one_hull_grown ps old qs new o u = one_hull_trans (ps ++ qs) (old ++ qs) new (one_hull_more ps old qs o) u
 
-from_swapped : (p : Pos) (ps qs rs : List Pos) → IsIn p (ps ++ qs) ⊎ IsIn p rs → IsIn p ((ps ++ rs) ++ qs)
-from_swapped p ps qs rs (inl m) = elim (in_parts p ps qs m) [ inl k ↦ in_left p (ps ++ rs) qs (in_left p ps rs k) | inr k ↦ in_right p (ps ++ rs) qs k ]
-from_swapped p ps qs rs (inr m) = in_left p (ps ++ rs) qs (in_right p ps rs m)
+from_swapped : (p : Pos) (ps qs rs : List Pos) → Contains ((ps ++ qs) ++ rs) p → Contains ((ps ++ rs) ++ qs) p
+from_swapped p ps qs rs m =
+    elim (Contains-append_cases (ps ++ qs) rs p m) [
+      | inl n ↦ elim (Contains-append_cases ps qs p n) [ inl k ↦ Contains-append_left (ps ++ rs) qs p (Contains-append_left ps rs p k) | inr k ↦ Contains-append_right (ps ++ rs) qs p k ]
+      | inr n ↦ Contains-append_left (ps ++ rs) qs p (Contains-append_right ps rs p n)
+    ]
 
 pub one_hull_swapped : (ps qs rs : List Pos) → HaveOneHull ((ps ++ qs) ++ rs) ((ps ++ rs) ++ qs)
 one_hull_swapped ps qs rs = one_hull_of_same ((ps ++ qs) ++ rs) ((ps ++ rs) ++ qs)
-    (λ p m. from_swapped p ps qs rs (in_parts p (ps ++ qs) rs m), λ p m. from_swapped p ps rs qs (in_parts p (ps ++ rs) qs m))
-
-only_here : (h : List Pos) (q p : Pos) → IsWithin h q → IsIn p (q ∷ []) → IsWithin h p
-only_here h q p w (inl e) = subst (IsWithin h) (sym e) w
-only_here h q p w (inr m) = absurd m
+    (all_by (Contains ((ps ++ rs) ++ qs)) ((ps ++ qs) ++ rs) (λ p m. from_swapped p ps qs rs m), all_by (Contains ((ps ++ qs) ++ rs)) ((ps ++ rs) ++ qs) (λ p m. from_swapped p ps rs qs m))
 
 -- a position within the hull of some of the positions adds nothing
 pub one_hull_within : (h waiting : List Pos) (p : Pos) → IsHull h h → IsWithin h p → HaveOneHull ((h ++ waiting) ++ p ∷ []) (h ++ waiting)
 one_hull_within h waiting p own w =
     one_hull_trans ((h ++ waiting) ++ p ∷ []) ((h ++ p ∷ []) ++ waiting) (h ++ waiting) (one_hull_swapped h waiting (p ∷ []))
-    (one_hull_more (h ++ p ∷ []) h waiting (one_hull_by (h ++ p ∷ []) h h (own_with h (p ∷ []) (λ q m. only_here h p q w m) own) own))
+    (one_hull_more (h ++ p ∷ []) h waiting (one_hull_by (h ++ p ∷ []) h h (own_with h (p ∷ []) (All-from_recursion (IsWithin h) (p ∷ []) (w, tt)) own) own))
 
 -- ---- one position after another
 

@@ -1,10 +1,10 @@
 -- The walks over ascending positions and over the same from the last to the first.
 -- For `add`, `covers`, `hull`, `hull_join`, `into_hull` and `join`.
-use Rattle.std.proofs.Common.{◌≡◌, ℕ, ◌-◌, ◌≤◌, length, take, arith, true, false, List, [], ◌∷◌, ◌++◌, reverse, fold, sym, ap, ap₂, ◌∙◌, subst, refl}
+use Rattle.std.proofs.Common.{◌≡◌, ℕ, ◌-◌, ◌≤◌, length, take, arith, true, false, List, [], ◌∷◌, ◌++◌, reverse, fold, Contains, sym, ap, ap₂, ◌∙◌, subst, refl}
 use Rattle.std.proofs.lemmas.List.{append-nil, reverse-reverse, length-append}
 use Rattle.std.proofs.Math.Seq.{take-append_seam}
 use Rattle.at_geom.specs.declared.positions.Pos.{Pos}
-use Rattle.at_hull.specs.Hulls.{IsBelow, IsIn, IsAscending, IsHull}
+use Rattle.at_hull.specs.Hulls.{IsBelow, IsAscending, IsHull}
 use Rattle.at_hull.specs.Walks.{pushed, IsWithoutEnd}
 use Rattle.at_hull.proofs.Members.{unreel, in_reverse, to_reverse, reverse_cons}
 use Rattle.at_hull.proofs.Ways.{Rises, Walked, walk_of, end_of, way_of_same, below_trans}
@@ -33,17 +33,17 @@ turn_over a (c ∷ cs) f h k =
 turned_list : (a : Pos) (cs : List Pos) → Rises true a cs → Turned a (end_of a cs) (reverse (a ∷ cs))
 turned_list a cs h = subst (Turned a (end_of a cs)) (append-nil (reverse (a ∷ cs))) (turn_over a cs [] h tt)
 
-pub walk_back : (a : Pos) (cs : List Pos) → Rises true a cs → Walked false (λ p. IsIn p (a ∷ cs)) (end_of a cs) a (fold pushed [] (reverse (a ∷ cs)))
+pub walk_back : (a : Pos) (cs : List Pos) → Rises true a cs → Walked false (Contains (a ∷ cs)) (end_of a cs) a (fold pushed [] (reverse (a ∷ cs)))
 walk_back a cs h =
     let t = turned_list a cs h in
     let w = walk_of false (end_of a cs) t.rest t.falls in
     let e = t.last in
-    let v = subst (λ (z : Pos). Walked false (λ p. IsIn p (end_of a cs ∷ t.rest)) (end_of a cs) z (fold pushed [] (end_of a cs ∷ t.rest))) e w in
-    let y = subst (λ (l : List Pos). Walked false (λ p. IsIn p l) (end_of a cs) a (fold pushed [] l)) (sym t.is) v in
+    let v = subst (λ (z : Pos). Walked false (Contains (end_of a cs ∷ t.rest)) (end_of a cs) z (fold pushed [] (end_of a cs ∷ t.rest))) e w in
+    let y = subst (λ (l : List Pos). Walked false (Contains l) (end_of a cs) a (fold pushed [] l)) (sym t.is) v in
     record {
       rest = y.rest;
       is = y.is;
-      way = way_of_same false (λ p. IsIn p (reverse (a ∷ cs))) (λ p. IsIn p (a ∷ cs)) (end_of a cs) a y.rest (λ p m. to_reverse p (a ∷ cs) m) (λ p m. in_reverse p (a ∷ cs) m) y.way;
+      way = way_of_same false (Contains (reverse (a ∷ cs))) (Contains (a ∷ cs)) (end_of a cs) a y.rest (λ p m. to_reverse p (a ∷ cs) m) (λ p m. in_reverse p (a ∷ cs) m) y.way;
     }
 
 pub hull_of_chains : (a c : Pos) (cs up down front back : List Pos) → IsAscending (a ∷ c ∷ cs) → reverse up ≡ fold pushed [] (a ∷ c ∷ cs) → reverse down ≡ fold pushed [] (reverse (a ∷ c ∷ cs))

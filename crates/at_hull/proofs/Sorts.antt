@@ -1,7 +1,7 @@
 -- What a sort by y and x and the removal of equal neighbours leave: each position once, from the lowest up.
 -- For most public calls of the crate, `add`, `covers`, `covers_all` among them.
-use Rattle.std.proofs.Common.{◌≡◌, ℕ, zero, suc, ◌+◌, ◌<◌, ◌≤◌, inl, inr, Bool, true, false, cond, List, [], ◌∷◌, length, get_or, arith, sym, ap, ◌∙◌, subst, refl, is_lt, int_cmp, IsPermutation}
-use Rattle.std.specs.Prelude.{All, ◌&&◌}
+use Rattle.std.proofs.Common.{◌≡◌, ℕ, suc, ◌+◌, ◌<◌, ◌≤◌, inl, inr, Bool, true, false, cond, List, [], ◌∷◌, length, get_or, arith, sym, ap, ◌∙◌, subst, refl, is_lt, int_cmp, IsPermutation}
+use Rattle.std.specs.Prelude.{Contains, ◌&&◌}
 use Rattle.std.specs.Ordering.{ordering_then, int_eq}
 use Rattle.std.specs.declared.cmp.Ordering.TheVariants.{Less, Equal}
 use Rattle.std.specs.Cmp.{int_cmp_is}
@@ -9,27 +9,14 @@ use Rattle.std.specs.List.{dedup, dedup_from}
 use Rattle.std.proofs.lemmas.Bool.{false≢true, and_parts, and_from}
 use Rattle.std.proofs.lemmas.Bool.Decides.{Decides-int_eq}
 use Rattle.std.proofs.lemmas.List.Sorted.{All-permutation, IsPermutation-sym}
+use Rattle.std.proofs.lemmas.List.Elements.{All-nil, All-contains, All-contains_itself, All-weaker}
 use Rattle.at_geom.specs.declared.positions.Pos.{Pos}
-use Rattle.at_hull.specs.Hulls.{IsBelow, IsAtMost, IsIn, Each, HasSame, IsAscending}
+use Rattle.at_hull.specs.Hulls.{IsBelow, IsAtMost, HasSame, IsAscending}
+use Rattle.at_hull.proofs.Members.{at_first, at_later, first_or_later, all_by}
 use Rattle.at_hull.proofs.Ways.{by_order, same_pos}
 
--- ---- All and Each
-
-pub get_in : (xs : List Pos) (k : ℕ) (d : Pos) → k < length xs → IsIn (get_or xs k d) xs
-get_in [] k d l = absurd (omega (arith, l))
-get_in (x ∷ xs) zero d l = inl refl
-get_in (x ∷ xs) (suc k) d l = inr (get_in xs k d (omega (arith, l)))
-
-pub all_of_each : (P : Pos → Type 0) (xs : List Pos) → Each P xs → All P xs
-all_of_each P xs f = λ k d l. f (get_or xs k d) (get_in xs k d l)
-
-pub each_of_all : (P : Pos → Type 0) (xs : List Pos) (p : Pos) → All P xs → IsIn p xs → P p
-each_of_all P [] p h m = absurd m
-each_of_all P (x ∷ xs) p h (inl e) = subst P (sym e) (h 0 x (omega arith))
-each_of_all P (x ∷ xs) p h (inr m) = each_of_all P xs p (λ k d l. h (suc k) d (omega (arith, l))) m
-
-pub in_moved : (xs ys : List Pos) (p : Pos) → IsPermutation xs ys → IsIn p ys → IsIn p xs
-in_moved xs ys p h m = each_of_all (λ q. IsIn q xs) ys p (All-permutation (λ q. IsIn q xs) xs ys h (all_of_each (λ q. IsIn q xs) xs (λ q k. k))) m
+pub in_moved : (xs ys : List Pos) (p : Pos) → IsPermutation xs ys → Contains ys p → Contains xs p
+in_moved xs ys p h m = All-contains (Contains xs) ys p (All-permutation (Contains xs) xs ys h (All-contains_itself xs)) m
 
 -- ---- the order that the sort keeps
 
@@ -87,41 +74,47 @@ ascends E t k (x ∷ xs) c = by_bool (E x k)
     (λ e. subst (λ (b : Bool). IsAscending (cond b (dedup_from E k xs) (k ∷ dedup_from E x xs))) (sym e) (ascends E t k xs (subst (λ (q : Pos). Climbs q xs) (t.0 x k e) c.1)))
     (λ e. subst (λ (b : Bool). IsAscending (cond b (dedup_from E k xs) (k ∷ dedup_from E x xs))) (sym e) (ascends_on E t k x xs (above E k x t c.0 e) c.1))
 
-pub later : (p k x : Pos) (xs : List Pos) → IsIn p (k ∷ xs) → IsIn p (k ∷ x ∷ xs)
-later p k x xs (inl e) = inl e
-later p k x xs (inr h) = inr (inr h)
+pub past_second : (p k x : Pos) (xs : List Pos) → Contains (k ∷ xs) p → Contains (k ∷ x ∷ xs) p
+past_second p k x xs h = elim (first_or_later p k xs h) [ inl e ↦ at_first p k (x ∷ xs) e | inr m ↦ at_later p k (x ∷ xs) (at_later p x xs m) ]
 
-either : (p k x : Pos) (xs ys : List Pos) → (IsIn p xs → IsIn p ys) → IsIn p (k ∷ xs) → IsIn p (k ∷ ys)
-either p k x xs ys f (inl e) = inl e
-either p k x xs ys f (inr h) = inr (f h)
+pub behind_first : (p k : Pos) (xs ys : List Pos) → (Contains xs p → Contains ys p) → Contains (k ∷ xs) p → Contains (k ∷ ys) p
+behind_first p k xs ys f h = elim (first_or_later p k xs h) [ inl e ↦ at_first p k ys e | inr m ↦ at_later p k ys (f m) ]
 
-from_dedup : (E : Pos → Pos → Bool) (p k : Pos) (xs : List Pos) → IsIn p (dedup_from E k xs) → IsIn p (k ∷ xs)
+from_dedup : (E : Pos → Pos → Bool) (p k : Pos) (xs : List Pos) → Contains (dedup_from E k xs) p → Contains (k ∷ xs) p
 from_dedup E p k [] h = h
 from_dedup E p k (x ∷ xs) h = by_bool (E x k)
-    (λ e. later p k x xs (from_dedup E p k xs (subst (λ (b : Bool). IsIn p (cond b (dedup_from E k xs) (k ∷ dedup_from E x xs))) e h)))
-    (λ e. either p k x (dedup_from E x xs) (x ∷ xs) (λ m. from_dedup E p x xs m) (subst (λ (b : Bool). IsIn p (cond b (dedup_from E k xs) (k ∷ dedup_from E x xs))) e h))
+    (λ e. past_second p k x xs (from_dedup E p k xs (subst (λ (b : Bool). Contains (cond b (dedup_from E k xs) (k ∷ dedup_from E x xs)) p) e h)))
+    (λ e. behind_first p k (dedup_from E x xs) (x ∷ xs) (λ m. from_dedup E p x xs m) (subst (λ (b : Bool). Contains (cond b (dedup_from E k xs) (k ∷ dedup_from E x xs)) p) e h))
 
-merged : (p k x : Pos) (xs : List Pos) → x ≡ k → IsIn p (k ∷ x ∷ xs) → IsIn p (k ∷ xs)
-merged p k x xs e (inl h) = inl h
-merged p k x xs e (inr (inl h)) = inl (h ∙ e)
-merged p k x xs e (inr (inr h)) = inr h
+merged : (p k x : Pos) (xs : List Pos) → x ≡ k → Contains (k ∷ x ∷ xs) p → Contains (k ∷ xs) p
+merged p k x xs e h =
+    elim (first_or_later p k (x ∷ xs) h) [
+      | inl f ↦ at_first p k xs f
+      | inr m ↦ elim (first_or_later p x xs m) [ inl f ↦ at_first p k xs (f ∙ e) | inr n ↦ at_later p k xs n ]
+    ]
 
-to_dedup : (E : Pos → Pos → Bool) → IsTest E → (p k : Pos) (xs : List Pos) → IsIn p (k ∷ xs) → IsIn p (dedup_from E k xs)
+to_dedup : (E : Pos → Pos → Bool) → IsTest E → (p k : Pos) (xs : List Pos) → Contains (k ∷ xs) p → Contains (dedup_from E k xs) p
 to_dedup E t p k [] h = h
 to_dedup E t p k (x ∷ xs) h = by_bool (E x k)
-    (λ e. subst (λ (b : Bool). IsIn p (cond b (dedup_from E k xs) (k ∷ dedup_from E x xs))) (sym e) (to_dedup E t p k xs (merged p k x xs (t.0 x k e) h)))
-    (λ e. subst (λ (b : Bool). IsIn p (cond b (dedup_from E k xs) (k ∷ dedup_from E x xs))) (sym e) (either p k x (x ∷ xs) (dedup_from E x xs) (λ m. to_dedup E t p x xs m) h))
+    (λ e. subst (λ (b : Bool). Contains (cond b (dedup_from E k xs) (k ∷ dedup_from E x xs)) p) (sym e) (to_dedup E t p k xs (merged p k x xs (t.0 x k e) h)))
+    (λ e. subst (λ (b : Bool). Contains (cond b (dedup_from E k xs) (k ∷ dedup_from E x xs)) p) (sym e) (behind_first p k (x ∷ xs) (dedup_from E x xs) (λ m. to_dedup E t p x xs m) h))
 
 pub ascending_once : (E : Pos → Pos → Bool) → IsTest E → (xs : List Pos) → IsSortedUp xs → IsAscending (dedup E xs)
 ascending_once E t [] h = tt
 ascending_once E t (x ∷ xs) h = ascends E t x xs (climbs_of x xs (ordered_of (x ∷ xs) h))
 
 pub same_once : (E : Pos → Pos → Bool) → IsTest E → (xs : List Pos) → HasSame (dedup E xs) xs
-same_once E t [] = (λ p m. m, λ p m. m)
-same_once E t (x ∷ xs) = (λ p m. from_dedup E p x xs m, λ p m. to_dedup E t p x xs m)
+same_once E t [] = (All-nil (Contains []), All-nil (Contains []))
+same_once E t (x ∷ xs) = (
+  all_by (Contains (x ∷ xs)) (dedup_from E x xs) (λ p m. from_dedup E p x xs m),
+  all_by (Contains (dedup_from E x xs)) (x ∷ xs) (λ p m. to_dedup E t p x xs m),
+)
 
 pub same_moved : (E : Pos → Pos → Bool) → IsTest E → (ps xs : List Pos) → IsPermutation ps xs → HasSame (dedup E xs) ps
-same_moved E t ps xs h = (λ p m. in_moved ps xs p h ((same_once E t xs).0 p m), λ p m. (same_once E t xs).1 p (in_moved xs ps p (IsPermutation-sym ps xs h) m))
+same_moved E t ps xs h = (
+  All-weaker (Contains xs) (Contains ps) (λ p m. in_moved ps xs p h m) (dedup E xs) (same_once E t xs).0,
+  all_by (Contains (dedup E xs)) ps (λ p m. All-contains (Contains (dedup E xs)) xs p (same_once E t xs).1 (in_moved xs ps p (IsPermutation-sym ps xs h) m)),
+)
 
 same_of_test : (a b : Pos) → is_same a b ≡ true → a ≡ b
 same_of_test a b e = same_pos a b ((Decides-int_eq a.x b.x).0 (and_parts (int_eq a.x b.x) (int_eq a.y b.y) e).0) ((Decides-int_eq a.y b.y).0 (and_parts (int_eq a.x b.x) (int_eq a.y b.y) e).1)

@@ -1,12 +1,14 @@
 -- A list has one hull.
 -- For `add`, `covers` and `join`.
-use Rattle.std.proofs.Common.{◌≡◌, ℤ, pos, ◌+ℤ◌, ◌-ℤ◌, ◌*ℤ◌, ◌≤ℤ◌, ◌<ℤ◌, inl, inr, neg_ℤ, List, [], ◌∷◌, ◌++◌, arith, sym, ap, ◌∙◌, subst, refl}
+use Rattle.std.proofs.Common.{◌≡◌, ℤ, pos, ◌+ℤ◌, ◌-ℤ◌, ◌*ℤ◌, ◌≤ℤ◌, ◌<ℤ◌, inl, inr, neg_ℤ, List, [], ◌∷◌, ◌++◌, All, Contains, arith, sym, ap, ◌∙◌, subst, refl}
 use Rattle.std.proofs.lemmas.Int.{ints}
+use Rattle.std.proofs.lemmas.List.Elements.{All-tail, All-drop, All-contains}
 use Rattle.at_geom.specs.declared.positions.Pos.{Pos}
 use Rattle.at_geom.specs.Segments.{turn}
 use Rattle.at_geom.proofs.RingLaws.{expand}
 use Rattle.at_geom.proofs.CommonPoint.{cross}
-use Rattle.at_hull.specs.Hulls.{IsBelow, IsAtMost, IsIn, Each, TurnsLeft, NoneRight, IsRing, AreEnds, IsHull}
+use Rattle.at_hull.specs.Hulls.{IsBelow, IsAtMost, TurnsLeft, NoneRight, IsRing, AreEnds, IsHull}
+use Rattle.at_hull.proofs.Members.{at_first, at_later, in_none}
 use Rattle.at_hull.proofs.Planes.{mul_pos, div_pos, by_middle, up_of, IsUp, turned}
 use Rattle.at_hull.proofs.Ways.{same_pos, antisym, not_below_self}
 use Rattle.at_hull.proofs.Joints.{SeesAll}
@@ -107,18 +109,18 @@ one_corner S u v c e m n h k =
     one_way_on (v.x -ℤ u.x) (v.y -ℤ u.y) v c h.d e k.d (omega (arith, ints, i, f)) (omega (arith, ints, j, g)) (h.sees e n) (k.sees c m) h.next k.next (h.sees_on e n) (k.sees_on c m)
 
 -- the rest of two rings behind one edge
-one_rest : (S : Pos → Type 0) (a b u v : Pos) (xs ys : List Pos) → S a → Each S xs → Each S ys → (IsIn a xs → ⊥) → (IsIn a ys → ⊥) → TurnsLeft (u ∷ v ∷ (xs ++ a ∷ b ∷ [])) → NoneRight S (u ∷ v ∷ (xs ++ a ∷ b ∷ []))
+one_rest : (S : Pos → Type 0) (a b u v : Pos) (xs ys : List Pos) → S a → All S xs → All S ys → (Contains xs a → ⊥) → (Contains ys a → ⊥) → TurnsLeft (u ∷ v ∷ (xs ++ a ∷ b ∷ [])) → NoneRight S (u ∷ v ∷ (xs ++ a ∷ b ∷ []))
     → TurnsLeft (u ∷ v ∷ (ys ++ a ∷ b ∷ [])) → NoneRight S (u ∷ v ∷ (ys ++ a ∷ b ∷ [])) → xs ≡ ys
 one_rest S a b u v [] [] m f g h k t n p q = refl
 one_rest S a b u v [] (y ∷ ys) m f g h k t n p q =
-    absurd (k (inl (one_corner S u v a y m (g y (inl refl)) (corner S u v a b [] t n) (corner S u v a b (y ∷ ys) p q))))
+    absurd (k (at_first a y ys (one_corner S u v a y m (g 0 y (omega arith)) (corner S u v a b [] t n) (corner S u v a b (y ∷ ys) p q))))
 one_rest S a b u v (x ∷ xs) [] m f g h k t n p q =
-    absurd (h (inl (one_corner S u v a x m (f x (inl refl)) (corner S u v a b [] p q) (corner S u v a b (x ∷ xs) t n))))
+    absurd (h (at_first a x xs (one_corner S u v a x m (f 0 x (omega arith)) (corner S u v a b [] p q) (corner S u v a b (x ∷ xs) t n))))
 one_rest S a b u v (x ∷ xs) (y ∷ ys) m f g h k t n p q =
-    let e = one_corner S u v x y (f x (inl refl)) (g y (inl refl)) (corner S u v a b (x ∷ xs) t n) (corner S u v a b (y ∷ ys) p q) in
+    let e = one_corner S u v x y (f 0 x (omega arith)) (g 0 y (omega arith)) (corner S u v a b (x ∷ xs) t n) (corner S u v a b (y ∷ ys) p q) in
     let p' = subst (λ (z : Pos). TurnsLeft (u ∷ v ∷ z ∷ (ys ++ a ∷ b ∷ []))) (sym e) p in
     let q' = subst (λ (z : Pos). NoneRight S (u ∷ v ∷ z ∷ (ys ++ a ∷ b ∷ []))) (sym e) q in
-    let r = one_rest S a b v x xs ys m (λ z i. f z (inr i)) (λ z i. g z (inr i)) (λ i. h (inr i)) (λ i. k (inr i)) t.1 n.1 p'.1 q'.1 in
+    let r = one_rest S a b v x xs ys m (All-tail S x xs f) (All-tail S y ys g) (λ i. h (at_later a x xs i)) (λ i. k (at_later a y ys i)) t.1 n.1 p'.1 q'.1 in
     subst (λ (z : Pos). x ∷ xs ≡ z ∷ ys) e (ap (λ (l : List Pos). x ∷ l) r)
 
 -- ---- the first edge
@@ -168,23 +170,23 @@ strictly a b (inl e) f = absurd (f e)
 strictly a b (inr h) f = h
 
 apart : (ps : List Pos) (a b : Pos) (r : List Pos) → IsRing ps a b r → IsBelow a b
-apart ps a b r h = strictly a b (h.lowest.1 b (h.of_list b (inr (inl refl)))) (λ e. h.different.0 (inl e))
+apart ps a b r h = strictly a b (All-contains (IsAtMost a) ps b h.lowest.1 (h.of_list 1 b (omega arith))) (λ e. h.different.0 (at_first a b r e))
 
 one_second : (ps : List Pos) (a b e : Pos) (r s : List Pos) → IsRing ps a b r → IsRing ps a e s → b ≡ e
 one_second ps a b e r s h k =
-    let c = corner (λ p. IsIn p ps) a b a b r h.left h.none_right in
-    let d = corner (λ p. IsIn p ps) a e a e s k.left k.none_right in
-    one_first (λ p. IsIn p ps) a b (first_of r a) e (first_of s a) (h.of_list b (inr (inl refl))) (k.of_list e (inr (inl refl))) (apart ps a b r h) (apart ps a e s k)
+    let c = corner (Contains ps) a b a b r h.left h.none_right in
+    let d = corner (Contains ps) a e a e s k.left k.none_right in
+    one_first (Contains ps) a b (first_of r a) e (first_of s a) (h.of_list 1 b (omega arith)) (k.of_list 1 e (omega arith)) (apart ps a b r h) (apart ps a e s k)
     h.none_right.0 k.none_right.0 c.here d.here c.sees d.sees
 
 one_behind : (ps : List Pos) (a b : Pos) (r s : List Pos) → IsRing ps a b r → IsRing ps a b s → r ≡ s
 one_behind ps a b r s h k =
-    one_rest (λ p. IsIn p ps) a b a b r s h.lowest.0 (λ p i. h.of_list p (inr (inr i))) (λ p i. k.of_list p (inr (inr i))) (λ i. h.different.0 (inr i)) (λ i. k.different.0 (inr i))
+    one_rest (Contains ps) a b a b r s h.lowest.0 (All-drop (Contains ps) 2 (a ∷ b ∷ r) h.of_list) (All-drop (Contains ps) 2 (a ∷ b ∷ s) k.of_list) (λ i. h.different.0 (at_later a b r i)) (λ i. k.different.0 (at_later a b s i))
     h.left h.none_right k.left k.none_right
 
 one_ring : (ps : List Pos) (a b e f : Pos) (r s : List Pos) → IsRing ps a b r → IsRing ps e f s → a ∷ b ∷ r ≡ e ∷ f ∷ s
 one_ring ps a b e f r s h k =
-    let i = antisym a e (h.lowest.1 e k.lowest.0) (k.lowest.1 a h.lowest.0) in
+    let i = antisym a e (All-contains (IsAtMost a) ps e h.lowest.1 k.lowest.0) (All-contains (IsAtMost e) ps a k.lowest.1 h.lowest.0) in
     let k1 = subst (λ (z : Pos). IsRing ps z f s) (sym i) k in
     let j = one_second ps a b f r s h k1 in
     let k2 = subst (λ (z : Pos). IsRing ps a z s) (sym j) k1 in
@@ -193,30 +195,30 @@ one_ring ps a b e f r s h k =
 
 -- ---- lists of different kinds
 
-not_nothing : (ps : List Pos) (a : Pos) → ps ≡ [] → IsIn a ps → ⊥
-not_nothing ps a e m = subst (λ (l : List Pos). IsIn a l) e m
+not_nothing : (ps : List Pos) (a : Pos) → ps ≡ [] → Contains ps a → ⊥
+not_nothing ps a e m = in_none a (subst (λ (l : List Pos). Contains l a) e m)
 
 -- a ring has three positions that aren't on one line
 record Triangle (ps : List Pos) : Type 0 where
   x : Pos
   y : Pos
   z : Pos
-  x_in : IsIn x ps
-  y_in : IsIn y ps
-  z_in : IsIn z ps
+  x_in : Contains ps x
+  y_in : Contains ps y
+  z_in : Contains ps z
   left : pos 0 <ℤ turn x y z
 
 triangle : (ps : List Pos) (a b c : Pos) (r : List Pos) → IsRing ps a b (c ∷ r) → Triangle ps
-triangle ps a b c r h = record { x = a; y = b; z = c; x_in = h.of_list a (inl refl); y_in = h.of_list b (inr (inl refl)); z_in = h.of_list c (inr (inr (inl refl))); left = h.left.0 }
+triangle ps a b c r h = record { x = a; y = b; z = c; x_in = h.of_list 0 a (omega arith); y_in = h.of_list 1 b (omega arith); z_in = h.of_list 2 c (omega arith); left = h.left.0 }
 
 no_turn : (a b : Pos) → turn a a b ≡ pos 0
 no_turn a b = simp expand (omega (arith, ints))
 
-not_all_equal : (ps : List Pos) (a : Pos) → Each (λ p. p ≡ a) ps → Triangle ps → ⊥
+not_all_equal : (ps : List Pos) (a : Pos) → All (λ p. p ≡ a) ps → Triangle ps → ⊥
 not_all_equal ps a f t =
     let l = t.left in
-    let h = subst (λ (q : Pos). pos 0 <ℤ turn q t.y t.z) (f t.x t.x_in) l in
-    let k = subst (λ (q : Pos). pos 0 <ℤ turn a q t.z) (f t.y t.y_in) h in
+    let h = subst (λ (q : Pos). pos 0 <ℤ turn q t.y t.z) (All-contains (λ p. p ≡ a) ps t.x f t.x_in) l in
+    let k = subst (λ (q : Pos). pos 0 <ℤ turn a q t.z) (All-contains (λ p. p ≡ a) ps t.y f t.y_in) h in
     omega (arith, ints, k, no_turn a t.z)
 
 no_sum : (z w : ℤ) → z ≡ pos 0 → w ≡ pos 0 → z +ℤ w ≡ pos 0
@@ -235,22 +237,22 @@ parallel ux uy px py qx qy (inr h) e f =
 not_on_line : (ps : List Pos) (a b : Pos) → AreEnds ps a b → Triangle ps → ⊥
 not_on_line ps a b h t =
     let u = up_of a b h.apart in
-    let x = h.on_line t.x t.x_in in
-    let y = h.on_line t.y t.y_in in
-    let z = h.on_line t.z t.z_in in
+    let x = All-contains (λ p. turn a b p ≡ pos 0) ps t.x h.on_line t.x_in in
+    let y = All-contains (λ p. turn a b p ≡ pos 0) ps t.y h.on_line t.y_in in
+    let z = All-contains (λ p. turn a b p ≡ pos 0) ps t.z h.on_line t.z_in in
     let xy = by_difference a b t.x t.y in
     let xz = by_difference a b t.x t.z in
     let s = parallel _ _ (t.y.x -ℤ t.x.x) (t.y.y -ℤ t.x.y) (t.z.x -ℤ t.x.x) (t.z.y -ℤ t.x.y) u (omega (arith, ints, x, y, xy)) (omega (arith, ints, x, z, xz)) in
     let l = t.left in
     omega (arith, ints, s, l)
 
-not_equal_ends : (ps : List Pos) (c a b : Pos) → Each (λ p. p ≡ c) ps → AreEnds ps a b → ⊥
-not_equal_ends ps c a b f h = not_below_self a (subst (λ (z : Pos). IsBelow a z) (f b h.upper ∙ sym (f a h.lower)) h.apart)
+not_equal_ends : (ps : List Pos) (c a b : Pos) → All (λ p. p ≡ c) ps → AreEnds ps a b → ⊥
+not_equal_ends ps c a b f h = not_below_self a (subst (λ (z : Pos). IsBelow a z) (All-contains (λ p. p ≡ c) ps b f h.upper ∙ sym (All-contains (λ p. p ≡ c) ps a f h.lower)) h.apart)
 
 one_pair : (ps : List Pos) (a b e f : Pos) → AreEnds ps a b → AreEnds ps e f → a ∷ b ∷ [] ≡ e ∷ f ∷ []
 one_pair ps a b e f h k =
-    let i = antisym a e (h.from_lower e k.lower) (k.from_lower a h.lower) in
-    let j = antisym b f (k.to_upper b h.upper) (h.to_upper f k.upper) in
+    let i = antisym a e (All-contains (IsAtMost a) ps e h.from_lower k.lower) (All-contains (IsAtMost e) ps a k.from_lower h.lower) in
+    let j = antisym b f (All-contains (λ p. IsAtMost p f) ps b k.to_upper h.upper) (All-contains (λ p. IsAtMost p b) ps f h.to_upper k.upper) in
     ap (λ (z : Pos). z ∷ b ∷ []) i ∙ ap (λ (z : Pos). e ∷ z ∷ []) j
 
 -- a list has one hull
@@ -260,7 +262,7 @@ one_hull ps [] (a ∷ []) h k = absurd (not_nothing ps a h k.0)
 one_hull ps [] (a ∷ b ∷ []) h k = absurd (not_nothing ps a h k.lower)
 one_hull ps [] (a ∷ b ∷ c ∷ r) h k = absurd (not_nothing ps a h k.lowest.0)
 one_hull ps (a ∷ []) [] h k = absurd (not_nothing ps a k h.0)
-one_hull ps (a ∷ []) (e ∷ []) h k = ap (λ (z : Pos). z ∷ []) (k.1 a h.0)
+one_hull ps (a ∷ []) (e ∷ []) h k = ap (λ (z : Pos). z ∷ []) (All-contains (λ p. p ≡ e) ps a k.1 h.0)
 one_hull ps (a ∷ []) (e ∷ f ∷ []) h k = absurd (not_equal_ends ps a e f h.1 k)
 one_hull ps (a ∷ []) (e ∷ f ∷ g ∷ s) h k = absurd (not_all_equal ps a h.1 (triangle ps e f g s k))
 one_hull ps (a ∷ b ∷ []) [] h k = absurd (not_nothing ps a k h.lower)

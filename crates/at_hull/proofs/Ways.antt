@@ -1,15 +1,16 @@
 -- A chain of the walk, as a stack with its end first: it turns left, and nothing that was seen is to the right of it.
 -- A chain goes up, or down: the same facts of the order stand for both.
 -- For most public calls of the crate, `add`, `covers`, `covers_all` among them.
-use Rattle.std.proofs.Common.{◌≡◌, ℤ, pos, ◌≤ℤ◌, ◌<ℤ◌, ◌⊎◌, inl, inr, Bool, true, false, List, [], ◌∷◌, fold, arith, sym, ap, ◌∙◌, subst, refl}
+use Rattle.std.proofs.Common.{◌≡◌, ℤ, pos, ◌≤ℤ◌, ◌<ℤ◌, ◌⊎◌, inl, inr, Bool, true, false, List, [], ◌∷◌, fold, Contains, arith, sym, ap, ◌∙◌, subst, refl}
 use Rattle.std.specs.Prelude.{if◌then◌else◌}
 use Rattle.std.proofs.lemmas.Int.{ints, by_lt_z}
 use Rattle.at_geom.specs.declared.positions.Pos.{Pos}
 use Rattle.at_geom.specs.Segments.{turn}
 use Rattle.at_geom.proofs.RingLaws.{expand}
 use Rattle.at_geom.proofs.Comparisons.{le_true, le_false}
-use Rattle.at_hull.specs.Hulls.{IsBelow, IsAtMost, IsIn}
+use Rattle.at_hull.specs.Hulls.{IsBelow, IsAtMost}
 use Rattle.at_hull.specs.Walks.{popped, pushed}
+use Rattle.at_hull.proofs.Members.{at_first, at_later, first_or_later, in_none, only_one}
 use Rattle.at_hull.proofs.Planes.{drop_up, next_up, before_up, drop_down, next_down, before_down}
 
 -- ---- the order of positions
@@ -153,7 +154,7 @@ pub record Fits (u : Bool) (S : Pos → Type 0) (low c : Pos) (s : List Pos) : T
   pub lefts : Lefts (c ∷ s)
   pub clear : Clear (λ p. S p ⊎ (p ≡ c)) (c ∷ s)
   pub from_low : bottom c s ≡ low
-  pub seen : (p : Pos) → IsIn p s → S p
+  pub seen : (p : Pos) → Contains s p → S p
 
 -- what is not before b isn't right of b to c
 abbrev AheadClear : Bool → (Pos → Type 0) → Pos → Pos → Type 0
@@ -162,7 +163,7 @@ AheadClear u S b c = (p : Pos) → S p → NotAfter u b p → pos 0 ≤ℤ turn 
 only_end : (c b : Pos) → Clear (λ p. p ≡ c) (c ∷ b ∷ [])
 only_end c b = (λ p e. subst (λ (q : Pos). pos 0 ≤ℤ turn b c q) (sym e) (turn_to_second b c), tt)
 
-fits_on_one : (u : Bool) (S : Pos → Type 0) (c b : Pos) → Before u b c → AheadClear u S b c → ((p : Pos) → S p → NotAfter u b p) → ((p : Pos) → IsIn p (b ∷ []) → S p) → Fits u S b c (b ∷ [])
+fits_on_one : (u : Bool) (S : Pos → Type 0) (c b : Pos) → Before u b c → AheadClear u S b c → ((p : Pos) → S p → NotAfter u b p) → ((p : Pos) → Contains (b ∷ []) p → S p) → Fits u S b c (b ∷ [])
 fits_on_one u S c b h k low seen = record {
   falls = (h, tt);
   lefts = tt;
@@ -177,7 +178,7 @@ behind u S c b a p f h t k clear m (inl l) = k p m l
 behind u S c b a p f h t k clear m (inr l) = next_by u a b c p f h l (omega (arith, ints)) (clear p m)
 
 fits_here : (u : Bool) (S : Pos → Type 0) (low c b a : Pos) (rest : List Pos) → Before u b c → Falls u (b ∷ a ∷ rest) → Lefts (b ∷ a ∷ rest) → Clear S (b ∷ a ∷ rest) → AheadClear u S b c → pos 0 <ℤ turn a b c
-    → bottom b (a ∷ rest) ≡ low → ((p : Pos) → IsIn p (b ∷ a ∷ rest) → S p) → Fits u S low c (b ∷ a ∷ rest)
+    → bottom b (a ∷ rest) ≡ low → ((p : Pos) → Contains (b ∷ a ∷ rest) p → S p) → Fits u S low c (b ∷ a ∷ rest)
 fits_here u S low c b a rest h f l clear k t e seen = record {
   falls = (h, f);
   lefts = (t, l);
@@ -192,7 +193,7 @@ lefts_below b a [] l = tt
 lefts_below b a (z ∷ rest) l = l.1
 
 pub fits : (u : Bool) (S : Pos → Type 0) (low c b : Pos) (rest : List Pos) → Before u b c → Falls u (b ∷ rest) → Lefts (b ∷ rest) → Clear S (b ∷ rest) → AheadClear u S b c
-    → bottom b rest ≡ low → ((p : Pos) → S p → NotAfter u low p) → ((p : Pos) → IsIn p (b ∷ rest) → S p) → Fits u S low c (popped c (b ∷ rest))
+    → bottom b rest ≡ low → ((p : Pos) → S p → NotAfter u low p) → ((p : Pos) → Contains (b ∷ rest) p → S p) → Fits u S low c (popped c (b ∷ rest))
 fits u S low c b [] h f l clear k e from_low seen =
     subst (λ (z : Pos). Fits u S z c (b ∷ [])) e (fits_on_one u S c b h k (λ p m. subst (λ (z : Pos). NotAfter u z p) (sym e) (from_low p m)) seen)
 fits u S low c b (a ∷ rest) h f l clear k e from_low seen =
@@ -201,7 +202,7 @@ fits u S low c b (a ∷ rest) h f l clear k e from_low seen =
     (fits_here u S low c b a rest h f l clear k t e seen))
     (λ t. subst (λ (z : Bool). Fits u S low c (if z then popped c (a ∷ rest) else (b ∷ a ∷ rest))) (sym (le_true (turn a b c) (pos 0) t))
     (let g = before_trans u a b c f.0 h in
-    fits u S low c a rest g f.1 (lefts_below b a rest l) clear.1 (λ p m n. drop_by u a b c p f.0 g n t (clear.0 p m)) e from_low (λ p m. seen p (inr m))))
+    fits u S low c a rest g f.1 (lefts_below b a rest l) clear.1 (λ p m n. drop_by u a b c p f.0 g n t (clear.0 p m)) e from_low (λ p m. seen p (at_later p b (a ∷ rest) m))))
 
 -- ---- the whole walk
 
@@ -213,7 +214,7 @@ pub record Way (u : Bool) (S : Pos → Type 0) (low t : Pos) (rest : List Pos) :
   pub from_low : bottom t rest ≡ low
   pub lowest : (p : Pos) → S p → NotAfter u low p
   pub highest : (p : Pos) → S p → NotAfter u p t
-  pub seen : (p : Pos) → IsIn p (t ∷ rest) → S p
+  pub seen : (p : Pos) → Contains (t ∷ rest) p → S p
 
 at_end : (u : Bool) (S : Pos → Type 0) (t c : Pos) → ((p : Pos) → S p → NotAfter u p t) → AheadClear u S t c
 at_end u S t c high p m n = subst (λ (z : Pos). pos 0 ≤ℤ turn t c z) (both_ways u t p n (high p m)) (turn_to_first t c)
@@ -229,9 +230,8 @@ step_highest : (u : Bool) (S : Pos → Type 0) (t c p : Pos) → ((q : Pos) → 
 step_highest u S t c p f h (inl m) = weaker u p c (not_after_before u p t c (f p m) h)
 step_highest u S t c p f h (inr e) = subst (λ (z : Pos). NotAfter u z c) (sym e) (itself u c)
 
-step_seen : (S : Pos → Type 0) (c p : Pos) (s : List Pos) → ((q : Pos) → IsIn q s → S q) → IsIn p (c ∷ s) → or_at S c p
-step_seen S c p s f (inl e) = inr e
-step_seen S c p s f (inr m) = inl (f p m)
+step_seen : (S : Pos → Type 0) (c p : Pos) (s : List Pos) → ((q : Pos) → Contains s q → S q) → Contains (c ∷ s) p → or_at S c p
+step_seen S c p s f m = elim (first_or_later p c s m) [ inl e ↦ inr e | inr n ↦ inl (f p n) ]
 
 pub step : (u : Bool) (S : Pos → Type 0) (low t : Pos) (rest : List Pos) (c : Pos) → Way u S low t rest → Before u t c → Way u (or_at S c) low c (popped c (t ∷ rest))
 step u S low t rest c w h =
@@ -241,7 +241,7 @@ step u S low t rest c w h =
       lefts = f.lefts;
       clear = f.clear;
       from_low = f.from_low;
-      lowest = λ p m. step_lowest u S low c p w.lowest (weaker u low c (not_after_before u low t c (w.lowest t (w.seen t (inl refl))) h)) m;
+      lowest = λ p m. step_lowest u S low c p w.lowest (weaker u low c (not_after_before u low t c (w.lowest t (w.seen t (at_first t t rest refl))) h)) m;
       highest = λ p m. step_highest u S t c p w.highest h m;
       seen = λ p m. step_seen S c p (popped c (t ∷ rest)) f.seen m;
     }
@@ -272,21 +272,20 @@ pub record Walked (u : Bool) (S : Pos → Type 0) (low high : Pos) (s : List Pos
   pub way : Way u S low high rest
 
 abbrev pub or_in : (Pos → Type 0) → List Pos → Pos → Type 0
-or_in S cs p = S p ⊎ IsIn p cs
+or_in S cs p = S p ⊎ Contains cs p
 
 from_longer : (S : Pos → Type 0) (c : Pos) (cs : List Pos) (p : Pos) → or_in S (c ∷ cs) p → or_in (or_at S c) cs p
 from_longer S c cs p (inl h) = inl (inl h)
-from_longer S c cs p (inr (inl e)) = inl (inr e)
-from_longer S c cs p (inr (inr h)) = inr h
+from_longer S c cs p (inr m) = elim (first_or_later p c cs m) [ inl e ↦ inl (inr e) | inr n ↦ inr n ]
 
 to_longer : (S : Pos → Type 0) (c : Pos) (cs : List Pos) (p : Pos) → or_in (or_at S c) cs p → or_in S (c ∷ cs) p
 to_longer S c cs p (inl (inl h)) = inl h
-to_longer S c cs p (inl (inr e)) = inr (inl e)
-to_longer S c cs p (inr h) = inr (inr h)
+to_longer S c cs p (inl (inr e)) = inr (at_first p c cs e)
+to_longer S c cs p (inr h) = inr (at_later p c cs h)
 
 not_more : (S : Pos → Type 0) (p : Pos) → or_in S [] p → S p
 not_more S p (inl h) = h
-not_more S p (inr h) = absurd h
+not_more S p (inr h) = absurd (in_none p h)
 
 pub walked : (u : Bool) (S : Pos → Type 0) (low t : Pos) (rest cs : List Pos) → Way u S low t rest → Rises u t cs → Walked u (or_in S cs) low (end_of t cs) (fold pushed (t ∷ rest) cs)
 walked u S low t rest [] w h = record { rest = rest; is = refl; way = way_of_same u S (or_in S []) low t rest (λ p m. not_more S p m) (λ p m. inl m) w }
@@ -297,10 +296,6 @@ walked u S low t rest (c ∷ cs) w h =
       is = r.is;
       way = way_of_same u (or_in (or_at S c) cs) (or_in S (c ∷ cs)) low (end_of c cs) r.rest (λ p m. from_longer S c cs p m) (λ p m. to_longer S c cs p m) r.way;
     }
-
-pub only_one : (a p : Pos) → IsIn p (a ∷ []) → p ≡ a
-only_one a p (inl e) = e
-only_one a p (inr h) = absurd h
 
 start : (u : Bool) (a : Pos) → Way u (λ p. p ≡ a) a a []
 start u a = record {
@@ -313,6 +308,16 @@ start u a = record {
   seen = λ p m. only_one a p m;
 }
 
+at_either : (p a : Pos) (cs : List Pos) → or_in (λ q. q ≡ a) cs p → Contains (a ∷ cs) p
+at_either p a cs (inl e) = at_first p a cs e
+at_either p a cs (inr m) = at_later p a cs m
+
 -- the walk over a list of which each is before the next
-pub walk_of : (u : Bool) (a : Pos) (cs : List Pos) → Rises u a cs → Walked u (λ p. IsIn p (a ∷ cs)) a (end_of a cs) (fold pushed [] (a ∷ cs))
-walk_of u a cs h = walked u (λ p. p ≡ a) a a [] cs (start u a) h
+pub walk_of : (u : Bool) (a : Pos) (cs : List Pos) → Rises u a cs → Walked u (Contains (a ∷ cs)) a (end_of a cs) (fold pushed [] (a ∷ cs))
+walk_of u a cs h =
+    let w = walked u (λ p. p ≡ a) a a [] cs (start u a) h in
+    record {
+      rest = w.rest;
+      is = w.is;
+      way = way_of_same u (or_in (λ p. p ≡ a) cs) (Contains (a ∷ cs)) a (end_of a cs) w.rest (λ p m. first_or_later p a cs m) (λ p m. at_either p a cs m) w.way;
+    }

@@ -4,7 +4,7 @@ use Rattle.at_geom.specs.declared.positions.Pos.{Pos}
 use Rattle.at_geom.specs.declared.rectangles.Extent.{Extent}
 use Rattle.at_geom.specs.Segments.{IsInRange}
 use Rattle.at_geom.specs.Shapes.{is_within}
-use Rattle.at_hull.specs.Hulls.{Each, IsHull}
+use Rattle.at_hull.specs.Hulls.{IsHull}
 
 -- each list that is the hull of the one is the hull of the other
 pub record HaveOneHull (ps qs : List Pos) : Type 0 where
@@ -26,7 +26,7 @@ HoldsFront old ps new = (k : ℕ) × HaveOneHull (held old ++ take k ps) (held n
 
 -- positions within the extent add nothing to the hull of the list
 abbrev pub AddsNothing : List Pos → Extent → Type 0
-AddsNothing ps e = (qs : List Pos) → Each (λ q. IsTrue (is_within e q)) qs → HaveOneHull (ps ++ qs) ps
+AddsNothing ps e = (qs : List Pos) → All (λ q. IsTrue (is_within e q)) qs → HaveOneHull (ps ++ qs) ps
 
 abbrev pub IsExtentInRange : Extent → Type 0
 IsExtentInRange e = IsInRange e.low × IsInRange e.high

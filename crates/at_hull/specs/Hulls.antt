@@ -1,5 +1,5 @@
 -- The hull of a list of positions: the extreme ones, counterclockwise from the lowest.
-use Rattle.std.specs.Prelude.{◌≡◌, pos, ◌⊎◌, List, [], ◌∷◌, ◌++◌}
+use Rattle.std.specs.Prelude.{◌≡◌, pos, ◌⊎◌, List, [], ◌∷◌, ◌++◌, All, Contains}
 use Rattle.std.specs.Int.Signed.{◌≤ℤ◌, ◌<ℤ◌}
 use Rattle.at_geom.specs.declared.positions.Pos.{Pos}
 use Rattle.at_geom.specs.Segments.{turn}
@@ -11,23 +11,14 @@ IsBelow p q = (p.y <ℤ q.y) ⊎ ((p.y ≡ q.y) × (p.x <ℤ q.x))
 abbrev pub IsAtMost : Pos → Pos → Type 0
 IsAtMost p q = (p ≡ q) ⊎ IsBelow p q
 
--- p is an element of the list
-abbrev pub IsIn : Pos → List Pos → Type 0
-IsIn p [] = ⊥
-IsIn p (q ∷ rest) = (p ≡ q) ⊎ IsIn p rest
-
--- each position of the list
-abbrev pub Each : (Pos → Type 0) → List Pos → Type 0
-Each P ps = (p : Pos) → IsIn p ps → P p
-
 -- the two lists have the same positions
 abbrev pub HasSame : List Pos → List Pos → Type 0
-HasSame ps qs = Each (λ p. IsIn p qs) ps × Each (λ p. IsIn p ps) qs
+HasSame ps qs = All (Contains qs) ps × All (Contains ps) qs
 
 -- no position is there twice
 abbrev pub AreDifferent : List Pos → Type 0
 AreDifferent [] = Unit {0}
-AreDifferent (p ∷ rest) = (¬ IsIn p rest) × AreDifferent rest
+AreDifferent (p ∷ rest) = (¬ Contains rest p) × AreDifferent rest
 
 -- each is below the next
 abbrev pub IsAscending : List Pos → Type 0
@@ -50,7 +41,7 @@ NoneRight S (a ∷ b ∷ rest) = ((p : Pos) → S p → pos 0 ≤ℤ turn a b p)
 
 -- a position is the lowest of a list
 abbrev pub IsLowest : Pos → List Pos → Type 0
-IsLowest a ps = IsIn a ps × Each (λ p. IsAtMost a p) ps
+IsLowest a ps = Contains ps a × All (IsAtMost a) ps
 
 -- the whole list, round to its second position again
 abbrev pub round : Pos → Pos → List Pos → List Pos
@@ -60,25 +51,25 @@ round a b rest = (a ∷ b ∷ rest) ++ (a ∷ b ∷ [])
 -- neighbours, taken round, turn left; and no position of ps is to the right of the way from one to the next, taken
 -- round
 pub record IsRing (ps : List Pos) (a b : Pos) (rest : List Pos) : Type 0 where
-  pub of_list : Each (λ p. IsIn p ps) (a ∷ b ∷ rest)
+  pub of_list : All (Contains ps) (a ∷ b ∷ rest)
   pub different : AreDifferent (a ∷ b ∷ rest)
   pub lowest : IsLowest a ps
   pub left : TurnsLeft (round a b rest)
-  pub none_right : NoneRight (λ p. IsIn p ps) (round a b rest)
+  pub none_right : NoneRight (Contains ps) (round a b rest)
 
 -- a and b are the ends of a list on one line, a the lower one: all lie on the line, not below a and not above b
 pub record AreEnds (ps : List Pos) (a b : Pos) : Type 0 where
-  pub lower : IsIn a ps
-  pub upper : IsIn b ps
+  pub lower : Contains ps a
+  pub upper : Contains ps b
   pub apart : IsBelow a b
-  pub on_line : Each (λ p. turn a b p ≡ pos 0) ps
-  pub from_lower : Each (λ p. IsAtMost a p) ps
-  pub to_upper : Each (λ p. IsAtMost p b) ps
+  pub on_line : All (λ p. turn a b p ≡ pos 0) ps
+  pub from_lower : All (IsAtMost a) ps
+  pub to_upper : All (λ p. IsAtMost p b) ps
 
 -- h is the hull of ps: nothing for the empty list, the one position where all are equal, the two ends where all lie on
 -- one line, and else a ring
 abbrev pub IsHull : List Pos → List Pos → Type 0
 IsHull ps [] = ps ≡ []
-IsHull ps (a ∷ []) = IsIn a ps × Each (λ p. p ≡ a) ps
+IsHull ps (a ∷ []) = Contains ps a × All (λ p. p ≡ a) ps
 IsHull ps (a ∷ b ∷ []) = AreEnds ps a b
 IsHull ps (a ∷ b ∷ c ∷ rest) = IsRing ps a b (c ∷ rest)

@@ -1,9 +1,9 @@
 -- Where a position adds nothing to a hull. Only contracts of private functions cite this.
-use Rattle.std.specs.Prelude.{pos, List, [], ◌∷◌}
+use Rattle.std.specs.Prelude.{pos, List, [], ◌∷◌, Contains}
 use Rattle.std.specs.Int.Signed.{◌≤ℤ◌, ◌<ℤ◌}
 use Rattle.at_geom.specs.declared.positions.Pos.{Pos}
 use Rattle.at_geom.specs.Segments.{turn}
-use Rattle.at_hull.specs.Hulls.{IsAtMost, IsIn}
+use Rattle.at_hull.specs.Hulls.{IsAtMost}
 
 -- p isn't outside the triangle xyz, which turns left
 pub record IsInTriangle (p x y z : Pos) : Type 0 where
@@ -17,9 +17,9 @@ pub record IsInOneOf (ps : List Pos) (p : Pos) : Type 0 where
   pub x : Pos
   pub y : Pos
   pub z : Pos
-  pub has_x : IsIn x ps
-  pub has_y : IsIn y ps
-  pub has_z : IsIn z ps
+  pub has_x : Contains ps x
+  pub has_y : Contains ps y
+  pub has_z : Contains ps z
   pub inside : IsInTriangle p x y z
 
 -- p isn't outside a ring, nor below its first position

@@ -87,6 +87,7 @@ impl Sink for MemSink {
 
     fn put(&mut self, piece: &[u8]) -> Result<(), Failed>
         ensures ok { OnOk result (Grows (Some (written_of self.old)) (Some (written_of self.new)) piece.now) }
+        ensures unfailed { OnOk result (faults_of self.new ≡ faults_of self.old) }
         ensures failed { OnErr result (Rose (faults_of self.old) (faults_of self.new)) }
         ensures kept { OnErr result (GrowsByPrefix (Some (written_of self.old)) (Some (written_of self.new))
             piece.now) }

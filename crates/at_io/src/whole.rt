@@ -79,8 +79,8 @@ fn read_left<S: Shelf>(alloc: Global, shelf: &mut S) -> Result<Vec<u8>, ReadErro
 
 /// All bytes of the file of that name, at most 2^28.
 ///
-/// It begins the file once, first and by this name, and reads at most 65,536 bytes a turn and at most 2^28 + 1 in
-/// all; each turn but the last takes a byte.
+/// It begins once, by this name, and takes at most 2^28 + 1 bytes. In the code it reads at most 65,536 bytes a turn, and
+/// each turn but the last takes a byte; no clause says so.
 pub fn read_whole<S: Shelf>(alloc: Global, shelf: &mut S, name: &str) -> Result<Vec<u8>, ReadError>
     ensures bytes { IfOk result (λ v. IfSome (S.files shelf.old) (λ told. bytes_named told name.now ≡ Some v.items)) }
     ensures size { IfOk result (λ v. (vec_len v ≤ MOST_BYTES) × (S.taken shelf.new ≡ S.taken shelf.old + vec_len v)) }

@@ -14,20 +14,19 @@ use Rattle.std.proofs.ByRecursion.{All-append}
 use Rattle.at_geom.specs.declared.positions.Pos.{Pos}
 use Rattle.at_geom.specs.declared.shapes.Polygon.{Polygon}
 use Rattle.at_geom.specs.declared.rectangles.Extent.{Extent}
-use Rattle.at_geom.specs.Closed.{HasClosedFirst, HasClosedExterior}
-use Rattle.at_geom.specs.Closed as geom
+use Rattle.at_geom.specs.Closed.{IsClosed, HasClosedFirst, HasClosedExterior}
 use Rattle.at_geom.specs.Shapes.{Meet}
 use Rattle.at_geom.proofs.ApartShapes.{empty_first, empty_second, meet_touches}
 use Rattle.at_geom.proofs.Found.{both_true}
 use Rattle.at_query.specs.declared.answer.parts.Entry.{Entry}
 use Rattle.at_query.specs.declared.answer.answers.Pair.{Pair}
 use Rattle.at_query.specs.Joined.{upper}
-use Rattle.at_query.specs.Parts.{last_of, IsClosed, IsProperEntry, AreProper}
-use Rattle.at_query.specs.Results.{Keeps}
+use Rattle.at_query.specs.Parts.{IsProperEntry, AreProper}
+use Rattle.at_query.specs.Results.{Keeps, pairs_of}
 use Rattle.at_query.proofs.KeptLists.{kept_all}
 use Rattle.at_geom.proofs.ClosedRings.{clash}
 use Rattle.at_join.specs.Boxes.{touch_of}
-use Rattle.at_join.specs.Meetings.{Meeting, at_entries, pairs_of, IsAllPairs}
+use Rattle.at_join.specs.Meetings.{Meeting, at_entries, IsAllPairs}
 use Rattle.at_join.specs.Cells.{cell_of, spread_of, is_pair_of, InCells, is_pair, times, ListsEach}
 use Rattle.at_join.specs.Parts.{rank_of}
 use Rattle.at_join.proofs.FoundLists.{count_mapped}
@@ -40,14 +39,9 @@ use Rattle.at_geom.proofs.Elements.{some_left, some_right}
 
 -- ---- entries that meet belong to a cell
 
-same_last : (a : Pos) (ps : List Pos) → last_of a ps ≡ geom.last_of a ps
-same_last a [] = refl
-same_last a (p ∷ ps) = same_last p ps
-
 closed_first : (rings : List (List Pos)) → AllByRecursion IsClosed rings → HasClosedFirst rings
 closed_first [] h = tt
-closed_first ([] ∷ rings) h = tt
-closed_first ((a ∷ rest) ∷ rings) h = sym (same_last a rest) ∙ h.0
+closed_first (ring ∷ rings) h = h.0
 
 closed_all : (polygons : List Polygon) → AllByRecursion (λ (polygon : Polygon). AllByRecursion IsClosed polygon.rings) polygons → AllByRecursion HasClosedExterior polygons
 closed_all [] h = tt

@@ -14,12 +14,12 @@ use Rattle.at_query.specs.declared.answer.parts.Entry.{Entry}
 use Rattle.at_query.specs.declared.answer.answers.Pair.{Pair}
 use Rattle.at_query.specs.Joined.{upper, around_both}
 use Rattle.at_query.specs.Parts.{IsProperEntry}
-use Rattle.at_query.specs.Results.{Keeps}
+use Rattle.at_query.specs.Results.{Keeps, pairs_of}
 use Rattle.at_query.proofs.KeptLists.{kept_all}
 use Rattle.at_join.specs.declared.outlines.Outline.{Outline}
 use Rattle.at_join.specs.declared.sides.Side.{Side}
 use Rattle.at_join.specs.Boxes.{touch_of, is_here_of, IsWide}
-use Rattle.at_join.specs.Meetings.{Finds, pairs_of}
+use Rattle.at_join.specs.Meetings.{Finds}
 use Rattle.at_join.specs.Cells.{rect_of, spread_of, is_pair_of, belongs, InCells, is_pair, times, ListsEach}
 use Rattle.at_join.specs.Sides.{IsAt, IsOutlineOf, IsGrid, CellHit, at_outlines}
 use Rattle.at_join.proofs.Extents.{encloses_through, head_round, tail_round, reference_inside, shape_span}

@@ -8,9 +8,9 @@ use Rattle.std.proofs.lemmas.List.{take_more}
 use Rattle.std.proofs.lemmas.List.Sums.{sum_by-append, sum_by_push, sum_by-cons}
 use Rattle.std.proofs.Math.Seq.{take-add}
 use Rattle.std.proofs.lemmas.Bool.{cases_lt}
-use Rattle.at_query.specs.Results.{Keeps}
+use Rattle.at_query.specs.Results.{Keeps, pairs_of}
 use Rattle.at_query.proofs.KeptLists.{keeps-append, keeps_one, drops_one}
-use Rattle.at_join.specs.Meetings.{Finds, pairs_of}
+use Rattle.at_join.specs.Meetings.{Finds}
 
 module _ {X Y : Type 0} (P : X → Type 0) (f : X → Y) where
   pub finds_none : (old : List Y) → Finds P f [] old old

@@ -13,7 +13,7 @@ use Rattle.at_query.specs.declared.answer.parts.Entry.{Entry}
 use Rattle.at_query.specs.declared.answer.answers.Pair.{Pair}
 use Rattle.at_query.specs.Parts.{AreRising}
 use Rattle.at_join.specs.declared.outlines.Outline.{Outline}
-use Rattle.at_join.specs.Meetings.{pairs_of}
+use Rattle.at_query.specs.Results.{pairs_of}
 use Rattle.at_join.specs.Cells.{is_pair, times}
 use Rattle.at_join.specs.Sides.{outline_of, outlined, at_outlines}
 use Rattle.at_join.proofs.FoundLists.{count_mapped}

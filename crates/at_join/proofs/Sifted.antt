@@ -4,8 +4,8 @@ use Rattle.std.proofs.Common.{◌≡◌, ◌≤◌, Bool, List, [], ◌∷◌, �
 use Rattle.std.specs.Prelude.{count_by, cond}
 use Rattle.std.specs.List.{AllByRecursion}
 use Rattle.std.proofs.lemmas.List.Sums.{sum_by-cons}
-use Rattle.at_query.specs.Results.{Keeps}
-use Rattle.at_join.specs.Meetings.{Finds, pairs_of}
+use Rattle.at_query.specs.Results.{Keeps, pairs_of}
+use Rattle.at_join.specs.Meetings.{Finds}
 
 -- ys are xs without some that haven't the property
 abbrev pub Sifts : {X : Type 0} → (X → Type 0) → List X → List X → Type 0

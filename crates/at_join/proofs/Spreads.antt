@@ -15,7 +15,7 @@ use Rattle.at_query.specs.Parts.{IsProperEntry}
 use Rattle.at_join.specs.declared.outlines.Outline.{Outline}
 use Rattle.at_join.specs.declared.sides.Side.{Side}
 use Rattle.at_join.specs.Boxes.{is_here_of, IsSpan}
-use Rattle.at_join.specs.Meetings.{pairs_of}
+use Rattle.at_query.specs.Results.{pairs_of}
 use Rattle.at_join.specs.Cells.{rect_of, spread_of, belongs}
 use Rattle.at_join.specs.Sides.{IsGrid, outline_of, outlined, spread_onto, is_cell_here}
 use Rattle.at_join.proofs.Extents.{shape_span}

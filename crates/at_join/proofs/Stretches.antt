@@ -9,13 +9,13 @@ use Rattle.std.proofs.lemmas.Grind.{flat_map-append}
 use Rattle.std.proofs.Math.Seq.{take-add}
 use Rattle.at_geom.specs.declared.rectangles.Extent.{Extent}
 use Rattle.at_geom.specs.Shapes.{encloses}
-use Rattle.at_query.specs.Results.{Keeps}
+use Rattle.at_query.specs.Results.{Keeps, pairs_of}
 use Rattle.at_query.specs.declared.answer.parts.Entry.{Entry}
 use Rattle.at_query.specs.declared.answer.answers.Pair.{Pair}
 use Rattle.at_query.proofs.KeptLists.{kept_all}
 use Rattle.at_join.specs.declared.outlines.Outline.{Outline}
 use Rattle.at_join.specs.Boxes.{IsWide, common_of}
-use Rattle.at_join.specs.Meetings.{Finds, pairs_of}
+use Rattle.at_join.specs.Meetings.{Finds}
 use Rattle.at_join.specs.Sides.{IsOutlineOf, CellHit, at_outlines, is_cell_here, IsInWindow, itself}
 use Rattle.at_join.proofs.Covering.{part_length}
 use Rattle.at_join.proofs.Extents.{near_window}

@@ -1,17 +1,13 @@
 -- The pairs of two lists of entries of which the shapes meet.
-use Rattle.std.specs.Prelude.{◌≡◌, List, [], ◌++◌, All, map, flat_map}
+use Rattle.std.specs.Prelude.{◌≡◌, List, [], ◌++◌, All, map}
 use Rattle.at_geom.specs.Shapes.{IsShapeInRange, Meet}
 use Rattle.at_query.specs.declared.answer.parts.Entry.{Entry}
 use Rattle.at_query.specs.declared.answer.answers.Pair.{Pair}
-use Rattle.at_query.specs.Results.{Keeps}
+use Rattle.at_query.specs.Results.{Keeps, pairs_of}
 
 -- all coordinates are in range
 abbrev pub AreInRange : List Entry → Type 0
 AreInRange es = All (λ (e : Entry). IsShapeInRange e.shape) es
-
--- all pairs of an element of the one list and an element of the other, in order of the first, then the second
-abbrev pub pairs_of : {X : Type 0} → List X → List X → List (X × X)
-pairs_of {X} xs ys = flat_map (λ (x : X). map (λ (y : X). (x, y)) ys) xs
 
 -- the two shapes meet
 abbrev pub Meeting : Entry × Entry → Type 0

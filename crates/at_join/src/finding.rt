@@ -1,7 +1,8 @@
 //! The pairs of one cell, as the sides of a grid give them.
 ghost use Rattle.std.specs.Prelude.{◌+◌, ◌≤◌, OnOk, All, count_by, cond, [], ◌∷◌};
 ghost use Rattle.at_geom.specs.Shapes.{IsShapeInRange};
-ghost use Rattle.at_join.specs.Meetings.{AreInRange, Finds, pairs_of};
+ghost use Rattle.at_query.specs.Results.{pairs_of};
+ghost use Rattle.at_join.specs.Meetings.{AreInRange, Finds};
 ghost use Rattle.at_join.specs.Sides.{IsSide, IsOutlineOf, RowHit, CellHit, row_pair, at_outlines, is_row_here};
 ghost use Rattle.at_join.specs.Sides.{is_cell_here};
 

@@ -2,7 +2,7 @@
 
 ghost use Rattle.std.specs.Prelude.{◌≡◌, ◌+◌, ◌<◌, ◌≤◌, IfOk, count_by};
 ghost use Rattle.at_query.specs.Parts.{AreProper};
-ghost use Rattle.at_join.specs.Meetings.{pairs_of};
+ghost use Rattle.at_query.specs.Results.{pairs_of};
 ghost use Rattle.at_query.specs.Joined.{around_both};
 ghost use Rattle.at_join.specs.Sides.{spread_onto};
 ghost use Rattle.at_join.specs.Cells.{belongs, InCells, ListsEach};
@@ -58,8 +58,8 @@ impl Grid {
         let _joint = self.joint;
     }
 
-    /// The pairs of which the shapes meet and that belong to the cell, in no order. A step is taken before each exact
-    /// test of two shapes, and these are at most as many as the pairs that belong to the cell.
+    /// The pairs of which the shapes meet and that belong to the cell, in no order. So many steps are taken at most as
+    /// pairs belong to the cell. In the code one is taken before each exact test of two shapes; no clause says so.
     pub fn cell_pairs<L: Ledger>(
         &self,
         alloc: Global,

@@ -17,7 +17,8 @@ use std::thread::Threads;
 
 /// The pairs that `pairs_plain` gives, by the cells of a grid, which so many workers share out.
 ///
-/// The gate is entered with each of the 64 cells. Where it gives up one of them, the answer is Memory.
+/// Where the gate gives up one of the 64 cells, the answer is Memory. No clause says which worker searches which cell,
+/// or that it enters the gate.
 pub fn pairs_grid<G: Gate, R: Threads + Sync>(
     rt: &R,
     alloc: Global,

@@ -1,11 +1,12 @@
-//! How many exact tests were made.
+//! A count of steps, of which the code takes one before each exact test.
 
 ghost use Rattle.std.specs.Prelude.{◌≡◌, ◌+◌, ◌<◌};
 
 use std::marker::Model;
 use std::sync::ledger::{Blank, Book, Ledger, Share};
 
-/// How many exact tests of two shapes were made. It takes no bytes, and only `tick` changes it.
+/// A count of steps. In the code one is taken before each exact test of two shapes; no clause ties the two together. It
+/// takes no bytes, and only `tick` changes it.
 #[derive(Drop)]
 pub struct Steps<L: Ledger> {
     book: Book<L>,

@@ -9,5 +9,6 @@ pub mod RunLemmas
 pub mod RunBytes
 pub mod ItemLemmas
 pub mod NumberLemmas
+pub mod Stretches
 pub mod UnitLemmas
 pub mod Unique

@@ -6,10 +6,11 @@ use Rattle.std.specs.Str.{is_utf8, chars, IsAscii}
 use Rattle.std.proofs.lemmas.Str.{is_utf8-from_IsUtf8, IsUtf8-from_ascii, chars-IsAscii}
 use Rattle.std.specs.Char.{is_ascii_hexdigit}
 use Rattle.std.specs.Char.Escape.{encode_utf16}
-use Rattle.at_lex.specs.Strings.{Character, plain, escape, unit, escapes, is_plain, AreCharacters, character_text, string_text, bytes_ahead, char_len, first_units, further_bytes, escape_unit, hex_unit, units_after, units_of}
+use Rattle.at_lex.specs.Strings.{Character, plain, escape, unit, escapes, is_plain, AreCharacters, character_text, string_text, char_len, escape_unit, hex_unit, units_of}
 use Rattle.at_lex.specs.Fronts.{IsFront}
-use Rattle.at_lex.specs.UnitSteps.{Content, HasDigits, StepsOver}
+use Rattle.at_lex.specs.UnitSteps.{bytes_ahead, first_units, further_bytes, units_after, Content, HasDigits, StepsOver}
 use Rattle.at_lex.proofs.JsonString.{all_four}
+use Rattle.at_lex.proofs.Stretches.{units_by_step}
 
 -- the bytes of the characters and of the closing quote
 abbrev pub rest_text : List Character → List ℕ
@@ -247,12 +248,12 @@ wide_some cs w h k unslashed n f (suc p) some e = record {
 pub record HasUnits (w : List ℕ) (at : ℕ) (units : List ℕ) : Type 0 where
   pub from : 0 < at
   pub fits : at < length w
-  pub left : (cs : List Character) → AreCharacters cs → w ≡ string_text cs → (ds : List Character) × Content ds (drop at w) × (units_of cs ≡ units ++ units_after 0 ds)
+  pub left : (cs : List Character) → AreCharacters cs → w ≡ string_text cs → (ds : List Character) × Content ds (drop at w) × (units_after 0 cs ≡ units ++ units_after 0 ds)
 
 pub all_units : (w : List ℕ) (at : ℕ) (units : List ℕ) → HasUnits w at units → length w ≤ at + 1 → (cs : List Character) → AreCharacters cs → w ≡ string_text cs → units ≡ units_of cs
 all_units w at units h k cs i e = let (ds, content, same) = h.left cs i e in
     let none : ds ≡ [] = no_rest ds (drop at w) content (let l = length-drop at w in omega (arith, l, k)) in
-    sym (same ∙ (ap (λ d. units ++ units_after 0 d) none ∙ append-nil units))
+    sym (units_by_step cs ∙ (same ∙ (ap (λ d. units ++ units_after 0 d) none ∙ append-nil units)))
 
 -- ---- the first character in UTF-8
 

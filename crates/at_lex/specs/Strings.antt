@@ -1,6 +1,6 @@
 -- JSON strings: how they are spelled, and the UTF-16 code units that they stand for (RFC 8259 sections 7, 8.1 to 8.3).
-use Rattle.std.specs.Prelude.{◌≡◌, ℕ, zero, suc, ◌+◌, ◌-◌, ◌*◌, nat_lt, nat_le, ◌==◌, not, ◌&&◌, Bool, IsTrue, List, []}
-use Rattle.std.specs.Prelude.{◌∷◌, ◌++◌, take, flat_map, find, Option, Some, None}
+use Rattle.std.specs.Prelude.{◌≡◌, ℕ, zero, suc, ◌+◌, ◌*◌, nat_lt, nat_le, ◌==◌, not, ◌&&◌, if◌then◌else◌, Bool, IsTrue}
+use Rattle.std.specs.Prelude.{List, [], ◌∷◌, ◌++◌, length, take, drop, flat_map, find, Option, Some, None}
 use Rattle.std.specs.List.{AllByRecursion, list_any}
 use Rattle.std.specs.Str.{is_utf8, chars}
 use Rattle.std.specs.Char.{digit_value, is_ascii_hexdigit}
@@ -47,24 +47,23 @@ SpellsString cs at w = AreCharacters cs × (w ≡ string_text cs)
 abbrev pub JsonString : List ℕ → Type 0
 JsonString text = (characters : List Character) × AreCharacters characters × (text ≡ string_text characters)
 
--- the bytes as they are from here on, up to the first escape
-abbrev pub bytes_ahead : List Character → List ℕ
-bytes_ahead [] = []
-bytes_ahead (plain b ∷ rest) = b ∷ bytes_ahead rest
-bytes_ahead (escape letter ∷ rest) = []
-bytes_ahead (unit a b c d ∷ rest) = []
-
 -- the length of the character in UTF-8 that begins the bytes, where one does
 abbrev pub char_len : List ℕ → Option ℕ
 char_len bytes = find (λ n. is_utf8 (take n bytes)) (1 ∷ 2 ∷ 3 ∷ 4 ∷ [])
 
--- the units of the character that begins the bytes, or FFFD where none does
-abbrev pub first_units : List ℕ → List ℕ
-first_units bytes = elim (char_len bytes) [ None ↦ 0xFFFD ∷ [] | Some n ↦ flat_map encode_utf16 (chars (take n bytes)) ]
+-- the units of at most so many characters of bytes that aren't UTF-8: a byte that begins no character gives FFFD
+abbrev pub broken_units : ℕ → List ℕ → List ℕ
+broken_units zero bytes = []
+broken_units (suc count) [] = []
+broken_units (suc count) (b ∷ bytes) = elim (char_len (b ∷ bytes)) [
+  | None ↦ 0xFFFD ∷ broken_units count bytes
+  | Some n ↦ flat_map encode_utf16 (chars (take n (b ∷ bytes))) ++ broken_units count (drop n (b ∷ bytes))
+]
 
--- how many bytes after the first belong to it
-abbrev pub further_bytes : List ℕ → ℕ
-further_bytes bytes = elim (char_len bytes) [ None ↦ 0 | Some n ↦ n - 1 ]
+-- the units of a stretch of bytes, which are read as UTF-8
+abbrev pub stretch_units : List ℕ → List ℕ
+stretch_units bytes =
+    if is_utf8 bytes then flat_map encode_utf16 (chars bytes) else broken_units (length bytes) bytes
 
 abbrev pub escape_unit : ℕ → ℕ
 escape_unit letter = elim (find (λ (e : ℕ × ℕ). e.0 == letter) escapes) [ None ↦ 0 | Some e ↦ e.1 ]
@@ -72,18 +71,16 @@ escape_unit letter = elim (find (λ (e : ℕ × ℕ). e.0 == letter) escapes) [ 
 abbrev pub hex_unit : ℕ → ℕ → ℕ → ℕ → ℕ
 hex_unit a b c d = 16 * (16 * (16 * digit_value a + digit_value b) + digit_value c) + digit_value d
 
--- the units of the characters, the first `pending` bytes being the rest of a character that has its units already
-abbrev pub units_after : ℕ → List Character → List ℕ
-units_after pending [] = []
-units_after zero (plain b ∷ rest) =
-    first_units (b ∷ bytes_ahead rest) ++ units_after (further_bytes (b ∷ bytes_ahead rest)) rest
-units_after (suc pending) (plain b ∷ rest) = units_after pending rest
-units_after pending (escape letter ∷ rest) = escape_unit letter ∷ units_after 0 rest
-units_after pending (unit a b c d ∷ rest) = hex_unit a b c d ∷ units_after 0 rest
+-- the units of the characters and of the stretch of bytes right before them, which each escape ends
+abbrev pub units_behind : List ℕ → List Character → List ℕ
+units_behind stretch [] = stretch_units stretch
+units_behind stretch (plain b ∷ rest) = units_behind (stretch ++ b ∷ []) rest
+units_behind stretch (escape letter ∷ rest) = stretch_units stretch ++ escape_unit letter ∷ units_behind [] rest
+units_behind stretch (unit a b c d ∷ rest) = stretch_units stretch ++ hex_unit a b c d ∷ units_behind [] rest
 
 -- the UTF-16 code units of a string, a lone surrogate included; a byte that begins no character gives FFFD
 abbrev pub units_of : List Character → List ℕ
-units_of characters = units_after 0 characters
+units_of characters = units_behind [] characters
 
 -- the units of the string that the bytes spell
 abbrev pub AreUnitsOf : List ℕ → List ℕ → Type 0

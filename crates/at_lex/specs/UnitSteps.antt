@@ -1,9 +1,35 @@
 -- How the units of a string are found from left to right. No public clause cites it.
-use Rattle.std.specs.Prelude.{◌≡◌, ℕ, ◌<◌, List, [], ◌∷◌, ◌++◌, length, take, drop, slice_index, flat_map, Option, Some}
-use Rattle.std.specs.Prelude.{None, true, false}
-use Rattle.std.specs.Str.{is_utf8}
+use Rattle.std.specs.Prelude.{◌≡◌, ℕ, zero, suc, ◌-◌, ◌<◌, List, [], ◌∷◌, ◌++◌, length, take, drop, slice_index, flat_map, Option}
+use Rattle.std.specs.Prelude.{Some, None, true, false}
+use Rattle.std.specs.Str.{is_utf8, chars}
+use Rattle.std.specs.Char.Escape.{encode_utf16}
 use Rattle.std.specs.Char.{is_ascii_hexdigit}
-use Rattle.at_lex.specs.Strings.{Character, AreCharacters, character_text, units_after, char_len}
+use Rattle.at_lex.specs.Strings.{Character, plain, escape, unit, AreCharacters, character_text, char_len, escape_unit}
+use Rattle.at_lex.specs.Strings.{hex_unit}
+
+-- the bytes as they are from here on, up to the first escape
+abbrev pub bytes_ahead : List Character → List ℕ
+bytes_ahead [] = []
+bytes_ahead (plain b ∷ rest) = b ∷ bytes_ahead rest
+bytes_ahead (escape letter ∷ rest) = []
+bytes_ahead (unit a b c d ∷ rest) = []
+
+-- the units of the character that begins the bytes, or FFFD where none does
+abbrev pub first_units : List ℕ → List ℕ
+first_units bytes = elim (char_len bytes) [ None ↦ 0xFFFD ∷ [] | Some n ↦ flat_map encode_utf16 (chars (take n bytes)) ]
+
+-- how many bytes after the first belong to it
+abbrev pub further_bytes : List ℕ → ℕ
+further_bytes bytes = elim (char_len bytes) [ None ↦ 0 | Some n ↦ n - 1 ]
+
+-- the units of the characters, the first `pending` bytes being the rest of a character that has its units already
+abbrev pub units_after : ℕ → List Character → List ℕ
+units_after pending [] = []
+units_after zero (plain b ∷ rest) =
+    first_units (b ∷ bytes_ahead rest) ++ units_after (further_bytes (b ∷ bytes_ahead rest)) rest
+units_after (suc pending) (plain b ∷ rest) = units_after pending rest
+units_after pending (escape letter ∷ rest) = escape_unit letter ∷ units_after 0 rest
+units_after pending (unit a b c d ∷ rest) = hex_unit a b c d ∷ units_after 0 rest
 
 -- the bytes are these characters and the closing quote
 abbrev pub Content : List Character → List ℕ → Type 0

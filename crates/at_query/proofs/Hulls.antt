@@ -1,9 +1,9 @@
 -- The hull of a shape's positions, and of two hulls, has coordinates in range.
 -- For `add`, `add_lent`, `join`, `part_merge` and `part_of`.
-use Rattle.std.proofs.Common.{◌<◌, inl, List, [], ◌∷◌, ◌++◌, All, length, arith, refl}
+use Rattle.std.proofs.Common.{◌≡◌, ◌<◌, List, [], ◌∷◌, ◌++◌, All, length, arith, refl}
 use Rattle.std.specs.Prelude.{Result, Ok, Err, IfOk}
 use Rattle.std.specs.List.{AllByRecursion}
-use Rattle.std.proofs.lemmas.List.Elements.{recursion_from_All, All-append, All-nil}
+use Rattle.std.proofs.lemmas.List.Elements.{recursion_from_All, All-append, All-nil, All-from_recursion}
 use Rattle.at_text.specs.declared.memory.Memory.{Memory}
 use Rattle.at_geom.specs.declared.positions.Pos.{Pos}
 use Rattle.at_geom.specs.declared.positions.Path.{Path}
@@ -13,8 +13,7 @@ use Rattle.at_geom.specs.Segments.{IsInRange}
 use Rattle.at_geom.specs.Shapes.{positions, joined, positions_of_polygons, IsShapeInRange}
 use Rattle.at_hull.specs.Hulls.{IsHull}
 use Rattle.at_hull.proofs.Laws.{hull_of_hull, hull_elements}
-use Rattle.at_hull.proofs.Sorts.{all_of_each, each_of_all}
-use Rattle.at_hull.proofs.Ways.{only_one}
+use Rattle.at_hull.proofs.Members.{all_of_fewer}
 use Rattle.at_query.specs.Parts.{IsHullInRange}
 use Rattle.at_query.specs.Joined.{JoinsHulls}
 
@@ -33,12 +32,12 @@ positions_in_range s r =
     (all_polygons s.polygons (recursion_from_All (λ (polygon : Polygon). All (All IsInRange) polygon.rings) s.polygons r.polygons))
 
 pub hull_in_range : (ps h : List Pos) → All IsInRange ps → IsHull ps h → IsHullInRange ps h
-hull_in_range ps h range k = (k, all_of_each IsInRange h (λ p m. each_of_all IsInRange ps p range (hull_elements ps h k p m)))
+hull_in_range ps h range k = (k, all_of_fewer IsInRange h ps (hull_elements ps h k) range)
 
 -- nothing, and a position alone
 pub short_hull : (ps : List Pos) → All IsInRange ps → length ps < 2 → IsHullInRange ps ps
 short_hull [] range n = (refl, range)
-short_hull (a ∷ []) range n = ((inl refl, λ p m. only_one a p m), range)
+short_hull (a ∷ []) range n = (((0, omega arith, refl), All-from_recursion (λ p. p ≡ a) (a ∷ []) (refl, tt)), range)
 short_hull (a ∷ b ∷ r) range n = absurd (omega (arith, n))
 
 -- a hull that joins two is one of its own

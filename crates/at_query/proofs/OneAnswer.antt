@@ -28,7 +28,7 @@ asked_once verbs.Count fs a b e f = e ∙ sym f
 asked_once verbs.Area fs a b e f = e ∙ sym f
 asked_once verbs.Extent fs a b e f = e ∙ sym f
 asked_once verbs.Hull fs a b (h, e, k) (g, f, l) = e ∙ (ap answers.Hull (one_hull (all_positions fs) h g k l) ∙ sym f)
-asked_once verbs.Join fs a b e f = e ∙ sym f
+asked_once verbs.Join fs a b e f = absurd e
 
 kept_once : (verb : Verb) (fs : List Feature) (a b : Part) → IsKeptOf verb fs a → IsKeptOf verb fs b → a ≡ b
 kept_once verbs.Select fs a b e f = e ∙ sym f

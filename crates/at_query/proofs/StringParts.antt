@@ -7,6 +7,7 @@ use Rattle.at_text.proofs.Machine.{run, rest-run}
 use Rattle.at_lex.specs.Strings.{units_of, AreUnitsOf, JsonString}
 use Rattle.at_lex.specs.StringStates.{State, opening, inside, escaped, hex4, hex3, hex2, hex1, closed, step}
 use Rattle.at_lex.proofs.JsonString.{Rest, machine, opening-JsonString}
+use Rattle.at_lex.proofs.Stretches.{units_by_step}
 use Rattle.at_wkt.proofs.Leads.{part-more, append_cases}
 use Rattle.at_wkt.proofs.NumberSteps.{rest_part}
 use Rattle.at_fixed.specs.NumberSoFar.{between}
@@ -86,7 +87,7 @@ same_string v r u s h k e = elim (append_cases v r u s e) [
 ]
 
 pub text_lives : Lives Text
-text_lives at = ([], 0x22 ∷ 0x22 ∷ [], ([], refl, (tt, refl)))
+text_lives at = ([], 0x22 ∷ 0x22 ∷ [], ([], sym (units_by_step []), (tt, refl)))
 
 module _ (w : List ℕ) (i n : ℕ) (within : i ≤ length w) (whole : Bool) (h : TakesLongest JsonString (take (length w - i) (drop i w)) (record { len = n; whole = whole })) where
   -- a string stands

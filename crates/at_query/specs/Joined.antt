@@ -1,4 +1,5 @@
--- How two extents and two hulls are joined. Only contracts of private functions cite this.
+-- How two extents and two hulls are joined. `lower_corner`, `upper_corner` and `joined_extent` cite the words for
+-- corners and for two extents in public; the other words are cited by contracts of private functions alone.
 use Rattle.std.specs.Prelude.{List, ◌++◌, Option, Some, None}
 use Rattle.std.specs.Int.{int_min, int_max}
 use Rattle.at_geom.specs.declared.positions.Pos.{Pos}

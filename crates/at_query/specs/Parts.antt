@@ -6,6 +6,7 @@ use Rattle.std.specs.List.{AllByRecursion}
 use Rattle.at_geom.specs.declared.positions.Pos.{Pos}
 use Rattle.at_geom.specs.declared.shapes.Polygon.{Polygon}
 use Rattle.at_geom.specs.declared.shapes.Shape.{Shape}
+use Rattle.at_geom.specs.Closed.{IsClosed}
 use Rattle.at_geom.specs.Segments.{IsInRange}
 use Rattle.at_geom.specs.Regions.{sum_of, wrapped_area}
 use Rattle.at_geom.specs.Shapes.{positions, extent_of, IsShapeInRange}
@@ -105,16 +106,7 @@ pub record AreFew (fs : List Feature) : Type 0 where
 
 -- ---- entries of a join
 
--- the last of a position and those behind it
-abbrev pub last_of : Pos → List Pos → Pos
-last_of a [] = a
-last_of a (b ∷ rest) = last_of b rest
-
--- the last position is the first (RFC 7946 section 3.1.6; OGC 06-103r4 section 6.1.11)
-abbrev pub IsClosed : List Pos → Type 0
-IsClosed [] = Unit {0}
-IsClosed (a ∷ rest) = last_of a rest ≡ a
-
+-- each ring of a shape ends where it begins
 abbrev pub AreRingsClosed : Shape → Type 0
 AreRingsClosed s = AllByRecursion (λ (polygon : Polygon). AllByRecursion IsClosed polygon.rings) s.polygons
 

@@ -25,22 +25,23 @@ all_positions fs = flat_map (λ (f : Feature). positions f.shape) fs
 abbrev pub all_polygons : List Feature → List Polygon
 all_polygons fs = flat_map (λ (f : Feature). f.shape.polygons) fs
 
--- what a verb asks of the features that are left; a join asks for pairs, which IsJoined tells
+-- what a verb asks of the features that are left; a join asks for pairs of two lists, which IsJoined tells, and has no
+-- answer over one
 abbrev pub IsAskedOf : Verb → List Feature → Answer → Type 0
 IsAskedOf verbs.Select fs answer = answer ≡ Offsets (map (λ (f : Feature). f.at) fs)
 IsAskedOf verbs.Count fs answer = answer ≡ Number (pos (length fs))
 IsAskedOf verbs.Area fs answer = answer ≡ Number (sum_of (map doubled_area (all_polygons fs)))
 IsAskedOf verbs.Extent fs answer = answer ≡ Spread (extent_of (all_positions fs))
 IsAskedOf verbs.Hull fs answer = (h : List Pos) × (answer ≡ Hull h) × IsHull (all_positions fs) h
-IsAskedOf verbs.Join fs answer = answer ≡ Pairs []
+IsAskedOf verbs.Join fs answer = ⊥
 
 -- the answer to the query over the features
 abbrev pub IsResult : Query → List Feature → Answer → Type 0
 IsResult query fs answer = (kept : List Feature) × Keeps (Holds query) fs kept × IsAskedOf query.verb kept answer
 
--- all pairs, in order of the first list, then the second
-abbrev pub pairs_of : List Feature → List Feature → List (Feature × Feature)
-pairs_of fs gs = flat_map (λ (f : Feature). map (λ (g : Feature). (f, g)) gs) fs
+-- all pairs of an element of the one list and an element of the other, in order of the first, then the second
+abbrev pub pairs_of : {X : Type 0} → List X → List X → List (X × X)
+pairs_of {X} xs ys = flat_map (λ (x : X). map (λ (y : X). (x, y)) ys) xs
 
 -- the query holds of the first, and the shapes meet
 abbrev pub Joins : Query → Feature × Feature → Type 0

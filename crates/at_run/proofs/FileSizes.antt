@@ -6,6 +6,7 @@ use Rattle.std.proofs.lemmas.List.{length-map}
 use Rattle.std.proofs.lemmas.List.Elements.{All-nil, All-cons}
 use Rattle.std.proofs.lemmas.Grind.{flat_map-append}
 use Rattle.at_text.specs.Texts.{base_of}
+use Rattle.at_text.specs.Separated.{placed}
 use Rattle.at_fixed.specs.declared.rounding.Coords.{Coords}
 use Rattle.at_geom.specs.declared.positions.Pos.{Pos}
 use Rattle.at_geom.specs.declared.shapes.Polygon.{Polygon}
@@ -14,7 +15,7 @@ use Rattle.at_geom.specs.Shapes.{positions, joined, positions_of_polygons, IsSha
 use Rattle.at_wkt.specs.Positions.{Position, Positions, pos_of, path_of}
 use Rattle.at_wkt.specs.Geometry.{Geometry, point, line_string, polygon, multi_point, multi_line_string, multi_polygon, collection, Geometries, no_geometries, geometry_and}
 use Rattle.at_wkt.specs.Meaning.{both, present, polygons_of, shape_of, shape_of_all}
-use Rattle.at_wkt.specs.Lines.{FileLine, placed, pieces_from, is_line_feed, without_return, line_of, is_blank_text, lines_of}
+use Rattle.at_wkt.specs.Lines.{FileLine, pieces_from, is_line_feed, without_return, line_of, is_blank_text, lines_of}
 use Rattle.at_query.specs.declared.features.Feature.{Feature}
 use Rattle.at_query.specs.Ranges.{IsFeatureInRange, AreFeaturesInRange}
 use Rattle.at_query.specs.Results.{all_positions}

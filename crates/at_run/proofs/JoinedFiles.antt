@@ -16,7 +16,6 @@ use Rattle.at_query.specs.Parts.{entry_of, IsPart, AreProper, AreProperFeatures}
 use Rattle.at_query.proofs.KeptLists.{keeps-append}
 use Rattle.at_query.proofs.ProperEntries.{entries_are_proper}
 use Rattle.at_join.specs.Meetings.{Meeting, at_entries, IsAllPairs}
-use Rattle.at_join.specs.Meetings as join
 use Rattle.at_run.specs.declared.forms.Form.{Form}
 use Rattle.at_run.specs.declared.forms.Form.TheVariants.{GeoJson, Wkt}
 use Rattle.at_run.specs.Files.{HasFileFaultIn, AreFileFeaturesIn}
@@ -59,10 +58,10 @@ row_of_entries : (f : Feature) (gs : List Feature) → map (λ (y : Entry). (ent
 row_of_entries f [] = refl
 row_of_entries f (g ∷ gs) = ap (λ l. (entry_of f, entry_of g) ∷ l) (row_of_entries f gs)
 
-pairs_of_entries : (fs gs : List Feature) → join.pairs_of (map entry_of fs) (map entry_of gs) ≡ map both_entries (pairs_of fs gs)
+pairs_of_entries : (fs gs : List Feature) → pairs_of (map entry_of fs) (map entry_of gs) ≡ map both_entries (pairs_of fs gs)
 pairs_of_entries [] gs = refl
 pairs_of_entries (f ∷ fs) gs =
-    ap (λ l. l ++ join.pairs_of (map entry_of fs) (map entry_of gs)) (row_of_entries f gs)
+    ap (λ l. l ++ pairs_of (map entry_of fs) (map entry_of gs)) (row_of_entries f gs)
     ∙ (ap (λ l. map both_entries (row f gs) ++ l) (pairs_of_entries fs gs) ∙ sym (map-append both_entries (row f gs) (pairs_of fs gs)))
 
 offsets_of_entries : (pairs : List (Feature × Feature)) → map at_entries (map both_entries pairs) ≡ map at_pair pairs
@@ -98,7 +97,7 @@ module _ (query : Query) where
       let same_first : es ≡ map entry_of kept = cc in
       let same_second : hs ≡ map entry_of gs = (let every = all_kept all gs others none also in let h : hs ≡ map entry_of others = cc in h ∙ ap (map entry_of) every) in
       let P : List (Entry × Entry) → Type 0 = λ l. Keeps Meeting l ks in
-      let listed : join.pairs_of es hs ≡ map both_entries (pairs_of kept gs) = ap (λ l. join.pairs_of l hs) same_first ∙ (ap (λ l. join.pairs_of (map entry_of kept) l) same_second ∙ pairs_of_entries kept gs) in
+      let listed : pairs_of es hs ≡ map both_entries (pairs_of kept gs) = ap (λ l. pairs_of l hs) same_first ∙ (ap (λ l. pairs_of (map entry_of kept) l) same_second ∙ pairs_of_entries kept gs) in
       let (js, met, mapped) = unmapped Meeting both_entries (pairs_of kept gs) ks (subst P listed found) in
       (js, pairs_kept fs kept gs js keeps met, ap Pairs (is ∙ (ap (map at_entries) mapped ∙ offsets_of_entries js)))
 

@@ -1,6 +1,6 @@
 -- A file has one list of features, one part and one answer to a query, and where it has one it has no fault: laws of the definitions, which no function's contract is needed for.
 -- For `answer`.
-use Rattle.std.proofs.Common.{◌≡◌, ℕ, inl, inr, List, [], ◌∷◌, drop, Option, Some, None, sym, ◌∙◌, ap, subst, arith}
+use Rattle.std.proofs.Common.{◌≡◌, ℕ, inl, inr, List, [], ◌∷◌, drop, Option, Some, None, Result, Ok, Err, MatchResult, sym, ◌∙◌, ap, subst, arith}
 use Rattle.std.proofs.lemmas.Option.{none-some}
 use Rattle.at_text.specs.declared.faults.Fault.{Fault}
 use Rattle.at_text.specs.Faults.{first_of}
@@ -21,6 +21,8 @@ use Rattle.at_geojson.specs.Roles.{features_of}
 use Rattle.at_geojson.specs.Wholes.{faults_of}
 use Rattle.at_run.specs.declared.faults.RunFault.{RunFault}
 use Rattle.at_run.specs.declared.faults.RunFault.TheVariants.{Found, Memory}
+use Rattle.at_run.specs.declared.faults.JoinFault.{JoinFault}
+use Rattle.at_run.specs.declared.faults.JoinFault.TheVariants as joins
 use Rattle.at_run.specs.declared.forms.Form.{Form}
 use Rattle.at_run.specs.declared.forms.Form.TheVariants.{GeoJson, Wkt}
 use Rattle.at_run.specs.Places.{IsLeastCount}
@@ -31,7 +33,7 @@ use Rattle.at_run.proofs.LabelledLines.{one_labelled}
 use Rattle.at_run.proofs.FaultLists.{one_lines_fault}
 use Rattle.at_run.specs.JsonFiles.{HaveJsonFaults, HasJsonFaultBehind}
 use Rattle.at_run.specs.Files.{HasFileFaultIn, TheFileFaultIn, AreJsonFeatures, AreFileFeaturesIn}
-use Rattle.at_run.specs.Answers.{IfFound, IsFilePart, IsFileAnswer, IsJoinAnswer}
+use Rattle.at_run.specs.Answers.{IfFound, IsFilePart, IsFileAnswer, IsJoinAnswer, IsJoinFault, TheFilesFaults, IsTheJoinFault}
 
 -- the least count of blocks that serves is one
 pub one_least_count : (blocks m n : ℕ) → IsLeastCount blocks m → IsLeastCount blocks n → m ≡ n
@@ -126,3 +128,11 @@ module _ (form_a form_b : Form) (digits : ℕ) (how : Coords) (query : Query) (f
 
   pub join_or_second_fault : (a : Answer) (f : Fault) → IsJoinAnswer form_a form_b digits how query first second a → HasFileFaultIn form_b digits how second (Some f) → ⊥
   join_or_second_fault a f h k = none-some f (one_file_fault_in form_b digits how second None (Some f) h.second_faultless k)
+
+  -- and what a join answers is all that can be said of the files' first faults
+  pub only_join_fault : (r : Result Answer JoinFault) → MatchResult r (IsJoinAnswer form_a form_b digits how query first second) (IsJoinFault form_a form_b digits how first second)
+      → MatchResult r (λ _. TheFilesFaults form_a form_b digits how first second None None) (IsTheJoinFault form_a form_b digits how first second)
+  only_join_fault (Ok answer) h = (the_file_fault_in form_a digits how first None h.first_faultless, the_file_fault_in form_b digits how second None h.second_faultless)
+  only_join_fault (Err (joins.First fault)) h = the_file_fault_in form_a digits how first (Some fault) h
+  only_join_fault (Err (joins.Second fault)) h = (the_file_fault_in form_a digits how first None h.0, the_file_fault_in form_b digits how second (Some fault) h.1)
+  only_join_fault (Err joins.Memory) h = tt

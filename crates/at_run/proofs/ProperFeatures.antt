@@ -8,16 +8,18 @@ use Rattle.at_text.specs.declared.faults.Fault.{Fault}
 use Rattle.at_text.specs.declared.faults.FaultKind.TheVariants.{Ring}
 use Rattle.at_text.specs.Faults.{comes_first, first_fault, first_of, fault_at}
 use Rattle.at_text.specs.Texts.{base_of, utf8_fault}
+use Rattle.at_text.specs.Separated.{placed}
 use Rattle.at_fixed.specs.declared.rounding.Coords.{Coords}
 use Rattle.at_geom.specs.declared.shapes.Polygon.{Polygon}
+use Rattle.at_geom.specs.Closed.{last_of, IsClosed}
 use Rattle.at_geom.specs.Shapes.{ring_fault, IsShapeInRange}
 use Rattle.at_geom.proofs.ClosedRings.{same_position}
-use Rattle.at_wkt.specs.Positions.{Position, Positions, position_faults, is_faultless, are_same, is_closed, items_faults, faults_of_ring, pos_of, path_of, last_of}
+use Rattle.at_wkt.specs.Positions.{Position, Positions, position_faults, is_faultless, are_same, is_closed, items_faults, faults_of_ring, pos_of, path_of}
 use Rattle.at_wkt.specs.Geometry.{Geometry, point, line_string, polygon, multi_point, multi_line_string, multi_polygon, collection, Geometries, no_geometries, geometry_and}
 use Rattle.at_wkt.specs.Meaning.{polygons_of, faults_of_area, shape_of, shape_of_all, faults_of, faults_of_all}
-use Rattle.at_wkt.specs.Lines.{FileLine, placed, pieces_from, is_line_feed, line_of, is_blank_text, lines_of}
+use Rattle.at_wkt.specs.Lines.{FileLine, pieces_from, is_line_feed, line_of, is_blank_text, lines_of}
 use Rattle.at_query.specs.declared.features.Feature.{Feature}
-use Rattle.at_query.specs.Parts.{last_of as last_pos, IsClosed, AreRingsClosed, AreRising, IsProperFeature, AreProperFeatures}
+use Rattle.at_query.specs.Parts.{AreRingsClosed, AreRising, IsProperFeature, AreProperFeatures}
 use Rattle.at_run.specs.Features.{IsLineFeature, AreLineFeatures, AreFileFeatures}
 use Rattle.at_run.specs.LineFaults.{HasFaults, HaveFaults, HasLinesFaultBehind, HasLinesFault}
 use Rattle.at_run.proofs.LabelledLines.{one_labelled}
@@ -70,7 +72,7 @@ module _ (digits : ℕ) (how : Coords) where
   last_faultless p [] e h = e
   last_faultless p (q ∷ rest) e h = let (a, b) = empties (position_faults digits how q) (items_faults digits how rest) h in last_faultless q rest a b
 
-  last_of_path : (p : Position) (rest : List Position) → last_pos (pos_of digits how p) (map (pos_of digits how) rest) ≡ pos_of digits how (last_of p rest)
+  last_of_path : (p : Position) (rest : List Position) → last_of (pos_of digits how p) (map (pos_of digits how) rest) ≡ pos_of digits how (last_of p rest)
   last_of_path p [] = refl
   last_of_path p (q ∷ rest) = last_of_path q rest
 

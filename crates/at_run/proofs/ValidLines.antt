@@ -6,7 +6,8 @@ use Rattle.std.specs.Str.{IsUtf8}
 use Rattle.std.proofs.lemmas.Str.{IsUtf8-nil, IsUtf8-append, IsUtf8-take, IsUtf8-drop, IsCharBoundary-before_ascii, IsCharBoundary-after_ascii, IsCharBoundary-from_take}
 use Rattle.std.proofs.lemmas.Slice.Eq.{bytes_eq-Decides}
 use Rattle.at_text.specs.Texts.{utf8_fault, base_of, byte_order_mark}
-use Rattle.at_wkt.specs.Lines.{FileLine, placed, pieces_from, is_line_feed, without_return, line_of, is_blank_text, lines_in, lines_of}
+use Rattle.at_text.specs.Separated.{placed}
+use Rattle.at_wkt.specs.Lines.{FileLine, pieces_from, is_line_feed, without_return, line_of, is_blank_text, lines_in, lines_of}
 use Rattle.at_wkt.proofs.LineMerges.{base_within}
 use Rattle.at_run.specs.Gathering.{AreValid}
 use Rattle.at_run.proofs.AsciiLines.{feed_ascii, return_byte, blank_text_valid, byte_valid}

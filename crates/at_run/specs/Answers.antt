@@ -1,5 +1,5 @@
 -- The answer to a query over a file, or to a join over two, and why there is none. Nothing here knows of blocks.
-use Rattle.std.specs.Prelude.{ℕ, List, Some, None}
+use Rattle.std.specs.Prelude.{ℕ, List, Option, Some, None}
 use Rattle.at_text.specs.declared.faults.Fault.{Fault}
 use Rattle.at_fixed.specs.declared.rounding.Coords.{Coords}
 use Rattle.at_query.specs.declared.query.queries.Query.{Query}
@@ -13,7 +13,7 @@ use Rattle.at_run.specs.declared.faults.RunFault.TheVariants.{Found, Memory}
 use Rattle.at_run.specs.declared.faults.JoinFault.{JoinFault}
 use Rattle.at_run.specs.declared.faults.JoinFault.TheVariants.{First, Second, Memory as NoMemory}
 use Rattle.at_run.specs.declared.forms.Form.{Form}
-use Rattle.at_run.specs.Files.{HasFileFaultIn, AreFileFeaturesIn}
+use Rattle.at_run.specs.Files.{HasFileFaultIn, TheFileFaultIn, AreFileFeaturesIn}
 
 -- a fact of the fault that was found; want of memory has no cause in the file
 abbrev pub IfFound : RunFault → (Fault → Type 0) → Type 0
@@ -58,3 +58,13 @@ module _ (form_a form_b : Form) (digits : ℕ) (how : Coords) where
   IsJoinFault a b (First fault) = HasFileFaultIn form_a digits how a (Some fault)
   IsJoinFault a b (Second fault) = SecondFails a b fault
   IsJoinFault a b NoMemory = Unit {0}
+
+  -- no other fault is the first of either file
+  abbrev pub TheFilesFaults : List ℕ → List ℕ → Option Fault → Option Fault → Type 0
+  TheFilesFaults a b first second = TheFileFaultIn form_a digits how a first × TheFileFaultIn form_b digits how b second
+
+  -- the fault is the only one that is the first of the file that it is of, and the file before it has none
+  abbrev pub IsTheJoinFault : List ℕ → List ℕ → JoinFault → Type 0
+  IsTheJoinFault a b (First fault) = TheFileFaultIn form_a digits how a (Some fault)
+  IsTheJoinFault a b (Second fault) = TheFilesFaults a b None (Some fault)
+  IsTheJoinFault a b NoMemory = Unit {0}

@@ -57,9 +57,9 @@ pub fn part<G: Gate, R: Threads + Sync>(
 
 /// The answer to a query over a file's features, or the file's first fault.
 ///
-/// The bytes are read in the blocks that the cuts make of them, each by itself, by so many passes at once. No clause
-/// says anything of the cuts but that they cover the file's text, of the passes but that there are 1 to 64, or of an
-/// order of steps: whatever they are, the answer is that of the whole bytes.
+/// The cuts say in which blocks the bytes are read, and there are so many passes to read them. No clause says anything
+/// of the cuts but that they cover the file's text, of the passes but that there are 1 to 64, or of an order of steps:
+/// whatever they are, the answer is that of the whole bytes.
 ///
 /// # Errors
 /// `Found` is the file's first fault, exactly where it has one: that of its encoding, or else the first of all others

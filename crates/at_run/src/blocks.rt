@@ -28,8 +28,8 @@ fn run_block<P: Pieces>(
     reader.run_piece(alloc, &bytes[from as usize..to as usize], from)
 }
 
-/// The fragment of all bytes from the first place to the last: the blocks are run in order, each by itself, and merged
-/// from left to right.
+/// The fragment of all bytes from the first place to the last, without threads: in the code the blocks are run in
+/// order, and merged from left to right.
 pub fn run_blocks<P: Pieces>(alloc: Global, reader: &P, bytes: &[u8], places: &[u32]) -> P::Fragment
     requires short { length bytes.now ≤ 2 ^ 28 }
     requires order { IsNonDecreasing places.now }

@@ -86,10 +86,11 @@ impl<'a, P: Pieces, G: Gate> Job for FileJob<'a, P, G> {
     }
 }
 
-/// The fragment of all bytes from the first place to the last, read by so many passes at once.
+/// The fragment of all bytes from the first place to the last. The blocks are the job of a crew of so many passes; no
+/// clause says which pass reads what, in which order, or that it enters the gate.
 ///
 /// # Errors
-/// `Memory` where the gate gives up a block, and where the crew finds no room.
+/// `Memory` wherever the gate gives up a block, and else for want of memory.
 pub fn run_file<P: Pieces, G: Gate, R: Threads + Sync>(
     rt: &R,
     alloc: Global,

@@ -1,13 +1,13 @@
 //! The answer to a join over two files.
 
-ghost use Rattle.std.specs.Prelude.{◌≡◌, ◌-◌, ◌<◌, ◌≤◌, ◌^◌, [], length, MatchResult, Some, Err, IfOk};
+ghost use Rattle.std.specs.Prelude.{◌≡◌, ◌-◌, ◌<◌, ◌≤◌, ◌^◌, [], length, MatchResult, Some, None, Err, IfOk};
 ghost use Rattle.at_text.specs.Texts.{base_of as text_begin};
 ghost use Rattle.at_query.specs.Ranges.{IsQueryInRange};
 ghost use Rattle.at_query.specs.Parts.{AreProper};
 ghost use Rattle.at_run.specs.Places.{first_place, last_place};
 ghost use Rattle.at_run.specs.Blocks.{NoneGivenUp};
 ghost use Rattle.at_run.specs.Files.{HasFileFaultIn};
-ghost use Rattle.at_run.specs.Answers.{IfFound, IsFilePart, IsJoinAnswer, IsJoinFault};
+ghost use Rattle.at_run.specs.Answers.{IfFound, IsFilePart, IsJoinAnswer, IsJoinFault, TheFilesFaults, IsTheJoinFault};
 ghost use Rattle.at_run.specs.Joins.{PairsWith, EndsSecond};
 
 use crate::answers::part;
@@ -77,7 +77,8 @@ fn entries<G: Gate, R: Threads + Sync>(
 
 /// The answer to a join of entries with those of a second file, or why the second file has none.
 ///
-/// The 64 cells of a grid over both are searched, by so many passes at once, and the gate is entered with each cell.
+/// It searches the 64 cells of a grid over both, and there are so many passes to do it; no clause says which of them
+/// searches what, or that it enters the gate.
 ///
 /// # Errors
 /// `Second` is the second file's fault, exactly where it has one. `Memory` comes where an allocation was refused, and
@@ -111,9 +112,10 @@ pub fn join_with<G: Gate, R: Threads + Sync>(
 /// The answer to a join over the features of two files, or the first fault of the first file that has one.
 ///
 /// The query's tests are of the features of `a`: those of which all tests hold are joined with all features of `b`.
-/// Each file is read in the blocks that its cuts make of it, and then the 64 cells of a grid over both are searched, by
-/// so many passes at once; the gate is entered with each block of `a`, each of `b`, and each cell. Whatever the cuts,
-/// the passes and the order of their steps are, the answer is that of the whole bytes.
+/// The cuts say in which blocks each file is read, and there are so many passes to read them, and to search the 64
+/// cells of a grid over both. No clause says anything of the cuts but that they cover the files' texts, of the passes
+/// but that there are 1 to 64, of an order of steps, or of entering the gate: whatever they are, the answer is that of
+/// the whole bytes.
 ///
 /// # Errors
 /// `First` comes exactly where `a` has a fault, and `Second` exactly where `a` has none and `b` has one, each with the
@@ -145,6 +147,8 @@ pub fn answer_join<G: Gate, R: Threads + Sync>(
     requires workers { (0 < workers) × (workers ≤ 64) }
     ensures answer { MatchResult result (IsJoinAnswer form_a form_b digits how query.now a.now b.now)
         (IsJoinFault form_a form_b digits how a.now b.now) }
+    ensures only { MatchResult result (λ _. TheFilesFaults form_a form_b digits how a.now b.now None None)
+        (IsTheJoinFault form_a form_b digits how a.now b.now) }
     ensures gate_a { IfOk result (λ _. NoneGivenUp (G.given_up gate.now) 0 (length cuts_a.now - 1)) }
     ensures gate_b { IfOk result (λ _. NoneGivenUp (G.given_up gate.now) 0 (length cuts_b.now - 1)) }
     ensures gate_cells { IfOk result (λ _. NoneGivenUp (G.given_up gate.now) 0 64) }

@@ -31,7 +31,7 @@ use Rattle.at_geojson.specs.Wholes.{faults_of, IsAnswer}
 use Rattle.at_run.specs.declared.gathered.Gathered.{Gathered}
 use Rattle.at_run.specs.declared.gathered.Gathered.TheVariants.{Kept, Failed}
 use Rattle.at_run.specs.Gathering.{AreJoinable, IsJoinOf}
-use Rattle.at_seq.specs.Records.{Piece}
+use Rattle.at_text.specs.Separated.{Piece}
 use Rattle.at_seq.specs.Sequences.{HasRecordFaults, HaveRecordFaults, AreRecordFeatures}
 use Rattle.at_seq.specs.Gathering.{IsFirstOfRecords, IsGathered, AddsRecords, IsRootKept, IsEndKept}
 

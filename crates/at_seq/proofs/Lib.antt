@@ -1,4 +1,3 @@
-pub mod Splits
 pub mod PieceRecords
 pub mod Gathers
 pub mod Merges

@@ -4,6 +4,7 @@ use Rattle.std.proofs.Common.{◌≡◌, ℕ, ◌+◌, ◌-◌, ◌<◌, ◌≤�
 use Rattle.std.specs.List.{position_or_len}
 use Rattle.at_text.specs.Spans.{span_of, AreNeighbours, IsMerged}
 use Rattle.at_text.specs.declared.texts.Span.{Span}
+use Rattle.at_text.proofs.Separated.{glued, glued_end}
 use Rattle.at_nest.specs.FragmentMeanings.{StandsFor}
 use Rattle.at_nest.specs.declared.fragments.Fragment.{Fragment}
 use Rattle.at_geojson.specs.declared.asked.GeoAlgebra.{GeoAlgebra}
@@ -14,7 +15,8 @@ use Rattle.at_run.specs.declared.gathered.Gathered.{Gathered}
 use Rattle.at_run.specs.Encodings.{IsValidIn}
 use Rattle.at_run.specs.Gathering.{AreJoinable, IsJoinOf}
 use Rattle.at_wkt.proofs.LineMerges.{length-span_of}
-use Rattle.at_seq.specs.Records.{Piece, is_separator, records_in}
+use Rattle.at_text.specs.Separated.{Piece}
+use Rattle.at_seq.specs.Records.{is_separator, records_in}
 use Rattle.at_seq.specs.Gathering.{IsGathered, AddsRecords}
 use Rattle.at_seq.specs.declared.fragments.PartedText.{PartedText}
 use Rattle.at_seq.specs.declared.fragments.SeqText.{SeqText}
@@ -23,7 +25,6 @@ use Rattle.at_seq.specs.declared.fragments.SeqRead.{SeqRead}
 use Rattle.at_seq.specs.declared.fragments.SeqFragment.{SeqFragment}
 use Rattle.at_seq.specs.declared.fragments.SeqFragment.TheVariants.{Read}
 use Rattle.at_seq.specs.Fragments.{SeqAsks, piece_in, pieces_in, AreBeside, IsOfBoth, HoldsJson, HoldsParted, HoldsText, HoldsSpan, HoldsFragment, HoldsInner, StandsInFile}
-use Rattle.at_seq.proofs.Splits.{glued, glued_end}
 use Rattle.at_seq.proofs.PieceRecords.{records_in-append, records_around, pieces_both, piece_both, pieces_ahead, pieces_alone}
 use Rattle.at_seq.proofs.Gathers.{gathered_joinable, gathered_joined}
 

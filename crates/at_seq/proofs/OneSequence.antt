@@ -13,7 +13,8 @@ use Rattle.at_geojson.specs.Roles.{features_of}
 use Rattle.at_geojson.specs.Wholes.{faults_of}
 use Rattle.at_seq.specs.declared.ends.SeqEnd.{SeqEnd}
 use Rattle.at_seq.specs.declared.ends.SeqEnd.TheVariants.{Found, Memory}
-use Rattle.at_seq.specs.Records.{Piece, pieces_of, records_of}
+use Rattle.at_text.specs.Separated.{Piece}
+use Rattle.at_seq.specs.Records.{pieces_of, records_of}
 use Rattle.at_seq.specs.Sequences.{head_faults, HasRecordFaults, HaveRecordFaults, HasSeqFaultBehind, HasSeqFault, TheSeqFault, AreRecordFeatures, AreSeqFeatures}
 use Rattle.at_query.specs.declared.answer.parts.Part.{Part}
 use Rattle.at_geojson.specs.Keeping.{Asked}

@@ -6,13 +6,14 @@ use Rattle.std.proofs.Math.Seq.{take-append_seam, drop-append_seam}
 use Rattle.std.proofs.lemmas.List.Elements.{filter-append}
 use Rattle.at_text.specs.Spans.{span_of}
 use Rattle.at_text.specs.Texts.{is_space}
+use Rattle.at_text.proofs.Separated.{glued, pieces_joined, pieces_first, pieces_last}
 use Rattle.at_lex.specs.Fronts.{IsFront}
 use Rattle.at_lex.specs.Spans.{AreSpaces}
 use Rattle.at_lex.proofs.FrontLemmas.{front_all}
 use Rattle.at_wkt.proofs.LineMerges.{span_of-joined, length-span_of}
-use Rattle.at_seq.specs.Records.{Piece, pieces_from, is_separator, are_spaces, records_in}
+use Rattle.at_text.specs.Separated.{Piece}
+use Rattle.at_seq.specs.Records.{pieces_from, is_separator, are_spaces, records_in}
 use Rattle.at_seq.specs.Fragments.{piece_in, pieces_in}
-use Rattle.at_seq.proofs.Splits.{glued, pieces_joined, pieces_first, pieces_last}
 
 -- ---- records
 
@@ -65,7 +66,7 @@ module _ (bytes : List ℕ) where
   -- the pieces of two neighbouring spans
   pub pieces_both : (i j k : ℕ) → i ≤ j → j ≤ k → k ≤ length bytes → pieces_in bytes i k ≡ glued (pieces_in bytes i j) (pieces_in bytes j k)
   pieces_both i j k h g l =
-      ap (pieces_from i) (span_of-joined bytes i j k h g) ∙ (pieces_joined (span_of bytes j k) i (span_of bytes i j)
+      ap (pieces_from i) (span_of-joined bytes i j k h g) ∙ (pieces_joined is_separator i (span_of bytes i j) (span_of bytes j k)
       ∙ ap (λ n. glued (pieces_in bytes i j) (pieces_from n (span_of bytes j k))) (length-span_of bytes i j h (omega (arith, g, l))))
 
   -- two neighbouring parts as one piece
@@ -91,7 +92,7 @@ module _ (bytes : List ℕ) where
   pieces_ahead i k p h l e inside =
       let size : i + length (span_of bytes i k) ≡ k = length-span_of bytes i k h l in
       let place : i + (p + 1) ≡ i + p + 1 = omega arith in
-      pieces_first i (span_of bytes i k) p e (omega (arith, size, inside))
+      pieces_first is_separator i (span_of bytes i k) p e (omega (arith, size, inside))
       ∙ (ap (λ z. record { at = i; text = z } ∷ pieces_from (i + p + 1) (drop (p + 1) (span_of bytes i k))) (part_front i p k (omega (arith, inside)) l)
       ∙ ap (λ z. piece_in bytes i (i + p) ∷ pieces_from (i + p + 1) z) (part_rest i (p + 1) k (omega (arith, inside)) l ∙ ap (λ n. span_of bytes n k) place))
 
@@ -99,4 +100,4 @@ module _ (bytes : List ℕ) where
   pub pieces_alone : (i k p : ℕ) → i ≤ k → k ≤ length bytes → p ≡ position_or_len is_separator (span_of bytes i k) → i + p ≡ k → pieces_in bytes i k ≡ piece_in bytes i k ∷ []
   pieces_alone i k p h l e ends =
       let size : i + length (span_of bytes i k) ≡ k = length-span_of bytes i k h l in
-      pieces_last i (span_of bytes i k) (sym e ∙ omega (arith, size, ends))
+      pieces_last is_separator i (span_of bytes i k) (sym e ∙ omega (arith, size, ends))

@@ -23,7 +23,8 @@ use Rattle.at_geojson.specs.Roles.{features_of}
 use Rattle.at_geojson.specs.Wholes.{faults_of}
 use Rattle.at_run.proofs.ProperFeatures.{empties, not_empty, no_first, at_of}
 use Rattle.at_run.proofs.JsonFeatures.{Climbs, climbs_rise, climbs_wider, climbs_on, text_climbs, text_features_proper}
-use Rattle.at_seq.specs.Records.{Piece, placed, are_spaces, is_separator, pieces_of, records_in}
+use Rattle.at_text.specs.Separated.{Piece, placed}
+use Rattle.at_seq.specs.Records.{are_spaces, is_separator, pieces_of, records_in}
 use Rattle.at_seq.proofs.PieceRecords.{records_in-append, no_record, one_record}
 use Rattle.at_seq.specs.Sequences.{head_faults, HasRecordFaults, HaveRecordFaults, HasSeqFaultBehind, HasSeqFault, AreRecordFeatures, AreSeqFeatures}
 use Rattle.at_geojson.specs.Keeping.{Asked}

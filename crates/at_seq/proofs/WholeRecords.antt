@@ -17,7 +17,8 @@ use Rattle.at_lex.specs.Runs.{Literal, the_null, the_true, the_false, literal_te
 use Rattle.at_lex.specs.Spans.{AreSpaces}
 use Rattle.at_nest.specs.Tree.{Tree, literal, number, text, array, object, Trees, no_trees, tree_and, Members, no_members, member_and, Padded, After, IsEnd, Spells, SpellsItems, SpellsFurtherItems, SpellsName, SpellsMembers, SpellsFurtherMembers, IsTextOf}
 use Rattle.at_nest.specs.Syntax.{JsonText}
-use Rattle.at_seq.specs.Records.{placed, pieces_from, is_separator}
+use Rattle.at_text.specs.Separated.{placed}
+use Rattle.at_seq.specs.Records.{pieces_from, is_separator}
 use Rattle.at_join.proofs.Extents.{four_true}
 
 -- none of the bytes is RS

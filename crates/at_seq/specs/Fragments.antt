@@ -16,7 +16,8 @@ use Rattle.at_seq.specs.declared.fragments.SeqText.TheVariants.{Lone, Parted}
 use Rattle.at_seq.specs.declared.fragments.SeqRead.{SeqRead}
 use Rattle.at_seq.specs.declared.fragments.SeqFragment.{SeqFragment}
 use Rattle.at_seq.specs.declared.fragments.SeqFragment.TheVariants.{Lost, Read}
-use Rattle.at_seq.specs.Records.{Piece, pieces_from, records_in}
+use Rattle.at_text.specs.Separated.{Piece}
+use Rattle.at_seq.specs.Records.{pieces_from, records_in}
 use Rattle.at_seq.specs.Gathering.{IsGathered}
 
 -- a query with how numbers are read, and the bytes of the file of which it is asked

@@ -19,7 +19,7 @@ use Rattle.at_geojson.specs.declared.root.RootEnd.TheVariants as roots
 use Rattle.at_geojson.specs.Keeping.{Asked}
 use Rattle.at_run.specs.declared.gathered.Gathered.{Gathered}
 use Rattle.at_run.specs.declared.gathered.Gathered.TheVariants.{Kept, Failed}
-use Rattle.at_seq.specs.Records.{Piece}
+use Rattle.at_text.specs.Separated.{Piece}
 use Rattle.at_seq.specs.Sequences.{HaveRecordFaults, AreRecordFeatures}
 
 -- the first fault of the records, or none

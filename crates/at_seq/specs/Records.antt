@@ -1,17 +1,8 @@
 -- The records of a GeoJSON text sequence (RFC 8142 section 2), each at its offset in the file.
-use Rattle.std.specs.Prelude.{ℕ, ◌+◌, ◌==◌, not, Bool, List, [], ◌∷◌, length, drop, filter}
-use Rattle.std.specs.List.{list_all, slice_split}
+use Rattle.std.specs.Prelude.{ℕ, ◌==◌, not, Bool, List, drop, filter}
+use Rattle.std.specs.List.{list_all}
 use Rattle.at_text.specs.Texts.{base_of, is_space}
-
--- bytes of a file, and the offset of the first of them
-pub record Piece : Type 0 where
-  pub at : ℕ
-  pub text : List ℕ
-
--- the pieces with their offsets, where one byte stands behind each but the last
-abbrev pub placed : ℕ → List (List ℕ) → List Piece
-placed at [] = []
-placed at (text ∷ rest) = record { at = at; text = text } ∷ placed (at + length text + 1) rest
+use Rattle.at_text.specs.Separated.{Piece, separated_by}
 
 -- the record separator, which stands before each record
 abbrev pub is_separator : ℕ → Bool
@@ -19,7 +10,7 @@ is_separator b = b == 0x1E
 
 -- the pieces between the separators of bytes that begin at the offset; there is at least one
 abbrev pub pieces_from : ℕ → List ℕ → List Piece
-pieces_from at bytes = placed at (slice_split is_separator bytes)
+pieces_from at bytes = separated_by is_separator at bytes
 
 -- the pieces of a file; a byte order mark stands before the first
 abbrev pub pieces_of : List ℕ → List Piece

@@ -11,7 +11,8 @@ use Rattle.at_nest.specs.Syntax.{JsonText}
 use Rattle.at_query.specs.declared.features.Feature.{Feature}
 use Rattle.at_geojson.specs.Roles.{features_of}
 use Rattle.at_geojson.specs.Wholes.{faults_of}
-use Rattle.at_seq.specs.Records.{Piece, pieces_of, records_of}
+use Rattle.at_text.specs.Separated.{Piece}
+use Rattle.at_seq.specs.Records.{pieces_of, records_of}
 
 -- Syntax at the first byte that is no white space, where there is one; the first byte has the offset
 abbrev pub stray_faults : ℕ → List ℕ → List Fault

@@ -1,6 +1,7 @@
 //! What is kept of records: the part of their features, or their first fault.
 
 ghost use Rattle.std.specs.Prelude.{◌≡◌, ℕ, ◌+◌, ◌≤◌, ◌<◌, ◌^◌, List, [], ◌∷◌, length, Ok, IfOk, IfSome};
+ghost use Rattle.at_text.specs.Separated.{Piece};
 ghost use Rattle.at_text.specs.Spans.{span_of};
 ghost use Rattle.at_text.specs.Texts.{is_space};
 ghost use Rattle.at_lex.specs.Fronts.{IsFront};
@@ -8,7 +9,7 @@ ghost use Rattle.at_nest.specs.TextAnswers.{Answers};
 ghost use Rattle.at_nest.specs.FragmentMeanings.{StandsFor};
 ghost use Rattle.at_geojson.specs.Atoms.{IsGeoAtom};
 ghost use Rattle.at_query.specs.Parts.{IsProper};
-ghost use Rattle.at_seq.specs.Records.{Piece, records_in};
+ghost use Rattle.at_seq.specs.Records.{records_in};
 ghost use Rattle.at_seq.specs.Gathering.{IsGathered, AddsRecords, IsRootKept, IsEndKept};
 
 use crate::searches::spaces_len;

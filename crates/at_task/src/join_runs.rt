@@ -40,8 +40,8 @@ fn joined<G: Gate, R: Threads + Sync>(
 }
 
 /// The answer to a join over all bytes of two feeds, or why there is none. It polls them until both are done, and blocks
-/// where they are pending. Then the 64 cells of a grid over both are searched, by so many passes at once, and the gate
-/// is entered with each cell.
+/// where they are pending. Then it searches the 64 cells of a grid over both, and there are so many passes to do it; no
+/// clause says which of them searches what, or that it enters the gate.
 ///
 /// # Errors
 /// `FirstTooLarge` and `SecondTooLarge` come only where more than 2^28 bytes came of that feed, and one of them wherever

@@ -2,4 +2,12 @@
 #![tactic(auto)]
 
 #[cfg(test)]
+mod asking;
+#[cfg(test)]
+mod poll_tests;
+#[cfg(test)]
+mod source_tests;
+#[cfg(test)]
 mod tests;
+#[cfg(test)]
+mod way_tests;

@@ -1,80 +1,14 @@
-//! Files that come in chunks of every size, and sources that are pending.
+//! Files that come in chunks, and sources that are pending.
 
-ghost use Rattle.std.specs.Prelude.{◌≡◌, ◌≢◌, ◌≤◌, [], false, IfOk};
-ghost use Rattle.at_query.specs.Ranges.{IsQueryInRange};
-ghost use Rattle.at_task.specs.Feeds.{asks_of, has_given};
-
-use at_crew::Free;
+use crate::asking::{ONE, asked, told};
 use at_fixed::Coords;
-use at_query::{Query, Tests, Verb, answer_text};
-use at_run::{Form, of_all};
-use at_task::{Feed, FeedEnd, JoinFeed, PairEnd, Sliced, run_feed, run_join_feed};
-use at_text::Memory;
+use at_query::{Verb, answer_text};
+use at_run::Form;
+use at_task::{Feed, Sliced, run_feed};
 use std::alloc::{AllocError, AllocGlobal, Global};
 use std::random::RandomSource;
 use std::sync::Wait;
 use std::test::Fail;
-use std::thread::Threads;
-
-/// A query without tests.
-fn asked(alloc: Global, verb: Verb) -> Query
-    ensures in_range { IsQueryInRange result }
-    ensures verb { result.verb ≡ verb }
-{
-    Query {
-        verb,
-        tests: Tests::from_vec(Vec::new(alloc)),
-    }
-}
-
-/// A copy of the bytes.
-fn copied(alloc: Global, bytes: &[u8]) -> Result<Vec<u8>, AllocError> {
-    let mut copy = Vec::new(alloc);
-    copy.extend_from_slice(bytes)?;
-    Ok(copy)
-}
-
-/// Where calls are pending: the numbers listed.
-fn listed(alloc: Global, numbers: &[u32]) -> Result<Vec<u32>, AllocError> {
-    let mut copy = Vec::new(alloc);
-    copy.extend_from_slice(numbers)?;
-    Ok(copy)
-}
-
-/// What a file is found to be that comes in chunks of that size: the printed answer, or why there is none.
-fn told<R: Wait + RandomSource + AllocGlobal>(
-    rt: &R,
-    bytes: &[u8],
-    form: Form,
-    query: Query,
-    size: u32,
-    waits: &[u32],
-    turn: u32,
-) -> Result<String, Fail>
-    requires in_range { IsQueryInRange query }
-    requires no_join { query.verb ≢ Verb.Join }
-{
-    if size == 0 || turn == 0 {
-        return Err(Fail::from("no such size or turn"));
-    }
-    let alloc = rt.alloc();
-    let source = Sliced::new(copied(alloc, bytes)?, size, listed(alloc, waits)?);
-    let feed = Feed::new(alloc, source, form, query, 7, Coords::Round, turn)?;
-    match run_feed(rt, feed) {
-        Ok(answer) => Ok(answer_text(alloc, &answer, 7)?),
-        Err(FeedEnd::Found(fault)) => {
-            let kind = fault.kind;
-            let at = fault.at;
-            Ok(format!(in alloc; "{kind:?} {at}")?)
-        }
-        Err(FeedEnd::TooLarge) => Err(Fail::from("too large")),
-        Err(FeedEnd::Memory) => Err(Fail::from("out of memory")),
-    }
-}
-
-/// A collection of one feature, of 94 bytes, whose feature stands at 40.
-const ONE: &str =
-    r#"{"type":"FeatureCollection","features":[{"type":"Feature","geometry":null,"properties":null}]}"#;
 
 /// Files, how they begin, and what is found of them: a size, whether they are WKT, the bytes, and the text.
 const ROWS: [(u32, bool, &[u8], &str); 9] = [
@@ -173,73 +107,6 @@ fn many_pieces(rt: HostRuntime) -> Result<(), Fail> {
         16,
     )?;
     assert!(rt; found.as_str() == "200000\n");
-    Ok(())
-}
-
-/// A feed that asks for all features, to join them.
-fn all_of(
-    alloc: Global,
-    bytes: &[u8],
-    form: Form,
-    size: u32,
-    waits: &[u32],
-) -> Result<Feed<Sliced>, Memory>
-    requires size { 1 ≤ size }
-    ensures join { IfOk result (λ f. (asks_of f).query.verb ≡ Verb.Join) }
-    ensures all { IfOk result (λ f. (asks_of f).query.tests ≡ []) }
-    ensures new { IfOk result (λ f. has_given f ≡ false) }
-{
-    let source = Sliced::new(copied(alloc, bytes)?, size, listed(alloc, waits)?);
-    let query = of_all(alloc);
-    Feed::new(alloc, source, form, query, 7, Coords::Round, 1)
-}
-
-/// What the join of a file of lines and one of GeoJSON is found to be: the printed pairs, or why there are none.
-fn joined_told<R: Threads + Sync + Wait + RandomSource + AllocGlobal>(
-    rt: &R,
-    lines: &[u8],
-    json: &[u8],
-    size: u32,
-    waits: &[u32],
-) -> Result<String, Fail>
-    requires size { 1 ≤ size }
-{
-    let alloc = rt.alloc();
-    let first = all_of(alloc, lines, Form::Wkt, size, &[])?;
-    let second = all_of(alloc, json, Form::GeoJson, size, waits)?;
-    match run_join_feed(rt, alloc, JoinFeed::new(first, second), 2, &Free) {
-        Ok(answer) => Ok(answer_text(alloc, &answer, 7)?),
-        Err(PairEnd::First(fault)) => {
-            let kind = fault.kind;
-            let at = fault.at;
-            Ok(format!(in alloc; "first {kind:?} {at}")?)
-        }
-        Err(PairEnd::Second(fault)) => {
-            let kind = fault.kind;
-            let at = fault.at;
-            Ok(format!(in alloc; "second {kind:?} {at}")?)
-        }
-        Err(PairEnd::FirstTooLarge) => Err(Fail::from("first too large")),
-        Err(PairEnd::SecondTooLarge) => Err(Fail::from("second too large")),
-        Err(PairEnd::Memory) => Err(Fail::from("out of memory")),
-    }
-}
-
-/// Two squares.
-const SQUARES: &[u8] = b"POLYGON ((0 0,2 0,2 2,0 2,0 0))\nPOLYGON ((1 1,3 1,3 3,1 3,1 1))\n";
-
-/// A point in both, as GeoJSON.
-const POINT: &[u8] =
-    br#"{"type":"Feature","geometry":{"type":"Point","coordinates":[1.5,1.5]},"properties":null}"#;
-
-#[test]
-fn joins_of_two(rt: HostRuntime) -> Result<(), Fail> {
-    assert!(rt; joined_told(&rt, SQUARES, POINT, 5, &[])?.as_str() == "0 0\n32 0\n");
-    let waits = [0, 1, 2, 3, 4, 5, 6, 7, 8, 9];
-    assert!(rt; joined_told(&rt, SQUARES, POINT, 9, &waits)?.as_str() == "0 0\n32 0\n");
-    assert!(rt; joined_told(&rt, b"POINT (x)", POINT, 1, &[])?.as_str() == "first Syntax 7");
-    assert!(rt; joined_told(&rt, b"", b"{1", 4, &[])?.as_str() == "second Syntax 1");
-    assert!(rt; joined_told(&rt, b"POINT (x)", b"{1", 4, &[])?.as_str() == "first Syntax 7");
     Ok(())
 }
 

@@ -8,14 +8,15 @@ use Rattle.std.proofs.lemmas.List.Elements.{filter-append}
 use Rattle.at_text.specs.declared.texts.Span.{Span}
 use Rattle.at_text.specs.Texts.{base_of, byte_order_mark}
 use Rattle.at_text.specs.Spans.{span_of, AreNeighbours}
+use Rattle.at_text.proofs.Separated.{pieces_joined, glued, glued_end, pieces_first, pieces_last}
 use Rattle.at_wkt.specs.Lines.{FileLine, pieces_from, is_line_feed, line_of, is_blank_text, lines_in}
 use Rattle.at_wkt.specs.declared.file.fragments.WholeLines.{WholeLines}
 use Rattle.at_wkt.specs.declared.file.fragments.Inner.{Inner}
 use Rattle.at_wkt.specs.declared.file.fragments.LineFragment.{LineFragment}
 use Rattle.at_wkt.specs.declared.file.fragments.LineFragment.TheVariants.{Piece, Lines}
 use Rattle.at_wkt.specs.Folding.{IsSpanOf, OwnFold, AddsLines, HoldsPiece, HoldsLines, HoldsInner, StandsFor}
-use Rattle.at_wkt.proofs.Pieces.{pieces_first, pieces_last, left_is}
-use Rattle.at_wkt.proofs.LinePieces.{pieces_joined, glued, glued_end, first_begins, last_ends, IsPieceOf, piece_of}
+use Rattle.at_wkt.proofs.Pieces.{left_is}
+use Rattle.at_wkt.proofs.LinePieces.{first_begins, last_ends, IsPieceOf, piece_of}
 
 -- ---- the lines of pieces
 
@@ -78,7 +79,7 @@ part_more bytes i k h = sym (take-append-drop (k - i) (drop i bytes))
 -- the pieces of both parts
 pub pieces_both : (bytes : List ℕ) (i j k : ℕ) → i ≤ j → j ≤ k → k ≤ length bytes → pieces_from i (span_of bytes i k) ≡ glued (pieces_from i (span_of bytes i j)) (pieces_from j (span_of bytes j k))
 pieces_both bytes i j k h g l =
-    ap (pieces_from i) (span_of-joined bytes i j k h g) ∙ (pieces_joined i (span_of bytes i j) (span_of bytes j k)
+    ap (pieces_from i) (span_of-joined bytes i j k h g) ∙ (pieces_joined is_line_feed i (span_of bytes i j) (span_of bytes j k)
     ∙ ap (λ n. glued (pieces_from i (span_of bytes i j)) (pieces_from n (span_of bytes j k))) (length-span_of bytes i j h (omega arith)))
 
 -- where the text begins is in the bytes
@@ -262,7 +263,7 @@ module _ {P : Type 0} (IsOwn : P → Type 0) (IsFold : P → List FileLine → T
         let width : p ≡ start + p - start = omega arith in
         let place : at + start + p + 1 ≡ at + (start + p + 1) = omega arith in
         let further : drop (p + 1) (drop start bytes) ≡ drop (start + p + 1) bytes = drop-drop (p + 1) start bytes ∙ ap (λ n. drop n bytes) (omega arith) in
-        pieces_first (at + start) (drop start bytes) p first_left short
+        pieces_first is_line_feed (at + start) (drop start bytes) p first_left short
         ∙ (ap (λ n. record { at = at + start; text = take p (drop start bytes) } ∷ pieces_from n (drop (p + 1) (drop start bytes))) place
         ∙ (ap (λ z. record { at = at + start; text = take p (drop start bytes) } ∷ pieces_from (at + (start + p + 1)) z) further
         ∙ (ap (λ n. record { at = at + start; text = take n (drop start bytes) } ∷ pieces_from (at + (start + p + 1)) (drop (start + p + 1) bytes)) width
@@ -282,7 +283,7 @@ module _ {P : Type 0} (IsOwn : P → Type 0) (IsFold : P → List FileLine → T
     pub folded_all : start + p ≡ length bytes → HoldsInner (OwnFold IsOwn IsFold) at bytes (record { part = part; end = start })
     folded_all ends = record {
       inner = h.inner;
-      pieces = h.split ∙ ap (λ z. h.inner ++ z) (pieces_last (at + start) (drop start bytes) (sym first_left ∙ omega (arith, length-drop start bytes, h.within)));
+      pieces = h.split ∙ ap (λ z. h.inner ++ z) (pieces_last is_line_feed (at + start) (drop start bytes) (sym first_left ∙ omega (arith, length-drop start bytes, h.within)));
       kept = h.kept;
       within = h.within;
     }
@@ -299,11 +300,11 @@ module _ {P : Type 0} (IsOwn : P → Type 0) (IsFold : P → List FileLine → T
         first = record { at = base; text = take first piece };
         inner = g.inner;
         last = record { at = base + first + 1 + read.end; text = drop read.end (drop (first + 1) piece) };
-        pieces = pieces_first base piece first e inside ∙ ap (λ z. record { at = base; text = take first piece } ∷ z) g.pieces;
+        pieces = pieces_first is_line_feed base piece first e inside ∙ ap (λ z. record { at = base; text = take first piece } ∷ z) g.pieces;
         before = (bf, bt ∙ ap (λ n. base + n) (omega (arith, length-take first piece)));
         kept = g.kept;
         behind = (df, dt ∙ omega (arith, length-drop read.end (drop (first + 1) piece), length-drop (first + 1) piece, g.within));
       }
 
   pub piece_read : (base : ℕ) (piece : List ℕ) (first : ℕ) (span : Span) → first ≡ position_or_len is_line_feed piece → first ≡ length piece → span.from ≡ base → span.to ≡ base + first → HoldsPiece base piece span
-  piece_read base piece first span e ends bf bt = (pieces_last base piece (sym e ∙ ends), (bf, bt ∙ ap (λ n. base + n) ends))
+  piece_read base piece first span e ends bf bt = (pieces_last is_line_feed base piece (sym e ∙ ends), (bf, bt ∙ ap (λ n. base + n) ends))

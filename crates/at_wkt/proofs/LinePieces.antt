@@ -1,101 +1,23 @@
--- The pieces of bytes between their line feeds: where each stands, where the last one ends, and those of joined bytes.
+-- The pieces of bytes between their line feeds: where each stands, and where the last one ends.
 -- For `merge_lines` and `finish_lines`.
 use Rattle.std.proofs.Common.{◌≡◌, ℕ, ◌+◌, ◌==◌, Bool, true, false, ◌||◌, if◌then◌else◌, List, [], ◌∷◌, ◌++◌, length, refl, sym, ◌∙◌, ap, subst, arith}
-use Rattle.std.specs.List.{slice_split, onto_first, list_any, AllByRecursion}
-use Rattle.std.proofs.lemmas.List.Splits.{slice_split-cons_yes, slice_split-cons_no}
-use Rattle.at_wkt.specs.Lines.{FileLine, placed, pieces_from, is_line_feed, without_return}
-
--- ---- one more byte in front
-
--- the byte, at the offset, before the first piece
-abbrev widened : ℕ → ℕ → List FileLine → List FileLine
-widened at b [] = []
-widened at b (p ∷ ps) = record { at = at; text = b ∷ p.text } ∷ ps
-
-some_step : (b : ℕ) (v : List ℕ) (test : Bool) → is_line_feed b ≡ test → (t : List ℕ) × (ts : List (List ℕ)) × (slice_split is_line_feed v ≡ t ∷ ts) → (t : List ℕ) × (ts : List (List ℕ)) × (slice_split is_line_feed (b ∷ v) ≡ t ∷ ts)
-some_step b v true e h = ([], slice_split is_line_feed v, slice_split-cons_yes is_line_feed b v e)
-some_step b v false e (t, ts, f) = (b ∷ t, ts, slice_split-cons_no is_line_feed b v e ∙ ap (onto_first b) f)
-
-split_some : (v : List ℕ) → (t : List ℕ) × (ts : List (List ℕ)) × (slice_split is_line_feed v ≡ t ∷ ts)
-split_some [] = ([], [], refl)
-split_some (b ∷ v) = some_step b v (is_line_feed b) refl (split_some v)
-
--- there is a first piece
-pub pieces_some : (at : ℕ) (v : List ℕ) → (t : List ℕ) × (ps : List FileLine) × (pieces_from at v ≡ record { at = at; text = t } ∷ ps)
-pieces_some at v = let (t, ts, e) = split_some v in (t, placed (at + length t + 1) ts, ap (placed at) e)
-
-pieces_feed : (at b : ℕ) (v : List ℕ) → is_line_feed b ≡ true → pieces_from at (b ∷ v) ≡ record { at = at; text = [] } ∷ pieces_from (at + 1) v
-pieces_feed at b v h =
-    let e : at + 0 + 1 ≡ at + 1 = omega arith in
-    ap (placed at) (slice_split-cons_yes is_line_feed b v h) ∙ ap (λ n. record { at = at; text = [] } ∷ placed n (slice_split is_line_feed v)) e
-
-pieces_other : (at b : ℕ) (v : List ℕ) → is_line_feed b ≡ false → pieces_from at (b ∷ v) ≡ widened at b (pieces_from (at + 1) v)
-pieces_other at b v h =
-    let (t, ts, e) = split_some v in
-    let further : at + length (b ∷ t) + 1 ≡ at + 1 + length t + 1 = omega arith in
-    ap (placed at) (slice_split-cons_no is_line_feed b v h ∙ ap (onto_first b) e)
-    ∙ (ap (λ n. record { at = at; text = b ∷ t } ∷ placed n ts) further ∙ sym (ap (λ z. widened at b (placed (at + 1) z)) e))
+use Rattle.std.specs.List.{list_any, AllByRecursion}
+use Rattle.at_text.proofs.Separated.{widened, pieces_some, pieces_parted, pieces_other}
+use Rattle.at_wkt.specs.Lines.{FileLine, pieces_from, is_line_feed, without_return}
 
 -- what holds of bytes and their pieces, byte by byte from the end on
 module _ (P : ℕ → List ℕ → List FileLine → Type 0) (none : (at : ℕ) → P at [] (record { at = at; text = [] } ∷ []))
     (feed : (at b : ℕ) (v : List ℕ) → is_line_feed b ≡ true → P (at + 1) v (pieces_from (at + 1) v) → P at (b ∷ v) (record { at = at; text = [] } ∷ pieces_from (at + 1) v))
     (other : (at b : ℕ) (v t : List ℕ) (ps : List FileLine) → is_line_feed b ≡ false → pieces_from (at + 1) v ≡ record { at = at + 1; text = t } ∷ ps → P (at + 1) v (record { at = at + 1; text = t } ∷ ps) → P at (b ∷ v) (record { at = at; text = b ∷ t } ∷ ps)) where
   pieces_step : (at b : ℕ) (v : List ℕ) (test : Bool) → is_line_feed b ≡ test → P (at + 1) v (pieces_from (at + 1) v) → P at (b ∷ v) (pieces_from at (b ∷ v))
-  pieces_step at b v true e h = subst (λ (z : List FileLine). P at (b ∷ v) z) (sym (pieces_feed at b v e)) (feed at b v e h)
+  pieces_step at b v true e h = subst (λ (z : List FileLine). P at (b ∷ v) z) (sym (pieces_parted is_line_feed at b v e)) (feed at b v e h)
   pieces_step at b v false e h =
-      let (t, ps, f) = pieces_some (at + 1) v in
-      subst (λ (z : List FileLine). P at (b ∷ v) z) (sym (pieces_other at b v e ∙ ap (widened at b) f)) (other at b v t ps e f (subst (λ (z : List FileLine). P (at + 1) v z) f h))
+      let (t, ps, f) = pieces_some is_line_feed (at + 1) v in
+      subst (λ (z : List FileLine). P at (b ∷ v) z) (sym (pieces_other is_line_feed at b v e ∙ ap (widened at b) f)) (other at b v t ps e f (subst (λ (z : List FileLine). P (at + 1) v z) f h))
 
   pieces_all : (at : ℕ) (v : List ℕ) → P at v (pieces_from at v)
   pieces_all at [] = none at
   pieces_all at (b ∷ v) = pieces_step at b v (is_line_feed b) refl (pieces_all (at + 1) v)
-
--- ---- joined bytes
-
--- the last piece of the one and the first of the other are one
-abbrev pub glued : List FileLine → List FileLine → List FileLine
-glued [] qs = qs
-glued (p ∷ []) [] = p ∷ []
-glued (p ∷ []) (q ∷ qs) = record { at = p.at; text = p.text ++ q.text } ∷ qs
-glued (p ∷ r ∷ ps) qs = p ∷ glued (r ∷ ps) qs
-
-glued_behind : (p : FileLine) (ps qs : List FileLine) (r : FileLine) (rs : List FileLine) → ps ≡ r ∷ rs → glued (p ∷ ps) qs ≡ p ∷ glued ps qs
-glued_behind p ps qs r rs e = let P : List FileLine → Type 0 = λ z. glued (p ∷ z) qs ≡ p ∷ glued z qs in subst P (sym e) refl
-
-widened_glued : (at b i : ℕ) (t : List ℕ) (ps qs : List FileLine) → widened at b (glued (record { at = i; text = t } ∷ ps) qs) ≡ glued (record { at = at; text = b ∷ t } ∷ ps) qs
-widened_glued at b i t [] [] = refl
-widened_glued at b i t [] (q ∷ qs) = refl
-widened_glued at b i t (r ∷ ps) qs = refl
-
-abbrev IsGlued : ℕ → List ℕ → List FileLine → Type 0
-IsGlued at v ps = (w : List ℕ) → pieces_from at (v ++ w) ≡ glued ps (pieces_from (at + length v) w)
-
-glued_none : (at : ℕ) → IsGlued at [] (record { at = at; text = [] } ∷ [])
-glued_none at w =
-    let (t, qs, e) = pieces_some at w in
-    let here : at ≡ at + 0 = omega arith in
-    e ∙ sym (ap (λ n. glued (record { at = at; text = [] } ∷ []) (pieces_from n w)) (sym here) ∙ ap (glued (record { at = at; text = [] } ∷ [])) e)
-
-glued_feed : (at b : ℕ) (v : List ℕ) → is_line_feed b ≡ true → IsGlued (at + 1) v (pieces_from (at + 1) v) → IsGlued at (b ∷ v) (record { at = at; text = [] } ∷ pieces_from (at + 1) v)
-glued_feed at b v e h w =
-    let (t, ps, f) = pieces_some (at + 1) v in
-    let further : at + 1 + length v ≡ at + length (b ∷ v) = omega arith in
-    pieces_feed at b (v ++ w) e ∙ (ap (λ z. record { at = at; text = [] } ∷ z) (h w ∙ ap (λ n. glued (pieces_from (at + 1) v) (pieces_from n w)) further)
-    ∙ sym (glued_behind (record { at = at; text = [] }) (pieces_from (at + 1) v) (pieces_from (at + length (b ∷ v)) w) (record { at = at + 1; text = t }) ps f))
-
-glued_other : (at b : ℕ) (v t : List ℕ) (ps : List FileLine) → is_line_feed b ≡ false → pieces_from (at + 1) v ≡ record { at = at + 1; text = t } ∷ ps → IsGlued (at + 1) v (record { at = at + 1; text = t } ∷ ps) → IsGlued at (b ∷ v) (record { at = at; text = b ∷ t } ∷ ps)
-glued_other at b v t ps e f h w =
-    let further : at + 1 + length v ≡ at + length (b ∷ v) = omega arith in
-    pieces_other at b (v ++ w) e ∙ (ap (widened at b) (h w ∙ ap (λ n. glued (record { at = at + 1; text = t } ∷ ps) (pieces_from n w)) further)
-    ∙ widened_glued at b (at + 1) t ps (pieces_from (at + length (b ∷ v)) w))
-
-pub pieces_joined : (at : ℕ) (v w : List ℕ) → pieces_from at (v ++ w) ≡ glued (pieces_from at v) (pieces_from (at + length v) w)
-pieces_joined at v w = pieces_all IsGlued glued_none glued_feed glued_other at v w
-
-pub glued_end : (ps : List FileLine) (l q : FileLine) (qs : List FileLine) → glued (ps ++ (l ∷ [])) (q ∷ qs) ≡ ps ++ (record { at = l.at; text = l.text ++ q.text } ∷ qs)
-glued_end [] l q qs = refl
-glued_end (p ∷ []) l q qs = refl
-glued_end (p ∷ r ∷ ps) l q qs = ap (λ z. p ∷ z) (glued_end (r ∷ ps) l q qs)
 
 -- ---- the first and the last piece
 
@@ -105,7 +27,7 @@ first_at (p ∷ ps) = p.at
 
 pub first_begins : (at : ℕ) (v : List ℕ) (p : FileLine) (ps : List FileLine) → pieces_from at v ≡ p ∷ ps → p.at ≡ at
 unfolding first_at
-first_begins at v p ps h = let (t, qs, e) = pieces_some at v in ap first_at (sym h ∙ e)
+first_begins at v p ps h = let (t, qs, e) = pieces_some is_line_feed at v in ap first_at (sym h ∙ e)
 
 abbrev last_end : List FileLine → ℕ
 last_end [] = 0
@@ -122,7 +44,7 @@ EndsAll at v ps = last_end ps ≡ at + length v
 
 ends_feed : (at b : ℕ) (v : List ℕ) → is_line_feed b ≡ true → EndsAll (at + 1) v (pieces_from (at + 1) v) → EndsAll at (b ∷ v) (record { at = at; text = [] } ∷ pieces_from (at + 1) v)
 ends_feed at b v e h =
-    let (t, ps, f) = pieces_some (at + 1) v in
+    let (t, ps, f) = pieces_some is_line_feed (at + 1) v in
     let further : at + 1 + length v ≡ at + length (b ∷ v) = omega arith in
     ap (λ z. last_end (record { at = at; text = [] } ∷ z)) f ∙ (sym (ap last_end f) ∙ (h ∙ further))
 

@@ -7,6 +7,7 @@ use Rattle.std.proofs.lemmas.Grind.{flat_map-append}
 use Rattle.at_text.specs.declared.faults.Fault.{Fault}
 use Rattle.at_text.specs.Faults.{first_fault, first_of, comes_first}
 use Rattle.at_geom.specs.declared.positions.Pos.{Pos}
+use Rattle.at_geom.specs.Closed.{last_of}
 use Rattle.at_wkt.specs.declared.line.dimension.Dimension.{Dimension}
 use Rattle.at_wkt.specs.declared.line.sources.Rules.{Rules}
 use Rattle.at_wkt.specs.declared.line.positions.PositionRead.{PositionRead}
@@ -16,7 +17,7 @@ use Rattle.at_wkt.specs.declared.line.parts.Read.{Read}
 use Rattle.at_wkt.specs.declared.line.paths.Role.{Role}
 use Rattle.at_wkt.specs.declared.line.paths.Role.TheVariants.{Line, Ring}
 use Rattle.at_wkt.specs.declared.line.parts.ItemRead.{ItemRead}
-use Rattle.at_wkt.specs.Positions.{Position, Positions, pos_of, position_faults, items_faults, last_of, is_faultless, is_closed}
+use Rattle.at_wkt.specs.Positions.{Position, Positions, pos_of, position_faults, items_faults, is_faultless, is_closed}
 use Rattle.at_wkt.specs.Geometry.{SpellsPosition, SpellsRing}
 use Rattle.at_wkt.specs.Readers.{PartStands, next, Spelt, Stuck, Item, Items, ItemsRead, HasCount, PositionStands, PositionsSoFar, ends_same, PositionsStand, ItemsSoFar, ItemStands, Grows, PathStands, fault_of_path, faults_of_path}
 use Rattle.at_wkt.proofs.ListSteps.{ItemLives, items_start, items_more, items_stuck, items_end, position_lives, ring_leads}

@@ -1,25 +1,20 @@
 -- The lines of a file.
-use Rattle.std.specs.Prelude.{ℕ, ◌+◌, ◌==◌, not, Bool, if◌then◌else◌, List, [], ◌∷◌, length, drop, filter, map}
-use Rattle.std.specs.List.{list_all, slice_split}
+use Rattle.std.specs.Prelude.{ℕ, ◌==◌, not, Bool, if◌then◌else◌, List, [], ◌∷◌, drop, filter, map}
+use Rattle.std.specs.List.{list_all}
 use Rattle.at_text.specs.Texts.{base_of}
+use Rattle.at_text.specs.Separated.{Piece, separated_by}
 use Rattle.at_wkt.specs.Geometry.{is_blank}
 
 -- a line without its end, and the offset of its first byte
-pub record FileLine : Type 0 where
-  pub at : ℕ
-  pub text : List ℕ
-
--- the pieces with their offsets, where one byte stands behind each but the last
-abbrev pub placed : ℕ → List (List ℕ) → List FileLine
-placed at [] = []
-placed at (text ∷ rest) = record { at = at; text = text } ∷ placed (at + length text + 1) rest
+abbrev pub FileLine : Type 0
+FileLine = Piece
 
 abbrev pub is_line_feed : ℕ → Bool
 is_line_feed b = b == 0x0A
 
 -- the pieces between the line feeds of bytes that begin at the offset, the last one included
 abbrev pub pieces_from : ℕ → List ℕ → List FileLine
-pieces_from at bytes = placed at (slice_split is_line_feed bytes)
+pieces_from at bytes = separated_by is_line_feed at bytes
 
 -- one carriage return at the end of a piece belongs to the line's end
 abbrev pub without_return : List ℕ → List ℕ

@@ -11,6 +11,7 @@ use Rattle.at_fixed.specs.declared.rounding.FixedFault.TheVariants.{Scale, Range
 use Rattle.at_fixed.specs.Numerals.{Numeral}
 use Rattle.at_fixed.specs.Fixed.{fixed_of}
 use Rattle.at_geom.specs.declared.positions.Pos.{Pos}
+use Rattle.at_geom.specs.Closed.{last_of}
 use Rattle.at_geom.specs.Shapes.{line_fault, ring_fault}
 
 -- the two numbers that are used of a position, with their offsets
@@ -24,11 +25,6 @@ pub record Position : Type 0 where
 pub record Positions : Type 0 where
   pub at : ℕ
   pub items : List Position
-
--- the last of a position and those behind it
-abbrev pub last_of : Position → List Position → Position
-last_of p [] = p
-last_of p (q ∷ rest) = last_of q rest
 
 -- why a number at the offset has no value
 abbrev pub fault_of : FixedFault → ℕ → Fault

@@ -11,6 +11,7 @@ use Rattle.at_text.specs.Prefix.{LongestViable}
 use Rattle.at_text.specs.Parts.{Many, Exactly, ◌▸◌}
 use Rattle.at_fixed.specs.NumberSoFar.{between}
 use Rattle.at_fixed.specs.Numerals.{Numeral, IsWktNumeral, numeral_text, WktNumber}
+use Rattle.at_geom.specs.Closed.{last_of}
 use Rattle.at_wkt.specs.declared.line.kinds.Kind.{Kind}
 use Rattle.at_wkt.specs.declared.line.kinds.Kind.TheVariants.{Point, LineString, Polygon, MultiPoint, MultiLineString}
 use Rattle.at_wkt.specs.declared.line.kinds.Kind.TheVariants.{MultiPolygon, GeometryCollection}
@@ -42,7 +43,7 @@ use Rattle.at_wkt.specs.declared.line.geometries.Progress.{Progress}
 use Rattle.at_text.specs.Faults.{first_of, first_fault}
 use Rattle.at_fixed.specs.declared.rounding.Coords.{Coords}
 use Rattle.at_wkt.specs.Positions.{Position, Positions, value_of, number_fault, pos_of, position_faults, path_of}
-use Rattle.at_wkt.specs.Positions.{items_faults, is_closed, last_of, faults_of_line, faults_of_ring}
+use Rattle.at_wkt.specs.Positions.{items_faults, is_closed, faults_of_line, faults_of_ring}
 use Rattle.at_geom.specs.declared.shapes.Shape.{Shape}
 use Rattle.at_wkt.specs.Meaning.{both, empty_shape, shape_of, shape_of_all, faults_of, faults_of_all}
 use Rattle.at_wkt.specs.Geometry.{Geometry, point, line_string, polygon, multi_point, multi_line_string, multi_polygon}

@@ -156,9 +156,10 @@ fn entries_as<G: Gate, R: Threads + Sync>(
 /// that has one. Each of the three forms is joined with each, where `answer_join` of at_run knows two.
 ///
 /// The query's tests are of the features of `a`: those of which all tests hold are joined with all features of `b`.
-/// Coordinates are whole multiples of 10^-digits. The blocks of each file are read, and then the 64 cells of a grid
-/// over both are searched, by so many passes at once; the gate is entered with each block of `a`, each of `b`, and each
-/// cell.
+/// Coordinates are whole multiples of 10^-digits. The cuts say in which blocks each file is read, and there are so many
+/// passes to read them, and to search the 64 cells of a grid over both. No clause says anything of the cuts but that
+/// they cover the files' texts, of the passes but that there are 1 to 64, of an order of steps, or of entering the
+/// gate.
 ///
 /// # Errors
 /// `First` comes where `a` has a fault, and `Second` where `a` has none and `b` has one, each with the first of them.

@@ -1,9 +1,10 @@
-//! The outcome: files are read, an end is decided, and the end is told.
+//! The outcome: files are loaded, a query over them is answered, and the end of that is told.
 
-pub mod deciding;
+pub mod answering;
 pub mod ending;
 pub mod feeding;
 pub mod files;
+pub mod loading;
 pub mod reading;
 pub mod run;
 pub mod telling;

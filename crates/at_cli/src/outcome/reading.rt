@@ -1,6 +1,6 @@
 //! The bytes of a file that the words name.
 
-ghost use Rattle.std.specs.Prelude.{◌≡◌, ◌+◌, ◌<◌, ◌≤◌, ◌^◌, ℕ, List, true, false, length, Some, IsSome, IfSome, IfOk};
+ghost use Rattle.std.specs.Prelude.{◌≡◌, ◌⊎◌, ◌+◌, ◌<◌, ◌≤◌, ◌^◌, ℕ, List, true, false, length, Some, IsSome, IfSome, IfOk};
 ghost use Rattle.std.specs.Prelude.{IfErr, IsErrOf};
 ghost use Rattle.at_io.specs.Counts.{Rose};
 ghost use Rattle.at_cli.specs.Values.{IsFileName};
@@ -19,6 +19,7 @@ fn shelf_bytes<S: Shelf>(alloc: Global, shelf: &mut S, name: &str) -> Result<Vec
     ensures size { IfOk result (λ bytes. length bytes.items ≤ 2 ^ 28) }
     ensures failed { IsErrOf result ReadError.Failed → Rose (S.faults shelf.old) (S.faults shelf.new)
         × (S.broken shelf.new ≡ S.begins shelf.new) }
+    ensures unbroken { IsErrOf result ReadError.Failed ⊎ (S.broken shelf.new ≡ S.broken shelf.old) }
     ensures taken { IsErrOf result ReadError.TooLarge → S.taken shelf.old + (2 ^ 28 + 1) ≤ S.taken shelf.new }
     ensures large { IsErrOf result ReadError.TooLarge
         → IfSome (S.files shelf.old) (λ told. (bytes : List ℕ) × HasBytes told name.now bytes
@@ -70,6 +71,7 @@ pub fn named_bytes<S: Shelf>(alloc: Global, shelf: &mut S, name: &str) -> Result
     ensures size { IfOk result (λ bytes. length bytes.items ≤ 2 ^ 28) }
     ensures failed { IsErrOf result ReadError.Failed → (made name.now ≡ false)
         × Rose (S.faults shelf.old) (S.faults shelf.new) × (S.broken shelf.new ≡ S.begins shelf.new) }
+    ensures unbroken { IsErrOf result ReadError.Failed ⊎ (S.broken shelf.new ≡ S.broken shelf.old) }
     ensures taken { IsErrOf result ReadError.TooLarge → S.taken shelf.old + (2 ^ 28 + 1) ≤ S.taken shelf.new }
     ensures large { IsErrOf result ReadError.TooLarge
         → IfSome (S.files shelf.old) (λ told. (bytes : List ℕ) × HasBytes told name.now bytes

@@ -4,18 +4,18 @@ ghost use Rattle.std.specs.Prelude.{◌≡◌, ◌≢◌, ◌⊎◌, ◌+◌, �
 ghost use Rattle.std.specs.Prelude.{string_bytes};
 ghost use Rattle.at_cli.specs.Gates.{PassesSaid};
 ghost use Rattle.at_cli.specs.Texts.{write_line, memory_line};
-ghost use Rattle.at_cli.specs.Outcomes.{Outcome, stopped, answered, HasOutcome, TheOutcome};
+ghost use Rattle.at_cli.specs.Outcomes.{Outcome, stopped, answered, TheOutcome};
 ghost use Rattle.at_cli.specs.Outcomes.{SayNoLine, AreRefused};
 ghost use Rattle.at_cli.specs.Outcomes.{AreAccepted};
 ghost use Rattle.at_cli.specs.Failures.{ShelfAsksFor, ShelfFailedOn, asked_names};
-ghost use Rattle.at_cli.specs.Endings.{status_of, text_of, line_of, Ends};
+ghost use Rattle.at_cli.specs.Endings.{status_of, text_of, line_of};
 ghost use Rattle.at_cli.specs.declared.words.line.Line.{Line};
 ghost use Rattle.at_cli.specs.Telling.{WasTold, HasGrown, HasGrownByPrefix, HasFailed};
 
-use crate::outcome::deciding::end_of_line;
+use crate::outcome::answering::{end_in_blocks, end_in_chunks};
 use crate::outcome::ending::Ending;
+use crate::outcome::loading::{chunk_size, load};
 use crate::outcome::telling::{put_pieces, tell_line, tell_write_failed};
-use crate::words::line::{WordsEnd, read_words};
 use at_crew::Gate;
 use at_io::{Shelf, Sink};
 use std::alloc::{AllocGlobal, Global};
@@ -23,45 +23,12 @@ use std::random::RandomSource;
 use std::sync::Wait;
 use std::thread::Threads;
 
-/// The end over the words and the shelf, with its cause.
-fn decide<S: Shelf, G: Gate, R: Threads + Sync + Wait + RandomSource + AllocGlobal>(
-    rt: &R,
-    alloc: Global,
-    words: &[String],
-    shelf: &mut S,
-    gate: &G,
-) -> Ending
-    ensures outcome { Ends (HasOutcome (map string_bytes words.now)) (S.files shelf.old) result }
-    ensures refused { status_of result ≡ 2
-        → AreRefused (map string_bytes words.now) (line_of result) }
-    ensures refuses { (refusal : List ℕ) → AreRefused (map string_bytes words.now) refusal
-        → (status_of result ≡ 2)
-        ⊎ (status_of result ≡ 5) }
-    ensures usage { SayNoLine (map string_bytes words.now) → status_of result ≡ 2 }
-    ensures untouched { status_of result ≡ 2 → shelf.new ≡ shelf.old }
-    ensures failed { status_of result ≡ 3 → (line : Line)
-        × AreAccepted (map string_bytes words.now) line
-        × ShelfFailedOn S.Shelf (asked_names line) (line_of result) shelf.old shelf.new }
-    ensures large { status_of result ≡ 6 → S.taken shelf.old + (2 ^ 28 + 1) ≤ S.taken shelf.new }
-    ensures asked { (shelf.new ≡ shelf.old)
-        ⊎ ((line : Line) × AreAccepted (map string_bytes words.now) line
-        × ShelfAsksFor S.Shelf (asked_names line) shelf.old shelf.new) }
-    ensures same_files { S.files shelf.new ≡ S.files shelf.old }
-    ensures passes { status_of result ≡ 0
-        → PassesSaid (G.given_up gate.now) (map string_bytes words.now) }
-{
-    match read_words(alloc, words) {
-        Ok(line) => end_of_line(rt, alloc, line, shelf, gate),
-        Err(WordsEnd::Refused) => Ending::Usage,
-        Err(WordsEnd::Memory) => Ending::NoMemory,
-    }
-}
-
 /// Writes what the end says, and answers the status.
 fn tell<O: Sink, E: Sink>(ending: &Ending, out: &mut O, err: &mut E) -> u8
     ensures status { (result ≡ status_of ending.now) ⊎ ((result ≡ 4) × (status_of ending.now ≡ 0)) }
     ensures answered { result ≡ 0 → HasGrown O.Sink out.old out.new (text_of ending.now)
         × (err.new ≡ err.old) }
+    ensures unfailed { result ≡ 0 → O.faults out.new ≡ O.faults out.old }
     ensures empty { result ≡ 0 → text_of ending.now ≡ [] → out.new ≡ out.old }
     ensures write_failed { result ≡ 4 → HasFailed O.Sink out.old out.new
         × HasGrownByPrefix O.Sink out.old out.new (text_of ending.now)
@@ -81,13 +48,13 @@ fn tell<O: Sink, E: Sink>(ending: &Ending, out: &mut O, err: &mut E) -> u8
 }
 
 /// Runs the program over the words behind its name: reads what they ask for from the shelf, writes
-/// the answer to `out` or one line to `err`, and answers the status. The blocks of the file are run
-/// by as many passes as the words ask for, each of which enters the gate with a block before it
-/// runs it; no clause knows of an order of their steps. Where the words ask for chunks, a future
-/// takes the file's bytes in these instead, and no block is run.
+/// the answer to `out` or one line to `err`, and answers the status. The words say in how many
+/// blocks a file is read, and by how many passes, or in chunks of how many bytes; no clause asks
+/// more of them than whether they are spelled rightly, knows of an order of steps, or says what is
+/// done with the gate but for what is given up.
 ///
 /// What is said below holds where the call returns. It may wait only where the words ask for
-/// chunks: no call that is made otherwise takes `Wait` to wait by.
+/// chunks: otherwise no call that it makes takes `Wait`.
 ///
 /// | Status | Comes |
 /// |---|---|
@@ -111,14 +78,17 @@ pub fn top<
 >(rt: &R, alloc: Global, words: &[String], shelf: &mut S, out: &mut O, err: &mut E, gate: &G) -> u8
     ensures status { result ≤ 6 }
 
-    // 0: the answer of the words and the files is written, and nothing else.
+    // 0: the answer of the words and the files is written, and nothing else; no put failed.
     ensures answered { result ≡ 0 → (text : List ℕ) × HasGrown O.Sink out.old out.new text
         × (err.new ≡ err.old) × (text ≡ [] → out.new ≡ out.old)
         × IfSome (S.files shelf.old)
         (λ told. TheOutcome (map string_bytes words.now) told (answered text)) }
 
-    // 0: the gate gave up no cell of a join, and, where files are read in blocks, no block of theirs.
-    ensures passes { result ≡ 0 → PassesSaid (G.given_up gate.now) (map string_bytes words.now) }
+    ensures unfailed { result ≡ 0 → O.faults out.new ≡ O.faults out.old }
+
+    // 0 and 4: the gate gave up no cell of a join, and, where files are read in blocks, no block of theirs.
+    ensures passes { ((result ≡ 0) ⊎ (result ≡ 4))
+        → PassesSaid (G.given_up gate.now) (map string_bytes words.now) }
 
     // 1 and 6: the line of the words and the files is told.
     ensures stopped { ((result ≡ 1) ⊎ (result ≡ 6)) → (line : List ℕ)
@@ -139,10 +109,11 @@ pub fn top<
     ensures usage { SayNoLine (map string_bytes words.now) → result ≡ 2 }
 
     // 3: only where the shelf failed on a file that the words name, in its turn; the line told is
-    // that of its name.
+    // that of its name. No other status hides that a call on the shelf failed.
     ensures read_failed { result ≡ 3 → (line : Line) × AreAccepted (map string_bytes words.now) line
         × ((told : List ℕ) × ShelfFailedOn S.Shelf (asked_names line) told shelf.old shelf.new
         × WasTold E.Sink err.old err.new told) }
+    ensures unbroken { (result ≡ 3) ⊎ (S.broken shelf.new ≡ S.broken shelf.old) }
 
     // 4: only where the output failed on the answer, of which a prefix is written.
     ensures write_failed { result ≡ 4 → (text : List ℕ) × HasFailed O.Sink out.old out.new
@@ -168,6 +139,10 @@ pub fn top<
         × TheOutcome (map string_bytes words.now) told outcome
         × (result ≡ outcome.status)))) }
 {
-    let ending = decide(rt, alloc, words, shelf, gate);
+    let loaded = load(alloc, words, shelf);
+    let ending = match chunk_size(&loaded) {
+        None => end_in_blocks(rt, alloc, loaded, gate),
+        Some(size) => end_in_chunks(rt, alloc, loaded, size, gate),
+    };
     tell(&ending, out, err)
 }

@@ -32,6 +32,7 @@ fn put_parts<E: Sink>(err: &mut E, parts: &[&str])
 /// is no put.
 pub fn put_pieces<O: Sink>(out: &mut O, text: &[u8]) -> Result<(), Failed>
     ensures ok { OnOk result (HasGrown O.Sink out.old out.new text.now) }
+    ensures unfailed { OnOk result (O.faults out.new ≡ O.faults out.old) }
     ensures failed { OnErr result (HasFailed O.Sink out.old out.new) }
     ensures kept { OnErr result (HasGrownByPrefix O.Sink out.old out.new text.now) }
     ensures empty { text.now ≡ [] → out.new ≡ out.old }

@@ -3,7 +3,7 @@ use Rattle.std.proofs.lemmas.List.Elements.{All-append}
 use Rattle.at_geom.specs.Segments.{IsInRange}
 use Rattle.at_hull.specs.Hulls.{IsHull}
 use Rattle.at_hull.proofs.Laws.{hull_of_hull, hull_elements}
-use Rattle.at_hull.proofs.Sorts.{all_of_each, each_of_all}
+use Rattle.at_hull.proofs.Members.{all_of_fewer}
 use Rattle.at_hull.proofs.hulls.hull_of_both.Goals as goal
 
 pub returns-clause-own : goal.returns-clause-own
@@ -15,4 +15,4 @@ pub returns-clause-in_range : goal.returns-clause-in_range
 returns-clause-in_range c =
     let h : IsHull (c.args.first.now ++ c.args.second.now) c.into_vec.result.items = search rules in
     let all = All-append IsInRange c.args.first.now c.args.second.now c.requires.first_in_range c.requires.second_in_range in
-    all_of_each IsInRange c.into_vec.result.items (λ p m. each_of_all IsInRange (c.args.first.now ++ c.args.second.now) p all (hull_elements _ _ h p m))
+    all_of_fewer IsInRange c.into_vec.result.items (c.args.first.now ++ c.args.second.now) (hull_elements _ _ h) all

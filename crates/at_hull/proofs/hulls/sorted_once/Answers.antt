@@ -5,7 +5,8 @@ use Rattle.std.proofs.lemmas.List.Sorted.{answers_always}
 use Rattle.at_geom.specs.declared.positions.Pos.{Pos}
 use Rattle.at_geom.specs.Segments.{IsInRange}
 use Rattle.at_hull.specs.Hulls.{IsAscending, HasSame}
-use Rattle.at_hull.proofs.Sorts.{IsSortedUp, is_same, is_test, ascending_once, same_moved, all_of_each, each_of_all}
+use Rattle.at_hull.proofs.Members.{all_of_fewer}
+use Rattle.at_hull.proofs.Sorts.{IsSortedUp, is_same, is_test, ascending_once, same_moved}
 use Rattle.at_hull.proofs.hulls.sorted_once.Goals as goal
 
 abbrev key_of : Pos → ℤ × ℤ
@@ -27,4 +28,4 @@ returns-clause-same c =
 pub returns-clause-in_range : goal.returns-clause-in_range
 returns-clause-in_range c =
     let same : HasSame c.dedup.new.self.items c.args.points.now = returns-clause-same c in
-    all_of_each IsInRange c.dedup.new.self.items (λ p m. each_of_all IsInRange c.args.points.now p c.requires (same.0 p m))
+    all_of_fewer IsInRange c.dedup.new.self.items c.args.points.now same.0 c.requires

@@ -1,8 +1,9 @@
 use Rattle.std.proofs.Common.{List, All, length, get_or, pos, ◌<◌, ◌≤◌, subst}
 use Rattle.std.proofs.lemmas.List.{take_all}
+use Rattle.std.proofs.lemmas.List.Elements.{All-more}
 use Rattle.at_geom.specs.declared.positions.Pos.{Pos}
 use Rattle.at_hull.specs.Within.{IsWithin}
-use Rattle.at_hull.proofs.Insides.{covered, all_more}
+use Rattle.at_hull.proofs.Insides.{covered}
 use Rattle.at_hull.proofs.inside.covers_all.Goals as goal
 
 -- read past the end
@@ -15,7 +16,7 @@ loop-p-preserved c =
     let seen : List Pos = c.as_slice-p-items.result.now in
     let it = subst (λ (h : List Pos). IsWithin h (get_or seen c.loop-p.p-index none)) c.as_slice.ensures (c.is_within.ensures c.if-not-is_within.false) in
     let one = subst (λ (xs : List Pos). c.loop-p.p-index < length xs × IsWithin hull (get_or xs c.loop-p.p-index none)) c.as_slice-p-items.ensures (c.loop-p-test.true, it) in
-    all_more (IsWithin hull) c.args.others.now c.loop-p.p-index none one.0 c.loop-p.invariant one.1
+    All-more (IsWithin hull) c.args.others.now c.loop-p.p-index none one.0 c.loop-p.invariant one.1
 
 pub returns : goal.returns
 returns c = λ _.

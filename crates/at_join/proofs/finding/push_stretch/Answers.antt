@@ -2,7 +2,7 @@ use Rattle.std.proofs.Common.{◌≡◌, ℕ, ◌+◌, ◌<◌, List, length, ge
 use Rattle.std.specs.Prelude.{count_by}
 use Rattle.at_geom.specs.declared.rectangles.Extent.{Extent}
 use Rattle.at_join.specs.declared.outlines.Outline.{Outline}
-use Rattle.at_join.specs.Meetings.{pairs_of}
+use Rattle.at_query.specs.Results.{pairs_of}
 use Rattle.at_join.specs.Sides.{IsAt, CellHit, at_outlines, is_row_here, is_cell_here}
 use Rattle.at_join.proofs.Covering.{no_outline}
 use Rattle.at_join.proofs.FoundLists.{finds_row, count_row, count_rows_least}

@@ -1,6 +1,7 @@
 use Rattle.std.proofs.Common.{◌+◌, ◌-◌, ◌≤◌, length, take}
 use Rattle.std.specs.Prelude.{count_by}
-use Rattle.at_join.specs.Meetings.{Finds, pairs_of}
+use Rattle.at_query.specs.Results.{pairs_of}
+use Rattle.at_join.specs.Meetings.{Finds}
 use Rattle.at_join.specs.Sides.{CellHit, at_outlines, is_cell_here}
 use Rattle.at_join.proofs.finding.push_stretch.Given as goal
 

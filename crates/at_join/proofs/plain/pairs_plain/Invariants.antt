@@ -1,5 +1,6 @@
 use Rattle.std.proofs.Common.{◌≡◌, [], take}
-use Rattle.at_join.specs.Meetings.{Finds, Meeting, at_entries, pairs_of}
+use Rattle.at_query.specs.Results.{pairs_of}
+use Rattle.at_join.specs.Meetings.{Finds, Meeting, at_entries}
 use Rattle.at_join.proofs.plain.pairs_plain.Given as goal
 
 abbrev pub invariant-loop-entry : goal.invariant-loop-entry

@@ -8,6 +8,7 @@ use Rattle.at_run.specs.Files.{HasFileFaultIn}
 use Rattle.at_run.specs.Answers.{IfFound, IsFilePart, IsJoinAnswer, IsJoinFault}
 use Rattle.at_run.proofs.JoinEnds.{joins_by, joins_ok}
 use Rattle.at_run.proofs.JoinedFiles.{files_joined}
+use Rattle.at_run.proofs.OneAnswer.{only_join_fault}
 use Rattle.at_run.proofs.joins.answer_join.Goals as goal
 
 pub returns-clause-answer : goal.returns-clause-answer
@@ -17,6 +18,10 @@ returns-clause-answer g c =
     joins_by c.in-Ok.entries c.entries-second.result c.join_with.result (IsJoinAnswer c.args.form_a c.args.form_b digits how c.args.query.now a b) (IsJoinFault c.args.form_a c.args.form_b digits how a b) c.join_with.ensures.answer
     (λ entries pairs e met. files_joined digits how c.args.form_a c.args.form_b c.args.query.now all a b c.in-Ok.entries entries pairs c.requires.join c.of_all-all.ensures.verb c.of_all-all.ensures.tests c.in-Ok.ensures.part (subst M e c.entries-second.ensures.part) met)
     (λ fault e. (c.in-Ok.ensures.part.faultless, subst M e c.entries-second.ensures.part)) tt
+
+pub returns-clause-only : goal.returns-clause-only
+returns-clause-only g c =
+    only_join_fault c.args.form_a c.args.form_b c.args.digits c.args.how c.args.query.now c.args.a.now c.args.b.now c.join_with.result (returns-clause-answer g c)
 
 pub returns-clause-gate_b : goal.returns-clause-gate_b
 returns-clause-gate_b g c =

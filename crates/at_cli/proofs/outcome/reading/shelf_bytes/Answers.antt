@@ -1,3 +1,4 @@
+use Rattle.at_cli.specs.Failures.{meanings_of}
 use Rattle.at_cli.proofs.ShelfUses.{by_shelf, large_by_shelf, there_of, name_asked}
 use Rattle.std.proofs.lemmas.Result.{IfOk-weaker}
 use Rattle.at_cli.proofs.outcome.reading.shelf_bytes.Goals as goal
@@ -12,8 +13,5 @@ returns-clause-large g c e =
 
 pub returns-clause-asked : goal.returns-clause-asked
 returns-clause-asked g c =
-    let o = g.S.Shelf in
-    let before = c.args.shelf.now in
-    let after = c.read_whole.new.shelf in
-    name_asked c.args.name.now (o.files before) (o.begins before) (o.begins after) (o.taken before) (o.taken after) (o.named before) (o.named after)
+    name_asked c.args.name.now (meanings_of g.S.Shelf c.args.shelf.now) (meanings_of g.S.Shelf c.read_whole.new.shelf)
     c.requires c.read_whole.ensures.begins c.read_whole.ensures.taken c.read_whole.ensures.limit c.read_whole.ensures.named

@@ -1,33 +1,63 @@
-use Rattle.std.proofs.Common.{map, string_bytes}
-use Rattle.at_cli.specs.Outcomes.{TheOutcome}
-use Rattle.at_cli.specs.Endings.{status_of, text_of, line_of}
-use Rattle.at_cli.proofs.Runs.{told_answer, told_line, told_prefix_of, told_refusal, told_complete, is_no_answer}
+use Rattle.std.proofs.Common.{◌≡◌, ◌≢◌, ◌+◌, ◌≤◌, ◌^◌, ◌⊎◌, List, ℕ, map, string_bytes, inl, inr, sym, subst, ◌∙◌, arith}
+use Rattle.at_cli.specs.declared.words.line.Line.{Line}
+use Rattle.at_cli.specs.declared.outcome.ending.Ending.{Ending}
+use Rattle.at_cli.specs.Texts.{memory_line}
+use Rattle.at_cli.specs.Outcomes.{HasOutcome, TheOutcome, AreRefused, AreAccepted}
+use Rattle.at_cli.specs.Failures.{asked_names, ShelfFailedOn}
+use Rattle.at_cli.specs.Telling.{WasTold}
+use Rattle.at_cli.specs.Endings.{status_of, text_of, line_of, Ends}
+use Rattle.at_cli.specs.Loading.{Leads, PassesLoaded}
+use Rattle.at_cli.proofs.Loads.{on_end, passes_said}
+use Rattle.at_cli.proofs.Runs.{told_answer, told_line, told_prefix_of, told_refusal, told_complete, is_no_answer, own_status, as_told, answered_status, told_small, line_of_memory}
 use Rattle.at_cli.proofs.OneOutcome.{ends_only}
 use Rattle.at_cli.proofs.outcome.run.top.Goals as goal
 
-pub returns-clause-answered : goal.returns-clause-answered
-returns-clause-answered g c e =
-    let ending = c.decide-ending.result in
-    let (grows, same) = c.tell.ensures.answered e in
-    (text_of ending, grows, same, c.tell.ensures.empty e, told_answer (TheOutcome (map string_bytes c.args.words.now)) (g.S.Shelf.files c.args.shelf.now) ending c.tell.result (ends_only (map string_bytes c.args.words.now) (g.S.Shelf.files c.args.shelf.now) ending c.decide-ending.ensures.outcome) c.tell.ensures.status e)
-
-pub returns-clause-stopped : goal.returns-clause-stopped
-returns-clause-stopped g c h =
-    let ending = c.decide-ending.result in
-    let (n0, n4) = is_no_answer c.tell.result h in
-    let (same, tells) = c.tell.ensures.told n0 n4 in
-    (line_of ending, tells, told_line (TheOutcome (map string_bytes c.args.words.now)) (g.S.Shelf.files c.args.shelf.now) ending c.tell.result (ends_only (map string_bytes c.args.words.now) (g.S.Shelf.files c.args.shelf.now) ending c.decide-ending.ensures.outcome) c.tell.ensures.status h)
-
-pub returns-clause-refuses : goal.returns-clause-refuses
-returns-clause-refuses g c refusal h = told_refusal c.tell.result (status_of c.decide-ending.result) c.tell.ensures.status (c.decide-ending.ensures.refuses refusal h)
-
-pub returns-clause-write_failed : goal.returns-clause-write_failed
-returns-clause-write_failed g c e =
-    let ending = c.decide-ending.result in
-    let (rose, kept, tells) = c.tell.ensures.write_failed e in
-    (text_of ending, rose, kept, tells, told_prefix_of (TheOutcome (map string_bytes c.args.words.now)) (g.S.Shelf.files c.args.shelf.now) ending c.tell.result (ends_only (map string_bytes c.args.words.now) (g.S.Shelf.files c.args.shelf.now) ending c.decide-ending.ensures.outcome) c.tell.ensures.status e)
-
-pub returns-clause-complete : goal.returns-clause-complete
-returns-clause-complete g c =
-    let ending = c.decide-ending.result in
-    told_complete (TheOutcome (map string_bytes c.args.words.now)) (g.S.Shelf.files c.args.shelf.now) ending c.tell.result (ends_only (map string_bytes c.args.words.now) (g.S.Shelf.files c.args.shelf.now) ending c.decide-ending.ensures.outcome) c.tell.ensures.status
+pub returns : goal.returns
+returns g c =
+    let o = g.S.Shelf in
+    let before = c.args.shelf.now in
+    let after = c.load-loaded.new.shelf in
+    let words = map string_bytes c.args.words.now in
+    let files = o.files before in
+    let given_up = g.G.Gate.given_up c.args.gate.now in
+    let loaded = c.load-loaded.result in
+    let said = c.load-loaded.ensures in
+    let ending = c.match-chunk_size.ending in
+    let leads : Leads loaded ending = ? in
+    let passed : status_of ending ≡ 0 → PassesLoaded given_up loaded = ? in
+    let told = c.tell.ensures in
+    let status = c.tell.result in
+    let own = status_of ending in
+    let ends = on_end loaded (Ends (HasOutcome words) files) ending said.outcome leads in
+    let only = ends_only words files ending ends in
+    record {
+      status = told_small ending status told.status;
+      answered = λ zero. (text_of ending, (told.answered zero).0, (told.answered zero).1, told.empty zero, told_answer (TheOutcome words) files ending status only told.status zero);
+      unfailed = told.unfailed;
+      passes = λ h. passes_said words given_up loaded said.says (passed (answered_status ending status told.status h));
+      stopped = λ h. let (n0, n4) = is_no_answer status h in (line_of ending, (told.told n0 n4).1, told_line (TheOutcome words) files ending status only told.status h);
+      too_large = λ six. on_end loaded (λ end. status_of end ≡ 6 → o.taken before + (2 ^ 28 + 1) ≤ o.taken after) ending said.large leads (own_status status own 6 told.status six (λ z. omega (arith, z)));
+      refused = λ two.
+          let own_two = own_status status own 2 told.status two (λ z. omega (arith, z)) in
+          (line_of ending, on_end loaded (λ end. status_of end ≡ 2 → AreRefused words (line_of end)) ending said.refused leads own_two,
+          on_end loaded (λ end. status_of end ≡ 2 → after ≡ before) ending said.untouched leads own_two, (told.told (λ z. omega (arith, two, z)) (λ z. omega (arith, two, z))).1);
+      refuses = λ refusal h. told_refusal status own told.status (on_end loaded (λ end. (status_of end ≡ 2) ⊎ (status_of end ≡ 5)) ending (said.refuses refusal h) leads);
+      usage = λ none. as_told status own 2 told.status (on_end loaded (λ end. status_of end ≡ 2) ending (said.usage none) leads) (λ z. omega (arith, z));
+      read_failed = λ three.
+          let F : Ending → Type 0 = λ end. (line : Line) × AreAccepted words line × ShelfFailedOn o (asked_names line) (line_of end) before after in
+          let (line, accepted, failed) = on_end loaded (λ end. status_of end ≡ 3 → F end) ending said.failed leads (own_status status own 3 told.status three (λ z. omega (arith, z))) in
+          (line, accepted, (line_of ending, failed, (told.told (λ z. omega (arith, three, z)) (λ z. omega (arith, three, z))).1));
+      unbroken = elim (on_end loaded (λ end. (status_of end ≡ 3) ⊎ (o.broken after ≡ o.broken before)) ending said.unbroken leads) [
+        | inl three ↦ inl (as_told status own 3 told.status three (λ z. omega (arith, z)))
+        | inr same ↦ inr same
+      ];
+      write_failed = λ four. let (rose, kept, tells) = told.write_failed four in (text_of ending, rose, kept, tells, told_prefix_of (TheOutcome words) files ending status only told.status four);
+      no_memory = λ five.
+          let tells = (told.told (λ z. omega (arith, five, z)) (λ z. omega (arith, five, z))).1 in
+          let P : List ℕ → Type 0 = λ line. WasTold g.E.Sink c.args.err.now c.tell.new.err line in
+          subst P (line_of_memory ending (own_status status own 5 told.status five (λ z. omega (arith, z)))) tells;
+      same_out = λ n0 n4. (told.told n0 n4).0;
+      asked = said.asked;
+      same_files = said.same_files;
+      complete = told_complete (TheOutcome words) files ending status only told.status;
+    }

@@ -7,7 +7,7 @@ abbrev pub invariant-loop-at : goal.invariant-loop-at
 invariant-loop-at g l = let o = g.O.Sink in record {
   within : l.at ≤ length l.text;
   grown : Grows (o.written l.fn.out) (o.written l.out) (take l.at l.text);
-  counted : o.faults l.fn.out ≤ o.faults l.out;
+  unfailed : o.faults l.out ≡ o.faults l.fn.out;
   fresh : l.at ≡ 0 → l.out ≡ l.fn.out;
 }
 

@@ -1,6 +1,6 @@
 use Rattle.std.proofs.Common.{◌+◌, ◌≤◌, subst}
 use Rattle.std.specs.Prelude.{count_by}
-use Rattle.at_join.specs.Meetings.{pairs_of}
+use Rattle.at_query.specs.Results.{pairs_of}
 use Rattle.at_join.specs.Cells.{Lists, InCells, ListsEach, belongs}
 use Rattle.at_join.specs.Sides.{IsGrid}
 use Rattle.at_join.proofs.CellPairs.{cell_told}

@@ -1,0 +1,321 @@
+//! The end over the bytes of the files that were read, in blocks or in chunks.
+
+ghost use Rattle.std.specs.Prelude.{◌≡◌, ◌≢◌, ◌≤◌, ◌^◌, List, ℕ, length, Some, None, IsSome, IsOk, IfOk, MatchResult};
+ghost use Rattle.at_query.specs.Ranges.{IsQueryInRange};
+ghost use Rattle.at_run.specs.Answers.{IfFound};
+ghost use Rattle.at_cli.specs.Answers.{HasFaultAs, IsAnswerAs, IsJoinAs, IsJoinFaultAs};
+ghost use Rattle.at_cli.specs.LineOf.{form_of as form_told, KeepsLimits};
+ghost use Rattle.at_cli.specs.Gates.{PassesGate};
+ghost use Rattle.at_cli.specs.Endings.{status_of};
+ghost use Rattle.at_cli.specs.Loading.{IsLate, TellsAnswer, IsEndOf, IsEndOfJoin, EndsOne, EndsTwo, Leads};
+ghost use Rattle.at_cli.specs.Loading.{IsOneReady, IsTwoReady, IsReady, PassesLoaded, chunk_size as size_asked};
+
+use crate::outcome::ending::Ending;
+use crate::outcome::feeding::{fed_answer, fed_join, form_to_feed};
+use crate::outcome::files::{answer_as, join_as};
+use crate::outcome::loading::{Loaded, OneFile, TwoFiles, second_of, second_text};
+use crate::words::form::form_of;
+use crate::words::line::Line;
+use at_crew::Gate;
+use at_query::{Answer, Query, answer_text};
+use at_run::{Cuts, JoinFault, RunFault};
+use at_text::base_of;
+use std::alloc::{AllocGlobal, Global};
+use std::random::RandomSource;
+use std::sync::Wait;
+use std::thread::Threads;
+
+/// The answer to a query over the bytes of the line's file, cut into the blocks that the words ask for.
+fn answer_in_blocks<G: Gate, R: Threads + Sync>(
+    rt: &R,
+    alloc: Global,
+    line: &Line,
+    query: &Query,
+    bytes: &[u8],
+    gate: &G,
+) -> Result<Answer, RunFault>
+    requires limit { length bytes.now ≤ 2 ^ 28 }
+    requires line { KeepsLimits line.now }
+    requires in_range { IsQueryInRange query.now }
+    requires verb { query.now.verb ≢ Verb.Join }
+    requires second { line.now.second ≡ None }
+    ensures answer { MatchResult result (IsAnswerAs (form_told line.now line.now.first) line.now.digits line.now.how
+        query.now bytes.now)
+        (λ end. IfFound end (λ fault. HasFaultAs (form_told line.now line.now.first) line.now.digits line.now.how
+        bytes.now (Some fault))) }
+    ensures passes { IfOk result (λ _. PassesGate (G.given_up gate.now) line.now) }
+{
+    let Ok(cuts) = Cuts::even(alloc, base_of(bytes), bytes.len() as u32, line.blocks) else {
+        return Err(RunFault::Memory);
+    };
+    let form = form_of(line, line.first.as_str());
+    let (digits, how, workers) = (line.digits, line.how, line.workers);
+    answer_as(
+        rt, alloc, bytes, form, &cuts, query, digits, how, workers, gate,
+    )
+}
+
+/// The answer to a query over the bytes of the line's file, which a future takes in chunks of that size.
+fn answer_in_chunks<R: Wait + RandomSource + AllocGlobal>(
+    rt: &R,
+    alloc: Global,
+    line: &Line,
+    query: &Query,
+    bytes: Vec<u8>,
+    size: u32,
+) -> Result<Answer, RunFault>
+    requires limit { length bytes.items ≤ 2 ^ 28 }
+    requires line { KeepsLimits line.now }
+    requires in_range { IsQueryInRange query.now }
+    requires verb { query.now.verb ≢ Verb.Join }
+    requires feed { line.now.feed ≡ Some size }
+    ensures answer { MatchResult result (IsAnswerAs (form_told line.now line.now.first) line.now.digits line.now.how
+        query.now bytes.items)
+        (λ end. IfFound end (λ fault. HasFaultAs (form_told line.now line.now.first) line.now.digits line.now.how
+        bytes.items (Some fault))) }
+{
+    let form = form_to_feed(line, line.first.as_str());
+    let (digits, how) = (line.digits, line.how);
+    fed_answer(rt, alloc, bytes, form, query, digits, how, size)
+}
+
+/// The answer to a join over the bytes of the line's two files, each cut into the blocks that the words ask for.
+fn join_in_blocks<G: Gate, R: Threads + Sync>(
+    rt: &R,
+    alloc: Global,
+    line: &Line,
+    query: &Query,
+    a: &[u8],
+    b: &[u8],
+    gate: &G,
+) -> Result<Answer, JoinFault>
+    requires limit_a { length a.now ≤ 2 ^ 28 }
+    requires limit_b { length b.now ≤ 2 ^ 28 }
+    requires line { KeepsLimits line.now }
+    requires second { IsSome line.now.second }
+    requires in_range { IsQueryInRange query.now }
+    requires verb { query.now.verb ≡ Verb.Join }
+    ensures answer { (second : List ℕ) → line.now.second ≡ Some second
+        → MatchResult result (IsJoinAs (form_told line.now line.now.first) (form_told line.now second) line.now.digits
+        line.now.how query.now a.now b.now)
+        (IsJoinFaultAs (form_told line.now line.now.first) (form_told line.now second) line.now.digits line.now.how
+        a.now b.now) }
+    ensures passes { IfOk result (λ _. PassesGate (G.given_up gate.now) line.now) }
+{
+    let Ok(cuts_a) = Cuts::even(alloc, base_of(a), a.len() as u32, line.blocks) else {
+        return Err(JoinFault::Memory);
+    };
+    let Ok(cuts_b) = Cuts::even(alloc, base_of(b), b.len() as u32, line.blocks) else {
+        return Err(JoinFault::Memory);
+    };
+    join_as(
+        rt,
+        alloc,
+        a,
+        form_of(line, line.first.as_str()),
+        b,
+        form_of(line, second_text(line)),
+        &cuts_a,
+        &cuts_b,
+        query,
+        line.digits,
+        line.how,
+        line.workers,
+        gate,
+    )
+}
+
+/// The answer to a join over the bytes of the line's two files, which a future takes in chunks of that size.
+fn join_in_chunks<G: Gate, R: Threads + Sync + Wait + RandomSource + AllocGlobal>(
+    rt: &R,
+    alloc: Global,
+    line: &Line,
+    query: &Query,
+    a: Vec<u8>,
+    b: Vec<u8>,
+    size: u32,
+    gate: &G,
+) -> Result<Answer, JoinFault>
+    requires limit_a { length a.items ≤ 2 ^ 28 }
+    requires limit_b { length b.items ≤ 2 ^ 28 }
+    requires line { KeepsLimits line.now }
+    requires feed { line.now.feed ≡ Some size }
+    requires second { IsSome line.now.second }
+    requires in_range { IsQueryInRange query.now }
+    requires verb { query.now.verb ≡ Verb.Join }
+    ensures answer { (second : List ℕ) → line.now.second ≡ Some second
+        → MatchResult result (IsJoinAs (form_told line.now line.now.first) (form_told line.now second) line.now.digits
+        line.now.how query.now a.items b.items)
+        (IsJoinFaultAs (form_told line.now line.now.first) (form_told line.now second) line.now.digits line.now.how
+        a.items b.items) }
+    ensures passes { IfOk result (λ _. PassesGate (G.given_up gate.now) line.now) }
+{
+    let form_a = form_to_feed(line, line.first.as_str());
+    let form_b = form_to_feed(line, second_text(line));
+    let (digits, how, workers) = (line.digits, line.how, line.workers);
+    fed_join(
+        rt, alloc, a, form_a, b, form_b, query, digits, how, size, workers, gate,
+    )
+}
+
+/// The end with the text of an answer.
+fn end_of_text(alloc: Global, line: &Line, answer: &Answer) -> Ending
+    ensures end { TellsAnswer line.now answer.now result }
+    ensures late { IsLate result }
+{
+    match answer_text(alloc, answer, line.digits) {
+        Ok(text) => Ending::Answered(text),
+        Err(_) => Ending::NoMemory,
+    }
+}
+
+/// The end over one file: the text of the answer, or the file's fault.
+fn end_of_one(alloc: Global, line: Line, answer: Result<Answer, RunFault>) -> Ending
+    ensures end { IsEndOf line answer result }
+    ensures late { IsLate result }
+    ensures answered { status_of result ≡ 0 → IsOk answer }
+{
+    match answer {
+        Ok(answer) => end_of_text(alloc, &line, &answer),
+        Err(RunFault::Found(fault)) => Ending::Faulty(line.first, fault),
+        Err(RunFault::Memory) => Ending::NoMemory,
+    }
+}
+
+/// The end over two files: the text of the answer, or the fault of the first that has one.
+fn end_of_two(alloc: Global, line: Line, answer: Result<Answer, JoinFault>) -> Ending
+    requires { IsSome line.second }
+    ensures end { IsEndOfJoin line answer result }
+    ensures late { IsLate result }
+    ensures answered { status_of result ≡ 0 → IsOk answer }
+{
+    match answer {
+        Ok(answer) => end_of_text(alloc, &line, &answer),
+        Err(JoinFault::First(fault)) => Ending::Faulty(line.first, fault),
+        Err(JoinFault::Second(fault)) => Ending::Faulty(second_of(line), fault),
+        Err(JoinFault::Memory) => Ending::NoMemory,
+    }
+}
+
+/// The end over one file, which is read in the blocks that the words ask for.
+fn one_in_blocks<G: Gate, R: Threads + Sync>(
+    rt: &R,
+    alloc: Global,
+    file: OneFile,
+    gate: &G,
+) -> Ending
+    requires { IsOneReady file }
+    ensures end { EndsOne file result }
+    ensures passes { status_of result ≡ 0 → PassesGate (G.given_up gate.now) file.line }
+{
+    let OneFile { line, query, bytes } = file;
+    let answer = answer_in_blocks(rt, alloc, &line, &query, bytes.as_slice(), gate);
+    end_of_one(alloc, line, answer)
+}
+
+/// The end over two files, which are read in the blocks that the words ask for.
+fn two_in_blocks<G: Gate, R: Threads + Sync>(
+    rt: &R,
+    alloc: Global,
+    files: TwoFiles,
+    gate: &G,
+) -> Ending
+    requires { IsTwoReady files }
+    ensures end { EndsTwo files result }
+    ensures passes { status_of result ≡ 0 → PassesGate (G.given_up gate.now) files.line }
+{
+    let TwoFiles {
+        line,
+        query,
+        first,
+        second,
+    } = files;
+    let answer = join_in_blocks(
+        rt,
+        alloc,
+        &line,
+        &query,
+        first.as_slice(),
+        second.as_slice(),
+        gate,
+    );
+    end_of_two(alloc, line, answer)
+}
+
+/// The end over what is loaded, where files are read in the blocks that the words ask for. It joins threads, and takes
+/// nothing to wait by.
+pub fn end_in_blocks<G: Gate, R: Threads + Sync>(
+    rt: &R,
+    alloc: Global,
+    loaded: Loaded,
+    gate: &G,
+) -> Ending
+    requires { IsReady loaded }
+    ensures leads { Leads loaded result }
+    ensures passes { status_of result ≡ 0 → PassesLoaded (G.given_up gate.now) loaded }
+{
+    match loaded {
+        Loaded::Ended(end) => end,
+        Loaded::One(file) => one_in_blocks(rt, alloc, file, gate),
+        Loaded::Two(files) => two_in_blocks(rt, alloc, files, gate),
+    }
+}
+
+/// The end over one file, which a future takes in chunks of that size.
+fn one_in_chunks<R: Wait + RandomSource + AllocGlobal>(
+    rt: &R,
+    alloc: Global,
+    file: OneFile,
+    size: u32,
+) -> Ending
+    requires ready { IsOneReady file }
+    requires feed { file.line.feed ≡ Some size }
+    ensures { EndsOne file result }
+{
+    let OneFile { line, query, bytes } = file;
+    let answer = answer_in_chunks(rt, alloc, &line, &query, bytes, size);
+    end_of_one(alloc, line, answer)
+}
+
+/// The end over two files, which a future takes side by side in chunks of that size.
+fn two_in_chunks<G: Gate, R: Threads + Sync + Wait + RandomSource + AllocGlobal>(
+    rt: &R,
+    alloc: Global,
+    files: TwoFiles,
+    size: u32,
+    gate: &G,
+) -> Ending
+    requires ready { IsTwoReady files }
+    requires feed { files.line.feed ≡ Some size }
+    ensures end { EndsTwo files result }
+    ensures passes { status_of result ≡ 0 → PassesGate (G.given_up gate.now) files.line }
+{
+    let TwoFiles {
+        line,
+        query,
+        first,
+        second,
+    } = files;
+    let answer = join_in_chunks(rt, alloc, &line, &query, first, second, size, gate);
+    end_of_two(alloc, line, answer)
+}
+
+/// The end over what is loaded, where a future takes the files in chunks of that size. It may wait.
+pub fn end_in_chunks<G: Gate, R: Threads + Sync + Wait + RandomSource + AllocGlobal>(
+    rt: &R,
+    alloc: Global,
+    loaded: Loaded,
+    size: u32,
+    gate: &G,
+) -> Ending
+    requires ready { IsReady loaded }
+    requires feed { size_asked loaded ≡ Some size }
+    ensures leads { Leads loaded result }
+    ensures passes { status_of result ≡ 0 → PassesLoaded (G.given_up gate.now) loaded }
+{
+    match loaded {
+        Loaded::Ended(end) => end,
+        Loaded::One(file) => one_in_chunks(rt, alloc, file, size),
+        Loaded::Two(files) => two_in_chunks(rt, alloc, files, size, gate),
+    }
+}
