@@ -452,8 +452,8 @@ def module_checks(folder: str) -> Iterator[Check]:
             yield "module: an option that is none", f"{wrong()!r}"
         except (TypeError, ValueError):
             yield "module: an option that is none", None
-    yield differs("module: counts", dataset([path[:-5] + "a.wkt", path[:-5] + "b.geojson"]).counts(),
-                  {path[:-5] + "a.wkt": 2, path[:-5] + "b.geojson": 3})
+    one, two = put(folder, "n.wkt", "POINT (1 2)\n" * 2), put(folder, "n.geojson", collection(points(3)))
+    yield differs("module: counts", dataset([one, two]).counts(), {one: 2, two: 3})
 
 
 def checks(folder: str) -> List[Check]:
