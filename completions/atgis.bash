@@ -1,4 +1,4 @@
-# Completes the words of atgis in bash: options and their values, the words of a query, and names of files.
+# Completes the words of atgis and atgis-many in bash: options and their values, the words of a query, and names of files.
 # A query of more than one word is completed in quotes, as in: atgis 'select where in <TAB>
 
 # Splits the line up to the cursor: words are those before the cursor's, word is the cursor's without its quotes, quote
@@ -59,8 +59,13 @@ _atgis_query() {
 }
 
 _atgis() {
-    local words word quote options='--form --coords --digits --blocks --workers --feed' count=0 at option='' head='' is_end=
+    local words word quote options='--form --coords --digits --blocks --workers --feed' flags='' count=0 most=3
+    local forms='geojson wkt seq' at option='' head='' is_end=
     local -a found=()
+    if [[ ${1##*/} == atgis-many ]]; then
+        options='--form --coords --digits --part --jobs --journal --dask' flags='--each --features --faults'
+        forms+=' lines' most=1000000
+    fi
     _atgis_split
     for ((at = 1; at < ${#words[@]}; at++)); do
         if [[ $option ]]; then
@@ -69,7 +74,7 @@ _atgis() {
             is_end=1
         elif [[ ! $is_end && " $options " == *" ${words[at]} "* ]]; then
             option=${words[at]}
-        elif [[ $is_end || ${words[at]} != -* ]]; then
+        elif [[ $is_end || ${words[at]} != -* || ($flags && ${words[at]} == --faults) ]]; then
             ((count++))
         fi
     done
@@ -77,20 +82,24 @@ _atgis() {
         option=${word%%=*} head=$option=
     fi
     case $option in
-    --form) found=(geojson wkt seq) ;;
+    --form) mapfile -t found < <(compgen -W "$forms") ;;
     --coords) found=(exact round) ;;
     --digits) found=(7 9) ;;
     --blocks) found=(1 16 64 256 1024 4096) ;;
     --workers) found=(1 2 4 8 16 32 64) ;;
     --feed) found=(1 4096 65536 1048576) ;;
+    --part) found=(16M 64M 128M) ;;
+    --jobs) found=(1 2 4 8 16 32 64) ;;
+    --journal) mapfile -t found < <(compgen -f -- "$word") ;;
+    --dask) found=(tcp://) ;;
     *)
         if [[ ! $is_end && $word == -* ]]; then
-            mapfile -t found < <(compgen -W "$options --")
+            mapfile -t found < <(compgen -W "$options $flags --")
         elif ((count == 0)); then
             mapfile -t found < <(_atgis_query "$word")
-        elif ((count < 3)); then
+        elif ((count < most)); then
             mapfile -t found < <(compgen -f -- "$word")
-            if [[ $word == @* ]]; then found+=(@in @w: @g:); else compopt -o filenames 2>/dev/null; fi
+            if [[ $word == @* && ! $flags ]]; then found+=(@in @w: @g:); else compopt -o filenames 2>/dev/null; fi
         fi
         ;;
     esac
@@ -113,4 +122,4 @@ _atgis_reply() {
     elif [[ ${COMPREPLY[0]} == *: ]]; then compopt -o nospace 2>/dev/null; fi
 }
 
-complete -F _atgis atgis
+complete -F _atgis atgis atgis-many

@@ -1,4 +1,4 @@
-# Completes the words of atgis in fish: options and their values, the words of a query, and names of files.
+# Completes the words of atgis and atgis-many in fish: options and their values, the words of a query, and names of files.
 
 # How many words before the cursor's are neither options nor their values.
 function __atgis_count
@@ -10,9 +10,10 @@ function __atgis_count
             set is_value 0
         else if test $is_end = 0; and test "$word" = --
             set is_end 1
-        else if test $is_end = 0; and contains -- $word --form --coords --digits --blocks --workers --feed
+        else if test $is_end = 0; and contains -- $word --form --coords --digits --blocks --workers --feed --part --jobs \
+                --journal --dask
             set is_value 1
-        else if test $is_end = 1; or not string match -q -- '-*' $word
+        else if test $is_end = 1; or test "$word" = --faults; or not string match -q -- '-*' $word
             set count (math $count + 1)
         end
     end
@@ -64,3 +65,15 @@ complete -c atgis -x -l feed -a '1 4096 65536 1048576' -d 'take a file in chunks
 complete -c atgis -n 'test (__atgis_count) = 0' -f -a '(__atgis_query)'
 complete -c atgis -n 'contains (__atgis_count) 1 2' -a '@in @w: @g:'
 complete -c atgis -n 'test (__atgis_count) -gt 2' -f
+
+complete -c atgis-many -x -l form -a 'geojson wkt seq lines' -d 'the form of all files'
+complete -c atgis-many -x -l coords -a 'exact round' -d 'refuse or round coordinates with more decimals'
+complete -c atgis-many -x -l digits -a '7 9' -d 'how many decimals a coordinate has'
+complete -c atgis-many -x -l part -a '16M 64M 128M' -d 'how many bytes a part has'
+complete -c atgis-many -x -l jobs -a '1 2 4 8 16 32 64' -d 'how many runs of atgis there are at once'
+complete -c atgis-many -l each -d 'print the answer of each file'
+complete -c atgis-many -l features -d 'print the features and not their offsets'
+complete -c atgis-many -l faults -d 'print all faults of the files'
+complete -c atgis-many -r -l journal -d 'keep the answers of parts in a file'
+complete -c atgis-many -x -l dask -a 'tcp://' -d 'run on the machines of a Dask scheduler'
+complete -c atgis-many -n 'test (__atgis_count) = 0' -f -a '(__atgis_query)'

@@ -43,7 +43,7 @@ from typing import Any, Callable, Dict, Iterable, List, NamedTuple, Optional, Se
 __all__ = [
     "AtgisError", "Extent", "Fault", "FileError", "FilesError", "OutOfMemory", "ProgramError", "QueryError",
     "ReadError", "TooLarge", "WordsError", "WriteError", "area", "count", "extent", "features", "frame", "has", "hull",
-    "in_box", "join", "meets", "meets_box", "select", "square_degrees",
+    "in_box", "join", "meets", "meets_box", "query_text", "refusal", "select", "square_degrees",
 ]
 
 LIMIT = 268_435_456
@@ -66,6 +66,9 @@ class AtgisError(Exception):
         super().__init__(line)
         self.line = line
         self.status = status
+
+    def __reduce__(self) -> Any:
+        return _raised_elsewhere, (type(self), self.args, self.__dict__)
 
 
 class Fault(AtgisError):
@@ -111,7 +114,7 @@ class ReadError(FileError):
 
 
 class TooLarge(FileError):
-    """A file has more than 268,435,456 bytes."""
+    """A file has more than 268,435,456 bytes, and is one for `atgis_many`."""
 
 
 class WriteError(AtgisError):
@@ -367,14 +370,21 @@ def _line_at(data: bytes) -> Dict[str, Any]:
     return {"label": label, "wkt": line[end:].strip(" \t")}
 
 
+def _raised_elsewhere(kind: type, given: Tuple[Any, ...], known: Dict[str, Any]) -> AtgisError:
+    """An exception that another process raised and sent here."""
+    error = kind.__new__(kind, *given)
+    error.__dict__.update(known)
+    return error
+
+
 def _box(*numbers: Number) -> str:
     """A box as a query spells it."""
     min_x, min_y, max_x, max_y = map(str, numbers)
     return f"box({min_x} {min_y},{max_x} {max_y})"
 
 
-def _query(verb: str, where: Tests) -> str:
-    """The query's text."""
+def query_text(verb: str, where: Tests = None) -> str:
+    """The query's text: its verb, and the tests, all of which must hold."""
     tests = [where] if isinstance(where, str) and where else list(where or [])
     return f"{verb} where {' and '.join(tests)}" if tests else verb
 
@@ -389,7 +399,7 @@ def _lines(verb: str, files: Sequence[Name], where: Tests, options: Dict[str, An
     unknown = set(options) - set(NAMES_OF_OPTIONS) - {"input", "program"}
     if unknown:
         raise TypeError(f"{verb}() has no option {', '.join(sorted(unknown))}")
-    query = _query(verb, where)
+    query = query_text(verb, where)
     program = options.get("program") or os.environ.get("ATGIS") or "atgis"
     words = [f"--{name}={options[name]}" for name in NAMES_OF_OPTIONS if options.get(name) is not None]
     command = [os.fspath(program), *words, "--", query, *map(os.fsdecode, files)]
@@ -398,12 +408,12 @@ def _lines(verb: str, files: Sequence[Name], where: Tests, options: Dict[str, An
     except OSError as error:
         raise ProgramError(f"{program}: {error.strerror}", error.errno or 0) from error
     if done.returncode:
-        raise _refusal(done.returncode, done.stderr.decode("utf-8", "surrogateescape").rstrip("\n"), query)
+        raise refusal(done.returncode, done.stderr.decode("utf-8", "surrogateescape").rstrip("\n"), query)
     return done.stdout.decode("ascii").splitlines()
 
 
-def _refusal(status: int, line: str, query: str) -> AtgisError:
-    """The exception that stands for a status and its line."""
+def refusal(status: int, line: str, query: str) -> AtgisError:
+    """The exception that stands for a status and the line without its line feed, which the program gave to a query."""
     fault = re.fullmatch(r"(.*): (\w+) at (\d+)", line, re.DOTALL)
     wrong_query = re.fullmatch(r"query: at (\d+)", line)
     file = line.rsplit(": ", 1)[0]

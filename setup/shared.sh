@@ -11,13 +11,15 @@ fail() {
 
 # The files that are installed: the mode, the file here, and its place under a prefix.
 files() {
-    local tool page module
+    local tool page name module
     echo "755 crates/atgis/out/atgis bin/atgis"
     for tool in tools/atgis-*; do echo "755 $tool bin/${tool##*/}"; done
     for page in man/*.[17]; do echo "644 $page share/man/man${page##*.}/${page##*/}"; done
-    echo "644 completions/atgis.bash share/bash-completion/completions/atgis"
+    for name in atgis atgis-many; do
+        echo "644 completions/atgis.bash share/bash-completion/completions/$name"
+        echo "644 completions/atgis.fish share/fish/vendor_completions.d/$name.fish"
+    done
     echo "644 completions/_atgis share/zsh/site-functions/_atgis"
-    echo "644 completions/atgis.fish share/fish/vendor_completions.d/atgis.fish"
     for module in python/*.py python/py.typed python/pyproject.toml python/backend/wheels.py; do
         echo "644 $module share/atgis/$module"
     done

@@ -44,6 +44,15 @@ LINES = [
     ("atgis count @i", "atgis count @in"),
     ("atgis count @w", "atgis count @w:"),
     ("atgis join a b to", "atgis join a b to"),
+    ("atgis-many --fo", "atgis-many --form"),
+    ("atgis-many --form l", "atgis-many --form lines"),
+    ("atgis-many --part 1", "atgis-many --part 1"),
+    ("atgis-many --jobs=3", "atgis-many --jobs=32"),
+    ("atgis-many --fea", "atgis-many --features"),
+    ("atgis-many --each cou", "atgis-many --each count"),
+    ("atgis-many 'select wh", "atgis-many 'select where "),
+    ("atgis-many --faults la", "atgis-many --faults lakes.wkt"),
+    ("atgis-many count a b c to", "atgis-many count a b c towns.geojson"),
 ]
 
 # What fish lists for a line.
@@ -67,6 +76,11 @@ LISTS = [
     ("atgis join lakes.wkt to", ["towns.geojson"]),
     ("atgis count @", ["@g:", "@in", "@w:"]),
     ("atgis join a b to", []),
+    ("atgis-many --f", ["--faults", "--features", "--form"]),
+    ("atgis-many --form ", ["geojson", "lines", "seq", "wkt"]),
+    ("atgis-many --each cou", ["count"]),
+    ("atgis-many --faults la", ["lakes.wkt"]),
+    ("atgis-many count a b c to", ["towns.geojson"]),
 ]
 
 SETUP: Dict[str, str] = {

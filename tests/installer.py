@@ -67,9 +67,10 @@ def wanted_files() -> Dict[str, str]:
     pages = [f"man/{name}.1" for name in ["atgis", *(one.split("/")[1] for one in tools)]] + ["man/atgis-query.7"]
     wanted = {f"bin/{one.split('/')[1]}": one for one in tools}
     wanted.update({f"share/man/man{one[-1]}/{one.split('/')[1]}": one for one in pages})
-    wanted.update({"share/bash-completion/completions/atgis": "completions/atgis.bash",
-                   "share/zsh/site-functions/_atgis": "completions/_atgis",
-                   "share/fish/vendor_completions.d/atgis.fish": "completions/atgis.fish"})
+    for name in ("atgis", "atgis-many"):
+        wanted.update({f"share/bash-completion/completions/{name}": "completions/atgis.bash",
+                       f"share/fish/vendor_completions.d/{name}.fish": "completions/atgis.fish"})
+    wanted["share/zsh/site-functions/_atgis"] = "completions/_atgis"
     modules = [one for one in os.listdir(os.path.join(REPOSITORY, "python")) if one.endswith(".py")]
     wanted.update({f"share/atgis/python/{one}": f"python/{one}"
                    for one in [*modules, "py.typed", "pyproject.toml", "backend/wheels.py"]})
@@ -151,6 +152,18 @@ def order(name: str) -> Set[str]:
     return found
 
 
+def used(prefix: str) -> Check:
+    """Runs a tool that is installed and that needs the modules, of which Python keeps something beside them."""
+    path = os.path.join(prefix, "a.wkt")
+    with open(path, "w", encoding="ascii") as file:
+        file.write("POINT (1 2)\n")
+    env = {name: value for name, value in os.environ.items() if name not in ("PYTHONPATH", "PYTHONDONTWRITEBYTECODE")}
+    done = subprocess.run([os.path.join(prefix, "bin", "atgis-many"), "count", path], capture_output=True, text=True,
+                          env={**env, "ATGIS": os.path.join(prefix, "bin", "atgis")}, check=False)
+    os.remove(path)
+    return differs("install: atgis-many finds its modules", (done.stdout, done.stderr, done.returncode), ("1\n", "", 0))
+
+
 def checks(program: str, folder: str) -> List[Check]:
     """What was checked of the installer, and what is wrong with it."""
     copy = Copy(program, folder)
@@ -169,6 +182,7 @@ def checks(program: str, folder: str) -> List[Check]:
     for kept in ("python/__pycache__", "python/backend/__pycache__"):
         os.mkdir(os.path.join(prefix, "share", "atgis", kept))
         shutil.copy(__file__, os.path.join(prefix, "share", "atgis", kept, "atgis.cpython-311.pyc"))
+    found.append(used(prefix))
     found.append(differs("install: uninstall", copy.run("--uninstall", prefix), ("", "", 0)))
     found.append(differs("install: all of it is taken away, and nothing else", tree(prefix), before))
     return found

@@ -14,11 +14,12 @@ NOBODY = 65534
 FEW, PAUSE = 9, 0.005
 # The Debian packages of commands and of Python's modules, where a name differs; what has none comes by pip.
 PACKAGES = {
-    "awk": "mawk", "cc": "gcc", "dpkg-deb": "dpkg", "find": "findutils", "geopandas": "python3-geopandas",
+    "awk": "mawk", "cc": "gcc", "dpkg-deb": "dpkg", "geopandas": "python3-geopandas",
     "matplotlib": "python3-matplotlib", "ogr2ogr": "gdal-bin", "ogrinfo": "gdal-bin", "pip": "python3-pip",
-    "shapely": "python3-shapely", "split": "coreutils", "ssh": "openssh-client", "ssh-keygen": "openssh-client",
-    "sshd": "openssh-server", "tr": "coreutils", "venv": "python3-venv", "xargs": "findutils", "xz": "xz-utils",
-    "dask": "python3-dask", "pyspark": "pip:pyspark", "spark-submit": "pip:pyspark",
+    "shapely": "python3-shapely", "ssh": "openssh-client", "ssh-keygen": "openssh-client",
+    "sshd": "openssh-server", "tr": "coreutils", "venv": "python3-venv", "xz": "xz-utils",
+    "distributed": "python3-distributed", "mpi4py": "python3-mpi4py", "mpiexec": "openmpi-bin", "mpirun": "openmpi-bin",
+    "pyspark": "pip:pyspark", "spark-submit": "pip:pyspark",
 }
 
 

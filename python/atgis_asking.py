@@ -1,0 +1,186 @@
+"""Asks atgis about parts of files: what a worker of `atgis_many` does, on this machine or on another.
+
+What travels to a worker is the function `ask` with a Task, and what comes back is a Told. So each machine has `atgis`
+(or the environment variable ATGIS), sees the files at the same names, and can import this module and `atgis_parts`.
+
+The standard library alone, Python 3.9 or later.
+"""
+from __future__ import annotations
+
+import os
+import subprocess
+import sys
+import tempfile
+from typing import List, NamedTuple, Optional, Tuple
+
+from atgis_parts import RS, Part, mapped, may_leave
+
+__all__ = ["Task", "Told", "ask"]
+
+CHUNK = 1 << 20
+INNER_RS = b"\x01"                # what becomes of an RS within a line: as little a part of JSON as the RS itself
+NO_ANSWER = -1000                 # the status where the program couldn't be run at all
+
+
+class Task(NamedTuple):
+    """A question about a part, or about two of a join."""
+
+    query: str
+    parts: Tuple[Part, ...]
+    options: Tuple[str, ...]
+    program: Optional[str] = None
+    is_scanned: bool = False      # whether the part is looked through for an end of the array of features
+
+    def size(self) -> int:
+        """How many bytes of files it is about."""
+        return sum(part.end - part.begin for part in self.parts)
+
+
+class Told(NamedTuple):
+    """What the program said: its status, its line, its answer with offsets in what it got, and what the look found."""
+
+    status: int
+    line: str
+    text: bytes
+    may_leave: bool = False
+
+
+def ask(task: Task, _attempt: int = 0) -> Told:
+    """Runs the program over the parts of a task; the number of the attempt makes two attempts two different calls."""
+    forms = sorted({part.form for part in task.parts})
+    form = ("--form", *forms) if len(forms) == 1 else ()
+    program = task.program or os.environ.get("ATGIS") or "atgis"
+    command = [program, *task.options, *form, "--", task.query]
+    try:
+        if len(task.parts) == 1:
+            return told_of_one(command, task.parts[0], task.is_scanned)
+        with tempfile.TemporaryDirectory(prefix="atgis-many-") as folder:
+            return told_of_two(command, task.parts, folder)
+    except OSError as error:
+        if error.filename in [part.file for part in task.parts]:
+            return Told(3, f"{error.filename}: read failed", b"")
+        return Told(NO_ANSWER, f"{error.filename or program}: {error.strerror}", b"")
+
+
+def told_of_one(command: List[str], part: Part, is_scanned: bool) -> Told:
+    """The same of one part, which is the standard input, so that no name of a file means anything else."""
+    if part.is_whole:
+        return answer([*command, "@in"], [], os.open(part.file, os.O_RDONLY), ("@in",), (part,))
+    end, pipe = wide_pipe()
+    return answer([*command, "@in"], [(part, pipe)], end, ("@in",), (part,), is_scanned=is_scanned)
+
+
+def told_of_two(command: List[str], parts: Tuple[Part, ...], folder: str) -> Told:
+    """The same of two parts, which go through pipes whose names tell their forms."""
+    names, sent, ends = [], [], []
+    for place, part in enumerate(parts):
+        names.append(os.path.join(folder, f"{place}.{'wkt' if part.form == 'wkt' else 'json'}"))
+        if part.is_whole:
+            os.symlink(os.path.abspath(part.file), names[-1])
+        else:
+            end, pipe = wide_pipe()
+            os.symlink(f"/dev/fd/{end}", names[-1])
+            sent.append((part, pipe))
+            ends.append(end)
+    return answer([*command, *names], sent, None, tuple(names), parts, tuple(ends))
+
+
+def answer(command: List[str], sent: List[Tuple[Part, int]], source: Optional[int], names: Tuple[str, ...],
+           parts: Tuple[Part, ...], passed: Tuple[int, ...] = (), is_scanned: bool = False) -> Told:
+    """Runs a command, sends it the parts, and reads what it writes. All ends of pipes are closed.
+
+    While the program works, the part is looked through where that is wanted.
+    """
+    try:
+        run = subprocess.Popen(command, stdin=subprocess.DEVNULL if source is None else source, stdout=subprocess.PIPE,
+                               stderr=subprocess.PIPE, pass_fds=passed)
+    except OSError:
+        for _, pipe in sent:
+            os.close(pipe)
+        raise
+    finally:
+        for end in passed if source is None else (source,):
+            os.close(end)
+    with run:
+        problem, found = None, False
+        for part, pipe in sent:
+            problem = send(part, pipe, bool(problem)) or problem
+        if problem:
+            run.kill()
+        elif is_scanned:
+            found = looked_through(parts[0])
+        text, line = run.communicate()
+    if problem:
+        return Told(3, problem, b"")
+    told = line.decode("utf-8", "surrogateescape").rstrip("\n")
+    for name, part in zip(names, parts):
+        told = part.file + told[len(name):] if told.startswith(f"{name}: ") else told
+    return Told(run.returncode, told, text, found)
+
+
+def looked_through(part: Part) -> bool:
+    """Whether a part may go on behind the array of features."""
+    with open(part.file, "rb") as file:
+        return may_leave(mapped(file), part)
+
+
+def send(part: Part, pipe: int, is_given_up: bool) -> Optional[str]:
+    """Writes a part into a pipe, and closes it; what is wrong where the file can't be read so far."""
+    try:
+        if not is_given_up:
+            write(pipe, part.before)
+            with open(part.file, "rb") as file:
+                copy(file.fileno(), pipe, *part.head)
+                (copy_lines if part.has_lines else copy)(file.fileno(), pipe, part.begin, part.end)
+            write(pipe, part.after)
+    except BrokenPipeError:
+        pass                                                # the program has ended, and its status says why
+    except OSError:
+        return f"{part.file}: read failed"
+    finally:
+        os.close(pipe)
+    return None
+
+
+def copy(file: int, pipe: int, begin: int, end: int) -> None:
+    """Copies bytes of a file into a pipe, without bringing them here where the system can do that."""
+    while begin < end:
+        if sys.platform == "linux":
+            count = os.sendfile(pipe, file, begin, min(1 << 30, end - begin))
+        else:
+            piece = os.pread(file, min(CHUNK, end - begin), begin)
+            write(pipe, piece)
+            count = len(piece)
+        if count == 0:
+            raise OSError("the file has become shorter")
+        begin += count
+
+
+def copy_lines(file: int, pipe: int, begin: int, end: int) -> None:
+    """Copies lines into a pipe as records: each line feed becomes an RS, and no line gets any by itself."""
+    while begin < end:
+        piece = os.pread(file, min(CHUNK, end - begin), begin)
+        if not piece:
+            raise OSError("the file has become shorter")
+        begin += len(piece)
+        if RS in piece:
+            piece = piece.replace(RS, INNER_RS)
+        write(pipe, piece.replace(b"\n", RS))
+
+
+def write(pipe: int, piece: bytes) -> None:
+    """Writes all of a piece."""
+    view = memoryview(piece)
+    while view:
+        view = view[os.write(pipe, view):]
+
+
+def wide_pipe() -> Tuple[int, int]:
+    """The ends of a pipe that holds more than usual, where the system lets it."""
+    end, pipe = os.pipe()
+    try:
+        import fcntl
+        fcntl.fcntl(pipe, getattr(fcntl, "F_SETPIPE_SZ", 1031), CHUNK)
+    except (ImportError, OSError):
+        pass
+    return end, pipe
