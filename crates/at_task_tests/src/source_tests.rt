@@ -2,7 +2,7 @@
 
 ghost use Rattle.std.specs.Prelude.{◌≡◌, false};
 
-use crate::asking::asked;
+use crate::asking::{asked, said};
 use at_fixed::Coords;
 use at_query::{Verb, answer_text};
 use at_run::Form;
@@ -11,6 +11,7 @@ use futures::task::{Context, Poll, Source, Waker};
 use futures::test::MockTask;
 use std::alloc::AllocGlobal;
 use std::random::RandomSource;
+use std::sync::atomic::{AtomicU64, Ordering};
 use std::test::Fail;
 
 /// A line that is given again and again.
@@ -78,6 +79,40 @@ fn the_example_of_the_page(rt: HostRuntime) -> Result<(), Fail> {
     let feed = Feed::new(alloc, source, Form::Wkt, query, 7, Coords::Exact, 64)?;
     let found = run_feed(&rt, feed)?;
     assert_eq!(rt; answer_text(alloc, &found, 7)?.as_str(), "1000\n");
+    Ok(())
+}
+
+/// A source without an end, which gives what lies in the room. It counts what it gives.
+#[derive(Drop)]
+struct Endless<'a> {
+    given: &'a AtomicU64,
+}
+
+impl Chunks for Endless<'_> {
+    ghost use Rattle.std.specs.Prelude.{None, false};
+
+    ghost rest = { λ _. None };
+
+    ghost ended = { λ _. false };
+
+    ghost waits = { λ _. 0 };
+
+    fn poll_fill(&mut self, _cx: &mut Context<'_>, room: &mut [u8]) -> Poll<usize> {
+        self.given.fetch_add(room.len() as u64, Ordering::SeqCst);
+        Poll::Ready(room.len())
+    }
+}
+
+/// With 2^28 bytes a feed goes on, and of one more it is told that they are too many. No byte behind that one is taken.
+#[test]
+fn one_byte_too_many(rt: HostRuntime) -> Result<(), Fail> {
+    let alloc = rt.alloc();
+    let given = AtomicU64::new(0);
+    let source = Endless { given: &given };
+    let query = asked(alloc, Verb::Count);
+    let feed = Feed::new(alloc, source, Form::Wkt, query, 7, Coords::Exact, 1 << 20)?;
+    assert_eq!(rt; said(&rt, feed)?.as_str(), "too large");
+    assert_eq!(rt; given.load(Ordering::SeqCst), (1 << 28) + 1);
     Ok(())
 }
 

@@ -1,6 +1,7 @@
 //! The end over the bytes of the files that were read, in blocks or in chunks.
 
 ghost use Rattle.std.specs.Prelude.{◌≡◌, ◌≢◌, ◌≤◌, ◌^◌, List, ℕ, length, Some, None, IsSome, IsOk, IfOk, MatchResult};
+ghost use Rattle.at_query.specs.declared.query.queries.Verb.{Verb};
 ghost use Rattle.at_query.specs.Ranges.{IsQueryInRange};
 ghost use Rattle.at_run.specs.Answers.{IfFound};
 ghost use Rattle.at_cli.specs.Answers.{HasFaultAs, IsAnswerAs, IsJoinAs, IsJoinFaultAs};

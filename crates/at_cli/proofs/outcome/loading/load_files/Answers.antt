@@ -6,10 +6,10 @@ use Rattle.at_cli.proofs.ShelfUses.{join_has_second, other_has_none, with_second
 use Rattle.at_cli.proofs.outcome.loading.load_files.Goals as goal
 
 pub load_two-requires-clause-second : goal.load_two-requires-clause-second
-load_two-requires-clause-second g c κs within = join_has_second c.args.query.verb c.args.line.second c.requires.right c.if-is_join.ensures
+load_two-requires-clause-second g c = join_has_second c.args.query.verb c.args.line.second c.requires.right c.if-is_join.ensures
 
 pub load_one-requires-clause-second : goal.load_one-requires-clause-second
-load_one-requires-clause-second g c κs within = other_has_none c.args.query.verb c.args.line.second c.requires.right c.if-is_join.ensures
+load_one-requires-clause-second g c = other_has_none c.args.query.verb c.args.line.second c.requires.right c.if-is_join.ensures
 
 pub returns-then-is_join-clause-outcome : goal.returns-then-is_join-clause-outcome
 returns-then-is_join-clause-outcome g c =

@@ -10,6 +10,7 @@ use Rattle.at_cli.specs.Loading.{Leads, PassesLoaded}
 use Rattle.at_cli.proofs.Loads.{on_end, passes_said}
 use Rattle.at_cli.proofs.Runs.{told_answer, told_line, told_prefix_of, told_refusal, told_complete, is_no_answer, own_status, as_told, answered_status, told_small, line_of_memory}
 use Rattle.at_cli.proofs.OneOutcome.{ends_only}
+use Rattle.at_cli.proofs.outcome.run.top.Goals.{in-None, in-Some}
 use Rattle.at_cli.proofs.outcome.run.top.Goals as goal
 
 pub returns : goal.returns
@@ -23,8 +24,16 @@ returns g c =
     let loaded = c.load-loaded.result in
     let said = c.load-loaded.ensures in
     let ending = c.match-chunk_size.ending in
-    let leads : Leads loaded ending = ? in
-    let passed : status_of ending ≡ 0 → PassesLoaded given_up loaded = ? in
+    let L : Ending → Type 0 = λ end. Leads loaded end in
+    let P : Ending → Type 0 = λ end. status_of end ≡ 0 → PassesLoaded given_up loaded in
+    let leads : L ending = elim c.match-chunk_size.branch [
+      | in-None w ↦ subst L (sym w.ending-is) w.end_in_blocks-ending.ensures.leads
+      | in-Some w ↦ subst L (sym w.ending-is) w.end_in_chunks-ending.ensures.leads
+    ] in
+    let passed : P ending = elim c.match-chunk_size.branch [
+      | in-None w ↦ subst P (sym w.ending-is) w.end_in_blocks-ending.ensures.passes
+      | in-Some w ↦ subst P (sym w.ending-is) w.end_in_chunks-ending.ensures.passes
+    ] in
     let told = c.tell.ensures in
     let status = c.tell.result in
     let own = status_of ending in
@@ -57,8 +66,8 @@ returns g c =
       write_failed = λ four. let (rose, kept, tells) = told.write_failed four in (text_of ending, rose, kept, tells, told_prefix_of (TheOutcome words) files ending status only told.status four);
       no_memory = λ five.
           let tells = (told.told (λ z. omega (arith, five, z)) (λ z. omega (arith, five, z))).1 in
-          let P : List ℕ → Type 0 = λ line. WasTold g.E.Sink c.args.err.now c.tell.new.err line in
-          subst P (line_of_memory ending (own_status status own 5 told.status five (λ z. omega (arith, z)))) tells;
+          let W : List ℕ → Type 0 = λ line. WasTold g.E.Sink c.args.err.now c.tell.new.err line in
+          subst W (line_of_memory ending (own_status status own 5 told.status five (λ z. omega (arith, z)))) tells;
       same_out = λ n0 n4. (told.told n0 n4).0;
       asked = said.asked;
       same_files = said.same_files;
