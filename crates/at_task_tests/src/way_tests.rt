@@ -82,7 +82,7 @@ fn is_told_always<R: Wait + RandomSource + AllocGlobal>(
     rt: &R,
     file: (bool, &[u8], &str),
 ) -> Result<bool, Fail> {
-    let most = (file.1.len() as u32).saturating_add(2);
+    let most = (file.1.len().min(1_000) as u32).saturating_add(2);
     let mut seconds = Vec::new(rt.alloc());
     for call in 0..most {
         seconds.push(call.saturating_mul(2))?;
