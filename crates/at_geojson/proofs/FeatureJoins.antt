@@ -62,10 +62,10 @@ module _ (base : ℕ) (w : List ℕ) where
   alone : (t : Tree) (from to : ℕ) → to ≤ length w → IsPadded (λ j v. Spells j v t) base w from to → Padded (λ j v. Spells j v t) IsEnd (base + from) (between w from to)
   alone t from to fits h = subst (λ z. Padded (λ j v. Spells j v t) IsEnd (base + from) z) (append-nil (between w from to)) (padded_gives (λ j v. Spells j v t) IsEnd base w from to [] fits h refl)
 
-  one_there : (t : Tree) (at end : ℕ) → at < end → end ≤ length w → IsPadded (λ j v. Spells j v t) base w at end → HasBrackets t → AreItemsAt base w at end t []
+  pub one_there : (t : Tree) (at end : ℕ) → at < end → end ≤ length w → IsPadded (λ j v. Spells j v t) base w at end → HasBrackets t → AreItemsAt base w at end t []
   one_there t at end h fits item b = record { order = h; within = fits; spells = alone t at end fits item; brackets = All-cons HasBrackets t [] b (All-nil HasBrackets) }
 
-  more_there : (t : Tree) (ts : List Tree) (at end last : ℕ) (u : Tree) → AreItemsAt base w at end t ts → slice_index w end ≡ 0x2C → end < last → last ≤ length w → IsPadded (λ j v. Spells j v u) base w (end + 1) last → HasBrackets u
+  pub more_there : (t : Tree) (ts : List Tree) (at end last : ℕ) (u : Tree) → AreItemsAt base w at end t ts → slice_index w end ≡ 0x2C → end < last → last ≤ length w → IsPadded (λ j v. Spells j v u) base w (end + 1) last → HasBrackets u
       → AreItemsAt base w at last t (ts ++ u ∷ [])
   more_there t ts at end last u h comma order fits item b =
       let v : List ℕ = between w at end in

@@ -32,6 +32,8 @@ pub mod Roots
 pub mod SimpleTexts
 pub mod ValueParts
 pub mod PassedPairs
+pub mod PositionReads
+pub mod OtherNamesMore
 pub mod ShortStrings
 pub mod RowFolds
 pub mod RingFolds

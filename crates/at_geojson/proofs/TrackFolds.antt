@@ -87,7 +87,7 @@ to_four_large : (n : ℕ) → 4 ≤ n → to_four n ≡ 4
 to_four_large n l = elim (to_four_is n) [ inl few ↦ absurd (omega (arith, l, few.0)) | inr many ↦ many.1 ]
 
 -- the count of both, where each is known up to four
-to_four_both : (c d m n : ℕ) → c ≡ to_four m → d ≡ to_four n → to_four (c + d) ≡ to_four (m + n)
+pub to_four_both : (c d m n : ℕ) → c ≡ to_four m → d ≡ to_four n → to_four (c + d) ≡ to_four (m + n)
 to_four_both c d m n e f = elim (to_four_is m) [
   | inl few ↦ elim (to_four_is n) [
     | inl less ↦ ap (λ z. to_four (z + d)) (e ∙ few.1) ∙ ap (λ z. to_four (m + z)) (f ∙ less.1)

@@ -1,5 +1,5 @@
 -- Hashes of names, by which equal names are looked for. Only contracts of private functions cite this.
-use Rattle.std.specs.Prelude.{ℕ, ◌+◌, ◌*◌, ◌%◌, ◌^◌, ◌≤◌, ◌==◌, List, fold, count_by, Contains}
+use Rattle.std.specs.Prelude.{ℕ, ◌+◌, ◌-◌, ◌*◌, ◌%◌, ◌^◌, ◌≤◌, ◌==◌, List, length, drop, fold, count_by, Contains}
 use Rattle.std.specs.List.Sorted.{IsNonDecreasing}
 use Rattle.at_nest.specs.declared.algebra.Member.{Member}
 use Rattle.at_geojson.specs.declared.atoms.GeoAtom.{GeoAtom}
@@ -12,6 +12,10 @@ hash_more hash unit = ((hash + unit) % 2 ^ 64 * SPREAD) % 2 ^ 64
 -- the hash of a name
 unfoldable pub name_hash : List ℕ → ℕ
 name_hash name = fold hash_more 1 name
+
+-- the hash of the last bytes of a name
+abbrev pub tail_hash : List ℕ → ℕ
+tail_hash name = name_hash (drop (length name - 4) name)
 
 abbrev pub member_hash : Member GeoAtom → ℕ
 member_hash m = name_hash m.name

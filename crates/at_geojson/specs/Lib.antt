@@ -26,5 +26,6 @@ pub mod Members
 pub mod KnownNames
 pub mod Geometries
 pub mod PlainGeometries
+pub mod PositionRuns
 pub mod Features
 pub mod FeatureRuns

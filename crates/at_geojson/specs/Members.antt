@@ -10,8 +10,10 @@ use Rattle.at_geojson.specs.declared.fields.Field.{Field}
 use Rattle.at_geojson.specs.declared.fields.Fields.{Fields}
 use Rattle.at_geojson.specs.declared.places.NamePlace.{NamePlace}
 use Rattle.at_geojson.specs.declared.members.FieldName.{FieldName}
+use Rattle.at_geojson.specs.declared.members.OtherName.{OtherName}
 use Rattle.at_geojson.specs.declared.members.OtherNames.{OtherNames}
 use Rattle.at_geojson.specs.declared.pairs.Whole.{Whole}
+use Rattle.at_geojson.specs.Hashes.{tail_hash}
 use Rattle.at_geojson.specs.Keeping.{Asked}
 use Rattle.at_geojson.specs.Atoms.{twin_of, IsOwn}
 use Rattle.at_geojson.specs.Gathering.{is_among, member_twins}
@@ -29,8 +31,13 @@ pub record IsPlainName (w : List ℕ) (n : NamePlace) : Type 0 where
   pub within : n.end ≤ length w
   pub units : AreUnitsOf (between w n.first n.end) (name_in w n)
 
-abbrev pub is_named_among : List ℕ → List NamePlace → List ℕ → Bool
-is_named_among w names name = list_any (λ n. bytes_eq name (name_in w n)) names
+-- a plain name with the hash of its last bytes
+pub record IsOtherName (w : List ℕ) (n : OtherName) : Type 0 where
+  pub plain : IsPlainName w n.place
+  pub hash : n.hash ≡ tail_hash (name_in w n.place)
+
+abbrev pub is_named_among : List ℕ → List OtherName → List ℕ → Bool
+is_named_among w names name = list_any (λ (n : OtherName). bytes_eq name (name_in w n.place)) names
 
 -- the name is one of those of members for which no kind asks
 abbrev pub is_among_others : List ℕ → OtherNames → List ℕ → Bool
@@ -38,14 +45,20 @@ is_among_others w others name = is_named_among w (take others.count others.near)
     || is_named_among w others.far.items name
 
 pub record ArePlainOthers (w : List ℕ) (others : OtherNames) : Type 0 where
-  pub few : others.count ≤ 4
-  pub near : All (IsPlainName w) (take others.count others.near)
-  pub far : All (IsPlainName w) others.far.items
+  pub few : others.count ≤ 8
+  pub near : All (IsOtherName w) (take others.count others.near)
+  pub far : All (IsOtherName w) others.far.items
 
 -- the new ones are the old ones and this one
 pub record AddsName (w : List ℕ) (n : NamePlace) (old new : OtherNames) : Type 0 where
   pub names : (name : List ℕ) → is_among_others w new name ≡ (is_among_others w old name || bytes_eq name (name_in w n))
   pub plain : ArePlainOthers w old → IsPlainName w n → ArePlainOthers w new
+
+-- the same of a name with its hash
+pub record AddsOther (w : List ℕ) (n : OtherName) (old new : OtherNames) : Type 0 where
+  pub names : (name : List ℕ) → is_among_others w new name
+      ≡ (is_among_others w old name || bytes_eq name (name_in w n.place))
+  pub plain : ArePlainOthers w old → IsOtherName w n → ArePlainOthers w new
 
 -- no member before has the name, which is put to the others where no kind asks for the member
 pub record IsNewName (w : List ℕ) (fields : Fields) (old new : OtherNames) (n : FieldName) : Type 0 where

@@ -31,7 +31,7 @@ use at_text::{Fault, Halt, Memory};
 use std::alloc::Global;
 
 /// So many members for which no kind asks may stand before the first of a feature's own.
-const EARLY: usize = 2;
+const EARLY: usize = 6;
 
 /// A feature that was read: the place behind it, and its part or its first fault.
 #[derive(Drop)]
@@ -276,8 +276,8 @@ fn properties_member(
 }
 
 /// A member of the feature at the offset, behind its name. Of those of one name the first alone is read. Before the
-/// first of a feature's own members few others are passed over, and no arrays and objects: an object that is no feature
-/// is soon given up.
+/// first of a feature's own members few others are passed over, and none in which arrays and objects stand in one
+/// another: an object that is no feature is soon given up.
 #[inline(always)]
 fn read_member(
     algebra: &GeoAlgebra,
@@ -311,7 +311,7 @@ fn read_member(
             if begun {
                 pass_other(algebra, alloc, text, base, at, DEEPEST)
             } else {
-                pass_early(algebra, text, base, at)
+                pass_early(algebra, alloc, text, base, at)
             }
         }
         _ => Err(Halt::At(OTHER_KIND)),

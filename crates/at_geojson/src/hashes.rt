@@ -2,7 +2,7 @@
 
 ghost use Rattle.std.specs.Prelude.{◌≡◌, ◌≤◌, ◌↔◌, ℕ, All, Contains, IfOk, IsTrue, OnOk, map};
 ghost use Rattle.std.specs.List.Sorted.{IsNonDecreasing};
-ghost use Rattle.at_geojson.specs.Hashes.{name_hash, member_hash, HaveRepeated};
+ghost use Rattle.at_geojson.specs.Hashes.{name_hash, tail_hash, member_hash, HaveRepeated};
 
 use crate::atoms::GeoAtom;
 use at_nest::Member;
@@ -22,6 +22,29 @@ pub fn hash_of(name: &[u16]) -> u64
         hash = hash.wrapping_add(u64::from(*unit)).wrapping_mul(SPREAD);
     }
     hash
+}
+
+/// The same of bytes in ASCII.
+#[inline(always)]
+fn hash_of_bytes(name: &[u8]) -> u64
+    ensures { result ≡ name_hash name.now }
+{
+    let mut hash: u64 = 1;
+    for unit in name {
+        hash = hash.wrapping_add(u64::from(*unit)).wrapping_mul(SPREAD);
+    }
+    hash
+}
+
+/// So many bytes at the end of a name tell most names apart.
+const TAIL: usize = 4;
+
+/// The hash of the last bytes of a name in ASCII.
+#[inline(always)]
+pub fn hash_of_tail(name: &[u8]) -> u64
+    ensures { result ≡ tail_hash name.now }
+{
+    hash_of_bytes(&name[name.len().saturating_sub(TAIL)..])
 }
 
 /// The hashes of the members' names.

@@ -30,6 +30,8 @@ const LINE_STRING: &[u8] = b"\"LineString\"    ";
 
 const POLYGON: &[u8] = b"\"Polygon\"       ";
 
+const COLLECTION: &[u8] = b"\"FeatureCollecti";
+
 const MULTI_POLYGON: &[u8] = b"\"MultiPolygon\"  ";
 
 /// How many of the sixteen bytes at a place are those of the word, up to the first that isn't.
@@ -110,6 +112,12 @@ fn word_kind(text: &[u8], at: usize, word: &[u8], count: usize, kind: Kind) -> O
     }
     let end = at + count;
     Some(KindRead { end, kind })
+}
+
+/// Whether the name of the kind of collections of features seems to begin at the place: it is longer than what is looked
+/// at together.
+pub fn begins_collection(text: &[u8], at: usize) -> bool {
+    stands_word(text, at, COLLECTION, LANES)
 }
 
 /// One of the kinds that are named most often, whose name stands at the place.

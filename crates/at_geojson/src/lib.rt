@@ -36,6 +36,7 @@ mod passing;
 mod places;
 mod plain_geometries;
 mod plain_objects;
+mod position_runs;
 mod readings;
 mod rings;
 mod root;

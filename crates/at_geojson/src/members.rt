@@ -6,10 +6,11 @@ ghost use Rattle.at_lex.specs.Spans.{AreSpaces};
 ghost use Rattle.at_geojson.specs.Places.{IsNameAt, IsSimpleTextAt};
 ghost use Rattle.at_geojson.specs.Fields.{field_of};
 ghost use Rattle.at_geojson.specs.Members.{name_in, IsPlainName, is_named_among, is_among_others, ArePlainOthers};
-ghost use Rattle.at_geojson.specs.Members.{AddsName, IsNewName};
+ghost use Rattle.at_geojson.specs.Members.{AddsName, IsNewName, IsOtherName, AddsOther};
 ghost use Rattle.at_geojson.specs.KnownNames.{IsFieldName};
 
 use crate::fields::{Field, Fields, field_of_bytes, is_other};
+use crate::hashes::hash_of_tail;
 use crate::known_names::known_name;
 use crate::places::{NamePlace, ended_name, name_place, skip_spaces};
 use crate::scalars::is_simple;
@@ -18,17 +19,24 @@ use at_text::Halt;
 use std::alloc::Global;
 
 /// So many names of members for which no kind asks are kept in place.
-const NEAR: usize = 4;
+const NEAR: usize = 8;
 
 /// So many more of them are kept at the most.
 const MOST: usize = 64;
+
+/// The name of a member for which no kind asks, with the hash of its last bytes.
+#[derive(Clone, Copy)]
+pub struct OtherName {
+    pub place: NamePlace,
+    pub hash: u64,
+}
 
 /// The names of an object's members for which no kind asks: the first few in place, and the others in memory.
 #[derive(Drop)]
 pub struct OtherNames {
     pub count: usize,
-    pub near: [NamePlace; NEAR],
-    pub far: Vec<NamePlace>,
+    pub near: [OtherName; NEAR],
+    pub far: Vec<OtherName>,
 }
 
 /// The name of a member, and which member it is.
@@ -48,14 +56,28 @@ fn is_same(text: &[u8], a: NamePlace, b: NamePlace) -> bool
     text[a.first + 1..a.end - 1] == text[b.first + 1..b.end - 1]
 }
 
+/// Whether two names with their hashes are the same: those with unlike hashes are not.
+#[inline(always)]
+fn is_name(text: &[u8], a: OtherName, b: OtherName) -> bool
+    requires a { IsOtherName text.now a }
+    requires b { IsOtherName text.now b }
+    ensures { result ≡ bytes_eq (name_in text.now a.place) (name_in text.now b.place) }
+{
+    if a.hash != b.hash {
+        return false;
+    }
+    is_same(text, a.place, b.place)
+}
+
 /// Whether a name is among others.
-fn is_among(text: &[u8], names: &[NamePlace], name: NamePlace) -> bool
-    requires names { All (IsPlainName text.now) names.now }
-    requires name { IsPlainName text.now name }
-    ensures { result ≡ is_named_among text.now names.now (name_in text.now name) }
+#[inline(always)]
+fn is_among(text: &[u8], names: &[OtherName], name: OtherName) -> bool
+    requires names { All (IsOtherName text.now) names.now }
+    requires name { IsOtherName text.now name }
+    ensures { result ≡ is_named_among text.now names.now (name_in text.now name.place) }
 {
     for other in names {
-        if is_same(text, name, *other) {
+        if is_name(text, name, *other) {
             return true;
         }
     }
@@ -119,28 +141,34 @@ impl OtherNames {
         };
         OtherNames {
             count: 0,
-            near: [nowhere; NEAR],
+            near: [OtherName {
+                place: nowhere,
+                hash: 0,
+            }; NEAR],
             far: Vec::new(alloc),
         }
     }
 
     /// Whether a name is among them.
-    fn has(&self, text: &[u8], name: NamePlace) -> bool
+    fn has(&self, text: &[u8], name: OtherName) -> bool
         requires names { ArePlainOthers text.now self.now }
-        requires name { IsPlainName text.now name }
-        ensures { result ≡ is_among_others text.now self.now (name_in text.now name) }
+        requires name { IsOtherName text.now name }
+        ensures { result ≡ is_among_others text.now self.now (name_in text.now name.place) }
     {
         if is_among(text, &self.near[..self.count], name) {
             return true;
+        }
+        if self.far.is_empty() {
+            return false;
         }
         is_among(text, self.far.as_slice(), name)
     }
 
     /// One more name, unless they are too many.
     #[inline(always)]
-    fn add(&mut self, name: NamePlace) -> Result<(), Halt>
-        requires { self.old.count ≤ 4 }
-        ensures { IfOk result (λ _. (w : List ℕ) → AddsName w name self.old self.new) }
+    fn add(&mut self, name: OtherName) -> Result<(), Halt>
+        requires { self.old.count ≤ 8 }
+        ensures { IfOk result (λ _. (w : List ℕ) → AddsOther w name self.old self.new) }
     {
         if self.count < NEAR {
             self.near[self.count] = name;
@@ -148,10 +176,23 @@ impl OtherNames {
             return Ok(());
         }
         if self.far.len() >= MOST {
-            return Err(Halt::At(name.end));
+            return Err(Halt::At(name.place.end));
         }
         self.far.push(name)?;
         Ok(())
+    }
+}
+
+/// A name with its hash.
+#[inline(always)]
+fn other_name(text: &[u8], place: NamePlace) -> OtherName
+    requires { IsPlainName text.now place }
+    ensures name { IsOtherName text.now result }
+    ensures place { result.place ≡ place }
+{
+    OtherName {
+        place,
+        hash: hash_of_tail(&text[place.first + 1..place.end - 1]),
     }
 }
 
@@ -163,10 +204,11 @@ pub fn add_other(text: &[u8], others: &mut OtherNames, name: NamePlace) -> Resul
     ensures new { IfOk result (λ _. is_among_others text.now others.old (name_in text.now name) ≡ false) }
     ensures adds { IfOk result (λ _. AddsName text.now name others.old others.new) }
 {
-    if others.has(text, name) {
+    let other = other_name(text, name);
+    if others.has(text, other) {
         return Err(Halt::At(name.end));
     }
-    others.add(name)?;
+    others.add(other)?;
     Ok(())
 }
 

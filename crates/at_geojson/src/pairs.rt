@@ -243,7 +243,7 @@ pub fn pass_pair(algebra: &GeoAlgebra, text: &[u8], at: usize) -> Option<PairPla
 
 /// The place behind a position that is passed over.
 #[inline(always)]
-fn pass_spaced(algebra: &GeoAlgebra, text: &[u8], at: usize) -> Option<usize>
+pub fn pass_spaced(algebra: &GeoAlgebra, text: &[u8], at: usize) -> Option<usize>
     requires inside { at ≤ length text.now }
     requires short { length text.now ≤ 2 ^ 28 }
     ensures { IfSome result (PassesTo algebra.now text.now at) }

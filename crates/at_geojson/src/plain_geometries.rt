@@ -11,7 +11,7 @@ use crate::asked::GeoAlgebra;
 use crate::fields::{is_coordinates, is_kind, kind_named};
 use crate::geometries::Geometry;
 use crate::kinds::Kind;
-use crate::known_names::known_kind;
+use crate::known_names::{begins_collection, known_kind};
 use crate::measured_geometries::{PartRead, measure_coordinates};
 use crate::members::field_name;
 use crate::objects::of_feature;
@@ -38,6 +38,19 @@ pub struct ShapeRead {
     pub shape: Result<Geometry, Fault>,
 }
 
+/// Where an object is given up whose kind isn't named by a short text. A collection of features isn't read as a value
+/// either: it is large, and its features are read one behind another.
+fn long_kind(text: &[u8], at: usize) -> usize
+    requires { at ≤ length text.now }
+{
+    let first = skip_spaces(text, at);
+    if begins_collection(text, first) {
+        first.max(1)
+    } else {
+        OTHER_KIND
+    }
+}
+
 /// White space, the name of a kind that isn't looked at as a whole word, and white space.
 fn any_kind(algebra: &GeoAlgebra, text: &[u8], base: u32, at: usize) -> Result<KindRead, Halt>
     requires inside { at ≤ length text.now }
@@ -46,7 +59,7 @@ fn any_kind(algebra: &GeoAlgebra, text: &[u8], base: u32, at: usize) -> Result<K
     ensures { IfOk result (IsKindRead algebra.now base text.now at) }
 {
     let Some(Whole { end, atom }) = read_simple(algebra, text, base, at) else {
-        return Err(Halt::At(OTHER_KIND));
+        return Err(Halt::At(long_kind(text, at)));
     };
     match kind_named(&atom) {
         Some(kind) => Ok(KindRead { end, kind }),

@@ -18,6 +18,9 @@ use crate::values::{DEEPEST, read_item, read_simple};
 use at_text::Halt;
 use std::alloc::Global;
 
+/// So deep stand brackets in an array of numbers, as `bbox` is.
+const FLAT: u8 = 1;
+
 /// White space, a value in which brackets stand at most so deep, and white space.
 #[inline(always)]
 pub fn pass_other(
@@ -43,16 +46,24 @@ pub fn pass_other(
     Ok(end)
 }
 
-/// White space, a string, literal or number, and white space, before it is known what the object is.
-pub fn pass_early(algebra: &GeoAlgebra, text: &[u8], base: u32, at: usize) -> Result<usize, Halt>
+/// White space, a string, literal or number, or an array or object of these, and white space, before it is known what the
+/// object is.
+pub fn pass_early(
+    algebra: &GeoAlgebra,
+    alloc: Global,
+    text: &[u8],
+    base: u32,
+    at: usize,
+) -> Result<usize, Halt>
     requires inside { at ≤ length text.now }
     requires fits { base + length text.now ≤ 2 ^ 28 }
     requires unasked { list_any looks_at_texts algebra.now.query.tests ≡ false }
     ensures { IfOk result (PassesOther algebra.now base text.now at) }
 {
-    match pass_item(algebra, text, at) {
-        Some(end) => Ok(end),
-        None => Err(Halt::At(OTHER_KIND)),
+    match pass_other(algebra, alloc, text, base, at, FLAT) {
+        Ok(end) => Ok(end),
+        Err(Halt::Memory) => Err(Halt::Memory),
+        Err(Halt::At(_)) => Err(Halt::At(OTHER_KIND)),
     }
 }
 

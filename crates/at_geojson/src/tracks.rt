@@ -158,7 +158,7 @@ fn one_position(alloc: Global, needs: bool, atom: &GeoAtom) -> Result<TrackAtom,
 }
 
 /// A track of one position, or the track itself.
-fn new_track(alloc: Global, needs: bool, atom: GeoAtom) -> Result<TrackAtom, Memory>
+pub fn new_track(alloc: Global, needs: bool, atom: GeoAtom) -> Result<TrackAtom, Memory>
     ensures { IfOk result (Begins needs atom) }
 {
     match atom {
@@ -168,7 +168,7 @@ fn new_track(alloc: Global, needs: bool, atom: GeoAtom) -> Result<TrackAtom, Mem
 }
 
 /// A track, and the positions of an atom behind it.
-fn joined_track(needs: bool, before: TrackAtom, atom: GeoAtom) -> Result<TrackAtom, Memory>
+pub fn joined_track(needs: bool, before: TrackAtom, atom: GeoAtom) -> Result<TrackAtom, Memory>
     ensures { IfOk result (Joins needs before atom) }
 {
     let at = before.at.min(at_of(&atom));

@@ -14,6 +14,7 @@ use crate::feature_runs::{FeaturesRead, read_features};
 use crate::features::feature_value;
 use crate::pairs::Whole;
 use crate::places::{OTHER_KIND, skip_spaces, stands};
+use crate::position_runs::read_positions;
 use crate::values::{DEEPEST, read_list, read_object};
 use at_text::Halt;
 use std::alloc::Global;
@@ -107,8 +108,21 @@ fn object_items(algebra: &GeoAlgebra, alloc: Global, text: &[u8], base: u32) -> 
     }
 }
 
-/// Items of an array that begin the text, whose first byte, a bracket, stands at the offset: features as far as they go
-/// and no test looks at texts, or one array or object.
+/// Positions that begin the text, or one other array.
+fn array_items(algebra: &GeoAlgebra, alloc: Global, text: &[u8], base: u32) -> Result<Whole, Halt>
+    requires begins { (b : Bracket) × (more : List ℕ) × (text.now ≡ opening b ∷ more) }
+    requires fits { base + length text.now ≤ 2 ^ 28 }
+    ensures { IfOk result (AreItemsWhole algebra.now base text.now 0) }
+{
+    match read_positions(algebra, alloc, text, base) {
+        Ok(whole) => Ok(whole),
+        Err(Halt::Memory) => Err(Halt::Memory),
+        Err(Halt::At(_)) => one_item(algebra, alloc, text, base),
+    }
+}
+
+/// Items of an array that begin the text, whose first byte, a bracket, stands at the offset: positions as far as they
+/// go, features as far as they go and no test looks at texts, or one array or object.
 pub fn whole_items(
     algebra: &GeoAlgebra,
     alloc: Global,
@@ -119,7 +133,10 @@ pub fn whole_items(
     requires fits { base + length text.now ≤ 2 ^ 28 }
     ensures { IfOk result (AreItemsWhole algebra.now base text.now 0) }
 {
-    if !stands(text, 0, b'{') || needs_texts(algebra.query().tests.as_slice()) {
+    if !stands(text, 0, b'{') {
+        return array_items(algebra, alloc, text, base);
+    }
+    if needs_texts(algebra.query().tests.as_slice()) {
         return one_item(algebra, alloc, text, base);
     }
     object_items(algebra, alloc, text, base)

@@ -1,0 +1,140 @@
+//! Positions one behind another in an array, read at once: they are one track. So a list that goes on beyond what is
+//! seen of it is read in few steps.
+
+ghost use Rattle.std.specs.Prelude.{◌≡◌, ◌+◌, ◌<◌, ◌≤◌, ◌^◌, length, false, IfOk, IfSome};
+ghost use Rattle.at_geojson.specs.Keeping.{needs_shapes as needs_of};
+ghost use Rattle.at_geojson.specs.Values.{IsSpacedPair};
+ghost use Rattle.at_geojson.specs.FeatureRuns.{AreItemsWhole};
+ghost use Rattle.at_geojson.specs.PositionRuns.{IsNextPair, PassesNext, IsPassedTrack};
+
+use crate::asked::GeoAlgebra;
+use crate::atoms::{GeoAtom, Track, TrackAtom};
+use crate::pairs::{PairRead, Whole, one_more, pass_spaced, read_spaced};
+use crate::places::{OTHER_KIND, stands};
+use crate::tracks::{joined_track, new_track};
+use at_text::Halt;
+use std::alloc::Global;
+
+/// A comma, which stands at the place, and a position with white space round it.
+#[inline(always)]
+fn next_pair(algebra: &GeoAlgebra, text: &[u8], base: u32, at: usize) -> Option<PairRead>
+    requires fits { base + length text.now ≤ 2 ^ 28 }
+    ensures { IfSome result (IsNextPair algebra.now base text.now at) }
+{
+    if stands(text, at, b',') {
+        read_spaced(algebra, text, base, at + 1)
+    } else {
+        None
+    }
+}
+
+/// The same, passed over.
+#[inline(always)]
+fn pass_next(algebra: &GeoAlgebra, text: &[u8], at: usize) -> Option<usize>
+    requires short { length text.now ≤ 2 ^ 28 }
+    ensures { IfSome result (PassesNext algebra.now text.now at) }
+{
+    if stands(text, at, b',') {
+        pass_spaced(algebra, text, at + 1)
+    } else {
+        None
+    }
+}
+
+/// Positions of which the first was read, where shapes are kept.
+fn keep_positions(
+    algebra: &GeoAlgebra,
+    alloc: Global,
+    text: &[u8],
+    base: u32,
+    first: PairRead,
+) -> Result<Whole, Halt>
+    requires fits { base + length text.now ≤ 2 ^ 28 }
+    requires first { IsSpacedPair algebra.now base text.now 0 first }
+    ensures { IfOk result (AreItemsWhole algebra.now base text.now 0) }
+{
+    let needs = algebra.needs_shapes();
+    let mut track = new_track(alloc, needs, GeoAtom::Position(first.pair))?;
+    let mut end = first.end;
+    'positions: while let Some(next) = next_pair(algebra, text, base, end) {
+        track = joined_track(needs, track, GeoAtom::Position(next.pair))?;
+        end = next.end;
+    }
+    Ok(Whole {
+        end,
+        atom: GeoAtom::Track(track),
+    })
+}
+
+/// A track of so many positions, up to four, none of whose values are kept.
+fn passed_track(alloc: Global, first: PairRead, count: u32, last: PairRead) -> Result<Whole, Halt>
+    ensures { IfOk result (IsPassedTrack first count last) }
+{
+    let track = Track {
+        first: Some(first.pair.pos),
+        last: Some(last.pair.pos),
+        count,
+        fault: None,
+        path: Vec::new(alloc),
+    };
+    Ok(Whole {
+        end: last.end,
+        atom: GeoAtom::Track(TrackAtom {
+            at: first.pair.at,
+            track: Box::new(alloc, track)?,
+        }),
+    })
+}
+
+/// Positions of which the first was read, where no shapes are kept: but the last, which is read, the others are passed
+/// over.
+fn pass_positions(
+    algebra: &GeoAlgebra,
+    alloc: Global,
+    text: &[u8],
+    base: u32,
+    first: PairRead,
+) -> Result<Whole, Halt>
+    requires fits { base + length text.now ≤ 2 ^ 28 }
+    requires first { IsSpacedPair algebra.now base text.now 0 first }
+    requires unneeded { needs_of algebra.now.query ≡ false }
+    ensures { IfOk result (AreItemsWhole algebra.now base text.now 0) }
+{
+    let Some(mut ahead) = pass_next(algebra, text, first.end) else {
+        return Ok(Whole {
+            end: first.end,
+            atom: GeoAtom::Position(first.pair),
+        });
+    };
+    let mut end = first.end;
+    let mut count = 1;
+    'positions: while let Some(next) = pass_next(algebra, text, ahead) {
+        count = one_more(count);
+        end = ahead;
+        ahead = next;
+    }
+    match next_pair(algebra, text, base, end) {
+        Some(last) => passed_track(alloc, first, one_more(count), last),
+        None => Err(Halt::At(OTHER_KIND)),
+    }
+}
+
+/// Positions one behind another in an array that begin the text.
+pub fn read_positions(
+    algebra: &GeoAlgebra,
+    alloc: Global,
+    text: &[u8],
+    base: u32,
+) -> Result<Whole, Halt>
+    requires fits { base + length text.now ≤ 2 ^ 28 }
+    ensures { IfOk result (AreItemsWhole algebra.now base text.now 0) }
+{
+    let Some(first) = read_spaced(algebra, text, base, 0) else {
+        return Err(Halt::At(OTHER_KIND));
+    };
+    if algebra.needs_shapes() {
+        keep_positions(algebra, alloc, text, base, first)
+    } else {
+        pass_positions(algebra, alloc, text, base, first)
+    }
+}
