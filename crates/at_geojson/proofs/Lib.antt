@@ -1,5 +1,6 @@
 pub mod Firsts
 pub mod MeasureFolds
+pub mod MadeFolds
 pub mod MeasuredParts
 pub mod Repeats
 pub mod TallyFolds

@@ -27,12 +27,12 @@ use Rattle.at_geojson.proofs.TallyFolds.{asks_values, needs_are, flat, points_to
 use Rattle.at_geojson.proofs.ValueParts.{pair_read}
 
 -- the place where a position ends that was passed over
-pub pair_ends : (asked : Asked) (base : ℕ) (w : List ℕ) (at : ℕ) (p : PairPlace) → PassesPair asked w at p → p.bracket ≡ at → EndsPair asked base w at (p.y.end + 1)
+pub pair_ends : (asked : Asked) (base : ℕ) (w : List ℕ) (at : ℕ) (p : PairPlace) → PassesPair asked w at p → p.bracket ≡ at → EndsPair asked base w at p.close
 pair_ends asked base w at p (pos, h) e =
-    subst (λ z. EndsPair asked base w z (p.y.end + 1)) e (
-      record { end = p.y.end + 1; pair = pair_of base p pos },
+    subst (λ z. EndsPair asked base w z p.close) e (
+      record { end = p.close; pair = pair_of base p pos },
       refl,
-      pair_read asked base w p.bracket (plain_at p.x pos.x) (plain_at p.y pos.y) pos.x pos.y refl refl h.inside h.opens h.x h.middle h.comma h.y h.last h.closes,
+      pair_read asked base w p.bracket (plain_at p.x pos.x) (plain_at p.y pos.y) pos.x pos.y refl refl h.inside h.opens h.x h.middle h.comma h.y p.close h.closes,
     )
 
 module _ (asked : Asked) (measure : Measure) (e : measure_of asked.query ≡ Some measure) (base : ℕ) (w : List ℕ) (at : ℕ) (r : PartRead) where

@@ -1,6 +1,6 @@
 -- Rows of positions: what is made of them is what is made of the list of their atoms.
 -- For `add`, `array` and `value`.
-use Rattle.std.proofs.Common.{◌≡◌, ℕ, ◌+◌, ◌<◌, ◌≤◌, ◌⊎◌, inl, inr, min, Bool, true, false, not, ◌&&◌, ◌||◌, ◌==◌, if◌then◌else◌, nat_lt, List, [], ◌∷◌, ◌++◌, All, fold, map, length, slice_index, None, is_none, refl, sym, ◌∙◌, ap, subst, arith, append-nil}
+use Rattle.std.proofs.Common.{◌≡◌, ℕ, ◌+◌, ◌<◌, ◌≤◌, ◌⊎◌, inl, inr, min, Bool, true, false, not, ◌&&◌, ◌||◌, ◌==◌, if◌then◌else◌, nat_lt, List, [], ◌∷◌, ◌++◌, All, fold, map, length, slice_index, None, is_none, refl, sym, ◌∙◌, ap, subst, arith}
 use Rattle.std.specs.Ordering.{int_eq}
 use Rattle.std.proofs.Math.Nat.{min-eq_left}
 use Rattle.std.proofs.lemmas.Bool.{ltb-true, ltb-false}
@@ -192,19 +192,3 @@ module _ (asked : Asked) (base : ℕ) (w : List ℕ) where
               fold = points_fold asked (base + at) all (λ e. cc) twins (needs_shapes asked.query) row.first.at (atoms.Points m) refl least sort made ts read.folds;
             });
       }
-
-  -- ---- lists of positions of which those between the first and the last are passed over
-
-  unkept : (row longer : Row) (last : PositionAtom) → needs_shapes asked.query ≡ false → longer.first ≡ row.first → longer.last ≡ last.pos → longer.path.items ≡ row.path.items
-      → ((n : ℕ) → row.count ≡ to_four n → longer.count ≡ to_four (n + 1)) → LengthensRow (needs_shapes asked.query) row last longer
-  unkept row longer last none ef el ep ec = subst (λ b. LengthensRow b row last longer) (sym none) (lengthened false row longer last ef el (ep ∙ sym (append-nil row.path.items)) ec)
-
-  pub unkept_begin : (at : ℕ) (p : PairRead) (row : Row) → at < length w → IsSpacedPair asked base w (at + 1) p → needs_shapes asked.query ≡ false → row.path.items ≡ [] → row.first ≡ p.pair → row.last ≡ row.first.pos → row.count ≡ 1
-      → ArePointsRead asked base w at p.end row
-  unkept_begin at p row inside pair none ep ef el ec = points_begin at p row inside pair ef (subst (λ b. IsRow b row []) (sym none) (record { next = tt; path = ep; count = ec; last = el }))
-
-  pub passed_on : (at end count : ℕ) (p : PairRead) (row : Row) → needs_shapes asked.query ≡ false → ArePointsRead asked base w at end row → end < length w → slice_index w end ≡ 0x2C → IsSpacedPair asked base w (end + 1) p
-      → ((n : ℕ) → row.count ≡ to_four n → count ≡ to_four (n + 1)) → ArePointsRead asked base w at p.end (record { first = row.first; last = p.pair.pos; count = count; path = row.path })
-  passed_on at end count p row none read inside comma pair more =
-      let longer : Row = record { first = row.first; last = p.pair.pos; count = count; path = row.path } in
-      points_go_on at end p row longer read inside comma pair (unkept row longer p.pair none refl refl refl more)

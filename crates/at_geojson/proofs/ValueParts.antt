@@ -1,7 +1,9 @@
 -- What the readers of whole values find of a text: the parts that they read spell trees, for which the atoms stand.
 -- For `add`, `array` and `value`.
-use Rattle.std.proofs.Common.{false, None, Result, Err, if◌then◌else◌, ◌≡◌, ℕ, zero, suc, ◌+◌, ◌-◌, ◌<◌, ◌≤◌, min, inl, inr, ℤ, true, Some, Ok, List, [], ◌∷◌, ◌++◌, All, length, take, drop, slice_index, take-append-drop, refl, sym, ◌∙◌, ap, subst, arith}
+use Rattle.std.proofs.Common.{false, None, Result, Err, if◌then◌else◌, ◌==◌, ◌&&◌, ◌++◌, fold, ◌≡◌, ℕ, zero, suc, ◌+◌, ◌-◌, ◌<◌, ◌≤◌, min, inl, inr, ℤ, true, Some, Ok, List, [], ◌∷◌, All, length, take, drop, slice_index, take-append-drop, refl, sym, ◌∙◌, ap, subst, arith}
+use Rattle.std.specs.Bool.{⊤}
 use Rattle.std.specs.List.{list_any}
+use Rattle.at_text.specs.Faults.{first_fault}
 use Rattle.std.proofs.Math.Nat.{min-eq_left}
 use Rattle.std.proofs.lemmas.List.{length-drop}
 use Rattle.std.proofs.lemmas.List.Elements.{All-nil, All-cons, All-append}
@@ -9,6 +11,7 @@ use Rattle.at_text.specs.Prefix.{TakesLongest}
 use Rattle.at_text.specs.declared.prefixes.Taken.{Taken}
 use Rattle.at_fixed.specs.declared.rounding.Coords.{Coords}
 use Rattle.at_fixed.specs.declared.rounding.FixedFault.{FixedFault}
+use Rattle.at_fixed.specs.declared.rounding.FixedFault.TheVariants.{Scale, Range}
 use Rattle.at_fixed.specs.NumberSoFar.{between}
 use Rattle.at_fixed.specs.Numerals.{Numeral, JsonNumber}
 use Rattle.at_fixed.specs.Fixed.{IsFixedOf, fixed_of}
@@ -23,23 +26,25 @@ use Rattle.at_nest.specs.declared.algebra.Member.{Member}
 use Rattle.at_nest.specs.declared.algebra.Attempt.TheVariants.{Whole as WholeAttempt}
 use Rattle.at_nest.specs.Folds.{IsScalarText, IsAttempt, AreFolds, AreMemberFolds}
 use Rattle.at_nest.specs.Tree.{Tree, literal, number, text, array, object, no_trees, Spells, SpellsName}
-use Rattle.at_nest.specs.Passing.{IsPadded, items_of, Named, members_of}
+use Rattle.at_nest.specs.Passing.{IsPadded, ItemsBefore, items_of, Named, members_of}
 use Rattle.at_nest.proofs.Ahead.{no_nil}
 use Rattle.at_nest.proofs.Passed.{items_none, items_on, items_end, items_empty, members_none, members_on, members_end, members_empty}
 use Rattle.at_geojson.specs.declared.atoms.GeoAtom.{GeoAtom}
 use Rattle.at_geojson.specs.declared.atoms.GeoAtom.TheVariants as atoms
 use Rattle.at_geojson.specs.declared.atoms.NumberAtom.{NumberAtom}
 use Rattle.at_geojson.specs.declared.atoms.TextAtom.{TextAtom}
+use Rattle.at_geojson.specs.declared.sorts.Sort.TheVariants as sorts
 use Rattle.at_geojson.specs.declared.places.NamePlace.{NamePlace}
 use Rattle.at_geojson.specs.declared.pairs.Whole.{Whole}
 use Rattle.at_geojson.specs.declared.pairs.Plain.{Plain}
 use Rattle.at_geojson.specs.declared.pairs.PairRead.{PairRead}
 use Rattle.at_geojson.specs.Names.{kind_of_text}
 use Rattle.at_geojson.specs.Keeping.{Asked, looks_at_texts}
-use Rattle.at_geojson.specs.Atoms.{twin_of, IsOwn, IsFold}
-use Rattle.at_geojson.specs.Gathering.{least_of, pair_atom}
+use Rattle.at_geojson.specs.Atoms.{twin_of, at_of, IsOwn, IsFold}
+use Rattle.at_geojson.specs.Gathering.{firsts, are_all, rank, sort_of, sort_of_all, least_of, pair_atom}
 use Rattle.at_geojson.specs.Places.{IsTextAt, IsNameAt, IsScalarAt}
-use Rattle.at_geojson.specs.Values.{IsPlain, IsPair, IsSpacedPair, IsWhole, IsItem, AreItemsRead, AreMembersRead, EndsArray, EndsObject}
+use Rattle.at_geojson.specs.Values.{IsPlain, IsFurther, AreFurther, EndsPosition, IsPair, IsSpacedPair, IsWhole, IsItem, AreItemsRead, AreMembersRead, EndsArray, EndsObject}
+use Rattle.at_geojson.proofs.Firsts.{firsts-cons}
 use Rattle.at_geojson.proofs.SimpleTexts.{none_asked}
 use Rattle.at_geojson.proofs.ScalarFolds.{number_found, number_folds, own_number, text_folds, null_folds, true_folds, false_folds, bad_number_at}
 use Rattle.at_geojson.proofs.OwnFolds.{pair_own}
@@ -119,6 +124,11 @@ name_units w at n units h u = subst (λ z. AreUnitsOf z units) (rest_to w n.firs
 abbrev pub text_kind : ℕ → List Character → GeoAtom
 text_kind i cs = atoms.Text (record { at = i; kind = kind_of_text (units_of cs); units = None })
 
+-- one more number of a position
+pub further_last : (w : List ℕ) (at : ℕ) (es : List ℕ) (end e : ℕ) → AreFurther w at es end → IsFurther w end e → AreFurther w at (es ++ e ∷ []) e
+further_last w at [] end e f h = (subst (λ z. IsFurther w z e) (sym f) h, refl)
+further_last w at (a ∷ es) end e f h = (f.0, further_last w a es end e f.1 h)
+
 module _ (asked : Asked) (base : ℕ) (w : List ℕ) where
   -- an atom of all trees that the bytes spell
   abbrev StandsAt : ℕ → ℕ → GeoAtom → Type 0
@@ -193,32 +203,154 @@ module _ (asked : Asked) (base : ℕ) (w : List ℕ) where
 
   -- ---- positions
 
+  pub folds_last : (xs : List GeoAtom) (x : GeoAtom) (done : List Tree) (t : Tree) → AreFolds (IsFold asked) xs (items_of done) → IsFold asked x t → AreFolds (IsFold asked) (xs ++ x ∷ []) (items_of (done ++ t ∷ []))
+  folds_last [] x [] t h k = (k, tt)
+  folds_last (y ∷ xs) x (u ∷ done) t h k = (h.0, folds_last xs x done t h.1 k)
+  folds_last [] x (u ∷ done) t h k = absurd h
+  folds_last (y ∷ xs) x [] t h k = absurd h
+
+  -- a number that is no more than passed over
+  record HasNumber (at end : ℕ) : Type 0 where
+    pub atom : GeoAtom
+    pub own : IsOwn asked atom
+    pub tree : Tree
+    pub padded : IsPadded (λ j v. Spells j v tree) base w at end
+    pub fold : IsFold asked atom tree
+    pub is_number : sort_of atom ≡ sorts.Number
+    pub no_twin : twin_of atom ≡ None
+    pub behind : base + at ≤ at_of atom
+
+  further_number : (at end : ℕ) → IsFurther w at end → HasNumber (at + 1) end
+  further_number at end f = found f.number where
+    of_numeral : (n : Numeral) → Spells (base + f.first) (between w f.first f.last) (number (base + f.first) n) → (r : Result ℤ FixedFault) → r ≡ fixed_of n asked.digits asked.how → HasNumber (at + 1) end
+    of_numeral n s (Ok v) e =
+        let a : NumberAtom = record { at = base + f.first; value = v } in
+        record {
+          atom = atoms.Number a;
+          own = own_number asked a n e;
+          tree = number (base + f.first) n;
+          padded = record { first = f.first; last = f.last; before = f.before; order = omega (arith, f.order); behind = f.behind; spaces = f.spaces; is_part = s; more_spaces = f.more_spaces };
+          fold = number_folds asked a n e;
+          is_number = refl;
+          no_twin = refl;
+          behind = omega (arith, f.before);
+        }
+    of_numeral n s (Err why) e = record {
+      atom = atoms.BadNumber (fault_of why (base + f.first));
+      own = tt;
+      tree = number (base + f.first) n;
+      padded = record { first = f.first; last = f.last; before = f.before; order = omega (arith, f.order); behind = f.behind; spaces = f.spaces; is_part = s; more_spaces = f.more_spaces };
+      fold = bad_number_at asked (base + f.first) n why e;
+      is_number = refl;
+      no_twin = refl;
+      behind = fault_behind why;
+    } where
+      fault_behind : (why : FixedFault) → base + (at + 1) ≤ at_of (atoms.BadNumber (fault_of why (base + f.first)))
+      fault_behind Scale = omega (arith, f.before)
+      fault_behind Range = omega (arith, f.before)
+
+    found : JsonNumber (between w f.first f.last) → HasNumber (at + 1) end
+    found (n, j, e) = of_numeral n (refl, j, e) (fixed_of n asked.digits asked.how) refl
+
+  -- numbers at the offset or behind it
+  abbrev AreNumbers : ℕ → List GeoAtom → Type 0
+  AreNumbers from [] = ⊤
+  AreNumbers from (a ∷ rest) = (sort_of a ≡ sorts.Number) × (twin_of a ≡ None) × (from ≤ at_of a) × AreNumbers from rest
+
+  numbers_last : (from : ℕ) (rest : List GeoAtom) (a : GeoAtom) → AreNumbers from rest → sort_of a ≡ sorts.Number → twin_of a ≡ None → from ≤ at_of a → AreNumbers from (rest ++ a ∷ [])
+  numbers_last from [] a h s t k = (s, t, k, tt)
+  numbers_last from (b ∷ rest) a h s t k = (h.0, h.1, h.2, numbers_last from rest a h.3 s t k)
+
+  numbers_sort : (from : ℕ) (rest : List GeoAtom) → AreNumbers from rest → are_all 1 rest ≡ true
+  numbers_sort from [] h = refl
+  numbers_sort from (a ∷ rest) h = ap (λ z. (rank z == 1) && are_all 1 rest) h.0 ∙ numbers_sort from rest h.3
+
+  numbers_twins : (from : ℕ) (rest : List GeoAtom) → AreNumbers from rest → firsts twin_of rest ≡ None
+  numbers_twins from [] h = refl
+  numbers_twins from (a ∷ rest) h = firsts-cons twin_of a rest ∙ (ap (λ z. first_fault z (firsts twin_of rest)) h.1 ∙ numbers_twins from rest h.3)
+
+  numbers_least : (from : ℕ) (rest : List GeoAtom) → AreNumbers from rest → fold (λ least a. min least (at_of a)) from rest ≡ from
+  numbers_least from [] h = refl
+  numbers_least from (a ∷ rest) h = ap (λ n. fold (λ least b. min least (at_of b)) n rest) (min-eq_left h.2) ∙ numbers_least from rest h.3
+
+  -- the numbers of a position up to the place, of which these are the first two
+  record AreNumbersTo (at end from : ℕ) (x y : GeoAtom) : Type 0 where
+    pub rest : List GeoAtom
+    pub numbers : AreNumbers from rest
+    pub own : All (IsOwn asked) (x ∷ y ∷ rest)
+    pub place : ℕ
+    pub order : at < place
+    pub behind : place ≤ end
+    pub begins : from ≤ base + end
+    pub done : List Tree
+    pub last : Tree
+    pub before : ItemsBefore base w at place done
+    pub spells : IsPadded (λ j v. Spells j v last) base w place end
+    pub folds : AreFolds (IsFold asked) (x ∷ y ∷ rest) (items_of (done ++ last ∷ []))
+
+  further_read : (at from : ℕ) (x y : GeoAtom) (place : ℕ) (es : List ℕ) (end : ℕ) → AreFurther w place es end → AreNumbersTo at place from x y → AreNumbersTo at end from x y
+  further_read at from x y place [] end f h = subst (λ z. AreNumbersTo at z from x y) f h
+  further_read at from x y place (e ∷ es) end f h =
+      let n = further_number place e f.0 in
+      further_read at from x y e es end f.1 (record {
+        rest = h.rest ++ n.atom ∷ [];
+        numbers = numbers_last from h.rest n.atom h.numbers n.is_number n.no_twin (omega (arith, h.begins, n.behind));
+        own = All-append (IsOwn asked) (x ∷ y ∷ h.rest) (n.atom ∷ []) h.own (All-cons (IsOwn asked) n.atom [] n.own (All-nil (IsOwn asked)));
+        place = place + 1;
+        order = omega (arith, h.order, h.behind);
+        behind = omega (arith, f.0.before, f.0.order, f.0.behind);
+        begins = omega (arith, h.begins, f.0.before, f.0.order, f.0.behind);
+        done = h.done ++ h.last ∷ [];
+        last = n.tree;
+        before = items_on base w at h.place place h.done h.last h.order h.behind f.0.inside f.0.comma h.before h.spells;
+        spells = n.padded;
+        folds = folds_last (x ∷ y ∷ h.rest) n.atom (h.done ++ h.last ∷ []) n.tree h.folds n.fold;
+      })
+
   pub pair_read : (at : ℕ) (x y : Plain) (left right : ℤ) → left ≡ x.number.value → right ≡ y.number.value → at < length w → slice_index w at ≡ 0x5B → IsPlain asked w (at + 1) x → x.end < length w → slice_index w x.end ≡ 0x2C
-      → IsPlain asked w (x.end + 1) y → y.end < length w → slice_index w y.end ≡ 0x5D
-      → IsPair asked base w at (record { end = y.end + 1; pair = record { at = base + at; least = base + x.first; pos = record { x = left; y = right } } })
-  pair_read at x y left right el er inside opens px ix comma py iy closes =
+      → IsPlain asked w (x.end + 1) y → (end : ℕ) → EndsPosition w y.end end
+      → IsPair asked base w at (record { end = end; pair = record { at = base + at; least = base + x.first; pos = record { x = left; y = right } } })
+  pair_read at x y left right el er inside opens px ix comma py end ends =
       let nx = valued x.first x.last left x.number.value el px.number px.value in
       let ny = valued y.first y.last right y.number.value er py.number py.value in
       let a : NumberAtom = record { at = base + x.first; value = left } in
       let b : NumberAtom = record { at = base + y.first; value = right } in
-      let items : List GeoAtom = atoms.Number a ∷ atoms.Number b ∷ [] in
       let tx = number (base + x.first) nx.numeral in let ty = number (base + y.first) ny.numeral in
       let r : GeoAtom = atoms.Position (record { at = base + at; least = base + x.first; pos = record { x = left; y = right } }) in
-      let l1 : a.at ≤ a.at = omega arith in
-      let l2 : a.at ≤ b.at = omega (arith, px.order, px.behind, py.before) in
-      let least : least_of items ≡ base + x.first = ap (λ z. min z b.at) (min-eq_left l1) ∙ min-eq_left l2 in
-      let made : pair_atom (base + at) (least_of items) items ≡ Some r = ap (λ n. Some (atoms.Position (record { at = base + at; least = n; pos = record { x = left; y = right } }))) least in
       let one : IsPadded (λ j v. Spells j v tx) base w (at + 1) x.end = record { first = x.first; last = x.last; before = px.before; order = omega (arith, px.order); behind = px.behind; spaces = px.spaces; is_part = nx.spells; more_spaces = px.more_spaces } in
       let two : IsPadded (λ j v. Spells j v ty) base w (x.end + 1) y.end = record { first = y.first; last = y.last; before = py.before; order = omega (arith, py.order); behind = py.behind; spaces = py.spaces; is_part = ny.spells; more_spaces = py.more_spaces } in
       let first = items_on base w at (at + 1) x.end [] tx (omega arith) (omega (arith, px.before, px.order, px.behind)) ix comma (items_none base w at inside) one in
+      let h = further_read at a.at (atoms.Number a) (atoms.Number b) y.end ends.places ends.place ends.further (record {
+        rest = [];
+        numbers = tt;
+        own = All-cons (IsOwn asked) (atoms.Number a) (atoms.Number b ∷ []) (own_number asked a nx.numeral nx.value) (All-cons (IsOwn asked) (atoms.Number b) [] (own_number asked b ny.numeral ny.value) (All-nil (IsOwn asked)));
+        place = x.end + 1;
+        order = omega (arith, px.before, px.order, px.behind);
+        behind = omega (arith, py.before, py.order, py.behind);
+        begins = omega (arith, px.order, px.behind, py.before, py.order, py.behind);
+        done = tx ∷ [];
+        last = ty;
+        before = first;
+        spells = two;
+        folds = (number_folds asked a nx.numeral nx.value, (number_folds asked b ny.numeral ny.value, tt));
+      }) in
+      let items : List GeoAtom = atoms.Number a ∷ atoms.Number b ∷ h.rest in
+      let l1 : a.at ≤ a.at = omega arith in
+      let l2 : a.at ≤ b.at = omega (arith, px.order, px.behind, py.before) in
+      let start : min (min a.at a.at) b.at ≡ a.at = ap (λ z. min z b.at) (min-eq_left l1) ∙ min-eq_left l2 in
+      let least : least_of items ≡ base + x.first = ap (λ n. fold (λ least c. min least (at_of c)) n h.rest) start ∙ numbers_least a.at h.rest h.numbers in
+      let made : pair_atom (base + at) (least_of items) items ≡ Some r = ap (λ n. Some (atoms.Position (record { at = base + at; least = n; pos = record { x = left; y = right } }))) least in
+      let sort : sort_of_all items ≡ sorts.Number = ap (λ z. if z then sorts.Number else sorts.Other) (numbers_sort a.at h.rest h.numbers) in
+      let twins : firsts twin_of items ≡ None = firsts-cons twin_of (atoms.Number a) (atoms.Number b ∷ h.rest) ∙ (firsts-cons twin_of (atoms.Number b) h.rest ∙ numbers_twins a.at h.rest h.numbers) in
+      let ts = items_of (h.done ++ h.last ∷ []) in
       record {
-        order = omega (arith, px.before, px.order, px.behind, py.before, py.order, py.behind);
-        within = omega (arith, iy);
+        order = omega (arith, px.before, px.order, px.behind, py.before, py.order, py.behind, ends.order, ends.behind);
+        within = omega (arith, ends.inside, ends.behind);
         at_is = refl;
-        own = pair_own asked (base + at) (least_of items) items r (All-cons (IsOwn asked) (atoms.Number a) (atoms.Number b ∷ []) (own_number asked a nx.numeral nx.value) (All-cons (IsOwn asked) (atoms.Number b) [] (own_number asked b ny.numeral ny.value) (All-nil (IsOwn asked)))) made;
-        tree = array (base + at) (items_of (tx ∷ ty ∷ []));
-        spells = items_end base w at (x.end + 1) y.end (tx ∷ []) ty (omega (arith, px.before, px.order, px.behind)) (omega (arith, py.before, py.order, py.behind)) iy opens closes first two;
-        fold = numbers_fold asked (base + at) items (λ e. cc) refl r refl (inl made) (items_of (tx ∷ ty ∷ [])) (number_folds asked a nx.numeral nx.value, (number_folds asked b ny.numeral ny.value, tt));
+        own = pair_own asked (base + at) (least_of items) items r h.own made;
+        tree = array (base + at) ts;
+        spells = subst (λ e. Spells (base + at) (between w at e) (array (base + at) ts)) (sym ends.behind) (items_end base w at h.place ends.place h.done h.last h.order h.behind ends.inside opens ends.closes h.before h.spells);
+        fold = numbers_fold asked (base + at) items (λ e. cc) twins r sort (inl made) ts h.folds;
       }
 
   pub pair_whole : (at : ℕ) (p : PairRead) → IsPair asked base w at p → IsWhole asked base w at (record { end = p.end; atom = atoms.Position p.pair })
@@ -256,12 +388,6 @@ module _ (asked : Asked) (base : ℕ) (w : List ℕ) where
       (p.atom, item_read at first end (record { end = last; atom = p.atom }) h spaces p.whole k fits more, p.no_twin)
 
   -- ---- arrays
-
-  pub folds_last : (xs : List GeoAtom) (x : GeoAtom) (done : List Tree) (t : Tree) → AreFolds (IsFold asked) xs (items_of done) → IsFold asked x t → AreFolds (IsFold asked) (xs ++ x ∷ []) (items_of (done ++ t ∷ []))
-  folds_last [] x [] t h k = (k, tt)
-  folds_last (y ∷ xs) x (u ∷ done) t h k = (h.0, folds_last xs x done t h.1 k)
-  folds_last [] x (u ∷ done) t h k = absurd h
-  folds_last (y ∷ xs) x [] t h k = absurd h
 
   pub items_begin : (at : ℕ) → at < length w → AreItemsRead asked base w at (at + 1) []
   items_begin at h = record { own = All-nil (IsOwn asked); done = []; before = items_none base w at h; folds = tt }

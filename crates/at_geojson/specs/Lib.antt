@@ -22,6 +22,7 @@ pub mod Values
 pub mod Rows
 pub mod Passing
 pub mod Rings
+pub mod Makings
 pub mod Members
 pub mod KnownNames
 pub mod Geometries

@@ -1,6 +1,6 @@
 -- Coordinates of which no list is made: the lists would be there, and what is told of them is the same. Only contracts of
 -- private functions cite this.
-use Rattle.std.specs.Prelude.{◌≡◌, ℕ, ◌≤◌, ◌<◌, List, length, Option}
+use Rattle.std.specs.Prelude.{◌≡◌, ℕ, List, Option}
 use Rattle.at_geom.specs.declared.rectangles.Extent.{Extent}
 use Rattle.at_geojson.specs.declared.asked.Measure.{Measure}
 use Rattle.at_geojson.specs.declared.atoms.Areas.{Areas}
@@ -15,7 +15,7 @@ use Rattle.at_geojson.specs.declared.rings.ListsRead.{ListsRead}
 use Rattle.at_geojson.specs.declared.rings.AreasRead.{AreasRead}
 use Rattle.at_geojson.specs.Keeping.{Asked}
 use Rattle.at_geojson.specs.Rows.{ArePointsWhole}
-use Rattle.at_geojson.specs.Rings.{ArePointsItem, AreListsRead, AreListsWhole, AreListsItem, AreAreasRead, AreAreasWhole}
+use Rattle.at_geojson.specs.Rings.{AreListsWhole, AreAreasWhole}
 use Rattle.at_geojson.specs.Values.{IsPair}
 use Rattle.at_geojson.specs.Tallies.{TalliesPath, TalliesLists, TalliesAreas}
 
@@ -33,11 +33,6 @@ abbrev pub MeasuresPoints : Asked → Measure → Option Extent → ℕ → List
 MeasuresPoints asked measure before base w at m = (p : PointsRead) × ArePointsWhole asked base w at p
     × (p.end ≡ m.end) × SaysPoints measure before p.points m
 
--- the same with white space round it
-abbrev pub MeasuresPointsItem : Asked → Measure → Option Extent → ℕ → List ℕ → ℕ → PointsMeasured → Type 0
-MeasuresPointsItem asked measure before base w at m = (p : PointsRead) × ArePointsItem asked base w at p
-    × (p.end ≡ m.end) × SaysPoints measure before p.points m
-
 -- ---- lists of lists of positions
 
 -- what is told of the lists
@@ -46,25 +41,9 @@ pub record SaysLists (measure : Measure) (before : Option Extent) (lists : Lists
   pub as_rings : lists.as_rings ≡ m.as_rings
   pub tally : TalliesLists measure before lists.paths.items m.tally
 
--- the lists from the bracket up to the place, behind the last of them
-pub record MeasuresListsTo (asked : Asked) (measure : Measure) (before : Option Extent) (base : ℕ) (w : List ℕ) (at : ℕ)
-    (m : ListsMeasured) : Type 0 where
-  pub from : ℕ
-  pub lists : Lists
-  pub order : at < m.end
-  pub within : m.end ≤ length w
-  pub read : AreListsRead asked base w at m.end from lists
-  pub few : length lists.paths.items ≤ m.end
-  pub says : SaysLists measure before lists m
-
 -- an array of lists of positions from the place on
 abbrev pub MeasuresLists : Asked → Measure → Option Extent → ℕ → List ℕ → ℕ → ListsMeasured → Type 0
 MeasuresLists asked measure before base w at m = (p : ListsRead) × AreListsWhole asked base w at p
-    × (p.end ≡ m.end) × SaysLists measure before p.lists m
-
--- the same with white space round it
-abbrev pub MeasuresListsItem : Asked → Measure → Option Extent → ℕ → List ℕ → ℕ → ListsMeasured → Type 0
-MeasuresListsItem asked measure before base w at m = (p : ListsRead) × AreListsItem asked base w at p
     × (p.end ≡ m.end) × SaysLists measure before p.lists m
 
 -- ---- areas
@@ -73,17 +52,6 @@ MeasuresListsItem asked measure before base w at m = (p : ListsRead) × AreLists
 pub record SaysAreas (measure : Measure) (before : Option Extent) (areas : Areas) (m : AreasMeasured) : Type 0 where
   pub fault : areas.fault ≡ m.fault
   pub tally : TalliesAreas measure before areas.polygons.items m.tally
-
--- the areas from the bracket up to the place, behind the last of them
-pub record MeasuresAreasTo (asked : Asked) (measure : Measure) (before : Option Extent) (base : ℕ) (w : List ℕ) (at : ℕ)
-    (m : AreasMeasured) : Type 0 where
-  pub from : ℕ
-  pub areas : Areas
-  pub order : at < m.end
-  pub within : m.end ≤ length w
-  pub read : AreAreasRead asked base w at m.end from areas
-  pub few : length areas.polygons.items ≤ m.end
-  pub says : SaysAreas measure before areas m
 
 -- an array of areas from the place on
 abbrev pub MeasuresAreas : Asked → Measure → Option Extent → ℕ → List ℕ → ℕ → AreasMeasured → Type 0

@@ -1,6 +1,6 @@
 -- Positions that are passed over: where their numbers stand, of which each has a value. Only contracts of private
 -- functions cite this.
-use Rattle.std.specs.Prelude.{◌≡◌, ℕ, ◌+◌, ◌<◌, ◌≤◌, Bool, false, ◌&&◌, List, [], length, slice_index, ℤ}
+use Rattle.std.specs.Prelude.{◌≡◌, ℕ, ◌+◌, ◌<◌, ◌≤◌, Bool, ◌&&◌, List, length, slice_index, ℤ}
 use Rattle.std.specs.Ordering.{int_eq}
 use Rattle.at_fixed.specs.NumberSoFar.{between}
 use Rattle.at_geom.specs.declared.positions.Pos.{Pos}
@@ -9,11 +9,8 @@ use Rattle.at_geojson.specs.declared.atoms.PositionAtom.{PositionAtom}
 use Rattle.at_geojson.specs.declared.pairs.NumberPlace.{NumberPlace}
 use Rattle.at_geojson.specs.declared.pairs.PairPlace.{PairPlace}
 use Rattle.at_geojson.specs.declared.pairs.Plain.{Plain}
-use Rattle.at_geojson.specs.declared.pairs.PointsRead.{PointsRead}
-use Rattle.at_geojson.specs.declared.pairs.Row.{Row}
 use Rattle.at_geojson.specs.Keeping.{Asked}
-use Rattle.at_geojson.specs.Rows.{ArePointsRead, EndsPoints}
-use Rattle.at_geojson.specs.Values.{IsPlain}
+use Rattle.at_geojson.specs.Values.{IsPlain, EndsPosition}
 
 -- the number that stands there, with this value
 abbrev pub plain_at : NumberPlace → ℤ → Plain
@@ -33,49 +30,23 @@ pub record IsPairAt (asked : Asked) (w : List ℕ) (at : ℕ) (p : PairPlace) (p
   pub middle : p.x.end < length w
   pub comma : slice_index w p.x.end ≡ 0x2C
   pub y : IsPlain asked w (p.x.end + 1) (plain_at p.y pos.y)
-  pub last : p.y.end < length w
-  pub closes : slice_index w p.y.end ≡ 0x5D
-  pub behind : p.y.end + 1 ≤ p.end
-  pub more_spaces : AreSpaces (between w (p.y.end + 1) p.end)
+  pub last : p.y.end < p.close
+  pub closes : EndsPosition w p.y.end p.close
+  pub behind : p.close ≤ p.end
+  pub more_spaces : AreSpaces (between w p.close p.end)
   pub within : p.end ≤ length w
 
 -- the same with some value
 abbrev pub PassesPair : Asked → List ℕ → ℕ → PairPlace → Type 0
 PassesPair asked w at p = (pos : Pos) × IsPairAt asked w at p pos
 
--- the same of a position that ends before the place
+-- the same up to the place
 abbrev pub PassesTo : Asked → List ℕ → ℕ → ℕ → Type 0
 PassesTo asked w at end = (place : PairPlace) × (place.end ≡ end) × PassesPair asked w at place
-
--- the number that stands there has no other value
-abbrev pub HasOnlyValue : Asked → List ℕ → NumberPlace → ℤ → Type 0
-HasOnlyValue asked w n v = (at : ℕ) (u : ℤ) → IsPlain asked w at (plain_at n u) → u ≡ v
 
 abbrev pub same_values : Pos → Pos → Bool
 same_values p q = int_eq p.x q.x && int_eq p.y q.y
 
--- whether the values of two numbers that stand there are the same
-abbrev pub TellsSameValue : Asked → List ℕ → NumberPlace → NumberPlace → Bool → Type 0
-TellsSameValue asked w a b same = (i j : ℕ) (u v : ℤ) → IsPlain asked w i (plain_at a u)
-    → IsPlain asked w j (plain_at b v) → same ≡ int_eq u v
-
--- whether the value of the first is that of some position which stands there and ends before the place
-abbrev pub TellsSamePair : Asked → List ℕ → ℕ → PairPlace → ℕ → ℕ → Bool → Type 0
-TellsSamePair asked w from first at end same = (p : Pos) → IsPairAt asked w from first p
-    → (place : PairPlace) × (q : Pos) × (place.end ≡ end) × IsPairAt asked w at place q
-    × (same ≡ same_values p q)
-
 -- the position that stands there, as an atom
 abbrev pub pair_of : ℕ → PairPlace → Pos → PositionAtom
 pair_of base p pos = record { at = base + p.bracket; least = base + p.x.first; pos = pos }
-
--- the positions from the bracket up to the place are so many, up to four, and the first of them stands there
-abbrev pub ArePassed : Asked → ℕ → List ℕ → ℕ → ℕ → PairPlace → ℕ → Type 0
-ArePassed asked base w at end first count = (pos : Pos) × (row : Row) × IsPairAt asked w (at + 1) first pos
-    × (row.first ≡ pair_of base first pos) × (row.count ≡ count) × (row.path.items ≡ [])
-    × ArePointsRead asked base w at end row
-
--- the list of positions of which no values are kept
-abbrev pub EndsPassed : ℕ → ℕ → ℕ → ℕ → Bool → PointsRead → Type 0
-EndsPassed at least end count closes p = (row : Row) → row.first.at ≡ least → row.count ≡ count
-    → row.path.items ≡ [] → closes ≡ same_values row.first.pos row.last → EndsPoints false at end row p

@@ -26,6 +26,8 @@ mod hashes;
 mod kinds;
 mod known_names;
 mod lists;
+mod makers;
+mod makings;
 mod measured_geometries;
 mod measures;
 mod members;

@@ -57,7 +57,7 @@ fn point_end(algebra: &GeoAlgebra, text: &[u8], base: u32, at: usize) -> Option<
     let _ = base;
     let place = pass_pair(algebra, text, at)?;
     if place.bracket == at {
-        Some(place.y.end + 1)
+        Some(place.close)
     } else {
         None
     }

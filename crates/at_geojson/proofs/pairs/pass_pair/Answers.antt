@@ -1,10 +1,12 @@
--- A position of two numbers with white space round it.
+-- A position with white space round it.
+use Rattle.std.proofs.Common.{arith}
 use Rattle.at_geojson.proofs.pairs.pass_pair.Goals as goal
 
 pub returns : goal.returns
 returns c =
-    let (vx, px) = c.in_ok-x.ensures.number in
-    let (vy, py) = c.in_ok-y.ensures.number in (
+    let (vx, px) = c.in_ok-x.ensures in
+    let (vy, py) = c.in_ok-y.ensures in
+    let ends = c.in_ok-close.ensures in (
       record { x = vx; y = vy },
       record {
         before = c.in_ok-bracket.ensures.order;
@@ -12,13 +14,13 @@ returns c =
         inside = c.in_ok-bracket.ensures.inside;
         opens = c.in_ok-bracket.ensures.byte;
         x = px;
-        middle = c.in_ok-x.ensures.inside;
-        comma = c.in_ok-x.ensures.next;
+        middle = c.stands.ensures.inside c.if-not-stands.false;
+        comma = c.stands.ensures.byte c.if-not-stands.false;
         y = py;
-        last = c.in_ok-y.ensures.inside;
-        closes = c.in_ok-y.ensures.next;
-        behind = c.skip_spaces.ensures.order;
-        more_spaces = c.skip_spaces.ensures.spaces;
-        within = c.skip_spaces.ensures.within;
+        last = omega (arith, ends.order, ends.behind);
+        closes = ends;
+        behind = c.skip_spaces-end.ensures.order;
+        more_spaces = c.skip_spaces-end.ensures.spaces;
+        within = c.skip_spaces-end.ensures.within;
       },
     )

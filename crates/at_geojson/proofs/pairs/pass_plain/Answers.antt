@@ -3,8 +3,8 @@ use Rattle.std.proofs.Common.{true, refl, arith}
 use Rattle.at_geojson.proofs.ValueParts.{number_taken, value_taken}
 use Rattle.at_geojson.proofs.pairs.pass_plain.Goals as goal
 
-pub returns-clause-number : goal.returns-clause-number
-returns-clause-number c =
+pub returns : goal.returns
+returns c =
     let w = c.args.text.now in let first = c.skip_spaces-first.result in let len = c.in_ok-len.len in
     let (v, f) = c.in_ok-len.ensures.value in
     let t = number_taken w first (record { len = len; whole = true }) c.skip_spaces-first.ensures.within c.in_ok-len.ensures.taken refl in (
@@ -13,9 +13,9 @@ returns-clause-number c =
         before = c.skip_spaces-first.ensures.order;
         spaces = c.skip_spaces-first.ensures.spaces;
         order = t.order;
-        behind = c.in_ok-end.ensures.order;
-        more_spaces = c.in_ok-end.ensures.spaces;
-        within = omega (arith, c.in_ok-end.ensures.inside);
+        behind = c.skip_spaces-end.ensures.order;
+        more_spaces = c.skip_spaces-end.ensures.spaces;
+        within = c.skip_spaces-end.ensures.within;
         number = t.word;
         value = value_taken w first len c.digits.result c.how.result c.args.algebra.now v c.digits.ensures c.how.ensures f;
       },

@@ -1,4 +1,4 @@
--- A position of two numbers.
+-- A position of two numbers, and further ones.
 use Rattle.std.proofs.Common.{rules, w64}
 use Rattle.std.specs.Prelude.{FitsSigned}
 use Rattle.std.proofs.lemmas.Int.{to_z-of_z}
@@ -13,4 +13,4 @@ returns c =
     pair_read c.args.algebra.now c.args.base c.args.text.now c.args.at x y _ _ (to_z-of_z w64 x.number.value fx) (to_z-of_z w64 y.number.value fy)
     (c.stands.ensures.inside c.if-not-stands.false) (c.stands.ensures.byte c.if-not-stands.false) c.in_ok-x.ensures
     (c.stands-2.ensures.inside c.if-not-stands-2.false) (c.stands-2.ensures.byte c.if-not-stands-2.false) c.in_ok-y.ensures
-    (c.stands-3.ensures.inside c.if-not-stands-3.false) (c.stands-3.ensures.byte c.if-not-stands-3.false)
+    c.in_ok-end.end c.in_ok-end.ensures

@@ -1,0 +1,10 @@
+-- Something was made of the positions up to the place.
+use Rattle.std.proofs.Common.{◌-◌, length}
+use Rattle.at_geojson.proofs.MadeFolds.{AreMade}
+use Rattle.at_geojson.proofs.makings.positions.Given as goal
+
+abbrev pub invariant-positions : goal.invariant-positions
+invariant-positions g l = AreMade g.S.Maker.marks g.S.Maker.stands g.S.Maker.tells l.fn.before l.algebra l.base l.text l.at l.first l.last l.place l.count l.made
+
+abbrev pub decreases-positions : goal.decreases-positions
+decreases-positions g l = length l.text - l.last.end
