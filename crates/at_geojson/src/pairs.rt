@@ -1,6 +1,9 @@
-//! Positions whose first two numbers are written plainly, read at once.
+//! Positions whose first two numbers have values, read at once.
 
-ghost use Rattle.std.specs.Prelude.{◌≡◌, ℕ, ◌+◌, ◌<◌, ◌≤◌, ◌^◌, length, slice_index, IfSome};
+ghost use Rattle.std.specs.Prelude.{◌≡◌, ℕ, ◌+◌, ◌<◌, ◌≤◌, ◌^◌, true, length, take, slice_index, IfSome, Ok, ℤ};
+ghost use Rattle.at_text.specs.Prefix.{TakesLongest};
+ghost use Rattle.at_fixed.specs.Numerals.{JsonNumber};
+ghost use Rattle.at_fixed.specs.Fixed.{IsFixedOf};
 ghost use Rattle.at_geojson.specs.Atoms.{to_four};
 ghost use Rattle.at_geojson.specs.Values.{IsPlain, IsFurther, EndsPosition, IsPair, IsSpacedPair};
 ghost use Rattle.at_geojson.specs.Passing.{PassesNumber, PassesPair, PassesTo};
@@ -8,7 +11,9 @@ ghost use Rattle.at_geojson.specs.Passing.{PassesNumber, PassesPair, PassesTo};
 use crate::asked::GeoAlgebra;
 use crate::atoms::{GeoAtom, Points, PositionAtom};
 use crate::places::{behind_spaces, skip_spaces, stands};
-use at_fixed::{Notation, PlainNumber, json_number, plain_len, plain_number};
+use at_fixed::{
+    Coords, Notation, PlainNumber, json_number, leading_number, plain_len, plain_number,
+};
 use at_geom::Pos;
 
 /// A value that was read: the place behind it, and its atom.
@@ -18,7 +23,7 @@ pub struct Whole {
     pub atom: GeoAtom,
 }
 
-/// A number that is written plainly with white space round it: the place of its first byte, the one behind it, and the
+/// A number that has a value with white space round it: the place of its first byte, the one behind it, and the
 /// one behind the white space.
 #[derive(Clone, Copy)]
 pub struct Plain {
@@ -28,7 +33,7 @@ pub struct Plain {
     pub number: PlainNumber,
 }
 
-/// Where a number that is written plainly stands: the place of its first byte, the one behind it, and the one behind
+/// Where a number that has a value stands: the place of its first byte, the one behind it, and the one behind
 /// the white space.
 #[derive(Clone, Copy)]
 pub struct NumberPlace {
@@ -78,13 +83,81 @@ pub struct PointsRead {
 /// Room that a list of positions is given at first: that of a ring of four corners.
 pub const ROOM: usize = 5;
 
+/// Whether the byte begins a number.
+fn begins_number(byte: u8) -> bool {
+    byte == b'-' || byte.is_ascii_digit()
+}
+
 /// Whether a number may begin at the place: what stands behind the digits begins none.
 #[inline(always)]
 fn may_begin(text: &[u8], at: usize) -> bool {
     at < text.len() && text[at] <= b'9'
 }
 
-/// White space, a number that is written plainly, and white space.
+/// The number that begins a text, however it is written, where it has a value.
+#[inline(never)]
+fn other_number(text: &[u8], digits: u8, how: Coords) -> Option<PlainNumber>
+    requires short { length text.now ≤ 2 ^ 28 }
+    ensures taken { IfSome result (λ number. TakesLongest JsonNumber text.now (record {
+      len = number.len;
+      whole = true;
+    })) }
+    ensures value { IfSome result (λ number. IsFixedOf (take number.len text.now) digits how (Ok number.value)) }
+{
+    if text.is_empty() || !begins_number(text[0]) {
+        return None;
+    }
+    let number = leading_number(text, Notation::Json, digits, how);
+    match number.value {
+        Some(Ok(value)) => Some(PlainNumber {
+            len: number.len,
+            value,
+        }),
+        _ => None,
+    }
+}
+
+/// The number that begins a text, where it has a value. Those that are written plainly are read in line.
+#[inline(always)]
+fn valued_number(text: &[u8], digits: u8, how: Coords) -> Option<PlainNumber>
+    requires short { length text.now ≤ 2 ^ 28 }
+    ensures taken { IfSome result (λ number. TakesLongest JsonNumber text.now (record {
+      len = number.len;
+      whole = true;
+    })) }
+    ensures value { IfSome result (λ number. IsFixedOf (take number.len text.now) digits how (Ok number.value)) }
+{
+    if let Some(number) = plain_number(text, Notation::Json, digits, how) {
+        return Some(number);
+    }
+    other_number(text, digits, how)
+}
+
+/// The length of the number that begins a text, however it is written, where it has a value.
+#[inline(never)]
+fn other_len(text: &[u8], digits: u8, how: Coords) -> Option<u32>
+    requires short { length text.now ≤ 2 ^ 28 }
+    ensures taken { IfSome result (λ len. TakesLongest JsonNumber text.now (record { len = len; whole = true })) }
+    ensures value { IfSome result (λ len. (value : ℤ) × IsFixedOf (take len text.now) digits how (Ok value)) }
+{
+    let number = other_number(text, digits, how)?;
+    Some(number.len)
+}
+
+/// The length of the number that begins a text, where it has a value, which is computed for few.
+#[inline(always)]
+fn valued_len(text: &[u8], digits: u8, how: Coords) -> Option<u32>
+    requires short { length text.now ≤ 2 ^ 28 }
+    ensures taken { IfSome result (λ len. TakesLongest JsonNumber text.now (record { len = len; whole = true })) }
+    ensures value { IfSome result (λ len. (value : ℤ) × IsFixedOf (take len text.now) digits how (Ok value)) }
+{
+    if let Some(len) = plain_len(text, Notation::Json, digits, how) {
+        return Some(len);
+    }
+    other_len(text, digits, how)
+}
+
+/// White space, a number that has a value, and white space.
 #[inline(always)]
 fn read_plain(algebra: &GeoAlgebra, text: &[u8], at: usize) -> Option<Plain>
     requires inside { at ≤ length text.now }
@@ -95,12 +168,7 @@ fn read_plain(algebra: &GeoAlgebra, text: &[u8], at: usize) -> Option<Plain>
     if !may_begin(text, first) {
         return None;
     }
-    let number = plain_number(
-        &text[first..],
-        Notation::Json,
-        algebra.digits(),
-        algebra.how(),
-    )?;
+    let number = valued_number(&text[first..], algebra.digits(), algebra.how())?;
     let last = first + number.len as usize;
     Some(Plain {
         first,
@@ -156,7 +224,7 @@ fn position_end(text: &[u8], at: usize) -> Option<usize>
     further_end(text, at)
 }
 
-/// A position whose first two numbers are written plainly.
+/// A position whose first two numbers have values.
 #[inline(always)]
 pub fn read_pair(algebra: &GeoAlgebra, text: &[u8], base: u32, at: usize) -> Option<PairRead>
     requires fits { base + length text.now ≤ 2 ^ 28 }
@@ -205,7 +273,7 @@ pub fn read_spaced(algebra: &GeoAlgebra, text: &[u8], base: u32, at: usize) -> O
     Some(PairRead { end, pair })
 }
 
-/// White space, a number that is written plainly, and white space, passed over.
+/// White space, a number that has a value, and white space, passed over.
 #[inline(always)]
 fn pass_plain(algebra: &GeoAlgebra, text: &[u8], at: usize) -> Option<NumberPlace>
     requires inside { at ≤ length text.now }
@@ -213,18 +281,13 @@ fn pass_plain(algebra: &GeoAlgebra, text: &[u8], at: usize) -> Option<NumberPlac
     ensures { IfSome result (PassesNumber algebra.now text.now at) }
 {
     let first = skip_spaces(text, at);
-    let len = plain_len(
-        &text[first..],
-        Notation::Json,
-        algebra.digits(),
-        algebra.how(),
-    )?;
+    let len = valued_len(&text[first..], algebra.digits(), algebra.how())?;
     let last = first + len as usize;
     let end = skip_spaces(text, last);
     Some(NumberPlace { first, last, end })
 }
 
-/// A position whose first two numbers are written plainly, behind white space and before white space, passed over.
+/// A position whose first two numbers have values, behind white space and before white space, passed over.
 #[inline(always)]
 pub fn pass_pair(algebra: &GeoAlgebra, text: &[u8], at: usize) -> Option<PairPlace>
     requires inside { at ≤ length text.now }
