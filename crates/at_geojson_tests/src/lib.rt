@@ -6,6 +6,8 @@ mod example_tests;
 #[cfg(test)]
 mod measure_tests;
 #[cfg(test)]
+mod position_tests;
+#[cfg(test)]
 mod run_tests;
 #[cfg(test)]
 mod tests;
