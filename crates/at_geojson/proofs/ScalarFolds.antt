@@ -60,7 +60,7 @@ folds_one asked a at w u r h t s = subst (IsFold asked a) (same_tree at w t u s 
 pub number_found : (asked : Asked) (at : ℕ) (w : List ℕ) (answer : Result ℤ FixedFault) (digits : ℕ) (how : Coords) → digits ≡ asked.digits → how ≡ asked.how
     → JsonNumber w → IsFixedOf w digits how answer → (n : Numeral) × Spells at w (number at n) × (answer ≡ fixed_of n asked.digits asked.how)
 number_found asked at w answer digits how ed eh (n, j, e) f =
-    (n, (refl, j, e), f.value ∙ (ap (λ m. fixed_of m digits how) (sym (f.only n (inl j, e))) ∙ (ap (λ d. fixed_of n d how) ed ∙ ap (fixed_of n asked.digits) eh)))
+    (n, (refl, (j, e)), f.value ∙ (ap (λ m. fixed_of m digits how) (sym (f.only n (inl j, e))) ∙ (ap (λ d. fixed_of n d how) ed ∙ ap (fixed_of n asked.digits) eh)))
 
 module _ (asked : Asked) where
   pub null_folds : (at : ℕ) → IsFold asked (atoms.Null at) (literal at the_null)

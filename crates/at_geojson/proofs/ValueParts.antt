@@ -144,11 +144,11 @@ module _ (asked : Asked) (base : ℕ) (w : List ℕ) where
 
     go : JsonRun (between w at end) → IsWhole asked base w at (record { end = end; atom = a })
     go (inl (l, e)) = whole (literal (base + at) l) (refl, e)
-    go (inr (n, j, e)) = whole (number (base + at) n) (refl, j, e)
+    go (inr (n, j, e)) = whole (number (base + at) n) (refl, (j, e))
 
   pub string_read : (at end : ℕ) (a : GeoAtom) → IsTextAt w at end → IsOwn asked a → StandsAt at end a → IsWhole asked base w at (record { end = end; atom = a })
   string_read at end a (order, within, (cs, j, e)) own fold =
-      let s : Spells (base + at) (between w at end) (text (base + at) cs) = (refl, j, e) in
+      let s : Spells (base + at) (between w at end) (text (base + at) cs) = (refl, (j, e)) in
       record { order = order; within = within; own = own; tree = text (base + at) cs; spells = s; fold = spelled at end a order fold (text (base + at) cs) s }
 
   -- a number that has a value
@@ -177,7 +177,7 @@ module _ (asked : Asked) (base : ℕ) (w : List ℕ) where
     text_whole unasked cs j e =
         let a : TextAtom = record { at = base + at; kind = kind_of_text (units_of cs); units = None } in
         let u = ap (λ b. if b then Some (units_of cs) else None) (sym (none_asked asked.query.tests (units_of cs) unasked)) in
-        record { order = order; within = within; own = tt; tree = text (base + at) cs; spells = (refl, j, e); fold = text_folds asked a cs refl u }
+        record { order = order; within = within; own = tt; tree = text (base + at) cs; spells = (refl, (j, e)); fold = text_folds asked a cs refl u }
 
     passed_text : list_any looks_at_texts asked.query.tests ≡ false → JsonString (between w at end) → IsPassed at end
     passed_text unasked (cs, j, e) = record { atom = text_kind (base + at) cs; whole = text_whole unasked cs j e; no_twin = refl }
@@ -196,7 +196,7 @@ module _ (asked : Asked) (base : ℕ) (w : List ℕ) where
 
     passed_run : JsonRun (between w at end) → IsPassed at end
     passed_run (inl (l, e)) = passed_literal l e
-    passed_run (inr (n, j, e)) = passed_number n (refl, j, e)
+    passed_run (inr (n, j, e)) = passed_number n (refl, (j, e))
 
     scalar_passed : list_any looks_at_texts asked.query.tests ≡ false → IsScalarText (between w at end) → IsPassed at end
     scalar_passed unasked s = elim s [ inl t ↦ passed_text unasked t | inr r ↦ passed_run r ]
@@ -250,7 +250,7 @@ module _ (asked : Asked) (base : ℕ) (w : List ℕ) where
       fault_behind Range = omega (arith, f.before)
 
     found : JsonNumber (between w f.first f.last) → HasNumber (at + 1) end
-    found (n, j, e) = of_numeral n (refl, j, e) (fixed_of n asked.digits asked.how) refl
+    found (n, j, e) = of_numeral n (refl, (j, e)) (fixed_of n asked.digits asked.how) refl
 
   -- numbers at the offset or behind it
   abbrev AreNumbers : ℕ → List GeoAtom → Type 0

@@ -2,11 +2,10 @@
 -- space, a part, white space and a rest stand, they are four stretches, and so on.
 -- For the proofs over what is spelled, here and in the crates above.
 use Rattle.std.proofs.Common.{◌≡◌, ℕ, ◌↔◌, List, [], ◌∷◌, ◌++◌, refl, sym, ◌∙◌, ap, subst, arith, append_assoc, append-nil, length-append, ◌+◌, length, codes}
-use Rattle.at_text.specs.Texts.{is_space}
-use Rattle.at_text.specs.Parts.{Nothing, Exactly, Many, ◌▸◌, At}
-use Rattle.at_lex.specs.Strings.{Character}
+use Rattle.at_text.specs.Parts.{Nothing, Exactly, ◌▸◌, At}
+use Rattle.at_lex.specs.Strings.{Character, SpellsString}
 use Rattle.at_lex.specs.Spans.{AreSpaces}
-use Rattle.at_nest.specs.Tree.{Tree, array, object, Trees, tree_and, Members, member_and, SpellsString, Padded, WithName, Spells, SpellsItems, SpellsFurtherItems, SpellsMembers, SpellsFurtherMembers, IsTextOf}
+use Rattle.at_nest.specs.Tree.{Tree, array, object, Trees, tree_and, Members, member_and, Padded, WithName, Spells, SpellsItems, SpellsFurtherItems, SpellsMembers, SpellsFurtherMembers, IsTextOf}
 
 -- ---- the shapes
 

@@ -1,9 +1,9 @@
 -- JSON texts as trees, and how a tree is spelled (RFC 8259 sections 2 to 7).
-use Rattle.std.specs.Prelude.{◌≡◌, ℕ, ◌+◌, List, [], ◌∷◌, ◌++◌, length, codes}
+use Rattle.std.specs.Prelude.{ℕ, List, codes}
 use Rattle.at_text.specs.Parts.{Nothing, Exactly, Many, ◌▸◌, At}
 use Rattle.at_text.specs.Texts.{is_space}
 use Rattle.at_fixed.specs.Numerals.{Numeral, IsJsonNumeral, numeral_text}
-use Rattle.at_lex.specs.Strings.{Character, AreCharacters, string_text}
+use Rattle.at_lex.specs.Strings.{Character, SpellsString}
 use Rattle.at_lex.specs.Runs.{Literal, literal_text}
 
 -- a value with the offset of its first byte. An array holds trees, an object members, each a name with its offset and a
@@ -26,12 +26,9 @@ mutual
 
 -- How a tree is spelled is told in the words of at_text: a part is a relation between an offset and the bytes there.
 
--- a number, and a string with its quotes; where it stands makes no difference
+-- a number; where it stands makes no difference
 abbrev pub SpellsNumber : Numeral → ℕ → List ℕ → Type 0
 SpellsNumber n at w = IsJsonNumeral n × Exactly (numeral_text n) at w
-
-abbrev pub SpellsString : List Character → ℕ → List ℕ → Type 0
-SpellsString cs at w = AreCharacters cs × Exactly (string_text cs) at w
 
 -- a part with white space round it
 abbrev pub Padded : (ℕ → List ℕ → Type 0) → ℕ → List ℕ → Type 0

@@ -68,7 +68,7 @@ between_size v w a opener closer e l = let s = ap length e in let j = length-app
 mutual
   tree_size : (t : Tree) (at : ℕ) (w : List ℕ) → Spells at w t → weight t ≤ length w
   tree_size (literal i l) at w h = omega arith
-  tree_size (number i n) at w (o, is, e) = number_size n at w (json_is_wkt n is, e)
+  tree_size (number i n) at w (o, (is, e)) = number_size n at w (json_is_wkt n is, e)
   tree_size (text i cs) at w h = omega arith
   tree_size (array i ts) at w (o, (v, e, h)) = between_size v w (weight_items ts) 0x5B 0x5D e (items_size ts (at + 1) v h)
   tree_size (object i ms) at w (o, (v, e, h)) = between_size v w (weight_members ms) 0x7B 0x7D e (members_size ms (at + 1) v h)

@@ -126,7 +126,7 @@ enclosed : (v w : List ℕ) (opener closer : ℕ) → is_separator opener ≡ fa
 enclosed v w opener closer begins ends e h = subst IsUnparted (sym e) (begins, joined v (closer ∷ []) h (ends, tt))
 
 name_unparted : (name : List Character) (i : ℕ) → SaysUnparted (SpellsName name i)
-name_unparted name i at w (o, is, e) = subst IsUnparted (sym e) (string_unparted name is)
+name_unparted name i at w (o, (is, e)) = subst IsUnparted (sym e) (string_unparted name is)
 
 -- a name, a colon and a value, and then the rest
 member : (name : List Character) (i : ℕ) (P Q : ℕ → List ℕ → Type 0) → SaysUnparted P → SaysUnparted Q → SaysUnparted (Padded (SpellsName name i) (After 0x3A (Padded P Q)))
@@ -137,8 +137,8 @@ member name i P Q p q = padded (SpellsName name i) (After 0x3A (Padded P Q)) (na
 mutual
   tree_unparted : (t : Tree) (at : ℕ) (w : List ℕ) → Spells at w t → IsUnparted w
   tree_unparted (literal i l) at w (o, e) = subst IsUnparted (sym e) (literal_unparted l)
-  tree_unparted (number i n) at w (o, is, e) = subst IsUnparted (sym e) (number_unparted n is)
-  tree_unparted (text i cs) at w (o, is, e) = subst IsUnparted (sym e) (string_unparted cs is)
+  tree_unparted (number i n) at w (o, (is, e)) = subst IsUnparted (sym e) (number_unparted n is)
+  tree_unparted (text i cs) at w (o, (is, e)) = subst IsUnparted (sym e) (string_unparted cs is)
   tree_unparted (array i ts) at w (o, (v, e, h)) = enclosed v w 0x5B 0x5D refl refl e (items_unparted ts (at + 1) v h)
   tree_unparted (object i ms) at w (o, (v, e, h)) = enclosed v w 0x7B 0x7D refl refl e (members_unparted ms (at + 1) v h)
 
