@@ -24,11 +24,12 @@ use Rattle.at_geojson.specs.Names.{kind_of_text}
 use Rattle.at_geojson.specs.Keeping.{Asked}
 use Rattle.at_geojson.specs.Atoms.{as_text, asked_text, IsFold, IsOwn}
 use Rattle.at_geojson.proofs.Ranges.{value_small}
+use Rattle.at_nest.proofs.TreeParts.{text_made}
 
 -- ---- one tree for the bytes
 
 pub same_tree : (at : ℕ) (w : List ℕ) (t u : Tree) → Spells at w t → Spells at w u → u ≡ t
-same_tree at w t u s r = one_tree at w t u ([], w, [], [], sym (append_all w), tt, tt, in_place at w t s, refl) ([], w, [], [], sym (append_all w), tt, tt, in_place at w u r, refl) where
+same_tree at w t u s r = one_tree at w t u (text_made t at w ([], w, [], [], sym (append_all w), tt, tt, in_place at w t s, refl)) (text_made u at w ([], w, [], [], sym (append_all w), tt, tt, in_place at w u r, refl)) where
   append_all : (v : List ℕ) → v ++ [] ≡ v
   append_all [] = refl
   append_all (b ∷ v) = ap (λ z. b ∷ z) (append_all v)

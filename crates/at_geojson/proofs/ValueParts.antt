@@ -16,7 +16,7 @@ use Rattle.at_fixed.specs.NumberSoFar.{between}
 use Rattle.at_fixed.specs.Numerals.{Numeral, JsonNumber}
 use Rattle.at_fixed.specs.Fixed.{IsFixedOf, fixed_of}
 use Rattle.at_fixed.proofs.DigitParts.{part-length}
-use Rattle.at_lex.specs.Strings.{Character, AreCharacters, string_text as characters_text, JsonString, AreUnitsOf, units_of}
+use Rattle.at_lex.specs.Strings.{Character, AreCharacters, string_text as characters_text, JsonString, SpellsString, AreUnitsOf, units_of}
 use Rattle.at_lex.specs.Runs.{JsonRun, Literal, the_null, the_true, the_false, literal_text}
 use Rattle.at_lex.specs.Spans.{AreSpaces}
 use Rattle.at_lex.proofs.FrontLemmas.{suffix_is}
@@ -25,7 +25,8 @@ use Rattle.at_wkt.proofs.NumberSteps.{rest_part, rest_to}
 use Rattle.at_nest.specs.declared.algebra.Member.{Member}
 use Rattle.at_nest.specs.declared.algebra.Attempt.TheVariants.{Whole as WholeAttempt}
 use Rattle.at_nest.specs.Folds.{IsScalarText, IsAttempt, AreFolds, AreMemberFolds}
-use Rattle.at_nest.specs.Tree.{Tree, literal, number, text, array, object, no_trees, Spells, SpellsName}
+use Rattle.at_nest.specs.Tree.{Tree, literal, number, text, array, object, no_trees, Spells}
+use Rattle.at_text.specs.Parts.{At}
 use Rattle.at_nest.specs.Passing.{IsPadded, ItemsBefore, items_of, Named, members_of}
 use Rattle.at_nest.proofs.Ahead.{no_nil}
 use Rattle.at_nest.proofs.Passed.{items_none, items_on, items_end, items_empty, members_none, members_on, members_end, members_empty}
@@ -437,8 +438,8 @@ module _ (asked : Asked) (base : ℕ) (w : List ℕ) where
   pub members_begin : (at : ℕ) → at < length w → AreMembersRead asked base w at (at + 1) []
   members_begin at h = record { own = All-nil (λ (m : Member GeoAtom). IsOwn asked m.value); done = []; before = members_none base w at h; folds = tt }
 
-  named : (place : ℕ) (n : NamePlace) (h : IsNameAt w place n) → IsPadded (SpellsName h.text.2.0 (base + n.first)) base w place n.colon
-  named place n h = record { first = n.first; last = n.end; before = h.before; order = omega (arith, h.text.0); behind = h.behind; spaces = h.spaces; is_part = (refl, h.text.2.1, h.text.2.2); more_spaces = h.more_spaces }
+  named : (place : ℕ) (n : NamePlace) (h : IsNameAt w place n) → IsPadded (At (base + n.first) (SpellsString h.text.2.0)) base w place n.colon
+  named place n h = record { first = n.first; last = n.end; before = h.before; order = omega (arith, h.text.0); behind = h.behind; spaces = h.spaces; is_part = (refl, (h.text.2.1, h.text.2.2)); more_spaces = h.more_spaces }
 
   -- a member as the code makes it
   abbrev pub member_of : NamePlace → List ℕ → GeoAtom → Member GeoAtom

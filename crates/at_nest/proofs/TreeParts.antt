@@ -65,13 +65,18 @@ abbrev pub NamedParts : List Character → ℕ → (ℕ → List ℕ → Type 0)
 NamedParts name i Value Then at w = PaddedParts (At i (SpellsString name)) (AfterParts 0x3A (PaddedParts Value Then)) at w
 
 module _ (name : List Character) (i : ℕ) (Value Then : ℕ → List ℕ → Type 0) (at : ℕ) (w : List ℕ) where
-  pub named_parts : (WithName name i Value ▸ Then) at w → NamedParts name i Value Then at w
-  named_parts (p, r, e, (n, q, f, hn, (c, v, g, colon, hv)), hr) =
+  -- the rest belongs to the value as well
+  pub named_behind : (WithName name i Value ▸ Then) at w → (Padded (At i (SpellsString name)) ▸ Exactly (codes ":") ▸ (Padded Value ▸ Then)) at w
+  named_behind (p, r, e, (n, q, f, hn, (c, v, g, colon, hv)), hr) =
       let size : length p ≡ length n + (length c + length v) = ap length f ∙ (length-append n q ∙ ap (λ k. length n + k) (ap length g ∙ length-append c v)) in
       let there : at + length p ≡ at + length n + length c + length v = omega (arith, size) in
       let value : (Exactly (codes ":") ▸ (Padded Value ▸ Then)) (at + length n) (c ++ (v ++ r)) = (c, v ++ r, refl, colon, (v, r, refl, hv, subst (λ k. Then k r) there hr)) in
       let bytes : w ≡ n ++ (c ++ (v ++ r)) = e ∙ (ap (λ z. z ++ r) (f ∙ ap (λ z. n ++ z) g) ∙ (append_assoc n (c ++ v) r ∙ ap (λ z. n ++ z) (append_assoc c v r))) in
-      let (a, x, b, s, d, ha, hb, hx, hs) = padded_parts (At i (SpellsString name)) (Exactly (codes ":") ▸ (Padded Value ▸ Then)) at w (n, c ++ (v ++ r), bytes, hn, value) in
+      (n, c ++ (v ++ r), bytes, hn, value)
+
+  pub named_parts : (WithName name i Value ▸ Then) at w → NamedParts name i Value Then at w
+  named_parts h =
+      let (a, x, b, s, d, ha, hb, hx, hs) = padded_parts (At i (SpellsString name)) (Exactly (codes ":") ▸ (Padded Value ▸ Then)) at w (named_behind h) in
       let (y, k, h) = after_parts 0x3A (Padded Value ▸ Then) (at + length a + length x + length b) s hs in
       (a, x, b, s, d, ha, hb, hx, (y, k, padded_parts Value Then (at + length a + length x + length b + 1) y h))
 

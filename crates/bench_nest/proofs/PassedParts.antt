@@ -57,7 +57,7 @@ name_passed w at first end colon h spaces (order, fits, j) k more inside byte = 
   omega (arith, h, order, k),
   inside,
   byte,
-  λ base. (j.0, base + first, record { first = first; last = end; before = h; order = omega (arith, order); behind = k; spaces = spaces; is_part = (refl, j.1, j.2); more_spaces = more }),
+  λ base. (j.0, base + first, record { first = first; last = end; before = h; order = omega (arith, order); behind = k; spaces = spaces; is_part = (refl, (j.1, j.2)); more_spaces = more }),
 )
 
 -- ---- counts
