@@ -167,9 +167,9 @@ module _ (asked : Asked) (base : ℕ) (w : List ℕ) (at end : ℕ) where
   text_of : (t : Tree) → end ≤ length w → IsPadded (λ j v. Spells j v t) base w at end → IsTextOf (base + at) (between w at end) t
   text_of t fits h = text_made t (base + at) (between w at end) (padded_parts (λ j v. Spells j v t) Nothing (base + at) (between w at end)
       (subst (λ z. (Padded (λ j v. Spells j v t) ▸ Nothing) (base + at) z) (append_none (between w at end)) (padded_gives (λ j v. Spells j v t) Nothing base w at end [] fits h refl))) where
-    append_none : (v : List ℕ) → v ++ [] ≡ v
-    append_none [] = refl
-    append_none (b ∷ v) = ap (λ z. b ∷ z) (append_none v)
+        append_none : (v : List ℕ) → v ++ [] ≡ v
+        append_none [] = refl
+        append_none (b ∷ v) = ap (λ z. b ∷ z) (append_none v)
 
   pub one_position : (p q : PositionAtom) → IsSpacedPair asked base w at (record { end = end; pair = p }) → IsSpacedPair asked base w at (record { end = end; pair = q }) → p.pos ≡ q.pos
   one_position p q h k =
