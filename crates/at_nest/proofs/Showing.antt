@@ -87,7 +87,7 @@ module _ {X : Type 0} (IsKept : X → Content → Type 0) (base : ℕ) (w : List
   text_outside old outer new r span cs x f e e2 d h t k = subst (λ a. IsPushedAs IsKept base w a.0 a.1 (push free f (mark (quoted span.from cs)))) (sym d) (here f.levels (subst (λ z. EachHeld IsKept z f.levels) e h.1))
     where
       here : (ls : List (Level Tree)) → EachHeld IsKept [] ls → IsPushedAs IsKept base w (show_as (outer ++ Text span x ∷ []) []) None (push_mark f.outer ls (quoted span.from cs))
-      here [] u = (piece_append outer f.outer (Text span x) (mark (quoted span.from cs)) (subst (λ z. EachPiece IsKept base w z f.outer) e2 h.0) (refl, (t, k)), tt)
+      here [] u = (piece_append outer f.outer (Text span x) (mark (quoted span.from cs)) (subst (λ z. EachPiece IsKept base w z f.outer) e2 h.0) (refl, t, k), tt)
       here (l ∷ ls) u = absurd u
 
   -- a string put into the innermost level
