@@ -3,6 +3,7 @@ use Rattle.std.proofs.Common.{◌≡◌, ◌==◌, ◌||◌, ◌&&◌, if◌then
 use Rattle.std.proofs.lemmas.List.Elements.{All-nil, All-cons, All-append}
 use Rattle.std.specs.declared.alloc.Global.{Global}
 use denote.RawPtr.{null_ptr}
+use Rattle.at_text.specs.Parts.{Nothing, ◌▸◌}
 use Rattle.at_text.specs.Faults.{fault_at}
 use Rattle.at_text.specs.declared.faults.FaultKind.TheVariants.{Form}
 use Rattle.at_text.specs.declared.halts.Halt.{Halt}
@@ -12,10 +13,11 @@ use Rattle.at_lex.specs.Spans.{AreSpaces, opening}
 use Rattle.at_lex.specs.declared.tokens.Bracket.{Bracket}
 use Rattle.at_nest.specs.declared.algebra.Attempt.{Attempt}
 use Rattle.at_nest.specs.declared.algebra.Attempt.TheVariants.{Whole as WholeAttempt, Unsaid as UnsaidAttempt}
-use Rattle.at_nest.specs.Tree.{Tree, Spells, Padded, IsEnd, SpellsItems, SpellsFurtherItems}
+use Rattle.at_nest.specs.Tree.{Tree, Spells, Padded, SpellsItems, SpellsFurtherItems}
 use Rattle.at_nest.specs.Passing.{IsPadded}
 use Rattle.at_nest.proofs.Ahead.{value_brackets}
 use Rattle.at_nest.proofs.Passed.{padded_gives}
+use Rattle.at_nest.proofs.TreeParts.{padded_parts, padded_made, after_parts, after_made}
 use Rattle.at_nest.specs.Folds.{trees, HasBrackets, IsAttempt, IsItemsAttempt}
 use Rattle.at_geojson.specs.declared.atoms.GeoAtom.{GeoAtom}
 use Rattle.at_geojson.specs.declared.atoms.GeoAtom.TheVariants as atoms
@@ -36,18 +38,19 @@ use Rattle.at_geojson.proofs.RunFolds.{the_object, object_there, joined_covers, 
 
 -- ---- further items behind those of an array
 
-padded_longer : (Part Then Longer : ℕ → List ℕ → Type 0) (n : ℕ) (r e : List ℕ) → Padded Part Then n r → ((m : ℕ) (rest : List ℕ) → m + length rest ≡ n + length r → Then m rest → Longer m (rest ++ e)) → Padded Part Longer n (r ++ e)
-padded_longer Part Then Longer n r e (a, v, b, rest, split, sa, sb, part, goes_on) more =
+padded_longer : (Part Then Longer : ℕ → List ℕ → Type 0) (n : ℕ) (r e : List ℕ) → (Padded Part ▸ Then) n r → ((m : ℕ) (rest : List ℕ) → m + length rest ≡ n + length r → Then m rest → Longer m (rest ++ e)) → (Padded Part ▸ Longer) n (r ++ e)
+padded_longer Part Then Longer n r e h more =
+    let (a, v, b, rest, split, sa, sb, part, goes_on) = padded_parts Part Then n r h in
     let all : length r ≡ length a + (length v + (length b + length rest)) = ap (λ z. length z) split ∙ (length-append a (v ++ (b ++ rest)) ∙ ap (λ k. length a + k) (length-append v (b ++ rest) ∙ ap (λ k. length v + k) (length-append b rest))) in
     let size : n + length a + length v + length b + length rest ≡ n + length r = omega (arith, all) in
-    (a, v, b, rest ++ e, ap (λ z. z ++ e) split ∙ (append_assoc a (v ++ (b ++ rest)) e ∙ ap (λ z. a ++ z) (append_assoc v (b ++ rest) e ∙ ap (λ z. v ++ z) (append_assoc b rest e))), sa, sb, part, more (n + length a + length v + length b) rest size goes_on)
+    padded_made Part Longer n (r ++ e) (a, v, b, rest ++ e, ap (λ z. z ++ e) split ∙ (append_assoc a (v ++ (b ++ rest)) e ∙ ap (λ z. a ++ z) (append_assoc v (b ++ rest) e ∙ ap (λ z. v ++ z) (append_assoc b rest e))), sa, sb, part, more (n + length a + length v + length b) rest size goes_on)
 
 further_longer : (ts us : List Tree) (n : ℕ) (r e : List ℕ) → SpellsFurtherItems n r (trees ts) → SpellsFurtherItems (n + length r) e (trees us) → SpellsFurtherItems n (r ++ e) (trees (ts ++ us))
 further_longer [] us n r e h more =
     let none : length r ≡ 0 = ap (λ z. length z) h in
     let here : n + length r ≡ n = omega (arith, none) in
     subst (λ z. SpellsFurtherItems n (z ++ e) (trees us)) (sym h) (subst (λ k. SpellsFurtherItems k e (trees us)) here more)
-further_longer (t ∷ ts) us n r e (rest, split, padded) more = (
+further_longer (t ∷ ts) us n r e h more = let (rest, split, padded) = after_parts 0x2C (Padded (λ j z. Spells j z t) ▸ (λ j z. SpellsFurtherItems j z (trees ts))) n r h in after_made 0x2C (Padded (λ j z. Spells j z t) ▸ (λ j z. SpellsFurtherItems j z (trees (ts ++ us)))) n (r ++ e) (
   rest ++ e,
   ap (λ z. z ++ e) split,
   padded_longer (λ j z. Spells j z t) (λ j z. SpellsFurtherItems j z (trees ts)) (λ j z. SpellsFurtherItems j z (trees (ts ++ us))) (n + 1) rest e padded
@@ -59,8 +62,8 @@ items_longer t ts us n v e h more = padded_longer (λ j z. Spells j z t) (λ j z
     (λ m rest size goes_on. further_longer ts us m rest e goes_on (subst (λ k. SpellsFurtherItems k e (trees us)) (sym size) more))
 
 module _ (base : ℕ) (w : List ℕ) where
-  alone : (t : Tree) (from to : ℕ) → to ≤ length w → IsPadded (λ j v. Spells j v t) base w from to → Padded (λ j v. Spells j v t) IsEnd (base + from) (between w from to)
-  alone t from to fits h = subst (λ z. Padded (λ j v. Spells j v t) IsEnd (base + from) z) (append-nil (between w from to)) (padded_gives (λ j v. Spells j v t) IsEnd base w from to [] fits h refl)
+  alone : (t : Tree) (from to : ℕ) → to ≤ length w → IsPadded (λ j v. Spells j v t) base w from to → (Padded (λ j v. Spells j v t) ▸ Nothing) (base + from) (between w from to)
+  alone t from to fits h = subst (λ z. (Padded (λ j v. Spells j v t) ▸ Nothing) (base + from) z) (append-nil (between w from to)) (padded_gives (λ j v. Spells j v t) Nothing base w from to [] fits h refl)
 
   pub one_there : (t : Tree) (at end : ℕ) → at < end → end ≤ length w → IsPadded (λ j v. Spells j v t) base w at end → HasBrackets t → AreItemsAt base w at end t []
   one_there t at end h fits item b = record { order = h; within = fits; spells = alone t at end fits item; brackets = All-cons HasBrackets t [] b (All-nil HasBrackets) }
@@ -77,7 +80,7 @@ module _ (base : ℕ) (w : List ℕ) where
         order = omega (arith, h.order, order);
         within = fits;
         spells = subst (λ z. SpellsItems (base + at) z (trees ((t ∷ ts) ++ u ∷ []))) bytes
-            (items_longer t ts (u ∷ []) (base + at) v (0x2C ∷ e) h.spells (e, refl, subst (λ n. Padded (λ j z. Spells j z u) IsEnd n e) here (alone u (end + 1) last fits item)));
+            (items_longer t ts (u ∷ []) (base + at) v (0x2C ∷ e) h.spells (after_made 0x2C (Padded (λ j z. Spells j z u) ▸ Nothing) (base + at + length v) (0x2C ∷ e) (e, refl, subst (λ n. (Padded (λ j z. Spells j z u) ▸ Nothing) n e) here (alone u (end + 1) last fits item))));
         brackets = All-append HasBrackets (t ∷ ts) (u ∷ []) h.brackets (All-cons HasBrackets u [] b (All-nil HasBrackets));
       }
 

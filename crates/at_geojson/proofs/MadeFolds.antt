@@ -12,7 +12,9 @@ use Rattle.at_geom.specs.declared.positions.Pos.{Pos}
 use Rattle.at_geom.specs.declared.shapes.Polygon.{Polygon}
 use Rattle.at_geom.specs.Segments.{IsInRange}
 use Rattle.at_geom.specs.Shapes.{line_fault, ring_fault}
-use Rattle.at_nest.specs.Tree.{Tree, Spells, IsTextOf, IsEnd}
+use Rattle.at_nest.specs.Tree.{Tree, Spells, Padded, IsTextOf}
+use Rattle.at_nest.proofs.TreeParts.{padded_parts, text_made}
+use Rattle.at_text.specs.Parts.{Nothing, ◌▸◌}
 use Rattle.at_nest.specs.Passing.{IsPadded}
 use Rattle.at_nest.proofs.OneTree.{one_tree}
 use Rattle.at_nest.proofs.Passed.{padded_gives}
@@ -163,10 +165,11 @@ module _ {M B L : Type 0} (Marks : Pos → M → Type 0) (Stands : Asked → Lis
 
 module _ (asked : Asked) (base : ℕ) (w : List ℕ) (at end : ℕ) where
   text_of : (t : Tree) → end ≤ length w → IsPadded (λ j v. Spells j v t) base w at end → IsTextOf (base + at) (between w at end) t
-  text_of t fits h = subst (λ z. IsTextOf (base + at) z t) (append_none (between w at end)) (padded_gives (λ j v. Spells j v t) IsEnd base w at end [] fits h refl) where
-    append_none : (v : List ℕ) → v ++ [] ≡ v
-    append_none [] = refl
-    append_none (b ∷ v) = ap (λ z. b ∷ z) (append_none v)
+  text_of t fits h = text_made t (base + at) (between w at end) (padded_parts (λ j v. Spells j v t) Nothing (base + at) (between w at end)
+      (subst (λ z. (Padded (λ j v. Spells j v t) ▸ Nothing) (base + at) z) (append_none (between w at end)) (padded_gives (λ j v. Spells j v t) Nothing base w at end [] fits h refl))) where
+        append_none : (v : List ℕ) → v ++ [] ≡ v
+        append_none [] = refl
+        append_none (b ∷ v) = ap (λ z. b ∷ z) (append_none v)
 
   pub one_position : (p q : PositionAtom) → IsSpacedPair asked base w at (record { end = end; pair = p }) → IsSpacedPair asked base w at (record { end = end; pair = q }) → p.pos ≡ q.pos
   one_position p q h k =

@@ -24,11 +24,12 @@ use Rattle.at_geojson.specs.Names.{kind_of_text}
 use Rattle.at_geojson.specs.Keeping.{Asked}
 use Rattle.at_geojson.specs.Atoms.{as_text, asked_text, IsFold, IsOwn}
 use Rattle.at_geojson.proofs.Ranges.{value_small}
+use Rattle.at_nest.proofs.TreeParts.{text_made}
 
 -- ---- one tree for the bytes
 
 pub same_tree : (at : ℕ) (w : List ℕ) (t u : Tree) → Spells at w t → Spells at w u → u ≡ t
-same_tree at w t u s r = one_tree at w t u ([], w, [], [], sym (append_all w), tt, tt, in_place at w t s, refl) ([], w, [], [], sym (append_all w), tt, tt, in_place at w u r, refl) where
+same_tree at w t u s r = one_tree at w t u (text_made t at w ([], w, [], [], sym (append_all w), tt, tt, in_place at w t s, refl)) (text_made u at w ([], w, [], [], sym (append_all w), tt, tt, in_place at w u r, refl)) where
   append_all : (v : List ℕ) → v ++ [] ≡ v
   append_all [] = refl
   append_all (b ∷ v) = ap (λ z. b ∷ z) (append_all v)
@@ -60,7 +61,7 @@ folds_one asked a at w u r h t s = subst (IsFold asked a) (same_tree at w t u s 
 pub number_found : (asked : Asked) (at : ℕ) (w : List ℕ) (answer : Result ℤ FixedFault) (digits : ℕ) (how : Coords) → digits ≡ asked.digits → how ≡ asked.how
     → JsonNumber w → IsFixedOf w digits how answer → (n : Numeral) × Spells at w (number at n) × (answer ≡ fixed_of n asked.digits asked.how)
 number_found asked at w answer digits how ed eh (n, j, e) f =
-    (n, (refl, j, e), f.value ∙ (ap (λ m. fixed_of m digits how) (sym (f.only n (inl j, e))) ∙ (ap (λ d. fixed_of n d how) ed ∙ ap (fixed_of n asked.digits) eh)))
+    (n, (refl, (j, e)), f.value ∙ (ap (λ m. fixed_of m digits how) (sym (f.only n (inl j, e))) ∙ (ap (λ d. fixed_of n d how) ed ∙ ap (fixed_of n asked.digits) eh)))
 
 module _ (asked : Asked) where
   pub null_folds : (at : ℕ) → IsFold asked (atoms.Null at) (literal at the_null)

@@ -16,7 +16,7 @@ use Rattle.at_fixed.specs.NumberSoFar.{between}
 use Rattle.at_fixed.specs.Numerals.{Numeral, JsonNumber}
 use Rattle.at_fixed.specs.Fixed.{IsFixedOf, fixed_of}
 use Rattle.at_fixed.proofs.DigitParts.{part-length}
-use Rattle.at_lex.specs.Strings.{Character, AreCharacters, string_text as characters_text, JsonString, AreUnitsOf, units_of}
+use Rattle.at_lex.specs.Strings.{Character, AreCharacters, string_text as characters_text, JsonString, SpellsString, AreUnitsOf, units_of}
 use Rattle.at_lex.specs.Runs.{JsonRun, Literal, the_null, the_true, the_false, literal_text}
 use Rattle.at_lex.specs.Spans.{AreSpaces}
 use Rattle.at_lex.proofs.FrontLemmas.{suffix_is}
@@ -25,7 +25,8 @@ use Rattle.at_wkt.proofs.NumberSteps.{rest_part, rest_to}
 use Rattle.at_nest.specs.declared.algebra.Member.{Member}
 use Rattle.at_nest.specs.declared.algebra.Attempt.TheVariants.{Whole as WholeAttempt}
 use Rattle.at_nest.specs.Folds.{IsScalarText, IsAttempt, AreFolds, AreMemberFolds}
-use Rattle.at_nest.specs.Tree.{Tree, literal, number, text, array, object, no_trees, Spells, SpellsName}
+use Rattle.at_nest.specs.Tree.{Tree, literal, number, text, array, object, no_trees, Spells}
+use Rattle.at_text.specs.Parts.{At}
 use Rattle.at_nest.specs.Passing.{IsPadded, ItemsBefore, items_of, Named, members_of}
 use Rattle.at_nest.proofs.Ahead.{no_nil}
 use Rattle.at_nest.proofs.Passed.{items_none, items_on, items_end, items_empty, members_none, members_on, members_end, members_empty}
@@ -144,11 +145,11 @@ module _ (asked : Asked) (base : ℕ) (w : List ℕ) where
 
     go : JsonRun (between w at end) → IsWhole asked base w at (record { end = end; atom = a })
     go (inl (l, e)) = whole (literal (base + at) l) (refl, e)
-    go (inr (n, j, e)) = whole (number (base + at) n) (refl, j, e)
+    go (inr (n, j, e)) = whole (number (base + at) n) (refl, (j, e))
 
   pub string_read : (at end : ℕ) (a : GeoAtom) → IsTextAt w at end → IsOwn asked a → StandsAt at end a → IsWhole asked base w at (record { end = end; atom = a })
   string_read at end a (order, within, (cs, j, e)) own fold =
-      let s : Spells (base + at) (between w at end) (text (base + at) cs) = (refl, j, e) in
+      let s : Spells (base + at) (between w at end) (text (base + at) cs) = (refl, (j, e)) in
       record { order = order; within = within; own = own; tree = text (base + at) cs; spells = s; fold = spelled at end a order fold (text (base + at) cs) s }
 
   -- a number that has a value
@@ -177,7 +178,7 @@ module _ (asked : Asked) (base : ℕ) (w : List ℕ) where
     text_whole unasked cs j e =
         let a : TextAtom = record { at = base + at; kind = kind_of_text (units_of cs); units = None } in
         let u = ap (λ b. if b then Some (units_of cs) else None) (sym (none_asked asked.query.tests (units_of cs) unasked)) in
-        record { order = order; within = within; own = tt; tree = text (base + at) cs; spells = (refl, j, e); fold = text_folds asked a cs refl u }
+        record { order = order; within = within; own = tt; tree = text (base + at) cs; spells = (refl, (j, e)); fold = text_folds asked a cs refl u }
 
     passed_text : list_any looks_at_texts asked.query.tests ≡ false → JsonString (between w at end) → IsPassed at end
     passed_text unasked (cs, j, e) = record { atom = text_kind (base + at) cs; whole = text_whole unasked cs j e; no_twin = refl }
@@ -196,7 +197,7 @@ module _ (asked : Asked) (base : ℕ) (w : List ℕ) where
 
     passed_run : JsonRun (between w at end) → IsPassed at end
     passed_run (inl (l, e)) = passed_literal l e
-    passed_run (inr (n, j, e)) = passed_number n (refl, j, e)
+    passed_run (inr (n, j, e)) = passed_number n (refl, (j, e))
 
     scalar_passed : list_any looks_at_texts asked.query.tests ≡ false → IsScalarText (between w at end) → IsPassed at end
     scalar_passed unasked s = elim s [ inl t ↦ passed_text unasked t | inr r ↦ passed_run r ]
@@ -250,7 +251,7 @@ module _ (asked : Asked) (base : ℕ) (w : List ℕ) where
       fault_behind Range = omega (arith, f.before)
 
     found : JsonNumber (between w f.first f.last) → HasNumber (at + 1) end
-    found (n, j, e) = of_numeral n (refl, j, e) (fixed_of n asked.digits asked.how) refl
+    found (n, j, e) = of_numeral n (refl, (j, e)) (fixed_of n asked.digits asked.how) refl
 
   -- numbers at the offset or behind it
   abbrev AreNumbers : ℕ → List GeoAtom → Type 0
@@ -437,8 +438,8 @@ module _ (asked : Asked) (base : ℕ) (w : List ℕ) where
   pub members_begin : (at : ℕ) → at < length w → AreMembersRead asked base w at (at + 1) []
   members_begin at h = record { own = All-nil (λ (m : Member GeoAtom). IsOwn asked m.value); done = []; before = members_none base w at h; folds = tt }
 
-  named : (place : ℕ) (n : NamePlace) (h : IsNameAt w place n) → IsPadded (SpellsName h.text.2.0 (base + n.first)) base w place n.colon
-  named place n h = record { first = n.first; last = n.end; before = h.before; order = omega (arith, h.text.0); behind = h.behind; spaces = h.spaces; is_part = (refl, h.text.2.1, h.text.2.2); more_spaces = h.more_spaces }
+  named : (place : ℕ) (n : NamePlace) (h : IsNameAt w place n) → IsPadded (At (base + n.first) (SpellsString h.text.2.0)) base w place n.colon
+  named place n h = record { first = n.first; last = n.end; before = h.before; order = omega (arith, h.text.0); behind = h.behind; spaces = h.spaces; is_part = (refl, (h.text.2.1, h.text.2.2)); more_spaces = h.more_spaces }
 
   -- a member as the code makes it
   abbrev pub member_of : NamePlace → List ℕ → GeoAtom → Member GeoAtom

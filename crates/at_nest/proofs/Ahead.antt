@@ -21,6 +21,7 @@ use Rattle.at_nest.specs.Levels.{further, first_mode}
 use Rattle.at_nest.specs.Shown.{Shown, show_as, opened_as}
 use Rattle.at_nest.specs.KeptItems.{Content, PushesValue, OwnAtom}
 use Rattle.at_nest.specs.Reading.{ReadsAhead}
+use Rattle.at_nest.proofs.TreeParts as parts
 use Rattle.at_nest.proofs.Walks.{ends_append}
 use Rattle.at_nest.proofs.Showing.{open_pushes}
 use Rattle.at_nest.proofs.TokenReads.{open_ends, mark_ends, one_mark}
@@ -92,22 +93,22 @@ text_not v r more b cs e h = no_string b v r more _ e h
 
 pub value_ended : (at : ℕ) (v r more : List ℕ) (b : Bracket) (t : Tree) → v ++ r ≡ opening b ∷ more → Spells at v t → (0 < length v) × (ends_run v ≡ false)
 value_ended at v r more b (literal i l) e h = literal_not v r more b l e h.1
-value_ended at v r more b (number i n) e h = number_not v r more b n e h.1 h.2
-value_ended at v r more b (text i cs) e h = absurd (text_not v r more b cs e h.2)
-value_ended at v r more b (array i ts) e h = between 0x5B 0x5D h.1.0 v h.1.1 refl
-value_ended at v r more b (object i ms) e h = between 0x7B 0x7D h.1.0 v h.1.1 refl
+value_ended at v r more b (number i n) e h = number_not v r more b n e h.1.0 h.1.1
+value_ended at v r more b (text i cs) e h = absurd (text_not v r more b cs e h.1.1)
+value_ended at v r more b (array i ts) e h = let (f, (u, g, s)) = parts.array_parts ts i at v h in between 0x5B 0x5D u v g refl
+value_ended at v r more b (object i ms) e h = let (f, (u, g, s)) = parts.object_parts ms i at v h in between 0x7B 0x7D u v g refl
 
 pub value_no_text : (at : ℕ) (v r more : List ℕ) (b : Bracket) (t : Tree) → v ++ r ≡ opening b ∷ more → Spells at v t → IsNoText t
 value_no_text at v r more b (literal i l) e h = tt
 value_no_text at v r more b (number i n) e h = tt
-value_no_text at v r more b (text i cs) e h = absurd (text_not v r more b cs e h.2)
+value_no_text at v r more b (text i cs) e h = absurd (text_not v r more b cs e h.1.1)
 value_no_text at v r more b (array i ts) e h = tt
 value_no_text at v r more b (object i ms) e h = tt
 
 pub value_brackets : (at : ℕ) (v r more : List ℕ) (b : Bracket) (t : Tree) → v ++ r ≡ opening b ∷ more → Spells at v t → HasBrackets t
 value_brackets at v r more b (literal i l) e h = absurd (no_bracket_run v r more b e (inl (l, h.1)))
-value_brackets at v r more b (number i n) e h = absurd (no_bracket_run v r more b e (inr (n, h.1, h.2)))
-value_brackets at v r more b (text i cs) e h = absurd (text_not v r more b cs e h.2)
+value_brackets at v r more b (number i n) e h = absurd (no_bracket_run v r more b e (inr (n, h.1.0, h.1.1)))
+value_brackets at v r more b (text i cs) e h = absurd (text_not v r more b cs e h.1.1)
 value_brackets at v r more b (array i ts) e h = tt
 value_brackets at v r more b (object i ms) e h = tt
 

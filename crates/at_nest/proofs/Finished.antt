@@ -11,6 +11,7 @@ use Rattle.at_lex.specs.declared.tokens.Bracket.TheVariants.{Brace, Square}
 use Rattle.at_lex.specs.Strings.{Character}
 use Rattle.at_nest.specs.Tree.{text}
 use Rattle.at_nest.specs.Syntax.{JsonText}
+use Rattle.at_nest.proofs.TreeParts.{text_made}
 use Rattle.at_nest.proofs.JsonMachine.{State, Frame, in_array, in_object, value, items, members, name, colon, after, in_number, in_string, in_name, in_word, step, accepts, is_nil, text_at, lives, Acc, accepted-JsonText}
 use Rattle.at_nest.specs.Forms.{Meaning, Mark, Piece, comma as a_comma, colon as a_colon, quoted, entry, opens, closes, mark, Formed}
 use Rattle.at_nest.proofs.Steps.{Settled, is_clear, settled_step, settled_still}
@@ -143,11 +144,11 @@ one_answer : {X : Type 0} (m : Meaning X) (at : ℕ) (w : List ℕ) (ps : List (
 one_answer m at w ps f (inl (i, cs, e)) = subst (λ z. IsAnswer m at w (folded_or (single m z))) (sym e) (text_answer (subst (Formed m at w) e f))
   where
     text_answer : Formed m at w (mark (quoted i cs) ∷ []) → IsAnswer m at w (folded (m.of_text i cs))
-    text_answer (a, v, r, d, ha, hp, hap, hr) = (text i cs, (a, v, r, [], d ∙ ap (λ z. a ++ (v ++ z)) (sym (append-nil r)), ha, hr, hp, refl), refl)
+    text_answer (a, v, r, d, ha, hp, hap, hr) = (text i cs, text_made (text i cs) at w (a, v, r, [], d ∙ ap (λ z. a ++ (v ++ z)) (sym (append-nil r)), ha, hr, hp, refl), refl)
 one_answer m at w ps f (inr (i, x, e)) = subst (λ z. IsAnswer m at w (folded_or (single m z))) (sym e) (entry_answer (subst (Formed m at w) e f))
   where
     entry_answer : Formed m at w (mark (entry i x) ∷ []) → IsAnswer m at w (folded x)
-    entry_answer (a, v, r, d, ha, (fi, t, sp, nt, ex), hap, hr) = (t, (a, v, r, [], d ∙ ap (λ z. a ++ (v ++ z)) (sym (append-nil r)), ha, hr, sp, refl), sym ex)
+    entry_answer (a, v, r, d, ha, (fi, t, sp, nt, ex), hap, hr) = (t, text_made t at w (a, v, r, [], d ∙ ap (λ z. a ++ (v ++ z)) (sym (append-nil r)), ha, hr, sp, refl), sym ex)
 
 reached_answer : {X : Type 0} (m : Meaning X) (at : ℕ) (w : List ℕ) (f : Form X) (t : State) (c : Bool) → accepts t ≡ c → IsForm m at w f → AreClosed f.outer → walks (value []) (pieces_of f) ≡ reached t
     → IsAnswer m at w (cond c (folded_or (single m (pieces_of f))) ended)

@@ -123,7 +123,7 @@ piece_out m at v (closes Square i) (f, e) = ap (end_of Out) e
 piece_out m at v (closes Brace i) (f, e) = ap (end_of Out) e
 piece_out m at v (mark (a_comma i)) (f, e) = ap (end_of Out) e
 piece_out m at v (mark (a_colon i)) (f, e) = ap (end_of Out) e
-piece_out m at v (mark (quoted i cs)) (f, k, e) = enters_out v (string_enters [] v (cs, k, e))
+piece_out m at v (mark (quoted i cs)) (f, (k, e)) = enters_out v (string_enters [] v (cs, k, e))
 piece_out m at v (mark (entry i x)) (f, y, sp, n, e) = enters_out v (value_enters y [] at v sp)
 
 pub formed_out : {X : Type 0} (m : Meaning X) (at : ℕ) (w : List ℕ) (ps : List (Piece X)) → Formed m at w ps → end_of Out w ≡ Out

@@ -14,6 +14,7 @@ use Rattle.at_lex.proofs.JsonString as str
 use Rattle.at_lex.specs.Spans.{AreSpaces}
 use Rattle.at_nest.specs.Tree.{Tree, literal, number, text, array, object, Trees, no_trees, tree_and, Members as TreeMembers, no_members as no_tree_members, member_and, Spells, SpellsItems, SpellsFurtherItems, SpellsMembers, SpellsFurtherMembers}
 use Rattle.at_nest.specs.Syntax.{JsonText}
+use Rattle.at_nest.proofs.TreeParts as parts
 pub use Rattle.at_nest.specs.States.{Frame, in_array, in_object, State, value, items, members, name, colon, after, in_number, in_string, in_name, in_word, is_nil, accepts}
 
 abbrev pub begin_value : List Frame → ℕ → Option State
@@ -323,29 +324,29 @@ sound s (b ∷ w) (t, e, r) = comes s t b w e (sound t w r)
 mutual
   pub spells_value : (w : List ℕ) → Value w → (at : ℕ) → (t : Tree) × Spells at w t
   spells_value w (a_word l e) at = (literal at l, (refl, e))
-  spells_value w (a_number (n, h, e)) at = (number at n, (refl, h, e))
-  spells_value w (a_string (cs, h, e)) at = (text at cs, (refl, h, e))
-  spells_value w (an_array v e h) at = let (ts, s) = spells_items v h (at + 1) in (array at ts, (refl, (v, e, s)))
-  spells_value w (an_object v e h) at = let (ms, s) = spells_members v h (at + 1) in (object at ms, (refl, (v, e, s)))
+  spells_value w (a_number (n, h, e)) at = (number at n, (refl, (h, e)))
+  spells_value w (a_string (cs, h, e)) at = (text at cs, (refl, (h, e)))
+  spells_value w (an_array v e h) at = let (ts, s) = spells_items v h (at + 1) in (array at ts, parts.array_made ts at at w (refl, (v, e, s)))
+  spells_value w (an_object v e h) at = let (ms, s) = spells_members v h (at + 1) in (object at ms, parts.object_made ms at at w (refl, (v, e, s)))
 
   pub spells_items : (w : List ℕ) → Items w → (at : ℕ) → (ts : Trees) × SpellsItems at w ts
   spells_items w (no_items h) at = (no_trees, h)
   spells_items w (some_items a v b r e ha hv hb hr) at =
       let (t, s) = spells_value v hv (at + length a) in let (ts, q) = spells_more r hr (at + length a + length v + length b) in
-      (tree_and t ts, (a, v, b, r, e, ha, hb, s, q))
+      (tree_and t ts, parts.items_made t ts at w (a, v, b, r, e, ha, hb, s, q))
 
   pub spells_more : (w : List ℕ) → More w → (at : ℕ) → (ts : Trees) × SpellsFurtherItems at w ts
   spells_more w (no_more e) at = (no_trees, e)
   spells_more w (one_more a v b r e ha hv hb hr) at =
       let (t, s) = spells_value v hv (at + 1 + length a) in let (ts, q) = spells_more r hr (at + 1 + length a + length v + length b) in
-      (tree_and t ts, (a ++ (v ++ (b ++ r)), e, (a, v, b, r, refl, ha, hb, s, q)))
+      (tree_and t ts, parts.further_items_made t ts at w (a ++ (v ++ (b ++ r)), e, (a, v, b, r, refl, ha, hb, s, q)))
 
   pub spells_members : (w : List ℕ) → Members w → (at : ℕ) → (ms : TreeMembers) × SpellsMembers at w ms
   spells_members w (no_members h) at = (no_tree_members, h)
   spells_members w (some_members a n b c v d r e ha (cs, hn, f) hb hc hv hd hr) at =
       let i : ℕ = at + length a in let j : ℕ = i + length n + length b + 1 in
       let (t, s) = spells_value v hv (j + length c) in let (ms, q) = spells_more_members r hr (j + length c + length v + length d) in
-      (member_and cs i t ms, (a, n, b, 0x3A ∷ (c ++ (v ++ (d ++ r))), e, ha, hb, (refl, hn, f), (c ++ (v ++ (d ++ r)), refl, (c, v, d, r, refl, hc, hd, s, q))))
+      (member_and cs i t ms, parts.members_made cs i t ms at w (a, n, b, 0x3A ∷ (c ++ (v ++ (d ++ r))), e, ha, hb, (refl, (hn, f)), (c ++ (v ++ (d ++ r)), refl, (c, v, d, r, refl, hc, hd, s, q))))
 
   pub spells_more_members : (w : List ℕ) → MoreMembers w → (at : ℕ) → (ms : TreeMembers) × SpellsFurtherMembers at w ms
   spells_more_members w (no_more_members e) at = (no_tree_members, e)
@@ -353,16 +354,16 @@ mutual
       let i : ℕ = at + 1 + length a in let j : ℕ = i + length n + length b + 1 in
       let (t, s) = spells_value v hv (j + length c) in let (ms, q) = spells_more_members r hr (j + length c + length v + length d) in (
         member_and cs i t ms,
-        (
+        parts.further_members_made cs i t ms at w (
           a ++ (n ++ (b ++ (0x3A ∷ (c ++ (v ++ (d ++ r)))))),
           e,
-          (a, n, b, 0x3A ∷ (c ++ (v ++ (d ++ r))), refl, ha, hb, (refl, hn, f), (c ++ (v ++ (d ++ r)), refl, (c, v, d, r, refl, hc, hd, s, q))),
+          (a, n, b, 0x3A ∷ (c ++ (v ++ (d ++ r))), refl, ha, hb, (refl, (hn, f)), (c ++ (v ++ (d ++ r)), refl, (c, v, d, r, refl, hc, hd, s, q))),
         ),
       )
 
 pub text_from : (at : ℕ) (w : List ℕ) → ValueThen [] w → JsonText at w
 text_from at w (a, v, y, e, ha, hv, hy) = let (t, s) = spells_value v hv (at + length a) in
-    (t, (a, v, y, [], e ∙ ap (λ z. a ++ (v ++ z)) (sym (append-nil y)), ha, hy, s, refl))
+    (t, parts.text_made t at w (a, v, y, [], e ∙ ap (λ z. a ++ (v ++ z)) (sym (append-nil y)), ha, hy, s, refl))
 
 -- ---- the machine accepts what is spelled
 
@@ -554,16 +555,19 @@ colon_of st b c v z hb hc h = padded (colon st) (λ x e. chosen_by _ _ x e) b (0
 mutual
   pub begins_of : (t : Tree) (st : List Frame) (at : ℕ) (w y : List ℕ) → Spells at w t → Acc (after st) y → Begins st (w ++ y)
   begins_of (literal i l) st at w y (f, e) k = word_begins st l w y e k
-  begins_of (number i n) st at w y (f, h, e) k = number_begins st w y ((num.start-JsonNumber w).1 (n, h, e)) k
-  begins_of (text i cs) st at w y (f, h, e) k = string_begins st w y (cs, h, e) k
-  begins_of (array i ts) st at w y (f, (v, e, s)) k =
+  begins_of (number i n) st at w y (f, (h, e)) k = number_begins st w y ((num.start-JsonNumber w).1 (n, h, e)) k
+  begins_of (text i cs) st at w y (f, (h, e)) k = string_begins st w y (cs, h, e) k
+  begins_of (array i ts) st at w y h k =
+      let (f, (v, e, s)) = parts.array_parts ts i at w h in
       at_byte st 0x5B (items st) (v ++ (0x5D ∷ y)) (w ++ y) refl refl refl (ap (λ z. z ++ y) e ∙ ap (λ z. 0x5B ∷ z) (append_assoc v (0x5D ∷ []) y)) (items_accepted ts st (at + 1) v y s k)
-  begins_of (object i ms) st at w y (f, (v, e, s)) k =
+  begins_of (object i ms) st at w y h k =
+      let (f, (v, e, s)) = parts.object_parts ms i at w h in
       at_byte st 0x7B (members st) (v ++ (0x7D ∷ y)) (w ++ y) refl refl refl (ap (λ z. z ++ y) e ∙ ap (λ z. 0x7B ∷ z) (append_assoc v (0x7D ∷ []) y)) (members_accepted ms st (at + 1) v y s k)
 
   pub items_accepted : (ts : Trees) (st : List Frame) (at : ℕ) (w y : List ℕ) → SpellsItems at w ts → Acc (after st) y → Acc (items st) (w ++ (0x5D ∷ y))
   items_accepted no_trees st at w y h k = padded (items st) (λ b e. chosen_by _ _ b e) w (0x5D ∷ y) h (after st, refl, k)
-  items_accepted (tree_and t ts) st at w y (a, v, b, r, e, ha, hb, s, q) k =
+  items_accepted (tree_and t ts) st at w y h k =
+      let (a, v, b, r, e, ha, hb, s, q) = parts.items_parts t ts at w h in
       moved_to (items st) (w ++ (0x5D ∷ y)) (a ++ (v ++ (b ++ (r ++ (0x5D ∷ y))))) (ap (λ z. z ++ (0x5D ∷ y)) e ∙ sym (regroup a v b r (0x5D ∷ y)))
       (padded (items st) (λ x f. chosen_by _ _ x f) a (v ++ (b ++ (r ++ (0x5D ∷ y)))) ha (items_of st (v ++ (b ++ (r ++ (0x5D ∷ y))))
       (begins_of t (in_array ∷ st) (at + length a) v (b ++ (r ++ (0x5D ∷ y))) s
@@ -571,7 +575,8 @@ mutual
 
   pub more_accepted : (ts : Trees) (st : List Frame) (at : ℕ) (w y : List ℕ) → SpellsFurtherItems at w ts → Acc (after st) y → Acc (after (in_array ∷ st)) (w ++ (0x5D ∷ y))
   more_accepted no_trees st at w y e k = moved_to (after (in_array ∷ st)) (w ++ (0x5D ∷ y)) (0x5D ∷ y) (ap (λ z. z ++ (0x5D ∷ y)) e) (after st, refl, k)
-  more_accepted (tree_and t ts) st at w y (x, f, (a, v, b, r, e, ha, hb, s, q)) k =
+  more_accepted (tree_and t ts) st at w y h k =
+      let (x, f, (a, v, b, r, e, ha, hb, s, q)) = parts.further_items_parts t ts at w h in
       moved_to (after (in_array ∷ st)) (w ++ (0x5D ∷ y)) (0x2C ∷ (a ++ (v ++ (b ++ (r ++ (0x5D ∷ y))))))
       (ap (λ z. z ++ (0x5D ∷ y)) (f ∙ ap (λ z. 0x2C ∷ z) e) ∙ ap (λ z. 0x2C ∷ z) (sym (regroup a v b r (0x5D ∷ y)))) (
         value (in_array ∷ st),
@@ -583,7 +588,8 @@ mutual
 
   pub members_accepted : (ms : TreeMembers) (st : List Frame) (at : ℕ) (w y : List ℕ) → SpellsMembers at w ms → Acc (after st) y → Acc (members st) (w ++ (0x7D ∷ y))
   members_accepted no_tree_members st at w y h k = padded (members st) (λ b e. chosen_by _ _ b e) w (0x7D ∷ y) h (after st, refl, k)
-  members_accepted (member_and cs i t ms) st at w y (a, n, b, r0, e, ha, hb, (ei, hn, en), (r1, e1, (c, v, d, r, e2, hc, hd, s, q))) k =
+  members_accepted (member_and cs i t ms) st at w y h k =
+      let (a, n, b, r0, e, ha, hb, (ei, (hn, en)), (r1, e1, (c, v, d, r, e2, hc, hd, s, q))) = parts.members_parts cs i t ms at w h in
       moved_to (members st) (w ++ (0x7D ∷ y)) (a ++ (n ++ (b ++ (0x3A ∷ (c ++ (v ++ (d ++ (r ++ (0x7D ∷ y)))))))))
       (ap (λ z. z ++ (0x7D ∷ y)) (e ∙ ap (λ z. a ++ (n ++ (b ++ z))) (e1 ∙ ap (λ z. 0x3A ∷ z) e2)) ∙ sym (regroup_member a n b c v d r (0x7D ∷ y)))
       (padded (members st) (λ x f. chosen_by _ _ x f) a (n ++ (b ++ (0x3A ∷ (c ++ (v ++ (d ++ (r ++ (0x7D ∷ y)))))))) ha
@@ -593,7 +599,8 @@ mutual
 
   pub more_members_accepted : (ms : TreeMembers) (st : List Frame) (at : ℕ) (w y : List ℕ) → SpellsFurtherMembers at w ms → Acc (after st) y → Acc (after (in_object ∷ st)) (w ++ (0x7D ∷ y))
   more_members_accepted no_tree_members st at w y e k = moved_to (after (in_object ∷ st)) (w ++ (0x7D ∷ y)) (0x7D ∷ y) (ap (λ z. z ++ (0x7D ∷ y)) e) (after st, refl, k)
-  more_members_accepted (member_and cs i t ms) st at w y (x, f, (a, n, b, r0, e, ha, hb, (ei, hn, en), (r1, e1, (c, v, d, r, e2, hc, hd, s, q)))) k =
+  more_members_accepted (member_and cs i t ms) st at w y h k =
+      let (x, f, (a, n, b, r0, e, ha, hb, (ei, (hn, en)), (r1, e1, (c, v, d, r, e2, hc, hd, s, q)))) = parts.further_members_parts cs i t ms at w h in
       moved_to (after (in_object ∷ st)) (w ++ (0x7D ∷ y)) (0x2C ∷ (a ++ (n ++ (b ++ (0x3A ∷ (c ++ (v ++ (d ++ (r ++ (0x7D ∷ y))))))))))
       (ap (λ z. z ++ (0x7D ∷ y)) (f ∙ ap (λ z. 0x2C ∷ z) (e ∙ ap (λ z. a ++ (n ++ (b ++ z))) (e1 ∙ ap (λ z. 0x3A ∷ z) e2))) ∙ ap (λ z. 0x2C ∷ z) (sym (regroup_member a n b c v d r (0x7D ∷ y)))) (
         name st,
@@ -605,7 +612,8 @@ mutual
       )
 
 pub text_accepted : (at : ℕ) (w : List ℕ) → JsonText at w → Acc (value []) w
-text_accepted at w (t, (a, v, b, r, e, ha, hb, s, f)) =
+text_accepted at w (t, h) =
+    let (a, v, b, r, e, ha, hb, s, f) = parts.text_parts t at w h in
     moved_to (value []) w (a ++ (v ++ (b ++ []))) (e ∙ ap (λ z. a ++ (v ++ (b ++ z))) f)
     (padded (value []) (λ x f. chosen_by _ _ x f) a (v ++ (b ++ [])) ha (value_of [] (v ++ (b ++ [])) (begins_of t [] (at + length a) v (b ++ []) s (after_padded [] b [] hb refl))))
 

@@ -1,4 +1,5 @@
 pub mod JsonNumber
+pub mod TreeParts
 pub mod JsonMachine
 pub mod Steps
 pub mod Values

@@ -19,6 +19,7 @@ use Rattle.at_nest.proofs.Longest.{rest_runs}
 use Rattle.at_nest.proofs.Runs.{literal_runs}
 use Rattle.at_nest.proofs.JsonMachine.{regroup, same_byte}
 use Rattle.at_nest.proofs.Steps.{space_no_run}
+use Rattle.at_nest.proofs.TreeParts.{MemberParts, items_parts, further_items_parts, members_parts, further_members_parts, array_parts, object_parts, text_parts}
 
 abbrev head : List ℕ → ℕ
 head [] = 0
@@ -136,10 +137,10 @@ literal_first the_false = (0x66, 0x61 ∷ 0x6C ∷ 0x73 ∷ 0x65 ∷ [], refl, r
 
 starts : (t : Tree) (at : ℕ) (v : List ℕ) → Spells at v t → Starts t v
 starts (literal i l) at v (f, e) = let (b, r, g, h) = literal_first l in run_starts (literal i l) v b r refl (e ∙ g) h
-starts (number i n) at v (f, h, e) = let (b, r, g, k) = number_first (numeral_text n) (n, h, refl) in run_starts (number i n) v b r refl (e ∙ g) k
-starts (text i cs) at v (f, h, e) = record { byte = 0x22; others = flat_map character_text cs ++ 0x22 ∷ []; split = e; looks = refl; space = refl; closing = refl }
-starts (array i ts) at v (f, (w, e, h)) = record { byte = 0x5B; others = w ++ 0x5D ∷ []; split = e; looks = refl; space = refl; closing = refl }
-starts (object i ms) at v (f, (w, e, h)) = record { byte = 0x7B; others = w ++ 0x7D ∷ []; split = e; looks = refl; space = refl; closing = refl }
+starts (number i n) at v (f, (h, e)) = let (b, r, g, k) = number_first (numeral_text n) (n, h, refl) in run_starts (number i n) v b r refl (e ∙ g) k
+starts (text i cs) at v (f, (h, e)) = record { byte = 0x22; others = flat_map character_text cs ++ 0x22 ∷ []; split = e; looks = refl; space = refl; closing = refl }
+starts (array i ts) at v g = let (f, (w, e, h)) = array_parts ts i at v g in record { byte = 0x5B; others = w ++ 0x5D ∷ []; split = e; looks = refl; space = refl; closing = refl }
+starts (object i ms) at v g = let (f, (w, e, h)) = object_parts ms i at v g in record { byte = 0x7B; others = w ++ 0x7D ∷ []; split = e; looks = refl; space = refl; closing = refl }
 
 same_kind : (t u : Tree) (v y w z : List ℕ) → Starts t v → Starts u w → v ++ y ≡ w ++ z → kind t ≡ kind u
 same_kind t u v y w z h k e = sym h.looks ∙ (ap look (ap head (ap (λ x. x ++ y) (sym h.split) ∙ (e ∙ ap (λ x. x ++ z) k.split))) ∙ k.looks)
@@ -184,11 +185,11 @@ ends_byte w b r e h k = record { no_space = ap (begins is_space) e ∙ h; no_run
 
 more_ends : (ts : Trees) (at : ℕ) (r y : List ℕ) → SpellsFurtherItems at r ts → Ends (r ++ (0x5D ∷ y))
 more_ends no_trees at r y h = ends_byte _ 0x5D y (ap (λ z. z ++ (0x5D ∷ y)) h) refl refl
-more_ends (tree_and t ts) at r y (v, e, h) = ends_byte _ 0x2C (v ++ (0x5D ∷ y)) (ap (λ z. z ++ (0x5D ∷ y)) e) refl refl
+more_ends (tree_and t ts) at r y k = let (v, e, h) = further_items_parts t ts at r k in ends_byte _ 0x2C (v ++ (0x5D ∷ y)) (ap (λ z. z ++ (0x5D ∷ y)) e) refl refl
 
 more_members_end : (ms : Members) (at : ℕ) (r y : List ℕ) → SpellsFurtherMembers at r ms → Ends (r ++ (0x7D ∷ y))
 more_members_end no_members at r y h = ends_byte _ 0x7D y (ap (λ z. z ++ (0x7D ∷ y)) h) refl refl
-more_members_end (member_and name i t ms) at r y (v, e, h) = ends_byte _ 0x2C (v ++ (0x7D ∷ y)) (ap (λ z. z ++ (0x7D ∷ y)) e) refl refl
+more_members_end (member_and name i t ms) at r y k = let (v, e, h) = further_members_parts name i t ms at r k in ends_byte _ 0x2C (v ++ (0x7D ∷ y)) (ap (λ z. z ++ (0x7D ∷ y)) e) refl refl
 
 -- the text of a string, and what is behind it
 name_same : (cs ds : List Character) (v w y z : List ℕ) → AreCharacters cs → AreCharacters ds → v ≡ string_text cs → w ≡ string_text ds → v ++ y ≡ w ++ z → Same cs ds v w y z
@@ -226,9 +227,9 @@ not_closed t v y (c ∷ w) z h (k, ks) e = absurd (true≢false (sym k ∙ (ap i
 same_member : (m l : List Character) (j k : ℕ) (t u : Tree) (ts us : Members) (at from : ℕ) (v y w z : List ℕ)
     → ((i n : ℕ) (a r b q : List ℕ) → Spells i a t → Spells n b u → i ≡ n → begins is_run r ≡ false → begins is_run q ≡ false → a ++ r ≡ b ++ q → Same t u a b r q)
     → ((i n : ℕ) (a r b q : List ℕ) → SpellsFurtherMembers i a ts → SpellsFurtherMembers n b us → i ≡ n → a ++ (0x7D ∷ r) ≡ b ++ (0x7D ∷ q) → Same ts us a b r q)
-    → SpellsMembers at v (member_and m j t ts) → SpellsMembers from w (member_and l k u us) → at ≡ from → v ++ (0x7D ∷ y) ≡ w ++ (0x7D ∷ z)
+    → MemberParts m j t ts at v → MemberParts l k u us from w → at ≡ from → v ++ (0x7D ∷ y) ≡ w ++ (0x7D ∷ z)
     → Same (member_and m j t ts) (member_and l k u us) v w y z
-same_member m l j k t u ts us at from v y w z value_same more_same (a, x, b, r, f, ha, hb, (ej, hm, hx), (r1, er, (c, v1, d, r2, f2, hc, hd, hv, hr))) (a3, x3, b3, r3, f3, ha3, hb3, (ek, hl, hx3), (r4, er4, (c4, v4, d4, r5, f5, hc4, hd4, hv4, hr5))) o e =
+same_member m l j k t u ts us at from v y w z value_same more_same (a, x, b, r, f, ha, hb, (ej, (hm, hx)), (r1, er, (c, v1, d, r2, f2, hc, hd, hv, hr))) (a3, x3, b3, r3, f3, ha3, hb3, (ek, (hl, hx3)), (r4, er4, (c4, v4, d4, r5, f5, hc4, hd4, hv4, hr5))) o e =
     let colon1 : r ++ (0x7D ∷ y) ≡ 0x3A ∷ (r1 ++ (0x7D ∷ y)) = ap (λ n. n ++ (0x7D ∷ y)) er in
     let colon4 : r3 ++ (0x7D ∷ z) ≡ 0x3A ∷ (r4 ++ (0x7D ∷ z)) = ap (λ n. n ++ (0x7D ∷ z)) er4 in
     let p = same_padded m l a x b (r ++ (0x7D ∷ y)) a3 x3 b3 (r3 ++ (0x7D ∷ z)) ha hb ha3 hb3 (no_space_first x 0x22 _ _ hx refl) (no_space_first x3 0x22 _ _ hx3 refl)
@@ -257,20 +258,24 @@ mutual
   same_value (literal i l) (literal j k) at from v y w z (f, e) (g, d) o p q s =
       run_same (literal i l) (literal j k) v w y z (subst AreRun (sym e) (literal_runs l)) (subst AreRun (sym d) (literal_runs k))
       (λ r. ap (λ n. literal n l) (same_offset i j at from f g o) ∙ ap (literal j) (one_literal l k (sym e ∙ (r ∙ d)))) p q s
-  same_value (number i n) (number j m) at from v y w z (f, h, e) (g, k, d) o p q s =
+  same_value (number i n) (number j m) at from v y w z (f, (h, e)) (g, (k, d)) o p q s =
       run_same (number i n) (number j m) v w y z (number_run v (n, h, e)) (number_run w (m, k, d))
       (λ r. ap (λ x. number x n) (same_offset i j at from f g o) ∙ ap (number j) (one_numeral n m (json_is_wkt n h) (json_is_wkt m k) (sym e ∙ (r ∙ d)))) p q s
-  same_value (literal i l) (number j m) at from v y w z (f, e) (g, k, d) o p q s =
+  same_value (literal i l) (number j m) at from v y w z (f, e) (g, (k, d)) o p q s =
       run_same (literal i l) (number j m) v w y z (subst AreRun (sym e) (literal_runs l)) (number_run w (m, k, d)) (λ r. absurd (no_number l (m, k, sym e ∙ (r ∙ d)))) p q s
-  same_value (number i n) (literal j k) at from v y w z (f, h, e) (g, d) o p q s =
+  same_value (number i n) (literal j k) at from v y w z (f, (h, e)) (g, d) o p q s =
       run_same (number i n) (literal j k) v w y z (number_run v (n, h, e)) (subst AreRun (sym d) (literal_runs k)) (λ r. absurd (no_number k (n, h, sym d ∙ (sym r ∙ e)))) p q s
-  same_value (text i cs) (text j ds) at from v y w z (f, h, e) (g, k, d) o p q s =
+  same_value (text i cs) (text j ds) at from v y w z (f, (h, e)) (g, (k, d)) o p q s =
       let r = name_same cs ds v w y z h k e d s in
       record { same = ap (λ n. text n cs) (same_offset i j at from f g o) ∙ ap (text j) r.same; part = r.part; rest = r.rest }
-  same_value (array i ts) (array j us) at from v y w z (f, (v1, e, h)) (g, (w1, d, k)) o p q s =
+  same_value (array i ts) (array j us) at from v y w z hv hw o p q s =
+      let (f, (v1, e, h)) = array_parts ts i at v hv in
+      let (g, (w1, d, k)) = array_parts us j from w hw in
       let r = same_items ts us (at + 1) (from + 1) v1 y w1 z h k (next_offset at from o) (ap tail (sym (inner 0x5D v v1 y 0x5B e) ∙ (s ∙ inner 0x5D w w1 z 0x5B d))) in
       record { same = ap (λ n. array n ts) (same_offset i j at from f g o) ∙ ap (array j) r.same; part = e ∙ (ap (λ x. 0x5B ∷ (x ++ 0x5D ∷ [])) r.part ∙ sym d); rest = r.rest }
-  same_value (object i ms) (object j ns) at from v y w z (f, (v1, e, h)) (g, (w1, d, k)) o p q s =
+  same_value (object i ms) (object j ns) at from v y w z hv hw o p q s =
+      let (f, (v1, e, h)) = object_parts ms i at v hv in
+      let (g, (w1, d, k)) = object_parts ns j from w hw in
       let r = same_members ms ns (at + 1) (from + 1) v1 y w1 z h k (next_offset at from o) (ap tail (sym (inner 0x7D v v1 y 0x7B e) ∙ (s ∙ inner 0x7D w w1 z 0x7B d))) in
       record { same = ap (λ n. object n ms) (same_offset i j at from f g o) ∙ ap (object j) r.same; part = e ∙ (ap (λ x. 0x7B ∷ (x ++ 0x7D ∷ [])) r.part ∙ sym d); rest = r.rest }
   same_value (literal i l) (text j ds) at from v y w z h k o p q s = differ (literal i l) (text j ds) v y w z (starts (literal i l) at v h) (starts (text j ds) from w k) s (λ c. clash 4 1 refl c)
@@ -294,17 +299,21 @@ mutual
 
   same_items : (ts us : Trees) (at from : ℕ) (v y w z : List ℕ) → SpellsItems at v ts → SpellsItems from w us → at ≡ from → v ++ (0x5D ∷ y) ≡ w ++ (0x5D ∷ z) → Same ts us v w y z
   same_items no_trees no_trees at from v y w z h k o e = let r = same_front is_space v w (0x5D ∷ y) (0x5D ∷ z) h k e refl refl in record { same = refl; part = r.0; rest = ap tail r.1 }
-  same_items no_trees (tree_and u us) at from v y w z h (c, x, d, q, f, hc, hd, hx, hq) o e = absurd (not_here v h (starts u (from + length c) x hx) hc (e ∙ padded_on w c x d q (0x5D ∷ z) f))
+  same_items no_trees (tree_and u us) at from v y w z h k o e =
+      let (c, x, d, q, f, hc, hd, hx, hq) = items_parts u us from w k in absurd (not_here c x d q v h (starts u (from + length c) x hx) hc (e ∙ padded_on w c x d q (0x5D ∷ z) f))
     where
-      not_here : (v : List ℕ) → AreSpaces v → Starts u x → AreSpaces c → v ++ (0x5D ∷ y) ≡ c ++ (x ++ (d ++ (q ++ (0x5D ∷ z)))) → ⊥
-      not_here v h st hc e = let r = same_front is_space v c (0x5D ∷ y) (x ++ (d ++ (q ++ (0x5D ∷ z)))) h hc e refl (no_space_first x st.byte st.others _ st.split st.space) in
+      not_here : (c x d q v : List ℕ) → AreSpaces v → Starts u x → AreSpaces c → v ++ (0x5D ∷ y) ≡ c ++ (x ++ (d ++ (q ++ (0x5D ∷ z)))) → ⊥
+      not_here c x d q v h st hc e = let r = same_front is_space v c (0x5D ∷ y) (x ++ (d ++ (q ++ (0x5D ∷ z)))) h hc e refl (no_space_first x st.byte st.others _ st.split st.space) in
           not_closed u x (d ++ (q ++ (0x5D ∷ z))) [] y st tt r.1
-  same_items (tree_and t ts) no_trees at from v y w z (a, x, b, r, f, ha, hb, hx, hr) k o e = absurd (not_here w k (starts t (at + length a) x hx) ha (sym e ∙ padded_on v a x b r (0x5D ∷ y) f))
+  same_items (tree_and t ts) no_trees at from v y w z h k o e =
+      let (a, x, b, r, f, ha, hb, hx, hr) = items_parts t ts at v h in absurd (not_here a x b r w k (starts t (at + length a) x hx) ha (sym e ∙ padded_on v a x b r (0x5D ∷ y) f))
     where
-      not_here : (w : List ℕ) → AreSpaces w → Starts t x → AreSpaces a → w ++ (0x5D ∷ z) ≡ a ++ (x ++ (b ++ (r ++ (0x5D ∷ y)))) → ⊥
-      not_here w k st ha e = let r2 = same_front is_space w a (0x5D ∷ z) (x ++ (b ++ (r ++ (0x5D ∷ y)))) k ha e refl (no_space_first x st.byte st.others _ st.split st.space) in
+      not_here : (a x b r w : List ℕ) → AreSpaces w → Starts t x → AreSpaces a → w ++ (0x5D ∷ z) ≡ a ++ (x ++ (b ++ (r ++ (0x5D ∷ y)))) → ⊥
+      not_here a x b r w k st ha e = let r2 = same_front is_space w a (0x5D ∷ z) (x ++ (b ++ (r ++ (0x5D ∷ y)))) k ha e refl (no_space_first x st.byte st.others _ st.split st.space) in
           not_closed t x (b ++ (r ++ (0x5D ∷ y))) [] z st tt r2.1
-  same_items (tree_and t ts) (tree_and u us) at from v y w z (a, x, b, r, f, ha, hb, hx, hr) (c, g, d, q, i, hc, hd, hg, hq) o e =
+  same_items (tree_and t ts) (tree_and u us) at from v y w z h k o e =
+      let (a, x, b, r, f, ha, hb, hx, hr) = items_parts t ts at v h in
+      let (c, g, d, q, i, hc, hd, hg, hq) = items_parts u us from w k in
       let st = starts t (at + length a) x hx in let su = starts u (from + length c) g hg in
       let p = same_padded t u a x b (r ++ (0x5D ∷ y)) c g d (q ++ (0x5D ∷ z)) ha hb hc hd (no_space_first x st.byte st.others _ st.split st.space) (no_space_first g su.byte su.others _ su.split su.space)
       (more_ends ts (at + length a + length x + length b) r y hr) (more_ends us (from + length c + length g + length d) q z hq) (sym (padded_on v a x b r (0x5D ∷ y) f) ∙ (e ∙ padded_on w c g d q (0x5D ∷ z) i))
@@ -318,9 +327,11 @@ mutual
 
   same_more : (ts us : Trees) (at from : ℕ) (v y w z : List ℕ) → SpellsFurtherItems at v ts → SpellsFurtherItems from w us → at ≡ from → v ++ (0x5D ∷ y) ≡ w ++ (0x5D ∷ z) → Same ts us v w y z
   same_more no_trees no_trees at from v y w z h k o e = record { same = refl; part = h ∙ sym k; rest = ap tail (ap (λ n. n ++ (0x5D ∷ y)) (sym h) ∙ (e ∙ ap (λ n. n ++ (0x5D ∷ z)) k)) }
-  same_more no_trees (tree_and u us) at from v y w z h (w1, i, k) o e = clash 0x5D 0x2C refl (ap head (ap (λ n. n ++ (0x5D ∷ y)) (sym h) ∙ (e ∙ ap (λ n. n ++ (0x5D ∷ z)) i)))
-  same_more (tree_and t ts) no_trees at from v y w z (v1, f, h) k o e = clash 0x2C 0x5D refl (ap head (ap (λ n. n ++ (0x5D ∷ y)) (sym f) ∙ (e ∙ ap (λ n. n ++ (0x5D ∷ z)) k)))
-  same_more (tree_and t ts) (tree_and u us) at from v y w z (v1, f, (a, x, b, r, f1, ha, hb, hx, hr)) (w1, i, (c, g, d, q, i1, hc, hd, hg, hq)) o e =
+  same_more no_trees (tree_and u us) at from v y w z h hw o e = let (w1, i, k) = further_items_parts u us from w hw in clash 0x5D 0x2C refl (ap head (ap (λ n. n ++ (0x5D ∷ y)) (sym h) ∙ (e ∙ ap (λ n. n ++ (0x5D ∷ z)) i)))
+  same_more (tree_and t ts) no_trees at from v y w z hv k o e = let (v1, f, h) = further_items_parts t ts at v hv in clash 0x2C 0x5D refl (ap head (ap (λ n. n ++ (0x5D ∷ y)) (sym f) ∙ (e ∙ ap (λ n. n ++ (0x5D ∷ z)) k)))
+  same_more (tree_and t ts) (tree_and u us) at from v y w z h k o e =
+      let (v1, f, (a, x, b, r, f1, ha, hb, hx, hr)) = further_items_parts t ts at v h in
+      let (w1, i, (c, g, d, q, i1, hc, hd, hg, hq)) = further_items_parts u us from w k in
       let st = starts t (at + 1 + length a) x hx in let su = starts u (from + 1 + length c) g hg in
       let inside : v1 ++ (0x5D ∷ y) ≡ w1 ++ (0x5D ∷ z) = ap tail (ap (λ n. n ++ (0x5D ∷ y)) (sym f) ∙ (e ∙ ap (λ n. n ++ (0x5D ∷ z)) i)) in
       let p = same_padded t u a x b (r ++ (0x5D ∷ y)) c g d (q ++ (0x5D ∷ z)) ha hb hc hd (no_space_first x st.byte st.others _ st.split st.space) (no_space_first g su.byte su.others _ su.split su.space)
@@ -335,25 +346,31 @@ mutual
 
   same_members : (ms ns : Members) (at from : ℕ) (v y w z : List ℕ) → SpellsMembers at v ms → SpellsMembers from w ns → at ≡ from → v ++ (0x7D ∷ y) ≡ w ++ (0x7D ∷ z) → Same ms ns v w y z
   same_members no_members no_members at from v y w z h k o e = let r = same_front is_space v w (0x7D ∷ y) (0x7D ∷ z) h k e refl refl in record { same = refl; part = r.0; rest = ap tail r.1 }
-  same_members no_members (member_and m j u us) at from v y w z h (c, x, d, q, f, hc, hd, (g, hm, hx), hq) o e =
+  same_members no_members (member_and m j u us) at from v y w z h k o e =
+      let (c, x, d, q, f, hc, hd, (g, (hm, hx)), hq) = members_parts m j u us from w k in
       let r = same_front is_space v c (0x7D ∷ y) (x ++ (d ++ (q ++ (0x7D ∷ z)))) h hc (e ∙ padded_on w c x d q (0x7D ∷ z) f) refl (no_space_first x 0x22 _ _ hx refl) in
       clash 0x7D 0x22 refl (ap head (r.1 ∙ ap (λ n. n ++ (d ++ (q ++ (0x7D ∷ z)))) hx))
-  same_members (member_and m j t ts) no_members at from v y w z (a, x, b, r, f, ha, hb, (g, hm, hx), hr) k o e =
+  same_members (member_and m j t ts) no_members at from v y w z h k o e =
+      let (a, x, b, r, f, ha, hb, (g, (hm, hx)), hr) = members_parts m j t ts at v h in
       let s = same_front is_space w a (0x7D ∷ z) (x ++ (b ++ (r ++ (0x7D ∷ y)))) k ha (sym e ∙ padded_on v a x b r (0x7D ∷ y) f) refl (no_space_first x 0x22 _ _ hx refl) in
       clash 0x7D 0x22 refl (ap head (s.1 ∙ ap (λ n. n ++ (b ++ (r ++ (0x7D ∷ y)))) hx))
-  same_members (member_and m j t ts) (member_and l k u us) at from v y w z h g o e = same_member m l j k t u ts us at from v y w z (same_value t u) (same_more_members ts us) h g o e
+  same_members (member_and m j t ts) (member_and l k u us) at from v y w z h g o e = same_member m l j k t u ts us at from v y w z (same_value t u) (same_more_members ts us) (members_parts m j t ts at v h) (members_parts l k u us from w g) o e
 
   same_more_members : (ms ns : Members) (at from : ℕ) (v y w z : List ℕ) → SpellsFurtherMembers at v ms → SpellsFurtherMembers from w ns → at ≡ from → v ++ (0x7D ∷ y) ≡ w ++ (0x7D ∷ z) → Same ms ns v w y z
   same_more_members no_members no_members at from v y w z h k o e = record { same = refl; part = h ∙ sym k; rest = ap tail (ap (λ n. n ++ (0x7D ∷ y)) (sym h) ∙ (e ∙ ap (λ n. n ++ (0x7D ∷ z)) k)) }
-  same_more_members no_members (member_and m j u us) at from v y w z h (w1, i, k) o e = clash 0x7D 0x2C refl (ap head (ap (λ n. n ++ (0x7D ∷ y)) (sym h) ∙ (e ∙ ap (λ n. n ++ (0x7D ∷ z)) i)))
-  same_more_members (member_and m j t ts) no_members at from v y w z (v1, f, h) k o e = clash 0x2C 0x7D refl (ap head (ap (λ n. n ++ (0x7D ∷ y)) (sym f) ∙ (e ∙ ap (λ n. n ++ (0x7D ∷ z)) k)))
-  same_more_members (member_and m j t ts) (member_and l k u us) at from v y w z (v1, f, h) (w1, i, g) o e =
+  same_more_members no_members (member_and m j u us) at from v y w z h hw o e = let (w1, i, k) = further_members_parts m j u us from w hw in clash 0x7D 0x2C refl (ap head (ap (λ n. n ++ (0x7D ∷ y)) (sym h) ∙ (e ∙ ap (λ n. n ++ (0x7D ∷ z)) i)))
+  same_more_members (member_and m j t ts) no_members at from v y w z hv k o e = let (v1, f, h) = further_members_parts m j t ts at v hv in clash 0x2C 0x7D refl (ap head (ap (λ n. n ++ (0x7D ∷ y)) (sym f) ∙ (e ∙ ap (λ n. n ++ (0x7D ∷ z)) k)))
+  same_more_members (member_and m j t ts) (member_and l k u us) at from v y w z hv hw o e =
+      let (v1, f, h) = further_members_parts m j t ts at v hv in
+      let (w1, i, g) = further_members_parts l k u us from w hw in
       let r = same_member m l j k t u ts us (at + 1) (from + 1) v1 y w1 z (same_value t u) (same_more_members ts us) h g (next_offset at from o) (ap tail (ap (λ n. n ++ (0x7D ∷ y)) (sym f) ∙ (e ∙ ap (λ n. n ++ (0x7D ∷ z)) i))) in
       record { same = r.same; part = f ∙ (ap (λ n. 0x2C ∷ n) r.part ∙ sym i); rest = r.rest }
 
 -- the bytes spell at most one tree
 pub one_tree : (at : ℕ) (w : List ℕ) (t u : Tree) → IsTextOf at w t → IsTextOf at w u → u ≡ t
-one_tree at w t u (a, v, b, r, e, ha, hb, hv, hr) (c, x, d, q, f, hc, hd, hx, hq) =
+one_tree at w t u h k =
+    let (a, v, b, r, e, ha, hb, hv, hr) = text_parts t at w h in
+    let (c, x, d, q, f, hc, hd, hx, hq) = text_parts u at w k in
     let st = starts t (at + length a) v hv in let su = starts u (at + length c) x hx in
     let p = same_padded t u a v b [] c x d [] ha hb hc hd (no_space_first v st.byte st.others _ st.split st.space) (no_space_first x su.byte su.others _ su.split su.space) nothing nothing
     (ap (λ n. a ++ (v ++ (b ++ n))) (sym hr) ∙ (sym e ∙ (f ∙ ap (λ n. c ++ (x ++ (d ++ n))) hq)))

@@ -4,6 +4,7 @@ use Rattle.std.proofs.Common.{◌≡◌, ℕ, inl, inr, List, [], ◌∷◌, ◌
 use Rattle.std.proofs.lemmas.Option.{none-some, same_Some}
 use Rattle.std.proofs.lemmas.Bool.{eqb-true}
 use Rattle.at_text.specs.Texts.{is_space}
+use Rattle.at_nest.proofs.TreeParts as parts
 use Rattle.at_nest.proofs.JsonNumber as num
 use Rattle.at_lex.specs.declared.tokens.Bracket.TheVariants.{Brace, Square}
 use Rattle.at_lex.specs.Strings.{JsonString}
@@ -289,10 +290,10 @@ number_quote c u (inr (inr (h, r))) = grind (arith, h)
 -- what is no string doesn't begin with a quote
 no_quote : (t : Tree) (at c : ℕ) (u : List ℕ) → Spells at (c ∷ u) t → IsNoText t → (c == 0x22) ≡ false
 no_quote (literal i l) at c u (f, e) n = word_quote l c u e
-no_quote (number i m) at c u (f, h, e) n = number_quote c u ((num.start-JsonNumber (c ∷ u)).1 (m, h, e))
+no_quote (number i m) at c u (f, (h, e)) n = number_quote c u ((num.start-JsonNumber (c ∷ u)).1 (m, h, e))
 no_quote (text i cs) at c u h n = absurd n
-no_quote (array i ts) at c u (f, (v, e, s)) n = quote_of c 0x5B (ap first e) refl
-no_quote (object i ms) at c u (f, (v, e, s)) n = quote_of c 0x7B (ap first e) refl
+no_quote (array i ts) at c u h n = let (f, (v, e, s)) = parts.array_parts ts i at (c ∷ u) h in quote_of c 0x5B (ap first e) refl
+no_quote (object i ms) at c u h n = let (f, (v, e, s)) = parts.object_parts ms i at (c ∷ u) h in quote_of c 0x7B (ap first e) refl
 
 -- the five tests of a byte that none of the states without a value passes
 pub record Unmarked (c : ℕ) : Type 0 where
@@ -347,7 +348,7 @@ piece_goes m s t at v (closes Square i) h (f, e) g = goes_by s t 0x5D v e (squar
 piece_goes m s t at v (closes Brace i) h (f, e) g = goes_by s t 0x7D v e (brace_closes s h ∙ g) (next_still s (a_closer Brace) t g)
 piece_goes m s t at v (mark (a_comma i)) h (f, e) g = goes_by s t 0x2C v e (comma_steps s h ∙ g) (next_still s comma_kind t g)
 piece_goes m s t at v (mark (a_colon i)) h (f, e) g = goes_by s t 0x3A v e (colon_steps s h ∙ g) (next_still s colon_kind t g)
-piece_goes m s t at v (mark (quoted i cs)) h (f, k, e) g = text_goes s t v (cs, k, e) g
+piece_goes m s t at v (mark (quoted i cs)) h (f, (k, e)) g = text_goes s t v (cs, k, e) g
 piece_goes m s t at v (mark (entry i x)) h (f, y, sp, n, e) g = value_goes s t at v y sp g
 
 halts_by : (s : State) (c : ℕ) (v : List ℕ) → v ≡ c ∷ [] → step s c ≡ None → Halts s v
@@ -360,7 +361,7 @@ piece_halts m s at v (closes Square i) h (f, e) g = halts_by s 0x5D v e (square_
 piece_halts m s at v (closes Brace i) h (f, e) g = halts_by s 0x7D v e (brace_closes s h ∙ g)
 piece_halts m s at v (mark (a_comma i)) h (f, e) g = halts_by s 0x2C v e (comma_steps s h ∙ g)
 piece_halts m s at v (mark (a_colon i)) h (f, e) g = halts_by s 0x3A v e (colon_steps s h ∙ g)
-piece_halts m s at v (mark (quoted i cs)) h (f, k, e) g = text_halts s v h (cs, k, e) g
+piece_halts m s at v (mark (quoted i cs)) h (f, (k, e)) g = text_halts s v h (cs, k, e) g
 piece_halts m s at v (mark (entry i x)) h (f, y, sp, n, e) g = let (c, u, d, k) = unmarked y at v sp n in
     record { byte = c; others = u; split = d; halts = unmarked_halts s c h k g }
 
@@ -370,7 +371,7 @@ piece_first m at v (opens b i) (f, e) = (opening b, [], e)
 piece_first m at v (closes b i) (f, e) = (closing b, [], e)
 piece_first m at v (mark (a_comma i)) (f, e) = (0x2C, [], e)
 piece_first m at v (mark (a_colon i)) (f, e) = (0x3A, [], e)
-piece_first m at v (mark (quoted i cs)) (f, k, e) = let (u, d, r) = opening_split v (cs, k, e) in (0x22, u, d)
+piece_first m at v (mark (quoted i cs)) (f, (k, e)) = let (u, d, r) = opening_split v (cs, k, e) in (0x22, u, d)
 piece_first m at v (mark (entry i x)) (f, y, sp, n, e) = let (c, u, d, k) = unmarked y at v sp n in (c, u, d)
 
 pub piece_at : {X : Type 0} (m : Meaning X) (at : ℕ) (v : List ℕ) (p : Piece X) → IsPiece m at v p → at_of p ≡ at
@@ -378,5 +379,5 @@ piece_at m at v (opens b i) (f, e) = f
 piece_at m at v (closes b i) (f, e) = f
 piece_at m at v (mark (a_comma i)) (f, e) = f
 piece_at m at v (mark (a_colon i)) (f, e) = f
-piece_at m at v (mark (quoted i cs)) (f, k, e) = f
+piece_at m at v (mark (quoted i cs)) (f, (k, e)) = f
 piece_at m at v (mark (entry i x)) (f, y, sp, n, e) = f

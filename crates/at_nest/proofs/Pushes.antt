@@ -215,7 +215,7 @@ stop_before m at w f p levels formed dead =
     place_of m (closes b i) v (f, e) = f
     place_of m (mark (a_comma i)) v (f, e) = f
     place_of m (mark (a_colon i)) v (f, e) = f
-    place_of m (mark (quoted i cs)) v (f, k, e) = f
+    place_of m (mark (quoted i cs)) v (f, (k, e)) = f
     place_of m (mark (entry i x)) v (f, y, sp, n, e) = f
 
 none_next : {X : Type 0} (md : Mode) (x : Mark X) → move md (mark_kind x) ≡ None → (st : List Frame) → next (full md st) (mark_kind x) ≡ None

@@ -4,11 +4,12 @@ use Rattle.std.proofs.Common.{◌≡◌, ℕ, List, [], ◌∷◌, ◌++◌, Som
 use Rattle.at_text.specs.Prefix.{Viable}
 use Rattle.at_text.specs.Texts.{is_run}
 use Rattle.at_text.proofs.Machine.{run}
-use Rattle.at_lex.specs.Strings.{Character}
+use Rattle.at_text.specs.Parts.{At}
+use Rattle.at_lex.specs.Strings.{Character, SpellsString}
 use Rattle.at_lex.specs.Runs.{JsonRun}
 use Rattle.at_lex.specs.declared.tokens.Start.TheVariants.{InString}
 use Rattle.at_lex.proofs.JsonString as str
-use Rattle.at_nest.specs.Tree.{Tree, Spells, SpellsName}
+use Rattle.at_nest.specs.Tree.{Tree, Spells}
 use Rattle.at_lex.specs.Spans.{ClosesText}
 use Rattle.at_nest.specs.Forms.{Meaning, fold_of, quoted, entry, mark, IsNoText}
 use Rattle.at_nest.specs.Levels.{Pushed, further, stopped, plain_halt, in_text, in_run}
@@ -20,7 +21,7 @@ use Rattle.at_nest.proofs.Runs.{IsBehind, run_token, first_token}
 
 pub data IsReading {X : Type 0} (m : Meaning X) : ℕ → List ℕ → List ℕ → Pushed X → Type 0 where
   nothing_read : {at : ℕ} {t more : List ℕ} → t ≡ [] → IsReading m at t more (further empty_form)
-  string_read : {at : ℕ} {t more : List ℕ} (cs : List Character) → SpellsName cs at at t → IsReading m at t more (further (record { outer = mark (quoted at cs) ∷ []; levels = [] }))
+  string_read : {at : ℕ} {t more : List ℕ} (cs : List Character) → At at (SpellsString cs) at t → IsReading m at t more (further (record { outer = mark (quoted at cs) ∷ []; levels = [] }))
   value_read : {at : ℕ} {t more : List ℕ} (x : X) (y : Tree) → Spells at t y → IsNoText y → x ≡ fold_of m y → IsReading m at t more (further (record { outer = mark (entry at x) ∷ []; levels = [] }))
   string_stops : {at : ℕ} {t more : List ℕ} (v : List ℕ) (byte : ℕ) (o : List ℕ) (n : str.State) → t ≡ 0x22 ∷ (v ++ (byte ∷ o)) → ClosesText InString (v ++ (byte ∷ o)) → run str.step str.inside v ≡ Some n → str.step n byte ≡ None
       → IsReading m at t more (stopped empty_form (record { kind = in_text; item = at; place = at + length (0x22 ∷ v) }))

@@ -333,7 +333,7 @@ piece_of at v more (token.Opens b) n h = record { piece = opens b at; is_piece =
 piece_of at v more (token.Closes b) n h = record { piece = closes b at; is_piece = (refl, h); kind = refl }
 piece_of at v more token.Comma n h = record { piece = mark (comma at); is_piece = (refl, h); kind = refl }
 piece_of at v more token.Colon n h = record { piece = mark (colon at); is_piece = (refl, h); kind = refl }
-piece_of at v more token.Text n h = let (cs, ok, e) = h.1 in record { piece = mark (quoted at cs); is_piece = (refl, ok, e); kind = refl }
+piece_of at v more token.Text n h = let (cs, ok, e) = h.1 in record { piece = mark (quoted at cs); is_piece = (refl, (ok, e)); kind = refl }
 piece_of at v more token.Run n h = let (y, spells, no_text, same) = run_tree at v h.1 in record { piece = mark (entry at y); is_piece = (refl, y, spells, no_text, same); kind = refl }
 piece_of at v more (token.Broken place) n h = absurd (n place refl)
 

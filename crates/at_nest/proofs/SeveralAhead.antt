@@ -10,7 +10,7 @@ use Rattle.at_lex.proofs.Unique.{head_same}
 use Rattle.at_nest.specs.declared.pieces.SpanStop.{SpanStop as CodeHalt}
 use Rattle.at_nest.specs.declared.algebra.Attempt.TheVariants.{Whole, Unsaid}
 use Rattle.at_nest.specs.declared.algebra.Attempt.{Attempt}
-use Rattle.at_nest.specs.Tree.{Tree, literal, number, text, array, object, Spells, SpellsItems, SpellsFurtherItems}
+use Rattle.at_nest.specs.Tree.{Tree, literal, number, text, array, object, no_trees, Spells, SpellsItems, SpellsFurtherItems}
 use Rattle.at_nest.specs.Borders.{ends_run, are_apart}
 use Rattle.at_nest.specs.Forms.{Piece, entry, mark, IsNoText, Formed}
 use Rattle.at_nest.specs.Folds.{trees, Covers, IsAttempt, HasBrackets, IsItemsAttempt}
@@ -18,6 +18,7 @@ use Rattle.at_nest.specs.Levels.{further, marks, push_all}
 use Rattle.at_nest.specs.Shown.{Shown}
 use Rattle.at_nest.specs.KeptItems.{free, row_marks, row_trees, IsPushedAs, PushesItems, OwnAtom}
 use Rattle.at_nest.specs.Reading.{ReadsAhead}
+use Rattle.at_nest.proofs.TreeParts as parts
 use Rattle.at_nest.proofs.Walks.{ends_append}
 use Rattle.at_nest.proofs.Held.{covers_holds}
 use Rattle.at_nest.proofs.Told.{fold_free}
@@ -33,7 +34,7 @@ attempt_items IsOwn IsFold IsRun at w (Whole len x) (b, more, e) (v, r, split, s
   size,
   t,
   [],
-  ([], v, [], [], sym (append-nil v), tt, tt, (let e : at ≡ at + 0 = omega arith in subst (λ n. Spells n v t) e spells), refl),
+  parts.items_made t no_trees at v ([], v, [], [], sym (append-nil v), tt, tt, (let e : at ≡ at + 0 = omega arith in subst (λ n. Spells n v t) e spells), refl),
   All-cons HasBrackets t [] (value_brackets at v r more b t (sym split ∙ e) spells) (All-nil HasBrackets),
   own,
   inl (t, refl, fold),
@@ -56,8 +57,8 @@ front_begins (suc n) b w h (more, e) = (b, take n more, ap (take (suc n)) e)
 -- ---- an item with brackets
 
 brackets_ended : (at : ℕ) (v : List ℕ) (t : Tree) → HasBrackets t → Spells at v t → IsEnded v
-brackets_ended at v (array i ts) b h = between 0x5B 0x5D h.1.0 v h.1.1 refl
-brackets_ended at v (object i ms) b h = between 0x7B 0x7D h.1.0 v h.1.1 refl
+brackets_ended at v (array i ts) b h = let (f, (u, g, s)) = parts.array_parts ts i at v h in between 0x5B 0x5D u v g refl
+brackets_ended at v (object i ms) b h = let (f, (u, g, s)) = parts.object_parts ms i at v h in between 0x7B 0x7D u v g refl
 brackets_ended at v (literal i l) b h = absurd b
 brackets_ended at v (number i n) b h = absurd b
 brackets_ended at v (text i cs) b h = absurd b
@@ -82,7 +83,8 @@ AreFurther at w ts = (es : List (ℕ × ℕ × Tree)) × (row_trees es ≡ ts) �
 
 further_formed : (ts : List Tree) (at : ℕ) (b r : List ℕ) → AreSpaces b → SpellsFurtherItems (at + length b) r (trees ts) → All HasBrackets ts → AreFurther at (b ++ r) ts
 further_formed [] at b r spaces e has = ([], refl, subst AreSpaces (sym (ap (λ z. b ++ z) e ∙ append-nil b)) spaces)
-further_formed (t ∷ ts) at b r spaces (y, e, (a, v, c, z, split, before, behind, spells, more)) has =
+further_formed (t ∷ ts) at b r spaces h has =
+    let (y, e, (a, v, c, z, split, before, behind, spells, more)) = parts.further_items_parts t (trees ts) (at + length b) r h in
     let k : ℕ = at + length b + 1 in
     let (es, same, formed) = further_formed ts (k + length a + length v) c z behind more (All-tail HasBrackets t ts has) in (
       (at + length b, k + length a, t) ∷ es,
@@ -109,7 +111,9 @@ item_ended at w a v b r t e before behind has spells h = ap ends_run e ∙ both_
 
 further_ended : (ts : List Tree) (at : ℕ) (r : List ℕ) → SpellsFurtherItems at r (trees ts) → All HasBrackets ts → ends_run r ≡ false
 further_ended [] at r e has = ap ends_run e
-further_ended (t ∷ ts) at r (y, e, (a, v, c, z, split, before, behind, spells, more)) has = ap ends_run e
+further_ended (t ∷ ts) at r h has =
+    let (y, e, (a, v, c, z, split, before, behind, spells, more)) = parts.further_items_parts t (trees ts) at r h in
+    ap ends_run e
     ∙ both_ended (0x2C ∷ []) y refl (item_ended (at + 1 + length a) y a v c z t split before behind (All-head HasBrackets t ts has) spells (further_ended ts (at + 1 + length a + length v + length c) z more (All-tail HasBrackets t ts has)))
 
 -- ---- all of them
@@ -129,7 +133,8 @@ record AreSeveral (at : ℕ) (v : List ℕ) (t : Tree) (ts : List Tree) : Type 0
   ended : IsEnded v
 
 several_formed : (at : ℕ) (v r more : List ℕ) (b : Bracket) (t : Tree) (ts : List Tree) → v ++ r ≡ opening b ∷ more → SpellsItems at v (trees (t ∷ ts)) → All HasBrackets (t ∷ ts) → AreSeveral at v t ts
-several_formed at v r more b t ts e (a, u, c, z, split, before, behind, spells, others) has =
+several_formed at v r more b t ts e h has =
+    let (a, u, c, z, split, before, behind, spells, others) = parts.items_parts t (trees ts) at v h in
     let first : HasBrackets t = All-head HasBrackets t ts has in
     let rest : All HasBrackets ts = All-tail HasBrackets t ts has in
     let none : length a ≡ 0 = no_spaces a ((u ++ (c ++ z)) ++ r) more b before (sym (append_assoc a (u ++ (c ++ z)) r) ∙ (ap (λ y. y ++ r) (sym split) ∙ e)) in

@@ -6,11 +6,12 @@ use Rattle.at_lex.specs.declared.tokens.Bracket.{Bracket}
 use Rattle.at_lex.specs.declared.tokens.Bracket.TheVariants.{Brace, Square}
 use Rattle.at_lex.specs.Strings.{Character}
 use Rattle.at_lex.specs.Spans.{AreSpaces, opening, closing}
-use Rattle.at_nest.specs.Tree.{Tree, text, array, object, Trees, no_trees, tree_and, Members, no_members, member_and, Spells, SpellsItems, SpellsFurtherItems, SpellsMembers, SpellsFurtherMembers, Padded, After, SpellsName}
+use Rattle.at_nest.specs.Tree.{Tree, text, array, object, Trees, no_trees, tree_and, Members, no_members, member_and, Spells, SpellsItems, SpellsFurtherItems, SpellsMembers, SpellsFurtherMembers}
 use Rattle.at_nest.specs.Forms.{Meaning, fold_of, folds_of, folds_of_members, Mark, comma as a_comma, colon as a_colon, quoted, entry, IsMark, Formed}
 use Rattle.at_nest.specs.Walks.{Kind, an_opener, a_closer, comma_kind, colon_kind, text_kind, value_kind, mark_kind}
 use Rattle.at_nest.specs.Levels.{Mode, at_items, at_value, at_after, at_members, at_name, at_colon, at_member, at_further, first_mode, move, closes_at, moves, values_in, pairs_in, built, marks}
 use Rattle.at_nest.proofs.JsonMachine.{wrong}
+use Rattle.at_nest.proofs.TreeParts.{PaddedParts, AfterParts, MemberParts, items_made, further_items_made, members_made, further_members_made, array_made, object_made}
 use Rattle.at_nest.proofs.Lexical.{none_put}
 
 closed_end : (md n : Mode) (b : Bracket) → ◌≡◌ {A = Option Mode} (Some md) (Some n) → closes_at n b ≡ true → closes_at md b ≡ true
@@ -38,7 +39,8 @@ further_items m (a_comma i ∷ (quoted j cs ∷ xs)) at r n (a, v, y, d, ha, (fi
       tree_and (text j cs) ts,
       d ∙ ap (λ z. a ++ (z ++ y)) hv,
       ha,
-      (y, refl, (a2, v2, b3, y3, d2 ∙ ap (λ z. a2 ++ (v2 ++ z)) d3, ha2, hb3, subst (λ k. Spells (k + length a2) v2 (text j cs)) width hp2, subst (λ k. SpellsFurtherItems (k + length a2 + length v2 + length b3) y3 ts) width s3)),
+      further_items_made (text j cs) ts (at + length a) (0x2C ∷ y)
+          (y, refl, (a2, v2, b3, y3, d2 ∙ ap (λ z. a2 ++ (v2 ++ z)) d3, ha2, hb3, subst (λ k. Spells (k + length a2) v2 (text j cs)) width hp2, subst (λ k. SpellsFurtherItems (k + length a2 + length v2 + length b3) y3 ts) width s3)),
       ap (λ z. m.of_text j cs ∷ z) q3,
     )
 further_items m (a_comma i ∷ (entry j x ∷ xs)) at r n (a, v, y, d, ha, (fi, hv), hap, (a2, v2, y2, d2, ha2, (fj, t, sp, nt, ex), hap2, hf2)) e h =
@@ -49,7 +51,8 @@ further_items m (a_comma i ∷ (entry j x ∷ xs)) at r n (a, v, y, d, ha, (fi, 
       tree_and t ts,
       d ∙ ap (λ z. a ++ (z ++ y)) hv,
       ha,
-      (y, refl, (a2, v2, b3, y3, d2 ∙ ap (λ z. a2 ++ (v2 ++ z)) d3, ha2, hb3, subst (λ k. Spells (k + length a2) v2 t) width sp, subst (λ k. SpellsFurtherItems (k + length a2 + length v2 + length b3) y3 ts) width s3)),
+      further_items_made t ts (at + length a) (0x2C ∷ y)
+          (y, refl, (a2, v2, b3, y3, d2 ∙ ap (λ z. a2 ++ (v2 ++ z)) d3, ha2, hb3, subst (λ k. Spells (k + length a2) v2 t) width sp, subst (λ k. SpellsFurtherItems (k + length a2 + length v2 + length b3) y3 ts) width s3)),
       ap (λ z. fold_of m t ∷ z) q3 ∙ ap (λ z. z ∷ values_in m xs) (sym ex),
     )
 
@@ -59,9 +62,9 @@ items_spelled m [] at r n f e h = (no_trees, f, refl)
 items_spelled m (a_comma i ∷ xs) at r n f e h = none_put n e
 items_spelled m (a_colon i ∷ xs) at r n f e h = none_put n e
 items_spelled m (quoted i cs ∷ xs) at r n (a, v, y, d, ha, hp, hap, hf) e h = let (b, z, ts, d2, hb, s, q) = further_items m xs (at + length a + length v) y n hf e h in
-    (tree_and (text i cs) ts, (a, v, b, z, d ∙ ap (λ k. a ++ (v ++ k)) d2, ha, hb, hp, s), ap (λ k. m.of_text i cs ∷ k) q)
+    (tree_and (text i cs) ts, items_made (text i cs) ts at r (a, v, b, z, d ∙ ap (λ k. a ++ (v ++ k)) d2, ha, hb, hp, s), ap (λ k. m.of_text i cs ∷ k) q)
 items_spelled m (entry i x ∷ xs) at r n (a, v, y, d, ha, (fi, t, sp, nt, ex), hap, hf) e h = let (b, z, ts, d2, hb, s, q) = further_items m xs (at + length a + length v) y n hf e h in
-    (tree_and t ts, (a, v, b, z, d ∙ ap (λ k. a ++ (v ++ k)) d2, ha, hb, sp, s), ap (λ k. fold_of m t ∷ k) q ∙ ap (λ k. k ∷ values_in m xs) (sym ex))
+    (tree_and t ts, items_made t ts at r (a, v, b, z, d ∙ ap (λ k. a ++ (v ++ k)) d2, ha, hb, sp, s), ap (λ k. fold_of m t ∷ k) q ∙ ap (λ k. k ∷ values_in m xs) (sym ex))
 
 -- ---- objects
 
@@ -71,15 +74,15 @@ module _ {X : Type 0} (m : Meaning X) where
   FurtherOf at r xs = (b y : List ℕ) × (ms : Members) × (r ≡ b ++ y) × AreSpaces b × SpellsFurtherMembers (at + length b) y ms × (folds_of_members m ms ≡ pairs_in m None xs)
 
   abbrev ValueOf : (List Character × ℕ) → ℕ → List ℕ → List (Mark X) → Type 0
-  ValueOf p at r xs = (t : Tree) × (ms : Members) × Padded (λ j v. Spells j v t) (λ j z. SpellsFurtherMembers j z ms) at r × ((p.0, p.1, fold_of m t) ∷ folds_of_members m ms ≡ pairs_in m (Some p) xs)
+  ValueOf p at r xs = (t : Tree) × (ms : Members) × PaddedParts (λ j v. Spells j v t) (λ j z. SpellsFurtherMembers j z ms) at r × ((p.0, p.1, fold_of m t) ∷ folds_of_members m ms ≡ pairs_in m (Some p) xs)
 
   abbrev ColonOf : (List Character × ℕ) → ℕ → List ℕ → List (Mark X) → Type 0
-  ColonOf p at r xs = (t : Tree) × (ms : Members) × (b y : List ℕ) × (r ≡ b ++ y) × AreSpaces b × After 0x3A (Padded (λ j v. Spells j v t) (λ j z. SpellsFurtherMembers j z ms)) (at + length b) y
+  ColonOf p at r xs = (t : Tree) × (ms : Members) × (b y : List ℕ) × (r ≡ b ++ y) × AreSpaces b × AfterParts 0x3A (PaddedParts (λ j v. Spells j v t) (λ j z. SpellsFurtherMembers j z ms)) (at + length b) y
       × ((p.0, p.1, fold_of m t) ∷ folds_of_members m ms ≡ pairs_in m (Some p) xs)
 
   abbrev NameOf : ℕ → List ℕ → List (Mark X) → Type 0
   NameOf at r xs = (cs : List Character) × (i : ℕ) × (t : Tree) × (ms : Members)
-      × Padded (SpellsName cs i) (After 0x3A (Padded (λ j v. Spells j v t) (λ j z. SpellsFurtherMembers j z ms))) at r × ((cs, i, fold_of m t) ∷ folds_of_members m ms ≡ pairs_in m None xs)
+      × MemberParts cs i t ms at r × ((cs, i, fold_of m t) ∷ folds_of_members m ms ≡ pairs_in m None xs)
 
   mutual
     further_of : (xs : List (Mark X)) (at : ℕ) (r : List ℕ) (n : Mode) → Formed m at r (marks xs) → moves at_further xs ≡ Some n → closes_at n Brace ≡ true → FurtherOf at r xs
@@ -95,7 +98,7 @@ module _ {X : Type 0} (m : Meaning X) where
           member_and cs j t ms,
           d ∙ ap (λ z. a ++ (z ++ y)) hv,
           ha,
-          (y, refl, subst (λ k. Padded (SpellsName cs j) (After 0x3A (Padded (λ j v. Spells j v t) (λ j z. SpellsFurtherMembers j z ms))) k y) width s),
+          further_members_made cs j t ms (at + length a) (0x2C ∷ y) (y, refl, subst (λ k. MemberParts cs j t ms k y) width s),
           q,
         )
 
@@ -116,7 +119,7 @@ module _ {X : Type 0} (m : Meaning X) where
     colon_of p (a_colon i ∷ xs) at r n (a, v, y, d, ha, (fi, hv), hap, hf) e h =
         let (t, ms, s, q) = value_behind p xs (at + length a + length v) y n hf e h in
         let width : at + length a + length v ≡ at + length a + 1 = ap (λ z. at + length a + length z) hv in
-        (t, ms, a, 0x3A ∷ y, d ∙ ap (λ z. a ++ (z ++ y)) hv, ha, (y, refl, subst (λ k. Padded (λ j v. Spells j v t) (λ j z. SpellsFurtherMembers j z ms) k y) width s), q)
+        (t, ms, a, 0x3A ∷ y, d ∙ ap (λ z. a ++ (z ++ y)) hv, ha, (y, refl, subst (λ k. PaddedParts (λ j v. Spells j v t) (λ j z. SpellsFurtherMembers j z ms) k y) width s), q)
 
     value_behind : (p : List Character × ℕ) (xs : List (Mark X)) (at : ℕ) (r : List ℕ) (n : Mode) → Formed m at r (marks xs) → moves at_member xs ≡ Some n → closes_at n Brace ≡ true → ValueOf p at r xs
     value_behind p [] at r n f e h = wrong (closed_end at_member n Brace e h)
@@ -137,7 +140,7 @@ members_spelled m (a_colon i ∷ xs) at r n f e h = none_put n e
 members_spelled m (entry i x ∷ xs) at r n f e h = none_put n e
 members_spelled m (quoted i cs ∷ xs) at r n (a, v, y, d, ha, hp, hap, hf) e h =
     let (t, ms, b, z, d2, hb, s, q) = colon_of m (cs, i) xs (at + length a + length v) y n hf e h in
-    (member_and cs i t ms, (a, v, b, z, d ∙ ap (λ k. a ++ (v ++ k)) d2, ha, hb, hp, s), q)
+    (member_and cs i t ms, members_made cs i t ms at r (a, v, b, z, d ∙ ap (λ k. a ++ (v ++ k)) d2, ha, hb, hp, s), q)
 
 -- the bracket that a level of the mode has
 abbrev bracket_of : Mode → Bracket
@@ -228,8 +231,8 @@ closer_is at_further Brace h = refl
 
 same_level : {X : Type 0} (m : Meaning X) (b : Bracket) (xs : List (Mark X)) (at : ℕ) (r : List ℕ) (n : Mode) → Formed m (at + 1) r (marks xs) → moves (first_mode b) xs ≡ Some n → closes_at n b ≡ true
     → IsMark m at (opening b ∷ (r ++ (closing b ∷ []))) (entry at (built m b at xs))
-same_level m Square xs at r n f e h = let (ts, s, q) = items_spelled m xs (at + 1) r n f e h in (refl, array at ts, (refl, (r, refl, s)), tt, ap (m.of_array at) (sym q))
-same_level m Brace xs at r n f e h = let (ms, s, q) = members_spelled m xs (at + 1) r n f e h in (refl, object at ms, (refl, (r, refl, s)), tt, ap (m.of_object at) (sym q))
+same_level m Square xs at r n f e h = let (ts, s, q) = items_spelled m xs (at + 1) r n f e h in (refl, array at ts, array_made ts at at (opening Square ∷ (r ++ closing Square ∷ [])) (refl, (r, refl, s)), tt, ap (m.of_array at) (sym q))
+same_level m Brace xs at r n f e h = let (ms, s, q) = members_spelled m xs (at + 1) r n f e h in (refl, object at ms, object_made ms at at (opening Brace ∷ (r ++ closing Brace ∷ [])) (refl, (r, refl, s)), tt, ap (m.of_object at) (sym q))
 
 -- an opener, the marks of a level that may be closed, and the closer spell a value that means what is built
 pub level_spelled : {X : Type 0} (m : Meaning X) (b c : Bracket) (xs : List (Mark X)) (at : ℕ) (r : List ℕ) (n : Mode) → Formed m (at + 1) r (marks xs) → moves (first_mode b) xs ≡ Some n → closes_at n c ≡ true

@@ -133,7 +133,7 @@ run_refused m at t more b o n are begins e ends none_such longest = elim (cut_or
 -- the tree of a whole run
 pub run_tree : (at : ℕ) (t : List ℕ) → JsonRun t → (y : Tree) × Spells at t y × IsNoText y × (y ≡ fold_of free y)
 run_tree at t (inl (l, e)) = (literal at l, (refl, e), tt, refl)
-run_tree at t (inr (n, h, e)) = (number at n, (refl, h, e), tt, refl)
+run_tree at t (inr (n, h, e)) = (number at n, (refl, (h, e)), tt, refl)
 
 pub run_end_is : (t : List ℕ) (e : RunEnd) → IsRunEnd t e → ((n : ℕ) → e ≢ BadAt n) → JsonRun t
 run_end_is t Null h n = inl (the_null, h)
@@ -237,7 +237,7 @@ pub cut_reads_text : {X : Type 0} (IsKept : X → Content → Type 0) (old new :
     → Reads IsKept old new r at t
 cut_reads_text IsKept old new r at t (cs, ok, e) pushes base w f more h (a, z, d, i) token = (
   further (record { outer = mark (quoted at cs) ∷ []; levels = [] }),
-  mark_ends at t more (quoted at cs) (refl, ok, e),
+  mark_ends at t more (quoted at cs) (refl, (ok, e)),
   one_mark IsKept base w new r f (quoted at cs) (pushes cs ok e base w f h (ok, a, z, d ∙ ap (λ v. a ++ (v ++ z)) e, i, ap (λ v. at + length v) e)),
 )
 
@@ -260,7 +260,7 @@ pub lexed_text : {X : Type 0} (IsKept : X → Content → Type 0) (old new : Sho
     → ReadsToken IsKept old new r t token
 lexed_text IsKept old new r t token (cs, ok, e) pushes base w f after h (a, z, d, i) lexed = (
   further (record { outer = mark (quoted token.from cs) ∷ []; levels = [] }),
-  mark_ends token.from t after (quoted token.from cs) (refl, ok, e),
+  mark_ends token.from t after (quoted token.from cs) (refl, (ok, e)),
   one_mark IsKept base w new r f (quoted token.from cs) (pushes cs ok e base w f h (ok, a, z, d ∙ ap (λ v. a ++ (v ++ z)) e, i, ap (λ v. token.from + length v) e)),
 )
 

@@ -7,12 +7,13 @@ use Rattle.at_text.specs.Prefix.{Viable}
 use Rattle.at_text.proofs.Machine.{run}
 use Rattle.at_nest.proofs.JsonNumber as num
 use Rattle.at_lex.specs.declared.tokens.Start.TheVariants.{Out}
-use Rattle.at_lex.specs.Strings.{Character}
+use Rattle.at_text.specs.Parts.{At as StandsAt}
+use Rattle.at_lex.specs.Strings.{Character, SpellsString}
 use Rattle.at_lex.proofs.JsonString as str
 use Rattle.at_nest.specs.Syntax.{JsonText}
 use Rattle.at_text.specs.Texts.{is_space, is_run}
 use Rattle.at_lex.specs.Runs.{Literal, literal_text, the_null, the_true, the_false}
-use Rattle.at_nest.specs.Tree.{Tree, Spells, SpellsName}
+use Rattle.at_nest.specs.Tree.{Tree, Spells}
 use Rattle.at_nest.proofs.JsonMachine.{State, Frame, in_array, in_object, value, items, members, name, colon, after, in_string, in_name, in_number, in_word, step, within, begin_value, after_step, colon_step}
 use Rattle.at_lex.specs.Spans.{begins_run, end_of}
 use Rattle.at_nest.specs.Borders.{ends_run, are_apart}
@@ -187,8 +188,8 @@ run_stops_at m at w b v byte others e k h = record {
 }
 
 -- a token that is a mark
-pub name_is : {X : Type 0} (m : Meaning X) (at : ℕ) (t : List ℕ) (cs : List Character) → SpellsName cs at at t → IsForm m at t (record { outer = mark (quoted at cs) ∷ []; levels = [] })
-name_is m at t cs h = record { formed = ([], t, [], sym (append-nil t), tt, (let e : at ≡ at + 0 = omega arith in subst (λ n. SpellsName cs at n t) e h), apart_nothing t, tt); levels = tt }
+pub name_is : {X : Type 0} (m : Meaning X) (at : ℕ) (t : List ℕ) (cs : List Character) → StandsAt at (SpellsString cs) at t → IsForm m at t (record { outer = mark (quoted at cs) ∷ []; levels = [] })
+name_is m at t cs h = record { formed = ([], t, [], sym (append-nil t), tt, (let e : at ≡ at + 0 = omega arith in subst (λ n. StandsAt at (SpellsString cs) n t) e h), apart_nothing t, tt); levels = tt }
 
 -- a run whose first byte begins no value
 pub first_stops_at : {X : Type 0} (m : Meaning X) (at : ℕ) (w : List ℕ) (byte : ℕ) (others : List ℕ) → w ≡ byte ∷ others → is_run byte ≡ true → ((st : List Frame) → begin_value st byte ≡ None) → IsStop {X = X} m at w empty_form (plain_halt at)

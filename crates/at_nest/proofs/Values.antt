@@ -5,6 +5,7 @@ use Rattle.std.proofs.lemmas.Bool.{and_right}
 use Rattle.std.proofs.lemmas.Option.{none-some, same_Some, option_and_then_some}
 use Rattle.at_text.specs.Texts.{is_space, is_run}
 use Rattle.at_text.proofs.Machine.{run}
+use Rattle.at_nest.proofs.TreeParts as parts
 use Rattle.at_nest.proofs.JsonNumber as num
 use Rattle.at_lex.specs.Strings.{JsonString}
 use Rattle.at_lex.specs.Runs.{Literal, literal_text, the_null, the_true, the_false}
@@ -195,9 +196,9 @@ colon_run st s b c v tail o enter k hb hc q =
 mutual
   pub value_enters : (t : Tree) (st : List Frame) (at : ℕ) (w : List ℕ) → Spells at w t → Enters st w
   value_enters (literal i l) st at w (f, e) = word_enters st l w e
-  value_enters (number i n) st at w (f, h, e) = number_enters st w ((num.start-JsonNumber w).1 (n, h, e))
-  value_enters (text i cs) st at w (f, h, e) = string_enters st w (cs, h, e)
-  value_enters (array i ts) st at w (f, (v, e, s)) = record {
+  value_enters (number i n) st at w (f, (h, e)) = number_enters st w ((num.start-JsonNumber w).1 (n, h, e))
+  value_enters (text i cs) st at w (f, (h, e)) = string_enters st w (cs, h, e)
+  value_enters (array i ts) st at w h = let (f, (v, e, s)) = parts.array_parts ts i at w h in record {
     byte = 0x5B;
     others = v ++ (0x5D ∷ []);
     next = items st;
@@ -210,7 +211,7 @@ mutual
     no_space = refl;
     no_closer = refl;
   }
-  value_enters (object i ms) st at w (f, (v, e, s)) = record {
+  value_enters (object i ms) st at w h = let (f, (v, e, s)) = parts.object_parts ms i at w h in record {
     byte = 0x7B;
     others = v ++ (0x7D ∷ []);
     next = members st;
@@ -226,7 +227,8 @@ mutual
 
   items_run : (ts : Trees) (st : List Frame) (at : ℕ) (w : List ℕ) → SpellsItems at w ts → go (items st) (w ++ (0x5D ∷ [])) ≡ Some (after st)
   items_run no_trees st at w h = still_spaces (items st) w (0x5D ∷ []) tt h
-  items_run (tree_and t ts) st at w (a, v, b, r, e, ha, hb, s, q) =
+  items_run (tree_and t ts) st at w h =
+      let (a, v, b, r, e, ha, hb, s, q) = parts.items_parts t ts at w h in
       let enter : Enters (in_array ∷ st) v = value_enters t (in_array ∷ st) (at + length a) v s in
       ap (λ z. go (items st) (z ++ (0x5D ∷ []))) e ∙ (ap (go (items st)) (sym (regroup a v b r (0x5D ∷ [])))
       ∙ (still_spaces (items st) a (v ++ (b ++ (r ++ (0x5D ∷ [])))) tt ha
@@ -236,7 +238,8 @@ mutual
   more_run : (ts : Trees) (st : List Frame) (at : ℕ) (s : State) (b r : List ℕ) → Settled s (after (in_array ∷ st)) → AreSpaces b → SpellsFurtherItems at r ts
       → go s (b ++ (r ++ (0x5D ∷ []))) ≡ Some (after st)
   more_run no_trees st at s b r k hb e = ap (λ z. go s (b ++ (z ++ (0x5D ∷ [])))) e ∙ settled_run s (after (in_array ∷ st)) b 0x5D [] k hb (clear_spaces s b 0x5D [] hb refl)
-  more_run (tree_and t ts) st at s b r k hb (x, f, (a, v, c, y, e, ha, hc, sp, q)) =
+  more_run (tree_and t ts) st at s b r k hb h =
+      let (x, f, (a, v, c, y, e, ha, hc, sp, q)) = parts.further_items_parts t ts at r h in
       let enter : Enters (in_array ∷ st) v = value_enters t (in_array ∷ st) (at + 1 + length a) v sp in
       let tail : List ℕ = v ++ (c ++ (y ++ (0x5D ∷ []))) in
       ap (λ z. go s (b ++ (z ++ (0x5D ∷ [])))) (f ∙ ap (λ z. 0x2C ∷ z) e) ∙ (ap (λ z. go s (b ++ (0x2C ∷ z))) (sym (regroup a v c y (0x5D ∷ [])))
@@ -247,7 +250,8 @@ mutual
 
   members_run : (ms : TreeMembers) (st : List Frame) (at : ℕ) (w : List ℕ) → SpellsMembers at w ms → go (members st) (w ++ (0x7D ∷ [])) ≡ Some (after st)
   members_run no_tree_members st at w h = still_spaces (members st) w (0x7D ∷ []) tt h
-  members_run (member_and cs i t ms) st at w (a, n, b, r0, e, ha, hb, (ei, hn, en), (r1, e1, (c, v, d, r, e2, hc, hd, s, q))) =
+  members_run (member_and cs i t ms) st at w h =
+      let (a, n, b, r0, e, ha, hb, (ei, (hn, en)), (r1, e1, (c, v, d, r, e2, hc, hd, s, q))) = parts.members_parts cs i t ms at w h in
       let nm : Named st n = named st n (cs, hn, en) in
       let enter : Enters (in_object ∷ st) v = value_enters t (in_object ∷ st) (at + length a + length n + length b + 1 + length c) v s in
       let tail : List ℕ = v ++ (d ++ (r ++ (0x7D ∷ []))) in
@@ -259,7 +263,8 @@ mutual
   more_members_run : (ms : TreeMembers) (st : List Frame) (at : ℕ) (s : State) (b r : List ℕ) → Settled s (after (in_object ∷ st)) → AreSpaces b → SpellsFurtherMembers at r ms
       → go s (b ++ (r ++ (0x7D ∷ []))) ≡ Some (after st)
   more_members_run no_tree_members st at s b r k hb e = ap (λ z. go s (b ++ (z ++ (0x7D ∷ [])))) e ∙ settled_run s (after (in_object ∷ st)) b 0x7D [] k hb (clear_spaces s b 0x7D [] hb refl)
-  more_members_run (member_and cs i t ms) st at s b0 r0 k hb0 (x, f, (a, n, b, r2, e, ha, hb, (ei, hn, en), (r1, e1, (c, v, d, r, e2, hc, hd, sp, q)))) =
+  more_members_run (member_and cs i t ms) st at s b0 r0 k hb0 h =
+      let (x, f, (a, n, b, r2, e, ha, hb, (ei, (hn, en)), (r1, e1, (c, v, d, r, e2, hc, hd, sp, q)))) = parts.further_members_parts cs i t ms at r0 h in
       let nm : Named st n = named st n (cs, hn, en) in
       let enter : Enters (in_object ∷ st) v = value_enters t (in_object ∷ st) (at + 1 + length a + length n + length b + 1 + length c) v sp in
       let tail : List ℕ = v ++ (d ++ (r ++ (0x7D ∷ []))) in

@@ -6,10 +6,11 @@ use Rattle.at_fixed.specs.Numerals.{Numeral}
 use Rattle.at_lex.specs.declared.tokens.Start.{Start}
 use Rattle.at_lex.specs.declared.tokens.Start.TheVariants.{Out}
 use Rattle.at_lex.specs.declared.tokens.Bracket.{Bracket}
-use Rattle.at_lex.specs.Strings.{Character}
+use Rattle.at_text.specs.Parts.{At}
+use Rattle.at_lex.specs.Strings.{Character, SpellsString}
 use Rattle.at_lex.specs.Runs.{Literal}
 use Rattle.at_nest.specs.Tree.{Tree, literal, number, text, array, object, Trees, no_trees, tree_and, Members}
-use Rattle.at_nest.specs.Tree.{no_members, member_and, Spells, SpellsName}
+use Rattle.at_nest.specs.Tree.{no_members, member_and, Spells}
 use Rattle.at_lex.specs.Spans.{AreSpaces, opening, closing, end_of}
 use Rattle.at_nest.specs.Syntax.{JsonText}
 use Rattle.at_nest.specs.Borders.{are_apart}
@@ -56,7 +57,7 @@ pub data Piece (X : Type 0) : Type 0 where
 abbrev pub IsMark : {X : Type 0} → Meaning X → ℕ → List ℕ → Mark X → Type 0
 IsMark m at w (comma i) = (i ≡ at) × (w ≡ 0x2C ∷ [])
 IsMark m at w (colon i) = (i ≡ at) × (w ≡ 0x3A ∷ [])
-IsMark m at w (quoted i cs) = SpellsName cs i at w
+IsMark m at w (quoted i cs) = At i (SpellsString cs) at w
 IsMark m at w (entry i x) = (i ≡ at) × (t : Tree) × Spells at w t × IsNoText t × (x ≡ fold_of m t)
 
 abbrev pub IsPiece : {X : Type 0} → Meaning X → ℕ → List ℕ → Piece X → Type 0

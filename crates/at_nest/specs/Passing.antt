@@ -2,11 +2,12 @@
 -- values at once state their readers in these words; proofs/Passed has their lemmas. The text is the bytes w, which
 -- stand at the offset `base`; places are counted from there.
 use Rattle.std.specs.Prelude.{ℕ, ◌+◌, ◌≤◌, List, [], ◌∷◌, ◌++◌}
+use Rattle.at_text.specs.Parts.{◌▸◌}
 use Rattle.at_fixed.specs.NumberSoFar.{between}
 use Rattle.at_lex.specs.Strings.{Character}
 use Rattle.at_lex.specs.Spans.{AreSpaces}
-use Rattle.at_nest.specs.Tree.{Tree, Trees, no_trees, tree_and, Members, no_members, member_and, Spells, SpellsName}
-use Rattle.at_nest.specs.Tree.{Padded, After, SpellsItems, SpellsFurtherItems, SpellsMembers, SpellsFurtherMembers}
+use Rattle.at_nest.specs.Tree.{Tree, Trees, no_trees, tree_and, Members, no_members, member_and, Spells}
+use Rattle.at_nest.specs.Tree.{Padded, WithName, SpellsItems, SpellsFurtherItems, SpellsMembers, SpellsFurtherMembers}
 
 -- a part of the text with white space round it, from the one place to the other
 pub record IsPadded (Part : ℕ → List ℕ → Type 0) (base : ℕ) (w : List ℕ) (from to : ℕ) : Type 0 where
@@ -32,7 +33,7 @@ items_of done = items_then done no_trees
 -- one more item has to stand
 abbrev pub ItemsBefore : ℕ → List ℕ → ℕ → ℕ → List Tree → Type 0
 ItemsBefore base w from place done = (r : List ℕ) (t : Tree) (ts : Trees)
-    → Padded (λ j v. Spells j v t) (λ j r. SpellsFurtherItems j r ts) (base + place) r
+    → (Padded (λ j v. Spells j v t) ▸ (λ j r. SpellsFurtherItems j r ts)) (base + place) r
     → SpellsItems (base + from + 1) (between w (from + 1) place ++ r) (items_then done (tree_and t ts))
 
 -- a member: its name, the offset of its name, and its value
@@ -53,6 +54,5 @@ members_of done = members_then done no_members
 -- the same of an object's members
 abbrev pub MembersBefore : ℕ → List ℕ → ℕ → ℕ → List Named → Type 0
 MembersBefore base w from place done = (r : List ℕ) (name : List Character) (i : ℕ) (t : Tree) (ms : Members)
-    → Padded (SpellsName name i) (After 0x3A (Padded (λ j v. Spells j v t) (λ j r. SpellsFurtherMembers j r ms)))
-    (base + place) r
+    → (WithName name i (λ j v. Spells j v t) ▸ (λ j r. SpellsFurtherMembers j r ms)) (base + place) r
     → SpellsMembers (base + from + 1) (between w (from + 1) place ++ r) (members_then done (member_and name i t ms))

@@ -19,6 +19,7 @@ use Rattle.at_wkt.specs.Meaning.{empty_shape, shape_of, faults_of as geometry_fa
 use Rattle.at_nest.specs.Tree.{Tree, literal, number, text, array, object, Trees, no_trees, tree_and, Members, no_members, member_and, offset_of, Spells, SpellsItems, SpellsFurtherItems, SpellsMembers, SpellsFurtherMembers, IsTextOf}
 use Rattle.at_nest.specs.Syntax.{IsFileOf}
 use Rattle.at_nest.specs.Twins.{twins_of}
+use Rattle.at_nest.proofs.TreeParts.{items_parts, further_items_parts, members_parts, further_members_parts, array_parts, object_parts, text_parts}
 use Rattle.at_nest.proofs.OneTree.{one_tree}
 use Rattle.at_query.specs.declared.features.Feature.{Feature}
 use Rattle.at_query.specs.Ranges.{IsFeatureInRange, AreFeaturesInRange}
@@ -245,7 +246,8 @@ either_spelled low high false o p h k = k
 module _ (name : List ℕ) (low high : ℕ) where
   further_spelled : (ms : Members) (at : ℕ) (w : List ℕ) → low ≤ at → at + length w ≤ high → SpellsFurtherMembers at w ms → IsSpelled low high (member_named name ms)
   further_spelled no_members at w le ge h = tt
-  further_spelled (member_and n i t ms) at w le ge (w1, e1, (a, v, b, r, e, ha, hb, hv, (w2, e2, (c, x, d, q, f, hc, hd, hx, hq)))) =
+  further_spelled (member_and n i t ms) at w le ge h =
+      let (w1, e1, (a, v, b, r, e, ha, hb, hv, (w2, e2, (c, x, d, q, f, hc, hd, hx, hq)))) = further_members_parts n i t ms at w h in
       let whole = ap length e1 in
       let front = four_parts w1 a v b r e in
       let behind = ap length e2 in
@@ -256,7 +258,8 @@ module _ (name : List ℕ) (low high : ℕ) where
 
   member_spelled : (ms : Members) (at : ℕ) (w : List ℕ) → low ≤ at → at + length w ≤ high → SpellsMembers at w ms → IsSpelled low high (member_named name ms)
   member_spelled no_members at w le ge h = tt
-  member_spelled (member_and n i t ms) at w le ge (a, v, b, r, e, ha, hb, hv, (w2, e2, (c, x, d, q, f, hc, hd, hx, hq))) =
+  member_spelled (member_and n i t ms) at w le ge h =
+      let (a, v, b, r, e, ha, hb, hv, (w2, e2, (c, x, d, q, f, hc, hd, hx, hq))) = members_parts n i t ms at w h in
       let front = four_parts w a v b r e in
       let behind = ap length e2 in
       let value = four_parts w2 c x d q f in
@@ -267,7 +270,8 @@ module _ (name : List ℕ) (low high : ℕ) where
 -- items lie one behind another
 further_climb : (ts : Trees) (at : ℕ) (w : List ℕ) (low high : ℕ) → low ≤ at + 1 → at + length w ≤ high → SpellsFurtherItems at w ts → Climbs low high (map offset_of (items_of ts))
 further_climb no_trees at w low high le ge h = tt
-further_climb (tree_and t ts) at w low high le ge (w1, e1, (a, v, b, r, e, ha, hb, hv, hr)) =
+further_climb (tree_and t ts) at w low high le ge h =
+    let (w1, e1, (a, v, b, r, e, ha, hb, hv, hr)) = further_items_parts t ts at w h in
     let o = spelled_at t (at + 1 + length a) v hv in
     let whole = ap length e1 in
     let parts = four_parts w1 a v b r e in (
@@ -278,7 +282,8 @@ further_climb (tree_and t ts) at w low high le ge (w1, e1, (a, v, b, r, e, ha, h
 
 items_climb : (ts : Trees) (at : ℕ) (w : List ℕ) (low high : ℕ) → low ≤ at → at + length w ≤ high → SpellsItems at w ts → Climbs low high (map offset_of (items_of ts))
 items_climb no_trees at w low high le ge h = tt
-items_climb (tree_and t ts) at w low high le ge (a, v, b, r, e, ha, hb, hv, hr) =
+items_climb (tree_and t ts) at w low high le ge h =
+    let (a, v, b, r, e, ha, hb, hv, hr) = items_parts t ts at w h in
     let o = spelled_at t (at + length a) v hv in
     let parts = four_parts w a v b r e in (
       (omega (arith, le, o)),
@@ -328,7 +333,8 @@ module _ (digits : ℕ) (how : Coords) where
   listed_climbs at low high (Some (number i n)) h e = tt
   listed_climbs at low high (Some (text i cs)) h e = tt
   listed_climbs at low high (Some (object i ms)) h e = tt
-  listed_climbs at low high (Some (array i ts)) (j, w, le, ge, (o, (v, same, h))) e =
+  listed_climbs at low high (Some (array i ts)) (j, w, le, ge, k) e =
+      let (o, (v, same, h)) = array_parts ts i j w k in
       subst (Climbs low high) (sym (items_at ts e)) (items_climb ts (j + 1) v low high (omega (arith, le)) (between_brackets w v 0x5B 0x5D j high same ge) h)
 
   module _ (at low high : ℕ) (ms : Members) (le : low ≤ at) (ge : at ≤ high) where
@@ -345,7 +351,8 @@ module _ (digits : ℕ) (how : Coords) where
     root_climbs (Some kinds.GeometryCollection) h e = (le, ge, tt)
 
   tree_climbs : (t : Tree) (at low high : ℕ) (w : List ℕ) → low ≤ at → at + length w ≤ high → Spells at w t → role_faults_of digits how t ≡ [] → Climbs low high (map at_of (features_of digits how t))
-  tree_climbs (object i ms) at low high w le ge (o, (v, same, h)) e =
+  tree_climbs (object i ms) at low high w le ge k e =
+      let (o, (v, same, h)) = object_parts ms i at w k in
       let inside = between_brackets w v 0x7B 0x7D at high same ge in
       root_climbs i low high ms (omega (arith, le, o)) (omega (arith, ge, o)) (kind_of ms) (member_spelled (codes "features") low high ms (at + 1) v (omega (arith, le)) inside h) e
   tree_climbs (literal i l) at low high w le ge h e = tt
@@ -357,7 +364,8 @@ module _ (digits : ℕ) (how : Coords) where
 
   -- the features of a text without a fault lie within it, one behind another
   pub text_climbs : (t : Tree) (at : ℕ) (w : List ℕ) → IsTextOf at w t → faults_of digits how t ≡ [] → Climbs at (at + length w) (map at_of (features_of digits how t))
-  text_climbs t at w (a, v, b, r, e, ha, hb, hv, hr) none =
+  text_climbs t at w h none =
+      let (a, v, b, r, e, ha, hb, hv, hr) = text_parts t at w h in
       let parts = four_parts w a v b r e in
       tree_climbs t (at + length a) at (at + length w) v (omega arith) (omega (arith, parts)) hv (empties (twins_of t) (role_faults_of digits how t) none).1
 

@@ -3,18 +3,20 @@
 use Rattle.std.proofs.Common.{◌≡◌, ℕ, ◌+◌, ◌*◌, ◌≤◌, Bool, true, false, if◌then◌else◌, codes, List, [], ◌∷◌, ◌++◌, length, map, Option, Some, None, option_map, option_and_then, refl, ap, ◌∙◌, subst, arith, length-append, length-drop}
 use Rattle.std.proofs.lemmas.Option.{none-some, same_Some}
 use Rattle.std.proofs.lemmas.Grind.{flat_map-append}
+use Rattle.at_text.specs.Parts.{Nothing, Exactly, ◌▸◌, At}
 use Rattle.at_text.specs.Texts.{base_of}
 use Rattle.at_fixed.specs.declared.rounding.Coords.{Coords}
 use Rattle.at_fixed.specs.Numerals.{Numeral}
 use Rattle.at_fixed.proofs.Spelled.{json_is_wkt}
 use Rattle.at_geom.specs.Shapes.{positions}
-use Rattle.at_lex.specs.Strings.{Character}
+use Rattle.at_lex.specs.Strings.{Character, SpellsString}
 use Rattle.at_lex.specs.Runs.{the_null, the_true, the_false}
 use Rattle.at_wkt.specs.Positions.{Position, Positions}
 use Rattle.at_wkt.specs.Geometry as wkt
 use Rattle.at_wkt.specs.Meaning.{shape_of, faults_of}
-use Rattle.at_nest.specs.Tree.{Tree, literal, number, text, array, object, Trees, no_trees, tree_and, Members, no_members, member_and, offset_of, Padded, After, IsEnd, Spells, SpellsItems, SpellsFurtherItems, SpellsName, SpellsMembers, SpellsFurtherMembers, IsTextOf}
+use Rattle.at_nest.specs.Tree.{Tree, literal, number, text, array, object, Trees, no_trees, tree_and, Members, no_members, member_and, offset_of, Padded, WithName, Spells, SpellsItems, SpellsFurtherItems, SpellsMembers, SpellsFurtherMembers, IsTextOf}
 use Rattle.at_nest.specs.Syntax.{IsFileOf}
+use Rattle.at_nest.proofs.TreeParts.{padded_parts, padded_made, after_parts, named_behind, array_parts, object_parts, text_parts}
 use Rattle.at_query.specs.declared.features.Feature.{Feature}
 use Rattle.at_query.specs.Results.{all_positions}
 use Rattle.at_geojson.specs.declared.kinds.Kind.{Kind}
@@ -43,8 +45,9 @@ abbrev mutual
   weight_members no_members = 0
   weight_members (member_and name i t ms) = weight t + weight_members ms
 
-padded_size : (a b : ℕ) (P Q : ℕ → List ℕ → Type 0) → AtLeast a P → AtLeast b Q → AtLeast (a + b) (Padded P Q)
-padded_size a b P Q p q at w (c, v, d, r, e, hc, hd, hp, hq) =
+padded_size : (a b : ℕ) (P Q : ℕ → List ℕ → Type 0) → AtLeast a P → AtLeast b Q → AtLeast (a + b) (Padded P ▸ Q)
+padded_size a b P Q p q at w h =
+    let (c, v, d, r, e, hc, hd, hp, hq) = padded_parts P Q at w h in
     let l = p (at + length c) v hp in
     let m = q (at + length c + length v + length d) r hq in
     let s = ap length e ∙ length-append c (v ++ (d ++ r)) in
@@ -52,15 +55,16 @@ padded_size a b P Q p q at w (c, v, d, r, e, hc, hd, hp, hq) =
     let k = length-append d r in
     omega (arith, l, m, s, u, k)
 
-after_size : (byte a : ℕ) (P : ℕ → List ℕ → Type 0) → AtLeast a P → AtLeast a (After byte P)
-after_size byte a P p at w (r, e, h) = let l = p (at + 1) r h in let s = ap length e in omega (arith, l, s)
+after_size : (byte a : ℕ) (P : ℕ → List ℕ → Type 0) → AtLeast a P → AtLeast a (Exactly (byte ∷ []) ▸ P)
+after_size byte a P p at w k = let (r, e, h) = after_parts byte P at w k in let l = p (at + 1) r h in let s = ap length e in omega (arith, l, s)
 
-name_size : (name : List Character) (i : ℕ) → AtLeast 0 (SpellsName name i)
+name_size : (name : List Character) (i : ℕ) → AtLeast 0 (At i (SpellsString name))
 name_size name i at w h = omega arith
 
-member_size : (a b : ℕ) (name : List Character) (i : ℕ) (P Q : ℕ → List ℕ → Type 0) → AtLeast a P → AtLeast b Q → AtLeast (a + b) (Padded (SpellsName name i) (After 0x3A (Padded P Q)))
+member_size : (a b : ℕ) (name : List Character) (i : ℕ) (P Q : ℕ → List ℕ → Type 0) → AtLeast a P → AtLeast b Q → AtLeast (a + b) (WithName name i P ▸ Q)
 member_size a b name i P Q p q at w h =
-    let l = padded_size 0 (a + b) (SpellsName name i) (After 0x3A (Padded P Q)) (name_size name i) (after_size 0x3A (a + b) (Padded P Q) (padded_size a b P Q p q)) at w h in omega (arith, l)
+    let l = padded_size 0 (a + b) (At i (SpellsString name)) (Exactly (0x3A ∷ []) ▸ (Padded P ▸ Q)) (name_size name i) (after_size 0x3A (a + b) (Padded P ▸ Q) (padded_size a b P Q p q)) at w (named_behind name i P Q at w h) in
+    omega (arith, l)
 
 between_size : (v w : List ℕ) (a opener closer : ℕ) → w ≡ opener ∷ (v ++ closer ∷ []) → a ≤ length v → a + 2 ≤ length w
 between_size v w a opener closer e l = let s = ap length e in let j = length-append v (closer ∷ []) in omega (arith, l, s, j)
@@ -68,10 +72,10 @@ between_size v w a opener closer e l = let s = ap length e in let j = length-app
 mutual
   tree_size : (t : Tree) (at : ℕ) (w : List ℕ) → Spells at w t → weight t ≤ length w
   tree_size (literal i l) at w h = omega arith
-  tree_size (number i n) at w (o, is, e) = number_size n at w (json_is_wkt n is, e)
+  tree_size (number i n) at w (o, (is, e)) = number_size n at w (json_is_wkt n is, e)
   tree_size (text i cs) at w h = omega arith
-  tree_size (array i ts) at w (o, (v, e, h)) = between_size v w (weight_items ts) 0x5B 0x5D e (items_size ts (at + 1) v h)
-  tree_size (object i ms) at w (o, (v, e, h)) = between_size v w (weight_members ms) 0x7B 0x7D e (members_size ms (at + 1) v h)
+  tree_size (array i ts) at w k = let (o, (v, e, h)) = array_parts ts i at w k in between_size v w (weight_items ts) 0x5B 0x5D e (items_size ts (at + 1) v h)
+  tree_size (object i ms) at w k = let (o, (v, e, h)) = object_parts ms i at w k in between_size v w (weight_members ms) 0x7B 0x7D e (members_size ms (at + 1) v h)
 
   items_size : (ts : Trees) (at : ℕ) (w : List ℕ) → SpellsItems at w ts → weight_items ts ≤ length w
   items_size no_trees at w h = omega arith
@@ -80,7 +84,7 @@ mutual
   further_size : (ts : Trees) (at : ℕ) (w : List ℕ) → SpellsFurtherItems at w ts → weight_items ts ≤ length w
   further_size no_trees at w h = omega arith
   further_size (tree_and t ts) at w h =
-      after_size 0x2C (weight t + weight_items ts) (Padded (λ j v. Spells j v t) (λ j r. SpellsFurtherItems j r ts))
+      after_size 0x2C (weight t + weight_items ts) (Padded (λ j v. Spells j v t) ▸ (λ j r. SpellsFurtherItems j r ts))
       (padded_size (weight t) (weight_items ts) (λ j v. Spells j v t) (λ j r. SpellsFurtherItems j r ts) (λ j v k. tree_size t j v k) (λ j r k. further_size ts j r k)) at w h
 
   members_size : (ms : Members) (at : ℕ) (w : List ℕ) → SpellsMembers at w ms → weight_members ms ≤ length w
@@ -90,14 +94,14 @@ mutual
   more_size : (ms : Members) (at : ℕ) (w : List ℕ) → SpellsFurtherMembers at w ms → weight_members ms ≤ length w
   more_size no_members at w h = omega arith
   more_size (member_and name i t ms) at w h =
-      after_size 0x2C (weight t + weight_members ms) (Padded (SpellsName name i) (After 0x3A (Padded (λ j v. Spells j v t) (λ j r. SpellsFurtherMembers j r ms))))
+      after_size 0x2C (weight t + weight_members ms) (WithName name i (λ j v. Spells j v t) ▸ (λ j r. SpellsFurtherMembers j r ms))
       (member_size (weight t) (weight_members ms) name i (λ j v. Spells j v t) (λ j r. SpellsFurtherMembers j r ms) (λ j v k. tree_size t j v k) (λ j r k. more_size ms j r k)) at w h
 
-end_size : AtLeast 0 IsEnd
+end_size : AtLeast 0 Nothing
 end_size at w h = omega arith
 
 text_size : (at : ℕ) (w : List ℕ) (t : Tree) → IsTextOf at w t → weight t ≤ length w
-text_size at w t h = let l = padded_size (weight t) 0 (λ j v. Spells j v t) IsEnd (λ j v k. tree_size t j v k) end_size at w h in omega (arith, l)
+text_size at w t h = let l = padded_size (weight t) 0 (λ j v. Spells j v t) Nothing (λ j v k. tree_size t j v k) end_size at w (padded_made (λ j v. Spells j v t) Nothing at w (text_parts t at w h)) in omega (arith, l)
 
 -- ---- coordinates
 

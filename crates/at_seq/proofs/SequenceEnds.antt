@@ -16,6 +16,7 @@ use Rattle.at_nest.specs.Folds.{IsAttempt}
 use Rattle.at_nest.specs.declared.algebra.Attempt.TheVariants.{Whole}
 use Rattle.at_nest.specs.TextAnswers.{Answers}
 use Rattle.at_nest.proofs.OneTree.{one_tree}
+use Rattle.at_nest.proofs.TreeParts.{text_made}
 use Rattle.at_query.specs.declared.answer.parts.Part.{Part}
 use Rattle.at_wkt.proofs.FaultOrder.{first_of-append}
 use Rattle.at_wkt.proofs.LineMerges.{base_within, length-span_of}
@@ -77,7 +78,7 @@ module _ (asked : Asked) where
       let width : length (take spaces text) ≡ spaces = omega (arith, length-take spaces text, front.fits) in
       let whole : text ≡ take spaces text ++ (v ++ (r ++ [])) =
       sym (take-append-drop spaces text) ∙ ap (λ z. take spaces text ++ z) (same ∙ ap (λ z. v ++ z) (sym (append-nil r))) in
-      let is : IsTextOf at text t = (take spaces text, v, r, [], whole, front_all is_space text spaces front, behind, subst (λ n. Spells (at + n) v t) (sym width) spelled, refl) in
+      let is : IsTextOf at text t = text_made t at text (take spaces text, v, r, [], whole, front_all is_space text spaces front, behind, subst (λ n. Spells (at + n) v t) (sym width) spelled, refl) in
       (t, (is, λ u other_is. one_tree at text t u is other_is), (own, fold))
 
   -- as the code's slices show it

@@ -9,14 +9,15 @@ use Rattle.std.proofs.lemmas.List.Elements.{All-from_recursion}
 use Rattle.std.proofs.lemmas.List.Folds.{list_any_none}
 use Rattle.std.proofs.lemmas.List.Splits.{slice_split_none, slice_split_at}
 use Rattle.std.proofs.ByRecursion.{All-append}
-use Rattle.at_text.specs.Parts.{Many}
+use Rattle.at_text.specs.Parts.{Nothing, Exactly, Many, ◌▸◌, At}
 use Rattle.at_text.specs.Texts.{is_space, is_digit, is_one_of}
 use Rattle.at_fixed.specs.Numerals.{Numeral, Exponent, IsExponent, IsAtMostOneOf, AreDigits, AreSomeDigits, IsJsonWhole, IsJsonNumeral, fraction_text, exponent_text, numeral_text}
-use Rattle.at_lex.specs.Strings.{Character, plain, escape, unit, escapes, is_plain, IsCharacter, AreCharacters, character_text, string_text}
+use Rattle.at_lex.specs.Strings.{Character, plain, escape, unit, escapes, is_plain, IsCharacter, AreCharacters, character_text, string_text, SpellsString}
 use Rattle.at_lex.specs.Runs.{Literal, the_null, the_true, the_false, literal_text}
 use Rattle.at_lex.specs.Spans.{AreSpaces}
-use Rattle.at_nest.specs.Tree.{Tree, literal, number, text, array, object, Trees, no_trees, tree_and, Members, no_members, member_and, Padded, After, IsEnd, Spells, SpellsItems, SpellsFurtherItems, SpellsName, SpellsMembers, SpellsFurtherMembers, IsTextOf}
+use Rattle.at_nest.specs.Tree.{Tree, literal, number, text, array, object, Trees, no_trees, tree_and, Members, no_members, member_and, Padded, WithName, Spells, SpellsItems, SpellsFurtherItems, SpellsMembers, SpellsFurtherMembers, IsTextOf}
 use Rattle.at_nest.specs.Syntax.{JsonText}
+use Rattle.at_nest.proofs.TreeParts.{padded_parts, after_parts, named_behind, array_parts, object_parts, text_parts, padded_made}
 use Rattle.at_text.specs.Separated.{placed}
 use Rattle.at_seq.specs.Records.{pieces_from, is_separator}
 use Rattle.at_join.proofs.Extents.{four_true}
@@ -110,37 +111,39 @@ string_unparted cs h = (refl, joined (flat_map character_text cs) (0x22 ∷ []) 
 
 -- ---- parts behind one another
 
-padded : (P Q : ℕ → List ℕ → Type 0) → SaysUnparted P → SaysUnparted Q → SaysUnparted (Padded P Q)
-padded P Q p q at w (a, v, b, r, e, ha, hb, hp, hq) =
+padded : (P Q : ℕ → List ℕ → Type 0) → SaysUnparted P → SaysUnparted Q → SaysUnparted (Padded P ▸ Q)
+padded P Q p q at w h =
+    let (a, v, b, r, e, ha, hb, hp, hq) = padded_parts P Q at w h in
     let behind = joined b r (spaces b hb) (q (at + length a + length v + length b) r hq) in
     subst IsUnparted (sym e) (joined a (v ++ (b ++ r)) (spaces a ha) (joined v (b ++ r) (p (at + length a) v hp) behind))
 
-after : (byte : ℕ) (P : ℕ → List ℕ → Type 0) → is_separator byte ≡ false → SaysUnparted P → SaysUnparted (After byte P)
-after byte P other p at w (r, e, h) = subst IsUnparted (sym e) (other, p (at + 1) r h)
+after : (byte : ℕ) (P : ℕ → List ℕ → Type 0) → is_separator byte ≡ false → SaysUnparted P → SaysUnparted (Exactly (byte ∷ []) ▸ P)
+after byte P other p at w k = let (r, e, h) = after_parts byte P at w k in subst IsUnparted (sym e) (other, p (at + 1) r h)
 
-ended : SaysUnparted IsEnd
+ended : SaysUnparted Nothing
 ended at w e = subst IsUnparted (sym e) tt
 
 -- a part between two bytes
 enclosed : (v w : List ℕ) (opener closer : ℕ) → is_separator opener ≡ false → is_separator closer ≡ false → w ≡ opener ∷ (v ++ closer ∷ []) → IsUnparted v → IsUnparted w
 enclosed v w opener closer begins ends e h = subst IsUnparted (sym e) (begins, joined v (closer ∷ []) h (ends, tt))
 
-name_unparted : (name : List Character) (i : ℕ) → SaysUnparted (SpellsName name i)
-name_unparted name i at w (o, is, e) = subst IsUnparted (sym e) (string_unparted name is)
+name_unparted : (name : List Character) (i : ℕ) → SaysUnparted (At i (SpellsString name))
+name_unparted name i at w (o, (is, e)) = subst IsUnparted (sym e) (string_unparted name is)
 
 -- a name, a colon and a value, and then the rest
-member : (name : List Character) (i : ℕ) (P Q : ℕ → List ℕ → Type 0) → SaysUnparted P → SaysUnparted Q → SaysUnparted (Padded (SpellsName name i) (After 0x3A (Padded P Q)))
-member name i P Q p q = padded (SpellsName name i) (After 0x3A (Padded P Q)) (name_unparted name i) (after 0x3A (Padded P Q) refl (padded P Q p q))
+member : (name : List Character) (i : ℕ) (P Q : ℕ → List ℕ → Type 0) → SaysUnparted P → SaysUnparted Q → SaysUnparted (WithName name i P ▸ Q)
+member name i P Q p q at w h =
+    padded (At i (SpellsString name)) (Exactly (0x3A ∷ []) ▸ (Padded P ▸ Q)) (name_unparted name i) (after 0x3A (Padded P ▸ Q) refl (padded P Q p q)) at w (named_behind name i P Q at w h)
 
 -- ---- trees
 
 mutual
   tree_unparted : (t : Tree) (at : ℕ) (w : List ℕ) → Spells at w t → IsUnparted w
   tree_unparted (literal i l) at w (o, e) = subst IsUnparted (sym e) (literal_unparted l)
-  tree_unparted (number i n) at w (o, is, e) = subst IsUnparted (sym e) (number_unparted n is)
-  tree_unparted (text i cs) at w (o, is, e) = subst IsUnparted (sym e) (string_unparted cs is)
-  tree_unparted (array i ts) at w (o, (v, e, h)) = enclosed v w 0x5B 0x5D refl refl e (items_unparted ts (at + 1) v h)
-  tree_unparted (object i ms) at w (o, (v, e, h)) = enclosed v w 0x7B 0x7D refl refl e (members_unparted ms (at + 1) v h)
+  tree_unparted (number i n) at w (o, (is, e)) = subst IsUnparted (sym e) (number_unparted n is)
+  tree_unparted (text i cs) at w (o, (is, e)) = subst IsUnparted (sym e) (string_unparted cs is)
+  tree_unparted (array i ts) at w k = let (o, (v, e, h)) = array_parts ts i at w k in enclosed v w 0x5B 0x5D refl refl e (items_unparted ts (at + 1) v h)
+  tree_unparted (object i ms) at w k = let (o, (v, e, h)) = object_parts ms i at w k in enclosed v w 0x7B 0x7D refl refl e (members_unparted ms (at + 1) v h)
 
   items_unparted : (ts : Trees) (at : ℕ) (w : List ℕ) → SpellsItems at w ts → IsUnparted w
   items_unparted no_trees at w h = spaces w h
@@ -149,7 +152,7 @@ mutual
 
   further_unparted : (ts : Trees) (at : ℕ) (w : List ℕ) → SpellsFurtherItems at w ts → IsUnparted w
   further_unparted no_trees at w h = ended at w h
-  further_unparted (tree_and t ts) at w h = after 0x2C (Padded (λ j v. Spells j v t) (λ j r. SpellsFurtherItems j r ts)) refl
+  further_unparted (tree_and t ts) at w h = after 0x2C (Padded (λ j v. Spells j v t) ▸ (λ j r. SpellsFurtherItems j r ts)) refl
       (padded (λ j v. Spells j v t) (λ j r. SpellsFurtherItems j r ts) (λ j v k. tree_unparted t j v k) (λ j r k. further_unparted ts j r k)) at w h
 
   members_unparted : (ms : Members) (at : ℕ) (w : List ℕ) → SpellsMembers at w ms → IsUnparted w
@@ -160,11 +163,11 @@ mutual
   further_members_unparted : (ms : Members) (at : ℕ) (w : List ℕ) → SpellsFurtherMembers at w ms → IsUnparted w
   further_members_unparted no_members at w h = ended at w h
   further_members_unparted (member_and name i t ms) at w h =
-      after 0x2C (Padded (SpellsName name i) (After 0x3A (Padded (λ j v. Spells j v t) (λ j r. SpellsFurtherMembers j r ms)))) refl
+      after 0x2C (WithName name i (λ j v. Spells j v t) ▸ (λ j r. SpellsFurtherMembers j r ms)) refl
       (member name i (λ j v. Spells j v t) (λ j r. SpellsFurtherMembers j r ms) (λ j v k. tree_unparted t j v k) (λ j r k. further_members_unparted ms j r k)) at w h
 
 text_unparted : (t : Tree) (at : ℕ) (w : List ℕ) → IsTextOf at w t → IsUnparted w
-text_unparted t at w h = padded (λ j v. Spells j v t) IsEnd (λ j v k. tree_unparted t j v k) ended at w h
+text_unparted t at w h = padded (λ j v. Spells j v t) Nothing (λ j v k. tree_unparted t j v k) ended at w (padded_made (λ j v. Spells j v t) Nothing at w (text_parts t at w h))
 
 -- ---- the laws
 

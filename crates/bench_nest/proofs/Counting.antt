@@ -11,6 +11,7 @@ use Rattle.at_lex.specs.Spans.{AreRun}
 use Rattle.at_lex.proofs.RunBytes.{word_run}
 use Rattle.at_nest.specs.declared.algebra.Member.{Member}
 use Rattle.at_nest.specs.Folds.{IsScalarText, trees, Covers, AreItemFolds, AreMemberFolds}
+use Rattle.at_nest.proofs.TreeParts.{array_parts, object_parts}
 use Rattle.at_nest.specs.Tree.{Tree, literal, number, text, array, object, Trees, no_trees, tree_and, Members, no_members, member_and, Spells}
 use Rattle.at_lex.proofs.Unique.{head_same}
 use Rattle.bench_nest.specs.Nodes.{nodes_of, nodes_of_items, nodes_of_members, CountsNodes, CountsMany}
@@ -31,8 +32,8 @@ pub scalar_counts : (at : ℕ) (w : List ℕ) (t : Tree) → IsScalarText w → 
 scalar_counts at w (literal i l) h s = refl
 scalar_counts at w (number i n) h s = refl
 scalar_counts at w (text i cs) h s = refl
-scalar_counts at w (array i ts) h s = absurd (no_scalar 0x5B w _ s.1.1 (λ e. omega (arith, e)) refl h)
-scalar_counts at w (object i ms) h s = absurd (no_scalar 0x7B w _ s.1.1 (λ e. omega (arith, e)) refl h)
+scalar_counts at w (array i ts) h s = let (f, (v, k, t)) = array_parts ts i at w s in absurd (no_scalar 0x5B w _ k (λ e. omega (arith, e)) refl h)
+scalar_counts at w (object i ms) h s = let (f, (v, k, t)) = object_parts ms i at w s in absurd (no_scalar 0x7B w _ k (λ e. omega (arith, e)) refl h)
 
 -- ---- sums
 

@@ -25,14 +25,14 @@ pub number_passed : (w : List ℕ) (at n : ℕ) → at ≤ length w → n ≤ le
 number_passed w at n h k j = (
   some_bytes JsonNumber w at n no_empty_number j,
   end_fits w at n h k,
-  λ base. (number (base + at) j.0, (refl, j.1, sym (rest_part w at n) ∙ j.2), refl),
+  λ base. (number (base + at) j.0, (refl, (j.1, sym (rest_part w at n) ∙ j.2)), refl),
 )
 
 pub text_passed : (w : List ℕ) (at n : ℕ) → at ≤ length w → n ≤ length (drop at w) → JsonString (take n (drop at w)) → IsPassedText w at (at + n)
 text_passed w at n h k j = (some_bytes JsonString w at n no_empty_string j, end_fits w at n h k, subst JsonString (rest_part w at n) j)
 
 pub string_passed : (w : List ℕ) (at end : ℕ) → IsPassedText w at end → IsPassed w at (record { end = end; count = 1 })
-string_passed w at end (order, fits, j) = (order, fits, λ base. (text (base + at) j.0, (refl, j.1, j.2), refl))
+string_passed w at end (order, fits, j) = (order, fits, λ base. (text (base + at) j.0, (refl, (j.1, j.2)), refl))
 
 pub run_passed : (w : List ℕ) (at n : ℕ) → at ≤ length w → n ≤ length (drop at w) → JsonRun (take n (drop at w)) → IsPassed w at (record { end = at + n; count = 1 })
 run_passed w at n h k (inr j) = number_passed w at n h k j
@@ -57,7 +57,7 @@ name_passed w at first end colon h spaces (order, fits, j) k more inside byte = 
   omega (arith, h, order, k),
   inside,
   byte,
-  λ base. (j.0, base + first, record { first = first; last = end; before = h; order = omega (arith, order); behind = k; spaces = spaces; is_part = (refl, j.1, j.2); more_spaces = more }),
+  λ base. (j.0, base + first, record { first = first; last = end; before = h; order = omega (arith, order); behind = k; spaces = spaces; is_part = (refl, (j.1, j.2)); more_spaces = more }),
 )
 
 -- ---- counts

@@ -1,13 +1,13 @@
 -- Values that were passed over in a text from place to place, with the count of the values in them. The bytes w may
 -- stand at any offset.
 use Rattle.std.specs.Prelude.{◌≡◌, ℕ, ◌+◌, ◌<◌, ◌≤◌, ◌%◌, ◌^◌, List, [], ◌∷◌, length, slice_index}
+use Rattle.at_text.specs.Parts.{At}
 use Rattle.at_fixed.specs.NumberSoFar.{between}
-use Rattle.at_lex.specs.Strings.{JsonString}
-use Rattle.at_nest.specs.Tree.{Tree, Spells, SpellsName}
+use Rattle.at_lex.specs.Strings.{Character, JsonString, SpellsString}
+use Rattle.at_nest.specs.Tree.{Tree, Spells}
 use Rattle.at_nest.specs.Passing.{IsPadded, ItemsBefore, MembersBefore, Named}
 use Rattle.bench_nest.specs.declared.passing.Passed.{Passed}
 use Rattle.bench_nest.specs.Nodes.{nodes_of, CountsNodes}
-use Rattle.at_lex.specs.Strings.{Character}
 
 -- a value begins at the place
 abbrev pub IsPassed : List ℕ → ℕ → Passed → Type 0
@@ -26,7 +26,7 @@ IsPassedItem w at p = (at < p.end) × (p.end ≤ length w)
 -- white space, a name, white space, and a colon, at this place
 abbrev pub IsPassedName : List ℕ → ℕ → ℕ → Type 0
 IsPassedName w at colon = (at ≤ colon) × (colon < length w) × (slice_index w colon ≡ 0x3A)
-    × ((base : ℕ) → (name : List Character) × (i : ℕ) × IsPadded (SpellsName name i) base w at colon)
+    × ((base : ℕ) → (name : List Character) × (i : ℕ) × IsPadded (At i (SpellsString name)) base w at colon)
 
 -- the values of the trees
 abbrev pub nodes_in : List Tree → ℕ

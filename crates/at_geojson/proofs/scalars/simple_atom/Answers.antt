@@ -15,4 +15,4 @@ returns-clause-fold c =
     let a : TextAtom = record { at = c.args.at; kind = c.kind_of_bytes.result; units = None } in
     let k = c.kind_of_bytes.ensures ∙ ap kind_of_text (simple_units c.args.text.now cs j e c.requires.simple).1 in
     let u = ap (λ b. if b then Some (units_of cs) else None) (sym (none_asked asked.query.tests (units_of cs) c.requires.unasked)) in
-    folds_one asked (Text a) c.args.at c.args.text.now (text c.args.at cs) (refl, j, e) (text_folds asked a cs k u)
+    folds_one asked (Text a) c.args.at c.args.text.now (text c.args.at cs) (refl, (j, e)) (text_folds asked a cs k u)

@@ -15,7 +15,7 @@ pub returns-in_ok-atom-in-None : goal.returns-in_ok-atom-in-None
 returns-in_ok-atom-in-None g c = let own = g.A.Algebra.is_own c.args.algebra.now in let fold = g.A.Algebra.is_fold c.args.algebra.now in let run = g.A.Algebra.is_run c.args.algebra.now in
     IfOk-weaker c.keep_text.result _ _
     (λ r d cs ok e base w f h t. text_same (OwnAtom own fold run) (shown c.args.body.now) (shown c.innermost.new.self) (shown c.keep_text.new.body) r _ c.in_ok-atom-in-None.atom c.innermost.ensures.outer (c.in-None.ensures.levels.1 ∙ sym c.in-None.ensures.levels.0) d base w f cs h t
-    (c.in_ok-atom-in-None.ensures.own, c.in_ok-atom-in-None.ensures.fold (text c.args.at cs) (refl, ok, e)))
+    (c.in_ok-atom-in-None.ensures.own, c.in_ok-atom-in-None.ensures.fold (text c.args.at cs) (refl, (ok, e))))
     c.keep_text.ensures
 
 pub returns-in_ok-units-in-Some : goal.returns-in_ok-units-in-Some
@@ -39,5 +39,5 @@ returns-in_ok-with_value-in-Some g c = let own = g.A.Algebra.is_own c.args.algeb
     IfOk-weaker c.put-else-wants_name.result _ _
     (λ r d cs ok e base w f h t. text_put (OwnAtom own fold run) base w (shown c.args.body.now) (shown c.innermost.new.self).outer (shown c.innermost.new.self).levels (shown c.put-else-wants_name.new.self) r (held_of c.in-Some.level) c.args.at next cs f c.in-Some.ensures.levels
     (sym c.innermost.ensures.outer) (d (held_of c.in-Some.level) next step) h
-    (λ l k. text_moves (OwnAtom own fold run) (held_of c.in-Some.level) l c.args.at x ys cs (sym c.wants_name.ensures ∙ c.if-wants_name.false) k (c.in_ok-atom-in-Some.ensures.own, c.in_ok-atom-in-Some.ensures.fold (text c.args.at cs) (refl, ok, e)) more))
+    (λ l k. text_moves (OwnAtom own fold run) (held_of c.in-Some.level) l c.args.at x ys cs (sym c.wants_name.ensures ∙ c.if-wants_name.false) k (c.in_ok-atom-in-Some.ensures.own, c.in_ok-atom-in-Some.ensures.fold (text c.args.at cs) (refl, (ok, e))) more))
     c.put-else-wants_name.ensures
