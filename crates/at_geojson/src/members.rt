@@ -22,7 +22,7 @@ use std::alloc::Global;
 const NEAR: usize = 8;
 
 /// So many more of them are kept at the most.
-const MOST: usize = 64;
+const MOST: usize = 248;
 
 /// The name of a member for which no kind asks, with the hash of its last bytes.
 #[derive(Clone, Copy)]
