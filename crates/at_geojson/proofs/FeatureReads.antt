@@ -190,7 +190,7 @@ module _ (asked : Asked) (base : ℕ) (w : List ℕ) where
       )
 
   -- what is made of an object with these texts that names no kind
-  texted_atom : ℕ → List TextPair → GeoAtom
+  abbrev texted_atom : ℕ → List TextPair → GeoAtom
   texted_atom at [] = atoms.Void at
   texted_atom at (p ∷ ps) = atoms.Object (record { at = at; roles = record { ptr = null_ptr; alloc = heap; value = record { role = roles.Nothing; texts = p ∷ ps } } })
 
@@ -219,7 +219,7 @@ module _ (asked : Asked) (base : ℕ) (w : List ℕ) where
 
   module _ (at place : ℕ) (old new : OtherNames) (before after : VoidMembers) (n : FieldName) (end : ℕ) (r : AreRead asked base w at place old (NameNoKind before.named))
       (plain : IsPlainName w n.place) (same : n.field ≡ field_of (name_in w n.place)) (reads : ReadsVoid asked base w n before after old new end) (met : before.met ≡ met_by asked.query.tests (kept_texts asked.query.tests r.read.members)) where
-    void_reads : ReadsOne asked base w n (NameNoKind before.named) (NameNoKind after.named) old new end
+    abbrev void_reads : ReadsOne asked base w n (NameNoKind before.named) (NameNoKind after.named) old new end
     void_reads f h = (reads f h).0
 
     void_met : after.met ≡ met_by asked.query.tests (all_texts at place old new (NameNoKind before.named) (NameNoKind after.named) n end r plain same void_reads)
@@ -261,13 +261,13 @@ module _ (asked : Asked) (base : ℕ) (w : List ℕ) where
 
   module _ (at end : ℕ) (m : FeatureMembers) (f : Fields) (texts : List TextPair) (h : AreMembersOf asked f m) (p : FeatureRead) (ends : EndsFeature asked (base + at) end m p) where
     joined : JoinsFeature asked.query (base + at) (feature_shape f.geometry) (Ok h.texts.0) p.part
-    joined = ends.part f.geometry h.texts.0 h.geometry h.texts.1.1
+    joined = ends.part f.geometry h.texts.0 h.geometry h.texts.2
 
     own : IfOwnPart asked p.part
     own = own_feature asked (base + at) (feature_shape f.geometry) (Ok h.texts.0) p.part joined
 
     joins : JoinsFeature asked.query (base + at) (feature_shape f.geometry) (texts_named f.properties) p.part
-    joins = subst (λ z. JoinsFeature asked.query (base + at) (feature_shape f.geometry) z p.part) (sym h.texts.1.0) joined
+    joins = subst (λ z. JoinsFeature asked.query (base + at) (feature_shape f.geometry) z p.part) (sym h.texts.1) joined
 
     pub feature_read : (list_any looks_at_texts asked.query.tests ≡ false → texts ≡ []) → ((q : Whole) → EndsFields asked (base + at) end f texts q → IsWhole asked base w at q) → IsFeatureRead asked base w at p
     feature_read none read = record {

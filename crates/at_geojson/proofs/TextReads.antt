@@ -266,4 +266,4 @@ met_by_is tests ts name n met o et en e = e ∙ (ap (λ z. met_of z n o) et ∙ 
 
 -- the same of a name for which no test asks
 pub none_met_of : (tests ts : List Test) (name n : List ℕ) (b : Bool) (o : Option (List ℕ)) → ts ≡ tests → n ≡ name → b ≡ list_any (wants_name n) ts → b ≡ false → met_of tests name o ≡ 0
-none_met_of tests ts name n b o et en e no = none_of tests name o (sym (e ∙ (ap (λ z. list_any (wants_name n) z) et ∙ ap (λ z. list_any (wants_name z) tests) en)) ∙ no)
+none_met_of tests ts name n b o et en e f = none_of tests name o (sym (e ∙ (ap (λ z. list_any (wants_name n) z) et ∙ ap (λ z. list_any (wants_name z) tests) en)) ∙ f)
