@@ -19,6 +19,7 @@ use Rattle.at_nest.proofs.Ahead.{value_brackets}
 use Rattle.at_nest.proofs.Passed.{padded_gives}
 use Rattle.at_nest.proofs.TreeParts.{padded_parts, padded_made, after_parts, after_made}
 use Rattle.at_nest.specs.Folds.{trees, HasBrackets, IsAttempt, IsItemsAttempt}
+use Rattle.at_query.specs.declared.features.TextPair.{TextPair}
 use Rattle.at_geojson.specs.declared.atoms.GeoAtom.{GeoAtom}
 use Rattle.at_geojson.specs.declared.atoms.GeoAtom.TheVariants as atoms
 use Rattle.at_geojson.specs.declared.atoms.Items.{Items}
@@ -95,12 +96,12 @@ forms_join a b h = (fault_at Form a, refl, ap (λ t. if t || ((a == b) && true) 
 
 module _ (asked : Asked) (base : ℕ) (w : List ℕ) (alloc : Global) where
   -- the atom of a feature
-  abbrev atom_of : ℕ → FeatureRead → ObjectAtom
-  atom_of at p = record { at = base + at; roles = record { ptr = null_ptr; alloc = alloc; value = record { role = roles.Feature p.part; texts = [] } } }
+  abbrev atom_of : ℕ → FeatureRead → List TextPair → ObjectAtom
+  atom_of at p texts = record { at = base + at; roles = record { ptr = null_ptr; alloc = alloc; value = record { role = roles.Feature p.part; texts = texts } } }
 
   module _ (at : ℕ) (p : FeatureRead) (r : IsFeatureRead asked base w at p) where
-    abbrev pub whole : IsWhole asked base w at (record { end = p.end; atom = atoms.Object (atom_of at p) })
-    whole = r.whole (atom_of at p) refl refl refl
+    abbrev pub whole : IsWhole asked base w at (record { end = p.end; atom = atoms.Object (atom_of at p r.texts) })
+    whole = r.whole (atom_of at p r.texts) refl refl refl
 
     pub feature_within : p.end ≤ length w
     feature_within = whole.within
@@ -109,10 +110,10 @@ module _ (asked : Asked) (base : ℕ) (w : List ℕ) (alloc : Global) where
     feature_order = whole.order
 
     brackets : HasBrackets whole.tree
-    brackets = let (i, ms, e) = the_object whole.tree (object_there asked (atom_of at p) whole.tree (whole.fold.read refl)) in subst HasBrackets (sym e) tt
+    brackets = let (i, ms, e) = the_object whole.tree (object_there asked (atom_of at p r.texts) whole.tree (whole.fold.read refl)) in subst HasBrackets (sym e) tt
 
     alone_joined : (one : Items) → one.geometries ≡ both_forms (base + at) → one.features ≡ p.part → AreJoined asked one (whole.tree ∷ [])
-    alone_joined one eg ef = joined_covers asked (atoms.Object (atom_of at p)) (whole.tree ∷ []) one refl eg ef (inl (whole.tree, refl, whole.fold))
+    alone_joined one eg ef = joined_covers asked (atoms.Object (atom_of at p r.texts)) (whole.tree ∷ []) one refl eg ef (inl (whole.tree, refl, whole.fold))
 
     pub features_begin : (one : Items) → one.geometries ≡ both_forms (base + at) → one.features ≡ p.part → (end : ℕ) → p.end ≤ end → end ≤ length w → AreSpaces (between w p.end end) → AreFeaturesRead asked base w at end one
     features_begin one eg ef end h fits spaces = record {

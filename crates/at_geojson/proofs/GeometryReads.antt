@@ -1,6 +1,5 @@
 -- Geometries of a type and of coordinates that are read at once. For `value`.
 use Rattle.std.proofs.Common.{◌≡◌, inr, ℕ, ◌+◌, ◌<◌, Bool, true, false, List, [], ◌∷◌, length, slice_index, Some, None, Result, refl, sym, ◌∙◌, ap, subst, arith}
-use Rattle.std.specs.List.{list_any}
 use Rattle.std.proofs.lemmas.Bool.{true≢false}
 use Rattle.std.specs.declared.alloc.Global.{Global}
 use Rattle.std.specs.declared.boxed.Box.{Box}
@@ -28,10 +27,10 @@ use Rattle.at_geojson.specs.declared.rings.ListsRead.{ListsRead}
 use Rattle.at_geojson.specs.declared.rings.AreasRead.{AreasRead}
 use Rattle.at_geojson.specs.declared.plain_geometries.KindRead.{KindRead}
 use Rattle.at_geojson.specs.declared.plain_geometries.ShapeRead.{ShapeRead}
-use Rattle.at_geojson.specs.Keeping.{Asked, needs_shapes, kept, looks_at_texts}
+use Rattle.at_geojson.specs.Keeping.{Asked, needs_shapes, kept}
 use Rattle.at_geojson.specs.Atoms.{IfOwnShape}
 use Rattle.at_geojson.specs.Gathering.{is_among, member_twins}
-use Rattle.at_geojson.specs.Objects.{unless, coordinates_shape}
+use Rattle.at_geojson.specs.Objects.{unless, coordinates_shape, kept_texts}
 use Rattle.at_geojson.specs.Places.{IsNameAt}
 use Rattle.at_geojson.specs.Fields.{field_of, is_kind, is_coordinates, AreFields, IsRoleIn}
 use Rattle.at_geojson.specs.Rows.{ArePointsWhole}
@@ -128,13 +127,13 @@ module _ (asked : Asked) (alloc : Global) where
 
   module _ (base : ℕ) (w : List ℕ) where
     -- an object of a kind and of coordinates, as a geometry
-    pub geometry_read : (at : ℕ) (n m : FieldName) (k : KindRead) (c : ShapeRead) → at < length w → slice_index w at ≡ 0x7B → list_any looks_at_texts asked.query.tests ≡ false
+    pub geometry_read : (at : ℕ) (n m : FieldName) (k : KindRead) (c : ShapeRead) → at < length w → slice_index w at ≡ 0x7B
         → IsNameAt w (at + 1) n.place → IsPlainName w n.place → n.field ≡ field_of (name_in w n.place) → is_kind n.field ≡ true
         → IsKindRead asked base w (n.place.colon + 1) k → k.end < length w → slice_index w k.end ≡ 0x2C
         → IsNameAt w (k.end + 1) m.place → IsPlainName w m.place → m.field ≡ field_of (name_in w m.place) → is_coordinates m.field ≡ true
         → IsCoordinatesItem asked base w (m.place.colon + 1) k.kind c → c.end < length w → slice_index w c.end ≡ 0x7D
         → IsGeometryRead asked base w at (record { end = c.end + 1; shape = c.shape })
-    geometry_read at n m k c inside opens unasked name plain same ek kind ki comma name2 plain2 same2 ec read ci closes =
+    geometry_read at n m k c inside opens name plain same ek kind ki comma name2 plain2 same2 ec read ci closes =
         let p1 : Whole = record { end = k.end; atom = kind.atom } in
         let p2 : Whole = record { end = c.end; atom = read.atom } in
         let a : Member GeoAtom = member_of asked base w n.place (name_in w n.place) kind.atom in
@@ -148,10 +147,11 @@ module _ (asked : Asked) (alloc : Global) where
         let before = members_go_on asked base w at (at + 1) [] n.place (name_in w n.place) p1 (omega arith) (members_begin asked base w at inside) name plain.units kind.item ki comma in
         let absent : is_among (a ∷ []) (name_in w m.place) ≡ false = field_absent names.Coordinates f1 (a ∷ []) (name_in w m.place) (sym mc ∙ same2) refl one refl in
         let twins : member_twins [] (a ∷ b ∷ []) ≡ None = no_twin_more [] (a ∷ []) b (no_twin_more [] [] a refl refl kind.no_twin) absent read.no_twin in
-        let o : ObjectAtom = record { at = base + at; roles = boxed asked alloc (record { role = roles.Geometry c.shape; texts = [] }) } in
+        let texts = kept_texts asked.query.tests (a ∷ b ∷ []) in
+        let o : ObjectAtom = record { at = base + at; roles = boxed asked alloc (record { role = roles.Geometry c.shape; texts = texts }) } in
         let q : Whole = record { end = c.end + 1; atom = atoms.Object o } in
         let own : IfOwnShape asked c.shape = subst (IfOwnShape asked) (sym read.shape) (own_coordinates asked (base + at) k.kind (Some read.atom) read.item.own) in
-        let fields : EndsFields asked (base + at) (c.end + 1) f2 q = record {
+        let fields : EndsFields asked (base + at) (c.end + 1) f2 texts q = record {
           behind = refl;
           own = own;
           made = inr (o, refl, refl, refl, subst (λ z. IsRoleIn asked.query (base + at) z f2 (roles.Geometry c.shape)) (sym kind.kind) (role_with (base + at) k.kind f2 c.shape read.with_coordinates read.shape));
@@ -159,7 +159,7 @@ module _ (asked : Asked) (alloc : Global) where
         record {
           atom = atoms.Object o;
           whole = object_read asked base w at (k.end + 1) (a ∷ []) m.place (name_in w m.place) p2 q (omega (arith, name.before, name.text.0, name.behind, kind.item.order)) opens before name2 plain2.units read.item ci closes
-              (ends_fields asked base w (base + at) (c.end + 1) f2 (a ∷ b ∷ []) q fields two twins unasked);
+              (ends_fields asked base w (base + at) (c.end + 1) f2 (a ∷ b ∷ []) texts q fields two twins refl);
           no_twin = refl;
           shape = refl;
           own = own;

@@ -1,9 +1,9 @@
 -- Words that are looked at sixteen bytes together, and the names of members that they are. For `items` and `value`.
-use Rattle.std.proofs.Common.{◌≡◌, ℕ, ◌+◌, ◌-◌, ◌<◌, ◌≤◌, ◌%◌, ◌^◌, Bool, true, false, not, cond, eqb, List, map, take, drop, length, get_or, slice_index, refl, sym, ◌∙◌, ap, subst, arith}
+use Rattle.std.proofs.Common.{◌≡◌, ℕ, ◌+◌, ◌-◌, ◌<◌, ◌≤◌, ◌%◌, ◌^◌, Bool, true, false, not, cond, eqb, List, None, map, take, drop, length, get_or, slice_index, refl, sym, ◌∙◌, ap, subst, arith}
 use Rattle.std.proofs.lemmas.Bool.{eqb-true, true≢false}
 use Rattle.std.proofs.lemmas.Grind.{same_number_lists}
 use Rattle.std.proofs.lemmas.List.Folds.{list_all_at}
-use Rattle.std.specs.List.{list_all, list_any}
+use Rattle.std.specs.List.{list_all}
 use Rattle.std.proofs.lemmas.Simd.{length-chunk, length-zip2, mask_l-mod, first_set_mask_l, get_or-zip2}
 use Rattle.std.proofs.lemmas.List.{length-map, get_or-take, get_or-drop}
 use Rattle.std.proofs.lemmas.List.Sums.{prefix_len_passes, prefix_len-le-length}
@@ -18,14 +18,18 @@ use Rattle.at_geojson.specs.declared.kinds.Kind.{Kind}
 use Rattle.at_geojson.specs.declared.fields.Field.{Field}
 use Rattle.at_geojson.specs.declared.plain_geometries.KindRead.{KindRead}
 use Rattle.at_geojson.specs.Names.{kind_of_text}
-use Rattle.at_geojson.specs.Keeping.{Asked, looks_at_texts}
+use Rattle.at_geojson.specs.Keeping.{Asked}
+use Rattle.at_geojson.specs.Atoms.{twin_of, as_kind, as_text, asked_units}
+use Rattle.at_geojson.specs.Values.{IsItem}
+use Rattle.at_geojson.specs.declared.atoms.GeoAtom.{GeoAtom}
+use Rattle.at_geojson.specs.declared.short_texts.SimpleItem.{SimpleItem}
 use Rattle.at_geojson.specs.PlainGeometries.{IsKindRead}
 use Rattle.at_geojson.specs.declared.places.NamePlace.{NamePlace}
-use Rattle.at_geojson.specs.Places.{is_common, IsSimpleTextAt, IsNameAt}
+use Rattle.at_geojson.specs.Places.{is_common, IsSimpleTextAt, IsSimpleItem, IsNameAt}
 use Rattle.at_geojson.specs.Fields.{field_of}
 use Rattle.at_geojson.specs.KnownNames.{BeginsAlike, StandsWord, IsQuoted, NamesField, NamesKind, IsFieldName, IsKindName}
 use Rattle.at_geojson.proofs.ShortStrings.{short_text}
-use Rattle.at_geojson.proofs.ValueParts.{text_kind, text_whole, item_read}
+use Rattle.at_geojson.proofs.ValueParts.{text_kind, text_units, text_whole, item_read}
 use Rattle.at_geojson.proofs.MemberReads.{plain_text_is, plain_name_is}
 
 -- ---- lanes that are compared
@@ -145,11 +149,24 @@ module _ (w : List ℕ) (at : ℕ) (word : List ℕ) (n : ℕ) (s : StandsWord w
       }
 
 -- the atom of a kind's name
-pub kind_named : (asked : Asked) (base : ℕ) (w : List ℕ) (at first : ℕ) (p : KindRead) (end : ℕ) → list_any looks_at_texts asked.query.tests ≡ false → at ≤ first → AreSpaces (between w at first) → IsKindName w first p → p.end ≤ end → end ≤ length w → AreSpaces (between w p.end end)
+pub kind_named : (asked : Asked) (base : ℕ) (w : List ℕ) (at first : ℕ) (p : KindRead) (end : ℕ) → at ≤ first → AreSpaces (between w at first) → IsKindName w first p → p.end ≤ end → end ≤ length w → AreSpaces (between w p.end end)
     → IsKindRead asked base w at (record { end = end; kind = p.kind })
-kind_named asked base w at first p end unasked before spaces h behind fits more =
+kind_named asked base w at first p end before spaces h behind fits more =
     let ((order, within, (cs, ok, e)), simple) = h.text in
-    let whole = text_whole asked base w first p.end order within unasked cs ok e in
-    let item = item_read asked base w at first end (record { end = p.end; atom = text_kind (base + first) cs }) before spaces whole behind fits more in
+    let whole = text_whole asked base w first p.end order within cs ok e in
+    let item = item_read asked base w at first end (record { end = p.end; atom = text_kind asked (base + first) cs }) before spaces whole behind fits more in
     let plain = plain_text_is w (record { first = first; end = p.end; colon = 0 }) h.text.0 simple in
-    record { atom = text_kind (base + first) cs; item = item; no_twin = refl; kind = ap kind_of_text (sym (plain.units cs ok e)) ∙ h.kind }
+    record { atom = text_kind asked (base + first) cs; item = item; no_twin = refl; kind = ap kind_of_text (sym (plain.units cs ok e)) ∙ h.kind }
+
+-- the atom of a short string of ASCII without escapes
+pub simple_read : (asked : Asked) (base : ℕ) (w : List ℕ) (at : ℕ) (p : SimpleItem) → IsSimpleItem w at p
+    → (a : GeoAtom) × IsItem asked base w at (record { end = p.end; atom = a }) × (twin_of a ≡ None)
+    × (as_kind a ≡ kind_of_text (take (p.last - 1 - (p.first + 1)) (drop (p.first + 1) w)))
+    × (as_text a ≡ asked_units asked.query.tests (take (p.last - 1 - (p.first + 1)) (drop (p.first + 1) w)))
+simple_read asked base w at p h =
+    let ((order, within, (cs, ok, e)), simple) = h.text in
+    let whole = text_whole asked base w p.first p.last order within cs ok e in
+    let item = item_read asked base w at p.first p.end (record { end = p.last; atom = text_kind asked (base + p.first) cs }) h.before h.spaces whole h.behind h.within h.more_spaces in
+    let plain = plain_text_is w (record { first = p.first; end = p.last; colon = 0 }) h.text.0 simple in
+    let same = sym (plain.units cs ok e) in
+    (text_kind asked (base + p.first) cs, item, refl, ap kind_of_text same, text_units asked (base + p.first) cs ∙ ap (asked_units asked.query.tests) same)

@@ -40,6 +40,8 @@ pub mod RowFolds
 pub mod RingFolds
 pub mod MemberReads
 pub mod GeometryReads
+pub mod TextReads
+pub mod SeenParts
 pub mod FeatureReads
 pub mod FeatureJoins
 pub mod KnownNames

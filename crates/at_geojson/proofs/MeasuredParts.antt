@@ -21,9 +21,9 @@ use Rattle.at_geojson.specs.Passing.{PassesPair, plain_at, pair_of}
 use Rattle.at_geojson.specs.Values.{IsPair}
 use Rattle.at_geojson.specs.Tallies.{measure_of, TalliesShape, part_unless, IsPartOfShape}
 use Rattle.at_geojson.specs.Measures.{MeasuresPoints, MeasuresLists, MeasuresAreas, EndsPair}
-use Rattle.at_geojson.specs.PlainGeometries.{AreCoordinatesOf, JoinsShape, HaveParts}
+use Rattle.at_geojson.specs.PlainGeometries.{AreCoordinatesOf, IsMeasured, HasMeasured}
 use Rattle.at_geojson.proofs.GeometryReads.{line_reads, polygon_reads, points_read, lines_read, polygons_read}
-use Rattle.at_geojson.proofs.TallyFolds.{asks_values, needs_are, flat, points_told, lines_told, line_told, areas_told, rings_told, part_told}
+use Rattle.at_geojson.proofs.TallyFolds.{asks_values, needs_are, flat, points_told, lines_told, line_told, areas_told, rings_told}
 use Rattle.at_geojson.proofs.ValueParts.{pair_read}
 
 -- the place where a position ends that was passed over
@@ -36,17 +36,18 @@ pair_ends asked base w at p (pos, h) e =
     )
 
 module _ (asked : Asked) (measure : Measure) (e : measure_of asked.query ≡ Some measure) (base : ℕ) (w : List ℕ) (at : ℕ) (r : PartRead) where
+  told_of : (fault : Option Fault) (shape : Shape) (part : Part) → IsPartOfShape measure shape part → IsMeasured measure (unless fault shape) (part_unless fault part)
+  told_of None shape part h = (part, refl, h)
+  told_of (Some fault) shape part h = refl
+
   -- the shape, unless there is a fault, has the part, unless there is a fault
-  joins : (s : ShapeRead) (fault : Option Fault) (shape : Shape) (part : Part) → s.end ≡ r.end → s.shape ≡ unless fault shape → r.part ≡ part_unless fault part → IsPartOfShape measure shape part → (feature : ℕ) → JoinsShape asked feature s r
-  joins s fault shape part ee es ep h feature = record {
-    behind = ee;
-    part = rw (es, ep) (part_told asked.query measure e feature fault shape part h);
-  }
+  joins : (s : ShapeRead) (fault : Option Fault) (shape : Shape) (part : Part) → s.shape ≡ unless fault shape → r.part ≡ part_unless fault part → IsPartOfShape measure shape part → IsMeasured measure s.shape r.part
+  joins s fault shape part es ep h = rw (es, ep) (told_of fault shape part h)
 
   needs : asks_values measure ≡ needs_shapes asked.query
   needs = sym (needs_are asked.query measure e)
 
-  pub point_part : (p : PairRead) (part : Part) → IsPair asked base w at p → r.end ≡ p.end → r.part ≡ Ok part → IsPartOfShape measure (of_points (kept (asks_values measure) (p.pair.pos ∷ []))) part → HaveParts asked (AreCoordinatesOf asked base w at kinds.Point) r
+  pub point_part : (p : PairRead) (part : Part) → IsPair asked base w at p → r.end ≡ p.end → r.part ≡ Ok part → IsPartOfShape measure (of_points (kept (asks_values measure) (p.pair.pos ∷ []))) part → HasMeasured measure (AreCoordinatesOf asked base w at kinds.Point) r
   point_part p part h ee ep told =
       let shape = of_points (kept (asks_values measure) (p.pair.pos ∷ [])) in
       let s : ShapeRead = record { end = p.end; shape = Ok shape } in (
@@ -58,56 +59,62 @@ module _ (asked : Asked) (measure : Measure) (e : measure_of asked.query ≡ Som
           with_coordinates = refl;
           shape = ap (λ b. Ok (of_points (kept b (p.pair.pos ∷ [])))) needs;
         },
-        joins s None shape part (sym ee) refl ep told,
+        sym ee,
+        joins s None shape part refl ep told,
       )
 
   module _ (alloc : Global) where
     pub multi_point_part : (m : PointsMeasured) (part : Part) → MeasuresPoints asked measure None base w at m → r.end ≡ m.end → r.part ≡ part_unless m.as_points part → ((shape : Shape) → TalliesShape measure shape (flat m.tally) → IsPartOfShape measure shape part)
-        → HaveParts asked (AreCoordinatesOf asked base w at kinds.MultiPoint) r
+        → HasMeasured measure (AreCoordinatesOf asked base w at kinds.MultiPoint) r
     multi_point_part m part (p, whole, end, says) ee ep told =
         let shape = of_points p.points.path.items in
         let s : ShapeRead = record { end = p.end; shape = unless p.points.as_points shape } in (
           s,
           points_read asked alloc base w at p s.shape whole refl,
-          joins s m.as_points shape part (end ∙ sym ee) (ap (λ f. unless f shape) says.as_points) ep (told shape (points_told measure p.points.path.items m.tally says.tally)),
+          end ∙ sym ee,
+          joins s m.as_points shape part (ap (λ f. unless f shape) says.as_points) ep (told shape (points_told measure p.points.path.items m.tally says.tally)),
         )
 
     pub line_part : (m : PointsMeasured) (part : Part) → MeasuresPoints asked measure None base w at m → r.end ≡ m.end → r.part ≡ part_unless m.as_line part → ((shape : Shape) → TalliesShape measure shape (flat m.tally) → IsPartOfShape measure shape part)
-        → HaveParts asked (AreCoordinatesOf asked base w at kinds.LineString) r
+        → HasMeasured measure (AreCoordinatesOf asked base w at kinds.LineString) r
     line_part m part (p, whole, end, says) ee ep told =
         let shape = of_lines (kept (asks_values measure) (p.points.path.items ∷ [])) in
         let s : ShapeRead = record { end = p.end; shape = unless p.points.as_line shape } in (
           s,
           line_reads asked alloc base w at (asks_values measure) needs p s.shape whole refl,
-          joins s m.as_line shape part (end ∙ sym ee) (ap (λ f. unless f shape) says.as_line) ep (told shape (line_told measure p.points.path.items m.tally says.tally)),
+          end ∙ sym ee,
+          joins s m.as_line shape part (ap (λ f. unless f shape) says.as_line) ep (told shape (line_told measure p.points.path.items m.tally says.tally)),
         )
 
     pub multi_line_part : (m : ListsMeasured) (part : Part) → MeasuresLists asked measure None base w at m → r.end ≡ m.end → r.part ≡ part_unless m.as_lines part → ((shape : Shape) → TalliesShape measure shape (flat m.tally) → IsPartOfShape measure shape part)
-        → HaveParts asked (AreCoordinatesOf asked base w at kinds.MultiLineString) r
+        → HasMeasured measure (AreCoordinatesOf asked base w at kinds.MultiLineString) r
     multi_line_part m part (p, whole, end, says) ee ep told =
         let shape = of_lines p.lists.paths.items in
         let s : ShapeRead = record { end = p.end; shape = unless p.lists.as_lines shape } in (
           s,
           lines_read asked alloc base w at p s.shape whole refl,
-          joins s m.as_lines shape part (end ∙ sym ee) (ap (λ f. unless f shape) says.as_lines) ep (told shape (lines_told measure p.lists.paths.items m.tally says.tally)),
+          end ∙ sym ee,
+          joins s m.as_lines shape part (ap (λ f. unless f shape) says.as_lines) ep (told shape (lines_told measure p.lists.paths.items m.tally says.tally)),
         )
 
     pub polygon_part : (m : ListsMeasured) (part : Part) → MeasuresLists asked measure None base w at m → r.end ≡ m.end → r.part ≡ part_unless m.as_rings part → ((shape : Shape) → TalliesShape measure shape m.tally → IsPartOfShape measure shape part)
-        → HaveParts asked (AreCoordinatesOf asked base w at kinds.Polygon) r
+        → HasMeasured measure (AreCoordinatesOf asked base w at kinds.Polygon) r
     polygon_part m part (p, whole, end, says) ee ep told =
         let shape = of_polygons (kept (asks_values measure) (record { rings = p.lists.paths.items } ∷ [])) in
         let s : ShapeRead = record { end = p.end; shape = unless p.lists.as_rings shape } in (
           s,
           polygon_reads asked alloc base w at (asks_values measure) needs p s.shape whole refl,
-          joins s m.as_rings shape part (end ∙ sym ee) (ap (λ f. unless f shape) says.as_rings) ep (told shape (rings_told measure p.lists.paths.items m.tally says.tally)),
+          end ∙ sym ee,
+          joins s m.as_rings shape part (ap (λ f. unless f shape) says.as_rings) ep (told shape (rings_told measure p.lists.paths.items m.tally says.tally)),
         )
 
     pub multi_polygon_part : (m : AreasMeasured) (part : Part) → MeasuresAreas asked measure None base w at m → r.end ≡ m.end → r.part ≡ part_unless m.fault part → ((shape : Shape) → TalliesShape measure shape m.tally → IsPartOfShape measure shape part)
-        → HaveParts asked (AreCoordinatesOf asked base w at kinds.MultiPolygon) r
+        → HasMeasured measure (AreCoordinatesOf asked base w at kinds.MultiPolygon) r
     multi_polygon_part m part (p, whole, end, says) ee ep told =
         let shape = of_polygons p.areas.polygons.items in
         let s : ShapeRead = record { end = p.end; shape = unless p.areas.fault shape } in (
           s,
           polygons_read asked alloc base w at p s.shape whole refl,
-          joins s m.fault shape part (end ∙ sym ee) (ap (λ f. unless f shape) says.fault) ep (told shape (areas_told measure p.areas.polygons.items m.tally says.tally)),
+          end ∙ sym ee,
+          joins s m.fault shape part (ap (λ f. unless f shape) says.fault) ep (told shape (areas_told measure p.areas.polygons.items m.tally says.tally)),
         )

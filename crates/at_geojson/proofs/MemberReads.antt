@@ -93,20 +93,20 @@ pub no_twin_in : (a : GeoAtom) (b : Bool) → b ≡ is_some (twin_of a) → b �
 no_twin_in a b e f = none_there (twin_of a) b e f
 
 module _ (w : List ℕ) (fields : Fields) (old new : OtherNames) (n : FieldName) (ms : List (Member GeoAtom)) where
-  name_absent : KeepsOthers w ms old → AreFields fields ms → n.field ≡ field_of (name_in w n.place) → IsNewName w fields old new n → is_among ms (name_in w n.place) ≡ false
+  pub name_absent : KeepsOthers w ms old → AreFields fields ms → n.field ≡ field_of (name_in w n.place) → IsNewName w fields old new n → is_among ms (name_in w n.place) ≡ false
   name_absent h are same is_new = go (is_no_field n.field) refl where
     go : (b : Bool) → is_no_field n.field ≡ b → is_among ms (name_in w n.place) ≡ false
     go true e = h (name_in w n.place) (ap is_no_field (sym same) ∙ e) ∙ (is_new.other e).0
     go false e = field_absent n.field fields ms (name_in w n.place) same e are (is_new.field e).0
 
-  keeps_more : (m : Member GeoAtom) → m.name ≡ name_in w n.place → KeepsOthers w ms old → n.field ≡ field_of (name_in w n.place) → IsNewName w fields old new n → KeepsOthers w (ms ++ m ∷ []) new
+  pub keeps_more : (m : Member GeoAtom) → m.name ≡ name_in w n.place → KeepsOthers w ms old → n.field ≡ field_of (name_in w n.place) → IsNewName w fields old new n → KeepsOthers w (ms ++ m ∷ []) new
   keeps_more m named h same is_new name unasked =
       among_more ms m name ∙ (ap (λ z. is_among ms name || bytes_eq name z) named ∙ (ap (λ b. b || bytes_eq name (name_in w n.place)) (h name unasked) ∙ go (is_no_field n.field) refl)) where
         go : (b : Bool) → is_no_field n.field ≡ b → (is_among_others w old name || bytes_eq name (name_in w n.place)) ≡ is_among_others w new name
         go true e = sym ((is_new.other e).1.names name)
         go false e = ap (λ b. is_among_others w old name || b) (unlike_field name (name_in w n.place) unasked (ap is_no_field (sym same) ∙ e)) ∙ (or-false (is_among_others w old name) ∙ ap (λ o. is_among_others w o name) (sym (is_new.field e).1))
 
-  plain_more : ArePlainOthers w old → IsPlainName w n.place → IsNewName w fields old new n → ArePlainOthers w new
+  pub plain_more : ArePlainOthers w old → IsPlainName w n.place → IsNewName w fields old new n → ArePlainOthers w new
   plain_more h plain is_new = go (is_no_field n.field) refl where
     go : (b : Bool) → is_no_field n.field ≡ b → ArePlainOthers w new
     go true e = (is_new.other e).1.plain h plain
@@ -124,14 +124,14 @@ pair_left : (tests : List Test) (name : List ℕ) (rest : List TextPair) (o : Op
 pair_left tests name rest None e none = none
 pair_left tests name rest (Some value) e none = ap (λ b. if b then record { name = name; value = value } ∷ rest else rest) (no_pair tests name value e) ∙ none
 
-no_texts : (tests : List Test) (ms : List (Member GeoAtom)) → list_any looks_at_texts tests ≡ false → kept_texts tests ms ≡ []
+pub no_texts : (tests : List Test) (ms : List (Member GeoAtom)) → list_any looks_at_texts tests ≡ false → kept_texts tests ms ≡ []
 no_texts tests [] e = refl
 no_texts tests (m ∷ ms) e = pair_left tests m.name (kept_texts tests ms) (as_text m.value) e (no_texts tests ms e)
 
 -- ---- objects
 
 module _ (asked : Asked) (base : ℕ) (w : List ℕ) where
-  pub fields_begin : (at : ℕ) (others : OtherNames) (fields : Fields) → at < length w → AreFields fields [] → ArePlainOthers w others → ((name : List ℕ) → is_among_others w others name ≡ false) → AreFieldsRead asked base w at (at + 1) others fields
+  abbrev pub fields_begin : (at : ℕ) (others : OtherNames) (fields : Fields) → at < length w → AreFields fields [] → ArePlainOthers w others → ((name : List ℕ) → is_among_others w others name ≡ false) → AreFieldsRead asked base w at (at + 1) others fields
   fields_begin at others fields h are plain none = record { members = []; read = members_begin asked base w at h; are = are; named = λ name _. sym (none name); plain = plain; no_twin = refl }
 
   -- what is known of the members with one more of them
@@ -145,7 +145,7 @@ module _ (asked : Asked) (base : ℕ) (w : List ℕ) where
     pub others : ArePlainOthers w new
 
   -- of a member that was put into the fields
-  pub longer_fields : (at place : ℕ) (old new : OtherNames) (fields : Fields) (n : FieldName) (p : Whole) (longer : Fields) (before : AreFieldsRead asked base w at place old fields) → IsPlainName w n.place
+  abbrev pub longer_fields : (at place : ℕ) (old new : OtherNames) (fields : Fields) (n : FieldName) (p : Whole) (longer : Fields) (before : AreFieldsRead asked base w at place old fields) → IsPlainName w n.place
       → n.field ≡ field_of (name_in w n.place) → IsNewName w fields old new n → twin_of p.atom ≡ None
       → longer.kind ≡ put_if (is_kind n.field) fields.kind p.atom
       → longer.coordinates ≡ put_if (is_coordinates n.field) fields.coordinates p.atom
@@ -171,10 +171,10 @@ module _ (asked : Asked) (base : ℕ) (w : List ℕ) where
   field_passed at end field fields e pass = let (a, item, none) = pass base in
       subst (λ z. IsFieldRead asked base w at z fields fields end) (sym e) (record { atom = a; item = item; no_twin = none; kind = refl; coordinates = refl; geometry = refl; properties = refl; features = refl; geometries = refl })
 
-  longer_twins : (at place : ℕ) (old new : OtherNames) (fields : Fields) (n : NamePlace) (p : Whole) (longer : Fields) (l : LongerFields at place old new fields n p longer) → member_twins [] (l.before.members ++ member_of asked base w n (name_in w n) p.atom ∷ []) ≡ None
+  pub longer_twins : (at place : ℕ) (old new : OtherNames) (fields : Fields) (n : NamePlace) (p : Whole) (longer : Fields) (l : LongerFields at place old new fields n p longer) → member_twins [] (l.before.members ++ member_of asked base w n (name_in w n) p.atom ∷ []) ≡ None
   longer_twins at place old new fields n p longer l = no_twin_more [] l.before.members (member_of asked base w n (name_in w n) p.atom) l.before.no_twin l.absent l.value
 
-  pub fields_go_on : (at place : ℕ) (old new : OtherNames) (fields : Fields) (n : NamePlace) (p : Whole) (longer : Fields) → at < place → LongerFields at place old new fields n p longer → IsNameAt w place n → IsItem asked base w (n.colon + 1) p
+  abbrev pub fields_go_on : (at place : ℕ) (old new : OtherNames) (fields : Fields) (n : NamePlace) (p : Whole) (longer : Fields) → at < place → LongerFields at place old new fields n p longer → IsNameAt w place n → IsItem asked base w (n.colon + 1) p
       → p.end < length w → slice_index w p.end ≡ 0x2C → AreFieldsRead asked base w at (p.end + 1) new longer
   fields_go_on at place old new fields n p longer h l name item inside byte =
       record {
@@ -187,13 +187,13 @@ module _ (asked : Asked) (base : ℕ) (w : List ℕ) where
       }
 
   -- the atom of the fields is that of the members
-  pub ends_fields : (at end : ℕ) (f : Fields) (ms : List (Member GeoAtom)) (q : Whole) → EndsFields asked at end f q → AreFields f ms → member_twins [] ms ≡ None → list_any looks_at_texts asked.query.tests ≡ false → EndsObject asked at end ms q
-  ends_fields at end f ms q ends are twins unasked = record {
+  pub ends_fields : (at end : ℕ) (f : Fields) (ms : List (Member GeoAtom)) (texts : List TextPair) (q : Whole) → EndsFields asked at end f texts q → AreFields f ms → member_twins [] ms ≡ None → texts ≡ kept_texts asked.query.tests ms → EndsObject asked at end ms q
+  ends_fields at end f ms texts q ends are twins kept = record {
     behind = ends.behind;
     own = ends.own;
-    fold = object_folds asked at ms q.atom twins (object_of_fields asked.query at f ms [] q.atom are (sym (no_texts asked.query.tests ms unasked)) ends.made);
+    fold = object_folds asked at ms q.atom twins (object_of_fields asked.query at f ms texts q.atom are kept ends.made);
   }
 
-  pub ends_longer : (at place end : ℕ) (old new : OtherNames) (fields : Fields) (n : NamePlace) (p : Whole) (longer : Fields) (q : Whole) (l : LongerFields at place old new fields n p longer) → EndsFields asked (base + at) end longer q → list_any looks_at_texts asked.query.tests ≡ false
+  pub ends_longer : (at place end : ℕ) (old new : OtherNames) (fields : Fields) (n : NamePlace) (p : Whole) (longer : Fields) (texts : List TextPair) (q : Whole) (l : LongerFields at place old new fields n p longer) → EndsFields asked (base + at) end longer texts q → texts ≡ kept_texts asked.query.tests (l.before.members ++ member_of asked base w n (name_in w n) p.atom ∷ [])
       → EndsObject asked (base + at) end (l.before.members ++ member_of asked base w n (name_in w n) p.atom ∷ []) q
-  ends_longer at place end old new fields n p longer q l ends unasked = ends_fields (base + at) end longer (l.before.members ++ member_of asked base w n (name_in w n) p.atom ∷ []) q ends l.are (longer_twins at place old new fields n p longer l) unasked
+  ends_longer at place end old new fields n p longer texts q l ends kept = ends_fields (base + at) end longer (l.before.members ++ member_of asked base w n (name_in w n) p.atom ∷ []) texts q ends l.are (longer_twins at place old new fields n p longer l) kept

@@ -1,9 +1,9 @@
--- What is told of positions one by one, of rings and of polygons is what the definitions say of their lists, and the part
--- of a feature follows from it. For `value`.
-use Rattle.std.proofs.Common.{◌≡◌, ℕ, ℤ, pos, nat_abs, ◌+ℤ◌, ◌-ℤ◌, neg_ℤ, Bool, true, false, ◌||◌, List, [], ◌∷◌, ◌++◌, Option, Some, None, Ok, map, refl, sym, ◌∙◌, ap, subst, arith, append-nil}
+-- What is told of positions one by one, of rings and of polygons is what the definitions say of their lists. For `value`.
+use Rattle.std.proofs.Common.{◌≡◌, ℕ, ℤ, pos, nat_abs, ◌+ℤ◌, ◌-ℤ◌, neg_ℤ, Bool, true, false, ◌||◌, if◌then◌else◌, List, [], ◌∷◌, ◌++◌, Option, Some, None, map, refl, sym, ◌∙◌, ap, subst, arith, append-nil}
 use Rattle.std.specs.Prelude.{FitsSigned}
 use Rattle.std.specs.Int.{w128, int_wrap}
-use Rattle.std.specs.List.{AllByRecursion, list_any}
+use Rattle.std.specs.List.{list_any}
+use Rattle.std.proofs.Math.Bool.{or-false}
 use Rattle.std.proofs.lemmas.Grind.{flat_map-append}
 use Rattle.std.proofs.lemmas.Int.{ints, int_wrap-add_left, int_wrap_fits, SFits-int_wrap, fits_signed_from_abs}
 use Rattle.std.proofs.lemmas.List.{map-append}
@@ -19,21 +19,14 @@ use Rattle.at_geom.proofs.Shoelace.{term, shoelace-cons}
 use Rattle.at_geom.proofs.Covering.{extent_of_parts}
 use Rattle.at_wkt.specs.Meaning.{of_points, of_lines, of_polygons}
 use Rattle.at_query.specs.declared.query.queries.Query.{Query}
-use Rattle.at_query.specs.declared.query.queries.Test.{Test}
 use Rattle.at_query.specs.declared.query.queries.Verb.{Verb}
 use Rattle.at_query.specs.declared.query.queries.Verb.TheVariants as verbs
-use Rattle.at_query.specs.declared.features.Feature.{Feature}
-use Rattle.at_query.specs.declared.answer.parts.Part.{Part}
-use Rattle.at_query.specs.declared.answer.parts.Part.TheVariants as parts
-use Rattle.at_query.specs.Parts.{wrapped_sum, IsKeptOf}
-use Rattle.at_query.specs.Holding.{TestHolds, Holds}
-use Rattle.at_query.proofs.KeptLists.{keeps_one}
+use Rattle.at_query.specs.Parts.{wrapped_sum}
 use Rattle.at_geojson.specs.declared.asked.Measure.{Measure}
 use Rattle.at_geojson.specs.declared.asked.Measure.TheVariants as measures
 use Rattle.at_geojson.specs.declared.tallies.Tally.{Tally}
 use Rattle.at_geojson.specs.Keeping.{kept, needs_shapes, tells_shapes, looks_at_shapes}
-use Rattle.at_geojson.specs.Objects.{unless, JoinsFeature}
-use Rattle.at_geojson.specs.Tallies.{measured_by, measure_with, measure_of, widened_by, SumsUp, TalliesPath, IsAreaOf, TalliesLists, TalliesAreas, TalliesShape, part_unless, IsPartOfShape}
+use Rattle.at_geojson.specs.Tallies.{measured_by, measure_of, widened_by, SumsUp, TalliesPath, IsAreaOf, TalliesLists, TalliesAreas, TalliesShape}
 use Rattle.at_geojson.proofs.ListRoles.{same_Some}
 
 -- ---- sums
@@ -130,24 +123,26 @@ asks_values measures.Extent = true
 asks_values measures.Area = true
 
 verb_needs : (verb : Verb) (measure : Measure) → measured_by verb ≡ Some measure → tells_shapes verb ≡ asks_values measure
-verb_needs verbs.Select measure e = absurd (cc)
+verb_needs verbs.Select measure e = ap asks_values (same_Some measures.Count measure e)
 verb_needs verbs.Count measure e = ap asks_values (same_Some measures.Count measure e)
 verb_needs verbs.Area measure e = ap asks_values (same_Some measures.Area measure e)
 verb_needs verbs.Extent measure e = ap asks_values (same_Some measures.Extent measure e)
 verb_needs verbs.Hull measure e = absurd (cc)
 verb_needs verbs.Join measure e = absurd (cc)
 
-or_none : (b : Bool) → (b || false) ≡ b
-or_none true = refl
-or_none false = refl
+or_none : (b c d : Bool) → c ≡ false → b ≡ d → (b || c) ≡ d
+or_none b c d e f = ap (λ z. b || z) e ∙ (or-false b ∙ f)
 
-needs_with : (verb : Verb) (tests : List Test) (measure : Measure) → measure_with verb tests ≡ Some measure → (tells_shapes verb || list_any looks_at_shapes tests) ≡ asks_values measure
-needs_with verb [] measure e = ap (λ b. b || false) (verb_needs verb measure e) ∙ or_none (asks_values measure)
-needs_with verb (t ∷ ts) measure e = absurd (cc)
+-- a query that measures shapes has no test that looks at them
+pub none_looks : (query : Query) (measure : Measure) → measure_of query ≡ Some measure → (list_any looks_at_shapes query.tests ≡ false) × (measured_by query.verb ≡ Some measure)
+none_looks query measure e = go (list_any looks_at_shapes query.tests) refl e where
+  go : (b : Bool) → list_any looks_at_shapes query.tests ≡ b → (if b then None else measured_by query.verb) ≡ Some measure → (list_any looks_at_shapes query.tests ≡ false) × (measured_by query.verb ≡ Some measure)
+  go true f h = absurd (cc)
+  go false f h = (f, h)
 
 -- shapes are kept where values are asked for
 pub needs_are : (query : Query) (measure : Measure) → measure_of query ≡ Some measure → needs_shapes query ≡ asks_values measure
-needs_are query measure e = needs_with query.verb query.tests measure e
+needs_are query measure e = let k = none_looks query measure e in or_none (tells_shapes query.verb) (list_any looks_at_shapes query.tests) (asks_values measure) k.0 (verb_needs query.verb measure k.1)
 
 -- ---- kept lists
 
@@ -195,32 +190,3 @@ pub point_told : (measure : Measure) (p : Pos) (t : Tally) → SumsUp measure No
 point_told measures.Count p t h = tt
 point_told measures.Extent p t h = h ∙ extent_of_parts (p ∷ []) [] []
 point_told measures.Area p t h = h
-
--- ---- parts
-
-module _ (f : Feature) (measure : Measure) (part : Part) (h : IsPartOfShape measure f.shape part) where
-  same_measure : (m : Measure) → Some m ≡ Some measure → IsPartOfShape m f.shape part
-  same_measure m e = subst (λ z. IsPartOfShape z f.shape part) (sym (same_Some m measure e)) h
-
-  verb_keeps : (verb : Verb) → measured_by verb ≡ Some measure → IsKeptOf verb (f ∷ []) part
-  verb_keeps verbs.Select e = absurd (cc)
-  verb_keeps verbs.Count e = same_measure measures.Count e
-  verb_keeps verbs.Area e = same_measure measures.Area e ∙ ap (λ z. parts.Area (wrapped_sum z)) (sym (append-nil f.shape.polygons))
-  verb_keeps verbs.Extent e = same_measure measures.Extent e ∙ ap (λ z. parts.Spread (extent_of z)) (sym (append-nil (positions f.shape)))
-  verb_keeps verbs.Hull e = absurd (cc)
-  verb_keeps verbs.Join e = absurd (cc)
-
-  keeps : (verb : Verb) (tests : List Test) → measure_with verb tests ≡ Some measure → AllByRecursion (λ (t : Test). TestHolds t f) tests × IsKeptOf verb (f ∷ []) part
-  keeps verb [] e = (tt, verb_keeps verb e)
-  keeps verb (t ∷ ts) e = absurd (cc)
-
--- the part of a feature of this shape
-pub feature_told : (query : Query) (measure : Measure) → measure_of query ≡ Some measure → (at : ℕ) (shape : Shape) (part : Part) → IsPartOfShape measure shape part → JoinsFeature query at (Ok shape) (Ok []) (Ok part)
-feature_told query measure e at shape part h =
-    let f : Feature = record { at = at; shape = shape; texts = [] } in
-    let k = keeps f measure part h query.verb query.tests e in
-    (part, refl, (f ∷ [], keeps_one (Holds query) f k.0, k.1))
-
-pub part_told : (query : Query) (measure : Measure) → measure_of query ≡ Some measure → (at : ℕ) (fault : Option Fault) (shape : Shape) (part : Part) → IsPartOfShape measure shape part → JoinsFeature query at (unless fault shape) (Ok []) (part_unless fault part)
-part_told query measure e at None shape part h = feature_told query measure e at shape part h
-part_told query measure e at (Some fault) shape part h = refl

@@ -1,9 +1,12 @@
 -- What the readers of whole values find of a text: the parts that they read spell trees, for which the atoms stand.
 -- For `add`, `array` and `value`.
-use Rattle.std.proofs.Common.{false, None, Result, Err, if◌then◌else◌, ◌==◌, ◌&&◌, ◌++◌, fold, ◌≡◌, ℕ, zero, suc, ◌+◌, ◌-◌, ◌<◌, ◌≤◌, min, inl, inr, ℤ, true, Some, Ok, List, [], ◌∷◌, All, length, take, drop, slice_index, take-append-drop, refl, sym, ◌∙◌, ap, subst, arith}
+use Rattle.std.proofs.Common.{false, None, Result, Err, if◌then◌else◌, ◌==◌, ◌&&◌, ◌++◌, fold, ◌≡◌, ℕ, zero, suc, ◌+◌, ◌-◌, ◌<◌, ◌≤◌, min, inl, inr, ℤ, true, Some, Ok, List, [], ◌∷◌, All, length, take, drop, slice_index, take-append-drop, refl, sym, ◌∙◌, ap, subst, arith, Option}
 use Rattle.std.specs.Bool.{⊤}
 use Rattle.std.specs.List.{list_any}
 use Rattle.at_text.specs.Faults.{first_fault}
+use Rattle.std.specs.declared.alloc.Global.{Global}
+use Rattle.std.specs.declared.boxed.Box.{Box}
+use denote.RawPtr.{null_ptr}
 use Rattle.std.proofs.Math.Nat.{min-eq_left}
 use Rattle.std.proofs.lemmas.List.{length-drop}
 use Rattle.std.proofs.lemmas.List.Elements.{All-nil, All-cons, All-append}
@@ -41,7 +44,7 @@ use Rattle.at_geojson.specs.declared.pairs.Plain.{Plain}
 use Rattle.at_geojson.specs.declared.pairs.PairRead.{PairRead}
 use Rattle.at_geojson.specs.Names.{kind_of_text}
 use Rattle.at_geojson.specs.Keeping.{Asked, looks_at_texts}
-use Rattle.at_geojson.specs.Atoms.{twin_of, at_of, IsOwn, IsFold}
+use Rattle.at_geojson.specs.Atoms.{twin_of, at_of, IsOwn, IsFold, as_text, unboxed, asked_units}
 use Rattle.at_geojson.specs.Gathering.{firsts, are_all, rank, sort_of, sort_of_all, least_of, pair_atom}
 use Rattle.at_geojson.specs.Places.{IsTextAt, IsNameAt, IsScalarAt}
 use Rattle.at_geojson.specs.Values.{IsPlain, IsFurther, AreFurther, EndsPosition, IsPair, IsSpacedPair, IsWhole, IsItem, AreItemsRead, AreMembersRead, EndsArray, EndsObject}
@@ -121,9 +124,24 @@ name_units w at n units h u = subst (λ z. AreUnitsOf z units) (rest_to w n.firs
 
 -- ---- scalars
 
--- the atom of a string of which nothing but its kind is kept
-abbrev pub text_kind : ℕ → List Character → GeoAtom
-text_kind i cs = atoms.Text (record { at = i; kind = kind_of_text (units_of cs); units = None })
+-- memory, for boxes that are in proofs alone
+abbrev pub heap : Global
+heap = record { memory = record { seal = tt } }
+
+abbrev pub in_boxes : Option (List ℕ) → Option (Box (List ℕ) Global)
+in_boxes None = None
+in_boxes (Some units) = Some (record { ptr = null_ptr; alloc = heap; value = units })
+
+out_of_boxes : (o : Option (List ℕ)) → unboxed (in_boxes o) ≡ o
+out_of_boxes None = refl
+out_of_boxes (Some units) = refl
+
+-- what is made of a string
+abbrev pub text_kind : Asked → ℕ → List Character → GeoAtom
+text_kind asked i cs = atoms.Text (record { at = i; kind = kind_of_text (units_of cs); units = in_boxes (asked_units asked.query.tests (units_of cs)) })
+
+pub text_units : (asked : Asked) (i : ℕ) (cs : List Character) → as_text (text_kind asked i cs) ≡ asked_units asked.query.tests (units_of cs)
+text_units asked i cs = out_of_boxes (asked_units asked.query.tests (units_of cs))
 
 -- one more number of a position
 pub further_last : (w : List ℕ) (at : ℕ) (es : List ℕ) (end e : ℕ) → AreFurther w at es end → IsFurther w end e → AreFurther w at (es ++ e ∷ []) e
@@ -174,14 +192,13 @@ module _ (asked : Asked) (base : ℕ) (w : List ℕ) where
     pub no_twin : twin_of atom ≡ None
 
   module _ (at end : ℕ) (order : at < end) (within : end ≤ length w) where
-    pub text_whole : list_any looks_at_texts asked.query.tests ≡ false → (cs : List Character) → AreCharacters cs → between w at end ≡ characters_text cs → IsWhole asked base w at (record { end = end; atom = text_kind (base + at) cs })
-    text_whole unasked cs j e =
-        let a : TextAtom = record { at = base + at; kind = kind_of_text (units_of cs); units = None } in
-        let u = ap (λ b. if b then Some (units_of cs) else None) (sym (none_asked asked.query.tests (units_of cs) unasked)) in
-        record { order = order; within = within; own = tt; tree = text (base + at) cs; spells = (refl, (j, e)); fold = text_folds asked a cs refl u }
+    pub text_whole : (cs : List Character) → AreCharacters cs → between w at end ≡ characters_text cs → IsWhole asked base w at (record { end = end; atom = text_kind asked (base + at) cs })
+    text_whole cs j e =
+        let a : TextAtom = record { at = base + at; kind = kind_of_text (units_of cs); units = in_boxes (asked_units asked.query.tests (units_of cs)) } in
+        record { order = order; within = within; own = tt; tree = text (base + at) cs; spells = (refl, (j, e)); fold = text_folds asked a cs refl (out_of_boxes (asked_units asked.query.tests (units_of cs))) }
 
-    passed_text : list_any looks_at_texts asked.query.tests ≡ false → JsonString (between w at end) → IsPassed at end
-    passed_text unasked (cs, j, e) = record { atom = text_kind (base + at) cs; whole = text_whole unasked cs j e; no_twin = refl }
+    passed_text : JsonString (between w at end) → IsPassed at end
+    passed_text (cs, j, e) = record { atom = text_kind asked (base + at) cs; whole = text_whole cs j e; no_twin = refl }
 
     passed_literal : (l : Literal) → between w at end ≡ literal_text l → IsPassed at end
     passed_literal the_null e = record { atom = atoms.Null (base + at); whole = record { order = order; within = within; own = tt; tree = literal (base + at) the_null; spells = (refl, e); fold = null_folds asked (base + at) }; no_twin = refl }
@@ -199,8 +216,8 @@ module _ (asked : Asked) (base : ℕ) (w : List ℕ) where
     passed_run (inl (l, e)) = passed_literal l e
     passed_run (inr (n, j, e)) = passed_number n (refl, (j, e))
 
-    scalar_passed : list_any looks_at_texts asked.query.tests ≡ false → IsScalarText (between w at end) → IsPassed at end
-    scalar_passed unasked s = elim s [ inl t ↦ passed_text unasked t | inr r ↦ passed_run r ]
+    scalar_passed : IsScalarText (between w at end) → IsPassed at end
+    scalar_passed s = elim s [ inl t ↦ passed_text t | inr r ↦ passed_run r ]
 
   -- ---- positions
 
@@ -382,10 +399,10 @@ module _ (asked : Asked) (base : ℕ) (w : List ℕ) where
   }
 
   -- a scalar of which the place behind it and the white space alone is told
-  pub item_passed : (at first last end : ℕ) → list_any looks_at_texts asked.query.tests ≡ false → at ≤ first → AreSpaces (between w at first) → IsScalarAt w first last → last ≤ end → end ≤ length w → AreSpaces (between w last end)
+  pub item_passed : (at first last end : ℕ) → at ≤ first → AreSpaces (between w at first) → IsScalarAt w first last → last ≤ end → end ≤ length w → AreSpaces (between w last end)
       → (a : GeoAtom) × IsItem asked base w at (record { end = end; atom = a }) × (twin_of a ≡ None)
-  item_passed at first last end unasked h spaces (order, within, s) k fits more =
-      let p = scalar_passed first last order within unasked s in
+  item_passed at first last end h spaces (order, within, s) k fits more =
+      let p = scalar_passed first last order within s in
       (p.atom, item_read at first end (record { end = last; atom = p.atom }) h spaces p.whole k fits more, p.no_twin)
 
   -- ---- arrays

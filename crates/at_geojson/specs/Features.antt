@@ -1,8 +1,15 @@
 -- Features that are read at once: no atom is made of their members. Only contracts of private functions cite this.
-use Rattle.std.specs.Prelude.{◌≡◌, ℕ, ◌+◌, Bool, true, false, List, [], Option, Some, None, Result, Ok}
+use Rattle.std.specs.Prelude.{◌≡◌, ℕ, ◌+◌, Bool, true, false, List, [], ◌∷◌, Option, Some, None, Result, Ok, Err}
+use Rattle.std.specs.Bool.{⊤}
+use Rattle.std.specs.List.{list_any}
 use Rattle.at_text.specs.declared.faults.Fault.{Fault}
+use Rattle.at_geom.specs.declared.shapes.Shape.{Shape}
+use Rattle.at_geom.specs.Shapes.{IsShapeInRange}
+use Rattle.at_query.specs.declared.query.queries.Query.{Query}
+use Rattle.at_query.specs.declared.query.queries.Test.{Test}
+use Rattle.at_query.specs.declared.features.TextPair.{TextPair}
 use Rattle.at_query.specs.declared.answer.parts.Part.{Part}
-use Rattle.at_wkt.specs.Meaning.{empty_shape}
+use Rattle.at_query.specs.Parts.{IsPart}
 use Rattle.at_geojson.specs.declared.kinds.Kind.TheVariants as kinds
 use Rattle.at_geojson.specs.declared.atoms.GeoAtom.{GeoAtom}
 use Rattle.at_geojson.specs.declared.atoms.GeoAtom.TheVariants as atoms
@@ -10,16 +17,24 @@ use Rattle.at_geojson.specs.declared.atoms.ObjectAtom.{ObjectAtom}
 use Rattle.at_geojson.specs.declared.atoms.Role.TheVariants as roles
 use Rattle.at_geojson.specs.declared.fields.Field.{Field}
 use Rattle.at_geojson.specs.declared.fields.Fields.{Fields}
+use Rattle.at_geojson.specs.declared.places.NamePlace.{NamePlace}
 use Rattle.at_geojson.specs.declared.plain_geometries.ShapeRead.{ShapeRead}
+use Rattle.at_geojson.specs.declared.plain_geometries.Seen.{Seen}
+use Rattle.at_geojson.specs.declared.plain_geometries.Seen.TheVariants as seens
+use Rattle.at_geojson.specs.declared.plain_objects.VoidMembers.{VoidMembers}
+use Rattle.at_geojson.specs.declared.plain_objects.VoidRead.{VoidRead}
 use Rattle.at_geojson.specs.declared.features.FeatureRead.{FeatureRead}
 use Rattle.at_geojson.specs.declared.features.FeatureMembers.{FeatureMembers}
+use Rattle.at_geojson.specs.declared.features.PropertiesRead.{PropertiesRead}
 use Rattle.at_geojson.specs.declared.members.FieldName.{FieldName}
 use Rattle.at_geojson.specs.declared.members.OtherNames.{OtherNames}
-use Rattle.at_geojson.specs.Keeping.{Asked}
-use Rattle.at_geojson.specs.Atoms.{twin_of, as_kind, IfOwnShape, IfOwnPart}
+use Rattle.at_geojson.specs.Keeping.{Asked, looks_at_texts}
+use Rattle.at_geojson.specs.Atoms.{twin_of, as_kind, as_text, IfOwnShape, IfOwnPart}
 use Rattle.at_geojson.specs.Objects.{feature_shape, texts_in, texts_named, JoinsFeature}
+use Rattle.at_geojson.specs.TextTests.{met_of, met_by, texts_hold}
 use Rattle.at_geojson.specs.Fields.{kind_in_fields, value_in}
-use Rattle.at_geojson.specs.Members.{IsNewName, IsFieldRead, AreFieldsRead}
+use Rattle.at_geojson.specs.Members.{name_in, IsNewName, IsFieldRead, AreFieldsRead}
+use Rattle.at_geojson.specs.PlainGeometries.{IsSeenOf, IsSeen}
 use Rattle.at_geojson.specs.Values.{IsWhole, IsItem}
 
 -- white space, a value as a geometry, and white space
@@ -35,22 +50,27 @@ abbrev pub PassesOther : Asked → ℕ → List ℕ → ℕ → ℕ → Type 0
 PassesOther asked base w at end = (a : GeoAtom) × IsItem asked base w at (record { end = end; atom = a })
     × (twin_of a ≡ None)
 
--- the same of properties in which nothing is wrong, without texts for which the query asks
-abbrev pub PassesProperties : Asked → ℕ → List ℕ → ℕ → ℕ → Type 0
-PassesProperties asked base w at end = (a : GeoAtom) × IsItem asked base w at (record { end = end; atom = a })
-    × (twin_of a ≡ None) × (texts_in a ≡ Ok [])
+-- the texts of properties in which nothing is wrong, and whether all tests on texts hold of them
+abbrev pub IsTested : List Test → Result (List TextPair) Fault → Bool → Type 0
+IsTested tests r hold = (texts : List TextPair) × (r ≡ Ok texts) × (hold ≡ texts_hold tests texts)
 
--- the part of the feature at the offset by the member `geometry`, where there is one
-abbrev pub IsGeometryOf : Asked → ℕ → Option (Result Part Fault) → Option GeoAtom → Type 0
-IsGeometryOf asked feature None o = o ≡ None
-IsGeometryOf asked feature (Some part) o = JoinsFeature asked.query feature (feature_shape o) (Ok []) part
+-- the same of properties with white space round them
+abbrev pub ReadsProperties : Asked → ℕ → List ℕ → ℕ → PropertiesRead → Type 0
+ReadsProperties asked base w at p = (a : GeoAtom) × IsItem asked base w at (record { end = p.end; atom = a })
+    × (twin_of a ≡ None) × IsTested asked.query.tests (texts_in a) p.hold
 
--- the fields say what the members of the feature at the offset say
-pub record AreMembersOf (asked : Asked) (feature : ℕ) (f : Fields) (m : FeatureMembers) : Type 0 where
+-- what is seen of a feature's shape, by the member `geometry`, where there is one
+abbrev pub IsGeometryOf : Query → Option (Result Seen Fault) → Option GeoAtom → Type 0
+IsGeometryOf query None o = o ≡ None
+IsGeometryOf query (Some seen) o = IsSeen query (feature_shape o) seen
+
+-- the fields say what the members of a feature say
+pub record AreMembersOf (asked : Asked) (f : Fields) (m : FeatureMembers) : Type 0 where
   pub kind : m.is_feature ≡ true → kind_in_fields f ≡ Some kinds.Feature
   pub no_kind : m.is_feature ≡ false → f.kind ≡ None
-  pub geometry : IsGeometryOf asked feature m.geometry f.geometry
-  pub properties : m.has_properties ≡ true → texts_named f.properties ≡ Ok []
+  pub geometry : IsGeometryOf asked.query m.geometry f.geometry
+  pub own : IfOwnShape asked (feature_shape f.geometry)
+  pub texts : IsTested asked.query.tests (texts_named f.properties) m.hold
   pub no_properties : m.has_properties ≡ false → f.properties ≡ None
 
 -- a member's value, where there was none, with white space round it; the fields are then such as are wanted
@@ -65,9 +85,9 @@ pub record IsValueRead (asked : Asked) (base : ℕ) (w : List ℕ) (at : ℕ) (f
 abbrev pub ReadsValue : Asked → ℕ → List ℕ → ℕ → Field → (Fields → Type 0) → (Fields → Type 0) → ℕ → Type 0
 ReadsValue asked base w at field Were Are end = (f : Fields) → Were f → IsValueRead asked base w at field f Are end
 
-abbrev pub ReadsField : Asked → ℕ → ℕ → List ℕ → ℕ → Field → FeatureMembers → FeatureMembers → ℕ → Type 0
-ReadsField asked feature base w at field before after end = ReadsValue asked base w at field
-    (λ f. AreMembersOf asked feature f before) (λ f. AreMembersOf asked feature f after) end
+abbrev pub ReadsField : Asked → ℕ → List ℕ → ℕ → Field → FeatureMembers → FeatureMembers → ℕ → Type 0
+ReadsField asked base w at field before after end = ReadsValue asked base w at field
+    (λ f. AreMembersOf asked f before) (λ f. AreMembersOf asked f after) end
 
 -- one member more, of a name that no member before has
 pub record IsMemberRead (asked : Asked) (base : ℕ) (w : List ℕ) (n : FieldName) (f : Fields) (Are : Fields → Type 0)
@@ -81,10 +101,10 @@ abbrev pub ReadsOne : Asked → ℕ → List ℕ → FieldName → (Fields → T
     → ℕ → Type 0
 ReadsOne asked base w n Were Are old new end = (f : Fields) → Were f → IsMemberRead asked base w n f Are old new end
 
-abbrev pub ReadsMember : Asked → ℕ → ℕ → List ℕ → FieldName → FeatureMembers → FeatureMembers → OtherNames → OtherNames
-    → ℕ → Type 0
-ReadsMember asked feature base w n before after old new end = ReadsOne asked base w n
-    (λ f. AreMembersOf asked feature f before) (λ f. AreMembersOf asked feature f after) old new end
+abbrev pub ReadsMember : Asked → ℕ → List ℕ → FieldName → FeatureMembers → FeatureMembers → OtherNames → OtherNames → ℕ
+    → Type 0
+ReadsMember asked base w n before after old new end = ReadsOne asked base w n (λ f. AreMembersOf asked f before)
+    (λ f. AreMembersOf asked f after) old new end
 
 -- between the members of an object: those before the place were read, and their fields are such as are wanted
 pub record AreRead (asked : Asked) (base : ℕ) (w : List ℕ) (at place : ℕ) (others : OtherNames) (Are : Fields → Type 0)
@@ -100,36 +120,81 @@ pub record NameNoKind (named : Bool) (f : Fields) : Type 0 where
   pub no_kind : kind_in_fields f ≡ None
   pub absent : named ≡ false → f.kind ≡ None
 
--- white space, a text that names no kind, and white space
-pub record NamesNoKind (asked : Asked) (base : ℕ) (w : List ℕ) (at end : ℕ) : Type 0 where
+-- the value of a member of the name, with white space round it: so many more tests on texts are met
+pub record MeetsTexts (asked : Asked) (base : ℕ) (w : List ℕ) (n : NamePlace) (old new : VoidMembers) (end : ℕ) : Type 0
+  where
+    pub atom : GeoAtom
+    pub item : IsItem asked base w (n.colon + 1) (record { end = end; atom = atom })
+    pub no_twin : twin_of atom ≡ None
+    pub named : new.named ≡ old.named
+    pub met : new.met ≡ old.met + met_of asked.query.tests (name_in w n) (as_text atom)
+
+-- the same of the first member `type`, which names no kind
+pub record NamesNoKind (asked : Asked) (base : ℕ) (w : List ℕ) (n : NamePlace) (old new : VoidMembers) (end : ℕ) : Type 0
+  where
+    pub atom : GeoAtom
+    pub item : IsItem asked base w (n.colon + 1) (record { end = end; atom = atom })
+    pub no_twin : twin_of atom ≡ None
+    pub no_kind : as_kind atom ≡ None
+    pub before : old.named ≡ false
+    pub named : new.named ≡ true
+    pub met : new.met ≡ old.met + met_of asked.query.tests (name_in w n) (as_text atom)
+
+abbrev pub ReadsVoid : Asked → ℕ → List ℕ → FieldName → VoidMembers → VoidMembers → OtherNames → OtherNames → ℕ → Type 0
+ReadsVoid asked base w n before after old new end = (f : Fields) → NameNoKind before.named f
+    → (r : IsMemberRead asked base w n f (NameNoKind after.named) old new end)
+    × (after.met ≡ before.met + met_of asked.query.tests (name_in w n.place) (as_text r.read.atom))
+
+-- an object that names no kind from the place on, and how many tests on texts its texts meet
+pub record IsTexted (asked : Asked) (base : ℕ) (w : List ℕ) (at : ℕ) (p : VoidRead) : Type 0 where
   pub atom : GeoAtom
-  pub item : IsItem asked base w at (record { end = end; atom = atom })
+  pub whole : IsWhole asked base w at (record { end = p.end; atom = atom })
   pub no_twin : twin_of atom ≡ None
-  pub no_kind : as_kind atom ≡ None
-
-abbrev pub ReadsVoid : Asked → ℕ → List ℕ → FieldName → Bool → Bool → OtherNames → OtherNames → ℕ → Type 0
-ReadsVoid asked base w n before after old new end =
-    ReadsOne asked base w n (NameNoKind before) (NameNoKind after) old new end
-
--- an object that names no kind from the place on
-abbrev pub IsVoid : Asked → ℕ → List ℕ → ℕ → ℕ → Type 0
-IsVoid asked base w at end = IsWhole asked base w at (record { end = end; atom = atoms.Void (base + at) })
+  pub texts : List TextPair
+  pub has : texts_in atom ≡ Ok texts
+  pub met : p.met ≡ met_by asked.query.tests texts
 
 -- ---- features
 
--- the part by the geometry, where there is one, and else that of the feature at the offset without positions
-abbrev pub IsPartIn : Asked → ℕ → Option (Result Part Fault) → Result Part Fault → Type 0
-IsPartIn asked at None part = JoinsFeature asked.query at (Ok empty_shape) (Ok []) part
-IsPartIn asked at (Some found) part = part ≡ found
+-- the part of the feature at the offset of whose shape this is seen, whatever its texts are, where all tests on texts
+-- hold of them
+abbrev pub IsPartOfSeen : Asked → ℕ → Seen → Part → Type 0
+IsPartOfSeen asked at seen part = (shape : Shape) (texts : List TextPair) → IsSeenOf asked.query shape seen
+    → texts_hold asked.query.tests texts ≡ true
+    → IsPart asked.query (record { at = at; shape = shape; texts = texts } ∷ []) part
+
+-- the same where all of them hold or not
+abbrev pub IsPartHeld : Asked → ℕ → Seen → Bool → Part → Type 0
+IsPartHeld asked at seen hold part = (shape : Shape) (texts : List TextPair) → IsSeenOf asked.query shape seen
+    → hold ≡ texts_hold asked.query.tests texts
+    → IsPart asked.query (record { at = at; shape = shape; texts = texts } ∷ []) part
+
+-- the part of the feature at the offset, by what is seen of its geometry and whether all tests on texts hold
+abbrev pub IsPartIn : Asked → ℕ → Option (Result Seen Fault) → Bool → Result Part Fault → Type 0
+IsPartIn asked at geometry hold part = (o : Option GeoAtom) (texts : List TextPair)
+    → IsGeometryOf asked.query geometry o → hold ≡ texts_hold asked.query.tests texts
+    → JoinsFeature asked.query at (feature_shape o) (Ok texts) part
+
+-- coordinates of what is seen are in range
+abbrev pub IsOwnSeen : Seen → Type 0
+IsOwnSeen (seens.Measured part) = ⊤
+IsOwnSeen (seens.Shape g) = IsShapeInRange g
+
+abbrev pub IfOwnGeometry : Option (Result Seen Fault) → Type 0
+IfOwnGeometry None = ⊤
+IfOwnGeometry (Some (Ok seen)) = IsOwnSeen seen
+IfOwnGeometry (Some (Err fault)) = ⊤
 
 -- the part of a feature at the offset, and the place behind the bracket
 pub record EndsFeature (asked : Asked) (at end : ℕ) (m : FeatureMembers) (p : FeatureRead) : Type 0 where
   pub behind : p.end ≡ end
   pub is_feature : m.is_feature ≡ true
-  pub part : IsPartIn asked at m.geometry p.part
+  pub part : IsPartIn asked at m.geometry m.hold p.part
 
--- a feature from the place on, told by the atom that keeps its part
+-- a feature from the place on, told by the atom that keeps its part and such texts, whatever they are
 pub record IsFeatureRead (asked : Asked) (base : ℕ) (w : List ℕ) (at : ℕ) (p : FeatureRead) : Type 0 where
   pub own : IfOwnPart asked p.part
-  pub whole : (o : ObjectAtom) → o.at ≡ base + at → o.roles.value.role ≡ roles.Feature p.part → o.roles.value.texts ≡ []
-      → IsWhole asked base w at (record { end = p.end; atom = atoms.Object o })
+  pub texts : List TextPair
+  pub no_texts : list_any looks_at_texts asked.query.tests ≡ false → texts ≡ []
+  pub whole : (o : ObjectAtom) → o.at ≡ base + at → o.roles.value.role ≡ roles.Feature p.part
+      → o.roles.value.texts ≡ texts → IsWhole asked base w at (record { end = p.end; atom = atoms.Object o })

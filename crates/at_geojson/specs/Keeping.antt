@@ -1,6 +1,6 @@
 -- What is asked, and what has to be kept of a text to answer it: shapes and texts that no test and no verb looks at are
 -- left out.
-use Rattle.std.specs.Prelude.{ℕ, Bool, true, false, ◌&&◌, ◌||◌, bytes_eq, List, [], filter}
+use Rattle.std.specs.Prelude.{ℕ, Bool, true, false, ◌&&◌, ◌||◌, bytes_eq, List, [], filter, count_by}
 use Rattle.std.specs.List.{list_any}
 use Rattle.at_fixed.specs.declared.rounding.Coords.{Coords}
 use Rattle.at_geom.specs.declared.shapes.Shape.{Shape}
@@ -38,6 +38,10 @@ tells_shapes verbs.Join = true
 -- the verb or a test looks at shapes
 abbrev pub needs_shapes : Query → Bool
 needs_shapes query = tells_shapes query.verb || list_any looks_at_shapes query.tests
+
+-- how many tests look at texts
+abbrev pub text_tests : List Test → ℕ
+text_tests tests = count_by looks_at_texts tests
 
 -- the test asks for a text of this value; of this name and this value
 abbrev pub wants_value : List ℕ → Test → Bool

@@ -28,5 +28,6 @@ pub mod KnownNames
 pub mod Geometries
 pub mod PlainGeometries
 pub mod PositionRuns
+pub mod TextTests
 pub mod Features
 pub mod FeatureRuns

@@ -5,6 +5,7 @@ use Rattle.std.specs.List.{list_any}
 use Rattle.at_fixed.specs.NumberSoFar.{between}
 use Rattle.at_lex.specs.Strings.{AreUnitsOf}
 use Rattle.at_nest.specs.declared.algebra.Member.{Member}
+use Rattle.at_query.specs.declared.features.TextPair.{TextPair}
 use Rattle.at_geojson.specs.declared.atoms.GeoAtom.{GeoAtom}
 use Rattle.at_geojson.specs.declared.fields.Field.{Field}
 use Rattle.at_geojson.specs.declared.fields.Fields.{Fields}
@@ -66,11 +67,11 @@ pub record IsNewName (w : List ℕ) (fields : Fields) (old new : OtherNames) (n 
       × AddsName w n.place old new
   pub field : is_no_field n.field ≡ false → (value_in n.field fields ≡ None) × (new ≡ old)
 
--- the atom of the fields of an object without texts, and the place behind the bracket
-pub record EndsFields (asked : Asked) (at end : ℕ) (fields : Fields) (p : Whole) : Type 0 where
+-- the atom of the fields and the texts of an object, and the place behind the bracket
+pub record EndsFields (asked : Asked) (at end : ℕ) (fields : Fields) (texts : List TextPair) (p : Whole) : Type 0 where
   pub behind : p.end ≡ end
   pub own : IsOwn asked p.atom
-  pub made : MakesFields asked.query at fields [] p.atom
+  pub made : MakesFields asked.query at fields texts p.atom
 
 -- a value with white space round it in which no object has equal names, of which the place behind it alone is told
 abbrev pub PassesItem : Asked → List ℕ → ℕ → ℕ → Type 0

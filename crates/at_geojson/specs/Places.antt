@@ -1,5 +1,5 @@
 -- What stands at the places of a text. Only contracts of private functions cite this.
-use Rattle.std.specs.Prelude.{◌≡◌, ℕ, ◌-◌, ◌<◌, ◌≤◌, ◌&&◌, Bool, true, List, length, take, drop, slice_index}
+use Rattle.std.specs.Prelude.{◌≡◌, ℕ, ◌+◌, ◌-◌, ◌<◌, ◌≤◌, ◌&&◌, Bool, true, List, length, take, drop, slice_index}
 use Rattle.std.specs.List.{list_all}
 use Rattle.at_fixed.specs.NumberSoFar.{between}
 use Rattle.at_lex.specs.Strings.{JsonString, is_plain}
@@ -7,6 +7,7 @@ use Rattle.at_lex.specs.Spans.{AreSpaces}
 use Rattle.at_nest.specs.Folds.{IsScalarText}
 use Rattle.at_geojson.specs.Gathering.{is_simple}
 use Rattle.at_geojson.specs.declared.places.NamePlace.{NamePlace}
+use Rattle.at_geojson.specs.declared.short_texts.SimpleItem.{SimpleItem}
 
 -- the byte stands at the other place, with white space before it from the place on
 pub record StandsBehind (w : List ℕ) (at b place : ℕ) : Type 0 where
@@ -26,6 +27,16 @@ is_common b = is_plain b && is_simple b
 -- a string of ASCII without escapes
 abbrev pub IsSimpleTextAt : List ℕ → ℕ → ℕ → Type 0
 IsSimpleTextAt w at end = IsTextAt w at end × (list_all is_simple (take (end - at) (drop at w)) ≡ true)
+
+-- such a string with white space round it
+pub record IsSimpleItem (w : List ℕ) (at : ℕ) (p : SimpleItem) : Type 0 where
+  pub before : at ≤ p.first
+  pub spaces : AreSpaces (between w at p.first)
+  pub text : IsSimpleTextAt w p.first p.last
+  pub order : p.first + 1 ≤ p.last - 1
+  pub behind : p.last ≤ p.end
+  pub within : p.end ≤ length w
+  pub more_spaces : AreSpaces (between w p.last p.end)
 
 -- a string, literal or number from the place to its end
 abbrev pub IsScalarAt : List ℕ → ℕ → ℕ → Type 0

@@ -1,14 +1,23 @@
 -- Geometries of a type and of coordinates that are read at once. Only contracts of private functions cite this.
-use Rattle.std.specs.Prelude.{◌≡◌, ℕ, Bool, true, false, List, [], Some, None, Ok}
+use Rattle.std.specs.Prelude.{◌≡◌, ℕ, Bool, true, false, List, Some, None, Result, Ok, Err}
+use Rattle.at_text.specs.declared.faults.Fault.{Fault}
+use Rattle.at_geom.specs.declared.shapes.Shape.{Shape}
+use Rattle.at_query.specs.declared.query.queries.Query.{Query}
+use Rattle.at_query.specs.declared.answer.parts.Part.{Part}
+use Rattle.at_geojson.specs.declared.asked.Measure.{Measure}
 use Rattle.at_geojson.specs.declared.kinds.Kind.{Kind}
 use Rattle.at_geojson.specs.declared.kinds.Kind.TheVariants as kinds
 use Rattle.at_geojson.specs.declared.atoms.GeoAtom.{GeoAtom}
 use Rattle.at_geojson.specs.declared.measured_geometries.PartRead.{PartRead}
 use Rattle.at_geojson.specs.declared.plain_geometries.KindRead.{KindRead}
 use Rattle.at_geojson.specs.declared.plain_geometries.ShapeRead.{ShapeRead}
+use Rattle.at_geojson.specs.declared.plain_geometries.Seen.{Seen}
+use Rattle.at_geojson.specs.declared.plain_geometries.Seen.TheVariants as seens
+use Rattle.at_geojson.specs.declared.plain_geometries.SeenRead.{SeenRead}
 use Rattle.at_geojson.specs.Keeping.{Asked, needs_shapes}
 use Rattle.at_geojson.specs.Atoms.{twin_of, as_kind, IfOwnShape}
-use Rattle.at_geojson.specs.Objects.{kind_shape, feature_shape, JoinsFeature}
+use Rattle.at_geojson.specs.Objects.{kind_shape, feature_shape}
+use Rattle.at_geojson.specs.Tallies.{measure_of, IsPartOfShape}
 use Rattle.at_geojson.specs.Values.{IsWhole, IsItem}
 
 -- white space, the name of a kind, and white space
@@ -51,17 +60,35 @@ pub record IsGeometryRead (asked : Asked) (base : ℕ) (w : List ℕ) (at : ℕ)
   pub shape : feature_shape (Some atom) ≡ p.shape
   pub own : IfOwnShape asked p.shape
 
--- ---- in place of a shape, the part of a feature that has it
+-- ---- what is seen of a shape
 
--- the part of the feature at the offset that has this shape and no texts
-pub record JoinsShape (asked : Asked) (feature : ℕ) (s : ShapeRead) (p : PartRead) : Type 0 where
-  pub behind : s.end ≡ p.end
-  pub part : JoinsFeature asked.query feature s.shape (Ok []) p.part
+-- the part that the measure tells of the shape, or its fault
+abbrev pub IsMeasured : Measure → Result Shape Fault → Result Part Fault → Type 0
+IsMeasured measure (Ok shape) r = (part : Part) × (r ≡ Ok part) × IsPartOfShape measure shape part
+IsMeasured measure (Err fault) r = r ≡ Err fault
 
--- a shape would be read that is such, and the part is that of the feature at the offset that has it
-abbrev pub HasPart : Asked → ℕ → (ShapeRead → Type 0) → PartRead → Type 0
-HasPart asked feature Is p = (s : ShapeRead) × Is s × JoinsShape asked feature s p
+-- a shape would be read that is such, and the measure tells this of it
+abbrev pub HasMeasured : Measure → (ShapeRead → Type 0) → PartRead → Type 0
+HasMeasured measure Is p = (s : ShapeRead) × Is s × (s.end ≡ p.end) × IsMeasured measure s.shape p.part
 
--- the same whatever feature has it
-abbrev pub HaveParts : Asked → (ShapeRead → Type 0) → PartRead → Type 0
-HaveParts asked Is p = (s : ShapeRead) × Is s × ((feature : ℕ) → JoinsShape asked feature s p)
+-- the part that the query's measure tells of the shape, or the shape itself
+abbrev pub IsSeenOf : Query → Shape → Seen → Type 0
+IsSeenOf query shape (seens.Measured part) = (measure : Measure) × (measure_of query ≡ Some measure)
+    × IsPartOfShape measure shape part
+IsSeenOf query shape (seens.Shape g) = g ≡ shape
+
+abbrev pub IsSeen : Query → Result Shape Fault → Result Seen Fault → Type 0
+IsSeen query (Ok shape) r = (seen : Seen) × (r ≡ Ok seen) × IsSeenOf query shape seen
+IsSeen query (Err fault) r = r ≡ Err fault
+
+-- a shape would be read that is such, of which this is seen
+abbrev pub Sees : Asked → (ShapeRead → Type 0) → SeenRead → Type 0
+Sees asked Is p = (s : ShapeRead) × Is s × (s.end ≡ p.end) × IsSeen asked.query s.shape p.seen
+
+-- whatever shape has the part that was read, it is seen by it; the shape that was read is seen
+abbrev pub SeesPart : PartRead → SeenRead → Type 0
+SeesPart read p = (p.end ≡ read.end) × ((query : Query) (measure : Measure) (shape : Result Shape Fault)
+    → measure_of query ≡ Some measure → IsMeasured measure shape read.part → IsSeen query shape p.seen)
+
+abbrev pub SeesShape : ShapeRead → SeenRead → Type 0
+SeesShape read p = (p.end ≡ read.end) × ((query : Query) → IsSeen query read.shape p.seen)

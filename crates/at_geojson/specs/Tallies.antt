@@ -1,7 +1,8 @@
--- What a query without tests asks of positions, and what is told of them in place of their lists. Only contracts of
+-- What a query asks of positions of which none is kept, and what is told of them in place of their lists. Only contracts of
 -- private functions cite this.
-use Rattle.std.specs.Prelude.{◌≡◌, ℤ, List, [], ◌∷◌, fold, Option, Some, None, Result, Ok, Err}
+use Rattle.std.specs.Prelude.{◌≡◌, ℤ, Bool, true, false, if◌then◌else◌, List, [], ◌∷◌, fold, Option, Some, None, Result, Ok, Err}
 use Rattle.std.specs.Bool.{⊤}
+use Rattle.std.specs.List.{list_any}
 use Rattle.std.specs.Int.{w128, int_wrap}
 use Rattle.at_text.specs.declared.faults.Fault.{Fault}
 use Rattle.at_geom.specs.declared.positions.Pos.{Pos}
@@ -11,32 +12,33 @@ use Rattle.at_geom.specs.declared.shapes.Shape.{Shape}
 use Rattle.at_geom.specs.Regions.{shoelace, wrapped_ring_size, wrapped_area_of_rings}
 use Rattle.at_geom.specs.Shapes.{widened, joined, positions, positions_of_polygons, extent_of}
 use Rattle.at_query.specs.declared.query.queries.Query.{Query}
-use Rattle.at_query.specs.declared.query.queries.Test.{Test}
 use Rattle.at_query.specs.declared.query.queries.Verb.{Verb}
 use Rattle.at_query.specs.declared.query.queries.Verb.TheVariants as verbs
 use Rattle.at_query.specs.declared.answer.parts.Part.{Part}
 use Rattle.at_query.specs.declared.answer.parts.Part.TheVariants as parts
 use Rattle.at_query.specs.Parts.{wrapped_sum}
+use Rattle.at_geojson.specs.Keeping.{looks_at_shapes}
 use Rattle.at_geojson.specs.declared.asked.Measure.{Measure}
 use Rattle.at_geojson.specs.declared.asked.Measure.TheVariants as measures
 use Rattle.at_geojson.specs.declared.tallies.Tally.{Tally}
 
 -- what a verb asks of positions, where it keeps none of them
 abbrev pub measured_by : Verb → Option Measure
-measured_by verbs.Select = None
+measured_by verbs.Select = Some measures.Count
 measured_by verbs.Count = Some measures.Count
 measured_by verbs.Area = Some measures.Area
 measured_by verbs.Extent = Some measures.Extent
 measured_by verbs.Hull = None
 measured_by verbs.Join = None
 
--- the same of a query, whose tests look at the features themselves
-abbrev pub measure_with : Verb → List Test → Option Measure
-measure_with verb [] = measured_by verb
-measure_with verb (t ∷ ts) = None
+-- the verb asks for the offsets of features
+abbrev pub selects : Verb → Bool
+selects verbs.Select = true
+selects _ = false
 
+-- the same of a query: tests that look at shapes look at the shapes themselves
 abbrev pub measure_of : Query → Option Measure
-measure_of query = measure_with query.verb query.tests
+measure_of query = if list_any looks_at_shapes query.tests then None else measured_by query.verb
 
 -- the least extent round the positions and those before them
 abbrev pub widened_by : Option Extent → List Pos → Option Extent

@@ -1,11 +1,12 @@
 //! A query that is asked of a GeoJSON text, and what it asks of numbers, texts and shapes.
 
-ghost use Rattle.std.specs.Prelude.{◌≡◌};
+ghost use Rattle.std.specs.Prelude.{◌≡◌, ◌==◌};
 ghost use Rattle.std.specs.List.{list_any};
 ghost use Rattle.at_query.specs.Ranges.{IsQueryInRange};
 ghost use Rattle.at_geojson.specs.Keeping.{Asked, needs_shapes as needs_of, tells_shapes as tells_of};
 ghost use Rattle.at_geojson.specs.Keeping.{looks_at_shapes as looks_of, looks_at_texts as texts_looked_at};
 ghost use Rattle.at_geojson.specs.Keeping.{asks_value as value_asked, asks_pair as pair_asked};
+ghost use Rattle.at_geojson.specs.Keeping.{text_tests as tests_on_texts};
 ghost use Rattle.at_geojson.specs.Keeping.{wants_value as value_wanted, wants_pair as pair_wanted};
 ghost use Rattle.at_geojson.specs.Tallies.{measured_by, measure_of};
 
@@ -13,7 +14,7 @@ use at_fixed::Coords;
 use at_query::{Query, Test, Verb};
 use std::marker::Model;
 
-/// What a query without tests asks of positions, where it keeps none of them.
+/// What a query asks of positions, where it keeps none of them and no test looks at them.
 #[derive(Clone, Copy)]
 pub enum Measure {
     /// Nothing: features are counted.
@@ -31,6 +32,8 @@ pub struct GeoAlgebra {
     digits: u8,
     how: Coords,
     needs_shapes: bool,
+    text_tests: usize,
+    measure: Option<Measure>,
 }
 
 impl Model for GeoAlgebra {
@@ -38,7 +41,8 @@ impl Model for GeoAlgebra {
 
     ghost view = { λ a. record { query = a.query; digits = a.digits; how = a.how } };
 
-    ghost invariant = { λ a. IsQueryInRange a.query × (a.needs_shapes ≡ needs_of a.query) };
+    ghost invariant = { λ a. IsQueryInRange a.query × (a.needs_shapes ≡ needs_of a.query)
+        × (a.text_tests ≡ tests_on_texts a.query.tests) × (a.measure ≡ measure_of a.query) };
 }
 
 /// Whether a verb tells something of shapes.
@@ -119,6 +123,19 @@ fn wants_pair(test: &Test, name: &[u16], value: &[u16]) -> bool
     }
 }
 
+/// How many tests look at texts.
+fn count_texts(tests: &[Test]) -> usize
+    ensures { result ≡ tests_on_texts tests.now }
+{
+    let mut count = 0;
+    for test in tests {
+        if looks_at_texts(test) {
+            count += 1;
+        }
+    }
+    count
+}
+
 /// Whether some test asks for a text of this value.
 pub fn asks_value(tests: &[Test], value: &[u16]) -> bool
     ensures { result ≡ value_asked tests.now value.now }
@@ -148,11 +165,23 @@ fn verb_measure(verb: Verb) -> Option<Measure>
     ensures { result ≡ measured_by verb }
 {
     match verb {
-        Verb::Count => Some(Measure::Count),
+        Verb::Select | Verb::Count => Some(Measure::Count),
         Verb::Area => Some(Measure::Area),
         Verb::Extent => Some(Measure::Extent),
-        Verb::Select | Verb::Hull | Verb::Join => None,
+        Verb::Hull | Verb::Join => None,
     }
+}
+
+/// What a query asks of positions, where it keeps none of them and no test looks at them.
+fn query_measure(query: &Query) -> Option<Measure>
+    ensures { result ≡ measure_of query.now }
+{
+    for test in query.tests.as_slice() {
+        if looks_at_shapes(test) {
+            return None;
+        }
+    }
+    verb_measure(query.verb)
 }
 
 impl GeoAlgebra {
@@ -162,11 +191,15 @@ impl GeoAlgebra {
         ensures { result ≡ record { query = query; digits = digits; how = how } }
     {
         let needs_shapes = needs_shapes(&query);
+        let text_tests = count_texts(query.tests.as_slice());
+        let measure = query_measure(&query);
         GeoAlgebra {
             query,
             digits,
             how,
             needs_shapes,
+            text_tests,
+            measure,
         }
     }
 
@@ -199,15 +232,24 @@ impl GeoAlgebra {
         self.needs_shapes
     }
 
-    /// What the query asks of positions, where it has no tests and keeps none of them.
+    /// Whether some test looks at texts.
+    pub(crate) fn needs_texts(&self) -> bool {
+        self.text_tests > 0
+    }
+
+    /// Whether so many are all the tests that look at texts.
+    #[inline(always)]
+    pub(crate) fn all_met(&self, met: usize) -> bool
+        ensures { result ≡ (met == tests_on_texts self.now.query.tests) }
+    {
+        met == self.text_tests
+    }
+
+    /// What the query asks of positions, where it keeps none of them and no test looks at them.
     #[inline(always)]
     pub(crate) fn measure(&self) -> Option<Measure>
         ensures { result ≡ measure_of self.now.query }
     {
-        if self.query.tests.as_slice().is_empty() {
-            verb_measure(self.query.verb)
-        } else {
-            None
-        }
+        self.measure
     }
 }

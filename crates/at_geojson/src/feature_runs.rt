@@ -1,9 +1,7 @@
 //! Features one behind another in an array, read at once: of each nothing but its part is kept, which is joined with the
 //! parts before it.
 
-ghost use Rattle.std.specs.Prelude.{◌≡◌, ◌+◌, ◌<◌, ◌≤◌, ◌^◌, false, length, slice_index, IfOk, IfSome};
-ghost use Rattle.std.specs.List.{list_any};
-ghost use Rattle.at_geojson.specs.Keeping.{looks_at_texts};
+ghost use Rattle.std.specs.Prelude.{◌≡◌, ◌+◌, ◌<◌, ◌≤◌, ◌^◌, length, slice_index, IfOk, IfSome};
 ghost use Rattle.at_geojson.specs.Atoms.{both_forms};
 ghost use Rattle.at_geojson.specs.FeatureRuns.{IsNextObject, AreFeaturesRead};
 
@@ -63,7 +61,6 @@ fn begin_features(
     requires inside { at < length text.now }
     requires opens { slice_index text.now at ≡ 0x7B }
     requires fits { base + length text.now ≤ 2 ^ 28 }
-    requires unasked { list_any looks_at_texts algebra.now.query.tests ≡ false }
     ensures { IfOk result (λ read. AreFeaturesRead algebra.now base text.now at read.end read.run.value) }
 {
     let FeatureRead { end, part } = read_feature(algebra, alloc, text, base, at)?;
@@ -72,9 +69,9 @@ fn begin_features(
     Ok(FeaturesRead { end, run })
 }
 
-/// Features one behind another in an array, where no test looks at texts, from the opening bracket of the first one on,
-/// which stands at the place. They end before the first item that is not read at once as a feature, or where joining
-/// one more feature would take long.
+/// Features one behind another in an array, from the opening bracket of the first one on, which stands at the place.
+/// They end before the first item that is not read at once as a feature, or where joining one more feature would take
+/// long.
 pub fn read_features(
     algebra: &GeoAlgebra,
     alloc: Global,
@@ -85,7 +82,6 @@ pub fn read_features(
     requires inside { at < length text.now }
     requires opens { slice_index text.now at ≡ 0x7B }
     requires fits { base + length text.now ≤ 2 ^ 28 }
-    requires unasked { list_any looks_at_texts algebra.now.query.tests ≡ false }
     ensures { IfOk result (λ read. AreFeaturesRead algebra.now base text.now at read.end read.run.value) }
 {
     let FeaturesRead { mut end, mut run } = begin_features(algebra, alloc, text, base, at)?;

@@ -1,32 +1,39 @@
-//! Features of a text, read at once where no test looks at texts: no atom is made of their members.
+//! Features of a text, read at once: no atom is made of their members.
 
-ghost use Rattle.std.specs.Prelude.{◌≡◌, ◌+◌, ◌<◌, ◌≤◌, ◌^◌, ℕ, true, false, [], None, length, slice_index, Ok, IfOk};
+ghost use Rattle.std.specs.Prelude.{◌≡◌, ◌+◌, ◌<◌, ◌≤◌, ◌^◌, true, false, [], None, Some, length, slice_index, Ok};
+ghost use Rattle.std.specs.Prelude.{◌∷◌, IfOk, IfSome};
 ghost use Rattle.std.specs.List.{list_any};
 ghost use Rattle.at_geojson.specs.Keeping.{looks_at_texts};
+ghost use Rattle.at_geom.specs.Shapes.{IsShapeInRange};
 ghost use Rattle.at_geojson.specs.Members.{IsPlainName, ArePlainOthers};
-ghost use Rattle.at_wkt.specs.Meaning.{empty_shape as nothing};
-ghost use Rattle.at_geojson.specs.Objects.{texts_in, JoinsFeature};
+ghost use Rattle.at_geojson.specs.Objects.{texts_in};
+ghost use Rattle.at_geojson.specs.Tallies.{selects};
+ghost use Rattle.at_geojson.specs.TextTests.{texts_hold};
 ghost use Rattle.at_geojson.specs.Values.{IsWhole};
-ghost use Rattle.at_geojson.specs.PlainGeometries.{HasPart};
-ghost use Rattle.at_geojson.specs.Features.{IsShapeRead, PassesProperties, ReadsField, ReadsMember};
+ghost use Rattle.at_geojson.specs.PlainGeometries.{Sees};
+ghost use Rattle.at_geojson.specs.Features.{IsShapeRead, IsTested, ReadsProperties, ReadsField, ReadsMember};
+ghost use Rattle.at_geojson.specs.Features.{IsPartOfSeen, IsPartHeld, IsPartIn, IsOwnSeen, IfOwnGeometry};
 ghost use Rattle.at_geojson.specs.Features.{EndsFeature, IsFeatureRead};
 
 use crate::asked::GeoAlgebra;
 use crate::atoms::{GeoAtom, ObjectAtom, Role};
 use crate::fields::Field;
+use crate::geometries::Geometry;
 use crate::kinds::Kind;
-use crate::measured_geometries::PartRead;
 use crate::members::{FieldName, OtherNames, add_other, field_name};
 use crate::object_atoms::new_roles;
-use crate::objects::{feature_shape, of_feature};
+use crate::objects::{feature_part, feature_shape};
 use crate::pairs::Whole;
 use crate::places::{OTHER_KIND, expect_comma, seems_cut, skip_spaces, stands};
-use crate::plain_geometries::{KindRead, ShapeRead, read_geometry, read_kind, shape_part};
-use crate::plain_objects::{pass_early, pass_object, pass_other};
+use crate::plain_geometries::{
+    KindRead, Seen, SeenRead, ShapeRead, read_geometry, read_kind, seen_shape,
+};
+use crate::plain_objects::{VoidRead, pass_early, pass_object, pass_other};
 use crate::shapes::empty_shape;
+use crate::text_tests::{all_hold, asked_pairs};
 use crate::twins::is_twin;
 use crate::values::{DEEPEST, read_item};
-use at_query::{Part, TextPairs};
+use at_query::{Offsets, Part, TextPairs, Verb, part_none};
 use at_text::{Fault, Halt, Memory};
 use std::alloc::Global;
 
@@ -45,133 +52,154 @@ pub struct FeatureRead {
 pub struct FeatureMembers {
     /// The member `type` names it a feature.
     pub is_feature: bool,
-    /// The feature's part by the member `geometry`, where there is one.
-    pub geometry: Option<Result<Part, Fault>>,
+    /// What is seen of the shape by the member `geometry`, where there is one.
+    pub geometry: Option<Result<Seen, Fault>>,
     /// There is a member `properties`, in which nothing is wrong.
     pub has_properties: bool,
+    /// All tests on texts hold of the feature's, by the member `properties`.
+    pub hold: bool,
 }
 
-/// White space, any value as a geometry, and white space, and the part of the feature at the offset that has it.
+/// Properties that were read: the place behind them, and whether all tests on texts hold of theirs.
+#[derive(Clone, Copy)]
+pub struct PropertiesRead {
+    pub end: usize,
+    pub hold: bool,
+}
+
+/// White space, any value as a geometry, and white space.
 fn other_geometry(
     algebra: &GeoAlgebra,
     alloc: Global,
     text: &[u8],
     base: u32,
     at: usize,
-    feature: u32,
-) -> Result<PartRead, Halt>
+) -> Result<SeenRead, Halt>
     requires inside { at ≤ length text.now }
     requires fits { base + length text.now ≤ 2 ^ 28 }
-    ensures { IfOk result (HasPart algebra.now feature (IsShapeRead algebra.now base text.now at)) }
+    ensures { IfOk result (Sees algebra.now (IsShapeRead algebra.now base text.now at)) }
 {
     let Whole { end, atom } = read_item(algebra, alloc, text, base, at, DEEPEST)?;
     if is_twin(&atom) {
         return Err(Halt::At(end));
     }
     let shape = feature_shape(alloc, Some(atom));
-    shape_part(algebra, alloc, feature, ShapeRead { end, shape })
+    Ok(seen_shape(ShapeRead { end, shape }))
 }
 
-/// White space, a value as a geometry, and white space, and the part of the feature at the offset that has it.
+/// White space, a value as a geometry, and white space.
 fn geometry_item(
     algebra: &GeoAlgebra,
     alloc: Global,
     text: &[u8],
     base: u32,
     at: usize,
-    feature: u32,
-) -> Result<PartRead, Halt>
+) -> Result<SeenRead, Halt>
     requires inside { at ≤ length text.now }
     requires fits { base + length text.now ≤ 2 ^ 28 }
-    requires unasked { list_any looks_at_texts algebra.now.query.tests ≡ false }
-    ensures { IfOk result (HasPart algebra.now feature (IsShapeRead algebra.now base text.now at)) }
+    ensures { IfOk result (Sees algebra.now (IsShapeRead algebra.now base text.now at)) }
 {
     let first = skip_spaces(text, at);
     if !stands(text, first, b'{') {
-        return other_geometry(algebra, alloc, text, base, at, feature);
+        return other_geometry(algebra, alloc, text, base, at);
     }
-    match read_geometry(algebra, alloc, text, base, first, feature) {
-        Ok(PartRead { end, part }) => Ok(PartRead {
+    match read_geometry(algebra, alloc, text, base, first) {
+        Ok(SeenRead { end, seen }) => Ok(SeenRead {
             end: skip_spaces(text, end),
-            part,
+            seen,
         }),
         Err(Halt::Memory) => Err(Halt::Memory),
         Err(Halt::At(place)) => if seems_cut(text, first, place) {
             Err(Halt::At(place))
         } else {
-            other_geometry(algebra, alloc, text, base, at, feature)
+            other_geometry(algebra, alloc, text, base, at)
         },
     }
 }
 
-/// Whether a value is `null` or an object without texts for which the query asks.
-fn has_no_texts(atom: &GeoAtom) -> bool
-    ensures { result ≡ true → texts_in atom.now ≡ Ok [] }
+/// Whether all tests on texts hold of those of a value as properties; nothing where it is neither null nor an object.
+fn texts_tested(algebra: &GeoAlgebra, atom: &GeoAtom) -> Option<bool>
+    ensures { IfSome result (IsTested algebra.now.query.tests (texts_in atom.now)) }
 {
+    let tests = algebra.query().tests.as_slice();
     match atom {
-        GeoAtom::Null(_) | GeoAtom::Void(_) => true,
-        GeoAtom::Object(object) => object.roles.texts.as_slice().is_empty(),
-        _ => false,
+        GeoAtom::Null(_) | GeoAtom::Void(_) => Some(all_hold(tests, &[])),
+        GeoAtom::Object(object) => Some(all_hold(tests, object.roles.texts.as_slice())),
+        _ => None,
     }
 }
 
-/// White space, any value as properties in which nothing is wrong and for whose texts no test asks, and white space.
+/// White space, any value as properties in which nothing is wrong, and white space.
 fn other_properties(
     algebra: &GeoAlgebra,
     alloc: Global,
     text: &[u8],
     base: u32,
     at: usize,
-) -> Result<usize, Halt>
+) -> Result<PropertiesRead, Halt>
     requires inside { at ≤ length text.now }
     requires fits { base + length text.now ≤ 2 ^ 28 }
-    ensures { IfOk result (PassesProperties algebra.now base text.now at) }
+    ensures { IfOk result (ReadsProperties algebra.now base text.now at) }
 {
     let Whole { end, atom } = read_item(algebra, alloc, text, base, at, DEEPEST)?;
     if is_twin(&atom) {
         return Err(Halt::At(end));
     }
-    if !has_no_texts(&atom) {
-        return Err(Halt::At(OTHER_KIND));
+    match texts_tested(algebra, &atom) {
+        Some(hold) => Ok(PropertiesRead { end, hold }),
+        None => Err(Halt::At(OTHER_KIND)),
     }
-    Ok(end)
+}
+
+/// Whether a value that was given up at a place is read in another way: one of another kind, and where texts are asked
+/// for, each that doesn't seem to be cut.
+pub fn is_read_again(algebra: &GeoAlgebra, text: &[u8], first: usize, place: usize) -> bool {
+    place == OTHER_KIND || (algebra.needs_texts() && !seems_cut(text, first, place))
 }
 
 /// White space, a value as properties in which nothing is wrong, and white space.
-fn pass_properties(
+fn read_properties(
     algebra: &GeoAlgebra,
     alloc: Global,
     text: &[u8],
     base: u32,
     at: usize,
-) -> Result<usize, Halt>
+) -> Result<PropertiesRead, Halt>
     requires inside { at ≤ length text.now }
     requires fits { base + length text.now ≤ 2 ^ 28 }
-    requires unasked { list_any looks_at_texts algebra.now.query.tests ≡ false }
-    ensures { IfOk result (PassesProperties algebra.now base text.now at) }
+    ensures { IfOk result (ReadsProperties algebra.now base text.now at) }
 {
     let first = skip_spaces(text, at);
     if !stands(text, first, b'{') {
         return other_properties(algebra, alloc, text, base, at);
     }
     match pass_object(algebra, alloc, text, base, first) {
-        Ok(end) => Ok(skip_spaces(text, end)),
-        Err(Halt::At(OTHER_KIND)) => other_properties(algebra, alloc, text, base, at),
-        Err(halt) => Err(halt),
+        Ok(VoidRead { end, met }) => Ok(PropertiesRead {
+            end: skip_spaces(text, end),
+            hold: algebra.all_met(met),
+        }),
+        Err(Halt::Memory) => Err(Halt::Memory),
+        Err(Halt::At(place)) => if is_read_again(algebra, text, first, place) {
+            other_properties(algebra, alloc, text, base, at)
+        } else {
+            Err(Halt::At(place))
+        },
     }
 }
 
 impl FeatureMembers {
     /// No members.
-    fn none() -> FeatureMembers
+    fn none(algebra: &GeoAlgebra) -> FeatureMembers
         ensures kind { result.is_feature ≡ false }
         ensures geometry { result.geometry ≡ None }
         ensures properties { result.has_properties ≡ false }
+        ensures hold { result.hold ≡ texts_hold algebra.now.query.tests [] }
     {
         FeatureMembers {
             is_feature: false,
             geometry: None,
             has_properties: false,
+            hold: algebra.all_met(0),
         }
     }
 
@@ -212,9 +240,7 @@ fn kind_member(
 ) -> Result<usize, Halt>
     requires inside { at ≤ length text.now }
     requires fits { base + length text.now ≤ 2 ^ 28 }
-    requires unasked { list_any looks_at_texts algebra.now.query.tests ≡ false }
-    ensures { IfOk result (λ end. (feature : ℕ)
-        → ReadsField algebra.now feature base text.now at Field.Kind members.old members.new end) }
+    ensures { IfOk result (ReadsField algebra.now base text.now at Field.Kind members.old members.new) }
 {
     let KindRead { end, kind } = read_kind(algebra, text, base, at)?;
     if members.is_feature {
@@ -227,7 +253,7 @@ fn kind_member(
     Ok(end)
 }
 
-/// The value of the member `geometry` of the feature at the offset, with white space round it.
+/// The value of the member `geometry`, with white space round it.
 #[inline(always)]
 fn geometry_member(
     algebra: &GeoAlgebra,
@@ -235,19 +261,17 @@ fn geometry_member(
     text: &[u8],
     base: u32,
     at: usize,
-    feature: u32,
     members: &mut FeatureMembers,
 ) -> Result<usize, Halt>
     requires inside { at ≤ length text.now }
     requires fits { base + length text.now ≤ 2 ^ 28 }
-    requires unasked { list_any looks_at_texts algebra.now.query.tests ≡ false }
-    ensures { IfOk result (ReadsField algebra.now feature base text.now at Field.Geometry members.old members.new) }
+    ensures { IfOk result (ReadsField algebra.now base text.now at Field.Geometry members.old members.new) }
 {
-    let PartRead { end, part } = geometry_item(algebra, alloc, text, base, at, feature)?;
+    let SeenRead { end, seen } = geometry_item(algebra, alloc, text, base, at)?;
     if members.geometry.is_some() {
         return Err(Halt::At(end));
     }
-    members.geometry = Some(part);
+    members.geometry = Some(seen);
     Ok(end)
 }
 
@@ -263,21 +287,20 @@ fn properties_member(
 ) -> Result<usize, Halt>
     requires inside { at ≤ length text.now }
     requires fits { base + length text.now ≤ 2 ^ 28 }
-    requires unasked { list_any looks_at_texts algebra.now.query.tests ≡ false }
-    ensures { IfOk result (λ end. (feature : ℕ)
-        → ReadsField algebra.now feature base text.now at Field.Properties members.old members.new end) }
+    ensures { IfOk result (ReadsField algebra.now base text.now at Field.Properties members.old members.new) }
 {
-    let end = pass_properties(algebra, alloc, text, base, at)?;
+    let PropertiesRead { end, hold } = read_properties(algebra, alloc, text, base, at)?;
     if members.has_properties {
         return Err(Halt::At(end));
     }
     members.has_properties = true;
+    members.hold = hold;
     Ok(end)
 }
 
-/// A member of the feature at the offset, behind its name. Of those of one name the first alone is read. Before the
-/// first of a feature's own members few others are passed over, and none in which arrays and objects stand in one
-/// another: an object that is no feature is soon given up.
+/// A member of a feature, behind its name. Of those of one name the first alone is read. Before the first of a feature's
+/// own members few others are passed over, and none in which arrays and objects stand in one another: an object that is
+/// no feature is soon given up.
 #[inline(always)]
 fn read_member(
     algebra: &GeoAlgebra,
@@ -285,22 +308,19 @@ fn read_member(
     text: &[u8],
     base: u32,
     name: FieldName,
-    feature: u32,
     members: &mut FeatureMembers,
     others: &mut OtherNames,
 ) -> Result<usize, Halt>
     requires inside { name.place.colon < length text.now }
     requires fits { base + length text.now ≤ 2 ^ 28 }
-    requires unasked { list_any looks_at_texts algebra.now.query.tests ≡ false }
     requires plain { IsPlainName text.now name.place }
     requires names { ArePlainOthers text.now others.old }
-    ensures { IfOk result (ReadsMember algebra.now feature base text.now name members.old members.new others.old
-        others.new) }
+    ensures { IfOk result (ReadsMember algebra.now base text.now name members.old members.new others.old others.new) }
 {
     let at = name.place.colon + 1;
     match name.field {
         Field::Kind => kind_member(algebra, text, base, at, members),
-        Field::Geometry => geometry_member(algebra, alloc, text, base, at, feature, members),
+        Field::Geometry => geometry_member(algebra, alloc, text, base, at, members),
         Field::Properties => properties_member(algebra, alloc, text, base, at, members),
         Field::Other => {
             let begun = members.has_begun();
@@ -318,19 +338,103 @@ fn read_member(
     }
 }
 
-/// The part of the feature at the offset, which has no geometry.
-fn part_without_geometry(
+/// The offset, as a list.
+fn one_offset(alloc: Global, at: u32) -> Result<Offsets, Memory>
+    ensures { IfOk result (λ offsets. offsets ≡ at ∷ []) }
+{
+    let mut items = Vec::with_capacity(alloc, 1)?;
+    items.push(at)?;
+    Ok(Offsets::from_vec(items))
+}
+
+/// Whether a verb asks for the offsets of features.
+fn asks_offsets(verb: Verb) -> bool
+    ensures { result ≡ selects verb }
+{
+    match verb {
+        Verb::Select => true,
+        _ => false,
+    }
+}
+
+/// The part of the feature at the offset of which the measure tells this part, where all tests on texts hold of its.
+#[inline(always)]
+fn measured_part(algebra: &GeoAlgebra, alloc: Global, at: u32, part: Part) -> Result<Part, Memory>
+    ensures { IfOk result (IsPartOfSeen algebra.now at (Seen.Measured part)) }
+{
+    if asks_offsets(algebra.query().verb) {
+        Ok(Part::Offsets(one_offset(alloc, at)?))
+    } else {
+        Ok(part)
+    }
+}
+
+/// The part of the feature at the offset that has the shape, where all tests on texts hold of its.
+fn shape_part(algebra: &GeoAlgebra, alloc: Global, at: u32, shape: Geometry) -> Result<Part, Memory>
+    requires { IsShapeInRange shape }
+    ensures { IfOk result (IsPartOfSeen algebra.now at (Seen.Shape shape)) }
+{
+    let texts = asked_pairs(alloc, algebra.query().tests.as_slice())?;
+    feature_part(alloc, algebra, at, shape, texts)
+}
+
+/// The part of the feature at the offset of whose shape this is seen, where all tests on texts hold of its.
+#[inline(always)]
+fn seen_part(algebra: &GeoAlgebra, alloc: Global, at: u32, seen: Seen) -> Result<Part, Memory>
+    requires { IsOwnSeen seen }
+    ensures { IfOk result (IsPartOfSeen algebra.now at seen) }
+{
+    match seen {
+        Seen::Measured(part) => measured_part(algebra, alloc, at, part),
+        Seen::Shape(shape) => shape_part(algebra, alloc, at, shape),
+    }
+}
+
+/// The part of the feature at the offset of whose shape this is seen, and whether all tests on texts hold of its.
+#[inline(always)]
+fn held_part(
     algebra: &GeoAlgebra,
     alloc: Global,
     at: u32,
-) -> Result<Result<Part, Fault>, Memory>
-    ensures { IfOk result (JoinsFeature algebra.now.query at (Ok nothing) (Ok [])) }
+    seen: Seen,
+    hold: bool,
+) -> Result<Part, Memory>
+    requires { IsOwnSeen seen }
+    ensures { IfOk result (IsPartHeld algebra.now at seen hold) }
 {
-    let texts = TextPairs::from_vec(Vec::new(alloc));
-    of_feature(alloc, algebra, at, Ok(empty_shape(alloc)), Ok(texts))
+    if hold {
+        seen_part(algebra, alloc, at, seen)
+    } else {
+        Ok(part_none(alloc, algebra.query()))
+    }
+}
+
+/// The same by what is seen of the member `geometry`, where there is one.
+#[inline(always)]
+fn part_in(
+    algebra: &GeoAlgebra,
+    alloc: Global,
+    at: u32,
+    geometry: Option<Result<Seen, Fault>>,
+    hold: bool,
+) -> Result<Result<Part, Fault>, Memory>
+    requires { IfOwnGeometry geometry }
+    ensures { IfOk result (IsPartIn algebra.now at geometry hold) }
+{
+    match geometry {
+        None => {
+            let seen = Seen::Shape(empty_shape(alloc));
+            Ok(Ok(held_part(algebra, alloc, at, seen, hold)?))
+        }
+        Some(found) => match found {
+            Ok(seen) => Ok(Ok(held_part(algebra, alloc, at, seen, hold)?)),
+            Err(fault) => Ok(Err(fault)),
+        },
+    }
 }
 
 /// A feature of its members, whose closing bracket stands before the place.
+#[inline(always)]
 fn ended_feature(
     algebra: &GeoAlgebra,
     alloc: Global,
@@ -338,21 +442,17 @@ fn ended_feature(
     end: usize,
     members: FeatureMembers,
 ) -> Result<FeatureRead, Halt>
+    requires { IfOwnGeometry members.geometry }
     ensures { IfOk result (EndsFeature algebra.now at end members) }
 {
     if !members.is_feature {
         return Err(Halt::At(OTHER_KIND));
     }
-    match members.geometry {
-        Some(part) => Ok(FeatureRead { end, part }),
-        None => {
-            let part = part_without_geometry(algebra, alloc, at)?;
-            Ok(FeatureRead { end, part })
-        }
-    }
+    let part = part_in(algebra, alloc, at, members.geometry, members.hold)?;
+    Ok(FeatureRead { end, part })
 }
 
-/// A feature where no test looks at texts, from its opening bracket on, which stands at the place.
+/// A feature from its opening bracket on, which stands at the place.
 pub fn read_feature(
     algebra: &GeoAlgebra,
     alloc: Global,
@@ -363,25 +463,15 @@ pub fn read_feature(
     requires inside { at < length text.now }
     requires opens { slice_index text.now at ≡ 0x7B }
     requires fits { base + length text.now ≤ 2 ^ 28 }
-    requires unasked { list_any looks_at_texts algebra.now.query.tests ≡ false }
     ensures { IfOk result (IsFeatureRead algebra.now base text.now at) }
 {
     let feature = base + at as u32;
-    let mut members = FeatureMembers::none();
+    let mut members = FeatureMembers::none(algebra);
     let mut others = OtherNames::none(alloc);
     let mut place = at + 1;
     'members: loop {
         let name = field_name(text, place)?;
-        let end = read_member(
-            algebra,
-            alloc,
-            text,
-            base,
-            name,
-            feature,
-            &mut members,
-            &mut others,
-        )?;
+        let end = read_member(algebra, alloc, text, base, name, &mut members, &mut others)?;
         if stands(text, end, b'}') {
             return ended_feature(algebra, alloc, feature, end + 1, members);
         }
@@ -390,7 +480,7 @@ pub fn read_feature(
     }
 }
 
-/// A feature as a value.
+/// A feature as a value, where no test looks at texts.
 pub fn feature_value(
     algebra: &GeoAlgebra,
     alloc: Global,

@@ -49,6 +49,7 @@ mod shapes;
 mod short_texts;
 mod sorts;
 mod tallies;
+mod text_tests;
 mod texts;
 mod tracks;
 mod twins;

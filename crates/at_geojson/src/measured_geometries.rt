@@ -6,7 +6,7 @@ ghost use Rattle.at_geojson.specs.Keeping.{needs_shapes as needs_of};
 ghost use Rattle.at_geojson.specs.Values.{IsPair};
 ghost use Rattle.at_geojson.specs.Tallies.{measure_of, TalliesShape, IsPartOfShape, part_unless};
 ghost use Rattle.at_geojson.specs.Measures.{EndsPair};
-ghost use Rattle.at_geojson.specs.PlainGeometries.{AreCoordinatesOf, HaveParts};
+ghost use Rattle.at_geojson.specs.PlainGeometries.{AreCoordinatesOf, HasMeasured};
 
 use crate::asked::{GeoAlgebra, Measure};
 use crate::kinds::Kind;
@@ -17,7 +17,7 @@ use at_query::Part;
 use at_text::{Fault, Halt};
 use std::alloc::Global;
 
-/// A geometry that was read: the place behind it, and the part of a feature that has it, or its first fault.
+/// Coordinates that were measured: the place behind them, and the part of a feature that has them, or their first fault.
 #[derive(Drop)]
 pub struct PartRead {
     pub end: usize,
@@ -69,7 +69,7 @@ fn count_point(algebra: &GeoAlgebra, text: &[u8], base: u32, at: usize) -> Resul
     requires inside { at < length text.now }
     requires fits { base + length text.now ≤ 2 ^ 28 }
     requires asked { measure_of algebra.now.query ≡ Some Measure.Count }
-    ensures { IfOk result (HaveParts algebra.now (AreCoordinatesOf algebra.now base text.now at Kind.Point)) }
+    ensures { IfOk result (HasMeasured Measure.Count (AreCoordinatesOf algebra.now base text.now at Kind.Point)) }
 {
     let Some(end) = point_end(algebra, text, base, at) else {
         return Err(Halt::At(at));
@@ -92,7 +92,7 @@ fn fold_point(
     requires fits { base + length text.now ≤ 2 ^ 28 }
     requires asked { measure_of algebra.now.query ≡ Some measure }
     requires needed { needs_of algebra.now.query ≡ true }
-    ensures { IfOk result (HaveParts algebra.now (AreCoordinatesOf algebra.now base text.now at Kind.Point)) }
+    ensures { IfOk result (HasMeasured measure (AreCoordinatesOf algebra.now base text.now at Kind.Point)) }
 {
     let Some(PairRead { end, pair }) = read_pair(algebra, text, base, at) else {
         return Err(Halt::At(at));
@@ -116,7 +116,7 @@ fn measure_point(
     requires inside { at < length text.now }
     requires fits { base + length text.now ≤ 2 ^ 28 }
     requires asked { measure_of algebra.now.query ≡ Some measure }
-    ensures { IfOk result (HaveParts algebra.now (AreCoordinatesOf algebra.now base text.now at Kind.Point)) }
+    ensures { IfOk result (HasMeasured measure (AreCoordinatesOf algebra.now base text.now at Kind.Point)) }
 {
     match measure {
         Measure::Count => count_point(algebra, text, base, at),
@@ -138,7 +138,7 @@ fn measure_multi_point(
     requires opens { slice_index text.now at ≡ 0x5B }
     requires fits { base + length text.now ≤ 2 ^ 28 }
     requires asked { measure_of algebra.now.query ≡ Some measure }
-    ensures { IfOk result (HaveParts algebra.now (AreCoordinatesOf algebra.now base text.now at Kind.MultiPoint)) }
+    ensures { IfOk result (HasMeasured measure (AreCoordinatesOf algebra.now base text.now at Kind.MultiPoint)) }
 {
     let points = measure_points(algebra, alloc, measure, None, text, base, at)?;
     let part = measured_part(measure, points.tally.flat());
@@ -162,7 +162,7 @@ fn measure_line(
     requires opens { slice_index text.now at ≡ 0x5B }
     requires fits { base + length text.now ≤ 2 ^ 28 }
     requires asked { measure_of algebra.now.query ≡ Some measure }
-    ensures { IfOk result (HaveParts algebra.now (AreCoordinatesOf algebra.now base text.now at Kind.LineString)) }
+    ensures { IfOk result (HasMeasured measure (AreCoordinatesOf algebra.now base text.now at Kind.LineString)) }
 {
     let points = measure_points(algebra, alloc, measure, None, text, base, at)?;
     let part = measured_part(measure, points.tally.flat());
@@ -185,7 +185,7 @@ fn measure_multi_line(
     requires opens { slice_index text.now at ≡ 0x5B }
     requires fits { base + length text.now ≤ 2 ^ 28 }
     requires asked { measure_of algebra.now.query ≡ Some measure }
-    ensures { IfOk result (HaveParts algebra.now (AreCoordinatesOf algebra.now base text.now at Kind.MultiLineString)) }
+    ensures { IfOk result (HasMeasured measure (AreCoordinatesOf algebra.now base text.now at Kind.MultiLineString)) }
 {
     let lists = measure_lists(algebra, alloc, measure, None, text, base, at)?;
     let part = measured_part(measure, lists.tally.flat());
@@ -209,7 +209,7 @@ fn measure_polygon(
     requires opens { slice_index text.now at ≡ 0x5B }
     requires fits { base + length text.now ≤ 2 ^ 28 }
     requires asked { measure_of algebra.now.query ≡ Some measure }
-    ensures { IfOk result (HaveParts algebra.now (AreCoordinatesOf algebra.now base text.now at Kind.Polygon)) }
+    ensures { IfOk result (HasMeasured measure (AreCoordinatesOf algebra.now base text.now at Kind.Polygon)) }
 {
     let lists = measure_lists(algebra, alloc, measure, None, text, base, at)?;
     let part = measured_part(measure, lists.tally);
@@ -232,7 +232,7 @@ fn measure_multi_polygon(
     requires opens { slice_index text.now at ≡ 0x5B }
     requires fits { base + length text.now ≤ 2 ^ 28 }
     requires asked { measure_of algebra.now.query ≡ Some measure }
-    ensures { IfOk result (HaveParts algebra.now (AreCoordinatesOf algebra.now base text.now at Kind.MultiPolygon)) }
+    ensures { IfOk result (HasMeasured measure (AreCoordinatesOf algebra.now base text.now at Kind.MultiPolygon)) }
 {
     let areas = measure_areas(algebra, alloc, measure, text, base, at)?;
     let part = measured_part(measure, areas.tally);
@@ -243,7 +243,7 @@ fn measure_multi_polygon(
 }
 
 /// The coordinates of a geometry of the kind, from their opening bracket on, which stands at the place, and the part of
-/// a feature that has them. It is the same for each feature, as no offset is asked for.
+/// a feature that has them. It is the same for each feature: for `select` it is that of `count`.
 #[inline(always)]
 pub fn measure_coordinates(
     algebra: &GeoAlgebra,
@@ -258,7 +258,7 @@ pub fn measure_coordinates(
     requires opens { slice_index text.now at ≡ 0x5B }
     requires fits { base + length text.now ≤ 2 ^ 28 }
     requires asked { measure_of algebra.now.query ≡ Some measure }
-    ensures { IfOk result (HaveParts algebra.now (AreCoordinatesOf algebra.now base text.now at kind)) }
+    ensures { IfOk result (HasMeasured measure (AreCoordinatesOf algebra.now base text.now at kind)) }
 {
     match kind {
         Kind::Point => measure_point(algebra, measure, text, base, at),

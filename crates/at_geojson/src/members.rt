@@ -46,6 +46,15 @@ pub struct FieldName {
     pub field: Field,
 }
 
+/// The bytes of a plain name, which are its units.
+#[inline(always)]
+pub fn name_bytes(text: &[u8], name: NamePlace) -> &[u8]
+    requires { IsPlainName text.now name }
+    ensures { result.now ≡ name_in text.now name }
+{
+    &text[name.first + 1..name.end - 1]
+}
+
 /// Whether two names are the same.
 #[inline(always)]
 fn is_same(text: &[u8], a: NamePlace, b: NamePlace) -> bool

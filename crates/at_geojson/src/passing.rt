@@ -1,8 +1,6 @@
 //! Strings, literals and numbers of which nothing is kept.
 
-ghost use Rattle.std.specs.Prelude.{◌≡◌, ◌<◌, ◌≤◌, ◌^◌, length, false, IfSome};
-ghost use Rattle.std.specs.List.{list_any};
-ghost use Rattle.at_geojson.specs.Keeping.{looks_at_texts};
+ghost use Rattle.std.specs.Prelude.{◌≤◌, ◌^◌, length, IfSome};
 ghost use Rattle.at_geojson.specs.Members.{PassesItem};
 ghost use Rattle.at_geojson.specs.Places.{IsScalarAt};
 
@@ -58,11 +56,10 @@ fn pass_scalar(text: &[u8], at: usize) -> Option<usize>
     }
 }
 
-/// A string, literal or number with white space round it, where no test looks at texts.
+/// A string, literal or number with white space round it.
 pub fn pass_item(algebra: &GeoAlgebra, text: &[u8], at: usize) -> Option<usize>
     requires inside { at ≤ length text.now }
     requires short { length text.now ≤ 2 ^ 28 }
-    requires unasked { list_any looks_at_texts algebra.now.query.tests ≡ false }
     ensures { IfSome result (PassesItem algebra.now text.now at) }
 {
     let _ = algebra;

@@ -1,26 +1,22 @@
 //! Geometries of a type and of coordinates that are written plainly, read at once: no atom is made of them.
 
-ghost use Rattle.std.specs.Prelude.{◌≡◌, ◌+◌, ◌<◌, ◌≤◌, ◌^◌, false, length, slice_index, IfOk};
-ghost use Rattle.std.specs.List.{list_any};
-ghost use Rattle.at_geojson.specs.Keeping.{looks_at_texts};
-ghost use Rattle.at_geojson.specs.Atoms.{IfOwnShape};
+ghost use Rattle.std.specs.Prelude.{◌≡◌, ◌+◌, ◌<◌, ◌≤◌, ◌^◌, length, slice_index, IfOk};
 ghost use Rattle.at_geojson.specs.PlainGeometries.{IsKindRead, AreCoordinatesOf, IsCoordinatesItem, IsGeometryRead};
-ghost use Rattle.at_geojson.specs.PlainGeometries.{JoinsShape, HasPart};
+ghost use Rattle.at_geojson.specs.PlainGeometries.{SeesPart, SeesShape, Sees};
 
 use crate::asked::GeoAlgebra;
-use crate::fields::{is_coordinates, is_kind, kind_named};
+use crate::fields::{is_coordinates, is_kind};
 use crate::geometries::Geometry;
-use crate::kinds::Kind;
+use crate::kinds::{Kind, kind_of_bytes};
 use crate::known_names::{begins_collection, known_kind};
 use crate::makings::{read_areas, read_lists, read_points};
 use crate::measured_geometries::{PartRead, measure_coordinates};
 use crate::members::field_name;
-use crate::objects::of_feature;
-use crate::pairs::{PairRead, Whole, read_pair};
+use crate::pairs::{PairRead, read_pair};
 use crate::places::{OTHER_KIND, expect_comma, skip_spaces, stands};
 use crate::readings::{line_of, lines_of, point_of, points_of, polygon_of, polygons_of};
-use crate::values::read_simple;
-use at_query::TextPairs;
+use crate::short_texts::{SimpleItem, simple_item};
+use at_query::Part;
 use at_text::{Fault, Halt};
 use std::alloc::Global;
 
@@ -36,6 +32,21 @@ pub struct KindRead {
 pub struct ShapeRead {
     pub end: usize,
     pub shape: Result<Geometry, Fault>,
+}
+
+/// What is seen of a shape: what is told of it in its place, or the shape itself.
+#[derive(Drop)]
+pub enum Seen {
+    /// The part of a feature that has the shape, where the query measures shapes; for `select` that of `count`.
+    Measured(Part),
+    Shape(Geometry),
+}
+
+/// A geometry that was read: the place behind it, and what is seen of its shape or its first fault.
+#[derive(Drop)]
+pub struct SeenRead {
+    pub end: usize,
+    pub seen: Result<Seen, Fault>,
 }
 
 /// Where an object is given up whose kind isn't named by a short text. A collection of features isn't read as a value
@@ -55,13 +66,14 @@ fn long_kind(text: &[u8], at: usize) -> usize
 fn any_kind(algebra: &GeoAlgebra, text: &[u8], base: u32, at: usize) -> Result<KindRead, Halt>
     requires inside { at ≤ length text.now }
     requires fits { base + length text.now ≤ 2 ^ 28 }
-    requires unasked { list_any looks_at_texts algebra.now.query.tests ≡ false }
     ensures { IfOk result (IsKindRead algebra.now base text.now at) }
 {
-    let Some(Whole { end, atom }) = read_simple(algebra, text, base, at) else {
+    let _ = algebra;
+    let _ = base;
+    let Some(SimpleItem { first, last, end }) = simple_item(text, at) else {
         return Err(Halt::At(long_kind(text, at)));
     };
-    match kind_named(&atom) {
+    match kind_of_bytes(&text[first + 1..last - 1]) {
         Some(kind) => Ok(KindRead { end, kind }),
         None => Err(Halt::At(OTHER_KIND)),
     }
@@ -72,7 +84,6 @@ fn any_kind(algebra: &GeoAlgebra, text: &[u8], base: u32, at: usize) -> Result<K
 pub fn read_kind(algebra: &GeoAlgebra, text: &[u8], base: u32, at: usize) -> Result<KindRead, Halt>
     requires inside { at ≤ length text.now }
     requires fits { base + length text.now ≤ 2 ^ 28 }
-    requires unasked { list_any looks_at_texts algebra.now.query.tests ≡ false }
     ensures { IfOk result (IsKindRead algebra.now base text.now at) }
 {
     let first = skip_spaces(text, at);
@@ -235,46 +246,64 @@ fn read_coordinates_of(
     }
 }
 
-/// The part of the feature at the offset that has this shape and no texts for which the query asks.
-pub fn shape_part(
-    algebra: &GeoAlgebra,
-    alloc: Global,
-    feature: u32,
-    read: ShapeRead,
-) -> Result<PartRead, Halt>
-    requires { IfOwnShape algebra.now read.shape }
-    ensures { IfOk result (JoinsShape algebra.now feature read) }
+/// What is seen where the part that a measure tells was read.
+#[inline(always)]
+fn seen_part(read: PartRead) -> SeenRead
+    ensures { SeesPart read result }
 {
-    let texts = TextPairs::from_vec(Vec::new(alloc));
-    let part = of_feature(alloc, algebra, feature, read.shape, Ok(texts))?;
-    Ok(PartRead {
-        end: read.end,
-        part,
-    })
+    let PartRead { end, part } = read;
+    match part {
+        Ok(part) => SeenRead {
+            end,
+            seen: Ok(Seen::Measured(part)),
+        },
+        Err(fault) => SeenRead {
+            end,
+            seen: Err(fault),
+        },
+    }
 }
 
-/// The coordinates of a geometry of the kind, from their opening bracket on, which stands at the place, and the part of
-/// the feature at the offset that has them.
+/// What is seen where a shape was read.
 #[inline(always)]
-fn read_part_of(
+pub fn seen_shape(read: ShapeRead) -> SeenRead
+    ensures { SeesShape read result }
+{
+    let ShapeRead { end, shape } = read;
+    match shape {
+        Ok(shape) => SeenRead {
+            end,
+            seen: Ok(Seen::Shape(shape)),
+        },
+        Err(fault) => SeenRead {
+            end,
+            seen: Err(fault),
+        },
+    }
+}
+
+/// The coordinates of a geometry of the kind, from their opening bracket on, which stands at the place, and what is seen
+/// of them.
+#[inline(always)]
+fn see_coordinates_of(
     algebra: &GeoAlgebra,
     alloc: Global,
     text: &[u8],
     base: u32,
     at: usize,
     kind: Kind,
-    feature: u32,
-) -> Result<PartRead, Halt>
+) -> Result<SeenRead, Halt>
     requires inside { at < length text.now }
     requires opens { slice_index text.now at ≡ 0x5B }
     requires fits { base + length text.now ≤ 2 ^ 28 }
-    ensures { IfOk result (HasPart algebra.now feature (AreCoordinatesOf algebra.now base text.now at kind)) }
+    ensures { IfOk result (Sees algebra.now (AreCoordinatesOf algebra.now base text.now at kind)) }
 {
     if let Some(measure) = algebra.measure() {
-        return measure_coordinates(algebra, alloc, measure, text, base, at, kind);
+        let read = measure_coordinates(algebra, alloc, measure, text, base, at, kind)?;
+        return Ok(seen_part(read));
     }
     let read = read_coordinates_of(algebra, alloc, text, base, at, kind)?;
-    shape_part(algebra, alloc, feature, read)
+    Ok(seen_shape(read))
 }
 
 /// White space, the coordinates of a geometry of the kind, and white space.
@@ -286,36 +315,33 @@ fn coordinates_item(
     base: u32,
     at: usize,
     kind: Kind,
-    feature: u32,
-) -> Result<PartRead, Halt>
+) -> Result<SeenRead, Halt>
     requires inside { at ≤ length text.now }
     requires fits { base + length text.now ≤ 2 ^ 28 }
-    ensures { IfOk result (HasPart algebra.now feature (IsCoordinatesItem algebra.now base text.now at kind)) }
+    ensures { IfOk result (Sees algebra.now (IsCoordinatesItem algebra.now base text.now at kind)) }
 {
     let first = skip_spaces(text, at);
     if !stands(text, first, b'[') {
         return Err(Halt::At(first));
     }
-    let PartRead { end, part } = read_part_of(algebra, alloc, text, base, first, kind, feature)?;
+    let SeenRead { end, seen } = see_coordinates_of(algebra, alloc, text, base, first, kind)?;
     let end = skip_spaces(text, end);
-    Ok(PartRead { end, part })
+    Ok(SeenRead { end, seen })
 }
 
-/// A geometry of two members, `type` and `coordinates`, from its opening bracket on, which stands at the place, and the
-/// part of the feature at the offset that has it.
+/// A geometry of two members, `type` and `coordinates`, from its opening bracket on, which stands at the place, and what
+/// is seen of it.
 pub fn read_geometry(
     algebra: &GeoAlgebra,
     alloc: Global,
     text: &[u8],
     base: u32,
     at: usize,
-    feature: u32,
-) -> Result<PartRead, Halt>
+) -> Result<SeenRead, Halt>
     requires inside { at < length text.now }
     requires opens { slice_index text.now at ≡ 0x7B }
     requires fits { base + length text.now ≤ 2 ^ 28 }
-    requires unasked { list_any looks_at_texts algebra.now.query.tests ≡ false }
-    ensures { IfOk result (HasPart algebra.now feature (IsGeometryRead algebra.now base text.now at)) }
+    ensures { IfOk result (Sees algebra.now (IsGeometryRead algebra.now base text.now at)) }
 {
     let first = field_name(text, at + 1)?;
     if !is_kind(first.field) {
@@ -327,17 +353,16 @@ pub fn read_geometry(
     if !is_coordinates(second.field) {
         return Err(Halt::At(second.place.end));
     }
-    let PartRead { end, part } = coordinates_item(
+    let SeenRead { end, seen } = coordinates_item(
         algebra,
         alloc,
         text,
         base,
         second.place.colon + 1,
         named.kind,
-        feature,
     )?;
     if !stands(text, end, b'}') {
         return Err(Halt::At(end));
     }
-    Ok(PartRead { end: end + 1, part })
+    Ok(SeenRead { end: end + 1, seen })
 }

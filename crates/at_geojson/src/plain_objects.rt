@@ -1,25 +1,40 @@
-//! Objects that name no kind, passed over where no test looks at texts: no atom is made of their members.
+//! Objects that name no kind, of which no more is told than how many tests on texts theirs meet: no atom is made of their
+//! members.
 
-ghost use Rattle.std.specs.Prelude.{◌≡◌, ◌+◌, ◌<◌, ◌≤◌, ◌^◌, false, length, slice_index, IfOk};
-ghost use Rattle.std.specs.List.{list_any};
-ghost use Rattle.at_geojson.specs.Keeping.{looks_at_texts};
+ghost use Rattle.std.specs.Prelude.{◌≡◌, ◌+◌, ◌<◌, ◌≤◌, ◌^◌, length, slice_index, IfOk};
 ghost use Rattle.at_geojson.specs.Members.{IsPlainName, ArePlainOthers};
-ghost use Rattle.at_geojson.specs.Features.{PassesOther, NamesNoKind, NameNoKind, ReadsValue, ReadsVoid};
-ghost use Rattle.at_geojson.specs.Features.{IsVoid};
+ghost use Rattle.at_geojson.specs.Features.{PassesOther, MeetsTexts, NamesNoKind, ReadsVoid, IsTexted};
 
 use crate::asked::GeoAlgebra;
-use crate::fields::{Field, kind_named};
-use crate::members::{FieldName, OtherNames, add_other, field_name};
+use crate::fields::Field;
+use crate::kinds::kind_of_bytes;
+use crate::members::{FieldName, OtherNames, add_other, field_name, name_bytes};
 use crate::pairs::Whole;
 use crate::passing::pass_item;
-use crate::places::{OTHER_KIND, expect_comma, skip_spaces, stands};
+use crate::places::{NamePlace, OTHER_KIND, expect_comma, skip_spaces, stands};
+use crate::short_texts::{SimpleItem, simple_item};
+use crate::text_tests::{asks_name, met_by_atom, met_by_bytes};
 use crate::twins::is_twin;
-use crate::values::{DEEPEST, read_item, read_simple};
+use crate::values::{DEEPEST, read_item};
 use at_text::Halt;
 use std::alloc::Global;
 
 /// So deep stand brackets in an array of numbers, as `bbox` is.
 const FLAT: u8 = 1;
+
+/// The members of an object that were passed over: whether one of them is `type`, and how many tests on texts they meet.
+#[derive(Clone, Copy)]
+pub struct VoidMembers {
+    pub named: bool,
+    pub met: usize,
+}
+
+/// An object that was passed over: the place behind it, and how many tests on texts its members meet.
+#[derive(Clone, Copy)]
+pub struct VoidRead {
+    pub end: usize,
+    pub met: usize,
+}
 
 /// White space, a value in which brackets stand at most so deep, and white space.
 #[inline(always)]
@@ -33,7 +48,6 @@ pub fn pass_other(
 ) -> Result<usize, Halt>
     requires inside { at ≤ length text.now }
     requires fits { base + length text.now ≤ 2 ^ 28 }
-    requires unasked { list_any looks_at_texts algebra.now.query.tests ≡ false }
     ensures { IfOk result (PassesOther algebra.now base text.now at) }
 {
     if let Some(end) = pass_item(algebra, text, at) {
@@ -57,7 +71,6 @@ pub fn pass_early(
 ) -> Result<usize, Halt>
     requires inside { at ≤ length text.now }
     requires fits { base + length text.now ≤ 2 ^ 28 }
-    requires unasked { list_any looks_at_texts algebra.now.query.tests ≡ false }
     ensures { IfOk result (PassesOther algebra.now base text.now at) }
 {
     match pass_other(algebra, alloc, text, base, at, FLAT) {
@@ -67,42 +80,103 @@ pub fn pass_early(
     }
 }
 
-/// White space, a short text that names no kind, and white space.
-fn pass_no_kind(algebra: &GeoAlgebra, text: &[u8], base: u32, at: usize) -> Result<usize, Halt>
-    requires inside { at ≤ length text.now }
+/// The value of a member of the name, with white space round it, of which an atom is made.
+#[inline(never)]
+fn any_text(
+    algebra: &GeoAlgebra,
+    alloc: Global,
+    text: &[u8],
+    base: u32,
+    name: NamePlace,
+    members: &mut VoidMembers,
+) -> Result<usize, Halt>
+    requires inside { name.colon < length text.now }
     requires fits { base + length text.now ≤ 2 ^ 28 }
-    requires unasked { list_any looks_at_texts algebra.now.query.tests ≡ false }
-    ensures { IfOk result (NamesNoKind algebra.now base text.now at) }
+    requires plain { IsPlainName text.now name }
+    requires few { members.old.met ≤ length algebra.now.query.tests }
+    ensures { IfOk result (MeetsTexts algebra.now base text.now name members.old members.new) }
 {
-    let Some(Whole { end, atom }) = read_simple(algebra, text, base, at) else {
-        return Err(Halt::At(OTHER_KIND));
-    };
-    match kind_named(&atom) {
-        Some(_) => Err(Halt::At(OTHER_KIND)),
-        None => Ok(end),
+    let Whole { end, atom } = read_item(algebra, alloc, text, base, name.colon + 1, DEEPEST)?;
+    if is_twin(&atom) {
+        return Err(Halt::At(end));
     }
+    let tests = algebra.query().tests.as_slice();
+    members.met += met_by_atom(tests, name_bytes(text, name), &atom);
+    Ok(end)
 }
 
-/// The value of the member `type`, which names no kind, with white space round it. `named` tells whether there was one.
+/// The value of a member for whose name some test asks, with white space round it.
+fn asked_text(
+    algebra: &GeoAlgebra,
+    alloc: Global,
+    text: &[u8],
+    base: u32,
+    name: NamePlace,
+    members: &mut VoidMembers,
+) -> Result<usize, Halt>
+    requires inside { name.colon < length text.now }
+    requires fits { base + length text.now ≤ 2 ^ 28 }
+    requires plain { IsPlainName text.now name }
+    requires few { members.old.met ≤ length algebra.now.query.tests }
+    ensures { IfOk result (MeetsTexts algebra.now base text.now name members.old members.new) }
+{
+    let Some(SimpleItem { first, last, end }) = simple_item(text, name.colon + 1) else {
+        return any_text(algebra, alloc, text, base, name, members);
+    };
+    let tests = algebra.query().tests.as_slice();
+    members.met += met_by_bytes(tests, name_bytes(text, name), &text[first + 1..last - 1]);
+    Ok(end)
+}
+
+/// The value of a member for which no kind asks, with white space round it.
 #[inline(always)]
+fn pass_text(
+    algebra: &GeoAlgebra,
+    alloc: Global,
+    text: &[u8],
+    base: u32,
+    name: NamePlace,
+    members: &mut VoidMembers,
+) -> Result<usize, Halt>
+    requires inside { name.colon < length text.now }
+    requires fits { base + length text.now ≤ 2 ^ 28 }
+    requires plain { IsPlainName text.now name }
+    requires few { members.old.met ≤ length algebra.now.query.tests }
+    ensures { IfOk result (MeetsTexts algebra.now base text.now name members.old members.new) }
+{
+    if asks_name(algebra.query().tests.as_slice(), name_bytes(text, name)) {
+        return asked_text(algebra, alloc, text, base, name, members);
+    }
+    pass_other(algebra, alloc, text, base, name.colon + 1, DEEPEST)
+}
+
+/// The value of the member `type`, which is a short text that names no kind, with white space round it.
 fn pass_kind(
     algebra: &GeoAlgebra,
     text: &[u8],
     base: u32,
-    at: usize,
-    named: &mut bool,
+    name: NamePlace,
+    members: &mut VoidMembers,
 ) -> Result<usize, Halt>
-    requires inside { at ≤ length text.now }
+    requires inside { name.colon < length text.now }
     requires fits { base + length text.now ≤ 2 ^ 28 }
-    requires unasked { list_any looks_at_texts algebra.now.query.tests ≡ false }
-    ensures { IfOk result (ReadsValue algebra.now base text.now at Field.Kind (NameNoKind named.old)
-        (NameNoKind named.new)) }
+    requires plain { IsPlainName text.now name }
+    requires few { members.old.met ≤ length algebra.now.query.tests }
+    ensures { IfOk result (NamesNoKind algebra.now base text.now name members.old members.new) }
 {
-    let end = pass_no_kind(algebra, text, base, at)?;
-    if *named {
+    let Some(SimpleItem { first, last, end }) = simple_item(text, name.colon + 1) else {
+        return Err(Halt::At(OTHER_KIND));
+    };
+    let value = &text[first + 1..last - 1];
+    if kind_of_bytes(value).is_some() {
+        return Err(Halt::At(OTHER_KIND));
+    }
+    if members.named {
         return Err(Halt::At(end));
     }
-    *named = true;
+    members.named = true;
+    let tests = algebra.query().tests.as_slice();
+    members.met += met_by_bytes(tests, name_bytes(text, name), value);
     Ok(end)
 }
 
@@ -114,54 +188,61 @@ fn pass_member(
     text: &[u8],
     base: u32,
     name: FieldName,
-    named: &mut bool,
+    members: &mut VoidMembers,
     others: &mut OtherNames,
 ) -> Result<usize, Halt>
     requires inside { name.place.colon < length text.now }
     requires fits { base + length text.now ≤ 2 ^ 28 }
-    requires unasked { list_any looks_at_texts algebra.now.query.tests ≡ false }
     requires plain { IsPlainName text.now name.place }
     requires names { ArePlainOthers text.now others.old }
-    ensures { IfOk result (ReadsVoid algebra.now base text.now name named.old named.new others.old others.new) }
+    requires few { members.old.met ≤ length algebra.now.query.tests }
+    ensures { IfOk result (ReadsVoid algebra.now base text.now name members.old members.new others.old others.new) }
 {
-    let at = name.place.colon + 1;
     match name.field {
         Field::Other => {
             add_other(text, others, name.place)?;
-            pass_other(algebra, alloc, text, base, at, DEEPEST)
+            pass_text(algebra, alloc, text, base, name.place, members)
         }
-        Field::Kind => pass_kind(algebra, text, base, at, named),
+        Field::Kind => pass_kind(algebra, text, base, name.place, members),
         _ => Err(Halt::At(OTHER_KIND)),
     }
 }
 
 /// The place behind an object that names no kind, and in which no name stands twice, from its opening bracket on, which
-/// stands at the place.
+/// stands at the place, and how many tests on texts its members meet.
 pub fn pass_object(
     algebra: &GeoAlgebra,
     alloc: Global,
     text: &[u8],
     base: u32,
     at: usize,
-) -> Result<usize, Halt>
+) -> Result<VoidRead, Halt>
     requires inside { at < length text.now }
     requires opens { slice_index text.now at ≡ 0x7B }
     requires fits { base + length text.now ≤ 2 ^ 28 }
-    requires unasked { list_any looks_at_texts algebra.now.query.tests ≡ false }
-    ensures { IfOk result (IsVoid algebra.now base text.now at) }
+    ensures { IfOk result (IsTexted algebra.now base text.now at) }
 {
     let first = skip_spaces(text, at + 1);
     if stands(text, first, b'}') {
-        return Ok(first + 1);
+        return Ok(VoidRead {
+            end: first + 1,
+            met: 0,
+        });
     }
     let mut others = OtherNames::none(alloc);
-    let mut named = false;
+    let mut members = VoidMembers {
+        named: false,
+        met: 0,
+    };
     let mut place = at + 1;
     'members: loop {
         let name = field_name(text, place)?;
-        let end = pass_member(algebra, alloc, text, base, name, &mut named, &mut others)?;
+        let end = pass_member(algebra, alloc, text, base, name, &mut members, &mut others)?;
         if stands(text, end, b'}') {
-            return Ok(end + 1);
+            return Ok(VoidRead {
+                end: end + 1,
+                met: members.met,
+            });
         }
         expect_comma(text, end)?;
         place = end + 1;

@@ -127,6 +127,17 @@ fn small_part(part: &Result<Part, Fault>) -> Option<Part>
     }
 }
 
+/// Whether the right part has no offset that it could put behind those of the left one.
+#[inline(always)]
+fn adds_nothing(left: &Part, right: &Part) -> bool
+    ensures { result ≡ true → JoinsParts left.now right.now left.now }
+{
+    match (left, right) {
+        (Part::Offsets(_), Part::Offsets(more)) => more.as_slice().is_empty(),
+        _ => false,
+    }
+}
+
 /// Puts the part of features behind that of a run.
 #[inline(always)]
 pub fn join_features(run: &mut Items, more: Result<Part, Fault>) -> Result<(), Memory>
@@ -139,6 +150,12 @@ pub fn join_features(run: &mut Items, more: Result<Part, Fault>) -> Result<(), M
         && let Some(part) = joined_numbers(first, second)
     {
         run.features = Ok(part);
+        return Ok(());
+    }
+    if let Ok(first) = &run.features
+        && let Ok(second) = &more
+        && adds_nothing(first, second)
+    {
         return Ok(());
     }
     if let Some(first) = small_part(&run.features)

@@ -1,20 +1,21 @@
 //! What is kept of a string, a literal or a number.
 
-ghost use Rattle.std.specs.Prelude.{◌≡◌, ◌≤◌, ◌^◌, length, get_or, true, false, Some, None, IfOk};
-ghost use Rattle.std.specs.List.{list_all, list_any};
+ghost use Rattle.std.specs.Prelude.{◌≡◌, ◌-◌, ◌≤◌, ◌^◌, length, take, drop, get_or, true, false, Some, None, IfOk};
+ghost use Rattle.std.specs.List.{list_all};
 ghost use Rattle.at_fixed.specs.Numerals.{JsonNumber};
 ghost use Rattle.at_fixed.specs.Fixed.{IsFixedOf};
 ghost use Rattle.at_lex.specs.Strings.{JsonString};
 ghost use Rattle.at_lex.specs.Runs.{JsonRun};
 ghost use Rattle.at_nest.specs.Tree.{Tree, Spells};
 ghost use Rattle.at_nest.specs.Folds.{IsScalarText};
-ghost use Rattle.at_geojson.specs.Keeping.{looks_at_texts};
+ghost use Rattle.at_geojson.specs.Keeping.{asks_value as value_asked};
 ghost use Rattle.at_geojson.specs.Gathering.{is_simple as simple_byte};
 ghost use Rattle.at_geojson.specs.Atoms.{unboxed, twin_of, asked_units as units_asked, IsOwn, IsFold};
 
-use crate::asked::{GeoAlgebra, asks_value, needs_texts};
+use crate::asked::{GeoAlgebra, asks_value};
 use crate::atoms::{GeoAtom, NumberAtom, TextAtom};
 use crate::kinds::{kind_of_bytes, kind_of_units};
+use crate::text_tests::asks_bytes;
 use at_fixed::{Coords, FixedFault, Notation, plain_number, read_fixed};
 use at_lex::{RunEnd, Units, check_run, units};
 use at_query::Test;
@@ -63,12 +64,12 @@ pub fn is_simple(text: &[u8]) -> bool
     true
 }
 
-/// A string of ASCII without escapes that begins at the offset, where no test looks at texts.
+/// A string of ASCII without escapes that begins at the offset, for whose value no test asks.
 #[inline(always)]
 pub fn simple_atom(algebra: &GeoAlgebra, text: &[u8], at: u32) -> GeoAtom
     requires string { JsonString text.now }
     requires simple { list_all simple_byte text.now ≡ true }
-    requires unasked { list_any looks_at_texts algebra.now.query.tests ≡ false }
+    requires unasked { value_asked algebra.now.query.tests (take (length text.now - 1 - 1) (drop 1 text.now)) ≡ false }
     ensures own { IsOwn algebra.now result }
     ensures no_twin { twin_of result ≡ None }
     ensures fold { (t : Tree) → Spells at text.now t → IsFold algebra.now result t }
@@ -94,7 +95,7 @@ pub fn plain_text_atom(
     ensures own { IfOk result (IsOwn algebra.now) }
     ensures fold { IfOk result (λ atom. (t : Tree) → Spells at text.now t → IsFold algebra.now atom t) }
 {
-    if needs_texts(algebra.query().tests.as_slice()) {
+    if asks_bytes(algebra.query().tests.as_slice(), &text[1..text.len() - 1]) {
         decoded_atom(algebra, alloc, text, at)
     } else {
         Ok(simple_atom(algebra, text, at))
@@ -108,8 +109,8 @@ fn text_atom(algebra: &GeoAlgebra, alloc: Global, text: &[u8], at: u32) -> Resul
     ensures own { IfOk result (IsOwn algebra.now) }
     ensures fold { IfOk result (λ atom. (t : Tree) → Spells at text.now t → IsFold algebra.now atom t) }
 {
-    if !needs_texts(algebra.query().tests.as_slice()) && is_simple(text) {
-        return Ok(simple_atom(algebra, text, at));
+    if is_simple(text) {
+        return plain_text_atom(algebra, alloc, text, at);
     }
     decoded_atom(algebra, alloc, text, at)
 }

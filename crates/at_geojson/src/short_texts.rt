@@ -3,9 +3,9 @@
 ghost use Rattle.std.specs.Prelude.{◌≡◌, ◌+◌, ◌≤◌, length, IfSome};
 ghost use Rattle.at_fixed.specs.Eights.{first_set as lowest_set};
 ghost use Rattle.at_lex.specs.Fronts.{IsFrontAt};
-ghost use Rattle.at_geojson.specs.Places.{IsSimpleTextAt, is_common};
+ghost use Rattle.at_geojson.specs.Places.{IsSimpleTextAt, IsSimpleItem, is_common};
 
-use crate::places::stands;
+use crate::places::{skip_spaces, stands};
 use std::simd::prelude::*;
 
 /// So many bytes of a text are looked at together.
@@ -53,4 +53,25 @@ pub fn short_text_end(text: &[u8], at: usize) -> Option<usize>
     } else {
         None
     }
+}
+
+/// A string of ASCII without escapes with white space round it: the place of its first quote, the place behind its last
+/// one, and the place behind the white space.
+#[derive(Clone, Copy)]
+pub struct SimpleItem {
+    pub first: usize,
+    pub last: usize,
+    pub end: usize,
+}
+
+/// A short string of ASCII without escapes with white space round it.
+#[inline(always)]
+pub fn simple_item(text: &[u8], at: usize) -> Option<SimpleItem>
+    requires { at ≤ length text.now }
+    ensures { IfSome result (IsSimpleItem text.now at) }
+{
+    let first = skip_spaces(text, at);
+    let last = short_text_end(text, first)?;
+    let end = skip_spaces(text, last);
+    Some(SimpleItem { first, last, end })
 }

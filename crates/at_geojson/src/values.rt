@@ -1,6 +1,6 @@
 //! Whole values of a text, read at once by descent: the same atoms as of the same values read item by item.
 
-ghost use Rattle.std.specs.Prelude.{◌≡◌, ◌+◌, ◌<◌, ◌≤◌, ◌^◌, length, slice_index, All, false, None, IfOk, IfSome};
+ghost use Rattle.std.specs.Prelude.{◌≡◌, ◌+◌, ◌<◌, ◌≤◌, ◌^◌, length, slice_index, All, [], false, None, IfOk, IfSome};
 ghost use Rattle.std.specs.List.{list_any};
 ghost use Rattle.at_geojson.specs.Keeping.{looks_at_texts};
 ghost use Rattle.at_geojson.specs.Atoms.{twin_of, IsOwn};
@@ -331,7 +331,7 @@ fn ended_fields(
     fields: &mut Fields,
 ) -> Result<Whole, Halt>
     requires { AreOwnFields algebra.now fields.old }
-    ensures { IfOk result (EndsFields algebra.now at end fields.old) }
+    ensures { IfOk result (EndsFields algebra.now at end fields.old []) }
 {
     let texts = TextPairs::from_vec(Vec::new(alloc));
     let atom = fields_atom(alloc, algebra, at, fields, texts)?;

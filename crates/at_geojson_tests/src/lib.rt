@@ -12,4 +12,6 @@ mod run_tests;
 #[cfg(test)]
 mod tests;
 #[cfg(test)]
+mod text_tests;
+#[cfg(test)]
 mod track_tests;

@@ -7,16 +7,17 @@ use Rattle.at_geojson.proofs.features.geometry_item.Goals as goal
 
 pub returns-in-Ok : goal.returns-in-Ok
 returns-in-Ok c =
-    let (s, h, joins) = c.in-Ok.ensures in
+    let (s, h, behind, seen) = c.in-Ok.ensures in
     let end = c.skip_spaces.result in (
       record { end = end; shape = s.shape },
       record {
         atom = h.atom;
         item = item_read c.args.algebra.now c.args.base c.args.text.now c.args.at c.skip_spaces-first.result end (record { end = s.end; atom = h.atom }) c.skip_spaces-first.ensures.order c.skip_spaces-first.ensures.spaces h.whole
-            (omega (arith, joins.behind, c.skip_spaces.ensures.order)) c.skip_spaces.ensures.within (subst (λ z. AreSpaces (between c.args.text.now z end)) (sym joins.behind) c.skip_spaces.ensures.spaces);
+            (omega (arith, behind, c.skip_spaces.ensures.order)) c.skip_spaces.ensures.within (subst (λ z. AreSpaces (between c.args.text.now z end)) (sym behind) c.skip_spaces.ensures.spaces);
         no_twin = h.no_twin;
         shape = h.shape;
         own = h.own;
       },
-      record { behind = refl; part = joins.part },
+      refl,
+      seen,
     )

@@ -1,18 +1,13 @@
 use Rattle.std.proofs.Common.{Some, sym, subst}
-use Rattle.std.proofs.lemmas.Result.{IfOk-weaker}
 use Rattle.at_geojson.specs.Atoms.{IfOwnShape}
 use Rattle.at_geojson.proofs.MemberReads.{no_twin_in}
 use Rattle.at_geojson.proofs.ObjectOwns.{own_feature_shape}
 use Rattle.at_geojson.proofs.features.other_geometry.Goals as goal
 
-pub shape_part-requires : goal.shape_part-requires
-shape_part-requires c = subst (IfOwnShape c.args.algebra.now) (sym c.feature_shape-shape.ensures) (own_feature_shape c.args.algebra.now (Some c.in_ok-end.field-0.atom) c.in_ok-end.ensures.own)
-
 pub returns : goal.returns
 returns c =
     let atom = c.in_ok-end.field-0.atom in
-    let same = sym c.feature_shape-shape.ensures in
-    IfOk-weaker c.shape_part.result _ _ (λ p joins. (
+    let same = sym c.feature_shape-shape.ensures in (
       _,
       record {
         atom = atom;
@@ -21,5 +16,6 @@ returns c =
         shape = same;
         own = subst (IfOwnShape c.args.algebra.now) same (own_feature_shape c.args.algebra.now (Some atom) c.in_ok-end.ensures.own);
       },
-      joins,
-    )) c.shape_part.ensures
+      sym c.seen_shape.ensures.0,
+      c.seen_shape.ensures.1 c.args.algebra.now.query,
+    )

@@ -3,4 +3,4 @@ use Rattle.at_geojson.proofs.FeatureReads.{properties_put}
 use Rattle.at_geojson.proofs.features.properties_member.Goals as goal
 
 pub returns : goal.returns
-returns c = λ feature f h. properties_put c.args.algebra.now c.args.base c.args.text.now feature c.args.at c.args.members.now _ f h c.in_ok-end.end c.in_ok-end.ensures c.if-members.false refl refl refl
+returns c = λ f h. properties_put c.args.algebra.now c.args.base c.args.text.now c.args.at c.args.members.now _ f h c.in_ok-end.field-0 c.in_ok-end.ensures c.if-members.false refl refl refl refl

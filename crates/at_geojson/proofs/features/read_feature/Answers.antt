@@ -1,7 +1,9 @@
 -- Each member is read behind those before it.
 use Rattle.std.proofs.Common.{arith, ◌+◌}
 use Rattle.std.proofs.lemmas.Result.{IfOk-weaker}
-use Rattle.at_geojson.proofs.FeatureReads.{no_members, reading_begins, reading_goes_on, reading_ends, feature_read}
+use Rattle.at_geojson.proofs.MemberReads.{no_texts}
+use Rattle.at_geojson.proofs.SeenParts.{own_geometry}
+use Rattle.at_geojson.proofs.FeatureReads.{no_members, reading_begins, reading_goes_on, all_texts, reading_ends, feature_read}
 use Rattle.at_geojson.proofs.features.read_feature.Goals as goal
 
 pub members-init : goal.members-init
@@ -9,15 +11,22 @@ members-init c = record {
   order = omega arith;
   within = omega (arith, c.requires.inside);
   read = reading_begins c.args.algebra.now c.args.base c.args.text.now c.args.at c.none-others.result _ c.requires.inside
-      (no_members c.args.algebra.now c.args.base c.args.text.now (c.args.base + c.args.at) c.none-members.result c.none-members.ensures.kind c.none-members.ensures.geometry c.none-members.ensures.properties) (c.none-others.ensures.plain c.args.text.now) (c.none-others.ensures.none c.args.text.now);
+      (no_members c.args.algebra.now c.args.base c.args.text.now c.none-members.result c.none-members.ensures.kind c.none-members.ensures.geometry c.none-members.ensures.properties c.none-members.ensures.hold) (c.none-others.ensures.plain c.args.text.now) (c.none-others.ensures.none c.args.text.now);
 }
+
+pub ended_feature-requires : goal.ended_feature-requires
+ended_feature-requires c =
+    let m = c.in_ok-end.ensures c.members.invariant.read.fields c.members.invariant.read.are in
+    own_geometry c.args.algebra.now c.read_member.new.members.geometry m.fields.geometry m.are.geometry m.are.own
 
 pub returns-then-stands : goal.returns-then-stands
 returns-then-stands c =
+    let asked = c.args.algebra.now in let w = c.args.text.now in
     let m = c.in_ok-end.ensures c.members.invariant.read.fields c.members.invariant.read.are in
-    IfOk-weaker c.ended_feature.result _ _ (λ p e. feature_read c.args.algebra.now c.args.base c.args.text.now c.args.at (c.in_ok-end.end + 1) c.read_member.new.members m.fields m.are p e
-    (λ q ends. reading_ends c.args.algebra.now c.args.base c.args.text.now c.args.at c.members.place c.members.others c.read_member.new.others _ _ c.in_ok-name.name c.in_ok-end.end
-    c.members.invariant.read c.in_ok-name.ensures.plain c.in_ok-name.ensures.field c.in_ok-end.ensures q c.members.invariant.order c.requires.opens c.requires.unasked c.in_ok-name.ensures.place (c.stands.ensures.inside c.if-stands.true) (c.stands.ensures.byte c.if-stands.true) ends)) c.ended_feature.ensures
+    let texts = all_texts asked c.args.base w c.args.at c.members.place c.members.others c.read_member.new.others _ _ c.in_ok-name.name c.in_ok-end.end c.members.invariant.read c.in_ok-name.ensures.plain c.in_ok-name.ensures.field c.in_ok-end.ensures in
+    IfOk-weaker c.ended_feature.result _ _ (λ p e. feature_read asked c.args.base w c.args.at (c.in_ok-end.end + 1) c.read_member.new.members m.fields texts m.are p e (no_texts asked.query.tests _)
+    (λ q ends. reading_ends asked c.args.base w c.args.at c.members.place c.members.others c.read_member.new.others _ _ c.in_ok-name.name c.in_ok-end.end
+    c.members.invariant.read c.in_ok-name.ensures.plain c.in_ok-name.ensures.field c.in_ok-end.ensures q c.members.invariant.order c.requires.opens c.in_ok-name.ensures.place (c.stands.ensures.inside c.if-stands.true) (c.stands.ensures.byte c.if-stands.true) ends)) c.ended_feature.ensures
 
 pub members-preserved : goal.members-preserved
 members-preserved c = record {

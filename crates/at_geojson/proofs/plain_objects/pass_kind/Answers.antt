@@ -1,7 +1,22 @@
-use Rattle.std.proofs.Common.{subst}
-use Rattle.at_geojson.specs.Features.{NameNoKind}
-use Rattle.at_geojson.proofs.FeatureReads.{kind_passed}
+-- A short text that names no kind.
+use Rattle.std.proofs.Common.{◌+◌, refl, sym, ◌∙◌, ap}
+use Rattle.at_query.specs.declared.query.queries.Query.{Query}
+use Rattle.at_geojson.specs.Members.{name_in}
+use Rattle.at_geojson.proofs.KnownNames.{simple_read}
+use Rattle.at_geojson.proofs.MemberReads.{none_there}
+use Rattle.at_geojson.proofs.TextReads.{met_is}
 use Rattle.at_geojson.proofs.plain_objects.pass_kind.Goals as goal
 
 pub returns : goal.returns
-returns c = λ f h. kind_passed c.args.algebra.now c.args.base c.args.text.now c.args.at c.in_ok-end.end f (subst (λ b. NameNoKind b f) c.if-named.false h) c.in_ok-end.ensures
+returns c =
+    let asked = c.args.algebra.now in
+    let (a, item, none, kind, text) = simple_read asked c.args.base c.args.text.now (c.args.name.colon + 1) _ c.in-Some.ensures in
+    record {
+      atom = a;
+      item = item;
+      no_twin = none;
+      no_kind = kind ∙ (sym c.kind_of_bytes.ensures ∙ none_there c.kind_of_bytes.result c.is_some.result c.is_some.ensures c.if-is_some.false);
+      before = c.if-members.false;
+      named = refl;
+      met = ap (λ z. c.args.members.now.met + z) (met_is asked.query.tests _ (name_in c.args.text.now c.args.name) _ _ _ _ (c.as_slice-tests.ensures ∙ ap (λ (q : Query). q.tests) c.query.ensures.same) c.name_bytes.ensures c.met_by_bytes.ensures text);
+    }

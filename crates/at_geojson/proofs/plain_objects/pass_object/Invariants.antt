@@ -1,10 +1,16 @@
--- Between members: those before were passed over.
-use Rattle.std.proofs.Common.{◌-◌, ◌<◌, ◌≤◌, length}
+-- Between members: those before were passed over, and so many tests on texts are met.
+use Rattle.std.proofs.Common.{◌≡◌, ◌-◌, ◌<◌, ◌≤◌, length}
+use Rattle.at_geojson.specs.Objects.{kept_texts}
+use Rattle.at_geojson.specs.TextTests.{met_by}
 use Rattle.at_geojson.specs.Features.{NameNoKind, AreRead}
 use Rattle.at_geojson.proofs.plain_objects.pass_object.Given as goal
 
 abbrev pub invariant-members : goal.invariant-members
-invariant-members l = record { order : l.at < l.place; within : l.place ≤ length l.text; read : AreRead l.algebra l.base l.text l.at l.place l.others (NameNoKind l.named) }
+invariant-members l = record {
+  order : l.at < l.place;
+  within : l.place ≤ length l.text;
+  read : (r : AreRead l.algebra l.base l.text l.at l.place l.others (NameNoKind l.members.named)) × (l.members.met ≡ met_by l.algebra.query.tests (kept_texts l.algebra.query.tests r.read.members));
+}
 
 abbrev pub decreases-members : goal.decreases-members
 decreases-members l = length l.text - l.place

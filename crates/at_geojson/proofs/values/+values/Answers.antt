@@ -1,5 +1,5 @@
 -- Each item and each member is read behind those before it.
-use Rattle.std.proofs.Common.{[], All, refl, sym, subst, arith, ◌+◌}
+use Rattle.std.proofs.Common.{[], ◌∷◌, ◌++◌, All, refl, sym, subst, arith, ◌+◌}
 use Rattle.std.proofs.lemmas.Result.{IfOk-weaker}
 use Rattle.at_nest.specs.declared.algebra.Member.{Member}
 use Rattle.at_geojson.specs.declared.atoms.GeoAtom.{GeoAtom}
@@ -7,9 +7,9 @@ use Rattle.at_geojson.specs.declared.pairs.Whole.{Whole}
 use Rattle.at_geojson.specs.Atoms.{IsOwn}
 use Rattle.at_geojson.specs.Values.{AreItemsRead, AreMembersRead, EndsArray, EndsObject}
 use Rattle.at_geojson.specs.Members.{name_in}
-use Rattle.at_geojson.proofs.ValueParts.{pair_whole, items_begin, items_go_on, items_own, array_read, empty_read, name_text, name_units, members_begin, members_go_on, members_own, object_read, void_read}
+use Rattle.at_geojson.proofs.ValueParts.{member_of, pair_whole, items_begin, items_go_on, items_own, array_read, empty_read, name_text, name_units, members_begin, members_go_on, members_own, object_read, void_read}
 use Rattle.at_geojson.proofs.FieldFolds.{own_fields}
-use Rattle.at_geojson.proofs.MemberReads.{no_twin_in, field_passed, fields_begin, longer_fields, fields_go_on, ends_fields, ends_longer}
+use Rattle.at_geojson.proofs.MemberReads.{no_twin_in, field_passed, fields_begin, longer_fields, fields_go_on, ends_fields, ends_longer, no_texts}
 use Rattle.at_geojson.proofs.values.+values.Goals as goal
 
 pub read_array-returns-then-stands : goal.read_array-returns-then-stands
@@ -73,7 +73,7 @@ read_any-returns-in-Some t c = pair_whole c.args.algebra.now c.args.base c.args.
 
 pub read_fields-returns-then-stands : goal.read_fields-returns-then-stands
 read_fields-returns-then-stands t c = IfOk-weaker c.ended_fields.result _ _ (λ q e. void_read c.args.algebra.now c.args.base c.args.text.now c.args.at c.skip_spaces-first.result q (omega (arith, c.skip_spaces-first.ensures.order)) (c.stands.ensures.inside c.if-stands.true) c.requires.opens
-    (c.stands.ensures.byte c.if-stands.true) c.skip_spaces-first.ensures.spaces (ends_fields c.args.algebra.now c.args.base c.args.text.now (c.args.base + c.args.at) (c.skip_spaces-first.result + 1) c.none-fields.result [] q e c.none-fields.ensures refl c.requires.unasked)) c.ended_fields.ensures
+    (c.stands.ensures.byte c.if-stands.true) c.skip_spaces-first.ensures.spaces (ends_fields c.args.algebra.now c.args.base c.args.text.now (c.args.base + c.args.at) (c.skip_spaces-first.result + 1) c.none-fields.result [] [] q e c.none-fields.ensures refl refl)) c.ended_fields.ensures
 
 pub read_fields-fields-init : goal.read_fields-fields-init
 read_fields-fields-init t c = record {
@@ -96,7 +96,7 @@ read_fields-returns-then-stands-2 t c =
     c.fields.invariant.read c.in_ok-name.ensures.plain c.in_ok-name.ensures.field c.in_ok-name.ensures.new r.no_twin r.kind r.coordinates r.geometry r.properties r.features r.geometries in
     IfOk-weaker c.ended_fields-then-stands-2.result _ _ (λ q e. object_read c.args.algebra.now c.args.base c.args.text.now c.args.at c.fields.place l.before.members c.in_ok-name.name.place (name_in c.args.text.now c.in_ok-name.name.place) p q
     c.fields.invariant.order c.requires.opens l.before.read c.in_ok-name.ensures.place l.plain.units r.item (c.stands-in-fields.ensures.inside c.if-stands-2.true) (c.stands-in-fields.ensures.byte c.if-stands-2.true)
-    (ends_longer c.args.algebra.now c.args.base c.args.text.now c.args.at c.fields.place (p.end + 1) c.fields.others c.new_name.new.others c.fields.fields c.in_ok-name.name.place p c.read_field.new.fields q l e c.requires.unasked)) c.ended_fields-then-stands-2.ensures
+    (ends_longer c.args.algebra.now c.args.base c.args.text.now c.args.at c.fields.place (p.end + 1) c.fields.others c.new_name.new.others c.fields.fields c.in_ok-name.name.place p c.read_field.new.fields [] q l e (sym (no_texts c.args.algebra.now.query.tests (l.before.members ++ member_of c.args.algebra.now c.args.base c.args.text.now c.in_ok-name.name.place (name_in c.args.text.now c.in_ok-name.name.place) p.atom ∷ []) c.requires.unasked)))) c.ended_fields-then-stands-2.ensures
 
 pub read_fields-fields-preserved : goal.read_fields-fields-preserved
 read_fields-fields-preserved t c =

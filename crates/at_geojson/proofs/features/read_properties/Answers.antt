@@ -1,0 +1,17 @@
+-- Properties with white space round them.
+use Rattle.std.proofs.Common.{◌∙◌}
+use Rattle.at_geojson.proofs.ValueParts.{item_read}
+use Rattle.at_geojson.proofs.TextReads.{all_met_is}
+use Rattle.at_geojson.proofs.features.read_properties.Goals as goal
+
+pub returns-in-Ok : goal.returns-in-Ok
+returns-in-Ok c =
+    let h = c.in-Ok.ensures in (
+      h.atom,
+      item_read c.args.algebra.now c.args.base c.args.text.now c.args.at c.skip_spaces-first.result c.skip_spaces.result (record { end = c.in-Ok.end; atom = h.atom }) c.skip_spaces-first.ensures.order c.skip_spaces-first.ensures.spaces h.whole
+          c.skip_spaces.ensures.order c.skip_spaces.ensures.within c.skip_spaces.ensures.spaces,
+      h.no_twin,
+      h.texts,
+      h.has,
+      c.all_met.ensures ∙ all_met_is c.args.algebra.now.query.tests h.texts c.in-Ok.met h.met,
+    )
