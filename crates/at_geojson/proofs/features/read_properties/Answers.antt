@@ -11,7 +11,5 @@ returns-in-Ok c =
       item_read c.args.algebra.now c.args.base c.args.text.now c.args.at c.skip_spaces-first.result c.skip_spaces.result (record { end = c.in-Ok.end; atom = h.atom }) c.skip_spaces-first.ensures.order c.skip_spaces-first.ensures.spaces h.whole
           c.skip_spaces.ensures.order c.skip_spaces.ensures.within c.skip_spaces.ensures.spaces,
       h.no_twin,
-      h.texts,
-      h.has,
-      c.all_met.ensures ∙ all_met_is c.args.algebra.now.query.tests h.texts c.in-Ok.met h.met,
+      (h.texts, h.has, c.all_met.ensures ∙ all_met_is c.args.algebra.now.query.tests h.texts c.in-Ok.met h.met),
     )
