@@ -3,7 +3,7 @@ use Rattle.std.proofs.Common.{arith, ◌+◌}
 use Rattle.std.proofs.lemmas.Result.{IfOk-weaker}
 use Rattle.at_geojson.proofs.MemberReads.{no_texts}
 use Rattle.at_geojson.proofs.SeenParts.{own_geometry}
-use Rattle.at_geojson.proofs.FeatureReads.{no_members, reading_begins, reading_goes_on, all_texts, reading_ends, feature_read}
+use Rattle.at_geojson.proofs.FeatureReads.{no_members, reading_begins, reading_goes_on, all_members, all_texts, reading_ends, feature_read}
 use Rattle.at_geojson.proofs.features.read_feature.Goals as goal
 
 pub members-init : goal.members-init
@@ -24,7 +24,8 @@ returns-then-stands c =
     let asked = c.args.algebra.now in let w = c.args.text.now in
     let m = c.in_ok-end.ensures c.members.invariant.read.fields c.members.invariant.read.are in
     let texts = all_texts asked c.args.base w c.args.at c.members.place c.members.others c.read_member.new.others _ _ c.in_ok-name.name c.in_ok-end.end c.members.invariant.read c.in_ok-name.ensures.plain c.in_ok-name.ensures.field c.in_ok-end.ensures in
-    IfOk-weaker c.ended_feature.result _ _ (λ p e. feature_read asked c.args.base w c.args.at (c.in_ok-end.end + 1) c.read_member.new.members m.fields texts m.are p e (no_texts asked.query.tests _)
+    let members = all_members asked c.args.base w c.args.at c.members.place c.members.others c.read_member.new.others _ _ c.in_ok-name.name c.in_ok-end.end c.members.invariant.read c.in_ok-name.ensures.plain c.in_ok-name.ensures.field c.in_ok-end.ensures in
+    IfOk-weaker c.ended_feature.result _ _ (λ p e. feature_read asked c.args.base w c.args.at (c.in_ok-end.end + 1) c.read_member.new.members m.fields texts m.are p e (no_texts asked.query.tests members)
     (λ q ends. reading_ends asked c.args.base w c.args.at c.members.place c.members.others c.read_member.new.others _ _ c.in_ok-name.name c.in_ok-end.end
     c.members.invariant.read c.in_ok-name.ensures.plain c.in_ok-name.ensures.field c.in_ok-end.ensures q c.members.invariant.order c.requires.opens c.in_ok-name.ensures.place (c.stands.ensures.inside c.if-stands.true) (c.stands.ensures.byte c.if-stands.true) ends)) c.ended_feature.ensures
 

@@ -2,5 +2,5 @@
 use Rattle.at_geojson.proofs.FeatureJoins.{item_alone}
 use Rattle.at_geojson.proofs.wholes.object_items.Goals as goal
 
-pub returns-in_ok-whole-in-Err-At-eq0 : goal.returns-in_ok-whole-in-Err-At-eq0
-returns-in_ok-whole-in-Err-At-eq0 c = item_alone c.args.algebra.now c.args.base c.args.text.now c.in_ok-whole-in-Err-At-eq0.whole c.requires.begins c.in_ok-whole-in-Err-At-eq0.ensures
+pub returns-in_ok-whole-in-Err-At : goal.returns-in_ok-whole-in-Err-At
+returns-in_ok-whole-in-Err-At c = item_alone c.args.algebra.now c.args.base c.args.text.now c.in_ok-whole-in-Err-At.whole c.requires.begins c.in_ok-whole-in-Err-At.ensures
