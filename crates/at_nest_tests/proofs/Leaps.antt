@@ -23,8 +23,7 @@ two_attempt at w more e =
     let first : Tree = array (at + 0) no_trees in
     let second : Tree = array (further + 1 + 0) no_trees in
     let one_more = further_items_made second no_trees further (0x2C ∷ empty)
-    (empty, refl, ([], empty, [], [], refl, tt, tt, array_made no_trees (further + 1 + 0) (further + 1 + 0) empty (refl, ([], refl, tt)), refl)) in
-    (
+    (empty, refl, ([], empty, [], [], refl, tt, tt, array_made no_trees (further + 1 + 0) (further + 1 + 0) empty (refl, ([], refl, tt)), refl)) in (
       0x5B ∷ (0x5D ∷ (0x2C ∷ (0x5B ∷ (0x5D ∷ [])))),
       more,
       e,
