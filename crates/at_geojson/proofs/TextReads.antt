@@ -244,10 +244,6 @@ all_met_is tests texts met e = go (texts_hold tests texts) refl (met == text_tes
 pub met_few : (tests : List Test) (texts : List TextPair) → met_by tests texts ≤ length tests
 met_few tests texts = count_by-le-length (is_met texts) tests
 
-pub met_of_few : (tests : List Test) (name : List ℕ) (o : Option (List ℕ)) → met_of tests name o ≤ length tests
-met_of_few tests name None = omega arith
-met_of_few tests name (Some value) = count_by-le-length (wants_pair name value) tests
-
 -- of a text for which a test may ask
 pub met_asked : (tests : List Test) (name value : List ℕ) → met_of tests name (asked_units tests value) ≡ count_by (wants_pair name value) tests
 met_asked tests name value = go (asks_value tests value) refl where
