@@ -1,8 +1,8 @@
 -- What a whole sequence ends in, and a record that is read at once.
 -- For `part_seq`.
-use Rattle.std.proofs.Common.{◌≡◌, ◌≢◌, ℕ, zero, suc, ◌+◌, ◌<◌, true, false, if◌then◌else◌, slice_index, List, [], ◌∷◌, ◌++◌, length, take, drop, Option, Some, None, Result, Ok, Err, MatchResult, refl, sym, ap, ◌∙◌, subst, arith, append-nil, length-take}
-use Rattle.std.proofs.Math.Seq.{drop-append_seam}
-use Rattle.std.proofs.lemmas.List.{take-append-drop, take_rest}
+use Rattle.std.proofs.Common.{◌≡◌, ◌≢◌, ℕ, zero, suc, ◌+◌, ◌<◌, true, false, if◌then◌else◌, slice_index, List, [], ◌∷◌, ◌++◌, length, take, drop, Option, Some, None, Result, Ok, Err, MatchResult, refl, sym, ap, ◌∙◌, subst, arith, append-nil, length-take, ◌-◌, ◌≤◌}
+use Rattle.std.proofs.Math.Seq.{drop-append_seam, take-add}
+use Rattle.std.proofs.lemmas.List.{take-append-drop, take_rest, drop-take, length-drop}
 use Rattle.at_text.specs.Faults.{fault_at, first_fault, first_of}
 use Rattle.at_text.specs.Spans.{span_of, StandsAt}
 use Rattle.at_text.specs.Texts.{base_of, is_space, utf8_fault}
@@ -11,7 +11,7 @@ use Rattle.at_text.specs.declared.faults.FaultKind.TheVariants.{Syntax}
 use Rattle.at_lex.specs.Fronts.{IsFront}
 use Rattle.at_lex.specs.Spans.{AreSpaces}
 use Rattle.at_lex.proofs.FrontLemmas.{front_all}
-use Rattle.at_nest.specs.Tree.{Spells, IsTextOf}
+use Rattle.at_nest.specs.Tree.{Tree, Spells, IsTextOf}
 use Rattle.at_nest.specs.Folds.{IsAttempt}
 use Rattle.at_nest.specs.declared.algebra.Attempt.TheVariants.{Whole}
 use Rattle.at_nest.specs.TextAnswers.{Answers}
@@ -89,6 +89,37 @@ module _ (asked : Asked) where
       let g : behind ≡ drop len (drop spaces text) = f ∙ ap (drop len) e in
       at_once at text spaces len more atom front (subst (λ z. IsAttempt (IsOwn asked) (IsFold asked) (at + spaces) z (Whole len atom)) e attempt)
       (subst (λ z. IsFront is_space z more) g rest) (ends ∙ ap length g)
+
+-- ---- a value that is read from more than the record
+
+-- what an attempt takes of the bytes, it takes of their first ones too
+attempt_front : {X : Type 0} (Own : X → Type 0) (Fold : X → Tree → Type 0) (at : ℕ) (w : List ℕ) (n len : ℕ) (atom : X) → len ≤ n → IsAttempt Own Fold at w (Whole len atom) → IsAttempt Own Fold at (take n w) (Whole len atom)
+attempt_front Own Fold at w n len atom h (v, r, e, l, t, s, o, f) =
+    let m : ℕ = n - len in let size : n ≡ len + m = omega (arith, h) in
+    let bytes : take n w ≡ v ++ take m r = ap (λ k. take k w) size ∙ (take-add len m w ∙ (ap (λ z. take len z ++ take m (drop len z)) e ∙ (ap (λ k. take k (v ++ r) ++ take m (drop k (v ++ r))) l ∙ parts v r m))) in
+    (v, take m r, bytes, l, t, s, o, f)
+  where
+    parts : (v r : List ℕ) (m : ℕ) → take (length v) (v ++ r) ++ take m (drop (length v) (v ++ r)) ≡ v ++ take m r
+    parts [] r m = refl
+    parts (b ∷ v) r m = ap (λ z. b ∷ z) (parts v r m)
+
+-- the record's value begins what is ahead of it
+value_front : (text ahead : List ℕ) (spaces : ℕ) → text ≡ take (length text) ahead → spaces ≤ length text → take (length text - spaces) (drop spaces text) ≡ take (length text - spaces) (take (length ahead - spaces) (drop spaces ahead))
+value_front text ahead spaces e h =
+    let m : ℕ = length text - spaces in let size : length text ≡ spaces + m = omega (arith, h) in
+    take_rest text spaces ∙ (ap (drop spaces) (e ∙ ap (λ k. take k ahead) size) ∙ (drop-take spaces m ahead ∙ ap (take m) (sym (take_rest ahead spaces))))
+
+pub read_ahead : (asked : Asked) (at : ℕ) (text ahead behind : List ℕ) (spaces len more : ℕ) (atom : GeoAtom) → text ≡ take (length text) ahead → spaces ≤ length text
+    → len ≤ length (take (length text - spaces) (drop spaces text)) → behind ≡ drop len (take (length text - spaces) (drop spaces text)) → IsFront is_space text spaces
+    → IsAttempt (IsOwn asked) (IsFold asked) (at + spaces) (take (length ahead - spaces) (drop spaces ahead)) (Whole len atom) → IsFront is_space behind more → more ≡ length behind
+    → Answers (IsGeoAtom asked) at text (Ok atom)
+read_ahead asked at text ahead behind spaces len more atom begins h short f front attempt rest ends =
+    let value : List ℕ = take (length text - spaces) (drop spaces text) in
+    let size : length value ≡ length text - spaces = ap (λ z. length z) (take_rest text spaces) ∙ length-drop spaces text in
+    let fits : len ≤ length text - spaces = subst (λ n. len ≤ n) size short in
+    let taken = attempt_front (IsOwn asked) (IsFold asked) (at + spaces) (take (length ahead - spaces) (drop spaces ahead)) (length text - spaces) len atom fits attempt in
+    read_at_once asked at text value behind spaces len more atom (take_rest text spaces) f front
+    (subst (λ z. IsAttempt (IsOwn asked) (IsFold asked) (at + spaces) z (Whole len atom)) (sym (value_front text ahead spaces begins h)) taken) rest ends
 
 -- ---- the end of a sequence
 

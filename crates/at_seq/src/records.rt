@@ -1,6 +1,6 @@
 //! What is kept of records: the part of their features, or their first fault.
 
-ghost use Rattle.std.specs.Prelude.{◌≡◌, ℕ, ◌+◌, ◌≤◌, ◌<◌, ◌^◌, List, [], ◌∷◌, length, Ok, IfOk, IfSome};
+ghost use Rattle.std.specs.Prelude.{◌≡◌, ℕ, ◌+◌, ◌≤◌, ◌<◌, ◌^◌, List, [], ◌∷◌, length, take, Ok, IfOk, IfSome};
 ghost use Rattle.at_text.specs.Separated.{Piece};
 ghost use Rattle.at_text.specs.Spans.{span_of};
 ghost use Rattle.at_text.specs.Texts.{is_space};
@@ -99,24 +99,31 @@ impl Trials {
 }
 
 /// The atom of a record that is read at once: so many bytes of white space, a whole value, and white space behind it.
-/// No clause says where it is: what is left out is read as any span of JSON.
+/// The value is read from all that is ahead, which begins with the record, so that numbers at the record's end are looked
+/// at as many bytes at once as all others. No clause says where it is: what is left out is read as any span of JSON.
 fn atom_at_once(
     alloc: Global,
     algebra: &GeoAlgebra,
     text: &[u8],
+    ahead: &[u8],
     at: u32,
     spaces: usize,
 ) -> Result<Option<GeoAtom>, Memory>
-    requires fits { at + length text.now ≤ 2 ^ 28 }
+    requires fits { at + length ahead.now ≤ 2 ^ 28 }
+    requires begins { text.now ≡ take (length text.now) ahead.now }
+    requires within { length text.now ≤ length ahead.now }
     requires spaces { IsFront is_space text.now spaces }
     requires some { spaces < length text.now }
     ensures { IfOk result (λ found.
         IfSome found (λ atom. Answers (IsGeoAtom algebra.now) at text.now
         (Ok atom))) }
 {
-    let value = &text[spaces..];
-    match algebra.value(alloc, value, at + spaces as u32)? {
+    match algebra.value(alloc, &ahead[spaces..], at + spaces as u32)? {
         Attempt::Whole { len, atom } => {
+            let value = &text[spaces..];
+            if len as usize > value.len() {
+                return Ok(None);
+            }
             let behind = &value[len as usize..];
             if spaces_len(behind) == behind.len() {
                 Ok(Some(atom))
@@ -147,7 +154,8 @@ fn span_answer(
 {
     let text = &bytes[span.from as usize..span.to as usize];
     if trials.is_next() {
-        if let Some(atom) = atom_at_once(alloc, algebra, text, span.from, spaces)? {
+        let ahead = &bytes[span.from as usize..];
+        if let Some(atom) = atom_at_once(alloc, algebra, text, ahead, span.from, spaces)? {
             return Ok(atom);
         }
         trials.failed();
