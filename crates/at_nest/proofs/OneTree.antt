@@ -21,24 +21,24 @@ use Rattle.at_nest.proofs.JsonMachine.{regroup, same_byte}
 use Rattle.at_nest.proofs.Steps.{space_no_run}
 use Rattle.at_nest.proofs.TreeParts.{MemberParts, items_parts, further_items_parts, members_parts, further_members_parts, array_parts, object_parts, text_parts}
 
-abbrev head : List ℕ → ℕ
+abbrev pub head : List ℕ → ℕ
 head [] = 0
 head (b ∷ w) = b
 
-abbrev tail : List ℕ → List ℕ
+abbrev pub tail : List ℕ → List ℕ
 tail [] = []
 tail (b ∷ w) = w
 
-clash : {P : Type 0} (a b : ℕ) → (a == b) ≡ false → a ≡ b → P
+pub clash : {P : Type 0} (a b : ℕ) → (a == b) ≡ false → a ≡ b → P
 clash a b r e = absurd (true≢false (sym (same_byte b) ∙ (sym (ap (λ z. z == b) e) ∙ r)))
 
 -- the first byte passes the test
-abbrev begins : (ℕ → Bool) → List ℕ → Bool
+abbrev pub begins : (ℕ → Bool) → List ℕ → Bool
 begins P [] = false
 begins P (b ∷ w) = P b
 
 -- the longest front that passes a test is one
-same_front : (P : ℕ → Bool) (a c x y : List ℕ) → AllByRecursion (λ b. IsTrue (P b)) a → AllByRecursion (λ b. IsTrue (P b)) c → a ++ x ≡ c ++ y → begins P x ≡ false → begins P y ≡ false → (a ≡ c) × (x ≡ y)
+pub same_front : (P : ℕ → Bool) (a c x y : List ℕ) → AllByRecursion (λ b. IsTrue (P b)) a → AllByRecursion (λ b. IsTrue (P b)) c → a ++ x ≡ c ++ y → begins P x ≡ false → begins P y ≡ false → (a ≡ c) × (x ≡ y)
 same_front P [] [] x y h k e p q = (refl, e)
 same_front P (b ∷ a) (d ∷ c) x y (h, hs) (k, ks) e p q = let r = same_front P a c x y hs ks (ap tail e) p q in (ap (λ z. z ∷ a) (ap head e) ∙ ap (λ z. d ∷ z) r.0, r.1)
 same_front P [] (d ∷ c) x y h (k, ks) e p q = absurd (true≢false (sym k ∙ (sym (ap (begins P) e) ∙ p)))
@@ -46,7 +46,7 @@ same_front P (b ∷ a) [] x y (h, hs) k e p q = absurd (true≢false (sym h ∙ 
 
 -- ---- strings
 
-same_text : (cs ds : List Character) (y z : List ℕ) → AreCharacters cs → AreCharacters ds → flat_map character_text cs ++ (0x22 ∷ y) ≡ flat_map character_text ds ++ (0x22 ∷ z) → (cs ≡ ds) × (y ≡ z)
+pub same_text : (cs ds : List Character) (y z : List ℕ) → AreCharacters cs → AreCharacters ds → flat_map character_text cs ++ (0x22 ∷ y) ≡ flat_map character_text ds ++ (0x22 ∷ z) → (cs ≡ ds) × (y ≡ z)
 same_text [] [] y z h k e = (refl, ap tail e)
 same_text (plain b ∷ cs) (plain c ∷ ds) y z (h, hs) (k, ks) e = let r = same_text cs ds y z hs ks (ap tail e) in (ap (λ n. plain n ∷ cs) (ap head e) ∙ ap (λ n. plain c ∷ n) r.0, r.1)
 same_text (escape b ∷ cs) (escape c ∷ ds) y z (h, hs) (k, ks) e = let r = same_text cs ds y z hs ks (ap (λ w. tail (tail w)) e) in (ap (λ n. escape n ∷ cs) (ap (λ w. head (tail w)) e) ∙ ap (λ n. escape c ∷ n) r.0, r.1)
@@ -106,23 +106,23 @@ one_literal the_false the_true e = clash 0x66 0x74 refl (ap head e)
 
 -- ---- the first byte tells the kind of a value
 
-abbrev look : ℕ → ℕ
+abbrev pub look : ℕ → ℕ
 look b = cond (b == 0x22) 1 (cond (b == 0x5B) 2 (cond (b == 0x7B) 3 4))
 
-abbrev kind : Tree → ℕ
+abbrev pub kind : Tree → ℕ
 kind (literal i l) = 4
 kind (number i n) = 4
 kind (text i cs) = 1
 kind (array i ts) = 2
 kind (object i ms) = 3
 
-record Starts (t : Tree) (v : List ℕ) : Type 0 where
-  byte : ℕ
-  others : List ℕ
-  split : v ≡ byte ∷ others
-  looks : look byte ≡ kind t
-  space : is_space byte ≡ false
-  closing : (byte == 0x5D) ≡ false
+pub record Starts (t : Tree) (v : List ℕ) : Type 0 where
+  pub byte : ℕ
+  pub others : List ℕ
+  pub split : v ≡ byte ∷ others
+  pub looks : look byte ≡ kind t
+  pub space : is_space byte ≡ false
+  pub closing : (byte == 0x5D) ≡ false
 
 run_looks : (b : ℕ) → is_run b ≡ true → look b ≡ 4
 run_looks b h = pass (b == 0x22) 1 _ _ (unlike is_run b 0x22 refl h) (pass (b == 0x5B) 2 _ _ (unlike is_run b 0x5B refl h) (pass (b == 0x7B) 3 4 _ (unlike is_run b 0x7B refl h) refl))
@@ -135,7 +135,7 @@ literal_first the_null = (0x6E, 0x75 ∷ 0x6C ∷ 0x6C ∷ [], refl, refl)
 literal_first the_true = (0x74, 0x72 ∷ 0x75 ∷ 0x65 ∷ [], refl, refl)
 literal_first the_false = (0x66, 0x61 ∷ 0x6C ∷ 0x73 ∷ 0x65 ∷ [], refl, refl)
 
-starts : (t : Tree) (at : ℕ) (v : List ℕ) → Spells at v t → Starts t v
+pub starts : (t : Tree) (at : ℕ) (v : List ℕ) → Spells at v t → Starts t v
 starts (literal i l) at v (f, e) = let (b, r, g, h) = literal_first l in run_starts (literal i l) v b r refl (e ∙ g) h
 starts (number i n) at v (f, (h, e)) = let (b, r, g, k) = number_first (numeral_text n) (n, h, refl) in run_starts (number i n) v b r refl (e ∙ g) k
 starts (text i cs) at v (f, (h, e)) = record { byte = 0x22; others = flat_map character_text cs ++ 0x22 ∷ []; split = e; looks = refl; space = refl; closing = refl }
@@ -147,29 +147,29 @@ same_kind t u v y w z h k e = sym h.looks ∙ (ap look (ap head (ap (λ x. x ++ 
 
 -- ---- the same bytes
 
-record Same {A : Type 0} (x y : A) (v w r q : List ℕ) : Type 0 where
+pub record Same {A : Type 0} (x y : A) (v w r q : List ℕ) : Type 0 where
   pub same : x ≡ y
   pub part : v ≡ w
   pub rest : r ≡ q
 
 -- what stands behind a value: neither white space nor a byte of a run
-record Ends (w : List ℕ) : Type 0 where
+pub record Ends (w : List ℕ) : Type 0 where
   pub no_space : begins is_space w ≡ false
   pub no_run : begins is_run w ≡ false
 
-behind_spaces : (b r : List ℕ) → AreSpaces b → Ends r → begins is_run (b ++ r) ≡ false
+pub behind_spaces : (b r : List ℕ) → AreSpaces b → Ends r → begins is_run (b ++ r) ≡ false
 behind_spaces [] r h k = k.no_run
 behind_spaces (c ∷ b) r (h, hs) k = space_no_run c h
 
 -- a part between white space, and what is behind it
-record SamePadded {A : Type 0} (x y : A) (a v b r c w d q : List ℕ) : Type 0 where
+pub record SamePadded {A : Type 0} (x y : A) (a v b r c w d q : List ℕ) : Type 0 where
   pub same : x ≡ y
   pub left : a ≡ c
   pub part : v ≡ w
   pub right : b ≡ d
   pub rest : r ≡ q
 
-same_padded : {A : Type 0} (x y : A) (a v b r c w d q : List ℕ) → AreSpaces a → AreSpaces b → AreSpaces c → AreSpaces d → begins is_space (v ++ (b ++ r)) ≡ false → begins is_space (w ++ (d ++ q)) ≡ false → Ends r → Ends q
+pub same_padded : {A : Type 0} (x y : A) (a v b r c w d q : List ℕ) → AreSpaces a → AreSpaces b → AreSpaces c → AreSpaces d → begins is_space (v ++ (b ++ r)) ≡ false → begins is_space (w ++ (d ++ q)) ≡ false → Ends r → Ends q
     → a ++ (v ++ (b ++ r)) ≡ c ++ (w ++ (d ++ q)) → (a ≡ c → begins is_run (b ++ r) ≡ false → begins is_run (d ++ q) ≡ false → v ++ (b ++ r) ≡ w ++ (d ++ q) → Same x y v w (b ++ r) (d ++ q)) → SamePadded x y a v b r c w d q
 same_padded x y a v b r c w d q ha hb hc hd nv nw er eq e part =
     let s = same_front is_space a c (v ++ (b ++ r)) (w ++ (d ++ q)) ha hc e nv nw in
@@ -177,22 +177,22 @@ same_padded x y a v b r c w d q ha hb hc hd nv nw er eq e part =
     let z = same_front is_space b d r q hb hd p.rest er.no_space eq.no_space in
     record { same = p.same; left = s.0; part = p.part; right = z.0; rest = z.1 }
 
-no_space_first : (v : List ℕ) (b : ℕ) (o y : List ℕ) → v ≡ b ∷ o → is_space b ≡ false → begins is_space (v ++ y) ≡ false
+pub no_space_first : (v : List ℕ) (b : ℕ) (o y : List ℕ) → v ≡ b ∷ o → is_space b ≡ false → begins is_space (v ++ y) ≡ false
 no_space_first v b o y e h = ap (λ z. begins is_space (z ++ y)) e ∙ h
 
-ends_byte : (w : List ℕ) (b : ℕ) (r : List ℕ) → w ≡ b ∷ r → is_space b ≡ false → is_run b ≡ false → Ends w
+pub ends_byte : (w : List ℕ) (b : ℕ) (r : List ℕ) → w ≡ b ∷ r → is_space b ≡ false → is_run b ≡ false → Ends w
 ends_byte w b r e h k = record { no_space = ap (begins is_space) e ∙ h; no_run = ap (begins is_run) e ∙ k }
 
-more_ends : (ts : Trees) (at : ℕ) (r y : List ℕ) → SpellsFurtherItems at r ts → Ends (r ++ (0x5D ∷ y))
+pub more_ends : (ts : Trees) (at : ℕ) (r y : List ℕ) → SpellsFurtherItems at r ts → Ends (r ++ (0x5D ∷ y))
 more_ends no_trees at r y h = ends_byte _ 0x5D y (ap (λ z. z ++ (0x5D ∷ y)) h) refl refl
 more_ends (tree_and t ts) at r y k = let (v, e, h) = further_items_parts t ts at r k in ends_byte _ 0x2C (v ++ (0x5D ∷ y)) (ap (λ z. z ++ (0x5D ∷ y)) e) refl refl
 
-more_members_end : (ms : Members) (at : ℕ) (r y : List ℕ) → SpellsFurtherMembers at r ms → Ends (r ++ (0x7D ∷ y))
+pub more_members_end : (ms : Members) (at : ℕ) (r y : List ℕ) → SpellsFurtherMembers at r ms → Ends (r ++ (0x7D ∷ y))
 more_members_end no_members at r y h = ends_byte _ 0x7D y (ap (λ z. z ++ (0x7D ∷ y)) h) refl refl
 more_members_end (member_and name i t ms) at r y k = let (v, e, h) = further_members_parts name i t ms at r k in ends_byte _ 0x2C (v ++ (0x7D ∷ y)) (ap (λ z. z ++ (0x7D ∷ y)) e) refl refl
 
 -- the text of a string, and what is behind it
-name_same : (cs ds : List Character) (v w y z : List ℕ) → AreCharacters cs → AreCharacters ds → v ≡ string_text cs → w ≡ string_text ds → v ++ y ≡ w ++ z → Same cs ds v w y z
+pub name_same : (cs ds : List Character) (v w y z : List ℕ) → AreCharacters cs → AreCharacters ds → v ≡ string_text cs → w ≡ string_text ds → v ++ y ≡ w ++ z → Same cs ds v w y z
 name_same cs ds v w y z h k e f g =
     let r = same_text cs ds y z h k (sym (append_assoc (flat_map character_text cs) (0x22 ∷ []) y) ∙ (ap tail (ap (λ x. x ++ y) (sym e) ∙ (g ∙ ap (λ x. x ++ z) f)) ∙ append_assoc (flat_map character_text ds) (0x22 ∷ []) z)) in
     record { same = r.0; part = e ∙ (ap string_text r.0 ∙ sym f); rest = r.1 }
@@ -203,28 +203,28 @@ run_same t u v w y z h k same p q e = let r = same_front is_run v w y z h k e p 
 same_offset : (i j at from : ℕ) → i ≡ at → j ≡ from → at ≡ from → i ≡ j
 same_offset i j at from e f g = omega (arith, e, f, g)
 
-next_offset : (at from : ℕ) → at ≡ from → at + 1 ≡ from + 1
+pub next_offset : (at from : ℕ) → at ≡ from → at + 1 ≡ from + 1
 next_offset at from e = omega (arith, e)
 
-behind : (at from : ℕ) (a c : List ℕ) → at ≡ from → a ≡ c → at + length a ≡ from + length c
+pub behind : (at from : ℕ) (a c : List ℕ) → at ≡ from → a ≡ c → at + length a ≡ from + length c
 behind at from a c e f = ap (λ n. n + length a) e ∙ ap (λ z. from + length z) f
 
 differ : {P : Type 0} (t u : Tree) (v y w z : List ℕ) → Starts t v → Starts u w → v ++ y ≡ w ++ z → (kind t ≡ kind u → ⊥) → P
 differ t u v y w z h k e n = absurd (n (same_kind t u v y w z h k e))
 
-inner : (b : ℕ) (v w y : List ℕ) (c : ℕ) → v ≡ c ∷ (w ++ b ∷ []) → v ++ y ≡ c ∷ (w ++ (b ∷ y))
+pub inner : (b : ℕ) (v w y : List ℕ) (c : ℕ) → v ≡ c ∷ (w ++ b ∷ []) → v ++ y ≡ c ∷ (w ++ (b ∷ y))
 inner b v w y c e = ap (λ z. z ++ y) e ∙ ap (λ z. c ∷ z) (append_assoc w (b ∷ []) y)
 
-padded_on : (w a v b r q : List ℕ) → w ≡ a ++ (v ++ (b ++ r)) → w ++ q ≡ a ++ (v ++ (b ++ (r ++ q)))
+pub padded_on : (w a v b r q : List ℕ) → w ≡ a ++ (v ++ (b ++ r)) → w ++ q ≡ a ++ (v ++ (b ++ (r ++ q)))
 padded_on w a v b r q e = ap (λ z. z ++ q) e ∙ sym (regroup a v b r q)
 
 -- a value does not stand where a bracket closes
-not_closed : {P : Type 0} (t : Tree) (v y w z : List ℕ) → Starts t v → AreSpaces w → w ++ (0x5D ∷ z) ≡ v ++ y → P
+pub not_closed : {P : Type 0} (t : Tree) (v y w z : List ℕ) → Starts t v → AreSpaces w → w ++ (0x5D ∷ z) ≡ v ++ y → P
 not_closed t v y [] z h k e = absurd (true≢false (sym (ap (λ b. b == 0x5D) (ap head (ap (λ x. x ++ y) (sym h.split) ∙ sym e))) ∙ h.closing))
 not_closed t v y (c ∷ w) z h (k, ks) e = absurd (true≢false (sym k ∙ (ap is_space (ap head (e ∙ ap (λ x. x ++ y) h.split)) ∙ h.space)))
 
 -- a name, a colon, a value, and further members
-same_member : (m l : List Character) (j k : ℕ) (t u : Tree) (ts us : Members) (at from : ℕ) (v y w z : List ℕ)
+pub same_member : (m l : List Character) (j k : ℕ) (t u : Tree) (ts us : Members) (at from : ℕ) (v y w z : List ℕ)
     → ((i n : ℕ) (a r b q : List ℕ) → Spells i a t → Spells n b u → i ≡ n → begins is_run r ≡ false → begins is_run q ≡ false → a ++ r ≡ b ++ q → Same t u a b r q)
     → ((i n : ℕ) (a r b q : List ℕ) → SpellsFurtherMembers i a ts → SpellsFurtherMembers n b us → i ≡ n → a ++ (0x7D ∷ r) ≡ b ++ (0x7D ∷ q) → Same ts us a b r q)
     → MemberParts m j t ts at v → MemberParts l k u us from w → at ≡ from → v ++ (0x7D ∷ y) ≡ w ++ (0x7D ∷ z)
@@ -254,7 +254,7 @@ same_member m l j k t u ts us at from v y w z value_same more_same (a, x, b, r, 
 -- ---- the tree
 
 mutual
-  same_value : (t u : Tree) (at from : ℕ) (v y w z : List ℕ) → Spells at v t → Spells from w u → at ≡ from → begins is_run y ≡ false → begins is_run z ≡ false → v ++ y ≡ w ++ z → Same t u v w y z
+  pub same_value : (t u : Tree) (at from : ℕ) (v y w z : List ℕ) → Spells at v t → Spells from w u → at ≡ from → begins is_run y ≡ false → begins is_run z ≡ false → v ++ y ≡ w ++ z → Same t u v w y z
   same_value (literal i l) (literal j k) at from v y w z (f, e) (g, d) o p q s =
       run_same (literal i l) (literal j k) v w y z (subst AreRun (sym e) (literal_runs l)) (subst AreRun (sym d) (literal_runs k))
       (λ r. ap (λ n. literal n l) (same_offset i j at from f g o) ∙ ap (literal j) (one_literal l k (sym e ∙ (r ∙ d)))) p q s
@@ -297,7 +297,7 @@ mutual
   same_value (object i ms) (text j ds) at from v y w z h k o p q s = differ (object i ms) (text j ds) v y w z (starts (object i ms) at v h) (starts (text j ds) from w k) s (λ c. clash 3 1 refl c)
   same_value (object i ms) (array j us) at from v y w z h k o p q s = differ (object i ms) (array j us) v y w z (starts (object i ms) at v h) (starts (array j us) from w k) s (λ c. clash 3 2 refl c)
 
-  same_items : (ts us : Trees) (at from : ℕ) (v y w z : List ℕ) → SpellsItems at v ts → SpellsItems from w us → at ≡ from → v ++ (0x5D ∷ y) ≡ w ++ (0x5D ∷ z) → Same ts us v w y z
+  pub same_items : (ts us : Trees) (at from : ℕ) (v y w z : List ℕ) → SpellsItems at v ts → SpellsItems from w us → at ≡ from → v ++ (0x5D ∷ y) ≡ w ++ (0x5D ∷ z) → Same ts us v w y z
   same_items no_trees no_trees at from v y w z h k o e = let r = same_front is_space v w (0x5D ∷ y) (0x5D ∷ z) h k e refl refl in record { same = refl; part = r.0; rest = ap tail r.1 }
   same_items no_trees (tree_and u us) at from v y w z h k o e =
       let (c, x, d, q, f, hc, hd, hx, hq) = items_parts u us from w k in absurd (not_here c x d q v h (starts u (from + length c) x hx) hc (e ∙ padded_on w c x d q (0x5D ∷ z) f))
@@ -325,7 +325,7 @@ mutual
         rest = s.rest;
       }
 
-  same_more : (ts us : Trees) (at from : ℕ) (v y w z : List ℕ) → SpellsFurtherItems at v ts → SpellsFurtherItems from w us → at ≡ from → v ++ (0x5D ∷ y) ≡ w ++ (0x5D ∷ z) → Same ts us v w y z
+  pub same_more : (ts us : Trees) (at from : ℕ) (v y w z : List ℕ) → SpellsFurtherItems at v ts → SpellsFurtherItems from w us → at ≡ from → v ++ (0x5D ∷ y) ≡ w ++ (0x5D ∷ z) → Same ts us v w y z
   same_more no_trees no_trees at from v y w z h k o e = record { same = refl; part = h ∙ sym k; rest = ap tail (ap (λ n. n ++ (0x5D ∷ y)) (sym h) ∙ (e ∙ ap (λ n. n ++ (0x5D ∷ z)) k)) }
   same_more no_trees (tree_and u us) at from v y w z h hw o e = let (w1, i, k) = further_items_parts u us from w hw in clash 0x5D 0x2C refl (ap head (ap (λ n. n ++ (0x5D ∷ y)) (sym h) ∙ (e ∙ ap (λ n. n ++ (0x5D ∷ z)) i)))
   same_more (tree_and t ts) no_trees at from v y w z hv k o e = let (v1, f, h) = further_items_parts t ts at v hv in clash 0x2C 0x5D refl (ap head (ap (λ n. n ++ (0x5D ∷ y)) (sym f) ∙ (e ∙ ap (λ n. n ++ (0x5D ∷ z)) k)))
@@ -344,7 +344,7 @@ mutual
         rest = s.rest;
       }
 
-  same_members : (ms ns : Members) (at from : ℕ) (v y w z : List ℕ) → SpellsMembers at v ms → SpellsMembers from w ns → at ≡ from → v ++ (0x7D ∷ y) ≡ w ++ (0x7D ∷ z) → Same ms ns v w y z
+  pub same_members : (ms ns : Members) (at from : ℕ) (v y w z : List ℕ) → SpellsMembers at v ms → SpellsMembers from w ns → at ≡ from → v ++ (0x7D ∷ y) ≡ w ++ (0x7D ∷ z) → Same ms ns v w y z
   same_members no_members no_members at from v y w z h k o e = let r = same_front is_space v w (0x7D ∷ y) (0x7D ∷ z) h k e refl refl in record { same = refl; part = r.0; rest = ap tail r.1 }
   same_members no_members (member_and m j u us) at from v y w z h k o e =
       let (c, x, d, q, f, hc, hd, (g, (hm, hx)), hq) = members_parts m j u us from w k in
@@ -356,7 +356,7 @@ mutual
       clash 0x7D 0x22 refl (ap head (s.1 ∙ ap (λ n. n ++ (b ++ (r ++ (0x7D ∷ y)))) hx))
   same_members (member_and m j t ts) (member_and l k u us) at from v y w z h g o e = same_member m l j k t u ts us at from v y w z (same_value t u) (same_more_members ts us) (members_parts m j t ts at v h) (members_parts l k u us from w g) o e
 
-  same_more_members : (ms ns : Members) (at from : ℕ) (v y w z : List ℕ) → SpellsFurtherMembers at v ms → SpellsFurtherMembers from w ns → at ≡ from → v ++ (0x7D ∷ y) ≡ w ++ (0x7D ∷ z) → Same ms ns v w y z
+  pub same_more_members : (ms ns : Members) (at from : ℕ) (v y w z : List ℕ) → SpellsFurtherMembers at v ms → SpellsFurtherMembers from w ns → at ≡ from → v ++ (0x7D ∷ y) ≡ w ++ (0x7D ∷ z) → Same ms ns v w y z
   same_more_members no_members no_members at from v y w z h k o e = record { same = refl; part = h ∙ sym k; rest = ap tail (ap (λ n. n ++ (0x7D ∷ y)) (sym h) ∙ (e ∙ ap (λ n. n ++ (0x7D ∷ z)) k)) }
   same_more_members no_members (member_and m j u us) at from v y w z h hw o e = let (w1, i, k) = further_members_parts m j u us from w hw in clash 0x7D 0x2C refl (ap head (ap (λ n. n ++ (0x7D ∷ y)) (sym h) ∙ (e ∙ ap (λ n. n ++ (0x7D ∷ z)) i)))
   same_more_members (member_and m j t ts) no_members at from v y w z hv k o e = let (v1, f, h) = further_members_parts m j t ts at v hv in clash 0x2C 0x7D refl (ap head (ap (λ n. n ++ (0x7D ∷ y)) (sym f) ∙ (e ∙ ap (λ n. n ++ (0x7D ∷ z)) k)))
