@@ -1,20 +1,14 @@
 -- Geometries of a type and of coordinates that are read at once. For `value`.
-use Rattle.std.proofs.Common.{◌≡◌, inr, ℕ, ◌+◌, ◌<◌, Bool, true, false, List, [], ◌∷◌, length, slice_index, Some, None, Result, refl, sym, ◌∙◌, ap, subst, arith}
+use Rattle.std.proofs.Common.{◌≡◌, inr, ℕ, ◌+◌, ◌<◌, true, false, List, [], ◌∷◌, length, slice_index, Some, None, Result, refl, sym, ◌∙◌, ap, subst, arith}
 use Rattle.std.proofs.lemmas.Bool.{true≢false}
 use Rattle.std.specs.declared.alloc.Global.{Global}
-use Rattle.std.specs.declared.boxed.Box.{Box}
-use denote.RawPtr.{null_ptr}
 use Rattle.at_text.specs.declared.faults.Fault.{Fault}
 use Rattle.at_geom.specs.declared.shapes.Shape.{Shape}
-use Rattle.at_wkt.specs.Meaning.{of_points, of_lines, of_polygons}
 use Rattle.at_nest.specs.declared.algebra.Member.{Member}
 use Rattle.at_geojson.specs.declared.kinds.Kind.{Kind}
 use Rattle.at_geojson.specs.declared.kinds.Kind.TheVariants as kinds
 use Rattle.at_geojson.specs.declared.atoms.GeoAtom.{GeoAtom}
 use Rattle.at_geojson.specs.declared.atoms.GeoAtom.TheVariants as atoms
-use Rattle.at_geojson.specs.declared.atoms.PointsAtom.{PointsAtom}
-use Rattle.at_geojson.specs.declared.atoms.ListsAtom.{ListsAtom}
-use Rattle.at_geojson.specs.declared.atoms.AreasAtom.{AreasAtom}
 use Rattle.at_geojson.specs.declared.atoms.ObjectAtom.{ObjectAtom}
 use Rattle.at_geojson.specs.declared.atoms.Role.TheVariants as roles
 use Rattle.at_geojson.specs.declared.fields.Field.{Field}
@@ -22,70 +16,21 @@ use Rattle.at_geojson.specs.declared.fields.Field.TheVariants as names
 use Rattle.at_geojson.specs.declared.fields.Fields.{Fields}
 use Rattle.at_geojson.specs.declared.members.FieldName.{FieldName}
 use Rattle.at_geojson.specs.declared.pairs.Whole.{Whole}
-use Rattle.at_geojson.specs.declared.pairs.PointsRead.{PointsRead}
-use Rattle.at_geojson.specs.declared.rings.ListsRead.{ListsRead}
-use Rattle.at_geojson.specs.declared.rings.AreasRead.{AreasRead}
 use Rattle.at_geojson.specs.declared.plain_geometries.KindRead.{KindRead}
 use Rattle.at_geojson.specs.declared.plain_geometries.ShapeRead.{ShapeRead}
-use Rattle.at_geojson.specs.Keeping.{Asked, needs_shapes, kept}
+use Rattle.at_geojson.specs.Keeping.{Asked, needs_shapes}
 use Rattle.at_geojson.specs.Atoms.{IfOwnShape}
 use Rattle.at_geojson.specs.Gathering.{is_among, member_twins}
-use Rattle.at_geojson.specs.Objects.{unless, coordinates_shape, kept_texts}
+use Rattle.at_geojson.specs.Objects.{coordinates_shape, kept_texts}
 use Rattle.at_geojson.specs.Places.{IsNameAt}
 use Rattle.at_geojson.specs.Fields.{field_of, is_kind, is_coordinates, AreFields, IsRoleIn}
-use Rattle.at_geojson.specs.Rows.{ArePointsWhole}
-use Rattle.at_geojson.specs.Rings.{AreListsWhole, AreAreasWhole}
 use Rattle.at_geojson.specs.Members.{name_in, IsPlainName, EndsFields}
-use Rattle.at_geojson.specs.PlainGeometries.{IsKindRead, has_coordinates, AreCoordinatesOf, IsCoordinatesItem, IsGeometryRead}
+use Rattle.at_geojson.specs.PlainGeometries.{IsKindRead, has_coordinates, IsCoordinatesItem, IsGeometryRead}
 use Rattle.at_geojson.proofs.FieldFolds.{field_absent, fields_more}
 use Rattle.at_geojson.proofs.ObjectOwns.{own_coordinates}
 use Rattle.at_geojson.proofs.ValueParts.{member_of, members_begin, members_go_on, object_read}
+use Rattle.at_geojson.proofs.ProofOnly.{boxed}
 use Rattle.at_geojson.proofs.MemberReads.{no_twin_more, ends_fields}
-
--- ---- coordinates
-
-module _ (asked : Asked) (alloc : Global) where
-  abbrev boxed : {X : Type 0} → X → Box X Global
-  boxed x = record { ptr = null_ptr; alloc = alloc; value = x }
-
-  module _ (base : ℕ) (w : List ℕ) (at : ℕ) (needs : Bool) (same : needs ≡ needs_shapes asked.query) where
-    pub line_reads : (p : PointsRead) (shape : Result Shape Fault) → ArePointsWhole asked base w at p → shape ≡ unless p.points.as_line (of_lines (kept needs (p.points.path.items ∷ []))) → AreCoordinatesOf asked base w at kinds.LineString (record { end = p.end; shape = shape })
-    line_reads p shape h e =
-        let m : PointsAtom = record { at = p.at; least = p.least; points = boxed p.points } in
-        record {
-          atom = atoms.Points m;
-          whole = h.whole m (record { at_is = refl; least_is = refl; points_is = refl });
-          no_twin = refl;
-          with_coordinates = refl;
-          shape = e ∙ ap (λ b. unless p.points.as_line (of_lines (kept b (p.points.path.items ∷ [])))) same;
-        }
-
-    pub polygon_reads : (p : ListsRead) (shape : Result Shape Fault) → AreListsWhole asked base w at p → shape ≡ unless p.lists.as_rings (of_polygons (kept needs (record { rings = p.lists.paths.items } ∷ []))) → AreCoordinatesOf asked base w at kinds.Polygon (record { end = p.end; shape = shape })
-    polygon_reads p shape h e =
-        let m : ListsAtom = record { at = p.at; least = p.least; lists = boxed p.lists } in
-        record {
-          atom = atoms.Lists m;
-          whole = h.whole m (record { at_is = refl; least_is = refl; lists_is = refl });
-          no_twin = refl;
-          with_coordinates = refl;
-          shape = e ∙ ap (λ b. unless p.lists.as_rings (of_polygons (kept b (record { rings = p.lists.paths.items } ∷ [])))) same;
-        }
-
-  module _ (base : ℕ) (w : List ℕ) (at : ℕ) where
-    pub points_read : (p : PointsRead) (shape : Result Shape Fault) → ArePointsWhole asked base w at p → shape ≡ unless p.points.as_points (of_points p.points.path.items) → AreCoordinatesOf asked base w at kinds.MultiPoint (record { end = p.end; shape = shape })
-    points_read p shape h e =
-        let m : PointsAtom = record { at = p.at; least = p.least; points = boxed p.points } in
-        record { atom = atoms.Points m; whole = h.whole m (record { at_is = refl; least_is = refl; points_is = refl }); no_twin = refl; with_coordinates = refl; shape = e }
-
-    pub lines_read : (p : ListsRead) (shape : Result Shape Fault) → AreListsWhole asked base w at p → shape ≡ unless p.lists.as_lines (of_lines p.lists.paths.items) → AreCoordinatesOf asked base w at kinds.MultiLineString (record { end = p.end; shape = shape })
-    lines_read p shape h e =
-        let m : ListsAtom = record { at = p.at; least = p.least; lists = boxed p.lists } in
-        record { atom = atoms.Lists m; whole = h.whole m (record { at_is = refl; least_is = refl; lists_is = refl }); no_twin = refl; with_coordinates = refl; shape = e }
-
-    pub polygons_read : (p : AreasRead) (shape : Result Shape Fault) → AreAreasWhole asked base w at p → shape ≡ unless p.areas.fault (of_polygons p.areas.polygons.items) → AreCoordinatesOf asked base w at kinds.MultiPolygon (record { end = p.end; shape = shape })
-    polygons_read p shape h e =
-        let m : AreasAtom = record { at = p.at; least = p.least; areas = boxed p.areas } in
-        record { atom = atoms.Areas m; whole = h.whole m (record { at_is = refl; least_is = refl; areas_is = refl }); no_twin = refl; with_coordinates = refl; shape = e }
 
 -- ---- geometries
 
@@ -148,7 +93,7 @@ module _ (asked : Asked) (alloc : Global) where
         let absent : is_among (a ∷ []) (name_in w m.place) ≡ false = field_absent names.Coordinates f1 (a ∷ []) (name_in w m.place) (sym mc ∙ same2) refl one refl in
         let twins : member_twins [] (a ∷ b ∷ []) ≡ None = no_twin_more [] (a ∷ []) b (no_twin_more [] [] a refl refl kind.no_twin) absent read.no_twin in
         let texts = kept_texts asked.query.tests (a ∷ b ∷ []) in
-        let o : ObjectAtom = record { at = base + at; roles = boxed asked alloc (record { role = roles.Geometry c.shape; texts = texts }) } in
+        let o : ObjectAtom = record { at = base + at; roles = boxed alloc (record { role = roles.Geometry c.shape; texts = texts }) } in
         let q : Whole = record { end = c.end + 1; atom = atoms.Object o } in
         let own : IfOwnShape asked c.shape = subst (IfOwnShape asked) (sym read.shape) (own_coordinates asked (base + at) k.kind (Some read.atom) read.item.own) in
         let fields : EndsFields asked (base + at) (c.end + 1) f2 texts q = record {

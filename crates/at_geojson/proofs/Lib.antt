@@ -1,7 +1,7 @@
 pub mod Firsts
-pub mod MeasureFolds
+pub mod ProofOnly
 pub mod MadeFolds
-pub mod MeasuredParts
+pub mod SeenCoordinates
 pub mod Repeats
 pub mod TallyFolds
 pub mod TwinSteps

@@ -1,4 +1,4 @@
--- Positions one behind another, of which something is made as they are read. For `read_points`.
+-- Positions one behind another, of which something is made as they are read. For `value`.
 use Rattle.std.proofs.Common.{◌≡◌, ℕ, ◌+◌, ◌<◌, ◌≤◌, Bool, true, false, List, [], ◌∷◌, ◌++◌, ◌-◌, take, drop, length, slice_index, Option, None, Some, refl, sym, ◌∙◌, ap, subst, arith}
 use Rattle.std.specs.Prelude.{◌^◌}
 use Rattle.std.proofs.lemmas.List.{length-append}
@@ -28,8 +28,6 @@ use Rattle.at_geojson.specs.declared.makings.LinesMade.{LinesMade}
 use Rattle.at_geojson.specs.declared.makings.AreasMade.{AreasMade}
 use Rattle.at_geojson.specs.declared.pairs.PairRead.{PairRead}
 use Rattle.at_geojson.specs.declared.pairs.PairPlace.{PairPlace}
-use Rattle.at_geojson.specs.declared.pairs.PointsRead.{PointsRead}
-use Rattle.at_geojson.specs.declared.rings.ListsRead.{ListsRead}
 use Rattle.at_geojson.specs.declared.pairs.Row.{Row}
 use Rattle.at_geojson.specs.Keeping.{Asked, kept, needs_shapes}
 use Rattle.at_wkt.specs.Positions.{Position}
@@ -37,13 +35,13 @@ use Rattle.at_geojson.specs.Coordinates.{position_of}
 use Rattle.at_geojson.specs.Atoms.{to_four, IsFold, PositionView, Alike, IsPosition}
 use Rattle.at_geojson.specs.Gathering.{position_value}
 use Rattle.at_geojson.specs.Passing.{IsPairAt, pair_of, same_values}
-use Rattle.at_geojson.specs.Rows.{IsRow, ArePointsRead, ArePointsWhole}
+use Rattle.at_geojson.specs.Rows.{PointsRead, IsRow, ArePointsRead, ArePointsWhole}
 use Rattle.at_geojson.specs.Values.{IsSpacedPair}
 use Rattle.at_geojson.specs.Makings.{ReadsSpot, IsPassedOver, MakesLine, MakesLineItem, MakesLines, MakesLinesItem, polygon, MakesPolygons}
-use Rattle.at_geojson.specs.Rings.{AreLists, AreListsRead, AreListsWhole, AreAreas, AreAreasRead, AreAreasWhole}
+use Rattle.at_geojson.specs.Rings.{ListsRead, AreLists, AreListsRead, AreListsWhole, AreAreas, AreAreasRead, AreAreasWhole}
 use Rattle.at_geojson.proofs.RingFolds.{points_padded, lists_begin, lists_go_on, lists_end, lists_padded, areas_begin, areas_go_on, areas_end}
 use Rattle.at_geojson.proofs.RowFolds.{lengthened, row_made, kept_append, points_begin, points_go_on, points_end}
-use Rattle.at_geojson.proofs.MeasureFolds.{vec_of, kept_length}
+use Rattle.at_geojson.proofs.ProofOnly.{vec_of, kept_length}
 use Rattle.at_geojson.proofs.PassedPairs.{placed_pair, bytes_moved, pair_moved, moved_pair, same_as_itself}
 
 one_longer : {X : Type 0} (xs : List X) (x : X) → length (xs ++ x ∷ []) ≡ length xs + 1
@@ -208,7 +206,7 @@ same_bytes asked base w from to at end p q h k l inside fits same (place, e, sto
 
 -- ---- lists of positions, up to the last of them
 
-kept_twice : {X : Type 0} (needs : Bool) (xs : List X) → kept needs (kept needs xs ∷ []) ≡ kept needs (xs ∷ [])
+pub kept_twice : {X : Type 0} (needs : Bool) (xs : List X) → kept needs (kept needs xs ∷ []) ≡ kept needs (xs ∷ [])
 kept_twice true xs = refl
 kept_twice false xs = refl
 
@@ -240,6 +238,7 @@ module _ {B K L : Type 0} (Tells : B → List Pos → K → Type 0) (TellsLines 
         at_is = refl;
         end_is = refl;
         kept_is = refl;
+        points_is = refl;
         line_is = refl;
         ring_is = refl;
       }
@@ -319,7 +318,7 @@ module _ {B K L : Type 0} (Tells : B → List Pos → K → Type 0) (TellsLines 
 
 -- ---- areas, up to the last of them
 
-area_kept : (needs : Bool) (xs ys : List (List Pos)) → xs ≡ kept needs ys → kept needs (polygon ys ∷ []) ≡ kept needs (polygon xs ∷ [])
+pub area_kept : (needs : Bool) (xs ys : List (List Pos)) → xs ≡ kept needs ys → kept needs (polygon ys ∷ []) ≡ kept needs (polygon xs ∷ [])
 area_kept true xs ys e = ap (λ z. polygon z ∷ []) (sym e)
 area_kept false xs ys e = refl
 
@@ -350,6 +349,7 @@ module _ {B K L : Type 0} (Tells : B → List (List Pos) → K → Type 0) (Tell
         at_is = refl;
         end_is = refl;
         kept_is = refl;
+        lines_is = refl;
         rings_is = refl;
       }
 
@@ -406,6 +406,7 @@ module _ {B K L : Type 0} (Tells : B → List (List Pos) → K → Type 0) (Tell
     polygons = f.polygons;
     few = omega (arith, f.few, f.within);
     tells = subst (TellsAreas before f.polygons) (sym em) f.tells;
+    within = omega (arith, inside, ee);
     whole = λ areas pp pf. (
         let known : AreAreas (needs_shapes asked.query) (f.read.first ∷ f.read.rest) areas = record {
           polygons = pp ∙ (sym f.kept_is ∙ f.read.known.polygons);

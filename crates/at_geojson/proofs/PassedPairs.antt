@@ -1,5 +1,5 @@
 -- Positions that are passed over are positions with white space round them, and the same bytes elsewhere are the same position.
--- For `read_points`.
+-- For `value`.
 use Rattle.std.proofs.Common.{◌≡◌, ℕ, ◌+◌, ◌-◌, ◌<◌, ◌≤◌, List, [], ◌∷◌, map, take, drop, length, slice_index, ℤ, true, Ok, refl, sym, ◌∙◌, ap, subst, arith}
 use Rattle.std.specs.Ordering.{int_eq}
 use Rattle.std.proofs.lemmas.Bool.{and_from}

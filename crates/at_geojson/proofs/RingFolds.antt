@@ -15,16 +15,14 @@ use Rattle.at_geojson.specs.declared.atoms.Areas.{Areas}
 use Rattle.at_geojson.specs.declared.atoms.Lists.{Lists}
 use Rattle.at_geojson.specs.declared.atoms.ListsAtom.{ListsAtom}
 use Rattle.at_geojson.specs.declared.atoms.PointsAtom.{PointsAtom}
-use Rattle.at_geojson.specs.declared.pairs.PointsRead.{PointsRead}
 use Rattle.at_geojson.specs.declared.pairs.Whole.{Whole}
-use Rattle.at_geojson.specs.declared.rings.ListsRead.{ListsRead}
 use Rattle.at_geojson.specs.declared.sorts.Sort.{Sort}
 use Rattle.at_geojson.specs.declared.sorts.Sort.TheVariants as sorts
 use Rattle.at_geojson.specs.Keeping.{Asked, kept, needs_shapes}
 use Rattle.at_geojson.specs.Atoms.{twin_of, at_of, IsOwn}
 use Rattle.at_geojson.specs.Gathering.{firsts, are_all, rank, sort_of, sort_of_all, fault_as_line, fault_as_ring, path_in, MakesLists, area_fault, polygon_in, MakesAreas}
-use Rattle.at_geojson.specs.Rows.{ArePointsWhole}
-use Rattle.at_geojson.specs.Rings.{ArePointsItem, AreItemsTo, AreSorted, LengthensLists, AreLists, AreListsRead, AreListsWhole, AreListsItem, LengthensAreas, AreAreas, AreAreasRead, AreAreasWhole}
+use Rattle.at_geojson.specs.Rows.{PointsRead, ArePointsWhole}
+use Rattle.at_geojson.specs.Rings.{ListsRead, ArePointsItem, AreItemsTo, AreSorted, LengthensLists, AreLists, AreListsRead, AreListsWhole, AreListsItem, LengthensAreas, AreAreas, AreAreasRead, AreAreasWhole}
 use Rattle.at_geojson.specs.Values.{IsWhole, IsItem, AreItemsRead, EndsArray}
 use Rattle.at_geojson.proofs.SortFacts.{sort_is}
 use Rattle.at_geojson.proofs.OwnFolds.{lists_own, areas_own}

@@ -20,13 +20,12 @@ use Rattle.at_geojson.specs.declared.atoms.GeoAtom.TheVariants as atoms
 use Rattle.at_geojson.specs.declared.atoms.Points.{Points}
 use Rattle.at_geojson.specs.declared.atoms.PositionAtom.{PositionAtom}
 use Rattle.at_geojson.specs.declared.pairs.PairRead.{PairRead}
-use Rattle.at_geojson.specs.declared.pairs.PointsRead.{PointsRead}
 use Rattle.at_geojson.specs.declared.pairs.Row.{Row}
 use Rattle.at_geojson.specs.declared.sorts.Sort.TheVariants as sorts
 use Rattle.at_geojson.specs.Keeping.{Asked, kept, needs_shapes}
 use Rattle.at_geojson.specs.Atoms.{to_four, twin_of, at_of, IsOwn, IsFold}
 use Rattle.at_geojson.specs.Gathering.{firsts, are_all, rank, sort_of, sort_of_all, least_of, last_atom, position_value, position_fault, closes}
-use Rattle.at_geojson.specs.Rows.{AreNext, IsRow, LengthensRow, EndsRow, EndsPoints, ArePointsRead, ArePointsWhole}
+use Rattle.at_geojson.specs.Rows.{PointsRead, AreNext, IsRow, LengthensRow, EndsRow, EndsPoints, ArePointsRead, ArePointsWhole}
 use Rattle.at_geojson.specs.Values.{IsSpacedPair}
 use Rattle.at_geojson.proofs.Firsts.{firsts-cons}
 use Rattle.at_geojson.proofs.CoordinateFolds.{closes_is}

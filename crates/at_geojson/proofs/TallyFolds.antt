@@ -79,7 +79,7 @@ hole_told measures.Area before (a ∷ rest) path t hole u e f h k =
     f ∙ (ap (λ z. int_wrap w128 (z -ℤ hole.area)) h ∙ (ap (λ z. int_wrap w128 (int_wrap w128 x -ℤ z)) k
     ∙ (int_wrap-add_left w128 x (neg_ℤ (wrapped_ring_size path)) ∙ ap (int_wrap w128) (omega (arith, ints, s)))))
 
-list_told : (measure : Measure) (before : Option Extent) (path : List Pos) (t : Tally) → TalliesPath measure before path t → TalliesLists measure before (path ∷ []) t
+pub list_told : (measure : Measure) (before : Option Extent) (path : List Pos) (t : Tally) → TalliesPath measure before path t → TalliesLists measure before (path ∷ []) t
 list_told measures.Count before path t h = tt
 list_told measures.Extent before path t h = h ∙ ap (widened_by before) (sym (append-nil path))
 list_told measures.Area before path t h =
@@ -109,7 +109,7 @@ polygon_told measures.Area before polygons more t polygon u e f h k =
     f ∙ (ap (λ z. int_wrap w128 (z +ℤ polygon.area)) h ∙ (ap (λ z. int_wrap w128 (wrapped_sum polygons +ℤ z)) (area_is more.rings polygon.area k)
     ∙ (int_wrap-add_left w128 (sum_of (map wrapped_area polygons)) (wrapped_area more) ∙ ap (int_wrap w128) (sym s))))
 
-area_told : (measure : Measure) (before : Option Extent) (rings : List (List Pos)) (t : Tally) → TalliesLists measure before rings t → TalliesAreas measure before (record { rings = rings } ∷ []) t
+pub area_told : (measure : Measure) (before : Option Extent) (rings : List (List Pos)) (t : Tally) → TalliesLists measure before rings t → TalliesAreas measure before (record { rings = rings } ∷ []) t
 area_told measures.Count before rings t h = tt
 area_told measures.Extent before rings t h = h ∙ ap (widened_by before) (sym (append-nil (joined rings)))
 area_told measures.Area before rings t h = area_is rings t.area h ∙ (sym (wrapped_area_again rings) ∙ ap (int_wrap w128) (omega (arith, ints)))
@@ -144,49 +144,34 @@ none_looks query measure e = go (list_any looks_at_shapes query.tests) refl e wh
 pub needs_are : (query : Query) (measure : Measure) → measure_of query ≡ Some measure → needs_shapes query ≡ asks_values measure
 needs_are query measure e = let k = none_looks query measure e in or_none (tells_shapes query.verb) (list_any looks_at_shapes query.tests) (asks_values measure) k.0 (verb_needs query.verb measure k.1)
 
--- ---- kept lists
-
-pub first_list : (measure : Measure) (before : Option Extent) (path : List Pos) (t : Tally) → TalliesPath measure before path t → TalliesLists measure before (kept (asks_values measure) (path ∷ [])) t
-first_list measures.Count before path t h = tt
-first_list measures.Extent before path t h = list_told measures.Extent before path t h
-first_list measures.Area before path t h = list_told measures.Area before path t h
-
-pub first_area : (measure : Measure) (before : Option Extent) (rings : List (List Pos)) (t : Tally) → TalliesLists measure before rings t → TalliesAreas measure before (kept (asks_values measure) (record { rings = rings } ∷ [])) t
-first_area measures.Count before rings t h = tt
-first_area measures.Extent before rings t h = area_told measures.Extent before rings t h
-first_area measures.Area before rings t h = area_told measures.Area before rings t h
-
 -- ---- shapes
 
-abbrev pub flat : Tally → Tally
+abbrev flat : Tally → Tally
 flat t = record { extent = t.extent; area = pos 0 }
 
-pub points_told : (measure : Measure) (path : List Pos) (t : Tally) → TalliesPath measure None path t → TalliesShape measure (of_points path) (flat t)
+points_told : (measure : Measure) (path : List Pos) (t : Tally) → TalliesPath measure None path t → TalliesShape measure (of_points (kept (asks_values measure) path)) (flat t)
 points_told measures.Count path t h = tt
 points_told measures.Extent path t h = h ∙ extent_of_parts path [] []
 points_told measures.Area path t h = sym no_area
 
-pub lines_told : (measure : Measure) (paths : List (List Pos)) (t : Tally) → TalliesLists measure None paths t → TalliesShape measure (of_lines paths) (flat t)
+lines_told : (measure : Measure) (paths : List (List Pos)) (t : Tally) → TalliesLists measure None paths t → TalliesShape measure (of_lines (kept (asks_values measure) paths)) (flat t)
 lines_told measures.Count paths t h = tt
 lines_told measures.Extent paths t h = h ∙ extent_of_parts [] (joined paths) []
 lines_told measures.Area paths t h = sym no_area
 
-pub line_told : (measure : Measure) (path : List Pos) (t : Tally) → TalliesPath measure None path t → TalliesShape measure (of_lines (kept (asks_values measure) (path ∷ []))) (flat t)
-line_told measures.Count path t h = tt
-line_told measures.Extent path t h = lines_told measures.Extent (path ∷ []) t (list_told measures.Extent None path t h)
-line_told measures.Area path t h = sym no_area
-
-pub areas_told : (measure : Measure) (polygons : List Polygon) (t : Tally) → TalliesAreas measure None polygons t → TalliesShape measure (of_polygons polygons) t
+areas_told : (measure : Measure) (polygons : List Polygon) (t : Tally) → TalliesAreas measure None polygons t → TalliesShape measure (of_polygons (kept (asks_values measure) polygons)) t
 areas_told measures.Count polygons t h = tt
 areas_told measures.Extent polygons t h = h ∙ extent_of_parts [] [] (positions_of_polygons polygons)
 areas_told measures.Area polygons t h = h
 
-pub rings_told : (measure : Measure) (rings : List (List Pos)) (t : Tally) → TalliesLists measure None rings t → TalliesShape measure (of_polygons (kept (asks_values measure) (record { rings = rings } ∷ []))) t
-rings_told measures.Count rings t h = tt
-rings_told measures.Extent rings t h = areas_told measures.Extent (record { rings = rings } ∷ []) t (area_told measures.Extent None rings t h)
-rings_told measures.Area rings t h = area_told measures.Area None rings t h
+module _ (query : Query) (measure : Measure) (e : measure_of query ≡ Some measure) where
+  pub points_shape_told : (path : List Pos) (t u : Tally) → u ≡ flat t → TalliesPath measure None path t → TalliesShape measure (of_points (kept (needs_shapes query) path)) u
+  points_shape_told path t u eu h = subst (TalliesShape measure (of_points (kept (needs_shapes query) path))) (sym eu)
+      (subst (λ b. TalliesShape measure (of_points (kept b path)) (flat t)) (sym (needs_are query measure e)) (points_told measure path t h))
 
-pub point_told : (measure : Measure) (p : Pos) (t : Tally) → SumsUp measure None (p ∷ []) t → TalliesShape measure (of_points (kept (asks_values measure) (p ∷ []))) t
-point_told measures.Count p t h = tt
-point_told measures.Extent p t h = h ∙ extent_of_parts (p ∷ []) [] []
-point_told measures.Area p t h = h
+  pub lines_shape_told : (paths : List (List Pos)) (t u : Tally) → u ≡ flat t → TalliesLists measure None paths t → TalliesShape measure (of_lines (kept (needs_shapes query) paths)) u
+  lines_shape_told paths t u eu h = subst (TalliesShape measure (of_lines (kept (needs_shapes query) paths))) (sym eu)
+      (subst (λ b. TalliesShape measure (of_lines (kept b paths)) (flat t)) (sym (needs_are query measure e)) (lines_told measure paths t h))
+
+  pub areas_shape_told : (polygons : List Polygon) (t : Tally) → TalliesAreas measure None polygons t → TalliesShape measure (of_polygons (kept (needs_shapes query) polygons)) t
+  areas_shape_told polygons t h = subst (λ b. TalliesShape measure (of_polygons (kept b polygons)) t) (sym (needs_are query measure e)) (areas_told measure polygons t h)

@@ -1,5 +1,4 @@
 -- What public contracts say: a reader has to believe these.
-pub mod Measures
 pub mod Names
 pub mod Coordinates
 pub mod Roles

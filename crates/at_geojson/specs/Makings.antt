@@ -11,12 +11,10 @@ use Rattle.at_geojson.specs.declared.makings.LineMade.{LineMade}
 use Rattle.at_geojson.specs.declared.makings.LinesMade.{LinesMade}
 use Rattle.at_geojson.specs.declared.makings.AreasMade.{AreasMade}
 use Rattle.at_geojson.specs.declared.pairs.PairPlace.{PairPlace}
-use Rattle.at_geojson.specs.declared.pairs.PointsRead.{PointsRead}
-use Rattle.at_geojson.specs.declared.rings.ListsRead.{ListsRead}
 use Rattle.at_geojson.specs.Keeping.{Asked, kept, needs_shapes}
 use Rattle.at_geojson.specs.Passing.{IsPairAt}
-use Rattle.at_geojson.specs.Rows.{ArePointsWhole}
-use Rattle.at_geojson.specs.Rings.{ArePointsItem, AreListsWhole, AreListsItem, AreAreasWhole}
+use Rattle.at_geojson.specs.Rows.{PointsRead, ArePointsWhole}
+use Rattle.at_geojson.specs.Rings.{ListsRead, ArePointsItem, AreListsWhole, AreListsItem, AreAreasWhole}
 use Rattle.at_geojson.specs.Values.{IsSpacedPair}
 
 -- ---- what is known of a position
@@ -68,6 +66,7 @@ pub record MakesLineItem {B L : Type 0} (Tells : B → List Pos → L → Type 0
   pub at_is : points.at ≡ m.at
   pub end_is : points.end ≡ m.end
   pub kept_is : points.points.path.items ≡ kept (needs_shapes asked.query) path
+  pub points_is : points.points.as_points ≡ None
   pub line_is : points.points.as_line ≡ m.as_line
   pub ring_is : points.points.as_ring ≡ m.as_ring
 
@@ -95,6 +94,7 @@ pub record MakesLinesItem {B L : Type 0} (Tells : B → List (List Pos) → L �
   pub at_is : lists.at ≡ m.at
   pub end_is : lists.end ≡ m.end
   pub kept_is : lists.lists.paths.items ≡ kept (needs_shapes asked.query) paths
+  pub lines_is : lists.lists.as_lines ≡ m.as_lines
   pub rings_is : lists.lists.as_rings ≡ m.as_rings
 
 -- ---- an array of areas
@@ -109,6 +109,7 @@ pub record MakesPolygons {B L : Type 0} (Tells : B → List Polygon → L → Ty
   pub polygons : List Polygon
   pub few : length polygons ≤ length w
   pub tells : Tells before polygons m.made
+  pub within : m.end ≤ length w
   pub whole : (areas : Areas) → areas.polygons.items ≡ kept (needs_shapes asked.query) polygons
       → areas.fault ≡ m.fault
       → AreAreasWhole asked base w at (record { at = m.at; least = m.least; end = m.end; areas = areas })

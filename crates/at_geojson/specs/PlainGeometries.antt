@@ -1,14 +1,12 @@
 -- Geometries of a type and of coordinates that are read at once. Only contracts of private functions cite this.
-use Rattle.std.specs.Prelude.{◌≡◌, ℕ, Bool, true, false, List, Some, None, Result, Ok, Err}
+use Rattle.std.specs.Prelude.{◌≡◌, ℕ, Bool, true, false, List, Option, Some, None, Result, Ok, Err}
 use Rattle.at_text.specs.declared.faults.Fault.{Fault}
 use Rattle.at_geom.specs.declared.shapes.Shape.{Shape}
 use Rattle.at_query.specs.declared.query.queries.Query.{Query}
-use Rattle.at_query.specs.declared.answer.parts.Part.{Part}
 use Rattle.at_geojson.specs.declared.asked.Measure.{Measure}
 use Rattle.at_geojson.specs.declared.kinds.Kind.{Kind}
 use Rattle.at_geojson.specs.declared.kinds.Kind.TheVariants as kinds
 use Rattle.at_geojson.specs.declared.atoms.GeoAtom.{GeoAtom}
-use Rattle.at_geojson.specs.declared.measured_geometries.PartRead.{PartRead}
 use Rattle.at_geojson.specs.declared.plain_geometries.KindRead.{KindRead}
 use Rattle.at_geojson.specs.declared.plain_geometries.ShapeRead.{ShapeRead}
 use Rattle.at_geojson.specs.declared.plain_geometries.Seen.{Seen}
@@ -34,16 +32,7 @@ has_coordinates kinds.Feature = false
 has_coordinates kinds.GeometryCollection = false
 has_coordinates _ = true
 
--- the coordinates of a geometry of the kind from the place on
-pub record AreCoordinatesOf (asked : Asked) (base : ℕ) (w : List ℕ) (at : ℕ) (kind : Kind) (p : ShapeRead)
-    : Type 0 where
-  pub atom : GeoAtom
-  pub whole : IsWhole asked base w at (record { end = p.end; atom = atom })
-  pub no_twin : twin_of atom ≡ None
-  pub with_coordinates : has_coordinates kind ≡ true
-  pub shape : p.shape ≡ kind_shape (needs_shapes asked.query) kind atom
-
--- white space, such coordinates, and white space
+-- white space, the coordinates of a geometry of the kind, and white space
 pub record IsCoordinatesItem (asked : Asked) (base : ℕ) (w : List ℕ) (at : ℕ) (kind : Kind) (p : ShapeRead)
     : Type 0 where
   pub atom : GeoAtom
@@ -62,15 +51,6 @@ pub record IsGeometryRead (asked : Asked) (base : ℕ) (w : List ℕ) (at : ℕ)
 
 -- ---- what is seen of a shape
 
--- the part that the measure tells of the shape, or its fault
-abbrev pub IsMeasured : Measure → Result Shape Fault → Result Part Fault → Type 0
-IsMeasured measure (Ok shape) r = (part : Part) × (r ≡ Ok part) × IsPartOfShape measure shape part
-IsMeasured measure (Err fault) r = r ≡ Err fault
-
--- a shape would be read that is such, and the measure tells this of it
-abbrev pub HasMeasured : Measure → (ShapeRead → Type 0) → PartRead → Type 0
-HasMeasured measure Is p = (s : ShapeRead) × Is s × (s.end ≡ p.end) × IsMeasured measure s.shape p.part
-
 -- the part that the query's measure tells of the shape, or the shape itself
 abbrev pub IsSeenOf : Query → Shape → Seen → Type 0
 IsSeenOf query shape (seens.Measured part) = (measure : Measure) × (measure_of query ≡ Some measure)
@@ -81,14 +61,15 @@ abbrev pub IsSeen : Query → Result Shape Fault → Result Seen Fault → Type 
 IsSeen query (Ok shape) r = (seen : Seen) × (r ≡ Ok seen) × IsSeenOf query shape seen
 IsSeen query (Err fault) r = r ≡ Err fault
 
+-- what is seen, unless there is a fault
+abbrev pub seen_unless : Option Fault → Seen → Result Seen Fault
+seen_unless None seen = Ok seen
+seen_unless (Some fault) seen = Err fault
+
 -- a shape would be read that is such, of which this is seen
 abbrev pub Sees : Asked → (ShapeRead → Type 0) → SeenRead → Type 0
 Sees asked Is p = (s : ShapeRead) × Is s × (s.end ≡ p.end) × IsSeen asked.query s.shape p.seen
 
--- whatever shape has the part that was read, it is seen by it; the shape that was read is seen
-abbrev pub SeesPart : PartRead → SeenRead → Type 0
-SeesPart read p = (p.end ≡ read.end) × ((query : Query) (measure : Measure) (shape : Result Shape Fault)
-    → measure_of query ≡ Some measure → IsMeasured measure shape read.part → IsSeen query shape p.seen)
-
+-- the shape that was read is seen
 abbrev pub SeesShape : ShapeRead → SeenRead → Type 0
 SeesShape read p = (p.end ≡ read.end) × ((query : Query) → IsSeen query read.shape p.seen)

@@ -10,14 +10,11 @@ use Rattle.at_geojson.specs.declared.atoms.Lists.{Lists}
 use Rattle.at_geojson.specs.declared.atoms.ListsAtom.{ListsAtom}
 use Rattle.at_geojson.specs.declared.atoms.Points.{Points}
 use Rattle.at_geojson.specs.declared.atoms.PointsAtom.{PointsAtom}
-use Rattle.at_geojson.specs.declared.pairs.PointsRead.{PointsRead}
-use Rattle.at_geojson.specs.declared.rings.ListsRead.{ListsRead}
-use Rattle.at_geojson.specs.declared.rings.AreasRead.{AreasRead}
 use Rattle.at_geojson.specs.Keeping.{Asked, kept, needs_shapes}
 use Rattle.at_geojson.specs.Atoms.{twin_of}
 use Rattle.at_geojson.specs.Gathering.{firsts, are_all, least_of, fault_as_line, fault_as_ring, path_in, area_fault}
 use Rattle.at_geojson.specs.Gathering.{polygon_in}
-use Rattle.at_geojson.specs.Rows.{KeepsPoints}
+use Rattle.at_geojson.specs.Rows.{PointsRead, KeepsPoints}
 use Rattle.at_geojson.specs.Values.{IsWhole, IsItem, AreItemsRead}
 
 -- white space, a list of positions, white space, told by the atom that keeps the list
@@ -66,6 +63,13 @@ pub record AreListsRead (asked : Asked) (base : ℕ) (w : List ℕ) (at end from
   pub begins : from < base + end
   pub known : AreLists (needs_shapes asked.query) (first ∷ rest) lists
 
+-- an array of lists of positions that was read: its offset, that of the first list, the place behind it, and what is kept
+pub record ListsRead : Type 0 where
+  pub at : ℕ
+  pub least : ℕ
+  pub end : ℕ
+  pub lists : Lists
+
 -- the atom keeps what is kept of the lists
 pub record KeepsLists (m : ListsAtom) (p : ListsRead) : Type 0 where
   pub at_is : m.at ≡ p.at
@@ -106,6 +110,13 @@ pub record AreAreasRead (asked : Asked) (base : ℕ) (w : List ℕ) (at end from
   pub sorted : AreSorted 4 from (first ∷ rest)
   pub begins : from < base + end
   pub known : AreAreas (needs_shapes asked.query) (first ∷ rest) areas
+
+-- an array of areas that was read: its offset, that of the first area, the place behind it, and what is kept of it
+pub record AreasRead : Type 0 where
+  pub at : ℕ
+  pub least : ℕ
+  pub end : ℕ
+  pub areas : Areas
 
 -- the atom keeps what is kept of the areas
 pub record KeepsAreas (m : AreasAtom) (p : AreasRead) : Type 0 where

@@ -9,7 +9,6 @@ use Rattle.at_geojson.specs.declared.atoms.GeoAtom.TheVariants as atoms
 use Rattle.at_geojson.specs.declared.atoms.Points.{Points}
 use Rattle.at_geojson.specs.declared.atoms.PointsAtom.{PointsAtom}
 use Rattle.at_geojson.specs.declared.atoms.PositionAtom.{PositionAtom}
-use Rattle.at_geojson.specs.declared.pairs.PointsRead.{PointsRead}
 use Rattle.at_geojson.specs.declared.pairs.Row.{Row}
 use Rattle.at_geojson.specs.Keeping.{Asked, kept, needs_shapes}
 use Rattle.at_geojson.specs.Atoms.{to_four, IsOwn, IsFold}
@@ -39,6 +38,13 @@ abbrev pub EndsRow : Bool → ℕ → Row → Points → Type 0
 EndsRow needs at row points = (rest : List GeoAtom) → IsRow needs row rest → (m : PointsAtom) → m.at ≡ at
     → m.least ≡ row.first.at → m.points.value ≡ points
     → MakesPoints needs at row.first.at (atoms.Position row.first ∷ rest) (atoms.Points m)
+
+-- a list of positions that was read: its offset, the least offset of its items, the place behind it, and what is kept of it
+pub record PointsRead : Type 0 where
+  pub at : ℕ
+  pub least : ℕ
+  pub end : ℕ
+  pub points : Points
 
 -- the list of the row's positions, and the place behind the bracket
 pub record EndsPoints (needs : Bool) (at end : ℕ) (row : Row) (p : PointsRead) : Type 0 where

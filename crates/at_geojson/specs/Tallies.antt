@@ -1,10 +1,9 @@
 -- What a query asks of positions of which none is kept, and what is told of them in place of their lists. Only contracts of
 -- private functions cite this.
-use Rattle.std.specs.Prelude.{◌≡◌, ℤ, Bool, true, false, if◌then◌else◌, List, [], ◌∷◌, fold, Option, Some, None, Result, Ok, Err}
+use Rattle.std.specs.Prelude.{◌≡◌, ℤ, Bool, true, false, if◌then◌else◌, List, [], ◌∷◌, fold, Option, Some, None}
 use Rattle.std.specs.Bool.{⊤}
 use Rattle.std.specs.List.{list_any}
 use Rattle.std.specs.Int.{w128, int_wrap}
-use Rattle.at_text.specs.declared.faults.Fault.{Fault}
 use Rattle.at_geom.specs.declared.positions.Pos.{Pos}
 use Rattle.at_geom.specs.declared.rectangles.Extent.{Extent}
 use Rattle.at_geom.specs.declared.shapes.Polygon.{Polygon}
@@ -78,11 +77,6 @@ abbrev pub TalliesShape : Measure → Shape → Tally → Type 0
 TalliesShape measures.Count shape t = ⊤
 TalliesShape measures.Extent shape t = t.extent ≡ extent_of (positions shape)
 TalliesShape measures.Area shape t = t.area ≡ wrapped_sum shape.polygons
-
--- the part, unless there is a fault
-abbrev pub part_unless : Option Fault → Part → Result Part Fault
-part_unless None part = Ok part
-part_unless (Some fault) part = Err fault
 
 -- the part of one feature of this shape
 abbrev pub IsPartOfShape : Measure → Shape → Part → Type 0

@@ -28,8 +28,6 @@ mod known_names;
 mod lists;
 mod makers;
 mod makings;
-mod measured_geometries;
-mod measures;
 mod members;
 mod object_atoms;
 mod objects;

@@ -1,23 +1,31 @@
 //! What is made of the positions of a list as they are read one by one.
 
-ghost use Rattle.std.specs.Prelude.{◌≡◌, ℕ, ◌+◌, ◌≤◌, ◌^◌, List, [], ◌∷◌, ◌++◌, length, IfOk, IfSome, Option};
+ghost use Rattle.std.specs.Prelude.{◌≡◌, ℕ, ◌+◌, ◌≤◌, ◌^◌, true, false, List, [], ◌∷◌, ◌++◌, length, IfOk, IfSome};
+ghost use Rattle.std.specs.Prelude.{Option, Some, None};
 ghost use Rattle.std.specs.Bool.{⊤};
 ghost use Rattle.at_geom.specs.declared.positions.Pos.{Pos};
 ghost use Rattle.at_geom.specs.declared.rectangles.Extent.{Extent};
 ghost use Rattle.at_geom.specs.declared.shapes.Polygon.{Polygon};
+ghost use Rattle.at_geom.specs.declared.shapes.Shape.{Shape};
 ghost use Rattle.at_geom.specs.Segments.{IsInRange};
+ghost use Rattle.at_wkt.specs.Meaning.{of_points as points_are, of_lines as lines_are, of_polygons as polygons_are};
+ghost use Rattle.at_query.specs.declared.query.queries.Query.{Query};
+ghost use Rattle.at_geojson.specs.declared.asked.Measure.{Measure};
 ghost use Rattle.at_geojson.specs.declared.asked.Measure.TheVariants as measures;
 ghost use Rattle.at_geojson.specs.declared.tallies.Tally.{Tally};
-ghost use Rattle.at_geojson.specs.Keeping.{Asked};
+ghost use Rattle.at_geojson.specs.Keeping.{Asked, kept, needs_shapes};
 ghost use Rattle.at_geojson.specs.Passing.{same_values};
-ghost use Rattle.at_geojson.specs.Tallies.{SumsUp, TalliesLists, TalliesAreas};
+ghost use Rattle.at_geojson.specs.Tallies.{measure_of, SumsUp, TalliesLists, TalliesAreas, TalliesShape};
 ghost use Rattle.at_geojson.specs.Makings.{ReadsSpot, IsValue, IsAnywhere, IsPassedOver, polygon};
+ghost use Rattle.at_geojson.specs.PlainGeometries.{IsSeenOf};
 
 use crate::asked::{GeoAlgebra, Measure};
 use crate::pairs::{ROOM, pass_pair, read_spaced};
-use crate::shapes::{one_line, one_polygon};
+use crate::plain_geometries::Seen;
+use crate::shapes::{of_lines, of_points, of_polygons, one_line, one_point, one_polygon};
 use crate::tallies::Tally;
 use at_geom::{Extent, Path, Paths, Polygon, Pos};
+use at_query::Part;
 use at_text::Memory;
 use std::alloc::Global;
 
@@ -32,7 +40,7 @@ pub struct Spot<M> {
 /// A way to make something of positions as they are read.
 ///
 /// Of a position it has a mark: its value, or nothing where no values are asked for. `tells` says what is made of the
-/// positions of a list, behind what was made before it.
+/// positions of a list, behind what was made before it. In the end it tells what is seen of the shape of the positions.
 pub trait Maker {
     /// What is known of a position that was read.
     type Mark: Copy;
@@ -70,6 +78,12 @@ pub trait Maker {
     /// What was made before an area that stands behind these.
     ghost around_all: { Self.Areas → Self.Before };
 
+    /// What was made before the first list: nothing.
+    ghost empty: { Self.Before };
+
+    /// What is made serves this query.
+    ghost serves: { Query → Type 0 };
+
     /// White space, a position and white space.
     fn read(algebra: &GeoAlgebra, text: &[u8], base: u32, at: usize) -> Option<Spot<Self::Mark>>
         requires inside { at ≤ length text.now }
@@ -96,6 +110,14 @@ pub trait Maker {
         requires fits { base + length text.now ≤ 2 ^ 28 }
         ensures { IfSome result (λ closes. (p q : Pos) → marks p first → stands algebra.now text.now from to p
             → marks q last → stands algebra.now text.now at end q → closes ≡ same_values p q) };
+
+    /// What was made before the first list.
+    fn nothing() -> Self::Before
+        ensures { result ≡ empty };
+
+    /// What is made of one position alone.
+    fn alone(alloc: Global, mark: Self::Mark) -> Result<Self::Line, Memory>
+        ensures { IfOk result (λ line. (p : Pos) → marks p mark → tells empty (p ∷ []) line) };
 
     /// What is made of the first position of a list.
     fn first(alloc: Global, before: Self::Before, mark: Self::Mark) -> Result<Self::Line, Memory>
@@ -138,16 +160,82 @@ pub trait Maker {
         ensures { IfOk result (λ u. (before : Self.Before) (polygons : List Polygon) (rings : List (List Pos))
             → tells_areas before polygons areas.old → tells_lines (around_all areas.old) rings area
             → tells_areas before (polygons ++ polygon rings ∷ []) areas.new) };
+
+    /// What is seen of the shape of points.
+    fn see_points(alloc: Global, line: Self::Line) -> Seen
+        ensures { (query : Query) (path : List Pos) → serves query → tells empty path line
+            → IsSeenOf query (points_are (kept (needs_shapes query) path)) result };
+
+    /// What is seen of the shape of lines.
+    fn see_lines(alloc: Global, lines: Self::Lines) -> Seen
+        ensures { (query : Query) (paths : List (List Pos)) → serves query → tells_lines empty paths lines
+            → IsSeenOf query (lines_are (kept (needs_shapes query) paths)) result };
+
+    /// What is seen of the shape of areas.
+    fn see_areas(alloc: Global, areas: Self::Areas) -> Seen
+        ensures { (query : Query) (polygons : List Polygon) → serves query → tells_areas empty polygons areas
+            → IsSeenOf query (polygons_are (kept (needs_shapes query) polygons)) result };
+}
+
+/// A way to make something that keeps lists, where the queries that it serves need them.
+pub trait Lister: Maker {
+    /// The list of positions of which this is made.
+    fn path(alloc: Global, line: Self::Line) -> Vec<Pos>
+        ensures { (query : Query) (path : List Pos) → Self.serves query → Self.tells Self.empty path line
+            → result.items ≡ kept (needs_shapes query) path };
+
+    /// The lists of positions of which this is made.
+    fn paths(alloc: Global, lines: Self::Lines) -> Vec<Path>
+        ensures { (query : Query) (paths : List (List Pos)) → Self.serves query → Self.tells_lines Self.empty paths lines
+            → result.items ≡ kept (needs_shapes query) paths };
+
+    /// The areas of which this is made.
+    fn polygons(alloc: Global, areas: Self::Areas) -> Vec<Polygon>
+        ensures { (query : Query) (polygons : List Polygon) → Self.serves query
+            → Self.tells_areas Self.empty polygons areas → result.items ≡ kept (needs_shapes query) polygons };
+}
+
+/// What is asked of positions, as a type.
+pub trait Asks {
+    /// What is asked.
+    ghost asked: { Measure };
+
+    /// What is asked.
+    fn measure() -> Measure
+        ensures { result ≡ asked };
+}
+
+/// The least extent round positions is asked for.
+pub struct Spreads;
+
+impl Asks for Spreads {
+    ghost asked = { measures.Extent };
+
+    #[inline(always)]
+    fn measure() -> Measure {
+        Measure::Extent
+    }
+}
+
+/// Twice the area that positions bound is asked for.
+pub struct Sizes;
+
+impl Asks for Sizes {
+    ghost asked = { measures.Area };
+
+    #[inline(always)]
+    fn measure() -> Measure {
+        Measure::Area
+    }
 }
 
 /// Positions are kept.
 pub struct Keeps;
 
-/// The least extent round positions is made.
-pub struct Spreads;
-
-/// Twice the area that positions bound is made.
-pub struct Sizes;
+/// What `M` asks of positions is made.
+pub struct Tallies<M> {
+    asks: M,
+}
 
 /// Nothing is made of positions.
 pub struct Passes;
@@ -261,6 +349,10 @@ impl Maker for Keeps {
 
     ghost around_all = { λ areas. tt };
 
+    ghost empty = { tt };
+
+    ghost serves = { λ query. needs_shapes query ≡ true };
+
     #[inline(always)]
     fn read(algebra: &GeoAlgebra, text: &[u8], base: u32, at: usize) -> Option<Spot<Pos>> {
         read_value(algebra, text, base, at)
@@ -286,6 +378,14 @@ impl Maker for Keeps {
         let _ = at;
         let _ = end;
         Some(same_pos(first, last))
+    }
+
+    #[inline(always)]
+    fn nothing() {}
+
+    #[inline(always)]
+    fn alone(alloc: Global, mark: Pos) -> Result<Vec<Pos>, Memory> {
+        one_point(alloc, true, mark)
     }
 
     #[inline(always)]
@@ -334,9 +434,57 @@ impl Maker for Keeps {
         })?;
         Ok(())
     }
+
+    #[inline(always)]
+    fn see_points(alloc: Global, line: Vec<Pos>) -> Seen {
+        Seen::Shape(of_points(alloc, line))
+    }
+
+    #[inline(always)]
+    fn see_lines(alloc: Global, lines: Vec<Path>) -> Seen {
+        Seen::Shape(of_lines(alloc, lines))
+    }
+
+    #[inline(always)]
+    fn see_areas(alloc: Global, areas: Vec<Polygon>) -> Seen {
+        Seen::Shape(of_polygons(alloc, areas))
+    }
 }
 
-impl Maker for Spreads {
+impl Lister for Keeps {
+    #[inline(always)]
+    fn path(alloc: Global, line: Vec<Pos>) -> Vec<Pos> {
+        let _ = alloc;
+        line
+    }
+
+    #[inline(always)]
+    fn paths(alloc: Global, lines: Vec<Path>) -> Vec<Path> {
+        let _ = alloc;
+        lines
+    }
+
+    #[inline(always)]
+    fn polygons(alloc: Global, areas: Vec<Polygon>) -> Vec<Polygon> {
+        let _ = alloc;
+        areas
+    }
+}
+
+/// The part of a feature of whose positions this is told.
+#[inline(always)]
+fn seen_part(measure: Measure, tally: Tally) -> Seen
+    ensures { (query : Query) (shape : Shape) → measure_of query ≡ Some measure → TalliesShape measure shape tally
+        → IsSeenOf query shape result }
+{
+    match measure {
+        Measure::Count => Seen::Measured(Part::Count(1)),
+        Measure::Extent => Seen::Measured(Part::Spread(tally.extent)),
+        Measure::Area => Seen::Measured(Part::Area(tally.area)),
+    }
+}
+
+impl<M: Asks> Maker for Tallies<M> {
     type Mark = Pos;
 
     type Before = Option<Extent>;
@@ -351,15 +499,19 @@ impl Maker for Spreads {
 
     ghost stands = { IsAnywhere };
 
-    ghost tells = { SumsUp measures.Extent };
+    ghost tells = { SumsUp M.asked };
 
-    ghost tells_lines = { TalliesLists measures.Extent };
+    ghost tells_lines = { TalliesLists M.asked };
 
     ghost around = { λ lines. lines.extent };
 
-    ghost tells_areas = { TalliesAreas measures.Extent };
+    ghost tells_areas = { TalliesAreas M.asked };
 
     ghost around_all = { λ areas. areas.extent };
+
+    ghost empty = { None };
+
+    ghost serves = { λ query. measure_of query ≡ Some M.asked };
 
     #[inline(always)]
     fn read(algebra: &GeoAlgebra, text: &[u8], base: u32, at: usize) -> Option<Spot<Pos>> {
@@ -389,14 +541,25 @@ impl Maker for Spreads {
     }
 
     #[inline(always)]
+    fn nothing() -> Option<Extent> {
+        None
+    }
+
+    #[inline(always)]
+    fn alone(alloc: Global, mark: Pos) -> Result<Tally, Memory> {
+        let _ = alloc;
+        Ok(Tally::of_first(M::measure(), None, mark))
+    }
+
+    #[inline(always)]
     fn first(alloc: Global, before: Option<Extent>, mark: Pos) -> Result<Tally, Memory> {
         let _ = alloc;
-        Ok(Tally::of_first(Measure::Extent, before, mark))
+        Ok(Tally::of_first(M::measure(), before, mark))
     }
 
     #[inline(always)]
     fn next(line: &mut Tally, last: Pos, mark: Pos) -> Result<(), Memory> {
-        *line = line.with(Measure::Extent, last, mark);
+        *line = line.with(M::measure(), last, mark);
         Ok(())
     }
 
@@ -433,104 +596,23 @@ impl Maker for Spreads {
         *areas = areas.with_polygon(area);
         Ok(())
     }
-}
-
-impl Maker for Sizes {
-    type Mark = Pos;
-
-    type Before = Option<Extent>;
-
-    type Line = Tally;
-
-    type Lines = Tally;
-
-    type Areas = Tally;
-
-    ghost marks = { IsValue };
-
-    ghost stands = { IsAnywhere };
-
-    ghost tells = { SumsUp measures.Area };
-
-    ghost tells_lines = { TalliesLists measures.Area };
-
-    ghost around = { λ lines. lines.extent };
-
-    ghost tells_areas = { TalliesAreas measures.Area };
-
-    ghost around_all = { λ areas. areas.extent };
 
     #[inline(always)]
-    fn read(algebra: &GeoAlgebra, text: &[u8], base: u32, at: usize) -> Option<Spot<Pos>> {
-        read_value(algebra, text, base, at)
-    }
-
-    #[inline(always)]
-    fn closes(
-        algebra: &GeoAlgebra,
-        text: &[u8],
-        base: u32,
-        from: usize,
-        to: usize,
-        first: Pos,
-        at: usize,
-        end: usize,
-        last: Pos,
-    ) -> Option<bool> {
-        let _ = algebra;
-        let _ = text;
-        let _ = base;
-        let _ = from;
-        let _ = to;
-        let _ = at;
-        let _ = end;
-        Some(same_pos(first, last))
-    }
-
-    #[inline(always)]
-    fn first(alloc: Global, before: Option<Extent>, mark: Pos) -> Result<Tally, Memory> {
+    fn see_points(alloc: Global, line: Tally) -> Seen {
         let _ = alloc;
-        Ok(Tally::of_first(Measure::Area, before, mark))
+        seen_part(M::measure(), line.of_ring().flat())
     }
 
     #[inline(always)]
-    fn next(line: &mut Tally, last: Pos, mark: Pos) -> Result<(), Memory> {
-        *line = line.with(Measure::Area, last, mark);
-        Ok(())
-    }
-
-    #[inline(always)]
-    fn first_line(alloc: Global, line: Tally) -> Result<Tally, Memory> {
+    fn see_lines(alloc: Global, lines: Tally) -> Seen {
         let _ = alloc;
-        Ok(line.of_ring())
+        seen_part(M::measure(), lines.flat())
     }
 
     #[inline(always)]
-    fn around_lines(lines: &Tally) -> Option<Extent> {
-        lines.extent
-    }
-
-    #[inline(always)]
-    fn add_line(lines: &mut Tally, line: Tally) -> Result<(), Memory> {
-        *lines = lines.with_hole(line.of_ring());
-        Ok(())
-    }
-
-    #[inline(always)]
-    fn first_area(alloc: Global, area: Tally) -> Result<Tally, Memory> {
+    fn see_areas(alloc: Global, areas: Tally) -> Seen {
         let _ = alloc;
-        Ok(area)
-    }
-
-    #[inline(always)]
-    fn around_areas(areas: &Tally) -> Option<Extent> {
-        areas.extent
-    }
-
-    #[inline(always)]
-    fn add_area(areas: &mut Tally, area: Tally) -> Result<(), Memory> {
-        *areas = areas.with_polygon(area);
-        Ok(())
+        seen_part(M::measure(), areas)
     }
 }
 
@@ -559,6 +641,10 @@ impl Maker for Passes {
 
     ghost around_all = { λ areas. tt };
 
+    ghost empty = { tt };
+
+    ghost serves = { λ query. needs_shapes query ≡ false };
+
     #[inline(always)]
     fn read(algebra: &GeoAlgebra, text: &[u8], base: u32, at: usize) -> Option<Spot<()>> {
         pass_value(algebra, text, base, at)
@@ -579,6 +665,16 @@ impl Maker for Passes {
         let _ = first;
         let _ = last;
         spans_close(algebra, text, base, from, to, at, end)
+    }
+
+    #[inline(always)]
+    fn nothing() {}
+
+    #[inline(always)]
+    fn alone(alloc: Global, mark: ()) -> Result<(), Memory> {
+        let _ = alloc;
+        let _ = mark;
+        Ok(())
     }
 
     #[inline(always)]
@@ -630,5 +726,46 @@ impl Maker for Passes {
     fn add_area(areas: &mut (), area: ()) -> Result<(), Memory> {
         *areas = area;
         Ok(())
+    }
+
+    #[inline(always)]
+    fn see_points(alloc: Global, line: ()) -> Seen {
+        let _ = alloc;
+        let _ = line;
+        Seen::Measured(Part::Count(1))
+    }
+
+    #[inline(always)]
+    fn see_lines(alloc: Global, lines: ()) -> Seen {
+        let _ = alloc;
+        let _ = lines;
+        Seen::Measured(Part::Count(1))
+    }
+
+    #[inline(always)]
+    fn see_areas(alloc: Global, areas: ()) -> Seen {
+        let _ = alloc;
+        let _ = areas;
+        Seen::Measured(Part::Count(1))
+    }
+}
+
+impl Lister for Passes {
+    #[inline(always)]
+    fn path(alloc: Global, line: ()) -> Vec<Pos> {
+        let _ = line;
+        Vec::new(alloc)
+    }
+
+    #[inline(always)]
+    fn paths(alloc: Global, lines: ()) -> Vec<Path> {
+        let _ = lines;
+        Vec::new(alloc)
+    }
+
+    #[inline(always)]
+    fn polygons(alloc: Global, areas: ()) -> Vec<Polygon> {
+        let _ = areas;
+        Vec::new(alloc)
     }
 }

@@ -1,18 +1,17 @@
-//! Lists of plain positions, read at once, whatever is made of them.
+//! Plain coordinates, read at once, whatever is made of them: lists of positions, arrays of such lists and of these, and
+//! the coordinates of each kind of geometry.
 
-ghost use Rattle.std.specs.Prelude.{◌≡◌, ℕ, ◌+◌, ◌<◌, ◌≤◌, ◌^◌, true, false, length, slice_index, IfOk};
+ghost use Rattle.std.specs.Prelude.{◌≡◌, ℕ, ◌+◌, ◌<◌, ◌≤◌, ◌^◌, length, slice_index, IfOk};
 ghost use Rattle.at_geom.specs.Shapes.{line_fault as line_fault_of, ring_fault as ring_fault_of};
-ghost use Rattle.at_geojson.specs.Keeping.{needs_shapes as needs_of};
-ghost use Rattle.at_geojson.specs.Rows.{ArePointsWhole};
-ghost use Rattle.at_geojson.specs.Rings.{AreListsWhole, AreAreasWhole};
 ghost use Rattle.at_geojson.specs.Makings.{MakesLine, MakesLineItem, MakesLines, MakesLinesItem, MakesPolygons};
+ghost use Rattle.at_geojson.specs.PlainGeometries.{seen_unless, IsCoordinatesItem, Sees};
 
 use crate::asked::GeoAlgebra;
-use crate::atoms::{Areas, Lists, Points};
-use crate::makers::{Keeps, Maker, Passes};
-use crate::pairs::{PointsRead, one_more};
+use crate::kinds::Kind;
+use crate::makers::Maker;
+use crate::pairs::one_more;
 use crate::places::{expect_comma, skip_spaces, stands};
-use crate::rings::{AreasRead, ListsRead};
+use crate::plain_geometries::{Seen, SeenRead};
 use at_geom::{line_fault, ring_fault};
 use at_text::{Fault, Halt, first_fault};
 use std::alloc::Global;
@@ -230,227 +229,173 @@ pub fn areas<S: Maker>(
     })
 }
 
-/// A list of positions that are kept.
-fn keep_points(
-    algebra: &GeoAlgebra,
-    alloc: Global,
-    text: &[u8],
-    base: u32,
-    at: usize,
-) -> Result<PointsRead, Halt>
-    requires inside { at < length text.now }
-    requires opens { slice_index text.now at ≡ 0x5B }
-    requires fits { base + length text.now ≤ 2 ^ 28 }
-    requires needed { needs_of algebra.now.query ≡ true }
-    ensures { IfOk result (ArePointsWhole algebra.now base text.now at) }
-{
-    let line = positions::<Keeps>(algebra, alloc, (), text, base, at)?;
-    Ok(PointsRead {
-        at: line.at,
-        least: line.least,
-        end: line.end,
-        points: Points {
-            path: line.made,
-            as_points: None,
-            as_line: line.as_line,
-            as_ring: line.as_ring,
-        },
-    })
-}
-
-/// A list of positions where no shapes are kept: all of them are passed over.
-fn pass_points(
-    algebra: &GeoAlgebra,
-    alloc: Global,
-    text: &[u8],
-    base: u32,
-    at: usize,
-) -> Result<PointsRead, Halt>
-    requires inside { at < length text.now }
-    requires opens { slice_index text.now at ≡ 0x5B }
-    requires fits { base + length text.now ≤ 2 ^ 28 }
-    requires unneeded { needs_of algebra.now.query ≡ false }
-    ensures { IfOk result (ArePointsWhole algebra.now base text.now at) }
-{
-    let line = positions::<Passes>(algebra, alloc, (), text, base, at)?;
-    Ok(PointsRead {
-        at: line.at,
-        least: line.least,
-        end: line.end,
-        points: Points {
-            path: Vec::new(alloc),
-            as_points: None,
-            as_line: line.as_line,
-            as_ring: line.as_ring,
-        },
-    })
-}
-
-/// A list of plain positions, from its opening bracket on, which stands at the place.
+/// What is seen of a shape, or the fault where there is one.
 #[inline(always)]
-pub fn read_points(
-    algebra: &GeoAlgebra,
-    alloc: Global,
-    text: &[u8],
-    base: u32,
-    at: usize,
-) -> Result<PointsRead, Halt>
-    requires inside { at < length text.now }
-    requires opens { slice_index text.now at ≡ 0x5B }
-    requires fits { base + length text.now ≤ 2 ^ 28 }
-    ensures { IfOk result (ArePointsWhole algebra.now base text.now at) }
+fn unless(fault: Option<Fault>, seen: Seen) -> Result<Seen, Fault>
+    ensures { result ≡ seen_unless fault seen }
 {
-    if algebra.needs_shapes() {
-        keep_points(algebra, alloc, text, base, at)
-    } else {
-        pass_points(algebra, alloc, text, base, at)
+    match fault {
+        Some(fault) => Err(fault),
+        None => Ok(seen),
     }
 }
 
-/// An array of lists of positions that are kept.
-fn keep_lists(
-    algebra: &GeoAlgebra,
-    alloc: Global,
-    text: &[u8],
-    base: u32,
-    at: usize,
-) -> Result<ListsRead, Halt>
-    requires inside { at < length text.now }
-    requires opens { slice_index text.now at ≡ 0x5B }
-    requires fits { base + length text.now ≤ 2 ^ 28 }
-    requires needed { needs_of algebra.now.query ≡ true }
-    ensures { IfOk result (AreListsWhole algebra.now base text.now at) }
-{
-    let read = lists::<Keeps>(algebra, alloc, (), text, base, at)?;
-    Ok(ListsRead {
-        at: read.at,
-        least: read.least,
-        end: read.end,
-        lists: Lists {
-            paths: read.made,
-            as_lines: read.as_lines,
-            as_rings: read.as_rings,
-        },
-    })
-}
-
-/// An array of lists of positions where no shapes are kept.
-fn pass_lists(
-    algebra: &GeoAlgebra,
-    alloc: Global,
-    text: &[u8],
-    base: u32,
-    at: usize,
-) -> Result<ListsRead, Halt>
-    requires inside { at < length text.now }
-    requires opens { slice_index text.now at ≡ 0x5B }
-    requires fits { base + length text.now ≤ 2 ^ 28 }
-    requires unneeded { needs_of algebra.now.query ≡ false }
-    ensures { IfOk result (AreListsWhole algebra.now base text.now at) }
-{
-    let read = lists::<Passes>(algebra, alloc, (), text, base, at)?;
-    Ok(ListsRead {
-        at: read.at,
-        least: read.least,
-        end: read.end,
-        lists: Lists {
-            paths: Vec::new(alloc),
-            as_lines: read.as_lines,
-            as_rings: read.as_rings,
-        },
-    })
-}
-
-/// An array of lists of positions, from its opening bracket on, which stands at the place.
+/// White space, the coordinates of a point, and white space.
 #[inline(always)]
-pub fn read_lists(
+fn point<S: Maker>(
     algebra: &GeoAlgebra,
     alloc: Global,
     text: &[u8],
     base: u32,
     at: usize,
-) -> Result<ListsRead, Halt>
-    requires inside { at < length text.now }
-    requires opens { slice_index text.now at ≡ 0x5B }
+) -> Result<SeenRead, Halt>
+    requires inside { at ≤ length text.now }
     requires fits { base + length text.now ≤ 2 ^ 28 }
-    ensures { IfOk result (AreListsWhole algebra.now base text.now at) }
+    requires served { S.serves algebra.now.query }
+    ensures { IfOk result (Sees algebra.now (IsCoordinatesItem algebra.now base text.now at Kind.Point)) }
 {
-    if algebra.needs_shapes() {
-        keep_lists(algebra, alloc, text, base, at)
-    } else {
-        pass_lists(algebra, alloc, text, base, at)
+    let Some(spot) = S::read(algebra, text, base, at) else {
+        return Err(Halt::At(at));
+    };
+    let seen = S::see_points(alloc, S::alone(alloc, spot.mark)?);
+    Ok(SeenRead {
+        end: spot.end,
+        seen: Ok(seen),
+    })
+}
+
+/// White space, the coordinates of points, and white space.
+fn multi_point<S: Maker>(
+    algebra: &GeoAlgebra,
+    alloc: Global,
+    text: &[u8],
+    base: u32,
+    at: usize,
+) -> Result<SeenRead, Halt>
+    requires inside { at ≤ length text.now }
+    requires fits { base + length text.now ≤ 2 ^ 28 }
+    requires served { S.serves algebra.now.query }
+    ensures { IfOk result (Sees algebra.now (IsCoordinatesItem algebra.now base text.now at Kind.MultiPoint)) }
+{
+    let read = positions_item::<S>(algebra, alloc, S::nothing(), text, base, at)?;
+    let seen = S::see_points(alloc, read.made);
+    Ok(SeenRead {
+        end: read.end,
+        seen: Ok(seen),
+    })
+}
+
+/// White space, the coordinates of a line, and white space.
+#[inline(always)]
+fn line<S: Maker>(
+    algebra: &GeoAlgebra,
+    alloc: Global,
+    text: &[u8],
+    base: u32,
+    at: usize,
+) -> Result<SeenRead, Halt>
+    requires inside { at ≤ length text.now }
+    requires fits { base + length text.now ≤ 2 ^ 28 }
+    requires served { S.serves algebra.now.query }
+    ensures { IfOk result (Sees algebra.now (IsCoordinatesItem algebra.now base text.now at Kind.LineString)) }
+{
+    let read = positions_item::<S>(algebra, alloc, S::nothing(), text, base, at)?;
+    let seen = S::see_lines(alloc, S::first_line(alloc, read.made)?);
+    Ok(SeenRead {
+        end: read.end,
+        seen: unless(read.as_line, seen),
+    })
+}
+
+/// White space, the coordinates of lines, and white space.
+fn multi_line<S: Maker>(
+    algebra: &GeoAlgebra,
+    alloc: Global,
+    text: &[u8],
+    base: u32,
+    at: usize,
+) -> Result<SeenRead, Halt>
+    requires inside { at ≤ length text.now }
+    requires fits { base + length text.now ≤ 2 ^ 28 }
+    requires served { S.serves algebra.now.query }
+    ensures { IfOk result (Sees algebra.now (IsCoordinatesItem algebra.now base text.now at Kind.MultiLineString)) }
+{
+    let read = lists_item::<S>(algebra, alloc, S::nothing(), text, base, at)?;
+    let seen = S::see_lines(alloc, read.made);
+    Ok(SeenRead {
+        end: read.end,
+        seen: unless(read.as_lines, seen),
+    })
+}
+
+/// White space, the coordinates of a polygon, and white space.
+#[inline(always)]
+fn polygon<S: Maker>(
+    algebra: &GeoAlgebra,
+    alloc: Global,
+    text: &[u8],
+    base: u32,
+    at: usize,
+) -> Result<SeenRead, Halt>
+    requires inside { at ≤ length text.now }
+    requires fits { base + length text.now ≤ 2 ^ 28 }
+    requires served { S.serves algebra.now.query }
+    ensures { IfOk result (Sees algebra.now (IsCoordinatesItem algebra.now base text.now at Kind.Polygon)) }
+{
+    let read = lists_item::<S>(algebra, alloc, S::nothing(), text, base, at)?;
+    let seen = S::see_areas(alloc, S::first_area(alloc, read.made)?);
+    Ok(SeenRead {
+        end: read.end,
+        seen: unless(read.as_rings, seen),
+    })
+}
+
+/// White space, the coordinates of polygons, and white space.
+fn multi_polygon<S: Maker>(
+    algebra: &GeoAlgebra,
+    alloc: Global,
+    text: &[u8],
+    base: u32,
+    at: usize,
+) -> Result<SeenRead, Halt>
+    requires inside { at ≤ length text.now }
+    requires fits { base + length text.now ≤ 2 ^ 28 }
+    requires served { S.serves algebra.now.query }
+    ensures { IfOk result (Sees algebra.now (IsCoordinatesItem algebra.now base text.now at Kind.MultiPolygon)) }
+{
+    let first = skip_spaces(text, at);
+    if !stands(text, first, b'[') {
+        return Err(Halt::At(first));
     }
-}
-
-/// An array of areas that are kept.
-fn keep_areas(
-    algebra: &GeoAlgebra,
-    alloc: Global,
-    text: &[u8],
-    base: u32,
-    at: usize,
-) -> Result<AreasRead, Halt>
-    requires inside { at < length text.now }
-    requires opens { slice_index text.now at ≡ 0x5B }
-    requires fits { base + length text.now ≤ 2 ^ 28 }
-    requires needed { needs_of algebra.now.query ≡ true }
-    ensures { IfOk result (AreAreasWhole algebra.now base text.now at) }
-{
-    let read = areas::<Keeps>(algebra, alloc, (), text, base, at)?;
-    Ok(AreasRead {
-        at: read.at,
-        least: read.least,
-        end: read.end,
-        areas: Areas {
-            polygons: read.made,
-            fault: read.fault,
-        },
+    let read = areas::<S>(algebra, alloc, S::nothing(), text, base, first)?;
+    let seen = S::see_areas(alloc, read.made);
+    Ok(SeenRead {
+        end: skip_spaces(text, read.end),
+        seen: unless(read.fault, seen),
     })
 }
 
-/// An array of areas where no shapes are kept.
-fn pass_areas(
+/// White space, the coordinates of a geometry of the kind, and white space, and what is seen of its shape.
+pub fn coordinates<S: Maker>(
     algebra: &GeoAlgebra,
     alloc: Global,
     text: &[u8],
     base: u32,
     at: usize,
-) -> Result<AreasRead, Halt>
-    requires inside { at < length text.now }
-    requires opens { slice_index text.now at ≡ 0x5B }
+    kind: Kind,
+) -> Result<SeenRead, Halt>
+    requires inside { at ≤ length text.now }
     requires fits { base + length text.now ≤ 2 ^ 28 }
-    requires unneeded { needs_of algebra.now.query ≡ false }
-    ensures { IfOk result (AreAreasWhole algebra.now base text.now at) }
+    requires served { S.serves algebra.now.query }
+    ensures { IfOk result (Sees algebra.now (IsCoordinatesItem algebra.now base text.now at kind)) }
 {
-    let read = areas::<Passes>(algebra, alloc, (), text, base, at)?;
-    Ok(AreasRead {
-        at: read.at,
-        least: read.least,
-        end: read.end,
-        areas: Areas {
-            polygons: Vec::new(alloc),
-            fault: read.fault,
-        },
-    })
-}
-
-/// An array of areas, from its opening bracket on, which stands at the place.
-#[inline(always)]
-pub fn read_areas(
-    algebra: &GeoAlgebra,
-    alloc: Global,
-    text: &[u8],
-    base: u32,
-    at: usize,
-) -> Result<AreasRead, Halt>
-    requires inside { at < length text.now }
-    requires opens { slice_index text.now at ≡ 0x5B }
-    requires fits { base + length text.now ≤ 2 ^ 28 }
-    ensures { IfOk result (AreAreasWhole algebra.now base text.now at) }
-{
-    if algebra.needs_shapes() {
-        keep_areas(algebra, alloc, text, base, at)
-    } else {
-        pass_areas(algebra, alloc, text, base, at)
+    match kind {
+        Kind::Point => point::<S>(algebra, alloc, text, base, at),
+        Kind::MultiPoint => multi_point::<S>(algebra, alloc, text, base, at),
+        Kind::LineString => line::<S>(algebra, alloc, text, base, at),
+        Kind::MultiLineString => multi_line::<S>(algebra, alloc, text, base, at),
+        Kind::Polygon => polygon::<S>(algebra, alloc, text, base, at),
+        Kind::MultiPolygon => multi_polygon::<S>(algebra, alloc, text, base, at),
+        _ => Err(Halt::At(at)),
     }
 }

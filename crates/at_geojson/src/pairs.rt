@@ -9,7 +9,7 @@ ghost use Rattle.at_geojson.specs.Values.{IsPlain, IsFurther, EndsPosition, IsPa
 ghost use Rattle.at_geojson.specs.Passing.{PassesNumber, PassesPair, PassesTo};
 
 use crate::asked::GeoAlgebra;
-use crate::atoms::{GeoAtom, Points, PositionAtom};
+use crate::atoms::{GeoAtom, PositionAtom};
 use crate::places::{behind_spaces, skip_spaces, stands};
 use at_fixed::{
     Coords, Notation, PlainNumber, json_number, leading_number, plain_len, plain_number,
@@ -68,16 +68,6 @@ pub struct Row {
     pub last: Pos,
     pub count: u32,
     pub path: Vec<Pos>,
-}
-
-/// A list of positions that was read: its offset, the least offset of its items, the place behind it, and what is kept
-/// of it.
-#[derive(Drop)]
-pub struct PointsRead {
-    pub at: u32,
-    pub least: u32,
-    pub end: usize,
-    pub points: Points,
 }
 
 /// Room that a list of positions is given at first: that of a ring of four corners.

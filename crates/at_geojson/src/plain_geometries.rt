@@ -1,20 +1,17 @@
 //! Geometries of a type and of coordinates that are written plainly, read at once: no atom is made of them.
 
 ghost use Rattle.std.specs.Prelude.{◌≡◌, ◌+◌, ◌<◌, ◌≤◌, ◌^◌, length, slice_index, IfOk};
-ghost use Rattle.at_geojson.specs.PlainGeometries.{IsKindRead, AreCoordinatesOf, IsCoordinatesItem, IsGeometryRead};
-ghost use Rattle.at_geojson.specs.PlainGeometries.{SeesPart, SeesShape, Sees};
+ghost use Rattle.at_geojson.specs.PlainGeometries.{IsKindRead, IsCoordinatesItem, IsGeometryRead, SeesShape, Sees};
 
-use crate::asked::GeoAlgebra;
+use crate::asked::{GeoAlgebra, Measure};
 use crate::fields::{is_coordinates, is_kind};
 use crate::geometries::Geometry;
 use crate::kinds::{Kind, kind_of_bytes};
 use crate::known_names::{begins_collection, known_kind};
-use crate::makings::{read_areas, read_lists, read_points};
-use crate::measured_geometries::{PartRead, measure_coordinates};
+use crate::makers::{Keeps, Passes, Sizes, Spreads, Tallies};
+use crate::makings::coordinates;
 use crate::members::field_name;
-use crate::pairs::{PairRead, read_pair};
 use crate::places::{OTHER_KIND, expect_comma, skip_spaces, stands};
-use crate::readings::{line_of, lines_of, point_of, points_of, polygon_of, polygons_of};
 use crate::short_texts::{SimpleItem, simple_item};
 use at_query::Part;
 use at_text::{Fault, Halt};
@@ -94,176 +91,6 @@ pub fn read_kind(algebra: &GeoAlgebra, text: &[u8], base: u32, at: usize) -> Res
     Ok(KindRead { end, kind })
 }
 
-/// The coordinates of a point.
-#[inline(always)]
-fn read_point(
-    algebra: &GeoAlgebra,
-    alloc: Global,
-    text: &[u8],
-    base: u32,
-    at: usize,
-) -> Result<ShapeRead, Halt>
-    requires fits { base + length text.now ≤ 2 ^ 28 }
-    ensures { IfOk result (AreCoordinatesOf algebra.now base text.now at Kind.Point) }
-{
-    let Some(PairRead { end, pair }) = read_pair(algebra, text, base, at) else {
-        return Err(Halt::At(at));
-    };
-    let shape = Ok(point_of(alloc, algebra.needs_shapes(), pair.pos)?);
-    Ok(ShapeRead { end, shape })
-}
-
-/// The coordinates of points.
-fn read_multi_point(
-    algebra: &GeoAlgebra,
-    alloc: Global,
-    text: &[u8],
-    base: u32,
-    at: usize,
-) -> Result<ShapeRead, Halt>
-    requires inside { at < length text.now }
-    requires opens { slice_index text.now at ≡ 0x5B }
-    requires fits { base + length text.now ≤ 2 ^ 28 }
-    ensures { IfOk result (AreCoordinatesOf algebra.now base text.now at Kind.MultiPoint) }
-{
-    let read = read_points(algebra, alloc, text, base, at)?;
-    let shape = points_of(alloc, read.points);
-    Ok(ShapeRead {
-        end: read.end,
-        shape,
-    })
-}
-
-/// The coordinates of a line.
-#[inline(always)]
-fn read_line(
-    algebra: &GeoAlgebra,
-    alloc: Global,
-    text: &[u8],
-    base: u32,
-    at: usize,
-) -> Result<ShapeRead, Halt>
-    requires inside { at < length text.now }
-    requires opens { slice_index text.now at ≡ 0x5B }
-    requires fits { base + length text.now ≤ 2 ^ 28 }
-    ensures { IfOk result (AreCoordinatesOf algebra.now base text.now at Kind.LineString) }
-{
-    let read = read_points(algebra, alloc, text, base, at)?;
-    let shape = line_of(alloc, algebra.needs_shapes(), read.points)?;
-    Ok(ShapeRead {
-        end: read.end,
-        shape,
-    })
-}
-
-/// The coordinates of lines.
-fn read_multi_line(
-    algebra: &GeoAlgebra,
-    alloc: Global,
-    text: &[u8],
-    base: u32,
-    at: usize,
-) -> Result<ShapeRead, Halt>
-    requires inside { at < length text.now }
-    requires opens { slice_index text.now at ≡ 0x5B }
-    requires fits { base + length text.now ≤ 2 ^ 28 }
-    ensures { IfOk result (AreCoordinatesOf algebra.now base text.now at Kind.MultiLineString) }
-{
-    let read = read_lists(algebra, alloc, text, base, at)?;
-    let shape = lines_of(alloc, read.lists);
-    Ok(ShapeRead {
-        end: read.end,
-        shape,
-    })
-}
-
-/// The coordinates of a polygon.
-#[inline(always)]
-fn read_polygon(
-    algebra: &GeoAlgebra,
-    alloc: Global,
-    text: &[u8],
-    base: u32,
-    at: usize,
-) -> Result<ShapeRead, Halt>
-    requires inside { at < length text.now }
-    requires opens { slice_index text.now at ≡ 0x5B }
-    requires fits { base + length text.now ≤ 2 ^ 28 }
-    ensures { IfOk result (AreCoordinatesOf algebra.now base text.now at Kind.Polygon) }
-{
-    let read = read_lists(algebra, alloc, text, base, at)?;
-    let shape = polygon_of(alloc, algebra.needs_shapes(), read.lists)?;
-    Ok(ShapeRead {
-        end: read.end,
-        shape,
-    })
-}
-
-/// The coordinates of polygons.
-fn read_multi_polygon(
-    algebra: &GeoAlgebra,
-    alloc: Global,
-    text: &[u8],
-    base: u32,
-    at: usize,
-) -> Result<ShapeRead, Halt>
-    requires inside { at < length text.now }
-    requires opens { slice_index text.now at ≡ 0x5B }
-    requires fits { base + length text.now ≤ 2 ^ 28 }
-    ensures { IfOk result (AreCoordinatesOf algebra.now base text.now at Kind.MultiPolygon) }
-{
-    let read = read_areas(algebra, alloc, text, base, at)?;
-    let shape = polygons_of(alloc, read.areas);
-    Ok(ShapeRead {
-        end: read.end,
-        shape,
-    })
-}
-
-/// The coordinates of a geometry of the kind, from their opening bracket on, which stands at the place.
-#[inline(always)]
-fn read_coordinates_of(
-    algebra: &GeoAlgebra,
-    alloc: Global,
-    text: &[u8],
-    base: u32,
-    at: usize,
-    kind: Kind,
-) -> Result<ShapeRead, Halt>
-    requires inside { at < length text.now }
-    requires opens { slice_index text.now at ≡ 0x5B }
-    requires fits { base + length text.now ≤ 2 ^ 28 }
-    ensures { IfOk result (AreCoordinatesOf algebra.now base text.now at kind) }
-{
-    match kind {
-        Kind::Point => read_point(algebra, alloc, text, base, at),
-        Kind::MultiPoint => read_multi_point(algebra, alloc, text, base, at),
-        Kind::LineString => read_line(algebra, alloc, text, base, at),
-        Kind::MultiLineString => read_multi_line(algebra, alloc, text, base, at),
-        Kind::Polygon => read_polygon(algebra, alloc, text, base, at),
-        Kind::MultiPolygon => read_multi_polygon(algebra, alloc, text, base, at),
-        _ => Err(Halt::At(at)),
-    }
-}
-
-/// What is seen where the part that a measure tells was read.
-#[inline(always)]
-fn seen_part(read: PartRead) -> SeenRead
-    ensures { SeesPart read result }
-{
-    let PartRead { end, part } = read;
-    match part {
-        Ok(part) => SeenRead {
-            end,
-            seen: Ok(Seen::Measured(part)),
-        },
-        Err(fault) => SeenRead {
-            end,
-            seen: Err(fault),
-        },
-    }
-}
-
 /// What is seen where a shape was read.
 #[inline(always)]
 pub fn seen_shape(read: ShapeRead) -> SeenRead
@@ -282,31 +109,8 @@ pub fn seen_shape(read: ShapeRead) -> SeenRead
     }
 }
 
-/// The coordinates of a geometry of the kind, from their opening bracket on, which stands at the place, and what is seen
-/// of them.
-#[inline(always)]
-fn see_coordinates_of(
-    algebra: &GeoAlgebra,
-    alloc: Global,
-    text: &[u8],
-    base: u32,
-    at: usize,
-    kind: Kind,
-) -> Result<SeenRead, Halt>
-    requires inside { at < length text.now }
-    requires opens { slice_index text.now at ≡ 0x5B }
-    requires fits { base + length text.now ≤ 2 ^ 28 }
-    ensures { IfOk result (Sees algebra.now (AreCoordinatesOf algebra.now base text.now at kind)) }
-{
-    if let Some(measure) = algebra.measure() {
-        let read = measure_coordinates(algebra, alloc, measure, text, base, at, kind)?;
-        return Ok(seen_part(read));
-    }
-    let read = read_coordinates_of(algebra, alloc, text, base, at, kind)?;
-    Ok(seen_shape(read))
-}
-
-/// White space, the coordinates of a geometry of the kind, and white space.
+/// White space, the coordinates of a geometry of the kind, and white space, and what is seen of its shape: for `select`
+/// that of `count`.
 #[inline(always)]
 fn coordinates_item(
     algebra: &GeoAlgebra,
@@ -320,13 +124,14 @@ fn coordinates_item(
     requires fits { base + length text.now ≤ 2 ^ 28 }
     ensures { IfOk result (Sees algebra.now (IsCoordinatesItem algebra.now base text.now at kind)) }
 {
-    let first = skip_spaces(text, at);
-    if !stands(text, first, b'[') {
-        return Err(Halt::At(first));
+    let Some(measure) = algebra.measure() else {
+        return coordinates::<Keeps>(algebra, alloc, text, base, at, kind);
+    };
+    match measure {
+        Measure::Count => coordinates::<Passes>(algebra, alloc, text, base, at, kind),
+        Measure::Extent => coordinates::<Tallies<Spreads>>(algebra, alloc, text, base, at, kind),
+        Measure::Area => coordinates::<Tallies<Sizes>>(algebra, alloc, text, base, at, kind),
     }
-    let SeenRead { end, seen } = see_coordinates_of(algebra, alloc, text, base, first, kind)?;
-    let end = skip_spaces(text, end);
-    Ok(SeenRead { end, seen })
 }
 
 /// A geometry of two members, `type` and `coordinates`, from its opening bracket on, which stands at the place, and what

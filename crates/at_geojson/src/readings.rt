@@ -30,14 +30,14 @@ fn unless(fault: Option<Fault>, shape: Geometry) -> Result<Geometry, Fault>
 
 /// The geometry of a point.
 #[inline(always)]
-pub fn point_of(alloc: Global, needs: bool, pos: Pos) -> Result<Geometry, Memory>
+fn point_of(alloc: Global, needs: bool, pos: Pos) -> Result<Geometry, Memory>
     ensures { IfOk result (λ g. g ≡ points_are (kept needs (pos ∷ []))) }
 {
     Ok(of_points(alloc, one_point(alloc, needs, pos)?))
 }
 
 /// The geometry of points, or their first fault.
-pub fn points_of(alloc: Global, points: Points) -> Result<Geometry, Fault>
+fn points_of(alloc: Global, points: Points) -> Result<Geometry, Fault>
     ensures { result ≡ shape_unless points.as_points (points_are points.path.items) }
 {
     unless(points.as_points, of_points(alloc, points.path))
@@ -45,11 +45,7 @@ pub fn points_of(alloc: Global, points: Points) -> Result<Geometry, Fault>
 
 /// The geometry of a line, or its first fault.
 #[inline(always)]
-pub fn line_of(
-    alloc: Global,
-    needs: bool,
-    points: Points,
-) -> Result<Result<Geometry, Fault>, Memory>
+fn line_of(alloc: Global, needs: bool, points: Points) -> Result<Result<Geometry, Fault>, Memory>
     ensures { IfOk result (λ r. r ≡ shape_unless points.as_line (lines_are (kept needs (points.path.items ∷ [])))) }
 {
     let lines = one_line(alloc, needs, points.path)?;
@@ -57,7 +53,7 @@ pub fn line_of(
 }
 
 /// The geometry of lines, or their first fault.
-pub fn lines_of(alloc: Global, lists: Lists) -> Result<Geometry, Fault>
+fn lines_of(alloc: Global, lists: Lists) -> Result<Geometry, Fault>
     ensures { result ≡ shape_unless lists.as_lines (lines_are lists.paths.items) }
 {
     unless(lists.as_lines, of_lines(alloc, lists.paths))
@@ -65,11 +61,7 @@ pub fn lines_of(alloc: Global, lists: Lists) -> Result<Geometry, Fault>
 
 /// The geometry of a polygon, or its first fault.
 #[inline(always)]
-pub fn polygon_of(
-    alloc: Global,
-    needs: bool,
-    lists: Lists,
-) -> Result<Result<Geometry, Fault>, Memory>
+fn polygon_of(alloc: Global, needs: bool, lists: Lists) -> Result<Result<Geometry, Fault>, Memory>
     ensures { IfOk result (λ r. r ≡ shape_unless lists.as_rings
         (polygons_are (kept needs (record { rings = lists.paths.items } ∷ [])))) }
 {
@@ -78,7 +70,7 @@ pub fn polygon_of(
 }
 
 /// The geometry of polygons, or their first fault.
-pub fn polygons_of(alloc: Global, areas: Areas) -> Result<Geometry, Fault>
+fn polygons_of(alloc: Global, areas: Areas) -> Result<Geometry, Fault>
     ensures { result ≡ shape_unless areas.fault (polygons_are areas.polygons.items) }
 {
     unless(areas.fault, of_polygons(alloc, areas.polygons))

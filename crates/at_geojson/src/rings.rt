@@ -4,34 +4,16 @@ ghost use Rattle.std.specs.Prelude.{◌≡◌, ◌+◌, ◌<◌, ◌≤◌, ◌^
 ghost use Rattle.at_geojson.specs.Values.{IsWhole};
 
 use crate::asked::GeoAlgebra;
-use crate::atoms::{Areas, AreasAtom, GeoAtom, Lists, ListsAtom, PointsAtom};
-use crate::makings::{read_areas, read_lists, read_points};
-use crate::pairs::{PointsRead, Whole};
+use crate::atoms::{Areas, AreasAtom, GeoAtom, Lists, ListsAtom, Points, PointsAtom};
+use crate::makers::{Keeps, Lister, Passes};
+use crate::makings::{areas, lists, positions};
+use crate::pairs::Whole;
 use crate::places::{skip_spaces, stands};
 use at_text::Halt;
 use std::alloc::Global;
 
-/// An array of lists of positions that was read: its offset, that of the first list, the place behind it, and what is
-/// kept of it.
-#[derive(Drop)]
-pub struct ListsRead {
-    pub at: u32,
-    pub least: u32,
-    pub end: usize,
-    pub lists: Lists,
-}
-
-/// An array of areas that was read: its offset, that of the first area, the place behind it, and what is kept of it.
-#[derive(Drop)]
-pub struct AreasRead {
-    pub at: u32,
-    pub least: u32,
-    pub end: usize,
-    pub areas: Areas,
-}
-
 /// A list of positions as a value.
-fn points_value(
+fn points_value<S: Lister>(
     algebra: &GeoAlgebra,
     alloc: Global,
     text: &[u8],
@@ -41,21 +23,29 @@ fn points_value(
     requires inside { at < length text.now }
     requires opens { slice_index text.now at ≡ 0x5B }
     requires fits { base + length text.now ≤ 2 ^ 28 }
+    requires served { S.serves algebra.now.query }
     ensures { IfOk result (IsWhole algebra.now base text.now at) }
 {
-    let PointsRead {
-        at,
-        least,
-        end,
-        points,
-    } = read_points(algebra, alloc, text, base, at)?;
-    let points = Box::new(alloc, points)?;
-    let atom = GeoAtom::Points(PointsAtom { at, least, points });
-    Ok(Whole { end, atom })
+    let read = positions::<S>(algebra, alloc, S::nothing(), text, base, at)?;
+    let kept = Points {
+        path: S::path(alloc, read.made),
+        as_points: None,
+        as_line: read.as_line,
+        as_ring: read.as_ring,
+    };
+    let points = Box::new(alloc, kept)?;
+    Ok(Whole {
+        end: read.end,
+        atom: GeoAtom::Points(PointsAtom {
+            at: read.at,
+            least: read.least,
+            points,
+        }),
+    })
 }
 
 /// An array of lists of positions as a value.
-fn lists_value(
+fn lists_value<S: Lister>(
     algebra: &GeoAlgebra,
     alloc: Global,
     text: &[u8],
@@ -65,21 +55,28 @@ fn lists_value(
     requires inside { at < length text.now }
     requires opens { slice_index text.now at ≡ 0x5B }
     requires fits { base + length text.now ≤ 2 ^ 28 }
+    requires served { S.serves algebra.now.query }
     ensures { IfOk result (IsWhole algebra.now base text.now at) }
 {
-    let ListsRead {
-        at,
-        least,
-        end,
-        lists,
-    } = read_lists(algebra, alloc, text, base, at)?;
-    let lists = Box::new(alloc, lists)?;
-    let atom = GeoAtom::Lists(ListsAtom { at, least, lists });
-    Ok(Whole { end, atom })
+    let read = lists::<S>(algebra, alloc, S::nothing(), text, base, at)?;
+    let kept = Lists {
+        paths: S::paths(alloc, read.made),
+        as_lines: read.as_lines,
+        as_rings: read.as_rings,
+    };
+    let lists = Box::new(alloc, kept)?;
+    Ok(Whole {
+        end: read.end,
+        atom: GeoAtom::Lists(ListsAtom {
+            at: read.at,
+            least: read.least,
+            lists,
+        }),
+    })
 }
 
 /// An array of areas as a value.
-fn areas_value(
+fn areas_value<S: Lister>(
     algebra: &GeoAlgebra,
     alloc: Global,
     text: &[u8],
@@ -89,17 +86,23 @@ fn areas_value(
     requires inside { at < length text.now }
     requires opens { slice_index text.now at ≡ 0x5B }
     requires fits { base + length text.now ≤ 2 ^ 28 }
+    requires served { S.serves algebra.now.query }
     ensures { IfOk result (IsWhole algebra.now base text.now at) }
 {
-    let AreasRead {
-        at,
-        least,
-        end,
-        areas,
-    } = read_areas(algebra, alloc, text, base, at)?;
-    let areas = Box::new(alloc, areas)?;
-    let atom = GeoAtom::Areas(AreasAtom { at, least, areas });
-    Ok(Whole { end, atom })
+    let read = areas::<S>(algebra, alloc, S::nothing(), text, base, at)?;
+    let kept = Areas {
+        polygons: S::polygons(alloc, read.made),
+        fault: read.fault,
+    };
+    let areas = Box::new(alloc, kept)?;
+    Ok(Whole {
+        end: read.end,
+        atom: GeoAtom::Areas(AreasAtom {
+            at: read.at,
+            least: read.least,
+            areas,
+        }),
+    })
 }
 
 /// More brackets than stand one behind another in coordinates.
@@ -118,9 +121,30 @@ fn brackets_ahead(text: &[u8], at: usize) -> usize
     count
 }
 
+/// Coordinates as a value: a list of positions, an array of such lists, or an array of these. The brackets tell which.
+fn value<S: Lister>(
+    algebra: &GeoAlgebra,
+    alloc: Global,
+    text: &[u8],
+    base: u32,
+    at: usize,
+) -> Result<Whole, Halt>
+    requires inside { at < length text.now }
+    requires opens { slice_index text.now at ≡ 0x5B }
+    requires fits { base + length text.now ≤ 2 ^ 28 }
+    requires served { S.serves algebra.now.query }
+    ensures { IfOk result (IsWhole algebra.now base text.now at) }
+{
+    match brackets_ahead(text, at) {
+        2 => points_value::<S>(algebra, alloc, text, base, at),
+        3 => lists_value::<S>(algebra, alloc, text, base, at),
+        4 => areas_value::<S>(algebra, alloc, text, base, at),
+        _ => Err(Halt::At(at)),
+    }
+}
+
 /// Coordinates of positions of two numbers that are written plainly, from their opening bracket on, which stands at the
-/// place: a list of positions, an array of such lists, or an array of these. Which of them is looked for the brackets
-/// tell.
+/// place: a list of positions, an array of such lists, or an array of these.
 pub fn read_coordinates(
     algebra: &GeoAlgebra,
     alloc: Global,
@@ -133,10 +157,8 @@ pub fn read_coordinates(
     requires fits { base + length text.now ≤ 2 ^ 28 }
     ensures { IfOk result (IsWhole algebra.now base text.now at) }
 {
-    match brackets_ahead(text, at) {
-        2 => points_value(algebra, alloc, text, base, at),
-        3 => lists_value(algebra, alloc, text, base, at),
-        4 => areas_value(algebra, alloc, text, base, at),
-        _ => Err(Halt::At(at)),
+    if algebra.needs_shapes() {
+        return value::<Keeps>(algebra, alloc, text, base, at);
     }
+    value::<Passes>(algebra, alloc, text, base, at)
 }

@@ -1,9 +1,0 @@
--- The positions that were kept.
-use Rattle.std.proofs.Common.{Bool, sym, ◌∙◌, ap, refl}
-use Rattle.at_geojson.specs.Keeping.{kept}
-use Rattle.at_geojson.proofs.makings.keep_points.Goals as goal
-
-pub returns : goal.returns
-returns c =
-    let m = c.in_ok-line.ensures in
-    m.whole _ refl refl refl (m.tells ∙ ap (λ (b : Bool). kept b m.path) (sym c.requires.needed)) refl refl refl

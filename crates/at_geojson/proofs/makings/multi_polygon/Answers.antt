@@ -1,0 +1,10 @@
+use Rattle.std.proofs.Common.{arith}
+use Rattle.at_geojson.proofs.SeenCoordinates.{multi_polygon_seen}
+use Rattle.at_geojson.proofs.makings.multi_polygon.Goals as goal
+
+pub returns : goal.returns
+returns g c =
+    let a = c.args.algebra.now in
+    multi_polygon_seen a c.args.alloc c.args.base c.args.text.now c.args.at _ g.S.Maker.tells_areas c.nothing.result g.S.Maker.empty c.nothing.ensures c.in_ok-read.read c.see_areas-seen.result c.skip_spaces-first.result (omega (arith, c.requires.fits))
+    c.skip_spaces-first.ensures.order c.skip_spaces-first.ensures.spaces c.in_ok-read.ensures c.skip_spaces.ensures.order c.skip_spaces.ensures.within c.skip_spaces.ensures.spaces
+    (λ polygons h. c.see_areas-seen.ensures a.query polygons c.requires.served h) c.unless.ensures
