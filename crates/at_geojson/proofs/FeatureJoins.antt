@@ -96,7 +96,7 @@ forms_join a b h = (fault_at Form a, refl, ap (λ t. if t || ((a == b) && true) 
 
 module _ (asked : Asked) (base : ℕ) (w : List ℕ) (alloc : Global) where
   -- the atom of a feature
-  abbrev atom_of : ℕ → FeatureRead → List TextPair → ObjectAtom
+  abbrev pub atom_of : ℕ → FeatureRead → List TextPair → ObjectAtom
   atom_of at p texts = record { at = base + at; roles = record { ptr = null_ptr; alloc = alloc; value = record { role = roles.Feature p.part; texts = texts } } }
 
   module _ (at : ℕ) (p : FeatureRead) (r : IsFeatureRead asked base w at p) where

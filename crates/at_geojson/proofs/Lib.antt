@@ -44,4 +44,5 @@ pub mod TextReads
 pub mod SeenParts
 pub mod FeatureReads
 pub mod FeatureJoins
+mod FeatureFronts
 pub mod KnownNames

@@ -17,8 +17,8 @@ use Rattle.at_geojson.specs.declared.root.RootEnd.TheVariants.{Found, Memory}
 use Rattle.at_geojson.specs.Keeping.{Asked, asked_texts}
 use Rattle.at_geojson.specs.Roles.{Features, root_reading}
 use Rattle.at_geojson.specs.Atoms.{twin_of, at_of, role_of, HasPart, IsRoot, IsFold}
-use Rattle.at_geojson.specs.Ends.{found_end, EndsGeometry, EndsRole, EndsBy, EndsAtom}
-use Rattle.at_geojson.specs.Wholes.{faults_of, IsAnswer}
+use Rattle.at_geojson.specs.Ends.{EndsGeometry, EndsRole, EndsBy, EndsAtom}
+use Rattle.at_geojson.specs.Wholes.{faults_of, IsAnswer, found_end}
 use Rattle.at_geojson.proofs.Firsts.{none_first}
 use Rattle.at_geojson.proofs.QueryFacts.{same_part}
 use Rattle.at_geojson.proofs.Tiers.{twins_first}

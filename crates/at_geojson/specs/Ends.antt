@@ -15,10 +15,7 @@ use Rattle.at_geojson.specs.declared.atoms.Role.TheVariants as roles
 use Rattle.at_geojson.specs.declared.root.RootEnd.{RootEnd}
 use Rattle.at_geojson.specs.declared.root.RootEnd.TheVariants.{Found, Memory}
 use Rattle.at_geojson.specs.Atoms.{twin_of, at_of, role_of}
-
-abbrev pub found_end : Result Part Fault → Result Part RootEnd
-found_end (Ok part) = Ok part
-found_end (Err fault) = Err (Found fault)
+use Rattle.at_geojson.specs.Wholes.{found_end}
 
 -- the part of the one feature, or want of memory
 abbrev pub EndsLone : Query → Feature → Result Part RootEnd → Type 0

@@ -57,4 +57,4 @@ mod wholes;
 
 pub use asked::GeoAlgebra;
 pub use atoms::GeoAtom;
-pub use root::{RootEnd, root_part};
+pub use root::{FeatureFront, RootEnd, feature_front, root_part};

@@ -1,20 +1,22 @@
 //! What a whole text means: the part of its features, or its first fault beyond its syntax.
 
-ghost use Rattle.std.specs.Prelude.{◌≡◌, []};
+ghost use Rattle.std.specs.Prelude.{◌≡◌, ◌+◌, ◌≤◌, ◌^◌, [], length, IfOk, IfSome};
 ghost use Rattle.at_geom.specs.Shapes.{IsShapeInRange};
 ghost use Rattle.at_nest.specs.Tree.{Tree};
 ghost use Rattle.at_geojson.specs.Atoms.{IsOwn, IsOwnRole, IfOwnShape, IsFold};
-ghost use Rattle.at_geojson.specs.Wholes.{IsAnswer};
-ghost use Rattle.at_geojson.specs.Ends.{found_end, EndsLone, EndsGeometry, EndsRole, EndsAtom};
+ghost use Rattle.at_geojson.specs.Wholes.{IsAnswer, IsFeatureFront, found_end};
+ghost use Rattle.at_geojson.specs.Ends.{EndsLone, EndsGeometry, EndsRole, EndsAtom};
 
 use crate::asked::GeoAlgebra;
 use crate::atoms::{GeoAtom, Role};
+use crate::features::{FeatureRead, read_feature};
 use crate::geometries::Geometry;
 use crate::lists::form_at;
 use crate::objects::feature_part;
+use crate::places::stands;
 use crate::sorts::at_of;
 use at_query::{Part, TextPairs};
-use at_text::{Fault, Memory};
+use at_text::{Fault, Halt, Memory};
 use std::alloc::Global;
 
 /// Why a text has no part.
@@ -24,6 +26,14 @@ pub enum RootEnd {
     Found(Fault),
     /// Want of memory.
     Memory,
+}
+
+/// A feature with which a text begins: how many bytes it takes, and the part of a query that it gives where it is the
+/// whole text, or its first fault.
+#[derive(Drop)]
+pub struct FeatureFront {
+    pub len: u32,
+    pub part: Result<Part, Fault>,
 }
 
 /// The part, or the fault.
@@ -105,4 +115,31 @@ pub fn root_part(alloc: Global, algebra: &GeoAlgebra, atom: GeoAtom) -> Result<P
     ensures { (t : Tree) → IsFold algebra.now atom t → IsAnswer algebra.now t result }
 {
     atom_part(alloc, algebra, atom)
+}
+
+/// The feature with which a text begins, whose first byte stands at the offset, where it can be read at once. Nothing is
+/// said of the text where it can't.
+///
+/// # Errors
+/// The one refusal is want of memory.
+pub fn feature_front(
+    alloc: Global,
+    algebra: &GeoAlgebra,
+    text: &[u8],
+    base: u32,
+) -> Result<Option<FeatureFront>, Memory>
+    requires { base + length text.now ≤ 2 ^ 28 }
+    ensures { IfOk result (λ found. IfSome found (IsFeatureFront algebra.now base text.now)) }
+{
+    if !stands(text, 0, b'{') {
+        return Ok(None);
+    }
+    match read_feature(algebra, alloc, text, base, 0) {
+        Ok(FeatureRead { end, part }) => Ok(Some(FeatureFront {
+            len: end as u32,
+            part,
+        })),
+        Err(Halt::Memory) => Err(Memory),
+        Err(Halt::At(_)) => Ok(None),
+    }
 }
