@@ -13,7 +13,7 @@ import sys
 import tempfile
 from typing import List, NamedTuple, Optional, Tuple
 
-from atgis_parts import RS, Part, mapped, may_leave
+from atgis_parts import LIMIT, RS, Part, mapped, may_leave, sentinel_place, with_feature
 
 __all__ = ["Task", "Told", "ask"]
 
@@ -29,7 +29,7 @@ class Task(NamedTuple):
     parts: Tuple[Part, ...]
     options: Tuple[str, ...]
     program: Optional[str] = None
-    is_scanned: bool = False      # whether the part is looked through for an end of the array of features
+    is_scanned: bool = False      # whether it is also told if the array of features may end in the part
 
     def size(self) -> int:
         """How many bytes of files it is about."""
@@ -37,7 +37,8 @@ class Task(NamedTuple):
 
 
 class Told(NamedTuple):
-    """What the program said: its status, its line, its answer with offsets in what it got, and what the look found."""
+    """What the program said: its status, its line, its answer with offsets in what it got, and whether the array of
+    features may end in the part."""
 
     status: int
     line: str
@@ -50,8 +51,11 @@ def ask(task: Task, _attempt: int = 0) -> Told:
     forms = sorted({part.form for part in task.parts})
     form = ("--form", *forms) if len(forms) == 1 else ()
     program = task.program or os.environ.get("ATGIS") or "atgis"
-    command = [program, *task.options, *form, "--", task.query]
+    words = [program, *task.options, *form, "--"]
+    command = [*words, task.query]
     try:
+        if can_be_listed(task):
+            return told_by_list([*words, "select"], task)
         if len(task.parts) == 1:
             return told_of_one(command, task.parts[0], task.is_scanned)
         with tempfile.TemporaryDirectory(prefix="atgis-many-") as folder:
@@ -62,7 +66,28 @@ def ask(task: Task, _attempt: int = 0) -> Told:
         return Told(NO_ANSWER, f"{error.filename or program}: {error.strerror}", b"")
 
 
-def told_of_one(command: List[str], part: Part, is_scanned: bool) -> Told:
+def can_be_listed(task: Task) -> bool:
+    """Whether a list of all features answers a question, and there is room for one more feature behind the part."""
+    return task.is_scanned and task.query in ("count", "select") and with_feature(task.parts[0]).size() <= LIMIT
+
+
+def told_by_list(command: List[str], task: Task) -> Told:
+    """The same by a list of the features of a part and of one behind it, so that the part isn't looked through.
+
+    Where that one is listed, the part ends among the features.
+    """
+    part = task.parts[0]
+    told = told_of_one(command, with_feature(part))
+    if told.status:
+        return told
+    last = b"%d\n" % sentinel_place(part)
+    is_listed = told.text[-len(last) - 1:] in (last, b"\n" + last)
+    listed = told.text[:-len(last)] if is_listed else told.text
+    text = listed if task.query == "select" else b"%d\n" % listed.count(b"\n")
+    return told._replace(text=text, may_leave=not is_listed)
+
+
+def told_of_one(command: List[str], part: Part, is_scanned: bool = False) -> Told:
     """The same of one part, which is the standard input, so that no name of a file means anything else."""
     if part.is_whole:
         return answer([*command, "@in"], [], os.open(part.file, os.O_RDONLY), ("@in",), (part,))

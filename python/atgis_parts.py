@@ -18,7 +18,7 @@ from typing import Any, Iterator, List, NamedTuple, Optional, Tuple, Union
 __all__ = [
     "CannotCut", "Head", "LIMIT", "PART", "Part", "alone", "around_fault", "as_record", "cut", "form_of", "head_of",
     "has_end", "inner", "last", "mapped", "may_leave", "next_cut", "pieces", "sentinel_place", "type_behind",
-    "value_end", "with_sentinel",
+    "value_end", "with_feature", "with_sentinel",
 ]
 
 LIMIT = 268_435_456
@@ -26,6 +26,7 @@ PART = 64 << 20
 FRONT_SIZE = 1 << 16
 STEP = 4 << 20
 MARK = b"\xef\xbb\xbf"
+FRAME = (b'{"type":"FeatureCollection","features":[', b"]}")
 RS = b"\x1e"
 ENDS_OF_LINES = (".geojsonl", ".geojsonseq", ".geojsons", ".ndjson", ".ndgeojson", ".jsonl", ".nljson")
 PACKED = {b"\x1f\x8b": ("gzip", "gzip -dk"), b"\x28\xb5\x2f\xfd": ("zstd", "zstd -d"), b"BZh": ("bzip2", "bzip2 -dk"),
@@ -88,12 +89,8 @@ class Head(NamedTuple):
     first: int
     has_type: bool
 
-    def front(self) -> bytes:
-        """What stands before a part that isn't the last one."""
-        return b'{"type":"FeatureCollection","features":[' if self.has_type else b'{"features":['
-
     def back(self) -> bytes:
-        """What stands behind it."""
+        """What makes it a collection without features."""
         return b"]}" if self.has_type else b'],"type":"FeatureCollection"}'
 
 
@@ -217,7 +214,7 @@ def cut_collection(name: str, data: Data, size: int) -> List[Part]:
         found = separator.search(data, begin + size, begin + 2 * size) or ANY_SEPARATOR.search(data, begin + size)
         if not found:
             break
-        parts.append(inner(name, head, begin, found.start() + 1))
+        parts.append(inner(name, begin, found.start() + 1))
         begin = found.end()
     if not parts:
         return [Part(name, 0, len(data), "geojson", is_whole=True)]
@@ -234,9 +231,9 @@ def separator_of(data: Data, first: int) -> Optional["re.Pattern[bytes]"]:
                       + SPACE + value + b")")
 
 
-def inner(name: str, head: Head, begin: int, end: int) -> Part:
+def inner(name: str, begin: int, end: int) -> Part:
     """A part of a collection that isn't the last one, with a collection of its own round it."""
-    return Part(name, begin, end, "geojson", head.front(), head.back())
+    return Part(name, begin, end, "geojson", *FRAME)
 
 
 def last(name: str, head: Head, begin: int, end: int) -> Part:
@@ -256,8 +253,13 @@ def with_sentinel(part: Part) -> Part:
     return part._replace(after=b",0" + part.after)
 
 
+def with_feature(part: Part) -> Part:
+    """The part with a feature behind it, which the program lists where it is among the features."""
+    return part._replace(after=b',{"type":"Feature"}' + part.after)
+
+
 def sentinel_place(part: Part) -> int:
-    """Where that item stands in what the program gets."""
+    """Where either of these items stands in what the program gets."""
     return part.front() + part.end - part.begin + 1
 
 
@@ -427,10 +429,10 @@ def collection_pieces(part: Part, data: Data, head: Head, size: int) -> List[Par
         here = next_cut(data, begin, begin + size)
         if not here or here[1] >= part.end:
             break
-        found.append(inner(part.file, head, begin, here[0]))
+        found.append(inner(part.file, begin, here[0]))
         begin = here[1]
     is_last = not part.after
-    return [*found, last(part.file, head, begin, part.end) if is_last else inner(part.file, head, begin, part.end)]
+    return [*found, last(part.file, head, begin, part.end) if is_last else inner(part.file, begin, part.end)]
 
 
 def around_fault(part: Part, data: Data, offset: int) -> List[Part]:
@@ -457,9 +459,11 @@ def around_feature(part: Part, data: Data, offset: int) -> List[Part]:
     while at is not None and at < part.end:
         end, following = item_end(data, at)
         if at <= offset < end:
-            behind = [] if following is None or following >= part.end else [following]
-            rest = inner if part.after else last
-            return [inner(part.file, head, one, before) for one in [start] if one < before] + [
-                rest(part.file, head, one, part.end) for one in behind]
+            ahead = [inner(part.file, start, before)] if start < before else []
+            if following is None or following >= part.end:
+                return ahead
+            is_last = not part.after
+            rest = last(part.file, head, following, part.end) if is_last else inner(part.file, following, part.end)
+            return [*ahead, rest]
         before, at = end, following
-    return [inner(part.file, head, start, before)] if start < before and (before < part.end or not part.after) else []
+    return [inner(part.file, start, before)] if start < before and (before < part.end or not part.after) else []

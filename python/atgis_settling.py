@@ -169,7 +169,7 @@ class Settling:
             return False
         other = parts_of.with_sentinel(part)
         said = found_in(other, self.runner.told(self.question._replace(query="count").of(other)))
-        return said is None or said.inner != parts_of.sentinel_place(part)
+        return said is None or (KINDS[said.number], said.inner) != ("Form", parts_of.sentinel_place(part))
 
     def cut_anew(self, data: Data, head: Head, place: int) -> List[Part]:
         """The parts from here on with another end of the first: that of the feature in which its last byte stands."""
@@ -179,9 +179,9 @@ class Settling:
             return [parts_of.last(self.name, head, part.begin, len(data))]
         end, begin = found
         rest = [one for one in self.parts[place + 1:] if one.end > begin]
-        first = parts_of.inner(self.name, head, part.begin, end)
+        first = parts_of.inner(self.name, part.begin, end)
         if len(rest) > 1:
-            return [first, parts_of.inner(self.name, head, begin, rest[0].end), *rest[1:]]
+            return [first, parts_of.inner(self.name, begin, rest[0].end), *rest[1:]]
         return [first, parts_of.last(self.name, head, begin, len(data))]
 
     # all faults

@@ -110,6 +110,8 @@ def cut_checks(folder: str) -> Iterator[Check]:
             begins.append(at - 1)
         got = [dataset(path, size).count() for size in SIZES]
         yield differs(f"cuts: {what}", got, [len(begins)] * len(SIZES))
+        got = [dataset(path, size).count("in box(-1 -1,99 99)") for size in SIZES]
+        yield differs(f"cuts: {what}: with a test", got, [len(features or [])] * len(SIZES))
         places = [[one.offset for one in dataset(path, size).select()] for size in SIZES]
         yield differs(f"cuts: {what}: select", places, [begins] * len(SIZES))
 
@@ -137,8 +139,8 @@ def fault_in_cut_checks(folder: str) -> Iterator[Check]:
     for what, (text, fault) in files.items():
         path = put(folder, "fault.json", text)
         wanted = f"{path}: {fault.format(text.find(',0,') + 1 if ',0,' in text else text.find('0' + ',' + chr(10)))}"
-        got = [refused(dataset(path, size).count) for size in SIZES]
-        yield differs(f"faults: {what}", got, [wanted] * len(SIZES))
+        got = [refused(ask) for size in SIZES for ask in (dataset(path, size).count, dataset(path, size).area)]
+        yield differs(f"faults: {what}", got, [wanted] * 2 * len(SIZES))
 
 
 def tier_checks(folder: str) -> Iterator[Check]:
