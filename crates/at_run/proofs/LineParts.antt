@@ -36,7 +36,7 @@ use Rattle.at_run.specs.Labels.{SpellsLabelled, LabelledLine, texts_of}
 use Rattle.at_run.specs.declared.labels.Behind.{Behind}
 use Rattle.at_run.specs.Labelling.{QuoteIs, LabelStands, HasFront, IsBehind, AreKeptTexts, AreFrontTexts, asks_label}
 use Rattle.at_run.specs.Features.{AreLineFeatures}
-use Rattle.at_run.specs.Gathering.{Asked, IsOwn, IsOwnOf, IsGathered, CountsAll, IsChecked, IsLineRead, AddsFeature, AreJoinable, IsJoinOf, JoinsGathered, KeepsOwn}
+use Rattle.at_run.specs.Gathering.{Asked, IsOwn, IsOwnOf, IsGathered, CountsAll, IsChecked, IsLineRead, AddsFeature, AreJoinable, JoinsGathered, KeepsOwn}
 use Rattle.at_run.proofs.AsciiLines.{plain_valid, blanks_valid}
 use Rattle.at_run.proofs.LabelSteps.{without_quote, plain_syntax, label_front, label_spelled, label_syntax}
 use Rattle.at_run.proofs.FaultLists.{first_none, first_one, first_joined}
@@ -200,34 +200,20 @@ module _ (asked : Asked) where
   both_kept a b c ls ms joins (v, h, (fs, hf, pa)) (w, k, (gs, kg, pb)) =
       (All-append IsValidLine ls ms v w, first_joined asked.digits asked.how ls ms None None None h k refl, (fs ++ gs, features_joined asked.digits asked.how ls ms fs gs hf kg, joins asked.query fs gs pa pb))
 
-pub joins_kept : (left : Accumulator) (right : Gathered) (b c : Accumulator) → right ≡ Kept b → JoinsAccumulators left b c → JoinsGathered (Kept left) right (Kept c)
+joins_kept : (left : Accumulator) (right : Gathered) (b c : Accumulator) → right ≡ Kept b → JoinsAccumulators left b c → JoinsGathered (Kept left) right (Kept c)
 joins_kept left right b c q joins = rw (q) (λ asked ls ms h k. both_kept asked left b c ls ms joins h k)
 
-pub owns_kept : (left : Accumulator) (right : Gathered) (b c : Accumulator) → right ≡ Kept b → JoinsAccumulators left b c → KeepsOwn (Kept left) right (Kept c)
+owns_kept : (left : Accumulator) (right : Gathered) (b c : Accumulator) → right ≡ Kept b → JoinsAccumulators left b c → KeepsOwn (Kept left) right (Kept c)
 owns_kept left right b c q joins = rw (q) (λ asked h k. (h.0 ++ k.0, joins asked.query h.0 k.0 h.1 k.1))
 
-pub joins_right : (left : Accumulator) (right : Gathered) (f : Fault) → right ≡ Failed f → JoinsGathered (Kept left) right (Failed f)
+joins_right : (left : Accumulator) (right : Gathered) (f : Fault) → right ≡ Failed f → JoinsGathered (Kept left) right (Failed f)
 joins_right left right f q = rw (q) (λ asked ls ms h k valid. first_joined asked.digits asked.how ls ms None (Some f) (Some f) h.1 (k (each_behind IsValidLine ls ms valid)) refl)
 
-pub joins_left : (f : Fault) (right : Gathered) (b : Accumulator) → right ≡ Kept b → JoinsGathered (Failed f) right (Failed f)
+joins_left : (f : Fault) (right : Gathered) (b : Accumulator) → right ≡ Kept b → JoinsGathered (Failed f) right (Failed f)
 joins_left f right b q = rw (q) (λ asked ls ms h k valid. first_joined asked.digits asked.how ls ms (Some f) None (Some f) (h (each_before IsValidLine ls ms valid)) k.1 refl)
 
-pub joins_failed : (f : Fault) (right : Gathered) (g first : Fault) → right ≡ Failed g → Some first ≡ first_fault (Some f) (Some g) → JoinsGathered (Failed f) right (Failed first)
+joins_failed : (f : Fault) (right : Gathered) (g first : Fault) → right ≡ Failed g → Some first ≡ first_fault (Some f) (Some g) → JoinsGathered (Failed f) right (Failed first)
 joins_failed f right g first q e = rw (q) (λ asked ls ms h k valid. first_joined asked.digits asked.how ls ms (Some f) (Some g) (Some first) (h (each_before IsValidLine ls ms valid)) (k (each_behind IsValidLine ls ms valid)) e)
-
--- ---- what is kept of both, or the first of the faults
-
-pub both_parts : (left : Accumulator) (right : Gathered) (b c : Accumulator) → right ≡ Kept b → JoinsAccumulators left b c → IsJoinOf (Kept left) right (Kept c)
-both_parts left right b c e joins = rw (e) (c, refl, joins)
-
-pub right_fault : (left : Accumulator) (right : Gathered) (f : Fault) → right ≡ Failed f → IsJoinOf (Kept left) right (Failed f)
-right_fault left right f e = rw (e) refl
-
-pub left_fault : (f : Fault) (right : Gathered) (b : Accumulator) → right ≡ Kept b → IsJoinOf (Failed f) right (Failed f)
-left_fault f right b e = rw (e) refl
-
-pub both_faults : (f : Fault) (right : Gathered) (g first : Fault) → right ≡ Failed g → Some first ≡ first_fault (Some f) (Some g) → IsJoinOf (Failed f) right (Failed first)
-both_faults f right g first e h = rw (e) (first, refl, h)
 
 -- ---- a line that is put behind those before it
 

@@ -13,7 +13,6 @@ ghost use Rattle.at_run.specs.Gathering.{KeepsOwn};
 use at_query::{Accumulator, Feature, LentFeature, Part, Query};
 use at_text::{Fault, Memory, first_fault, first_of_two};
 use at_wkt::LineFault;
-use std::mem;
 
 /// What is kept of lines, or of records: what a query keeps of their features, or their first fault.
 #[derive(Drop)]
@@ -22,65 +21,46 @@ pub enum Gathered {
     Failed(Fault),
 }
 
-/// What is kept of the features of the one and, behind them, of the other.
-fn joined_kept(left: Accumulator, right: Accumulator) -> Result<Accumulator, Memory>
-    requires { AreOfOneVerb left right }
-    ensures { IfOk result (JoinsAccumulators left right) }
+/// Puts what is kept of further features behind what is kept. A fault stays as it is.
+fn join_kept(gathered: &mut Gathered, behind: Accumulator) -> Result<(), Memory>
+    requires { AreJoinable gathered.old (Gathered.Kept behind) }
+    ensures own { IfOk result (λ _. KeepsOwn gathered.old (Gathered.Kept behind) gathered.new) }
+    ensures joins { IfOk result (λ _. JoinsGathered gathered.old (Gathered.Kept behind) gathered.new) }
+    ensures both { IfOk result (λ _. IsJoinOf gathered.old (Gathered.Kept behind) gathered.new) }
 {
-    let mut both = left;
-    both.join(right)?;
-    Ok(both)
-}
-
-/// What is kept of features, and of the lines behind theirs.
-fn joined_part(left: Accumulator, right: Gathered) -> Result<Gathered, Memory>
-    requires { AreJoinable (Gathered.Kept left) right }
-    ensures own { IfOk result (KeepsOwn (Gathered.Kept left) right) }
-    ensures joins { IfOk result (JoinsGathered (Gathered.Kept left) right) }
-    ensures both { IfOk result (IsJoinOf (Gathered.Kept left) right) }
-{
-    match right {
-        Gathered::Kept(right) => Ok(Gathered::Kept(joined_kept(left, right)?)),
-        Gathered::Failed(fault) => Ok(Gathered::Failed(fault)),
+    match gathered {
+        Gathered::Kept(kept) => kept.join(behind),
+        Gathered::Failed(_) => Ok(()),
     }
 }
 
-/// The first fault of lines that have this one, and of the lines behind them.
-fn joined_fault(left: Fault, right: Gathered) -> Fault
-    ensures joins { JoinsGathered (Gathered.Failed left) right (Gathered.Failed result) }
-    ensures both { IsJoinOf (Gathered.Failed left) right (Gathered.Failed result) }
-{
-    match right {
-        Gathered::Kept(_) => left,
-        Gathered::Failed(right) => first_of_two(left, right),
-    }
-}
-
-/// What is kept of the lines of the one and, behind them, of the other. What is kept beside a fault is let go. The one
-/// refusal is want of memory.
-pub fn joined(left: Gathered, right: Gathered) -> Result<Gathered, Memory>
-    requires { AreJoinable left right }
-    ensures own { IfOk result (KeepsOwn left right) }
-    ensures joins { IfOk result (JoinsGathered left right) }
-    ensures both { IfOk result (IsJoinOf left right) }
-{
-    match left {
-        Gathered::Kept(left) => joined_part(left, right),
-        Gathered::Failed(fault) => Ok(Gathered::Failed(joined_fault(fault, right))),
-    }
-}
-
-/// Puts what is kept of further lines, or records, behind what is kept of those before them. The one refusal is want of
-/// memory.
+/// Puts what is kept of further lines, or records, behind what is kept of those before them. What is kept beside a fault
+/// is let go. The one refusal is want of memory.
 pub fn join_into(gathered: &mut Gathered, behind: Gathered) -> Result<(), Memory>
     requires { AreJoinable gathered.old behind }
     ensures own { IfOk result (λ _. KeepsOwn gathered.old behind gathered.new) }
     ensures joins { IfOk result (λ _. JoinsGathered gathered.old behind gathered.new) }
     ensures both { IfOk result (λ _. IsJoinOf gathered.old behind gathered.new) }
 {
-    let before = mem::replace(gathered, Gathered::Kept(Accumulator::Part(Part::Count(0))));
-    *gathered = joined(before, behind)?;
-    Ok(())
+    match behind {
+        Gathered::Kept(behind) => join_kept(gathered, behind),
+        Gathered::Failed(fault) => {
+            add_fault(gathered, fault);
+            Ok(())
+        }
+    }
+}
+
+/// What is kept of the lines of the one and, behind them, of the other. The one refusal is want of memory.
+pub fn joined(left: Gathered, right: Gathered) -> Result<Gathered, Memory>
+    requires { AreJoinable left right }
+    ensures own { IfOk result (KeepsOwn left right) }
+    ensures joins { IfOk result (JoinsGathered left right) }
+    ensures both { IfOk result (IsJoinOf left right) }
+{
+    let mut both = left;
+    join_into(&mut both, right)?;
+    Ok(both)
 }
 
 /// Counts one more feature.
@@ -121,6 +101,7 @@ fn count_shape(gathered: &mut Gathered)
 pub fn add_fault(gathered: &mut Gathered, fault: Fault)
     ensures own { KeepsOwn gathered.old (Gathered.Failed fault) gathered.new }
     ensures joins { JoinsGathered gathered.old (Gathered.Failed fault) gathered.new }
+    ensures both { IsJoinOf gathered.old (Gathered.Failed fault) gathered.new }
 {
     let first = match gathered {
         Gathered::Kept(_) => fault,

@@ -5,3 +5,4 @@ pub mod SequenceEnds
 pub mod OneSequence
 pub mod ProperEntries
 pub mod WholeRecords
+pub mod FirstRecords

@@ -1,6 +1,6 @@
 -- What is read of a span, and what two neighbouring spans give.
 -- For the laws of the definitions.
-use Rattle.std.proofs.Common.{◌≡◌, ℕ, ◌+◌, ◌-◌, ◌<◌, ◌≤◌, List, [], ◌∷◌, ◌++◌, length, sym, ◌∙◌, ap, subst, arith, append_assoc}
+use Rattle.std.proofs.Common.{◌≡◌, ℕ, ◌+◌, ◌-◌, ◌<◌, ◌≤◌, List, [], ◌∷◌, ◌++◌, length, None, sym, ◌∙◌, ap, subst, arith, append_assoc}
 use Rattle.std.specs.List.{position_or_len}
 use Rattle.at_text.specs.Spans.{span_of, AreNeighbours, IsMerged}
 use Rattle.at_text.specs.declared.texts.Span.{Span}
@@ -17,7 +17,7 @@ use Rattle.at_run.specs.Gathering.{AreJoinable, IsJoinOf}
 use Rattle.at_wkt.proofs.LineMerges.{length-span_of}
 use Rattle.at_text.specs.Separated.{Piece}
 use Rattle.at_seq.specs.Records.{is_separator, records_in}
-use Rattle.at_seq.specs.Gathering.{IsGathered, AddsRecords}
+use Rattle.at_seq.specs.Gathering.{IsGathered, AddsRecords, AddsFirst, AddsNext}
 use Rattle.at_seq.specs.declared.fragments.PartedText.{PartedText}
 use Rattle.at_seq.specs.declared.fragments.SeqText.{SeqText}
 use Rattle.at_seq.specs.declared.fragments.SeqText.TheVariants.{Lone, Parted}
@@ -42,22 +42,30 @@ module _ (asked : Asked) (bytes : List ℕ) where
     pub begins : i ≤ start
     pub ends : start ≤ k
 
-  module _ (i k start : ℕ) (kept : Gathered) (h : ReadSoFar i k start kept) (within : k ≤ length bytes) (p : ℕ) (first : p ≡ position_or_len is_separator (span_of bytes start k)) where
-    pub more_read : (next : Gathered) → start + p < k → AddsRecords asked kept (records_in (piece_in bytes start (start + p) ∷ [])) next → ReadSoFar i k (start + p + 1) next
-    more_read next inside adds = record {
-      inner = h.inner ++ (piece_in bytes start (start + p) ∷ []);
-      split = h.split ∙ (ap (λ z. h.inner ++ z) (pieces_ahead bytes start k p h.ends within first inside)
-          ∙ sym (append_assoc h.inner (piece_in bytes start (start + p) ∷ []) (pieces_in bytes (start + p + 1) k)));
-      kept = subst (IsGathered asked next) (sym (records_in-append h.inner (piece_in bytes start (start + p) ∷ []))) (adds (records_in h.inner) h.kept);
-      begins = omega (arith, h.begins);
-      ends = omega (arith, inside);
-    }
+  module _ (i k start : ℕ) (kept next : Gathered) (h : ReadSoFar i k start kept) (within : k ≤ length bytes) where
+    abbrev rest : Span
+    rest = record { from = start; to = k }
 
-    pub all_read : start + p ≡ k → HoldsInner asked bytes i k (record { kept = kept; last = start })
-    all_read ends = record {
+    pub more_read : (end : ℕ) → AddsFirst asked bytes rest kept next end → ReadSoFar i k (end + 1) next
+    more_read end adds =
+        let begins : start ≤ end = adds.begins in
+        let inside : end < k = adds.inside in
+        let place : start + (end - start) ≡ end = omega (arith, begins) in
+        let ahead : pieces_in bytes start k ≡ piece_in bytes start end ∷ pieces_in bytes (end + 1) k =
+        pieces_ahead bytes start k (end - start) h.ends within adds.first (omega (arith, begins, inside)) ∙ ap (λ n. piece_in bytes start n ∷ pieces_in bytes (n + 1) k) place in
+        record {
+          inner = h.inner ++ (piece_in bytes start end ∷ []);
+          split = h.split ∙ (ap (λ z. h.inner ++ z) ahead ∙ sym (append_assoc h.inner (piece_in bytes start end ∷ []) (pieces_in bytes (end + 1) k)));
+          kept = subst (IsGathered asked next) (sym (records_in-append h.inner (piece_in bytes start end ∷ []))) (adds.adds (records_in h.inner) h.kept);
+          begins = omega (arith, h.begins, begins);
+          ends = omega (arith, inside);
+        }
+
+    pub all_read : AddsNext asked bytes rest kept next None → HoldsInner asked bytes i k (record { kept = next; last = start })
+    all_read (same, first) = record {
       inner = h.inner;
-      pieces = h.split ∙ ap (λ z. h.inner ++ z) (pieces_alone bytes start k p h.ends within first ends);
-      kept = h.kept;
+      pieces = h.split ∙ ap (λ z. h.inner ++ z) (pieces_alone bytes start k (k - start) h.ends within first (omega (arith, h.ends)));
+      kept = subst (λ z. IsGathered asked z (records_in h.inner)) (sym same) h.kept;
       begins = h.begins;
       ends = h.ends;
     }

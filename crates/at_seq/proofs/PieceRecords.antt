@@ -52,7 +52,8 @@ and_false : (b : Bool) → (b && false) ≡ false
 and_false true = refl
 and_false false = refl
 
-other_stands : (w : List ℕ) (n : ℕ) → n < length w → is_space (slice_index w n) ≡ false → are_spaces w ≡ false
+-- a byte that is none
+pub other_stands : (w : List ℕ) (n : ℕ) → n < length w → is_space (slice_index w n) ≡ false → are_spaces w ≡ false
 other_stands [] n h e = absurd (omega arith)
 other_stands (b ∷ w) zero h e = ap (λ z. z && are_spaces w) e
 other_stands (b ∷ w) (suc n) h e = ap (λ z. is_space b && z) (other_stands w n (omega arith) e) ∙ and_false (is_space b)
@@ -73,7 +74,7 @@ module _ (bytes : List ℕ) where
   pub piece_both : (i j k : ℕ) → i ≤ j → j ≤ k → record { at = i; text = span_of bytes i j ++ span_of bytes j k } ≡ piece_in bytes i k
   piece_both i j k h g = ap (λ z. record { at = i; text = z }) (sym (span_of-joined bytes i j k h g))
 
-  part_front : (i p k : ℕ) → i + p ≤ k → k ≤ length bytes → take p (span_of bytes i k) ≡ span_of bytes i (i + p)
+  pub part_front : (i p k : ℕ) → i + p ≤ k → k ≤ length bytes → take p (span_of bytes i k) ≡ span_of bytes i (i + p)
   part_front i p k h l =
       let width : i + p - i ≡ p = omega arith in
       let joined = span_of-joined bytes i (i + p) k (omega arith) h in

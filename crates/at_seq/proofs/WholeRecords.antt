@@ -1,7 +1,7 @@
 -- No JSON text holds the byte RS (RFC 8259 sections 2, 6 and 7), so a JSON text behind a separator is one piece of a sequence, and
 -- cutting a file at its separators, as `pieces_from` does, loses no spelling. The records of `HasSeqFault` and `AreSeqFeatures`, which
 -- the contract of `part_seq` cites, are those pieces.
--- A law of the definitions: no contract rests on it.
+-- Laws of the definitions. For `part_seq`, a JSON text has no such byte.
 use Rattle.std.proofs.Common.{◌≡◌, ℕ, ◌+◌, ◌==◌, inl, inr, Bool, true, false, ◌&&◌, nat_le, true≢false, List, [], ◌∷◌, ◌++◌, length, flat_map, Option, Some, None, IfSome, refl, sym, ◌∙◌, ap, subst, arith}
 use Rattle.std.specs.List.{AllByRecursion, list_any}
 use Rattle.std.specs.Char.{is_ascii_hexdigit}
@@ -166,7 +166,7 @@ mutual
       after 0x2C (WithName name i (λ j v. Spells j v t) ▸ (λ j r. SpellsFurtherMembers j r ms)) refl
       (member name i (λ j v. Spells j v t) (λ j r. SpellsFurtherMembers j r ms) (λ j v k. tree_unparted t j v k) (λ j r k. further_members_unparted ms j r k)) at w h
 
-text_unparted : (t : Tree) (at : ℕ) (w : List ℕ) → IsTextOf at w t → IsUnparted w
+pub text_unparted : (t : Tree) (at : ℕ) (w : List ℕ) → IsTextOf at w t → IsUnparted w
 text_unparted t at w h = padded (λ j v. Spells j v t) Nothing (λ j v k. tree_unparted t j v k) ended at w (padded_made (λ j v. Spells j v t) Nothing at w (text_parts t at w h))
 
 -- ---- the laws

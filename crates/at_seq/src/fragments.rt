@@ -7,7 +7,7 @@ ghost use Rattle.at_seq.specs.Records.{is_separator};
 ghost use Rattle.at_seq.specs.Fragments.{AreBeside, IsOfBoth, HoldsInner, HoldsText, HoldsParted, HoldsSpan};
 ghost use Rattle.at_seq.specs.Fragments.{HoldsFragment};
 
-use crate::records::{Trials, add_fragment, add_record};
+use crate::records::{Trials, add_fragment, add_next};
 use crate::searches::separator_place;
 use at_geojson::GeoAlgebra;
 use at_nest::{Fragment, merge, run_block};
@@ -79,17 +79,14 @@ fn read_records(
     let mut trials = Trials::new();
     let mut start = span.from;
     'records: loop {
-        let ahead = &bytes[start as usize..span.to as usize];
-        let end = start + separator_place(ahead) as u32;
-        if end == span.to {
-            return Ok(Inner { kept, last: start });
-        }
-        let record = Span {
+        let rest = Span {
             from: start,
-            to: end,
+            to: span.to,
         };
-        add_record(alloc, algebra, &mut kept, bytes, record, &mut trials)?;
-        start = end + 1;
+        match add_next(alloc, algebra, &mut kept, bytes, rest, &mut trials)? {
+            Some(end) => start = end + 1,
+            None => return Ok(Inner { kept, last: start }),
+        }
     }
 }
 

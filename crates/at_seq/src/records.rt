@@ -7,64 +7,78 @@ ghost use Rattle.at_text.specs.Texts.{is_space};
 ghost use Rattle.at_lex.specs.Fronts.{IsFront};
 ghost use Rattle.at_nest.specs.TextAnswers.{Answers};
 ghost use Rattle.at_nest.specs.FragmentMeanings.{StandsFor};
+ghost use Rattle.at_geojson.specs.Keeping.{Asked};
 ghost use Rattle.at_geojson.specs.Atoms.{IsGeoAtom};
-ghost use Rattle.at_query.specs.Parts.{IsProper};
+ghost use Rattle.at_geojson.specs.Wholes.{found_end};
 ghost use Rattle.at_seq.specs.Records.{records_in};
-ghost use Rattle.at_seq.specs.Gathering.{IsGathered, AddsRecords, IsRootKept, IsEndKept};
+ghost use Rattle.at_seq.specs.Gathering.{IsGathered, AddsRecords, HasRecordPart, IsEndFault, AddsFeature, AddsNext};
 
-use crate::searches::spaces_len;
-use at_geojson::{GeoAlgebra, GeoAtom, RootEnd, root_part};
+use crate::searches::{separator_behind, separator_place, spaces_len};
+use at_geojson::{FeatureFront, GeoAlgebra, GeoAtom, RootEnd, feature_front, root_part};
 use at_nest::{Algebra, Attempt, Fragment, NestEnd, finish_span, run_block};
 use at_query::{Accumulator, Part};
 use at_run::{Gathered, join_into};
 use at_text::{Fault, FaultKind, Memory, Span};
 use std::alloc::Global;
 
-/// What is kept of a record that is a JSON text, from what it ends in.
-fn kept_of_root(end: Result<Part, RootEnd>) -> Result<Gathered, Memory>
-    requires { IfOk end IsProper }
-    ensures { IsRootKept end result }
+/// Puts a record behind those before it, by its part or its first fault.
+#[inline(always)]
+fn add_part(gathered: &mut Gathered, part: Result<Part, Fault>) -> Result<(), Memory>
+    requires { (asked : Asked) × (before : List Piece) × (r : Piece) × IsGathered asked gathered.old before
+        × HasRecordPart asked r part }
+    ensures { IfOk result (λ _. (asked : Asked) (r : Piece) → HasRecordPart asked r part
+        → AddsRecords asked gathered.old (r ∷ []) gathered.new) }
+{
+    match part {
+        Ok(part) => join_into(gathered, Gathered::Kept(Accumulator::from_part(part))),
+        Err(fault) => join_into(gathered, Gathered::Failed(fault)),
+    }
+}
+
+/// The part of a text, or its first fault, from what it ends in.
+fn part_of_root(end: Result<Part, RootEnd>) -> Result<Result<Part, Fault>, Memory>
+    ensures { IfOk result (λ part. end ≡ found_end part) }
 {
     match end {
-        Ok(part) => Ok(Gathered::Kept(Accumulator::from_part(part))),
-        Err(RootEnd::Found(fault)) => Ok(Gathered::Failed(fault)),
+        Ok(part) => Ok(Ok(part)),
+        Err(RootEnd::Found(fault)) => Ok(Err(fault)),
         Err(RootEnd::Memory) => Err(Memory),
     }
 }
 
-/// What is kept of a record that is no JSON text and ends at the offset.
-fn kept_of_end(end: NestEnd, to: u32) -> Result<Gathered, Memory>
-    ensures { IsEndKept to end result }
+/// The fault of a record that is no JSON text and ends at the offset.
+fn end_fault(end: NestEnd, to: u32) -> Result<Fault, Memory>
+    ensures { IfOk result (IsEndFault to end) }
 {
     match end {
-        NestEnd::Syntax(at) => Ok(Gathered::Failed(Fault {
+        NestEnd::Syntax(at) => Ok(Fault {
             kind: FaultKind::Syntax,
             at,
-        })),
-        NestEnd::Ended => Ok(Gathered::Failed(Fault {
+        }),
+        NestEnd::Ended => Ok(Fault {
             kind: FaultKind::Ended,
             at: to,
-        })),
+        }),
         NestEnd::Memory => Err(Memory),
     }
 }
 
-/// What is kept of a record that ends at the offset, from the answer of it as a whole JSON text.
-fn kept_of(
+/// The part of a record that ends at the offset, or its first fault, from the answer of it as a whole JSON text.
+fn record_part(
     alloc: Global,
     algebra: &GeoAlgebra,
     to: u32,
     answer: Result<GeoAtom, NestEnd>,
-) -> Result<Gathered, Memory>
+) -> Result<Result<Part, Fault>, Memory>
     requires { (at : ℕ) × (text : List ℕ) × Answers (IsGeoAtom algebra.now)
         at text answer }
     ensures { (at : ℕ) (text : List ℕ) → to ≡ at + length text
         → Answers (IsGeoAtom algebra.now) at text answer
-        → IfOk result (λ kept. IsGathered algebra.now kept (record { at = at; text = text } ∷ [])) }
+        → IfOk result (HasRecordPart algebra.now (record { at = at; text = text })) }
 {
     match answer {
-        Ok(atom) => kept_of_root(root_part(alloc, algebra, atom)),
-        Err(end) => kept_of_end(end, to),
+        Ok(atom) => part_of_root(root_part(alloc, algebra, atom)),
+        Err(end) => Ok(Err(end_fault(end, to)?)),
     }
 }
 
@@ -81,6 +95,11 @@ impl Trials {
     /// The next record is tried.
     pub fn new() -> Trials {
         Trials { untried: 0 }
+    }
+
+    /// Whether the next record is one of those that are tried.
+    fn is_due(&self) -> bool {
+        self.untried == 0
     }
 
     /// Whether the next record is tried.
@@ -165,7 +184,7 @@ fn span_answer(
 }
 
 /// Puts the record between two places of the file behind those before it. White space alone is passed over.
-pub fn add_record(
+fn add_record(
     alloc: Global,
     algebra: &GeoAlgebra,
     gathered: &mut Gathered,
@@ -186,8 +205,8 @@ pub fn add_record(
         return Ok(());
     }
     let answer = span_answer(alloc, algebra, bytes, span, spaces, trials);
-    let record = kept_of(alloc, algebra, span.to, answer)?;
-    join_into(gathered, record)
+    let part = record_part(alloc, algebra, span.to, answer)?;
+    add_part(gathered, part)
 }
 
 /// The same of a record whose fragment is there.
@@ -213,6 +232,92 @@ pub fn add_fragment(
         return Ok(());
     }
     let answer = finish_span(alloc, algebra, bytes, span, whole);
-    let record = kept_of(alloc, algebra, span.to, answer)?;
-    join_into(gathered, record)
+    let part = record_part(alloc, algebra, span.to, answer)?;
+    add_part(gathered, part)
+}
+
+/// Puts the feature with which a span begins behind the records before it, where it is read at once and a separator
+/// stands behind it: the offset of that separator.
+#[inline(always)]
+fn add_feature(
+    alloc: Global,
+    algebra: &GeoAlgebra,
+    gathered: &mut Gathered,
+    bytes: &[u8],
+    span: Span,
+) -> Result<Option<u32>, Memory>
+    requires fits { length bytes.now ≤ 2 ^ 28 }
+    requires order { span.from ≤ span.to }
+    requires within { span.to ≤ length bytes.now }
+    requires own { (before : List Piece) × IsGathered algebra.now gathered.old before }
+    ensures { IfOk result (AddsFeature algebra.now bytes.now span gathered.old gathered.new) }
+{
+    let ahead = &bytes[span.from as usize..span.to as usize];
+    let first = spaces_len(ahead);
+    let Some(FeatureFront { len, part }) = feature_front(
+        alloc,
+        algebra,
+        &ahead[first..],
+        span.from + first as u32,
+    )?
+    else {
+        return Ok(None);
+    };
+    let Some(end) = separator_behind(ahead, first + len as usize) else {
+        return Ok(None);
+    };
+    add_part(gathered, part)?;
+    Ok(Some(span.from + end as u32))
+}
+
+/// Puts the record up to the first separator of a span behind those before it: the offset of that separator, where there
+/// is one.
+fn add_first(
+    alloc: Global,
+    algebra: &GeoAlgebra,
+    gathered: &mut Gathered,
+    bytes: &[u8],
+    span: Span,
+    trials: &mut Trials,
+) -> Result<Option<u32>, Memory>
+    requires fits { length bytes.now ≤ 2 ^ 28 }
+    requires order { span.from ≤ span.to }
+    requires within { span.to ≤ length bytes.now }
+    requires own { (before : List Piece) × IsGathered algebra.now gathered.old before }
+    ensures { IfOk result (AddsNext algebra.now bytes.now span gathered.old gathered.new) }
+{
+    let end = span.from + separator_place(&bytes[span.from as usize..span.to as usize]) as u32;
+    if end == span.to {
+        return Ok(None);
+    }
+    let record = Span {
+        from: span.from,
+        to: end,
+    };
+    add_record(alloc, algebra, gathered, bytes, record, trials)?;
+    Ok(Some(end))
+}
+
+/// The same as `add_first`, but where records are tried, one that is a feature is read before its end is looked for.
+pub fn add_next(
+    alloc: Global,
+    algebra: &GeoAlgebra,
+    gathered: &mut Gathered,
+    bytes: &[u8],
+    span: Span,
+    trials: &mut Trials,
+) -> Result<Option<u32>, Memory>
+    requires fits { length bytes.now ≤ 2 ^ 28 }
+    requires order { span.from ≤ span.to }
+    requires within { span.to ≤ length bytes.now }
+    requires own { (before : List Piece) × IsGathered algebra.now gathered.old before }
+    ensures { IfOk result (AddsNext algebra.now bytes.now span gathered.old gathered.new) }
+{
+    if !trials.is_due() {
+        return add_first(alloc, algebra, gathered, bytes, span, trials);
+    }
+    match add_feature(alloc, algebra, gathered, bytes, span)? {
+        Some(end) => Ok(Some(end)),
+        None => add_first(alloc, algebra, gathered, bytes, span, trials),
+    }
 }
