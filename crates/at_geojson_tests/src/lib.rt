@@ -4,6 +4,8 @@
 #[cfg(test)]
 mod example_tests;
 #[cfg(test)]
+mod front_tests;
+#[cfg(test)]
 mod measure_tests;
 #[cfg(test)]
 mod position_tests;

@@ -16,7 +16,7 @@ use std::alloc::Global;
 use std::process::Abort;
 use std::test::Fail;
 
-fn read(alloc: Global, line: &[u8]) -> Result<Query, Fail>
+pub fn read(alloc: Global, line: &[u8]) -> Result<Query, Fail>
     requires { length line.now < 100 }
     ensures { IfOk result IsQueryInRange }
 {
@@ -84,7 +84,7 @@ fn cut_at(
     finish_span(alloc, algebra, bytes, Span { from: 0, to }, whole)
 }
 
-fn fault_text(alloc: Global, fault: Fault) -> Result<String, Fail> {
+pub fn fault_text(alloc: Global, fault: Fault) -> Result<String, Fail> {
     let kind = fault.kind;
     let at = fault.at;
     Ok(format!(in alloc; "{kind:?} at {at}")?)
@@ -128,7 +128,7 @@ fn entries_text(alloc: Global, entries: &[Entry]) -> Result<String, Fail> {
     Ok(text)
 }
 
-fn part_text(alloc: Global, part: Part) -> Result<String, Fail> {
+pub fn part_text(alloc: Global, part: Part) -> Result<String, Fail> {
     if let Part::Entries(entries) = part {
         return entries_text(alloc, entries.as_slice());
     }
