@@ -26,7 +26,7 @@ use Rattle.at_geojson.specs.Names.{kind_of}
 use Rattle.at_geojson.specs.Roles.{features_of}
 use Rattle.at_run.specs.JsonFiles.{HasJsonFileFault}
 use Rattle.at_parts.specs.Moved.{feature_moved, fault_moved}
-use Rattle.at_parts.specs.Collections.{Part, joined, opening, closing, framed, marker, IsAlone, IsListed, IsSound, AreSound, SoundPartsMakeTheWhole}
+use Rattle.at_parts.specs.Collections.{FilePart, joined, opening, closing, framed, marker, IsAlone, IsListed, IsSound, AreSound, SoundPartsMakeTheWhole}
 use Rattle.at_parts.proofs.Encodings.{encoding_of_both}
 use Rattle.at_parts.proofs.Wholes.{Front, members_of, whole_parts}
 use Rattle.at_parts.proofs.Openings.{front_is, all_ascii}
@@ -160,11 +160,11 @@ module _ (digits : ℕ) (how : Coords) where
       by_told (inl h) = framed_encoded w s.rest s.begins h.no_fault
       by_told (inr h) = (encoding_split w marker (record { byte = 0x2C; others = tail marker; split = refl; small = omega arith }) (framed_encoded (w ++ marker) (s.rest ++ marker) (ap (λ o. o ++ marker) s.begins) h.no_fault)).0
 
-  row_begins : (ps : List Part) (at : ℕ) (fs : List Feature) (end : List ℕ) → AreSound digits how at ps fs → BeginsAscii end → BeginsAscii (joined ps ++ end)
+  row_begins : (ps : List FilePart) (at : ℕ) (fs : List Feature) (end : List ℕ) → AreSound digits how at ps fs → BeginsAscii end → BeginsAscii (joined ps ++ end)
   row_begins [] at fs end h b = b
   row_begins (p ∷ ps) at fs end h b = brace_begins (joined (p ∷ ps) ++ end) ((h.3.rest ++ (p.comma ++ joined ps)) ++ end) (ap (λ o. (o ++ (p.comma ++ joined ps)) ++ end) h.3.begins)
 
-  row_encoded : (ps : List Part) (at : ℕ) (fs : List Feature) (end : List ℕ) → AreSound digits how at ps fs → BeginsAscii end → utf8_fault end ≡ None → utf8_fault (joined ps ++ end) ≡ None
+  row_encoded : (ps : List FilePart) (at : ℕ) (fs : List Feature) (end : List ℕ) → AreSound digits how at ps fs → BeginsAscii end → utf8_fault end ≡ None → utf8_fault (joined ps ++ end) ≡ None
   row_encoded [] at fs end h b e = e
   row_encoded (p ∷ ps) at fs end (own, here, rest, sound, (s, x, g, hs, (c, r, i, hc, hr)), moved, sounds, _) b e =
       let comma : p.comma ≡ s ++ (0x2C ∷ r) = g ∙ ap (λ o. s ++ o) (i ∙ ap (λ o. o ++ r) hc) in

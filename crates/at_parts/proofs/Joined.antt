@@ -14,7 +14,7 @@ use Rattle.at_geojson.specs.declared.kinds.Kind.TheVariants.{FeatureCollection}
 use Rattle.at_geojson.specs.Names.{member_named, units_of_text, type_of, kind_of, items_of}
 use Rattle.at_geojson.specs.Roles.{item_reading, all_features, root_reading, features_of, role_faults_of}
 use Rattle.at_parts.specs.Moved.{feature_moved, fault_moved, AreMoved}
-use Rattle.at_parts.specs.Collections.{Part, joined, opening, IsAlone, IsListed, IsSound, AreSound}
+use Rattle.at_parts.specs.Collections.{FilePart, joined, opening, IsAlone, IsListed, IsSound, AreSound}
 use Rattle.at_parts.proofs.MovedTrees.{moved, moved_items, moved_members, items_moved, items_back, further_members_moved}
 use Rattle.at_parts.proofs.MovedReadings.{reading_moved, item_twins_moved, member_twins_moved, member_named_moved, item_readings_moved, all_features_moved}
 use Rattle.at_parts.proofs.CommaItems.{appended, AreSome, Lined, lined_more, lined_made, lined_spaced}
@@ -135,7 +135,7 @@ module _ (digits : ℕ) (how : Coords) where
       let bytes : v ++ (s ++ (0x2C ∷ (r ++ w))) ≡ v ++ (c ++ w) = ap (λ o. v ++ o) (sym (ap (λ o. o ++ w) (e ∙ ap (λ o. s ++ o) f) ∙ append_assoc s (0x2C ∷ r) w)) in
       record { items = appended h.items k.items; lined = subst (λ o. Lined (appended h.items k.items) at o) bytes lined; fine = subst (λ o. AreFine digits how (appended h.items k.items) o) (sym g) (fine_both digits how h.items k.items here rest h.fine k.fine) }
 
-  pub parts_in_row : (ps : List Part) (at : ℕ) (features : List Feature) → AreSound digits how at ps features → InRow at (joined ps) features
+  pub parts_in_row : (ps : List FilePart) (at : ℕ) (features : List Feature) → AreSound digits how at ps features → InRow at (joined ps) features
   parts_in_row [] at features h = none_in_row at features h
   parts_in_row (p ∷ ps) at features (own, here, rest, sound, (s, x, e, hs, (c, r, f, hc, hr)), moved, sounds, g) =
       one_in_row at p.text p.comma s x r (joined ps) here rest features (stands_moved (0 + length opening) at p.text own here (part_stands p.text own sound) moved) hs hr e (f ∙ ap (λ o. o ++ r) hc)

@@ -45,11 +45,11 @@ abbrev pub IsComma : List ℕ → Type 0
 IsComma w = (Many is_space ▸ Exactly (codes ",") ▸ Many is_space) 0 w
 
 -- the bytes of a part, and what stands between it and the next one
-pub record Part : Type 0 where
+pub record FilePart : Type 0 where
   pub text : List ℕ
   pub comma : List ℕ
 
-abbrev pub joined : List Part → List ℕ
+abbrev pub joined : List FilePart → List ℕ
 joined [] = []
 joined (p ∷ ps) = p.text ++ (p.comma ++ joined ps)
 
@@ -101,7 +101,7 @@ module _ (digits : ℕ) (how : Coords) where
 
   -- each part but the last is sound, and stands before a comma; the first of them begins behind so many bytes of the
   -- file, and these are their features there
-  abbrev pub AreSound : ℕ → List Part → List Feature → Type 0
+  abbrev pub AreSound : ℕ → List FilePart → List Feature → Type 0
   AreSound at [] features = features ≡ []
   AreSound at (p ∷ ps) features = (own here rest : List Feature) × IsSound p.text own × IsComma p.comma
       × AreMoved (length opening) at own here × AreSound (at + length p.text + length p.comma) ps rest
@@ -124,7 +124,7 @@ module _ (digits : ℕ) (how : Coords) where
   -- where all parts are sound, the file has no fault, and its features are those of the parts, in order, at their
   -- offsets in the file
   abbrev pub SoundPartsMakeTheWhole : Type 0
-  SoundPartsMakeTheWhole = (front : List ℕ) (parts : List Part) (end : List ℕ)
+  SoundPartsMakeTheWhole = (front : List ℕ) (parts : List FilePart) (end : List ℕ)
       (first own last : List Feature) → IsFront front → AreSound (length front) parts first
       → IsSoundEnd front end own → AreMoved (length front) (length front + length (joined parts)) own last
       → HasJsonFileFault digits how (front ++ (joined parts ++ end)) None
@@ -133,7 +133,7 @@ module _ (digits : ℕ) (how : Coords) where
   -- where the parts before one are sound, and that one has a fault of its syntax within its own bytes, the file has the
   -- same fault. Nothing is asked of what stands behind the part in the frame, nor of what follows it in the file.
   abbrev pub FirstSyntaxFaultIsTheWholes : Type 0
-  FirstSyntaxFaultIsTheWholes = (front : List ℕ) (parts : List Part) (first : List Feature)
+  FirstSyntaxFaultIsTheWholes = (front : List ℕ) (parts : List FilePart) (first : List Feature)
       (rest after behind : List ℕ) (f : Fault) → IsFront front → AreSound (length front) parts first
       → HasJsonFault (opening ++ ((0x7B ∷ rest) ++ after)) (Some f) → length opening ≤ f.at
       → f.at < length opening + length (0x7B ∷ rest)
