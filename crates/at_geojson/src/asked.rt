@@ -5,9 +5,7 @@ ghost use Rattle.std.specs.List.{list_any};
 ghost use Rattle.at_query.specs.Ranges.{IsQueryInRange};
 ghost use Rattle.at_geojson.specs.Keeping.{Asked, needs_shapes as needs_of, tells_shapes as tells_of};
 ghost use Rattle.at_geojson.specs.Keeping.{looks_at_shapes as looks_of, looks_at_texts as texts_looked_at};
-ghost use Rattle.at_geojson.specs.Keeping.{asks_value as value_asked, asks_pair as pair_asked};
 ghost use Rattle.at_geojson.specs.Keeping.{text_tests as tests_on_texts};
-ghost use Rattle.at_geojson.specs.Keeping.{wants_value as value_wanted, wants_pair as pair_wanted};
 ghost use Rattle.at_geojson.specs.Tallies.{measured_by, measure_of};
 
 use at_fixed::Coords;
@@ -49,20 +47,14 @@ impl Model for GeoAlgebra {
 fn tells_shapes(verb: Verb) -> bool
     ensures { result ≡ tells_of verb }
 {
-    match verb {
-        Verb::Select | Verb::Count => false,
-        Verb::Area | Verb::Extent | Verb::Hull | Verb::Join => true,
-    }
+    matches!(verb, Verb::Area | Verb::Extent | Verb::Hull | Verb::Join)
 }
 
 /// Whether a test looks at shapes.
 fn looks_at_shapes(test: &Test) -> bool
     ensures { result ≡ looks_of test.now }
 {
-    match test {
-        Test::InBox(_) | Test::MeetsShape(_) => true,
-        Test::Has(_, _) => false,
-    }
+    matches!(test, Test::InBox(_) | Test::MeetsShape(_))
 }
 
 /// Whether the verb or a test looks at shapes.
@@ -84,10 +76,7 @@ fn needs_shapes(query: &Query) -> bool
 fn looks_at_texts(test: &Test) -> bool
     ensures { result ≡ texts_looked_at test.now }
 {
-    match test {
-        Test::InBox(_) | Test::MeetsShape(_) => false,
-        Test::Has(_, _) => true,
-    }
+    matches!(test, Test::Has(_, _))
 }
 
 /// Whether some test looks at texts.
@@ -102,27 +91,6 @@ pub fn needs_texts(tests: &[Test]) -> bool
     false
 }
 
-/// Whether a test asks for a text of this value.
-fn wants_value(test: &Test, value: &[u16]) -> bool
-    ensures { result ≡ value_wanted value.now test.now }
-{
-    match test {
-        Test::InBox(_) | Test::MeetsShape(_) => false,
-        Test::Has(_, wanted) => wanted.as_slice() == value,
-    }
-}
-
-/// Whether a test asks for a text of this name and this value.
-fn wants_pair(test: &Test, name: &[u16], value: &[u16]) -> bool
-    ensures { result ≡ pair_wanted name.now value.now test.now }
-{
-    match test {
-        Test::InBox(_) | Test::MeetsShape(_) => false,
-        Test::Has(wanted_name, wanted) => wanted_name.as_slice() == name
-            && wanted.as_slice() == value,
-    }
-}
-
 /// How many tests look at texts.
 fn count_texts(tests: &[Test]) -> usize
     ensures { result ≡ tests_on_texts tests.now }
@@ -134,30 +102,6 @@ fn count_texts(tests: &[Test]) -> usize
         }
     }
     count
-}
-
-/// Whether some test asks for a text of this value.
-pub fn asks_value(tests: &[Test], value: &[u16]) -> bool
-    ensures { result ≡ value_asked tests.now value.now }
-{
-    for test in tests {
-        if wants_value(test, value) {
-            return true;
-        }
-    }
-    false
-}
-
-/// Whether some test asks for a text of this name and this value.
-pub fn asks_pair(tests: &[Test], name: &[u16], value: &[u16]) -> bool
-    ensures { result ≡ pair_asked tests.now name.now value.now }
-{
-    for test in tests {
-        if wants_pair(test, name, value) {
-            return true;
-        }
-    }
-    false
 }
 
 /// What a verb asks of positions, where it keeps none of them.
@@ -230,11 +174,6 @@ impl GeoAlgebra {
         ensures { result ≡ needs_of self.now.query }
     {
         self.needs_shapes
-    }
-
-    /// Whether some test looks at texts.
-    pub(crate) fn needs_texts(&self) -> bool {
-        self.text_tests > 0
     }
 
     /// Whether so many are all the tests that look at texts.

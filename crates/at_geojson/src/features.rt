@@ -15,7 +15,7 @@ ghost use Rattle.at_geojson.specs.Features.{IsShapeRead, IsTested, ReadsProperti
 ghost use Rattle.at_geojson.specs.Features.{IsPartOfSeen, IsPartHeld, IsPartIn, IsOwnSeen, IfOwnGeometry};
 ghost use Rattle.at_geojson.specs.Features.{EndsFeature, IsFeatureRead};
 
-use crate::asked::GeoAlgebra;
+use crate::asked::{GeoAlgebra, needs_texts};
 use crate::atoms::{GeoAtom, ObjectAtom, Role};
 use crate::fields::Field;
 use crate::geometries::Geometry;
@@ -30,7 +30,7 @@ use crate::plain_geometries::{
 };
 use crate::plain_objects::{VoidRead, pass_early, pass_object, pass_other};
 use crate::shapes::empty_shape;
-use crate::text_tests::{all_hold, asked_pairs};
+use crate::texts::{all_hold, asked_pairs};
 use crate::twins::is_twin;
 use crate::values::{DEEPEST, read_item};
 use at_query::{Offsets, Part, TextPairs, Verb, part_none};
@@ -154,7 +154,8 @@ fn other_properties(
 /// Whether a value that was given up at a place is read in another way: one of another kind, and where texts are asked
 /// for, each that doesn't seem to be cut.
 pub fn is_read_again(algebra: &GeoAlgebra, text: &[u8], first: usize, place: usize) -> bool {
-    place == OTHER_KIND || (algebra.needs_texts() && !seems_cut(text, first, place))
+    place == OTHER_KIND
+        || (needs_texts(algebra.query().tests.as_slice()) && !seems_cut(text, first, place))
 }
 
 /// White space, a value as properties in which nothing is wrong, and white space.

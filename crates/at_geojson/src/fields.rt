@@ -9,6 +9,7 @@ ghost use Rattle.at_geojson.specs.Fields.{is_no_field, value_in, AreFields, kind
 
 use crate::atoms::GeoAtom;
 use crate::kinds::Kind;
+use crate::spellings::Spelling;
 use at_nest::Member;
 
 /// Which member of an object has a name.
@@ -30,10 +31,7 @@ pub enum Field {
 pub fn is_other(field: Field) -> bool
     ensures { result ≡ is_no_field field }
 {
-    match field {
-        Field::Other => true,
-        _ => false,
-    }
+    matches!(field, Field::Other)
 }
 
 /// Whether the member is `type`.
@@ -41,10 +39,7 @@ pub fn is_other(field: Field) -> bool
 pub fn is_kind(field: Field) -> bool
     ensures { result ≡ names_kind field }
 {
-    match field {
-        Field::Kind => true,
-        _ => false,
-    }
+    matches!(field, Field::Kind)
 }
 
 /// Whether the member is `coordinates`.
@@ -52,10 +47,7 @@ pub fn is_kind(field: Field) -> bool
 pub fn is_coordinates(field: Field) -> bool
     ensures { result ≡ names_coordinates field }
 {
-    match field {
-        Field::Coordinates => true,
-        _ => false,
-    }
+    matches!(field, Field::Coordinates)
 }
 
 /// Of an object's members, the value of the first of each name for which some kind asks.
@@ -69,54 +61,21 @@ pub struct Fields {
     pub geometries: Option<GeoAtom>,
 }
 
-const KIND: &[u16] = &[116, 121, 112, 101];
-
-const COORDINATES: &[u16] = &[99, 111, 111, 114, 100, 105, 110, 97, 116, 101, 115];
-
-const GEOMETRY: &[u16] = &[103, 101, 111, 109, 101, 116, 114, 121];
-
-const PROPERTIES: &[u16] = &[112, 114, 111, 112, 101, 114, 116, 105, 101, 115];
-
-const FEATURES: &[u16] = &[102, 101, 97, 116, 117, 114, 101, 115];
-
-const GEOMETRIES: &[u16] = &[103, 101, 111, 109, 101, 116, 114, 105, 101, 115];
-
 /// The member that has the name.
-fn field_of_units(name: &[u16]) -> Field
-    ensures { result ≡ field_of name.now }
+pub fn field_named<S: Spelling>(name: S) -> Field
+    ensures { result ≡ field_of (S.spelled name) }
 {
-    if name == KIND {
+    if name.is_word(b"type") {
         Field::Kind
-    } else if name == COORDINATES {
+    } else if name.is_word(b"coordinates") {
         Field::Coordinates
-    } else if name == GEOMETRY {
+    } else if name.is_word(b"geometry") {
         Field::Geometry
-    } else if name == PROPERTIES {
+    } else if name.is_word(b"properties") {
         Field::Properties
-    } else if name == FEATURES {
+    } else if name.is_word(b"features") {
         Field::Features
-    } else if name == GEOMETRIES {
-        Field::Geometries
-    } else {
-        Field::Other
-    }
-}
-
-/// The member that has the name, in ASCII.
-pub fn field_of_bytes(name: &[u8]) -> Field
-    ensures { result ≡ field_of name.now }
-{
-    if name == b"type".as_slice() {
-        Field::Kind
-    } else if name == b"coordinates".as_slice() {
-        Field::Coordinates
-    } else if name == b"geometry".as_slice() {
-        Field::Geometry
-    } else if name == b"properties".as_slice() {
-        Field::Properties
-    } else if name == b"features".as_slice() {
-        Field::Features
-    } else if name == b"geometries".as_slice() {
+    } else if name.is_word(b"geometries") {
         Field::Geometries
     } else {
         Field::Other
@@ -212,7 +171,7 @@ pub fn fields_of(members: Vec<Member<GeoAtom>>) -> Fields
 {
     let mut fields = Fields::none();
     for member in members {
-        fields.put(field_of_units(member.name.as_slice()), member.value);
+        fields.put(field_named(member.name.as_slice()), member.value);
     }
     fields
 }

@@ -9,7 +9,7 @@ ghost use Rattle.at_geojson.specs.Members.{name_in, IsPlainName, is_named_among,
 ghost use Rattle.at_geojson.specs.Members.{AddsName, IsNewName, IsOtherName, AddsOther};
 ghost use Rattle.at_geojson.specs.KnownNames.{IsFieldName};
 
-use crate::fields::{Field, Fields, field_of_bytes, is_other};
+use crate::fields::{Field, Fields, field_named, is_other};
 use crate::hashes::hash_of_tail;
 use crate::known_names::known_name;
 use crate::places::{NamePlace, ended_name, name_place, skip_spaces};
@@ -229,7 +229,7 @@ fn any_name(text: &[u8], at: usize) -> Result<FieldName, Halt>
     ensures { IfOk result (IsFieldName text.now at) }
 {
     let place = plain_name(text, at)?;
-    let field = field_of_bytes(&text[place.first + 1..place.end - 1]);
+    let field = field_named(&text[place.first + 1..place.end - 1]);
     Ok(FieldName { place, field })
 }
 

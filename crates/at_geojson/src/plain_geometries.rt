@@ -6,7 +6,7 @@ ghost use Rattle.at_geojson.specs.PlainGeometries.{IsKindRead, IsCoordinatesItem
 use crate::asked::{GeoAlgebra, Measure};
 use crate::fields::{is_coordinates, is_kind};
 use crate::geometries::Geometry;
-use crate::kinds::{Kind, kind_of_bytes};
+use crate::kinds::{Kind, kind_of};
 use crate::known_names::{begins_collection, known_kind};
 use crate::makers::{Keeps, Passes, Sizes, Spreads, Tallies};
 use crate::makings::coordinates;
@@ -70,7 +70,7 @@ fn any_kind(algebra: &GeoAlgebra, text: &[u8], base: u32, at: usize) -> Result<K
     let Some(SimpleItem { first, last, end }) = simple_item(text, at) else {
         return Err(Halt::At(long_kind(text, at)));
     };
-    match kind_of_bytes(&text[first + 1..last - 1]) {
+    match kind_of(&text[first + 1..last - 1]) {
         Some(kind) => Ok(KindRead { end, kind }),
         None => Err(Halt::At(OTHER_KIND)),
     }

@@ -7,13 +7,13 @@ ghost use Rattle.at_geojson.specs.Features.{PassesOther, MeetsTexts, NamesNoKind
 
 use crate::asked::GeoAlgebra;
 use crate::fields::Field;
-use crate::kinds::kind_of_bytes;
+use crate::kinds::kind_of;
 use crate::members::{FieldName, OtherNames, add_other, field_name, name_bytes};
 use crate::pairs::Whole;
 use crate::passing::pass_item;
 use crate::places::{NamePlace, OTHER_KIND, expect_comma, skip_spaces, stands};
 use crate::short_texts::{SimpleItem, simple_item};
-use crate::text_tests::{asks_name, met_by_atom, met_by_bytes};
+use crate::texts::{asks_name, met_by, met_by_atom};
 use crate::twins::is_twin;
 use crate::values::{DEEPEST, read_item};
 use at_text::Halt;
@@ -124,7 +124,7 @@ fn asked_text(
         return any_text(algebra, alloc, text, base, name, members);
     };
     let tests = algebra.query().tests.as_slice();
-    members.met += met_by_bytes(tests, name_bytes(text, name), &text[first + 1..last - 1]);
+    members.met += met_by(tests, name_bytes(text, name), &text[first + 1..last - 1]);
     Ok(end)
 }
 
@@ -168,7 +168,7 @@ fn pass_kind(
         return Err(Halt::At(OTHER_KIND));
     };
     let value = &text[first + 1..last - 1];
-    if kind_of_bytes(value).is_some() {
+    if kind_of(value).is_some() {
         return Err(Halt::At(OTHER_KIND));
     }
     if members.named {
@@ -176,7 +176,7 @@ fn pass_kind(
     }
     members.named = true;
     let tests = algebra.query().tests.as_slice();
-    members.met += met_by_bytes(tests, name_bytes(text, name), value);
+    members.met += met_by(tests, name_bytes(text, name), value);
     Ok(end)
 }
 

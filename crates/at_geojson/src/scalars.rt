@@ -12,10 +12,10 @@ ghost use Rattle.at_geojson.specs.Keeping.{asks_value as value_asked};
 ghost use Rattle.at_geojson.specs.Gathering.{is_simple as simple_byte};
 ghost use Rattle.at_geojson.specs.Atoms.{unboxed, twin_of, asked_units as units_asked, IsOwn, IsFold};
 
-use crate::asked::{GeoAlgebra, asks_value};
+use crate::asked::GeoAlgebra;
 use crate::atoms::{GeoAtom, NumberAtom, TextAtom};
-use crate::kinds::{kind_of_bytes, kind_of_units};
-use crate::text_tests::asks_bytes;
+use crate::kinds::kind_of;
+use crate::texts::asks_value;
 use at_fixed::{Coords, FixedFault, Notation, plain_number, read_fixed};
 use at_lex::{RunEnd, Units, check_run, units};
 use at_query::Test;
@@ -47,7 +47,7 @@ fn decoded_atom(
     ensures fold { IfOk result (λ atom. (t : Tree) → Spells at text.now t → IsFold algebra.now atom t) }
 {
     let found = units(alloc, text)?;
-    let kind = kind_of_units(found.as_slice());
+    let kind = kind_of(found.as_slice());
     let units = asked_units(alloc, algebra.query().tests.as_slice(), found)?;
     Ok(GeoAtom::Text(TextAtom { at, kind, units }))
 }
@@ -76,7 +76,7 @@ pub fn simple_atom(algebra: &GeoAlgebra, text: &[u8], at: u32) -> GeoAtom
 {
     GeoAtom::Text(TextAtom {
         at,
-        kind: kind_of_bytes(&text[1..text.len() - 1]),
+        kind: kind_of(&text[1..text.len() - 1]),
         units: None,
     })
 }
@@ -95,7 +95,7 @@ pub fn plain_text_atom(
     ensures own { IfOk result (IsOwn algebra.now) }
     ensures fold { IfOk result (λ atom. (t : Tree) → Spells at text.now t → IsFold algebra.now atom t) }
 {
-    if asks_bytes(algebra.query().tests.as_slice(), &text[1..text.len() - 1]) {
+    if asks_value(algebra.query().tests.as_slice(), &text[1..text.len() - 1]) {
         decoded_atom(algebra, alloc, text, at)
     } else {
         Ok(simple_atom(algebra, text, at))

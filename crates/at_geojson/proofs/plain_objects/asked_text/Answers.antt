@@ -15,5 +15,5 @@ returns c =
       item = item;
       no_twin = none;
       named = refl;
-      met = ap (λ z. c.args.members.now.met + z) (met_is asked.query.tests _ (name_in c.args.text.now c.args.name) _ _ _ _ (c.as_slice-tests.ensures ∙ ap (λ (q : Query). q.tests) c.query.ensures.same) c.name_bytes.ensures c.met_by_bytes.ensures text);
+      met = ap (λ z. c.args.members.now.met + z) (met_is asked.query.tests _ (name_in c.args.text.now c.args.name) _ _ _ _ (c.as_slice-tests.ensures ∙ ap (λ (q : Query). q.tests) c.query.ensures.same) c.name_bytes.ensures c.met_by.ensures text);
     }

@@ -15,8 +15,8 @@ returns c =
       atom = a;
       item = item;
       no_twin = none;
-      no_kind = kind ∙ (sym c.kind_of_bytes.ensures ∙ none_there c.kind_of_bytes.result c.is_some.result c.is_some.ensures c.if-is_some.false);
+      no_kind = kind ∙ (sym c.kind_of.ensures ∙ none_there c.kind_of.result c.is_some.result c.is_some.ensures c.if-is_some.false);
       before = c.if-members.false;
       named = refl;
-      met = ap (λ z. c.args.members.now.met + z) (met_is asked.query.tests _ (name_in c.args.text.now c.args.name) _ _ _ _ (c.as_slice-tests.ensures ∙ ap (λ (q : Query). q.tests) c.query.ensures.same) c.name_bytes.ensures c.met_by_bytes.ensures text);
+      met = ap (λ z. c.args.members.now.met + z) (met_is asked.query.tests _ (name_in c.args.text.now c.args.name) _ _ _ _ (c.as_slice-tests.ensures ∙ ap (λ (q : Query). q.tests) c.query.ensures.same) c.name_bytes.ensures c.met_by.ensures text);
     }

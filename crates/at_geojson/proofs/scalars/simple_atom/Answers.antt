@@ -13,8 +13,8 @@ pub returns-clause-fold : goal.returns-clause-fold
 returns-clause-fold c =
     let asked = c.args.algebra.now in
     let (cs, j, e) = c.requires.string in
-    let a : TextAtom = record { at = c.args.at; kind = c.kind_of_bytes.result; units = None } in
+    let a : TextAtom = record { at = c.args.at; kind = c.kind_of.result; units = None } in
     let same = (simple_units c.args.text.now cs j e c.requires.simple).1 in
-    let k = c.kind_of_bytes.ensures ∙ ap kind_of_text same in
+    let k = c.kind_of.ensures ∙ ap kind_of_text same in
     let u = ap (λ b. if b then Some (units_of cs) else None) (sym (ap (asks_value asked.query.tests) (sym same) ∙ c.requires.unasked)) in
     folds_one asked (Text a) c.args.at c.args.text.now (text c.args.at cs) (refl, (j, e)) (text_folds asked a cs k u)
