@@ -24,18 +24,6 @@ pub fn hash_of(name: &[u16]) -> u64
     hash
 }
 
-/// The same of bytes in ASCII.
-#[inline(always)]
-fn hash_of_bytes(name: &[u8]) -> u64
-    ensures { result ≡ name_hash name.now }
-{
-    let mut hash: u64 = 1;
-    for unit in name {
-        hash = hash.wrapping_add(u64::from(*unit)).wrapping_mul(SPREAD);
-    }
-    hash
-}
-
 /// So many bytes at the end of a name tell most names apart.
 const TAIL: usize = 4;
 
@@ -44,7 +32,12 @@ const TAIL: usize = 4;
 pub fn hash_of_tail(name: &[u8]) -> u64
     ensures { result ≡ tail_hash name.now }
 {
-    hash_of_bytes(&name[name.len().saturating_sub(TAIL)..])
+    let tail = &name[name.len().saturating_sub(TAIL)..];
+    let mut hash: u64 = 1;
+    for byte in tail {
+        hash = hash.wrapping_add(u64::from(*byte)).wrapping_mul(SPREAD);
+    }
+    hash
 }
 
 /// The hashes of the members' names.
