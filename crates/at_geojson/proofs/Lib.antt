@@ -46,3 +46,4 @@ pub mod FeatureReads
 pub mod FeatureJoins
 mod FeatureFronts
 pub mod KnownNames
+pub mod Spaces

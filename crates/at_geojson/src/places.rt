@@ -2,12 +2,16 @@
 
 ghost use Rattle.std.specs.Prelude.{◌≡◌, ◌+◌, ◌<◌, ◌≤◌, ◌^◌, length, slice_index, true, IfOk, IfSome};
 ghost use Rattle.at_fixed.specs.NumberSoFar.{between};
+ghost use Rattle.at_text.specs.Texts.{is_space as space_test};
+ghost use Rattle.at_lex.specs.Fronts.{IsFrontAt};
 ghost use Rattle.at_lex.specs.Spans.{AreSpaces};
 ghost use Rattle.at_geojson.specs.Places.{StandsBehind, IsTextAt, IsNameAt};
 
+use crate::short_texts::{LANES, first_set};
 use at_lex::take_text;
 use at_text::{Halt, Memory, is_space};
 use std::alloc::{AllocError, AllocFailed};
+use std::simd::prelude::*;
 
 /// Where a member's name stands: the place of its opening quote, the place behind it, and the place of its colon.
 #[derive(Clone, Copy)]
@@ -55,7 +59,41 @@ pub fn expect_comma(text: &[u8], at: usize) -> Result<(), Halt>
     }
 }
 
-/// The place behind the white space that begins at the place.
+/// How many bytes of white space the sixteen bytes at a place begin with.
+#[inline(always)]
+fn space_lanes(text: &[u8], at: usize) -> usize
+    requires { at + 16 ≤ length text.now }
+    ensures { IsFrontAt space_test text.now at 16 result }
+{
+    let bytes = u8x16::from_slice(&text[at..]);
+    let no_blank = bytes.simd_ne(u8x16::splat(b' ')) & bytes.simd_ne(u8x16::splat(b'\t'));
+    let no_end = bytes.simd_ne(u8x16::splat(b'\n')) & bytes.simd_ne(u8x16::splat(b'\r'));
+    first_set((no_blank & no_end).to_bitmask())
+}
+
+/// The place behind the white space that begins at the place, of which there may be much.
+#[inline(never)]
+fn far_spaces(text: &[u8], at: usize) -> usize
+    requires { at ≤ length text.now }
+    ensures order { at ≤ result }
+    ensures within { result ≤ length text.now }
+    ensures spaces { AreSpaces (between text.now at result) }
+{
+    let mut end = at;
+    'far: while text.len() - end >= LANES {
+        let more = space_lanes(text, end);
+        end += more;
+        if more < LANES {
+            return end;
+        }
+    }
+    'near: while end < text.len() && is_space(text[end]) {
+        end += 1;
+    }
+    end
+}
+
+/// The place behind the white space that begins at the place. One byte of it at most is passed over in line.
 #[inline(always)]
 pub fn skip_spaces(text: &[u8], at: usize) -> usize
     requires { at ≤ length text.now }
@@ -63,11 +101,19 @@ pub fn skip_spaces(text: &[u8], at: usize) -> usize
     ensures within { result ≤ length text.now }
     ensures spaces { AreSpaces (between text.now at result) }
 {
-    let mut end = at;
-    while end < text.len() && is_space(text[end]) {
-        end += 1;
+    if at >= text.len() || text[at] > b' ' {
+        return at;
     }
-    end
+    let next = at + 1;
+    match text[at] {
+        b' ' => if next < text.len() && text[next] <= b' ' {
+            far_spaces(text, next)
+        } else {
+            next
+        },
+        b'\n' => far_spaces(text, next),
+        _ => far_spaces(text, at),
+    }
 }
 
 /// The place of the byte, where it stands right there or behind white space.
