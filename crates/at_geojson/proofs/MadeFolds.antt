@@ -20,7 +20,7 @@ use Rattle.at_nest.proofs.OneTree.{one_tree}
 use Rattle.at_nest.proofs.Passed.{padded_gives}
 use Rattle.at_geojson.specs.declared.atoms.GeoAtom.TheVariants as atoms
 use Rattle.at_geojson.specs.declared.atoms.PositionAtom.{PositionAtom}
-use Rattle.at_geojson.specs.declared.makers.Spot.{Spot}
+use Rattle.at_geojson.specs.declared.spots.Spot.{Spot}
 use Rattle.at_geojson.specs.declared.atoms.Areas.{Areas}
 use Rattle.at_geojson.specs.declared.atoms.Lists.{Lists}
 use Rattle.at_geojson.specs.declared.makings.LineMade.{LineMade}

@@ -15,7 +15,7 @@ use Rattle.at_geojson.specs.declared.atoms.Areas.{Areas}
 use Rattle.at_geojson.specs.declared.atoms.AreasAtom.{AreasAtom}
 use Rattle.at_geojson.specs.declared.atoms.ListsAtom.{ListsAtom}
 use Rattle.at_geojson.specs.declared.atoms.PointsAtom.{PointsAtom}
-use Rattle.at_geojson.specs.declared.makers.Spot.{Spot}
+use Rattle.at_geojson.specs.declared.spots.Spot.{Spot}
 use Rattle.at_geojson.specs.declared.makings.LineMade.{LineMade}
 use Rattle.at_geojson.specs.declared.makings.LinesMade.{LinesMade}
 use Rattle.at_geojson.specs.declared.makings.AreasMade.{AreasMade}
@@ -129,22 +129,22 @@ module _ (asked : Asked) (alloc : Global) (base : ℕ) (w : List ℕ) (at : ℕ)
           seen_of m.as_rings shape seen es (told h.paths told_lines),
         )
 
-  pub multi_polygon_seen : {B L : Type 0} (Tells : B → List Polygon → L → Type 0) (before empty : B) → before ≡ empty → (m : AreasMade L) (seen : Seen) (first : ℕ) → length w < 2 ^ 63 → at ≤ first → AreSpaces (between w at first) → MakesPolygons Tells before asked base w first m
-      → m.end ≤ r.end → r.end ≤ length w → AreSpaces (between w m.end r.end) → ((polygons : List Polygon) → Tells empty polygons m.made → IsSeenOf asked.query (of_polygons (kept needs polygons)) seen) → r.seen ≡ seen_unless m.fault seen
+  pub multi_polygon_seen : {B L : Type 0} (Tells : B → List Polygon → L → Type 0) (before empty : B) → before ≡ empty → (m : AreasMade L) (seen : Seen) (first end : ℕ) → length w < 2 ^ 63 → at ≤ first → AreSpaces (between w at first) → MakesPolygons Tells before asked base w first m
+      → m.end ≤ end → end ≤ length w → AreSpaces (between w m.end end) → ((polygons : List Polygon) → Tells empty polygons m.made → IsSeenOf asked.query (of_polygons (kept needs polygons)) seen) → r.end ≡ end → r.seen ≡ seen_unless m.fault seen
       → Sees asked (IsCoordinatesItem asked base w at kinds.MultiPolygon) r
-  multi_polygon_seen Tells before empty e m seen first short order spaces h k fits more told es =
+  multi_polygon_seen Tells before empty e m seen first end short order spaces h k fits more told ee es =
       let l = kept_length needs h.polygons in
       let kept_areas : Areas = record { polygons = vec_of alloc (kept needs h.polygons) (omega (arith, l, h.few, short)); fault = m.fault } in
       let areas : AreasAtom = record { at = m.at; least = m.least; areas = boxed alloc kept_areas } in
       let shape = of_polygons (kept needs h.polygons) in (
-        record { end = r.end; shape = unless m.fault shape },
+        record { end = end; shape = unless m.fault shape },
         record {
           atom = atoms.Areas areas;
-          item = item_read asked base w at first r.end (record { end = m.end; atom = atoms.Areas areas }) order spaces ((h.whole kept_areas refl refl).whole areas (record { at_is = refl; least_is = refl; areas_is = refl })) k fits more;
+          item = item_read asked base w at first end (record { end = m.end; atom = atoms.Areas areas }) order spaces ((h.whole kept_areas refl refl).whole areas (record { at_is = refl; least_is = refl; areas_is = refl })) k fits more;
           no_twin = refl;
           with_coordinates = refl;
           shape = refl;
         },
-        refl,
+        sym ee,
         seen_of m.fault shape seen es (told h.polygons (subst (λ z. Tells z h.polygons m.made) e h.tells)),
       )

@@ -47,6 +47,7 @@ mod shapes;
 mod short_texts;
 mod sorts;
 mod spellings;
+mod spots;
 mod tallies;
 mod texts;
 mod tracks;

@@ -1,6 +1,6 @@
 //! What is made of the positions of a list as they are read one by one.
 
-ghost use Rattle.std.specs.Prelude.{◌≡◌, ℕ, ◌+◌, ◌≤◌, ◌^◌, true, false, List, [], ◌∷◌, ◌++◌, length, IfOk, IfSome};
+ghost use Rattle.std.specs.Prelude.{◌≡◌, true, false, List, [], ◌∷◌, ◌++◌, IfOk};
 ghost use Rattle.std.specs.Prelude.{Option, Some, None};
 ghost use Rattle.std.specs.Bool.{⊤};
 ghost use Rattle.at_geom.specs.declared.positions.Pos.{Pos};
@@ -13,37 +13,29 @@ ghost use Rattle.at_query.specs.declared.query.queries.Query.{Query};
 ghost use Rattle.at_geojson.specs.declared.asked.Measure.{Measure};
 ghost use Rattle.at_geojson.specs.declared.asked.Measure.TheVariants as measures;
 ghost use Rattle.at_geojson.specs.declared.tallies.Tally.{Tally};
-ghost use Rattle.at_geojson.specs.Keeping.{Asked, kept, needs_shapes};
-ghost use Rattle.at_geojson.specs.Passing.{same_values};
+ghost use Rattle.at_geojson.specs.Keeping.{kept, needs_shapes};
 ghost use Rattle.at_geojson.specs.Tallies.{measure_of, SumsUp, TalliesLists, TalliesAreas, TalliesShape};
-ghost use Rattle.at_geojson.specs.Makings.{ReadsSpot, IsValue, IsAnywhere, IsPassedOver, polygon};
+ghost use Rattle.at_geojson.specs.Makings.{polygon};
 ghost use Rattle.at_geojson.specs.PlainGeometries.{IsSeenOf};
 
-use crate::asked::{GeoAlgebra, Measure};
-use crate::pairs::{ROOM, pass_pair, read_spaced};
+use crate::asked::Measure;
+use crate::pairs::ROOM;
 use crate::plain_geometries::Seen;
 use crate::shapes::{of_lines, of_points, of_polygons, one_line, one_point, one_polygon};
+use crate::spots::{ByPlace, ByValue, Reads};
 use crate::tallies::Tally;
 use at_geom::{Extent, Path, Paths, Polygon, Pos};
 use at_query::Part;
 use at_text::Memory;
 use std::alloc::Global;
 
-/// A position that was read, with white space round it: the place of its bracket, the one behind it, and its mark.
-#[derive(Clone, Copy)]
-pub struct Spot<M> {
-    pub bracket: usize,
-    pub end: usize,
-    pub mark: M,
-}
-
 /// A way to make something of positions as they are read.
 ///
-/// Of a position it has a mark: its value, or nothing where no values are asked for. `tells` says what is made of the
-/// positions of a list, behind what was made before it. In the end it tells what is seen of the shape of the positions.
+/// `tells` says what is made of the positions of a list, behind what was made before it. In the end it tells what is seen
+/// of the shape of the positions.
 pub trait Maker {
-    /// What is known of a position that was read.
-    type Mark: Copy;
+    /// How the positions are read.
+    type Reader: Reads;
 
     /// What was made before a list.
     type Before: Copy;
@@ -56,12 +48,6 @@ pub trait Maker {
 
     /// What is made of areas.
     type Areas: Drop;
-
-    /// This value has this mark.
-    ghost marks: { Pos → Self.Mark → Type 0 };
-
-    /// A position of this value stands in the text from one place up to another.
-    ghost stands: { Asked → List ℕ → ℕ → ℕ → Pos → Type 0 };
 
     /// This is made of the positions, behind what was made before them.
     ghost tells: { Self.Before → List Pos → Self.Line → Type 0 };
@@ -84,51 +70,32 @@ pub trait Maker {
     /// What is made serves this query.
     ghost serves: { Query → Type 0 };
 
-    /// White space, a position and white space.
-    fn read(algebra: &GeoAlgebra, text: &[u8], base: u32, at: usize) -> Option<Spot<Self::Mark>>
-        requires inside { at ≤ length text.now }
-        requires fits { base + length text.now ≤ 2 ^ 28 }
-        ensures { IfSome result (ReadsSpot marks (stands algebra.now text.now at) algebra.now base text.now at) };
-
-    /// Whether two positions are the same, which stand from one place to another each, and have these marks.
-    fn closes(
-        algebra: &GeoAlgebra,
-        text: &[u8],
-        base: u32,
-        from: usize,
-        to: usize,
-        first: Self::Mark,
-        at: usize,
-        end: usize,
-        last: Self::Mark,
-    ) -> Option<bool>
-        requires first { from ≤ to }
-        requires order { from ≤ at }
-        requires last { at ≤ end }
-        requires inside { to ≤ length text.now }
-        requires within { end ≤ length text.now }
-        requires fits { base + length text.now ≤ 2 ^ 28 }
-        ensures { IfSome result (λ closes. (p q : Pos) → marks p first → stands algebra.now text.now from to p
-            → marks q last → stands algebra.now text.now at end q → closes ≡ same_values p q) };
-
     /// What was made before the first list.
     fn nothing() -> Self::Before
         ensures { result ≡ empty };
 
     /// What is made of one position alone.
-    fn alone(alloc: Global, mark: Self::Mark) -> Result<Self::Line, Memory>
-        ensures { IfOk result (λ line. (p : Pos) → marks p mark → tells empty (p ∷ []) line) };
+    fn alone(alloc: Global, mark: <Self::Reader as Reads>::Mark) -> Result<Self::Line, Memory>
+        ensures { IfOk result (λ line. (p : Pos) → Self.Reader.marks p mark → tells empty (p ∷ []) line) };
 
     /// What is made of the first position of a list.
-    fn first(alloc: Global, before: Self::Before, mark: Self::Mark) -> Result<Self::Line, Memory>
-        ensures { IfOk result (λ line. (p : Pos) → marks p mark → tells before (p ∷ []) line) };
+    fn first(
+        alloc: Global,
+        before: Self::Before,
+        mark: <Self::Reader as Reads>::Mark,
+    ) -> Result<Self::Line, Memory>
+        ensures { IfOk result (λ line. (p : Pos) → Self.Reader.marks p mark → tells before (p ∷ []) line) };
 
     /// What is made of a list with one more position behind the last.
-    fn next(line: &mut Self::Line, last: Self::Mark, mark: Self::Mark) -> Result<(), Memory>
-        requires last { (p : Pos) × IsInRange p × marks p last }
-        requires next { (p : Pos) × IsInRange p × marks p mark }
-        ensures { IfOk result (λ u. (before : Self.Before) (front : List Pos) (p q : Pos) → marks p last
-            → marks q mark → tells before (front ++ p ∷ []) line.old
+    fn next(
+        line: &mut Self::Line,
+        last: <Self::Reader as Reads>::Mark,
+        mark: <Self::Reader as Reads>::Mark,
+    ) -> Result<(), Memory>
+        requires last { (p : Pos) × IsInRange p × Self.Reader.marks p last }
+        requires next { (p : Pos) × IsInRange p × Self.Reader.marks p mark }
+        ensures { IfOk result (λ u. (before : Self.Before) (front : List Pos) (p q : Pos) → Self.Reader.marks p last
+            → Self.Reader.marks q mark → tells before (front ++ p ∷ []) line.old
             → tells before ((front ++ p ∷ []) ++ q ∷ []) line.new) };
 
     /// What is made of the first of lists.
@@ -240,92 +207,8 @@ pub struct Tallies<M> {
 /// Nothing is made of positions.
 pub struct Passes;
 
-/// White space, a position and white space: its value is the mark.
-#[inline(always)]
-fn read_value(algebra: &GeoAlgebra, text: &[u8], base: u32, at: usize) -> Option<Spot<Pos>>
-    requires inside { at ≤ length text.now }
-    requires fits { base + length text.now ≤ 2 ^ 28 }
-    ensures { IfSome result (ReadsSpot IsValue (IsAnywhere algebra.now text.now at) algebra.now base text.now at) }
-{
-    let read = read_spaced(algebra, text, base, at)?;
-    Some(Spot {
-        bracket: (read.pair.at - base) as usize,
-        end: read.end,
-        mark: read.pair.pos,
-    })
-}
-
-/// White space, a position and white space, passed over.
-#[inline(always)]
-fn pass_value(algebra: &GeoAlgebra, text: &[u8], base: u32, at: usize) -> Option<Spot<()>>
-    requires inside { at ≤ length text.now }
-    requires fits { base + length text.now ≤ 2 ^ 28 }
-    ensures { IfSome result (ReadsSpot (λ (p : Pos) u. ⊤) (IsPassedOver algebra.now text.now at) algebra.now base
-        text.now at) }
-{
-    let _ = base;
-    let place = pass_pair(algebra, text, at)?;
-    Some(Spot {
-        bracket: place.bracket,
-        end: place.end,
-        mark: (),
-    })
-}
-
-/// Whether two values are the same.
-#[inline(always)]
-fn same_pos(p: Pos, q: Pos) -> bool
-    ensures { result ≡ same_values p q }
-{
-    p.x == q.x && p.y == q.y
-}
-
-/// Whether two positions that were passed over are the same. Where their bytes are the same no value is computed.
-#[inline(never)]
-fn spans_close(
-    algebra: &GeoAlgebra,
-    text: &[u8],
-    base: u32,
-    from: usize,
-    to: usize,
-    at: usize,
-    end: usize,
-) -> Option<bool>
-    requires first { from ≤ to }
-    requires order { from ≤ at }
-    requires last { at ≤ end }
-    requires inside { to ≤ length text.now }
-    requires within { end ≤ length text.now }
-    requires fits { base + length text.now ≤ 2 ^ 28 }
-    ensures { IfSome result (λ closes. (p q : Pos) → IsPassedOver algebra.now text.now from to p
-        → IsPassedOver algebra.now text.now at end q → closes ≡ same_values p q) }
-{
-    if text[from..to] == text[at..end] {
-        return Some(true);
-    }
-    let first = read_spaced(algebra, text, base, from)?;
-    let last = read_spaced(algebra, text, base, at)?;
-    if first.end != to {
-        return None;
-    }
-    if last.end != end {
-        return None;
-    }
-    Some(same_pos(first.pair.pos, last.pair.pos))
-}
-
-/// The values of a list whose first position this is.
-#[inline(always)]
-fn new_path(alloc: Global, first: Pos) -> Result<Vec<Pos>, Memory>
-    ensures { IfOk result (λ path. path.items ≡ first ∷ []) }
-{
-    let mut path = Vec::with_capacity(alloc, ROOM)?;
-    path.push(first)?;
-    Ok(path)
-}
-
 impl Maker for Keeps {
-    type Mark = Pos;
+    type Reader = ByValue;
 
     type Before = ();
 
@@ -334,10 +217,6 @@ impl Maker for Keeps {
     type Lines = Vec<Path>;
 
     type Areas = Vec<Polygon>;
-
-    ghost marks = { IsValue };
-
-    ghost stands = { IsAnywhere };
 
     ghost tells = { λ before path line. line.items ≡ path };
 
@@ -354,33 +233,6 @@ impl Maker for Keeps {
     ghost serves = { λ query. needs_shapes query ≡ true };
 
     #[inline(always)]
-    fn read(algebra: &GeoAlgebra, text: &[u8], base: u32, at: usize) -> Option<Spot<Pos>> {
-        read_value(algebra, text, base, at)
-    }
-
-    #[inline(always)]
-    fn closes(
-        algebra: &GeoAlgebra,
-        text: &[u8],
-        base: u32,
-        from: usize,
-        to: usize,
-        first: Pos,
-        at: usize,
-        end: usize,
-        last: Pos,
-    ) -> Option<bool> {
-        let _ = algebra;
-        let _ = text;
-        let _ = base;
-        let _ = from;
-        let _ = to;
-        let _ = at;
-        let _ = end;
-        Some(same_pos(first, last))
-    }
-
-    #[inline(always)]
     fn nothing() {}
 
     #[inline(always)]
@@ -389,14 +241,14 @@ impl Maker for Keeps {
     }
 
     #[inline(always)]
-    fn first(alloc: Global, before: (), mark: Pos) -> Result<Vec<Pos>, Memory> {
-        let _ = before;
-        new_path(alloc, mark)
+    fn first(alloc: Global, _before: (), mark: Pos) -> Result<Vec<Pos>, Memory> {
+        let mut path = Vec::with_capacity(alloc, ROOM)?;
+        path.push(mark)?;
+        Ok(path)
     }
 
     #[inline(always)]
-    fn next(line: &mut Vec<Pos>, last: Pos, mark: Pos) -> Result<(), Memory> {
-        let _ = last;
+    fn next(line: &mut Vec<Pos>, _last: Pos, mark: Pos) -> Result<(), Memory> {
         line.push(mark)?;
         Ok(())
     }
@@ -407,9 +259,7 @@ impl Maker for Keeps {
     }
 
     #[inline(always)]
-    fn around_lines(lines: &Vec<Path>) {
-        let _ = lines;
-    }
+    fn around_lines(_lines: &Vec<Path>) {}
 
     #[inline(always)]
     fn add_line(lines: &mut Vec<Path>, line: Vec<Pos>) -> Result<(), Memory> {
@@ -423,9 +273,7 @@ impl Maker for Keeps {
     }
 
     #[inline(always)]
-    fn around_areas(areas: &Vec<Polygon>) {
-        let _ = areas;
-    }
+    fn around_areas(_areas: &Vec<Polygon>) {}
 
     #[inline(always)]
     fn add_area(areas: &mut Vec<Polygon>, area: Vec<Path>) -> Result<(), Memory> {
@@ -453,20 +301,17 @@ impl Maker for Keeps {
 
 impl Lister for Keeps {
     #[inline(always)]
-    fn path(alloc: Global, line: Vec<Pos>) -> Vec<Pos> {
-        let _ = alloc;
+    fn path(_alloc: Global, line: Vec<Pos>) -> Vec<Pos> {
         line
     }
 
     #[inline(always)]
-    fn paths(alloc: Global, lines: Vec<Path>) -> Vec<Path> {
-        let _ = alloc;
+    fn paths(_alloc: Global, lines: Vec<Path>) -> Vec<Path> {
         lines
     }
 
     #[inline(always)]
-    fn polygons(alloc: Global, areas: Vec<Polygon>) -> Vec<Polygon> {
-        let _ = alloc;
+    fn polygons(_alloc: Global, areas: Vec<Polygon>) -> Vec<Polygon> {
         areas
     }
 }
@@ -485,7 +330,7 @@ fn seen_part(measure: Measure, tally: Tally) -> Seen
 }
 
 impl<M: Asks> Maker for Tallies<M> {
-    type Mark = Pos;
+    type Reader = ByValue;
 
     type Before = Option<Extent>;
 
@@ -494,10 +339,6 @@ impl<M: Asks> Maker for Tallies<M> {
     type Lines = Tally;
 
     type Areas = Tally;
-
-    ghost marks = { IsValue };
-
-    ghost stands = { IsAnywhere };
 
     ghost tells = { SumsUp M.asked };
 
@@ -514,46 +355,17 @@ impl<M: Asks> Maker for Tallies<M> {
     ghost serves = { λ query. measure_of query ≡ Some M.asked };
 
     #[inline(always)]
-    fn read(algebra: &GeoAlgebra, text: &[u8], base: u32, at: usize) -> Option<Spot<Pos>> {
-        read_value(algebra, text, base, at)
-    }
-
-    #[inline(always)]
-    fn closes(
-        algebra: &GeoAlgebra,
-        text: &[u8],
-        base: u32,
-        from: usize,
-        to: usize,
-        first: Pos,
-        at: usize,
-        end: usize,
-        last: Pos,
-    ) -> Option<bool> {
-        let _ = algebra;
-        let _ = text;
-        let _ = base;
-        let _ = from;
-        let _ = to;
-        let _ = at;
-        let _ = end;
-        Some(same_pos(first, last))
-    }
-
-    #[inline(always)]
     fn nothing() -> Option<Extent> {
         None
     }
 
     #[inline(always)]
-    fn alone(alloc: Global, mark: Pos) -> Result<Tally, Memory> {
-        let _ = alloc;
+    fn alone(_alloc: Global, mark: Pos) -> Result<Tally, Memory> {
         Ok(Tally::of_first(M::measure(), None, mark))
     }
 
     #[inline(always)]
-    fn first(alloc: Global, before: Option<Extent>, mark: Pos) -> Result<Tally, Memory> {
-        let _ = alloc;
+    fn first(_alloc: Global, before: Option<Extent>, mark: Pos) -> Result<Tally, Memory> {
         Ok(Tally::of_first(M::measure(), before, mark))
     }
 
@@ -564,8 +376,7 @@ impl<M: Asks> Maker for Tallies<M> {
     }
 
     #[inline(always)]
-    fn first_line(alloc: Global, line: Tally) -> Result<Tally, Memory> {
-        let _ = alloc;
+    fn first_line(_alloc: Global, line: Tally) -> Result<Tally, Memory> {
         Ok(line.of_ring())
     }
 
@@ -581,8 +392,7 @@ impl<M: Asks> Maker for Tallies<M> {
     }
 
     #[inline(always)]
-    fn first_area(alloc: Global, area: Tally) -> Result<Tally, Memory> {
-        let _ = alloc;
+    fn first_area(_alloc: Global, area: Tally) -> Result<Tally, Memory> {
         Ok(area)
     }
 
@@ -598,26 +408,23 @@ impl<M: Asks> Maker for Tallies<M> {
     }
 
     #[inline(always)]
-    fn see_points(alloc: Global, line: Tally) -> Seen {
-        let _ = alloc;
+    fn see_points(_alloc: Global, line: Tally) -> Seen {
         seen_part(M::measure(), line.of_ring().flat())
     }
 
     #[inline(always)]
-    fn see_lines(alloc: Global, lines: Tally) -> Seen {
-        let _ = alloc;
+    fn see_lines(_alloc: Global, lines: Tally) -> Seen {
         seen_part(M::measure(), lines.flat())
     }
 
     #[inline(always)]
-    fn see_areas(alloc: Global, areas: Tally) -> Seen {
-        let _ = alloc;
+    fn see_areas(_alloc: Global, areas: Tally) -> Seen {
         seen_part(M::measure(), areas)
     }
 }
 
 impl Maker for Passes {
-    type Mark = ();
+    type Reader = ByPlace;
 
     type Before = ();
 
@@ -626,10 +433,6 @@ impl Maker for Passes {
     type Lines = ();
 
     type Areas = ();
-
-    ghost marks = { λ p mark. ⊤ };
-
-    ghost stands = { IsPassedOver };
 
     ghost tells = { λ before path line. ⊤ };
 
@@ -646,63 +449,31 @@ impl Maker for Passes {
     ghost serves = { λ query. needs_shapes query ≡ false };
 
     #[inline(always)]
-    fn read(algebra: &GeoAlgebra, text: &[u8], base: u32, at: usize) -> Option<Spot<()>> {
-        pass_value(algebra, text, base, at)
-    }
-
-    #[inline(always)]
-    fn closes(
-        algebra: &GeoAlgebra,
-        text: &[u8],
-        base: u32,
-        from: usize,
-        to: usize,
-        first: (),
-        at: usize,
-        end: usize,
-        last: (),
-    ) -> Option<bool> {
-        let _ = first;
-        let _ = last;
-        spans_close(algebra, text, base, from, to, at, end)
-    }
-
-    #[inline(always)]
     fn nothing() {}
 
     #[inline(always)]
-    fn alone(alloc: Global, mark: ()) -> Result<(), Memory> {
-        let _ = alloc;
-        let _ = mark;
+    fn alone(_alloc: Global, _mark: ()) -> Result<(), Memory> {
         Ok(())
     }
 
     #[inline(always)]
-    fn first(alloc: Global, before: (), mark: ()) -> Result<(), Memory> {
-        let _ = alloc;
-        let _ = before;
-        let _ = mark;
+    fn first(_alloc: Global, _before: (), _mark: ()) -> Result<(), Memory> {
         Ok(())
     }
 
     #[inline(always)]
-    fn next(line: &mut (), last: (), mark: ()) -> Result<(), Memory> {
-        let _ = last;
+    fn next(line: &mut (), _last: (), mark: ()) -> Result<(), Memory> {
         *line = mark;
         Ok(())
     }
 
     #[inline(always)]
-    fn first_line(alloc: Global, line: ()) -> Result<(), Memory> {
-        let _ = alloc;
-        let _ = line;
+    fn first_line(_alloc: Global, _line: ()) -> Result<(), Memory> {
         Ok(())
     }
 
     #[inline(always)]
-    fn around_lines(lines: &()) {
-        let _ = lines;
-    }
+    fn around_lines(_lines: &()) {}
 
     #[inline(always)]
     fn add_line(lines: &mut (), line: ()) -> Result<(), Memory> {
@@ -711,16 +482,12 @@ impl Maker for Passes {
     }
 
     #[inline(always)]
-    fn first_area(alloc: Global, area: ()) -> Result<(), Memory> {
-        let _ = alloc;
-        let _ = area;
+    fn first_area(_alloc: Global, _area: ()) -> Result<(), Memory> {
         Ok(())
     }
 
     #[inline(always)]
-    fn around_areas(areas: &()) {
-        let _ = areas;
-    }
+    fn around_areas(_areas: &()) {}
 
     #[inline(always)]
     fn add_area(areas: &mut (), area: ()) -> Result<(), Memory> {
@@ -729,43 +496,34 @@ impl Maker for Passes {
     }
 
     #[inline(always)]
-    fn see_points(alloc: Global, line: ()) -> Seen {
-        let _ = alloc;
-        let _ = line;
+    fn see_points(_alloc: Global, _line: ()) -> Seen {
         Seen::Measured(Part::Count(1))
     }
 
     #[inline(always)]
-    fn see_lines(alloc: Global, lines: ()) -> Seen {
-        let _ = alloc;
-        let _ = lines;
+    fn see_lines(_alloc: Global, _lines: ()) -> Seen {
         Seen::Measured(Part::Count(1))
     }
 
     #[inline(always)]
-    fn see_areas(alloc: Global, areas: ()) -> Seen {
-        let _ = alloc;
-        let _ = areas;
+    fn see_areas(_alloc: Global, _areas: ()) -> Seen {
         Seen::Measured(Part::Count(1))
     }
 }
 
 impl Lister for Passes {
     #[inline(always)]
-    fn path(alloc: Global, line: ()) -> Vec<Pos> {
-        let _ = line;
+    fn path(alloc: Global, _line: ()) -> Vec<Pos> {
         Vec::new(alloc)
     }
 
     #[inline(always)]
-    fn paths(alloc: Global, lines: ()) -> Vec<Path> {
-        let _ = lines;
+    fn paths(alloc: Global, _lines: ()) -> Vec<Path> {
         Vec::new(alloc)
     }
 
     #[inline(always)]
-    fn polygons(alloc: Global, areas: ()) -> Vec<Polygon> {
-        let _ = areas;
+    fn polygons(alloc: Global, _areas: ()) -> Vec<Polygon> {
         Vec::new(alloc)
     }
 }

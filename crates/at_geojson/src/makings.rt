@@ -10,8 +10,9 @@ use crate::asked::GeoAlgebra;
 use crate::kinds::Kind;
 use crate::makers::Maker;
 use crate::pairs::one_more;
-use crate::places::{expect_comma, skip_spaces, stands};
+use crate::places::{expect_comma, opening, skip_spaces, stands};
 use crate::plain_geometries::{Seen, SeenRead};
+use crate::spots::{Reads, Stretch};
 use at_geom::{line_fault, ring_fault};
 use at_text::{Fault, Halt, first_fault};
 use std::alloc::Global;
@@ -66,7 +67,7 @@ pub fn positions<S: Maker>(
     requires fits { base + length text.now ≤ 2 ^ 28 }
     ensures { IfOk result (MakesLine S.tells before algebra.now base text.now at) }
 {
-    let Some(first) = S::read(algebra, text, base, at + 1) else {
+    let Some(first) = S::Reader::read(algebra, text, base, at + 1) else {
         return Err(Halt::At(at + 1));
     };
     let mut made = S::first(alloc, before, first.mark)?;
@@ -75,7 +76,7 @@ pub fn positions<S: Maker>(
     let mut count = 1;
     'positions: while !stands(text, last.end, b']') {
         expect_comma(text, last.end)?;
-        let Some(next) = S::read(algebra, text, base, last.end + 1) else {
+        let Some(next) = S::Reader::read(algebra, text, base, last.end + 1) else {
             return Err(Halt::At(last.end));
         };
         S::next(&mut made, last.mark, next.mark)?;
@@ -83,15 +84,18 @@ pub fn positions<S: Maker>(
         count = one_more(count);
         last = next;
     }
-    let Some(closes) = S::closes(
+    let Some(closes) = S::Reader::closes(
         algebra,
         text,
-        base,
-        at + 1,
-        first.end,
+        Stretch {
+            from: at + 1,
+            to: first.end,
+        },
         first.mark,
-        place,
-        last.end,
+        Stretch {
+            from: place,
+            to: last.end,
+        },
         last.mark,
     ) else {
         return Err(Halt::At(last.end));
@@ -121,10 +125,7 @@ fn positions_item<S: Maker>(
     requires fits { base + length text.now ≤ 2 ^ 28 }
     ensures { IfOk result (MakesLineItem S.tells before algebra.now base text.now at) }
 {
-    let first = skip_spaces(text, at);
-    if !stands(text, first, b'[') {
-        return Err(Halt::At(first));
-    }
+    let first = opening(text, at)?;
     let mut line = positions::<S>(algebra, alloc, before, text, base, first)?;
     line.end = skip_spaces(text, line.end);
     Ok(line)
@@ -184,10 +185,7 @@ fn lists_item<S: Maker>(
     requires fits { base + length text.now ≤ 2 ^ 28 }
     ensures { IfOk result (MakesLinesItem S.tells_lines before algebra.now base text.now at) }
 {
-    let first = skip_spaces(text, at);
-    if !stands(text, first, b'[') {
-        return Err(Halt::At(first));
-    }
+    let first = opening(text, at)?;
     let mut read = lists::<S>(algebra, alloc, before, text, base, first)?;
     read.end = skip_spaces(text, read.end);
     Ok(read)
@@ -229,14 +227,21 @@ pub fn areas<S: Maker>(
     })
 }
 
-/// What is seen of a shape, or the fault where there is one.
+/// What is seen of a shape that was read up to the place, or its fault where it has one.
 #[inline(always)]
-fn unless(fault: Option<Fault>, seen: Seen) -> Result<Seen, Fault>
-    ensures { result ≡ seen_unless fault seen }
+fn seen_read(end: usize, fault: Option<Fault>, seen: Seen) -> SeenRead
+    ensures end { result.end ≡ end }
+    ensures seen { result.seen ≡ seen_unless fault seen }
 {
     match fault {
-        Some(fault) => Err(fault),
-        None => Ok(seen),
+        Some(fault) => SeenRead {
+            end,
+            seen: Err(fault),
+        },
+        None => SeenRead {
+            end,
+            seen: Ok(seen),
+        },
     }
 }
 
@@ -254,14 +259,11 @@ fn point<S: Maker>(
     requires served { S.serves algebra.now.query }
     ensures { IfOk result (Sees algebra.now (IsCoordinatesItem algebra.now base text.now at Kind.Point)) }
 {
-    let Some(spot) = S::read(algebra, text, base, at) else {
+    let Some(spot) = S::Reader::read(algebra, text, base, at) else {
         return Err(Halt::At(at));
     };
     let seen = S::see_points(alloc, S::alone(alloc, spot.mark)?);
-    Ok(SeenRead {
-        end: spot.end,
-        seen: Ok(seen),
-    })
+    Ok(seen_read(spot.end, None, seen))
 }
 
 /// White space, the coordinates of points, and white space.
@@ -279,10 +281,7 @@ fn multi_point<S: Maker>(
 {
     let read = positions_item::<S>(algebra, alloc, S::nothing(), text, base, at)?;
     let seen = S::see_points(alloc, read.made);
-    Ok(SeenRead {
-        end: read.end,
-        seen: Ok(seen),
-    })
+    Ok(seen_read(read.end, None, seen))
 }
 
 /// White space, the coordinates of a line, and white space.
@@ -301,10 +300,7 @@ fn line<S: Maker>(
 {
     let read = positions_item::<S>(algebra, alloc, S::nothing(), text, base, at)?;
     let seen = S::see_lines(alloc, S::first_line(alloc, read.made)?);
-    Ok(SeenRead {
-        end: read.end,
-        seen: unless(read.as_line, seen),
-    })
+    Ok(seen_read(read.end, read.as_line, seen))
 }
 
 /// White space, the coordinates of lines, and white space.
@@ -322,10 +318,7 @@ fn multi_line<S: Maker>(
 {
     let read = lists_item::<S>(algebra, alloc, S::nothing(), text, base, at)?;
     let seen = S::see_lines(alloc, read.made);
-    Ok(SeenRead {
-        end: read.end,
-        seen: unless(read.as_lines, seen),
-    })
+    Ok(seen_read(read.end, read.as_lines, seen))
 }
 
 /// White space, the coordinates of a polygon, and white space.
@@ -344,10 +337,7 @@ fn polygon<S: Maker>(
 {
     let read = lists_item::<S>(algebra, alloc, S::nothing(), text, base, at)?;
     let seen = S::see_areas(alloc, S::first_area(alloc, read.made)?);
-    Ok(SeenRead {
-        end: read.end,
-        seen: unless(read.as_rings, seen),
-    })
+    Ok(seen_read(read.end, read.as_rings, seen))
 }
 
 /// White space, the coordinates of polygons, and white space.
@@ -363,16 +353,10 @@ fn multi_polygon<S: Maker>(
     requires served { S.serves algebra.now.query }
     ensures { IfOk result (Sees algebra.now (IsCoordinatesItem algebra.now base text.now at Kind.MultiPolygon)) }
 {
-    let first = skip_spaces(text, at);
-    if !stands(text, first, b'[') {
-        return Err(Halt::At(first));
-    }
+    let first = opening(text, at)?;
     let read = areas::<S>(algebra, alloc, S::nothing(), text, base, first)?;
     let seen = S::see_areas(alloc, read.made);
-    Ok(SeenRead {
-        end: skip_spaces(text, read.end),
-        seen: unless(read.fault, seen),
-    })
+    Ok(seen_read(skip_spaces(text, read.end), read.fault, seen))
 }
 
 /// White space, the coordinates of a geometry of the kind, and white space, and what is seen of its shape.

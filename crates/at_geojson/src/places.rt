@@ -133,6 +133,23 @@ pub fn behind_spaces(text: &[u8], at: usize, b: u8) -> Option<usize>
     }
 }
 
+/// The place of an opening bracket, right there or behind white space.
+#[inline(always)]
+pub fn opening(text: &[u8], at: usize) -> Result<usize, Halt>
+    requires { at ≤ length text.now }
+    ensures order { IfOk result (λ first. at ≤ first) }
+    ensures spaces { IfOk result (λ first. AreSpaces (between text.now at first)) }
+    ensures inside { IfOk result (λ first. first < length text.now) }
+    ensures byte { IfOk result (λ first. slice_index text.now first ≡ 0x5B) }
+{
+    let first = skip_spaces(text, at);
+    if stands(text, first, b'[') {
+        Ok(first)
+    } else {
+        Err(Halt::At(first))
+    }
+}
+
 /// The place behind the string that begins at the place.
 pub fn text_end(text: &[u8], at: usize) -> Result<usize, Halt>
     requires inside { at ≤ length text.now }

@@ -1,6 +1,7 @@
 //! Geometries of a type and of coordinates that are written plainly, read at once: no atom is made of them.
 
-ghost use Rattle.std.specs.Prelude.{◌≡◌, ◌+◌, ◌<◌, ◌≤◌, ◌^◌, length, slice_index, IfOk};
+ghost use Rattle.std.specs.Prelude.{◌≡◌, ℕ, ◌+◌, ◌<◌, ◌≤◌, ◌^◌, length, slice_index, IfOk};
+ghost use Rattle.at_geojson.specs.Keeping.{Asked};
 ghost use Rattle.at_geojson.specs.PlainGeometries.{IsKindRead, IsCoordinatesItem, IsGeometryRead, SeesShape, Sees};
 
 use crate::asked::{GeoAlgebra, Measure};
@@ -60,13 +61,11 @@ fn long_kind(text: &[u8], at: usize) -> usize
 }
 
 /// White space, the name of a kind that isn't looked at as a whole word, and white space.
-fn any_kind(algebra: &GeoAlgebra, text: &[u8], base: u32, at: usize) -> Result<KindRead, Halt>
+fn any_kind(text: &[u8], at: usize) -> Result<KindRead, Halt>
     requires inside { at ≤ length text.now }
-    requires fits { base + length text.now ≤ 2 ^ 28 }
-    ensures { IfOk result (IsKindRead algebra.now base text.now at) }
+    requires short { length text.now ≤ 2 ^ 28 }
+    ensures { (asked : Asked) (base : ℕ) → IfOk result (IsKindRead asked base text.now at) }
 {
-    let _ = algebra;
-    let _ = base;
     let Some(SimpleItem { first, last, end }) = simple_item(text, at) else {
         return Err(Halt::At(long_kind(text, at)));
     };
@@ -85,7 +84,7 @@ pub fn read_kind(algebra: &GeoAlgebra, text: &[u8], base: u32, at: usize) -> Res
 {
     let first = skip_spaces(text, at);
     let Some(KindRead { end, kind }) = known_kind(text, first) else {
-        return any_kind(algebra, text, base, at);
+        return any_kind(text, at);
     };
     let end = skip_spaces(text, end);
     Ok(KindRead { end, kind })

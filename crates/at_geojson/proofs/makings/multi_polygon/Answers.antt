@@ -5,6 +5,6 @@ use Rattle.at_geojson.proofs.makings.multi_polygon.Goals as goal
 pub returns : goal.returns
 returns g c =
     let a = c.args.algebra.now in
-    multi_polygon_seen a c.args.alloc c.args.base c.args.text.now c.args.at _ g.S.Maker.tells_areas c.nothing.result g.S.Maker.empty c.nothing.ensures c.in_ok-read.read c.see_areas-seen.result c.skip_spaces-first.result (omega (arith, c.requires.fits))
-    c.skip_spaces-first.ensures.order c.skip_spaces-first.ensures.spaces c.in_ok-read.ensures c.skip_spaces.ensures.order c.skip_spaces.ensures.within c.skip_spaces.ensures.spaces
-    (λ polygons h. c.see_areas-seen.ensures a.query polygons c.requires.served h) c.unless.ensures
+    multi_polygon_seen a c.args.alloc c.args.base c.args.text.now c.args.at _ g.S.Maker.tells_areas c.nothing.result g.S.Maker.empty c.nothing.ensures c.in_ok-read.read c.see_areas-seen.result c.in_ok-first.first c.skip_spaces.result (omega (arith, c.requires.fits))
+    c.in_ok-first.ensures.order c.in_ok-first.ensures.spaces c.in_ok-read.ensures c.skip_spaces.ensures.order c.skip_spaces.ensures.within c.skip_spaces.ensures.spaces
+    (λ polygons h. c.see_areas-seen.ensures a.query polygons c.requires.served h) c.seen_read.ensures.end c.seen_read.ensures.seen

@@ -4,6 +4,6 @@ use Rattle.at_geojson.proofs.KnownNames.{simple_read}
 use Rattle.at_geojson.proofs.plain_geometries.any_kind.Goals as goal
 
 pub returns-in-Some-kind_of : goal.returns-in-Some-kind_of
-returns-in-Some-kind_of c =
-    let (a, item, none, kind, text) = simple_read c.args.algebra.now c.args.base c.args.text.now c.args.at _ c.in-Some.ensures in
+returns-in-Some-kind_of c asked base =
+    let (a, item, none, kind, text) = simple_read asked base c.args.text.now c.args.at _ c.in-Some.ensures in
     record { atom = a; item = item; no_twin = none; kind = kind ∙ sym c.in-Some-kind_of.ensures }

@@ -2,15 +2,15 @@
 use Rattle.std.proofs.Common.{refl}
 use Rattle.at_geojson.specs.Passing.{pair_of}
 use Rattle.at_geojson.proofs.PassedPairs.{placed_pair}
-use Rattle.at_geojson.proofs.makers.pass_value.Goals as goal
+use Rattle.at_geojson.proofs.spots.ByPlaceReads.read.Goals as goal
 
 pub returns : goal.returns
 returns c =
     let (p, h) = c.in_ok-place.ensures in let place = c.in_ok-place.place in
     record {
-      pair = pair_of c.args.base place p;
+      pair = pair_of c.args._base place p;
       at_is = refl;
-      spaced = placed_pair c.args.algebra.now c.args.base c.args.text.now c.args.at place p h;
+      spaced = placed_pair c.args.algebra.now c.args._base c.args.text.now c.args.at place p h;
       marks = tt;
       stands = (place, refl, h);
     }
