@@ -27,6 +27,7 @@ use Rattle.at_geojson.specs.PlainGeometries.{IsKindRead}
 use Rattle.at_geojson.specs.declared.places.NamePlace.{NamePlace}
 use Rattle.at_geojson.specs.Places.{is_common, IsSimpleTextAt, IsSimpleItem, IsNameAt}
 use Rattle.at_geojson.specs.Fields.{field_of}
+use Rattle.at_geojson.specs.Members.{name_in, IsPlainName}
 use Rattle.at_geojson.specs.KnownNames.{BeginsAlike, StandsWord, IsQuoted, NamesField, NamesKind, IsFieldName, IsKindName}
 use Rattle.at_geojson.proofs.ShortStrings.{short_text}
 use Rattle.at_geojson.proofs.ValueParts.{text_kind, text_units, text_whole, item_read}
@@ -147,6 +148,21 @@ module _ (w : List ℕ) (at : ℕ) (word : List ℕ) (n : ℕ) (s : StandsWord w
         text = word_text w at word (n - 1) n h.quoted s more (at + n) (omega (arith, h.some));
         kind = ap kind_of_text (sym (word_inner w at word (n - 1) n h.quoted s more (at + 1) (at + n - 1 - (at + 1)) refl (omega (arith, h.some)))) ∙ h.names;
       }
+
+-- a name whose bytes are those of another one is that name
+pub same_name : (w : List ℕ) (a b : NamePlace) (word : List ℕ) → IsPlainName w a → IsPlainName w b → a.end - a.first ≡ b.end - b.first → word ≡ chunk b.first (length w - b.first) w → StandsWord w a.first word (a.end - a.first) → name_in w a ≡ name_in w b
+same_name w a b word h k size there s =
+    let m : ℕ = a.end - 1 - (a.first + 1) in
+    let n : ℕ = b.end - 1 - (b.first + 1) in
+    let few : m ≡ n = omega (arith, h.order, k.order, size) in
+    let long_a : length (chunk (a.first + 1) m w) ≡ m = length-chunk (a.first + 1) m w (omega (arith, h.order, h.within)) in
+    let long_b : length (chunk (b.first + 1) n w) ≡ n = length-chunk (b.first + 1) n w (omega (arith, k.order, k.within)) in
+    same_number_lists (chunk (a.first + 1) m w) (chunk (b.first + 1) n w) (long_a ∙ (few ∙ sym long_b))
+    (λ j l. let here : a.first + 1 + j ≡ a.first + (1 + j) = omega arith in
+    let other : b.first + (1 + j) ≡ b.first + 1 + j = omega arith in
+    let inside : j < m = omega (arith, l, long_a) in
+    chunk_at w (a.first + 1) m j inside ∙ (ap (slice_index w) here ∙ (s.same (1 + j) (omega (arith, inside, h.order)) ∙ (ap (λ xs. slice_index xs (1 + j)) there
+    ∙ (chunk_at w b.first (length w - b.first) (1 + j) (omega (arith, inside, few, k.order, k.within)) ∙ (ap (slice_index w) other ∙ sym (chunk_at w (b.first + 1) n j (omega (arith, inside, few)))))))))
 
 -- the atom of a kind's name
 pub kind_named : (asked : Asked) (base : ℕ) (w : List ℕ) (at first : ℕ) (p : KindRead) (end : ℕ) → at ≤ first → AreSpaces (between w at first) → IsKindName w first p → p.end ≤ end → end ≤ length w → AreSpaces (between w p.end end)

@@ -4,11 +4,13 @@
 ghost use Rattle.std.specs.Prelude.{◌≡◌, ◌+◌, ◌<◌, ◌≤◌, ◌^◌, length, slice_index, IfOk, IfSome};
 ghost use Rattle.at_geojson.specs.Atoms.{both_forms};
 ghost use Rattle.at_geojson.specs.FeatureRuns.{IsNextObject, AreFeaturesRead};
+ghost use Rattle.at_geojson.specs.Members.{ArePlainOthers};
 
 use crate::asked::GeoAlgebra;
 use crate::atoms::Items;
 use crate::features::{FeatureRead, read_feature};
 use crate::lists::form_at;
+use crate::members::TableNames;
 use crate::places::{skip_spaces, stands};
 use crate::runs::{is_light, join_features};
 use at_query::Part;
@@ -57,13 +59,18 @@ fn begin_features(
     text: &[u8],
     base: u32,
     at: usize,
+    names: &mut TableNames,
 ) -> Result<FeaturesRead, Halt>
     requires inside { at < length text.now }
     requires opens { slice_index text.now at ≡ 0x7B }
     requires fits { base + length text.now ≤ 2 ^ 28 }
-    ensures { IfOk result (λ read. AreFeaturesRead algebra.now base text.now at read.end read.run.value) }
+    requires own { ArePlainOthers text.now names.old.own }
+    requires properties { ArePlainOthers text.now names.old.properties }
+    ensures reads { IfOk result (λ read. AreFeaturesRead algebra.now base text.now at read.end read.run.value) }
+    ensures own { IfOk result (λ _. ArePlainOthers text.now names.new.own) }
+    ensures properties { IfOk result (λ _. ArePlainOthers text.now names.new.properties) }
 {
-    let FeatureRead { end, part } = read_feature(algebra, alloc, text, base, at)?;
+    let FeatureRead { end, part } = read_feature(algebra, alloc, text, base, at, names)?;
     let run = Box::new(alloc, feature_items(base + at as u32, part))?;
     let end = skip_spaces(text, end);
     Ok(FeaturesRead { end, run })
@@ -84,12 +91,15 @@ pub fn read_features(
     requires fits { base + length text.now ≤ 2 ^ 28 }
     ensures { IfOk result (λ read. AreFeaturesRead algebra.now base text.now at read.end read.run.value) }
 {
-    let FeaturesRead { mut end, mut run } = begin_features(algebra, alloc, text, base, at)?;
+    let mut names = TableNames::none(alloc);
+    let FeaturesRead { mut end, mut run } = begin_features(
+        algebra, alloc, text, base, at, &mut names,
+    )?;
     'features: while is_light(&run) {
         let Some(first) = next_object(text, end) else {
             return Ok(FeaturesRead { end, run });
         };
-        match read_feature(algebra, alloc, text, base, first) {
+        match read_feature(algebra, alloc, text, base, first, &mut names) {
             Ok(FeatureRead { end: last, part }) => {
                 join_features(&mut *run, part)?;
                 end = skip_spaces(text, last);

@@ -20,7 +20,7 @@ use crate::atoms::{GeoAtom, ObjectAtom, Role};
 use crate::fields::Field;
 use crate::geometries::Geometry;
 use crate::kinds::Kind;
-use crate::members::{FieldName, OtherNames, add_other, field_name};
+use crate::members::{FieldName, OtherNames, TableNames, add_other, field_name};
 use crate::object_atoms::new_roles;
 use crate::objects::{feature_part, feature_shape};
 use crate::pairs::Whole;
@@ -165,22 +165,26 @@ fn read_properties(
     text: &[u8],
     base: u32,
     at: usize,
+    others: &mut OtherNames,
 ) -> Result<PropertiesRead, Halt>
     requires inside { at ≤ length text.now }
     requires fits { base + length text.now ≤ 2 ^ 28 }
-    ensures { IfOk result (ReadsProperties algebra.now base text.now at) }
+    requires names { ArePlainOthers text.now others.old }
+    ensures reads { IfOk result (ReadsProperties algebra.now base text.now at) }
+    ensures names { IfOk result (λ _. ArePlainOthers text.now others.new) }
 {
     let first = skip_spaces(text, at);
     if !stands(text, first, b'{') {
         return other_properties(algebra, alloc, text, base, at);
     }
-    match pass_object(algebra, alloc, text, base, first) {
+    match pass_object(algebra, alloc, text, base, first, others) {
         Ok(VoidRead { end, met }) => Ok(PropertiesRead {
             end: skip_spaces(text, end),
             hold: algebra.all_met(met),
         }),
         Err(Halt::Memory) => Err(Halt::Memory),
         Err(Halt::At(place)) => if is_read_again(algebra, text, first, place) {
+            *others = OtherNames::none(alloc);
             other_properties(algebra, alloc, text, base, at)
         } else {
             Err(Halt::At(place))
@@ -285,12 +289,15 @@ fn properties_member(
     base: u32,
     at: usize,
     members: &mut FeatureMembers,
+    others: &mut OtherNames,
 ) -> Result<usize, Halt>
     requires inside { at ≤ length text.now }
     requires fits { base + length text.now ≤ 2 ^ 28 }
-    ensures { IfOk result (ReadsField algebra.now base text.now at Field.Properties members.old members.new) }
+    requires names { ArePlainOthers text.now others.old }
+    ensures reads { IfOk result (ReadsField algebra.now base text.now at Field.Properties members.old members.new) }
+    ensures names { IfOk result (λ _. ArePlainOthers text.now others.new) }
 {
-    let PropertiesRead { end, hold } = read_properties(algebra, alloc, text, base, at)?;
+    let PropertiesRead { end, hold } = read_properties(algebra, alloc, text, base, at, others)?;
     if members.has_properties {
         return Err(Halt::At(end));
     }
@@ -310,25 +317,36 @@ fn read_member(
     base: u32,
     name: FieldName,
     members: &mut FeatureMembers,
-    others: &mut OtherNames,
+    names: &mut TableNames,
 ) -> Result<usize, Halt>
     requires inside { name.place.colon < length text.now }
     requires fits { base + length text.now ≤ 2 ^ 28 }
     requires plain { IsPlainName text.now name.place }
-    requires names { ArePlainOthers text.now others.old }
-    ensures { IfOk result (ReadsMember algebra.now base text.now name members.old members.new others.old others.new) }
+    requires own { ArePlainOthers text.now names.old.own }
+    requires properties { ArePlainOthers text.now names.old.properties }
+    ensures reads { IfOk result (ReadsMember algebra.now base text.now name members.old members.new names.old.own
+        names.new.own) }
+    ensures properties { IfOk result (λ _. ArePlainOthers text.now names.new.properties) }
 {
     let at = name.place.colon + 1;
     match name.field {
         Field::Kind => kind_member(algebra, text, base, at, members),
         Field::Geometry => geometry_member(algebra, alloc, text, base, at, members),
-        Field::Properties => properties_member(algebra, alloc, text, base, at, members),
+        Field::Properties => properties_member(
+            algebra,
+            alloc,
+            text,
+            base,
+            at,
+            members,
+            &mut names.properties,
+        ),
         Field::Other => {
             let begun = members.has_begun();
-            if !begun && others.count >= EARLY {
+            if !begun && names.own.count >= EARLY {
                 return Err(Halt::At(OTHER_KIND));
             }
-            add_other(text, others, name.place)?;
+            add_other(text, &mut names.own, name.place)?;
             if begun {
                 pass_other(algebra, alloc, text, base, at, DEEPEST)
             } else {
@@ -460,19 +478,24 @@ pub fn read_feature(
     text: &[u8],
     base: u32,
     at: usize,
+    names: &mut TableNames,
 ) -> Result<FeatureRead, Halt>
     requires inside { at < length text.now }
     requires opens { slice_index text.now at ≡ 0x7B }
     requires fits { base + length text.now ≤ 2 ^ 28 }
-    ensures { IfOk result (IsFeatureRead algebra.now base text.now at) }
+    requires own { ArePlainOthers text.now names.old.own }
+    requires properties { ArePlainOthers text.now names.old.properties }
+    ensures reads { IfOk result (IsFeatureRead algebra.now base text.now at) }
+    ensures own { IfOk result (λ _. ArePlainOthers text.now names.new.own) }
+    ensures properties { IfOk result (λ _. ArePlainOthers text.now names.new.properties) }
 {
     let feature = base + at as u32;
     let mut members = FeatureMembers::none(algebra);
-    let mut others = OtherNames::none(alloc);
+    names.own.begin();
     let mut place = at + 1;
     'members: loop {
         let name = field_name(text, place)?;
-        let end = read_member(algebra, alloc, text, base, name, &mut members, &mut others)?;
+        let end = read_member(algebra, alloc, text, base, name, &mut members, names)?;
         if stands(text, end, b'}') {
             return ended_feature(algebra, alloc, feature, end + 1, members);
         }
@@ -495,7 +518,8 @@ pub fn feature_value(
     requires unasked { list_any looks_at_texts algebra.now.query.tests ≡ false }
     ensures { IfOk result (IsWhole algebra.now base text.now at) }
 {
-    let FeatureRead { end, part } = read_feature(algebra, alloc, text, base, at)?;
+    let mut names = TableNames::none(alloc);
+    let FeatureRead { end, part } = read_feature(algebra, alloc, text, base, at, &mut names)?;
     let texts = TextPairs::from_vec(Vec::new(alloc));
     let roles = new_roles(alloc, Role::Feature(part), texts)?;
     let atom = GeoAtom::Object(ObjectAtom {

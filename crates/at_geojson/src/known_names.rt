@@ -47,7 +47,7 @@ fn same_lanes(text: &[u8], at: usize, word: &[u8]) -> usize
 
 /// Whether the first bytes of the word, so many, stand at the place. Near the end of the text the answer is no.
 #[inline(always)]
-fn stands_word(text: &[u8], at: usize, word: &[u8], count: usize) -> bool
+pub fn stands_word(text: &[u8], at: usize, word: &[u8], count: usize) -> bool
     requires { 16 ≤ length word.now }
     ensures { result ≡ true → StandsWord text.now at word.now count }
 {

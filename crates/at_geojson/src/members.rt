@@ -1,20 +1,21 @@
 //! The members of an object whose names are plain, read without a copy of a name.
 
-ghost use Rattle.std.specs.Prelude.{◌≡◌, ℕ, List, ◌≤◌, ◌^◌, All, bytes_eq, false, length, IfOk};
+ghost use Rattle.std.specs.Prelude.{◌≡◌, ℕ, List, ◌≤◌, ◌^◌, All, bytes_eq, true, false, length, IfOk, IfSome};
 ghost use Rattle.at_fixed.specs.NumberSoFar.{between};
 ghost use Rattle.at_lex.specs.Spans.{AreSpaces};
 ghost use Rattle.at_geojson.specs.Places.{IsNameAt, IsSimpleTextAt};
 ghost use Rattle.at_geojson.specs.Fields.{field_of};
 ghost use Rattle.at_geojson.specs.Members.{name_in, IsPlainName, is_named_among, is_among_others, ArePlainOthers};
+ghost use Rattle.at_geojson.specs.Members.{known_in, ArePlaced, ArePlainNames, IsExpected, IsNextName, AreCut};
 ghost use Rattle.at_geojson.specs.Members.{AddsName, IsNewName, IsOtherName, AddsOther};
 ghost use Rattle.at_geojson.specs.KnownNames.{IsFieldName};
 
 use crate::fields::{Field, Fields, field_named, is_other};
 use crate::hashes::hash_of_tail;
-use crate::known_names::known_name;
+use crate::known_names::{known_name, stands_word};
 use crate::places::{NamePlace, ended_name, name_place, skip_spaces};
 use crate::scalars::is_simple;
-use crate::short_texts::short_text_end;
+use crate::short_texts::{LANES, short_text_end};
 use at_text::Halt;
 use std::alloc::Global;
 
@@ -31,12 +32,24 @@ pub struct OtherName {
     pub hash: u64,
 }
 
-/// The names of an object's members for which no kind asks: the first few in place, and the others in memory.
+/// The names of an object's members for which no kind asks: the first of those that are known. Those behind them are
+/// names of the object before it, which are expected in the same order. The first few known names stand in place, and
+/// the others in memory.
 #[derive(Drop)]
 pub struct OtherNames {
+    /// So many of the known names are the object's.
     pub count: usize,
+    /// So many of the known names stand in place.
+    pub placed: usize,
     pub near: [OtherName; NEAR],
     pub far: Vec<OtherName>,
+}
+
+/// The names of members for which no kind asks, of a feature and of its properties. Tables repeat them.
+#[derive(Drop)]
+pub struct TableNames {
+    pub own: OtherNames,
+    pub properties: OtherNames,
 }
 
 /// The name of a member, and which member it is.
@@ -150,6 +163,7 @@ impl OtherNames {
         };
         OtherNames {
             count: 0,
+            placed: 0,
             near: [OtherName {
                 place: nowhere,
                 hash: 0,
@@ -158,13 +172,51 @@ impl OtherNames {
         }
     }
 
-    /// Whether a name is among them.
-    fn has(&self, text: &[u8], name: OtherName) -> bool
-        requires names { ArePlainOthers text.now self.now }
-        requires name { IsOtherName text.now name }
-        ensures { result ≡ is_among_others text.now self.now (name_in text.now name.place) }
+    /// No names of the next object: those of the object before it are expected.
+    #[inline(always)]
+    pub fn begin(&mut self)
+        ensures plain { (w : List ℕ) → ArePlainOthers w self.old → ArePlainOthers w self.new }
+        ensures none { (w name : List ℕ) → is_among_others w self.new name ≡ false }
     {
-        if is_among(text, &self.near[..self.count], name) {
+        self.count = 0;
+    }
+
+    /// The name that is expected next.
+    #[inline(always)]
+    fn expected(&self) -> Option<OtherName>
+        requires { ArePlaced self.now }
+        ensures { IfSome result (IsExpected self.now) }
+    {
+        if self.count < self.placed {
+            return Some(self.near[self.count]);
+        }
+        match self.far.as_slice().get(self.count - self.placed) {
+            Some(name) => Some(*name),
+            None => None,
+        }
+    }
+
+    /// Forgets the names that are expected.
+    fn cut(&mut self)
+        requires { ArePlaced self.old }
+        ensures { AreCut self.old self.new }
+    {
+        if self.count < self.placed {
+            self.placed = self.count;
+            self.far.truncate(0);
+        } else {
+            self.far.truncate(self.count - self.placed);
+        }
+    }
+
+    /// Whether a name is among the known ones.
+    fn knows(&self, text: &[u8], name: OtherName) -> bool
+        requires placed { ArePlaced self.now }
+        requires names { All (IsOtherName text.now) (known_in self.now) }
+        requires name { IsOtherName text.now name }
+        ensures { result ≡ is_named_among text.now (known_in self.now) (name_in text.now name.place) }
+    {
+        if is_among(text, &self.near[..self.placed], name) {
             return true;
         }
         if self.far.is_empty() {
@@ -175,12 +227,14 @@ impl OtherNames {
 
     /// One more name, unless they are too many.
     #[inline(always)]
-    fn add(&mut self, name: OtherName) -> Result<(), Halt>
-        requires { self.old.count ≤ 8 }
-        ensures { IfOk result (λ _. (w : List ℕ) → AddsOther w name self.old self.new) }
+    fn push(&mut self, name: OtherName) -> Result<(), Halt>
+        requires placed { ArePlaced self.old }
+        requires known { self.old.count ≤ length (known_in self.old) }
+        ensures { IfOk result (λ _. AddsOther name self.old self.new) }
     {
-        if self.count < NEAR {
-            self.near[self.count] = name;
+        if self.placed < NEAR {
+            self.near[self.placed] = name;
+            self.placed += 1;
             self.count += 1;
             return Ok(());
         }
@@ -188,7 +242,20 @@ impl OtherNames {
             return Err(Halt::At(name.place.end));
         }
         self.far.push(name)?;
+        self.count += 1;
         Ok(())
+    }
+}
+
+impl TableNames {
+    /// No names.
+    pub fn none(alloc: Global) -> TableNames
+        ensures { (w : List ℕ) → ArePlainNames w result }
+    {
+        TableNames {
+            own: OtherNames::none(alloc),
+            properties: OtherNames::none(alloc),
+        }
     }
 }
 
@@ -205,6 +272,52 @@ fn other_name(text: &[u8], place: NamePlace) -> OtherName
     }
 }
 
+/// Whether one name is seen to be another: that of a short one is looked at as a whole.
+#[inline(always)]
+fn is_again(text: &[u8], a: NamePlace, b: NamePlace) -> bool
+    requires a { IsPlainName text.now a }
+    requires b { IsPlainName text.now b }
+    ensures { result ≡ true → name_in text.now a ≡ name_in text.now b }
+{
+    let len = a.end - a.first;
+    if len != b.end - b.first {
+        return false;
+    }
+    if len > LANES || text.len() - b.first < LANES {
+        return is_same(text, a, b);
+    }
+    stands_word(text, a.first, &text[b.first..], len)
+}
+
+/// Whether a name is the one that is expected next.
+#[inline(always)]
+fn is_expected(text: &[u8], others: &OtherNames, name: NamePlace) -> bool
+    requires names { ArePlainOthers text.now others.now }
+    requires name { IsPlainName text.now name }
+    ensures { result ≡ true → IsNextName text.now others.now name }
+{
+    match others.expected() {
+        Some(expected) => is_again(text, name, expected.place),
+        None => false,
+    }
+}
+
+/// Puts a name that isn't expected to the object's, unless it is among them.
+fn add_unexpected(text: &[u8], others: &mut OtherNames, name: NamePlace) -> Result<(), Halt>
+    requires names { ArePlainOthers text.now others.old }
+    requires name { IsPlainName text.now name }
+    ensures new { IfOk result (λ _. is_among_others text.now others.old (name_in text.now name) ≡ false) }
+    ensures adds { IfOk result (λ _. AddsName text.now name others.old others.new) }
+{
+    others.cut();
+    let other = other_name(text, name);
+    if others.knows(text, other) {
+        return Err(Halt::At(name.end));
+    }
+    others.push(other)?;
+    Ok(())
+}
+
 /// Puts a name to those of members for which no kind asks, unless it is among them.
 #[inline(always)]
 pub fn add_other(text: &[u8], others: &mut OtherNames, name: NamePlace) -> Result<(), Halt>
@@ -213,12 +326,11 @@ pub fn add_other(text: &[u8], others: &mut OtherNames, name: NamePlace) -> Resul
     ensures new { IfOk result (λ _. is_among_others text.now others.old (name_in text.now name) ≡ false) }
     ensures adds { IfOk result (λ _. AddsName text.now name others.old others.new) }
 {
-    let other = other_name(text, name);
-    if others.has(text, other) {
-        return Err(Halt::At(name.end));
+    if is_expected(text, others, name) {
+        others.count += 1;
+        return Ok(());
     }
-    others.add(other)?;
-    Ok(())
+    add_unexpected(text, others, name)
 }
 
 /// The name of a member that isn't looked at as a whole word.

@@ -216,11 +216,14 @@ pub fn pass_object(
     text: &[u8],
     base: u32,
     at: usize,
+    others: &mut OtherNames,
 ) -> Result<VoidRead, Halt>
     requires inside { at < length text.now }
     requires opens { slice_index text.now at ≡ 0x7B }
     requires fits { base + length text.now ≤ 2 ^ 28 }
-    ensures { IfOk result (IsTexted algebra.now base text.now at) }
+    requires names { ArePlainOthers text.now others.old }
+    ensures reads { IfOk result (IsTexted algebra.now base text.now at) }
+    ensures names { IfOk result (λ _. ArePlainOthers text.now others.new) }
 {
     let first = skip_spaces(text, at + 1);
     if stands(text, first, b'}') {
@@ -229,7 +232,7 @@ pub fn pass_object(
             met: 0,
         });
     }
-    let mut others = OtherNames::none(alloc);
+    others.begin();
     let mut members = VoidMembers {
         named: false,
         met: 0,
@@ -237,7 +240,7 @@ pub fn pass_object(
     let mut place = at + 1;
     'members: loop {
         let name = field_name(text, place)?;
-        let end = pass_member(algebra, alloc, text, base, name, &mut members, &mut others)?;
+        let end = pass_member(algebra, alloc, text, base, name, &mut members, others)?;
         if stands(text, end, b'}') {
             return Ok(VoidRead {
                 end: end + 1,

@@ -12,6 +12,7 @@ use crate::atoms::{GeoAtom, Role};
 use crate::features::{FeatureRead, read_feature};
 use crate::geometries::Geometry;
 use crate::lists::form_at;
+use crate::members::TableNames;
 use crate::objects::feature_part;
 use crate::places::stands;
 use crate::sorts::at_of;
@@ -134,7 +135,8 @@ pub fn feature_front(
     if !stands(text, 0, b'{') {
         return Ok(None);
     }
-    match read_feature(algebra, alloc, text, base, 0) {
+    let mut names = TableNames::none(alloc);
+    match read_feature(algebra, alloc, text, base, 0, &mut names) {
         Ok(FeatureRead { end, part }) => Ok(Some(FeatureFront {
             len: end as u32,
             part,

@@ -1,10 +1,11 @@
 -- Between members: those before were read.
 use Rattle.std.proofs.Common.{◌+◌, ◌-◌, ◌<◌, ◌≤◌, length}
+use Rattle.at_geojson.specs.Members.{ArePlainOthers}
 use Rattle.at_geojson.specs.Features.{AreMembersOf, AreRead}
 use Rattle.at_geojson.proofs.features.read_feature.Given as goal
 
 abbrev pub invariant-members : goal.invariant-members
-invariant-members l = record { order : l.at < l.place; within : l.place ≤ length l.text; read : AreRead l.algebra l.base l.text l.at l.place l.others (λ f. AreMembersOf l.algebra f l.members) }
+invariant-members l = record { order : l.at < l.place; within : l.place ≤ length l.text; properties : ArePlainOthers l.text l.names.properties; read : AreRead l.algebra l.base l.text l.at l.place l.names.own (λ f. AreMembersOf l.algebra f l.members) }
 
 abbrev pub decreases-members : goal.decreases-members
 decreases-members l = length l.text - l.place

@@ -4,9 +4,9 @@ use Rattle.at_geojson.proofs.ValueParts.{item_read}
 use Rattle.at_geojson.proofs.TextReads.{all_met_is}
 use Rattle.at_geojson.proofs.features.read_properties.Goals as goal
 
-pub returns-in-Ok : goal.returns-in-Ok
-returns-in-Ok c =
-    let h = c.in-Ok.ensures in (
+pub returns-in-Ok-clause-reads : goal.returns-in-Ok-clause-reads
+returns-in-Ok-clause-reads c =
+    let h = c.in-Ok.ensures.reads in (
       h.atom,
       item_read c.args.algebra.now c.args.base c.args.text.now c.args.at c.skip_spaces-first.result c.skip_spaces.result (record { end = c.in-Ok.field-0.end; atom = h.atom }) c.skip_spaces-first.ensures.order c.skip_spaces-first.ensures.spaces h.whole
           c.skip_spaces.ensures.order c.skip_spaces.ensures.within c.skip_spaces.ensures.spaces,
