@@ -266,80 +266,6 @@ fn point<S: Maker>(
     Ok(seen_read(spot.end, None, seen))
 }
 
-/// White space, the coordinates of points, and white space.
-fn multi_point<S: Maker>(
-    algebra: &GeoAlgebra,
-    alloc: Global,
-    text: &[u8],
-    base: u32,
-    at: usize,
-) -> Result<SeenRead, Halt>
-    requires inside { at ≤ length text.now }
-    requires fits { base + length text.now ≤ 2 ^ 28 }
-    requires served { S.serves algebra.now.query }
-    ensures { IfOk result (Sees algebra.now (IsCoordinatesItem algebra.now base text.now at Kind.MultiPoint)) }
-{
-    let read = positions_item::<S>(algebra, alloc, S::nothing(), text, base, at)?;
-    let seen = S::see_points(alloc, read.made);
-    Ok(seen_read(read.end, None, seen))
-}
-
-/// White space, the coordinates of a line, and white space.
-#[inline(always)]
-fn line<S: Maker>(
-    algebra: &GeoAlgebra,
-    alloc: Global,
-    text: &[u8],
-    base: u32,
-    at: usize,
-) -> Result<SeenRead, Halt>
-    requires inside { at ≤ length text.now }
-    requires fits { base + length text.now ≤ 2 ^ 28 }
-    requires served { S.serves algebra.now.query }
-    ensures { IfOk result (Sees algebra.now (IsCoordinatesItem algebra.now base text.now at Kind.LineString)) }
-{
-    let read = positions_item::<S>(algebra, alloc, S::nothing(), text, base, at)?;
-    let seen = S::see_lines(alloc, S::first_line(alloc, read.made)?);
-    Ok(seen_read(read.end, read.as_line, seen))
-}
-
-/// White space, the coordinates of lines, and white space.
-fn multi_line<S: Maker>(
-    algebra: &GeoAlgebra,
-    alloc: Global,
-    text: &[u8],
-    base: u32,
-    at: usize,
-) -> Result<SeenRead, Halt>
-    requires inside { at ≤ length text.now }
-    requires fits { base + length text.now ≤ 2 ^ 28 }
-    requires served { S.serves algebra.now.query }
-    ensures { IfOk result (Sees algebra.now (IsCoordinatesItem algebra.now base text.now at Kind.MultiLineString)) }
-{
-    let read = lists_item::<S>(algebra, alloc, S::nothing(), text, base, at)?;
-    let seen = S::see_lines(alloc, read.made);
-    Ok(seen_read(read.end, read.as_lines, seen))
-}
-
-/// White space, the coordinates of a polygon, and white space.
-#[inline(always)]
-fn polygon<S: Maker>(
-    algebra: &GeoAlgebra,
-    alloc: Global,
-    text: &[u8],
-    base: u32,
-    at: usize,
-) -> Result<SeenRead, Halt>
-    requires inside { at ≤ length text.now }
-    requires fits { base + length text.now ≤ 2 ^ 28 }
-    requires served { S.serves algebra.now.query }
-    ensures { IfOk result (Sees algebra.now (IsCoordinatesItem algebra.now base text.now at Kind.Polygon)) }
-{
-    let read = lists_item::<S>(algebra, alloc, S::nothing(), text, base, at)?;
-    let seen = S::see_areas(alloc, S::first_area(alloc, read.made)?);
-    Ok(seen_read(read.end, read.as_rings, seen))
-}
-
 /// White space, the coordinates of polygons, and white space.
 fn multi_polygon<S: Maker>(
     algebra: &GeoAlgebra,
@@ -375,10 +301,24 @@ pub fn coordinates<S: Maker>(
 {
     match kind {
         Kind::Point => point::<S>(algebra, alloc, text, base, at),
-        Kind::MultiPoint => multi_point::<S>(algebra, alloc, text, base, at),
-        Kind::LineString => line::<S>(algebra, alloc, text, base, at),
-        Kind::MultiLineString => multi_line::<S>(algebra, alloc, text, base, at),
-        Kind::Polygon => polygon::<S>(algebra, alloc, text, base, at),
+        Kind::MultiPoint => {
+            let read = positions_item::<S>(algebra, alloc, S::nothing(), text, base, at)?;
+            Ok(seen_read(read.end, None, S::see_points(alloc, read.made)))
+        }
+        Kind::LineString => {
+            let read = positions_item::<S>(algebra, alloc, S::nothing(), text, base, at)?;
+            let lines = S::first_line(alloc, read.made)?;
+            Ok(seen_read(read.end, read.as_line, S::see_lines(alloc, lines)))
+        }
+        Kind::MultiLineString => {
+            let read = lists_item::<S>(algebra, alloc, S::nothing(), text, base, at)?;
+            Ok(seen_read(read.end, read.as_lines, S::see_lines(alloc, read.made)))
+        }
+        Kind::Polygon => {
+            let read = lists_item::<S>(algebra, alloc, S::nothing(), text, base, at)?;
+            let areas = S::first_area(alloc, read.made)?;
+            Ok(seen_read(read.end, read.as_rings, S::see_areas(alloc, areas)))
+        }
         Kind::MultiPolygon => multi_polygon::<S>(algebra, alloc, text, base, at),
         _ => Err(Halt::At(at)),
     }
