@@ -2,23 +2,28 @@
 -- For `add`, `array` and `value`.
 use Rattle.std.proofs.Common.{◌≡◌, ◌≢◌, inl, inr, ℕ, Bool, List, [], ◌∷◌, Some, None, refl, sym, ◌∙◌, ap, subst}
 use Rattle.at_nest.specs.Folds.{AreFolds}
-use Rattle.at_nest.specs.Tree.{array, Trees, no_trees, tree_and}
+use Rattle.at_nest.specs.Tree.{array, Trees, no_trees}
 use Rattle.at_geojson.specs.declared.atoms.GeoAtom.{GeoAtom}
 use Rattle.at_geojson.specs.declared.atoms.GeoAtom.TheVariants as atoms
 use Rattle.at_geojson.specs.declared.sorts.Sort.TheVariants as sorts
 use Rattle.at_geojson.specs.Keeping.{Asked, needs_shapes}
-use Rattle.at_geojson.specs.Atoms.{twin_of, IsRead, IsRun, IsFold, HaveItems}
+use Rattle.at_geojson.specs.Atoms.{twin_of, IsRead, IsRun, IsFold}
 use Rattle.at_geojson.specs.Gathering.{firsts, least_of, rank, sort_of_all, pair_atom, MakesPoints, MakesLists, MakesAreas}
-use Rattle.at_geojson.specs.Arrays.{MakesItems, MakesNumbers}
+use Rattle.at_geojson.specs.Arrays.{MakesItems, MakesNumbers, ClosesItems}
 use Rattle.at_geojson.specs.Names.{items_of}
 use Rattle.at_geojson.proofs.Each.{reads}
 use Rattle.at_geojson.proofs.ItemFolds.{one_each, trees_of_items}
-use Rattle.at_geojson.proofs.ArrayFolds.{points_read, lists_read, areas_read, position_read, no_form, one_number, other_read, items_read, read_folds, HasNoForm, twin_of_pair, empty_read}
+use Rattle.at_geojson.proofs.ArrayFolds.{HasNoForm, empty_read}
+use Rattle.at_geojson.proofs.ArrayReads.{points_read, lists_read, areas_read, position_read, one_number, read_folds, twin_of_pair}
+use Rattle.at_geojson.proofs.MixedFolds.{made_read, made_twin}
 
 module _ (asked : Asked) (at : ℕ) where
-  pub empty_folds : (ts : Trees) → AreFolds (IsFold asked) [] ts → IsFold asked (atoms.Empty at) (array at ts)
-  empty_folds no_trees h = record { twins = refl; read = λ _. empty_read asked at }
-  empty_folds (tree_and t ts) h = absurd h
+  pub empty_folds : IsFold asked (atoms.Empty at) (array at no_trees)
+  empty_folds = record { twins = refl; read = λ _. empty_read asked at }
+
+  -- an array of which each item stands for one tree
+  pub closes_each : (items : List GeoAtom) (r : GeoAtom) → ClosesItems asked at items r → (ts : Trees) → AreFolds (IsFold asked) items ts → IsFold asked r (array at ts)
+  closes_each items r k ts h = subst (λ z. IsFold asked r (array at z)) (trees_of_items ts) (k (items_of ts) (one_each (IsFold asked) (IsRun asked) items ts h))
 
   module _ (items : List GeoAtom) (some : items ≢ []) (twins : firsts twin_of items ≡ None) where
     pub points_fold : (b : Bool) (least : ℕ) (r : GeoAtom) → b ≡ needs_shapes asked.query → least ≡ least_of items → sort_of_all items ≡ sorts.Position → MakesPoints b at least items r
@@ -57,21 +62,9 @@ module _ (asked : Asked) (at : ℕ) where
           (areas_read asked at a aa ts (reads asked (a ∷ aa) ts (subst (λ z. AreFolds (IsFold asked) z ts) e h) (ap (firsts twin_of) (sym e) ∙ twins)) (ap (λ z. rank (sort_of_all z)) (sym e) ∙ ap rank es) r
           (subst (λ z. MakesAreas (needs_shapes asked.query) at (least_of z) z r) e m2))
 
-    made_twin : (r : GeoAtom) → MakesItems asked at items r → twin_of r ≡ None
-    made_twin r (inl h) = ap twin_of h.1
-    made_twin r (inr m) = ap twin_of m.1
-
-    made_read : (r : GeoAtom) (a : GeoAtom) (aa : List GeoAtom) (ts : Trees) (h : AreFolds (IsRead asked) (a ∷ aa) ts) → HasNoForm asked at ts → MakesItems asked at (a ∷ aa) r → IsRead asked r (array at ts)
-    made_read r a aa ts h f (inl m) = subst (λ z. IsRead asked z (array at ts)) (sym m.1) (other_read asked at a aa ts h f m.0)
-    made_read r a aa ts h f (inr m) = let have = subst (HaveItems asked m.0.items.value) (trees_of_items ts) (m.3 (items_of ts) (one_each (IsRead asked) (IsRun asked) (a ∷ aa) ts h)) in subst (λ z. IsRead asked z (array at ts)) (sym m.1) (items_read asked at ts m.0 m.2 f have.0 have.1)
-
-    pub items_fold : (r : GeoAtom) → sort_of_all items ≡ sorts.Other → MakesItems asked at items r → (ts : Trees) → AreFolds (IsFold asked) items ts → IsFold asked r (array at ts)
-    items_fold r es m ts h = go items refl where
-      go : (aa : List GeoAtom) → items ≡ aa → IsFold asked r (array at ts)
-      go [] e = absurd (some e)
-      go (a ∷ aa) e =
-          let read = reads asked (a ∷ aa) ts (subst (λ z. AreFolds (IsFold asked) z ts) e h) (ap (firsts twin_of) (sym e) ∙ twins) in
-          read_folds asked at items ts r h twins (made_twin r m) (made_read r a aa ts read (no_form asked at a aa ts read (ap (λ z. rank (sort_of_all z)) (sym e) ∙ ap rank es)) (subst (λ z. MakesItems asked at z r) e m))
+    made : (r : GeoAtom) (a : GeoAtom) (aa : List GeoAtom) (ts : Trees) (h : AreFolds (IsRead asked) (a ∷ aa) ts) → HasNoForm asked at ts → MakesItems asked at (a ∷ aa) r → IsRead asked r (array at ts)
+    made r a aa ts h f m = subst (λ z. IsRead asked r (array at z)) (trees_of_items ts)
+        (made_read asked at a aa r (items_of ts) (one_each (IsRead asked) (IsRun asked) (a ∷ aa) ts h) (subst (HasNoForm asked at) (sym (trees_of_items ts)) f) m)
 
     pub numbers_fold : (r : GeoAtom) → sort_of_all items ≡ sorts.Number → MakesNumbers asked at items r → (ts : Trees) → AreFolds (IsFold asked) items ts → IsFold asked r (array at ts)
     numbers_fold r es m ts h = go items refl m where
@@ -83,5 +76,5 @@ module _ (asked : Asked) (at : ℕ) where
           (position_read asked at a aa ts read (ap (λ z. rank (sort_of_all z)) (sym e) ∙ ap rank es) r (subst (λ z. pair_atom at (least_of z) z ≡ Some r) e p))
       go (a ∷ aa) e (inr p) =
           let read = reads asked (a ∷ aa) ts (subst (λ z. AreFolds (IsFold asked) z ts) e h) (ap (firsts twin_of) (sym e) ∙ twins) in
-          read_folds asked at items ts r h twins (made_twin r p.1)
-          (made_read r a aa ts read (one_number asked at a aa ts read (ap (λ z. rank (sort_of_all z)) (sym e) ∙ ap rank es) (subst (λ z. pair_atom at (least_of z) z ≡ None) e p.0)) (subst (λ z. MakesItems asked at z r) e p.1))
+          read_folds asked at items ts r h twins (made_twin asked at items r p.1)
+          (made r a aa ts read (one_number asked at a aa ts read (ap (λ z. rank (sort_of_all z)) (sym e) ∙ ap rank es) (subst (λ z. pair_atom at (least_of z) z ≡ None) e p.0)) (subst (λ z. MakesItems asked at z r) e p.1))

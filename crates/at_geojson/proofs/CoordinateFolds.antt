@@ -1,6 +1,7 @@
 -- Arrays of coordinates: what they are made of items that are all of one sort is what the definitions read of the array.
 -- For `add`, `array`, `object` and `value`.
 use Rattle.std.proofs.Common.{◌≡◌, ℕ, zero, suc, ◌-◌, ◌≤◌, pos, Bool, true, false, not, ◌&&◌, ◌||◌, if◌then◌else◌, List, [], ◌∷◌, ◌++◌, length, map, flat_map, slice_get, Option, Some, None, is_some, is_none, option_map, option_and_then, option_to_list, refl, sym, ◌∙◌, ap, subst, arith}
+use Rattle.std.specs.List.{list_all}
 use Rattle.std.specs.Ordering.{int_eq}
 use Rattle.std.proofs.lemmas.Bool.{true≢false, le-ltb}
 use Rattle.std.proofs.lemmas.Option.{none-some}
@@ -16,18 +17,18 @@ use Rattle.at_wkt.proofs.FaultOrder.{first_of-append}
 use Rattle.at_wkt.specs.Positions.{Position, Positions, number_fault as fault_at_number, position_faults, items_faults, faults_of_line, faults_of_ring, pos_of, path_of, is_faultless, closes_with as positions_close, is_closed}
 use Rattle.at_wkt.specs.Meaning.{polygons_of, faults_of_area}
 use Rattle.at_nest.specs.Folds.{AreFolds}
-use Rattle.at_nest.specs.Tree.{array, Trees}
+use Rattle.at_nest.specs.Tree.{array, Trees, no_trees, tree_and}
 use Rattle.at_wkt.proofs.PathAnswers.{first_of-option}
 use Rattle.at_geojson.specs.declared.atoms.GeoAtom.{GeoAtom}
 use Rattle.at_geojson.specs.declared.atoms.GeoAtom.TheVariants as atoms
 use Rattle.at_geojson.specs.Names.{items_of}
 use Rattle.at_geojson.specs.Coordinates.{each, number_at, position_of, position_of_numbers, positions_of, lists_of, area_of, areas_of, if_some_items}
 use Rattle.at_geojson.specs.Keeping.{Asked, needs_shapes, kept}
-use Rattle.at_geojson.specs.Atoms.{nowhere, to_four, NumberView, PositionView, PointsView, ListsView, as_number, as_position, as_points, as_area, as_areas, Alike, IsNumber, IsPosition, IsPoints, IsLists, IsArea, IsAreas, IsRead}
+use Rattle.at_geojson.specs.Atoms.{as_run, nowhere, to_four, NumberView, PositionView, PointsView, ListsView, as_number, as_position, as_points, as_area, as_areas, Alike, IsNumber, IsPosition, IsPoints, IsLists, IsArea, IsAreas, IsRead}
 use Rattle.at_geojson.specs.Gathering.{seen, firsts, are_all, number_value, number_fault, position_value, position_fault, position_atom, position_made, closes, closes_at, closes_with, last_atom, MakesPoints, fault_as_line, fault_as_ring, path_in, MakesLists, area_fault, rings_in, polygon_in, MakesAreas}
 use Rattle.at_geojson.proofs.Firsts.{firsts-cons}
 use Rattle.at_geojson.proofs.Each.{folds_map, none_left, none_behind, Is, EachIs, all_some, some_none, firsts_each, values_each, length_each}
-use Rattle.at_geojson.proofs.SortFacts.{is_number, is_position, is_points, is_area, all_same}
+use Rattle.at_geojson.proofs.SortFacts.{is_number, is_position, is_points, is_area}
 
 -- ---- small facts
 
@@ -101,6 +102,12 @@ module _ (asked : Asked) where
 
   -- ---- the roles of items of an array
 
+  all_same : (p q : GeoAtom → Bool) → ((a : GeoAtom) → as_run a ≡ None → p a ≡ q a) → (aa : List GeoAtom) (ts : Trees) → AreFolds (IsRead asked) aa ts → list_all p aa ≡ list_all q aa
+  all_same p q same [] no_trees h = refl
+  all_same p q same (a ∷ aa) (tree_and t ts) h = ap (λ b. b && list_all p aa) (same a h.0.single) ∙ ap (λ b. q a && b) (all_same p q same aa ts h.1)
+  all_same p q same [] (tree_and t ts) h = absurd h
+  all_same p q same (a ∷ aa) no_trees h = absurd h
+
   module _ (at : ℕ) (aa : List GeoAtom) (ts : Trees) (h : AreFolds (IsRead asked) aa ts) where
     numbers : AreFolds (λ a t. Alike (IsNumber asked) (as_number a) (number_at t)) aa ts
     numbers = folds_map (IsRead asked) (λ a t. Alike (IsNumber asked) (as_number a) (number_at t)) (λ a t r. r.coordinates.number) aa ts h
@@ -115,31 +122,31 @@ module _ (asked : Asked) where
     areas = folds_map (IsRead asked) (λ a t. Alike (IsArea asked) (as_area a) (area_of t)) (λ a t r. r.coordinates.area) aa ts h
 
     pub some_numbers : are_all 1 aa ≡ true → (ys : List (Numeral × ℕ)) × (each number_at (items_of ts) ≡ Some ys) × EachIs number_at as_number (IsNumber asked) aa ys
-    some_numbers e = all_some number_at as_number (IsNumber asked) aa ts numbers (all_same (λ a. is_some (as_number a)) _ is_number aa ∙ e)
+    some_numbers e = all_some number_at as_number (IsNumber asked) aa ts numbers (all_same (λ a. is_some (as_number a)) _ (λ a n. is_number a) aa ts h ∙ e)
 
     pub some_positions : are_all 2 aa ≡ true → (ys : List Position) × (each position_of (items_of ts) ≡ Some ys) × EachIs position_of as_position (IsPosition asked) aa ys
-    some_positions e = all_some position_of as_position (IsPosition asked) aa ts positions (all_same (λ a. is_some (as_position a)) _ is_position aa ∙ e)
+    some_positions e = all_some position_of as_position (IsPosition asked) aa ts positions (all_same (λ a. is_some (as_position a)) _ is_position aa ts h ∙ e)
 
     pub some_lines : are_all 3 aa ≡ true → (ys : List Positions) × (each positions_of (items_of ts) ≡ Some ys) × EachIs positions_of as_points (IsPoints asked) aa ys
-    some_lines e = all_some positions_of as_points (IsPoints asked) aa ts lines (all_same (λ a. is_some (as_points a)) _ is_points aa ∙ e)
+    some_lines e = all_some positions_of as_points (IsPoints asked) aa ts lines (all_same (λ a. is_some (as_points a)) _ is_points aa ts h ∙ e)
 
     pub some_areas : are_all 4 aa ≡ true → (ys : List (List Positions)) × (each area_of (items_of ts) ≡ Some ys) × EachIs area_of as_area (IsArea asked) aa ys
-    some_areas e = all_some area_of as_area (IsArea asked) aa ts areas (all_same (λ a. is_some (as_area a)) _ is_area aa ∙ e)
+    some_areas e = all_some area_of as_area (IsArea asked) aa ts areas (all_same (λ a. is_some (as_area a)) _ (λ a n. is_area a) aa ts h ∙ e)
 
     pub no_position : are_all 1 aa ≡ false → position_of (array at ts) ≡ None
-    no_position e = ap (option_and_then position_of_numbers) (some_none number_at as_number (IsNumber asked) aa ts numbers (all_same (λ a. is_some (as_number a)) _ is_number aa ∙ e))
+    no_position e = ap (option_and_then position_of_numbers) (some_none number_at as_number (IsNumber asked) aa ts numbers (all_same (λ a. is_some (as_number a)) _ (λ a n. is_number a) aa ts h ∙ e))
 
     pub no_points : are_all 2 aa ≡ false → positions_of (array at ts) ≡ None
-    no_points e = ap (option_map (λ items. record { at = at; items = items })) (some_none position_of as_position (IsPosition asked) aa ts positions (all_same (λ a. is_some (as_position a)) _ is_position aa ∙ e))
+    no_points e = ap (option_map (λ items. record { at = at; items = items })) (some_none position_of as_position (IsPosition asked) aa ts positions (all_same (λ a. is_some (as_position a)) _ is_position aa ts h ∙ e))
 
     pub no_lists : are_all 3 aa ≡ false → lists_of (array at ts) ≡ None
-    no_lists e = some_none positions_of as_points (IsPoints asked) aa ts lines (all_same (λ a. is_some (as_points a)) _ is_points aa ∙ e)
+    no_lists e = some_none positions_of as_points (IsPoints asked) aa ts lines (all_same (λ a. is_some (as_points a)) _ is_points aa ts h ∙ e)
 
     pub no_area : are_all 3 aa ≡ false → area_of (array at ts) ≡ None
     no_area e = ap (option_and_then if_some_items) (no_lists e)
 
     pub no_areas : are_all 4 aa ≡ false → areas_of (array at ts) ≡ None
-    no_areas e = some_none area_of as_area (IsArea asked) aa ts areas (all_same (λ a. is_some (as_area a)) _ is_area aa ∙ e)
+    no_areas e = some_none area_of as_area (IsArea asked) aa ts areas (all_same (λ a. is_some (as_area a)) _ (λ a n. is_area a) aa ts h ∙ e)
 
   -- ---- numbers
 

@@ -18,6 +18,7 @@ pub mod ListRoles
 pub mod MixedFolds
 pub mod SeriesFolds
 pub mod TrackFolds
+pub mod ArrayReads
 pub mod ArrayAnswers
 pub mod GeometryFolds
 pub mod MemberFolds

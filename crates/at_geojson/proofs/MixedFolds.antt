@@ -1,6 +1,6 @@
--- Arrays of which some items stand for several values, and which are neither all lists of positions nor all positions.
+-- Arrays whose items are not all of one sort, some of which may stand for several values.
 -- For `add`, `array` and `value`.
-use Rattle.std.proofs.Common.{◌≡◌, inl, inr, ℕ, ◌≤◌, min, fold, Bool, true, false, ◌&&◌, ◌||◌, List, [], ◌∷◌, ◌++◌, Option, Some, None, is_some, refl, sym, ◌∙◌, ap, subst, append-nil, append_assoc, option_map, option_and_then, arith}
+use Rattle.std.proofs.Common.{◌≡◌, ◌≢◌, inl, inr, ℕ, suc, ◌≤◌, ◌==◌, min, fold, Bool, true, false, ◌&&◌, List, [], ◌∷◌, ◌++◌, Option, Some, None, refl, sym, ◌∙◌, ap, subst, append-nil, append_assoc, option_map, option_and_then, arith}
 use Rattle.std.specs.List.{list_all, list_any}
 use Rattle.std.proofs.Math.Nat.{min-eq_left}
 use Rattle.std.proofs.lemmas.Bool.{true≢false, or_parts}
@@ -14,12 +14,13 @@ use Rattle.at_geojson.specs.Names.{items_of}
 use Rattle.at_geojson.specs.Coordinates.{each, number_at, position_of, position_of_numbers, positions_of, area_of, if_some_items}
 use Rattle.at_geojson.specs.Roles.{items_reading}
 use Rattle.at_geojson.specs.Keeping.{Asked, needs_shapes}
-use Rattle.at_geojson.specs.Atoms.{twin_of, at_of, no_roles, ListsView, lists_view, TrackView, track_view, as_position, as_points, Alike, HasShape, HasPart, items_features, IsPosition, IsPoints, IsNumber, IsArea, AreSeries, AreTracked, IsRead, IsRun, IsFold, HaveItems}
+use Rattle.at_geojson.specs.Atoms.{twin_of, at_of, no_roles, ListsView, lists_view, TrackView, track_view, as_number, as_position, as_points, as_area, Alike, HasShape, HasPart, items_features, IsPosition, IsPoints, IsNumber, IsArea, AreSeries, AreTracked, IsRead, IsRun, IsFold, HaveItems}
 use Rattle.at_wkt.specs.Positions.{Position, Positions}
-use Rattle.at_geojson.specs.Gathering.{firsts, is_run, is_object, least_of, item_geometries, item_features, JoinsShapes, JoinsFound}
+use Rattle.at_geojson.specs.Gathering.{firsts, rank, sort_of, are_all, sort_of_all, is_object, least_of, item_geometries, item_features, JoinsShapes, JoinsFound}
 use Rattle.at_geojson.specs.Arrays.{MakesItems}
 use Rattle.at_geojson.specs.Series.{is_list}
 use Rattle.at_geojson.specs.Tracks.{is_position}
+use Rattle.at_geojson.proofs.SortFacts.{is_number as number_sort, is_position as position_sort, is_points as points_sort, is_area as area_sort, no_other}
 use Rattle.at_geojson.proofs.Each.{one_none}
 use Rattle.at_geojson.proofs.ArrayFolds.{two_forms, HasNoForm, AreForms, forms_none, IsArrayAtom, array_scalar, plain_object, items_read}
 use Rattle.at_geojson.proofs.ItemFolds.{have_both, have_covers}
@@ -27,48 +28,6 @@ use Rattle.at_geojson.proofs.RunFolds.{items_of_trees, none_each, twins_runs, re
 use Rattle.at_geojson.proofs.ListRoles.{none_here, none_front, none_back, no_each, list_no_number, list_no_position, list_no_area, position_no_number, position_no_list, position_no_area}
 
 -- ---- atoms
-
-not_points : (a : GeoAtom) → is_list a ≡ false → as_points a ≡ None
-not_points (atoms.Twin f) e = refl
-not_points (atoms.Null n) e = refl
-not_points (atoms.Plain n) e = refl
-not_points (atoms.Text x) e = refl
-not_points (atoms.Number x) e = refl
-not_points (atoms.BadNumber f) e = refl
-not_points (atoms.Empty n) e = absurd (true≢false e)
-not_points (atoms.Position x) e = refl
-not_points (atoms.BadPosition x) e = refl
-not_points (atoms.Points x) e = absurd (true≢false e)
-not_points (atoms.Lists x) e = refl
-not_points (atoms.Areas x) e = refl
-not_points (atoms.Other x) e = refl
-not_points (atoms.Items x) e = refl
-not_points (atoms.Void n) e = refl
-not_points (atoms.Object x) e = refl
-not_points (atoms.Run x) e = refl
-not_points (atoms.Series s) e = refl
-not_points (atoms.Track t) e = refl
-
-not_position : (a : GeoAtom) → is_position a ≡ false → as_position a ≡ None
-not_position (atoms.Twin f) e = refl
-not_position (atoms.Null n) e = refl
-not_position (atoms.Plain n) e = refl
-not_position (atoms.Text x) e = refl
-not_position (atoms.Number x) e = refl
-not_position (atoms.BadNumber f) e = refl
-not_position (atoms.Empty n) e = refl
-not_position (atoms.Position x) e = absurd (true≢false e)
-not_position (atoms.BadPosition x) e = absurd (true≢false e)
-not_position (atoms.Points x) e = refl
-not_position (atoms.Lists x) e = refl
-not_position (atoms.Areas x) e = refl
-not_position (atoms.Other x) e = refl
-not_position (atoms.Items x) e = refl
-not_position (atoms.Void n) e = refl
-not_position (atoms.Object x) e = refl
-not_position (atoms.Run x) e = refl
-not_position (atoms.Series s) e = refl
-not_position (atoms.Track t) e = refl
 
 -- an atom without an object is Form in both roles
 pub form_geometries : (a : GeoAtom) → is_object a ≡ false → (no_roles (at_of a)).geometries ≡ item_geometries a
@@ -136,14 +95,14 @@ module _ (asked : Asked) where
       subst (λ z. HaveItems asked (no_roles (fold (λ least b. min least (at_of b)) (min m (at_of a)) aa)) (trees z)) (append_assoc us ps qs ∙ ap (λ z. us ++ z) (sym s))
       (forms_more (us ++ ps) (min m (at_of a)) aa qs (forms_both us ps m (at_of a) h (form_covers a ps none.0 c)) f none.1)
 
-  forms_all : (a : GeoAtom) (aa : List GeoAtom) (ts : List Tree) → AreItemFolds (IsRead asked) (IsRun asked) (a ∷ aa) ts → list_any is_object (a ∷ aa) ≡ false → HaveItems asked (no_roles (least_of (a ∷ aa))) (trees ts)
+  pub forms_all : (a : GeoAtom) (aa : List GeoAtom) (ts : List Tree) → AreItemFolds (IsRead asked) (IsRun asked) (a ∷ aa) ts → list_any is_object (a ∷ aa) ≡ false → HaveItems asked (no_roles (least_of (a ∷ aa))) (trees ts)
   forms_all a aa ts (ps, qs, s, c, f) e =
       let none = or_parts (is_object a) (list_any is_object aa) e in
       let l : min (at_of a) (at_of a) ≡ at_of a = (let k : at_of a ≤ at_of a = omega arith in min-eq_left k) in
       subst (λ n. HaveItems asked (no_roles (fold (λ least b. min least (at_of b)) n aa)) (trees ts)) (sym l)
       (subst (λ z. HaveItems asked (no_roles (fold (λ least b. min least (at_of b)) (at_of a) aa)) (trees z)) (sym s) (forms_more ps (at_of a) aa qs (form_covers a ps none.0 c) f none.1))
 
-  -- ---- items that are not all lists, nor all positions, beside several values
+  -- ---- items that are not all of one sort
 
   -- f gives nothing of an object, of a list of positions and of a position
   record GivesNone {Y : Type 0} (f : Tree → Option Y) : Type 0 where
@@ -165,24 +124,25 @@ module _ (asked : Asked) where
   run_none f n a us (inr (inl (s, e, j))) = no_series f n.lists s.at (lists_view s.lists.value) us j
   run_none f n a us (inr (inr (t, e, j))) = no_track f n.positions t.at (track_view t.track.value) us j
 
-  none_runs : {Y : Type 0} (f : Tree → Option Y) → GivesNone f → (aa : List GeoAtom) (ts : List Tree) → AreItemFolds (IsRead asked) (IsRun asked) aa ts → list_any is_run aa ≡ true → each f ts ≡ None
-  none_runs f n [] ts h e = absurd (true≢false (sym e))
-  none_runs f n (a ∷ aa) ts (us, vs, s, c, h) e = ap (each f) s ∙ go c (none_runs f n aa vs h) where
-    go : Covers (IsRead asked) (IsRun asked) a us → (list_any is_run aa ≡ true → each f vs ≡ None) → each f (us ++ vs) ≡ None
-    go (inl (t, q, r)) more = none_back f us vs (more (ap (λ o. is_some o || list_any is_run aa) (sym r.single) ∙ e))
-    go (inr run) more = none_front f us vs (run_none f n a us run)
+  no_number : (a : GeoAtom) (us : List Tree) → Covers (IsRead asked) (IsRun asked) a us → (rank (sort_of a) == 1) ≡ false → each number_at us ≡ None
+  no_number a us (inl (t, q, r)) k = ap (each number_at) q ∙ none_here number_at t [] (one_none number_at as_number (IsNumber asked) (as_number a) (number_at t) r.coordinates.number (number_sort a ∙ k))
+  no_number a us (inr run) k = run_none number_at (record { objects = λ i ms. refl; lists = list_no_number; positions = position_no_number }) a us run
 
   no_list : (a : GeoAtom) (us : List Tree) → Covers (IsRead asked) (IsRun asked) a us → is_list a ≡ false → each positions_of us ≡ None
-  no_list a us (inl (t, q, r)) k = ap (each positions_of) q ∙ none_here positions_of t [] (one_none positions_of as_points (IsPoints asked) (as_points a) (positions_of t) r.coordinates.points (ap is_some (not_points a k)))
+  no_list a us (inl (t, q, r)) k = ap (each positions_of) q ∙ none_here positions_of t [] (one_none positions_of as_points (IsPoints asked) (as_points a) (positions_of t) r.coordinates.points (points_sort a r.single ∙ k))
   no_list a us (inr (inl (run, e, j))) k = none_each positions_of (λ i ms. refl) us j.some
   no_list a us (inr (inr (inl (s, e, j)))) k = absurd (true≢false (ap is_list (sym e) ∙ k))
   no_list a us (inr (inr (inr (t, e, j)))) k = no_track positions_of position_no_list t.at (track_view t.track.value) us j
 
   no_position : (a : GeoAtom) (us : List Tree) → Covers (IsRead asked) (IsRun asked) a us → is_position a ≡ false → each position_of us ≡ None
-  no_position a us (inl (t, q, r)) k = ap (each position_of) q ∙ none_here position_of t [] (one_none position_of as_position (IsPosition asked) (as_position a) (position_of t) r.coordinates.position (ap is_some (not_position a k)))
+  no_position a us (inl (t, q, r)) k = ap (each position_of) q ∙ none_here position_of t [] (one_none position_of as_position (IsPosition asked) (as_position a) (position_of t) r.coordinates.position (position_sort a r.single ∙ k))
   no_position a us (inr (inl (run, e, j))) k = none_each position_of (λ i ms. refl) us j.some
   no_position a us (inr (inr (inl (s, e, j)))) k = no_series position_of list_no_position s.at (lists_view s.lists.value) us j
   no_position a us (inr (inr (inr (t, e, j)))) k = absurd (true≢false (ap is_position (sym e) ∙ k))
+
+  no_area : (a : GeoAtom) (us : List Tree) → Covers (IsRead asked) (IsRun asked) a us → (rank (sort_of a) == 4) ≡ false → each area_of us ≡ None
+  no_area a us (inl (t, q, r)) k = ap (each area_of) q ∙ none_here area_of t [] (one_none area_of as_area (IsArea asked) (as_area a) (area_of t) r.coordinates.area (area_sort a ∙ k))
+  no_area a us (inr run) k = run_none area_of (record { objects = λ i ms. refl; lists = list_no_area; positions = position_no_area }) a us run
 
   -- where an atom is not of the kind, f gives nothing of some of its trees
   not_all : {Y : Type 0} (f : Tree → Option Y) (kind : GeoAtom → Bool) → ((a : GeoAtom) (us : List Tree) → Covers (IsRead asked) (IsRun asked) a us → kind a ≡ false → each f us ≡ None)
@@ -196,14 +156,13 @@ module _ (asked : Asked) where
   no_form_of : {Y : Type 0} (f : Tree → Option Y) (ts : List Tree) → each f ts ≡ None → each f (items_of (trees ts)) ≡ None
   no_form_of f ts e = ap (each f) (items_of_trees ts) ∙ e
 
-  mixed_form : (at : ℕ) (aa : List GeoAtom) (ts : List Tree) → AreItemFolds (IsRead asked) (IsRun asked) aa ts → list_any is_run aa ≡ true → list_all is_list aa ≡ false → list_all is_position aa ≡ false
-      → HasNoForm asked at (trees ts)
-  mixed_form at aa ts h e k l = record {
-    position = ap (option_and_then position_of_numbers) (no_form_of number_at ts (none_runs number_at (record { objects = λ i ms. refl; lists = list_no_number; positions = position_no_number }) aa ts h e));
-    points = ap (option_map (λ items. record { at = at; items = items })) (no_form_of position_of ts (not_all position_of is_position no_position aa ts h l));
-    lists = no_form_of positions_of ts (not_all positions_of is_list no_list aa ts h k);
-    area = ap (option_and_then if_some_items) (no_form_of positions_of ts (not_all positions_of is_list no_list aa ts h k));
-    areas = no_form_of area_of ts (none_runs area_of (record { objects = λ i ms. refl; lists = list_no_area; positions = position_no_area }) aa ts h e);
+  mixed_form : (at : ℕ) (aa : List GeoAtom) (ts : List Tree) → AreItemFolds (IsRead asked) (IsRun asked) aa ts → ((k : ℕ) → are_all (suc k) aa ≡ false) → HasNoForm asked at (trees ts)
+  mixed_form at aa ts h none = record {
+    position = ap (option_and_then position_of_numbers) (no_form_of number_at ts (not_all number_at (λ a. rank (sort_of a) == 1) no_number aa ts h (none 0)));
+    points = ap (option_map (λ items. record { at = at; items = items })) (no_form_of position_of ts (not_all position_of is_position no_position aa ts h (none 1)));
+    lists = no_form_of positions_of ts (not_all positions_of is_list no_list aa ts h (none 2));
+    area = ap (option_and_then if_some_items) (no_form_of positions_of ts (not_all positions_of is_list no_list aa ts h (none 2)));
+    areas = no_form_of area_of ts (not_all area_of (λ a. rank (sort_of a) == 4) no_area aa ts h (none 3));
   }
 
   -- ---- the atom of such an array
@@ -221,23 +180,26 @@ module _ (asked : Asked) where
     object = plain_object asked r at ts k.at_is k.role k.texts;
   }
 
-  other_read : (at : ℕ) (aa : List GeoAtom) (ts : List Tree) → AreItemFolds (IsRead asked) (IsRun asked) aa ts → list_any is_run aa ≡ true → HasNoForm asked at (trees ts) → list_any is_object aa ≡ false
-      → IsRead asked (atoms.Other (record { at = at; least = least_of aa })) (array at (trees ts))
-  other_read at [] ts h e f n = absurd (true≢false (sym e))
-  other_read at (a ∷ aa) ts h e f n = forms_read (atoms.Other (record { at = at; least = least_of (a ∷ aa) })) at (least_of (a ∷ aa)) (trees ts)
+  other_read : (at : ℕ) (a : GeoAtom) (aa : List GeoAtom) (ts : List Tree) → AreItemFolds (IsRead asked) (IsRun asked) (a ∷ aa) ts → HasNoForm asked at (trees ts) → list_any is_object (a ∷ aa) ≡ false
+      → IsRead asked (atoms.Other (record { at = at; least = least_of (a ∷ aa) })) (array at (trees ts))
+  other_read at a aa ts h f n = forms_read (atoms.Other (record { at = at; least = least_of (a ∷ aa) })) at (least_of (a ∷ aa)) (trees ts)
       (record { at_is = refl; twin = refl; single = refl; null = refl; empty = refl; kind = refl; text = refl; number = refl; role = refl; texts = refl; geometries = refl; features = refl })
       (forms_all a aa ts h n) (forms_none asked at (trees ts) (atoms.Other (record { at = at; least = least_of (a ∷ aa) })) refl refl refl refl refl f)
 
-  mixed_read : (at : ℕ) (aa : List GeoAtom) (r : GeoAtom) (ts : List Tree) → AreItemFolds (IsRead asked) (IsRun asked) aa ts → list_any is_run aa ≡ true → HasNoForm asked at (trees ts) → MakesItems asked at aa r
+  pub made_read : (at : ℕ) (a : GeoAtom) (aa : List GeoAtom) (r : GeoAtom) (ts : List Tree) → AreItemFolds (IsRead asked) (IsRun asked) (a ∷ aa) ts → HasNoForm asked at (trees ts) → MakesItems asked at (a ∷ aa) r
       → IsRead asked r (array at (trees ts))
-  mixed_read at aa r ts h e f (inl m) = subst (λ z. IsRead asked z (array at (trees ts))) (sym m.1) (other_read at aa ts h e f m.0)
-  mixed_read at aa r ts h e f (inr m) = let have = m.3 ts h in subst (λ z. IsRead asked z (array at (trees ts))) (sym m.1) (items_read asked at (trees ts) m.0 m.2 f have.0 have.1)
+  made_read at a aa r ts h f (inl m) = subst (λ z. IsRead asked z (array at (trees ts))) (sym m.1) (other_read at a aa ts h f m.0)
+  made_read at a aa r ts h f (inr m) = let have = m.3 ts h in subst (λ z. IsRead asked z (array at (trees ts))) (sym m.1) (items_read asked at (trees ts) m.0 m.2 f have.0 have.1)
 
-  pub mixed_folds : (at : ℕ) (aa : List GeoAtom) (r : GeoAtom) → firsts twin_of aa ≡ None → list_any is_run aa ≡ true → list_all is_list aa ≡ false → list_all is_position aa ≡ false → MakesItems asked at aa r
+  pub made_twin : (at : ℕ) (aa : List GeoAtom) (r : GeoAtom) → MakesItems asked at aa r → twin_of r ≡ None
+  made_twin at aa r (inl m) = ap twin_of m.1
+  made_twin at aa r (inr m) = ap twin_of m.1
+
+  pub mixed_folds : (at : ℕ) (aa : List GeoAtom) (r : GeoAtom) → aa ≢ [] → firsts twin_of aa ≡ None → rank (sort_of_all aa) ≡ 0 → MakesItems asked at aa r
       → (ts : List Tree) → AreItemFolds (IsFold asked) (IsRun asked) aa ts → IsFold asked r (array at (trees ts))
-  mixed_folds at aa r n e k l m ts h =
-      let read = reads_runs asked aa ts h n in
-      record { twins = made_twin r m ∙ (sym n ∙ twins_runs asked aa ts h); read = λ _. mixed_read at aa r ts read e (mixed_form at aa ts read e k l) m } where
-        made_twin : (q : GeoAtom) → MakesItems asked at aa q → twin_of q ≡ None
-        made_twin q (inl w) = ap twin_of w.1
-        made_twin q (inr w) = ap twin_of w.1
+  mixed_folds at [] r some n e m ts h = absurd (some refl)
+  mixed_folds at (a ∷ aa) r some n e m ts h =
+      let read = reads_runs asked (a ∷ aa) ts h n in
+      record { twins = made_twin at (a ∷ aa) r m ∙ (sym n ∙ twins_runs asked (a ∷ aa) ts h); read = λ _. made_read at a aa r ts read (mixed_form at (a ∷ aa) ts read none) m } where
+        none : (k : ℕ) → are_all (suc k) (a ∷ aa) ≡ false
+        none k = no_other (suc k) a aa (λ q. let z : 0 ≡ suc k = sym e ∙ q in omega (arith, z))

@@ -1,11 +1,11 @@
 -- Arrays of which some items are a run: what their items are one behind another.
 -- For `add`, `array` and `value`.
-use Rattle.std.proofs.Common.{◌≡◌, inl, inr, ◌⊎◌, ℕ, Bool, true, false, ◌||◌, List, [], ◌∷◌, ◌++◌, All, Option, Some, None, is_some, refl, sym, ◌∙◌, ap, subst, append-nil, append_assoc}
+use Rattle.std.proofs.Common.{◌≡◌, inl, inr, ◌⊎◌, ℕ, ◌==◌, Bool, true, false, ◌||◌, List, [], ◌∷◌, ◌++◌, All, Option, Some, None, is_some, refl, sym, ◌∙◌, ap, subst, append-nil, append_assoc}
 use Rattle.std.proofs.Common.{option_map, option_and_then}
 use Rattle.std.specs.List.{list_any}
 use Rattle.std.specs.declared.boxed.Box.{Box}
 use Rattle.std.specs.declared.alloc.Global.{Global}
-use Rattle.std.proofs.lemmas.Bool.{true≢false, or_parts}
+use Rattle.std.proofs.lemmas.Bool.{true≢false, and_parts}
 use Rattle.std.proofs.lemmas.List.Elements.{All-nil, All-cons, All-head, All-tail, All-append}
 use Rattle.std.proofs.lemmas.List.Folds.{list_any-append}
 use Rattle.std.proofs.lemmas.Option.{none-some}
@@ -25,8 +25,8 @@ use Rattle.at_geojson.specs.Coordinates.{each}
 use Rattle.at_geojson.specs.Roles.{texts_of}
 use Rattle.at_geojson.specs.Keeping.{Asked, asked_texts}
 use Rattle.at_geojson.specs.Atoms.{Alike, twin_of, as_run, is_object_tree, object_members, IsRead, IsFold, AreJoined, IsRun, AreOwnItems, IfOwnShape, IfOwnPart, IsOwn}
-use Rattle.at_geojson.specs.Gathering.{firsts, is_run, item_geometries, item_features, JoinsShapes, JoinsFound}
-use Rattle.at_geojson.specs.Arrays.{joins_run, TakesRun}
+use Rattle.at_geojson.specs.Gathering.{firsts, rank, sort_of, are_all, is_object, item_geometries, item_features, JoinsShapes, JoinsFound}
+use Rattle.at_geojson.specs.Arrays.{TakesRun}
 use Rattle.at_geojson.proofs.Firsts.{firsts-cons}
 use Rattle.at_geojson.proofs.Each.{none_left, none_behind}
 use Rattle.at_geojson.proofs.ItemFolds.{last_covers, have_both, have_covers}
@@ -94,46 +94,48 @@ module _ (asked : Asked) where
       let o = sym (firsts-cons twin_of a aa) ∙ e in
       (us, vs, s, read_covers a us c (none_left (twin_of a) (firsts twin_of aa) o), reads_runs aa vs h (none_behind (twin_of a) (firsts twin_of aa) o))
 
-  -- where none is a run, each stands for one tree
-  pub no_runs : (aa : List GeoAtom) (ts : List Tree) → AreItemFolds (IsFold asked) (IsRun asked) aa ts → list_any is_run aa ≡ false → AreFolds (IsFold asked) aa (trees ts)
-  no_runs [] ts h e = subst (λ z. AreFolds (IsFold asked) [] (trees z)) (sym h) tt
-  no_runs (a ∷ aa) ts (us, vs, s, c, h) e = subst (λ z. AreFolds (IsFold asked) (a ∷ aa) (trees z)) (sym s) (go c (no_runs aa vs h (or_parts (is_run a) (list_any is_run aa) e).1)) where
-    go : Covers (IsFold asked) (IsRun asked) a us → AreFolds (IsFold asked) aa (trees vs) → AreFolds (IsFold asked) (a ∷ aa) (trees (us ++ vs))
-    go (inl (t, q, f)) more = subst (λ z. AreFolds (IsFold asked) (a ∷ aa) (trees (z ++ vs))) (sym q) (f, more)
-    go (inr (inl (run, q, j))) more = absurd (true≢false (ap is_run (sym q) ∙ (or_parts (is_run a) (list_any is_run aa) e).0))
-    go (inr (inr (inl (s, q, j)))) more = absurd (true≢false (ap is_run (sym q) ∙ (or_parts (is_run a) (list_any is_run aa) e).0))
-    go (inr (inr (inr (t, q, j)))) more = absurd (true≢false (ap is_run (sym q) ∙ (or_parts (is_run a) (list_any is_run aa) e).0))
+  -- where all are of a sort of which no several values are, each stands for one tree
+  pub single_items : (k : ℕ) → (0 == k) ≡ false → (2 == k) ≡ false → (3 == k) ≡ false → (aa : List GeoAtom) (ts : List Tree) → AreItemFolds (IsFold asked) (IsRun asked) aa ts → are_all k aa ≡ true → AreFolds (IsFold asked) aa (trees ts)
+  single_items k z p l [] ts h e = subst (λ w. AreFolds (IsFold asked) [] (trees w)) (sym h) tt
+  single_items k z p l (a ∷ aa) ts (us, vs, s, c, h) e =
+      let both = and_parts (rank (sort_of a) == k) (are_all k aa) e in
+      subst (λ w. AreFolds (IsFold asked) (a ∷ aa) (trees w)) (sym s) (go c both.0 (single_items k z p l aa vs h both.1)) where
+        go : Covers (IsFold asked) (IsRun asked) a us → (rank (sort_of a) == k) ≡ true → AreFolds (IsFold asked) aa (trees vs) → AreFolds (IsFold asked) (a ∷ aa) (trees (us ++ vs))
+        go (inl (t, q, f)) n more = subst (λ w. AreFolds (IsFold asked) (a ∷ aa) (trees (w ++ vs))) (sym q) (f, more)
+        go (inr (inl (run, q, j))) n more = absurd (true≢false (sym n ∙ (ap (λ w. rank (sort_of w) == k) q ∙ z)))
+        go (inr (inr (inl (x, q, j)))) n more = absurd (true≢false (sym n ∙ (ap (λ w. rank (sort_of w) == k) q ∙ l)))
+        go (inr (inr (inr (x, q, j)))) n more = absurd (true≢false (sym n ∙ (ap (λ w. rank (sort_of w) == k) q ∙ p)))
 
-  -- ---- the atom of an array of which some items stand for several values
+  -- ---- the atom of an array in which some object has equal names
 
   pub twin_runs : (at : ℕ) (aa : List GeoAtom) (ts : List Tree) (fault : Fault) → AreItemFolds (IsFold asked) (IsRun asked) aa ts → firsts twin_of aa ≡ Some fault → IsFold asked (atoms.Twin fault) (array at (trees ts))
   twin_runs at aa ts fault h e = record { twins = sym e ∙ twins_runs aa ts h; read = λ z. absurd (none-some fault (sym z)) }
 
   -- ---- what is put behind an array's items
 
-  joins_is : (a : GeoAtom) → joins_run a ≡ true → ((x : ObjectAtom) × (a ≡ atoms.Object x)) ⊎ ((run : Box Items Global) × (a ≡ atoms.Run run))
-  joins_is (atoms.Object x) e = inl (x, refl)
-  joins_is (atoms.Run run) e = inr (run, refl)
-  joins_is (atoms.Twin f) e = absurd (true≢false (sym e))
-  joins_is (atoms.Null n) e = absurd (true≢false (sym e))
-  joins_is (atoms.Plain n) e = absurd (true≢false (sym e))
-  joins_is (atoms.Text x) e = absurd (true≢false (sym e))
-  joins_is (atoms.Number x) e = absurd (true≢false (sym e))
-  joins_is (atoms.BadNumber f) e = absurd (true≢false (sym e))
-  joins_is (atoms.Empty n) e = absurd (true≢false (sym e))
-  joins_is (atoms.Position x) e = absurd (true≢false (sym e))
-  joins_is (atoms.BadPosition x) e = absurd (true≢false (sym e))
-  joins_is (atoms.Points x) e = absurd (true≢false (sym e))
-  joins_is (atoms.Lists x) e = absurd (true≢false (sym e))
-  joins_is (atoms.Areas x) e = absurd (true≢false (sym e))
-  joins_is (atoms.Other x) e = absurd (true≢false (sym e))
-  joins_is (atoms.Items x) e = absurd (true≢false (sym e))
-  joins_is (atoms.Void n) e = absurd (true≢false (sym e))
-  joins_is (atoms.Series s) e = absurd (true≢false (sym e))
-  joins_is (atoms.Track t) e = absurd (true≢false (sym e))
+  object_is : (a : GeoAtom) → is_object a ≡ true → ((x : ObjectAtom) × (a ≡ atoms.Object x)) ⊎ ((run : Box Items Global) × (a ≡ atoms.Run run))
+  object_is (atoms.Object x) e = inl (x, refl)
+  object_is (atoms.Run run) e = inr (run, refl)
+  object_is (atoms.Twin f) e = absurd (true≢false (sym e))
+  object_is (atoms.Null n) e = absurd (true≢false (sym e))
+  object_is (atoms.Plain n) e = absurd (true≢false (sym e))
+  object_is (atoms.Text x) e = absurd (true≢false (sym e))
+  object_is (atoms.Number x) e = absurd (true≢false (sym e))
+  object_is (atoms.BadNumber f) e = absurd (true≢false (sym e))
+  object_is (atoms.Empty n) e = absurd (true≢false (sym e))
+  object_is (atoms.Position x) e = absurd (true≢false (sym e))
+  object_is (atoms.BadPosition x) e = absurd (true≢false (sym e))
+  object_is (atoms.Points x) e = absurd (true≢false (sym e))
+  object_is (atoms.Lists x) e = absurd (true≢false (sym e))
+  object_is (atoms.Areas x) e = absurd (true≢false (sym e))
+  object_is (atoms.Other x) e = absurd (true≢false (sym e))
+  object_is (atoms.Items x) e = absurd (true≢false (sym e))
+  object_is (atoms.Void n) e = absurd (true≢false (sym e))
+  object_is (atoms.Series s) e = absurd (true≢false (sym e))
+  object_is (atoms.Track t) e = absurd (true≢false (sym e))
 
-  no_twin : (a : GeoAtom) → joins_run a ≡ true → twin_of a ≡ None
-  no_twin a e = elim (joins_is a e) [ inl o ↦ ap twin_of o.1 | inr o ↦ ap twin_of o.1 ]
+  no_twin : (a : GeoAtom) → is_object a ≡ true → twin_of a ≡ None
+  no_twin a e = elim (object_is a e) [ inl o ↦ ap twin_of o.1 | inr o ↦ ap twin_of o.1 ]
 
   pub object_there : (x : ObjectAtom) (t : Tree) → IsRead asked (atoms.Object x) t → is_object_tree t ≡ true
   object_there x t r = go (object_members t) r.object.texts where
@@ -145,17 +147,17 @@ module _ (asked : Asked) where
   no_value : (run : Box Items Global) (t : Tree) → IsFold asked (atoms.Run run) t → ⊥
   no_value run t f = none-some run.value (sym (f.read refl).single)
 
-  some_covers : (a : GeoAtom) (ts : List Tree) → Covers (IsRead asked) (IsRun asked) a ts → joins_run a ≡ true → list_any is_object_tree ts ≡ true
+  some_covers : (a : GeoAtom) (ts : List Tree) → Covers (IsRead asked) (IsRun asked) a ts → is_object a ≡ true → list_any is_object_tree ts ≡ true
   some_covers a ts (inr (inl (run, e, j))) n = j.some
-  some_covers a ts (inr (inr (inl (s, e, j)))) n = absurd (true≢false (sym n ∙ ap joins_run e))
-  some_covers a ts (inr (inr (inr (t, e, j)))) n = absurd (true≢false (sym n ∙ ap joins_run e))
-  some_covers a ts (inl (t, e, r)) n = ap (list_any is_object_tree) e ∙ go (joins_is a n) where
+  some_covers a ts (inr (inr (inl (s, e, j)))) n = absurd (true≢false (sym n ∙ ap is_object e))
+  some_covers a ts (inr (inr (inr (t, e, j)))) n = absurd (true≢false (sym n ∙ ap is_object e))
+  some_covers a ts (inl (t, e, r)) n = ap (list_any is_object_tree) e ∙ go (object_is a n) where
     go : ((x : ObjectAtom) × (a ≡ atoms.Object x)) ⊎ ((run : Box Items Global) × (a ≡ atoms.Run run)) → list_any is_object_tree (t ∷ []) ≡ true
     go (inl (x, q)) = ap (λ b. b || false) (object_there x t (subst (λ z. IsRead asked z t) q r))
     go (inr (run, q)) = absurd (none-some run.value (sym (ap as_run (sym q) ∙ r.single)))
 
   -- an atom that joins a run, and what it is beside the items of that
-  pub joined_covers : (a : GeoAtom) (ts : List Tree) (one : Items) → joins_run a ≡ true → one.geometries ≡ item_geometries a → one.features ≡ item_features a
+  pub joined_covers : (a : GeoAtom) (ts : List Tree) (one : Items) → is_object a ≡ true → one.geometries ≡ item_geometries a → one.features ≡ item_features a
       → Covers (IsFold asked) (IsRun asked) a ts → AreJoined asked one ts
   joined_covers a ts one n eg ef c =
       let read = read_covers a ts c (no_twin a n) in
@@ -170,7 +172,7 @@ module _ (asked : Asked) where
   }
 
   -- the last item is a run, and takes the atom
-  pub adds_to_run : (xs : List GeoAtom) (old new : Box Items Global) (a : GeoAtom) (one : Items) → joins_run a ≡ true → one.geometries ≡ item_geometries a → one.features ≡ item_features a
+  pub adds_to_run : (xs : List GeoAtom) (old new : Box Items Global) (a : GeoAtom) (one : Items) → is_object a ≡ true → one.geometries ≡ item_geometries a → one.features ≡ item_features a
       → JoinsShapes old.value.geometries one.geometries new.value.geometries → JoinsFound old.value.features one.features new.value.features
       → (ts us : List Tree) → AreItemFolds (IsFold asked) (IsRun asked) (xs ++ atoms.Run old ∷ []) ts → Covers (IsFold asked) (IsRun asked) a us
       → AreItemFolds (IsFold asked) (IsRun asked) (xs ++ atoms.Run new ∷ []) (ts ++ us)
@@ -184,11 +186,11 @@ module _ (asked : Asked) where
         old_joined : (vs : List Tree) → Covers (IsFold asked) (IsRun asked) (atoms.Run old) vs → AreJoined asked old.value vs
         old_joined vs (inl (t, q, f)) = absurd (no_value old t f)
         old_joined vs (inr (inl (run, q, r))) = run_is run vs q r
-        old_joined vs (inr (inr (inl (s, q, r)))) = absurd (true≢false (ap joins_run q))
-        old_joined vs (inr (inr (inr (t, q, r)))) = absurd (true≢false (ap joins_run q))
+        old_joined vs (inr (inr (inl (s, q, r)))) = absurd (true≢false (ap is_object q))
+        old_joined vs (inr (inr (inr (t, q, r)))) = absurd (true≢false (ap is_object q))
 
   -- a run of the atom alone
-  pub adds_run : (xs : List GeoAtom) (new : Box Items Global) (a : GeoAtom) → joins_run a ≡ true → new.value.geometries ≡ item_geometries a → new.value.features ≡ item_features a
+  pub adds_run : (xs : List GeoAtom) (new : Box Items Global) (a : GeoAtom) → is_object a ≡ true → new.value.geometries ≡ item_geometries a → new.value.features ≡ item_features a
       → (ts us : List Tree) → AreItemFolds (IsFold asked) (IsRun asked) xs ts → Covers (IsFold asked) (IsRun asked) a us
       → AreItemFolds (IsFold asked) (IsRun asked) (xs ++ atoms.Run new ∷ []) (ts ++ us)
   adds_run xs new a n eg ef ts us h c = folds_append (IsFold asked) (IsRun asked) xs ts (atoms.Run new) us h (inr (inl (new, refl, joined_covers a us new.value n eg ef c)))

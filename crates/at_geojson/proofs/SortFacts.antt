@@ -1,13 +1,13 @@
 -- Which items have which role, told by the sort of all of them.
 -- For `add`, `array`, `object` and `value`.
-use Rattle.std.proofs.Common.{◌≡◌, ℕ, suc, ◌==◌, Bool, true, false, ◌&&◌, ◌||◌, if◌then◌else◌, List, [], ◌∷◌, is_some, refl, sym, ◌∙◌, ap, arith}
-use Rattle.std.specs.List.{list_all, list_any}
+use Rattle.std.proofs.Common.{◌≡◌, ℕ, suc, ◌==◌, Bool, true, false, ◌||◌, if◌then◌else◌, List, [], ◌∷◌, None, is_some, refl, sym, ◌∙◌, ap, arith}
+use Rattle.std.specs.List.{list_any}
 use Rattle.std.proofs.lemmas.Bool.{true≢false, eqb-true, and_parts}
+use Rattle.std.proofs.lemmas.Option.{none-some}
 use Rattle.at_geojson.specs.declared.atoms.GeoAtom.{GeoAtom}
 use Rattle.at_geojson.specs.declared.atoms.GeoAtom.TheVariants as atoms
-use Rattle.at_geojson.specs.declared.atoms.Role.TheVariants as roles
 use Rattle.at_geojson.specs.declared.sorts.Sort.TheVariants as sorts
-use Rattle.at_geojson.specs.Atoms.{as_number, as_position, as_points, as_area, role_of}
+use Rattle.at_geojson.specs.Atoms.{as_run, no_roles, as_number, as_position, as_points, as_area}
 use Rattle.at_geojson.specs.Gathering.{rank, sort_of, are_all, sort_of_all, is_object}
 
 -- ---- one item
@@ -33,47 +33,47 @@ is_number (atoms.Run x) = refl
 is_number (atoms.Series s) = refl
 is_number (atoms.Track t) = refl
 
-pub is_position : (a : GeoAtom) → is_some (as_position a) ≡ (rank (sort_of a) == 2)
-is_position (atoms.Twin f) = refl
-is_position (atoms.Null n) = refl
-is_position (atoms.Plain n) = refl
-is_position (atoms.Text x) = refl
-is_position (atoms.Number x) = refl
-is_position (atoms.BadNumber f) = refl
-is_position (atoms.Empty n) = refl
-is_position (atoms.Position x) = refl
-is_position (atoms.BadPosition x) = refl
-is_position (atoms.Points x) = refl
-is_position (atoms.Lists x) = refl
-is_position (atoms.Areas x) = refl
-is_position (atoms.Other x) = refl
-is_position (atoms.Items x) = refl
-is_position (atoms.Void n) = refl
-is_position (atoms.Object x) = refl
-is_position (atoms.Run x) = refl
-is_position (atoms.Series s) = refl
-is_position (atoms.Track t) = refl
+pub is_position : (a : GeoAtom) → as_run a ≡ None → is_some (as_position a) ≡ (rank (sort_of a) == 2)
+is_position (atoms.Twin f) e = refl
+is_position (atoms.Null n) e = refl
+is_position (atoms.Plain n) e = refl
+is_position (atoms.Text x) e = refl
+is_position (atoms.Number x) e = refl
+is_position (atoms.BadNumber f) e = refl
+is_position (atoms.Empty n) e = refl
+is_position (atoms.Position x) e = refl
+is_position (atoms.BadPosition x) e = refl
+is_position (atoms.Points x) e = refl
+is_position (atoms.Lists x) e = refl
+is_position (atoms.Areas x) e = refl
+is_position (atoms.Other x) e = refl
+is_position (atoms.Items x) e = refl
+is_position (atoms.Void n) e = refl
+is_position (atoms.Object x) e = refl
+is_position (atoms.Run x) e = refl
+is_position (atoms.Series s) e = refl
+is_position (atoms.Track t) e = absurd (none-some (no_roles t.at) (sym e))
 
-pub is_points : (a : GeoAtom) → is_some (as_points a) ≡ (rank (sort_of a) == 3)
-is_points (atoms.Twin f) = refl
-is_points (atoms.Null n) = refl
-is_points (atoms.Plain n) = refl
-is_points (atoms.Text x) = refl
-is_points (atoms.Number x) = refl
-is_points (atoms.BadNumber f) = refl
-is_points (atoms.Empty n) = refl
-is_points (atoms.Position x) = refl
-is_points (atoms.BadPosition x) = refl
-is_points (atoms.Points x) = refl
-is_points (atoms.Lists x) = refl
-is_points (atoms.Areas x) = refl
-is_points (atoms.Other x) = refl
-is_points (atoms.Items x) = refl
-is_points (atoms.Void n) = refl
-is_points (atoms.Object x) = refl
-is_points (atoms.Run x) = refl
-is_points (atoms.Series s) = refl
-is_points (atoms.Track t) = refl
+pub is_points : (a : GeoAtom) → as_run a ≡ None → is_some (as_points a) ≡ (rank (sort_of a) == 3)
+is_points (atoms.Twin f) e = refl
+is_points (atoms.Null n) e = refl
+is_points (atoms.Plain n) e = refl
+is_points (atoms.Text x) e = refl
+is_points (atoms.Number x) e = refl
+is_points (atoms.BadNumber f) e = refl
+is_points (atoms.Empty n) e = refl
+is_points (atoms.Position x) e = refl
+is_points (atoms.BadPosition x) e = refl
+is_points (atoms.Points x) e = refl
+is_points (atoms.Lists x) e = refl
+is_points (atoms.Areas x) e = refl
+is_points (atoms.Other x) e = refl
+is_points (atoms.Items x) e = refl
+is_points (atoms.Void n) e = refl
+is_points (atoms.Object x) e = refl
+is_points (atoms.Run x) e = refl
+is_points (atoms.Series s) e = absurd (none-some (no_roles s.at) (sym e))
+is_points (atoms.Track t) e = refl
 
 pub is_area : (a : GeoAtom) → is_some (as_area a) ≡ (rank (sort_of a) == 4)
 is_area (atoms.Twin f) = refl
@@ -115,42 +115,18 @@ sorted_no_object (atoms.Other x) e = refl
 sorted_no_object (atoms.Items x) e = refl
 sorted_no_object (atoms.Void n) e = refl
 sorted_no_object (atoms.Run x) e = refl
-sorted_no_object (atoms.Series s) e = refl
-sorted_no_object (atoms.Track t) e = refl
-
-pub no_role : (a : GeoAtom) → is_object a ≡ false → role_of a ≡ roles.Nothing
-no_role (atoms.Object x) e = absurd (true≢false e)
-no_role (atoms.Twin f) e = refl
-no_role (atoms.Null n) e = refl
-no_role (atoms.Plain n) e = refl
-no_role (atoms.Text x) e = refl
-no_role (atoms.Number x) e = refl
-no_role (atoms.BadNumber f) e = refl
-no_role (atoms.Empty n) e = refl
-no_role (atoms.Position x) e = refl
-no_role (atoms.BadPosition x) e = refl
-no_role (atoms.Points x) e = refl
-no_role (atoms.Lists x) e = refl
-no_role (atoms.Areas x) e = refl
-no_role (atoms.Other x) e = refl
-no_role (atoms.Items x) e = refl
-no_role (atoms.Void n) e = refl
-no_role (atoms.Run x) e = refl
-no_role (atoms.Series s) e = refl
-no_role (atoms.Track t) e = refl
+sorted_no_object (atoms.Series s) e = absurd (true≢false (sym e))
+sorted_no_object (atoms.Track t) e = absurd (true≢false (sym e))
 
 -- ---- all items
-
-pub all_same : (p q : GeoAtom → Bool) → ((a : GeoAtom) → p a ≡ q a) → (aa : List GeoAtom) → list_all p aa ≡ list_all q aa
-all_same p q h [] = refl
-all_same p q h (a ∷ aa) = ap (λ b. b && list_all p aa) (h a) ∙ ap (λ b. q a && b) (all_same p q h aa)
 
 pub first_of_all : (k : ℕ) (a : GeoAtom) (aa : List GeoAtom) → are_all k (a ∷ aa) ≡ true → rank (sort_of a) ≡ k
 first_of_all k a aa e = eqb-true (rank (sort_of a)) k (and_parts (rank (sort_of a) == k) (are_all k aa) e).0
 
 -- the items are all of the sort that all of them have
-pub all_sorted : (k : ℕ) (a : GeoAtom) (aa : List GeoAtom) → rank (sort_of_all (a ∷ aa)) ≡ suc k → are_all (suc k) (a ∷ aa) ≡ true
-all_sorted k a aa e = go (are_all (rank (sort_of a)) (a ∷ aa)) refl where
+pub all_sorted : (k : ℕ) (aa : List GeoAtom) → rank (sort_of_all aa) ≡ suc k → are_all (suc k) aa ≡ true
+all_sorted k [] e = refl
+all_sorted k (a ∷ aa) e = go (are_all (rank (sort_of a)) (a ∷ aa)) refl where
   go : (b : Bool) → are_all (rank (sort_of a)) (a ∷ aa) ≡ b → are_all (suc k) (a ∷ aa) ≡ true
   go true h = let s : rank (sort_of a) ≡ suc k = ap (λ b. rank (if b then sort_of a else sorts.Other)) (sym h) ∙ e in ap (λ r. are_all r (a ∷ aa)) (sym s) ∙ h
   go false h = absurd (let z : 0 ≡ suc k = ap (λ b. rank (if b then sort_of a else sorts.Other)) (sym h) ∙ e in omega (arith, z))

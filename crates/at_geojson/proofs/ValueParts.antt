@@ -28,7 +28,7 @@ use Rattle.at_wkt.proofs.NumberSteps.{rest_part, rest_to}
 use Rattle.at_nest.specs.declared.algebra.Member.{Member}
 use Rattle.at_nest.specs.declared.algebra.Attempt.TheVariants.{Whole as WholeAttempt}
 use Rattle.at_nest.specs.Folds.{IsScalarText, IsAttempt, AreFolds, AreMemberFolds}
-use Rattle.at_nest.specs.Tree.{Tree, literal, number, text, array, object, no_trees, Spells}
+use Rattle.at_nest.specs.Tree.{Tree, literal, number, text, array, object, Spells}
 use Rattle.at_text.specs.Parts.{At}
 use Rattle.at_nest.specs.Passing.{IsPadded, ItemsBefore, items_of, Named, members_of}
 use Rattle.at_nest.proofs.Ahead.{no_nil}
@@ -440,7 +440,7 @@ module _ (asked : Asked) (base : ℕ) (w : List ℕ) where
     own = tt;
     tree = array (base + at) (items_of []);
     spells = items_empty base w at end h inside opens byte spaces;
-    fold = empty_folds asked (base + at) no_trees tt;
+    fold = empty_folds asked (base + at);
   }
 
   -- ---- objects

@@ -32,10 +32,6 @@ MakesNumbers asked at items r = (pair_atom at (least_of items) items ≡ Some r)
 
 -- ---- items as they come
 
--- what becomes one run
-abbrev pub joins_run : GeoAtom → Bool
-joins_run a = is_object a
-
 -- whatever trees the atoms and the further atom stand for, the new atoms stand for all of them
 abbrev pub Adds : Asked → List GeoAtom → GeoAtom → List GeoAtom → Type 0
 Adds asked old a new = (ts us : List Tree) → AreItemFolds (IsFold asked) (IsRun asked) old ts

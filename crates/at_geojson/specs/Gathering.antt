@@ -2,14 +2,14 @@
 -- this.
 use Rattle.std.specs.Prelude.{◌≡◌, ℕ, ◌-◌, ◌==◌, min, ℤ, pos, Bool, true, false, not, ◌&&◌, ◌||◌, if◌then◌else◌}
 use Rattle.std.specs.Prelude.{bytes_eq, nat_lt, List, [], ◌∷◌, ◌++◌, fold, map, length, Option, Some, None, is_none}
-use Rattle.std.specs.Prelude.{is_some, slice_get}
+use Rattle.std.specs.Prelude.{slice_get}
 use Rattle.std.specs.List.{list_all, list_any}
 use Rattle.std.specs.Ordering.{int_eq}
 use Rattle.std.specs.Prelude.{Result, Ok, Err}
 use Rattle.std.specs.Bool.{⊤}
 use Rattle.at_text.specs.Faults.{fault_at, first_fault}
 use Rattle.at_text.specs.declared.faults.Fault.{Fault}
-use Rattle.at_text.specs.declared.faults.FaultKind.TheVariants.{Twin, Form}
+use Rattle.at_text.specs.declared.faults.FaultKind.TheVariants.{Twin}
 use Rattle.at_geom.specs.declared.positions.Pos.{Pos}
 use Rattle.at_geom.specs.declared.shapes.Polygon.{Polygon}
 use Rattle.at_geom.specs.declared.shapes.Shape.{Shape}
@@ -84,8 +84,10 @@ sort_of (atoms.Number a) = sorts.Number
 sort_of (atoms.BadNumber f) = sorts.Number
 sort_of (atoms.Position a) = sorts.Position
 sort_of (atoms.BadPosition a) = sorts.Position
+sort_of (atoms.Track t) = sorts.Position
 sort_of (atoms.Points a) = sorts.Points
 sort_of (atoms.Empty at) = sorts.Points
+sort_of (atoms.Series s) = sorts.Points
 sort_of (atoms.Lists a) = sorts.Lists
 sort_of _ = sorts.Other
 
@@ -209,20 +211,12 @@ abbrev pub items_kept : GeoAtom → Bool
 items_kept (atoms.Items a) = true
 items_kept _ = false
 
--- several values one behind another
-abbrev pub is_run : GeoAtom → Bool
-is_run a = is_some (as_run a)
-
 -- what an atom is beside those of other items, as geometries and as features
 abbrev pub item_geometries : GeoAtom → Result Shape Fault
 item_geometries a = seen (role_geometry (at_of a) (role_of a)) (λ (items : Items). items.geometries) (as_run a)
 
 abbrev pub item_features : GeoAtom → Result Part Fault
 item_features a = seen (role_item (at_of a) (role_of a)) (λ (items : Items). items.features) (as_run a)
-
--- Form at each item
-abbrev pub form_fault : GeoAtom → Option Fault
-form_fault a = Some (fault_at Form (at_of a))
 
 -- shapes, or parts, one behind another: both, where neither has a fault, and else the first fault
 abbrev pub IsFirst : {X : Type 0} → Fault → Fault → Result X Fault → Type 0

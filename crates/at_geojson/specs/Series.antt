@@ -1,6 +1,6 @@
 -- Lists of positions one behind another in an array, joined as they come. Only contracts of private functions cite
 -- this.
-use Rattle.std.specs.Prelude.{◌≡◌, min, Bool, true, false, ◌||◌, List, [], ◌∷◌, ◌++◌, Option, Some, None, is_none}
+use Rattle.std.specs.Prelude.{◌≡◌, ◌==◌, min, Bool, true, ◌||◌, List, [], ◌∷◌, ◌++◌, Option, Some, None, is_none}
 use Rattle.std.specs.Bool.{⊤}
 use Rattle.std.specs.List.{list_all}
 use Rattle.at_text.specs.Faults.{first_fault}
@@ -15,14 +15,11 @@ use Rattle.at_geojson.specs.declared.atoms.Lists.{Lists}
 use Rattle.at_geojson.specs.declared.atoms.SeriesAtom.{SeriesAtom}
 use Rattle.at_geojson.specs.Keeping.{Asked, kept}
 use Rattle.at_geojson.specs.Atoms.{at_of, lists_view, IsFold, IsRun, AreSeries}
-use Rattle.at_geojson.specs.Gathering.{seen, fault_as_line, fault_as_ring, path_in}
+use Rattle.at_geojson.specs.Gathering.{seen, rank, sort_of, fault_as_line, fault_as_ring, path_in}
 
 -- a list of positions, or several
 abbrev pub is_list : GeoAtom → Bool
-is_list (atoms.Points a) = true
-is_list (atoms.Empty at) = true
-is_list (atoms.Series s) = true
-is_list _ = false
+is_list a = rank (sort_of a) == 3
 
 abbrev pub as_series : GeoAtom → Option SeriesAtom
 as_series (atoms.Series s) = Some s

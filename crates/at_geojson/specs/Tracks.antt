@@ -1,5 +1,5 @@
 -- Positions one behind another in an array, joined as they come. Only contracts of private functions cite this.
-use Rattle.std.specs.Prelude.{◌≡◌, ℕ, ◌+◌, min, Bool, true, false, ◌&&◌, if◌then◌else◌, List, [], ◌∷◌, ◌++◌, All}
+use Rattle.std.specs.Prelude.{◌≡◌, ℕ, ◌+◌, ◌==◌, min, Bool, true, ◌&&◌, if◌then◌else◌, List, [], ◌∷◌, ◌++◌, All}
 use Rattle.std.specs.Prelude.{Option, Some, None, is_none}
 use Rattle.std.specs.Bool.{⊤}
 use Rattle.std.specs.List.{list_all}
@@ -20,14 +20,11 @@ use Rattle.at_geojson.specs.declared.atoms.TrackAtom.{TrackAtom}
 use Rattle.at_geojson.specs.Keeping.{Asked, kept}
 use Rattle.at_geojson.specs.Atoms.{at_of, PositionView, TrackView, track_view, to_four, as_position, IsFold, IsRun}
 use Rattle.at_geojson.specs.Atoms.{AreTracked}
-use Rattle.at_geojson.specs.Gathering.{seen, position_fault, position_value}
+use Rattle.at_geojson.specs.Gathering.{seen, rank, sort_of, position_fault, position_value}
 
 -- a position, or several
 abbrev pub is_position : GeoAtom → Bool
-is_position (atoms.Position a) = true
-is_position (atoms.BadPosition a) = true
-is_position (atoms.Track t) = true
-is_position _ = false
+is_position a = rank (sort_of a) == 2
 
 abbrev pub as_track : GeoAtom → Option TrackAtom
 as_track (atoms.Track t) = Some t

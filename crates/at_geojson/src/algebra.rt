@@ -9,9 +9,10 @@ ghost use Rattle.at_geojson.specs.FeatureRuns.{IsAttemptOf};
 use crate::asked::GeoAlgebra;
 use crate::atoms::GeoAtom;
 use crate::copying::copy_atom;
+use crate::lists::array_atom;
 use crate::object_atoms::object_atom;
 use crate::pairs::Whole;
-use crate::runs::{add_item, closed_array};
+use crate::runs::add_item;
 use crate::scalars::scalar_atom;
 use crate::wholes::{whole_items, whole_value};
 use at_nest::{Algebra, Attempt, Member};
@@ -60,7 +61,7 @@ impl Algebra for GeoAlgebra {
             → AreItemFolds (IsFold self.now) (IsRun self.now) items.items ts
             → IsFold self.now atom (array_tree at (trees ts))) }
     {
-        closed_array(alloc, self, at, items)
+        array_atom(alloc, self, at, items)
     }
 
     fn object(

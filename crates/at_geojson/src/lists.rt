@@ -5,22 +5,22 @@ ghost use Rattle.std.specs.List.{list_any};
 ghost use Rattle.at_text.specs.Faults.{fault_at};
 ghost use Rattle.at_wkt.specs.Meaning.{empty_shape as nothing};
 ghost use Rattle.at_query.specs.Parts.{IsPart};
-ghost use Rattle.at_nest.specs.Tree.{Trees, array as array_tree};
-ghost use Rattle.at_nest.specs.Folds.{AreFolds};
 ghost use Rattle.at_geojson.specs.Atoms.{is_empty as is_empty_atom, as_geometries as geometries_in};
 ghost use Rattle.at_geojson.specs.Atoms.{as_features as features_in, at_of as offset_in, twin_of as twin_in};
 ghost use Rattle.at_geojson.specs.Atoms.{role_of as role_in, role_geometry as geometry_of_role};
-ghost use Rattle.at_geojson.specs.Atoms.{role_item as item_of_role, IsOwn, IsFold, AreOwnItems};
+ghost use Rattle.at_geojson.specs.Atoms.{role_item as item_of_role, IsOwn, AreOwnItems};
 ghost use Rattle.at_geojson.specs.Gathering.{seen, items_kept, firsts, is_object as object_is, item_geometries};
 ghost use Rattle.at_geojson.specs.Gathering.{item_features, JoinsShapes, JoinsFound, AreJoinable};
-ghost use Rattle.at_geojson.specs.Arrays.{JoinsItems, MakesItems, MakesNumbers};
+ghost use Rattle.at_geojson.specs.Arrays.{JoinsItems, MakesItems, MakesNumbers, ClosesItems};
 
 use crate::asked::GeoAlgebra;
 use crate::atoms::{GeoAtom, Items, ItemsAtom, OtherAtom, Role};
-use crate::coordinates::{areas_atom, lists_atom, pair_atom, points_atom};
+use crate::coordinates::{areas_atom, pair_atom};
 use crate::geometries::Geometry;
+use crate::series::series_array;
 use crate::shapes::{empty_shape, joined_shapes};
 use crate::sorts::{Sort, at_of, least_of, sort_of_all};
+use crate::tracks::track_array;
 use crate::twins::first_twin;
 use at_query::{Part, Query, part_merge, part_none};
 use at_text::{Fault, FaultKind, Memory, first_of_two};
@@ -160,7 +160,7 @@ pub fn first_of_forms(at: u32, atom: &GeoAtom) -> Fault
 }
 
 /// Whether a value is an object that has a kind or texts, or several of which one is an object.
-fn is_object(atom: &GeoAtom) -> bool
+pub fn is_object(atom: &GeoAtom) -> bool
     ensures { result ≡ object_is atom.now }
 {
     match atom {
@@ -182,7 +182,7 @@ fn has_objects(atoms: &[GeoAtom]) -> bool
 }
 
 /// An array whose items are not all of one sort of coordinates, or are one number.
-pub fn list_atom(
+fn list_atom(
     alloc: Global,
     algebra: &GeoAlgebra,
     at: u32,
@@ -231,21 +231,21 @@ fn items_atom(
     requires twins { firsts twin_in items.items ≡ None }
     requires some { items.items ≢ [] }
     ensures own { IfOk result (IsOwn algebra.now) }
-    ensures fold { IfOk result (λ atom. (ts : Trees) → AreFolds (IsFold algebra.now) items.items ts
-        → IsFold algebra.now atom (array_tree at ts)) }
+    ensures fold { IfOk result (ClosesItems algebra.now at items.items) }
 {
-    let needs = algebra.needs_shapes();
-    let least = least_of(items.as_slice());
     match sort_of_all(items.as_slice()) {
         Sort::Number => numbers_atom(alloc, algebra, at, items),
-        Sort::Position => points_atom(alloc, needs, at, least, items.as_slice()),
-        Sort::Points => lists_atom(alloc, needs, at, least, items),
-        Sort::Lists => areas_atom(alloc, needs, at, least, items),
+        Sort::Position => track_array(alloc, algebra, at, items),
+        Sort::Points => series_array(alloc, algebra, at, items),
+        Sort::Lists => {
+            let least = least_of(items.as_slice());
+            areas_atom(alloc, algebra.needs_shapes(), at, least, items)
+        }
         Sort::Other => list_atom(alloc, algebra, at, items),
     }
 }
 
-/// An array that begins at the offset.
+/// An array that begins at the offset, with items that stand for several values or without.
 pub fn array_atom(
     alloc: Global,
     algebra: &GeoAlgebra,
@@ -254,8 +254,7 @@ pub fn array_atom(
 ) -> Result<GeoAtom, Memory>
     requires { All (IsOwn algebra.now) items.items }
     ensures own { IfOk result (IsOwn algebra.now) }
-    ensures fold { IfOk result (λ atom. (ts : Trees) → AreFolds (IsFold algebra.now) items.items ts
-        → IsFold algebra.now atom (array_tree at ts)) }
+    ensures fold { IfOk result (ClosesItems algebra.now at items.items) }
 {
     if items.as_slice().is_empty() {
         return Ok(GeoAtom::Empty(at));

@@ -3,22 +3,21 @@
 //! Runs whose features have a hull of many corners are joined as in a binary counter, since a join takes a time that
 //! grows with the corners of both.
 
-ghost use Rattle.std.specs.Prelude.{◌≡◌, ◌++◌, ◌∷◌, [], All, IfOk, IfSome, Ok, None, true};
-ghost use Rattle.std.specs.List.{list_any};
+ghost use Rattle.std.specs.Prelude.{◌≡◌, ◌++◌, ◌∷◌, [], All, IfOk, IfSome, Ok, true};
 ghost use Rattle.at_query.specs.Parts.{JoinsParts};
-ghost use Rattle.at_geojson.specs.Atoms.{twin_of as twin_in, IsOwn, AreOwnItems};
-ghost use Rattle.at_geojson.specs.Gathering.{firsts, is_run as run_is, item_geometries, item_features, JoinsShapes};
+ghost use Rattle.at_geojson.specs.Atoms.{IsOwn, AreOwnItems};
+ghost use Rattle.at_geojson.specs.Gathering.{is_object as object_is, item_geometries, item_features, JoinsShapes};
 ghost use Rattle.at_geojson.specs.Gathering.{JoinsFound, AreJoinable};
-ghost use Rattle.at_geojson.specs.Arrays.{joins_run, Adds, TakesRun, Settles, ClosesItems};
+ghost use Rattle.at_geojson.specs.Arrays.{Adds, TakesRun, Settles};
 
 use crate::asked::GeoAlgebra;
 use crate::atoms::{GeoAtom, Items};
 use crate::geometries::Geometry;
-use crate::lists::{array_atom, form_at, into_items, joined_parts, list_atom};
-use crate::series::{add_list, are_lists, is_list, series_array};
+use crate::lists::{form_at, into_items, is_object, joined_parts};
+use crate::series::join_lists;
 use crate::shapes::joined_shapes;
-use crate::tracks::{add_position, are_positions, is_position, track_array};
-use crate::twins::first_twin;
+use crate::sorts::{Sort, is_of};
+use crate::tracks::join_positions;
 use at_query::{Part, part_merge};
 use at_text::{Fault, Memory, first_of_two};
 use std::alloc::Global;
@@ -26,39 +25,6 @@ use std::mem::replace;
 
 /// Further items are joined into a run one by one while the hull of its features has at most so many corners.
 const LIGHT: usize = 64;
-
-/// Whether an atom stands for several items.
-fn is_run(atom: &GeoAtom) -> bool
-    ensures { result ≡ run_is atom.now }
-{
-    match atom {
-        GeoAtom::Run(_) | GeoAtom::Series(_) | GeoAtom::Track(_) => true,
-        _ => false,
-    }
-}
-
-/// Whether some atom stands for several items.
-fn has_runs(atoms: &[GeoAtom]) -> bool
-    ensures { result ≡ list_any run_is atoms.now }
-{
-    for atom in atoms {
-        if is_run(atom) {
-            return true;
-        }
-    }
-    false
-}
-
-/// Whether an atom joins a run.
-fn joins(atom: &GeoAtom) -> bool
-    ensures { result ≡ joins_run atom.now }
-{
-    match atom {
-        GeoAtom::Object(_) => true,
-        GeoAtom::Run(_) => true,
-        _ => false,
-    }
-}
 
 /// How many corners a part has, where the query asks for a hull.
 fn corners(part: &Part) -> usize {
@@ -193,11 +159,7 @@ fn new_run(alloc: Global, atom: GeoAtom) -> Result<Box<Items>, Memory>
 }
 
 /// Puts an atom behind those of an array's items as it is.
-pub fn push_item(
-    algebra: &GeoAlgebra,
-    items: &mut Vec<GeoAtom>,
-    atom: GeoAtom,
-) -> Result<(), Memory>
+fn push_item(algebra: &GeoAlgebra, items: &mut Vec<GeoAtom>, atom: GeoAtom) -> Result<(), Memory>
     requires items { All (IsOwn algebra.now) items.old.items }
     requires atom { IsOwn algebra.now atom }
     ensures own { IfOk result (λ u. All (IsOwn algebra.now) items.new.items) }
@@ -205,6 +167,23 @@ pub fn push_item(
 {
     items.push(atom)?;
     Ok(())
+}
+
+/// Puts two atoms behind those of an array's items as they are.
+fn push_both(
+    algebra: &GeoAlgebra,
+    items: &mut Vec<GeoAtom>,
+    last: GeoAtom,
+    atom: GeoAtom,
+) -> Result<(), Memory>
+    requires items { All (IsOwn algebra.now) items.old.items }
+    requires last { IsOwn algebra.now last }
+    requires atom { IsOwn algebra.now atom }
+    ensures own { IfOk result (λ u. All (IsOwn algebra.now) items.new.items) }
+    ensures fold { IfOk result (λ u. Adds algebra.now (items.old.items ++ last ∷ []) atom items.new.items) }
+{
+    items.push(last)?;
+    push_item(algebra, items, atom)
 }
 
 /// Puts a run of one atom behind those of an array's items.
@@ -216,7 +195,7 @@ fn start_run(
 ) -> Result<(), Memory>
     requires items { All (IsOwn algebra.now) items.old.items }
     requires atom { IsOwn algebra.now atom }
-    requires joins { joins_run atom ≡ true }
+    requires object { object_is atom ≡ true }
     ensures own { IfOk result (λ u. All (IsOwn algebra.now) items.new.items) }
     ensures fold { IfOk result (λ u. Adds algebra.now items.old.items atom items.new.items) }
 {
@@ -236,7 +215,7 @@ fn join_run(
     requires items { All (IsOwn algebra.now) items.old.items }
     requires before { AreOwnItems algebra.now before.value }
     requires atom { IsOwn algebra.now atom }
-    requires joins { joins_run atom ≡ true }
+    requires object { object_is atom ≡ true }
     ensures own { IfOk result (λ u. All (IsOwn algebra.now) items.new.items) }
     ensures fold { IfOk result (λ u. Adds algebra.now (items.old.items ++ GeoAtom.Run before ∷ []) atom
         items.new.items) }
@@ -322,7 +301,7 @@ fn add_behind_heavy(
     requires items { All (IsOwn algebra.now) items.old.items }
     requires before { AreOwnItems algebra.now before.value }
     requires atom { IsOwn algebra.now atom }
-    requires joins { joins_run atom ≡ true }
+    requires object { object_is atom ≡ true }
     ensures own { IfOk result (λ u. All (IsOwn algebra.now) items.new.items) }
     ensures fold { IfOk result (λ u. Adds algebra.now (items.old.items ++ GeoAtom.Run before ∷ []) atom
         items.new.items) }
@@ -343,7 +322,7 @@ fn add_behind_run(
     requires items { All (IsOwn algebra.now) items.old.items }
     requires before { AreOwnItems algebra.now before.value }
     requires atom { IsOwn algebra.now atom }
-    requires joins { joins_run atom ≡ true }
+    requires object { object_is atom ≡ true }
     ensures own { IfOk result (λ u. All (IsOwn algebra.now) items.new.items) }
     ensures fold { IfOk result (λ u. Adds algebra.now (items.old.items ++ GeoAtom.Run before ∷ []) atom
         items.new.items) }
@@ -352,6 +331,27 @@ fn add_behind_run(
         join_run(alloc, algebra, items, before, atom)
     } else {
         add_behind_heavy(alloc, algebra, items, before, atom)
+    }
+}
+
+/// Puts an object, or several, behind the last of an array's items, which was taken off.
+fn add_object(
+    alloc: Global,
+    algebra: &GeoAlgebra,
+    items: &mut Vec<GeoAtom>,
+    last: GeoAtom,
+    atom: GeoAtom,
+) -> Result<(), Memory>
+    requires items { All (IsOwn algebra.now) items.old.items }
+    requires last { IsOwn algebra.now last }
+    requires atom { IsOwn algebra.now atom }
+    requires object { object_is atom ≡ true }
+    ensures own { IfOk result (λ u. All (IsOwn algebra.now) items.new.items) }
+    ensures fold { IfOk result (λ u. Adds algebra.now (items.old.items ++ last ∷ []) atom items.new.items) }
+{
+    match last {
+        GeoAtom::Run(before) => add_behind_run(alloc, algebra, items, before, atom),
+        other => push_both(algebra, items, other, atom),
     }
 }
 
@@ -366,36 +366,19 @@ fn add_behind(
     requires items { All (IsOwn algebra.now) items.old.items }
     requires last { IsOwn algebra.now last }
     requires atom { IsOwn algebra.now atom }
-    requires joins { joins_run atom ≡ true }
     ensures own { IfOk result (λ u. All (IsOwn algebra.now) items.new.items) }
     ensures fold { IfOk result (λ u. Adds algebra.now (items.old.items ++ last ∷ []) atom items.new.items) }
 {
-    match last {
-        GeoAtom::Run(before) => add_behind_run(alloc, algebra, items, before, atom),
-        other => {
-            items.push(other)?;
-            push_item(algebra, items, atom)
-        }
+    if is_object(&atom) {
+        return add_object(alloc, algebra, items, last, atom);
     }
-}
-
-/// Puts an atom that joins a run behind those of an array's items.
-fn join_item(
-    alloc: Global,
-    algebra: &GeoAlgebra,
-    items: &mut Vec<GeoAtom>,
-    atom: GeoAtom,
-) -> Result<(), Memory>
-    requires items { All (IsOwn algebra.now) items.old.items }
-    requires atom { IsOwn algebra.now atom }
-    requires joins { joins_run atom ≡ true }
-    ensures own { IfOk result (λ u. All (IsOwn algebra.now) items.new.items) }
-    ensures fold { IfOk result (λ u. Adds algebra.now items.old.items atom items.new.items) }
-{
-    match items.pop() {
-        Some(last) => add_behind(alloc, algebra, items, last, atom),
-        None => start_run(alloc, algebra, items, atom),
+    if is_of(&atom, Sort::Points) && is_of(&last, Sort::Points) {
+        return join_lists(alloc, algebra, items, last, atom);
     }
+    if is_of(&atom, Sort::Position) && is_of(&last, Sort::Position) {
+        return join_positions(alloc, algebra, items, last, atom);
+    }
+    push_both(algebra, items, last, atom)
 }
 
 /// Puts an atom behind those of an array's items. Objects one behind another become one run, where nothing stands
@@ -413,71 +396,9 @@ pub fn add_item(
     ensures own { IfOk result (λ u. All (IsOwn algebra.now) items.new.items) }
     ensures fold { IfOk result (λ u. Adds algebra.now items.old.items atom items.new.items) }
 {
-    if joins(&atom) {
-        join_item(alloc, algebra, items, atom)
-    } else if is_list(&atom) {
-        add_list(alloc, algebra, items, atom)
-    } else if is_position(&atom) {
-        add_position(alloc, algebra, items, atom)
-    } else {
-        push_item(algebra, items, atom)
-    }
-}
-
-/// An array of which some items stand for several values, in which no object has equal names.
-fn joined_atom(
-    alloc: Global,
-    algebra: &GeoAlgebra,
-    at: u32,
-    items: Vec<GeoAtom>,
-) -> Result<GeoAtom, Memory>
-    requires own { All (IsOwn algebra.now) items.items }
-    requires twins { firsts twin_in items.items ≡ None }
-    requires runs { list_any run_is items.items ≡ true }
-    ensures own { IfOk result (IsOwn algebra.now) }
-    ensures fold { IfOk result (ClosesItems algebra.now at items.items) }
-{
-    if are_lists(items.as_slice()) {
-        series_array(alloc, algebra, at, items)
-    } else if are_positions(items.as_slice()) {
-        track_array(alloc, algebra, at, items)
-    } else {
-        list_atom(alloc, algebra, at, items)
-    }
-}
-
-/// An array of which some items stand for several values.
-fn runs_atom(
-    alloc: Global,
-    algebra: &GeoAlgebra,
-    at: u32,
-    items: Vec<GeoAtom>,
-) -> Result<GeoAtom, Memory>
-    requires own { All (IsOwn algebra.now) items.items }
-    requires runs { list_any run_is items.items ≡ true }
-    ensures own { IfOk result (IsOwn algebra.now) }
-    ensures fold { IfOk result (ClosesItems algebra.now at items.items) }
-{
-    match first_twin(items.as_slice()) {
-        Some(fault) => Ok(GeoAtom::Twin(fault)),
-        None => joined_atom(alloc, algebra, at, items),
-    }
-}
-
-/// An array that begins at the offset, with items that stand for several values or without.
-pub fn closed_array(
-    alloc: Global,
-    algebra: &GeoAlgebra,
-    at: u32,
-    items: Vec<GeoAtom>,
-) -> Result<GeoAtom, Memory>
-    requires { All (IsOwn algebra.now) items.items }
-    ensures own { IfOk result (IsOwn algebra.now) }
-    ensures fold { IfOk result (ClosesItems algebra.now at items.items) }
-{
-    if has_runs(items.as_slice()) {
-        runs_atom(alloc, algebra, at, items)
-    } else {
-        array_atom(alloc, algebra, at, items)
+    match items.pop() {
+        Some(last) => add_behind(alloc, algebra, items, last, atom),
+        None if is_object(&atom) => start_run(alloc, algebra, items, atom),
+        None => push_item(algebra, items, atom),
     }
 }

@@ -13,34 +13,11 @@ use crate::asked::GeoAlgebra;
 use crate::atoms::{GeoAtom, Lists, ListsAtom, SeriesAtom};
 use crate::coordinates::{fault_as_line, fault_as_ring};
 use crate::copying::copy_positions;
-use crate::runs::push_item;
 use crate::sorts::at_of;
 use at_geom::{Path, Pos};
 use at_text::{Fault, Memory, first_fault};
 use std::alloc::Global;
 use std::mem::replace;
-
-/// Whether an atom is a list of positions, or several.
-pub fn is_list(atom: &GeoAtom) -> bool
-    ensures { result ≡ list_is atom.now }
-{
-    match atom {
-        GeoAtom::Points(_) | GeoAtom::Empty(_) | GeoAtom::Series(_) => true,
-        _ => false,
-    }
-}
-
-/// Whether all atoms are such.
-pub fn are_lists(atoms: &[GeoAtom]) -> bool
-    ensures { result ≡ list_all list_is atoms.now }
-{
-    for atom in atoms {
-        if !is_list(atom) {
-            return false;
-        }
-    }
-    true
-}
 
 /// The first fault as lines.
 fn fault_as_lines(atom: &GeoAtom) -> Option<Fault>
@@ -73,16 +50,25 @@ pub fn exact_path(alloc: Global, path: Vec<Pos>) -> Result<Vec<Pos>, Memory>
     copy_positions(alloc, path.as_slice())
 }
 
-/// The path of a list, with no more room than it needs.
-fn exact_path_of(alloc: Global, atom: GeoAtom) -> Result<Path, Memory>
-    ensures { IfOk result (λ path. path ≡ path_in atom) }
+/// The positions of a list.
+fn positions_of(alloc: Global, atom: GeoAtom) -> Vec<Pos>
+    ensures { result.items ≡ path_in atom }
 {
     match atom {
-        GeoAtom::Points(list) => Ok(Path::from_vec(exact_path(
-            alloc,
-            Box::into_inner(list.points).path,
-        )?)),
-        _ => Ok(Path::from_vec(Vec::new(alloc))),
+        GeoAtom::Points(list) => Box::into_inner(list.points).path,
+        _ => Vec::new(alloc),
+    }
+}
+
+/// The path of a list, with no more room than it needs where it has to be exact.
+fn path_of(alloc: Global, exact: bool, atom: GeoAtom) -> Result<Path, Memory>
+    ensures { IfOk result (λ path. path ≡ path_in atom) }
+{
+    let positions = positions_of(alloc, atom);
+    if exact {
+        Ok(Path::from_vec(exact_path(alloc, positions)?))
+    } else {
+        Ok(Path::from_vec(positions))
     }
 }
 
@@ -90,6 +76,7 @@ fn exact_path_of(alloc: Global, atom: GeoAtom) -> Result<Path, Memory>
 fn with_path(
     alloc: Global,
     needs: bool,
+    exact: bool,
     paths: Vec<Path>,
     atom: GeoAtom,
 ) -> Result<Vec<Path>, Memory>
@@ -99,7 +86,7 @@ fn with_path(
         return Ok(paths);
     }
     let mut paths = paths;
-    let path = exact_path_of(alloc, atom)?;
+    let path = path_of(alloc, exact, atom)?;
     paths.push(path)?;
     Ok(paths)
 }
@@ -125,7 +112,7 @@ fn with_paths(
 {
     match atom {
         GeoAtom::Series(series) => with_further(paths, Box::into_inner(series.lists).paths),
-        other => with_path(alloc, needs, paths, other),
+        other => with_path(alloc, needs, true, paths, other),
     }
 }
 
@@ -171,7 +158,7 @@ fn no_lists(alloc: Global) -> Lists {
 }
 
 /// A series of one list.
-fn one_list(alloc: Global, needs: bool, atom: GeoAtom) -> Result<SeriesAtom, Memory>
+fn one_list(alloc: Global, needs: bool, exact: bool, atom: GeoAtom) -> Result<SeriesAtom, Memory>
     requires { as_series atom ≡ None }
     ensures { IfOk result (Begins needs atom) }
 {
@@ -179,7 +166,7 @@ fn one_list(alloc: Global, needs: bool, atom: GeoAtom) -> Result<SeriesAtom, Mem
     let as_lines = fault_as_line(&atom);
     let as_rings = fault_as_ring(&atom);
     let lists = Lists {
-        paths: with_path(alloc, needs, Vec::new(alloc), atom)?,
+        paths: with_path(alloc, needs, exact, Vec::new(alloc), atom)?,
         as_lines,
         as_rings,
     };
@@ -190,12 +177,12 @@ fn one_list(alloc: Global, needs: bool, atom: GeoAtom) -> Result<SeriesAtom, Mem
 }
 
 /// A series of one list, or the series itself.
-fn new_series(alloc: Global, needs: bool, atom: GeoAtom) -> Result<SeriesAtom, Memory>
+fn new_series(alloc: Global, needs: bool, exact: bool, atom: GeoAtom) -> Result<SeriesAtom, Memory>
     ensures { IfOk result (Begins needs atom) }
 {
     match atom {
         GeoAtom::Series(series) => Ok(series),
-        other => one_list(alloc, needs, other),
+        other => one_list(alloc, needs, exact, other),
     }
 }
 
@@ -216,7 +203,7 @@ fn joined_series(
 }
 
 /// The lists of two atoms one behind the other, put behind those of an array's items.
-fn join_lists(
+pub fn join_lists(
     alloc: Global,
     algebra: &GeoAlgebra,
     items: &mut Vec<GeoAtom>,
@@ -232,55 +219,13 @@ fn join_lists(
     ensures fold { IfOk result (λ u. Adds algebra.now (items.old.items ++ last ∷ []) atom items.new.items) }
 {
     let needs = algebra.needs_shapes();
-    let before = new_series(alloc, needs, last)?;
+    let before = new_series(alloc, needs, true, last)?;
     let joined = joined_series(alloc, needs, before, atom)?;
     items.push(GeoAtom::Series(joined))?;
     Ok(())
 }
 
-/// Puts a list, or several, behind the last of an array's items, which was taken off.
-fn add_behind(
-    alloc: Global,
-    algebra: &GeoAlgebra,
-    items: &mut Vec<GeoAtom>,
-    last: GeoAtom,
-    atom: GeoAtom,
-) -> Result<(), Memory>
-    requires items { All (IsOwn algebra.now) items.old.items }
-    requires last { IsOwn algebra.now last }
-    requires atom { IsOwn algebra.now atom }
-    requires list { list_is atom ≡ true }
-    ensures own { IfOk result (λ u. All (IsOwn algebra.now) items.new.items) }
-    ensures fold { IfOk result (λ u. Adds algebra.now (items.old.items ++ last ∷ []) atom items.new.items) }
-{
-    if is_list(&last) {
-        join_lists(alloc, algebra, items, last, atom)
-    } else {
-        items.push(last)?;
-        push_item(algebra, items, atom)
-    }
-}
-
-/// Puts a list, or several, behind those of an array's items: behind other lists they become one series.
-pub fn add_list(
-    alloc: Global,
-    algebra: &GeoAlgebra,
-    items: &mut Vec<GeoAtom>,
-    atom: GeoAtom,
-) -> Result<(), Memory>
-    requires items { All (IsOwn algebra.now) items.old.items }
-    requires atom { IsOwn algebra.now atom }
-    requires list { list_is atom ≡ true }
-    ensures own { IfOk result (λ u. All (IsOwn algebra.now) items.new.items) }
-    ensures fold { IfOk result (λ u. Adds algebra.now items.old.items atom items.new.items) }
-{
-    match items.pop() {
-        Some(last) => add_behind(alloc, algebra, items, last, atom),
-        None => push_item(algebra, items, atom),
-    }
-}
-
-/// A series behind which the lists of an atom come, or those alone.
+/// A series behind which the lists of an atom come, or those alone. One list alone isn't copied.
 fn series_behind(
     alloc: Global,
     needs: bool,
@@ -291,7 +236,7 @@ fn series_behind(
 {
     match before {
         Some(series) => joined_series(alloc, needs, series, atom),
-        None => new_series(alloc, needs, atom),
+        None => new_series(alloc, needs, false, atom),
     }
 }
 

@@ -1,6 +1,6 @@
 //! What values can be as items of coordinates, and where they begin.
 
-ghost use Rattle.std.specs.Prelude.{◌≡◌};
+ghost use Rattle.std.specs.Prelude.{◌≡◌, ◌==◌};
 ghost use Rattle.at_geojson.specs.Atoms.{at_of as offset_in};
 ghost use Rattle.at_geojson.specs.Gathering.{rank as rank_of, sort_of as the_sort, are_all as all_are};
 ghost use Rattle.at_geojson.specs.Gathering.{sort_of_all as the_sort_of_all, first_sort as the_first_sort};
@@ -14,9 +14,9 @@ pub enum Sort {
     Other = 0,
     /// A number of a position.
     Number = 1,
-    /// A position of a list.
+    /// A position of a list, or several.
     Position = 2,
-    /// A list of positions.
+    /// A list of positions, or several.
     Points = 3,
     /// An area: at least one list of positions.
     Lists = 4,
@@ -36,19 +36,26 @@ fn sort_of(atom: &GeoAtom) -> Sort
 {
     match atom {
         GeoAtom::Number(_) | GeoAtom::BadNumber(_) => Sort::Number,
-        GeoAtom::Position(_) | GeoAtom::BadPosition(_) => Sort::Position,
-        GeoAtom::Points(_) | GeoAtom::Empty(_) => Sort::Points,
+        GeoAtom::Position(_) | GeoAtom::BadPosition(_) | GeoAtom::Track(_) => Sort::Position,
+        GeoAtom::Points(_) | GeoAtom::Empty(_) | GeoAtom::Series(_) => Sort::Points,
         GeoAtom::Lists(_) => Sort::Lists,
         _ => Sort::Other,
     }
 }
 
-/// Whether all values are of the sort of this rank.
-fn are_all(atoms: &[GeoAtom], rank: u8) -> bool
-    ensures { result ≡ all_are rank atoms.now }
+/// Whether a value is of the sort.
+pub fn is_of(atom: &GeoAtom, sort: Sort) -> bool
+    ensures { result ≡ (rank_of (the_sort atom.now) == rank_of sort) }
+{
+    sort_of(atom).rank() == sort.rank()
+}
+
+/// Whether all values are of the sort.
+fn are_all(atoms: &[GeoAtom], sort: Sort) -> bool
+    ensures { result ≡ all_are (rank_of sort) atoms.now }
 {
     for atom in atoms {
-        if sort_of(atom).rank() != rank {
+        if !is_of(atom, sort) {
             return false;
         }
     }
@@ -70,7 +77,7 @@ pub fn sort_of_all(atoms: &[GeoAtom]) -> Sort
     ensures { result ≡ the_sort_of_all atoms.now }
 {
     let sort = first_sort(atoms);
-    if are_all(atoms, sort.rank()) {
+    if are_all(atoms, sort) {
         sort
     } else {
         Sort::Other

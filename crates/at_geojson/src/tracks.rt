@@ -14,7 +14,6 @@ use crate::asked::GeoAlgebra;
 use crate::atoms::{GeoAtom, Points, PointsAtom, Track, TrackAtom};
 use crate::coordinates::{count_to_four, position_fault, position_value};
 use crate::pairs::ROOM;
-use crate::runs::push_item;
 use crate::series::exact_path;
 use crate::sorts::at_of;
 use at_geom::{Pos, line_fault, ring_fault};
@@ -24,28 +23,6 @@ use std::alloc::Global;
 /// A path of at most so many positions is copied to where it has no room left, so that many small ones take no more
 /// memory than they need. A longer one stays: the copy would stand beside it for a while.
 const SHORT: usize = 4096;
-
-/// Whether an atom is a position, or several.
-pub fn is_position(atom: &GeoAtom) -> bool
-    ensures { result ≡ position_is atom.now }
-{
-    match atom {
-        GeoAtom::Position(_) | GeoAtom::BadPosition(_) | GeoAtom::Track(_) => true,
-        _ => false,
-    }
-}
-
-/// Whether all atoms are such.
-pub fn are_positions(atoms: &[GeoAtom]) -> bool
-    ensures { result ≡ list_all position_is atoms.now }
-{
-    for atom in atoms {
-        if !is_position(atom) {
-            return false;
-        }
-    }
-    true
-}
 
 /// Where a position is, if it has no fault.
 fn place_of(atom: &GeoAtom) -> Option<Pos>
@@ -178,7 +155,7 @@ pub fn joined_track(needs: bool, before: TrackAtom, atom: GeoAtom) -> Result<Tra
 }
 
 /// The positions of two atoms one behind the other, put behind those of an array's items.
-fn join_positions(
+pub fn join_positions(
     alloc: Global,
     algebra: &GeoAlgebra,
     items: &mut Vec<GeoAtom>,
@@ -198,48 +175,6 @@ fn join_positions(
     let joined = joined_track(needs, before, atom)?;
     items.push(GeoAtom::Track(joined))?;
     Ok(())
-}
-
-/// Puts a position, or several, behind the last of an array's items, which was taken off.
-fn add_behind(
-    alloc: Global,
-    algebra: &GeoAlgebra,
-    items: &mut Vec<GeoAtom>,
-    last: GeoAtom,
-    atom: GeoAtom,
-) -> Result<(), Memory>
-    requires items { All (IsOwn algebra.now) items.old.items }
-    requires last { IsOwn algebra.now last }
-    requires atom { IsOwn algebra.now atom }
-    requires position { position_is atom ≡ true }
-    ensures own { IfOk result (λ u. All (IsOwn algebra.now) items.new.items) }
-    ensures fold { IfOk result (λ u. Adds algebra.now (items.old.items ++ last ∷ []) atom items.new.items) }
-{
-    if is_position(&last) {
-        join_positions(alloc, algebra, items, last, atom)
-    } else {
-        items.push(last)?;
-        push_item(algebra, items, atom)
-    }
-}
-
-/// Puts a position, or several, behind those of an array's items: behind other positions they become one track.
-pub fn add_position(
-    alloc: Global,
-    algebra: &GeoAlgebra,
-    items: &mut Vec<GeoAtom>,
-    atom: GeoAtom,
-) -> Result<(), Memory>
-    requires items { All (IsOwn algebra.now) items.old.items }
-    requires atom { IsOwn algebra.now atom }
-    requires position { position_is atom ≡ true }
-    ensures own { IfOk result (λ u. All (IsOwn algebra.now) items.new.items) }
-    ensures fold { IfOk result (λ u. Adds algebra.now items.old.items atom items.new.items) }
-{
-    match items.pop() {
-        Some(last) => add_behind(alloc, algebra, items, last, atom),
-        None => push_item(algebra, items, atom),
-    }
 }
 
 /// A track behind which the positions of an atom come, or those alone.

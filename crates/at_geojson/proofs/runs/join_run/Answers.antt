@@ -28,4 +28,4 @@ returns-clause-fold c ts us h k =
     let more = c.into_items-more in
     let joined = c.in_ok-joined in
     subst (λ (z : List GeoAtom). AreItemFolds (IsFold asked) (IsRun asked) z (ts ++ us)) (sym c.in_ok-push.ensures.items)
-    (adds_to_run asked c.args.items.now.items c.args.before joined.joined c.args.atom more.result c.requires.joins more.ensures.geometries more.ensures.features joined.ensures.geometries joined.ensures.features ts us h k)
+    (adds_to_run asked c.args.items.now.items c.args.before joined.joined c.args.atom more.result c.requires.object more.ensures.geometries more.ensures.features joined.ensures.geometries joined.ensures.features ts us h k)

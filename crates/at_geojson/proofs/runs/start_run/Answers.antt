@@ -18,4 +18,4 @@ returns-clause-fold c ts us h k =
     let asked = c.args.algebra.now in
     let started = c.in_ok-started.started in
     subst (λ (z : List GeoAtom). AreItemFolds (IsFold asked) (IsRun asked) z (ts ++ us)) (sym c.in_ok-push.ensures.items)
-    (adds_run asked c.args.items.now.items started c.args.atom c.requires.joins c.in_ok-started.ensures.geometries c.in_ok-started.ensures.features ts us h k)
+    (adds_run asked c.args.items.now.items started c.args.atom c.requires.object c.in_ok-started.ensures.geometries c.in_ok-started.ensures.features ts us h k)

@@ -1,9 +1,0 @@
-use Rattle.std.proofs.Common.{IfOk, List, sym, ◌∙◌, subst, append-nil}
-use Rattle.at_geojson.specs.declared.atoms.GeoAtom.{GeoAtom}
-use Rattle.at_geojson.specs.Arrays.{Adds}
-use Rattle.at_geojson.proofs.runs.join_item.Goals as goal
-
-pub returns-in-None-clause-fold : goal.returns-in-None-clause-fold
-returns-in-None-clause-fold c =
-    let old = c.in-None.ensures.items ∙ append-nil c.pop.new.self.items in
-    subst (λ (z : List GeoAtom). IfOk c.start_run.result (λ u. Adds c.args.algebra.now z c.args.atom c.start_run.new.items.items)) (sym old) c.start_run.ensures.fold
