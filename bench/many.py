@@ -5,7 +5,7 @@ holds. Then a thousand small files, and a collection in which every guessed cut 
 usage: bench/many.py [BYTES]
 
 With BYTES each form has so many instead. Each form is made, cut into files and taken away again, so 2.2 GB take 4.4 GB of
-disk. The environment variable ATGIS names a program that is taken for the one that would be built.
+disk; nothing is timed before they are on it. The environment variable ATGIS names a program that is taken for the one that would be built.
 """
 import math
 import os
@@ -152,6 +152,7 @@ def compare_form(form, tool, atgis, size):
     with tempfile.TemporaryDirectory(dir=measure.DATA) as folder:
         path = made(folder, form, size)
         parts = ready(folder, path)
+        os.sync()
         title = f"{os.path.getsize(path) / 1e9:.1f} GB of {form} in {len(parts)} parts"
         for verb in VERBS:
             ours, memory, theirs = runs_over(tool, atgis, verb, path, parts)
@@ -174,6 +175,7 @@ def compare_small(tool):
         for name in names:
             with open(name, "w", encoding="utf-8") as file:
                 file.write("".join(wkt(source, number) + "\n" for number in range(10)))
+        os.sync()
         runs = [measure.run([*tool, "count", *names]) for _ in range(ROUNDS)]
     measure.same("small files", runs[0].printed, b"%d\n" % (10 * SMALL))
     return measure.tell(f"{SMALL:,} small files, by the clock, against {1000 * GOALS['small']:g} ms each", measure.clocks(runs),
@@ -188,6 +190,7 @@ def compare_wrong(tool, atgis, size):
         path = os.path.join(folder, "wrong.geojson")
         with open(path, "w", encoding="utf-8") as file:
             file.write(HEAD + ",\n".join(texts * max(size // sum(map(len, texts)), 1)) + "\n]\n}\n")
+        os.sync()
         ours, theirs = measure.alternate(([*tool, "--part", "4M", "count", path], [atgis, "--workers=1", "count", path]), ROUNDS)
     measure.same("wrong cuts", ours[0].printed, theirs[0].printed)
     return measure.tell("every guessed cut wrong, processor time", measure.cpus(ours), measure.cpus(theirs), GOALS["wrong"])
