@@ -5,7 +5,8 @@ holds. Then a thousand small files, and a collection in which every guessed cut 
 usage: bench/many.py [BYTES]
 
 With BYTES each form has so many instead. Each form is made, cut into files and taken away again, so 2.2 GB take 4.4 GB of
-disk; nothing is timed before they are on it. The environment variable ATGIS names a program that is taken for the one that would be built.
+disk; nothing is timed before they are on it. The environment variable ATGIS names a program that is taken for the one that
+would be built.
 """
 import math
 import os
