@@ -29,10 +29,10 @@ use Rattle.at_geojson.specs.Objects.{feature_shape, texts_in, texts_named, kept_
 use Rattle.at_geojson.specs.Places.{IsNameAt}
 use Rattle.at_geojson.specs.Fields.{field_of, put_if, is_kind, is_coordinates, is_geometry, is_properties, is_features, is_geometries, is_no_field, value_in, kind_in_fields, IsRoleIn}
 use Rattle.at_geojson.specs.Values.{IsWhole}
-use Rattle.at_geojson.specs.Members.{name_in, IsPlainName, is_among_others, ArePlainOthers, AddsName, EndsFields}
+use Rattle.at_geojson.specs.Members.{name_in, IsPlainName, is_among_others, ArePlainOthers, AddsName, IsNextField, EndsFields}
 use Rattle.at_geojson.specs.TextTests.{met_of, met_by, texts_hold}
 use Rattle.at_geojson.specs.PlainGeometries.{IsKindRead, IsSeen, Sees}
-use Rattle.at_geojson.specs.Features.{IsShapeRead, IsTested, ReadsProperties, IsGeometryOf, AreMembersOf, IsValueRead, IsMemberRead, ReadsOne, AreRead, NameNoKind, MeetsTexts, NamesNoKind, ReadsVoid, IsTexted, EndsFeature, IsFeatureRead}
+use Rattle.at_geojson.specs.Features.{IsShapeRead, IsTested, ReadsProperties, IsGeometryOf, AreMembersOf, IsValueRead, IsMemberRead, ReadsOne, AreRead, NameNoKind, MeetsTexts, NamesNoKind, PassesMember, ReadsVoid, IsTexted, EndsFeature, IsFeatureRead}
 use Rattle.at_geojson.proofs.FieldFolds.{own_feature}
 use Rattle.at_geojson.proofs.ObjectOwns.{own_feature_shape}
 use Rattle.at_geojson.proofs.ValueParts.{heap, member_of, object_read, void_read}
@@ -188,6 +188,11 @@ module _ (asked : Asked) (base : ℕ) (w : List ℕ) where
         },
         r.met,
       )
+
+  -- either of them, behind its name
+  pub member_passed : (n : FieldName) (before after : VoidMembers) (old new : OtherNames) (end : ℕ) → PassesMember asked base w n before after end → IsNextField w old new n → ReadsVoid asked base w n before after old new end
+  member_passed n before after old new end (inl (e, r)) next = let (absent, adds) = next.other (ap is_no_field e) in other_passed n before after old new end e r absent adds
+  member_passed n before after old new end (inr (e, r)) next = subst (λ others. ReadsVoid asked base w n before after old others end) (sym (next.field (ap is_no_field e))) (kind_passed n before after old end e r)
 
   -- what is made of an object with these texts that names no kind
   abbrev texted_atom : ℕ → List TextPair → GeoAtom

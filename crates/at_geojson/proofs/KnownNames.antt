@@ -13,6 +13,9 @@ use lib.Lanes.{chunk, mask_l, top}
 use Rattle.at_fixed.specs.Eights.{first_set}
 use Rattle.at_fixed.specs.NumberSoFar.{between}
 use Rattle.at_fixed.proofs.DigitParts.{part-none}
+use Rattle.at_lex.specs.Strings.{JsonString}
+use Rattle.at_wkt.proofs.NumberSteps.{rest_to}
+use Rattle.at_geojson.specs.Gathering.{is_simple}
 use Rattle.at_lex.specs.Spans.{AreSpaces}
 use Rattle.at_geojson.specs.declared.kinds.Kind.{Kind}
 use Rattle.at_geojson.specs.declared.fields.Field.{Field}
@@ -25,9 +28,9 @@ use Rattle.at_geojson.specs.declared.atoms.GeoAtom.{GeoAtom}
 use Rattle.at_geojson.specs.declared.short_texts.SimpleItem.{SimpleItem}
 use Rattle.at_geojson.specs.PlainGeometries.{IsKindRead}
 use Rattle.at_geojson.specs.declared.places.NamePlace.{NamePlace}
-use Rattle.at_geojson.specs.Places.{is_common, IsSimpleTextAt, IsSimpleItem, IsNameAt}
+use Rattle.at_geojson.specs.Places.{is_common, IsTextAt, IsSimpleTextAt, IsSimpleItem, IsNameAt}
 use Rattle.at_geojson.specs.Fields.{field_of}
-use Rattle.at_geojson.specs.Members.{name_in, IsPlainName}
+use Rattle.at_geojson.specs.Members.{name_in, from_name, IsPlainName}
 use Rattle.at_geojson.specs.KnownNames.{BeginsAlike, StandsWord, IsQuoted, NamesField, NamesKind, IsFieldName, IsKindName}
 use Rattle.at_geojson.proofs.ShortStrings.{short_text}
 use Rattle.at_geojson.proofs.ValueParts.{text_kind, text_units, text_whole, item_read}
@@ -149,6 +152,31 @@ module _ (w : List ℕ) (at : ℕ) (word : List ℕ) (n : ℕ) (s : StandsWord w
         kind = ap kind_of_text (sym (word_inner w at word (n - 1) n h.quoted s more (at + 1) (at + n - 1 - (at + 1)) refl (omega (arith, h.some)))) ∙ h.names;
       }
 
+-- where as many bytes are those of a name
+pub stands_of : (w : List ℕ) (b : NamePlace) (first : ℕ) → IsPlainName w b → first + (b.end - b.first) ≤ length w → take (first + (b.end - b.first) - first) (drop first w) ≡ take (b.end - b.first) (drop b.first w) → StandsWord w first (from_name w b) (b.end - b.first)
+stands_of w b first k within e =
+    let n : ℕ = b.end - b.first in
+    let behind : n ≡ first + n - first = omega arith in
+    record {
+      within = within;
+      same = λ j l. sym (chunk_at w first n j l) ∙ (ap (λ xs. get_or xs j 0) (ap (λ i. take i (drop first w)) behind ∙ e)
+          ∙ (chunk_at w b.first n j l ∙ sym (chunk_at w b.first (length w - b.first) j (omega (arith, l, k.order, k.within)))));
+    }
+
+-- where the bytes of a name stand, that name stands
+pub text_again : (w : List ℕ) (b : NamePlace) (first : ℕ) (word : List ℕ) → IsPlainName w b → word ≡ chunk b.first (length w - b.first) w → StandsWord w first word (b.end - b.first) → IsSimpleTextAt w first (first + (b.end - b.first))
+text_again w b first word k there s =
+    let n : ℕ = b.end - b.first in
+    let behind : first + n - first ≡ n = omega arith in
+    let long_a : length (chunk first n w) ≡ n = length-chunk first n w s.within in
+    let long_b : length (chunk b.first n w) ≡ n = length-chunk b.first n w (omega (arith, k.order, k.within)) in
+    let same : take (first + n - first) (drop first w) ≡ take n (drop b.first w) = ap (λ i. take i (drop first w)) behind ∙ same_number_lists (chunk first n w) (chunk b.first n w) (long_a ∙ sym long_b)
+    (λ j l. let inside : j < n = omega (arith, l, long_a) in
+    chunk_at w first n j inside ∙ (s.same j inside ∙ (ap (λ xs. slice_index xs j) there
+    ∙ (chunk_at w b.first (length w - b.first) j (omega (arith, inside, k.order, k.within)) ∙ sym (chunk_at w b.first n j inside))))) in
+    let spelled : between w first (first + n) ≡ between w b.first b.end = sym (rest_to w first (first + n) (omega arith)) ∙ (same ∙ rest_to w b.first b.end (omega (arith, k.order))) in
+    ((omega (arith, k.order), s.within, subst JsonString (sym spelled) k.text.0.2), subst (λ xs. list_all is_simple xs ≡ true) (sym same) k.text.1)
+
 -- a name whose bytes are those of another one is that name
 pub same_name : (w : List ℕ) (a b : NamePlace) (word : List ℕ) → IsPlainName w a → IsPlainName w b → a.end - a.first ≡ b.end - b.first → word ≡ chunk b.first (length w - b.first) w → StandsWord w a.first word (a.end - a.first) → name_in w a ≡ name_in w b
 same_name w a b word h k size there s =
@@ -163,6 +191,13 @@ same_name w a b word h k size there s =
     let inside : j < m = omega (arith, l, long_a) in
     chunk_at w (a.first + 1) m j inside ∙ (ap (slice_index w) here ∙ (s.same (1 + j) (omega (arith, inside, h.order)) ∙ (ap (λ xs. slice_index xs (1 + j)) there
     ∙ (chunk_at w b.first (length w - b.first) (1 + j) (omega (arith, inside, few, k.order, k.within)) ∙ (ap (slice_index w) other ∙ sym (chunk_at w (b.first + 1) n j (omega (arith, inside, few)))))))))
+
+pub name_there : (w : List ℕ) (m b : NamePlace) (first : ℕ) (word : List ℕ) → IsPlainName w b → m.first ≡ first → m.end ≡ first + (b.end - b.first) → word ≡ chunk b.first (length w - b.first) w → StandsWord w first word (b.end - b.first) → name_in w m ≡ name_in w b
+name_there w m b first word k e f there s =
+    let text = subst (IsSimpleTextAt w first) (sym f) (text_again w b first word k there s) in
+    let plain = plain_text_is w m (subst (λ i. IsTextAt w i m.end) (sym e) text.0) (subst (λ i. list_all is_simple (take (m.end - i) (drop i w)) ≡ true) (sym e) text.1) in
+    let size : m.end - m.first ≡ b.end - b.first = omega (arith, e, f) in
+    same_name w m b word plain k size there (subst (λ i. StandsWord w i word (m.end - m.first)) (sym e) (subst (StandsWord w first word) (sym size) s))
 
 -- the atom of a kind's name
 pub kind_named : (asked : Asked) (base : ℕ) (w : List ℕ) (at first : ℕ) (p : KindRead) (end : ℕ) → at ≤ first → AreSpaces (between w at first) → IsKindName w first p → p.end ≤ end → end ≤ length w → AreSpaces (between w p.end end)

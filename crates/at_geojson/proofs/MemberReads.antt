@@ -56,6 +56,7 @@ plain_text_is w n h simple =
     let count : length xs ≡ length s - 1 - 1 = omega (arith, inside, long, order) in
     let middle : xs ≡ take (length s - 1 - 1) (drop 1 s) = sym (take-append_seam xs (slice_index w (n.end - 1) ∷ [])) ∙ (ap (λ k. take k (xs ++ slice_index w (n.end - 1) ∷ [])) count ∙ ap (λ z. take (length s - 1 - 1) (drop 1 z)) (sym split)) in
     record {
+      text = (h, simple);
       order = order;
       within = h.1;
       units = λ cs ok q. rest_to w (n.first + 1) (n.end - 1) order ∙ (middle ∙ (simple_units s cs ok (same ∙ q) simple).1);

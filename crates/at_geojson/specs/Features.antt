@@ -1,5 +1,5 @@
 -- Features that are read at once: no atom is made of their members. Only contracts of private functions cite this.
-use Rattle.std.specs.Prelude.{◌≡◌, ℕ, ◌+◌, Bool, true, false, List, [], ◌∷◌, Option, Some, None, Result, Ok, Err}
+use Rattle.std.specs.Prelude.{◌≡◌, ◌⊎◌, ℕ, ◌+◌, Bool, true, false, List, [], ◌∷◌, Option, Some, None, Result, Ok, Err}
 use Rattle.std.specs.Bool.{⊤}
 use Rattle.std.specs.List.{list_any}
 use Rattle.at_text.specs.declared.faults.Fault.{Fault}
@@ -16,6 +16,7 @@ use Rattle.at_geojson.specs.declared.atoms.GeoAtom.TheVariants as atoms
 use Rattle.at_geojson.specs.declared.atoms.ObjectAtom.{ObjectAtom}
 use Rattle.at_geojson.specs.declared.atoms.Role.TheVariants as roles
 use Rattle.at_geojson.specs.declared.fields.Field.{Field}
+use Rattle.at_geojson.specs.declared.fields.Field.TheVariants as names
 use Rattle.at_geojson.specs.declared.fields.Fields.{Fields}
 use Rattle.at_geojson.specs.declared.places.NamePlace.{NamePlace}
 use Rattle.at_geojson.specs.declared.plain_geometries.ShapeRead.{ShapeRead}
@@ -139,6 +140,11 @@ pub record NamesNoKind (asked : Asked) (base : ℕ) (w : List ℕ) (n : NamePlac
     pub before : old.named ≡ false
     pub named : new.named ≡ true
     pub met : new.met ≡ old.met + met_of asked.query.tests (name_in w n) (as_text atom)
+
+-- a member for which no kind asks, or the first member `type`, which names no kind, behind its name
+abbrev pub PassesMember : Asked → ℕ → List ℕ → FieldName → VoidMembers → VoidMembers → ℕ → Type 0
+PassesMember asked base w n old new end = ((n.field ≡ names.Other) × MeetsTexts asked base w n.place old new end)
+    ⊎ ((n.field ≡ names.Kind) × NamesNoKind asked base w n.place old new end)
 
 abbrev pub ReadsVoid : Asked → ℕ → List ℕ → FieldName → VoidMembers → VoidMembers → OtherNames → OtherNames → ℕ → Type 0
 ReadsVoid asked base w n before after old new end = (f : Fields) → NameNoKind before.named f

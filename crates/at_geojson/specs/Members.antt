@@ -19,6 +19,7 @@ use Rattle.at_geojson.specs.declared.pairs.Whole.{Whole}
 use Rattle.at_geojson.specs.Hashes.{tail_hash}
 use Rattle.at_geojson.specs.Keeping.{Asked}
 use Rattle.at_geojson.specs.Atoms.{twin_of, IsOwn}
+use Rattle.at_geojson.specs.Places.{IsSimpleTextAt}
 use Rattle.at_geojson.specs.Gathering.{is_among, member_twins}
 use Rattle.at_geojson.specs.Fields.{field_of, put_if, is_kind, is_coordinates, is_geometry, is_properties, is_features}
 use Rattle.at_geojson.specs.Fields.{is_geometries, is_no_field, value_in, AreFields, MakesFields}
@@ -28,8 +29,9 @@ use Rattle.at_geojson.specs.Values.{IsItem, AreMembersRead}
 abbrev pub name_in : List ℕ → NamePlace → List ℕ
 name_in w n = take (n.end - 1 - (n.first + 1)) (drop (n.first + 1) w)
 
--- the bytes between the quotes are the name's units
+-- a string of ASCII without escapes: the bytes between the quotes are the name's units
 pub record IsPlainName (w : List ℕ) (n : NamePlace) : Type 0 where
+  pub text : IsSimpleTextAt w n.first n.end
   pub order : n.first + 1 ≤ n.end - 1
   pub within : n.end ≤ length w
   pub units : AreUnitsOf (between w n.first n.end) (name_in w n)
@@ -95,6 +97,21 @@ pub record AddsOther (n : OtherName) (old new : OtherNames) : Type 0 where
 pub record AddsName (w : List ℕ) (n : NamePlace) (old new : OtherNames) : Type 0 where
   pub names : (name : List ℕ) → is_among_others w new name ≡ (is_among_others w old name || bytes_eq name (name_in w n))
   pub plain : ArePlainOthers w old → IsPlainName w n → ArePlainOthers w new
+
+-- the bytes from the name's first quote on
+abbrev pub from_name : List ℕ → NamePlace → List ℕ
+from_name w n = take (length w - n.first) (drop n.first w)
+
+-- the bytes from the place on are those of the name
+pub record IsAgain (w : List ℕ) (n : NamePlace) (first end : ℕ) : Type 0 where
+  pub text : IsSimpleTextAt w first end
+  pub name : (m : NamePlace) → m.first ≡ first → m.end ≡ end → name_in w m ≡ name_in w n
+
+-- the name is none of the others, and is put to them, where no kind asks for the member
+pub record IsNextField (w : List ℕ) (old new : OtherNames) (n : FieldName) : Type 0 where
+  pub other : is_no_field n.field ≡ true → (is_among_others w old (name_in w n.place) ≡ false)
+      × AddsName w n.place old new
+  pub field : is_no_field n.field ≡ false → new ≡ old
 
 -- no member before has the name, which is put to the others where no kind asks for the member
 pub record IsNewName (w : List ℕ) (fields : Fields) (old new : OtherNames) (n : FieldName) : Type 0 where

@@ -14,6 +14,7 @@ use crate::object_atoms::object_atom;
 use crate::pairs::Whole;
 use crate::runs::add_item;
 use crate::scalars::scalar_atom;
+use crate::text::Text;
 use crate::wholes::{whole_items, whole_value};
 use at_nest::{Algebra, Attempt, Member};
 use at_text::{Halt, Memory};
@@ -79,11 +80,23 @@ impl Algebra for GeoAlgebra {
     }
 
     fn value(&self, alloc: Global, text: &[u8], at: u32) -> Result<Attempt<GeoAtom>, Memory> {
-        attempted(whole_value(self, alloc, text, at), text.len())
+        let whole = whole_value(&Text {
+            algebra: self,
+            alloc,
+            bytes: text,
+            base: at,
+        });
+        attempted(whole, text.len())
     }
 
     fn items(&self, alloc: Global, text: &[u8], at: u32) -> Result<Attempt<GeoAtom>, Memory> {
-        attempted(whole_items(self, alloc, text, at), text.len())
+        let whole = whole_items(&Text {
+            algebra: self,
+            alloc,
+            bytes: text,
+            base: at,
+        });
+        attempted(whole, text.len())
     }
 
     fn copy(&self, alloc: Global, atom: &GeoAtom) -> Result<GeoAtom, Memory> {

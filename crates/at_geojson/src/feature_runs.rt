@@ -1,21 +1,20 @@
 //! Features one behind another in an array, read at once: of each nothing but its part is kept, which is joined with the
 //! parts before it.
 
-ghost use Rattle.std.specs.Prelude.{◌≡◌, ◌+◌, ◌<◌, ◌≤◌, ◌^◌, length, slice_index, IfOk, IfSome};
+ghost use Rattle.std.specs.Prelude.{◌≡◌, ◌+◌, ◌<◌, length, slice_index, IfOk, IfSome};
 ghost use Rattle.at_geojson.specs.Atoms.{both_forms};
 ghost use Rattle.at_geojson.specs.FeatureRuns.{IsNextObject, AreFeaturesRead};
 ghost use Rattle.at_geojson.specs.Members.{ArePlainOthers};
 
-use crate::asked::GeoAlgebra;
 use crate::atoms::Items;
 use crate::features::{FeatureRead, read_feature};
 use crate::lists::form_at;
 use crate::members::TableNames;
 use crate::places::{skip_spaces, stands};
 use crate::runs::{is_light, join_features};
+use crate::text::Text;
 use at_query::Part;
 use at_text::{Fault, Halt};
-use std::alloc::Global;
 
 /// Features that were read: the place behind them and the white space, and what they are as items of an array.
 #[derive(Drop)]
@@ -53,56 +52,39 @@ fn next_object(text: &[u8], at: usize) -> Option<usize>
 }
 
 /// The first feature of several.
-fn begin_features(
-    algebra: &GeoAlgebra,
-    alloc: Global,
-    text: &[u8],
-    base: u32,
-    at: usize,
-    names: &mut TableNames,
-) -> Result<FeaturesRead, Halt>
-    requires inside { at < length text.now }
-    requires opens { slice_index text.now at ≡ 0x7B }
-    requires fits { base + length text.now ≤ 2 ^ 28 }
-    requires own { ArePlainOthers text.now names.old.own }
-    requires properties { ArePlainOthers text.now names.old.properties }
-    ensures reads { IfOk result (λ read. AreFeaturesRead algebra.now base text.now at read.end read.run.value) }
-    ensures own { IfOk result (λ _. ArePlainOthers text.now names.new.own) }
-    ensures properties { IfOk result (λ _. ArePlainOthers text.now names.new.properties) }
+fn begin_features(text: &Text<'_>, at: usize, names: &mut TableNames) -> Result<FeaturesRead, Halt>
+    requires inside { at < length text.now.bytes.now }
+    requires opens { slice_index text.now.bytes.now at ≡ 0x7B }
+    requires own { ArePlainOthers text.now.bytes.now names.old.own }
+    requires properties { ArePlainOthers text.now.bytes.now names.old.properties }
+    ensures reads { IfOk result (λ read. AreFeaturesRead text.now.algebra.now text.now.base text.now.bytes.now at read.end read.run.value) }
+    ensures own { IfOk result (λ _. ArePlainOthers text.now.bytes.now names.new.own) }
+    ensures properties { IfOk result (λ _. ArePlainOthers text.now.bytes.now names.new.properties) }
 {
-    let FeatureRead { end, part } = read_feature(algebra, alloc, text, base, at, names)?;
-    let run = Box::new(alloc, feature_items(base + at as u32, part))?;
-    let end = skip_spaces(text, end);
+    let FeatureRead { end, part } = read_feature(text, at, names)?;
+    let run = Box::new(text.alloc, feature_items(text.base + at as u32, part))?;
+    let end = skip_spaces(text.bytes, end);
     Ok(FeaturesRead { end, run })
 }
 
 /// Features one behind another in an array, from the opening bracket of the first one on, which stands at the place.
 /// They end before the first item that is not read at once as a feature, or where joining one more feature would take
 /// long.
-pub fn read_features(
-    algebra: &GeoAlgebra,
-    alloc: Global,
-    text: &[u8],
-    base: u32,
-    at: usize,
-) -> Result<FeaturesRead, Halt>
-    requires inside { at < length text.now }
-    requires opens { slice_index text.now at ≡ 0x7B }
-    requires fits { base + length text.now ≤ 2 ^ 28 }
-    ensures { IfOk result (λ read. AreFeaturesRead algebra.now base text.now at read.end read.run.value) }
+pub fn read_features(text: &Text<'_>, at: usize) -> Result<FeaturesRead, Halt>
+    requires inside { at < length text.now.bytes.now }
+    requires opens { slice_index text.now.bytes.now at ≡ 0x7B }
+    ensures { IfOk result (λ read. AreFeaturesRead text.now.algebra.now text.now.base text.now.bytes.now at read.end read.run.value) }
 {
-    let mut names = TableNames::none(alloc);
-    let FeaturesRead { mut end, mut run } = begin_features(
-        algebra, alloc, text, base, at, &mut names,
-    )?;
+    let mut names = TableNames::none(text.alloc);
+    let FeaturesRead { mut end, mut run } = begin_features(text, at, &mut names)?;
     'features: while is_light(&run) {
-        let Some(first) = next_object(text, end) else {
+        let Some(first) = next_object(text.bytes, end) else {
             return Ok(FeaturesRead { end, run });
         };
-        match read_feature(algebra, alloc, text, base, first, &mut names) {
+        match read_feature(text, first, &mut names) {
             Ok(FeatureRead { end: last, part }) => {
                 join_features(&mut *run, part)?;
-                end = skip_spaces(text, last);
+                end = skip_spaces(text.bytes, last);
             }
             Err(Halt::Memory) => return Err(Halt::Memory),
             Err(Halt::At(_)) => return Ok(FeaturesRead { end, run }),

@@ -1,6 +1,6 @@
 //! Features of a text, read at once: no atom is made of their members.
 
-ghost use Rattle.std.specs.Prelude.{◌≡◌, ◌+◌, ◌<◌, ◌≤◌, ◌^◌, true, false, [], None, Some, length, slice_index, Ok};
+ghost use Rattle.std.specs.Prelude.{◌≡◌, ◌+◌, ◌<◌, ◌≤◌, true, false, [], None, Some, length, slice_index, Ok};
 ghost use Rattle.std.specs.Prelude.{◌∷◌, IfOk, IfSome};
 ghost use Rattle.std.specs.List.{list_any};
 ghost use Rattle.at_geojson.specs.Keeping.{looks_at_texts};
@@ -30,6 +30,7 @@ use crate::plain_geometries::{
 };
 use crate::plain_objects::{VoidRead, pass_early, pass_object, pass_other};
 use crate::shapes::empty_shape;
+use crate::text::Text;
 use crate::texts::{all_hold, asked_pairs};
 use crate::twins::is_twin;
 use crate::values::{DEEPEST, read_item};
@@ -68,51 +69,37 @@ pub struct PropertiesRead {
 }
 
 /// White space, any value as a geometry, and white space.
-fn other_geometry(
-    algebra: &GeoAlgebra,
-    alloc: Global,
-    text: &[u8],
-    base: u32,
-    at: usize,
-) -> Result<SeenRead, Halt>
-    requires inside { at ≤ length text.now }
-    requires fits { base + length text.now ≤ 2 ^ 28 }
-    ensures { IfOk result (Sees algebra.now (IsShapeRead algebra.now base text.now at)) }
+fn other_geometry(text: &Text<'_>, at: usize) -> Result<SeenRead, Halt>
+    requires inside { at ≤ length text.now.bytes.now }
+    ensures { IfOk result (Sees text.now.algebra.now (IsShapeRead text.now.algebra.now text.now.base text.now.bytes.now at)) }
 {
-    let Whole { end, atom } = read_item(algebra, alloc, text, base, at, DEEPEST)?;
+    let Whole { end, atom } = read_item(text, at, DEEPEST)?;
     if is_twin(&atom) {
         return Err(Halt::At(end));
     }
-    let shape = feature_shape(alloc, Some(atom));
+    let shape = feature_shape(text.alloc, Some(atom));
     Ok(seen_shape(ShapeRead { end, shape }))
 }
 
 /// White space, a value as a geometry, and white space.
-fn geometry_item(
-    algebra: &GeoAlgebra,
-    alloc: Global,
-    text: &[u8],
-    base: u32,
-    at: usize,
-) -> Result<SeenRead, Halt>
-    requires inside { at ≤ length text.now }
-    requires fits { base + length text.now ≤ 2 ^ 28 }
-    ensures { IfOk result (Sees algebra.now (IsShapeRead algebra.now base text.now at)) }
+fn geometry_item(text: &Text<'_>, at: usize) -> Result<SeenRead, Halt>
+    requires inside { at ≤ length text.now.bytes.now }
+    ensures { IfOk result (Sees text.now.algebra.now (IsShapeRead text.now.algebra.now text.now.base text.now.bytes.now at)) }
 {
-    let first = skip_spaces(text, at);
-    if !stands(text, first, b'{') {
-        return other_geometry(algebra, alloc, text, base, at);
+    let first = skip_spaces(text.bytes, at);
+    if !stands(text.bytes, first, b'{') {
+        return other_geometry(text, at);
     }
-    match read_geometry(algebra, alloc, text, base, first) {
+    match read_geometry(text, first) {
         Ok(SeenRead { end, seen }) => Ok(SeenRead {
-            end: skip_spaces(text, end),
+            end: skip_spaces(text.bytes, end),
             seen,
         }),
         Err(Halt::Memory) => Err(Halt::Memory),
-        Err(Halt::At(place)) => if seems_cut(text, first, place) {
+        Err(Halt::At(place)) => if seems_cut(text.bytes, first, place) {
             Err(Halt::At(place))
         } else {
-            other_geometry(algebra, alloc, text, base, at)
+            other_geometry(text, at)
         },
     }
 }
@@ -130,22 +117,15 @@ fn texts_tested(algebra: &GeoAlgebra, atom: &GeoAtom) -> Option<bool>
 }
 
 /// White space, any value as properties in which nothing is wrong, and white space.
-fn other_properties(
-    algebra: &GeoAlgebra,
-    alloc: Global,
-    text: &[u8],
-    base: u32,
-    at: usize,
-) -> Result<PropertiesRead, Halt>
-    requires inside { at ≤ length text.now }
-    requires fits { base + length text.now ≤ 2 ^ 28 }
-    ensures { IfOk result (ReadsProperties algebra.now base text.now at) }
+fn other_properties(text: &Text<'_>, at: usize) -> Result<PropertiesRead, Halt>
+    requires inside { at ≤ length text.now.bytes.now }
+    ensures { IfOk result (ReadsProperties text.now.algebra.now text.now.base text.now.bytes.now at) }
 {
-    let Whole { end, atom } = read_item(algebra, alloc, text, base, at, DEEPEST)?;
+    let Whole { end, atom } = read_item(text, at, DEEPEST)?;
     if is_twin(&atom) {
         return Err(Halt::At(end));
     }
-    match texts_tested(algebra, &atom) {
+    match texts_tested(text.algebra, &atom) {
         Some(hold) => Ok(PropertiesRead { end, hold }),
         None => Err(Halt::At(OTHER_KIND)),
     }
@@ -153,39 +133,36 @@ fn other_properties(
 
 /// Whether a value that was given up at a place is read in another way: one of another kind, and where texts are asked
 /// for, each that doesn't seem to be cut.
-pub fn is_read_again(algebra: &GeoAlgebra, text: &[u8], first: usize, place: usize) -> bool {
+pub fn is_read_again(text: &Text<'_>, first: usize, place: usize) -> bool {
     place == OTHER_KIND
-        || (needs_texts(algebra.query().tests.as_slice()) && !seems_cut(text, first, place))
+        || (needs_texts(text.algebra.query().tests.as_slice())
+            && !seems_cut(text.bytes, first, place))
 }
 
 /// White space, a value as properties in which nothing is wrong, and white space.
 fn read_properties(
-    algebra: &GeoAlgebra,
-    alloc: Global,
-    text: &[u8],
-    base: u32,
+    text: &Text<'_>,
     at: usize,
     others: &mut OtherNames,
 ) -> Result<PropertiesRead, Halt>
-    requires inside { at ≤ length text.now }
-    requires fits { base + length text.now ≤ 2 ^ 28 }
-    requires names { ArePlainOthers text.now others.old }
-    ensures reads { IfOk result (ReadsProperties algebra.now base text.now at) }
-    ensures names { IfOk result (λ _. ArePlainOthers text.now others.new) }
+    requires inside { at ≤ length text.now.bytes.now }
+    requires names { ArePlainOthers text.now.bytes.now others.old }
+    ensures reads { IfOk result (ReadsProperties text.now.algebra.now text.now.base text.now.bytes.now at) }
+    ensures names { IfOk result (λ _. ArePlainOthers text.now.bytes.now others.new) }
 {
-    let first = skip_spaces(text, at);
-    if !stands(text, first, b'{') {
-        return other_properties(algebra, alloc, text, base, at);
+    let first = skip_spaces(text.bytes, at);
+    if !stands(text.bytes, first, b'{') {
+        return other_properties(text, at);
     }
-    match pass_object(algebra, alloc, text, base, first, others) {
+    match pass_object(text, first, others) {
         Ok(VoidRead { end, met }) => Ok(PropertiesRead {
-            end: skip_spaces(text, end),
-            hold: algebra.all_met(met),
+            end: skip_spaces(text.bytes, end),
+            hold: text.algebra.all_met(met),
         }),
         Err(Halt::Memory) => Err(Halt::Memory),
-        Err(Halt::At(place)) => if is_read_again(algebra, text, first, place) {
-            *others = OtherNames::none(alloc);
-            other_properties(algebra, alloc, text, base, at)
+        Err(Halt::At(place)) => if is_read_again(text, first, place) {
+            *others = OtherNames::none(text.alloc);
+            other_properties(text, at)
         } else {
             Err(Halt::At(place))
         },
@@ -236,18 +213,11 @@ fn given_up(kind: Kind, end: usize) -> usize {
 
 /// The value of the member `type`, with white space round it: it names a feature.
 #[inline(always)]
-fn kind_member(
-    algebra: &GeoAlgebra,
-    text: &[u8],
-    base: u32,
-    at: usize,
-    members: &mut FeatureMembers,
-) -> Result<usize, Halt>
-    requires inside { at ≤ length text.now }
-    requires fits { base + length text.now ≤ 2 ^ 28 }
-    ensures { IfOk result (ReadsField algebra.now base text.now at Field.Kind members.old members.new) }
+fn kind_member(text: &Text<'_>, at: usize, members: &mut FeatureMembers) -> Result<usize, Halt>
+    requires inside { at ≤ length text.now.bytes.now }
+    ensures { IfOk result (ReadsField text.now.algebra.now text.now.base text.now.bytes.now at Field.Kind members.old members.new) }
 {
-    let KindRead { end, kind } = read_kind(algebra, text, base, at)?;
+    let KindRead { end, kind } = read_kind(text, at)?;
     if members.is_feature {
         return Err(Halt::At(end));
     }
@@ -260,19 +230,11 @@ fn kind_member(
 
 /// The value of the member `geometry`, with white space round it.
 #[inline(always)]
-fn geometry_member(
-    algebra: &GeoAlgebra,
-    alloc: Global,
-    text: &[u8],
-    base: u32,
-    at: usize,
-    members: &mut FeatureMembers,
-) -> Result<usize, Halt>
-    requires inside { at ≤ length text.now }
-    requires fits { base + length text.now ≤ 2 ^ 28 }
-    ensures { IfOk result (ReadsField algebra.now base text.now at Field.Geometry members.old members.new) }
+fn geometry_member(text: &Text<'_>, at: usize, members: &mut FeatureMembers) -> Result<usize, Halt>
+    requires inside { at ≤ length text.now.bytes.now }
+    ensures { IfOk result (ReadsField text.now.algebra.now text.now.base text.now.bytes.now at Field.Geometry members.old members.new) }
 {
-    let SeenRead { end, seen } = geometry_item(algebra, alloc, text, base, at)?;
+    let SeenRead { end, seen } = geometry_item(text, at)?;
     if members.geometry.is_some() {
         return Err(Halt::At(end));
     }
@@ -283,21 +245,17 @@ fn geometry_member(
 /// The value of the member `properties`, with white space round it.
 #[inline(always)]
 fn properties_member(
-    algebra: &GeoAlgebra,
-    alloc: Global,
-    text: &[u8],
-    base: u32,
+    text: &Text<'_>,
     at: usize,
     members: &mut FeatureMembers,
     others: &mut OtherNames,
 ) -> Result<usize, Halt>
-    requires inside { at ≤ length text.now }
-    requires fits { base + length text.now ≤ 2 ^ 28 }
-    requires names { ArePlainOthers text.now others.old }
-    ensures reads { IfOk result (ReadsField algebra.now base text.now at Field.Properties members.old members.new) }
-    ensures names { IfOk result (λ _. ArePlainOthers text.now others.new) }
+    requires inside { at ≤ length text.now.bytes.now }
+    requires names { ArePlainOthers text.now.bytes.now others.old }
+    ensures reads { IfOk result (ReadsField text.now.algebra.now text.now.base text.now.bytes.now at Field.Properties members.old members.new) }
+    ensures names { IfOk result (λ _. ArePlainOthers text.now.bytes.now others.new) }
 {
-    let PropertiesRead { end, hold } = read_properties(algebra, alloc, text, base, at, others)?;
+    let PropertiesRead { end, hold } = read_properties(text, at, others)?;
     if members.has_properties {
         return Err(Halt::At(end));
     }
@@ -311,46 +269,34 @@ fn properties_member(
 /// no feature is soon given up.
 #[inline(always)]
 fn read_member(
-    algebra: &GeoAlgebra,
-    alloc: Global,
-    text: &[u8],
-    base: u32,
+    text: &Text<'_>,
     name: FieldName,
     members: &mut FeatureMembers,
     names: &mut TableNames,
 ) -> Result<usize, Halt>
-    requires inside { name.place.colon < length text.now }
-    requires fits { base + length text.now ≤ 2 ^ 28 }
-    requires plain { IsPlainName text.now name.place }
-    requires own { ArePlainOthers text.now names.old.own }
-    requires properties { ArePlainOthers text.now names.old.properties }
-    ensures reads { IfOk result (ReadsMember algebra.now base text.now name members.old members.new names.old.own
+    requires inside { name.place.colon < length text.now.bytes.now }
+    requires plain { IsPlainName text.now.bytes.now name.place }
+    requires own { ArePlainOthers text.now.bytes.now names.old.own }
+    requires properties { ArePlainOthers text.now.bytes.now names.old.properties }
+    ensures reads { IfOk result (ReadsMember text.now.algebra.now text.now.base text.now.bytes.now name members.old members.new names.old.own
         names.new.own) }
-    ensures properties { IfOk result (λ _. ArePlainOthers text.now names.new.properties) }
+    ensures properties { IfOk result (λ _. ArePlainOthers text.now.bytes.now names.new.properties) }
 {
     let at = name.place.colon + 1;
     match name.field {
-        Field::Kind => kind_member(algebra, text, base, at, members),
-        Field::Geometry => geometry_member(algebra, alloc, text, base, at, members),
-        Field::Properties => properties_member(
-            algebra,
-            alloc,
-            text,
-            base,
-            at,
-            members,
-            &mut names.properties,
-        ),
+        Field::Kind => kind_member(text, at, members),
+        Field::Geometry => geometry_member(text, at, members),
+        Field::Properties => properties_member(text, at, members, &mut names.properties),
         Field::Other => {
             let begun = members.has_begun();
             if !begun && names.own.count >= EARLY {
                 return Err(Halt::At(OTHER_KIND));
             }
-            add_other(text, &mut names.own, name.place)?;
+            add_other(text.bytes, &mut names.own, name.place)?;
             if begun {
-                pass_other(algebra, alloc, text, base, at, DEEPEST)
+                pass_other(text, at, DEEPEST)
             } else {
-                pass_early(algebra, alloc, text, base, at)
+                pass_early(text, at)
             }
         }
         _ => Err(Halt::At(OTHER_KIND)),
@@ -472,58 +418,43 @@ fn ended_feature(
 }
 
 /// A feature from its opening bracket on, which stands at the place.
-pub fn read_feature(
-    algebra: &GeoAlgebra,
-    alloc: Global,
-    text: &[u8],
-    base: u32,
-    at: usize,
-    names: &mut TableNames,
-) -> Result<FeatureRead, Halt>
-    requires inside { at < length text.now }
-    requires opens { slice_index text.now at ≡ 0x7B }
-    requires fits { base + length text.now ≤ 2 ^ 28 }
-    requires own { ArePlainOthers text.now names.old.own }
-    requires properties { ArePlainOthers text.now names.old.properties }
-    ensures reads { IfOk result (IsFeatureRead algebra.now base text.now at) }
-    ensures own { IfOk result (λ _. ArePlainOthers text.now names.new.own) }
-    ensures properties { IfOk result (λ _. ArePlainOthers text.now names.new.properties) }
+pub fn read_feature(text: &Text<'_>, at: usize, names: &mut TableNames) -> Result<FeatureRead, Halt>
+    requires inside { at < length text.now.bytes.now }
+    requires opens { slice_index text.now.bytes.now at ≡ 0x7B }
+    requires own { ArePlainOthers text.now.bytes.now names.old.own }
+    requires properties { ArePlainOthers text.now.bytes.now names.old.properties }
+    ensures reads { IfOk result (IsFeatureRead text.now.algebra.now text.now.base text.now.bytes.now at) }
+    ensures own { IfOk result (λ _. ArePlainOthers text.now.bytes.now names.new.own) }
+    ensures properties { IfOk result (λ _. ArePlainOthers text.now.bytes.now names.new.properties) }
 {
-    let feature = base + at as u32;
-    let mut members = FeatureMembers::none(algebra);
+    let feature = text.base + at as u32;
+    let mut members = FeatureMembers::none(text.algebra);
     names.own.begin();
     let mut place = at + 1;
     'members: loop {
-        let name = field_name(text, place)?;
-        let end = read_member(algebra, alloc, text, base, name, &mut members, names)?;
-        if stands(text, end, b'}') {
-            return ended_feature(algebra, alloc, feature, end + 1, members);
+        let name = field_name(text.bytes, place)?;
+        let end = read_member(text, name, &mut members, names)?;
+        if stands(text.bytes, end, b'}') {
+            return ended_feature(text.algebra, text.alloc, feature, end + 1, members);
         }
-        expect_comma(text, end)?;
+        expect_comma(text.bytes, end)?;
         place = end + 1;
     }
 }
 
 /// A feature as a value, where no test looks at texts.
-pub fn feature_value(
-    algebra: &GeoAlgebra,
-    alloc: Global,
-    text: &[u8],
-    base: u32,
-    at: usize,
-) -> Result<Whole, Halt>
-    requires inside { at < length text.now }
-    requires opens { slice_index text.now at ≡ 0x7B }
-    requires fits { base + length text.now ≤ 2 ^ 28 }
-    requires unasked { list_any looks_at_texts algebra.now.query.tests ≡ false }
-    ensures { IfOk result (IsWhole algebra.now base text.now at) }
+pub fn feature_value(text: &Text<'_>, at: usize) -> Result<Whole, Halt>
+    requires inside { at < length text.now.bytes.now }
+    requires opens { slice_index text.now.bytes.now at ≡ 0x7B }
+    requires unasked { list_any looks_at_texts text.now.algebra.now.query.tests ≡ false }
+    ensures { IfOk result (IsWhole text.now.algebra.now text.now.base text.now.bytes.now at) }
 {
-    let mut names = TableNames::none(alloc);
-    let FeatureRead { end, part } = read_feature(algebra, alloc, text, base, at, &mut names)?;
-    let texts = TextPairs::from_vec(Vec::new(alloc));
-    let roles = new_roles(alloc, Role::Feature(part), texts)?;
+    let mut names = TableNames::none(text.alloc);
+    let FeatureRead { end, part } = read_feature(text, at, &mut names)?;
+    let texts = TextPairs::from_vec(Vec::new(text.alloc));
+    let roles = new_roles(text.alloc, Role::Feature(part), texts)?;
     let atom = GeoAtom::Object(ObjectAtom {
-        at: base + at as u32,
+        at: text.base + at as u32,
         roles,
     });
     Ok(Whole { end, atom })

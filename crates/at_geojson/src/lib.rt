@@ -49,6 +49,7 @@ mod sorts;
 mod spellings;
 mod spots;
 mod tallies;
+mod text;
 mod texts;
 mod tracks;
 mod twins;

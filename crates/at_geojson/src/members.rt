@@ -1,14 +1,14 @@
 //! The members of an object whose names are plain, read without a copy of a name.
 
-ghost use Rattle.std.specs.Prelude.{◌≡◌, ℕ, List, ◌≤◌, ◌^◌, All, bytes_eq, true, false, length, IfOk, IfSome};
+ghost use Rattle.std.specs.Prelude.{◌≡◌, ℕ, List, ◌-◌, ◌≤◌, ◌^◌, All, bytes_eq, true, false, length, IfOk, IfSome};
 ghost use Rattle.at_fixed.specs.NumberSoFar.{between};
 ghost use Rattle.at_lex.specs.Spans.{AreSpaces};
 ghost use Rattle.at_geojson.specs.Places.{IsNameAt, IsSimpleTextAt};
-ghost use Rattle.at_geojson.specs.Fields.{field_of};
+ghost use Rattle.at_geojson.specs.Fields.{field_of, is_no_field};
 ghost use Rattle.at_geojson.specs.Members.{name_in, IsPlainName, is_named_among, is_among_others, ArePlainOthers};
 ghost use Rattle.at_geojson.specs.Members.{known_in, ArePlaced, ArePlainNames, IsExpected, IsNextName, AreCut};
-ghost use Rattle.at_geojson.specs.Members.{AddsName, IsNewName, IsOtherName, AddsOther};
-ghost use Rattle.at_geojson.specs.KnownNames.{IsFieldName};
+ghost use Rattle.at_geojson.specs.Members.{AddsName, from_name, IsAgain, IsNextField, IsNewName, IsOtherName, AddsOther};
+ghost use Rattle.at_geojson.specs.KnownNames.{StandsWord, IsFieldName};
 
 use crate::fields::{Field, Fields, field_named, is_other};
 use crate::hashes::hash_of_tail;
@@ -129,6 +129,8 @@ fn short_name(text: &[u8], at: usize, first: usize, end: usize) -> Result<NamePl
     requires text { IsSimpleTextAt text.now first end }
     ensures place { IfOk result (IsNameAt text.now at) }
     ensures plain { IfOk result (IsPlainName text.now) }
+    ensures first { IfOk result (λ name. name.first ≡ first) }
+    ensures end { IfOk result (λ name. name.end ≡ end) }
 {
     let name = ended_name(text, at, first, end)?;
     Ok(name)
@@ -272,38 +274,9 @@ fn other_name(text: &[u8], place: NamePlace) -> OtherName
     }
 }
 
-/// Whether one name is seen to be another: that of a short one is looked at as a whole.
+/// Puts a name to those of members for which no kind asks, unless it is among them. It isn't the one that is expected.
 #[inline(always)]
-fn is_again(text: &[u8], a: NamePlace, b: NamePlace) -> bool
-    requires a { IsPlainName text.now a }
-    requires b { IsPlainName text.now b }
-    ensures { result ≡ true → name_in text.now a ≡ name_in text.now b }
-{
-    let len = a.end - a.first;
-    if len != b.end - b.first {
-        return false;
-    }
-    if len > LANES || text.len() - b.first < LANES {
-        return is_same(text, a, b);
-    }
-    stands_word(text, a.first, &text[b.first..], len)
-}
-
-/// Whether a name is the one that is expected next.
-#[inline(always)]
-fn is_expected(text: &[u8], others: &OtherNames, name: NamePlace) -> bool
-    requires names { ArePlainOthers text.now others.now }
-    requires name { IsPlainName text.now name }
-    ensures { result ≡ true → IsNextName text.now others.now name }
-{
-    match others.expected() {
-        Some(expected) => is_again(text, name, expected.place),
-        None => false,
-    }
-}
-
-/// Puts a name that isn't expected to the object's, unless it is among them.
-fn add_unexpected(text: &[u8], others: &mut OtherNames, name: NamePlace) -> Result<(), Halt>
+pub fn add_other(text: &[u8], others: &mut OtherNames, name: NamePlace) -> Result<(), Halt>
     requires names { ArePlainOthers text.now others.old }
     requires name { IsPlainName text.now name }
     ensures new { IfOk result (λ _. is_among_others text.now others.old (name_in text.now name) ≡ false) }
@@ -316,21 +289,6 @@ fn add_unexpected(text: &[u8], others: &mut OtherNames, name: NamePlace) -> Resu
     }
     others.push(other)?;
     Ok(())
-}
-
-/// Puts a name to those of members for which no kind asks, unless it is among them.
-#[inline(always)]
-pub fn add_other(text: &[u8], others: &mut OtherNames, name: NamePlace) -> Result<(), Halt>
-    requires names { ArePlainOthers text.now others.old }
-    requires name { IsPlainName text.now name }
-    ensures new { IfOk result (λ _. is_among_others text.now others.old (name_in text.now name) ≡ false) }
-    ensures adds { IfOk result (λ _. AddsName text.now name others.old others.new) }
-{
-    if is_expected(text, others, name) {
-        others.count += 1;
-        return Ok(());
-    }
-    add_unexpected(text, others, name)
 }
 
 /// The name of a member that isn't looked at as a whole word.
@@ -361,8 +319,99 @@ pub fn field_name(text: &[u8], at: usize) -> Result<FieldName, Halt>
     }
 }
 
-/// A name like that of a member that is none of the fields and none of the others, to which it is put if no kind asks
-/// for it.
+/// Whether the bytes of a name stand at another place, one by one.
+fn has_bytes(text: &[u8], name: NamePlace, first: usize) -> bool
+    requires name { IsPlainName text.now name }
+    requires within { first ≤ length text.now }
+    ensures { result ≡ true → StandsWord text.now first (from_name text.now name) (name.end - name.first) }
+{
+    let len = name.end - name.first;
+    if text.len() - first < len {
+        return false;
+    }
+    if text[first..first + len] == text[name.first..name.end] {
+        return true;
+    }
+    false
+}
+
+/// Whether the bytes of a name stand at another place: those of a short one are looked at together.
+#[inline(always)]
+fn stands_again(text: &[u8], name: NamePlace, first: usize) -> bool
+    requires name { IsPlainName text.now name }
+    requires within { first ≤ length text.now }
+    ensures { result ≡ true → StandsWord text.now first (from_name text.now name) (name.end - name.first) }
+{
+    let word = &text[name.first..];
+    let len = name.end - name.first;
+    if len > LANES || word.len() < LANES {
+        return has_bytes(text, name, first);
+    }
+    stands_word(text, first, word, len)
+}
+
+/// The place behind a name that stands at another place again.
+#[inline(always)]
+fn behind_again(text: &[u8], name: NamePlace, first: usize) -> Option<usize>
+    requires name { IsPlainName text.now name }
+    requires within { first ≤ length text.now }
+    ensures { IfSome result (IsAgain text.now name first) }
+{
+    if stands_again(text, name, first) {
+        Some(first + (name.end - name.first))
+    } else {
+        None
+    }
+}
+
+/// The name that is expected next behind white space, where it stands there and no kind asks for such a member.
+#[inline(always)]
+fn name_again(text: &[u8], others: &OtherNames, at: usize, first: usize) -> Option<FieldName>
+    requires order { at ≤ first }
+    requires within { first ≤ length text.now }
+    requires spaces { AreSpaces (between text.now at first) }
+    requires names { ArePlainOthers text.now others.now }
+    ensures name { IfSome result (IsFieldName text.now at) }
+    ensures other { IfSome result (λ name. is_no_field name.field ≡ true) }
+    ensures next { IfSome result (λ name. IsNextName text.now others.now name.place) }
+{
+    let known = others.expected()?;
+    let end = behind_again(text, known.place, first)?;
+    let Ok(place) = short_name(text, at, first, end) else {
+        return None;
+    };
+    let field = field_named(name_bytes(text, place));
+    if is_other(field) {
+        Some(FieldName { place, field })
+    } else {
+        None
+    }
+}
+
+/// The name of a member, like `field_name`. It is none of the others, and is put to them if no kind asks for the member.
+#[inline(always)]
+pub fn next_name(text: &[u8], others: &mut OtherNames, at: usize) -> Result<FieldName, Halt>
+    requires inside { at ≤ length text.now }
+    requires short { length text.now ≤ 2 ^ 28 }
+    requires names { ArePlainOthers text.now others.old }
+    ensures place { IfOk result (λ name. IsNameAt text.now at name.place) }
+    ensures plain { IfOk result (λ name. IsPlainName text.now name.place) }
+    ensures field { IfOk result (λ name. name.field ≡ field_of (name_in text.now name.place)) }
+    ensures next { IfOk result (IsNextField text.now others.old others.new) }
+{
+    let first = skip_spaces(text, at);
+    if let Some(name) = name_again(text, others, at, first) {
+        others.count += 1;
+        return Ok(name);
+    }
+    let name = field_name(text, at)?;
+    if is_other(name.field) {
+        add_other(text, others, name.place)?;
+    }
+    Ok(name)
+}
+
+/// A name like that of a member that is none of the fields either.
 #[inline(always)]
 pub fn new_name(
     text: &[u8],
@@ -378,12 +427,8 @@ pub fn new_name(
     ensures field { IfOk result (λ name. name.field ≡ field_of (name_in text.now name.place)) }
     ensures new { IfOk result (IsNewName text.now fields.now others.old others.new) }
 {
-    let name = field_name(text, at)?;
-    if is_other(name.field) {
-        add_other(text, others, name.place)?;
-        return Ok(name);
-    }
-    if fields.has(name.field) {
+    let name = next_name(text, others, at)?;
+    if !is_other(name.field) && fields.has(name.field) {
         return Err(Halt::At(name.place.end));
     }
     Ok(name)

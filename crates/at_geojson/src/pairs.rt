@@ -8,9 +8,9 @@ ghost use Rattle.at_geojson.specs.Atoms.{to_four};
 ghost use Rattle.at_geojson.specs.Values.{IsPlain, IsFurther, EndsPosition, IsPair, IsSpacedPair};
 ghost use Rattle.at_geojson.specs.Passing.{PassesNumber, PassesPair, PassesTo};
 
-use crate::asked::GeoAlgebra;
 use crate::atoms::{GeoAtom, PositionAtom};
 use crate::places::{behind_spaces, skip_spaces, stands};
+use crate::text::Text;
 use at_fixed::{
     Coords, Notation, PlainNumber, json_number, leading_number, plain_len, plain_number,
 };
@@ -149,21 +149,24 @@ fn valued_len(text: &[u8], digits: u8, how: Coords) -> Option<u32>
 
 /// White space, a number that has a value, and white space.
 #[inline(always)]
-fn read_plain(algebra: &GeoAlgebra, text: &[u8], at: usize) -> Option<Plain>
-    requires inside { at ≤ length text.now }
-    requires short { length text.now ≤ 2 ^ 28 }
-    ensures { IfSome result (IsPlain algebra.now text.now at) }
+fn read_plain(text: &Text<'_>, at: usize) -> Option<Plain>
+    requires inside { at ≤ length text.now.bytes.now }
+    ensures { IfSome result (IsPlain text.now.algebra.now text.now.bytes.now at) }
 {
-    let first = skip_spaces(text, at);
-    if !may_begin(text, first) {
+    let first = skip_spaces(text.bytes, at);
+    if !may_begin(text.bytes, first) {
         return None;
     }
-    let number = valued_number(&text[first..], algebra.digits(), algebra.how())?;
+    let number = valued_number(
+        &text.bytes[first..],
+        text.algebra.digits(),
+        text.algebra.how(),
+    )?;
     let last = first + number.len as usize;
     Some(Plain {
         first,
         last,
-        end: skip_spaces(text, last),
+        end: skip_spaces(text.bytes, last),
         number,
     })
 }
@@ -216,24 +219,23 @@ fn position_end(text: &[u8], at: usize) -> Option<usize>
 
 /// A position whose first two numbers have values.
 #[inline(always)]
-pub fn read_pair(algebra: &GeoAlgebra, text: &[u8], base: u32, at: usize) -> Option<PairRead>
-    requires fits { base + length text.now ≤ 2 ^ 28 }
-    ensures { IfSome result (IsPair algebra.now base text.now at) }
+pub fn read_pair(text: &Text<'_>, at: usize) -> Option<PairRead>
+    ensures { IfSome result (IsPair text.now.algebra.now text.now.base text.now.bytes.now at) }
 {
-    if !stands(text, at, b'[') {
+    if !stands(text.bytes, at, b'[') {
         return None;
     }
-    let x = read_plain(algebra, text, at + 1)?;
-    if !stands(text, x.end, b',') {
+    let x = read_plain(text, at + 1)?;
+    if !stands(text.bytes, x.end, b',') {
         return None;
     }
-    let y = read_plain(algebra, text, x.end + 1)?;
-    let end = position_end(text, y.end)?;
+    let y = read_plain(text, x.end + 1)?;
+    let end = position_end(text.bytes, y.end)?;
     Some(PairRead {
         end,
         pair: PositionAtom {
-            at: base + at as u32,
-            least: base + x.first as u32,
+            at: text.base + at as u32,
+            least: text.base + x.first as u32,
             pos: Pos {
                 x: x.number.value,
                 y: y.number.value,
@@ -252,46 +254,47 @@ pub fn one_more(count: u32) -> u32
 
 /// A position, behind white space and before white space.
 #[inline(always)]
-pub fn read_spaced(algebra: &GeoAlgebra, text: &[u8], base: u32, at: usize) -> Option<PairRead>
-    requires inside { at ≤ length text.now }
-    requires fits { base + length text.now ≤ 2 ^ 28 }
-    ensures { IfSome result (IsSpacedPair algebra.now base text.now at) }
+pub fn read_spaced(text: &Text<'_>, at: usize) -> Option<PairRead>
+    requires inside { at ≤ length text.now.bytes.now }
+    ensures { IfSome result (IsSpacedPair text.now.algebra.now text.now.base text.now.bytes.now at) }
 {
-    let first = skip_spaces(text, at);
-    let PairRead { end, pair } = read_pair(algebra, text, base, first)?;
-    let end = skip_spaces(text, end);
+    let first = skip_spaces(text.bytes, at);
+    let PairRead { end, pair } = read_pair(text, first)?;
+    let end = skip_spaces(text.bytes, end);
     Some(PairRead { end, pair })
 }
 
 /// White space, a number that has a value, and white space, passed over.
 #[inline(always)]
-fn pass_plain(algebra: &GeoAlgebra, text: &[u8], at: usize) -> Option<NumberPlace>
-    requires inside { at ≤ length text.now }
-    requires short { length text.now ≤ 2 ^ 28 }
-    ensures { IfSome result (PassesNumber algebra.now text.now at) }
+fn pass_plain(text: &Text<'_>, at: usize) -> Option<NumberPlace>
+    requires inside { at ≤ length text.now.bytes.now }
+    ensures { IfSome result (PassesNumber text.now.algebra.now text.now.bytes.now at) }
 {
-    let first = skip_spaces(text, at);
-    let len = valued_len(&text[first..], algebra.digits(), algebra.how())?;
+    let first = skip_spaces(text.bytes, at);
+    let len = valued_len(
+        &text.bytes[first..],
+        text.algebra.digits(),
+        text.algebra.how(),
+    )?;
     let last = first + len as usize;
-    let end = skip_spaces(text, last);
+    let end = skip_spaces(text.bytes, last);
     Some(NumberPlace { first, last, end })
 }
 
 /// A position whose first two numbers have values, behind white space and before white space, passed over.
 #[inline(always)]
-pub fn pass_pair(algebra: &GeoAlgebra, text: &[u8], at: usize) -> Option<PairPlace>
-    requires inside { at ≤ length text.now }
-    requires short { length text.now ≤ 2 ^ 28 }
-    ensures { IfSome result (PassesPair algebra.now text.now at) }
+pub fn pass_pair(text: &Text<'_>, at: usize) -> Option<PairPlace>
+    requires inside { at ≤ length text.now.bytes.now }
+    ensures { IfSome result (PassesPair text.now.algebra.now text.now.bytes.now at) }
 {
-    let bracket = behind_spaces(text, at, b'[')?;
-    let x = pass_plain(algebra, text, bracket + 1)?;
-    if !stands(text, x.end, b',') {
+    let bracket = behind_spaces(text.bytes, at, b'[')?;
+    let x = pass_plain(text, bracket + 1)?;
+    if !stands(text.bytes, x.end, b',') {
         return None;
     }
-    let y = pass_plain(algebra, text, x.end + 1)?;
-    let close = position_end(text, y.end)?;
-    let end = skip_spaces(text, close);
+    let y = pass_plain(text, x.end + 1)?;
+    let close = position_end(text.bytes, y.end)?;
+    let end = skip_spaces(text.bytes, close);
     Some(PairPlace {
         bracket,
         x,
@@ -303,11 +306,10 @@ pub fn pass_pair(algebra: &GeoAlgebra, text: &[u8], at: usize) -> Option<PairPla
 
 /// The place behind a position that is passed over.
 #[inline(always)]
-pub fn pass_spaced(algebra: &GeoAlgebra, text: &[u8], at: usize) -> Option<usize>
-    requires inside { at ≤ length text.now }
-    requires short { length text.now ≤ 2 ^ 28 }
-    ensures { IfSome result (PassesTo algebra.now text.now at) }
+pub fn pass_spaced(text: &Text<'_>, at: usize) -> Option<usize>
+    requires inside { at ≤ length text.now.bytes.now }
+    ensures { IfSome result (PassesTo text.now.algebra.now text.now.bytes.now at) }
 {
-    let place = pass_pair(algebra, text, at)?;
+    let place = pass_pair(text, at)?;
     Some(place.end)
 }

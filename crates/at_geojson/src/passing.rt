@@ -4,9 +4,10 @@ ghost use Rattle.std.specs.Prelude.{◌≤◌, ◌^◌, length, IfSome};
 ghost use Rattle.at_geojson.specs.Members.{PassesItem};
 ghost use Rattle.at_geojson.specs.Places.{IsScalarAt};
 
-use crate::asked::GeoAlgebra;
 use crate::places::{skip_spaces, stands, text_end};
 use crate::short_texts::short_text_end;
+use crate::text::Text;
+use at_fixed::{Notation, plain_len};
 use at_lex::take_run;
 
 /// The place behind the string that begins at the place.
@@ -25,8 +26,18 @@ fn pass_string(text: &[u8], at: usize) -> Option<usize>
     }
 }
 
-/// The place behind the literal or number that begins at the place.
+/// The place behind the number that begins at the place, where it is written plainly and surely has a value.
 #[inline(always)]
+fn pass_number(text: &Text<'_>, at: usize) -> Option<usize>
+    requires inside { at ≤ length text.now.bytes.now }
+    ensures { IfSome result (IsScalarAt text.now.bytes.now at) }
+{
+    let (digits, how) = (text.algebra.digits(), text.algebra.how());
+    let len = plain_len(&text.bytes[at..], Notation::Json, digits, how)?;
+    Some(at + len as usize)
+}
+
+/// The place behind the literal or number that begins at the place, however it is written.
 fn pass_run(text: &[u8], at: usize) -> Option<usize>
     requires inside { at ≤ length text.now }
     requires short { length text.now ≤ 2 ^ 28 }
@@ -42,28 +53,29 @@ fn pass_run(text: &[u8], at: usize) -> Option<usize>
 
 /// The place behind the string, literal or number that begins at the place.
 #[inline(always)]
-fn pass_scalar(text: &[u8], at: usize) -> Option<usize>
-    requires inside { at ≤ length text.now }
-    requires short { length text.now ≤ 2 ^ 28 }
-    ensures { IfSome result (IsScalarAt text.now at) }
+fn pass_scalar(text: &Text<'_>, at: usize) -> Option<usize>
+    requires inside { at ≤ length text.now.bytes.now }
+    ensures { IfSome result (IsScalarAt text.now.bytes.now at) }
 {
-    if stands(text, at, b'"') {
-        pass_string(text, at)
-    } else if stands(text, at, b'{') || stands(text, at, b'[') {
+    if stands(text.bytes, at, b'"') {
+        return pass_string(text.bytes, at);
+    }
+    if let Some(end) = pass_number(text, at) {
+        return Some(end);
+    }
+    if stands(text.bytes, at, b'{') || stands(text.bytes, at, b'[') {
         None
     } else {
-        pass_run(text, at)
+        pass_run(text.bytes, at)
     }
 }
 
 /// A string, literal or number with white space round it.
-pub fn pass_item(algebra: &GeoAlgebra, text: &[u8], at: usize) -> Option<usize>
-    requires inside { at ≤ length text.now }
-    requires short { length text.now ≤ 2 ^ 28 }
-    ensures { IfSome result (PassesItem algebra.now text.now at) }
+pub fn pass_item(text: &Text<'_>, at: usize) -> Option<usize>
+    requires inside { at ≤ length text.now.bytes.now }
+    ensures { IfSome result (PassesItem text.now.algebra.now text.now.bytes.now at) }
 {
-    let _ = algebra;
-    let first = skip_spaces(text, at);
+    let first = skip_spaces(text.bytes, at);
     let end = pass_scalar(text, first)?;
-    Some(skip_spaces(text, end))
+    Some(skip_spaces(text.bytes, end))
 }

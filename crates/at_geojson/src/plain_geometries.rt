@@ -4,7 +4,7 @@ ghost use Rattle.std.specs.Prelude.{◌≡◌, ℕ, ◌+◌, ◌<◌, ◌≤◌,
 ghost use Rattle.at_geojson.specs.Keeping.{Asked};
 ghost use Rattle.at_geojson.specs.PlainGeometries.{IsKindRead, IsCoordinatesItem, IsGeometryRead, SeesShape, Sees};
 
-use crate::asked::{GeoAlgebra, Measure};
+use crate::asked::Measure;
 use crate::fields::{is_coordinates, is_kind};
 use crate::geometries::Geometry;
 use crate::kinds::{Kind, kind_of};
@@ -14,9 +14,9 @@ use crate::makings::coordinates;
 use crate::members::field_name;
 use crate::places::{OTHER_KIND, expect_comma, skip_spaces, stands};
 use crate::short_texts::{SimpleItem, simple_item};
+use crate::text::Text;
 use at_query::Part;
 use at_text::{Fault, Halt};
-use std::alloc::Global;
 
 /// The kind that a text names, and the place behind it.
 #[derive(Clone, Copy)]
@@ -77,16 +77,15 @@ fn any_kind(text: &[u8], at: usize) -> Result<KindRead, Halt>
 
 /// White space, the name of a kind, and white space.
 #[inline(always)]
-pub fn read_kind(algebra: &GeoAlgebra, text: &[u8], base: u32, at: usize) -> Result<KindRead, Halt>
-    requires inside { at ≤ length text.now }
-    requires fits { base + length text.now ≤ 2 ^ 28 }
-    ensures { IfOk result (IsKindRead algebra.now base text.now at) }
+pub fn read_kind(text: &Text<'_>, at: usize) -> Result<KindRead, Halt>
+    requires inside { at ≤ length text.now.bytes.now }
+    ensures { IfOk result (IsKindRead text.now.algebra.now text.now.base text.now.bytes.now at) }
 {
-    let first = skip_spaces(text, at);
-    let Some(KindRead { end, kind }) = known_kind(text, first) else {
-        return any_kind(text, at);
+    let first = skip_spaces(text.bytes, at);
+    let Some(KindRead { end, kind }) = known_kind(text.bytes, first) else {
+        return any_kind(text.bytes, at);
     };
-    let end = skip_spaces(text, end);
+    let end = skip_spaces(text.bytes, end);
     Ok(KindRead { end, kind })
 }
 
@@ -111,61 +110,39 @@ pub fn seen_shape(read: ShapeRead) -> SeenRead
 /// White space, the coordinates of a geometry of the kind, and white space, and what is seen of its shape: for `select`
 /// that of `count`.
 #[inline(always)]
-fn coordinates_item(
-    algebra: &GeoAlgebra,
-    alloc: Global,
-    text: &[u8],
-    base: u32,
-    at: usize,
-    kind: Kind,
-) -> Result<SeenRead, Halt>
-    requires inside { at ≤ length text.now }
-    requires fits { base + length text.now ≤ 2 ^ 28 }
-    ensures { IfOk result (Sees algebra.now (IsCoordinatesItem algebra.now base text.now at kind)) }
+fn coordinates_item(text: &Text<'_>, at: usize, kind: Kind) -> Result<SeenRead, Halt>
+    requires inside { at ≤ length text.now.bytes.now }
+    ensures { IfOk result (Sees text.now.algebra.now (IsCoordinatesItem text.now.algebra.now text.now.base text.now.bytes.now at kind)) }
 {
-    let Some(measure) = algebra.measure() else {
-        return coordinates::<Keeps>(algebra, alloc, text, base, at, kind);
+    let Some(measure) = text.algebra.measure() else {
+        return coordinates::<Keeps>(text, at, kind);
     };
     match measure {
-        Measure::Count => coordinates::<Passes>(algebra, alloc, text, base, at, kind),
-        Measure::Extent => coordinates::<Tallies<Spreads>>(algebra, alloc, text, base, at, kind),
-        Measure::Area => coordinates::<Tallies<Sizes>>(algebra, alloc, text, base, at, kind),
+        Measure::Count => coordinates::<Passes>(text, at, kind),
+        Measure::Extent => coordinates::<Tallies<Spreads>>(text, at, kind),
+        Measure::Area => coordinates::<Tallies<Sizes>>(text, at, kind),
     }
 }
 
 /// A geometry of two members, `type` and `coordinates`, from its opening bracket on, which stands at the place, and what
 /// is seen of it.
-pub fn read_geometry(
-    algebra: &GeoAlgebra,
-    alloc: Global,
-    text: &[u8],
-    base: u32,
-    at: usize,
-) -> Result<SeenRead, Halt>
-    requires inside { at < length text.now }
-    requires opens { slice_index text.now at ≡ 0x7B }
-    requires fits { base + length text.now ≤ 2 ^ 28 }
-    ensures { IfOk result (Sees algebra.now (IsGeometryRead algebra.now base text.now at)) }
+pub fn read_geometry(text: &Text<'_>, at: usize) -> Result<SeenRead, Halt>
+    requires inside { at < length text.now.bytes.now }
+    requires opens { slice_index text.now.bytes.now at ≡ 0x7B }
+    ensures { IfOk result (Sees text.now.algebra.now (IsGeometryRead text.now.algebra.now text.now.base text.now.bytes.now at)) }
 {
-    let first = field_name(text, at + 1)?;
+    let first = field_name(text.bytes, at + 1)?;
     if !is_kind(first.field) {
         return Err(Halt::At(first.place.end));
     }
-    let named = read_kind(algebra, text, base, first.place.colon + 1)?;
-    expect_comma(text, named.end)?;
-    let second = field_name(text, named.end + 1)?;
+    let named = read_kind(text, first.place.colon + 1)?;
+    expect_comma(text.bytes, named.end)?;
+    let second = field_name(text.bytes, named.end + 1)?;
     if !is_coordinates(second.field) {
         return Err(Halt::At(second.place.end));
     }
-    let SeenRead { end, seen } = coordinates_item(
-        algebra,
-        alloc,
-        text,
-        base,
-        second.place.colon + 1,
-        named.kind,
-    )?;
-    if !stands(text, end, b'}') {
+    let SeenRead { end, seen } = coordinates_item(text, second.place.colon + 1, named.kind)?;
+    if !stands(text.bytes, end, b'}') {
         return Err(Halt::At(end));
     }
     Ok(SeenRead { end: end + 1, seen })

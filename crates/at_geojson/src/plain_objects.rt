@@ -1,23 +1,22 @@
 //! Objects that name no kind, of which no more is told than how many tests on texts theirs meet: no atom is made of their
 //! members.
 
-ghost use Rattle.std.specs.Prelude.{◌≡◌, ◌+◌, ◌<◌, ◌≤◌, ◌^◌, length, slice_index, IfOk};
+ghost use Rattle.std.specs.Prelude.{◌≡◌, ◌+◌, ◌<◌, ◌≤◌, length, slice_index, IfOk};
 ghost use Rattle.at_geojson.specs.Members.{IsPlainName, ArePlainOthers};
-ghost use Rattle.at_geojson.specs.Features.{PassesOther, MeetsTexts, NamesNoKind, ReadsVoid, IsTexted};
+ghost use Rattle.at_geojson.specs.Features.{PassesOther, MeetsTexts, NamesNoKind, PassesMember, IsTexted};
 
-use crate::asked::GeoAlgebra;
 use crate::fields::Field;
 use crate::kinds::kind_of;
-use crate::members::{FieldName, OtherNames, add_other, field_name, name_bytes};
+use crate::members::{FieldName, OtherNames, name_bytes, next_name};
 use crate::pairs::Whole;
 use crate::passing::pass_item;
 use crate::places::{NamePlace, OTHER_KIND, expect_comma, skip_spaces, stands};
 use crate::short_texts::{SimpleItem, simple_item};
+use crate::text::Text;
 use crate::texts::{asks_name, met_by, met_by_atom};
 use crate::twins::is_twin;
 use crate::values::{DEEPEST, read_item};
 use at_text::Halt;
-use std::alloc::Global;
 
 /// So deep stand brackets in an array of numbers, as `bbox` is.
 const FLAT: u8 = 1;
@@ -38,22 +37,14 @@ pub struct VoidRead {
 
 /// White space, a value in which brackets stand at most so deep, and white space.
 #[inline(always)]
-pub fn pass_other(
-    algebra: &GeoAlgebra,
-    alloc: Global,
-    text: &[u8],
-    base: u32,
-    at: usize,
-    depth: u8,
-) -> Result<usize, Halt>
-    requires inside { at ≤ length text.now }
-    requires fits { base + length text.now ≤ 2 ^ 28 }
-    ensures { IfOk result (PassesOther algebra.now base text.now at) }
+pub fn pass_other(text: &Text<'_>, at: usize, depth: u8) -> Result<usize, Halt>
+    requires inside { at ≤ length text.now.bytes.now }
+    ensures { IfOk result (PassesOther text.now.algebra.now text.now.base text.now.bytes.now at) }
 {
-    if let Some(end) = pass_item(algebra, text, at) {
+    if let Some(end) = pass_item(text, at) {
         return Ok(end);
     }
-    let Whole { end, atom } = read_item(algebra, alloc, text, base, at, depth)?;
+    let Whole { end, atom } = read_item(text, at, depth)?;
     if is_twin(&atom) {
         return Err(Halt::At(end));
     }
@@ -62,18 +53,11 @@ pub fn pass_other(
 
 /// White space, a string, literal or number, or an array or object of these, and white space, before it is known what the
 /// object is.
-pub fn pass_early(
-    algebra: &GeoAlgebra,
-    alloc: Global,
-    text: &[u8],
-    base: u32,
-    at: usize,
-) -> Result<usize, Halt>
-    requires inside { at ≤ length text.now }
-    requires fits { base + length text.now ≤ 2 ^ 28 }
-    ensures { IfOk result (PassesOther algebra.now base text.now at) }
+pub fn pass_early(text: &Text<'_>, at: usize) -> Result<usize, Halt>
+    requires inside { at ≤ length text.now.bytes.now }
+    ensures { IfOk result (PassesOther text.now.algebra.now text.now.base text.now.bytes.now at) }
 {
-    match pass_other(algebra, alloc, text, base, at, FLAT) {
+    match pass_other(text, at, FLAT) {
         Ok(end) => Ok(end),
         Err(Halt::Memory) => Err(Halt::Memory),
         Err(Halt::At(_)) => Err(Halt::At(OTHER_KIND)),
@@ -82,92 +66,68 @@ pub fn pass_early(
 
 /// The value of a member of the name, with white space round it, of which an atom is made.
 #[inline(never)]
-fn any_text(
-    algebra: &GeoAlgebra,
-    alloc: Global,
-    text: &[u8],
-    base: u32,
-    name: NamePlace,
-    members: &mut VoidMembers,
-) -> Result<usize, Halt>
-    requires inside { name.colon < length text.now }
-    requires fits { base + length text.now ≤ 2 ^ 28 }
-    requires plain { IsPlainName text.now name }
-    requires few { members.old.met ≤ length algebra.now.query.tests }
-    ensures { IfOk result (MeetsTexts algebra.now base text.now name members.old members.new) }
+fn any_text(text: &Text<'_>, name: NamePlace, members: &mut VoidMembers) -> Result<usize, Halt>
+    requires inside { name.colon < length text.now.bytes.now }
+    requires plain { IsPlainName text.now.bytes.now name }
+    requires few { members.old.met ≤ length text.now.algebra.now.query.tests }
+    ensures { IfOk result (MeetsTexts text.now.algebra.now text.now.base text.now.bytes.now name members.old members.new) }
 {
-    let Whole { end, atom } = read_item(algebra, alloc, text, base, name.colon + 1, DEEPEST)?;
+    let Whole { end, atom } = read_item(text, name.colon + 1, DEEPEST)?;
     if is_twin(&atom) {
         return Err(Halt::At(end));
     }
-    let tests = algebra.query().tests.as_slice();
-    members.met += met_by_atom(tests, name_bytes(text, name), &atom);
+    let tests = text.algebra.query().tests.as_slice();
+    members.met += met_by_atom(tests, name_bytes(text.bytes, name), &atom);
     Ok(end)
 }
 
 /// The value of a member for whose name some test asks, with white space round it.
-fn asked_text(
-    algebra: &GeoAlgebra,
-    alloc: Global,
-    text: &[u8],
-    base: u32,
-    name: NamePlace,
-    members: &mut VoidMembers,
-) -> Result<usize, Halt>
-    requires inside { name.colon < length text.now }
-    requires fits { base + length text.now ≤ 2 ^ 28 }
-    requires plain { IsPlainName text.now name }
-    requires few { members.old.met ≤ length algebra.now.query.tests }
-    ensures { IfOk result (MeetsTexts algebra.now base text.now name members.old members.new) }
+fn asked_text(text: &Text<'_>, name: NamePlace, members: &mut VoidMembers) -> Result<usize, Halt>
+    requires inside { name.colon < length text.now.bytes.now }
+    requires plain { IsPlainName text.now.bytes.now name }
+    requires few { members.old.met ≤ length text.now.algebra.now.query.tests }
+    ensures { IfOk result (MeetsTexts text.now.algebra.now text.now.base text.now.bytes.now name members.old members.new) }
 {
-    let Some(SimpleItem { first, last, end }) = simple_item(text, name.colon + 1) else {
-        return any_text(algebra, alloc, text, base, name, members);
+    let Some(SimpleItem { first, last, end }) = simple_item(text.bytes, name.colon + 1) else {
+        return any_text(text, name, members);
     };
-    let tests = algebra.query().tests.as_slice();
-    members.met += met_by(tests, name_bytes(text, name), &text[first + 1..last - 1]);
+    let tests = text.algebra.query().tests.as_slice();
+    members.met += met_by(
+        tests,
+        name_bytes(text.bytes, name),
+        &text.bytes[first + 1..last - 1],
+    );
     Ok(end)
 }
 
 /// The value of a member for which no kind asks, with white space round it.
 #[inline(always)]
-fn pass_text(
-    algebra: &GeoAlgebra,
-    alloc: Global,
-    text: &[u8],
-    base: u32,
-    name: NamePlace,
-    members: &mut VoidMembers,
-) -> Result<usize, Halt>
-    requires inside { name.colon < length text.now }
-    requires fits { base + length text.now ≤ 2 ^ 28 }
-    requires plain { IsPlainName text.now name }
-    requires few { members.old.met ≤ length algebra.now.query.tests }
-    ensures { IfOk result (MeetsTexts algebra.now base text.now name members.old members.new) }
+fn pass_text(text: &Text<'_>, name: NamePlace, members: &mut VoidMembers) -> Result<usize, Halt>
+    requires inside { name.colon < length text.now.bytes.now }
+    requires plain { IsPlainName text.now.bytes.now name }
+    requires few { members.old.met ≤ length text.now.algebra.now.query.tests }
+    ensures { IfOk result (MeetsTexts text.now.algebra.now text.now.base text.now.bytes.now name members.old members.new) }
 {
-    if asks_name(algebra.query().tests.as_slice(), name_bytes(text, name)) {
-        return asked_text(algebra, alloc, text, base, name, members);
+    if asks_name(
+        text.algebra.query().tests.as_slice(),
+        name_bytes(text.bytes, name),
+    ) {
+        return asked_text(text, name, members);
     }
-    pass_other(algebra, alloc, text, base, name.colon + 1, DEEPEST)
+    pass_other(text, name.colon + 1, DEEPEST)
 }
 
 /// The value of the member `type`, which is a short text that names no kind, with white space round it.
-fn pass_kind(
-    algebra: &GeoAlgebra,
-    text: &[u8],
-    base: u32,
-    name: NamePlace,
-    members: &mut VoidMembers,
-) -> Result<usize, Halt>
-    requires inside { name.colon < length text.now }
-    requires fits { base + length text.now ≤ 2 ^ 28 }
-    requires plain { IsPlainName text.now name }
-    requires few { members.old.met ≤ length algebra.now.query.tests }
-    ensures { IfOk result (NamesNoKind algebra.now base text.now name members.old members.new) }
+fn pass_kind(text: &Text<'_>, name: NamePlace, members: &mut VoidMembers) -> Result<usize, Halt>
+    requires inside { name.colon < length text.now.bytes.now }
+    requires plain { IsPlainName text.now.bytes.now name }
+    requires few { members.old.met ≤ length text.now.algebra.now.query.tests }
+    ensures { IfOk result (NamesNoKind text.now.algebra.now text.now.base text.now.bytes.now name members.old members.new) }
 {
-    let Some(SimpleItem { first, last, end }) = simple_item(text, name.colon + 1) else {
+    let Some(SimpleItem { first, last, end }) = simple_item(text.bytes, name.colon + 1) else {
         return Err(Halt::At(OTHER_KIND));
     };
-    let value = &text[first + 1..last - 1];
+    let value = &text.bytes[first + 1..last - 1];
     if kind_of(value).is_some() {
         return Err(Halt::At(OTHER_KIND));
     }
@@ -175,58 +135,38 @@ fn pass_kind(
         return Err(Halt::At(end));
     }
     members.named = true;
-    let tests = algebra.query().tests.as_slice();
-    members.met += met_by(tests, name_bytes(text, name), value);
+    let tests = text.algebra.query().tests.as_slice();
+    members.met += met_by(tests, name_bytes(text.bytes, name), value);
     Ok(end)
 }
 
-/// A member behind its name. Of those of one name the first alone is passed over.
+/// A member behind its name.
 #[inline(always)]
-fn pass_member(
-    algebra: &GeoAlgebra,
-    alloc: Global,
-    text: &[u8],
-    base: u32,
-    name: FieldName,
-    members: &mut VoidMembers,
-    others: &mut OtherNames,
-) -> Result<usize, Halt>
-    requires inside { name.place.colon < length text.now }
-    requires fits { base + length text.now ≤ 2 ^ 28 }
-    requires plain { IsPlainName text.now name.place }
-    requires names { ArePlainOthers text.now others.old }
-    requires few { members.old.met ≤ length algebra.now.query.tests }
-    ensures { IfOk result (ReadsVoid algebra.now base text.now name members.old members.new others.old others.new) }
+fn pass_member(text: &Text<'_>, name: FieldName, members: &mut VoidMembers) -> Result<usize, Halt>
+    requires inside { name.place.colon < length text.now.bytes.now }
+    requires plain { IsPlainName text.now.bytes.now name.place }
+    requires few { members.old.met ≤ length text.now.algebra.now.query.tests }
+    ensures { IfOk result (PassesMember text.now.algebra.now text.now.base text.now.bytes.now name members.old
+        members.new) }
 {
     match name.field {
-        Field::Other => {
-            add_other(text, others, name.place)?;
-            pass_text(algebra, alloc, text, base, name.place, members)
-        }
-        Field::Kind => pass_kind(algebra, text, base, name.place, members),
+        Field::Other => pass_text(text, name.place, members),
+        Field::Kind => pass_kind(text, name.place, members),
         _ => Err(Halt::At(OTHER_KIND)),
     }
 }
 
 /// The place behind an object that names no kind, and in which no name stands twice, from its opening bracket on, which
 /// stands at the place, and how many tests on texts its members meet.
-pub fn pass_object(
-    algebra: &GeoAlgebra,
-    alloc: Global,
-    text: &[u8],
-    base: u32,
-    at: usize,
-    others: &mut OtherNames,
-) -> Result<VoidRead, Halt>
-    requires inside { at < length text.now }
-    requires opens { slice_index text.now at ≡ 0x7B }
-    requires fits { base + length text.now ≤ 2 ^ 28 }
-    requires names { ArePlainOthers text.now others.old }
-    ensures reads { IfOk result (IsTexted algebra.now base text.now at) }
-    ensures names { IfOk result (λ _. ArePlainOthers text.now others.new) }
+pub fn pass_object(text: &Text<'_>, at: usize, others: &mut OtherNames) -> Result<VoidRead, Halt>
+    requires inside { at < length text.now.bytes.now }
+    requires opens { slice_index text.now.bytes.now at ≡ 0x7B }
+    requires names { ArePlainOthers text.now.bytes.now others.old }
+    ensures reads { IfOk result (IsTexted text.now.algebra.now text.now.base text.now.bytes.now at) }
+    ensures names { IfOk result (λ _. ArePlainOthers text.now.bytes.now others.new) }
 {
-    let first = skip_spaces(text, at + 1);
-    if stands(text, first, b'}') {
+    let first = skip_spaces(text.bytes, at + 1);
+    if stands(text.bytes, first, b'}') {
         return Ok(VoidRead {
             end: first + 1,
             met: 0,
@@ -239,15 +179,15 @@ pub fn pass_object(
     };
     let mut place = at + 1;
     'members: loop {
-        let name = field_name(text, place)?;
-        let end = pass_member(algebra, alloc, text, base, name, &mut members, others)?;
-        if stands(text, end, b'}') {
+        let name = next_name(text.bytes, others, place)?;
+        let end = pass_member(text, name, &mut members)?;
+        if stands(text.bytes, end, b'}') {
             return Ok(VoidRead {
                 end: end + 1,
                 met: members.met,
             });
         }
-        expect_comma(text, end)?;
+        expect_comma(text.bytes, end)?;
         place = end + 1;
     }
 }

@@ -1,28 +1,27 @@
 //! Positions one behind another in an array, read at once: they are one track. So a list that goes on beyond what is
 //! seen of it is read in few steps.
 
-ghost use Rattle.std.specs.Prelude.{◌≡◌, ◌+◌, ◌<◌, ◌≤◌, ◌^◌, length, false, IfOk, IfSome};
+ghost use Rattle.std.specs.Prelude.{◌≡◌, ◌+◌, ◌<◌, false, IfOk, IfSome};
 ghost use Rattle.at_geojson.specs.Keeping.{needs_shapes as needs_of};
 ghost use Rattle.at_geojson.specs.Values.{IsSpacedPair};
 ghost use Rattle.at_geojson.specs.FeatureRuns.{AreItemsWhole};
 ghost use Rattle.at_geojson.specs.PositionRuns.{IsNextPair, PassesNext, IsPassedTrack};
 
-use crate::asked::GeoAlgebra;
 use crate::atoms::{GeoAtom, Track, TrackAtom};
 use crate::pairs::{PairRead, Whole, one_more, pass_spaced, read_spaced};
 use crate::places::{OTHER_KIND, stands};
+use crate::text::Text;
 use crate::tracks::{joined_track, new_track};
 use at_text::Halt;
 use std::alloc::Global;
 
 /// A comma, which stands at the place, and a position with white space round it.
 #[inline(always)]
-fn next_pair(algebra: &GeoAlgebra, text: &[u8], base: u32, at: usize) -> Option<PairRead>
-    requires fits { base + length text.now ≤ 2 ^ 28 }
-    ensures { IfSome result (IsNextPair algebra.now base text.now at) }
+fn next_pair(text: &Text<'_>, at: usize) -> Option<PairRead>
+    ensures { IfSome result (IsNextPair text.now.algebra.now text.now.base text.now.bytes.now at) }
 {
-    if stands(text, at, b',') {
-        read_spaced(algebra, text, base, at + 1)
+    if stands(text.bytes, at, b',') {
+        read_spaced(text, at + 1)
     } else {
         None
     }
@@ -30,33 +29,25 @@ fn next_pair(algebra: &GeoAlgebra, text: &[u8], base: u32, at: usize) -> Option<
 
 /// The same, passed over.
 #[inline(always)]
-fn pass_next(algebra: &GeoAlgebra, text: &[u8], at: usize) -> Option<usize>
-    requires short { length text.now ≤ 2 ^ 28 }
-    ensures { IfSome result (PassesNext algebra.now text.now at) }
+fn pass_next(text: &Text<'_>, at: usize) -> Option<usize>
+    ensures { IfSome result (PassesNext text.now.algebra.now text.now.bytes.now at) }
 {
-    if stands(text, at, b',') {
-        pass_spaced(algebra, text, at + 1)
+    if stands(text.bytes, at, b',') {
+        pass_spaced(text, at + 1)
     } else {
         None
     }
 }
 
 /// Positions of which the first was read, where shapes are kept.
-fn keep_positions(
-    algebra: &GeoAlgebra,
-    alloc: Global,
-    text: &[u8],
-    base: u32,
-    first: PairRead,
-) -> Result<Whole, Halt>
-    requires fits { base + length text.now ≤ 2 ^ 28 }
-    requires first { IsSpacedPair algebra.now base text.now 0 first }
-    ensures { IfOk result (AreItemsWhole algebra.now base text.now 0) }
+fn keep_positions(text: &Text<'_>, first: PairRead) -> Result<Whole, Halt>
+    requires first { IsSpacedPair text.now.algebra.now text.now.base text.now.bytes.now 0 first }
+    ensures { IfOk result (AreItemsWhole text.now.algebra.now text.now.base text.now.bytes.now 0) }
 {
-    let needs = algebra.needs_shapes();
-    let mut track = new_track(alloc, needs, GeoAtom::Position(first.pair))?;
+    let needs = text.algebra.needs_shapes();
+    let mut track = new_track(text.alloc, needs, GeoAtom::Position(first.pair))?;
     let mut end = first.end;
-    'positions: while let Some(next) = next_pair(algebra, text, base, end) {
+    'positions: while let Some(next) = next_pair(text, end) {
         track = joined_track(needs, track, GeoAtom::Position(next.pair))?;
         end = next.end;
     }
@@ -88,19 +79,12 @@ fn passed_track(alloc: Global, first: PairRead, count: u32, last: PairRead) -> R
 
 /// Positions of which the first was read, where no shapes are kept: but the last, which is read, the others are passed
 /// over.
-fn pass_positions(
-    algebra: &GeoAlgebra,
-    alloc: Global,
-    text: &[u8],
-    base: u32,
-    first: PairRead,
-) -> Result<Whole, Halt>
-    requires fits { base + length text.now ≤ 2 ^ 28 }
-    requires first { IsSpacedPair algebra.now base text.now 0 first }
-    requires unneeded { needs_of algebra.now.query ≡ false }
-    ensures { IfOk result (AreItemsWhole algebra.now base text.now 0) }
+fn pass_positions(text: &Text<'_>, first: PairRead) -> Result<Whole, Halt>
+    requires first { IsSpacedPair text.now.algebra.now text.now.base text.now.bytes.now 0 first }
+    requires unneeded { needs_of text.now.algebra.now.query ≡ false }
+    ensures { IfOk result (AreItemsWhole text.now.algebra.now text.now.base text.now.bytes.now 0) }
 {
-    let Some(mut ahead) = pass_next(algebra, text, first.end) else {
+    let Some(mut ahead) = pass_next(text, first.end) else {
         return Ok(Whole {
             end: first.end,
             atom: GeoAtom::Position(first.pair),
@@ -108,33 +92,27 @@ fn pass_positions(
     };
     let mut end = first.end;
     let mut count = 1;
-    'positions: while let Some(next) = pass_next(algebra, text, ahead) {
+    'positions: while let Some(next) = pass_next(text, ahead) {
         count = one_more(count);
         end = ahead;
         ahead = next;
     }
-    match next_pair(algebra, text, base, end) {
-        Some(last) => passed_track(alloc, first, one_more(count), last),
+    match next_pair(text, end) {
+        Some(last) => passed_track(text.alloc, first, one_more(count), last),
         None => Err(Halt::At(OTHER_KIND)),
     }
 }
 
 /// Positions one behind another in an array that begin the text.
-pub fn read_positions(
-    algebra: &GeoAlgebra,
-    alloc: Global,
-    text: &[u8],
-    base: u32,
-) -> Result<Whole, Halt>
-    requires fits { base + length text.now ≤ 2 ^ 28 }
-    ensures { IfOk result (AreItemsWhole algebra.now base text.now 0) }
+pub fn read_positions(text: &Text<'_>) -> Result<Whole, Halt>
+    ensures { IfOk result (AreItemsWhole text.now.algebra.now text.now.base text.now.bytes.now 0) }
 {
-    let Some(first) = read_spaced(algebra, text, base, 0) else {
+    let Some(first) = read_spaced(text, 0) else {
         return Err(Halt::At(OTHER_KIND));
     };
-    if algebra.needs_shapes() {
-        keep_positions(algebra, alloc, text, base, first)
+    if text.algebra.needs_shapes() {
+        keep_positions(text, first)
     } else {
-        pass_positions(algebra, alloc, text, base, first)
+        pass_positions(text, first)
     }
 }

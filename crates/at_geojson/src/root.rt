@@ -16,6 +16,7 @@ use crate::members::TableNames;
 use crate::objects::feature_part;
 use crate::places::stands;
 use crate::sorts::at_of;
+use crate::text::Text;
 use at_query::{Part, TextPairs};
 use at_text::{Fault, Halt, Memory};
 use std::alloc::Global;
@@ -135,8 +136,14 @@ pub fn feature_front(
     if !stands(text, 0, b'{') {
         return Ok(None);
     }
+    let text = Text {
+        algebra,
+        alloc,
+        bytes: text,
+        base,
+    };
     let mut names = TableNames::none(alloc);
-    match read_feature(algebra, alloc, text, base, 0, &mut names) {
+    match read_feature(&text, 0, &mut names) {
         Ok(FeatureRead { end, part }) => Ok(Some(FeatureFront {
             len: end as u32,
             part,

@@ -1,14 +1,14 @@
 //! How the positions of a list are read one by one: by their values, or by where they stand.
 
-ghost use Rattle.std.specs.Prelude.{◌≡◌, ℕ, ◌+◌, ◌≤◌, ◌^◌, List, length, IfSome};
+ghost use Rattle.std.specs.Prelude.{◌≡◌, ℕ, ◌≤◌, List, length, IfSome};
 ghost use Rattle.std.specs.Bool.{⊤};
 ghost use Rattle.at_geom.specs.declared.positions.Pos.{Pos};
 ghost use Rattle.at_geojson.specs.Keeping.{Asked};
 ghost use Rattle.at_geojson.specs.Passing.{same_values};
 ghost use Rattle.at_geojson.specs.Makings.{ReadsSpot, IsValue, IsAnywhere, IsPassedOver};
 
-use crate::asked::GeoAlgebra;
 use crate::pairs::{pass_pair, read_spaced};
+use crate::text::Text;
 use at_geom::Pos;
 
 /// A position that was read, with white space round it: the place of its bracket, the one behind it, and its mark.
@@ -38,15 +38,13 @@ pub trait Reads {
     ghost stands: { Asked → List ℕ → ℕ → ℕ → Pos → Type 0 };
 
     /// White space, a position and white space.
-    fn read(algebra: &GeoAlgebra, text: &[u8], base: u32, at: usize) -> Option<Spot<Self::Mark>>
-        requires inside { at ≤ length text.now }
-        requires fits { base + length text.now ≤ 2 ^ 28 }
-        ensures { IfSome result (ReadsSpot marks (stands algebra.now text.now at) algebra.now base text.now at) };
+    fn read(text: &Text<'_>, at: usize) -> Option<Spot<Self::Mark>>
+        requires inside { at ≤ length text.now.bytes.now }
+        ensures { IfSome result (ReadsSpot marks (stands text.now.algebra.now text.now.bytes.now at) text.now.algebra.now text.now.base text.now.bytes.now at) };
 
     /// Whether two positions are the same, which stand in these stretches, and have these marks.
     fn closes(
-        algebra: &GeoAlgebra,
-        text: &[u8],
+        text: &Text<'_>,
         first: Stretch,
         mark: Self::Mark,
         last: Stretch,
@@ -55,12 +53,11 @@ pub trait Reads {
         requires first { first.from ≤ first.to }
         requires order { first.from ≤ last.from }
         requires last { last.from ≤ last.to }
-        requires inside { first.to ≤ length text.now }
-        requires within { last.to ≤ length text.now }
-        requires short { length text.now ≤ 2 ^ 28 }
+        requires inside { first.to ≤ length text.now.bytes.now }
+        requires within { last.to ≤ length text.now.bytes.now }
         ensures { IfSome result (λ closes. (p q : Pos) → marks p mark
-            → stands algebra.now text.now first.from first.to p → marks q last_mark
-            → stands algebra.now text.now last.from last.to q → closes ≡ same_values p q) };
+            → stands text.now.algebra.now text.now.bytes.now first.from first.to p → marks q last_mark
+            → stands text.now.algebra.now text.now.bytes.now last.from last.to q → closes ≡ same_values p q) };
 }
 
 /// Positions are read by their values.
@@ -85,10 +82,10 @@ impl Reads for ByValue {
     ghost stands = { IsAnywhere };
 
     #[inline(always)]
-    fn read(algebra: &GeoAlgebra, text: &[u8], base: u32, at: usize) -> Option<Spot<Pos>> {
-        let read = read_spaced(algebra, text, base, at)?;
+    fn read(text: &Text<'_>, at: usize) -> Option<Spot<Pos>> {
+        let read = read_spaced(text, at)?;
         Some(Spot {
-            bracket: (read.pair.at - base) as usize,
+            bracket: (read.pair.at - text.base) as usize,
             end: read.end,
             mark: read.pair.pos,
         })
@@ -96,8 +93,7 @@ impl Reads for ByValue {
 
     #[inline(always)]
     fn closes(
-        _algebra: &GeoAlgebra,
-        _text: &[u8],
+        _text: &Text<'_>,
         _first: Stretch,
         mark: Pos,
         _last: Stretch,
@@ -115,8 +111,8 @@ impl Reads for ByPlace {
     ghost stands = { IsPassedOver };
 
     #[inline(always)]
-    fn read(algebra: &GeoAlgebra, text: &[u8], _base: u32, at: usize) -> Option<Spot<()>> {
-        let place = pass_pair(algebra, text, at)?;
+    fn read(text: &Text<'_>, at: usize) -> Option<Spot<()>> {
+        let place = pass_pair(text, at)?;
         Some(Spot {
             bracket: place.bracket,
             end: place.end,
@@ -127,18 +123,17 @@ impl Reads for ByPlace {
     /// Where their bytes are the same no value is computed.
     #[inline(never)]
     fn closes(
-        algebra: &GeoAlgebra,
-        text: &[u8],
+        text: &Text<'_>,
         first: Stretch,
         _mark: (),
         last: Stretch,
         _last_mark: (),
     ) -> Option<bool> {
-        if text[first.from..first.to] == text[last.from..last.to] {
+        if text.bytes[first.from..first.to] == text.bytes[last.from..last.to] {
             return Some(true);
         }
-        let one = read_spaced(algebra, text, 0, first.from)?;
-        let other = read_spaced(algebra, text, 0, last.from)?;
+        let one = read_spaced(text, first.from)?;
+        let other = read_spaced(text, last.from)?;
         if one.end != first.to {
             return None;
         }

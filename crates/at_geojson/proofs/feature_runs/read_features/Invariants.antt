@@ -6,10 +6,10 @@ use Rattle.at_geojson.proofs.feature_runs.read_features.Given as goal
 
 abbrev pub invariant-features : goal.invariant-features
 invariant-features l = record {
-  own : ArePlainOthers l.text l.names.own;
-  properties : ArePlainOthers l.text l.names.properties;
-  read : AreFeaturesRead l.algebra l.base l.text l.at l.end l.run.value;
+  own : ArePlainOthers l.text.bytes.now l.names.own;
+  properties : ArePlainOthers l.text.bytes.now l.names.properties;
+  read : AreFeaturesRead l.text.algebra.now l.text.base l.text.bytes.now l.at l.end l.run.value;
 }
 
 abbrev pub decreases-features : goal.decreases-features
-decreases-features l = length l.text - l.end
+decreases-features l = length l.text.bytes.now - l.end

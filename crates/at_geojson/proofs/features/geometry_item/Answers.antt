@@ -12,8 +12,8 @@ returns-in-Ok c =
       record { end = end; shape = s.shape },
       record {
         atom = h.atom;
-        item = item_read c.args.algebra.now c.args.base c.args.text.now c.args.at c.skip_spaces-first.result end (record { end = s.end; atom = h.atom }) c.skip_spaces-first.ensures.order c.skip_spaces-first.ensures.spaces h.whole
-            (omega (arith, behind, c.skip_spaces.ensures.order)) c.skip_spaces.ensures.within (subst (λ z. AreSpaces (between c.args.text.now z end)) (sym behind) c.skip_spaces.ensures.spaces);
+        item = item_read c.args.text.now.algebra.now c.args.text.now.base c.args.text.now.bytes.now c.args.at c.skip_spaces-first.result end (record { end = s.end; atom = h.atom }) c.skip_spaces-first.ensures.order c.skip_spaces-first.ensures.spaces h.whole
+            (omega (arith, behind, c.skip_spaces.ensures.order)) c.skip_spaces.ensures.within (subst (λ z. AreSpaces (between c.args.text.now.bytes.now z end)) (sym behind) c.skip_spaces.ensures.spaces);
         no_twin = h.no_twin;
         shape = h.shape;
         own = h.own;

@@ -14,8 +14,8 @@ returns c =
         item = c.in_ok-end.ensures;
         no_twin = no_twin_in atom c.is_twin.result c.is_twin.ensures c.if-is_twin.false;
         shape = same;
-        own = subst (IfOwnShape c.args.algebra.now) same (own_feature_shape c.args.algebra.now (Some atom) c.in_ok-end.ensures.own);
+        own = subst (IfOwnShape c.args.text.now.algebra.now) same (own_feature_shape c.args.text.now.algebra.now (Some atom) c.in_ok-end.ensures.own);
       },
       sym c.seen_shape.ensures.0,
-      c.seen_shape.ensures.1 c.args.algebra.now.query,
+      c.seen_shape.ensures.1 c.args.text.now.algebra.now.query,
     )

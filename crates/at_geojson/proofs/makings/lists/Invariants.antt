@@ -4,7 +4,7 @@ use Rattle.at_geojson.proofs.MadeFolds.{AreLinesMade}
 use Rattle.at_geojson.proofs.makings.lists.Given as goal
 
 abbrev pub invariant-lists : goal.invariant-lists
-invariant-lists g l = AreLinesMade g.S.Maker.tells_lines l.fn.before l.algebra l.base l.text l.at l.least l.end l.as_lines l.as_rings l.made
+invariant-lists g l = AreLinesMade g.S.Maker.tells_lines l.fn.before l.text.algebra.now l.text.base l.text.bytes.now l.at l.least l.end l.as_lines l.as_rings l.made
 
 abbrev pub decreases-lists : goal.decreases-lists
-decreases-lists g l = length l.text - l.end
+decreases-lists g l = length l.text.bytes.now - l.end

@@ -5,5 +5,5 @@ use Rattle.at_geojson.proofs.makings.positions_item.Goals as goal
 
 pub returns : goal.returns
 returns g c =
-    line_spaced g.S.Maker.tells g.S.Maker.tells_lines c.args.before c.args.algebra.now c.args.base c.args.text.now c.args.alloc (omega (arith, c.requires.fits)) c.args.at c.in_ok-first.first c.skip_spaces.result c.in_ok-line.line
+    line_spaced g.S.Maker.tells g.S.Maker.tells_lines c.args.before c.args.text.now.algebra.now c.args.text.now.base c.args.text.now.bytes.now c.args.text.now.alloc (omega (arith, c.args.text.now.fits)) c.args.at c.in_ok-first.first c.skip_spaces.result c.in_ok-line.line
     c.in_ok-first.ensures.order c.in_ok-first.ensures.spaces c.in_ok-line.ensures c.skip_spaces.ensures.order c.skip_spaces.ensures.within c.skip_spaces.ensures.spaces

@@ -1,9 +1,15 @@
-use Rattle.std.proofs.Common.{◌+◌, refl}
-use Rattle.at_geojson.proofs.OtherNamesMore.{expected_new, expected_adds}
+use Rattle.std.proofs.Common.{◌∙◌, sym, subst}
+use Rattle.at_geojson.specs.declared.places.NamePlace.{NamePlace}
+use Rattle.at_geojson.specs.Members.{AddsName}
+use Rattle.at_geojson.proofs.OtherNamesMore.{cut_known, cut_plain, other_adds}
 use Rattle.at_geojson.proofs.members.add_other.Goals as goal
 
-pub returns-then-is_expected-clause-new : goal.returns-then-is_expected-clause-new
-returns-then-is_expected-clause-new c = expected_new c.args.text.now c.args.others.now c.args.name c.requires.names (c.is_expected.ensures c.if-is_expected.true)
+pub knows-requires-clause-names : goal.knows-requires-clause-names
+knows-requires-clause-names c = cut_plain c.args.text.now c.args.others.now c.cut.new.self c.requires.names c.cut.ensures
 
-pub returns-then-is_expected-clause-adds : goal.returns-then-is_expected-clause-adds
-returns-then-is_expected-clause-adds c = expected_adds c.args.text.now c.args.others.now (record { count = c.args.others.now.count + 1; placed = c.args.others.now.placed; near = c.args.others.now.near; far = c.args.others.now.far }) c.args.name (c.is_expected.ensures c.if-is_expected.true) refl refl (λ h. record { few = h.few; full = h.full })
+pub push-requires-clause-known : goal.push-requires-clause-known
+push-requires-clause-known c = cut_known c.args.text.now c.args.others.now c.cut.new.self c.requires.names c.cut.ensures
+
+pub returns-clause-adds : goal.returns-clause-adds
+returns-clause-adds c = subst (λ (n : NamePlace). AddsName c.args.text.now n c.args.others.now c.push.new.self) c.other_name-other.ensures.place
+    (other_adds c.args.text.now c.args.others.now c.cut.new.self c.push.new.self c.other_name-other.result c.requires.names c.cut.ensures c.other_name-other.ensures.name (sym c.knows.ensures ∙ c.if-knows.false) c.in_ok-push.ensures)

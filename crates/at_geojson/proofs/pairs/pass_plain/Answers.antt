@@ -5,7 +5,7 @@ use Rattle.at_geojson.proofs.pairs.pass_plain.Goals as goal
 
 pub returns : goal.returns
 returns c =
-    let w = c.args.text.now in let first = c.skip_spaces-first.result in let len = c.in_ok-len.len in
+    let w = c.args.text.now.bytes.now in let first = c.skip_spaces-first.result in let len = c.in_ok-len.len in
     let (v, f) = c.in_ok-len.ensures.value in
     let t = number_taken w first (record { len = len; whole = true }) c.skip_spaces-first.ensures.within c.in_ok-len.ensures.taken refl in (
       v,
@@ -17,6 +17,6 @@ returns c =
         more_spaces = c.skip_spaces-end.ensures.spaces;
         within = c.skip_spaces-end.ensures.within;
         number = t.word;
-        value = value_taken w first len c.digits.result c.how.result c.args.algebra.now v c.digits.ensures c.how.ensures f;
+        value = value_taken w first len c.digits.result c.how.result c.args.text.now.algebra.now v c.digits.ensures c.how.ensures f;
       },
     )

@@ -3,5 +3,5 @@ use Rattle.at_geojson.proofs.KnownNames.{kind_named}
 use Rattle.at_geojson.proofs.plain_geometries.read_kind.Goals as goal
 
 pub returns : goal.returns
-returns c = kind_named c.args.algebra.now c.args.base c.args.text.now c.args.at c.skip_spaces-first.result c.in-Some.field-0 c.skip_spaces-end.result c.skip_spaces-first.ensures.order c.skip_spaces-first.ensures.spaces
+returns c = kind_named c.args.text.now.algebra.now c.args.text.now.base c.args.text.now.bytes.now c.args.at c.skip_spaces-first.result c.in-Some.field-0 c.skip_spaces-end.result c.skip_spaces-first.ensures.order c.skip_spaces-first.ensures.spaces
     c.in-Some.ensures c.skip_spaces-end.ensures.order c.skip_spaces-end.ensures.within c.skip_spaces-end.ensures.spaces

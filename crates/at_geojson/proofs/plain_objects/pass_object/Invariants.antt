@@ -8,9 +8,9 @@ use Rattle.at_geojson.proofs.plain_objects.pass_object.Given as goal
 abbrev pub invariant-members : goal.invariant-members
 invariant-members l = record {
   order : l.at < l.place;
-  within : l.place ≤ length l.text;
-  read : (r : AreRead l.algebra l.base l.text l.at l.place l.others (NameNoKind l.members.named)) × (l.members.met ≡ met_by l.algebra.query.tests (kept_texts l.algebra.query.tests r.read.members));
+  within : l.place ≤ length l.text.bytes.now;
+  read : (r : AreRead l.text.algebra.now l.text.base l.text.bytes.now l.at l.place l.others (NameNoKind l.members.named)) × (l.members.met ≡ met_by l.text.algebra.now.query.tests (kept_texts l.text.algebra.now.query.tests r.read.members));
 }
 
 abbrev pub decreases-members : goal.decreases-members
-decreases-members l = length l.text - l.place
+decreases-members l = length l.text.bytes.now - l.place

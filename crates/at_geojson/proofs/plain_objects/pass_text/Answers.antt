@@ -10,6 +10,6 @@ use Rattle.at_geojson.proofs.plain_objects.pass_text.Goals as goal
 pub returns : goal.returns
 returns c = IfOk-weaker c.pass_other.result _ _
     (λ end h. let (a, item, none) = h in
-    let nothing = none_met_of c.args.algebra.now.query.tests _ (name_in c.args.text.now c.args.name) _ _ (as_text a) (c.as_slice.ensures ∙ ap (λ (q : Query). q.tests) c.query.ensures.same) c.name_bytes.ensures c.asks_name.ensures c.if-asks_name.false in
+    let nothing = none_met_of c.args.text.now.algebra.now.query.tests _ (name_in c.args.text.now.bytes.now c.args.name) _ _ (as_text a) (c.as_slice.ensures ∙ ap (λ (q : Query). q.tests) c.query.ensures.same) c.name_bytes.ensures c.asks_name.ensures c.if-asks_name.false in
     record { atom = a; item = item; no_twin = none; named = refl; met = omega (arith, nothing) })
     c.pass_other.ensures

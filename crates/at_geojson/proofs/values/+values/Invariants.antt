@@ -41,19 +41,19 @@ abbrev pub decreases-read_fields : goal.decreases-read_fields
 decreases-read_fields l = 8 * l.depth
 
 abbrev pub invariant-read_array-items : goal.invariant-read_array-items
-invariant-read_array-items l = record { order : l.at < l.place; within : l.place ≤ length l.text; read : AreItemsRead l.algebra l.base l.text l.at l.place l.items.items }
+invariant-read_array-items l = record { order : l.at < l.place; within : l.place ≤ length l.text.bytes.now; read : AreItemsRead l.text.algebra.now l.text.base l.text.bytes.now l.at l.place l.items.items }
 
 abbrev pub decreases-read_array-items : goal.decreases-read_array-items
-decreases-read_array-items l = length l.text - l.place
+decreases-read_array-items l = length l.text.bytes.now - l.place
 
 abbrev pub invariant-read_members-members : goal.invariant-read_members-members
-invariant-read_members-members l = record { order : l.at < l.place; within : l.place ≤ length l.text; read : AreMembersRead l.algebra l.base l.text l.at l.place l.members.items }
+invariant-read_members-members l = record { order : l.at < l.place; within : l.place ≤ length l.text.bytes.now; read : AreMembersRead l.text.algebra.now l.text.base l.text.bytes.now l.at l.place l.members.items }
 
 abbrev pub decreases-read_members-members : goal.decreases-read_members-members
-decreases-read_members-members l = length l.text - l.place
+decreases-read_members-members l = length l.text.bytes.now - l.place
 
 abbrev pub invariant-read_fields-fields : goal.invariant-read_fields-fields
-invariant-read_fields-fields l = record { order : l.at < l.place; within : l.place ≤ length l.text; read : AreFieldsRead l.algebra l.base l.text l.at l.place l.others l.fields }
+invariant-read_fields-fields l = record { order : l.at < l.place; within : l.place ≤ length l.text.bytes.now; read : AreFieldsRead l.text.algebra.now l.text.base l.text.bytes.now l.at l.place l.others l.fields }
 
 abbrev pub decreases-read_fields-fields : goal.decreases-read_fields-fields
-decreases-read_fields-fields l = length l.text - l.place
+decreases-read_fields-fields l = length l.text.bytes.now - l.place

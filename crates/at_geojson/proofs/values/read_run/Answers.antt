@@ -5,9 +5,9 @@ use Rattle.std.proofs.lemmas.Bool.{not-false}
 use Rattle.at_geojson.proofs.values.read_run.Goals as goal
 
 pub scalar_atom-requires-clause-whole : goal.scalar_atom-requires-clause-whole
-scalar_atom-requires-clause-whole c = run_text c.args.text.now c.args.at (c.args.at + c.take_run-taken.result.len)
-    (run_taken c.args.text.now c.args.at c.take_run-taken.result c.requires.inside c.take_run-taken.ensures (not-false c.take_run-taken.result.whole c.if-not-taken.false))
+scalar_atom-requires-clause-whole c = run_text c.args.text.now.bytes.now c.args.at (c.args.at + c.take_run-taken.result.len)
+    (run_taken c.args.text.now.bytes.now c.args.at c.take_run-taken.result c.requires.inside c.take_run-taken.ensures (not-false c.take_run-taken.result.whole c.if-not-taken.false))
 
 pub returns : goal.returns
-returns c = run_read c.args.algebra.now c.args.base c.args.text.now c.args.at (c.args.at + c.take_run-taken.result.len) c.in_ok-atom.atom
-    (run_taken c.args.text.now c.args.at c.take_run-taken.result c.requires.inside c.take_run-taken.ensures (not-false c.take_run-taken.result.whole c.if-not-taken.false)) c.in_ok-atom.ensures.own c.in_ok-atom.ensures.fold
+returns c = run_read c.args.text.now.algebra.now c.args.text.now.base c.args.text.now.bytes.now c.args.at (c.args.at + c.take_run-taken.result.len) c.in_ok-atom.atom
+    (run_taken c.args.text.now.bytes.now c.args.at c.take_run-taken.result c.requires.inside c.take_run-taken.ensures (not-false c.take_run-taken.result.whole c.if-not-taken.false)) c.in_ok-atom.ensures.own c.in_ok-atom.ensures.fold

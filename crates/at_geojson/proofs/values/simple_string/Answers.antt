@@ -4,10 +4,10 @@ use Rattle.at_geojson.proofs.ValueParts.{string_taken, string_read}
 use Rattle.at_geojson.proofs.values.simple_string.Goals as goal
 
 pub simple_atom-atom-requires-clause-string : goal.simple_atom-atom-requires-clause-string
-simple_atom-atom-requires-clause-string c = string_taken c.args.text.now c.args.at c.args.end c.requires.string.0
+simple_atom-atom-requires-clause-string c = string_taken c.args.text.now.bytes.now c.args.at c.args.end c.requires.string.0
 
 pub returns-clause-whole : goal.returns-clause-whole
-returns-clause-whole c = string_read c.args.algebra.now c.args.base c.args.text.now c.args.at c.args.end c.simple_atom-atom.result c.requires.string.0 c.simple_atom-atom.ensures.own c.simple_atom-atom.ensures.fold
+returns-clause-whole c = string_read c.args.text.now.algebra.now c.args.text.now.base c.args.text.now.bytes.now c.args.at c.args.end c.simple_atom-atom.result c.requires.string.0 c.simple_atom-atom.ensures.own c.simple_atom-atom.ensures.fold
 
 pub simple_atom-atom-requires-clause-unasked : goal.simple_atom-atom-requires-clause-unasked
-simple_atom-atom-requires-clause-unasked c = none_asked c.args.algebra.now.query.tests _ c.requires.unasked
+simple_atom-atom-requires-clause-unasked c = none_asked c.args.text.now.algebra.now.query.tests _ c.requires.unasked

@@ -8,9 +8,9 @@ pub returns : goal.returns
 returns c =
     let (p, h) = c.in_ok-place.ensures in let place = c.in_ok-place.place in
     record {
-      pair = pair_of c.args._base place p;
+      pair = pair_of c.args.text.now.base place p;
       at_is = refl;
-      spaced = placed_pair c.args.algebra.now c.args._base c.args.text.now c.args.at place p h;
+      spaced = placed_pair c.args.text.now.algebra.now c.args.text.now.base c.args.text.now.bytes.now c.args.at place p h;
       marks = tt;
       stands = (place, refl, h);
     }
