@@ -1,6 +1,9 @@
 """Queries by `atgis-many` over 2.2 GB of each form it reads, on all processors, against the program over the same parts as they
-lie ready in files, one worker, one after another: processor time, the clock, and the memory that the whole tree of processes
-holds. Then a thousand small files, and a collection in which every guessed cut is wrong.
+lie ready in files, one worker, as many at once as there are processors: processor time, the clock, and the memory that the whole
+tree of processes holds. Then a thousand small files, and a collection in which every guessed cut is wrong.
+
+So both sides share the processors' caches and memory with as many runs. The clock is compared with the program's processor time
+over the number of processors.
 
 usage: bench/many.py [BYTES]
 
@@ -16,6 +19,7 @@ import sys
 import tempfile
 import threading
 import time
+from concurrent.futures import ThreadPoolExecutor
 
 import measure
 
@@ -84,7 +88,7 @@ def ready(folder, path):
     """The parts of a file as files, as the program gets them, each with its form."""
     found = []
     with open(path, "rb") as file:
-        for number, part in enumerate(atgis_parts.cut(path)):
+        for number, part in enumerate(atgis_parts.cut(path, is_last=True)):
             name = os.path.join(folder, f"part{number}")
             head = b""
             if part.head[1]:
@@ -133,15 +137,17 @@ def held(root):
     return sum(sizes[one] for one in below - {root} if one in sizes)
 
 
-def runs_over(tool, atgis, verb, path, parts):
-    """The command's runs with the most memory of each, and the program's processor times over the parts."""
+def runs_over(tool, atgis, verb, path, parts, jobs):
+    """The command's runs with the most memory of each, and the program's processor times over the parts, so many at once."""
     ours, memory, theirs = [], [], []
+    commands = [[atgis, "--workers=1", f"--form={form}", verb, name] for name, form in parts]
     for _ in range(ROUNDS):
         watch = Memory()
         watch.start()
         ours.append(measure.run([*tool, verb, path]))
         memory.append(watch.result())
-        each = [measure.run([atgis, "--workers=1", f"--form={form}", verb, name]) for name, form in parts]
+        with ThreadPoolExecutor(jobs) as pool:
+            each = list(pool.map(measure.run, commands))
         theirs.append(sum(one.cpu for one in each))
         measure.same(f"{verb} of {path}", ours[-1].printed, b"%d\n" % sum(int(one.printed) for one in each))
     return ours, memory, theirs
@@ -156,7 +162,7 @@ def compare_form(form, tool, atgis, size):
         os.sync()
         title = f"{os.path.getsize(path) / 1e9:.1f} GB of {form} in {len(parts)} parts"
         for verb in VERBS:
-            ours, memory, theirs = runs_over(tool, atgis, verb, path, parts)
+            ours, memory, theirs = runs_over(tool, atgis, verb, path, parts, jobs)
             shared = [one / jobs for one in theirs]
             good = measure.tell(f"{verb}, {title}, processor time", measure.cpus(ours), theirs, GOALS["processor"]) and good
             good = measure.tell(f"{verb}, {title}, by the clock", measure.clocks(ours), shared, GOALS["clock"]) and good
@@ -197,6 +203,12 @@ def compare_wrong(tool, atgis, size):
     return measure.tell("every guessed cut wrong, processor time", measure.cpus(ours), measure.cpus(theirs), GOALS["wrong"])
 
 
+def keep_compiled(folder):
+    """Has Python keep what it compiles of modules, as it does by itself where it may write beside them."""
+    os.environ.pop("PYTHONDONTWRITEBYTECODE", None)
+    os.environ["PYTHONPYCACHEPREFIX"] = folder
+
+
 def main():
     size = int(sys.argv[1]) if len(sys.argv) > 1 else SIZE
     atgis = os.environ.get("ATGIS") or measure.build_atgis()
@@ -206,10 +218,12 @@ def main():
         sys.exit(f"there is no room for {3 * size} bytes in {measure.DATA}")
     tool = [sys.executable, os.path.join(measure.ROOT, "tools", "atgis-many")]
     begun = time.monotonic()
-    good = compare_small(tool)
-    good = compare_wrong(tool, atgis, min(size, WRONG)) and good
-    for form in FORMS:
-        good = compare_form(form, tool, atgis, size) and good
+    with tempfile.TemporaryDirectory(dir=measure.DATA) as folder:
+        keep_compiled(folder)
+        good = compare_small(tool)
+        good = compare_wrong(tool, atgis, min(size, WRONG)) and good
+        for form in FORMS:
+            good = compare_form(form, tool, atgis, size) and good
     print(f"many took {time.monotonic() - begun:.0f} s", flush=True)
     return 0 if good else 1
 

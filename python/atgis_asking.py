@@ -8,18 +8,23 @@ The standard library alone, Python 3.9 or later.
 from __future__ import annotations
 
 import os
+import signal
 import subprocess
 import sys
-import tempfile
-from typing import List, NamedTuple, Optional, Tuple
+from typing import Callable, List, NamedTuple, Optional, Tuple
 
 from atgis_parts import LIMIT, RS, Part, mapped, may_leave, sentinel_place, with_feature
 
 __all__ = ["Task", "Told", "ask"]
 
-CHUNK = 1 << 20
+PIPE = 1 << 20
+CHUNK = 1 << 17                   # stays in a processor's cache while it is read, changed and written
 INNER_RS = b"\x01"                # what becomes of an RS within a line: as little a part of JSON as the RS itself
 NO_ANSWER = -1000                 # the status where the program couldn't be run at all
+OPEN = "/proc/self/fd"
+LONG = 1 << 20                    # from so many bytes on a part is worth what it takes to begin a process
+
+may_fork = False                  # set by a command, which has no threads but those that ask
 
 
 class Task(NamedTuple):
@@ -58,6 +63,7 @@ def ask(task: Task, _attempt: int = 0) -> Told:
             return told_by_list([*words, "select"], task)
         if len(task.parts) == 1:
             return told_of_one(command, task.parts[0], task.is_scanned)
+        import tempfile  # It takes long to import, and joins alone need it.
         with tempfile.TemporaryDirectory(prefix="atgis-many-") as folder:
             return told_of_two(command, task.parts, folder)
     except OSError as error:
@@ -133,7 +139,7 @@ def answer(command: List[str], sent: List[Tuple[Part, int]], source: Optional[in
         if problem:
             run.kill()
         elif is_scanned:
-            found = looked_through(parts[0])
+            found = apart(looked_through, parts[0])
         text, line = run.communicate()
     if problem:
         return Told(3, problem, b"")
@@ -152,19 +158,66 @@ def looked_through(part: Part) -> bool:
 def send(part: Part, pipe: int, is_given_up: bool) -> Optional[str]:
     """Writes a part into a pipe, and closes it; what is wrong where the file can't be read so far."""
     try:
-        if not is_given_up:
-            write(pipe, part.before)
-            with open(part.file, "rb") as file:
-                copy(file.fileno(), pipe, *part.head)
-                (copy_lines if part.has_lines else copy)(file.fileno(), pipe, part.begin, part.end)
-            write(pipe, part.after)
+        is_bad = not is_given_up and (apart(is_unsent, part, pipe) if part.has_lines else is_unsent(part, pipe))
+    finally:
+        os.close(pipe)
+    return f"{part.file}: read failed" if is_bad else None
+
+
+def is_unsent(part: Part, pipe: int) -> bool:
+    """Writes a part into a pipe; whether the file can't be read so far."""
+    try:
+        write(pipe, part.before)
+        with open(part.file, "rb") as file:
+            copy(file.fileno(), pipe, *part.head)
+            (copy_lines if part.has_lines else copy)(file.fileno(), pipe, part.begin, part.end)
+        write(pipe, part.after)
     except BrokenPipeError:
         pass                                                # the program has ended, and its status says why
     except OSError:
-        return f"{part.file}: read failed"
+        return True
+    return False
+
+
+def apart(function: Callable[..., bool], part: Part, *ends: int) -> bool:
+    """What a function says of a part and of ends of pipes, by a process of its own where that may be and is worth it.
+
+    So no thread waits for Python's lock meanwhile. Where that process ends badly, the function counts as having said
+    yes.
+    """
+    child = forked() if may_fork and part.end - part.begin >= LONG else None
+    if child is None:
+        return function(part, *ends)
+    if child:
+        return os.waitpid(child, 0)[1] != 0
+    said = True
+    try:
+        close_others(ends)
+        said = function(part, *ends)
     finally:
-        os.close(pipe)
-    return None
+        os._exit(said)
+
+
+def forked() -> Optional[int]:
+    """What `os.fork` gives, or None where no process can be had. No interrupt is told to the new one."""
+    mask = signal.pthread_sigmask(signal.SIG_BLOCK, (signal.SIGINT,))
+    try:
+        child: Optional[int] = os.fork()
+    except OSError:
+        child = None
+    if child != 0:
+        signal.pthread_sigmask(signal.SIG_SETMASK, mask)
+    return child
+
+
+def close_others(kept: Tuple[int, ...]) -> None:
+    """Closes all files but the standard ones and these."""
+    for number in map(int, os.listdir(OPEN) if os.path.isdir(OPEN) else range(1024)):
+        if number > 2 and number not in kept:
+            try:
+                os.close(number)
+            except OSError:
+                pass                                        # it isn't open; the list itself was
 
 
 def copy(file: int, pipe: int, begin: int, end: int) -> None:
@@ -205,7 +258,7 @@ def wide_pipe() -> Tuple[int, int]:
     end, pipe = os.pipe()
     try:
         import fcntl
-        fcntl.fcntl(pipe, getattr(fcntl, "F_SETPIPE_SZ", 1031), CHUNK)
+        fcntl.fcntl(pipe, getattr(fcntl, "F_SETPIPE_SZ", 1031), PIPE)
     except (ImportError, OSError):
         pass
     return end, pipe

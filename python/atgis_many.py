@@ -174,19 +174,20 @@ class Dataset:
                 pool.shutdown(cancel_futures=True)
             journal.close()
 
-    def settlings(self, runner: Runner, query: str) -> List[Settling]:
-        """All files, cut into parts, with a question that is begun to be asked."""
+    def settlings(self, runner: Runner, query: str, is_last: bool = True) -> List[Settling]:
+        """All files, cut into parts, with a question that is begun to be asked; whether nothing is asked behind it."""
         question = Question(query, self.options, self.program)
-        found = [Settling(runner, name, self.cut(name), question) for name in self.files]
+        found = [Settling(runner, name, self.cut(name, is_last and place == len(self.files)), question)
+                 for place, name in enumerate(self.files, 1)]
         runner.plan(task for settling in found for task in settling.tasks())
         return found
 
-    def cut(self, name: str) -> List[Part]:
-        """The parts of a file."""
+    def cut(self, name: str, is_last: bool) -> List[Part]:
+        """The parts of a file, which may be the last one that is asked."""
         if name == "@in" or name[:3] in ("@w:", "@g:"):
             raise CannotCut(f"{name}: it is no file on the disk, so it can't be cut; save it as one, or ask atgis")
         try:
-            return cut(name, self.form, self.part_size)
+            return cut(name, self.form, self.part_size, is_last)
         except OSError as error:
             raise atgis.ReadError(f"{name}: read failed", 3, name) from error
 
@@ -221,8 +222,8 @@ class Dataset:
         """What `join` gives."""
         query = atgis.query_text("join", where)
         with self.runner() as runner:
-            firsts = self.settlings(runner, atgis.query_text("extent", where))
-            seconds = second.settlings(runner, "extent")
+            firsts = self.settlings(runner, atgis.query_text("extent", where), False)
+            seconds = second.settlings(runner, "extent", False)
             refuse_forms(part.form for settling in firsts + seconds for part in settling.parts)
             ones, others = ([(part, extent_of(told.text)) for settling in some for part, told in settling]
                             for some in (firsts, seconds))

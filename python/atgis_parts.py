@@ -13,6 +13,7 @@ import mmap
 import os
 import re
 import stat
+from functools import lru_cache
 from typing import Any, Iterator, List, NamedTuple, Optional, Tuple, Union
 
 __all__ = [
@@ -25,6 +26,7 @@ LIMIT = 268_435_456
 PART = 64 << 20
 FRONT_SIZE = 1 << 16
 STEP = 4 << 20
+LEAST = 16 << 20                  # no part is smaller for being one of the last
 MARK = b"\xef\xbb\xbf"
 FRAME = (b'{"type":"FeatureCollection","features":[', b"]}")
 RS = b"\x1e"
@@ -83,6 +85,17 @@ class Part(NamedTuple):
         return bool(self.after) and offset >= self.front() + self.end - self.begin
 
 
+class Sizes(NamedTuple):
+    """How many bytes parts have: so many at most, and where less and less is left a fourth of that, but no less."""
+
+    most: int
+    least: int
+
+    def of(self, left: int) -> int:
+        """How many the next part has."""
+        return min(self.most, max(left // 4, self.least))
+
+
 class Head(NamedTuple):
     """The front of a collection up to its first feature, and whether its `type` is there."""
 
@@ -94,18 +107,10 @@ class Head(NamedTuple):
         return b"]}" if self.has_type else b'],"type":"FeatureCollection"}'
 
 
-def nested(depth: int) -> bytes:
-    """A pattern for an object of at most 1,000 parts in which objects stand at most so deep."""
-    text = STRING if depth == 0 else STRING + b"|" + nested(depth - 1)
-    return rb'\{[^{}"]*(?:(?:' + text + rb')[^{}"]*){0,1000}\}'
-
-
 SPACES = re.compile(SPACE)
 TEXT = re.compile(STRING, re.DOTALL)
 PLAIN = re.compile(rb'[^][{}",: \t\r\n]+')
 BRACKET = re.compile(rb'[^]{}["]*(?:' + STRING + rb'[^]{}["]*)*([]{}[])', re.DOTALL)
-OBJECT = re.compile(nested(3), re.DOTALL)
-ITEM = re.compile(SPACE + nested(3) + SPACE + b",", re.DOTALL)
 FIRST_MEMBER = re.compile(rb"\{" + SPACE + b"(" + STRING + b")" + SPACE + b":" + SPACE + b"(" + STRING + b")?",
                           re.DOTALL)
 ANY_SEPARATOR = re.compile(rb"\}" + SPACE + b"," + SPACE + rb"(?=\{)")
@@ -158,8 +163,12 @@ def are_lines(front: bytes) -> bool:
 
 # ---- cutting ---------------------------------------------------------------------------------------------------------
 
-def cut(path: Name, form: Optional[str] = None, size: int = PART) -> List[Part]:
-    """The parts of a file, in order, each of about so many bytes."""
+def cut(path: Name, form: Optional[str] = None, size: int = PART, is_last: bool = False) -> List[Part]:
+    """The parts of a file, in order, each of about so many bytes.
+
+    The last parts of the last file that is asked are smaller, so that no processor has much to do when all others are
+    done.
+    """
     name = os.fspath(path)
     front_of(name)
     form = form or form_of(name)
@@ -171,19 +180,21 @@ def cut(path: Name, form: Optional[str] = None, size: int = PART) -> List[Part]:
         if total == 0:
             return [Part(name, 0, 0, "seq")]
         data = mapped(file)
-        parts = cut_collection(name, data, size) if form == "geojson" else cut_records(name, data, form, size)
+        sizes = Sizes(size, LEAST if is_last else size)
+        parts = cut_collection(name, data, sizes) if form == "geojson" else cut_records(name, data, form, sizes)
     for part in parts:
         if part.size() > LIMIT and form != "geojson":
             raise CannotCut(f"{name}: {WHAT[form]} at byte {part.begin} makes a part of more than {LIMIT} bytes")
     return parts
 
 
-def cut_records(name: str, data: Data, form: str, size: int, begin: int = 0, end: Optional[int] = None) -> List[Part]:
+def cut_records(name: str, data: Data, form: str, sizes: Sizes, begin: int = 0, end: Optional[int] = None
+                ) -> List[Part]:
     """Parts of lines, or of records, which begin behind a line feed or with an RS."""
     mark, width = (RS, 0) if form == "seq" else (b"\n", 1)
     end = len(data) if end is None else end
     begins = [begin]
-    while begins[-1] + size < end:
+    while begins[-1] + (size := sizes.of(end - begins[-1])) < end:
         found = data.find(mark, begins[-1] + size - width, end)
         if found < 0 or found + width >= end:
             break
@@ -201,7 +212,7 @@ def record_part(name: str, data: Data, form: str, begin: int, end: int) -> Part:
     return Part(name, begin, end, "seq", RS, has_lines=True)
 
 
-def cut_collection(name: str, data: Data, size: int) -> List[Part]:
+def cut_collection(name: str, data: Data, sizes: Sizes) -> List[Part]:
     """Parts of a collection, at places that look like ends of features."""
     head = head_of(data)
     separator = separator_of(data, head.first) if head else None
@@ -210,7 +221,7 @@ def cut_collection(name: str, data: Data, size: int) -> List[Part]:
             raise CannotCut(f"{name}: it has more than {LIMIT} bytes, and no FeatureCollection is seen at its begin")
         return [Part(name, 0, len(data), "geojson", is_whole=True)]
     parts, begin = [], head.first
-    while begin + size < len(data):
+    while begin + (size := sizes.of(len(data) - begin)) < len(data):
         found = separator.search(data, begin + size, begin + 2 * size) or ANY_SEPARATOR.search(data, begin + size)
         if not found:
             break
@@ -289,6 +300,24 @@ def as_record(part: Part) -> Part:
 
 # ---- walking over JSON -----------------------------------------------------------------------------------------------
 
+def nested(depth: int) -> bytes:
+    """A pattern for an object of at most 1,000 parts in which objects stand at most so deep."""
+    text = STRING if depth == 0 else STRING + b"|" + nested(depth - 1)
+    return rb'\{[^{}"]*(?:(?:' + text + rb')[^{}"]*){0,1000}\}'
+
+
+@lru_cache(maxsize=None)
+def plain_object() -> "re.Pattern[bytes]":
+    """Such an object. Few runs look for one, and it takes long to compile."""
+    return re.compile(nested(3), re.DOTALL)
+
+
+@lru_cache(maxsize=None)
+def plain_item() -> "re.Pattern[bytes]":
+    """Such an object as an item of an array, with the comma behind it."""
+    return re.compile(SPACE + nested(3) + SPACE + b",", re.DOTALL)
+
+
 def skip_spaces(data: Data, at: int) -> int:
     """The place of the next byte that is no space."""
     return SPACES.match(data, at).end()
@@ -357,7 +386,7 @@ def value_end(data: Data, at: int, limit: int = LIMIT) -> Optional[int]:
     if first not in (b"{", b"["):
         found = (TEXT if first == b'"' else PLAIN).match(data, at)
         return found.end() if found else None
-    found = OBJECT.match(data, at) if first == b"{" else None
+    found = plain_object().match(data, at) if first == b"{" else None
     if found:
         return found.end()
     begin, depth = at, 0
@@ -380,12 +409,12 @@ def item_end(data: Data, at: int) -> Tuple[int, Optional[int]]:
 
 def next_cut(data: Data, begin: int, least: int) -> Optional[Tuple[int, int]]:
     """The first end of a feature that is no less, and where the next one begins, from a begin that is right."""
-    at = begin
+    at, plain = begin, plain_item()
     while True:
-        found = ITEM.match(data, at)
+        found = plain.match(data, at)
         while found and found.end() < least:                # passes over plain features several times faster
             at = found.end()
-            found = ITEM.match(data, at)
+            found = plain.match(data, at)
         end, following = item_end(data, skip_spaces(data, at))
         if following is None:
             return None
@@ -414,7 +443,7 @@ def pieces(part: Part, data: Data, size: int) -> List[Part]:
         head = head_of(data)
         return collection_pieces(part, data, head, size) if head else [part]
     form = "lines" if part.has_lines else part.form
-    return cut_records(part.file, data, form, size, begin_of(part), part.end)
+    return cut_records(part.file, data, form, Sizes(size, size), begin_of(part), part.end)
 
 
 def begin_of(part: Part) -> int:

@@ -407,6 +407,23 @@ def command_checks(folder: str) -> Iterator[Check]:
     yield differs("command: a full disk", (done.stderr, done.returncode), (b"output: write failed\n", 4))
 
 
+def large_checks(folder: str) -> Iterator[Check]:
+    """What the command says of parts so large that a process of its own looks through them, or copies them."""
+    plain = put(folder, "plain.geojson", collection(points(30_000)))
+    left = put(folder, "left.geojson", collection(points(20_000), back=',"old":[' + ",".join(points(30_000)) + "]"))
+    for path in (plain, left):
+        for query in ("extent", 'count where meets box(7 7,99 99)', "hull"):
+            got = command(["--part", "1100k", query, path])
+            whole = subprocess.run([os.environ["ATGIS"], query, path], stdout=subprocess.PIPE, check=True)
+            yield differs(f"command: {query} of large parts of {os.path.basename(path)}", got,
+                          (whole.stdout.decode(), "", 0))
+    lines = put(folder, "large.geojsonl", "\n".join(points(30_000)))
+    yield differs("command: large parts of lines", command(["--part", "1100k", "count", lines]), ("30000\n", "", 0))
+    bad = put(folder, "bad.geojsonl", "\n".join([*points(30_000), point(5)[:-1] + "\x1e}"]))
+    line = f"{bad}: Syntax at {os.path.getsize(bad) - 2}\n"
+    yield differs("command: an RS in a large part", command(["--part", "1100k", "count", bad]), ("", line, 1))
+
+
 def terminal_check(folder: str) -> Check:
     """That a line of progress is on a terminal, and gone at the end."""
     path = put(folder, "t.wkt", "POINT (1 2)\n" * 300)
@@ -462,6 +479,6 @@ def checks(folder: str) -> List[Check]:
     """All of these."""
     found: List[Check] = []
     for some in (cut_checks, fault_in_cut_checks, tier_checks, edge_checks, faults_checks, features_checks,
-                 failure_checks, journal_checks, command_checks, module_checks):
+                 failure_checks, journal_checks, command_checks, large_checks, module_checks):
         found += some(folder)
     return [*found, late_check(folder), memory_check(folder), terminal_check(folder), interrupt_check(folder)]
