@@ -15,11 +15,10 @@ use crate::ends::SeqEnd;
 use crate::fragments::{PartedText, SeqFragment, SeqRead, SeqText};
 use crate::records::add_fragment;
 use crate::searches::spaces_len;
-use at_geojson::GeoAlgebra;
+use crate::seq_files::SeqFile;
 use at_query::{Accumulator, Part};
 use at_run::{Gathered, is_valid_around};
 use at_text::{Fault, FaultKind, Memory, Span, base_of, first_fault, utf8_fault};
-use std::alloc::Global;
 
 /// Syntax at the first byte of a text that is no white space, where there is one.
 fn stray_fault(text: &[u8], at: u32) -> Option<Fault>
@@ -69,50 +68,38 @@ fn end_of(head: Option<Fault>, kept: Gathered) -> Result<Part, SeqEnd>
 }
 
 /// What is kept of all records of a file: of those between two separators, and of the last one.
-fn all_records(
-    alloc: Global,
-    algebra: &GeoAlgebra,
-    bytes: &[u8],
-    parted: PartedText,
-) -> Result<Gathered, Memory>
-    requires fits { length bytes.now ≤ 2 ^ 28 }
-    requires whole { HoldsParted algebra.now bytes.now (text_begin bytes.now) (length bytes.now) parted }
-    ensures { IfOk result (λ kept. IsGathered algebra.now kept (records_of bytes.now)) }
+fn all_records(file: &SeqFile<'_>, parted: PartedText) -> Result<Gathered, Memory>
+    requires whole { HoldsParted file.now.algebra.now file.now.bytes.now (text_begin file.now.bytes.now) (length file.now.bytes.now) parted }
+    ensures { IfOk result (λ kept. IsGathered file.now.algebra.now kept (records_of file.now.bytes.now)) }
 {
     let mut kept = parted.kept;
     let last = Span {
         from: parted.last,
-        to: bytes.len() as u32,
+        to: file.bytes.len() as u32,
     };
-    add_fragment(alloc, algebra, &mut kept, bytes, last, parted.behind)?;
+    add_fragment(file, &mut kept, last, parted.behind)?;
     Ok(kept)
 }
 
 /// The end of a file whose encoding has no fault.
-fn text_end(
-    alloc: Global,
-    algebra: &GeoAlgebra,
-    bytes: &[u8],
-    text: SeqText,
-) -> Result<Part, SeqEnd>
-    requires fits { length bytes.now ≤ 2 ^ 28 }
-    requires valid { encoding_fault bytes.now ≡ None }
-    requires whole { HoldsText algebra.now bytes.now (text_begin bytes.now) (length bytes.now) text }
-    ensures { MatchResult result (IsSeqPart algebra.now.digits algebra.now.how algebra.now.query bytes.now)
-        (λ end. IfFound end (λ fault. HasSeqFault algebra.now.digits algebra.now.how bytes.now (Some fault))) }
+fn text_end(file: &SeqFile<'_>, text: SeqText) -> Result<Part, SeqEnd>
+    requires valid { encoding_fault file.now.bytes.now ≡ None }
+    requires whole { HoldsText file.now.algebra.now file.now.bytes.now (text_begin file.now.bytes.now) (length file.now.bytes.now) text }
+    ensures { MatchResult result (IsSeqPart file.now.algebra.now.digits file.now.algebra.now.how file.now.algebra.now.query file.now.bytes.now)
+        (λ end. IfFound end (λ fault. HasSeqFault file.now.algebra.now.digits file.now.algebra.now.how file.now.bytes.now (Some fault))) }
 {
-    let base = base_of(bytes);
+    let base = base_of(file.bytes);
     match text {
         SeqText::Lone(_) => {
-            let head = stray_fault(&bytes[base as usize..], base);
+            let head = stray_fault(&file.bytes[base as usize..], base);
             end_of(
                 head,
-                Gathered::Kept(Accumulator::none(alloc, algebra.query())),
+                Gathered::Kept(Accumulator::none(file.alloc, file.algebra.query())),
             )
         }
         SeqText::Parted(parted) => {
-            let head = stray_fault(&bytes[base as usize..parted.first as usize], base);
-            match all_records(alloc, algebra, bytes, parted) {
+            let head = stray_fault(&file.bytes[base as usize..parted.first as usize], base);
+            match all_records(file, parted) {
                 Ok(kept) => end_of(head, kept),
                 Err(_) => Err(SeqEnd::Memory),
             }
@@ -138,22 +125,16 @@ fn fault_of_encoding(bytes: &[u8], valid: Span) -> Option<Fault>
 ///
 /// # Errors
 /// `Found` is the sequence's first fault, exactly where it has one. `Memory` comes where an allocation was refused.
-pub fn finish_spans(
-    alloc: Global,
-    algebra: &GeoAlgebra,
-    bytes: &[u8],
-    whole: SeqFragment,
-) -> Result<Part, SeqEnd>
-    requires fits { length bytes.now ≤ 2 ^ 28 }
-    requires whole { HoldsFragment algebra.now bytes.now (text_begin bytes.now) (length bytes.now) whole }
-    ensures { MatchResult result (IsSeqPart algebra.now.digits algebra.now.how algebra.now.query bytes.now)
-        (λ end. IfFound end (λ fault. HasSeqFault algebra.now.digits algebra.now.how bytes.now (Some fault))) }
+pub fn finish_spans(file: &SeqFile<'_>, whole: SeqFragment) -> Result<Part, SeqEnd>
+    requires whole { HoldsFragment file.now.algebra.now file.now.bytes.now (text_begin file.now.bytes.now) (length file.now.bytes.now) whole }
+    ensures { MatchResult result (IsSeqPart file.now.algebra.now.digits file.now.algebra.now.how file.now.algebra.now.query file.now.bytes.now)
+        (λ end. IfFound end (λ fault. HasSeqFault file.now.algebra.now.digits file.now.algebra.now.how file.now.bytes.now (Some fault))) }
 {
     match whole {
         SeqFragment::Lost => Err(SeqEnd::Memory),
-        SeqFragment::Read(SeqRead { text, valid }) => match fault_of_encoding(bytes, valid) {
+        SeqFragment::Read(SeqRead { text, valid }) => match fault_of_encoding(file.bytes, valid) {
             Some(fault) => Err(SeqEnd::Found(fault)),
-            None => text_end(alloc, algebra, bytes, text),
+            None => text_end(file, text),
         },
     }
 }

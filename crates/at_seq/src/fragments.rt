@@ -1,6 +1,6 @@
 //! What is read of a span of a sequence, and what two neighbouring spans give.
 
-ghost use Rattle.std.specs.Prelude.{◌≡◌, ℕ, ◌-◌, ◌≤◌, ◌<◌, ◌^◌, length, IfOk};
+ghost use Rattle.std.specs.Prelude.{◌≡◌, ℕ, ◌-◌, ◌≤◌, ◌<◌, length, IfOk};
 ghost use Rattle.std.specs.List.{position_or_len};
 ghost use Rattle.at_text.specs.Spans.{span_of};
 ghost use Rattle.at_seq.specs.Records.{is_separator};
@@ -9,12 +9,12 @@ ghost use Rattle.at_seq.specs.Fragments.{HoldsFragment};
 
 use crate::records::{Trials, add_fragment, add_next};
 use crate::searches::separator_place;
+use crate::seq_files::SeqFile;
 use at_geojson::GeoAlgebra;
 use at_nest::{Fragment, merge, run_block};
 use at_query::Accumulator;
 use at_run::{Gathered, join_into, joined_span, valid_span};
 use at_text::{Memory, Span};
-use std::alloc::Global;
 
 /// A span with a separator. Offsets are of the file.
 #[derive(Drop)]
@@ -64,18 +64,12 @@ pub struct Inner {
 }
 
 /// Reads the records of a span that begins behind a separator, up to its last separator.
-fn read_records(
-    alloc: Global,
-    algebra: &GeoAlgebra,
-    bytes: &[u8],
-    span: Span,
-) -> Result<Inner, Memory>
-    requires fits { length bytes.now ≤ 2 ^ 28 }
+fn read_records(file: &SeqFile<'_>, span: Span) -> Result<Inner, Memory>
     requires order { span.from ≤ span.to }
-    requires within { span.to ≤ length bytes.now }
-    ensures { IfOk result (HoldsInner algebra.now bytes.now span.from span.to) }
+    requires within { span.to ≤ length file.now.bytes.now }
+    ensures { IfOk result (HoldsInner file.now.algebra.now file.now.bytes.now span.from span.to) }
 {
-    let mut kept = Gathered::Kept(Accumulator::none(alloc, algebra.query()));
+    let mut kept = Gathered::Kept(Accumulator::none(file.alloc, file.algebra.query()));
     let mut trials = Trials::new();
     let mut start = span.from;
     'records: loop {
@@ -83,7 +77,7 @@ fn read_records(
             from: start,
             to: span.to,
         };
-        match add_next(alloc, algebra, &mut kept, bytes, rest, &mut trials)? {
+        match add_next(file, &mut kept, rest, &mut trials)? {
             Some(end) => start = end + 1,
             None => return Ok(Inner { kept, last: start }),
         }
@@ -91,66 +85,52 @@ fn read_records(
 }
 
 /// Reads a span that has its first separator at the offset.
-fn read_parted(
-    alloc: Global,
-    algebra: &GeoAlgebra,
-    bytes: &[u8],
-    span: Span,
-    first: u32,
-) -> Result<PartedText, Memory>
-    requires fits { length bytes.now ≤ 2 ^ 28 }
+fn read_parted(file: &SeqFile<'_>, span: Span, first: u32) -> Result<PartedText, Memory>
     requires begins { span.from ≤ first }
     requires inside { first < span.to }
-    requires within { span.to ≤ length bytes.now }
-    requires first { first - span.from ≡ position_or_len is_separator (span_of bytes.now span.from span.to) }
-    ensures { IfOk result (HoldsParted algebra.now bytes.now span.from span.to) }
+    requires within { span.to ≤ length file.now.bytes.now }
+    requires first { first - span.from ≡ position_or_len is_separator (span_of file.now.bytes.now span.from span.to) }
+    ensures { IfOk result (HoldsParted file.now.algebra.now file.now.bytes.now span.from span.to) }
 {
     let records = Span {
         from: first + 1,
         to: span.to,
     };
-    let Inner { kept, last } = read_records(alloc, algebra, bytes, records)?;
-    let before = &bytes[span.from as usize..first as usize];
-    let behind = &bytes[last as usize..span.to as usize];
+    let Inner { kept, last } = read_records(file, records)?;
+    let before = &file.bytes[span.from as usize..first as usize];
+    let behind = &file.bytes[last as usize..span.to as usize];
     Ok(PartedText {
-        before: run_block(alloc, algebra, before, span.from),
+        before: run_block(file.alloc, file.algebra, before, span.from),
         first,
         kept,
         last,
-        behind: run_block(alloc, algebra, behind, last),
+        behind: run_block(file.alloc, file.algebra, behind, last),
     })
 }
 
 /// Reads the text of a span of the file.
-fn read_text(
-    alloc: Global,
-    algebra: &GeoAlgebra,
-    bytes: &[u8],
-    span: Span,
-) -> Result<SeqText, Memory>
-    requires fits { length bytes.now ≤ 2 ^ 28 }
+fn read_text(file: &SeqFile<'_>, span: Span) -> Result<SeqText, Memory>
     requires order { span.from ≤ span.to }
-    requires within { span.to ≤ length bytes.now }
-    ensures { IfOk result (HoldsText algebra.now bytes.now span.from span.to) }
+    requires within { span.to ≤ length file.now.bytes.now }
+    ensures { IfOk result (HoldsText file.now.algebra.now file.now.bytes.now span.from span.to) }
 {
-    let piece = &bytes[span.from as usize..span.to as usize];
+    let piece = &file.bytes[span.from as usize..span.to as usize];
     let first = span.from + separator_place(piece) as u32;
     if first == span.to {
-        return Ok(SeqText::Lone(run_block(alloc, algebra, piece, span.from)));
+        return Ok(SeqText::Lone(run_block(file.alloc, file.algebra, piece, span.from)));
     }
-    let parted = read_parted(alloc, algebra, bytes, span, first)?;
+    let parted = read_parted(file, span, first)?;
     Ok(SeqText::Parted(parted))
 }
 
 /// What a span of the file gives. Where memory is wanted, the fragment is lost.
-pub fn run_span(alloc: Global, algebra: &GeoAlgebra, bytes: &[u8], span: Span) -> SeqFragment
-    requires fits { length bytes.now ≤ 2 ^ 28 }
+pub fn run_span(file: &SeqFile<'_>, span: Span) -> SeqFragment
     requires order { span.from ≤ span.to }
-    requires within { span.to ≤ length bytes.now }
-    ensures { HoldsFragment algebra.now bytes.now span.from span.to result }
+    requires within { span.to ≤ length file.now.bytes.now }
+    ensures { HoldsFragment file.now.algebra.now file.now.bytes.now span.from span.to result }
 {
-    let piece = &bytes[span.from as usize..span.to as usize];
-    match read_text(alloc, algebra, bytes, span) {
+    let piece = &file.bytes[span.from as usize..span.to as usize];
+    match read_text(file, span) {
         Ok(text) => SeqFragment::Read(SeqRead {
             text,
             valid: valid_span(piece, span.from),
@@ -162,24 +142,27 @@ pub fn run_span(alloc: Global, algebra: &GeoAlgebra, bytes: &[u8], span: Span) -
 /// The text of two neighbouring spans with a separator each: the record that lies in both is whole, and is put between
 /// the others.
 fn merge_parted(
-    alloc: Global,
-    algebra: &GeoAlgebra,
-    bytes: &[u8],
+    file: &SeqFile<'_>,
     left: PartedText,
     right: PartedText,
 ) -> Result<PartedText, Memory>
-    requires fits { length bytes.now ≤ 2 ^ 28 }
     requires beside { (i : ℕ) × (j : ℕ) × (k : ℕ)
-        × AreBeside (HoldsParted algebra.now bytes.now) bytes.now i j k left right }
-    ensures { IfOk result (IsOfBoth (HoldsParted algebra.now bytes.now) bytes.now left right) }
+        × AreBeside (HoldsParted file.now.algebra.now file.now.bytes.now) file.now.bytes.now i j k left right }
+    ensures { IfOk result (IsOfBoth (HoldsParted file.now.algebra.now file.now.bytes.now) file.now.bytes.now left right) }
 {
     let mut kept = left.kept;
     let record = Span {
         from: left.last,
         to: right.first,
     };
-    let whole = merge(alloc, algebra, bytes, left.behind, right.before);
-    add_fragment(alloc, algebra, &mut kept, bytes, record, whole)?;
+    let whole = merge(
+        file.alloc,
+        file.algebra,
+        file.bytes,
+        left.behind,
+        right.before,
+    );
+    add_fragment(file, &mut kept, record, whole)?;
     join_into(&mut kept, right.kept)?;
     Ok(PartedText {
         before: left.before,
@@ -191,24 +174,17 @@ fn merge_parted(
 }
 
 /// The text of two neighbouring spans.
-fn merge_texts(
-    alloc: Global,
-    algebra: &GeoAlgebra,
-    bytes: &[u8],
-    left: SeqText,
-    right: SeqText,
-) -> Result<SeqText, Memory>
-    requires fits { length bytes.now ≤ 2 ^ 28 }
+fn merge_texts(file: &SeqFile<'_>, left: SeqText, right: SeqText) -> Result<SeqText, Memory>
     requires beside { (i : ℕ) × (j : ℕ) × (k : ℕ)
-        × AreBeside (HoldsText algebra.now bytes.now) bytes.now i j k left right }
-    ensures { IfOk result (IsOfBoth (HoldsText algebra.now bytes.now) bytes.now left right) }
+        × AreBeside (HoldsText file.now.algebra.now file.now.bytes.now) file.now.bytes.now i j k left right }
+    ensures { IfOk result (IsOfBoth (HoldsText file.now.algebra.now file.now.bytes.now) file.now.bytes.now left right) }
 {
     match (left, right) {
         (SeqText::Lone(left), SeqText::Lone(right)) => {
-            Ok(SeqText::Lone(merge(alloc, algebra, bytes, left, right)))
+            Ok(SeqText::Lone(merge(file.alloc, file.algebra, file.bytes, left, right)))
         }
         (SeqText::Lone(left), SeqText::Parted(right)) => Ok(SeqText::Parted(PartedText {
-            before: merge(alloc, algebra, bytes, left, right.before),
+            before: merge(file.alloc, file.algebra, file.bytes, left, right.before),
             first: right.first,
             kept: right.kept,
             last: right.last,
@@ -219,30 +195,23 @@ fn merge_texts(
             first: left.first,
             kept: left.kept,
             last: left.last,
-            behind: merge(alloc, algebra, bytes, left.behind, right),
+            behind: merge(file.alloc, file.algebra, file.bytes, left.behind, right),
         })),
         (SeqText::Parted(left), SeqText::Parted(right)) => Ok(SeqText::Parted(merge_parted(
-            alloc, algebra, bytes, left, right,
+            file, left, right,
         )?)),
     }
 }
 
 /// What two neighbouring spans of the file give. Where memory is wanted, the fragment is lost.
-pub fn merge_spans(
-    alloc: Global,
-    algebra: &GeoAlgebra,
-    bytes: &[u8],
-    left: SeqRead,
-    right: SeqRead,
-) -> SeqFragment
-    requires fits { length bytes.now ≤ 2 ^ 28 }
+pub fn merge_spans(file: &SeqFile<'_>, left: SeqRead, right: SeqRead) -> SeqFragment
     requires beside { (i : ℕ) × (j : ℕ) × (k : ℕ)
-        × AreBeside (HoldsSpan algebra.now bytes.now) bytes.now i j k left right }
-    ensures { IsOfBoth (HoldsFragment algebra.now bytes.now) bytes.now (SeqFragment.Read left) (SeqFragment.Read right)
+        × AreBeside (HoldsSpan file.now.algebra.now file.now.bytes.now) file.now.bytes.now i j k left right }
+    ensures { IsOfBoth (HoldsFragment file.now.algebra.now file.now.bytes.now) file.now.bytes.now (SeqFragment.Read left) (SeqFragment.Read right)
         result }
 {
-    let valid = joined_span(bytes, left.valid, right.valid);
-    match merge_texts(alloc, algebra, bytes, left.text, right.text) {
+    let valid = joined_span(file.bytes, left.valid, right.valid);
+    match merge_texts(file, left.text, right.text) {
         Ok(text) => SeqFragment::Read(SeqRead { text, valid }),
         Err(_) => SeqFragment::Lost,
     }

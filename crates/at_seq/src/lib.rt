@@ -21,6 +21,7 @@ mod fragments;
 mod readers;
 mod records;
 mod searches;
+mod seq_files;
 mod sequences;
 
 pub use ends::SeqEnd;

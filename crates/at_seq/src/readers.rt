@@ -11,6 +11,7 @@ ghost use Rattle.at_seq.specs.Fragments.{SeqAsks, StandsInFile};
 use crate::ends::SeqEnd;
 use crate::finishing::finish_spans;
 use crate::fragments::{SeqFragment, merge_spans, run_span};
+use crate::seq_files::SeqFile;
 use at_fixed::Coords;
 use at_geojson::GeoAlgebra;
 use at_query::{Part, Query};
@@ -59,7 +60,12 @@ impl<'a> SeqReader<'a> {
             (λ end. IfFound end (λ fault. HasSeqFault self.now.asked.digits self.now.asked.how self.now.bytes
             (Some fault))) }
     {
-        finish_spans(alloc, &self.algebra, self.bytes, whole)
+        let file = SeqFile {
+            algebra: &self.algebra,
+            alloc,
+            bytes: self.bytes,
+        };
+        finish_spans(&file, whole)
     }
 }
 
@@ -73,7 +79,12 @@ impl<'a> Pieces for SeqReader<'a> {
         if to as usize > self.bytes.len() {
             return SeqFragment::Lost;
         }
-        run_span(alloc, &self.algebra, self.bytes, Span { from: base, to })
+        let file = SeqFile {
+            algebra: &self.algebra,
+            alloc,
+            bytes: self.bytes,
+        };
+        run_span(&file, Span { from: base, to })
     }
 
     fn merge_pieces(
@@ -83,9 +94,14 @@ impl<'a> Pieces for SeqReader<'a> {
         left: SeqFragment,
         right: SeqFragment,
     ) -> SeqFragment {
+        let file = SeqFile {
+            algebra: &self.algebra,
+            alloc,
+            bytes: self.bytes,
+        };
         match (left, right) {
             (SeqFragment::Read(left), SeqFragment::Read(right)) => {
-                merge_spans(alloc, &self.algebra, self.bytes, left, right)
+                merge_spans(&file, left, right)
             }
             _ => SeqFragment::Lost,
         }

@@ -14,6 +14,7 @@ ghost use Rattle.at_seq.specs.Records.{records_in};
 ghost use Rattle.at_seq.specs.Gathering.{IsGathered, AddsRecords, HasRecordPart, IsEndFault, AddsFeature, AddsNext};
 
 use crate::searches::{separator_behind, separator_place, spaces_len};
+use crate::seq_files::SeqFile;
 use at_geojson::{FeatureFront, GeoAlgebra, GeoAtom, RootEnd, feature_front, root_part};
 use at_nest::{Algebra, Attempt, Fragment, NestEnd, finish_span, run_block};
 use at_query::{Accumulator, Part};
@@ -156,83 +157,81 @@ fn atom_at_once(
 
 /// The answer of a span of the file that is read as a whole JSON text and isn't white space alone.
 fn span_answer(
-    alloc: Global,
-    algebra: &GeoAlgebra,
-    bytes: &[u8],
+    file: &SeqFile<'_>,
     span: Span,
     spaces: usize,
     trials: &mut Trials,
 ) -> Result<GeoAtom, NestEnd>
-    requires fits { length bytes.now ≤ 2 ^ 28 }
     requires order { span.from ≤ span.to }
-    requires within { span.to ≤ length bytes.now }
-    requires spaces { IsFront is_space (span_of bytes.now span.from span.to) spaces }
-    requires some { spaces < length (span_of bytes.now span.from span.to) }
-    ensures { Answers (IsGeoAtom algebra.now) span.from
-        (span_of bytes.now span.from span.to) result }
+    requires within { span.to ≤ length file.now.bytes.now }
+    requires spaces { IsFront is_space (span_of file.now.bytes.now span.from span.to) spaces }
+    requires some { spaces < length (span_of file.now.bytes.now span.from span.to) }
+    ensures { Answers (IsGeoAtom file.now.algebra.now) span.from
+        (span_of file.now.bytes.now span.from span.to) result }
 {
-    let text = &bytes[span.from as usize..span.to as usize];
+    let text = &file.bytes[span.from as usize..span.to as usize];
     if trials.is_next() {
-        let ahead = &bytes[span.from as usize..];
-        if let Some(atom) = atom_at_once(alloc, algebra, text, ahead, span.from, spaces)? {
+        let ahead = &file.bytes[span.from as usize..];
+        if let Some(atom) = atom_at_once(
+            file.alloc,
+            file.algebra,
+            text,
+            ahead,
+            span.from,
+            spaces,
+        )? {
             return Ok(atom);
         }
         trials.failed();
     }
-    let whole = run_block(alloc, algebra, text, span.from);
-    finish_span(alloc, algebra, bytes, span, whole)
+    let whole = run_block(file.alloc, file.algebra, text, span.from);
+    finish_span(file.alloc, file.algebra, file.bytes, span, whole)
 }
 
 /// Puts the record between two places of the file behind those before it. White space alone is passed over.
 fn add_record(
-    alloc: Global,
-    algebra: &GeoAlgebra,
+    file: &SeqFile<'_>,
     gathered: &mut Gathered,
-    bytes: &[u8],
     span: Span,
     trials: &mut Trials,
 ) -> Result<(), Memory>
-    requires fits { length bytes.now ≤ 2 ^ 28 }
     requires order { span.from ≤ span.to }
-    requires within { span.to ≤ length bytes.now }
-    requires own { (before : List Piece) × IsGathered algebra.now gathered.old before }
-    ensures { IfOk result (λ _. AddsRecords algebra.now gathered.old
-        (records_in (record { at = span.from; text = span_of bytes.now span.from span.to } ∷ [])) gathered.new) }
+    requires within { span.to ≤ length file.now.bytes.now }
+    requires own { (before : List Piece) × IsGathered file.now.algebra.now gathered.old before }
+    ensures { IfOk result (λ _. AddsRecords file.now.algebra.now gathered.old
+        (records_in (record { at = span.from; text = span_of file.now.bytes.now span.from span.to } ∷ [])) gathered.new) }
 {
-    let text = &bytes[span.from as usize..span.to as usize];
+    let text = &file.bytes[span.from as usize..span.to as usize];
     let spaces = spaces_len(text);
     if spaces == text.len() {
         return Ok(());
     }
-    let answer = span_answer(alloc, algebra, bytes, span, spaces, trials);
-    let part = record_part(alloc, algebra, span.to, answer)?;
+    let answer = span_answer(file, span, spaces, trials);
+    let part = record_part(file.alloc, file.algebra, span.to, answer)?;
     add_part(gathered, part)
 }
 
 /// The same of a record whose fragment is there.
 pub fn add_fragment(
-    alloc: Global,
-    algebra: &GeoAlgebra,
+    file: &SeqFile<'_>,
     gathered: &mut Gathered,
-    bytes: &[u8],
     span: Span,
     whole: Fragment<GeoAlgebra>,
 ) -> Result<(), Memory>
-    requires fits { length bytes.now ≤ 2 ^ 28 }
     requires order { span.from ≤ span.to }
-    requires within { span.to ≤ length bytes.now }
-    requires own { (before : List Piece) × IsGathered algebra.now gathered.old before }
-    requires whole { StandsFor (IsGeoAtom algebra.now) span.from
-        (span_of bytes.now span.from span.to) whole }
-    ensures { IfOk result (λ _. AddsRecords algebra.now gathered.old
-        (records_in (record { at = span.from; text = span_of bytes.now span.from span.to } ∷ [])) gathered.new) }
+    requires within { span.to ≤ length file.now.bytes.now }
+    requires own { (before : List Piece) × IsGathered file.now.algebra.now gathered.old before }
+    requires whole { StandsFor (IsGeoAtom file.now.algebra.now) span.from
+        (span_of file.now.bytes.now span.from span.to) whole }
+    ensures { IfOk result (λ _. AddsRecords file.now.algebra.now gathered.old
+        (records_in (record { at = span.from; text = span_of file.now.bytes.now span.from span.to } ∷ [])) gathered.new) }
 {
-    let text = &bytes[span.from as usize..span.to as usize];
+    let text = &file.bytes[span.from as usize..span.to as usize];
     if spaces_len(text) == text.len() {
         return Ok(());
     }
-    let answer = finish_span(alloc, algebra, bytes, span, whole);
-    let part = record_part(alloc, algebra, span.to, answer)?;
+    let answer = finish_span(file.alloc, file.algebra, file.bytes, span, whole);
+    let part = record_part(file.alloc, file.algebra, span.to, answer)?;
     add_part(gathered, part)
 }
 
@@ -240,23 +239,20 @@ pub fn add_fragment(
 /// stands behind it: the offset of that separator.
 #[inline(always)]
 fn add_feature(
-    alloc: Global,
-    algebra: &GeoAlgebra,
+    file: &SeqFile<'_>,
     gathered: &mut Gathered,
-    bytes: &[u8],
     span: Span,
 ) -> Result<Option<u32>, Memory>
-    requires fits { length bytes.now ≤ 2 ^ 28 }
     requires order { span.from ≤ span.to }
-    requires within { span.to ≤ length bytes.now }
-    requires own { (before : List Piece) × IsGathered algebra.now gathered.old before }
-    ensures { IfOk result (AddsFeature algebra.now bytes.now span gathered.old gathered.new) }
+    requires within { span.to ≤ length file.now.bytes.now }
+    requires own { (before : List Piece) × IsGathered file.now.algebra.now gathered.old before }
+    ensures { IfOk result (AddsFeature file.now.algebra.now file.now.bytes.now span gathered.old gathered.new) }
 {
-    let ahead = &bytes[span.from as usize..span.to as usize];
+    let ahead = &file.bytes[span.from as usize..span.to as usize];
     let first = spaces_len(ahead);
     let Some(FeatureFront { len, part }) = feature_front(
-        alloc,
-        algebra,
+        file.alloc,
+        file.algebra,
         &ahead[first..],
         span.from + first as u32,
     )?
@@ -273,20 +269,17 @@ fn add_feature(
 /// Puts the record up to the first separator of a span behind those before it: the offset of that separator, where there
 /// is one.
 fn add_first(
-    alloc: Global,
-    algebra: &GeoAlgebra,
+    file: &SeqFile<'_>,
     gathered: &mut Gathered,
-    bytes: &[u8],
     span: Span,
     trials: &mut Trials,
 ) -> Result<Option<u32>, Memory>
-    requires fits { length bytes.now ≤ 2 ^ 28 }
     requires order { span.from ≤ span.to }
-    requires within { span.to ≤ length bytes.now }
-    requires own { (before : List Piece) × IsGathered algebra.now gathered.old before }
-    ensures { IfOk result (AddsNext algebra.now bytes.now span gathered.old gathered.new) }
+    requires within { span.to ≤ length file.now.bytes.now }
+    requires own { (before : List Piece) × IsGathered file.now.algebra.now gathered.old before }
+    ensures { IfOk result (AddsNext file.now.algebra.now file.now.bytes.now span gathered.old gathered.new) }
 {
-    let end = span.from + separator_place(&bytes[span.from as usize..span.to as usize]) as u32;
+    let end = span.from + separator_place(&file.bytes[span.from as usize..span.to as usize]) as u32;
     if end == span.to {
         return Ok(None);
     }
@@ -294,30 +287,27 @@ fn add_first(
         from: span.from,
         to: end,
     };
-    add_record(alloc, algebra, gathered, bytes, record, trials)?;
+    add_record(file, gathered, record, trials)?;
     Ok(Some(end))
 }
 
 /// The same as `add_first`, but where records are tried, one that is a feature is read before its end is looked for.
 pub fn add_next(
-    alloc: Global,
-    algebra: &GeoAlgebra,
+    file: &SeqFile<'_>,
     gathered: &mut Gathered,
-    bytes: &[u8],
     span: Span,
     trials: &mut Trials,
 ) -> Result<Option<u32>, Memory>
-    requires fits { length bytes.now ≤ 2 ^ 28 }
     requires order { span.from ≤ span.to }
-    requires within { span.to ≤ length bytes.now }
-    requires own { (before : List Piece) × IsGathered algebra.now gathered.old before }
-    ensures { IfOk result (AddsNext algebra.now bytes.now span gathered.old gathered.new) }
+    requires within { span.to ≤ length file.now.bytes.now }
+    requires own { (before : List Piece) × IsGathered file.now.algebra.now gathered.old before }
+    ensures { IfOk result (AddsNext file.now.algebra.now file.now.bytes.now span gathered.old gathered.new) }
 {
     if !trials.is_due() {
-        return add_first(alloc, algebra, gathered, bytes, span, trials);
+        return add_first(file, gathered, span, trials);
     }
-    match add_feature(alloc, algebra, gathered, bytes, span)? {
+    match add_feature(file, gathered, span)? {
         Some(end) => Ok(Some(end)),
-        None => add_first(alloc, algebra, gathered, bytes, span, trials),
+        None => add_first(file, gathered, span, trials),
     }
 }

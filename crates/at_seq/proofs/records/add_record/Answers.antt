@@ -11,21 +11,21 @@ use Rattle.at_seq.proofs.records.add_record.Goals as goal
 
 pub returns-then-spaces-text : goal.returns-then-spaces-text
 returns-then-spaces-text c =
-    let r = piece_in c.args.bytes.now c.args.span.from c.args.span.to in
-    adds_none c.args.algebra.now c.args.gathered.now (records_in (r ∷ [])) (no_record r (are_all_spaces r.text c.spaces_len-spaces.result c.spaces_len-spaces.ensures c.if-spaces-text.true))
+    let r = piece_in c.args.file.now.bytes.now c.args.span.from c.args.span.to in
+    adds_none c.args.file.now.algebra.now c.args.gathered.now (records_in (r ∷ [])) (no_record r (are_all_spaces r.text c.spaces_len-spaces.result c.spaces_len-spaces.ensures c.if-spaces-text.true))
 
 pub add_part-requires : goal.add_part-requires
 add_part-requires c =
-    let r = piece_in c.args.bytes.now c.args.span.from c.args.span.to in
-    let same : c.args.span.to ≡ c.args.span.from + length r.text = sym (length-span_of c.args.bytes.now c.args.span.from c.args.span.to c.requires.order c.requires.within) in
+    let r = piece_in c.args.file.now.bytes.now c.args.span.from c.args.span.to in
+    let same : c.args.span.to ≡ c.args.span.from + length r.text = sym (length-span_of c.args.file.now.bytes.now c.args.span.from c.args.span.to c.requires.order c.requires.within) in
     let (before, own) = c.requires.own in
-    (c.args.algebra.now, before, r, own, c.in_ok-part.ensures c.args.span.from r.text same c.span_answer-answer.ensures)
+    (c.args.file.now.algebra.now, before, r, own, c.in_ok-part.ensures c.args.span.from r.text same c.span_answer-answer.ensures)
 
 pub returns : goal.returns
 returns c =
-    let r = piece_in c.args.bytes.now c.args.span.from c.args.span.to in
-    let same : c.args.span.to ≡ c.args.span.from + length r.text = sym (length-span_of c.args.bytes.now c.args.span.from c.args.span.to c.requires.order c.requires.within) in
+    let r = piece_in c.args.file.now.bytes.now c.args.span.from c.args.span.to in
+    let same : c.args.span.to ≡ c.args.span.from + length r.text = sym (length-span_of c.args.file.now.bytes.now c.args.span.from c.args.span.to c.requires.order c.requires.within) in
     let inside : c.spaces_len-spaces.result < length r.text = omega (arith, c.spaces_len-spaces.ensures.fits, c.if-spaces-text.false) in
-    let P : List Piece → Type 0 = λ more. AddsRecords c.args.algebra.now c.args.gathered.now more c.add_part.new.gathered in
+    let P : List Piece → Type 0 = λ more. AddsRecords c.args.file.now.algebra.now c.args.gathered.now more c.add_part.new.gathered in
     IfOk-weaker c.add_part.result _ _ (λ u adds. subst P (sym (one_record r (not_all_spaces r.text c.spaces_len-spaces.result c.spaces_len-spaces.ensures inside)))
-    (adds c.args.algebra.now r (c.in_ok-part.ensures c.args.span.from r.text same c.span_answer-answer.ensures))) c.add_part.ensures
+    (adds c.args.file.now.algebra.now r (c.in_ok-part.ensures c.args.span.from r.text same c.span_answer-answer.ensures))) c.add_part.ensures
