@@ -97,7 +97,8 @@ def ready(folder, path):
             file.seek(part.begin)
             text = file.read(part.end - part.begin)
             with open(name, "wb") as other:
-                other.write(part.before + head + (text.replace(b"\n", b"\x1e") if part.has_lines else text) + part.after)
+                text = part.before + head + text + part.after
+                other.write(text.replace(b"\n", b"\x1e") if part.has_lines else text)
             found.append((name, part.form))
     return found
 

@@ -1,19 +1,20 @@
 """Asks atgis about parts of files: what a worker of `atgis_many` does, on this machine or on another.
 
 What travels to a worker is the function `ask` with a Task, and what comes back is a Told. So each machine has `atgis`
-(or the environment variable ATGIS), sees the files at the same names, and can import this module and `atgis_parts`.
+(or the environment variable ATGIS) and beside it `atgis-part` (or ATGIS_PART), sees the files at the same names, and can
+import this module and `atgis_parts`.
 
 The standard library alone, Python 3.9 or later.
 """
 from __future__ import annotations
 
 import os
-import signal
+import re
 import subprocess
 import sys
-from typing import Callable, List, NamedTuple, Optional, Tuple
+from typing import List, NamedTuple, Optional, Tuple
 
-from atgis_parts import LIMIT, RS, Part, mapped, may_leave, sentinel_place, with_feature
+from atgis_parts import LIMIT, RS, Part, sentinel_place, with_feature
 
 __all__ = ["Task", "Told", "ask"]
 
@@ -21,10 +22,7 @@ PIPE = 1 << 20
 CHUNK = 1 << 17                   # stays in a processor's cache while it is read, changed and written
 INNER_RS = b"\x01"                # what becomes of an RS within a line: as little a part of JSON as the RS itself
 NO_ANSWER = -1000                 # the status where the program couldn't be run at all
-OPEN = "/proc/self/fd"
-LONG = 1 << 20                    # from so many bytes on a part is worth what it takes to begin a process
-
-may_fork = False                  # set by a command, which has no threads but those that ask
+SYNTAX = re.compile(r".*: (?:Syntax|Ended) at ([0-9]+)", re.DOTALL)
 
 
 class Task(NamedTuple):
@@ -53,35 +51,63 @@ class Told(NamedTuple):
 
 def ask(task: Task, _attempt: int = 0) -> Told:
     """Runs the program over the parts of a task; the number of the attempt makes two attempts two different calls."""
-    forms = sorted({part.form for part in task.parts})
-    form = ("--form", *forms) if len(forms) == 1 else ()
     program = task.program or os.environ.get("ATGIS") or "atgis"
-    words = [program, *task.options, *form, "--"]
-    command = [*words, task.query]
     try:
-        if can_be_listed(task):
-            return told_by_list([*words, "select"], task)
         if len(task.parts) == 1:
-            return told_of_one(command, task.parts[0], task.is_scanned)
+            return told_of_part(program, task)
         import tempfile  # It takes long to import, and joins alone need it.
         with tempfile.TemporaryDirectory(prefix="atgis-many-") as folder:
-            return told_of_two(command, task.parts, folder)
+            return told_of_two([program, *words_of(task)], task.parts, folder)
     except OSError as error:
         if error.filename in [part.file for part in task.parts]:
             return Told(3, f"{error.filename}: read failed", b"")
         return Told(NO_ANSWER, f"{error.filename or program}: {error.strerror}", b"")
 
 
+def words_of(task: Task, query: Optional[str] = None) -> List[str]:
+    """The words of the program that ask a task's query, or another one, but for the names of files."""
+    forms = sorted({part.form for part in task.parts})
+    form = ("--form", *forms) if len(forms) == 1 else ()
+    return [*task.options, *form, "--", query or task.query]
+
+
+def filtering(program: str, name: str) -> List[str]:
+    """The program that reads files behind a filter of this name."""
+    return [os.environ.get("ATGIS_PART") or f"{program}-part", name]
+
+
+def told_of_part(program: str, task: Task) -> Told:
+    """What the program says of one part.
+
+    Items are read behind the filter under which no array is left unseen, unless most parts would be read twice then.
+    """
+    part, words = task.parts[0], words_of(task)
+    if part.has_lines:
+        return told_of_one([*filtering(program, "lines"), *words], part)
+    if not task.is_scanned:
+        return told_of_one([program, *words], part)
+    if not part.seems_left:
+        told = told_of_one([*filtering(program, "items"), *words], part)
+        if not may_be_of_filter(part, told):
+            return told
+    if can_be_listed(task):
+        return told_by_list([program, *words_of(task, "select")], task)
+    return told_of_one([program, *words], part)._replace(may_leave=True)
+
+
+def may_be_of_filter(part: Part, told: Told) -> bool:
+    """Whether a fault is one of syntax among the part's own bytes: the filter makes one where the array may end."""
+    found = SYNTAX.fullmatch(told.line) if told.status == 1 else None
+    return bool(found) and not part.is_in_head(int(found[1])) and not part.is_behind(int(found[1]))
+
+
 def can_be_listed(task: Task) -> bool:
     """Whether a list of all features answers a question, and there is room for one more feature behind the part."""
-    return task.is_scanned and task.query in ("count", "select") and with_feature(task.parts[0]).size() <= LIMIT
+    return task.query in ("count", "select") and with_feature(task.parts[0]).size() <= LIMIT
 
 
 def told_by_list(command: List[str], task: Task) -> Told:
-    """The same by a list of the features of a part and of one behind it, so that the part isn't looked through.
-
-    Where that one is listed, the part ends among the features.
-    """
+    """The same by a list of the features of a part and of one behind it, which is among them where the part ends there."""
     part = task.parts[0]
     told = told_of_one(command, with_feature(part))
     if told.status:
@@ -93,12 +119,12 @@ def told_by_list(command: List[str], task: Task) -> Told:
     return told._replace(text=text, may_leave=not is_listed)
 
 
-def told_of_one(command: List[str], part: Part, is_scanned: bool = False) -> Told:
+def told_of_one(command: List[str], part: Part) -> Told:
     """The same of one part, which is the standard input, so that no name of a file means anything else."""
     if part.is_whole:
         return answer([*command, "@in"], [], os.open(part.file, os.O_RDONLY), ("@in",), (part,))
     end, pipe = wide_pipe()
-    return answer([*command, "@in"], [(part, pipe)], end, ("@in",), (part,), is_scanned=is_scanned)
+    return answer([*command, "@in"], [(part, pipe)], end, ("@in",), (part,))
 
 
 def told_of_two(command: List[str], parts: Tuple[Part, ...], folder: str) -> Told:
@@ -117,11 +143,8 @@ def told_of_two(command: List[str], parts: Tuple[Part, ...], folder: str) -> Tol
 
 
 def answer(command: List[str], sent: List[Tuple[Part, int]], source: Optional[int], names: Tuple[str, ...],
-           parts: Tuple[Part, ...], passed: Tuple[int, ...] = (), is_scanned: bool = False) -> Told:
-    """Runs a command, sends it the parts, and reads what it writes. All ends of pipes are closed.
-
-    While the program works, the part is looked through where that is wanted.
-    """
+           parts: Tuple[Part, ...], passed: Tuple[int, ...] = ()) -> Told:
+    """Runs a command, sends it the parts, and reads what it writes. All ends of pipes are closed."""
     try:
         run = subprocess.Popen(command, stdin=subprocess.DEVNULL if source is None else source, stdout=subprocess.PIPE,
                                stderr=subprocess.PIPE, pass_fds=passed)
@@ -133,91 +156,42 @@ def answer(command: List[str], sent: List[Tuple[Part, int]], source: Optional[in
         for end in passed if source is None else (source,):
             os.close(end)
     with run:
-        problem, found = None, False
+        problem = None
         for part, pipe in sent:
-            problem = send(part, pipe, bool(problem)) or problem
+            problem = send(part, pipe, bool(problem), len(parts) == 1) or problem
         if problem:
             run.kill()
-        elif is_scanned:
-            found = apart(looked_through, parts[0])
         text, line = run.communicate()
     if problem:
         return Told(3, problem, b"")
     told = line.decode("utf-8", "surrogateescape").rstrip("\n")
     for name, part in zip(names, parts):
         told = part.file + told[len(name):] if told.startswith(f"{name}: ") else told
-    return Told(run.returncode, told, text, found)
+    return Told(run.returncode, told, text)
 
 
-def looked_through(part: Part) -> bool:
-    """Whether a part may go on behind the array of features."""
-    with open(part.file, "rb") as file:
-        return may_leave(mapped(file), part)
+def send(part: Part, pipe: int, is_given_up: bool, is_filtered: bool) -> Optional[str]:
+    """Writes a part into a pipe, and closes it; what is wrong where the file can't be read so far.
 
-
-def send(part: Part, pipe: int, is_given_up: bool) -> Optional[str]:
-    """Writes a part into a pipe, and closes it; what is wrong where the file can't be read so far."""
+    Lines that no filter turns into records go into the pipe as such.
+    """
+    copied, before = copy, part.before
+    if part.has_lines and not is_filtered:
+        copied, before = copy_lines, before.replace(b"\n", RS)
     try:
-        is_bad = not is_given_up and (apart(is_unsent, part, pipe) if part.has_lines else is_unsent(part, pipe))
-    finally:
-        os.close(pipe)
-    return f"{part.file}: read failed" if is_bad else None
-
-
-def is_unsent(part: Part, pipe: int) -> bool:
-    """Writes a part into a pipe; whether the file can't be read so far."""
-    try:
-        write(pipe, part.before)
-        with open(part.file, "rb") as file:
-            copy(file.fileno(), pipe, *part.head)
-            (copy_lines if part.has_lines else copy)(file.fileno(), pipe, part.begin, part.end)
-        write(pipe, part.after)
+        if not is_given_up:
+            write(pipe, before)
+            with open(part.file, "rb") as file:
+                copy(file.fileno(), pipe, *part.head)
+                copied(file.fileno(), pipe, part.begin, part.end)
+            write(pipe, part.after)
     except BrokenPipeError:
         pass                                                # the program has ended, and its status says why
     except OSError:
-        return True
-    return False
-
-
-def apart(function: Callable[..., bool], part: Part, *ends: int) -> bool:
-    """What a function says of a part and of ends of pipes, by a process of its own where that may be and is worth it.
-
-    So no thread waits for Python's lock meanwhile. Where that process ends badly, the function counts as having said
-    yes.
-    """
-    child = forked() if may_fork and part.end - part.begin >= LONG else None
-    if child is None:
-        return function(part, *ends)
-    if child:
-        return os.waitpid(child, 0)[1] != 0
-    said = True
-    try:
-        close_others(ends)
-        said = function(part, *ends)
+        return f"{part.file}: read failed"
     finally:
-        os._exit(said)
-
-
-def forked() -> Optional[int]:
-    """What `os.fork` gives, or None where no process can be had. No interrupt is told to the new one."""
-    mask = signal.pthread_sigmask(signal.SIG_BLOCK, (signal.SIGINT,))
-    try:
-        child: Optional[int] = os.fork()
-    except OSError:
-        child = None
-    if child != 0:
-        signal.pthread_sigmask(signal.SIG_SETMASK, mask)
-    return child
-
-
-def close_others(kept: Tuple[int, ...]) -> None:
-    """Closes all files but the standard ones and these."""
-    for number in map(int, os.listdir(OPEN) if os.path.isdir(OPEN) else range(1024)):
-        if number > 2 and number not in kept:
-            try:
-                os.close(number)
-            except OSError:
-                pass                                        # it isn't open; the list itself was
+        os.close(pipe)
+    return None
 
 
 def copy(file: int, pipe: int, begin: int, end: int) -> None:

@@ -18,14 +18,13 @@ from typing import Any, Iterator, List, NamedTuple, Optional, Tuple, Union
 
 __all__ = [
     "CannotCut", "Head", "LIMIT", "PART", "Part", "alone", "around_fault", "as_record", "cut", "form_of", "head_of",
-    "has_end", "inner", "last", "mapped", "may_leave", "next_cut", "pieces", "sentinel_place", "type_behind",
-    "value_end", "with_feature", "with_sentinel",
+    "has_end", "inner", "last", "mapped", "next_cut", "pieces", "sentinel_place", "type_behind", "value_end",
+    "with_feature", "with_sentinel",
 ]
 
 LIMIT = 268_435_456
 PART = 64 << 20
 FRONT_SIZE = 1 << 16
-STEP = 4 << 20
 LEAST = 16 << 20                  # no part is smaller for being one of the last
 MARK = b"\xef\xbb\xbf"
 FRAME = (b'{"type":"FeatureCollection","features":[', b"]}")
@@ -58,8 +57,9 @@ class Part(NamedTuple):
     before: bytes = b""
     after: bytes = b""
     head: Tuple[int, int] = (0, 0)
-    has_lines: bool = False  # the form is a sequence that is made of lines: each line feed becomes an RS
-    is_whole: bool = False   # the program reads the file itself
+    has_lines: bool = False   # the form is a sequence that is made of lines: each line feed becomes an RS
+    is_whole: bool = False    # the program reads the file itself
+    seems_left: bool = False  # the file's first features have what looks as if the array of features ended there
 
     def front(self) -> int:
         """How many bytes the program gets before those from `begin` on."""
@@ -208,8 +208,8 @@ def record_part(name: str, data: Data, form: str, begin: int, end: int) -> Part:
     if form != "lines":
         return Part(name, begin, end, form, b"\n" if is_marked and begin else b"")
     if is_marked and begin == 0:
-        return Part(name, len(MARK), end, "seq", MARK + RS, has_lines=True)
-    return Part(name, begin, end, "seq", RS, has_lines=True)
+        return Part(name, len(MARK), end, "seq", MARK + b"\n", has_lines=True)
+    return Part(name, begin, end, "seq", b"\n", has_lines=True)
 
 
 def cut_collection(name: str, data: Data, sizes: Sizes) -> List[Part]:
@@ -221,11 +221,12 @@ def cut_collection(name: str, data: Data, sizes: Sizes) -> List[Part]:
             raise CannotCut(f"{name}: it has more than {LIMIT} bytes, and no FeatureCollection is seen at its begin")
         return [Part(name, 0, len(data), "geojson", is_whole=True)]
     parts, begin = [], head.first
+    seems_left = bool(LEAVING.search(data, head.first, head.first + FRONT_SIZE))
     while begin + (size := sizes.of(len(data) - begin)) < len(data):
         found = separator.search(data, begin + size, begin + 2 * size) or ANY_SEPARATOR.search(data, begin + size)
         if not found:
             break
-        parts.append(inner(name, begin, found.start() + 1))
+        parts.append(inner(name, begin, found.start() + 1, seems_left))
         begin = found.end()
     if not parts:
         return [Part(name, 0, len(data), "geojson", is_whole=True)]
@@ -242,9 +243,9 @@ def separator_of(data: Data, first: int) -> Optional["re.Pattern[bytes]"]:
                       + SPACE + value + b")")
 
 
-def inner(name: str, begin: int, end: int) -> Part:
+def inner(name: str, begin: int, end: int, seems_left: bool = False) -> Part:
     """A part of a collection that isn't the last one, with a collection of its own round it."""
-    return Part(name, begin, end, "geojson", *FRAME)
+    return Part(name, begin, end, "geojson", *FRAME, seems_left=seems_left)
 
 
 def last(name: str, head: Head, begin: int, end: int) -> Part:
@@ -272,18 +273,6 @@ def with_feature(part: Part) -> Part:
 def sentinel_place(part: Part) -> int:
     """Where either of these items stands in what the program gets."""
     return part.front() + part.end - part.begin + 1
-
-
-def may_leave(data: Data, part: Part) -> bool:
-    """Whether anything in a part looks as if the features ended there, behind one, and another member followed."""
-    at = part.begin
-    while at < part.end:
-        stop = data.find(b"}", at + STEP, part.end)             # no match goes on over a further bracket
-        stop = part.end if stop < 0 else stop
-        if LEAVING.search(data, at, stop):
-            return True
-        at = stop
-    return False
 
 
 def as_record(part: Part) -> Part:

@@ -119,7 +119,7 @@ class Journal:
         stamps = [[found.st_size, found.st_mtime_ns] for found in (os.stat(part.file) for part in task.parts)]
         parts = [[os.path.abspath(part.file), *part[1:4], part.before.hex(), part.after.hex(), *part.head]
                  for part in task.parts]
-        return json.dumps([task.query, task.options, parts, stamps])
+        return json.dumps([task.query, task.options, task.is_scanned, parts, stamps])
 
     def get(self, task: Task) -> Optional[Told]:
         """The answer that is known."""

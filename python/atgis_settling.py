@@ -179,9 +179,9 @@ class Settling:
             return [parts_of.last(self.name, head, part.begin, len(data))]
         end, begin = found
         rest = [one for one in self.parts[place + 1:] if one.end > begin]
-        first = parts_of.inner(self.name, part.begin, end)
+        first = part._replace(end=end)
         if len(rest) > 1:
-            return [first, parts_of.inner(self.name, begin, rest[0].end), *rest[1:]]
+            return [first, parts_of.inner(self.name, begin, rest[0].end, part.seems_left), *rest[1:]]
         return [first, parts_of.last(self.name, head, begin, len(data))]
 
     # all faults

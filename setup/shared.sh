@@ -13,6 +13,7 @@ fail() {
 files() {
     local tool page name module
     echo "755 crates/atgis/out/atgis bin/atgis"
+    echo "755 crates/atgis_part/out/atgis_part bin/atgis-part"
     for tool in tools/atgis-*; do echo "755 $tool bin/${tool##*/}"; done
     for page in man/*.[17]; do echo "644 $page share/man/man${page##*.}/${page##*/}"; done
     for name in atgis atgis-many; do
@@ -59,13 +60,21 @@ gave you this repository for it. Where you have it, put its bin on the PATH, as 
 \`rt doc\` names its first page."
 }
 
-# Proves and builds the program, and shows how far that is.
+# Has rt prove and build the program of a crate, and run it over words. What rt says goes on.
+run_of() {
+    (cd "crates/$1" && shift && rt run -- "$@" 2>&1 >/dev/null)
+}
+
+# Proves and builds both programs, and shows how far that is.
 build() {
+    local path
     mkdir -p out
-    if ! (cd crates/atgis && rt run -- count data/points.wkt 2>&1 >/dev/null) |
+    if ! { run_of atgis count data/points.wkt && run_of atgis_part items count data/points.json; } |
         setup/progress build out/build.log "$self"; then
         tail -n 20 out/build.log >&2
         fail "rt didn't prove and build the program; out/build.log has all that it said"
     fi
-    [ -x crates/atgis/out/atgis ] || fail "rt left no program at crates/atgis/out/atgis"
+    for path in crates/atgis/out/atgis crates/atgis_part/out/atgis_part; do
+        [ -x "$path" ] || fail "rt left no program at $path"
+    done
 }

@@ -10,13 +10,16 @@ from program import REPOSITORY
 COPIED = ("install", "setup", "VERSION", "crates.txt", "man", "completions", "tools", "python")
 STUB = """#!/bin/sh
 # In place of rt: puts a program where a build would leave it, says what rt says, and fails where it is told to.
-[ "$*" = "run -- count data/points.wkt" ] || exit 9
+case "$*" in
+"run -- count data/points.wkt" | "run -- items count data/points.json") ;;
+*) exit 9 ;;
+esac
 echo 'so far: 0 of 9 functions checked; the verdict comes last' >&2
 echo 'fn at_text::utf::is_mark: proved' >&2
 echo 'rt: at_cli: begins with what a check kept in /elsewhere' >&2
 echo 'error: something is wrong' >&2
 [ -z "$STUB_FAILS" ] || exit 7
-mkdir -p out && cp "$STUB_PROGRAM" out/atgis
+mkdir -p out && cp "$STUB_PROGRAM" "out/${PWD##*/}"
 """
 Check = Tuple[str, Optional[str]]
 
@@ -28,7 +31,8 @@ class Copy:
         self.top = os.path.join(folder, "copy")
         self.program = program
         self.tools = os.path.join(folder, "path")
-        os.makedirs(os.path.join(self.top, "crates", "atgis"))
+        for name in ("atgis", "atgis_part"):
+            os.makedirs(os.path.join(self.top, "crates", name))
         os.mkdir(self.tools)
         for name in COPIED:
             source = os.path.join(REPOSITORY, name)
@@ -64,7 +68,7 @@ def tree(folder: str) -> Set[str]:
 def wanted_files() -> Dict[str, str]:
     """What has to stand under PREFIX, and the file that each is of."""
     tools = [f"tools/{name}" for name in os.listdir(os.path.join(REPOSITORY, "tools"))]
-    pages = [f"man/{name}.1" for name in ["atgis", *(one.split("/")[1] for one in tools)]] + ["man/atgis-query.7"]
+    pages = [f"man/{name}.1" for name in ["atgis", "atgis-part", *(one.split("/")[1] for one in tools)]] + ["man/atgis-query.7"]
     wanted = {f"bin/{one.split('/')[1]}": one for one in tools}
     wanted.update({f"share/man/man{one[-1]}/{one.split('/')[1]}": one for one in pages})
     for name in ("atgis", "atgis-many"):
@@ -92,11 +96,12 @@ def placed(copy: Copy, prefix: str) -> Iterator[Check]:
         text = read(os.path.join(copy.top, source)).replace(b"@VERSION@", version)
         is_right = os.path.isfile(os.path.join(prefix, name)) and read(os.path.join(prefix, name)) == text
         yield f"install: {name}", None if is_right else "it isn't right"
-    program = os.path.join(prefix, "bin", "atgis")
-    is_right = read(program) == read(copy.program) and os.access(program, os.X_OK)
-    yield "install: bin/atgis", None if is_right else "it isn't the program"
+    for name in ("bin/atgis", "bin/atgis-part"):
+        program = os.path.join(prefix, name)
+        is_right = read(program) == read(copy.program) and os.access(program, os.X_OK)
+        yield f"install: {name}", None if is_right else "it isn't the program"
     files = {name for name in tree(prefix) if os.path.isfile(os.path.join(prefix, name))}
-    more = files - set(wanted_files()) - {"bin/atgis", "share/atgis/installed", "share/own"}
+    more = files - set(wanted_files()) - {"bin/atgis", "bin/atgis-part", "share/atgis/installed", "share/own"}
     yield "install: nothing else is put there", f"{more}" if more else None
 
 

@@ -109,9 +109,10 @@ def ran(way: str, python: str, folder: str) -> Iterator[Check]:
     """Runs this file as a program, and reads what it prints."""
     start = {"dask": [python], "mpi": ["mpiexec", "--oversubscribe", "-n", "3", python, "-m", "mpi4py.futures"]}[way]
     slow = os.path.join(folder, "slow")
-    with open(slow, "w", encoding="ascii") as file:
-        file.write(SLOW)
-    os.chmod(slow, 0o755)
+    for end in ("", "-part"):
+        with open(slow + end, "w", encoding="ascii") as file:
+            file.write(SLOW.replace('"$REAL"', f'"$REAL{end}"'))
+        os.chmod(slow + end, 0o755)
     env = {**os.environ, "REAL": os.environ["ATGIS"], "SLOW": slow, "OMPI_ALLOW_RUN_AS_ROOT": "1",
            "OMPI_ALLOW_RUN_AS_ROOT_CONFIRM": "1", "PYTHONPATH": os.path.join(REPOSITORY, "python")}
     try:

@@ -30,21 +30,36 @@ def to_install(*names):
 
 
 def built():
-    """Builds the program, and returns the path of its executable."""
-    folder = os.path.join(REPOSITORY, "crates", "atgis")
-    done = subprocess.run(["rt", "run", "--", "count", "data/points.wkt"], cwd=folder, capture_output=True, text=True)
-    path = os.path.join(folder, "out", "atgis")
+    """Builds the programs, and returns the path of the executable of `atgis`."""
+    return [built_of(name, words) for name, words in (
+        ("atgis_part", ["items", "count", "points.json"]), ("atgis", ["count", "points.wkt"]))][-1]
+
+
+def built_of(name, words):
+    """Builds the program of a crate, runs it over its data, and returns the path of its executable."""
+    folder = os.path.join(REPOSITORY, "crates", name)
+    words = [f"data/{word}" if "." in word else word for word in words]
+    done = subprocess.run(["rt", "run", "--", *words], cwd=folder, capture_output=True, text=True)
+    path = os.path.join(folder, "out", name)
     if done.returncode != 0 or not os.path.exists(path):
         sys.exit(f"the program was not built:\n{done.stdout}{done.stderr}")
     return path
 
 
 def copied(source, folder):
-    """A copy of the program in a folder, which anybody may run."""
+    """A copy of the program in a folder, which anybody may run, and beside it one of the program for parts."""
     os.chmod(folder, 0o755)
-    binary = shutil.copy(source, os.path.join(folder, "atgis"))
-    os.chmod(binary, 0o755)
-    return binary
+    for place, name in ((source, "atgis"), (part_program(source), "atgis-part")):
+        if os.path.exists(place):
+            os.chmod(shutil.copy(place, os.path.join(folder, name)), 0o755)
+    return os.path.join(folder, "atgis")
+
+
+def part_program(program):
+    """The program for parts of files: the one that the environment names, or that is beside this one, or that is built."""
+    beside = f"{program}-part"
+    built_one = os.path.join(REPOSITORY, "crates", "atgis_part", "out", "atgis_part")
+    return os.environ.get("ATGIS_PART") or (beside if os.path.exists(beside) else built_one)
 
 
 def written(binary, words, folder, stdin=b"", out=subprocess.PIPE, is_nobody=False, is_slow=False):

@@ -26,7 +26,8 @@ use Rattle.at_geojson.specs.Names.{kind_of}
 use Rattle.at_geojson.specs.Roles.{features_of}
 use Rattle.at_run.specs.JsonFiles.{HasJsonFileFault}
 use Rattle.at_parts.specs.Moved.{feature_moved, fault_moved}
-use Rattle.at_parts.specs.Collections.{FilePart, joined, opening, closing, framed, marker, IsAlone, IsListed, IsSound, AreSound, SoundPartsMakeTheWhole}
+use Rattle.at_parts.specs.Collections.{FilePart, joined, opening, closing, framed, marker, IsAlone, IsFiltered, IsListed, IsSound, AreSound, SoundPartsMakeTheWhole}
+use Rattle.at_parts.proofs.Filtered.{filtered_alone}
 use Rattle.at_parts.proofs.Encodings.{encoding_of_both}
 use Rattle.at_parts.proofs.Wholes.{Front, members_of, whole_parts}
 use Rattle.at_parts.proofs.Openings.{front_is, all_ascii}
@@ -156,9 +157,10 @@ module _ (digits : ℕ) (how : Coords) where
   part_encoded : (w : List ℕ) (own : List Feature) → IsSound digits how w own → utf8_fault w ≡ None
   part_encoded w own s = by_told s.told
     where
-      by_told : IsAlone digits how w own ⊎ IsListed digits how w own → utf8_fault w ≡ None
+      by_told : IsAlone digits how w own ⊎ (IsFiltered digits how w own ⊎ IsListed digits how w own) → utf8_fault w ≡ None
       by_told (inl h) = framed_encoded w s.rest s.begins h.no_fault
-      by_told (inr h) = (encoding_split w marker (record { byte = 0x2C; others = tail marker; split = refl; small = omega arith }) (framed_encoded (w ++ marker) (s.rest ++ marker) (ap (λ o. o ++ marker) s.begins) h.no_fault)).0
+      by_told (inr (inl h)) = framed_encoded w s.rest s.begins (filtered_alone digits how w own h).no_fault
+      by_told (inr (inr h)) = (encoding_split w marker (record { byte = 0x2C; others = tail marker; split = refl; small = omega arith }) (framed_encoded (w ++ marker) (s.rest ++ marker) (ap (λ o. o ++ marker) s.begins) h.no_fault)).0
 
   row_begins : (ps : List FilePart) (at : ℕ) (fs : List Feature) (end : List ℕ) → AreSound digits how at ps fs → BeginsAscii end → BeginsAscii (joined ps ++ end)
   row_begins [] at fs end h b = b

@@ -14,7 +14,8 @@ use Rattle.at_geojson.specs.declared.kinds.Kind.TheVariants.{FeatureCollection}
 use Rattle.at_geojson.specs.Names.{member_named, units_of_text, type_of, kind_of, items_of}
 use Rattle.at_geojson.specs.Roles.{item_reading, all_features, root_reading, features_of, role_faults_of}
 use Rattle.at_parts.specs.Moved.{feature_moved, fault_moved, AreMoved}
-use Rattle.at_parts.specs.Collections.{FilePart, joined, opening, IsAlone, IsListed, IsSound, AreSound}
+use Rattle.at_parts.specs.Collections.{FilePart, joined, opening, IsAlone, IsFiltered, IsListed, IsSound, AreSound}
+use Rattle.at_parts.proofs.Filtered.{filtered_alone}
 use Rattle.at_parts.proofs.MovedTrees.{moved, moved_items, moved_members, items_moved, items_back, further_members_moved}
 use Rattle.at_parts.proofs.MovedReadings.{reading_moved, item_twins_moved, member_twins_moved, member_named_moved, item_readings_moved, all_features_moved}
 use Rattle.at_parts.proofs.CommaItems.{appended, AreSome, Lined, lined_more, lined_made, lined_spaced}
@@ -99,9 +100,10 @@ module _ (digits : ℕ) (how : Coords) where
   part_stands : (w : List ℕ) (own : List Feature) → IsSound digits how w own → Stands digits how (0 + length opening) w own
   part_stands w own s = by_told s.told
     where
-      by_told : IsAlone digits how w own ⊎ IsListed digits how w own → Stands digits how (0 + length opening) w own
+      by_told : IsAlone digits how w own ⊎ (IsFiltered digits how w own ⊎ IsListed digits how w own) → Stands digits how (0 + length opening) w own
       by_told (inl h) = alone_stands digits how w s.rest own s.begins h
-      by_told (inr h) = listed_stands digits how w s.rest own s.begins h
+      by_told (inr (inl h)) = alone_stands digits how w s.rest own s.begins (filtered_alone digits how w own h)
+      by_told (inr (inr h)) = listed_stands digits how w s.rest own s.begins h
 
   -- and elsewhere
   pub stands_moved : (from to : ℕ) (w : List ℕ) (fs gs : List Feature) → Stands digits how from w fs → AreMoved from to fs gs → Stands digits how to w gs

@@ -13,6 +13,7 @@ pub mod Openings
 pub mod Stands
 pub mod Alone
 pub mod Listed
+pub mod Filtered
 pub mod Joined
 pub mod Files
 pub mod FirstFaults

@@ -7,6 +7,9 @@ use Rattle.at_text.specs.Faults.{fault_at}
 use Rattle.at_text.specs.Parts.{Exactly, Many, ◌▸◌}
 use Rattle.at_text.specs.Texts.{is_space, base_of}
 use Rattle.at_fixed.specs.declared.rounding.Coords.{Coords}
+use Rattle.at_filter.specs.declared.filter.Filter.TheVariants.{Items}
+use Rattle.at_filter.specs.declared.filter.Seen.TheVariants.{Nothing}
+use Rattle.at_filter.specs.Filters.{filtered}
 use Rattle.at_lex.specs.Strings.{Character, SpellsString}
 use Rattle.at_nest.specs.Tree.{object, Members, no_members, member_and, Padded, WithName, Spells}
 use Rattle.at_nest.specs.Syntax.{IsFileOf, HasJsonFault}
@@ -93,11 +96,16 @@ module _ (digits : ℕ) (how : Coords) where
     pub place : last.at ≡ length opening + length text + 1
     pub has : AreJsonFeatures digits how (framed (text ++ marker)) (features ++ last ∷ [])
 
-  -- a part is sound that begins with an object, and of which either way of asking tells these features
+  -- a part that is read behind the filter of items has no fault in the frame, and these features there
+  pub record IsFiltered (text : List ℕ) (features : List Feature) : Type 0 where
+    pub no_fault : HasJsonFileFault digits how (filtered Items Nothing (framed text)) None
+    pub has : AreJsonFeatures digits how (filtered Items Nothing (framed text)) features
+
+  -- a part is sound that begins with an object, and of which any way of asking tells these features
   pub record IsSound (text : List ℕ) (features : List Feature) : Type 0 where
     pub rest : List ℕ
     pub begins : text ≡ 0x7B ∷ rest
-    pub told : IsAlone text features ⊎ IsListed text features
+    pub told : IsAlone text features ⊎ (IsFiltered text features ⊎ IsListed text features)
 
   -- each part but the last is sound, and stands before a comma; the first of them begins behind so many bytes of the
   -- file, and these are their features there

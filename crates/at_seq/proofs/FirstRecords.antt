@@ -24,7 +24,7 @@ use Rattle.at_seq.specs.Records.{is_separator, are_spaces, records_in}
 use Rattle.at_seq.specs.Gathering.{AddsRecords, HasRecordPart, IsSeparatorBehind, AddsFirst}
 use Rattle.at_seq.proofs.PieceRecords.{one_record, other_stands, part_front}
 use Rattle.at_seq.proofs.Gathers.{tree_part}
-use Rattle.at_seq.proofs.WholeRecords.{text_unparted}
+use Rattle.at_seq.proofs.WholeRecords.{text_unparted, without_rs}
 
 -- ---- a value's spelling has a byte
 
@@ -112,7 +112,7 @@ module _ (asked : Asked) (w : List ℕ) (at first : ℕ) (front : FeatureFront) 
   first_separator : position_or_len is_separator w ≡ end
   first_separator =
       ap (position_or_len is_separator) (sym (take-append-drop end w) ∙ ap (λ z. record_text ++ z) (drop-cons w end 0 ends.inside))
-      ∙ (position_behind is_separator record_text (slice_index w end) (drop (suc end) w) (text_unparted is.tree at record_text record_spells) ends.separator ∙ record_width)
+      ∙ (position_behind is_separator record_text (slice_index w end) (drop (suc end) w) (without_rs record_text (text_unparted is.tree at record_text record_spells)) ends.separator ∙ record_width)
 
   record_some : are_spaces record_text ≡ false
   record_some =

@@ -1,8 +1,8 @@
--- No JSON text holds the byte RS (RFC 8259 sections 2, 6 and 7), so a JSON text behind a separator is one piece of a sequence, and
+-- No JSON text holds the bytes RS and 01 (RFC 8259 sections 2, 6 and 7), so a JSON text behind a separator is one piece of a sequence, and
 -- cutting a file at its separators, as `pieces_from` does, loses no spelling. The records of `HasSeqFault` and `AreSeqFeatures`, which
 -- the contract of `part_seq` cites, are those pieces.
 -- Laws of the definitions. For `part_seq`, a JSON text has no such byte.
-use Rattle.std.proofs.Common.{◌≡◌, ℕ, ◌+◌, ◌==◌, inl, inr, Bool, true, false, ◌&&◌, nat_le, true≢false, List, [], ◌∷◌, ◌++◌, length, flat_map, Option, Some, None, IfSome, refl, sym, ◌∙◌, ap, subst, arith}
+use Rattle.std.proofs.Common.{◌≡◌, ℕ, ◌+◌, ◌==◌, inl, inr, Bool, true, false, ◌&&◌, ◌||◌, nat_le, true≢false, List, [], ◌∷◌, ◌++◌, length, flat_map, Option, Some, None, IfSome, refl, sym, ◌∙◌, ap, subst, arith}
 use Rattle.std.specs.List.{AllByRecursion, list_any}
 use Rattle.std.specs.Char.{is_ascii_hexdigit}
 use Rattle.std.proofs.lemmas.List.Elements.{All-from_recursion}
@@ -22,32 +22,44 @@ use Rattle.at_text.specs.Separated.{placed}
 use Rattle.at_seq.specs.Records.{pieces_from, is_separator}
 use Rattle.at_join.proofs.Extents.{four_true}
 
--- none of the bytes is RS
-abbrev IsUnparted : List ℕ → Type 0
-IsUnparted w = AllByRecursion (λ b. is_separator b ≡ false) w
+-- RS, and the byte that a filter puts in the place of one
+abbrev pub is_mark : ℕ → Bool
+is_mark b = b == 0x1E || b == 0x01
+
+-- none of the bytes is one of these
+abbrev pub IsUnparted : List ℕ → Type 0
+IsUnparted w = AllByRecursion (λ b. is_mark b ≡ false) w
 
 -- what the part says is said in such bytes alone
 abbrev SaysUnparted : (ℕ → List ℕ → Type 0) → Type 0
 SaysUnparted P = (at : ℕ) (w : List ℕ) → P at w → IsUnparted w
 
 joined : (v w : List ℕ) → IsUnparted v → IsUnparted w → IsUnparted (v ++ w)
-joined v w = All-append (λ b. is_separator b ≡ false) v w
+joined v w = All-append (λ b. is_mark b ≡ false) v w
 
--- ---- bytes that pass a test which RS fails
+-- ---- bytes that pass a test which these fail
 
-other_by : (test : ℕ → Bool) (b : ℕ) (t : Bool) → is_separator b ≡ t → test 0x1E ≡ false → test b ≡ true → is_separator b ≡ false
-other_by test b true same fails h = let e : b ≡ 0x1E = grind (arith, same) in absurd (true≢false (sym h ∙ (ap test e ∙ fails)))
-other_by test b false same fails h = same
+-- the test fails at both
+abbrev Fails : (ℕ → Bool) → Type 0
+Fails test = (test 0x1E ≡ false) × (test 0x01 ≡ false)
 
-other : (test : ℕ → Bool) → test 0x1E ≡ false → (b : ℕ) → test b ≡ true → is_separator b ≡ false
-other test fails b h = other_by test b (is_separator b) refl fails h
+not_one : (test : ℕ → Bool) (b c : ℕ) (t : Bool) → (b == c) ≡ t → test c ≡ false → test b ≡ true → t ≡ false
+not_one test b c true same fails h = let e : b ≡ c = grind (arith, same) in absurd (true≢false (sym h ∙ (ap test e ∙ fails)))
+not_one test b c false same fails h = refl
 
-many : (test : ℕ → Bool) → test 0x1E ≡ false → SaysUnparted (Many test)
+neither : (s t : Bool) → s ≡ false → t ≡ false → (s || t) ≡ false
+neither false t refl_s h = h
+neither true t e h = absurd (true≢false e)
+
+other : (test : ℕ → Bool) → Fails test → (b : ℕ) → test b ≡ true → is_mark b ≡ false
+other test fails b h = neither (b == 0x1E) (b == 0x01) (not_one test b 0x1E (b == 0x1E) refl fails.0 h) (not_one test b 0x01 (b == 0x01) refl fails.1 h)
+
+many : (test : ℕ → Bool) → Fails test → SaysUnparted (Many test)
 many test fails at [] h = tt
 many test fails at (b ∷ w) (h, hs) = (other test fails b h, many test fails at w hs)
 
 spaces : (w : List ℕ) → AreSpaces w → IsUnparted w
-spaces w h = many is_space refl 0 w h
+spaces w h = many is_space (refl, refl) 0 w h
 
 -- ---- literals and numbers
 
@@ -56,13 +68,13 @@ literal_unparted the_null = (refl, (refl, (refl, (refl, tt))))
 literal_unparted the_true = (refl, (refl, (refl, (refl, tt))))
 literal_unparted the_false = (refl, (refl, (refl, (refl, (refl, tt)))))
 
-at_most_one : (bytes w : List ℕ) → is_one_of bytes 0x1E ≡ false → IsAtMostOneOf bytes w → IsUnparted w
+at_most_one : (bytes w : List ℕ) → Fails (is_one_of bytes) → IsAtMostOneOf bytes w → IsUnparted w
 at_most_one bytes [] fails h = tt
 at_most_one bytes (b ∷ []) fails h = (other (is_one_of bytes) fails b h, tt)
 at_most_one bytes (b ∷ c ∷ w) fails h = absurd h
 
 digits : (w : List ℕ) → AreDigits w → IsUnparted w
-digits w h = many is_digit refl 0 w h
+digits w h = many is_digit (refl, refl) 0 w h
 
 some_digits : (w : List ℕ) → AreSomeDigits w → IsUnparted w
 some_digits [] h = absurd h
@@ -70,8 +82,8 @@ some_digits (b ∷ w) h = digits (b ∷ w) h
 
 whole_part : (w : List ℕ) → IsJsonWhole w → IsUnparted w
 whole_part [] h = absurd h
-whole_part (b ∷ w) (inl (e, f)) = (ap is_separator e, subst IsUnparted (sym f) tt)
-whole_part (b ∷ w) (inr (h, hs)) = (other (λ c. nat_le 0x31 c && nat_le c 0x39) refl b h, digits w hs)
+whole_part (b ∷ w) (inl (e, f)) = (ap is_mark e, subst IsUnparted (sym f) tt)
+whole_part (b ∷ w) (inr (h, hs)) = (other (λ c. nat_le 0x31 c && nat_le c 0x39) (refl, refl) b h, digits w hs)
 
 fraction_part : (f : Option (List ℕ)) → IfSome f AreSomeDigits → IsUnparted (fraction_text f)
 fraction_part None h = tt
@@ -80,24 +92,24 @@ fraction_part (Some w) h = (refl, some_digits w h)
 exponent_part : (e : Option Exponent) → IfSome e IsExponent → IsUnparted (exponent_text e)
 exponent_part None h = tt
 exponent_part (Some e) h =
-    let sign = at_most_one (0x2B ∷ 0x2D ∷ []) e.sign refl h.sign in
-    (other (is_one_of (0x65 ∷ 0x45 ∷ [])) refl e.letter h.letter, joined e.sign e.digits sign (some_digits e.digits h.digits))
+    let sign = at_most_one (0x2B ∷ 0x2D ∷ []) e.sign (refl, refl) h.sign in
+    (other (is_one_of (0x65 ∷ 0x45 ∷ [])) (refl, refl) e.letter h.letter, joined e.sign e.digits sign (some_digits e.digits h.digits))
 
 number_unparted : (n : Numeral) → IsJsonNumeral n → IsUnparted (numeral_text n)
 number_unparted n h =
-    let sign = at_most_one (0x2D ∷ []) n.sign refl h.sign in
+    let sign = at_most_one (0x2D ∷ []) n.sign (refl, refl) h.sign in
     let behind = joined (fraction_text n.fraction) (exponent_text n.exponent) (fraction_part n.fraction h.fraction) (exponent_part n.exponent h.exponent) in
     joined n.sign (n.whole ++ (fraction_text n.fraction ++ exponent_text n.exponent)) sign
     (joined n.whole (fraction_text n.fraction ++ exponent_text n.exponent) (whole_part n.whole h.whole) behind)
 
 -- ---- strings
 
-hex_digit : (b : ℕ) → is_ascii_hexdigit b ≡ true → is_separator b ≡ false
-hex_digit b h = other is_ascii_hexdigit refl b h
+hex_digit : (b : ℕ) → is_ascii_hexdigit b ≡ true → is_mark b ≡ false
+hex_digit b h = other is_ascii_hexdigit (refl, refl) b h
 
 character_unparted : (c : Character) → IsCharacter c → IsUnparted (character_text c)
-character_unparted (plain b) h = (other is_plain refl b h, tt)
-character_unparted (escape letter) h = (refl, (other (λ b. list_any (λ (e : ℕ × ℕ). e.0 == b) escapes) refl letter h, tt))
+character_unparted (plain b) h = (other is_plain (refl, refl) b h, tt)
+character_unparted (escape letter) h = (refl, (other (λ b. list_any (λ (e : ℕ × ℕ). e.0 == b) escapes) (refl, refl) letter h, tt))
 character_unparted (unit a b c d) h =
     let (p, q, r, s) = four_true (is_ascii_hexdigit a) (is_ascii_hexdigit b) (is_ascii_hexdigit c) (is_ascii_hexdigit d) h in
     (refl, (refl, (hex_digit a p, (hex_digit b q, (hex_digit c r, (hex_digit d s, tt))))))
@@ -117,14 +129,14 @@ padded P Q p q at w h =
     let behind = joined b r (spaces b hb) (q (at + length a + length v + length b) r hq) in
     subst IsUnparted (sym e) (joined a (v ++ (b ++ r)) (spaces a ha) (joined v (b ++ r) (p (at + length a) v hp) behind))
 
-after : (byte : ℕ) (P : ℕ → List ℕ → Type 0) → is_separator byte ≡ false → SaysUnparted P → SaysUnparted (Exactly (byte ∷ []) ▸ P)
+after : (byte : ℕ) (P : ℕ → List ℕ → Type 0) → is_mark byte ≡ false → SaysUnparted P → SaysUnparted (Exactly (byte ∷ []) ▸ P)
 after byte P other p at w k = let (r, e, h) = after_parts byte P at w k in subst IsUnparted (sym e) (other, p (at + 1) r h)
 
 ended : SaysUnparted Nothing
 ended at w e = subst IsUnparted (sym e) tt
 
 -- a part between two bytes
-enclosed : (v w : List ℕ) (opener closer : ℕ) → is_separator opener ≡ false → is_separator closer ≡ false → w ≡ opener ∷ (v ++ closer ∷ []) → IsUnparted v → IsUnparted w
+enclosed : (v w : List ℕ) (opener closer : ℕ) → is_mark opener ≡ false → is_mark closer ≡ false → w ≡ opener ∷ (v ++ closer ∷ []) → IsUnparted v → IsUnparted w
 enclosed v w opener closer begins ends e h = subst IsUnparted (sym e) (begins, joined v (closer ∷ []) h (ends, tt))
 
 name_unparted : (name : List Character) (i : ℕ) → SaysUnparted (At i (SpellsString name))
@@ -171,20 +183,28 @@ text_unparted t at w h = padded (λ j v. Spells j v t) Nothing (λ j v k. tree_u
 
 -- ---- the laws
 
+first_of_two : (s t : Bool) → (s || t) ≡ false → s ≡ false
+first_of_two false t e = refl
+first_of_two true t e = e
+
+pub without_rs : (w : List ℕ) → IsUnparted w → AllByRecursion (λ b. is_separator b ≡ false) w
+without_rs [] h = tt
+without_rs (b ∷ w) (h, hs) = (first_of_two (b == 0x1E) (b == 0x01) h, without_rs w hs)
+
 -- no byte of a value's spelling is RS
 pub no_separator : (at : ℕ) (w : List ℕ) (t : Tree) → Spells at w t → list_any is_separator w ≡ false
-no_separator at w t h = list_any_none is_separator w (All-from_recursion (λ b. is_separator b ≡ false) w (tree_unparted t at w h))
+no_separator at w t h = list_any_none is_separator w (All-from_recursion (λ b. is_separator b ≡ false) w (without_rs w (tree_unparted t at w h)))
 
 -- and none of a JSON text's, white space included
 pub text_no_separator : (at : ℕ) (w : List ℕ) → JsonText at w → list_any is_separator w ≡ false
-text_no_separator at w (t, h) = list_any_none is_separator w (All-from_recursion (λ b. is_separator b ≡ false) w (text_unparted t at w h))
+text_no_separator at w (t, h) = list_any_none is_separator w (All-from_recursion (λ b. is_separator b ≡ false) w (without_rs w (text_unparted t at w h)))
 
 -- a JSON text is one piece
 pub text_one_piece : (at : ℕ) (w : List ℕ) → JsonText at w → pieces_from at w ≡ record { at = at; text = w } ∷ []
-text_one_piece at w (t, h) = ap (placed at) (slice_split_none is_separator w (All-from_recursion (λ b. is_separator b ≡ false) w (text_unparted t at w h)))
+text_one_piece at w (t, h) = ap (placed at) (slice_split_none is_separator w (All-from_recursion (λ b. is_separator b ≡ false) w (without_rs w (text_unparted t at w h))))
 
 -- and the first one where a separator stands behind it
 pub text_first_piece : (at : ℕ) (w rest : List ℕ) → JsonText at w
     → pieces_from at (w ++ 0x1E ∷ rest) ≡ record { at = at; text = w } ∷ pieces_from (at + length w + 1) rest
 text_first_piece at w rest (t, h) =
-    ap (placed at) (slice_split_at is_separator w 0x1E rest (All-from_recursion (λ b. is_separator b ≡ false) w (text_unparted t at w h)) refl)
+    ap (placed at) (slice_split_at is_separator w 0x1E rest (All-from_recursion (λ b. is_separator b ≡ false) w (without_rs w (text_unparted t at w h))) refl)

@@ -1,0 +1,3 @@
+pub mod Filtering
+mod FilteredFiles
+mod Places
