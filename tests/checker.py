@@ -18,9 +18,9 @@ def scripts() -> List[str]:
 
 SCRIPTS = scripts()
 RT = """#!/bin/sh
-# In place of rt: says what the gate says of three crates, two of them kept, and leaves a program.
+# In place of rt: says what the gate says of three crates, two of them kept, and leaves the programs.
 [ "$*" = ci ] || exit 9
-mkdir -p crates/atgis/out && cp /bin/true crates/atgis/out/atgis
+for name in atgis atgis_part; do mkdir -p "crates/$name/out" && cp /bin/true "crates/$name/out/$name"; done
 echo 'rt: one is kept: an earlier run on this machine proved the same files over the same libraries'
 echo 'rt: two is kept: an earlier run on this machine proved the same files over the same libraries'
 printf '== atgis\\nfn atgis::main: proved\\n'
