@@ -141,7 +141,7 @@ def progress(err: str) -> Iterator[Check]:
     yield "install: the machine", None if found and int(found[1]) == len(os.sched_getaffinity(0)) else repr(said[0])
     yield "install: how long it takes", None if "on two processors" in said[1] and "on four" in said[1] else repr(said[1])
     wanted = [f"./install: crate 1 of {crates}: at_text", f"./install: crate {below - 1} of {crates}: at_cli"]
-    yield differs("install: how far it is", [line for line in said if ": crate " in line], wanted)
+    yield differs("install: how far it is", [line for line in said if ": crate " in line], 2 * wanted)
 
 
 def order(name: str) -> Set[str]:
