@@ -407,8 +407,22 @@ def command_checks(folder: str) -> Iterator[Check]:
     yield differs("command: a full disk", (done.stderr, done.returncode), (b"output: write failed\n", 4))
 
 
+def arrays_checks(folder: str) -> Iterator[Check]:
+    """Features with arrays of objects, of which the filter takes each for an end, from the first on or later ones alone;
+    and the same where the features do end within a part."""
+    with_array = [one[:-1] + f',"tags":[{{"n":{k}}} ] ,\n"more":0}}' for k, one in enumerate(points(1_500))]
+    plain = points(2_000)
+    for name, texts in (("first", with_array + plain), ("later", plain + with_array)):
+        for end, back in (("", ""), (" and leave", ',"old":[' + ",".join(points(900)) + "]")):
+            path = put(folder, "arrays.geojson", collection(texts, back=back))
+            for query in ("count", "select", "extent", "count where in box(0 0,700 700)"):
+                whole = subprocess.run([os.environ["ATGIS"], query, path], stdout=subprocess.PIPE, check=True)
+                yield differs(f"arrays: {query}, {name}{end}", command(["--part", "20k", query, path]),
+                              (whole.stdout.decode(), "", 0))
+
+
 def large_checks(folder: str) -> Iterator[Check]:
-    """What the command says of parts so large that a process of its own looks through them, or copies them."""
+    """What the command says of parts of more than a megabyte."""
     plain = put(folder, "plain.geojson", collection(points(30_000)))
     left = put(folder, "left.geojson", collection(points(20_000), back=',"old":[' + ",".join(points(30_000)) + "]"))
     for path in (plain, left):
@@ -424,6 +438,16 @@ def large_checks(folder: str) -> Iterator[Check]:
     yield differs("command: an RS in a large part", command(["--part", "1100k", "count", bad]), ("", line, 1))
 
 
+def read_all(terminal: int) -> bytes:
+    """What was written to a terminal whose other end is closed, of which each read gives some."""
+    told = b""
+    while True:
+        try:
+            told += os.read(terminal, 1 << 16)
+        except OSError:
+            return told
+
+
 def terminal_check(folder: str) -> Check:
     """That a line of progress is on a terminal, and gone at the end."""
     path = put(folder, "t.wkt", "POINT (1 2)\n" * 300)
@@ -434,7 +458,7 @@ def terminal_check(folder: str) -> Check:
     done = subprocess.run([sys.executable, TOOL, "--jobs", "1", "--part", "300", "count", path], stdout=subprocess.PIPE,
                           stderr=theirs, env=env, check=False)
     os.close(theirs)
-    told = os.read(ours, 1 << 16).decode()
+    told = read_all(ours).decode()
     os.close(ours)
     is_right = done.stdout == b"300\n" and re.search(r"\r\[#+ *\] +\d+ % +\d+ MB/s, \d+ s left", told)
     return "command: a terminal", None if is_right and told.endswith("\r\x1b[K") else repr((done.stdout, told))
@@ -479,6 +503,6 @@ def checks(folder: str) -> List[Check]:
     """All of these."""
     found: List[Check] = []
     for some in (cut_checks, fault_in_cut_checks, tier_checks, edge_checks, faults_checks, features_checks,
-                 failure_checks, journal_checks, command_checks, large_checks, module_checks):
+                 failure_checks, journal_checks, command_checks, arrays_checks, large_checks, module_checks):
         found += some(folder)
     return [*found, late_check(folder), memory_check(folder), terminal_check(folder), interrupt_check(folder)]
