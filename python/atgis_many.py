@@ -15,7 +15,8 @@ those of atgis, and `lines`: a GeoJSON text on each line. These options stand be
 
     form       "geojson", "wkt", "seq" or "lines"; without it the name and the first bytes of each file tell it
     executor   anything with the `submit` of concurrent.futures, as of Dask or MPI; without it threads of this machine
-    jobs       how many of these threads, each of which runs the program; as many as there are processors
+    jobs       how many of these threads, each of which runs the program; one more than there are processors, since
+               some run begins or ends at any time
     journal    the path of a file that keeps the answers of parts, so that a run that was ended goes on where it was
     part_size  how many bytes a part has, at about; 64 MiB
     coords, digits, program   as those of the module atgis
@@ -72,7 +73,7 @@ class Dataset:
             raise ValueError(f"there is no form {form!r}")
         self.files = [os.fspath(files)] if isinstance(files, (str, os.PathLike)) else list(map(os.fspath, files))
         self.form, self.part_size, self.journal, self.progress = form, part_size, journal, progress
-        self.executor, self.jobs, self.tries = executor, jobs or processors(), tries
+        self.executor, self.jobs, self.tries = executor, jobs or processors() + 1, tries
         self.program = None if program is None else os.fspath(program)
         self.options = ("--workers=1", *(f"--{name}={options[name]}" for name in OPTIONS if options.get(name)))
 
