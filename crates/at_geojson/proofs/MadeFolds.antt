@@ -42,7 +42,8 @@ use Rattle.at_geojson.specs.Rings.{ListsRead, AreLists, AreListsRead, AreListsWh
 use Rattle.at_geojson.proofs.RingFolds.{points_padded, lists_begin, lists_go_on, lists_end, lists_padded, areas_begin, areas_go_on, areas_end}
 use Rattle.at_geojson.proofs.RowFolds.{lengthened, row_made, kept_append, points_begin, points_go_on, points_end}
 use Rattle.at_geojson.proofs.ProofOnly.{vec_of, kept_length}
-use Rattle.at_geojson.proofs.PassedPairs.{placed_pair, bytes_moved, pair_moved, moved_pair, same_as_itself}
+use Rattle.at_geojson.proofs.PassedPairs.{placed_pair, pair_moved, moved_pair, same_as_itself}
+use Rattle.at_scan.proofs.Moved.{bytes_moved}
 
 one_longer : {X : Type 0} (xs : List X) (x : X) → length (xs ++ x ∷ []) ≡ length xs + 1
 one_longer xs x = length-append xs (x ∷ [])

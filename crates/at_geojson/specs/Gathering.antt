@@ -39,12 +39,6 @@ abbrev pub seen : {X Z : Type 0} → Z → (X → Z) → Option X → Z
 seen none f None = none
 seen none f (Some x) = f x
 
--- ---- strings
-
--- a byte that stands for the unit of its own number
-abbrev pub is_simple : ℕ → Bool
-is_simple b = nat_lt b 128 && not (b == 0x5C)
-
 -- ---- equal names
 
 abbrev pub is_among : List (Member GeoAtom) → List ℕ → Bool

@@ -10,7 +10,8 @@ use Rattle.at_geojson.specs.declared.pairs.NumberPlace.{NumberPlace}
 use Rattle.at_geojson.specs.declared.pairs.PairPlace.{PairPlace}
 use Rattle.at_geojson.specs.declared.pairs.Plain.{Plain}
 use Rattle.at_geojson.specs.Keeping.{Asked}
-use Rattle.at_geojson.specs.Values.{IsPlain, EndsPosition}
+use Rattle.at_geojson.specs.Values.{IsPlain}
+use Rattle.at_scan.specs.Numbers.{EndsPosition}
 
 -- the number that stands there, with this value
 abbrev pub plain_at : NumberPlace → ℤ → Plain

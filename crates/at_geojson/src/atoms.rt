@@ -1,7 +1,7 @@
 //! What is kept of each value of a JSON text.
 
+use at_scan::{Kind};
 use crate::geometries::Geometry;
-use crate::kinds::Kind;
 use at_geom::{Path, Polygon, Pos};
 use at_lex::Units;
 use at_query::{Part, TextPairs};

@@ -5,11 +5,10 @@ ghost use Rattle.std.specs.Prelude.{◌≡◌, ◌+◌, ◌<◌, ◌≤◌, leng
 ghost use Rattle.at_geojson.specs.Makings.{MakesLine, MakesLineItem, MakesLines, MakesLinesItem, MakesPolygons};
 ghost use Rattle.at_geojson.specs.PlainGeometries.{seen_unless, IsCoordinatesItem, Sees};
 
-use crate::kinds::Kind;
+use crate::plain_geometries::{Seen, SeenRead};
+use at_scan::{Kind, expect_comma, opening, skip_spaces, stands};
 use crate::makers::Maker;
 use crate::pairs::one_more;
-use crate::places::{expect_comma, opening, skip_spaces, stands};
-use crate::plain_geometries::{Seen, SeenRead};
 use crate::spots::{Reads, Stretch};
 use crate::text::Text;
 use at_geom::{line_fault, ring_fault};

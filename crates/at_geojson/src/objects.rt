@@ -7,10 +7,10 @@ ghost use Rattle.at_geojson.specs.Atoms.{IfOwnShape};
 ghost use Rattle.at_geojson.specs.Objects.{kind_shape, coordinates_shape, geometries_shape};
 ghost use Rattle.at_geojson.specs.Objects.{feature_shape as the_feature_shape, FeaturesSeen, JoinsFeature};
 
+use at_scan::{Kind};
 use crate::asked::GeoAlgebra;
 use crate::atoms::GeoAtom;
 use crate::geometries::Geometry;
-use crate::kinds::Kind;
 use crate::lists::{first_of_forms, form_at, into_geometry};
 use crate::readings::{as_line, as_lines, as_point, as_points, as_polygon, as_polygons};
 use crate::shapes::empty_shape;

@@ -7,14 +7,13 @@ ghost use Rattle.at_geojson.specs.Atoms.{IsOwn, IsOwnRole, IfOwnShape, IsFold};
 ghost use Rattle.at_geojson.specs.Wholes.{IsAnswer, IsFeatureFront, found_end};
 ghost use Rattle.at_geojson.specs.Ends.{EndsLone, EndsGeometry, EndsRole, EndsAtom};
 
+use at_scan::{TableNames, stands};
 use crate::asked::GeoAlgebra;
 use crate::atoms::{GeoAtom, Role};
 use crate::features::{FeatureRead, read_feature};
 use crate::geometries::Geometry;
 use crate::lists::form_at;
-use crate::members::TableNames;
 use crate::objects::feature_part;
-use crate::places::stands;
 use crate::sorts::at_of;
 use crate::text::Text;
 use at_query::{Part, TextPairs};
