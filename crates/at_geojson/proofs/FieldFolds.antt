@@ -24,8 +24,9 @@ use Rattle.at_geojson.specs.Atoms.{as_kind, IsOwn, IsOwnRole, IfOwnPart}
 use Rattle.at_scan.specs.declared.fields.Field.TheVariants as names
 use Rattle.at_geojson.specs.Gathering.{seen, is_among}
 use Rattle.at_geojson.specs.Objects.{value_named, kind_in, coordinates_shape, geometries_shape, feature_shape, texts_named, kept_texts, FeaturesSeen, JoinsFeature, IsRoleOf, MakesObject}
-use Rattle.at_scan.specs.Fields.{first_field, field_of, is_no_field, is_kind, is_coordinates, is_geometry, is_properties, is_features, is_geometries}
+use Rattle.at_scan.specs.Fields.{field_of, is_no_field, is_kind, is_coordinates, is_geometry, is_properties, is_features, is_geometries}
 use Rattle.at_geojson.specs.Fields.{value_in, put_if, AreFields, AreOwnFields, kind_in_fields, IfOwnValue, IsRoleIn, MakesFields}
+use Rattle.at_scan.proofs.FieldNames.{kind_field, coordinates_field, geometry_field, properties_field, features_field, geometries_field}
 use Rattle.at_geojson.proofs.ObjectOwns.{own_named, own_coordinates, own_geometries, own_features}
 
 -- ---- one member more

@@ -1,21 +1,16 @@
 -- Members that are read at once: their names are plain and differ, and what is made of their fields is what is made of them.
 -- For `value`.
-use Rattle.std.proofs.Common.{◌≡◌, ℕ, ◌+◌, ◌-◌, ◌<◌, ◌≤◌, Bool, true, false, ◌||◌, if◌then◌else◌, bytes_eq, List, [], ◌∷◌, ◌++◌, length, take, drop, slice_index, Option, Some, None, is_some, refl, sym, ◌∙◌, ap, subst, arith, append-nil, append_assoc}
-use Rattle.std.specs.List.{list_all, list_any}
+use Rattle.std.proofs.Common.{◌≡◌, ℕ, ◌+◌, ◌-◌, ◌<◌, Bool, true, false, ◌||◌, if◌then◌else◌, bytes_eq, List, [], ◌∷◌, ◌++◌, length, slice_index, Option, Some, None, is_some, refl, sym, ◌∙◌, ap, subst, append-nil, append_assoc}
+use Rattle.std.specs.List.{list_any}
 use Rattle.std.proofs.lemmas.Bool.{true≢false}
 use Rattle.std.proofs.Math.Bool.{or-false}
-use Rattle.std.proofs.Math.Seq.{take-append_seam}
 use Rattle.std.proofs.lemmas.List.Folds.{list_any-append}
-use Rattle.std.proofs.lemmas.Slice.Eq.{bytes_eq-Decides}
 use Rattle.at_text.specs.Faults.{first_fault}
-use Rattle.at_fixed.specs.NumberSoFar.{between}
-use Rattle.at_fixed.proofs.DigitParts.{part-length, part-more, part-cons}
 use Rattle.at_nest.specs.declared.algebra.Member.{Member}
 use Rattle.at_query.specs.declared.query.queries.Test.{Test}
 use Rattle.at_query.specs.declared.query.queries.Test.TheVariants.{InBox, MeetsShape, Has}
 use Rattle.at_query.specs.declared.features.TextPair.{TextPair}
 use Rattle.at_wkt.proofs.FaultOrder.{none_right}
-use Rattle.at_wkt.proofs.NumberSteps.{rest_to}
 use Rattle.at_geojson.specs.declared.atoms.GeoAtom.{GeoAtom}
 use Rattle.at_scan.specs.declared.fields.Field.{Field}
 use Rattle.at_scan.specs.declared.fields.Field.TheVariants as variants
@@ -26,17 +21,16 @@ use Rattle.at_scan.specs.declared.members.OtherNames.{OtherNames}
 use Rattle.at_geojson.specs.declared.pairs.Whole.{Whole}
 use Rattle.at_geojson.specs.Keeping.{Asked, looks_at_texts, asks_pair}
 use Rattle.at_geojson.specs.Atoms.{twin_of, as_text}
-use Rattle.at_scan.specs.Places.{is_simple}
 use Rattle.at_geojson.specs.Gathering.{is_among, twin_at, member_twins}
 use Rattle.at_geojson.specs.Objects.{kept_texts, pair_kept}
-use Rattle.at_scan.specs.Places.{IsTextAt, IsNameAt}
+use Rattle.at_scan.specs.Places.{IsNameAt}
 use Rattle.at_scan.specs.Fields.{field_of, is_kind, is_coordinates, is_geometry, is_properties, is_features, is_geometries, is_no_field}
 use Rattle.at_geojson.specs.Fields.{put_if, AreFields}
 use Rattle.at_geojson.specs.Values.{IsItem, EndsObject}
 use Rattle.at_scan.specs.Members.{name_in, IsPlainName, is_among_others, ArePlainOthers}
 use Rattle.at_geojson.specs.Members.{IsNewName, PassesItem, IsFieldRead, EndsFields, AreFieldsRead}
+use Rattle.at_scan.proofs.FieldNames.{unlike_field}
 use Rattle.at_geojson.proofs.Each.{none_left, none_behind}
-use Rattle.at_scan.proofs.SimpleTexts.{simple_units}
 use Rattle.at_geojson.proofs.FieldFolds.{field_absent, fields_more, object_of_fields}
 use Rattle.at_geojson.proofs.ObjectReads.{object_folds}
 use Rattle.at_geojson.proofs.ValueParts.{member_of, members_begin, members_go_on}

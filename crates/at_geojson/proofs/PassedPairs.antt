@@ -1,22 +1,20 @@
 -- Positions that are passed over are positions with white space round them, and the same bytes elsewhere are the same position.
 -- For `value`.
-use Rattle.std.proofs.Common.{◌≡◌, ℕ, ◌+◌, ◌-◌, ◌<◌, ◌≤◌, List, [], ◌∷◌, map, take, drop, length, slice_index, ℤ, true, Ok, refl, sym, ◌∙◌, ap, subst, arith}
+use Rattle.std.proofs.Common.{◌≡◌, ℕ, ◌+◌, ◌-◌, ◌≤◌, List, length, ℤ, true, Ok, refl, sym, subst, arith}
 use Rattle.std.specs.Ordering.{int_eq}
 use Rattle.std.proofs.lemmas.Bool.{and_from}
 use Rattle.std.proofs.lemmas.Bool.Decides.{Decides-int_eq}
-use Rattle.std.proofs.lemmas.List.{take-take, drop-take, drop-drop}
 use Rattle.at_fixed.specs.NumberSoFar.{between}
 use Rattle.at_fixed.specs.Numerals.{JsonNumber}
 use Rattle.at_fixed.specs.Fixed.{IsFixedOf}
-use Rattle.at_fixed.proofs.DigitParts.{part-cons, part-length}
 use Rattle.at_geom.specs.declared.positions.Pos.{Pos}
 use Rattle.at_lex.specs.Spans.{AreSpaces}
 use Rattle.at_geojson.specs.declared.pairs.NumberPlace.{NumberPlace}
 use Rattle.at_geojson.specs.declared.pairs.PairPlace.{PairPlace}
 use Rattle.at_geojson.specs.Keeping.{Asked}
 use Rattle.at_geojson.specs.Values.{IsPlain, IsSpacedPair}
-use Rattle.at_scan.specs.Numbers.{IsFurther, AreFurther, EndsPosition}
 use Rattle.at_geojson.specs.Passing.{plain_at, IsPairAt, pair_of, same_values}
+use Rattle.at_scan.proofs.Moved.{part_moved, byte_moved, ends_moved}
 use Rattle.at_geojson.proofs.ValueParts.{pair_read, pair_spaced}
 
 pub placed_pair : (asked : Asked) (base : ℕ) (w : List ℕ) (at : ℕ) (p : PairPlace) (pos : Pos) → IsPairAt asked w at p pos → IsSpacedPair asked base w at (record { end = p.end; pair = pair_of base p pos })

@@ -1,14 +1,12 @@
 -- What the readers of whole values find of a text: the parts that they read spell trees, for which the atoms stand.
 -- For `add`, `array` and `value`.
-use Rattle.std.proofs.Common.{false, None, Result, Err, if◌then◌else◌, ◌==◌, ◌&&◌, ◌++◌, fold, ◌≡◌, ℕ, zero, suc, ◌+◌, ◌-◌, ◌<◌, ◌≤◌, min, inl, inr, ℤ, true, Some, Ok, List, [], ◌∷◌, All, length, take, drop, slice_index, take-append-drop, refl, sym, ◌∙◌, ap, subst, arith, Option}
+use Rattle.std.proofs.Common.{None, Result, Err, if◌then◌else◌, ◌==◌, ◌&&◌, ◌++◌, fold, ◌≡◌, ℕ, ◌+◌, ◌-◌, ◌<◌, ◌≤◌, min, inl, inr, ℤ, true, Some, Ok, List, [], ◌∷◌, All, length, take, drop, slice_index, take-append-drop, refl, sym, ◌∙◌, ap, subst, arith, Option}
 use Rattle.std.specs.Bool.{⊤}
-use Rattle.std.specs.List.{list_any}
 use Rattle.at_text.specs.Faults.{first_fault}
 use Rattle.std.specs.declared.alloc.Global.{Global}
 use Rattle.std.specs.declared.boxed.Box.{Box}
 use denote.RawPtr.{null_ptr}
 use Rattle.std.proofs.Math.Nat.{min-eq_left}
-use Rattle.std.proofs.lemmas.List.{length-drop}
 use Rattle.std.proofs.lemmas.List.Elements.{All-nil, All-cons, All-append}
 use Rattle.at_text.specs.Prefix.{TakesLongest}
 use Rattle.at_text.specs.declared.prefixes.Taken.{Taken}
@@ -43,15 +41,15 @@ use Rattle.at_geojson.specs.declared.pairs.Whole.{Whole}
 use Rattle.at_geojson.specs.declared.pairs.Plain.{Plain}
 use Rattle.at_geojson.specs.declared.pairs.PairRead.{PairRead}
 use Rattle.at_scan.specs.Names.{kind_of_text}
-use Rattle.at_geojson.specs.Keeping.{Asked, looks_at_texts}
+use Rattle.at_geojson.specs.Keeping.{Asked}
 use Rattle.at_geojson.specs.Atoms.{twin_of, at_of, IsOwn, IsFold, as_text, unboxed, asked_units}
 use Rattle.at_geojson.specs.Gathering.{firsts, are_all, rank, sort_of, sort_of_all, least_of, pair_atom}
 use Rattle.at_scan.specs.Places.{IsTextAt, IsNameAt}
 use Rattle.at_geojson.specs.Members.{IsScalarAt}
 use Rattle.at_geojson.specs.Values.{IsPlain, IsPair, IsSpacedPair, IsWhole, IsItem, AreItemsRead, AreMembersRead, EndsArray, EndsObject}
 use Rattle.at_scan.specs.Numbers.{IsFurther, AreFurther, EndsPosition}
+use Rattle.at_scan.proofs.Taken.{IsTaken, word_taken}
 use Rattle.at_geojson.proofs.Firsts.{firsts-cons}
-use Rattle.at_geojson.proofs.QueryFacts.{none_asked}
 use Rattle.at_geojson.proofs.ScalarFolds.{number_found, number_folds, own_number, text_folds, null_folds, true_folds, false_folds, bad_number_at}
 use Rattle.at_geojson.proofs.OwnFolds.{pair_own}
 use Rattle.at_geojson.proofs.ArrayAnswers.{numbers_fold, empty_folds}

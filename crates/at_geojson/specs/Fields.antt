@@ -1,5 +1,5 @@
 -- The members of an object for which some kind asks. Only contracts of private functions cite this.
-use Rattle.std.specs.Prelude.{◌≡◌, ◌⊎◌, ℕ, Bool, true, false, if◌then◌else◌, bytes_eq, codes, List, [], Option, Some}
+use Rattle.std.specs.Prelude.{◌≡◌, ◌⊎◌, ℕ, Bool, true, false, codes, List, [], Option, Some}
 use Rattle.std.specs.Prelude.{None, Result}
 use Rattle.std.specs.Bool.{⊤}
 use Rattle.at_text.specs.declared.faults.Fault.{Fault}

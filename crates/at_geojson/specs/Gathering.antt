@@ -1,7 +1,7 @@
 -- What the private functions make of atoms one by one and of lists of them. Only contracts of private functions cite
 -- this.
 use Rattle.std.specs.Prelude.{◌≡◌, ℕ, ◌-◌, ◌==◌, min, ℤ, pos, Bool, true, false, not, ◌&&◌, ◌||◌, if◌then◌else◌}
-use Rattle.std.specs.Prelude.{bytes_eq, nat_lt, List, [], ◌∷◌, ◌++◌, fold, map, length, Option, Some, None, is_none}
+use Rattle.std.specs.Prelude.{bytes_eq, List, [], ◌∷◌, ◌++◌, fold, map, length, Option, Some, None, is_none}
 use Rattle.std.specs.Prelude.{slice_get}
 use Rattle.std.specs.List.{list_all, list_any}
 use Rattle.std.specs.Ordering.{int_eq}

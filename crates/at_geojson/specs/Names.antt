@@ -4,8 +4,7 @@ use Rattle.std.specs.Prelude.{option_and_then}
 use Rattle.at_lex.specs.Strings.{Character, units_of}
 use Rattle.at_nest.specs.Tree.{Tree, text, Trees, no_trees, tree_and, Members, no_members, member_and}
 use Rattle.at_scan.specs.declared.kinds.Kind.{Kind}
-use Rattle.at_scan.specs.declared.kinds.Kind.TheVariants.{FeatureCollection, Feature, Point, MultiPoint, LineString}
-use Rattle.at_scan.specs.declared.kinds.Kind.TheVariants.{MultiLineString, Polygon, MultiPolygon, GeometryCollection}
+use Rattle.at_scan.specs.Names.{kind_of_text}
 
 -- the name's units are those of the text
 abbrev pub is_named : List ℕ → List Character → Bool

@@ -1,7 +1,6 @@
 //! The hashes that more than one name of an object's members has.
 
 ghost use Rattle.std.specs.Prelude.{◌≡◌, IfOk, map};
-ghost use Rattle.std.specs.List.Sorted.{IsNonDecreasing};
 ghost use Rattle.at_scan.specs.Hashes.{HaveRepeated};
 ghost use Rattle.at_geojson.specs.Hashes.{member_hash};
 

@@ -1,12 +1,8 @@
 //! Positions whose first two numbers have values, read at once.
 
-ghost use Rattle.std.specs.Prelude.{◌≡◌, ℕ, ◌+◌, ◌<◌, ◌≤◌, ◌^◌, true, length, take, slice_index, IfSome, Ok, ℤ};
-ghost use Rattle.at_text.specs.Prefix.{TakesLongest};
-ghost use Rattle.at_fixed.specs.Numerals.{JsonNumber};
-ghost use Rattle.at_fixed.specs.Fixed.{IsFixedOf};
+ghost use Rattle.std.specs.Prelude.{◌≡◌, ℕ, ◌+◌, ◌<◌, ◌≤◌, length, IfSome};
 ghost use Rattle.at_geojson.specs.Atoms.{to_four};
 ghost use Rattle.at_geojson.specs.Values.{IsPlain, IsPair, IsSpacedPair};
-ghost use Rattle.at_scan.specs.Numbers.{IsFurther, EndsPosition};
 ghost use Rattle.at_geojson.specs.Passing.{PassesNumber, PassesPair, PassesTo};
 
 use at_scan::{behind_spaces, may_begin, position_end, skip_spaces, stands, valued_len, valued_number};

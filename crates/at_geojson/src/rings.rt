@@ -1,6 +1,6 @@
 //! Coordinates that are written plainly, read at once: lists of positions, arrays of such lists, and arrays of these.
 
-ghost use Rattle.std.specs.Prelude.{◌≡◌, ◌+◌, ◌<◌, ◌≤◌, length, slice_index, IfOk};
+ghost use Rattle.std.specs.Prelude.{◌≡◌, ◌<◌, length, slice_index, IfOk};
 ghost use Rattle.at_geojson.specs.Values.{IsWhole};
 
 use at_scan::{brackets_ahead, skip_spaces, stands};

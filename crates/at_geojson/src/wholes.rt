@@ -1,6 +1,6 @@
 //! The array or object that begins a text, read at once, and what stands behind it in an array.
 
-ghost use Rattle.std.specs.Prelude.{◌≡◌, ℕ, ◌+◌, ◌<◌, ◌≤◌, ◌^◌, List, ◌∷◌, length, slice_index, IfOk};
+ghost use Rattle.std.specs.Prelude.{◌≡◌, ℕ, ◌+◌, ◌<◌, List, ◌∷◌, length, slice_index, IfOk};
 ghost use Rattle.at_lex.specs.Spans.{opening};
 ghost use Rattle.at_lex.specs.declared.tokens.Bracket.{Bracket};
 ghost use Rattle.at_geojson.specs.Values.{IsWhole};
