@@ -16,9 +16,8 @@ use Rattle.at_geojson.specs.Keeping.{Asked}
 use Rattle.at_geojson.specs.Atoms.{twin_of, IsOwn}
 use Rattle.at_geojson.specs.Gathering.{is_among, member_twins}
 use Rattle.at_scan.specs.Fields.{field_of, is_kind, is_coordinates, is_geometry, is_properties, is_features}
-use Rattle.at_geojson.specs.Fields.{put_if}
+use Rattle.at_geojson.specs.Fields.{put_if, value_in, AreFields, MakesFields}
 use Rattle.at_scan.specs.Fields.{is_geometries, is_no_field}
-use Rattle.at_geojson.specs.Fields.{value_in, AreFields, MakesFields}
 use Rattle.at_geojson.specs.Values.{IsItem, AreMembersRead}
 
 -- no member before has the name, which is put to the others where no kind asks for the member

@@ -15,14 +15,13 @@ ghost use Rattle.at_geojson.specs.Features.{IsShapeRead, IsTested, ReadsProperti
 ghost use Rattle.at_geojson.specs.Features.{IsPartOfSeen, IsPartHeld, IsPartIn, IsOwnSeen, IfOwnGeometry};
 ghost use Rattle.at_geojson.specs.Features.{EndsFeature, IsFeatureRead};
 
-use crate::plain_geometries::{Seen, SeenRead, ShapeRead, read_geometry, read_kind, seen_shape};
-use at_scan::{Field, FieldName, Kind, KindRead, OTHER_KIND, OtherNames, TableNames, add_other, expect_comma, field_name, seems_cut, skip_spaces, stands};
 use crate::asked::{GeoAlgebra, needs_texts};
 use crate::atoms::{GeoAtom, ObjectAtom, Role};
 use crate::geometries::Geometry;
 use crate::object_atoms::new_roles;
 use crate::objects::{feature_part, feature_shape};
 use crate::pairs::Whole;
+use crate::plain_geometries::{Seen, SeenRead, ShapeRead, read_geometry, read_kind, seen_shape};
 use crate::plain_objects::{VoidRead, pass_early, pass_object, pass_other};
 use crate::shapes::empty_shape;
 use crate::text::Text;
@@ -30,6 +29,10 @@ use crate::texts::{all_hold, asked_pairs};
 use crate::twins::is_twin;
 use crate::values::{DEEPEST, read_item};
 use at_query::{Offsets, Part, TextPairs, Verb, part_none};
+use at_scan::{
+    Field, FieldName, Kind, KindRead, OTHER_KIND, OtherNames, TableNames, add_other, expect_comma,
+    field_name, seems_cut, skip_spaces, stands,
+};
 use at_text::{Fault, Halt, Memory};
 use std::alloc::Global;
 

@@ -3,18 +3,16 @@
 ghost use Rattle.std.specs.Prelude.{◌≡◌, ◌≤◌, ◌^◌, [], is_some, length, IfOk};
 ghost use Rattle.at_geojson.specs.Atoms.{as_kind};
 ghost use Rattle.at_scan.specs.Fields.{field_of, is_kind as names_kind};
-ghost use Rattle.at_geojson.specs.Fields.{put_if, put_first as first_put};
+ghost use Rattle.at_geojson.specs.Fields.{put_if, put_first as first_put, value_in, AreFields, kind_in_fields};
 ghost use Rattle.at_scan.specs.Fields.{is_coordinates as names_coordinates, is_geometry, is_geometries};
-ghost use Rattle.at_scan.specs.Fields.{is_properties, is_features};
-ghost use Rattle.at_geojson.specs.Fields.{value_in, AreFields, kind_in_fields};
+ghost use Rattle.at_scan.specs.Fields.{is_properties, is_features, field_of};
 ghost use Rattle.at_geojson.specs.Members.{IsNewName};
-ghost use Rattle.at_scan.specs.Fields.{field_of};
 ghost use Rattle.at_scan.specs.Places.{IsNameAt};
 ghost use Rattle.at_scan.specs.Members.{name_in, IsPlainName, ArePlainOthers};
 
 use crate::atoms::GeoAtom;
-use at_scan::{Field, FieldName, Kind, OtherNames, field_named, is_other, next_name};
 use at_nest::Member;
+use at_scan::{Field, FieldName, Kind, OtherNames, field_named, is_other, next_name};
 use at_text::Halt;
 
 /// Of an object's members, the value of the first of each name for which some kind asks.

@@ -18,9 +18,9 @@ ghost use Rattle.at_geojson.specs.Tallies.{measure_of, SumsUp, TalliesLists, Tal
 ghost use Rattle.at_geojson.specs.Makings.{polygon};
 ghost use Rattle.at_geojson.specs.PlainGeometries.{IsSeenOf};
 
-use crate::plain_geometries::{Seen};
 use crate::asked::Measure;
 use crate::pairs::ROOM;
+use crate::plain_geometries::Seen;
 use crate::shapes::{of_lines, of_points, of_polygons, one_line, one_point, one_polygon};
 use crate::spots::{ByPlace, ByValue, Reads};
 use crate::tallies::Tally;

@@ -8,16 +8,16 @@ ghost use Rattle.at_geojson.specs.Keeping.{needs_shapes as needs_of};
 ghost use Rattle.at_geojson.specs.Objects.{coordinates_shape, feature_shape as shape_of_feature, MakesObject};
 ghost use Rattle.at_geojson.specs.Fields.{AreOwnFields, IfOwnValue, IsFeatureOf, IsRoleIn, MakesFields};
 
-use crate::fields::{Fields, fields_of};
-use at_scan::{Kind};
 use crate::asked::GeoAlgebra;
 use crate::atoms::{GeoAtom, ObjectAtom, Role, Roles};
+use crate::fields::{Fields, fields_of};
 use crate::lists::role_geometry;
 use crate::objects::{feature_shape, of_coordinates, of_feature, of_features, of_geometries};
 use crate::texts::{feature_texts, kept_texts};
 use crate::twins::first_twin_of_members;
 use at_nest::Member;
 use at_query::TextPairs;
+use at_scan::Kind;
 use at_text::{Fault, Memory};
 use std::alloc::Global;
 use std::mem::replace;

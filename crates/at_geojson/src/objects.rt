@@ -7,7 +7,6 @@ ghost use Rattle.at_geojson.specs.Atoms.{IfOwnShape};
 ghost use Rattle.at_geojson.specs.Objects.{kind_shape, coordinates_shape, geometries_shape};
 ghost use Rattle.at_geojson.specs.Objects.{feature_shape as the_feature_shape, FeaturesSeen, JoinsFeature};
 
-use at_scan::{Kind};
 use crate::asked::GeoAlgebra;
 use crate::atoms::GeoAtom;
 use crate::geometries::Geometry;
@@ -16,6 +15,7 @@ use crate::readings::{as_line, as_lines, as_point, as_points, as_polygon, as_pol
 use crate::shapes::empty_shape;
 use crate::sorts::at_of;
 use at_query::{Feature, Part, Query, TextPairs, Verb, part_none, part_of};
+use at_scan::Kind;
 use at_text::{Fault, Memory, first_of_two};
 use std::alloc::Global;
 

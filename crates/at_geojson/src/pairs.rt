@@ -5,13 +5,15 @@ ghost use Rattle.at_geojson.specs.Atoms.{to_four};
 ghost use Rattle.at_geojson.specs.Values.{IsPlain, IsPair, IsSpacedPair};
 ghost use Rattle.at_geojson.specs.Passing.{PassesNumber, PassesPair, PassesTo};
 
-use at_scan::{behind_spaces, may_begin, position_end, skip_spaces, stands, valued_len, valued_number};
 use crate::atoms::{GeoAtom, PositionAtom};
 use crate::text::Text;
 use at_fixed::{
     Coords, Notation, PlainNumber, json_number, leading_number, plain_len, plain_number,
 };
 use at_geom::Pos;
+use at_scan::{
+    behind_spaces, may_begin, position_end, skip_spaces, stands, valued_len, valued_number,
+};
 
 /// A value that was read: the place behind it, and its atom.
 #[derive(Drop)]

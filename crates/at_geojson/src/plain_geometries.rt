@@ -4,13 +4,16 @@ ghost use Rattle.std.specs.Prelude.{◌≡◌, ℕ, ◌+◌, ◌<◌, ◌≤◌,
 ghost use Rattle.at_geojson.specs.Keeping.{Asked};
 ghost use Rattle.at_geojson.specs.PlainGeometries.{IsKindRead, IsCoordinatesItem, IsGeometryRead, SeesShape, Sees};
 
-use at_scan::{Kind, KindRead, OTHER_KIND, SimpleItem, begins_collection, expect_comma, field_name, is_coordinates, is_kind, kind_of, known_kind, simple_item, skip_spaces, stands};
 use crate::asked::Measure;
 use crate::geometries::Geometry;
 use crate::makers::{Keeps, Passes, Sizes, Spreads, Tallies};
 use crate::makings::coordinates;
 use crate::text::Text;
 use at_query::Part;
+use at_scan::{
+    Kind, KindRead, OTHER_KIND, SimpleItem, begins_collection, expect_comma, field_name,
+    is_coordinates, is_kind, kind_of, known_kind, simple_item, skip_spaces, stands,
+};
 use at_text::{Fault, Halt};
 
 /// A geometry that was read: the place behind it, and its shape or its first fault.

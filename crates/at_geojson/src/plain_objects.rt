@@ -5,13 +5,16 @@ ghost use Rattle.std.specs.Prelude.{◌≡◌, ◌+◌, ◌<◌, ◌≤◌, leng
 ghost use Rattle.at_scan.specs.Members.{IsPlainName, ArePlainOthers};
 ghost use Rattle.at_geojson.specs.Features.{PassesOther, MeetsTexts, NamesNoKind, PassesMember, IsTexted};
 
-use at_scan::{Field, FieldName, NamePlace, OTHER_KIND, OtherNames, SimpleItem, expect_comma, kind_of, name_bytes, next_name, simple_item, skip_spaces, stands};
 use crate::pairs::Whole;
 use crate::passing::pass_item;
 use crate::text::Text;
 use crate::texts::{asks_name, met_by, met_by_atom};
 use crate::twins::is_twin;
 use crate::values::{DEEPEST, read_item};
+use at_scan::{
+    Field, FieldName, NamePlace, OTHER_KIND, OtherNames, SimpleItem, expect_comma, kind_of,
+    name_bytes, next_name, simple_item, skip_spaces, stands,
+};
 use at_text::Halt;
 
 /// So deep stand brackets in an array of numbers, as `bbox` is.

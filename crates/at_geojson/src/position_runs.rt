@@ -7,11 +7,11 @@ ghost use Rattle.at_geojson.specs.Values.{IsSpacedPair};
 ghost use Rattle.at_geojson.specs.FeatureRuns.{AreItemsWhole};
 ghost use Rattle.at_geojson.specs.PositionRuns.{IsNextPair, PassesNext, IsPassedTrack};
 
-use at_scan::{OTHER_KIND, stands};
 use crate::atoms::{GeoAtom, Track, TrackAtom};
 use crate::pairs::{PairRead, Whole, one_more, pass_spaced, read_spaced};
 use crate::text::Text;
 use crate::tracks::{joined_track, new_track};
+use at_scan::{OTHER_KIND, stands};
 use at_text::Halt;
 use std::alloc::Global;
 

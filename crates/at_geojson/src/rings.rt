@@ -3,12 +3,12 @@
 ghost use Rattle.std.specs.Prelude.{◌≡◌, ◌<◌, length, slice_index, IfOk};
 ghost use Rattle.at_geojson.specs.Values.{IsWhole};
 
-use at_scan::{brackets_ahead, skip_spaces, stands};
 use crate::atoms::{Areas, AreasAtom, GeoAtom, Lists, ListsAtom, Points, PointsAtom};
 use crate::makers::{Keeps, Lister, Passes};
 use crate::makings::{areas, lists, positions};
 use crate::pairs::Whole;
 use crate::text::Text;
+use at_scan::{brackets_ahead, skip_spaces, stands};
 use at_text::Halt;
 
 /// A list of positions as a value.

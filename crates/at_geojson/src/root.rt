@@ -7,7 +7,6 @@ ghost use Rattle.at_geojson.specs.Atoms.{IsOwn, IsOwnRole, IfOwnShape, IsFold};
 ghost use Rattle.at_geojson.specs.Wholes.{IsAnswer, IsFeatureFront, found_end};
 ghost use Rattle.at_geojson.specs.Ends.{EndsLone, EndsGeometry, EndsRole, EndsAtom};
 
-use at_scan::{TableNames, stands};
 use crate::asked::GeoAlgebra;
 use crate::atoms::{GeoAtom, Role};
 use crate::features::{FeatureRead, read_feature};
@@ -17,6 +16,7 @@ use crate::objects::feature_part;
 use crate::sorts::at_of;
 use crate::text::Text;
 use at_query::{Part, TextPairs};
+use at_scan::{TableNames, stands};
 use at_text::{Fault, Halt, Memory};
 use std::alloc::Global;
 

@@ -12,13 +12,13 @@ ghost use Rattle.at_geojson.specs.Keeping.{asks_value as value_asked};
 ghost use Rattle.at_scan.specs.Places.{is_simple as simple_byte};
 ghost use Rattle.at_geojson.specs.Atoms.{unboxed, twin_of, asked_units as units_asked, IsOwn, IsFold};
 
-use at_scan::{is_simple, kind_of};
 use crate::asked::GeoAlgebra;
 use crate::atoms::{GeoAtom, NumberAtom, TextAtom};
 use crate::texts::asks_value;
 use at_fixed::{Coords, FixedFault, Notation, plain_number, read_fixed};
 use at_lex::{RunEnd, Units, check_run, units};
 use at_query::Test;
+use at_scan::{is_simple, kind_of};
 use at_text::Memory;
 use at_wkt::number_fault;
 use std::alloc::Global;

@@ -11,13 +11,13 @@ ghost use Rattle.at_geojson.specs.Objects.{texts_in as texts_inside, texts_named
 ghost use Rattle.at_geojson.specs.Objects.{kept_texts as the_kept_texts};
 ghost use Rattle.at_geojson.specs.TextTests.{wants_name as name_wanted, met_of, texts_hold, holds_if_text, pair_of};
 
-use at_scan::{Spelling};
 use crate::atoms::GeoAtom;
 use crate::lists::form_at;
 use crate::sorts::at_of;
 use at_lex::Units;
 use at_nest::Member;
 use at_query::{Test, TextPair, TextPairs};
+use at_scan::Spelling;
 use at_text::{Fault, Memory};
 use std::alloc::Global;
 

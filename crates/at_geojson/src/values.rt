@@ -9,10 +9,9 @@ ghost use Rattle.at_geojson.specs.Members.{EndsFields, IsFieldRead};
 ghost use Rattle.at_scan.specs.Places.{IsSimpleTextAt};
 ghost use Rattle.at_geojson.specs.Values.{IsWhole, IsItem, EndsArray, EndsObject};
 
-use crate::fields::{Fields, new_name};
-use at_scan::{Field, OtherNames, expect_comma, is_kind, is_other, name_place, seems_cut, short_text_end, skip_spaces, stands, text_end};
 use crate::asked::{GeoAlgebra, needs_texts};
 use crate::atoms::{GeoAtom, NumberAtom};
+use crate::fields::{Fields, new_name};
 use crate::lists::array_atom;
 use crate::object_atoms::{fields_atom, object_atom};
 use crate::pairs::{PairRead, Whole, read_pair};
@@ -25,6 +24,10 @@ use at_fixed::{Notation, plain_number};
 use at_lex::{take_run, units};
 use at_nest::Member;
 use at_query::TextPairs;
+use at_scan::{
+    Field, OtherNames, expect_comma, is_kind, is_other, name_place, seems_cut, short_text_end,
+    skip_spaces, stands, text_end,
+};
 use at_text::Halt;
 use std::alloc::Global;
 

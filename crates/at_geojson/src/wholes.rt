@@ -6,7 +6,6 @@ ghost use Rattle.at_lex.specs.declared.tokens.Bracket.{Bracket};
 ghost use Rattle.at_geojson.specs.Values.{IsWhole};
 ghost use Rattle.at_geojson.specs.FeatureRuns.{AreItemsWhole};
 
-use at_scan::{OTHER_KIND, begins_collection, field_name, is_kind, names_collection, skip_spaces, stands};
 use crate::asked::needs_texts;
 use crate::atoms::GeoAtom;
 use crate::feature_runs::{FeaturesRead, read_features};
@@ -15,6 +14,9 @@ use crate::pairs::Whole;
 use crate::position_runs::read_positions;
 use crate::text::Text;
 use crate::values::{DEEPEST, read_list, read_object};
+use at_scan::{
+    OTHER_KIND, begins_collection, field_name, is_kind, names_collection, skip_spaces, stands,
+};
 use at_text::Halt;
 
 /// An object from its opening bracket on, which stands at the place. Where no test looks at texts, it is taken for a

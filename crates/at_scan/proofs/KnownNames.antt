@@ -15,13 +15,12 @@ use Rattle.at_fixed.specs.NumberSoFar.{between}
 use Rattle.at_fixed.proofs.DigitParts.{part-none}
 use Rattle.at_lex.specs.Strings.{JsonString}
 use Rattle.at_scan.proofs.Taken.{rest_to}
-use Rattle.at_scan.specs.Places.{is_simple}
+use Rattle.at_scan.specs.Places.{is_simple, is_common, IsTextAt, IsSimpleTextAt, IsNameAt}
 use Rattle.at_lex.specs.Spans.{AreSpaces}
 use Rattle.at_scan.specs.declared.kinds.Kind.{Kind}
 use Rattle.at_scan.specs.declared.fields.Field.{Field}
 use Rattle.at_scan.specs.Names.{kind_of_text}
 use Rattle.at_scan.specs.declared.places.NamePlace.{NamePlace}
-use Rattle.at_scan.specs.Places.{is_common, IsTextAt, IsSimpleTextAt, IsNameAt}
 use Rattle.at_scan.specs.Fields.{field_of}
 use Rattle.at_scan.specs.Members.{name_in, from_name, IsPlainName}
 use Rattle.at_scan.specs.KnownNames.{BeginsAlike, StandsWord, IsQuoted, NamesField, NamesKind, IsFieldName, IsKindName}

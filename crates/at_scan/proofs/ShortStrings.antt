@@ -7,8 +7,7 @@ use Rattle.at_fixed.specs.NumberSoFar.{between}
 use Rattle.at_fixed.proofs.DigitParts.{part-none, part-more, part-cons}
 use Rattle.at_lex.specs.Strings.{Character, plain, is_plain, AreCharacters, character_text}
 use Rattle.at_scan.proofs.Taken.{rest_to}
-use Rattle.at_scan.specs.Places.{is_simple}
-use Rattle.at_scan.specs.Places.{is_common, IsSimpleTextAt}
+use Rattle.at_scan.specs.Places.{is_simple, is_common, IsSimpleTextAt}
 
 -- bytes, as characters of a string
 record AreCommon (w : List ℕ) (from to : ℕ) : Type 0 where

@@ -7,14 +7,13 @@ use Rattle.std.proofs.lemmas.Bool.{and_parts}
 use Rattle.at_fixed.specs.NumberSoFar.{between}
 use Rattle.at_fixed.proofs.DigitParts.{part-length, part-more, part-cons}
 use Rattle.at_scan.specs.declared.places.NamePlace.{NamePlace}
-use Rattle.at_scan.specs.Places.{IsTextAt, IsNameAt}
+use Rattle.at_scan.specs.Places.{IsTextAt, IsNameAt, is_simple}
 use Rattle.at_scan.specs.Members.{IsPlainName}
 use Rattle.at_scan.proofs.Taken.{rest_to}
 use Rattle.at_lex.specs.Strings.{Character, character_text, string_text, AreCharacters, units_of}
 use Rattle.at_lex.specs.UnitSteps.{Content, units_after}
 use Rattle.at_lex.proofs.Stretches.{units_by_step}
 use Rattle.at_lex.proofs.UnitLemmas.{ascii_steps, no_rest}
-use Rattle.at_scan.specs.Places.{is_simple}
 
 is_low : (b : ℕ) → is_simple b ≡ true → b < 128
 is_low b h = grind (arith, (and_parts (nat_lt b 128) (not (b == 0x5C)) h).0)

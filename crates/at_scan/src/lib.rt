@@ -25,11 +25,13 @@ pub use fields::{Field, field_named, is_coordinates, is_kind, is_other};
 pub use hashes::{has_hash_among, hash_of, repeated};
 pub use kinds::{Kind, kind_of};
 pub use known_names::{KindRead, begins_collection, known_kind, names_collection};
-pub use members::{FieldName, OtherName, OtherNames, TableNames, add_other, field_name, name_bytes, next_name};
+pub use members::{
+    FieldName, OtherName, OtherNames, TableNames, add_other, field_name, name_bytes, next_name,
+};
 pub use numbers::{may_begin, position_end, valued_len, valued_number};
 pub use places::{
-    NamePlace, OTHER_KIND, behind_spaces, brackets_ahead, expect_comma, name_place, opening, seems_cut, skip_spaces,
-    stands, text_end,
+    NamePlace, OTHER_KIND, behind_spaces, brackets_ahead, expect_comma, name_place, opening,
+    seems_cut, skip_spaces, stands, text_end,
 };
 pub use short_texts::{SimpleItem, is_simple, short_text_end, simple_item};
 pub use spellings::Spelling;

@@ -4,8 +4,7 @@ ghost use Rattle.std.specs.Prelude.{◌≡◌, ◌+◌, ◌≤◌, length, IfSom
 ghost use Rattle.std.specs.List.{list_all};
 ghost use Rattle.at_fixed.specs.Eights.{first_set as lowest_set};
 ghost use Rattle.at_lex.specs.Fronts.{IsFrontAt};
-ghost use Rattle.at_scan.specs.Places.{IsSimpleTextAt, IsSimpleItem, is_common};
-ghost use Rattle.at_scan.specs.Places.{is_simple as simple_byte};
+ghost use Rattle.at_scan.specs.Places.{IsSimpleTextAt, IsSimpleItem, is_common, is_simple as simple_byte};
 
 use crate::places::{skip_spaces, stands};
 use std::simd::prelude::*;
