@@ -12,21 +12,21 @@ use Rattle.at_query.specs.declared.features.TextPair.{TextPair}
 use Rattle.at_query.specs.declared.query.queries.Query.{Query}
 use Rattle.at_query.specs.declared.answer.parts.Part.{Part}
 use Rattle.at_scan.specs.declared.kinds.Kind.{Kind}
+use Rattle.at_scan.specs.declared.fields.Field.{Field}
 use Rattle.at_scan.specs.declared.kinds.Kind.TheVariants as kinds
+use Rattle.at_scan.specs.declared.fields.Field.TheVariants as names
+use Rattle.at_scan.specs.Fields.{field_of, is_no_field, is_kind, is_coordinates, is_geometry, is_properties, is_features, is_geometries}
+use Rattle.at_scan.proofs.FieldNames.{kind_field, coordinates_field, geometry_field, properties_field, features_field, geometries_field}
 use Rattle.at_geojson.specs.declared.atoms.GeoAtom.{GeoAtom}
 use Rattle.at_geojson.specs.declared.atoms.Role.{Role}
 use Rattle.at_geojson.specs.declared.atoms.Role.TheVariants as roles
-use Rattle.at_scan.specs.declared.fields.Field.{Field}
 use Rattle.at_geojson.specs.declared.fields.Fields.{Fields}
 use Rattle.at_geom.specs.declared.shapes.Shape.{Shape}
 use Rattle.at_geojson.specs.Keeping.{Asked, needs_shapes}
 use Rattle.at_geojson.specs.Atoms.{as_kind, IsOwn, IsOwnRole, IfOwnPart}
-use Rattle.at_scan.specs.declared.fields.Field.TheVariants as names
 use Rattle.at_geojson.specs.Gathering.{seen, is_among}
 use Rattle.at_geojson.specs.Objects.{value_named, kind_in, coordinates_shape, geometries_shape, feature_shape, texts_named, kept_texts, FeaturesSeen, JoinsFeature, IsRoleOf, MakesObject}
-use Rattle.at_scan.specs.Fields.{field_of, is_no_field, is_kind, is_coordinates, is_geometry, is_properties, is_features, is_geometries}
 use Rattle.at_geojson.specs.Fields.{value_in, put_if, AreFields, AreOwnFields, kind_in_fields, IfOwnValue, IsRoleIn, MakesFields}
-use Rattle.at_scan.proofs.FieldNames.{kind_field, coordinates_field, geometry_field, properties_field, features_field, geometries_field}
 use Rattle.at_geojson.proofs.ObjectOwns.{own_named, own_coordinates, own_geometries, own_features}
 
 -- ---- one member more

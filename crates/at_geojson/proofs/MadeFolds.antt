@@ -18,6 +18,7 @@ use Rattle.at_text.specs.Parts.{Nothing, ◌▸◌}
 use Rattle.at_nest.specs.Passing.{IsPadded}
 use Rattle.at_nest.proofs.OneTree.{one_tree}
 use Rattle.at_nest.proofs.Passed.{padded_gives}
+use Rattle.at_scan.proofs.Moved.{bytes_moved}
 use Rattle.at_geojson.specs.declared.atoms.GeoAtom.TheVariants as atoms
 use Rattle.at_geojson.specs.declared.atoms.PositionAtom.{PositionAtom}
 use Rattle.at_geojson.specs.declared.spots.Spot.{Spot}
@@ -43,7 +44,6 @@ use Rattle.at_geojson.proofs.RingFolds.{points_padded, lists_begin, lists_go_on,
 use Rattle.at_geojson.proofs.RowFolds.{lengthened, row_made, kept_append, points_begin, points_go_on, points_end}
 use Rattle.at_geojson.proofs.ProofOnly.{vec_of, kept_length}
 use Rattle.at_geojson.proofs.PassedPairs.{placed_pair, pair_moved, moved_pair, same_as_itself}
-use Rattle.at_scan.proofs.Moved.{bytes_moved}
 
 one_longer : {X : Type 0} (xs : List X) (x : X) → length (xs ++ x ∷ []) ≡ length xs + 1
 one_longer xs x = length-append xs (x ∷ [])

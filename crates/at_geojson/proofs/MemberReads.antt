@@ -11,25 +11,25 @@ use Rattle.at_query.specs.declared.query.queries.Test.{Test}
 use Rattle.at_query.specs.declared.query.queries.Test.TheVariants.{InBox, MeetsShape, Has}
 use Rattle.at_query.specs.declared.features.TextPair.{TextPair}
 use Rattle.at_wkt.proofs.FaultOrder.{none_right}
-use Rattle.at_geojson.specs.declared.atoms.GeoAtom.{GeoAtom}
 use Rattle.at_scan.specs.declared.fields.Field.{Field}
-use Rattle.at_scan.specs.declared.fields.Field.TheVariants as variants
-use Rattle.at_geojson.specs.declared.fields.Fields.{Fields}
 use Rattle.at_scan.specs.declared.places.NamePlace.{NamePlace}
 use Rattle.at_scan.specs.declared.members.FieldName.{FieldName}
 use Rattle.at_scan.specs.declared.members.OtherNames.{OtherNames}
+use Rattle.at_scan.specs.declared.fields.Field.TheVariants as variants
+use Rattle.at_scan.specs.Places.{IsNameAt}
+use Rattle.at_scan.specs.Fields.{field_of, is_kind, is_coordinates, is_geometry, is_properties, is_features, is_geometries, is_no_field}
+use Rattle.at_scan.specs.Members.{name_in, IsPlainName, is_among_others, ArePlainOthers}
+use Rattle.at_scan.proofs.FieldNames.{unlike_field}
+use Rattle.at_geojson.specs.declared.atoms.GeoAtom.{GeoAtom}
+use Rattle.at_geojson.specs.declared.fields.Fields.{Fields}
 use Rattle.at_geojson.specs.declared.pairs.Whole.{Whole}
 use Rattle.at_geojson.specs.Keeping.{Asked, looks_at_texts, asks_pair}
 use Rattle.at_geojson.specs.Atoms.{twin_of, as_text}
 use Rattle.at_geojson.specs.Gathering.{is_among, twin_at, member_twins}
 use Rattle.at_geojson.specs.Objects.{kept_texts, pair_kept}
-use Rattle.at_scan.specs.Places.{IsNameAt}
-use Rattle.at_scan.specs.Fields.{field_of, is_kind, is_coordinates, is_geometry, is_properties, is_features, is_geometries, is_no_field}
 use Rattle.at_geojson.specs.Fields.{put_if, AreFields}
 use Rattle.at_geojson.specs.Values.{IsItem, EndsObject}
-use Rattle.at_scan.specs.Members.{name_in, IsPlainName, is_among_others, ArePlainOthers}
 use Rattle.at_geojson.specs.Members.{IsNewName, PassesItem, IsFieldRead, EndsFields, AreFieldsRead}
-use Rattle.at_scan.proofs.FieldNames.{unlike_field}
 use Rattle.at_geojson.proofs.Each.{none_left, none_behind}
 use Rattle.at_geojson.proofs.FieldFolds.{field_absent, fields_more, object_of_fields}
 use Rattle.at_geojson.proofs.ObjectReads.{object_folds}

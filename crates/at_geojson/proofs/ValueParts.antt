@@ -31,24 +31,24 @@ use Rattle.at_text.specs.Parts.{At}
 use Rattle.at_nest.specs.Passing.{IsPadded, ItemsBefore, items_of, Named, members_of}
 use Rattle.at_nest.proofs.Ahead.{no_nil}
 use Rattle.at_nest.proofs.Passed.{items_none, items_on, items_end, items_empty, members_none, members_on, members_end, members_empty}
+use Rattle.at_scan.specs.declared.places.NamePlace.{NamePlace}
+use Rattle.at_scan.specs.Names.{kind_of_text}
+use Rattle.at_scan.specs.Places.{IsTextAt, IsNameAt}
+use Rattle.at_scan.specs.Numbers.{IsFurther, AreFurther, EndsPosition}
+use Rattle.at_scan.proofs.Taken.{IsTaken, word_taken}
 use Rattle.at_geojson.specs.declared.atoms.GeoAtom.{GeoAtom}
 use Rattle.at_geojson.specs.declared.atoms.GeoAtom.TheVariants as atoms
 use Rattle.at_geojson.specs.declared.atoms.NumberAtom.{NumberAtom}
 use Rattle.at_geojson.specs.declared.atoms.TextAtom.{TextAtom}
 use Rattle.at_geojson.specs.declared.sorts.Sort.TheVariants as sorts
-use Rattle.at_scan.specs.declared.places.NamePlace.{NamePlace}
 use Rattle.at_geojson.specs.declared.pairs.Whole.{Whole}
 use Rattle.at_geojson.specs.declared.pairs.Plain.{Plain}
 use Rattle.at_geojson.specs.declared.pairs.PairRead.{PairRead}
-use Rattle.at_scan.specs.Names.{kind_of_text}
 use Rattle.at_geojson.specs.Keeping.{Asked}
 use Rattle.at_geojson.specs.Atoms.{twin_of, at_of, IsOwn, IsFold, as_text, unboxed, asked_units}
 use Rattle.at_geojson.specs.Gathering.{firsts, are_all, rank, sort_of, sort_of_all, least_of, pair_atom}
-use Rattle.at_scan.specs.Places.{IsTextAt, IsNameAt}
 use Rattle.at_geojson.specs.Members.{IsScalarAt}
 use Rattle.at_geojson.specs.Values.{IsPlain, IsPair, IsSpacedPair, IsWhole, IsItem, AreItemsRead, AreMembersRead, EndsArray, EndsObject}
-use Rattle.at_scan.specs.Numbers.{IsFurther, AreFurther, EndsPosition}
-use Rattle.at_scan.proofs.Taken.{IsTaken, word_taken}
 use Rattle.at_geojson.proofs.Firsts.{firsts-cons}
 use Rattle.at_geojson.proofs.ScalarFolds.{number_found, number_folds, own_number, text_folds, null_folds, true_folds, false_folds, bad_number_at}
 use Rattle.at_geojson.proofs.OwnFolds.{pair_own}

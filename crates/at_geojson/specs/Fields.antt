@@ -9,14 +9,14 @@ use Rattle.at_query.specs.declared.features.TextPair.{TextPair}
 use Rattle.at_query.specs.declared.query.queries.Query.{Query}
 use Rattle.at_query.specs.declared.answer.parts.Part.{Part}
 use Rattle.at_scan.specs.declared.kinds.Kind.{Kind}
+use Rattle.at_scan.specs.declared.fields.Field.{Field}
 use Rattle.at_scan.specs.declared.kinds.Kind.TheVariants as kinds
+use Rattle.at_scan.specs.declared.fields.Field.TheVariants as names
 use Rattle.at_geojson.specs.declared.atoms.GeoAtom.{GeoAtom}
 use Rattle.at_geojson.specs.declared.atoms.GeoAtom.TheVariants as atoms
 use Rattle.at_geojson.specs.declared.atoms.ObjectAtom.{ObjectAtom}
 use Rattle.at_geojson.specs.declared.atoms.Role.{Role}
 use Rattle.at_geojson.specs.declared.atoms.Role.TheVariants as roles
-use Rattle.at_scan.specs.declared.fields.Field.{Field}
-use Rattle.at_scan.specs.declared.fields.Field.TheVariants as names
 use Rattle.at_geojson.specs.declared.fields.Fields.{Fields}
 use Rattle.at_geojson.specs.Keeping.{Asked, needs_shapes}
 use Rattle.at_geojson.specs.Atoms.{as_kind, IsOwn}

@@ -1,23 +1,22 @@
 -- The members of an object that is read at once. Only contracts of private functions cite this.
-use Rattle.std.specs.Prelude.{◌≡◌, ℕ, ◌<◌, ◌≤◌, true, false, List, []}
-use Rattle.std.specs.Prelude.{length, None}
+use Rattle.std.specs.Prelude.{◌≡◌, ℕ, ◌<◌, ◌≤◌, true, false, List, [], length, None}
 use Rattle.at_fixed.specs.NumberSoFar.{between}
 use Rattle.at_nest.specs.declared.algebra.Member.{Member}
+use Rattle.at_nest.specs.Folds.{IsScalarText}
 use Rattle.at_query.specs.declared.features.TextPair.{TextPair}
-use Rattle.at_geojson.specs.declared.atoms.GeoAtom.{GeoAtom}
 use Rattle.at_scan.specs.declared.fields.Field.{Field}
-use Rattle.at_geojson.specs.declared.fields.Fields.{Fields}
 use Rattle.at_scan.specs.declared.members.FieldName.{FieldName}
 use Rattle.at_scan.specs.declared.members.OtherNames.{OtherNames}
-use Rattle.at_nest.specs.Folds.{IsScalarText}
 use Rattle.at_scan.specs.Members.{name_in, is_among_others, ArePlainOthers, AddsName}
+use Rattle.at_scan.specs.Fields.{field_of, is_kind, is_coordinates, is_geometry, is_properties, is_features}
+use Rattle.at_scan.specs.Fields.{is_geometries, is_no_field}
+use Rattle.at_geojson.specs.declared.atoms.GeoAtom.{GeoAtom}
+use Rattle.at_geojson.specs.declared.fields.Fields.{Fields}
 use Rattle.at_geojson.specs.declared.pairs.Whole.{Whole}
 use Rattle.at_geojson.specs.Keeping.{Asked}
 use Rattle.at_geojson.specs.Atoms.{twin_of, IsOwn}
 use Rattle.at_geojson.specs.Gathering.{is_among, member_twins}
-use Rattle.at_scan.specs.Fields.{field_of, is_kind, is_coordinates, is_geometry, is_properties, is_features}
 use Rattle.at_geojson.specs.Fields.{put_if, value_in, AreFields, MakesFields}
-use Rattle.at_scan.specs.Fields.{is_geometries, is_no_field}
 use Rattle.at_geojson.specs.Values.{IsItem, AreMembersRead}
 
 -- no member before has the name, which is put to the others where no kind asks for the member

@@ -2,9 +2,9 @@
 //! parts before it.
 
 ghost use Rattle.std.specs.Prelude.{◌≡◌, ◌+◌, ◌<◌, length, slice_index, IfOk, IfSome};
+ghost use Rattle.at_scan.specs.Members.{ArePlainOthers};
 ghost use Rattle.at_geojson.specs.Atoms.{both_forms};
 ghost use Rattle.at_geojson.specs.FeatureRuns.{IsNextObject, AreFeaturesRead};
-ghost use Rattle.at_scan.specs.Members.{ArePlainOthers};
 
 use crate::atoms::Items;
 use crate::features::{FeatureRead, read_feature};

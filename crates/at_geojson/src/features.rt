@@ -3,9 +3,9 @@
 ghost use Rattle.std.specs.Prelude.{◌≡◌, ◌+◌, ◌<◌, ◌≤◌, true, false, [], None, Some, length, slice_index, Ok};
 ghost use Rattle.std.specs.Prelude.{◌∷◌, IfOk, IfSome};
 ghost use Rattle.std.specs.List.{list_any};
+ghost use Rattle.at_scan.specs.Members.{IsPlainName, ArePlainOthers};
 ghost use Rattle.at_geojson.specs.Keeping.{looks_at_texts};
 ghost use Rattle.at_geom.specs.Shapes.{IsShapeInRange};
-ghost use Rattle.at_scan.specs.Members.{IsPlainName, ArePlainOthers};
 ghost use Rattle.at_geojson.specs.Objects.{texts_in};
 ghost use Rattle.at_geojson.specs.Tallies.{selects};
 ghost use Rattle.at_geojson.specs.TextTests.{texts_hold};

@@ -1,14 +1,13 @@
 //! The members of an object for which some kind of object asks, by their names (RFC 7946 section 3).
 
 ghost use Rattle.std.specs.Prelude.{◌≡◌, ◌≤◌, ◌^◌, [], is_some, length, IfOk};
-ghost use Rattle.at_geojson.specs.Atoms.{as_kind};
-ghost use Rattle.at_scan.specs.Fields.{field_of, is_kind as names_kind};
-ghost use Rattle.at_geojson.specs.Fields.{put_if, put_first as first_put, value_in, AreFields, kind_in_fields};
-ghost use Rattle.at_scan.specs.Fields.{is_coordinates as names_coordinates, is_geometry, is_geometries};
-ghost use Rattle.at_scan.specs.Fields.{is_properties, is_features, field_of};
-ghost use Rattle.at_geojson.specs.Members.{IsNewName};
+ghost use Rattle.at_scan.specs.Fields.{field_of, is_kind as names_kind, is_coordinates as names_coordinates};
+ghost use Rattle.at_scan.specs.Fields.{is_geometry, is_geometries, is_properties, is_features};
 ghost use Rattle.at_scan.specs.Places.{IsNameAt};
 ghost use Rattle.at_scan.specs.Members.{name_in, IsPlainName, ArePlainOthers};
+ghost use Rattle.at_geojson.specs.Atoms.{as_kind};
+ghost use Rattle.at_geojson.specs.Fields.{put_if, put_first as first_put, value_in, AreFields, kind_in_fields};
+ghost use Rattle.at_geojson.specs.Members.{IsNewName};
 
 use crate::atoms::GeoAtom;
 use at_nest::Member;

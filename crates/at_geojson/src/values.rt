@@ -2,11 +2,11 @@
 
 ghost use Rattle.std.specs.Prelude.{◌≡◌, ◌+◌, ◌<◌, ◌≤◌, length, slice_index, All, [], false, None, IfOk, IfSome};
 ghost use Rattle.std.specs.List.{list_any};
+ghost use Rattle.at_scan.specs.Places.{IsSimpleTextAt};
 ghost use Rattle.at_geojson.specs.Keeping.{looks_at_texts};
 ghost use Rattle.at_geojson.specs.Atoms.{twin_of, IsOwn};
 ghost use Rattle.at_geojson.specs.Fields.{AreOwnFields};
 ghost use Rattle.at_geojson.specs.Members.{EndsFields, IsFieldRead};
-ghost use Rattle.at_scan.specs.Places.{IsSimpleTextAt};
 ghost use Rattle.at_geojson.specs.Values.{IsWhole, IsItem, EndsArray, EndsObject};
 
 use crate::asked::{GeoAlgebra, needs_texts};
