@@ -1,14 +1,16 @@
 -- One more name behind those of members for which no kind asks.
-use Rattle.std.proofs.Common.{◌≡◌, ℕ, zero, suc, ◌+◌, ◌-◌, ◌<◌, ◌≤◌, false, ◌||◌, bytes_eq, List, [], ◌∷◌, ◌++◌, All, length, take, get_or, sym, ◌∙◌, ap, subst, arith}
+use Rattle.std.proofs.Common.{◌≡◌, ℕ, zero, suc, ◌+◌, ◌-◌, ◌<◌, ◌≤◌, Bool, true, false, ◌||◌, bytes_eq, List, [], ◌∷◌, ◌++◌, All, length, take, get_or, sym, ◌∙◌, ap, subst, arith}
 use Rattle.std.proofs.Math.Bool.{or-false}
 use Rattle.std.proofs.Math.Seq.{take-length, take-append-add, take-append_seam, drop-append_seam, take-nil}
 use Rattle.std.proofs.lemmas.List.{append_assoc, append-nil, length-append, length-take-le, take_more}
 use Rattle.std.proofs.lemmas.List.Elements.{All-nil, All-cons, All-append, All-take, All-drop}
 use Rattle.std.proofs.lemmas.List.Folds.{list_any-append}
 use Rattle.at_scan.specs.declared.places.NamePlace.{NamePlace}
+use Rattle.at_scan.specs.declared.members.FieldName.{FieldName}
 use Rattle.at_scan.specs.declared.members.OtherName.{OtherName}
 use Rattle.at_scan.specs.declared.members.OtherNames.{OtherNames}
-use Rattle.at_scan.specs.Members.{name_in, IsOtherName, is_named_among, known_in, is_among_others, AreUnlike, ArePlaced, ArePlainOthers, IsNextName, AreCut, AddsOther, AddsName}
+use Rattle.at_scan.specs.Fields.{is_no_field}
+use Rattle.at_scan.specs.Members.{name_in, IsOtherName, is_named_among, known_in, is_among_others, AreUnlike, ArePlaced, ArePlainOthers, IsNextName, AreCut, AddsOther, AddsName, IsNextField}
 
 -- ---- the known names
 
@@ -115,3 +117,10 @@ module _ (w : List ℕ) where
           unlike = subst (AreUnlike w []) (sym known) (unlike_more [] front n (unlike_front [] (known_in old) old.count h.unlike) gone);
         };
       }
+
+-- the names behind one more of them
+pub next_plain : (w : List ℕ) (old new : OtherNames) (n : FieldName) → ArePlainOthers w old → IsPlainName w n.place → IsNextField w old new n → ArePlainOthers w new
+next_plain w old new n h plain next = go (is_no_field n.field) refl where
+  go : (b : Bool) → is_no_field n.field ≡ b → ArePlainOthers w new
+  go true e = (next.other e).1.plain h plain
+  go false e = subst (ArePlainOthers w) (sym (next.field e)) h

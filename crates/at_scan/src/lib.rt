@@ -5,9 +5,15 @@
 //! ([`name_place`], [`field_name`]), a number that has a value ([`valued_number`]). Names are compared where they stand:
 //! [`next_name`] says that a member's name is none of those before it in its object. Nothing is kept of a text but places.
 //!
-//! The members of this object are `type` and one for which GeoJSON has no name:
+//! The members of this object are one for which GeoJSON has no name, and its kind:
 //! ```
-//! let text: &[u8] = b"{\"type\":\"Point\",\"id\":7}";
+//! let text: &[u8] = b"{\"id\":7,\"type\":\"Point\"}";
+//! let mut others = OtherNames::none(alloc);
+//! let first = next_name(text, &mut others, 1)?;
+//! assert!(rt; first.field == Field::Other && name_bytes(text, first.place).is_word(b"id"));
+//! let second = field_name(text, 8)?;
+//! assert!(rt; second.field == Field::Kind && stands(text, 15, b'"'));
+//! assert!(rt; text_end(text, 15) == Ok(22));
 //! ```
 #![tactic(auto)]
 
