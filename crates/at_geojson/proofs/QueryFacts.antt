@@ -10,7 +10,7 @@ use Rattle.at_query.specs.declared.query.queries.Query.{Query}
 use Rattle.at_query.specs.declared.query.queries.Test.{Test}
 use Rattle.at_query.specs.declared.query.queries.Test.TheVariants.{InBox, MeetsShape, Has}
 use Rattle.at_query.specs.declared.features.TextPair.{TextPair}
-use Rattle.at_geojson.specs.Keeping.{looks_at_shapes, needs_shapes, tells_shapes, wants_value, wants_pair, asks_value, asks_pair, asked_texts, kept_shape}
+use Rattle.at_geojson.specs.Keeping.{looks_at_shapes, looks_at_texts, needs_shapes, tells_shapes, wants_value, wants_pair, asks_value, asks_pair, asked_texts, kept_shape}
 use Rattle.at_query.specs.Holding.{has_text, TestHolds, Holds}
 use Rattle.std.specs.Prelude.{IsTrue}
 use Rattle.at_geom.specs.Shapes.{positions, are_all_within, Meet, extent_of}

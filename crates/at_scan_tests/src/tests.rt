@@ -176,8 +176,14 @@ fn has_twin(alloc: Global, text: &[u8], places: [usize; 3]) -> Result<bool, Halt
 {
     let mut names = TableNames::none(alloc);
     let [first, second, third] = places;
-    if first > text.len() || second > text.len() || third > text.len() {
-        return Err(Halt::At(text.len()));
+    if first > text.len() {
+        return Err(Halt::At(first));
+    }
+    if second > text.len() {
+        return Err(Halt::At(second));
+    }
+    if third > text.len() {
+        return Err(Halt::At(third));
     }
     let _ = next_name(text, &mut names.own, first)?;
     let name = field_name(text, second)?;
