@@ -1,5 +1,5 @@
 -- One more name behind those of members for which no kind asks.
-use Rattle.std.proofs.Common.{◌≡◌, ℕ, zero, suc, ◌+◌, ◌-◌, ◌<◌, ◌≤◌, Bool, true, false, ◌||◌, bytes_eq, List, [], ◌∷◌, ◌++◌, All, length, take, get_or, sym, ◌∙◌, ap, subst, arith}
+use Rattle.std.proofs.Common.{◌≡◌, ℕ, zero, suc, ◌+◌, ◌-◌, ◌<◌, ◌≤◌, Bool, true, false, ◌||◌, bytes_eq, List, [], ◌∷◌, ◌++◌, All, length, take, get_or, refl, sym, ◌∙◌, ap, subst, arith}
 use Rattle.std.proofs.Math.Bool.{or-false}
 use Rattle.std.proofs.Math.Seq.{take-length, take-append-add, take-append_seam, drop-append_seam, take-nil}
 use Rattle.std.proofs.lemmas.List.{append_assoc, append-nil, length-append, length-take-le, take_more}
@@ -10,7 +10,7 @@ use Rattle.at_scan.specs.declared.members.FieldName.{FieldName}
 use Rattle.at_scan.specs.declared.members.OtherName.{OtherName}
 use Rattle.at_scan.specs.declared.members.OtherNames.{OtherNames}
 use Rattle.at_scan.specs.Fields.{is_no_field}
-use Rattle.at_scan.specs.Members.{name_in, IsOtherName, is_named_among, known_in, is_among_others, AreUnlike, ArePlaced, ArePlainOthers, IsNextName, AreCut, AddsOther, AddsName, IsNextField}
+use Rattle.at_scan.specs.Members.{name_in, IsPlainName, IsOtherName, is_named_among, known_in, is_among_others, AreUnlike, ArePlaced, ArePlainOthers, IsNextName, AreCut, AddsOther, AddsName, IsNextField}
 
 -- ---- the known names
 

@@ -70,7 +70,7 @@ fn is_place(name: NamePlace, first: usize, end: usize, colon: usize) -> bool {
 fn names(rt: HostRuntime) -> Result<(), Fail> {
     let escaped = name_place(b" \"\\u0061\" :", 0)?;
     assert!(rt; is_place(escaped, 1, 9, 10));
-    assert!(rt; field_name(b" \"\\u0061\" :", 0) == Err(Halt::At(9)));
+    assert!(rt; field_name(b" \"\\u0061\" :", 0).is_err());
     let read = field_name(b"\"coordinates\":[1,2,3]", 0)?;
     assert!(rt; is_place(read.place, 0, 13, 13) && is_coordinates(read.field));
     let other = field_name(b"\"coordinate\" :[1,2,3]", 0)?;
