@@ -8,15 +8,18 @@ use Rattle.at_fixed.specs.NumberSoFar.{between}
 use Rattle.at_lex.specs.Spans.{AreSpaces}
 use Rattle.at_nest.specs.declared.algebra.Member.{Member}
 use Rattle.at_query.specs.declared.features.TextPair.{TextPair}
-use Rattle.at_geojson.specs.declared.kinds.Kind.TheVariants as kinds
+use Rattle.at_scan.specs.declared.members.FieldName.{FieldName}
+use Rattle.at_scan.specs.declared.members.OtherNames.{OtherNames}
+use Rattle.at_scan.specs.declared.known_names.KindRead.{KindRead}
+use Rattle.at_scan.specs.declared.kinds.Kind.TheVariants as kinds
+use Rattle.at_scan.specs.declared.fields.Field.TheVariants as names
+use Rattle.at_scan.specs.Places.{IsNameAt}
+use Rattle.at_scan.specs.Fields.{field_of, is_kind, is_coordinates, is_geometry, is_properties, is_features, is_geometries, is_no_field}
+use Rattle.at_scan.specs.Members.{name_in, IsPlainName, is_among_others, ArePlainOthers, AddsName, IsNextField}
 use Rattle.at_geojson.specs.declared.atoms.GeoAtom.{GeoAtom}
 use Rattle.at_geojson.specs.declared.atoms.GeoAtom.TheVariants as atoms
 use Rattle.at_geojson.specs.declared.atoms.Role.TheVariants as roles
-use Rattle.at_geojson.specs.declared.fields.Field.TheVariants as names
 use Rattle.at_geojson.specs.declared.fields.Fields.{Fields}
-use Rattle.at_geojson.specs.declared.members.FieldName.{FieldName}
-use Rattle.at_geojson.specs.declared.members.OtherNames.{OtherNames}
-use Rattle.at_geojson.specs.declared.plain_geometries.KindRead.{KindRead}
 use Rattle.at_geojson.specs.declared.plain_geometries.SeenRead.{SeenRead}
 use Rattle.at_geojson.specs.declared.plain_objects.VoidMembers.{VoidMembers}
 use Rattle.at_geojson.specs.declared.features.FeatureRead.{FeatureRead}
@@ -26,10 +29,9 @@ use Rattle.at_geojson.specs.declared.pairs.Whole.{Whole}
 use Rattle.at_geojson.specs.Keeping.{Asked, looks_at_texts}
 use Rattle.at_geojson.specs.Atoms.{twin_of, as_text, IfOwnShape, IfOwnPart, IsOwnRole}
 use Rattle.at_geojson.specs.Objects.{feature_shape, texts_in, texts_named, kept_texts, JoinsFeature}
-use Rattle.at_geojson.specs.Places.{IsNameAt}
-use Rattle.at_geojson.specs.Fields.{field_of, put_if, is_kind, is_coordinates, is_geometry, is_properties, is_features, is_geometries, is_no_field, value_in, kind_in_fields, IsRoleIn}
+use Rattle.at_geojson.specs.Fields.{put_if, value_in, kind_in_fields, IsRoleIn}
 use Rattle.at_geojson.specs.Values.{IsWhole}
-use Rattle.at_geojson.specs.Members.{name_in, IsPlainName, is_among_others, ArePlainOthers, AddsName, IsNextField, EndsFields}
+use Rattle.at_geojson.specs.Members.{EndsFields}
 use Rattle.at_geojson.specs.TextTests.{met_of, met_by, texts_hold}
 use Rattle.at_geojson.specs.PlainGeometries.{IsKindRead, IsSeen, Sees}
 use Rattle.at_geojson.specs.Features.{IsShapeRead, IsTested, ReadsProperties, IsGeometryOf, AreMembersOf, IsValueRead, IsMemberRead, ReadsOne, AreRead, NameNoKind, MeetsTexts, NamesNoKind, PassesMember, ReadsVoid, IsTexted, EndsFeature, IsFeatureRead}

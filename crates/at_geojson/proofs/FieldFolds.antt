@@ -11,20 +11,22 @@ use Rattle.at_nest.specs.declared.algebra.Member.{Member}
 use Rattle.at_query.specs.declared.features.TextPair.{TextPair}
 use Rattle.at_query.specs.declared.query.queries.Query.{Query}
 use Rattle.at_query.specs.declared.answer.parts.Part.{Part}
-use Rattle.at_geojson.specs.declared.kinds.Kind.{Kind}
-use Rattle.at_geojson.specs.declared.kinds.Kind.TheVariants as kinds
+use Rattle.at_scan.specs.declared.kinds.Kind.{Kind}
+use Rattle.at_scan.specs.declared.fields.Field.{Field}
+use Rattle.at_scan.specs.declared.kinds.Kind.TheVariants as kinds
+use Rattle.at_scan.specs.declared.fields.Field.TheVariants as names
+use Rattle.at_scan.specs.Fields.{field_of, is_no_field, is_kind, is_coordinates, is_geometry, is_properties, is_features, is_geometries}
+use Rattle.at_scan.proofs.FieldNames.{kind_field, coordinates_field, geometry_field, properties_field, features_field, geometries_field}
 use Rattle.at_geojson.specs.declared.atoms.GeoAtom.{GeoAtom}
 use Rattle.at_geojson.specs.declared.atoms.Role.{Role}
 use Rattle.at_geojson.specs.declared.atoms.Role.TheVariants as roles
-use Rattle.at_geojson.specs.declared.fields.Field.{Field}
 use Rattle.at_geojson.specs.declared.fields.Fields.{Fields}
 use Rattle.at_geom.specs.declared.shapes.Shape.{Shape}
 use Rattle.at_geojson.specs.Keeping.{Asked, needs_shapes}
 use Rattle.at_geojson.specs.Atoms.{as_kind, IsOwn, IsOwnRole, IfOwnPart}
-use Rattle.at_geojson.specs.declared.fields.Field.TheVariants as names
 use Rattle.at_geojson.specs.Gathering.{seen, is_among}
 use Rattle.at_geojson.specs.Objects.{value_named, kind_in, coordinates_shape, geometries_shape, feature_shape, texts_named, kept_texts, FeaturesSeen, JoinsFeature, IsRoleOf, MakesObject}
-use Rattle.at_geojson.specs.Fields.{first_field, field_of, is_no_field, value_in, is_kind, is_coordinates, is_geometry, is_properties, is_features, is_geometries, put_if, AreFields, AreOwnFields, kind_in_fields, IfOwnValue, IsRoleIn, MakesFields}
+use Rattle.at_geojson.specs.Fields.{value_in, put_if, AreFields, AreOwnFields, kind_in_fields, IfOwnValue, IsRoleIn, MakesFields}
 use Rattle.at_geojson.proofs.ObjectOwns.{own_named, own_coordinates, own_geometries, own_features}
 
 -- ---- one member more
@@ -43,84 +45,6 @@ value_more wanted (x ∷ ms) m = go (bytes_eq x.name wanted) (value_more wanted 
       → (if b then Some x.value else value_named wanted (ms ++ m ∷ [])) ≡ put_if (bytes_eq m.name wanted) (if b then Some x.value else value_named wanted ms) m.value
   go true e = kept_value (bytes_eq m.name wanted) x.value m.value
   go false e = e
-
--- ---- the member of a name
-
--- a name that is one text is no other
-no_other_name : (name a b : List ℕ) → bytes_eq a b ≡ false → bytes_eq name a ≡ true → bytes_eq name b ≡ false
-no_other_name name a b e h = ap (λ z. bytes_eq z b) ((bytes_eq-Decides name a).0 h) ∙ e
-
-kind_first : (a b c d e f : Bool) → is_kind (first_field a b c d e f) ≡ a
-kind_first true b c d e f = refl
-kind_first false true c d e f = refl
-kind_first false false true d e f = refl
-kind_first false false false true e f = refl
-kind_first false false false false true f = refl
-kind_first false false false false false true = refl
-kind_first false false false false false false = refl
-
-coordinates_first : (a b c d e f : Bool) → (a ≡ true → b ≡ false) → is_coordinates (first_field a b c d e f) ≡ b
-coordinates_first true b c d e f h0 = sym (h0 refl)
-coordinates_first false true c d e f h0 = refl
-coordinates_first false false true d e f h0 = refl
-coordinates_first false false false true e f h0 = refl
-coordinates_first false false false false true f h0 = refl
-coordinates_first false false false false false true h0 = refl
-coordinates_first false false false false false false h0 = refl
-
-geometry_first : (a b c d e f : Bool) → (a ≡ true → c ≡ false) → (b ≡ true → c ≡ false) → is_geometry (first_field a b c d e f) ≡ c
-geometry_first true b c d e f h0 h1 = sym (h0 refl)
-geometry_first false true c d e f h0 h1 = sym (h1 refl)
-geometry_first false false true d e f h0 h1 = refl
-geometry_first false false false true e f h0 h1 = refl
-geometry_first false false false false true f h0 h1 = refl
-geometry_first false false false false false true h0 h1 = refl
-geometry_first false false false false false false h0 h1 = refl
-
-properties_first : (a b c d e f : Bool) → (a ≡ true → d ≡ false) → (b ≡ true → d ≡ false) → (c ≡ true → d ≡ false) → is_properties (first_field a b c d e f) ≡ d
-properties_first true b c d e f h0 h1 h2 = sym (h0 refl)
-properties_first false true c d e f h0 h1 h2 = sym (h1 refl)
-properties_first false false true d e f h0 h1 h2 = sym (h2 refl)
-properties_first false false false true e f h0 h1 h2 = refl
-properties_first false false false false true f h0 h1 h2 = refl
-properties_first false false false false false true h0 h1 h2 = refl
-properties_first false false false false false false h0 h1 h2 = refl
-
-features_first : (a b c d e f : Bool) → (a ≡ true → e ≡ false) → (b ≡ true → e ≡ false) → (c ≡ true → e ≡ false) → (d ≡ true → e ≡ false) → is_features (first_field a b c d e f) ≡ e
-features_first true b c d e f h0 h1 h2 h3 = sym (h0 refl)
-features_first false true c d e f h0 h1 h2 h3 = sym (h1 refl)
-features_first false false true d e f h0 h1 h2 h3 = sym (h2 refl)
-features_first false false false true e f h0 h1 h2 h3 = sym (h3 refl)
-features_first false false false false true f h0 h1 h2 h3 = refl
-features_first false false false false false true h0 h1 h2 h3 = refl
-features_first false false false false false false h0 h1 h2 h3 = refl
-
-geometries_first : (a b c d e f : Bool) → (a ≡ true → f ≡ false) → (b ≡ true → f ≡ false) → (c ≡ true → f ≡ false) → (d ≡ true → f ≡ false) → (e ≡ true → f ≡ false) → is_geometries (first_field a b c d e f) ≡ f
-geometries_first true b c d e f h0 h1 h2 h3 h4 = sym (h0 refl)
-geometries_first false true c d e f h0 h1 h2 h3 h4 = sym (h1 refl)
-geometries_first false false true d e f h0 h1 h2 h3 h4 = sym (h2 refl)
-geometries_first false false false true e f h0 h1 h2 h3 h4 = sym (h3 refl)
-geometries_first false false false false true f h0 h1 h2 h3 h4 = sym (h4 refl)
-geometries_first false false false false false true h0 h1 h2 h3 h4 = refl
-geometries_first false false false false false false h0 h1 h2 h3 h4 = refl
-
-kind_field : (name : List ℕ) → is_kind (field_of name) ≡ bytes_eq name (codes "type")
-kind_field name = kind_first (bytes_eq name (codes "type")) (bytes_eq name (codes "coordinates")) (bytes_eq name (codes "geometry")) (bytes_eq name (codes "properties")) (bytes_eq name (codes "features")) (bytes_eq name (codes "geometries"))
-
-coordinates_field : (name : List ℕ) → is_coordinates (field_of name) ≡ bytes_eq name (codes "coordinates")
-coordinates_field name = coordinates_first (bytes_eq name (codes "type")) (bytes_eq name (codes "coordinates")) (bytes_eq name (codes "geometry")) (bytes_eq name (codes "properties")) (bytes_eq name (codes "features")) (bytes_eq name (codes "geometries")) (no_other_name name (codes "type") (codes "coordinates") refl)
-
-geometry_field : (name : List ℕ) → is_geometry (field_of name) ≡ bytes_eq name (codes "geometry")
-geometry_field name = geometry_first (bytes_eq name (codes "type")) (bytes_eq name (codes "coordinates")) (bytes_eq name (codes "geometry")) (bytes_eq name (codes "properties")) (bytes_eq name (codes "features")) (bytes_eq name (codes "geometries")) (no_other_name name (codes "type") (codes "geometry") refl) (no_other_name name (codes "coordinates") (codes "geometry") refl)
-
-properties_field : (name : List ℕ) → is_properties (field_of name) ≡ bytes_eq name (codes "properties")
-properties_field name = properties_first (bytes_eq name (codes "type")) (bytes_eq name (codes "coordinates")) (bytes_eq name (codes "geometry")) (bytes_eq name (codes "properties")) (bytes_eq name (codes "features")) (bytes_eq name (codes "geometries")) (no_other_name name (codes "type") (codes "properties") refl) (no_other_name name (codes "coordinates") (codes "properties") refl) (no_other_name name (codes "geometry") (codes "properties") refl)
-
-features_field : (name : List ℕ) → is_features (field_of name) ≡ bytes_eq name (codes "features")
-features_field name = features_first (bytes_eq name (codes "type")) (bytes_eq name (codes "coordinates")) (bytes_eq name (codes "geometry")) (bytes_eq name (codes "properties")) (bytes_eq name (codes "features")) (bytes_eq name (codes "geometries")) (no_other_name name (codes "type") (codes "features") refl) (no_other_name name (codes "coordinates") (codes "features") refl) (no_other_name name (codes "geometry") (codes "features") refl) (no_other_name name (codes "properties") (codes "features") refl)
-
-geometries_field : (name : List ℕ) → is_geometries (field_of name) ≡ bytes_eq name (codes "geometries")
-geometries_field name = geometries_first (bytes_eq name (codes "type")) (bytes_eq name (codes "coordinates")) (bytes_eq name (codes "geometry")) (bytes_eq name (codes "properties")) (bytes_eq name (codes "features")) (bytes_eq name (codes "geometries")) (no_other_name name (codes "type") (codes "geometries") refl) (no_other_name name (codes "coordinates") (codes "geometries") refl) (no_other_name name (codes "geometry") (codes "geometries") refl) (no_other_name name (codes "properties") (codes "geometries") refl) (no_other_name name (codes "features") (codes "geometries") refl)
 
 -- ---- a name that no member before has
 

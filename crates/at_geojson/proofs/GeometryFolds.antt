@@ -14,10 +14,10 @@ use Rattle.at_wkt.specs.Positions.{Positions, items_faults, position_faults, fau
 use Rattle.at_wkt.specs.Geometry as wkt
 use Rattle.at_wkt.specs.Meaning.{empty_shape, of_points, of_lines, of_polygons, present, polygons_of, faults_of_area, shape_of, faults_of}
 use Rattle.at_nest.specs.Tree.{Tree, literal, number, text, array, object, Trees, no_trees, tree_and, offset_of}
+use Rattle.at_scan.specs.declared.kinds.Kind.{Kind}
+use Rattle.at_scan.specs.declared.kinds.Kind.TheVariants as kinds
 use Rattle.at_geojson.specs.declared.atoms.GeoAtom.{GeoAtom}
 use Rattle.at_geojson.specs.declared.atoms.GeoAtom.TheVariants as atoms
-use Rattle.at_geojson.specs.declared.kinds.Kind.{Kind}
-use Rattle.at_geojson.specs.declared.kinds.Kind.TheVariants as kinds
 use Rattle.at_geojson.specs.Names.{items_of}
 use Rattle.at_geojson.specs.Coordinates.{each, position_of, positions_of, lists_of, area_of, areas_of, if_some_items, geometry_of, geometry_of_form}
 use Rattle.at_geojson.specs.Roles.{GeometryRead, not_geometry, coordinates_reading}

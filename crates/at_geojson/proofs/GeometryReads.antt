@@ -5,26 +5,28 @@ use Rattle.std.specs.declared.alloc.Global.{Global}
 use Rattle.at_text.specs.declared.faults.Fault.{Fault}
 use Rattle.at_geom.specs.declared.shapes.Shape.{Shape}
 use Rattle.at_nest.specs.declared.algebra.Member.{Member}
-use Rattle.at_geojson.specs.declared.kinds.Kind.{Kind}
-use Rattle.at_geojson.specs.declared.kinds.Kind.TheVariants as kinds
+use Rattle.at_scan.specs.declared.kinds.Kind.{Kind}
+use Rattle.at_scan.specs.declared.fields.Field.{Field}
+use Rattle.at_scan.specs.declared.members.FieldName.{FieldName}
+use Rattle.at_scan.specs.declared.known_names.KindRead.{KindRead}
+use Rattle.at_scan.specs.declared.kinds.Kind.TheVariants as kinds
+use Rattle.at_scan.specs.declared.fields.Field.TheVariants as names
+use Rattle.at_scan.specs.Places.{IsNameAt}
+use Rattle.at_scan.specs.Fields.{field_of, is_kind, is_coordinates}
+use Rattle.at_scan.specs.Members.{name_in, IsPlainName}
 use Rattle.at_geojson.specs.declared.atoms.GeoAtom.{GeoAtom}
 use Rattle.at_geojson.specs.declared.atoms.GeoAtom.TheVariants as atoms
 use Rattle.at_geojson.specs.declared.atoms.ObjectAtom.{ObjectAtom}
 use Rattle.at_geojson.specs.declared.atoms.Role.TheVariants as roles
-use Rattle.at_geojson.specs.declared.fields.Field.{Field}
-use Rattle.at_geojson.specs.declared.fields.Field.TheVariants as names
 use Rattle.at_geojson.specs.declared.fields.Fields.{Fields}
-use Rattle.at_geojson.specs.declared.members.FieldName.{FieldName}
 use Rattle.at_geojson.specs.declared.pairs.Whole.{Whole}
-use Rattle.at_geojson.specs.declared.plain_geometries.KindRead.{KindRead}
 use Rattle.at_geojson.specs.declared.plain_geometries.ShapeRead.{ShapeRead}
 use Rattle.at_geojson.specs.Keeping.{Asked, needs_shapes}
 use Rattle.at_geojson.specs.Atoms.{IfOwnShape}
 use Rattle.at_geojson.specs.Gathering.{is_among, member_twins}
 use Rattle.at_geojson.specs.Objects.{coordinates_shape, kept_texts}
-use Rattle.at_geojson.specs.Places.{IsNameAt}
-use Rattle.at_geojson.specs.Fields.{field_of, is_kind, is_coordinates, AreFields, IsRoleIn}
-use Rattle.at_geojson.specs.Members.{name_in, IsPlainName, EndsFields}
+use Rattle.at_geojson.specs.Fields.{AreFields, IsRoleIn}
+use Rattle.at_geojson.specs.Members.{EndsFields}
 use Rattle.at_geojson.specs.PlainGeometries.{IsKindRead, has_coordinates, IsCoordinatesItem, IsGeometryRead}
 use Rattle.at_geojson.proofs.FieldFolds.{field_absent, fields_more}
 use Rattle.at_geojson.proofs.ObjectOwns.{own_coordinates}

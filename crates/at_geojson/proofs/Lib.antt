@@ -2,7 +2,6 @@ pub mod Firsts
 pub mod ProofOnly
 pub mod MadeFolds
 pub mod SeenCoordinates
-pub mod Repeats
 pub mod TallyFolds
 pub mod TwinSteps
 pub mod Ranges
@@ -31,12 +30,9 @@ pub mod ObjectReads
 pub mod CopyFolds
 pub mod Tiers
 pub mod Roots
-pub mod SimpleTexts
 pub mod ValueParts
 pub mod PassedPairs
 pub mod PositionReads
-pub mod OtherNamesMore
-pub mod ShortStrings
 pub mod RowFolds
 pub mod RingFolds
 pub mod MemberReads
@@ -46,5 +42,4 @@ pub mod SeenParts
 pub mod FeatureReads
 pub mod FeatureJoins
 mod FeatureFronts
-pub mod KnownNames
-pub mod Spaces
+pub mod KindReads

@@ -18,6 +18,7 @@ use Rattle.at_text.specs.Parts.{Nothing, ◌▸◌}
 use Rattle.at_nest.specs.Passing.{IsPadded}
 use Rattle.at_nest.proofs.OneTree.{one_tree}
 use Rattle.at_nest.proofs.Passed.{padded_gives}
+use Rattle.at_scan.proofs.Moved.{bytes_moved}
 use Rattle.at_geojson.specs.declared.atoms.GeoAtom.TheVariants as atoms
 use Rattle.at_geojson.specs.declared.atoms.PositionAtom.{PositionAtom}
 use Rattle.at_geojson.specs.declared.spots.Spot.{Spot}
@@ -42,7 +43,7 @@ use Rattle.at_geojson.specs.Rings.{ListsRead, AreLists, AreListsRead, AreListsWh
 use Rattle.at_geojson.proofs.RingFolds.{points_padded, lists_begin, lists_go_on, lists_end, lists_padded, areas_begin, areas_go_on, areas_end}
 use Rattle.at_geojson.proofs.RowFolds.{lengthened, row_made, kept_append, points_begin, points_go_on, points_end}
 use Rattle.at_geojson.proofs.ProofOnly.{vec_of, kept_length}
-use Rattle.at_geojson.proofs.PassedPairs.{placed_pair, bytes_moved, pair_moved, moved_pair, same_as_itself}
+use Rattle.at_geojson.proofs.PassedPairs.{placed_pair, pair_moved, moved_pair, same_as_itself}
 
 one_longer : {X : Type 0} (xs : List X) (x : X) → length (xs ++ x ∷ []) ≡ length xs + 1
 one_longer xs x = length-append xs (x ∷ [])

@@ -1,79 +1,44 @@
 -- Members that are read at once: their names are plain and differ, and what is made of their fields is what is made of them.
 -- For `value`.
-use Rattle.std.proofs.Common.{◌≡◌, ℕ, ◌+◌, ◌-◌, ◌<◌, ◌≤◌, Bool, true, false, ◌||◌, if◌then◌else◌, bytes_eq, List, [], ◌∷◌, ◌++◌, length, take, drop, slice_index, Option, Some, None, is_some, refl, sym, ◌∙◌, ap, subst, arith, append-nil, append_assoc}
-use Rattle.std.specs.List.{list_all, list_any}
+use Rattle.std.proofs.Common.{◌≡◌, ℕ, ◌+◌, ◌-◌, ◌<◌, Bool, true, false, ◌||◌, if◌then◌else◌, bytes_eq, List, [], ◌∷◌, ◌++◌, length, slice_index, Option, Some, None, is_some, refl, sym, ◌∙◌, ap, subst, append-nil, append_assoc}
+use Rattle.std.specs.List.{list_any}
 use Rattle.std.proofs.lemmas.Bool.{true≢false}
 use Rattle.std.proofs.Math.Bool.{or-false}
-use Rattle.std.proofs.Math.Seq.{take-append_seam}
 use Rattle.std.proofs.lemmas.List.Folds.{list_any-append}
-use Rattle.std.proofs.lemmas.Slice.Eq.{bytes_eq-Decides}
 use Rattle.at_text.specs.Faults.{first_fault}
-use Rattle.at_fixed.specs.NumberSoFar.{between}
-use Rattle.at_fixed.proofs.DigitParts.{part-length, part-more, part-cons}
 use Rattle.at_nest.specs.declared.algebra.Member.{Member}
 use Rattle.at_query.specs.declared.query.queries.Test.{Test}
 use Rattle.at_query.specs.declared.query.queries.Test.TheVariants.{InBox, MeetsShape, Has}
 use Rattle.at_query.specs.declared.features.TextPair.{TextPair}
 use Rattle.at_wkt.proofs.FaultOrder.{none_right}
-use Rattle.at_wkt.proofs.NumberSteps.{rest_to}
+use Rattle.at_scan.specs.declared.fields.Field.{Field}
+use Rattle.at_scan.specs.declared.places.NamePlace.{NamePlace}
+use Rattle.at_scan.specs.declared.members.FieldName.{FieldName}
+use Rattle.at_scan.specs.declared.members.OtherNames.{OtherNames}
+use Rattle.at_scan.specs.declared.fields.Field.TheVariants as variants
+use Rattle.at_scan.specs.Places.{IsNameAt}
+use Rattle.at_scan.specs.Fields.{field_of, is_kind, is_coordinates, is_geometry, is_properties, is_features, is_geometries, is_no_field}
+use Rattle.at_scan.specs.Members.{name_in, IsPlainName, is_among_others, ArePlainOthers}
+use Rattle.at_scan.proofs.FieldNames.{unlike_field}
 use Rattle.at_geojson.specs.declared.atoms.GeoAtom.{GeoAtom}
-use Rattle.at_geojson.specs.declared.fields.Field.{Field}
-use Rattle.at_geojson.specs.declared.fields.Field.TheVariants as variants
 use Rattle.at_geojson.specs.declared.fields.Fields.{Fields}
-use Rattle.at_geojson.specs.declared.places.NamePlace.{NamePlace}
-use Rattle.at_geojson.specs.declared.members.FieldName.{FieldName}
-use Rattle.at_geojson.specs.declared.members.OtherNames.{OtherNames}
 use Rattle.at_geojson.specs.declared.pairs.Whole.{Whole}
 use Rattle.at_geojson.specs.Keeping.{Asked, looks_at_texts, asks_pair}
 use Rattle.at_geojson.specs.Atoms.{twin_of, as_text}
-use Rattle.at_geojson.specs.Gathering.{is_simple, is_among, twin_at, member_twins}
+use Rattle.at_geojson.specs.Gathering.{is_among, twin_at, member_twins}
 use Rattle.at_geojson.specs.Objects.{kept_texts, pair_kept}
-use Rattle.at_geojson.specs.Places.{IsTextAt, IsNameAt}
-use Rattle.at_geojson.specs.Fields.{field_of, put_if, is_kind, is_coordinates, is_geometry, is_properties, is_features, is_geometries, is_no_field, AreFields}
+use Rattle.at_geojson.specs.Fields.{put_if, AreFields}
 use Rattle.at_geojson.specs.Values.{IsItem, EndsObject}
-use Rattle.at_geojson.specs.Members.{name_in, IsPlainName, is_among_others, ArePlainOthers, IsNewName, PassesItem, IsFieldRead, EndsFields, AreFieldsRead}
+use Rattle.at_geojson.specs.Members.{IsNewName, PassesItem, IsFieldRead, EndsFields, AreFieldsRead}
 use Rattle.at_geojson.proofs.Each.{none_left, none_behind}
-use Rattle.at_geojson.proofs.SimpleTexts.{simple_units}
 use Rattle.at_geojson.proofs.FieldFolds.{field_absent, fields_more, object_of_fields}
 use Rattle.at_geojson.proofs.ObjectReads.{object_folds}
 use Rattle.at_geojson.proofs.ValueParts.{member_of, members_begin, members_go_on}
 
 -- ---- names
 
-pub plain_text_is : (w : List ℕ) (n : NamePlace) → IsTextAt w n.first n.end → list_all is_simple (take (n.end - n.first) (drop n.first w)) ≡ true → IsPlainName w n
-plain_text_is w n h simple =
-    let s : List ℕ = take (n.end - n.first) (drop n.first w) in
-    let same : s ≡ between w n.first n.end = rest_to w n.first n.end (omega (arith, h.0)) in
-    let long : n.first + length s ≡ n.end = (let k : n.first + length (between w n.first n.end) ≡ n.end = part-length w n.first n.end (omega (arith, h.0)) h.1 in omega (arith, k, ap length same)) in
-    let two = (simple_units s h.2.0 h.2.1 (same ∙ h.2.2) simple).0 in
-    let order : n.first + 1 ≤ n.end - 1 = omega (arith, two, long) in
-    let xs : List ℕ = between w (n.first + 1) (n.end - 1) in
-    let last : n.end ≡ n.end - 1 + 1 = omega (arith, order) in
-    let within : n.end - 1 < length w = omega (arith, order, h.1) in
-    let split : s ≡ slice_index w n.first ∷ (xs ++ slice_index w (n.end - 1) ∷ []) = same ∙ (part-cons w n.first n.end h.0 h.1
-    ∙ ap (λ z. slice_index w n.first ∷ z) (ap (between w (n.first + 1)) last ∙ part-more w (n.first + 1) (n.end - 1) order within)) in
-    let inside : n.first + 1 + length xs ≡ n.end - 1 = part-length w (n.first + 1) (n.end - 1) order (omega (arith, within)) in
-    let count : length xs ≡ length s - 1 - 1 = omega (arith, inside, long, order) in
-    let middle : xs ≡ take (length s - 1 - 1) (drop 1 s) = sym (take-append_seam xs (slice_index w (n.end - 1) ∷ [])) ∙ (ap (λ k. take k (xs ++ slice_index w (n.end - 1) ∷ [])) count ∙ ap (λ z. take (length s - 1 - 1) (drop 1 z)) (sym split)) in
-    record {
-      text = (h, simple);
-      order = order;
-      within = h.1;
-      units = λ cs ok q. rest_to w (n.first + 1) (n.end - 1) order ∙ (middle ∙ (simple_units s cs ok (same ∙ q) simple).1);
-    }
-
-pub plain_name_is : (w : List ℕ) (at : ℕ) (n : NamePlace) → IsNameAt w at n → list_all is_simple (take (n.end - n.first) (drop n.first w)) ≡ true → IsPlainName w n
-plain_name_is w at n h simple = plain_text_is w n h.text simple
-
 among_more : (ms : List (Member GeoAtom)) (m : Member GeoAtom) (name : List ℕ) → is_among (ms ++ m ∷ []) name ≡ (is_among ms name || bytes_eq name m.name)
 among_more ms m name = list_any-append (λ (x : Member GeoAtom). bytes_eq name x.name) ms (m ∷ []) ∙ ap (λ b. is_among ms name || b) (or-false (bytes_eq name m.name))
-
--- a name for which no kind asks is no name for which one does
-unlike_field : (name other : List ℕ) → is_no_field (field_of name) ≡ true → is_no_field (field_of other) ≡ false → bytes_eq name other ≡ false
-unlike_field name other e f = go (bytes_eq name other) refl where
-  go : (b : Bool) → bytes_eq name other ≡ b → b ≡ false
-  go false q = refl
-  go true q = absurd (true≢false (sym e ∙ (ap (λ z. is_no_field (field_of z)) ((bytes_eq-Decides name other).0 q) ∙ f)))
 
 -- the names before a place that are kept are those of its members for which no kind asks
 abbrev pub KeepsOthers : List ℕ → List (Member GeoAtom) → OtherNames → Type 0

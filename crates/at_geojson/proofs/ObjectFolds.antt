@@ -15,8 +15,8 @@ use Rattle.at_nest.specs.Folds.{AreMemberFolds}
 use Rattle.at_nest.specs.Tree.{Tree, literal, number, text, array, object, Members, no_members, member_and, offset_of}
 use Rattle.at_query.specs.declared.features.TextPair.{TextPair}
 use Rattle.at_query.specs.declared.answer.parts.Part.{Part}
+use Rattle.at_scan.specs.declared.kinds.Kind.{Kind}
 use Rattle.at_geojson.specs.declared.atoms.GeoAtom.{GeoAtom}
-use Rattle.at_geojson.specs.declared.kinds.Kind.{Kind}
 use Rattle.at_geojson.specs.Names.{is_named, member_named, units_of_text}
 use Rattle.at_geojson.specs.Roles.{GeometryRead, not_geometry, texts_of, properties_texts, properties_faults, feature_of, coordinates_reading, geometry_reading, items_reading, collection_reading, geometries_reading, geometry_member_reading, feature_reading}
 use Rattle.at_geojson.specs.Keeping.{Asked, needs_shapes, asks_value, asks_pair, asked_texts}

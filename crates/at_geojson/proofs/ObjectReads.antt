@@ -12,12 +12,12 @@ use Rattle.at_nest.specs.Folds.{AreMemberFolds}
 use Rattle.at_nest.specs.Tree.{Tree, literal, number, text, array, object, Trees, no_trees, tree_and, Members}
 use Rattle.at_query.specs.declared.answer.parts.Part.{Part}
 use Rattle.at_query.specs.declared.features.TextPair.{TextPair}
+use Rattle.at_scan.specs.declared.kinds.Kind.{Kind}
+use Rattle.at_scan.specs.declared.kinds.Kind.TheVariants as kinds
 use Rattle.at_geojson.specs.declared.atoms.GeoAtom.{GeoAtom}
 use Rattle.at_geojson.specs.declared.atoms.GeoAtom.TheVariants as atoms
 use Rattle.at_geojson.specs.declared.atoms.Role.{Role}
 use Rattle.at_geojson.specs.declared.atoms.Role.TheVariants as roles
-use Rattle.at_geojson.specs.declared.kinds.Kind.{Kind}
-use Rattle.at_geojson.specs.declared.kinds.Kind.TheVariants as kinds
 use Rattle.at_geojson.specs.Names.{member_named, kind_of}
 use Rattle.at_geojson.specs.Roles.{GeometryRead, Features, geometry_reading, item_reading, if_feature, root_reading, features_reading, root_of_kind, texts_of, lone_geometry, feature_of}
 use Rattle.at_geojson.specs.Keeping.{Asked, needs_shapes, asked_texts}

@@ -10,7 +10,7 @@ use Rattle.at_query.specs.declared.query.queries.Query.{Query}
 use Rattle.at_query.specs.declared.query.queries.Test.{Test}
 use Rattle.at_query.specs.declared.query.queries.Test.TheVariants.{InBox, MeetsShape, Has}
 use Rattle.at_query.specs.declared.features.TextPair.{TextPair}
-use Rattle.at_geojson.specs.Keeping.{looks_at_shapes, needs_shapes, tells_shapes, wants_value, wants_pair, asks_value, asks_pair, asked_texts, kept_shape}
+use Rattle.at_geojson.specs.Keeping.{looks_at_shapes, looks_at_texts, needs_shapes, tells_shapes, wants_value, wants_pair, asks_value, asks_pair, asked_texts, kept_shape}
 use Rattle.at_query.specs.Holding.{has_text, TestHolds, Holds}
 use Rattle.std.specs.Prelude.{IsTrue}
 use Rattle.at_geom.specs.Shapes.{positions, are_all_within, Meet, extent_of}
@@ -30,6 +30,13 @@ entry_at at shape = record { at = at; shape = shape; extent = extent_of (positio
 -- where nothing of shapes is left out
 pub kept_whole : (b : Bool) (s : Shape) → b ≡ true → kept_shape b s ≡ s
 kept_whole b s e = subst (λ c. kept_shape c s ≡ s) (sym e) refl
+
+-- without a test of texts no value is asked for
+pub none_asked : (tests : List Test) (value : List ℕ) → list_any looks_at_texts tests ≡ false → asks_value tests value ≡ false
+none_asked [] value e = refl
+none_asked (InBox x ∷ tests) value e = none_asked tests value e
+none_asked (MeetsShape x ∷ tests) value e = none_asked tests value e
+none_asked (Has n v ∷ tests) value e = absurd (true≢false e)
 
 -- a text for whose value nothing asks is asked for by no name
 pub no_value : (name value : List ℕ) (tests : List Test) → asks_value tests value ≡ false → asks_pair tests name value ≡ false

@@ -18,8 +18,8 @@ use Rattle.at_lex.specs.Strings.{units_of}
 use Rattle.at_lex.specs.Runs.{the_null, the_true, the_false}
 use Rattle.at_nest.specs.Tree.{Tree, literal, number, text, array, object, Trees, no_trees, tree_and, Members, no_members, member_and, offset_of}
 use Rattle.at_nest.specs.Twins.{is_among, twins_of, twins_of_items, twins_of_members}
-use Rattle.at_geojson.specs.declared.kinds.Kind.{Kind}
-use Rattle.at_geojson.specs.declared.kinds.Kind.TheVariants as kinds
+use Rattle.at_scan.specs.declared.kinds.Kind.{Kind}
+use Rattle.at_scan.specs.declared.kinds.Kind.TheVariants as kinds
 use Rattle.at_geojson.specs.Names.{is_named, member_named, kind_of, items_of}
 use Rattle.at_geojson.specs.Coordinates.{geometry_of}
 use Rattle.at_geojson.specs.Roles.{GeometryRead, not_geometry, properties_faults, coordinates_reading, kind_reading, geometry_reading, collection_reading, geometries_reading, items_reading, geometry_member_reading, feature_reading, if_feature, item_reading, all_features, features_reading, root_of_kind, role_faults_of}

@@ -14,9 +14,10 @@ use Rattle.at_text.specs.Faults.{first_fault}
 use Rattle.at_text.specs.declared.faults.Fault.{Fault}
 use Rattle.at_wkt.proofs.FaultOrder.{first_fault-assoc}
 use Rattle.at_nest.specs.declared.algebra.Member.{Member}
+use Rattle.at_scan.specs.Hashes.{name_hash, times, HaveRepeated}
 use Rattle.at_geojson.specs.declared.atoms.GeoAtom.{GeoAtom}
 use Rattle.at_geojson.specs.Gathering.{is_among, twin_at, member_twins}
-use Rattle.at_geojson.specs.Hashes.{name_hash, member_hash, times, HaveRepeated}
+use Rattle.at_geojson.specs.Hashes.{member_hash}
 
 pub one_member_more : (ms : List (Member GeoAtom)) (i : ℕ) (m : Member GeoAtom) (first : Option Fault) → i < length ms → m ≡ get_or ms i m
     → first_fault (first_fault first (twin_at (is_among (take i ms) m.name) m)) (member_twins (take (i + 1) ms) (drop (i + 1) ms))

@@ -1,14 +1,12 @@
 -- What the readers of whole values find of a text: the parts that they read spell trees, for which the atoms stand.
 -- For `add`, `array` and `value`.
-use Rattle.std.proofs.Common.{false, None, Result, Err, if◌then◌else◌, ◌==◌, ◌&&◌, ◌++◌, fold, ◌≡◌, ℕ, zero, suc, ◌+◌, ◌-◌, ◌<◌, ◌≤◌, min, inl, inr, ℤ, true, Some, Ok, List, [], ◌∷◌, All, length, take, drop, slice_index, take-append-drop, refl, sym, ◌∙◌, ap, subst, arith, Option}
+use Rattle.std.proofs.Common.{None, Result, Err, if◌then◌else◌, ◌==◌, ◌&&◌, ◌++◌, fold, ◌≡◌, ℕ, ◌+◌, ◌-◌, ◌<◌, ◌≤◌, min, inl, inr, ℤ, true, Some, Ok, List, [], ◌∷◌, All, length, take, drop, slice_index, take-append-drop, refl, sym, ◌∙◌, ap, subst, arith, Option}
 use Rattle.std.specs.Bool.{⊤}
-use Rattle.std.specs.List.{list_any}
 use Rattle.at_text.specs.Faults.{first_fault}
 use Rattle.std.specs.declared.alloc.Global.{Global}
 use Rattle.std.specs.declared.boxed.Box.{Box}
 use denote.RawPtr.{null_ptr}
 use Rattle.std.proofs.Math.Nat.{min-eq_left}
-use Rattle.std.proofs.lemmas.List.{length-drop}
 use Rattle.std.proofs.lemmas.List.Elements.{All-nil, All-cons, All-append}
 use Rattle.at_text.specs.Prefix.{TakesLongest}
 use Rattle.at_text.specs.declared.prefixes.Taken.{Taken}
@@ -33,70 +31,33 @@ use Rattle.at_text.specs.Parts.{At}
 use Rattle.at_nest.specs.Passing.{IsPadded, ItemsBefore, items_of, Named, members_of}
 use Rattle.at_nest.proofs.Ahead.{no_nil}
 use Rattle.at_nest.proofs.Passed.{items_none, items_on, items_end, items_empty, members_none, members_on, members_end, members_empty}
+use Rattle.at_scan.specs.declared.places.NamePlace.{NamePlace}
+use Rattle.at_scan.specs.Names.{kind_of_text}
+use Rattle.at_scan.specs.Places.{IsTextAt, IsNameAt}
+use Rattle.at_scan.specs.Numbers.{IsFurther, AreFurther, EndsPosition}
+use Rattle.at_scan.proofs.Taken.{IsTaken, word_taken}
 use Rattle.at_geojson.specs.declared.atoms.GeoAtom.{GeoAtom}
 use Rattle.at_geojson.specs.declared.atoms.GeoAtom.TheVariants as atoms
 use Rattle.at_geojson.specs.declared.atoms.NumberAtom.{NumberAtom}
 use Rattle.at_geojson.specs.declared.atoms.TextAtom.{TextAtom}
 use Rattle.at_geojson.specs.declared.sorts.Sort.TheVariants as sorts
-use Rattle.at_geojson.specs.declared.places.NamePlace.{NamePlace}
 use Rattle.at_geojson.specs.declared.pairs.Whole.{Whole}
 use Rattle.at_geojson.specs.declared.pairs.Plain.{Plain}
 use Rattle.at_geojson.specs.declared.pairs.PairRead.{PairRead}
-use Rattle.at_geojson.specs.Names.{kind_of_text}
-use Rattle.at_geojson.specs.Keeping.{Asked, looks_at_texts}
+use Rattle.at_geojson.specs.Keeping.{Asked}
 use Rattle.at_geojson.specs.Atoms.{twin_of, at_of, IsOwn, IsFold, as_text, unboxed, asked_units}
 use Rattle.at_geojson.specs.Gathering.{firsts, are_all, rank, sort_of, sort_of_all, least_of, pair_atom}
-use Rattle.at_geojson.specs.Places.{IsTextAt, IsNameAt, IsScalarAt}
-use Rattle.at_geojson.specs.Values.{IsPlain, IsFurther, AreFurther, EndsPosition, IsPair, IsSpacedPair, IsWhole, IsItem, AreItemsRead, AreMembersRead, EndsArray, EndsObject}
+use Rattle.at_geojson.specs.Members.{IsScalarAt}
+use Rattle.at_geojson.specs.Values.{IsPlain, IsPair, IsSpacedPair, IsWhole, IsItem, AreItemsRead, AreMembersRead, EndsArray, EndsObject}
 use Rattle.at_geojson.proofs.Firsts.{firsts-cons}
-use Rattle.at_geojson.proofs.SimpleTexts.{none_asked}
 use Rattle.at_geojson.proofs.ScalarFolds.{number_found, number_folds, own_number, text_folds, null_folds, true_folds, false_folds, bad_number_at}
 use Rattle.at_geojson.proofs.OwnFolds.{pair_own}
 use Rattle.at_geojson.proofs.ArrayAnswers.{numbers_fold, empty_folds}
 
 -- ---- bytes that were taken from a place on
 
--- what a reader of the bytes ahead takes as a whole word
-pub taken_whole : (L : List ℕ → Type 0) (w : List ℕ) (at : ℕ) (taken : Taken) → TakesLongest L (take (length w - at) (drop at w)) taken → taken.whole ≡ true → (taken.len ≤ length (drop at w)) × L (take taken.len (drop at w))
-taken_whole L w at taken h e =
-    let k : TakesLongest L (drop at w) taken = subst (λ z. TakesLongest L z taken) (suffix_is w at) h in
-    (k.longest.fits, (k.whole).0 e)
-
-pub some_bytes : (L : List ℕ → Type 0) (w : List ℕ) (at n : ℕ) → (L [] → ⊥) → L (take n (drop at w)) → at < at + n
-some_bytes L w at n none h = by_count n h
-  where
-    by_count : (n : ℕ) → L (take n (drop at w)) → at < at + n
-    by_count zero h = absurd (none h)
-    by_count (suc n) h = omega arith
-
-pub end_fits : (w : List ℕ) (at n : ℕ) → at ≤ length w → n ≤ length (drop at w) → at + n ≤ length w
-end_fits w at n h k = omega (arith, h, k, length-drop at w)
-
-pub no_empty_number : JsonNumber [] → ⊥
-no_empty_number h = no_nil (inr h)
-
-pub no_empty_string : JsonString [] → ⊥
-no_empty_string (cs, ok, e) = cc
-
--- a word of the bytes ahead, from its place to its end
-pub record IsTaken (L : List ℕ → Type 0) (w : List ℕ) (at end : ℕ) : Type 0 where
-  pub order : at < end
-  pub within : end ≤ length w
-  pub word : L (between w at end)
-
-pub word_taken : (L : List ℕ → Type 0) (w : List ℕ) (at : ℕ) (taken : Taken) → (L [] → ⊥) → at ≤ length w → TakesLongest L (take (length w - at) (drop at w)) taken → taken.whole ≡ true → IsTaken L w at (at + taken.len)
-word_taken L w at taken none inside h e =
-    let (fits, word) = taken_whole L w at taken h e in
-    record { order = some_bytes L w at taken.len none word; within = end_fits w at taken.len inside fits; word = subst L (rest_part w at taken.len) word }
-
-pub number_taken : (w : List ℕ) (at : ℕ) (taken : Taken) → at ≤ length w → TakesLongest JsonNumber (take (length w - at) (drop at w)) taken → taken.whole ≡ true → IsTaken JsonNumber w at (at + taken.len)
-number_taken w at taken inside h e = word_taken JsonNumber w at taken no_empty_number inside h e
-
 pub run_taken : (w : List ℕ) (at : ℕ) (taken : Taken) → at ≤ length w → TakesLongest JsonRun (take (length w - at) (drop at w)) taken → taken.whole ≡ true → IsTaken JsonRun w at (at + taken.len)
 run_taken w at taken inside h e = word_taken JsonRun w at taken no_nil inside h e
-
-pub text_taken : (w : List ℕ) (at : ℕ) (taken : Taken) → at ≤ length w → TakesLongest JsonString (take (length w - at) (drop at w)) taken → taken.whole ≡ true → IsTextAt w at (at + taken.len)
-text_taken w at taken inside h e = let t = word_taken JsonString w at taken no_empty_string inside h e in (t.order, t.within, t.word)
 
 -- the value of a number that was taken
 pub value_taken : (w : List ℕ) (at n digits : ℕ) (how : Coords) (asked : Asked) (v : ℤ) → digits ≡ asked.digits → how ≡ asked.how
@@ -111,16 +72,6 @@ run_text w at end t = subst IsScalarText (sym (rest_to w at end (omega (arith, t
 
 pub string_text : (w : List ℕ) (at end : ℕ) → IsTextAt w at end → IsScalarText (take (end - at) (drop at w))
 string_text w at end (order, within, s) = subst IsScalarText (sym (rest_to w at end (omega (arith, order)))) (inl s)
-
-pub string_taken : (w : List ℕ) (at end : ℕ) → IsTextAt w at end → JsonString (take (end - at) (drop at w))
-string_taken w at end (order, within, s) = subst JsonString (sym (rest_to w at end (omega (arith, order)))) s
-
--- the bytes of a name, and its units
-pub name_text : (w : List ℕ) (at : ℕ) (n : NamePlace) → IsNameAt w at n → JsonString (take (n.end - n.first) (drop n.first w))
-name_text w at n h = subst JsonString (sym (rest_to w n.first n.end (omega (arith, h.text.0)))) h.text.2
-
-pub name_units : (w : List ℕ) (at : ℕ) (n : NamePlace) (units : List ℕ) → IsNameAt w at n → AreUnitsOf (take (n.end - n.first) (drop n.first w)) units → AreUnitsOf (between w n.first n.end) units
-name_units w at n units h u = subst (λ z. AreUnitsOf z units) (rest_to w n.first n.end (omega (arith, h.text.0))) u
 
 -- ---- scalars
 
@@ -142,11 +93,6 @@ text_kind asked i cs = atoms.Text (record { at = i; kind = kind_of_text (units_o
 
 pub text_units : (asked : Asked) (i : ℕ) (cs : List Character) → as_text (text_kind asked i cs) ≡ asked_units asked.query.tests (units_of cs)
 text_units asked i cs = out_of_boxes (asked_units asked.query.tests (units_of cs))
-
--- one more number of a position
-pub further_last : (w : List ℕ) (at : ℕ) (es : List ℕ) (end e : ℕ) → AreFurther w at es end → IsFurther w end e → AreFurther w at (es ++ e ∷ []) e
-further_last w at [] end e f h = (subst (λ z. IsFurther w z e) (sym f) h, refl)
-further_last w at (a ∷ es) end e f h = (f.0, further_last w a es end e f.1 h)
 
 module _ (asked : Asked) (base : ℕ) (w : List ℕ) where
   -- an atom of all trees that the bytes spell

@@ -4,9 +4,9 @@ use Rattle.at_fixed.specs.Numerals.{Numeral}
 use Rattle.at_wkt.specs.Positions.{Position, Positions}
 use Rattle.at_wkt.specs.Geometry as wkt
 use Rattle.at_nest.specs.Tree.{Tree, number, array, no_trees, offset_of}
-use Rattle.at_geojson.specs.declared.kinds.Kind.{Kind}
-use Rattle.at_geojson.specs.declared.kinds.Kind.TheVariants.{Point, MultiPoint, LineString, MultiLineString, Polygon}
-use Rattle.at_geojson.specs.declared.kinds.Kind.TheVariants.{MultiPolygon}
+use Rattle.at_scan.specs.declared.kinds.Kind.{Kind}
+use Rattle.at_scan.specs.declared.kinds.Kind.TheVariants.{Point, MultiPoint, LineString, MultiLineString, Polygon}
+use Rattle.at_scan.specs.declared.kinds.Kind.TheVariants.{MultiPolygon}
 use Rattle.at_geojson.specs.Names.{items_of}
 
 -- what f gives of each item, where it gives something of all

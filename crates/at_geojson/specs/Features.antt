@@ -10,15 +10,18 @@ use Rattle.at_query.specs.declared.query.queries.Test.{Test}
 use Rattle.at_query.specs.declared.features.TextPair.{TextPair}
 use Rattle.at_query.specs.declared.answer.parts.Part.{Part}
 use Rattle.at_query.specs.Parts.{IsPart}
-use Rattle.at_geojson.specs.declared.kinds.Kind.TheVariants as kinds
+use Rattle.at_scan.specs.declared.fields.Field.{Field}
+use Rattle.at_scan.specs.declared.places.NamePlace.{NamePlace}
+use Rattle.at_scan.specs.declared.members.FieldName.{FieldName}
+use Rattle.at_scan.specs.declared.members.OtherNames.{OtherNames}
+use Rattle.at_scan.specs.declared.kinds.Kind.TheVariants as kinds
+use Rattle.at_scan.specs.declared.fields.Field.TheVariants as names
+use Rattle.at_scan.specs.Members.{name_in}
 use Rattle.at_geojson.specs.declared.atoms.GeoAtom.{GeoAtom}
 use Rattle.at_geojson.specs.declared.atoms.GeoAtom.TheVariants as atoms
 use Rattle.at_geojson.specs.declared.atoms.ObjectAtom.{ObjectAtom}
 use Rattle.at_geojson.specs.declared.atoms.Role.TheVariants as roles
-use Rattle.at_geojson.specs.declared.fields.Field.{Field}
-use Rattle.at_geojson.specs.declared.fields.Field.TheVariants as names
 use Rattle.at_geojson.specs.declared.fields.Fields.{Fields}
-use Rattle.at_geojson.specs.declared.places.NamePlace.{NamePlace}
 use Rattle.at_geojson.specs.declared.plain_geometries.ShapeRead.{ShapeRead}
 use Rattle.at_geojson.specs.declared.plain_geometries.Seen.{Seen}
 use Rattle.at_geojson.specs.declared.plain_geometries.Seen.TheVariants as seens
@@ -27,14 +30,12 @@ use Rattle.at_geojson.specs.declared.plain_objects.VoidRead.{VoidRead}
 use Rattle.at_geojson.specs.declared.features.FeatureRead.{FeatureRead}
 use Rattle.at_geojson.specs.declared.features.FeatureMembers.{FeatureMembers}
 use Rattle.at_geojson.specs.declared.features.PropertiesRead.{PropertiesRead}
-use Rattle.at_geojson.specs.declared.members.FieldName.{FieldName}
-use Rattle.at_geojson.specs.declared.members.OtherNames.{OtherNames}
 use Rattle.at_geojson.specs.Keeping.{Asked, looks_at_texts}
 use Rattle.at_geojson.specs.Atoms.{twin_of, as_kind, as_text, IfOwnShape, IfOwnPart}
 use Rattle.at_geojson.specs.Objects.{feature_shape, texts_in, texts_named, JoinsFeature}
 use Rattle.at_geojson.specs.TextTests.{met_of, met_by, texts_hold}
 use Rattle.at_geojson.specs.Fields.{kind_in_fields, value_in}
-use Rattle.at_geojson.specs.Members.{name_in, IsNewName, IsFieldRead, AreFieldsRead}
+use Rattle.at_geojson.specs.Members.{IsNewName, IsFieldRead, AreFieldsRead}
 use Rattle.at_geojson.specs.PlainGeometries.{IsSeenOf, IsSeen}
 use Rattle.at_geojson.specs.Values.{IsWhole, IsItem}
 

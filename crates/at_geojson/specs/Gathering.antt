@@ -1,7 +1,7 @@
 -- What the private functions make of atoms one by one and of lists of them. Only contracts of private functions cite
 -- this.
 use Rattle.std.specs.Prelude.{◌≡◌, ℕ, ◌-◌, ◌==◌, min, ℤ, pos, Bool, true, false, not, ◌&&◌, ◌||◌, if◌then◌else◌}
-use Rattle.std.specs.Prelude.{bytes_eq, nat_lt, List, [], ◌∷◌, ◌++◌, fold, map, length, Option, Some, None, is_none}
+use Rattle.std.specs.Prelude.{bytes_eq, List, [], ◌∷◌, ◌++◌, fold, map, length, Option, Some, None, is_none}
 use Rattle.std.specs.Prelude.{slice_get}
 use Rattle.std.specs.List.{list_all, list_any}
 use Rattle.std.specs.Ordering.{int_eq}
@@ -38,12 +38,6 @@ firsts f xs = fold (λ first x. first_fault first (f x)) None xs
 abbrev pub seen : {X Z : Type 0} → Z → (X → Z) → Option X → Z
 seen none f None = none
 seen none f (Some x) = f x
-
--- ---- strings
-
--- a byte that stands for the unit of its own number
-abbrev pub is_simple : ℕ → Bool
-is_simple b = nat_lt b 128 && not (b == 0x5C)
 
 -- ---- equal names
 

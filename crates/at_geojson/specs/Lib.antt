@@ -16,14 +16,12 @@ pub mod Objects
 pub mod Fields
 pub mod Ends
 pub mod Copies
-pub mod Places
 pub mod Values
 pub mod Rows
 pub mod Passing
 pub mod Rings
 pub mod Makings
 pub mod Members
-pub mod KnownNames
 pub mod Geometries
 pub mod PlainGeometries
 pub mod PositionRuns

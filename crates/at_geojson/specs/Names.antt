@@ -3,9 +3,8 @@ use Rattle.std.specs.Prelude.{ℕ, Bool, bytes_eq, if◌then◌else◌, codes, L
 use Rattle.std.specs.Prelude.{option_and_then}
 use Rattle.at_lex.specs.Strings.{Character, units_of}
 use Rattle.at_nest.specs.Tree.{Tree, text, Trees, no_trees, tree_and, Members, no_members, member_and}
-use Rattle.at_geojson.specs.declared.kinds.Kind.{Kind}
-use Rattle.at_geojson.specs.declared.kinds.Kind.TheVariants.{FeatureCollection, Feature, Point, MultiPoint, LineString}
-use Rattle.at_geojson.specs.declared.kinds.Kind.TheVariants.{MultiLineString, Polygon, MultiPolygon, GeometryCollection}
+use Rattle.at_scan.specs.declared.kinds.Kind.{Kind}
+use Rattle.at_scan.specs.Names.{kind_of_text}
 
 -- the name's units are those of the text
 abbrev pub is_named : List ℕ → List Character → Bool
@@ -23,19 +22,6 @@ units_of_text _ = None
 -- the units of the member `type`, where that is a string
 abbrev pub type_of : Members → Option (List ℕ)
 type_of ms = option_and_then units_of_text (member_named (codes "type") ms)
-
--- the kind of which this is the name
-abbrev pub kind_of_text : List ℕ → Option Kind
-kind_of_text units =
-    if bytes_eq units (codes "Point") then Some Point else
-    if bytes_eq units (codes "Feature") then Some Feature else
-    if bytes_eq units (codes "Polygon") then Some Polygon else
-    if bytes_eq units (codes "MultiPoint") then Some MultiPoint else
-    if bytes_eq units (codes "LineString") then Some LineString else
-    if bytes_eq units (codes "MultiPolygon") then Some MultiPolygon else
-    if bytes_eq units (codes "MultiLineString") then Some MultiLineString else
-    if bytes_eq units (codes "FeatureCollection") then Some FeatureCollection else
-    if bytes_eq units (codes "GeometryCollection") then Some GeometryCollection else None
 
 -- the kind that the object says it is
 abbrev pub kind_of : Members → Option Kind

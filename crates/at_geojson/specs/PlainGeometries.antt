@@ -3,11 +3,11 @@ use Rattle.std.specs.Prelude.{◌≡◌, ℕ, Bool, true, false, List, Option, S
 use Rattle.at_text.specs.declared.faults.Fault.{Fault}
 use Rattle.at_geom.specs.declared.shapes.Shape.{Shape}
 use Rattle.at_query.specs.declared.query.queries.Query.{Query}
+use Rattle.at_scan.specs.declared.kinds.Kind.{Kind}
+use Rattle.at_scan.specs.declared.known_names.KindRead.{KindRead}
+use Rattle.at_scan.specs.declared.kinds.Kind.TheVariants as kinds
 use Rattle.at_geojson.specs.declared.asked.Measure.{Measure}
-use Rattle.at_geojson.specs.declared.kinds.Kind.{Kind}
-use Rattle.at_geojson.specs.declared.kinds.Kind.TheVariants as kinds
 use Rattle.at_geojson.specs.declared.atoms.GeoAtom.{GeoAtom}
-use Rattle.at_geojson.specs.declared.plain_geometries.KindRead.{KindRead}
 use Rattle.at_geojson.specs.declared.plain_geometries.ShapeRead.{ShapeRead}
 use Rattle.at_geojson.specs.declared.plain_geometries.Seen.{Seen}
 use Rattle.at_geojson.specs.declared.plain_geometries.Seen.TheVariants as seens

@@ -14,8 +14,8 @@ use Rattle.at_nest.specs.Tree.{Tree, literal, number, text, array, object, Trees
 use Rattle.at_nest.specs.Tree.{no_members, member_and, offset_of}
 use Rattle.at_query.specs.declared.features.TextPair.{TextPair}
 use Rattle.at_query.specs.declared.features.Feature.{Feature}
-use Rattle.at_geojson.specs.declared.kinds.Kind.{Kind}
-use Rattle.at_geojson.specs.declared.kinds.Kind.TheVariants as kinds
+use Rattle.at_scan.specs.declared.kinds.Kind.{Kind}
+use Rattle.at_scan.specs.declared.kinds.Kind.TheVariants as kinds
 use Rattle.at_geojson.specs.Names.{is_named, member_named, kind_of, items_of}
 use Rattle.at_geojson.specs.Coordinates.{geometry_of}
 

@@ -1,6 +1,6 @@
 -- Whole values that are read of a text w from place to place; the text stands at the offset `base`. Only contracts of
 -- private functions cite this.
-use Rattle.std.specs.Prelude.{◌≡◌, ℕ, ◌+◌, ◌<◌, ◌≤◌, List, [], ◌∷◌, length, slice_index, All, Ok}
+use Rattle.std.specs.Prelude.{◌≡◌, ℕ, ◌+◌, ◌<◌, ◌≤◌, List, length, All, Ok}
 use Rattle.at_fixed.specs.NumberSoFar.{between}
 use Rattle.at_fixed.specs.Numerals.{JsonNumber}
 use Rattle.at_fixed.specs.Fixed.{IsFixedOf}
@@ -27,35 +27,6 @@ pub record IsPlain (asked : Asked) (w : List ℕ) (at : ℕ) (p : Plain) : Type 
   pub within : p.end ≤ length w
   pub number : JsonNumber (between w p.first p.last)
   pub value : IsFixedOf (between w p.first p.last) asked.digits asked.how (Ok p.number.value)
-
--- a comma, white space, a number and white space
-pub record IsFurther (w : List ℕ) (at end : ℕ) : Type 0 where
-  pub inside : at < length w
-  pub comma : slice_index w at ≡ 0x2C
-  pub first : ℕ
-  pub last : ℕ
-  pub before : at + 1 ≤ first
-  pub spaces : AreSpaces (between w (at + 1) first)
-  pub order : first < last
-  pub behind : last ≤ end
-  pub more_spaces : AreSpaces (between w last end)
-  pub within : end ≤ length w
-  pub number : JsonNumber (between w first last)
-
--- such numbers one behind another, which end before these places
-abbrev pub AreFurther : List ℕ → ℕ → List ℕ → ℕ → Type 0
-AreFurther w at [] end = at ≡ end
-AreFurther w at (e ∷ es) end = IsFurther w at e × AreFurther w e es end
-
--- what stands behind the first two numbers of a position: further numbers, if there are any, and its bracket
-pub record EndsPosition (w : List ℕ) (at end : ℕ) : Type 0 where
-  pub places : List ℕ
-  pub place : ℕ
-  pub further : AreFurther w at places place
-  pub order : at ≤ place
-  pub inside : place < length w
-  pub closes : slice_index w place ≡ 0x5D
-  pub behind : end ≡ place + 1
 
 -- a value from the place on: the bytes spell a tree for which the atom stands
 pub record IsWhole (asked : Asked) (base : ℕ) (w : List ℕ) (at : ℕ) (p : Whole) : Type 0 where

@@ -1,10 +1,10 @@
 //! What is kept of each value of a JSON text.
 
 use crate::geometries::Geometry;
-use crate::kinds::Kind;
 use at_geom::{Path, Polygon, Pos};
 use at_lex::Units;
 use at_query::{Part, TextPairs};
+use at_scan::Kind;
 use at_text::Fault;
 
 /// A string: the kind of which it is the name, and its units where a test of the query asks for them.

@@ -2,18 +2,17 @@
 //! parts before it.
 
 ghost use Rattle.std.specs.Prelude.{◌≡◌, ◌+◌, ◌<◌, length, slice_index, IfOk, IfSome};
+ghost use Rattle.at_scan.specs.Members.{ArePlainOthers};
 ghost use Rattle.at_geojson.specs.Atoms.{both_forms};
 ghost use Rattle.at_geojson.specs.FeatureRuns.{IsNextObject, AreFeaturesRead};
-ghost use Rattle.at_geojson.specs.Members.{ArePlainOthers};
 
 use crate::atoms::Items;
 use crate::features::{FeatureRead, read_feature};
 use crate::lists::form_at;
-use crate::members::TableNames;
-use crate::places::{skip_spaces, stands};
 use crate::runs::{is_light, join_features};
 use crate::text::Text;
 use at_query::Part;
+use at_scan::{TableNames, skip_spaces, stands};
 use at_text::{Fault, Halt};
 
 /// Features that were read: the place behind them and the white space, and what they are as items of an array.

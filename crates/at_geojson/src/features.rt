@@ -3,9 +3,9 @@
 ghost use Rattle.std.specs.Prelude.{◌≡◌, ◌+◌, ◌<◌, ◌≤◌, true, false, [], None, Some, length, slice_index, Ok};
 ghost use Rattle.std.specs.Prelude.{◌∷◌, IfOk, IfSome};
 ghost use Rattle.std.specs.List.{list_any};
+ghost use Rattle.at_scan.specs.Members.{IsPlainName, ArePlainOthers};
 ghost use Rattle.at_geojson.specs.Keeping.{looks_at_texts};
 ghost use Rattle.at_geom.specs.Shapes.{IsShapeInRange};
-ghost use Rattle.at_geojson.specs.Members.{IsPlainName, ArePlainOthers};
 ghost use Rattle.at_geojson.specs.Objects.{texts_in};
 ghost use Rattle.at_geojson.specs.Tallies.{selects};
 ghost use Rattle.at_geojson.specs.TextTests.{texts_hold};
@@ -17,17 +17,11 @@ ghost use Rattle.at_geojson.specs.Features.{EndsFeature, IsFeatureRead};
 
 use crate::asked::{GeoAlgebra, needs_texts};
 use crate::atoms::{GeoAtom, ObjectAtom, Role};
-use crate::fields::Field;
 use crate::geometries::Geometry;
-use crate::kinds::Kind;
-use crate::members::{FieldName, OtherNames, TableNames, add_other, field_name};
 use crate::object_atoms::new_roles;
 use crate::objects::{feature_part, feature_shape};
 use crate::pairs::Whole;
-use crate::places::{OTHER_KIND, expect_comma, seems_cut, skip_spaces, stands};
-use crate::plain_geometries::{
-    KindRead, Seen, SeenRead, ShapeRead, read_geometry, read_kind, seen_shape,
-};
+use crate::plain_geometries::{Seen, SeenRead, ShapeRead, read_geometry, read_kind, seen_shape};
 use crate::plain_objects::{VoidRead, pass_early, pass_object, pass_other};
 use crate::shapes::empty_shape;
 use crate::text::Text;
@@ -35,6 +29,10 @@ use crate::texts::{all_hold, asked_pairs};
 use crate::twins::is_twin;
 use crate::values::{DEEPEST, read_item};
 use at_query::{Offsets, Part, TextPairs, Verb, part_none};
+use at_scan::{
+    Field, FieldName, Kind, KindRead, OTHER_KIND, OtherNames, TableNames, add_other, expect_comma,
+    field_name, seems_cut, skip_spaces, stands,
+};
 use at_text::{Fault, Halt, Memory};
 use std::alloc::Global;
 

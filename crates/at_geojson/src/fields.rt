@@ -1,54 +1,18 @@
 //! The members of an object for which some kind of object asks, by their names (RFC 7946 section 3).
 
-ghost use Rattle.std.specs.Prelude.{◌≡◌, [], is_some};
+ghost use Rattle.std.specs.Prelude.{◌≡◌, ◌≤◌, ◌^◌, [], is_some, length, IfOk};
+ghost use Rattle.at_scan.specs.Fields.{field_of, is_kind as names_kind, is_coordinates as names_coordinates};
+ghost use Rattle.at_scan.specs.Fields.{is_geometry, is_geometries, is_properties, is_features};
+ghost use Rattle.at_scan.specs.Places.{IsNameAt};
+ghost use Rattle.at_scan.specs.Members.{name_in, IsPlainName, ArePlainOthers};
 ghost use Rattle.at_geojson.specs.Atoms.{as_kind};
-ghost use Rattle.at_geojson.specs.Fields.{field_of, put_if, put_first as first_put, is_kind as names_kind};
-ghost use Rattle.at_geojson.specs.Fields.{is_coordinates as names_coordinates, is_geometry, is_geometries};
-ghost use Rattle.at_geojson.specs.Fields.{is_properties, is_features};
-ghost use Rattle.at_geojson.specs.Fields.{is_no_field, value_in, AreFields, kind_in_fields};
+ghost use Rattle.at_geojson.specs.Fields.{put_if, put_first as first_put, value_in, AreFields, kind_in_fields};
+ghost use Rattle.at_geojson.specs.Members.{IsNewName};
 
 use crate::atoms::GeoAtom;
-use crate::kinds::Kind;
-use crate::spellings::Spelling;
 use at_nest::Member;
-
-/// Which member of an object has a name.
-#[derive(Clone, Copy, Debug, PartialEq, Eq)]
-pub enum Field {
-    /// `type`
-    Kind,
-    Coordinates,
-    Geometry,
-    Properties,
-    Features,
-    Geometries,
-    /// A member for which no kind asks.
-    Other,
-}
-
-/// Whether no kind asks for the member.
-#[inline(always)]
-pub fn is_other(field: Field) -> bool
-    ensures { result ≡ is_no_field field }
-{
-    matches!(field, Field::Other)
-}
-
-/// Whether the member is `type`.
-#[inline(always)]
-pub fn is_kind(field: Field) -> bool
-    ensures { result ≡ names_kind field }
-{
-    matches!(field, Field::Kind)
-}
-
-/// Whether the member is `coordinates`.
-#[inline(always)]
-pub fn is_coordinates(field: Field) -> bool
-    ensures { result ≡ names_coordinates field }
-{
-    matches!(field, Field::Coordinates)
-}
+use at_scan::{Field, FieldName, Kind, OtherNames, field_named, is_other, next_name};
+use at_text::Halt;
 
 /// Of an object's members, the value of the first of each name for which some kind asks.
 #[derive(Drop)]
@@ -59,27 +23,6 @@ pub struct Fields {
     pub properties: Option<GeoAtom>,
     pub features: Option<GeoAtom>,
     pub geometries: Option<GeoAtom>,
-}
-
-/// The member that has the name.
-pub fn field_named<S: Spelling>(name: S) -> Field
-    ensures { result ≡ field_of (S.spelled name) }
-{
-    if name.is_word(b"type") {
-        Field::Kind
-    } else if name.is_word(b"coordinates") {
-        Field::Coordinates
-    } else if name.is_word(b"geometry") {
-        Field::Geometry
-    } else if name.is_word(b"properties") {
-        Field::Properties
-    } else if name.is_word(b"features") {
-        Field::Features
-    } else if name.is_word(b"geometries") {
-        Field::Geometries
-    } else {
-        Field::Other
-    }
 }
 
 /// Puts a value in its place, unless one is there.
@@ -174,4 +117,27 @@ pub fn fields_of(members: Vec<Member<GeoAtom>>) -> Fields
         fields.put(field_named(member.name.as_slice()), member.value);
     }
     fields
+}
+
+/// A name like that of a member that is none of the fields either.
+#[inline(always)]
+pub fn new_name(
+    text: &[u8],
+    fields: &Fields,
+    others: &mut OtherNames,
+    at: usize,
+) -> Result<FieldName, Halt>
+    requires inside { at ≤ length text.now }
+    requires short { length text.now ≤ 2 ^ 28 }
+    requires names { ArePlainOthers text.now others.old }
+    ensures place { IfOk result (λ name. IsNameAt text.now at name.place) }
+    ensures plain { IfOk result (λ name. IsPlainName text.now name.place) }
+    ensures field { IfOk result (λ name. name.field ≡ field_of (name_in text.now name.place)) }
+    ensures new { IfOk result (IsNewName text.now fields.now others.old others.new) }
+{
+    let name = next_name(text, others, at)?;
+    if !is_other(name.field) && fields.has(name.field) {
+        return Err(Halt::At(name.place.end));
+    }
+    Ok(name)
 }

@@ -5,14 +5,13 @@ ghost use Rattle.std.specs.Prelude.{◌≡◌, ◌+◌, ◌<◌, ◌≤◌, leng
 ghost use Rattle.at_geojson.specs.Makings.{MakesLine, MakesLineItem, MakesLines, MakesLinesItem, MakesPolygons};
 ghost use Rattle.at_geojson.specs.PlainGeometries.{seen_unless, IsCoordinatesItem, Sees};
 
-use crate::kinds::Kind;
 use crate::makers::Maker;
 use crate::pairs::one_more;
-use crate::places::{expect_comma, opening, skip_spaces, stands};
 use crate::plain_geometries::{Seen, SeenRead};
 use crate::spots::{Reads, Stretch};
 use crate::text::Text;
 use at_geom::{line_fault, ring_fault};
+use at_scan::{Kind, expect_comma, opening, skip_spaces, stands};
 use at_text::{Fault, Halt, first_fault};
 
 /// A list of positions that was read: its offset, the least offset of its items, the place behind it, its first faults

@@ -11,13 +11,13 @@ ghost use Rattle.at_geojson.specs.Fields.{AreOwnFields, IfOwnValue, IsFeatureOf,
 use crate::asked::GeoAlgebra;
 use crate::atoms::{GeoAtom, ObjectAtom, Role, Roles};
 use crate::fields::{Fields, fields_of};
-use crate::kinds::Kind;
 use crate::lists::role_geometry;
 use crate::objects::{feature_shape, of_coordinates, of_feature, of_features, of_geometries};
 use crate::texts::{feature_texts, kept_texts};
 use crate::twins::first_twin_of_members;
 use at_nest::Member;
 use at_query::TextPairs;
+use at_scan::Kind;
 use at_text::{Fault, Memory};
 use std::alloc::Global;
 use std::mem::replace;

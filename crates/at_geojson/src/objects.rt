@@ -10,12 +10,12 @@ ghost use Rattle.at_geojson.specs.Objects.{feature_shape as the_feature_shape, F
 use crate::asked::GeoAlgebra;
 use crate::atoms::GeoAtom;
 use crate::geometries::Geometry;
-use crate::kinds::Kind;
 use crate::lists::{first_of_forms, form_at, into_geometry};
 use crate::readings::{as_line, as_lines, as_point, as_points, as_polygon, as_polygons};
 use crate::shapes::empty_shape;
 use crate::sorts::at_of;
 use at_query::{Feature, Part, Query, TextPairs, Verb, part_none, part_of};
+use at_scan::Kind;
 use at_text::{Fault, Memory, first_of_two};
 use std::alloc::Global;
 

@@ -1,14 +1,12 @@
 //! Strings, literals and numbers of which nothing is kept.
 
 ghost use Rattle.std.specs.Prelude.{◌≤◌, ◌^◌, length, IfSome};
-ghost use Rattle.at_geojson.specs.Members.{PassesItem};
-ghost use Rattle.at_geojson.specs.Places.{IsScalarAt};
+ghost use Rattle.at_geojson.specs.Members.{PassesItem, IsScalarAt};
 
-use crate::places::{skip_spaces, stands, text_end};
-use crate::short_texts::short_text_end;
 use crate::text::Text;
 use at_fixed::{Notation, plain_len};
 use at_lex::take_run;
+use at_scan::{short_text_end, skip_spaces, stands, text_end};
 
 /// The place behind the string that begins at the place.
 #[inline(always)]

@@ -5,25 +5,16 @@ ghost use Rattle.at_geojson.specs.Keeping.{Asked};
 ghost use Rattle.at_geojson.specs.PlainGeometries.{IsKindRead, IsCoordinatesItem, IsGeometryRead, SeesShape, Sees};
 
 use crate::asked::Measure;
-use crate::fields::{is_coordinates, is_kind};
 use crate::geometries::Geometry;
-use crate::kinds::{Kind, kind_of};
-use crate::known_names::{begins_collection, known_kind};
 use crate::makers::{Keeps, Passes, Sizes, Spreads, Tallies};
 use crate::makings::coordinates;
-use crate::members::field_name;
-use crate::places::{OTHER_KIND, expect_comma, skip_spaces, stands};
-use crate::short_texts::{SimpleItem, simple_item};
 use crate::text::Text;
 use at_query::Part;
+use at_scan::{
+    Kind, KindRead, OTHER_KIND, SimpleItem, begins_collection, expect_comma, field_name,
+    is_coordinates, is_kind, kind_of, known_kind, simple_item, skip_spaces, stands,
+};
 use at_text::{Fault, Halt};
-
-/// The kind that a text names, and the place behind it.
-#[derive(Clone, Copy)]
-pub struct KindRead {
-    pub end: usize,
-    pub kind: Kind,
-}
 
 /// A geometry that was read: the place behind it, and its shape or its first fault.
 #[derive(Drop)]

@@ -2,20 +2,19 @@
 //! members.
 
 ghost use Rattle.std.specs.Prelude.{◌≡◌, ◌+◌, ◌<◌, ◌≤◌, length, slice_index, IfOk};
-ghost use Rattle.at_geojson.specs.Members.{IsPlainName, ArePlainOthers};
+ghost use Rattle.at_scan.specs.Members.{IsPlainName, ArePlainOthers};
 ghost use Rattle.at_geojson.specs.Features.{PassesOther, MeetsTexts, NamesNoKind, PassesMember, IsTexted};
 
-use crate::fields::Field;
-use crate::kinds::kind_of;
-use crate::members::{FieldName, OtherNames, name_bytes, next_name};
 use crate::pairs::Whole;
 use crate::passing::pass_item;
-use crate::places::{NamePlace, OTHER_KIND, expect_comma, skip_spaces, stands};
-use crate::short_texts::{SimpleItem, simple_item};
 use crate::text::Text;
 use crate::texts::{asks_name, met_by, met_by_atom};
 use crate::twins::is_twin;
 use crate::values::{DEEPEST, read_item};
+use at_scan::{
+    Field, FieldName, NamePlace, OTHER_KIND, OtherNames, SimpleItem, expect_comma, kind_of,
+    name_bytes, next_name, simple_item, skip_spaces, stands,
+};
 use at_text::Halt;
 
 /// So deep stand brackets in an array of numbers, as `bbox` is.

@@ -9,9 +9,9 @@ ghost use Rattle.at_geojson.specs.PositionRuns.{IsNextPair, PassesNext, IsPassed
 
 use crate::atoms::{GeoAtom, Track, TrackAtom};
 use crate::pairs::{PairRead, Whole, one_more, pass_spaced, read_spaced};
-use crate::places::{OTHER_KIND, stands};
 use crate::text::Text;
 use crate::tracks::{joined_track, new_track};
+use at_scan::{OTHER_KIND, stands};
 use at_text::Halt;
 use std::alloc::Global;
 

@@ -1,14 +1,14 @@
 //! Coordinates that are written plainly, read at once: lists of positions, arrays of such lists, and arrays of these.
 
-ghost use Rattle.std.specs.Prelude.{◌≡◌, ◌+◌, ◌<◌, ◌≤◌, length, slice_index, IfOk};
+ghost use Rattle.std.specs.Prelude.{◌≡◌, ◌<◌, length, slice_index, IfOk};
 ghost use Rattle.at_geojson.specs.Values.{IsWhole};
 
 use crate::atoms::{Areas, AreasAtom, GeoAtom, Lists, ListsAtom, Points, PointsAtom};
 use crate::makers::{Keeps, Lister, Passes};
 use crate::makings::{areas, lists, positions};
 use crate::pairs::Whole;
-use crate::places::{skip_spaces, stands};
 use crate::text::Text;
+use at_scan::{brackets_ahead, skip_spaces, stands};
 use at_text::Halt;
 
 /// A list of positions as a value.
@@ -81,22 +81,6 @@ fn areas_value<S: Lister>(text: &Text<'_>, at: usize) -> Result<Whole, Halt>
             areas,
         }),
     })
-}
-
-/// More brackets than stand one behind another in coordinates.
-const MOST: usize = 5;
-
-/// How many opening brackets stand one behind another from the place on, with white space between them, up to `MOST`.
-fn brackets_ahead(text: &[u8], at: usize) -> usize
-    requires { at ≤ length text.now }
-{
-    let mut count = 0;
-    let mut place = at;
-    'brackets: while count < MOST && stands(text, place, b'[') {
-        place = skip_spaces(text, place + 1);
-        count += 1;
-    }
-    count
 }
 
 /// Coordinates as a value: a list of positions, an array of such lists, or an array of these. The brackets tell which.

@@ -12,12 +12,11 @@ use crate::atoms::{GeoAtom, Role};
 use crate::features::{FeatureRead, read_feature};
 use crate::geometries::Geometry;
 use crate::lists::form_at;
-use crate::members::TableNames;
 use crate::objects::feature_part;
-use crate::places::stands;
 use crate::sorts::at_of;
 use crate::text::Text;
 use at_query::{Part, TextPairs};
+use at_scan::{TableNames, stands};
 use at_text::{Fault, Halt, Memory};
 use std::alloc::Global;
 

@@ -8,17 +8,17 @@ ghost use Rattle.at_lex.specs.Strings.{JsonString};
 ghost use Rattle.at_lex.specs.Runs.{JsonRun};
 ghost use Rattle.at_nest.specs.Tree.{Tree, Spells};
 ghost use Rattle.at_nest.specs.Folds.{IsScalarText};
+ghost use Rattle.at_scan.specs.Places.{is_simple as simple_byte};
 ghost use Rattle.at_geojson.specs.Keeping.{asks_value as value_asked};
-ghost use Rattle.at_geojson.specs.Gathering.{is_simple as simple_byte};
 ghost use Rattle.at_geojson.specs.Atoms.{unboxed, twin_of, asked_units as units_asked, IsOwn, IsFold};
 
 use crate::asked::GeoAlgebra;
 use crate::atoms::{GeoAtom, NumberAtom, TextAtom};
-use crate::kinds::kind_of;
 use crate::texts::asks_value;
 use at_fixed::{Coords, FixedFault, Notation, plain_number, read_fixed};
 use at_lex::{RunEnd, Units, check_run, units};
 use at_query::Test;
+use at_scan::{is_simple, kind_of};
 use at_text::Memory;
 use at_wkt::number_fault;
 use std::alloc::Global;
@@ -50,18 +50,6 @@ fn decoded_atom(
     let kind = kind_of(found.as_slice());
     let units = asked_units(alloc, algebra.query().tests.as_slice(), found)?;
     Ok(GeoAtom::Text(TextAtom { at, kind, units }))
-}
-
-/// Whether each byte stands for the unit of its own number.
-pub fn is_simple(text: &[u8]) -> bool
-    ensures { result ≡ list_all simple_byte text.now }
-{
-    for b in text {
-        if *b >= 0x80 || *b == b'\\' {
-            return false;
-        }
-    }
-    true
 }
 
 /// A string of ASCII without escapes that begins at the offset, for whose value no test asks.

@@ -14,10 +14,10 @@ ghost use Rattle.at_geojson.specs.TextTests.{wants_name as name_wanted, met_of, 
 use crate::atoms::GeoAtom;
 use crate::lists::form_at;
 use crate::sorts::at_of;
-use crate::spellings::Spelling;
 use at_lex::Units;
 use at_nest::Member;
 use at_query::{Test, TextPair, TextPairs};
+use at_scan::Spelling;
 use at_text::{Fault, Memory};
 use std::alloc::Global;
 

@@ -5,8 +5,9 @@ ghost use Rattle.at_geojson.specs.Atoms.{twin_of as the_twin};
 ghost use Rattle.at_geojson.specs.Gathering.{firsts, is_among as name_among, twin_at, member_twins};
 
 use crate::atoms::GeoAtom;
-use crate::hashes::{has_hash_among, shared_hashes};
+use crate::hashes::shared_hashes;
 use at_nest::Member;
+use at_scan::has_hash_among;
 use at_text::{Fault, FaultKind, Memory, first_fault};
 use std::alloc::Global;
 use std::collections::BTreeSet;

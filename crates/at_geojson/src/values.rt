@@ -2,31 +2,32 @@
 
 ghost use Rattle.std.specs.Prelude.{◌≡◌, ◌+◌, ◌<◌, ◌≤◌, length, slice_index, All, [], false, None, IfOk, IfSome};
 ghost use Rattle.std.specs.List.{list_any};
+ghost use Rattle.at_scan.specs.Places.{IsSimpleTextAt};
 ghost use Rattle.at_geojson.specs.Keeping.{looks_at_texts};
 ghost use Rattle.at_geojson.specs.Atoms.{twin_of, IsOwn};
 ghost use Rattle.at_geojson.specs.Fields.{AreOwnFields};
 ghost use Rattle.at_geojson.specs.Members.{EndsFields, IsFieldRead};
-ghost use Rattle.at_geojson.specs.Places.{IsSimpleTextAt};
 ghost use Rattle.at_geojson.specs.Values.{IsWhole, IsItem, EndsArray, EndsObject};
 
 use crate::asked::{GeoAlgebra, needs_texts};
 use crate::atoms::{GeoAtom, NumberAtom};
-use crate::fields::{Field, Fields, is_kind, is_other};
+use crate::fields::{Fields, new_name};
 use crate::lists::array_atom;
-use crate::members::{OtherNames, new_name};
 use crate::object_atoms::{fields_atom, object_atom};
 use crate::pairs::{PairRead, Whole, read_pair};
 use crate::passing::pass_item;
-use crate::places::{expect_comma, name_place, seems_cut, skip_spaces, stands, text_end};
 use crate::rings::read_coordinates;
 use crate::scalars::{plain_text_atom, scalar_atom, simple_atom};
-use crate::short_texts::short_text_end;
 use crate::text::Text;
 use crate::twins::is_twin;
 use at_fixed::{Notation, plain_number};
 use at_lex::{take_run, units};
 use at_nest::Member;
 use at_query::TextPairs;
+use at_scan::{
+    Field, OtherNames, expect_comma, is_kind, is_other, name_place, seems_cut, short_text_end,
+    skip_spaces, stands, text_end,
+};
 use at_text::Halt;
 use std::alloc::Global;
 

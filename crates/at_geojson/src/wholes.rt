@@ -1,6 +1,6 @@
 //! The array or object that begins a text, read at once, and what stands behind it in an array.
 
-ghost use Rattle.std.specs.Prelude.{◌≡◌, ℕ, ◌+◌, ◌<◌, ◌≤◌, ◌^◌, List, ◌∷◌, length, slice_index, IfOk};
+ghost use Rattle.std.specs.Prelude.{◌≡◌, ℕ, ◌+◌, ◌<◌, List, ◌∷◌, length, slice_index, IfOk};
 ghost use Rattle.at_lex.specs.Spans.{opening};
 ghost use Rattle.at_lex.specs.declared.tokens.Bracket.{Bracket};
 ghost use Rattle.at_geojson.specs.Values.{IsWhole};
@@ -10,27 +10,14 @@ use crate::asked::needs_texts;
 use crate::atoms::GeoAtom;
 use crate::feature_runs::{FeaturesRead, read_features};
 use crate::features::{feature_value, is_read_again};
-use crate::fields::is_kind;
-use crate::known_names::begins_collection;
-use crate::members::field_name;
 use crate::pairs::Whole;
-use crate::places::{OTHER_KIND, skip_spaces, stands};
 use crate::position_runs::read_positions;
 use crate::text::Text;
 use crate::values::{DEEPEST, read_list, read_object};
+use at_scan::{
+    OTHER_KIND, begins_collection, field_name, is_kind, names_collection, skip_spaces, stands,
+};
 use at_text::Halt;
-
-/// Whether the object at the place seems to name itself a collection of features by its first member.
-fn names_collection(text: &[u8], at: usize) -> bool
-    requires inside { at < length text.now }
-    requires short { length text.now ≤ 2 ^ 28 }
-{
-    match field_name(text, at + 1) {
-        Ok(name) => is_kind(name.field)
-            && begins_collection(text, skip_spaces(text, name.place.colon + 1)),
-        Err(_) => false,
-    }
-}
 
 /// An object from its opening bracket on, which stands at the place. Where no test looks at texts, it is taken for a
 /// feature first. A collection of features is not read as a value: it is large, and its features are read one behind

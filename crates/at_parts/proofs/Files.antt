@@ -21,7 +21,7 @@ use Rattle.at_nest.specs.Syntax.{IsFileOf}
 use Rattle.at_nest.proofs.JsonMachine.{space_is}
 use Rattle.at_nest.proofs.OneTree.{tail, one_tree}
 use Rattle.at_query.specs.declared.features.Feature.{Feature}
-use Rattle.at_geojson.specs.declared.kinds.Kind.TheVariants.{FeatureCollection}
+use Rattle.at_scan.specs.declared.kinds.Kind.TheVariants.{FeatureCollection}
 use Rattle.at_geojson.specs.Names.{kind_of}
 use Rattle.at_geojson.specs.Roles.{features_of}
 use Rattle.at_run.specs.JsonFiles.{HasJsonFileFault}

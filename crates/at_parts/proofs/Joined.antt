@@ -10,7 +10,7 @@ use Rattle.at_nest.specs.Tree.{Tree, literal, number, text, array, object, Trees
 use Rattle.at_nest.specs.Twins.{twins_of, twins_of_items}
 use Rattle.at_query.specs.declared.features.TextPair.{TextPair}
 use Rattle.at_query.specs.declared.features.Feature.{Feature}
-use Rattle.at_geojson.specs.declared.kinds.Kind.TheVariants.{FeatureCollection}
+use Rattle.at_scan.specs.declared.kinds.Kind.TheVariants.{FeatureCollection}
 use Rattle.at_geojson.specs.Names.{member_named, units_of_text, type_of, kind_of, items_of}
 use Rattle.at_geojson.specs.Roles.{item_reading, all_features, root_reading, features_of, role_faults_of}
 use Rattle.at_parts.specs.Moved.{feature_moved, fault_moved, AreMoved}

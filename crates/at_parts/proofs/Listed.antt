@@ -10,8 +10,8 @@ use Rattle.at_nest.proofs.TreeParts.{items_parts, items_made, further_items_part
 use Rattle.at_nest.proofs.OneTree.{head, tail, starts, padded_on}
 use Rattle.at_nest.specs.Twins.{twins_of_items}
 use Rattle.at_query.specs.declared.features.Feature.{Feature}
-use Rattle.at_geojson.specs.declared.kinds.Kind.{Kind}
-use Rattle.at_geojson.specs.declared.kinds.Kind.TheVariants as kinds
+use Rattle.at_scan.specs.declared.kinds.Kind.{Kind}
+use Rattle.at_scan.specs.declared.kinds.Kind.TheVariants as kinds
 use Rattle.at_geojson.specs.Names.{kind_of}
 use Rattle.at_geojson.specs.Roles.{if_feature, item_reading}
 use Rattle.at_parts.specs.Collections.{opening, closing, marker, IsListed}

@@ -12,8 +12,9 @@ use Rattle.at_lex.specs.Strings.{Character, units_of}
 use Rattle.at_nest.specs.Tree.{Tree, array, object, Trees, no_trees, tree_and, Members, no_members, member_and}
 use Rattle.at_nest.specs.Twins.{is_among, twins_of, twins_of_items, twins_of_members}
 use Rattle.at_query.specs.declared.features.Feature.{Feature}
-use Rattle.at_geojson.specs.declared.kinds.Kind.TheVariants.{FeatureCollection}
-use Rattle.at_geojson.specs.Names.{is_named, member_named, units_of_text, type_of, kind_of, kind_of_text, items_of}
+use Rattle.at_scan.specs.declared.kinds.Kind.TheVariants.{FeatureCollection}
+use Rattle.at_geojson.specs.Names.{is_named, member_named, units_of_text, type_of, kind_of, items_of}
+use Rattle.at_scan.specs.Names.{kind_of_text}
 use Rattle.at_geojson.specs.Roles.{Features, all_features, item_reading, features_reading, root_of_kind, root_reading}
 use Rattle.at_parts.proofs.Fronts.{chained, all_members}
 use Rattle.at_parts.proofs.CommaItems.{appended}

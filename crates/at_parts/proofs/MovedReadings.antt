@@ -14,9 +14,10 @@ use Rattle.at_wkt.specs.Geometry as wkt
 use Rattle.at_wkt.specs.Meaning.{both, shape_of, faults_of}
 use Rattle.at_nest.specs.Tree.{Tree, literal, number, text, array, object, Trees, no_trees, tree_and, Members, no_members, member_and, offset_of}
 use Rattle.at_nest.specs.Twins.{is_among, twins_of, twins_of_items, twins_of_members}
-use Rattle.at_geojson.specs.declared.kinds.Kind.{Kind}
-use Rattle.at_geojson.specs.declared.kinds.Kind.TheVariants as kinds
-use Rattle.at_geojson.specs.Names.{is_named, member_named, units_of_text, kind_of_text, kind_of, items_of}
+use Rattle.at_scan.specs.declared.kinds.Kind.{Kind}
+use Rattle.at_scan.specs.declared.kinds.Kind.TheVariants as kinds
+use Rattle.at_geojson.specs.Names.{is_named, member_named, units_of_text, kind_of, items_of}
+use Rattle.at_scan.specs.Names.{kind_of_text}
 use Rattle.at_geojson.specs.Coordinates.{each, array_items, number_at, position_of_numbers, position_of, positions_of, lists_of, if_some_items, area_of, areas_of, geometry_of_form, geometry_of}
 use Rattle.at_geojson.specs.Roles.{GeometryRead, Features, not_geometry, both_read, all_features, texts_of, properties_texts, properties_faults, feature_of, lone_geometry, coordinates_reading, kind_reading, geometry_reading, collection_reading, geometries_reading, items_reading, geometry_member_reading, feature_reading, if_feature, item_reading, features_reading, root_of_kind, root_reading, features_of, role_faults_of}
 use Rattle.at_geojson.specs.Wholes as wholes

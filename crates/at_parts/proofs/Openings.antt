@@ -13,8 +13,9 @@ use Rattle.at_lex.specs.Strings.{Character, plain, is_plain, AreCharacters, unit
 use Rattle.at_nest.specs.Tree.{text, Trees, Members, no_members, member_and, Spells}
 use Rattle.at_nest.proofs.TreeParts.{named_parts, after_parts}
 use Rattle.at_nest.proofs.OneTree.{padded_on}
-use Rattle.at_geojson.specs.declared.kinds.Kind.TheVariants.{FeatureCollection}
-use Rattle.at_geojson.specs.Names.{is_named, member_named, units_of_text, kind_of, kind_of_text}
+use Rattle.at_scan.specs.declared.kinds.Kind.TheVariants.{FeatureCollection}
+use Rattle.at_geojson.specs.Names.{is_named, member_named, units_of_text, kind_of}
+use Rattle.at_scan.specs.Names.{kind_of_text}
 use Rattle.at_parts.specs.Collections.{FirstMembers, OpensFeatures, opening}
 use Rattle.at_parts.proofs.Fronts.{FeaturesBegin, Opened, all_members}
 use Rattle.at_parts.proofs.Wholes.{Front, members_of}

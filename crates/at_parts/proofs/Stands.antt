@@ -11,7 +11,7 @@ use Rattle.at_nest.specs.Twins.{twins_of}
 use Rattle.at_nest.specs.Syntax.{IsFileOf}
 use Rattle.at_nest.proofs.OneTree.{head, clash, one_tree}
 use Rattle.at_query.specs.declared.features.Feature.{Feature}
-use Rattle.at_geojson.specs.declared.kinds.Kind.TheVariants.{FeatureCollection}
+use Rattle.at_scan.specs.declared.kinds.Kind.TheVariants.{FeatureCollection}
 use Rattle.at_geojson.specs.Names.{kind_of}
 use Rattle.at_geojson.specs.Roles.{root_reading, item_reading, features_of, role_faults_of}
 use Rattle.at_run.specs.Files.{AreJsonFeatures}

@@ -14,7 +14,7 @@ use Rattle.at_lex.specs.Strings.{Character, SpellsString}
 use Rattle.at_nest.specs.Tree.{object, Members, no_members, member_and, Padded, WithName, Spells}
 use Rattle.at_nest.specs.Syntax.{IsFileOf, HasJsonFault}
 use Rattle.at_query.specs.declared.features.Feature.{Feature}
-use Rattle.at_geojson.specs.declared.kinds.Kind.TheVariants.{FeatureCollection}
+use Rattle.at_scan.specs.declared.kinds.Kind.TheVariants.{FeatureCollection}
 use Rattle.at_geojson.specs.Names.{is_named, member_named, kind_of}
 use Rattle.at_run.specs.Files.{AreJsonFeatures}
 use Rattle.at_run.specs.JsonFiles.{HasJsonFileFault}

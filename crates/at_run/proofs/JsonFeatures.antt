@@ -24,8 +24,8 @@ use Rattle.at_nest.proofs.OneTree.{one_tree}
 use Rattle.at_query.specs.declared.features.Feature.{Feature}
 use Rattle.at_query.specs.Ranges.{IsFeatureInRange, AreFeaturesInRange}
 use Rattle.at_query.specs.Parts.{AreRingsClosed, AreRising, IsProperFeature, AreProperFeatures}
-use Rattle.at_geojson.specs.declared.kinds.Kind.{Kind}
-use Rattle.at_geojson.specs.declared.kinds.Kind.TheVariants as kinds
+use Rattle.at_scan.specs.declared.kinds.Kind.{Kind}
+use Rattle.at_scan.specs.declared.kinds.Kind.TheVariants as kinds
 use Rattle.at_geojson.specs.Names.{is_named, member_named, kind_of, items_of}
 use Rattle.at_geojson.specs.Coordinates.{geometry_of}
 use Rattle.at_geojson.specs.Roles.{GeometryRead, not_geometry, both_read, Features, not_features, all_features, feature_of, properties_texts, properties_faults, coordinates_reading, kind_reading, geometry_reading, collection_reading, geometries_reading, items_reading, geometry_member_reading, feature_reading, if_feature, item_reading, features_reading, root_of_kind, root_reading, features_of, role_faults_of}

@@ -19,8 +19,8 @@ use Rattle.at_nest.specs.Syntax.{IsFileOf}
 use Rattle.at_nest.proofs.TreeParts.{padded_parts, padded_made, after_parts, named_behind, array_parts, object_parts, text_parts}
 use Rattle.at_query.specs.declared.features.Feature.{Feature}
 use Rattle.at_query.specs.Results.{all_positions}
-use Rattle.at_geojson.specs.declared.kinds.Kind.{Kind}
-use Rattle.at_geojson.specs.declared.kinds.Kind.TheVariants as kinds
+use Rattle.at_scan.specs.declared.kinds.Kind.{Kind}
+use Rattle.at_scan.specs.declared.kinds.Kind.TheVariants as kinds
 use Rattle.at_geojson.specs.Names.{is_named, member_named, kind_of, items_of}
 use Rattle.at_geojson.specs.Coordinates.{each, array_items, number_at, position_of_numbers, position_of, positions_of, lists_of, if_some_items, area_of, areas_of, geometry_of_form, geometry_of}
 use Rattle.at_geojson.specs.Roles.{GeometryRead, not_geometry, both_read, all_features, feature_of, properties_texts, coordinates_reading, kind_reading, geometry_reading, collection_reading, geometries_reading, items_reading, geometry_member_reading, feature_reading, if_feature, item_reading, features_reading, root_of_kind, features_of}

@@ -16,7 +16,7 @@ use Rattle.at_nest.proofs.Passed.{items_none, items_on, items_end, items_empty, 
 use Rattle.bench_nest.specs.declared.passing.Passed.{Passed}
 use Rattle.bench_nest.specs.Nodes.{nodes_of, nodes_of_items, nodes_of_members, IsAny, CountsNodes}
 use Rattle.bench_nest.specs.Passed.{IsPassed, IsPassedText, IsPassedItem, IsPassedName, nodes_in, nodes_in_members, AreItemsCounted, AreMembersCounted}
-use Rattle.at_geojson.proofs.ValueParts.{some_bytes, end_fits, no_empty_number, no_empty_string}
+use Rattle.at_scan.proofs.Taken.{some_bytes, end_fits, no_empty_number, no_empty_string}
 use Rattle.at_wkt.proofs.NumberSteps.{rest_part}
 
 -- ---- bytes that were taken from a place on

@@ -1,6 +1,6 @@
 -- Between features: those before were read.
 use Rattle.std.proofs.Common.{◌-◌, length}
-use Rattle.at_geojson.specs.Members.{ArePlainOthers}
+use Rattle.at_scan.specs.Members.{ArePlainOthers}
 use Rattle.at_geojson.specs.FeatureRuns.{AreFeaturesRead}
 use Rattle.at_geojson.proofs.feature_runs.read_features.Given as goal
 

@@ -1,5 +1,5 @@
 use Rattle.std.proofs.Common.{◌∙◌, ap}
-use Rattle.at_geojson.specs.Fields.{field_of}
+use Rattle.at_scan.specs.Fields.{field_of}
 use Rattle.at_geojson.proofs.FieldFolds.{fields_more}
 use Rattle.at_geojson.proofs.fields.fields_of.Goals as goal
 

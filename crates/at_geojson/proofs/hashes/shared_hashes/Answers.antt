@@ -2,8 +2,8 @@ use Rattle.std.proofs.Common.{map, sym, subst}
 use Rattle.std.specs.List.Sorted.{IsNonDecreasing, IsPermutation}
 use Rattle.std.proofs.lemmas.List.Sorted.{IsNonDecreasingBy-from_sort}
 use Rattle.std.proofs.lemmas.Result.{IfOk-weaker}
+use Rattle.at_scan.proofs.Repeats.{repeated_in_any_order}
 use Rattle.at_geojson.specs.Hashes.{member_hash}
-use Rattle.at_geojson.proofs.Repeats.{repeated_in_any_order}
 use Rattle.at_geojson.proofs.hashes.shared_hashes.Goals as goal
 
 pub repeated-requires : goal.repeated-requires

@@ -1,6 +1,7 @@
 -- A number behind white space: its value is there, and isn't computed.
 use Rattle.std.proofs.Common.{true, refl, arith}
-use Rattle.at_geojson.proofs.ValueParts.{number_taken, value_taken}
+use Rattle.at_scan.proofs.Taken.{number_taken}
+use Rattle.at_geojson.proofs.ValueParts.{value_taken}
 use Rattle.at_geojson.proofs.pairs.pass_plain.Goals as goal
 
 pub returns : goal.returns

@@ -1,6 +1,6 @@
 -- A number is a scalar.
 use Rattle.std.proofs.Common.{true, refl, inr}
-use Rattle.at_geojson.proofs.ValueParts.{number_taken}
+use Rattle.at_scan.proofs.Taken.{number_taken}
 use Rattle.at_geojson.proofs.passing.pass_number.Goals as goal
 
 pub returns : goal.returns

@@ -1,6 +1,6 @@
 -- A short name of a kind.
 use Rattle.std.proofs.Common.{sym, ◌∙◌}
-use Rattle.at_geojson.proofs.KnownNames.{simple_read}
+use Rattle.at_geojson.proofs.KindReads.{simple_read}
 use Rattle.at_geojson.proofs.plain_geometries.any_kind.Goals as goal
 
 pub returns-in-Some-kind_of : goal.returns-in-Some-kind_of

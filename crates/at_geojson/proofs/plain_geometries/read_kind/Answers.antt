@@ -1,5 +1,5 @@
 -- The name that was looked at as a whole word is that of the kind.
-use Rattle.at_geojson.proofs.KnownNames.{kind_named}
+use Rattle.at_geojson.proofs.KindReads.{kind_named}
 use Rattle.at_geojson.proofs.plain_geometries.read_kind.Goals as goal
 
 pub returns : goal.returns

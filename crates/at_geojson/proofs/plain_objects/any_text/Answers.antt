@@ -1,8 +1,8 @@
 -- Any value of a member for whose name a test may ask.
 use Rattle.std.proofs.Common.{◌+◌, refl, ◌∙◌, ap}
 use Rattle.at_query.specs.declared.query.queries.Query.{Query}
+use Rattle.at_scan.specs.Members.{name_in}
 use Rattle.at_geojson.specs.Atoms.{as_text}
-use Rattle.at_geojson.specs.Members.{name_in}
 use Rattle.at_geojson.proofs.MemberReads.{no_twin_in}
 use Rattle.at_geojson.proofs.TextReads.{met_by_is}
 use Rattle.at_geojson.proofs.plain_objects.any_text.Goals as goal

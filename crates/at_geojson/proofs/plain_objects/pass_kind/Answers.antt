@@ -1,8 +1,8 @@
 -- A short text that names no kind.
 use Rattle.std.proofs.Common.{◌+◌, refl, sym, ◌∙◌, ap}
 use Rattle.at_query.specs.declared.query.queries.Query.{Query}
-use Rattle.at_geojson.specs.Members.{name_in}
-use Rattle.at_geojson.proofs.KnownNames.{simple_read}
+use Rattle.at_scan.specs.Members.{name_in}
+use Rattle.at_geojson.proofs.KindReads.{simple_read}
 use Rattle.at_geojson.proofs.MemberReads.{none_there}
 use Rattle.at_geojson.proofs.TextReads.{met_is}
 use Rattle.at_geojson.proofs.plain_objects.pass_kind.Goals as goal

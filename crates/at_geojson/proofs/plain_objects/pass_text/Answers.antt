@@ -2,8 +2,8 @@
 use Rattle.std.proofs.Common.{refl, ◌∙◌, ap, arith}
 use Rattle.std.proofs.lemmas.Result.{IfOk-weaker}
 use Rattle.at_query.specs.declared.query.queries.Query.{Query}
+use Rattle.at_scan.specs.Members.{name_in}
 use Rattle.at_geojson.specs.Atoms.{as_text}
-use Rattle.at_geojson.specs.Members.{name_in}
 use Rattle.at_geojson.proofs.TextReads.{none_met_of}
 use Rattle.at_geojson.proofs.plain_objects.pass_text.Goals as goal
 

@@ -1,8 +1,8 @@
 use Rattle.std.proofs.Common.{◌≡◌, ◌+◌, Contains, drop, take, sym, ◌∙◌, ap, subst}
 use Rattle.std.proofs.lemmas.Bool.{both_ways}
 use Rattle.at_text.specs.Faults.{first_fault}
+use Rattle.at_scan.specs.Hashes.{name_hash}
 use Rattle.at_geojson.specs.Gathering.{is_among, twin_at, member_twins}
-use Rattle.at_geojson.specs.Hashes.{name_hash}
 use Rattle.at_geojson.proofs.TwinSteps.{HasNames, one_member_more, set_more, set_kept, no_twin, negated}
 use Rattle.at_geojson.proofs.twins.first_twin_of_many.Goals as goal
 use Rattle.at_geojson.proofs.twins.first_twin_of_many.Goals.{then-has_hash_among+in_ok-is_twin, else-has_hash_among}

@@ -2,12 +2,13 @@
 use Rattle.std.proofs.Common.{[], ◌∷◌, ◌++◌, All, refl, sym, subst, arith, ◌+◌}
 use Rattle.std.proofs.lemmas.Result.{IfOk-weaker}
 use Rattle.at_nest.specs.declared.algebra.Member.{Member}
+use Rattle.at_scan.specs.Members.{name_in}
+use Rattle.at_scan.proofs.Taken.{name_text, name_units}
 use Rattle.at_geojson.specs.declared.atoms.GeoAtom.{GeoAtom}
 use Rattle.at_geojson.specs.declared.pairs.Whole.{Whole}
 use Rattle.at_geojson.specs.Atoms.{IsOwn}
 use Rattle.at_geojson.specs.Values.{AreItemsRead, AreMembersRead, EndsArray, EndsObject}
-use Rattle.at_geojson.specs.Members.{name_in}
-use Rattle.at_geojson.proofs.ValueParts.{member_of, pair_whole, items_begin, items_go_on, items_own, array_read, empty_read, name_text, name_units, members_begin, members_go_on, members_own, object_read, void_read}
+use Rattle.at_geojson.proofs.ValueParts.{member_of, pair_whole, items_begin, items_go_on, items_own, array_read, empty_read, members_begin, members_go_on, members_own, object_read, void_read}
 use Rattle.at_geojson.proofs.FieldFolds.{own_fields}
 use Rattle.at_geojson.proofs.MemberReads.{no_twin_in, field_passed, fields_begin, longer_fields, fields_go_on, ends_fields, ends_longer, no_texts}
 use Rattle.at_geojson.proofs.values.+values.Goals as goal

@@ -2,7 +2,8 @@
 use Rattle.std.proofs.Common.{rules, w64, true, refl, ◌+◌}
 use Rattle.std.specs.Prelude.{FitsSigned}
 use Rattle.std.proofs.lemmas.Int.{to_z-of_z}
-use Rattle.at_geojson.proofs.ValueParts.{number_taken, value_taken, number_read}
+use Rattle.at_scan.proofs.Taken.{number_taken}
+use Rattle.at_geojson.proofs.ValueParts.{value_taken, number_read}
 use Rattle.at_geojson.proofs.values.read_number.Goals as goal
 
 pub returns-in-Some : goal.returns-in-Some

@@ -1,5 +1,6 @@
 -- A whole string.
-use Rattle.at_geojson.proofs.ValueParts.{string_taken, string_read}
+use Rattle.at_scan.proofs.Taken.{string_taken}
+use Rattle.at_geojson.proofs.ValueParts.{string_read}
 use Rattle.at_geojson.proofs.values.short_string.Goals as goal
 
 pub plain_text_atom-requires-clause-string : goal.plain_text_atom-requires-clause-string

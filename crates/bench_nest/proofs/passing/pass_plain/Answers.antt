@@ -3,7 +3,7 @@ use Rattle.std.proofs.Common.{true, refl, ◌+◌}
 use Rattle.at_fixed.specs.Numerals.{JsonNumber}
 use Rattle.bench_nest.proofs.PassedParts.{number_passed, item_ended}
 use Rattle.bench_nest.proofs.passing.pass_plain.Goals as goal
-use Rattle.at_geojson.proofs.ValueParts.{taken_whole}
+use Rattle.at_scan.proofs.Taken.{taken_whole}
 
 pub returns : goal.returns
 returns c =

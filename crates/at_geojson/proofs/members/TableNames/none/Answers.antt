@@ -1,4 +1,0 @@
-use Rattle.at_geojson.proofs.members.TableNames.none.Goals as goal
-
-pub returns : goal.returns
-returns c w = record { own = c.none.ensures.plain w; properties = c.none-2.ensures.plain w }

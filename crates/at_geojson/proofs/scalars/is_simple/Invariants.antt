@@ -1,7 +1,0 @@
-use Rattle.std.proofs.Common.{◌≡◌, drop}
-use Rattle.std.specs.List.{list_all}
-use Rattle.at_geojson.specs.Gathering.{is_simple}
-use Rattle.at_geojson.proofs.scalars.is_simple.Given as goal
-
-abbrev pub invariant-loop-b : goal.invariant-loop-b
-invariant-loop-b l = list_all is_simple (drop l.b-index l.text) ≡ list_all is_simple l.text

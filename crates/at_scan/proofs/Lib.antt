@@ -1,0 +1,9 @@
+pub mod Taken
+pub mod Spaces
+pub mod SimpleTexts
+pub mod ShortStrings
+pub mod FieldNames
+pub mod KnownNames
+pub mod OtherNamesMore
+pub mod Repeats
+pub mod Moved

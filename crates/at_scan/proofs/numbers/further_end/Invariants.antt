@@ -1,0 +1,10 @@
+-- Further numbers were passed over.
+use Rattle.std.proofs.Common.{◌-◌, ℕ, ◌≤◌, List, length}
+use Rattle.at_scan.specs.Numbers.{AreFurther}
+use Rattle.at_scan.proofs.numbers.further_end.Given as goal
+
+abbrev pub invariant-further : goal.invariant-further
+invariant-further l = record { order : l.at ≤ l.end; within : l.end ≤ length l.text; places : List ℕ; further : AreFurther l.text l.at places l.end }
+
+abbrev pub decreases-further : goal.decreases-further
+decreases-further l = length l.text - l.end

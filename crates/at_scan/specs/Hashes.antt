@@ -1,0 +1,25 @@
+-- Hashes of names, by which equal names are looked for.
+use Rattle.std.specs.Prelude.{ℕ, ◌+◌, ◌-◌, ◌*◌, ◌%◌, ◌^◌, ◌≤◌, ◌==◌, List, length, drop, fold, count_by, Contains}
+use Rattle.std.specs.List.Sorted.{IsNonDecreasing}
+use Rattle.at_scan.specs.declared.hashes.TheConstants.{SPREAD}
+
+-- the hash of the units before, and of one unit more
+abbrev pub hash_more : ℕ → ℕ → ℕ
+hash_more hash unit = ((hash + unit) % 2 ^ 64 * SPREAD) % 2 ^ 64
+
+-- the hash of a name
+unfoldable pub name_hash : List ℕ → ℕ
+name_hash name = fold hash_more 1 name
+
+-- the hash of the last bytes of a name
+abbrev pub tail_hash : List ℕ → ℕ
+tail_hash name = name_hash (drop (length name - 4) name)
+
+-- how often a number stands in a list
+abbrev pub times : ℕ → List ℕ → ℕ
+times n numbers = count_by (λ x. x == n) numbers
+
+-- numbers that rise, among which are all that stand more than once in a list
+pub record HaveRepeated (numbers found : List ℕ) : Type 0 where
+  pub rise : IsNonDecreasing found
+  pub all : (n : ℕ) → 2 ≤ times n numbers → Contains found n
