@@ -1,31 +1,35 @@
 -- Where files have an answer, the gate gave up none of their blocks, and no cell.
 -- For `top`.
-use Rattle.std.proofs.Common.{◌≡◌, ℕ, ◌-◌, List, length, Option, Some, None, Result, Ok, Err, IfOk, sym, ◌∙◌, subst, arith}
+use Rattle.std.proofs.Common.{◌≡◌, ℕ, ◌+◌, ◌-◌, List, length, Option, Some, None, Result, Ok, Err, IfOk, sym, ◌∙◌, subst, arith}
 use Rattle.std.proofs.lemmas.Option.{none-some}
 use Rattle.at_query.specs.declared.answer.answers.Answer.{Answer}
 use Rattle.at_run.specs.declared.faults.RunFault.{RunFault}
 use Rattle.at_run.specs.declared.faults.RunFault.TheVariants.{Memory}
 use Rattle.at_run.specs.declared.faults.JoinFault.{JoinFault}
-use Rattle.at_run.specs.Places.{AreEven}
+use Rattle.at_run.specs.Places.{IsLeastCount}
 use Rattle.at_run.specs.Blocks.{NoneGivenUp, SomeGivenUp}
 use Rattle.at_cli.specs.declared.words.line.Line.{Line}
 use Rattle.at_cli.specs.Gates.{PassesCells, PassesGate}
 
-pub gate_passed : (line : Line) (given_up places : List ℕ) (base len : ℕ) (result : Result Answer RunFault) → AreEven base len line.blocks places
+-- there is one place more than the least count of blocks that serves
+abbrev IsCounted : ℕ → List ℕ → Type 0
+IsCounted blocks places = (count : ℕ) × IsLeastCount blocks count × (length places ≡ count + 1)
+
+pub gate_passed : (line : Line) (given_up places : List ℕ) (result : Result Answer RunFault) → IsCounted line.blocks places
     → (SomeGivenUp given_up 0 (length places - 1) → result ≡ Err Memory) → line.second ≡ None → IfOk result (λ _. PassesGate given_up line)
-gate_passed line given_up places base len (Ok answer) even f none =
-    ((λ _. (even.count, even.least, λ n low high h. absurd (let c = even.counted in let e = f (n, low, omega (arith, c, high), h) in cc))), subst (PassesCells given_up) (sym none) tt)
-gate_passed line given_up places base len (Err end) even f none = tt
+gate_passed line given_up places (Ok answer) (count, least, counted) f none =
+    ((λ _. (count, least, λ n low high h. absurd (let e = f (n, low, omega (arith, counted, high), h) in cc))), subst (PassesCells given_up) (sym none) tt)
+gate_passed line given_up places (Err end) is f none = tt
 
 no_cell : (given_up : List ℕ) (second : Option (List ℕ)) → NoneGivenUp given_up 0 64 → PassesCells given_up second
 no_cell given_up None h = tt
 no_cell given_up (Some second) h = h
 
-pub pair_passed : (line : Line) (given_up places : List ℕ) (base len : ℕ) (result : Result Answer JoinFault) → AreEven base len line.blocks places
+pub pair_passed : (line : Line) (given_up places : List ℕ) (result : Result Answer JoinFault) → IsCounted line.blocks places
     → IfOk result (λ _. NoneGivenUp given_up 0 (length places - 1)) → IfOk result (λ _. NoneGivenUp given_up 0 64) → IfOk result (λ _. PassesGate given_up line)
-pair_passed line given_up places base len (Ok answer) even blocks cells =
-    ((λ _. (even.count, even.least, λ n low high h. let c = even.counted in blocks n low (omega (arith, c, high)) h)), no_cell given_up line.second cells)
-pair_passed line given_up places base len (Err end) even blocks cells = tt
+pair_passed line given_up places (Ok answer) (count, least, counted) blocks cells =
+    ((λ _. (count, least, λ n low high h. blocks n low (omega (arith, counted, high)) h)), no_cell given_up line.second cells)
+pair_passed line given_up places (Err end) is blocks cells = tt
 
 -- what is read in chunks is cut into no blocks
 chunks_passed : (line : Line) (given_up : List ℕ) (size : ℕ) → line.feed ≡ Some size → PassesCells given_up line.second → PassesGate given_up line

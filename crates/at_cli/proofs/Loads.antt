@@ -1,8 +1,7 @@
 -- What is loaded, and the ends to which it may lead.
 -- For `top`.
-use Rattle.std.proofs.Common.{◌≡◌, ◌≢◌, ◌⊎◌, ◌∙◌, ℕ, List, Option, Some, Result, Ok, Err, IfOk, MatchResult, inl, inr, refl, sym, ap, subst, arith}
+use Rattle.std.proofs.Common.{◌≡◌, ℕ, List, Some, Result, Ok, Err, IfOk, MatchResult, inl, inr, sym, subst}
 use Rattle.std.specs.Prelude.{IsOk}
-use Rattle.at_text.specs.declared.faults.Fault.{Fault}
 use Rattle.at_query.specs.declared.query.queries.Query.{Query}
 use Rattle.at_query.specs.declared.answer.answers.Answer.{Answer}
 use Rattle.at_run.specs.Answers.{IfFound}
@@ -16,8 +15,8 @@ use Rattle.at_cli.specs.declared.outcome.loading.Loaded.{Loaded}
 use Rattle.at_cli.specs.declared.outcome.loading.Loaded.TheVariants.{Ended, One, Two}
 use Rattle.at_cli.specs.Answers.{HasFaultAs, IsAnswerAs, IsJoinAs, IsJoinFaultAs}
 use Rattle.at_cli.specs.LineOf.{SaysLine, form_of}
-use Rattle.at_cli.specs.Endings.{status_of, EndsBytes, EndsPair}
-use Rattle.at_cli.specs.Gates.{PassesGate, PassesSaid}
+use Rattle.at_cli.specs.Endings.{EndsBytes, EndsPair}
+use Rattle.at_cli.specs.Gates.{PassesSaid}
 use Rattle.at_cli.specs.Loading.{Leads, OnEnd, IfLoaded, IsEndOf, IsEndOfJoin, PassesLoaded}
 
 -- ---- each end

@@ -24,3 +24,4 @@ pub mod JsonEnds
 pub mod OneAnswer
 pub mod JoinedFiles
 pub mod JoinEnds
+mod MovedCuts

@@ -27,6 +27,7 @@ mod blocks;
 mod cuts;
 mod encodings;
 mod faults;
+mod feature_cuts;
 mod forms;
 mod gathered;
 mod jobs;

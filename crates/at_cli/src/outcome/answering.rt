@@ -1,9 +1,11 @@
 //! The end over the bytes of the files that were read, in blocks or in chunks.
 
-ghost use Rattle.std.specs.Prelude.{◌≡◌, ◌≢◌, ◌≤◌, ◌^◌, List, ℕ, length, Some, None, IsSome, IsOk, IfOk, MatchResult};
+ghost use Rattle.std.specs.Prelude.{◌≡◌, ◌≢◌, ◌+◌, ◌≤◌, ◌^◌, List, ℕ, length, Some, None, IsSome, IsOk, IfOk, MatchResult};
 ghost use Rattle.at_query.specs.declared.query.queries.Verb.{Verb};
 ghost use Rattle.at_query.specs.Ranges.{IsQueryInRange};
 ghost use Rattle.at_run.specs.Answers.{IfFound};
+ghost use Rattle.at_run.specs.Places.{IsLeastCount, first_place, last_place};
+ghost use Rattle.at_text.specs.Texts.{base_of as text_begin};
 ghost use Rattle.at_cli.specs.Answers.{HasFaultAs, IsAnswerAs, IsJoinAs, IsJoinFaultAs};
 ghost use Rattle.at_cli.specs.LineOf.{form_of as form_told, KeepsLimits};
 ghost use Rattle.at_cli.specs.Gates.{PassesGate};
@@ -15,16 +17,32 @@ use crate::outcome::ending::Ending;
 use crate::outcome::feeding::{fed_answer, fed_join, form_to_feed};
 use crate::outcome::files::{answer_as, join_as};
 use crate::outcome::loading::{Loaded, OneFile, TwoFiles, second_of, second_text};
-use crate::words::form::form_of;
+use crate::words::form::{FileForm, form_of};
 use crate::words::line::Line;
 use at_crew::Gate;
 use at_query::{Answer, Query, answer_text};
 use at_run::{Cuts, JoinFault, RunFault};
-use at_text::base_of;
+use at_text::{Memory, base_of};
 use std::alloc::{AllocGlobal, Global};
 use std::random::RandomSource;
 use std::sync::Wait;
 use std::thread::Threads;
+
+/// The cuts of a file into at least so many blocks: even ones, which in GeoJSON are moved to where features seem to begin.
+fn cuts_of(alloc: Global, bytes: &[u8], form: FileForm, blocks: u32) -> Result<Cuts, Memory>
+    requires limit { length bytes.now ≤ 2 ^ 28 }
+    requires blocks { (1 ≤ blocks) × (blocks ≤ 4096) }
+    ensures first { IfOk result (λ cuts. first_place cuts ≡ text_begin bytes.now) }
+    ensures last { IfOk result (λ cuts. last_place cuts ≡ length bytes.now) }
+    ensures count { IfOk result (λ cuts. (count : ℕ) × IsLeastCount blocks count × (length cuts ≡ count + 1)) }
+{
+    let cuts = Cuts::even(alloc, base_of(bytes), bytes.len() as u32, blocks)?;
+    match form {
+        FileForm::GeoJson => Ok(cuts.near_features(bytes)),
+        FileForm::Wkt => Ok(cuts),
+        FileForm::Seq => Ok(cuts),
+    }
+}
 
 /// The answer to a query over the bytes of the line's file, cut into the blocks that the words ask for.
 fn answer_in_blocks<G: Gate, R: Threads + Sync>(
@@ -46,10 +64,10 @@ fn answer_in_blocks<G: Gate, R: Threads + Sync>(
         bytes.now (Some fault))) }
     ensures passes { IfOk result (λ _. PassesGate (G.given_up gate.now) line.now) }
 {
-    let Ok(cuts) = Cuts::even(alloc, base_of(bytes), bytes.len() as u32, line.blocks) else {
+    let form = form_of(line, line.first.as_str());
+    let Ok(cuts) = cuts_of(alloc, bytes, form, line.blocks) else {
         return Err(RunFault::Memory);
     };
-    let form = form_of(line, line.first.as_str());
     let (digits, how, workers) = (line.digits, line.how, line.workers);
     answer_as(
         rt, alloc, bytes, form, &cuts, query, digits, how, workers, gate,
@@ -103,19 +121,21 @@ fn join_in_blocks<G: Gate, R: Threads + Sync>(
         a.now b.now) }
     ensures passes { IfOk result (λ _. PassesGate (G.given_up gate.now) line.now) }
 {
-    let Ok(cuts_a) = Cuts::even(alloc, base_of(a), a.len() as u32, line.blocks) else {
+    let form_a = form_of(line, line.first.as_str());
+    let form_b = form_of(line, second_text(line));
+    let Ok(cuts_a) = cuts_of(alloc, a, form_a, line.blocks) else {
         return Err(JoinFault::Memory);
     };
-    let Ok(cuts_b) = Cuts::even(alloc, base_of(b), b.len() as u32, line.blocks) else {
+    let Ok(cuts_b) = cuts_of(alloc, b, form_b, line.blocks) else {
         return Err(JoinFault::Memory);
     };
     join_as(
         rt,
         alloc,
         a,
-        form_of(line, line.first.as_str()),
+        form_a,
         b,
-        form_of(line, second_text(line)),
+        form_b,
         &cuts_a,
         &cuts_b,
         query,

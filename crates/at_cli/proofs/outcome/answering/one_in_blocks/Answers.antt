@@ -1,4 +1,4 @@
-use Rattle.std.proofs.Common.{◌≡◌, List, ℕ, Some, MatchResult, subst}
+use Rattle.std.proofs.Common.{List, ℕ, Some, MatchResult, subst}
 use Rattle.at_run.specs.Answers.{IfFound}
 use Rattle.at_cli.specs.Answers.{HasFaultAs, IsAnswerAs}
 use Rattle.at_cli.specs.LineOf.{form_of}

@@ -1,4 +1,4 @@
-use Rattle.std.proofs.Common.{◌≡◌, List, ℕ, MatchResult, subst}
+use Rattle.std.proofs.Common.{List, ℕ, MatchResult, subst}
 use Rattle.at_cli.specs.Answers.{IsJoinAs, IsJoinFaultAs}
 use Rattle.at_cli.specs.LineOf.{form_of}
 use Rattle.at_cli.specs.Gates.{PassesGate}
