@@ -631,6 +631,31 @@ fn lists_of_places(rt: HostRuntime) -> Result<(), Fail> {
     Ok(())
 }
 
+/// A feature by its type, an object that is none, and three that begin as features do, one of them on a line of its own.
+const OBJECTS: &[u8] =
+    b"[{\"type\":\"Feature\"},{\"a\":1},{\"id\":2} ,\n {\"bbox\":[]},{\"properties\":0}]";
+
+/// Whether these cuts of the objects, moved to where features seem to begin, are those.
+fn are_moved(alloc: Global, places: &[u32], expected: &[u32]) -> Result<bool, AllocError> {
+    let Some(cuts) = Cuts::from_places(Vec::from_slice(alloc, places)?) else {
+        return Ok(false);
+    };
+    if cuts.last() as usize > OBJECTS.len() {
+        return Ok(false);
+    }
+    Ok(cuts.near_features(OBJECTS).as_slice() == expected)
+}
+
+#[test]
+fn cuts_near_features(rt: HostRuntime) -> Result<(), Fail> {
+    let alloc = rt.alloc();
+    assert!(rt; are_moved(alloc, &[0, 5, 30, 45, 69], &[0, 27, 37, 51, 69])?);
+    assert!(rt; are_moved(alloc, &[0, 27, 38, 41, 69], &[0, 27, 38, 51, 69])?);
+    assert!(rt; are_moved(alloc, &[0, 69], &[0, 69])?);
+    assert!(rt; are_moved(alloc, &[0, 0, 0, 69, 69], &[0, 0, 27, 69, 69])?);
+    Ok(())
+}
+
 /// A gate that gives up one block.
 #[derive(Drop)]
 struct Without {
