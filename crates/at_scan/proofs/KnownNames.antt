@@ -1,4 +1,4 @@
--- Words that are looked at sixteen bytes together, and the names of members that they are. For `items` and `value`.
+-- Words that are looked at sixteen bytes together, and the names of members that they are. For `field_name`, `next_name` and `known_kind`.
 use Rattle.std.proofs.Common.{◌≡◌, ℕ, ◌+◌, ◌-◌, ◌<◌, ◌≤◌, ◌%◌, ◌^◌, Bool, true, false, not, cond, eqb, List, map, take, drop, length, get_or, slice_index, refl, sym, ◌∙◌, ap, subst, arith}
 use Rattle.std.proofs.lemmas.Bool.{eqb-true, true≢false}
 use Rattle.std.proofs.lemmas.Grind.{same_number_lists}

@@ -1,5 +1,5 @@
 -- The numbers that stand more than once in a list that rises.
--- For `object` and `value`.
+-- For `repeated`.
 use Rattle.std.proofs.Common.{◌≡◌, ◌⊎◌, inl, inr, ℕ, ◌+◌, ◌-◌, ◌==◌, ◌<◌, ◌≤◌, cond, List, All, Contains, length, take, get_or, sym, subst, arith}
 use Rattle.std.specs.List.Sorted.{IsNonDecreasing, IsPermutation}
 use Rattle.std.proofs.lemmas.Bool.{cases_eq, ne_eqb, eq-eqb}

@@ -1,5 +1,5 @@
 -- Bytes of ASCII that stand for themselves, between quotes, are a string in which each byte stands for the unit of its own number.
--- For `value`.
+-- For `short_text_end` and `known_kind`.
 use Rattle.std.proofs.Common.{◌≡◌, ℕ, zero, suc, ◌+◌, ◌-◌, ◌<◌, ◌≤◌, ◌&&◌, true, List, [], ◌∷◌, ◌++◌, length, slice_index, flat_map, refl, sym, ◌∙◌, ap, subst, arith}
 use Rattle.std.specs.List.{list_all}
 use Rattle.std.proofs.lemmas.Bool.{and_parts}

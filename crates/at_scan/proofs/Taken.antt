@@ -1,5 +1,5 @@
 -- Words that were taken from a place of a text on, and the bytes from one place to another.
--- For what reads strings and numbers.
+-- For `text_end`, `name_place` and `position_end`.
 use Rattle.std.proofs.Common.{◌++◌, ◌≡◌, ℕ, zero, suc, ◌+◌, ◌-◌, ◌<◌, ◌≤◌, true, List, [], ◌∷◌, length, take, drop, refl, sym, ◌∙◌, ap, subst, arith}
 use Rattle.std.proofs.lemmas.List.{length-drop, drop-take}
 use Rattle.at_text.specs.Prefix.{TakesLongest}
