@@ -464,11 +464,17 @@ def terminal_check(folder: str) -> Check:
     return "command: a terminal", None if is_right and told.endswith("\r\x1b[K") else repr((done.stdout, told))
 
 
+def heed_interrupts() -> None:
+    """Has a new process end by an interrupt, also where this one was started in the background, which heeds none."""
+    signal.signal(signal.SIGINT, signal.SIG_DFL)
+
+
 def interrupt_check(folder: str) -> Check:
     """That a run that is interrupted while the program works ends with its status, and says nothing."""
     env = flaky(folder, 999, "sleep 60")
     with subprocess.Popen([sys.executable, TOOL, "count", put(folder, "i.wkt", "POINT (1 2)\n")], env=env,
-                          stdout=subprocess.PIPE, stderr=subprocess.PIPE, start_new_session=True) as run:
+                          stdout=subprocess.PIPE, stderr=subprocess.PIPE, start_new_session=True,
+                          preexec_fn=heed_interrupts) as run:
         end = time.monotonic() + 60
         while os.path.getsize(env["STATE"]) == 0 and time.monotonic() < end:
             time.sleep(0.05)
