@@ -1,3 +1,3 @@
 pub mod Filtering
-mod FilteredFiles
+pub mod FilteredFiles
 mod Places

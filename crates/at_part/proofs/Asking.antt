@@ -1,12 +1,17 @@
 -- What words ask for, and what is said of files behind the filter that they name.
-use Rattle.std.proofs.Common.{◌≡◌, ℕ, Bool, true, false, if◌then◌else◌, bytes_eq, codes, List, [], ◌∷◌, Option, Some, None, IfSome, option_map, unwrap_or, ◌-◌, map, take, drop, length, slice_get, Contains, ◌++◌, ◌⊎◌, inl, inr, arith, refl, sym, ◌∙◌, ap, subst}
+use Rattle.std.proofs.Common.{◌≡◌, ℕ, Bool, true, false, if◌then◌else◌, bytes_eq, codes, List, [], ◌∷◌, Option, Some, None, IfSome, option_map, unwrap_or, ◌-◌, map, take, drop, length, slice_get, ◌++◌, ◌⊎◌, inl, inr, refl, sym, ◌∙◌, ap, subst}
 use Rattle.std.proofs.lemmas.List.{take_rest}
-use Rattle.std.proofs.lemmas.List.Elements.{Contains-append_right, Contains-get_or}
 use Rattle.std.proofs.lemmas.Slice.Eq.{bytes_eq-Decides}
-use Rattle.at_io.specs.Files.{Files}
+use Rattle.std.proofs.Common.{◌≤◌, ◌+◌, ◌*◌, ◌^◌}
+use Rattle.at_io.specs.Files.{Files, bytes_named, name_among}
+use Rattle.at_io.specs.Counts.{Rose}
+use Rattle.at_cli.specs.Failures.{Meanings, FailedOn, HaveSized, last_begun, begun_with}
+use Rattle.at_filter.specs.declared.filter.Seen.TheVariants.{Nothing}
+use Rattle.at_filter.proofs.Filtering.{as_many}
+use Rattle.at_filter.proofs.FilteredFiles.{named_of_filtered, name_of_filtered}
 use Rattle.at_filter.specs.declared.filter.Filter.{Filter}
 use Rattle.at_filter.specs.declared.filter.Filter.TheVariants.{Lines, Items}
-use Rattle.at_filter.specs.Filters.{filtered_files}
+use Rattle.at_filter.specs.Filters.{filtered, filtered_files}
 use Rattle.at_part.specs.Words.{word_of, filter_of}
 
 -- the filter of a word has that word, and each word of a filter is that filter's
@@ -52,10 +57,6 @@ behind_complete k f words rest files other r Q is same e (inr (inl h)) = inr (in
 behind_complete k f words rest files other r Q is same e (inr (inr (inl h))) = inr (inr (inl h))
 behind_complete k f words rest files other r Q is same e (inr (inr (inr h))) = inr (inr (inr (behind k f words rest files other Q is same e h)))
 
--- a name in its turn is one of the names
-pub in_turn : (names earlier later : List (List ℕ)) (name : List ℕ) → names ≡ earlier ++ (name ∷ later) → Contains names name
-in_turn names earlier later name e = subst (λ o. Contains o name) (sym e) (Contains-append_right earlier (name ∷ later) name (Contains-get_or (name ∷ later) 0 name (omega arith)))
-
 -- words of which the first is a filter's
 first_of : {S : Type 0} (ws : List S) (s : S) → slice_get ws 0 ≡ Some s → ws ≡ s ∷ drop 1 ws
 first_of [] s e = absurd (cc)
@@ -65,3 +66,47 @@ pub asked_is : {S : Type 0} (text : S → List ℕ) (ws : List S) (s : S) (word 
 asked_is text ws s word f first is named =
     let word_is : text s ≡ word_of f = sym is ∙ word_of_some word f named in
     ap (map text) (first_of ws s first) ∙ ap (λ w. w ∷ map text (drop 1 ws)) word_is ∙ ap (λ rest. word_of f ∷ map text rest) (sym (take_rest ws 1))
+
+-- ---- what a filtered shelf tells of the shelf behind it
+
+last_behind : (f : Filter) (told : Files) (names : List (List ℕ)) (named : Option (List ℕ)) → last_begun (filtered_files f told) names named ≡ last_begun told names named
+last_behind f told [] named = refl
+last_behind f told (name ∷ names) named = ap (last_begun (filtered_files f told) names) (name_of_filtered f told name) ∙ last_behind f told names (name_among told name)
+
+last_asked : (f : Filter) (files : Option Files) (names : List (List ℕ)) (before after : Option (List ℕ)) → IfSome (option_map (filtered_files f) files) (λ told. after ≡ last_begun told names before) → IfSome files (λ told. after ≡ last_begun told names before)
+last_asked f None names before after h = tt
+last_asked f (Some told) names before after h = h ∙ last_behind f told names before
+
+sized_by : (f : Filter) (found : Option (List ℕ)) (bytes : List ℕ) → option_map (filtered f Nothing) found ≡ Some bytes → length bytes ≤ 2 ^ 28 → (own : List ℕ) × (found ≡ Some own) × (length own ≤ 2 ^ 28)
+sized_by f None bytes e h = absurd (cc)
+sized_by f (Some own) bytes e h = (own, refl, subst (λ n. n ≤ 2 ^ 28) (sym (ap length (same_some (filtered f Nothing own) bytes e)) ∙ as_many f Nothing own) h)
+
+sized : (f : Filter) (told : Files) (names : List (List ℕ)) → HaveSized (filtered_files f told) names → HaveSized told names
+sized f told [] h = h
+sized f told (name ∷ names) ((bytes, e, small), rest) = (sized_by f (bytes_named told name) bytes (sym (named_of_filtered f told name) ∙ e) small, sized f told names rest)
+
+all_sized : (f : Filter) (files : Option Files) (names : List (List ℕ)) → IfSome (option_map (filtered_files f) files) (λ told. HaveSized told names) → IfSome files (λ told. HaveSized told names)
+all_sized f None names h = tt
+all_sized f (Some told) names h = sized f told names h
+
+-- a failure on the filtered shelf, of which all but the files is as of the other, is one on that
+pub failed_behind : (f : Filter) (names : List (List ℕ)) (line : List ℕ) (before own after : Meanings) (files : Option Files) → before.files ≡ option_map (filtered_files f) own.files → before.taken ≡ own.taken → before.begins ≡ own.begins → before.named ≡ own.named → before.faults ≡ own.faults
+    → FailedOn names line before after → FailedOn names line own (record { files = files; taken = after.taken; begins = after.begins; named = after.named; broken = after.broken; faults = after.faults })
+failed_behind f names line before own after files e t b n u h =
+    let asked = h.earlier ++ (h.name ∷ []) in
+    record {
+      earlier = h.earlier;
+      name = h.name;
+      behind = h.behind;
+      in_turn = h.in_turn;
+      told = h.told;
+      cause = subst (λ o. Rose o after.faults) u h.cause;
+      broken = h.broken;
+      was_asked = record {
+        begun = h.was_asked.begun ∙ ap (begun_with asked) b;
+        least = subst (λ o. o ≤ after.taken) t h.was_asked.least;
+        limit = subst (λ o. after.taken ≤ o + length asked * (2 ^ 28 + 1)) t h.was_asked.limit;
+        last = last_asked f own.files asked own.named after.named (subst (λ o. IfSome o (λ told. after.named ≡ last_begun told asked own.named)) e (subst (λ o. IfSome before.files (λ told. after.named ≡ last_begun told asked o)) n h.was_asked.last));
+      };
+      earlier_sized = all_sized f own.files h.earlier (subst (λ o. IfSome o (λ told. HaveSized told h.earlier)) e h.earlier_sized);
+    }

@@ -1,11 +1,12 @@
 //! The top call over a part: a run of the program behind a filter, from its words to its status.
 
-ghost use Rattle.std.specs.Prelude.{◌≡◌, ◌≢◌, ◌⊎◌, ◌≤◌, ℕ, List, ◌∷◌, map, Some, None, IfSome, Contains, MatchOption};
+ghost use Rattle.std.specs.Prelude.{◌≡◌, ◌≢◌, ◌⊎◌, ◌≤◌, ℕ, List, [], ◌∷◌, map, Some, None, IfSome, MatchOption};
 ghost use Rattle.std.specs.Prelude.{string_bytes};
 ghost use Rattle.at_cli.specs.Gates.{PassesSaid};
-ghost use Rattle.at_cli.specs.Texts.{write_line, memory_line, unread_line};
+ghost use Rattle.at_cli.specs.Texts.{write_line, memory_line};
 ghost use Rattle.at_cli.specs.Outcomes.{Outcome, stopped, answered, TheOutcome, AreRefused, AreAccepted};
-ghost use Rattle.at_cli.specs.Failures.{asked_names};
+ghost use Rattle.at_cli.specs.Outcomes.{SayNoLine};
+ghost use Rattle.at_cli.specs.Failures.{asked_names, ShelfFailedOn};
 ghost use Rattle.at_cli.specs.declared.words.line.Line.{Line};
 ghost use Rattle.at_cli.specs.Telling.{WasTold, HasGrown, HasGrownByPrefix, HasFailed};
 ghost use Rattle.at_filter.specs.Filters.{filtered_files};
@@ -88,7 +89,9 @@ pub fn part_top<
     // 0: the answer of the other words and of the filtered files is written, and nothing else.
     ensures answered { (f : Filter) (rest : List (List ℕ)) → map string_bytes words.now ≡ word_of f ∷ rest
         → result ≡ 0 → (text : List ℕ) × HasGrown O.Sink out.old out.new text × (err.new ≡ err.old)
+        × (text ≡ [] → out.new ≡ out.old)
         × IfSome (S.files shelf) (λ told. TheOutcome rest (filtered_files f told) (answered text)) }
+    ensures unfailed { result ≡ 0 → O.faults out.new ≡ O.faults out.old }
     ensures passes { (f : Filter) (rest : List (List ℕ)) → map string_bytes words.now ≡ word_of f ∷ rest
         → (result ≡ 0) ⊎ (result ≡ 4) → PassesSaid (G.given_up gate.now) rest }
 
@@ -103,10 +106,14 @@ pub fn part_top<
     ensures refuses { (f : Filter) (rest : List (List ℕ)) → map string_bytes words.now ≡ word_of f ∷ rest
         → (refusal : List ℕ) → AreRefused rest refusal → (result ≡ 2) ⊎ (result ≡ 5) }
 
-    // 3: the line told is that of a name for which the shelf is asked.
+    ensures usage { (f : Filter) (rest : List (List ℕ)) → map string_bytes words.now ≡ word_of f ∷ rest
+        → SayNoLine rest → result ≡ 2 }
+
+    // 3: only where the shelf failed on a file that the words name, in its turn, so that it became another one; the line
+    // told is that of its name.
     ensures read_failed { (f : Filter) (rest : List (List ℕ)) → map string_bytes words.now ≡ word_of f ∷ rest
-        → result ≡ 3 → (line : Line) × AreAccepted rest line
-        × ((name : List ℕ) × Contains (asked_names line) name × WasTold E.Sink err.old err.new (unread_line name)) }
+        → result ≡ 3 → (line : Line) × AreAccepted rest line × ((told : List ℕ) × (after : S)
+        × ShelfFailedOn S.Shelf (asked_names line) told shelf after × WasTold E.Sink err.old err.new told) }
 
     // 4: a prefix of the answer is written, and the output failed on it.
     ensures write_failed { (f : Filter) (rest : List (List ℕ)) → map string_bytes words.now ≡ word_of f ∷ rest

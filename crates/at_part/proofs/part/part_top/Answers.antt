@@ -1,8 +1,7 @@
 use Rattle.std.proofs.Common.{◌≡◌, sym, subst}
-use Rattle.at_cli.specs.Outcomes.{TheOutcome, Outcome, answered, stopped, AreRefused, AreAccepted}
-use Rattle.at_cli.specs.Failures.{asked_names}
-use Rattle.at_cli.specs.Telling.{WasTold}
-use Rattle.at_part.proofs.Asking.{one_filter, behind, behind_complete, in_turn}
+use Rattle.at_cli.specs.Outcomes.{TheOutcome, Outcome, answered, stopped, AreRefused, AreAccepted, SayNoLine}
+use Rattle.at_cli.specs.Failures.{asked_names, meanings_of}
+use Rattle.at_part.proofs.Asking.{one_filter, behind, behind_complete, failed_behind}
 use Rattle.at_part.proofs.part.part_top.Goals as goal
 
 pub returns-clause-unnamed : goal.returns-clause-unnamed
@@ -12,7 +11,7 @@ pub returns-clause-answered : goal.returns-clause-answered
 returns-clause-answered g c f rest e zero =
     let it = one_filter c.in-Some.asked.filter f _ _ _ c.in-Some.ensures e in
     let (text, grown, same, empty, what) = c.top.ensures.answered zero in
-    (text, grown, same, behind c.in-Some.asked.filter f _ rest (g.S.Shelf.files c.args.shelf) _ (λ words told. TheOutcome words told (answered text)) it.0 it.1 c.new-shelf.ensures.files what)
+    (text, grown, same, empty, behind c.in-Some.asked.filter f _ rest (g.S.Shelf.files c.args.shelf) _ (λ words told. TheOutcome words told (answered text)) it.0 it.1 c.new-shelf.ensures.files what)
 
 pub returns-clause-stopped : goal.returns-clause-stopped
 returns-clause-stopped g c f rest e status =
@@ -45,8 +44,14 @@ returns-clause-complete g c f rest e =
 pub returns-clause-read_failed : goal.returns-clause-read_failed
 returns-clause-read_failed g c f rest e status =
     let it = one_filter c.in-Some.asked.filter f _ _ _ c.in-Some.ensures e in
-    let (line, accepted, (told, failed, was_told)) = c.top.ensures.read_failed status in (
+    let (line, accepted, (told, failed, was_told)) = c.top.ensures.read_failed status in
+    let counts = c.new-shelf.ensures.counts in (
       line,
       subst (λ words. AreAccepted words line) it.1 accepted,
-      (failed.name, in_turn (asked_names line) failed.earlier failed.behind failed.name failed.in_turn, subst (λ said. WasTold g.E.Sink c.args.err.now c.top.new.err said) failed.told was_told),
+      (told, c.top.new.shelf.shelf, failed_behind c.in-Some.asked.filter (asked_names line) told _ (meanings_of g.S.Shelf c.args.shelf) _ (g.S.Shelf.files c.top.new.shelf.shelf) c.new-shelf.ensures.files counts.0 counts.1 counts.4 counts.3 failed, was_told),
     )
+
+pub returns-clause-usage : goal.returns-clause-usage
+returns-clause-usage g c f rest e none =
+    let it = one_filter c.in-Some.asked.filter f _ _ _ c.in-Some.ensures e in
+    c.top.ensures.usage (subst SayNoLine (sym it.1) none)
