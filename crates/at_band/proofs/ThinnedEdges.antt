@@ -104,9 +104,8 @@ thinned_paths_edges low high o (path ∷ paths) =
     ∙ two_parts (spans low high) (edges (thinned low high path)) (flat_map edges (thinned_paths low high paths)) (edges path) (flat_map edges paths) (thinned_edges low high o path) (thinned_paths_edges low high o paths)
 
 some_polygon : (exterior : List Pos) (holes : List (List Pos)) (rest : List Polygon) → segments_of_polygons (polygon_if_some exterior holes ++ rest) ≡ (edges exterior ++ flat_map edges holes) ++ segments_of_polygons rest
-some_polygon [] [] rest = refl
 some_polygon [] (hole ∷ holes) rest = refl
-some_polygon (p ∷ ps) holes rest = refl
+some_polygon _ _ rest = refl
 
 rings_edges : (low high : ℤ) → low ≤ℤ high → (rings : List (List Pos)) (rest others : List Polygon) → filter (spans low high) (segments_of_polygons rest) ≡ filter (spans low high) (segments_of_polygons others)
     → filter (spans low high) (segments_of_polygons (thinned_rings low high rings ++ rest)) ≡ filter (spans low high) (flat_map edges rings ++ segments_of_polygons others)

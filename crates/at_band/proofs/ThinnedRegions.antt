@@ -97,8 +97,7 @@ polygon_in p (a ∷ ring) holes rest h = h
 
 polygon_out : (p : Pos) (exterior : List Pos) (holes : List (List Pos)) (rest : List Polygon) → IsInSome p (polygon_if_some exterior holes ++ rest) → IsInRings p (exterior ∷ holes) ⊎ IsInSome p rest
 polygon_out p [] [] rest h = inr h
-polygon_out p [] (hole ∷ holes) rest h = h
-polygon_out p (a ∷ ring) holes rest h = h
+polygon_out p _ _ rest h = h
 
 rings_in : (low high : ℤ) (p : Pos) → IsLevel low high p → (rings : List (List Pos)) (rest : List Polygon) → IsInRings p rings ⊎ IsInSome p rest → IsInSome p (thinned_rings low high rings ++ rest)
 rings_in low high p v [] rest (inl h) = absurd h

@@ -23,13 +23,11 @@ use Rattle.at_cli.specs.Loading.{Leads, OnEnd, IfLoaded, IsEndOf, IsEndOfJoin, P
 
 pub on_end : (loaded : Loaded) (P : Ending → Type 0) (e : Ending) → OnEnd loaded P → Leads loaded e → P e
 on_end (Ended end) P e h same = subst P (sym same) h
-on_end (One file) P e h leads = h e leads
-on_end (Two files) P e h leads = h e leads
+on_end _ P e h leads = h e leads
 
 pub on_ends : (loaded : Loaded) (P Q : Ending → Type 0) → ((e : Ending) → P e → Q e) → OnEnd loaded P → OnEnd loaded Q
 on_ends (Ended end) P Q f h = f end h
-on_ends (One file) P Q f h = λ e leads. f e (h e leads)
-on_ends (Two files) P Q f h = λ e leads. f e (h e leads)
+on_ends _ P Q f h = λ e leads. f e (h e leads)
 
 pub if_loaded : (loaded : Loaded) (P Q : Line → Type 0) → ((line : Line) → P line → Q line) → IfLoaded loaded P → IfLoaded loaded Q
 if_loaded (Ended end) P Q f h = tt
@@ -39,13 +37,11 @@ if_loaded (Two files) P Q f h = f files.line h
 -- what is true of all is true of each
 pub on_all : (loaded : Loaded) (P : Ending → Type 0) → ((e : Ending) → P e) → OnEnd loaded P
 on_all (Ended end) P f = f end
-on_all (One file) P f = λ e leads. f e
-on_all (Two files) P f = λ e leads. f e
+on_all _ P f = λ e leads. f e
 
 pub on_both : (loaded : Loaded) (P Q : Ending → Type 0) → OnEnd loaded P → OnEnd loaded Q → OnEnd loaded (λ e. P e × Q e)
 on_both (Ended end) P Q h k = (h, k)
-on_both (One file) P Q h k = λ e leads. (h e leads, k e leads)
-on_both (Two files) P Q h k = λ e leads. (h e leads, k e leads)
+on_both _ P Q h k = λ e leads. (h e leads, k e leads)
 
 -- the gate that gave up nothing of what is loaded gave up nothing that the words ask for
 pub passes_said : (words : List (List ℕ)) (given_up : List ℕ) (loaded : Loaded) → IfLoaded loaded (SaysLine words) → PassesLoaded given_up loaded → PassesSaid given_up words

@@ -43,16 +43,11 @@ values_same values others positionals places line same moved h =
 
 given_at_start : (s : Setting) → given_in start s ≡ []
 given_at_start settings.Form = refl
-given_at_start settings.Coords = refl
-given_at_start settings.Digits = refl
-given_at_start settings.Blocks = refl
-given_at_start settings.Workers = refl
-given_at_start settings.Feed = refl
+given_at_start _ = refl
 
 when_ended : (next : Next) (t st : State) → unless_waiting next t ≡ Some st → (t ≡ st) × IsEnded next
-when_ended nexts.Any t st e = (same_Some t st e, tt)
 when_ended (nexts.Value s) t st e = absurd (none-some st e)
-when_ended nexts.Positional t st e = (same_Some t st e, tt)
+when_ended _ t st e = (same_Some t st e, tt)
 
 said_when_read : (words : List (List ℕ)) (st : State) (line : Line) → ReadsAs start words st → HasValues (given_in st) st.places line → SaysLine words line
 said_when_read words st line r h = (
@@ -75,9 +70,8 @@ first_of [] = None
 first_of (x ∷ xs) = Some x
 
 at_most_one : {X : Type 0} (default : X) (Spells : List ℕ → X → Type 0) (values : List (List ℕ)) (x : X) → IsChosen default Spells values x → option_to_list (first_of values) ≡ values
-at_most_one default Spells [] x h = refl
-at_most_one default Spells (v ∷ []) x h = refl
 at_most_one default Spells (v ∷ w ∷ more) x h = absurd h
+at_most_one default Spells _ x h = refl
 
 length-option : (o : Option (List ℕ)) → length (option_to_list o) ≤ 1
 length-option None = omega arith
@@ -149,23 +143,19 @@ apart m n less same = omega arith
 
 one_form : (a b : FileForm) → form_text a ≡ form_text b → a ≡ b
 one_form GeoJson GeoJson e = refl
-one_form GeoJson Wkt e = cc
-one_form GeoJson Seq e = cc
-one_form Wkt GeoJson e = cc
 one_form Wkt Wkt e = refl
 one_form Wkt Seq e = absurd (apart 115 119 (lit< tt) (sym (ap (λ (text : List ℕ). get_or text 0 0) e)))
-one_form Seq GeoJson e = cc
 one_form Seq Wkt e = absurd (apart 115 119 (lit< tt) (ap (λ (text : List ℕ). get_or text 0 0) e))
 one_form Seq Seq e = refl
+one_form _ _ e = cc
 
 pub one_said_form : (text : List ℕ) (a b : Option FileForm) → SpellsForm text a → SpellsForm text b → a ≡ b
 one_said_form text a b (f, e, t) (g, h, u) = e ∙ ap Some (one_form f g (sym t ∙ u)) ∙ sym h
 
 one_text : (a b : Coords) → coords_text a ≡ coords_text b → a ≡ b
-one_text Exact Exact e = refl
 one_text Exact Round e = absurd (apart 101 114 (lit< tt) (ap (λ text. get_or text 0 0) e))
 one_text Round Exact e = absurd (apart 101 114 (lit< tt) (sym (ap (λ text. get_or text 0 0) e)))
-one_text Round Round e = refl
+one_text _ _ e = refl
 
 pub one_coords : (text : List ℕ) (a b : Coords) → text ≡ coords_text a → text ≡ coords_text b → a ≡ b
 one_coords text a b e f = one_text a b (sym e ∙ f)

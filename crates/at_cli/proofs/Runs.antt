@@ -65,13 +65,7 @@ outcome_answered NoMemory h = absurd (omega (arith, h))
 
 outcome_stopped : (e : Ending) → status_of e ≢ 0 → outcome_by e ≡ stopped (status_of e) (line_of e)
 outcome_stopped (Answered text) h = absurd (h refl)
-outcome_stopped Usage h = refl
-outcome_stopped (QueryFault at) h = refl
-outcome_stopped Names h = refl
-outcome_stopped (Faulty name fault) h = refl
-outcome_stopped (ReadFailed name) h = refl
-outcome_stopped (TooLarge name) h = refl
-outcome_stopped NoMemory h = refl
+outcome_stopped _ h = refl
 
 ended : (Has : Files → Outcome → Type 0) (files : Option Files) (e : Ending) (outcome : Outcome) → status_of e ≢ 3 → status_of e ≢ 5 → outcome_by e ≡ outcome → Ends Has files e → IfSome files (λ told. Has told outcome)
 ended Has files e outcome n3 n5 is (inl three) = absurd (n3 three)

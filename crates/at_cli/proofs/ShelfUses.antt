@@ -159,11 +159,7 @@ join_has_second verb None right e = absurd (true≢false (sym right ∙ ap (λ v
 pub other_has_none : (verb : Verb) (second : Option (List ℕ)) → has_right_count verb second ≡ true → (verb ≡ verbs.Join → ⊥) → second ≡ None
 other_has_none verb None right n = refl
 other_has_none verbs.Join (Some second) right n = absurd (n refl)
-other_has_none verbs.Select (Some second) right n = absurd (true≢false (sym right))
-other_has_none verbs.Count (Some second) right n = absurd (true≢false (sym right))
-other_has_none verbs.Area (Some second) right n = absurd (true≢false (sym right))
-other_has_none verbs.Extent (Some second) right n = absurd (true≢false (sym right))
-other_has_none verbs.Hull (Some second) right n = absurd (true≢false (sym right))
+other_has_none _ (Some second) right n = absurd (true≢false (sym right))
 
 -- what holds where there is a second name holds of the names that there are
 pub with_second : (second : Option (List ℕ)) (P : Option (List ℕ) → Type 0) → is_some second ≡ true → ((name : List ℕ) → second ≡ Some name → P (Some name)) → P second

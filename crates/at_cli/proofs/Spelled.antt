@@ -20,19 +20,11 @@ use Rattle.at_cli.proofs.Prefixes.{behind-is}
 
 pub piece_apart : (s : Setting) (st : State) → with_piece (setting_name s) st ≡ Some (record st { next = nexts.Value s })
 piece_apart settings.Form st = refl
-piece_apart settings.Coords st = refl
-piece_apart settings.Digits st = refl
-piece_apart settings.Blocks st = refl
-piece_apart settings.Workers st = refl
-piece_apart settings.Feed st = refl
+piece_apart _ st = refl
 
 pub piece_joined : (s : Setting) (v : List ℕ) (st : State) → with_piece (setting_name s ++ codes "=" ++ v) st ≡ with_value s v st
 piece_joined settings.Form v st = refl
-piece_joined settings.Coords v st = refl
-piece_joined settings.Digits v st = refl
-piece_joined settings.Blocks v st = refl
-piece_joined settings.Workers v st = refl
-piece_joined settings.Feed v st = refl
+piece_joined _ v st = refl
 
 pub piece_positional : (w : List ℕ) (st : State) → begins_with (codes "-") w ≡ false → with_piece w st ≡ with_place w st
 piece_positional w st e = rw e refl
@@ -71,83 +63,34 @@ flag_in-is word f = let P : Type 0 = FlagSpells word f.setting f.value in
 
 given-places : (st : State) (places : List (List ℕ)) (t : Setting) → given_in (record st { places = places }) t ≡ given_in st t
 given-places st places settings.Form = refl
-given-places st places settings.Coords = refl
-given-places st places settings.Digits = refl
-given-places st places settings.Blocks = refl
-given-places st places settings.Workers = refl
-given-places st places settings.Feed = refl
+given-places st places _ = refl
 
 given-next : (st : State) (next : Next) (t : Setting) → given_in (record st { next = next }) t ≡ given_in st t
 given-next st next settings.Form = refl
-given-next st next settings.Coords = refl
-given-next st next settings.Digits = refl
-given-next st next settings.Blocks = refl
-given-next st next settings.Workers = refl
-given-next st next settings.Feed = refl
+given-next st next _ = refl
 
 value-next : (st : State) (next : Next) (t : Setting) → value_at (record st { next = next }) t ≡ value_at st t
 value-next st next settings.Form = refl
-value-next st next settings.Coords = refl
-value-next st next settings.Digits = refl
-value-next st next settings.Blocks = refl
-value-next st next settings.Workers = refl
-value-next st next settings.Feed = refl
+value-next st next _ = refl
 
 -- what is given once is given first
 given-set : (st : State) (s t : Setting) (v : List ℕ) (more : List (List ℕ)) → value_at st s ≡ None
     → given_in (set_value s v st) t ++ more ≡ given_in st t ++ cons_option (value_in t (apart s v)) more
 given-set st settings.Form settings.Form v more e = rw e refl
-given-set st settings.Form settings.Coords v more e = refl
-given-set st settings.Form settings.Digits v more e = refl
-given-set st settings.Form settings.Blocks v more e = refl
-given-set st settings.Form settings.Workers v more e = refl
-given-set st settings.Form settings.Feed v more e = refl
-given-set st settings.Coords settings.Form v more e = refl
 given-set st settings.Coords settings.Coords v more e = rw e refl
-given-set st settings.Coords settings.Digits v more e = refl
-given-set st settings.Coords settings.Blocks v more e = refl
-given-set st settings.Coords settings.Workers v more e = refl
-given-set st settings.Coords settings.Feed v more e = refl
-given-set st settings.Digits settings.Form v more e = refl
-given-set st settings.Digits settings.Coords v more e = refl
 given-set st settings.Digits settings.Digits v more e = rw e refl
-given-set st settings.Digits settings.Blocks v more e = refl
-given-set st settings.Digits settings.Workers v more e = refl
-given-set st settings.Digits settings.Feed v more e = refl
-given-set st settings.Blocks settings.Form v more e = refl
-given-set st settings.Blocks settings.Coords v more e = refl
-given-set st settings.Blocks settings.Digits v more e = refl
 given-set st settings.Blocks settings.Blocks v more e = rw e refl
-given-set st settings.Blocks settings.Workers v more e = refl
-given-set st settings.Blocks settings.Feed v more e = refl
-given-set st settings.Workers settings.Form v more e = refl
-given-set st settings.Workers settings.Coords v more e = refl
-given-set st settings.Workers settings.Digits v more e = refl
-given-set st settings.Workers settings.Blocks v more e = refl
 given-set st settings.Workers settings.Workers v more e = rw e refl
-given-set st settings.Workers settings.Feed v more e = refl
-given-set st settings.Feed settings.Form v more e = refl
-given-set st settings.Feed settings.Coords v more e = refl
-given-set st settings.Feed settings.Digits v more e = refl
-given-set st settings.Feed settings.Blocks v more e = refl
-given-set st settings.Feed settings.Workers v more e = refl
 given-set st settings.Feed settings.Feed v more e = rw e refl
+given-set st _ _ v more e = refl
 
 set-places : (st : State) (s : Setting) (v : List ℕ) → (set_value s v st).places ≡ st.places
 set-places st settings.Form v = refl
-set-places st settings.Coords v = refl
-set-places st settings.Digits v = refl
-set-places st settings.Blocks v = refl
-set-places st settings.Workers v = refl
-set-places st settings.Feed v = refl
+set-places st _ v = refl
 
 set-next : (st : State) (s : Setting) (v : List ℕ) → (set_value s v st).next ≡ nexts.Any
 set-next st settings.Form v = refl
-set-next st settings.Coords v = refl
-set-next st settings.Digits v = refl
-set-next st settings.Blocks v = refl
-set-next st settings.Workers v = refl
-set-next st settings.Feed v = refl
+set-next st _ v = refl
 
 given_once : (o : Option (List ℕ)) (st u : State) → unless_given o st ≡ Some u → (o ≡ None) × (st ≡ u)
 given_once None st u e = (refl, same_Some st u e)
@@ -173,9 +116,8 @@ pub record ReadsAs (st : State) (words : List (List ℕ)) (u : State) : Type 0 w
   pub adds : Adds st pieces after u
 
 abbrev pub IsEnded : Next → Type 0
-IsEnded nexts.Any = ⊤
 IsEnded (nexts.Value s) = ⊥
-IsEnded nexts.Positional = ⊤
+IsEnded _ = ⊤
 
 -- the words after the end word
 places_walked : (words : List (List ℕ)) (st u : State) → st.next ≡ nexts.Positional → walk st words ≡ Some u
@@ -249,11 +191,7 @@ end_more st u words e =
 
 set-again : (st : State) (next : Next) (s : Setting) (v : List ℕ) → set_value s v (record st { next = next }) ≡ set_value s v st
 set-again st next settings.Form v = refl
-set-again st next settings.Coords v = refl
-set-again st next settings.Digits v = refl
-set-again st next settings.Blocks v = refl
-set-again st next settings.Workers v = refl
-set-again st next settings.Feed v = refl
+set-again st next _ v = refl
 
 -- one word that is no option's value
 piece_walked : (w : List ℕ) (words : List (List ℕ)) (st t u : State) → st.next ≡ nexts.Any → with_piece w st ≡ Some t → walk t words ≡ Some u
@@ -371,11 +309,7 @@ places_read (w ∷ words) st u n given places next room =
 
 value_in-same : (s : Setting) (v : List ℕ) → value_in s (apart s v) ≡ Some v
 value_in-same settings.Form v = refl
-value_in-same settings.Coords v = refl
-value_in-same settings.Digits v = refl
-value_in-same settings.Blocks v = refl
-value_in-same settings.Workers v = refl
-value_in-same settings.Feed v = refl
+value_in-same _ v = refl
 
 first_given : (st u : State) (s : Setting) (v : List ℕ) (more : List (List ℕ)) → given_in u s ≡ given_in st s ++ cons_option (value_in s (apart s v)) more → value_at st s ≡ None
 first_given st u s v more e = none_given (value_at u s) (value_at st s) v more (e ∙ ap (λ o. given_in st s ++ cons_option o more) (value_in-same s v))

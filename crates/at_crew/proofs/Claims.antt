@@ -61,9 +61,8 @@ module _ (k : ℕ) (words words' : List ℕ) (c' : ℕ) (b : Bumped words words'
 
 module _ {F : Type 0} (f : F) (k : ℕ) where
   pub knows_more : (c c' : ℕ) → c ≤ c' → (v : View F) → Knows f k c v → Knows f k c' v
-  knows_more c c' le Spent h = h
   knows_more c c' le (Climbs v) h = (h.0, (λ x e. (let l = h.1 x e in omega (arith, l, le))), h.2, h.3)
-  knows_more c c' le (Leads v) h = h
+  knows_more c c' le _ h = h
 
   -- all views but one are as they were
   pub each_set : (c c' : ℕ) → c ≤ c' → (views : List (View F)) (id : ℕ) (w : View F) → Knows f k c' w → ((j : ℕ) (v : View F) → get_elem? views j ≡ some v → Knows f k c v)
@@ -294,8 +293,7 @@ module _ {P F : Type 0} (stands : F → P → ℕ → ℕ → Type 0) (count : F
 
   pub claims : (slots id : ℕ) (w : View F) (carried : List (ℕ × Option P)) → is_pass w ≡ true → held_of w ≡ None → over_of w ≡ false
       → Allows (CrewRule stands f (count f)) slots id (w, carried) 0 (λ n. (n + 1) % 2 ^ 64) (ClaimTells count (step slots 0 1 0 none) (w, carried))
-  claims slots id Spent carried is free on s good len at lt = absurd (true≢false (sym is))
   claims slots id (Climbs v) carried is free on s good len at lt = let e : count f ≡ slots = sym good.deep ∙ len in
       subst (λ (n : ℕ). (w : View F) × (a : Act (Option P)) × Valid s.homes carried a × CrewRule stands f (count f) (stepped s 0 ((slice_index s.words 0 + 1) % 2 ^ 64) id carried w a) × ClaimTells count (step n 0 1 0 none) (Climbs v, carried) (slice_index s.words 0) (w, carried_after carried a)) e
       (claims_of id v carried free on s good good.deep at lt)
-  claims slots id (Leads h) carried is free on s good len at lt = absurd (true≢false (sym is))
+  claims slots id _ carried is free on s good len at lt = absurd (true≢false (sym is))

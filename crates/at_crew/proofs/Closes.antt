@@ -117,9 +117,8 @@ module _ {P F : Type 0} (stands : F → P → ℕ → ℕ → Type 0) (f : F) (k
 -- the same, of the table at its end, where slot 0 was read
 module _ {P F : Type 0} (stands : F → P → ℕ → ℕ → Type 0) (f : F) (k b id : ℕ) (w : View F) (ws : List ℕ) (xs : List (Option P)) (end : Final (Seen (CrewRule stands f k) id w) ws xs) (is : is_chief w ≡ true) (home : made w ≡ back w) (some_made : 0 < made w) (long : length xs ≡ b) where
   as_leader : (w : View F) → is_chief w ≡ true → (h : Leader F) × (w ≡ Leads h)
-  as_leader Spent e = absurd (true≢false (sym e))
-  as_leader (Climbs v) e = absurd (true≢false (sym e))
   as_leader (Leads h) e = (h, refl)
+  as_leader _ e = absurd (true≢false (sym e))
 
   head : (h : Leader F) × (w ≡ Leads h)
   head = as_leader w is

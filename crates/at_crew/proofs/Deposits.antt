@@ -8,7 +8,7 @@ use Rattle.atomic_table.specs.Table.{State, Me, Act, takes, gives, chain, Valid,
 use Rattle.atomic_table.proofs.Lists.{set_here, set_else}
 use Rattle.at_crew.specs.declared.view.Climber.{Climber}
 use Rattle.at_crew.specs.declared.view.View.{View}
-use Rattle.at_crew.specs.declared.view.View.TheVariants.{Spent, Climbs, Leads}
+use Rattle.at_crew.specs.declared.view.View.TheVariants.{Climbs}
 use Rattle.at_crew.specs.Nodes.{IsNode, first_of, end_of, bit_of, sibling}
 use Rattle.at_crew.specs.Views.{held_node, held_of, resting, climbing, OnSome}
 use Rattle.at_crew.specs.Rule.{CrewRule}
@@ -140,11 +140,10 @@ module _ {P F : Type 0} (stands : F → P → ℕ → ℕ → Type 0) (count : F
 
   pub deposits : (size id : ℕ) (w : View F) (me : List (ℕ × Option P)) (n h : ℕ) (x : P) → held_of w ≡ Some (held_node n h) → me ≡ carried size h n (Some x) → 1 < n → stands f x (first_of size h n) (end_of size h n)
       → Allows (CrewRule stands f (count f)) size id (w, me) (n / 2) (λ u. bit_or u (bit_of n)) (DepositTells stands count (step size (n / 2) (bit_of n) 0 none) (w, me))
-  deposits size id Spent me n h x held is deep stood s good len at lt = absurd (some≢none (sym held))
   deposits size id (Climbs v) me n h x held is deep stood s good len at lt = subst (λ (m : List (ℕ × Option P)). (w : View F) × (a : Act (Option P)) × Valid s.homes m a × CrewRule stands f (count f) (stepped s (n / 2) (bit_or (slice_index s.words (n / 2)) (bit_of n)) id m w a)
       × DepositTells stands count (step size (n / 2) (bit_of n) 0 none) (Climbs v, m) (slice_index s.words (n / 2)) (w, carried_after m a)) (sym is)
       (deposits_of size id v n h x held deep stood s good len at lt)
-  deposits size id (Leads l) me n h x held is deep stood s good len at lt = absurd (some≢none (sym held))
+  deposits size id _ me n h x held is deep stood s good len at lt = absurd (some≢none (sym held))
 
   -- the root
   root_homes_at : (s : State (Option P) (View F)) → CrewRule stands f (count f) s → (id : ℕ) (v : Climber F) → get_elem? s.views id ≡ some (Climbs v) → (h : ℕ) (x : P) → v.held ≡ Some (held_node 1 h) → stands f x (first_of (count f) h 1) (end_of (count f) h 1)
@@ -166,12 +165,11 @@ module _ {P F : Type 0} (stands : F → P → ℕ → ℕ → Type 0) (count : F
 
   pub root_homes : (size id : ℕ) (w : View F) (me : List (ℕ × Option P)) (h : ℕ) (x : P) → held_of w ≡ Some (held_node 1 h) → me ≡ carried size h 1 (Some x) → stands f x (first_of size h 1) (end_of size h 1)
       → Allows (CrewRule stands f (count f)) size id (w, me) size (λ u. bit_or u 1) (RootHomeTells (step size size 1 0 none) (w, me))
-  root_homes size id Spent me h x held is stood s good len at lt = absurd (some≢none (sym held))
   root_homes size id (Climbs v) me h x held is stood s good len at lt = let e : count f ≡ size = sym good.deep ∙ len in
       subst (λ (m : List (ℕ × Option P)). (w : View F) × (a : Act (Option P)) × Valid s.homes m a × CrewRule stands f (count f) (stepped s size (bit_or (slice_index s.words size) 1) id m w a) × (me_of w (carried_after m a) ≡ me_of (Climbs (resting v)) [])) (sym is)
       (subst (λ (k : ℕ). stands f x (first_of k h 1) (end_of k h 1) → (w : View F) × (a : Act (Option P)) × Valid s.homes (carried k h 1 (Some x)) a × CrewRule stands f (count f) (stepped s k (bit_or (slice_index s.words k) 1) id (carried k h 1 (Some x)) w a) × (me_of w (carried_after (carried k h 1 (Some x)) a) ≡ me_of (Climbs (resting v)) [])) e
       (λ stood'. root_homes_at s good id v at h x held stood') stood)
-  root_homes size id (Leads l) me h x held is stood s good len at lt = absurd (some≢none (sym held))
+  root_homes size id _ me h x held is stood s good len at lt = absurd (some≢none (sym held))
 
   -- where the size are as many as b says
   pub root_homes_sized : (size b id : ℕ) (w : View F) (me : List (ℕ × Option P)) (h : ℕ) (x : P) → size ≡ b → held_of w ≡ Some (held_node 1 h) → me ≡ carried b h 1 (Some x) → stands f x (first_of b h 1) (end_of b h 1)

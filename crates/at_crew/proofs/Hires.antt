@@ -21,17 +21,15 @@ module _ {F : Type 0} (f : F) (k c : ℕ) (views : List (View F)) (g : PassesCou
   all_made = sum_only leads (λ (v : View F). 0) made (λ v a b. only v a) views id (Leads h) at g.chief (sum_zeros views)
     where
       only : (v : View F) → leads v ≡ 0 → made v ≡ 0
-      only Spent a = refl
-      only (Climbs v) a = refl
       only (Leads v) a = absurd (omega (arith, a))
+      only _ a = refl
 
   pub all_back : sum_by back views ≡ h.back
   all_back = sum_only leads (λ (v : View F). 0) back (λ v a b. only v a) views id (Leads h) at g.chief (sum_zeros views)
     where
       only : (v : View F) → leads v ≡ 0 → back v ≡ 0
-      only Spent a = refl
-      only (Climbs v) a = refl
       only (Leads v) a = absurd (omega (arith, a))
+      only _ a = refl
 
 module _ {P F : Type 0} (stands : F → P → ℕ → ℕ → Type 0) (f : F) (k : ℕ) where
   hires_at : (id : ℕ) (h : Leader F) → h.made < 64 → Splits (CrewRule stands f k) id (Leads h) (hires (Leads h)) (hired (Leads h))
@@ -84,9 +82,8 @@ module _ {P F : Type 0} (stands : F → P → ℕ → ℕ → Type 0) (f : F) (k
       }
 
   pub hires_kept : (id : ℕ) (w : View F) → is_chief w ≡ true → made w < 64 → Splits (CrewRule stands f k) id w (hires w) (hired w)
-  hires_kept id Spent is few s good at = absurd (true≢false (sym is))
-  hires_kept id (Climbs v) is few s good at = absurd (true≢false (sym is))
   hires_kept id (Leads h) is few s good at = hires_at id h few s good at
+  hires_kept id _ is few s good at = absurd (true≢false (sym is))
 
   gathers_at : (id : ℕ) (h : Leader F) (other : ℕ) (u : Climber F) → u.over ≡ true → Joins (CrewRule stands f k) id (Leads h) other (Climbs u) (gathers (Leads h) (Climbs u)) Spent
   gathers_at id h other u done s good at ne at' = record { power = good.power; small = good.small; wide = good.wide; deep = good.deep; counted = counted; marked = good.marked; listed = listed; stored = good.stored }
@@ -127,14 +124,12 @@ module _ {P F : Type 0} (stands : F → P → ℕ → ℕ → Type 0) (f : F) (k
       }
 
   pub gathers_kept : (id : ℕ) (w : View F) (other : ℕ) (z : View F) → is_chief w ≡ true → is_pass z ≡ true → over_of z ≡ true → Joins (CrewRule stands f k) id w other z (gathers w z) Spent
-  gathers_kept id Spent other z is is' done s good at ne at' = absurd (true≢false (sym is))
-  gathers_kept id (Climbs v) other z is is' done s good at ne at' = absurd (true≢false (sym is))
   gathers_kept id (Leads h) other Spent is is' done s good at ne at' = absurd (true≢false (sym is'))
   gathers_kept id (Leads h) other (Climbs u) is is' done s good at ne at' = gathers_at id h other u done s good at ne at'
   gathers_kept id (Leads h) other (Leads u) is is' done s good at ne at' = absurd (true≢false (sym is'))
+  gathers_kept id _ other z is is' done s good at ne at' = absurd (true≢false (sym is))
 
 -- the chief's numbers after a pass came back
 pub gathers_counts : {F : Type 0} (w z : View F) → is_chief w ≡ true → (is_chief (gathers w z) ≡ true) × (made (gathers w z) ≡ made w) × (back (gathers w z) ≡ min (made w) (back w + 1))
-gathers_counts Spent z is = absurd (true≢false (sym is))
-gathers_counts (Climbs v) z is = absurd (true≢false (sym is))
 gathers_counts (Leads h) z is = (refl, refl, refl)
+gathers_counts _ z is = absurd (true≢false (sym is))

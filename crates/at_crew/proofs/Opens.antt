@@ -12,9 +12,8 @@ use Rattle.at_crew.specs.Views.{leader}
 use Rattle.at_crew.specs.Rule.{Knows, CrewRule}
 
 all_zero : (n i : ℕ) → slice_index (replicate n 0) i ≡ 0
-all_zero zero i = refl
-all_zero (suc n) zero = refl
 all_zero (suc n) (suc i) = all_zero n i
+all_zero _ _ = refl
 
 all_home : {P : Type 0} (n i : ℕ) (x : Option P) → i < n → get_elem? (map some (replicate n x)) i ≡ some (some x)
 all_home zero i x lt = absurd (omega (arith, lt))

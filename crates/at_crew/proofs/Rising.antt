@@ -4,7 +4,7 @@ use Rattle.std.proofs.Common.{◌≡◌, ◌∙◌, ℕ, ◌+◌, ◌-◌, ◌<�
 use Rattle.std.proofs.lemmas.List.Elements.{All-push}
 use Rattle.atomic_table.specs.Table.{Me, Step}
 use Rattle.at_crew.specs.declared.view.View.{View}
-use Rattle.at_crew.specs.declared.view.View.TheVariants.{Spent, Climbs, Leads}
+use Rattle.at_crew.specs.declared.view.View.TheVariants.{Spent, Climbs}
 use Rattle.at_crew.specs.Steps.{ClaimTells}
 use Rattle.at_crew.specs.Views.{claimed, last_of, adds, rests}
 use Rattle.at_crew.proofs.Deposits.{me_of}
@@ -16,19 +16,16 @@ left_to k (Some n) = k - n
 
 module _ {P F : Type 0} (count : F → ℕ) (s : Step (Option P)) (m : List (ℕ × Option P)) (n : ℕ) (w' : Me (Option P) (View F)) where
   pub claim_last : (w : View F) → ClaimTells count s (w, m) n w' → (x : ℕ) → last_of w ≡ Some x → x < n
-  claim_last Spent told = absurd told
   claim_last (Climbs v) told = told.2
-  claim_last (Leads h) told = absurd told
+  claim_last _ told = absurd told
 
   pub claim_below : (w : View F) → ClaimTells count s (w, m) n w' → n < s.slots → claimed w'.0 ≡ claimed w ++ n ∷ []
-  claim_below Spent told lt = absurd told
   claim_below (Climbs v) told lt = ⊎_elim (λ y. ap (λ q. claimed q.0) y.1) (λ y. absurd (omega (arith, y.0, lt))) told.3
-  claim_below (Leads h) told lt = absurd told
+  claim_below _ told lt = absurd told
 
   pub claim_past : (w : View F) → ClaimTells count s (w, m) n w' → s.slots ≤ n → claimed w'.0 ≡ claimed w
-  claim_past Spent told le = absurd told
   claim_past (Climbs v) told le = ⊎_elim (λ y. absurd (omega (arith, y.0, le))) (λ y. ap (λ q. claimed q.0) y.1) told.3
-  claim_past (Leads h) told le = absurd told
+  claim_past _ told le = absurd told
 
 -- all are less than what is more than the last
 pub all_less : (last : Option ℕ) (cs : List ℕ) (n : ℕ) → ((x : ℕ) → last ≡ Some x → All (λ m. m ≤ x) cs) → (last ≡ None → cs ≡ []) → ((x : ℕ) → last ≡ Some x → x < n) → All (λ m. m < n) cs
@@ -48,5 +45,4 @@ settled_same {F = F} old put new ns e e' = ap claimed e' ∙ adds_none_claimed n
   where
     adds_none_claimed : (ns : List ℕ) (w : View F) → claimed (adds ns (rests w)) ≡ claimed w
     adds_none_claimed ns Spent = refl
-    adds_none_claimed ns (Climbs v) = refl
-    adds_none_claimed ns (Leads h) = refl
+    adds_none_claimed ns _ = refl

@@ -8,7 +8,7 @@ use native.Mathlib.Decide.{ℕ_discrete}
 use Rattle.atomic_table.specs.Table.{Me, step, rest}
 use Rattle.at_crew.specs.declared.view.Climber.{Climber}
 use Rattle.at_crew.specs.declared.view.View.{View}
-use Rattle.at_crew.specs.declared.view.View.TheVariants.{Spent, Climbs, Leads}
+use Rattle.at_crew.specs.declared.view.View.TheVariants.{Spent, Climbs}
 use Rattle.at_crew.specs.Nodes.{IsNode, first_of, end_of, bit_of, sibling, above, ancestors}
 use Rattle.at_crew.specs.Views.{held_node, held_of, climbs_to, climbing, resting, HasFacts, OnSome, rests, adds}
 use Rattle.at_crew.specs.Steps.{DepositTells, carried, kept}
@@ -60,9 +60,8 @@ module _ {P F : Type 0} (stands : F → P → ℕ → ℕ → Type 0) (count : F
   pub second : (slots : ℕ) → slots ≡ k → (w : View F) (m : List (ℕ × Option P)) → held_of w ≡ Some (held_node n h) → HasFacts f w → m ≡ carried k h n (Some x) → stands f x (first_of k h n) (end_of k h n) → (¬ (found ≡ 0))
       → DepositTells stands count (step slots (n / 2) (bit_of n) 0 none) (w, m) found seat'
       → (seat'.0 ≡ climbs_to (held_node (n / 2) (h + 1)) w) × HasChildren stands f k seat'.1 (n / 2) h (n % 2 == 0) × (count f ≡ k)
-  second slots e Spent m held facts is sx some met = absurd facts
   second slots e (Climbs v) m held facts is sx some met = second_at slots e v m held facts is sx some met
-  second slots e (Leads l) m held facts is sx some met = absurd facts
+  second slots e _ m held facts is sx some met = absurd facts
 
 -- the parts of two children, found twice, are the same
 pub same_children : {P : Type 0} (own : Bool) (left right : ℕ) (a b c d : P) → children own left right a b ≡ children own left right c d → (a ≡ c) × (b ≡ d)
@@ -86,9 +85,8 @@ parent_at k l h n is lt = let r = above_node k l h n is lt in let up : suc h ≡
 
 module _ {F : Type 0} (f : F) where
   pub climbs_facts : (p : HeldNode) (w : View F) → HasFacts f w → HasFacts f (climbs_to p w) × (held_of (climbs_to p w) ≡ Some p)
-  climbs_facts p Spent h = absurd h
   climbs_facts p (Climbs v) h = (h, refl)
-  climbs_facts p (Leads l) h = absurd h
+  climbs_facts p _ h = absurd h
 
 -- one step more
 pub climbs_adds : {F : Type 0} (p : HeldNode) (w w0 : View F) (ns : List ℕ) → rests w ≡ adds ns (rests w0) → rests (climbs_to p w) ≡ adds (ns ++ p.node ∷ []) (rests w0)
@@ -96,18 +94,15 @@ climbs_adds {F = F} p w w0 ns e = one p w ∙ ap (adds (p.node ∷ [])) e ∙ tw
   where
     one : (p : HeldNode) (w : View F) → rests (climbs_to p w) ≡ adds (p.node ∷ []) (rests w)
     one p Spent = refl
-    one p (Climbs v) = refl
-    one p (Leads l) = refl
+    one p _ = refl
 
     twice : (w0 : View F) (p : HeldNode) (ns : List ℕ) → adds (p.node ∷ []) (adds ns (rests w0)) ≡ adds (ns ++ p.node ∷ []) (rests w0)
-    twice Spent p ns = refl
     twice (Climbs v) p ns = ap (λ (m : List ℕ). Climbs record { facts = v.facts; number = v.number; held = None; last = v.last; over = v.over; claimed = v.claimed; merged = m }) (append_assoc v.merged ns (p.node ∷ []))
-    twice (Leads l) p ns = refl
+    twice _ p ns = refl
 
 pub adds_none : {F : Type 0} (w : View F) → rests w ≡ adds [] (rests w)
-adds_none Spent = refl
 adds_none (Climbs v) = ap (λ (m : List ℕ). Climbs record { facts = v.facts; number = v.number; held = None; last = v.last; over = v.over; claimed = v.claimed; merged = m }) (sym (append-nil v.merged))
-adds_none (Leads l) = refl
+adds_none _ = refl
 
 -- the node one level higher, and the list of those above the leaf with it
 pub above_more : (leaf h n : ℕ) → n ≡ above leaf h → n / 2 ≡ above leaf (h + 1)

@@ -41,11 +41,9 @@ halves f seen (x ∷ xs) ys = ap (λ rest. filtered_byte f seen x ∷ rest) (hal
 
 -- nothing is seen with a byte that is no closing bracket of an object
 all_nothing : (s o a c : Bool) → o ≡ false → (if s then Nothing else if o then Object else if a then Nothing else if c then Nothing else Nothing) ≡ Nothing
-all_nothing true o a c is = refl
 all_nothing false true a c is = absurd (false≢true (sym is))
-all_nothing false false true c is = refl
 all_nothing false false false true is = refl
-all_nothing false false false false is = refl
+all_nothing _ _ _ _ is = refl
 
 pub unseen : (b : ℕ) → (b == 0x7D) ≡ false → next_seen Nothing b ≡ Nothing
 unseen b is = all_nothing (is_space b) (b == 0x7D) (b == 0x5D) (b == 0x2C) is

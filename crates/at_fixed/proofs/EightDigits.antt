@@ -144,9 +144,8 @@ bounded (b ∷ bs) (h, hs) =
     rw power (omega (arith, bounded bs hs))
 
 taken : (n : ℕ) (bs : List ℕ) → Below 256 bs → Below 256 (take n bs)
-taken zero bs h = tt
-taken (suc n) [] h = tt
 taken (suc n) (b ∷ bs) (h, hs) = (h, taken n bs hs)
+taken _ _ h = tt
 
 over : (x y : ℕ) → x < 2 ^ 64 → (x + 2 ^ 64 * y) % 2 ^ 64 ≡ x
 over x y h = add-mul-mod_self_left x (2 ^ 64) y ∙ mod-eq_of_lt h

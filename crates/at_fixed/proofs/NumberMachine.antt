@@ -14,28 +14,22 @@ use Rattle.at_fixed.specs.States.{State, start, signed, zero_digit, whole, point
 
 -- what may follow, cell by cell
 abbrev pub Rest : Notation → State → List ℕ → Type 0
-Rest Json start [] = ⊥
 Rest Json start (b ∷ w) = ((b ≡ 0x2D) × Rest Json signed w) ⊎ (((b ≡ 0x30) × Rest Json zero_digit w) ⊎ ((is_first_digit b ≡ true) × Rest Json whole w))
-Rest Wkt start [] = ⊥
 Rest Wkt start (b ∷ w) = ((is_sign b ≡ true) × Rest Wkt signed w) ⊎ (((is_digit b ≡ true) × Rest Wkt whole w) ⊎ ((b ≡ 0x2E) × Rest Wkt point w))
-Rest Json signed [] = ⊥
 Rest Json signed (b ∷ w) = ((b ≡ 0x30) × Rest Json zero_digit w) ⊎ ((is_first_digit b ≡ true) × Rest Json whole w)
-Rest Wkt signed [] = ⊥
 Rest Wkt signed (b ∷ w) = ((is_digit b ≡ true) × Rest Wkt whole w) ⊎ ((b ≡ 0x2E) × Rest Wkt point w)
 Rest g zero_digit [] = ⊤
 Rest g zero_digit (b ∷ w) = ((b ≡ 0x2E) × Rest g (behind_digits g) w) ⊎ ((is_letter b ≡ true) × Rest g letter w)
 Rest g whole [] = ⊤
 Rest g whole (b ∷ w) = ((is_digit b ≡ true) × Rest g whole w) ⊎ (((b ≡ 0x2E) × Rest g (behind_digits g) w) ⊎ ((is_letter b ≡ true) × Rest g letter w))
-Rest g point [] = ⊥
 Rest g point (b ∷ w) = (is_digit b ≡ true) × Rest g fraction w
 Rest g fraction [] = ⊤
 Rest g fraction (b ∷ w) = ((is_digit b ≡ true) × Rest g fraction w) ⊎ ((is_letter b ≡ true) × Rest g letter w)
-Rest g letter [] = ⊥
 Rest g letter (b ∷ w) = ((is_digit b ≡ true) × Rest g power w) ⊎ ((is_sign b ≡ true) × Rest g power_sign w)
-Rest g power_sign [] = ⊥
 Rest g power_sign (b ∷ w) = (is_digit b ≡ true) × Rest g power w
 Rest g power [] = ⊤
 Rest g power (b ∷ w) = (is_digit b ≡ true) × Rest g power w
+Rest _ _ [] = ⊥
 
 -- ---- tests
 
@@ -146,29 +140,21 @@ no = ((λ x. absurd x), (λ e. true≢false (sym e)))
 
 ends : (g : Notation) (s : State) → Rest g s [] ↔ IsTrue (accepts s)
 ends Json start = no
-ends Wkt start = no
-ends Json signed = no
-ends Wkt signed = no
 ends g zero_digit = yes tt
 ends g whole = yes tt
-ends g point = no
 ends g fraction = yes tt
-ends g letter = no
-ends g power_sign = no
 ends g power = yes tt
+ends _ _ = no
 
 lives : (g : Notation) (s : State) → (w : List ℕ) × Rest g s w
 lives Json start = (0x30 ∷ [], inr (inl (refl, tt)))
 lives Wkt start = (0x30 ∷ [], inr (inl (refl, tt)))
 lives Json signed = (0x30 ∷ [], inl (refl, tt))
 lives Wkt signed = (0x30 ∷ [], inl (refl, tt))
-lives g zero_digit = ([], tt)
-lives g whole = ([], tt)
 lives g point = (0x30 ∷ [], (refl, tt))
-lives g fraction = ([], tt)
 lives g letter = (0x30 ∷ [], inl (refl, tt))
 lives g power_sign = (0x30 ∷ [], (refl, tt))
-lives g power = ([], tt)
+lives g _ = ([], tt)
 
 pub machine : (g : Notation) → IsMachine (Rest g) (step g) accepts
 machine g = record { ends = ends g; goes = goes g; comes = comes g; lives = lives g }
@@ -318,12 +304,11 @@ wkt_signed_from s (b ∷ w) h (inl (d, r)) = let (ds, v, hs, t, eq) = whole_from
 wkt_signed_from s (b ∷ w) h (inr (e, r)) = wkt_point_from s b w h e r
 
 number_from : (g : Notation) (w : List ℕ) → Rest g start w → NumberOf g w
-number_from Json [] r = absurd r
 number_from Json (b ∷ w) (inl (e, r)) = json_signed_from (b ∷ []) w (rw e refl) r
 number_from Json (b ∷ w) (inr r) = json_signed_from [] (b ∷ w) tt r
-number_from Wkt [] r = absurd r
 number_from Wkt (b ∷ w) (inl (h, r)) = wkt_signed_from (b ∷ []) w h r
 number_from Wkt (b ∷ w) (inr r) = wkt_signed_from [] (b ∷ w) tt r
+number_from _ [] r = absurd r
 
 number_of : (g : Notation) (w : List ℕ) → NumberOf g w → Rest g start w
 number_of Json w (n, h, e) = let P : List ℕ → Type 0 = Rest Json start in

@@ -136,11 +136,10 @@ some_digits (d ∷ ds) h k = h
 point_front : (g : Notation) (led some : Bool) (sign whole fs : List ℕ) → IsSignOf g sign → IsWholeOf g led whole → AreDigits fs → (led || is_wkt g) ≡ true
     → (some ≡ true → AreSomeDigits fs) → (some || (led && is_wkt g)) ≡ true → IsFrontOf g sign whole (Some fs)
 point_front Json true true sign whole fs h k digits m more e = (h, k, more refl)
-point_front Json true false sign whole fs h k digits m more e = absurd (true≢false (sym e))
 point_front Json false some sign whole fs h k digits m more e = absurd (true≢false (sym m))
 point_front Wkt true some sign whole fs h k digits m more e = (h, wkt_whole whole (Some fs) k digits)
 point_front Wkt false true sign whole fs h k digits m more e = (h, let P : List ℕ → Type 0 = λ x. AreWktDigits x (Some fs) in subst P (sym k) (more refl))
-point_front Wkt false false sign whole fs h k digits m more e = absurd (true≢false (sym e))
+point_front _ _ false sign whole fs h k digits m more e = absurd (true≢false (sym e))
 
 pub fraction_by : (g : Notation) (w : List ℕ) (whole : Mantissa) (run : DigitsRun) (is_number : Bool) → ReadsWhole g w whole → IsTrue (may_take_point g w whole)
     → whole.end + 1 ≤ run.end → run.end ≤ length w → AreDigits (between w (whole.end + 1) run.end)

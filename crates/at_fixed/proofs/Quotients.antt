@@ -74,9 +74,8 @@ far_below Exact p q positive h = exact_by p q 0 p false false (small_split p q (
 far_below Round p q positive h = rounded_by p q 0 (nearest_by p q 0 p false false (small_split p q (omega arith)) (lt_false q (2 * p) (omega arith)) (eq_false (2 * p) q (λ e. omega (arith, e, h))))
 
 or_none : (a b : Bool) → (a || (b && false)) ≡ a
-or_none true b = refl
 or_none false true = refl
-or_none false false = refl
+or_none _ _ = refl
 
 whole_above : (most n q : ℕ) → 0 < q → nat_lt (most * q) (n * q) ≡ nat_lt most n
 whole_above most n q positive = let zero : n * q + 0 ≡ n * q = omega arith in
@@ -113,9 +112,8 @@ some_or_none rest = elim (cases_eq rest 0) [
 ]
 
 turned : (out some : Bool) (n : ℕ) → exact_shape out (not some) n ≡ cond out (Err Range) (cond some (Err Scale) (Ok n))
-turned true some n = refl
 turned false true n = refl
-turned false false n = refl
+turned _ _ n = refl
 
 -- the exact number of a fraction with the whole part d and a rest of its own, where `cut` says that there is such a rest
 pub exact_near : (d q rest : ℕ) (cut : Bool) → rest < q → cut ≡ nat_lt 0 rest
@@ -156,11 +154,9 @@ over_by half r D R h = let two : 2 * half * D ≡ 2 * (half * D) = grind arith i
 
 chosen : (more same some odd : Bool) (d m : ℕ) → d + m ≡ cond odd (d + 1) d
     → cond (more || (same && some)) (d + 1) (cond (same && not some) (d + m) d) ≡ cond (more || (same && (some || odd))) (d + 1) d
-chosen true same some odd d m e = refl
-chosen false true true odd d m e = refl
 chosen false true false true d m e = e
 chosen false true false false d m e = e
-chosen false false some odd d m e = refl
+chosen _ _ _ odd d m e = refl
 
 -- the number nearest to a fraction with the whole part d and the rest r of 2 * half, behind which `cut` says that there is more
 pub rounded_near : (d r half D R : ℕ) (cut : Bool) → r < 2 * half → R < D → cut ≡ nat_lt 0 R

@@ -71,8 +71,7 @@ module _ (g : Notation) (w : List ℕ) (sign : Sign) (point : ℕ) (signs : Read
   } where
     no_point : (a b : Bool) → b ≡ false → (a && (b && true)) ≡ false
     no_point true true h = h
-    no_point true false h = refl
-    no_point false b h = refl
+    no_point _ _ h = refl
 
   pub plain_whole : (digits : ℕ) (how : Coords) (size : ℕ) → size ≡ lead_value * 10 ^ digits → size ≤ largest → point ≤ 19 → (slice_index w point == 0x2E) ≡ false
       → IsSizedIn g w digits how (record { end = point; is_minus = sign.is_minus; size = size })

@@ -26,12 +26,11 @@ use Rattle.at_geojson.proofs.CoordinateFolds.{alike_at, some_numbers, some_posit
 
 -- a position has no equal names
 pub twin_of_pair : (at least : ℕ) (items : List GeoAtom) (r : GeoAtom) → pair_atom at least items ≡ Some r → twin_of r ≡ None
-twin_of_pair at least [] r e = absurd (none-some r e)
-twin_of_pair at least (x ∷ []) r e = absurd (none-some r e)
 twin_of_pair at least (x ∷ y ∷ rest) r e = ap twin_of (sym (same_Some (position_atom at least x y) r e)) ∙ go (first_fault (number_fault x) (number_fault y)) where
   go : (o : Option Fault) → twin_of (position_made at least x y o) ≡ None
   go None = refl
   go (Some f) = refl
+twin_of_pair at least _ r e = absurd (none-some r e)
 
 module _ (asked : Asked) where
   module _ (at : ℕ) (a : GeoAtom) (aa : List GeoAtom) (ts : Trees) (h : AreFolds (IsRead asked) (a ∷ aa) ts) where

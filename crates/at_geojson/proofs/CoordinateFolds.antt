@@ -105,8 +105,7 @@ module _ (asked : Asked) where
   all_same : (p q : GeoAtom → Bool) → ((a : GeoAtom) → as_run a ≡ None → p a ≡ q a) → (aa : List GeoAtom) (ts : Trees) → AreFolds (IsRead asked) aa ts → list_all p aa ≡ list_all q aa
   all_same p q same [] no_trees h = refl
   all_same p q same (a ∷ aa) (tree_and t ts) h = ap (λ b. b && list_all p aa) (same a h.0.single) ∙ ap (λ b. q a && b) (all_same p q same aa ts h.1)
-  all_same p q same [] (tree_and t ts) h = absurd h
-  all_same p q same (a ∷ aa) no_trees h = absurd h
+  all_same p q same _ _ h = absurd h
 
   module _ (at : ℕ) (aa : List GeoAtom) (ts : Trees) (h : AreFolds (IsRead asked) aa ts) where
     numbers : AreFolds (λ a t. Alike (IsNumber asked) (as_number a) (number_at t)) aa ts
@@ -206,8 +205,7 @@ module _ (asked : Asked) where
   last_is : (a : GeoAtom) (aa : List GeoAtom) (p : Position) (ps : List Position) → IsPosit a p → EachIs position_of as_position (IsPosition asked) aa ps → IsPosit (last_atom a aa) (last_of p ps)
   last_is a [] p [] i h = i
   last_is a (b ∷ aa) p (q ∷ ps) i h = last_is b aa q ps h.0 h.1
-  last_is a [] p (q ∷ ps) i h = absurd h
-  last_is a (b ∷ aa) p [] i h = absurd h
+  last_is a _ p _ i h = absurd h
 
   closed_is : (aa : List GeoAtom) (ps : List Position) → EachIs position_of as_position (IsPosition asked) aa ps → (a : GeoAtom) (rest : List GeoAtom) → aa ≡ a ∷ rest → closes aa ≡ is_closed asked.digits asked.how ps
   closed_is (a ∷ aa) (p ∷ ps) h b rest e = closes_is a aa ∙ close_same a (last_atom a aa) p (last_of p ps) h.0 (last_is a aa p ps h.0 h.1)
@@ -280,8 +278,7 @@ module _ (asked : Asked) where
       let o = sym (firsts-cons area_fault a aa) ∙ e in
       ap (λ z. z ++ map polygon_in aa) (polygon_is a p ls h.0 n (none_left (area_fault a) (firsts area_fault aa) o))
       ∙ (ap (λ z. polygons_of asked.digits asked.how (p ∷ ls) ++ z) (polygons_each n aa ys h.1 (none_behind (area_fault a) (firsts area_fault aa) o)) ∙ sym (flat_map-cons (polygons_of asked.digits asked.how) (p ∷ ls) ys))
-  polygons_each n [] (y ∷ ys) h e = absurd h
-  polygons_each n (a ∷ aa) [] h e = absurd h
+  polygons_each n _ _ h e = absurd h
 
   pub areas_are : (at least : ℕ) (aa : List GeoAtom) (r : GeoAtom) (ys : List (List Positions)) → EachIs area_of as_area (IsArea asked) aa ys → (m : MakesAreas (needs_shapes asked.query) at least aa r)
       → Alike (IsAreas asked) (as_areas (atoms.Areas m.atom)) (Some ys)

@@ -95,46 +95,28 @@ module _ (asked : Asked) where
   fold_same a b t s f = record { twins = s.twin ∙ f.twins; read = λ e. read_same a b t s (f.read (sym s.twin ∙ e)) }
 
   pub copy_folds : (a b : GeoAtom) → IsCopy a b → (t : Tree) → IsFold asked a t → IsFold asked b t
-  copy_folds (atoms.Twin f) b c t h = subst (λ z. IsFold asked z t) (sym c) h
-  copy_folds (atoms.Null n) b c t h = subst (λ z. IsFold asked z t) (sym c) h
-  copy_folds (atoms.Plain n) b c t h = subst (λ z. IsFold asked z t) (sym c) h
   copy_folds (atoms.Text x) b c t h = subst (λ z. IsFold asked z t) (sym c.1) (fold_same (atoms.Text x) (atoms.Text c.0) t (record { twin = refl; at = c.2.0; single = refl; null = refl; empty = refl; kind = c.2.1; text = c.2.2; number = refl; position = refl; points = refl; lists = refl; area = refl; areas = refl; geometries = refl; features = refl; role = refl; texts = refl }) h)
-  copy_folds (atoms.Number x) b c t h = subst (λ z. IsFold asked z t) (sym c) h
-  copy_folds (atoms.BadNumber f) b c t h = subst (λ z. IsFold asked z t) (sym c) h
-  copy_folds (atoms.Empty n) b c t h = subst (λ z. IsFold asked z t) (sym c) h
-  copy_folds (atoms.Position x) b c t h = subst (λ z. IsFold asked z t) (sym c) h
-  copy_folds (atoms.BadPosition x) b c t h = subst (λ z. IsFold asked z t) (sym c) h
   copy_folds (atoms.Points x) b c t h = subst (λ z. IsFold asked z t) (sym c.1) (fold_same (atoms.Points x) (atoms.Points c.0) t (record { twin = refl; at = c.2.0; single = refl; null = refl; empty = refl; kind = refl; text = refl; number = refl; position = refl; points = points_same c.2.2.0 c.2.2.1 c.2.2.2 c.2.2.3; lists = refl; area = refl; areas = refl; geometries = ap (λ n. Some (both_forms n)) c.2.1; features = ap (λ n. Some (both_forms n)) c.2.1; role = refl; texts = refl }) h)
   copy_folds (atoms.Lists x) b c t h = subst (λ z. IsFold asked z t) (sym c.1) (fold_same (atoms.Lists x) (atoms.Lists c.0) t (record { twin = refl; at = c.2.0; single = refl; null = refl; empty = refl; kind = refl; text = refl; number = refl; position = refl; points = refl; lists = lists_same c.2.2.0 c.2.2.1 c.2.2.2; area = lists_same c.2.2.0 c.2.2.1 c.2.2.2; areas = refl; geometries = ap (λ n. Some (both_forms n)) c.2.1; features = ap (λ n. Some (both_forms n)) c.2.1; role = refl; texts = refl }) h)
   copy_folds (atoms.Areas x) b c t h = subst (λ z. IsFold asked z t) (sym c.1) (fold_same (atoms.Areas x) (atoms.Areas c.0) t (record { twin = refl; at = c.2.0; single = refl; null = refl; empty = refl; kind = refl; text = refl; number = refl; position = refl; points = refl; lists = refl; area = refl; areas = areas_same c.2.2.0 c.2.2.1; geometries = ap (λ n. Some (both_forms n)) c.2.1; features = ap (λ n. Some (both_forms n)) c.2.1; role = refl; texts = refl }) h)
-  copy_folds (atoms.Other x) b c t h = subst (λ z. IsFold asked z t) (sym c) h
   copy_folds (atoms.Items x) b c t h = subst (λ z. IsFold asked z t) (sym c.1) (fold_same (atoms.Items x) (atoms.Items c.0) t (record { twin = refl; at = c.2; single = refl; null = refl; empty = refl; kind = refl; text = refl; number = refl; position = refl; points = refl; lists = refl; area = refl; areas = refl; geometries = ap (λ (i : Items). Some i.geometries) c.3; features = ap (λ (i : Items). Some i.features) c.3; role = refl; texts = refl }) h)
-  copy_folds (atoms.Void n) b c t h = subst (λ z. IsFold asked z t) (sym c) h
   copy_folds (atoms.Object x) b c t h = subst (λ z. IsFold asked z t) (sym c.1) (fold_same (atoms.Object x) (atoms.Object c.0) t (record { twin = refl; at = c.2; single = refl; null = refl; empty = refl; kind = refl; text = refl; number = refl; position = refl; points = refl; lists = refl; area = refl; areas = refl; geometries = refl; features = refl; role = ap (λ (i : Roles). i.role) c.3; texts = ap (λ (i : Roles). Some i.texts) c.3 }) h)
   copy_folds (atoms.Run x) b c t h = absurd (none-some x.value (sym (h.read refl).single))
   copy_folds (atoms.Series x) b c t h = absurd (none-some (no_roles x.at) (sym (h.read refl).single))
   copy_folds (atoms.Track x) b c t h = absurd (none-some (no_roles x.at) (sym (h.read refl).single))
+  copy_folds _ b c t h = subst (λ z. IsFold asked z t) (sym c) h
 
   pub copy_own : (a b : GeoAtom) → IsCopy a b → IsOwn asked a → IsOwn asked b
-  copy_own (atoms.Twin f) b c h = subst (IsOwn asked) (sym c) h
-  copy_own (atoms.Null n) b c h = subst (IsOwn asked) (sym c) h
-  copy_own (atoms.Plain n) b c h = subst (IsOwn asked) (sym c) h
   copy_own (atoms.Text x) b c h = subst (IsOwn asked) (sym c.1) (tt)
-  copy_own (atoms.Number x) b c h = subst (IsOwn asked) (sym c) h
-  copy_own (atoms.BadNumber f) b c h = subst (IsOwn asked) (sym c) h
-  copy_own (atoms.Empty n) b c h = subst (IsOwn asked) (sym c) h
-  copy_own (atoms.Position x) b c h = subst (IsOwn asked) (sym c) h
-  copy_own (atoms.BadPosition x) b c h = subst (IsOwn asked) (sym c) h
   copy_own (atoms.Points x) b c h = subst (IsOwn asked) (sym c.1) (subst (All IsInRange) (sym c.2.2.0) h)
   copy_own (atoms.Lists x) b c h = subst (IsOwn asked) (sym c.1) (subst ArePathsInRange (sym c.2.2.0) h)
   copy_own (atoms.Areas x) b c h = subst (IsOwn asked) (sym c.1) (subst ArePolygonsInRange (sym c.2.2.0) h)
-  copy_own (atoms.Other x) b c h = subst (IsOwn asked) (sym c) h
   copy_own (atoms.Items x) b c h = subst (IsOwn asked) (sym c.1) (subst (AreOwnItems asked) (sym c.3) h)
-  copy_own (atoms.Void n) b c h = subst (IsOwn asked) (sym c) h
   copy_own (atoms.Object x) b c h = subst (IsOwn asked) (sym c.1) (subst (λ (i : Roles). IsOwnRole asked i.role) (sym c.3) h)
   copy_own (atoms.Run x) b c h = subst (IsOwn asked) (sym c.1) (subst (AreOwnItems asked) (sym c.2) h)
   copy_own (atoms.Series x) b c h = subst (IsOwn asked) (sym c.1) (subst ArePathsInRange (sym c.2.1.0) h)
   copy_own (atoms.Track x) b c h = subst (IsOwn asked) (sym c.1) (subst (All IsInRange) (sym c.2.1.4) h)
+  copy_own _ b c h = subst (IsOwn asked) (sym c) h
 
   pub copy_run : (a b : GeoAtom) → IsCopy a b → (ts : List Tree) → IsRun asked a ts → IsRun asked b ts
   copy_run a b c ts (inl (x, e, r)) = let (y, q, s) = subst (λ z. IsCopy z b) e c in inl (y, q, subst (λ i. AreJoined asked i ts) (sym s) r)

@@ -24,8 +24,7 @@ use Rattle.at_geojson.proofs.Firsts.{firsts-cons}
 pub folds_map : (P Q : GeoAtom → Tree → Type 0) → ((a : GeoAtom) (t : Tree) → P a t → Q a t) → (aa : List GeoAtom) (ts : Trees) → AreFolds P aa ts → AreFolds Q aa ts
 folds_map P Q f [] no_trees h = tt
 folds_map P Q f (a ∷ aa) (tree_and t ts) h = (f a t h.0, folds_map P Q f aa ts h.1)
-folds_map P Q f [] (tree_and t ts) h = absurd h
-folds_map P Q f (a ∷ aa) no_trees h = absurd h
+folds_map P Q f _ _ h = absurd h
 
 -- neither of two has a fault
 pub none_left : (o p : Option Fault) → first_fault o p ≡ None → o ≡ None
@@ -57,9 +56,8 @@ module _ {X Y : Type 0} (f : Tree → Option Y) (view : GeoAtom → Option X) (R
 
   pub one_some : (o : Option X) (p : Option Y) → Alike R o p → is_some o ≡ true → (x : X) × (y : Y) × (o ≡ Some x) × (p ≡ Some y) × R x y
   one_some (Some x) (Some y) r e = (x, y, refl, refl, r)
-  one_some (Some x) None r e = absurd r
-  one_some None (Some y) r e = absurd r
   one_some None None r e = absurd (true≢false (sym e))
+  one_some _ _ r e = absurd r
 
   pub one_none : (o : Option X) (p : Option Y) → Alike R o p → is_some o ≡ false → p ≡ None
   one_none (Some x) p r e = absurd (true≢false e)
@@ -100,8 +98,7 @@ module _ {X Y : Type 0} (f : Tree → Option Y) (view : GeoAtom → Option X) (R
   firsts_each g G same [] [] h = refl
   firsts_each g G same (a ∷ aa) (y ∷ ys) h = firsts-cons g a aa ∙ (ap (λ o. first_fault o (firsts g aa)) (same a y h.0)
       ∙ (ap (first_fault (first_of (G y))) (firsts_each g G same aa ys h.1) ∙ (sym (first_of-append (G y) (flat_map G ys)) ∙ ap first_of (sym (flat_map-cons G y ys)))))
-  firsts_each g G same [] (y ∷ ys) h = absurd h
-  firsts_each g G same (a ∷ aa) [] h = absurd h
+  firsts_each g G same _ _ h = absurd h
 
   -- where none has a fault, what is kept of each
   pub values_each : {Z : Type 0} (g : GeoAtom → Option Fault) (v : GeoAtom → Z) (w : Y → Z) → ((a : GeoAtom) (y : Y) → Is a y → g a ≡ None → v a ≡ w y)
@@ -112,14 +109,12 @@ module _ {X Y : Type 0} (f : Tree → Option Y) (view : GeoAtom → Option X) (R
       let one = same a y h.0 (none_left (g a) (firsts g aa) o) in
       let more = values_each g v w same aa ys h.1 (none_behind (g a) (firsts g aa) o) in
       ap (λ z. z ∷ map v aa) one ∙ ap (λ zs. w y ∷ zs) more
-  values_each g v w same [] (y ∷ ys) h e = absurd h
-  values_each g v w same (a ∷ aa) [] h e = absurd h
+  values_each g v w same _ _ h e = absurd h
 
   pub length_each : (aa : List GeoAtom) (ys : List Y) → EachIs aa ys → length aa ≡ length ys
   length_each [] [] h = refl
   length_each (a ∷ aa) (y ∷ ys) h = ap suc (length_each aa ys h.1)
-  length_each [] (y ∷ ys) h = absurd h
-  length_each (a ∷ aa) [] h = absurd h
+  length_each _ _ h = absurd h
 
 -- ---- equal names in items
 
@@ -128,13 +123,11 @@ module _ (asked : Asked) where
   twins_items [] no_trees h = refl
   twins_items (a ∷ aa) (tree_and t ts) h = firsts-cons twin_of a aa ∙ (ap (λ o. first_fault o (firsts twin_of aa)) h.0.twins
       ∙ (ap (first_fault (first_of (twins_of t))) (twins_items aa ts h.1) ∙ sym (first_of-append (twins_of t) (twins_of_items ts))))
-  twins_items [] (tree_and t ts) h = absurd h
-  twins_items (a ∷ aa) no_trees h = absurd h
+  twins_items _ _ h = absurd h
 
   pub reads : (aa : List GeoAtom) (ts : Trees) → AreFolds (IsFold asked) aa ts → firsts twin_of aa ≡ None → AreFolds (IsRead asked) aa ts
   reads [] no_trees h e = tt
   reads (a ∷ aa) (tree_and t ts) h e =
       let o = sym (firsts-cons twin_of a aa) ∙ e in
       (h.0.read (none_left (twin_of a) (firsts twin_of aa) o), reads aa ts h.1 (none_behind (twin_of a) (firsts twin_of aa) o))
-  reads [] (tree_and t ts) h e = absurd h
-  reads (a ∷ aa) no_trees h e = absurd h
+  reads _ _ h e = absurd h

@@ -13,7 +13,7 @@ use Rattle.at_geom.specs.declared.shapes.Shape.{Shape}
 use Rattle.at_wkt.specs.Positions.{Positions, items_faults, position_faults, faults_of_line, faults_of_ring, pos_of, path_of}
 use Rattle.at_wkt.specs.Geometry as wkt
 use Rattle.at_wkt.specs.Meaning.{empty_shape, of_points, of_lines, of_polygons, present, polygons_of, faults_of_area, shape_of, faults_of}
-use Rattle.at_nest.specs.Tree.{Tree, literal, number, text, array, object, Trees, no_trees, tree_and, offset_of}
+use Rattle.at_nest.specs.Tree.{Tree, array, object, Trees, no_trees, tree_and, offset_of}
 use Rattle.at_scan.specs.declared.kinds.Kind.{Kind}
 use Rattle.at_scan.specs.declared.kinds.Kind.TheVariants as kinds
 use Rattle.at_geojson.specs.declared.atoms.GeoAtom.{GeoAtom}
@@ -40,34 +40,22 @@ has_items None = true
 nil_lists : (t : Tree) → array_trees t ≡ Some no_trees → lists_of t ≡ Some []
 nil_lists (array i no_trees) e = refl
 nil_lists (array i (tree_and u us)) e = absurd (true≢false (ap has_items e))
-nil_lists (object i ms) e = absurd (true≢false (ap has_items e))
-nil_lists (text i cs) e = absurd (true≢false (ap has_items e))
-nil_lists (number i n) e = absurd (true≢false (ap has_items e))
-nil_lists (literal i l) e = absurd (true≢false (ap has_items e))
+nil_lists _ e = absurd (true≢false (ap has_items e))
 
 nil_areas : (t : Tree) → array_trees t ≡ Some no_trees → areas_of t ≡ Some []
 nil_areas (array i no_trees) e = refl
 nil_areas (array i (tree_and u us)) e = absurd (true≢false (ap has_items e))
-nil_areas (object i ms) e = absurd (true≢false (ap has_items e))
-nil_areas (text i cs) e = absurd (true≢false (ap has_items e))
-nil_areas (number i n) e = absurd (true≢false (ap has_items e))
-nil_areas (literal i l) e = absurd (true≢false (ap has_items e))
+nil_areas _ e = absurd (true≢false (ap has_items e))
 
 nil_geometry : (kind : Kind) (t : Tree) → array_trees t ≡ Some no_trees → geometry_of kind t ≡ Some (wkt.collection wkt.no_geometries)
 nil_geometry kind (array i no_trees) e = refl
 nil_geometry kind (array i (tree_and u us)) e = absurd (true≢false (ap has_items e))
-nil_geometry kind (object i ms) e = absurd (true≢false (ap has_items e))
-nil_geometry kind (text i cs) e = absurd (true≢false (ap has_items e))
-nil_geometry kind (number i n) e = absurd (true≢false (ap has_items e))
-nil_geometry kind (literal i l) e = absurd (true≢false (ap has_items e))
+nil_geometry kind _ e = absurd (true≢false (ap has_items e))
 
 form_geometry : (kind : Kind) (t : Tree) → (array_trees t ≡ Some no_trees → ⊥) → geometry_of kind t ≡ geometry_of_form kind t
 form_geometry kind (array i no_trees) n = absurd (n refl)
 form_geometry kind (array i (tree_and u us)) n = refl
-form_geometry kind (object i ms) n = refl
-form_geometry kind (text i cs) n = refl
-form_geometry kind (number i k) n = refl
-form_geometry kind (literal i l) n = refl
+form_geometry kind _ n = refl
 
 -- lists of positions of an array that isn't empty are an area
 polygon_form : (t : Tree) → (array_trees t ≡ Some no_trees → ⊥) → geometry_of_form kinds.Polygon t ≡ option_map (λ rings. wkt.polygon rings) (area_of t)
@@ -79,9 +67,7 @@ polygon_form (array i (tree_and u us)) n = go (positions_of u) (each positions_o
   go (Some y) None = refl
   go (Some y) (Some ys) = refl
 polygon_form (object i ms) n = refl
-polygon_form (text i cs) n = refl
-polygon_form (number i k) n = refl
-polygon_form (literal i l) n = refl
+polygon_form _ n = refl
 
 -- ---- shapes
 
@@ -122,25 +108,12 @@ one_flat f x = sym (flat_map-cons f x [] ∙ append-nil (f x))
 
 module _ (asked : Asked) where
   not_nil : (a : GeoAtom) (t : Tree) → IsRead asked a t → is_empty a ≡ false → array_trees t ≡ Some no_trees → ⊥
-  not_nil (atoms.Twin f) t r n e = subst (Alike (IsLists asked) None) (nil_lists t e) r.coordinates.lists
-  not_nil (atoms.Null k) t r n e = subst (Alike (IsLists asked) None) (nil_lists t e) r.coordinates.lists
-  not_nil (atoms.Plain k) t r n e = subst (Alike (IsLists asked) None) (nil_lists t e) r.coordinates.lists
-  not_nil (atoms.Text x) t r n e = subst (Alike (IsLists asked) None) (nil_lists t e) r.coordinates.lists
-  not_nil (atoms.Number x) t r n e = subst (Alike (IsLists asked) None) (nil_lists t e) r.coordinates.lists
-  not_nil (atoms.BadNumber f) t r n e = subst (Alike (IsLists asked) None) (nil_lists t e) r.coordinates.lists
   not_nil (atoms.Empty k) t r n e = absurd (true≢false n)
-  not_nil (atoms.Position x) t r n e = subst (Alike (IsLists asked) None) (nil_lists t e) r.coordinates.lists
-  not_nil (atoms.BadPosition x) t r n e = subst (Alike (IsLists asked) None) (nil_lists t e) r.coordinates.lists
-  not_nil (atoms.Points x) t r n e = subst (Alike (IsLists asked) None) (nil_lists t e) r.coordinates.lists
   not_nil (atoms.Lists x) t r n e = subst (Alike (IsAreas asked) None) (nil_areas t e) r.coordinates.areas
-  not_nil (atoms.Areas x) t r n e = subst (Alike (IsLists asked) None) (nil_lists t e) r.coordinates.lists
-  not_nil (atoms.Other x) t r n e = subst (Alike (IsLists asked) None) (nil_lists t e) r.coordinates.lists
-  not_nil (atoms.Items x) t r n e = subst (Alike (IsLists asked) None) (nil_lists t e) r.coordinates.lists
-  not_nil (atoms.Void k) t r n e = subst (Alike (IsLists asked) None) (nil_lists t e) r.coordinates.lists
-  not_nil (atoms.Object x) t r n e = subst (Alike (IsLists asked) None) (nil_lists t e) r.coordinates.lists
   not_nil (atoms.Run x) t r n e = absurd (none-some x.value (sym r.single))
   not_nil (atoms.Series s) t r n e = absurd (none-some (no_roles s.at) (sym r.single))
   not_nil (atoms.Track x) t r n e = absurd (none-some (no_roles x.at) (sym r.single))
+  not_nil _ t r n e = subst (Alike (IsLists asked) None) (nil_lists t e) r.coordinates.lists
 
   abbrev of_geometry : wkt.Geometry → GeometryRead
   of_geometry g = record { shape = shape_of asked.digits asked.how g; faults = faults_of asked.digits asked.how g }
@@ -152,9 +125,8 @@ module _ (asked : Asked) where
       (form : (t : Tree) → (array_trees t ≡ Some no_trees → ⊥) → geometry_of_form kind t ≡ option_map g (f t)) (good : (x : X) (y : Y) → R x y → HasShape (needs_shapes asked.query) (tell x) (of_geometry (g y))) where
     by_view : (a : GeoAtom) (at : ℕ) (o : Option X) (p : Option Y) → at_of a ≡ at → Alike R o p → HasShape (needs_shapes asked.query) (seen (Err (fault_at Form (at_of a))) tell o) (geometry_read at (option_map g p))
     by_view a at (Some x) (Some y) e r = good x y r
-    by_view a at (Some x) None e r = absurd r
-    by_view a at None (Some y) e r = absurd r
     by_view a at None None e r = ap (λ n. Some (fault_at Form n)) (sym e)
+    by_view a at _ _ e r = absurd r
 
     pub shape_is : (at : ℕ) (a : GeoAtom) (t : Tree) → IsRead asked a t → Alike R (view a) (f t) → HasShape (needs_shapes asked.query) (shape_seen a (view a) tell) (coordinates_reading asked.digits asked.how at kind (Some t))
     shape_is at a t r h = go (is_empty a) refl where

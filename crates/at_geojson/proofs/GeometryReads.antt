@@ -44,33 +44,18 @@ none_are = record { kind = refl; coordinates = refl; geometry = refl; properties
 
 pub is_kind_field : (field : Field) → is_kind field ≡ true → field ≡ names.Kind
 is_kind_field names.Kind e = refl
-is_kind_field names.Coordinates e = absurd (true≢false (sym e))
-is_kind_field names.Geometry e = absurd (true≢false (sym e))
-is_kind_field names.Properties e = absurd (true≢false (sym e))
-is_kind_field names.Features e = absurd (true≢false (sym e))
-is_kind_field names.Geometries e = absurd (true≢false (sym e))
-is_kind_field names.Other e = absurd (true≢false (sym e))
+is_kind_field _ e = absurd (true≢false (sym e))
 
 pub is_coordinates_field : (field : Field) → is_coordinates field ≡ true → field ≡ names.Coordinates
 is_coordinates_field names.Coordinates e = refl
-is_coordinates_field names.Kind e = absurd (true≢false (sym e))
-is_coordinates_field names.Geometry e = absurd (true≢false (sym e))
-is_coordinates_field names.Properties e = absurd (true≢false (sym e))
-is_coordinates_field names.Features e = absurd (true≢false (sym e))
-is_coordinates_field names.Geometries e = absurd (true≢false (sym e))
-is_coordinates_field names.Other e = absurd (true≢false (sym e))
+is_coordinates_field _ e = absurd (true≢false (sym e))
 
 module _ (asked : Asked) (alloc : Global) where
   role_with : (at : ℕ) (kind : Kind) (f : Fields) (shape : Result Shape Fault) → has_coordinates kind ≡ true → shape ≡ coordinates_shape (needs_shapes asked.query) at kind f.coordinates → IsRoleIn asked.query at (Some kind) f (roles.Geometry shape)
   role_with at kinds.FeatureCollection f shape e same = absurd (true≢false (sym e))
   role_with at kinds.Feature f shape e same = absurd (true≢false (sym e))
   role_with at kinds.GeometryCollection f shape e same = absurd (true≢false (sym e))
-  role_with at kinds.Point f shape e same = ap roles.Geometry same
-  role_with at kinds.MultiPoint f shape e same = ap roles.Geometry same
-  role_with at kinds.LineString f shape e same = ap roles.Geometry same
-  role_with at kinds.MultiLineString f shape e same = ap roles.Geometry same
-  role_with at kinds.Polygon f shape e same = ap roles.Geometry same
-  role_with at kinds.MultiPolygon f shape e same = ap roles.Geometry same
+  role_with at _ f shape e same = ap roles.Geometry same
 
   module _ (base : ℕ) (w : List ℕ) where
     -- an object of a kind and of coordinates, as a geometry

@@ -34,8 +34,7 @@ last_covers P R (x ∷ xs) a ts (us, vs, e, c, h) = let (ps, qs, f, hs, d) = las
 pub one_each : (P : GeoAtom → Tree → Type 0) (R : GeoAtom → List Tree → Type 0) (xs : List GeoAtom) (ts : Trees) → AreFolds P xs ts → AreItemFolds P R xs (items_of ts)
 one_each P R [] no_trees h = refl
 one_each P R (x ∷ xs) (tree_and t ts) h = (t ∷ [], items_of ts, refl, inl (t, refl, h.0), one_each P R xs ts h.1)
-one_each P R [] (tree_and t ts) h = absurd h
-one_each P R (x ∷ xs) no_trees h = absurd h
+one_each P R _ _ h = absurd h
 
 pub trees_of_items : (ts : Trees) → trees (items_of ts) ≡ ts
 trees_of_items no_trees = refl

@@ -4,7 +4,7 @@ use Rattle.std.proofs.Common.{◌≡◌, ℕ, List, [], ◌∷◌, ◌++◌, Opt
 use Rattle.std.proofs.lemmas.Option.{none-some}
 use Rattle.at_fixed.specs.Numerals.{Numeral}
 use Rattle.at_wkt.specs.Positions.{Position, Positions}
-use Rattle.at_nest.specs.Tree.{Tree, literal, number, text, array, object}
+use Rattle.at_nest.specs.Tree.{Tree, number, array}
 use Rattle.at_geojson.specs.Names.{items_of}
 use Rattle.at_geojson.specs.Coordinates.{each, number_at, position_of, position_of_numbers, positions_of, area_of, if_some_items}
 
@@ -59,24 +59,15 @@ module _ {Y : Type 0} (f : Tree → Option Y) where
 
 pub position_no_number : (t : Tree) (p : Position) → position_of t ≡ Some p → number_at t ≡ None
 position_no_number (array i ts) p e = refl
-position_no_number (literal i l) p e = absurd (none-some p e)
-position_no_number (number i n) p e = absurd (none-some p e)
-position_no_number (text i cs) p e = absurd (none-some p e)
-position_no_number (object i ms) p e = absurd (none-some p e)
+position_no_number _ p e = absurd (none-some p e)
 
 number_no_position : (t : Tree) (n : Numeral × ℕ) → number_at t ≡ Some n → position_of t ≡ None
 number_no_position (number i m) n e = refl
-number_no_position (array i ts) n e = absurd (none-some n e)
-number_no_position (literal i l) n e = absurd (none-some n e)
-number_no_position (text i cs) n e = absurd (none-some n e)
-number_no_position (object i ms) n e = absurd (none-some n e)
+number_no_position _ n e = absurd (none-some n e)
 
 pub list_no_number : (t : Tree) (p : Positions) → positions_of t ≡ Some p → number_at t ≡ None
 list_no_number (array i ts) p e = refl
-list_no_number (literal i l) p e = absurd (none-some p e)
-list_no_number (number i n) p e = absurd (none-some p e)
-list_no_number (text i cs) p e = absurd (none-some p e)
-list_no_number (object i ms) p e = absurd (none-some p e)
+list_no_number _ p e = absurd (none-some p e)
 
 abbrev listed : ℕ → Option (List Position) → Option Positions
 listed i o = option_map (λ items. record { at = i; items = items }) o
@@ -95,17 +86,11 @@ numbers_no_list i (z ∷ zs) p e = let (n, k) = first_number (number_at z) (each
 
 pub position_no_list : (t : Tree) (p : Position) → position_of t ≡ Some p → positions_of t ≡ None
 position_no_list (array i ts) p e = numbers_no_list i (items_of ts) p e
-position_no_list (literal i l) p e = absurd (none-some p e)
-position_no_list (number i n) p e = absurd (none-some p e)
-position_no_list (text i cs) p e = absurd (none-some p e)
-position_no_list (object i ms) p e = absurd (none-some p e)
+position_no_list _ p e = absurd (none-some p e)
 
 number_no_list : (t : Tree) (n : Numeral × ℕ) → number_at t ≡ Some n → positions_of t ≡ None
 number_no_list (number i m) n e = refl
-number_no_list (array i ts) n e = absurd (none-some n e)
-number_no_list (literal i l) n e = absurd (none-some n e)
-number_no_list (text i cs) n e = absurd (none-some n e)
-number_no_list (object i ms) n e = absurd (none-some n e)
+number_no_list _ n e = absurd (none-some n e)
 
 numbers_no_area : (zs : List Tree) (p : Position) → option_and_then position_of_numbers (each number_at zs) ≡ Some p → option_and_then if_some_items (each positions_of zs) ≡ None
 numbers_no_area [] p e = absurd (none-some p e)
@@ -113,10 +98,7 @@ numbers_no_area (z ∷ zs) p e = let (n, k) = first_number (number_at z) (each n
 
 pub position_no_area : (t : Tree) (p : Position) → position_of t ≡ Some p → area_of t ≡ None
 position_no_area (array i ts) p e = numbers_no_area (items_of ts) p e
-position_no_area (literal i l) p e = absurd (none-some p e)
-position_no_area (number i n) p e = absurd (none-some p e)
-position_no_area (text i cs) p e = absurd (none-some p e)
-position_no_area (object i ms) p e = absurd (none-some p e)
+position_no_area _ p e = absurd (none-some p e)
 
 no_numbers : (xs : List Tree) (ps : List Position) → each position_of xs ≡ Some ps → option_and_then position_of_numbers (each number_at xs) ≡ None
 no_numbers [] ps e = refl
@@ -128,14 +110,8 @@ no_lists (x ∷ xs) ps e = let (y, rest, p, q, k) = parts (position_of x) (each 
 
 pub list_no_position : (t : Tree) (p : Positions) → positions_of t ≡ Some p → position_of t ≡ None
 list_no_position (array i ts) p e = let (ps, k) = has_items i (each position_of (items_of ts)) p e in no_numbers (items_of ts) ps k
-list_no_position (literal i l) p e = absurd (none-some p e)
-list_no_position (number i n) p e = absurd (none-some p e)
-list_no_position (text i cs) p e = absurd (none-some p e)
-list_no_position (object i ms) p e = absurd (none-some p e)
+list_no_position _ p e = absurd (none-some p e)
 
 pub list_no_area : (t : Tree) (p : Positions) → positions_of t ≡ Some p → area_of t ≡ None
 list_no_area (array i ts) p e = let (ps, k) = has_items i (each position_of (items_of ts)) p e in no_lists (items_of ts) ps k
-list_no_area (literal i l) p e = absurd (none-some p e)
-list_no_area (number i n) p e = absurd (none-some p e)
-list_no_area (text i cs) p e = absurd (none-some p e)
-list_no_area (object i ms) p e = absurd (none-some p e)
+list_no_area _ p e = absurd (none-some p e)

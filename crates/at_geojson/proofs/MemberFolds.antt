@@ -82,8 +82,7 @@ module _ (asked : Asked) where
   kind_seen : (o : Option GeoAtom) (p : Option Tree) → Alike (IsRead asked) o p → seen None as_kind o ≡ option_and_then kind_of_text (option_and_then units_of_text p)
   kind_seen None None h = refl
   kind_seen (Some a) (Some t) h = h.scalar.kind
-  kind_seen None (Some t) h = absurd h
-  kind_seen (Some a) None h = absurd h
+  kind_seen _ _ h = absurd h
 
   pub kind_is : (xs : List (Member GeoAtom)) (ms : Members) → AreMemberFolds (IsRead asked) xs ms → kind_in xs ≡ kind_of ms
   kind_is xs ms h = kind_seen (value_named (codes "type") xs) (member_named (codes "type") ms) (named (codes "type") xs ms h)

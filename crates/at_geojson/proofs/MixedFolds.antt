@@ -31,46 +31,14 @@ use Rattle.at_geojson.proofs.ListRoles.{none_here, none_front, none_back, no_eac
 
 -- an atom without an object is Form in both roles
 pub form_geometries : (a : GeoAtom) → is_object a ≡ false → (no_roles (at_of a)).geometries ≡ item_geometries a
-form_geometries (atoms.Twin f) e = refl
-form_geometries (atoms.Null n) e = refl
-form_geometries (atoms.Plain n) e = refl
-form_geometries (atoms.Text x) e = refl
-form_geometries (atoms.Number x) e = refl
-form_geometries (atoms.BadNumber f) e = refl
-form_geometries (atoms.Empty n) e = refl
-form_geometries (atoms.Position x) e = refl
-form_geometries (atoms.BadPosition x) e = refl
-form_geometries (atoms.Points x) e = refl
-form_geometries (atoms.Lists x) e = refl
-form_geometries (atoms.Areas x) e = refl
-form_geometries (atoms.Other x) e = refl
-form_geometries (atoms.Items x) e = refl
-form_geometries (atoms.Void n) e = refl
 form_geometries (atoms.Object x) e = absurd (true≢false e)
 form_geometries (atoms.Run x) e = absurd (true≢false e)
-form_geometries (atoms.Series s) e = refl
-form_geometries (atoms.Track t) e = refl
+form_geometries _ e = refl
 
 pub form_features : (a : GeoAtom) → is_object a ≡ false → (no_roles (at_of a)).features ≡ item_features a
-form_features (atoms.Twin f) e = refl
-form_features (atoms.Null n) e = refl
-form_features (atoms.Plain n) e = refl
-form_features (atoms.Text x) e = refl
-form_features (atoms.Number x) e = refl
-form_features (atoms.BadNumber f) e = refl
-form_features (atoms.Empty n) e = refl
-form_features (atoms.Position x) e = refl
-form_features (atoms.BadPosition x) e = refl
-form_features (atoms.Points x) e = refl
-form_features (atoms.Lists x) e = refl
-form_features (atoms.Areas x) e = refl
-form_features (atoms.Other x) e = refl
-form_features (atoms.Items x) e = refl
-form_features (atoms.Void n) e = refl
 form_features (atoms.Object x) e = absurd (true≢false e)
 form_features (atoms.Run x) e = absurd (true≢false e)
-form_features (atoms.Series s) e = refl
-form_features (atoms.Track t) e = refl
+form_features _ e = refl
 
 -- ---- Form of both of two
 

@@ -39,10 +39,7 @@ module _ (asked : Asked) where
   one_text : (name : List Character) (i : ℕ) (t : Tree) (ms : Members) (rest : List TextPair) → rest ≡ asked_texts asked.query.tests (texts_of ms)
       → pair_kept asked.query.tests (units_of name) (asked_text asked (units_of_text t)) rest ≡ asked_texts asked.query.tests (texts_of (member_and name i t ms))
   one_text name i (text j cs) ms rest e = text_case (units_of name) (units_of cs) rest (texts_of ms) e
-  one_text name i (literal j l) ms rest e = e
-  one_text name i (number j n) ms rest e = e
-  one_text name i (array j ts) ms rest e = e
-  one_text name i (object j us) ms rest e = e
+  one_text name i _ ms rest e = e
 
   pub texts_kept : (xs : List (Member GeoAtom)) (ms : Members) → AreMemberFolds (IsRead asked) xs ms → kept_texts asked.query.tests xs ≡ asked_texts asked.query.tests (texts_of ms)
   texts_kept [] no_members h = refl
@@ -57,8 +54,7 @@ module _ (asked : Asked) where
       → (o : Option GeoAtom) (p : Option Tree) → Alike (IsRead asked) o p → HasShape (needs_shapes asked.query) (coordinates_shape (needs_shapes asked.query) at kind o) (coordinates_reading asked.digits asked.how at kind p)
   coordinates_is at kind each None None h = refl
   coordinates_is at kind each (Some a) (Some t) h = each a t h
-  coordinates_is at kind each None (Some t) h = absurd h
-  coordinates_is at kind each (Some a) None h = absurd h
+  coordinates_is at kind each _ _ h = absurd h
 
   abbrev collection_of : ℕ → Option Tree → GeometryRead
   collection_of at None = not_geometry at
@@ -75,21 +71,16 @@ module _ (asked : Asked) where
   geometries_seen : (at : ℕ) (o : Option (Result Shape Fault)) (t : Tree) → Alike (λ r ts. HasShape (needs_shapes asked.query) r (items_reading asked.digits asked.how ts)) o (array_trees t)
       → HasShape (needs_shapes asked.query) (seen (Err (fault_at Form at)) (λ r. r) o) (geometries_reading asked.digits asked.how at t)
   geometries_seen at (Some r) (array i ts) h = h
-  geometries_seen at None (array i ts) h = absurd h
   geometries_seen at None (object i ms) h = refl
   geometries_seen at None (text i cs) h = refl
   geometries_seen at None (number i n) h = refl
   geometries_seen at None (literal i l) h = refl
-  geometries_seen at (Some r) (object i ms) h = absurd h
-  geometries_seen at (Some r) (text i cs) h = absurd h
-  geometries_seen at (Some r) (number i n) h = absurd h
-  geometries_seen at (Some r) (literal i l) h = absurd h
+  geometries_seen at _ _ h = absurd h
 
   collection_by : (at : ℕ) (o : Option GeoAtom) (p : Option Tree) → Alike (IsRead asked) o p → HasShape (needs_shapes asked.query) (geometries_shape at o) (collection_of at p)
   collection_by at None None h = refl
   collection_by at (Some a) (Some t) h = geometries_seen at (as_geometries a) t h.items.geometries
-  collection_by at None (Some t) h = absurd h
-  collection_by at (Some a) None h = absurd h
+  collection_by at _ _ h = absurd h
 
   pub collection_is : (at : ℕ) (ms : Members) (o : Option GeoAtom) → Alike (IsRead asked) o (member_named (codes "geometries") ms) → HasShape (needs_shapes asked.query) (geometries_shape at o) (collection_reading asked.digits asked.how at ms)
   collection_is at ms o h = subst (HasShape (needs_shapes asked.query) (geometries_shape at o)) (sym (collection_named at ms)) (collection_by at o (member_named (codes "geometries") ms) h)
@@ -100,30 +91,23 @@ module _ (asked : Asked) where
   not_null (literal i the_null) e = absurd (true≢false e)
   not_null (literal i the_true) e = refl
   not_null (literal i the_false) e = refl
-  not_null (number i n) e = refl
-  not_null (text i cs) e = refl
-  not_null (array i ts) e = refl
-  not_null (object i ms) e = refl
+  not_null _ e = refl
 
   is_nothing : (t : Tree) → is_null_tree t ≡ true → geometry_member_reading asked.digits asked.how (Some t) ≡ record { shape = empty_shape; faults = [] }
   is_nothing (literal i the_null) e = refl
   is_nothing (literal i the_true) e = absurd (true≢false (sym e))
   is_nothing (literal i the_false) e = absurd (true≢false (sym e))
-  is_nothing (number i n) e = absurd (true≢false (sym e))
-  is_nothing (text i cs) e = absurd (true≢false (sym e))
-  is_nothing (array i ts) e = absurd (true≢false (sym e))
-  is_nothing (object i ms) e = absurd (true≢false (sym e))
+  is_nothing _ e = absurd (true≢false (sym e))
 
   pub feature_shape_is : (o : Option GeoAtom) (p : Option Tree) → Alike (IsRead asked) o p → HasShape (needs_shapes asked.query) (feature_shape o) (geometry_member_reading asked.digits asked.how p)
   feature_shape_is None None h = (refl, kept_empty (needs_shapes asked.query))
-  feature_shape_is None (Some t) h = absurd h
-  feature_shape_is (Some a) None h = absurd h
   feature_shape_is (Some a) (Some t) h = go (is_null a) refl where
     go : (b : Bool) → is_null a ≡ b → HasShape (needs_shapes asked.query) (feature_shape (Some a)) (geometry_member_reading asked.digits asked.how (Some t))
     go true e = subst (λ c. HasShape (needs_shapes asked.query) (if c then Ok empty_shape else role_geometry (at_of a) (role_of a)) (geometry_member_reading asked.digits asked.how (Some t))) (sym e)
         (subst (HasShape (needs_shapes asked.query) (Ok empty_shape)) (sym (is_nothing t (sym h.scalar.is_null ∙ e))) (refl, kept_empty (needs_shapes asked.query)))
     go false e = subst (λ c. HasShape (needs_shapes asked.query) (if c then Ok empty_shape else role_geometry (at_of a) (role_of a)) (geometry_member_reading asked.digits asked.how (Some t))) (sym e)
         (subst (HasShape (needs_shapes asked.query) (role_geometry (at_of a) (role_of a))) (sym (not_null t (sym h.scalar.is_null ∙ e))) h.object.geometry)
+  feature_shape_is _ _ h = absurd h
 
   -- the texts that are asked for where there is no fault, and else the fault
   abbrev pub HasTexts : Result (List TextPair) Fault → Option Tree → Type 0
@@ -133,35 +117,27 @@ module _ (asked : Asked) where
   texts_seen : (at : ℕ) (o : Option (List TextPair)) (t : Tree) → at ≡ offset_of t → is_null_tree t ≡ false → Alike (λ kept ms. kept ≡ asked_texts asked.query.tests (texts_of ms)) o (object_members t)
       → HasTexts (seen (Err (fault_at Form at)) (λ pairs. Ok pairs) o) (Some t)
   texts_seen at (Some pairs) (object i ms) e n h = (refl, h)
-  texts_seen at None (object i ms) e n h = absurd h
   texts_seen at None (literal i the_null) e n h = absurd (true≢false n)
   texts_seen at None (literal i the_true) e n h = ap (λ k. Some (fault_at Form k)) (sym e)
   texts_seen at None (literal i the_false) e n h = ap (λ k. Some (fault_at Form k)) (sym e)
   texts_seen at None (number i k) e n h = ap (λ k. Some (fault_at Form k)) (sym e)
   texts_seen at None (text i cs) e n h = ap (λ k. Some (fault_at Form k)) (sym e)
   texts_seen at None (array i ts) e n h = ap (λ k. Some (fault_at Form k)) (sym e)
-  texts_seen at (Some pairs) (literal i l) e n h = absurd h
-  texts_seen at (Some pairs) (number i k) e n h = absurd h
-  texts_seen at (Some pairs) (text i cs) e n h = absurd h
-  texts_seen at (Some pairs) (array i ts) e n h = absurd h
+  texts_seen at _ _ e n h = absurd h
 
   null_texts : (t : Tree) → is_null_tree t ≡ true → HasTexts (Ok []) (Some t)
   null_texts (literal i the_null) e = (refl, refl)
   null_texts (literal i the_true) e = absurd (true≢false (sym e))
   null_texts (literal i the_false) e = absurd (true≢false (sym e))
-  null_texts (number i n) e = absurd (true≢false (sym e))
-  null_texts (text i cs) e = absurd (true≢false (sym e))
-  null_texts (array i ts) e = absurd (true≢false (sym e))
-  null_texts (object i ms) e = absurd (true≢false (sym e))
+  null_texts _ e = absurd (true≢false (sym e))
 
   pub texts_is : (o : Option GeoAtom) (p : Option Tree) → Alike (IsRead asked) o p → HasTexts (texts_named o) p
   texts_is None None h = (refl, refl)
-  texts_is None (Some t) h = absurd h
-  texts_is (Some a) None h = absurd h
   texts_is (Some a) (Some t) h = go (is_null a) refl where
     go : (b : Bool) → is_null a ≡ b → HasTexts (texts_in a) (Some t)
     go true e = subst (λ c. HasTexts (if c then Ok [] else seen (Err (fault_at Form (at_of a))) (λ pairs. Ok pairs) (as_texts a)) (Some t)) (sym e) (null_texts t (sym h.scalar.is_null ∙ e))
     go false e = subst (λ c. HasTexts (if c then Ok [] else seen (Err (fault_at Form (at_of a))) (λ pairs. Ok pairs) (as_texts a)) (Some t)) (sym e) (texts_seen (at_of a) (as_texts a) t h.at (sym h.scalar.is_null ∙ e) h.object.texts)
+  texts_is _ _ h = absurd h
 
   feature_joins : (at : ℕ) (s : Result Shape Fault) (x : Result (List TextPair) Fault) (g : GeometryRead) (p : Option Tree) (r : Result Part Fault) → JoinsFeature asked.query at s x r → HasShape (needs_shapes asked.query) s g → HasTexts x p
       → HasPart asked.query r (record { features = feature_of at g (properties_texts p) ∷ []; faults = g.faults ++ properties_faults p })

@@ -71,88 +71,21 @@ module _ (asked : Asked) where
     pick false o e = told o e
 
   lists_own_in : (a : GeoAtom) → IsOwn asked a → ArePathsInRange (lists_in_atom a)
-  lists_own_in (atoms.Twin f) h = All-nil (All IsInRange)
-  lists_own_in (atoms.Null n) h = All-nil (All IsInRange)
-  lists_own_in (atoms.Plain n) h = All-nil (All IsInRange)
-  lists_own_in (atoms.Text x) h = All-nil (All IsInRange)
-  lists_own_in (atoms.Number x) h = All-nil (All IsInRange)
-  lists_own_in (atoms.BadNumber f) h = All-nil (All IsInRange)
-  lists_own_in (atoms.Empty n) h = All-nil (All IsInRange)
-  lists_own_in (atoms.Position x) h = All-nil (All IsInRange)
-  lists_own_in (atoms.BadPosition x) h = All-nil (All IsInRange)
-  lists_own_in (atoms.Points x) h = All-nil (All IsInRange)
   lists_own_in (atoms.Lists x) h = h
-  lists_own_in (atoms.Areas x) h = All-nil (All IsInRange)
-  lists_own_in (atoms.Other x) h = All-nil (All IsInRange)
-  lists_own_in (atoms.Items x) h = All-nil (All IsInRange)
-  lists_own_in (atoms.Void n) h = All-nil (All IsInRange)
-  lists_own_in (atoms.Object x) h = All-nil (All IsInRange)
-  lists_own_in (atoms.Run x) h = All-nil (All IsInRange)
-  lists_own_in (atoms.Series s) h = All-nil (All IsInRange)
-  lists_own_in (atoms.Track t) h = All-nil (All IsInRange)
+  lists_own_in _ h = All-nil (All IsInRange)
 
   areas_own_in : (a : GeoAtom) → IsOwn asked a → ArePolygonsInRange (areas_in a)
-  areas_own_in (atoms.Twin f) h = All-nil (λ (polygon : Polygon). ArePathsInRange polygon.rings)
-  areas_own_in (atoms.Null n) h = All-nil (λ (polygon : Polygon). ArePathsInRange polygon.rings)
-  areas_own_in (atoms.Plain n) h = All-nil (λ (polygon : Polygon). ArePathsInRange polygon.rings)
-  areas_own_in (atoms.Text x) h = All-nil (λ (polygon : Polygon). ArePathsInRange polygon.rings)
-  areas_own_in (atoms.Number x) h = All-nil (λ (polygon : Polygon). ArePathsInRange polygon.rings)
-  areas_own_in (atoms.BadNumber f) h = All-nil (λ (polygon : Polygon). ArePathsInRange polygon.rings)
-  areas_own_in (atoms.Empty n) h = All-nil (λ (polygon : Polygon). ArePathsInRange polygon.rings)
-  areas_own_in (atoms.Position x) h = All-nil (λ (polygon : Polygon). ArePathsInRange polygon.rings)
-  areas_own_in (atoms.BadPosition x) h = All-nil (λ (polygon : Polygon). ArePathsInRange polygon.rings)
-  areas_own_in (atoms.Points x) h = All-nil (λ (polygon : Polygon). ArePathsInRange polygon.rings)
-  areas_own_in (atoms.Lists x) h = All-nil (λ (polygon : Polygon). ArePathsInRange polygon.rings)
   areas_own_in (atoms.Areas x) h = h
-  areas_own_in (atoms.Other x) h = All-nil (λ (polygon : Polygon). ArePathsInRange polygon.rings)
-  areas_own_in (atoms.Items x) h = All-nil (λ (polygon : Polygon). ArePathsInRange polygon.rings)
-  areas_own_in (atoms.Void n) h = All-nil (λ (polygon : Polygon). ArePathsInRange polygon.rings)
-  areas_own_in (atoms.Object x) h = All-nil (λ (polygon : Polygon). ArePathsInRange polygon.rings)
-  areas_own_in (atoms.Run x) h = All-nil (λ (polygon : Polygon). ArePathsInRange polygon.rings)
-  areas_own_in (atoms.Series s) h = All-nil (λ (polygon : Polygon). ArePathsInRange polygon.rings)
-  areas_own_in (atoms.Track t) h = All-nil (λ (polygon : Polygon). ArePathsInRange polygon.rings)
+  areas_own_in _ h = All-nil (λ (polygon : Polygon). ArePathsInRange polygon.rings)
 
   geometries_own : (at : ℕ) (a : GeoAtom) → IsOwn asked a → IfOwnShape asked (seen (Err (fault_at Form at)) (λ r. r) (as_geometries a))
-  geometries_own at (atoms.Twin f) h = tt
-  geometries_own at (atoms.Null n) h = tt
-  geometries_own at (atoms.Plain n) h = tt
-  geometries_own at (atoms.Text x) h = tt
-  geometries_own at (atoms.Number x) h = tt
-  geometries_own at (atoms.BadNumber f) h = tt
   geometries_own at (atoms.Empty n) h = nothing_in
-  geometries_own at (atoms.Position x) h = tt
-  geometries_own at (atoms.BadPosition x) h = tt
-  geometries_own at (atoms.Points x) h = tt
-  geometries_own at (atoms.Lists x) h = tt
-  geometries_own at (atoms.Areas x) h = tt
-  geometries_own at (atoms.Other x) h = tt
   geometries_own at (atoms.Items x) h = h.0
-  geometries_own at (atoms.Void n) h = tt
-  geometries_own at (atoms.Object x) h = tt
-  geometries_own at (atoms.Run x) h = tt
-  geometries_own at (atoms.Series s) h = tt
-  geometries_own at (atoms.Track t) h = tt
+  geometries_own at _ h = tt
 
   features_own : (at : ℕ) (a : GeoAtom) → IsOwn asked a → IfOwnPart asked (seen (Err (fault_at Form at)) (λ p. p) (as_features a))
-  features_own at (atoms.Twin f) h = tt
-  features_own at (atoms.Null n) h = tt
-  features_own at (atoms.Plain n) h = tt
-  features_own at (atoms.Text x) h = tt
-  features_own at (atoms.Number x) h = tt
-  features_own at (atoms.BadNumber f) h = tt
-  features_own at (atoms.Empty n) h = tt
-  features_own at (atoms.Position x) h = tt
-  features_own at (atoms.BadPosition x) h = tt
-  features_own at (atoms.Points x) h = tt
-  features_own at (atoms.Lists x) h = tt
-  features_own at (atoms.Areas x) h = tt
-  features_own at (atoms.Other x) h = tt
   features_own at (atoms.Items x) h = h.1
-  features_own at (atoms.Void n) h = tt
-  features_own at (atoms.Object x) h = tt
-  features_own at (atoms.Run x) h = tt
-  features_own at (atoms.Series s) h = tt
-  features_own at (atoms.Track t) h = tt
+  features_own at _ h = tt
 
   point_own : (a : GeoAtom) → IsOwn asked a → (v : PositionView) → as_position a ≡ Some v → IfOwnShape asked (unless v.fault (of_points (kept (needs_shapes asked.query) (v.pos ∷ []))))
   point_own a h v e = unless_own v.fault _ (points_in _ (one IsInRange (needs_shapes asked.query) v.pos (subst IsInRange (ap (seen nowhere (λ (w : PositionView). w.pos)) e) (position_in asked a h))))
@@ -168,9 +101,7 @@ module _ (asked : Asked) where
   kind_own kinds.Polygon a h = shape_own ListsView a (as_area a) (λ (v : ListsView). unless v.as_rings (of_polygons (kept (needs_shapes asked.query) (record { rings = v.paths } ∷ [])))) (λ v e. unless_own v.as_rings _ (polygons_in _ (one (λ (polygon : Polygon). ArePathsInRange polygon.rings) (needs_shapes asked.query) (record { rings = v.paths })
       (subst ArePathsInRange (ap (seen [] (λ (w : ListsView). w.paths)) e) (rings_in_range asked a h)))))
   kind_own kinds.MultiPolygon a h = shape_own AreasView a (as_areas a) (λ (v : AreasView). unless v.fault (of_polygons v.polygons)) (λ v e. unless_own v.fault (of_polygons v.polygons) (polygons_in v.polygons (subst ArePolygonsInRange (ap (seen [] (λ (w : AreasView). w.polygons)) e) (areas_own_in a h))))
-  kind_own kinds.FeatureCollection a h = tt
-  kind_own kinds.Feature a h = tt
-  kind_own kinds.GeometryCollection a h = tt
+  kind_own _ a h = tt
 
   pub own_coordinates : (at : ℕ) (kind : Kind) (o : Option GeoAtom) → IfOwn o → IfOwnShape asked (coordinates_shape (needs_shapes asked.query) at kind o)
   own_coordinates at kind None h = tt

@@ -37,23 +37,16 @@ module _ (asked : Asked) (at : ℕ) where
   features_nil : (t : Tree) → array_trees t ≡ Some no_trees → features_reading asked.digits asked.how at (Some t) ≡ record { features = []; faults = [] }
   features_nil (array i no_trees) e = refl
   features_nil (array i (tree_and u us)) e = absurd (true≢false (ap has_items e))
-  features_nil (object i ms) e = absurd (true≢false (ap has_items e))
-  features_nil (text i cs) e = absurd (true≢false (ap has_items e))
-  features_nil (number i n) e = absurd (true≢false (ap has_items e))
-  features_nil (literal i l) e = absurd (true≢false (ap has_items e))
+  features_nil _ e = absurd (true≢false (ap has_items e))
 
   features_seen : (o : Option (Result Part Fault)) (t : Tree) → Alike (λ r ts. HasPart asked.query r (items_features asked ts)) o (array_trees t)
       → HasPart asked.query (seen (Err (fault_at Form at)) (λ p. p) o) (features_reading asked.digits asked.how at (Some t))
   features_seen (Some r) (array i ts) h = h
-  features_seen None (array i ts) h = absurd h
   features_seen None (object i ms) h = refl
   features_seen None (text i cs) h = refl
   features_seen None (number i n) h = refl
   features_seen None (literal i l) h = refl
-  features_seen (Some r) (object i ms) h = absurd h
-  features_seen (Some r) (text i cs) h = absurd h
-  features_seen (Some r) (number i n) h = absurd h
-  features_seen (Some r) (literal i l) h = absurd h
+  features_seen _ _ h = absurd h
 
   features_is : (o : Option GeoAtom) (p : Option Tree) (r : Result Part Fault) → FeaturesSeen asked.query at o r → Alike (IsRead asked) o p → HasPart asked.query r (features_reading asked.digits asked.how at p)
   features_is None None r e h = subst (λ z. HasPart asked.query z (features_reading asked.digits asked.how at None)) (sym e) refl

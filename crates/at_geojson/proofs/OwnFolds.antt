@@ -32,16 +32,12 @@ nowhere_in = (omega arith, omega arith)
 
 module _ (asked : Asked) where
   role_shape : (at : ℕ) (r : Role) → IsOwnRole asked r → IfOwnShape asked (role_geometry at r)
-  role_shape at roles.Nothing h = tt
   role_shape at (roles.Geometry g) h = h
-  role_shape at (roles.Feature p) h = tt
-  role_shape at (roles.Collection p) h = tt
+  role_shape at _ h = tt
 
   role_part : (at : ℕ) (r : Role) → IsOwnRole asked r → IfOwnPart asked (role_item at r)
-  role_part at roles.Nothing h = tt
-  role_part at (roles.Geometry g) h = tt
   role_part at (roles.Feature p) h = h
-  role_part at (roles.Collection p) h = tt
+  role_part at _ h = tt
 
   number_small : (a : GeoAtom) → IsOwn asked a → nat_abs (number_value a) ≤ 300000000000000
   number_small (atoms.Twin f) h = omega arith
@@ -65,109 +61,24 @@ module _ (asked : Asked) where
   number_small (atoms.Track t) h = omega arith
 
   pub position_in : (a : GeoAtom) → IsOwn asked a → IsInRange (position_value a)
-  position_in (atoms.Twin f) h = nowhere_in
-  position_in (atoms.Null n) h = nowhere_in
-  position_in (atoms.Plain n) h = nowhere_in
-  position_in (atoms.Text x) h = nowhere_in
-  position_in (atoms.Number x) h = nowhere_in
-  position_in (atoms.BadNumber f) h = nowhere_in
-  position_in (atoms.Empty n) h = nowhere_in
   position_in (atoms.Position x) h = h
-  position_in (atoms.BadPosition x) h = nowhere_in
-  position_in (atoms.Points x) h = nowhere_in
-  position_in (atoms.Lists x) h = nowhere_in
-  position_in (atoms.Areas x) h = nowhere_in
-  position_in (atoms.Other x) h = nowhere_in
-  position_in (atoms.Items x) h = nowhere_in
-  position_in (atoms.Void n) h = nowhere_in
-  position_in (atoms.Object x) h = nowhere_in
-  position_in (atoms.Run x) h = nowhere_in
-  position_in (atoms.Series s) h = nowhere_in
-  position_in (atoms.Track t) h = nowhere_in
+  position_in _ h = nowhere_in
 
   pub path_in_range : (a : GeoAtom) → IsOwn asked a → All IsInRange (path_in a)
-  path_in_range (atoms.Twin f) h = All-nil IsInRange
-  path_in_range (atoms.Null n) h = All-nil IsInRange
-  path_in_range (atoms.Plain n) h = All-nil IsInRange
-  path_in_range (atoms.Text x) h = All-nil IsInRange
-  path_in_range (atoms.Number x) h = All-nil IsInRange
-  path_in_range (atoms.BadNumber f) h = All-nil IsInRange
-  path_in_range (atoms.Empty n) h = All-nil IsInRange
-  path_in_range (atoms.Position x) h = All-nil IsInRange
-  path_in_range (atoms.BadPosition x) h = All-nil IsInRange
   path_in_range (atoms.Points x) h = h
-  path_in_range (atoms.Lists x) h = All-nil IsInRange
-  path_in_range (atoms.Areas x) h = All-nil IsInRange
-  path_in_range (atoms.Other x) h = All-nil IsInRange
-  path_in_range (atoms.Items x) h = All-nil IsInRange
-  path_in_range (atoms.Void n) h = All-nil IsInRange
-  path_in_range (atoms.Object x) h = All-nil IsInRange
-  path_in_range (atoms.Run x) h = All-nil IsInRange
-  path_in_range (atoms.Series s) h = All-nil IsInRange
-  path_in_range (atoms.Track t) h = All-nil IsInRange
+  path_in_range _ h = All-nil IsInRange
 
   pub rings_in_range : (a : GeoAtom) → IsOwn asked a → ArePathsInRange (rings_in a)
-  rings_in_range (atoms.Twin f) h = All-nil (All IsInRange)
-  rings_in_range (atoms.Null n) h = All-nil (All IsInRange)
-  rings_in_range (atoms.Plain n) h = All-nil (All IsInRange)
-  rings_in_range (atoms.Text x) h = All-nil (All IsInRange)
-  rings_in_range (atoms.Number x) h = All-nil (All IsInRange)
-  rings_in_range (atoms.BadNumber f) h = All-nil (All IsInRange)
-  rings_in_range (atoms.Empty n) h = All-nil (All IsInRange)
-  rings_in_range (atoms.Position x) h = All-nil (All IsInRange)
-  rings_in_range (atoms.BadPosition x) h = All-nil (All IsInRange)
-  rings_in_range (atoms.Points x) h = All-nil (All IsInRange)
   rings_in_range (atoms.Lists x) h = h
-  rings_in_range (atoms.Areas x) h = All-nil (All IsInRange)
-  rings_in_range (atoms.Other x) h = All-nil (All IsInRange)
-  rings_in_range (atoms.Items x) h = All-nil (All IsInRange)
-  rings_in_range (atoms.Void n) h = All-nil (All IsInRange)
-  rings_in_range (atoms.Object x) h = All-nil (All IsInRange)
-  rings_in_range (atoms.Run x) h = All-nil (All IsInRange)
-  rings_in_range (atoms.Series s) h = All-nil (All IsInRange)
-  rings_in_range (atoms.Track t) h = All-nil (All IsInRange)
+  rings_in_range _ h = All-nil (All IsInRange)
 
   pub own_geometry : (a : GeoAtom) → IsOwn asked a → IfOwnShape asked (role_geometry (at_of a) (role_of a))
-  own_geometry (atoms.Twin f) h = tt
-  own_geometry (atoms.Null n) h = tt
-  own_geometry (atoms.Plain n) h = tt
-  own_geometry (atoms.Text x) h = tt
-  own_geometry (atoms.Number x) h = tt
-  own_geometry (atoms.BadNumber f) h = tt
-  own_geometry (atoms.Empty n) h = tt
-  own_geometry (atoms.Position x) h = tt
-  own_geometry (atoms.BadPosition x) h = tt
-  own_geometry (atoms.Points x) h = tt
-  own_geometry (atoms.Lists x) h = tt
-  own_geometry (atoms.Areas x) h = tt
-  own_geometry (atoms.Other x) h = tt
-  own_geometry (atoms.Items x) h = tt
-  own_geometry (atoms.Void n) h = tt
   own_geometry (atoms.Object x) h = role_shape x.at x.roles.value.role h
-  own_geometry (atoms.Run items) h = tt
-  own_geometry (atoms.Series s) h = tt
-  own_geometry (atoms.Track t) h = tt
+  own_geometry _ h = tt
 
   pub own_item : (a : GeoAtom) → IsOwn asked a → IfOwnPart asked (role_item (at_of a) (role_of a))
-  own_item (atoms.Twin f) h = tt
-  own_item (atoms.Null n) h = tt
-  own_item (atoms.Plain n) h = tt
-  own_item (atoms.Text x) h = tt
-  own_item (atoms.Number x) h = tt
-  own_item (atoms.BadNumber f) h = tt
-  own_item (atoms.Empty n) h = tt
-  own_item (atoms.Position x) h = tt
-  own_item (atoms.BadPosition x) h = tt
-  own_item (atoms.Points x) h = tt
-  own_item (atoms.Lists x) h = tt
-  own_item (atoms.Areas x) h = tt
-  own_item (atoms.Other x) h = tt
-  own_item (atoms.Items x) h = tt
-  own_item (atoms.Void n) h = tt
   own_item (atoms.Object x) h = role_part x.at x.roles.value.role h
-  own_item (atoms.Run items) h = tt
-  own_item (atoms.Series s) h = tt
-  own_item (atoms.Track t) h = tt
+  own_item _ h = tt
 
   -- what stands beside other items
   pub own_joined : (a : GeoAtom) → IsOwn asked a → IfOwnShape asked (item_geometries a) × IfOwnPart asked (item_features a)
@@ -188,8 +99,7 @@ module _ (asked : Asked) where
   own_joined (atoms.Void n) h = (own_geometry (atoms.Void n) h, own_item (atoms.Void n) h)
   own_joined (atoms.Object x) h = (own_geometry (atoms.Object x) h, own_item (atoms.Object x) h)
   own_joined (atoms.Run items) h = h
-  own_joined (atoms.Series s) h = (tt, tt)
-  own_joined (atoms.Track t) h = (tt, tt)
+  own_joined _ h = (tt, tt)
 
   pub own_middle : (items xs : List GeoAtom) (a : GeoAtom) (rest : List GeoAtom) → items ≡ xs ++ a ∷ rest → All (IsOwn asked) items → IsOwn asked a
   own_middle items xs a rest e h = go xs (subst (All (IsOwn asked)) e h) where
@@ -210,8 +120,6 @@ module _ (asked : Asked) where
       (all_mapped (IsOwn asked) (λ (polygon : Polygon). ArePathsInRange polygon.rings) polygon_in rings_in_range items h)))
 
   pub pair_own : (at least : ℕ) (items : List GeoAtom) (r : GeoAtom) → All (IsOwn asked) items → pair_atom at least items ≡ Some r → IsOwn asked r
-  pair_own at least [] r h e = absurd (none-some r e)
-  pair_own at least (x ∷ []) r h e = absurd (none-some r e)
   pair_own at least (x ∷ y ∷ rest) r h e = subst (IsOwn asked) (same_Some (position_atom at least x y) r e) (go (first_fault (number_fault x) (number_fault y))) where
     hx : IsOwn asked x
     hx = All-head (IsOwn asked) x (y ∷ rest) h
@@ -222,6 +130,7 @@ module _ (asked : Asked) where
     go : (o : Option Fault) → IsOwn asked (position_made at least x y o)
     go None = (number_small x hx, number_small y hy)
     go (Some f) = tt
+  pair_own at least _ r h e = absurd (none-some r e)
 
   -- ---- shapes and parts, joined
 

@@ -7,7 +7,7 @@ use Rattle.at_geom.specs.declared.positions.Pos.{Pos}
 use Rattle.at_geom.specs.Segments.{IsInRange}
 use Rattle.at_text.specs.declared.halts.Halt.{Halt}
 use Rattle.at_wkt.specs.Positions.{Position}
-use Rattle.at_nest.specs.Tree.{Tree, literal, number, text, array, object}
+use Rattle.at_nest.specs.Tree.{Tree, array, object}
 use Rattle.at_nest.specs.Folds.{HasBrackets}
 use Rattle.at_geojson.specs.declared.atoms.GeoAtom.{GeoAtom}
 use Rattle.at_geojson.specs.declared.atoms.GeoAtom.TheVariants as atoms
@@ -30,9 +30,7 @@ use Rattle.at_geojson.proofs.TrackFolds.{position_covers, tracked_append, to_fou
 has_brackets : (t : Tree) (p : Position) (ps : List Position) → each position_of (t ∷ []) ≡ Some (p ∷ ps) → HasBrackets t
 has_brackets (array at ts) p ps e = tt
 has_brackets (object at ms) p ps e = tt
-has_brackets (text at cs) p ps e = absurd (none-some (p ∷ ps) e)
-has_brackets (number at n) p ps e = absurd (none-some (p ∷ ps) e)
-has_brackets (literal at l) p ps e = absurd (none-some (p ∷ ps) e)
+has_brackets _ p ps e = absurd (none-some (p ∷ ps) e)
 
 module _ (asked : Asked) (base : ℕ) (w : List ℕ) where
   abbrev needs : Bool

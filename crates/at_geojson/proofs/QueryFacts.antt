@@ -49,9 +49,8 @@ no_value name value (t ∷ ts) e = go t e (no_value name value ts) where
   pick false false c h = (refl, h)
 
   go : (u : Test) → (wants_value value u || asks_value ts value) ≡ false → (asks_value ts value ≡ false → asks_pair ts name value ≡ false) → (wants_pair name value u || asks_pair ts name value) ≡ false
-  go (InBox x) h more = more h
-  go (MeetsShape s) h more = more h
   go (Has n v) h more = let p = pick (bytes_eq n name) (bytes_eq v value) (asks_value ts value) h in ap (λ b. b || asks_pair ts name value) p.0 ∙ more p.1
+  go _ h more = more h
 
 -- the texts that are asked for are among those that are kept
 pub has_same : (tests : List Test) (name value : List ℕ) → asks_pair tests name value ≡ true → (pairs : List TextPair) → has_text (asked_texts tests pairs) name value ≡ has_text pairs name value

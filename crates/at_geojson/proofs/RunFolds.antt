@@ -13,7 +13,7 @@ use Rattle.at_text.specs.Faults.{first_fault, first_of}
 use Rattle.at_text.specs.declared.faults.Fault.{Fault}
 use Rattle.at_wkt.proofs.FaultOrder.{first_of-append}
 use Rattle.at_nest.specs.Folds.{trees, AreFolds, Covers, AreItemFolds}
-use Rattle.at_nest.specs.Tree.{Tree, literal, number, text, array, object, Members}
+use Rattle.at_nest.specs.Tree.{Tree, array, object, Members}
 use Rattle.at_nest.specs.Twins.{twins_of, twins_of_items}
 use Rattle.at_nest.proofs.Held.{folds_append}
 use Rattle.at_geojson.specs.declared.atoms.GeoAtom.{GeoAtom}
@@ -52,10 +52,7 @@ some_front us vs e = list_any-append is_object_tree us vs ∙ ap (λ b. b || lis
 
 pub the_object : (t : Tree) → is_object_tree t ≡ true → (at : ℕ) × (ms : Members) × (t ≡ object at ms)
 the_object (object at ms) e = (at, ms, refl)
-the_object (array at ts) e = absurd (true≢false (sym e))
-the_object (text at cs) e = absurd (true≢false (sym e))
-the_object (number at n) e = absurd (true≢false (sym e))
-the_object (literal at l) e = absurd (true≢false (sym e))
+the_object _ e = absurd (true≢false (sym e))
 
 pub none_each : {Y : Type 0} (f : Tree → Option Y) → ((at : ℕ) (ms : Members) → f (object at ms) ≡ None) → (ts : List Tree) → list_any is_object_tree ts ≡ true → each f ts ≡ None
 none_each f n [] e = absurd (true≢false (sym e))
@@ -116,23 +113,7 @@ module _ (asked : Asked) where
   object_is : (a : GeoAtom) → is_object a ≡ true → ((x : ObjectAtom) × (a ≡ atoms.Object x)) ⊎ ((run : Box Items Global) × (a ≡ atoms.Run run))
   object_is (atoms.Object x) e = inl (x, refl)
   object_is (atoms.Run run) e = inr (run, refl)
-  object_is (atoms.Twin f) e = absurd (true≢false (sym e))
-  object_is (atoms.Null n) e = absurd (true≢false (sym e))
-  object_is (atoms.Plain n) e = absurd (true≢false (sym e))
-  object_is (atoms.Text x) e = absurd (true≢false (sym e))
-  object_is (atoms.Number x) e = absurd (true≢false (sym e))
-  object_is (atoms.BadNumber f) e = absurd (true≢false (sym e))
-  object_is (atoms.Empty n) e = absurd (true≢false (sym e))
-  object_is (atoms.Position x) e = absurd (true≢false (sym e))
-  object_is (atoms.BadPosition x) e = absurd (true≢false (sym e))
-  object_is (atoms.Points x) e = absurd (true≢false (sym e))
-  object_is (atoms.Lists x) e = absurd (true≢false (sym e))
-  object_is (atoms.Areas x) e = absurd (true≢false (sym e))
-  object_is (atoms.Other x) e = absurd (true≢false (sym e))
-  object_is (atoms.Items x) e = absurd (true≢false (sym e))
-  object_is (atoms.Void n) e = absurd (true≢false (sym e))
-  object_is (atoms.Series s) e = absurd (true≢false (sym e))
-  object_is (atoms.Track t) e = absurd (true≢false (sym e))
+  object_is _ e = absurd (true≢false (sym e))
 
   no_twin : (a : GeoAtom) → is_object a ≡ true → twin_of a ≡ None
   no_twin a e = elim (object_is a e) [ inl o ↦ ap twin_of o.1 | inr o ↦ ap twin_of o.1 ]

@@ -82,11 +82,7 @@ measured_held query f part isnt (measure, e, h) hold =
 
 offset_kept : (verb : Verb) (f : Feature) → selects verb ≡ true → IsKeptOf verb (f ∷ []) (parts.Offsets (f.at ∷ []))
 offset_kept verbs.Select f e = refl
-offset_kept verbs.Count f e = absurd (true≢false (sym e))
-offset_kept verbs.Area f e = absurd (true≢false (sym e))
-offset_kept verbs.Extent f e = absurd (true≢false (sym e))
-offset_kept verbs.Hull f e = absurd (true≢false (sym e))
-offset_kept verbs.Join f e = absurd (true≢false (sym e))
+offset_kept _ f e = absurd (true≢false (sym e))
 
 pub offset_held : (query : Query) (f : Feature) (part : Part) → selects query.verb ≡ true → IsSeenOf query f.shape (seens.Measured part) → texts_hold query.tests f.texts ≡ true → IsPart query (f ∷ []) (parts.Offsets (f.at ∷ []))
 offset_held query f part is (measure, e, h) hold =
@@ -105,9 +101,8 @@ has_asked (t ∷ ts) n v e =
       pick false b c h more = more h
 
       go : (u : Test) → (wants_pair n v u || asks_pair ts n v) ≡ true → (asks_pair ts n v ≡ true → has_text (flat_map pair_of ts) n v ≡ true) → (has_text (pair_of u) n v || has_text (flat_map pair_of ts) n v) ≡ true
-      go (InBox x) h more = more h
-      go (MeetsShape x) h more = more h
       go (Has m u) h more = pick (bytes_eq m n && bytes_eq u v) (asks_pair ts n v) (has_text (flat_map pair_of ts) n v) h more
+      go _ h more = more h
 
 -- all tests on texts hold of the texts for which they ask
 pairs_hold : (all ts : List Test) → ((n v : List ℕ) → asks_pair ts n v ≡ true → asks_pair all n v ≡ true) → texts_hold ts (flat_map pair_of all) ≡ true
@@ -143,12 +138,10 @@ module _ (query : Query) (at : ℕ) (shape : Shape) (some texts : List TextPair)
   same_polygons = flat_map-cons (λ (x : Feature). x.shape.polygons) g [] ∙ sym (flat_map-cons (λ (x : Feature). x.shape.polygons) f [])
 
   kept_too : (verb : Verb) (part : Part) → IsKeptOf verb (g ∷ []) part → IsKeptOf verb (f ∷ []) part
-  kept_too verbs.Select part p = p
-  kept_too verbs.Count part p = p
   kept_too verbs.Area part p = p ∙ ap (λ z. parts.Area (wrapped_sum z)) same_polygons
   kept_too verbs.Extent part p = p ∙ ap (λ z. parts.Spread (extent_of z)) same_positions
   kept_too verbs.Hull part (hull, e, k) = (hull, e, subst (λ z. IsHullInRange z hull) same_positions k)
-  kept_too verbs.Join part p = p
+  kept_too _ part p = p
 
   part_too : (part : Part) → texts_hold query.tests some ≡ true → texts_hold query.tests texts ≡ true → IsPart query (g ∷ []) part → IsPart query (f ∷ []) part
   part_too part old new (kept, inl (h, (zs, e, k)), p) =

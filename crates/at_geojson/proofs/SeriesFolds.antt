@@ -43,67 +43,19 @@ use Rattle.at_geojson.proofs.MixedFolds.{forms_both, form_covers, forms_read}
 
 -- a value that is a list, or a series
 list_cases : (a : GeoAtom) → is_list a ≡ true → ((as_series a ≡ None) × (v : PointsView) × (as_points a ≡ Some v)) ⊎ ((s : SeriesAtom) × (a ≡ atoms.Series s))
-list_cases (atoms.Twin f) e = absurd (true≢false (sym e))
-list_cases (atoms.Null n) e = absurd (true≢false (sym e))
-list_cases (atoms.Plain n) e = absurd (true≢false (sym e))
-list_cases (atoms.Text x) e = absurd (true≢false (sym e))
-list_cases (atoms.Number x) e = absurd (true≢false (sym e))
-list_cases (atoms.BadNumber f) e = absurd (true≢false (sym e))
 list_cases (atoms.Empty n) e = inl (refl, _, refl)
-list_cases (atoms.Position x) e = absurd (true≢false (sym e))
-list_cases (atoms.BadPosition x) e = absurd (true≢false (sym e))
 list_cases (atoms.Points x) e = inl (refl, _, refl)
-list_cases (atoms.Lists x) e = absurd (true≢false (sym e))
-list_cases (atoms.Areas x) e = absurd (true≢false (sym e))
-list_cases (atoms.Other x) e = absurd (true≢false (sym e))
-list_cases (atoms.Items x) e = absurd (true≢false (sym e))
-list_cases (atoms.Void n) e = absurd (true≢false (sym e))
-list_cases (atoms.Object x) e = absurd (true≢false (sym e))
-list_cases (atoms.Run x) e = absurd (true≢false (sym e))
 list_cases (atoms.Series s) e = inr (s, refl)
-list_cases (atoms.Track t) e = absurd (true≢false (sym e))
+list_cases _ e = absurd (true≢false (sym e))
 
 list_no_twin : (a : GeoAtom) → is_list a ≡ true → twin_of a ≡ None
 list_no_twin (atoms.Twin f) e = absurd (true≢false (sym e))
-list_no_twin (atoms.Null n) e = refl
-list_no_twin (atoms.Plain n) e = refl
-list_no_twin (atoms.Text x) e = refl
-list_no_twin (atoms.Number x) e = refl
-list_no_twin (atoms.BadNumber f) e = refl
-list_no_twin (atoms.Empty n) e = refl
-list_no_twin (atoms.Position x) e = refl
-list_no_twin (atoms.BadPosition x) e = refl
-list_no_twin (atoms.Points x) e = refl
-list_no_twin (atoms.Lists x) e = refl
-list_no_twin (atoms.Areas x) e = refl
-list_no_twin (atoms.Other x) e = refl
-list_no_twin (atoms.Items x) e = refl
-list_no_twin (atoms.Void n) e = refl
-list_no_twin (atoms.Object x) e = refl
-list_no_twin (atoms.Run x) e = refl
-list_no_twin (atoms.Series s) e = refl
-list_no_twin (atoms.Track t) e = refl
+list_no_twin _ e = refl
 
 list_no_object : (a : GeoAtom) → is_list a ≡ true → is_object a ≡ false
-list_no_object (atoms.Twin f) e = refl
-list_no_object (atoms.Null n) e = refl
-list_no_object (atoms.Plain n) e = refl
-list_no_object (atoms.Text x) e = refl
-list_no_object (atoms.Number x) e = refl
-list_no_object (atoms.BadNumber f) e = refl
-list_no_object (atoms.Empty n) e = refl
-list_no_object (atoms.Position x) e = refl
-list_no_object (atoms.BadPosition x) e = refl
-list_no_object (atoms.Points x) e = refl
-list_no_object (atoms.Lists x) e = refl
-list_no_object (atoms.Areas x) e = refl
-list_no_object (atoms.Other x) e = refl
-list_no_object (atoms.Items x) e = refl
-list_no_object (atoms.Void n) e = refl
 list_no_object (atoms.Object x) e = absurd (true≢false (sym e))
 list_no_object (atoms.Run x) e = absurd (true≢false (sym e))
-list_no_object (atoms.Series s) e = refl
-list_no_object (atoms.Track t) e = refl
+list_no_object _ e = refl
 
 kept_one : {X : Type 0} (b : Bool) (xs ys : List X) → xs ≡ kept b ys → kept b (xs ∷ []) ≡ kept b (ys ∷ [])
 kept_one true xs ys e = ap (λ z. z ∷ []) e

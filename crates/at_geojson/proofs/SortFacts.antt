@@ -14,95 +14,22 @@ use Rattle.at_geojson.specs.Gathering.{rank, sort_of, are_all, sort_of_all, is_o
 
 pub is_number : (a : GeoAtom) → is_some (as_number a) ≡ (rank (sort_of a) == 1)
 is_number (atoms.Twin f) = refl
-is_number (atoms.Null n) = refl
-is_number (atoms.Plain n) = refl
-is_number (atoms.Text x) = refl
-is_number (atoms.Number x) = refl
-is_number (atoms.BadNumber f) = refl
-is_number (atoms.Empty n) = refl
-is_number (atoms.Position x) = refl
-is_number (atoms.BadPosition x) = refl
-is_number (atoms.Points x) = refl
-is_number (atoms.Lists x) = refl
-is_number (atoms.Areas x) = refl
-is_number (atoms.Other x) = refl
-is_number (atoms.Items x) = refl
-is_number (atoms.Void n) = refl
-is_number (atoms.Object x) = refl
-is_number (atoms.Run x) = refl
-is_number (atoms.Series s) = refl
-is_number (atoms.Track t) = refl
+is_number _ = refl
 
 pub is_position : (a : GeoAtom) → as_run a ≡ None → is_some (as_position a) ≡ (rank (sort_of a) == 2)
-is_position (atoms.Twin f) e = refl
-is_position (atoms.Null n) e = refl
-is_position (atoms.Plain n) e = refl
-is_position (atoms.Text x) e = refl
-is_position (atoms.Number x) e = refl
-is_position (atoms.BadNumber f) e = refl
-is_position (atoms.Empty n) e = refl
-is_position (atoms.Position x) e = refl
-is_position (atoms.BadPosition x) e = refl
-is_position (atoms.Points x) e = refl
-is_position (atoms.Lists x) e = refl
-is_position (atoms.Areas x) e = refl
-is_position (atoms.Other x) e = refl
-is_position (atoms.Items x) e = refl
-is_position (atoms.Void n) e = refl
-is_position (atoms.Object x) e = refl
-is_position (atoms.Run x) e = refl
-is_position (atoms.Series s) e = refl
 is_position (atoms.Track t) e = absurd (none-some (no_roles t.at) (sym e))
+is_position _ e = refl
 
 pub is_points : (a : GeoAtom) → as_run a ≡ None → is_some (as_points a) ≡ (rank (sort_of a) == 3)
-is_points (atoms.Twin f) e = refl
-is_points (atoms.Null n) e = refl
-is_points (atoms.Plain n) e = refl
-is_points (atoms.Text x) e = refl
-is_points (atoms.Number x) e = refl
-is_points (atoms.BadNumber f) e = refl
-is_points (atoms.Empty n) e = refl
-is_points (atoms.Position x) e = refl
-is_points (atoms.BadPosition x) e = refl
-is_points (atoms.Points x) e = refl
-is_points (atoms.Lists x) e = refl
-is_points (atoms.Areas x) e = refl
-is_points (atoms.Other x) e = refl
-is_points (atoms.Items x) e = refl
-is_points (atoms.Void n) e = refl
-is_points (atoms.Object x) e = refl
-is_points (atoms.Run x) e = refl
 is_points (atoms.Series s) e = absurd (none-some (no_roles s.at) (sym e))
-is_points (atoms.Track t) e = refl
+is_points _ e = refl
 
 pub is_area : (a : GeoAtom) → is_some (as_area a) ≡ (rank (sort_of a) == 4)
 is_area (atoms.Twin f) = refl
-is_area (atoms.Null n) = refl
-is_area (atoms.Plain n) = refl
-is_area (atoms.Text x) = refl
-is_area (atoms.Number x) = refl
-is_area (atoms.BadNumber f) = refl
-is_area (atoms.Empty n) = refl
-is_area (atoms.Position x) = refl
-is_area (atoms.BadPosition x) = refl
-is_area (atoms.Points x) = refl
-is_area (atoms.Lists x) = refl
-is_area (atoms.Areas x) = refl
-is_area (atoms.Other x) = refl
-is_area (atoms.Items x) = refl
-is_area (atoms.Void n) = refl
-is_area (atoms.Object x) = refl
-is_area (atoms.Run x) = refl
-is_area (atoms.Series s) = refl
-is_area (atoms.Track t) = refl
+is_area _ = refl
 
 -- no sort but Other has objects
 pub sorted_no_object : (a : GeoAtom) → is_object a ≡ true → rank (sort_of a) ≡ 0
-sorted_no_object (atoms.Object x) e = refl
-sorted_no_object (atoms.Twin f) e = refl
-sorted_no_object (atoms.Null n) e = refl
-sorted_no_object (atoms.Plain n) e = refl
-sorted_no_object (atoms.Text x) e = refl
 sorted_no_object (atoms.Number x) e = absurd (true≢false (sym e))
 sorted_no_object (atoms.BadNumber f) e = absurd (true≢false (sym e))
 sorted_no_object (atoms.Empty n) e = absurd (true≢false (sym e))
@@ -110,13 +37,9 @@ sorted_no_object (atoms.Position x) e = absurd (true≢false (sym e))
 sorted_no_object (atoms.BadPosition x) e = absurd (true≢false (sym e))
 sorted_no_object (atoms.Points x) e = absurd (true≢false (sym e))
 sorted_no_object (atoms.Lists x) e = absurd (true≢false (sym e))
-sorted_no_object (atoms.Areas x) e = refl
-sorted_no_object (atoms.Other x) e = refl
-sorted_no_object (atoms.Items x) e = refl
-sorted_no_object (atoms.Void n) e = refl
-sorted_no_object (atoms.Run x) e = refl
 sorted_no_object (atoms.Series s) e = absurd (true≢false (sym e))
 sorted_no_object (atoms.Track t) e = absurd (true≢false (sym e))
+sorted_no_object _ e = refl
 
 -- ---- all items
 

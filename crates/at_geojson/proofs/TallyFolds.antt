@@ -119,16 +119,14 @@ area_told measures.Area before rings t h = area_is rings t.area h ∙ (sym (wrap
 -- whether values of positions are asked for
 abbrev pub asks_values : Measure → Bool
 asks_values measures.Count = false
-asks_values measures.Extent = true
-asks_values measures.Area = true
+asks_values _ = true
 
 verb_needs : (verb : Verb) (measure : Measure) → measured_by verb ≡ Some measure → tells_shapes verb ≡ asks_values measure
-verb_needs verbs.Select measure e = ap asks_values (same_Some measures.Count measure e)
-verb_needs verbs.Count measure e = ap asks_values (same_Some measures.Count measure e)
 verb_needs verbs.Area measure e = ap asks_values (same_Some measures.Area measure e)
 verb_needs verbs.Extent measure e = ap asks_values (same_Some measures.Extent measure e)
 verb_needs verbs.Hull measure e = absurd (cc)
 verb_needs verbs.Join measure e = absurd (cc)
+verb_needs _ measure e = ap asks_values (same_Some measures.Count measure e)
 
 or_none : (b c d : Bool) → c ≡ false → b ≡ d → (b || c) ≡ d
 or_none b c d e f = ap (λ z. b || z) e ∙ (or-false b ∙ f)

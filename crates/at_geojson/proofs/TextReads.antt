@@ -87,10 +87,9 @@ module _ {X : Type 0} (p q r : X → Bool) (or : (x : X) → r x ≡ (p x || q x
 same_eq : (a b : List ℕ) → bytes_eq a b ≡ bytes_eq b a
 same_eq a b = go (bytes_eq a b) (bytes_eq b a) refl refl where
   go : (c d : Bool) → bytes_eq a b ≡ c → bytes_eq b a ≡ d → bytes_eq a b ≡ bytes_eq b a
-  go true true e f = e ∙ sym f
-  go false false e f = e ∙ sym f
   go true false e f = absurd (true≢false (sym ((bytes_eq-Decides b a).1 (sym ((bytes_eq-Decides a b).0 e))) ∙ f))
   go false true e f = absurd (true≢false (sym ((bytes_eq-Decides a b).1 (sym ((bytes_eq-Decides b a).0 f))) ∙ e))
+  go _ _ e f = e ∙ sym f
 
 -- no text of the name is among those of members that have other names
 pair_named : (tests : List Test) (own : List ℕ) (o : Option (List ℕ)) (rest : List TextPair) (name value : List ℕ) → bytes_eq name own ≡ false → has_text rest name value ≡ false → has_text (pair_kept tests own o rest) name value ≡ false
@@ -108,8 +107,7 @@ none_named tests (m ∷ ms) name value e =
 
 nothing_met : (t : Test) → is_met [] t ≡ false
 nothing_met (InBox e) = refl
-nothing_met (MeetsShape s) = refl
-nothing_met (Has n v) = refl
+nothing_met _ = refl
 
 -- no text meets none
 pub none_met : (ts : List Test) → met_by ts [] ≡ 0
@@ -119,9 +117,8 @@ none_met (t ∷ ts) = count_no (is_met []) t ts (nothing_met t) ∙ none_met ts
 module _ (tests : List Test) (name : List ℕ) where
   -- a test that the pair meets asks for it
   pair_meets : (value : List ℕ) (t : Test) → is_met (record { name = name; value = value } ∷ []) t ≡ wants_pair name value t
-  pair_meets value (InBox e) = refl
-  pair_meets value (MeetsShape s) = refl
   pair_meets value (Has n v) = or-false (bytes_eq name n && bytes_eq value v) ∙ (ap (λ b. b && bytes_eq value v) (same_eq name n) ∙ ap (λ b. bytes_eq n name && b) (same_eq value v))
+  pair_meets value _ = refl
 
   -- the text that is kept of a member meets as many tests as ask for it
   one_met : (o : Option (List ℕ)) → met_by tests (pair_kept tests name o []) ≡ met_of tests name o
@@ -132,9 +129,8 @@ module _ (tests : List Test) (name : List ℕ) where
     go false e = ap (λ d. met_by tests (if d then record { name = name; value = value } ∷ [] else [])) e ∙ (none_met tests ∙ sym (count_none (wants_pair name value) tests e))
 
 met_both : (texts more : List TextPair) (t : Test) → is_met (texts ++ more) t ≡ (is_met texts t || is_met more t)
-met_both texts more (InBox e) = refl
-met_both texts more (MeetsShape s) = refl
 met_both texts more (Has n v) = list_any-append (λ (p : TextPair). bytes_eq p.name n && bytes_eq p.value v) texts more
+met_both texts more _ = refl
 
 pair_behind : (tests : List Test) (name : List ℕ) (o : Option (List ℕ)) (rest : List TextPair) → pair_kept tests name o rest ≡ pair_kept tests name o [] ++ rest
 pair_behind tests name None rest = refl
@@ -168,15 +164,13 @@ met_more tests ms m new =
     ∙ (count_both (is_met (kept_texts tests ms)) (is_met more) (is_met (kept_texts tests ms ++ more)) (met_both (kept_texts tests ms) more) apart tests
     ∙ ap (λ z. met_by tests (kept_texts tests ms) + z) (one_met tests m.name (as_text m.value))) where
       apart : (t : Test) → is_met (pair_kept tests m.name (as_text m.value) []) t ≡ true → is_met (kept_texts tests ms) t ≡ false
-      apart (InBox e) h = refl
-      apart (MeetsShape s) h = refl
       apart (Has n v) h = none_named tests ms n v (ap (is_among ms) (sym (met_name tests m.name (as_text m.value) n v h)) ∙ new)
+      apart _ h = refl
 
 -- of a name for which no test asks
 name_only : (name value : List ℕ) (t : Test) → wants_name name t ≡ false → wants_pair name value t ≡ false
-name_only name value (InBox x) h = refl
-name_only name value (MeetsShape x) h = refl
 name_only name value (Has n v) h = ap (λ b. b && bytes_eq v value) h
+name_only name value _ h = refl
 
 no_pairs : (name value : List ℕ) (ts : List Test) → list_any (wants_name name) ts ≡ false → list_any (wants_pair name value) ts ≡ false
 no_pairs name value [] h = refl

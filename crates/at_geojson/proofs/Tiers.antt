@@ -40,11 +40,9 @@ own_name false at = tt
 
 mutual
   pub twins_third : (t : Tree) → AreOf 3 (twins_of t)
-  twins_third (literal i l) = tt
-  twins_third (number i n) = tt
-  twins_third (text i cs) = tt
   twins_third (array i ts) = items_third ts
   twins_third (object i ms) = members_third [] ms
+  twins_third _ = tt
 
   items_third : (ts : Trees) → AreOf 3 (twins_of_items ts)
   items_third no_trees = tt
@@ -138,10 +136,7 @@ module _ (digits : ℕ) (how : Coords) where
   mutual
     geometry_fourth : (t : Tree) → AreOf 4 (geometry_reading digits how t).faults
     geometry_fourth (object at ms) = kind_fourth at ms (collection_reading digits how at ms) (kind_of ms) (collection_fourth at ms)
-    geometry_fourth (array at ts) = (refl, tt)
-    geometry_fourth (text at cs) = (refl, tt)
-    geometry_fourth (number at n) = (refl, tt)
-    geometry_fourth (literal at l) = (refl, tt)
+    geometry_fourth _ = (refl, tt)
 
     collection_fourth : (at : ℕ) (ms : Members) → AreOf 4 (collection_reading digits how at ms).faults
     collection_fourth at no_members = (refl, tt)
@@ -149,10 +144,7 @@ module _ (digits : ℕ) (how : Coords) where
 
     geometries_fourth : (at : ℕ) (t : Tree) → AreOf 4 (geometries_reading digits how at t).faults
     geometries_fourth at (array i ts) = items_fourth ts
-    geometries_fourth at (object i ms) = (refl, tt)
-    geometries_fourth at (text i cs) = (refl, tt)
-    geometries_fourth at (number i n) = (refl, tt)
-    geometries_fourth at (literal i l) = (refl, tt)
+    geometries_fourth at _ = (refl, tt)
 
     items_fourth : (ts : Trees) → AreOf 4 (items_reading digits how ts).faults
     items_fourth no_trees = tt
@@ -196,10 +188,7 @@ module _ (digits : ℕ) (how : Coords) where
 
   item_fourth : (t : Tree) → AreOf 4 (item_reading digits how t).faults
   item_fourth (object at ms) = if_fourth at ms (kind_of ms)
-  item_fourth (array at ts) = (refl, tt)
-  item_fourth (text at cs) = (refl, tt)
-  item_fourth (number at n) = (refl, tt)
-  item_fourth (literal at l) = (refl, tt)
+  item_fourth _ = (refl, tt)
 
   all_fourth : (ts : List Tree) → AreOf 4 (all_features (map (item_reading digits how) ts)).faults
   all_fourth [] = tt
@@ -227,10 +216,7 @@ module _ (digits : ℕ) (how : Coords) where
 
   pub roles_fourth : (t : Tree) → AreOf 4 (role_faults_of digits how t)
   roles_fourth (object at ms) = root_fourth at ms (kind_of ms)
-  roles_fourth (array at ts) = (refl, tt)
-  roles_fourth (text at cs) = (refl, tt)
-  roles_fourth (number at n) = (refl, tt)
-  roles_fourth (literal at l) = (refl, tt)
+  roles_fourth _ = (refl, tt)
 
 -- ---- the first of both
 

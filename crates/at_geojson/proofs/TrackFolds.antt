@@ -45,25 +45,10 @@ use Rattle.at_geojson.proofs.MixedFolds.{forms_both, form_covers, forms_read}
 -- ---- atoms that are positions
 
 position_is : (a : GeoAtom) → is_position a ≡ true → ((p : PositionAtom) × (a ≡ atoms.Position p)) ⊎ (((p : FaultyAtom) × (a ≡ atoms.BadPosition p)) ⊎ ((t : TrackAtom) × (a ≡ atoms.Track t)))
-position_is (atoms.Twin f) e = absurd (true≢false (sym e))
-position_is (atoms.Null n) e = absurd (true≢false (sym e))
-position_is (atoms.Plain n) e = absurd (true≢false (sym e))
-position_is (atoms.Text x) e = absurd (true≢false (sym e))
-position_is (atoms.Number x) e = absurd (true≢false (sym e))
-position_is (atoms.BadNumber f) e = absurd (true≢false (sym e))
-position_is (atoms.Empty n) e = absurd (true≢false (sym e))
 position_is (atoms.Position x) e = inl (x, refl)
 position_is (atoms.BadPosition x) e = inr (inl (x, refl))
-position_is (atoms.Points x) e = absurd (true≢false (sym e))
-position_is (atoms.Lists x) e = absurd (true≢false (sym e))
-position_is (atoms.Areas x) e = absurd (true≢false (sym e))
-position_is (atoms.Other x) e = absurd (true≢false (sym e))
-position_is (atoms.Items x) e = absurd (true≢false (sym e))
-position_is (atoms.Void n) e = absurd (true≢false (sym e))
-position_is (atoms.Object x) e = absurd (true≢false (sym e))
-position_is (atoms.Run x) e = absurd (true≢false (sym e))
-position_is (atoms.Series s) e = absurd (true≢false (sym e))
 position_is (atoms.Track t) e = inr (inr (t, refl))
+position_is _ e = absurd (true≢false (sym e))
 
 -- a value that is a position, or a track
 position_cases : (a : GeoAtom) → is_position a ≡ true → ((as_track a ≡ None) × (v : PositionView) × (as_position a ≡ Some v)) ⊎ ((t : TrackAtom) × (a ≡ atoms.Track t))

@@ -36,9 +36,8 @@ nothing_within : (p : Pos) → IsTrue (is_within void p) → ⊥
 nothing_within p h = let s = sides void p h in omega (arith, ints, s.left, s.right)
 
 void_rings : (rings : List (List Pos)) → AreWithin void (joined rings) → HasClosedFirst rings
-void_rings [] w = tt
-void_rings ([] ∷ holes) w = tt
 void_rings ((a ∷ rest) ∷ holes) w = absurd (nothing_within a w.0)
+void_rings _ w = tt
 
 void_polygons : (polygons : List Polygon) → AreWithin void (positions_of_polygons polygons) → AllByRecursion HasClosedExterior polygons
 void_polygons [] w = tt

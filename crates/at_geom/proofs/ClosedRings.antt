@@ -118,19 +118,15 @@ over : (p : Pos) (x : Extent) (a b : Pos) → x.high.y <ℤ p.y → IsTrue (is_w
 over p x a b h s t k = let u = sides x a s in let v = sides x b t in omega (arith, ints, clamps, u.above, v.above, k)
 
 even_beside : (p : Pos) (x : Extent) → ((a b : Pos) → IsTrue (is_within x a) → IsTrue (is_within x b) → is_crossed p (a, b) ≡ false) → (ring : List Pos) → AreWithin x ring → is_odd_for p ring ≡ false
-even_beside p x f [] w = refl
-even_beside p x f (a ∷ []) w = refl
 even_beside p x f (a ∷ b ∷ rest) w =
     odd_step p a b rest ∙ (ap (λ c. flip c (is_odd_for p (b ∷ rest))) (f a b w.0 w.1.0) ∙ even_beside p x f (b ∷ rest) w.1)
+even_beside p x f _ w = refl
 
 flip_between : (u v w : Bool) → flip (flip u v) (flip v w) ≡ flip u w
 flip_between true true true = refl
-flip_between true true false = refl
 flip_between true false true = refl
-flip_between true false false = refl
 flip_between false true true = refl
-flip_between false true false = refl
-flip_between false false w = refl
+flip_between _ _ _ = refl
 
 odd_left : (p : Pos) (x : Extent) → p.x <ℤ x.low.x → (a : Pos) (rest : List Pos) → AreWithin x (a ∷ rest) → is_odd_for p (a ∷ rest) ≡ flip (int_le a.y p.y) (int_le (last_of a rest).y p.y)
 odd_left p x h a [] w = sym (flip_same (int_le a.y p.y) (int_le a.y p.y) refl)

@@ -111,8 +111,7 @@ odd_step p a b r = rw (sum_by-cons (λ e. cond (is_crossed p e) 1 0) (a, b) (edg
 
 pub flip_more : (o x : Bool) → flip o (not x) ≡ flip (not o) x
 flip_more true true = refl
-flip_more true false = refl
-flip_more false x = refl
+flip_more _ _ = refl
 
 -- one edge on
 pub in_rest_step : (p a : Pos) (rest : List Pos) (i : ℕ) (d : Pos) → i < length rest → ¬ IsOn p a (get_or rest i d) → IsOnRing p (a ∷ drop i rest) → IsOnRing p (get_or rest i d ∷ drop (i + 1) rest)
@@ -135,10 +134,9 @@ parity_kept whole o o' false here rest e f g = e ∙ (ap (flip o) f ∙ ap (λ k
 -- ---- the test as the code has it: the ends lie on two sides of the height, and the position to the left of a rising edge or to the right of a falling one
 
 same_tests : (u v : Bool) → not (beq u v) ≡ false → u ≡ v
-same_tests true true h = refl
 same_tests true false h = absurd (cc)
 same_tests false true h = absurd (cc)
-same_tests false false h = refl
+same_tests _ _ h = refl
 
 pub no_pass : (p a b : Pos) → not (beq (int_le a.y p.y) (int_le b.y p.y)) ≡ false → not (beq (int_le a.y p.y) (int_le b.y p.y)) ≡ is_crossed p (a, b)
 no_pass p a b h = h ∙ sym (not_crossed p a b (same_tests (int_le a.y p.y) (int_le b.y p.y) h))
@@ -155,9 +153,8 @@ beq_false x true e = absurd (cc)
 
 two_sides : (u v : Bool) → not (beq u v) ≡ true → u ≡ v → ⊥
 two_sides true true h e = cc
-two_sides true false h e = cc
 two_sides false true h e = cc
-two_sides false false h e = cc
+two_sides _ _ h e = cc
 
 not_above : (s : ℤ) → s ≢ pos 0 → not (int_lt (pos 0) s) ≡ int_lt s (pos 0)
 not_above s ne =

@@ -51,10 +51,9 @@ pick_down : (u v f g : Bool) → u ≡ false → v ≡ true → (if u then (if v
 pick_down u v f g d e = rw (d, e) refl
 
 pick_none : (u v f g : Bool) → u ≡ v → (if u then (if v then false else f) else (if v then g else false)) ≡ false
-pick_none true true f g e = refl
 pick_none true false f g e = absurd (cc)
 pick_none false true f g e = absurd (cc)
-pick_none false false f g e = refl
+pick_none _ _ f g e = refl
 
 pub crossed_by_point : (p a b : Pos) → is_crossed p (a, b) ≡ has_point_to_right p (a, b)
 crossed_by_point p a b =

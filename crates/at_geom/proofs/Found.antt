@@ -94,10 +94,9 @@ found_points x P (p ∷ ps) w (inl h) = ((p, p), (h, w.0, w.0))
 found_points x P (p ∷ ps) w (inr h) = found_points x P ps w.1 h
 
 pub found_edges : (x : Extent) (P : Pos × Pos → Type 0) (path : List Pos) → AreWithin x path → SomeOf P (edges path) → Found x P
-found_edges x P [] w h = absurd h
-found_edges x P (a ∷ []) w h = absurd h
 found_edges x P (a ∷ b ∷ rest) w (inl h) = ((a, b), (h, w.0, w.1.0))
 found_edges x P (a ∷ b ∷ rest) w (inr h) = found_edges x P (b ∷ rest) w.1 h
+found_edges x P _ w h = absurd h
 
 found_paths : (x : Extent) (P : Pos × Pos → Type 0) (paths : List (List Pos)) → AreWithin x (joined paths) → SomeOf P (flat_map edges paths) → Found x P
 found_paths x P [] w h = absurd h

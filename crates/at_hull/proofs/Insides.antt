@@ -60,8 +60,6 @@ in_one_side c d p ps o f =
     in_triangle_side c d p o.x o.y o.z o.inside (at o.x f o.has_x) (at o.y f o.has_y) (at o.z f o.has_z)
 
 none_right_of_both : (h k l : List Pos) → All (IsInOneOf h) k → NoneRight (Contains h) l → NoneRight (Contains (h ++ k)) l
-none_right_of_both h k [] f n = tt
-none_right_of_both h k (a ∷ []) f n = tt
 none_right_of_both h k (a ∷ b ∷ l) f n = (
   λ p m. elim (Contains-append_cases h k p m) [
     | inl i ↦ n.0 p i
@@ -69,6 +67,7 @@ none_right_of_both h k (a ∷ b ∷ l) f n = (
   ],
   none_right_of_both h k (b ∷ l) f n.1,
 )
+none_right_of_both h k _ f n = tt
 
 ring_of_both : (a b c : Pos) (r k : List Pos) → All (IsWithin (a ∷ b ∷ c ∷ r)) k → IsRing (a ∷ b ∷ c ∷ r) a b (c ∷ r) → IsRing ((a ∷ b ∷ c ∷ r) ++ k) a b (c ∷ r)
 ring_of_both a b c r k f h = record {

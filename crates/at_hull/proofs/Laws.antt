@@ -138,9 +138,8 @@ ends_of_more xs ps a b c h = record {
 }
 
 none_right_of_more : (xs ps : List Pos) (l : List Pos) → Covers xs ps → NoneRight (Contains xs) l → NoneRight (Contains ps) l
-none_right_of_more xs ps [] c h = tt
-none_right_of_more xs ps (a ∷ []) c h = tt
 none_right_of_more xs ps (a ∷ b ∷ l) c h = (λ p m. c.sides a b p m (all_by (λ q. pos 0 ≤ℤ turn a b q) xs h.0), none_right_of_more xs ps (b ∷ l) c h.1)
+none_right_of_more xs ps _ c h = tt
 
 ring_of_more : (xs ps : List Pos) (a b : Pos) (r : List Pos) → Covers xs ps → IsRing xs a b r → IsRing ps a b r
 ring_of_more xs ps a b r c h = record {
@@ -216,9 +215,8 @@ hull_of_both ps qs a b h k l m = hull_of_covered (a ++ b) (ps ++ qs) h (covers_b
 
 -- a hull is its own hull
 none_right_of_fewer : (S T : Pos → Type 0) (l : List Pos) → ((p : Pos) → T p → S p) → NoneRight S l → NoneRight T l
-none_right_of_fewer S T [] f h = tt
-none_right_of_fewer S T (a ∷ []) f h = tt
 none_right_of_fewer S T (a ∷ b ∷ l) f h = (λ p m. h.0 p (f p m), none_right_of_fewer S T (b ∷ l) f h.1)
+none_right_of_fewer S T _ f h = tt
 
 own_ring : (ps : List Pos) (a b : Pos) (r : List Pos) → IsRing ps a b r → IsRing (a ∷ b ∷ r) a b r
 own_ring ps a b r h = record {

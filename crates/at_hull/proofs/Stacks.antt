@@ -1,6 +1,6 @@
 -- A vector of which the end is read and dropped, as a stack with its end first.
 -- For `add`, `covers`, `hull`, `hull_join`, `into_hull` and `join`.
-use Rattle.std.proofs.Common.{◌≡◌, zero, suc, ℤ, pos, negsuc, Bool, false, List, [], ◌∷◌, ◌++◌, reverse, arith, sym, ap, ◌∙◌, subst, refl}
+use Rattle.std.proofs.Common.{◌≡◌, suc, ℤ, pos, Bool, false, List, [], ◌∷◌, ◌++◌, reverse, arith, sym, ap, ◌∙◌, subst, refl}
 use Rattle.std.specs.Prelude.{int_le, if◌then◌else◌, All}
 use Rattle.std.proofs.lemmas.List.{reverse-append}
 use Rattle.std.proofs.lemmas.List.Elements.{All-head}
@@ -12,9 +12,8 @@ use Rattle.at_hull.specs.Walks.{is_dropped, popped}
 use Rattle.at_hull.proofs.Members.{all_left, all_right}
 
 pub sign_le : (z : ℤ) → int_le (sign_of z) (pos 0) ≡ int_le z (pos 0)
-sign_le (pos zero) = refl
 sign_le (pos (suc n)) = sym (le_false (pos (suc n)) (pos 0) (omega (arith, ints)))
-sign_le (negsuc n) = refl
+sign_le _ = refl
 
 pub reverse_end : (front : List Pos) (b : Pos) → reverse (front ++ b ∷ []) ≡ b ∷ reverse front
 reverse_end front b = reverse-append front (b ∷ [])

@@ -97,38 +97,32 @@ before_by false a b c p h k l t s = before_down a b c p h k l t s
 -- ---- stacks
 
 abbrev pub Falls : Bool → List Pos → Type 0
-Falls u [] = Unit {0}
-Falls u (c ∷ []) = Unit {0}
 Falls u (c ∷ b ∷ rest) = Before u b c × Falls u (b ∷ rest)
+Falls u _ = Unit {0}
 
 abbrev pub Lefts : List Pos → Type 0
-Lefts [] = Unit {0}
-Lefts (c ∷ []) = Unit {0}
-Lefts (c ∷ b ∷ []) = Unit {0}
 Lefts (c ∷ b ∷ a ∷ rest) = (pos 0 <ℤ turn a b c) × Lefts (b ∷ a ∷ rest)
+Lefts _ = Unit {0}
 
 abbrev pub Clear : (Pos → Type 0) → List Pos → Type 0
-Clear S [] = Unit {0}
-Clear S (c ∷ []) = Unit {0}
 Clear S (c ∷ b ∷ rest) = ((p : Pos) → S p → pos 0 ≤ℤ turn b c p) × Clear S (b ∷ rest)
+Clear S _ = Unit {0}
 
 abbrev pub bottom : Pos → List Pos → Pos
 bottom c [] = c
 bottom c (b ∷ rest) = bottom b rest
 
 pub clear_of_fewer : (S T : Pos → Type 0) (s : List Pos) → ((p : Pos) → T p → S p) → Clear S s → Clear T s
-clear_of_fewer S T [] f h = tt
-clear_of_fewer S T (c ∷ []) f h = tt
 clear_of_fewer S T (c ∷ b ∷ rest) f h = (λ p k. h.0 p (f p k), clear_of_fewer S T (b ∷ rest) f h.1)
+clear_of_fewer S T _ f h = tt
 
 with_both : (S T : Pos → Type 0) (a b p : Pos) → ((q : Pos) → S q → pos 0 ≤ℤ turn a b q) → ((q : Pos) → T q → pos 0 ≤ℤ turn a b q) → S p ⊎ T p → pos 0 ≤ℤ turn a b p
 with_both S T a b p f g (inl h) = f p h
 with_both S T a b p f g (inr h) = g p h
 
 pub clear_of_both : (S T : Pos → Type 0) (s : List Pos) → Clear S s → Clear T s → Clear (λ p. S p ⊎ T p) s
-clear_of_both S T [] h k = tt
-clear_of_both S T (c ∷ []) h k = tt
 clear_of_both S T (c ∷ b ∷ rest) h k = (λ p m. with_both S T b c p h.0 k.0 m, clear_of_both S T (b ∷ rest) h.1 k.1)
+clear_of_both S T _ h k = tt
 
 pub turn_to_first : (a b : Pos) → pos 0 ≤ℤ turn a b a
 turn_to_first a b = simp expand (omega (arith, ints))

@@ -11,11 +11,11 @@ use Rattle.at_text.specs.Prefix.{Viable, TakesLongest}
 use Rattle.at_text.specs.Texts.{is_run}
 use Rattle.at_text.proofs.Machine.{run}
 use Rattle.at_lex.specs.declared.tokens.Start.{Start}
-use Rattle.at_lex.specs.declared.tokens.Start.TheVariants.{Out, InString, InEscape}
+use Rattle.at_lex.specs.declared.tokens.Start.TheVariants.{Out, InString}
 use Rattle.at_lex.specs.declared.tokens.Lead.{Lead}
 use Rattle.at_lex.specs.declared.tokens.Lead.TheVariants as leads
 use Rattle.at_lex.specs.Strings.{JsonString}
-use Rattle.at_lex.specs.StringStates.{State, opening, inside, escaped, hex4, hex3, hex2, hex1, closed, step, accepts, lexical_of, StopsAt}
+use Rattle.at_lex.specs.StringStates.{State, opening, inside, closed, step, accepts, lexical_of, StopsAt}
 use Rattle.at_lex.specs.declared.tokens.Pend.{Pend}
 use Rattle.at_lex.specs.declared.tokens.Token.{Token}
 use Rattle.at_lex.specs.declared.tokens.TokenKind.{TokenKind}
@@ -122,14 +122,8 @@ taken_string : (w : List ℕ) (n : ℕ) (t : State) → StopsAt w n t → TakesL
 taken_string w n t s = string_at t w n s.fits s.goes s.stops
 
 closed_is : (t : State) → accepts t ≡ true → is_within t ≡ true → ⊥
-closed_is opening h k = true≢false (sym h)
-closed_is inside h k = true≢false (sym h)
-closed_is escaped h k = true≢false (sym h)
-closed_is hex4 h k = true≢false (sym h)
-closed_is hex3 h k = true≢false (sym h)
-closed_is hex2 h k = true≢false (sym h)
-closed_is hex1 h k = true≢false (sym h)
 closed_is closed h k = true≢false (sym k)
+closed_is _ h k = true≢false (sym h)
 
 pub whole_text : (w u : List ℕ) (n : ℕ) (t : State) → w ≡ 0x22 ∷ u → StopsAt w n t → accepts t ≡ true → IsText (take n w) × JsonString (take n w)
 whole_text w u n t e s a = let h = has_begun w u n t e s in (
@@ -148,9 +142,8 @@ unfinished_in_text w u n t e s a = within_no_out t (unfinished_within w n t (has
 
 some_closing : (s : Start) (k : ℕ) (v : List ℕ) → s ≢ Out → ClosesText s (take k v) → 0 < k
 some_closing Out k v n h = absurd (n refl)
-some_closing InString zero v n h = absurd h
-some_closing InEscape zero v n h = absurd h
 some_closing s (suc k) v n h = omega arith
+some_closing _ zero v n h = absurd h
 
 -- a string that is refused at the place n and is closed by k bytes more
 pub refused_text : (w u : List ℕ) (n k : ℕ) (t : State) → w ≡ 0x22 ∷ u → StopsAt w n t → accepts t ≡ false → n + k ≤ length w → ClosesText (lexical_of t) (take k (drop n w))
@@ -185,8 +178,7 @@ open_text w u n t e s a stays =
 
 pub closes_lead : (s : Start) (at i : ℕ) (u after : List ℕ) → s ≢ Out → ClosesText s u → i ≡ at + length u → IsLead s at u (leads.TextEnds i) after
 closes_lead Out at i u after n h e = absurd (n refl)
-closes_lead InString at i u after n h e = (e, h)
-closes_lead InEscape at i u after n h e = (e, h)
+closes_lead _ at i u after n h e = (e, h)
 
 -- what begins with a quote
 pub quote_first : (w : List ℕ) → slice_get w 0 ≡ Some 0x22 → (u : List ℕ) × (w ≡ 0x22 ∷ u)
@@ -249,8 +241,7 @@ gives_end old n pend end fits spaces out (is, state) =
 -- where bytes are left, the reader is outside text
 pub out_left : (s : Start) (w : List ℕ) → (s ≢ Out → w ≡ []) → (length w == 0) ≡ false → s ≡ Out
 out_left Out w h k = refl
-out_left InString w h k = absurd (true≢false (sym (ap (λ v. length v == 0) (h (λ e. cc))) ∙ k))
-out_left InEscape w h k = absurd (true≢false (sym (ap (λ v. length v == 0) (h (λ e. cc))) ∙ k))
+out_left _ w h k = absurd (true≢false (sym (ap (λ v. length v == 0) (h (λ e. cc))) ∙ k))
 
 -- ---- items as a list
 
@@ -260,12 +251,11 @@ kind_out at v r (Opens Brace) e = ap (end_of Out) e
 kind_out at v r (Opens Square) e = ap (end_of Out) e
 kind_out at v r (Closes Brace) e = ap (end_of Out) e
 kind_out at v r (Closes Square) e = ap (end_of Out) e
-kind_out at v r Comma e = ap (end_of Out) e
-kind_out at v r Colon e = ap (end_of Out) e
 kind_out at v r Text ((u, e, h), k) = ap (end_of Out) e ∙ closes_end InString u h
 kind_out at v r Run (((h, hs), k, i), j) = run_out v hs
 kind_out at v r (Broken place) (n, e, inl ((u, f, h), k, j)) = ap (end_of Out) f ∙ closes_end InString u h
 kind_out at v r (Broken place) (n, e, inr (((h, hs), k, i), j)) = run_out v hs
+kind_out at v r _ e = ap (end_of Out) e
 
 past_token : (a v r : List ℕ) (at : ℕ) (kind : TokenKind) → AreSpaces a → IsKind at v r kind → end_of Out (a ++ (v ++ r)) ≡ end_of Out r
 past_token a v r at kind h k =

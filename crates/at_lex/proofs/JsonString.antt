@@ -12,22 +12,15 @@ pub use Rattle.at_lex.specs.StringStates.{State, opening, inside, escaped, hex4,
 
 -- what may follow, cell by cell
 abbrev pub Rest : State → List ℕ → Type 0
-Rest opening [] = ⊥
 Rest opening (b ∷ w) = (b ≡ 0x22) × Rest inside w
-Rest inside [] = ⊥
 Rest inside (b ∷ w) = ((b ≡ 0x22) × Rest closed w) ⊎ (((b ≡ 0x5C) × Rest escaped w) ⊎ ((is_plain b ≡ true) × Rest inside w))
-Rest escaped [] = ⊥
 Rest escaped (b ∷ w) = ((b ≡ 0x75) × Rest hex4 w) ⊎ ((is_escape b ≡ true) × Rest inside w)
-Rest hex4 [] = ⊥
 Rest hex4 (b ∷ w) = (is_ascii_hexdigit b ≡ true) × Rest hex3 w
-Rest hex3 [] = ⊥
 Rest hex3 (b ∷ w) = (is_ascii_hexdigit b ≡ true) × Rest hex2 w
-Rest hex2 [] = ⊥
 Rest hex2 (b ∷ w) = (is_ascii_hexdigit b ≡ true) × Rest hex1 w
-Rest hex1 [] = ⊥
 Rest hex1 (b ∷ w) = (is_ascii_hexdigit b ≡ true) × Rest inside w
 Rest closed [] = ⊤
-Rest closed (b ∷ w) = ⊥
+Rest _ _ = ⊥
 
 plain_at : (b : ℕ) → is_plain b ≡ true → step inside b ≡ Some inside
 plain_at b h = let p : (b == 0x22) ≡ false = grind (arith, h) in let q : (b == 0x5C) ≡ false = grind (arith, h) in
@@ -86,14 +79,8 @@ no : ⊥ ↔ IsTrue false
 no = ((λ x. absurd x), (λ e. true≢false (sym e)))
 
 ends : (s : State) → Rest s [] ↔ IsTrue (accepts s)
-ends opening = no
-ends inside = no
-ends escaped = no
-ends hex4 = no
-ends hex3 = no
-ends hex2 = no
-ends hex1 = no
 ends closed = ((λ _. refl), (λ _. tt))
+ends _ = no
 
 lives : (s : State) → (w : List ℕ) × Rest s w
 lives opening = (0x22 ∷ 0x22 ∷ [], (refl, inl (refl, tt)))

@@ -7,7 +7,7 @@ use Rattle.at_fixed.specs.Numerals.{Exponent, fraction_text, exponent_text, IsAt
 use Rattle.at_fixed.proofs.NumberMachine.{one_of_two}
 use Rattle.at_lex.specs.declared.tokens.Start.{Start}
 use Rattle.at_lex.specs.declared.tokens.Start.TheVariants.{Out, InString}
-use Rattle.at_lex.specs.Runs.{Literal, the_null, the_true, the_false, literal_text, JsonRun}
+use Rattle.at_lex.specs.Runs.{Literal, the_false, literal_text, JsonRun}
 use Rattle.at_lex.specs.Spans.{AreRun, AreSpaces, IsRun, end_of}
 
 pub run_append : (u v : List ℕ) → AreRun u → AreRun v → AreRun (u ++ v)
@@ -62,9 +62,8 @@ exponent_run None h = tt
 exponent_run (Some e) h = (letter_run e.letter h.letter, run_append e.sign e.digits (signs_run e.sign h.sign) (some_digits_run e.digits h.digits))
 
 literal_run : (l : Literal) → AreRun (literal_text l)
-literal_run the_null = (refl, (refl, (refl, (refl, tt))))
-literal_run the_true = (refl, (refl, (refl, (refl, tt))))
 literal_run the_false = (refl, (refl, (refl, (refl, (refl, tt)))))
+literal_run _ = (refl, (refl, (refl, (refl, tt))))
 
 pub word_run : (w : List ℕ) → JsonRun w → AreRun w
 word_run w (inl (l, e)) = subst AreRun (sym e) (literal_run l)

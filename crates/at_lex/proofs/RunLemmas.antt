@@ -19,8 +19,7 @@ letter_of the_false = 0x66
 first_letter : (l : Literal) → slice_index (literal_text l) 0 ≡ letter_of l
 unfolding letter_of
 first_letter the_null = refl
-first_letter the_true = refl
-first_letter the_false = refl
+first_letter _ = refl
 
 some_letters : (l : Literal) → 0 < length (literal_text l)
 some_letters the_null = omega arith
@@ -29,15 +28,13 @@ some_letters the_false = omega arith
 
 same_letter : (l m : Literal) → letter_of l ≡ letter_of m → literal_text l ≡ literal_text m
 unfolding letter_of
-same_letter the_null the_null e = refl
 same_letter the_null the_true e = absurd (omega (arith, e))
 same_letter the_null the_false e = absurd (omega (arith, e))
 same_letter the_true the_null e = absurd (omega (arith, e))
-same_letter the_true the_true e = refl
 same_letter the_true the_false e = absurd (omega (arith, e))
 same_letter the_false the_null e = absurd (omega (arith, e))
 same_letter the_false the_true e = absurd (omega (arith, e))
-same_letter the_false the_false e = refl
+same_letter _ _ e = refl
 
 minus_only : (c : ℕ) → IsTrue (is_one_of (0x2D ∷ []) c) → c ≡ 0x2D
 minus_only c h = grind (arith, h)

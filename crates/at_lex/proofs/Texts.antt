@@ -23,47 +23,39 @@ end_append s (b ∷ u) v = end_append (after_byte s b) u v
 
 pub stays_cons : (s : Start) (b : ℕ) (u : List ℕ) → s ≢ Out → StaysInText (after_byte s b) u → StaysInText s (b ∷ u)
 stays_cons Out b u n h = absurd (n refl)
-stays_cons InString b u n h = h
-stays_cons InEscape b u n h = h
+stays_cons _ b u n h = h
 
 pub closes_cons : (s : Start) (b : ℕ) (u : List ℕ) → s ≢ Out → ClosesText (after_byte s b) u → ClosesText s (b ∷ u)
 closes_cons Out b u n h = absurd (n refl)
-closes_cons InString b u n h = h
-closes_cons InEscape b u n h = h
+closes_cons _ b u n h = h
 
 pub stays_append : (s : Start) (u v : List ℕ) → StaysInText s u → StaysInText (end_of s u) v → StaysInText s (u ++ v)
 stays_append Out u v h k = absurd h
-stays_append InString [] v h k = k
 stays_append InString (b ∷ u) v h k = stays_append (after_byte InString b) u v h k
-stays_append InEscape [] v h k = k
 stays_append InEscape (b ∷ u) v h k = stays_append InString u v h k
+stays_append _ [] v h k = k
 
 pub stays_closes : (s : Start) (u v : List ℕ) → StaysInText s u → ClosesText (end_of s u) v → ClosesText s (u ++ v)
 stays_closes Out u v h k = absurd h
-stays_closes InString [] v h k = k
 stays_closes InString (b ∷ u) v h k = stays_closes (after_byte InString b) u v h k
-stays_closes InEscape [] v h k = k
 stays_closes InEscape (b ∷ u) v h k = stays_closes InString u v h k
+stays_closes _ [] v h k = k
 
 pub stays_end : (s : Start) (u : List ℕ) → StaysInText s u → end_of s u ≢ Out
 stays_end Out u h = absurd h
-stays_end InString [] h = λ e. cc
 stays_end InString (b ∷ u) h = stays_end (after_byte InString b) u h
-stays_end InEscape [] h = λ e. cc
 stays_end InEscape (b ∷ u) h = stays_end InString u h
+stays_end _ [] h = λ e. cc
 
 pub closes_end : (s : Start) (u : List ℕ) → ClosesText s u → end_of s u ≡ Out
 closes_end Out [] h = refl
-closes_end Out (b ∷ u) h = absurd h
-closes_end InString [] h = absurd h
 closes_end InString (b ∷ u) h = closes_end (after_byte InString b) u h
-closes_end InEscape [] h = absurd h
 closes_end InEscape (b ∷ u) h = closes_end InString u h
+closes_end _ _ h = absurd h
 
 pub stays_start : (s : Start) → s ≢ Out → StaysInText s []
 stays_start Out n = absurd (n refl)
-stays_start InString n = tt
-stays_start InEscape n = tt
+stays_start _ n = tt
 
 quiet_stays : (b : ℕ) → is_quiet b ≡ true → after_byte InString b ≡ InString
 quiet_stays b h = let p : (b == 0x22) ≡ false = grind (arith, h) in let q : (b == 0x5C) ≡ false = grind (arith, h) in rw (q, p) refl
@@ -151,22 +143,16 @@ within_next q opening b e h = absurd (never q b e)
     never hex1 b e = elim (chosen _ (Some inside) None (Some opening) e) [ inl k ↦ cc | inr k ↦ none_is opening k.1 ]
     never closed b e = none_is opening e
 within_next q closed b e h = inl refl
-within_next q inside b e h = inr refl
-within_next q escaped b e h = inr refl
-within_next q hex4 b e h = inr refl
-within_next q hex3 b e h = inr refl
-within_next q hex2 b e h = inr refl
-within_next q hex1 b e h = inr refl
+within_next q _ b e h = inr refl
 
 pub within_no_out : (q : State) → is_within q ≡ true → lexical_of q ≢ Out
-within_no_out opening h = absurd (true≢false (sym h))
 within_no_out inside h = λ e. cc
 within_no_out escaped h = λ e. cc
 within_no_out hex4 h = λ e. cc
 within_no_out hex3 h = λ e. cc
 within_no_out hex2 h = λ e. cc
 within_no_out hex1 h = λ e. cc
-within_no_out closed h = absurd (true≢false (sym h))
+within_no_out _ h = absurd (true≢false (sym h))
 
 -- the reader of a string closes it, or stays in it
 abbrev pub Reaches : State → Start → List ℕ → Type 0

@@ -54,24 +54,20 @@ runs_one (c ∷ a) (d ∷ b) x y (h, hs) (k, ks) p q e = cons_same c d a b x y (
 
 closes_one : (s : Start) (u v x y : List ℕ) → ClosesText s u → ClosesText s v → u ++ x ≡ v ++ y → Same u v x y
 closes_one Out [] [] x y h k e = (refl, e)
-closes_one Out [] (c ∷ v) x y h k e = absurd k
 closes_one Out (b ∷ u) v x y h k e = absurd h
 closes_one InString [] v x y h k e = absurd h
-closes_one InString (b ∷ u) [] x y h k e = absurd k
 closes_one InString (b ∷ u) (c ∷ v) x y h k e = let f = head_same b c _ _ e in
     cons_same b c u v x y f (closes_one (after_byte InString b) u v x y h (subst (λ z. ClosesText (after_byte InString z) v) (sym f) k) (tail_same b c _ _ e))
 closes_one InEscape [] v x y h k e = absurd h
-closes_one InEscape (b ∷ u) [] x y h k e = absurd k
 closes_one InEscape (b ∷ u) (c ∷ v) x y h k e = cons_same b c u v x y (head_same b c _ _ e) (closes_one InString u v x y h k (tail_same b c _ _ e))
+closes_one _ _ _ x y h k e = absurd k
 
 closes_stays : (s : Start) (u v x : List ℕ) → ClosesText s u → StaysInText s v → u ++ x ≡ v → ⊥
 closes_stays Out u v x h k e = k
-closes_stays InString [] v x h k e = h
-closes_stays InString (b ∷ u) [] x h k e = absurd (omega (arith, ap length e))
 closes_stays InString (b ∷ u) (c ∷ v) x h k e = closes_stays (after_byte InString b) u v x h (subst (λ z. StaysInText (after_byte InString z) v) (sym (head_same b c _ _ e)) k) (tail_same b c _ _ e)
-closes_stays InEscape [] v x h k e = h
-closes_stays InEscape (b ∷ u) [] x h k e = absurd (omega (arith, ap length e))
 closes_stays InEscape (b ∷ u) (c ∷ v) x h k e = closes_stays InString u v x h k (tail_same b c _ _ e)
+closes_stays _ [] v x h k e = h
+closes_stays _ (b ∷ u) [] x h k e = absurd (omega (arith, ap length e))
 
 -- ---- the shape of a token
 
@@ -311,7 +307,6 @@ out_lead at u (leads.TextEnds i) r h = absurd h
 out_lead at u leads.AllText r h = absurd h
 
 out_leads : (at : ℕ) (u r : List ℕ) (k l : Lead) → IsLead Out at u k r → IsLead Out at u l r → k ≡ l
-out_leads at u r leads.Nothing leads.Nothing h k = refl
 out_leads at u r leads.Nothing (leads.RunEnds i) (e, h) (f, ((k, ks), m, n)) = absurd (some_first u k e)
 out_leads at u r leads.Nothing leads.AllRun (e, h) ((k, ks), m) = absurd (some_first u k e)
 out_leads at u r (leads.RunEnds i) leads.Nothing (f, ((k, ks), m, n)) (e, h) = absurd (some_first u k e)
@@ -319,11 +314,11 @@ out_leads at u r (leads.RunEnds i) (leads.RunEnds j) (e, h) (f, k) = ap leads.Ru
 out_leads at u r (leads.RunEnds i) leads.AllRun (e, (h, m, n)) (k, f) = absurd (m f)
 out_leads at u r leads.AllRun leads.Nothing ((k, ks), m) (e, h) = absurd (some_first u k e)
 out_leads at u r leads.AllRun (leads.RunEnds i) (k, f) (e, (h, m, n)) = absurd (m f)
-out_leads at u r leads.AllRun leads.AllRun h k = refl
 out_leads at u r (leads.TextEnds i) l h k = absurd h
 out_leads at u r leads.AllText l h k = absurd h
 out_leads at u r k (leads.TextEnds i) h j = absurd j
 out_leads at u r k leads.AllText h j = absurd j
+out_leads at u r _ _ h k = refl
 
 -- in a string there are two leads
 data InTextLead (s : Start) (at : ℕ) (u r : List ℕ) : Lead → Type 0 where
@@ -334,14 +329,11 @@ text_lead : (s : Start) (at : ℕ) (u : List ℕ) (l : Lead) (r : List ℕ) → 
 text_lead Out at u l r n h = absurd (n refl)
 text_lead InString at u (leads.TextEnds i) r n (e, h) = ends_there i refl e h
 text_lead InString at u leads.AllText r n (h, e) = all_there refl h e
-text_lead InString at u leads.Nothing r n h = absurd h
 text_lead InString at u (leads.RunEnds i) r n h = absurd h
-text_lead InString at u leads.AllRun r n h = absurd h
 text_lead InEscape at u (leads.TextEnds i) r n (e, h) = ends_there i refl e h
 text_lead InEscape at u leads.AllText r n (h, e) = all_there refl h e
-text_lead InEscape at u leads.Nothing r n h = absurd h
 text_lead InEscape at u (leads.RunEnds i) r n h = absurd h
-text_lead InEscape at u leads.AllRun r n h = absurd h
+text_lead _ at u _ r n h = absurd h
 
 abbrev SameLead : (u v r s : List ℕ) (k l : Lead) → Type 0
 SameLead u v r s k l = (u ≡ v) × (r ≡ s) × (k ≡ l)

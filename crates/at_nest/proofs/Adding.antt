@@ -49,44 +49,40 @@ module _ {X : Type 0} (IsKept : X → Content → Type 0) where
   adds_close bytes old c new r b i e pushes = adds_one bytes old c new r (λ base w f p part h k. by_piece base w f h p (subst (λ z. IsHeldPiece IsKept base w z p) e k)) (λ base w ps k. subst (λ z. AreRow IsKept base w z ps) e k)
     where
       by_piece : (base : ℕ) (w : List ℕ) (f : Form Tree) → IsShown IsKept base w old f → (p : Piece Tree) → IsHeldPiece IsKept base w (Closes b i) p → IsPushedAs IsKept base w new r (push free f p)
-      by_piece base w f h (opens d j) u = absurd u
       by_piece base w f h (closes d j) u = subst (λ n. IsPushedAs IsKept base w new r (push free f (closes d n))) u.1 (subst (λ n. IsPushedAs IsKept base w new r (push free f (closes n i))) u.0 (pushes base w f h))
-      by_piece base w f h (mark x) u = absurd u
+      by_piece base w f h _ u = absurd u
 
   pub adds_comma : (bytes : List ℕ) (old : Shown X) (c : CodePiece X) (new : Shown X) (r : Option CodeHalt) (i : ℕ) → c ≡ Comma i → (new, r) ≡ comma_added i old.outer old.levels → Adds IsKept bytes old c new r
   adds_comma bytes old c new r i e d = adds_one bytes old c new r (λ base w f p part h k. by_piece base w f h p (subst (λ z. IsHeldPiece IsKept base w z p) e k)) (λ base w ps k. subst (λ z. AreRow IsKept base w z ps) e k)
     where
       by_piece : (base : ℕ) (w : List ℕ) (f : Form Tree) → IsShown IsKept base w old f → (p : Piece Tree) → IsHeldPiece IsKept base w (Comma i) p → IsPushedAs IsKept base w new r (push free f p)
-      by_piece base w f h (opens b j) u = absurd u
-      by_piece base w f h (closes b j) u = absurd u
       by_piece base w f h (mark (comma j)) u = subst (λ n. IsPushedAs IsKept base w new r (push_mark f.outer f.levels (comma n))) u
           (subst (λ a. IsPushedAs IsKept base w a.0 a.1 (push_mark f.outer f.levels (comma i))) (sym d) (comma_pushes IsKept base w old.outer old.levels f.outer f.levels i h.0 h.1))
       by_piece base w f h (mark (colon j)) u = absurd u
       by_piece base w f h (mark (quoted j cs)) u = absurd u
       by_piece base w f h (mark (entry j t)) u = absurd u
+      by_piece base w f h _ u = absurd u
 
   pub adds_colon : (bytes : List ℕ) (old : Shown X) (c : CodePiece X) (new : Shown X) (r : Option CodeHalt) (i : ℕ) → c ≡ Colon i → (new, r) ≡ colon_added i old.outer old.levels → Adds IsKept bytes old c new r
   adds_colon bytes old c new r i e d = adds_one bytes old c new r (λ base w f p part h k. by_piece base w f h p (subst (λ z. IsHeldPiece IsKept base w z p) e k)) (λ base w ps k. subst (λ z. AreRow IsKept base w z ps) e k)
     where
       by_piece : (base : ℕ) (w : List ℕ) (f : Form Tree) → IsShown IsKept base w old f → (p : Piece Tree) → IsHeldPiece IsKept base w (Colon i) p → IsPushedAs IsKept base w new r (push free f p)
-      by_piece base w f h (opens b j) u = absurd u
-      by_piece base w f h (closes b j) u = absurd u
       by_piece base w f h (mark (comma j)) u = absurd u
       by_piece base w f h (mark (colon j)) u = subst (λ n. IsPushedAs IsKept base w new r (push_mark f.outer f.levels (colon n))) u
           (subst (λ a. IsPushedAs IsKept base w a.0 a.1 (push_mark f.outer f.levels (colon i))) (sym d) (colon_pushes IsKept base w old.outer old.levels f.outer f.levels i h.0 h.1))
       by_piece base w f h (mark (quoted j cs)) u = absurd u
       by_piece base w f h (mark (entry j t)) u = absurd u
+      by_piece base w f h _ u = absurd u
 
   pub adds_value : (bytes : List ℕ) (old : Shown X) (c : CodePiece X) (new : Shown X) (r : Option CodeHalt) (i : ℕ) (x : X) → c ≡ Value i x → PushesValue IsKept old new r i x → Adds IsKept bytes old c new r
   adds_value bytes old c new r i x e pushes = adds_one bytes old c new r (λ base w f p part h k. by_piece base w f h p (subst (λ z. IsHeldPiece IsKept base w z p) e k)) (λ base w ps k. subst (λ z. AreRow IsKept base w z ps) e k)
     where
       by_piece : (base : ℕ) (w : List ℕ) (f : Form Tree) → IsShown IsKept base w old f → (p : Piece Tree) → IsHeldPiece IsKept base w (Value i x) p → IsPushedAs IsKept base w new r (push free f p)
-      by_piece base w f h (opens b j) u = absurd u
-      by_piece base w f h (closes b j) u = absurd u
       by_piece base w f h (mark (comma j)) u = absurd u
       by_piece base w f h (mark (colon j)) u = absurd u
       by_piece base w f h (mark (quoted j cs)) u = absurd u
       by_piece base w f h (mark (entry j t)) u = subst (λ n. IsPushedAs IsKept base w new r (push_mark f.outer f.levels (entry n t))) u.0 (pushes base w f t h u.1)
+      by_piece base w f h _ u = absurd u
 
   -- a row
   pub adds_row : (bytes : List ℕ) (old : Shown X) (c : CodePiece X) (new : Shown X) (r : Option CodeHalt) (row : Row X) → c ≡ RowPiece row → PushesRow IsKept old new r row → Adds IsKept bytes old c new r
@@ -94,8 +90,7 @@ module _ {X : Type 0} (IsKept : X → Content → Type 0) where
     where
       no_row : (base : ℕ) (w : List ℕ) (p : Piece Tree) → IsHeldPiece IsKept base w (RowPiece row) p → ⊥
       no_row base w (opens b j) u = u
-      no_row base w (closes b j) u = u
-      no_row base w (mark x) u = u
+      no_row base w _ u = u
   adds_row bytes old c new r row e pushes base w f ps part h (inr k) = pushes base w f ps h (subst (λ z. AreRow IsKept base w z ps) e k)
 
   -- closing brackets
@@ -110,12 +105,11 @@ module _ {X : Type 0} (IsKept : X → Content → Type 0) where
   adds_text bytes old new r span x pushes = adds_one bytes old (Text span x) new r by_piece (λ base w ps k. k)
     where
       by_piece : (base : ℕ) (w : List ℕ) (f : Form Tree) (p : Piece Tree) → IsPartOf bytes base w → IsShown IsKept base w old f → IsHeldPiece IsKept base w (Text span x) p → IsPushedAs IsKept base w new r (push free f p)
-      by_piece base w f (opens b j) part h k = absurd k
-      by_piece base w f (closes b j) part h k = absurd k
       by_piece base w f (mark (comma j)) part h k = absurd k
       by_piece base w f (mark (colon j)) part h k = absurd k
       by_piece base w f (mark (quoted j cs)) part h k = subst (λ n. IsPushedAs IsKept base w new r (push free f (mark (quoted n cs)))) k.0 (pushes base w f cs part h k.1 (subst (λ n. IsKept x (one (text n cs))) (sym k.0) k.2))
       by_piece base w f (mark (entry j t)) part h k = absurd k
+      by_piece base w f _ part h k = absurd k
 
   -- the string that is to be put
   pub record HasText (bytes : List ℕ) (span : Span) : Type 0 where
@@ -129,12 +123,11 @@ module _ {X : Type 0} (IsKept : X → Content → Type 0) where
   has_text bytes old span x (base, w, f, ps, part, h, inl (p, e, k)) = by_piece p k
     where
       by_piece : (p : Piece Tree) → IsHeldPiece IsKept base w (Text span x) p → HasText bytes span
-      by_piece (opens b j) u = absurd u
-      by_piece (closes b j) u = absurd u
       by_piece (mark (comma j)) u = absurd u
       by_piece (mark (colon j)) u = absurd u
       by_piece (mark (quoted j cs)) u = record { base = base; w = w; cs = cs; part = part; at = u.1 }
       by_piece (mark (entry j t)) u = absurd u
+      by_piece _ u = absurd u
   has_text bytes old span x (base, w, f, ps, part, h, inr k) = absurd k
 
   -- what can be put can be put behind items

@@ -99,18 +99,14 @@ value_ended at v r more b (array i ts) e h = let (f, (u, g, s)) = parts.array_pa
 value_ended at v r more b (object i ms) e h = let (f, (u, g, s)) = parts.object_parts ms i at v h in between 0x7B 0x7D u v g refl
 
 pub value_no_text : (at : ℕ) (v r more : List ℕ) (b : Bracket) (t : Tree) → v ++ r ≡ opening b ∷ more → Spells at v t → IsNoText t
-value_no_text at v r more b (literal i l) e h = tt
-value_no_text at v r more b (number i n) e h = tt
 value_no_text at v r more b (text i cs) e h = absurd (text_not v r more b cs e h.1.1)
-value_no_text at v r more b (array i ts) e h = tt
-value_no_text at v r more b (object i ms) e h = tt
+value_no_text at v r more b _ e h = tt
 
 pub value_brackets : (at : ℕ) (v r more : List ℕ) (b : Bracket) (t : Tree) → v ++ r ≡ opening b ∷ more → Spells at v t → HasBrackets t
 value_brackets at v r more b (literal i l) e h = absurd (no_bracket_run v r more b e (inl (l, h.1)))
 value_brackets at v r more b (number i n) e h = absurd (no_bracket_run v r more b e (inr (n, h.1.0, h.1.1)))
 value_brackets at v r more b (text i cs) e h = absurd (text_not v r more b cs e h.1.1)
-value_brackets at v r more b (array i ts) e h = tt
-value_brackets at v r more b (object i ms) e h = tt
+value_brackets at v r more b _ e h = tt
 
 pub whole_ahead : {X : Type 0} (IsOwn : X → Type 0) (IsFold : X → Tree → Type 0) (IsRun : X → List Tree → Type 0) (old new : Shown X) (r : Option CodeHalt) (b : Bracket) (at : ℕ) (ahead : List ℕ) (len : ℕ) (x : X) → (more : List ℕ) × (ahead ≡ opening b ∷ more) → IsAttempt IsOwn IsFold at ahead (Whole len x)
     → PushesValue (OwnAtom IsOwn IsFold IsRun) old new r at x → ReadsAhead (OwnAtom IsOwn IsFold IsRun) old new r at ahead (at + len)

@@ -105,16 +105,10 @@ from_items st b v h = ap (option_and_then (λ x. go x v)) (pass (is_space b) _ _
 pub run_goes : (s t : State) (b : ℕ) (v : List ℕ) → IsRunBegun (b ∷ v) → next s value_kind ≡ Some t → (l : State) × (go s (b ∷ v) ≡ Some l)
 run_goes (value st) t b v h e = let k : RunBegins st b v = run_begins st b v h in (k.last, from_value st b v k)
 run_goes (items st) t b v h e = let k : RunBegins (in_array ∷ st) b v = run_begins (in_array ∷ st) b v h in (k.last, from_items st b v k)
-run_goes (members st) t b v h e = absurd (none-some t e)
-run_goes (name st) t b v h e = absurd (none-some t e)
-run_goes (colon st) t b v h e = absurd (none-some t e)
 run_goes (after []) t b v h e = absurd (none-some t e)
 run_goes (after (in_array ∷ st)) t b v h e = absurd (none-some t e)
 run_goes (after (in_object ∷ st)) t b v h e = absurd (none-some t e)
-run_goes (in_number n st) t b v h e = absurd (none-some t e)
-run_goes (in_string n st) t b v h e = absurd (none-some t e)
-run_goes (in_name n st) t b v h e = absurd (none-some t e)
-run_goes (in_word n st) t b v h e = absurd (none-some t e)
+run_goes _ t b v h e = absurd (none-some t e)
 
 pub run_halts : (s : State) (b : ℕ) (v : List ℕ) → IsStill s → IsRunBegun (b ∷ v) → next s value_kind ≡ None → step s b ≡ None
 run_halts s b v i h e = let k : RunBegins [] b v = run_begins [] b v h in unmarked_halts s b i (run_unmarked b k.is_run_byte) e
@@ -145,20 +139,12 @@ text_goes_on (value st) t b v h e = let (f, n, g) = text_first b v h in (in_stri
 text_goes_on (items st) t b v h e = let (f, n, g) = text_first b v h in (in_string n (in_array ∷ st), at_quote (items st) (in_string n (in_array ∷ st)) b v f (string_run str.inside n (in_array ∷ st) v g))
 text_goes_on (members st) t b v h e = let (f, n, g) = text_first b v h in (in_name n st, at_quote (members st) (in_name n st) b v f (name_run str.inside n st v g))
 text_goes_on (name st) t b v h e = let (f, n, g) = text_first b v h in (in_name n st, at_quote (name st) (in_name n st) b v f (name_run str.inside n st v g))
-text_goes_on (colon st) t b v h e = absurd (none-some t e)
 text_goes_on (after []) t b v h e = absurd (none-some t e)
 text_goes_on (after (in_array ∷ st)) t b v h e = absurd (none-some t e)
 text_goes_on (after (in_object ∷ st)) t b v h e = absurd (none-some t e)
-text_goes_on (in_number n st) t b v h e = absurd (none-some t e)
-text_goes_on (in_string n st) t b v h e = absurd (none-some t e)
-text_goes_on (in_name n st) t b v h e = absurd (none-some t e)
-text_goes_on (in_word n st) t b v h e = absurd (none-some t e)
+text_goes_on _ t b v h e = absurd (none-some t e)
 
 quote_halts : (s : State) → IsStill s → next s text_kind ≡ None → step s 0x22 ≡ None
-quote_halts (value st) i e = absurd (some_none _ e)
-quote_halts (items st) i e = absurd (some_none _ e)
-quote_halts (members st) i e = absurd (some_none _ e)
-quote_halts (name st) i e = absurd (some_none _ e)
 quote_halts (colon st) i e = refl
 quote_halts (after []) i e = refl
 quote_halts (after (in_array ∷ st)) i e = refl
@@ -167,6 +153,7 @@ quote_halts (in_number n st) i e = absurd i
 quote_halts (in_string n st) i e = absurd i
 quote_halts (in_name n st) i e = absurd i
 quote_halts (in_word n st) i e = absurd i
+quote_halts _ i e = absurd (some_none _ e)
 
 pub text_stops : (s : State) (b : ℕ) (v : List ℕ) → IsStill s → IsTextBegun (b ∷ v) → next s text_kind ≡ None → step s b ≡ None
 text_stops s b v i h e = let (f, n, g) = text_first b v h in ap (step s) f ∙ quote_halts s i e

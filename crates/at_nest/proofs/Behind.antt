@@ -90,9 +90,8 @@ module _ {X : Type 0} (IsKept : X → Content → Type 0) where
   -- ---- what another call left is as it was
 
   still_in : (s : Start) (at : ℕ) (x : List ℕ) (old new : Parts X) (q : Slot) → IsSame old new q → HoldsIn IsKept s at x old q → HoldsIn IsKept s at x new q
-  still_in s at x old new slot.Out same h = subst (HoldsVariant IsKept s at x) (sym same) h
-  still_in s at x old new slot.String same h = subst (HoldsVariant IsKept s at x) (sym same) h
   still_in s at x old new slot.Escape same h = (h.0, same.0 ∙ h.1, same.1 ∙ h.2)
+  still_in s at x old new _ same h = subst (HoldsVariant IsKept s at x) (sym same) h
 
   pub still_goes : (bytes : List ℕ) (s : Start) (at : ℕ) (w x : List ℕ) (left : Variant X) (old new : Parts X) (taken wanted : Option Slot) (again : Bool) → Stays taken again old new → (taken ≡ wanted → again ≡ true)
       → GoesOn IsKept bytes s at w x left old wanted → GoesOn IsKept bytes s at w x left new wanted

@@ -7,9 +7,9 @@ use Rattle.at_lex.specs.declared.tokens.Bracket.{Bracket}
 use Rattle.at_nest.specs.declared.pieces.Closers.{Closers}
 use Rattle.at_nest.specs.declared.pieces.SpanStop.{SpanStop as CodeHalt}
 use Rattle.at_nest.specs.declared.pieces.Piece.{Piece as CodePiece}
-use Rattle.at_nest.specs.declared.pieces.Piece.TheVariants.{Closes, Comma, Colon, Text, Value, Row as RowPiece, Members as MembersPiece, Closers as ClosersPiece}
+use Rattle.at_nest.specs.declared.pieces.Piece.TheVariants.{Closes, Comma, Closers as ClosersPiece}
 use Rattle.at_nest.specs.Tree.{Tree}
-use Rattle.at_nest.specs.Forms.{Piece, opens, closes, mark}
+use Rattle.at_nest.specs.Forms.{Piece, closes}
 use Rattle.at_nest.specs.Levels.{Level, Form, further, push, push_close, push_all, push_then}
 use Rattle.at_nest.specs.Closers.{IsLonger, turn}
 use Rattle.at_nest.specs.Refusals.{last_of}
@@ -62,8 +62,7 @@ module _ {X : Type 0} (IsKept : X → Content → Type 0) where
         ap (λ z. z ++ (closes b at ∷ [])) e ∙ (ap (λ z. closes z j ∷ (closes b at ∷ [])) (sym u.0 ∙ sym h.0) ∙ (ap (λ z. closes r.first z ∷ (closes b at ∷ [])) (sym u.1 ∙ sym h.2)
             ∙ (ap (λ z. closes r.first r.from ∷ (closes z at ∷ [])) (sym h.1) ∙ ap (λ z. closes r.first r.from ∷ (closes r.second z ∷ [])) (h.3 ∙ ap (λ z. z + 1) (sym h.2))))),
       )
-      by_piece (opens k j) e u = absurd u
-      by_piece (mark x) e u = absurd u
+      by_piece _ e u = absurd u
   longer_are base w (ClosersPiece q) vs b at r (inr (n, e, f)) h =
       let here : at ≡ q.from + suc n = h.3 ∙ e in
       let width : q.to - q.from ≡ suc n = omega (arith, e) in
@@ -77,11 +76,7 @@ module _ {X : Type 0} (IsKept : X → Content → Type 0) where
   longer_are base w (ClosersPiece q) vs b at r (inl (p, e, u)) h = absurd u
   longer_are base w (Closes d i) vs b at r (inr u) h = absurd u
   longer_are base w (Comma i) vs b at r u h = absurd h
-  longer_are base w (Colon i) vs b at r u h = absurd h
-  longer_are base w (Text span x) vs b at r u h = absurd h
-  longer_are base w (Value i x) vs b at r u h = absurd h
-  longer_are base w (RowPiece q) vs b at r u h = absurd h
-  longer_are base w (MembersPiece q) vs b at r u h = absurd h
+  longer_are base w _ vs b at r u h = absurd h
 
   -- the last item has become longer
   pub longer_pushes : (old new : Shown X) (b : Bracket) (at : ℕ) (c : CodePiece X) (r : Closers) → old.levels ≡ [] → last_of old.outer ≡ Some c → IsLonger c b at r

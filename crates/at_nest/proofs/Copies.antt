@@ -17,7 +17,7 @@ use Rattle.at_nest.specs.declared.pieces.Row.{Row}
 use Rattle.at_nest.specs.declared.pieces.NamedValue.{NamedValue}
 use Rattle.at_nest.specs.MemberMarks.{MemberMarks, tree_of}
 use Rattle.at_nest.specs.Tree.{Tree}
-use Rattle.at_nest.specs.Forms.{Piece, opens, closes, mark, comma, colon, quoted, entry}
+use Rattle.at_nest.specs.Forms.{Piece, opens, mark, comma, colon, quoted, entry}
 use Rattle.at_nest.specs.Levels.{Level, Form}
 use Rattle.at_nest.specs.Shown.{Held, Shown, top_of, helds_of, open_levels, opens_of, OwnPiece, OwnLevel, OwnBody, shown}
 use Rattle.at_nest.specs.KeptItems.{Content, one, run, Holds, OwnAtom, Each, EachMember, EachHeld, IsHeldPiece, EachPiece, ArePieces, EachNamed, IsTextAt, CopiesNamed, row_trees, IsOfItems, CanAdd, IsShown, CopiesItems, CopiesMember, CopiesMembers, CopiesPiece, CopiesPieces, CopiesShown}
@@ -58,8 +58,7 @@ module _ {X : Type 0} (IsKept : X → Content → Type 0) where
       put : (ys : List (Member X)) (y : Member X) (us : List (List Character × ℕ × Tree)) (p : List Character × ℕ × Tree) → EachMember IsKept ys us → y.name ≡ units_of p.0 → y.name_at ≡ p.1 → IsKept y.value (one p.2) → EachMember IsKept (ys ++ y ∷ []) (us ++ p ∷ [])
       put [] y [] p e a b k = (a, b, k, tt)
       put (z ∷ ys) y (u ∷ us) p e a b k = (e.0, e.1, e.2, put ys y us p e.3 a b k)
-      put [] y (u ∷ us) p e a b k = absurd e
-      put (z ∷ ys) y [] p e a b k = absurd e
+      put _ y _ p e a b k = absurd e
 
   pub pieces_on : (xs ys : List (CodePiece X)) (x y : CodePiece X) → CopiesPieces IsKept xs ys → CopiesPiece IsKept x y → CopiesPieces IsKept (xs ++ x ∷ []) (ys ++ y ∷ [])
   pieces_on xs ys x y h k base w ps e = let c = pieces_cut IsKept base w xs x ps e in subst (EachPiece IsKept base w (ys ++ y ∷ [])) (sym c.2) (pieces_append IsKept base w ys c.0 y c.1 (h base w c.0 c.3) (k base w c.1 c.4))
@@ -75,8 +74,7 @@ module _ {X : Type 0} (IsKept : X → Content → Type 0) where
   pub named_append : (base : ℕ) (w : List ℕ) (xs : List (NamedValue X)) (x : NamedValue X) (us : List MemberMarks) (e : MemberMarks) → EachNamed IsKept base w xs us → EachNamed IsKept base w (x ∷ []) (e ∷ []) → EachNamed IsKept base w (xs ++ x ∷ []) (us ++ e ∷ [])
   named_append base w [] x [] e h k = k
   named_append base w (y ∷ xs) x (u ∷ us) e h k = (h.0, h.1, h.2, named_append base w xs x us e h.3 k)
-  named_append base w [] x (u ∷ us) e h k = absurd h
-  named_append base w (y ∷ xs) x [] e h k = absurd h
+  named_append base w _ x _ e h k = absurd h
 
   pub named_on : (xs ys : List (NamedValue X)) (x y : NamedValue X) → CopiesNamed IsKept xs ys → y.name ≡ x.name → ((t : Tree) → IsKept x.value (one t) → IsKept y.value (one t)) → CopiesNamed IsKept (xs ++ x ∷ []) (ys ++ y ∷ [])
   named_on xs ys x y h e k base w es u = let c = named_cut base w xs x es u in subst (EachNamed IsKept base w (ys ++ y ∷ [])) (sym c.2.0)
@@ -90,38 +88,27 @@ module _ {X : Type 0} (IsOwn : X → Type 0) (IsFold : X → Tree → Type 0) (I
   piece_own base w (Colon i) p h = tt
   piece_own base w (Text span x) (mark (quoted j cs)) h = h.2.0
   piece_own base w (Value i x) (mark (entry j t)) h = h.1.0
-  piece_own base w (Text span x) (opens b j) h = absurd h
-  piece_own base w (Text span x) (closes b j) h = absurd h
   piece_own base w (Text span x) (mark (comma j)) h = absurd h
   piece_own base w (Text span x) (mark (colon j)) h = absurd h
   piece_own base w (Text span x) (mark (entry j t)) h = absurd h
-  piece_own base w (Value i x) (opens b j) h = absurd h
-  piece_own base w (Value i x) (closes b j) h = absurd h
   piece_own base w (Value i x) (mark (comma j)) h = absurd h
   piece_own base w (Value i x) (mark (colon j)) h = absurd h
   piece_own base w (Value i x) (mark (quoted j cs)) h = absurd h
   piece_own base w (RowPiece r) (opens b j) h = absurd h
-  piece_own base w (RowPiece r) (closes b j) h = absurd h
-  piece_own base w (RowPiece r) (mark x) h = absurd h
-  piece_own base w (MembersPiece r) p h = absurd h
   piece_own base w (ClosersPiece r) p h = tt
+  piece_own base w _ _ h = absurd h
 
   each_named_own : (base : ℕ) (w : List ℕ) (ms : List (NamedValue X)) (es : List MemberMarks) → EachNamed (OwnAtom IsOwn IsFold IsRun) base w ms es → All (λ m. IsOwn m.value) ms
   each_named_own base w [] [] h = All-nil (λ m. IsOwn m.value)
   each_named_own base w (m ∷ ms) (e ∷ es) h = All-cons (λ m. IsOwn m.value) m ms h.2.0 (each_named_own base w ms es h.3)
-  each_named_own base w [] (e ∷ es) h = absurd h
-  each_named_own base w (m ∷ ms) [] h = absurd h
+  each_named_own base w _ _ h = absurd h
 
   are_own : (base : ℕ) (w : List ℕ) (c : CodePiece X) (ps : List (Piece Tree)) → ArePieces (OwnAtom IsOwn IsFold IsRun) base w c ps → OwnPiece IsOwn c
   are_own base w c ps (inl (p, e, h)) = piece_own base w c p h
   are_own base w (RowPiece r) ps (inr h) = each_own IsOwn IsFold IsRun r.items.items (h.tree ∷ row_trees h.others) h.items
   are_own base w (MembersPiece r) ps (inr h) = each_named_own base w r.items.items (h.first ∷ h.others) h.items
   are_own base w (ClosersPiece r) ps (inr h) = tt
-  are_own base w (Closes b i) ps (inr h) = absurd h
-  are_own base w (Comma i) ps (inr h) = absurd h
-  are_own base w (Colon i) ps (inr h) = absurd h
-  are_own base w (Text span x) ps (inr h) = absurd h
-  are_own base w (Value i x) ps (inr h) = absurd h
+  are_own base w _ ps (inr h) = absurd h
 
   pub pieces_own : (base : ℕ) (w : List ℕ) (cs : List (CodePiece X)) (ps : List (Piece Tree)) → EachPiece (OwnAtom IsOwn IsFold IsRun) base w cs ps → All (OwnPiece IsOwn) cs
   pieces_own base w [] ps h = All-nil (OwnPiece IsOwn)

@@ -19,7 +19,7 @@ use Rattle.at_nest.proofs.Values.{go, run_then}
 use Rattle.at_nest.specs.Walks.{an_opener, value_kind, text_kind, kind_of, at_of, next, walks, walk_on, Walk, reached, refused}
 use Rattle.at_nest.proofs.Walks.{Reads, Halted, walk_reads, walk_halts, spaces_read, no_walk, reached_is, cases, spaces_apart, swap}
 use Rattle.at_nest.proofs.Joins.{same_split, at_end}
-use Rattle.at_nest.specs.Levels.{Mode, at_items, at_value, at_after, at_members, at_name, at_colon, at_member, at_further, full, first_mode, moves, Level, Form, marks, opened, pieces_of, Pushed, further, stopped, SpanStop, Within, at_first, in_run, in_text}
+use Rattle.at_nest.specs.Levels.{Mode, at_items, full, first_mode, moves, Level, Form, marks, opened, pieces_of, Pushed, further, stopped, SpanStop, Within, at_first, in_run, in_text}
 use Rattle.at_nest.proofs.Pushes.{AreLevels, IsForm, IsStop, IsPushed, IsDeadHere, IsBegun, IsRunBegun, IsTextBegun, moves_walk, same_length}
 use Rattle.at_nest.proofs.Begun.{run_goes, run_halts, text_goes_on, text_stops}
 pub use Rattle.at_nest.specs.Answers.{Answer, folded, syntax, ended, single, folded_or, by_walk, choose, halt_place, stop_by, finished, IsAnswer}
@@ -86,26 +86,14 @@ open_full (value st) t Square e = (st, sym (same_Some _ t e))
 open_full (value st) t Brace e = (st, sym (same_Some _ t e))
 open_full (items st) t Square e = (in_array ∷ st, sym (same_Some _ t e))
 open_full (items st) t Brace e = (in_array ∷ st, sym (same_Some _ t e))
-open_full (members st) t b e = absurd (none-some t e)
-open_full (name st) t b e = absurd (none-some t e)
-open_full (colon st) t b e = absurd (none-some t e)
 open_full (after []) t b e = absurd (none-some t e)
 open_full (after (in_array ∷ st)) t b e = absurd (none-some t e)
 open_full (after (in_object ∷ st)) t b e = absurd (none-some t e)
-open_full (in_number n st) t b e = absurd (none-some t e)
-open_full (in_string n st) t b e = absurd (none-some t e)
-open_full (in_name n st) t b e = absurd (none-some t e)
-open_full (in_word n st) t b e = absurd (none-some t e)
+open_full _ t b e = absurd (none-some t e)
 
 full_open : (md : Mode) (st : List Frame) → accepts (full md st) ≡ false
 full_open at_items st = refl
-full_open at_value st = refl
-full_open at_after st = refl
-full_open at_members st = refl
-full_open at_name st = refl
-full_open at_colon st = refl
-full_open at_member st = refl
-full_open at_further st = refl
+full_open _ st = refl
 
 -- a form with an open level doesn't end well
 open_ends : {X : Type 0} (ps : List (Piece X)) (b : Bracket) (i : ℕ) (xs : List (Mark X)) (md : Mode) (s t : State) → moves (first_mode b) xs ≡ Some md → walks s (ps ++ (opens b i ∷ marks xs)) ≡ reached t → accepts t ≡ false

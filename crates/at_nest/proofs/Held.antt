@@ -53,8 +53,7 @@ gains IsOwn IsFold IsRun xs x ys own more ts us h k = folds_each IsOwn IsFold Is
 each_member_folds : {X : Type 0} (IsOwn : X → Type 0) (IsFold : X → Tree → Type 0) (IsRun : X → List Tree → Type 0) (xs : List (Member X)) (ps : List (List Character × ℕ × Tree)) → EachMember (OwnAtom IsOwn IsFold IsRun) xs ps → AreMemberFolds IsFold xs (tree_members ps)
 each_member_folds IsOwn IsFold IsRun [] [] h = tt
 each_member_folds IsOwn IsFold IsRun (x ∷ xs) (p ∷ ps) h = (h.0, h.1, h.2.1, each_member_folds IsOwn IsFold IsRun xs ps h.3)
-each_member_folds IsOwn IsFold IsRun [] (p ∷ ps) h = absurd h
-each_member_folds IsOwn IsFold IsRun (x ∷ xs) [] h = absurd h
+each_member_folds IsOwn IsFold IsRun _ _ h = absurd h
 
 pub each_own : {X : Type 0} (IsOwn : X → Type 0) (IsFold : X → Tree → Type 0) (IsRun : X → List Tree → Type 0) (xs : List X) (ts : List Tree) → Each (OwnAtom IsOwn IsFold IsRun) xs ts → All IsOwn xs
 each_own IsOwn IsFold IsRun [] ts h = All-nil IsOwn
@@ -63,8 +62,7 @@ each_own IsOwn IsFold IsRun (x ∷ xs) ts (us, vs, e, k, h) = All-cons IsOwn x x
 each_member_own : {X : Type 0} (IsOwn : X → Type 0) (IsFold : X → Tree → Type 0) (IsRun : X → List Tree → Type 0) (xs : List (Member X)) (ps : List (List Character × ℕ × Tree)) → EachMember (OwnAtom IsOwn IsFold IsRun) xs ps → All (λ m. IsOwn m.value) xs
 each_member_own IsOwn IsFold IsRun [] [] h = All-nil (λ m. IsOwn m.value)
 each_member_own IsOwn IsFold IsRun (x ∷ xs) (p ∷ ps) h = All-cons (λ m. IsOwn m.value) x xs h.2.0 (each_member_own IsOwn IsFold IsRun xs ps h.3)
-each_member_own IsOwn IsFold IsRun [] (p ∷ ps) h = absurd h
-each_member_own IsOwn IsFold IsRun (x ∷ xs) [] h = absurd h
+each_member_own IsOwn IsFold IsRun _ _ h = absurd h
 
 pub held_own : {X : Type 0} (IsOwn : X → Type 0) (IsFold : X → Tree → Type 0) (IsRun : X → List Tree → Type 0) (h : Held X) (l : Level Tree) → IsHeld (OwnAtom IsOwn IsFold IsRun) h l → AreOwn IsOwn h
 held_own IsOwn IsFold IsRun (array_level i s xs) l k = each_own IsOwn IsFold IsRun xs (values_in free l.inside) k.3
@@ -135,8 +133,7 @@ module _ {X : Type 0} (IsKept : X → Content → Type 0) where
       → EachMember IsKept (xs ++ x ∷ []) (ps ++ p ∷ [])
   each_member_append [] [] x p h e f k = (e, f, k, tt)
   each_member_append (y ∷ xs) (q ∷ ps) x p h e f k = (h.0, h.1, h.2, each_member_append xs ps x p h.3 e f k)
-  each_member_append [] (q ∷ ps) x p h e f k = absurd h
-  each_member_append (y ∷ xs) [] x p h e f k = absurd h
+  each_member_append _ _ x p h e f k = absurd h
 
   -- what a mark makes of what is kept, and of the level: both go on, or neither
   abbrev pub IsMoved : Option (Held X) → Option Mode → Level Tree → Mark Tree → Type 0
@@ -254,8 +251,7 @@ module _ {X : Type 0} (IsKept : X → Content → Type 0) where
 
   pub value_taken : (i : ℕ) (s : ArrayState) (xs : List X) (x : X) (ys : List X) (l : CodeLevel X) → (s ≡ array.Value → ⊥) → held_of l ≡ array_level i array.Value ys → IsStep (array_level i s xs) (value_next (array_level i s xs) x ys) (On l)
   value_taken i array.Value xs x ys l n h = absurd (n refl)
-  value_taken i array.Empty xs x ys l n h = h
-  value_taken i array.Comma xs x ys l n h = h
+  value_taken i _ xs x ys l n h = h
 
   -- a name
   named : (j : ℕ) (s : ObjectState) (ms : List (Member X)) (l : Level Tree) (i : ℕ) (q : MemberName) (cs : List Character) → IsNamed IsKept object.Value (pending_in None l.inside) → IsHeld IsKept (object_level j s ms) l → q.units ≡ units_of cs → q.at ≡ i

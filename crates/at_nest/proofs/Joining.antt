@@ -42,8 +42,7 @@ module _ {X : Type 0} (IsKept : X → Content → Type 0) where
   held_append : (hs : List (Held X)) (ls : List (Level Tree)) (gs : List (Held X)) (ks : List (Level Tree)) → EachHeld IsKept hs ls → EachHeld IsKept gs ks → EachHeld IsKept (hs ++ gs) (ls ++ ks)
   held_append [] [] gs ks h k = k
   held_append (x ∷ hs) (l ∷ ls) gs ks h k = (h.0, held_append hs ls gs ks h.1 k)
-  held_append [] (l ∷ ls) gs ks h k = absurd h
-  held_append (x ∷ hs) [] gs ks h k = absurd h
+  held_append _ _ gs ks h k = absurd h
 
   -- the pieces so far were all pushed
   abbrev pub SoFar : List ℕ → Shown X → List (CodePiece X) → Shown X → Type 0

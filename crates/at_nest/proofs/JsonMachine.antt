@@ -302,17 +302,12 @@ empty_after [] h = tt
 empty_after (f ∷ st) h = wrong h
 
 pub ends_well : (s : State) → IsTrue (accepts s) → Suffix s []
-ends_well (value st) h = wrong h
-ends_well (items st) h = wrong h
-ends_well (members st) h = wrong h
-ends_well (name st) h = wrong h
-ends_well (colon st) h = wrong h
 ends_well (after st) h = empty_after st h
 ends_well (in_number s st) h = let (p, q) = and_parts (num.accepts s) (is_nil st) h in ([], [], refl, (num.machine.ends s).1 p, empty_after st q)
 ends_well (in_string s st) h = let (p, q) = and_parts (str.accepts s) (is_nil st) h in ([], [], refl, (str.machine.ends s).1 p, empty_after st q)
-ends_well (in_name s st) h = wrong h
 ends_well (in_word [] st) h = ([], refl, empty_after st h)
 ends_well (in_word (c ∷ w) st) h = wrong h
+ends_well _ h = wrong h
 
 -- what the machine accepts is in the grammar
 pub sound : (s : State) (w : List ℕ) → Accepts step accepts s w → Suffix s w
@@ -425,11 +420,7 @@ number_stops num.zero_digit b h q = q.0
 number_stops num.whole b h q = q.1
 number_stops num.fraction b h q = q.2
 number_stops num.power b h q = q.3
-number_stops num.start b h q = wrong h
-number_stops num.signed b h q = wrong h
-number_stops num.point b h q = wrong h
-number_stops num.letter b h q = wrong h
-number_stops num.power_sign b h q = wrong h
+number_stops _ b h q = wrong h
 
 pub past_number : (s : num.State) (st : List Frame) → num.accepts s ≡ true → (y : List ℕ) → Acc (after st) y → Acc (in_number s st) y
 past_number s st p [] k = ap (λ c. c && is_nil st) p ∙ k
@@ -449,12 +440,7 @@ pub past_string : (s : str.State) (st : List Frame) → str.accepts s ≡ true �
 past_string str.closed st p [] k = k
 past_string str.closed st p (b ∷ y) k = k
 past_string str.opening st p y k = wrong p
-past_string str.inside st p y k = wrong p
-past_string str.escaped st p y k = wrong p
-past_string str.hex4 st p y k = wrong p
-past_string str.hex3 st p y k = wrong p
-past_string str.hex2 st p y k = wrong p
-past_string str.hex1 st p y k = wrong p
+past_string _ st p y k = wrong p
 
 pub on_string : (s : str.State) (st : List Frame) (u y : List ℕ) → str.Rest s u → Acc (after st) y → Acc (in_string s st) (u ++ y)
 on_string s st [] y r k = past_string s st ((str.machine.ends s).0 r) y k
@@ -465,12 +451,7 @@ pub past_name : (s : str.State) (st : List Frame) → str.accepts s ≡ true →
 past_name str.closed st p [] k = k
 past_name str.closed st p (b ∷ y) k = k
 past_name str.opening st p y k = wrong p
-past_name str.inside st p y k = wrong p
-past_name str.escaped st p y k = wrong p
-past_name str.hex4 st p y k = wrong p
-past_name str.hex3 st p y k = wrong p
-past_name str.hex2 st p y k = wrong p
-past_name str.hex1 st p y k = wrong p
+past_name _ st p y k = wrong p
 
 pub on_name : (s : str.State) (st : List Frame) (u y : List ℕ) → str.Rest s u → Acc (colon st) y → Acc (in_name s st) (u ++ y)
 on_name s st [] y r k = past_name s st ((str.machine.ends s).0 r) y k

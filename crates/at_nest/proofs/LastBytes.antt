@@ -65,10 +65,9 @@ pending_run v (text_pending u e k) t = absurd (true≢false (sym t ∙ ap begins
 
 stays_front : (s : Start) (v x : List ℕ) → StaysInText s (v ++ x) → (s ≡ Out → ⊥) → StaysInText s v
 stays_front Out v x h n = absurd (n refl)
-stays_front InString [] x h n = tt
 stays_front InString (b ∷ v) x h n = stays_front (after_byte InString b) v x h (λ e. subst (λ t. StaysInText t (v ++ x)) e h)
-stays_front InEscape [] x h n = tt
 stays_front InEscape (b ∷ v) x h n = stays_front InString v x h (λ e. subst (λ t. StaysInText t (v ++ x)) e h)
+stays_front _ [] x h n = tt
 
 -- the reader is in a string that goes on
 unfinished : (v x : List ℕ) (n : str.State) → StaysInText InString (v ++ x) → run str.step str.inside v ≡ Some n → str.accepts n ≡ false
@@ -190,8 +189,7 @@ module _ {X : Type 0} (K : X → Content → Type 0) where
       by_result None (further k) q z answer on off = subst (Answers K at (x ++ v)) (sym (on refl)) (told K at (x ++ v) _ (answer_of new) answer (answer_tells K at (x ++ v) new k z q.levels))
       by_result (Some i) (stopped k y) q z answer on off = subst (Answers K at (x ++ v)) (sym (off i refl))
           (told K at (x ++ v) (finished free (stopped k (halt_of i))) (Err (stop_of (next_of new) i)) (subst (λ m. IsAnswer free at (x ++ v) (finished free (stopped k m))) (sym z.1) answer) (stop_tells K at (x ++ v) new k i z.0 q.form.levels))
-      by_result None (stopped k y) q z answer on off = absurd z
-      by_result (Some i) (further k) q z answer on off = absurd z
+      by_result _ _ q z answer on off = absurd z
 
   -- want of memory says nothing
   pub ends_refused : (s : Shown X) (from : ℕ) (v : List ℕ) (r : Result X NestEnd) (end : NestEnd) → r ≡ Err end → end ≡ Memory → EndsSo K s from v r

@@ -17,17 +17,12 @@ use Rattle.at_nest.proofs.Values.{go, run_byte}
 
 abbrev pub InText : str.State → Start → Type 0
 InText str.opening s = ⊥
-InText str.inside s = s ≡ InString
 InText str.escaped s = s ≡ InEscape
-InText str.hex4 s = s ≡ InString
-InText str.hex3 s = s ≡ InString
-InText str.hex2 s = s ≡ InString
-InText str.hex1 s = s ≡ InString
 InText str.closed s = s ≡ Out
+InText _ s = s ≡ InString
 
 -- the machine's state may stand where the lexical state is s
 abbrev pub At : State → Start → Type 0
-At (in_number n st) s = s ≡ Out
 At (in_string q st) s = InText q s
 At (in_name q st) s = InText q s
 At (in_word w st) s = (s ≡ Out) × AreRun w
@@ -164,24 +159,12 @@ number_at n st t b (Some v) p f e = become (in_number v st) t (after_byte Out b)
 string_at : (q : str.State) (st : List Frame) (t : State) (b : ℕ) (s : Start) (o : Option str.State) → str.step q b ≡ o → InText q s → within (option_map (λ v. in_string v st) o) (str.accepts q) (after_step st b) ≡ Some t → At t (after_byte s b)
 string_at q st t b s (Some v) f h e = become (in_string v st) t (after_byte s b) e (text_step q v b s h f)
 string_at str.closed st t b s None f h e = let P : Start → Type 0 = λ x. At t (after_byte x b) in subst P (sym h) (after_at st t b e)
-string_at str.opening st t b s None f h e = none_put t e
-string_at str.inside st t b s None f h e = none_put t e
-string_at str.escaped st t b s None f h e = none_put t e
-string_at str.hex4 st t b s None f h e = none_put t e
-string_at str.hex3 st t b s None f h e = none_put t e
-string_at str.hex2 st t b s None f h e = none_put t e
-string_at str.hex1 st t b s None f h e = none_put t e
+string_at _ st t b s None f h e = none_put t e
 
 in_name_at : (q : str.State) (st : List Frame) (t : State) (b : ℕ) (s : Start) (o : Option str.State) → str.step q b ≡ o → InText q s → within (option_map (λ v. in_name v st) o) (str.accepts q) (colon_step st b) ≡ Some t → At t (after_byte s b)
 in_name_at q st t b s (Some v) f h e = become (in_name v st) t (after_byte s b) e (text_step q v b s h f)
 in_name_at str.closed st t b s None f h e = let P : Start → Type 0 = λ x. At t (after_byte x b) in subst P (sym h) (colon_at st t b e)
-in_name_at str.opening st t b s None f h e = none_put t e
-in_name_at str.inside st t b s None f h e = none_put t e
-in_name_at str.escaped st t b s None f h e = none_put t e
-in_name_at str.hex4 st t b s None f h e = none_put t e
-in_name_at str.hex3 st t b s None f h e = none_put t e
-in_name_at str.hex2 st t b s None f h e = none_put t e
-in_name_at str.hex1 st t b s None f h e = none_put t e
+in_name_at _ st t b s None f h e = none_put t e
 
 from_out : (t : State) (b : ℕ) (s : Start) → s ≡ Out → At t (after_byte Out b) → At t (after_byte s b)
 from_out t b s e h = let P : Start → Type 0 = λ x. At t (after_byte x b) in subst P (sym e) h
@@ -244,9 +227,6 @@ not_out_string e = let P : Start → Type 0 = λ x. elim x [ Out ↦ ⊤ | InStr
 pub opens_square : (q t : State) → At q Out → step q 0x5B ≡ Some t → (st : List Frame) × (t ≡ items st)
 opens_square (value st) t h e = (st, sym (same_Some (items st) t e))
 opens_square (items st) t h e = (in_array ∷ st, sym (same_Some (items (in_array ∷ st)) t e))
-opens_square (members st) t h e = none_put t e
-opens_square (name st) t h e = none_put t e
-opens_square (colon st) t h e = none_put t e
 opens_square (after st) t h e = absurd (none-some t (sym (after_square st) ∙ e))
 opens_square (in_number n st) t h e = absurd (cond_none (num.accepts n) (after_step st 0x5B) t (after_square st) (sym (bracket_number n st 0x5B refl) ∙ e))
 opens_square (in_string str.closed st) t h e = absurd (none-some t (sym (after_square st) ∙ e))
@@ -267,13 +247,11 @@ opens_square (in_name str.hex2 st) t h e = none_put t e
 opens_square (in_name str.hex1 st) t h e = none_put t e
 opens_square (in_word [] st) t h e = absurd (none-some t (sym (after_square st) ∙ e))
 opens_square (in_word (c ∷ w) st) t (h, (k, l)) e = absurd (word_off c 0x5B w st t refl k e)
+opens_square _ t h e = none_put t e
 
 pub opens_brace : (q t : State) → At q Out → step q 0x7B ≡ Some t → (st : List Frame) × (t ≡ members st)
 opens_brace (value st) t h e = (st, sym (same_Some (members st) t e))
 opens_brace (items st) t h e = (in_array ∷ st, sym (same_Some (members (in_array ∷ st)) t e))
-opens_brace (members st) t h e = none_put t e
-opens_brace (name st) t h e = none_put t e
-opens_brace (colon st) t h e = none_put t e
 opens_brace (after st) t h e = absurd (none-some t (sym (after_brace st) ∙ e))
 opens_brace (in_number n st) t h e = absurd (cond_none (num.accepts n) (after_step st 0x7B) t (after_brace st) (sym (bracket_number n st 0x7B refl) ∙ e))
 opens_brace (in_string str.closed st) t h e = absurd (none-some t (sym (after_brace st) ∙ e))
@@ -294,6 +272,7 @@ opens_brace (in_name str.hex2 st) t h e = none_put t e
 opens_brace (in_name str.hex1 st) t h e = none_put t e
 opens_brace (in_word [] st) t h e = absurd (none-some t (sym (after_brace st) ∙ e))
 opens_brace (in_word (c ∷ w) st) t (h, (k, l)) e = absurd (word_off c 0x7B w st t refl k e)
+opens_brace _ t h e = none_put t e
 
 after_quote : (st : List Frame) → after_step st 0x22 ≡ None
 after_quote [] = refl

@@ -20,7 +20,7 @@ use Rattle.at_nest.specs.declared.pieces.MemberRow.{MemberRow}
 use Rattle.at_nest.specs.declared.pieces.Awaited.{Awaited}
 use Rattle.at_nest.specs.declared.pieces.SpanStop.{SpanStop as CodeHalt}
 use Rattle.at_nest.specs.Tree.{Tree, text}
-use Rattle.at_nest.specs.Forms.{Mark, Piece, opens, closes, mark, comma, colon, quoted, entry}
+use Rattle.at_nest.specs.Forms.{Mark, Piece, opens, mark, comma, colon, quoted, entry}
 use Rattle.at_nest.specs.Walks.{comma_kind, colon_kind, text_kind}
 use Rattle.at_nest.specs.Levels.{Mode, at_name, at_member, at_further, Level, pairs_in, marks, move, moves, further, with_mark, push_mark, push_all, push_then}
 use Rattle.at_nest.specs.Shown.{Held, held_of, array_level, object_level, Shown, show_as, kept_outside, put_back, comma_next, stop_at}
@@ -70,8 +70,7 @@ pairs_more (e ∷ es) gs = ap (λ z. (e.characters, e.name_at, tree_of e.value) 
 module _ {X : Type 0} (IsKept : X → Content → Type 0) where
   no_members : (r : MemberRow X) (base : ℕ) (w : List ℕ) (p : Piece Tree) → IsHeldPiece IsKept base w (MembersPiece r) p → ⊥
   no_members r base w (opens b j) u = u
-  no_members r base w (closes b j) u = u
-  no_members r base w (mark x) u = u
+  no_members r base w _ u = u
 
   are_members : (r : MemberRow X) (base : ℕ) (w : List ℕ) (ps : List (Piece Tree)) → ArePieces IsKept base w (MembersPiece r) ps → AreMembers IsKept base w r ps
   are_members r base w ps (inl (p, e, h)) = absurd (no_members r base w p h)
@@ -82,11 +81,10 @@ module _ {X : Type 0} (IsKept : X → Content → Type 0) where
     where
       one_colon : (p : Piece Tree) → IsHeldPiece IsKept base w (Colon c) p → p ≡ mark (colon c)
       one_colon (mark (colon j)) h = ap (λ n. mark (colon n)) (sym h)
-      one_colon (opens b j) h = absurd h
-      one_colon (closes b j) h = absurd h
       one_colon (mark (comma j)) h = absurd h
       one_colon (mark (quoted j cs)) h = absurd h
       one_colon (mark (entry j t)) h = absurd h
+      one_colon _ h = absurd h
   is_colon c base w ps (inr h) = absurd h
 
   is_text : (span : Span) (x : X) (base : ℕ) (w : List ℕ) (ps : List (Piece Tree)) → ArePieces IsKept base w (Text span x) ps → (cs : List Character) × (ps ≡ mark (quoted span.from cs) ∷ []) × IsTextAt base w span cs
@@ -94,11 +92,10 @@ module _ {X : Type 0} (IsKept : X → Content → Type 0) where
     where
       one_text : (p : Piece Tree) → ps ≡ p ∷ [] → IsHeldPiece IsKept base w (Text span x) p → (cs : List Character) × (ps ≡ mark (quoted span.from cs) ∷ []) × IsTextAt base w span cs
       one_text (mark (quoted j cs)) e h = (cs, e ∙ ap (λ n. mark (quoted n cs) ∷ []) (sym h.0), h.1)
-      one_text (opens b j) e h = absurd h
-      one_text (closes b j) e h = absurd h
       one_text (mark (comma j)) e h = absurd h
       one_text (mark (colon j)) e h = absurd h
       one_text (mark (entry j t)) e h = absurd h
+      one_text _ e h = absurd h
   is_text span x base w ps (inr h) = absurd h
 
   -- ---- before the first open level
@@ -198,10 +195,7 @@ module _ {X : Type 0} (IsKept : X → Content → Type 0) where
       (k.0, k.1, refl, subst (EachMember IsKept all) (sym pairs) (gains base w (pairs_in free None l.inside) (e ∷ es) part k.3 named), subst (IsNamed IsKept object.Value) (sym pending) tt) in
       subst (λ a. IsPushedAs IsKept base w a.0 a.1 (push_all free (marks xs) (record { outer = fo; levels = l ∷ ls }))) (sym d)
       (subst (IsPushedAs IsKept base w (show_as old.outer (object_level j object.Value all ∷ old.levels)) None) (sym (push_marks xs l.inside l.bracket l.from l.mode at_further fo ls on)) (ho, (held, hl)))
-  members_in_object bytes old new r j at object.Empty ms all row b gains d base w fo l ls e es part ho k hl ek named = absurd b
-  members_in_object bytes old new r j at (object.Named n) ms all row b gains d base w fo l ls e es part ho k hl ek named = absurd b
-  members_in_object bytes old new r j at (object.Colon n) ms all row b gains d base w fo l ls e es part ho k hl ek named = absurd b
-  members_in_object bytes old new r j at object.Value ms all row b gains d base w fo l ls e es part ho k hl ek named = absurd b
+  members_in_object bytes old new r j at _ ms all row b gains d base w fo l ls e es part ho k hl ek named = absurd b
 
   first_named : (base : ℕ) (w : List ℕ) (ms : List (NamedValue X)) (e : MemberMarks) (es : List MemberMarks) (m : NamedValue X) → m ≡ get_or ms 0 m → EachNamed IsKept base w ms (e ∷ es) → (m.name.from ≡ e.name_at) × IsTextAt base w m.name e.characters
   first_named base w [] e es m i h = absurd h
@@ -285,8 +279,7 @@ module _ {X : Type 0} (IsKept : X → Content → Type 0) where
       each : (ms : List (NamedValue X)) (es : List MemberMarks) → EachNamed IsKept base w ms es → All (HasName bytes) ms
       each [] [] h = All-nil (HasName bytes)
       each (m ∷ ms) (e ∷ es) h = All-cons (HasName bytes) m ms (base, w, e.characters, part, h.1) (each ms es h.3)
-      each [] (e ∷ es) h = absurd h
-      each (m ∷ ms) [] h = absurd h
+      each _ _ h = absurd h
 
   pub gains_member : (bytes : List ℕ) (ms all all2 : List (Member X)) (more : List (NamedValue X)) (m : NamedValue X) (n : Member X) → GainsMembers IsKept bytes ms more all → NamesMember bytes m n → all2 ≡ all ++ n ∷ [] → GainsMembers IsKept bytes ms (more ++ m ∷ []) all2
   gains_member bytes ms all all2 more m n gains (at, same, name) e base w ps es part h k = let c = named_cut IsKept base w more m es k in

@@ -46,46 +46,31 @@ module _ {X : Type 0} (IsKept : X → Content → Type 0) where
   piece_within base w y z b (Text span x) (mark (quoted j cs)) e h = (h.0, text_within base w y z b span cs e h.1, h.2)
   piece_within base w y z b (Value i x) (mark (entry j t)) e h = h
   piece_within base w y z b (Closes c i) (opens d j) e h = absurd h
-  piece_within base w y z b (Closes c i) (mark m) e h = absurd h
-  piece_within base w y z b (Comma i) (opens d j) e h = absurd h
-  piece_within base w y z b (Comma i) (closes d j) e h = absurd h
   piece_within base w y z b (Comma i) (mark (colon j)) e h = absurd h
   piece_within base w y z b (Comma i) (mark (quoted j cs)) e h = absurd h
   piece_within base w y z b (Comma i) (mark (entry j t)) e h = absurd h
-  piece_within base w y z b (Colon i) (opens d j) e h = absurd h
-  piece_within base w y z b (Colon i) (closes d j) e h = absurd h
   piece_within base w y z b (Colon i) (mark (comma j)) e h = absurd h
   piece_within base w y z b (Colon i) (mark (quoted j cs)) e h = absurd h
   piece_within base w y z b (Colon i) (mark (entry j t)) e h = absurd h
-  piece_within base w y z b (Text span x) (opens d j) e h = absurd h
-  piece_within base w y z b (Text span x) (closes d j) e h = absurd h
   piece_within base w y z b (Text span x) (mark (comma j)) e h = absurd h
   piece_within base w y z b (Text span x) (mark (colon j)) e h = absurd h
   piece_within base w y z b (Text span x) (mark (entry j t)) e h = absurd h
-  piece_within base w y z b (Value i x) (opens d j) e h = absurd h
-  piece_within base w y z b (Value i x) (closes d j) e h = absurd h
   piece_within base w y z b (Value i x) (mark (comma j)) e h = absurd h
   piece_within base w y z b (Value i x) (mark (colon j)) e h = absurd h
   piece_within base w y z b (Value i x) (mark (quoted j cs)) e h = absurd h
   piece_within base w y z b (Row r) p e h = absurd h
-  piece_within base w y z b (MembersPiece r) p e h = absurd h
-  piece_within base w y z b (ClosersPiece r) p e h = absurd h
+  piece_within base w y z b _ _ e h = absurd h
 
   named_within : (base : ℕ) (w y z : List ℕ) (b : ℕ) (ms : List (NamedValue X)) (es : List MemberMarks) → base ≡ b + length y → EachNamed IsKept base w ms es → EachNamed IsKept b (y ++ (w ++ z)) ms es
   named_within base w y z b [] [] e h = tt
   named_within base w y z b (m ∷ ms) (g ∷ es) e h = (h.0, text_within base w y z b m.name g.characters e h.1, h.2, named_within base w y z b ms es e h.3)
-  named_within base w y z b [] (g ∷ es) e h = absurd h
-  named_within base w y z b (m ∷ ms) [] e h = absurd h
+  named_within base w y z b _ _ e h = absurd h
 
   row_within : (base : ℕ) (w y z : List ℕ) (b : ℕ) (c : CodePiece X) (ps : List (Piece Tree)) → base ≡ b + length y → AreRow IsKept base w c ps → AreRow IsKept b (y ++ (w ++ z)) c ps
   row_within base w y z b (Row r) ps e h = h
   row_within base w y z b (MembersPiece r) ps e h = record { first = h.first; others = h.others; split = h.split; comma_is = h.comma_is; colon_is = h.colon_is; items = named_within base w y z b r.items.items (h.first ∷ h.others) e h.items }
   row_within base w y z b (ClosersPiece r) ps e h = h
-  row_within base w y z b (Closes c i) ps e h = absurd h
-  row_within base w y z b (Comma i) ps e h = absurd h
-  row_within base w y z b (Colon i) ps e h = absurd h
-  row_within base w y z b (Text span x) ps e h = absurd h
-  row_within base w y z b (Value i x) ps e h = absurd h
+  row_within base w y z b _ ps e h = absurd h
 
   are_within : (base : ℕ) (w y z : List ℕ) (b : ℕ) (c : CodePiece X) (ps : List (Piece Tree)) → base ≡ b + length y → ArePieces IsKept base w c ps → ArePieces IsKept b (y ++ (w ++ z)) c ps
   are_within base w y z b c ps e (inl (p, s, h)) = inl (p, s, piece_within base w y z b c p e h)

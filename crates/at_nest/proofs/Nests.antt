@@ -21,14 +21,12 @@ use Rattle.at_nest.specs.Refusals.{last_of}
 use Rattle.at_nest.proofs.Showing.{open_last, open_append}
 
 pub last_got : {A : Type 0} (xs : List A) → slice_get xs (length xs - 1) ≡ last_of xs
-last_got [] = refl
-last_got (x ∷ []) = refl
 last_got (x ∷ (y ∷ xs)) = let i : length (x ∷ (y ∷ xs)) - 1 ≡ suc (length (y ∷ xs) - 1) = omega arith in ap (slice_get (x ∷ (y ∷ xs))) i ∙ last_got (y ∷ xs)
+last_got _ = refl
 
 pub last_behind : {A : Type 0} (xs : List A) (x : A) → last_of (xs ++ x ∷ []) ≡ Some x
-last_behind [] x = refl
-last_behind (y ∷ []) x = refl
 last_behind (y ∷ (z ∷ xs)) x = last_behind (z ∷ xs) x
+last_behind _ x = refl
 
 -- the innermost levels, and those round them
 pub open_top : {X : Type 0} (os : List (Open X)) (o : Open X) → last_of os ≡ Some o → (hs : List (Held X)) × (open_levels os ≡ helds_of o ++ hs)
@@ -95,27 +93,18 @@ nested_off X last zero k h = first k h ∙ (let e : last ≡ last - 0 = omega ar
   where
     first : (k : Next) → IsNoValue k → level_after {X = X} (Ok k) (array_level last array.Empty []) ≡ Err last
     first next.Value h = absurd h
-    first next.Name h = refl
-    first next.Mark h = refl
-    first next.Nothing h = refl
+    first _ h = refl
 nested_off X last (suc n) k h = ap (λ z. level_after {X = X} z (array_level last array.Empty [])) (nested_off X (last - 1) n k h) ∙ (let e : (last - 1) - n ≡ last - suc n = omega arith in ap Err e)
 
 -- what is round the innermost level takes a value where it may stand
 pub round_next : {X : Type 0} (o : Open X) → levels_next (Ok next.Value) (round_of o) ≡ Ok next.Value
 round_next {X} (Nested n) = nested_next X (n.last - 1) n.more
 round_next (placed.Array l) = refl
-round_next (placed.Opened i) = refl
-round_next (placed.Named i n) = refl
-round_next (placed.Awaiting i n) = refl
-round_next (placed.Object l) = refl
+round_next _ = refl
 
 pub no_round : {X : Type 0} (o : Open X) → ((n : Nest) → o ≡ Nested n → ⊥) → round_of o ≡ []
 no_round (Nested n) h = absurd (h n refl)
-no_round (placed.Array l) h = refl
-no_round (placed.Opened i) h = refl
-no_round (placed.Named i n) h = refl
-no_round (placed.Awaiting i n) h = refl
-no_round (placed.Object l) h = refl
+no_round _ h = refl
 
 -- ---- copies
 
@@ -128,8 +117,7 @@ module _ {X : Type 0} (IsKept : X → Content → Type 0) where
   held_joined : (hs : List (Held X)) (ls : List (Level Tree)) (gs : List (Held X)) (ks : List (Level Tree)) → EachHeld IsKept hs ls → EachHeld IsKept gs ks → EachHeld IsKept (hs ++ gs) (ls ++ ks)
   held_joined [] [] gs ks h k = k
   held_joined (x ∷ hs) (l ∷ ls) gs ks h k = (h.0, held_joined hs ls gs ks h.1 k)
-  held_joined [] (l ∷ ls) gs ks h k = absurd h
-  held_joined (x ∷ hs) [] gs ks h k = absurd h
+  held_joined _ _ gs ks h k = absurd h
 
   pub levels_on : (xs ys : List (Open X)) (x y : Open X) → CopiesLevels IsKept (open_levels xs) (open_levels ys) → CopiesLevels IsKept (helds_of x) (helds_of y) → CopiesLevels IsKept (open_levels (xs ++ x ∷ [])) (open_levels (ys ++ y ∷ []))
   levels_on xs ys x y a b ls h = let r = held_cut (helds_of x) (open_levels xs) ls (subst (λ z. EachHeld IsKept z ls) (open_last xs x) h) in

@@ -62,15 +62,11 @@ next_more r os ks n k e f = next_behind r os ks ∙ (ap (λ z. levels_next z (op
 
 pub no_value : (n : Next) → (n ≡ next.Value → ⊥) → IsNoValue n
 no_value next.Value h = h refl
-no_value next.Name h = tt
-no_value next.Mark h = tt
-no_value next.Nothing h = tt
+no_value _ h = tt
 
 pub after_refused : {X : Type 0} (n : Next) (h : Held X) → IsNoValue n → level_after (Ok n) h ≡ Err (from_of h)
 after_refused next.Value h k = absurd k
-after_refused next.Name h k = refl
-after_refused next.Mark h k = refl
-after_refused next.Nothing h k = refl
+after_refused _ h k = refl
 
 -- what may not stand where it does stays so behind more levels
 pub next_off : {X : Type 0} (r : Result Next ℕ) (os ks : List (Open X)) (i : ℕ) → levels_next r (open_levels os) ≡ Err i → levels_next r (open_levels (os ++ ks)) ≡ Err i
@@ -78,9 +74,8 @@ next_off r os ks i e = next_behind r os ks ∙ (ap (λ z. levels_next z (open_le
 
 -- the last item of a list
 pub only_last : {X : Type 0} (ps : List (CodePiece X)) (p : CodePiece X) → only_of (ps ++ p ∷ []) ≡ value_of p
-only_last [] p = refl
-only_last (q ∷ []) p = refl
 only_last (q ∷ (r ∷ ps)) p = only_last (r ∷ ps) p
+only_last _ p = refl
 
 -- ---- the grammar's states
 
@@ -93,10 +88,7 @@ next_in (name st) = next.Name
 next_in (colon st) = next.Mark
 next_in (after []) = next.Nothing
 next_in (after (fr ∷ st)) = next.Mark
-next_in (in_number n st) = next.Nothing
-next_in (in_string n st) = next.Nothing
-next_in (in_name n st) = next.Nothing
-next_in (in_word w st) = next.Nothing
+next_in _ = next.Nothing
 
 abbrev pub IsNext : Result Next ℕ → Walk → Type 0
 IsNext (Ok n) (reached t) = n ≡ next_in t
@@ -127,31 +119,19 @@ opener (value st) Square = goes_in st refl refl
 opener (value st) Brace = goes_in st refl refl
 opener (items st) Square = goes_in (in_array ∷ st) refl refl
 opener (items st) Brace = goes_in (in_array ∷ st) refl refl
-opener (members st) b = goes_nowhere refl tt
-opener (name st) b = goes_nowhere refl tt
-opener (colon st) b = goes_nowhere refl tt
 opener (after []) b = goes_nowhere refl tt
 opener (after (in_array ∷ st)) b = goes_nowhere refl tt
 opener (after (in_object ∷ st)) b = goes_nowhere refl tt
-opener (in_number n st) b = goes_nowhere refl tt
-opener (in_string n st) b = goes_nowhere refl tt
-opener (in_name n st) b = goes_nowhere refl tt
-opener (in_word w st) b = goes_nowhere refl tt
+opener _ b = goes_nowhere refl tt
 
 -- a run stands where a value may
 pub takes_run : (t : State) → ((takes within.Run (next_in t) ≡ true) × (q : State) × (goes t value_kind ≡ Some q)) ⊎ ((takes within.Run (next_in t) ≡ false) × (goes t value_kind ≡ None))
 takes_run (value st) = inl (refl, after st, refl)
 takes_run (items st) = inl (refl, after (in_array ∷ st), refl)
-takes_run (members st) = inr (refl, refl)
-takes_run (name st) = inr (refl, refl)
-takes_run (colon st) = inr (refl, refl)
 takes_run (after []) = inr (refl, refl)
 takes_run (after (in_array ∷ st)) = inr (refl, refl)
 takes_run (after (in_object ∷ st)) = inr (refl, refl)
-takes_run (in_number n st) = inr (refl, refl)
-takes_run (in_string n st) = inr (refl, refl)
-takes_run (in_name n st) = inr (refl, refl)
-takes_run (in_word w st) = inr (refl, refl)
+takes_run _ = inr (refl, refl)
 
 -- a string stands where a value or a name may
 pub takes_text : (t : State) → ((takes within.Text (next_in t) ≡ true) × (q : State) × (goes t text_kind ≡ Some q)) ⊎ ((takes within.Text (next_in t) ≡ false) × (goes t text_kind ≡ None))
@@ -159,31 +139,23 @@ takes_text (value st) = inl (refl, after st, refl)
 takes_text (items st) = inl (refl, after (in_array ∷ st), refl)
 takes_text (members st) = inl (refl, colon st, refl)
 takes_text (name st) = inl (refl, colon st, refl)
-takes_text (colon st) = inr (refl, refl)
 takes_text (after []) = inr (refl, refl)
 takes_text (after (in_array ∷ st)) = inr (refl, refl)
 takes_text (after (in_object ∷ st)) = inr (refl, refl)
-takes_text (in_number n st) = inr (refl, refl)
-takes_text (in_string n st) = inr (refl, refl)
-takes_text (in_name n st) = inr (refl, refl)
-takes_text (in_word w st) = inr (refl, refl)
+takes_text _ = inr (refl, refl)
 
 abbrev pub IsSomething : Next → Type 0
 IsSomething next.Nothing = ⊥
 IsSomething _ = ⊤
 
 not_accepted : (t : State) (n : Next) → n ≡ next_in t → IsSomething n → accepts t ≡ false
-not_accepted (value st) n e h = refl
-not_accepted (items st) n e h = refl
-not_accepted (members st) n e h = refl
-not_accepted (name st) n e h = refl
-not_accepted (colon st) n e h = refl
 not_accepted (after []) n e h = absurd (subst IsSomething e h)
 not_accepted (after (fr ∷ st)) n e h = refl
 not_accepted (in_number m st) n e h = absurd (subst IsSomething e h)
 not_accepted (in_string m st) n e h = absurd (subst IsSomething e h)
 not_accepted (in_name m st) n e h = absurd (subst IsSomething e h)
 not_accepted (in_word w st) n e h = absurd (subst IsSomething e h)
+not_accepted _ n e h = refl
 
 something : (b c : Bool) → IsSomething (if b then next.Value else (if c then next.Name else next.Mark))
 something true c = tt
@@ -199,13 +171,11 @@ Tells K _ _ = ⊥
 
 abbrev NotOpens : {X : Type 0} → Piece X → Type 0
 NotOpens (opens b i) = ⊥
-NotOpens (closes b i) = ⊤
-NotOpens (mark x) = ⊤
+NotOpens _ = ⊤
 
 closed_cons : {X : Type 0} (p : Piece X) (ps : List (Piece X)) → NotOpens p → AreClosed ps → AreClosed (p ∷ ps)
 closed_cons (opens b i) ps h k = absurd h
-closed_cons (closes b i) ps h k = k
-closed_cons (mark x) ps h k = k
+closed_cons _ ps h k = k
 
 module _ {X : Type 0} (K : X → Content → Type 0) where
   -- an item before the first open level: a value, or nothing with which a text begins
@@ -220,32 +190,21 @@ module _ {X : Type 0} (K : X → Content → Type 0) where
   stands at w (Text span x) (mark (quoted j cs)) h = as_value x _ refl refl refl h.2 refl h.0 tt
   stands at w (Value i x) (mark (entry j t)) h = as_value x t refl refl refl h.1 refl h.0 tt
   stands at w (Closes b i) (opens d j) h = absurd h
-  stands at w (Closes b i) (mark m) h = absurd h
-  stands at w (Comma i) (opens d j) h = absurd h
-  stands at w (Comma i) (closes d j) h = absurd h
   stands at w (Comma i) (mark (a_colon j)) h = absurd h
   stands at w (Comma i) (mark (quoted j cs)) h = absurd h
   stands at w (Comma i) (mark (entry j t)) h = absurd h
-  stands at w (Colon i) (opens d j) h = absurd h
-  stands at w (Colon i) (closes d j) h = absurd h
   stands at w (Colon i) (mark (a_comma j)) h = absurd h
   stands at w (Colon i) (mark (quoted j cs)) h = absurd h
   stands at w (Colon i) (mark (entry j t)) h = absurd h
-  stands at w (Text span x) (opens d j) h = absurd h
-  stands at w (Text span x) (closes d j) h = absurd h
   stands at w (Text span x) (mark (a_comma j)) h = absurd h
   stands at w (Text span x) (mark (a_colon j)) h = absurd h
   stands at w (Text span x) (mark (entry j t)) h = absurd h
-  stands at w (Value i x) (opens d j) h = absurd h
-  stands at w (Value i x) (closes d j) h = absurd h
   stands at w (Value i x) (mark (a_comma j)) h = absurd h
   stands at w (Value i x) (mark (a_colon j)) h = absurd h
   stands at w (Value i x) (mark (quoted j cs)) h = absurd h
   stands at w (RowPiece r) (opens d j) h = absurd h
-  stands at w (RowPiece r) (closes d j) h = absurd h
-  stands at w (RowPiece r) (mark m) h = absurd h
   stands at w (MembersPiece r) p h = absurd h
-  stands at w (ClosersPiece r) p h = absurd h
+  stands at w _ _ h = absurd h
 
   not_opens : (c : CodePiece X) (p : Piece Tree) → Stands c p → NotOpens p
   not_opens c p (as_value x t a b d k e f n) = n
@@ -270,11 +229,7 @@ module _ {X : Type 0} (K : X → Content → Type 0) where
   row_closed at w (RowPiece r) ps h = subst AreClosed (sym h.split) (marks_closed (row_marks ((r.comma, r.first, h.tree) ∷ h.others)))
   row_closed at w (MembersPiece r) ps h = subst AreClosed (sym h.split) (marks_closed (member_marks (h.first ∷ h.others)))
   row_closed at w (ClosersPiece r) ps h = subst AreClosed (sym h.2) (closers_closed r.first r.second r.from (suc h.0))
-  row_closed at w (Closes b i) ps h = absurd h
-  row_closed at w (Comma i) ps h = absurd h
-  row_closed at w (Colon i) ps h = absurd h
-  row_closed at w (Text span x) ps h = absurd h
-  row_closed at w (Value i x) ps h = absurd h
+  row_closed at w _ ps h = absurd h
 
   are_closed : (at : ℕ) (w : List ℕ) (c : CodePiece X) (ps : List (Piece Tree)) → ArePieces K at w c ps → AreClosed ps
   are_closed at w c ps (inl (p, e, h)) = subst AreClosed (sym e) (closed_cons p [] (not_opens c p (stands at w c p h)) tt)
@@ -299,11 +254,7 @@ module _ {X : Type 0} (K : X → Content → Type 0) where
   row_begins at w (MembersPiece r) ps h = in_row (mark (quoted h.first.name_at h.first.characters)) (mark (a_colon h.first.colon_at) ∷ (mark (mark_of h.first.value) ∷ marks (member_marks h.others)))
       (h.split ∙ ap (λ n. mark (a_comma n) ∷ marks (marks_behind_comma h.first (member_marks h.others))) (sym h.comma_is)) refl
   row_begins at w (ClosersPiece r) ps h = in_closers r.first (closers r.second r.first (r.from + 1) h.0) h.2 refl
-  row_begins at w (Closes b i) ps h = absurd h
-  row_begins at w (Comma i) ps h = absurd h
-  row_begins at w (Colon i) ps h = absurd h
-  row_begins at w (Text span x) ps h = absurd h
-  row_begins at w (Value i x) ps h = absurd h
+  row_begins at w _ ps h = absurd h
 
   begins : (at : ℕ) (w : List ℕ) (c : CodePiece X) (ps : List (Piece Tree)) → ArePieces K at w c ps → Begins c ps
   begins at w c ps (inl (p, e, h)) = alone p e (stands at w c p h)
@@ -361,14 +312,13 @@ module _ {X : Type 0} (K : X → Content → Type 0) where
 
   one_level : (h : Held X) (l : Level Tree) (r : Result Next ℕ) (w : Walk) → IsHeld K h l → moves (first_mode l.bracket) l.inside ≡ Some l.mode → IsNext r w → IsNext (level_after r h) (walk_more w (opens l.bracket l.from ∷ marks l.inside))
   one_level h l (Err i) (refused j) e k q = q
-  one_level h l (Err i) (reached t) e k q = absurd q
-  one_level h l (Ok n) (refused j) e k q = absurd q
   one_level h l (Ok n) (reached t) e k q = by_opener (opener t l.bracket)
     where
       by_opener : TakesOpener t l.bracket → IsNext (level_after (Ok n) h) (walk_on (goes t (an_opener l.bracket)) l.from (λ s. walks s (marks l.inside)))
       by_opener (goes_in st f v) = next_by _ (Ok (level_next h)) _ (reached (full l.mode st)) (ap (λ z. level_after (Ok z) h) (q ∙ v))
           (ap (λ o. walk_on o l.from (λ s. walks s (marks l.inside))) f ∙ (ap (walks (full (first_mode l.bracket) st)) (sym (append-nil (marks l.inside))) ∙ moves_walk l.inside (first_mode l.bracket) l.mode st [] k)) (level_walk h l st e)
       by_opener (goes_nowhere f v) = next_by _ (Err (from_of h)) _ (refused l.from) (ap (λ z. level_after (Ok z) h) q ∙ after_refused (next_in t) h v) (ap (λ o. walk_on o l.from (λ s. walks s (marks l.inside))) f) (from_same h l e)
+  one_level h l _ _ e k q = absurd q
 
   levels_walk : (hs : List (Held X)) (ls : List (Level Tree)) (r : Result Next ℕ) (ps : List (Piece Tree)) → EachHeld K hs ls → AreLevels ls → IsNext r (walks (value []) ps) → IsNext (levels_next r hs) (walks (value []) (ps ++ opened ls))
   levels_walk [] [] r ps h k n = subst (λ z. IsNext r (walks (value []) z)) (sym (append-nil ps)) n
@@ -390,10 +340,8 @@ module _ {X : Type 0} (K : X → Content → Type 0) where
   ended_at n (reached t) cs ps h q = subst (λ b. Tells K (answer_by (Ok n) cs) (cond b (folded_or (single free ps)) ended)) (sym (not_accepted t n q h)) (by_next n h)
     where
       by_next : (n : Next) → IsSomething n → Tells K (answer_by (Ok n) cs) ended
-      by_next next.Value h = tt
-      by_next next.Name h = tt
-      by_next next.Mark h = tt
       by_next next.Nothing h = absurd h
+      by_next _ h = tt
 
   refused_at : (i : ℕ) (w : Walk) (cs : List (CodePiece X)) (ps : List (Piece Tree)) → IsNext (Err i) w → Tells K (answer_by (Err i) cs) (by_walk free ps w)
   refused_at i (refused j) cs ps q = q
@@ -450,8 +398,7 @@ module _ {X : Type 0} (K : X → Content → Type 0) where
       → Tells K (answer_by (levels_next (outer_next cs) hs) cs) (by_walk free (ps ++ opened ls) (walks (value []) (ps ++ opened ls)))
   shown_tells at w cs ps [] [] h e k = subst (λ z. Tells K (answer_by (outer_next cs) cs) (by_walk free z (walks (value []) z))) (sym (append-nil ps)) (outer_tells at w cs ps h)
   shown_tells at w cs ps (g ∷ hs) (l ∷ ls) h e k = level_tells (levels_next (outer_next cs) hs) g (walks (value []) (ps ++ opened (l ∷ ls))) cs (ps ++ opened (l ∷ ls)) (levels_walk (g ∷ hs) (l ∷ ls) (outer_next cs) ps e k (outer_walk at w cs ps h))
-  shown_tells at w cs ps [] (l ∷ ls) h e k = absurd e
-  shown_tells at w cs ps (g ∷ hs) [] h e k = absurd e
+  shown_tells at w cs ps _ _ h e k = absurd e
 
   pub answer_tells : (at : ℕ) (w : List ℕ) (s : Shown X) (f : Form Tree) → IsShown K at w s f → AreLevels f.levels → Tells K (answer_of s) (finished free (further f))
   answer_tells at w s f h k = shown_tells at w s.outer f.outer s.levels f.levels h.0 h.1 k
@@ -475,9 +422,8 @@ module _ {X : Type 0} (K : X → Content → Type 0) where
 
   stop_next : (r : Result Next ℕ) (w : Walk) (h : CodeHalt) → IsNext r w → Tells K (Err (stop_of r h)) (stop_by (halt_of h) w)
   stop_next (Err i) (refused j) h q = q
-  stop_next (Err i) (reached t) h q = absurd q
-  stop_next (Ok n) (refused j) h q = absurd q
   stop_next (Ok n) (reached t) h q = placed (takes h.within n) h.item h.place _ (ap (λ z. if takes h.within z then h.place else h.item) q ∙ halt_at h.within t h.item h.place)
+  stop_next _ _ h q = absurd q
 
   pub stop_tells : (at : ℕ) (w : List ℕ) (s : Shown X) (f : Form Tree) (h : CodeHalt) → IsShown K at w s f → AreLevels f.levels → Tells K (Err (stop_of (next_of s) h)) (finished free (stopped f (halt_of h)))
   stop_tells at w s f h e k = stop_next (next_of s) (walks (value []) (pieces_of f)) h (shown_next at w s f e k)

@@ -94,15 +94,13 @@ number_run : (w : List ℕ) → JsonNumber w → AreRun w
 number_run w h = let (q, e, a) = number_goes w h in goes_run num.start q w e
 
 one_literal : (l k : Literal) → literal_text l ≡ literal_text k → l ≡ k
-one_literal the_null the_null e = refl
-one_literal the_true the_true e = refl
-one_literal the_false the_false e = refl
 one_literal the_null the_true e = clash 0x6E 0x74 refl (ap head e)
 one_literal the_null the_false e = clash 0x6E 0x66 refl (ap head e)
 one_literal the_true the_null e = clash 0x74 0x6E refl (ap head e)
 one_literal the_true the_false e = clash 0x74 0x66 refl (ap head e)
 one_literal the_false the_null e = clash 0x66 0x6E refl (ap head e)
 one_literal the_false the_true e = clash 0x66 0x74 refl (ap head e)
+one_literal _ _ e = refl
 
 -- ---- the first byte tells the kind of a value
 
@@ -110,11 +108,10 @@ abbrev pub look : ℕ → ℕ
 look b = cond (b == 0x22) 1 (cond (b == 0x5B) 2 (cond (b == 0x7B) 3 4))
 
 abbrev pub kind : Tree → ℕ
-kind (literal i l) = 4
-kind (number i n) = 4
 kind (text i cs) = 1
 kind (array i ts) = 2
 kind (object i ms) = 3
+kind _ = 4
 
 pub record Starts (t : Tree) (v : List ℕ) : Type 0 where
   pub byte : ℕ

@@ -19,11 +19,6 @@ use Rattle.at_nest.proofs.Values.{go, Enters, value_enters, value_at, items_at, 
 use Rattle.at_nest.specs.Walks.{Kind, an_opener, a_closer, comma_kind, colon_kind, text_kind, value_kind, kind_of, next, begin_next, name_next, at_of}
 
 square_opens : (s : State) → IsStill s → step s 0x5B ≡ next s (an_opener Square)
-square_opens (value st) h = refl
-square_opens (items st) h = refl
-square_opens (members st) h = refl
-square_opens (name st) h = refl
-square_opens (colon st) h = refl
 square_opens (after []) h = refl
 square_opens (after (in_array ∷ st)) h = refl
 square_opens (after (in_object ∷ st)) h = refl
@@ -31,13 +26,9 @@ square_opens (in_number n st) h = absurd h
 square_opens (in_string n st) h = absurd h
 square_opens (in_name n st) h = absurd h
 square_opens (in_word n st) h = absurd h
+square_opens _ h = refl
 
 brace_opens : (s : State) → IsStill s → step s 0x7B ≡ next s (an_opener Brace)
-brace_opens (value st) h = refl
-brace_opens (items st) h = refl
-brace_opens (members st) h = refl
-brace_opens (name st) h = refl
-brace_opens (colon st) h = refl
 brace_opens (after []) h = refl
 brace_opens (after (in_array ∷ st)) h = refl
 brace_opens (after (in_object ∷ st)) h = refl
@@ -45,13 +36,9 @@ brace_opens (in_number n st) h = absurd h
 brace_opens (in_string n st) h = absurd h
 brace_opens (in_name n st) h = absurd h
 brace_opens (in_word n st) h = absurd h
+brace_opens _ h = refl
 
 square_closes : (s : State) → IsStill s → step s 0x5D ≡ next s (a_closer Square)
-square_closes (value st) h = refl
-square_closes (items st) h = refl
-square_closes (members st) h = refl
-square_closes (name st) h = refl
-square_closes (colon st) h = refl
 square_closes (after []) h = refl
 square_closes (after (in_array ∷ st)) h = refl
 square_closes (after (in_object ∷ st)) h = refl
@@ -59,13 +46,9 @@ square_closes (in_number n st) h = absurd h
 square_closes (in_string n st) h = absurd h
 square_closes (in_name n st) h = absurd h
 square_closes (in_word n st) h = absurd h
+square_closes _ h = refl
 
 brace_closes : (s : State) → IsStill s → step s 0x7D ≡ next s (a_closer Brace)
-brace_closes (value st) h = refl
-brace_closes (items st) h = refl
-brace_closes (members st) h = refl
-brace_closes (name st) h = refl
-brace_closes (colon st) h = refl
 brace_closes (after []) h = refl
 brace_closes (after (in_array ∷ st)) h = refl
 brace_closes (after (in_object ∷ st)) h = refl
@@ -73,13 +56,9 @@ brace_closes (in_number n st) h = absurd h
 brace_closes (in_string n st) h = absurd h
 brace_closes (in_name n st) h = absurd h
 brace_closes (in_word n st) h = absurd h
+brace_closes _ h = refl
 
 comma_steps : (s : State) → IsStill s → step s 0x2C ≡ next s comma_kind
-comma_steps (value st) h = refl
-comma_steps (items st) h = refl
-comma_steps (members st) h = refl
-comma_steps (name st) h = refl
-comma_steps (colon st) h = refl
 comma_steps (after []) h = refl
 comma_steps (after (in_array ∷ st)) h = refl
 comma_steps (after (in_object ∷ st)) h = refl
@@ -87,13 +66,9 @@ comma_steps (in_number n st) h = absurd h
 comma_steps (in_string n st) h = absurd h
 comma_steps (in_name n st) h = absurd h
 comma_steps (in_word n st) h = absurd h
+comma_steps _ h = refl
 
 colon_steps : (s : State) → IsStill s → step s 0x3A ≡ next s colon_kind
-colon_steps (value st) h = refl
-colon_steps (items st) h = refl
-colon_steps (members st) h = refl
-colon_steps (name st) h = refl
-colon_steps (colon st) h = refl
 colon_steps (after []) h = refl
 colon_steps (after (in_array ∷ st)) h = refl
 colon_steps (after (in_object ∷ st)) h = refl
@@ -101,6 +76,7 @@ colon_steps (in_number n st) h = absurd h
 colon_steps (in_string n st) h = absurd h
 colon_steps (in_name n st) h = absurd h
 colon_steps (in_word n st) h = absurd h
+colon_steps _ h = refl
 
 -- the byte is not c, where no value begins with c
 pub not_byte : (b c : ℕ) (st : List Frame) (s : State) → begin_value st c ≡ None → begin_value st b ≡ Some s → (b == c) ≡ false
@@ -125,16 +101,11 @@ pub record Halts (s : State) (v : List ℕ) : Type 0 where
   pub halts : step s byte ≡ None
 
 pub still_clear : (t : State) (x : List ℕ) → IsStill t → is_clear t x ≡ true
-still_clear (value st) x h = refl
-still_clear (items st) x h = refl
-still_clear (members st) x h = refl
-still_clear (name st) x h = refl
-still_clear (colon st) x h = refl
-still_clear (after st) x h = refl
 still_clear (in_number n st) x h = absurd h
 still_clear (in_string n st) x h = absurd h
 still_clear (in_name n st) x h = absurd h
 still_clear (in_word n st) x h = absurd h
+still_clear _ x h = refl
 
 pub begin_still : (st : List Frame) (k : Kind) (t : State) → begin_next st k ≡ Some t → IsStill t
 begin_still st (an_opener Square) t e = subst IsStill (same_Some _ t e) tt
@@ -142,16 +113,11 @@ begin_still st (an_opener Brace) t e = subst IsStill (same_Some _ t e) tt
 begin_still st (a_closer b) t e = absurd (none-some t e)
 begin_still st comma_kind t e = absurd (none-some t e)
 begin_still st colon_kind t e = absurd (none-some t e)
-begin_still st text_kind t e = subst IsStill (same_Some _ t e) tt
-begin_still st value_kind t e = subst IsStill (same_Some _ t e) tt
+begin_still st _ t e = subst IsStill (same_Some _ t e) tt
 
 name_still : (st : List Frame) (k : Kind) (t : State) → name_next st k ≡ Some t → IsStill t
 name_still st text_kind t e = subst IsStill (same_Some _ t e) tt
-name_still st (an_opener b) t e = absurd (none-some t e)
-name_still st (a_closer b) t e = absurd (none-some t e)
-name_still st comma_kind t e = absurd (none-some t e)
-name_still st colon_kind t e = absurd (none-some t e)
-name_still st value_kind t e = absurd (none-some t e)
+name_still st _ t e = absurd (none-some t e)
 
 -- a state behind one byte, which is between tokens
 goes_by : (s t : State) (c : ℕ) (v : List ℕ) → v ≡ c ∷ [] → step s c ≡ Some t → IsStill t → Goes s t v
@@ -168,24 +134,13 @@ next_still (value st) k t e = begin_still st k t e
 next_still (items st) (a_closer Square) t e = subst IsStill (same_Some _ t e) tt
 next_still (items st) (a_closer Brace) t e = absurd (none-some t e)
 next_still (items st) (an_opener b) t e = begin_still (in_array ∷ st) (an_opener b) t e
-next_still (items st) comma_kind t e = absurd (none-some t e)
-next_still (items st) colon_kind t e = absurd (none-some t e)
 next_still (items st) text_kind t e = subst IsStill (same_Some _ t e) tt
 next_still (items st) value_kind t e = subst IsStill (same_Some _ t e) tt
 next_still (members st) (a_closer Square) t e = absurd (none-some t e)
 next_still (members st) (a_closer Brace) t e = subst IsStill (same_Some _ t e) tt
-next_still (members st) (an_opener b) t e = absurd (none-some t e)
-next_still (members st) comma_kind t e = absurd (none-some t e)
-next_still (members st) colon_kind t e = absurd (none-some t e)
 next_still (members st) text_kind t e = subst IsStill (same_Some _ t e) tt
-next_still (members st) value_kind t e = absurd (none-some t e)
 next_still (name st) k t e = name_still st k t e
-next_still (colon st) (a_closer b) t e = absurd (none-some t e)
-next_still (colon st) (an_opener b) t e = absurd (none-some t e)
-next_still (colon st) comma_kind t e = absurd (none-some t e)
 next_still (colon st) colon_kind t e = subst IsStill (same_Some _ t e) tt
-next_still (colon st) text_kind t e = absurd (none-some t e)
-next_still (colon st) value_kind t e = absurd (none-some t e)
 next_still (after []) k t e = absurd (none-some t e)
 next_still (after (in_array ∷ st)) (a_closer Square) t e = subst IsStill (same_Some _ t e) tt
 next_still (after (in_array ∷ st)) (a_closer Brace) t e = absurd (none-some t e)
@@ -201,10 +156,7 @@ next_still (after (in_object ∷ st)) comma_kind t e = subst IsStill (same_Some 
 next_still (after (in_object ∷ st)) colon_kind t e = absurd (none-some t e)
 next_still (after (in_object ∷ st)) text_kind t e = absurd (none-some t e)
 next_still (after (in_object ∷ st)) value_kind t e = absurd (none-some t e)
-next_still (in_number n st) k t e = absurd (none-some t e)
-next_still (in_string n st) k t e = absurd (none-some t e)
-next_still (in_name n st) k t e = absurd (none-some t e)
-next_still (in_word n st) k t e = absurd (none-some t e)
+next_still _ _ t e = absurd (none-some t e)
 
 -- ---- strings and values in each state
 
@@ -229,23 +181,15 @@ text_goes (value st) t v h e = let k : Enters st v = string_enters st v h in fro
 text_goes (items st) t v h e = let k : Enters (in_array ∷ st) v = string_enters (in_array ∷ st) v h in from_enter (in_array ∷ st) (items st) t v k (λ z. items_at st v z k) (sym (same_Some _ t e))
 text_goes (members st) t v h e = let k : Named st v = named st v h in from_name st (members st) t v k k.first_goes (sym (same_Some _ t e))
 text_goes (name st) t v h e = let k : Named st v = named st v h in from_name st (name st) t v k k.goes (sym (same_Some _ t e))
-text_goes (colon st) t v h e = absurd (none-some t e)
 text_goes (after []) t v h e = absurd (none-some t e)
 text_goes (after (in_array ∷ st)) t v h e = absurd (none-some t e)
 text_goes (after (in_object ∷ st)) t v h e = absurd (none-some t e)
-text_goes (in_number n st) t v h e = absurd (none-some t e)
-text_goes (in_string n st) t v h e = absurd (none-some t e)
-text_goes (in_name n st) t v h e = absurd (none-some t e)
-text_goes (in_word n st) t v h e = absurd (none-some t e)
+text_goes _ t v h e = absurd (none-some t e)
 
 pub some_none : {X : Type 0} (t : X) → ◌≡◌ {A = Option X} (Some t) None → ⊥
 some_none t e = none-some t (sym e)
 
 pub text_halts : (s : State) (v : List ℕ) → IsStill s → JsonString v → next s text_kind ≡ None → Halts s v
-text_halts (value st) v i h e = absurd (some_none _ e)
-text_halts (items st) v i h e = absurd (some_none _ e)
-text_halts (members st) v i h e = absurd (some_none _ e)
-text_halts (name st) v i h e = absurd (some_none _ e)
 text_halts (colon st) v i h e = let (u, f, r) = opening_split v h in record { byte = 0x22; others = u; split = f; halts = refl }
 text_halts (after []) v i h e = let (u, f, r) = opening_split v h in record { byte = 0x22; others = u; split = f; halts = refl }
 text_halts (after (in_array ∷ st)) v i h e = let (u, f, r) = opening_split v h in record { byte = 0x22; others = u; split = f; halts = refl }
@@ -254,20 +198,15 @@ text_halts (in_number n st) v i h e = absurd i
 text_halts (in_string n st) v i h e = absurd i
 text_halts (in_name n st) v i h e = absurd i
 text_halts (in_word n st) v i h e = absurd i
+text_halts _ v i h e = absurd (some_none _ e)
 
 value_goes : (s t : State) (at : ℕ) (v : List ℕ) (x : Tree) → Spells at v x → next s value_kind ≡ Some t → Goes s t v
 value_goes (value st) t at v x h e = let k : Enters st v = value_enters x st at v h in from_enter st (value st) t v k (λ z. value_at st v z k) (sym (same_Some _ t e))
 value_goes (items st) t at v x h e = let k : Enters (in_array ∷ st) v = value_enters x (in_array ∷ st) at v h in from_enter (in_array ∷ st) (items st) t v k (λ z. items_at st v z k) (sym (same_Some _ t e))
-value_goes (members st) t at v x h e = absurd (none-some t e)
-value_goes (name st) t at v x h e = absurd (none-some t e)
-value_goes (colon st) t at v x h e = absurd (none-some t e)
 value_goes (after []) t at v x h e = absurd (none-some t e)
 value_goes (after (in_array ∷ st)) t at v x h e = absurd (none-some t e)
 value_goes (after (in_object ∷ st)) t at v x h e = absurd (none-some t e)
-value_goes (in_number n st) t at v x h e = absurd (none-some t e)
-value_goes (in_string n st) t at v x h e = absurd (none-some t e)
-value_goes (in_name n st) t at v x h e = absurd (none-some t e)
-value_goes (in_word n st) t at v x h e = absurd (none-some t e)
+value_goes _ t at v x h e = absurd (none-some t e)
 
 -- the first byte, or 0
 abbrev pub first : List ℕ → ℕ
@@ -334,10 +273,7 @@ unmarked_halts (colon st) c i u e = two_tests (is_space c) (c == 0x3A) _ _ _ u.s
 unmarked_halts (after []) c i u e = ap (λ x. cond x (Some (after [])) None) u.space
 unmarked_halts (after (in_array ∷ st)) c i u e = three_tests (is_space c) (c == 0x2C) (c == 0x5D) _ _ _ _ u.space u.comma_byte u.square
 unmarked_halts (after (in_object ∷ st)) c i u e = three_tests (is_space c) (c == 0x2C) (c == 0x7D) _ _ _ _ u.space u.comma_byte u.brace
-unmarked_halts (in_number n st) c i u e = absurd i
-unmarked_halts (in_string n st) c i u e = absurd i
-unmarked_halts (in_name n st) c i u e = absurd i
-unmarked_halts (in_word n st) c i u e = absurd i
+unmarked_halts _ c i u e = absurd i
 
 -- ---- each piece
 

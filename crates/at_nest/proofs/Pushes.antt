@@ -31,61 +31,29 @@ full_next at_items st (a_colon i) = refl
 full_next at_items st (quoted i cs) = refl
 full_next at_items st (entry i y) = refl
 full_next at_value st (a_comma i) = refl
-full_next at_value st (a_colon i) = refl
-full_next at_value st (quoted i cs) = refl
-full_next at_value st (entry i y) = refl
 full_next at_after st (a_comma i) = refl
-full_next at_after st (a_colon i) = refl
-full_next at_after st (quoted i cs) = refl
-full_next at_after st (entry i y) = refl
 full_next at_members st (a_comma i) = refl
-full_next at_members st (a_colon i) = refl
-full_next at_members st (quoted i cs) = refl
-full_next at_members st (entry i y) = refl
 full_next at_name st (a_comma i) = refl
-full_next at_name st (a_colon i) = refl
-full_next at_name st (quoted i cs) = refl
-full_next at_name st (entry i y) = refl
 full_next at_colon st (a_comma i) = refl
-full_next at_colon st (a_colon i) = refl
-full_next at_colon st (quoted i cs) = refl
-full_next at_colon st (entry i y) = refl
 full_next at_member st (a_comma i) = refl
-full_next at_member st (a_colon i) = refl
-full_next at_member st (quoted i cs) = refl
-full_next at_member st (entry i y) = refl
 full_next at_further st (a_comma i) = refl
-full_next at_further st (a_colon i) = refl
-full_next at_further st (quoted i cs) = refl
-full_next at_further st (entry i y) = refl
+full_next _ st _ = refl
 
 full_closes : (md : Mode) (st : List Frame) (b : Bracket) → next (full md st) (a_closer b) ≡ cond (closes_at md b) (Some (after st)) None
 full_closes at_items st Square = refl
 full_closes at_items st Brace = refl
 full_closes at_value st Square = refl
-full_closes at_value st Brace = refl
 full_closes at_after st Square = refl
-full_closes at_after st Brace = refl
 full_closes at_members st Square = refl
-full_closes at_members st Brace = refl
 full_closes at_name st Square = refl
-full_closes at_name st Brace = refl
 full_closes at_colon st Square = refl
-full_closes at_colon st Brace = refl
 full_closes at_member st Square = refl
-full_closes at_member st Brace = refl
 full_closes at_further st Square = refl
-full_closes at_further st Brace = refl
+full_closes _ st _ = refl
 
 full_still : (md : Mode) (st : List Frame) → IsStill (full md st)
 full_still at_items st = tt
-full_still at_value st = tt
-full_still at_after st = tt
-full_still at_members st = tt
-full_still at_name st = tt
-full_still at_colon st = tt
-full_still at_member st = tt
-full_still at_further st = tt
+full_still _ st = tt
 
 pub moves_walk : {X : Type 0} (xs : List (Mark X)) (md n : Mode) (st : List Frame) (ps : List (Piece X)) → moves md xs ≡ Some n → walks (full md st) (marks xs ++ ps) ≡ walks (full n st) ps
 moves_walk [] md n st ps e = ap (λ x. walks (full x st) ps) (same_Some md n e)

@@ -66,8 +66,7 @@ lead_last s x [] n h = absurd (no_close s n h)
   where
     no_close : (s : Start) → (s ≡ Out → ⊥) → ClosesText s [] → ⊥
     no_close Out n h = n refl
-    no_close InString n h = h
-    no_close InEscape n h = h
+    no_close _ n h = h
 lead_last s x (b ∷ u) n h = ends_append x b u ∙ closes_last s (b ∷ u) n h
 
 apart_by : (x more : List ℕ) → ends_run x ≡ false → are_apart x more ≡ true

@@ -54,76 +54,43 @@ use Rattle.at_nest.proofs.Closers.{closers_more}
 value_leads : (s t : State) → next s value_kind ≡ Some t → (st : List Frame) × (t ≡ after st)
 value_leads (value st) t e = (st, sym (same_Some (after st) t e))
 value_leads (items st) t e = (in_array ∷ st, sym (same_Some (after (in_array ∷ st)) t e))
-value_leads (members st) t e = absurd (none-some t e)
-value_leads (name st) t e = absurd (none-some t e)
-value_leads (colon_state st) t e = absurd (none-some t e)
 value_leads (after []) t e = absurd (none-some t e)
 value_leads (after (in_array ∷ st)) t e = absurd (none-some t e)
 value_leads (after (in_object ∷ st)) t e = absurd (none-some t e)
-value_leads (in_number n st) t e = absurd (none-some t e)
-value_leads (in_string n st) t e = absurd (none-some t e)
-value_leads (in_name n st) t e = absurd (none-some t e)
-value_leads (in_word n st) t e = absurd (none-some t e)
+value_leads _ t e = absurd (none-some t e)
 
 closer_leads : (b : Bracket) (s t : State) → next s (a_closer b) ≡ Some t → (st : List Frame) × (t ≡ after st)
-closer_leads b (value st) t e = absurd (none-some t e)
 closer_leads Square (items st) t e = (st, sym (same_Some (after st) t e))
-closer_leads Brace (items st) t e = absurd (none-some t e)
-closer_leads Square (members st) t e = absurd (none-some t e)
 closer_leads Brace (members st) t e = (st, sym (same_Some (after st) t e))
-closer_leads b (name st) t e = absurd (none-some t e)
-closer_leads b (colon_state st) t e = absurd (none-some t e)
 closer_leads b (after []) t e = absurd (none-some t e)
 closer_leads Square (after (in_array ∷ st)) t e = (st, sym (same_Some (after st) t e))
 closer_leads Brace (after (in_array ∷ st)) t e = absurd (none-some t e)
 closer_leads Square (after (in_object ∷ st)) t e = absurd (none-some t e)
 closer_leads Brace (after (in_object ∷ st)) t e = (st, sym (same_Some (after st) t e))
-closer_leads b (in_number n st) t e = absurd (none-some t e)
-closer_leads b (in_string n st) t e = absurd (none-some t e)
-closer_leads b (in_name n st) t e = absurd (none-some t e)
-closer_leads b (in_word n st) t e = absurd (none-some t e)
+closer_leads _ _ t e = absurd (none-some t e)
 
 text_leads : (s t : State) → next s text_kind ≡ Some t → (st : List Frame) × ((t ≡ after st) ⊎ (t ≡ colon_state st))
 text_leads (value st) t e = (st, inl (sym (same_Some (after st) t e)))
 text_leads (items st) t e = (in_array ∷ st, inl (sym (same_Some (after (in_array ∷ st)) t e)))
 text_leads (members st) t e = (st, inr (sym (same_Some (colon_state st) t e)))
 text_leads (name st) t e = (st, inr (sym (same_Some (colon_state st) t e)))
-text_leads (colon_state st) t e = absurd (none-some t e)
 text_leads (after []) t e = absurd (none-some t e)
 text_leads (after (in_array ∷ st)) t e = absurd (none-some t e)
 text_leads (after (in_object ∷ st)) t e = absurd (none-some t e)
-text_leads (in_number n st) t e = absurd (none-some t e)
-text_leads (in_string n st) t e = absurd (none-some t e)
-text_leads (in_name n st) t e = absurd (none-some t e)
-text_leads (in_word n st) t e = absurd (none-some t e)
+text_leads _ t e = absurd (none-some t e)
 
 comma_leads : (s t : State) → next s comma_kind ≡ Some t → (st : List Frame) × ((t ≡ value st) ⊎ (t ≡ name st))
-comma_leads (value st) t e = absurd (none-some t e)
-comma_leads (items st) t e = absurd (none-some t e)
-comma_leads (members st) t e = absurd (none-some t e)
-comma_leads (name st) t e = absurd (none-some t e)
-comma_leads (colon_state st) t e = absurd (none-some t e)
 comma_leads (after []) t e = absurd (none-some t e)
 comma_leads (after (in_array ∷ st)) t e = (in_array ∷ st, inl (sym (same_Some (value (in_array ∷ st)) t e)))
 comma_leads (after (in_object ∷ st)) t e = (st, inr (sym (same_Some (name st) t e)))
-comma_leads (in_number n st) t e = absurd (none-some t e)
-comma_leads (in_string n st) t e = absurd (none-some t e)
-comma_leads (in_name n st) t e = absurd (none-some t e)
-comma_leads (in_word n st) t e = absurd (none-some t e)
+comma_leads _ t e = absurd (none-some t e)
 
 colon_leads : (s t : State) → next s colon_kind ≡ Some t → (st : List Frame) × (t ≡ value st)
-colon_leads (value st) t e = absurd (none-some t e)
-colon_leads (items st) t e = absurd (none-some t e)
-colon_leads (members st) t e = absurd (none-some t e)
-colon_leads (name st) t e = absurd (none-some t e)
 colon_leads (colon_state st) t e = (in_object ∷ st, sym (same_Some (value (in_object ∷ st)) t e))
 colon_leads (after []) t e = absurd (none-some t e)
 colon_leads (after (in_array ∷ st)) t e = absurd (none-some t e)
 colon_leads (after (in_object ∷ st)) t e = absurd (none-some t e)
-colon_leads (in_number n st) t e = absurd (none-some t e)
-colon_leads (in_string n st) t e = absurd (none-some t e)
-colon_leads (in_name n st) t e = absurd (none-some t e)
-colon_leads (in_word n st) t e = absurd (none-some t e)
+colon_leads _ t e = absurd (none-some t e)
 
 -- ---- a token behind a piece
 
@@ -140,21 +107,18 @@ off : {A : Type 0} → false ≡ true → A
 off e = absurd (true≢false (sym e))
 
 value_then : (k : TokenKind) → not_behind_value k ≡ true → (st : List Frame) → next (after st) (token_kind k) ≡ None
-value_then (token.Opens b) e [] = refl
 value_then (token.Opens b) e (in_array ∷ st) = refl
 value_then (token.Opens b) e (in_object ∷ st) = refl
-value_then token.Text e [] = refl
 value_then token.Text e (in_array ∷ st) = refl
 value_then token.Text e (in_object ∷ st) = refl
-value_then token.Run e [] = refl
 value_then token.Run e (in_array ∷ st) = refl
 value_then token.Run e (in_object ∷ st) = refl
-value_then token.Colon e [] = refl
 value_then token.Colon e (in_array ∷ st) = refl
 value_then token.Colon e (in_object ∷ st) = refl
 value_then (token.Closes b) e st = off e
 value_then token.Comma e st = off e
 value_then (token.Broken n) e st = off e
+value_then _ e _ = refl
 
 text_then : (k : TokenKind) → not_behind_text k ≡ true → (st : List Frame) (t : State) → (t ≡ after st) ⊎ (t ≡ colon_state st) → next t (token_kind k) ≡ None
 text_then (token.Opens b) e st t (inl f) = ap (λ z. next z (an_opener b)) f ∙ value_then (token.Opens b) refl st
@@ -164,9 +128,7 @@ text_then token.Text e st t (inr f) = ap (λ z. next z text_kind) f
 text_then token.Run e st t (inl f) = ap (λ z. next z value_kind) f ∙ value_then token.Run refl st
 text_then token.Run e st t (inr f) = ap (λ z. next z value_kind) f
 text_then (token.Closes b) e st t f = off e
-text_then token.Comma e st t f = off e
-text_then token.Colon e st t f = off e
-text_then (token.Broken n) e st t f = off e
+text_then _ e st t f = off e
 
 mark_then : (k : TokenKind) → not_behind_mark k ≡ true → (st : List Frame) (t : State) → (t ≡ value st) ⊎ (t ≡ name st) → next t (token_kind k) ≡ None
 mark_then (token.Closes b) e st t (inl f) = ap (λ z. next z (a_closer b)) f
@@ -176,9 +138,7 @@ mark_then token.Comma e st t (inr f) = ap (λ z. next z comma_kind) f
 mark_then token.Colon e st t (inl f) = ap (λ z. next z colon_kind) f
 mark_then token.Colon e st t (inr f) = ap (λ z. next z colon_kind) f
 mark_then (token.Opens b) e st t f = off e
-mark_then token.Text e st t f = off e
-mark_then token.Run e st t f = off e
-mark_then (token.Broken n) e st t f = off e
+mark_then _ e st t f = off e
 
 -- wherever the first may stand, the second has no place behind it
 abbrev Refuses : Kind → Kind → Type 0
@@ -347,13 +307,11 @@ members_last (g ∷ es) e = let q = members_last es g in
     (mark (comma e.comma_at) ∷ (mark (quoted e.name_at e.characters) ∷ (mark (colon e.colon_at) ∷ (mark (mark_of e.value) ∷ q.0))), q.1, ap (λ z. mark (comma e.comma_at) ∷ (mark (quoted e.name_at e.characters) ∷ (mark (colon e.colon_at) ∷ (mark (mark_of e.value) ∷ z)))) q.2)
 
 text_then_value : (k : TokenKind) → not_behind_text k ≡ true → not_behind_value k ≡ true
-text_then_value (token.Opens b) h = refl
 text_then_value (token.Closes b) h = h
 text_then_value token.Comma h = h
 text_then_value token.Colon h = off h
-text_then_value token.Text h = refl
-text_then_value token.Run h = refl
 text_then_value (token.Broken n) h = h
+text_then_value _ h = refl
 
 -- behind a member's value, whichever it is
 behind_member : (v : ValueMark) (k : TokenKind) → not_behind_text k ≡ true → Refuses (kind_of (mark (mark_of v))) (token_kind k)
@@ -371,45 +329,31 @@ module _ {X : Type 0} (IsKept : X → Content → Type 0) where
   piece_refuses : (base : ℕ) (w : List ℕ) (c : CodePiece X) (p : Piece Tree) (k : TokenKind) → IsHeldPiece IsKept base w c p → not_behind_piece c k ≡ true → Refuses (kind_of p) (token_kind k)
   piece_refuses base w (Closes b i) (closes d j) k u h = behind_closer d k h
   piece_refuses base w (Closes b i) (opens d j) k u h = absurd u
-  piece_refuses base w (Closes b i) (mark x) k u h = absurd u
   piece_refuses base w (Comma i) (mark (comma j)) k u h = behind_comma k h
   piece_refuses base w (Comma i) (mark (colon j)) k u h = absurd u
   piece_refuses base w (Comma i) (mark (quoted j cs)) k u h = absurd u
   piece_refuses base w (Comma i) (mark (entry j t)) k u h = absurd u
-  piece_refuses base w (Comma i) (opens d j) k u h = absurd u
-  piece_refuses base w (Comma i) (closes d j) k u h = absurd u
   piece_refuses base w (Colon i) (mark (colon j)) k u h = behind_colon k h
   piece_refuses base w (Colon i) (mark (comma j)) k u h = absurd u
   piece_refuses base w (Colon i) (mark (quoted j cs)) k u h = absurd u
   piece_refuses base w (Colon i) (mark (entry j t)) k u h = absurd u
-  piece_refuses base w (Colon i) (opens d j) k u h = absurd u
-  piece_refuses base w (Colon i) (closes d j) k u h = absurd u
   piece_refuses base w (Text span x) (mark (quoted j cs)) k u h = behind_text k h
   piece_refuses base w (Text span x) (mark (comma j)) k u h = absurd u
   piece_refuses base w (Text span x) (mark (colon j)) k u h = absurd u
   piece_refuses base w (Text span x) (mark (entry j t)) k u h = absurd u
-  piece_refuses base w (Text span x) (opens d j) k u h = absurd u
-  piece_refuses base w (Text span x) (closes d j) k u h = absurd u
   piece_refuses base w (Value i x) (mark (entry j t)) k u h = behind_value k h
   piece_refuses base w (Value i x) (mark (comma j)) k u h = absurd u
   piece_refuses base w (Value i x) (mark (colon j)) k u h = absurd u
   piece_refuses base w (Value i x) (mark (quoted j cs)) k u h = absurd u
-  piece_refuses base w (Value i x) (opens d j) k u h = absurd u
-  piece_refuses base w (Value i x) (closes d j) k u h = absurd u
   piece_refuses base w (RowPiece r) p k u h = absurd u
-  piece_refuses base w (MembersPiece r) p k u h = absurd u
-  piece_refuses base w (ClosersPiece r) p k u h = absurd u
+  piece_refuses base w _ _ k u h = absurd u
 
   last_is : (base : ℕ) (w : List ℕ) (c : CodePiece X) (us : List (Piece Tree)) (k : TokenKind) → ArePieces IsKept base w c us → not_behind_piece c k ≡ true → LastPiece us k
   last_is base w c us k (inl (p, e, u)) h = record { front = []; last = p; split = e; refuses = piece_refuses base w c p k u h }
   last_is base w (RowPiece r) us k (inr u) h = let (front, j, t, q) = row_last u.others (r.comma, r.first, u.tree) in record { front = front; last = mark (entry j t); split = u.split ∙ q; refuses = behind_value k h }
   last_is base w (MembersPiece r) us k (inr u) h = let q = members_last u.others u.first in record { front = q.0; last = mark (mark_of q.1); split = u.split ∙ q.2; refuses = behind_member q.1 k h }
   last_is base w (ClosersPiece r) us k (inr u) h = record { front = closers r.first r.second r.from u.0; last = closes (turn r.first r.second u.0) (r.from + u.0); split = u.2 ∙ sym (closers_more r.first r.second r.from u.0); refuses = behind_closer (turn r.first r.second u.0) k h }
-  last_is base w (Closes b i) us k (inr u) h = absurd u
-  last_is base w (Comma i) us k (inr u) h = absurd u
-  last_is base w (Colon i) us k (inr u) h = absurd u
-  last_is base w (Text span x) us k (inr u) h = absurd u
-  last_is base w (Value i x) us k (inr u) h = absurd u
+  last_is base w _ us k (inr u) h = absurd u
 
   outer_last : (base : ℕ) (w : List ℕ) (cs : List (CodePiece X)) (ps : List (Piece Tree)) (k : TokenKind) → EachPiece IsKept base w cs ps → not_behind_last (last_of cs) k ≡ true → LastPiece ps k
   outer_last base w [] ps k e h = off h
@@ -437,14 +381,9 @@ module _ {X : Type 0} (IsKept : X → Content → Type 0) where
           dead_two free at w r.front r.last p (subst (λ z. Refuses (kind_of r.last) z) (sym kind) r.refuses) (subst (Formed free at w) same formed)
       by_levels (g ∷ hs) (l ∷ ls) (token.Opens b) u h kind levels formed =
           dead_level free at w (f.outer ++ opened ls) l.bracket l.from l.inside p l.mode (subst (Formed free at w) (level_more f.outer ls l.bracket l.from l.inside (p ∷ [])) formed) levels.0 (λ st. ap (next (full l.mode st)) kind ∙ level_none g l b u.0 h st)
-      by_levels (g ∷ hs) (l ∷ ls) (token.Closes b) u h kind levels formed = off h
-      by_levels (g ∷ hs) (l ∷ ls) token.Comma u h kind levels formed = off h
-      by_levels (g ∷ hs) (l ∷ ls) token.Colon u h kind levels formed = off h
-      by_levels (g ∷ hs) (l ∷ ls) token.Text u h kind levels formed = off h
-      by_levels (g ∷ hs) (l ∷ ls) token.Run u h kind levels formed = off h
-      by_levels (g ∷ hs) (l ∷ ls) (token.Broken n) u h kind levels formed = off h
       by_levels [] (l ∷ ls) k u h kind levels formed = absurd u
       by_levels (g ∷ hs) [] k u h kind levels formed = absurd u
+      by_levels (g ∷ hs) (l ∷ ls) _ u h kind levels formed = off h
 
   -- the piece stops before a token that is refused
   pub consumed_refused : (base : ℕ) (piece : List ℕ) (from lead : ℕ) (bytes : List ℕ) (body : Body X) (old new : Left) (t : Token) → Consumed IsKept base piece from bytes (shown body) old → (g : GivesItem old (WholeItem t) new) → is_refused (shown body) t.kind ≡ true

@@ -8,11 +8,11 @@ use Rattle.at_nest.specs.declared.levels.ObjectState.TheVariants as object
 use Rattle.at_nest.specs.declared.levels.Level.{Level as CodeLevel}
 use Rattle.at_nest.specs.declared.levels.Step.TheVariants.{On, Refused}
 use Rattle.at_nest.specs.declared.pieces.Piece.{Piece as CodePiece}
-use Rattle.at_nest.specs.declared.pieces.Piece.TheVariants.{Closes, Comma, Colon, Text, Value, Row as RowPiece, Members as MembersPiece, Closers as ClosersPiece}
+use Rattle.at_nest.specs.declared.pieces.Piece.TheVariants.{Comma, Colon, Value, Row as RowPiece}
 use Rattle.at_nest.specs.declared.pieces.Row.{Row}
 use Rattle.at_nest.specs.declared.pieces.SpanStop.{SpanStop as CodeHalt}
 use Rattle.at_nest.specs.Tree.{Tree}
-use Rattle.at_nest.specs.Forms.{Mark, Piece, opens, closes, mark, comma, colon, quoted, entry}
+use Rattle.at_nest.specs.Forms.{Mark, Piece, opens, mark, comma, colon, quoted, entry}
 use Rattle.at_nest.specs.Walks.{comma_kind, value_kind}
 use Rattle.at_nest.specs.Levels.{Mode, at_after, at_name, Level, values_in, marks, move, moves, Pushed, further, stopped, with_mark, push, push_all, push_then}
 use Rattle.at_nest.specs.Shown.{Held, held_of, AreOwn, IsStep, array_level, object_level, Shown, show_as, kept_outside, put_back, comma_next, value_next, stop_at}
@@ -50,8 +50,7 @@ push_outside (x ∷ xs) fo = push_outside xs (fo ++ mark x ∷ []) ∙ ap (λ z.
 module _ {X : Type 0} (IsKept : X → Content → Type 0) where
   no_row : (r : Row X) (base : ℕ) (w : List ℕ) (p : Piece Tree) → IsHeldPiece IsKept base w (RowPiece r) p → ⊥
   no_row r base w (opens b j) u = u
-  no_row r base w (closes b j) u = u
-  no_row r base w (mark x) u = u
+  no_row r base w _ u = u
 
   is_row : (r : Row X) (base : ℕ) (w : List ℕ) (ps : List (Piece Tree)) → ArePieces IsKept base w (RowPiece r) ps → IsRow IsKept r ps
   is_row r base w ps (inl (p, e, h)) = absurd (no_row r base w p h)
@@ -62,11 +61,10 @@ module _ {X : Type 0} (IsKept : X → Content → Type 0) where
     where
       one_comma : (p : Piece Tree) → IsHeldPiece IsKept base w (Comma c) p → p ≡ mark (comma c)
       one_comma (mark (comma j)) h = ap (λ n. mark (comma n)) (sym h)
-      one_comma (opens b j) h = absurd h
-      one_comma (closes b j) h = absurd h
       one_comma (mark (colon j)) h = absurd h
       one_comma (mark (quoted j cs)) h = absurd h
       one_comma (mark (entry j t)) h = absurd h
+      one_comma _ h = absurd h
   is_comma c base w ps (inr h) = absurd h
 
   -- what is kept before the last of what stands before the first open level
@@ -252,14 +250,8 @@ pub no_comma_last : {X : Type 0} (xs front : List (CodePiece X)) (p : CodePiece 
 no_comma_last {X = X} xs front p e h none = by_piece p (sym (ap is_comma_last (ap last_of e ∙ last_behind front p)) ∙ h) none
   where
     by_piece : (p : CodePiece X) → comma_piece p ≡ true → ((c : ℕ) → p ≡ Comma c → ⊥) → ⊥
-    by_piece (Closes b i) h none = true≢false (sym h)
     by_piece (Comma i) h none = none i refl
-    by_piece (Colon i) h none = true≢false (sym h)
-    by_piece (Text span x) h none = true≢false (sym h)
-    by_piece (Value i x) h none = true≢false (sym h)
-    by_piece (RowPiece q) h none = true≢false (sym h)
-    by_piece (MembersPiece q) h none = true≢false (sym h)
-    by_piece (ClosersPiece q) h none = true≢false (sym h)
+    by_piece _ h none = true≢false (sym h)
 
 -- ---- a level behind a comma
 

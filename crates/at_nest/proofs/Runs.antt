@@ -32,9 +32,8 @@ abbrev pub IsBehind : List ℕ → ℕ → Type 0
 IsBehind u byte = ((is_run byte ≡ true) × (¬ (Viable JsonRun (u ++ byte ∷ [])))) ⊎ ((is_run byte ≡ false) × (¬ JsonRun u))
 
 pub literal_runs : (l : Literal) → AreRun (literal_text l)
-literal_runs the_null = (refl, (refl, (refl, (refl, tt))))
-literal_runs the_true = (refl, (refl, (refl, (refl, tt))))
 literal_runs the_false = (refl, (refl, (refl, (refl, (refl, tt)))))
+literal_runs _ = (refl, (refl, (refl, (refl, tt))))
 
 pub run_there : (u : List ℕ) (c : ℕ) (r : List ℕ) → AreRun (u ++ (c ∷ r)) → is_run c ≡ true
 run_there [] c r (e, h) = e

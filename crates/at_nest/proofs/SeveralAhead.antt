@@ -10,7 +10,7 @@ use Rattle.at_lex.proofs.Unique.{head_same}
 use Rattle.at_nest.specs.declared.pieces.SpanStop.{SpanStop as CodeHalt}
 use Rattle.at_nest.specs.declared.algebra.Attempt.TheVariants.{Whole, Unsaid}
 use Rattle.at_nest.specs.declared.algebra.Attempt.{Attempt}
-use Rattle.at_nest.specs.Tree.{Tree, literal, number, text, array, object, no_trees, Spells, SpellsItems, SpellsFurtherItems}
+use Rattle.at_nest.specs.Tree.{Tree, array, object, no_trees, Spells, SpellsItems, SpellsFurtherItems}
 use Rattle.at_nest.specs.Borders.{ends_run, are_apart}
 use Rattle.at_nest.specs.Forms.{Piece, entry, mark, IsNoText, Formed}
 use Rattle.at_nest.specs.Folds.{trees, Covers, IsAttempt, HasBrackets, IsItemsAttempt}
@@ -59,16 +59,12 @@ front_begins (suc n) b w h (more, e) = (b, take n more, ap (take (suc n)) e)
 brackets_ended : (at : ℕ) (v : List ℕ) (t : Tree) → HasBrackets t → Spells at v t → IsEnded v
 brackets_ended at v (array i ts) b h = let (f, (u, g, s)) = parts.array_parts ts i at v h in between 0x5B 0x5D u v g refl
 brackets_ended at v (object i ms) b h = let (f, (u, g, s)) = parts.object_parts ms i at v h in between 0x7B 0x7D u v g refl
-brackets_ended at v (literal i l) b h = absurd b
-brackets_ended at v (number i n) b h = absurd b
-brackets_ended at v (text i cs) b h = absurd b
+brackets_ended at v _ b h = absurd b
 
 brackets_no_text : (t : Tree) → HasBrackets t → IsNoText t
 brackets_no_text (array i ts) b = tt
 brackets_no_text (object i ms) b = tt
-brackets_no_text (literal i l) b = absurd b
-brackets_no_text (number i n) b = absurd b
-brackets_no_text (text i cs) b = absurd b
+brackets_no_text _ b = absurd b
 
 apart_ended : (v r : List ℕ) → ends_run v ≡ false → are_apart v r ≡ true
 apart_ended v r h = ap (λ p. not (p && begins_run r)) h

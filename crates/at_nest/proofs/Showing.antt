@@ -46,22 +46,19 @@ module _ {X : Type 0} (IsKept : X → Content → Type 0) (base : ℕ) (w : List
       → EachHeld IsKept hs ls → IsHeld IsKept h l → i ≡ mark_at x → IsMoved IsKept o n l x → IsPushedAs IsKept base w (put_back outer hs i h o).0 (put_back outer hs i h o).1 (with_mark fo ls l x n)
   put_pushes outer fo hs ls h l x i (Some k) (Some n) ho hl hh e m = (ho, (m, hl))
   put_pushes outer fo hs ls h l x i None None ho hl hh e m = ((ho, (hh, hl)), ap (λ j. halt_of (stop_at j)) e)
-  put_pushes outer fo hs ls h l x i (Some k) None ho hl hh e m = absurd m
-  put_pushes outer fo hs ls h l x i None (Some n) ho hl hh e m = absurd m
+  put_pushes outer fo hs ls h l x i _ _ ho hl hh e m = absurd m
 
   pub comma_pushes : (outer : List (CodePiece X)) (hs : List (Held X)) (fo : List (Piece Tree)) (ls : List (Level Tree)) (i : ℕ) → EachPiece IsKept base w outer fo → EachHeld IsKept hs ls
       → IsPushedAs IsKept base w (comma_added i outer hs).0 (comma_added i outer hs).1 (push_mark fo ls (comma i))
   comma_pushes outer [] fo [] i ho hl = (piece_append outer fo (Comma i) (mark (comma i)) ho refl, tt)
   comma_pushes outer (h ∷ hs) fo (l ∷ ls) i ho hl = put_pushes outer fo hs ls h l (comma i) i (comma_next h) (move l.mode (mark_kind {X = Tree} (comma i))) ho hl.1 hl.0 refl (comma_moves IsKept h l i hl.0)
-  comma_pushes outer [] fo (l ∷ ls) i ho hl = absurd hl
-  comma_pushes outer (h ∷ hs) fo [] i ho hl = absurd hl
+  comma_pushes outer _ fo _ i ho hl = absurd hl
 
   pub colon_pushes : (outer : List (CodePiece X)) (hs : List (Held X)) (fo : List (Piece Tree)) (ls : List (Level Tree)) (i : ℕ) → EachPiece IsKept base w outer fo → EachHeld IsKept hs ls
       → IsPushedAs IsKept base w (colon_added i outer hs).0 (colon_added i outer hs).1 (push_mark fo ls (colon i))
   colon_pushes outer [] fo [] i ho hl = (piece_append outer fo (Colon i) (mark (colon i)) ho refl, tt)
   colon_pushes outer (h ∷ hs) fo (l ∷ ls) i ho hl = put_pushes outer fo hs ls h l (colon i) i (colon_next h) (move l.mode (mark_kind {X = Tree} (colon i))) ho hl.1 hl.0 refl (colon_moves IsKept h l i hl.0)
-  colon_pushes outer [] fo (l ∷ ls) i ho hl = absurd hl
-  colon_pushes outer (h ∷ hs) fo [] i ho hl = absurd hl
+  colon_pushes outer _ fo _ i ho hl = absurd hl
 
   -- a value that is no string, before the first open level
   pub value_outside : (old : Shown X) (outer : List (CodePiece X)) (new : Shown X) (r : Option CodeHalt) (i : ℕ) (x : X) (t : Tree) (f : Form Tree) → old.levels ≡ [] → old.outer ≡ outer → (new, r) ≡ kept_outside outer (Value i x) → IsShown IsKept base w old f → IsKept x (one t)

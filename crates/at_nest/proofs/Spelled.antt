@@ -147,61 +147,23 @@ abbrev bracket_of : Mode → Bracket
 bracket_of at_items = Square
 bracket_of at_value = Square
 bracket_of at_after = Square
-bracket_of at_members = Brace
-bracket_of at_name = Brace
-bracket_of at_colon = Brace
-bracket_of at_member = Brace
-bracket_of at_further = Brace
+bracket_of _ = Brace
 
 move_keeps : (md n : Mode) (k : Kind) → move md k ≡ Some n → bracket_of n ≡ bracket_of md
 move_keeps at_items n (an_opener b) e = none_put n e
 move_keeps at_items n (a_closer b) e = none_put n e
-move_keeps at_items n (comma_kind) e = none_put n e
-move_keeps at_items n (colon_kind) e = none_put n e
 move_keeps at_items n (text_kind) e = ap bracket_of (sym (same_Some _ n e))
 move_keeps at_items n (value_kind) e = ap bracket_of (sym (same_Some _ n e))
-move_keeps at_value n (an_opener b) e = none_put n e
-move_keeps at_value n (a_closer b) e = none_put n e
-move_keeps at_value n (comma_kind) e = none_put n e
-move_keeps at_value n (colon_kind) e = none_put n e
 move_keeps at_value n (text_kind) e = ap bracket_of (sym (same_Some _ n e))
 move_keeps at_value n (value_kind) e = ap bracket_of (sym (same_Some _ n e))
-move_keeps at_after n (an_opener b) e = none_put n e
-move_keeps at_after n (a_closer b) e = none_put n e
 move_keeps at_after n (comma_kind) e = ap bracket_of (sym (same_Some _ n e))
-move_keeps at_after n (colon_kind) e = none_put n e
-move_keeps at_after n (text_kind) e = none_put n e
-move_keeps at_after n (value_kind) e = none_put n e
-move_keeps at_members n (an_opener b) e = none_put n e
-move_keeps at_members n (a_closer b) e = none_put n e
-move_keeps at_members n (comma_kind) e = none_put n e
-move_keeps at_members n (colon_kind) e = none_put n e
 move_keeps at_members n (text_kind) e = ap bracket_of (sym (same_Some _ n e))
-move_keeps at_members n (value_kind) e = none_put n e
-move_keeps at_name n (an_opener b) e = none_put n e
-move_keeps at_name n (a_closer b) e = none_put n e
-move_keeps at_name n (comma_kind) e = none_put n e
-move_keeps at_name n (colon_kind) e = none_put n e
 move_keeps at_name n (text_kind) e = ap bracket_of (sym (same_Some _ n e))
-move_keeps at_name n (value_kind) e = none_put n e
-move_keeps at_colon n (an_opener b) e = none_put n e
-move_keeps at_colon n (a_closer b) e = none_put n e
-move_keeps at_colon n (comma_kind) e = none_put n e
 move_keeps at_colon n (colon_kind) e = ap bracket_of (sym (same_Some _ n e))
-move_keeps at_colon n (text_kind) e = none_put n e
-move_keeps at_colon n (value_kind) e = none_put n e
-move_keeps at_member n (an_opener b) e = none_put n e
-move_keeps at_member n (a_closer b) e = none_put n e
-move_keeps at_member n (comma_kind) e = none_put n e
-move_keeps at_member n (colon_kind) e = none_put n e
 move_keeps at_member n (text_kind) e = ap bracket_of (sym (same_Some _ n e))
 move_keeps at_member n (value_kind) e = ap bracket_of (sym (same_Some _ n e))
-move_keeps at_further n (an_opener b) e = none_put n e
-move_keeps at_further n (a_closer b) e = none_put n e
 move_keeps at_further n (comma_kind) e = ap bracket_of (sym (same_Some _ n e))
-move_keeps at_further n (colon_kind) e = none_put n e
-move_keeps at_further n (text_kind) e = none_put n e
-move_keeps at_further n (value_kind) e = none_put n e
+move_keeps _ n _ e = none_put n e
 
 moves_keep : {X : Type 0} (xs : List (Mark X)) (md n : Mode) → moves md xs ≡ Some n → bracket_of n ≡ bracket_of md
 moves_keep [] md n e = ap bracket_of (sym (same_Some md n e))
@@ -212,22 +174,15 @@ first_keeps Square = refl
 first_keeps Brace = refl
 
 closer_is : (md : Mode) (c : Bracket) → closes_at md c ≡ true → bracket_of md ≡ c
-closer_is at_items Square h = refl
 closer_is at_items Brace h = wrong h
-closer_is at_value Square h = refl
 closer_is at_value Brace h = wrong h
-closer_is at_after Square h = refl
 closer_is at_after Brace h = wrong h
 closer_is at_members Square h = wrong h
-closer_is at_members Brace h = refl
 closer_is at_name Square h = wrong h
-closer_is at_name Brace h = refl
 closer_is at_colon Square h = wrong h
-closer_is at_colon Brace h = refl
 closer_is at_member Square h = wrong h
-closer_is at_member Brace h = refl
 closer_is at_further Square h = wrong h
-closer_is at_further Brace h = refl
+closer_is _ _ h = refl
 
 same_level : {X : Type 0} (m : Meaning X) (b : Bracket) (xs : List (Mark X)) (at : ℕ) (r : List ℕ) (n : Mode) → Formed m (at + 1) r (marks xs) → moves (first_mode b) xs ≡ Some n → closes_at n b ≡ true
     → IsMark m at (opening b ∷ (r ++ (closing b ∷ []))) (entry at (built m b at xs))

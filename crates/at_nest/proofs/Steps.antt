@@ -62,10 +62,8 @@ number_none num.power b h = (stops_number b h).8
 -- the state is between tokens
 abbrev pub IsStill : State → Type 0
 IsStill (in_number n st) = ⊥
-IsStill (in_string s st) = ⊥
-IsStill (in_name s st) = ⊥
-IsStill (in_word w st) = ⊥
 IsStill _ = ⊤
+IsStill _ = ⊥
 
 -- the state is at the end of a whole token, and goes on as t
 abbrev pub Settled : State → State → Type 0
@@ -82,16 +80,11 @@ run_ended (in_word w st) = true
 run_ended _ = false
 
 pub still_settled : (t : State) → IsStill t → Settled t t
-still_settled (value st) h = refl
-still_settled (items st) h = refl
-still_settled (members st) h = refl
-still_settled (name st) h = refl
-still_settled (colon st) h = refl
-still_settled (after st) h = refl
 still_settled (in_number n st) h = absurd h
 still_settled (in_string n st) h = absurd h
 still_settled (in_name n st) h = absurd h
 still_settled (in_word n st) h = absurd h
+still_settled _ h = refl
 
 pub settled_still : (s t : State) → Settled s t → IsStill t
 settled_still (in_number n st) t (p, e) = subst IsStill (sym e) tt
@@ -106,36 +99,19 @@ settled_still (colon st) t e = subst IsStill (sym e) tt
 settled_still (after st) t e = subst IsStill (sym e) tt
 
 pub still_space : (t : State) (b : ℕ) → IsStill t → is_space b ≡ true → step t b ≡ Some t
-still_space (value st) b h e = chosen_by _ _ b e
-still_space (items st) b h e = chosen_by _ _ b e
-still_space (members st) b h e = chosen_by _ _ b e
-still_space (name st) b h e = chosen_by _ _ b e
-still_space (colon st) b h e = chosen_by _ _ b e
-still_space (after st) b h e = chosen_by _ _ b e
 still_space (in_number n st) b h e = absurd h
 still_space (in_string n st) b h e = absurd h
 still_space (in_name n st) b h e = absurd h
 still_space (in_word n st) b h e = absurd h
+still_space _ b h e = chosen_by _ _ b e
 
 closed_string : (s : str.State) (st : List Frame) (b : ℕ) → str.accepts s ≡ true → step (in_string s st) b ≡ step (after st) b
 closed_string str.closed st b p = refl
-closed_string str.opening st b p = wrong p
-closed_string str.inside st b p = wrong p
-closed_string str.escaped st b p = wrong p
-closed_string str.hex4 st b p = wrong p
-closed_string str.hex3 st b p = wrong p
-closed_string str.hex2 st b p = wrong p
-closed_string str.hex1 st b p = wrong p
+closed_string _ st b p = wrong p
 
 closed_name : (s : str.State) (st : List Frame) (b : ℕ) → str.accepts s ≡ true → step (in_name s st) b ≡ step (colon st) b
 closed_name str.closed st b p = refl
-closed_name str.opening st b p = wrong p
-closed_name str.inside st b p = wrong p
-closed_name str.escaped st b p = wrong p
-closed_name str.hex4 st b p = wrong p
-closed_name str.hex3 st b p = wrong p
-closed_name str.hex2 st b p = wrong p
-closed_name str.hex1 st b p = wrong p
+closed_name _ st b p = wrong p
 
 ended_number : (n : num.State) (st : List Frame) (b : ℕ) → num.accepts n ≡ true → is_run b ≡ false → step (in_number n st) b ≡ step (after st) b
 ended_number n st b p g = ap (λ o. within (option_map (λ v. in_number v st) o) (num.accepts n) (after_step st b)) (number_none n b g) ∙ ap (λ c. cond c (after_step st b) None) p
@@ -150,11 +126,7 @@ settled_step (in_string s st) t b (p, e) g = closed_string s st b p ∙ sym (ap 
 settled_step (in_name s st) t b (p, e) g = closed_name s st b p ∙ sym (ap (λ x. step x b) e)
 settled_step (in_word w st) t b (p, e) g = ended_word w st b p ∙ sym (ap (λ x. step x b) e)
 settled_step (value st) t b e g = sym (ap (λ x. step x b) e)
-settled_step (items st) t b e g = sym (ap (λ x. step x b) e)
-settled_step (members st) t b e g = sym (ap (λ x. step x b) e)
-settled_step (name st) t b e g = sym (ap (λ x. step x b) e)
-settled_step (colon st) t b e g = sym (ap (λ x. step x b) e)
-settled_step (after st) t b e g = sym (ap (λ x. step x b) e)
+settled_step _ t b e g = sym (ap (λ x. step x b) e)
 
 -- no run goes on from the state into the bytes
 abbrev pub is_clear : State → List ℕ → Bool

@@ -25,9 +25,8 @@ stretched_last ss s = stretched_append ss (s ∷ []) ∙ ap (λ z. stretched ss 
 -- ---- the innermost
 
 last_join : {A : Type 0} (xs : List A) (y : A) (ys : List A) → last_of (xs ++ y ∷ ys) ≡ last_of (y ∷ ys)
-last_join [] y ys = refl
-last_join (x ∷ []) y ys = refl
 last_join (x ∷ (z ∷ xs)) y ys = last_join (z ∷ xs) y ys
+last_join _ y ys = refl
 
 pub last_over : {A : Type 0} (xs ys : List A) (y : A) → last_of ys ≡ Some y → last_of (xs ++ ys) ≡ Some y
 last_over xs [] y e = absurd (none-some y e)

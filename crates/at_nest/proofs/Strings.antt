@@ -31,22 +31,13 @@ closes_once InEscape (b ∷ v) c o h e = closes_once InString v c o h e
 pub closed_is : (n : str.State) (s : Start) → InText n s → str.accepts n ≡ true → s ≡ Out
 closed_is str.closed s h a = h
 closed_is str.opening s h a = absurd h
-closed_is str.inside s h a = absurd (true≢false (sym a))
-closed_is str.escaped s h a = absurd (true≢false (sym a))
-closed_is str.hex4 s h a = absurd (true≢false (sym a))
-closed_is str.hex3 s h a = absurd (true≢false (sym a))
-closed_is str.hex2 s h a = absurd (true≢false (sym a))
-closed_is str.hex1 s h a = absurd (true≢false (sym a))
+closed_is _ s h a = absurd (true≢false (sym a))
 
 out_is : (n : str.State) → InText n Out → str.accepts n ≡ true
 out_is str.closed h = refl
 out_is str.opening h = absurd h
-out_is str.inside h = absurd (not_out_string h)
 out_is str.escaped h = absurd (not_out_escape h)
-out_is str.hex4 h = absurd (not_out_string h)
-out_is str.hex3 h = absurd (not_out_string h)
-out_is str.hex2 h = absurd (not_out_string h)
-out_is str.hex1 h = absurd (not_out_string h)
+out_is _ h = absurd (not_out_string h)
 
 -- a byte in a closed string stops it before it is whole
 unfinished : (v : List ℕ) (byte : ℕ) (o : List ℕ) (n : str.State) → ClosesText InString (v ++ (byte ∷ o)) → run str.step str.inside v ≡ Some n → str.accepts n ≡ false

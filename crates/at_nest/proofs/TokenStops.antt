@@ -123,10 +123,7 @@ run_byte_of b v byte h k (members st) i = none_stuck (members st) b v byte (unma
 run_byte_of b v byte h k (name st) i = none_stuck (name st) b v byte (unmarked_halts (name st) b i (run_unmarked b k) refl)
 run_byte_of b v byte h k (colon st) i = none_stuck (colon st) b v byte (unmarked_halts (colon st) b i (run_unmarked b k) refl)
 run_byte_of b v byte h k (after st) i = none_stuck (after st) b v byte (unmarked_halts (after st) b i (run_unmarked b k) (after_refuses st))
-run_byte_of b v byte h k (in_number n st) i = absurd i
-run_byte_of b v byte h k (in_string n st) i = absurd i
-run_byte_of b v byte h k (in_name n st) i = absurd i
-run_byte_of b v byte h k (in_word n st) i = absurd i
+run_byte_of b v byte h k _ i = absurd i
 
 -- bytes in a run that a byte stops are dead, whatever is before, if no run goes on in them
 run_dead : (b : ℕ) (v : List ℕ) (byte : ℕ) → RunStops (b ∷ v) byte → is_run b ≡ true → (x : List ℕ) → end_of Out x ≡ Out → ends_run x ≡ false → ¬ (Viable (JsonText 0) (x ++ ((b ∷ v) ++ (byte ∷ []))))
@@ -228,10 +225,7 @@ first_stops_at m at w byte others e k h = record {
     first_stuck (name st) i = unmarked_halts (name st) byte i (run_unmarked byte k) refl
     first_stuck (colon st) i = unmarked_halts (colon st) byte i (run_unmarked byte k) refl
     first_stuck (after st) i = unmarked_halts (after st) byte i (run_unmarked byte k) (after_refuses st)
-    first_stuck (in_number n st) i = absurd i
-    first_stuck (in_string n st) i = absurd i
-    first_stuck (in_name n st) i = absurd i
-    first_stuck (in_word n st) i = absurd i
+    first_stuck _ i = absurd i
 
 pub value_is : {X : Type 0} (m : Meaning X) (at : ℕ) (t : List ℕ) (x : X) (y : Tree) → Spells at t y → IsNoText y → x ≡ fold_of m y → IsForm m at t (record { outer = mark (entry at x) ∷ []; levels = [] })
 value_is m at t x y h n e = record { formed = ([], t, [], sym (append-nil t), tt, (let f : at ≡ at + 0 = omega arith in (f, y, subst (λ k. Spells k t y) f h, n, e)), apart_nothing t, tt); levels = tt }

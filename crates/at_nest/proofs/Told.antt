@@ -7,7 +7,7 @@ use Rattle.at_text.specs.Faults.{fault_at}
 use Rattle.at_text.specs.declared.faults.FaultKind.TheVariants as kinds
 use Rattle.at_nest.specs.declared.finishing.NestEnd.{NestEnd}
 use Rattle.at_nest.specs.declared.finishing.NestEnd.TheVariants.{Syntax, Ended, Memory}
-use Rattle.at_nest.specs.Tree.{Tree, literal, number, text, array, object, Trees, no_trees, tree_and, Members, no_members, member_and}
+use Rattle.at_nest.specs.Tree.{Tree, array, object, Trees, no_trees, tree_and, Members, no_members, member_and}
 use Rattle.at_nest.specs.Syntax.{JsonText}
 use Rattle.at_nest.specs.Forms.{fold_of, folds_of, folds_of_members}
 use Rattle.at_nest.specs.Answers.{Answer, folded, syntax, ended, IsAnswer}
@@ -20,11 +20,9 @@ use Rattle.at_nest.proofs.OneTree.{one_tree}
 
 mutual
   pub fold_free : (t : Tree) → fold_of free t ≡ t
-  fold_free (literal i l) = refl
-  fold_free (number i n) = refl
-  fold_free (text i cs) = refl
   fold_free (array i ts) = ap (array i) (folds_free ts)
   fold_free (object i ms) = ap (object i) (members_free ms)
+  fold_free _ = refl
 
   folds_free : (ts : Trees) → trees (folds_of free ts) ≡ ts
   folds_free no_trees = refl
@@ -68,8 +66,7 @@ told K at w (folded t) (Err e) h k = untold e k
   where
     untold : (e : NestEnd) → Tells K (Err e) (folded t) → Answers K at w (Err e)
     untold (Syntax i) k = absurd k
-    untold Ended k = absurd k
-    untold Memory k = absurd k
+    untold _ k = absurd k
 told K at w (syntax j) (Ok x) h k = absurd k
 told K at w (syntax j) (Err Ended) h k = absurd k
 told K at w (syntax j) (Err Memory) h k = absurd k

@@ -33,25 +33,21 @@ run_out (b ∷ u) (e, h) = ap (λ s. end_of s u) (out_run b e) ∙ run_out u h
 -- a string that goes on, and where it goes on or ends
 stays_stays : (s : Start) (u v : List ℕ) → StaysInText s u → StaysInText (end_of s u) v → StaysInText s (u ++ v)
 stays_stays Out u v h k = absurd h
-stays_stays InString [] v h k = k
 stays_stays InString (b ∷ u) v h k = stays_stays (after_byte InString b) u v h k
-stays_stays InEscape [] v h k = k
 stays_stays InEscape (b ∷ u) v h k = stays_stays InString u v h k
+stays_stays _ [] v h k = k
 
 stays_closes : (s : Start) (u v : List ℕ) → StaysInText s u → ClosesText (end_of s u) v → ClosesText s (u ++ v)
 stays_closes Out u v h k = absurd h
-stays_closes InString [] v h k = k
 stays_closes InString (b ∷ u) v h k = stays_closes (after_byte InString b) u v h k
-stays_closes InEscape [] v h k = k
 stays_closes InEscape (b ∷ u) v h k = stays_closes InString u v h k
+stays_closes _ [] v h k = k
 
 pub closes_out : (s : Start) (u : List ℕ) → ClosesText s u → end_of s u ≡ Out
 closes_out Out [] h = refl
-closes_out Out (b ∷ u) h = absurd h
-closes_out InString [] h = absurd h
 closes_out InString (b ∷ u) h = closes_out (after_byte InString b) u h
-closes_out InEscape [] h = absurd h
 closes_out InEscape (b ∷ u) h = closes_out InString u h
+closes_out _ _ h = absurd h
 
 -- a string that goes on doesn't end outside text
 pub stays_in : (s : Start) (u : List ℕ) → StaysInText s u → end_of s u ≡ Out → ⊥
@@ -74,14 +70,12 @@ lead_goes_on InString w x h k = stays_stays InString w x h (as_stays (end_of InS
   where
     as_stays : (t : Start) → (t ≡ Out → ⊥) → IsAllLead t x → StaysInText t x
     as_stays Out n k = absurd (n refl)
-    as_stays InString n k = k
-    as_stays InEscape n k = k
+    as_stays _ n k = k
 lead_goes_on InEscape w x h k = stays_stays InEscape w x h (as_stays (end_of InEscape w) (stays_in InEscape w h) k)
   where
     as_stays : (t : Start) → (t ≡ Out → ⊥) → IsAllLead t x → StaysInText t x
     as_stays Out n k = absurd (n refl)
-    as_stays InString n k = k
-    as_stays InEscape n k = k
+    as_stays _ n k = k
 
 pub lead_ends_on : (s : Start) (w u more : List ℕ) → IsAllLead s w → IsLeadEnd (end_of s w) u more → IsLeadEnd s (w ++ u) more
 lead_ends_on Out w u more h k = let (r, e, b, o, c) = subst (λ t. IsLeadEnd t u more) (run_out w h) k in (run_append w u h r, e, b, o, c)
@@ -89,14 +83,12 @@ lead_ends_on InString w u more h k = stays_closes InString w u h (as_closes (end
   where
     as_closes : (t : Start) → (t ≡ Out → ⊥) → IsLeadEnd t u more → ClosesText t u
     as_closes Out n k = absurd (n refl)
-    as_closes InString n k = k
-    as_closes InEscape n k = k
+    as_closes _ n k = k
 lead_ends_on InEscape w u more h k = stays_closes InEscape w u h (as_closes (end_of InEscape w) (stays_in InEscape w h) k)
   where
     as_closes : (t : Start) → (t ≡ Out → ⊥) → IsLeadEnd t u more → ClosesText t u
     as_closes Out n k = absurd (n refl)
-    as_closes InString n k = k
-    as_closes InEscape n k = k
+    as_closes _ n k = k
 
 pub lead_more : (s : Start) (u more y : List ℕ) → IsLeadEnd s u more → IsLeadEnd s u (more ++ y)
 lead_more Out u more y (h, k, b, o, e) = (h, begins_on more b o e k, b, o ++ y, ap (λ z. z ++ y) e)
@@ -148,13 +140,11 @@ apart_pending middle (b ∷ v) x h k = h
 
 text_lead : (s : Start) (x : List ℕ) → (s ≡ Out → ⊥) → IsAllLead s x → StaysInText s x
 text_lead Out x n h = absurd (n refl)
-text_lead InString x n h = h
-text_lead InEscape x n h = h
+text_lead _ x n h = h
 
 text_end : (s : Start) (x more : List ℕ) → (s ≡ Out → ⊥) → IsLeadEnd s x more → ClosesText s x
 text_end Out x more n h = absurd (n refl)
-text_end InString x more n h = h
-text_end InEscape x more n h = h
+text_end _ x more n h = h
 
 pub run_begins_or : (x : List ℕ) → AreRun x → (x ≡ []) ⊎ (begins_run x ≡ true)
 run_begins_or [] h = inl refl
@@ -201,12 +191,11 @@ last_quote b h = by_tests (b == 0x5C) (b == 0x22) refl h
 -- a string's last byte is in no run
 pub closes_last : (s : Start) (u : List ℕ) → (s ≡ Out → ⊥) → ClosesText s u → ends_run u ≡ false
 closes_last Out u n h = absurd (n refl)
-closes_last InString [] n h = refl
 closes_last InString (b ∷ []) n h = last_quote b h
 closes_last InString (b ∷ (c ∷ u)) n h = closes_last (after_byte InString b) (c ∷ u) (λ e. subst (λ t. ClosesText t (c ∷ u)) e h) h
-closes_last InEscape [] n h = refl
 closes_last InEscape (b ∷ []) n h = absurd h
 closes_last InEscape (b ∷ (c ∷ u)) n h = closes_last InString (c ∷ u) (λ e. subst (λ t. ClosesText t (c ∷ u)) e h) h
+closes_last _ [] n h = refl
 
 pub string_last : (u : List ℕ) → ClosesText InString u → ends_run (0x22 ∷ u) ≡ false
 string_last [] h = absurd h

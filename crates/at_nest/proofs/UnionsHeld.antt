@@ -75,8 +75,7 @@ module _ {X : Type 0} (IsKept : X → Content → Type 0) where
       → end ≡ end_of s w → Together r s at w lead kept pend end
   together None s at w u z lead kept pend end (further k) h q l p e = record { first = u; form = k; last = z; is_whole = h; is_shown = q; lead_at = l; pend_at = p; end_is = e }
   together (Some i) s at w u z lead kept pend end (stopped k j) h q l p e = record { first = u; form = k; is_broken = subst (IsBroken free s at w u k) (sym q.1) h; is_shown = q.0; lead_at = l }
-  together None s at w u z lead kept pend end (stopped k j) h q l p e = absurd q
-  together (Some i) s at w u z lead kept pend end (further k) h q l p e = absurd q
+  together _ s at w u z lead kept pend end _ h q l p e = absurd q
 
   place_of : (from at : ℕ) (w u a v : List ℕ) → w ≡ u ++ (a ++ v) → from + length v ≡ at + length w → from ≡ at + length u + length a
   place_of from at w u a v e p = let wide : length w ≡ length u + (length a + length v) = ap (λ z. length z) e ∙ (length-append u (a ++ v) ∙ ap (λ n. length u + n) (length-append a v)) in omega (arith, wide, p)
@@ -99,8 +98,7 @@ module _ {X : Type 0} (IsKept : X → Content → Type 0) where
   together_broken : (r : Option CodeHalt) (s : Start) (at : ℕ) (w u : List ℕ) (lead : ℕ) (kept : Shown X) (last : CodeHalt) (o : Pushed Tree) → IsVariant free s at w (variant_of u [] (push_then (λ q. stopped q (halt_of last)) o)) → IsPushedAs IsKept at w kept r o → lead ≡ at + length u → TogetherBroken r s at w lead kept last
   together_broken None s at w u lead kept last (further k) h q l = record { first = u; form = k; is_broken = h; is_shown = q; lead_at = l }
   together_broken (Some i) s at w u lead kept last (stopped k j) h q l = record { first = u; form = k; is_broken = subst (IsBroken free s at w u k) (sym q.1) h; is_shown = q.0; lead_at = l }
-  together_broken None s at w u lead kept last (stopped k j) h q l = absurd q
-  together_broken (Some i) s at w u lead kept last (further k) h q l = absurd q
+  together_broken _ s at w u lead kept last _ h q l = absurd q
 
   pub stops_behind : (g : Form Tree) (i : SpanStop) (o : Pushed Tree) → push_then (λ q. merged free (further q) (stopped g i)) o ≡ push_then (λ q. stopped q i) (push_then (λ q. merged free (further q) (further g)) o)
   stops_behind g i (further k) = refl

@@ -13,9 +13,8 @@ use Rattle.at_nest.specs.Walks.{next, kind_of, at_of, walks, walk_on, Walk, reac
 use Rattle.at_nest.proofs.PieceSteps.{Goes, Halts, piece_goes, piece_halts, piece_first, piece_at, still_clear}
 
 pub ends_append : (x : List ℕ) (c : ℕ) (u : List ℕ) → ends_run (x ++ (c ∷ u)) ≡ ends_run (c ∷ u)
-ends_append [] c u = refl
-ends_append (d ∷ []) c u = refl
 ends_append (d ∷ (e ∷ x)) c u = ends_append (e ∷ x) c u
+ends_append _ c u = refl
 
 pub still_all : (t : State) (a : List ℕ) → IsStill t → AreSpaces a → go t a ≡ Some t
 still_all t [] h s = refl

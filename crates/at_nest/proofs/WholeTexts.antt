@@ -224,8 +224,7 @@ module _ {X : Type 0} (K : X → Content → Type 0) where
           → Answers K from (span_of bytes from to) (Err (stop_of (next_of new) (first_halt r last)))
       by_stop None (further f) kept stop all = stop_answers from (span_of bytes from to) new f last kept (subst (λ z. IsStop free from z f (halt_of last)) (append-nil (w.first ++ w.is_broken.more) ∙ sym all) stop)
       by_stop (Some i) (stopped f y) kept stop all = stop_answers from (span_of bytes from to) new f i kept.0 (subst (IsStop free from (span_of bytes from to) f) (sym kept.1) (subst (λ z. IsStop free from z f y) (append-nil (w.first ++ w.is_broken.more) ∙ sym all) stop))
-      by_stop None (stopped f y) kept stop all = absurd kept
-      by_stop (Some i) (further f) kept stop all = absurd kept
+      by_stop _ _ kept stop all = absurd kept
 
   -- ---- the bytes behind the base
 

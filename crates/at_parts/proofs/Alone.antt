@@ -13,7 +13,7 @@ use Rattle.at_text.specs.Texts.{is_space, utf8_fault, base_of}
 use Rattle.at_fixed.specs.declared.rounding.Coords.{Coords}
 use Rattle.at_lex.specs.Spans.{AreSpaces}
 use Rattle.at_lex.specs.Strings.{Character, character_text, string_text, units_of}
-use Rattle.at_nest.specs.Tree.{Tree, literal, number, text, array, object, Trees, no_trees, tree_and, Members, no_members, member_and, Spells, SpellsItems}
+use Rattle.at_nest.specs.Tree.{Tree, array, object, Trees, no_trees, tree_and, Members, no_members, member_and, Spells, SpellsItems}
 use Rattle.at_nest.specs.Twins.{is_among, twins_of, twins_of_items, twins_of_members}
 use Rattle.at_nest.specs.Syntax.{JsonText, IsFileOf}
 use Rattle.at_nest.proofs.Begun.{unlike}
@@ -163,11 +163,9 @@ twin_if false i = tt
 
 mutual
   are_twins : (t : Tree) → AreTwins (twins_of t)
-  are_twins (literal i l) = tt
-  are_twins (number i n) = tt
-  are_twins (text i cs) = tt
   are_twins (array i ts) = item_twins ts
   are_twins (object i ms) = member_twins [] ms
+  are_twins _ = tt
 
   item_twins : (ts : Trees) → AreTwins (twins_of_items ts)
   item_twins no_trees = tt

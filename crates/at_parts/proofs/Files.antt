@@ -16,7 +16,7 @@ use Rattle.at_text.specs.Faults.{first_fault, fault_at}
 use Rattle.at_text.specs.Texts.{is_space, base_of, byte_order_mark, utf8_fault}
 use Rattle.at_fixed.specs.declared.rounding.Coords.{Coords}
 use Rattle.at_lex.specs.Spans.{AreSpaces}
-use Rattle.at_nest.specs.Tree.{Tree, literal, number, text, array, object, Members, no_members, IsTextOf}
+use Rattle.at_nest.specs.Tree.{Tree, text, object, Members, no_members, IsTextOf}
 use Rattle.at_nest.specs.Syntax.{IsFileOf}
 use Rattle.at_nest.proofs.JsonMachine.{space_is}
 use Rattle.at_nest.proofs.OneTree.{tail, one_tree}
@@ -181,10 +181,7 @@ module _ (digits : ℕ) (how : Coords) where
 
 members_in : Tree → Members
 members_in (object i ms) = ms
-members_in (literal i l) = no_members
-members_in (number i n) = no_members
-members_in (text i cs) = no_members
-members_in (array i ts) = no_members
+members_in _ = no_members
 
 same_members_in : (i j : ℕ) (ms ns : Members) → object i ms ≡ object j ns → ms ≡ ns
 unfolding members_in

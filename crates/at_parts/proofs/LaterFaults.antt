@@ -4,7 +4,7 @@ use Rattle.std.proofs.Common.{◌≡◌, ℕ, ◌+◌, ◌<◌, ◌==◌, Bool, 
 use Rattle.std.specs.List.{AllByRecursion}
 use Rattle.at_text.specs.declared.faults.Fault.{Fault}
 use Rattle.at_text.specs.declared.faults.FaultKind.{FaultKind}
-use Rattle.at_text.specs.declared.faults.FaultKind.TheVariants.{NotUtf8, Syntax, Ended, Twin, Form, Short, Ring, Scale, Range}
+use Rattle.at_text.specs.declared.faults.FaultKind.TheVariants.{NotUtf8, Syntax, Ended}
 use Rattle.at_text.specs.Faults.{tier_of, number_of, comes_first, first_fault, first_of, fault_at}
 use Rattle.at_text.specs.Syntax.{IsSyntaxFault, stop_fault}
 
@@ -59,11 +59,4 @@ encoding_first at (Some g) h = ap (λ b. if b then Some (fault_at NotUtf8 at) el
 
   by_kind : (k : FaultKind) → (nat_lt 1 (tier_of k) || ((1 == tier_of k) && (nat_lt at g.at || ((at == g.at) && nat_le 1 (number_of k))))) ≡ true
   by_kind NotUtf8 = ap (λ b. b || ((at == g.at) && true)) below
-  by_kind Syntax = refl
-  by_kind Ended = refl
-  by_kind Twin = refl
-  by_kind Form = refl
-  by_kind Short = refl
-  by_kind Ring = refl
-  by_kind Scale = refl
-  by_kind Range = refl
+  by_kind _ = refl

@@ -29,10 +29,8 @@ use Rattle.at_parts.proofs.LineTiers.{IsLater, AreLater, all_faults_later}
 
 -- a byte order mark has no line feed
 base_cut : (front rest : List ℕ) → base_of (front ++ 0x0A ∷ rest) ≡ base_of front
-base_cut [] rest = refl
-base_cut (a ∷ []) rest = refl
-base_cut (a ∷ b ∷ []) rest = refl
 base_cut (a ∷ b ∷ c ∷ front) rest = refl
+base_cut _ rest = refl
 
 abbrev IsCut : ℕ → List ℕ → List ℕ → Type 0
 IsCut at front rest = pieces_from at (front ++ 0x0A ∷ rest) ≡ pieces_from at front ++ pieces_from (at + length front + 1) rest

@@ -14,7 +14,7 @@ use Rattle.at_query.specs.declared.query.queries.Verb.{Verb}
 use Rattle.at_query.specs.declared.query.queries.Verb.TheVariants as verbs
 use Rattle.at_query.specs.declared.query.queries.Query.{Query}
 use Rattle.at_query.specs.declared.query.queries.Test.{Test}
-use Rattle.at_query.specs.declared.query.queries.Test.TheVariants.{InBox, MeetsShape, Has}
+use Rattle.at_query.specs.declared.query.queries.Test.TheVariants.{InBox}
 use Rattle.at_query.specs.declared.features.Feature.{Feature}
 use Rattle.at_query.specs.declared.answer.answers.Answer.{Answer}
 use Rattle.at_query.specs.declared.answer.answers.Answer.TheVariants.{Offsets, Number, Spread, Hull}
@@ -26,8 +26,7 @@ use Rattle.at_parts.specs.Sums.{IsAnswerMoved, AnswersMove}
 -- no test looks at the offset
 test_moves : (from to : ℕ) (f : Feature) (t : Test) → TestHolds t (feature_moved from f) → TestHolds t (feature_moved to f)
 test_moves from to f (InBox e) h = h
-test_moves from to f (MeetsShape s) h = h
-test_moves from to f (Has name value) h = h
+test_moves from to f _ h = h
 
 tests_move : (from to : ℕ) (f : Feature) (ts : List Test) → AllByRecursion (λ t. TestHolds t (feature_moved from f)) ts → AllByRecursion (λ t. TestHolds t (feature_moved to f)) ts
 tests_move from to f [] h = tt

@@ -192,13 +192,8 @@ module _ (d : ℕ) where
 
   mutual
     relocated_is : (g : Geometry) → geometry_relocated on g ≡ geometry_moved d g
-    relocated_is (point p) = refl
-    relocated_is (line_string ps) = refl
-    relocated_is (polygon rings) = refl
-    relocated_is (multi_point ps) = refl
-    relocated_is (multi_line_string ls) = refl
-    relocated_is (multi_polygon areas) = refl
     relocated_is (collection gs) = ap collection (all_relocated_are gs)
+    relocated_is _ = refl
 
     all_relocated_are : (gs : Geometries) → geometries_relocated on gs ≡ geometries_moved d gs
     all_relocated_are no_geometries = refl

@@ -70,11 +70,9 @@ module _ (d : ℕ) where
 
   mutual
     pub twins_moved : (t : Tree) → twins_of (moved d t) ≡ map (fault_moved d) (twins_of t)
-    twins_moved (literal i l) = refl
-    twins_moved (number i n) = refl
-    twins_moved (text i cs) = refl
     twins_moved (array i ts) = item_twins_moved ts
     twins_moved (object i ms) = member_twins_moved [] ms
+    twins_moved _ = refl
 
     pub item_twins_moved : (ts : Trees) → twins_of_items (moved_items d ts) ≡ map (fault_moved d) (twins_of_items ts)
     item_twins_moved no_trees = refl
@@ -90,10 +88,7 @@ module _ (d : ℕ) where
 
   pub offset_moved : (t : Tree) → offset_of (moved d t) ≡ d + offset_of t
   offset_moved (literal i l) = refl
-  offset_moved (number i n) = refl
-  offset_moved (text i cs) = refl
-  offset_moved (array i ts) = refl
-  offset_moved (object i ms) = refl
+  offset_moved _ = refl
 
   pub items_of_moved : (ts : Trees) → items_of (moved_items d ts) ≡ map (moved d) (items_of ts)
   items_of_moved no_trees = refl
@@ -129,11 +124,8 @@ module _ (d : ℕ) where
   -- ---- coordinates
 
   array_items_moved : (t : Tree) → array_items (moved d t) ≡ option_map (map (moved d)) (array_items t)
-  array_items_moved (literal i l) = refl
-  array_items_moved (number i n) = refl
-  array_items_moved (text i cs) = refl
   array_items_moved (array i ts) = ap Some (items_of_moved ts)
-  array_items_moved (object i ms) = refl
+  array_items_moved _ = refl
 
   -- what f gives of each item of an array
   of_each_moved : {Y : Type 0} (f : Tree → Option Y) (n : Y → Y) → ((t : Tree) → f (moved d t) ≡ option_map n (f t)) → (t : Tree) → option_and_then (each f) (array_items (moved d t)) ≡ option_map (map n) (option_and_then (each f) (array_items t))
@@ -144,15 +136,11 @@ module _ (d : ℕ) where
 
   number_at_moved : (t : Tree) → number_at (moved d t) ≡ option_map pair_moved (number_at t)
   number_at_moved (literal i l) = refl
-  number_at_moved (number i n) = refl
-  number_at_moved (text i cs) = refl
-  number_at_moved (array i ts) = refl
-  number_at_moved (object i ms) = refl
+  number_at_moved _ = refl
 
   position_of_numbers_moved : (ps : List (Numeral × ℕ)) → position_of_numbers (map pair_moved ps) ≡ option_map (position_moved d) (position_of_numbers ps)
-  position_of_numbers_moved [] = refl
-  position_of_numbers_moved (x ∷ []) = refl
   position_of_numbers_moved (x ∷ y ∷ further) = refl
+  position_of_numbers_moved _ = refl
 
   position_of_moved : (t : Tree) → position_of (moved d t) ≡ option_map (position_moved d) (position_of t)
   position_of_moved t = ap (option_and_then position_of_numbers) (of_each_moved number_at pair_moved number_at_moved t)
@@ -194,9 +182,7 @@ module _ (d : ℕ) where
       ∙ into_geometry d (λ rings. wkt.polygon rings) (map (positions_moved d)) (λ rings. refl) (lists_of t)
   form_moved kinds.MultiPolygon t = ap (option_map (λ areas. wkt.multi_polygon areas)) (areas_of_moved t)
       ∙ into_geometry d (λ areas. wkt.multi_polygon areas) (map (map (positions_moved d))) (λ areas. refl) (areas_of t)
-  form_moved kinds.FeatureCollection t = refl
-  form_moved kinds.Feature t = refl
-  form_moved kinds.GeometryCollection t = refl
+  form_moved _ t = refl
 
   pub geometry_of_moved : (kind : Kind) (t : Tree) → geometry_of kind (moved d t) ≡ option_map (geometry_moved d) (geometry_of kind t)
   geometry_of_moved kind (literal i l) = form_moved kind (literal i l)
@@ -253,12 +239,9 @@ module _ (d digits : ℕ) (how : Coords) where
 
   mutual
     pub geometry_reading_moved : (t : Tree) → geometry_reading digits how (moved d t) ≡ read_moved d (geometry_reading digits how t)
-    geometry_reading_moved (literal i l) = refl
-    geometry_reading_moved (number i n) = refl
-    geometry_reading_moved (text i cs) = refl
-    geometry_reading_moved (array i ts) = refl
     geometry_reading_moved (object i ms) = ap (kind_reading digits how (d + i) (moved_members d ms) (collection_reading digits how (d + i) (moved_members d ms))) (kind_of_moved d ms)
         ∙ kind_moved i ms (collection_reading digits how i ms) (collection_reading digits how (d + i) (moved_members d ms)) (collection_moved i ms) (kind_of ms)
+    geometry_reading_moved _ = refl
 
     collection_moved : (at : ℕ) (ms : Members) → collection_reading digits how (d + at) (moved_members d ms) ≡ read_moved d (collection_reading digits how at ms)
     collection_moved at no_members = refl
@@ -266,11 +249,8 @@ module _ (d digits : ℕ) (how : Coords) where
         (geometries_reading digits how (d + at) (moved d t)) (collection_reading digits how (d + at) (moved_members d ms)) (geometries_moved at t) (collection_moved at ms)
 
     geometries_moved : (at : ℕ) (t : Tree) → geometries_reading digits how (d + at) (moved d t) ≡ read_moved d (geometries_reading digits how at t)
-    geometries_moved at (literal i l) = refl
-    geometries_moved at (number i n) = refl
-    geometries_moved at (text i cs) = refl
     geometries_moved at (array i ts) = items_reading_moved ts
-    geometries_moved at (object i ms) = refl
+    geometries_moved at _ = refl
 
     items_reading_moved : (ts : Trees) → items_reading digits how (moved_items d ts) ≡ read_moved d (items_reading digits how ts)
     items_reading_moved no_trees = refl
@@ -337,11 +317,8 @@ module _ (d digits : ℕ) (how : Coords) where
   if_feature_moved at ms (Some kinds.MultiPolygon) = refl
 
   pub item_reading_moved : (t : Tree) → item_reading digits how (moved d t) ≡ reading_moved d (item_reading digits how t)
-  item_reading_moved (literal i l) = refl
-  item_reading_moved (number i n) = refl
-  item_reading_moved (text i cs) = refl
-  item_reading_moved (array i ts) = refl
   item_reading_moved (object i ms) = ap (if_feature digits how (d + i) (moved_members d ms)) (kind_of_moved d ms) ∙ if_feature_moved i ms (kind_of ms)
+  item_reading_moved _ = refl
 
   -- of the items of an array
   pub item_readings_moved : (ts : Trees) → map (item_reading digits how) (items_of (moved_items d ts)) ≡ map (reading_moved d) (map (item_reading digits how) (items_of ts))
@@ -379,11 +356,8 @@ module _ (d digits : ℕ) (how : Coords) where
   root_of_kind_moved at ms (Some kinds.MultiPolygon) = lone_moved at ms
 
   pub root_reading_moved : (t : Tree) → root_reading digits how (moved d t) ≡ reading_moved d (root_reading digits how t)
-  root_reading_moved (literal i l) = refl
-  root_reading_moved (number i n) = refl
-  root_reading_moved (text i cs) = refl
-  root_reading_moved (array i ts) = refl
   root_reading_moved (object i ms) = ap (root_of_kind digits how (d + i) (moved_members d ms)) (kind_of_moved d ms) ∙ root_of_kind_moved i ms (kind_of ms)
+  root_reading_moved _ = refl
 
   pub features_of_moved : (t : Tree) → features_of digits how (moved d t) ≡ map (feature_moved d) (features_of digits how t)
   features_of_moved t = ap (λ (r : Features). r.features) (root_reading_moved t)

@@ -57,10 +57,8 @@ glued_empty p (r ∷ ps) at qs = ap (λ z. p ∷ z) (glued_empty r ps at qs)
 
 -- a separator is no byte of a byte order mark
 base_before : (a rest : List ℕ) → base_of (a ++ 0x1E ∷ rest) ≡ base_of a
-base_before [] rest = refl
-base_before (x ∷ []) rest = refl
-base_before (x ∷ y ∷ []) rest = refl
 base_before (x ∷ y ∷ z ∷ a) rest = refl
+base_before _ rest = refl
 
 module _ (a rest : List ℕ) where
   pieces_both : pieces_of (a ++ 0x1E ∷ rest) ≡ pieces_of a ++ map (piece_moved (length a)) (pieces_from 1 rest)

@@ -95,12 +95,10 @@ one_polygons : (f : Feature) → all_polygons (f ∷ []) ≡ f.shape.polygons
 one_polygons f = append-nil f.shape.polygons
 
 kept_of_one : (f : Feature) (verb : Verb) (xs : List Feature) (old : Part) → verb ≢ verbs.Hull → IsKeptOf verb xs old → IsKeptOf verb (f ∷ []) (added_by f old)
-kept_of_one f verbs.Select xs old n e = rw (e) refl
-kept_of_one f verbs.Count xs old n e = rw (e) refl
 kept_of_one f verbs.Area xs old n e = rw (e, one_polygons f) refl
 kept_of_one f verbs.Extent xs old n e = rw (e, one_positions f) refl
 kept_of_one f verbs.Hull xs old n e = absurd (n refl)
-kept_of_one f verbs.Join xs old n e = rw (e) refl
+kept_of_one f _ xs old n e = rw (e) refl
 
 pub added_part : (query : Query) (f : Feature) (kept : Accumulator) (old new : Part) → Holds query f → kept ≡ APart old → JoinsParts old (added_by f old) new
     → (fs : List Feature) → IsAccumulated query fs kept → IsAccumulated query (fs ++ f ∷ []) (APart new)
@@ -128,12 +126,8 @@ accumulated_no_hull query fs kept part e is =
     let (left, keeps, k) = subst P e is in
     of_verb query.verb left part k.0 k.1 where
       of_verb : (verb : Verb) (left : List Feature) (part : Part) → verb ≢ verbs.Hull → IsKeptOf verb left part → IsNoHull part
-      of_verb verbs.Select left part n e = rw (e) tt
-      of_verb verbs.Count left part n e = rw (e) tt
-      of_verb verbs.Area left part n e = rw (e) tt
-      of_verb verbs.Extent left part n e = rw (e) tt
       of_verb verbs.Hull left part n e = absurd (n refl)
-      of_verb verbs.Join left part n e = rw (e) tt
+      of_verb _ left part n e = rw (e) tt
 
 -- what is kept in place of a part for a verb other than join is no list of entries
 pub accumulated_no_shape : (query : Query) (fs : List Feature) (kept : Accumulator) (part : Part) → query.verb ≢ verbs.Join → kept ≡ APart part → IsAccumulated query fs kept → KeepsNoShape part
@@ -142,9 +136,6 @@ accumulated_no_shape query fs kept part m e is =
     let (left, keeps, k) = subst P e is in
     of_verb query.verb left part m k.0 k.1 where
       of_verb : (verb : Verb) (left : List Feature) (part : Part) → verb ≢ verbs.Join → verb ≢ verbs.Hull → IsKeptOf verb left part → KeepsNoShape part
-      of_verb verbs.Select left part m n e = rw (e) tt
-      of_verb verbs.Count left part m n e = rw (e) tt
-      of_verb verbs.Area left part m n e = rw (e) tt
-      of_verb verbs.Extent left part m n e = rw (e) tt
       of_verb verbs.Hull left part m n e = absurd (n refl)
       of_verb verbs.Join left part m n e = absurd (m refl)
+      of_verb _ left part m n e = rw (e) tt

@@ -136,22 +136,16 @@ proper_hull ps h (k, range) = (hull_of_hull ps h k, range)
 
 pub kept_is_proper : (verb : Verb) (xs : List Feature) (part : Part) → IsKeptOf verb xs part → IsProper part
 kept_is_proper verbs.Select xs part e = rw (e) tt
-kept_is_proper verbs.Count xs part e = rw (e) tt
-kept_is_proper verbs.Area xs part e = rw (e) tt
-kept_is_proper verbs.Extent xs part e = rw (e) tt
 kept_is_proper verbs.Hull xs part (h, e, k) = rw (e) (proper_hull (all_positions xs) h k)
-kept_is_proper verbs.Join xs part e = rw (e) tt
+kept_is_proper _ xs part e = rw (e) tt
 
 pub part_is_proper : (query : Query) (fs : List Feature) (part : Part) → IsPart query fs part → IsProper part
 part_is_proper query fs part (xs, h, e) = kept_is_proper query.verb xs part e
 
 alike : (verb : Verb) (xs ys : List Feature) (left right : Part) → IsKeptOf verb xs left → IsKeptOf verb ys right → AreAlike left right
 alike verbs.Select xs ys left right e f = rw (e, f) tt
-alike verbs.Count xs ys left right e f = rw (e, f) tt
-alike verbs.Area xs ys left right e f = rw (e, f) tt
-alike verbs.Extent xs ys left right e f = rw (e, f) tt
 alike verbs.Hull xs ys left right (h, e, k) (g, f, l) = rw (e, f) (proper_hull (all_positions xs) h k, proper_hull (all_positions ys) g l)
-alike verbs.Join xs ys left right e f = rw (e, f) tt
+alike _ xs ys left right e f = rw (e, f) tt
 
 -- the parts of any lists for one query
 pub parts_are_alike : (query : Query) (fs gs : List Feature) (left right : Part) → IsPart query fs left → IsPart query gs right → AreAlike left right

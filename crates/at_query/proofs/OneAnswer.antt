@@ -9,7 +9,7 @@ use Rattle.at_query.specs.declared.features.Feature.{Feature}
 use Rattle.at_query.specs.declared.answer.answers.Answer.{Answer}
 use Rattle.at_query.specs.declared.answer.answers.Answer.TheVariants as answers
 use Rattle.at_query.specs.declared.answer.parts.Part.{Part}
-use Rattle.at_query.specs.declared.answer.parts.Part.TheVariants.{Offsets, Count, Area, Spread, Entries, Hull}
+use Rattle.at_query.specs.declared.answer.parts.Part.TheVariants.{Entries, Hull}
 use Rattle.at_query.specs.Holding.{Holds}
 use Rattle.at_query.specs.Results.{Keeps, all_positions, IsAskedOf, IsResult, pairs_of, Joins, at_pair, IsJoined}
 use Rattle.at_query.specs.Parts.{IsKeptOf, IsPart, IsSaid}
@@ -23,20 +23,14 @@ one_kept P (x ∷ xs) ys zs (inr (n, h)) (inl (q, k)) = absurd (n q)
 one_kept P (x ∷ xs) ys zs (inr (n, h)) (inr (m, k)) = one_kept P xs ys zs h k
 
 asked_once : (verb : Verb) (fs : List Feature) (a b : Answer) → IsAskedOf verb fs a → IsAskedOf verb fs b → a ≡ b
-asked_once verbs.Select fs a b e f = e ∙ sym f
-asked_once verbs.Count fs a b e f = e ∙ sym f
-asked_once verbs.Area fs a b e f = e ∙ sym f
-asked_once verbs.Extent fs a b e f = e ∙ sym f
 asked_once verbs.Hull fs a b (h, e, k) (g, f, l) = e ∙ (ap answers.Hull (one_hull (all_positions fs) h g k l) ∙ sym f)
 asked_once verbs.Join fs a b e f = absurd e
+asked_once _ fs a b e f = e ∙ sym f
 
 kept_once : (verb : Verb) (fs : List Feature) (a b : Part) → IsKeptOf verb fs a → IsKeptOf verb fs b → a ≡ b
 kept_once verbs.Select fs a b e f = e ∙ sym f
-kept_once verbs.Count fs a b e f = e ∙ sym f
-kept_once verbs.Area fs a b e f = e ∙ sym f
-kept_once verbs.Extent fs a b e f = e ∙ sym f
 kept_once verbs.Hull fs a b (h, e, k) (g, f, l) = e ∙ (ap Hull (one_hull (all_positions fs) h g k.0 l.0) ∙ sym f)
-kept_once verbs.Join fs a b e f = e ∙ sym f
+kept_once _ fs a b e f = e ∙ sym f
 
 pub one_result : (query : Query) (fs : List Feature) (a b : Answer) → IsResult query fs a → IsResult query fs b → a ≡ b
 one_result query fs a b (ys, h, e) (zs, k, f) = asked_once query.verb zs a b (subst (λ l. IsAskedOf query.verb l a) (one_kept (Holds query) fs ys zs h k) e) f
@@ -49,9 +43,5 @@ one_join query fs gs a b (ys, h, e) (zs, k, f) = e ∙ (ap (λ ps. answers.Pairs
 
 -- and a part says one answer
 pub one_said : (part : Part) (a b : Answer) → IsSaid part a → IsSaid part b → a ≡ b
-one_said (Offsets x) a b e f = e ∙ sym f
-one_said (Count x) a b e f = e ∙ sym f
-one_said (Area x) a b e f = e ∙ sym f
-one_said (Spread x) a b e f = e ∙ sym f
 one_said (Entries x) a b e f = absurd e
-one_said (Hull x) a b e f = e ∙ sym f
+one_said _ a b e f = e ∙ sym f

@@ -242,11 +242,7 @@ verb_by (b ∷ w) = elim (b == 0x73) [
 verb_told : (v : Verb) (w : List ℕ) → verb_by (verb_text v ++ w) ≡ Some v
 unfolding verb_by
 verb_told verbs.Select w = refl
-verb_told verbs.Count w = refl
-verb_told verbs.Area w = refl
-verb_told verbs.Extent w = refl
-verb_told verbs.Hull w = refl
-verb_told verbs.Join w = refl
+verb_told _ w = refl
 
 query_same : (p q : SpelledQuery) → p.verb ≡ q.verb → p.tests ≡ q.tests → p ≡ q
 query_same p q e f = ap (λ z. record { verb = z; tests = p.tests }) e ∙ ap (λ z. record { verb = q.verb; tests = z }) f

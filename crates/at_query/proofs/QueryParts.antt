@@ -18,7 +18,7 @@ use Rattle.at_query.specs.declared.query.queries.Verb.{Verb}
 use Rattle.at_query.specs.declared.query.queries.Verb.TheVariants.{Select, Count, Area, Extent, Hull, Join}
 use Rattle.at_query.specs.declared.query.queries.Test.{Test}
 use Rattle.at_query.specs.declared.query.queries.Test.TheVariants.{MeetsShape}
-use Rattle.at_query.specs.Spelling.{Spelled, in_box, meets_box, meets, has, SpelledQuery, IsSpelled, verb_text}
+use Rattle.at_query.specs.Spelling.{Spelled, meets, SpelledQuery, IsSpelled, verb_text}
 use Rattle.at_query.specs.Queries.{ats_of, lesser, least_of, test_faults, test_of, spelled_fault, query_of, IsQueryOf, IsWrongAt, IsNoQuery}
 use Rattle.at_fixed.specs.NumberSoFar.{between}
 use Rattle.at_wkt.specs.Readers.{next}
@@ -44,42 +44,37 @@ abbrev One : Verb → Unit {0} → ℕ → List ℕ → Type 0
 One x = Word (verb_text x)
 
 verb_from : (x y : Verb) (at : ℕ) (v : List ℕ) → VerbPart y at v → ((u : Unit {0}) × (y ≡ x) × One x u at v) ⊎ ((b : ℕ) × (t : List ℕ) × (v ≡ b ∷ t) × (is_letter x b ≡ false))
-verb_from Select Select at v e = inl (tt, refl, e)
 verb_from Select Count at v e = inr (0x63, codes "ount", e, refl)
 verb_from Select Area at v e = inr (0x61, codes "rea", e, refl)
 verb_from Select Extent at v e = inr (0x65, codes "xtent", e, refl)
 verb_from Select Hull at v e = inr (0x68, codes "ull", e, refl)
 verb_from Select Join at v e = inr (0x6a, codes "oin", e, refl)
 verb_from Count Select at v e = inr (0x73, codes "elect", e, refl)
-verb_from Count Count at v e = inl (tt, refl, e)
 verb_from Count Area at v e = inr (0x61, codes "rea", e, refl)
 verb_from Count Extent at v e = inr (0x65, codes "xtent", e, refl)
 verb_from Count Hull at v e = inr (0x68, codes "ull", e, refl)
 verb_from Count Join at v e = inr (0x6a, codes "oin", e, refl)
 verb_from Area Select at v e = inr (0x73, codes "elect", e, refl)
 verb_from Area Count at v e = inr (0x63, codes "ount", e, refl)
-verb_from Area Area at v e = inl (tt, refl, e)
 verb_from Area Extent at v e = inr (0x65, codes "xtent", e, refl)
 verb_from Area Hull at v e = inr (0x68, codes "ull", e, refl)
 verb_from Area Join at v e = inr (0x6a, codes "oin", e, refl)
 verb_from Extent Select at v e = inr (0x73, codes "elect", e, refl)
 verb_from Extent Count at v e = inr (0x63, codes "ount", e, refl)
 verb_from Extent Area at v e = inr (0x61, codes "rea", e, refl)
-verb_from Extent Extent at v e = inl (tt, refl, e)
 verb_from Extent Hull at v e = inr (0x68, codes "ull", e, refl)
 verb_from Extent Join at v e = inr (0x6a, codes "oin", e, refl)
 verb_from Hull Select at v e = inr (0x73, codes "elect", e, refl)
 verb_from Hull Count at v e = inr (0x63, codes "ount", e, refl)
 verb_from Hull Area at v e = inr (0x61, codes "rea", e, refl)
 verb_from Hull Extent at v e = inr (0x65, codes "xtent", e, refl)
-verb_from Hull Hull at v e = inl (tt, refl, e)
 verb_from Hull Join at v e = inr (0x6a, codes "oin", e, refl)
 verb_from Join Select at v e = inr (0x73, codes "elect", e, refl)
 verb_from Join Count at v e = inr (0x63, codes "ount", e, refl)
 verb_from Join Area at v e = inr (0x61, codes "rea", e, refl)
 verb_from Join Extent at v e = inr (0x65, codes "xtent", e, refl)
 verb_from Join Hull at v e = inr (0x68, codes "ull", e, refl)
-verb_from Join Join at v e = inl (tt, refl, e)
+verb_from _ _ at v e = inl (tt, refl, e)
 
 when_verb : (x : Verb) → When VerbPart (One x) (λ u. x) (is_letter x)
 when_verb x = record { to = λ u at v h. h; from = λ y at v h. verb_from x y at v h }
@@ -224,10 +219,8 @@ none_there (Some f) h = absurd (cc)
 
 module _ (digits : ℕ) (how : Coords) where
   fault_is : (t : Spelled) → least_of (test_faults digits how t) ≡ (test_meaning digits how t).fault
-  fault_is (in_box b) = refl
-  fault_is (meets_box b) = refl
   fault_is (meets g) = sym (first_least (faults_of digits how g) (fourth_of digits how g)).0
-  fault_is (has name value) = refl
+  fault_is _ = refl
 
   faults_are : (ts : List Spelled) → least_of (flat_map (test_faults digits how) ts) ≡ fault_of (map (test_meaning digits how) ts)
   faults_are [] = refl
@@ -236,10 +229,8 @@ module _ (digits : ℕ) (how : Coords) where
       ∙ ap (lesser (test_meaning digits how t).fault) (faults_are ts))
 
   test_is : (t : Spelled) → (test_meaning digits how t).fault ≡ None → (test_meaning digits how t).test ≡ test_of digits how t
-  test_is (in_box b) h = refl
-  test_is (meets_box b) h = refl
   test_is (meets g) h = ap (λ z. MeetsShape (if is_none z then shape_of digits how g else empty_shape)) (none_there (first_of (faults_of digits how g)) h)
-  test_is (has name value) h = refl
+  test_is _ h = refl
 
   tests_are : (ts : List Spelled) → fault_of (map (test_meaning digits how) ts) ≡ None → tests_of (map (test_meaning digits how) ts) ≡ map (test_of digits how) ts
   tests_are [] h = refl

@@ -24,7 +24,7 @@ use Rattle.at_query.specs.declared.query.queries.Query.{Query}
 use Rattle.at_query.specs.declared.query.reading.QueryEnd.{QueryEnd}
 use Rattle.at_query.specs.declared.query.reading.QueryEnd.TheVariants.{Fault as FaultAt, Memory as NoMemory}
 use Rattle.at_query.specs.declared.query.reading.QueryRead.{QueryRead}
-use Rattle.at_query.specs.Spelling.{Spelled, in_box, meets_box, meets, has, SpelledBox}
+use Rattle.at_query.specs.Spelling.{Spelled, meets_box, meets, SpelledBox}
 use Rattle.at_query.specs.Ranges.{IsTestInRange, IsQueryInRange}
 use Rattle.at_query.specs.Queries.{box_shape, ring_of, extent_of_box, test_of, IsQueryOf, HasQueryFault, IfFaultAt}
 use Rattle.at_query.specs.Readers.{QueryCovers}
@@ -135,10 +135,9 @@ module _ (digits : ℕ) (how : Coords) where
       (All-cons InPolygon (record { rings = ring_of (extent_of_box digits how b) ∷ [] }) [] (All-cons (All IsInRange) (ring_of (extent_of_box digits how b)) [] ring (All-nil (All IsInRange))) (All-nil InPolygon))
 
   test_in : (t : Spelled) → IsTestInRange (test_of digits how t)
-  test_in (in_box b) = tt
   test_in (meets_box b) = box_in b
   test_in (meets g) = shape_in g
-  test_in (has name value) = tt
+  test_in _ = tt
 
   pub query_in_range : (text : List ℕ) (query : Query) → IsQueryOf digits how text query → IsQueryInRange query
   query_in_range text query h = subst IsQueryInRange (sym h.query_is) (all_each IsTestInRange (test_of digits how) test_in h.line.tests)

@@ -5,7 +5,7 @@ use Rattle.std.proofs.lemmas.List.{take_rest}
 use Rattle.at_text.specs.Prefix.{LongestViable, TakesLongest}
 use Rattle.at_text.proofs.Machine.{run, rest-run}
 use Rattle.at_lex.specs.Strings.{units_of, AreUnitsOf, JsonString}
-use Rattle.at_lex.specs.StringStates.{State, opening, inside, escaped, hex4, hex3, hex2, hex1, closed, step}
+use Rattle.at_lex.specs.StringStates.{State, opening, closed, step}
 use Rattle.at_lex.proofs.JsonString.{Rest, machine, opening-JsonString}
 use Rattle.at_lex.proofs.Stretches.{units_by_step}
 use Rattle.at_wkt.proofs.Leads.{part-more, append_cases}
@@ -65,14 +65,9 @@ runs s (b ∷ v) r =
 
 over_there : (t : State) (v : List ℕ) → Rest t [] → Rest t v → v ≡ []
 over_there opening v h k = absurd h
-over_there inside v h k = absurd h
-over_there escaped v h k = absurd h
-over_there hex4 v h k = absurd h
-over_there hex3 v h k = absurd h
-over_there hex2 v h k = absurd h
-over_there hex1 v h k = absurd h
 over_there closed [] h k = refl
 over_there closed (b ∷ v) h k = absurd k
+over_there _ v h k = absurd h
 
 pub one_string : (v x : List ℕ) → JsonString v → JsonString (v ++ x) → x ≡ []
 one_string v x h k =

@@ -109,9 +109,8 @@ module _ (digits : ℕ) (how : Coords) where
 
   in_from : (m : TestMeaning) (at : ℕ) (v : List ℕ) (t : Spelled) → m ≡ test_meaning digits how t → SpellsTest t at v → ((n : TestMeaning) × (m ≡ n) × InTest digits how n at v) ⊎ ((b : ℕ) × (t : List ℕ) × (v ≡ b ∷ t) × (is_i b ≡ false))
   in_from m at v (in_box b) em (v1, v2, ev, word, s) = inl (m, refl, (box_meaning digits how b, em, (v1, v2, ev, word, (b, refl, s))))
-  in_from m at v (meets_box b) em (v1, v2, ev, word, s) = inr (0x6D, codes "eets " ++ v2, ev ∙ ap (λ z. z ++ v2) word, refl)
-  in_from m at v (meets g) em (v1, v2, ev, word, s) = inr (0x6D, codes "eets " ++ v2, ev ∙ ap (λ z. z ++ v2) word, refl)
   in_from m at v (has name value) em (v1, v2, ev, word, s) = inr (0x68, codes "as " ++ v2, ev ∙ ap (λ z. z ++ v2) word, refl)
+  in_from m at v _ em (v1, v2, ev, word, s) = inr (0x6D, codes "eets " ++ v2, ev ∙ ap (λ z. z ++ v2) word, refl)
 
   meets_from : (m : TestMeaning) (at : ℕ) (v : List ℕ) (t : Spelled) → m ≡ test_meaning digits how t → SpellsTest t at v → ((n : TestMeaning) × (m ≡ n) × MeetsTest digits how n at v) ⊎ ((b : ℕ) × (t : List ℕ) × (v ≡ b ∷ t) × (is_m b ≡ false))
   meets_from m at v (in_box b) em (v1, v2, ev, word, s) = inr (0x69, codes "n " ++ v2, ev ∙ ap (λ z. z ++ v2) word, refl)
@@ -121,10 +120,9 @@ module _ (digits : ℕ) (how : Coords) where
 
   has_from : (m : TestMeaning) (at : ℕ) (v : List ℕ) (t : Spelled) → m ≡ test_meaning digits how t → SpellsTest t at v → ((n : TestMeaning) × (m ≡ n) × HasTest n at v) ⊎ ((b : ℕ) × (t : List ℕ) × (v ≡ b ∷ t) × (is_h b ≡ false))
   has_from m at v (in_box b) em (v1, v2, ev, word, s) = inr (0x69, codes "n " ++ v2, ev ∙ ap (λ z. z ++ v2) word, refl)
-  has_from m at v (meets_box b) em (v1, v2, ev, word, s) = inr (0x6D, codes "eets " ++ v2, ev ∙ ap (λ z. z ++ v2) word, refl)
-  has_from m at v (meets g) em (v1, v2, ev, word, s) = inr (0x6D, codes "eets " ++ v2, ev ∙ ap (λ z. z ++ v2) word, refl)
   has_from m at v (has name value) em (v1, v2, ev, word, (v3, v4, e2, s, (v5, v6, e3, equals, t))) =
       inl (m, refl, ((_, _), em, (v1, v2, ev, word, (v3, v4, e2, (name, refl, s), (v5, v6, e3, equals, (value, refl, t))))))
+  has_from m at v _ em (v1, v2, ev, word, s) = inr (0x6D, codes "eets " ++ v2, ev ∙ ap (λ z. z ++ v2) word, refl)
 
   target_to : (m : TestMeaning) (at : ℕ) (v v1 v2 : List ℕ) → v ≡ v1 ++ v2 → v1 ≡ codes "meets " → Target digits how m (at + length v1) v2 → OneTest digits how m at v
   target_to m at v v1 v2 ev word (inl (bm, em, (b, eb, s))) = (meets_box b, em ∙ ap met_box eb, (v1, v2, ev, word, s))
@@ -151,9 +149,8 @@ module _ (digits : ℕ) (how : Coords) where
 
   begins_by : (m : TestMeaning) (at : ℕ) (v : List ℕ) (t : Spelled) → SpellsTest t at v → (b : ℕ) × (u : List ℕ) × (v ≡ b ∷ u) × (is_some b ≡ true)
   begins_by m at v (in_box b) (v1, v2, ev, word, s) = (0x69, codes "n " ++ v2, ev ∙ ap (λ z. z ++ v2) word, refl)
-  begins_by m at v (meets_box b) (v1, v2, ev, word, s) = (0x6D, codes "eets " ++ v2, ev ∙ ap (λ z. z ++ v2) word, refl)
-  begins_by m at v (meets g) (v1, v2, ev, word, s) = (0x6D, codes "eets " ++ v2, ev ∙ ap (λ z. z ++ v2) word, refl)
   begins_by m at v (has name value) (v1, v2, ev, word, s) = (0x68, codes "as " ++ v2, ev ∙ ap (λ z. z ++ v2) word, refl)
+  begins_by m at v _ (v1, v2, ev, word, s) = (0x6D, codes "eets " ++ v2, ev ∙ ap (λ z. z ++ v2) word, refl)
 
   one_begins : Begins is_some (OneTest digits how)
   one_begins m at v (t, em, s) = begins_by m at v t s

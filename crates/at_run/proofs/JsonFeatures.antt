@@ -92,10 +92,7 @@ module _ (digits : ℕ) (how : Coords) where
 
     geometries_proper : (at : ℕ) (t : Tree) → IsProper (geometries_reading digits how at t)
     geometries_proper at (array i ts) = items_proper ts
-    geometries_proper at (object i ms) = no_geometry at
-    geometries_proper at (text i cs) = no_geometry at
-    geometries_proper at (number i n) = no_geometry at
-    geometries_proper at (literal i l) = no_geometry at
+    geometries_proper at _ = no_geometry at
 
     items_proper : (ts : Trees) → IsProper (items_reading digits how ts)
     items_proper no_trees = (nothing_in_range, λ e. tt)
@@ -234,10 +231,7 @@ IsSpelled low high (Some t) = (at : ℕ) × (w : List ℕ) × (low ≤ at) × (a
 
 spelled_at : (t : Tree) (at : ℕ) (w : List ℕ) → Spells at w t → offset_of t ≡ at
 spelled_at (literal i l) at w h = h.0
-spelled_at (number i n) at w h = h.0
-spelled_at (text i cs) at w h = h.0
-spelled_at (array i ts) at w h = h.0
-spelled_at (object i ms) at w h = h.0
+spelled_at _ at w h = h.0
 
 either_spelled : (low high : ℕ) (b : Bool) (o p : Option Tree) → IsSpelled low high o → IsSpelled low high p → IsSpelled low high (if b then o else p)
 either_spelled low high true o p h k = h
@@ -355,10 +349,7 @@ module _ (digits : ℕ) (how : Coords) where
       let (o, (v, same, h)) = object_parts ms i at w k in
       let inside = between_brackets w v 0x7B 0x7D at high same ge in
       root_climbs i low high ms (omega (arith, le, o)) (omega (arith, ge, o)) (kind_of ms) (member_spelled (codes "features") low high ms (at + 1) v (omega (arith, le)) inside h) e
-  tree_climbs (literal i l) at low high w le ge h e = tt
-  tree_climbs (number i n) at low high w le ge h e = tt
-  tree_climbs (text i cs) at low high w le ge h e = tt
-  tree_climbs (array i ts) at low high w le ge h e = tt
+  tree_climbs _ at low high w le ge h e = tt
 
   -- ---- a text
 

@@ -31,11 +31,10 @@ use Rattle.at_run.proofs.FileSizes.{size, positions_size, both_size, shape_size}
 
 abbrev mutual
   weight : Tree → ℕ
-  weight (literal i l) = 0
   weight (number i n) = 1
-  weight (text i cs) = 0
   weight (array i ts) = weight_items ts + 2
   weight (object i ms) = weight_members ms + 2
+  weight _ = 0
 
   weight_items : Trees → ℕ
   weight_items no_trees = 0
@@ -139,36 +138,26 @@ four_times c (x ∷ xs) = let e = four_times c xs in omega (arith, e)
 -- an array of items, each of which has so many positions
 array_size : {Y : Type 0} (f : Tree → Option Y) (c : Y → ℕ) → ((t : Tree) (y : Y) → f t ≡ Some y → 4 * c y ≤ weight t)
     → (t : Tree) (ys : List Y) → option_and_then (each f) (array_items t) ≡ Some ys → 4 * total c ys + 2 ≤ weight t
-array_size f c h (literal i l) ys e = absurd (none-some ys e)
-array_size f c h (number i n) ys e = absurd (none-some ys e)
-array_size f c h (text i cs) ys e = absurd (none-some ys e)
-array_size f c h (object i ms) ys e = absurd (none-some ys e)
 array_size f c h (array i ts) ys e =
     let l = each_size f (λ y. 4 * c y) h (items_of ts) ys e in
     let m = four_times c ys in let w = items_weight ts in
     omega (arith, l, m, w)
+array_size f c h _ ys e = absurd (none-some ys e)
 
 number_weight : (t : Tree) (n : Numeral × ℕ) → number_at t ≡ Some n → 1 ≤ weight t
-number_weight (literal i l) n e = absurd (none-some n e)
 number_weight (number i m) n e = omega arith
-number_weight (text i cs) n e = absurd (none-some n e)
-number_weight (array i ts) n e = absurd (none-some n e)
-number_weight (object i ms) n e = absurd (none-some n e)
+number_weight _ n e = absurd (none-some n e)
 
 two_numbers : (ns : List (Numeral × ℕ)) (p : Position) → position_of_numbers ns ≡ Some p → 2 ≤ length ns
-two_numbers [] p e = absurd (none-some p e)
-two_numbers (x ∷ []) p e = absurd (none-some p e)
 two_numbers (x ∷ y ∷ further) p e = omega arith
+two_numbers _ p e = absurd (none-some p e)
 
 numbers_weight : (t : Tree) (ns : List (Numeral × ℕ)) → option_and_then (each number_at) (array_items t) ≡ Some ns → length ns + 2 ≤ weight t
-numbers_weight (literal i l) ns e = absurd (none-some ns e)
-numbers_weight (number i n) ns e = absurd (none-some ns e)
-numbers_weight (text i cs) ns e = absurd (none-some ns e)
-numbers_weight (object i ms) ns e = absurd (none-some ns e)
 numbers_weight (array i ts) ns e =
     let l = each_size number_at (λ n. 1) number_weight (items_of ts) ns e in
     let o = each_one ns in let w = items_weight ts in
     omega (arith, l, o, w)
+numbers_weight _ ns e = absurd (none-some ns e)
 
 position_weight : (t : Tree) (p : Position) → position_of t ≡ Some p → 4 * 1 ≤ weight t
 position_weight t p e =
@@ -235,9 +224,7 @@ form_weight kinds.MultiPolygon t g e =
     let (areas, read, same) = mapped_some (λ areas. wkt.multi_polygon areas) (areas_of t) g e in
     let P : wkt.Geometry → Type 0 = λ z. 4 * weight_of z ≤ weight t in
     subst P same (areas_weight t areas read)
-form_weight kinds.GeometryCollection t g e = absurd (none-some g e)
-form_weight kinds.Feature t g e = absurd (none-some g e)
-form_weight kinds.FeatureCollection t g e = absurd (none-some g e)
+form_weight _ t g e = absurd (none-some g e)
 
 geometry_weight : (kind : Kind) (t : Tree) (g : wkt.Geometry) → geometry_of kind t ≡ Some g → 4 * weight_of g ≤ weight t
 geometry_weight kind (array i no_trees) g e = let P : wkt.Geometry → Type 0 = λ z. 4 * weight_of z ≤ 2 in subst P (same_Some (wkt.collection wkt.no_geometries) g e) (omega arith)

@@ -13,7 +13,7 @@ use Rattle.at_geom.specs.declared.shapes.Shape.{Shape}
 use Rattle.at_geom.specs.Shapes.{positions, extent_of}
 use Rattle.at_query.specs.declared.query.queries.Query.{Query}
 use Rattle.at_query.specs.declared.query.queries.Test.{Test}
-use Rattle.at_query.specs.declared.query.queries.Test.TheVariants.{InBox, MeetsShape, Has}
+use Rattle.at_query.specs.declared.query.queries.Test.TheVariants.{Has}
 use Rattle.at_query.specs.declared.query.queries.Verb.{Verb}
 use Rattle.at_query.specs.declared.query.queries.Verb.TheVariants as verbs
 use Rattle.at_query.specs.declared.features.Feature.{Feature}
@@ -50,11 +50,10 @@ module _ (query : Query) (at : ℕ) (shape : Shape) (cs : List Character) where
 
   -- a test that doesn't ask for labels holds of both or of neither
   one_test : (t : Test) → asks_label t ≡ false → (TestHolds t full → TestHolds t bare) × (TestHolds t bare → TestHolds t full)
-  one_test (InBox e) h = (λ k. k, λ k. k)
-  one_test (MeetsShape s) h = (λ k. k, λ k. k)
   one_test (Has name value) h =
       let no : bytes_eq label_name name ≡ false = other_name name (bytes_eq label_name name) refl h in
       (λ k. absurd (true≢false (sym (ap (λ b. (b && bytes_eq (units_of cs) value) || false) (sym no) ∙ k))), λ k. absurd (true≢false (sym k)))
+  one_test _ h = (λ k. k, λ k. k)
 
   all_tests : (ts : List Test) → list_any asks_label ts ≡ false
       → (AllByRecursion (λ t. TestHolds t full) ts → AllByRecursion (λ t. TestHolds t bare) ts) × (AllByRecursion (λ t. TestHolds t bare) ts → AllByRecursion (λ t. TestHolds t full) ts)

@@ -15,7 +15,7 @@ use Rattle.at_geom.specs.Closed.{last_of, IsClosed}
 use Rattle.at_geom.specs.Shapes.{ring_fault, IsShapeInRange}
 use Rattle.at_geom.proofs.ClosedRings.{same_position}
 use Rattle.at_wkt.specs.Positions.{Position, Positions, position_faults, is_faultless, are_same, is_closed, items_faults, faults_of_ring, pos_of, path_of}
-use Rattle.at_wkt.specs.Geometry.{Geometry, point, line_string, polygon, multi_point, multi_line_string, multi_polygon, collection, Geometries, no_geometries, geometry_and}
+use Rattle.at_wkt.specs.Geometry.{Geometry, polygon, multi_polygon, collection, Geometries, no_geometries, geometry_and}
 use Rattle.at_wkt.specs.Meaning.{polygons_of, faults_of_area, shape_of, shape_of_all, faults_of, faults_of_all}
 use Rattle.at_wkt.specs.Lines.{FileLine, pieces_from, is_line_feed, line_of, is_blank_text, lines_of}
 use Rattle.at_query.specs.declared.features.Feature.{Feature}
@@ -105,13 +105,10 @@ module _ (digits : ℕ) (how : Coords) where
 
   mutual
     pub geometry_closed : (g : Geometry) → faults_of digits how g ≡ [] → AreRingsClosed (shape_of digits how g)
-    geometry_closed (point p) e = tt
-    geometry_closed (line_string ps) e = tt
     geometry_closed (polygon rings) e = area_closed rings e
-    geometry_closed (multi_point ps) e = tt
-    geometry_closed (multi_line_string ls) e = tt
     geometry_closed (multi_polygon areas) e = areas_closed areas e
     geometry_closed (collection gs) e = geometries_closed gs e
+    geometry_closed _ e = tt
 
     geometries_closed : (gs : Geometries) → faults_of_all digits how gs ≡ [] → AreRingsClosed (shape_of_all digits how gs)
     geometries_closed no_geometries e = tt

@@ -16,7 +16,7 @@ use Rattle.at_query.specs.declared.query.queries.Query.{Query}
 use Rattle.at_query.specs.declared.features.Feature.{Feature}
 use Rattle.at_query.specs.declared.answer.parts.Entry.{Entry}
 use Rattle.at_query.specs.declared.answer.parts.Part.{Part}
-use Rattle.at_query.specs.declared.answer.parts.Part.TheVariants.{Offsets, Count, Area, Spread, Entries, Hull}
+use Rattle.at_query.specs.declared.answer.parts.Part.TheVariants.{Count, Area, Entries, Hull}
 use Rattle.at_query.specs.Parts.{IsKeptOf, IsProperFeature, AreProperFeatures}
 use Rattle.at_query.proofs.ProperEntries.{entries_are_proper}
 use Rattle.at_geojson.specs.Roles.{features_of}
@@ -114,14 +114,10 @@ module _ (digits : ℕ) (how : Coords) where
   joins_entries verbs.Join kept es e = refl
 
   pub part_proper : (query : Query) (bytes : List ℕ) (part : Part) → IsSeqPart digits how query bytes part → HasProperEntries part
-  part_proper query bytes (Offsets a) h = tt
-  part_proper query bytes (Count n) h = tt
-  part_proper query bytes (Area z) h = tt
-  part_proper query bytes (Spread e) h = tt
-  part_proper query bytes (Hull a) h = tt
   part_proper query bytes (Entries es) h =
       let (kept, keeps, e) = h.is_part in
       entries_are_proper query h.features es (joins_entries query.verb kept es e) h.is_part (seq_features_proper bytes h.features h.faultless h.are_features)
+  part_proper query bytes _ h = tt
 
 pub proper_end : (asked : Asked) (bytes : List ℕ) (end : Result Part SeqEnd) → MatchResult end (IsSeqPart asked.digits asked.how asked.query bytes) (λ e. IfFound e (λ fault. HasSeqFault asked.digits asked.how bytes (Some fault))) → IfOk end HasProperEntries
 proper_end asked bytes (Ok part) h = part_proper asked.digits asked.how asked.query bytes part h

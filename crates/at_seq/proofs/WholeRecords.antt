@@ -13,7 +13,7 @@ use Rattle.at_text.specs.Parts.{Nothing, Exactly, Many, ◌▸◌, At}
 use Rattle.at_text.specs.Texts.{is_space, is_digit, is_one_of}
 use Rattle.at_fixed.specs.Numerals.{Numeral, Exponent, IsExponent, IsAtMostOneOf, AreDigits, AreSomeDigits, IsJsonWhole, IsJsonNumeral, fraction_text, exponent_text, numeral_text}
 use Rattle.at_lex.specs.Strings.{Character, plain, escape, unit, escapes, is_plain, IsCharacter, AreCharacters, character_text, string_text, SpellsString}
-use Rattle.at_lex.specs.Runs.{Literal, the_null, the_true, the_false, literal_text}
+use Rattle.at_lex.specs.Runs.{Literal, the_false, literal_text}
 use Rattle.at_lex.specs.Spans.{AreSpaces}
 use Rattle.at_nest.specs.Tree.{Tree, literal, number, text, array, object, Trees, no_trees, tree_and, Members, no_members, member_and, Padded, WithName, Spells, SpellsItems, SpellsFurtherItems, SpellsMembers, SpellsFurtherMembers, IsTextOf}
 use Rattle.at_nest.specs.Syntax.{JsonText}
@@ -64,9 +64,8 @@ spaces w h = many is_space (refl, refl) 0 w h
 -- ---- literals and numbers
 
 literal_unparted : (l : Literal) → IsUnparted (literal_text l)
-literal_unparted the_null = (refl, (refl, (refl, (refl, tt))))
-literal_unparted the_true = (refl, (refl, (refl, (refl, tt))))
 literal_unparted the_false = (refl, (refl, (refl, (refl, (refl, tt)))))
+literal_unparted _ = (refl, (refl, (refl, (refl, tt))))
 
 at_most_one : (bytes w : List ℕ) → Fails (is_one_of bytes) → IsAtMostOneOf bytes w → IsUnparted w
 at_most_one bytes [] fails h = tt

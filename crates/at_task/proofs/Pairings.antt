@@ -10,7 +10,7 @@ use Rattle.at_run.specs.Readers.{Asks}
 use Rattle.at_task.specs.declared.ends.PairEnd.{PairEnd}
 use Rattle.at_task.specs.declared.ends.PairEnd.TheVariants.{First, Second, FirstTooLarge, SecondTooLarge, Memory}
 use Rattle.at_task.specs.declared.kept.Kept.{Kept}
-use Rattle.at_task.specs.declared.kept.Kept.TheVariants.{Nothing, Found, Failed}
+use Rattle.at_task.specs.declared.kept.Kept.TheVariants.{Nothing}
 use Rattle.at_task.specs.declared.join_feeds.Both.{Both}
 use Rattle.at_task.specs.FeedEnds.{most_bytes, IsBytesPart}
 use Rattle.at_task.specs.Keeping.{keeps_any, IsKept}
@@ -20,8 +20,7 @@ use Rattle.at_task.specs.PairEnds.{IsPaired, ArePairsOf, AreEntries, IsPairEnd, 
 -- bytes of which something is kept are few enough
 few_bytes : (asks : Asks) (bytes : List ℕ) (kept : Kept) → keeps_any kept ≡ true → IsKept asks bytes kept → length bytes ≤ most_bytes
 few_bytes asks bytes Nothing e h = absurd (cc)
-few_bytes asks bytes (Found entries) e h = h.0
-few_bytes asks bytes (Failed fault) e h = h.0
+few_bytes asks bytes _ e h = h.0
 
 module _ (asks_a asks_b : Asks) (a b : List ℕ) (first second : Kept) where
   pub paired_said : (out : Result Both PairEnd) → IsMade first second out → IsKept asks_a a first → IsKept asks_b b second → keeps_any second ≡ true → IsPaired asks_a asks_b a b out

@@ -5,7 +5,7 @@ use Rattle.at_query.specs.declared.answer.parts.Part.{Part}
 use Rattle.at_run.specs.Readers.{Asks}
 use Rattle.at_run.proofs.OneAnswer.{the_file_fault_in}
 use Rattle.at_task.specs.declared.ends.FeedEnd.{FeedEnd}
-use Rattle.at_task.specs.declared.ends.FeedEnd.TheVariants.{Found, TooLarge, Memory}
+use Rattle.at_task.specs.declared.ends.FeedEnd.TheVariants.{Found}
 use Rattle.at_task.specs.FeedEnds.{IsFed, IsFeedEnd, IsBytesPart, IsOnlyEnd}
 
 module _ (asks : Asks) (bytes : List ℕ) where
@@ -17,5 +17,4 @@ module _ (asks : Asks) (bytes : List ℕ) where
   -- a fault that is found is the only first one
   pub only_end : (end : FeedEnd) → IsFeedEnd asks bytes end → IsOnlyEnd asks bytes (Err end)
   only_end (Found fault) h = the_file_fault_in asks.form asks.digits asks.how bytes (Some fault) h.1
-  only_end TooLarge h = tt
-  only_end Memory h = tt
+  only_end _ h = tt

@@ -20,14 +20,12 @@ glued_behind : (p : Piece) (ps qs : List Piece) (r : Piece) (rs : List Piece) �
 glued_behind p ps qs r rs e = let P : List Piece → Type 0 = λ z. glued (p ∷ z) qs ≡ p ∷ glued z qs in subst P (sym e) refl
 
 widened_glued : (at b i : ℕ) (t : List ℕ) (ps qs : List Piece) → widened at b (glued (record { at = i; text = t } ∷ ps) qs) ≡ glued (record { at = at; text = b ∷ t } ∷ ps) qs
-widened_glued at b i t [] [] = refl
 widened_glued at b i t [] (q ∷ qs) = refl
-widened_glued at b i t (r ∷ ps) qs = refl
+widened_glued at b i t _ _ = refl
 
 pub glued_end : (ps : List Piece) (l q : Piece) (qs : List Piece) → glued (ps ++ (l ∷ [])) (q ∷ qs) ≡ ps ++ (record { at = l.at; text = l.text ++ q.text } ∷ qs)
-glued_end [] l q qs = refl
-glued_end (p ∷ []) l q qs = refl
 glued_end (p ∷ r ∷ ps) l q qs = ap (λ z. p ∷ z) (glued_end (r ∷ ps) l q qs)
+glued_end _ l q qs = refl
 
 module _ (separates : ℕ → Bool) where
   -- ---- one more byte in front

@@ -25,12 +25,7 @@ pub kind_first : (k : Kind) (v : List ℕ) → str_to_ascii_uppercase v ≡ word
 kind_first k [] e = absurd (no_word k e) where
   no_word : (k : Kind) → [] ≡ word_of k → ⊥
   no_word Point e = omega (arith, ap length e)
-  no_word LineString e = omega (arith, ap length e)
-  no_word Polygon e = omega (arith, ap length e)
-  no_word MultiPoint e = omega (arith, ap length e)
-  no_word MultiLineString e = omega (arith, ap length e)
-  no_word MultiPolygon e = omega (arith, ap length e)
-  no_word GeometryCollection e = omega (arith, ap length e)
+  no_word _ e = omega (arith, ap length e)
 kind_first k (b ∷ t) e = (b, t, refl, letter k e) where
   clear : (c : ℕ) → 0x41 ≤ c → to_ascii_uppercase b ≡ c → no_blank b ≡ true
   clear c low h = grind (arith, low, h)
@@ -39,10 +34,8 @@ kind_first k (b ∷ t) e = (b, t, refl, letter k e) where
   letter Point e = let h : to_ascii_uppercase b ≡ 0x50 = cc in clear 0x50 (lit≤ tt) h
   letter LineString e = let h : to_ascii_uppercase b ≡ 0x4C = cc in clear 0x4C (lit≤ tt) h
   letter Polygon e = let h : to_ascii_uppercase b ≡ 0x50 = cc in clear 0x50 (lit≤ tt) h
-  letter MultiPoint e = let h : to_ascii_uppercase b ≡ 0x4D = cc in clear 0x4D (lit≤ tt) h
-  letter MultiLineString e = let h : to_ascii_uppercase b ≡ 0x4D = cc in clear 0x4D (lit≤ tt) h
-  letter MultiPolygon e = let h : to_ascii_uppercase b ≡ 0x4D = cc in clear 0x4D (lit≤ tt) h
   letter GeometryCollection e = let h : to_ascii_uppercase b ≡ 0x47 = cc in clear 0x47 (lit≤ tt) h
+  letter _ e = let h : to_ascii_uppercase b ≡ 0x4D = cc in clear 0x4D (lit≤ tt) h
 
 module _ (digits : ℕ) (how : Coords) where
   pub geometry_first : (g : Geometry) (at : ℕ) (v : List ℕ) → SpellsGeometry at v g → (b : ℕ) × (t : List ℕ) × (v ≡ b ∷ t) × (no_blank b ≡ true)
@@ -126,11 +119,8 @@ module _ (digits : ℕ) (how : Coords) where
   body_some : (kind : Kind) (d at : ℕ) → (g : Geometry) × Body kind d g at (codes "EMPTY")
   body_some Point d at = (point None, (None, refl, refl))
   body_some LineString d at = (_, (None, refl, refl))
-  body_some Polygon d at = (_, ([], refl, refl))
-  body_some MultiPoint d at = (_, ([], refl, refl))
-  body_some MultiLineString d at = (_, ([], refl, refl))
-  body_some MultiPolygon d at = (_, ([], refl, refl))
   body_some GeometryCollection d at = (_, (no_geometries, refl, refl))
+  body_some _ d at = (_, ([], refl, refl))
 
   body_inhabited : (kind : Kind) (k : ℕ) → Inhabited (BodyAfter digits how kind k)
   body_inhabited kind k d at h =

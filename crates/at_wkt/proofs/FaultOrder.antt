@@ -89,10 +89,9 @@ none_right None = refl
 none_right (Some a) = refl
 
 pub first_fault-assoc : (a b c : Option Fault) → first_fault (first_fault a b) c ≡ first_fault a (first_fault b c)
-first_fault-assoc None b c = refl
-first_fault-assoc (Some a) None c = refl
 first_fault-assoc (Some a) (Some b) None = none_right (first_fault (Some a) (Some b))
 first_fault-assoc (Some a) (Some b) (Some c) = three a b c (comes_first a b) (comes_first b c) (comes_first a c) refl refl refl
+first_fault-assoc _ _ c = refl
 
 -- the first of joined lists
 pub first_of-append : (fs gs : List Fault) → first_of (fs ++ gs) ≡ first_fault (first_of fs) (first_of gs)

@@ -12,9 +12,8 @@ use Rattle.at_wkt.specs.Lines.{without_return}
 -- ---- the end of a line
 
 return_end : (front : List ℕ) → without_return (front ++ (0x0D ∷ [])) ≡ front
-return_end [] = refl
-return_end (b ∷ []) = refl
 return_end (b ∷ c ∷ front) = ap (λ z. b ∷ z) (return_end (c ∷ front))
+return_end _ = refl
 
 no_return : (front : List ℕ) (b : ℕ) → (b == 0x0D) ≡ false → without_return (front ++ (b ∷ [])) ≡ front ++ (b ∷ [])
 no_return [] b h = ap (λ t. if t then [] else b ∷ []) h

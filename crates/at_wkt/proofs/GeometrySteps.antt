@@ -72,12 +72,7 @@ geometry_parts (collection p) at w (d, (a, b, e, h, (x, y, f, k, (l, m, o, q, (r
 
 parts_geometry : (k : Kind) (d : ℕ) (g : Geometry) (at : ℕ) (w : List ℕ) → (AnyCase (word_of k) ▸ (Many is_blank ▸ (Letter d ▸ (Many is_blank ▸ Body k d g)))) at w → SpellsGeometry at w g
 parts_geometry Point d g at w (a, b, e, h, (x, y, f, k, (l, m, o, q, (r, s, t, u, (p, eg, z))))) = subst (SpellsGeometry at w) (sym eg) (d, (a, b, e, h, (x, y, f, k, (l, m, o, q, (r, s, t, u, z)))))
-parts_geometry LineString d g at w (a, b, e, h, (x, y, f, k, (l, m, o, q, (r, s, t, u, (p, eg, z))))) = subst (SpellsGeometry at w) (sym eg) (d, (a, b, e, h, (x, y, f, k, (l, m, o, q, (r, s, t, u, z)))))
-parts_geometry Polygon d g at w (a, b, e, h, (x, y, f, k, (l, m, o, q, (r, s, t, u, (p, eg, z))))) = subst (SpellsGeometry at w) (sym eg) (d, (a, b, e, h, (x, y, f, k, (l, m, o, q, (r, s, t, u, z)))))
-parts_geometry MultiPoint d g at w (a, b, e, h, (x, y, f, k, (l, m, o, q, (r, s, t, u, (p, eg, z))))) = subst (SpellsGeometry at w) (sym eg) (d, (a, b, e, h, (x, y, f, k, (l, m, o, q, (r, s, t, u, z)))))
-parts_geometry MultiLineString d g at w (a, b, e, h, (x, y, f, k, (l, m, o, q, (r, s, t, u, (p, eg, z))))) = subst (SpellsGeometry at w) (sym eg) (d, (a, b, e, h, (x, y, f, k, (l, m, o, q, (r, s, t, u, z)))))
-parts_geometry MultiPolygon d g at w (a, b, e, h, (x, y, f, k, (l, m, o, q, (r, s, t, u, (p, eg, z))))) = subst (SpellsGeometry at w) (sym eg) (d, (a, b, e, h, (x, y, f, k, (l, m, o, q, (r, s, t, u, z)))))
-parts_geometry GeometryCollection d g at w (a, b, e, h, (x, y, f, k, (l, m, o, q, (r, s, t, u, (p, eg, z))))) = subst (SpellsGeometry at w) (sym eg) (d, (a, b, e, h, (x, y, f, k, (l, m, o, q, (r, s, t, u, z)))))
+parts_geometry _ d g at w (a, b, e, h, (x, y, f, k, (l, m, o, q, (r, s, t, u, (p, eg, z))))) = subst (SpellsGeometry at w) (sym eg) (d, (a, b, e, h, (x, y, f, k, (l, m, o, q, (r, s, t, u, z)))))
 
 abbrev pub Spelling : Geometry → ℕ → List ℕ → Type 0
 Spelling g i v = SpellsGeometry i v g

@@ -41,10 +41,9 @@ pub unlike : (a b : ℕ) → a ≡ b → (a == b) ≡ false → ⊥
 unlike a b e h = grind (arith, e, h)
 
 pub delimiter_same : (a b : Bool) → delimiter a ≡ delimiter b → a ≡ b
-delimiter_same true true e = refl
-delimiter_same false false e = refl
 delimiter_same true false e = absurd (unlike 0x29 0x2C e refl)
 delimiter_same false true e = absurd (unlike 0x2C 0x29 e refl)
+delimiter_same _ _ e = refl
 
 module _ (base : ℕ) (w : List ℕ) (j m : ℕ) (skips : SkipsBlanks w j m) where
   -- what a delimiter behind blanks agrees with

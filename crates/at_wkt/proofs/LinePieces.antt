@@ -35,9 +35,8 @@ last_end (p ∷ []) = p.at + length p.text
 last_end (p ∷ r ∷ ps) = last_end (r ∷ ps)
 
 last_end-append : (ps : List FileLine) (l : FileLine) → last_end (ps ++ (l ∷ [])) ≡ l.at + length l.text
-last_end-append [] l = refl
-last_end-append (p ∷ []) l = refl
 last_end-append (p ∷ r ∷ ps) l = last_end-append (r ∷ ps) l
+last_end-append _ l = refl
 
 abbrev EndsAll : ℕ → List ℕ → List FileLine → Type 0
 EndsAll at v ps = last_end ps ≡ at + length v

@@ -27,8 +27,6 @@ delimiter_stops test h k true at v e = (0x29, [], e, h)
 delimiter_stops test h k false at v e = (0x2C, [], e, k)
 
 one_delimiter : (a b : Bool) → Agree (Exactly (delimiter a ∷ [])) (Exactly (delimiter b ∷ [])) (a ≡ b)
-one_delimiter true true at v w r s e f line = (refl, e ∙ sym f)
-one_delimiter false false at v w r s e f line = (refl, e ∙ sym f)
 one_delimiter true false at v w r s e f line =
     let bytes : 0x29 ∷ r ≡ 0x2C ∷ s = ap (λ z. z ++ r) (sym e) ∙ (line ∙ ap (λ z. z ++ s) f) in
     let first : 0x29 ≡ 0x2C = cc in
@@ -37,6 +35,7 @@ one_delimiter false true at v w r s e f line =
     let bytes : 0x2C ∷ r ≡ 0x29 ∷ s = ap (λ z. z ++ r) (sym e) ∙ (line ∙ ap (λ z. z ++ s) f) in
     let first : 0x2C ≡ 0x29 = cc in
     absurd (true≢false (sym (ap (λ z. z == 0x29) first)))
+one_delimiter _ _ at v w r s e f line = (refl, e ∙ sym f)
 
 pub blank_delimiter : (d e : ℕ) (a b : Bool) → Agree (Delimiter d a) (Delimiter e b) (a ≡ b)
 blank_delimiter d e a b = agree_many is_blank (Exactly (delimiter a ∷ [])) (Exactly (delimiter b ∷ [])) (delimiter_stops is_blank refl refl a) (delimiter_stops is_blank refl refl b) (one_delimiter a b)

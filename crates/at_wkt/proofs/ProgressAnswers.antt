@@ -9,7 +9,7 @@ use Rattle.at_wkt.specs.declared.line.dimension.Dimension.{Dimension}
 use Rattle.at_wkt.specs.declared.line.dimension.Dimension.TheVariants.{Open}
 use Rattle.at_text.specs.declared.halts.Halt.{Halt}
 use Rattle.at_wkt.specs.declared.line.kinds.Kind.{Kind}
-use Rattle.at_wkt.specs.declared.line.kinds.Kind.TheVariants.{Point, LineString, Polygon, MultiPoint, MultiLineString, MultiPolygon, GeometryCollection}
+use Rattle.at_wkt.specs.declared.line.kinds.Kind.TheVariants.{GeometryCollection}
 use Rattle.at_wkt.specs.declared.line.kinds.Head.{Head}
 use Rattle.at_wkt.specs.declared.line.positions.DelimiterRead.{DelimiterRead}
 use Rattle.at_wkt.specs.declared.line.parts.Read.{Read}
@@ -219,13 +219,8 @@ head_count w i head h = go head.behind.dimension h.letter where
   go c (inr (inr (inr q))) = subst HasCount (sym q.1) (3, (refl, lit≤ tt, lit≤ tt))
 
 opens_by : (kind : Kind) (b : Bool) → (elim kind [ GeometryCollection ↦ b | _ ↦ false ]) ≡ true → (kind ≡ GeometryCollection) × (b ≡ true)
-opens_by Point b h = absurd (true≢false (sym h))
-opens_by LineString b h = absurd (true≢false (sym h))
-opens_by Polygon b h = absurd (true≢false (sym h))
-opens_by MultiPoint b h = absurd (true≢false (sym h))
-opens_by MultiLineString b h = absurd (true≢false (sym h))
-opens_by MultiPolygon b h = absurd (true≢false (sym h))
 opens_by GeometryCollection b h = (refl, h)
+opens_by _ b h = absurd (true≢false (sym h))
 
 pub opens_true : (w : List ℕ) (head : Head) → opens_at w head ≡ true → (head.kind ≡ GeometryCollection) × (head.behind.at < length w) × (next w head.behind.at ≡ 0x28)
 opens_true w head h =

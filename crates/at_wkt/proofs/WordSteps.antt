@@ -96,12 +96,7 @@ kind_by w =
 kind_of_word : (k : Kind) (w : List ℕ) → kind_by (word_of k ++ w) ≡ Some k
 unfolding kind_by
 kind_of_word Point w = refl
-kind_of_word LineString w = refl
-kind_of_word Polygon w = refl
-kind_of_word MultiPoint w = refl
-kind_of_word MultiLineString w = refl
-kind_of_word MultiPolygon w = refl
-kind_of_word GeometryCollection w = refl
+kind_of_word _ w = refl
 
 -- no kind's word is the beginning of another's
 kind_from : (k m : Kind) (w : List ℕ) → word_of m ≡ word_of k ++ w → k ≡ m
@@ -109,12 +104,7 @@ kind_from k m w e = same_Some k m (sym (kind_of_word k w) ∙ (ap kind_by (sym e
 
 kind_capitals : (k : Kind) → capitals (word_of k) ≡ word_of k
 kind_capitals Point = refl
-kind_capitals LineString = refl
-kind_capitals Polygon = refl
-kind_capitals MultiPoint = refl
-kind_capitals MultiLineString = refl
-kind_capitals MultiPolygon = refl
-kind_capitals GeometryCollection = refl
+kind_capitals _ = refl
 
 -- the word of a kind, in any case
 abbrev pub KindWord : ℕ → Kind → ℕ → List ℕ → Type 0

@@ -11,10 +11,7 @@ use Rattle.at_nest.proofs.bodies.put_row.Goals as goal
 
 takes_no_row : {X : Type 0} (IsKept : X → Content → Type 0) (l : Level X) → ((a : ArrayLevel X) → l ≡ level.Array a → ⊥) → (zs : List X) → IsRowNext IsKept (held_of l) zs None
 takes_no_row IsKept (level.Array a) h zs = absurd (h a refl)
-takes_no_row IsKept (level.Opened i) h zs = tt
-takes_no_row IsKept (level.Named i n) h zs = tt
-takes_no_row IsKept (level.Awaiting i n) h zs = tt
-takes_no_row IsKept (level.Object o) h zs = tt
+takes_no_row IsKept _ h zs = tt
 
 pub returns-in_ok-items-in-Array : goal.returns-in_ok-items-in-Array
 returns-in_ok-items-in-Array g c = let own = g.A.Algebra.is_own c.args.algebra.now in let fold = g.A.Algebra.is_fold c.args.algebra.now in let run = g.A.Algebra.is_run c.args.algebra.now in
