@@ -1,7 +1,8 @@
--- Features one behind another in an array, whose parts are joined as they are read. For `items` and `value`.
+-- Features, or other objects, one behind another in an array, which are joined as they are read. For `items` and `value`.
 use Rattle.std.proofs.Common.{◌≡◌, ◌==◌, ◌||◌, ◌&&◌, if◌then◌else◌, nat_lt, true, Some, inl, ℕ, suc, ◌+◌, ◌<◌, ◌≤◌, List, [], ◌∷◌, ◌++◌, length, drop, slice_index, Result, IfOk, refl, sym, ◌∙◌, ap, subst, arith, append_assoc, append-nil, length-append}
 use Rattle.std.proofs.lemmas.List.Elements.{All-nil, All-cons, All-append}
 use Rattle.std.specs.declared.alloc.Global.{Global}
+use Rattle.std.specs.declared.boxed.Box.{Box}
 use denote.RawPtr.{null_ptr}
 use Rattle.at_text.specs.Parts.{Nothing, ◌▸◌}
 use Rattle.at_text.specs.Faults.{fault_at}
@@ -28,14 +29,14 @@ use Rattle.at_geojson.specs.declared.atoms.Role.TheVariants as roles
 use Rattle.at_geojson.specs.declared.pairs.Whole.{Whole}
 use Rattle.at_geojson.specs.declared.features.FeatureRead.{FeatureRead}
 use Rattle.at_geojson.specs.Keeping.{Asked}
-use Rattle.at_geojson.specs.Atoms.{both_forms, IsOwn, IsFold, IsRun, AreJoined, IfOwnShape, IfOwnPart}
-use Rattle.at_geojson.specs.Gathering.{JoinsShapes, JoinsFound, AreJoinable}
+use Rattle.at_geojson.specs.Atoms.{both_forms, IsOwn, IsFold, IsRun, AreJoined, AreOwnItems, IfOwnShape, IfOwnPart}
+use Rattle.at_geojson.specs.Gathering.{is_any_object, item_geometries, item_features, JoinsShapes, JoinsFound, AreJoinable}
 use Rattle.at_geojson.specs.Values.{IsWhole}
 use Rattle.at_geojson.specs.Features.{IsFeatureRead}
-use Rattle.at_geojson.specs.FeatureRuns.{IsNextObject, AreItemsAt, AreFeaturesRead, AreItemsWhole, IsAttemptOf}
+use Rattle.at_geojson.specs.FeatureRuns.{IsNextObject, AreItemsAt, AreFeaturesRead, AreItemsWhole, IsObjectBehind, IsAttemptOf}
 use Rattle.at_geojson.proofs.OwnFolds.{joinable}
 use Rattle.at_geojson.proofs.ValueParts.{front_split, attempt_of}
-use Rattle.at_geojson.proofs.RunFolds.{the_object, object_there, joined_covers, joined_both, joined_own}
+use Rattle.at_geojson.proofs.RunFolds.{object_brackets, run_joined, taken_own, joined_covers, joined_both, joined_own}
 
 -- ---- further items behind those of an array
 
@@ -110,7 +111,7 @@ module _ (asked : Asked) (base : ℕ) (w : List ℕ) (alloc : Global) where
     feature_order = whole.order
 
     brackets : HasBrackets whole.tree
-    brackets = let (i, ms, e) = the_object whole.tree (object_there asked (atom_of at p r.texts) whole.tree (whole.fold.read refl)) in subst HasBrackets (sym e) tt
+    brackets = object_brackets asked (atoms.Object (atom_of at p r.texts)) whole.tree refl whole.fold
 
     alone_joined : (one : Items) → one.geometries ≡ both_forms (base + at) → one.features ≡ p.part → AreJoined asked one (whole.tree ∷ [])
     alone_joined one eg ef = joined_covers asked (atoms.Object (atom_of at p r.texts)) (whole.tree ∷ []) one refl eg ef (inl (whole.tree, refl, whole.fold))
@@ -146,6 +147,42 @@ module _ (asked : Asked) (base : ℕ) (w : List ℕ) (alloc : Global) where
                 (record { first = at; last = p.end; before = omega (arith, next.order); order = omega (arith, whole.order); behind = h; spaces = next.spaces; is_part = whole.spells; more_spaces = spaces }) brackets;
             joined = joined_both asked (before.first ∷ before.others) (whole.tree ∷ []) old one new shapes parts before.joined (alone_joined one refl refl);
           }
+
+-- ---- other objects
+
+module _ (asked : Asked) (base : ℕ) (w : List ℕ) where
+  abbrev pub run_to : ℕ → Box Items Global → Whole
+  run_to end run = record { end = end; atom = atoms.Run run }
+
+  pub objects_begin : (p : Whole) (end : ℕ) (run : Box Items Global) → IsWhole asked base w 0 p → is_any_object p.atom ≡ true → run.value.geometries ≡ item_geometries p.atom → run.value.features ≡ item_features p.atom
+      → p.end ≤ end → end ≤ length w → AreSpaces (between w p.end end) → AreItemsWhole asked base w 0 (run_to end run)
+  objects_begin p end run h n eg ef behind fits spaces = record {
+    own = taken_own asked p.atom run.value eg ef h.own;
+    first = h.tree;
+    others = [];
+    there = one_there base w h.tree 0 end (omega (arith, h.order, behind)) fits
+        (record { first = 0; last = p.end; before = omega arith; order = omega (arith, h.order); behind = behind; spaces = subst AreSpaces (sym (part-none w 0 (omega arith))) tt; is_part = h.spells; more_spaces = spaces })
+        (object_brackets asked p.atom h.tree n h.fold);
+    covers = inr (inl (run, refl, joined_covers asked p.atom (h.tree ∷ []) run.value n eg ef (inl (h.tree, refl, h.fold))));
+  }
+
+  module _ (end : ℕ) (old : Box Items Global) (p : Whole) (one : Items) (before : AreItemsWhole asked base w 0 (run_to end old)) (next : IsObjectBehind asked base w end p)
+      (eg : one.geometries ≡ item_geometries p.atom) (ef : one.features ≡ item_features p.atom) where
+    one_own : AreOwnItems asked one
+    one_own = taken_own asked p.atom one eg ef next.item.own
+
+    pub objects_can_join : AreJoinable old.value.features one.features
+    objects_can_join = joinable asked old.value.features one.features before.own.1 one_own.1
+
+    pub objects_go_on : (new : Box Items Global) → JoinsShapes old.value.geometries one.geometries new.value.geometries → JoinsFound old.value.features one.features new.value.features → AreItemsWhole asked base w 0 (run_to p.end new)
+    objects_go_on new j k = record {
+      own = joined_own asked old.value one new.value j k before.own one_own;
+      first = before.first;
+      others = before.others ++ next.item.tree ∷ [];
+      there = more_there base w before.first before.others 0 end p.end next.item.tree before.there next.comma next.order next.item.within next.item.spells (object_brackets asked p.atom next.item.tree next.object next.item.fold);
+      covers = inr (inl (new, refl, joined_both asked (before.first ∷ before.others) (next.item.tree ∷ []) old.value one new.value j k (run_joined asked old (before.first ∷ before.others) before.covers)
+          (joined_covers asked p.atom (next.item.tree ∷ []) one next.object eg ef (inl (next.item.tree, refl, next.item.fold)))));
+    }
 
 -- ---- what stands at a text's front
 

@@ -1,6 +1,6 @@
 -- Arrays of which some items are a run: what their items are one behind another.
 -- For `add`, `array` and `value`.
-use Rattle.std.proofs.Common.{◌≡◌, inl, inr, ◌⊎◌, ℕ, ◌==◌, Bool, true, false, ◌||◌, List, [], ◌∷◌, ◌++◌, All, Option, Some, None, is_some, refl, sym, ◌∙◌, ap, subst, append-nil, append_assoc}
+use Rattle.std.proofs.Common.{◌≡◌, inl, inr, ℕ, ◌==◌, Bool, true, false, ◌||◌, List, [], ◌∷◌, ◌++◌, All, Option, Some, None, is_some, refl, sym, ◌∙◌, ap, subst, append-nil, append_assoc}
 use Rattle.std.proofs.Common.{option_map, option_and_then}
 use Rattle.std.specs.List.{list_any}
 use Rattle.std.specs.declared.boxed.Box.{Box}
@@ -12,20 +12,20 @@ use Rattle.std.proofs.lemmas.Option.{none-some}
 use Rattle.at_text.specs.Faults.{first_fault, first_of}
 use Rattle.at_text.specs.declared.faults.Fault.{Fault}
 use Rattle.at_wkt.proofs.FaultOrder.{first_of-append}
-use Rattle.at_nest.specs.Folds.{trees, AreFolds, Covers, AreItemFolds}
+use Rattle.at_nest.specs.Folds.{trees, AreFolds, Covers, AreItemFolds, HasBrackets}
 use Rattle.at_nest.specs.Tree.{Tree, array, object, Members}
 use Rattle.at_nest.specs.Twins.{twins_of, twins_of_items}
 use Rattle.at_nest.proofs.Held.{folds_append}
 use Rattle.at_geojson.specs.declared.atoms.GeoAtom.{GeoAtom}
 use Rattle.at_geojson.specs.declared.atoms.GeoAtom.TheVariants as atoms
 use Rattle.at_geojson.specs.declared.atoms.Items.{Items}
-use Rattle.at_geojson.specs.declared.atoms.ObjectAtom.{ObjectAtom}
+use Rattle.at_query.specs.declared.features.TextPair.{TextPair}
 use Rattle.at_geojson.specs.Names.{items_of}
 use Rattle.at_geojson.specs.Coordinates.{each}
 use Rattle.at_geojson.specs.Roles.{texts_of}
 use Rattle.at_geojson.specs.Keeping.{Asked, asked_texts}
 use Rattle.at_geojson.specs.Atoms.{Alike, twin_of, as_run, is_object_tree, object_members, IsRead, IsFold, AreJoined, IsRun, AreOwnItems, IfOwnShape, IfOwnPart, IsOwn}
-use Rattle.at_geojson.specs.Gathering.{firsts, rank, sort_of, are_all, is_object, item_geometries, item_features, JoinsShapes, JoinsFound}
+use Rattle.at_geojson.specs.Gathering.{firsts, rank, sort_of, are_all, is_any_object, item_geometries, item_features, JoinsShapes, JoinsFound}
 use Rattle.at_geojson.specs.Arrays.{TakesRun}
 use Rattle.at_geojson.proofs.Firsts.{firsts-cons}
 use Rattle.at_geojson.proofs.Each.{none_left, none_behind}
@@ -110,35 +110,36 @@ module _ (asked : Asked) where
 
   -- ---- what is put behind an array's items
 
-  object_is : (a : GeoAtom) → is_object a ≡ true → ((x : ObjectAtom) × (a ≡ atoms.Object x)) ⊎ ((run : Box Items Global) × (a ≡ atoms.Run run))
-  object_is (atoms.Object x) e = inl (x, refl)
-  object_is (atoms.Run run) e = inr (run, refl)
-  object_is _ e = absurd (true≢false (sym e))
+  no_twin : (a : GeoAtom) → is_any_object a ≡ true → twin_of a ≡ None
+  no_twin (atoms.Twin f) e = absurd (true≢false (sym e))
+  no_twin _ e = refl
 
-  no_twin : (a : GeoAtom) → is_object a ≡ true → twin_of a ≡ None
-  no_twin a e = elim (object_is a e) [ inl o ↦ ap twin_of o.1 | inr o ↦ ap twin_of o.1 ]
+  texts_there : (kept : List TextPair) (o : Option Members) → Alike (λ kept ms. kept ≡ asked_texts asked.query.tests (texts_of ms)) (Some kept) o → is_some o ≡ true
+  texts_there kept (Some ms) h = refl
+  texts_there kept None h = absurd h
 
-  pub object_there : (x : ObjectAtom) (t : Tree) → IsRead asked (atoms.Object x) t → is_object_tree t ≡ true
-  object_there x t r = go (object_members t) r.object.texts where
-    go : (o : Option Members) → Alike (λ kept ms. kept ≡ asked_texts asked.query.tests (texts_of ms)) (Some x.roles.value.texts) o → is_some o ≡ true
-    go (Some ms) h = refl
-    go None h = absurd h
+  pub object_there : (a : GeoAtom) (t : Tree) → is_any_object a ≡ true → IsRead asked a t → is_object_tree t ≡ true
+  object_there (atoms.Object x) t n r = texts_there x.roles.value.texts (object_members t) r.object.texts
+  object_there (atoms.Void at) t n r = texts_there [] (object_members t) r.object.texts
+  object_there (atoms.Run run) t n r = absurd (none-some run.value (sym r.single))
+  object_there _ t n r = absurd (true≢false (sym n))
+
+  -- an object has brackets
+  pub object_brackets : (a : GeoAtom) (t : Tree) → is_any_object a ≡ true → IsFold asked a t → HasBrackets t
+  object_brackets a t n f = let (i, ms, e) = the_object t (object_there a t n (f.read (no_twin a n))) in subst HasBrackets (sym e) tt
 
   -- a run is no value
   no_value : (run : Box Items Global) (t : Tree) → IsFold asked (atoms.Run run) t → ⊥
   no_value run t f = none-some run.value (sym (f.read refl).single)
 
-  some_covers : (a : GeoAtom) (ts : List Tree) → Covers (IsRead asked) (IsRun asked) a ts → is_object a ≡ true → list_any is_object_tree ts ≡ true
+  some_covers : (a : GeoAtom) (ts : List Tree) → Covers (IsRead asked) (IsRun asked) a ts → is_any_object a ≡ true → list_any is_object_tree ts ≡ true
+  some_covers a ts (inl (t, e, r)) n = ap (list_any is_object_tree) e ∙ ap (λ b. b || false) (object_there a t n r)
   some_covers a ts (inr (inl (run, e, j))) n = j.some
-  some_covers a ts (inr (inr (inl (s, e, j)))) n = absurd (true≢false (sym n ∙ ap is_object e))
-  some_covers a ts (inr (inr (inr (t, e, j)))) n = absurd (true≢false (sym n ∙ ap is_object e))
-  some_covers a ts (inl (t, e, r)) n = ap (list_any is_object_tree) e ∙ go (object_is a n) where
-    go : ((x : ObjectAtom) × (a ≡ atoms.Object x)) ⊎ ((run : Box Items Global) × (a ≡ atoms.Run run)) → list_any is_object_tree (t ∷ []) ≡ true
-    go (inl (x, q)) = ap (λ b. b || false) (object_there x t (subst (λ z. IsRead asked z t) q r))
-    go (inr (run, q)) = absurd (none-some run.value (sym (ap as_run (sym q) ∙ r.single)))
+  some_covers a ts (inr (inr (inl (s, e, j)))) n = absurd (true≢false (sym n ∙ ap is_any_object e))
+  some_covers a ts (inr (inr (inr (t, e, j)))) n = absurd (true≢false (sym n ∙ ap is_any_object e))
 
   -- an atom that joins a run, and what it is beside the items of that
-  pub joined_covers : (a : GeoAtom) (ts : List Tree) (one : Items) → is_object a ≡ true → one.geometries ≡ item_geometries a → one.features ≡ item_features a
+  pub joined_covers : (a : GeoAtom) (ts : List Tree) (one : Items) → is_any_object a ≡ true → one.geometries ≡ item_geometries a → one.features ≡ item_features a
       → Covers (IsFold asked) (IsRun asked) a ts → AreJoined asked one ts
   joined_covers a ts one n eg ef c =
       let read = read_covers a ts c (no_twin a n) in
@@ -152,29 +153,35 @@ module _ (asked : Asked) where
     have = have_both asked us vs old more new j k h.have g.have;
   }
 
+  -- what a run stands for
+  pub run_joined : (old : Box Items Global) (vs : List Tree) → Covers (IsFold asked) (IsRun asked) (atoms.Run old) vs → AreJoined asked old.value vs
+  run_joined old vs (inl (t, q, f)) = absurd (no_value old t f)
+  run_joined old vs (inr (inl (run, q, r))) = subst (λ i. AreJoined asked i vs) (sym (ap (λ (o : Option Items). elim o [ None ↦ old.value | Some i ↦ i ]) (ap as_run q))) r
+  run_joined old vs (inr (inr (inl (s, q, r)))) = absurd (true≢false (ap is_any_object q))
+  run_joined old vs (inr (inr (inr (t, q, r)))) = absurd (true≢false (ap is_any_object q))
+
   -- the last item is a run, and takes the atom
-  pub adds_to_run : (xs : List GeoAtom) (old new : Box Items Global) (a : GeoAtom) (one : Items) → is_object a ≡ true → one.geometries ≡ item_geometries a → one.features ≡ item_features a
+  pub adds_to_run : (xs : List GeoAtom) (old new : Box Items Global) (a : GeoAtom) (one : Items) → is_any_object a ≡ true → one.geometries ≡ item_geometries a → one.features ≡ item_features a
       → JoinsShapes old.value.geometries one.geometries new.value.geometries → JoinsFound old.value.features one.features new.value.features
       → (ts us : List Tree) → AreItemFolds (IsFold asked) (IsRun asked) (xs ++ atoms.Run old ∷ []) ts → Covers (IsFold asked) (IsRun asked) a us
       → AreItemFolds (IsFold asked) (IsRun asked) (xs ++ atoms.Run new ∷ []) (ts ++ us)
   adds_to_run xs old new a one n eg ef j k ts us h c =
       let (ps, qs, e, hs, d) = last_covers (IsFold asked) (IsRun asked) xs (atoms.Run old) ts h in
       subst (λ z. AreItemFolds (IsFold asked) (IsRun asked) (xs ++ atoms.Run new ∷ []) z) (sym (ap (λ z. z ++ us) e ∙ append_assoc ps qs us))
-      (folds_append (IsFold asked) (IsRun asked) xs ps (atoms.Run new) (qs ++ us) hs (inr (inl (new, refl, joined_both qs us old.value one new.value j k (old_joined qs d) (joined_covers a us one n eg ef c))))) where
-        run_is : (run : Box Items Global) (vs : List Tree) → atoms.Run old ≡ atoms.Run run → AreJoined asked run.value vs → AreJoined asked old.value vs
-        run_is run vs q r = subst (λ i. AreJoined asked i vs) (sym (ap (λ (o : Option Items). elim o [ None ↦ old.value | Some i ↦ i ]) (ap as_run q))) r
-
-        old_joined : (vs : List Tree) → Covers (IsFold asked) (IsRun asked) (atoms.Run old) vs → AreJoined asked old.value vs
-        old_joined vs (inl (t, q, f)) = absurd (no_value old t f)
-        old_joined vs (inr (inl (run, q, r))) = run_is run vs q r
-        old_joined vs (inr (inr (inl (s, q, r)))) = absurd (true≢false (ap is_object q))
-        old_joined vs (inr (inr (inr (t, q, r)))) = absurd (true≢false (ap is_object q))
+      (folds_append (IsFold asked) (IsRun asked) xs ps (atoms.Run new) (qs ++ us) hs (inr (inl (new, refl, joined_both qs us old.value one new.value j k (run_joined old qs d) (joined_covers a us one n eg ef c)))))
 
   -- a run of the atom alone
-  pub adds_run : (xs : List GeoAtom) (new : Box Items Global) (a : GeoAtom) → is_object a ≡ true → new.value.geometries ≡ item_geometries a → new.value.features ≡ item_features a
+  pub adds_run : (xs : List GeoAtom) (new : Box Items Global) (a : GeoAtom) → is_any_object a ≡ true → new.value.geometries ≡ item_geometries a → new.value.features ≡ item_features a
       → (ts us : List Tree) → AreItemFolds (IsFold asked) (IsRun asked) xs ts → Covers (IsFold asked) (IsRun asked) a us
       → AreItemFolds (IsFold asked) (IsRun asked) (xs ++ atoms.Run new ∷ []) (ts ++ us)
   adds_run xs new a n eg ef ts us h c = folds_append (IsFold asked) (IsRun asked) xs ts (atoms.Run new) us h (inr (inl (new, refl, joined_covers a us new.value n eg ef c)))
+
+  -- the last item begins a run
+  pub begins_run : (xs : List GeoAtom) (new : Box Items Global) (a : GeoAtom) → is_any_object a ≡ true → new.value.geometries ≡ item_geometries a → new.value.features ≡ item_features a
+      → (ts : List Tree) → AreItemFolds (IsFold asked) (IsRun asked) (xs ++ a ∷ []) ts → AreItemFolds (IsFold asked) (IsRun asked) (xs ++ atoms.Run new ∷ []) ts
+  begins_run xs new a n eg ef ts h =
+      let (ps, qs, e, hs, c) = last_covers (IsFold asked) (IsRun asked) xs a ts h in
+      subst (λ z. AreItemFolds (IsFold asked) (IsRun asked) (xs ++ atoms.Run new ∷ []) z) (sym e) (adds_run xs new a n eg ef ps qs hs c)
 
   -- the last two are runs, and become one
   settles_runs : (xs : List GeoAtom) (before run new : Box Items Global)

@@ -379,6 +379,15 @@ module _ (asked : Asked) (base : ℕ) (w : List ℕ) where
     fold = ends.fold (items_of (read.done ++ item.tree ∷ [])) (folds_last items p.atom read.done item.tree read.folds item.fold);
   }
 
+  -- an array of one item, whose bracket stands right before it
+  pub nest_more : (at close : ℕ) (p q : Whole) → slice_index w at ≡ 0x5B → IsWhole asked base w (at + 1) p → p.end ≤ close → AreSpaces (between w p.end close) → close < length w → slice_index w close ≡ 0x5D
+      → EndsArray asked (base + at) (close + 1) (p.atom ∷ []) q → IsWhole asked base w at q
+  nest_more at close p q opens whole h spaces inside byte ends =
+      let fits : at < length w = omega (arith, whole.order, whole.within) in
+      let none : AreSpaces (between w (at + 1) (at + 1)) = subst AreSpaces (sym (part-none w (at + 1) (omega (arith, fits)))) tt in
+      array_read at (at + 1) [] (record { end = close; atom = p.atom }) q (omega arith) opens (items_begin at fits)
+      (item_read (at + 1) (at + 1) close p (omega arith) none whole h (omega (arith, inside)) spaces) inside byte ends
+
   pub empty_read : (at end : ℕ) → at < end → end < length w → slice_index w at ≡ 0x5B → slice_index w end ≡ 0x5D → AreSpaces (between w (at + 1) end) → IsWhole asked base w at (record { end = end + 1; atom = atoms.Empty (base + at) })
   empty_read at end h inside opens byte spaces = record {
     order = omega (arith, h);

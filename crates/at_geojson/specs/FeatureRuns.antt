@@ -1,6 +1,6 @@
 -- Features one behind another in an array that are read at once, and what else begins a text there. Only contracts of
 -- private functions cite this.
-use Rattle.std.specs.Prelude.{◌≡◌, ℕ, ◌+◌, ◌<◌, ◌≤◌, List, ◌∷◌, length, slice_index, All, Result, Ok}
+use Rattle.std.specs.Prelude.{◌≡◌, true, ℕ, ◌+◌, ◌<◌, ◌≤◌, List, ◌∷◌, length, slice_index, All, Result, Ok}
 use Rattle.std.specs.Bool.{⊤}
 use Rattle.at_text.specs.declared.halts.Halt.{Halt}
 use Rattle.at_fixed.specs.NumberSoFar.{between}
@@ -13,6 +13,8 @@ use Rattle.at_geojson.specs.declared.atoms.GeoAtom.{GeoAtom}
 use Rattle.at_geojson.specs.declared.atoms.Items.{Items}
 use Rattle.at_geojson.specs.declared.pairs.Whole.{Whole}
 use Rattle.at_geojson.specs.Keeping.{Asked}
+use Rattle.at_geojson.specs.Gathering.{is_any_object}
+use Rattle.at_geojson.specs.Values.{IsItem}
 use Rattle.at_geojson.specs.Atoms.{both_forms, IsOwn, IsFold, IsRun, AreOwnItems, AreJoined}
 
 -- a comma at the place, white space, and then the bracket of an object
@@ -46,6 +48,13 @@ pub record AreItemsWhole (asked : Asked) (base : ℕ) (w : List ℕ) (at : ℕ) 
   pub others : List Tree
   pub there : AreItemsAt base w at p.end first others
   pub covers : Covers (IsFold asked) (IsRun asked) p.atom (first ∷ others)
+
+-- a comma at the place, and behind it an object with white space round it
+pub record IsObjectBehind (asked : Asked) (base : ℕ) (w : List ℕ) (at : ℕ) (p : Whole) : Type 0 where
+  pub comma : slice_index w at ≡ 0x2C
+  pub order : at < p.end
+  pub item : IsItem asked base w (at + 1) p
+  pub object : is_any_object p.atom ≡ true
 
 -- what was found is told, or nothing is said
 abbrev pub IsAttemptOf : Result Whole Halt → Attempt GeoAtom → Type 0

@@ -200,6 +200,13 @@ is_object (atoms.Object a) = true
 is_object (atoms.Run items) = true
 is_object _ = false
 
+-- an object, or several values of which one is an object
+abbrev pub is_any_object : GeoAtom → Bool
+is_any_object (atoms.Object a) = true
+is_any_object (atoms.Run items) = true
+is_any_object (atoms.Void at) = true
+is_any_object _ = false
+
 -- an array of which the items' roles are kept
 abbrev pub items_kept : GeoAtom → Bool
 items_kept (atoms.Items a) = true

@@ -36,7 +36,7 @@ fn feature_items(at: u32, part: Result<Part, Fault>) -> Items
 
 /// The place of an object's bracket behind a comma, which stands at the place.
 #[inline(always)]
-fn next_object(text: &[u8], at: usize) -> Option<usize>
+pub fn next_object(text: &[u8], at: usize) -> Option<usize>
     ensures { IfSome result (IsNextObject text.now at) }
 {
     if !stands(text, at, b',') {

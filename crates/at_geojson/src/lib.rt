@@ -27,6 +27,7 @@ mod lists;
 mod makers;
 mod makings;
 mod object_atoms;
+mod object_runs;
 mod objects;
 mod pairs;
 mod passing;

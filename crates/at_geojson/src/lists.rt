@@ -1,6 +1,6 @@
 //! Arrays item by item: what their items are together, as coordinates, geometries and features.
 
-ghost use Rattle.std.specs.Prelude.{◌≡◌, ◌≢◌, [], All, IfOk, Some, None, Ok, Err, false};
+ghost use Rattle.std.specs.Prelude.{◌≡◌, ◌≢◌, [], ◌∷◌, All, IfOk, Some, None, Ok, Err, false};
 ghost use Rattle.std.specs.List.{list_any};
 ghost use Rattle.at_text.specs.Faults.{fault_at};
 ghost use Rattle.at_wkt.specs.Meaning.{empty_shape as nothing};
@@ -9,8 +9,8 @@ ghost use Rattle.at_geojson.specs.Atoms.{is_empty as is_empty_atom, as_geometrie
 ghost use Rattle.at_geojson.specs.Atoms.{as_features as features_in, at_of as offset_in, twin_of as twin_in};
 ghost use Rattle.at_geojson.specs.Atoms.{role_of as role_in, role_geometry as geometry_of_role};
 ghost use Rattle.at_geojson.specs.Atoms.{role_item as item_of_role, IsOwn, AreOwnItems};
-ghost use Rattle.at_geojson.specs.Gathering.{seen, items_kept, firsts, is_object as object_is, item_geometries};
-ghost use Rattle.at_geojson.specs.Gathering.{item_features, JoinsShapes, JoinsFound, AreJoinable};
+ghost use Rattle.at_geojson.specs.Gathering.{seen, items_kept, firsts, is_object as object_is, is_any_object as any_object_is};
+ghost use Rattle.at_geojson.specs.Gathering.{item_geometries, item_features, JoinsShapes, JoinsFound, AreJoinable};
 ghost use Rattle.at_geojson.specs.Arrays.{JoinsItems, MakesItems, MakesNumbers, ClosesItems};
 
 use crate::asked::GeoAlgebra;
@@ -169,7 +169,18 @@ pub fn is_object(atom: &GeoAtom) -> bool
     }
 }
 
-/// Whether some value is such.
+/// Whether a value is an object, or several of which one is an object.
+#[inline(always)]
+pub fn is_any_object(atom: &GeoAtom) -> bool
+    ensures { result ≡ any_object_is atom.now }
+{
+    match atom {
+        GeoAtom::Object(_) | GeoAtom::Run(_) | GeoAtom::Void(_) => true,
+        _ => false,
+    }
+}
+
+/// Whether some value is an object that has a kind or texts, or several of which one is an object.
 fn has_objects(atoms: &[GeoAtom]) -> bool
     ensures { result ≡ list_any object_is atoms.now }
 {
@@ -263,4 +274,26 @@ pub fn array_atom(
         Some(fault) => Ok(GeoAtom::Twin(fault)),
         None => items_atom(alloc, algebra, at, items),
     }
+}
+
+/// An array of one item that begins at the offset.
+pub fn one_item_atom(
+    alloc: Global,
+    algebra: &GeoAlgebra,
+    at: u32,
+    item: GeoAtom,
+) -> Result<GeoAtom, Memory>
+    requires { IsOwn algebra.now item }
+    ensures own { IfOk result (IsOwn algebra.now) }
+    ensures fold { IfOk result (ClosesItems algebra.now at (item ∷ [])) }
+{
+    if let GeoAtom::Other(other) = &item {
+        return Ok(GeoAtom::Other(OtherAtom {
+            at,
+            least: other.at,
+        }));
+    }
+    let mut items = Vec::with_capacity(alloc, 1)?;
+    items.push(item)?;
+    array_atom(alloc, algebra, at, items)
 }

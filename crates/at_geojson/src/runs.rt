@@ -6,14 +6,14 @@
 ghost use Rattle.std.specs.Prelude.{◌≡◌, ◌++◌, ◌∷◌, [], All, IfOk, IfSome, Ok, true};
 ghost use Rattle.at_query.specs.Parts.{JoinsParts};
 ghost use Rattle.at_geojson.specs.Atoms.{IsOwn, AreOwnItems};
-ghost use Rattle.at_geojson.specs.Gathering.{is_object as object_is, item_geometries, item_features, JoinsShapes};
+ghost use Rattle.at_geojson.specs.Gathering.{is_any_object as any_object_is, item_geometries, item_features, JoinsShapes};
 ghost use Rattle.at_geojson.specs.Gathering.{JoinsFound, AreJoinable};
 ghost use Rattle.at_geojson.specs.Arrays.{Adds, TakesRun, Settles};
 
 use crate::asked::GeoAlgebra;
 use crate::atoms::{GeoAtom, Items};
 use crate::geometries::Geometry;
-use crate::lists::{form_at, into_items, is_object, joined_parts};
+use crate::lists::{form_at, into_items, is_any_object, joined_parts};
 use crate::series::join_lists;
 use crate::shapes::joined_shapes;
 use crate::sorts::{Sort, is_of};
@@ -136,7 +136,7 @@ pub fn join_features(run: &mut Items, more: Result<Part, Fault>) -> Result<(), M
 }
 
 /// The items of a run, and further ones behind them.
-fn joined_run(alloc: Global, run: Box<Items>, more: Items) -> Result<Box<Items>, Memory>
+pub fn joined_run(alloc: Global, run: Box<Items>, more: Items) -> Result<Box<Items>, Memory>
     requires { AreJoinable run.value.features more.features }
     ensures geometries { IfOk result (λ b. JoinsShapes run.value.geometries more.geometries b.value.geometries) }
     ensures features { IfOk result (λ b. JoinsFound run.value.features more.features b.value.features) }
@@ -195,7 +195,7 @@ fn start_run(
 ) -> Result<(), Memory>
     requires items { All (IsOwn algebra.now) items.old.items }
     requires atom { IsOwn algebra.now atom }
-    requires object { object_is atom ≡ true }
+    requires object { any_object_is atom ≡ true }
     ensures own { IfOk result (λ u. All (IsOwn algebra.now) items.new.items) }
     ensures fold { IfOk result (λ u. Adds algebra.now items.old.items atom items.new.items) }
 {
@@ -215,7 +215,7 @@ fn join_run(
     requires items { All (IsOwn algebra.now) items.old.items }
     requires before { AreOwnItems algebra.now before.value }
     requires atom { IsOwn algebra.now atom }
-    requires object { object_is atom ≡ true }
+    requires object { any_object_is atom ≡ true }
     ensures own { IfOk result (λ u. All (IsOwn algebra.now) items.new.items) }
     ensures fold { IfOk result (λ u. Adds algebra.now (items.old.items ++ GeoAtom.Run before ∷ []) atom
         items.new.items) }
@@ -301,7 +301,7 @@ fn add_behind_heavy(
     requires items { All (IsOwn algebra.now) items.old.items }
     requires before { AreOwnItems algebra.now before.value }
     requires atom { IsOwn algebra.now atom }
-    requires object { object_is atom ≡ true }
+    requires object { any_object_is atom ≡ true }
     ensures own { IfOk result (λ u. All (IsOwn algebra.now) items.new.items) }
     ensures fold { IfOk result (λ u. Adds algebra.now (items.old.items ++ GeoAtom.Run before ∷ []) atom
         items.new.items) }
@@ -322,7 +322,7 @@ fn add_behind_run(
     requires items { All (IsOwn algebra.now) items.old.items }
     requires before { AreOwnItems algebra.now before.value }
     requires atom { IsOwn algebra.now atom }
-    requires object { object_is atom ≡ true }
+    requires object { any_object_is atom ≡ true }
     ensures own { IfOk result (λ u. All (IsOwn algebra.now) items.new.items) }
     ensures fold { IfOk result (λ u. Adds algebra.now (items.old.items ++ GeoAtom.Run before ∷ []) atom
         items.new.items) }
@@ -332,6 +332,26 @@ fn add_behind_run(
     } else {
         add_behind_heavy(alloc, algebra, items, before, atom)
     }
+}
+
+/// Puts an object, or several, behind one, which was taken off: they begin a run.
+fn begin_run(
+    alloc: Global,
+    algebra: &GeoAlgebra,
+    items: &mut Vec<GeoAtom>,
+    last: GeoAtom,
+    atom: GeoAtom,
+) -> Result<(), Memory>
+    requires items { All (IsOwn algebra.now) items.old.items }
+    requires last { IsOwn algebra.now last }
+    requires atom { IsOwn algebra.now atom }
+    requires first { any_object_is last ≡ true }
+    requires object { any_object_is atom ≡ true }
+    ensures own { IfOk result (λ u. All (IsOwn algebra.now) items.new.items) }
+    ensures fold { IfOk result (λ u. Adds algebra.now (items.old.items ++ last ∷ []) atom items.new.items) }
+{
+    let before = new_run(alloc, last)?;
+    add_behind_run(alloc, algebra, items, before, atom)
 }
 
 /// Puts an object, or several, behind the last of an array's items, which was taken off.
@@ -345,13 +365,14 @@ fn add_object(
     requires items { All (IsOwn algebra.now) items.old.items }
     requires last { IsOwn algebra.now last }
     requires atom { IsOwn algebra.now atom }
-    requires object { object_is atom ≡ true }
+    requires object { any_object_is atom ≡ true }
     ensures own { IfOk result (λ u. All (IsOwn algebra.now) items.new.items) }
     ensures fold { IfOk result (λ u. Adds algebra.now (items.old.items ++ last ∷ []) atom items.new.items) }
 {
-    match last {
-        GeoAtom::Run(before) => add_behind_run(alloc, algebra, items, before, atom),
-        other => push_both(algebra, items, other, atom),
+    if is_any_object(&last) {
+        begin_run(alloc, algebra, items, last, atom)
+    } else {
+        push_both(algebra, items, last, atom)
     }
 }
 
@@ -369,7 +390,7 @@ fn add_behind(
     ensures own { IfOk result (λ u. All (IsOwn algebra.now) items.new.items) }
     ensures fold { IfOk result (λ u. Adds algebra.now (items.old.items ++ last ∷ []) atom items.new.items) }
 {
-    if is_object(&atom) {
+    if is_any_object(&atom) {
         return add_object(alloc, algebra, items, last, atom);
     }
     if is_of(&atom, Sort::Points) && is_of(&last, Sort::Points) {
@@ -398,7 +419,7 @@ pub fn add_item(
 {
     match items.pop() {
         Some(last) => add_behind(alloc, algebra, items, last, atom),
-        None if is_object(&atom) => start_run(alloc, algebra, items, atom),
+        None if is_any_object(&atom) => start_run(alloc, algebra, items, atom),
         None => push_item(algebra, items, atom),
     }
 }

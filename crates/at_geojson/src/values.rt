@@ -1,6 +1,6 @@
 //! Whole values of a text, read at once by descent: the same atoms as of the same values read item by item.
 
-ghost use Rattle.std.specs.Prelude.{◌≡◌, ◌+◌, ◌<◌, ◌≤◌, length, slice_index, All, [], false, None, IfOk, IfSome};
+ghost use Rattle.std.specs.Prelude.{◌≡◌, ℕ, ◌+◌, ◌<◌, ◌≤◌, length, slice_index, All, [], false, None, IfOk, IfSome};
 ghost use Rattle.std.specs.List.{list_any};
 ghost use Rattle.at_scan.specs.Places.{IsSimpleTextAt};
 ghost use Rattle.at_geojson.specs.Keeping.{looks_at_texts};
@@ -12,7 +12,7 @@ ghost use Rattle.at_geojson.specs.Values.{IsWhole, IsItem, EndsArray, EndsObject
 use crate::asked::{GeoAlgebra, needs_texts};
 use crate::atoms::{GeoAtom, NumberAtom};
 use crate::fields::{Fields, new_name};
-use crate::lists::array_atom;
+use crate::lists::{array_atom, one_item_atom};
 use crate::object_atoms::{fields_atom, object_atom};
 use crate::pairs::{PairRead, Whole, read_pair};
 use crate::passing::pass_item;
@@ -183,16 +183,13 @@ fn ended_array(
     Ok(Whole { end, atom })
 }
 
-/// An array from its opening bracket on, which stands at the place.
+/// An array from its opening bracket on, which stands at the place, with items in which brackets stand at most so deep.
 #[cycle(values)]
-fn read_array(text: &Text<'_>, at: usize, depth: u8) -> Result<Whole, Halt>
+fn read_items(text: &Text<'_>, at: usize, depth: u8) -> Result<Whole, Halt>
     requires inside { at < length text.now.bytes.now }
     requires opens { slice_index text.now.bytes.now at ≡ 0x5B }
     ensures { IfOk result (IsWhole text.now.algebra.now text.now.base text.now.bytes.now at) }
 {
-    if depth == 0 {
-        return Err(Halt::At(at));
-    }
     let first = skip_spaces(text.bytes, at + 1);
     if stands(text.bytes, first, b']') {
         return Ok(Whole {
@@ -203,7 +200,7 @@ fn read_array(text: &Text<'_>, at: usize, depth: u8) -> Result<Whole, Halt>
     let mut items = Vec::with_capacity(text.alloc, ROOM)?;
     let mut place = at + 1;
     'items: loop {
-        let Whole { end, atom } = read_item(text, place, depth - 1)?;
+        let Whole { end, atom } = read_item(text, place, depth)?;
         items.push(atom)?;
         if stands(text.bytes, end, b']') {
             return ended_array(
@@ -217,6 +214,69 @@ fn read_array(text: &Text<'_>, at: usize, depth: u8) -> Result<Whole, Halt>
         expect_comma(text.bytes, end)?;
         place = end + 1;
     }
+}
+
+/// The place of the last of the opening brackets that stand one behind another from the place on.
+fn last_bracket(text: &[u8], at: usize) -> usize
+    requires inside { at < length text.now }
+    requires opens { slice_index text.now at ≡ 0x5B }
+    ensures order { at ≤ result }
+    ensures inside { result < length text.now }
+    ensures brackets { (k : ℕ) → at ≤ k → k ≤ result → slice_index text.now k ≡ 0x5B }
+{
+    let mut last = at;
+    'brackets: while stands(text, last + 1, b'[') {
+        last += 1;
+    }
+    last
+}
+
+/// The array whose bracket stands at the place, right before its one item, which was read.
+fn array_round(text: &Text<'_>, at: usize, item: Whole) -> Result<Whole, Halt>
+    requires opens { slice_index text.now.bytes.now at ≡ 0x5B }
+    requires item { IsWhole text.now.algebra.now text.now.base text.now.bytes.now (at + 1) item }
+    ensures { IfOk result (IsWhole text.now.algebra.now text.now.base text.now.bytes.now at) }
+{
+    let close = skip_spaces(text.bytes, item.end);
+    if !stands(text.bytes, close, b']') {
+        return Err(Halt::At(close));
+    }
+    let atom = one_item_atom(text.alloc, text.algebra, text.base + at as u32, item.atom)?;
+    let end = close + 1;
+    Ok(Whole { end, atom })
+}
+
+/// Arrays in one another, however many: each but the innermost has one item, which is the next one. The brackets of all
+/// of them stand one behind another from the place on.
+#[cycle(values)]
+fn read_nest(text: &Text<'_>, at: usize) -> Result<Whole, Halt>
+    requires inside { at < length text.now.bytes.now }
+    requires opens { slice_index text.now.bytes.now at ≡ 0x5B }
+    ensures { IfOk result (IsWhole text.now.algebra.now text.now.base text.now.bytes.now at) }
+{
+    let mut first = last_bracket(text.bytes, at);
+    let mut whole = read_items(text, first, 0)?;
+    'nest: while first > at {
+        whole = array_round(text, first - 1, whole)?;
+        first -= 1;
+    }
+    Ok(whole)
+}
+
+/// An array from its opening bracket on, which stands at the place.
+#[cycle(values)]
+fn read_array(text: &Text<'_>, at: usize, depth: u8) -> Result<Whole, Halt>
+    requires inside { at < length text.now.bytes.now }
+    requires opens { slice_index text.now.bytes.now at ≡ 0x5B }
+    ensures { IfOk result (IsWhole text.now.algebra.now text.now.base text.now.bytes.now at) }
+{
+    if depth == 0 {
+        return Err(Halt::At(at));
+    }
+    if depth == 1 && stands(text.bytes, at + 1, b'[') {
+        return read_nest(text, at);
+    }
+    read_items(text, at, depth - 1)
 }
 
 /// Coordinates of positions of two numbers that are written plainly, or another array, which stands at the place.

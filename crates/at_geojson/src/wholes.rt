@@ -10,6 +10,7 @@ use crate::asked::needs_texts;
 use crate::atoms::GeoAtom;
 use crate::feature_runs::{FeaturesRead, read_features};
 use crate::features::{feature_value, is_read_again};
+use crate::object_runs::{is_empty_object, read_objects};
 use crate::pairs::Whole;
 use crate::position_runs::read_positions;
 use crate::text::Text;
@@ -88,9 +89,8 @@ fn object_items(text: &Text<'_>) -> Result<Whole, Halt>
             atom: GeoAtom::Run(run),
         }),
         Err(Halt::Memory) => Err(Halt::Memory),
-        Err(Halt::At(place)) => if is_read_again(text, 0, place) {
-            let whole = read_object(text, 0, DEEPEST)?;
-            Ok(whole)
+        Err(Halt::At(place)) => if is_read_again(text, 0, place) || is_empty_object(text.bytes, 0) {
+            read_objects(text)
         } else {
             Err(Halt::At(place))
         },

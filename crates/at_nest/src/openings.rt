@@ -54,7 +54,7 @@ impl Tries {
     pub fn new(base: u32, len: usize) -> Self {
         Tries {
             base,
-            spare: (AHEAD as usize).min(len / 16) as u32,
+            spare: (AHEAD as usize).min(len / 4) as u32,
             vain: 0,
             narrow: 0,
         }

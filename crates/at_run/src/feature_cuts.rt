@@ -38,6 +38,9 @@ fn begins_feature(bytes: &[u8], at: usize) -> bool
     requires { at ≤ length bytes.now }
 {
     let name = skip_spaces(bytes, at);
+    if !stands(bytes, name, b'"') {
+        return false;
+    }
     if !bytes[name..].starts_with(TYPE) {
         return has_one_of(bytes, name, &FIRST_NAMES);
     }

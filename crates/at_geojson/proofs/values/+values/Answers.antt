@@ -13,23 +13,23 @@ use Rattle.at_geojson.proofs.FieldFolds.{own_fields}
 use Rattle.at_geojson.proofs.MemberReads.{no_twin_in, field_passed, fields_begin, longer_fields, fields_go_on, ends_fields, ends_longer, no_texts}
 use Rattle.at_geojson.proofs.values.+values.Goals as goal
 
-pub read_array-returns-then-stands : goal.read_array-returns-then-stands
-read_array-returns-then-stands t c = empty_read c.args.text.now.algebra.now c.args.text.now.base c.args.text.now.bytes.now c.args.at c.skip_spaces-first.result (omega (arith, c.skip_spaces-first.ensures.order)) (c.stands.ensures.inside c.if-stands.true) c.requires.opens (c.stands.ensures.byte c.if-stands.true) c.skip_spaces-first.ensures.spaces
+pub read_items-returns-then-stands : goal.read_items-returns-then-stands
+read_items-returns-then-stands t c = empty_read c.args.text.now.algebra.now c.args.text.now.base c.args.text.now.bytes.now c.args.at c.skip_spaces-first.result (omega (arith, c.skip_spaces-first.ensures.order)) (c.stands.ensures.inside c.if-stands.true) c.requires.opens (c.stands.ensures.byte c.if-stands.true) c.skip_spaces-first.ensures.spaces
 
-pub read_array-items-init : goal.read_array-items-init
-read_array-items-init t c = record { order = omega arith; within = omega (arith, c.requires.inside); read = subst (AreItemsRead c.args.text.now.algebra.now c.args.text.now.base c.args.text.now.bytes.now c.args.at (c.args.at + 1)) (sym c.in_ok-items.ensures.items) (items_begin c.args.text.now.algebra.now c.args.text.now.base c.args.text.now.bytes.now c.args.at c.requires.inside) }
+pub read_items-items-init : goal.read_items-items-init
+read_items-items-init t c = record { order = omega arith; within = omega (arith, c.requires.inside); read = subst (AreItemsRead c.args.text.now.algebra.now c.args.text.now.base c.args.text.now.bytes.now c.args.at (c.args.at + 1)) (sym c.in_ok-items.ensures.items) (items_begin c.args.text.now.algebra.now c.args.text.now.base c.args.text.now.bytes.now c.args.at c.requires.inside) }
 
-pub read_array-ended_array-requires : goal.read_array-ended_array-requires
-read_array-ended_array-requires t c = subst (All (IsOwn c.args.text.now.algebra.now)) (sym c.in_ok-push.ensures.items)
+pub read_items-ended_array-requires : goal.read_items-ended_array-requires
+read_items-ended_array-requires t c = subst (All (IsOwn c.args.text.now.algebra.now)) (sym c.in_ok-push.ensures.items)
     (items_own c.args.text.now.algebra.now c.args.text.now.base c.args.text.now.bytes.now c.args.at c.items.place c.items.items.items c.in_ok-end.field-0 c.items.invariant.read c.in_ok-end.ensures)
 
-pub read_array-returns-then-stands-2 : goal.read_array-returns-then-stands-2
-read_array-returns-then-stands-2 t c = IfOk-weaker c.ended_array.result _ _ (λ q e. array_read c.args.text.now.algebra.now c.args.text.now.base c.args.text.now.bytes.now c.args.at c.items.place c.items.items.items c.in_ok-end.field-0 q c.items.invariant.order c.requires.opens c.items.invariant.read c.in_ok-end.ensures
+pub read_items-returns-then-stands-2 : goal.read_items-returns-then-stands-2
+read_items-returns-then-stands-2 t c = IfOk-weaker c.ended_array.result _ _ (λ q e. array_read c.args.text.now.algebra.now c.args.text.now.base c.args.text.now.bytes.now c.args.at c.items.place c.items.items.items c.in_ok-end.field-0 q c.items.invariant.order c.requires.opens c.items.invariant.read c.in_ok-end.ensures
     (c.stands-in-items.ensures.inside c.if-stands-2.true) (c.stands-in-items.ensures.byte c.if-stands-2.true)
     (subst (λ z. EndsArray c.args.text.now.algebra.now (c.args.text.now.base + c.args.at) (c.in_ok-end.field-0.end + 1) z q) c.in_ok-push.ensures.items e)) c.ended_array.ensures
 
-pub read_array-items-preserved : goal.read_array-items-preserved
-read_array-items-preserved t c =
+pub read_items-items-preserved : goal.read_items-items-preserved
+read_items-items-preserved t c =
     let inside = c.in_ok-expect_comma.ensures.inside in
     record {
       order = omega (arith, c.items.invariant.order, c.in_ok-end.ensures.order);

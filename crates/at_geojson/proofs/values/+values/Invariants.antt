@@ -1,6 +1,6 @@
 -- Between items: those before were read. Brackets stand less deep in a part.
-use Rattle.std.proofs.Common.{◌+◌, ◌*◌, ◌-◌, ◌<◌, ◌≤◌, length}
-use Rattle.at_geojson.specs.Values.{AreItemsRead, AreMembersRead}
+use Rattle.std.proofs.Common.{◌≡◌, ℕ, ◌+◌, ◌*◌, ◌-◌, ◌<◌, ◌≤◌, length, slice_index}
+use Rattle.at_geojson.specs.Values.{IsWhole, AreItemsRead, AreMembersRead}
 use Rattle.at_geojson.specs.Members.{AreFieldsRead}
 use Rattle.at_geojson.proofs.values.+values.Given as goal
 
@@ -31,6 +31,12 @@ decreases-read_field l = 8 * l.depth + 7
 abbrev pub decreases-read_array : goal.decreases-read_array
 decreases-read_array l = 8 * l.depth
 
+abbrev pub decreases-read_items : goal.decreases-read_items
+decreases-read_items l = 8 * l.depth + 5
+
+abbrev pub decreases-read_nest : goal.decreases-read_nest
+decreases-read_nest l = 6
+
 abbrev pub decreases-read_object : goal.decreases-read_object
 decreases-read_object l = 8 * l.depth + 1
 
@@ -40,11 +46,11 @@ decreases-read_members l = 8 * l.depth
 abbrev pub decreases-read_fields : goal.decreases-read_fields
 decreases-read_fields l = 8 * l.depth
 
-abbrev pub invariant-read_array-items : goal.invariant-read_array-items
-invariant-read_array-items l = record { order : l.at < l.place; within : l.place ≤ length l.text.bytes.now; read : AreItemsRead l.text.algebra.now l.text.base l.text.bytes.now l.at l.place l.items.items }
+abbrev pub invariant-read_items-items : goal.invariant-read_items-items
+invariant-read_items-items l = record { order : l.at < l.place; within : l.place ≤ length l.text.bytes.now; read : AreItemsRead l.text.algebra.now l.text.base l.text.bytes.now l.at l.place l.items.items }
 
-abbrev pub decreases-read_array-items : goal.decreases-read_array-items
-decreases-read_array-items l = length l.text.bytes.now - l.place
+abbrev pub decreases-read_items-items : goal.decreases-read_items-items
+decreases-read_items-items l = length l.text.bytes.now - l.place
 
 abbrev pub invariant-read_members-members : goal.invariant-read_members-members
 invariant-read_members-members l = record { order : l.at < l.place; within : l.place ≤ length l.text.bytes.now; read : AreMembersRead l.text.algebra.now l.text.base l.text.bytes.now l.at l.place l.members.items }
@@ -57,3 +63,13 @@ invariant-read_fields-fields l = record { order : l.at < l.place; within : l.pla
 
 abbrev pub decreases-read_fields-fields : goal.decreases-read_fields-fields
 decreases-read_fields-fields l = length l.text.bytes.now - l.place
+
+abbrev pub invariant-read_nest-nest : goal.invariant-read_nest-nest
+invariant-read_nest-nest l = record {
+  low : l.at ≤ l.first;
+  brackets : (k : ℕ) → l.at ≤ k → k ≤ l.first → slice_index l.text.bytes.now k ≡ 0x5B;
+  whole : IsWhole l.text.algebra.now l.text.base l.text.bytes.now l.first l.whole;
+}
+
+abbrev pub decreases-read_nest-nest : goal.decreases-read_nest-nest
+decreases-read_nest-nest l = l.first
