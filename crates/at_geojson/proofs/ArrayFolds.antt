@@ -6,13 +6,13 @@ use Rattle.std.proofs.Math.Nat.{min-eq_left, min-eq_right}
 use Rattle.at_text.specs.Faults.{comes_first, first_fault, fault_at}
 use Rattle.at_text.specs.declared.faults.FaultKind.TheVariants.{Form}
 use Rattle.at_nest.specs.Tree.{Tree, array, Trees, no_trees}
+use Rattle.at_query.specs.Keeping.{Asked, needs_shapes, asked_texts, kept, kept_shape}
 use Rattle.at_geojson.specs.declared.atoms.GeoAtom.{GeoAtom}
 use Rattle.at_geojson.specs.declared.atoms.GeoAtom.TheVariants as atoms
 use Rattle.at_geojson.specs.declared.atoms.ItemsAtom.{ItemsAtom}
 use Rattle.at_geojson.specs.declared.atoms.Role.TheVariants as roles
 use Rattle.at_geojson.specs.Coordinates.{position_of, positions_of, lists_of, area_of, areas_of}
 use Rattle.at_geojson.specs.Roles.{texts_of, geometry_reading, items_reading, item_reading}
-use Rattle.at_geojson.specs.Keeping.{Asked, needs_shapes, asked_texts, kept, kept_shape}
 use Rattle.at_wkt.specs.Meaning.{empty_shape}
 use Rattle.at_geojson.specs.Atoms.{twin_of, at_of, as_run, is_null, is_empty, as_kind, as_text, as_geometries, as_features, both_forms, as_number, as_position, as_points, as_lists, as_area, as_areas, role_of, role_geometry, role_item, as_texts, HasShape, HasPart, Alike, IsPosition, IsPoints, IsLists, IsArea, IsAreas, IsObject, IsScalar, IsRoot, items_features, IsRead}
 use Rattle.at_geojson.proofs.CoordinateFolds.{alike_at}

@@ -6,6 +6,7 @@ use Rattle.at_text.specs.Faults.{first_fault}
 use Rattle.at_text.specs.declared.faults.Fault.{Fault}
 use Rattle.at_nest.specs.Folds.{AreFolds}
 use Rattle.at_nest.specs.Tree.{Tree, array, Trees}
+use Rattle.at_query.specs.Keeping.{Asked, needs_shapes}
 use Rattle.at_geojson.specs.declared.atoms.GeoAtom.{GeoAtom}
 use Rattle.at_geojson.specs.declared.atoms.GeoAtom.TheVariants as atoms
 use Rattle.at_fixed.specs.Numerals.{Numeral}
@@ -14,7 +15,6 @@ use Rattle.std.proofs.lemmas.Option.{none-some, same_Some}
 use Rattle.at_geojson.specs.Names.{items_of}
 use Rattle.at_geojson.specs.Coordinates.{each, number_at, position_of, position_of_numbers, positions_of, lists_of, area_of, areas_of, if_some_items}
 use Rattle.std.proofs.Common.{option_map, option_and_then}
-use Rattle.at_geojson.specs.Keeping.{Asked, needs_shapes}
 use Rattle.at_geojson.specs.Atoms.{twin_of, both_forms, IsNumber, as_number, as_position, as_points, as_lists, as_area, as_areas, Alike, IsPosition, IsPoints, IsLists, IsArea, IsAreas, IsRead, IsRun, IsFold, HaveItems, no_roles}
 use Rattle.at_geojson.specs.Gathering.{firsts, is_object, least_of, are_all, rank, sort_of_all, position_atom, position_made, pair_at, pair_atom, number_fault, MakesPoints, MakesLists, MakesAreas}
 use Rattle.at_geojson.proofs.Each.{EachIs, twins_items}

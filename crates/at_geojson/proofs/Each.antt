@@ -11,10 +11,10 @@ use Rattle.at_wkt.proofs.FaultOrder.{first_of-append}
 use Rattle.at_nest.specs.Folds.{AreFolds}
 use Rattle.at_nest.specs.Tree.{Tree, Trees, no_trees, tree_and}
 use Rattle.at_nest.specs.Twins.{twins_of, twins_of_items}
+use Rattle.at_query.specs.Keeping.{Asked}
 use Rattle.at_geojson.specs.declared.atoms.GeoAtom.{GeoAtom}
 use Rattle.at_geojson.specs.Names.{items_of}
 use Rattle.at_geojson.specs.Coordinates.{each}
-use Rattle.at_geojson.specs.Keeping.{Asked}
 use Rattle.at_geojson.specs.Atoms.{Alike, twin_of, IsRead, IsFold}
 use Rattle.at_geojson.specs.Gathering.{firsts}
 use Rattle.at_geojson.proofs.Firsts.{firsts-cons}

@@ -8,6 +8,7 @@ use Rattle.at_fixed.specs.NumberSoFar.{between}
 use Rattle.at_lex.specs.Spans.{AreSpaces}
 use Rattle.at_nest.specs.declared.algebra.Member.{Member}
 use Rattle.at_query.specs.declared.features.TextPair.{TextPair}
+use Rattle.at_query.specs.Keeping.{Asked, looks_at_texts}
 use Rattle.at_scan.specs.declared.members.FieldName.{FieldName}
 use Rattle.at_scan.specs.declared.members.OtherNames.{OtherNames}
 use Rattle.at_scan.specs.declared.known_names.KindRead.{KindRead}
@@ -26,7 +27,6 @@ use Rattle.at_geojson.specs.declared.features.FeatureRead.{FeatureRead}
 use Rattle.at_geojson.specs.declared.features.FeatureMembers.{FeatureMembers}
 use Rattle.at_geojson.specs.declared.features.PropertiesRead.{PropertiesRead}
 use Rattle.at_geojson.specs.declared.pairs.Whole.{Whole}
-use Rattle.at_geojson.specs.Keeping.{Asked, looks_at_texts}
 use Rattle.at_geojson.specs.Atoms.{twin_of, as_text, IfOwnShape, IfOwnPart, IsOwnRole}
 use Rattle.at_geojson.specs.Objects.{feature_shape, texts_in, texts_named, kept_texts, JoinsFeature}
 use Rattle.at_geojson.specs.Fields.{put_if, value_in, kind_in_fields, IsRoleIn}

@@ -11,6 +11,7 @@ use Rattle.at_nest.specs.declared.algebra.Member.{Member}
 use Rattle.at_query.specs.declared.features.TextPair.{TextPair}
 use Rattle.at_query.specs.declared.query.queries.Query.{Query}
 use Rattle.at_query.specs.declared.answer.parts.Part.{Part}
+use Rattle.at_query.specs.Keeping.{Asked, needs_shapes}
 use Rattle.at_scan.specs.declared.kinds.Kind.{Kind}
 use Rattle.at_scan.specs.declared.fields.Field.{Field}
 use Rattle.at_scan.specs.declared.kinds.Kind.TheVariants as kinds
@@ -22,7 +23,6 @@ use Rattle.at_geojson.specs.declared.atoms.Role.{Role}
 use Rattle.at_geojson.specs.declared.atoms.Role.TheVariants as roles
 use Rattle.at_geojson.specs.declared.fields.Fields.{Fields}
 use Rattle.at_geom.specs.declared.shapes.Shape.{Shape}
-use Rattle.at_geojson.specs.Keeping.{Asked, needs_shapes}
 use Rattle.at_geojson.specs.Atoms.{as_kind, IsOwn, IsOwnRole, IfOwnPart}
 use Rattle.at_geojson.specs.Gathering.{seen, is_among}
 use Rattle.at_geojson.specs.Objects.{value_named, kind_in, coordinates_shape, geometries_shape, feature_shape, texts_named, kept_texts, FeaturesSeen, JoinsFeature, IsRoleOf, MakesObject}

@@ -16,12 +16,12 @@ use Rattle.at_wkt.specs.Meaning.{empty_shape, of_points, of_lines, of_polygons, 
 use Rattle.at_nest.specs.Tree.{Tree, array, object, Trees, no_trees, tree_and, offset_of}
 use Rattle.at_scan.specs.declared.kinds.Kind.{Kind}
 use Rattle.at_scan.specs.declared.kinds.Kind.TheVariants as kinds
+use Rattle.at_query.specs.Keeping.{Asked, needs_shapes, kept, kept_shape}
 use Rattle.at_geojson.specs.declared.atoms.GeoAtom.{GeoAtom}
 use Rattle.at_geojson.specs.declared.atoms.GeoAtom.TheVariants as atoms
 use Rattle.at_geojson.specs.Names.{items_of}
 use Rattle.at_geojson.specs.Coordinates.{each, position_of, positions_of, lists_of, area_of, areas_of, if_some_items, geometry_of, geometry_of_form}
 use Rattle.at_geojson.specs.Roles.{GeometryRead, not_geometry, coordinates_reading}
-use Rattle.at_geojson.specs.Keeping.{Asked, needs_shapes, kept, kept_shape}
 use Rattle.at_geojson.specs.Atoms.{no_roles, at_of, is_empty, as_position, as_points, as_lists, as_area, as_areas, PositionView, PointsView, ListsView, AreasView, array_trees, Alike, HasShape, IsPosition, IsPoints, IsLists, IsArea, IsAreas, IsRead}
 use Rattle.at_geojson.specs.Gathering.{seen}
 use Rattle.at_geojson.specs.Objects.{unless, shape_seen, point_shape, points_shape, line_shape, lines_shape, polygon_shape, polygons_shape}

@@ -2,9 +2,7 @@ pub mod Firsts
 pub mod ProofOnly
 pub mod MadeFolds
 pub mod SeenCoordinates
-pub mod TallyFolds
 pub mod TwinSteps
-pub mod Ranges
 pub mod ScalarFolds
 pub mod Each
 pub mod SortFacts
@@ -21,7 +19,6 @@ pub mod ArrayReads
 pub mod ArrayAnswers
 pub mod GeometryFolds
 pub mod MemberFolds
-pub mod QueryFacts
 pub mod ObjectFolds
 pub mod ObjectOwns
 pub mod FieldFolds

@@ -1,7 +1,7 @@
 -- Trees one behind another: what a position and a list of positions are not, and what is read of joined lists of trees.
 -- For `add`, `array` and `value`.
 use Rattle.std.proofs.Common.{◌≡◌, ℕ, List, [], ◌∷◌, ◌++◌, Option, Some, None, refl, sym, ◌∙◌, ap, option_map, option_and_then}
-use Rattle.std.proofs.lemmas.Option.{none-some}
+use Rattle.std.proofs.lemmas.Option.{none-some, same_Some}
 use Rattle.at_fixed.specs.Numerals.{Numeral}
 use Rattle.at_wkt.specs.Positions.{Position, Positions}
 use Rattle.at_nest.specs.Tree.{Tree, number, array}
@@ -10,9 +10,6 @@ use Rattle.at_geojson.specs.Coordinates.{each, number_at, position_of, position_
 
 abbrev joined : {Y : Type 0} → Option Y → Option (List Y) → Option (List Y)
 joined p q = option_and_then (λ y. option_map (λ ys. y ∷ ys) q) p
-
-pub same_Some : {X : Type 0} (x y : X) → Some x ≡ Some y → x ≡ y
-same_Some x y e = ap (λ o. elim o [ None ↦ x | Some z ↦ z ]) e
 
 -- ---- what f gives of each
 

@@ -19,6 +19,7 @@ use Rattle.at_nest.specs.Passing.{IsPadded}
 use Rattle.at_nest.proofs.OneTree.{one_tree}
 use Rattle.at_nest.proofs.Passed.{padded_gives}
 use Rattle.at_scan.proofs.Moved.{bytes_moved}
+use Rattle.at_query.specs.Keeping.{Asked, kept, needs_shapes}
 use Rattle.at_geojson.specs.declared.atoms.GeoAtom.TheVariants as atoms
 use Rattle.at_geojson.specs.declared.atoms.PositionAtom.{PositionAtom}
 use Rattle.at_geojson.specs.declared.spots.Spot.{Spot}
@@ -30,7 +31,6 @@ use Rattle.at_geojson.specs.declared.makings.AreasMade.{AreasMade}
 use Rattle.at_geojson.specs.declared.pairs.PairRead.{PairRead}
 use Rattle.at_geojson.specs.declared.pairs.PairPlace.{PairPlace}
 use Rattle.at_geojson.specs.declared.pairs.Row.{Row}
-use Rattle.at_geojson.specs.Keeping.{Asked, kept, needs_shapes}
 use Rattle.at_wkt.specs.Positions.{Position}
 use Rattle.at_geojson.specs.Coordinates.{position_of}
 use Rattle.at_geojson.specs.Atoms.{to_four, IsFold, PositionView, Alike, IsPosition}

@@ -10,6 +10,7 @@ use Rattle.at_nest.specs.declared.algebra.Member.{Member}
 use Rattle.at_query.specs.declared.query.queries.Test.{Test}
 use Rattle.at_query.specs.declared.query.queries.Test.TheVariants.{InBox, MeetsShape, Has}
 use Rattle.at_query.specs.declared.features.TextPair.{TextPair}
+use Rattle.at_query.specs.Keeping.{Asked, looks_at_texts, asks_pair}
 use Rattle.at_wkt.proofs.FaultOrder.{none_right}
 use Rattle.at_scan.specs.declared.fields.Field.{Field}
 use Rattle.at_scan.specs.declared.places.NamePlace.{NamePlace}
@@ -23,7 +24,6 @@ use Rattle.at_scan.proofs.FieldNames.{unlike_field}
 use Rattle.at_geojson.specs.declared.atoms.GeoAtom.{GeoAtom}
 use Rattle.at_geojson.specs.declared.fields.Fields.{Fields}
 use Rattle.at_geojson.specs.declared.pairs.Whole.{Whole}
-use Rattle.at_geojson.specs.Keeping.{Asked, looks_at_texts, asks_pair}
 use Rattle.at_geojson.specs.Atoms.{twin_of, as_text}
 use Rattle.at_geojson.specs.Gathering.{is_among, twin_at, member_twins}
 use Rattle.at_geojson.specs.Objects.{kept_texts, pair_kept}

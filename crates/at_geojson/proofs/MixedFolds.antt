@@ -8,12 +8,12 @@ use Rattle.at_text.specs.Faults.{fault_at}
 use Rattle.at_text.specs.declared.faults.FaultKind.TheVariants.{Form}
 use Rattle.at_nest.specs.Folds.{trees, Covers, AreItemFolds}
 use Rattle.at_nest.specs.Tree.{Tree, array, object, Trees, Members}
+use Rattle.at_query.specs.Keeping.{Asked, needs_shapes}
 use Rattle.at_geojson.specs.declared.atoms.GeoAtom.{GeoAtom}
 use Rattle.at_geojson.specs.declared.atoms.GeoAtom.TheVariants as atoms
 use Rattle.at_geojson.specs.Names.{items_of}
 use Rattle.at_geojson.specs.Coordinates.{each, number_at, position_of, position_of_numbers, positions_of, area_of, if_some_items}
 use Rattle.at_geojson.specs.Roles.{items_reading}
-use Rattle.at_geojson.specs.Keeping.{Asked, needs_shapes}
 use Rattle.at_geojson.specs.Atoms.{twin_of, at_of, no_roles, ListsView, lists_view, TrackView, track_view, as_number, as_position, as_points, as_area, Alike, HasShape, HasPart, items_features, IsPosition, IsPoints, IsNumber, IsArea, AreSeries, AreTracked, IsRead, IsRun, IsFold, HaveItems}
 use Rattle.at_wkt.specs.Positions.{Position, Positions}
 use Rattle.at_geojson.specs.Gathering.{firsts, rank, sort_of, are_all, sort_of_all, is_object, least_of, item_geometries, item_features, JoinsShapes, JoinsFound}

@@ -11,6 +11,7 @@ use Rattle.at_geom.specs.declared.shapes.Shape.{Shape}
 use Rattle.at_geom.specs.Segments.{IsInRange}
 use Rattle.at_geom.specs.Shapes.{ArePathsInRange, ArePolygonsInRange, IsShapeInRange}
 use Rattle.at_query.specs.declared.answer.parts.Part.{Part}
+use Rattle.at_query.specs.Keeping.{Asked, needs_shapes, kept}
 use Rattle.at_wkt.specs.Meaning.{empty_shape, of_points, of_lines, of_polygons}
 use Rattle.at_nest.specs.declared.algebra.Member.{Member}
 use Rattle.at_scan.specs.declared.kinds.Kind.{Kind}
@@ -18,7 +19,6 @@ use Rattle.at_scan.specs.declared.kinds.Kind.TheVariants as kinds
 use Rattle.at_geojson.specs.declared.atoms.GeoAtom.{GeoAtom}
 use Rattle.at_geojson.specs.declared.atoms.GeoAtom.TheVariants as atoms
 use Rattle.at_geojson.specs.Fields.{IfOwnValue}
-use Rattle.at_geojson.specs.Keeping.{Asked, needs_shapes, kept}
 use Rattle.at_geojson.specs.Atoms.{nowhere, at_of, is_empty, is_null, role_of, role_geometry, as_position, as_points, as_lists, as_area, as_areas, as_geometries, as_features, PositionView, PointsView, ListsView, AreasView, IfOwnShape, IfOwnPart, IsOwn}
 use Rattle.at_geojson.specs.Gathering.{seen}
 use Rattle.at_geojson.specs.Objects.{value_named, unless, shape_seen, kind_shape, coordinates_shape, geometries_shape, feature_shape, FeaturesSeen}

@@ -9,18 +9,18 @@ use Rattle.at_nest.specs.Tree.{Tree}
 use Rattle.at_nest.specs.Twins.{twins_of}
 use Rattle.at_query.specs.declared.answer.parts.Part.{Part}
 use Rattle.at_query.specs.Parts.{IsPart}
+use Rattle.at_query.specs.Keeping.{Asked, asked_texts}
+use Rattle.at_query.proofs.QueryFacts.{same_part}
 use Rattle.at_geojson.specs.declared.atoms.GeoAtom.{GeoAtom}
 use Rattle.at_geojson.specs.declared.atoms.Role.{Role}
 use Rattle.at_geojson.specs.declared.atoms.Role.TheVariants as roles
 use Rattle.at_geojson.specs.declared.root.RootEnd.{RootEnd}
 use Rattle.at_geojson.specs.declared.root.RootEnd.TheVariants.{Found, Memory}
-use Rattle.at_geojson.specs.Keeping.{Asked, asked_texts}
 use Rattle.at_geojson.specs.Roles.{Features, root_reading}
 use Rattle.at_geojson.specs.Atoms.{twin_of, at_of, role_of, HasPart, IsRoot, IsFold}
 use Rattle.at_geojson.specs.Ends.{EndsGeometry, EndsRole, EndsBy, EndsAtom}
 use Rattle.at_geojson.specs.Wholes.{faults_of, IsAnswer, found_end}
 use Rattle.at_geojson.proofs.Firsts.{none_first}
-use Rattle.at_geojson.proofs.QueryFacts.{same_part}
 use Rattle.at_geojson.proofs.Tiers.{twins_first}
 
 module _ (asked : Asked) (t : Tree) where

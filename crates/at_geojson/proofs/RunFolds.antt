@@ -16,6 +16,7 @@ use Rattle.at_nest.specs.Folds.{trees, AreFolds, Covers, AreItemFolds, HasBracke
 use Rattle.at_nest.specs.Tree.{Tree, array, object, Members}
 use Rattle.at_nest.specs.Twins.{twins_of, twins_of_items}
 use Rattle.at_nest.proofs.Held.{folds_append}
+use Rattle.at_query.specs.Keeping.{Asked, asked_texts}
 use Rattle.at_geojson.specs.declared.atoms.GeoAtom.{GeoAtom}
 use Rattle.at_geojson.specs.declared.atoms.GeoAtom.TheVariants as atoms
 use Rattle.at_geojson.specs.declared.atoms.Items.{Items}
@@ -23,7 +24,6 @@ use Rattle.at_query.specs.declared.features.TextPair.{TextPair}
 use Rattle.at_geojson.specs.Names.{items_of}
 use Rattle.at_geojson.specs.Coordinates.{each}
 use Rattle.at_geojson.specs.Roles.{texts_of}
-use Rattle.at_geojson.specs.Keeping.{Asked, asked_texts}
 use Rattle.at_geojson.specs.Atoms.{Alike, twin_of, as_run, is_object_tree, object_members, IsRead, IsFold, AreJoined, IsRun, AreOwnItems, IfOwnShape, IfOwnPart, IsOwn}
 use Rattle.at_geojson.specs.Gathering.{firsts, rank, sort_of, are_all, is_any_object, item_geometries, item_features, JoinsShapes, JoinsFound}
 use Rattle.at_geojson.specs.Arrays.{TakesRun}

@@ -17,13 +17,13 @@ use Rattle.at_nest.specs.Folds.{IsScalarText}
 use Rattle.at_nest.specs.Tree.{Tree, literal, number, text, Spells}
 use Rattle.at_nest.proofs.OneTree.{one_tree}
 use Rattle.at_scan.specs.Names.{kind_of_text}
+use Rattle.at_query.specs.Keeping.{Asked}
+use Rattle.at_query.proofs.QueryRanges.{value_small}
 use Rattle.at_geojson.specs.declared.atoms.GeoAtom.{GeoAtom}
 use Rattle.at_geojson.specs.declared.atoms.GeoAtom.TheVariants as atoms
 use Rattle.at_geojson.specs.declared.atoms.TextAtom.{TextAtom}
 use Rattle.at_geojson.specs.declared.atoms.NumberAtom.{NumberAtom}
-use Rattle.at_geojson.specs.Keeping.{Asked}
 use Rattle.at_geojson.specs.Atoms.{as_text, asked_text, IsFold, IsOwn}
-use Rattle.at_geojson.proofs.Ranges.{value_small}
 use Rattle.at_nest.proofs.TreeParts.{text_made}
 
 -- ---- one tree for the bytes

@@ -3,6 +3,7 @@ use Rattle.std.proofs.Common.{◌≡◌, inl, inr, ℕ, Bool, true, false, ◌&&
 use Rattle.std.specs.Prelude.{IsTrue}
 use Rattle.std.specs.List.{AllByRecursion, list_any}
 use Rattle.std.proofs.lemmas.Bool.{true≢false, and_parts, and_from, or_left, or_right}
+use Rattle.std.proofs.lemmas.Option.{same_Some}
 use Rattle.std.proofs.lemmas.Slice.Eq.{bytes_eq-Decides}
 use Rattle.std.proofs.lemmas.List.Concat.{flat_map-cons}
 use Rattle.std.proofs.lemmas.List.Folds.{list_any-append}
@@ -22,20 +23,19 @@ use Rattle.at_query.specs.Holding.{has_text, TestHolds, Holds}
 use Rattle.at_query.specs.Parts.{wrapped_sum, IsHullInRange, IsKeptOf, IsPart}
 use Rattle.at_query.specs.Results.{all_positions, all_polygons}
 use Rattle.at_query.proofs.KeptLists.{keeps_one}
-use Rattle.at_geojson.specs.declared.asked.Measure.{Measure}
-use Rattle.at_geojson.specs.declared.asked.Measure.TheVariants as measures
+use Rattle.at_query.specs.declared.query.looks.Measure.{Measure}
+use Rattle.at_query.specs.declared.query.looks.Measure.TheVariants as measures
+use Rattle.at_query.specs.Keeping.{Asked, looks_at_shapes, wants_pair, asks_pair, measured_by, measure_of, selects}
+use Rattle.at_query.specs.Tallies.{IsPartOfShape}
+use Rattle.at_query.proofs.TallyFolds.{none_looks}
 use Rattle.at_geojson.specs.declared.atoms.GeoAtom.{GeoAtom}
 use Rattle.at_geojson.specs.declared.plain_geometries.Seen.{Seen}
 use Rattle.at_geojson.specs.declared.plain_geometries.Seen.TheVariants as seens
-use Rattle.at_geojson.specs.Keeping.{Asked, looks_at_shapes, wants_pair, asks_pair}
 use Rattle.at_geojson.specs.Atoms.{IfOwnShape}
 use Rattle.at_geojson.specs.Objects.{feature_shape, JoinsFeature}
 use Rattle.at_geojson.specs.TextTests.{texts_hold, pair_of}
-use Rattle.at_geojson.specs.Tallies.{measured_by, measure_of, selects, IsPartOfShape}
 use Rattle.at_geojson.specs.PlainGeometries.{IsSeenOf, IsSeen}
 use Rattle.at_geojson.specs.Features.{IsGeometryOf, IsPartHeld, IsOwnSeen, IfOwnGeometry}
-use Rattle.at_geojson.proofs.ListRoles.{same_Some}
-use Rattle.at_geojson.proofs.TallyFolds.{none_looks}
 
 -- ---- tests that hold
 

@@ -11,13 +11,13 @@ use Rattle.at_query.specs.declared.query.queries.Test.{Test}
 use Rattle.at_query.specs.declared.query.queries.Test.TheVariants.{InBox, MeetsShape, Has}
 use Rattle.at_query.specs.declared.features.TextPair.{TextPair}
 use Rattle.at_query.specs.Holding.{has_text}
+use Rattle.at_query.specs.Keeping.{looks_at_texts, text_tests, wants_pair, asks_value, asks_pair}
+use Rattle.at_query.proofs.QueryFacts.{no_value}
 use Rattle.at_geojson.specs.declared.atoms.GeoAtom.{GeoAtom}
-use Rattle.at_geojson.specs.Keeping.{looks_at_texts, text_tests, wants_pair, asks_value, asks_pair}
 use Rattle.at_geojson.specs.Atoms.{as_text, asked_units}
 use Rattle.at_geojson.specs.Gathering.{is_among}
 use Rattle.at_geojson.specs.Objects.{kept_texts, pair_kept}
 use Rattle.at_geojson.specs.TextTests.{wants_name, met_of, is_met, met_by, texts_hold}
-use Rattle.at_geojson.proofs.QueryFacts.{no_value}
 
 -- ---- counts
 

@@ -21,6 +21,7 @@ use Rattle.at_nest.specs.Folds.{trees, Covers, AreItemFolds}
 use Rattle.at_nest.specs.Tree.{Tree, array}
 use Rattle.at_nest.specs.Twins.{twins_of_items}
 use Rattle.at_nest.proofs.Held.{folds_append}
+use Rattle.at_query.specs.Keeping.{Asked, needs_shapes, kept}
 use Rattle.at_geojson.specs.declared.atoms.GeoAtom.{GeoAtom}
 use Rattle.at_geojson.specs.declared.atoms.GeoAtom.TheVariants as atoms
 use Rattle.at_geojson.specs.declared.atoms.FaultyAtom.{FaultyAtom}
@@ -29,7 +30,6 @@ use Rattle.at_geojson.specs.declared.atoms.PositionAtom.{PositionAtom}
 use Rattle.at_geojson.specs.declared.atoms.TrackAtom.{TrackAtom}
 use Rattle.at_geojson.specs.Names.{items_of}
 use Rattle.at_geojson.specs.Coordinates.{each, position_of, position_of_numbers, positions_of, number_at, lists_of, area_of, areas_of, if_some_items}
-use Rattle.at_geojson.specs.Keeping.{Asked, needs_shapes, kept}
 use Rattle.at_geojson.specs.Atoms.{twin_of, at_of, as_run, as_position, as_points, no_roles, both_forms, to_four, PositionView, TrackView, track_view, place_of, IsPosition, IsPoints, IsLists, IsArea, IsAreas, IsOwn, IsTrack, AreTracked, IsRead, IsRun, IsFold}
 use Rattle.at_geojson.specs.Gathering.{seen, is_object, position_fault, position_value}
 use Rattle.at_geojson.specs.Tracks.{is_position, as_track, place_in, path_in, view_of, both_tracks, places_close, Begins, Joins, JoinsIf, IfOwnTrack, HasTrack, JoinsPositions, ClosesTrack, ClosesTrackAtom}

@@ -36,6 +36,7 @@ use Rattle.at_scan.specs.Names.{kind_of_text}
 use Rattle.at_scan.specs.Places.{IsTextAt, IsNameAt}
 use Rattle.at_scan.specs.Numbers.{IsFurther, AreFurther, EndsPosition}
 use Rattle.at_scan.proofs.Taken.{IsTaken, word_taken}
+use Rattle.at_query.specs.Keeping.{Asked}
 use Rattle.at_geojson.specs.declared.atoms.GeoAtom.{GeoAtom}
 use Rattle.at_geojson.specs.declared.atoms.GeoAtom.TheVariants as atoms
 use Rattle.at_geojson.specs.declared.atoms.NumberAtom.{NumberAtom}
@@ -44,7 +45,6 @@ use Rattle.at_geojson.specs.declared.sorts.Sort.TheVariants as sorts
 use Rattle.at_geojson.specs.declared.pairs.Whole.{Whole}
 use Rattle.at_geojson.specs.declared.pairs.Plain.{Plain}
 use Rattle.at_geojson.specs.declared.pairs.PairRead.{PairRead}
-use Rattle.at_geojson.specs.Keeping.{Asked}
 use Rattle.at_geojson.specs.Atoms.{twin_of, at_of, IsOwn, IsFold, as_text, unboxed, asked_units}
 use Rattle.at_geojson.specs.Gathering.{firsts, are_all, rank, sort_of, sort_of_all, least_of, pair_atom}
 use Rattle.at_geojson.specs.Members.{IsScalarAt}

@@ -6,11 +6,11 @@ use Rattle.std.specs.declared.boxed.Box.{Box}
 use Rattle.std.specs.List.{list_any}
 use Rattle.at_nest.specs.Tree.{Tree, array}
 use Rattle.at_nest.specs.Folds.{trees, Covers, AreItemFolds}
+use Rattle.at_query.specs.Keeping.{Asked}
 use Rattle.at_geojson.specs.declared.atoms.GeoAtom.{GeoAtom}
 use Rattle.at_geojson.specs.declared.atoms.GeoAtom.TheVariants as atoms
 use Rattle.at_geojson.specs.declared.atoms.Items.{Items}
 use Rattle.at_geojson.specs.declared.atoms.ItemsAtom.{ItemsAtom}
-use Rattle.at_geojson.specs.Keeping.{Asked}
 use Rattle.at_geojson.specs.Atoms.{IsRead, IsFold, IsRun, HaveItems}
 use Rattle.at_geojson.specs.Gathering.{is_object, least_of, pair_atom}
 

@@ -29,6 +29,7 @@ use Rattle.at_query.specs.declared.features.TextPair.{TextPair}
 use Rattle.at_query.specs.declared.features.Feature.{Feature}
 use Rattle.at_query.specs.declared.answer.parts.Part.{Part}
 use Rattle.at_query.specs.Parts.{IsPart}
+use Rattle.at_query.specs.Keeping.{Asked, needs_shapes, asks_value, asked_texts, kept, kept_shape}
 use Rattle.at_scan.specs.declared.kinds.Kind.{Kind}
 use Rattle.at_scan.specs.Names.{kind_of_text}
 use Rattle.at_geojson.specs.declared.atoms.GeoAtom.{GeoAtom}
@@ -44,7 +45,6 @@ use Rattle.at_geojson.specs.Names.{units_of_text, items_of}
 use Rattle.at_geojson.specs.Coordinates.{each, number_at, position_of, positions_of, lists_of, areas_of, area_of}
 use Rattle.at_geojson.specs.Roles.{GeometryRead, Features, geometry_reading, items_reading, item_reading, all_features}
 use Rattle.at_geojson.specs.Roles.{root_reading, texts_of}
-use Rattle.at_geojson.specs.Keeping.{Asked, needs_shapes, asks_value, asked_texts, kept, kept_shape}
 
 -- ---- what an atom keeps, by roles
 

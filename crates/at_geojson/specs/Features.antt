@@ -10,6 +10,7 @@ use Rattle.at_query.specs.declared.query.queries.Test.{Test}
 use Rattle.at_query.specs.declared.features.TextPair.{TextPair}
 use Rattle.at_query.specs.declared.answer.parts.Part.{Part}
 use Rattle.at_query.specs.Parts.{IsPart}
+use Rattle.at_query.specs.Keeping.{Asked, looks_at_texts}
 use Rattle.at_scan.specs.declared.fields.Field.{Field}
 use Rattle.at_scan.specs.declared.places.NamePlace.{NamePlace}
 use Rattle.at_scan.specs.declared.members.FieldName.{FieldName}
@@ -30,7 +31,6 @@ use Rattle.at_geojson.specs.declared.plain_objects.VoidRead.{VoidRead}
 use Rattle.at_geojson.specs.declared.features.FeatureRead.{FeatureRead}
 use Rattle.at_geojson.specs.declared.features.FeatureMembers.{FeatureMembers}
 use Rattle.at_geojson.specs.declared.features.PropertiesRead.{PropertiesRead}
-use Rattle.at_geojson.specs.Keeping.{Asked, looks_at_texts}
 use Rattle.at_geojson.specs.Atoms.{twin_of, as_kind, as_text, IfOwnShape, IfOwnPart}
 use Rattle.at_geojson.specs.Objects.{feature_shape, texts_in, texts_named, JoinsFeature}
 use Rattle.at_geojson.specs.TextTests.{met_of, met_by, texts_hold}

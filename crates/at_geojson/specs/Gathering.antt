@@ -16,6 +16,7 @@ use Rattle.at_geom.specs.declared.shapes.Shape.{Shape}
 use Rattle.at_wkt.specs.Meaning.{both}
 use Rattle.at_query.specs.declared.answer.parts.Part.{Part}
 use Rattle.at_query.specs.Parts.{AreAlike, JoinsParts}
+use Rattle.at_query.specs.Keeping.{kept}
 use Rattle.at_geom.specs.Shapes.{line_fault, ring_fault}
 use Rattle.at_nest.specs.declared.algebra.Member.{Member}
 use Rattle.at_geojson.specs.declared.atoms.GeoAtom.{GeoAtom}
@@ -28,7 +29,6 @@ use Rattle.at_geojson.specs.declared.sorts.Sort.{Sort}
 use Rattle.at_geojson.specs.declared.sorts.Sort.TheVariants as sorts
 use Rattle.at_geojson.specs.Atoms.{twin_of, at_of, nowhere, NumberView, PositionView, PointsView, ListsView, as_number}
 use Rattle.at_geojson.specs.Atoms.{as_position, as_points, as_area, as_run, to_four, role_of, role_geometry, role_item}
-use Rattle.at_geojson.specs.Keeping.{kept}
 
 -- the first of the faults that f finds
 abbrev pub firsts : {X : Type 0} → (X → Option Fault) → List X → Option Fault

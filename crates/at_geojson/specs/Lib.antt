@@ -2,9 +2,7 @@
 pub mod Names
 pub mod Coordinates
 pub mod Roles
-pub mod Keeping
 pub mod Atoms
-pub mod Tallies
 pub mod Wholes
 -- Of private functions and fields: nothing here has to be believed.
 pub mod Gathering

@@ -4,6 +4,7 @@ use Rattle.at_fixed.specs.NumberSoFar.{between}
 use Rattle.at_nest.specs.declared.algebra.Member.{Member}
 use Rattle.at_nest.specs.Folds.{IsScalarText}
 use Rattle.at_query.specs.declared.features.TextPair.{TextPair}
+use Rattle.at_query.specs.Keeping.{Asked}
 use Rattle.at_scan.specs.declared.fields.Field.{Field}
 use Rattle.at_scan.specs.declared.members.FieldName.{FieldName}
 use Rattle.at_scan.specs.declared.members.OtherNames.{OtherNames}
@@ -13,7 +14,6 @@ use Rattle.at_scan.specs.Fields.{is_geometries, is_no_field}
 use Rattle.at_geojson.specs.declared.atoms.GeoAtom.{GeoAtom}
 use Rattle.at_geojson.specs.declared.fields.Fields.{Fields}
 use Rattle.at_geojson.specs.declared.pairs.Whole.{Whole}
-use Rattle.at_geojson.specs.Keeping.{Asked}
 use Rattle.at_geojson.specs.Atoms.{twin_of, IsOwn}
 use Rattle.at_geojson.specs.Gathering.{is_among, member_twins}
 use Rattle.at_geojson.specs.Fields.{put_if, value_in, AreFields, MakesFields}

@@ -8,6 +8,11 @@ use Rattle.at_geom.specs.declared.shapes.Shape.{Shape}
 use Rattle.at_wkt.specs.Meaning.{empty_shape, of_points, of_lines, of_polygons}
 use Rattle.at_nest.specs.declared.algebra.Member.{Member}
 use Rattle.at_query.specs.declared.features.TextPair.{TextPair}
+use Rattle.at_query.specs.declared.query.queries.Query.{Query}
+use Rattle.at_query.specs.declared.query.queries.Test.{Test}
+use Rattle.at_query.specs.declared.answer.parts.Part.{Part}
+use Rattle.at_query.specs.Parts.{IsPart}
+use Rattle.at_query.specs.Keeping.{kept, needs_shapes, asks_pair}
 use Rattle.at_scan.specs.declared.kinds.Kind.{Kind}
 use Rattle.at_scan.specs.declared.kinds.Kind.TheVariants as kinds
 use Rattle.at_geojson.specs.declared.atoms.GeoAtom.{GeoAtom}
@@ -15,11 +20,6 @@ use Rattle.at_geojson.specs.declared.atoms.GeoAtom.TheVariants as atoms
 use Rattle.at_geojson.specs.declared.atoms.ObjectAtom.{ObjectAtom}
 use Rattle.at_geojson.specs.declared.atoms.Role.{Role}
 use Rattle.at_geojson.specs.declared.atoms.Role.TheVariants as roles
-use Rattle.at_query.specs.declared.query.queries.Query.{Query}
-use Rattle.at_query.specs.declared.query.queries.Test.{Test}
-use Rattle.at_query.specs.declared.answer.parts.Part.{Part}
-use Rattle.at_query.specs.Parts.{IsPart}
-use Rattle.at_geojson.specs.Keeping.{kept, needs_shapes, asks_pair}
 use Rattle.at_geojson.specs.Atoms.{at_of, is_empty, is_null, as_position, as_points, as_lists, as_area, as_areas}
 use Rattle.at_geojson.specs.Atoms.{as_kind, as_text, as_texts, as_geometries, as_features, role_geometry, role_of}
 use Rattle.at_geojson.specs.Atoms.{PositionView, PointsView, ListsView, AreasView}

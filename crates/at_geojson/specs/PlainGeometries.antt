@@ -6,16 +6,16 @@ use Rattle.at_query.specs.declared.query.queries.Query.{Query}
 use Rattle.at_scan.specs.declared.kinds.Kind.{Kind}
 use Rattle.at_scan.specs.declared.known_names.KindRead.{KindRead}
 use Rattle.at_scan.specs.declared.kinds.Kind.TheVariants as kinds
-use Rattle.at_geojson.specs.declared.asked.Measure.{Measure}
+use Rattle.at_query.specs.declared.query.looks.Measure.{Measure}
+use Rattle.at_query.specs.Keeping.{Asked, needs_shapes, measure_of}
+use Rattle.at_query.specs.Tallies.{IsPartOfShape}
 use Rattle.at_geojson.specs.declared.atoms.GeoAtom.{GeoAtom}
 use Rattle.at_geojson.specs.declared.plain_geometries.ShapeRead.{ShapeRead}
 use Rattle.at_geojson.specs.declared.plain_geometries.Seen.{Seen}
 use Rattle.at_geojson.specs.declared.plain_geometries.Seen.TheVariants as seens
 use Rattle.at_geojson.specs.declared.plain_geometries.SeenRead.{SeenRead}
-use Rattle.at_geojson.specs.Keeping.{Asked, needs_shapes}
 use Rattle.at_geojson.specs.Atoms.{twin_of, as_kind, IfOwnShape}
 use Rattle.at_geojson.specs.Objects.{kind_shape, feature_shape}
-use Rattle.at_geojson.specs.Tallies.{measure_of, IsPartOfShape}
 use Rattle.at_geojson.specs.Values.{IsWhole, IsItem}
 
 -- white space, the name of a kind, and white space

@@ -5,7 +5,7 @@ use Rattle.at_query.specs.declared.query.queries.Test.{Test}
 use Rattle.at_query.specs.declared.query.queries.Test.TheVariants.{InBox, MeetsShape, Has}
 use Rattle.at_query.specs.declared.features.TextPair.{TextPair}
 use Rattle.at_query.specs.Holding.{has_text}
-use Rattle.at_geojson.specs.Keeping.{wants_pair}
+use Rattle.at_query.specs.Keeping.{wants_pair}
 
 -- the test asks for a text of this name
 abbrev pub wants_name : List ℕ → Test → Bool

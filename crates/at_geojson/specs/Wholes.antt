@@ -9,10 +9,10 @@ use Rattle.at_nest.specs.Tree.{Tree, Spells}
 use Rattle.at_nest.specs.Twins.{twins_of}
 use Rattle.at_query.specs.declared.answer.parts.Part.{Part}
 use Rattle.at_query.specs.Parts.{IsPart}
+use Rattle.at_query.specs.Keeping.{Asked}
 use Rattle.at_geojson.specs.declared.root.FeatureFront.{FeatureFront}
 use Rattle.at_geojson.specs.declared.root.RootEnd.{RootEnd}
 use Rattle.at_geojson.specs.declared.root.RootEnd.TheVariants.{Found, Memory}
-use Rattle.at_geojson.specs.Keeping.{Asked}
 use Rattle.at_geojson.specs.Roles.{features_of, role_faults_of}
 
 -- equal names, and what the roles find wrong

@@ -1,27 +1,12 @@
 //! A query that is asked of a GeoJSON text, and what it asks of numbers, texts and shapes.
 
 ghost use Rattle.std.specs.Prelude.{◌≡◌, ◌==◌};
-ghost use Rattle.std.specs.List.{list_any};
 ghost use Rattle.at_query.specs.Ranges.{IsQueryInRange};
-ghost use Rattle.at_geojson.specs.Keeping.{Asked, needs_shapes as needs_of, tells_shapes as tells_of};
-ghost use Rattle.at_geojson.specs.Keeping.{looks_at_shapes as looks_of, looks_at_texts as texts_looked_at};
-ghost use Rattle.at_geojson.specs.Keeping.{text_tests as tests_on_texts};
-ghost use Rattle.at_geojson.specs.Tallies.{measured_by, measure_of};
+ghost use Rattle.at_query.specs.Keeping.{Asked, needs_shapes as needs_of, text_tests as tests_on_texts, measure_of};
 
 use at_fixed::Coords;
-use at_query::{Query, Test, Verb};
+use at_query::{Measure, Query, needs_shapes, query_measure, text_tests};
 use std::marker::Model;
-
-/// What a query asks of positions, where it keeps none of them and no test looks at them.
-#[derive(Clone, Copy)]
-pub enum Measure {
-    /// Nothing: features are counted.
-    Count,
-    /// The least extent round them.
-    Extent,
-    /// The area of the polygons that they bound.
-    Area,
-}
 
 /// A query that is asked of a GeoJSON text, and how its coordinates are read.
 #[derive(Drop)]
@@ -43,91 +28,6 @@ impl Model for GeoAlgebra {
         × (a.text_tests ≡ tests_on_texts a.query.tests) × (a.measure ≡ measure_of a.query) };
 }
 
-/// Whether a verb tells something of shapes.
-fn tells_shapes(verb: Verb) -> bool
-    ensures { result ≡ tells_of verb }
-{
-    matches!(verb, Verb::Area | Verb::Extent | Verb::Hull | Verb::Join)
-}
-
-/// Whether a test looks at shapes.
-fn looks_at_shapes(test: &Test) -> bool
-    ensures { result ≡ looks_of test.now }
-{
-    matches!(test, Test::InBox(_) | Test::MeetsShape(_))
-}
-
-/// Whether the verb or a test looks at shapes.
-fn needs_shapes(query: &Query) -> bool
-    ensures { result ≡ needs_of query.now }
-{
-    if tells_shapes(query.verb) {
-        return true;
-    }
-    for test in query.tests.as_slice() {
-        if looks_at_shapes(test) {
-            return true;
-        }
-    }
-    false
-}
-
-/// Whether a test looks at texts.
-fn looks_at_texts(test: &Test) -> bool
-    ensures { result ≡ texts_looked_at test.now }
-{
-    matches!(test, Test::Has(_, _))
-}
-
-/// Whether some test looks at texts.
-pub fn needs_texts(tests: &[Test]) -> bool
-    ensures { result ≡ list_any texts_looked_at tests.now }
-{
-    for test in tests {
-        if looks_at_texts(test) {
-            return true;
-        }
-    }
-    false
-}
-
-/// How many tests look at texts.
-fn count_texts(tests: &[Test]) -> usize
-    ensures { result ≡ tests_on_texts tests.now }
-{
-    let mut count = 0;
-    for test in tests {
-        if looks_at_texts(test) {
-            count += 1;
-        }
-    }
-    count
-}
-
-/// What a verb asks of positions, where it keeps none of them.
-fn verb_measure(verb: Verb) -> Option<Measure>
-    ensures { result ≡ measured_by verb }
-{
-    match verb {
-        Verb::Select | Verb::Count => Some(Measure::Count),
-        Verb::Area => Some(Measure::Area),
-        Verb::Extent => Some(Measure::Extent),
-        Verb::Hull | Verb::Join => None,
-    }
-}
-
-/// What a query asks of positions, where it keeps none of them and no test looks at them.
-fn query_measure(query: &Query) -> Option<Measure>
-    ensures { result ≡ measure_of query.now }
-{
-    for test in query.tests.as_slice() {
-        if looks_at_shapes(test) {
-            return None;
-        }
-    }
-    verb_measure(query.verb)
-}
-
 impl GeoAlgebra {
     /// The algebra of a query, for coordinates in units of 10^-digits.
     pub fn new(query: Query, digits: u8, how: Coords) -> GeoAlgebra
@@ -135,7 +35,7 @@ impl GeoAlgebra {
         ensures { result ≡ record { query = query; digits = digits; how = how } }
     {
         let needs_shapes = needs_shapes(&query);
-        let text_tests = count_texts(query.tests.as_slice());
+        let text_tests = text_tests(query.tests.as_slice());
         let measure = query_measure(&query);
         GeoAlgebra {
             query,

@@ -1,7 +1,7 @@
 //! Coordinates: positions of numbers, faults of lists of positions, and arrays of areas (RFC 7946 section 3.1.1).
 
 ghost use Rattle.std.specs.Prelude.{◌≡◌, map, IfOk};
-ghost use Rattle.at_geojson.specs.Keeping.{kept};
+ghost use Rattle.at_query.specs.Keeping.{kept};
 ghost use Rattle.at_geojson.specs.Atoms.{to_four};
 ghost use Rattle.at_geojson.specs.Gathering.{firsts, number_value as the_number_value};
 ghost use Rattle.at_geojson.specs.Gathering.{number_fault as the_number_fault, position_value as the_position_value};

@@ -4,10 +4,9 @@ ghost use Rattle.std.specs.Prelude.{◌≡◌, ◌+◌, ◌<◌, ◌≤◌, true
 ghost use Rattle.std.specs.Prelude.{◌∷◌, IfOk, IfSome};
 ghost use Rattle.std.specs.List.{list_any};
 ghost use Rattle.at_scan.specs.Members.{IsPlainName, ArePlainOthers};
-ghost use Rattle.at_geojson.specs.Keeping.{looks_at_texts};
+ghost use Rattle.at_query.specs.Keeping.{looks_at_texts, selects};
 ghost use Rattle.at_geom.specs.Shapes.{IsShapeInRange};
 ghost use Rattle.at_geojson.specs.Objects.{texts_in};
-ghost use Rattle.at_geojson.specs.Tallies.{selects};
 ghost use Rattle.at_geojson.specs.TextTests.{texts_hold};
 ghost use Rattle.at_geojson.specs.Values.{IsWhole};
 ghost use Rattle.at_geojson.specs.PlainGeometries.{Sees};
@@ -15,7 +14,7 @@ ghost use Rattle.at_geojson.specs.Features.{IsShapeRead, IsTested, ReadsProperti
 ghost use Rattle.at_geojson.specs.Features.{IsPartOfSeen, IsPartHeld, IsPartIn, IsOwnSeen, IfOwnGeometry};
 ghost use Rattle.at_geojson.specs.Features.{EndsFeature, IsFeatureRead};
 
-use crate::asked::{GeoAlgebra, needs_texts};
+use crate::asked::GeoAlgebra;
 use crate::atoms::{GeoAtom, ObjectAtom, Role};
 use crate::geometries::Geometry;
 use crate::object_atoms::new_roles;
@@ -28,7 +27,7 @@ use crate::text::Text;
 use crate::texts::{all_hold, asked_pairs};
 use crate::twins::is_twin;
 use crate::values::{DEEPEST, read_item};
-use at_query::{Offsets, Part, TextPairs, Verb, part_none};
+use at_query::{Offsets, Part, TextPairs, Verb, needs_texts, part_none};
 use at_scan::{
     Field, FieldName, Kind, KindRead, OTHER_KIND, OtherNames, TableNames, add_other, expect_comma,
     field_name, seems_cut, skip_spaces, stands,

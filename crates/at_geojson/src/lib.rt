@@ -43,7 +43,6 @@ mod series;
 mod shapes;
 mod sorts;
 mod spots;
-mod tallies;
 mod text;
 mod texts;
 mod tracks;

@@ -10,22 +10,20 @@ ghost use Rattle.at_geom.specs.declared.shapes.Shape.{Shape};
 ghost use Rattle.at_geom.specs.Segments.{IsInRange};
 ghost use Rattle.at_wkt.specs.Meaning.{of_points as points_are, of_lines as lines_are, of_polygons as polygons_are};
 ghost use Rattle.at_query.specs.declared.query.queries.Query.{Query};
-ghost use Rattle.at_geojson.specs.declared.asked.Measure.{Measure};
-ghost use Rattle.at_geojson.specs.declared.asked.Measure.TheVariants as measures;
-ghost use Rattle.at_geojson.specs.declared.tallies.Tally.{Tally};
-ghost use Rattle.at_geojson.specs.Keeping.{kept, needs_shapes};
-ghost use Rattle.at_geojson.specs.Tallies.{measure_of, SumsUp, TalliesLists, TalliesAreas, TalliesShape};
+ghost use Rattle.at_query.specs.declared.query.looks.Measure.{Measure};
+ghost use Rattle.at_query.specs.declared.query.looks.Measure.TheVariants as measures;
+ghost use Rattle.at_query.specs.declared.answer.tallies.Tally.{Tally};
+ghost use Rattle.at_query.specs.Keeping.{kept, needs_shapes, measure_of};
+ghost use Rattle.at_query.specs.Tallies.{SumsUp, TalliesLists, TalliesAreas, TalliesShape};
 ghost use Rattle.at_geojson.specs.Makings.{polygon};
 ghost use Rattle.at_geojson.specs.PlainGeometries.{IsSeenOf};
 
-use crate::asked::Measure;
 use crate::pairs::ROOM;
 use crate::plain_geometries::Seen;
 use crate::shapes::{of_lines, of_points, of_polygons, one_line, one_point, one_polygon};
 use crate::spots::{ByPlace, ByValue, Reads};
-use crate::tallies::Tally;
 use at_geom::{Extent, Path, Paths, Polygon, Pos};
-use at_query::Part;
+use at_query::{Measure, Part, Tally};
 use at_text::Memory;
 use std::alloc::Global;
 
@@ -409,7 +407,7 @@ impl<M: Asks> Maker for Tallies<M> {
 
     #[inline(always)]
     fn see_points(_alloc: Global, line: Tally) -> Seen {
-        seen_part(M::measure(), line.of_ring().flat())
+        seen_part(M::measure(), line.flat())
     }
 
     #[inline(always)]

@@ -3,8 +3,8 @@
 ghost use Rattle.std.specs.Prelude.{◌≡◌, All, IfOk, Some};
 ghost use Rattle.at_nest.specs.Tree.{Members, object as object_tree};
 ghost use Rattle.at_nest.specs.Folds.{AreMemberFolds};
+ghost use Rattle.at_query.specs.Keeping.{needs_shapes as needs_of};
 ghost use Rattle.at_geojson.specs.Atoms.{role_geometry as geometry_of_role, IsOwn, IsOwnRole, IsFold};
-ghost use Rattle.at_geojson.specs.Keeping.{needs_shapes as needs_of};
 ghost use Rattle.at_geojson.specs.Objects.{coordinates_shape, feature_shape as shape_of_feature, MakesObject};
 ghost use Rattle.at_geojson.specs.Fields.{AreOwnFields, IfOwnValue, IsFeatureOf, IsRoleIn, MakesFields};
 

@@ -1,15 +1,14 @@
 //! Geometries of a type and of coordinates that are written plainly, read at once: no atom is made of them.
 
 ghost use Rattle.std.specs.Prelude.{◌≡◌, ℕ, ◌+◌, ◌<◌, ◌≤◌, ◌^◌, length, slice_index, IfOk};
-ghost use Rattle.at_geojson.specs.Keeping.{Asked};
+ghost use Rattle.at_query.specs.Keeping.{Asked};
 ghost use Rattle.at_geojson.specs.PlainGeometries.{IsKindRead, IsCoordinatesItem, IsGeometryRead, SeesShape, Sees};
 
-use crate::asked::Measure;
 use crate::geometries::Geometry;
 use crate::makers::{Keeps, Passes, Sizes, Spreads, Tallies};
 use crate::makings::coordinates;
 use crate::text::Text;
-use at_query::Part;
+use at_query::{Measure, Part};
 use at_scan::{
     Kind, KindRead, OTHER_KIND, SimpleItem, begins_collection, expect_comma, field_name,
     is_coordinates, is_kind, kind_of, known_kind, simple_item, skip_spaces, stands,

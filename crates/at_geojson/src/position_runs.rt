@@ -2,7 +2,7 @@
 //! seen of it is read in few steps.
 
 ghost use Rattle.std.specs.Prelude.{◌≡◌, ◌+◌, ◌<◌, false, IfOk, IfSome};
-ghost use Rattle.at_geojson.specs.Keeping.{needs_shapes as needs_of};
+ghost use Rattle.at_query.specs.Keeping.{needs_shapes as needs_of};
 ghost use Rattle.at_geojson.specs.Values.{IsSpacedPair};
 ghost use Rattle.at_geojson.specs.FeatureRuns.{AreItemsWhole};
 ghost use Rattle.at_geojson.specs.PositionRuns.{IsNextPair, PassesNext, IsPassedTrack};

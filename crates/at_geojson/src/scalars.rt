@@ -9,7 +9,7 @@ ghost use Rattle.at_lex.specs.Runs.{JsonRun};
 ghost use Rattle.at_nest.specs.Tree.{Tree, Spells};
 ghost use Rattle.at_nest.specs.Folds.{IsScalarText};
 ghost use Rattle.at_scan.specs.Places.{is_simple as simple_byte};
-ghost use Rattle.at_geojson.specs.Keeping.{asks_value as value_asked};
+ghost use Rattle.at_query.specs.Keeping.{asks_value as value_asked};
 ghost use Rattle.at_geojson.specs.Atoms.{unboxed, twin_of, asked_units as units_asked, IsOwn, IsFold};
 
 use crate::asked::GeoAlgebra;

@@ -3,7 +3,7 @@
 ghost use Rattle.std.specs.Prelude.{◌≡◌, [], ◌∷◌, IfOk};
 ghost use Rattle.at_wkt.specs.Meaning.{of_points as points_shape, of_lines as lines_shape};
 ghost use Rattle.at_wkt.specs.Meaning.{of_polygons as polygons_shape, empty_shape as nothing};
-ghost use Rattle.at_geojson.specs.Keeping.{kept};
+ghost use Rattle.at_query.specs.Keeping.{kept};
 ghost use Rattle.at_geojson.specs.Gathering.{JoinsShapes};
 
 use crate::geometries::Geometry;

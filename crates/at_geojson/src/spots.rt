@@ -3,7 +3,7 @@
 ghost use Rattle.std.specs.Prelude.{◌≡◌, ℕ, ◌≤◌, List, length, IfSome};
 ghost use Rattle.std.specs.Bool.{⊤};
 ghost use Rattle.at_geom.specs.declared.positions.Pos.{Pos};
-ghost use Rattle.at_geojson.specs.Keeping.{Asked};
+ghost use Rattle.at_query.specs.Keeping.{Asked};
 ghost use Rattle.at_geojson.specs.Passing.{same_values};
 ghost use Rattle.at_geojson.specs.Makings.{ReadsSpot, IsValue, IsAnywhere, IsPassedOver};
 

@@ -2,7 +2,7 @@
 
 ghost use Rattle.std.specs.Prelude.{◌≡◌, ◌++◌, ◌∷◌, [], All, IfOk, None, true};
 ghost use Rattle.std.specs.List.{list_all};
-ghost use Rattle.at_geojson.specs.Keeping.{kept};
+ghost use Rattle.at_query.specs.Keeping.{kept};
 ghost use Rattle.at_geojson.specs.Atoms.{IsOwn};
 ghost use Rattle.at_geojson.specs.Arrays.{Adds, ClosesItems};
 ghost use Rattle.at_geojson.specs.Gathering.{position_value as value_in};

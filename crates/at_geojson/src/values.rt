@@ -3,13 +3,13 @@
 ghost use Rattle.std.specs.Prelude.{◌≡◌, ℕ, ◌+◌, ◌<◌, ◌≤◌, length, slice_index, All, [], false, None, IfOk, IfSome};
 ghost use Rattle.std.specs.List.{list_any};
 ghost use Rattle.at_scan.specs.Places.{IsSimpleTextAt};
-ghost use Rattle.at_geojson.specs.Keeping.{looks_at_texts};
+ghost use Rattle.at_query.specs.Keeping.{looks_at_texts};
 ghost use Rattle.at_geojson.specs.Atoms.{twin_of, IsOwn};
 ghost use Rattle.at_geojson.specs.Fields.{AreOwnFields};
 ghost use Rattle.at_geojson.specs.Members.{EndsFields, IsFieldRead};
 ghost use Rattle.at_geojson.specs.Values.{IsWhole, IsItem, EndsArray, EndsObject};
 
-use crate::asked::{GeoAlgebra, needs_texts};
+use crate::asked::GeoAlgebra;
 use crate::atoms::{GeoAtom, NumberAtom};
 use crate::fields::{Fields, new_name};
 use crate::lists::{array_atom, one_item_atom};
@@ -23,7 +23,7 @@ use crate::twins::is_twin;
 use at_fixed::{Notation, plain_number};
 use at_lex::{take_run, units};
 use at_nest::Member;
-use at_query::TextPairs;
+use at_query::{TextPairs, needs_texts};
 use at_scan::{
     Field, OtherNames, expect_comma, is_kind, is_other, name_place, seems_cut, short_text_end,
     skip_spaces, stands, text_end,

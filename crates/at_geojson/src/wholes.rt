@@ -6,7 +6,6 @@ ghost use Rattle.at_lex.specs.declared.tokens.Bracket.{Bracket};
 ghost use Rattle.at_geojson.specs.Values.{IsWhole};
 ghost use Rattle.at_geojson.specs.FeatureRuns.{AreItemsWhole};
 
-use crate::asked::needs_texts;
 use crate::atoms::GeoAtom;
 use crate::feature_runs::{FeaturesRead, read_features};
 use crate::features::{feature_value, is_read_again};
@@ -15,6 +14,7 @@ use crate::pairs::Whole;
 use crate::position_runs::read_positions;
 use crate::text::Text;
 use crate::values::{DEEPEST, read_list, read_object};
+use at_query::needs_texts;
 use at_scan::{
     OTHER_KIND, begins_collection, field_name, is_kind, names_collection, skip_spaces, stands,
 };

@@ -1,5 +1,7 @@
 mod Examples
 pub mod KeptLists
+pub mod QueryFacts
+pub mod TallyFolds
 pub mod Spreads
 pub mod Areas
 pub mod Hulls

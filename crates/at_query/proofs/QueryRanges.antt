@@ -62,7 +62,7 @@ small_signed b (Ok n) h = small_sign b n h
 small_signed b (Err e) h = lit≤ tt
 
 module _ (digits : ℕ) (how : Coords) where
-  value_small : (n : Numeral) → nat_abs (value_of digits how n) ≤ 300000000000000
+  pub value_small : (n : Numeral) → nat_abs (value_of digits how n) ≤ 300000000000000
   value_small n =
       let v = value_means n digits how in
       let P : Result ℤ _ → Type 0 = λ z. nat_abs (value_in z) ≤ 300000000000000 in

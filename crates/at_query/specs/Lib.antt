@@ -5,6 +5,8 @@ pub mod Ranges
 pub mod Parts
 pub mod Joined
 pub mod Accumulators
+pub mod Keeping
+pub mod Tallies
 pub mod Printing
 pub mod Spelling
 pub mod Queries

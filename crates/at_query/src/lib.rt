@@ -6,6 +6,9 @@
 //! its printed text of the whole list's part. Where features come one after another, an [`Accumulator`] takes each in
 //! place and becomes the part of all.
 //!
+//! Who reads features for a query need not keep all of them: [`needs_shapes`], [`needs_texts`], [`text_tests`] and
+//! [`query_measure`] say what the query looks at. A [`Tally`] takes positions one by one in place of their lists.
+//!
 //! A query is read, and asked of `river`, a feature with the name Rhine:
 //! ```
 //! let line = br#"count where has "name" = "Rhine""#;
@@ -18,11 +21,11 @@
 //! ```
 #![tactic(auto)]
 
-// What is asked: features, the line of a query, and its tests.
+// What is asked: features, the line of a query, its tests, and what they look at.
 mod features;
 mod query;
 
-// What is answered: which features are kept, parts, and printed answers.
+// What is answered: which features are kept, what is told of positions, parts, and printed answers.
 mod answer;
 
 pub use answer::accumulators::Accumulator;
@@ -33,6 +36,8 @@ pub use answer::merging::part_merge;
 pub use answer::parts::{Entries, Entry, Part};
 pub use answer::printing::answer_text;
 pub use answer::results::{answer_of, part_none, part_of};
+pub use answer::tallies::Tally;
 pub use features::{Feature, LentFeature, TextPair, TextPairs};
+pub use query::looks::{Measure, needs_shapes, needs_texts, query_measure, text_tests};
 pub use query::queries::{Query, Test, Tests, Verb};
 pub use query::reading::{QueryEnd, read_query};

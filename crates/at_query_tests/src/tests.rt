@@ -10,6 +10,7 @@ ghost use Rattle.at_query.specs.declared.features.Feature.{Feature};
 
 mod hulls;
 mod lines;
+mod looks;
 
 use at_band::Bands;
 use at_fixed::Coords;

@@ -6,7 +6,7 @@ use Rattle.at_text.specs.Spans.{StandsAt, AreNeighbours, IsMerged}
 use Rattle.at_text.specs.Texts.{base_of}
 use Rattle.at_wkt.specs.Folding.{OwnFold, StandsFor}
 use Rattle.at_wkt.specs.declared.file.fragments.LineFragment.{LineFragment}
-use Rattle.at_geojson.specs.Keeping.{Asked as JsonAsked}
+use Rattle.at_query.specs.Keeping.{Asked as JsonAsked}
 use Rattle.at_run.specs.declared.forms.Form.TheVariants.{GeoJson}
 use Rattle.at_run.specs.declared.gathered.Gathered.{Gathered}
 use Rattle.at_run.specs.declared.readers.FileFragment.{FileFragment}

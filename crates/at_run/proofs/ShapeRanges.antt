@@ -11,7 +11,7 @@ use Rattle.at_wkt.specs.Positions.{Position, Positions, pos_of, path_of}
 use Rattle.at_wkt.specs.Geometry.{Geometry, point, line_string, polygon, multi_point, multi_line_string, multi_polygon, collection, Geometries, no_geometries, geometry_and}
 use Rattle.at_wkt.specs.Meaning.{both, present, polygons_of, shape_of, shape_of_all}
 use Rattle.at_wkt.specs.Answers.{HasLineShape}
-use Rattle.at_geojson.proofs.Ranges.{value_small}
+use Rattle.at_query.proofs.QueryRanges.{value_small}
 use Rattle.at_geojson.proofs.ObjectOwns.{points_in, lines_in, polygons_in}
 
 -- ---- shapes

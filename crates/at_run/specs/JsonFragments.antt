@@ -1,7 +1,7 @@
 -- What the fragment of a piece of a file of GeoJSON stands for.
 use Rattle.std.specs.Prelude.{ℕ, List}
 use Rattle.at_nest.specs.FragmentMeanings.{StandsFor}
-use Rattle.at_geojson.specs.Keeping.{Asked}
+use Rattle.at_query.specs.Keeping.{Asked}
 use Rattle.at_geojson.specs.Atoms.{IsGeoAtom}
 use Rattle.at_run.specs.declared.json_fragments.JsonFragment.{JsonFragment}
 use Rattle.at_run.specs.Encodings.{IsValidIn}

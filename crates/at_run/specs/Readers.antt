@@ -4,7 +4,7 @@ use Rattle.std.specs.Prelude.{◌≡◌, ℕ, List}
 use Rattle.at_fixed.specs.declared.rounding.Coords.{Coords}
 use Rattle.at_wkt.specs.Folding.{OwnFold, StandsFor}
 use Rattle.at_query.specs.declared.query.queries.Query.{Query}
-use Rattle.at_geojson.specs.Keeping.{Asked as JsonAsked}
+use Rattle.at_query.specs.Keeping.{Asked as JsonAsked}
 use Rattle.at_run.specs.declared.forms.Form.{Form}
 use Rattle.at_run.specs.declared.forms.Form.TheVariants.{GeoJson, Wkt}
 use Rattle.at_run.specs.declared.readers.FileFragment.{FileFragment}

@@ -16,8 +16,8 @@ use Rattle.at_lex.proofs.FrontLemmas.{front_all}
 use Rattle.at_wkt.proofs.LineMerges.{length-span_of}
 use Rattle.at_nest.specs.Tree.{Tree, literal, number, text, array, object, Spells, IsTextOf}
 use Rattle.at_nest.proofs.TreeParts.{array_parts, object_parts, text_made}
+use Rattle.at_query.specs.Keeping.{Asked}
 use Rattle.at_geojson.specs.declared.root.FeatureFront.{FeatureFront}
-use Rattle.at_geojson.specs.Keeping.{Asked}
 use Rattle.at_geojson.specs.Wholes.{IsFeatureFront}
 use Rattle.at_run.specs.declared.gathered.Gathered.{Gathered}
 use Rattle.at_seq.specs.Records.{is_separator, are_spaces, records_in}

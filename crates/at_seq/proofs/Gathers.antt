@@ -18,11 +18,11 @@ use Rattle.at_query.specs.declared.answer.parts.Part.{Part}
 use Rattle.at_query.specs.declared.answer.accumulators.Accumulator.{Accumulator}
 use Rattle.at_query.specs.Parts.{IsPart, IsProper}
 use Rattle.at_query.specs.Accumulators.{IsAccumulated}
+use Rattle.at_query.specs.Keeping.{Asked}
 use Rattle.at_query.proofs.Joining.{part_is_proper}
 use Rattle.at_query.proofs.Accumulating.{are_of_one_verb}
 use Rattle.at_geojson.specs.declared.atoms.GeoAtom.{GeoAtom}
 use Rattle.at_geojson.specs.declared.root.RootEnd.{RootEnd}
-use Rattle.at_geojson.specs.Keeping.{Asked}
 use Rattle.at_geojson.specs.Atoms.{IsFold, IsGeoAtom}
 use Rattle.at_geojson.specs.Roles.{features_of}
 use Rattle.at_geojson.specs.Wholes.{faults_of, found_end, IsAnswer}

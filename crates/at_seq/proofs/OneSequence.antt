@@ -9,6 +9,8 @@ use Rattle.at_wkt.proofs.OneFile.{one_syntax_fault}
 use Rattle.at_nest.specs.Syntax.{JsonText}
 use Rattle.at_nest.proofs.OneTree.{one_tree}
 use Rattle.at_query.specs.declared.features.Feature.{Feature}
+use Rattle.at_query.specs.declared.answer.parts.Part.{Part}
+use Rattle.at_query.specs.Keeping.{Asked}
 use Rattle.at_geojson.specs.Roles.{features_of}
 use Rattle.at_geojson.specs.Wholes.{faults_of}
 use Rattle.at_seq.specs.declared.ends.SeqEnd.{SeqEnd}
@@ -16,8 +18,6 @@ use Rattle.at_seq.specs.declared.ends.SeqEnd.TheVariants.{Found, Memory}
 use Rattle.at_text.specs.Separated.{Piece}
 use Rattle.at_seq.specs.Records.{pieces_of, records_of}
 use Rattle.at_seq.specs.Sequences.{head_faults, HasRecordFaults, HaveRecordFaults, HasSeqFaultBehind, HasSeqFault, TheSeqFault, AreRecordFeatures, AreSeqFeatures}
-use Rattle.at_query.specs.declared.answer.parts.Part.{Part}
-use Rattle.at_geojson.specs.Keeping.{Asked}
 use Rattle.at_seq.specs.Answers.{IfFound, IsSeqPart}
 
 module _ (digits : ℕ) (how : Coords) where

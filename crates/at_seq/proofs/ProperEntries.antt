@@ -18,6 +18,7 @@ use Rattle.at_query.specs.declared.answer.parts.Entry.{Entry}
 use Rattle.at_query.specs.declared.answer.parts.Part.{Part}
 use Rattle.at_query.specs.declared.answer.parts.Part.TheVariants.{Count, Area, Entries, Hull}
 use Rattle.at_query.specs.Parts.{IsKeptOf, IsProperFeature, AreProperFeatures}
+use Rattle.at_query.specs.Keeping.{Asked}
 use Rattle.at_query.proofs.ProperEntries.{entries_are_proper}
 use Rattle.at_geojson.specs.Roles.{features_of}
 use Rattle.at_geojson.specs.Wholes.{faults_of}
@@ -27,7 +28,6 @@ use Rattle.at_text.specs.Separated.{Piece, placed}
 use Rattle.at_seq.specs.Records.{are_spaces, is_separator, pieces_of, records_in}
 use Rattle.at_seq.proofs.PieceRecords.{records_in-append, no_record, one_record}
 use Rattle.at_seq.specs.Sequences.{head_faults, HasRecordFaults, HaveRecordFaults, HasSeqFaultBehind, HasSeqFault, AreRecordFeatures, AreSeqFeatures}
-use Rattle.at_geojson.specs.Keeping.{Asked}
 use Rattle.at_seq.specs.declared.ends.SeqEnd.{SeqEnd}
 use Rattle.at_seq.specs.Answers.{IfFound, IsSeqPart, HasProperEntries}
 

@@ -18,12 +18,12 @@ use Rattle.at_nest.specs.TextAnswers.{Answers}
 use Rattle.at_nest.proofs.OneTree.{one_tree}
 use Rattle.at_nest.proofs.TreeParts.{text_made}
 use Rattle.at_query.specs.declared.answer.parts.Part.{Part}
+use Rattle.at_query.specs.Keeping.{Asked}
 use Rattle.at_wkt.proofs.FaultOrder.{first_of-append}
 use Rattle.at_wkt.proofs.LineMerges.{base_within, length-span_of}
 use Rattle.at_geojson.specs.declared.atoms.GeoAtom.{GeoAtom}
 use Rattle.at_geojson.specs.declared.asked.GeoAlgebra.{GeoAlgebra}
 use Rattle.at_nest.specs.declared.fragments.Fragment.{Fragment}
-use Rattle.at_geojson.specs.Keeping.{Asked}
 use Rattle.at_geojson.specs.Atoms.{IsOwn, IsFold, IsGeoAtom}
 use Rattle.at_run.specs.declared.gathered.Gathered.{Gathered}
 use Rattle.at_run.specs.declared.gathered.Gathered.TheVariants.{Kept, Failed}

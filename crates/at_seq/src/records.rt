@@ -7,7 +7,7 @@ ghost use Rattle.at_text.specs.Texts.{is_space};
 ghost use Rattle.at_lex.specs.Fronts.{IsFront};
 ghost use Rattle.at_nest.specs.TextAnswers.{Answers};
 ghost use Rattle.at_nest.specs.FragmentMeanings.{StandsFor};
-ghost use Rattle.at_geojson.specs.Keeping.{Asked};
+ghost use Rattle.at_query.specs.Keeping.{Asked};
 ghost use Rattle.at_geojson.specs.Atoms.{IsGeoAtom};
 ghost use Rattle.at_geojson.specs.Wholes.{found_end};
 ghost use Rattle.at_seq.specs.Records.{records_in};

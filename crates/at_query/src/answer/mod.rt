@@ -1,4 +1,5 @@
-//! The answer: which features are kept, the parts that answers are gathered from, and printed answers.
+//! The answer: which features are kept, what is told of positions, the parts that answers are gathered from, and printed
+//! answers.
 
 pub mod accumulators;
 pub mod adding;
@@ -10,3 +11,4 @@ pub mod parts;
 pub mod printing;
 pub mod results;
 pub mod shape_hulls;
+pub mod tallies;

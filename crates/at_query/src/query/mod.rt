@@ -1,10 +1,11 @@
-//! The query: its line, read, and its tests.
+//! The query: its line, read, its tests, and what it looks at.
 
 pub mod boxes;
 pub mod bytes;
 pub mod coordinates;
 pub mod copying;
 pub mod filters;
+pub mod looks;
 pub mod precision;
 pub mod queries;
 pub mod reading;

@@ -2,7 +2,7 @@ use Rattle.std.proofs.Common.{[], ◌∷◌, sym, ◌∙◌, ap, subst}
 use Rattle.at_query.specs.declared.query.queries.Query.{Query}
 use Rattle.at_query.specs.declared.answer.parts.Part.TheVariants.{Offsets}
 use Rattle.at_query.specs.Parts.{IsPart}
-use Rattle.at_geojson.specs.Tallies.{selects}
+use Rattle.at_query.specs.Keeping.{selects}
 use Rattle.at_geojson.proofs.SeenParts.{measured_held, offset_held}
 use Rattle.at_geojson.proofs.features.measured_part.Goals as goal
 

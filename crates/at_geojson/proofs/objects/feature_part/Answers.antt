@@ -1,6 +1,6 @@
 use Rattle.std.proofs.Common.{sym, ◌∙◌, ap}
 use Rattle.at_query.specs.declared.query.queries.Query.{Query}
-use Rattle.at_geojson.proofs.QueryFacts.{counted_one}
+use Rattle.at_query.proofs.QueryFacts.{counted_one}
 use Rattle.at_geojson.proofs.objects.feature_part.Goals as goal
 
 pub returns-then-counts_all : goal.returns-then-counts_all

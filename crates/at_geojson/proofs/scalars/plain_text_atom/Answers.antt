@@ -1,6 +1,6 @@
 use Rattle.std.proofs.Common.{sym, ◌∙◌, ap, take, drop, length, ◌-◌}
 use Rattle.at_query.specs.declared.query.queries.Query.{Query}
-use Rattle.at_geojson.specs.Keeping.{asks_value}
+use Rattle.at_query.specs.Keeping.{asks_value}
 use Rattle.at_geojson.proofs.scalars.plain_text_atom.Goals as goal
 
 pub simple_atom-requires-clause-unasked : goal.simple_atom-requires-clause-unasked

@@ -3,10 +3,10 @@ use Rattle.at_lex.specs.Strings.{units_of}
 use Rattle.at_nest.specs.Tree.{text}
 use Rattle.at_scan.specs.Names.{kind_of_text}
 use Rattle.at_scan.proofs.SimpleTexts.{simple_units}
+use Rattle.at_query.specs.Keeping.{asks_value}
 use Rattle.at_geojson.specs.declared.atoms.GeoAtom.TheVariants.{Text}
 use Rattle.at_geojson.specs.declared.atoms.TextAtom.{TextAtom}
 use Rattle.at_geojson.proofs.ScalarFolds.{folds_one, text_folds}
-use Rattle.at_geojson.specs.Keeping.{asks_value}
 use Rattle.at_geojson.proofs.scalars.simple_atom.Goals as goal
 
 pub returns-clause-fold : goal.returns-clause-fold

@@ -1,5 +1,5 @@
 use Rattle.std.proofs.Common.{◌≡◌, drop}
-use Rattle.at_geojson.specs.Keeping.{asks_pair}
+use Rattle.at_query.specs.Keeping.{asks_pair}
 use Rattle.at_geojson.proofs.texts.asks_pair.Given as goal
 
 abbrev pub invariant-loop-test : goal.invariant-loop-test

@@ -1,6 +1,6 @@
 use Rattle.std.proofs.Common.{◌≡◌, take}
 use Rattle.std.specs.List.{count_by}
-use Rattle.at_geojson.specs.Keeping.{wants_pair}
+use Rattle.at_query.specs.Keeping.{wants_pair}
 use Rattle.at_geojson.proofs.texts.met_by.Given as goal
 
 abbrev pub invariant-loop-test : goal.invariant-loop-test

@@ -1,6 +1,6 @@
 -- A whole string where no test looks at texts.
 use Rattle.at_scan.proofs.Taken.{string_taken}
-use Rattle.at_geojson.proofs.QueryFacts.{none_asked}
+use Rattle.at_query.proofs.QueryFacts.{none_asked}
 use Rattle.at_geojson.proofs.ValueParts.{string_read}
 use Rattle.at_geojson.proofs.values.simple_string.Goals as goal
 

@@ -1,4 +1,4 @@
-use Rattle.at_geojson.proofs.TallyFolds.{area_told}
+use Rattle.at_query.proofs.TallyFolds.{area_told}
 use Rattle.at_geojson.proofs.makers.TalliesMaker.first_area.Goals as goal
 
 pub returns : goal.returns

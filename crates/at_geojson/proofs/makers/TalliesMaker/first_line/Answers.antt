@@ -1,5 +1,5 @@
 -- The first list is an exterior.
-use Rattle.at_geojson.proofs.TallyFolds.{list_told}
+use Rattle.at_query.proofs.TallyFolds.{list_told}
 use Rattle.at_geojson.proofs.makers.TalliesMaker.first_line.Goals as goal
 
 pub returns : goal.returns

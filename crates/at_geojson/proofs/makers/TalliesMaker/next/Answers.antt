@@ -1,8 +1,8 @@
 -- What is told of the positions with one more of them, whose values are the marks.
 use Rattle.std.proofs.Common.{[], ◌∷◌, ◌++◌, sym, subst}
 use Rattle.at_geom.specs.declared.positions.Pos.{Pos}
-use Rattle.at_geojson.specs.declared.asked.Measure.{Measure}
-use Rattle.at_geojson.specs.Tallies.{SumsUp}
+use Rattle.at_query.specs.declared.query.looks.Measure.{Measure}
+use Rattle.at_query.specs.Tallies.{SumsUp}
 use Rattle.at_geojson.proofs.makers.TalliesMaker.next.Goals as goal
 
 pub returns : goal.returns

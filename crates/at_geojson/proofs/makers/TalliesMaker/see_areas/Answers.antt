@@ -1,7 +1,7 @@
 use Rattle.std.proofs.Common.{Some, None, sym, ◌∙◌, ap, subst}
-use Rattle.at_geojson.specs.declared.asked.Measure.{Measure}
-use Rattle.at_geojson.specs.Tallies.{TalliesAreas}
-use Rattle.at_geojson.proofs.TallyFolds.{areas_shape_told}
+use Rattle.at_query.specs.declared.query.looks.Measure.{Measure}
+use Rattle.at_query.specs.Tallies.{TalliesAreas}
+use Rattle.at_query.proofs.TallyFolds.{areas_shape_told}
 use Rattle.at_geojson.proofs.makers.TalliesMaker.see_areas.Goals as goal
 
 pub returns : goal.returns

@@ -1,7 +1,7 @@
 use Rattle.std.proofs.Common.{Some, None, sym, ◌∙◌, ap, subst}
-use Rattle.at_geojson.specs.declared.asked.Measure.{Measure}
-use Rattle.at_geojson.specs.Tallies.{TalliesLists}
-use Rattle.at_geojson.proofs.TallyFolds.{lines_shape_told}
+use Rattle.at_query.specs.declared.query.looks.Measure.{Measure}
+use Rattle.at_query.specs.Tallies.{TalliesLists}
+use Rattle.at_query.proofs.TallyFolds.{lines_shape_told}
 use Rattle.at_geojson.proofs.makers.TalliesMaker.see_lines.Goals as goal
 
 pub returns : goal.returns

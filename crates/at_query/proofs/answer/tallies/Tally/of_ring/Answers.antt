@@ -4,8 +4,8 @@ use Rattle.std.specs.Int.{w128}
 use Rattle.std.proofs.Common.{nat_abs, refl, sym, ◌∙◌, arith, rules}
 use Rattle.std.proofs.lemmas.Int.{ints, to_z-of_z}
 use Rattle.at_geom.proofs.Shoelace.{wrap_natural}
-use Rattle.at_geojson.proofs.TallyFolds.{ring_told}
-use Rattle.at_geojson.proofs.tallies.Tally.of_ring.Goals as goal
+use Rattle.at_query.proofs.TallyFolds.{ring_told}
+use Rattle.at_query.proofs.answer.tallies.Tally.of_ring.Goals as goal
 
 pub returns : goal.returns
 returns c measure before path =

@@ -1,7 +1,7 @@
 use Rattle.std.proofs.Common.{◌≡◌, drop}
 use Rattle.std.specs.List.{list_any}
-use Rattle.at_geojson.specs.Keeping.{looks_at_shapes}
-use Rattle.at_geojson.proofs.asked.query_measure.Given as goal
+use Rattle.at_query.specs.Keeping.{looks_at_shapes}
+use Rattle.at_query.proofs.query.looks.needs_shapes.Given as goal
 
 abbrev pub invariant-loop-test : goal.invariant-loop-test
 invariant-loop-test l = list_any looks_at_shapes (drop l.test-index l.query.tests) ≡ list_any looks_at_shapes l.query.tests

@@ -2,8 +2,8 @@ use Rattle.std.specs.Prelude.{FitsSigned}
 use Rattle.std.specs.Int.{w128}
 use Rattle.std.proofs.Common.{refl, rules}
 use Rattle.std.proofs.lemmas.Int.{wrapping_sub_is}
-use Rattle.at_geojson.proofs.TallyFolds.{hole_told}
-use Rattle.at_geojson.proofs.tallies.Tally.with_hole.Goals as goal
+use Rattle.at_query.proofs.TallyFolds.{hole_told}
+use Rattle.at_query.proofs.answer.tallies.Tally.with_hole.Goals as goal
 
 pub returns : goal.returns
 returns c measure before paths path =

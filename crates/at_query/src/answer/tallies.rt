@@ -1,19 +1,16 @@
 //! What is told of positions in place of their lists: their extent, or the area of the polygons that they bound.
 
-ghost use Rattle.std.specs.Prelude.{◌≡◌, List, [], ◌∷◌, ◌++◌, Option, pos};
+ghost use Rattle.std.specs.Prelude.{◌≡◌, [], ◌∷◌, Option};
 ghost use Rattle.at_geom.specs.declared.positions.Pos.{Pos};
 ghost use Rattle.at_geom.specs.declared.rectangles.Extent.{Extent};
-ghost use Rattle.at_geom.specs.declared.shapes.Polygon.{Polygon};
-ghost use Rattle.at_geom.specs.Segments.{IsInRange};
 ghost use Rattle.at_geom.specs.Shapes.{widened as widened_of};
-ghost use Rattle.at_geojson.specs.declared.asked.Measure.{Measure};
-ghost use Rattle.at_geojson.specs.Tallies.{SumsUp, TalliesPath, TalliesLists, TalliesAreas};
+ghost use Rattle.at_query.specs.Tallies.{SumsUp};
 
-use crate::asked::Measure;
+use crate::query::looks::Measure;
 use at_geom::{Extent, Pos, shoelace_term};
 
 /// What is told of positions: the least extent round them and those before them, or twice the area of what they bound,
-/// by wrapping in 128 bits. Which of the two the query asks for.
+/// by wrapping in 128 bits. Which of the two the measure asks for; nothing is told of the other.
 #[derive(Clone, Copy)]
 pub struct Tally {
     pub extent: Option<Extent>,
@@ -37,18 +34,8 @@ impl Tally {
     ghost use Rattle.at_geom.specs.declared.rectangles.Extent.{Extent};
     ghost use Rattle.at_geom.specs.declared.shapes.Polygon.{Polygon};
     ghost use Rattle.at_geom.specs.Segments.{IsInRange};
-    ghost use Rattle.at_geojson.specs.declared.asked.Measure.{Measure};
-    ghost use Rattle.at_geojson.specs.Tallies.{SumsUp, TalliesPath, TalliesLists, TalliesAreas};
-
-    /// The tally of nothing.
-    pub fn nothing() -> Tally
-        ensures { result ≡ record { extent = None; area = pos 0 } }
-    {
-        Tally {
-            extent: None,
-            area: 0,
-        }
-    }
+    ghost use Rattle.at_query.specs.declared.query.looks.Measure.{Measure};
+    ghost use Rattle.at_query.specs.Tallies.{SumsUp, TalliesPath, TalliesLists, TalliesAreas};
 
     /// The tally of the first position of a list.
     #[inline(always)]
@@ -56,7 +43,10 @@ impl Tally {
         ensures { SumsUp measure before (first ∷ []) result }
     {
         match measure {
-            Measure::Count | Measure::Area => Tally::nothing(),
+            Measure::Count | Measure::Area => Tally {
+                extent: None,
+                area: 0,
+            },
             Measure::Extent => Tally {
                 extent: Some(widened(before, first)),
                 area: 0,
@@ -76,10 +66,10 @@ impl Tally {
             Measure::Count => self,
             Measure::Extent => Tally {
                 extent: Some(widened(self.extent, next)),
-                area: self.area,
+                area: 0,
             },
             Measure::Area => Tally {
-                extent: self.extent,
+                extent: None,
                 area: self.area.wrapping_add(shoelace_term(last, next)),
             },
         }

@@ -1,6 +1,7 @@
--- What is asked, and what has to be kept of a text to answer it: shapes and texts that no test and no verb looks at are
+-- What is asked, and what has to be kept of features to answer it: shapes and texts that no test and no verb looks at are
 -- left out.
-use Rattle.std.specs.Prelude.{ℕ, Bool, true, false, ◌&&◌, ◌||◌, bytes_eq, List, [], filter, count_by}
+use Rattle.std.specs.Prelude.{ℕ, Bool, true, false, ◌&&◌, ◌||◌, if◌then◌else◌, bytes_eq, List, [], filter, count_by}
+use Rattle.std.specs.Prelude.{Option, Some, None}
 use Rattle.std.specs.List.{list_any}
 use Rattle.at_fixed.specs.declared.rounding.Coords.{Coords}
 use Rattle.at_geom.specs.declared.shapes.Shape.{Shape}
@@ -9,6 +10,8 @@ use Rattle.at_query.specs.declared.query.queries.Test.{Test}
 use Rattle.at_query.specs.declared.query.queries.Test.TheVariants.{InBox, MeetsShape, Has}
 use Rattle.at_query.specs.declared.query.queries.Verb.{Verb}
 use Rattle.at_query.specs.declared.query.queries.Verb.TheVariants as verbs
+use Rattle.at_query.specs.declared.query.looks.Measure.{Measure}
+use Rattle.at_query.specs.declared.query.looks.Measure.TheVariants as measures
 use Rattle.at_query.specs.declared.features.TextPair.{TextPair}
 
 -- a query, and how numbers are read
@@ -75,3 +78,23 @@ kept_shape needs s = record {
   lines = kept needs s.lines;
   polygons = kept needs s.polygons;
 }
+
+-- ---- what is asked of positions of which none is kept
+
+-- what a verb asks of positions, where it keeps none of them
+abbrev pub measured_by : Verb → Option Measure
+measured_by verbs.Select = Some measures.Count
+measured_by verbs.Count = Some measures.Count
+measured_by verbs.Area = Some measures.Area
+measured_by verbs.Extent = Some measures.Extent
+measured_by verbs.Hull = None
+measured_by verbs.Join = None
+
+-- the verb asks for the offsets of features
+abbrev pub selects : Verb → Bool
+selects verbs.Select = true
+selects _ = false
+
+-- the same of a query: tests that look at shapes look at the shapes themselves
+abbrev pub measure_of : Query → Option Measure
+measure_of query = if list_any looks_at_shapes query.tests then None else measured_by query.verb

@@ -1,5 +1,5 @@
 -- A feature whose shape and texts are kept only as far as the query looks at them gives the part of the feature itself.
--- For `object`, `root_part` and `value`.
+-- For `feature_part`, `object`, `root_part` and `value` of at_geojson.
 use Rattle.std.proofs.Common.{◌≡◌, inl, inr, ℕ, Bool, true, false, ◌&&◌, ◌||◌, cond, bytes_eq, List, [], ◌∷◌, ◌++◌, refl, sym, ◌∙◌, ap, subst}
 use Rattle.std.specs.List.{AllByRecursion, list_any}
 use Rattle.std.proofs.lemmas.Bool.{true≢false, and_parts, and_from, or_left, or_right}
@@ -10,7 +10,7 @@ use Rattle.at_query.specs.declared.query.queries.Query.{Query}
 use Rattle.at_query.specs.declared.query.queries.Test.{Test}
 use Rattle.at_query.specs.declared.query.queries.Test.TheVariants.{InBox, MeetsShape, Has}
 use Rattle.at_query.specs.declared.features.TextPair.{TextPair}
-use Rattle.at_geojson.specs.Keeping.{looks_at_shapes, looks_at_texts, needs_shapes, tells_shapes, wants_value, wants_pair, asks_value, asks_pair, asked_texts, kept_shape}
+use Rattle.at_query.specs.Keeping.{looks_at_shapes, looks_at_texts, needs_shapes, tells_shapes, wants_value, wants_pair, asks_value, asks_pair, asked_texts, kept_shape}
 use Rattle.at_query.specs.Holding.{has_text, TestHolds, Holds}
 use Rattle.std.specs.Prelude.{IsTrue}
 use Rattle.at_geom.specs.Shapes.{positions, are_all_within, Meet, extent_of}
