@@ -180,8 +180,12 @@ module _ (asked : Asked) (base : ℕ) (w : List ℕ) where
       first = before.first;
       others = before.others ++ next.item.tree ∷ [];
       there = more_there base w before.first before.others 0 end p.end next.item.tree before.there next.comma next.order next.item.within next.item.spells (object_brackets asked p.atom next.item.tree next.object next.item.fold);
-      covers = inr (inl (new, refl, joined_both asked (before.first ∷ before.others) (next.item.tree ∷ []) old.value one new.value j k (run_joined asked old (before.first ∷ before.others) before.covers)
-          (joined_covers asked p.atom (next.item.tree ∷ []) one next.object eg ef (inl (next.item.tree, refl, next.item.fold)))));
+      covers = inr (inl (
+        new,
+        refl,
+        joined_both asked (before.first ∷ before.others) (next.item.tree ∷ []) old.value one new.value j k (run_joined asked old (before.first ∷ before.others) before.covers)
+            (joined_covers asked p.atom (next.item.tree ∷ []) one next.object eg ef (inl (next.item.tree, refl, next.item.fold))),
+      ));
     }
 
 -- ---- what stands at a text's front
