@@ -62,8 +62,10 @@ number_none num.power b h = (stops_number b h).8
 -- the state is between tokens
 abbrev pub IsStill : State → Type 0
 IsStill (in_number n st) = ⊥
+IsStill (in_string s st) = ⊥
+IsStill (in_name s st) = ⊥
+IsStill (in_word w st) = ⊥
 IsStill _ = ⊤
-IsStill _ = ⊥
 
 -- the state is at the end of a whole token, and goes on as t
 abbrev pub Settled : State → State → Type 0
