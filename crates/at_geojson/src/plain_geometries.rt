@@ -11,7 +11,7 @@ use crate::text::Text;
 use at_query::{Measure, Part};
 use at_scan::{
     Kind, KindRead, OTHER_KIND, SimpleItem, begins_collection, expect_comma, field_name,
-    is_coordinates, is_kind, kind_of, known_kind, simple_item, skip_spaces, stands,
+    is_coordinates, is_kind, kind_of, known_kind, simple_item_to_end, skip_spaces, stands,
 };
 use at_text::{Fault, Halt};
 
@@ -56,7 +56,7 @@ fn any_kind(text: &[u8], at: usize) -> Result<KindRead, Halt>
     requires short { length text.now ≤ 2 ^ 28 }
     ensures { (asked : Asked) (base : ℕ) → IfOk result (IsKindRead asked base text.now at) }
 {
-    let Some(SimpleItem { first, last, end }) = simple_item(text, at) else {
+    let Some(SimpleItem { first, last, end }) = simple_item_to_end(text, at) else {
         return Err(Halt::At(long_kind(text, at)));
     };
     match kind_of(&text[first + 1..last - 1]) {

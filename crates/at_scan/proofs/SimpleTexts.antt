@@ -1,5 +1,5 @@
 -- The units of a string of ASCII without escapes are the bytes between its quotes, and such a string is a plain name.
--- For `simple_item`, `next_name` and `field_name`.
+-- For `simple_item`, `last_item`, `next_name` and `field_name`.
 use Rattle.std.proofs.Common.{◌≡◌, ◌≢◌, ℕ, ◌+◌, ◌-◌, ◌<◌, ◌≤◌, ◌==◌, nat_lt, not, true, List, [], ◌∷◌, ◌++◌, length, take, drop, slice_index, flat_map, refl, sym, ◌∙◌, ap, arith, length-append}
 use Rattle.std.specs.List.{list_all}
 use Rattle.std.proofs.Math.Seq.{take-append_seam}
@@ -7,9 +7,11 @@ use Rattle.std.proofs.lemmas.Bool.{and_parts}
 use Rattle.at_fixed.specs.NumberSoFar.{between}
 use Rattle.at_fixed.proofs.DigitParts.{part-length, part-more, part-cons}
 use Rattle.at_scan.specs.declared.places.NamePlace.{NamePlace}
-use Rattle.at_scan.specs.Places.{IsTextAt, IsNameAt, is_simple}
+use Rattle.at_scan.specs.declared.short_texts.SimpleItem.{SimpleItem}
+use Rattle.at_scan.specs.Places.{IsTextAt, IsSimpleTextAt, IsSimpleItem, IsNameAt, is_simple}
 use Rattle.at_scan.specs.Members.{IsPlainName}
 use Rattle.at_scan.proofs.Taken.{rest_to}
+use Rattle.at_lex.specs.Spans.{AreSpaces}
 use Rattle.at_lex.specs.Strings.{Character, character_text, string_text, AreCharacters, units_of}
 use Rattle.at_lex.specs.UnitSteps.{Content, units_after}
 use Rattle.at_lex.proofs.Stretches.{units_by_step}
@@ -75,3 +77,16 @@ plain_text_is w n h simple =
 
 pub plain_name_is : (w : List ℕ) (at : ℕ) (n : NamePlace) → IsNameAt w at n → list_all is_simple (take (n.end - n.first) (drop n.first w)) ≡ true → IsPlainName w n
 plain_name_is w at n h simple = plain_text_is w n h.text simple
+
+-- ---- strings with white space round them
+
+pub simple_item_is : (w : List ℕ) (at : ℕ) (p : SimpleItem) → at ≤ p.first → AreSpaces (between w at p.first) → IsSimpleTextAt w p.first p.last → p.last ≤ p.end → p.end ≤ length w → AreSpaces (between w p.last p.end) → IsSimpleItem w at p
+simple_item_is w at p before spaces text behind within more = record {
+  before = before;
+  spaces = spaces;
+  text = text;
+  order = (plain_text_is w (record { first = p.first; end = p.last; colon = 0 }) text.0 text.1).order;
+  behind = behind;
+  within = within;
+  more_spaces = more;
+}

@@ -13,7 +13,7 @@ name_hash name = fold hash_more 1 name
 
 -- the hash of the last bytes of a name
 abbrev pub tail_hash : List ℕ → ℕ
-tail_hash name = name_hash (drop (length name - 4) name)
+tail_hash name = name_hash (drop (length name - 8) name)
 
 -- how often a number stands in a list
 abbrev pub times : ℕ → List ℕ → ℕ

@@ -1,6 +1,6 @@
 -- The names of an object's members, at their places.
-use Rattle.std.specs.Prelude.{◌≡◌, ℕ, ◌+◌, ◌-◌, ◌<◌, ◌≤◌, Bool, true, false, ◌||◌, bytes_eq, List, [], ◌∷◌, ◌++◌, All}
-use Rattle.std.specs.Prelude.{length, take, drop, get_or}
+use Rattle.std.specs.Prelude.{◌≡◌, ℕ, ◌+◌, ◌-◌, ◌/◌, ◌^◌, ◌<◌, ◌≤◌, Bool, true, false, ◌||◌, bytes_eq, List, [], ◌∷◌, ◌++◌, All}
+use Rattle.std.specs.Prelude.{length, map, take, drop, get_or}
 use Rattle.std.specs.Bool.{⊤}
 use Rattle.std.specs.List.{list_any}
 use Rattle.at_fixed.specs.NumberSoFar.{between}
@@ -30,6 +30,10 @@ pub record IsOtherName (w : List ℕ) (n : OtherName) : Type 0 where
   pub plain : IsPlainName w n.place
   pub hash : n.hash ≡ tail_hash (name_in w n.place)
 
+-- the tag of a name: the highest byte of its hash
+abbrev pub name_tag : OtherName → ℕ
+name_tag n = n.hash / 2 ^ 56
+
 abbrev pub is_named_among : List ℕ → List OtherName → List ℕ → Bool
 is_named_among w names name = list_any (λ (n : OtherName). bytes_eq name (name_in w n.place)) names
 
@@ -46,10 +50,11 @@ abbrev pub AreUnlike : List ℕ → List OtherName → List OtherName → Type 0
 AreUnlike w before [] = ⊤
 AreUnlike w before (n ∷ ns) = (is_named_among w before (name_in w n.place) ≡ false) × AreUnlike w (before ++ n ∷ []) ns
 
--- names stand in memory only where no more of them have a place
+-- names stand in memory only where no more of them have a place, each with its tag
 pub record ArePlaced (others : OtherNames) : Type 0 where
   pub few : others.placed ≤ 8
   pub full : others.placed < 8 → others.far.items ≡ []
+  pub tags : others.tags.items ≡ map name_tag others.far.items
 
 pub record ArePlainOthers (w : List ℕ) (others : OtherNames) : Type 0 where
   pub placed : ArePlaced others

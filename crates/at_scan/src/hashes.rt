@@ -23,7 +23,7 @@ pub fn hash_of(name: &[u16]) -> u64
 }
 
 /// So many bytes at the end of a name tell most names apart.
-const TAIL: usize = 4;
+const TAIL: usize = 8;
 
 /// The hash of the last bytes of a name in ASCII.
 #[inline(always)]

@@ -39,5 +39,5 @@ pub use places::{
     NamePlace, OTHER_KIND, behind_spaces, brackets_ahead, expect_comma, name_place, opening,
     seems_cut, skip_spaces, stands, text_end,
 };
-pub use short_texts::{SimpleItem, is_simple, short_text_end, simple_item};
+pub use short_texts::{SimpleItem, is_simple, short_text_end, simple_item, simple_item_to_end};
 pub use spellings::Spelling;

@@ -1,11 +1,11 @@
 //! The members of an object whose names are plain, read without a copy of a name.
 
-ghost use Rattle.std.specs.Prelude.{◌≡◌, ℕ, List, ◌-◌, ◌≤◌, ◌^◌, All, bytes_eq, true, false, length, IfOk, IfSome};
+ghost use Rattle.std.specs.Prelude.{◌≡◌, ℕ, List, ◌-◌, ◌≤◌, ◌^◌, All, bytes_eq, true, false, length, map, IfOk, IfSome};
 ghost use Rattle.at_fixed.specs.NumberSoFar.{between};
 ghost use Rattle.at_lex.specs.Spans.{AreSpaces};
 ghost use Rattle.at_scan.specs.Places.{IsNameAt, IsSimpleTextAt};
 ghost use Rattle.at_scan.specs.Fields.{field_of, is_no_field};
-ghost use Rattle.at_scan.specs.Members.{name_in, IsPlainName, is_named_among, is_among_others, ArePlainOthers};
+ghost use Rattle.at_scan.specs.Members.{name_in, name_tag, IsPlainName, is_named_among, is_among_others, ArePlainOthers};
 ghost use Rattle.at_scan.specs.Members.{known_in, ArePlaced, ArePlainNames, IsExpected, IsNextName, AreCut};
 ghost use Rattle.at_scan.specs.Members.{AddsName, from_name, IsAgain, IsNextField, IsOtherName, AddsOther};
 ghost use Rattle.at_scan.specs.KnownNames.{StandsWord, IsFieldName};
@@ -16,6 +16,7 @@ use crate::known_names::{known_name, stands_word};
 use crate::places::{NamePlace, ended_name, name_place, skip_spaces};
 use crate::short_texts::{LANES, is_simple, short_text_end};
 use at_text::Halt;
+use memchr::memchr;
 use std::alloc::Global;
 
 /// So many names of members for which no kind asks are kept in place.
@@ -42,6 +43,8 @@ pub struct OtherNames {
     pub placed: usize,
     pub near: [OtherName; NEAR],
     pub far: Vec<OtherName>,
+    /// The tag of each name in memory.
+    pub tags: Vec<u8>,
 }
 
 /// The names of members for which no kind asks, of a feature and of its properties. Tables repeat them.
@@ -101,6 +104,33 @@ fn is_among(text: &[u8], names: &[OtherName], name: OtherName) -> bool
         if is_name(text, name, *other) {
             return true;
         }
+    }
+    false
+}
+
+/// The tag of a name: a byte of its hash.
+#[inline(always)]
+fn tag_of(name: OtherName) -> u8
+    ensures { result ≡ name_tag name }
+{
+    (name.hash >> 56) as u8
+}
+
+/// Whether a name is among others, of which only those that have its tag are compared.
+fn is_among_tagged(text: &[u8], names: &[OtherName], tags: &[u8], name: OtherName) -> bool
+    requires names { All (IsOtherName text.now) names.now }
+    requires tags { tags.now ≡ map name_tag names.now }
+    requires name { IsOtherName text.now name }
+    ensures { result ≡ is_named_among text.now names.now (name_in text.now name.place) }
+{
+    let tag = tag_of(name);
+    let mut from = 0;
+    'tags: while let Some(more) = memchr(tag, &tags[from..]) {
+        let at = from + more;
+        if is_name(text, name, names[at]) {
+            return true;
+        }
+        from = at + 1;
     }
     false
 }
@@ -170,6 +200,7 @@ impl OtherNames {
                 hash: 0,
             }; NEAR],
             far: Vec::new(alloc),
+            tags: Vec::new(alloc),
         }
     }
 
@@ -205,8 +236,10 @@ impl OtherNames {
         if self.count < self.placed {
             self.placed = self.count;
             self.far.truncate(0);
+            self.tags.truncate(0);
         } else {
             self.far.truncate(self.count - self.placed);
+            self.tags.truncate(self.count - self.placed);
         }
     }
 
@@ -223,7 +256,7 @@ impl OtherNames {
         if self.far.is_empty() {
             return false;
         }
-        is_among(text, self.far.as_slice(), name)
+        is_among_tagged(text, self.far.as_slice(), self.tags.as_slice(), name)
     }
 
     /// One more name, unless they are too many.
@@ -243,6 +276,7 @@ impl OtherNames {
             return Err(Halt::At(name.place.end));
         }
         self.far.push(name)?;
+        self.tags.push(tag_of(name))?;
         self.count += 1;
         Ok(())
     }
@@ -273,7 +307,8 @@ fn other_name(text: &[u8], place: NamePlace) -> OtherName
     }
 }
 
-/// Puts a name to those of members for which no kind asks, unless it is among them. It isn't the one that is expected.
+/// Puts a name to those of members for which no kind asks, unless it is among them. The names that were expected are
+/// forgotten.
 #[inline(always)]
 pub fn add_other(text: &[u8], others: &mut OtherNames, name: NamePlace) -> Result<(), Halt>
     requires names { ArePlainOthers text.now others.old }

@@ -1,12 +1,12 @@
 //! Strings of ASCII without escapes that are so short that their bytes are looked at together.
 
-ghost use Rattle.std.specs.Prelude.{◌≡◌, ◌+◌, ◌≤◌, length, IfSome};
+ghost use Rattle.std.specs.Prelude.{◌≡◌, ◌+◌, ◌≤◌, ◌^◌, length, IfSome};
 ghost use Rattle.std.specs.List.{list_all};
 ghost use Rattle.at_fixed.specs.Eights.{first_set as lowest_set};
 ghost use Rattle.at_lex.specs.Fronts.{IsFrontAt};
 ghost use Rattle.at_scan.specs.Places.{IsSimpleTextAt, IsSimpleItem, is_common, is_simple as simple_byte};
 
-use crate::places::{skip_spaces, stands};
+use crate::places::{skip_spaces, stands, text_end};
 use std::simd::prelude::*;
 
 /// So many bytes of a text are looked at together.
@@ -65,7 +65,8 @@ pub struct SimpleItem {
     pub end: usize,
 }
 
-/// A short string of ASCII without escapes with white space round it.
+/// A short string of ASCII without escapes with white space round it. Of strings near the end of the text it answers
+/// None.
 #[inline(always)]
 pub fn simple_item(text: &[u8], at: usize) -> Option<SimpleItem>
     requires { at ≤ length text.now }
@@ -75,6 +76,40 @@ pub fn simple_item(text: &[u8], at: usize) -> Option<SimpleItem>
     let last = short_text_end(text, first)?;
     let end = skip_spaces(text, last);
     Some(SimpleItem { first, last, end })
+}
+
+/// An item as of `simple_item` near the end of the text, whose bytes are looked at one by one.
+#[inline(never)]
+fn last_item(text: &[u8], at: usize) -> Option<SimpleItem>
+    requires inside { at ≤ length text.now }
+    requires short { length text.now ≤ 2 ^ 28 }
+    ensures { IfSome result (IsSimpleItem text.now at) }
+{
+    let first = skip_spaces(text, at);
+    if text.len() - first > 2 * LANES {
+        return None;
+    }
+    let Ok(last) = text_end(text, first) else {
+        return None;
+    };
+    if last - first > LANES + 2 || !is_simple(&text[first..last]) {
+        return None;
+    }
+    let end = skip_spaces(text, last);
+    Some(SimpleItem { first, last, end })
+}
+
+/// An item as of `simple_item`, also near the end of the text.
+#[inline(always)]
+pub fn simple_item_to_end(text: &[u8], at: usize) -> Option<SimpleItem>
+    requires inside { at ≤ length text.now }
+    requires short { length text.now ≤ 2 ^ 28 }
+    ensures { IfSome result (IsSimpleItem text.now at) }
+{
+    match simple_item(text, at) {
+        Some(item) => Some(item),
+        None => last_item(text, at),
+    }
 }
 
 /// Whether each byte stands for the unit of its own number.

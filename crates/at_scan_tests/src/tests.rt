@@ -9,8 +9,8 @@ use at_scan::{
     begins_collection, behind_spaces, brackets_ahead, expect_comma, field_name, field_named,
     has_hash_among, hash_of, is_coordinates, is_kind, is_other, is_simple, kind_of, known_kind,
     may_begin, name_bytes, name_place, names_collection, next_name, opening, position_end,
-    repeated, seems_cut, short_text_end, simple_item, skip_spaces, stands, text_end, valued_len,
-    valued_number,
+    repeated, seems_cut, short_text_end, simple_item, simple_item_to_end, skip_spaces, stands,
+    text_end, valued_len, valued_number,
 };
 use at_text::{Halt, Memory};
 use std::alloc::Global;
@@ -59,6 +59,26 @@ fn strings(rt: HostRuntime) {
         Some(item) => assert!(rt; item.first == 1 && item.last == 5 && item.end == 6),
         None => assert!(rt; false),
     }
+}
+
+/// The places of a simple item, also near the end of the text.
+fn item_places(text: &[u8]) -> Option<(usize, usize, usize)>
+    requires { length text.now < 100 }
+{
+    let item = simple_item_to_end(text, 0)?;
+    Some((item.first, item.last, item.end))
+}
+
+#[test]
+fn items_at_the_end(rt: HostRuntime) {
+    assert!(rt; simple_item(b" \"ab\" ", 0).is_none());
+    assert!(rt; item_places(b" \"ab\" ,                  ") == Some((1, 5, 6)));
+    assert!(rt; item_places(b" \"ab\" ") == Some((1, 5, 6)));
+    assert!(rt; item_places(b"\"0123456789abcdef\"") == Some((0, 18, 18)));
+    assert!(rt; item_places(b"\"0123456789abcdefg\"").is_none());
+    assert!(rt; item_places(b"\"ab").is_none() && item_places(b"7").is_none());
+    assert!(rt; item_places(b"\"a\\n\"").is_none() && item_places(b"\"\xC3\xA9\"").is_none());
+    assert!(rt; item_places(b"").is_none());
 }
 
 /// Whether a name stands at these places.
@@ -198,6 +218,46 @@ fn equal_names(rt: HostRuntime) -> Result<(), Fail> {
     assert!(rt; has_twin(alloc, b"{\"a\":1,\"b\":2,\"a\":3}", [1, 7, 13])?);
     assert!(rt; !has_twin(alloc, b"{\"a\":1,\"b\":2,\"c\":3}", [1, 7, 13])?);
     Ok(())
+}
+
+/// The place of the first comma behind which no name stands that is new in its object.
+fn twin_place(alloc: Global, text: &[u8]) -> Option<usize>
+    requires { length text.now < 1000 }
+{
+    let mut names = OtherNames::none(alloc);
+    for at in 0..text.len() {
+        if text[at] == b'{' {
+            names.begin();
+        }
+        if text[at] != b',' {
+            continue;
+        }
+        let Ok(_) = next_name(text, &mut names, at + 1) else {
+            return Some(at);
+        };
+    }
+    None
+}
+
+/// Twenty names, of which the last eight differ in their first byte only.
+static TWENTY: &[u8] =
+    b",\"a\":,\"b\":,\"c\":,\"d\":,\"e\":,\"f\":,\"g\":,\"h\":,\"i\":,\"j\":,\"k\":,\"l\":,\"a12345678\":,\"b12345678\":,\"c12345678\":,\"d12345678\":,\"e12345678\":,\"f12345678\":,\"g12345678\":,\"h12345678\":";
+
+/// The same with the second of those eight as the last.
+static TWENTY_TWIN: &[u8] =
+    b",\"a\":,\"b\":,\"c\":,\"d\":,\"e\":,\"f\":,\"g\":,\"h\":,\"i\":,\"j\":,\"k\":,\"l\":,\"a12345678\":,\"b12345678\":,\"c12345678\":,\"d12345678\":,\"e12345678\":,\"f12345678\":,\"g12345678\":,\"b12345678\":";
+
+/// An object of fourteen names, and one that has another name behind the first ten of them, then the eleventh, and at
+/// last the tenth again.
+static TWO_OBJECTS: &[u8] =
+    b"{,\"a\":,\"b\":,\"c\":,\"d\":,\"e\":,\"f\":,\"g\":,\"h\":,\"i\":,\"j\":,\"k\":,\"l\":,\"m\":,\"n\":}{,\"a\":,\"b\":,\"c\":,\"d\":,\"e\":,\"f\":,\"g\":,\"h\":,\"i\":,\"j\":,\"z\":,\"k\":,\"j\":}";
+
+#[test]
+fn many_names(rt: HostRuntime) {
+    let alloc = rt.alloc();
+    assert!(rt; twin_place(alloc, TWENTY).is_none());
+    assert!(rt; twin_place(alloc, TWENTY_TWIN) == Some(151));
+    assert!(rt; twin_place(alloc, TWO_OBJECTS) == Some(133));
 }
 
 #[test]

@@ -6,4 +6,4 @@ pub returns-else-self : goal.returns-else-self
 returns-else-self c =
     let len : length c.args.self.now.near ≡ 8 = search rules in
     let less : c.args.self.now.placed ≤ c.args.self.now.count = omega (arith, c.if-self.false) in
-    cut_far c.args.self.now _ len c.requires less refl refl refl c.truncate-else-self.ensures.items
+    cut_far c.args.self.now _ len c.requires less refl refl refl c.truncate-else-self.ensures.items c.truncate-else-self-2.ensures.items
