@@ -112,6 +112,14 @@ impl<T: Drop> Body<T> {
         }
     }
 
+    /// Whether no level is open.
+    #[inline(always)]
+    fn is_outside(&self) -> bool
+        ensures { result ≡ true → (shown self.now).levels ≡ [] }
+    {
+        self.levels.is_empty()
+    }
+
     /// Takes the innermost open level out.
     #[inline(always)]
     pub fn innermost(&mut self, alloc: Global) -> Option<Level<T>>
@@ -571,6 +579,9 @@ pub fn close<A: Algebra>(
     ensures { IfOk result (λ r. Pushes (IsAtomOf A.Algebra algebra.now)
         (shown body.old) (shown body.new) r (closing_piece bracket at)) }
 {
+    if body.is_outside() {
+        return keep_close(body, algebra, bracket, at);
+    }
     match body.innermost(alloc) {
         None => keep_close(body, algebra, bracket, at),
         Some(level) => if level.can_close(bracket) {

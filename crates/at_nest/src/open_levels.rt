@@ -124,7 +124,9 @@ impl<T: Drop> Levels<T> {
         Ok(())
     }
 
-    fn is_empty(&self) -> bool
+    /// Whether there is none.
+    #[inline(always)]
+    pub fn is_empty(&self) -> bool
         ensures { result ≡ true → opens_of self.now ≡ [] }
     {
         if !self.last.is_empty() {
