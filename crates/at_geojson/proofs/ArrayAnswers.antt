@@ -4,9 +4,9 @@ use Rattle.std.proofs.Common.{◌≡◌, ◌≢◌, inl, inr, ℕ, Bool, List, [
 use Rattle.at_nest.specs.Folds.{AreFolds}
 use Rattle.at_nest.specs.Tree.{array, Trees, no_trees}
 use Rattle.at_query.specs.Keeping.{Asked, needs_shapes}
-use Rattle.at_geojson.specs.declared.atoms.GeoAtom.{GeoAtom}
-use Rattle.at_geojson.specs.declared.atoms.GeoAtom.TheVariants as atoms
-use Rattle.at_geojson.specs.declared.sorts.Sort.TheVariants as sorts
+use Rattle.at_geojson.specs.declared.atoms.atom.GeoAtom.{GeoAtom}
+use Rattle.at_geojson.specs.declared.atoms.atom.GeoAtom.TheVariants as atoms
+use Rattle.at_geojson.specs.declared.atoms.sorts.Sort.TheVariants as sorts
 use Rattle.at_geojson.specs.Atoms.{twin_of, IsRead, IsRun, IsFold}
 use Rattle.at_geojson.specs.Gathering.{firsts, least_of, rank, sort_of_all, pair_atom, MakesPoints, MakesLists, MakesAreas}
 use Rattle.at_geojson.specs.Arrays.{MakesItems, MakesNumbers, ClosesItems}

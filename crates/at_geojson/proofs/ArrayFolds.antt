@@ -7,10 +7,10 @@ use Rattle.at_text.specs.Faults.{comes_first, first_fault, fault_at}
 use Rattle.at_text.specs.declared.faults.FaultKind.TheVariants.{Form}
 use Rattle.at_nest.specs.Tree.{Tree, array, Trees, no_trees}
 use Rattle.at_query.specs.Keeping.{Asked, needs_shapes, asked_texts, kept, kept_shape}
-use Rattle.at_geojson.specs.declared.atoms.GeoAtom.{GeoAtom}
-use Rattle.at_geojson.specs.declared.atoms.GeoAtom.TheVariants as atoms
-use Rattle.at_geojson.specs.declared.atoms.ItemsAtom.{ItemsAtom}
-use Rattle.at_geojson.specs.declared.atoms.Role.TheVariants as roles
+use Rattle.at_geojson.specs.declared.atoms.atom.GeoAtom.{GeoAtom}
+use Rattle.at_geojson.specs.declared.atoms.atom.GeoAtom.TheVariants as atoms
+use Rattle.at_geojson.specs.declared.atoms.atom.ItemsAtom.{ItemsAtom}
+use Rattle.at_geojson.specs.declared.atoms.atom.Role.TheVariants as roles
 use Rattle.at_geojson.specs.Coordinates.{position_of, positions_of, lists_of, area_of, areas_of}
 use Rattle.at_geojson.specs.Roles.{texts_of, geometry_reading, items_reading, item_reading}
 use Rattle.at_wkt.specs.Meaning.{empty_shape}

@@ -7,8 +7,8 @@ use Rattle.at_text.specs.declared.faults.Fault.{Fault}
 use Rattle.at_nest.specs.Folds.{AreFolds}
 use Rattle.at_nest.specs.Tree.{Tree, array, Trees}
 use Rattle.at_query.specs.Keeping.{Asked, needs_shapes}
-use Rattle.at_geojson.specs.declared.atoms.GeoAtom.{GeoAtom}
-use Rattle.at_geojson.specs.declared.atoms.GeoAtom.TheVariants as atoms
+use Rattle.at_geojson.specs.declared.atoms.atom.GeoAtom.{GeoAtom}
+use Rattle.at_geojson.specs.declared.atoms.atom.GeoAtom.TheVariants as atoms
 use Rattle.at_fixed.specs.Numerals.{Numeral}
 use Rattle.at_wkt.specs.Positions.{Positions}
 use Rattle.std.proofs.lemmas.Option.{none-some, same_Some}

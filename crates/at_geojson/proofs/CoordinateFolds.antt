@@ -20,8 +20,8 @@ use Rattle.at_nest.specs.Folds.{AreFolds}
 use Rattle.at_nest.specs.Tree.{array, Trees, no_trees, tree_and}
 use Rattle.at_wkt.proofs.PathAnswers.{first_of-option}
 use Rattle.at_query.specs.Keeping.{Asked, needs_shapes, kept}
-use Rattle.at_geojson.specs.declared.atoms.GeoAtom.{GeoAtom}
-use Rattle.at_geojson.specs.declared.atoms.GeoAtom.TheVariants as atoms
+use Rattle.at_geojson.specs.declared.atoms.atom.GeoAtom.{GeoAtom}
+use Rattle.at_geojson.specs.declared.atoms.atom.GeoAtom.TheVariants as atoms
 use Rattle.at_geojson.specs.Names.{items_of}
 use Rattle.at_geojson.specs.Coordinates.{each, number_at, position_of, position_of_numbers, positions_of, lists_of, area_of, areas_of, if_some_items}
 use Rattle.at_geojson.specs.Atoms.{as_run, nowhere, to_four, NumberView, PositionView, PointsView, ListsView, as_number, as_position, as_points, as_area, as_areas, Alike, IsNumber, IsPosition, IsPoints, IsLists, IsArea, IsAreas, IsRead}

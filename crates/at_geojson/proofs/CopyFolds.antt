@@ -10,10 +10,10 @@ use Rattle.at_geom.specs.Shapes.{ArePathsInRange, ArePolygonsInRange}
 use Rattle.at_nest.specs.Tree.{Tree}
 use Rattle.at_query.specs.Keeping.{Asked, needs_shapes}
 use Rattle.at_query.specs.Keeping.{asked_texts}
-use Rattle.at_geojson.specs.declared.atoms.GeoAtom.{GeoAtom}
-use Rattle.at_geojson.specs.declared.atoms.GeoAtom.TheVariants as atoms
-use Rattle.at_geojson.specs.declared.atoms.Items.{Items}
-use Rattle.at_geojson.specs.declared.atoms.Roles.{Roles}
+use Rattle.at_geojson.specs.declared.atoms.atom.GeoAtom.{GeoAtom}
+use Rattle.at_geojson.specs.declared.atoms.atom.GeoAtom.TheVariants as atoms
+use Rattle.at_geojson.specs.declared.atoms.atom.Items.{Items}
+use Rattle.at_geojson.specs.declared.atoms.atom.Roles.{Roles}
 use Rattle.at_geojson.specs.Coordinates.{number_at, position_of, positions_of, lists_of, area_of, areas_of}
 use Rattle.at_geojson.specs.Roles.{geometry_reading, items_reading, item_reading, texts_of}
 use Rattle.at_geojson.specs.Atoms.{as_run, no_roles, lists_view, track_view, IsRun, AreJoined, AreSeries, AreTracked, TrackView, PointsView, ListsView, AreasView, both_forms, array_trees, object_members, Alike, HasShape, HasPart, IsNumber, IsPosition, IsPoints, IsLists, IsArea, IsAreas, items_features, IsRoot, role_geometry, role_item, IsOwnRole, AreOwnItems, IsRead, IsFold, IsOwn, twin_of, at_of, is_null, is_empty, as_kind, as_text, as_number, as_position, as_points, as_lists, as_area, as_areas, as_geometries, as_features, role_of, as_texts}

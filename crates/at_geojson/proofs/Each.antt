@@ -12,7 +12,7 @@ use Rattle.at_nest.specs.Folds.{AreFolds}
 use Rattle.at_nest.specs.Tree.{Tree, Trees, no_trees, tree_and}
 use Rattle.at_nest.specs.Twins.{twins_of, twins_of_items}
 use Rattle.at_query.specs.Keeping.{Asked}
-use Rattle.at_geojson.specs.declared.atoms.GeoAtom.{GeoAtom}
+use Rattle.at_geojson.specs.declared.atoms.atom.GeoAtom.{GeoAtom}
 use Rattle.at_geojson.specs.Names.{items_of}
 use Rattle.at_geojson.specs.Coordinates.{each}
 use Rattle.at_geojson.specs.Atoms.{Alike, twin_of, IsRead, IsFold}

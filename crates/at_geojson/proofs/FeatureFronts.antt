@@ -5,8 +5,8 @@ use Rattle.std.specs.declared.alloc.Global.{Global}
 use Rattle.at_text.specs.declared.faults.Fault.{Fault}
 use Rattle.at_query.specs.declared.answer.parts.Part.{Part}
 use Rattle.at_query.specs.Keeping.{Asked}
-use Rattle.at_geojson.specs.declared.atoms.GeoAtom.TheVariants as atoms
-use Rattle.at_geojson.specs.declared.features.FeatureRead.{FeatureRead}
+use Rattle.at_geojson.specs.declared.atoms.atom.GeoAtom.TheVariants as atoms
+use Rattle.at_geojson.specs.declared.at_once.features.FeatureRead.{FeatureRead}
 use Rattle.at_geojson.specs.declared.root.FeatureFront.{FeatureFront}
 use Rattle.at_geojson.specs.Features.{IsFeatureRead}
 use Rattle.at_geojson.specs.Wholes.{IsAnswer, IsFeatureFront, found_end}

@@ -22,13 +22,13 @@ use Rattle.at_nest.proofs.TreeParts.{padded_parts, padded_made, after_parts, aft
 use Rattle.at_nest.specs.Folds.{trees, HasBrackets, IsAttempt, IsItemsAttempt}
 use Rattle.at_query.specs.declared.features.TextPair.{TextPair}
 use Rattle.at_query.specs.Keeping.{Asked}
-use Rattle.at_geojson.specs.declared.atoms.GeoAtom.{GeoAtom}
-use Rattle.at_geojson.specs.declared.atoms.GeoAtom.TheVariants as atoms
-use Rattle.at_geojson.specs.declared.atoms.Items.{Items}
-use Rattle.at_geojson.specs.declared.atoms.ObjectAtom.{ObjectAtom}
-use Rattle.at_geojson.specs.declared.atoms.Role.TheVariants as roles
-use Rattle.at_geojson.specs.declared.pairs.Whole.{Whole}
-use Rattle.at_geojson.specs.declared.features.FeatureRead.{FeatureRead}
+use Rattle.at_geojson.specs.declared.atoms.atom.GeoAtom.{GeoAtom}
+use Rattle.at_geojson.specs.declared.atoms.atom.GeoAtom.TheVariants as atoms
+use Rattle.at_geojson.specs.declared.atoms.atom.Items.{Items}
+use Rattle.at_geojson.specs.declared.atoms.atom.ObjectAtom.{ObjectAtom}
+use Rattle.at_geojson.specs.declared.atoms.atom.Role.TheVariants as roles
+use Rattle.at_geojson.specs.declared.coordinates.pairs.Whole.{Whole}
+use Rattle.at_geojson.specs.declared.at_once.features.FeatureRead.{FeatureRead}
 use Rattle.at_geojson.specs.Atoms.{both_forms, IsOwn, IsFold, IsRun, AreJoined, AreOwnItems, IfOwnShape, IfOwnPart}
 use Rattle.at_geojson.specs.Gathering.{is_any_object, item_geometries, item_features, JoinsShapes, JoinsFound, AreJoinable}
 use Rattle.at_geojson.specs.Values.{IsWhole}

@@ -17,16 +17,16 @@ use Rattle.at_scan.specs.declared.fields.Field.TheVariants as names
 use Rattle.at_scan.specs.Places.{IsNameAt}
 use Rattle.at_scan.specs.Fields.{field_of, is_kind, is_coordinates, is_geometry, is_properties, is_features, is_geometries, is_no_field}
 use Rattle.at_scan.specs.Members.{name_in, IsPlainName, is_among_others, ArePlainOthers, AddsName, IsNextField}
-use Rattle.at_geojson.specs.declared.atoms.GeoAtom.{GeoAtom}
-use Rattle.at_geojson.specs.declared.atoms.GeoAtom.TheVariants as atoms
-use Rattle.at_geojson.specs.declared.atoms.Role.TheVariants as roles
-use Rattle.at_geojson.specs.declared.fields.Fields.{Fields}
-use Rattle.at_geojson.specs.declared.plain_geometries.SeenRead.{SeenRead}
-use Rattle.at_geojson.specs.declared.plain_objects.VoidMembers.{VoidMembers}
-use Rattle.at_geojson.specs.declared.features.FeatureRead.{FeatureRead}
-use Rattle.at_geojson.specs.declared.features.FeatureMembers.{FeatureMembers}
-use Rattle.at_geojson.specs.declared.features.PropertiesRead.{PropertiesRead}
-use Rattle.at_geojson.specs.declared.pairs.Whole.{Whole}
+use Rattle.at_geojson.specs.declared.atoms.atom.GeoAtom.{GeoAtom}
+use Rattle.at_geojson.specs.declared.atoms.atom.GeoAtom.TheVariants as atoms
+use Rattle.at_geojson.specs.declared.atoms.atom.Role.TheVariants as roles
+use Rattle.at_geojson.specs.declared.objects.fields.Fields.{Fields}
+use Rattle.at_geojson.specs.declared.at_once.plain_geometries.SeenRead.{SeenRead}
+use Rattle.at_geojson.specs.declared.at_once.plain_objects.VoidMembers.{VoidMembers}
+use Rattle.at_geojson.specs.declared.at_once.features.FeatureRead.{FeatureRead}
+use Rattle.at_geojson.specs.declared.at_once.features.FeatureMembers.{FeatureMembers}
+use Rattle.at_geojson.specs.declared.at_once.features.PropertiesRead.{PropertiesRead}
+use Rattle.at_geojson.specs.declared.coordinates.pairs.Whole.{Whole}
 use Rattle.at_geojson.specs.Atoms.{twin_of, as_text, IfOwnShape, IfOwnPart, IsOwnRole}
 use Rattle.at_geojson.specs.Objects.{feature_shape, texts_in, texts_named, kept_texts, JoinsFeature}
 use Rattle.at_geojson.specs.Fields.{put_if, value_in, kind_in_fields, IsRoleIn}

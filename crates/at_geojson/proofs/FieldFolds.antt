@@ -18,10 +18,10 @@ use Rattle.at_scan.specs.declared.kinds.Kind.TheVariants as kinds
 use Rattle.at_scan.specs.declared.fields.Field.TheVariants as names
 use Rattle.at_scan.specs.Fields.{field_of, is_no_field, is_kind, is_coordinates, is_geometry, is_properties, is_features, is_geometries}
 use Rattle.at_scan.proofs.FieldNames.{kind_field, coordinates_field, geometry_field, properties_field, features_field, geometries_field}
-use Rattle.at_geojson.specs.declared.atoms.GeoAtom.{GeoAtom}
-use Rattle.at_geojson.specs.declared.atoms.Role.{Role}
-use Rattle.at_geojson.specs.declared.atoms.Role.TheVariants as roles
-use Rattle.at_geojson.specs.declared.fields.Fields.{Fields}
+use Rattle.at_geojson.specs.declared.atoms.atom.GeoAtom.{GeoAtom}
+use Rattle.at_geojson.specs.declared.atoms.atom.Role.{Role}
+use Rattle.at_geojson.specs.declared.atoms.atom.Role.TheVariants as roles
+use Rattle.at_geojson.specs.declared.objects.fields.Fields.{Fields}
 use Rattle.at_geom.specs.declared.shapes.Shape.{Shape}
 use Rattle.at_geojson.specs.Atoms.{as_kind, IsOwn, IsOwnRole, IfOwnPart}
 use Rattle.at_geojson.specs.Gathering.{seen, is_among}

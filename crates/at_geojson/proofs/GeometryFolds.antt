@@ -17,8 +17,8 @@ use Rattle.at_nest.specs.Tree.{Tree, array, object, Trees, no_trees, tree_and, o
 use Rattle.at_scan.specs.declared.kinds.Kind.{Kind}
 use Rattle.at_scan.specs.declared.kinds.Kind.TheVariants as kinds
 use Rattle.at_query.specs.Keeping.{Asked, needs_shapes, kept, kept_shape}
-use Rattle.at_geojson.specs.declared.atoms.GeoAtom.{GeoAtom}
-use Rattle.at_geojson.specs.declared.atoms.GeoAtom.TheVariants as atoms
+use Rattle.at_geojson.specs.declared.atoms.atom.GeoAtom.{GeoAtom}
+use Rattle.at_geojson.specs.declared.atoms.atom.GeoAtom.TheVariants as atoms
 use Rattle.at_geojson.specs.Names.{items_of}
 use Rattle.at_geojson.specs.Coordinates.{each, position_of, positions_of, lists_of, area_of, areas_of, if_some_items, geometry_of, geometry_of_form}
 use Rattle.at_geojson.specs.Roles.{GeometryRead, not_geometry, coordinates_reading}

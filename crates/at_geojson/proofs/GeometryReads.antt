@@ -15,13 +15,13 @@ use Rattle.at_scan.specs.Places.{IsNameAt}
 use Rattle.at_scan.specs.Fields.{field_of, is_kind, is_coordinates}
 use Rattle.at_scan.specs.Members.{name_in, IsPlainName}
 use Rattle.at_query.specs.Keeping.{Asked, needs_shapes}
-use Rattle.at_geojson.specs.declared.atoms.GeoAtom.{GeoAtom}
-use Rattle.at_geojson.specs.declared.atoms.GeoAtom.TheVariants as atoms
-use Rattle.at_geojson.specs.declared.atoms.ObjectAtom.{ObjectAtom}
-use Rattle.at_geojson.specs.declared.atoms.Role.TheVariants as roles
-use Rattle.at_geojson.specs.declared.fields.Fields.{Fields}
-use Rattle.at_geojson.specs.declared.pairs.Whole.{Whole}
-use Rattle.at_geojson.specs.declared.plain_geometries.ShapeRead.{ShapeRead}
+use Rattle.at_geojson.specs.declared.atoms.atom.GeoAtom.{GeoAtom}
+use Rattle.at_geojson.specs.declared.atoms.atom.GeoAtom.TheVariants as atoms
+use Rattle.at_geojson.specs.declared.atoms.atom.ObjectAtom.{ObjectAtom}
+use Rattle.at_geojson.specs.declared.atoms.atom.Role.TheVariants as roles
+use Rattle.at_geojson.specs.declared.objects.fields.Fields.{Fields}
+use Rattle.at_geojson.specs.declared.coordinates.pairs.Whole.{Whole}
+use Rattle.at_geojson.specs.declared.at_once.plain_geometries.ShapeRead.{ShapeRead}
 use Rattle.at_geojson.specs.Atoms.{IfOwnShape}
 use Rattle.at_geojson.specs.Gathering.{is_among, member_twins}
 use Rattle.at_geojson.specs.Objects.{coordinates_shape, kept_texts}

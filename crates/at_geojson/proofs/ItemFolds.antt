@@ -14,8 +14,8 @@ use Rattle.at_query.specs.declared.features.Feature.{Feature}
 use Rattle.at_query.specs.declared.answer.parts.Part.{Part}
 use Rattle.at_query.specs.declared.query.queries.Query.{Query}
 use Rattle.at_query.specs.Keeping.{Asked, needs_shapes, kept_shape}
-use Rattle.at_geojson.specs.declared.atoms.GeoAtom.{GeoAtom}
-use Rattle.at_geojson.specs.declared.atoms.Items.{Items}
+use Rattle.at_geojson.specs.declared.atoms.atom.GeoAtom.{GeoAtom}
+use Rattle.at_geojson.specs.declared.atoms.atom.Items.{Items}
 use Rattle.at_geojson.specs.Roles.{GeometryRead, Features, both_read, geometry_reading, items_reading, item_reading}
 use Rattle.at_geojson.specs.Names.{items_of}
 use Rattle.at_geojson.specs.Atoms.{HasShape, HasPart, HaveItems, items_features, IsRead, IsRun, at_of, role_of, role_geometry, role_item}

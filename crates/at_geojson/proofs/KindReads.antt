@@ -9,7 +9,7 @@ use Rattle.at_scan.specs.Places.{IsSimpleItem}
 use Rattle.at_scan.specs.KnownNames.{IsKindName}
 use Rattle.at_scan.proofs.SimpleTexts.{plain_text_is}
 use Rattle.at_query.specs.Keeping.{Asked}
-use Rattle.at_geojson.specs.declared.atoms.GeoAtom.{GeoAtom}
+use Rattle.at_geojson.specs.declared.atoms.atom.GeoAtom.{GeoAtom}
 use Rattle.at_geojson.specs.Atoms.{twin_of, as_kind, as_text, asked_units}
 use Rattle.at_geojson.specs.Values.{IsItem}
 use Rattle.at_geojson.specs.PlainGeometries.{IsKindRead}

@@ -20,17 +20,17 @@ use Rattle.at_nest.proofs.OneTree.{one_tree}
 use Rattle.at_nest.proofs.Passed.{padded_gives}
 use Rattle.at_scan.proofs.Moved.{bytes_moved}
 use Rattle.at_query.specs.Keeping.{Asked, kept, needs_shapes}
-use Rattle.at_geojson.specs.declared.atoms.GeoAtom.TheVariants as atoms
-use Rattle.at_geojson.specs.declared.atoms.PositionAtom.{PositionAtom}
-use Rattle.at_geojson.specs.declared.spots.Spot.{Spot}
-use Rattle.at_geojson.specs.declared.atoms.Areas.{Areas}
-use Rattle.at_geojson.specs.declared.atoms.Lists.{Lists}
-use Rattle.at_geojson.specs.declared.makings.LineMade.{LineMade}
-use Rattle.at_geojson.specs.declared.makings.LinesMade.{LinesMade}
-use Rattle.at_geojson.specs.declared.makings.AreasMade.{AreasMade}
-use Rattle.at_geojson.specs.declared.pairs.PairRead.{PairRead}
-use Rattle.at_geojson.specs.declared.pairs.PairPlace.{PairPlace}
-use Rattle.at_geojson.specs.declared.pairs.Row.{Row}
+use Rattle.at_geojson.specs.declared.atoms.atom.GeoAtom.TheVariants as atoms
+use Rattle.at_geojson.specs.declared.atoms.atom.PositionAtom.{PositionAtom}
+use Rattle.at_geojson.specs.declared.coordinates.spots.Spot.{Spot}
+use Rattle.at_geojson.specs.declared.atoms.atom.Areas.{Areas}
+use Rattle.at_geojson.specs.declared.atoms.atom.Lists.{Lists}
+use Rattle.at_geojson.specs.declared.coordinates.makings.LineMade.{LineMade}
+use Rattle.at_geojson.specs.declared.coordinates.makings.LinesMade.{LinesMade}
+use Rattle.at_geojson.specs.declared.coordinates.makings.AreasMade.{AreasMade}
+use Rattle.at_geojson.specs.declared.coordinates.pairs.PairRead.{PairRead}
+use Rattle.at_geojson.specs.declared.coordinates.pairs.PairPlace.{PairPlace}
+use Rattle.at_geojson.specs.declared.coordinates.pairs.Row.{Row}
 use Rattle.at_wkt.specs.Positions.{Position}
 use Rattle.at_geojson.specs.Coordinates.{position_of}
 use Rattle.at_geojson.specs.Atoms.{to_four, IsFold, PositionView, Alike, IsPosition}

@@ -13,7 +13,7 @@ use Rattle.at_nest.specs.Tree.{Tree, Members, no_members, member_and}
 use Rattle.at_nest.specs.Twins.{twins_of, twins_of_members, is_among as named_before}
 use Rattle.at_scan.specs.Names.{kind_of_text}
 use Rattle.at_query.specs.Keeping.{Asked}
-use Rattle.at_geojson.specs.declared.atoms.GeoAtom.{GeoAtom}
+use Rattle.at_geojson.specs.declared.atoms.atom.GeoAtom.{GeoAtom}
 use Rattle.at_geojson.specs.Names.{member_named, kind_of, units_of_text}
 use Rattle.at_geojson.specs.Atoms.{Alike, twin_of, as_kind, IsRead, IsFold}
 use Rattle.at_geojson.specs.Gathering.{seen, is_among, own_twin, twin_at, member_twins}

@@ -21,9 +21,9 @@ use Rattle.at_scan.specs.Places.{IsNameAt}
 use Rattle.at_scan.specs.Fields.{field_of, is_kind, is_coordinates, is_geometry, is_properties, is_features, is_geometries, is_no_field}
 use Rattle.at_scan.specs.Members.{name_in, IsPlainName, is_among_others, ArePlainOthers}
 use Rattle.at_scan.proofs.FieldNames.{unlike_field}
-use Rattle.at_geojson.specs.declared.atoms.GeoAtom.{GeoAtom}
-use Rattle.at_geojson.specs.declared.fields.Fields.{Fields}
-use Rattle.at_geojson.specs.declared.pairs.Whole.{Whole}
+use Rattle.at_geojson.specs.declared.atoms.atom.GeoAtom.{GeoAtom}
+use Rattle.at_geojson.specs.declared.objects.fields.Fields.{Fields}
+use Rattle.at_geojson.specs.declared.coordinates.pairs.Whole.{Whole}
 use Rattle.at_geojson.specs.Atoms.{twin_of, as_text}
 use Rattle.at_geojson.specs.Gathering.{is_among, twin_at, member_twins}
 use Rattle.at_geojson.specs.Objects.{kept_texts, pair_kept}

@@ -11,9 +11,9 @@ use Rattle.at_nest.specs.Tree.{Members}
 use Rattle.at_scan.specs.declared.kinds.Kind.{Kind}
 use Rattle.at_scan.specs.declared.kinds.Kind.TheVariants as kinds
 use Rattle.at_query.specs.Keeping.{Asked, needs_shapes}
-use Rattle.at_geojson.specs.declared.atoms.GeoAtom.{GeoAtom}
-use Rattle.at_geojson.specs.declared.atoms.Role.{Role}
-use Rattle.at_geojson.specs.declared.atoms.Role.TheVariants as roles
+use Rattle.at_geojson.specs.declared.atoms.atom.GeoAtom.{GeoAtom}
+use Rattle.at_geojson.specs.declared.atoms.atom.Role.{Role}
+use Rattle.at_geojson.specs.declared.atoms.atom.Role.TheVariants as roles
 use Rattle.at_geojson.specs.Names.{member_named}
 use Rattle.at_geojson.specs.Roles.{GeometryRead, Features, kind_reading, collection_reading, if_feature}
 use Rattle.at_geojson.specs.Atoms.{Alike, HasShape, HasPart, role_geometry, role_item, IsRead}

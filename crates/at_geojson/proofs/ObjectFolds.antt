@@ -18,7 +18,7 @@ use Rattle.at_query.specs.declared.answer.parts.Part.{Part}
 use Rattle.at_query.specs.Keeping.{Asked, needs_shapes, asks_value, asks_pair, asked_texts}
 use Rattle.at_query.proofs.QueryFacts.{no_value, same_part}
 use Rattle.at_scan.specs.declared.kinds.Kind.{Kind}
-use Rattle.at_geojson.specs.declared.atoms.GeoAtom.{GeoAtom}
+use Rattle.at_geojson.specs.declared.atoms.atom.GeoAtom.{GeoAtom}
 use Rattle.at_geojson.specs.Names.{is_named, member_named, units_of_text}
 use Rattle.at_geojson.specs.Roles.{GeometryRead, not_geometry, texts_of, properties_texts, properties_faults, feature_of, coordinates_reading, geometry_reading, items_reading, collection_reading, geometries_reading, geometry_member_reading, feature_reading}
 use Rattle.at_geojson.specs.Atoms.{at_of, is_null, is_null_tree, as_texts, as_geometries, asked_text, asked_units, role_of, role_geometry, object_members, array_trees, Alike, HasShape, HasPart, IsRead}

@@ -16,8 +16,8 @@ use Rattle.at_wkt.specs.Meaning.{empty_shape, of_points, of_lines, of_polygons}
 use Rattle.at_nest.specs.declared.algebra.Member.{Member}
 use Rattle.at_scan.specs.declared.kinds.Kind.{Kind}
 use Rattle.at_scan.specs.declared.kinds.Kind.TheVariants as kinds
-use Rattle.at_geojson.specs.declared.atoms.GeoAtom.{GeoAtom}
-use Rattle.at_geojson.specs.declared.atoms.GeoAtom.TheVariants as atoms
+use Rattle.at_geojson.specs.declared.atoms.atom.GeoAtom.{GeoAtom}
+use Rattle.at_geojson.specs.declared.atoms.atom.GeoAtom.TheVariants as atoms
 use Rattle.at_geojson.specs.Fields.{IfOwnValue}
 use Rattle.at_geojson.specs.Atoms.{nowhere, at_of, is_empty, is_null, role_of, role_geometry, as_position, as_points, as_lists, as_area, as_areas, as_geometries, as_features, PositionView, PointsView, ListsView, AreasView, IfOwnShape, IfOwnPart, IsOwn}
 use Rattle.at_geojson.specs.Gathering.{seen}

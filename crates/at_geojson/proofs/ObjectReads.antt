@@ -15,10 +15,10 @@ use Rattle.at_query.specs.declared.features.TextPair.{TextPair}
 use Rattle.at_query.specs.Keeping.{Asked, needs_shapes, asked_texts}
 use Rattle.at_scan.specs.declared.kinds.Kind.{Kind}
 use Rattle.at_scan.specs.declared.kinds.Kind.TheVariants as kinds
-use Rattle.at_geojson.specs.declared.atoms.GeoAtom.{GeoAtom}
-use Rattle.at_geojson.specs.declared.atoms.GeoAtom.TheVariants as atoms
-use Rattle.at_geojson.specs.declared.atoms.Role.{Role}
-use Rattle.at_geojson.specs.declared.atoms.Role.TheVariants as roles
+use Rattle.at_geojson.specs.declared.atoms.atom.GeoAtom.{GeoAtom}
+use Rattle.at_geojson.specs.declared.atoms.atom.GeoAtom.TheVariants as atoms
+use Rattle.at_geojson.specs.declared.atoms.atom.Role.{Role}
+use Rattle.at_geojson.specs.declared.atoms.atom.Role.TheVariants as roles
 use Rattle.at_geojson.specs.Names.{member_named, kind_of}
 use Rattle.at_geojson.specs.Roles.{GeometryRead, Features, geometry_reading, item_reading, if_feature, root_reading, features_reading, root_of_kind, texts_of, lone_geometry, feature_of}
 use Rattle.at_geojson.specs.Atoms.{role_geometry, role_item, twin_of, is_empty, as_features, array_trees, items_features, Alike, HasShape, HasPart, IsRoot, IsRead, IsFold}

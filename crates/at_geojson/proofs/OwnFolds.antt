@@ -12,10 +12,10 @@ use Rattle.at_geom.specs.Shapes.{ArePathsInRange, ArePolygonsInRange}
 use Rattle.at_query.specs.declared.answer.parts.Part.{Part}
 use Rattle.at_query.specs.Keeping.{Asked, needs_shapes, kept}
 use Rattle.at_query.proofs.Joining.{parts_are_alike}
-use Rattle.at_geojson.specs.declared.atoms.GeoAtom.{GeoAtom}
-use Rattle.at_geojson.specs.declared.atoms.GeoAtom.TheVariants as atoms
-use Rattle.at_geojson.specs.declared.atoms.Role.{Role}
-use Rattle.at_geojson.specs.declared.atoms.Role.TheVariants as roles
+use Rattle.at_geojson.specs.declared.atoms.atom.GeoAtom.{GeoAtom}
+use Rattle.at_geojson.specs.declared.atoms.atom.GeoAtom.TheVariants as atoms
+use Rattle.at_geojson.specs.declared.atoms.atom.Role.{Role}
+use Rattle.at_geojson.specs.declared.atoms.atom.Role.TheVariants as roles
 use Rattle.at_geojson.specs.Atoms.{nowhere, at_of, role_of, role_geometry, role_item, IfOwnShape, IfOwnPart, IsOwnRole, IsOwn}
 use Rattle.at_geojson.specs.Gathering.{number_value, number_fault, position_value, path_in, rings_in, polygon_in, position_atom, position_made, pair_atom, item_geometries, item_features, MakesPoints, MakesLists, MakesAreas, JoinsShapes, JoinsFound, AreJoinable}
 

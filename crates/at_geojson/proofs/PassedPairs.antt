@@ -11,8 +11,8 @@ use Rattle.at_geom.specs.declared.positions.Pos.{Pos}
 use Rattle.at_lex.specs.Spans.{AreSpaces}
 use Rattle.at_scan.proofs.Moved.{part_moved, byte_moved, ends_moved}
 use Rattle.at_query.specs.Keeping.{Asked}
-use Rattle.at_geojson.specs.declared.pairs.NumberPlace.{NumberPlace}
-use Rattle.at_geojson.specs.declared.pairs.PairPlace.{PairPlace}
+use Rattle.at_geojson.specs.declared.coordinates.pairs.NumberPlace.{NumberPlace}
+use Rattle.at_geojson.specs.declared.coordinates.pairs.PairPlace.{PairPlace}
 use Rattle.at_geojson.specs.Values.{IsPlain, IsSpacedPair}
 use Rattle.at_geojson.specs.Passing.{plain_at, IsPairAt, pair_of, same_values}
 use Rattle.at_geojson.proofs.ValueParts.{pair_read, pair_spaced}

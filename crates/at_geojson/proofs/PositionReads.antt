@@ -10,11 +10,11 @@ use Rattle.at_wkt.specs.Positions.{Position}
 use Rattle.at_nest.specs.Tree.{Tree, array, object}
 use Rattle.at_nest.specs.Folds.{HasBrackets}
 use Rattle.at_query.specs.Keeping.{Asked, needs_shapes}
-use Rattle.at_geojson.specs.declared.atoms.GeoAtom.{GeoAtom}
-use Rattle.at_geojson.specs.declared.atoms.GeoAtom.TheVariants as atoms
-use Rattle.at_geojson.specs.declared.atoms.TrackAtom.{TrackAtom}
-use Rattle.at_geojson.specs.declared.pairs.PairRead.{PairRead}
-use Rattle.at_geojson.specs.declared.pairs.Whole.{Whole}
+use Rattle.at_geojson.specs.declared.atoms.atom.GeoAtom.{GeoAtom}
+use Rattle.at_geojson.specs.declared.atoms.atom.GeoAtom.TheVariants as atoms
+use Rattle.at_geojson.specs.declared.atoms.atom.TrackAtom.{TrackAtom}
+use Rattle.at_geojson.specs.declared.coordinates.pairs.PairRead.{PairRead}
+use Rattle.at_geojson.specs.declared.coordinates.pairs.Whole.{Whole}
 use Rattle.at_geojson.specs.Coordinates.{each, position_of}
 use Rattle.at_geojson.specs.Atoms.{to_four, TrackView, track_view, AreTracked, IsOwn}
 use Rattle.at_geojson.specs.Tracks.{view_of, both_tracks, Begins, Joins}

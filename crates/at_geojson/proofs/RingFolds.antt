@@ -10,15 +10,15 @@ use Rattle.at_text.specs.declared.faults.Fault.{Fault}
 use Rattle.at_fixed.specs.NumberSoFar.{between}
 use Rattle.at_lex.specs.Spans.{AreSpaces}
 use Rattle.at_query.specs.Keeping.{Asked, kept, needs_shapes}
-use Rattle.at_geojson.specs.declared.atoms.GeoAtom.{GeoAtom}
-use Rattle.at_geojson.specs.declared.atoms.GeoAtom.TheVariants as atoms
-use Rattle.at_geojson.specs.declared.atoms.Areas.{Areas}
-use Rattle.at_geojson.specs.declared.atoms.Lists.{Lists}
-use Rattle.at_geojson.specs.declared.atoms.ListsAtom.{ListsAtom}
-use Rattle.at_geojson.specs.declared.atoms.PointsAtom.{PointsAtom}
-use Rattle.at_geojson.specs.declared.pairs.Whole.{Whole}
-use Rattle.at_geojson.specs.declared.sorts.Sort.{Sort}
-use Rattle.at_geojson.specs.declared.sorts.Sort.TheVariants as sorts
+use Rattle.at_geojson.specs.declared.atoms.atom.GeoAtom.{GeoAtom}
+use Rattle.at_geojson.specs.declared.atoms.atom.GeoAtom.TheVariants as atoms
+use Rattle.at_geojson.specs.declared.atoms.atom.Areas.{Areas}
+use Rattle.at_geojson.specs.declared.atoms.atom.Lists.{Lists}
+use Rattle.at_geojson.specs.declared.atoms.atom.ListsAtom.{ListsAtom}
+use Rattle.at_geojson.specs.declared.atoms.atom.PointsAtom.{PointsAtom}
+use Rattle.at_geojson.specs.declared.coordinates.pairs.Whole.{Whole}
+use Rattle.at_geojson.specs.declared.atoms.sorts.Sort.{Sort}
+use Rattle.at_geojson.specs.declared.atoms.sorts.Sort.TheVariants as sorts
 use Rattle.at_geojson.specs.Atoms.{twin_of, at_of, IsOwn}
 use Rattle.at_geojson.specs.Gathering.{firsts, are_all, rank, sort_of, sort_of_all, fault_as_line, fault_as_ring, path_in, MakesLists, area_fault, polygon_in, MakesAreas}
 use Rattle.at_geojson.specs.Rows.{PointsRead, ArePointsWhole}

@@ -16,13 +16,13 @@ use Rattle.at_nest.specs.Passing.{items_of}
 use Rattle.at_nest.proofs.Passed.{items_none, items_on, items_end}
 use Rattle.at_wkt.proofs.FaultOrder.{none_right}
 use Rattle.at_query.specs.Keeping.{Asked, kept, needs_shapes}
-use Rattle.at_geojson.specs.declared.atoms.GeoAtom.{GeoAtom}
-use Rattle.at_geojson.specs.declared.atoms.GeoAtom.TheVariants as atoms
-use Rattle.at_geojson.specs.declared.atoms.Points.{Points}
-use Rattle.at_geojson.specs.declared.atoms.PositionAtom.{PositionAtom}
-use Rattle.at_geojson.specs.declared.pairs.PairRead.{PairRead}
-use Rattle.at_geojson.specs.declared.pairs.Row.{Row}
-use Rattle.at_geojson.specs.declared.sorts.Sort.TheVariants as sorts
+use Rattle.at_geojson.specs.declared.atoms.atom.GeoAtom.{GeoAtom}
+use Rattle.at_geojson.specs.declared.atoms.atom.GeoAtom.TheVariants as atoms
+use Rattle.at_geojson.specs.declared.atoms.atom.Points.{Points}
+use Rattle.at_geojson.specs.declared.atoms.atom.PositionAtom.{PositionAtom}
+use Rattle.at_geojson.specs.declared.coordinates.pairs.PairRead.{PairRead}
+use Rattle.at_geojson.specs.declared.coordinates.pairs.Row.{Row}
+use Rattle.at_geojson.specs.declared.atoms.sorts.Sort.TheVariants as sorts
 use Rattle.at_geojson.specs.Atoms.{to_four, twin_of, at_of, IsOwn, IsFold}
 use Rattle.at_geojson.specs.Gathering.{firsts, are_all, rank, sort_of, sort_of_all, least_of, last_atom, position_value, position_fault, closes}
 use Rattle.at_geojson.specs.Rows.{PointsRead, AreNext, IsRow, LengthensRow, EndsRow, EndsPoints, ArePointsRead, ArePointsWhole}

@@ -17,9 +17,9 @@ use Rattle.at_nest.specs.Tree.{Tree, array, object, Members}
 use Rattle.at_nest.specs.Twins.{twins_of, twins_of_items}
 use Rattle.at_nest.proofs.Held.{folds_append}
 use Rattle.at_query.specs.Keeping.{Asked, asked_texts}
-use Rattle.at_geojson.specs.declared.atoms.GeoAtom.{GeoAtom}
-use Rattle.at_geojson.specs.declared.atoms.GeoAtom.TheVariants as atoms
-use Rattle.at_geojson.specs.declared.atoms.Items.{Items}
+use Rattle.at_geojson.specs.declared.atoms.atom.GeoAtom.{GeoAtom}
+use Rattle.at_geojson.specs.declared.atoms.atom.GeoAtom.TheVariants as atoms
+use Rattle.at_geojson.specs.declared.atoms.atom.Items.{Items}
 use Rattle.at_query.specs.declared.features.TextPair.{TextPair}
 use Rattle.at_geojson.specs.Names.{items_of}
 use Rattle.at_geojson.specs.Coordinates.{each}

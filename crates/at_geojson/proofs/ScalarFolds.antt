@@ -19,10 +19,10 @@ use Rattle.at_nest.proofs.OneTree.{one_tree}
 use Rattle.at_scan.specs.Names.{kind_of_text}
 use Rattle.at_query.specs.Keeping.{Asked}
 use Rattle.at_query.proofs.QueryRanges.{value_small}
-use Rattle.at_geojson.specs.declared.atoms.GeoAtom.{GeoAtom}
-use Rattle.at_geojson.specs.declared.atoms.GeoAtom.TheVariants as atoms
-use Rattle.at_geojson.specs.declared.atoms.TextAtom.{TextAtom}
-use Rattle.at_geojson.specs.declared.atoms.NumberAtom.{NumberAtom}
+use Rattle.at_geojson.specs.declared.atoms.atom.GeoAtom.{GeoAtom}
+use Rattle.at_geojson.specs.declared.atoms.atom.GeoAtom.TheVariants as atoms
+use Rattle.at_geojson.specs.declared.atoms.atom.TextAtom.{TextAtom}
+use Rattle.at_geojson.specs.declared.atoms.atom.NumberAtom.{NumberAtom}
 use Rattle.at_geojson.specs.Atoms.{as_text, asked_text, IsFold, IsOwn}
 use Rattle.at_nest.proofs.TreeParts.{text_made}
 

@@ -11,17 +11,17 @@ use Rattle.at_geom.specs.declared.shapes.Shape.{Shape}
 use Rattle.at_wkt.specs.Meaning.{of_points, of_lines, of_polygons}
 use Rattle.at_scan.specs.declared.kinds.Kind.TheVariants as kinds
 use Rattle.at_query.specs.Keeping.{Asked, kept, needs_shapes}
-use Rattle.at_geojson.specs.declared.atoms.GeoAtom.TheVariants as atoms
-use Rattle.at_geojson.specs.declared.atoms.Areas.{Areas}
-use Rattle.at_geojson.specs.declared.atoms.AreasAtom.{AreasAtom}
-use Rattle.at_geojson.specs.declared.atoms.ListsAtom.{ListsAtom}
-use Rattle.at_geojson.specs.declared.atoms.PointsAtom.{PointsAtom}
-use Rattle.at_geojson.specs.declared.spots.Spot.{Spot}
-use Rattle.at_geojson.specs.declared.makings.LineMade.{LineMade}
-use Rattle.at_geojson.specs.declared.makings.LinesMade.{LinesMade}
-use Rattle.at_geojson.specs.declared.makings.AreasMade.{AreasMade}
-use Rattle.at_geojson.specs.declared.plain_geometries.Seen.{Seen}
-use Rattle.at_geojson.specs.declared.plain_geometries.SeenRead.{SeenRead}
+use Rattle.at_geojson.specs.declared.atoms.atom.GeoAtom.TheVariants as atoms
+use Rattle.at_geojson.specs.declared.atoms.atom.Areas.{Areas}
+use Rattle.at_geojson.specs.declared.atoms.atom.AreasAtom.{AreasAtom}
+use Rattle.at_geojson.specs.declared.atoms.atom.ListsAtom.{ListsAtom}
+use Rattle.at_geojson.specs.declared.atoms.atom.PointsAtom.{PointsAtom}
+use Rattle.at_geojson.specs.declared.coordinates.spots.Spot.{Spot}
+use Rattle.at_geojson.specs.declared.coordinates.makings.LineMade.{LineMade}
+use Rattle.at_geojson.specs.declared.coordinates.makings.LinesMade.{LinesMade}
+use Rattle.at_geojson.specs.declared.coordinates.makings.AreasMade.{AreasMade}
+use Rattle.at_geojson.specs.declared.at_once.plain_geometries.Seen.{Seen}
+use Rattle.at_geojson.specs.declared.at_once.plain_geometries.SeenRead.{SeenRead}
 use Rattle.at_geojson.specs.Objects.{unless}
 use Rattle.at_geojson.specs.Makings.{ReadsSpot, MakesLineItem, MakesLinesItem, polygon, MakesPolygons}
 use Rattle.at_geojson.specs.PlainGeometries.{IsCoordinatesItem, IsSeenOf, IsSeen, seen_unless, Sees}

@@ -28,9 +28,9 @@ use Rattle.at_query.specs.declared.query.looks.Measure.TheVariants as measures
 use Rattle.at_query.specs.Keeping.{Asked, looks_at_shapes, wants_pair, asks_pair, measured_by, measure_of, selects}
 use Rattle.at_query.specs.Tallies.{IsPartOfShape}
 use Rattle.at_query.proofs.TallyFolds.{none_looks}
-use Rattle.at_geojson.specs.declared.atoms.GeoAtom.{GeoAtom}
-use Rattle.at_geojson.specs.declared.plain_geometries.Seen.{Seen}
-use Rattle.at_geojson.specs.declared.plain_geometries.Seen.TheVariants as seens
+use Rattle.at_geojson.specs.declared.atoms.atom.GeoAtom.{GeoAtom}
+use Rattle.at_geojson.specs.declared.at_once.plain_geometries.Seen.{Seen}
+use Rattle.at_geojson.specs.declared.at_once.plain_geometries.Seen.TheVariants as seens
 use Rattle.at_geojson.specs.Atoms.{IfOwnShape}
 use Rattle.at_geojson.specs.Objects.{feature_shape, JoinsFeature}
 use Rattle.at_geojson.specs.TextTests.{texts_hold, pair_of}

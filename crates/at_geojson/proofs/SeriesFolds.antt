@@ -20,10 +20,10 @@ use Rattle.at_nest.specs.Tree.{Tree, array}
 use Rattle.at_nest.specs.Twins.{twins_of_items}
 use Rattle.at_nest.proofs.Held.{folds_append}
 use Rattle.at_query.specs.Keeping.{Asked, needs_shapes, kept}
-use Rattle.at_geojson.specs.declared.atoms.GeoAtom.{GeoAtom}
-use Rattle.at_geojson.specs.declared.atoms.GeoAtom.TheVariants as atoms
-use Rattle.at_geojson.specs.declared.atoms.ListsAtom.{ListsAtom}
-use Rattle.at_geojson.specs.declared.atoms.SeriesAtom.{SeriesAtom}
+use Rattle.at_geojson.specs.declared.atoms.atom.GeoAtom.{GeoAtom}
+use Rattle.at_geojson.specs.declared.atoms.atom.GeoAtom.TheVariants as atoms
+use Rattle.at_geojson.specs.declared.atoms.atom.ListsAtom.{ListsAtom}
+use Rattle.at_geojson.specs.declared.atoms.atom.SeriesAtom.{SeriesAtom}
 use Rattle.at_geojson.specs.Names.{items_of}
 use Rattle.at_geojson.specs.Coordinates.{each, position_of, position_of_numbers, positions_of, number_at, lists_of, area_of, areas_of, if_some_items}
 use Rattle.at_geojson.specs.Atoms.{twin_of, at_of, as_run, as_points, as_lists, as_area, no_roles, both_forms, lists_view, PointsView, ListsView, IsPosition, IsPoints, IsLists, IsArea, IsAreas, IsOwn, AreSeries, IsRead, IsRun, IsFold}

@@ -13,7 +13,7 @@ use Rattle.at_query.specs.declared.features.TextPair.{TextPair}
 use Rattle.at_query.specs.Holding.{has_text}
 use Rattle.at_query.specs.Keeping.{looks_at_texts, text_tests, wants_pair, asks_value, asks_pair}
 use Rattle.at_query.proofs.QueryFacts.{no_value}
-use Rattle.at_geojson.specs.declared.atoms.GeoAtom.{GeoAtom}
+use Rattle.at_geojson.specs.declared.atoms.atom.GeoAtom.{GeoAtom}
 use Rattle.at_geojson.specs.Atoms.{as_text, asked_units}
 use Rattle.at_geojson.specs.Gathering.{is_among}
 use Rattle.at_geojson.specs.Objects.{kept_texts, pair_kept}

@@ -22,12 +22,12 @@ use Rattle.at_nest.specs.Tree.{Tree, array}
 use Rattle.at_nest.specs.Twins.{twins_of_items}
 use Rattle.at_nest.proofs.Held.{folds_append}
 use Rattle.at_query.specs.Keeping.{Asked, needs_shapes, kept}
-use Rattle.at_geojson.specs.declared.atoms.GeoAtom.{GeoAtom}
-use Rattle.at_geojson.specs.declared.atoms.GeoAtom.TheVariants as atoms
-use Rattle.at_geojson.specs.declared.atoms.FaultyAtom.{FaultyAtom}
-use Rattle.at_geojson.specs.declared.atoms.PointsAtom.{PointsAtom}
-use Rattle.at_geojson.specs.declared.atoms.PositionAtom.{PositionAtom}
-use Rattle.at_geojson.specs.declared.atoms.TrackAtom.{TrackAtom}
+use Rattle.at_geojson.specs.declared.atoms.atom.GeoAtom.{GeoAtom}
+use Rattle.at_geojson.specs.declared.atoms.atom.GeoAtom.TheVariants as atoms
+use Rattle.at_geojson.specs.declared.atoms.atom.FaultyAtom.{FaultyAtom}
+use Rattle.at_geojson.specs.declared.atoms.atom.PointsAtom.{PointsAtom}
+use Rattle.at_geojson.specs.declared.atoms.atom.PositionAtom.{PositionAtom}
+use Rattle.at_geojson.specs.declared.atoms.atom.TrackAtom.{TrackAtom}
 use Rattle.at_geojson.specs.Names.{items_of}
 use Rattle.at_geojson.specs.Coordinates.{each, position_of, position_of_numbers, positions_of, number_at, lists_of, area_of, areas_of, if_some_items}
 use Rattle.at_geojson.specs.Atoms.{twin_of, at_of, as_run, as_position, as_points, no_roles, both_forms, to_four, PositionView, TrackView, track_view, place_of, IsPosition, IsPoints, IsLists, IsArea, IsAreas, IsOwn, IsTrack, AreTracked, IsRead, IsRun, IsFold}

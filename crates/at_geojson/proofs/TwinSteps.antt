@@ -15,7 +15,7 @@ use Rattle.at_text.specs.declared.faults.Fault.{Fault}
 use Rattle.at_wkt.proofs.FaultOrder.{first_fault-assoc}
 use Rattle.at_nest.specs.declared.algebra.Member.{Member}
 use Rattle.at_scan.specs.Hashes.{name_hash, times, HaveRepeated}
-use Rattle.at_geojson.specs.declared.atoms.GeoAtom.{GeoAtom}
+use Rattle.at_geojson.specs.declared.atoms.atom.GeoAtom.{GeoAtom}
 use Rattle.at_geojson.specs.Gathering.{is_among, twin_at, member_twins}
 use Rattle.at_geojson.specs.Hashes.{member_hash}
 

@@ -37,14 +37,14 @@ use Rattle.at_scan.specs.Places.{IsTextAt, IsNameAt}
 use Rattle.at_scan.specs.Numbers.{IsFurther, AreFurther, EndsPosition}
 use Rattle.at_scan.proofs.Taken.{IsTaken, word_taken}
 use Rattle.at_query.specs.Keeping.{Asked}
-use Rattle.at_geojson.specs.declared.atoms.GeoAtom.{GeoAtom}
-use Rattle.at_geojson.specs.declared.atoms.GeoAtom.TheVariants as atoms
-use Rattle.at_geojson.specs.declared.atoms.NumberAtom.{NumberAtom}
-use Rattle.at_geojson.specs.declared.atoms.TextAtom.{TextAtom}
-use Rattle.at_geojson.specs.declared.sorts.Sort.TheVariants as sorts
-use Rattle.at_geojson.specs.declared.pairs.Whole.{Whole}
-use Rattle.at_geojson.specs.declared.pairs.Plain.{Plain}
-use Rattle.at_geojson.specs.declared.pairs.PairRead.{PairRead}
+use Rattle.at_geojson.specs.declared.atoms.atom.GeoAtom.{GeoAtom}
+use Rattle.at_geojson.specs.declared.atoms.atom.GeoAtom.TheVariants as atoms
+use Rattle.at_geojson.specs.declared.atoms.atom.NumberAtom.{NumberAtom}
+use Rattle.at_geojson.specs.declared.atoms.atom.TextAtom.{TextAtom}
+use Rattle.at_geojson.specs.declared.atoms.sorts.Sort.TheVariants as sorts
+use Rattle.at_geojson.specs.declared.coordinates.pairs.Whole.{Whole}
+use Rattle.at_geojson.specs.declared.coordinates.pairs.Plain.{Plain}
+use Rattle.at_geojson.specs.declared.coordinates.pairs.PairRead.{PairRead}
 use Rattle.at_geojson.specs.Atoms.{twin_of, at_of, IsOwn, IsFold, as_text, unboxed, asked_units}
 use Rattle.at_geojson.specs.Gathering.{firsts, are_all, rank, sort_of, sort_of_all, least_of, pair_atom}
 use Rattle.at_geojson.specs.Members.{IsScalarAt}

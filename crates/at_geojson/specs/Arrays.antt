@@ -7,10 +7,10 @@ use Rattle.std.specs.List.{list_any}
 use Rattle.at_nest.specs.Tree.{Tree, array}
 use Rattle.at_nest.specs.Folds.{trees, Covers, AreItemFolds}
 use Rattle.at_query.specs.Keeping.{Asked}
-use Rattle.at_geojson.specs.declared.atoms.GeoAtom.{GeoAtom}
-use Rattle.at_geojson.specs.declared.atoms.GeoAtom.TheVariants as atoms
-use Rattle.at_geojson.specs.declared.atoms.Items.{Items}
-use Rattle.at_geojson.specs.declared.atoms.ItemsAtom.{ItemsAtom}
+use Rattle.at_geojson.specs.declared.atoms.atom.GeoAtom.{GeoAtom}
+use Rattle.at_geojson.specs.declared.atoms.atom.GeoAtom.TheVariants as atoms
+use Rattle.at_geojson.specs.declared.atoms.atom.Items.{Items}
+use Rattle.at_geojson.specs.declared.atoms.atom.ItemsAtom.{ItemsAtom}
 use Rattle.at_geojson.specs.Atoms.{IsRead, IsFold, IsRun, HaveItems}
 use Rattle.at_geojson.specs.Gathering.{is_object, least_of, pair_atom}
 

@@ -32,15 +32,15 @@ use Rattle.at_query.specs.Parts.{IsPart}
 use Rattle.at_query.specs.Keeping.{Asked, needs_shapes, asks_value, asked_texts, kept, kept_shape}
 use Rattle.at_scan.specs.declared.kinds.Kind.{Kind}
 use Rattle.at_scan.specs.Names.{kind_of_text}
-use Rattle.at_geojson.specs.declared.atoms.GeoAtom.{GeoAtom}
-use Rattle.at_geojson.specs.declared.atoms.GeoAtom.TheVariants as atoms
-use Rattle.at_geojson.specs.declared.atoms.Role.{Role}
-use Rattle.at_geojson.specs.declared.atoms.Role.TheVariants as roles
-use Rattle.at_geojson.specs.declared.atoms.Items.{Items}
-use Rattle.at_geojson.specs.declared.atoms.Lists.{Lists}
-use Rattle.at_geojson.specs.declared.atoms.SeriesAtom.{SeriesAtom}
-use Rattle.at_geojson.specs.declared.atoms.Track.{Track}
-use Rattle.at_geojson.specs.declared.atoms.TrackAtom.{TrackAtom}
+use Rattle.at_geojson.specs.declared.atoms.atom.GeoAtom.{GeoAtom}
+use Rattle.at_geojson.specs.declared.atoms.atom.GeoAtom.TheVariants as atoms
+use Rattle.at_geojson.specs.declared.atoms.atom.Role.{Role}
+use Rattle.at_geojson.specs.declared.atoms.atom.Role.TheVariants as roles
+use Rattle.at_geojson.specs.declared.atoms.atom.Items.{Items}
+use Rattle.at_geojson.specs.declared.atoms.atom.Lists.{Lists}
+use Rattle.at_geojson.specs.declared.atoms.atom.SeriesAtom.{SeriesAtom}
+use Rattle.at_geojson.specs.declared.atoms.atom.Track.{Track}
+use Rattle.at_geojson.specs.declared.atoms.atom.TrackAtom.{TrackAtom}
 use Rattle.at_geojson.specs.Names.{units_of_text, items_of}
 use Rattle.at_geojson.specs.Coordinates.{each, number_at, position_of, positions_of, lists_of, areas_of, area_of}
 use Rattle.at_geojson.specs.Roles.{GeometryRead, Features, geometry_reading, items_reading, item_reading, all_features}

@@ -2,21 +2,21 @@
 use Rattle.std.specs.Prelude.{◌≡◌}
 use Rattle.std.specs.declared.boxed.Box.{Box}
 use Rattle.std.specs.declared.alloc.Global.{Global}
-use Rattle.at_geojson.specs.declared.atoms.GeoAtom.{GeoAtom}
-use Rattle.at_geojson.specs.declared.atoms.TextAtom.{TextAtom}
-use Rattle.at_geojson.specs.declared.atoms.Points.{Points}
-use Rattle.at_geojson.specs.declared.atoms.PointsAtom.{PointsAtom}
-use Rattle.at_geojson.specs.declared.atoms.Lists.{Lists}
-use Rattle.at_geojson.specs.declared.atoms.ListsAtom.{ListsAtom}
-use Rattle.at_geojson.specs.declared.atoms.SeriesAtom.{SeriesAtom}
-use Rattle.at_geojson.specs.declared.atoms.Track.{Track}
-use Rattle.at_geojson.specs.declared.atoms.TrackAtom.{TrackAtom}
-use Rattle.at_geojson.specs.declared.atoms.Areas.{Areas}
-use Rattle.at_geojson.specs.declared.atoms.AreasAtom.{AreasAtom}
-use Rattle.at_geojson.specs.declared.atoms.Items.{Items}
-use Rattle.at_geojson.specs.declared.atoms.ItemsAtom.{ItemsAtom}
-use Rattle.at_geojson.specs.declared.atoms.ObjectAtom.{ObjectAtom}
-use Rattle.at_geojson.specs.declared.atoms.GeoAtom.TheVariants as atoms
+use Rattle.at_geojson.specs.declared.atoms.atom.GeoAtom.{GeoAtom}
+use Rattle.at_geojson.specs.declared.atoms.atom.TextAtom.{TextAtom}
+use Rattle.at_geojson.specs.declared.atoms.atom.Points.{Points}
+use Rattle.at_geojson.specs.declared.atoms.atom.PointsAtom.{PointsAtom}
+use Rattle.at_geojson.specs.declared.atoms.atom.Lists.{Lists}
+use Rattle.at_geojson.specs.declared.atoms.atom.ListsAtom.{ListsAtom}
+use Rattle.at_geojson.specs.declared.atoms.atom.SeriesAtom.{SeriesAtom}
+use Rattle.at_geojson.specs.declared.atoms.atom.Track.{Track}
+use Rattle.at_geojson.specs.declared.atoms.atom.TrackAtom.{TrackAtom}
+use Rattle.at_geojson.specs.declared.atoms.atom.Areas.{Areas}
+use Rattle.at_geojson.specs.declared.atoms.atom.AreasAtom.{AreasAtom}
+use Rattle.at_geojson.specs.declared.atoms.atom.Items.{Items}
+use Rattle.at_geojson.specs.declared.atoms.atom.ItemsAtom.{ItemsAtom}
+use Rattle.at_geojson.specs.declared.atoms.atom.ObjectAtom.{ObjectAtom}
+use Rattle.at_geojson.specs.declared.atoms.atom.GeoAtom.TheVariants as atoms
 use Rattle.at_geojson.specs.Atoms.{unboxed}
 
 abbrev pub SamePoints : Points → Points → Type 0

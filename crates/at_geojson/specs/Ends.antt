@@ -9,9 +9,9 @@ use Rattle.at_query.specs.declared.features.Feature.{Feature}
 use Rattle.at_query.specs.declared.answer.parts.Part.{Part}
 use Rattle.at_query.specs.declared.query.queries.Query.{Query}
 use Rattle.at_query.specs.Parts.{IsPart}
-use Rattle.at_geojson.specs.declared.atoms.GeoAtom.{GeoAtom}
-use Rattle.at_geojson.specs.declared.atoms.Role.{Role}
-use Rattle.at_geojson.specs.declared.atoms.Role.TheVariants as roles
+use Rattle.at_geojson.specs.declared.atoms.atom.GeoAtom.{GeoAtom}
+use Rattle.at_geojson.specs.declared.atoms.atom.Role.{Role}
+use Rattle.at_geojson.specs.declared.atoms.atom.Role.TheVariants as roles
 use Rattle.at_geojson.specs.declared.root.RootEnd.{RootEnd}
 use Rattle.at_geojson.specs.declared.root.RootEnd.TheVariants.{Found, Memory}
 use Rattle.at_geojson.specs.Atoms.{twin_of, at_of, role_of}

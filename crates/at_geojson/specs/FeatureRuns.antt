@@ -10,9 +10,9 @@ use Rattle.at_nest.specs.declared.algebra.Attempt.TheVariants as attempts
 use Rattle.at_nest.specs.Tree.{Tree, SpellsItems}
 use Rattle.at_nest.specs.Folds.{trees, Covers, HasBrackets}
 use Rattle.at_query.specs.Keeping.{Asked}
-use Rattle.at_geojson.specs.declared.atoms.GeoAtom.{GeoAtom}
-use Rattle.at_geojson.specs.declared.atoms.Items.{Items}
-use Rattle.at_geojson.specs.declared.pairs.Whole.{Whole}
+use Rattle.at_geojson.specs.declared.atoms.atom.GeoAtom.{GeoAtom}
+use Rattle.at_geojson.specs.declared.atoms.atom.Items.{Items}
+use Rattle.at_geojson.specs.declared.coordinates.pairs.Whole.{Whole}
 use Rattle.at_geojson.specs.Gathering.{is_any_object}
 use Rattle.at_geojson.specs.Values.{IsItem}
 use Rattle.at_geojson.specs.Atoms.{both_forms, IsOwn, IsFold, IsRun, AreOwnItems, AreJoined}

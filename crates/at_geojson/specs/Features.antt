@@ -18,19 +18,19 @@ use Rattle.at_scan.specs.declared.members.OtherNames.{OtherNames}
 use Rattle.at_scan.specs.declared.kinds.Kind.TheVariants as kinds
 use Rattle.at_scan.specs.declared.fields.Field.TheVariants as names
 use Rattle.at_scan.specs.Members.{name_in}
-use Rattle.at_geojson.specs.declared.atoms.GeoAtom.{GeoAtom}
-use Rattle.at_geojson.specs.declared.atoms.GeoAtom.TheVariants as atoms
-use Rattle.at_geojson.specs.declared.atoms.ObjectAtom.{ObjectAtom}
-use Rattle.at_geojson.specs.declared.atoms.Role.TheVariants as roles
-use Rattle.at_geojson.specs.declared.fields.Fields.{Fields}
-use Rattle.at_geojson.specs.declared.plain_geometries.ShapeRead.{ShapeRead}
-use Rattle.at_geojson.specs.declared.plain_geometries.Seen.{Seen}
-use Rattle.at_geojson.specs.declared.plain_geometries.Seen.TheVariants as seens
-use Rattle.at_geojson.specs.declared.plain_objects.VoidMembers.{VoidMembers}
-use Rattle.at_geojson.specs.declared.plain_objects.VoidRead.{VoidRead}
-use Rattle.at_geojson.specs.declared.features.FeatureRead.{FeatureRead}
-use Rattle.at_geojson.specs.declared.features.FeatureMembers.{FeatureMembers}
-use Rattle.at_geojson.specs.declared.features.PropertiesRead.{PropertiesRead}
+use Rattle.at_geojson.specs.declared.atoms.atom.GeoAtom.{GeoAtom}
+use Rattle.at_geojson.specs.declared.atoms.atom.GeoAtom.TheVariants as atoms
+use Rattle.at_geojson.specs.declared.atoms.atom.ObjectAtom.{ObjectAtom}
+use Rattle.at_geojson.specs.declared.atoms.atom.Role.TheVariants as roles
+use Rattle.at_geojson.specs.declared.objects.fields.Fields.{Fields}
+use Rattle.at_geojson.specs.declared.at_once.plain_geometries.ShapeRead.{ShapeRead}
+use Rattle.at_geojson.specs.declared.at_once.plain_geometries.Seen.{Seen}
+use Rattle.at_geojson.specs.declared.at_once.plain_geometries.Seen.TheVariants as seens
+use Rattle.at_geojson.specs.declared.at_once.plain_objects.VoidMembers.{VoidMembers}
+use Rattle.at_geojson.specs.declared.at_once.plain_objects.VoidRead.{VoidRead}
+use Rattle.at_geojson.specs.declared.at_once.features.FeatureRead.{FeatureRead}
+use Rattle.at_geojson.specs.declared.at_once.features.FeatureMembers.{FeatureMembers}
+use Rattle.at_geojson.specs.declared.at_once.features.PropertiesRead.{PropertiesRead}
 use Rattle.at_geojson.specs.Atoms.{twin_of, as_kind, as_text, IfOwnShape, IfOwnPart}
 use Rattle.at_geojson.specs.Objects.{feature_shape, texts_in, texts_named, JoinsFeature}
 use Rattle.at_geojson.specs.TextTests.{met_of, met_by, texts_hold}

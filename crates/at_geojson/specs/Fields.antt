@@ -13,12 +13,12 @@ use Rattle.at_scan.specs.declared.kinds.Kind.{Kind}
 use Rattle.at_scan.specs.declared.fields.Field.{Field}
 use Rattle.at_scan.specs.declared.kinds.Kind.TheVariants as kinds
 use Rattle.at_scan.specs.declared.fields.Field.TheVariants as names
-use Rattle.at_geojson.specs.declared.atoms.GeoAtom.{GeoAtom}
-use Rattle.at_geojson.specs.declared.atoms.GeoAtom.TheVariants as atoms
-use Rattle.at_geojson.specs.declared.atoms.ObjectAtom.{ObjectAtom}
-use Rattle.at_geojson.specs.declared.atoms.Role.{Role}
-use Rattle.at_geojson.specs.declared.atoms.Role.TheVariants as roles
-use Rattle.at_geojson.specs.declared.fields.Fields.{Fields}
+use Rattle.at_geojson.specs.declared.atoms.atom.GeoAtom.{GeoAtom}
+use Rattle.at_geojson.specs.declared.atoms.atom.GeoAtom.TheVariants as atoms
+use Rattle.at_geojson.specs.declared.atoms.atom.ObjectAtom.{ObjectAtom}
+use Rattle.at_geojson.specs.declared.atoms.atom.Role.{Role}
+use Rattle.at_geojson.specs.declared.atoms.atom.Role.TheVariants as roles
+use Rattle.at_geojson.specs.declared.objects.fields.Fields.{Fields}
 use Rattle.at_geojson.specs.Atoms.{as_kind, IsOwn}
 use Rattle.at_geojson.specs.Gathering.{seen}
 use Rattle.at_geojson.specs.Objects.{value_named, coordinates_shape, geometries_shape, feature_shape, texts_named}

@@ -19,14 +19,14 @@ use Rattle.at_query.specs.Parts.{AreAlike, JoinsParts}
 use Rattle.at_query.specs.Keeping.{kept}
 use Rattle.at_geom.specs.Shapes.{line_fault, ring_fault}
 use Rattle.at_nest.specs.declared.algebra.Member.{Member}
-use Rattle.at_geojson.specs.declared.atoms.GeoAtom.{GeoAtom}
-use Rattle.at_geojson.specs.declared.atoms.GeoAtom.TheVariants as atoms
-use Rattle.at_geojson.specs.declared.atoms.Items.{Items}
-use Rattle.at_geojson.specs.declared.atoms.PointsAtom.{PointsAtom}
-use Rattle.at_geojson.specs.declared.atoms.ListsAtom.{ListsAtom}
-use Rattle.at_geojson.specs.declared.atoms.AreasAtom.{AreasAtom}
-use Rattle.at_geojson.specs.declared.sorts.Sort.{Sort}
-use Rattle.at_geojson.specs.declared.sorts.Sort.TheVariants as sorts
+use Rattle.at_geojson.specs.declared.atoms.atom.GeoAtom.{GeoAtom}
+use Rattle.at_geojson.specs.declared.atoms.atom.GeoAtom.TheVariants as atoms
+use Rattle.at_geojson.specs.declared.atoms.atom.Items.{Items}
+use Rattle.at_geojson.specs.declared.atoms.atom.PointsAtom.{PointsAtom}
+use Rattle.at_geojson.specs.declared.atoms.atom.ListsAtom.{ListsAtom}
+use Rattle.at_geojson.specs.declared.atoms.atom.AreasAtom.{AreasAtom}
+use Rattle.at_geojson.specs.declared.atoms.sorts.Sort.{Sort}
+use Rattle.at_geojson.specs.declared.atoms.sorts.Sort.TheVariants as sorts
 use Rattle.at_geojson.specs.Atoms.{twin_of, at_of, nowhere, NumberView, PositionView, PointsView, ListsView, as_number}
 use Rattle.at_geojson.specs.Atoms.{as_position, as_points, as_area, as_run, to_four, role_of, role_geometry, role_item}
 

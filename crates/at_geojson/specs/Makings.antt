@@ -4,14 +4,14 @@ use Rattle.std.specs.Bool.{⊤}
 use Rattle.at_geom.specs.declared.positions.Pos.{Pos}
 use Rattle.at_geom.specs.declared.shapes.Polygon.{Polygon}
 use Rattle.at_query.specs.Keeping.{Asked, kept, needs_shapes}
-use Rattle.at_geojson.specs.declared.atoms.PositionAtom.{PositionAtom}
-use Rattle.at_geojson.specs.declared.spots.Spot.{Spot}
-use Rattle.at_geojson.specs.declared.atoms.Areas.{Areas}
-use Rattle.at_geojson.specs.declared.atoms.Lists.{Lists}
-use Rattle.at_geojson.specs.declared.makings.LineMade.{LineMade}
-use Rattle.at_geojson.specs.declared.makings.LinesMade.{LinesMade}
-use Rattle.at_geojson.specs.declared.makings.AreasMade.{AreasMade}
-use Rattle.at_geojson.specs.declared.pairs.PairPlace.{PairPlace}
+use Rattle.at_geojson.specs.declared.atoms.atom.PositionAtom.{PositionAtom}
+use Rattle.at_geojson.specs.declared.coordinates.spots.Spot.{Spot}
+use Rattle.at_geojson.specs.declared.atoms.atom.Areas.{Areas}
+use Rattle.at_geojson.specs.declared.atoms.atom.Lists.{Lists}
+use Rattle.at_geojson.specs.declared.coordinates.makings.LineMade.{LineMade}
+use Rattle.at_geojson.specs.declared.coordinates.makings.LinesMade.{LinesMade}
+use Rattle.at_geojson.specs.declared.coordinates.makings.AreasMade.{AreasMade}
+use Rattle.at_geojson.specs.declared.coordinates.pairs.PairPlace.{PairPlace}
 use Rattle.at_geojson.specs.Passing.{IsPairAt}
 use Rattle.at_geojson.specs.Rows.{PointsRead, ArePointsWhole}
 use Rattle.at_geojson.specs.Rings.{ListsRead, ArePointsItem, AreListsWhole, AreListsItem, AreAreasWhole}

@@ -11,9 +11,9 @@ use Rattle.at_scan.specs.declared.members.OtherNames.{OtherNames}
 use Rattle.at_scan.specs.Members.{name_in, is_among_others, ArePlainOthers, AddsName}
 use Rattle.at_scan.specs.Fields.{field_of, is_kind, is_coordinates, is_geometry, is_properties, is_features}
 use Rattle.at_scan.specs.Fields.{is_geometries, is_no_field}
-use Rattle.at_geojson.specs.declared.atoms.GeoAtom.{GeoAtom}
-use Rattle.at_geojson.specs.declared.fields.Fields.{Fields}
-use Rattle.at_geojson.specs.declared.pairs.Whole.{Whole}
+use Rattle.at_geojson.specs.declared.atoms.atom.GeoAtom.{GeoAtom}
+use Rattle.at_geojson.specs.declared.objects.fields.Fields.{Fields}
+use Rattle.at_geojson.specs.declared.coordinates.pairs.Whole.{Whole}
 use Rattle.at_geojson.specs.Atoms.{twin_of, IsOwn}
 use Rattle.at_geojson.specs.Gathering.{is_among, member_twins}
 use Rattle.at_geojson.specs.Fields.{put_if, value_in, AreFields, MakesFields}

@@ -15,11 +15,11 @@ use Rattle.at_query.specs.Parts.{IsPart}
 use Rattle.at_query.specs.Keeping.{kept, needs_shapes, asks_pair}
 use Rattle.at_scan.specs.declared.kinds.Kind.{Kind}
 use Rattle.at_scan.specs.declared.kinds.Kind.TheVariants as kinds
-use Rattle.at_geojson.specs.declared.atoms.GeoAtom.{GeoAtom}
-use Rattle.at_geojson.specs.declared.atoms.GeoAtom.TheVariants as atoms
-use Rattle.at_geojson.specs.declared.atoms.ObjectAtom.{ObjectAtom}
-use Rattle.at_geojson.specs.declared.atoms.Role.{Role}
-use Rattle.at_geojson.specs.declared.atoms.Role.TheVariants as roles
+use Rattle.at_geojson.specs.declared.atoms.atom.GeoAtom.{GeoAtom}
+use Rattle.at_geojson.specs.declared.atoms.atom.GeoAtom.TheVariants as atoms
+use Rattle.at_geojson.specs.declared.atoms.atom.ObjectAtom.{ObjectAtom}
+use Rattle.at_geojson.specs.declared.atoms.atom.Role.{Role}
+use Rattle.at_geojson.specs.declared.atoms.atom.Role.TheVariants as roles
 use Rattle.at_geojson.specs.Atoms.{at_of, is_empty, is_null, as_position, as_points, as_lists, as_area, as_areas}
 use Rattle.at_geojson.specs.Atoms.{as_kind, as_text, as_texts, as_geometries, as_features, role_geometry, role_of}
 use Rattle.at_geojson.specs.Atoms.{PositionView, PointsView, ListsView, AreasView}

@@ -7,10 +7,10 @@ use Rattle.at_geom.specs.declared.positions.Pos.{Pos}
 use Rattle.at_lex.specs.Spans.{AreSpaces}
 use Rattle.at_scan.specs.Numbers.{EndsPosition}
 use Rattle.at_query.specs.Keeping.{Asked}
-use Rattle.at_geojson.specs.declared.atoms.PositionAtom.{PositionAtom}
-use Rattle.at_geojson.specs.declared.pairs.NumberPlace.{NumberPlace}
-use Rattle.at_geojson.specs.declared.pairs.PairPlace.{PairPlace}
-use Rattle.at_geojson.specs.declared.pairs.Plain.{Plain}
+use Rattle.at_geojson.specs.declared.atoms.atom.PositionAtom.{PositionAtom}
+use Rattle.at_geojson.specs.declared.coordinates.pairs.NumberPlace.{NumberPlace}
+use Rattle.at_geojson.specs.declared.coordinates.pairs.PairPlace.{PairPlace}
+use Rattle.at_geojson.specs.declared.coordinates.pairs.Plain.{Plain}
 use Rattle.at_geojson.specs.Values.{IsPlain}
 
 -- the number that stands there, with this value

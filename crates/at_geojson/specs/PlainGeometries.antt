@@ -9,11 +9,11 @@ use Rattle.at_scan.specs.declared.kinds.Kind.TheVariants as kinds
 use Rattle.at_query.specs.declared.query.looks.Measure.{Measure}
 use Rattle.at_query.specs.Keeping.{Asked, needs_shapes, measure_of}
 use Rattle.at_query.specs.Tallies.{IsPartOfShape}
-use Rattle.at_geojson.specs.declared.atoms.GeoAtom.{GeoAtom}
-use Rattle.at_geojson.specs.declared.plain_geometries.ShapeRead.{ShapeRead}
-use Rattle.at_geojson.specs.declared.plain_geometries.Seen.{Seen}
-use Rattle.at_geojson.specs.declared.plain_geometries.Seen.TheVariants as seens
-use Rattle.at_geojson.specs.declared.plain_geometries.SeenRead.{SeenRead}
+use Rattle.at_geojson.specs.declared.atoms.atom.GeoAtom.{GeoAtom}
+use Rattle.at_geojson.specs.declared.at_once.plain_geometries.ShapeRead.{ShapeRead}
+use Rattle.at_geojson.specs.declared.at_once.plain_geometries.Seen.{Seen}
+use Rattle.at_geojson.specs.declared.at_once.plain_geometries.Seen.TheVariants as seens
+use Rattle.at_geojson.specs.declared.at_once.plain_geometries.SeenRead.{SeenRead}
 use Rattle.at_geojson.specs.Atoms.{twin_of, as_kind, IfOwnShape}
 use Rattle.at_geojson.specs.Objects.{kind_shape, feature_shape}
 use Rattle.at_geojson.specs.Values.{IsWhole, IsItem}

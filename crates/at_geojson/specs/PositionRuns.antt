@@ -2,10 +2,10 @@
 use Rattle.std.specs.Prelude.{◌≡◌, ℕ, ◌+◌, ◌<◌, List, [], ◌∷◌, length, slice_index, Some, None}
 use Rattle.at_nest.specs.Tree.{Tree}
 use Rattle.at_query.specs.Keeping.{Asked}
-use Rattle.at_geojson.specs.declared.atoms.GeoAtom.TheVariants as atoms
-use Rattle.at_geojson.specs.declared.atoms.TrackAtom.{TrackAtom}
-use Rattle.at_geojson.specs.declared.pairs.PairRead.{PairRead}
-use Rattle.at_geojson.specs.declared.pairs.Whole.{Whole}
+use Rattle.at_geojson.specs.declared.atoms.atom.GeoAtom.TheVariants as atoms
+use Rattle.at_geojson.specs.declared.atoms.atom.TrackAtom.{TrackAtom}
+use Rattle.at_geojson.specs.declared.coordinates.pairs.PairRead.{PairRead}
+use Rattle.at_geojson.specs.declared.coordinates.pairs.Whole.{Whole}
 use Rattle.at_geojson.specs.Atoms.{TrackView, track_view, AreTracked}
 use Rattle.at_geojson.specs.FeatureRuns.{AreItemsAt}
 use Rattle.at_geojson.specs.Passing.{PassesTo}

@@ -3,14 +3,14 @@
 use Rattle.std.specs.Prelude.{◌≡◌, ℕ, ◌+◌, ◌<◌, ◌≤◌, Bool, true, List, [], ◌∷◌, ◌++◌, map, length, None}
 use Rattle.at_text.specs.Faults.{first_fault}
 use Rattle.at_query.specs.Keeping.{Asked, kept, needs_shapes}
-use Rattle.at_geojson.specs.declared.atoms.GeoAtom.{GeoAtom}
-use Rattle.at_geojson.specs.declared.atoms.GeoAtom.TheVariants as atoms
-use Rattle.at_geojson.specs.declared.atoms.Areas.{Areas}
-use Rattle.at_geojson.specs.declared.atoms.AreasAtom.{AreasAtom}
-use Rattle.at_geojson.specs.declared.atoms.Lists.{Lists}
-use Rattle.at_geojson.specs.declared.atoms.ListsAtom.{ListsAtom}
-use Rattle.at_geojson.specs.declared.atoms.Points.{Points}
-use Rattle.at_geojson.specs.declared.atoms.PointsAtom.{PointsAtom}
+use Rattle.at_geojson.specs.declared.atoms.atom.GeoAtom.{GeoAtom}
+use Rattle.at_geojson.specs.declared.atoms.atom.GeoAtom.TheVariants as atoms
+use Rattle.at_geojson.specs.declared.atoms.atom.Areas.{Areas}
+use Rattle.at_geojson.specs.declared.atoms.atom.AreasAtom.{AreasAtom}
+use Rattle.at_geojson.specs.declared.atoms.atom.Lists.{Lists}
+use Rattle.at_geojson.specs.declared.atoms.atom.ListsAtom.{ListsAtom}
+use Rattle.at_geojson.specs.declared.atoms.atom.Points.{Points}
+use Rattle.at_geojson.specs.declared.atoms.atom.PointsAtom.{PointsAtom}
 use Rattle.at_geojson.specs.Atoms.{twin_of}
 use Rattle.at_geojson.specs.Gathering.{firsts, are_all, least_of, fault_as_line, fault_as_ring, path_in, area_fault}
 use Rattle.at_geojson.specs.Gathering.{polygon_in}

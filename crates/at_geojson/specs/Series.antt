@@ -10,10 +10,10 @@ use Rattle.at_geom.specs.Shapes.{ArePathsInRange}
 use Rattle.at_nest.specs.Tree.{Tree}
 use Rattle.at_nest.specs.Folds.{AreItemFolds}
 use Rattle.at_query.specs.Keeping.{Asked, kept}
-use Rattle.at_geojson.specs.declared.atoms.GeoAtom.{GeoAtom}
-use Rattle.at_geojson.specs.declared.atoms.GeoAtom.TheVariants as atoms
-use Rattle.at_geojson.specs.declared.atoms.Lists.{Lists}
-use Rattle.at_geojson.specs.declared.atoms.SeriesAtom.{SeriesAtom}
+use Rattle.at_geojson.specs.declared.atoms.atom.GeoAtom.{GeoAtom}
+use Rattle.at_geojson.specs.declared.atoms.atom.GeoAtom.TheVariants as atoms
+use Rattle.at_geojson.specs.declared.atoms.atom.Lists.{Lists}
+use Rattle.at_geojson.specs.declared.atoms.atom.SeriesAtom.{SeriesAtom}
 use Rattle.at_geojson.specs.Atoms.{at_of, lists_view, IsFold, IsRun, AreSeries}
 use Rattle.at_geojson.specs.Gathering.{seen, rank, sort_of, fault_as_line, fault_as_ring, path_in}
 

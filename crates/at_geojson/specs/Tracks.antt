@@ -12,12 +12,12 @@ use Rattle.at_geom.specs.Shapes.{line_fault, ring_fault}
 use Rattle.at_nest.specs.Tree.{Tree}
 use Rattle.at_nest.specs.Folds.{AreItemFolds}
 use Rattle.at_query.specs.Keeping.{Asked, kept}
-use Rattle.at_geojson.specs.declared.atoms.GeoAtom.{GeoAtom}
-use Rattle.at_geojson.specs.declared.atoms.GeoAtom.TheVariants as atoms
-use Rattle.at_geojson.specs.declared.atoms.Points.{Points}
-use Rattle.at_geojson.specs.declared.atoms.PointsAtom.{PointsAtom}
-use Rattle.at_geojson.specs.declared.atoms.Track.{Track}
-use Rattle.at_geojson.specs.declared.atoms.TrackAtom.{TrackAtom}
+use Rattle.at_geojson.specs.declared.atoms.atom.GeoAtom.{GeoAtom}
+use Rattle.at_geojson.specs.declared.atoms.atom.GeoAtom.TheVariants as atoms
+use Rattle.at_geojson.specs.declared.atoms.atom.Points.{Points}
+use Rattle.at_geojson.specs.declared.atoms.atom.PointsAtom.{PointsAtom}
+use Rattle.at_geojson.specs.declared.atoms.atom.Track.{Track}
+use Rattle.at_geojson.specs.declared.atoms.atom.TrackAtom.{TrackAtom}
 use Rattle.at_geojson.specs.Atoms.{at_of, PositionView, TrackView, track_view, to_four, as_position, IsFold, IsRun}
 use Rattle.at_geojson.specs.Atoms.{AreTracked}
 use Rattle.at_geojson.specs.Gathering.{seen, rank, sort_of, position_fault, position_value}

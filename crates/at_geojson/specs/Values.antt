@@ -10,11 +10,11 @@ use Rattle.at_nest.specs.Tree.{Tree, Trees, Members, array, object, Spells}
 use Rattle.at_nest.specs.Folds.{AreFolds, AreMemberFolds}
 use Rattle.at_nest.specs.Passing.{IsPadded, ItemsBefore, Named, MembersBefore, items_of, members_of}
 use Rattle.at_query.specs.Keeping.{Asked}
-use Rattle.at_geojson.specs.declared.atoms.GeoAtom.{GeoAtom}
-use Rattle.at_geojson.specs.declared.atoms.GeoAtom.TheVariants as atoms
-use Rattle.at_geojson.specs.declared.pairs.Whole.{Whole}
-use Rattle.at_geojson.specs.declared.pairs.Plain.{Plain}
-use Rattle.at_geojson.specs.declared.pairs.PairRead.{PairRead}
+use Rattle.at_geojson.specs.declared.atoms.atom.GeoAtom.{GeoAtom}
+use Rattle.at_geojson.specs.declared.atoms.atom.GeoAtom.TheVariants as atoms
+use Rattle.at_geojson.specs.declared.coordinates.pairs.Whole.{Whole}
+use Rattle.at_geojson.specs.declared.coordinates.pairs.Plain.{Plain}
+use Rattle.at_geojson.specs.declared.coordinates.pairs.PairRead.{PairRead}
 use Rattle.at_geojson.specs.Atoms.{IsOwn, IsFold}
 
 -- white space, a number that has a value, and white space

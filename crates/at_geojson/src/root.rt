@@ -8,12 +8,12 @@ ghost use Rattle.at_geojson.specs.Wholes.{IsAnswer, IsFeatureFront, found_end};
 ghost use Rattle.at_geojson.specs.Ends.{EndsLone, EndsGeometry, EndsRole, EndsAtom};
 
 use crate::asked::GeoAlgebra;
-use crate::atoms::{GeoAtom, Role};
-use crate::features::{FeatureRead, read_feature};
-use crate::geometries::Geometry;
-use crate::lists::form_at;
-use crate::objects::feature_part;
-use crate::sorts::at_of;
+use crate::at_once::features::{FeatureRead, read_feature};
+use crate::atoms::atom::{GeoAtom, Role};
+use crate::atoms::geometries::Geometry;
+use crate::atoms::lists::form_at;
+use crate::atoms::sorts::at_of;
+use crate::objects::members::feature_part;
 use crate::text::Text;
 use at_query::{Part, TextPairs};
 use at_scan::{TableNames, stands};

@@ -13,7 +13,7 @@ use Rattle.at_nest.specs.declared.finishing.NestEnd.TheVariants as texts
 use Rattle.at_query.specs.declared.answer.parts.Part.{Part}
 use Rattle.at_query.specs.Keeping.{Asked}
 use Rattle.at_wkt.proofs.LineMerges.{base_within}
-use Rattle.at_geojson.specs.declared.atoms.GeoAtom.{GeoAtom}
+use Rattle.at_geojson.specs.declared.atoms.atom.GeoAtom.{GeoAtom}
 use Rattle.at_geojson.specs.declared.root.RootEnd.{RootEnd}
 use Rattle.at_geojson.specs.declared.root.RootEnd.TheVariants as roots
 use Rattle.at_geojson.specs.Atoms.{IsFold, IsGeoAtom}

@@ -21,7 +21,7 @@ use Rattle.at_query.specs.Accumulators.{IsAccumulated}
 use Rattle.at_query.specs.Keeping.{Asked}
 use Rattle.at_query.proofs.Joining.{part_is_proper}
 use Rattle.at_query.proofs.Accumulating.{are_of_one_verb}
-use Rattle.at_geojson.specs.declared.atoms.GeoAtom.{GeoAtom}
+use Rattle.at_geojson.specs.declared.atoms.atom.GeoAtom.{GeoAtom}
 use Rattle.at_geojson.specs.declared.root.RootEnd.{RootEnd}
 use Rattle.at_geojson.specs.Atoms.{IsFold, IsGeoAtom}
 use Rattle.at_geojson.specs.Roles.{features_of}

@@ -9,7 +9,7 @@ use Rattle.at_nest.specs.FragmentMeanings.{StandsFor}
 use Rattle.at_nest.specs.declared.fragments.Fragment.{Fragment}
 use Rattle.at_query.specs.Keeping.{Asked}
 use Rattle.at_geojson.specs.declared.asked.GeoAlgebra.{GeoAlgebra}
-use Rattle.at_geojson.specs.declared.atoms.GeoAtom.{GeoAtom}
+use Rattle.at_geojson.specs.declared.atoms.atom.GeoAtom.{GeoAtom}
 use Rattle.at_geojson.specs.Atoms.{IsGeoAtom}
 use Rattle.at_run.specs.declared.gathered.Gathered.{Gathered}
 use Rattle.at_run.specs.Encodings.{IsValidIn}

@@ -21,7 +21,7 @@ use Rattle.at_query.specs.declared.answer.parts.Part.{Part}
 use Rattle.at_query.specs.Keeping.{Asked}
 use Rattle.at_wkt.proofs.FaultOrder.{first_of-append}
 use Rattle.at_wkt.proofs.LineMerges.{base_within, length-span_of}
-use Rattle.at_geojson.specs.declared.atoms.GeoAtom.{GeoAtom}
+use Rattle.at_geojson.specs.declared.atoms.atom.GeoAtom.{GeoAtom}
 use Rattle.at_geojson.specs.declared.asked.GeoAlgebra.{GeoAlgebra}
 use Rattle.at_nest.specs.declared.fragments.Fragment.{Fragment}
 use Rattle.at_geojson.specs.Atoms.{IsOwn, IsFold, IsGeoAtom}

@@ -2,7 +2,7 @@ use Rattle.std.proofs.Common.{ℕ, ◌+◌, ◌-◌, List, length, take, drop, s
 use Rattle.std.proofs.lemmas.List.{take_rest}
 use Rattle.at_nest.specs.Folds.{IsAttempt}
 use Rattle.at_nest.specs.declared.algebra.Attempt.{Attempt}
-use Rattle.at_geojson.specs.declared.atoms.GeoAtom.{GeoAtom}
+use Rattle.at_geojson.specs.declared.atoms.atom.GeoAtom.{GeoAtom}
 use Rattle.at_geojson.specs.Atoms.{IsOwn, IsFold}
 use Rattle.at_seq.proofs.SequenceEnds.{read_ahead}
 use Rattle.at_seq.proofs.records.atom_at_once.Goals as goal

@@ -2,7 +2,7 @@ use Rattle.std.proofs.Common.{Result, subst}
 use Rattle.std.proofs.lemmas.Result.{IfOk-weaker}
 use Rattle.at_nest.specs.TextAnswers.{Answers}
 use Rattle.at_nest.specs.declared.finishing.NestEnd.{NestEnd}
-use Rattle.at_geojson.specs.declared.atoms.GeoAtom.{GeoAtom}
+use Rattle.at_geojson.specs.declared.atoms.atom.GeoAtom.{GeoAtom}
 use Rattle.at_geojson.specs.Atoms.{IsGeoAtom}
 use Rattle.at_seq.proofs.Gathers.{root_has, end_has}
 use Rattle.at_seq.proofs.records.record_part.Goals as goal

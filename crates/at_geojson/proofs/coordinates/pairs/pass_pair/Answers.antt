@@ -1,0 +1,26 @@
+-- A position with white space round it.
+use Rattle.std.proofs.Common.{arith}
+use Rattle.at_geojson.proofs.coordinates.pairs.pass_pair.Goals as goal
+
+pub returns : goal.returns
+returns c =
+    let (vx, px) = c.in_ok-x.ensures in
+    let (vy, py) = c.in_ok-y.ensures in
+    let ends = c.in_ok-close.ensures in (
+      record { x = vx; y = vy },
+      record {
+        before = c.in_ok-bracket.ensures.order;
+        spaces = c.in_ok-bracket.ensures.spaces;
+        inside = c.in_ok-bracket.ensures.inside;
+        opens = c.in_ok-bracket.ensures.byte;
+        x = px;
+        middle = c.stands.ensures.inside c.if-not-stands.false;
+        comma = c.stands.ensures.byte c.if-not-stands.false;
+        y = py;
+        last = omega (arith, ends.order, ends.behind);
+        closes = ends;
+        behind = c.skip_spaces-end.ensures.order;
+        more_spaces = c.skip_spaces-end.ensures.spaces;
+        within = c.skip_spaces-end.ensures.within;
+      },
+    )

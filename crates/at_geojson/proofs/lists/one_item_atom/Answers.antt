@@ -1,3 +1,0 @@
--- An array of one item that is no coordinates and no object.
-use Rattle.std.proofs.Common.{refl, sym, subst}
-use Rattle.at_geojson.proofs.lists.one_item_atom.Goals as goal

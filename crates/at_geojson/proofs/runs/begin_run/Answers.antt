@@ -1,9 +1,0 @@
--- The object begins a run, and the other is put behind it.
-use Rattle.std.proofs.Common.{List, ◌∷◌, [], ◌++◌}
-use Rattle.at_geojson.proofs.RunFolds.{taken_own, begins_run}
-use Rattle.at_geojson.proofs.runs.begin_run.Goals as goal
-
-pub add_behind_run-requires-clause-before : goal.add_behind_run-requires-clause-before
-add_behind_run-requires-clause-before c =
-    let before = c.in_ok-before in
-    taken_own c.args.algebra.now c.args.last before.before.value before.ensures.geometries before.ensures.features c.requires.last

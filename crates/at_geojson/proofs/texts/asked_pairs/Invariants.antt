@@ -1,6 +1,0 @@
-use Rattle.std.proofs.Common.{◌≡◌, take, flat_map}
-use Rattle.at_geojson.specs.TextTests.{pair_of}
-use Rattle.at_geojson.proofs.texts.asked_pairs.Given as goal
-
-abbrev pub invariant-loop-test : goal.invariant-loop-test
-invariant-loop-test l = l.texts.items ≡ flat_map pair_of (take l.test-index l.tests)

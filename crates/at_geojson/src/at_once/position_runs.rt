@@ -1,0 +1,118 @@
+//! Positions one behind another in an array, read at once: they are one track. So a list that goes on beyond what is
+//! seen of it is read in few steps.
+
+ghost use Rattle.std.specs.Prelude.{◌≡◌, ◌+◌, ◌<◌, false, IfOk, IfSome};
+ghost use Rattle.at_query.specs.Keeping.{needs_shapes as needs_of};
+ghost use Rattle.at_geojson.specs.Values.{IsSpacedPair};
+ghost use Rattle.at_geojson.specs.FeatureRuns.{AreItemsWhole};
+ghost use Rattle.at_geojson.specs.PositionRuns.{IsNextPair, PassesNext, IsPassedTrack};
+
+use crate::atoms::atom::{GeoAtom, Track, TrackAtom};
+use crate::coordinates::pairs::{PairRead, Whole, one_more, pass_spaced, read_spaced};
+use crate::joined::tracks::{joined_track, new_track};
+use crate::text::Text;
+use at_scan::{OTHER_KIND, stands};
+use at_text::Halt;
+use std::alloc::Global;
+
+/// A comma, which stands at the place, and a position with white space round it.
+#[inline(always)]
+fn next_pair(text: &Text<'_>, at: usize) -> Option<PairRead>
+    ensures { IfSome result (IsNextPair text.now.algebra.now text.now.base text.now.bytes.now at) }
+{
+    if stands(text.bytes, at, b',') {
+        read_spaced(text, at + 1)
+    } else {
+        None
+    }
+}
+
+/// The same, passed over.
+#[inline(always)]
+fn pass_next(text: &Text<'_>, at: usize) -> Option<usize>
+    ensures { IfSome result (PassesNext text.now.algebra.now text.now.bytes.now at) }
+{
+    if stands(text.bytes, at, b',') {
+        pass_spaced(text, at + 1)
+    } else {
+        None
+    }
+}
+
+/// Positions of which the first was read, where shapes are kept.
+fn keep_positions(text: &Text<'_>, first: PairRead) -> Result<Whole, Halt>
+    requires first { IsSpacedPair text.now.algebra.now text.now.base text.now.bytes.now 0 first }
+    ensures { IfOk result (AreItemsWhole text.now.algebra.now text.now.base text.now.bytes.now 0) }
+{
+    let needs = text.algebra.needs_shapes();
+    let mut track = new_track(text.alloc, needs, GeoAtom::Position(first.pair))?;
+    let mut end = first.end;
+    'positions: while let Some(next) = next_pair(text, end) {
+        track = joined_track(needs, track, GeoAtom::Position(next.pair))?;
+        end = next.end;
+    }
+    Ok(Whole {
+        end,
+        atom: GeoAtom::Track(track),
+    })
+}
+
+/// A track of so many positions, up to four, none of whose values are kept.
+fn passed_track(alloc: Global, first: PairRead, count: u32, last: PairRead) -> Result<Whole, Halt>
+    ensures { IfOk result (IsPassedTrack first count last) }
+{
+    let track = Track {
+        first: Some(first.pair.pos),
+        last: Some(last.pair.pos),
+        count,
+        fault: None,
+        path: Vec::new(alloc),
+    };
+    Ok(Whole {
+        end: last.end,
+        atom: GeoAtom::Track(TrackAtom {
+            at: first.pair.at,
+            track: Box::new(alloc, track)?,
+        }),
+    })
+}
+
+/// Positions of which the first was read, where no shapes are kept: but the last, which is read, the others are passed
+/// over.
+fn pass_positions(text: &Text<'_>, first: PairRead) -> Result<Whole, Halt>
+    requires first { IsSpacedPair text.now.algebra.now text.now.base text.now.bytes.now 0 first }
+    requires unneeded { needs_of text.now.algebra.now.query ≡ false }
+    ensures { IfOk result (AreItemsWhole text.now.algebra.now text.now.base text.now.bytes.now 0) }
+{
+    let Some(mut ahead) = pass_next(text, first.end) else {
+        return Ok(Whole {
+            end: first.end,
+            atom: GeoAtom::Position(first.pair),
+        });
+    };
+    let mut end = first.end;
+    let mut count = 1;
+    'positions: while let Some(next) = pass_next(text, ahead) {
+        count = one_more(count);
+        end = ahead;
+        ahead = next;
+    }
+    match next_pair(text, end) {
+        Some(last) => passed_track(text.alloc, first, one_more(count), last),
+        None => Err(Halt::At(OTHER_KIND)),
+    }
+}
+
+/// Positions one behind another in an array that begin the text.
+pub fn read_positions(text: &Text<'_>) -> Result<Whole, Halt>
+    ensures { IfOk result (AreItemsWhole text.now.algebra.now text.now.base text.now.bytes.now 0) }
+{
+    let Some(first) = read_spaced(text, 0) else {
+        return Err(Halt::At(OTHER_KIND));
+    };
+    if text.algebra.needs_shapes() {
+        keep_positions(text, first)
+    } else {
+        pass_positions(text, first)
+    }
+}

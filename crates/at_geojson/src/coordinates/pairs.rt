@@ -1,0 +1,194 @@
+//! Positions whose first two numbers have values, read at once.
+
+ghost use Rattle.std.specs.Prelude.{◌≡◌, ℕ, ◌+◌, ◌<◌, ◌≤◌, length, IfSome};
+ghost use Rattle.at_geojson.specs.Atoms.{to_four};
+ghost use Rattle.at_geojson.specs.Values.{IsPlain, IsPair, IsSpacedPair};
+ghost use Rattle.at_geojson.specs.Passing.{PassesNumber, PassesPair, PassesTo};
+
+use crate::atoms::atom::{GeoAtom, PositionAtom};
+use crate::text::Text;
+use at_fixed::{
+    Coords, Notation, PlainNumber, json_number, leading_number, plain_len, plain_number,
+};
+use at_geom::Pos;
+use at_scan::{
+    behind_spaces, may_begin, position_end, skip_spaces, stands, valued_len, valued_number,
+};
+
+/// A value that was read: the place behind it, and its atom.
+#[derive(Drop)]
+pub struct Whole {
+    pub end: usize,
+    pub atom: GeoAtom,
+}
+
+/// A number that has a value with white space round it: the place of its first byte, the one behind it, and the
+/// one behind the white space.
+#[derive(Clone, Copy)]
+pub struct Plain {
+    pub first: usize,
+    pub last: usize,
+    pub end: usize,
+    pub number: PlainNumber,
+}
+
+/// Where a number that has a value stands: the place of its first byte, the one behind it, and the one behind
+/// the white space.
+#[derive(Clone, Copy)]
+pub struct NumberPlace {
+    pub first: usize,
+    pub last: usize,
+    pub end: usize,
+}
+
+/// Where a position stands: the places of its bracket and of its first two numbers, the one behind its closing bracket,
+/// and the one behind the white space.
+#[derive(Clone, Copy)]
+pub struct PairPlace {
+    pub bracket: usize,
+    pub x: NumberPlace,
+    pub y: NumberPlace,
+    pub close: usize,
+    pub end: usize,
+}
+
+/// A position that was read, and the place behind it.
+#[derive(Clone, Copy)]
+pub struct PairRead {
+    pub end: usize,
+    pub pair: PositionAtom,
+}
+
+/// Positions that were read one behind another: the first, the last, how many they are up to four, and the values of
+/// all of them where shapes are kept.
+#[derive(Drop)]
+pub struct Row {
+    pub first: PositionAtom,
+    pub last: Pos,
+    pub count: u32,
+    pub path: Vec<Pos>,
+}
+
+/// Room that a list of positions is given at first: that of a ring of four corners.
+pub const ROOM: usize = 5;
+
+/// White space, a number that has a value, and white space.
+#[inline(always)]
+fn read_plain(text: &Text<'_>, at: usize) -> Option<Plain>
+    requires inside { at ≤ length text.now.bytes.now }
+    ensures { IfSome result (IsPlain text.now.algebra.now text.now.bytes.now at) }
+{
+    let first = skip_spaces(text.bytes, at);
+    if !may_begin(text.bytes, first) {
+        return None;
+    }
+    let number = valued_number(
+        &text.bytes[first..],
+        text.algebra.digits(),
+        text.algebra.how(),
+    )?;
+    let last = first + number.len as usize;
+    Some(Plain {
+        first,
+        last,
+        end: skip_spaces(text.bytes, last),
+        number,
+    })
+}
+
+/// A position whose first two numbers have values.
+#[inline(always)]
+pub fn read_pair(text: &Text<'_>, at: usize) -> Option<PairRead>
+    ensures { IfSome result (IsPair text.now.algebra.now text.now.base text.now.bytes.now at) }
+{
+    if !stands(text.bytes, at, b'[') {
+        return None;
+    }
+    let x = read_plain(text, at + 1)?;
+    if !stands(text.bytes, x.end, b',') {
+        return None;
+    }
+    let y = read_plain(text, x.end + 1)?;
+    let end = position_end(text.bytes, y.end)?;
+    Some(PairRead {
+        end,
+        pair: PositionAtom {
+            at: text.base + at as u32,
+            least: text.base + x.first as u32,
+            pos: Pos {
+                x: x.number.value,
+                y: y.number.value,
+            },
+        },
+    })
+}
+
+/// One more, up to four.
+#[inline(always)]
+pub fn one_more(count: u32) -> u32
+    ensures { (n : ℕ) → count ≡ to_four n → result ≡ to_four (n + 1) }
+{
+    if count < 4 { count + 1 } else { count }
+}
+
+/// A position, behind white space and before white space.
+#[inline(always)]
+pub fn read_spaced(text: &Text<'_>, at: usize) -> Option<PairRead>
+    requires inside { at ≤ length text.now.bytes.now }
+    ensures { IfSome result (IsSpacedPair text.now.algebra.now text.now.base text.now.bytes.now at) }
+{
+    let first = skip_spaces(text.bytes, at);
+    let PairRead { end, pair } = read_pair(text, first)?;
+    let end = skip_spaces(text.bytes, end);
+    Some(PairRead { end, pair })
+}
+
+/// White space, a number that has a value, and white space, passed over.
+#[inline(always)]
+fn pass_plain(text: &Text<'_>, at: usize) -> Option<NumberPlace>
+    requires inside { at ≤ length text.now.bytes.now }
+    ensures { IfSome result (PassesNumber text.now.algebra.now text.now.bytes.now at) }
+{
+    let first = skip_spaces(text.bytes, at);
+    let len = valued_len(
+        &text.bytes[first..],
+        text.algebra.digits(),
+        text.algebra.how(),
+    )?;
+    let last = first + len as usize;
+    let end = skip_spaces(text.bytes, last);
+    Some(NumberPlace { first, last, end })
+}
+
+/// A position whose first two numbers have values, behind white space and before white space, passed over.
+#[inline(always)]
+pub fn pass_pair(text: &Text<'_>, at: usize) -> Option<PairPlace>
+    requires inside { at ≤ length text.now.bytes.now }
+    ensures { IfSome result (PassesPair text.now.algebra.now text.now.bytes.now at) }
+{
+    let bracket = behind_spaces(text.bytes, at, b'[')?;
+    let x = pass_plain(text, bracket + 1)?;
+    if !stands(text.bytes, x.end, b',') {
+        return None;
+    }
+    let y = pass_plain(text, x.end + 1)?;
+    let close = position_end(text.bytes, y.end)?;
+    let end = skip_spaces(text.bytes, close);
+    Some(PairPlace {
+        bracket,
+        x,
+        y,
+        close,
+        end,
+    })
+}
+
+/// The place behind a position that is passed over.
+#[inline(always)]
+pub fn pass_spaced(text: &Text<'_>, at: usize) -> Option<usize>
+    requires inside { at ≤ length text.now.bytes.now }
+    ensures { IfSome result (PassesTo text.now.algebra.now text.now.bytes.now at) }
+{
+    let place = pass_pair(text, at)?;
+    Some(place.end)
+}
