@@ -1,9 +1,11 @@
 -- White space, of which sixteen bytes are looked at together. For what passes over white space: most of the crate's calls.
-use Rattle.std.proofs.Common.{◌≡◌, ℕ, zero, suc, ◌+◌, ◌<◌, ◌≤◌, true, List, [], ◌∷◌, ◌++◌, length, slice_index, sym, subst, arith}
+use Rattle.std.proofs.Common.{◌≡◌, ℕ, zero, suc, ◌+◌, ◌<◌, ◌≤◌, true, List, [], ◌∷◌, ◌++◌, length, slice_index, refl, sym, subst, arith}
+use Rattle.std.proofs.lemmas.Bool.{eqb-true}
 use Rattle.at_text.specs.Texts.{is_space}
 use Rattle.at_fixed.specs.NumberSoFar.{between}
-use Rattle.at_fixed.proofs.DigitParts.{part-more}
+use Rattle.at_fixed.proofs.DigitParts.{part-more, part-none}
 use Rattle.at_lex.specs.Spans.{AreSpaces}
+use Rattle.at_scan.specs.Places.{is_blank}
 
 spaces_and : (s : List ℕ) (b : ℕ) → AreSpaces s → is_space b ≡ true → AreSpaces (s ++ (b ∷ []))
 spaces_and [] b h e = (e, tt)
@@ -17,3 +19,12 @@ spaces_more w at end (suc n) order within h each =
     subst (λ e. AreSpaces (between w at e)) next
     (subst AreSpaces (sym (part-more w at (end + n) (omega (arith, order)) (omega (arith, within))))
     (spaces_and (between w at (end + n)) (slice_index w (end + n)) before (each (end + n) (omega arith) (omega arith))))
+
+-- blanks from the place on
+blank_space : (b : ℕ) → is_blank b ≡ true → is_space b ≡ true
+blank_space b h = subst (λ n. is_space n ≡ true) (sym (eqb-true b 0x20 h)) refl
+
+pub blanks_are : (w : List ℕ) (at n : ℕ) → at + n ≤ length w → ((k : ℕ) → at ≤ k → k < at + n → is_blank (slice_index w k) ≡ true) → AreSpaces (between w at (at + n))
+blanks_are w at n within each =
+    let none : AreSpaces (between w at at) = subst AreSpaces (sym (part-none w at (omega (arith, within)))) tt in
+    spaces_more w at at n (omega arith) within none (λ k from to. blank_space (slice_index w k) (each k from to))

@@ -15,6 +15,10 @@ pub record StandsBehind (w : List ℕ) (at b place : ℕ) : Type 0 where
   pub inside : place < length w
   pub byte : slice_index w place ≡ b
 
+-- a byte that is a blank
+abbrev pub is_blank : ℕ → Bool
+is_blank b = b == 0x20
+
 -- a string from the place to its end
 abbrev pub IsTextAt : List ℕ → ℕ → ℕ → Type 0
 IsTextAt w at end = (at < end) × (end ≤ length w) × JsonString (between w at end)

@@ -5,7 +5,7 @@ ghost use Rattle.at_fixed.specs.NumberSoFar.{between};
 ghost use Rattle.at_text.specs.Texts.{is_space as space_test};
 ghost use Rattle.at_lex.specs.Fronts.{IsFrontAt};
 ghost use Rattle.at_lex.specs.Spans.{AreSpaces};
-ghost use Rattle.at_scan.specs.Places.{StandsBehind, IsTextAt, IsNameAt};
+ghost use Rattle.at_scan.specs.Places.{is_blank, StandsBehind, IsTextAt, IsNameAt};
 
 use crate::short_texts::{LANES, first_set};
 use at_lex::take_text;
@@ -71,6 +71,34 @@ fn space_lanes(text: &[u8], at: usize) -> usize
     first_set((no_blank & no_end).to_bitmask())
 }
 
+/// How many blanks the sixteen bytes at a place begin with.
+#[inline(always)]
+fn blank_lanes(text: &[u8], at: usize) -> usize
+    requires { at + 16 ≤ length text.now }
+    ensures { IsFrontAt is_blank text.now at 16 result }
+{
+    let bytes = u8x16::from_slice(&text[at..]);
+    first_set(bytes.simd_ne(u8x16::splat(b' ')).to_bitmask())
+}
+
+/// The place behind the white space at the beginning of a line, which is some blanks as a rule.
+#[inline(never)]
+fn behind_line_end(text: &[u8], at: usize) -> usize
+    requires { at ≤ length text.now }
+    ensures order { at ≤ result }
+    ensures within { result ≤ length text.now }
+    ensures spaces { AreSpaces (between text.now at result) }
+{
+    if text.len() - at <= LANES {
+        return far_spaces(text, at);
+    }
+    let end = at + blank_lanes(text, at);
+    if text[end] <= b' ' {
+        return far_spaces(text, at);
+    }
+    end
+}
+
 /// The place behind the white space that begins at the place, of which there may be much.
 #[inline(never)]
 fn far_spaces(text: &[u8], at: usize) -> usize
@@ -111,7 +139,7 @@ pub fn skip_spaces(text: &[u8], at: usize) -> usize
         } else {
             next
         },
-        b'\n' => far_spaces(text, next),
+        b'\n' => behind_line_end(text, next),
         _ => far_spaces(text, at),
     }
 }
