@@ -49,7 +49,7 @@ ENDS = {
 }
 PLAIN = "echo '1 passed, 0 failed'"
 COUNTS = {"run": 10, "recipes": 4, "against": 0, "pages": 7}
-SOURCES = ("examples_of_crates", "uncited")
+SOURCES = ("examples_of_crates", "names", "uncited")
 WANTED = "gdal-bin parallel python3-geopandas python3-shapely"
 Check = Tuple[str, Optional[str]]
 
