@@ -17,6 +17,8 @@ use Rattle.at_scan.specs.declared.fields.Field.TheVariants as names
 use Rattle.at_scan.specs.Places.{IsNameAt}
 use Rattle.at_scan.specs.Fields.{field_of, is_kind, is_coordinates, is_geometry, is_properties, is_features, is_geometries, is_no_field}
 use Rattle.at_scan.specs.Members.{name_in, IsPlainName, is_among_others, ArePlainOthers, AddsName, IsNextField}
+use Rattle.at_query.specs.TextTests.{met_of, met_by, texts_hold}
+use Rattle.at_query.proofs.TextCounts.{none_met}
 use Rattle.at_geojson.specs.declared.atoms.atom.GeoAtom.{GeoAtom}
 use Rattle.at_geojson.specs.declared.atoms.atom.GeoAtom.TheVariants as atoms
 use Rattle.at_geojson.specs.declared.atoms.atom.Role.TheVariants as roles
@@ -32,7 +34,6 @@ use Rattle.at_geojson.specs.Objects.{feature_shape, texts_in, texts_named, kept_
 use Rattle.at_geojson.specs.Fields.{put_if, value_in, kind_in_fields, IsRoleIn}
 use Rattle.at_geojson.specs.Values.{IsWhole}
 use Rattle.at_geojson.specs.Members.{EndsFields}
-use Rattle.at_geojson.specs.TextTests.{met_of, met_by, texts_hold}
 use Rattle.at_geojson.specs.PlainGeometries.{IsKindRead, IsSeen, Sees}
 use Rattle.at_geojson.specs.Features.{IsShapeRead, IsTested, ReadsProperties, IsGeometryOf, AreMembersOf, IsValueRead, IsMemberRead, ReadsOne, AreRead, NameNoKind, MeetsTexts, NamesNoKind, PassesMember, ReadsVoid, IsTexted, EndsFeature, IsFeatureRead}
 use Rattle.at_geojson.proofs.FieldFolds.{own_feature}
@@ -40,7 +41,7 @@ use Rattle.at_geojson.proofs.ObjectOwns.{own_feature_shape}
 use Rattle.at_geojson.proofs.ValueParts.{heap, member_of, object_read, void_read}
 use Rattle.at_geojson.proofs.MemberReads.{fields_begin, LongerFields, longer_fields, fields_go_on, ends_fields, ends_longer}
 use Rattle.at_geojson.proofs.GeometryReads.{no_fields, none_are}
-use Rattle.at_geojson.proofs.TextReads.{none_met, met_more}
+use Rattle.at_geojson.proofs.TextReads.{met_more}
 
 -- ---- the members of a feature
 

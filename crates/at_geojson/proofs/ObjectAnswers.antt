@@ -59,10 +59,4 @@ module _ (asked : Asked) (at : ℕ) (xs : List (Member GeoAtom)) (ms : Members) 
   item_of_role (Some kinds.FeatureCollection) role (p, e, f) = subst (λ z. HasPart asked.query (role_item at z) (item_as (Some kinds.FeatureCollection))) (sym e) refl
   item_of_role (Some kinds.Feature) role (p, e, f) = subst (λ z. HasPart asked.query (role_item at z) (item_as (Some kinds.Feature))) (sym e)
       (feature_is asked at xs ms p (named asked (codes "geometry") xs ms h) (named asked (codes "properties") xs ms h) f)
-  item_of_role (Some kinds.GeometryCollection) role e = no_item (Some kinds.GeometryCollection) role _ e refl
-  item_of_role (Some kinds.Point) role e = no_item (Some kinds.Point) role _ e refl
-  item_of_role (Some kinds.MultiPoint) role e = no_item (Some kinds.MultiPoint) role _ e refl
-  item_of_role (Some kinds.LineString) role e = no_item (Some kinds.LineString) role _ e refl
-  item_of_role (Some kinds.MultiLineString) role e = no_item (Some kinds.MultiLineString) role _ e refl
-  item_of_role (Some kinds.Polygon) role e = no_item (Some kinds.Polygon) role _ e refl
-  item_of_role (Some kinds.MultiPolygon) role e = no_item (Some kinds.MultiPolygon) role _ e refl
+  item_of_role kind role e = no_item kind role _ e refl

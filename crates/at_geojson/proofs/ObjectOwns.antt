@@ -12,6 +12,7 @@ use Rattle.at_geom.specs.Segments.{IsInRange}
 use Rattle.at_geom.specs.Shapes.{ArePathsInRange, ArePolygonsInRange, IsShapeInRange}
 use Rattle.at_query.specs.declared.answer.parts.Part.{Part}
 use Rattle.at_query.specs.Keeping.{Asked, needs_shapes, kept}
+use Rattle.at_query.proofs.ShapeRanges.{nothing_in, points_in, lines_in, polygons_in}
 use Rattle.at_wkt.specs.Meaning.{empty_shape, of_points, of_lines, of_polygons}
 use Rattle.at_nest.specs.declared.algebra.Member.{Member}
 use Rattle.at_scan.specs.declared.kinds.Kind.{Kind}
@@ -23,18 +24,6 @@ use Rattle.at_geojson.specs.Atoms.{nowhere, at_of, is_empty, is_null, role_of, r
 use Rattle.at_geojson.specs.Gathering.{seen}
 use Rattle.at_geojson.specs.Objects.{value_named, unless, shape_seen, kind_shape, coordinates_shape, geometries_shape, feature_shape, FeaturesSeen}
 use Rattle.at_geojson.proofs.OwnFolds.{all_kept, position_in, path_in_range, rings_in_range, own_geometry}
-
-nothing_in : IsShapeInRange empty_shape
-nothing_in = record { points = All-nil IsInRange; lines = All-nil (All IsInRange); polygons = All-nil (λ (polygon : Polygon). ArePathsInRange polygon.rings) }
-
-pub points_in : (ps : List Pos) → All IsInRange ps → IsShapeInRange (of_points ps)
-points_in ps h = record { points = h; lines = All-nil (All IsInRange); polygons = All-nil (λ (polygon : Polygon). ArePathsInRange polygon.rings) }
-
-pub lines_in : (ls : List (List Pos)) → ArePathsInRange ls → IsShapeInRange (of_lines ls)
-lines_in ls h = record { points = All-nil IsInRange; lines = h; polygons = All-nil (λ (polygon : Polygon). ArePathsInRange polygon.rings) }
-
-pub polygons_in : (ps : List Polygon) → ArePolygonsInRange ps → IsShapeInRange (of_polygons ps)
-polygons_in ps h = record { points = All-nil IsInRange; lines = All-nil (All IsInRange); polygons = h }
 
 one : {X : Type 0} (P : X → Type 0) (b : Bool) (x : X) → P x → All P (kept b (x ∷ []))
 one P b x h = all_kept P b (x ∷ []) (All-cons P x [] h (All-nil P))

@@ -75,13 +75,7 @@ module _ (asked : Asked) (at : ℕ) where
         (features_is (value_named (codes "features") xs) (member_named (codes "features") ms) p f (named asked (codes "features") xs ms h)))
     root (Some kinds.Feature) role k (p, e, f) g i = subst (λ z. IsRoot asked at z t) (sym e) (subst (λ z. HasPart asked.query p (root_of_kind asked.digits asked.how at ms z)) (sym k)
         (subst (λ z. HasPart asked.query p (if_feature asked.digits asked.how at ms z)) k (subst (λ z. HasPart asked.query (role_item at z) (item_reading asked.digits asked.how t)) e i)))
-    root (Some kinds.GeometryCollection) role k e g i = geometry role _ e (ap (root_of_kind asked.digits asked.how at ms) k) g
-    root (Some kinds.Point) role k e g i = geometry role _ e (ap (root_of_kind asked.digits asked.how at ms) k) g
-    root (Some kinds.MultiPoint) role k e g i = geometry role _ e (ap (root_of_kind asked.digits asked.how at ms) k) g
-    root (Some kinds.LineString) role k e g i = geometry role _ e (ap (root_of_kind asked.digits asked.how at ms) k) g
-    root (Some kinds.MultiLineString) role k e g i = geometry role _ e (ap (root_of_kind asked.digits asked.how at ms) k) g
-    root (Some kinds.Polygon) role k e g i = geometry role _ e (ap (root_of_kind asked.digits asked.how at ms) k) g
-    root (Some kinds.MultiPolygon) role k e g i = geometry role _ e (ap (root_of_kind asked.digits asked.how at ms) k) g
+    root _ role k e g i = geometry role _ e (ap (root_of_kind asked.digits asked.how at ms) k) g
 
     object_is : (role : Role) → IsRoleOf asked.query at (kind_in xs) xs role → (texts : List TextPair) → texts ≡ kept_texts asked.query.tests xs
         → HasShape (needs_shapes asked.query) (role_geometry at role) (geometry_reading asked.digits asked.how t) × HasPart asked.query (role_item at role) (item_reading asked.digits asked.how t) × IsRoot asked at role t × (texts ≡ asked_texts asked.query.tests (texts_of ms))

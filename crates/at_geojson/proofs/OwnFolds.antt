@@ -1,6 +1,6 @@
 -- The algebra's own atoms: coordinates in range, and parts of the query.
 -- For `add`, `array`, `object` and `value`.
-use Rattle.std.proofs.Common.{◌≡◌, ℕ, ◌≤◌, nat_abs, Bool, true, false, List, [], ◌∷◌, ◌++◌, map, Option, Some, None, Result, Ok, Err, All, sym, subst, arith}
+use Rattle.std.proofs.Common.{◌≡◌, ℕ, ◌≤◌, pos, nat_abs, Bool, true, false, List, [], ◌∷◌, ◌++◌, map, Option, Some, None, Result, Ok, Err, All, sym, subst, arith}
 use Rattle.std.proofs.lemmas.List.Elements.{All-nil, All-cons, All-head, All-tail, All-append}
 use Rattle.std.proofs.lemmas.Option.{none-some, same_Some}
 use Rattle.at_text.specs.Faults.{first_fault}
@@ -39,26 +39,12 @@ module _ (asked : Asked) where
   role_part at (roles.Feature p) h = h
   role_part at _ h = tt
 
+  nothing_small : nat_abs (pos 0) ≤ 300000000000000
+  nothing_small = omega arith
+
   number_small : (a : GeoAtom) → IsOwn asked a → nat_abs (number_value a) ≤ 300000000000000
-  number_small (atoms.Twin f) h = omega arith
-  number_small (atoms.Null n) h = omega arith
-  number_small (atoms.Plain n) h = omega arith
-  number_small (atoms.Text x) h = omega arith
   number_small (atoms.Number x) h = h.0
-  number_small (atoms.BadNumber f) h = omega arith
-  number_small (atoms.Empty n) h = omega arith
-  number_small (atoms.Position x) h = omega arith
-  number_small (atoms.BadPosition x) h = omega arith
-  number_small (atoms.Points x) h = omega arith
-  number_small (atoms.Lists x) h = omega arith
-  number_small (atoms.Areas x) h = omega arith
-  number_small (atoms.Other x) h = omega arith
-  number_small (atoms.Items x) h = omega arith
-  number_small (atoms.Void n) h = omega arith
-  number_small (atoms.Object x) h = omega arith
-  number_small (atoms.Run x) h = omega arith
-  number_small (atoms.Series s) h = omega arith
-  number_small (atoms.Track t) h = omega arith
+  number_small _ h = nothing_small
 
   pub position_in : (a : GeoAtom) → IsOwn asked a → IsInRange (position_value a)
   position_in (atoms.Position x) h = h
@@ -82,24 +68,10 @@ module _ (asked : Asked) where
 
   -- what stands beside other items
   pub own_joined : (a : GeoAtom) → IsOwn asked a → IfOwnShape asked (item_geometries a) × IfOwnPart asked (item_features a)
-  own_joined (atoms.Twin f) h = (own_geometry (atoms.Twin f) h, own_item (atoms.Twin f) h)
-  own_joined (atoms.Null n) h = (own_geometry (atoms.Null n) h, own_item (atoms.Null n) h)
-  own_joined (atoms.Plain n) h = (own_geometry (atoms.Plain n) h, own_item (atoms.Plain n) h)
-  own_joined (atoms.Text x) h = (own_geometry (atoms.Text x) h, own_item (atoms.Text x) h)
-  own_joined (atoms.Number x) h = (own_geometry (atoms.Number x) h, own_item (atoms.Number x) h)
-  own_joined (atoms.BadNumber f) h = (own_geometry (atoms.BadNumber f) h, own_item (atoms.BadNumber f) h)
-  own_joined (atoms.Empty n) h = (own_geometry (atoms.Empty n) h, own_item (atoms.Empty n) h)
-  own_joined (atoms.Position x) h = (own_geometry (atoms.Position x) h, own_item (atoms.Position x) h)
-  own_joined (atoms.BadPosition x) h = (own_geometry (atoms.BadPosition x) h, own_item (atoms.BadPosition x) h)
-  own_joined (atoms.Points x) h = (own_geometry (atoms.Points x) h, own_item (atoms.Points x) h)
-  own_joined (atoms.Lists x) h = (own_geometry (atoms.Lists x) h, own_item (atoms.Lists x) h)
-  own_joined (atoms.Areas x) h = (own_geometry (atoms.Areas x) h, own_item (atoms.Areas x) h)
-  own_joined (atoms.Other x) h = (own_geometry (atoms.Other x) h, own_item (atoms.Other x) h)
-  own_joined (atoms.Items x) h = (own_geometry (atoms.Items x) h, own_item (atoms.Items x) h)
-  own_joined (atoms.Void n) h = (own_geometry (atoms.Void n) h, own_item (atoms.Void n) h)
-  own_joined (atoms.Object x) h = (own_geometry (atoms.Object x) h, own_item (atoms.Object x) h)
   own_joined (atoms.Run items) h = h
-  own_joined _ h = (tt, tt)
+  own_joined (atoms.Series s) h = (tt, tt)
+  own_joined (atoms.Track t) h = (tt, tt)
+  own_joined a h = (own_geometry a h, own_item a h)
 
   pub own_middle : (items xs : List GeoAtom) (a : GeoAtom) (rest : List GeoAtom) → items ≡ xs ++ a ∷ rest → All (IsOwn asked) items → IsOwn asked a
   own_middle items xs a rest e h = go xs (subst (All (IsOwn asked)) e h) where

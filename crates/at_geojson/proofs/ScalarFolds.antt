@@ -1,6 +1,6 @@
 -- What atoms of scalars are in each role.
 -- For `add`, `array`, `scalar` and `value`.
-use Rattle.std.proofs.Common.{◌≡◌, ℕ, ◌+◌, ◌≤◌, inl, inr, ℤ, nat_abs, List, [], ◌∷◌, ◌++◌, Some, None, Result, Ok, Err, refl, sym, ◌∙◌, ap, subst, arith, get_or}
+use Rattle.std.proofs.Common.{◌≡◌, ◌≢◌, ℕ, ◌+◌, ◌≤◌, inl, inr, ℤ, nat_abs, List, [], ◌∷◌, ◌++◌, Some, None, Result, Ok, Err, refl, sym, ◌∙◌, ap, subst, arith, get_or}
 use Rattle.std.proofs.lemmas.Bool.{true≢false}
 use Rattle.std.proofs.lemmas.Option.{none-some}
 use Rattle.at_text.specs.Faults.{first_of}
@@ -18,7 +18,7 @@ use Rattle.at_nest.specs.Tree.{Tree, literal, number, text, Spells}
 use Rattle.at_nest.proofs.OneTree.{one_tree}
 use Rattle.at_scan.specs.Names.{kind_of_text}
 use Rattle.at_query.specs.Keeping.{Asked}
-use Rattle.at_query.proofs.QueryRanges.{value_small}
+use Rattle.at_query.proofs.ShapeRanges.{value_small}
 use Rattle.at_geojson.specs.declared.atoms.atom.GeoAtom.{GeoAtom}
 use Rattle.at_geojson.specs.declared.atoms.atom.GeoAtom.TheVariants as atoms
 use Rattle.at_geojson.specs.declared.atoms.atom.TextAtom.{TextAtom}
@@ -77,21 +77,9 @@ module _ (asked : Asked) where
     };
   }
 
-  pub true_folds : (at : ℕ) → IsFold asked (atoms.Plain at) (literal at the_true)
-  true_folds at = record {
-    twins = refl;
-    read = λ _. record {
-      at = refl;
-      single = refl;
-      scalar = record { is_null = refl; is_empty = λ e. absurd (true≢false (sym e)); kind = refl; text = refl };
-      coordinates = record { number = tt; position = tt; points = tt; lists = tt; area = tt; areas = tt };
-      items = record { geometries = tt; features = λ _. tt };
-      object = record { geometry = refl; item = refl; texts = tt; root = refl };
-    };
-  }
-
-  pub false_folds : (at : ℕ) → IsFold asked (atoms.Plain at) (literal at the_false)
-  false_folds at = record {
+  pub plain_folds : (at : ℕ) (l : Literal) → l ≢ the_null → IsFold asked (atoms.Plain at) (literal at l)
+  plain_folds at the_null some = absurd (some refl)
+  plain_folds at _ some = record {
     twins = refl;
     read = λ _. record {
       at = refl;

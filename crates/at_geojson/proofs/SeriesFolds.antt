@@ -222,25 +222,8 @@ module _ (asked : Asked) where
   one_path b xs h = all_kept (All IsInRange) b (xs ∷ []) (All-cons (All IsInRange) xs [] h (All-nil (All IsInRange)))
 
   own_paths : (b : Bool) (a : GeoAtom) → IsOwn asked a → ArePathsInRange (paths_of b a)
-  own_paths b (atoms.Twin f) h = one_path b (path_in (atoms.Twin f)) (path_in_range asked (atoms.Twin f) h)
-  own_paths b (atoms.Null n) h = one_path b (path_in (atoms.Null n)) (path_in_range asked (atoms.Null n) h)
-  own_paths b (atoms.Plain n) h = one_path b (path_in (atoms.Plain n)) (path_in_range asked (atoms.Plain n) h)
-  own_paths b (atoms.Text x) h = one_path b (path_in (atoms.Text x)) (path_in_range asked (atoms.Text x) h)
-  own_paths b (atoms.Number x) h = one_path b (path_in (atoms.Number x)) (path_in_range asked (atoms.Number x) h)
-  own_paths b (atoms.BadNumber f) h = one_path b (path_in (atoms.BadNumber f)) (path_in_range asked (atoms.BadNumber f) h)
-  own_paths b (atoms.Empty n) h = one_path b (path_in (atoms.Empty n)) (path_in_range asked (atoms.Empty n) h)
-  own_paths b (atoms.Position x) h = one_path b (path_in (atoms.Position x)) (path_in_range asked (atoms.Position x) h)
-  own_paths b (atoms.BadPosition x) h = one_path b (path_in (atoms.BadPosition x)) (path_in_range asked (atoms.BadPosition x) h)
-  own_paths b (atoms.Points x) h = one_path b (path_in (atoms.Points x)) (path_in_range asked (atoms.Points x) h)
-  own_paths b (atoms.Lists x) h = one_path b (path_in (atoms.Lists x)) (path_in_range asked (atoms.Lists x) h)
-  own_paths b (atoms.Areas x) h = one_path b (path_in (atoms.Areas x)) (path_in_range asked (atoms.Areas x) h)
-  own_paths b (atoms.Other x) h = one_path b (path_in (atoms.Other x)) (path_in_range asked (atoms.Other x) h)
-  own_paths b (atoms.Items x) h = one_path b (path_in (atoms.Items x)) (path_in_range asked (atoms.Items x) h)
-  own_paths b (atoms.Void n) h = one_path b (path_in (atoms.Void n)) (path_in_range asked (atoms.Void n) h)
-  own_paths b (atoms.Object x) h = one_path b (path_in (atoms.Object x)) (path_in_range asked (atoms.Object x) h)
-  own_paths b (atoms.Run x) h = one_path b (path_in (atoms.Run x)) (path_in_range asked (atoms.Run x) h)
   own_paths b (atoms.Series s) h = h
-  own_paths b (atoms.Track t) h = one_path b (path_in (atoms.Track t)) (path_in_range asked (atoms.Track t) h)
+  own_paths b a h = one_path b (path_in a) (path_in_range asked a h)
 
   pub begins_own : (b : Bool) (a : GeoAtom) (s : SeriesAtom) → Begins b a s → IsOwn asked a → ArePathsInRange s.lists.value.paths.items
   begins_own b a s m h = subst ArePathsInRange (sym m.paths) (own_paths b a h)

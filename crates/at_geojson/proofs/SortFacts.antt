@@ -30,16 +30,9 @@ is_area _ = refl
 
 -- no sort but Other has objects
 pub sorted_no_object : (a : GeoAtom) → is_object a ≡ true → rank (sort_of a) ≡ 0
-sorted_no_object (atoms.Number x) e = absurd (true≢false (sym e))
-sorted_no_object (atoms.BadNumber f) e = absurd (true≢false (sym e))
-sorted_no_object (atoms.Empty n) e = absurd (true≢false (sym e))
-sorted_no_object (atoms.Position x) e = absurd (true≢false (sym e))
-sorted_no_object (atoms.BadPosition x) e = absurd (true≢false (sym e))
-sorted_no_object (atoms.Points x) e = absurd (true≢false (sym e))
-sorted_no_object (atoms.Lists x) e = absurd (true≢false (sym e))
-sorted_no_object (atoms.Series s) e = absurd (true≢false (sym e))
-sorted_no_object (atoms.Track t) e = absurd (true≢false (sym e))
-sorted_no_object _ e = refl
+sorted_no_object (atoms.Object x) e = refl
+sorted_no_object (atoms.Run items) e = refl
+sorted_no_object _ e = absurd (true≢false (sym e))
 
 -- ---- all items
 

@@ -258,25 +258,8 @@ module _ (asked : Asked) where
   one_own b a h = all_kept IsInRange b (position_value a ∷ []) (All-cons IsInRange (position_value a) [] (position_in asked a h) (All-nil IsInRange))
 
   own_path : (b : Bool) (a : GeoAtom) → IsOwn asked a → All IsInRange (path_in b a)
-  own_path b (atoms.Twin f) h = one_own b (atoms.Twin f) h
-  own_path b (atoms.Null n) h = one_own b (atoms.Null n) h
-  own_path b (atoms.Plain n) h = one_own b (atoms.Plain n) h
-  own_path b (atoms.Text x) h = one_own b (atoms.Text x) h
-  own_path b (atoms.Number x) h = one_own b (atoms.Number x) h
-  own_path b (atoms.BadNumber f) h = one_own b (atoms.BadNumber f) h
-  own_path b (atoms.Empty n) h = one_own b (atoms.Empty n) h
-  own_path b (atoms.Position x) h = one_own b (atoms.Position x) h
-  own_path b (atoms.BadPosition x) h = one_own b (atoms.BadPosition x) h
-  own_path b (atoms.Points x) h = one_own b (atoms.Points x) h
-  own_path b (atoms.Lists x) h = one_own b (atoms.Lists x) h
-  own_path b (atoms.Areas x) h = one_own b (atoms.Areas x) h
-  own_path b (atoms.Other x) h = one_own b (atoms.Other x) h
-  own_path b (atoms.Items x) h = one_own b (atoms.Items x) h
-  own_path b (atoms.Void n) h = one_own b (atoms.Void n) h
-  own_path b (atoms.Object x) h = one_own b (atoms.Object x) h
-  own_path b (atoms.Run x) h = one_own b (atoms.Run x) h
-  own_path b (atoms.Series s) h = one_own b (atoms.Series s) h
   own_path b (atoms.Track t) h = h
+  own_path b a h = one_own b a h
 
   pub begins_own : (b : Bool) (a : GeoAtom) (t : TrackAtom) → Begins b a t → IsOwn asked a → All IsInRange t.track.value.path.items
   begins_own b a t m h = subst (λ (v : TrackView). All IsInRange v.path) (sym m.1) (own_path b a h)

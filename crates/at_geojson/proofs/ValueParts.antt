@@ -50,7 +50,7 @@ use Rattle.at_geojson.specs.Gathering.{firsts, are_all, rank, sort_of, sort_of_a
 use Rattle.at_geojson.specs.Members.{IsScalarAt}
 use Rattle.at_geojson.specs.Values.{IsPlain, IsPair, IsSpacedPair, IsWhole, IsItem, AreItemsRead, AreMembersRead, EndsArray, EndsObject}
 use Rattle.at_geojson.proofs.Firsts.{firsts-cons}
-use Rattle.at_geojson.proofs.ScalarFolds.{number_found, number_folds, own_number, text_folds, null_folds, true_folds, false_folds, bad_number_at}
+use Rattle.at_geojson.proofs.ScalarFolds.{number_found, number_folds, own_number, text_folds, null_folds, plain_folds, bad_number_at}
 use Rattle.at_geojson.proofs.OwnFolds.{pair_own}
 use Rattle.at_geojson.proofs.ArrayAnswers.{numbers_fold, empty_folds}
 
@@ -148,8 +148,8 @@ module _ (asked : Asked) (base : ℕ) (w : List ℕ) where
 
     passed_literal : (l : Literal) → between w at end ≡ literal_text l → IsPassed at end
     passed_literal the_null e = record { atom = atoms.Null (base + at); whole = record { order = order; within = within; own = tt; tree = literal (base + at) the_null; spells = (refl, e); fold = null_folds asked (base + at) }; no_twin = refl }
-    passed_literal the_true e = record { atom = atoms.Plain (base + at); whole = record { order = order; within = within; own = tt; tree = literal (base + at) the_true; spells = (refl, e); fold = true_folds asked (base + at) }; no_twin = refl }
-    passed_literal the_false e = record { atom = atoms.Plain (base + at); whole = record { order = order; within = within; own = tt; tree = literal (base + at) the_false; spells = (refl, e); fold = false_folds asked (base + at) }; no_twin = refl }
+    passed_literal the_true e = record { atom = atoms.Plain (base + at); whole = record { order = order; within = within; own = tt; tree = literal (base + at) the_true; spells = (refl, e); fold = plain_folds asked (base + at) the_true (λ n. cc) }; no_twin = refl }
+    passed_literal the_false e = record { atom = atoms.Plain (base + at); whole = record { order = order; within = within; own = tt; tree = literal (base + at) the_false; spells = (refl, e); fold = plain_folds asked (base + at) the_false (λ n. cc) }; no_twin = refl }
 
     passed_number : (n : Numeral) → Spells (base + at) (between w at end) (number (base + at) n) → IsPassed at end
     passed_number n s = go (fixed_of n asked.digits asked.how) refl where

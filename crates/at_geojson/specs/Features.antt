@@ -18,6 +18,7 @@ use Rattle.at_scan.specs.declared.members.OtherNames.{OtherNames}
 use Rattle.at_scan.specs.declared.kinds.Kind.TheVariants as kinds
 use Rattle.at_scan.specs.declared.fields.Field.TheVariants as names
 use Rattle.at_scan.specs.Members.{name_in}
+use Rattle.at_query.specs.TextTests.{met_of, met_by, texts_hold}
 use Rattle.at_geojson.specs.declared.atoms.atom.GeoAtom.{GeoAtom}
 use Rattle.at_geojson.specs.declared.atoms.atom.GeoAtom.TheVariants as atoms
 use Rattle.at_geojson.specs.declared.atoms.atom.ObjectAtom.{ObjectAtom}
@@ -33,7 +34,6 @@ use Rattle.at_geojson.specs.declared.at_once.features.FeatureMembers.{FeatureMem
 use Rattle.at_geojson.specs.declared.at_once.features.PropertiesRead.{PropertiesRead}
 use Rattle.at_geojson.specs.Atoms.{twin_of, as_kind, as_text, IfOwnShape, IfOwnPart}
 use Rattle.at_geojson.specs.Objects.{feature_shape, texts_in, texts_named, JoinsFeature}
-use Rattle.at_geojson.specs.TextTests.{met_of, met_by, texts_hold}
 use Rattle.at_geojson.specs.Fields.{kind_in_fields, value_in}
 use Rattle.at_geojson.specs.Members.{IsNewName, IsFieldRead, AreFieldsRead}
 use Rattle.at_geojson.specs.PlainGeometries.{IsSeenOf, IsSeen}

@@ -23,6 +23,5 @@ pub mod Members
 pub mod Geometries
 pub mod PlainGeometries
 pub mod PositionRuns
-pub mod TextTests
 pub mod Features
 pub mod FeatureRuns

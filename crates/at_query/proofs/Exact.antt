@@ -5,7 +5,6 @@ use Rattle.std.specs.List.{AllByRecursion}
 use Rattle.std.proofs.lemmas.List.Elements.{recursion_from_All, All-append}
 use Rattle.std.proofs.lemmas.Grind.{flat_map-append}
 use Rattle.at_geom.specs.declared.shapes.Polygon.{Polygon}
-use Rattle.at_geom.specs.declared.rectangles.Extent.{Extent}
 use Rattle.at_geom.specs.Shapes.{positions, joined, positions_of_polygons, ArePathsInRange, ArePolygonsInRange}
 use Rattle.at_query.specs.declared.query.queries.Verb.{Verb}
 use Rattle.at_query.specs.declared.query.queries.Verb.TheVariants as verbs
@@ -13,7 +12,7 @@ use Rattle.at_query.specs.declared.query.queries.Query.{Query}
 use Rattle.at_query.specs.declared.features.Feature.{Feature}
 use Rattle.at_query.specs.declared.answer.answers.Answer.TheVariants as answers
 use Rattle.at_query.specs.declared.answer.parts.Part.{Part}
-use Rattle.at_query.specs.declared.answer.parts.Part.TheVariants.{Count, Area, Hull}
+use Rattle.at_query.specs.declared.answer.parts.Part.TheVariants.{Count, Area}
 use Rattle.at_query.specs.Holding.{Holds}
 use Rattle.at_query.specs.Results.{Keeps, all_positions, all_polygons, IsAskedOf, IsResult}
 use Rattle.at_query.specs.Ranges.{IsFeatureInRange, AreFeaturesInRange}

@@ -2,6 +2,8 @@ mod Examples
 pub mod KeptLists
 pub mod QueryFacts
 pub mod TallyFolds
+pub mod TextCounts
+pub mod TextsHold
 pub mod Spreads
 pub mod Areas
 pub mod Hulls
@@ -20,6 +22,7 @@ pub mod GeometryParts
 pub mod TestParts
 pub mod TestLists
 pub mod QueryParts
+pub mod ShapeRanges
 pub mod QueryRanges
 pub mod OneAnswer
 pub mod OneQuery

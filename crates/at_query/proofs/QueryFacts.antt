@@ -68,6 +68,24 @@ has_same tests name value asks (p ∷ ps) = go (asks_pair tests p.name p.value) 
   go false e more = ap (λ c. has_text (cond c (p ∷ asked_texts tests ps) (asked_texts tests ps)) name value) e ∙ (more
       ∙ ap (λ z. z || has_text ps name value) (sym (other (bytes_eq p.name name && bytes_eq p.value value) refl e)))
 
+-- features at one offset
+module _ (f g : Feature) (at_same : g.at ≡ f.at) where
+  same_positions : g.shape ≡ f.shape → all_positions (g ∷ []) ≡ all_positions (f ∷ [])
+  same_positions e = flat_map-cons (λ (x : Feature). positions x.shape) g [] ∙ (ap (λ (z : Shape). positions z ++ []) e ∙ sym (flat_map-cons (λ (x : Feature). positions x.shape) f []))
+
+  one_kept : (v : Verb) (part : Part) → (tells_shapes v ≡ true → g.shape ≡ f.shape) → IsKeptOf v (g ∷ []) part → IsKeptOf v (f ∷ []) part
+  one_kept verbs.Select part h p = p ∙ ap (λ z. Offsets (z ∷ [])) at_same
+  one_kept verbs.Count part h p = p
+  one_kept verbs.Area part h p = p ∙ ap (λ z. Area (wrapped_sum z)) (flat_map-cons (λ (x : Feature). x.shape.polygons) g [] ∙ (ap (λ (z : Shape). z.polygons ++ []) (h refl) ∙ sym (flat_map-cons (λ (x : Feature). x.shape.polygons) f [])))
+  one_kept verbs.Extent part h p = p ∙ ap (λ z. Spread (extent_of z)) (same_positions (h refl))
+  one_kept verbs.Hull part h (hull, e, k) = (hull, e, subst (λ z. IsHullInRange z hull) (same_positions (h refl)) k)
+  one_kept verbs.Join part h p = p ∙ (ap (λ z. Entries (entry_at z g.shape ∷ [])) at_same ∙ ap (λ z. Entries (entry_at f.at z ∷ [])) (h refl))
+
+  -- of both of which the query holds, or of neither
+  pub part_of_both : (query : Query) → (tells_shapes query.verb ≡ true → g.shape ≡ f.shape) → (Holds query g → Holds query f) → (Holds query f → Holds query g) → (part : Part) → IsPart query (g ∷ []) part → IsPart query (f ∷ []) part
+  part_of_both query told there back part (kept, inl (h, (zs, e, k)), p) = (f ∷ [], inl (there h, ([], refl, refl)), one_kept query.verb part told (subst (λ l. IsKeptOf query.verb l part) (e ∙ ap (λ z. g ∷ z) k) p))
+  part_of_both query told there back part (kept, inr (n, k), p) = ([], inr (λ h. n (back h), refl), subst (λ l. IsKeptOf query.verb l part) k p)
+
 module _ (query : Query) (f g : Feature) (at_same : g.at ≡ f.at) (shape_kept : g.shape ≡ kept_shape (needs_shapes query) f.shape) (texts_kept : g.texts ≡ asked_texts query.tests f.texts) where
   -- a test of the query holds of both or of neither
   one_test : (t : Test) → (looks_at_shapes t ≡ true → needs_shapes query ≡ true) → ((name value : List ℕ) → wants_pair name value t ≡ true → asks_pair query.tests name value ≡ true) → (TestHolds t g → TestHolds t f) × (TestHolds t f → TestHolds t g)
@@ -91,20 +109,8 @@ module _ (query : Query) (f g : Feature) (at_same : g.at ≡ f.at) (shape_kept :
   shape_told : tells_shapes query.verb ≡ true → g.shape ≡ f.shape
   shape_told e = shape_kept ∙ kept_whole (needs_shapes query) f.shape (or_left (tells_shapes query.verb) (list_any looks_at_shapes query.tests) e)
 
-  same_positions : g.shape ≡ f.shape → all_positions (g ∷ []) ≡ all_positions (f ∷ [])
-  same_positions e = flat_map-cons (λ (x : Feature). positions x.shape) g [] ∙ (ap (λ (z : Shape). positions z ++ []) e ∙ sym (flat_map-cons (λ (x : Feature). positions x.shape) f []))
-
-  one_kept : (v : Verb) (part : Part) → (tells_shapes v ≡ true → g.shape ≡ f.shape) → IsKeptOf v (g ∷ []) part → IsKeptOf v (f ∷ []) part
-  one_kept verbs.Select part h p = p ∙ ap (λ z. Offsets (z ∷ [])) at_same
-  one_kept verbs.Count part h p = p
-  one_kept verbs.Area part h p = p ∙ ap (λ z. Area (wrapped_sum z)) (flat_map-cons (λ (x : Feature). x.shape.polygons) g [] ∙ (ap (λ (z : Shape). z.polygons ++ []) (h refl) ∙ sym (flat_map-cons (λ (x : Feature). x.shape.polygons) f [])))
-  one_kept verbs.Extent part h p = p ∙ ap (λ z. Spread (extent_of z)) (same_positions (h refl))
-  one_kept verbs.Hull part h (hull, e, k) = (hull, e, subst (λ z. IsHullInRange z hull) (same_positions (h refl)) k)
-  one_kept verbs.Join part h p = p ∙ (ap (λ z. Entries (entry_at z g.shape ∷ [])) at_same ∙ ap (λ z. Entries (entry_at f.at z ∷ [])) (h refl))
-
   pub same_part : (part : Part) → IsPart query (g ∷ []) part → IsPart query (f ∷ []) part
-  same_part part (kept, inl (h, (zs, e, k)), p) = (f ∷ [], inl (holds_both.0 h, ([], refl, refl)), one_kept query.verb part shape_told (subst (λ l. IsKeptOf query.verb l part) (e ∙ ap (λ z. g ∷ z) k) p))
-  same_part part (kept, inr (n, k), p) = ([], inr (λ h. n (holds_both.1 h), refl), subst (λ l. IsKeptOf query.verb l part) k p)
+  same_part = part_of_both f g at_same query shape_told holds_both.0 holds_both.1
 
 -- without tests the count of one feature is one
 pub counted_one : (query : Query) (f : Feature) → query.verb ≡ verbs.Count → query.tests ≡ [] → IsPart query (f ∷ []) (Count 1)

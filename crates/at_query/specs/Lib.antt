@@ -12,3 +12,4 @@ pub mod Spelling
 pub mod Queries
 -- Of private functions and fields: nothing here has to be believed.
 pub mod Readers
+pub mod TextTests

@@ -11,7 +11,6 @@ use Rattle.at_lex.specs.Strings.{Character, units_of, SpellsString}
 use Rattle.at_geom.specs.declared.rectangles.Extent.{Extent}
 use Rattle.at_wkt.specs.Geometry.{Geometry, SpellsGeometry}
 use Rattle.at_wkt.specs.Meaning.{shape_of, faults_of, empty_shape}
-use Rattle.at_wkt.specs.Readers.{next}
 use Rattle.at_query.specs.declared.query.coordinates.NumberRead.{NumberRead}
 use Rattle.at_query.specs.declared.query.boxes.BoxRead.{BoxRead}
 use Rattle.at_query.specs.declared.query.boxes.Corners.{Corners}

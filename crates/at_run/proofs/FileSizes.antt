@@ -20,11 +20,11 @@ use Rattle.at_query.specs.declared.features.Feature.{Feature}
 use Rattle.at_query.specs.Ranges.{IsFeatureInRange, AreFeaturesInRange}
 use Rattle.at_query.specs.Results.{all_positions}
 use Rattle.at_query.specs.Parts.{AreFew}
+use Rattle.at_query.proofs.ShapeRanges.{shape_in}
 use Rattle.at_lex.specs.Strings.{Character}
 use Rattle.at_run.specs.Labels.{SpellsLabelled}
 use Rattle.at_run.specs.Features.{AreLineFeatures, AreFileFeatures}
 use Rattle.at_run.proofs.LineSizes.{total, one_of, items_of, listed_of, rings_of, weight_of, weight_of_all, line_size}
-use Rattle.at_run.proofs.ShapeRanges.{geometry_in_range}
 
 -- ---- how many positions a shape has
 
@@ -171,7 +171,7 @@ module _ (digits : ℕ) (how : Coords) where
   pub features_in_range : (ls : List FileLine) (fs : List Feature) → AreLineFeatures digits how ls fs → AreFeaturesInRange fs
   features_in_range [] fs e = subst AreFeaturesInRange (sym e) (All-nil IsFeatureInRange)
   features_in_range (l ∷ ls) fs (f, rest, e, is, more) =
-      let one : IsShapeInRange f.shape = subst IsShapeInRange (sym is.shape) (geometry_in_range digits how is.geometry) in
+      let one : IsShapeInRange f.shape = subst IsShapeInRange (sym is.shape) (shape_in digits how is.geometry) in
       subst AreFeaturesInRange (sym e) (All-cons IsFeatureInRange f rest one (features_in_range ls rest more))
 
   -- no feature without a byte, so the bound is strict where there are positions

@@ -24,15 +24,14 @@ use Rattle.at_nest.proofs.OneTree.{one_tree}
 use Rattle.at_query.specs.declared.features.Feature.{Feature}
 use Rattle.at_query.specs.Ranges.{IsFeatureInRange, AreFeaturesInRange}
 use Rattle.at_query.specs.Parts.{AreRingsClosed, AreRising, IsProperFeature, AreProperFeatures}
+use Rattle.at_query.proofs.ShapeRanges.{nothing_in, both_in, shape_in}
 use Rattle.at_scan.specs.declared.kinds.Kind.{Kind}
 use Rattle.at_scan.specs.declared.kinds.Kind.TheVariants as kinds
 use Rattle.at_geojson.specs.Names.{is_named, member_named, kind_of, items_of}
 use Rattle.at_geojson.specs.Coordinates.{geometry_of}
 use Rattle.at_geojson.specs.Roles.{GeometryRead, not_geometry, both_read, Features, not_features, all_features, feature_of, properties_texts, properties_faults, coordinates_reading, kind_reading, geometry_reading, collection_reading, geometries_reading, items_reading, geometry_member_reading, feature_reading, if_feature, item_reading, features_reading, root_of_kind, root_reading, features_of, role_faults_of}
 use Rattle.at_geojson.specs.Wholes.{faults_of}
-use Rattle.at_geojson.proofs.ObjectOwns.{points_in}
 use Rattle.at_run.specs.JsonFiles.{HasJsonFaultBehind, HasJsonFileFault}
-use Rattle.at_run.proofs.ShapeRanges.{with_both, geometry_in_range}
 use Rattle.at_run.proofs.ProperFeatures.{empties, not_empty, no_first, HasClosedRings, geometry_closed, at_of}
 
 -- ---- what is read of geometries
@@ -41,15 +40,12 @@ use Rattle.at_run.proofs.ProperFeatures.{empties, not_empty, no_first, HasClosed
 abbrev IsProper : GeometryRead → Type 0
 IsProper r = IsShapeInRange r.shape × (r.faults ≡ [] → AreRingsClosed r.shape)
 
-nothing_in_range : IsShapeInRange empty_shape
-nothing_in_range = points_in [] (All-nil IsInRange)
-
 no_geometry : (at : ℕ) → IsProper (not_geometry at)
-no_geometry at = (nothing_in_range, λ e. tt)
+no_geometry at = (nothing_in, λ e. tt)
 
 both_proper : (r q : GeometryRead) → IsProper r → IsProper q → IsProper (both_read r q)
 both_proper r q (in_range, closed) (also, shut) = (
-  with_both r.shape q.shape in_range also,
+  both_in r.shape q.shape in_range also,
   λ e. let (a, b) = empties r.faults q.faults e in all_joined HasClosedRings r.shape.polygons q.shape.polygons (closed a) (shut b),
 )
 
@@ -60,7 +56,7 @@ either_proper false r q h k = k
 module _ (digits : ℕ) (how : Coords) where
   spelled_proper : (o : Option wkt.Geometry) (at : ℕ) → IsProper (elim o [ None ↦ not_geometry at | Some g ↦ record { shape = shape_of digits how g; faults = geometry_faults digits how g } ])
   spelled_proper None at = no_geometry at
-  spelled_proper (Some g) at = (geometry_in_range digits how g, geometry_closed digits how g)
+  spelled_proper (Some g) at = (shape_in digits how g, geometry_closed digits how g)
 
   coordinates_proper : (at : ℕ) (kind : Kind) (o : Option Tree) → IsProper (coordinates_reading digits how at kind o)
   coordinates_proper at kind None = no_geometry at
@@ -95,12 +91,12 @@ module _ (digits : ℕ) (how : Coords) where
     geometries_proper at _ = no_geometry at
 
     items_proper : (ts : Trees) → IsProper (items_reading digits how ts)
-    items_proper no_trees = (nothing_in_range, λ e. tt)
+    items_proper no_trees = (nothing_in, λ e. tt)
     items_proper (tree_and t ts) = both_proper (geometry_reading digits how t) (items_reading digits how ts) (reading_proper t) (items_proper ts)
 
   member_proper : (o : Option Tree) → IsProper (geometry_member_reading digits how o)
-  member_proper None = (nothing_in_range, λ e. tt)
-  member_proper (Some (literal i the_null)) = (nothing_in_range, λ e. tt)
+  member_proper None = (nothing_in, λ e. tt)
+  member_proper (Some (literal i the_null)) = (nothing_in, λ e. tt)
   member_proper (Some (literal i the_true)) = no_geometry i
   member_proper (Some (literal i the_false)) = no_geometry i
   member_proper (Some (number i n)) = no_geometry i

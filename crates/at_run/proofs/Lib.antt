@@ -6,7 +6,6 @@ pub mod LabelSteps
 pub mod FaultLists
 pub mod KeptLabels
 pub mod LineParts
-pub mod ShapeRanges
 pub mod Covered
 pub mod BlockParts
 pub mod LineSizes

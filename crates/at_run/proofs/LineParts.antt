@@ -30,6 +30,7 @@ use Rattle.at_query.specs.declared.query.queries.Query.{Query}
 use Rattle.at_query.specs.Holding.{TestHolds}
 use Rattle.at_query.specs.Accumulators.{IsKeptIn, IsAccumulated, JoinsAccumulators}
 use Rattle.at_query.proofs.Accumulating.{are_of_one_verb}
+use Rattle.at_query.proofs.ShapeRanges.{shape_in}
 use Rattle.at_run.specs.declared.gathered.Gathered.{Gathered}
 use Rattle.at_run.specs.declared.gathered.Gathered.TheVariants.{Kept, Failed}
 use Rattle.at_run.specs.Labels.{SpellsLabelled, LabelledLine, texts_of}
@@ -41,7 +42,6 @@ use Rattle.at_run.proofs.AsciiLines.{plain_valid, blanks_valid}
 use Rattle.at_run.proofs.LabelSteps.{without_quote, plain_syntax, label_front, label_spelled, label_syntax}
 use Rattle.at_run.proofs.FaultLists.{first_none, first_one, first_joined}
 use Rattle.at_run.proofs.KeptLabels.{kept_label}
-use Rattle.at_run.proofs.ShapeRanges.{line_in_range}
 
 -- ---- lists of lines
 
@@ -165,7 +165,7 @@ module _ (asked : Asked) where
       → IsChecked asked (record { at = at; text = text }) found
   checked_front at text label end None front (shape, has) =
       counted_none (record { at = at; text = text }) (record { at = at; shape = shape; texts = [] })
-      (λ counts. read_front at text label end shape [] front has (line_in_range asked.digits asked.how (at + end) (drop end text) shape has) (λ _. refl, λ string cs are same. none_asked counts cs)) where
+      (λ counts. read_front at text label end shape [] front has (subst IsShapeInRange (sym has.shape_is) (shape_in asked.digits asked.how has.geometry)) (λ _. refl, λ string cs are same. none_asked counts cs)) where
         none_asked : CountsAll asked.query → (cs : List Character) → [] ≡ (if list_any asks_label asked.query.tests then texts_of (Some cs) else [])
         none_asked counts cs = let P : List Test → Type 0 = λ tests. [] ≡ (if list_any asks_label tests then texts_of (Some cs) else []) in subst P (sym counts.1) refl
   checked_front at text label end (Some fault) front h = counted_some (record { at = at; text = text }) fault (fault_front at text label end fault front h)
@@ -180,7 +180,7 @@ module _ (asked : Asked) where
         → IsLineRead asked (record { at = at; text = take len ahead }) (record { at = at; shape = shape; texts = texts })
     read_shape shape texts h kept =
         let has = read_there (λ i w. HasLineShape asked.digits asked.how i w shape) h in
-        read_front at (take len ahead) line.label.now is.end shape texts is.front has (line_in_range asked.digits asked.how (at + is.end) (drop is.end (take len ahead)) shape has) kept
+        read_front at (take len ahead) line.label.now is.end shape texts is.front has (subst IsShapeInRange (sym has.shape_is) (shape_in asked.digits asked.how has.geometry)) kept
 
     pub read_fault : (fault : Fault) → HasFirstLineFault asked.digits asked.how line.at (take line.len line.ahead.now) fault → IsGathered asked (Failed fault) (record { at = at; text = take len ahead } ∷ [])
     read_fault fault h = fault_front at (take len ahead) line.label.now is.end fault is.front (read_there (λ i w. HasFirstLineFault asked.digits asked.how i w fault) h)

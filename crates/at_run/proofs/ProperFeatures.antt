@@ -20,10 +20,10 @@ use Rattle.at_wkt.specs.Meaning.{polygons_of, faults_of_area, shape_of, shape_of
 use Rattle.at_wkt.specs.Lines.{FileLine, pieces_from, is_line_feed, line_of, is_blank_text, lines_of}
 use Rattle.at_query.specs.declared.features.Feature.{Feature}
 use Rattle.at_query.specs.Parts.{AreRingsClosed, AreRising, IsProperFeature, AreProperFeatures}
+use Rattle.at_query.proofs.ShapeRanges.{shape_in}
 use Rattle.at_run.specs.Features.{IsLineFeature, AreLineFeatures, AreFileFeatures}
 use Rattle.at_run.specs.LineFaults.{HasFaults, HaveFaults, HasLinesFaultBehind, HasLinesFault}
 use Rattle.at_run.proofs.LabelledLines.{one_labelled}
-use Rattle.at_run.proofs.ShapeRanges.{geometry_in_range}
 
 -- ---- lists without an element
 
@@ -176,7 +176,7 @@ module _ (digits : ℕ) (how : Coords) where
       let same : f.shape ≡ shape_of digits how g = is.shape ∙ ap (shape_of digits how) (one_labelled l.at l.text is.label label is.geometry g is.spelled p).1 in
       record {
         closed = subst AreRingsClosed (sym same) (geometry_closed digits how g (sym e ∙ none));
-        in_range = subst IsShapeInRange (sym same) (geometry_in_range digits how g);
+        in_range = subst IsShapeInRange (sym same) (shape_in digits how g);
       }
 
   proper_lines : (ls : List FileLine) (fs : List Feature) (faults : List Fault) → AreLineFeatures digits how ls fs → HaveFaults digits how ls faults → faults ≡ [] → AllByRecursion IsProperFeature fs

@@ -4,10 +4,10 @@ ghost use Rattle.std.specs.Prelude.{◌≡◌, ◌+◌, ◌<◌, ◌≤◌, true
 ghost use Rattle.std.specs.Prelude.{◌∷◌, IfOk, IfSome};
 ghost use Rattle.std.specs.List.{list_any};
 ghost use Rattle.at_scan.specs.Members.{IsPlainName, ArePlainOthers};
-ghost use Rattle.at_query.specs.Keeping.{looks_at_texts, selects};
 ghost use Rattle.at_geom.specs.Shapes.{IsShapeInRange};
+ghost use Rattle.at_query.specs.Keeping.{looks_at_texts, selects};
+ghost use Rattle.at_query.specs.TextTests.{texts_hold};
 ghost use Rattle.at_geojson.specs.Objects.{texts_in};
-ghost use Rattle.at_geojson.specs.TextTests.{texts_hold};
 ghost use Rattle.at_geojson.specs.Values.{IsWhole};
 ghost use Rattle.at_geojson.specs.PlainGeometries.{Sees};
 ghost use Rattle.at_geojson.specs.Features.{IsShapeRead, IsTested, ReadsProperties, ReadsField, ReadsMember};

@@ -6,10 +6,10 @@ ghost use Rattle.std.specs.List.{list_any};
 ghost use Rattle.at_query.specs.Holding.{has_text};
 ghost use Rattle.at_query.specs.Keeping.{asks_value as value_asked, asks_pair as pair_asked};
 ghost use Rattle.at_query.specs.Keeping.{wants_pair as pair_wanted, wants_value as value_wanted};
+ghost use Rattle.at_query.specs.TextTests.{wants_name as name_wanted, met_of, texts_hold, holds_if_text, pair_of};
 ghost use Rattle.at_geojson.specs.Atoms.{as_text};
 ghost use Rattle.at_geojson.specs.Objects.{texts_in as texts_inside, texts_named, pair_kept};
 ghost use Rattle.at_geojson.specs.Objects.{kept_texts as the_kept_texts};
-ghost use Rattle.at_geojson.specs.TextTests.{wants_name as name_wanted, met_of, texts_hold, holds_if_text, pair_of};
 
 use crate::atoms::atom::GeoAtom;
 use crate::atoms::lists::form_at;

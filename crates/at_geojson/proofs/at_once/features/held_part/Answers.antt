@@ -1,7 +1,7 @@
 use Rattle.std.proofs.Common.{[], sym, ◌∙◌, subst}
 use Rattle.std.proofs.lemmas.Result.{IfOk-weaker}
 use Rattle.at_query.specs.Parts.{IsPart}
-use Rattle.at_geojson.proofs.SeenParts.{none_held}
+use Rattle.at_query.proofs.TextsHold.{none_held}
 use Rattle.at_geojson.proofs.at_once.features.held_part.Goals as goal
 
 pub returns-then-hold : goal.returns-then-hold

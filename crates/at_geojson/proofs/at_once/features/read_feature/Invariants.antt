@@ -1,5 +1,5 @@
 -- Between members: those before were read.
-use Rattle.std.proofs.Common.{◌+◌, ◌-◌, ◌<◌, ◌≤◌, length}
+use Rattle.std.proofs.Common.{◌-◌, ◌<◌, ◌≤◌, length}
 use Rattle.at_scan.specs.Members.{ArePlainOthers}
 use Rattle.at_geojson.specs.Features.{AreMembersOf, AreRead}
 use Rattle.at_geojson.proofs.at_once.features.read_feature.Given as goal

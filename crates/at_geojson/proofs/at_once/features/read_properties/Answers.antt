@@ -1,7 +1,7 @@
 -- Properties with white space round them.
 use Rattle.std.proofs.Common.{◌∙◌}
+use Rattle.at_query.proofs.TextCounts.{all_met_is}
 use Rattle.at_geojson.proofs.ValueParts.{item_read}
-use Rattle.at_geojson.proofs.TextReads.{all_met_is}
 use Rattle.at_geojson.proofs.at_once.features.read_properties.Goals as goal
 
 pub returns-in-Ok-clause-reads : goal.returns-in-Ok-clause-reads

@@ -1,7 +1,7 @@
 use Rattle.std.proofs.Common.{◌∙◌, ap, flat_map}
 use Rattle.std.proofs.lemmas.Result.{IfOk-weaker}
 use Rattle.at_query.specs.declared.query.queries.Query.{Query}
-use Rattle.at_geojson.specs.TextTests.{pair_of}
+use Rattle.at_query.specs.TextTests.{pair_of}
 use Rattle.at_geojson.proofs.SeenParts.{shape_held}
 use Rattle.at_geojson.proofs.at_once.features.shape_part.Goals as goal
 

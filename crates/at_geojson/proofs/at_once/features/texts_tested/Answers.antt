@@ -1,8 +1,8 @@
 use Rattle.std.proofs.Common.{◌∙◌, ap}
 use Rattle.at_query.specs.declared.query.queries.Query.{Query}
+use Rattle.at_query.specs.TextTests.{texts_hold}
 use Rattle.at_geojson.specs.declared.atoms.atom.Roles.{Roles}
 use Rattle.at_geojson.specs.Objects.{texts_in}
-use Rattle.at_geojson.specs.TextTests.{texts_hold}
 use Rattle.at_geojson.proofs.at_once.features.texts_tested.Goals as goal
 
 pub returns-in-Object : goal.returns-in-Object

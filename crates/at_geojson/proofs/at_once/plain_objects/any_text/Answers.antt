@@ -2,9 +2,9 @@
 use Rattle.std.proofs.Common.{◌+◌, refl, ◌∙◌, ap}
 use Rattle.at_query.specs.declared.query.queries.Query.{Query}
 use Rattle.at_scan.specs.Members.{name_in}
+use Rattle.at_query.proofs.TextCounts.{met_by_is}
 use Rattle.at_geojson.specs.Atoms.{as_text}
 use Rattle.at_geojson.proofs.MemberReads.{no_twin_in}
-use Rattle.at_geojson.proofs.TextReads.{met_by_is}
 use Rattle.at_geojson.proofs.at_once.plain_objects.any_text.Goals as goal
 
 pub returns : goal.returns

@@ -1,10 +1,9 @@
 -- Each member is passed over behind those before it.
-use Rattle.std.proofs.Common.{◌≤◌, length, refl, sym, arith, ◌+◌}
+use Rattle.std.proofs.Common.{refl, sym, arith}
+use Rattle.at_query.proofs.TextCounts.{none_met, met_few}
 use Rattle.at_geojson.specs.Objects.{kept_texts}
-use Rattle.at_geojson.specs.TextTests.{met_by}
 use Rattle.at_geojson.proofs.FeatureReads.{reading_begins, empty_texted, member_passed, void_goes_on, void_ends}
 use Rattle.at_geojson.proofs.MemberReads.{plain_more}
-use Rattle.at_geojson.proofs.TextReads.{none_met, met_few}
 use Rattle.at_geojson.proofs.at_once.plain_objects.pass_object.Goals as goal
 
 pub returns-then-stands-clause-reads : goal.returns-then-stands-clause-reads

@@ -1,7 +1,7 @@
 -- Between members: those before were passed over, and so many tests on texts are met.
 use Rattle.std.proofs.Common.{◌≡◌, ◌-◌, ◌<◌, ◌≤◌, length}
+use Rattle.at_query.specs.TextTests.{met_by}
 use Rattle.at_geojson.specs.Objects.{kept_texts}
-use Rattle.at_geojson.specs.TextTests.{met_by}
 use Rattle.at_geojson.specs.Features.{NameNoKind, AreRead}
 use Rattle.at_geojson.proofs.at_once.plain_objects.pass_object.Given as goal
 

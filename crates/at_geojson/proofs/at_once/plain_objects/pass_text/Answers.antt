@@ -3,8 +3,8 @@ use Rattle.std.proofs.Common.{refl, ◌∙◌, ap, arith}
 use Rattle.std.proofs.lemmas.Result.{IfOk-weaker}
 use Rattle.at_query.specs.declared.query.queries.Query.{Query}
 use Rattle.at_scan.specs.Members.{name_in}
+use Rattle.at_query.proofs.TextCounts.{none_met_of}
 use Rattle.at_geojson.specs.Atoms.{as_text}
-use Rattle.at_geojson.proofs.TextReads.{none_met_of}
 use Rattle.at_geojson.proofs.at_once.plain_objects.pass_text.Goals as goal
 
 pub returns : goal.returns

@@ -1,9 +1,9 @@
 use Rattle.std.proofs.Common.{refl, ◌∙◌, ap}
 use Rattle.at_nest.specs.Tree.{text}
 use Rattle.at_scan.specs.Names.{kind_of_text}
+use Rattle.at_query.specs.declared.query.queries.Query.{Query}
 use Rattle.at_geojson.specs.declared.atoms.atom.GeoAtom.TheVariants.{Text}
 use Rattle.at_geojson.specs.declared.atoms.atom.TextAtom.{TextAtom}
-use Rattle.at_query.specs.declared.query.queries.Query.{Query}
 use Rattle.at_geojson.specs.Atoms.{asked_units}
 use Rattle.at_geojson.proofs.ScalarFolds.{folds_one, text_folds}
 use Rattle.at_geojson.proofs.atoms.scalars.decoded_atom.Goals as goal

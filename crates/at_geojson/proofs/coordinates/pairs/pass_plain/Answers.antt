@@ -1,5 +1,5 @@
 -- A number behind white space: its value is there, and isn't computed.
-use Rattle.std.proofs.Common.{true, refl, arith}
+use Rattle.std.proofs.Common.{true, refl}
 use Rattle.at_scan.proofs.Taken.{number_taken}
 use Rattle.at_geojson.proofs.ValueParts.{value_taken}
 use Rattle.at_geojson.proofs.coordinates.pairs.pass_plain.Goals as goal

@@ -1,5 +1,5 @@
 use Rattle.std.proofs.Common.{◌≡◌, drop}
-use Rattle.at_geojson.specs.TextTests.{texts_hold}
+use Rattle.at_query.specs.TextTests.{texts_hold}
 use Rattle.at_geojson.proofs.objects.texts.all_hold.Given as goal
 
 abbrev pub invariant-loop-test : goal.invariant-loop-test

@@ -1,5 +1,5 @@
 use Rattle.std.proofs.Common.{◌≡◌, take, flat_map}
-use Rattle.at_geojson.specs.TextTests.{pair_of}
+use Rattle.at_query.specs.TextTests.{pair_of}
 use Rattle.at_geojson.proofs.objects.texts.asked_pairs.Given as goal
 
 abbrev pub invariant-loop-test : goal.invariant-loop-test

@@ -1,6 +1,6 @@
 use Rattle.std.proofs.Common.{◌≡◌, drop}
 use Rattle.std.specs.List.{list_any}
-use Rattle.at_geojson.specs.TextTests.{wants_name}
+use Rattle.at_query.specs.TextTests.{wants_name}
 use Rattle.at_geojson.proofs.objects.texts.asks_name.Given as goal
 
 abbrev pub invariant-loop-test : goal.invariant-loop-test

@@ -1,5 +1,5 @@
 use Rattle.std.proofs.Common.{[], sym, ◌∙◌}
-use Rattle.at_geojson.proofs.TextReads.{all_met_is, none_met}
+use Rattle.at_query.proofs.TextCounts.{all_met_is, none_met}
 use Rattle.at_geojson.proofs.at_once.features.FeatureMembers.none.Goals as goal
 
 pub returns-clause-hold : goal.returns-clause-hold

@@ -1,4 +1,4 @@
--- Tests on texts, and how many of them the texts of an object meet. Only contracts of private functions cite this.
+-- Tests on texts, and how many of them texts meet. Only contracts of private functions cite this.
 use Rattle.std.specs.Prelude.{ℕ, Bool, true, false, bytes_eq, List, [], ◌∷◌, Option, Some, None, count_by}
 use Rattle.std.specs.List.{list_all}
 use Rattle.at_query.specs.declared.query.queries.Test.{Test}
