@@ -1,6 +1,6 @@
 -- Arrays whose items are not all of one sort, some of which may stand for several values.
 -- For `add`, `array` and `value`.
-use Rattle.std.proofs.Common.{◌≡◌, ◌≢◌, inl, inr, ℕ, suc, ◌≤◌, ◌==◌, min, fold, Bool, true, false, ◌&&◌, List, [], ◌∷◌, ◌++◌, Option, Some, None, refl, sym, ◌∙◌, ap, subst, append-nil, append_assoc, option_map, option_and_then, arith}
+use Rattle.std.proofs.Common.{◌≡◌, ◌≢◌, length, inl, inr, ℕ, suc, ◌≤◌, ◌==◌, min, fold, Bool, true, false, ◌&&◌, List, [], ◌∷◌, ◌++◌, Option, Some, None, refl, sym, ◌∙◌, ap, subst, append-nil, append_assoc, option_map, option_and_then, arith}
 use Rattle.std.specs.List.{list_all, list_any}
 use Rattle.std.proofs.Math.Nat.{min-eq_left}
 use Rattle.std.proofs.lemmas.Bool.{true≢false, or_parts}
@@ -17,7 +17,8 @@ use Rattle.at_geojson.specs.Roles.{items_reading}
 use Rattle.at_geojson.specs.Atoms.{twin_of, at_of, no_roles, ListsView, lists_view, TrackView, track_view, as_number, as_position, as_points, as_area, Alike, HasShape, HasPart, items_features, IsPosition, IsPoints, IsNumber, IsArea, AreSeries, AreTracked, IsRead, IsRun, IsFold, HaveItems}
 use Rattle.at_wkt.specs.Positions.{Position, Positions}
 use Rattle.at_geojson.specs.Gathering.{firsts, rank, sort_of, are_all, sort_of_all, is_object, least_of, item_geometries, item_features, JoinsShapes, JoinsFound}
-use Rattle.at_geojson.specs.Arrays.{MakesItems}
+use Rattle.at_geojson.specs.declared.atoms.atom.OtherAtom.{OtherAtom}
+use Rattle.at_geojson.specs.Arrays.{MakesItems, ClosesItems}
 use Rattle.at_geojson.specs.Series.{is_list}
 use Rattle.at_geojson.specs.Tracks.{is_position}
 use Rattle.at_geojson.proofs.SortFacts.{is_number as number_sort, is_position as position_sort, is_points as points_sort, is_area as area_sort, no_other}
@@ -171,3 +172,9 @@ module _ (asked : Asked) where
       record { twins = made_twin at (a ∷ aa) r m ∙ (sym n ∙ twins_runs asked (a ∷ aa) ts h); read = λ _. made_read at a aa r ts read (mixed_form at (a ∷ aa) ts read none) m } where
         none : (k : ℕ) → are_all (suc k) (a ∷ aa) ≡ false
         none k = no_other (suc k) a aa (λ q. let z : 0 ≡ suc k = sym e ∙ q in omega (arith, z))
+
+  -- an array of one such array
+  pub one_other : (at : ℕ) (x : OtherAtom) → ClosesItems asked at (atoms.Other x ∷ []) (atoms.Other (record { at = at; least = x.at }))
+  one_other at x =
+      let e : x.at ≡ least_of (atoms.Other x ∷ []) = omega arith in
+      mixed_folds at (atoms.Other x ∷ []) (atoms.Other (record { at = at; least = x.at })) (λ q. absurd (omega (arith, ap length q))) refl refl (inl (refl, ap (λ n. atoms.Other (record { at = at; least = n })) e))

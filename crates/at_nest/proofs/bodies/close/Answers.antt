@@ -14,9 +14,9 @@ closed-requires-clause-own g c κs within = innermost_own (g.A.Algebra.is_own c.
 
 pub returns-in-None : goal.returns-in-None
 returns-in-None g c = let own = g.A.Algebra.is_own c.args.algebra.now in let fold = g.A.Algebra.is_fold c.args.algebra.now in let run = g.A.Algebra.is_run c.args.algebra.now in
-    IfOk-weaker c.keep_close.result _ _
-    (λ r d. pushes_same (OwnAtom own fold run) (shown c.args.body.now) (shown c.innermost.new.self) (shown c.keep_close.new.body) r (closes c.args.bracket c.args.at) c.innermost.ensures.outer (c.in-None.ensures.levels.1 ∙ sym c.in-None.ensures.levels.0) d)
-    c.keep_close.ensures
+    IfOk-weaker c.keep_close-in-None.result _ _
+    (λ r d. pushes_same (OwnAtom own fold run) (shown c.args.body.now) (shown c.innermost.new.self) (shown c.keep_close-in-None.new.body) r (closes c.args.bracket c.args.at) c.innermost.ensures.outer (c.in-None.ensures.levels.1 ∙ sym c.in-None.ensures.levels.0) d)
+    c.keep_close-in-None.ensures
 
 pub read_value-requires-clause-held : goal.read_value-requires-clause-held
 read_value-requires-clause-held g c κs within = let own = g.A.Algebra.is_own c.args.algebra.now in let fold = g.A.Algebra.is_fold c.args.algebra.now in let run = g.A.Algebra.is_run c.args.algebra.now in

@@ -1,7 +1,7 @@
 -- Between objects: those before are a run.
 use Rattle.std.proofs.Common.{◌-◌, length}
+use Rattle.at_geojson.specs.declared.atoms.atom.GeoAtom.TheVariants as atoms
 use Rattle.at_geojson.specs.FeatureRuns.{AreItemsWhole}
-use Rattle.at_geojson.proofs.FeatureJoins.{run_to}
 use Rattle.at_geojson.proofs.at_once.object_runs.objects_behind.Given as goal
 
 abbrev pub invariant-objects : goal.invariant-objects
