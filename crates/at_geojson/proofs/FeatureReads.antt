@@ -1,6 +1,6 @@
 -- Objects that are read at once, of whose members no atom is made: what is told of them is what the fields and the texts of
 -- their atoms say. For `value` and `items`.
-use Rattle.std.proofs.Common.{◌≡◌, inl, inr, ℕ, ◌+◌, ◌<◌, Bool, true, false, List, [], ◌∷◌, ◌++◌, length, slice_index, Option, Some, None, Result, Ok, refl, sym, ◌∙◌, ap, subst}
+use Rattle.std.proofs.Common.{◌≡◌, inl, inr, ℕ, ◌+◌, ◌<◌, true, false, List, [], ◌∷◌, ◌++◌, length, slice_index, Some, None, Ok, refl, sym, ◌∙◌, ap, subst}
 use Rattle.std.specs.List.{list_any}
 use denote.RawPtr.{null_ptr}
 use Rattle.std.proofs.lemmas.Bool.{true≢false}

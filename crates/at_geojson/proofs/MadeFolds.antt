@@ -34,9 +34,8 @@ use Rattle.at_geojson.specs.declared.coordinates.pairs.Row.{Row}
 use Rattle.at_wkt.specs.Positions.{Position}
 use Rattle.at_geojson.specs.Coordinates.{position_of}
 use Rattle.at_geojson.specs.Atoms.{to_four, IsFold, PositionView, Alike, IsPosition}
-use Rattle.at_geojson.specs.Gathering.{position_value}
 use Rattle.at_geojson.specs.Passing.{IsPairAt, pair_of, same_values}
-use Rattle.at_geojson.specs.Rows.{PointsRead, IsRow, ArePointsRead, ArePointsWhole}
+use Rattle.at_geojson.specs.Rows.{PointsRead, ArePointsRead}
 use Rattle.at_geojson.specs.Values.{IsSpacedPair}
 use Rattle.at_geojson.specs.Makings.{ReadsSpot, IsPassedOver, MakesLine, MakesLineItem, MakesLines, MakesLinesItem, polygon, MakesPolygons}
 use Rattle.at_geojson.specs.Rings.{ListsRead, AreLists, AreListsRead, AreListsWhole, AreAreas, AreAreasRead, AreAreasWhole}

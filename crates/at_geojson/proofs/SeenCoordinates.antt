@@ -1,5 +1,5 @@
 -- Coordinates of which something is made as they are read: what is seen of it is seen of the shape that would be read. For `coordinates`.
-use Rattle.std.proofs.Common.{◌≡◌, ℕ, ◌<◌, ◌≤◌, Bool, List, [], ◌∷◌, length, Option, Some, None, Result, Ok, Err, refl, sym, ◌∙◌, ap, subst, arith}
+use Rattle.std.proofs.Common.{◌≡◌, ℕ, ◌<◌, ◌≤◌, Bool, List, [], ◌∷◌, length, Option, Some, None, Ok, refl, sym, ◌∙◌, ap, subst, arith}
 use Rattle.std.specs.Prelude.{◌^◌}
 use Rattle.std.specs.declared.alloc.Global.{Global}
 use Rattle.at_text.specs.declared.faults.Fault.{Fault}

@@ -1,32 +1,14 @@
 -- The part of a feature, by what is seen of its shape and by whether all tests on texts hold of its. For `value`.
-use Rattle.std.proofs.Common.{◌≡◌, inl, inr, ℕ, Bool, true, false, ◌&&◌, ◌||◌, bytes_eq, List, [], ◌∷◌, ◌++◌, flat_map, Option, Some, None, Result, Ok, Err, refl, sym, ◌∙◌, ap, subst, append-nil}
-use Rattle.std.specs.Prelude.{IsTrue}
-use Rattle.std.specs.List.{AllByRecursion, list_any}
-use Rattle.std.proofs.lemmas.Bool.{true≢false, and_parts, and_from, or_left, or_right}
-use Rattle.std.proofs.lemmas.Option.{same_Some}
-use Rattle.std.proofs.lemmas.Slice.Eq.{bytes_eq-Decides}
-use Rattle.std.proofs.lemmas.List.Concat.{flat_map-cons}
-use Rattle.std.proofs.lemmas.List.Folds.{list_any-append}
+use Rattle.std.proofs.Common.{◌≡◌, ℕ, Bool, true, false, List, [], ◌∷◌, flat_map, Option, Some, None, Result, Ok, Err, refl, sym, subst}
 use Rattle.at_text.specs.declared.faults.Fault.{Fault}
 use Rattle.at_geom.specs.declared.shapes.Shape.{Shape}
-use Rattle.at_geom.specs.Shapes.{positions, extent_of}
 use Rattle.at_query.specs.declared.query.queries.Query.{Query}
-use Rattle.at_query.specs.declared.query.queries.Test.{Test}
-use Rattle.at_query.specs.declared.query.queries.Test.TheVariants.{InBox, MeetsShape, Has}
-use Rattle.at_query.specs.declared.query.queries.Verb.{Verb}
-use Rattle.at_query.specs.declared.query.queries.Verb.TheVariants as verbs
 use Rattle.at_query.specs.declared.features.Feature.{Feature}
 use Rattle.at_query.specs.declared.features.TextPair.{TextPair}
 use Rattle.at_query.specs.declared.answer.parts.Part.{Part}
 use Rattle.at_query.specs.declared.answer.parts.Part.TheVariants as parts
-use Rattle.at_query.specs.Holding.{has_text, TestHolds, Holds}
-use Rattle.at_query.specs.Parts.{wrapped_sum, IsHullInRange, IsKeptOf, IsPart}
-use Rattle.at_query.specs.Results.{all_positions, all_polygons}
-use Rattle.at_query.proofs.KeptLists.{keeps_one}
-use Rattle.at_query.specs.declared.query.looks.Measure.{Measure}
-use Rattle.at_query.specs.declared.query.looks.Measure.TheVariants as measures
-use Rattle.at_query.specs.Keeping.{Asked, looks_at_shapes, wants_pair, asks_pair, measured_by, measure_of, selects}
-use Rattle.at_query.specs.Tallies.{IsPartOfShape}
+use Rattle.at_query.specs.Parts.{IsPart}
+use Rattle.at_query.specs.Keeping.{Asked, selects}
 use Rattle.at_query.specs.TextTests.{texts_hold, pair_of}
 use Rattle.at_query.proofs.TextsHold.{measured_part, offset_part, asked_part}
 use Rattle.at_geojson.specs.declared.atoms.atom.GeoAtom.{GeoAtom}

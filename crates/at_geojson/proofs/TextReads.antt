@@ -1,15 +1,15 @@
 -- How many tests on texts the texts of an object meet: so many of each member's are counted as it is read. For `value`.
-use Rattle.std.proofs.Common.{◌≡◌, ◌≢◌, ℕ, suc, ◌+◌, ◌<◌, ◌≤◌, ◌==◌, Bool, true, false, ◌&&◌, ◌||◌, if◌then◌else◌, cond, bytes_eq, List, [], ◌∷◌, ◌++◌, length, Option, Some, None, refl, sym, ◌∙◌, ap, arith, append_assoc}
-use Rattle.std.specs.List.{list_all, list_any, sum_by, count_by}
+use Rattle.std.proofs.Common.{◌≡◌, ℕ, ◌+◌, Bool, true, false, ◌&&◌, ◌||◌, if◌then◌else◌, bytes_eq, List, [], ◌∷◌, ◌++◌, Option, Some, None, refl, sym, ◌∙◌, ap, append_assoc}
+use Rattle.std.specs.List.{count_by}
 use Rattle.std.proofs.Math.Bool.{or-false}
-use Rattle.std.proofs.lemmas.Bool.{true≢false, eqb-true, eq-eqb, and_parts}
+use Rattle.std.proofs.lemmas.Bool.{true≢false, and_parts}
 use Rattle.std.proofs.lemmas.Slice.Eq.{bytes_eq-Decides}
 use Rattle.at_nest.specs.declared.algebra.Member.{Member}
 use Rattle.at_query.specs.declared.query.queries.Test.{Test}
-use Rattle.at_query.specs.declared.query.queries.Test.TheVariants.{InBox, MeetsShape, Has}
+use Rattle.at_query.specs.declared.query.queries.Test.TheVariants.{Has}
 use Rattle.at_query.specs.declared.features.TextPair.{TextPair}
 use Rattle.at_query.specs.Holding.{has_text}
-use Rattle.at_query.specs.Keeping.{looks_at_texts, text_tests, wants_pair, asks_value, asks_pair}
+use Rattle.at_query.specs.Keeping.{wants_pair, asks_value, asks_pair}
 use Rattle.at_query.specs.TextTests.{met_of, is_met, met_by}
 use Rattle.at_query.proofs.QueryFacts.{no_value}
 use Rattle.at_query.proofs.TextCounts.{neither, same_eq, count_none, count_same, count_both, none_met, pair_meets, met_both}

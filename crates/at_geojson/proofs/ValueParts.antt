@@ -16,7 +16,7 @@ use Rattle.at_fixed.specs.declared.rounding.FixedFault.TheVariants.{Scale, Range
 use Rattle.at_fixed.specs.NumberSoFar.{between}
 use Rattle.at_fixed.specs.Numerals.{Numeral, JsonNumber}
 use Rattle.at_fixed.specs.Fixed.{IsFixedOf, fixed_of}
-use Rattle.at_fixed.proofs.DigitParts.{part-length}
+use Rattle.at_fixed.proofs.DigitParts.{part-none, part-length}
 use Rattle.at_lex.specs.Strings.{Character, AreCharacters, string_text as characters_text, JsonString, SpellsString, AreUnitsOf, units_of}
 use Rattle.at_lex.specs.Runs.{JsonRun, Literal, the_null, the_true, the_false, literal_text}
 use Rattle.at_lex.specs.Spans.{AreSpaces}
