@@ -4,7 +4,7 @@ pub mod SimpleTexts
 pub mod ShortStrings
 pub mod FieldNames
 pub mod KnownNames
-pub mod Tags
+pub mod Marks
 pub mod OtherNamesMore
 pub mod Repeats
 pub mod Moved

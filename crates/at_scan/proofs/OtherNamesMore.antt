@@ -1,5 +1,5 @@
 -- One more name behind those of members for which no kind asks.
-use Rattle.std.proofs.Common.{◌≡◌, ℕ, zero, suc, ◌+◌, ◌-◌, ◌<◌, ◌≤◌, Bool, true, false, ◌||◌, bytes_eq, List, [], ◌∷◌, ◌++◌, All, length, map, take, get_or, refl, sym, ◌∙◌, ap, subst, arith}
+use Rattle.std.proofs.Common.{◌≡◌, ℕ, zero, suc, ◌+◌, ◌-◌, ◌<◌, ◌≤◌, Bool, true, false, ◌||◌, bytes_eq, List, [], ◌∷◌, ◌++◌, All, length, take, get_or, refl, sym, ◌∙◌, ap, subst, arith}
 use Rattle.std.proofs.Math.Bool.{or-false}
 use Rattle.std.proofs.Math.Seq.{take-length, take-append-add, take-append_seam, drop-append_seam, take-nil}
 use Rattle.std.proofs.lemmas.List.{append_assoc, append-nil, length-append, length-take-le, take_more}
@@ -10,8 +10,7 @@ use Rattle.at_scan.specs.declared.members.FieldName.{FieldName}
 use Rattle.at_scan.specs.declared.members.OtherName.{OtherName}
 use Rattle.at_scan.specs.declared.members.OtherNames.{OtherNames}
 use Rattle.at_scan.specs.Fields.{is_no_field}
-use Rattle.at_scan.specs.Members.{name_in, name_tag, IsPlainName, IsOtherName, is_named_among, known_in, is_among_others, AreUnlike, ArePlaced, ArePlainOthers, IsNextName, AreCut, AddsOther, AddsName, IsNextField}
-use Rattle.at_scan.proofs.Tags.{tags_cut}
+use Rattle.at_scan.specs.Members.{name_in, IsPlainName, IsOtherName, is_named_among, known_in, is_among_others, AreUnlike, ArePlaced, ArePlainOthers, IsNextName, AreShortened, AreCut, AddsOther, AddsName, IsNextField}
 
 -- ---- the known names
 
@@ -27,8 +26,8 @@ known_len others len h =
     length-append (take others.placed others.near) others.far.items ∙ ap (λ n. n + length others.far.items) (length-take-le others.placed others.near few)
 
 -- those in memory are cut
-pub cut_far : (old new : OtherNames) → length old.near ≡ 8 → ArePlaced old → old.placed ≤ old.count → new.count ≡ old.count → new.placed ≡ old.placed → new.near ≡ old.near → new.far.items ≡ take (old.count - old.placed) old.far.items → new.tags.items ≡ take (old.count - old.placed) old.tags.items → AreCut old new
-cut_far old new len h less ec ep en ef et =
+pub cut_far : (old new : OtherNames) → length old.near ≡ 8 → ArePlaced old → old.placed ≤ old.count → new.count ≡ old.count → new.placed ≡ old.placed → new.near ≡ old.near → new.far.items ≡ take (old.count - old.placed) old.far.items → AreShortened old new
+cut_far old new len h less ec ep en ef =
     let few : old.placed ≤ length old.near = subst (λ n. old.placed ≤ n) (sym len) h.few in
     let front = take old.placed old.near in
     let long : length front ≡ old.placed = length-take-le old.placed old.near few in
@@ -37,11 +36,8 @@ cut_far old new len h less ec ep en ef et =
       count = ec;
       known = ap (λ n. take n new.near ++ new.far.items) ep ∙ (ap (λ ns. take old.placed ns ++ new.far.items) en ∙ (ap (λ ns. front ++ ns) ef
           ∙ (sym (take-append-add front old.far.items (old.count - old.placed)) ∙ ap (λ n. take n (front ++ old.far.items)) count)));
-      placed = record {
-        few = subst (λ n. n ≤ 8) (sym ep) h.few;
-        full = λ room. ef ∙ (ap (take (old.count - old.placed)) (h.full (subst (λ n. n < 8) ep room)) ∙ take-nil (old.count - old.placed));
-        tags = et ∙ (tags_cut old.tags.items old.far.items (old.count - old.placed) h.tags ∙ ap (map name_tag) (sym ef));
-      };
+      few = subst (λ n. n ≤ 8) (sym ep) h.few;
+      full = λ room. ef ∙ (ap (take (old.count - old.placed)) (h.full (subst (λ n. n < 8) ep room)) ∙ take-nil (old.count - old.placed));
     }
 
 module _ (w : List ℕ) where

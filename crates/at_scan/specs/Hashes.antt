@@ -1,5 +1,7 @@
 -- Hashes of names, by which equal names are looked for.
-use Rattle.std.specs.Prelude.{ℕ, ◌+◌, ◌-◌, ◌*◌, ◌%◌, ◌^◌, ◌≤◌, ◌==◌, List, length, drop, fold, count_by, Contains}
+use Rattle.std.specs.Prelude.{ℕ, ◌+◌, ◌-◌, ◌*◌, ◌%◌, ◌^◌, ◌≤◌, ◌==◌, List, length, drop, fold, count_by, Contains, if◌then◌else◌}
+use Rattle.std.specs.Bool.{nat_lt}
+use Rattle.std.specs.Int.{from_le_bytes, w64}
 use Rattle.std.specs.List.Sorted.{IsNonDecreasing}
 use Rattle.at_scan.specs.declared.hashes.TheConstants.{SPREAD}
 
@@ -11,9 +13,10 @@ hash_more hash unit = ((hash + unit) % 2 ^ 64 * SPREAD) % 2 ^ 64
 unfoldable pub name_hash : List ℕ → ℕ
 name_hash name = fold hash_more 1 name
 
--- the hash of the last bytes of a name
+-- the hash of a name in ASCII: of its last eight bytes, where it has so many
 abbrev pub tail_hash : List ℕ → ℕ
-tail_hash name = name_hash (drop (length name - 8) name)
+tail_hash name = if nat_lt (length name) 8 then name_hash name
+    else (from_le_bytes w64 (drop (length name - 8) name) * SPREAD) % 2 ^ 64
 
 -- how often a number stands in a list
 abbrev pub times : ℕ → List ℕ → ℕ

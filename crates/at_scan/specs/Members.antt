@@ -1,7 +1,8 @@
 -- The names of an object's members, at their places.
-use Rattle.std.specs.Prelude.{◌≡◌, ℕ, ◌+◌, ◌-◌, ◌/◌, ◌^◌, ◌<◌, ◌≤◌, Bool, true, false, ◌||◌, bytes_eq, List, [], ◌∷◌, ◌++◌, All}
-use Rattle.std.specs.Prelude.{length, map, take, drop, get_or}
+use Rattle.std.specs.Prelude.{◌≡◌, ℕ, ◌+◌, ◌-◌, ◌/◌, ◌%◌, ◌^◌, ◌<◌, ◌≤◌, Bool, true, false, ◌||◌, bytes_eq, List, [], ◌∷◌, ◌++◌, All}
+use Rattle.std.specs.Prelude.{length, take, drop, get_or, slice_index}
 use Rattle.std.specs.Bool.{⊤}
+use Rattle.std.specs.Int.{bit_at}
 use Rattle.std.specs.List.{list_any}
 use Rattle.at_fixed.specs.NumberSoFar.{between}
 use Rattle.at_lex.specs.Strings.{AreUnitsOf}
@@ -30,9 +31,13 @@ pub record IsOtherName (w : List ℕ) (n : OtherName) : Type 0 where
   pub plain : IsPlainName w n.place
   pub hash : n.hash ≡ tail_hash (name_in w n.place)
 
--- the tag of a name: the highest byte of its hash
-abbrev pub name_tag : OtherName → ℕ
-name_tag n = n.hash / 2 ^ 56
+-- the bit that marks a name: the highest bits of its hash
+abbrev pub name_mark : OtherName → ℕ
+name_mark n = n.hash / 2 ^ 52
+
+-- the name's bit is set
+abbrev pub IsMarked : List ℕ → OtherName → Type 0
+IsMarked marks n = bit_at (slice_index marks (name_mark n / 64)) (name_mark n % 64) ≡ 1
 
 abbrev pub is_named_among : List ℕ → List OtherName → List ℕ → Bool
 is_named_among w names name = list_any (λ (n : OtherName). bytes_eq name (name_in w n.place)) names
@@ -50,11 +55,11 @@ abbrev pub AreUnlike : List ℕ → List OtherName → List OtherName → Type 0
 AreUnlike w before [] = ⊤
 AreUnlike w before (n ∷ ns) = (is_named_among w before (name_in w n.place) ≡ false) × AreUnlike w (before ++ n ∷ []) ns
 
--- names stand in memory only where no more of them have a place, each with its tag
+-- names stand in memory only where no more of them have a place, and each known name is marked
 pub record ArePlaced (others : OtherNames) : Type 0 where
   pub few : others.placed ≤ 8
   pub full : others.placed < 8 → others.far.items ≡ []
-  pub tags : others.tags.items ≡ map name_tag others.far.items
+  pub marked : All (IsMarked others.marks) (known_in others)
 
 pub record ArePlainOthers (w : List ℕ) (others : OtherNames) : Type 0 where
   pub placed : ArePlaced others
@@ -75,11 +80,27 @@ pub record IsExpected (others : OtherNames) (n : OtherName) : Type 0 where
 abbrev pub IsNextName : List ℕ → OtherNames → NamePlace → Type 0
 IsNextName w others n = (known : OtherName) × IsExpected others known × (name_in w n ≡ name_in w known.place)
 
+-- no names are known but the object's own, whatever the marks
+pub record AreShortened (old new : OtherNames) : Type 0 where
+  pub count : new.count ≡ old.count
+  pub known : known_in new ≡ take old.count (known_in old)
+  pub few : new.placed ≤ 8
+  pub full : new.placed < 8 → new.far.items ≡ []
+
 -- no names are known but the object's own
 pub record AreCut (old new : OtherNames) : Type 0 where
   pub count : new.count ≡ old.count
   pub known : known_in new ≡ take old.count (known_in old)
   pub placed : ArePlaced new
+
+-- one more name is known, and the marks are the same
+pub record KeepsName (n : OtherName) (old new : OtherNames) : Type 0 where
+  pub count : new.count ≡ old.count
+  pub known : known_in new ≡ known_in old ++ n ∷ []
+  pub marks : new.marks ≡ old.marks
+  pub few : new.placed ≤ 8
+  pub full : new.placed < 8 → new.far.items ≡ []
+  pub most : length new.far.items ≤ 248
 
 -- one more name is known and is the object's
 pub record AddsOther (n : OtherName) (old new : OtherNames) : Type 0 where

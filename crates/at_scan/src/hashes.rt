@@ -22,17 +22,23 @@ pub fn hash_of(name: &[u16]) -> u64
     hash
 }
 
-/// So many bytes at the end of a name tell most names apart.
-const TAIL: usize = 8;
-
-/// The hash of the last bytes of a name in ASCII.
+/// The hash of a name in ASCII: of its last eight bytes, where it has so many.
 #[inline(always)]
 pub fn hash_of_tail(name: &[u8]) -> u64
     ensures { result ≡ tail_hash name.now }
 {
-    let tail = &name[name.len().saturating_sub(TAIL)..];
+    match name.last_chunk::<8>() {
+        Some(tail) => u64::from_le_bytes(*tail).wrapping_mul(SPREAD),
+        None => hash_of_few(name),
+    }
+}
+
+/// The hash of a short name in ASCII.
+fn hash_of_few(name: &[u8]) -> u64
+    ensures { result ≡ name_hash name.now }
+{
     let mut hash: u64 = 1;
-    for byte in tail {
+    for byte in name {
         hash = hash.wrapping_add(u64::from(*byte)).wrapping_mul(SPREAD);
     }
     hash

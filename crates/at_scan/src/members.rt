@@ -1,12 +1,14 @@
 //! The members of an object whose names are plain, read without a copy of a name.
 
-ghost use Rattle.std.specs.Prelude.{◌≡◌, ℕ, List, ◌-◌, ◌≤◌, ◌^◌, All, bytes_eq, true, false, length, map, IfOk, IfSome};
+ghost use Rattle.std.specs.Prelude.{◌≡◌, ◌↔◌, ℕ, List, ◌-◌, ◌<◌, ◌≤◌, ◌^◌, All, bytes_eq, true, false, length};
+ghost use Rattle.std.specs.Prelude.{IfOk, IfSome, IsTrue};
 ghost use Rattle.at_fixed.specs.NumberSoFar.{between};
 ghost use Rattle.at_lex.specs.Spans.{AreSpaces};
 ghost use Rattle.at_scan.specs.Places.{IsNameAt, IsSimpleTextAt};
 ghost use Rattle.at_scan.specs.Fields.{field_of, is_no_field};
-ghost use Rattle.at_scan.specs.Members.{name_in, name_tag, IsPlainName, is_named_among, is_among_others, ArePlainOthers};
-ghost use Rattle.at_scan.specs.Members.{known_in, ArePlaced, ArePlainNames, IsExpected, IsNextName, AreCut};
+ghost use Rattle.at_scan.specs.Members.{name_in, name_mark, IsMarked, IsPlainName, is_named_among, is_among_others, ArePlainOthers};
+ghost use Rattle.at_scan.specs.Members.{known_in, ArePlaced, ArePlainNames, IsExpected, IsNextName, AreShortened};
+ghost use Rattle.at_scan.specs.Members.{AreCut, KeepsName};
 ghost use Rattle.at_scan.specs.Members.{AddsName, from_name, IsAgain, IsNextField, IsOtherName, AddsOther};
 ghost use Rattle.at_scan.specs.KnownNames.{StandsWord, IsFieldName};
 
@@ -16,7 +18,6 @@ use crate::known_names::{known_name, stands_word};
 use crate::places::{NamePlace, ended_name, name_place, skip_spaces};
 use crate::short_texts::{LANES, is_simple, short_text_end};
 use at_text::Halt;
-use memchr::memchr;
 use std::alloc::Global;
 
 /// So many names of members for which no kind asks are kept in place.
@@ -24,6 +25,9 @@ const NEAR: usize = 8;
 
 /// So many more of them are kept at the most.
 const MOST: usize = 248;
+
+/// So many words of bits mark the names that are known.
+const MARKS: usize = 64;
 
 /// The name of a member for which no kind asks, with the hash of its last bytes.
 #[derive(Clone, Copy)]
@@ -34,7 +38,7 @@ pub struct OtherName {
 
 /// The names of an object's members for which no kind asks: the first of those that are known. Those behind them are
 /// names of the object before it, which are expected in the same order. The first few known names stand in place, and
-/// the others in memory.
+/// the others in memory. A name without a mark is none of them.
 #[derive(Drop)]
 pub struct OtherNames {
     /// So many of the known names are the object's.
@@ -43,8 +47,7 @@ pub struct OtherNames {
     pub placed: usize,
     pub near: [OtherName; NEAR],
     pub far: Vec<OtherName>,
-    /// The tag of each name in memory.
-    pub tags: Vec<u8>,
+    pub marks: [u64; MARKS],
 }
 
 /// The names of members for which no kind asks, of a feature and of its properties. Tables repeat them.
@@ -108,31 +111,46 @@ fn is_among(text: &[u8], names: &[OtherName], name: OtherName) -> bool
     false
 }
 
-/// The tag of a name: a byte of its hash.
+/// The bit that marks a name: the highest bits of its hash.
 #[inline(always)]
-fn tag_of(name: OtherName) -> u8
-    ensures { result ≡ name_tag name }
+fn mark_of(name: OtherName) -> usize
+    ensures mark { result ≡ name_mark name }
+    ensures below { result < 4096 }
 {
-    (name.hash >> 56) as u8
+    (name.hash >> 52) as usize
 }
 
-/// Whether a name is among others, of which only those that have its tag are compared.
-fn is_among_tagged(text: &[u8], names: &[OtherName], tags: &[u8], name: OtherName) -> bool
-    requires names { All (IsOtherName text.now) names.now }
-    requires tags { tags.now ≡ map name_tag names.now }
-    requires name { IsOtherName text.now name }
-    ensures { result ≡ is_named_among text.now names.now (name_in text.now name.place) }
+/// Whether a name is marked.
+#[inline(always)]
+fn is_marked(marks: &[u64], name: OtherName) -> bool
+    requires { length marks.now ≡ 64 }
+    ensures { IsTrue result ↔ IsMarked marks.now name }
 {
-    let tag = tag_of(name);
-    let mut from = 0;
-    'tags: while let Some(more) = memchr(tag, &tags[from..]) {
-        let at = from + more;
-        if is_name(text, name, names[at]) {
-            return true;
-        }
-        from = at + 1;
+    let mark = mark_of(name);
+    (marks[mark / 64] >> (mark % 64)) & 1 == 1
+}
+
+/// Marks a name.
+#[inline(always)]
+fn mark(marks: &mut [u64], name: OtherName)
+    requires { length marks.old ≡ 64 }
+    ensures len { length marks.new ≡ 64 }
+    ensures name { IsMarked marks.new name }
+    ensures keeps { (n : OtherName) → IsMarked marks.old n → IsMarked marks.new n }
+{
+    let mark = mark_of(name);
+    marks[mark / 64] |= 1 << (mark % 64);
+}
+
+/// Marks names.
+fn mark_all(marks: &mut [u64], names: &[OtherName])
+    requires { length marks.old ≡ 64 }
+    ensures names { All (IsMarked marks.new) names.now }
+    ensures keeps { (n : OtherName) → IsMarked marks.old n → IsMarked marks.new n }
+{
+    for name in names {
+        mark(marks, *name);
     }
-    false
 }
 
 /// White space, a name in which each byte stands for the unit of its own number, white space and a colon.
@@ -165,15 +183,16 @@ fn short_name(text: &[u8], at: usize, first: usize, end: usize) -> Result<NamePl
     Ok(name)
 }
 
-/// A name as of `long_name`, whose bytes are looked at together where it is short.
+/// A name as of `long_name` behind white space, whose bytes are looked at together where it is short.
 #[inline(always)]
-fn plain_name(text: &[u8], at: usize) -> Result<NamePlace, Halt>
-    requires inside { at ≤ length text.now }
+fn plain_name(text: &[u8], at: usize, first: usize) -> Result<NamePlace, Halt>
+    requires order { at ≤ first }
+    requires within { first ≤ length text.now }
+    requires spaces { AreSpaces (between text.now at first) }
     requires short { length text.now ≤ 2 ^ 28 }
     ensures place { IfOk result (IsNameAt text.now at) }
     ensures plain { IfOk result (IsPlainName text.now) }
 {
-    let first = skip_spaces(text, at);
     match short_text_end(text, first) {
         Some(end) => short_name(text, at, first, end),
         None => long_name(text, at),
@@ -200,7 +219,7 @@ impl OtherNames {
                 hash: 0,
             }; NEAR],
             far: Vec::new(alloc),
-            tags: Vec::new(alloc),
+            marks: [0; MARKS],
         }
     }
 
@@ -228,55 +247,103 @@ impl OtherNames {
         }
     }
 
-    /// Forgets the names that are expected.
-    fn cut(&mut self)
+    /// How many names are known.
+    #[inline(always)]
+    fn known(&self) -> usize
+        requires { ArePlaced self.now }
+        ensures { result ≡ length (known_in self.now) }
+    {
+        self.placed + self.far.len()
+    }
+
+    /// Takes the names away that are expected.
+    fn shorten(&mut self)
         requires { ArePlaced self.old }
-        ensures { AreCut self.old self.new }
+        ensures { AreShortened self.old self.new }
     {
         if self.count < self.placed {
             self.placed = self.count;
             self.far.truncate(0);
-            self.tags.truncate(0);
         } else {
             self.far.truncate(self.count - self.placed);
-            self.tags.truncate(self.count - self.placed);
+        }
+    }
+
+    /// Marks the known names, and no others.
+    fn mark_known(&mut self)
+        requires { self.old.placed ≤ 8 }
+        ensures count { self.new.count ≡ self.old.count }
+        ensures placed { self.new.placed ≡ self.old.placed }
+        ensures known { known_in self.new ≡ known_in self.old }
+        ensures far { self.new.far ≡ self.old.far }
+        ensures marked { All (IsMarked self.new.marks) (known_in self.new) }
+    {
+        self.marks = [0; MARKS];
+        mark_all(&mut self.marks, &self.near[..self.placed]);
+        mark_all(&mut self.marks, self.far.as_slice());
+    }
+
+    /// Forgets the names that are expected.
+    fn forget(&mut self)
+        requires { ArePlaced self.old }
+        ensures { AreCut self.old self.new }
+    {
+        self.shorten();
+        self.mark_known();
+    }
+
+    /// Forgets the names that are expected, where there are some.
+    #[inline(always)]
+    fn cut(&mut self)
+        requires placed { ArePlaced self.old }
+        requires known { self.old.count ≤ length (known_in self.old) }
+        ensures { AreCut self.old self.new }
+    {
+        if self.count < self.known() {
+            self.forget();
         }
     }
 
     /// Whether a name is among the known ones.
+    #[inline(always)]
     fn knows(&self, text: &[u8], name: OtherName) -> bool
         requires placed { ArePlaced self.now }
         requires names { All (IsOtherName text.now) (known_in self.now) }
         requires name { IsOtherName text.now name }
         ensures { result ≡ is_named_among text.now (known_in self.now) (name_in text.now name.place) }
     {
-        if is_among(text, &self.near[..self.placed], name) {
-            return true;
-        }
-        if self.far.is_empty() {
-            return false;
-        }
-        is_among_tagged(text, self.far.as_slice(), self.tags.as_slice(), name)
+        is_marked(&self.marks, name)
+            && (is_among(text, &self.near[..self.placed], name)
+                || is_among(text, self.far.as_slice(), name))
     }
 
-    /// One more name, unless they are too many.
+    /// One more name in its place or in memory, unless they are too many.
     #[inline(always)]
-    fn push(&mut self, name: OtherName) -> Result<(), Halt>
-        requires placed { ArePlaced self.old }
-        requires known { self.old.count ≤ length (known_in self.old) }
-        ensures { IfOk result (λ _. AddsOther name self.old self.new) }
+    fn keep(&mut self, name: OtherName) -> Result<(), Halt>
+        requires { ArePlaced self.old }
+        ensures { IfOk result (λ _. KeepsName name self.old self.new) }
     {
         if self.placed < NEAR {
             self.near[self.placed] = name;
             self.placed += 1;
-            self.count += 1;
             return Ok(());
         }
         if self.far.len() >= MOST {
             return Err(Halt::At(name.place.end));
         }
         self.far.push(name)?;
-        self.tags.push(tag_of(name))?;
+        Ok(())
+    }
+
+    /// One more name, which is marked, unless they are too many.
+    #[inline(always)]
+    fn push(&mut self, name: OtherName) -> Result<(), Halt>
+        requires placed { ArePlaced self.old }
+        requires known { self.old.count ≤ length (known_in self.old) }
+        ensures { IfOk result (λ _. AddsOther name self.old self.new) }
+    {
+        self.keep(name)?;
+        mark(&mut self.marks, name);
         self.count += 1;
         Ok(())
     }
@@ -327,14 +394,31 @@ pub fn add_other(text: &[u8], others: &mut OtherNames, name: NamePlace) -> Resul
 
 /// The name of a member that isn't looked at as a whole word.
 #[inline(always)]
-fn any_name(text: &[u8], at: usize) -> Result<FieldName, Halt>
-    requires inside { at ≤ length text.now }
+fn any_name(text: &[u8], at: usize, first: usize) -> Result<FieldName, Halt>
+    requires order { at ≤ first }
+    requires within { first ≤ length text.now }
+    requires spaces { AreSpaces (between text.now at first) }
     requires short { length text.now ≤ 2 ^ 28 }
     ensures { IfOk result (IsFieldName text.now at) }
 {
-    let place = plain_name(text, at)?;
+    let place = plain_name(text, at, first)?;
     let field = field_named(&text[place.first + 1..place.end - 1]);
     Ok(FieldName { place, field })
+}
+
+/// The name of a member behind white space, as of `field_name`.
+#[inline(always)]
+fn name_behind(text: &[u8], at: usize, first: usize) -> Result<FieldName, Halt>
+    requires order { at ≤ first }
+    requires within { first ≤ length text.now }
+    requires spaces { AreSpaces (between text.now at first) }
+    requires short { length text.now ≤ 2 ^ 28 }
+    ensures { IfOk result (IsFieldName text.now at) }
+{
+    match known_name(text, at, first) {
+        Some(name) => Ok(name),
+        None => any_name(text, at, first),
+    }
 }
 
 /// The name of a member, which is plain.
@@ -347,10 +431,7 @@ pub fn field_name(text: &[u8], at: usize) -> Result<FieldName, Halt>
     ensures field { IfOk result (λ name. name.field ≡ field_of (name_in text.now name.place)) }
 {
     let first = skip_spaces(text, at);
-    match known_name(text, at, first) {
-        Some(name) => Ok(name),
-        None => any_name(text, at),
-    }
+    name_behind(text, at, first)
 }
 
 /// Whether the bytes of a name stand at another place, one by one.
@@ -438,7 +519,7 @@ pub fn next_name(text: &[u8], others: &mut OtherNames, at: usize) -> Result<Fiel
         others.count += 1;
         return Ok(name);
     }
-    let name = field_name(text, at)?;
+    let name = name_behind(text, at, first)?;
     if is_other(name.field) {
         add_other(text, others, name.place)?;
     }

@@ -10,7 +10,7 @@ returns-in-Some-clause-next c =
     record {
       other = λ _. (
         expected_new w old n c.requires.names next,
-        expected_adds w old (record { count = old.count + 1; placed = old.placed; near = old.near; far = old.far; tags = old.tags }) n next refl refl (λ h. record { few = h.few; full = h.full; tags = h.tags }),
+        expected_adds w old (record { count = old.count + 1; placed = old.placed; near = old.near; far = old.far; marks = old.marks }) n next refl refl (λ h. record { few = h.few; full = h.full; marked = h.marked }),
       );
       field = λ no. absurd (true≢false (sym c.in-Some.ensures.other ∙ no));
     }
