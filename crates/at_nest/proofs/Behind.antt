@@ -1,6 +1,6 @@
 -- What goes on behind a span, from the state in which it ends.
 -- For `merge`.
-use Rattle.std.proofs.Common.{◌≡◌, ◌≢◌, ℕ, ◌+◌, ◌-◌, ◌≤◌, ◌==◌, Bool, true, false, Option, Some, None, List, [], ◌∷◌, ◌++◌, refl, sym, ◌∙◌, ap, subst, arith, append_assoc, length, length-append, take, drop}
+use Rattle.std.proofs.Common.{◌≡◌, ◌≢◌, ℕ, ◌+◌, ◌-◌, ◌≤◌, ◌==◌, false, Option, Some, None, List, [], ◌∷◌, ◌++◌, refl, sym, ◌∙◌, ap, subst, arith, append_assoc, length, length-append, take, drop}
 use Rattle.std.proofs.lemmas.Bool.{ne_eqb}
 use Rattle.std.proofs.lemmas.List.{take-append-drop, take-take, drop-take, drop-drop, length-take-le, length-drop}
 use Rattle.at_text.specs.Spans.{span_of, AreNeighbours}
@@ -18,7 +18,7 @@ use Rattle.at_nest.specs.declared.variants.Variant.TheVariants.{AllLead, Whole, 
 use Rattle.at_nest.specs.KeptItems.{Content, IsPartOf}
 use Rattle.at_nest.specs.VariantMeanings.{HoldsVariant, HaveUnion}
 use Rattle.at_nest.specs.FragmentMeanings.{HoldsEscape, HoldsParts, HoldsSome, StandsFor, parts_of}
-use Rattle.at_nest.specs.Slots.{end_in, slot_in, IsSame, Stays, HoldsIn, CanTake, Takes, GoesOn, AreBeside}
+use Rattle.at_nest.specs.Slots.{end_in, slot_in, unless_taken, slot_behind, Stays, HoldsIn, CanTake, Takes, GoesOn, AreBeside}
 use Rattle.at_nest.proofs.UnionsHeld.{broken_union}
 use Rattle.at_nest.proofs.WholeTexts.{part_part}
 
@@ -71,7 +71,7 @@ module _ {X : Type 0} (IsKept : X → Content → Type 0) where
   from_state Out at x from to out string escape h k e f g = (slot.Out, refl, h)
   from_state InString at x from to out string escape h k e f g = (slot.String, refl, k)
   from_state InEscape at x from to out string AsString h k e f g = (slot.String, refl, as_string at x string e k)
-  from_state InEscape at x from to out string Unread h k e f g = (slot.Escape, refl, (refl, f, g))
+  from_state InEscape at x from to out string Unread h k e f g = (slot.Bytes InEscape, refl, (refl, f, g))
 
   wanted_from : (s : Start) (at : ℕ) (x : List ℕ) (right : Parts X) → HoldsParts IsKept at x right → (q : Slot) × (slot_in right.escape (Some s) ≡ Some q) × HoldsIn IsKept s at x right q
   wanted_from s at x right h = from_state s at x right.from right.to right.out right.string right.escape h.out h.string h.escape h.from h.to
@@ -87,16 +87,40 @@ module _ {X : Type 0} (IsKept : X → Content → Type 0) where
   goes_on bytes s at w x (Whole lead body pend end) right part h k = goes_from bytes s at w x (Whole lead body pend end) right end h.end_is part h k
   goes_on bytes s at w x (Broken lead body halt) right part h k = (h, refl)
 
-  -- ---- what another call left is as it was
+  -- ---- behind another variant that is taken, which is read again where both want it
 
-  still_in : (s : Start) (at : ℕ) (x : List ℕ) (old new : Parts X) (q : Slot) → IsSame old new q → HoldsIn IsKept s at x old q → HoldsIn IsKept s at x new q
-  still_in s at x old new slot.Escape same h = (h.0, same.0 ∙ h.1, same.1 ∙ h.2)
-  still_in s at x old new _ same h = subst (HoldsVariant IsKept s at x) (sym same) h
+  still_from : (taken : Option Slot) (s : Start) (at : ℕ) (x : List ℕ) (old new : Parts X) (wanted : Slot) → HoldsParts IsKept at x old → Stays taken old new → HoldsIn IsKept s at x old wanted → (q : Slot) × (unless_taken taken (Some wanted) (Some s) ≡ Some q) × HoldsIn IsKept s at x new q
+  still_from (Some slot.Out) s at x old new slot.Out held stays h = (slot.Bytes s, refl, (refl, stays.from ∙ held.from, stays.to ∙ held.to))
+  still_from (Some slot.String) s at x old new slot.String held stays h = (slot.Bytes s, refl, (refl, stays.from ∙ held.from, stays.to ∙ held.to))
+  still_from None s at x old new slot.Out held stays h = (slot.Out, refl, subst (HoldsVariant IsKept s at x) (sym (stays.out (λ e. absurd (cc)))) h)
+  still_from (Some slot.String) s at x old new slot.Out held stays h = (slot.Out, refl, subst (HoldsVariant IsKept s at x) (sym (stays.out (λ e. absurd (cc)))) h)
+  still_from (Some (slot.Bytes z)) s at x old new slot.Out held stays h = (slot.Out, refl, subst (HoldsVariant IsKept s at x) (sym (stays.out (λ e. absurd (cc)))) h)
+  still_from None s at x old new slot.String held stays h = (slot.String, refl, subst (HoldsVariant IsKept s at x) (sym (stays.string (λ e. absurd (cc)))) h)
+  still_from (Some slot.Out) s at x old new slot.String held stays h = (slot.String, refl, subst (HoldsVariant IsKept s at x) (sym (stays.string (λ e. absurd (cc)))) h)
+  still_from (Some (slot.Bytes z)) s at x old new slot.String held stays h = (slot.String, refl, subst (HoldsVariant IsKept s at x) (sym (stays.string (λ e. absurd (cc)))) h)
+  still_from None s at x old new (slot.Bytes q) held stays h = (slot.Bytes q, refl, (h.0, stays.from ∙ h.1, stays.to ∙ h.2))
+  still_from (Some slot.Out) s at x old new (slot.Bytes q) held stays h = (slot.Bytes q, refl, (h.0, stays.from ∙ h.1, stays.to ∙ h.2))
+  still_from (Some slot.String) s at x old new (slot.Bytes q) held stays h = (slot.Bytes q, refl, (h.0, stays.from ∙ h.1, stays.to ∙ h.2))
+  still_from (Some (slot.Bytes z)) s at x old new (slot.Bytes q) held stays h = (slot.Bytes q, refl, (h.0, stays.from ∙ h.1, stays.to ∙ h.2))
 
-  pub still_goes : (bytes : List ℕ) (s : Start) (at : ℕ) (w x : List ℕ) (left : Variant X) (old new : Parts X) (taken wanted : Option Slot) (again : Bool) → Stays taken again old new → (taken ≡ wanted → again ≡ true)
-      → GoesOn IsKept bytes s at w x left old wanted → GoesOn IsKept bytes s at w x left new wanted
-  still_goes bytes s at w x left old new taken None again stays same h = h
-  still_goes bytes s at w x left old new taken (Some q) again stays same h = (h.0, h.1, still_in (end_of s w) (at + length w) x old new q (stays q same) h.2)
+  none_behind : (e : Escape) (taken : Option Slot) → slot_behind e taken None ≡ None
+  none_behind e None = refl
+  none_behind e (Some slot.Out) = refl
+  none_behind e (Some slot.String) = refl
+  none_behind e (Some (slot.Bytes z)) = refl
+
+  behind_from : (bytes : List ℕ) (s : Start) (at : ℕ) (w x : List ℕ) (left : Variant X) (old new : Parts X) (taken : Option Slot) (end : Start) → end ≡ end_of s w → IsPartOf bytes at (w ++ x) → HoldsVariant IsKept s at w left → HoldsParts IsKept (at + length w) x old → Stays taken old new
+      → GoesOn IsKept bytes s at w x left new (slot_behind old.escape taken (Some end))
+  behind_from bytes s at w x left old new taken end e part h k stays =
+      let f = wanted_from end (at + length w) x old k in
+      let g = still_from taken end (at + length w) x old new f.0 k stays f.2 in
+      subst (GoesOn IsKept bytes s at w x left new) (sym (ap (λ z. unless_taken taken z (Some end)) f.1 ∙ g.1)) (part, h, subst (λ z. HoldsIn IsKept z (at + length w) x new g.0) e g.2)
+
+  pub goes_behind : (bytes : List ℕ) (s : Start) (at : ℕ) (w x : List ℕ) (left : Variant X) (old new : Parts X) (taken : Option Slot) → IsPartOf bytes at (w ++ x) → HoldsVariant IsKept s at w left → HoldsParts IsKept (at + length w) x old → Stays taken old new
+      → GoesOn IsKept bytes s at w x left new (slot_behind old.escape taken (end_in left))
+  goes_behind bytes s at w x (AllLead end) old new taken part h k stays = behind_from bytes s at w x (AllLead end) old new taken end h.1 part h k stays
+  goes_behind bytes s at w x (Whole lead body pend end) old new taken part h k stays = behind_from bytes s at w x (Whole lead body pend end) old new taken end h.end_is part h k stays
+  goes_behind bytes s at w x (Broken lead body halt) old new taken part h k stays = subst (GoesOn IsKept bytes s at w x (Broken lead body halt) new) (sym (none_behind old.escape taken)) (h, refl)
 
   -- ---- a left span that stops, and what is said of the left one from behind a backslash
 
@@ -124,8 +148,8 @@ module _ {X : Type 0} (IsKept : X → Content → Type 0) where
   pub out_goes : (bytes : List ℕ) (at : ℕ) (w x : List ℕ) (left right : Parts X) (end : Option Start) (wanted : Option Slot) → end ≡ end_in left.out → wanted ≡ slot_in right.escape end → AreBeside IsKept bytes at w x left right → GoesOn IsKept bytes Out at w x left.out right wanted
   out_goes bytes at w x left right end wanted e f b = subst (GoesOn IsKept bytes Out at w x left.out right) (sym (f ∙ ap (slot_in right.escape) e)) (goes_on bytes Out at w x left.out right b.0 b.1.out b.2)
 
-  pub string_goes : (bytes : List ℕ) (at : ℕ) (w x : List ℕ) (left right : Parts X) (end : Option Start) (wanted : Option Slot) → end ≡ end_in left.string → wanted ≡ slot_in right.escape end → AreBeside IsKept bytes at w x left right → GoesOn IsKept bytes InString at w x left.string right wanted
-  string_goes bytes at w x left right end wanted e f b = subst (GoesOn IsKept bytes InString at w x left.string right) (sym (f ∙ ap (slot_in right.escape) e)) (goes_on bytes InString at w x left.string right b.0 b.1.string b.2)
+  pub string_goes : (bytes : List ℕ) (at : ℕ) (w x : List ℕ) (left right new : Parts X) (taken : Option Slot) (end : Option Start) (wanted : Option Slot) → end ≡ end_in left.string → wanted ≡ slot_behind right.escape taken end → AreBeside IsKept bytes at w x left right → Stays taken right new → GoesOn IsKept bytes InString at w x left.string new wanted
+  string_goes bytes at w x left right new taken end wanted e f b stays = subst (GoesOn IsKept bytes InString at w x left.string new) (sym (f ∙ ap (slot_behind right.escape taken) e)) (goes_behind bytes InString at w x left.string right new taken b.0 b.1.string b.2 stays)
 
   pub both_ends : (bytes : List ℕ) (at : ℕ) (w x : List ℕ) (left right : Parts X) → AreBeside IsKept bytes at w x left right → right.to ≡ at + length (w ++ x)
   both_ends bytes at w x left right b = let n = length-append w x in omega (arith, b.2.to, n)

@@ -41,7 +41,7 @@ pub mod SeveralAhead
 pub mod Passed
 pub mod Neighbours
 pub mod UnionsHeld
-pub mod Copies
+pub mod OwnItems
 pub mod NextItems
 pub mod StretchesNext
 pub mod OneTree

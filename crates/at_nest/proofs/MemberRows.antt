@@ -31,7 +31,7 @@ use Rattle.at_nest.proofs.Pushes.{marks_append}
 use Rattle.at_nest.proofs.Joining.{push_marks}
 use Rattle.at_nest.proofs.Showing.{pieces_append, pieces_cut}
 use Rattle.at_nest.proofs.Rows.{push_outside, is_comma}
-use Rattle.at_nest.proofs.Copies.{named_cut, named_append}
+use Rattle.at_nest.proofs.OwnItems.{named_cut, named_append}
 
 -- ---- the marks of members
 

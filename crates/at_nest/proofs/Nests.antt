@@ -1,6 +1,6 @@
 -- The last of what is open, and arrays with nothing in them that are it.
 -- For `finish`, `finish_span`, `merge` and `run_block`.
-use Rattle.std.proofs.Common.{◌≡◌, ℕ, ◌-◌, zero, suc, Option, Some, None, List, [], ◌∷◌, ◌++◌, option_to_list, refl, sym, ◌∙◌, ap, subst, append-nil, append_assoc, arith, length, take, Ok, Err, MatchOption}
+use Rattle.std.proofs.Common.{◌≡◌, ℕ, ◌-◌, zero, suc, Option, Some, None, List, [], ◌∷◌, ◌++◌, option_to_list, refl, sym, ◌∙◌, ap, append-nil, append_assoc, arith, length, take, Ok, Err, MatchOption}
 use Rattle.std.proofs.lemmas.Option.{none-some, same_Some}
 use Rattle.std.specs.List.{slice_get, slice_set}
 use Rattle.at_nest.specs.declared.finishing.Next.{Next}
@@ -11,14 +11,11 @@ use Rattle.at_nest.specs.declared.levels.Open.{Open}
 use Rattle.at_nest.specs.declared.levels.Open.TheVariants as placed
 use Rattle.at_nest.specs.declared.levels.Open.TheVariants.{Nested}
 use Rattle.at_nest.specs.declared.levels.ArrayState.TheVariants as array
-use Rattle.at_nest.specs.Tree.{Tree}
-use Rattle.at_nest.specs.Levels.{Level}
 use Rattle.at_nest.specs.Shown.{Held, array_level, held_of, round_of, helds_of, open_levels, nested}
-use Rattle.at_nest.specs.KeptItems.{Content, EachHeld, CopiesLevels}
 use Rattle.at_nest.specs.Nests.{nest_in, PutsLast}
 use Rattle.at_nest.specs.NextItems.{levels_next, level_after, IsNoValue}
 use Rattle.at_nest.specs.Refusals.{last_of}
-use Rattle.at_nest.proofs.Showing.{open_last, open_append}
+use Rattle.at_nest.proofs.Showing.{open_last}
 
 pub last_got : {A : Type 0} (xs : List A) → slice_get xs (length xs - 1) ≡ last_of xs
 last_got (x ∷ (y ∷ xs)) = let i : length (x ∷ (y ∷ xs)) - 1 ≡ suc (length (y ∷ xs) - 1) = omega arith in ap (slice_get (x ∷ (y ∷ xs))) i ∙ last_got (y ∷ xs)
@@ -105,24 +102,3 @@ round_next _ = refl
 pub no_round : {X : Type 0} (o : Open X) → ((n : Nest) → o ≡ Nested n → ⊥) → round_of o ≡ []
 no_round (Nested n) h = absurd (h n refl)
 no_round _ h = refl
-
--- ---- copies
-
-module _ {X : Type 0} (IsKept : X → Content → Type 0) where
-  held_cut : (xs ys : List (Held X)) (ls : List (Level Tree)) → EachHeld IsKept (xs ++ ys) ls → (us : List (Level Tree)) × (vs : List (Level Tree)) × (ls ≡ us ++ vs) × EachHeld IsKept xs us × EachHeld IsKept ys vs
-  held_cut [] ys ls h = ([], ls, refl, tt, h)
-  held_cut (x ∷ xs) ys [] h = absurd h
-  held_cut (x ∷ xs) ys (l ∷ ls) h = let r = held_cut xs ys ls h.1 in (l ∷ r.0, r.1, ap (λ z. l ∷ z) r.2, (h.0, r.3), r.4)
-
-  held_joined : (hs : List (Held X)) (ls : List (Level Tree)) (gs : List (Held X)) (ks : List (Level Tree)) → EachHeld IsKept hs ls → EachHeld IsKept gs ks → EachHeld IsKept (hs ++ gs) (ls ++ ks)
-  held_joined [] [] gs ks h k = k
-  held_joined (x ∷ hs) (l ∷ ls) gs ks h k = (h.0, held_joined hs ls gs ks h.1 k)
-  held_joined _ _ gs ks h k = absurd h
-
-  pub levels_on : (xs ys : List (Open X)) (x y : Open X) → CopiesLevels IsKept (open_levels xs) (open_levels ys) → CopiesLevels IsKept (helds_of x) (helds_of y) → CopiesLevels IsKept (open_levels (xs ++ x ∷ [])) (open_levels (ys ++ y ∷ []))
-  levels_on xs ys x y a b ls h = let r = held_cut (helds_of x) (open_levels xs) ls (subst (λ z. EachHeld IsKept z ls) (open_last xs x) h) in
-      subst (λ z. EachHeld IsKept z ls) (sym (open_last ys y)) (subst (EachHeld IsKept (helds_of y ++ open_levels ys)) (sym r.2) (held_joined (helds_of y) r.0 (open_levels ys) r.1 (b r.0 r.3) (a r.1 r.4)))
-
-  pub levels_both : (xs ys us vs : List (Open X)) → CopiesLevels IsKept (open_levels xs) (open_levels ys) → CopiesLevels IsKept (open_levels us) (open_levels vs) → CopiesLevels IsKept (open_levels (xs ++ us)) (open_levels (ys ++ vs))
-  levels_both xs ys us vs a b ls h = let r = held_cut (open_levels us) (open_levels xs) ls (subst (λ z. EachHeld IsKept z ls) (open_append xs us) h) in
-      subst (λ z. EachHeld IsKept z ls) (sym (open_append ys vs)) (subst (EachHeld IsKept (open_levels vs ++ open_levels ys)) (sym r.2) (held_joined (open_levels vs) r.0 (open_levels ys) r.1 (b r.0 r.3) (a r.1 r.4)))

@@ -8,11 +8,10 @@ use Rattle.at_nest.specs.declared.levels.Open.{Open}
 use Rattle.at_nest.specs.declared.open_levels.Stretch.{Stretch}
 use Rattle.at_nest.specs.declared.open_levels.Levels.{Levels}
 use Rattle.at_nest.specs.Shown.{helds_of, open_levels, stretched, opens_of, OwnLevel, OwnStretch, OwnLevels}
-use Rattle.at_nest.specs.KeptItems.{Content, CopiesLevels}
 use Rattle.at_nest.specs.Nests.{PutsLast}
 use Rattle.at_nest.specs.Refusals.{last_of}
 use Rattle.at_nest.proofs.Showing.{open_append}
-use Rattle.at_nest.proofs.Nests.{last_got, last_behind, puts_last, levels_on, levels_both}
+use Rattle.at_nest.proofs.Nests.{last_got, last_behind, puts_last}
 
 pub stretched_append : {X : Type 0} (ss ts : List (Stretch X)) → stretched (ss ++ ts) ≡ stretched ss ++ stretched ts
 stretched_append [] ts = refl
@@ -92,26 +91,6 @@ added_stretch old new s levels e f = ap stretched e ∙ (stretched_last old s �
 
 pub appended : {X : Type 0} (old mid new ts : List (Stretch X)) (xs ys : List (Open X)) → stretched mid ≡ stretched old ++ xs → new ≡ mid ++ ts → stretched new ++ ys ≡ (stretched old ++ xs) ++ (stretched ts ++ ys)
 appended old mid new ts xs ys e f = ap (λ z. z ++ ys) (ap stretched f ∙ (stretched_append mid ts ∙ ap (λ z. z ++ stretched ts) e)) ∙ append_assoc (stretched old ++ xs) (stretched ts) ys
-
--- ---- copies
-
-module _ {X : Type 0} (IsKept : X → Content → Type 0) where
-  pub stretch_copied : (s t : Stretch X) → CopiesLevels IsKept (open_levels s.round.items) (open_levels t.round.items) → CopiesLevels IsKept (helds_of s.innermost) (helds_of t.innermost) → CopiesLevels IsKept (open_levels (stretched (s ∷ []))) (open_levels (stretched (t ∷ [])))
-  stretch_copied s t a b =
-      subst (λ z. CopiesLevels IsKept (open_levels z) (open_levels (stretched (t ∷ [])))) (sym (append-nil (s.round.items ++ s.innermost ∷ [])))
-      (subst (λ z. CopiesLevels IsKept (open_levels (s.round.items ++ s.innermost ∷ [])) (open_levels z)) (sym (append-nil (t.round.items ++ t.innermost ∷ [])))
-      (levels_on IsKept s.round.items t.round.items s.innermost t.innermost a b))
-
-  pub stretches_on : (ss ts : List (Stretch X)) (s t : Stretch X) → CopiesLevels IsKept (open_levels (stretched ss)) (open_levels (stretched ts)) → CopiesLevels IsKept (open_levels (stretched (s ∷ []))) (open_levels (stretched (t ∷ [])))
-      → CopiesLevels IsKept (open_levels (stretched (ss ++ s ∷ []))) (open_levels (stretched (ts ++ t ∷ [])))
-  stretches_on ss ts s t a b =
-      subst (λ z. CopiesLevels IsKept (open_levels z) (open_levels (stretched (ts ++ t ∷ [])))) (sym (stretched_append ss (s ∷ [])))
-      (subst (λ z. CopiesLevels IsKept (open_levels (stretched ss ++ stretched (s ∷ []))) (open_levels z)) (sym (stretched_append ts (t ∷ [])))
-      (levels_both IsKept (stretched ss) (stretched ts) (stretched (s ∷ [])) (stretched (t ∷ [])) a b))
-
-  pub levels_copied : (l k : Levels X) → CopiesLevels IsKept (open_levels (stretched l.before.items)) (open_levels (stretched k.before.items)) → CopiesLevels IsKept (open_levels l.last.items) (open_levels k.last.items)
-      → CopiesLevels IsKept (open_levels (opens_of l)) (open_levels (opens_of k))
-  levels_copied l k a b = levels_both IsKept (stretched l.before.items) (stretched k.before.items) l.last.items k.last.items a b
 
 -- each level of stretches is the algebra's own
 all_cut : {A : Type 0} (P : A → Type 0) (xs ys : List A) → All P (xs ++ ys) → All P xs × All P ys

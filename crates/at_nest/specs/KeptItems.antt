@@ -373,33 +373,3 @@ module _ {X : Type 0} (IsKept : X → Content → Type 0) where
   Joins bytes old behind new r = (base : ℕ) (w : List ℕ) (f g : Form Tree) → IsPartOf bytes base w
       → IsShown base w old f → IsShown base w behind g → AreLevels g.levels
       → IsPushedAs base w new r (push_all free (pieces_of g) f)
-
-  -- what is copied stands for all that the first stands for
-  abbrev pub CopiesItems : List X → List X → Type 0
-  CopiesItems xs ys = (ts : List Tree) → Each xs ts → Each ys ts
-
-  abbrev pub CopiesMember : Member X → Member X → Type 0
-  CopiesMember m n = (n.name ≡ m.name) × (n.name_at ≡ m.name_at) × ((t : Tree) → IsKept m.value (one t)
-      → IsKept n.value (one t))
-
-  abbrev pub CopiesMembers : List (Member X) → List (Member X) → Type 0
-  CopiesMembers ms ns = (ps : List (List Character × ℕ × Tree)) → EachMember ms ps → EachMember ns ps
-
-  abbrev pub CopiesNamed : List (NamedValue X) → List (NamedValue X) → Type 0
-  CopiesNamed ms ns = (base : ℕ) (w : List ℕ) (es : List MemberMarks) → EachNamed base w ms es → EachNamed base w ns es
-
-  abbrev pub CopiesHeld : Held X → Held X → Type 0
-  CopiesHeld h k = (l : Level Tree) → IsHeld h l → IsHeld k l
-
-  abbrev pub CopiesLevels : List (Held X) → List (Held X) → Type 0
-  CopiesLevels hs ks = (ls : List (Level Tree)) → EachHeld hs ls → EachHeld ks ls
-
-  abbrev pub CopiesPiece : CodePiece X → CodePiece X → Type 0
-  CopiesPiece c d = (base : ℕ) (w : List ℕ) (ps : List (Piece Tree)) → ArePieces base w c ps → ArePieces base w d ps
-
-  abbrev pub CopiesPieces : List (CodePiece X) → List (CodePiece X) → Type 0
-  CopiesPieces cs ds = (base : ℕ) (w : List ℕ) (ps : List (Piece Tree)) → EachPiece base w cs ps
-      → EachPiece base w ds ps
-
-  abbrev pub CopiesShown : Shown X → Shown X → Type 0
-  CopiesShown s t = (base : ℕ) (w : List ℕ) (f : Form Tree) → IsShown base w s f → IsShown base w t f

@@ -1,5 +1,5 @@
 -- Which variant of a span goes on behind a left one, and when it can.
-use Rattle.std.specs.Prelude.{◌≡◌, ℕ, ◌+◌, Bool, true, Option, Some, None, List, ◌++◌, length}
+use Rattle.std.specs.Prelude.{◌≡◌, ◌≢◌, ℕ, ◌+◌, Option, Some, None, List, ◌++◌, length}
 use Rattle.at_lex.specs.Spans.{end_of}
 use Rattle.at_lex.specs.declared.tokens.Start.{Start}
 use Rattle.at_lex.specs.declared.tokens.Start.TheVariants.{Out, InString, InEscape}
@@ -26,38 +26,39 @@ slot_in e None = None
 slot_in e (Some Out) = Some slot.Out
 slot_in e (Some InString) = Some slot.String
 slot_in AsString (Some InEscape) = Some slot.String
-slot_in Unread (Some InEscape) = Some slot.Escape
+slot_in Unread (Some InEscape) = Some (slot.Bytes InEscape)
+
+-- the bytes, which are read from the state
+abbrev pub bytes_in : Option Start → Option Slot
+bytes_in None = None
+bytes_in (Some s) = Some (slot.Bytes s)
+
+-- the variant from the state, or the bytes where the one that is kept is taken
+abbrev pub unless_taken : Option Slot → Option Slot → Option Start → Option Slot
+unless_taken (Some slot.Out) (Some slot.Out) state = bytes_in state
+unless_taken (Some slot.String) (Some slot.String) state = bytes_in state
+unless_taken _ wanted state = wanted
+
+abbrev pub slot_behind : Escape → Option Slot → Option Start → Option Slot
+slot_behind e taken state = unless_taken taken (slot_in e state) state
 
 -- a variant that holds nothing
 abbrev pub no_items : {X : Type 0} → Variant X
 no_items = AllLead Out
 
--- the variant, or the span that it is read from, stays as it was
-abbrev pub IsSame : {X : Type 0} → Parts X → Parts X → Slot → Type 0
-IsSame old new slot.Out = new.out ≡ old.out
-IsSame old new slot.String = new.string ≡ old.string
-IsSame old new slot.Escape = (new.from ≡ old.from) × (new.to ≡ old.to)
-
--- a variant that is not wanted, or that is copied, stays as it was
-abbrev pub Stays : {X : Type 0} → Option Slot → Bool → Parts X → Parts X → Type 0
-Stays wanted again old new = (q : Slot) → (wanted ≡ Some q → again ≡ true) → IsSame old new q
+-- what isn't taken stays as it was, and so does the place
+pub record Stays {X : Type 0} (taken : Option Slot) (old new : Parts X) : Type 0 where
+  pub from : new.from ≡ old.from
+  pub to : new.to ≡ old.to
+  pub out : taken ≢ Some slot.Out → new.out ≡ old.out
+  pub string : taken ≢ Some slot.String → new.string ≡ old.string
 
 module _ {X : Type 0} (IsKept : X → Content → Type 0) where
-  -- the second variant stands for all that the first stands for
-  abbrev pub StandsAs : Variant X → Variant X → Type 0
-  StandsAs first second = (s : Start) (at : ℕ) (w : List ℕ) → HoldsVariant IsKept s at w first
-      → HoldsVariant IsKept s at w second
-
-  -- the variant stands for some bytes
-  abbrev pub HoldsSome : Variant X → Type 0
-  HoldsSome v = (s : Start) × (at : ℕ) × (w : List ℕ) × HoldsVariant IsKept s at w v
-
-  -- the variant that is meant is that of the bytes from the state; the one from behind a backslash is read from the
-  -- bytes that the span has
+  -- the variant that is meant is that of the bytes from the state, or it is read from the bytes that the span has
   abbrev pub HoldsIn : Start → ℕ → List ℕ → Parts X → Slot → Type 0
   HoldsIn s at x parts slot.Out = HoldsVariant IsKept s at x parts.out
   HoldsIn s at x parts slot.String = HoldsVariant IsKept s at x parts.string
-  HoldsIn s at x parts slot.Escape = (s ≡ InEscape) × (parts.from ≡ at) × (parts.to ≡ at + length x)
+  HoldsIn s at x parts (slot.Bytes q) = (s ≡ q) × (parts.from ≡ at) × (parts.to ≡ at + length x)
 
   -- there are bytes of which it is the variant
   abbrev pub CanTake : List ℕ → Parts X → Slot → Type 0

@@ -115,12 +115,4 @@ pub trait Algebra: Sync {
     {
         self.value(alloc, text, at)
     }
-
-    /// A second atom that stands for the trees of the first. The one refusal is want of memory.
-    fn copy(&self, alloc: Global, atom: &Self::Atom) -> Result<Self::Atom, Memory>
-        requires { is_own self.now atom.now }
-        ensures own { IfOk result (is_own self.now) }
-        ensures fold { IfOk result (λ copied. (t : Tree) → is_fold self.now atom.now t → is_fold self.now copied t) }
-        ensures run { IfOk result (λ copied. (ts : List Tree) → is_run self.now atom.now ts
-            → is_run self.now copied ts) };
 }

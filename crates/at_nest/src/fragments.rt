@@ -5,11 +5,10 @@ ghost use Rattle.at_text.specs.Spans.{AreNeighbours, IsMerged};
 ghost use Rattle.at_lex.specs.declared.tokens.Start.{Start};
 ghost use Rattle.at_nest.specs.KeptItems.{IsAtomOf};
 ghost use Rattle.at_nest.specs.VariantMeanings.{HoldsVariant};
-ghost use Rattle.at_nest.specs.Slots.{HoldsSome, StandsAs, GoesOn, AreBeside, CanTake, Takes, Stays, slot_in, no_items};
+ghost use Rattle.at_nest.specs.Slots.{GoesOn, AreBeside, CanTake, Takes, Stays, slot_in, slot_behind as behind_slot, bytes_in, no_items};
 ghost use Rattle.at_nest.specs.FragmentMeanings.{HoldsEscape, HoldsParts, StandsFor, parts_of};
 
 use crate::algebra::Algebra;
-use crate::copying::copy_variant;
 use crate::variants::{Variant, join_variants, read_variant};
 use at_lex::Start;
 use at_text::Memory;
@@ -121,13 +120,13 @@ pub fn run_block<A: Algebra>(alloc: Global, algebra: &A, piece: &[u8], base: u32
     fragment_of(alloc, algebra, parts)
 }
 
-/// Which variant is meant.
+/// Where a variant is taken from.
 #[derive(Clone, Copy)]
 enum Slot {
     Out,
     String,
-    /// The one from behind a backslash, which is not kept.
-    Escape,
+    /// From the bytes, which are read from this state: no variant of it is kept, or the one that is kept is taken.
+    Bytes(Start),
 }
 
 impl<T: Drop> Parts<T> {
@@ -141,9 +140,32 @@ impl<T: Drop> Parts<T> {
             Some(Start::InString) => Some(Slot::String),
             Some(Start::InEscape) => match self.escape {
                 Escape::AsString => Some(Slot::String),
-                Escape::Unread => Some(Slot::Escape),
+                Escape::Unread => Some(Slot::Bytes(Start::InEscape)),
             },
         }
+    }
+
+    /// The variant from the state, where another one may be taken before: of one that both want, the bytes are read
+    /// again.
+    fn slot_behind(&self, taken: Option<Slot>, state: Option<Start>) -> Option<Slot>
+        ensures { result ≡ behind_slot self.now.escape taken state }
+    {
+        let slot = self.slot_from(state);
+        match (taken, slot) {
+            (Some(Slot::Out), Some(Slot::Out)) => bytes_from(state),
+            (Some(Slot::String), Some(Slot::String)) => bytes_from(state),
+            _ => slot,
+        }
+    }
+}
+
+/// The bytes, which are read from the state.
+fn bytes_from(state: Option<Start>) -> Option<Slot>
+    ensures { result ≡ bytes_in state }
+{
+    match state {
+        None => None,
+        Some(state) => Some(Slot::Bytes(state)),
     }
 }
 
@@ -154,48 +176,28 @@ fn nothing<T>() -> Variant<T>
     Variant::AllLead { end: Start::Out }
 }
 
-/// The variant: moved out, or copied where it is wanted again.
-fn taken_from<A: Algebra>(
-    alloc: Global,
-    algebra: &A,
-    variant: &mut Variant<A::Atom>,
-    again: bool,
-) -> Result<Variant<A::Atom>, Memory>
-    requires { HoldsSome (IsAtomOf A.Algebra algebra.now) variant.old }
-    ensures same { IfOk result (StandsAs (IsAtomOf A.Algebra algebra.now) variant.old) }
-    ensures stays { again ≡ true → variant.new ≡ variant.old }
-{
-    if again {
-        copy_variant(alloc, algebra, variant)
-    } else {
-        Ok(mem::replace(variant, nothing()))
-    }
-}
-
-/// The variant: moved out, or copied where it is wanted again. The one from behind a backslash is read from the bytes.
-/// A merge wants it only where its left span ends behind a backslash, and once at most for each of the left span's two
-/// variants, so a span is read again in no other merge.
+/// The variant: moved out, or read from the bytes. A merge reads its right span at most once for each of the left
+/// span's two variants, so a span is read again in no other merge.
 fn taken<A: Algebra>(
     alloc: Global,
     algebra: &A,
     bytes: &[u8],
     parts: &mut Parts<A::Atom>,
     slot: Slot,
-    again: bool,
 ) -> Result<Variant<A::Atom>, Memory>
     requires fits { length bytes.now ≤ 2 ^ 28 }
     requires held { CanTake (IsAtomOf A.Algebra algebra.now)
         bytes.now parts.old slot }
     ensures same { IfOk result (Takes (IsAtomOf A.Algebra algebra.now)
         bytes.now parts.old slot) }
-    ensures stays { Stays (Some slot) again parts.old parts.new }
+    ensures stays { Stays (Some slot) parts.old parts.new }
 {
     match slot {
-        Slot::Out => taken_from(alloc, algebra, &mut parts.out, again),
-        Slot::String => taken_from(alloc, algebra, &mut parts.string, again),
-        Slot::Escape => {
+        Slot::Out => Ok(mem::replace(&mut parts.out, nothing())),
+        Slot::String => Ok(mem::replace(&mut parts.string, nothing())),
+        Slot::Bytes(state) => {
             let piece = &bytes[parts.from as usize..parts.to as usize];
-            read_variant(alloc, algebra, piece, parts.from, Start::InEscape)
+            read_variant(alloc, algebra, piece, parts.from, state)
         }
     }
 }
@@ -208,7 +210,6 @@ fn joined<A: Algebra>(
     left: Variant<A::Atom>,
     right: &mut Parts<A::Atom>,
     wanted: Option<Slot>,
-    again: bool,
 ) -> Result<Variant<A::Atom>, Memory>
     requires fits { length bytes.now ≤ 2 ^ 28 }
     requires held { (s : Start) × (at : ℕ) × (w : List ℕ) × (x : List ℕ)
@@ -218,26 +219,14 @@ fn joined<A: Algebra>(
         → GoesOn (IsAtomOf A.Algebra algebra.now) bytes.now s at w x left
         right.old wanted
         → HoldsVariant (IsAtomOf A.Algebra algebra.now) s at (w ++ x) v) }
-    ensures stays { Stays wanted again right.old right.new }
+    ensures stays { Stays wanted right.old right.new }
 {
     match wanted {
         None => Ok(left),
         Some(slot) => {
-            let behind = taken(alloc, algebra, bytes, right, slot, again)?;
+            let behind = taken(alloc, algebra, bytes, right, slot)?;
             join_variants(alloc, algebra, bytes, left, behind)
         }
-    }
-}
-
-fn is_same(wanted: Option<Slot>, other: Option<Slot>) -> bool
-    ensures { wanted ≡ other → result ≡ true }
-{
-    match (wanted, other) {
-        (Some(Slot::Out), Some(Slot::Out)) => true,
-        (Some(Slot::String), Some(Slot::String)) => true,
-        (Some(Slot::Escape), Some(Slot::Escape)) => true,
-        (None, None) => true,
-        _ => false,
     }
 }
 
@@ -267,10 +256,9 @@ fn merge_parts<A: Algebra>(
     } = left;
     let to = right.to;
     let for_out = right.slot_from(out.end());
-    let for_string = right.slot_from(string.end());
-    let again = is_same(for_out, for_string);
-    let out = joined(alloc, algebra, bytes, out, &mut right, for_out, again)?;
-    let string = joined(alloc, algebra, bytes, string, &mut right, for_string, false)?;
+    let for_string = right.slot_behind(for_out, string.end());
+    let out = joined(alloc, algebra, bytes, out, &mut right, for_out)?;
+    let string = joined(alloc, algebra, bytes, string, &mut right, for_string)?;
     Ok(Parts {
         from,
         to,

@@ -18,7 +18,6 @@
 
 mod algebra;
 mod bodies;
-mod copying;
 mod finishing;
 mod fragments;
 mod levels;

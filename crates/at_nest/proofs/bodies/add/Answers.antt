@@ -6,7 +6,7 @@ use Rattle.at_nest.specs.declared.pieces.Piece.TheVariants.{Value, Row as RowPie
 use Rattle.at_nest.specs.Shown.{shown}
 use Rattle.at_nest.specs.KeptItems.{OwnAtom, CanAdd}
 use Rattle.at_nest.proofs.Adding.{adds_close, adds_row, adds_closers, adds_comma, adds_colon, adds_value, some_items}
-use Rattle.at_nest.proofs.Copies.{can_add_own}
+use Rattle.at_nest.proofs.OwnItems.{can_add_own}
 use Rattle.at_nest.proofs.MemberRows.{has_members, adds_members}
 use Rattle.at_nest.proofs.bodies.add.Goals as goal
 

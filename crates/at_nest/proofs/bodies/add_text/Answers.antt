@@ -9,7 +9,7 @@ use Rattle.at_nest.proofs.Held.{name_moves, text_moves}
 use Rattle.at_nest.proofs.MemberRows.{text_same}
 use Rattle.at_nest.proofs.Showing.{text_put, text_bytes}
 use Rattle.at_nest.proofs.Adding.{adds_text, has_text, innermost_own, some_items}
-use Rattle.at_nest.proofs.Copies.{can_add_own}
+use Rattle.at_nest.proofs.OwnItems.{can_add_own}
 use Rattle.at_nest.proofs.bodies.add_text.Goals as goal
 
 pub units-requires-clause-whole : goal.units-requires-clause-whole

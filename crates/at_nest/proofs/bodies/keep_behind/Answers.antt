@@ -4,7 +4,7 @@ use Rattle.std.proofs.lemmas.Result.{IfOk-weaker}
 use Rattle.at_nest.specs.declared.pieces.Piece.{Piece}
 use Rattle.at_nest.specs.Shown.{shown}
 use Rattle.at_nest.specs.KeptItems.{OwnAtom}
-use Rattle.at_nest.proofs.Copies.{row_own}
+use Rattle.at_nest.proofs.OwnItems.{row_own}
 use Rattle.at_nest.proofs.Rows.{row_longer}
 use Rattle.at_nest.proofs.bodies.keep_behind.Goals as goal
 

@@ -3,7 +3,7 @@ use Rattle.std.proofs.Common.{◌+◌, ◌∷◌, ◌++◌, [], ◌<◌, length,
 use Rattle.std.proofs.lemmas.Result.{err_from_is_err_and}
 use Rattle.at_nest.specs.Shown.{open_levels}
 use Rattle.at_nest.specs.NextItems.{levels_next}
-use Rattle.at_nest.proofs.Copies.{take_next}
+use Rattle.at_nest.proofs.OwnItems.{take_next}
 use Rattle.at_nest.proofs.NextItems.{next_step, next_off}
 use Rattle.at_nest.proofs.finishing.opens_next.Goals as goal
 

@@ -4,7 +4,7 @@ use Rattle.at_nest.specs.declared.open_levels.Stretch.{Stretch}
 use Rattle.std.proofs.lemmas.Result.{err_from_is_err_and}
 use Rattle.at_nest.specs.Shown.{open_levels, stretched}
 use Rattle.at_nest.specs.NextItems.{levels_next}
-use Rattle.at_nest.proofs.Copies.{take_next}
+use Rattle.at_nest.proofs.OwnItems.{take_next}
 use Rattle.at_nest.proofs.StretchesNext.{stretch_more, stretches_off}
 use Rattle.at_nest.proofs.finishing.stretches_next.Goals as goal
 

@@ -1,7 +1,7 @@
--- Both go on; what the first takes, the second doesn't want, or it is copied.
+-- Both go on; what the first takes, the second doesn't want, or the bytes are read again.
 use Rattle.at_lex.specs.declared.tokens.Start.TheVariants.{Out, InString}
 use Rattle.at_nest.specs.KeptItems.{OwnAtom}
-use Rattle.at_nest.proofs.Behind.{out_goes, string_goes, still_goes, escape_union, both_ends}
+use Rattle.at_nest.proofs.Behind.{out_goes, string_goes, escape_union, both_ends}
 use Rattle.at_nest.proofs.fragments.merge_parts.Goals as goal
 
 pub joined-requires-clause-held : goal.joined-requires-clause-held
@@ -16,8 +16,7 @@ joined-requires-2-clause-held g c κs within = let own = g.A.Algebra.is_own c.ar
       b.0,
       b.1,
       b.2,
-      still_goes (OwnAtom own fold run) c.args.bytes.now InString b.0 b.1 b.2 c.args.left.string c.args.right c.joined.new.right c.slot_from-for_out.result c.slot_from-for_string.result c.is_same-again.result c.in_ok-out.ensures.stays c.is_same-again.ensures
-          (string_goes (OwnAtom own fold run) c.args.bytes.now b.0 b.1 b.2 c.args.left c.args.right c.end-2.result c.slot_from-for_string.result c.end-2.ensures c.slot_from-for_string.ensures b.3),
+      string_goes (OwnAtom own fold run) c.args.bytes.now b.0 b.1 b.2 c.args.left c.args.right c.joined.new.right c.slot_from-for_out.result c.end-2.result c.slot_behind-for_string.result c.end-2.ensures c.slot_behind-for_string.ensures b.3 c.in_ok-out.ensures.stays,
     )
 
 pub returns : goal.returns
@@ -27,7 +26,6 @@ returns g c = let own = g.A.Algebra.is_own c.args.algebra.now in let fold = g.A.
       to = both_ends (OwnAtom own fold run) c.args.bytes.now at w x c.args.left c.args.right b;
       out = c.in_ok-out.ensures.union Out at w x (out_goes (OwnAtom own fold run) c.args.bytes.now at w x c.args.left c.args.right c.end.result c.slot_from-for_out.result c.end.ensures c.slot_from-for_out.ensures b);
       string = c.in_ok-string.ensures.union InString at w x
-          (still_goes (OwnAtom own fold run) c.args.bytes.now InString at w x c.args.left.string c.args.right c.joined.new.right c.slot_from-for_out.result c.slot_from-for_string.result c.is_same-again.result c.in_ok-out.ensures.stays c.is_same-again.ensures
-          (string_goes (OwnAtom own fold run) c.args.bytes.now at w x c.args.left c.args.right c.end-2.result c.slot_from-for_string.result c.end-2.ensures c.slot_from-for_string.ensures b));
+          (string_goes (OwnAtom own fold run) c.args.bytes.now at w x c.args.left c.args.right c.joined.new.right c.slot_from-for_out.result c.end-2.result c.slot_behind-for_string.result c.end-2.ensures c.slot_behind-for_string.ensures b c.in_ok-out.ensures.stays);
       escape = escape_union c.args.left.escape w x b.1.escape;
     }

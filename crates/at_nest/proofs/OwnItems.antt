@@ -1,68 +1,23 @@
--- A copy stands for all that the first stands for.
--- For `finish`, `finish_span`, `merge` and `run_block`.
+-- What stands for items is the algebra's own, and lists of named values are cut and put together.
 use Rattle.std.proofs.Common.{◌≡◌, ℕ, List, [], ◌∷◌, ◌++◌, refl, sym, ◌∙◌, ap, subst, All, add-one, take-suc, get_or, take, length, ◌+◌, ◌<◌, inl, inr}
 use Rattle.std.proofs.lemmas.List.Elements.{All-nil, All-cons}
-use Rattle.at_lex.specs.Strings.{Character, units_of}
-use Rattle.at_nest.specs.declared.algebra.Member.{Member}
 use Rattle.at_nest.specs.declared.levels.Open.{Open}
-use Rattle.at_lex.specs.declared.tokens.Start.{Start}
 use Rattle.at_nest.specs.declared.bodies.Body.{Body}
-use Rattle.at_nest.specs.declared.pieces.SpanStop.{SpanStop}
-use Rattle.at_nest.specs.declared.variants.Variant.{Variant}
-use Rattle.at_nest.specs.declared.variants.Variant.TheVariants.{Whole, Broken}
-use Rattle.at_nest.specs.VariantMeanings.{HoldsVariant}
 use Rattle.at_nest.specs.declared.pieces.Piece.{Piece as CodePiece}
 use Rattle.at_nest.specs.declared.pieces.Piece.TheVariants.{Closes, Comma, Colon, Text, Value, Row as RowPiece, Members as MembersPiece, Closers as ClosersPiece}
 use Rattle.at_nest.specs.declared.pieces.Row.{Row}
 use Rattle.at_nest.specs.declared.pieces.NamedValue.{NamedValue}
-use Rattle.at_nest.specs.MemberMarks.{MemberMarks, tree_of}
+use Rattle.at_nest.specs.MemberMarks.{MemberMarks}
 use Rattle.at_nest.specs.Tree.{Tree}
 use Rattle.at_nest.specs.Forms.{Piece, opens, mark, comma, colon, quoted, entry}
 use Rattle.at_nest.specs.Levels.{Level, Form}
 use Rattle.at_nest.specs.Shown.{Held, Shown, top_of, helds_of, open_levels, opens_of, OwnPiece, OwnLevel, OwnBody, shown}
-use Rattle.at_nest.specs.KeptItems.{Content, one, run, Holds, OwnAtom, Each, EachMember, EachHeld, IsHeldPiece, EachPiece, ArePieces, EachNamed, IsTextAt, CopiesNamed, row_trees, IsOfItems, CanAdd, IsShown, CopiesItems, CopiesMember, CopiesMembers, CopiesPiece, CopiesPieces, CopiesShown}
-use Rattle.at_nest.proofs.Held.{held_own, each_own, each_cut, each_append}
-use Rattle.at_nest.proofs.Showing.{pieces_append, pieces_cut}
+use Rattle.at_nest.specs.KeptItems.{Content, OwnAtom, EachHeld, IsHeldPiece, EachPiece, ArePieces, EachNamed, row_trees, IsOfItems, CanAdd, IsShown}
+use Rattle.at_nest.proofs.Held.{held_own, each_own}
+use Rattle.at_nest.proofs.Showing.{pieces_cut}
 use Rattle.at_nest.proofs.Stretches.{own_levels}
 
 module _ {X : Type 0} (IsKept : X → Content → Type 0) where
-  -- what is copied stands for each of the trees, and for the trees one behind another, for which the first stands
-  abbrev pub CopiesAtom : X → X → Type 0
-  CopiesAtom x y = ((t : Tree) → IsKept x (one t) → IsKept y (one t)) × ((ts : List Tree) → IsKept x (run ts) → IsKept y (run ts))
-
-  copies_holds : (x y : X) (ts : List Tree) → CopiesAtom x y → Holds IsKept x ts → Holds IsKept y ts
-  copies_holds x y ts k (inl (t, e, h)) = inl (t, e, k.0 t h)
-  copies_holds x y ts k (inr h) = inr (k.1 ts h)
-
-  pub items_none : CopiesItems IsKept [] []
-  items_none ts h = h
-
-  pub items_on : (xs ys : List X) (x y : X) → CopiesItems IsKept xs ys → CopiesAtom x y → CopiesItems IsKept (xs ++ x ∷ []) (ys ++ y ∷ [])
-  items_on xs ys x y h k ts e = let c = each_cut IsKept xs x ts e in subst (Each IsKept (ys ++ y ∷ [])) (sym c.2.0) (each_append IsKept ys c.0 y c.1 (h c.0 c.2.1) (copies_holds x y c.1 k c.2.2))
-
-  pub members_none : CopiesMembers IsKept [] []
-  members_none [] h = tt
-  members_none (t ∷ ts) h = absurd h
-
-  pub members_on : (xs ys : List (Member X)) (x y : Member X) → CopiesMembers IsKept xs ys → CopiesMember IsKept x y → CopiesMembers IsKept (xs ++ x ∷ []) (ys ++ y ∷ [])
-  members_on xs ys x y h k ps e = let c = cut xs x ps e in subst (EachMember IsKept (ys ++ y ∷ [])) (sym c.2.0) (put ys y c.0 c.1 (h c.0 c.2.1) (k.0 ∙ c.2.2.0) (k.1 ∙ c.2.2.1) (k.2 c.1.2 c.2.2.2))
-    where
-      cut : (xs : List (Member X)) (x : Member X) (ps : List (List Character × ℕ × Tree)) → EachMember IsKept (xs ++ x ∷ []) ps
-          → (us : List (List Character × ℕ × Tree)) × (p : List Character × ℕ × Tree) × ((ps ≡ us ++ p ∷ []) × EachMember IsKept xs us × ((x.name ≡ units_of p.0) × (x.name_at ≡ p.1) × IsKept x.value (one p.2)))
-      cut [] x [] e = absurd e
-      cut [] x (p ∷ []) e = ([], p, (refl, tt, (e.0, e.1, e.2)))
-      cut [] x (p ∷ (q ∷ ps)) e = absurd e.3
-      cut (z ∷ xs) x [] e = absurd e
-      cut (z ∷ xs) x (p ∷ ps) e = let r = cut xs x ps e.3 in (p ∷ r.0, r.1, (ap (λ v. p ∷ v) r.2.0, (e.0, e.1, e.2, r.2.1), r.2.2))
-
-      put : (ys : List (Member X)) (y : Member X) (us : List (List Character × ℕ × Tree)) (p : List Character × ℕ × Tree) → EachMember IsKept ys us → y.name ≡ units_of p.0 → y.name_at ≡ p.1 → IsKept y.value (one p.2) → EachMember IsKept (ys ++ y ∷ []) (us ++ p ∷ [])
-      put [] y [] p e a b k = (a, b, k, tt)
-      put (z ∷ ys) y (u ∷ us) p e a b k = (e.0, e.1, e.2, put ys y us p e.3 a b k)
-      put _ y _ p e a b k = absurd e
-
-  pub pieces_on : (xs ys : List (CodePiece X)) (x y : CodePiece X) → CopiesPieces IsKept xs ys → CopiesPiece IsKept x y → CopiesPieces IsKept (xs ++ x ∷ []) (ys ++ y ∷ [])
-  pieces_on xs ys x y h k base w ps e = let c = pieces_cut IsKept base w xs x ps e in subst (EachPiece IsKept base w (ys ++ y ∷ [])) (sym c.2) (pieces_append IsKept base w ys c.0 y c.1 (h base w c.0 c.3) (k base w c.1 c.4))
-
   pub named_cut : (base : ℕ) (w : List ℕ) (xs : List (NamedValue X)) (x : NamedValue X) (es : List MemberMarks) → EachNamed IsKept base w (xs ++ x ∷ []) es
       → (us : List MemberMarks) × (e : MemberMarks) × ((es ≡ us ++ e ∷ []) × EachNamed IsKept base w xs us × EachNamed IsKept base w (x ∷ []) (e ∷ []))
   named_cut base w [] x [] h = absurd h
@@ -75,10 +30,6 @@ module _ {X : Type 0} (IsKept : X → Content → Type 0) where
   named_append base w [] x [] e h k = k
   named_append base w (y ∷ xs) x (u ∷ us) e h k = (h.0, h.1, h.2, named_append base w xs x us e h.3 k)
   named_append base w _ x _ e h k = absurd h
-
-  pub named_on : (xs ys : List (NamedValue X)) (x y : NamedValue X) → CopiesNamed IsKept xs ys → y.name ≡ x.name → ((t : Tree) → IsKept x.value (one t) → IsKept y.value (one t)) → CopiesNamed IsKept (xs ++ x ∷ []) (ys ++ y ∷ [])
-  named_on xs ys x y h e k base w es u = let c = named_cut base w xs x es u in subst (EachNamed IsKept base w (ys ++ y ∷ [])) (sym c.2.0)
-      (named_append base w ys y c.0 c.1 (h base w c.0 c.2.1) (subst (λ z. (z.from ≡ c.1.name_at) × IsTextAt base w z c.1.characters × IsKept y.value (one (tree_of c.1.value)) × EachNamed IsKept base w [] []) (sym e) (c.2.2.0, c.2.2.1, k (tree_of c.1.value) c.2.2.2, tt)))
 
 -- what stands for items is the algebra's own
 module _ {X : Type 0} (IsOwn : X → Type 0) (IsFold : X → Tree → Type 0) (IsRun : X → List Tree → Type 0) where
@@ -140,21 +91,3 @@ module _ {X : Type 0} (IsOwn : X → Type 0) (IsFold : X → Tree → Type 0) (I
 -- one element more of a front
 pub take_next : {X : Type 0} (xs : List X) (i : ℕ) (x : X) → i < length xs → x ≡ get_or xs i x → take (i + 1) xs ≡ take i xs ++ x ∷ []
 take_next xs i x h e = (rw (add-one i, take-suc xs i x h) refl) ∙ ap (λ z. take i xs ++ z ∷ []) (sym e)
-
--- the variants
-module _ {X : Type 0} (IsOwn : X → Type 0) (IsFold : X → Tree → Type 0) (IsRun : X → List Tree → Type 0) where
-  pub whole_own : (s : Start) (at : ℕ) (w : List ℕ) (v : Variant X) (lead : ℕ) (body : Body X) (pend : ℕ) (end : Start) → v ≡ Whole lead body pend end → HoldsVariant (OwnAtom IsOwn IsFold IsRun) s at w v → OwnBody IsOwn body
-  whole_own s at w v lead body pend end e h = let k = subst (HoldsVariant (OwnAtom IsOwn IsFold IsRun) s at w) e h in body_own IsOwn IsFold IsRun at w body k.form k.is_shown
-
-  pub broken_own : (s : Start) (at : ℕ) (w : List ℕ) (v : Variant X) (lead : ℕ) (body : Body X) (halt : SpanStop) → v ≡ Broken lead body halt → HoldsVariant (OwnAtom IsOwn IsFold IsRun) s at w v → OwnBody IsOwn body
-  broken_own s at w v lead body halt e h = let k = subst (HoldsVariant (OwnAtom IsOwn IsFold IsRun) s at w) e h in body_own IsOwn IsFold IsRun at w body k.form k.is_shown
-
-  pub whole_copy : (s : Start) (at : ℕ) (w : List ℕ) (v : Variant X) (lead : ℕ) (body body2 : Body X) (pend : ℕ) (end : Start) → v ≡ Whole lead body pend end → CopiesShown (OwnAtom IsOwn IsFold IsRun) (shown body) (shown body2) → HoldsVariant (OwnAtom IsOwn IsFold IsRun) s at w v
-      → HoldsVariant (OwnAtom IsOwn IsFold IsRun) s at w (Whole lead body2 pend end)
-  whole_copy s at w v lead body body2 pend end e c h = let k = subst (HoldsVariant (OwnAtom IsOwn IsFold IsRun) s at w) e h in
-      record { first = k.first; form = k.form; last = k.last; is_whole = k.is_whole; is_shown = c at w k.form k.is_shown; lead_at = k.lead_at; pend_at = k.pend_at; end_is = k.end_is }
-
-  pub broken_copy : (s : Start) (at : ℕ) (w : List ℕ) (v : Variant X) (lead : ℕ) (body body2 : Body X) (halt : SpanStop) → v ≡ Broken lead body halt → CopiesShown (OwnAtom IsOwn IsFold IsRun) (shown body) (shown body2) → HoldsVariant (OwnAtom IsOwn IsFold IsRun) s at w v
-      → HoldsVariant (OwnAtom IsOwn IsFold IsRun) s at w (Broken lead body2 halt)
-  broken_copy s at w v lead body body2 halt e c h = let k = subst (HoldsVariant (OwnAtom IsOwn IsFold IsRun) s at w) e h in
-      record { first = k.first; form = k.form; is_broken = k.is_broken; is_shown = c at w k.form k.is_shown; lead_at = k.lead_at }
