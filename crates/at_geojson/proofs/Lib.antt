@@ -24,7 +24,6 @@ pub mod ObjectOwns
 pub mod FieldFolds
 pub mod ObjectAnswers
 pub mod ObjectReads
-pub mod CopyFolds
 pub mod Tiers
 pub mod Roots
 pub mod ValueParts

@@ -31,7 +31,6 @@ use Rattle.at_geojson.specs.Gathering.{seen, is_object, fault_as_line, fault_as_
 use Rattle.at_geojson.specs.Series.{is_list, as_series, lines_of, rings_of, paths_of, Begins, Joins, JoinsIf, IfOwnSeries, HasSeries, JoinsLists}
 use Rattle.at_geojson.proofs.Each.{none_left, none_behind, one_some}
 use Rattle.at_geojson.proofs.CoordinateFolds.{alike_at, line_fault_is, ring_fault_is, path_of_line, path_of_ring}
-use Rattle.at_geojson.proofs.CopyFolds.{view_same}
 use Rattle.at_geojson.proofs.RowFolds.{kept_append}
 use Rattle.at_geojson.proofs.OwnFolds.{all_kept, path_in_range}
 use Rattle.at_geojson.proofs.ItemFolds.{last_covers}
@@ -64,6 +63,12 @@ kept_one false xs ys e = refl
 or_true : (b : Bool) → (b || true) ≡ true
 or_true true = refl
 or_true false = refl
+
+abbrev view_of_lists : List (List Pos) → Option Fault → Option Fault → ListsView
+view_of_lists p a c = record { paths = p; as_lines = a; as_rings = c }
+
+view_same : {p q : List (List Pos)} {a b c d : Option Fault} → q ≡ p → b ≡ a → d ≡ c → view_of_lists q b d ≡ view_of_lists p a c
+view_same {p} {q} {a} {b} {c} {d} h i j = ap (λ z. view_of_lists z b d) h ∙ (ap (λ z. view_of_lists p z d) i ∙ ap (λ z. view_of_lists p a z) j)
 
 abbrev view_of : Bool → GeoAtom → ListsView
 view_of needs a = record { paths = paths_of needs a; as_lines = lines_of a; as_rings = rings_of a }

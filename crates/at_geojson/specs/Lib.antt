@@ -13,7 +13,6 @@ pub mod Tracks
 pub mod Objects
 pub mod Fields
 pub mod Ends
-pub mod Copies
 pub mod Values
 pub mod Rows
 pub mod Passing

@@ -9,7 +9,6 @@ ghost use Rattle.at_geojson.specs.FeatureRuns.{IsAttemptOf};
 use crate::asked::GeoAlgebra;
 use crate::at_once::wholes::{whole_items, whole_value};
 use crate::atoms::atom::GeoAtom;
-use crate::atoms::copying::copy_atom;
 use crate::atoms::lists::array_atom;
 use crate::atoms::scalars::scalar_atom;
 use crate::coordinates::pairs::Whole;
@@ -97,9 +96,5 @@ impl Algebra for GeoAlgebra {
             base: at,
         });
         attempted(whole, text.len())
-    }
-
-    fn copy(&self, alloc: Global, atom: &GeoAtom) -> Result<GeoAtom, Memory> {
-        copy_atom(alloc, atom)
     }
 }

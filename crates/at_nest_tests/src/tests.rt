@@ -267,7 +267,7 @@ fn cut_escapes(rt: HostRuntime) {
     ];
     cuts_of_rows(&rt, rows.as_slice());
     rights_of_rows(&rt, rows.as_slice());
-    copies_of_rows(&rt, rows.as_slice());
+    ends_of_rows(&rt, rows.as_slice());
 }
 
 /// Closing brackets one right behind another meet their openings wherever the text is cut and whichever pieces are
@@ -408,9 +408,9 @@ fn by_first_byte<A: Algebra>(alloc: Global, algebra: &A, bytes: &[u8], span: Spa
     joined(alloc, algebra, bytes, span, at, left, right)
 }
 
-/// The answer of a text that is put together from its end on. Where the span begins with a quote, what is kept of its
-/// other bytes is copied, since they stand in a string both behind the quote and behind an escaped one.
-fn copied_answer(alloc: Global, bytes: &[u8], span: Span) -> Result<u64, NestEnd>
+/// The answer of a text that is put together from its end on. Where the span begins with a quote, its other bytes are
+/// read again, since they stand in a string both behind the quote and behind an escaped one.
+fn answer_from_end(alloc: Global, bytes: &[u8], span: Span) -> Result<u64, NestEnd>
     requires fits { length bytes.now ≤ 2 ^ 28 }
     requires order { span.from < span.to }
     requires end { span.to ≤ length bytes.now }
@@ -429,24 +429,24 @@ fn copied_answer(alloc: Global, bytes: &[u8], span: Span) -> Result<u64, NestEnd
     finish_span(alloc, &Tally, bytes, whole, fragment)
 }
 
-fn compare_copies<R: Abort + AllocGlobal>(rt: &R, text: &[u8], expected: Result<u64, NestEnd>) {
+fn compare_from_ends<R: Abort + AllocGlobal>(rt: &R, text: &[u8], expected: Result<u64, NestEnd>) {
     assert!(rt; text.len() < 100);
     let end = text.len() as u32;
     for to in 1..=end {
         for from in 0..to {
-            let found = copied_answer(rt.alloc(), text, Span { from, to });
-            check(rt, "copied from and to", text, &[from, to], found, expected);
+            let found = answer_from_end(rt.alloc(), text, Span { from, to });
+            check(rt, "from its end, by", text, &[from, to], found, expected);
         }
     }
 }
 
-fn copies_of_rows<R: Abort + AllocGlobal>(rt: &R, rows: &[Told]) {
+fn ends_of_rows<R: Abort + AllocGlobal>(rt: &R, rows: &[Told]) {
     for (text, expected) in rows {
-        compare_copies(rt, text, *expected);
+        compare_from_ends(rt, text, *expected);
     }
 }
 
-/// Objects that are cut, and copied, where they are open: behind the bracket, a name, a colon, a member and a comma,
+/// Objects that are cut, and put together from the end on, where they are open: behind the bracket, a name, a colon, a member and a comma,
 /// each with what may stand there and with what may not.
 #[test]
 fn open_objects(rt: HostRuntime) {
@@ -467,7 +467,7 @@ fn open_objects(rt: HostRuntime) {
         (b"{\"a\":{\"b\":{\"c\":1,}}}", Err(NestEnd::Syntax(17))),
     ];
     cuts_of_rows(&rt, rows.as_slice());
-    copies_of_rows(&rt, rows.as_slice());
+    ends_of_rows(&rt, rows.as_slice());
 }
 
 fn compare_leaps<R: Abort + AllocGlobal>(rt: &R, texts: &[&'static [u8]]) {

@@ -84,8 +84,4 @@ impl Algebra for Nodes {
             }),
         }
     }
-
-    fn copy(&self, _alloc: Global, atom: &u64) -> Result<u64, Memory> {
-        Ok(*atom)
-    }
 }

@@ -56,8 +56,4 @@ impl Algebra for Stepwise {
     {
         self.geo.object(alloc, at, members)
     }
-
-    fn copy(&self, alloc: Global, atom: &GeoAtom) -> Result<GeoAtom, Memory> {
-        self.geo.copy(alloc, atom)
-    }
 }

@@ -5,7 +5,6 @@ ghost use Rattle.at_wkt.specs.Meaning.{both, empty_shape as nothing};
 ghost use Rattle.at_geom.specs.declared.shapes.Shape.{Shape};
 ghost use Rattle.at_geojson.specs.Geometries.{in_order, turned};
 
-use crate::atoms::copying::copy_shape;
 use crate::joined::two_ended::TwoEnded;
 use at_geom::{Path, Paths, Polygon, Polygons, Pos, Shape};
 use at_text::Memory;
@@ -163,18 +162,6 @@ impl Geometry {
             None => Ok(behind),
             Some(before) => grown_from(Box::into_inner(before), behind).into_shape(),
         }
-    }
-
-    /// A second geometry that is equal to the first.
-    pub fn copy(&self, alloc: Global) -> Result<Self, Memory>
-        ensures { IfOk result (λ g. g ≡ self.now) }
-    {
-        let behind = copy_shape(alloc, &self.behind)?;
-        let before = match &self.before {
-            None => None,
-            Some(before) => Some(Box::new(alloc, copy_shape(alloc, &**before)?)?),
-        };
-        Ok(Geometry { before, behind })
     }
 
     /// The lists of the geometry.

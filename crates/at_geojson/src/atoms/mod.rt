@@ -1,7 +1,6 @@
 //! What is kept of a value, and the atoms of scalars and arrays, made item by item.
 
 pub mod atom;
-pub mod copying;
 pub mod geometries;
 pub mod lists;
 pub mod readings;

@@ -11,7 +11,6 @@ ghost use Rattle.at_geojson.specs.Series.{Begins, Joins, JoinsIf, IfOwnSeries, J
 
 use crate::asked::GeoAlgebra;
 use crate::atoms::atom::{GeoAtom, Lists, ListsAtom, SeriesAtom};
-use crate::atoms::copying::copy_positions;
 use crate::atoms::sorts::at_of;
 use crate::coordinates::kinds::{fault_as_line, fault_as_ring};
 use at_geom::{Path, Pos};
@@ -37,6 +36,15 @@ fn fault_as_rings(atom: &GeoAtom) -> Option<Fault>
         GeoAtom::Series(series) => series.lists.as_rings,
         _ => fault_as_ring(atom),
     }
+}
+
+/// A second list of the same positions, with no more room than for these.
+fn copy_positions(alloc: Global, path: &[Pos]) -> Result<Vec<Pos>, Memory>
+    ensures { IfOk result (λ r. r.items ≡ path.now) }
+{
+    let mut items = Vec::with_capacity(alloc, path.len())?;
+    items.extend_from_slice(path)?;
+    Ok(items)
 }
 
 /// The same positions with no more room than they need. A list with room left is copied and let go as a whole, so that

@@ -182,7 +182,7 @@ pub fn asked_pairs(alloc: Global, tests: &[Test]) -> Result<TextPairs, Memory>
 }
 
 /// A second list of the same texts.
-pub fn copy_texts(alloc: Global, texts: &TextPairs) -> Result<TextPairs, Memory>
+fn copy_texts(alloc: Global, texts: &TextPairs) -> Result<TextPairs, Memory>
     ensures { IfOk result (λ t. t ≡ texts.now) }
 {
     let pairs = texts.as_slice();

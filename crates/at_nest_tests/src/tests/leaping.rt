@@ -63,8 +63,4 @@ impl Algebra for Leaping {
             self.value(alloc, text, at)
         }
     }
-
-    fn copy(&self, _alloc: Global, atom: &u64) -> Result<u64, Memory> {
-        Ok(*atom)
-    }
 }

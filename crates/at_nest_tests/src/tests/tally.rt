@@ -52,10 +52,6 @@ impl Algebra for Tally {
     {
         Ok(nodes_of_members(members))
     }
-
-    fn copy(&self, _alloc: Global, atom: &u64) -> Result<u64, Memory> {
-        Ok(*atom)
-    }
 }
 
 /// The same, with the number of calls that made an atom from a text, items or members.
@@ -108,9 +104,5 @@ impl Algebra for Counted {
     {
         self.call();
         Ok(nodes_of_members(members))
-    }
-
-    fn copy(&self, _alloc: Global, atom: &u64) -> Result<u64, Memory> {
-        Ok(*atom)
     }
 }
