@@ -61,33 +61,12 @@ module _ {X : Type 0} (IsOwn : X → Type 0) (IsFold : X → Tree → Type 0) (I
   are_own base w (ClosersPiece r) ps (inr h) = tt
   are_own base w _ ps (inr h) = absurd h
 
-  pub pieces_own : (base : ℕ) (w : List ℕ) (cs : List (CodePiece X)) (ps : List (Piece Tree)) → EachPiece (OwnAtom IsOwn IsFold IsRun) base w cs ps → All (OwnPiece IsOwn) cs
-  pieces_own base w [] ps h = All-nil (OwnPiece IsOwn)
-  pieces_own base w (c ∷ cs) ps (us, vs, s, h, hs) = All-cons (OwnPiece IsOwn) c cs (are_own base w c us h) (pieces_own base w cs vs hs)
-
   -- the atoms of a row that is the last of what is kept
   pub row_own : (s : Shown X) (front : List (CodePiece X)) (r : Row X) → IsOfItems (OwnAtom IsOwn IsFold IsRun) s → s.outer ≡ front ++ RowPiece r ∷ [] → All IsOwn r.items.items
   row_own s front r (base, w, f, h) e = let c = pieces_cut (OwnAtom IsOwn IsFold IsRun) base w front (RowPiece r) f.outer (subst (λ z. EachPiece (OwnAtom IsOwn IsFold IsRun) base w z f.outer) e h.0) in are_own base w (RowPiece r) c.1 c.4
 
   pub can_add_own : (bytes : List ℕ) (old : Shown X) (c : CodePiece X) → CanAdd (OwnAtom IsOwn IsFold IsRun) bytes old c → OwnPiece IsOwn c
   can_add_own bytes old c (base, w, f, ps, part, h, k) = are_own base w c ps k
-
-  level_cut : (xs ys : List (Held X)) (ls : List (Level Tree)) → EachHeld (OwnAtom IsOwn IsFold IsRun) (xs ++ ys) ls → (us vs : List (Level Tree)) × EachHeld (OwnAtom IsOwn IsFold IsRun) xs us × EachHeld (OwnAtom IsOwn IsFold IsRun) ys vs
-  level_cut [] ys ls h = ([], ls, tt, h)
-  level_cut (x ∷ xs) ys [] h = absurd h
-  level_cut (x ∷ xs) ys (l ∷ ls) h = let r = level_cut xs ys ls h.1 in (l ∷ r.0, r.1, (h.0, r.2), r.3)
-
-  pub levels_own : (xs : List (Open X)) (ls : List (Level Tree)) → EachHeld (OwnAtom IsOwn IsFold IsRun) (open_levels xs) ls → All (OwnLevel IsOwn) xs
-  levels_own [] ls h = All-nil (OwnLevel IsOwn)
-  levels_own (x ∷ xs) ls h = let r = level_cut (open_levels xs) (helds_of x) ls h in All-cons (OwnLevel IsOwn) x xs (open_own x r.1 r.3) (levels_own xs r.0 r.2)
-    where
-      open_own : (x : Open X) (ls : List (Level Tree)) → EachHeld (OwnAtom IsOwn IsFold IsRun) (helds_of x) ls → OwnLevel IsOwn x
-      open_own x [] h = absurd h
-      open_own x (l ∷ ls) h = held_own IsOwn IsFold IsRun (top_of x) l h.0
-
-  pub body_own : (base : ℕ) (w : List ℕ) (b : Body X) (f : Form Tree) → IsShown (OwnAtom IsOwn IsFold IsRun) base w (shown b) f → OwnBody IsOwn b
-  body_own base w b f h = (pieces_own base w b.outer.items f.outer h.0, own_levels IsOwn b.levels (levels_own (opens_of b.levels) f.levels h.1))
-
 -- one element more of a front
 pub take_next : {X : Type 0} (xs : List X) (i : ℕ) (x : X) → i < length xs → x ≡ get_or xs i x → take (i + 1) xs ≡ take i xs ++ x ∷ []
 take_next xs i x h e = (rw (add-one i, take-suc xs i x h) refl) ∙ ap (λ z. take i xs ++ z ∷ []) (sym e)

@@ -20,11 +20,6 @@ all_front P xs ys h = subst (All P) (take-append_seam xs ys) (All-take P (length
 pub all_behind : (P : OtherName → Type 0) (xs ys : List OtherName) → All P (xs ++ ys) → All P ys
 all_behind P xs ys h = subst (All P) (drop-append_seam xs ys) (All-drop P (length xs) (xs ++ ys) h)
 
-pub known_len : (others : OtherNames) → length others.near ≡ 8 → ArePlaced others → length (known_in others) ≡ others.placed + length others.far.items
-known_len others len h =
-    let few : others.placed ≤ length others.near = subst (λ n. others.placed ≤ n) (sym len) h.few in
-    length-append (take others.placed others.near) others.far.items ∙ ap (λ n. n + length others.far.items) (length-take-le others.placed others.near few)
-
 -- those in memory are cut
 pub cut_far : (old new : OtherNames) → length old.near ≡ 8 → ArePlaced old → old.placed ≤ old.count → new.count ≡ old.count → new.placed ≡ old.placed → new.near ≡ old.near → new.far.items ≡ take (old.count - old.placed) old.far.items → AreShortened old new
 cut_far old new len h less ec ep en ef =
