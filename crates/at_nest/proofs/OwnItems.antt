@@ -1,8 +1,6 @@
 -- What stands for items is the algebra's own, and lists of named values are cut and put together.
 use Rattle.std.proofs.Common.{◌≡◌, ℕ, List, [], ◌∷◌, ◌++◌, refl, sym, ◌∙◌, ap, subst, All, add-one, take-suc, get_or, take, length, ◌+◌, ◌<◌, inl, inr}
 use Rattle.std.proofs.lemmas.List.Elements.{All-nil, All-cons}
-use Rattle.at_nest.specs.declared.levels.Open.{Open}
-use Rattle.at_nest.specs.declared.bodies.Body.{Body}
 use Rattle.at_nest.specs.declared.pieces.Piece.{Piece as CodePiece}
 use Rattle.at_nest.specs.declared.pieces.Piece.TheVariants.{Closes, Comma, Colon, Text, Value, Row as RowPiece, Members as MembersPiece, Closers as ClosersPiece}
 use Rattle.at_nest.specs.declared.pieces.Row.{Row}
@@ -10,12 +8,10 @@ use Rattle.at_nest.specs.declared.pieces.NamedValue.{NamedValue}
 use Rattle.at_nest.specs.MemberMarks.{MemberMarks}
 use Rattle.at_nest.specs.Tree.{Tree}
 use Rattle.at_nest.specs.Forms.{Piece, opens, mark, comma, colon, quoted, entry}
-use Rattle.at_nest.specs.Levels.{Level, Form}
-use Rattle.at_nest.specs.Shown.{Held, Shown, top_of, helds_of, open_levels, opens_of, OwnPiece, OwnLevel, OwnBody, shown}
-use Rattle.at_nest.specs.KeptItems.{Content, OwnAtom, EachHeld, IsHeldPiece, EachPiece, ArePieces, EachNamed, row_trees, IsOfItems, CanAdd, IsShown}
-use Rattle.at_nest.proofs.Held.{held_own, each_own}
+use Rattle.at_nest.specs.Shown.{Shown, OwnPiece}
+use Rattle.at_nest.specs.KeptItems.{Content, OwnAtom, IsHeldPiece, EachPiece, ArePieces, EachNamed, row_trees, IsOfItems, CanAdd}
+use Rattle.at_nest.proofs.Held.{each_own}
 use Rattle.at_nest.proofs.Showing.{pieces_cut}
-use Rattle.at_nest.proofs.Stretches.{own_levels}
 
 module _ {X : Type 0} (IsKept : X → Content → Type 0) where
   pub named_cut : (base : ℕ) (w : List ℕ) (xs : List (NamedValue X)) (x : NamedValue X) (es : List MemberMarks) → EachNamed IsKept base w (xs ++ x ∷ []) es
@@ -67,6 +63,7 @@ module _ {X : Type 0} (IsOwn : X → Type 0) (IsFold : X → Tree → Type 0) (I
 
   pub can_add_own : (bytes : List ℕ) (old : Shown X) (c : CodePiece X) → CanAdd (OwnAtom IsOwn IsFold IsRun) bytes old c → OwnPiece IsOwn c
   can_add_own bytes old c (base, w, f, ps, part, h, k) = are_own base w c ps k
+
 -- one element more of a front
 pub take_next : {X : Type 0} (xs : List X) (i : ℕ) (x : X) → i < length xs → x ≡ get_or xs i x → take (i + 1) xs ≡ take i xs ++ x ∷ []
 take_next xs i x h e = (rw (add-one i, take-suc xs i x h) refl) ∙ ap (λ z. take i xs ++ z ∷ []) (sym e)

@@ -1,13 +1,11 @@
 -- Open levels in stretches, as one list.
 -- For `finish`, `finish_span`, `merge` and `run_block`.
-use Rattle.std.proofs.Common.{◌≡◌, ℕ, ◌-◌, ◌<◌, suc, Some, List, [], ◌∷◌, ◌++◌, refl, sym, ◌∙◌, ap, subst, append-nil, append_assoc, arith, length, get_or, All}
+use Rattle.std.proofs.Common.{◌≡◌, ℕ, ◌-◌, ◌<◌, suc, Some, List, [], ◌∷◌, ◌++◌, refl, sym, ◌∙◌, ap, subst, append-nil, append_assoc, arith, length, get_or}
 use Rattle.std.proofs.lemmas.Option.{none-some, same_Some, slice_get-get_or}
 use Rattle.std.specs.List.{slice_get, slice_set}
-use Rattle.std.proofs.lemmas.List.Elements.{All-nil, All-cons, All-head, All-tail}
 use Rattle.at_nest.specs.declared.levels.Open.{Open}
 use Rattle.at_nest.specs.declared.open_levels.Stretch.{Stretch}
-use Rattle.at_nest.specs.declared.open_levels.Levels.{Levels}
-use Rattle.at_nest.specs.Shown.{helds_of, open_levels, stretched, opens_of, OwnLevel, OwnStretch, OwnLevels}
+use Rattle.at_nest.specs.Shown.{helds_of, open_levels, stretched}
 use Rattle.at_nest.specs.Nests.{PutsLast}
 use Rattle.at_nest.specs.Refusals.{last_of}
 use Rattle.at_nest.proofs.Showing.{open_append}
@@ -91,17 +89,3 @@ added_stretch old new s levels e f = ap stretched e ∙ (stretched_last old s �
 
 pub appended : {X : Type 0} (old mid new ts : List (Stretch X)) (xs ys : List (Open X)) → stretched mid ≡ stretched old ++ xs → new ≡ mid ++ ts → stretched new ++ ys ≡ (stretched old ++ xs) ++ (stretched ts ++ ys)
 appended old mid new ts xs ys e f = ap (λ z. z ++ ys) (ap stretched f ∙ (stretched_append mid ts ∙ ap (λ z. z ++ stretched ts) e)) ∙ append_assoc (stretched old ++ xs) (stretched ts) ys
-
--- each level of stretches is the algebra's own
-all_cut : {A : Type 0} (P : A → Type 0) (xs ys : List A) → All P (xs ++ ys) → All P xs × All P ys
-all_cut P [] ys h = (All-nil P, h)
-all_cut P (x ∷ xs) ys h = let (a, b) = all_cut P xs ys (All-tail P x (xs ++ ys) h) in (All-cons P x xs (All-head P x (xs ++ ys) h) a, b)
-
-stretches_own : {X : Type 0} (IsOwn : X → Type 0) (ss : List (Stretch X)) → All (OwnLevel IsOwn) (stretched ss) → All (OwnStretch IsOwn) ss
-stretches_own IsOwn [] h = All-nil (OwnStretch IsOwn)
-stretches_own IsOwn (s ∷ ss) h = let (a, b) = all_cut (OwnLevel IsOwn) (s.round.items ++ s.innermost ∷ []) (stretched ss) h in
-    let (c, d) = all_cut (OwnLevel IsOwn) s.round.items (s.innermost ∷ []) a in
-    All-cons (OwnStretch IsOwn) s ss (c, All-head (OwnLevel IsOwn) s.innermost [] d) (stretches_own IsOwn ss b)
-
-pub own_levels : {X : Type 0} (IsOwn : X → Type 0) (l : Levels X) → All (OwnLevel IsOwn) (opens_of l) → OwnLevels IsOwn l
-own_levels IsOwn l h = let (a, b) = all_cut (OwnLevel IsOwn) (stretched l.before.items) l.last.items h in (stretches_own IsOwn l.before.items a, b)

@@ -195,16 +195,3 @@ module _ {X : Type 0} (IsOwn : X → Type 0) where
   OwnPiece (RowPiece r) = All IsOwn r.items.items
   OwnPiece (MembersPiece r) = All (λ m. IsOwn m.value) r.items.items
   OwnPiece _ = ⊤
-
--- each level's atoms are the algebra's own
-abbrev pub OwnLevel : {X : Type 0} → (X → Type 0) → Open X → Type 0
-OwnLevel IsOwn o = AreOwn IsOwn (top_of o)
-
-abbrev pub OwnStretch : {X : Type 0} → (X → Type 0) → Stretch X → Type 0
-OwnStretch IsOwn s = All (OwnLevel IsOwn) s.round.items × OwnLevel IsOwn s.innermost
-
-abbrev pub OwnLevels : {X : Type 0} → (X → Type 0) → Levels X → Type 0
-OwnLevels IsOwn l = All (OwnStretch IsOwn) l.before.items × All (OwnLevel IsOwn) l.last.items
-
-abbrev pub OwnBody : {X : Type 0} → (X → Type 0) → Body X → Type 0
-OwnBody IsOwn b = All (OwnPiece IsOwn) b.outer.items × OwnLevels IsOwn b.levels
