@@ -21,25 +21,17 @@ use Rattle.at_query.specs.Results.{Keeps, all_positions, all_polygons}
 use Rattle.at_query.specs.Parts.{IsHullInRange, IsKeptOf, IsPart, JoinsParts}
 use Rattle.at_query.specs.Accumulators.{IsKeptIn, IsAccumulated, AreOfOneVerb, JoinsAccumulators, IsNoHull, KeepsNoShape, added_by}
 use Rattle.at_query.proofs.KeptLists.{keeps-append, keeps_one, drops_one}
-use Rattle.at_query.proofs.Joining.{parts_are_alike}
-
--- ---- nothing
+use Rattle.at_query.proofs.Joining.{verb_of, kept_verb, parts_are_alike}
 
 -- ---- what a part becomes
 
-kept_hull : (h : List Pos) (growth : Growth) → IsHull h h → held growth ≡ h → (verb : Verb) (kept : List Feature) → IsKeptOf verb kept (parts.Hull h) → IsKeptIn verb kept (Hull growth)
-kept_hull h growth own e verbs.Select kept is = absurd (cc)
-kept_hull h growth own e verbs.Count kept is = absurd (cc)
-kept_hull h growth own e verbs.Area kept is = absurd (cc)
-kept_hull h growth own e verbs.Extent kept is = absurd (cc)
-kept_hull h growth own e verbs.Hull kept (g, is, k) =
-    let same : g ≡ h = cc in
-    (refl, subst (λ z. HaveOneHull (all_positions kept) z) (sym e) (one_hull_own (all_positions kept) h (subst (IsHull (all_positions kept)) same k.0) own))
-kept_hull h growth own e verbs.Join kept is = absurd (cc)
-
 pub from_hull : (part : Part) (h : List Pos) (growth : Growth) → part ≡ parts.Hull h → IsHull h h → held growth ≡ h
     → (query : Query) (fs : List Feature) → IsPart query fs part → IsAccumulated query fs (Hull growth)
-from_hull part h growth p own e query fs (kept, keeps, is) = (kept, keeps, kept_hull h growth own e query.verb kept (subst (IsKeptOf query.verb kept) p is))
+from_hull part h growth p own e query fs (kept, keeps, is) =
+    let verb : query.verb ≡ verbs.Hull = kept_verb query.verb kept part is ∙ ap verb_of p in
+    let (g, same, k) = subst (λ v. IsKeptOf v kept part) verb is in
+    let equal : g ≡ h = cc in
+    (kept, keeps, (verb, subst (λ z. HaveOneHull (all_positions kept) z) (sym e) (one_hull_own (all_positions kept) h (subst (IsHull (all_positions kept)) equal k.0) own)))
 
 -- ---- and back
 
@@ -119,23 +111,24 @@ added_hull query f kept old new holds e grown fs is =
       (k.0, subst (λ z. HaveOneHull z (held new)) (sym all) (one_hull_grown (all_positions left) (held old) (positions f.shape) (held new) k.1 grown)),
     )
 
--- what is kept in place of a part is no hull
-pub accumulated_no_hull : (query : Query) (fs : List Feature) (kept : Accumulator) (part : Part) → kept ≡ APart part → IsAccumulated query fs kept → IsNoHull part
-accumulated_no_hull query fs kept part e is =
+-- what is kept in place of a part is of another verb than a hull
+not_hull : (query : Query) (fs : List Feature) (kept : Accumulator) (part : Part) → kept ≡ APart part → IsAccumulated query fs kept → (query.verb ≡ verb_of part) × (verb_of part ≢ verbs.Hull)
+not_hull query fs kept part e is =
     let P : Accumulator → Type 0 = IsAccumulated query fs in
     let (left, keeps, k) = subst P e is in
-    of_verb query.verb left part k.0 k.1 where
-      of_verb : (verb : Verb) (left : List Feature) (part : Part) → verb ≢ verbs.Hull → IsKeptOf verb left part → IsNoHull part
-      of_verb verbs.Hull left part n e = absurd (n refl)
-      of_verb _ left part n e = rw (e) tt
+    let verb = kept_verb query.verb left part k.1 in
+    (verb, λ f. k.0 (verb ∙ f))
 
--- what is kept in place of a part for a verb other than join is no list of entries
+pub accumulated_no_hull : (query : Query) (fs : List Feature) (kept : Accumulator) (part : Part) → kept ≡ APart part → IsAccumulated query fs kept → IsNoHull part
+accumulated_no_hull query fs kept part e is = of_part part (not_hull query fs kept part e is).1 where
+  of_part : (part : Part) → verb_of part ≢ verbs.Hull → IsNoHull part
+  of_part (parts.Hull h) n = n refl
+  of_part _ n = tt
+
+-- and for a verb other than join it is no list of entries
 pub accumulated_no_shape : (query : Query) (fs : List Feature) (kept : Accumulator) (part : Part) → query.verb ≢ verbs.Join → kept ≡ APart part → IsAccumulated query fs kept → KeepsNoShape part
-accumulated_no_shape query fs kept part m e is =
-    let P : Accumulator → Type 0 = IsAccumulated query fs in
-    let (left, keeps, k) = subst P e is in
-    of_verb query.verb left part m k.0 k.1 where
-      of_verb : (verb : Verb) (left : List Feature) (part : Part) → verb ≢ verbs.Join → verb ≢ verbs.Hull → IsKeptOf verb left part → KeepsNoShape part
-      of_verb verbs.Hull left part m n e = absurd (n refl)
-      of_verb verbs.Join left part m n e = absurd (m refl)
-      of_verb _ left part m n e = rw (e) tt
+accumulated_no_shape query fs kept part m e is = let (verb, n) = not_hull query fs kept part e is in of_part part (λ f. m (verb ∙ f)) n where
+  of_part : (part : Part) → verb_of part ≢ verbs.Join → verb_of part ≢ verbs.Hull → KeepsNoShape part
+  of_part (parts.Hull h) m n = n refl
+  of_part (parts.Entries es) m n = m refl
+  of_part _ m n = tt

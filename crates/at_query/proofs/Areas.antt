@@ -5,7 +5,7 @@ use Rattle.std.specs.Prelude.{All, FitsSigned, ◌^◌}
 use Rattle.std.specs.Int.{w128, int_wrap}
 use Rattle.std.proofs.Math.IntN.{+ℤ_assoc}
 use Rattle.std.proofs.lemmas.Int.{ints, int_wrap-add_left, int_wrap-add_right, int_wrap_fits, fits_signed_from_abs}
-use Rattle.std.proofs.lemmas.List.{drop_more}
+use Rattle.std.proofs.lemmas.List.{map-append, drop_more}
 use Rattle.at_geom.specs.declared.positions.Pos.{Pos}
 use Rattle.at_geom.specs.declared.shapes.Polygon.{Polygon}
 use Rattle.at_geom.specs.Segments.{IsInRange}
@@ -18,16 +18,12 @@ pub sum_of-append : (xs ys : List ℤ) → sum_of (xs ++ ys) ≡ sum_of xs +ℤ 
 sum_of-append [] ys = omega (arith, ints)
 sum_of-append (x ∷ xs) ys = omega (arith, ints, sum_of-cons x (xs ++ ys), sum_of-cons x xs, sum_of-append xs ys)
 
-map_of_append : (ps qs : List Polygon) → map wrapped_area (ps ++ qs) ≡ map wrapped_area ps ++ map wrapped_area qs
-map_of_append [] qs = refl
-map_of_append (p ∷ ps) qs = ap (λ l. wrapped_area p ∷ l) (map_of_append ps qs)
-
 -- wrapped sums add up, however they are grouped
 pub wrapped_sum-append : (ps qs : List Polygon) → int_wrap w128 (wrapped_sum ps +ℤ wrapped_sum qs) ≡ wrapped_sum (ps ++ qs)
 wrapped_sum-append ps qs =
     let a = sum_of (map wrapped_area ps) in
     let b = sum_of (map wrapped_area qs) in
-    int_wrap-add_left w128 a (int_wrap w128 b) ∙ int_wrap-add_right w128 a b ∙ ap (int_wrap w128) (sym (sum_of-append (map wrapped_area ps) (map wrapped_area qs))) ∙ ap (λ l. int_wrap w128 (sum_of l)) (sym (map_of_append ps qs))
+    int_wrap-add_left w128 a (int_wrap w128 b) ∙ int_wrap-add_right w128 a b ∙ ap (int_wrap w128) (sym (sum_of-append (map wrapped_area ps) (map wrapped_area qs))) ∙ ap (λ l. int_wrap w128 (sum_of l)) (sym (map-append wrapped_area ps qs))
 
 -- a step of a sum that is wrapped at each step
 pub area_step : (s s' : ℤ) (ps : List Polygon) (i : ℕ) (d : Polygon) → i < length ps → s' ≡ int_wrap w128 (s +ℤ wrapped_area (get_or ps i d))

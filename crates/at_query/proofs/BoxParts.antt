@@ -7,8 +7,8 @@ use Rattle.at_geom.specs.declared.rectangles.Extent.{Extent}
 use Rattle.at_query.specs.declared.query.boxes.Corners.{Corners}
 use Rattle.at_query.specs.Spelling.{Placed, SpelledBox}
 use Rattle.at_query.specs.Queries.{lesser, least_of, faults_with, is_reversed, numbers_faults, placed_faults}
-use Rattle.at_query.specs.Readers.{Ends, Stops, WordStands, WordBreaks, Behind, Then, NumberMeaning, BoxMeaning, Four, fault_with, number_meaning, Number, FourNumbers, box_meaning, Box, box_in, four_in, extent_in, four_fault}
-use Rattle.at_query.proofs.Parted.{Lives, Tells, then_ends, then_stops, first_stops, told_ends, told_stops, behind_ends, behind_stops, behind_word, behind_lives, then_lives, told_lives}
+use Rattle.at_query.specs.Readers.{Behind, Then, NumberMeaning, BoxMeaning, Four, fault_with, number_meaning, Number, FourNumbers, box_meaning, Box, box_in, four_in, extent_in, four_fault}
+use Rattle.at_query.proofs.Parted.{Lives, Tells, behind_lives, then_lives, told_lives}
 
 -- ---- the least of offsets
 
@@ -59,33 +59,11 @@ module _ (digits : ℕ) (how : Coords) where
   abbrev Three : NumberMeaning × (NumberMeaning × NumberMeaning) → ℕ → List ℕ → Type 0
   Three = Then (N 0x2C) Last
 
-  last_lives : Lives Last
-  last_lives = then_lives (N 0x20) (N 0x29) (number_lives 0x20) (number_lives 0x29)
+  pub last_lives : Lives Last
+  last_lives = then_lives (number_lives 0x20) (number_lives 0x29)
 
-  three_lives : Lives Three
-  three_lives = then_lives (N 0x2C) Last (number_lives 0x2C) last_lives
-
-  pub four_lives : Lives (FourNumbers digits how)
-  four_lives = then_lives (N 0x20) Three (number_lives 0x20) three_lives
-
-  module _ (w : List ℕ) (i : ℕ) where
-    pub corners_first : (n : ℕ) → Stops (N 0x20) w i n → Stops (FourNumbers digits how) w i n
-    corners_first n h = first_stops (N 0x20) Three three_lives w i n h
-
-    module _ (j : ℕ) (a : NumberMeaning) (ha : Ends (N 0x20) w i j a) where
-      pub corners_second : (n : ℕ) → Stops (N 0x2C) w j n → Stops (FourNumbers digits how) w i n
-      corners_second n h = then_stops (N 0x20) Three w i j a ha n (first_stops (N 0x2C) Last last_lives w j n h)
-
-      module _ (k : ℕ) (b : NumberMeaning) (hb : Ends (N 0x2C) w j k b) where
-        pub corners_third : (n : ℕ) → Stops (N 0x20) w k n → Stops (FourNumbers digits how) w i n
-        corners_third n h = then_stops (N 0x20) Three w i j a ha n (then_stops (N 0x2C) Last w j k b hb n (first_stops (N 0x20) (N 0x29) (number_lives 0x29) w k n h))
-
-        module _ (l : ℕ) (c : NumberMeaning) (hc : Ends (N 0x20) w k l c) where
-          pub corners_fourth : (n : ℕ) → Stops (N 0x29) w l n → Stops (FourNumbers digits how) w i n
-          corners_fourth n h = then_stops (N 0x20) Three w i j a ha n (then_stops (N 0x2C) Last w j k b hb n (then_stops (N 0x20) (N 0x29) w k l c hc n h))
-
-          pub corners_end : (m : ℕ) (d : NumberMeaning) → Ends (N 0x29) w l m d → Ends (FourNumbers digits how) w i m (a, (b, (c, d)))
-          corners_end m d h = then_ends (N 0x20) Three w i j a ha m (b, (c, d)) (then_ends (N 0x2C) Last w j k b hb m (c, d) (then_ends (N 0x20) (N 0x29) w k l c hc m d h))
+  pub three_lives : Lives Three
+  three_lives = then_lives (number_lives 0x2C) last_lives
 
   -- ---- the box
 
@@ -100,12 +78,7 @@ module _ (digits : ℕ) (how : Coords) where
 
   numbers_least : (b : SpelledBox) → least_of (numbers_faults digits how b) ≡ lesser (least_of (placed_faults digits how b.low_x)) (lesser (least_of (placed_faults digits how b.low_y))
       (lesser (least_of (placed_faults digits how b.high_x)) (least_of (placed_faults digits how b.high_y))))
-  numbers_least b =
-      let p = placed_faults digits how b.low_x in
-      let q = placed_faults digits how b.low_y in
-      let r = placed_faults digits how b.high_x in
-      let s = placed_faults digits how b.high_y in
-      least_of-append p (q ++ (r ++ s)) ∙ ap (lesser (least_of p)) (least_of-append q (r ++ s) ∙ ap (lesser (least_of q)) (least_of-append r s))
+  numbers_least b = simp least_of-append
 
   meaning_is : (b : SpelledBox) → box_meaning digits how b ≡ box_of b.at (four_of b)
   meaning_is b =
@@ -114,12 +87,9 @@ module _ (digits : ℕ) (how : Coords) where
 
   same_four : (b : SpelledBox) (f : Four) → f.0 ≡ number_meaning digits how b.low_x → f.1.0 ≡ number_meaning digits how b.low_y → f.1.1.0 ≡ number_meaning digits how b.high_x → f.1.1.1 ≡ number_meaning digits how b.high_y
       → f ≡ four_of b
-  same_four b f e1 e2 e3 e4 =
-      ap (λ z. (z, (f.1.0, (f.1.1.0, f.1.1.1)))) e1 ∙ (ap (λ z. (number_meaning digits how b.low_x, (z, (f.1.1.0, f.1.1.1)))) e2
-      ∙ (ap (λ z. (number_meaning digits how b.low_x, (number_meaning digits how b.low_y, (z, f.1.1.1)))) e3
-      ∙ ap (λ z. (number_meaning digits how b.low_x, (number_meaning digits how b.low_y, (number_meaning digits how b.high_x, z)))) e4))
+  same_four b f e1 e2 e3 e4 = let same : ◌≡◌ {A = Four} (f.0, (f.1.0, (f.1.1.0, f.1.1.1))) (four_of b) = cc in same
 
-  box_tells : Tells (Box digits how) (Behind (codes "box(") (FourNumbers digits how)) box_of
+  pub box_tells : Tells (Box digits how) (Behind (codes "box(") (FourNumbers digits how)) box_of
   box_tells = record {
     to = λ f at v (v1, v2, ev, word, (v3, v4, e2, (p1, m1, s1), (v5, v6, e3, (p2, m2, s2), (v7, v8, e4, (p3, m3, s3), (p4, m4, s4))))).
         let b : SpelledBox = record { at = at; low_x = p1; low_y = p2; high_x = p3; high_y = p4 } in
@@ -131,18 +101,11 @@ module _ (digits : ℕ) (how : Coords) where
     );
   }
 
+  pub four_lives : Lives (FourNumbers digits how)
+  four_lives = then_lives (number_lives 0x20) three_lives
+
   pub box_lives : Lives (Box digits how)
-  box_lives = told_lives (Box digits how) (Behind (codes "box(") (FourNumbers digits how)) box_of box_tells (behind_lives (codes "box(") (FourNumbers digits how) four_lives)
-
-  module _ (w : List ℕ) (i : ℕ) where
-    pub box_word : (n : ℕ) → WordBreaks w i n (codes "box(") → Stops (Box digits how) w i n
-    box_word n h = told_stops (Box digits how) (Behind (codes "box(") (FourNumbers digits how)) box_of box_tells w i n (behind_word (codes "box(") (FourNumbers digits how) w i four_lives n h)
-
-    pub box_stops : (j : ℕ) → WordStands w i j (codes "box(") → (n : ℕ) → Stops (FourNumbers digits how) w j n → Stops (Box digits how) w i n
-    box_stops j s n h = told_stops (Box digits how) (Behind (codes "box(") (FourNumbers digits how)) box_of box_tells w i n (behind_stops (codes "box(") (FourNumbers digits how) w i j s n h)
-
-    pub box_ends : (j : ℕ) → WordStands w i j (codes "box(") → (k : ℕ) (f : Four) → Ends (FourNumbers digits how) w j k f → Ends (Box digits how) w i k (box_of i f)
-    box_ends j s k f h = told_ends (Box digits how) (Behind (codes "box(") (FourNumbers digits how)) box_of box_tells w i k f (behind_ends (codes "box(") (FourNumbers digits how) w i j s k f h)
+  box_lives = told_lives box_tells (behind_lives (codes "box(") four_lives)
 
   -- the meaning is what was read
   pub box_is : (at : ℕ) (c : Corners) (end : ℕ) (extent : Extent) (fault : Option ℕ) → extent ≡ extent_in c → fault ≡ fault_with (four_fault c) extent at

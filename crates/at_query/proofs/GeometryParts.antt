@@ -1,23 +1,23 @@
 -- What a shape is to meet: a box, or a geometry, whose word begins with another letter.
 -- For `read_query`.
-use Rattle.std.proofs.Common.{◌≡◌, ℕ, ◌+◌, ◌-◌, ◌≤◌, ◌==◌, inl, inr, Bool, true, false, not, List, [], ◌∷◌, ◌++◌, length, take, drop, codes, None, is_none, if◌then◌else◌, option_map, refl, sym, ◌∙◌, ap, subst, arith, append_assoc, take-append-drop, length-append, nat_lt, lit≤, true≢false}
+use Rattle.std.proofs.Common.{◌≡◌, ℕ, ◌+◌, ◌-◌, ◌≤◌, ◌==◌, inl, inr, Bool, true, false, not, List, [], ◌∷◌, ◌++◌, length, take, drop, codes, Option, None, is_none, if◌then◌else◌, option_map, refl, sym, ◌∙◌, ap, subst, arith, append_assoc, take-append-drop, length-append, nat_lt, lit≤, true≢false}
 use Rattle.std.specs.Char.{to_ascii_uppercase}
 use Rattle.std.specs.Str.{str_to_ascii_uppercase}
 use Rattle.std.proofs.Math.Seq.{take-append_seam}
-use Rattle.std.proofs.lemmas.Bool.{eqb-true}
+use Rattle.std.proofs.lemmas.Bool.{eqb-true, not-true}
 use Rattle.at_text.specs.declared.faults.Fault.{Fault}
 use Rattle.at_text.specs.declared.faults.FaultKind.TheVariants.{Syntax, Ended}
 use Rattle.at_text.specs.Faults.{first_of, fault_at}
 use Rattle.at_fixed.specs.declared.rounding.Coords.{Coords}
+use Rattle.at_geom.specs.declared.shapes.Shape.{Shape}
 use Rattle.at_wkt.specs.declared.answers.Prefix.{Prefix}
-use Rattle.at_wkt.specs.Geometry.{Geometry, point, line_string, polygon, multi_point, multi_line_string, multi_polygon, collection, SpellsGeometry, WktGeometry}
+use Rattle.at_wkt.specs.Geometry.{Geometry, point, SpellsGeometry, WktGeometry}
 use Rattle.at_wkt.specs.Meaning.{shape_of, faults_of, empty_shape}
 use Rattle.at_wkt.specs.Answers.{IsPrefixOf, IsPrefixFault}
 use Rattle.at_query.specs.declared.query.queries.Test.TheVariants.{MeetsShape}
 use Rattle.at_fixed.specs.NumberSoFar.{between}
-use Rattle.at_wkt.specs.Readers.{next}
-use Rattle.at_query.specs.Readers.{Ends, Stops, TestMeaning, BoxMeaning, met_box, Box, geometry_meaning, BoxTarget, GeometryTarget, Target}
-use Rattle.at_query.proofs.Parted.{Lives, Begins, When, Tells, when_ends, when_stops, told_ends, told_stops}
+use Rattle.at_query.specs.Readers.{Ends, Stops, TestMeaning, met_box, Box, geometry_meaning, BoxTarget, GeometryTarget, Target}
+use Rattle.at_query.proofs.Parted.{Lives, Begins, When, Tells}
 use Rattle.at_query.proofs.StringParts.{slice_part, slice_fits, language_within, language_viable, language_dead}
 
 -- ---- the first letter
@@ -42,16 +42,14 @@ first_letter (b ∷ a) r v letter rest e u h = let upper : to_ascii_uppercase b 
 
 pub geometry_letter : (g : Geometry) (at : ℕ) (v : List ℕ) → SpellsGeometry at v g → (b : ℕ) × (t : List ℕ) × (v ≡ b ∷ t) × (is_no_b b ≡ true)
 geometry_letter (point p) at v (d, (a, r, e, h, q)) = first_letter a r v 0x50 (codes "OINT") e h refl
-geometry_letter (line_string p) at v (d, (a, r, e, h, q)) = first_letter a r v 0x4C (codes "INESTRING") e h refl
-geometry_letter (polygon p) at v (d, (a, r, e, h, q)) = first_letter a r v 0x50 (codes "OLYGON") e h refl
-geometry_letter (multi_point p) at v (d, (a, r, e, h, q)) = first_letter a r v 0x4D (codes "ULTIPOINT") e h refl
-geometry_letter (multi_line_string p) at v (d, (a, r, e, h, q)) = first_letter a r v 0x4D (codes "ULTILINESTRING") e h refl
-geometry_letter (multi_polygon p) at v (d, (a, r, e, h, q)) = first_letter a r v 0x4D (codes "ULTIPOLYGON") e h refl
-geometry_letter (collection p) at v (d, (a, r, e, h, q)) = first_letter a r v 0x47 (codes "EOMETRYCOLLECTION") e h refl
+geometry_letter _ at v (d, (a, r, e, h, q)) = first_letter a r v _ _ e h refl
 
 either_at : (m : ℕ) (t : Bool) → (if t then fault_at Syntax m else fault_at Ended m).at ≡ m
 either_at m true = refl
 either_at m false = refl
+
+abbrev meant : Shape → Option Fault → TestMeaning
+meant s o = record { test = MeetsShape (if is_none o then s else empty_shape); fault = option_map (λ (f : Fault). f.at) o }
 
 module _ (digits : ℕ) (how : Coords) where
   -- ---- a geometry
@@ -60,16 +58,10 @@ module _ (digits : ℕ) (how : Coords) where
     module _ (prefix : Prefix) (h : IsPrefixOf digits how i (take (length w - i) (drop i w)) prefix) where
       meaning_is : record { test = MeetsShape prefix.shape; fault = option_map (λ (f : Fault). f.at) prefix.fault } ≡ geometry_meaning digits how h.geometry
       meaning_is =
-          let shape : prefix.shape ≡ (if is_none (first_of (faults_of digits how h.geometry)) then shape_of digits how h.geometry else empty_shape) =
-          h.shape_is ∙ ap (λ z. if is_none z then shape_of digits how h.geometry else empty_shape) h.fault_is in
-          ap (λ z. record { test = MeetsShape z; fault = option_map (λ (f : Fault). f.at) prefix.fault }) shape
-          ∙ ap (λ z. record { test = MeetsShape (if is_none (first_of (faults_of digits how h.geometry)) then shape_of digits how h.geometry else empty_shape); fault = option_map (λ (f : Fault). f.at) z }) h.fault_is
+          ap (λ z. record { test = MeetsShape z; fault = option_map (λ (f : Fault). f.at) prefix.fault }) h.shape_is ∙ ap (meant (shape_of digits how h.geometry)) h.fault_is
 
       meaning_same : (g : Geometry) → shape_of digits how g ≡ shape_of digits how h.geometry → first_of (faults_of digits how g) ≡ prefix.fault → geometry_meaning digits how g ≡ geometry_meaning digits how h.geometry
-      meaning_same g es ef =
-          let fault = ef ∙ h.fault_is in
-          ap (λ z. record { test = MeetsShape (if is_none (first_of (faults_of digits how g)) then z else empty_shape); fault = option_map (λ (f : Fault). f.at) (first_of (faults_of digits how g)) }) es
-          ∙ ap (λ z. record { test = MeetsShape (if is_none z then shape_of digits how h.geometry else empty_shape); fault = option_map (λ (f : Fault). f.at) z }) fault
+      meaning_same g es ef = ap (λ z. meant z (first_of (faults_of digits how g))) es ∙ ap (meant (shape_of digits how h.geometry)) (ef ∙ h.fault_is)
 
       pub geometry_ends : Ends (GeometryTarget digits how) w i (i + prefix.taken) (record { test = MeetsShape prefix.shape; fault = option_map (λ (f : Fault). f.at) prefix.fault })
       geometry_ends = record {
@@ -116,14 +108,8 @@ module _ (digits : ℕ) (how : Coords) where
 
   -- ---- one of the two
 
-  box_target_tells : Tells (BoxTarget digits how) (Box digits how) (λ at. met_box)
-  box_target_tells = record { to = λ b at v h. (b, refl, h); from = λ m at v (b, em, h). (b, em, h) }
-
-  pub met_box_ends : (w : List ℕ) (i j : ℕ) (b : BoxMeaning) → Ends (Box digits how) w i j b → Ends (BoxTarget digits how) w i j (met_box b)
-  met_box_ends w i j b h = told_ends (BoxTarget digits how) (Box digits how) (λ at. met_box) box_target_tells w i j b h
-
-  pub met_box_stops : (w : List ℕ) (i n : ℕ) → Stops (Box digits how) w i n → Stops (BoxTarget digits how) w i n
-  met_box_stops w i n h = told_stops (BoxTarget digits how) (Box digits how) (λ at. met_box) box_target_tells w i n h
+  pub met_tells : Tells (BoxTarget digits how) (Box digits how) (λ at. met_box)
+  met_tells = record { to = λ b at v h. (b, refl, h); from = λ m at v (b, em, h). (b, em, h) }
 
   box_begins : Begins is_b (BoxTarget digits how)
   box_begins m at v (bm, em, (b, eb, (ei, (v1, v2, ev, word, more)))) = (0x62, codes "ox(" ++ v2, ev ∙ ap (λ z. z ++ v2) word, refl)
@@ -131,40 +117,25 @@ module _ (digits : ℕ) (how : Coords) where
   geometry_begins : Begins is_no_b (GeometryTarget digits how)
   geometry_begins m at v (g, em, s) = geometry_letter g at v s
 
-  fails : (b : ℕ) (t : Bool) → (b == 0x62) ≡ t → not t ≡ true → t ≡ false
-  fails b true e h = absurd (true≢false (sym h))
-  fails b false e h = refl
-
-  when_box : When (Target digits how) (BoxTarget digits how) (λ m. m) is_b
+  pub when_box : When (Target digits how) (BoxTarget digits how) (λ m. m) is_b
   when_box = record {
     to = λ m at v h. inl h;
     from = λ m at v h. elim h [
       | inl box ↦ inl (m, refl, box)
-      | inr geometry ↦ (let (b, t, e, h2) = geometry_begins m at v geometry in inr (b, t, e, fails b (b == 0x62) refl h2))
+      | inr geometry ↦ (let (b, t, e, h2) = geometry_begins m at v geometry in inr (b, t, e, not-true (b == 0x62) h2))
     ];
+    begins = box_begins;
   }
 
-  when_geometry : When (Target digits how) (GeometryTarget digits how) (λ m. m) is_no_b
+  pub when_geometry : When (Target digits how) (GeometryTarget digits how) (λ m. m) is_no_b
   when_geometry = record {
     to = λ m at v h. inr h;
     from = λ m at v h. elim h [
       | inl box ↦ (let (b, t, e, h2) = box_begins m at v box in inr (b, t, e, ap not h2))
       | inr geometry ↦ inl (m, refl, geometry)
     ];
+    begins = geometry_begins;
   }
 
   pub target_lives : Lives (Target digits how)
   target_lives at = let (m, v, h) = geometry_lives at in (m, v, inr h)
-
-  module _ (w : List ℕ) (i : ℕ) where
-    pub target_box_ends : is_b (next w i) ≡ true → (j : ℕ) (m : TestMeaning) → Ends (BoxTarget digits how) w i j m → Ends (Target digits how) w i j m
-    target_box_ends here j m h = when_ends (Target digits how) (BoxTarget digits how) (λ z. z) is_b when_box w i here box_begins j m h
-
-    pub target_box_stops : is_b (next w i) ≡ true → (n : ℕ) → Stops (BoxTarget digits how) w i n → Stops (Target digits how) w i n
-    target_box_stops here n h = when_stops (Target digits how) (BoxTarget digits how) (λ z. z) is_b when_box w i here n h
-
-    pub target_geometry_ends : is_b (next w i) ≡ false → (j : ℕ) (m : TestMeaning) → Ends (GeometryTarget digits how) w i j m → Ends (Target digits how) w i j m
-    target_geometry_ends here j m h = when_ends (Target digits how) (GeometryTarget digits how) (λ z. z) is_no_b when_geometry w i (ap not here) geometry_begins j m h
-
-    pub target_geometry_stops : is_b (next w i) ≡ false → (n : ℕ) → Stops (GeometryTarget digits how) w i n → Stops (Target digits how) w i n
-    target_geometry_stops here n h = when_stops (Target digits how) (GeometryTarget digits how) (λ z. z) is_no_b when_geometry w i (ap not here) n h

@@ -8,11 +8,7 @@ pub mod Spreads
 pub mod Areas
 pub mod Hulls
 pub mod Joining
-pub mod Growing
-pub mod Taken
-pub mod Rooms
 pub mod Accumulating
-pub mod Exact
 pub mod ProperEntries
 pub mod Parted
 pub mod NumberParts
@@ -23,7 +19,6 @@ pub mod TestParts
 pub mod TestLists
 pub mod QueryParts
 pub mod ShapeRanges
-pub mod QueryRanges
 pub mod OneAnswer
 pub mod OneQuery
 pub mod OneSpelled

@@ -28,7 +28,6 @@ asked_once verbs.Join fs a b e f = absurd e
 asked_once _ fs a b e f = e ∙ sym f
 
 kept_once : (verb : Verb) (fs : List Feature) (a b : Part) → IsKeptOf verb fs a → IsKeptOf verb fs b → a ≡ b
-kept_once verbs.Select fs a b e f = e ∙ sym f
 kept_once verbs.Hull fs a b (h, e, k) (g, f, l) = e ∙ (ap Hull (one_hull (all_positions fs) h g k.0 l.0) ∙ sym f)
 kept_once _ fs a b e f = e ∙ sym f
 

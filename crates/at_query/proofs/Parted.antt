@@ -22,24 +22,20 @@ pub onward_ahead : (w : List ℕ) (i n : ℕ) → i ≤ n → (u : List ℕ) →
 onward_ahead w i n h u (past below s e) = ([], s, append-nil u ∙ (e ∙ (ap (λ z. z ++ s) (part-more w i n h below) ∙ append_assoc (between w i n) (next w n ∷ []) s)))
 onward_ahead w i n h u (over end e) = (256 ∷ [], [], ap (λ z. z ++ (256 ∷ [])) e ∙ ap (λ z. between w i n ++ (z ∷ [])) (sym (get_or_past w n 256 (omega (arith, end)))))
 
--- the rest of the text goes on as the text does
-pub rest_onward : (w : List ℕ) (i n : ℕ) → i ≤ n → n ≤ length w → AgreesThrough w i n (drop i w)
-rest_onward w i n h k = elim (dec_lt n (length w)) [
-  | yes below ↦ past below (drop (n + 1) w) (rest_is (n + 1) (omega arith) (omega arith))
-  | no f ↦ (let same : n ≡ length w = omega arith in over same (ap (drop i) (sym (ap (λ z. take z w) same ∙ take-length w))))
-] where
-  rest_is : (m : ℕ) → i ≤ m → m ≤ length w → drop i w ≡ between w i m ++ drop m w
-  rest_is m a b =
-      let whole : w ≡ take (length w) w = sym (take-length w) in
-      ap (drop i) whole ∙ (part-part w i m (length w) a b (omega arith) ∙ ap (λ z. between w i m ++ drop m z) (take-length w))
-
 pub rest_split : (w : List ℕ) (i j : ℕ) → i ≤ j → j ≤ length w → drop i w ≡ between w i j ++ drop j w
 rest_split w i j a b =
     let whole : w ≡ take (length w) w = sym (take-length w) in
     ap (drop i) whole ∙ (part-part w i j (length w) a b (omega arith) ∙ ap (λ z. between w i j ++ drop j z) (take-length w))
 
+-- the rest of the text goes on as the text does
+pub rest_onward : (w : List ℕ) (i n : ℕ) → i ≤ n → n ≤ length w → AgreesThrough w i n (drop i w)
+rest_onward w i n h k = elim (dec_lt n (length w)) [
+  | yes below ↦ past below (drop (n + 1) w) (rest_split w i (n + 1) (omega arith) (omega arith))
+  | no f ↦ (let same : n ≡ length w = omega arith in over same (ap (drop i) (sym (ap (λ z. take z w) same ∙ take-length w))))
+]
+
 -- the first byte of what goes on as the text does
-pub onward_first : (w : List ℕ) (i n : ℕ) → i ≤ n → n ≤ length w → (b : ℕ) (t : List ℕ) → AgreesThrough w i n (b ∷ t) → b ≡ next w i
+onward_first : (w : List ℕ) (i n : ℕ) → i ≤ n → n ≤ length w → (b : ℕ) (t : List ℕ) → AgreesThrough w i n (b ∷ t) → b ≡ next w i
 onward_first w i n h k b t (past below s e) =
     let line : b ∷ t ≡ next w i ∷ (between w (i + 1) (n + 1) ++ s) = e ∙ ap (λ z. z ++ s) (part-cons w i (n + 1) (omega arith) (omega arith)) in cc
 onward_first w i n h k b t (over end e) = elim (dec_lt i n) [
@@ -53,112 +49,103 @@ onward_first w i n h k b t (over end e) = elim (dec_lt i n) [
 abbrev pub Lives : {X : Type 0} → (X → ℕ → List ℕ → Type 0) → Type 0
 Lives {X} P = (at : ℕ) → (x : X) × (v : List ℕ) × P x at v
 
-module _ {X Y : Type 0} (P : X → ℕ → List ℕ → Type 0) (Q : Y → ℕ → List ℕ → Type 0) (w : List ℕ) (i j : ℕ) (x : X) (h : Ends P w i j x) where
-  place : (v : List ℕ) → v ≡ between w i j → i + length v ≡ j
-  place v e = omega (arith, ap length e, part-length w i j h.order h.within)
+place : {X : Type 0} {P : X → ℕ → List ℕ → Type 0} {w : List ℕ} {i j : ℕ} {x : X} → Ends P w i j x → (v : List ℕ) → v ≡ between w i j → i + length v ≡ j
+place {w = w} {i = i} {j = j} h v e = omega (arith, ap length e, part-length w i j h.order h.within)
 
-  -- what agrees with the text has the first part there
-  agrees : (p : X × Y) (v1 v2 r t : List ℕ) → P p.0 i v1 → Q p.1 (i + length v1) v2 → v1 ++ (v2 ++ r) ≡ between w i j ++ t
-      → (p.0 ≡ x) × (v1 ≡ between w i j) × Q p.1 j v2 × (v2 ++ r ≡ t)
-  agrees p v1 v2 r t hp hq e =
-      let (ex, ev) = h.only p.0 v1 (v2 ++ r) t hp e in
-      let line : v2 ++ r ≡ t = append_cancel_left (between w i j) (v2 ++ r) t (ap (λ z. z ++ (v2 ++ r)) (sym ev) ∙ e) in
-      (ex, ev, subst (λ o. Q p.1 o v2) (place v1 ev) hq, line)
+module _ {X Y : Type 0} (P : X → ℕ → List ℕ → Type 0) (Q : Y → ℕ → List ℕ → Type 0) {w : List ℕ} {i j : ℕ} {x : X} (h : Ends P w i j x) where
+  -- what agrees with the text has the first part there, and behind it the second
+  agrees : (p : X × Y) (v r t : List ℕ) → Then P Q p i v → v ++ r ≡ between w i j ++ t → (p.0 ≡ x) × (u : List ℕ) × (v ≡ between w i j ++ u) × Q p.1 j u × (u ++ r ≡ t)
+  agrees p v r t (v1, v2, ev, hp, hq) e =
+      let line : v1 ++ (v2 ++ r) ≡ between w i j ++ t = sym (append_assoc v1 v2 r) ∙ (ap (λ z. z ++ r) (sym ev) ∙ e) in
+      let (ex, e1) = h.only p.0 v1 (v2 ++ r) t hp line in
+      (ex, v2, ev ∙ ap (λ z. z ++ v2) e1, subst (λ o. Q p.1 o v2) (place h v1 e1) hq, append_cancel_left (between w i j) (v2 ++ r) t (ap (λ z. z ++ (v2 ++ r)) (sym e1) ∙ line))
 
-  begun : (y : Y) (v : List ℕ) → Q y j v → Then P Q (x, y) i (between w i j ++ v)
-  begun y v q = (between w i j, v, refl, h.sound, subst (λ o. Q y o v) (sym (place (between w i j) refl)) q)
+  begun : (y : Y) (v u : List ℕ) → u ≡ between w i j ++ v → Q y j v → Then P Q (x, y) i u
+  begun y v u e q = (between w i j, v, e, h.sound, subst (λ o. Q y o v) (sym (place h (between w i j) refl)) q)
 
-  pub then_ends : (k : ℕ) (y : Y) → Ends Q w j k y → Ends (Then P Q) w i k (x, y)
-  then_ends k y q =
+  module _ (n : ℕ) (k : j ≤ n) (l : n ≤ length w) where
+    viable_then : ((y : Y) × (more : List ℕ) × Q y j (between w j n ++ more)) → (p : X × Y) × (more : List ℕ) × Then P Q p i (between w i n ++ more)
+    viable_then (y, more, s) = ((x, y), more, begun y (between w j n ++ more) _ (ap (λ z. z ++ more) (part-part w i j n h.order k l) ∙ append_assoc (between w i j) (between w j n) more) s)
+
+    onward : (p : X × Y) (v r : List ℕ) → Then P Q p i v → AgreesThrough w i n (v ++ r) → (u : List ℕ) × Q p.1 j u × AgreesThrough w j n (u ++ r)
+    onward p v r s on =
+        let (t, et, on2) = onward_from w i j n h.order k l (v ++ r) on in
+        let (ex, u, ev, q, rest) = agrees p v r t s et in
+        (u, q, subst (AgreesThrough w j n) (sym rest) on2)
+
+module _ {X Y : Type 0} {P : X → ℕ → List ℕ → Type 0} {Q : Y → ℕ → List ℕ → Type 0} {w : List ℕ} {i j : ℕ} {x : X} (h : Ends P w i j x) where
+  pub then_ends : {k : ℕ} {y : Y} → Ends Q w j k y → Ends (Then P Q) w i k (x, y)
+  then_ends {k = k} {y = y} q =
       let low : i ≤ j = h.order in
       let mid : j ≤ k = q.order in
       let joint : between w i k ≡ between w i j ++ between w j k = part-part w i j k low mid q.within in
       record {
         order = omega arith;
         within = q.within;
-        sound = subst (Then P Q (x, y) i) (sym joint) (begun y (between w j k) q.sound);
-        only = λ p v r s (v1, v2, ev, hp, hq) e.
-            let spelled : (v1 ++ v2) ++ r ≡ between w i k ++ s = ap (λ z. z ++ r) (sym ev) ∙ e in
-            let text : between w i k ++ s ≡ between w i j ++ (between w j k ++ s) = ap (λ z. z ++ s) joint ∙ append_assoc (between w i j) (between w j k) s in
-            let whole : (v1 ++ v2) ++ r ≡ between w i j ++ (between w j k ++ s) = spelled ∙ text in
-            let line : v1 ++ (v2 ++ r) ≡ between w i j ++ (between w j k ++ s) = sym (append_assoc v1 v2 r) ∙ whole in
-            let (ex, e1, hq2, rest) = agrees p v1 v2 r (between w j k ++ s) hp hq line in
-            let (ey, e2) = q.only p.1 v2 r s hq2 rest in
-            (ap (λ z. (z, p.1)) ex ∙ ap (λ z. (x, z)) ey, ev ∙ (ap (λ z. z ++ v2) e1 ∙ (ap (λ z. between w i j ++ z) e2 ∙ sym joint)));
+        sound = begun P Q h y (between w j k) (between w i k) joint q.sound;
+        only = λ p v r s t e.
+            let whole : between w i k ++ s ≡ between w i j ++ (between w j k ++ s) = ap (λ z. z ++ s) joint ∙ append_assoc (between w i j) (between w j k) s in
+            let (ex, u, ev, q2, rest) = agrees P Q h p v r (between w j k ++ s) t (e ∙ whole) in
+            let (ey, e2) = q.only p.1 u r s q2 rest in
+            (ap (λ z. (z, p.1)) ex ∙ ap (λ z. (x, z)) ey, ev ∙ (ap (λ z. between w i j ++ z) e2 ∙ sym joint));
       }
 
-  viable_then : (n : ℕ) → j ≤ n → n ≤ length w → (y : Y) (more : List ℕ) → Q y j (between w j n ++ more) → Then P Q (x, y) i (between w i n ++ more)
-  viable_then n k l y more q =
-      let joint : between w i n ++ more ≡ between w i j ++ (between w j n ++ more) = ap (λ z. z ++ more) (part-part w i j n h.order k l) ∙ append_assoc (between w i j) (between w j n) more in
-      subst (Then P Q (x, y) i) (sym joint) (begun y (between w j n ++ more) q)
-
-  pub then_stops : (n : ℕ) → Stops Q w j n → Stops (Then P Q) w i n
-  then_stops n q =
+  pub then_stops : {n : ℕ} → Stops Q w j n → Stops (Then P Q) w i n
+  then_stops {n = n} q =
       let low : i ≤ j = h.order in
       let mid : j ≤ n = q.order in
       record {
         order = omega arith;
         within = q.within;
-        viable = (let (y, more, s) = q.viable in ((x, y), more, viable_then n mid q.within y more s));
-        dead = λ p v r (v1, v2, ev, hp, hq) on.
-            let (t, et, on2) = onward_from w i j n low mid q.within (v ++ r) on in
-            let line : v1 ++ (v2 ++ r) ≡ between w i j ++ t = sym (append_assoc v1 v2 r) ∙ (ap (λ z. z ++ r) (sym ev) ∙ et) in
-            let (ex, e1, hq2, rest) = agrees p v1 v2 r t hp hq line in
-            q.dead p.1 v2 r hq2 (subst (AgreesThrough w j n) (sym rest) on2);
+        viable = viable_then P Q h n mid q.within q.viable;
+        dead = λ p v r s on. let (u, q2, on2) = onward P Q h n mid q.within p v r s on in q.dead p.1 u r q2 on2;
       }
 
-  pub then_covers : (y : Y) → Covers Q w j y → Covers (Then P Q) w i (x, y)
-  then_covers y q =
+  pub then_covers : {y : Y} → Covers Q w j y → Covers (Then P Q) w i (x, y)
+  then_covers {y = y} q =
       let low : i ≤ j = h.order in
       let split : drop i w ≡ between w i j ++ drop j w = rest_split w i j low q.within in
       record {
         within = omega (arith, q.within);
-        sound = subst (Then P Q (x, y) i) (sym split) (begun y (drop j w) q.sound);
-        only = λ p (v1, v2, ev, hp, hq).
-            let line : v1 ++ (v2 ++ []) ≡ between w i j ++ drop j w = ap (λ z. v1 ++ z) (append-nil v2) ∙ (sym ev ∙ split) in
-            let (ex, e1, hq2, rest) = agrees p v1 v2 [] (drop j w) hp hq line in
-            let ey = q.only p.1 (subst (Q p.1 j) (sym (append-nil v2) ∙ rest) hq2) in
+        sound = begun P Q h y (drop j w) (drop i w) split q.sound;
+        only = λ p s.
+            let (ex, u, ev, q2, rest) = agrees P Q h p (drop i w) [] (drop j w) s (append-nil (drop i w) ∙ split) in
+            let ey = q.only p.1 (subst (Q p.1 j) (sym (append-nil u) ∙ rest) q2) in
             ap (λ z. (z, p.1)) ex ∙ ap (λ z. (x, z)) ey;
       }
 
-  pub then_breaks : (n : ℕ) → Breaks Q w j n → Breaks (Then P Q) w i n
-  then_breaks n q =
+  pub then_breaks : {n : ℕ} → Breaks Q w j n → Breaks (Then P Q) w i n
+  then_breaks {n = n} q =
       let low : i ≤ j = h.order in
       let mid : j ≤ n = q.order in
       record {
         order = omega arith;
         within = q.within;
-        viable = (let (y, more, s) = q.viable in ((x, y), more, viable_then n mid q.within y more s));
-        dead = λ p v (v1, v2, ev, hp, hq) on.
-            let (t, et, on2) = onward_from w i j n low mid q.within v on in
-            let line : v1 ++ (v2 ++ []) ≡ between w i j ++ t = ap (λ z. v1 ++ z) (append-nil v2) ∙ (sym ev ∙ et) in
-            let (ex, e1, hq2, rest) = agrees p v1 v2 [] t hp hq line in
-            q.dead p.1 v2 hq2 (subst (AgreesThrough w j n) (sym (sym (append-nil v2) ∙ rest)) on2);
+        viable = viable_then P Q h n mid q.within q.viable;
+        dead = λ p v s on.
+            let (u, q2, on2) = onward P Q h n mid q.within p v [] s (subst (AgreesThrough w i n) (sym (append-nil v)) on) in
+            q.dead p.1 u q2 (subst (AgreesThrough w j n) (append-nil u) on2);
       }
 
-module _ {X Y : Type 0} (P : X → ℕ → List ℕ → Type 0) (Q : Y → ℕ → List ℕ → Type 0) (lives : Lives Q) (w : List ℕ) (i n : ℕ) (h : Stops P w i n) where
-  first_viable : (p : X × Y) × (more : List ℕ) × Then P Q p i (between w i n ++ more)
-  first_viable =
-      let (x, more, s) = h.viable in
-      let (y, u, q) = lives (i + length (between w i n ++ more)) in
-      ((x, y), more ++ u, (between w i n ++ more, u, sym (append_assoc (between w i n) more u), s, q))
+-- where the first part stops, so does the whole
+pub first_stops : {X Y : Type 0} {P : X → ℕ → List ℕ → Type 0} {Q : Y → ℕ → List ℕ → Type 0} {w : List ℕ} {i n : ℕ} → Lives Q → Stops P w i n → Stops (Then P Q) w i n
+first_stops {w = w} {i = i} {n = n} lives h = record {
+  order = h.order;
+  within = h.within;
+  viable = (
+    let (x, more, s) = h.viable in
+    let (y, u, q) = lives (i + length (between w i n ++ more)) in
+    ((x, y), more ++ u, (between w i n ++ more, u, sym (append_assoc (between w i n) more u), s, q)));
+  dead = λ p v r (v1, v2, ev, hp, hq) on. h.dead p.0 v1 (v2 ++ r) hp (subst (AgreesThrough w i n) (ap (λ z. z ++ r) ev ∙ append_assoc v1 v2 r) on);
+}
 
-  -- where the first part stops, so does the whole
-  pub first_stops : Stops (Then P Q) w i n
-  first_stops = record {
-    order = h.order;
-    within = h.within;
-    viable = first_viable;
-    dead = λ p v r (v1, v2, ev, hp, hq) on. h.dead p.0 v1 (v2 ++ r) hp (subst (AgreesThrough w i n) (ap (λ z. z ++ r) ev ∙ append_assoc v1 v2 r) on);
-  }
-
-  pub first_breaks : Breaks (Then P Q) w i n
-  first_breaks = record {
-    order = h.order;
-    within = h.within;
-    viable = first_viable;
-    dead = λ p v (v1, v2, ev, hp, hq) on. h.dead p.0 v1 v2 hp (subst (AgreesThrough w i n) ev on);
-  }
+pub stops_break : {X : Type 0} {P : X → ℕ → List ℕ → Type 0} {w : List ℕ} {i n : ℕ} → Stops P w i n → Breaks P w i n
+stops_break {w = w} {i = i} {n = n} h = record {
+  order = h.order;
+  within = h.within;
+  viable = h.viable;
+  dead = λ x v p on. h.dead x v [] p (subst (AgreesThrough w i n) (sym (append-nil v)) on);
+}
 
 -- ---- a part told in another way
 
@@ -167,41 +154,42 @@ pub record Tells {X Y : Type 0} (P : X → ℕ → List ℕ → Type 0) (Q : Y �
   pub to : (y : Y) (at : ℕ) (v : List ℕ) → Q y at v → P (f at y) at v
   pub from : (x : X) (at : ℕ) (v : List ℕ) → P x at v → (y : Y) × (x ≡ f at y) × Q y at v
 
-module _ {X Y : Type 0} (P : X → ℕ → List ℕ → Type 0) (Q : Y → ℕ → List ℕ → Type 0) (f : ℕ → Y → X) (t : Tells P Q f) (w : List ℕ) (i : ℕ) where
-  pub told_ends : (j : ℕ) (y : Y) → Ends Q w i j y → Ends P w i j (f i y)
-  told_ends j y h = record {
+module _ {X Y : Type 0} {P : X → ℕ → List ℕ → Type 0} {Q : Y → ℕ → List ℕ → Type 0} {f : ℕ → Y → X} (t : Tells P Q f) where
+  pub told_ends : {w : List ℕ} {i j : ℕ} {y : Y} → Ends Q w i j y → Ends P w i j (f i y)
+  told_ends {w = w} {i = i} {j = j} {y = y} h = record {
     order = h.order;
     within = h.within;
     sound = t.to y i (between w i j) h.sound;
     only = λ x v r s p e. let (z, ex, q) = t.from x i v p in let (ez, ev) = h.only z v r s q e in (ex ∙ ap (f i) ez, ev);
   }
 
-  pub told_stops : (n : ℕ) → Stops Q w i n → Stops P w i n
-  told_stops n h = record {
+  pub told_stops : {w : List ℕ} {i n : ℕ} → Stops Q w i n → Stops P w i n
+  told_stops {w = w} {i = i} {n = n} h = record {
     order = h.order;
     within = h.within;
     viable = (let (y, more, q) = h.viable in (f i y, more, t.to y i (between w i n ++ more) q));
     dead = λ x v r p on. let (z, ex, q) = t.from x i v p in h.dead z v r q on;
   }
 
--- ---- a part that is chosen by its first byte
+  pub told_lives : Lives Q → Lives P
+  told_lives lives at = let (y, v, q) = lives at in (f at y, v, t.to y at v q)
 
--- the words of P that begin with a byte that passes are those of Q, with other values
-pub record When {X Y : Type 0} (P : X → ℕ → List ℕ → Type 0) (Q : Y → ℕ → List ℕ → Type 0) (f : Y → X) (test : ℕ → Bool) : Type 0 where
-  pub to : (y : Y) (at : ℕ) (v : List ℕ) → Q y at v → P (f y) at v
-  pub from : (x : X) (at : ℕ) (v : List ℕ) → P x at v → ((y : Y) × (x ≡ f y) × Q y at v) ⊎ ((b : ℕ) × (t : List ℕ) × (v ≡ b ∷ t) × (test b ≡ false))
+-- ---- a part that is chosen by its first byte
 
 -- each word of the part has a first byte, which passes
 abbrev pub Begins : {X : Type 0} → (ℕ → Bool) → (X → ℕ → List ℕ → Type 0) → Type 0
 Begins {X} test P = (x : X) (at : ℕ) (v : List ℕ) → P x at v → (b : ℕ) × (t : List ℕ) × (v ≡ b ∷ t) × (test b ≡ true)
 
-module _ {X Y : Type 0} (P : X → ℕ → List ℕ → Type 0) (Q : Y → ℕ → List ℕ → Type 0) (f : Y → X) (test : ℕ → Bool) (c : When P Q f test) (w : List ℕ) (i : ℕ) (here : test (next w i) ≡ true) where
-  other_first : (b : ℕ) → b ≡ next w i → test b ≡ false → ⊥
-  other_first b e h = true≢false (sym here ∙ (ap test (sym e) ∙ h))
+-- the words of P that begin with a byte that passes are those of Q, with other values
+pub record When {X Y : Type 0} (P : X → ℕ → List ℕ → Type 0) (Q : Y → ℕ → List ℕ → Type 0) (f : Y → X) (test : ℕ → Bool) : Type 0 where
+  pub to : (y : Y) (at : ℕ) (v : List ℕ) → Q y at v → P (f y) at v
+  pub from : (x : X) (at : ℕ) (v : List ℕ) → P x at v → ((y : Y) × (x ≡ f y) × Q y at v) ⊎ ((b : ℕ) × (t : List ℕ) × (v ≡ b ∷ t) × (test b ≡ false))
+  pub begins : Begins test Q
 
-  pub when_ends : Begins test Q → (j : ℕ) (y : Y) → Ends Q w i j y → Ends P w i j (f y)
-  when_ends begins j y h =
-      let (b, t, e, p) = begins y i (between w i j) h.sound in
+module _ {X Y : Type 0} {P : X → ℕ → List ℕ → Type 0} {Q : Y → ℕ → List ℕ → Type 0} {f : Y → X} {test : ℕ → Bool} (c : When P Q f test) {w : List ℕ} {i : ℕ} (here : test (next w i) ≡ true) where
+  pub when_ends : {j : ℕ} {y : Y} → Ends Q w i j y → Ends P w i j (f y)
+  when_ends {j = j} {y = y} h =
+      let (b, t, e, p) = c.begins y i (between w i j) h.sound in
       let low : i ≤ j = h.order in
       let long : i < j = omega (arith, part-length w i j h.order h.within, ap length e) in
       record {
@@ -213,24 +201,26 @@ module _ {X Y : Type 0} (P : X → ℕ → List ℕ → Type 0) (Q : Y → ℕ �
           | inr (b2, t2, ev, fails) ↦ absurd (
               let both : b2 ∷ (t2 ++ r) ≡ next w i ∷ (between w (i + 1) j ++ s) = ap (λ z. z ++ r) (sym ev) ∙ (line ∙ ap (λ z. z ++ s) (part-cons w i j long h.within)) in
               let first : b2 ≡ next w i = cc in
-              other_first b2 first fails)
+              true≢false (sym here ∙ (ap test (sym first) ∙ fails)))
         ];
       }
 
-  pub when_stops : (n : ℕ) → Stops Q w i n → Stops P w i n
-  when_stops n h = record {
+  pub when_stops : {n : ℕ} → Stops Q w i n → Stops P w i n
+  when_stops {n = n} h = record {
     order = h.order;
     within = h.within;
     viable = (let (y, more, q) = h.viable in (f y, more, c.to y i (between w i n ++ more) q));
     dead = λ x v r q on. elim (c.from x i v q) [
       | inl (z, ex, q2) ↦ h.dead z v r q2 on
-      | inr (b, t, ev, fails) ↦ other_first b (onward_first w i n h.order h.within b (t ++ r) (subst (AgreesThrough w i n) (ap (λ z. z ++ r) ev) on)) fails
+      | inr (b, t, ev, fails) ↦ (
+          let first = onward_first w i n h.order h.within b (t ++ r) (subst (AgreesThrough w i n) (ap (λ z. z ++ r) ev) on) in
+          true≢false (sym here ∙ (ap test (sym first) ∙ fails)))
     ];
   }
 
 -- no word begins with the byte that stands there
-pub none_stops : {X : Type 0} (P : X → ℕ → List ℕ → Type 0) (test : ℕ → Bool) (w : List ℕ) (i : ℕ) → Begins test P → Lives P → i ≤ length w → test (next w i) ≡ false → Stops P w i i
-none_stops P test w i begins lives within fails =
+pub none_stops : {X : Type 0} {P : X → ℕ → List ℕ → Type 0} (test : ℕ → Bool) (w : List ℕ) (i : ℕ) → Begins test P → Lives P → i ≤ length w → test (next w i) ≡ false → Stops P w i i
+none_stops {P = P} test w i begins lives within fails =
     let low : i ≤ i = omega arith in
     record {
       order = low;
@@ -244,8 +234,8 @@ none_stops P test w i begins lives within fails =
 
 -- ---- words
 
-pub word_ends : (w : List ℕ) (i j : ℕ) (word : List ℕ) → WordStands w i j word → Ends (Word word) w i j tt
-word_ends w i j word h = record {
+pub word_ends : {w : List ℕ} {i j : ℕ} {word : List ℕ} → WordStands w i j word → Ends (Word word) w i j tt
+word_ends h = record {
   order = omega (arith, h.end);
   within = h.within;
   sound = h.text;
@@ -266,8 +256,8 @@ no_further w i n word r h (over end e) =
     let rest : h.byte ∷ (h.rest ++ r) ≡ [] = append_cancel_left h.front _ _ two in
     cc
 
-pub word_stops : (w : List ℕ) (i n : ℕ) (word : List ℕ) → WordBreaks w i n word → Stops (Word word) w i n
-word_stops w i n word h = record {
+pub word_stops : {w : List ℕ} {i n : ℕ} {word : List ℕ} → WordBreaks w i n word → Stops (Word word) w i n
+word_stops {w = w} {i = i} {n = n} {word = word} h = record {
   order = h.order;
   within = h.within;
   viable = (tt, h.byte ∷ h.rest, ap (λ z. z ++ (h.byte ∷ h.rest)) h.text ∙ sym h.word_is);
@@ -276,25 +266,21 @@ word_stops w i n word h = record {
 
 -- ---- a word before a part
 
-module _ {X : Type 0} (word : List ℕ) (P : X → ℕ → List ℕ → Type 0) (w : List ℕ) (i : ℕ) where
-  behind_tells : Tells (Behind word P) (Then (Word word) P) (λ at p. p.1)
-  behind_tells = record { to = λ p at v h. h; from = λ x at v h. ((tt, x), refl, h) }
+behind_tells : {X : Type 0} (word : List ℕ) (P : X → ℕ → List ℕ → Type 0) → Tells (Behind word P) (Then (Word word) P) (λ at p. p.1)
+behind_tells word P = record { to = λ p at v h. h; from = λ x at v h. ((tt, x), refl, h) }
 
-  module _ (j : ℕ) (h : WordStands w i j word) where
-    pub behind_ends : (k : ℕ) (x : X) → Ends P w j k x → Ends (Behind word P) w i k x
-    behind_ends k x q = told_ends (Behind word P) (Then (Word word) P) (λ at p. p.1) behind_tells w i k (tt, x) (then_ends (Word word) P w i j tt (word_ends w i j word h) k x q)
+module _ {X : Type 0} {P : X → ℕ → List ℕ → Type 0} {w word : List ℕ} {i : ℕ} where
+  pub behind_ends : {j k : ℕ} {x : X} → WordStands w i j word → Ends P w j k x → Ends (Behind word P) w i k x
+  behind_ends h q = told_ends (behind_tells word P) (then_ends (word_ends h) q)
 
-    pub behind_stops : (n : ℕ) → Stops P w j n → Stops (Behind word P) w i n
-    behind_stops n q = told_stops (Behind word P) (Then (Word word) P) (λ at p. p.1) behind_tells w i n (then_stops (Word word) P w i j tt (word_ends w i j word h) n q)
+  pub behind_stops : {j n : ℕ} → WordStands w i j word → Stops P w j n → Stops (Behind word P) w i n
+  behind_stops h q = told_stops (behind_tells word P) (then_stops (word_ends h) q)
 
-  pub behind_word : Lives P → (n : ℕ) → WordBreaks w i n word → Stops (Behind word P) w i n
-  behind_word lives n h = told_stops (Behind word P) (Then (Word word) P) (λ at p. p.1) behind_tells w i n (first_stops (Word word) P lives w i n (word_stops w i n word h))
+  pub behind_word : {n : ℕ} → Lives P → WordBreaks w i n word → Stops (Behind word P) w i n
+  behind_word lives h = told_stops (behind_tells word P) (first_stops lives (word_stops h))
 
-pub behind_lives : {X : Type 0} (word : List ℕ) (P : X → ℕ → List ℕ → Type 0) → Lives P → Lives (Behind word P)
-behind_lives word P lives at = let (x, v, p) = lives (at + length word) in (x, word ++ v, (word, v, refl, refl, p))
+pub behind_lives : {X : Type 0} {P : X → ℕ → List ℕ → Type 0} (word : List ℕ) → Lives P → Lives (Behind word P)
+behind_lives word lives at = let (x, v, p) = lives (at + length word) in (x, word ++ v, (word, v, refl, refl, p))
 
-pub then_lives : {X Y : Type 0} (P : X → ℕ → List ℕ → Type 0) (Q : Y → ℕ → List ℕ → Type 0) → Lives P → Lives Q → Lives (Then P Q)
-then_lives P Q first second at = let (x, u, p) = first at in let (y, v, q) = second (at + length u) in ((x, y), u ++ v, (u, v, refl, p, q))
-
-pub told_lives : {X Y : Type 0} (P : X → ℕ → List ℕ → Type 0) (Q : Y → ℕ → List ℕ → Type 0) (f : ℕ → Y → X) → Tells P Q f → Lives Q → Lives P
-told_lives P Q f t lives at = let (y, v, q) = lives at in (f at y, v, t.to y at v q)
+pub then_lives : {X Y : Type 0} {P : X → ℕ → List ℕ → Type 0} {Q : Y → ℕ → List ℕ → Type 0} → Lives P → Lives Q → Lives (Then P Q)
+then_lives first second at = let (x, u, p) = first at in let (y, v, q) = second (at + length u) in ((x, y), u ++ v, (u, v, refl, p, q))

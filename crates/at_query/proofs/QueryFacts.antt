@@ -2,18 +2,19 @@
 -- For `feature_part`, `object`, `root_part` and `value` of at_geojson.
 use Rattle.std.proofs.Common.{◌≡◌, inl, inr, ℕ, Bool, true, false, ◌&&◌, ◌||◌, cond, bytes_eq, List, [], ◌∷◌, ◌++◌, refl, sym, ◌∙◌, ap, subst}
 use Rattle.std.specs.List.{AllByRecursion, list_any}
-use Rattle.std.proofs.lemmas.Bool.{true≢false, and_parts, and_from, or_left, or_right}
+use Rattle.std.proofs.Math.Bool.{and-false}
+use Rattle.std.proofs.lemmas.Bool.{true≢false, and_parts, or_parts, and_from, or_left, or_right}
 use Rattle.std.proofs.lemmas.Slice.Eq.{bytes_eq-Decides}
 use Rattle.std.proofs.lemmas.List.Concat.{flat_map-cons}
 use Rattle.at_geom.specs.declared.shapes.Shape.{Shape}
 use Rattle.at_query.specs.declared.query.queries.Query.{Query}
 use Rattle.at_query.specs.declared.query.queries.Test.{Test}
-use Rattle.at_query.specs.declared.query.queries.Test.TheVariants.{InBox, MeetsShape, Has}
+use Rattle.at_query.specs.declared.query.queries.Test.TheVariants.{Has}
 use Rattle.at_query.specs.declared.features.TextPair.{TextPair}
 use Rattle.at_query.specs.Keeping.{looks_at_shapes, looks_at_texts, needs_shapes, tells_shapes, wants_value, wants_pair, asks_value, asks_pair, asked_texts, kept_shape}
 use Rattle.at_query.specs.Holding.{has_text, TestHolds, Holds}
 use Rattle.std.specs.Prelude.{IsTrue}
-use Rattle.at_geom.specs.Shapes.{positions, are_all_within, Meet, extent_of}
+use Rattle.at_geom.specs.Shapes.{positions, extent_of}
 use Rattle.at_query.specs.declared.features.Feature.{Feature}
 use Rattle.at_query.specs.declared.answer.parts.Entry.{Entry}
 use Rattle.at_query.specs.declared.answer.parts.Part.{Part}
@@ -34,23 +35,18 @@ kept_whole b s e = subst (λ c. kept_shape c s ≡ s) (sym e) refl
 -- without a test of texts no value is asked for
 pub none_asked : (tests : List Test) (value : List ℕ) → list_any looks_at_texts tests ≡ false → asks_value tests value ≡ false
 none_asked [] value e = refl
-none_asked (InBox x ∷ tests) value e = none_asked tests value e
-none_asked (MeetsShape x ∷ tests) value e = none_asked tests value e
 none_asked (Has n v ∷ tests) value e = absurd (true≢false e)
+none_asked (_ ∷ tests) value e = none_asked tests value e
 
 -- a text for whose value nothing asks is asked for by no name
 pub no_value : (name value : List ℕ) (tests : List Test) → asks_value tests value ≡ false → asks_pair tests name value ≡ false
 no_value name value [] e = refl
-no_value name value (t ∷ ts) e = go t e (no_value name value ts) where
-  pick : (a b c : Bool) → (b || c) ≡ false → ((a && b) ≡ false) × (c ≡ false)
-  pick true true c h = absurd (true≢false h)
-  pick false true c h = absurd (true≢false h)
-  pick true false c h = (refl, h)
-  pick false false c h = (refl, h)
-
-  go : (u : Test) → (wants_value value u || asks_value ts value) ≡ false → (asks_value ts value ≡ false → asks_pair ts name value ≡ false) → (wants_pair name value u || asks_pair ts name value) ≡ false
-  go (Has n v) h more = let p = pick (bytes_eq n name) (bytes_eq v value) (asks_value ts value) h in ap (λ b. b || asks_pair ts name value) p.0 ∙ more p.1
-  go _ h more = more h
+no_value name value (t ∷ ts) e =
+    let p = or_parts (wants_value value t) (asks_value ts value) e in
+    ap (λ b. b || asks_pair ts name value) (own t p.0) ∙ no_value name value ts p.1 where
+      own : (u : Test) → wants_value value u ≡ false → wants_pair name value u ≡ false
+      own (Has n v) h = ap (λ b. bytes_eq n name && b) h ∙ and-false (bytes_eq n name)
+      own _ h = refl
 
 -- the texts that are asked for are among those that are kept
 pub has_same : (tests : List Test) (name value : List ℕ) → asks_pair tests name value ≡ true → (pairs : List TextPair) → has_text (asked_texts tests pairs) name value ≡ has_text pairs name value
@@ -89,11 +85,12 @@ module _ (f g : Feature) (at_same : g.at ≡ f.at) where
 module _ (query : Query) (f g : Feature) (at_same : g.at ≡ f.at) (shape_kept : g.shape ≡ kept_shape (needs_shapes query) f.shape) (texts_kept : g.texts ≡ asked_texts query.tests f.texts) where
   -- a test of the query holds of both or of neither
   one_test : (t : Test) → (looks_at_shapes t ≡ true → needs_shapes query ≡ true) → ((name value : List ℕ) → wants_pair name value t ≡ true → asks_pair query.tests name value ≡ true) → (TestHolds t g → TestHolds t f) × (TestHolds t f → TestHolds t g)
-  one_test (InBox e) looks asks = let s = shape_kept ∙ kept_whole (needs_shapes query) f.shape (looks refl) in let P : Shape → Type 0 = λ z. IsTrue (are_all_within e (positions z)) in (subst P s, subst P (sym s))
-  one_test (MeetsShape u) looks asks = let s = shape_kept ∙ kept_whole (needs_shapes query) f.shape (looks refl) in let P : Shape → Type 0 = λ z. Meet z u in (subst P s, subst P (sym s))
   one_test (Has n v) looks asks =
       let e = ap (λ z. has_text z n v) texts_kept ∙ has_same query.tests n v (asks n v (and_from (bytes_eq n n) (bytes_eq v v) ((bytes_eq-Decides n n).1 refl) ((bytes_eq-Decides v v).1 refl))) f.texts in
       (subst IsTrue e, subst IsTrue (sym e))
+  one_test t looks asks =
+      let s = shape_kept ∙ kept_whole (needs_shapes query) f.shape (looks refl) in
+      let P : Shape → Type 0 = λ z. TestHolds t (record { at = f.at; shape = z; texts = f.texts }) in (subst P s, subst P (sym s))
 
   all_tests : (ts : List Test) → (list_any looks_at_shapes ts ≡ true → needs_shapes query ≡ true) → ((name value : List ℕ) → asks_pair ts name value ≡ true → asks_pair query.tests name value ≡ true)
       → (AllByRecursion (λ t. TestHolds t g) ts → AllByRecursion (λ t. TestHolds t f) ts) × (AllByRecursion (λ t. TestHolds t f) ts → AllByRecursion (λ t. TestHolds t g) ts)

@@ -1,16 +1,20 @@
--- The verbs, and a whole query line: what it says, and what is wrong with it.
+-- The verbs, and a whole query line: what it says, what is wrong with it, and that its coordinates are in range.
 -- For `read_query`.
-use Rattle.std.proofs.Common.{◌≡◌, ℕ, ◌+◌, ◌≤◌, ◌==◌, ◌||◌, ◌&&◌, nat_lt, nat_le, ◌⊎◌, inl, inr, Bool, true, false, not, min, if◌then◌else◌, is_none, List, [], ◌∷◌, ◌++◌, length, take, map, flat_map, codes, Option, Some, None, option_map, option_to_list, Result, Ok, Err, ℤ, refl, sym, ◌∙◌, ap, subst, arith}
+use Rattle.std.proofs.Common.{◌≡◌, ℕ, ◌+◌, ◌≤◌, ◌==◌, ◌||◌, ◌&&◌, nat_lt, nat_le, ◌⊎◌, inl, inr, Bool, true, false, not, min, if◌then◌else◌, is_none, List, [], ◌∷◌, ◌++◌, length, take, drop, map, flat_map, codes, Option, Some, None, option_map, option_to_list, Result, Ok, Err, ℤ, refl, sym, ◌∙◌, ap, subst, arith}
 use Rattle.std.specs.Option.{IfSome}
-use Rattle.std.specs.List.{AllByRecursion}
+use Rattle.std.specs.List.{AllByRecursion, All}
 use Rattle.at_text.specs.declared.faults.Fault.{Fault}
+use Rattle.at_text.specs.declared.faults.FaultKind.{FaultKind}
 use Rattle.at_text.specs.declared.faults.FaultKind.TheVariants.{Short, Ring}
+use Rattle.at_text.specs.declared.halts.Halt.{Halt}
+use Rattle.at_text.specs.Halts.{IfStopped}
+use Rattle.at_text.proofs.Exits.{answers_by}
 use Rattle.at_text.specs.Faults.{tier_of, number_of, comes_first, first_fault, first_of}
 use Rattle.at_fixed.specs.declared.rounding.Coords.{Coords}
 use Rattle.at_fixed.specs.declared.rounding.FixedFault.{FixedFault}
 use Rattle.at_fixed.specs.declared.rounding.FixedFault.TheVariants.{Scale, Range}
 use Rattle.at_fixed.specs.Fixed.{fixed_of}
-use Rattle.at_geom.specs.Shapes.{line_fault, ring_fault}
+use Rattle.at_geom.specs.Shapes.{line_fault, ring_fault, ArePathsInRange, IsShapeInRange}
 use Rattle.at_wkt.specs.Positions.{Position, Positions, faults_in, number_fault, position_faults, items_faults, faults_of_line, faults_of_ring, is_closed}
 use Rattle.at_wkt.specs.Geometry.{Geometry, Geometries, point, line_string, polygon, multi_point, multi_line_string, multi_polygon, collection, no_geometries, geometry_and}
 use Rattle.at_wkt.specs.Meaning.{shape_of, empty_shape, present, faults_of_area, faults_of, faults_of_all}
@@ -18,14 +22,25 @@ use Rattle.at_query.specs.declared.query.queries.Verb.{Verb}
 use Rattle.at_query.specs.declared.query.queries.Verb.TheVariants.{Select, Count, Area, Extent, Hull, Join}
 use Rattle.at_query.specs.declared.query.queries.Test.{Test}
 use Rattle.at_query.specs.declared.query.queries.Test.TheVariants.{MeetsShape}
-use Rattle.at_query.specs.Spelling.{Spelled, meets, SpelledQuery, IsSpelled, verb_text}
-use Rattle.at_query.specs.Queries.{ats_of, lesser, least_of, test_faults, test_of, spelled_fault, query_of, IsQueryOf, IsWrongAt, IsNoQuery}
+use Rattle.at_query.specs.Spelling.{Spelled, meets, SpelledQuery, IsSpelled, verb_text, meets_box, SpelledBox}
+use Rattle.at_query.specs.Queries.{ats_of, lesser, least_of, test_faults, test_of, spelled_fault, query_of, IsQueryOf, IsWrongAt, IsNoQuery, box_shape, ring_of, extent_of_box, HasQueryFault, IfFaultAt}
 use Rattle.at_fixed.specs.NumberSoFar.{between}
 use Rattle.at_wkt.specs.Readers.{next}
 use Rattle.at_query.specs.Readers.{Ends, past, Stops, Breaks, WordStands, WordBreaks, Word, Then, VerbPart, TestMeaning, test_meaning, Tests, tests_of, fault_of, QueryCovers, TestsCover}
-use Rattle.at_query.proofs.Parted.{Lives, Begins, When, rest_onward, when_ends, when_stops, none_stops, word_ends, word_stops, then_covers, then_breaks, first_breaks}
+use Rattle.at_query.proofs.Parted.{Lives, When, rest_onward, when_ends, when_stops, none_stops, word_ends, word_stops, then_covers}
 use Rattle.at_query.proofs.BoxParts.{least_of-append}
-use Rattle.at_query.proofs.TestLists.{tests_lives}
+use Rattle.std.proofs.lemmas.Bool.{eqb-true, eq-eqb}
+use Rattle.std.specs.Result.{MatchResult, IfOk}
+use Rattle.std.proofs.lemmas.List.Elements.{All-nil, All-cons, All-from_recursion}
+use Rattle.at_geom.specs.declared.shapes.Polygon.{Polygon}
+use Rattle.at_geom.specs.Segments.{IsInRange}
+use Rattle.at_query.specs.declared.query.queries.Query.{Query}
+use Rattle.at_query.specs.declared.query.reading.QueryEnd.{QueryEnd}
+use Rattle.at_query.specs.declared.query.reading.QueryEnd.TheVariants.{Fault as FaultAt, Memory as NoMemory}
+use Rattle.at_query.specs.declared.query.reading.QueryRead.{QueryRead}
+use Rattle.at_query.specs.declared.query.reading.VerbRead.{VerbRead}
+use Rattle.at_query.specs.Ranges.{IsTestInRange, IsQueryInRange}
+use Rattle.at_query.proofs.ShapeRanges.{all_each, polygons_in, value_small, shape_in}
 
 -- ---- verbs
 
@@ -43,60 +58,39 @@ is_letter x b = b == letter_of x
 abbrev One : Verb → Unit {0} → ℕ → List ℕ → Type 0
 One x = Word (verb_text x)
 
-verb_from : (x y : Verb) (at : ℕ) (v : List ℕ) → VerbPart y at v → ((u : Unit {0}) × (y ≡ x) × One x u at v) ⊎ ((b : ℕ) × (t : List ℕ) × (v ≡ b ∷ t) × (is_letter x b ≡ false))
-verb_from Select Count at v e = inr (0x63, codes "ount", e, refl)
-verb_from Select Area at v e = inr (0x61, codes "rea", e, refl)
-verb_from Select Extent at v e = inr (0x65, codes "xtent", e, refl)
-verb_from Select Hull at v e = inr (0x68, codes "ull", e, refl)
-verb_from Select Join at v e = inr (0x6a, codes "oin", e, refl)
-verb_from Count Select at v e = inr (0x73, codes "elect", e, refl)
-verb_from Count Area at v e = inr (0x61, codes "rea", e, refl)
-verb_from Count Extent at v e = inr (0x65, codes "xtent", e, refl)
-verb_from Count Hull at v e = inr (0x68, codes "ull", e, refl)
-verb_from Count Join at v e = inr (0x6a, codes "oin", e, refl)
-verb_from Area Select at v e = inr (0x73, codes "elect", e, refl)
-verb_from Area Count at v e = inr (0x63, codes "ount", e, refl)
-verb_from Area Extent at v e = inr (0x65, codes "xtent", e, refl)
-verb_from Area Hull at v e = inr (0x68, codes "ull", e, refl)
-verb_from Area Join at v e = inr (0x6a, codes "oin", e, refl)
-verb_from Extent Select at v e = inr (0x73, codes "elect", e, refl)
-verb_from Extent Count at v e = inr (0x63, codes "ount", e, refl)
-verb_from Extent Area at v e = inr (0x61, codes "rea", e, refl)
-verb_from Extent Hull at v e = inr (0x68, codes "ull", e, refl)
-verb_from Extent Join at v e = inr (0x6a, codes "oin", e, refl)
-verb_from Hull Select at v e = inr (0x73, codes "elect", e, refl)
-verb_from Hull Count at v e = inr (0x63, codes "ount", e, refl)
-verb_from Hull Area at v e = inr (0x61, codes "rea", e, refl)
-verb_from Hull Extent at v e = inr (0x65, codes "xtent", e, refl)
-verb_from Hull Join at v e = inr (0x6a, codes "oin", e, refl)
-verb_from Join Select at v e = inr (0x73, codes "elect", e, refl)
-verb_from Join Count at v e = inr (0x63, codes "ount", e, refl)
-verb_from Join Area at v e = inr (0x61, codes "rea", e, refl)
-verb_from Join Extent at v e = inr (0x65, codes "xtent", e, refl)
-verb_from Join Hull at v e = inr (0x68, codes "ull", e, refl)
-verb_from _ _ at v e = inl (tt, refl, e)
+-- the verb whose word begins with the letter
+verb_of : ℕ → Verb
+verb_of b = if b == 0x73 then Select else (if b == 0x63 then Count else (if b == 0x61 then Area else (if b == 0x65 then Extent else (if b == 0x68 then Hull else Join))))
+
+verb_told : (x : Verb) → verb_of (letter_of x) ≡ x
+unfolding verb_of
+verb_told Select = refl
+verb_told _ = refl
+
+pub same_verb : (x y : Verb) → letter_of x ≡ letter_of y → x ≡ y
+same_verb x y e = sym (verb_told x) ∙ (ap verb_of e ∙ verb_told y)
+
+pub verb_front : (x : Verb) → verb_text x ≡ letter_of x ∷ drop 1 (verb_text x)
+verb_front Select = refl
+verb_front _ = refl
+
+verb_from : (x y : Verb) (at : ℕ) (v : List ℕ) → VerbPart y at v → (b : Bool) → is_letter x (letter_of y) ≡ b → ((u : Unit {0}) × (y ≡ x) × One x u at v) ⊎ ((b : ℕ) × (t : List ℕ) × (v ≡ b ∷ t) × (is_letter x b ≡ false))
+verb_from x y at v e true f = let same = same_verb y x (eqb-true (letter_of y) (letter_of x) f) in inl (tt, same, e ∙ ap verb_text same)
+verb_from x y at v e false f = inr (letter_of y, drop 1 (verb_text y), e ∙ verb_front y, f)
 
 when_verb : (x : Verb) → When VerbPart (One x) (λ u. x) (is_letter x)
-when_verb x = record { to = λ u at v h. h; from = λ y at v h. verb_from x y at v h }
+when_verb x = record {
+  to = λ u at v h. h;
+  from = λ y at v h. verb_from x y at v h (is_letter x (letter_of y)) refl;
+  begins = λ u at v e. (letter_of x, drop 1 (verb_text x), e ∙ verb_front x, eq-eqb (letter_of x) (letter_of x) refl);
+}
 
-verb_begins : (x : Verb) → Begins (is_letter x) (One x)
-verb_begins Select u at v e = (0x73, codes "elect", e, refl)
-verb_begins Count u at v e = (0x63, codes "ount", e, refl)
-verb_begins Area u at v e = (0x61, codes "rea", e, refl)
-verb_begins Extent u at v e = (0x65, codes "xtent", e, refl)
-verb_begins Hull u at v e = (0x68, codes "ull", e, refl)
-verb_begins Join u at v e = (0x6a, codes "oin", e, refl)
-
-abbrev pub is_verb_letter : ℕ → Bool
+abbrev is_verb_letter : ℕ → Bool
 is_verb_letter b = (b == 0x73) || ((b == 0x63) || ((b == 0x61) || ((b == 0x65) || ((b == 0x68) || (b == 0x6A)))))
 
-some_verb_begins : Begins is_verb_letter VerbPart
-some_verb_begins Select at v e = (0x73, codes "elect", e, refl)
-some_verb_begins Count at v e = (0x63, codes "ount", e, refl)
-some_verb_begins Area at v e = (0x61, codes "rea", e, refl)
-some_verb_begins Extent at v e = (0x65, codes "xtent", e, refl)
-some_verb_begins Hull at v e = (0x68, codes "ull", e, refl)
-some_verb_begins Join at v e = (0x6a, codes "oin", e, refl)
+some_letter : (x : Verb) → is_verb_letter (letter_of x) ≡ true
+some_letter Select = refl
+some_letter _ = refl
 
 verb_lives : Lives VerbPart
 verb_lives at = (Join, codes "join", refl)
@@ -104,15 +98,13 @@ verb_lives at = (Join, codes "join", refl)
 no_letter : (b : ℕ) → (b == 0x73) ≡ false → (b == 0x63) ≡ false → (b == 0x61) ≡ false → (b == 0x65) ≡ false → (b == 0x68) ≡ false → (b == 0x6A) ≡ false → is_verb_letter b ≡ false
 no_letter b e f g h i k = grind (arith, e, f, g, h, i, k)
 
-module _ (w : List ℕ) where
-  pub verb_ends : (x y : Verb) → is_letter x (next w 0) ≡ true → (j : ℕ) → y ≡ x → WordStands w 0 j (verb_text x) → Ends VerbPart w 0 j y
-  verb_ends x y here j e s = subst (Ends VerbPart w 0 j) (sym e) (when_ends VerbPart (One x) (λ u. x) (is_letter x) (when_verb x) w 0 here (verb_begins x) j tt (word_ends w 0 j (verb_text x) s))
+pub word_read : (x : Verb) (w : List ℕ) (r : Result VerbRead Halt) → is_letter x (next w 0) ≡ true → MatchResult r (λ read. (read.verb ≡ x) × WordStands w 0 read.end (verb_text x)) (λ halt. IfStopped halt (λ n. WordBreaks w 0 n (verb_text x)))
+    → MatchResult r (λ read. Ends VerbPart w 0 read.end read.verb) (λ halt. IfStopped halt (Stops VerbPart w 0))
+word_read x w r here h = answers_by r _ _ _ _ h (λ read (e, s). subst (Ends VerbPart w 0 read.end) (sym e) (when_ends (when_verb x) here (word_ends s))) (λ n s. when_stops (when_verb x) here (word_stops s))
 
-  pub verb_stops : (x : Verb) → is_letter x (next w 0) ≡ true → (n : ℕ) → WordBreaks w 0 n (verb_text x) → Stops VerbPart w 0 n
-  verb_stops x here n s = when_stops VerbPart (One x) (λ u. x) (is_letter x) (when_verb x) w 0 here n (word_stops w 0 n (verb_text x) s)
-
-  pub no_verb : (next w 0 == 0x73) ≡ false → (next w 0 == 0x63) ≡ false → (next w 0 == 0x61) ≡ false → (next w 0 == 0x65) ≡ false → (next w 0 == 0x68) ≡ false → (next w 0 == 0x6A) ≡ false → Stops VerbPart w 0 0
-  no_verb e f g h i k = none_stops VerbPart is_verb_letter w 0 some_verb_begins verb_lives (omega arith) (no_letter (next w 0) e f g h i k)
+pub no_verb : (w : List ℕ) → (next w 0 == 0x73) ≡ false → (next w 0 == 0x63) ≡ false → (next w 0 == 0x61) ≡ false → (next w 0 == 0x65) ≡ false → (next w 0 == 0x68) ≡ false → (next w 0 == 0x6A) ≡ false → Stops VerbPart w 0 0
+no_verb w e f g h i k =
+    none_stops is_verb_letter w 0 (λ x at v e. (letter_of x, drop 1 (verb_text x), e ∙ verb_front x, some_letter x)) verb_lives (omega arith) (no_letter (next w 0) e f g h i k)
 
 -- ---- the faults of a geometry are of one tier, so the first of them has the least offset
 
@@ -135,13 +127,9 @@ fourth_in (Ok z) at = tt
 fourth_in (Err Scale) at = (refl, tt)
 fourth_in (Err Range) at = (refl, tt)
 
-fourth_line : (b : Bool) (at : ℕ) → AreFourth (option_to_list (if b then Some (record { kind = Short; at = at }) else None))
-fourth_line true at = (refl, tt)
-fourth_line false at = tt
-
-fourth_ring : (b : Bool) (at : ℕ) → AreFourth (option_to_list (if b then Some (record { kind = Ring; at = at }) else None))
-fourth_ring true at = (refl, tt)
-fourth_ring false at = tt
+fourth_if : (k : FaultKind) → tier_of k ≡ 4 → (b : Bool) (at : ℕ) → AreFourth (option_to_list (if b then Some (record { kind = k; at = at }) else None))
+fourth_if k h true at = (h, tt)
+fourth_if k h false at = tt
 
 module _ (digits : ℕ) (how : Coords) where
   fourth_position : (p : Position) → AreFourth (position_faults digits how p)
@@ -151,11 +139,11 @@ module _ (digits : ℕ) (how : Coords) where
   fourth_items ps = fourth_each (position_faults digits how) fourth_position ps
 
   fourth_of_line : (ps : Positions) → AreFourth (faults_of_line digits how ps)
-  fourth_of_line ps = fourth_append (option_to_list (line_fault (length ps.items) ps.at)) (items_faults digits how ps.items) (fourth_line (nat_lt (length ps.items) 2) ps.at) (fourth_items ps.items)
+  fourth_of_line ps = fourth_append (option_to_list (line_fault (length ps.items) ps.at)) (items_faults digits how ps.items) (fourth_if Short refl (nat_lt (length ps.items) 2) ps.at) (fourth_items ps.items)
 
   fourth_of_ring : (ps : Positions) → AreFourth (faults_of_ring digits how ps)
   fourth_of_ring ps = fourth_append (option_to_list (ring_fault (length ps.items) (is_closed digits how ps.items) ps.at)) (items_faults digits how ps.items)
-      (fourth_ring (nat_lt (length ps.items) 4 || not (is_closed digits how ps.items)) ps.at) (fourth_items ps.items)
+      (fourth_if Ring refl (nat_lt (length ps.items) 4 || not (is_closed digits how ps.items)) ps.at) (fourth_items ps.items)
 
   fourth_of_area : (rings : List Positions) → AreFourth (faults_of_area digits how rings)
   fourth_of_area rings = fourth_each (faults_of_ring digits how) fourth_of_ring rings
@@ -295,14 +283,41 @@ module _ (digits : ℕ) (how : Coords) where
           let (q, s, e) = line_of (verb, h.meanings) w h.covers.sound in
           record { line = q; spelled = s; least = line_fault_is q (sym e) ∙ f; only = λ other t. line_fault_is other (same_line other t) ∙ f }
 
-    -- ---- a verb, and the tests behind it
+pub whole_covers : (digits : ℕ) (how : Coords) (w : List ℕ) (j : ℕ) (verb : Verb) → Ends VerbPart w 0 j verb → (items : List Test) (fault : Option ℕ) → TestsCover digits how w j items fault → QueryCovers digits how w verb items fault
+whole_covers digits how w j verb h items fault t = record { meanings = t.meanings; covers = then_covers h t.covers; items_are = t.items_are; fault_is = t.fault_is }
 
-    pub verb_breaks : (n : ℕ) → Stops VerbPart w 0 n → Breaks Whole w 0 n
-    verb_breaks n h = first_breaks VerbPart Where (tests_lives digits how (codes " where ")) w 0 n h
+-- ---- coordinates in range
 
-    module _ (j : ℕ) (verb : Verb) (h : Ends VerbPart w 0 j verb) where
-      pub tests_break : (n : ℕ) → Breaks Where w j n → Breaks Whole w 0 n
-      tests_break n q = then_breaks VerbPart Where w 0 j verb h n q
+module _ (digits : ℕ) (how : Coords) where
+  box_in : (b : SpelledBox) → IsShapeInRange (box_shape (extent_of_box digits how b))
+  box_in b =
+      let x = value_small digits how b.low_x.number in
+      let y = value_small digits how b.low_y.number in
+      let u = value_small digits how b.high_x.number in
+      let v = value_small digits how b.high_y.number in
+      let ring : All IsInRange (ring_of (extent_of_box digits how b)) = All-from_recursion IsInRange (ring_of (extent_of_box digits how b)) ((x, y), ((u, y), ((u, v), ((x, v), ((x, y), tt))))) in
+      polygons_in (record { rings = ring_of (extent_of_box digits how b) ∷ [] } ∷ [])
+      (All-cons (λ (p : Polygon). ArePathsInRange p.rings) (record { rings = ring_of (extent_of_box digits how b) ∷ [] }) [] (All-cons (All IsInRange) (ring_of (extent_of_box digits how b)) [] ring (All-nil (All IsInRange))) (All-nil (λ (p : Polygon). ArePathsInRange p.rings)))
 
-      pub whole_covers : (items : List Test) (fault : Option ℕ) → TestsCover digits how w j items fault → QueryCovers digits how w verb items fault
-      whole_covers items fault t = record { meanings = t.meanings; covers = then_covers VerbPart Where w 0 j verb h t.meanings t.covers; items_are = t.items_are; fault_is = t.fault_is }
+  test_in : (t : Spelled) → IsTestInRange (test_of digits how t)
+  test_in (meets_box b) = box_in b
+  test_in (meets g) = shape_in digits how g
+  test_in _ = tt
+
+  pub query_in_range : (text : List ℕ) (query : Query) → IsQueryOf digits how text query → IsQueryInRange query
+  query_in_range text query h = subst IsQueryInRange (sym h.query_is) (all_each IsTestInRange (test_of digits how) test_in h.line.tests)
+
+  -- ---- the answer
+
+  abbrev Answered : List ℕ → Result Query QueryEnd → Type 0
+  Answered text answer = MatchResult answer (IsQueryOf digits how text) (λ end. IfFaultAt end (HasQueryFault digits how text))
+
+  pub query_answers : (text : List ℕ) (read : QueryRead) (answer : Result Query QueryEnd) → QueryCovers digits how text read.query.verb read.query.tests read.fault
+      → MatchResult answer (λ query. (query ≡ read.query) × (read.fault ≡ None)) (λ end. IfFaultAt end (λ at. read.fault ≡ Some at)) → Answered text answer
+  query_answers text read (Ok query) h (e, f) = subst (IsQueryOf digits how text) (sym e) (query_answer digits how text read.query.verb read.query.tests read.fault h f)
+  query_answers text read (Err (FaultAt at)) h f = inr (query_wrong digits how text read.query.verb read.query.tests read.fault h at f)
+  query_answers text read (Err NoMemory) h f = tt
+
+  pub answers_in_range : (text : List ℕ) (answer : Result Query QueryEnd) → Answered text answer → IfOk answer IsQueryInRange
+  answers_in_range text (Ok query) h = query_in_range text query h
+  answers_in_range text (Err e) h = tt

@@ -1,8 +1,8 @@
 -- The coordinates of a number, a position and a geometry are in range: a number without a value counts as 0.
 -- For `read_query`, and for `add`, `array`, `scalar` and `value` of at_geojson.
-use Rattle.std.proofs.Common.{◌≡◌, ℕ, ℤ, pos, neg_ℤ, nat_abs, zero, suc, ◌+◌, ◌*◌, ◌^◌, ◌<◌, ◌≤◌, Bool, true, false, if◌then◌else◌, List, [], ◌∷◌, map, flat_map, length, option_to_list, Result, Ok, Err, refl, sym, subst, arith, lit≤}
+use Rattle.std.proofs.Common.{◌≡◌, ℕ, ℤ, pos, neg_ℤ, nat_abs, zero, suc, ◌+◌, ◌*◌, ◌^◌, ◌<◌, ◌≤◌, Bool, true, false, if◌then◌else◌, List, [], ◌∷◌, map, flat_map, get_or, length, option_to_list, Result, Ok, Err, refl, sym, subst, arith, lit≤}
 use Rattle.std.specs.List.{All}
-use Rattle.std.proofs.lemmas.List.Elements.{All-nil, All-cons, All-append}
+use Rattle.std.proofs.lemmas.List.Elements.{All-nil, All-cons, All-append, All-map}
 use Rattle.at_fixed.specs.declared.rounding.Coords.{Coords}
 use Rattle.at_fixed.specs.declared.rounding.Coords.TheVariants.{Exact, Round}
 use Rattle.at_fixed.specs.declared.rounding.FixedFault.{FixedFault}
@@ -54,8 +54,7 @@ small_signed b (Err e) h = lit≤ tt
 -- ---- lists and shapes
 
 pub all_each : {X Y : Type 0} (P : Y → Type 0) (f : X → Y) → ((x : X) → P (f x)) → (xs : List X) → All P (map f xs)
-all_each P f h [] = All-nil P
-all_each P f h (x ∷ xs) = All-cons P (f x) (map f xs) (h x) (all_each P f h xs)
+all_each P f h xs = All-map P f xs (λ k d lt. h (get_or xs k d))
 
 all_flat : {X Y : Type 0} (P : Y → Type 0) (f : X → List Y) → ((x : X) → All P (f x)) → (xs : List X) → All P (flat_map f xs)
 all_flat P f h [] = All-nil P

@@ -149,9 +149,6 @@ verb_needs verbs.Hull measure e = absurd (cc)
 verb_needs verbs.Join measure e = absurd (cc)
 verb_needs _ measure e = ap asks_values (same_Some measures.Count measure e)
 
-or_none : (b c d : Bool) → c ≡ false → b ≡ d → (b || c) ≡ d
-or_none b c d e f = ap (λ z. b || z) e ∙ (or-false b ∙ f)
-
 -- a query that measures shapes has no test that looks at them
 pub none_looks : (query : Query) (measure : Measure) → measure_of query ≡ Some measure → (list_any looks_at_shapes query.tests ≡ false) × (measured_by query.verb ≡ Some measure)
 none_looks query measure e = go (list_any looks_at_shapes query.tests) refl e where
@@ -161,7 +158,9 @@ none_looks query measure e = go (list_any looks_at_shapes query.tests) refl e wh
 
 -- shapes are kept where values are asked for
 pub needs_are : (query : Query) (measure : Measure) → measure_of query ≡ Some measure → needs_shapes query ≡ asks_values measure
-needs_are query measure e = let k = none_looks query measure e in or_none (tells_shapes query.verb) (list_any looks_at_shapes query.tests) (asks_values measure) k.0 (verb_needs query.verb measure k.1)
+needs_are query measure e =
+    let k = none_looks query measure e in
+    ap (λ z. tells_shapes query.verb || z) k.0 ∙ (or-false (tells_shapes query.verb) ∙ verb_needs query.verb measure k.1)
 
 -- ---- shapes
 

@@ -1,18 +1,18 @@
 -- Tests behind one another, each behind its word, up to the end of the text.
 -- For `read_query`.
 use Rattle.std.proofs.Common.{◌≡◌, ℕ, ◌+◌, ◌<◌, ◌≤◌, ◌⊎◌, inl, inr, List, [], ◌∷◌, ◌++◌, length, drop, map, codes, Option, refl, sym, ◌∙◌, ap, subst, arith, append-nil, append_assoc, length-append, lit<}
-use Rattle.std.proofs.lemmas.List.{drop_all}
+use Rattle.std.proofs.lemmas.List.{drop_all, map-append}
 use Rattle.at_text.specs.Parts.{Exactly}
 use Rattle.at_fixed.specs.declared.rounding.Coords.{Coords}
 use Rattle.at_wkt.proofs.Leads.{part-cons}
 use Rattle.at_wkt.proofs.Lists.{to_right, to_left}
 use Rattle.at_query.specs.declared.query.queries.Test.{Test}
 use Rattle.at_query.specs.declared.query.filters.TestRead.{TestRead}
-use Rattle.at_query.specs.Spelling.{Spelled, SpellsTest, SpellsTests}
+use Rattle.at_query.specs.Spelling.{SpellsTest, SpellsTests}
 use Rattle.at_query.specs.Queries.{lesser}
 use Rattle.at_fixed.specs.NumberSoFar.{between}
 use Rattle.at_query.specs.Readers.{Ends, AgreesThrough, past, over, Stops, Covers, Breaks, Behind, Then, TestMeaning, test_meaning, OneTest, Tests, joint_of, tests_of, fault_of, test_in, TestsCover}
-use Rattle.at_query.proofs.Parted.{Lives, then_covers, then_breaks, first_breaks}
+use Rattle.at_query.proofs.Parted.{Lives, then_covers, then_breaks, first_stops, stops_break}
 use Rattle.at_query.proofs.BoxParts.{lesser-assoc, lesser-none}
 
 -- what goes on as the text does is not nothing before its end
@@ -35,8 +35,7 @@ joint_more [] m = refl
 joint_more (n ∷ ms) m = refl
 
 tests_more : (ms : List TestMeaning) (m : TestMeaning) → tests_of (ms ++ (m ∷ [])) ≡ tests_of ms ++ (m.test ∷ [])
-tests_more [] m = refl
-tests_more (n ∷ ms) m = ap (λ z. n.test ∷ z) (tests_more ms m)
+tests_more ms m = map-append (λ (n : TestMeaning). n.test) ms (m ∷ [])
 
 fault_more : (ms : List TestMeaning) (m : TestMeaning) → fault_of (ms ++ (m ∷ [])) ≡ lesser (fault_of ms) m.fault
 fault_more [] m = lesser-none m.fault
@@ -57,16 +56,12 @@ module _ (digits : ℕ) (how : Coords) where
     to_right (Exactly word) (SpellsTest t) (SpellsTests (codes " and ") ts) at v (v1, v2, ev, (a, b, eb, ew, s), ss),
   )
 
-  some_of : (word : List ℕ) (ms : List TestMeaning) (at : ℕ) (v : List ℕ) (ts : List Spelled) → ms ≡ map (test_meaning digits how) ts → SpellsTests word ts at v
-      → ((v ≡ []) × (ms ≡ [])) ⊎ ((p : TestMeaning × List TestMeaning) × (ms ≡ p.0 ∷ p.1) × SomeTests word p at v)
-  some_of word ms at v [] em s = inl (s, em)
-  some_of word ms at v (t ∷ ts) em s =
-      let (v1, v2, ev, (a, b, eb, ew, st), ss) = to_left (Exactly word) (SpellsTest t) (SpellsTests (codes " and ") ts) at v s in
-      inr ((test_meaning digits how t, map (test_meaning digits how) ts), em, (v1, v2, ev, (a, b, eb, ew, (t, refl, st)), (ts, refl, ss)))
-
   to_some : (word : List ℕ) (ms : List TestMeaning) (at : ℕ) (v : List ℕ) → Tests digits how word ms at v
       → ((v ≡ []) × (ms ≡ [])) ⊎ ((p : TestMeaning × List TestMeaning) × (ms ≡ p.0 ∷ p.1) × SomeTests word p at v)
-  to_some word ms at v (ts, em, s) = some_of word ms at v ts em s
+  to_some word ms at v ([], em, s) = inl (s, em)
+  to_some word ms at v (t ∷ ts, em, s) =
+      let (v1, v2, ev, (a, b, eb, ew, st), ss) = to_left (Exactly word) (SpellsTest t) (SpellsTests (codes " and ") ts) at v s in
+      inr ((test_meaning digits how t, map (test_meaning digits how) ts), em, (v1, v2, ev, (a, b, eb, ew, (t, refl, st)), (ts, refl, ss)))
 
   pub tests_lives : (word : List ℕ) → Lives (Tests digits how word)
   tests_lives word at = ([], [], ([], refl, refl))
@@ -134,8 +129,7 @@ module _ (digits : ℕ) (how : Coords) where
       First = Behind (joint_of h.done) (OneTest digits how)
 
       pub so_far_stops : (n : ℕ) → Stops First w at n → Breaks (Tests digits how (codes " where ")) w start n
-      so_far_stops n s = h.breaks n (lead_breaks (joint_of h.done) (joint_long h.done) w at short n
-          (first_breaks First (Tests digits how (codes " and ")) (tests_lives (codes " and ")) w at n s))
+      so_far_stops n s = h.breaks n (lead_breaks (joint_of h.done) (joint_long h.done) w at short n (stops_break (first_stops (tests_lives (codes " and ")) s)))
 
       pub so_far_more : (read : TestRead) (least : Option ℕ) → least ≡ lesser fault read.fault → Ends First w at read.end (test_in read) → SoFar w start read.end (items ++ (read.test ∷ [])) least
       so_far_more read least e q =
@@ -148,9 +142,9 @@ module _ (digits : ℕ) (how : Coords) where
             fault_is = e ∙ (ap (λ z. lesser z read.fault) h.fault_is ∙ sym (fault_more h.done m));
             covers = λ ms c.
                 let further : Covers (Tests digits how (codes " and ")) w read.end ms = subst (λ z. Covers (Tests digits how z) w read.end ms) next_word c in
-                let all = h.covers (m ∷ ms) (lead_covers (joint_of h.done) (joint_long h.done) w at m ms (then_covers First (Tests digits how (codes " and ")) w at read.end m q ms further)) in
+                let all = h.covers (m ∷ ms) (lead_covers (joint_of h.done) (joint_long h.done) w at m ms (then_covers q further)) in
                 subst (Covers (Tests digits how (codes " where ")) w start) (sym (append_assoc h.done (m ∷ []) ms)) all;
             breaks = λ n c.
                 let further : Breaks (Tests digits how (codes " and ")) w read.end n = subst (λ z. Breaks (Tests digits how z) w read.end n) next_word c in
-                h.breaks n (lead_breaks (joint_of h.done) (joint_long h.done) w at short n (then_breaks First (Tests digits how (codes " and ")) w at read.end m q n further));
+                h.breaks n (lead_breaks (joint_of h.done) (joint_long h.done) w at short n (then_breaks q further));
           }

@@ -1,18 +1,18 @@
 -- How many tests on texts hold of texts, and how many ask for a text of a name and a value.
 -- For `value` of at_geojson.
-use Rattle.std.proofs.Common.{◌≡◌, ℕ, suc, ◌+◌, ◌<◌, ◌≤◌, ◌==◌, Bool, true, false, ◌&&◌, ◌||◌, cond, bytes_eq, List, [], ◌∷◌, ◌++◌, length, Option, Some, None, refl, sym, ◌∙◌, ap, arith}
+use Rattle.std.proofs.Common.{◌≡◌, ℕ, suc, ◌+◌, ◌≤◌, ◌==◌, Bool, true, false, not, ◌&&◌, ◌||◌, cond, bytes_eq, List, [], ◌∷◌, ◌++◌, length, Option, Some, None, refl, sym, ◌∙◌, ap, arith}
 use Rattle.std.specs.List.{list_any, count_by}
 use Rattle.std.proofs.Math.Bool.{or-false}
-use Rattle.std.proofs.lemmas.Bool.{true≢false, eqb-true, eq-eqb}
+use Rattle.std.proofs.lemmas.Bool.{true≢false, not-true}
 use Rattle.std.proofs.lemmas.List.Folds.{list_any-append}
 use Rattle.std.proofs.lemmas.List.Sums.{sum_by-cons, count_by-le-length}
 use Rattle.std.proofs.lemmas.Slice.Eq.{bytes_eq-Decides}
 use Rattle.at_query.specs.declared.query.queries.Test.{Test}
-use Rattle.at_query.specs.declared.query.queries.Test.TheVariants.{InBox, MeetsShape, Has}
+use Rattle.at_query.specs.declared.query.queries.Test.TheVariants.{InBox, Has}
 use Rattle.at_query.specs.declared.features.TextPair.{TextPair}
 use Rattle.at_query.specs.Holding.{has_text}
 use Rattle.at_query.specs.Keeping.{looks_at_texts, text_tests, wants_pair}
-use Rattle.at_query.specs.TextTests.{wants_name, met_of, is_met, met_by, texts_hold}
+use Rattle.at_query.specs.TextTests.{wants_name, met_of, is_met, met_by, holds_if_text, texts_hold}
 
 -- ---- counts
 
@@ -95,56 +95,36 @@ none_of : (tests : List Test) (name : List ℕ) (o : Option (List ℕ)) → list
 none_of tests name None e = refl
 none_of tests name (Some value) e = count_none (wants_pair name value) tests (no_pairs name value tests e)
 
--- how many tests of each kind there are, and whether all tests on texts are met
-record AreTold (texts : List TextPair) (tests : List Test) : Type 0 where
-  pub few : met_by tests texts ≤ text_tests tests
-  pub all : texts_hold tests texts ≡ true → met_by tests texts ≡ text_tests tests
-  pub some : texts_hold tests texts ≡ false → met_by tests texts < text_tests tests
+-- a test on texts that doesn't hold of these
+abbrev is_missed : List TextPair → Test → Bool
+is_missed texts t = not (holds_if_text texts t)
 
-has_told : (texts : List TextPair) (n v : List ℕ) (ts : List Test) → AreTold texts ts → AreTold texts (Has n v ∷ ts)
-has_told texts n v ts h = go (has_text texts n v) refl where
-  b : text_tests (Has n v ∷ ts) ≡ suc (text_tests ts)
-  b = count_yes looks_at_texts (Has n v) ts refl
+some : (m n : ℕ) → m ≡ suc n → (m == 0) ≡ false
+some m n e = grind (arith, e)
 
-  go : (c : Bool) → has_text texts n v ≡ c → AreTold texts (Has n v ∷ ts)
-  go true e =
-      let a = count_yes (is_met texts) (Has n v) ts e in
-      record {
-        few = omega (arith, a, b, h.few);
-        all = λ k. a ∙ (ap suc (h.all (sym (ap (λ z. z && texts_hold ts texts) e) ∙ k)) ∙ sym b);
-        some = λ k. omega (arith, a, b, h.some (sym (ap (λ z. z && texts_hold ts texts) e) ∙ k));
-      }
-  go false e =
-      let a = count_no (is_met texts) (Has n v) ts e in
-      record {
-        few = omega (arith, a, b, h.few);
-        all = λ k. absurd (true≢false (sym k ∙ ap (λ z. z && texts_hold ts texts) e));
-        some = λ k. omega (arith, a, b, h.few);
-      }
+module _ (texts : List TextPair) where
+  met_or_missed : (t : Test) → looks_at_texts t ≡ (is_met texts t || is_missed texts t)
+  met_or_missed (Has n v) = go (has_text texts n v) where
+    go : (b : Bool) → true ≡ (b || not b)
+    go true = refl
+    go false = refl
+  met_or_missed _ = refl
 
-are_told : (texts : List TextPair) (tests : List Test) → AreTold texts tests
-are_told texts [] = record { few = omega arith; all = λ e. refl; some = λ e. absurd (true≢false e) }
-are_told texts (InBox x ∷ ts) =
-    let h = are_told texts ts in
-    let a = count_no (is_met texts) (InBox x) ts refl in
-    let b = count_no looks_at_texts (InBox x) ts refl in
-    record { few = omega (arith, a, b, h.few); all = λ e. a ∙ (h.all e ∙ sym b); some = λ e. omega (arith, a, b, h.some e) }
-are_told texts (MeetsShape x ∷ ts) =
-    let h = are_told texts ts in
-    let a = count_no (is_met texts) (MeetsShape x) ts refl in
-    let b = count_no looks_at_texts (MeetsShape x) ts refl in
-    record { few = omega (arith, a, b, h.few); all = λ e. a ∙ (h.all e ∙ sym b); some = λ e. omega (arith, a, b, h.some e) }
-are_told texts (Has n v ∷ ts) = has_told texts n v ts (are_told texts ts)
+  no_both : (t : Test) → is_missed texts t ≡ true → is_met texts t ≡ false
+  no_both (Has n v) h = not-true (has_text texts n v) h
+  no_both _ h = refl
+
+  hold_is : (tests : List Test) → texts_hold tests texts ≡ (count_by (is_missed texts) tests == 0)
+  hold_is [] = refl
+  hold_is (t ∷ ts) = go (holds_if_text texts t) refl (hold_is ts) where
+    go : (b : Bool) → holds_if_text texts t ≡ b → texts_hold ts texts ≡ (count_by (is_missed texts) ts == 0) → texts_hold (t ∷ ts) texts ≡ (count_by (is_missed texts) (t ∷ ts) == 0)
+    go true e more = ap (λ z. z && texts_hold ts texts) e ∙ (more ∙ ap (λ n. n == 0) (sym (count_no (is_missed texts) t ts (ap not e))))
+    go false e more = ap (λ z. z && texts_hold ts texts) e ∙ sym (some (count_by (is_missed texts) (t ∷ ts)) (count_by (is_missed texts) ts) (count_yes (is_missed texts) t ts (ap not e)))
 
 pub all_met_is : (tests : List Test) (texts : List TextPair) (met : ℕ) → met ≡ met_by tests texts → (met == text_tests tests) ≡ texts_hold tests texts
-all_met_is tests texts met e = go (texts_hold tests texts) refl (met == text_tests tests) refl where
-  h : AreTold texts tests
-  h = are_told texts tests
-
-  go : (b : Bool) → texts_hold tests texts ≡ b → (c : Bool) → (met == text_tests tests) ≡ c → (met == text_tests tests) ≡ texts_hold tests texts
-  go true f c k = eq-eqb met (text_tests tests) (e ∙ h.all f) ∙ sym f
-  go false f false k = k ∙ sym f
-  go false f true k = absurd (omega (arith, h.some f, e, eqb-true met (text_tests tests) k))
+all_met_is tests texts met e = rw (count_both (is_met texts) (is_missed texts) looks_at_texts (met_or_missed texts) (no_both texts) tests, hold_is texts tests, e) (same (met_by tests texts) (count_by (is_missed texts) tests)) where
+  same : (m n : ℕ) → (m == m + n) ≡ (n == 0)
+  same m n = grind arith
 
 pub met_few : (tests : List Test) (texts : List TextPair) → met_by tests texts ≤ length tests
 met_few tests texts = count_by-le-length (is_met texts) tests

@@ -2,6 +2,7 @@
 use Rattle.std.proofs.Common.{◌≡◌, ℕ, Bool, true, false, ◌&&◌, ◌||◌, bytes_eq, List, [], ◌∷◌, flat_map, Some, inr, refl, sym, ◌∙◌, ap, subst, append-nil}
 use Rattle.std.specs.Prelude.{IsTrue}
 use Rattle.std.specs.List.{AllByRecursion, list_any}
+use Rattle.std.proofs.Math.Bool.{or-false}
 use Rattle.std.proofs.lemmas.Bool.{true≢false, and_parts, and_from, or_left, or_right}
 use Rattle.std.proofs.lemmas.Option.{same_Some}
 use Rattle.std.proofs.lemmas.Slice.Eq.{bytes_eq-Decides}
@@ -11,7 +12,7 @@ use Rattle.at_geom.specs.declared.shapes.Shape.{Shape}
 use Rattle.at_geom.specs.Shapes.{positions, extent_of}
 use Rattle.at_query.specs.declared.query.queries.Query.{Query}
 use Rattle.at_query.specs.declared.query.queries.Test.{Test}
-use Rattle.at_query.specs.declared.query.queries.Test.TheVariants.{InBox, MeetsShape, Has}
+use Rattle.at_query.specs.declared.query.queries.Test.TheVariants.{Has}
 use Rattle.at_query.specs.declared.query.queries.Verb.{Verb}
 use Rattle.at_query.specs.declared.query.queries.Verb.TheVariants as verbs
 use Rattle.at_query.specs.declared.query.looks.Measure.{Measure}
@@ -33,11 +34,8 @@ use Rattle.at_query.proofs.QueryFacts.{part_of_both}
 
 holds_all : (f : Feature) (tests : List Test) → list_any looks_at_shapes tests ≡ false → texts_hold tests f.texts ≡ true → AllByRecursion (λ t. TestHolds t f) tests
 holds_all f [] none hold = tt
-holds_all f (InBox x ∷ ts) none hold = absurd (true≢false none)
-holds_all f (MeetsShape x ∷ ts) none hold = absurd (true≢false none)
-holds_all f (Has n v ∷ ts) none hold =
-    let h = and_parts (has_text f.texts n v) (texts_hold ts f.texts) hold in
-    (h.0, holds_all f ts none h.1)
+holds_all f (Has n v ∷ ts) none hold = let h = and_parts (has_text f.texts n v) (texts_hold ts f.texts) hold in (h.0, holds_all f ts none h.1)
+holds_all f (_ ∷ ts) none hold = absurd (true≢false none)
 
 pick : (a b : Bool) → (a && b) ≡ false → IsTrue a → (b ≡ false → ⊥) → ⊥
 pick true b h q more = more h
@@ -45,9 +43,8 @@ pick false b h q more = absurd (true≢false (sym q))
 
 holds_none : (f : Feature) (tests : List Test) → texts_hold tests f.texts ≡ false → AllByRecursion (λ t. TestHolds t f) tests → ⊥
 holds_none f [] hold all = absurd (true≢false hold)
-holds_none f (InBox x ∷ ts) hold all = holds_none f ts hold all.1
-holds_none f (MeetsShape x ∷ ts) hold all = holds_none f ts hold all.1
 holds_none f (Has n v ∷ ts) hold all = pick (has_text f.texts n v) (texts_hold ts f.texts) hold all.0 (λ h. holds_none f ts h all.1)
+holds_none f (_ ∷ ts) hold all = holds_none f ts hold all.1
 
 -- a feature of which the query doesn't hold adds nothing
 pub none_held : (query : Query) (f : Feature) (part : Part) → texts_hold query.tests f.texts ≡ false → IsPart query [] part → IsPart query (f ∷ []) part
@@ -81,29 +78,24 @@ offset_part query f measure is e hold = (f ∷ [], keeps_one (Holds query) f (ho
 
 -- ---- features that differ in their texts
 
-has_asked : (tests : List Test) (n v : List ℕ) → asks_pair tests n v ≡ true → has_text (flat_map pair_of tests) n v ≡ true
-has_asked [] n v e = e
-has_asked (t ∷ ts) n v e =
-    ap (λ z. has_text z n v) (flat_map-cons pair_of t ts)
-    ∙ (list_any-append (λ (p : TextPair). bytes_eq p.name n && bytes_eq p.value v) (pair_of t) (flat_map pair_of ts) ∙ go t e (has_asked ts n v)) where
-      pick : (a b c : Bool) → (a || b) ≡ true → (b ≡ true → c ≡ true) → ((a || false) || c) ≡ true
-      pick true b c h more = refl
-      pick false b c h more = more h
-
-      go : (u : Test) → (wants_pair n v u || asks_pair ts n v) ≡ true → (asks_pair ts n v ≡ true → has_text (flat_map pair_of ts) n v ≡ true) → (has_text (pair_of u) n v || has_text (flat_map pair_of ts) n v) ≡ true
-      go (Has m u) h more = pick (bytes_eq m n && bytes_eq u v) (asks_pair ts n v) (has_text (flat_map pair_of ts) n v) h more
-      go _ h more = more h
+has_asked : (tests : List Test) (n v : List ℕ) → has_text (flat_map pair_of tests) n v ≡ asks_pair tests n v
+has_asked [] n v = refl
+has_asked (t ∷ ts) n v =
+    ap (λ z. has_text z n v) (flat_map-cons pair_of t ts) ∙ (list_any-append (λ (p : TextPair). bytes_eq p.name n && bytes_eq p.value v) (pair_of t) (flat_map pair_of ts)
+    ∙ (ap (λ b. b || has_text (flat_map pair_of ts) n v) (own t) ∙ ap (λ b. wants_pair n v t || b) (has_asked ts n v))) where
+      own : (u : Test) → has_text (pair_of u) n v ≡ wants_pair n v u
+      own (Has m u) = or-false (bytes_eq m n && bytes_eq u v)
+      own _ = refl
 
 -- all tests on texts hold of the texts for which they ask
 pairs_hold : (all ts : List Test) → ((n v : List ℕ) → asks_pair ts n v ≡ true → asks_pair all n v ≡ true) → texts_hold ts (flat_map pair_of all) ≡ true
 pairs_hold all [] among = refl
-pairs_hold all (InBox x ∷ ts) among = pairs_hold all ts among
-pairs_hold all (MeetsShape x ∷ ts) among = pairs_hold all ts among
 pairs_hold all (Has n v ∷ ts) among =
     let own = and_from (bytes_eq n n) (bytes_eq v v) ((bytes_eq-Decides n n).1 refl) ((bytes_eq-Decides v v).1 refl) in
     and_from (has_text (flat_map pair_of all) n v) (texts_hold ts (flat_map pair_of all))
-    (has_asked all n v (among n v (or_left (bytes_eq n n && bytes_eq v v) (asks_pair ts n v) own)))
+    (has_asked all n v ∙ among n v (or_left (bytes_eq n n && bytes_eq v v) (asks_pair ts n v) own))
     (pairs_hold all ts (λ m u e. among m u (or_right (bytes_eq n m && bytes_eq v u) (asks_pair ts m u) e)))
+pairs_hold all (_ ∷ ts) among = pairs_hold all ts among
 
 module _ (query : Query) (at : ℕ) (shape : Shape) (some texts : List TextPair) where
   abbrev f : Feature
@@ -114,11 +106,8 @@ module _ (query : Query) (at : ℕ) (shape : Shape) (some texts : List TextPair)
 
   swapped : (tests : List Test) (a b : Feature) → a.shape ≡ b.shape → texts_hold tests b.texts ≡ true → AllByRecursion (λ t. TestHolds t a) tests → AllByRecursion (λ t. TestHolds t b) tests
   swapped [] a b e hold h = tt
-  swapped (InBox x ∷ ts) a b e hold h = (subst (λ z. TestHolds (InBox x) (record { at = b.at; shape = z; texts = b.texts })) e h.0, swapped ts a b e hold h.1)
-  swapped (MeetsShape x ∷ ts) a b e hold h = (subst (λ z. TestHolds (MeetsShape x) (record { at = b.at; shape = z; texts = b.texts })) e h.0, swapped ts a b e hold h.1)
-  swapped (Has n v ∷ ts) a b e hold h =
-      let k = and_parts (has_text b.texts n v) (texts_hold ts b.texts) hold in
-      (k.0, swapped ts a b e k.1 h.1)
+  swapped (Has n v ∷ ts) a b e hold h = let k = and_parts (has_text b.texts n v) (texts_hold ts b.texts) hold in (k.0, swapped ts a b e k.1 h.1)
+  swapped (t ∷ ts) a b e hold h = (subst (λ z. TestHolds t (record { at = b.at; shape = z; texts = b.texts })) e h.0, swapped ts a b e hold h.1)
 
   -- the part of the feature that has the texts for which tests ask
   pub asked_part : (part : Part) → some ≡ flat_map pair_of query.tests → texts_hold query.tests texts ≡ true → IsPart query (g ∷ []) part → IsPart query (f ∷ []) part

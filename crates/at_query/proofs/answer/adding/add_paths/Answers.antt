@@ -1,7 +1,7 @@
 use Rattle.std.proofs.Common.{List, ◌++◌, subst, ◌∙◌, arith}
 use Rattle.at_geom.specs.declared.positions.Pos.{Pos}
 use Rattle.at_hull.specs.Growth.{HaveOneHull, held}
-use Rattle.at_query.proofs.Growing.{more_grown}
+use Rattle.at_query.proofs.Hulls.{more_grown}
 use Rattle.at_query.proofs.answer.adding.add_paths.Goals as goal
 
 pub loop-path-preserved : goal.loop-path-preserved

@@ -3,7 +3,7 @@ use Rattle.at_geom.specs.declared.positions.Pos.{Pos}
 use Rattle.at_geom.specs.declared.shapes.Polygon.{Polygon}
 use Rattle.at_geom.specs.Shapes.{joined}
 use Rattle.at_hull.specs.Growth.{HaveOneHull, held}
-use Rattle.at_query.proofs.Growing.{more_grown}
+use Rattle.at_query.proofs.Hulls.{more_grown}
 use Rattle.at_query.proofs.answer.adding.add_polygons.Goals as goal
 
 pub loop-polygon-preserved : goal.loop-polygon-preserved

@@ -4,7 +4,7 @@ use Rattle.at_geom.specs.declared.positions.Pos.{Pos}
 use Rattle.at_geom.specs.declared.shapes.Polygon.{Polygon}
 use Rattle.at_geom.specs.Shapes.{joined, positions_of_polygons}
 use Rattle.at_hull.specs.Growth.{HaveOneHull, held}
-use Rattle.at_query.proofs.Growing.{shape_grown}
+use Rattle.at_query.proofs.Hulls.{shape_grown}
 use Rattle.at_query.proofs.answer.adding.add_positions.Goals as goal
 
 pub returns : goal.returns

@@ -2,7 +2,7 @@ use Rattle.std.proofs.Common.{◌++◌, sym, subst, ◌∙◌}
 use Rattle.at_geom.specs.Shapes.{positions}
 use Rattle.at_hull.specs.Growth.{HaveOneHull, Growth, held}
 use Rattle.at_hull.proofs.Corners.{adds_nothing_round}
-use Rattle.at_query.proofs.Growing.{extent_in_range, no_position}
+use Rattle.at_query.proofs.Hulls.{extent_in_range, no_position}
 use Rattle.at_query.proofs.answer.adding.add_shape.Goals as goal
 
 pub covers-requires : goal.covers-requires

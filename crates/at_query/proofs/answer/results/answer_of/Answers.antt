@@ -2,7 +2,7 @@ use Rattle.std.specs.Prelude.{FitsSigned}
 use Rattle.std.specs.Int.{w128}
 use Rattle.std.proofs.Common.{refl, rules}
 use Rattle.std.proofs.lemmas.Int.{to_z-of_z}
-use Rattle.at_query.proofs.Exact.{count_is_exact, area_is_exact}
+use Rattle.at_query.proofs.Joining.{count_is_exact, area_is_exact}
 use Rattle.at_query.proofs.answer.results.answer_of.Goals as goal
 
 pub returns-in-Count-clause-exact : goal.returns-in-Count-clause-exact

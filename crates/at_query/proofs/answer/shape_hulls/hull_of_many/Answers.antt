@@ -1,7 +1,7 @@
 use Rattle.std.proofs.Common.{◌++◌, subst}
 use Rattle.at_geom.specs.Shapes.{positions}
 use Rattle.at_hull.specs.Growth.{HaveOneHull, Growth, held}
-use Rattle.at_query.proofs.Taken.{hull_if_ok}
+use Rattle.at_query.proofs.Hulls.{hull_if_ok}
 use Rattle.at_query.proofs.answer.shape_hulls.hull_of_many.Goals as goal
 
 pub returns : goal.returns

@@ -1,6 +1,6 @@
 use Rattle.std.proofs.Common.{◌<◌, List, length, subst, ◌∙◌, arith}
 use Rattle.at_geom.specs.declared.positions.Pos.{Pos}
-use Rattle.at_query.proofs.Rooms.{no_room}
+use Rattle.at_query.proofs.Hulls.{no_room}
 use Rattle.at_query.proofs.answer.shape_hulls.room_beside_paths.Goals as goal
 
 pub returns-in_err-left-clause-none : goal.returns-in_err-left-clause-none

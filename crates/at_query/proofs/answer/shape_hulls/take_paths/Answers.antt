@@ -1,7 +1,7 @@
 use Rattle.std.proofs.Common.{List}
 use Rattle.at_geom.specs.declared.positions.Pos.{Pos}
 use Rattle.at_hull.specs.Growth.{held}
-use Rattle.at_query.proofs.Taken.{more_taken}
+use Rattle.at_query.proofs.Hulls.{more_taken}
 use Rattle.at_query.proofs.answer.shape_hulls.take_paths.Goals as goal
 
 pub loop-path-preserved : goal.loop-path-preserved

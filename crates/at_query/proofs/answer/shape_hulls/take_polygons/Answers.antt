@@ -1,7 +1,7 @@
 use Rattle.at_geom.specs.declared.shapes.Polygon.{Polygon}
 use Rattle.at_geom.specs.Shapes.{joined}
 use Rattle.at_hull.specs.Growth.{held}
-use Rattle.at_query.proofs.Taken.{more_taken}
+use Rattle.at_query.proofs.Hulls.{more_taken}
 use Rattle.at_query.proofs.answer.shape_hulls.take_polygons.Goals as goal
 
 pub loop-polygon-preserved : goal.loop-polygon-preserved

@@ -1,6 +1,6 @@
 use Rattle.std.proofs.lemmas.Result.{IfOk-weaker}
 use Rattle.at_hull.specs.Growth.{held}
-use Rattle.at_query.proofs.Growing.{shape_grown}
+use Rattle.at_query.proofs.Hulls.{shape_grown}
 use Rattle.at_query.proofs.answer.shape_hulls.take_shape.Goals as goal
 
 pub returns : goal.returns

@@ -1,6 +1,6 @@
 use Rattle.std.proofs.Common.{inl}
 use Rattle.at_query.proofs.QueryParts.{query_breaks}
-use Rattle.at_query.proofs.QueryRanges.{query_answers, answers_in_range}
+use Rattle.at_query.proofs.QueryParts.{query_answers, answers_in_range}
 use Rattle.at_query.proofs.query.reading.read_query.Goals as goal
 
 pub returns-in-Ok-clause-answer : goal.returns-in-Ok-clause-answer
