@@ -1,6 +1,6 @@
 -- An extent of which the corners lie within a hull adds nothing to it.
 -- For `add`, `covers` and `join`.
-use Rattle.std.proofs.Common.{◌≡◌, ℤ, pos, neg_ℤ, ◌+ℤ◌, ◌-ℤ◌, ◌*ℤ◌, ◌≤ℤ◌, ◌⊎◌, inl, inr, IsTrue, List, [], ◌∷◌, ◌++◌, All, Contains, Some, arith, sym, ap, subst, append_assoc}
+use Rattle.std.proofs.Common.{◌≡◌, ℤ, pos, neg_ℤ, ◌+ℤ◌, ◌-ℤ◌, ◌*ℤ◌, ◌≤ℤ◌, inl, inr, IsTrue, List, [], ◌∷◌, ◌++◌, All, Contains, Some, arith, sym, ap, subst, append_assoc}
 use Rattle.std.proofs.lemmas.Int.{ints, by_lt_z}
 use Rattle.std.proofs.lemmas.List.Elements.{All-nil, All-cons, All-contains, All-weaker, All-from_recursion, Contains-append_left, Contains-append_cases}
 use Rattle.at_geom.specs.declared.positions.Pos.{Pos}
@@ -24,19 +24,13 @@ use Rattle.at_hull.proofs.OneHull.{one_hull_by, one_hull_own, one_hull_sym, one_
 -- ---- a value that grows by a direction is least at a corner
 
 both_down : (a b : ℤ) → a ≤ℤ pos 0 → b ≤ℤ pos 0 → pos 0 ≤ℤ (a *ℤ b)
-both_down a b h k =
-    let m = simp expand at (mul_pos (neg_ℤ a) (neg_ℤ b) (omega (arith, ints, h)) (omega (arith, ints, k))) in
-    omega (arith, ints, m)
+both_down a b h k = omega (arith, ints, simp expand at (mul_pos (neg_ℤ a) (neg_ℤ b) (omega (arith, ints, h)) (omega (arith, ints, k))))
 
 first_down : (a b : ℤ) → a ≤ℤ pos 0 → pos 0 ≤ℤ b → (a *ℤ b) ≤ℤ pos 0
-first_down a b h k =
-    let m = simp expand at (mul_pos (neg_ℤ a) b (omega (arith, ints, h)) k) in
-    omega (arith, ints, m)
+first_down a b h k = omega (arith, ints, simp expand at (mul_pos (neg_ℤ a) b (omega (arith, ints, h)) k))
 
 second_down : (a b : ℤ) → pos 0 ≤ℤ a → b ≤ℤ pos 0 → (a *ℤ b) ≤ℤ pos 0
-second_down a b h k =
-    let m = simp expand at (mul_pos a (neg_ℤ b) h (omega (arith, ints, k))) in
-    omega (arith, ints, m)
+second_down a b h k = omega (arith, ints, simp expand at (mul_pos a (neg_ℤ b) h (omega (arith, ints, k))))
 
 no_less : (t s a b : ℤ) → t ≡ s +ℤ (a -ℤ b) → pos 0 ≤ℤ s → pos 0 ≤ℤ a → b ≤ℤ pos 0 → pos 0 ≤ℤ t
 no_less t s a b e h k l = omega (arith, ints, e, h, k, l)
@@ -47,64 +41,47 @@ corners e = e.low ∷ record { x = e.high.x; y = e.low.y } ∷ e.high ∷ record
 
 corner_side : (c d p : Pos) (e : Extent) → IsInside e p → All (λ v. pos 0 ≤ℤ turn c d v) (corners e) → pos 0 ≤ℤ turn c d p
 corner_side c d p e i f =
-    let left = i.left in
-    let right = i.right in
-    let below = i.below in
-    let above = i.above in
     by_lt_z (d.x -ℤ c.x) (pos 0)
     (λ h. by_lt_z (d.y -ℤ c.y) (pos 0)
     (λ k. no_less _ _ _ _ (by_difference c d (record { x = e.low.x; y = e.high.y }) p) (f 3 e.low (omega arith))
-    (both_down (d.x -ℤ c.x) (p.y -ℤ e.high.y) (omega (arith, ints, h)) (omega (arith, ints, above))) (first_down (d.y -ℤ c.y) (p.x -ℤ e.low.x) (omega (arith, ints, k)) (omega (arith, ints, left))))
+    (both_down (d.x -ℤ c.x) (p.y -ℤ e.high.y) (omega (arith, ints, h)) (omega (arith, ints, i.above))) (first_down (d.y -ℤ c.y) (p.x -ℤ e.low.x) (omega (arith, ints, k)) (omega (arith, ints, i.left))))
     (λ k. no_less _ _ _ _ (by_difference c d e.high p) (f 2 e.low (omega arith))
-    (both_down (d.x -ℤ c.x) (p.y -ℤ e.high.y) (omega (arith, ints, h)) (omega (arith, ints, above))) (second_down (d.y -ℤ c.y) (p.x -ℤ e.high.x) k (omega (arith, ints, right)))))
+    (both_down (d.x -ℤ c.x) (p.y -ℤ e.high.y) (omega (arith, ints, h)) (omega (arith, ints, i.above))) (second_down (d.y -ℤ c.y) (p.x -ℤ e.high.x) k (omega (arith, ints, i.right)))))
     (λ h. by_lt_z (d.y -ℤ c.y) (pos 0)
     (λ k. no_less _ _ _ _ (by_difference c d e.low p) (f 0 e.low (omega arith))
-    (mul_pos (d.x -ℤ c.x) (p.y -ℤ e.low.y) h (omega (arith, ints, below))) (first_down (d.y -ℤ c.y) (p.x -ℤ e.low.x) (omega (arith, ints, k)) (omega (arith, ints, left))))
+    (mul_pos (d.x -ℤ c.x) (p.y -ℤ e.low.y) h (omega (arith, ints, i.below))) (first_down (d.y -ℤ c.y) (p.x -ℤ e.low.x) (omega (arith, ints, k)) (omega (arith, ints, i.left))))
     (λ k. no_less _ _ _ _ (by_difference c d (record { x = e.high.x; y = e.low.y }) p) (f 1 e.low (omega arith))
-    (mul_pos (d.x -ℤ c.x) (p.y -ℤ e.low.y) h (omega (arith, ints, below))) (second_down (d.y -ℤ c.y) (p.x -ℤ e.high.x) k (omega (arith, ints, right)))))
+    (mul_pos (d.x -ℤ c.x) (p.y -ℤ e.low.y) h (omega (arith, ints, i.below))) (second_down (d.y -ℤ c.y) (p.x -ℤ e.high.x) k (omega (arith, ints, i.right)))))
 
 from_low : (e : Extent) (p : Pos) → IsInside e p → IsAtMost e.low p
 from_low e p i =
-    let left = i.left in
-    let below = i.below in
     by_lt_z e.low.y p.y (λ h. inr (inl h))
-    (λ h. by_lt_z e.low.x p.x (λ k. inr (inr (omega (arith, ints, h, below), k))) (λ k. inl (same_pos e.low p (omega (arith, ints, k, left)) (omega (arith, ints, h, below)))))
+    (λ h. by_lt_z e.low.x p.x (λ k. inr (inr (omega (arith, ints, h, i.below), k))) (λ k. inl (same_pos e.low p (omega (arith, ints, k, i.left)) (omega (arith, ints, h, i.below)))))
 
 -- ---- what lies within the extent adds nothing to its corners
 
-side_of : (c d p : Pos) (e : Extent) (qs : List Pos) → All (λ q. IsTrue (is_within e q)) qs → All (λ v. pos 0 ≤ℤ turn c d v) (corners e) → Contains (corners e) p ⊎ Contains qs p → pos 0 ≤ℤ turn c d p
-side_of c d p e qs w f (inl m) = All-contains (λ v. pos 0 ≤ℤ turn c d v) (corners e) p f m
-side_of c d p e qs w f (inr m) = corner_side c d p e (sides e p (All-contains (λ q. IsTrue (is_within e q)) qs p w m)) f
-
-low_of : (a p : Pos) (e : Extent) (qs : List Pos) → All (λ q. IsTrue (is_within e q)) qs → All (IsAtMost a) (corners e) → Contains (corners e) p ⊎ Contains qs p → IsAtMost a p
-low_of a p e qs w f (inl m) = All-contains (IsAtMost a) (corners e) p f m
-low_of a p e qs w f (inr m) = at_most_trans a e.low p (f 0 e.low (omega arith)) (from_low e p (sides e p (All-contains (λ q. IsTrue (is_within e q)) qs p w m)))
-
 corners_cover : (e : Extent) (qs : List Pos) → All (λ q. IsTrue (is_within e q)) qs → Covers (corners e) (corners e ++ qs)
-corners_cover e qs w = record {
-  elements = all_by (Contains (corners e ++ qs)) (corners e) (λ p m. Contains-append_left (corners e) qs p m);
-  sides = λ c d p m f. side_of c d p e qs w f (Contains-append_cases (corners e) qs p m);
-  low = λ a p m f. low_of a p e qs w f (Contains-append_cases (corners e) qs p m);
-  some = λ p m h. absurd (cc);
-}
+corners_cover e qs w =
+    let inside = λ (p : Pos) (m : Contains qs p). sides e p (All-contains (λ q. IsTrue (is_within e q)) qs p w m) in
+    record {
+      elements = all_by (Contains (corners e ++ qs)) (corners e) (Contains-append_left (corners e) qs);
+      sides = λ c d p m f. elim (Contains-append_cases (corners e) qs p m) [ inl i ↦ All-contains (λ v. pos 0 ≤ℤ turn c d v) (corners e) p f i | inr i ↦ corner_side c d p e (inside p i) f ];
+      low = λ a p m f. elim (Contains-append_cases (corners e) qs p m) [ inl i ↦ All-contains (IsAtMost a) (corners e) p f i | inr i ↦ at_most_trans a e.low p (f 0 e.low (omega arith)) (from_low e p (inside p i)) ];
+    }
 
-pub corners_add_nothing : (e : Extent) → AddsNothing (corners e) e
+corners_add_nothing : (e : Extent) → AddsNothing (corners e) e
 corners_add_nothing e qs w =
     let k = hull_exists (corners e) in
     one_hull_by (corners e ++ qs) (corners e) k.list (hull_of_covered (corners e) (corners e ++ qs) k.list (corners_cover e qs w) k.is) k.is
 
 -- ---- what adds nothing to one list adds nothing to another
 
--- a list to which the corners add nothing
-by_corners : (ps : List Pos) (e : Extent) → HaveOneHull (ps ++ corners e) ps → AddsNothing ps e
-by_corners ps e o qs w =
-    one_hull_trans (ps ++ qs) ((ps ++ corners e) ++ qs) ps (one_hull_more ps (ps ++ corners e) qs (one_hull_sym (ps ++ corners e) ps o))
-    (one_hull_trans ((ps ++ corners e) ++ qs) (ps ++ corners e) ps
-    (subst (λ (l : List Pos). HaveOneHull l (ps ++ corners e)) (sym (append_assoc ps (corners e) qs)) (one_hull_both ps (corners e ++ qs) ps (corners e) (one_hull_refl ps) (corners_add_nothing e qs w)))
-    o)
-
 pub adds_nothing_within : (h : List Pos) (e : Extent) → IsHull h h → All (IsWithin h) (corners e) → AddsNothing h e
-adds_nothing_within h e own f = by_corners h e (one_hull_by (h ++ corners e) h h (own_with h (corners e) f own) own)
+adds_nothing_within h e own f qs w =
+    let hc : List Pos = h ++ corners e in
+    let o = one_hull_by hc h h (own_with h (corners e) f own) own in
+    one_hull_trans (h ++ qs) (hc ++ qs) h (one_hull_more h hc qs (one_hull_sym hc h o))
+    (one_hull_trans (hc ++ qs) hc h (subst (λ (l : List Pos). HaveOneHull l hc) (sym (append_assoc h (corners e) qs)) (one_hull_both h (corners e ++ qs) h (corners e) (one_hull_refl h) (corners_add_nothing e qs w))) o)
 
 -- more positions behind
 pub adds_nothing_more : (ps rs : List Pos) (e : Extent) → AddsNothing ps e → AddsNothing (ps ++ rs) e
@@ -125,18 +102,13 @@ each_within e (q ∷ qs) w = All-cons (λ p. IsTrue (is_within e p)) q qs w.0 (e
 pub adds_nothing_round : (ps qs : List Pos) (e : Extent) → extent_of qs ≡ Some e → AddsNothing ps e → HaveOneHull (ps ++ qs) ps
 adds_nothing_round ps qs e x f = f qs (each_within e qs (extent_covers e qs x))
 
-inside_both : (e f : Extent) (p : Pos) → IsInside e f.low → IsInside e f.high → IsInside f p → IsInside e p
-inside_both e f p a b c = record {
-  left = let h = a.left in let k = c.left in omega (arith, ints, h, k);
-  right = let h = b.right in let k = c.right in omega (arith, ints, h, k);
-  below = let h = a.below in let k = c.below in omega (arith, ints, h, k);
-  above = let h = b.above in let k = c.above in omega (arith, ints, h, k);
-}
-
 -- an extent that lies in one that adds nothing
 pub adds_nothing_inside : (ps : List Pos) (e f : Extent) → IsTrue (is_within e f.low) → IsTrue (is_within e f.high) → AddsNothing ps e → AddsNothing ps f
 adds_nothing_inside ps e f low high h qs w =
-    h qs (All-weaker (λ q. IsTrue (is_within f q)) (λ q. IsTrue (is_within e q)) (λ p m. from_sides e p (inside_both e f p (sides e f.low low) (sides e f.high high) (sides f p m))) qs w)
+    let a = sides e f.low low in
+    let b = sides e f.high high in
+    let inside = λ (p : Pos) (c : IsInside f p). from_sides e p (record { left = omega (arith, ints, a.left, c.left); right = omega (arith, ints, b.right, c.right); below = omega (arith, ints, a.below, c.below); above = omega (arith, ints, b.above, c.above) }) in
+    h qs (All-weaker (λ q. IsTrue (is_within f q)) (λ q. IsTrue (is_within e q)) (λ p m. inside p (sides f p m)) qs w)
 
 -- the hull of the list and of what waited
 pub adds_nothing_settled : (h waiting both : List Pos) (e : Extent) → IsHull (h ++ waiting) both → IsHull both both → AddsNothing h e → AddsNothing both e

@@ -7,7 +7,7 @@ use Rattle.at_geom.specs.declared.positions.Pos.{Pos}
 use Rattle.at_geom.specs.Segments.{turn}
 use Rattle.at_geom.proofs.RingLaws.{expand, products}
 use Rattle.at_geom.proofs.CommonPoint.{cross}
-use Rattle.at_hull.specs.Hulls.{IsAtMost, TurnsLeft, NoneRight, IsRing, AreEnds, IsHull, round}
+use Rattle.at_hull.specs.Hulls.{IsAtMost, TurnsLeft, NoneRight, IsHull, round}
 use Rattle.at_hull.proofs.Planes.{mul_pos, div_pos, up_or_none, up_of, height_of, IsUp, IsUpOrNone}
 use Rattle.at_hull.proofs.Ways.{at_most_below, end_of}
 use Rattle.at_hull.proofs.Members.{in_none}
@@ -40,9 +40,6 @@ at_corner ux uy vx vy wx wy = simp expand (omega (arith, ints))
 pub by_difference : (c d v p : Pos) → turn c d p ≡ turn c d v +ℤ cross (d.x -ℤ c.x) (d.y -ℤ c.y) (p.x -ℤ v.x) (p.y -ℤ v.y)
 by_difference c d v p = simp expand (omega (arith, ints))
 
-sum_pos : (a b c : ℤ) → a ≡ b +ℤ c → pos 0 ≤ℤ b → pos 0 ≤ℤ c → pos 0 ≤ℤ a
-sum_pos a b c e h k = omega (arith, ints, e, h, k)
-
 -- at a corner that turns left and is the least of the three, p, which isn't right of its edges, is no less
 pub valley : (c d p u v w : Pos) → pos 0 <ℤ turn u v w → pos 0 ≤ℤ turn u v p → pos 0 ≤ℤ turn v w p → turn c d v ≤ℤ turn c d u → turn c d v ≤ℤ turn c d w → pos 0 ≤ℤ turn c d v → pos 0 ≤ℤ turn c d p
 valley c d p u v w t f g h k n =
@@ -53,9 +50,8 @@ valley c d p u v w t f g h k n =
     let j = by_difference c d v w in
     let m = mul_pos (cross (w.x -ℤ v.x) (w.y -ℤ v.y) (p.x -ℤ v.x) (p.y -ℤ v.y)) (cross (d.x -ℤ c.x) (d.y -ℤ c.y) (u.x -ℤ v.x) (u.y -ℤ v.y)) g (omega (arith, ints, i, h)) in
     let q = mul_pos (cross (p.x -ℤ v.x) (p.y -ℤ v.y) (u.x -ℤ v.x) (u.y -ℤ v.y)) (cross (d.x -ℤ c.x) (d.y -ℤ c.y) (w.x -ℤ v.x) (w.y -ℤ v.y)) (subst (λ (z : ℤ). pos 0 ≤ℤ z) (sym a2) f) (omega (arith, ints, j, k)) in
-    let s = sum_pos _ _ _ e m q in
-    let r = div_pos (cross (w.x -ℤ v.x) (w.y -ℤ v.y) (u.x -ℤ v.x) (u.y -ℤ v.y)) (cross (d.x -ℤ c.x) (d.y -ℤ c.y) (p.x -ℤ v.x) (p.y -ℤ v.y)) (subst (λ (z : ℤ). pos 0 <ℤ z) (sym a1) t) s in
-    sum_pos _ _ _ (by_difference c d v p) n r
+    let r = div_pos (cross (w.x -ℤ v.x) (w.y -ℤ v.y) (u.x -ℤ v.x) (u.y -ℤ v.y)) (cross (d.x -ℤ c.x) (d.y -ℤ c.y) (p.x -ℤ v.x) (p.y -ℤ v.y)) (subst (λ (z : ℤ). pos 0 <ℤ z) (sym a1) t) (omega (arith, ints, e, m, q)) in
+    omega (arith, ints, by_difference c d v p, n, r)
 
 -- ---- round a ring there is such a corner
 
@@ -99,24 +95,15 @@ last_is : (c a b : Pos) (r : List Pos) → end_of c (r ++ a ∷ b ∷ []) ≡ b
 last_is c a b [] = refl
 last_is c a b (x ∷ r) = last_is x a b r
 
-found : (P : Type 0) (x y : ℤ) → P ⊎ (x <ℤ y) → y ≤ℤ x → P
-found P x y (inl h) k = h
-found P x y (inr h) k = absurd (omega (arith, ints, h, k))
-
-found_up : (P Q : Type 0) (x y : ℤ) → P ⊎ ((x ≤ℤ y) × Q) → y <ℤ x → P
-found_up P Q x y (inl h) k = h
-found_up P Q x y (inr h) k = absurd (omega (arith, ints, h.0, k))
-
 pub by_ring : (g : Pos → ℤ) (S : Pos → Type 0) (p a b c : Pos) (r : List Pos) → Least g p → S p → TurnsLeft (round a b (c ∷ r)) → NoneRight S (round a b (c ∷ r)) → All (λ q. pos 0 ≤ℤ g q) (a ∷ b ∷ c ∷ r) → pos 0 ≤ℤ g p
 by_ring g S p a b c r least m t n e =
     let two : All (λ q. pos 0 ≤ℤ g q) (a ∷ b ∷ []) = All-take (λ q. pos 0 ≤ℤ g q) 2 (a ∷ b ∷ c ∷ r) e in
     let all : All (λ q. pos 0 ≤ℤ g q) (a ∷ b ∷ c ∷ (r ++ a ∷ b ∷ [])) = All-append (λ q. pos 0 ≤ℤ g q) (a ∷ b ∷ c ∷ r) (a ∷ b ∷ []) e two in
     let on : All (λ q. pos 0 ≤ℤ g q) (c ∷ (r ++ a ∷ b ∷ [])) = All-drop (λ q. pos 0 ≤ℤ g q) 2 (a ∷ b ∷ c ∷ (r ++ a ∷ b ∷ [])) all in
     by_lt_z (g a) (g b)
-    (λ f. found_up (pos 0 ≤ℤ g p) (g b <ℤ g c) (g b) (g a) (up g S p b a b (c ∷ r) least m t.1 n.1 on f) f)
+    (λ f. elim (up g S p b a b (c ∷ r) least m t.1 n.1 on f) [ inl i ↦ i | inr i ↦ absurd (omega (arith, ints, i.0, f)) ])
     (λ f. by_lt_z (g c) (g b)
-    (λ h. found (pos 0 ≤ℤ g p) (g (end_of c (r ++ a ∷ b ∷ []))) (g b) (down g S p b c (r ++ a ∷ b ∷ []) (g b) least m t.1 n.1 on (omega (arith, ints, h)) h)
-    (subst (λ (z : Pos). g b ≤ℤ g z) (sym (last_is c a b r)) (omega (arith, ints))))
+    (λ h. elim (down g S p b c (r ++ a ∷ b ∷ []) (g b) least m t.1 n.1 on (omega (arith, ints, h)) h) [ inl i ↦ i | inr i ↦ absurd (omega (arith, ints, i, ap g (last_is c a b r))) ])
     (λ h. least a b c t.0 (n.0 p m) (n.1.0 p m) f h (e 1 b (omega arith))))
 
 -- ---- between two ends
@@ -125,7 +112,6 @@ pub record Covers (xs ps : List Pos) : Type 0 where
   pub elements : All (Contains ps) xs
   pub sides : (a b p : Pos) → Contains ps p → All (λ v. pos 0 ≤ℤ turn a b v) xs → pos 0 ≤ℤ turn a b p
   pub low : (a p : Pos) → Contains ps p → All (IsAtMost a) xs → IsAtMost a p
-  pub some : (p : Pos) → Contains ps p → xs ≡ [] → ⊥
 
 pub along_y : (dx dy ux uy qx qy : ℤ) → uy *ℤ cross dx dy qx qy ≡ (qy *ℤ cross dx dy ux uy) +ℤ (dy *ℤ cross ux uy qx qy)
 along_y dx dy ux uy qx qy = simp expand (omega (arith, products))
@@ -147,16 +133,13 @@ width_of : (x y : ℤ) → IsUpOrNone x y → y ≡ pos 0 → pos 0 ≤ℤ x
 width_of x y (inl h) e = absurd (omega (arith, ints, h, e))
 width_of x y (inr h) e = h.1
 
-no_more : (a b z : ℤ) → a ≡ b +ℤ z → z ≡ pos 0 → a ≡ b
-no_more a b z e f = omega (arith, ints, e, f)
-
 line_side : (c d a b p : Pos) → IsUp (b.x -ℤ a.x) (b.y -ℤ a.y) → IsUpOrNone (p.x -ℤ a.x) (p.y -ℤ a.y) → IsUpOrNone (b.x -ℤ p.x) (b.y -ℤ p.y) → turn a b p ≡ pos 0 → pos 0 ≤ℤ turn c d a → pos 0 ≤ℤ turn c d b → pos 0 ≤ℤ turn c d p
 line_side c d a b p (inl u) q r e h k =
     let z = times_zero (d.y -ℤ c.y) (turn a b p) e in
     let y = along_y (d.x -ℤ c.x) (d.y -ℤ c.y) (b.x -ℤ a.x) (b.y -ℤ a.y) (p.x -ℤ a.x) (p.y -ℤ a.y) in
     let i = height_of _ _ r in
     subst (λ (t : ℤ). pos 0 ≤ℤ t) (sym (by_difference c d a p))
-    (weigh (b.y -ℤ a.y) (p.y -ℤ a.y) (turn c d a) _ _ u (height_of _ _ q) (omega (arith, ints, i)) (no_more _ _ _ y z) h (subst (λ (t : ℤ). pos 0 ≤ℤ t) (by_difference c d a b) k))
+    (weigh (b.y -ℤ a.y) (p.y -ℤ a.y) (turn c d a) _ _ u (height_of _ _ q) (omega (arith, ints, i)) (omega (arith, ints, y, z)) h (subst (λ (t : ℤ). pos 0 ≤ℤ t) (by_difference c d a b) k))
 line_side c d a b p (inr u) q r e h k =
     let z = times_zero (d.x -ℤ c.x) (turn a b p) e in
     let y = along_x (d.x -ℤ c.x) (d.y -ℤ c.y) (b.x -ℤ a.x) (b.y -ℤ a.y) (p.x -ℤ a.x) (p.y -ℤ a.y) in
@@ -166,45 +149,27 @@ line_side c d a b p (inr u) q r e h k =
     let flat_r : b.y -ℤ p.y ≡ pos 0 = omega (arith, ints, i, j, u.0) in
     let n = width_of _ _ r flat_r in
     subst (λ (t : ℤ). pos 0 ≤ℤ t) (sym (by_difference c d a p))
-    (weigh (b.x -ℤ a.x) (p.x -ℤ a.x) (turn c d a) _ _ u.1 (width_of _ _ q flat) (omega (arith, ints, n)) (no_more _ _ _ y z) h (subst (λ (t : ℤ). pos 0 ≤ℤ t) (by_difference c d a b) k))
+    (weigh (b.x -ℤ a.x) (p.x -ℤ a.x) (turn c d a) _ _ u.1 (width_of _ _ q flat) (omega (arith, ints, n)) (omega (arith, ints, y, z)) h (subst (λ (t : ℤ). pos 0 ≤ℤ t) (by_difference c d a b) k))
 
 -- ---- a hull covers its list
 
-covers_one : (ps : List Pos) (a : Pos) → Contains ps a → All (λ p. p ≡ a) ps → Covers (a ∷ []) ps
-covers_one ps a h f = record {
-  elements = All-from_recursion (Contains ps) (a ∷ []) (h, tt);
-  sides = λ c d p m g. subst (λ (z : Pos). pos 0 ≤ℤ turn c d z) (sym (All-contains (λ q. q ≡ a) ps p f m)) (g 0 a (omega arith));
-  low = λ c p m g. subst (λ (z : Pos). IsAtMost c z) (sym (All-contains (λ q. q ≡ a) ps p f m)) (g 0 a (omega arith));
-  some = λ p m e. absurd (cc);
+pub hull_covers : (ps h : List Pos) → IsHull ps h → Covers h ps
+hull_covers ps [] h =
+    let none = λ (p : Pos) (m : Contains ps p). in_none p (subst (λ (l : List Pos). Contains l p) h m) in
+    record { elements = All-nil (Contains ps); sides = λ a b p m g. absurd (none p m); low = λ a p m g. absurd (none p m) }
+hull_covers ps (a ∷ []) h = record {
+  elements = All-from_recursion (Contains ps) (a ∷ []) (h.0, tt);
+  sides = λ c d p m g. subst (λ (z : Pos). pos 0 ≤ℤ turn c d z) (sym (All-contains (λ q. q ≡ a) ps p h.1 m)) (g 0 a (omega arith));
+  low = λ c p m g. subst (λ (z : Pos). IsAtMost c z) (sym (All-contains (λ q. q ≡ a) ps p h.1 m)) (g 0 a (omega arith));
 }
-
-covers_ends : (ps : List Pos) (a b : Pos) → AreEnds ps a b → Covers (a ∷ b ∷ []) ps
-covers_ends ps a b h = record {
+hull_covers ps (a ∷ b ∷ []) h = record {
   elements = All-from_recursion (Contains ps) (a ∷ b ∷ []) (h.lower, (h.upper, tt));
   sides = λ c d p m g. line_side c d a b p (up_of a b h.apart) (up_or_none a p (All-contains (IsAtMost a) ps p h.from_lower m)) (up_or_none p b (All-contains (λ q. IsAtMost q b) ps p h.to_upper m))
       (All-contains (λ q. turn a b q ≡ pos 0) ps p h.on_line m) (g 0 a (omega arith)) (g 1 b (omega arith));
   low = λ c p m g. at_most_trans c a p (g 0 a (omega arith)) (All-contains (IsAtMost a) ps p h.from_lower m);
-  some = λ p m e. absurd (cc);
 }
-
-covers_ring : (ps : List Pos) (a b c : Pos) (r : List Pos) → IsRing ps a b (c ∷ r) → Covers (a ∷ b ∷ c ∷ r) ps
-covers_ring ps a b c r h = record {
+hull_covers ps (a ∷ b ∷ c ∷ r) h = record {
   elements = h.of_list;
-  sides = λ c0 d0 p m g. by_ring (λ q. turn c0 d0 q) (Contains ps) p a b c r (λ u v w. valley c0 d0 p u v w) m h.left h.none_right g;
+  sides = λ x y p m g. by_ring (λ q. turn x y q) (Contains ps) p a b c r (λ u v w. valley x y p u v w) m h.left h.none_right g;
   low = λ e p m g. at_most_trans e a p (g 0 a (omega arith)) (All-contains (IsAtMost a) ps p h.lowest.1 m);
-  some = λ p m e. absurd (cc);
 }
-
-covers_none : (ps : List Pos) → ps ≡ [] → Covers [] ps
-covers_none ps e = record {
-  elements = All-nil (Contains ps);
-  sides = λ a b p m g. absurd (in_none p (subst (λ (l : List Pos). Contains l p) e m));
-  low = λ a p m g. absurd (in_none p (subst (λ (l : List Pos). Contains l p) e m));
-  some = λ p m f. in_none p (subst (λ (l : List Pos). Contains l p) e m);
-}
-
-pub hull_covers : (ps h : List Pos) → IsHull ps h → Covers h ps
-hull_covers ps [] h = covers_none ps h
-hull_covers ps (a ∷ []) h = covers_one ps a h.0 h.1
-hull_covers ps (a ∷ b ∷ []) h = covers_ends ps a b h
-hull_covers ps (a ∷ b ∷ c ∷ r) h = covers_ring ps a b c r h

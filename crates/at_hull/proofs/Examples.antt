@@ -18,9 +18,6 @@ not_here p q ps h f m =
       | inr n ↦ f n
     ]
 
-at_least : (n : ℕ) → pos 0 ≤ℤ pos n
-at_least n = omega (arith, ints)
-
 above : (n : ℕ) → pos 0 <ℤ pos (suc n)
 above n = omega (arith, ints)
 

@@ -1,115 +1,90 @@
 -- Each list has a hull.
 -- For `add`, `covers` and `join`.
 use Rattle.std.proofs.Common.{◌≡◌, inl, inr, true, List, [], ◌∷◌, Contains, arith, ◌∙◌, refl}
-use Rattle.std.proofs.lemmas.List.Elements.{All-contains, All-contains_itself}
 use Rattle.at_geom.specs.declared.positions.Pos.{Pos}
-use Rattle.at_hull.specs.Hulls.{IsBelow, HasSame, IsAscending, IsHull}
-use Rattle.at_hull.proofs.Ways.{by_order, walk_of, end_of}
+use Rattle.at_hull.specs.Hulls.{IsBelow, IsHull}
+use Rattle.at_hull.proofs.Ways.{Rises, by_order, end_of}
 use Rattle.at_hull.proofs.Rings.{joined_ways, hull_of_ways}
-use Rattle.at_hull.proofs.Sorted.{rises_of, end_above, walk_back}
+use Rattle.at_hull.proofs.Sorted.{end_above, walk_up, walk_back}
 use Rattle.at_hull.proofs.Laws.{hull_of_same}
-use Rattle.at_hull.proofs.Sorts.{past_second, behind_first}
 use Rattle.at_hull.proofs.Members.{at_first, at_later, first_or_later, only_one, all_by}
 
-abbrev IsAbove : Pos → List Pos → Type 0
-IsAbove q [] = Unit {0}
-IsAbove q (x ∷ xs) = IsBelow q x
+-- a list of which each is below the next, with the positions of ps
+record Rising (ps : List Pos) : Type 0 where
+  first : Pos
+  rest : List Pos
+  rises : Rises true first rest
+  to : (x : Pos) → Contains (first ∷ rest) x → Contains ps x
+  from : (x : Pos) → Contains ps x → Contains (first ∷ rest) x
 
-ascends_on : (a : Pos) (xs : List Pos) → IsAbove a xs → IsAscending xs → IsAscending (a ∷ xs)
-ascends_on a [] h k = tt
-ascends_on a (x ∷ xs) h k = (h, k)
+-- a rising list with p put in: what is below p and below all of the list is below all of it
+record Put (p a : Pos) (r : List Pos) : Type 0 where
+  is : Rising (p ∷ a ∷ r)
+  bound : (q : Pos) → IsBelow q p → IsBelow q a → IsBelow q is.first
 
-above_first : (a : Pos) (xs : List Pos) → IsAscending (a ∷ xs) → IsAbove a xs
-above_first a [] h = tt
-above_first a (x ∷ xs) h = h.0
+behind_first : (p k : Pos) (xs ys : List Pos) → (Contains xs p → Contains ys p) → Contains (k ∷ xs) p → Contains (k ∷ ys) p
+behind_first p k xs ys f h = elim (first_or_later p k xs h) [ inl e ↦ at_first p k ys e | inr m ↦ at_later p k ys (f m) ]
 
-without_first : (a : Pos) (xs : List Pos) → IsAscending (a ∷ xs) → IsAscending xs
-without_first a [] h = tt
-without_first a (x ∷ xs) h = h.1
+exchanged : (x p a : Pos) (r : List Pos) → Contains (a ∷ p ∷ r) x → Contains (p ∷ a ∷ r) x
+exchanged x p a r m = elim (first_or_later x a (p ∷ r) m) [ inl e ↦ at_later x p (a ∷ r) (at_first x a r e) | inr n ↦ behind_first x p r (a ∷ r) (at_later x a r) n ]
 
--- an ascending list with p put in
-record Put (p : Pos) (xs : List Pos) : Type 0 where
-  list : List Pos
-  ascending : IsAscending list
-  same : HasSame list (p ∷ xs)
-  bound : (q : Pos) → IsBelow q p → IsAbove q xs → IsAbove q list
-
-either : (x p a : Pos) (r : List Pos) → p ≡ a → Contains (p ∷ a ∷ r) x → Contains (a ∷ r) x
-either x p a r e m = elim (first_or_later x p (a ∷ r) m) [ inl f ↦ at_first x a r (f ∙ e) | inr n ↦ n ]
-
-behind : (x p a : Pos) (r l : List Pos) → (Contains l x → Contains (p ∷ r) x) → Contains (a ∷ l) x → Contains (p ∷ a ∷ r) x
-behind x p a r l f m = elim (first_or_later x a l m) [ inl e ↦ at_later x p (a ∷ r) (at_first x a r e) | inr n ↦ past_second x p a r (f n) ]
-
-back : (x p a : Pos) (r l : List Pos) → (Contains (p ∷ r) x → Contains l x) → Contains (p ∷ a ∷ r) x → Contains (a ∷ l) x
-back x p a r l f m =
-    elim (first_or_later x p (a ∷ r) m) [
-      | inl e ↦ at_later x a l (f (at_first x p r e))
-      | inr n ↦ elim (first_or_later x a r n) [ inl e ↦ at_first x a l e | inr o ↦ at_later x a l (f (at_later x p r o)) ]
-    ]
-
--- two lists have the same positions
-same_by : (xs ys : List Pos) → ((x : Pos) → Contains xs x → Contains ys x) → ((x : Pos) → Contains ys x → Contains xs x) → HasSame xs ys
-same_by xs ys f g = (all_by (Contains ys) xs f, all_by (Contains xs) ys g)
-
-same_itself : (xs : List Pos) → HasSame xs xs
-same_itself xs = (All-contains_itself xs, All-contains_itself xs)
-
--- a position of the one is one of the other
-forth : (xs ys : List Pos) (x : Pos) → HasSame xs ys → Contains xs x → Contains ys x
-forth xs ys x s m = All-contains (Contains ys) xs x s.0 m
-
-from : (xs ys : List Pos) (x : Pos) → HasSame xs ys → Contains ys x → Contains xs x
-from xs ys x s m = All-contains (Contains xs) ys x s.1 m
-
-put : (p : Pos) (xs : List Pos) → IsAscending xs → Put p xs
-put p [] h = record { list = p ∷ []; ascending = tt; same = same_itself (p ∷ []); bound = λ q f g. f }
-put p (a ∷ r) h =
+place : (p a : Pos) (r : List Pos) → Rises true a r → (IsBelow a p → Put p a r) → Put p a r
+place p a r h k =
     by_order p a
-    (λ f. record { list = p ∷ a ∷ r; ascending = (f, h); same = same_itself (p ∷ a ∷ r); bound = λ q k g. k })
-    (λ e. record { list = a ∷ r; ascending = h; same = same_by (a ∷ r) (p ∷ a ∷ r) (λ x m. at_later x p (a ∷ r) m) (λ x m. either x p a r e m); bound = λ q k g. g })
-    (λ f.
-    let t = put p r (without_first a r h) in
+    (λ f. record { is = record { first = p; rest = a ∷ r; rises = (f, h); to = λ x m. m; from = λ x m. m }; bound = λ q i g. i })
+    (λ e. record {
+      is = record { first = a; rest = r; rises = h; to = λ x m. at_later x p (a ∷ r) m; from = λ x m. elim (first_or_later x p (a ∷ r) m) [ inl f ↦ at_first x a r (f ∙ e) | inr n ↦ n ] };
+      bound = λ q i g. g;
+    })
+    k
+
+put : (p a : Pos) (r : List Pos) → Rises true a r → Put p a r
+put p a [] h = place p a [] h (λ f. record { is = record { first = a; rest = p ∷ []; rises = (f, tt); to = λ x m. exchanged x p a [] m; from = λ x m. exchanged x a p [] m }; bound = λ q i g. g })
+put p a (b ∷ r) h = place p a (b ∷ r) h (λ f.
+    let t = put p b r h.1 in
+    let s : List Pos = t.is.first ∷ t.is.rest in
     record {
-      list = a ∷ t.list;
-      ascending = ascends_on a t.list (t.bound a f (above_first a r h)) t.ascending;
-      same = same_by (a ∷ t.list) (p ∷ a ∷ r) (λ x m. behind x p a r t.list (forth t.list (p ∷ r) x t.same) m) (λ x m. back x p a r t.list (from t.list (p ∷ r) x t.same) m);
-      bound = λ q k g. g;
+      is = record {
+        first = a;
+        rest = s;
+        rises = (t.bound a f h.0, t.is.rises);
+        to = λ x m. exchanged x p a (b ∷ r) (behind_first x a s (p ∷ b ∷ r) (t.is.to x) m);
+        from = λ x m. behind_first x a (p ∷ b ∷ r) s (t.is.from x) (exchanged x a p (b ∷ r) m);
+      };
+      bound = λ q i g. g;
     })
 
-record Ascending (ps : List Pos) : Type 0 where
-  list : List Pos
-  ascending : IsAscending list
-  same : HasSame list ps
-
-ascending_of : (ps : List Pos) → Ascending ps
-ascending_of [] = record { list = []; ascending = tt; same = same_itself [] }
-ascending_of (p ∷ ps) =
-    let t = ascending_of ps in
-    let s = put p t.list t.ascending in
+rising_of : (p : Pos) (ps : List Pos) → Rising (p ∷ ps)
+rising_of p [] = record { first = p; rest = []; rises = tt; to = λ x m. m; from = λ x m. m }
+rising_of p (q ∷ ps) =
+    let t = rising_of q ps in
+    let s = (put p t.first t.rest t.rises).is in
     record {
-      list = s.list;
-      ascending = s.ascending;
-      same = same_by s.list (p ∷ ps)
-          (λ x m. behind_first x p t.list ps (forth t.list ps x t.same) (forth s.list (p ∷ t.list) x s.same m))
-          (λ x m. from s.list (p ∷ t.list) x s.same (behind_first x p ps t.list (from t.list ps x t.same) m));
+      first = s.first;
+      rest = s.rest;
+      rises = s.rises;
+      to = λ x m. behind_first x p (t.first ∷ t.rest) (q ∷ ps) (t.to x) (s.to x m);
+      from = λ x m. s.from x (behind_first x p (q ∷ ps) (t.first ∷ t.rest) (t.from x) m);
     }
 
 pub record HasHull (ps : List Pos) : Type 0 where
   pub list : List Pos
   pub is : IsHull ps list
 
-of_ascending : (xs : List Pos) → IsAscending xs → HasHull xs
-of_ascending [] h = record { list = []; is = refl }
-of_ascending (a ∷ []) h = record { list = a ∷ []; is = ((0, omega arith, refl), all_by (λ p. p ≡ a) (a ∷ []) (λ p m. only_one a p m)) }
-of_ascending (a ∷ c ∷ cs) h =
-    let r = rises_of a (c ∷ cs) h in
-    let w = walk_of true a (c ∷ cs) r in
-    let v = walk_back a (c ∷ cs) r in
-    record { list = joined_ways w.rest v.rest; is = hull_of_ways (a ∷ c ∷ cs) a (end_of c cs) w.rest v.rest (end_above a c cs r) w.way v.way }
+of_rising : (a : Pos) (cs : List Pos) → Rises true a cs → HasHull (a ∷ cs)
+of_rising a [] h = record { list = a ∷ []; is = ((0, omega arith, refl), all_by (λ p. p ≡ a) (a ∷ []) (λ p m. only_one a p m)) }
+of_rising a (c ∷ cs) h =
+    let w = walk_up a (c ∷ cs) h in
+    let v = walk_back a (c ∷ cs) h in
+    record { list = joined_ways w.rest v.rest; is = hull_of_ways (a ∷ c ∷ cs) a (end_of c cs) w.rest v.rest (end_above a c cs h) w.way v.way }
 
 -- each list has a hull
 pub hull_exists : (ps : List Pos) → HasHull ps
-hull_exists ps =
-    let t = ascending_of ps in
-    let h = of_ascending t.list t.ascending in
-    record { list = h.list; is = hull_of_same t.list ps h.list t.same h.is }
+hull_exists [] = record { list = []; is = refl }
+hull_exists (p ∷ ps) =
+    let t = rising_of p ps in
+    let h = of_rising t.first t.rest t.rises in
+    record {
+      list = h.list;
+      is = hull_of_same (t.first ∷ t.rest) (p ∷ ps) h.list (all_by (Contains (p ∷ ps)) (t.first ∷ t.rest) t.to, all_by (Contains (t.first ∷ t.rest)) (p ∷ ps) t.from) h.is;
+    }

@@ -1,8 +1,9 @@
 -- Elements of lists, joined and turned round.
 -- For most public calls of the crate, `add`, `covers`, `covers_all` among them.
-use Rattle.std.proofs.Common.{◌≡◌, ◌⊎◌, inl, inr, zero, suc, List, [], ◌∷◌, ◌++◌, get_or, reverse, All, Contains, arith, sym, ap, ◌∙◌, subst, refl}
+use Rattle.std.proofs.Common.{◌≡◌, ◌⊎◌, inl, inr, zero, suc, List, [], ◌∷◌, ◌++◌, get_or, reverse, All, Contains, arith, sym, ap, ◌∙◌, subst, refl, IsPermutation}
 use Rattle.std.proofs.lemmas.List.{reverse-append, append_assoc}
-use Rattle.std.proofs.lemmas.List.Elements.{All-contains, All-weaker, Contains-get_or, Contains-append_left, Contains-append_right, Contains-append_cases}
+use Rattle.std.proofs.lemmas.List.Sorted.{All-permutation, IsPermutation-sym, IsPermutation-reverse}
+use Rattle.std.proofs.lemmas.List.Elements.{All-contains, All-contains_itself, All-weaker, Contains-get_or, Contains-append_left, Contains-append_right, Contains-append_cases}
 use Rattle.at_geom.specs.declared.positions.Pos.{Pos}
 use Rattle.at_hull.specs.Hulls.{AreDifferent}
 
@@ -48,39 +49,23 @@ reverse_cons x xs = reverse-append (x ∷ []) xs
 pub unreel : (x : Pos) (xs ys : List Pos) → reverse (x ∷ xs) ++ ys ≡ reverse xs ++ x ∷ ys
 unreel x xs ys = ap (λ (w : List Pos). w ++ ys) (reverse_cons x xs) ∙ append_assoc (reverse xs) (x ∷ []) ys
 
-pub in_reverse : (p : Pos) (xs : List Pos) → Contains (reverse xs) p → Contains xs p
-in_reverse p [] h = h
-in_reverse p (x ∷ xs) h =
-    elim (Contains-append_cases (reverse xs) (x ∷ []) p (subst (λ (w : List Pos). Contains w p) (reverse_cons x xs) h)) [
-      | inl k ↦ at_later p x xs (in_reverse p xs k)
-      | inr k ↦ at_first p x xs (only_one x p k)
-    ]
+in_moved : (xs ys : List Pos) (p : Pos) → IsPermutation xs ys → Contains ys p → Contains xs p
+in_moved xs ys p h m = All-contains (Contains xs) ys p (All-permutation (Contains xs) xs ys h (All-contains_itself xs)) m
 
-at_end : (p x : Pos) (xs ys : List Pos) → (Contains xs p → Contains ys p) → Contains (x ∷ xs) p → Contains (ys ++ x ∷ []) p
-at_end p x xs ys f h =
-    elim (first_or_later p x xs h) [
-      | inl e ↦ Contains-append_right ys (x ∷ []) p (at_first p x [] e)
-      | inr m ↦ Contains-append_left ys (x ∷ []) p (f m)
-    ]
+pub in_reverse : (p : Pos) (xs : List Pos) → Contains (reverse xs) p → Contains xs p
+in_reverse p xs m = in_moved xs (reverse xs) p (IsPermutation-reverse xs) m
 
 pub to_reverse : (p : Pos) (xs : List Pos) → Contains xs p → Contains (reverse xs) p
-to_reverse p [] h = h
-to_reverse p (x ∷ xs) h = subst (λ (w : List Pos). Contains w p) (sym (reverse_cons x xs)) (at_end p x xs (reverse xs) (λ m. to_reverse p xs m) h)
+to_reverse p xs m = in_moved (reverse xs) xs p (IsPermutation-sym xs (reverse xs) (IsPermutation-reverse xs)) m
 
 -- ---- no position twice
 
-not_in_either : (p : Pos) (xs ys : List Pos) → (Contains xs p → ⊥) → (Contains ys p → ⊥) → Contains (xs ++ ys) p → ⊥
-not_in_either p xs ys f g h = elim (Contains-append_cases xs ys p h) [ inl k ↦ f k | inr k ↦ g k ]
-
 pub different_parts : (xs ys : List Pos) → AreDifferent xs → AreDifferent ys → ((p : Pos) → Contains xs p → Contains ys p → ⊥) → AreDifferent (xs ++ ys)
 different_parts [] ys h k f = k
-different_parts (x ∷ xs) ys h k f = (λ m. not_in_either x xs ys h.0 (λ n. f x (at_first x x xs refl) n) m, different_parts xs ys h.1 k (λ p m n. f p (at_later p x xs m) n))
-
-one_different : (x : Pos) → AreDifferent (x ∷ [])
-one_different x = (λ h. in_none x h, tt)
+different_parts (x ∷ xs) ys h k f = (λ m. elim (Contains-append_cases xs ys x m) [ inl n ↦ h.0 n | inr n ↦ f x (at_first x x xs refl) n ], different_parts xs ys h.1 k (λ p m n. f p (at_later p x xs m) n))
 
 pub different_reverse : (xs : List Pos) → AreDifferent xs → AreDifferent (reverse xs)
 different_reverse [] h = tt
 different_reverse (x ∷ xs) h =
-    subst AreDifferent (sym (reverse_cons x xs)) (different_parts (reverse xs) (x ∷ []) (different_reverse xs h.1) (one_different x)
+    subst AreDifferent (sym (reverse_cons x xs)) (different_parts (reverse xs) (x ∷ []) (different_reverse xs h.1) (λ m. in_none x m, tt)
     (λ p m n. h.0 (subst (Contains xs) (only_one x p n) (in_reverse p xs m))))

@@ -6,7 +6,7 @@ use Rattle.std.proofs.lemmas.List.{append-nil, take_all, take_more, take_min, ta
 use Rattle.std.proofs.Math.Seq.{take-add, take-append-add, take-length}
 use Rattle.std.proofs.lemmas.List.Elements.{All-from_recursion, Contains-append_left, Contains-append_right, Contains-append_cases}
 use Rattle.at_geom.specs.declared.positions.Pos.{Pos}
-use Rattle.at_hull.specs.Hulls.{HasSame, IsHull}
+use Rattle.at_hull.specs.Hulls.{IsHull}
 use Rattle.at_hull.specs.Within.{IsWithin}
 use Rattle.at_hull.specs.Growth.{HaveOneHull, Growth, HoldsFront, held}
 use Rattle.at_hull.proofs.Members.{all_by}
@@ -31,9 +31,6 @@ one_hull_by ps qs h k l = record {
   back = λ g m. subst (IsHull ps) (one_hull qs h g l m) k;
 }
 
-pub one_hull_of_same : (ps qs : List Pos) → HasSame ps qs → HaveOneHull ps qs
-one_hull_of_same ps qs s = let h = hull_exists ps in one_hull_by ps qs h.list h.is (hull_of_same ps qs h.list s h.is)
-
 -- a list and its hull
 pub one_hull_own : (ps h : List Pos) → IsHull ps h → IsHull h h → HaveOneHull ps h
 one_hull_own ps h k l = one_hull_by ps h h k l
@@ -55,22 +52,19 @@ one_hull_more ps qs rs o = one_hull_both ps rs qs rs o (one_hull_refl rs)
 pub one_hull_grown : (ps old qs new : List Pos) → HaveOneHull ps old → HaveOneHull (old ++ qs) new → HaveOneHull (ps ++ qs) new
 one_hull_grown ps old qs new o u = one_hull_trans (ps ++ qs) (old ++ qs) new (one_hull_more ps old qs o) u
 
-from_swapped : (p : Pos) (ps qs rs : List Pos) → Contains ((ps ++ qs) ++ rs) p → Contains ((ps ++ rs) ++ qs) p
-from_swapped p ps qs rs m =
+from_swapped : (ps qs rs : List Pos) (p : Pos) → Contains ((ps ++ qs) ++ rs) p → Contains ((ps ++ rs) ++ qs) p
+from_swapped ps qs rs p m =
     elim (Contains-append_cases (ps ++ qs) rs p m) [
       | inl n ↦ elim (Contains-append_cases ps qs p n) [ inl k ↦ Contains-append_left (ps ++ rs) qs p (Contains-append_left ps rs p k) | inr k ↦ Contains-append_right (ps ++ rs) qs p k ]
       | inr n ↦ Contains-append_left (ps ++ rs) qs p (Contains-append_right ps rs p n)
     ]
 
 pub one_hull_swapped : (ps qs rs : List Pos) → HaveOneHull ((ps ++ qs) ++ rs) ((ps ++ rs) ++ qs)
-one_hull_swapped ps qs rs = one_hull_of_same ((ps ++ qs) ++ rs) ((ps ++ rs) ++ qs)
-    (all_by (Contains ((ps ++ rs) ++ qs)) ((ps ++ qs) ++ rs) (λ p m. from_swapped p ps qs rs m), all_by (Contains ((ps ++ qs) ++ rs)) ((ps ++ rs) ++ qs) (λ p m. from_swapped p ps rs qs m))
-
--- a position within the hull of some of the positions adds nothing
-pub one_hull_within : (h waiting : List Pos) (p : Pos) → IsHull h h → IsWithin h p → HaveOneHull ((h ++ waiting) ++ p ∷ []) (h ++ waiting)
-one_hull_within h waiting p own w =
-    one_hull_trans ((h ++ waiting) ++ p ∷ []) ((h ++ p ∷ []) ++ waiting) (h ++ waiting) (one_hull_swapped h waiting (p ∷ []))
-    (one_hull_more (h ++ p ∷ []) h waiting (one_hull_by (h ++ p ∷ []) h h (own_with h (p ∷ []) (All-from_recursion (IsWithin h) (p ∷ []) (w, tt)) own) own))
+one_hull_swapped ps qs rs =
+    let a : List Pos = (ps ++ qs) ++ rs in
+    let b : List Pos = (ps ++ rs) ++ qs in
+    let h = hull_exists a in
+    one_hull_by a b h.list h.is (hull_of_same a b h.list (all_by (Contains b) a (from_swapped ps qs rs), all_by (Contains a) b (from_swapped ps rs qs)) h.is)
 
 -- ---- one position after another
 
@@ -83,7 +77,10 @@ one_more kept new ps i d l o =
 pub next_within : (kept h waiting ps : List Pos) (i : ℕ) (d : Pos) → i < length ps → IsHull h h → IsWithin h (get_or ps i d)
     → HaveOneHull (kept ++ take i ps) (h ++ waiting) → HaveOneHull (kept ++ take (i + 1) ps) (h ++ waiting)
 next_within kept h waiting ps i d l own w o =
-    one_hull_trans (kept ++ take (i + 1) ps) ((h ++ waiting) ++ get_or ps i d ∷ []) (h ++ waiting) (one_more kept (h ++ waiting) ps i d l o) (one_hull_within h waiting (get_or ps i d) own w)
+    let q : List Pos = get_or ps i d ∷ [] in
+    one_hull_trans (kept ++ take (i + 1) ps) ((h ++ waiting) ++ q) (h ++ waiting) (one_more kept (h ++ waiting) ps i d l o)
+    (one_hull_trans ((h ++ waiting) ++ q) ((h ++ q) ++ waiting) (h ++ waiting) (one_hull_swapped h waiting q)
+    (one_hull_more (h ++ q) h waiting (one_hull_by (h ++ q) h h (own_with h q (All-from_recursion (IsWithin h) q (w, tt)) own) own)))
 
 -- the next position is put behind the ones that wait
 pub next_waits : (kept h waiting longer ps : List Pos) (i : ℕ) (d : Pos) → i < length ps → longer ≡ waiting ++ get_or ps i d ∷ []

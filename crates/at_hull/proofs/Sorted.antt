@@ -7,10 +7,10 @@ use Rattle.at_geom.specs.declared.positions.Pos.{Pos}
 use Rattle.at_hull.specs.Hulls.{IsBelow, IsAscending, IsHull}
 use Rattle.at_hull.specs.Walks.{pushed, IsWithoutEnd}
 use Rattle.at_hull.proofs.Members.{unreel, in_reverse, to_reverse, reverse_cons}
-use Rattle.at_hull.proofs.Ways.{Rises, Walked, walk_of, end_of, way_of_same, below_trans}
+use Rattle.at_hull.proofs.Ways.{Rises, Walked, walk_of, end_of, below_trans}
 use Rattle.at_hull.proofs.Rings.{hull_of_ways}
 
-pub rises_of : (a : Pos) (cs : List Pos) → IsAscending (a ∷ cs) → Rises true a cs
+rises_of : (a : Pos) (cs : List Pos) → IsAscending (a ∷ cs) → Rises true a cs
 rises_of a [] h = tt
 rises_of a (c ∷ cs) h = (h.0, rises_of c cs h.1)
 
@@ -30,44 +30,29 @@ turn_over a [] f h k = record { rest = f; is = unreel a [] f; falls = k; last = 
 turn_over a (c ∷ cs) f h k =
     subst (Turned (end_of a f) (end_of c cs)) (sym (unreel a (c ∷ cs) f)) (turn_over c cs (a ∷ f) h.1 (h.0, k))
 
-turned_list : (a : Pos) (cs : List Pos) → Rises true a cs → Turned a (end_of a cs) (reverse (a ∷ cs))
-turned_list a cs h = subst (Turned a (end_of a cs)) (append-nil (reverse (a ∷ cs))) (turn_over a cs [] h tt)
+pub walk_up : (a : Pos) (cs : List Pos) → Rises true a cs → Walked true (Contains (a ∷ cs)) a (end_of a cs) (fold pushed [] (a ∷ cs))
+walk_up a cs h = walk_of true (Contains (a ∷ cs)) a cs (λ p m. m) (λ p m. m) h
 
 pub walk_back : (a : Pos) (cs : List Pos) → Rises true a cs → Walked false (Contains (a ∷ cs)) (end_of a cs) a (fold pushed [] (reverse (a ∷ cs)))
 walk_back a cs h =
-    let t = turned_list a cs h in
-    let w = walk_of false (end_of a cs) t.rest t.falls in
-    let e = t.last in
-    let v = subst (λ (z : Pos). Walked false (Contains (end_of a cs ∷ t.rest)) (end_of a cs) z (fold pushed [] (end_of a cs ∷ t.rest))) e w in
-    let y = subst (λ (l : List Pos). Walked false (Contains l) (end_of a cs) a (fold pushed [] l)) (sym t.is) v in
-    record {
-      rest = y.rest;
-      is = y.is;
-      way = way_of_same false (Contains (reverse (a ∷ cs))) (Contains (a ∷ cs)) (end_of a cs) a y.rest (λ p m. to_reverse p (a ∷ cs) m) (λ p m. in_reverse p (a ∷ cs) m) y.way;
-    }
-
-pub hull_of_chains : (a c : Pos) (cs up down front back : List Pos) → IsAscending (a ∷ c ∷ cs) → reverse up ≡ fold pushed [] (a ∷ c ∷ cs) → reverse down ≡ fold pushed [] (reverse (a ∷ c ∷ cs))
-    → IsWithoutEnd up front → IsWithoutEnd down back → IsHull (a ∷ c ∷ cs) (front ++ back)
-hull_of_chains a c cs up down front back o e f g i =
-    let h = rises_of a (c ∷ cs) o in
-    let w = walk_of true a (c ∷ cs) h in
-    let v = walk_back a (c ∷ cs) h in
-    subst (IsHull (a ∷ c ∷ cs)) (sym (ap₂ (λ (x : List Pos) (y : List Pos). x ++ y) (g (end_of c cs) w.rest (e ∙ w.is)) (i a v.rest (f ∙ v.is))))
-    (hull_of_ways (a ∷ c ∷ cs) a (end_of c cs) w.rest v.rest (end_above a c cs h) w.way v.way)
-
-front_of : (xs : List Pos) (t : Pos) (s : List Pos) → reverse xs ≡ t ∷ s → xs ≡ reverse s ++ t ∷ []
-front_of xs t s e = sym (reverse-reverse xs) ∙ ap reverse e ∙ reverse_cons t s
-
-take_front : (front : List Pos) (b : Pos) (n : ℕ) → n ≡ length front → take n (front ++ b ∷ []) ≡ front
-take_front front b n e = ap (λ (k : ℕ). take k (front ++ b ∷ [])) e ∙ take-append_seam front (b ∷ [])
+    let t = subst (Turned a (end_of a cs)) (append-nil (reverse (a ∷ cs))) (turn_over a cs [] h tt) in
+    let w = walk_of false (Contains (a ∷ cs)) (end_of a cs) t.rest (λ p m. subst (λ (l : List Pos). Contains l p) t.is (to_reverse p (a ∷ cs) m))
+    (λ p m. in_reverse p (a ∷ cs) (subst (λ (l : List Pos). Contains l p) (sym t.is) m)) t.falls in
+    let v = subst (λ (z : Pos). Walked false (Contains (a ∷ cs)) (end_of a cs) z (fold pushed [] (end_of a cs ∷ t.rest))) t.last w in
+    subst (λ (l : List Pos). Walked false (Contains (a ∷ cs)) (end_of a cs) a (fold pushed [] l)) (sym t.is) v
 
 pub without_end : (way front : List Pos) (n : ℕ) → n ≡ length way → front ≡ take (n - 1) way → IsWithoutEnd way front
 without_end way front n e f = λ t s g.
-    let h = front_of way t s g in
-    f ∙ ap (take (n - 1)) h ∙ take_front (reverse s) t (n - 1) (omega (arith, e, ap length h, length-append (reverse s) (t ∷ [])))
+    let h : way ≡ reverse s ++ t ∷ [] = sym (reverse-reverse way) ∙ ap reverse g ∙ reverse_cons t s in
+    let i : n - 1 ≡ length (reverse s) = omega (arith, e, ap length h, length-append (reverse s) (t ∷ [])) in
+    f ∙ ap (take (n - 1)) h ∙ ap (λ (k : ℕ). take k (reverse s ++ t ∷ [])) i ∙ take-append_seam (reverse s) (t ∷ [])
 
 pub hull_of_several : (xs up down front back : List Pos) → 2 ≤ length xs → IsAscending xs → reverse up ≡ fold pushed [] xs → reverse down ≡ fold pushed [] (reverse xs)
     → IsWithoutEnd up front → IsWithoutEnd down back → IsHull xs (front ++ back)
-hull_of_several [] up down front back n o e f g i = absurd (omega (arith, n))
-hull_of_several (a ∷ []) up down front back n o e f g i = absurd (omega (arith, n))
-hull_of_several (a ∷ c ∷ cs) up down front back n o e f g i = hull_of_chains a c cs up down front back o e f g i
+hull_of_several (a ∷ c ∷ cs) up down front back n o e f g i =
+    let h = rises_of a (c ∷ cs) o in
+    let w = walk_up a (c ∷ cs) h in
+    let v = walk_back a (c ∷ cs) h in
+    subst (IsHull (a ∷ c ∷ cs)) (sym (ap₂ (λ (x : List Pos) (y : List Pos). x ++ y) (g (end_of c cs) w.rest (e ∙ w.is)) (i a v.rest (f ∙ v.is))))
+    (hull_of_ways (a ∷ c ∷ cs) a (end_of c cs) w.rest v.rest (end_above a c cs h) w.way v.way)
+hull_of_several _ up down front back n o e f g i = absurd (omega (arith, n))

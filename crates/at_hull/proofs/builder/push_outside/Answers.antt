@@ -1,5 +1,5 @@
-use Rattle.std.proofs.Common.{◌≡◌, ℕ, ◌<◌, List, ◌++◌, ◌∷◌, [], All, length, get_or, pos, sym, subst}
-use Rattle.std.proofs.lemmas.List.Elements.{All-append, All-cons, All-nil}
+use Rattle.std.proofs.Common.{All, pos, sym, subst}
+use Rattle.std.proofs.lemmas.List.Elements.{All-push}
 use Rattle.at_geom.specs.declared.positions.Pos.{Pos}
 use Rattle.at_geom.specs.Segments.{IsInRange}
 use Rattle.at_hull.proofs.OneHull.{next_within, next_waits}
@@ -8,10 +8,6 @@ use Rattle.at_hull.proofs.builder.push_outside.Goals as goal
 -- read past the end
 abbrev none : Pos
 none = record { x = pos 0; y = pos 0 }
-
-all_pushed : (ps waiting longer : List Pos) (i : ℕ) (d : Pos) → i < length ps → longer ≡ waiting ++ get_or ps i d ∷ [] → All IsInRange ps → All IsInRange waiting → All IsInRange longer
-all_pushed ps waiting longer i d l e f h =
-    subst (All IsInRange) (sym e) (All-append IsInRange waiting (get_or ps i d ∷ []) h (All-cons IsInRange (get_or ps i d) [] (f i d l) (All-nil IsInRange)))
 
 pub loop-p-preserved-then-is_within : goal.loop-p-preserved-then-is_within
 loop-p-preserved-then-is_within c = record {
@@ -22,5 +18,5 @@ loop-p-preserved-then-is_within c = record {
 pub loop-p-preserved : goal.loop-p-preserved
 loop-p-preserved c = record {
   held = next_waits _ c.args.hull.now c.loop-p.waiting.items c.push.new.self.items c.args.points.now c.loop-p.p-index none c.loop-p-test.true c.in_ok-push.ensures.items c.loop-p.invariant.held;
-  in_range = all_pushed c.args.points.now c.loop-p.waiting.items c.push.new.self.items c.loop-p.p-index none c.loop-p-test.true c.in_ok-push.ensures.items c.requires.points_in_range c.loop-p.invariant.in_range;
+  in_range = subst (All IsInRange) (sym c.in_ok-push.ensures.items) (All-push IsInRange c.loop-p.waiting.items _ c.loop-p.invariant.in_range (c.requires.points_in_range c.loop-p.p-index none c.loop-p-test.true));
 }

@@ -1,9 +1,10 @@
 use Rattle.std.proofs.Common.{rules}
-use Rattle.at_hull.proofs.Ranges.{least_in_range}
+use Rattle.std.specs.Int.{int_min}
+use Rattle.at_hull.proofs.Ranges.{lesser, chosen_in_range}
 use Rattle.at_hull.proofs.extents.least.Goals as goal
 
 pub returns : goal.returns
 returns c = (
-  least_in_range 300000000000000 c.min.result c.args.a.x c.args.b.x (search rules) (search rules) (search rules) c.min.ensures.value c.requires.a_in_range.0 c.requires.b_in_range.0,
-  least_in_range 300000000000000 c.min-2.result c.args.a.y c.args.b.y (search rules) (search rules) (search rules) c.min-2.ensures.value c.requires.a_in_range.1 c.requires.b_in_range.1,
+  chosen_in_range 300000000000000 int_min (lesser 300000000000000) c.min.result c.args.a.x c.args.b.x (search rules) (search rules) (search rules) c.min.ensures.value c.requires.a_in_range.0 c.requires.b_in_range.0,
+  chosen_in_range 300000000000000 int_min (lesser 300000000000000) c.min-2.result c.args.a.y c.args.b.y (search rules) (search rules) (search rules) c.min-2.ensures.value c.requires.a_in_range.1 c.requires.b_in_range.1,
 )
