@@ -31,7 +31,7 @@ mod answer;
 pub use answer::accumulators::Accumulator;
 pub use answer::answers::{Answer, Offsets, Pair, Pairs};
 pub use answer::extents::{joined_extent, lower_corner, upper_corner};
-pub use answer::holding::{holds, lent_holds};
+pub use answer::holding::holds;
 pub use answer::merging::part_merge;
 pub use answer::parts::{Entries, Entry, Part};
 pub use answer::printing::answer_text;

@@ -48,6 +48,5 @@ pub use forms::Form;
 pub use gathered::{Gathered, join_into};
 pub use jobs::run_file;
 pub use joins::{answer_join, entries_of, join_with, of_all};
-pub use json_files::finish_json;
 pub use json_fragments::JsonFragment;
 pub use readers::{FileFragment, Reader};
