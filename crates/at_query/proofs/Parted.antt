@@ -133,9 +133,9 @@ first_stops {w = w} {i = i} {n = n} lives h = record {
   order = h.order;
   within = h.within;
   viable = (
-    let (x, more, s) = h.viable in
-    let (y, u, q) = lives (i + length (between w i n ++ more)) in
-    ((x, y), more ++ u, (between w i n ++ more, u, sym (append_assoc (between w i n) more u), s, q)));
+      let (x, more, s) = h.viable in
+      let (y, u, q) = lives (i + length (between w i n ++ more)) in
+      ((x, y), more ++ u, (between w i n ++ more, u, sym (append_assoc (between w i n) more u), s, q)));
   dead = λ p v r (v1, v2, ev, hp, hq) on. h.dead p.0 v1 (v2 ++ r) hp (subst (AgreesThrough w i n) (ap (λ z. z ++ r) ev ∙ append_assoc v1 v2 r) on);
 }
 
