@@ -3,6 +3,7 @@
 use Rattle.std.proofs.Common.{◌≡◌, ℕ, ◌+◌, inl, inr, Bool, true, false, not, IsTrue, List, [], ◌∷◌, ◌++◌, length, refl, sym, ◌∙◌, ap, subst, append_assoc, true≢false}
 use Rattle.std.specs.List.{AllByRecursion}
 use Rattle.std.specs.Char.{to_ascii_uppercase}
+use Rattle.std.proofs.lemmas.Bool.{not-true}
 use Rattle.std.proofs.lemmas.List.{append_cancel_left, length-map}
 use Rattle.at_text.specs.Parts.{Exactly, AnyCase, Many, OneOrMore, ◌▸◌}
 use Rattle.at_wkt.proofs.Leads.{append_cases, same_length}
@@ -49,7 +50,7 @@ agree_any_case word at v w r s a b line =
 
 -- ---- bytes that pass a test, and behind them one that doesn't
 
-byte_passes : (test : ℕ → Bool) (a : List ℕ) (e : ℕ) (es : List ℕ) → AllByRecursion (λ b. IsTrue (test b)) (a ++ (e ∷ es)) → test e ≡ true
+pub byte_passes : (test : ℕ → Bool) (a : List ℕ) (e : ℕ) (es : List ℕ) → AllByRecursion (λ b. IsTrue (test b)) (a ++ (e ∷ es)) → test e ≡ true
 byte_passes test [] e es (h, hs) = h
 byte_passes test (b ∷ a) e es (h, hs) = byte_passes test a e es hs
 
@@ -114,10 +115,6 @@ pub fails_some : (front test : ℕ → Bool) (A : ℕ → List ℕ → Type 0) �
 fails_some front test A f at v ([], b, e, (some, p), q) = absurd (some refl)
 fails_some front test A f at v (c ∷ a, b, e, (some, (p, ps)), q) = (c, a ++ b, e, f c p)
 
-no_is : (test : ℕ → Bool) (b : ℕ) (t : Bool) → test b ≡ t → not t ≡ true → t ≡ false
-no_is test b true e h = absurd (true≢false (sym h))
-no_is test b false e h = refl
-
 -- a first byte that passes the opposite test fails
 pub not_fails : (test : ℕ → Bool) (A : ℕ → List ℕ → Type 0) → Passes (λ b. not (test b)) A → Fails test A
-not_fails test A h at v a = let (b, t, e, k) = h at v a in (b, t, e, no_is test b (test b) refl k)
+not_fails test A h at v a = let (b, t, e, k) = h at v a in (b, t, e, not-true (test b) k)

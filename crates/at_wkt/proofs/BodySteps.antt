@@ -4,18 +4,14 @@ use Rattle.std.proofs.Common.{◌≡◌, ℕ, ◌+◌, ◌<◌, ◌≤◌, ◌�
 use Rattle.std.specs.Char.{to_ascii_uppercase}
 use Rattle.std.specs.Str.{str_to_ascii_uppercase}
 use Rattle.std.proofs.lemmas.List.{append_cancel_left}
-use Rattle.at_text.specs.Parts.{Many, Exactly, ◌▸◌}
-use Rattle.at_wkt.specs.declared.line.dimension.Dimension.{Dimension}
-use Rattle.at_wkt.specs.Positions.{Position, Positions}
-use Rattle.at_wkt.specs.Geometry.{is_blank, SpellsPosition, InBrackets, Parted, EmptyWord, EmptyOrParted, SpellsRing, SpellsList, SpellsPoint, SpellsPointMember}
-use Rattle.at_fixed.specs.NumberSoFar.{between}
-use Rattle.at_wkt.specs.Readers.{opens, next, Spelt, Stuck, Leads, SkipsBlanks, Item, KeywordStands, KeywordBreaks, HasCount, EnclosedPosition}
+use Rattle.at_wkt.proofs.Names.{Many, Exactly, ◌▸◌, Dimension, Position, Positions, is_blank, SpellsPosition, InBrackets, Parted, EmptyWord, EmptyOrParted, SpellsRing, SpellsList, SpellsPoint, SpellsPointMember, between, opens, next, Spelt, Stuck, Leads, SkipsBlanks, Item, KeywordStands, KeywordBreaks, HasCount, EnclosedPosition}
 use Rattle.at_fixed.proofs.DigitParts.{part-part}
 use Rattle.at_wkt.proofs.Leads.{part-cons, ahead_stuck, Begins, Inhabited, same_or_less}
+use Rattle.at_wkt.proofs.Agreement.{Passes, Fails}
 use Rattle.at_wkt.proofs.Steps.{When, when_leads, no_blank, one_blanks}
 use Rattle.at_wkt.proofs.WordSteps.{Word, word_spelt, word_stuck, opens_no_blank}
-use Rattle.at_wkt.proofs.PositionSteps.{begins_number}
-use Rattle.at_wkt.proofs.ListSteps.{position_lives, items_inhabited, ended_begins}
+use Rattle.at_wkt.proofs.PositionSteps.{begins_number, number_first, begin_no_blank}
+use Rattle.at_wkt.proofs.ListSteps.{position_lives, items_inhabited, begins_other}
 use Rattle.at_wkt.proofs.Lists.{brackets_same}
 
 abbrev pub is_open : ℕ → Bool
@@ -29,14 +25,23 @@ pub empty_first : (w : List ℕ) → str_to_ascii_uppercase w ≡ codes "EMPTY" 
 empty_first [] e = absurd (omega (arith, ap length e))
 empty_first (b ∷ t) e = (b, t, refl, cc)
 
-letter_not_open : (b : ℕ) → to_ascii_uppercase b ≡ 0x45 → (b == 0x28) ≡ false
+letter_not_open : (b : ℕ) → to_ascii_uppercase b ≡ 0x45 → is_open b ≡ false
 letter_not_open b h = grind (arith, h)
-
-letter_shut : (b : ℕ) → to_ascii_uppercase b ≡ 0x45 → is_shut b ≡ true
-letter_shut b h = ap not (letter_not_open b h)
 
 letter_opens : (b : ℕ) → to_ascii_uppercase b ≡ 0x45 → opens b ≡ true
 letter_opens b h = grind (arith, h)
+
+pub empty_opens : Passes opens EmptyWord
+empty_opens at v h = let (b, t, e, k) = empty_first v h in (b, t, e, letter_opens b k)
+
+pub empty_fails : Fails is_open EmptyWord
+empty_fails at v h = let (b, t, e, k) = empty_first v h in (b, t, e, letter_not_open b k)
+
+pub word_begins : {Y : Type 0} (none : Y) → Begins is_shut (Word (codes "EMPTY") none)
+word_begins none d y at v (e, k) = let (b, t, eb, up) = empty_fails at v k in (b, t, eb, ap not up)
+
+open_opens : (b : ℕ) → is_open b ≡ true → opens b ≡ true
+open_opens b h = grind (arith, h)
 
 -- P is EMPTY, which stands for one value, or what is in brackets
 pub record Choice {X Y : Type 0} (P : ℕ → Y → ℕ → List ℕ → Type 0) (Q : ℕ → X → ℕ → List ℕ → Type 0) (f : X → Y) (none : Y) : Type 0 where
@@ -48,11 +53,9 @@ pub record Choice {X Y : Type 0} (P : ℕ → Y → ℕ → List ℕ → Type 0)
 module _ {X Y : Type 0} (P : ℕ → Y → ℕ → List ℕ → Type 0) (Q : ℕ → X → ℕ → List ℕ → Type 0) (f : X → Y) (none : Y) (choice : Choice P Q f none) where
   pub choice_begins : Begins opens P
   choice_begins d y at v h = elim (choice.cases d y at v h) [
-    | inl (e, k) ↦ (let (b, t, eb, up) = empty_first v k in (b, t, eb, letter_opens b up))
+    | inl (e, k) ↦ empty_opens at v k
     | inr (x, e, q) ↦ (let (b, t, eb, o) = choice.bracket d x at v q in (b, t, eb, open_opens b o))
-  ] where
-    open_opens : (b : ℕ) → is_open b ≡ true → opens b ≡ true
-    open_opens b h = grind (arith, h)
+  ]
 
   pub choice_inhabited : Inhabited P
   choice_inhabited d at h = (none, codes "EMPTY", choice.empty d at (codes "EMPTY") refl)
@@ -61,7 +64,7 @@ module _ {X Y : Type 0} (P : ℕ → Y → ℕ → List ℕ → Type 0) (Q : ℕ
   open_when = record {
     to = λ d x at v q. choice.open_ d x at v q;
     from = λ d y at v h. elim (choice.cases d y at v h) [
-      | inl (e, k) ↦ inr (let (b, t, eb, up) = empty_first v k in (b, t, eb, letter_not_open b up))
+      | inl (e, k) ↦ inr (empty_fails at v k)
       | inr (x, e, q) ↦ inl (x, e, q)
     ];
   }
@@ -75,19 +78,16 @@ module _ {X Y : Type 0} (P : ℕ → Y → ℕ → List ℕ → Type 0) (Q : ℕ
     ];
   }
 
-  word_begins : Begins is_shut (Word (codes "EMPTY") none)
-  word_begins d y at v (e, k) = let (b, t, eb, up) = empty_first v k in (b, t, eb, letter_shut b up)
-
   module _ (base : ℕ) (w : List ℕ) (i : ℕ) (c : Dimension) where
     pub choice_open : i ≤ length w → is_open (next w i) ≡ true → Leads P Q base w i c i c f
     choice_open inside here = when_leads P Q (λ at x. f x) is_open is_open base w i c open_when choice.bracket inside here
 
     pub choice_empty : (j : ℕ) → is_open (next w i) ≡ false → KeywordStands w i j (codes "EMPTY") → HasCount c → Spelt P base w i c j c none
-    choice_empty j here h some = (when_leads P (Word (codes "EMPTY") none) (λ at y. y) is_shut is_shut base w i c shut_when word_begins (omega (arith, h.order, h.within)) (ap not here)).spelt j c none
+    choice_empty j here h some = (when_leads P (Word (codes "EMPTY") none) (λ at y. y) is_shut is_shut base w i c shut_when (word_begins none) (omega (arith, h.order, h.within)) (ap not here)).spelt j c none
         (word_spelt (codes "EMPTY") none base w i j c h some)
 
     pub choice_broken : (n : ℕ) → is_open (next w i) ≡ false → KeywordBreaks w i n (codes "EMPTY") → HasCount c → Stuck P base w i c n
-    choice_broken n here h some = (when_leads P (Word (codes "EMPTY") none) (λ at y. y) is_shut is_shut base w i c shut_when word_begins (omega (arith, h.order, h.within)) (ap not here)).stuck n
+    choice_broken n here h some = (when_leads P (Word (codes "EMPTY") none) (λ at y. y) is_shut is_shut base w i c shut_when (word_begins none) (omega (arith, h.order, h.within)) (ap not here)).stuck n
         (word_stuck (codes "EMPTY") none base w i n c refl h some)
 
 -- ---- what the choices are
@@ -147,59 +147,38 @@ pub blankless : {X : Type 0} (P : ℕ → X → ℕ → List ℕ → Type 0) →
 blankless P begins d x at v h = let (b, t, e, o) = begins d x at v h in (b, t, e, opens_no_blank b o)
 
 pub ring_no_blank : Begins no_blank SpellsRing
-ring_no_blank d ps at v h = let (b, t, e, o) = ring_begins d ps at v h in (b, t, e, open_no_blank b o) where
-  open_no_blank : (b : ℕ) → is_open b ≡ true → no_blank b ≡ true
-  open_no_blank b h = grind (arith, h)
+ring_no_blank = blankless SpellsRing (begins_other is_open opens SpellsRing open_opens ring_begins)
 
 pub ring_inhabited : Inhabited SpellsRing
 ring_inhabited d at h =
     let (xs, v, q) = items_inhabited SpellsPosition position_lives d (at + 1) h in
     (record { at = at; items = xs }, 0x28 ∷ v, (refl, (brackets_same SpellsPosition).to d xs at (0x28 ∷ v) (0x28 ∷ [], v, refl, refl, q)))
 
-module _ where
-  pub member_when : When SpellsPointMember SpellsPoint (λ at p. p) opens
-  member_when = record {
-    to = to;
-    from = from;
-  } where
-    number_shut : (b : ℕ) → begins_number b ≡ true → opens b ≡ false
-    number_shut b h = grind (arith, h)
+-- a bare position begins as its first number
+bare_first : (d : ℕ) (p : Position) (at : ℕ) (v : List ℕ) → SpellsPosition d p at v → (b : ℕ) × (t : List ℕ) × (v ≡ b ∷ t) × (begins_number b ≡ true)
+bare_first d p at v (ns, en, (a, r, e, (ei, (hn, ea)), q)) = let (b, t, f, k) = number_first p.x hn in (b, t ++ r, e ∙ ap (λ z. z ++ r) (ea ∙ f), k)
 
-    to : (d : ℕ) (y : Option Position) (at : ℕ) (v : List ℕ) → SpellsPoint d y at v → SpellsPointMember d y at v
-    to d None at v h = h
-    to d (Some p) at v h = inr h
+pub number_shut : (b : ℕ) → begins_number b ≡ true → opens b ≡ false
+number_shut b h = grind (arith, h)
 
-    from : (d : ℕ) (y : Option Position) (at : ℕ) (v : List ℕ) → SpellsPointMember d y at v → ((z : Option Position) × (y ≡ z) × SpellsPoint d z at v) ⊎ ((b : ℕ) × (t : List ℕ) × (v ≡ b ∷ t) × (opens b ≡ false))
-    from d None at v h = inl (None, refl, h)
-    from d (Some p) at v (inr h) = inl (Some p, refl, h)
-    from d (Some p) at v (inl h) = inr (
-        let (b, t, e, k) = ended_begins d (p, true) at (v ++ (0x29 ∷ [])) (v, 0x29 ∷ [], refl, h, ([], 0x29 ∷ [], refl, tt, refl)) in
-        first_of v b t e (number_shut b k) h) where
-          first_of : (v : List ℕ) (b : ℕ) (t : List ℕ) → v ++ (0x29 ∷ []) ≡ b ∷ t → opens b ≡ false → SpellsPosition d p at v → (b : ℕ) × (t : List ℕ) × (v ≡ b ∷ t) × (opens b ≡ false)
-          first_of [] b t e k h = absurd (let (b2, t2, e2, k2) = ended_begins d (p, true) at (0x29 ∷ []) ([], 0x29 ∷ [], refl, h, ([], 0x29 ∷ [], refl, tt, refl)) in
-              let same : 0x29 ≡ b2 = cc in true≢false (sym (ap begins_number same ∙ k2)))
-          first_of (x ∷ v) b t e k h = let same : x ≡ b = cc in (x, v, refl, ap opens same ∙ k)
+pub member_when : When SpellsPointMember SpellsPoint (λ at p. p) opens
+member_when = record { to = to; from = from } where
+  to : (d : ℕ) (y : Option Position) (at : ℕ) (v : List ℕ) → SpellsPoint d y at v → SpellsPointMember d y at v
+  to d None at v h = h
+  to d (Some p) at v h = inr h
+
+  from : (d : ℕ) (y : Option Position) (at : ℕ) (v : List ℕ) → SpellsPointMember d y at v → ((z : Option Position) × (y ≡ z) × SpellsPoint d z at v) ⊎ ((b : ℕ) × (t : List ℕ) × (v ≡ b ∷ t) × (opens b ≡ false))
+  from d None at v h = inl (None, refl, h)
+  from d (Some p) at v (inr h) = inl (Some p, refl, h)
+  from d (Some p) at v (inl h) = inr (let (b, t, e, k) = bare_first d p at v h in (b, t, e, number_shut b k))
 
 pub member_inhabited : Inhabited SpellsPointMember
 member_inhabited d at h = (None, codes "EMPTY", refl)
 
 pub member_begins : Begins no_blank SpellsPointMember
-member_begins d y at v h = elim (member_when.from d y at v h) [
-  | inl (z, e, q) ↦ blankless SpellsPoint (choice_begins SpellsPoint EnclosedPosition (λ p. Some p) None point_choice) d z at v q
-  | inr (b, t, e, k) ↦ go y h
-] where
-  number_no_blank : (b : ℕ) → begins_number b ≡ true → no_blank b ≡ true
-  number_no_blank b h = grind (arith, h)
-
-  go : (y : Option Position) → SpellsPointMember d y at v → (b : ℕ) × (t : List ℕ) × (v ≡ b ∷ t) × (no_blank b ≡ true)
-  go None h = blankless SpellsPoint (choice_begins SpellsPoint EnclosedPosition (λ p. Some p) None point_choice) d None at v h
-  go (Some p) (inr h) = blankless SpellsPoint (choice_begins SpellsPoint EnclosedPosition (λ p. Some p) None point_choice) d (Some p) at v h
-  go (Some p) (inl h) = front v h where
-    front : (v : List ℕ) → SpellsPosition d p at v → (b : ℕ) × (t : List ℕ) × (v ≡ b ∷ t) × (no_blank b ≡ true)
-    front [] h = absurd (let (b2, t2, e2, k2) = ended_begins d (p, true) at (0x29 ∷ []) ([], 0x29 ∷ [], refl, h, ([], 0x29 ∷ [], refl, tt, refl)) in
-        let same : 0x29 ≡ b2 = cc in true≢false (sym (ap begins_number same ∙ k2)))
-    front (x ∷ v) h = (let (b2, t2, e2, k2) = ended_begins d (p, true) at ((x ∷ v) ++ (0x29 ∷ [])) (x ∷ v, 0x29 ∷ [], refl, h, ([], 0x29 ∷ [], refl, tt, refl)) in
-        let same : x ≡ b2 = cc in (x, v, refl, number_no_blank x (ap begins_number same ∙ k2)))
+member_begins d (Some p) at v (inl h) = let (b, t, e, k) = bare_first d p at v h in (b, t, e, begin_no_blank b k)
+member_begins d (Some p) at v (inr h) = blankless SpellsPoint (choice_begins SpellsPoint EnclosedPosition (λ p. Some p) None point_choice) d (Some p) at v h
+member_begins d None at v h = blankless SpellsPoint (choice_begins SpellsPoint EnclosedPosition (λ p. Some p) None point_choice) d None at v h
 
 -- ---- a member that is a bare position
 
@@ -226,6 +205,9 @@ module _ (base : ℕ) (w : List ℕ) (i a : ℕ) (c : Dimension) (skips : SkipsB
   behind_blanks n s low high = let (t, e) = ahead_stuck w a n s low high (same_or_less a n low) in
       (t, ap (λ z. z ++ (next w n ∷ s)) (part-part w i a n skips.order low high) ∙ (append_assoc (between w i a) (between w a n) (next w n ∷ s) ∙ ap (λ z. between w i a ++ z) e))
 
+  member_of : (d : ℕ) (p : Position) (last : Bool) (at : ℕ) (v : List ℕ) → Item SpellsPosition d (p, last) at v → Item SpellsPointMember d (Some p, last) at v
+  member_of d p last at v (b1, r1, e1, hb, (x, z, ez, hm, hd)) = (b1, r1, e1, hb, (x, z, ez, inl hm, hd))
+
   pub bare_stuck : (n : ℕ) → a ≤ n → Stuck (Item SpellsPosition) base w i c n → Stuck (Item SpellsPointMember) base w i c n
   bare_stuck n low h = record {
     order = h.order;
@@ -235,9 +217,7 @@ module _ (base : ℕ) (w : List ℕ) (i a : ℕ) (c : Dimension) (skips : SkipsB
         let (t, f) = behind_blanks n s low h.within in
         let (p, ey, q') = bare_item d y.0 y.1 (base + i) v r t q (e ∙ f) in
         h.dead d (p, y.1) v r s b q' e;
-  } where
-    member_of : (d : ℕ) (p : Position) (last : Bool) (at : ℕ) (v : List ℕ) → Item SpellsPosition d (p, last) at v → Item SpellsPointMember d (Some p, last) at v
-    member_of d p last at v (b1, r1, e1, hb, (x, z, ez, hm, hd)) = (b1, r1, e1, hb, (x, z, ez, inl hm, hd))
+  }
 
   pub bare_spelt : (j : ℕ) (c' : Dimension) (p : Position) (last : Bool) → a < j → Spelt (Item SpellsPosition) base w i c j c' (p, last) → Spelt (Item SpellsPointMember) base w i c j c' (Some p, last)
   bare_spelt j c' p last low h = record {
@@ -252,6 +232,4 @@ module _ (base : ℕ) (w : List ℕ) (i a : ℕ) (c : Dimension) (skips : SkipsB
         let (q0, ey, q') = bare_item d y.0 y.1 (base + i) v r (between w (a + 1) j ++ s) q (e ∙ joint) in
         let (ep, ev, b') = h.only d (q0, y.1) v r s b q' e in
         (ap (λ z. (z, y.1)) ey ∙ ap (λ (z : Position × Bool). (Some z.0, z.1)) ep, ev, b');
-  } where
-    member_of : (d : ℕ) (p : Position) (last : Bool) (at : ℕ) (v : List ℕ) → Item SpellsPosition d (p, last) at v → Item SpellsPointMember d (Some p, last) at v
-    member_of d p last at v (b1, r1, e1, hb, (x, z, ez, hm, hd)) = (b1, r1, e1, hb, (x, z, ez, inl hm, hd))
+  }

@@ -1,26 +1,11 @@
 -- Geometries that are passed over.
 -- For `Room::check_line`, which passes over plain lines.
 use Rattle.std.proofs.Common.{◌≡◌, ℕ, ◌+◌, ◌≤◌, true, false, List, [], ◌∷◌, ◌++◌, length, Option, None, refl, sym, ap, ◌∙◌, subst, arith, length-append}
-use Rattle.at_text.specs.declared.faults.Fault.{Fault}
-use Rattle.at_text.specs.Faults.{first_fault}
-use Rattle.at_fixed.specs.declared.rounding.Coords.{Coords}
-use Rattle.at_geom.specs.declared.positions.Pos.{Pos}
-use Rattle.at_wkt.specs.declared.line.dimension.Dimension.{Dimension}
-use Rattle.at_wkt.specs.declared.line.sources.Rules.{Rules}
-use Rattle.at_wkt.specs.declared.line.positions.PositionRead.{PositionRead}
-use Rattle.at_wkt.specs.declared.line.positions.NumbersRead.{NumbersRead}
-use Rattle.at_wkt.specs.declared.line.parts.Read.{Read}
-use Rattle.at_wkt.specs.declared.line.parts.ItemRead.{ItemRead}
+use Rattle.at_wkt.proofs.Names.{Fault, first_fault, first_of, Coords, Pos, Dimension, Rules, PositionRead, NumbersRead, Read, ItemRead, ends_same, Grows, HasCount, IsPassedPart, PartStands, ItemStands, PositionStands, PositionsSoFar, HeadStands, Meaning, Spelt, joined, no_meaning, meaning_of, Body, Head, Kind, Open, Geometry, faults_of}
 use Rattle.at_wkt.specs.declared.line.checks.ListPassed.{ListPassed}
-use Rattle.at_wkt.specs.Readers.{ends_same, Grows, IsPassed, HasCount, IsPassedList, IsPassedRow, IsPassedPart, PartStands, ItemStands, PositionStands, PositionsSoFar, HeadStands, IsPassedBody, IsPassedGeometry, Meaning, Spelt, joined, no_meaning, meaning_of, point_faults, line_faults}
-use Rattle.at_wkt.specs.declared.line.kinds.Head.{Head}
-use Rattle.at_wkt.specs.declared.line.kinds.Kind.{Kind}
-use Rattle.at_wkt.specs.declared.line.kinds.Kind.TheVariants.{Point, LineString, Polygon}
-use Rattle.at_wkt.specs.declared.line.dimension.Dimension.TheVariants.{Open}
-use Rattle.at_wkt.specs.Geometry.{point, line_string, polygon, SpellsPoint, SpellsList, SpellsArea}
-use Rattle.at_wkt.specs.Meaning.{faults_of_area}
-use Rattle.at_wkt.proofs.GeometryAnswers.{body_of}
-use Rattle.at_wkt.proofs.Steps.{spelt_over}
+use Rattle.at_wkt.specs.Readers.{IsPassed, IsPassedList, IsPassedRow, IsPassedBody, IsPassedGeometry}
+use Rattle.at_wkt.proofs.GeometryAnswers.{on_body}
+use Rattle.at_wkt.proofs.Steps.{spelt_over, Same}
 use Rattle.at_wkt.proofs.GeometrySteps.{joined-none, Awaited, open_count}
 use Rattle.at_wkt.proofs.CollectionSteps.{head_spelt, body_spelt}
 use Rattle.at_wkt.proofs.ProgressAnswers.{closes_start, closes_over}
@@ -174,42 +159,16 @@ module _ {X : Type 0} (P : ℕ → X → ℕ → List ℕ → Type 0) (faults : 
 
 -- ---- bodies
 
-module _ (digits : ℕ) (how : Coords) (base : ℕ) (w : List ℕ) where
-  for_kind : (head : Head) (kind : Kind) (read : Read) → head.kind ≡ kind → IsPassedBody digits how base w (record { kind = kind; behind = head.behind }) read → IsPassedBody digits how base w head read
-  for_kind head kind read e h = let P : Kind → Type 0 = λ z. IsPassedBody digits how base w (record { kind = z; behind = head.behind }) read in subst P (sym e) h
-
-  pub point_passed : (head : Head) (read : Read) → head.kind ≡ Point → IsPassedPart SpellsPoint (point_faults digits how) base w head.behind.at head.behind.dimension read → IsPassedBody digits how base w head read
-  point_passed head read e (none, part) =
-      for_kind head Point read e (
-        none,
-        (
-          point part.value,
-          body_of digits how base w (record { kind = Point; behind = head.behind }) SpellsPoint point (λ d at v. ((λ x q. (x, refl, q)), (λ g q. q))) read.behind.at read.behind.dimension part.value part.spelt,
-          part.fault,
-        ),
-      )
-
-  pub line_passed : (head : Head) (read : Read) → head.kind ≡ LineString → IsPassedPart SpellsList (line_faults digits how) base w head.behind.at head.behind.dimension read → IsPassedBody digits how base w head read
-  line_passed head read e (none, part) =
-      for_kind head LineString read e (
-        none,
-        (
-          line_string part.value,
-          body_of digits how base w (record { kind = LineString; behind = head.behind }) SpellsList line_string (λ d at v. ((λ x q. (x, refl, q)), (λ g q. q))) read.behind.at read.behind.dimension part.value part.spelt,
-          part.fault,
-        ),
-      )
-
-  pub polygon_passed : (head : Head) (read : Read) → head.kind ≡ Polygon → IsPassedPart SpellsArea (faults_of_area digits how) base w head.behind.at head.behind.dimension read → IsPassedBody digits how base w head read
-  polygon_passed head read e (none, part) =
-      for_kind head Polygon read e (
-        none,
-        (
-          polygon part.value,
-          body_of digits how base w (record { kind = Polygon; behind = head.behind }) SpellsArea polygon (λ d at v. ((λ x q. (x, refl, q)), (λ g q. q))) read.behind.at read.behind.dimension part.value part.spelt,
-          part.fault,
-        ),
-      )
+pub body_passed : {X : Type 0} (P : ℕ → X → ℕ → List ℕ → Type 0) (f : X → Geometry) (faults : X → List Fault) (digits : ℕ) (how : Coords) (base : ℕ) (w : List ℕ) (head : Head) (kind : Kind) (read : Read) → Same (Body kind) P (λ at x. f x)
+    → head.kind ≡ kind → ((x : X) → faults_of digits how (f x) ≡ faults x) → IsPassedPart P faults base w head.behind.at head.behind.dimension read → IsPassedBody digits how base w head read
+body_passed P f faults digits how base w head kind read same e ef (none, part) = (
+  none,
+  (
+    f part.value,
+    (on_body digits how base w head P f kind e same (omega (arith, part.spelt.order, part.spelt.within))).spelt read.behind.at read.behind.dimension part.value part.spelt,
+    part.fault ∙ ap first_of (sym (ef part.value)),
+  ),
+)
 
 -- ---- the geometry
 

@@ -3,21 +3,14 @@
 use Rattle.std.proofs.Common.{◌≡◌, ℕ, zero, suc, ◌+◌, ◌<◌, ◌≤◌, ◌⊎◌, inl, inr, Bool, true, false, List, [], ◌∷◌, ◌++◌, length, codes, Some, None, refl, sym, ◌∙◌, ap, arith, lit≤}
 use Rattle.std.specs.Str.{str_to_ascii_uppercase}
 use Rattle.std.specs.Char.{to_ascii_uppercase}
-use Rattle.at_text.specs.Parts.{Many, Exactly, ◌▸◌}
-use Rattle.at_fixed.specs.declared.rounding.Coords.{Coords}
-use Rattle.at_wkt.specs.declared.line.dimension.Dimension.{Dimension}
-use Rattle.at_wkt.specs.declared.line.dimension.Dimension.TheVariants.{Open}
-use Rattle.at_wkt.specs.declared.line.kinds.Kind.{Kind}
-use Rattle.at_wkt.specs.declared.line.kinds.Kind.TheVariants.{Point, LineString, Polygon, MultiPoint, MultiLineString, MultiPolygon, GeometryCollection}
-use Rattle.at_wkt.specs.declared.line.kinds.Head.{Head}
-use Rattle.at_wkt.specs.Geometry.{Geometry, point, collection, no_geometries, geometry_and, is_blank, SpellsGeometry, SpellsFurtherGeometries, SpellsPoint, SpellsList, SpellsArea, SpellsPointMember, SpellsRing}
-use Rattle.at_wkt.specs.Readers.{opens, next, Spelt, Stuck, Leads, SkipsBlanks, Delimiter, HasCount, word_of, KindBreaks, HeadStands, Meaning, joined, no_meaning, Body, meaning_of, meaning_of_all, After, Expected, EnclosedPosition}
+use Rattle.at_wkt.proofs.Names.{Many, Exactly, ◌▸◌, Coords, Dimension, Open, Kind, Point, LineString, Polygon, MultiPoint, MultiLineString, MultiPolygon, GeometryCollection, Head, Geometry, point, collection, no_geometries, geometry_and, is_blank, SpellsGeometry, SpellsFurtherGeometries, SpellsPoint, SpellsList, SpellsArea, SpellsPointMember, SpellsRing, opens, next, Spelt, Stuck, Leads, SkipsBlanks, Delimiter, HasCount, word_of, KindBreaks, HeadStands, Meaning, joined, no_meaning, Body, meaning_of, After, Expected, EnclosedPosition}
+use Rattle.at_wkt.specs.Readers.{meaning_of_all}
 use Rattle.at_wkt.proofs.Leads.{part-one, Begins, Inhabited}
 use Rattle.at_wkt.proofs.Steps.{Then, Same, When, when_leads, same_leads, trans_leads, then_leads, then_stuck, fixed_leads, pad_leads, no_blank}
-use Rattle.at_wkt.proofs.Lists.{to_left, to_right, behind}
+use Rattle.at_wkt.proofs.Lists.{to_left, to_right, four_left, four_right}
 use Rattle.at_wkt.proofs.WordSteps.{KindWord, kind_spelt, kind_stuck}
-use Rattle.at_wkt.proofs.LetterSteps.{Lettered, Encloses, letter_encloses}
-use Rattle.at_wkt.proofs.BodySteps.{is_open, empty_first, choice_begins, point_choice, list_choice, parted_choice}
+use Rattle.at_wkt.proofs.LetterSteps.{Lettered, Inside, inside_spelt, inside_stuck, letter_leads}
+use Rattle.at_wkt.proofs.BodySteps.{is_open, choice_begins, point_choice, list_choice, parted_choice, empty_opens, empty_fails}
 use Rattle.at_wkt.proofs.GeometrySteps.{joined-assoc, free_spelt, free_stuck, open_count, Spelling, further_split, further_join, Awaited, Behind, BodyAfter, expected_same, geometry_parts}
 
 -- the word of a kind begins with a letter
@@ -108,9 +101,7 @@ module _ (digits : ℕ) (how : Coords) where
   body_first MultiPoint d g at v (p, e, h) = choice_begins _ _ (λ p. p) [] (parted_choice SpellsPointMember) d p at v h
   body_first MultiLineString d g at v (p, e, h) = choice_begins _ _ (λ p. p) [] (parted_choice SpellsList) d p at v h
   body_first MultiPolygon d g at v (p, e, h) = choice_begins _ _ (λ p. p) [] (parted_choice SpellsArea) d p at v h
-  body_first GeometryCollection d g at v (no_geometries, e, h) = let (b, t, f, up) = empty_first v h in (b, t, f, letter_opens b up) where
-    letter_opens : (b : ℕ) → to_ascii_uppercase b ≡ 0x45 → opens b ≡ true
-    letter_opens b h = grind (arith, h)
+  body_first GeometryCollection d g at v (no_geometries, e, h) = empty_opens at v h
   body_first GeometryCollection d g at v (geometry_and f gs, e, (a, b, ev, here, q)) = (0x28, b, ev ∙ ap (λ z. z ++ b) here, refl)
 
   pub body_begins : (kind : Kind) (k : ℕ) → Begins opens (BodyAfter digits how kind k)
@@ -138,18 +129,16 @@ module _ (digits : ℕ) (how : Coords) where
         (then_stuck KindWord (λ kind. Lettered (BodyAfter digits how kind k)) base w i Open n (λ kind. lettered_inhabited kind k) (kind_stuck base w i n Open h open_count))
 
     module _ (head : Head) (h : HeadStands w i head) where
-      to_letter : Leads (Awaited digits how k) (Lettered (BodyAfter digits how head.kind k)) base w i Open h.word_end Open (λ m. m)
-      to_letter = trans_leads (same_leads (Awaited digits how k) (Then KindWord (λ kind. Lettered (BodyAfter digits how kind k))) (λ at p. p.1) base w i Open (expected_same digits how k) (omega (arith, h.word.order, h.word.within)))
-          (then_leads KindWord (λ kind. Lettered (BodyAfter digits how kind k)) base w i Open h.word_end Open head.kind (kind_spelt head.kind base w i h.word_end Open h.word open_count))
-
-      enclosed : Encloses (Lettered (BodyAfter digits how head.kind k)) (BodyAfter digits how head.kind k) base w h.word_end head.behind.at head.behind.dimension (λ m. m)
-      enclosed = letter_encloses (BodyAfter digits how head.kind k) (body_begins head.kind k) base w h.word_end h.letter_at h.letter_end head.behind.at head.behind.dimension h.blanks h.letter h.letter_within h.further
+      to_body : Leads (Awaited digits how k) (Inside (BodyAfter digits how head.kind k) head.behind.dimension) base w i Open head.behind.at Open (λ m. m)
+      to_body = trans_leads (trans_leads (same_leads (Awaited digits how k) (Then KindWord (λ kind. Lettered (BodyAfter digits how kind k))) (λ at p. p.1) base w i Open (expected_same digits how k) (omega (arith, h.word.order, h.word.within)))
+          (then_leads KindWord (λ kind. Lettered (BodyAfter digits how kind k)) base w i Open h.word_end Open head.kind (kind_spelt head.kind base w i h.word_end Open h.word open_count)))
+          (letter_leads (BodyAfter digits how head.kind k) (body_begins head.kind k) base w h.word_end h.letter_at h.letter_end head.behind.at head.behind.dimension h.blanks h.letter h.letter_within h.further)
 
       pub head_spelt : (j : ℕ) (c' : Dimension) (m : Meaning) → Spelt (BodyAfter digits how head.kind k) base w head.behind.at head.behind.dimension j c' m → Spelt (Awaited digits how k) base w i Open j Open m
-      head_spelt j c' m q = to_letter.spelt j Open m (enclosed.spelt j c' m q)
+      head_spelt j c' m q = to_body.spelt j Open m (inside_spelt (BodyAfter digits how head.kind k) base w head.behind.at j head.behind.dimension c' m q)
 
       pub head_stuck : (n : ℕ) → Stuck (BodyAfter digits how head.kind k) base w head.behind.at head.behind.dimension n → Stuck (Awaited digits how k) base w i Open n
-      head_stuck n q = to_letter.stuck n (enclosed.stuck n q)
+      head_stuck n q = to_body.stuck n (inside_stuck (BodyAfter digits how head.kind k) base w head.behind.at n head.behind.dimension q)
 
   -- a body without members, and what stands behind it
   module _ (base : ℕ) (w : List ℕ) (p : ℕ) (c : Dimension) (kind : Kind) (k : ℕ) where
@@ -182,47 +171,20 @@ module _ (digits : ℕ) (how : Coords) where
   opening_when k = record { to = to; from = from } where
     to : (d : ℕ) (m : Meaning) (at : ℕ) (v : List ℕ) → Opening k d m at v → BodyAfter digits how GeometryCollection k d m at v
     to d m at v (a, r, e, here, (x, y, f, hx, (g, n, em, (l, s, el, hg, (gs, n', en, q))))) =
-        let O = Exactly (codes "(") in let M = Many is_blank in let G = Spelling g in let F : ℕ → List ℕ → Type 0 = (λ i v. SpellsFurtherGeometries i v gs) in let K = After digits how k n' in let X = M ▸ Exactly (codes ")") in
-        let flat : (O ▸ (M ▸ (G ▸ (F ▸ (X ▸ K))))) at v = (a, r, e, here, (x, y, f, hx, (l, s, el, hg, further_split gs K _ s q))) in
-        let one : (O ▸ (M ▸ ((G ▸ F) ▸ (X ▸ K)))) at v = behind O (M ▸ (G ▸ (F ▸ (X ▸ K)))) (M ▸ ((G ▸ F) ▸ (X ▸ K))) (λ i1 u1 q1. behind M (G ▸ (F ▸ (X ▸ K))) ((G ▸ F) ▸ (X ▸ K)) (λ i2 u2 q2. to_left G F (X ▸ K) i2 u2 q2) i1 u1 q1) at v flat in
-        let two : (O ▸ (M ▸ (((G ▸ F) ▸ X) ▸ K))) at v = behind O (M ▸ ((G ▸ F) ▸ (X ▸ K))) (M ▸ (((G ▸ F) ▸ X) ▸ K)) (λ i1 u1 q1. behind M ((G ▸ F) ▸ (X ▸ K)) (((G ▸ F) ▸ X) ▸ K) (λ i2 u2 q2. to_left (G ▸ F) X K i2 u2 q2) i1 u1 q1) at v one in
-        let three : (O ▸ ((M ▸ ((G ▸ F) ▸ X)) ▸ K)) at v = behind O (M ▸ (((G ▸ F) ▸ X) ▸ K)) ((M ▸ ((G ▸ F) ▸ X)) ▸ K) (λ i1 u1 q1. to_left M ((G ▸ F) ▸ X) K i1 u1 q1) at v two in
-        let (c1, c2, c3, c4, c5) = to_left O (M ▸ ((G ▸ F) ▸ X)) K at v three in
+        let M = Many is_blank in let F : ℕ → List ℕ → Type 0 = (λ i v. SpellsFurtherGeometries i v gs) in let K = After digits how k n' in let X = Many is_blank ▸ Exactly (codes ")") in
+        let members = to_left (Spelling g) F (X ▸ K) (at + length a + length x) y (l, s, el, hg, further_split gs K _ s q) in
+        let (c1, c2, c3, c4, c5) = four_left (Exactly (codes "(")) M (Spelling g ▸ F) X K at v (a, r, e, here, (x, y, f, hx, members)) in
         (collection (geometry_and g gs), n', em ∙ (ap (joined (meaning_of digits how g)) en ∙ sym (joined-assoc (meaning_of digits how g) (meaning_of_all digits how gs) n')), (c1, c2, c3, (geometry_and g gs, refl, c4), c5))
 
     from : (d : ℕ) (m : Meaning) (at : ℕ) (v : List ℕ) → BodyAfter digits how GeometryCollection k d m at v → ((y : Meaning) × (m ≡ y) × Opening k d y at v) ⊎ ((b : ℕ) × (t : List ℕ) × (v ≡ b ∷ t) × (is_open b ≡ false))
-    from d m at v (g0, n, em, (c1, c2, c3, (no_geometries, eg, h), c5)) = inr (let (b, t, f, up) = empty_first c1 h in (b, t ++ c2, c3 ∙ ap (λ z. z ++ c2) f, shut b up)) where
-      shut : (b : ℕ) → to_ascii_uppercase b ≡ 0x45 → is_open b ≡ false
-      shut b h = grind (arith, h)
+    from d m at v (g0, n, em, (c1, c2, c3, (no_geometries, eg, h), c5)) = inr (let (b, t, f, up) = empty_fails at c1 h in (b, t ++ c2, c3 ∙ ap (λ z. z ++ c2) f, up))
     from d m at v (g0, n, em, (c1, c2, c3, (geometry_and g gs, eg, c4), c5)) =
-        let O = Exactly (codes "(") in let M = Many is_blank in let G = Spelling g in let F : ℕ → List ℕ → Type 0 = (λ i v. SpellsFurtherGeometries i v gs) in let K = After digits how k n in let X = M ▸ Exactly (codes ")") in
-        let three : (O ▸ ((M ▸ ((G ▸ F) ▸ X)) ▸ K)) at v = to_right O (M ▸ ((G ▸ F) ▸ X)) K at v (c1, c2, c3, c4, c5) in
-        let two : (O ▸ (M ▸ (((G ▸ F) ▸ X) ▸ K))) at v = behind O ((M ▸ ((G ▸ F) ▸ X)) ▸ K) (M ▸ (((G ▸ F) ▸ X) ▸ K)) (λ i1 u1 q1. to_right M ((G ▸ F) ▸ X) K i1 u1 q1) at v three in
-        let one : (O ▸ (M ▸ ((G ▸ F) ▸ (X ▸ K)))) at v = behind O (M ▸ (((G ▸ F) ▸ X) ▸ K)) (M ▸ ((G ▸ F) ▸ (X ▸ K))) (λ i1 u1 q1. behind M (((G ▸ F) ▸ X) ▸ K) ((G ▸ F) ▸ (X ▸ K)) (λ i2 u2 q2. to_right (G ▸ F) X K i2 u2 q2) i1 u1 q1) at v two in
-        let flat : (O ▸ (M ▸ (G ▸ (F ▸ (X ▸ K))))) at v = behind O (M ▸ ((G ▸ F) ▸ (X ▸ K))) (M ▸ (G ▸ (F ▸ (X ▸ K)))) (λ i1 u1 q1. behind M ((G ▸ F) ▸ (X ▸ K)) (G ▸ (F ▸ (X ▸ K))) (λ i2 u2 q2. to_right G F (X ▸ K) i2 u2 q2) i1 u1 q1) at v one in
-        let (a, r, e, here, (x, y, f, hx, (l, s, el, hg, q))) = flat in
-        inl (
-          m,
-          refl,
-          (
-            a,
-            r,
-            e,
-            here,
-            (
-              x,
-              y,
-              f,
-              hx,
-              (
-                g,
-                joined (meaning_of_all digits how gs) n,
-                em ∙ (ap (λ z. joined (meaning_of digits how z) n) eg ∙ joined-assoc (meaning_of digits how g) (meaning_of_all digits how gs) n),
-                (l, s, el, hg, (gs, n, refl, further_join gs K _ s q)),
-              ),
-            ),
-          ),
-        )
+        let F : ℕ → List ℕ → Type 0 = (λ i v. SpellsFurtherGeometries i v gs) in let K = After digits how k n in let X = Many is_blank ▸ Exactly (codes ")") in
+        let (a, r, e, here, (x, y, f, hx, members)) = four_right (Exactly (codes "(")) (Many is_blank) (Spelling g ▸ F) X K at v (c1, c2, c3, c4, c5) in
+        let (l, s, el, hg, q) = to_right (Spelling g) F (X ▸ K) (at + length a + length x) y members in
+        let n' : Meaning = joined (meaning_of_all digits how gs) n in
+        let en : m ≡ joined (meaning_of digits how g) n' = em ∙ (ap (λ z. joined (meaning_of digits how z) n) eg ∙ joined-assoc (meaning_of digits how g) (meaning_of_all digits how gs) n) in
+        inl (m, refl, (a, r, e, here, (x, y, f, hx, (g, n', en, (l, s, el, hg, (gs, n, refl, further_join gs K _ s q))))))
 
   opening_begins : (k : ℕ) → Begins is_open (Opening k)
   opening_begins k d m at v (a, b, e, here, q) = (0x28, b, e ∙ ap (λ z. z ++ b) here, refl)

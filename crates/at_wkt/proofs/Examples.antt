@@ -8,7 +8,7 @@ use Rattle.at_fixed.specs.declared.rounding.Coords.TheVariants.{Exact, Round}
 use Rattle.at_fixed.specs.Numerals.{Numeral, IsWktNumeral}
 use Rattle.at_geom.specs.Shapes.{extent_of, positions}
 use Rattle.at_wkt.specs.Positions.{Position}
-use Rattle.at_wkt.specs.Geometry.{point, line_string, polygon, multi_point, collection, no_geometries, geometry_and, IsLineOf}
+use Rattle.at_wkt.specs.Geometry.{point, line_string, polygon, multi_point, collection, no_geometries, geometry_and, IsLineOf, SpellsPosition, SpellsPoint, SpellsGeometry}
 use Rattle.at_wkt.specs.Meaning.{shape_of, faults_of}
 use Rattle.at_wkt.specs.Lines.{lines_of}
 
@@ -51,78 +51,15 @@ extent = refl
 a_numeral : (b : ℕ) → IsTrue (is_digit b) → IsWktNumeral (whole (b ∷ []))
 a_numeral b h = record { sign = tt; digits = ((h, tt), tt); exponent = tt }
 
+-- ( at the offset 6: the position behind it, and the point
+position_spelled : SpellsPosition 2 one_two 7 (codes "1 2")
+position_spelled = ([], refl, (codes "1", codes " 2", refl, (refl, (a_numeral 0x31 refl, refl)), (codes " ", codes "2", refl, ((λ e. cc), (refl, tt)), (codes "2", [], refl, (refl, (a_numeral 0x32 refl, refl)), refl))))
+
+point_spelled : SpellsPoint 2 (Some one_two) 6 (codes "(1 2)")
+point_spelled = (codes "(", codes "1 2)", refl, refl, ([], codes "1 2)", refl, tt, (codes "1 2", codes ")", refl, position_spelled, ([], codes ")", refl, tt, refl))))
+
+geometry_spelled : SpellsGeometry 0 (codes "POINT (1 2)") (point (Some one_two))
+geometry_spelled = (2, (codes "POINT", codes " (1 2)", refl, refl, (codes " ", codes "(1 2)", refl, (refl, tt), ([], codes "(1 2)", refl, inl (refl, lit≤ tt, lit≤ tt), ([], codes "(1 2)", refl, tt, point_spelled)))))
+
 spelled : IsLineOf 0 (codes "POINT (1 2)") (point (Some one_two))
-spelled = (
-  [],
-  codes "POINT (1 2)",
-  refl,
-  tt,
-  (
-    codes "POINT (1 2)",
-    [],
-    refl,
-    (
-      2,
-      (
-        codes "POINT",
-        codes " (1 2)",
-        refl,
-        refl,
-        (
-          codes " ",
-          codes "(1 2)",
-          refl,
-          (refl, tt),
-          (
-            [],
-            codes "(1 2)",
-            refl,
-            inl (refl, lit≤ tt, lit≤ tt),
-            (
-              [],
-              codes "(1 2)",
-              refl,
-              tt,
-              (
-                codes "(",
-                codes "1 2)",
-                refl,
-                refl,
-                (
-                  [],
-                  codes "1 2)",
-                  refl,
-                  tt,
-                  (
-                    codes "1 2",
-                    codes ")",
-                    refl,
-                    (
-                      [],
-                      refl,
-                      (
-                        codes "1",
-                        codes " 2",
-                        refl,
-                        (refl, (a_numeral 0x31 refl, refl)),
-                        (
-                          codes " ",
-                          codes "2",
-                          refl,
-                          ((λ e. cc), (refl, tt)),
-                          (codes "2", [], refl, (refl, (a_numeral 0x32 refl, refl)), refl),
-                        ),
-                      ),
-                    ),
-                    ([], codes ")", refl, tt, refl),
-                  ),
-                ),
-              ),
-            ),
-          ),
-        ),
-      ),
-    ),
-    tt,
-  ),
-)
+spelled = ([], codes "POINT (1 2)", refl, tt, (codes "POINT (1 2)", [], refl, geometry_spelled, tt))

@@ -2,8 +2,8 @@
 -- For `read_line`, `read_geometry` and `Room::check_line`: each call that may stop.
 use Rattle.std.proofs.Common.{◌≡◌, ℕ, ◌<◌, ◌≤◌, ◌⊎◌, inl, inr, Bool, true, false, ◌&&◌, ◌||◌, ◌==◌, nat_lt, nat_le, if◌then◌else◌, List, [], ◌∷◌, ◌++◌, Option, Some, None, refl, sym, ◌∙◌, ap, arith, true≢false}
 use native.Mathlib.Decide.{dec_lt}
-use Rattle.at_text.specs.declared.faults.Fault.{Fault}
-use Rattle.at_text.specs.Faults.{comes_first, first_fault, first_of, tier_of, number_of}
+use Rattle.at_wkt.proofs.Names.{Fault, comes_first, first_fault, first_of}
+use Rattle.at_text.specs.Faults.{tier_of, number_of}
 
 -- a comes before b or is told with it, by three numbers each
 abbrev Earlier : ℕ → ℕ → ℕ → ℕ → ℕ → ℕ → Type 0

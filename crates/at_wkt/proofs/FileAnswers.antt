@@ -3,11 +3,7 @@
 use Rattle.std.proofs.Common.{◌≡◌, ℕ, ◌+◌, ◌-◌, ◌<◌, ◌==◌, Bool, true, false, if◌then◌else◌, ◌&&◌, nat_lt, slice_index, List, [], ◌∷◌, ◌++◌, length, take, Option, Some, None, refl, sym, ◌∙◌, ap, arith}
 use Rattle.std.proofs.Math.Seq.{take-length}
 use Rattle.std.proofs.lemmas.List.{take_more}
-use Rattle.at_text.specs.declared.faults.Fault.{Fault}
-use Rattle.at_fixed.specs.declared.rounding.Coords.{Coords}
-use Rattle.at_geom.specs.declared.shapes.Shape.{Shape}
-use Rattle.at_wkt.specs.Answers.{SpellsLine, HasFaultOrShape, faulty}
-use Rattle.at_wkt.specs.Lines.{without_return}
+use Rattle.at_wkt.proofs.Names.{Fault, Coords, Shape, SpellsLine, HasFaultOrShape, faulty, without_return}
 
 -- ---- the end of a line
 

@@ -2,19 +2,13 @@
 -- For `read_line`, `read_geometry` and `Room::check_line`: lists in brackets, read on.
 use Rattle.std.proofs.Common.{◌≡◌, ℕ, ◌+◌, ◌<◌, ◌≤◌, inl, inr, Bool, true, false, ◌==◌, List, [], ◌∷◌, ◌++◌, length, refl, sym, ◌∙◌, ap, subst, arith, append_assoc, true≢false, lit≤}
 use Rattle.std.proofs.lemmas.List.{append_cancel_left}
-use Rattle.at_text.specs.Parts.{OneOrMore, At, ◌▸◌}
-use Rattle.at_fixed.specs.Numerals.{Numeral}
-use Rattle.at_wkt.specs.declared.line.dimension.Dimension.{Dimension}
-use Rattle.at_wkt.specs.declared.line.dimension.Dimension.TheVariants.{Open, Fixed}
-use Rattle.at_wkt.specs.Positions.{Position}
-use Rattle.at_wkt.specs.Geometry.{is_blank, SpellsNumber, SpellsFurther, SpellsPosition}
-use Rattle.at_fixed.specs.NumberSoFar.{between}
-use Rattle.at_wkt.specs.Readers.{next, allows, allows_more, Allows, Spelt, Stuck, SkipsBlanks, delimiter, Delimiter, FurtherNumbers, is_delimiter, Reaches}
+use Rattle.at_wkt.proofs.Names.{OneOrMore, ◌▸◌, Numeral, Dimension, Open, Fixed, Position, is_blank, SpellsNumber, SpellsFurther, SpellsPosition, between, next, allows, allows_more, Allows, Spelt, Stuck, SkipsBlanks, delimiter, Delimiter, FurtherNumbers, is_delimiter, Reaches}
+use Rattle.at_text.specs.Parts.{At}
 use Rattle.at_fixed.proofs.DigitParts.{part-none}
 use Rattle.at_wkt.proofs.Leads.{part-more, Ahead, counts}
 use Rattle.at_wkt.proofs.Steps.{Then, Same, AreBlanks, one_blanks}
 use Rattle.at_wkt.proofs.NumberSteps.{Number}
-use Rattle.at_wkt.proofs.Lists.{to_left, to_right, behind}
+use Rattle.at_wkt.proofs.Lists.{four_left, four_right}
 use Rattle.at_wkt.proofs.PositionSteps.{further_agrees, further_dead, delimiter_no_blank, delimiter_is}
 
 -- ---- counts of numbers
@@ -147,17 +141,10 @@ EndedPosition = Then SpellsPosition (λ p. Delimiter)
 pub position_same : Same EndedPosition TwoNumbers (λ at p. position_of p)
 position_same = record {
   to = λ d p at v (v1, r1, e1, hx, (b, r2, e2, hb, (v2, r3, e3, hy, (ns, en, hf)))).
-      let X = At p.0.1 (SpellsNumber p.0.0) in let G = OneOrMore is_blank in let Y = At p.1.0.1 (SpellsNumber p.1.0.0) in let F = SpellsFurther ns in let D = Delimiter d p.1.1 in
-      let flat : (X ▸ (G ▸ (Y ▸ (F ▸ D)))) at v = (v1, r1, e1, hx, (b, r2, e2, hb, (v2, r3, e3, hy, hf))) in
-      let one : (X ▸ (G ▸ ((Y ▸ F) ▸ D))) at v = behind X _ _ (λ i u q. behind G (Y ▸ (F ▸ D)) ((Y ▸ F) ▸ D) (λ o z s. to_left Y F D o z s) i u q) at v flat in
-      let two : (X ▸ ((G ▸ (Y ▸ F)) ▸ D)) at v = behind X (G ▸ ((Y ▸ F) ▸ D)) ((G ▸ (Y ▸ F)) ▸ D) (λ i u q. to_left G (Y ▸ F) D i u q) at v one in
-      let (a, z, e, s, t) = to_left X (G ▸ (Y ▸ F)) D at v two in (a, z, e, (ns, en, s), t);
+      let (a, z, e, s, t) = four_left (At p.0.1 (SpellsNumber p.0.0)) (OneOrMore is_blank) (At p.1.0.1 (SpellsNumber p.1.0.0)) (SpellsFurther ns) (Delimiter d p.1.1) at v (v1, r1, e1, hx, (b, r2, e2, hb, (v2, r3, e3, hy, hf))) in
+      (a, z, e, (ns, en, s), t);
   from = λ d q at v (a, z, e, (ns, en, s), t).
       let p = q.0 in
-      let X = At p.x_at (SpellsNumber p.x) in let G = OneOrMore is_blank in let Y = At p.y_at (SpellsNumber p.y) in let F = SpellsFurther ns in let D = Delimiter d q.1 in
-      let nested : ((X ▸ (G ▸ (Y ▸ F))) ▸ D) at v = (a, z, e, s, t) in
-      let two : (X ▸ ((G ▸ (Y ▸ F)) ▸ D)) at v = to_right X (G ▸ (Y ▸ F)) D at v nested in
-      let one : (X ▸ (G ▸ ((Y ▸ F) ▸ D))) at v = behind X ((G ▸ (Y ▸ F)) ▸ D) (G ▸ ((Y ▸ F) ▸ D)) (λ i u q. to_right G (Y ▸ F) D i u q) at v two in
-      let (v1, r1, e1, hx, (b, r2, e2, hb, (v2, r3, e3, hy, hf))) = behind X (G ▸ ((Y ▸ F) ▸ D)) (G ▸ (Y ▸ (F ▸ D))) (λ i u q. behind G ((Y ▸ F) ▸ D) (Y ▸ (F ▸ D)) (λ o z s. to_right Y F D o z s) i u q) at v one in
+      let (v1, r1, e1, hx, (b, r2, e2, hb, (v2, r3, e3, hy, hf))) = four_right (At p.x_at (SpellsNumber p.x)) (OneOrMore is_blank) (At p.y_at (SpellsNumber p.y)) (SpellsFurther ns) (Delimiter d q.1) at v (a, z, e, s, t) in
       (((p.x, p.x_at), ((p.y, p.y_at), q.1)), refl, (v1, r1, e1, hx, (b, r2, e2, hb, (v2, r3, e3, hy, (ns, en, hf)))));
 }

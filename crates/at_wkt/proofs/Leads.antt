@@ -3,10 +3,7 @@
 use Rattle.std.proofs.Common.{◌≡◌, ℕ, ◌+◌, ◌<◌, ◌≤◌, ◌⊎◌, inl, inr, Bool, true, List, [], ◌∷◌, ◌++◌, length, take, refl, sym, ◌∙◌, ap, subst, arith, add-one, take-suc, append_assoc, length-append, length-take}
 use native.Mathlib.Decide.{dec_lt}
 use Rattle.std.proofs.lemmas.List.{drop-append-le, append_cancel_left}
-use Rattle.at_wkt.specs.declared.line.dimension.Dimension.{Dimension}
-use Rattle.at_wkt.specs.declared.line.dimension.Dimension.TheVariants.{Open, Fixed}
-use Rattle.at_fixed.specs.NumberSoFar.{between}
-use Rattle.at_wkt.specs.Readers.{next, Allows, Spelt, Leads}
+use Rattle.at_wkt.proofs.Names.{Dimension, Open, Fixed, between, next, Allows, Spelt, Leads}
 use Rattle.at_fixed.proofs.DigitParts.{part-none, part-length, part-part}
 
 -- ---- parts of a list

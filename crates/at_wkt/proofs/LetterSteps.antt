@@ -1,18 +1,15 @@
 -- The letter behind a kind's word: which counts of numbers it allows, whatever the blanks on either side of it.
 -- For `read_line`, `read_geometry` and `Room::check_line`: the head of a geometry.
-use Rattle.std.proofs.Common.{◌≡◌, ℕ, ◌+◌, ◌<◌, ◌≤◌, ◌⊎◌, inl, inr, true, false, ◌==◌, List, [], ◌∷◌, ◌++◌, length, refl, sym, ◌∙◌, ap, subst, arith, append_assoc, length-append, lit≤}
+use Rattle.std.proofs.Common.{IsTrue, ◌≡◌, ℕ, ◌+◌, ◌<◌, ◌≤◌, ◌⊎◌, inl, inr, true, false, ◌==◌, List, [], ◌∷◌, ◌++◌, length, refl, sym, ◌∙◌, ap, subst, arith, append_assoc, length-append, lit≤}
 use Rattle.std.specs.Str.{str_to_ascii_uppercase}
 use Rattle.std.specs.Char.{to_ascii_uppercase}
 use Rattle.std.proofs.lemmas.List.{append_cancel_left}
-use Rattle.at_text.specs.Parts.{Many, ◌▸◌}
-use Rattle.at_wkt.specs.declared.line.dimension.Dimension.{Dimension}
-use Rattle.at_wkt.specs.declared.line.dimension.Dimension.TheVariants.{Open, Fixed}
-use Rattle.at_wkt.specs.Geometry.{is_blank, Letter}
-use Rattle.at_fixed.specs.NumberSoFar.{between}
-use Rattle.at_wkt.specs.Readers.{opens, next, Allows, Spelt, Stuck, SkipsBlanks, LetterAt, LetterStands}
+use Rattle.std.proofs.ByRecursion.{All-append}
+use Rattle.at_wkt.proofs.Names.{Many, ◌▸◌, Dimension, Open, Fixed, is_blank, Letter, between, opens, next, Allows, Spelt, Stuck, SkipsBlanks, LetterStands, Leads}
+use Rattle.at_wkt.specs.Readers.{LetterAt}
 use Rattle.at_fixed.proofs.DigitParts.{part-none, part-length, part-part}
-use Rattle.at_wkt.proofs.Leads.{part-one, part-cons, Ahead, ahead_stuck, Begins, same_or_less}
-use Rattle.at_wkt.proofs.Steps.{no_blank, AreBlanks, one_blanks, not_blank, all_both}
+use Rattle.at_wkt.proofs.Leads.{part-one, part-cons, Ahead, Begins, same_or_less, leads_ahead}
+use Rattle.at_wkt.proofs.Steps.{no_blank, AreBlanks, one_blanks, not_blank}
 use Rattle.at_wkt.proofs.WordSteps.{opens_no_blank, letter_no_blank, opens_no_letter, blank_no_letter, stream, one_letter, two_letters}
 
 pub no_gap : (w : List ℕ) (i j : ℕ) → SkipsBlanks w i j → no_blank (next w i) ≡ true → j ≡ i
@@ -24,10 +21,10 @@ no_gap w i j h none = elim (same_or_less i j h.order) [
 unlike : (a b c : ℕ) → a ≡ b → a ≡ c → (b == c) ≡ false → ⊥
 unlike a b c e f h = grind (arith, e, f, h)
 
-module _ (w : List ℕ) (h i e j : ℕ) (c : Dimension) (pad : SkipsBlanks w h i) (letter : LetterStands w i e c) (fits : e ≤ length w) (gap : SkipsBlanks w e j) where
-  pub letter_order : i ≤ e
-  letter_order = elim letter [ inl q ↦ omega (arith, q.0) | inr (inl q) ↦ omega (arith, q.0) | inr (inr (inl q)) ↦ omega (arith, q.0) | inr (inr (inr q)) ↦ omega (arith, q.0) ]
+pub letter_order : (w : List ℕ) (i e : ℕ) (c : Dimension) → LetterStands w i e c → i ≤ e
+letter_order w i e c letter = elim letter [ inl q ↦ omega (arith, q.0) | inr (inl q) ↦ omega (arith, q.0) | inr (inr (inl q)) ↦ omega (arith, q.0) | inr (inr (inr q)) ↦ omega (arith, q.0) ]
 
+module _ (w : List ℕ) (h i e j : ℕ) (c : Dimension) (pad : SkipsBlanks w h i) (letter : LetterStands w i e c) (fits : e ≤ length w) (gap : SkipsBlanks w e j) where
   pub letter_sound : (d at : ℕ) → Allows c d → Letter d at (between w i e)
   letter_sound d at a = go letter where
     none : (same : e ≡ i) → between w i e ≡ []
@@ -46,7 +43,7 @@ module _ (w : List ℕ) (h i e j : ℕ) (c : Dimension) (pad : SkipsBlanks w h i
     go (inr (inr (inr (same, ec, z, m)))) = let f = subst (λ z. Allows z d) ec a in inr (inl (inl (ap str_to_ascii_uppercase (one same) ∙ ap (λ b. b ∷ []) z), f.0))
 
   low : i ≤ j
-  low = omega (arith, letter_order, gap.order)
+  low = omega (arith, letter_order w i e c letter, gap.order)
 
   joint : between w h j ≡ between w h i ++ between w i j
   joint = part-part w h i j pad.order low gap.within
@@ -60,7 +57,7 @@ module _ (w : List ℕ) (h i e j : ℕ) (c : Dimension) (pad : SkipsBlanks w h i
     no_letter f d bounds =
         let (t, et, more) = stream w i j s low gap.within ahead in
         let line : (b1 ++ b2) ++ (b ∷ x) ≡ between w h i ++ (next w i ∷ t) = f ∙ (ap (λ z. z ++ s) joint ∙ (append_assoc (between w h i) (between w i j) s ∙ ap (λ z. between w h i ++ z) et)) in
-        let same : b1 ++ b2 ≡ between w h i = one_blanks (b1 ++ b2) (between w h i) b (next w i) x t (all_both b1 b2 hb1 hb2) pad.blanks (opens_no_blank b ob) pad.stops line in
+        let same : b1 ++ b2 ≡ between w h i = one_blanks (b1 ++ b2) (between w h i) b (next w i) x t (All-append (λ b. IsTrue (is_blank b)) b1 b2 hb1 hb2) pad.blanks (opens_no_blank b ob) pad.stops line in
         let rest : b ∷ x ≡ next w i ∷ t = append_cancel_left (between w h i) _ _ (ap (λ z. z ++ (b ∷ x)) (sym same) ∙ line) in
         let byte : b ≡ next w i = cc in
         elim letter [
@@ -173,18 +170,35 @@ module _ (w : List ℕ) (h i e j : ℕ) (c : Dimension) (pad : SkipsBlanks w h i
 abbrev pub Lettered : {Y : Type 0} → (ℕ → Y → ℕ → List ℕ → Type 0) → ℕ → Y → ℕ → List ℕ → Type 0
 Lettered Q d0 y at v = (d : ℕ) × (Many is_blank ▸ (Letter d ▸ (Many is_blank ▸ Q d y))) at v
 
--- as Leads, where the counts of numbers inside bind nothing outside
-pub record Encloses {X Y : Type 0} (P : ℕ → X → ℕ → List ℕ → Type 0) (Q : ℕ → Y → ℕ → List ℕ → Type 0) (base : ℕ) (w : List ℕ) (i j : ℕ) (c : Dimension) (f : Y → X) : Type 0 where
-  pub spelt : (k : ℕ) (c' : Dimension) (y : Y) → Spelt Q base w j c k c' y → Spelt P base w i Open k Open (f y)
-  pub stuck : (n : ℕ) → Stuck Q base w j c n → Stuck P base w i Open n
+-- the part, whose counts of numbers bind nothing outside
+abbrev pub Inside : {Y : Type 0} → (ℕ → Y → ℕ → List ℕ → Type 0) → Dimension → ℕ → Y → ℕ → List ℕ → Type 0
+Inside Q c d0 y at v = (d : ℕ) × Allows c d × Q d y at v
+
+pub inside_spelt : {Y : Type 0} (Q : ℕ → Y → ℕ → List ℕ → Type 0) (base : ℕ) (w : List ℕ) (j k : ℕ) (c c' : Dimension) (y : Y) → Spelt Q base w j c k c' y → Spelt (Inside Q c) base w j Open k Open y
+inside_spelt Q base w j k c c' y q = record {
+  order = q.order;
+  within = q.within;
+  some = (2, (lit≤ tt, lit≤ tt));
+  narrows = λ d a. a;
+  sound = λ d0 a0. let (d, a) = q.some in (d, q.narrows d a, q.sound d a);
+  only = λ d0 z v r s a0 (d, a, p) f. let (ey, ev, a') = q.only d z v r s a p f in (ey, ev, a0);
+}
+
+pub inside_stuck : {Y : Type 0} (Q : ℕ → Y → ℕ → List ℕ → Type 0) (base : ℕ) (w : List ℕ) (j n : ℕ) (c : Dimension) → Stuck Q base w j c n → Stuck (Inside Q c) base w j Open n
+inside_stuck Q base w j n c q = record {
+  order = q.order;
+  within = q.within;
+  viable = (let (d, y, more, a, p) = q.viable in (2, y, more, (lit≤ tt, lit≤ tt), (d, a, p)));
+  dead = λ d0 y v r s a0 (d, a, p) f. q.dead d y v r s a p f;
+}
 
 module _ {Y : Type 0} (Q : ℕ → Y → ℕ → List ℕ → Type 0) (begins : Begins opens Q) (base : ℕ) (w : List ℕ) (h i e j : ℕ) (c : Dimension)
     (pad : SkipsBlanks w h i) (letter : LetterStands w i e c) (fits : e ≤ length w) (gap : SkipsBlanks w e j) where
   order : h ≤ j
-  order = omega (arith, pad.order, letter_order w h i e j c pad letter fits gap, gap.order)
+  order = omega (arith, pad.order, letter_order w i e c letter, gap.order)
 
   middle : i ≤ e
-  middle = letter_order w h i e j c pad letter fits gap
+  middle = letter_order w i e c letter
 
   goes : (d : ℕ) (y : Y) (r : List ℕ) → Allows c d → Q d y (base + j) r → (Many is_blank ▸ (Letter d ▸ (Many is_blank ▸ Q d y))) (base + h) (between w h j ++ r)
   goes d y r a q =
@@ -208,39 +222,7 @@ module _ {Y : Type 0} (Q : ℕ → Y → ℕ → List ℕ → Type 0) (begins : 
       omega (arith, ap length same, length-append b1 (l ++ b2), length-append l b2, part-length w h j order gap.within) in
       (u, whole ∙ (regroup ∙ ap (λ z. z ++ u) same), subst (λ o. Q d y o u) place q, a)
 
-  pub letter_encloses : Encloses (Lettered Q) Q base w h j c (λ y. y)
-  letter_encloses = record {
-    spelt = λ k c' y q.
-        let joint : between w h k ≡ between w h j ++ between w j k = part-part w h j k order q.order q.within in
-        let small : h ≤ k = omega (arith, order, q.order) in
-        record {
-          order = small;
-          within = q.within;
-          some = (2, (lit≤ tt, lit≤ tt));
-          narrows = λ d a. a;
-          sound = λ d0 a0. let (d, a) = q.some in (d, subst ((Many is_blank ▸ (Letter d ▸ (Many is_blank ▸ Q d y))) (base + h)) (sym joint) (goes d y (between w j k) (q.narrows d a) (q.sound d a)));
-          only = λ d0 y' v r s a0 (d, p) f.
-              let (d1, a1) = q.some in
-              let (b, t, eb, ob) = begins d1 y (base + j) (between w j k) (q.sound d1 a1) in
-              let long : j < k = omega (arith, part-length w j k q.order q.within, ap length eb) in
-              let split : v ++ r ≡ between w h j ++ (between w j k ++ s) = f ∙ (ap (λ z. z ++ s) joint ∙ append_assoc (between w h j) (between w j k) s) in
-              let (u, ev, q', a') = comes d y' v r (between w j k ++ s) p (between w (j + 1) k ++ s, ap (λ z. z ++ s) (part-cons w j k long q.within)) split in
-              let rest : u ++ r ≡ between w j k ++ s = append_cancel_left (between w h j) (u ++ r) (between w j k ++ s) (sym (append_assoc (between w h j) u r) ∙ (ap (λ z. z ++ r) (sym ev) ∙ split)) in
-              let (ey, eu, a'') = q.only d y' u r s a' q' rest in
-              (ey, ev ∙ (ap (λ z. between w h j ++ z) eu ∙ sym joint), a0);
-        };
-    stuck = λ n q.
-        let joint : between w h n ≡ between w h j ++ between w j n = part-part w h j n order q.order q.within in
-        let small : h ≤ n = omega (arith, order, q.order) in
-        record {
-          order = small;
-          within = q.within;
-          viable = (let (d, y, more, a, p) = q.viable in
-              (2, y, more, (lit≤ tt, lit≤ tt), (d, subst ((Many is_blank ▸ (Letter d ▸ (Many is_blank ▸ Q d y))) (base + h)) (sym (ap (λ z. z ++ more) joint ∙ append_assoc (between w h j) (between w j n) more)) (goes d y (between w j n ++ more) a p))));
-          dead = λ d0 y' v r s a0 (d, p) f.
-              let split : v ++ r ≡ between w h j ++ (between w j n ++ (next w n ∷ s)) = f ∙ (ap (λ z. z ++ (next w n ∷ s)) joint ∙ append_assoc (between w h j) (between w j n) (next w n ∷ s)) in
-              let (u, ev, q', a') = comes d y' v r (between w j n ++ (next w n ∷ s)) p (ahead_stuck w j n s q.order q.within (same_or_less j n q.order)) split in
-              let rest : u ++ r ≡ between w j n ++ (next w n ∷ s) = append_cancel_left (between w h j) (u ++ r) (between w j n ++ (next w n ∷ s)) (sym (append_assoc (between w h j) u r) ∙ (ap (λ z. z ++ r) (sym ev) ∙ split)) in
-              q.dead d y' u r s a' q' rest;
-        };
-  }
+  pub letter_leads : Leads (Lettered Q) (Inside Q c) base w h Open j Open (λ y. y)
+  letter_leads = leads_ahead (Lettered Q) (Inside Q c) base w h Open j Open (λ y. y) opens (λ d0 y at v (d, a, q). begins d y at v q) order gap.within (λ d a. a)
+      (λ d0 y r a0 (d, a, q). (d, goes d y r a q))
+      (λ d0 y v r s a0 (d, p) ahead f. let (u, ev, q, a) = comes d y v r s p ahead f in (y, u, ev, refl, (d, a, q), a0))

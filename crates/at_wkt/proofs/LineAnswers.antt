@@ -4,28 +4,17 @@ use Rattle.std.proofs.Common.{◌≡◌, ℕ, zero, ◌+◌, ◌<◌, ◌≤◌,
 use native.Mathlib.Decide.{dec_lt}
 use Rattle.std.proofs.Math.Seq.{take-length}
 use Rattle.std.proofs.lemmas.List.{append_cancel_left, get_or_past}
-use Rattle.at_text.specs.declared.faults.Fault.{Fault}
-use Rattle.at_text.specs.Faults.{first_fault, first_of}
-use Rattle.at_text.specs.Syntax.{IsSyntaxFault, stop_fault}
-use Rattle.at_fixed.specs.declared.rounding.Coords.{Coords}
-use Rattle.at_geom.specs.declared.shapes.Shape.{Shape}
-use Rattle.at_wkt.specs.declared.line.dimension.Dimension.TheVariants.{Open}
+use Rattle.at_wkt.proofs.Names.{Fault, first_fault, first_of, IsSyntaxFault, stop_fault, Coords, Shape, Open, Prefix, Halt, Gathered, empty_shape, Geometry, SpellsGeometry, IsLineOf, WktLine, is_blank, IsPrefixOf, IsPrefixFault, SpellsLine, HasFirstLineFault, unspelled, faulty, HasLineShape, between, IfStopped, next, Spelt, Stuck, SkipsBlanks, Meaning, joined, no_meaning, meaning_of, Expected, Gathers, gathered_shape}
 use Rattle.std.specs.Result.{MatchResult}
-use Rattle.at_wkt.specs.declared.answers.Prefix.{Prefix}
 use Rattle.at_wkt.specs.declared.answers.LineFault.{LineFault}
 use Rattle.at_wkt.specs.declared.answers.LineFault.TheVariants.{Found}
-use Rattle.at_text.specs.declared.halts.Halt.{Halt}
 use Rattle.at_text.specs.declared.halts.Halt.TheVariants.{At, Memory as NoMemory}
-use Rattle.at_wkt.specs.declared.line.geometries.Gathered.{Gathered}
-use Rattle.at_wkt.specs.Meaning.{empty_shape}
-use Rattle.at_wkt.specs.Geometry.{Geometry, SpellsGeometry, IsLineOf, WktLine}
-use Rattle.at_wkt.specs.Answers.{IsPrefixOf, IsPrefixFault, SpellsLine, IfFound, HasFirstLineFault, unspelled, faulty, HasLineShape}
-use Rattle.at_fixed.specs.NumberSoFar.{between}
-use Rattle.at_text.specs.Halts.{IfStopped}
-use Rattle.at_wkt.specs.Readers.{next, Spelt, Stuck, SkipsBlanks, Meaning, joined, no_meaning, meaning_of, Expected, Gathers, refusal, gathered_shape, kept_shape, line_answer, LineStops}
+use Rattle.at_wkt.specs.Answers.{IfFound}
+use Rattle.at_wkt.specs.Readers.{refusal, kept_shape, line_answer, LineStops}
 use Rattle.at_fixed.proofs.DigitParts.{part-length, part-part}
 use Rattle.at_wkt.proofs.Leads.{part-more, part-cons, Ahead, ahead_stuck, same_or_less}
-use Rattle.at_wkt.proofs.Steps.{AreBlanks, one_blanks, not_blank, blank_at}
+use Rattle.at_wkt.proofs.Agreement.{byte_passes}
+use Rattle.at_wkt.proofs.Steps.{AreBlanks, one_blanks, not_blank}
 use Rattle.at_wkt.proofs.GeometrySteps.{Awaited, joined-none}
 use Rattle.at_wkt.proofs.CollectionSteps.{geometry_first}
 
@@ -204,7 +193,7 @@ module _ (digits : ℕ) (how : Coords) (base : ℕ) (w : List ℕ) where
           }
 
       no_blanks_there : (b s : List ℕ) → AreBlanks b → b ++ [] ≡ between w j k ++ (next w k ∷ s) → ⊥
-      no_blanks_there b s hb e = not_blank (next w k) gap.stops (blank_at (between w j k) (next w k) s (subst AreBlanks (sym (append-nil b) ∙ e) hb))
+      no_blanks_there b s hb e = not_blank (next w k) gap.stops (byte_passes is_blank (between w j k) (next w k) s (subst AreBlanks (sym (append-nil b) ∙ e) hb))
 
       -- another byte stands behind the blanks
       pub line_beyond : k < length w → IsSyntaxFault (WktLine base) base w (stop_fault base w k)
@@ -231,15 +220,18 @@ pub stopped_inside : {Q : ℕ → Type 0} (w : List ℕ) (halt : Halt) → ((n :
 stopped_inside {Q} w (At n) f q = f n q
 stopped_inside {Q} w NoMemory f q = tt
 
+-- a halt is refused as its place or the want of memory is
+refused : (Q : ℕ → Type 0) (P : Fault → Type 0) (base : ℕ) (w : List ℕ) (halt : Halt) (answer : LineFault) → ((n : ℕ) → Q n → P (stop_fault base w n)) → answer ≡ refusal base w halt → IfStopped halt Q → IfFound answer P
+refused Q P base w (At n) answer f e h = let R : LineFault → Type 0 = λ z. IfFound z P in subst R (sym e) (f n h)
+refused Q P base w NoMemory answer f e h = let R : LineFault → Type 0 = λ z. IfFound z P in subst R (sym e) tt
+
 pub refused_prefix : (digits : ℕ) (how : Coords) (base : ℕ) (w : List ℕ) (halt : Halt) (answer : LineFault) → answer ≡ refusal base w halt
     → IfStopped halt (Stuck (Awaited digits how zero) base w 0 Open) → IfFound answer (IsPrefixFault base w)
-refused_prefix digits how base w (At n) answer e h = let P : LineFault → Type 0 = λ z. IfFound z (IsPrefixFault base w) in subst P (sym e) (prefix_fault digits how base w n h)
-refused_prefix digits how base w NoMemory answer e h = let P : LineFault → Type 0 = λ z. IfFound z (IsPrefixFault base w) in subst P (sym e) tt
+refused_prefix digits how base w halt answer e h = refused (Stuck (Awaited digits how zero) base w 0 Open) (IsPrefixFault base w) base w halt answer (prefix_fault digits how base w) e h
 
 pub refused_line : (digits : ℕ) (how : Coords) (base : ℕ) (w : List ℕ) (halt : Halt) (answer : LineFault) → answer ≡ refusal base w halt
     → IfStopped halt (LineStops base w) → IfFound answer (HasFirstLineFault digits how base w)
-refused_line digits how base w (At n) answer e h = let P : LineFault → Type 0 = λ z. IfFound z (HasFirstLineFault digits how base w) in subst P (sym e) (unspelled h.fault)
-refused_line digits how base w NoMemory answer e h = let P : LineFault → Type 0 = λ z. IfFound z (HasFirstLineFault digits how base w) in subst P (sym e) tt
+refused_line digits how base w halt answer e h = refused (LineStops base w) (HasFirstLineFault digits how base w) base w halt answer (λ n stops. unspelled stops.fault) e h
 
 module _ (nothing new : Gathered) (m : Meaning) (ep : nothing.points.items ≡ []) (el : nothing.lines.items ≡ []) (eg : nothing.polygons.items ≡ []) (ef : nothing.fault ≡ None) (h : Gathers nothing new m) where
   pub gathered_fault : new.fault ≡ first_of m.faults
@@ -262,9 +254,8 @@ module _ (nothing new : Gathered) (m : Meaning) (ep : nothing.points.items ≡ [
   pub line_answers : (digits : ℕ) (how : Coords) (base : ℕ) (w : List ℕ) (answer : Result Shape LineFault) → SpellsLine digits how base w (first_of m.faults) m.shape → answer ≡ line_answer new
       → MatchResult answer (HasLineShape digits how base w) (λ e. IfFound e (HasFirstLineFault digits how base w))
   line_answers digits how base w answer s e =
-      let spells : SpellsLine digits how base w new.fault (gathered_shape new) = subst (λ z. SpellsLine digits how base w z (gathered_shape new)) (sym gathered_fault) (subst (SpellsLine digits how base w (first_of m.faults)) (sym all_gathered) s) in
       let P : Result Shape LineFault → Type 0 = λ z. MatchResult z (HasLineShape digits how base w) (λ r. IfFound r (HasFirstLineFault digits how base w)) in
-      subst P (sym e) (go new.fault spells) where
+      subst P (sym e) (go new.fault (line_gathered digits how base w s)) where
         go : (f : Option Fault) → SpellsLine digits how base w f (gathered_shape new) → MatchResult (elim f [ None ↦ Ok (gathered_shape new) | Some fault ↦ Err (Found fault) ]) (HasLineShape digits how base w) (λ r. IfFound r (HasFirstLineFault digits how base w))
         go None s = s
         go (Some f) s = faulty (gathered_shape new) s

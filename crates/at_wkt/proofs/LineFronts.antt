@@ -3,11 +3,7 @@
 use Rattle.std.proofs.Common.{◌≡◌, ℕ, ◌+◌, ◌≤◌, ◌++◌, true, not, List, length, take, drop, refl, sym, ap, ◌∙◌, subst, arith, inl, inr, length-take}
 use Rattle.std.proofs.lemmas.Bool.{cases_lt}
 use Rattle.std.proofs.lemmas.List.{get_or-take, get_or_past, take-take}
-use Rattle.at_wkt.specs.declared.line.dimension.Dimension.{Dimension}
-use Rattle.at_wkt.specs.Geometry.{is_blank}
-use Rattle.at_wkt.specs.Lines.{without_return}
-use Rattle.at_fixed.specs.NumberSoFar.{between}
-use Rattle.at_wkt.specs.Readers.{SkipsBlanks, Spelt}
+use Rattle.at_wkt.proofs.Names.{Dimension, is_blank, without_return, between, SkipsBlanks, Spelt}
 use Rattle.at_wkt.proofs.Steps.{AreBlanks}
 
 part_within : (w : List ℕ) (e i j : ℕ) → j ≤ e → between (take e w) i j ≡ between w i j

@@ -5,11 +5,11 @@ use Rattle.std.specs.List.{list_any, position_or_len, starts_with}
 use Rattle.std.proofs.Math.Seq.{take-add, take-append_seam, drop-append_seam}
 use Rattle.std.proofs.lemmas.List.{map-append, take-append-drop}
 use Rattle.std.proofs.lemmas.List.Elements.{filter-append}
-use Rattle.at_text.specs.declared.texts.Span.{Span}
+use Rattle.at_wkt.proofs.Names.{Span, FileLine, pieces_from, is_line_feed}
 use Rattle.at_text.specs.Texts.{base_of, byte_order_mark}
 use Rattle.at_text.specs.Spans.{span_of, AreNeighbours}
 use Rattle.at_text.proofs.Separated.{pieces_joined, glued, glued_end, pieces_first, pieces_last}
-use Rattle.at_wkt.specs.Lines.{FileLine, pieces_from, is_line_feed, line_of, is_blank_text, lines_in}
+use Rattle.at_wkt.specs.Lines.{line_of, is_blank_text, lines_in}
 use Rattle.at_wkt.specs.declared.file.fragments.WholeLines.{WholeLines}
 use Rattle.at_wkt.specs.declared.file.fragments.Inner.{Inner}
 use Rattle.at_wkt.specs.declared.file.fragments.LineFragment.{LineFragment}

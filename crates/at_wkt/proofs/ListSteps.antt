@@ -1,33 +1,26 @@
 -- Positions and items read on, lists of them in brackets, and the word EMPTY.
 -- For `read_line`, `read_geometry` and `Room::check_line`: positions and items, read on.
 use Rattle.std.proofs.Common.{◌≡◌, ◌≢◌, ℕ, ◌+◌, ◌-◌, ◌<◌, ◌≤◌, ◌⊎◌, inl, inr, Bool, true, false, List, [], ◌∷◌, ◌++◌, length, codes, refl, sym, ◌∙◌, ap, subst, arith, append-nil, append_assoc, length-append, true≢false}
-use Rattle.at_text.specs.Parts.{Exactly}
-use Rattle.at_fixed.specs.Numerals.{Numeral}
-use Rattle.at_wkt.specs.declared.line.dimension.Dimension.{Dimension}
-use Rattle.at_wkt.specs.Positions.{Position}
-use Rattle.at_wkt.specs.Geometry.{is_blank, SpellsPosition, InBrackets, Parted, SpellsRing}
-use Rattle.at_fixed.specs.NumberSoFar.{between}
-use Rattle.at_wkt.specs.Readers.{next, Allows, Spelt, Stuck, Leads, SkipsBlanks, NumberStands, NumberBreaks, delimiter, Delimiter, Item, Items, ItemsRead, FurtherNumbers}
+use Rattle.at_wkt.proofs.Names.{Exactly, Numeral, Dimension, Position, is_blank, SpellsPosition, InBrackets, Parted, SpellsRing, between, next, Allows, Spelt, Stuck, Leads, SkipsBlanks, NumberStands, NumberBreaks, delimiter, Delimiter, Item, Items, ItemsRead, FurtherNumbers}
+use Rattle.std.proofs.lemmas.Bool.{not-true}
 use Rattle.at_wkt.proofs.Leads.{part-one, part-more, Begins, Inhabited, same_length}
-use Rattle.at_wkt.proofs.Steps.{Then, same_leads, trans_leads, then_leads, then_stuck, fixed_leads, pad_leads, gap_leads, stuck_first, no_blank, AreBlanks, spelt_over}
+use Rattle.at_wkt.proofs.Steps.{Then, same_leads, trans_leads, then_leads, then_stuck, fixed_leads, pad_leads, gap_leads, stuck_first, no_blank, spelt_over}
 use Rattle.at_wkt.proofs.NumberSteps.{stops_number, number_leads, number_stuck}
 use Rattle.at_wkt.proofs.Lists.{Rest, items_same, brackets_same, Opened}
-use Rattle.at_wkt.proofs.PositionSteps.{begins_number, number_begins, nought, nought_numeral, further_begins, further_inhabited, further_lives, begin_no_blank}
+use Rattle.at_wkt.proofs.PositionSteps.{begins_number, number_begins, nought, nought_numeral, further_begins, further_inhabited, further_lives, begin_no_blank, blank_stops}
 use Rattle.at_wkt.proofs.ItemSteps.{Gap, SecondNumber, TwoNumbers, position_of, EndedPosition, position_same}
 
 -- ---- a position
 
-begins_other : {X : Type 0} (p q : ℕ → Bool) (P : ℕ → X → ℕ → List ℕ → Type 0) → ((b : ℕ) → p b ≡ true → q b ≡ true) → Begins p P → Begins q P
+pub begins_other : {X : Type 0} (p q : ℕ → Bool) (P : ℕ → X → ℕ → List ℕ → Type 0) → ((b : ℕ) → p b ≡ true → q b ≡ true) → Begins p P → Begins q P
 begins_other p q P h begins d x at v s = let (b, t, e, k) = begins d x at v s in (b, t, e, h b k)
 
-gap_stops : Begins stops_number (Gap SecondNumber)
-gap_stops d y at v (x, r, e, (some, hx), q) = go x some hx e where
-  blank_stop : (b : ℕ) → is_blank b ≡ true → stops_number b ≡ true
-  blank_stop b h = grind (arith, h)
+gap_first : Begins is_blank (Gap SecondNumber)
+gap_first d y at v ([], r, e, (some, hx), q) = absurd (some refl)
+gap_first d y at v (b ∷ x, r, e, (some, (h, hs)), q) = (b, x ++ r, e, h)
 
-  go : (x : List ℕ) → x ≢ [] → AreBlanks x → v ≡ x ++ r → (b : ℕ) × (t : List ℕ) × (v ≡ b ∷ t) × (stops_number b ≡ true)
-  go [] some hx e = absurd (some refl)
-  go (b ∷ x) some (h, hs) e = (b, x ++ r, e, blank_stop b h)
+gap_stops : Begins stops_number (Gap SecondNumber)
+gap_stops = begins_other is_blank stops_number (Gap SecondNumber) blank_stops gap_first
 
 second_inhabited : Inhabited SecondNumber
 second_inhabited d at h = let (last, v, q) = further_inhabited d (at + 1) h in (((nought, at), last), 0x30 ∷ v, (0x30 ∷ [], v, refl, (refl, (nought_numeral, refl)), q))
@@ -55,15 +48,7 @@ module _ (base : ℕ) (w : List ℕ) (i a : ℕ) (c : Dimension) (skips : SkipsB
 
     -- no blank stands behind the first number
     pub position_joined : (d : ℕ) × Allows c d → SkipsBlanks w b b → Stuck (Item SpellsPosition) base w i c b
-    position_joined (d, allowed) none = gap_expected.stuck b (stuck_first (Gap SecondNumber) is_blank base w b c blank_first gap_inhabited d allowed x.within (no_to_false (next w b) none.stops)) where
-      blank_first : Begins is_blank (Gap SecondNumber)
-      blank_first d y at v (x, r, e, (some, hx), q) = go x some hx e where
-        go : (x : List ℕ) → x ≢ [] → AreBlanks x → v ≡ x ++ r → (b : ℕ) × (t : List ℕ) × (v ≡ b ∷ t) × (is_blank b ≡ true)
-        go [] some hx e = absurd (some refl)
-        go (b ∷ x) some (h, hs) e = (b, x ++ r, e, h)
-
-      no_to_false : (b : ℕ) → no_blank b ≡ true → is_blank b ≡ false
-      no_to_false b h = grind (arith, h)
+    position_joined (d, allowed) none = gap_expected.stuck b (stuck_first (Gap SecondNumber) is_blank base w b c gap_first gap_inhabited d allowed x.within (not-true (is_blank (next w b)) none.stops))
 
     module _ (e : ℕ) (gap : SkipsBlanks w b e) (wide : b < e) where
       second_expected : Leads (Item SpellsPosition) SecondNumber base w i c e c (λ y. position_of ((n, base + a), y))

@@ -1,9 +1,9 @@
 -- Items in brackets, one after another.
 -- For `read_line`, `read_geometry` and `Room::check_line`: items in brackets as the grammar has them.
 use Rattle.std.proofs.Common.{◌≡◌, ℕ, ◌+◌, Bool, true, false, List, [], ◌∷◌, ◌++◌, length, codes, refl, sym, ◌∙◌, ap, subst, arith, append-nil, append_assoc, length-append}
-use Rattle.at_text.specs.Parts.{Many, Exactly, ◌▸◌}
-use Rattle.at_wkt.specs.Geometry.{is_blank, ◌‿◌, InBrackets, Parted}
-use Rattle.at_wkt.specs.Readers.{Delimiter, Item, Items, RestOf}
+use Rattle.at_wkt.proofs.Names.{Many, Exactly, ◌▸◌, is_blank, InBrackets, Parted, Item, Items}
+use Rattle.at_wkt.specs.Geometry.{◌‿◌}
+use Rattle.at_wkt.specs.Readers.{RestOf}
 use Rattle.at_wkt.proofs.Steps.{Then, Same}
 
 -- ---- parts regrouped
@@ -19,6 +19,27 @@ module _ (P Q R : ℕ → List ℕ → Type 0) where
 
 pub behind : (P Q R : ℕ → List ℕ → Type 0) → ((at : ℕ) (w : List ℕ) → Q at w → R at w) → (at : ℕ) (w : List ℕ) → (P ▸ Q) at w → (P ▸ R) at w
 behind P Q R h at w (v, r, e, p, q) = (v, r, e, p, h (at + length v) r q)
+
+module _ (A B C K : ℕ → List ℕ → Type 0) where
+  three_right : (at : ℕ) (w : List ℕ) → ((A ▸ (B ▸ C)) ▸ K) at w → (A ▸ (B ▸ (C ▸ K))) at w
+  three_right at w h = behind A ((B ▸ C) ▸ K) (B ▸ (C ▸ K)) (to_right B C K) at w (to_right A (B ▸ C) K at w h)
+
+  three_left : (at : ℕ) (w : List ℕ) → (A ▸ (B ▸ (C ▸ K))) at w → ((A ▸ (B ▸ C)) ▸ K) at w
+  three_left at w h = to_left A (B ▸ C) K at w (behind A (B ▸ (C ▸ K)) ((B ▸ C) ▸ K) (to_left B C K) at w h)
+
+module _ (A B C D K : ℕ → List ℕ → Type 0) where
+  pub four_right : (at : ℕ) (w : List ℕ) → ((A ▸ (B ▸ (C ▸ D))) ▸ K) at w → (A ▸ (B ▸ (C ▸ (D ▸ K)))) at w
+  four_right at w h = behind A ((B ▸ (C ▸ D)) ▸ K) (B ▸ (C ▸ (D ▸ K))) (three_right B C D K) at w (to_right A (B ▸ (C ▸ D)) K at w h)
+
+  pub four_left : (at : ℕ) (w : List ℕ) → (A ▸ (B ▸ (C ▸ (D ▸ K)))) at w → ((A ▸ (B ▸ (C ▸ D))) ▸ K) at w
+  four_left at w h = to_left A (B ▸ (C ▸ D)) K at w (behind A (B ▸ (C ▸ (D ▸ K))) ((B ▸ (C ▸ D)) ▸ K) (three_left B C D K) at w h)
+
+module _ (A B C D E K : ℕ → List ℕ → Type 0) where
+  pub five_right : (at : ℕ) (w : List ℕ) → ((A ▸ (B ▸ (C ▸ (D ▸ E)))) ▸ K) at w → (A ▸ (B ▸ (C ▸ (D ▸ (E ▸ K))))) at w
+  five_right at w h = behind A ((B ▸ (C ▸ (D ▸ E))) ▸ K) (B ▸ (C ▸ (D ▸ (E ▸ K)))) (four_right B C D E K) at w (to_right A (B ▸ (C ▸ (D ▸ E))) K at w h)
+
+  pub five_left : (at : ℕ) (w : List ℕ) → (A ▸ (B ▸ (C ▸ (D ▸ (E ▸ K))))) at w → ((A ▸ (B ▸ (C ▸ (D ▸ E)))) ▸ K) at w
+  five_left at w h = to_left A (B ▸ (C ▸ (D ▸ E))) K at w (behind A (B ▸ (C ▸ (D ▸ (E ▸ K)))) ((B ▸ (C ▸ (D ▸ E))) ▸ K) (four_left B C D E K) at w h)
 
 -- ---- items
 
@@ -46,29 +67,16 @@ module _ {X : Type 0} (P : ℕ → X → ℕ → List ℕ → Type 0) where
   parted_to d [] at v h = absurd h
   parted_to d (x ∷ []) at v h = h
   parted_to d (x ∷ y ∷ rest) at v (a, b, e, p, q) =
-      let inner : (Item P d (x, false) ▸ (Many is_blank ▸ (Parted (P d) (y ∷ rest) ‿ Exactly (codes ")")))) at v = (a, b, e, p, parted_to d (y ∷ rest) (at + length a) b q) in
-      let one = to_right (Many is_blank) (P d x ▸ Delimiter d false) (Many is_blank ▸ (Parted (P d) (y ∷ rest) ‿ Exactly (codes ")"))) at v inner in
-      behind (Many is_blank) _ _ (λ i u t.
-      let two = to_right (P d x) (Delimiter d false) (Many is_blank ▸ (Parted (P d) (y ∷ rest) ‿ Exactly (codes ")"))) i u t in
-      let three = behind (P d x) _ _ (λ j z s. behind (Many is_blank) _ _ (λ k y2 s2. behind (Exactly (codes ",")) _ _ (λ m y3 s3. to_left (Many is_blank) (Parted (P d) (y ∷ rest)) (Many is_blank ▸ Exactly (codes ")")) m y3 s3) k y2 s2) j z
-      (to_right (Many is_blank) (Exactly (codes ",")) (Many is_blank ▸ (Parted (P d) (y ∷ rest) ‿ Exactly (codes ")"))) j z s)) i u two in
-      let four = behind (P d x) _ _ (λ j z s. behind (Many is_blank) _ _ (λ k y2 s2. to_left (Exactly (codes ",")) (Many is_blank ▸ Parted (P d) (y ∷ rest)) (Many is_blank ▸ Exactly (codes ")")) k y2 s2) j z s) i u three in
-      let five = behind (P d x) _ _ (λ j z s. to_left (Many is_blank) (Exactly (codes ",") ▸ (Many is_blank ▸ Parted (P d) (y ∷ rest))) (Many is_blank ▸ Exactly (codes ")")) j z s) i u four in
-      to_left (P d x) (Many is_blank ▸ (Exactly (codes ",") ▸ (Many is_blank ▸ Parted (P d) (y ∷ rest)))) (Many is_blank ▸ Exactly (codes ")")) i u five) at v one
+      let X = P d x in let M = Many is_blank in let C = Exactly (codes ",") in let Q = Parted (P d) (y ∷ rest) in let Z = Many is_blank ▸ Exactly (codes ")") in
+      behind M (X ▸ (M ▸ (C ▸ (M ▸ (Q ▸ Z))))) ((X ▸ (M ▸ (C ▸ (M ▸ Q)))) ▸ Z) (five_left X M C M Q Z) at v (four_right M X M C (M ▸ (Q ▸ Z)) at v (a, b, e, p, parted_to d (y ∷ rest) (at + length a) b q))
 
   pub parted_from : (d : ℕ) (xs : List X) (at : ℕ) (v : List ℕ) → (Many is_blank ▸ (Parted (P d) xs ‿ Exactly (codes ")"))) at v → Items P d xs at v
   parted_from d [] at v (a, b, e, p, (s, t, f, q, r)) = q
   parted_from d (x ∷ []) at v h = h
   parted_from d (x ∷ y ∷ rest) at v h =
-      let one = behind (Many is_blank) _ _ (λ i u t.
-      let five = to_right (P d x) (Many is_blank ▸ (Exactly (codes ",") ▸ (Many is_blank ▸ Parted (P d) (y ∷ rest)))) (Many is_blank ▸ Exactly (codes ")")) i u t in
-      let four = behind (P d x) _ _ (λ j z s. to_right (Many is_blank) (Exactly (codes ",") ▸ (Many is_blank ▸ Parted (P d) (y ∷ rest))) (Many is_blank ▸ Exactly (codes ")")) j z s) i u five in
-      let three = behind (P d x) _ _ (λ j z s. behind (Many is_blank) _ _ (λ k y2 s2. to_right (Exactly (codes ",")) (Many is_blank ▸ Parted (P d) (y ∷ rest)) (Many is_blank ▸ Exactly (codes ")")) k y2 s2) j z s) i u four in
-      let two = behind (P d x) _ _ (λ j z s. to_left (Many is_blank) (Exactly (codes ",")) (Many is_blank ▸ (Parted (P d) (y ∷ rest) ‿ Exactly (codes ")"))) j z
-      (behind (Many is_blank) _ _ (λ k y2 s2. behind (Exactly (codes ",")) _ _ (λ m y3 s3. to_right (Many is_blank) (Parted (P d) (y ∷ rest)) (Many is_blank ▸ Exactly (codes ")")) m y3 s3) k y2 s2) j z s)) i u three in
-      to_left (P d x) (Delimiter d false) (Many is_blank ▸ (Parted (P d) (y ∷ rest) ‿ Exactly (codes ")"))) i u two) at v h in
-      let inner = to_left (Many is_blank) (P d x ▸ Delimiter d false) (Many is_blank ▸ (Parted (P d) (y ∷ rest) ‿ Exactly (codes ")"))) at v one in
-      let (a, b, e, p, q) = inner in (a, b, e, p, parted_from d (y ∷ rest) (at + length a) b q)
+      let X = P d x in let M = Many is_blank in let C = Exactly (codes ",") in let Q = Parted (P d) (y ∷ rest) in let Z = Many is_blank ▸ Exactly (codes ")") in
+      let (a, b, e, p, q) = four_left M X M C (M ▸ (Q ▸ Z)) at v (behind M ((X ▸ (M ▸ (C ▸ (M ▸ Q)))) ▸ Z) (X ▸ (M ▸ (C ▸ (M ▸ (Q ▸ Z))))) (five_right X M C M Q Z) at v h) in
+      (a, b, e, p, parted_from d (y ∷ rest) (at + length a) b q)
 
   -- an opening bracket, and then items
   abbrev pub Opened : ℕ → List X → ℕ → List ℕ → Type 0

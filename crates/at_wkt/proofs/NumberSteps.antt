@@ -3,21 +3,18 @@
 use Rattle.std.proofs.Common.{◌≡◌, ℕ, ◌+◌, ◌-◌, ◌≤◌, inl, inr, Bool, true, false, not, ◌||◌, IsTrue, List, [], ◌∷◌, ◌++◌, length, take, drop, Option, Some, None, IfSome, is_some, Result, ℤ, refl, sym, ◌∙◌, ap, subst, arith, append_assoc, length-drop, true≢false}
 use native.Mathlib.Decide.{dec_lt}
 use Rattle.std.specs.List.{AllByRecursion}
+use Rattle.std.proofs.ByRecursion.{All-append}
+use Rattle.std.proofs.lemmas.Bool.{not-true}
 use Rattle.std.proofs.lemmas.List.{drop-take, get_or_past, take_rest}
 use Rattle.std.proofs.lemmas.Option.{none-some, same_Some}
-use Rattle.at_text.specs.Texts.{is_digit, is_one_of}
+use Rattle.at_wkt.proofs.Names.{is_digit, is_one_of, Coords, FixedFault, Numeral, fraction_text, exponent_text, numeral_text, IsAtMostOneOf, AreWktDigits, IsWktNumeral, WktNumber, Dimension, SpellsNumber, between, next, Allows, Stuck, Leads, NumberStands, NumberBreaks, NumberSkips}
 use Rattle.at_text.specs.Prefix.{LongestViable, TakesLongest}
 use Rattle.at_fixed.specs.declared.notation.Notation.TheVariants.{Wkt}
-use Rattle.at_fixed.specs.declared.rounding.Coords.{Coords}
-use Rattle.at_fixed.specs.declared.rounding.FixedFault.{FixedFault}
 use Rattle.at_fixed.specs.Fixed.{fixed_of, IsFixedOf}
 use Rattle.at_text.specs.Parts.{At}
-use Rattle.at_fixed.specs.Numerals.{Exponent, Numeral, fraction_text, exponent_text, numeral_text, IsAtMostOneOf, AreDigits, AreSomeDigits, IsExponent, AreWktDigits, IsWktNumeral, WktNumber, NumberOf, SpellsNumeral}
-use Rattle.at_wkt.specs.declared.line.dimension.Dimension.{Dimension}
-use Rattle.at_wkt.specs.Geometry.{SpellsNumber}
-use Rattle.at_fixed.specs.NumberSoFar.{between}
-use Rattle.at_wkt.specs.Readers.{next, Allows, Stuck, Leads, NumberStands, NumberBreaks, NumberSkips}
+use Rattle.at_fixed.specs.Numerals.{Exponent, AreDigits, AreSomeDigits, IsExponent, NumberOf, SpellsNumeral}
 use Rattle.at_wkt.proofs.Leads.{part-more, offset, Ahead, Begins, Inhabited, append_cases, leads_ahead, counts}
+use Rattle.at_wkt.proofs.Agreement.{byte_passes}
 use Rattle.at_wkt.proofs.Steps.{Then}
 
 -- the bytes that numbers have
@@ -28,8 +25,7 @@ abbrev pub AreNumberBytes : List ℕ → Type 0
 AreNumberBytes w = AllByRecursion (λ b. IsTrue (in_number b)) w
 
 both_parts : (a b : List ℕ) → AreNumberBytes a → AreNumberBytes b → AreNumberBytes (a ++ b)
-both_parts [] b h k = k
-both_parts (x ∷ a) b (h, hs) k = (h, both_parts a b hs k)
+both_parts = All-append (λ b. IsTrue (in_number b))
 
 digit_byte : (b : ℕ) → is_digit b ≡ true → in_number b ≡ true
 digit_byte b h = grind (arith, h)
@@ -67,10 +63,6 @@ pub number_bytes : (n : Numeral) → IsWktNumeral n → AreNumberBytes (numeral_
 number_bytes n h = let (whole, fraction) = front_bytes n.whole n.fraction h.digits in
     both_parts n.sign _ (sign_bytes n.sign h.sign) (both_parts n.whole _ whole (both_parts (fraction_text n.fraction) _ fraction (exponent_bytes n.exponent h.exponent)))
 
-byte_in : (a : List ℕ) (e : ℕ) (es : List ℕ) → AreNumberBytes (a ++ (e ∷ es)) → in_number e ≡ true
-byte_in [] e es (h, hs) = h
-byte_in (b ∷ a) e es (h, hs) = byte_in a e es hs
-
 -- the bytes of the rest up to a place
 pub rest_part : (w : List ℕ) (i n : ℕ) → take n (drop i w) ≡ between w i (i + n)
 rest_part w i n = sym (drop-take i n w)
@@ -94,7 +86,7 @@ next_end w j h = get_or_past w j 256 h
 nothing_beyond : (w : List ℕ) (i j : ℕ) (es : List ℕ) → i ≤ j → j ≤ length w → LongestViable WktNumber (drop i w) (j - i) → WktNumber (between w i j ++ (next w j ∷ es)) → ⊥
 nothing_beyond w i j es h k l (n, hn, en) = elim (dec_lt j (length w)) [
   | yes below ↦ l.longest (omega (arith, length-drop i w)) (es, (n, hn, ap (λ z. z ++ es) (rest_beyond w i j h ∙ part-more w i j h below) ∙ (append_assoc (between w i j) (next w j ∷ []) es ∙ en)))
-  | no past ↦ end_no_byte (next w j) (next_end w j (omega arith)) (byte_in (between w i j) (next w j) es (subst AreNumberBytes (sym en) (number_bytes n hn)))
+  | no past ↦ end_no_byte (next w j) (next_end w j (omega arith)) (byte_passes in_number (between w i j) (next w j) es (subst AreNumberBytes (sym en) (number_bytes n hn)))
 ]
 
 -- a number that agrees with the text, where a byte that no number has follows it, stands up to the place
@@ -107,7 +99,7 @@ number_ends w i j h k l v b x s word stops (t, es) e =
           let (more, (n, hn, en)) = front_viable w i j h l in
           let first : b ≡ m = cc in
           let line : v ++ (m ∷ (ms ++ more)) ≡ numeral_text n = sym (append_assoc v (m ∷ ms) more) ∙ (ap (λ z. z ++ more) (sym f) ∙ en) in
-          true≢false (sym (byte_in v m (ms ++ more) (subst AreNumberBytes (sym line) (number_bytes n hn))) ∙ (ap in_number (sym first) ∙ stops)))
+          true≢false (sym (byte_passes in_number v m (ms ++ more) (subst AreNumberBytes (sym line) (number_bytes n hn))) ∙ (ap in_number (sym first) ∙ stops)))
       | inr (inr (m, ms, f, g)) ↦ absurd (
           let line : m ∷ (ms ++ (b ∷ x)) ≡ next w j ∷ t = sym g ∙ es in
           let first : m ≡ next w j = cc in
@@ -121,16 +113,12 @@ Number d p = At p.1 (SpellsNumber p.0)
 abbrev pub stops_number : ℕ → Bool
 stops_number b = not (in_number b)
 
-stops_false : (b : ℕ) (t : Bool) → in_number b ≡ t → not t ≡ true → t ≡ false
-stops_false b true e h = absurd (true≢false (sym h))
-stops_false b false e h = refl
-
 module _ {Y : Type 0} (Q : ℕ → Y → ℕ → List ℕ → Type 0) (begins : Begins stops_number Q) (base : ℕ) (w : List ℕ) (i : ℕ) (c : Dimension) (j : ℕ) where
   pub ends_there : i ≤ j → j ≤ length w → LongestViable WktNumber (drop i w) (j - i) → (d : ℕ) (y : Y) (v u r s : List ℕ) (at : ℕ)
       → WktNumber v → Q d y at u → Ahead w j s → v ++ (u ++ r) ≡ between w i j ++ s → v ≡ between w i j
   ends_there h k l d y v u r s at word q ahead e =
       let (b, x, eu, stops) = begins d y at u q in
-      number_ends w i j h k l v b (x ++ r) s word (stops_false b (in_number b) refl stops) ahead (ap (λ z. v ++ (z ++ r)) (sym eu) ∙ e)
+      number_ends w i j h k l v b (x ++ r) s word (not-true (in_number b) stops) ahead (ap (λ z. v ++ (z ++ r)) (sym eu) ∙ e)
 
   pub number_leads : (n : Numeral) → NumberStands w i j n → Leads (Then Number (λ p. Q)) Q base w i c j c (λ y. ((n, base + i), y))
   number_leads n h = leads_ahead (Then Number (λ p. Q)) Q base w i c j c (λ y. ((n, base + i), y)) stops_number begins h.order h.within (λ d a. a)

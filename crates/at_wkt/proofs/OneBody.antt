@@ -3,13 +3,9 @@
 use Rattle.std.proofs.Common.{◌≡◌, ℕ, ◌+◌, ◌⊎◌, inl, inr, Bool, true, false, ◌||◌, ◌==◌, IsTrue, List, [], ◌∷◌, ◌++◌, length, codes, Option, Some, None, refl, sym, ◌∙◌, ap, subst, append_assoc, true≢false, arith}
 use Rattle.std.proofs.ByRecursion.{All-append}
 use Rattle.std.specs.List.{AllByRecursion}
-use Rattle.std.specs.Char.{to_ascii_uppercase}
-use Rattle.at_text.specs.Parts.{Exactly, Many, ◌▸◌, At}
-use Rattle.at_fixed.specs.Numerals.{Numeral}
+use Rattle.at_wkt.proofs.Names.{Exactly, Many, ◌▸◌, Numeral, Position, is_blank, SpellsNumber, SpellsFurther, SpellsPosition, EmptyWord, EmptyOrParted, SpellsRing, SpellsList, SpellsPoint, SpellsPointMember, SpellsArea, opens, delimiter, Delimiter, Item, Items, FurtherNumbers, EnclosedPosition}
+use Rattle.at_text.specs.Parts.{At}
 use Rattle.at_fixed.proofs.NumeralParts.{one_numeral}
-use Rattle.at_wkt.specs.Positions.{Position}
-use Rattle.at_wkt.specs.Geometry.{is_blank, SpellsNumber, SpellsFurther, SpellsPosition, EmptyWord, EmptyOrParted, SpellsRing, SpellsList, SpellsPoint, SpellsPointMember, SpellsArea}
-use Rattle.at_wkt.specs.Readers.{opens, delimiter, Delimiter, Item, Items, FurtherNumbers, EnclosedPosition}
 use Rattle.at_wkt.proofs.Agreement.{pair_same, Agree, OneValue, Fails, Passes, agree_then, agree_map, agree_exactly, agree_any_case, agree_front, agree_many, agree_some, agree_apart, agree_turned, agree_as, fails_then, passes_then, fails_many, fails_some, not_fails}
 use Rattle.at_wkt.proofs.Leads.{Begins}
 use Rattle.at_wkt.proofs.Steps.{no_blank}
@@ -18,7 +14,7 @@ use Rattle.at_wkt.proofs.Lists.{brackets_same}
 use Rattle.at_wkt.proofs.PositionSteps.{begins_number, number_first}
 use Rattle.at_wkt.proofs.ItemSteps.{Gap, SecondNumber, TwoNumbers, position_of, EndedPosition, position_same}
 use Rattle.at_wkt.proofs.ListSteps.{ended_begins}
-use Rattle.at_wkt.proofs.BodySteps.{is_open, Choice, choice_begins, point_choice, list_choice, parted_choice, Bracketed, ring_begins, empty_first, blankless, member_begins}
+use Rattle.at_wkt.proofs.BodySteps.{is_open, Choice, choice_begins, point_choice, list_choice, parted_choice, Bracketed, blankless, member_begins, empty_fails, ring_no_blank, number_shut}
 
 -- ---- delimiters
 
@@ -71,7 +67,7 @@ blank_no_number b h = grind (arith, h)
 begin_no_blank : (b : ℕ) → begins_number b ≡ true → is_blank b ≡ false
 begin_no_blank b h = grind (arith, h)
 
-wider : (p q : ℕ → Bool) → ((b : ℕ) → p b ≡ true → q b ≡ true) → (w : List ℕ) → AllByRecursion (λ b. IsTrue (p b)) w → AllByRecursion (λ b. IsTrue (q b)) w
+pub wider : (p q : ℕ → Bool) → ((b : ℕ) → p b ≡ true → q b ≡ true) → (w : List ℕ) → AllByRecursion (λ b. IsTrue (p b)) w → AllByRecursion (λ b. IsTrue (q b)) w
 wider p q f [] h = tt
 wider p q f (b ∷ w) (h, hs) = (f b h, wider p q f w hs)
 
@@ -167,12 +163,6 @@ module _ {X : Type 0} (P : ℕ → X → ℕ → List ℕ → Type 0) (one : One
 
 -- ---- in brackets, or EMPTY
 
-letter_shut : (b : ℕ) → to_ascii_uppercase b ≡ 0x45 → is_open b ≡ false
-letter_shut b h = grind (arith, h)
-
-empty_fails : Fails is_open EmptyWord
-empty_fails at v h = let (b, t, e, k) = empty_first v h in (b, t, e, letter_shut b k)
-
 pub one_choice : {X Y : Type 0} (P : ℕ → Y → ℕ → List ℕ → Type 0) (Q : ℕ → X → ℕ → List ℕ → Type 0) (f : X → Y) (none : Y) → Choice P Q f none → OneValue Q → OneValue P
 one_choice P Q f none choice one d e x y at v w r s h k line = elim (choice.cases d x at v h) [
   | inl (ex, hx) ↦ elim (choice.cases e y at w k) [
@@ -204,13 +194,8 @@ one_list = one_choice SpellsList SpellsRing (λ ps. Some ps) None list_choice on
 pub one_parted : {X : Type 0} (P : ℕ → X → ℕ → List ℕ → Type 0) → OneValue (Item P) → OneValue (λ d xs. EmptyOrParted (P d) xs)
 one_parted P one = one_choice (λ d xs. EmptyOrParted (P d) xs) (Bracketed P) (λ xs. xs) [] (parted_choice P) (one_bracketed P one)
 
-ring_shuts : Begins no_blank SpellsRing
-ring_shuts d ps at v h = let (b, t, e, k) = ring_begins d ps at v h in (b, t, e, open_no_blank b k) where
-  open_no_blank : (b : ℕ) → is_open b ≡ true → no_blank b ≡ true
-  open_no_blank b h = grind (arith, h)
-
 pub one_area : OneValue SpellsArea
-one_area = one_parted SpellsRing (one_item SpellsRing ring_shuts one_ring)
+one_area = one_parted SpellsRing (one_item SpellsRing ring_no_blank one_ring)
 
 pub one_lines : OneValue (λ d ls. EmptyOrParted (SpellsList d) ls)
 one_lines = one_parted SpellsList (one_item SpellsList (blankless SpellsList (choice_begins SpellsList SpellsRing (λ ps. Some ps) None list_choice)) one_list)
@@ -227,11 +212,8 @@ ended_member d None last at v h = inl h
 ended_member d (Some p) last at v (a, b, e, inl h, q) = inr (p, refl, (a, b, e, h, q))
 ended_member d (Some p) last at v (a, b, e, inr h, q) = inl (a, b, e, h, q)
 
-begins_shut : (b : ℕ) → begins_number b ≡ true → opens b ≡ false
-begins_shut b h = grind (arith, h)
-
 bare_fails : (d : ℕ) (p : Position × Bool) → Fails opens (EndedPosition d p)
-bare_fails d p at v h = let (b, t, e, k) = ended_begins d p at v h in (b, t, e, begins_shut b k)
+bare_fails d p at v h = let (b, t, e, k) = ended_begins d p at v h in (b, t, e, number_shut b k)
 
 point_opens : (d : ℕ) (p : Option Position) (last : Bool) → Passes opens (SpellsPoint d p ▸ Delimiter d last)
 point_opens d p last = passes_then opens (SpellsPoint d p) (Delimiter d last) (choice_begins SpellsPoint EnclosedPosition (λ p. Some p) None point_choice d p)

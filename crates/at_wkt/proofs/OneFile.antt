@@ -2,16 +2,9 @@
 -- For the crates above.
 use Rattle.std.proofs.Common.{◌≡◌, ℕ, if◌then◌else◌, List, ◌++◌, length, take, drop, Option, Some, None, is_none, refl, sym, ◌∙◌, ap, arith, length-take, take-append-drop}
 use Rattle.std.proofs.lemmas.Option.{none-some, same_Some}
-use Rattle.at_text.specs.declared.faults.Fault.{Fault}
-use Rattle.at_text.specs.Faults.{first_of}
-use Rattle.at_text.specs.Syntax.{IsSyntaxFault, stop_fault}
+use Rattle.at_wkt.proofs.Names.{Fault, first_of, IsSyntaxFault, stop_fault, Coords, Shape, Prefix, Geometry, IsLineOf, WktLine, shape_of, faults_of, empty_shape, SpellsLine, HasLineShape, HasFirstLineFault, HasFaultOrShape, IsPrefixOf, IsPrefixFault, unspelled, faulty}
 use Rattle.at_text.proofs.Machine.{longest_unique}
-use Rattle.at_fixed.specs.declared.rounding.Coords.{Coords}
-use Rattle.at_geom.specs.declared.shapes.Shape.{Shape}
-use Rattle.at_wkt.specs.declared.answers.Prefix.{Prefix}
-use Rattle.at_wkt.specs.Geometry.{Geometry, IsLineOf, WktGeometry, WktLine}
-use Rattle.at_wkt.specs.Meaning.{shape_of, faults_of, empty_shape}
-use Rattle.at_wkt.specs.Answers.{SpellsLine, HasLineShape, HasFirstLineFault, HasFaultOrShape, IsPrefixOf, IsPrefixFault, unspelled, faulty}
+use Rattle.at_wkt.specs.Geometry.{WktGeometry}
 use Rattle.at_wkt.proofs.OneGeometry.{one_line, one_prefix}
 
 -- bytes that are no word of a language have one syntax fault

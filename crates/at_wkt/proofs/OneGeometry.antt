@@ -1,24 +1,20 @@
 -- A text spells at most one geometry, and no geometry's spelling is a proper prefix of a spelling.
 -- For `only` in what `read_line` and `read_geometry` answer (`HasLineShape`, `HasFirstLineFault`, `IsPrefixOf`).
-use Rattle.std.proofs.Common.{◌≡◌, ℕ, ◌+◌, inl, inr, Bool, true, false, ◌||◌, ◌==◌, IsTrue, List, [], ◌∷◌, ◌++◌, length, codes, Option, Some, None, refl, sym, ◌∙◌, ap, subst, append-nil, append_assoc, true≢false, arith}
+use Rattle.std.proofs.Common.{◌≡◌, ℕ, ◌+◌, inl, inr, Bool, true, false, ◌||◌, ◌==◌, IsTrue, List, [], ◌++◌, length, codes, Option, Some, None, refl, sym, ◌∙◌, ap, subst, append-nil, append_assoc, true≢false, arith}
 use Rattle.std.specs.List.{AllByRecursion}
+use Rattle.std.proofs.ByRecursion.{All-append}
 use Rattle.std.specs.Char.{to_ascii_uppercase}
 use Rattle.std.proofs.lemmas.List.{append_cancel_left}
-use Rattle.at_text.specs.Parts.{Nothing, Exactly, AnyCase, Many, ◌▸◌}
-use Rattle.at_wkt.specs.declared.line.kinds.Kind.{Kind}
-use Rattle.at_wkt.specs.Positions.{Position, Positions}
-use Rattle.at_wkt.specs.declared.line.kinds.Kind.TheVariants.{Point, LineString, Polygon, MultiPoint, MultiLineString, MultiPolygon, GeometryCollection}
-use Rattle.at_wkt.specs.Geometry.{Geometry, point, line_string, polygon, multi_point, multi_line_string, multi_polygon, collection, Geometries, no_geometries, geometry_and, is_blank, EmptyWord, EmptyOrParted, Letter, SpellsPoint, SpellsList, SpellsPointMember, SpellsArea, SpellsGeometry, SpellsGeometries, SpellsFurtherGeometries, IsLineOf}
-use Rattle.at_wkt.specs.Readers.{opens, word_of, Delimiter, Body, FurtherThen}
+use Rattle.at_wkt.proofs.Names.{Exactly, AnyCase, Many, ◌▸◌, Kind, Position, Positions, Point, LineString, Polygon, MultiPoint, MultiLineString, MultiPolygon, GeometryCollection, Geometry, point, line_string, polygon, multi_point, multi_line_string, multi_polygon, collection, Geometries, no_geometries, geometry_and, is_blank, EmptyWord, EmptyOrParted, Letter, SpellsPoint, SpellsList, SpellsPointMember, SpellsArea, SpellsGeometry, SpellsFurtherGeometries, IsLineOf, opens, word_of, Delimiter, Body, FurtherThen, EnclosedPosition, SpellsRing}
+use Rattle.at_text.specs.Parts.{Nothing}
+use Rattle.at_wkt.specs.Geometry.{SpellsGeometries}
 use Rattle.at_wkt.proofs.Agreement.{Agree, OneValue, Fails, Passes, agree_then, agree_map, agree_exactly, agree_any_case, agree_many, agree_apart, agree_turned, agree_as, fails_then, not_fails}
 use Rattle.at_wkt.proofs.Lists.{to_left, to_right, behind}
 use Rattle.at_wkt.proofs.WordSteps.{kind_only, one_letter, two_letters}
-use Rattle.at_wkt.proofs.BodySteps.{is_open, empty_first, choice_begins, point_choice, list_choice, parted_choice, Bracketed}
+use Rattle.at_wkt.proofs.BodySteps.{is_open, choice_begins, point_choice, list_choice, parted_choice, Bracketed, empty_opens, empty_fails}
 use Rattle.at_wkt.proofs.GeometrySteps.{geometry_parts, further_join, Spelling}
 use Rattle.at_wkt.proofs.CollectionSteps.{kind_first}
-use Rattle.at_wkt.specs.Readers.{EnclosedPosition}
-use Rattle.at_wkt.specs.Geometry.{SpellsRing}
-use Rattle.at_wkt.proofs.OneBody.{blank_delimiter, one_point, one_list, one_area, one_points, one_lines, one_areas}
+use Rattle.at_wkt.proofs.OneBody.{blank_delimiter, one_point, one_list, one_area, one_points, one_lines, one_areas, wider}
 
 -- ---- blanks and a letter between the word and the body
 
@@ -43,14 +39,6 @@ m_head b h = grind (arith, h)
 opens_no_head : (b : ℕ) → opens b ≡ true → in_head b ≡ false
 opens_no_head b h = grind (arith, h)
 
-blanks_head : (w : List ℕ) → AllByRecursion (λ b. IsTrue (is_blank b)) w → AreHead w
-blanks_head [] h = tt
-blanks_head (b ∷ w) (h, hs) = (blank_head b h, blanks_head w hs)
-
-both_heads : (a b : List ℕ) → AreHead a → AreHead b → AreHead (a ++ b)
-both_heads [] b h k = k
-both_heads (x ∷ a) b (h, hs) k = (h, both_heads a b hs k)
-
 letter_head : (d at : ℕ) (w : List ℕ) → Letter d at w → AreHead w
 letter_head d at w (inl (none, low, high)) = subst AreHead (sym none) tt
 letter_head d at w (inr (inl (inl z, more))) = let (b, e, h) = one_letter w w 0x5A z in subst AreHead (sym e) (z_head b h, tt)
@@ -62,7 +50,7 @@ head_plain : (d : ℕ) (B : ℕ → List ℕ → Type 0) (at : ℕ) (v : List �
 head_plain d B at v h =
     let one : ((Many is_blank ▸ Letter d) ▸ (Many is_blank ▸ B)) at v = to_left (Many is_blank) (Letter d) (Many is_blank ▸ B) at v h in
     let (u, z, g, (p, q, i, (l, m, j, hl, hm), hq), hz) = to_left (Many is_blank ▸ Letter d) (Many is_blank) B at v one in
-    (u, z, g, subst AreHead (sym (i ∙ ap (λ t. t ++ q) j)) (both_heads (l ++ m) q (both_heads l m (blanks_head l hl) (letter_head d (at + length l) m hm)) (blanks_head q hq)), hz)
+    (u, z, g, subst AreHead (sym (i ∙ ap (λ t. t ++ q) j)) (All-append (λ b. IsTrue (in_head b)) (l ++ m) q (All-append (λ b. IsTrue (in_head b)) l m (wider is_blank in_head blank_head l hl) (letter_head d (at + length l) m hm)) (wider is_blank in_head blank_head q hq)), hz)
 
 opens_stops : (A : ℕ → List ℕ → Type 0) → Passes opens A → Fails in_head A
 opens_stops A h at v a = let (b, t, e, k) = h at v a in (b, t, e, opens_no_head b k)
@@ -106,16 +94,6 @@ parted_opens P d xs = choice_begins (λ d xs. EmptyOrParted (P d) xs) (Bracketed
 abbrev Members : Geometries → ℕ → List ℕ → Type 0
 Members gs i v = SpellsGeometries i v gs
 
-empty_opens : Passes opens EmptyWord
-empty_opens at v h = let (b, t, e, k) = empty_first v h in (b, t, e, letter_opens b k) where
-  letter_opens : (b : ℕ) → to_ascii_uppercase b ≡ 0x45 → opens b ≡ true
-  letter_opens b h = grind (arith, h)
-
-empty_shuts : Fails is_open EmptyWord
-empty_shuts at v h = let (b, t, e, k) = empty_first v h in (b, t, e, letter_shut b k) where
-  letter_shut : (b : ℕ) → to_ascii_uppercase b ≡ 0x45 → is_open b ≡ false
-  letter_shut b h = grind (arith, h)
-
 members_opens : (gs : Geometries) → Passes opens (Members gs)
 members_opens no_geometries at v h = empty_opens at v h
 members_opens (geometry_and g gs) at v (a, b, e, here, q) = (0x28, b, e ∙ ap (λ z. z ++ b) here, refl)
@@ -135,13 +113,11 @@ abbrev Ended : Geometry → Geometries → ℕ → List ℕ → Type 0
 Ended g gs = Exactly (codes "(") ▸ (Many is_blank ▸ (Spelling g ▸ FurtherThen gs Nothing))
 
 members_plain : (g : Geometry) (gs : Geometries) (at : ℕ) (v : List ℕ) → Members (geometry_and g gs) at v → Ended g gs at v
-members_plain g gs at v h =
+members_plain g gs at v (a, b, e, here, (c, d, f, hm, q)) =
     let F : ℕ → List ℕ → Type 0 = λ i v. SpellsFurtherGeometries i v gs in
-    let D : ℕ → List ℕ → Type 0 = Delimiter 0 true in
-    behind (Exactly (codes "(")) (Many is_blank ▸ ((Spelling g ▸ F) ▸ D)) (Many is_blank ▸ (Spelling g ▸ FurtherThen gs Nothing))
-    (λ i u q. behind (Many is_blank) ((Spelling g ▸ F) ▸ D) (Spelling g ▸ FurtherThen gs Nothing)
-    (λ i2 u2 q2. behind (Spelling g) (F ▸ D) (FurtherThen gs Nothing) (λ i3 u3 q3. further_join gs Nothing i3 u3 (behind F D (D ▸ Nothing) (λ i4 u4 q4. (u4, [], sym (append-nil u4), q4, refl)) i3 u3 q3)) i2 u2
-    (to_right (Spelling g) F D i2 u2 q2)) i u q) at v h
+    let (x, y, i, hg, r) = to_right (Spelling g) F (Delimiter 0 true) (at + length a + length c) d q in
+    let more = behind F (Delimiter 0 true) (Delimiter 0 true ▸ Nothing) (λ j u t. (u, [], sym (append-nil u), t, refl)) (at + length a + length c + length x) y r in
+    (a, b, e, here, (c, d, f, hm, (x, y, i, hg, further_join gs Nothing _ y more)))
 
 one_nothing : Agree Nothing Nothing (Unit {0})
 one_nothing at v w r s p q line = (tt, p ∙ sym q)
@@ -171,8 +147,8 @@ mutual
 
   one_all : (gs hs : Geometries) → Agree (Members gs) (Members hs) (gs ≡ hs)
   one_all no_geometries no_geometries at v w r s p q line = (refl, (agree_any_case (codes "EMPTY") at v w r s p q line).1)
-  one_all no_geometries (geometry_and h hs) at v w r s p q line = agree_turned (Members (geometry_and h hs)) EmptyWord (agree_apart is_open (Members (geometry_and h hs)) EmptyWord (members_open h hs) empty_shuts) at v w r s p q line
-  one_all (geometry_and g gs) no_geometries at v w r s p q line = agree_apart is_open (Members (geometry_and g gs)) EmptyWord (members_open g gs) empty_shuts at v w r s p q line
+  one_all no_geometries (geometry_and h hs) at v w r s p q line = agree_turned (Members (geometry_and h hs)) EmptyWord (agree_apart is_open (Members (geometry_and h hs)) EmptyWord (members_open h hs) empty_fails) at v w r s p q line
+  one_all (geometry_and g gs) no_geometries at v w r s p q line = agree_apart is_open (Members (geometry_and g gs)) EmptyWord (members_open g gs) empty_fails at v w r s p q line
   one_all (geometry_and g gs) (geometry_and h hs) at v w r s p q line =
       let inner : Agree (Spelling g ▸ FurtherThen gs Nothing) (Spelling h ▸ FurtherThen hs Nothing) ((g ≡ h) × (gs ≡ hs)) =
       agree_then (Spelling g) (FurtherThen gs Nothing) (Spelling h) (FurtherThen hs Nothing) (one_geometry g h) (one_further gs hs) in

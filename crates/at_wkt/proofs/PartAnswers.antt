@@ -1,33 +1,18 @@
 -- What the functions that read parts in brackets answer.
 -- For `read_line`, `read_geometry` and `Room::check_line`: the readers of `src/parts.rt`.
-use Rattle.std.proofs.Common.{◌≡◌, ℕ, ◌+◌, ◌-◌, ◌<◌, ◌≤◌, Bool, true, false, ◌==◌, List, [], ◌∷◌, ◌++◌, length, map, flat_map, codes, Some, None, Result, refl, sym, ◌∙◌, ap, subst, arith, append-nil, append_assoc}
+use Rattle.std.proofs.Common.{lit<, ◌≡◌, ℕ, ◌+◌, ◌-◌, ◌<◌, ◌≤◌, Bool, true, false, ◌==◌, List, [], ◌∷◌, ◌++◌, length, map, flat_map, codes, Some, None, Result, refl, sym, ◌∙◌, ap, subst, arith, append-nil, append_assoc}
 use native.Mathlib.Decide.{dec_lt}
-use Rattle.std.proofs.lemmas.List.{get_or_past}
 use Rattle.std.specs.Result.{MatchResult}
-use Rattle.at_text.specs.declared.faults.Fault.{Fault}
-use Rattle.at_text.specs.Faults.{first_of}
-use Rattle.at_geom.specs.declared.positions.Pos.{Pos}
+use Rattle.at_wkt.proofs.Names.{Fault, first_of, Pos, Dimension, Halt, Rules, PositionRead, PathRead, Role, Read, ItemRead, Position, Positions, position_faults, path_of, faults_of_ring, polygons_of, faults_of_area, SpellsPosition, SpellsRing, SpellsPoint, SpellsPointMember, EmptyOrParted, is_blank, between, IfStopped, next, Spelt, Stuck, SkipsBlanks, Delimiter, Item, Items, HasCount, KeywordStands, KeywordBreaks, DelimiterStands, DelimiterBreaks, opens, PositionStands, PathStands, PartStands, ItemStands, ItemsSoFar, Grows, EnclosedPosition, added_position, added_path, added_point, point_faults, faults_of_path}
 use Rattle.at_geom.specs.declared.shapes.Polygon.{Polygon as PolygonOf}
-use Rattle.at_wkt.specs.declared.line.dimension.Dimension.{Dimension}
-use Rattle.at_text.specs.declared.halts.Halt.{Halt}
-use Rattle.at_wkt.specs.declared.line.sources.Rules.{Rules}
-use Rattle.at_wkt.specs.declared.line.positions.PositionRead.{PositionRead}
-use Rattle.at_wkt.specs.declared.line.paths.PathRead.{PathRead}
-use Rattle.at_wkt.specs.declared.line.paths.Role.{Role}
-use Rattle.at_wkt.specs.declared.line.parts.Read.{Read}
-use Rattle.at_wkt.specs.declared.line.parts.ItemRead.{ItemRead}
-use Rattle.at_wkt.specs.Positions.{Position, Positions, position_faults, path_of, faults_of_ring}
-use Rattle.at_wkt.specs.Meaning.{polygons_of, faults_of_area}
-use Rattle.at_wkt.specs.Geometry.{SpellsPosition, SpellsRing, SpellsPoint, SpellsPointMember, EmptyOrParted}
-use Rattle.at_fixed.specs.NumberSoFar.{between}
-use Rattle.at_text.specs.Halts.{IfStopped}
-use Rattle.at_wkt.specs.Readers.{next, Spelt, Stuck, SkipsBlanks, Delimiter, Item, Items, HasCount, KeywordStands, KeywordBreaks, DelimiterStands, DelimiterBreaks, opens, PositionStands, PathStands, PartStands, ItemStands, ItemsSoFar, Grows, EnclosedPosition, added_position, added_path, added_point, point_faults, faults_of_path}
 use Rattle.at_fixed.proofs.DigitParts.{part-part}
 use Rattle.at_wkt.proofs.Leads.{part-cons, Begins, counts}
-use Rattle.at_wkt.proofs.Steps.{no_blank, AreBlanks, blank_at, not_blank, stuck_first, when_leads}
+use Rattle.at_wkt.proofs.ByteSteps.{byte_inside, test_eq}
+use Rattle.at_wkt.proofs.Agreement.{byte_passes}
+use Rattle.at_wkt.proofs.Steps.{no_blank, AreBlanks, not_blank, stuck_first, when_leads}
 use Rattle.at_wkt.proofs.ItemSteps.{delimiter_spelt, delimiter_stuck}
 use Rattle.at_wkt.proofs.ListSteps.{item_stuck, item_spelt, item_unended, bracket_leads, enclosed_leads, last_spelt, last_stuck, comma_stuck, position_inhabited, ended_begins}
-use Rattle.at_wkt.proofs.PositionSteps.{begins_number}
+use Rattle.at_wkt.proofs.PositionSteps.{begin_no_blank}
 use Rattle.at_wkt.proofs.BodySteps.{Choice, is_open, choice_open, choice_empty, choice_broken, choice_begins, parted_choice, point_choice, Bracketed, ring_begins, ring_inhabited, member_when, member_begins, bare_spelt, bare_stuck}
 use Rattle.at_wkt.proofs.PathAnswers.{so_far_end}
 use Rattle.at_text.proofs.Exits.{answers_by}
@@ -187,10 +172,8 @@ module _ (rules : Rules) (w : List ℕ) (i a : ℕ) (c : Dimension) (skips : Ski
         let low : j ≤ a = omega arith in
         let blanks : AreBlanks (between w i j ++ between w j a) = subst AreBlanks (part-part w i j a h.order low skips.within) skips.blanks in
         let here : between w i j ++ between w j a ≡ b1 ++ (b ∷ (t ++ between w j a)) = ap (λ z. z ++ between w j a) (e ∙ ap (λ z. b1 ++ z) eb) ∙ append_assoc b1 (b ∷ t) (between w j a) in
-        not_blank b (number_no_blank b hn) (blank_at b1 b (t ++ between w j a) (subst AreBlanks here blanks)))
-  ] where
-    number_no_blank : (b : ℕ) → begins_number b ≡ true → no_blank b ≡ true
-    number_no_blank b h = grind (arith, h)
+        not_blank b (begin_no_blank b hn) (byte_passes is_blank b1 b (t ++ between w j a) (subst AreBlanks here blanks)))
+  ]
 
   bare_low : (n : ℕ) → HasCount c → Stuck (Item SpellsPosition) rules.base w i c n → a ≤ n
   bare_low n (d, allowed) h = elim (dec_lt n a) [
@@ -228,14 +211,6 @@ position_item rules w i c read old new h e = record {
 pub none_faults : (fs : List Fault) → fs ++ [] ≡ fs
 none_faults fs = append-nil fs
 
-byte_test : (b : ℕ) (t : Bool) → t ≡ (b == 0x28) → t ≡ true → b ≡ 0x28
-byte_test b t e h = grind (arith, e, h)
-
-open_end : (b : ℕ) → b ≡ 256 → b ≡ 0x28 → ⊥
-open_end b e f = omega (arith, e, f)
-
 -- where the opening bracket stands, the text has it
 pub open_byte : (w : List ℕ) (i : ℕ) (t : Bool) → t ≡ (next w i == 0x28) → t ≡ true → (i < length w) × (next w i ≡ 0x28)
-open_byte w i t e h =
-    let here : next w i ≡ 0x28 = byte_test (next w i) t e h in
-    (elim (dec_lt i (length w)) [ yes l ↦ l | no f ↦ absurd (open_end (next w i) (get_or_past w i 256 (omega arith)) here) ], here)
+open_byte w i t e h = let here : next w i ≡ 0x28 = test_eq (next w i) 0x28 t e h in (byte_inside w i 0x28 (lit< tt) here, here)

@@ -1,25 +1,15 @@
 -- What the functions that read lists of positions, and items of other kinds, answer.
 -- For `read_line`, `read_geometry` and `Room::check_line`: the readers of `src/paths.rt`, and each loop over items.
-use Rattle.std.proofs.Common.{◌≡◌, ℕ, ◌+◌, ◌<◌, ◌≤◌, Bool, true, false, not, ◌&&◌, ◌||◌, if◌then◌else◌, List, [], ◌∷◌, ◌++◌, length, map, flat_map, option_to_list, Option, Some, None, is_none, refl, sym, ◌∙◌, ap, subst, arith, append-nil, append_assoc, length-append}
+use Rattle.std.proofs.Common.{ap₂, ◌≡◌, ℕ, ◌+◌, ◌<◌, ◌≤◌, Bool, true, false, not, ◌&&◌, ◌||◌, if◌then◌else◌, List, [], ◌∷◌, ◌++◌, length, map, flat_map, option_to_list, Option, Some, None, is_none, refl, sym, ◌∙◌, ap, subst, arith, append-nil, append_assoc, length-append}
 use Rattle.std.specs.Ordering.{int_eq}
 use Rattle.std.proofs.lemmas.List.{map-append, length-map}
 use Rattle.std.proofs.lemmas.Grind.{flat_map-append}
-use Rattle.at_text.specs.declared.faults.Fault.{Fault}
-use Rattle.at_text.specs.Faults.{first_fault, first_of, comes_first}
-use Rattle.at_geom.specs.declared.positions.Pos.{Pos}
+use Rattle.at_wkt.proofs.Names.{Fault, first_fault, first_of, comes_first, Pos, Dimension, Rules, PositionRead, PathRead, Read, Role, Line, Ring, ItemRead, Position, Positions, pos_of, position_faults, SpellsPosition, SpellsRing, PartStands, next, Spelt, Stuck, Item, Items, ItemsRead, HasCount, PositionStands, PositionsSoFar, ends_same, ItemsSoFar, ItemStands, Grows, PathStands, fault_of_path, faults_of_path}
 use Rattle.at_geom.specs.Closed.{last_of}
-use Rattle.at_wkt.specs.declared.line.dimension.Dimension.{Dimension}
-use Rattle.at_wkt.specs.declared.line.sources.Rules.{Rules}
-use Rattle.at_wkt.specs.declared.line.positions.PositionRead.{PositionRead}
+use Rattle.at_wkt.specs.declared.line.sources.Place.{Place}
 use Rattle.at_wkt.specs.declared.line.paths.ListRead.{ListRead}
-use Rattle.at_wkt.specs.declared.line.paths.PathRead.{PathRead}
-use Rattle.at_wkt.specs.declared.line.parts.Read.{Read}
-use Rattle.at_wkt.specs.declared.line.paths.Role.{Role}
-use Rattle.at_wkt.specs.declared.line.paths.Role.TheVariants.{Line, Ring}
-use Rattle.at_wkt.specs.declared.line.parts.ItemRead.{ItemRead}
-use Rattle.at_wkt.specs.Positions.{Position, Positions, pos_of, position_faults, items_faults, is_faultless, is_closed}
-use Rattle.at_wkt.specs.Geometry.{SpellsPosition, SpellsRing}
-use Rattle.at_wkt.specs.Readers.{PartStands, next, Spelt, Stuck, Item, Items, ItemsRead, HasCount, PositionStands, PositionsSoFar, ends_same, PositionsStand, ItemsSoFar, ItemStands, Grows, PathStands, fault_of_path, faults_of_path}
+use Rattle.at_wkt.specs.Positions.{items_faults, is_faultless, is_closed}
+use Rattle.at_wkt.specs.Readers.{PositionsStand}
 use Rattle.at_wkt.proofs.ListSteps.{ItemLives, items_start, items_more, items_stuck, items_end, position_lives, ring_leads}
 use Rattle.at_wkt.proofs.FaultOrder.{first_of-append}
 
@@ -149,46 +139,40 @@ pub first_of-option : (o : Option Fault) → first_of (option_to_list o) ≡ o
 first_of-option None = refl
 first_of-option (Some f) = refl
 
+own_first : (own o fs : Option Fault) (gs : List Fault) → own ≡ o → fs ≡ first_of gs → first_fault own fs ≡ first_of (option_to_list o ++ gs)
+own_first own o fs gs eo ef = ap₂ first_fault (eo ∙ sym (first_of-option o)) ef ∙ sym (first_of-append (option_to_list o) gs)
+
 module _ (rules : Rules) (w : List ℕ) (i : ℕ) (c : Dimension) (inside : i < length w) (here : next w i ≡ 0x28) where
   pub path_stuck : (n : ℕ) → Stuck (Items SpellsPosition) rules.base w (i + 1) c n → Stuck SpellsRing rules.base w i c n
   path_stuck n h = (ring_leads rules.base w i c inside here).stuck n h
 
   faults_by : (role : Role) (own : Option Fault) (ps : Positions) (fs : Option Fault) → own ≡ fault_of_path role (length ps.items) (is_closed rules.digits rules.how ps.items) ps.at
       → fs ≡ first_of (items_faults rules.digits rules.how ps.items) → first_fault own fs ≡ first_of (faults_of_path rules.digits rules.how role ps)
-  faults_by Line own ps fs eo ef = ap (λ z. first_fault z fs) (eo ∙ sym (first_of-option (fault_of_path Line (length ps.items) (is_closed rules.digits rules.how ps.items) ps.at)))
-      ∙ (ap (first_fault (first_of (option_to_list (fault_of_path Line (length ps.items) (is_closed rules.digits rules.how ps.items) ps.at)))) ef
-      ∙ sym (first_of-append (option_to_list (fault_of_path Line (length ps.items) (is_closed rules.digits rules.how ps.items) ps.at)) (items_faults rules.digits rules.how ps.items)))
-  faults_by Ring own ps fs eo ef = ap (λ z. first_fault z fs) (eo ∙ sym (first_of-option (fault_of_path Ring (length ps.items) (is_closed rules.digits rules.how ps.items) ps.at)))
-      ∙ (ap (first_fault (first_of (option_to_list (fault_of_path Ring (length ps.items) (is_closed rules.digits rules.how ps.items) ps.at)))) ef
-      ∙ sym (first_of-append (option_to_list (fault_of_path Ring (length ps.items) (is_closed rules.digits rules.how ps.items) ps.at)) (items_faults rules.digits rules.how ps.items)))
+  faults_by Line own ps fs eo ef = own_first own _ fs (items_faults rules.digits rules.how ps.items) eo ef
+  faults_by Ring own ps fs eo ef = own_first own _ fs (items_faults rules.digits rules.how ps.items) eo ef
+
+  path_is : (role : Role) (list : List Pos) (read : ListRead) (behind : Place) → (h : PositionsStand rules w (i + 1) c list read) (fault own : Option Fault)
+      → own ≡ fault_of_path role (length list) read.closes (rules.base + i) → fault ≡ first_fault own read.fault → behind.at ≡ read.behind.at → behind.dimension ≡ read.behind.dimension
+      → Spelt SpellsRing rules.base w i c behind.at behind.dimension (record { at = rules.base + i; items = h.positions }) × (fault ≡ first_of (faults_of_path rules.digits rules.how role (record { at = rules.base + i; items = h.positions })))
+  path_is role list read behind h fault own eo ef ee ed =
+      let ps : Positions = record { at = rules.base + i; items = h.positions } in
+      let count : length list ≡ length h.positions = ap length h.list_is ∙ length-map h.positions (pos_of rules.digits rules.how) in (
+        subst (λ z. Spelt SpellsRing rules.base w i c behind.at z ps) (sym ed)
+            (subst (λ z. Spelt SpellsRing rules.base w i c z read.behind.dimension ps) (sym ee) ((ring_leads rules.base w i c inside here).spelt read.behind.at read.behind.dimension h.positions h.spelt)),
+        ef ∙ faults_by role own ps read.fault (eo ∙ (ap (λ z. fault_of_path role z read.closes (rules.base + i)) count ∙ ap (λ z. fault_of_path role (length h.positions) z (rules.base + i)) h.closes)) h.fault,
+      )
 
   pub path_stands : (role : Role) (list : List Pos) (read : ListRead) (path : PathRead) → PositionsStand rules w (i + 1) c list read → path.path.items ≡ list → (own : Option Fault)
       → own ≡ fault_of_path role (length list) read.closes (rules.base + i) → path.fault ≡ first_fault own read.fault → path.behind.at ≡ read.behind.at → path.behind.dimension ≡ read.behind.dimension
       → PathStands rules w i c role path
   path_stands role list read path h ep own eo ef ee ed =
-      let ps : Positions = record { at = rules.base + i; items = h.positions } in
-      let count : length list ≡ length h.positions = ap length h.list_is ∙ length-map h.positions (pos_of rules.digits rules.how) in
-      record {
-        positions = ps;
-        spelt =
-            subst (λ z. Spelt SpellsRing rules.base w i c path.behind.at z ps) (sym ed)
-            (subst (λ z. Spelt SpellsRing rules.base w i c z read.behind.dimension ps) (sym ee) ((ring_leads rules.base w i c inside here).spelt read.behind.at read.behind.dimension h.positions h.spelt));
-        path = ep ∙ h.list_is;
-        fault = ef ∙ faults_by role own ps read.fault (eo ∙ (ap (λ z. fault_of_path role z read.closes (rules.base + i)) count ∙ ap (λ z. fault_of_path role (length h.positions) z (rules.base + i)) h.closes)) h.fault;
-      }
+      let (spelt, fault) = path_is role list read path.behind h path.fault own eo ef ee ed in
+      record { positions = record { at = rules.base + i; items = h.positions }; spelt = spelt; path = ep ∙ h.list_is; fault = fault }
 
   -- the same, where the path isn't kept
   pub path_passed : (role : Role) (list : List Pos) (read : ListRead) (path : Read) → PositionsStand rules w (i + 1) c list read → (own : Option Fault)
       → own ≡ fault_of_path role (length list) read.closes (rules.base + i) → path.fault ≡ first_fault own read.fault → path.behind.at ≡ read.behind.at → path.behind.dimension ≡ read.behind.dimension
       → PartStands SpellsRing (faults_of_path rules.digits rules.how role) (λ _. Unit {0}) rules.base w i c path
   path_passed role list read path h own eo ef ee ed =
-      let ps : Positions = record { at = rules.base + i; items = h.positions } in
-      let count : length list ≡ length h.positions = ap length h.list_is ∙ length-map h.positions (pos_of rules.digits rules.how) in
-      record {
-        value = ps;
-        spelt =
-            subst (λ z. Spelt SpellsRing rules.base w i c path.behind.at z ps) (sym ed)
-            (subst (λ z. Spelt SpellsRing rules.base w i c z read.behind.dimension ps) (sym ee) ((ring_leads rules.base w i c inside here).spelt read.behind.at read.behind.dimension h.positions h.spelt));
-        fault = ef ∙ faults_by role own ps read.fault (eo ∙ (ap (λ z. fault_of_path role z read.closes (rules.base + i)) count ∙ ap (λ z. fault_of_path role (length h.positions) z (rules.base + i)) h.closes)) h.fault;
-        added = tt;
-      }
+      let (spelt, fault) = path_is role list read path.behind h path.fault own eo ef ee ed in
+      record { value = record { at = rules.base + i; items = h.positions }; spelt = spelt; fault = fault; added = tt }

@@ -1,17 +1,11 @@
 -- Positions whose numbers have values and are set apart by one space.
 -- For `read_line`, `read_geometry` and `Room::check_line`: the quick way of most positions.
 use Rattle.std.proofs.Common.{◌≡◌, ℕ, ◌+◌, ◌<◌, ◌≤◌, ◌⊎◌, inl, inr, true, not, List, [], ◌∷◌, length, sym, ◌∙◌, ap, subst, arith}
-use Rattle.at_fixed.specs.Numerals.{Numeral}
-use Rattle.at_wkt.specs.Geometry.{is_blank}
-use Rattle.at_fixed.specs.NumberSoFar.{between}
-use Rattle.at_wkt.specs.Readers.{next, is_delimiter, SkipsBlanks, NumberStands}
+use Rattle.at_wkt.proofs.Names.{Numeral, is_blank, between, next, is_delimiter, SkipsBlanks, NumberStands}
 use Rattle.at_fixed.proofs.DigitParts.{part-none}
 use Rattle.at_wkt.proofs.Leads.{part-one, part-cons, same_or_less}
 use Rattle.at_wkt.proofs.Steps.{AreBlanks}
-use Rattle.at_wkt.proofs.PositionSteps.{begins_number, number_first}
-
-number_no_blank : (b : ℕ) → begins_number b ≡ true → not (is_blank b) ≡ true
-number_no_blank b h = grind (arith, h)
+use Rattle.at_wkt.proofs.PositionSteps.{number_first, begin_no_blank}
 
 delimiter_no_blank : (b : ℕ) → is_delimiter b ≡ true → not (is_blank b) ≡ true
 delimiter_no_blank b h = grind (arith, h)
@@ -27,21 +21,18 @@ number_free w i j n h =
     elim (same_or_less i j h.order) [
       | inl same ↦ absurd (let none : between w i j ≡ [] = ap (between w i) (sym same) ∙ part-none w i (omega (arith, h.order, h.within)) in cc)
       | inr less ↦ (let first : next w i ∷ between w (i + 1) j ≡ x ∷ t = sym (part-cons w i j less h.within) ∙ text in
-          let byte : x ≡ next w i = cc in subst (λ b. not (is_blank b) ≡ true) byte (number_no_blank x begins))
+          let byte : x ≡ next w i = cc in subst (λ b. not (is_blank b) ≡ true) byte (begin_no_blank x begins))
     ]
 
 pub delimiter_free : (w : List ℕ) (i : ℕ) → i < length w → is_delimiter (next w i) ≡ true → SkipsBlanks w i i
 delimiter_free w i h e = none_skipped w i (omega arith) (delimiter_no_blank (next w i) e)
-
-space_blank : (b : ℕ) → b ≡ 0x20 → is_blank b ≡ true
-space_blank b e = ap is_blank e
 
 -- one space stands before a number
 pub one_skipped : (w : List ℕ) (i j : ℕ) (n : Numeral) → i < length w → next w i ≡ 0x20 → NumberStands w (i + 1) j n → SkipsBlanks w i (i + 1)
 one_skipped w i j n inside e h = record {
   order = omega arith;
   within = omega (arith, h.order, h.within);
-  blanks = subst AreBlanks (sym (part-one w i inside)) (space_blank (next w i) e, tt);
+  blanks = subst AreBlanks (sym (part-one w i inside)) (ap is_blank e, tt);
   stops = number_free w (i + 1) j n h;
 }
 

@@ -4,19 +4,10 @@ use Rattle.std.proofs.Common.{◌≡◌, ◌≢◌, ℕ, ◌+◌, ◌<◌, ◌�
 use native.Mathlib.Decide.{dec_lt}
 use Rattle.std.proofs.lemmas.List.{get_or_past}
 use Rattle.std.specs.Result.{MatchResult}
-use Rattle.at_text.specs.declared.faults.Fault.{Fault}
-use Rattle.at_text.specs.Faults.{first_fault, first_of}
-use Rattle.at_fixed.specs.Numerals.{Numeral}
-use Rattle.at_geom.specs.declared.positions.Pos.{Pos}
-use Rattle.at_wkt.specs.declared.line.dimension.Dimension.{Dimension}
-use Rattle.at_wkt.specs.declared.line.dimension.Dimension.TheVariants.{Fixed}
-use Rattle.at_text.specs.declared.halts.Halt.{Halt}
-use Rattle.at_wkt.specs.declared.line.sources.Rules.{Rules}
+use Rattle.at_wkt.proofs.Names.{Fault, first_fault, first_of, Numeral, Pos, Dimension, Fixed, Halt, Rules, NumbersRead, IfStopped, next, allows, allows_more, Spelt, Stuck, Leads, SkipsBlanks, NumberStands, NumberBreaks, NumberSkips, delimiter, is_delimiter, FurtherNumbers, Reaches, PositionStands}
 use Rattle.at_wkt.specs.declared.line.numbers.Coordinate.{Coordinate}
-use Rattle.at_wkt.specs.declared.line.positions.NumbersRead.{NumbersRead}
 use Rattle.at_wkt.specs.Positions.{value_of, number_fault}
-use Rattle.at_text.specs.Halts.{IfStopped}
-use Rattle.at_wkt.specs.Readers.{next, allows, allows_more, Spelt, Stuck, Leads, SkipsBlanks, NumberStands, NumberBreaks, NumberSkips, delimiter, is_delimiter, FurtherNumbers, Reaches, IsCoordinate, PositionStands}
+use Rattle.at_wkt.specs.Readers.{IsCoordinate}
 use Rattle.at_wkt.proofs.Steps.{trans_leads}
 use Rattle.at_wkt.proofs.PositionSteps.{further_begins, further_leads, skip_leads, skip_stuck, further_lives}
 use Rattle.at_wkt.proofs.ItemSteps.{further_spelt, further_few, allows_by, more_by}

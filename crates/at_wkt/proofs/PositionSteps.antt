@@ -1,17 +1,12 @@
 -- Positions: two numbers, further ones, and the delimiter behind them.
 -- For `read_line`, `read_geometry` and `Room::check_line`: the grammar of positions, read on.
-use Rattle.std.proofs.Common.{◌≡◌, ◌≢◌, ℕ, zero, suc, ◌+◌, ◌-◌, ◌<◌, ◌⊎◌, inl, inr, Bool, true, false, ◌||◌, List, [], ◌∷◌, ◌++◌, length, codes, Option, Some, None, refl, sym, ◌∙◌, ap, subst, arith, append_assoc, length-append, true≢false}
+use Rattle.std.proofs.Common.{IsTrue, ◌≡◌, ◌≢◌, ℕ, zero, suc, ◌+◌, ◌-◌, ◌<◌, ◌⊎◌, inl, inr, Bool, true, false, ◌||◌, List, [], ◌∷◌, ◌++◌, length, codes, Option, Some, None, refl, sym, ◌∙◌, ap, subst, arith, append_assoc, length-append, true≢false}
 use Rattle.std.proofs.lemmas.List.{append_cancel_left}
-use Rattle.at_text.specs.Texts.{is_digit, is_one_of}
-use Rattle.at_text.specs.Parts.{◌▸◌}
-use Rattle.at_fixed.specs.Numerals.{Numeral, fraction_text, exponent_text, numeral_text, IsAtMostOneOf, AreWktDigits, IsWktNumeral, WktNumber}
-use Rattle.at_wkt.specs.declared.line.dimension.Dimension.{Dimension}
-use Rattle.at_wkt.specs.Geometry.{is_blank, SpellsNumber, SpellsFurther}
-use Rattle.at_fixed.specs.NumberSoFar.{between}
-use Rattle.at_wkt.specs.Readers.{next, Allows, Stuck, Leads, SkipsBlanks, NumberBreaks, NumberSkips, delimiter, Delimiter, FurtherNumbers, Reaches, is_delimiter}
+use Rattle.std.proofs.ByRecursion.{All-append}
+use Rattle.at_wkt.proofs.Names.{is_digit, is_one_of, ◌▸◌, Numeral, fraction_text, exponent_text, numeral_text, IsAtMostOneOf, AreWktDigits, IsWktNumeral, WktNumber, Dimension, is_blank, SpellsNumber, SpellsFurther, between, next, Allows, Stuck, Leads, SkipsBlanks, NumberBreaks, NumberSkips, delimiter, Delimiter, FurtherNumbers, Reaches, is_delimiter}
 use Rattle.at_fixed.proofs.DigitParts.{part-length}
 use Rattle.at_wkt.proofs.Leads.{offset, Ahead, Begins, Inhabited, leads_ahead}
-use Rattle.at_wkt.proofs.Steps.{Then, no_blank, AreBlanks, one_blanks, all_both}
+use Rattle.at_wkt.proofs.Steps.{Then, no_blank, AreBlanks, one_blanks}
 use Rattle.at_wkt.proofs.NumberSteps.{Number, stops_number, ends_there, front_viable}
 
 -- ---- first bytes
@@ -32,7 +27,7 @@ delimiter_stops : (last : Bool) → stops_number (delimiter last) ≡ true
 delimiter_stops true = refl
 delimiter_stops false = refl
 
-blank_stops : (b : ℕ) → is_blank b ≡ true → stops_number b ≡ true
+pub blank_stops : (b : ℕ) → is_blank b ≡ true → stops_number b ≡ true
 blank_stops b h = grind (arith, h)
 
 pub begin_no_blank : (b : ℕ) → begins_number b ≡ true → no_blank b ≡ true
@@ -151,7 +146,7 @@ further_more k d last at a v some ha (x, y, e, (n, hn, en), (ns, el, (s, t, f, h
 
 pub further_pad : (k d : ℕ) (last : Bool) (at : ℕ) (a v : List ℕ) → AreBlanks a → FurtherNumbers k d last (at + length a) v → FurtherNumbers k d last at (a ++ v)
 further_pad k d last at a v ha ([], en, (x, y, e, none, (b, z, f, hb, hz))) =
-    ([], en, ([], a ++ v, refl, refl, (a ++ b, z, ap (λ u. a ++ u) (e ∙ (ap (λ u. u ++ y) none ∙ f)) ∙ sym (append_assoc a b z), all_both a b ha hb, hz)))
+    ([], en, ([], a ++ v, refl, refl, (a ++ b, z, ap (λ u. a ++ u) (e ∙ (ap (λ u. u ++ y) none ∙ f)) ∙ sym (append_assoc a b z), All-append (λ b. IsTrue (is_blank b)) a b ha hb, hz)))
 further_pad k d last at a v ha (n ∷ ns, en, (x, y, e, (b, z, f, (some, hb), more), q)) =
     let one : (at + length a) + length b ≡ at + length (a ++ b) = omega (arith, length-append a b) in
     let two : (at + length a) + length x ≡ at + length (a ++ x) = omega (arith, length-append a x) in (
@@ -161,7 +156,7 @@ further_pad k d last at a v ha (n ∷ ns, en, (x, y, e, (b, z, f, (some, hb), mo
         a ++ x,
         y,
         ap (λ u. a ++ u) e ∙ sym (append_assoc a x y),
-        (a ++ b, z, ap (λ u. a ++ u) f ∙ sym (append_assoc a b z), ((λ none. some (append_none a b none)), all_both a b ha hb), subst (λ o. (SpellsNumber n ▸ SpellsFurther ns) o z) one more),
+        (a ++ b, z, ap (λ u. a ++ u) f ∙ sym (append_assoc a b z), ((λ none. some (append_none a b none)), All-append (λ b. IsTrue (is_blank b)) a b ha hb), subst (λ o. (SpellsNumber n ▸ SpellsFurther ns) o z) one more),
         subst (λ o. Delimiter d last o y) two q,
       ),
     ) where

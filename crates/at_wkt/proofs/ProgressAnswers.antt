@@ -1,30 +1,18 @@
 -- How far reading has come, step by step, over collections of any depth.
 -- For `read_line`, `read_geometry` and `Room::check_line`: the loop of `src/geometries.rt`.
-use Rattle.std.proofs.Common.{◌≡◌, ℕ, zero, suc, ◌+◌, ◌-◌, ◌<◌, ◌≤◌, inl, inr, Bool, true, false, ◌==◌, List, ◌++◌, length, Option, Some, None, Result, refl, sym, ◌∙◌, ap, subst, arith, true≢false, append-nil, append_assoc, add-one, lit≤}
-use Rattle.std.specs.Result.{MatchResult}
-use Rattle.at_text.specs.declared.faults.Fault.{Fault}
-use Rattle.at_text.specs.Faults.{first_fault, first_of}
-use Rattle.at_fixed.specs.declared.rounding.Coords.{Coords}
-use Rattle.at_wkt.specs.declared.line.dimension.Dimension.{Dimension}
-use Rattle.at_wkt.specs.declared.line.dimension.Dimension.TheVariants.{Open}
-use Rattle.at_text.specs.declared.halts.Halt.{Halt}
-use Rattle.at_wkt.specs.declared.line.kinds.Kind.{Kind}
-use Rattle.at_wkt.specs.declared.line.kinds.Kind.TheVariants.{GeometryCollection}
-use Rattle.at_wkt.specs.declared.line.kinds.Head.{Head}
+use Rattle.std.proofs.Common.{◌≡◌, ℕ, zero, suc, ◌+◌, ◌-◌, ◌<◌, ◌≤◌, inl, inr, Bool, true, false, ◌==◌, List, ◌++◌, length, refl, sym, ◌∙◌, ap, subst, arith, true≢false, append-nil, append_assoc, add-one, lit≤}
+use Rattle.at_wkt.proofs.Names.{first_fault, first_of, Coords, Dimension, Open, Kind, GeometryCollection, Head, Read, Gathered, between, next, Spelt, Stuck, Leads, SkipsBlanks, Delimiter, delimiter, HasCount, HeadStands, LetterStands, DelimiterStands, DelimiterBreaks, Meaning, joined, no_meaning, Body, meaning_of, Expected, BodyStands, Gathers}
 use Rattle.at_wkt.specs.declared.line.positions.DelimiterRead.{DelimiterRead}
-use Rattle.at_wkt.specs.declared.line.parts.Read.{Read}
-use Rattle.at_wkt.specs.declared.line.geometries.Gathered.{Gathered}
 use Rattle.at_wkt.specs.declared.line.geometries.Progress.{Progress}
-use Rattle.at_fixed.specs.NumberSoFar.{between}
-use Rattle.at_text.specs.Halts.{IfStopped}
-use Rattle.at_wkt.specs.Readers.{next, Spelt, Stuck, Leads, SkipsBlanks, Delimiter, delimiter, HasCount, HeadStands, LetterStands, opens_at, KeywordStands, word_of, DelimiterStands, DelimiterBreaks, Meaning, joined, no_meaning, Body, meaning_of, Expected, Onward, Advances, BodyStands, StepStands, WholeStands, Gathers}
+use Rattle.at_wkt.specs.Readers.{opens_at, Onward, Advances, StepStands, WholeStands}
 use Rattle.at_fixed.proofs.DigitParts.{part-length}
 use Rattle.at_wkt.proofs.Steps.{spelt_over, trans_leads}
 use Rattle.at_wkt.proofs.ItemSteps.{delimiter_spelt, delimiter_stuck}
+use Rattle.at_wkt.proofs.LetterSteps.{letter_order}
 use Rattle.at_wkt.proofs.GeometrySteps.{joined-assoc, joined-none, Behind, Awaited, BodyAfter, open_count}
 use Rattle.at_wkt.proofs.CollectionSteps.{kind_first, after_stuck, after_closes, after_goes_on, head_spelt, head_stuck, body_stuck, body_spelt, body_behind, opened_spelt, opened_stuck}
 use Rattle.at_wkt.proofs.PartAnswers.{open_byte}
-use Rattle.at_wkt.proofs.FaultOrder.{first_of-append, first_fault-assoc}
+use Rattle.at_wkt.proofs.FaultOrder.{first_of-append, first_fault-assoc, none_right}
 
 -- ---- behind a geometry
 
@@ -80,11 +68,14 @@ closes_over w i k j m so_far none low inside base digits how =
 
 -- ---- a step
 
--- a kind's word has letters
-word_long : (w : List ℕ) (i j : ℕ) (kind : Kind) → KeywordStands w i j (word_of kind) → i < j
-word_long w i j kind h =
-    let (b, t, e, n) = kind_first kind (between w i j) h.text in
-    omega (arith, part-length w i j h.order h.within, ap length e)
+pub gathers_none : (a : Gathered) → Gathers a a no_meaning
+gathers_none a = record { points = sym (append-nil a.points.items); lines = sym (append-nil a.lines.items); polygons = sym (append-nil a.polygons.items); fault = sym (none_right a.fault) }
+
+-- the head of a geometry has letters
+head_long : (w : List ℕ) (i : ℕ) (head : Head) → HeadStands w i head → i < head.behind.at
+head_long w i head h =
+    let (b, t, e, n) = kind_first head.kind (between w i h.word_end) h.word.text in
+    omega (arith, part-length w i h.word_end h.word.order h.word.within, ap length e, h.blanks.order, h.further.order, letter_order w h.letter_at h.letter_end head.behind.dimension h.letter)
 
 module _ (digits : ℕ) (how : Coords) (base : ℕ) (w : List ℕ) (i : ℕ) (k : ℕ) (head : Head) (h : HeadStands w i head) (old new after : Gathered) where
   pub simple_stuck : (n : ℕ) → Stuck (Body head.kind) base w head.behind.at head.behind.dimension n → Stuck (Awaited digits how k) base w i Open n
@@ -98,7 +89,7 @@ module _ (digits : ℕ) (how : Coords) (base : ℕ) (w : List ℕ) (i : ℕ) (k 
     meaning = meaning_of digits how b.geometry;
     advances = record {
       within = a.within;
-      order = omega (arith, h.word.order, h.blanks.order, h.further.order, letters, b.spelt.order, a.order);
+      order = omega (arith, head_long w i head h, b.spelt.order, a.order);
       spelt = λ j n q. head_spelt digits how base w i k head h j read.behind.dimension (joined (meaning_of digits how b.geometry) n)
           (body_spelt digits how base w head.behind.at head.behind.dimension head.kind k read.behind.at read.behind.dimension b.geometry b.spelt j n (a.spelt j n q));
       stuck = λ n q. head_stuck digits how base w i k head h n (body_behind digits how base w head.behind.at head.behind.dimension head.kind k read.behind.at read.behind.dimension b.geometry b.spelt n (a.stuck n q));
@@ -109,14 +100,9 @@ module _ (digits : ℕ) (how : Coords) (base : ℕ) (w : List ℕ) (i : ℕ) (k 
       polygons = eg ∙ b.polygons;
       fault = ef ∙ (ap (λ z. first_fault z read.fault) b.same ∙ ap (first_fault old.fault) b.fault);
     };
-    longer = omega (arith, h.word.order, h.blanks.order, h.further.order, letters, b.spelt.order, a.order, some);
+    longer = omega (arith, head_long w i head h, b.spelt.order, a.order);
     deep = deep;
-  } where
-    letters : h.letter_at ≤ h.letter_end
-    letters = elim h.letter [ inl q ↦ omega (arith, q.0) | inr (inl q) ↦ omega (arith, q.0) | inr (inr (inl q)) ↦ omega (arith, q.0) | inr (inr (inr q)) ↦ omega (arith, q.0) ]
-
-    some : i < h.word_end
-    some = word_long w i h.word_end head.kind h.word
+  }
 
   -- a collection opens
   pub opening_stands : (a : ℕ) → head.kind ≡ GeometryCollection → head.behind.at < length w → next w head.behind.at ≡ 0x28 → SkipsBlanks w (head.behind.at + 1) a → HasCount head.behind.dimension → k ≤ i
@@ -125,21 +111,14 @@ module _ (digits : ℕ) (how : Coords) (base : ℕ) (w : List ℕ) (i : ℕ) (k 
     meaning = no_meaning;
     advances = record {
       within = skips.within;
-      order = omega (arith, h.word.order, h.blanks.order, h.further.order, letters, skips.order);
+      order = omega (arith, head_long w i head h, skips.order);
       spelt = λ j n q. head_spelt digits how base w i k head h j head.behind.dimension n (opens_to j n q);
       stuck = λ n q. head_stuck digits how base w i k head h n (stuck_to n q);
     };
-    gathers = record { points = sym (append-nil old.points.items); lines = sym (append-nil old.lines.items); polygons = sym (append-nil old.polygons.items); fault = no_fault old.fault };
-    longer = omega (arith, h.word.order, h.blanks.order, h.further.order, letters, skips.order);
-    deep = omega (arith, h.word.order, h.blanks.order, h.further.order, letters, skips.order, deep);
+    gathers = gathers_none old;
+    longer = omega (arith, head_long w i head h, skips.order);
+    deep = omega (arith, head_long w i head h, skips.order, deep);
   } where
-    letters : h.letter_at ≤ h.letter_end
-    letters = elim h.letter [ inl q ↦ omega (arith, q.0) | inr (inl q) ↦ omega (arith, q.0) | inr (inr (inl q)) ↦ omega (arith, q.0) | inr (inr (inr q)) ↦ omega (arith, q.0) ]
-
-    no_fault : (f : Option Fault) → f ≡ first_fault f None
-    no_fault None = refl
-    no_fault (Some f) = refl
-
     opens_to : (j : ℕ) (n : Meaning) → Spelt (λ d. Expected digits how (k + 1)) base w a Open j Open n → Spelt (BodyAfter digits how head.kind k) base w head.behind.at head.behind.dimension j head.behind.dimension n
     opens_to j n q = subst (λ z. Spelt (BodyAfter digits how z k) base w head.behind.at head.behind.dimension j head.behind.dimension n) (sym ek)
         (opened_spelt digits how base w head.behind.at a head.behind.dimension k inside here skips some j n (subst (λ z. Spelt (Awaited digits how z) base w a Open j Open n) (add-one k) q))
@@ -158,12 +137,6 @@ gathers_both a b c m n g h = record {
   polygons = h.polygons ∙ (ap (λ z. z ++ n.shape.polygons) g.polygons ∙ append_assoc a.polygons.items m.shape.polygons n.shape.polygons);
   fault = h.fault ∙ (ap (λ z. first_fault z (first_of n.faults)) g.fault ∙ (first_fault-assoc a.fault (first_of m.faults) (first_of n.faults) ∙ ap (first_fault a.fault) (sym (first_of-append m.faults n.faults))));
 }
-
-pub gathers_none : (a : Gathered) → Gathers a a no_meaning
-gathers_none a = record { points = sym (append-nil a.points.items); lines = sym (append-nil a.lines.items); polygons = sym (append-nil a.polygons.items); fault = no_fault a.fault } where
-  no_fault : (f : Option Fault) → f ≡ first_fault f None
-  no_fault None = refl
-  no_fault (Some f) = refl
 
 -- the steps so far
 pub record StepsSoFar (digits : ℕ) (how : Coords) (base : ℕ) (w : List ℕ) (i : ℕ) (old new : Gathered) (progress : Progress) : Type 0 where
@@ -231,14 +204,6 @@ pub simple_behind : (digits : ℕ) (how : Coords) (base : ℕ) (w : List ℕ) (i
     → (n : ℕ) → Stuck (Behind digits how k) base w read.behind.at Open n → Stuck (Awaited digits how k) base w i Open n
 simple_behind digits how base w i k head h old new read b n q =
     head_stuck digits how base w i k head h n (body_behind digits how base w head.behind.at head.behind.dimension head.kind k read.behind.at read.behind.dimension b.geometry b.spelt n q)
-
--- what was read behind a head of a kind
-pub for_head : (digits : ℕ) (how : Coords) (base : ℕ) (w : List ℕ) (head : Head) (kind : Kind) (old new : Gathered) (r : Result Read Halt) → head.kind ≡ kind
-    → MatchResult r (BodyStands digits how base w (record { kind = kind; behind = head.behind }) old new) (λ halt. IfStopped halt (Stuck (Body kind) base w head.behind.at head.behind.dimension))
-    → MatchResult r (BodyStands digits how base w head old new) (λ halt. IfStopped halt (Stuck (Body head.kind) base w head.behind.at head.behind.dimension))
-for_head digits how base w head kind old new r e h =
-    let P : Kind → Type 0 = λ z. MatchResult r (BodyStands digits how base w (record { kind = z; behind = head.behind }) old new) (λ halt. IfStopped halt (Stuck (Body z) base w head.behind.at head.behind.dimension)) in
-    subst P (sym e) h
 
 -- the head of a collection whose bracket doesn't open
 pub shut_by : (w : List ℕ) (head : Head) → opens_at w head ≡ false → head.kind ≡ GeometryCollection → (next w head.behind.at == 0x28) ≡ false

@@ -2,13 +2,11 @@
 -- For `read_line`, `read_geometry` and `Room::check_line`: the steps that all other lemmas take.
 use Rattle.std.proofs.Common.{◌≡◌, ℕ, ◌+◌, ◌<◌, ◌≤◌, ◌⊎◌, inl, inr, Bool, true, false, not, IsTrue, List, [], ◌∷◌, ◌++◌, length, refl, sym, ◌∙◌, ap, subst, arith, append_assoc, true≢false}
 use Rattle.std.specs.List.{AllByRecursion}
-use Rattle.at_text.specs.Parts.{Many, OneOrMore, ◌▸◌}
-use Rattle.at_wkt.specs.declared.line.dimension.Dimension.{Dimension}
-use Rattle.at_wkt.specs.Geometry.{is_blank}
-use Rattle.at_fixed.specs.NumberSoFar.{between}
-use Rattle.at_wkt.specs.Readers.{next, Allows, Spelt, Stuck, Leads}
+use Rattle.std.proofs.lemmas.Bool.{not-true}
+use Rattle.at_wkt.proofs.Names.{Many, OneOrMore, ◌▸◌, Dimension, is_blank, between, next, Allows, Spelt, Stuck, Leads}
 use Rattle.at_fixed.proofs.DigitParts.{part-none}
-use Rattle.at_wkt.proofs.Leads.{offset, Ahead, Begins, Inhabited, append_cases, same_length, leads_plain, leads_ahead, counts}
+use Rattle.at_wkt.proofs.Leads.{offset, Ahead, Begins, Inhabited, same_length, leads_plain, leads_ahead, counts}
+use Rattle.at_wkt.proofs.Agreement.{one_front}
 
 pub trans_leads : {X Y Z : Type 0} {P : ℕ → X → ℕ → List ℕ → Type 0} {Q : ℕ → Y → ℕ → List ℕ → Type 0} {R : ℕ → Z → ℕ → List ℕ → Type 0} {base : ℕ} {w : List ℕ}
     {i j k : ℕ} {c c' c'' : Dimension} {f : Y → X} {g : Z → Y} → Leads P Q base w i c j c' f → Leads Q R base w j c' k c'' g → Leads P R base w i c k c'' (λ z. f (g z))
@@ -37,27 +35,11 @@ no_blank b = not (is_blank b)
 abbrev pub AreBlanks : List ℕ → Type 0
 AreBlanks w = AllByRecursion (λ b. IsTrue (is_blank b)) w
 
--- blanks behind blanks
-pub all_both : (a b : List ℕ) → AreBlanks a → AreBlanks b → AreBlanks (a ++ b)
-all_both [] b h k = k
-all_both (x ∷ a) b (h, hs) k = (h, all_both a b hs k)
-
-pub blank_at : (a : List ℕ) (e : ℕ) (es : List ℕ) → AreBlanks (a ++ (e ∷ es)) → is_blank e ≡ true
-blank_at [] e es (h, hs) = h
-blank_at (b ∷ a) e es (h, hs) = blank_at a e es hs
-
-no_blank_true : (b : ℕ) (t : Bool) → is_blank b ≡ t → not t ≡ true → is_blank b ≡ true → ⊥
-no_blank_true b t e h k = let both : t ≡ true = sym e ∙ k in let no : not true ≡ true = ap not (sym both) ∙ h in true≢false (sym no)
-
 pub not_blank : (b : ℕ) → no_blank b ≡ true → is_blank b ≡ true → ⊥
-not_blank b h k = no_blank_true b (is_blank b) refl h k
+not_blank b h k = true≢false (sym k ∙ not-true (is_blank b) h)
 
 pub one_blanks : (a u : List ℕ) (b h : ℕ) (x y : List ℕ) → AreBlanks a → AreBlanks u → no_blank b ≡ true → no_blank h ≡ true → a ++ (b ∷ x) ≡ u ++ (h ∷ y) → a ≡ u
-one_blanks a u b h x y ha hu nb nh e = elim (append_cases a (b ∷ x) u (h ∷ y) e) [
-  | inl (same, rest) ↦ same
-  | inr (inl (m, ms, f, g)) ↦ absurd (let first : b ≡ m = cc in not_blank b nb (ap is_blank first ∙ blank_at a m ms (subst AreBlanks f hu)))
-  | inr (inr (m, ms, f, g)) ↦ absurd (let first : h ≡ m = cc in not_blank h nh (ap is_blank first ∙ blank_at u m ms (subst AreBlanks f ha)))
-]
+one_blanks a u b h x y ha hu nb nh e = one_front is_blank a u b h x y ha hu (not-true (is_blank b) nb) (not-true (is_blank h) nh) e
 
 module _ {Y : Type 0} (Q : ℕ → Y → ℕ → List ℕ → Type 0) (base : ℕ) (w : List ℕ) (i : ℕ) (c : Dimension) (j : ℕ) where
   same_blanks : AreBlanks (between w i j) → Begins no_blank Q → no_blank (next w j) ≡ true

@@ -6,13 +6,7 @@ use Rattle.std.specs.Char.{to_ascii_uppercase}
 use Rattle.std.proofs.lemmas.List.{length-map, map-append, drop-map}
 use Rattle.std.proofs.lemmas.Option.{same_Some}
 use Rattle.std.proofs.Math.Seq.{get_or-append_seam}
-use Rattle.at_text.specs.Parts.{AnyCase}
-use Rattle.at_wkt.specs.declared.line.dimension.Dimension.{Dimension}
-use Rattle.at_wkt.specs.declared.line.kinds.Kind.{Kind}
-use Rattle.at_wkt.specs.declared.line.kinds.Kind.TheVariants.{Point, LineString, Polygon, MultiPoint, MultiLineString, MultiPolygon, GeometryCollection}
-use Rattle.at_wkt.specs.Geometry.{is_blank}
-use Rattle.at_fixed.specs.NumberSoFar.{between}
-use Rattle.at_wkt.specs.Readers.{next, Allows, Spelt, Stuck, KeywordStands, KeywordBreaks, word_of, KindBreaks, opens}
+use Rattle.at_wkt.proofs.Names.{AnyCase, Dimension, Kind, Point, LineString, Polygon, MultiPoint, MultiLineString, MultiPolygon, GeometryCollection, is_blank, between, next, Allows, Spelt, Stuck, KeywordStands, KeywordBreaks, word_of, KindBreaks, opens}
 use Rattle.at_fixed.proofs.DigitParts.{part-none, part-length, part-part}
 use Rattle.at_wkt.proofs.Leads.{part-cons, Ahead, ahead_stuck, append_cases, same_length, same_or_less}
 use Rattle.at_wkt.proofs.Steps.{no_blank}

@@ -1,6 +1,5 @@
 use Rattle.std.proofs.Common.{◌+◌, None, refl, sym, ◌∙◌, ap}
-use Rattle.at_wkt.specs.declared.line.paths.Role.TheVariants.{Ring}
-use Rattle.at_wkt.specs.Readers.{fault_of_path}
+use Rattle.at_wkt.proofs.Names.{Ring, fault_of_path}
 use Rattle.at_wkt.proofs.PathAnswers.{path_passed}
 use Rattle.at_wkt.proofs.line.checks.pass_closed.Goals as goal
 

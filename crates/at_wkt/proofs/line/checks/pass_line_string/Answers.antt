@@ -1,7 +1,5 @@
 use Rattle.std.proofs.Common.{[], ◌≡◌, ◌==◌, true, arith, Some, None, Ok, refl}
-use Rattle.at_wkt.specs.Geometry.{SpellsRing, SpellsList}
-use Rattle.at_wkt.specs.declared.line.paths.Role.TheVariants.{Line}
-use Rattle.at_wkt.specs.Readers.{next, faults_of_path, line_faults}
+use Rattle.at_wkt.proofs.Names.{SpellsRing, SpellsList, Line, next, faults_of_path, line_faults}
 use Rattle.at_wkt.proofs.BodySteps.{list_choice}
 use Rattle.at_wkt.proofs.PartAnswers.{opened_stands, none_faults}
 use Rattle.at_wkt.proofs.CheckAnswers.{nothing_of, adds_nothing, part_passed}

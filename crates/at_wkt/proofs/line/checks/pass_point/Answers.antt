@@ -1,9 +1,5 @@
 use Rattle.std.proofs.Common.{[], ◌∷◌, ◌≡◌, ◌==◌, true, arith, Some, None, Ok, refl, sym, ◌∙◌, ap, subst}
-use Rattle.at_wkt.specs.declared.line.parts.Read.{Read}
-use Rattle.at_wkt.specs.declared.line.positions.NumbersRead.{NumbersRead}
-use Rattle.at_wkt.specs.Positions.{position_faults}
-use Rattle.at_wkt.specs.Geometry.{SpellsPoint}
-use Rattle.at_wkt.specs.Readers.{next, EnclosedPosition, IsPassedPart, added_point, point_faults, added_position}
+use Rattle.at_wkt.proofs.Names.{Read, NumbersRead, position_faults, SpellsPoint, next, EnclosedPosition, IsPassedPart, added_point, point_faults, added_position}
 use Rattle.at_wkt.proofs.BodySteps.{point_choice}
 use Rattle.at_wkt.proofs.PartAnswers.{enclosed_stands, opened_stands, none_faults}
 use Rattle.at_wkt.proofs.CheckAnswers.{part_passed}

@@ -1,7 +1,5 @@
 use Rattle.std.proofs.Common.{[], ◌+◌, Ok}
-use Rattle.at_wkt.specs.Geometry.{SpellsArea, SpellsRing}
-use Rattle.at_wkt.specs.Meaning.{faults_of_area}
-use Rattle.at_wkt.specs.Readers.{Items}
+use Rattle.at_wkt.proofs.Names.{SpellsArea, SpellsRing, faults_of_area, Items}
 use Rattle.at_wkt.proofs.PartAnswers.{bracketed_stands}
 use Rattle.at_wkt.proofs.CheckAnswers.{nothing_of, adds_nothing, part_passed}
 use Rattle.at_wkt.proofs.line.checks.pass_polygon.Goals as goal

@@ -1,6 +1,5 @@
 use Rattle.std.proofs.Common.{[], Ok, ◌∙◌}
-use Rattle.at_wkt.specs.Positions.{faults_of_ring}
-use Rattle.at_wkt.specs.Geometry.{SpellsRing}
+use Rattle.at_wkt.proofs.Names.{faults_of_ring, SpellsRing}
 use Rattle.at_wkt.proofs.BodySteps.{ring_no_blank}
 use Rattle.at_wkt.proofs.PartAnswers.{ended_item}
 use Rattle.at_wkt.proofs.CheckAnswers.{nothing_of, adds_nothing, item_passed}

@@ -1,9 +1,6 @@
 use Rattle.std.proofs.Common.{[], ◌∙◌, ap, ap₂, arith}
 use Rattle.std.proofs.lemmas.Bool.{not-false, not-true}
-use Rattle.at_text.specs.Faults.{first_fault}
-use Rattle.at_wkt.specs.Positions.{faults_of_ring}
-use Rattle.at_wkt.specs.Geometry.{SpellsRing}
-use Rattle.at_wkt.specs.Readers.{Items}
+use Rattle.at_wkt.proofs.Names.{first_fault, faults_of_ring, SpellsRing, Items}
 use Rattle.at_wkt.proofs.PathAnswers.{so_far_start, so_far_more}
 use Rattle.at_wkt.proofs.PartAnswers.{items_stand}
 use Rattle.at_wkt.proofs.CheckAnswers.{nothing_of, item_adds_nothing, part_passed}

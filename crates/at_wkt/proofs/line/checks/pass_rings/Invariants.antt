@@ -1,7 +1,5 @@
 use Rattle.std.proofs.Common.{[], ◌≡◌, None, length, ◌-◌}
-use Rattle.at_wkt.specs.Positions.{faults_of_ring}
-use Rattle.at_wkt.specs.Geometry.{SpellsRing}
-use Rattle.at_wkt.specs.Readers.{ItemsSoFar}
+use Rattle.at_wkt.proofs.Names.{faults_of_ring, SpellsRing, ItemsSoFar}
 use Rattle.at_wkt.proofs.CheckAnswers.{nothing_of}
 use Rattle.at_wkt.proofs.line.checks.pass_rings.Given as goal
 

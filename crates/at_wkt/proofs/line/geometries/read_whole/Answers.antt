@@ -1,7 +1,6 @@
 use Rattle.std.proofs.Common.{arith}
 use Rattle.std.proofs.lemmas.Bool.{not-false, not-true}
-use Rattle.at_wkt.specs.declared.line.dimension.Dimension.TheVariants.{Open}
-use Rattle.at_wkt.specs.Readers.{Stuck, Expected}
+use Rattle.at_wkt.proofs.Names.{Open, Stuck, Expected}
 use Rattle.at_wkt.proofs.ProgressAnswers.{steps_start, steps_more, steps_stuck, steps_end}
 use Rattle.at_text.proofs.Exits.{exits}
 use Rattle.at_wkt.proofs.line.geometries.read_whole.Goals as goal

@@ -1,6 +1,5 @@
 use Rattle.std.proofs.Common.{◌+◌, Some, None, Ok, refl, ap}
-use Rattle.at_wkt.specs.Positions.{value_in, faults_in}
-use Rattle.at_text.specs.Faults.{first_of}
+use Rattle.at_wkt.proofs.Names.{value_in, faults_in, first_of}
 use Rattle.at_wkt.proofs.NumberSteps.{number_stands}
 use Rattle.at_wkt.proofs.line.numbers.pass_plain_number.Goals as goal
 

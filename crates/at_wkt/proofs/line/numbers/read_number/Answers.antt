@@ -1,8 +1,5 @@
 use Rattle.std.proofs.Common.{◌≡◌, ◌+◌, Option, None, Result, ℤ, false, is_some, sym, ◌∙◌, ap, subst}
-use Rattle.at_fixed.specs.declared.rounding.FixedFault.{FixedFault}
-use Rattle.at_wkt.specs.Positions.{value_in, faults_in}
-use Rattle.at_wkt.specs.Readers.{NumberStands}
-use Rattle.at_text.specs.Faults.{first_of}
+use Rattle.at_wkt.proofs.Names.{FixedFault, value_in, faults_in, NumberStands, first_of}
 use Rattle.at_wkt.proofs.NumberSteps.{number_stands, number_breaks}
 use Rattle.at_wkt.proofs.line.numbers.read_number.Goals as goal
 

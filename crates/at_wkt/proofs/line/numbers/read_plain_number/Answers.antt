@@ -2,8 +2,7 @@ use Rattle.std.specs.Prelude.{FitsSigned}
 use Rattle.std.specs.Int.{w64}
 use Rattle.std.proofs.Common.{rules, ◌+◌, Some, Ok, refl, ap, ◌∙◌}
 use Rattle.std.proofs.lemmas.Int.{to_z-of_z}
-use Rattle.at_wkt.specs.Positions.{value_in, faults_in}
-use Rattle.at_text.specs.Faults.{first_of}
+use Rattle.at_wkt.proofs.Names.{value_in, faults_in, first_of}
 use Rattle.at_wkt.proofs.NumberSteps.{number_stands}
 use Rattle.at_wkt.proofs.line.numbers.read_plain_number.Goals as goal
 

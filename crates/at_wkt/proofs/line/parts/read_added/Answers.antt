@@ -1,5 +1,4 @@
-use Rattle.at_wkt.specs.Geometry.{SpellsRing}
-use Rattle.at_wkt.specs.Readers.{Stuck}
+use Rattle.at_wkt.proofs.Names.{SpellsRing, Stuck}
 use Rattle.at_wkt.proofs.PartAnswers.{added_stands}
 use Rattle.at_text.proofs.Exits.{exits}
 use Rattle.at_wkt.proofs.line.parts.read_added.Goals as goal

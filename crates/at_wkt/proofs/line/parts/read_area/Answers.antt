@@ -1,7 +1,5 @@
 use Rattle.std.proofs.Common.{flat_map, ap, subst}
-use Rattle.at_wkt.specs.Positions.{faults_of_ring}
-use Rattle.at_wkt.specs.Geometry.{SpellsRing}
-use Rattle.at_wkt.specs.Readers.{Stuck, Items, added_path, Grows, PartStands}
+use Rattle.at_wkt.proofs.Names.{faults_of_ring, SpellsRing, Stuck, Items, added_path, Grows, PartStands}
 use Rattle.at_wkt.proofs.PartAnswers.{area_stands}
 use Rattle.at_text.proofs.Exits.{exits}
 use Rattle.at_wkt.proofs.line.parts.read_area.Goals as goal

@@ -1,5 +1,4 @@
-use Rattle.at_wkt.specs.Geometry.{SpellsPosition}
-use Rattle.at_wkt.specs.Readers.{Stuck, Item}
+use Rattle.at_wkt.proofs.Names.{SpellsPosition, Stuck, Item}
 use Rattle.at_wkt.proofs.PartAnswers.{position_item}
 use Rattle.at_text.proofs.Exits.{exits}
 use Rattle.at_wkt.proofs.line.parts.read_bare.Goals as goal

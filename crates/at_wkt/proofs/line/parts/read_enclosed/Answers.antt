@@ -1,7 +1,6 @@
 use Rattle.std.proofs.Common.{◌+◌}
 use Rattle.std.proofs.lemmas.Bool.{not-false, not-true}
-use Rattle.at_wkt.specs.Geometry.{SpellsPosition}
-use Rattle.at_wkt.specs.Readers.{Stuck, Item}
+use Rattle.at_wkt.proofs.Names.{SpellsPosition, Stuck, Item}
 use Rattle.at_wkt.proofs.PartAnswers.{enclosed_stuck, enclosed_comma, enclosed_stands}
 use Rattle.at_text.proofs.Exits.{exits}
 use Rattle.at_wkt.proofs.line.parts.read_enclosed.Goals as goal

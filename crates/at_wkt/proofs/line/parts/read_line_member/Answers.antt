@@ -1,6 +1,5 @@
 use Rattle.std.proofs.Common.{Some, None}
-use Rattle.at_wkt.specs.Geometry.{SpellsRing, SpellsList}
-use Rattle.at_wkt.specs.Readers.{Stuck, added_line, line_faults}
+use Rattle.at_wkt.proofs.Names.{SpellsRing, SpellsList, Stuck, added_line, line_faults}
 use Rattle.at_wkt.proofs.BodySteps.{list_choice, blankless, choice_begins}
 use Rattle.at_wkt.proofs.ListSteps.{item_stuck}
 use Rattle.at_wkt.proofs.PartAnswers.{ended_item}

@@ -1,7 +1,6 @@
 use Rattle.std.proofs.Common.{Some, None, ap, arith}
 use Rattle.std.proofs.lemmas.Bool.{not-false, not-true}
-use Rattle.at_wkt.specs.Geometry.{SpellsRing, SpellsList}
-use Rattle.at_wkt.specs.Readers.{Stuck, Item, added_line, line_faults}
+use Rattle.at_wkt.proofs.Names.{SpellsRing, SpellsList, Stuck, Item, added_line, line_faults}
 use Rattle.at_wkt.proofs.BodySteps.{list_choice, choice_inhabited}
 use Rattle.at_wkt.proofs.ListSteps.{inhabited_lives}
 use Rattle.at_wkt.proofs.PathAnswers.{so_far_start, so_far_more, so_far_stuck}

@@ -1,6 +1,5 @@
 use Rattle.std.proofs.Common.{length, ◌-◌}
-use Rattle.at_wkt.specs.Geometry.{SpellsList}
-use Rattle.at_wkt.specs.Readers.{ItemsSoFar, added_line, line_faults}
+use Rattle.at_wkt.proofs.Names.{SpellsList, ItemsSoFar, added_line, line_faults}
 use Rattle.at_wkt.proofs.line.parts.read_line_members.Given as goal
 
 abbrev pub invariant-members : goal.invariant-members

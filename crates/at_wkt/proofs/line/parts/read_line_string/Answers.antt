@@ -1,7 +1,5 @@
 use Rattle.std.proofs.Common.{Some, None, refl, sym, ◌∙◌}
-use Rattle.at_wkt.specs.Geometry.{SpellsRing, SpellsList}
-use Rattle.at_wkt.specs.declared.line.paths.Role.TheVariants.{Line}
-use Rattle.at_wkt.specs.Readers.{faults_of_path, added_line, line_faults, added_path}
+use Rattle.at_wkt.proofs.Names.{SpellsRing, SpellsList, Line, faults_of_path, added_line, line_faults, added_path}
 use Rattle.at_wkt.proofs.BodySteps.{list_choice}
 use Rattle.at_wkt.proofs.PartAnswers.{nothing_stands, opened_stands, none_faults}
 use Rattle.at_wkt.proofs.line.parts.read_line_string.Goals as goal

@@ -1,6 +1,5 @@
 use Rattle.std.proofs.Common.{[], flat_map, refl, sym, ◌∙◌}
-use Rattle.at_wkt.specs.Geometry.{SpellsList, EmptyOrParted}
-use Rattle.at_wkt.specs.Readers.{added_line, line_faults}
+use Rattle.at_wkt.proofs.Names.{SpellsList, EmptyOrParted, added_line, line_faults}
 use Rattle.at_wkt.proofs.BodySteps.{parted_choice, Bracketed}
 use Rattle.at_wkt.proofs.PartAnswers.{nothing_stands, bracketed_stands, open_byte}
 use Rattle.at_wkt.proofs.line.parts.read_line_strings.Goals as goal

@@ -1,7 +1,5 @@
 use Rattle.std.proofs.Common.{Some, None, refl, sym, ◌∙◌}
-use Rattle.at_wkt.specs.Positions.{position_faults}
-use Rattle.at_wkt.specs.Geometry.{SpellsPoint}
-use Rattle.at_wkt.specs.Readers.{EnclosedPosition, added_point, point_faults, added_position}
+use Rattle.at_wkt.proofs.Names.{position_faults, SpellsPoint, EnclosedPosition, added_point, point_faults, added_position}
 use Rattle.at_wkt.proofs.BodySteps.{point_choice}
 use Rattle.at_wkt.proofs.PartAnswers.{nothing_stands, opened_stands, none_faults}
 use Rattle.at_wkt.proofs.line.parts.read_point.Goals as goal

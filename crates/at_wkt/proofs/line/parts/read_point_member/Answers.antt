@@ -1,6 +1,5 @@
 use Rattle.std.proofs.Common.{sym, ◌∙◌}
-use Rattle.at_wkt.specs.Geometry.{SpellsPoint, SpellsPointMember}
-use Rattle.at_wkt.specs.Readers.{Stuck, added_point, point_faults}
+use Rattle.at_wkt.proofs.Names.{SpellsPoint, SpellsPointMember, Stuck, added_point, point_faults}
 use Rattle.at_wkt.proofs.BodySteps.{member_begins}
 use Rattle.at_wkt.proofs.PartAnswers.{ended_item, member_stands, member_stuck, bare_stands}
 use Rattle.at_text.proofs.Exits.{exits}

@@ -1,7 +1,6 @@
 use Rattle.std.proofs.Common.{ap, arith}
 use Rattle.std.proofs.lemmas.Bool.{not-false, not-true}
-use Rattle.at_wkt.specs.Geometry.{SpellsPointMember}
-use Rattle.at_wkt.specs.Readers.{Stuck, Item, added_point, point_faults}
+use Rattle.at_wkt.proofs.Names.{SpellsPointMember, Stuck, Item, added_point, point_faults}
 use Rattle.at_wkt.proofs.BodySteps.{member_inhabited}
 use Rattle.at_wkt.proofs.ListSteps.{inhabited_lives}
 use Rattle.at_wkt.proofs.PathAnswers.{so_far_start, so_far_more, so_far_stuck}

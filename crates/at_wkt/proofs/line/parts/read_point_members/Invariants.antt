@@ -1,6 +1,5 @@
 use Rattle.std.proofs.Common.{length, ◌-◌}
-use Rattle.at_wkt.specs.Geometry.{SpellsPointMember}
-use Rattle.at_wkt.specs.Readers.{ItemsSoFar, added_point, point_faults}
+use Rattle.at_wkt.proofs.Names.{SpellsPointMember, ItemsSoFar, added_point, point_faults}
 use Rattle.at_wkt.proofs.line.parts.read_point_members.Given as goal
 
 abbrev pub invariant-members : goal.invariant-members

@@ -1,6 +1,5 @@
 use Rattle.std.proofs.Common.{[], flat_map, refl, sym, ◌∙◌}
-use Rattle.at_wkt.specs.Geometry.{SpellsPointMember, EmptyOrParted}
-use Rattle.at_wkt.specs.Readers.{added_point, point_faults}
+use Rattle.at_wkt.proofs.Names.{SpellsPointMember, EmptyOrParted, added_point, point_faults}
 use Rattle.at_wkt.proofs.BodySteps.{parted_choice, Bracketed}
 use Rattle.at_wkt.proofs.PartAnswers.{nothing_stands, bracketed_stands, open_byte}
 use Rattle.at_wkt.proofs.line.parts.read_points.Goals as goal

@@ -1,6 +1,5 @@
 use Rattle.std.proofs.Common.{[], refl, sym, ◌∙◌}
-use Rattle.at_wkt.specs.Meaning.{polygons_of, faults_of_area}
-use Rattle.at_wkt.specs.Geometry.{SpellsRing, EmptyOrParted}
+use Rattle.at_wkt.proofs.Names.{polygons_of, faults_of_area, SpellsRing, EmptyOrParted}
 use Rattle.at_wkt.proofs.BodySteps.{parted_choice, Bracketed}
 use Rattle.at_wkt.proofs.PartAnswers.{nothing_stands, bracketed_stands, open_byte}
 use Rattle.at_wkt.proofs.line.parts.read_polygon.Goals as goal

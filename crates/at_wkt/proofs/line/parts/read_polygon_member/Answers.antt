@@ -1,7 +1,5 @@
 use Rattle.std.proofs.Common.{[]}
-use Rattle.at_wkt.specs.Meaning.{polygons_of, faults_of_area}
-use Rattle.at_wkt.specs.Geometry.{SpellsRing, SpellsArea}
-use Rattle.at_wkt.specs.Readers.{Stuck}
+use Rattle.at_wkt.proofs.Names.{polygons_of, faults_of_area, SpellsRing, SpellsArea, Stuck}
 use Rattle.at_wkt.proofs.BodySteps.{parted_choice, blankless, choice_begins}
 use Rattle.at_wkt.proofs.ListSteps.{item_stuck}
 use Rattle.at_wkt.proofs.PartAnswers.{ended_item}

@@ -1,8 +1,6 @@
 use Rattle.std.proofs.Common.{[], ap, arith}
 use Rattle.std.proofs.lemmas.Bool.{not-false, not-true}
-use Rattle.at_wkt.specs.Meaning.{polygons_of, faults_of_area}
-use Rattle.at_wkt.specs.Geometry.{SpellsRing, SpellsArea}
-use Rattle.at_wkt.specs.Readers.{Stuck, Item}
+use Rattle.at_wkt.proofs.Names.{polygons_of, faults_of_area, SpellsRing, SpellsArea, Stuck, Item}
 use Rattle.at_wkt.proofs.BodySteps.{parted_choice, choice_inhabited}
 use Rattle.at_wkt.proofs.ListSteps.{inhabited_lives}
 use Rattle.at_wkt.proofs.PathAnswers.{so_far_start, so_far_more, so_far_stuck}

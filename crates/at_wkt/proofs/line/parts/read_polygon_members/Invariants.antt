@@ -1,7 +1,5 @@
 use Rattle.std.proofs.Common.{length, ◌-◌}
-use Rattle.at_wkt.specs.Meaning.{polygons_of, faults_of_area}
-use Rattle.at_wkt.specs.Geometry.{SpellsArea}
-use Rattle.at_wkt.specs.Readers.{ItemsSoFar}
+use Rattle.at_wkt.proofs.Names.{polygons_of, faults_of_area, SpellsArea, ItemsSoFar}
 use Rattle.at_wkt.proofs.line.parts.read_polygon_members.Given as goal
 
 abbrev pub invariant-members : goal.invariant-members

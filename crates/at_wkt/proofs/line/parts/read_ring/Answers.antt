@@ -1,7 +1,5 @@
 use Rattle.std.proofs.Common.{sym, ◌∙◌}
-use Rattle.at_wkt.specs.Positions.{faults_of_ring}
-use Rattle.at_wkt.specs.Geometry.{SpellsRing}
-use Rattle.at_wkt.specs.Readers.{Stuck, added_path}
+use Rattle.at_wkt.proofs.Names.{faults_of_ring, SpellsRing, Stuck, added_path}
 use Rattle.at_wkt.proofs.BodySteps.{ring_no_blank}
 use Rattle.at_wkt.proofs.ListSteps.{item_stuck}
 use Rattle.at_wkt.proofs.PartAnswers.{ended_item, ring_missing}

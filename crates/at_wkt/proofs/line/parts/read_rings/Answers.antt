@@ -1,8 +1,6 @@
 use Rattle.std.proofs.Common.{ap, arith}
 use Rattle.std.proofs.lemmas.Bool.{not-false, not-true}
-use Rattle.at_wkt.specs.Positions.{faults_of_ring}
-use Rattle.at_wkt.specs.Geometry.{SpellsRing}
-use Rattle.at_wkt.specs.Readers.{Stuck, Item, added_path}
+use Rattle.at_wkt.proofs.Names.{faults_of_ring, SpellsRing, Stuck, Item, added_path}
 use Rattle.at_wkt.proofs.BodySteps.{ring_inhabited}
 use Rattle.at_wkt.proofs.ListSteps.{inhabited_lives}
 use Rattle.at_wkt.proofs.PathAnswers.{so_far_start, so_far_more, so_far_stuck}

@@ -1,7 +1,5 @@
 use Rattle.std.proofs.Common.{length, ◌-◌}
-use Rattle.at_wkt.specs.Positions.{faults_of_ring}
-use Rattle.at_wkt.specs.Geometry.{SpellsRing}
-use Rattle.at_wkt.specs.Readers.{ItemsSoFar, added_path}
+use Rattle.at_wkt.proofs.Names.{faults_of_ring, SpellsRing, ItemsSoFar, added_path}
 use Rattle.at_wkt.proofs.line.parts.read_rings.Given as goal
 
 abbrev pub invariant-rings : goal.invariant-rings

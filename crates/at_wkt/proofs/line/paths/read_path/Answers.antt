@@ -1,6 +1,5 @@
 use Rattle.std.proofs.Common.{◌+◌, length, ◌∙◌, ap, refl}
-use Rattle.at_wkt.specs.Geometry.{SpellsPosition}
-use Rattle.at_wkt.specs.Readers.{Items, Stuck, fault_of_path}
+use Rattle.at_wkt.proofs.Names.{SpellsPosition, Items, Stuck, fault_of_path}
 use Rattle.at_wkt.proofs.PathAnswers.{path_stands, path_stuck}
 use Rattle.at_text.proofs.Exits.{exits}
 use Rattle.at_wkt.proofs.line.paths.read_path.Goals as goal

@@ -1,7 +1,6 @@
 use Rattle.std.proofs.Common.{◌≡◌, [], ◌∷◌, ◌++◌, refl, sym, ◌∙◌, ap, subst, arith}
 use Rattle.std.proofs.lemmas.Bool.{not-false, not-true}
-use Rattle.at_wkt.specs.Geometry.{SpellsPosition}
-use Rattle.at_wkt.specs.Readers.{Item, Stuck, PositionsSoFar}
+use Rattle.at_wkt.proofs.Names.{SpellsPosition, Item, Stuck, PositionsSoFar}
 use Rattle.at_wkt.proofs.PathAnswers.{positions_start, positions_more, positions_stuck, positions_stuck_first, positions_end}
 use Rattle.at_text.proofs.Exits.{exits}
 use Rattle.at_wkt.proofs.line.paths.read_positions.Goals as goal

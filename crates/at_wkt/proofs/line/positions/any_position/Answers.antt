@@ -1,6 +1,5 @@
 use Rattle.std.proofs.Common.{ℕ, sym, subst}
-use Rattle.at_wkt.specs.Geometry.{SpellsPosition}
-use Rattle.at_wkt.specs.Readers.{Item, Stuck, FurtherNumbers, NumberBreaks, SkipsBlanks}
+use Rattle.at_wkt.proofs.Names.{SpellsPosition, Item, Stuck, FurtherNumbers, NumberBreaks, SkipsBlanks}
 use Rattle.at_wkt.proofs.PositionAnswers.{position_stands, apart}
 use Rattle.at_wkt.proofs.ListSteps.{position_broken_first, position_joined, position_broken_second, position_further}
 use Rattle.at_text.proofs.Exits.{exits}

@@ -1,6 +1,5 @@
 use Rattle.std.proofs.Common.{◌+◌, None, refl, sym, ap₂, arith, lit<}
-use Rattle.at_text.specs.Faults.{first_fault}
-use Rattle.at_wkt.specs.Readers.{next}
+use Rattle.at_wkt.proofs.Names.{first_fault, next}
 use Rattle.at_wkt.proofs.ByteSteps.{test_eq, byte_inside}
 use Rattle.at_wkt.proofs.PositionAnswers.{position_stands}
 use Rattle.at_wkt.proofs.PlainAnswers.{one_skipped, space_skipped}

@@ -1,6 +1,5 @@
 use Rattle.std.proofs.Common.{zero, refl, arith}
-use Rattle.at_wkt.specs.declared.line.dimension.Dimension.TheVariants.{Open}
-use Rattle.at_wkt.specs.Readers.{Stuck, Expected}
+use Rattle.at_wkt.proofs.Names.{Open, Stuck, Expected}
 use Rattle.at_wkt.proofs.LineAnswers.{line_stuck, line_spelled, line_beyond}
 use Rattle.at_text.proofs.Exits.{exits}
 use Rattle.at_wkt.proofs.line.reading.read_between.Goals as goal

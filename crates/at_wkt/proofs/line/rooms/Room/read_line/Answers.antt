@@ -1,7 +1,5 @@
 use Rattle.std.proofs.Common.{Option, take, subst, sym, ◌∙◌}
-use Rattle.at_text.specs.declared.faults.Fault.{Fault}
-use Rattle.at_wkt.specs.Answers.{SpellsLine, faulty}
-use Rattle.at_wkt.specs.Readers.{gathered_shape}
+use Rattle.at_wkt.proofs.Names.{Fault, SpellsLine, faulty, gathered_shape}
 use Rattle.at_wkt.proofs.line.rooms.Room.read_line.Goals as goal
 
 pub returns-in-Some : goal.returns-in-Some
