@@ -1,15 +1,17 @@
 -- What the bands of a shape decide of the shape.
 -- For `meets`.
-use Rattle.std.proofs.Common.{◌≡◌, ℕ, ℤ, ◌+◌, ◌<◌, length, drop, get_or, inl, inr, true, List, [], ◌∷◌, Option, None, arith, sym, subst}
+use Rattle.std.proofs.Common.{◌≡◌, ℕ, ℤ, ◌+◌, ◌<◌, length, drop, get_or, inl, inr, List, [], ◌∷◌, arith, sym, subst}
 use Rattle.std.specs.Prelude.{All, IsTrue, map}
+use Rattle.std.specs.List.{filter}
 use Rattle.std.specs.Int.{int_min, int_max}
 use Rattle.std.proofs.lemmas.Int.{ints, clamps}
 use Rattle.std.proofs.lemmas.List.{drop_more}
+use Rattle.std.proofs.lemmas.List.Elements.{All-head, All-tail}
 use Rattle.at_text.specs.Lists.{SomeOf}
 use Rattle.at_geom.specs.declared.positions.Pos.{Pos}
 use Rattle.at_geom.specs.declared.shapes.Shape.{Shape}
 use Rattle.at_geom.specs.Segments.{HaveCommonPoint}
-use Rattle.at_geom.specs.Shapes.{MeetsSome, segments, positions, extent_of}
+use Rattle.at_geom.specs.Shapes.{MeetsSome, segments, positions}
 use Rattle.at_geom.proofs.CommonPoint.{common_point_out}
 use Rattle.at_geom.proofs.Found.{found_segment, extent_covers, sides}
 use Rattle.at_geom.proofs.Elements.{not_first}
@@ -18,44 +20,30 @@ use Rattle.at_band.specs.declared.zones.Zone.{Zone}
 use Rattle.at_band.specs.declared.bands.Frame.{Frame}
 use Rattle.at_band.specs.declared.thinning.Heights.{Heights}
 use Rattle.at_band.specs.Thinned.{spans}
-use Rattle.at_band.specs.Banded.{IsAt, IsBandOf, heights_of_band, IsZoneOf, heights_of_zone, AreZonesOf, AreKept, MeetsWithin, MeetsSomeWithin, IsMetIn, IsMetInZone}
+use Rattle.at_band.specs.Banded.{IsAt, heights_of_band, IsZoneOf, heights_of_zone, AreZonesOf, MeetsWithin, MeetsSomeWithin, IsMetIn, IsMetInZone}
 use Rattle.at_band.proofs.Filtered.{same_some}
 use Rattle.at_band.proofs.ThinnedEdges.{spans_true}
-use Rattle.at_band.proofs.ThinnedRegions.{IsLevel}
-use Rattle.at_band.proofs.ThinnedRanges.{all_first, all_rest}
 
 pub some_map : {X : Type 0} (P Q : X → Type 0) → ((x : X) → P x → Q x) → (xs : List X) → SomeOf P xs → SomeOf Q xs
 some_map P Q f [] h = absurd h
 some_map P Q f (x ∷ xs) (inl h) = inl (f x h)
 some_map P Q f (x ∷ xs) (inr h) = inr (some_map P Q f xs h)
 
-some_by : {X Y : Type 0} (P : Y → Type 0) (f : X → Y) (xs : List X) → SomeOf P (map f xs) → SomeOf (λ x. P (f x)) xs
+pub some_by : {X Y : Type 0} (P : Y → Type 0) (f : X → Y) (xs : List X) → SomeOf P (map f xs) → SomeOf (λ x. P (f x)) xs
 some_by P f [] h = absurd h
 some_by P f (x ∷ xs) (inl h) = inl h
 some_by P f (x ∷ xs) (inr h) = inr (some_by P f xs h)
 
 some_kept_map : {X : Type 0} (K P Q : X → Type 0) → ((x : X) → K x → P x → Q x) → (xs : List X) → All K xs → SomeOf P xs → SomeOf Q xs
 some_kept_map K P Q f [] k h = absurd h
-some_kept_map K P Q f (x ∷ xs) k (inl h) = inl (f x (all_first K x xs k) h)
-some_kept_map K P Q f (x ∷ xs) k (inr h) = inr (some_kept_map K P Q f xs (all_rest K x xs k) h)
-
--- ---- a position
-
-pub level_of : (p : Pos) (band : Band) → IsAt p.y band.heights → IsLevel band.heights.low band.heights.high p
-level_of p band h = record { above = h.0; below = h.1 }
+some_kept_map K P Q f (x ∷ xs) k (inl h) = inl (f x (All-head K x xs k) h)
+some_kept_map K P Q f (x ∷ xs) k (inr h) = inr (some_kept_map K P Q f xs (All-tail K x xs k) h)
 
 -- ---- a segment and one band
 
-reaches_in : (low high : ℤ) (a b : Pos) (f : Pos × Pos) → MeetsWithin low high a b f → spans low high f ≡ true
-reaches_in low high a b f h = h.0
-
-pub met_part : (s : Shape) (band : Band) (a b : Pos) → IsBandOf s band → MeetsSomeWithin band.heights.low band.heights.high a b (segments s) → MeetsSomeWithin band.heights.low band.heights.high a b (segments band.part)
-met_part s band a b h k =
-    same_some (MeetsWithin band.heights.low band.heights.high a b) (spans band.heights.low band.heights.high) (reaches_in band.heights.low band.heights.high a b) (segments s) (segments band.part) (sym h.same_edges) k
-
-pub met_whole : (s : Shape) (band : Band) (a b : Pos) → IsBandOf s band → MeetsSomeWithin band.heights.low band.heights.high a b (segments band.part) → MeetsSomeWithin band.heights.low band.heights.high a b (segments s)
-met_whole s band a b h k =
-    same_some (MeetsWithin band.heights.low band.heights.high a b) (spans band.heights.low band.heights.high) (reaches_in band.heights.low band.heights.high a b) (segments band.part) (segments s) h.same_edges k
+-- of two lists with the same segments that reach into the heights
+pub met_same : (low high : ℤ) (a b : Pos) (xs ys : List (Pos × Pos)) → filter (spans low high) xs ≡ filter (spans low high) ys → MeetsSomeWithin low high a b xs → MeetsSomeWithin low high a b ys
+met_same low high a b xs ys e h = same_some (MeetsWithin low high a b) (spans low high) (λ f k. k.0) xs ys e h
 
 pub met_somewhere : (low high : ℤ) (a b : Pos) (others : List (Pos × Pos)) → MeetsSomeWithin low high a b others → MeetsSome a b others
 met_somewhere low high a b others h = some_map (MeetsWithin low high a b) (λ (f : Pos × Pos). HaveCommonPoint a b f.0 f.1) (λ f k. k.1) others h
@@ -64,7 +52,7 @@ met_somewhere low high a b others h = some_map (MeetsWithin low high a b) (λ (f
 met_here : (band : Band) (a b : Pos) → IsAt a.y band.heights → IsAt b.y band.heights → (f : Pos × Pos) → HaveCommonPoint a b f.0 f.1 → MeetsWithin band.heights.low band.heights.high a b f
 met_here band a b h k f m =
     let o = (common_point_out a b f.0 f.1 m).overlap_y in
-    (spans_true band.heights.low band.heights.high f.0 f.1 (let u = h.1 in let v = k.1 in omega (arith, ints, clamps, o)) (let u = h.0 in let v = k.0 in omega (arith, ints, clamps, o)), m)
+    (spans_true band.heights.low band.heights.high f.0 f.1 (omega (arith, ints, clamps, o, h.1, k.1)) (omega (arith, ints, clamps, o, h.0, k.0)), m)
 
 pub met_in_band : (band : Band) (a b : Pos) (others : List (Pos × Pos)) → IsAt a.y band.heights → IsAt b.y band.heights → MeetsSome a b others → MeetsSomeWithin band.heights.low band.heights.high a b others
 met_in_band band a b others h k m = some_map (λ (f : Pos × Pos). HaveCommonPoint a b f.0 f.1) (MeetsWithin band.heights.low band.heights.high a b) (met_here band a b h k) others m
@@ -74,13 +62,10 @@ met_in_band band a b others h k m = some_map (λ (f : Pos × Pos). HaveCommonPoi
 abbrev IsMemberMet : Pos → Pos → List (Pos × Pos) → Pos × Pos → Type 0
 IsMemberMet a b others f = HaveCommonPoint a b f.0 f.1 × ((low high : ℤ) → MeetsWithin low high a b f → MeetsSomeWithin low high a b others)
 
-one_later : (a b : Pos) (e : Pos × Pos) (others : List (Pos × Pos)) (f : Pos × Pos) → IsMemberMet a b others f → IsMemberMet a b (e ∷ others) f
-one_later a b e others f h = (h.0, λ low high k. inr (h.1 low high k))
-
 members_met : (a b : Pos) (others : List (Pos × Pos)) → MeetsSome a b others → SomeOf (IsMemberMet a b others) others
 members_met a b [] h = absurd h
 members_met a b (e ∷ others) (inl h) = inl (h, λ low high k. inl k)
-members_met a b (e ∷ others) (inr h) = inr (some_map (IsMemberMet a b others) (IsMemberMet a b (e ∷ others)) (one_later a b e others) others (members_met a b others h))
+members_met a b (e ∷ others) (inr h) = inr (some_map (IsMemberMet a b others) (IsMemberMet a b (e ∷ others)) (λ f k. (k.0, λ low high l. inr (k.1 low high l))) others (members_met a b others h))
 
 -- the lowest height that both segments have
 abbrev shared_height : Pos → Pos → Pos × Pos → ℤ
@@ -88,10 +73,9 @@ shared_height a b f = int_max (int_min a.y b.y) (int_min f.0.y f.1.y)
 
 heights_met : (a b : Pos) (f : Pos × Pos) → HaveCommonPoint a b f.0 f.1 → (heights : Heights) → IsAt (shared_height a b f) heights → IsTrue (spans heights.low heights.high (a, b)) × IsTrue (spans heights.low heights.high f)
 heights_met a b f h heights k =
-    let o = (common_point_out a b f.0 f.1 h).overlap_y in
-    let u = k.0 in let v = k.1 in (
-      spans_true heights.low heights.high a b (omega (arith, ints, clamps, o)) (omega (arith, ints, clamps, o)),
-      spans_true heights.low heights.high f.0 f.1 (omega (arith, ints, clamps, o)) (omega (arith, ints, clamps, o)),
+    let o = (common_point_out a b f.0 f.1 h).overlap_y in (
+      spans_true heights.low heights.high a b (omega (arith, ints, clamps, o, k.1)) (omega (arith, ints, clamps, o, k.0)),
+      spans_true heights.low heights.high f.0 f.1 (omega (arith, ints, clamps, o, k.1)) (omega (arith, ints, clamps, o, k.0)),
     )
 
 met_at : (s : Shape) (a b : Pos) (f : Pos × Pos) → IsMemberMet a b (segments s) f → (band : Band) → IsAt (shared_height a b f) band.heights → IsMetIn a b s band
@@ -105,7 +89,7 @@ zone_met_at s a b f h zone v k = (
       (some_by (IsAt (shared_height a b f)) heights_of_band zone.bands.items (v.covering (shared_height a b f) k.0 k.1)),
 )
 
-some_one : {X : Type 0} (P : X → Type 0) (xs : List X) → SomeOf P xs → (x : X) × P x
+pub some_one : {X : Type 0} (P : X → Type 0) (xs : List X) → SomeOf P xs → (x : X) × P x
 some_one P [] h = absurd h
 some_one P (x ∷ xs) (inl h) = (x, h)
 some_one P (x ∷ xs) (inr h) = some_one P xs h
@@ -115,29 +99,23 @@ pub met_in_zone : (s : Shape) (zone : Zone) (a b : Pos) → IsZoneOf s zone → 
 met_in_zone s zone a b v h k m =
     let (f, found) = some_one (IsMemberMet a b (segments s)) (segments s) (members_met a b (segments s) m) in
     let o = (common_point_out a b f.0 f.1 found.0).overlap_y in
-    let u = h.0 in let w = k.0 in let x = h.1 in let y = k.1 in
-    (zone_met_at s a b f found zone v (omega (arith, ints, clamps, o), omega (arith, ints, clamps, o))).1
+    (zone_met_at s a b f found zone v (omega (arith, ints, clamps, o, h.0, k.0), omega (arith, ints, clamps, o, h.1, k.1))).1
 
 pub met_zones : (s : Shape) (frame : Frame) (zones : List Zone) (a b : Pos) → AreZonesOf s frame zones → MeetsSome a b (segments s) → SomeOf (IsMetInZone a b s) zones
 met_zones s frame zones a b kept h =
     let (f, found) = found_segment frame.around (IsMemberMet a b (segments s)) s (extent_covers frame.around (positions s) kept.framed.extent_is) (members_met a b (segments s) h) in
     let o = (common_point_out a b f.0 f.1 found.0.0).overlap_y in
-    let u = sides frame.around f.0 found.1 in let v = sides frame.around f.1 found.2 in
-    let ub = u.below in let ua = u.above in let vb = v.below in let va = v.above in
+    let u = sides frame.around f.0 found.1 in
+    let v = sides frame.around f.1 found.2 in
     some_kept_map (IsZoneOf s) (λ (zone : Zone). IsAt (shared_height a b f) zone.heights) (IsMetInZone a b s) (zone_met_at s a b f found.0) zones kept.kept
-    (some_by (IsAt (shared_height a b f)) heights_of_zone zones (kept.covering (shared_height a b f) (omega (arith, ints, clamps, o)) (omega (arith, ints, clamps, o))))
+    (some_by (IsAt (shared_height a b f)) heights_of_zone zones (kept.covering (shared_height a b f) (omega (arith, ints, clamps, o, u.below, v.below)) (omega (arith, ints, clamps, o, u.above, v.above))))
 
 pub met_by_some : (s : Shape) (a b : Pos) (bands : List Band) → SomeOf (IsMetIn a b s) bands → MeetsSome a b (segments s)
-met_by_some s a b [] h = absurd h
-met_by_some s a b (band ∷ bands) (inl h) = met_somewhere band.heights.low band.heights.high a b (segments s) h.1
-met_by_some s a b (band ∷ bands) (inr h) = met_by_some s a b bands h
+met_by_some s a b bands h =
+    let (band, k) = some_one (IsMetIn a b s) bands h in
+    met_somewhere band.heights.low band.heights.high a b (segments s) k.1
 
 -- ---- one more element of a list is passed
 
 pub some_next : {X : Type 0} (Q : X → Type 0) (xs : List X) (i : ℕ) (d y : X) → i < length xs → y ≡ get_or xs i d → ¬ Q y → SomeOf Q (drop i xs) → SomeOf Q (drop (i + 1) xs)
 some_next {X} Q xs i d y lt e f h = not_first Q (get_or xs i d) (drop (i + 1) xs) (λ k. f (subst Q (sym e) k)) (subst (SomeOf Q) (drop_more xs i d lt) h)
-
--- ---- a shape without positions
-
-pub kept_none : (s : Shape) (frame : Option Frame) (zones : List Zone) → frame ≡ None → AreKept s frame zones → extent_of (positions s) ≡ None
-kept_none s frame zones e h = subst (λ (f : Option Frame). AreKept s f zones) e h

@@ -1,6 +1,8 @@
 -- Heights that are cut: each height is one of a part's.
 -- For `copy`, `meets` and `new`.
-use Rattle.std.proofs.Common.{◌≡◌, ℤ, ◌≤ℤ◌, ◌<ℤ◌, inl, List, [], ◌∷◌, ◌++◌, arith, sym, subst}
+use Rattle.std.proofs.Common.{◌≡◌, ℕ, ℤ, ◌+◌, ◌<◌, ◌≤ℤ◌, ◌<ℤ◌, inl, List, [], ◌∷◌, ◌++◌, length, get_or, take, arith, sym, subst, ap, ap₂, ◌∙◌}
+use Rattle.std.specs.Prelude.{map}
+use Rattle.std.proofs.lemmas.List.{map-append, take_more}
 use Rattle.std.proofs.lemmas.Int.{ints, by_lt_z}
 use Rattle.at_text.specs.Lists.{SomeOf}
 use Rattle.at_geom.proofs.Elements.{some_left, some_right}
@@ -20,3 +22,8 @@ covering_more low end parts next e f y h k =
 
 pub covering_next : (low end : ℤ) (parts : List Heights) (next : Heights) → next.low ≡ end → AreCoveringBelow low end parts → AreCoveringBelow low next.high (parts ++ next ∷ [])
 covering_next low end parts next e f y h k = covering_more low end parts next e f y h (omega (arith, ints, k))
+
+-- one more is made, at the next of the cuts
+pub made_more : {X : Type 0} (f : X → Heights) (longer before : List X) (made : X) (cuts : List Heights) (i : ℕ) (d : Heights) → i < length cuts → longer ≡ before ++ made ∷ [] → map f before ≡ take i cuts
+    → f made ≡ get_or cuts i d → map f longer ≡ take (i + 1) cuts
+made_more f longer before made cuts i d l e g h = ap (map f) e ∙ (map-append f before (made ∷ []) ∙ (ap₂ (λ xs x. xs ++ x ∷ []) g h ∙ sym (take_more cuts i d l)))

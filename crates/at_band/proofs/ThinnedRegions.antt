@@ -1,10 +1,10 @@
 -- At a height, a position is in the same polygons of a shape and of what is kept of the shape for heights round it.
 -- For `copy`, `meets` and `new`.
-use Rattle.std.proofs.Common.{◌≡◌, ℤ, ◌≤ℤ◌, ◌⊎◌, inl, inr, Bool, true, false, not, List, [], ◌∷◌, ◌++◌, arith, refl, sym, ap, subst, ◌∙◌}
+use Rattle.std.proofs.Common.{◌≡◌, ℤ, ◌≤ℤ◌, ◌⊎◌, inl, inr, Bool, true, not, List, [], ◌∷◌, ◌++◌, arith, refl, sym, ap, subst, ◌∙◌}
 use Rattle.std.specs.Prelude.{IsTrue, ◌%◌, ◌==◌}
-use Rattle.std.specs.List.{AllByRecursion}
+use Rattle.std.specs.List.{filter, AllByRecursion}
 use Rattle.std.proofs.lemmas.Int.{ints, clamps}
-use Rattle.std.proofs.lemmas.Bool.{false≢true}
+use Rattle.std.proofs.lemmas.Bool.{false≢true, true_from_ne_false}
 use Rattle.at_geom.specs.declared.positions.Pos.{Pos}
 use Rattle.at_geom.specs.declared.shapes.Polygon.{Polygon}
 use Rattle.at_geom.specs.Segments.{IsOn, edges}
@@ -21,44 +21,36 @@ pub record IsLevel (low high : ℤ) (p : Pos) : Type 0 where
   pub above : low ≤ℤ p.y
   pub below : p.y ≤ℤ high
 
-pub ordered : (low high : ℤ) (p : Pos) → IsLevel low high p → low ≤ℤ high
-ordered low high p v = let k = v.above in let m = v.below in omega (arith, ints)
+ordered : (low high : ℤ) (p : Pos) → IsLevel low high p → low ≤ℤ high
+ordered low high p v = omega (arith, ints, v.above, v.below)
 
 pub on_spans : (low high : ℤ) (p : Pos) → IsLevel low high p → (e : Pos × Pos) → IsOn p e.0 e.1 → spans low high e ≡ true
 on_spans low high p v e h =
     let o = on_out p e.0 e.1 h in
-    spans_true low high e.0 e.1 (let k = v.below in let m = o.between_y.0 in omega (arith, ints)) (let k = v.above in let m = o.between_y.1 in omega (arith, ints))
+    spans_true low high e.0 e.1 (omega (arith, ints, v.below, o.between_y.0)) (omega (arith, ints, v.above, o.between_y.1))
 
 beside_not_between : (low high : ℤ) (p a b : Pos) → IsLevel low high p → AreBeside low high a b → ¬ Between a.y b.y p.y
-beside_not_between low high p a b v (inl h) t = let k = v.below in let m = t.0 in let n = h.0 in let q = h.1 in omega (arith, ints, clamps)
-beside_not_between low high p a b v (inr h) t = let k = v.above in let m = t.1 in let n = h.0 in let q = h.1 in omega (arith, ints, clamps)
-
-crossed_by : (low high : ℤ) (p : Pos) → IsLevel low high p → (e : Pos × Pos) (s : Bool) → spans low high e ≡ s → is_crossed p e ≡ true → s ≡ true
-crossed_by low high p v e true f h = refl
-crossed_by low high p v (a, b) false f h = sym (not_level p a b (beside_not_between low high p a b v (out_beside low high a b f))).1 ∙ h
+beside_not_between low high p a b v (inl h) t = omega (arith, ints, clamps, v.below, t.0, h.0, h.1)
+beside_not_between low high p a b v (inr h) t = omega (arith, ints, clamps, v.above, t.1, h.0, h.1)
 
 crossed_spans : (low high : ℤ) (p : Pos) → IsLevel low high p → (e : Pos × Pos) → is_crossed p e ≡ true → spans low high e ≡ true
-crossed_spans low high p v e h = crossed_by low high p v e (spans low high e) refl h
+crossed_spans low high p v (a, b) h =
+    true_from_ne_false (spans low high (a, b)) (λ f. false≢true (sym (not_level p a b (beside_not_between low high p a b v (out_beside low high a b f))).1 ∙ h))
 
 -- ---- rings
 
-pub on_thinned : (low high : ℤ) (p : Pos) → IsLevel low high p → (ring : List Pos) → IsOnRing p ring → IsOnRing p (thinned low high ring)
-on_thinned low high p v ring h = same_some (λ (e : Pos × Pos). IsOn p e.0 e.1) (spans low high) (on_spans low high p v) (edges ring) (edges (thinned low high ring)) (sym (thinned_edges low high (ordered low high p v) ring)) h
+-- what is told by the edges or the crossings, of two rings with the same edges that reach into the heights
+same_ring : (low high : ℤ) (p : Pos) → IsLevel low high p → (f : Bool → Bool) (ring other : List Pos) → filter (spans low high) (edges ring) ≡ filter (spans low high) (edges other)
+    → IsOnRing p ring ⊎ IsTrue (f (is_odd_for p ring)) → IsOnRing p other ⊎ IsTrue (f (is_odd_for p other))
+same_ring low high p v f ring other e (inl h) = inl (same_some (λ (d : Pos × Pos). IsOn p d.0 d.1) (spans low high) (on_spans low high p v) (edges ring) (edges other) e h)
+same_ring low high p v f ring other e (inr h) =
+    inr (subst (λ b. IsTrue (f b)) (ap (λ n. n % 2 == 1) (same_count (is_crossed p) (spans low high) (crossed_spans low high p v) (edges ring) (edges other) e)) h)
 
-pub on_whole : (low high : ℤ) (p : Pos) → IsLevel low high p → (ring : List Pos) → IsOnRing p (thinned low high ring) → IsOnRing p ring
-on_whole low high p v ring h = same_some (λ (e : Pos × Pos). IsOn p e.0 e.1) (spans low high) (on_spans low high p v) (edges (thinned low high ring)) (edges ring) (thinned_edges low high (ordered low high p v) ring) h
-
-pub odd_same : (low high : ℤ) (p : Pos) → IsLevel low high p → (ring : List Pos) → is_odd_for p (thinned low high ring) ≡ is_odd_for p ring
-odd_same low high p v ring = ap (λ n. n % 2 == 1) (same_count (is_crossed p) (spans low high) (crossed_spans low high p v) (edges (thinned low high ring)) (edges ring) (thinned_edges low high (ordered low high p v) ring))
-
--- what is told by the edge or the crossings
 by_ring : (low high : ℤ) (p : Pos) → IsLevel low high p → (f : Bool → Bool) (ring : List Pos) → IsOnRing p ring ⊎ IsTrue (f (is_odd_for p ring)) → IsOnRing p (thinned low high ring) ⊎ IsTrue (f (is_odd_for p (thinned low high ring)))
-by_ring low high p v f ring (inl h) = inl (on_thinned low high p v ring h)
-by_ring low high p v f ring (inr h) = inr (subst (λ b. IsTrue (f b)) (sym (odd_same low high p v ring)) h)
+by_ring low high p v f ring h = same_ring low high p v f ring (thinned low high ring) (sym (thinned_edges low high (ordered low high p v) ring)) h
 
 of_ring : (low high : ℤ) (p : Pos) → IsLevel low high p → (f : Bool → Bool) (ring : List Pos) → IsOnRing p (thinned low high ring) ⊎ IsTrue (f (is_odd_for p (thinned low high ring))) → IsOnRing p ring ⊎ IsTrue (f (is_odd_for p ring))
-of_ring low high p v f ring (inl h) = inl (on_whole low high p v ring h)
-of_ring low high p v f ring (inr h) = inr (subst (λ b. IsTrue (f b)) (odd_same low high p v ring) h)
+of_ring low high p v f ring h = same_ring low high p v f (thinned low high ring) ring (thinned_edges low high (ordered low high p v) ring) h
 
 -- ---- holes
 
@@ -70,11 +62,11 @@ hole_out : (p : Pos) (ring : List Pos) (rest : List (List Pos)) → AllByRecursi
 hole_out p [] rest h = (inr refl, h)
 hole_out p (a ∷ ring) rest h = h
 
-pub holes_thinned : (low high : ℤ) (p : Pos) → IsLevel low high p → (holes : List (List Pos)) → AllByRecursion (IsNotInHole p) holes → AllByRecursion (IsNotInHole p) (thinned_paths low high holes)
+holes_thinned : (low high : ℤ) (p : Pos) → IsLevel low high p → (holes : List (List Pos)) → AllByRecursion (IsNotInHole p) holes → AllByRecursion (IsNotInHole p) (thinned_paths low high holes)
 holes_thinned low high p v [] h = tt
 holes_thinned low high p v (hole ∷ holes) h = hole_in p (thinned low high hole) (thinned_paths low high holes) (by_ring low high p v not hole h.0) (holes_thinned low high p v holes h.1)
 
-pub holes_whole : (low high : ℤ) (p : Pos) → IsLevel low high p → (holes : List (List Pos)) → AllByRecursion (IsNotInHole p) (thinned_paths low high holes) → AllByRecursion (IsNotInHole p) holes
+holes_whole : (low high : ℤ) (p : Pos) → IsLevel low high p → (holes : List (List Pos)) → AllByRecursion (IsNotInHole p) (thinned_paths low high holes) → AllByRecursion (IsNotInHole p) holes
 holes_whole low high p v [] h = tt
 holes_whole low high p v (hole ∷ holes) h =
     let k = hole_out p (thinned low high hole) (thinned_paths low high holes) h in
@@ -85,12 +77,8 @@ holes_whole low high p v (hole ∷ holes) h =
 abbrev same_bool : Bool → Bool
 same_bool b = b
 
-not_in_nothing : (p : Pos) → IsOnRing p [] ⊎ IsTrue (is_odd_for p []) → ⊥
-not_in_nothing p (inl h) = h
-not_in_nothing p (inr h) = false≢true h
-
 polygon_in : (p : Pos) (exterior : List Pos) (holes : List (List Pos)) (rest : List Polygon) → IsInRings p (exterior ∷ holes) ⊎ IsInSome p rest → IsInSome p (polygon_if_some exterior holes ++ rest)
-polygon_in p [] [] rest (inl h) = absurd (not_in_nothing p h.0)
+polygon_in p [] [] rest (inl h) = absurd (elim h.0 [ inl k ↦ k | inr k ↦ false≢true k ])
 polygon_in p [] [] rest (inr h) = h
 polygon_in p [] (hole ∷ holes) rest h = h
 polygon_in p (a ∷ ring) holes rest h = h

@@ -1,91 +1,85 @@
 -- Positions that lie on a shape, by its parts, and by what is kept of it for a band.
 -- For `meets`.
-use Rattle.std.proofs.Common.{◌≡◌, ℤ, ◌⊎◌, inl, inr, Bool, true, false, not, Some, List, [], ◌∷◌, ◌++◌, sym, subst}
+use Rattle.std.proofs.Common.{◌≡◌, ◌⊎◌, inl, inr, not, Some, List, [], ◌∷◌, ◌++◌, sym, subst, ◌∙◌}
 use Rattle.std.specs.Prelude.{IsTrue, flat_map}
-use Rattle.std.specs.List.{AllByRecursion}
+use Rattle.std.specs.List.{filter, AllByRecursion}
+use Rattle.std.proofs.lemmas.Bool.{false≢true, not-true}
+use Rattle.std.proofs.lemmas.List.{append-nil}
 use Rattle.at_text.specs.Lists.{SomeOf}
 use Rattle.at_geom.specs.declared.positions.Pos.{Pos}
 use Rattle.at_geom.specs.declared.shapes.Polygon.{Polygon}
 use Rattle.at_geom.specs.declared.shapes.Shape.{Shape}
 use Rattle.at_geom.specs.Segments.{HaveCommonPoint, edges}
 use Rattle.at_geom.specs.declared.rectangles.Extent.{Extent}
-use Rattle.at_geom.specs.Regions.{IsOnRing, is_odd_for, IsNotInHole}
+use Rattle.at_geom.specs.Regions.{IsOnRing, is_odd_for, IsNotInHole, IsInRings}
 use Rattle.at_geom.proofs.Found.{TouchesBox, touches}
 use Rattle.at_geom.specs.Shapes.{extent_of, MeetsSome, SomeMeet, IsInSome, SomeIsIn, Meet, segments, segments_of_points, segments_of_polygons, positions, joined, positions_of_polygons}
-use Rattle.at_geom.proofs.Elements.{some_left, some_right, some_of_parts, first_of_three, second_of_three, third_of_three}
+use Rattle.at_geom.proofs.Elements.{some_left, some_right, some_of_parts, first_of_three, second_of_three, third_of_three, only_third}
 use Rattle.at_band.specs.declared.zones.Band.{Band}
 use Rattle.at_band.specs.Thinned.{spans}
 use Rattle.at_band.specs.Banded.{IsAt, IsBandOf, IsOfPoints}
 use Rattle.at_band.specs.Touched.{IsOnRings, IsOnPolygon, IsOnShape, SomeIsOn}
 use Rattle.at_band.proofs.Filtered.{same_some}
-use Rattle.at_band.proofs.ThinnedRegions.{IsLevel, on_spans}
-use Rattle.at_band.proofs.BandsOf.{level_of}
+use Rattle.at_band.proofs.ThinnedRegions.{on_spans}
+use Rattle.at_band.proofs.BandsOf.{some_map, some_by, some_one}
+
+abbrev Touching : Pos → Pos × Pos → Type 0
+Touching p f = HaveCommonPoint p p f.0 f.1
 
 -- ---- polygons
 
-pub on_polygons : (p : Pos) (polygons : List Polygon) → SomeOf (IsOnPolygon p) polygons → MeetsSome p p (segments_of_polygons polygons) ⊎ IsInSome p polygons
+on_polygons : (p : Pos) (polygons : List Polygon) → SomeOf (IsOnPolygon p) polygons → MeetsSome p p (segments_of_polygons polygons) ⊎ IsInSome p polygons
 on_polygons p [] h = absurd h
-on_polygons p (polygon ∷ polygons) (inl (inl h)) = inl (some_left (λ (f : Pos × Pos). HaveCommonPoint p p f.0 f.1) (flat_map edges polygon.rings) (segments_of_polygons polygons) h)
+on_polygons p (polygon ∷ polygons) (inl (inl h)) = inl (some_left (Touching p) (flat_map edges polygon.rings) (segments_of_polygons polygons) h)
 on_polygons p (polygon ∷ polygons) (inl (inr h)) = inr (inl h)
 on_polygons p (polygon ∷ polygons) (inr h) =
     elim (on_polygons p polygons h) [
-      | inl k ↦ inl (some_right (λ (f : Pos × Pos). HaveCommonPoint p p f.0 f.1) (flat_map edges polygon.rings) (segments_of_polygons polygons) k)
+      | inl k ↦ inl (some_right (Touching p) (flat_map edges polygon.rings) (segments_of_polygons polygons) k)
       | inr k ↦ inr (inr k)
     ]
 
 met_polygon : (p : Pos) (polygons : List Polygon) → MeetsSome p p (segments_of_polygons polygons) → SomeOf (IsOnPolygon p) polygons
 met_polygon p [] h = absurd h
 met_polygon p (polygon ∷ polygons) h =
-    elim (some_of_parts (λ (f : Pos × Pos). HaveCommonPoint p p f.0 f.1) (flat_map edges polygon.rings) (segments_of_polygons polygons) h) [
+    elim (some_of_parts (Touching p) (flat_map edges polygon.rings) (segments_of_polygons polygons) h) [
       | inl k ↦ inl (inl k)
       | inr k ↦ inr (met_polygon p polygons k)
     ]
 
-in_polygon : (p : Pos) (polygons : List Polygon) → IsInSome p polygons → SomeOf (IsOnPolygon p) polygons
-in_polygon p [] h = absurd h
-in_polygon p (polygon ∷ polygons) (inl h) = inl (inr h)
-in_polygon p (polygon ∷ polygons) (inr h) = inr (in_polygon p polygons h)
-
 -- ---- a shape
 
 pub on_by_points : (p : Pos) (s : Shape) → MeetsSome p p (segments_of_points s.points) → IsOnShape p s
-on_by_points p s h = inl (first_of_three (λ (f : Pos × Pos). HaveCommonPoint p p f.0 f.1) (segments_of_points s.points) (flat_map edges s.lines) (segments_of_polygons s.polygons) h)
+on_by_points p s h = inl (first_of_three (Touching p) (segments_of_points s.points) (flat_map edges s.lines) (segments_of_polygons s.polygons) h)
 
 pub on_by_lines : (p : Pos) (s : Shape) → MeetsSome p p (flat_map edges s.lines) → IsOnShape p s
-on_by_lines p s h = inl (second_of_three (λ (f : Pos × Pos). HaveCommonPoint p p f.0 f.1) (segments_of_points s.points) (flat_map edges s.lines) (segments_of_polygons s.polygons) h)
+on_by_lines p s h = inl (second_of_three (Touching p) (segments_of_points s.points) (flat_map edges s.lines) (segments_of_polygons s.polygons) h)
 
 pub on_by_polygons : (p : Pos) (s : Shape) → SomeOf (IsOnPolygon p) s.polygons → IsOnShape p s
 on_by_polygons p s h =
     elim (on_polygons p s.polygons h) [
-      | inl k ↦ inl (third_of_three (λ (f : Pos × Pos). HaveCommonPoint p p f.0 f.1) (segments_of_points s.points) (flat_map edges s.lines) (segments_of_polygons s.polygons) k)
+      | inl k ↦ inl (third_of_three (Touching p) (segments_of_points s.points) (flat_map edges s.lines) (segments_of_polygons s.polygons) k)
       | inr k ↦ inr k
     ]
 
 pub by_parts : (p : Pos) (s : Shape) → ¬ MeetsSome p p (segments_of_points s.points) → ¬ MeetsSome p p (flat_map edges s.lines) → IsOnShape p s → SomeOf (IsOnPolygon p) s.polygons
-by_parts p s f g (inr h) = in_polygon p s.polygons h
-by_parts p s f g (inl h) =
-    elim (some_of_parts (λ (f : Pos × Pos). HaveCommonPoint p p f.0 f.1) (segments_of_points s.points ++ flat_map edges s.lines) (segments_of_polygons s.polygons) h) [
-      | inr k ↦ met_polygon p s.polygons k
-      | inl k ↦ elim (some_of_parts (λ (f : Pos × Pos). HaveCommonPoint p p f.0 f.1) (segments_of_points s.points) (flat_map edges s.lines) k) [
-        | inl m ↦ absurd (f m)
-        | inr m ↦ absurd (g m)
-      ]
-    ]
+by_parts p s f g (inr h) = some_map (λ (polygon : Polygon). IsInRings p polygon.rings) (IsOnPolygon p) (λ polygon k. inr k) s.polygons h
+by_parts p s f g (inl h) = met_polygon p s.polygons (only_third (Touching p) (segments_of_points s.points) (flat_map edges s.lines) (segments_of_polygons s.polygons) f g h)
 
 -- ---- a band
 
-on_level : (low high : ℤ) (p : Pos) → IsLevel low high p → (e : Pos × Pos) → HaveCommonPoint p p e.0 e.1 → spans low high e ≡ true
-on_level low high p v e h = on_spans low high p v e h
+-- a shape with the same segments that reach into the band
+on_same : (band : Band) (p : Pos) → IsAt p.y band.heights → (s u : Shape) → filter (spans band.heights.low band.heights.high) (segments s) ≡ filter (spans band.heights.low band.heights.high) (segments u)
+    → MeetsSome p p (segments s) → MeetsSome p p (segments u)
+on_same band p k s u e m =
+    same_some (Touching p) (spans band.heights.low band.heights.high) (on_spans band.heights.low band.heights.high p (record { above = k.0; below = k.1 })) (segments s) (segments u) e m
 
 pub on_band_part : (s : Shape) (band : Band) (p : Pos) → IsBandOf s band → IsAt p.y band.heights → IsOnShape p s → IsOnShape p band.part
 on_band_part s band p h k (inr m) = inr (h.in_part p k m)
-on_band_part s band p h k (inl m) =
-    inl (same_some (λ (f : Pos × Pos). HaveCommonPoint p p f.0 f.1) (spans band.heights.low band.heights.high) (on_level band.heights.low band.heights.high p (level_of p band k)) (segments s) (segments band.part) (sym h.same_edges) m)
+on_band_part s band p h k (inl m) = inl (on_same band p k s band.part (sym h.same_edges) m)
 
 pub on_band_whole : (s : Shape) (band : Band) (p : Pos) → IsBandOf s band → IsAt p.y band.heights → IsOnShape p band.part → IsOnShape p s
 on_band_whole s band p h k (inr m) = inr (h.in_whole p k m)
-on_band_whole s band p h k (inl m) =
-    inl (same_some (λ (f : Pos × Pos). HaveCommonPoint p p f.0 f.1) (spans band.heights.low band.heights.high) (on_level band.heights.low band.heights.high p (level_of p band k)) (segments band.part) (segments s) h.same_edges m)
+on_band_whole s band p h k (inl m) = inl (on_same band p k band.part s h.same_edges m)
 
 -- ---- a shape of points
 
@@ -95,20 +89,8 @@ some_on_met (p ∷ ps) s (inl (inl h)) = inl (inl h)
 some_on_met (p ∷ ps) s (inl (inr h)) = inr (inl h)
 some_on_met (p ∷ ps) s (inr h) = elim (some_on_met ps s h) [ inl k ↦ inl (inr k) | inr k ↦ inr (inr k) ]
 
-some_met_on : (ps : List Pos) (s : Shape) → SomeMeet (segments_of_points ps) (segments s) → SomeIsOn ps s
-some_met_on [] s h = absurd h
-some_met_on (p ∷ ps) s (inl h) = inl (inl h)
-some_met_on (p ∷ ps) s (inr h) = inr (some_met_on ps s h)
-
-some_in_on : (ps : List Pos) (s : Shape) → SomeIsIn ps s.polygons → SomeIsOn ps s
-some_in_on [] s h = absurd h
-some_in_on (p ∷ ps) s (inl h) = inl (inr h)
-some_in_on (p ∷ ps) s (inr h) = inr (some_in_on ps s h)
-
 pub nothing_in_none : (ps : List Pos) → SomeIsIn ps [] → ⊥
-nothing_in_none [] h = h
-nothing_in_none (p ∷ ps) (inl h) = h
-nothing_in_none (p ∷ ps) (inr h) = nothing_in_none ps h
+nothing_in_none ps h = (some_one (λ (p : Pos). IsInSome p []) ps h).1
 
 pub points_meet : (u s : Shape) → IsOfPoints u → SomeIsOn u.points s → Meet u s
 points_meet u s e h =
@@ -118,11 +100,7 @@ points_meet u s e h =
     ]
 
 only_first : {X : Type 0} (P : X → Type 0) (xs : List X) → SomeOf P ((xs ++ []) ++ []) → SomeOf P xs
-only_first P xs h =
-    elim (some_of_parts P (xs ++ []) [] h) [
-      | inr k ↦ absurd k
-      | inl k ↦ elim (some_of_parts P xs [] k) [ inl m ↦ m | inr m ↦ absurd m ]
-    ]
+only_first P xs h = subst (SomeOf P) (append-nil (xs ++ []) ∙ append-nil xs) h
 
 segments_only : (u : Shape) (P : Pos × Pos → Type 0) → IsOfPoints u → SomeOf P (segments u) → SomeOf P (segments_of_points u.points)
 segments_only u P e h =
@@ -137,14 +115,14 @@ positions_only u P e h =
     (subst (λ (z : List (List Pos)). SomeOf P ((u.points ++ joined z) ++ positions_of_polygons u.polygons)) e.0 h))
 
 pub meet_points : (u s : Shape) → IsOfPoints u → Meet u s → SomeIsOn u.points s
-meet_points u s e (inl h) = some_met_on u.points s (segments_only u (λ (f : Pos × Pos). MeetsSome f.0 f.1 (segments s)) e h)
-meet_points u s e (inr (inl h)) = some_in_on u.points s (positions_only u (λ (p : Pos). IsInSome p s.polygons) e h)
+meet_points u s e (inl h) =
+    some_map (λ (p : Pos). MeetsSome p p (segments s)) (λ (p : Pos). IsOnShape p s) (λ p k. inl k) u.points
+    (some_by (λ (f : Pos × Pos). MeetsSome f.0 f.1 (segments s)) (λ (p : Pos). (p, p)) u.points (segments_only u (λ (f : Pos × Pos). MeetsSome f.0 f.1 (segments s)) e h))
+meet_points u s e (inr (inl h)) =
+    some_map (λ (p : Pos). IsInSome p s.polygons) (λ (p : Pos). IsOnShape p s) (λ p k. inr k) u.points (positions_only u (λ (p : Pos). IsInSome p s.polygons) e h)
 meet_points u s e (inr (inr h)) = absurd (nothing_in_none (positions s) (subst (λ (z : List Polygon). SomeIsIn (positions s) z) e.1 h))
 
 -- ---- rings
-
-abbrev Touching : Pos → Pos × Pos → Type 0
-Touching p f = HaveCommonPoint p p f.0 f.1
 
 pub on_boundary : (p : Pos) (exterior : List Pos) (holes : List (List Pos)) → IsOnRing p exterior → IsOnRings p (exterior ∷ holes)
 on_boundary p exterior holes h = inl (some_left (Touching p) (edges exterior) (flat_map edges holes) h)
@@ -152,20 +130,13 @@ on_boundary p exterior holes h = inl (some_left (Touching p) (edges exterior) (f
 pub on_holes : (p : Pos) (exterior : List Pos) (holes : List (List Pos)) → MeetsSome p p (flat_map edges holes) → IsOnRings p (exterior ∷ holes)
 on_holes p exterior holes h = inl (some_right (Touching p) (edges exterior) (flat_map edges holes) h)
 
-pub in_rings : (p : Pos) (exterior : List Pos) (holes : List (List Pos)) → IsTrue (is_odd_for p exterior) → AllByRecursion (IsNotInHole p) holes → IsOnRings p (exterior ∷ holes)
-in_rings p exterior holes h k = inr (inr h, k)
-
 pub inside_out : (p : Pos) (exterior : List Pos) (holes : List (List Pos)) → ¬ IsOnRing p exterior → ¬ MeetsSome p p (flat_map edges holes) → IsOnRings p (exterior ∷ holes) → AllByRecursion (IsNotInHole p) holes
 inside_out p exterior holes f g (inr h) = h.1
 inside_out p exterior holes f g (inl h) = elim (some_of_parts (Touching p) (edges exterior) (flat_map edges holes) h) [ inl k ↦ absurd (f k) | inr k ↦ absurd (g k) ]
 
-not_both : (b : Bool) → b ≡ true → not b ≡ true → ⊥
-not_both true h k = cc
-not_both false h k = cc
-
 pub outside_out : (p : Pos) (exterior : List Pos) (holes : List (List Pos)) → ¬ IsOnRing p exterior → IsTrue (not (is_odd_for p exterior)) → IsOnRings p (exterior ∷ holes) → MeetsSome p p (flat_map edges holes)
 outside_out p exterior holes f g (inr (inl h, k)) = absurd (f h)
-outside_out p exterior holes f g (inr (inr h, k)) = absurd (not_both (is_odd_for p exterior) h g)
+outside_out p exterior holes f g (inr (inr h, k)) = absurd (false≢true (sym (not-true (is_odd_for p exterior) g) ∙ h))
 outside_out p exterior holes f g (inl h) = elim (some_of_parts (Touching p) (edges exterior) (flat_map edges holes) h) [ inl k ↦ absurd (f k) | inr k ↦ k ]
 
 -- ---- a position off the box

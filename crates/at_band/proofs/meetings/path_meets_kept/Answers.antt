@@ -17,9 +17,8 @@ pub loop-to-preserved : goal.loop-to-preserved
 loop-to-preserved c =
     let parts : c.args.path.now ≡ c.in-Some.first.now ∷ c.in-Some.rest.now = search rules in
     let at = λ (e : Pos × Pos). MeetsSome e.0 e.1 (segments c.args.shape.now) in
-    let not_found = untrue c.segment_meets_kept.result c.if-segment_meets_kept.false c.segment_meets_kept.ensures.1 in
     record {
       from_in_range = rest_in_range c.args.path.now c.in-Some.first.now c.in-Some.rest.now c.loop-to.to-index none parts c.requires.path_in_range (omega arith);
-      in_rest = λ h. not_edge_here at c.loop-to.from c.in-Some.rest.now c.loop-to.to-index none (omega arith) not_found (c.loop-to.invariant.in_rest h);
+      in_rest = λ h. not_edge_here at c.loop-to.from c.in-Some.rest.now c.loop-to.to-index none (omega arith) (untrue c.segment_meets_kept.result c.if-segment_meets_kept.false c.segment_meets_kept.ensures.1) (c.loop-to.invariant.in_rest h);
       from_rest = λ h. c.loop-to.invariant.from_rest (edge_later at c.loop-to.from c.in-Some.rest.now c.loop-to.to-index none (omega arith) h);
     }

@@ -8,14 +8,12 @@ use Rattle.at_band.proofs.meetings.paths_meet_kept.Goals as goal
 pub returns-then-path_meets_kept : goal.returns-then-path_meets_kept
 returns-then-path_meets_kept c =
     let at = λ (e : Pos × Pos). MeetsSome e.0 e.1 (segments c.args.shape.now) in
-    let found = c.path_meets_kept.ensures.0 c.if-path_meets_kept.true in
-    (λ _. c.loop-path.invariant.from_rest (some_here at edges c.args.paths.now c.loop-path.path-index c.path-item.result c.as_slice.result.now (omega arith) (c.as_slice.ensures ∙ c.path-item.is) found), λ _. refl)
+    (λ _. c.loop-path.invariant.from_rest (some_here at edges c.args.paths.now c.loop-path.path-index c.path-item.result c.as_slice.result.now (omega arith) (c.as_slice.ensures ∙ c.path-item.is) (c.path_meets_kept.ensures.0 c.if-path_meets_kept.true)), λ _. refl)
 
 pub loop-path-preserved : goal.loop-path-preserved
 loop-path-preserved c =
     let at = λ (e : Pos × Pos). MeetsSome e.0 e.1 (segments c.args.shape.now) in
-    let not_found = untrue c.path_meets_kept.result c.if-path_meets_kept.false c.path_meets_kept.ensures.1 in
     record {
-      in_rest = λ h. not_here at edges c.args.paths.now c.loop-path.path-index c.path-item.result c.as_slice.result.now (omega arith) (c.as_slice.ensures ∙ c.path-item.is) not_found (c.loop-path.invariant.in_rest h);
+      in_rest = λ h. not_here at edges c.args.paths.now c.loop-path.path-index c.path-item.result c.as_slice.result.now (omega arith) (c.as_slice.ensures ∙ c.path-item.is) (untrue c.path_meets_kept.result c.if-path_meets_kept.false c.path_meets_kept.ensures.1) (c.loop-path.invariant.in_rest h);
       from_rest = λ h. c.loop-path.invariant.from_rest (some_later at edges c.args.paths.now c.loop-path.path-index c.path-item.result (omega arith) h);
     }

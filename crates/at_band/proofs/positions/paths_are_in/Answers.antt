@@ -8,14 +8,12 @@ use Rattle.at_band.proofs.positions.paths_are_in.Goals as goal
 pub returns-then-path_is_in : goal.returns-then-path_is_in
 returns-then-path_is_in c =
     let at = λ (p : Pos). IsInSome p c.args.shape.now.polygons in
-    let found = c.path_is_in.ensures.0 c.if-path_is_in.true in
-    (λ _. c.loop-path.invariant.from_rest (some_here at (λ (path : List Pos). path) c.args.paths.now c.loop-path.path-index c.path-item.result c.as_slice.result.now (omega arith) (c.as_slice.ensures ∙ c.path-item.is) found), λ _. refl)
+    (λ _. c.loop-path.invariant.from_rest (some_here at (λ (path : List Pos). path) c.args.paths.now c.loop-path.path-index c.path-item.result c.as_slice.result.now (omega arith) (c.as_slice.ensures ∙ c.path-item.is) (c.path_is_in.ensures.0 c.if-path_is_in.true)), λ _. refl)
 
 pub loop-path-preserved : goal.loop-path-preserved
 loop-path-preserved c =
     let at = λ (p : Pos). IsInSome p c.args.shape.now.polygons in
-    let not_found = untrue c.path_is_in.result c.if-path_is_in.false c.path_is_in.ensures.1 in
     record {
-      in_rest = λ h. not_here at (λ (path : List Pos). path) c.args.paths.now c.loop-path.path-index c.path-item.result c.as_slice.result.now (omega arith) (c.as_slice.ensures ∙ c.path-item.is) not_found (c.loop-path.invariant.in_rest h);
+      in_rest = λ h. not_here at (λ (path : List Pos). path) c.args.paths.now c.loop-path.path-index c.path-item.result c.as_slice.result.now (omega arith) (c.as_slice.ensures ∙ c.path-item.is) (untrue c.path_is_in.result c.if-path_is_in.false c.path_is_in.ensures.1) (c.loop-path.invariant.in_rest h);
       from_rest = λ h. c.loop-path.invariant.from_rest (some_later at (λ (path : List Pos). path) c.args.paths.now c.loop-path.path-index c.path-item.result (omega arith) h);
     }

@@ -1,6 +1,6 @@
-use Rattle.std.proofs.Common.{refl}
+use Rattle.std.proofs.Common.{inr, refl}
 use Rattle.at_geom.proofs.Elements.{untrue}
-use Rattle.at_band.proofs.TouchedShapes.{on_boundary, on_holes, in_rings, inside_out, outside_out}
+use Rattle.at_band.proofs.TouchedShapes.{on_boundary, on_holes, inside_out, outside_out}
 use Rattle.at_band.proofs.touches.rings_are_touched.Goals as goal
 
 pub returns-in-Boundary : goal.returns-in-Boundary
@@ -11,7 +11,7 @@ returns-then-paths_are_touched c = (λ _. on_holes c.args.p c.args.exterior.now 
 
 pub returns-else-paths_are_touched : goal.returns-else-paths_are_touched
 returns-else-paths_are_touched c = (
-  λ t. in_rings c.args.p c.args.exterior.now c.args.holes.now c.in-Inside.ensures.1 (c.is_in_no_hole.ensures.0 t),
+  λ t. inr (inr c.in-Inside.ensures.1, c.is_in_no_hole.ensures.0 t),
   λ m. c.is_in_no_hole.ensures.1 (inside_out c.args.p c.args.exterior.now c.args.holes.now c.in-Inside.ensures.0 (untrue c.paths_are_touched.result c.if-paths_are_touched.false c.paths_are_touched.ensures.1) m),
 )
 

@@ -1,9 +1,9 @@
-use Rattle.std.proofs.Common.{◌∷◌, [], ◌++◌, take, pos, sym, subst, ap, ◌∙◌, arith}
-use Rattle.std.specs.Prelude.{All, map}
-use Rattle.std.proofs.lemmas.List.{map-append, take_more}
+use Rattle.std.proofs.Common.{pos, sym, subst, arith}
+use Rattle.std.specs.Prelude.{All}
 use Rattle.std.proofs.lemmas.List.Elements.{All-push}
 use Rattle.at_band.specs.declared.thinning.Heights.{Heights}
 use Rattle.at_band.specs.Banded.{IsZoneOf, heights_of_zone}
+use Rattle.at_band.proofs.CutHeights.{made_more}
 use Rattle.at_band.proofs.zones.zones_at.Goals as goal
 
 abbrev none : Heights
@@ -15,9 +15,5 @@ loop-heights-preserved c =
     let before = c.loop-heights.zones.items in
     let index = c.loop-heights.heights-index in record {
       kept = subst (All (IsZoneOf c.args.shape.now)) (sym c.in_ok-push.ensures.items) (All-push (IsZoneOf c.args.shape.now) before made c.loop-heights.invariant.kept c.in_ok-zone_of.ensures.kept);
-      same =
-          ap (map heights_of_zone) c.in_ok-push.ensures.items
-          ∙ (map-append heights_of_zone before (made ∷ [])
-          ∙ (ap (λ z. z ++ made.heights ∷ []) c.loop-heights.invariant.same
-          ∙ (ap (λ z. take index c.args.cuts.now ++ z ∷ []) c.in_ok-zone_of.ensures.same ∙ sym (take_more c.args.cuts.now index none (omega arith)))));
+      same = made_more heights_of_zone c.push.new.self.items before made c.args.cuts.now index none (omega arith) c.in_ok-push.ensures.items c.loop-heights.invariant.same c.in_ok-zone_of.ensures.same;
     }
