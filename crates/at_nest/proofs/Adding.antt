@@ -4,7 +4,7 @@ use Rattle.std.proofs.Common.{◌≡◌, ℕ, Option, List, [], ◌∷◌, ◌++
 use Rattle.at_text.specs.declared.texts.Span.{Span}
 use Rattle.at_lex.specs.Strings.{Character}
 use Rattle.at_nest.specs.declared.pieces.Piece.{Piece as CodePiece}
-use Rattle.at_nest.specs.declared.pieces.Piece.TheVariants.{Closes, Comma, Colon, Text, Value, Row as RowPiece, Closers as ClosersPiece}
+use Rattle.at_nest.specs.declared.pieces.Piece.TheVariants.{Comma, Colon, Text, Value, Row as RowPiece, Closers as ClosersPiece}
 use Rattle.at_nest.specs.declared.pieces.Row.{Row}
 use Rattle.at_nest.specs.declared.pieces.Closers.{Closers}
 use Rattle.at_lex.specs.declared.tokens.Bracket.{Bracket}
@@ -44,13 +44,6 @@ module _ {X : Type 0} (IsKept : X → Content → Type 0) where
       → ((base : ℕ) (w : List ℕ) (ps : List (Piece Tree)) → AreRow IsKept base w c ps → ⊥) → Adds IsKept bytes old c new r
   adds_one bytes old c new r pushes none base w f ps part h (inl (p, e, k)) = subst (λ z. IsPushedAs IsKept base w new r (push_all free z f)) (sym e) (push_one IsKept base w new r (push free f p) (pushes base w f p part h k))
   adds_one bytes old c new r pushes none base w f ps part h (inr k) = absurd (none base w ps k)
-
-  pub adds_close : (bytes : List ℕ) (old : Shown X) (c : CodePiece X) (new : Shown X) (r : Option CodeHalt) (b : Bracket) (i : ℕ) → c ≡ Closes b i → Pushes IsKept old new r (closes b i) → Adds IsKept bytes old c new r
-  adds_close bytes old c new r b i e pushes = adds_one bytes old c new r (λ base w f p part h k. by_piece base w f h p (subst (λ z. IsHeldPiece IsKept base w z p) e k)) (λ base w ps k. subst (λ z. AreRow IsKept base w z ps) e k)
-    where
-      by_piece : (base : ℕ) (w : List ℕ) (f : Form Tree) → IsShown IsKept base w old f → (p : Piece Tree) → IsHeldPiece IsKept base w (Closes b i) p → IsPushedAs IsKept base w new r (push free f p)
-      by_piece base w f h (closes d j) u = subst (λ n. IsPushedAs IsKept base w new r (push free f (closes d n))) u.1 (subst (λ n. IsPushedAs IsKept base w new r (push free f (closes n i))) u.0 (pushes base w f h))
-      by_piece base w f h _ u = absurd u
 
   pub adds_comma : (bytes : List ℕ) (old : Shown X) (c : CodePiece X) (new : Shown X) (r : Option CodeHalt) (i : ℕ) → c ≡ Comma i → (new, r) ≡ comma_added i old.outer old.levels → Adds IsKept bytes old c new r
   adds_comma bytes old c new r i e d = adds_one bytes old c new r (λ base w f p part h k. by_piece base w f h p (subst (λ z. IsHeldPiece IsKept base w z p) e k)) (λ base w ps k. subst (λ z. AreRow IsKept base w z ps) e k)

@@ -1,34 +1,57 @@
 -- Closing brackets one right behind another: one more of them, and all of them put behind what is kept.
 -- For `finish`, `finish_span`, `merge` and `run_block`.
-use Rattle.std.proofs.Common.{◌≡◌, ℕ, ◌+◌, ◌-◌, ◌%◌, ◌<◌, ◌≤◌, zero, suc, Option, Some, None, List, [], ◌∷◌, ◌++◌, inl, inr, is_some, true, false, true≢false, refl, sym, ◌∙◌, ap, subst, append_assoc, arith, length, take, slice_set}
+use Rattle.std.proofs.Common.{◌≡◌, ℕ, ◌+◌, ◌-◌, ◌%◌, ◌<◌, ◌≤◌, zero, suc, Option, Some, None, List, [], ◌∷◌, ◌++◌, inl, inr, is_some, true, false, true≢false, refl, sym, ◌∙◌, ap, subst, append_assoc, append-nil, arith, length, take, slice_set}
 use Rattle.std.proofs.Math.Nat.{add-mod_right}
 use Rattle.std.proofs.lemmas.Option.{none-some}
 use Rattle.at_lex.specs.declared.tokens.Bracket.{Bracket}
 use Rattle.at_nest.specs.declared.pieces.Closers.{Closers}
 use Rattle.at_nest.specs.declared.pieces.SpanStop.{SpanStop as CodeHalt}
 use Rattle.at_nest.specs.declared.pieces.Piece.{Piece as CodePiece}
-use Rattle.at_nest.specs.declared.pieces.Piece.TheVariants.{Closes, Comma, Closers as ClosersPiece}
+use Rattle.at_nest.specs.declared.pieces.Piece.TheVariants.{Closers as ClosersPiece}
 use Rattle.at_nest.specs.Tree.{Tree}
 use Rattle.at_nest.specs.Forms.{Piece, closes}
 use Rattle.at_nest.specs.Levels.{Level, Form, further, push, push_close, push_all, push_then}
 use Rattle.at_nest.specs.Closers.{IsLonger, turn}
 use Rattle.at_nest.specs.Refusals.{last_of}
-use Rattle.at_nest.specs.Shown.{Shown, show_as}
+use Rattle.at_nest.specs.Shown.{Shown, show_as, kept_outside}
 use Rattle.at_nest.specs.KeptItems.{Content, free, closers, AreClosers, IsHeldPiece, ArePieces, EachPiece, EachHeld, IsShown, IsPushedAs, IsOfItems, Pushes, PushesClosers}
 use Rattle.at_nest.proofs.Adding.{push_all_append}
 use Rattle.at_nest.proofs.Joining.{went_on, did_stop}
 use Rattle.at_nest.proofs.Nests.{all_but_last}
+use Rattle.at_nest.proofs.Rows.{only_one}
 use Rattle.at_nest.proofs.Showing.{pieces_append, pieces_cut}
 
-pub closers_more : (b o : Bracket) (i n : ℕ) → closers b o i n ++ (closes (turn b o n) (i + n) ∷ []) ≡ closers b o i (suc n)
-closers_more b o i zero = let e : i + 0 ≡ i = omega arith in ap (λ z. closes b z ∷ []) e
-closers_more b o i (suc n) = let e : i + suc n ≡ (i + 1) + n = omega arith in
-    ap (λ z. closes b i ∷ (closers o b (i + 1) n ++ (closes (turn o b n) z ∷ []))) e ∙ ap (λ z. closes b i ∷ z) (closers_more o b (i + 1) n)
+closers_add : (b o : Bracket) (i m n : ℕ) → closers b o i (m + n) ≡ closers b o i m ++ closers (turn b o m) (turn o b m) (i + m) n
+closers_add b o i zero n = let e : i ≡ i + 0 = omega arith in let k : 0 + n ≡ n = omega arith in ap (closers b o i) k ∙ ap (λ z. closers b o z n) e
+closers_add b o i (suc m) n = let e : (i + 1) + m ≡ i + suc m = omega arith in let k : suc m + n ≡ suc (m + n) = omega arith in
+    ap (closers b o i) k ∙ ap (λ z. closes b i ∷ z) (closers_add o b (i + 1) m n ∙ ap (λ z. closers o b (i + 1) m ++ closers (turn o b m) (turn b o m) z n) e)
 
-closers_cut : (b o : Bracket) (i m n : ℕ) → closers b o i (m + suc n) ≡ closers b o i m ++ (closes (turn b o m) (i + m) ∷ closers (turn o b m) (turn b o m) (i + m + 1) n)
-closers_cut b o i zero n = let e : i ≡ i + 0 = omega arith in let k : 0 + suc n ≡ suc n = omega arith in ap (closers b o i) k ∙ ap (λ z. closes b z ∷ closers o b (z + 1) n) e
-closers_cut b o i (suc m) n = let e : (i + 1) + m ≡ i + suc m = omega arith in let k : suc m + suc n ≡ suc (m + suc n) = omega arith in
-    ap (closers b o i) k ∙ ap (λ z. closes b i ∷ z) (closers_cut o b (i + 1) m n ∙ ap (λ z. closers o b (i + 1) m ++ (closes (turn o b m) z ∷ closers (turn b o m) (turn o b m) (z + 1) n)) e)
+pub closers_more : (b o : Bracket) (i n : ℕ) → closers b o i n ++ (closes (turn b o n) (i + n) ∷ []) ≡ closers b o i (suc n)
+closers_more b o i n = let k : n + 1 ≡ suc n = omega arith in sym (closers_add b o i n 1) ∙ ap (closers b o i) k
+
+-- the second kind has no turn in one bracket
+closers_same : (b o o2 : Bracket) (i n : ℕ) → (¬ (n ≡ 0) → o ≡ o2) → closers b o i (suc n) ≡ closers b o2 i (suc n)
+closers_same b o o2 i zero h = refl
+closers_same b o o2 i (suc n) h = ap (λ z. closers b z i (suc (suc n))) (h (λ e. omega (arith, e)))
+
+longer_are : (q p r : Closers) (us vs : List (Piece Tree)) → AreClosers q us → AreClosers p vs → IsLonger q p r → AreClosers r (us ++ vs)
+longer_are q p r us vs (m, eq, e) (n, ep, f) h = let k : suc (suc m + n) ≡ suc m + suc n = omega arith in
+    (suc m + n, omega (arith, eq, ep, h.2, h.3, h.4), front ∙ (ap (λ z. closers r.first r.second r.from (suc m) ++ z) back ∙ (sym (closers_add r.first r.second r.from (suc m) (suc n)) ∙ ap (closers r.first r.second r.from) (sym k))))
+  where
+    front : us ++ vs ≡ closers r.first r.second r.from (suc m) ++ vs
+    front = ap (λ z. z ++ vs) (e ∙ (ap (λ z. closers z q.second q.from (suc m)) (sym h.0) ∙ (ap (λ z. closers r.first q.second z (suc m)) (sym h.2) ∙ sym (closers_same r.first r.second q.second r.from m (λ k. h.1 (λ i. k (omega (arith, i, eq))))))))
+
+    back : vs ≡ closers (turn r.first r.second (suc m)) (turn r.second r.first (suc m)) (r.from + suc m) (suc n)
+    back = let i : p.from - r.from ≡ suc m = omega (arith, eq, h.2, h.4) in
+        let j : p.from - 1 - r.from ≡ m = omega (arith, eq, h.2, h.4) in
+        let at : p.from ≡ r.from + suc m = omega (arith, eq, h.2, h.4) in
+        f ∙ (closers_same p.first p.second (turn r.first r.second m) p.from n (λ k. h.5.1 (λ l. k (omega (arith, l, ep))) ∙ ap (turn r.first r.second) j)
+        ∙ (ap (λ z. closers z (turn r.first r.second m) p.from (suc n)) (h.5.0 ∙ ap (turn r.first r.second) i) ∙ ap (λ z. closers (turn r.first r.second (suc m)) (turn r.first r.second m) z (suc n)) at))
+
+-- closing brackets before the first open level
+closers_outside : (b o : Bracket) (i n : ℕ) (fo : List (Piece Tree)) → push_all free (closers b o i n) (record { outer = fo; levels = [] }) ≡ further (record { outer = fo ++ closers b o i n; levels = [] })
+closers_outside b o i zero fo = ap (λ z. further (record { outer = z; levels = [] })) (sym (append-nil fo))
+closers_outside b o i (suc n) fo = closers_outside o b (i + 1) n (fo ++ closes b i ∷ []) ∙ ap (λ z. further (record { outer = z; levels = [] })) (append_assoc fo (closes b i ∷ []) (closers o b (i + 1) n))
 
 two_less : (n : ℕ) → n % 2 ≡ suc (suc n) % 2
 two_less n = let e : n + 2 ≡ suc (suc n) = omega arith in sym (add-mod_right n 2) ∙ ap (λ z. z % 2) e
@@ -51,50 +74,41 @@ set_last (z ∷ (v ∷ xs)) x y e = let i : length (z ∷ (v ∷ xs)) - 1 ≡ su
     ap (λ n. slice_set (z ∷ (v ∷ xs)) n x) i ∙ (ap (λ u. z ∷ u) (set_last (v ∷ xs) x y e) ∙ ap (λ n. take n (z ∷ (v ∷ xs)) ++ x ∷ []) (sym i))
 
 module _ {X : Type 0} (IsKept : X → Content → Type 0) where
-  -- the brackets of the piece, with the one behind it
-  longer_are : (base : ℕ) (w : List ℕ) (c : CodePiece X) (vs : List (Piece Tree)) (b : Bracket) (at : ℕ) (r : Closers) → ArePieces IsKept base w c vs → IsLonger c b at r → AreClosers r (vs ++ (closes b at ∷ []))
-  longer_are base w (Closes d i) vs b at r (inl (p, e, u)) h = by_piece p e u
+  are_closers : (base : ℕ) (w : List ℕ) (q : Closers) (vs : List (Piece Tree)) → ArePieces IsKept base w (ClosersPiece q) vs → AreClosers q vs
+  are_closers base w q vs (inl (p, e, u)) = absurd u
+  are_closers base w q vs (inr k) = k
+
+  -- where the brackets have been put behind what is kept before the first open level
+  outside_pushes : (base : ℕ) (w : List ℕ) (f : Form Tree) (new : Shown X) (c : Closers) (ps : List (Piece Tree)) → EachHeld IsKept [] f.levels → new.levels ≡ [] → AreClosers c ps → EachPiece IsKept base w new.outer (f.outer ++ ps) → IsPushedAs IsKept base w new None (push_all free ps f)
+  outside_pushes base w f new c ps h e (n, g, p) kept = here f.levels h
     where
-      by_piece : (p : Piece Tree) → vs ≡ p ∷ [] → IsHeldPiece IsKept base w (Closes d i) p → AreClosers r (vs ++ (closes b at ∷ []))
-      by_piece (closes k j) e u = (
-        1,
-        omega (arith, h.2, h.3, h.4),
-        ap (λ z. z ++ (closes b at ∷ [])) e ∙ (ap (λ z. closes z j ∷ (closes b at ∷ [])) (sym u.0 ∙ sym h.0) ∙ (ap (λ z. closes r.first z ∷ (closes b at ∷ [])) (sym u.1 ∙ sym h.2)
-            ∙ (ap (λ z. closes r.first r.from ∷ (closes z at ∷ [])) (sym h.1) ∙ ap (λ z. closes r.first r.from ∷ (closes r.second z ∷ [])) (h.3 ∙ ap (λ z. z + 1) (sym h.2))))),
-      )
-      by_piece _ e u = absurd u
-  longer_are base w (ClosersPiece q) vs b at r (inr (n, e, f)) h =
-      let here : at ≡ q.from + suc n = h.3 ∙ e in
-      let width : q.to - q.from ≡ suc n = omega (arith, e) in
-      let front : List (Piece Tree) = closers q.first q.second q.from (suc n) in (
-        suc n,
-        omega (arith, h.2, h.3, h.5, e),
-        ap (λ z. z ++ (closes b at ∷ [])) f ∙ (ap (λ z. front ++ (closes z at ∷ [])) (h.4 ∙ ap (turn q.first q.second) width) ∙ (ap (λ z. front ++ (closes (turn q.first q.second (suc n)) z ∷ [])) here
-            ∙ (closers_more q.first q.second q.from (suc n) ∙ (ap (λ z. closers z q.second q.from (suc (suc n))) (sym h.0)
-            ∙ (ap (λ z. closers r.first z q.from (suc (suc n))) (sym h.1) ∙ ap (λ z. closers r.first r.second z (suc (suc n))) (sym h.2)))))),
-      )
-  longer_are base w (ClosersPiece q) vs b at r (inl (p, e, u)) h = absurd u
-  longer_are base w (Closes d i) vs b at r (inr u) h = absurd u
-  longer_are base w (Comma i) vs b at r u h = absurd h
-  longer_are base w _ vs b at r u h = absurd h
+      here : (ls : List (Level Tree)) → EachHeld IsKept [] ls → IsPushedAs IsKept base w new None (push_all free ps (record { outer = f.outer; levels = ls }))
+      here [] u = subst (IsPushedAs IsKept base w new None) (sym (ap (λ z. push_all free z (record { outer = f.outer; levels = [] })) p ∙ (closers_outside c.first c.second c.from (suc n) f.outer ∙ ap (λ z. further (record { outer = f.outer ++ z; levels = [] })) (sym p))))
+          (kept, subst (λ z. EachHeld IsKept z []) (sym e) tt)
+      here (l ∷ ls) u = absurd u
 
   -- the last item has become longer
-  pub longer_pushes : (old new : Shown X) (b : Bracket) (at : ℕ) (c : CodePiece X) (r : Closers) → old.levels ≡ [] → last_of old.outer ≡ Some c → IsLonger c b at r
-      → new ≡ show_as (slice_set old.outer (length old.outer - 1) (ClosersPiece r)) old.levels → Pushes IsKept old new None (closes b at)
-  longer_pushes old new b at c r e l longer d base w f h = here f.levels (subst (λ z. EachHeld IsKept z f.levels) e h.1)
+  pub longer_pushes : (old new : Shown X) (q p r : Closers) → old.levels ≡ [] → last_of old.outer ≡ Some (ClosersPiece q) → IsLonger q p r
+      → new ≡ show_as (slice_set old.outer (length old.outer - 1) (ClosersPiece r)) old.levels → PushesClosers IsKept old new None p
+  longer_pushes old new q p r e l longer d base w f ps h are = outside_pushes base w f new p ps (subst (λ z. EachHeld IsKept z f.levels) e h.1) (ap (λ z. z.levels) d ∙ e) are kept
     where
       front : List (CodePiece X)
       front = take (length old.outer - 1) old.outer
 
-      kept : EachPiece IsKept base w new.outer (f.outer ++ (closes b at ∷ []))
-      kept = let s = pieces_cut IsKept base w front c f.outer (subst (λ z. EachPiece IsKept base w z f.outer) (all_but_last old.outer c l) h.0) in
-          subst (λ z. EachPiece IsKept base w z (f.outer ++ (closes b at ∷ []))) (sym (ap (λ z. z.outer) d ∙ set_last old.outer (ClosersPiece r) c l))
-          (subst (EachPiece IsKept base w (front ++ ClosersPiece r ∷ [])) (sym (ap (λ z. z ++ (closes b at ∷ [])) s.2 ∙ append_assoc s.0 s.1 (closes b at ∷ [])))
-          (pieces_append IsKept base w front s.0 (ClosersPiece r) (s.1 ++ (closes b at ∷ [])) s.3 (inr (longer_are base w c s.1 b at r s.4 longer))))
+      kept : EachPiece IsKept base w new.outer (f.outer ++ ps)
+      kept = let s = pieces_cut IsKept base w front (ClosersPiece q) f.outer (subst (λ z. EachPiece IsKept base w z f.outer) (all_but_last old.outer (ClosersPiece q) l) h.0) in
+          subst (λ z. EachPiece IsKept base w z (f.outer ++ ps)) (sym (ap (λ z. z.outer) d ∙ set_last old.outer (ClosersPiece r) (ClosersPiece q) l))
+          (subst (EachPiece IsKept base w (front ++ ClosersPiece r ∷ [])) (sym (ap (λ z. z ++ ps) s.2 ∙ append_assoc s.0 s.1 ps))
+          (pieces_append IsKept base w front s.0 (ClosersPiece r) (s.1 ++ ps) s.3 (inr (longer_are q p r s.1 ps (are_closers base w q s.1 s.4) are longer))))
 
-      here : (ls : List (Level Tree)) → EachHeld IsKept [] ls → IsPushedAs IsKept base w new None (push_close free f.outer ls b at)
-      here [] u = (kept, subst (λ z. EachHeld IsKept z []) (sym (ap (λ z. z.levels) d ∙ e)) tt)
-      here (l ∷ ls) u = absurd u
+  -- they stand alone
+  pub kept_pushes : (old new : Shown X) (r : Option CodeHalt) (c : Closers) → old.levels ≡ [] → (new, r) ≡ kept_outside old.outer (ClosersPiece c) → PushesClosers IsKept old new r c
+  kept_pushes old new r c e d base w f ps h are = subst (λ a. IsPushedAs IsKept base w a.0 a.1 (push_all free ps f)) (sym d)
+      (outside_pushes base w f (show_as (old.outer ++ ClosersPiece c ∷ []) []) c ps (subst (λ z. EachHeld IsKept z f.levels) e h.1) refl are (pieces_append IsKept base w old.outer f.outer (ClosersPiece c) ps h.0 (inr are)))
+
+  pub one_pushes : (old new : Shown X) (r : Option CodeHalt) (b : Bracket) (at : ℕ) (c : Closers) → c ≡ record { first = b; second = b; from = at; last = at } → PushesClosers IsKept old new r c → Pushes IsKept old new r (closes b at)
+  one_pushes old new r b at c e pushes base w f h = only_one IsKept base w new r (push free f (closes b at))
+      (subst (λ z. PushesClosers IsKept old new r z) e pushes base w f (closes b at ∷ []) h (0, omega arith, refl))
 
   -- what is kept is the same
   pub pushes_same : (old mid new : Shown X) (r : Option CodeHalt) (p : Piece Tree) → mid.outer ≡ old.outer → mid.levels ≡ old.levels → Pushes IsKept mid new r p → Pushes IsKept old new r p
@@ -103,20 +117,17 @@ module _ {X : Type 0} (IsKept : X → Content → Type 0) where
   -- the brackets from the one offset up to the other were all pushed
   pub record Closed (old new : Shown X) (c : Closers) (at : ℕ) : Type 0 where
     pub order : c.from ≤ at
-    pub below : c.from ≤ c.to → at ≤ c.to
     pub items : IsOfItems IsKept new
     pub pushed : (base : ℕ) (w : List ℕ) (f : Form Tree) → IsShown IsKept base w old f → (k : Form Tree) × (push_all free (closers c.first c.second c.from (at - c.from)) f ≡ further k) × IsShown IsKept base w new k
 
   pub closed_none : (old : Shown X) (c : Closers) → IsOfItems IsKept old → Closed old old c c.from
-  closed_none old c h = record { order = omega arith; below = λ k. k; items = h; pushed = λ base w f k. (f, (let e : c.from - c.from ≡ 0 = omega arith in ap (λ z. push_all free (closers c.first c.second c.from z) f) e), k) }
+  closed_none old c h = record { order = omega arith; items = h; pushed = λ base w f k. (f, (let e : c.from - c.from ≡ 0 = omega arith in ap (λ z. push_all free (closers c.first c.second c.from z) f) e), k) }
 
   -- the bracket b, whose turn it is, was pushed
-  pub closed_on : (old new new2 : Shown X) (c : Closers) (b : Bracket) (at : ℕ) (r : Option CodeHalt) → b ≡ turn c.first c.second (at - c.from) → is_some r ≡ false → at < c.to → Closed old new c at → Pushes IsKept new new2 r (closes b at)
-      → Closed old new2 c (at + 1)
-  closed_on old new new2 c b at (Some h) t n room so pushes = absurd (true≢false n)
-  closed_on old new new2 c b at None t n room so pushes = record {
+  pub closed_on : (old new new2 : Shown X) (c : Closers) (b : Bracket) (at : ℕ) (r : Option CodeHalt) → b ≡ turn c.first c.second (at - c.from) → is_some r ≡ false → Closed old new c at → Pushes IsKept new new2 r (closes b at) → Closed old new2 c (at + 1)
+  closed_on old new new2 c b at (Some h) t n so pushes = absurd (true≢false n)
+  closed_on old new new2 c b at None t n so pushes = record {
     order = omega (arith, so.order);
-    below = λ k. omega (arith, room);
     items = (let (base, w, f, h) = so.items in let k = went_on IsKept base w new2 (push free f (closes b at)) (pushes base w f h) in (base, w, k.0, k.2));
     pushed = λ base w f h.
         let k = so.pushed base w f h in
@@ -130,14 +141,15 @@ module _ {X : Type 0} (IsKept : X → Content → Type 0) where
         (n.0, ap (λ z. push_all free z f) all ∙ (push_all_append free front (closes b at ∷ []) f ∙ (ap (push_then (push_all free (closes b at ∷ []))) k.1 ∙ ap (push_then (push_all free [])) n.1)), n.2);
   }
 
-  pub closed_all : (old new : Shown X) (c : Closers) (at : ℕ) → c.to ≤ at → Closed old new c at → PushesClosers IsKept old new None c
-  closed_all old new c at e so base w f ps h (n, g, p) =
+  -- the last one was pushed
+  pub closed_all : (old new new2 : Shown X) (c : Closers) (b : Bracket) (at : ℕ) (r : Option CodeHalt) → b ≡ turn c.first c.second (at - c.from) → is_some r ≡ false → at ≡ c.last → Closed old new c at → Pushes IsKept new new2 r (closes b at) → PushesClosers IsKept old new2 None c
+  closed_all old new new2 c b at r t none e before pushes base w f ps h (n, g, p) =
+      let so = closed_on old new new2 c b at r t none before pushes in
       let k = so.pushed base w f h in
-      let low : at ≤ c.to = so.below (omega (arith, g)) in
-      let i : at - c.from ≡ suc n = omega (arith, e, g, low) in
-      subst (IsPushedAs IsKept base w new None) (sym (ap (λ z. push_all free z f) (p ∙ ap (closers c.first c.second c.from) (sym i)) ∙ k.1)) k.2
+      let i : (at + 1) - c.from ≡ suc n = omega (arith, e, g) in
+      subst (IsPushedAs IsKept base w new2 None) (sym (ap (λ z. push_all free z f) (p ∙ ap (closers c.first c.second c.from) (sym i)) ∙ k.1)) k.2
 
-  closed_stop : (old new new2 : Shown X) (c : Closers) (b : Bracket) (at : ℕ) (h : CodeHalt) → b ≡ turn c.first c.second (at - c.from) → at < c.to → Closed old new c at → Pushes IsKept new new2 (Some h) (closes b at) → PushesClosers IsKept old new2 (Some h) c
+  closed_stop : (old new new2 : Shown X) (c : Closers) (b : Bracket) (at : ℕ) (h : CodeHalt) → b ≡ turn c.first c.second (at - c.from) → at ≤ c.last → Closed old new c at → Pushes IsKept new new2 (Some h) (closes b at) → PushesClosers IsKept old new2 (Some h) c
   closed_stop old new new2 c b at h t below so pushes base w f ps shows (n, g, p) =
       let k = so.pushed base w f shows in
       let m : ℕ = at - c.from in
@@ -145,10 +157,10 @@ module _ {X : Type 0} (IsKept : X → Content → Type 0) where
       let i : suc n ≡ m + suc (n - m) = omega (arith, below, so.order, g) in
       let j : c.from + m ≡ at = omega (arith, so.order) in
       let rest : List (Piece Tree) = closers (turn c.second c.first m) (turn c.first c.second m) (c.from + m + 1) (n - m) in
-      let all : ps ≡ front ++ (closes b at ∷ rest) = p ∙ (ap (closers c.first c.second c.from) i ∙ (closers_cut c.first c.second c.from m (n - m) ∙ (ap (λ z. front ++ (closes z (c.from + m) ∷ rest)) (sym t) ∙ ap (λ z. front ++ (closes b z ∷ rest)) j))) in
+      let all : ps ≡ front ++ (closes b at ∷ rest) = p ∙ (ap (closers c.first c.second c.from) i ∙ (closers_add c.first c.second c.from m (suc (n - m)) ∙ (ap (λ z. front ++ (closes z (c.from + m) ∷ rest)) (sym t) ∙ ap (λ z. front ++ (closes b z ∷ rest)) j))) in
       let walk : push_all free ps f ≡ push_then (push_all free rest) (push free k.0 (closes b at)) = ap (λ z. push_all free z f) all ∙ (push_all_append free front (closes b at ∷ rest) f ∙ ap (push_then (push_all free (closes b at ∷ rest))) k.1) in
       subst (IsPushedAs IsKept base w new2 (Some h)) (sym walk) (did_stop IsKept base w new2 h (push free k.0 (closes b at)) (push_all free rest) (pushes base w k.0 k.2))
 
-  pub closed_halt : (old new new2 : Shown X) (c : Closers) (b : Bracket) (at : ℕ) (r : Option CodeHalt) → b ≡ turn c.first c.second (at - c.from) → is_some r ≡ true → at < c.to → Closed old new c at → Pushes IsKept new new2 r (closes b at) → PushesClosers IsKept old new2 r c
+  pub closed_halt : (old new new2 : Shown X) (c : Closers) (b : Bracket) (at : ℕ) (r : Option CodeHalt) → b ≡ turn c.first c.second (at - c.from) → is_some r ≡ true → at ≤ c.last → Closed old new c at → Pushes IsKept new new2 r (closes b at) → PushesClosers IsKept old new2 r c
   closed_halt old new new2 c b at None t n below so pushes = absurd (true≢false (sym n))
   closed_halt old new new2 c b at (Some h) t n below so pushes = closed_stop old new new2 c b at h t below so pushes

@@ -7,7 +7,7 @@ use Rattle.at_lex.specs.Strings.{Character, string_text}
 use Rattle.at_lex.specs.Spans.{end_of}
 use Rattle.at_lex.specs.declared.tokens.Start.{Start}
 use Rattle.at_nest.specs.declared.pieces.Piece.{Piece as CodePiece}
-use Rattle.at_nest.specs.declared.pieces.Piece.TheVariants.{Closes, Comma, Colon, Text, Value, Row, Members as MembersPiece, Closers as ClosersPiece}
+use Rattle.at_nest.specs.declared.pieces.Piece.TheVariants.{Comma, Colon, Text, Value, Row, Members as MembersPiece, Closers as ClosersPiece}
 use Rattle.at_nest.specs.declared.pieces.SpanStop.{SpanStop as CodeHalt}
 use Rattle.at_nest.specs.Tree.{Tree}
 use Rattle.at_nest.specs.Borders.{are_apart}
@@ -40,12 +40,10 @@ text_within base w y z b span cs e (ok, a, q, d, i, j) = (
 
 module _ {X : Type 0} (IsKept : X → Content → Type 0) where
   piece_within : (base : ℕ) (w y z : List ℕ) (b : ℕ) (c : CodePiece X) (p : Piece Tree) → base ≡ b + length y → IsHeldPiece IsKept base w c p → IsHeldPiece IsKept b (y ++ (w ++ z)) c p
-  piece_within base w y z b (Closes c i) (closes d j) e h = h
   piece_within base w y z b (Comma i) (mark (comma j)) e h = h
   piece_within base w y z b (Colon i) (mark (colon j)) e h = h
   piece_within base w y z b (Text span x) (mark (quoted j cs)) e h = (h.0, text_within base w y z b span cs e h.1, h.2)
   piece_within base w y z b (Value i x) (mark (entry j t)) e h = h
-  piece_within base w y z b (Closes c i) (opens d j) e h = absurd h
   piece_within base w y z b (Comma i) (mark (colon j)) e h = absurd h
   piece_within base w y z b (Comma i) (mark (quoted j cs)) e h = absurd h
   piece_within base w y z b (Comma i) (mark (entry j t)) e h = absurd h

@@ -12,7 +12,7 @@ use Rattle.at_nest.specs.declared.levels.ArrayState.TheVariants as array
 use Rattle.at_nest.specs.declared.levels.ObjectState.TheVariants as object
 use Rattle.at_nest.specs.declared.levels.Open.{Open}
 use Rattle.at_nest.specs.declared.pieces.Piece.{Piece as CodePiece}
-use Rattle.at_nest.specs.declared.pieces.Piece.TheVariants.{Closes, Comma, Colon, Text, Value, Row as RowPiece, Members as MembersPiece, Closers as ClosersPiece}
+use Rattle.at_nest.specs.declared.pieces.Piece.TheVariants.{Comma, Colon, Text, Value, Row as RowPiece, Members as MembersPiece, Closers as ClosersPiece}
 use Rattle.at_nest.specs.declared.pieces.SpanStop.{SpanStop as CodeHalt}
 use Rattle.at_nest.specs.declared.pieces.Within.{Within as CodeWithin}
 use Rattle.at_nest.specs.declared.pieces.Within.TheVariants as within
@@ -184,12 +184,10 @@ module _ {X : Type 0} (K : X → Content → Type 0) where
     as_other : is_value_piece c ≡ false → goes (value []) (kind_of p) ≡ None → first_of_piece c ≡ at_of p → NotOpens p → Stands c p
 
   stands : (at : ℕ) (w : List ℕ) (c : CodePiece X) (p : Piece Tree) → IsHeldPiece K at w c p → Stands c p
-  stands at w (Closes b i) (closes d j) h = as_other refl refl h.1 tt
   stands at w (Comma i) (mark (a_comma j)) h = as_other refl refl h tt
   stands at w (Colon i) (mark (a_colon j)) h = as_other refl refl h tt
   stands at w (Text span x) (mark (quoted j cs)) h = as_value x _ refl refl refl h.2 refl h.0 tt
   stands at w (Value i x) (mark (entry j t)) h = as_value x t refl refl refl h.1 refl h.0 tt
-  stands at w (Closes b i) (opens d j) h = absurd h
   stands at w (Comma i) (mark (a_colon j)) h = absurd h
   stands at w (Comma i) (mark (quoted j cs)) h = absurd h
   stands at w (Comma i) (mark (entry j t)) h = absurd h

@@ -2,7 +2,7 @@
 use Rattle.std.proofs.Common.{◌≡◌, ℕ, List, [], ◌∷◌, ◌++◌, refl, sym, ◌∙◌, ap, subst, All, add-one, take-suc, get_or, take, length, ◌+◌, ◌<◌, inl, inr}
 use Rattle.std.proofs.lemmas.List.Elements.{All-nil, All-cons}
 use Rattle.at_nest.specs.declared.pieces.Piece.{Piece as CodePiece}
-use Rattle.at_nest.specs.declared.pieces.Piece.TheVariants.{Closes, Comma, Colon, Text, Value, Row as RowPiece, Members as MembersPiece, Closers as ClosersPiece}
+use Rattle.at_nest.specs.declared.pieces.Piece.TheVariants.{Comma, Colon, Text, Value, Row as RowPiece, Members as MembersPiece, Closers as ClosersPiece}
 use Rattle.at_nest.specs.declared.pieces.Row.{Row}
 use Rattle.at_nest.specs.declared.pieces.NamedValue.{NamedValue}
 use Rattle.at_nest.specs.MemberMarks.{MemberMarks}
@@ -30,7 +30,6 @@ module _ {X : Type 0} (IsKept : X → Content → Type 0) where
 -- what stands for items is the algebra's own
 module _ {X : Type 0} (IsOwn : X → Type 0) (IsFold : X → Tree → Type 0) (IsRun : X → List Tree → Type 0) where
   pub piece_own : (base : ℕ) (w : List ℕ) (c : CodePiece X) (p : Piece Tree) → IsHeldPiece (OwnAtom IsOwn IsFold IsRun) base w c p → OwnPiece IsOwn c
-  piece_own base w (Closes b i) p h = tt
   piece_own base w (Comma i) p h = tt
   piece_own base w (Colon i) p h = tt
   piece_own base w (Text span x) (mark (quoted j cs)) h = h.2.0

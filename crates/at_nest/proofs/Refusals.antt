@@ -19,7 +19,7 @@ use Rattle.at_nest.specs.declared.bodies.Body.{Body}
 use Rattle.at_nest.specs.declared.levels.ArrayState.TheVariants as array
 use Rattle.at_nest.specs.declared.levels.ObjectState.TheVariants as object
 use Rattle.at_nest.specs.declared.pieces.Piece.{Piece as CodePiece}
-use Rattle.at_nest.specs.declared.pieces.Piece.TheVariants.{Closes, Comma, Colon, Text, Value, Row as RowPiece, Members as MembersPiece, Closers as ClosersPiece}
+use Rattle.at_nest.specs.declared.pieces.Piece.TheVariants.{Comma, Colon, Text, Value, Row as RowPiece, Members as MembersPiece, Closers as ClosersPiece}
 use Rattle.at_nest.specs.declared.variants.Variant.TheVariants.{Broken}
 use Rattle.at_nest.specs.Tree.{Tree}
 use Rattle.at_nest.specs.Borders.{are_apart}
@@ -273,7 +273,6 @@ dead_two {X} m at w front c p refuses f =
 
 broken_none : {X : Type 0} (hs : List (Held X)) (o : Option (CodePiece X)) (outer : List (CodePiece X)) (n : ℕ) → last_of outer ≡ o → not_in hs outer (token.Broken n) ≡ true → ⊥
 broken_none [] None outer n e h = true≢false (sym h ∙ ap (λ z. not_behind_last z (token.Broken n)) e)
-broken_none [] (Some (Closes b i)) outer n e h = true≢false (sym h ∙ ap (λ z. not_behind_last z (token.Broken n)) e)
 broken_none [] (Some (Comma i)) outer n e h = true≢false (sym h ∙ ap (λ z. not_behind_last z (token.Broken n)) e)
 broken_none [] (Some (Colon i)) outer n e h = true≢false (sym h ∙ ap (λ z. not_behind_last z (token.Broken n)) e)
 broken_none [] (Some (Text span x)) outer n e h = true≢false (sym h ∙ ap (λ z. not_behind_last z (token.Broken n)) e)
@@ -327,8 +326,6 @@ record LastPiece (ps : List (Piece Tree)) (k : TokenKind) : Type 0 where
 
 module _ {X : Type 0} (IsKept : X → Content → Type 0) where
   piece_refuses : (base : ℕ) (w : List ℕ) (c : CodePiece X) (p : Piece Tree) (k : TokenKind) → IsHeldPiece IsKept base w c p → not_behind_piece c k ≡ true → Refuses (kind_of p) (token_kind k)
-  piece_refuses base w (Closes b i) (closes d j) k u h = behind_closer d k h
-  piece_refuses base w (Closes b i) (opens d j) k u h = absurd u
   piece_refuses base w (Comma i) (mark (comma j)) k u h = behind_comma k h
   piece_refuses base w (Comma i) (mark (colon j)) k u h = absurd u
   piece_refuses base w (Comma i) (mark (quoted j cs)) k u h = absurd u

@@ -131,7 +131,7 @@ module _ {X : Type 0} (IsKept : X → Content → Type 0) where
           (pushes base w (record { outer = s.0; levels = [] }) t others (s.3, subst (λ z. EachHeld IsKept z []) (sym e) tt) k)
       here (l ∷ ls) u = absurd u
 
-  only_one : (base : ℕ) (w : List ℕ) (new : Shown X) (r : Option CodeHalt) (o : Pushed Tree) → IsPushedAs IsKept base w new r (push_then (push_all free []) o) → IsPushedAs IsKept base w new r o
+  pub only_one : (base : ℕ) (w : List ℕ) (new : Shown X) (r : Option CodeHalt) (o : Pushed Tree) → IsPushedAs IsKept base w new r (push_then (push_all free []) o) → IsPushedAs IsKept base w new r o
   only_one base w new r (further g) h = h
   only_one base w new r (stopped g i) h = h
 

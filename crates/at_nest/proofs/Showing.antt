@@ -7,7 +7,7 @@ use Rattle.at_lex.specs.Strings.{Character, string_text}
 use Rattle.at_lex.specs.declared.tokens.Bracket.{Bracket}
 use Rattle.at_nest.specs.declared.levels.Open.{Open}
 use Rattle.at_nest.specs.declared.pieces.Piece.{Piece as CodePiece}
-use Rattle.at_nest.specs.declared.pieces.Piece.TheVariants.{Closes, Comma, Colon, Text, Value}
+use Rattle.at_nest.specs.declared.pieces.Piece.TheVariants.{Comma, Colon, Text, Value}
 use Rattle.at_nest.specs.declared.pieces.SpanStop.{SpanStop as CodeHalt}
 use Rattle.at_nest.specs.Tree.{Tree, text}
 use Rattle.at_nest.specs.Forms.{Mark, Piece, opens, closes, mark, comma, colon, quoted, entry}
@@ -97,13 +97,6 @@ module _ {X : Type 0} (IsKept : X → Content → Type 0) (base : ℕ) (w : List
       here (l ∷ ls) u = put_pushes outer f.outer hs ls h l (quoted i cs) i o (move l.mode (mark_kind {X = Tree} (quoted i cs))) (subst (λ z. EachPiece IsKept base w z f.outer) e2 k.0) u.1 u.0 refl (moves l u.0)
 
   -- a closing bracket before the first open level
-  pub close_outside : (old : Shown X) (outer : List (CodePiece X)) (new : Shown X) (r : Option CodeHalt) (b : Bracket) (i : ℕ) (f : Form Tree) → old.levels ≡ [] → old.outer ≡ outer → (new, r) ≡ kept_outside outer (Closes b i) → IsShown IsKept base w old f → IsPushedAs IsKept base w new r (push free f (closes b i))
-  close_outside old outer new r b i f e e2 d h = subst (λ a. IsPushedAs IsKept base w a.0 a.1 (push free f (closes b i))) (sym d) (here f.levels (subst (λ z. EachHeld IsKept z f.levels) e h.1))
-    where
-      here : (ls : List (Level Tree)) → EachHeld IsKept [] ls → IsPushedAs IsKept base w (show_as (outer ++ Closes b i ∷ []) []) None (push_close free f.outer ls b i)
-      here [] u = (piece_append outer f.outer (Closes b i) (closes b i) (subst (λ z. EachPiece IsKept base w z f.outer) e2 h.0) (refl, refl), tt)
-      here (l ∷ ls) u = absurd u
-
   -- one that may not stand where it does
   pub close_refused : (old : Shown X) (outer : List (CodePiece X)) (hs : List (Held X)) (new : Shown X) (r : Option CodeHalt) (h : Held X) (b : Bracket) (i : ℕ) (f : Form Tree) → old.levels ≡ h ∷ hs → old.outer ≡ outer → closes_with h b ≡ false → (new, r) ≡ put_back outer hs i h None
       → IsShown IsKept base w old f → IsPushedAs IsKept base w new r (push free f (closes b i))

@@ -2,18 +2,18 @@
 use Rattle.std.specs.Prelude.{◌≡◌, ℕ, ◌+◌, ◌-◌, zero, suc}
 use Rattle.at_lex.specs.declared.tokens.Bracket.{Bracket}
 use Rattle.at_nest.specs.declared.pieces.Closers.{Closers}
-use Rattle.at_nest.specs.declared.pieces.Piece.{Piece}
-use Rattle.at_nest.specs.declared.pieces.Piece.TheVariants.{Closes, Closers as ClosersPiece}
 
 -- of two kinds that take turns, the one behind so many
 abbrev pub turn : Bracket → Bracket → ℕ → Bracket
 turn b c zero = b
 turn b c (suc n) = turn c b n
 
--- the brackets are those of the piece, and the bracket at the offset right behind it, whose turn it is
-abbrev pub IsLonger : {X : Type 0} → Piece X → Bracket → ℕ → Closers → Type 0
-IsLonger (Closes b i) bracket at r = (r.first ≡ b) × (r.second ≡ bracket) × (r.from ≡ i) × (at ≡ i + 1)
-    × (r.to ≡ at + 1)
-IsLonger (ClosersPiece q) bracket at r = (r.first ≡ q.first) × (r.second ≡ q.second) × (r.from ≡ q.from) × (at ≡ q.to)
-    × (bracket ≡ turn q.first q.second (q.to - q.from)) × (r.to ≡ at + 1)
-IsLonger _ _ _ _ = ⊥
+-- the kinds that take turns go on doing so in the brackets behind
+abbrev pub TakeTurns : Closers → Closers → Type 0
+TakeTurns q p = (p.first ≡ turn q.first q.second (p.from - q.from))
+    × (¬ (p.from ≡ p.last) → p.second ≡ turn q.first q.second (p.from - 1 - q.from))
+
+-- the brackets, and those behind them, which stand right behind them and go on taking turns
+abbrev pub IsLonger : Closers → Closers → Closers → Type 0
+IsLonger q p r = (r.first ≡ q.first) × (¬ (q.from ≡ q.last) → r.second ≡ q.second) × (r.from ≡ q.from)
+    × (r.last ≡ p.last) × (p.from ≡ q.last + 1) × TakeTurns r p

@@ -14,7 +14,7 @@ use Rattle.at_nest.specs.declared.levels.ObjectState.{ObjectState}
 use Rattle.at_nest.specs.declared.levels.ObjectState.TheVariants as object
 use Rattle.at_nest.specs.declared.levels.Step.{Step}
 use Rattle.at_nest.specs.declared.pieces.Piece.{Piece as CodePiece}
-use Rattle.at_nest.specs.declared.pieces.Piece.TheVariants.{Closes, Comma, Colon, Text, Value, Row as RowPiece}
+use Rattle.at_nest.specs.declared.pieces.Piece.TheVariants.{Comma, Colon, Text, Value, Row as RowPiece}
 use Rattle.at_nest.specs.declared.pieces.Piece.TheVariants.{Members as MembersPiece, Closers as ClosersPiece}
 use Rattle.at_nest.specs.declared.pieces.Row.{Row}
 use Rattle.at_nest.specs.declared.pieces.NamedValue.{NamedValue}
@@ -102,7 +102,7 @@ closers b c i (suc n) = closes b i ∷ closers c b (i + 1) n
 
 -- at least one
 abbrev pub AreClosers : Closers → List (Piece Tree) → Type 0
-AreClosers r ps = (n : ℕ) × (r.to ≡ r.from + suc n) × (ps ≡ closers r.first r.second r.from (suc n))
+AreClosers r ps = (n : ℕ) × (r.last ≡ r.from + n) × (ps ≡ closers r.first r.second r.from (suc n))
 
 -- in the bytes w, which stand at `at`, the string stands where the span says
 abbrev pub IsTextAt : ℕ → List ℕ → Span → List Character → Type 0
@@ -186,7 +186,6 @@ module _ {X : Type 0} (IsKept : X → Content → Type 0) where
   EachHeld _ _ = ⊥
 
   abbrev pub IsHeldPiece : ℕ → List ℕ → CodePiece X → Piece Tree → Type 0
-  IsHeldPiece at w (Closes b i) (closes c j) = (b ≡ c) × (i ≡ j)
   IsHeldPiece at w (Comma i) (mark (comma j)) = i ≡ j
   IsHeldPiece at w (Colon i) (mark (colon j)) = i ≡ j
   IsHeldPiece at w (Text span x) (mark (quoted j cs)) = (span.from ≡ j) × IsTextAt at w span cs

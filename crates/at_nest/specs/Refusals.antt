@@ -3,7 +3,7 @@ use Rattle.std.specs.Prelude.{Bool, true, false, not, Option, Some, None, List, 
 use Rattle.at_lex.specs.declared.tokens.TokenKind.{TokenKind}
 use Rattle.at_lex.specs.declared.tokens.TokenKind.TheVariants as token
 use Rattle.at_nest.specs.declared.pieces.Piece.{Piece}
-use Rattle.at_nest.specs.declared.pieces.Piece.TheVariants.{Closes, Comma, Colon, Text, Value, Row as RowPiece}
+use Rattle.at_nest.specs.declared.pieces.Piece.TheVariants.{Comma, Colon, Text, Value, Row as RowPiece}
 use Rattle.at_nest.specs.declared.pieces.Piece.TheVariants.{Members as MembersPiece, Closers as ClosersPiece}
 use Rattle.at_nest.specs.Shown.{Held, array_level, Shown, takes_value}
 
@@ -34,7 +34,6 @@ not_behind_mark token.Colon = true
 not_behind_mark _ = false
 
 abbrev pub not_behind_piece : {X : Type 0} → Piece X → TokenKind → Bool
-not_behind_piece (Closes b i) k = not_behind_value k
 not_behind_piece (Comma i) k = not_behind_mark k
 not_behind_piece (Colon i) k = not_behind_mark k
 not_behind_piece (Text span x) k = not_behind_text k

@@ -21,7 +21,7 @@ use Rattle.at_nest.specs.declared.open_levels.Levels.{Levels}
 use Rattle.at_nest.specs.declared.levels.Step.{Step}
 use Rattle.at_nest.specs.declared.levels.Step.TheVariants.{On, Refused}
 use Rattle.at_nest.specs.declared.pieces.Piece.{Piece}
-use Rattle.at_nest.specs.declared.pieces.Piece.TheVariants.{Closes, Comma, Colon, Text, Value, Row as RowPiece}
+use Rattle.at_nest.specs.declared.pieces.Piece.TheVariants.{Comma, Colon, Text, Value, Row as RowPiece}
 use Rattle.at_nest.specs.declared.pieces.Piece.TheVariants.{Members as MembersPiece, Closers as ClosersPiece}
 use Rattle.at_nest.specs.declared.pieces.SpanStop.{SpanStop}
 use Rattle.at_nest.specs.declared.pieces.Within.TheVariants.{First}
@@ -173,7 +173,6 @@ colon_added i outer [] = kept_outside outer (Colon i)
 colon_added i outer (h ∷ hs) = put_back outer hs i h (colon_next h)
 
 abbrev pub first_of_piece : {X : Type 0} → Piece X → ℕ
-first_of_piece (Closes b i) = i
 first_of_piece (Comma i) = i
 first_of_piece (Colon i) = i
 first_of_piece (Text span x) = span.from

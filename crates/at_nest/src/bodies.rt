@@ -9,6 +9,7 @@ ghost use Rattle.at_nest.specs.Shown.{Held, array_level, held_of, AreOwn, opens_
 ghost use Rattle.at_nest.specs.Shown.{kept_outside, put_back, comma_added, colon_added, IsStep};
 ghost use Rattle.at_nest.specs.Refusals.{is_refused, last_of, is_comma_last, takes_items};
 ghost use Rattle.at_nest.specs.Closers.{IsLonger};
+ghost use Rattle.at_nest.specs.declared.pieces.Closers.{Closers};
 ghost use Rattle.at_nest.specs.declared.pieces.Piece.{Piece};
 ghost use Rattle.at_nest.specs.declared.pieces.Piece.TheVariants.{Closers as ClosersPiece};
 ghost use Rattle.at_nest.specs.Nests.{nest_in, PutsLast};
@@ -238,13 +239,13 @@ impl<T: Drop> Body<T> {
         Ok(None)
     }
 
-    /// The last items with the closing bracket at the offset, where they are closing brackets right before it.
-    fn closers_with(&self, bracket: Bracket, at: u32) -> Option<Closers>
-        ensures { IfSome result (λ r. (c : Piece T) × (last_of self.now.outer.items ≡ Some c)
-            × IsLonger c bracket at r) }
+    /// The last items with the closing brackets, where they are closing brackets with which those go on.
+    fn closers_with(&self, behind: Closers) -> Option<Closers>
+        ensures { IfSome result (λ r. (c : Closers) × (last_of self.now.outer.items ≡ Some (ClosersPiece c))
+            × IsLonger c behind r) }
     {
         match self.outer.as_slice().last() {
-            Some(piece) => piece.longer(bracket, at),
+            Some(piece) => piece.longer(behind),
             None => None,
         }
     }
@@ -545,24 +546,23 @@ pub fn read_text<A: Algebra>(
     }
 }
 
-/// A closing bracket before the first open level: it lengthens those right before it, or stands alone.
-fn keep_close<A: Algebra>(
+/// Closing brackets before the first open level: they lengthen those right before them, or stand alone.
+fn keep_closers<A: Algebra>(
     body: &mut Body<A::Atom>,
     algebra: &A,
-    bracket: Bracket,
-    at: u32,
+    closers: Closers,
 ) -> Result<Option<SpanStop>, Memory>
     requires outside { (shown body.old).levels ≡ [] }
-    ensures { IfOk result (λ r. Pushes (IsAtomOf A.Algebra algebra.now)
-        (shown body.old) (shown body.new) r (closing_piece bracket at)) }
+    ensures { IfOk result (λ r. PushesClosers (IsAtomOf A.Algebra algebra.now)
+        (shown body.old) (shown body.new) r closers) }
 {
     let _ = algebra;
-    match body.closers_with(bracket, at) {
-        Some(closers) => {
-            body.put_closers(closers);
+    match body.closers_with(closers) {
+        Some(all) => {
+            body.put_closers(all);
             Ok(None)
         }
-        None => body.keep(Piece::Closes(bracket, at)),
+        None => body.keep(Piece::Closers(closers)),
     }
 }
 
@@ -580,10 +580,10 @@ pub fn close<A: Algebra>(
         (shown body.old) (shown body.new) r (closing_piece bracket at)) }
 {
     if body.is_outside() {
-        return keep_close(body, algebra, bracket, at);
+        return keep_closers(body, algebra, Closers::one(bracket, at));
     }
     match body.innermost(alloc) {
-        None => keep_close(body, algebra, bracket, at),
+        None => keep_closers(body, algebra, Closers::one(bracket, at)),
         Some(level) => if level.can_close(bracket) {
             let from = level.first();
             let atom = closed(alloc, algebra, level)?;
@@ -647,7 +647,10 @@ fn close_all<A: Algebra>(
     ensures { IfOk result (λ r. PushesClosers (IsAtomOf A.Algebra algebra.now)
         (shown body.old) (shown body.new) r closers) }
 {
-    for at in closers.from..closers.to {
+    if body.is_outside() {
+        return keep_closers(body, algebra, closers);
+    }
+    for at in closers.from..=closers.last {
         let halt = close(body, alloc, algebra, closers.kind_at(at), at)?;
         if halt.is_some() {
             return Ok(halt);
@@ -671,7 +674,6 @@ fn add<A: Algebra>(
         (shown body.old) piece (shown body.new) r) }
 {
     match piece {
-        Piece::Closes(bracket, at) => close(body, alloc, algebra, bracket, at),
         Piece::Comma(at) => body.comma(alloc, at),
         Piece::Colon(at) => body.colon(alloc, at),
         Piece::Text { span, atom } => add_text(body, alloc, algebra, bytes, span, atom),

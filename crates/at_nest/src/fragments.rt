@@ -5,7 +5,8 @@ ghost use Rattle.at_text.specs.Spans.{AreNeighbours, IsMerged};
 ghost use Rattle.at_lex.specs.declared.tokens.Start.{Start};
 ghost use Rattle.at_nest.specs.KeptItems.{IsAtomOf};
 ghost use Rattle.at_nest.specs.VariantMeanings.{HoldsVariant};
-ghost use Rattle.at_nest.specs.Slots.{GoesOn, AreBeside, CanTake, Takes, Stays, slot_in, slot_behind as behind_slot, bytes_in, no_items};
+ghost use Rattle.at_nest.specs.Slots.{GoesOn, AreBeside, CanTake, Takes, Stays, slot_in};
+ghost use Rattle.at_nest.specs.Slots.{slot_behind as behind_slot, bytes_in, no_items};
 ghost use Rattle.at_nest.specs.FragmentMeanings.{HoldsEscape, HoldsParts, StandsFor, parts_of};
 
 use crate::algebra::Algebra;
@@ -176,8 +177,9 @@ fn nothing<T>() -> Variant<T>
     Variant::AllLead { end: Start::Out }
 }
 
-/// The variant: moved out, or read from the bytes. A merge reads its right span at most once for each of the left
-/// span's two variants, so a span is read again in no other merge.
+/// The variant: moved out, or read from the bytes.
+///
+/// A merge reads its right span at most once for each of the left span's two variants.
 fn taken<A: Algebra>(
     alloc: Global,
     algebra: &A,

@@ -1,8 +1,9 @@
 //! What stands in a span before its first open level, and where a span stops.
 
-ghost use Rattle.std.specs.Prelude.{◌≡◌, ◌+◌, ◌-◌, ◌≤◌, true, IfSome};
+ghost use Rattle.std.specs.Prelude.{◌≡◌, ◌-◌, ◌<◌, ◌≤◌, true, IfSome};
 ghost use Rattle.at_nest.specs.Shown.{stop_at, first_of_piece, is_value_piece};
-ghost use Rattle.at_nest.specs.Closers.{IsLonger, turn};
+ghost use Rattle.at_nest.specs.Closers.{IsLonger, TakeTurns, turn};
+ghost use Rattle.at_nest.specs.declared.pieces.Piece.{Piece};
 ghost use Rattle.at_nest.specs.MemberMarks.{Awaits};
 ghost use Rattle.at_nest.specs.Refusals.{not_behind_value as none_behind_value, not_behind_text as none_behind_text};
 ghost use Rattle.at_nest.specs.Refusals.{not_behind_mark as none_behind_mark, not_behind_piece};
@@ -58,11 +59,63 @@ pub struct Closers {
     pub second: Bracket,
     /// The offset of the first.
     pub from: u32,
-    /// The offset behind the last.
-    pub to: u32,
+    /// The offset of the last.
+    pub last: u32,
 }
 
 impl Closers {
+    /// One bracket.
+    pub fn one(bracket: Bracket, at: u32) -> Self
+        ensures { result ≡ record { first = bracket; second = bracket; from = at; last = at } }
+    {
+        Closers {
+            first: bracket,
+            second: bracket,
+            from: at,
+            last: at,
+        }
+    }
+
+    /// These and those behind them, where those stand right behind these and the kinds go on taking turns.
+    pub fn longer(self, behind: Closers) -> Option<Closers>
+        ensures { IfSome result (IsLonger self behind) }
+    {
+        if self.last < self.from || behind.from <= self.last || behind.from - self.last > 1 {
+            return None;
+        }
+        let all = Closers {
+            first: self.first,
+            second: self.second_with(behind),
+            from: self.from,
+            last: behind.last,
+        };
+        if all.take_turns_in(behind) {
+            Some(all)
+        } else {
+            None
+        }
+    }
+
+    /// The second kind, which only one behind the first bracket decides.
+    fn second_with(self, behind: Closers) -> Bracket
+        ensures { ¬ (self.from ≡ self.last) → result ≡ self.second }
+    {
+        if self.from == self.last {
+            behind.first
+        } else {
+            self.second
+        }
+    }
+
+    /// Whether the kinds go on taking turns in the brackets.
+    fn take_turns_in(self, behind: Closers) -> bool
+        requires { self.from < behind.from }
+        ensures { result ≡ true → TakeTurns self behind }
+    {
+        is_same(behind.first, self.kind_at(behind.from))
+            && (behind.from == behind.last || is_same(behind.second, self.kind_at(behind.from - 1)))
+    }
+
     /// The kind whose turn it is at the offset.
     pub fn kind_at(self, at: u32) -> Bracket
         requires { self.from ≤ at }
@@ -79,7 +132,6 @@ impl Closers {
 /// An item of a span whose level was opened before the span, or several one behind another.
 #[derive(Drop)]
 pub enum Piece<T> {
-    Closes(Bracket, u32),
     Comma(u32),
     Colon(u32),
     /// A string, which may turn out to be a name or a value, with the atom that it is as a value.
@@ -97,7 +149,6 @@ impl<T: Drop> Piece<T> {
         ensures { result ≡ first_of_piece self.now }
     {
         match self {
-            Piece::Closes(_, at) => *at,
             Piece::Comma(at) => *at,
             Piece::Colon(at) => *at,
             Piece::Text { span, .. } => span.from,
@@ -124,7 +175,6 @@ impl<T: Drop> Piece<T> {
         ensures { result ≡ not_behind_piece self.now kind }
     {
         match self {
-            Piece::Closes(_, _) => not_behind_value(kind),
             Piece::Comma(_) => not_behind_mark(kind),
             Piece::Colon(_) => not_behind_mark(kind),
             Piece::Text { .. } => not_behind_text(kind),
@@ -146,13 +196,12 @@ impl<T: Drop> Piece<T> {
         }
     }
 
-    /// It with the closing bracket at the offset, where that stands right behind it and it is its kind's turn.
-    pub fn longer(&self, bracket: Bracket, at: u32) -> Option<Closers>
-        ensures { IfSome result (IsLonger self.now bracket at) }
+    /// It with the closing brackets behind it, where they go on with its own.
+    pub fn longer(&self, behind: Closers) -> Option<Closers>
+        ensures { IfSome result (λ r. (c : Closers) × (self.now ≡ Piece.Closers c) × IsLonger c behind r) }
     {
         match self {
-            Piece::Closes(other, from) => two_closers(*other, *from, bracket, at),
-            Piece::Closers(closers) => more_closers(*closers, bracket, at),
+            Piece::Closers(closers) => closers.longer(behind),
             _ => None,
         }
     }
@@ -166,41 +215,6 @@ fn is_same(left: Bracket, right: Bracket) -> bool
         (Bracket::Brace, Bracket::Brace) => true,
         _ => false,
     }
-}
-
-/// Two closing brackets, where the second stands right behind the first.
-fn two_closers(first: Bracket, from: u32, bracket: Bracket, at: u32) -> Option<Closers>
-    ensures { IfSome result (λ r. (r.first ≡ first) × (r.second ≡ bracket) × (r.from ≡ from) × (at ≡ from + 1)
-        × (r.to ≡ at + 1)) }
-{
-    if from < at && at - from == 1 && at < u32::MAX {
-        return Some(Closers {
-            first,
-            second: bracket,
-            from,
-            to: at + 1,
-        });
-    }
-    None
-}
-
-/// A closing bracket more, where it stands right behind and it is its kind's turn.
-fn more_closers(closers: Closers, bracket: Bracket, at: u32) -> Option<Closers>
-    ensures { IfSome result (λ r. (r.first ≡ closers.first) × (r.second ≡ closers.second) × (r.from ≡ closers.from)
-        × (at ≡ closers.to)
-        × (bracket ≡ turn closers.first closers.second (closers.to - closers.from)) × (r.to ≡ at + 1)) }
-{
-    if closers.to == at
-        && closers.from < at
-        && at < u32::MAX
-        && is_same(bracket, closers.kind_at(at))
-    {
-        return Some(Closers {
-            to: at + 1,
-            ..closers
-        });
-    }
-    None
 }
 
 /// The member of which the next item is the value, where the last items are a comma, a string and a colon.

@@ -5,7 +5,7 @@ use Rattle.at_nest.specs.declared.pieces.Piece.{Piece}
 use Rattle.at_nest.specs.declared.pieces.Piece.TheVariants.{Value, Row as RowPiece}
 use Rattle.at_nest.specs.Shown.{shown}
 use Rattle.at_nest.specs.KeptItems.{OwnAtom, CanAdd}
-use Rattle.at_nest.proofs.Adding.{adds_close, adds_row, adds_closers, adds_comma, adds_colon, adds_value, some_items}
+use Rattle.at_nest.proofs.Adding.{adds_row, adds_closers, adds_comma, adds_colon, adds_value, some_items}
 use Rattle.at_nest.proofs.OwnItems.{can_add_own}
 use Rattle.at_nest.proofs.MemberRows.{has_members, adds_members}
 use Rattle.at_nest.proofs.bodies.add.Goals as goal
@@ -29,10 +29,6 @@ read_value-requires-clause-own g c κs within = let own = g.A.Algebra.is_own c.a
 pub returns-in-Value : goal.returns-in-Value
 returns-in-Value g c = let own = g.A.Algebra.is_own c.args.algebra.now in let fold = g.A.Algebra.is_fold c.args.algebra.now in let run = g.A.Algebra.is_run c.args.algebra.now in
     IfOk-weaker c.read_value.result _ _ (λ r d. adds_value (OwnAtom own fold run) c.args.bytes.now (shown c.args.body.now) c.args.piece (shown c.read_value.new.body) r c.in-Value.from c.in-Value.atom c.in-Value.is d) c.read_value.ensures
-
-pub returns-in-Closes : goal.returns-in-Closes
-returns-in-Closes g c = let own = g.A.Algebra.is_own c.args.algebra.now in let fold = g.A.Algebra.is_fold c.args.algebra.now in let run = g.A.Algebra.is_run c.args.algebra.now in
-    IfOk-weaker c.close.result _ _ (λ r d. adds_close (OwnAtom own fold run) c.args.bytes.now (shown c.args.body.now) c.args.piece (shown c.close.new.body) r c.in-Closes.bracket c.in-Closes.at c.in-Closes.is d) c.close.ensures
 
 pub add_row-requires-clause-held : goal.add_row-requires-clause-held
 add_row-requires-clause-held g c κs within = let own = g.A.Algebra.is_own c.args.algebra.now in let fold = g.A.Algebra.is_fold c.args.algebra.now in let run = g.A.Algebra.is_run c.args.algebra.now in

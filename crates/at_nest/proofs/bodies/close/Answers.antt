@@ -5,18 +5,24 @@ use Rattle.at_nest.specs.Shown.{shown, held_of}
 use Rattle.at_nest.specs.KeptItems.{OwnAtom, PushesValue}
 use Rattle.at_nest.proofs.Adding.{innermost_own, without_innermost}
 use Rattle.at_nest.proofs.Showing.{close_refused, close_closes}
-use Rattle.at_nest.proofs.Closers.{pushes_same}
+use Rattle.at_nest.proofs.Closers.{one_pushes, pushes_same}
 use Rattle.at_nest.specs.Forms.{closes}
 use Rattle.at_nest.proofs.bodies.close.Goals as goal
 
 pub closed-requires-clause-own : goal.closed-requires-clause-own
 closed-requires-clause-own g c κs within = innermost_own (g.A.Algebra.is_own c.args.algebra.now) (g.A.Algebra.is_fold c.args.algebra.now) (g.A.Algebra.is_run c.args.algebra.now) (shown c.args.body.now) (held_of c.in-Some.level) (shown c.innermost.new.self).levels c.requires c.in-Some.ensures.levels
 
+pub returns-then-is_outside : goal.returns-then-is_outside
+returns-then-is_outside g c = let own = g.A.Algebra.is_own c.args.algebra.now in let fold = g.A.Algebra.is_fold c.args.algebra.now in let run = g.A.Algebra.is_run c.args.algebra.now in
+    IfOk-weaker c.keep_closers.result _ _ (λ r d. one_pushes (OwnAtom own fold run) (shown c.args.body.now) (shown c.keep_closers.new.body) r c.args.bracket c.args.at c.one.result c.one.ensures d)
+    c.keep_closers.ensures
+
 pub returns-in-None : goal.returns-in-None
 returns-in-None g c = let own = g.A.Algebra.is_own c.args.algebra.now in let fold = g.A.Algebra.is_fold c.args.algebra.now in let run = g.A.Algebra.is_run c.args.algebra.now in
-    IfOk-weaker c.keep_close-in-None.result _ _
-    (λ r d. pushes_same (OwnAtom own fold run) (shown c.args.body.now) (shown c.innermost.new.self) (shown c.keep_close-in-None.new.body) r (closes c.args.bracket c.args.at) c.innermost.ensures.outer (c.in-None.ensures.levels.1 ∙ sym c.in-None.ensures.levels.0) d)
-    c.keep_close-in-None.ensures
+    IfOk-weaker c.keep_closers-in-None.result _ _
+    (λ r d. pushes_same (OwnAtom own fold run) (shown c.args.body.now) (shown c.innermost.new.self) (shown c.keep_closers-in-None.new.body) r (closes c.args.bracket c.args.at) c.innermost.ensures.outer (c.in-None.ensures.levels.1 ∙ sym c.in-None.ensures.levels.0)
+    (one_pushes (OwnAtom own fold run) (shown c.innermost.new.self) (shown c.keep_closers-in-None.new.body) r c.args.bracket c.args.at c.one-in-None.result c.one-in-None.ensures d))
+    c.keep_closers-in-None.ensures
 
 pub read_value-requires-clause-held : goal.read_value-requires-clause-held
 read_value-requires-clause-held g c κs within = let own = g.A.Algebra.is_own c.args.algebra.now in let fold = g.A.Algebra.is_fold c.args.algebra.now in let run = g.A.Algebra.is_run c.args.algebra.now in

@@ -9,14 +9,17 @@ pub loop-at-init : goal.loop-at-init
 loop-at-init g c = let own = g.A.Algebra.is_own c.args.algebra.now in let fold = g.A.Algebra.is_fold c.args.algebra.now in let run = g.A.Algebra.is_run c.args.algebra.now in
     closed_none (OwnAtom own fold run) (shown c.args.body.now) c.args.closers c.requires.held
 
+pub close-requires-after_bounds : goal.close-requires-after_bounds
+close-requires-after_bounds g c κs within = c.loop-at.invariant.items
+
 pub returns-then-is_some : goal.returns-then-is_some
 returns-then-is_some g c = let own = g.A.Algebra.is_own c.args.algebra.now in let fold = g.A.Algebra.is_fold c.args.algebra.now in let run = g.A.Algebra.is_run c.args.algebra.now in
-    closed_halt (OwnAtom own fold run) (shown c.args.body.now) (shown c.loop-at.body) (shown c.close.new.body) c.args.closers c.kind_at.result c.loop-at.at c.in_ok-halt.halt c.kind_at.ensures (sym c.is_some.ensures ∙ c.if-is_some.true) (omega (arith, c.loop-at-test.true)) c.loop-at.invariant c.in_ok-halt.ensures
+    closed_halt (OwnAtom own fold run) (shown c.args.body.now) (shown c.loop-at.body) (shown c.close.new.body) c.args.closers c.kind_at.result c.loop-at.at c.in_ok-halt.halt c.kind_at.ensures (sym c.is_some.ensures ∙ c.if-is_some.true) c.loop-at-test.true c.loop-at.invariant c.in_ok-halt.ensures
 
 pub loop-at-preserved : goal.loop-at-preserved
 loop-at-preserved g c = let own = g.A.Algebra.is_own c.args.algebra.now in let fold = g.A.Algebra.is_fold c.args.algebra.now in let run = g.A.Algebra.is_run c.args.algebra.now in
-    closed_on (OwnAtom own fold run) (shown c.args.body.now) (shown c.loop-at.body) (shown c.close.new.body) c.args.closers c.kind_at.result c.loop-at.at c.in_ok-halt.halt c.kind_at.ensures (sym c.is_some.ensures ∙ c.if-is_some.false) (omega (arith, c.loop-at-test.true)) c.loop-at.invariant c.in_ok-halt.ensures
+    closed_on (OwnAtom own fold run) (shown c.args.body.now) (shown c.loop-at.body) (shown c.close.new.body) c.args.closers c.kind_at.result c.loop-at.at c.in_ok-halt.halt c.kind_at.ensures (sym c.is_some.ensures ∙ c.if-is_some.false) c.loop-at.invariant c.in_ok-halt.ensures
 
-pub returns : goal.returns
-returns g c = let own = g.A.Algebra.is_own c.args.algebra.now in let fold = g.A.Algebra.is_fold c.args.algebra.now in let run = g.A.Algebra.is_run c.args.algebra.now in
-    closed_all (OwnAtom own fold run) (shown c.args.body.now) (shown c.loop-at.body) c.args.closers c.loop-at.at (omega (arith, c.loop-at-test.false)) c.loop-at.invariant
+pub returns-else-is_some : goal.returns-else-is_some
+returns-else-is_some g c = let own = g.A.Algebra.is_own c.args.algebra.now in let fold = g.A.Algebra.is_fold c.args.algebra.now in let run = g.A.Algebra.is_run c.args.algebra.now in
+    closed_all (OwnAtom own fold run) (shown c.args.body.now) (shown c.loop-at.body) (shown c.close.new.body) c.args.closers c.kind_at.result c.loop-at.at c.in_ok-halt.halt c.kind_at.ensures (sym c.is_some.ensures ∙ c.if-is_some.false) (omega (arith, c.loop-at-test.true)) c.loop-at.invariant c.in_ok-halt.ensures
