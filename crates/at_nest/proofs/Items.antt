@@ -5,7 +5,7 @@ use Rattle.std.proofs.lemmas.Bool.{and_right}
 use Rattle.std.proofs.Math.Seq.{take-append_seam, drop-append_seam}
 use Rattle.std.specs.Bool.{⊤}
 use Rattle.at_text.specs.Texts.{is_run}
-use Rattle.at_lex.specs.Spans.{AreSpaces, opening, end_of, begins_run, is_broken, IsKind, IsToken as IsLexed, IsPend as IsLexedPend}
+use Rattle.at_lex.specs.Spans.{AreSpaces, opening, closing, end_of, begins_run, is_broken, IsKind, IsToken as IsLexed, IsPend as IsLexedPend}
 use Rattle.at_lex.specs.Stream.{Left, GivesItem, IsBegun}
 use Rattle.at_lex.specs.declared.tokens.Start.{Start}
 use Rattle.at_lex.specs.declared.tokens.Start.TheVariants.{Out, InString, InEscape}
@@ -194,7 +194,7 @@ module _ {X : Type 0} (IsKept : X → Content → Type 0) where
         lead_at = at2;
       }
 
-  -- ---- from an opening bracket on
+  -- ---- from a bracket on
 
   -- the bytes from the bracket to the piece's end
   pub ahead_bytes : (base : ℕ) (piece : List ℕ) (from : ℕ) (bytes : List ℕ) (kept : Shown X) (old mid : Left) (t : Token) → HasBytes base piece from bytes → Consumed base piece from bytes kept old → (g : GivesItem old (WholeItem t) mid)
@@ -227,28 +227,30 @@ module _ {X : Type 0} (IsKept : X → Content → Type 0) where
       heads : (c b : ℕ) (w x : List ℕ) → b ∷ w ≡ c ∷ x → (b ≡ c) × (w ≡ x)
       heads c b w x e = (cc, cc)
 
-  pub opens_bytes : (old mid : Left) (t : Token) (b : Bracket) → t.kind ≡ kinds.Opens b → (g : GivesItem old (WholeItem t) mid) → g.1 ++ g.2 ≡ opening b ∷ g.2
-  opens_bytes old mid t b k g = ap (λ z. z ++ g.2) (subst (IsKind (old.at + length g.0) g.1 g.2) k g.6.2)
+  pub opens_byte : (old mid : Left) (t : Token) (b : Bracket) → t.kind ≡ kinds.Opens b → (g : GivesItem old (WholeItem t) mid) → g.1 ≡ opening b ∷ []
+  opens_byte old mid t b k g = subst (IsKind (old.at + length g.0) g.1 g.2) k g.6.2
+
+  pub closes_byte : (old mid : Left) (t : Token) (b : Bracket) → t.kind ≡ kinds.Closes b → (g : GivesItem old (WholeItem t) mid) → g.1 ≡ closing b ∷ []
+  closes_byte old mid t b k g = subst (IsKind (old.at + length g.0) g.1 g.2) k g.6.2
 
   -- what is left behind the bytes that were read
-  pub ahead_left : (old mid : Left) (t : Token) (b : Bracket) (v r : List ℕ) (to : ℕ) → t.kind ≡ kinds.Opens b → (g : GivesItem old (WholeItem t) mid) → g.1 ++ g.2 ≡ v ++ r → to ≡ t.from + length v → 0 < length v
+  pub ahead_left : (old mid : Left) (t : Token) (b : ℕ) (v r : List ℕ) (to : ℕ) → is_broken t.kind ≡ false → (g : GivesItem old (WholeItem t) mid) → g.1 ≡ b ∷ [] → g.1 ++ g.2 ≡ v ++ r → to ≡ t.from + length v → 0 < length v
       → (mid.state ≡ Out) × (mid.at ≤ to) × (to ≤ mid.at + length mid.rest) × (drop (to - mid.at) mid.rest ≡ r)
-  ahead_left old mid t b v r to k g e i some =
-      let one : g.1 ≡ opening b ∷ [] = subst (IsKind (old.at + length g.0) g.1 g.2) k g.6.2 in
-      let (u, first, more) = behind_first v r g.2 (opening b) some (ap (λ z. z ++ g.2) (sym one) ∙ e) in
-      let rest : mid.rest ≡ g.2 = next_left old mid t g (ap is_broken k) in
+  ahead_left old mid t b v r to k g one e i some =
+      let (u, first, more) = behind_first v r g.2 b some (ap (λ z. z ++ g.2) (sym one) ∙ e) in
+      let rest : mid.rest ≡ g.2 = next_left old mid t g k in
       let at : mid.at ≡ t.from + 1 = ap (λ z. z.at) g.7 ∙ omega (arith, g.6.1, g.6.0, ap (λ z. length z) one) in
       let size : length v ≡ suc (length u) = ap (λ z. length z) first in
       let off : to - mid.at ≡ length u = omega (arith, i, at, size) in
       let left : length mid.rest ≡ length u + length r = ap (λ z. length z) (rest ∙ more) ∙ length-append u r in
       (ap (λ z. z.state) g.7, omega (arith, i, at, size), omega (arith, i, at, size, left), ap (λ n. drop n mid.rest) off ∙ (ap (drop (length u)) (rest ∙ more) ∙ drop-append_seam u r))
 
-  pub consumed_ahead : (base : ℕ) (piece : List ℕ) (from : ℕ) (bytes : List ℕ) (kept kept2 : Shown X) (old mid new : Left) (t : Token) (b : Bracket) (to : ℕ) → Consumed base piece from bytes kept old → t.kind ≡ kinds.Opens b → (g : GivesItem old (WholeItem t) mid)
-      → ReadsAhead IsKept kept kept2 None t.from (g.1 ++ g.2) to → new ≡ record { at = to; rest = drop (to - mid.at) mid.rest; state = Out } → Consumed base piece from bytes kept2 new
-  consumed_ahead base piece from bytes kept kept2 old mid new t b to h k g q n =
+  pub consumed_ahead : (base : ℕ) (piece : List ℕ) (from : ℕ) (bytes : List ℕ) (kept kept2 : Shown X) (old mid new : Left) (t : Token) (b : ℕ) (to : ℕ) → Consumed base piece from bytes kept old → is_broken t.kind ≡ false → (g : GivesItem old (WholeItem t) mid)
+      → g.1 ≡ b ∷ [] → ReadsAhead IsKept kept kept2 None t.from (g.1 ++ g.2) to → new ≡ record { at = to; rest = drop (to - mid.at) mid.rest; state = Out } → Consumed base piece from bytes kept2 new
+  consumed_ahead base piece from bytes kept kept2 old mid new t b to h k g one q n =
       let p = ahead_pushed base piece from bytes kept kept2 old mid t None to h g q in
       let f = whole_further base piece from ((h.read ++ g.0) ++ q.0) q.1 kept2 (merged free (further h.form) p.0) p.2 p.1 in
-      let (out, low, high, dropped) = ahead_left old mid t b q.0 q.1 to k g q.2 q.3 q.4 in
+      let (out, low, high, dropped) = ahead_left old mid t b q.0 q.1 to k g one q.2 q.3 q.4 in
       let left : new.rest ≡ q.1 = ap (λ z. z.rest) n ∙ dropped in
       let (c, u, some) = first_of q.0 q.4 in
       let last : ends_run ((h.read ++ g.0) ++ q.0) ≡ false = ap (λ z. ends_run ((h.read ++ g.0) ++ z)) some ∙ (ends_append (h.read ++ g.0) c u ∙ (ap ends_run (sym some) ∙ q.5)) in

@@ -30,6 +30,7 @@ pub mod Stretches
 pub mod Adding
 pub mod Joining
 pub mod Closers
+pub mod ClosersAhead
 pub mod Rows
 pub mod MemberRows
 pub mod TokenReads

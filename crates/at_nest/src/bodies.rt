@@ -115,7 +115,7 @@ impl<T: Drop> Body<T> {
 
     /// Whether no level is open.
     #[inline(always)]
-    fn is_outside(&self) -> bool
+    pub fn is_outside(&self) -> bool
         ensures { result ≡ true → (shown self.now).levels ≡ [] }
     {
         self.levels.is_empty()
@@ -547,7 +547,7 @@ pub fn read_text<A: Algebra>(
 }
 
 /// Closing brackets before the first open level: they lengthen those right before them, or stand alone.
-fn keep_closers<A: Algebra>(
+pub fn keep_closers<A: Algebra>(
     body: &mut Body<A::Atom>,
     algebra: &A,
     closers: Closers,
@@ -580,10 +580,10 @@ pub fn close<A: Algebra>(
         (shown body.old) (shown body.new) r (closing_piece bracket at)) }
 {
     if body.is_outside() {
-        return keep_closers(body, algebra, Closers::one(bracket, at));
+        return keep_closers(body, algebra, Closers::of_kind(bracket, at, at));
     }
     match body.innermost(alloc) {
-        None => keep_closers(body, algebra, Closers::one(bracket, at)),
+        None => keep_closers(body, algebra, Closers::of_kind(bracket, at, at)),
         Some(level) => if level.can_close(bracket) {
             let from = level.first();
             let atom = closed(alloc, algebra, level)?;

@@ -18,6 +18,7 @@
 
 mod algebra;
 mod bodies;
+mod closings;
 mod finishing;
 mod fragments;
 mod levels;

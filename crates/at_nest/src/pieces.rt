@@ -64,15 +64,15 @@ pub struct Closers {
 }
 
 impl Closers {
-    /// One bracket.
-    pub fn one(bracket: Bracket, at: u32) -> Self
-        ensures { result ≡ record { first = bracket; second = bracket; from = at; last = at } }
+    /// Brackets of one kind.
+    pub fn of_kind(bracket: Bracket, from: u32, last: u32) -> Self
+        ensures { result ≡ record { first = bracket; second = bracket; from = from; last = last } }
     {
         Closers {
             first: bracket,
             second: bracket,
-            from: at,
-            last: at,
+            from,
+            last,
         }
     }
 

@@ -10,6 +10,7 @@ ghost use Rattle.at_nest.specs.VariantMeanings.{HoldsVariant, HoldsBehind, CanMe
 
 use crate::algebra::Algebra;
 use crate::bodies::{Body, join};
+use crate::closings::read_closing;
 use crate::openings::{Tries, read_opening};
 use crate::pieces::{SpanStop, first_byte};
 use crate::tokens::{cut_token, read_token};
@@ -102,6 +103,16 @@ fn read_items<A: Algebra>(
                         let ahead = from_place(piece, base, token.from);
                         let read = read_opening(
                             &mut body, alloc, algebra, &mut tries, ahead, bracket, token.from,
+                        )?;
+                        match read.halt {
+                            None => lexer.skip_to(read.to),
+                            Some(halt) => return Ok(Variant::Broken { lead, body, halt }),
+                        }
+                    }
+                    TokenKind::Closes(bracket) => {
+                        let ahead = from_place(piece, base, token.from);
+                        let read = read_closing(
+                            &mut body, alloc, algebra, ahead, bracket, token.from,
                         )?;
                         match read.halt {
                             None => lexer.skip_to(read.to),

@@ -14,14 +14,14 @@ closed-requires-clause-own g c κs within = innermost_own (g.A.Algebra.is_own c.
 
 pub returns-then-is_outside : goal.returns-then-is_outside
 returns-then-is_outside g c = let own = g.A.Algebra.is_own c.args.algebra.now in let fold = g.A.Algebra.is_fold c.args.algebra.now in let run = g.A.Algebra.is_run c.args.algebra.now in
-    IfOk-weaker c.keep_closers.result _ _ (λ r d. one_pushes (OwnAtom own fold run) (shown c.args.body.now) (shown c.keep_closers.new.body) r c.args.bracket c.args.at c.one.result c.one.ensures d)
+    IfOk-weaker c.keep_closers.result _ _ (λ r d. one_pushes (OwnAtom own fold run) (shown c.args.body.now) (shown c.keep_closers.new.body) r c.args.bracket c.args.at c.of_kind.result c.of_kind.ensures d)
     c.keep_closers.ensures
 
 pub returns-in-None : goal.returns-in-None
 returns-in-None g c = let own = g.A.Algebra.is_own c.args.algebra.now in let fold = g.A.Algebra.is_fold c.args.algebra.now in let run = g.A.Algebra.is_run c.args.algebra.now in
     IfOk-weaker c.keep_closers-in-None.result _ _
     (λ r d. pushes_same (OwnAtom own fold run) (shown c.args.body.now) (shown c.innermost.new.self) (shown c.keep_closers-in-None.new.body) r (closes c.args.bracket c.args.at) c.innermost.ensures.outer (c.in-None.ensures.levels.1 ∙ sym c.in-None.ensures.levels.0)
-    (one_pushes (OwnAtom own fold run) (shown c.innermost.new.self) (shown c.keep_closers-in-None.new.body) r c.args.bracket c.args.at c.one-in-None.result c.one-in-None.ensures d))
+    (one_pushes (OwnAtom own fold run) (shown c.innermost.new.self) (shown c.keep_closers-in-None.new.body) r c.args.bracket c.args.at c.of_kind-in-None.result c.of_kind-in-None.ensures d))
     c.keep_closers-in-None.ensures
 
 pub read_value-requires-clause-held : goal.read_value-requires-clause-held

@@ -1,6 +1,6 @@
 -- Each token goes on with what has been read, or stops the piece.
-use Rattle.std.proofs.Common.{Option, None, Some, sym, ◌∙◌, subst, refl}
-use Rattle.at_lex.specs.Spans.{IsToken as IsLexed}
+use Rattle.std.proofs.Common.{Option, None, Some, ◌++◌, sym, ◌∙◌, ap, subst, refl}
+use Rattle.at_lex.specs.Spans.{closing, opening, is_broken, IsToken as IsLexed}
 use Rattle.at_nest.specs.declared.pieces.SpanStop.{SpanStop}
 use Rattle.at_nest.specs.declared.variants.Variant.TheVariants.{Whole, Broken}
 use Rattle.at_nest.specs.Shown.{Shown, shown}
@@ -8,7 +8,7 @@ use Rattle.at_nest.specs.Unions.{empty_form}
 use Rattle.at_nest.specs.KeptItems.{OwnAtom, IsShown}
 use Rattle.at_nest.specs.Reading.{ReadsToken, ReadsAhead}
 use Rattle.at_nest.specs.VariantMeanings.{HoldsBehind}
-use Rattle.at_nest.proofs.Items.{consumed_none, consumed_on, consumed_stop, consumed_end, token_bytes, ahead_bytes, opens_bytes, consumed_ahead, consumed_ahead_stop}
+use Rattle.at_nest.proofs.Items.{consumed_none, consumed_on, consumed_stop, consumed_end, token_bytes, ahead_bytes, opens_byte, closes_byte, consumed_ahead, consumed_ahead_stop}
 use Rattle.at_nest.proofs.Refusals.{consumed_refused}
 use Rattle.at_nest.proofs.variants.read_items.Goals as goal
 
@@ -51,7 +51,7 @@ pub read_opening-requires-clause-begins : goal.read_opening-requires-clause-begi
 read_opening-requires-clause-begins g c κs within = let own = g.A.Algebra.is_own c.args.algebra.now in let fold = g.A.Algebra.is_fold c.args.algebra.now in let run = g.A.Algebra.is_run c.args.algebra.now in
     let gives = c.in-Whole.ensures.gives in
     let bytes = ahead_bytes (OwnAtom own fold run) c.args.base c.args.piece.now c.args.lexer.at c.args.lexer.rest (shown c.loop-token.body) c.loop-token.lexer c.next_item.new.self c.in-Whole.token c.requires.behind c.loop-token.invariant gives in
-    (gives.2, c.from_place-ahead.ensures ∙ (bytes.0 ∙ opens_bytes (OwnAtom own fold run) c.loop-token.lexer c.next_item.new.self c.in-Whole.token c.in-Opens.bracket c.in-Opens.is gives))
+    (gives.2, c.from_place-ahead.ensures ∙ (bytes.0 ∙ ap (λ z. z ++ gives.2) (opens_byte (OwnAtom own fold run) c.loop-token.lexer c.next_item.new.self c.in-Whole.token c.in-Opens.bracket c.in-Opens.is gives)))
 
 pub returns-in-Some : goal.returns-in-Some
 returns-in-Some g c = let own = g.A.Algebra.is_own c.args.algebra.now in let fold = g.A.Algebra.is_fold c.args.algebra.now in let run = g.A.Algebra.is_run c.args.algebra.now in
@@ -65,10 +65,34 @@ pub loop-token-preserved-in-None : goal.loop-token-preserved-in-None
 loop-token-preserved-in-None g c = let own = g.A.Algebra.is_own c.args.algebra.now in let fold = g.A.Algebra.is_fold c.args.algebra.now in let run = g.A.Algebra.is_run c.args.algebra.now in
     let gives = c.in-Whole.ensures.gives in
     let bytes = ahead_bytes (OwnAtom own fold run) c.args.base c.args.piece.now c.args.lexer.at c.args.lexer.rest (shown c.loop-token.body) c.loop-token.lexer c.next_item.new.self c.in-Whole.token c.requires.behind c.loop-token.invariant gives in
-    consumed_ahead (OwnAtom own fold run) c.args.base c.args.piece.now c.args.lexer.at c.args.lexer.rest (shown c.loop-token.body) (shown c.read_opening.new.body) c.loop-token.lexer c.next_item.new.self c.skip_to.new.self c.in-Whole.token c.in-Opens.bracket c.in_ok-read-in-Opens.read.to c.loop-token.invariant c.in-Opens.is gives
+    consumed_ahead (OwnAtom own fold run) c.args.base c.args.piece.now c.args.lexer.at c.args.lexer.rest (shown c.loop-token.body) (shown c.read_opening.new.body) c.loop-token.lexer c.next_item.new.self c.skip_to.new.self c.in-Whole.token (opening c.in-Opens.bracket) c.in_ok-read-in-Opens.read.to c.loop-token.invariant (ap is_broken c.in-Opens.is) gives (opens_byte (OwnAtom own fold run) c.loop-token.lexer c.next_item.new.self c.in-Whole.token c.in-Opens.bracket c.in-Opens.is gives)
     (subst (λ v. ReadsAhead (OwnAtom own fold run) (shown c.loop-token.body) (shown c.read_opening.new.body) (None) c.in-Whole.token.from v c.in_ok-read-in-Opens.read.to) (c.from_place-ahead.ensures ∙ bytes.0)
     (subst (λ (z : Option SpanStop). ReadsAhead (OwnAtom own fold run) (shown c.loop-token.body) (shown c.read_opening.new.body) z c.in-Whole.token.from c.from_place-ahead.result.now c.in_ok-read-in-Opens.read.to) c.in-None.is c.in_ok-read-in-Opens.ensures))
     c.skip_to.ensures
+
+-- closing brackets
+pub read_closing-requires-clause-begins : goal.read_closing-requires-clause-begins
+read_closing-requires-clause-begins g c κs within = let own = g.A.Algebra.is_own c.args.algebra.now in let fold = g.A.Algebra.is_fold c.args.algebra.now in let run = g.A.Algebra.is_run c.args.algebra.now in
+    let gives = c.in-Whole.ensures.gives in
+    let bytes = ahead_bytes (OwnAtom own fold run) c.args.base c.args.piece.now c.args.lexer.at c.args.lexer.rest (shown c.loop-token.body) c.loop-token.lexer c.next_item.new.self c.in-Whole.token c.requires.behind c.loop-token.invariant gives in
+    (gives.2, c.from_place-ahead-in-Closes.ensures ∙ (bytes.0 ∙ ap (λ z. z ++ gives.2) (closes_byte (OwnAtom own fold run) c.loop-token.lexer c.next_item.new.self c.in-Whole.token c.in-Closes.bracket c.in-Closes.is gives)))
+
+pub returns-in-Some-halt : goal.returns-in-Some-halt
+returns-in-Some-halt g c = let own = g.A.Algebra.is_own c.args.algebra.now in let fold = g.A.Algebra.is_fold c.args.algebra.now in let run = g.A.Algebra.is_run c.args.algebra.now in
+    let gives = c.in-Whole.ensures.gives in
+    let bytes = ahead_bytes (OwnAtom own fold run) c.args.base c.args.piece.now c.args.lexer.at c.args.lexer.rest (shown c.loop-token.body) c.loop-token.lexer c.next_item.new.self c.in-Whole.token c.requires.behind c.loop-token.invariant gives in
+    consumed_ahead_stop (OwnAtom own fold run) c.args.base c.args.piece.now c.args.lexer.at c.args.lead c.args.lexer.rest c.read_closing.new.body (shown c.loop-token.body) c.loop-token.lexer c.next_item.new.self c.in-Whole.token c.in-Some-halt.halt c.in_ok-read-in-Closes.read.to c.loop-token.invariant gives
+    (subst (λ v. ReadsAhead (OwnAtom own fold run) (shown c.loop-token.body) (shown c.read_closing.new.body) (Some c.in-Some-halt.halt) c.in-Whole.token.from v c.in_ok-read-in-Closes.read.to) (c.from_place-ahead-in-Closes.ensures ∙ bytes.0)
+    (subst (λ (z : Option SpanStop). ReadsAhead (OwnAtom own fold run) (shown c.loop-token.body) (shown c.read_closing.new.body) z c.in-Whole.token.from c.from_place-ahead-in-Closes.result.now c.in_ok-read-in-Closes.read.to) c.in-Some-halt.is c.in_ok-read-in-Closes.ensures))
+
+pub loop-token-preserved-in-None-halt : goal.loop-token-preserved-in-None-halt
+loop-token-preserved-in-None-halt g c = let own = g.A.Algebra.is_own c.args.algebra.now in let fold = g.A.Algebra.is_fold c.args.algebra.now in let run = g.A.Algebra.is_run c.args.algebra.now in
+    let gives = c.in-Whole.ensures.gives in
+    let bytes = ahead_bytes (OwnAtom own fold run) c.args.base c.args.piece.now c.args.lexer.at c.args.lexer.rest (shown c.loop-token.body) c.loop-token.lexer c.next_item.new.self c.in-Whole.token c.requires.behind c.loop-token.invariant gives in
+    consumed_ahead (OwnAtom own fold run) c.args.base c.args.piece.now c.args.lexer.at c.args.lexer.rest (shown c.loop-token.body) (shown c.read_closing.new.body) c.loop-token.lexer c.next_item.new.self c.skip_to-in-None-halt.new.self c.in-Whole.token (closing c.in-Closes.bracket) c.in_ok-read-in-Closes.read.to c.loop-token.invariant (ap is_broken c.in-Closes.is) gives (closes_byte (OwnAtom own fold run) c.loop-token.lexer c.next_item.new.self c.in-Whole.token c.in-Closes.bracket c.in-Closes.is gives)
+    (subst (λ v. ReadsAhead (OwnAtom own fold run) (shown c.loop-token.body) (shown c.read_closing.new.body) (None) c.in-Whole.token.from v c.in_ok-read-in-Closes.read.to) (c.from_place-ahead-in-Closes.ensures ∙ bytes.0)
+    (subst (λ (z : Option SpanStop). ReadsAhead (OwnAtom own fold run) (shown c.loop-token.body) (shown c.read_closing.new.body) z c.in-Whole.token.from c.from_place-ahead-in-Closes.result.now c.in_ok-read-in-Closes.read.to) c.in-None-halt.is c.in_ok-read-in-Closes.ensures))
+    c.skip_to-in-None-halt.ensures
 
 pub returns-in-End : goal.returns-in-End
 returns-in-End g c = let own = g.A.Algebra.is_own c.args.algebra.now in let fold = g.A.Algebra.is_fold c.args.algebra.now in let run = g.A.Algebra.is_run c.args.algebra.now in
