@@ -1,6 +1,6 @@
 //! The members of an object for which some kind of object asks, by their names (RFC 7946 section 3).
 
-ghost use Rattle.std.specs.Prelude.{◌≡◌, ◌≤◌, ◌^◌, [], is_some, length, IfOk};
+ghost use Rattle.std.specs.Prelude.{◌≡◌, ◌≤◌, ◌^◌, [], false, None, is_some, length, IfOk};
 ghost use Rattle.at_scan.specs.Fields.{field_of, is_kind as names_kind, is_coordinates as names_coordinates};
 ghost use Rattle.at_scan.specs.Fields.{is_geometry, is_geometries, is_properties, is_features};
 ghost use Rattle.at_scan.specs.Places.{IsNameAt};
@@ -8,6 +8,7 @@ ghost use Rattle.at_scan.specs.Members.{name_in, IsPlainName, ArePlainOthers};
 ghost use Rattle.at_geojson.specs.Atoms.{as_kind};
 ghost use Rattle.at_geojson.specs.Fields.{put_if, put_first as first_put, value_in, AreFields, kind_in_fields};
 ghost use Rattle.at_geojson.specs.Members.{IsNewName};
+ghost use Rattle.at_geojson.specs.Objects.{kind_in};
 
 use crate::atoms::atom::GeoAtom;
 use at_nest::Member;
@@ -106,6 +107,18 @@ impl Fields {
             None => None,
         }
     }
+}
+
+/// Whether a member says the kind. An object without one has none.
+pub fn says_kind(members: &[Member<GeoAtom>]) -> bool
+    ensures { result ≡ false → kind_in members.now ≡ None }
+{
+    for member in members {
+        if let Field::Kind = field_named(member.name.as_slice()) {
+            return true;
+        }
+    }
+    false
 }
 
 /// The members for which some kind asks.

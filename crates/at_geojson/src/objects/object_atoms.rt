@@ -11,7 +11,7 @@ ghost use Rattle.at_geojson.specs.Fields.{AreOwnFields, IfOwnValue, IsFeatureOf,
 use crate::asked::GeoAlgebra;
 use crate::atoms::atom::{GeoAtom, ObjectAtom, Role, Roles};
 use crate::atoms::lists::role_geometry;
-use crate::objects::fields::{Fields, fields_of};
+use crate::objects::fields::{Fields, fields_of, says_kind};
 use crate::objects::members::{
     feature_shape, of_coordinates, of_feature, of_features, of_geometries,
 };
@@ -243,6 +243,9 @@ fn members_atom(
     ensures made { IfOk result (MakesObject algebra.now.query at members.items) }
 {
     let texts = kept_texts(alloc, algebra.query().tests.as_slice(), members.as_slice())?;
+    if texts.as_slice().is_empty() && !says_kind(members.as_slice()) {
+        return Ok(GeoAtom::Void(at));
+    }
     let mut fields = fields_of(members);
     fields_atom(alloc, algebra, at, &mut fields, texts)
 }
