@@ -161,6 +161,22 @@ module _ {X : Type 0} (IsKept : X → Content → Type 0) where
       let walk : push_all free ps f ≡ push_then (push_all free rest) (push free k.0 (closes b at)) = ap (λ z. push_all free z f) all ∙ (push_all_append free front (closes b at ∷ rest) f ∙ ap (push_then (push_all free (closes b at ∷ rest))) k.1) in
       subst (IsPushedAs IsKept base w new2 (Some h)) (sym walk) (did_stop IsKept base w new2 h (push free k.0 (closes b at)) (push_all free rest) (pushes base w k.0 k.2))
 
+  -- those that are left were pushed at once
+  pub closed_rest : (old new new2 : Shown X) (c rest : Closers) (at : ℕ) (r : Option CodeHalt) → rest.first ≡ turn c.first c.second (at - c.from) → rest.second ≡ turn c.second c.first (at - c.from) → rest.from ≡ at → rest.last ≡ c.last → at ≤ c.last → Closed old new c at
+      → PushesClosers IsKept new new2 r rest → PushesClosers IsKept old new2 r c
+  closed_rest old new new2 c rest at r e1 e2 e3 e4 below so pushes base w f ps shows (n, g, p) =
+      let k = so.pushed base w f shows in
+      let m : ℕ = at - c.from in
+      let left : List (Piece Tree) = closers rest.first rest.second rest.from (suc (n - m)) in
+      let i : suc n ≡ m + suc (n - m) = omega (arith, below, so.order, g) in
+      let j : c.from + m ≡ rest.from = omega (arith, so.order, e3) in
+      let same : closers (turn c.first c.second m) (turn c.second c.first m) (c.from + m) (suc (n - m)) ≡ left = ap (λ z. closers z (turn c.second c.first m) (c.from + m) (suc (n - m))) (sym e1) ∙ (ap (λ z. closers rest.first z (c.from + m) (suc (n - m))) (sym e2) ∙ ap (λ z. closers rest.first rest.second z (suc (n - m))) j) in
+      let front : List (Piece Tree) = closers c.first c.second c.from m in
+      let all : ps ≡ front ++ left = p ∙ (ap (closers c.first c.second c.from) i ∙ (closers_add c.first c.second c.from m (suc (n - m)) ∙ ap (λ z. front ++ z) same)) in
+      let walk : push_all free ps f ≡ push_all free left k.0 = ap (λ z. push_all free z f) all ∙ (push_all_append free front left f ∙ ap (push_then (push_all free left)) k.1) in
+      let size : rest.last ≡ rest.from + (n - m) = omega (arith, e3, e4, g, below, so.order) in
+      subst (IsPushedAs IsKept base w new2 r) (sym walk) (pushes base w k.0 left k.2 (n - m, size, refl))
+
   pub closed_halt : (old new new2 : Shown X) (c : Closers) (b : Bracket) (at : ℕ) (r : Option CodeHalt) → b ≡ turn c.first c.second (at - c.from) → is_some r ≡ true → at ≤ c.last → Closed old new c at → Pushes IsKept new new2 r (closes b at) → PushesClosers IsKept old new2 r c
   closed_halt old new new2 c b at None t n below so pushes = absurd (true≢false (sym n))
   closed_halt old new new2 c b at (Some h) t n below so pushes = closed_stop old new new2 c b at h t below so pushes

@@ -647,10 +647,10 @@ fn close_all<A: Algebra>(
     ensures { IfOk result (λ r. PushesClosers (IsAtomOf A.Algebra algebra.now)
         (shown body.old) (shown body.new) r closers) }
 {
-    if body.is_outside() {
-        return keep_closers(body, algebra, closers);
-    }
     for at in closers.from..=closers.last {
+        if body.is_outside() {
+            return keep_closers(body, algebra, closers.rest(at));
+        }
         let halt = close(body, alloc, algebra, closers.kind_at(at), at)?;
         if halt.is_some() {
             return Ok(halt);

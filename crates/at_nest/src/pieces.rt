@@ -96,6 +96,27 @@ impl Closers {
         }
     }
 
+    /// Those from the offset on.
+    pub fn rest(self, at: u32) -> Closers
+        requires { self.from ≤ at }
+        ensures first { result.first ≡ turn self.first self.second (at - self.from) }
+        ensures second { result.second ≡ turn self.second self.first (at - self.from) }
+        ensures from { result.from ≡ at }
+        ensures last { result.last ≡ self.last }
+    {
+        let (first, second) = if (at - self.from) % 2 == 0 {
+            (self.first, self.second)
+        } else {
+            (self.second, self.first)
+        };
+        Closers {
+            first,
+            second,
+            from: at,
+            last: self.last,
+        }
+    }
+
     /// The second kind, which only one behind the first bracket decides.
     fn second_with(self, behind: Closers) -> Bracket
         ensures { ¬ (self.from ≡ self.last) → result ≡ self.second }
@@ -121,11 +142,7 @@ impl Closers {
         requires { self.from ≤ at }
         ensures { result ≡ turn self.first self.second (at - self.from) }
     {
-        if (at - self.from) % 2 == 0 {
-            self.first
-        } else {
-            self.second
-        }
+        self.rest(at).first
     }
 }
 

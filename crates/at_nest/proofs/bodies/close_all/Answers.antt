@@ -1,8 +1,9 @@
 -- Each bracket goes behind what is kept.
 use Rattle.std.proofs.Common.{arith, sym, ◌∙◌}
+use Rattle.std.proofs.lemmas.Result.{IfOk-weaker}
 use Rattle.at_nest.specs.Shown.{shown}
 use Rattle.at_nest.specs.KeptItems.{OwnAtom}
-use Rattle.at_nest.proofs.Closers.{closed_none, closed_on, closed_all, closed_halt}
+use Rattle.at_nest.proofs.Closers.{closed_none, closed_rest, closed_on, closed_all, closed_halt}
 use Rattle.at_nest.proofs.bodies.close_all.Goals as goal
 
 pub loop-at-init : goal.loop-at-init
@@ -11,6 +12,12 @@ loop-at-init g c = let own = g.A.Algebra.is_own c.args.algebra.now in let fold =
 
 pub close-requires-after_bounds : goal.close-requires-after_bounds
 close-requires-after_bounds g c κs within = c.loop-at.invariant.items
+
+pub returns-then-is_outside : goal.returns-then-is_outside
+returns-then-is_outside g c = let own = g.A.Algebra.is_own c.args.algebra.now in let fold = g.A.Algebra.is_fold c.args.algebra.now in let run = g.A.Algebra.is_run c.args.algebra.now in
+    IfOk-weaker c.keep_closers.result _ _
+    (λ r d. closed_rest (OwnAtom own fold run) (shown c.args.body.now) (shown c.loop-at.body) (shown c.keep_closers.new.body) c.args.closers c.rest.result c.loop-at.at r c.rest.ensures.first c.rest.ensures.second c.rest.ensures.from c.rest.ensures.last c.loop-at-test.true c.loop-at.invariant d)
+    c.keep_closers.ensures
 
 pub returns-then-is_some : goal.returns-then-is_some
 returns-then-is_some g c = let own = g.A.Algebra.is_own c.args.algebra.now in let fold = g.A.Algebra.is_fold c.args.algebra.now in let run = g.A.Algebra.is_run c.args.algebra.now in
