@@ -1,8 +1,7 @@
 -- Items that are accepted behind their filter are as they were, and nowhere seem to leave the array of features.
 -- For `sound_parts`, whose parts may be asked so.
-use Rattle.std.proofs.Common.{◌≡◌, ◌==◌, ◌&&◌, ℕ, inl, Bool, true, false, true≢false, if◌then◌else◌, List, [], ◌∷◌, ◌++◌, drop, length, None, refl, sym, ◌∙◌, ap, subst}
+use Rattle.std.proofs.Common.{◌≡◌, ◌==◌, ◌&&◌, ℕ, ◌⊎◌, inl, inr, Bool, true, false, true≢false, if◌then◌else◌, List, [], ◌∷◌, ◌++◌, drop, length, None, refl, sym, ◌∙◌, ap, subst}
 use Rattle.std.proofs.lemmas.List.{drop_at, append_assoc}
-use Rattle.at_text.specs.Texts.{is_space}
 use Rattle.at_fixed.specs.declared.rounding.Coords.{Coords}
 use Rattle.at_filter.specs.declared.filter.Filter.TheVariants.{Items}
 use Rattle.at_filter.specs.declared.filter.Seen.{Seen}
@@ -14,7 +13,7 @@ use Rattle.at_query.specs.declared.features.Feature.{Feature}
 use Rattle.at_run.specs.Files.{AreJsonFeatures}
 use Rattle.at_run.specs.JsonFiles.{HasJsonFileFault}
 use Rattle.at_seq.proofs.WholeRecords.{is_mark, IsUnparted, text_unparted}
-use Rattle.at_parts.specs.Collections.{opening, closing, framed, SeemsToLeave, IsAlone, IsFiltered}
+use Rattle.at_parts.specs.Collections.{opening, closing, framed, SeemsToLeave, IsAlone, IsFiltered, IsListed}
 use Rattle.at_parts.proofs.Stands.{whole_file}
 
 -- ---- what stays as it is
@@ -26,38 +25,26 @@ behind_same a b c d long e = sym (drop_at a c (length a) refl) ∙ ap (drop (len
 stays_behind : (seen : Seen) (x y : List ℕ) → filtered Items seen (x ++ y) ≡ x ++ y → filtered Items (seen_behind Items seen x) y ≡ y
 stays_behind seen x y e = behind_same (filtered Items seen x) x (filtered Items (seen_behind Items seen x) y) y (as_many Items seen x) (sym (halves Items seen x y) ∙ e)
 
-next_at_space : (seen : Seen) (b : ℕ) → is_space b ≡ true → next_seen seen b ≡ seen
-next_at_space seen b h = rw (h) refl
-
 space_seen : (seen : Seen) (s : List ℕ) → AreSpaces s → seen_behind Items seen s ≡ seen
 space_seen seen [] h = refl
-space_seen seen (b ∷ s) (h, hs) = ap (λ n. seen_behind Items n s) (next_at_space seen b h) ∙ space_seen seen s hs
+space_seen seen (b ∷ s) (h, hs) = rw h (space_seen seen s hs)
 
 stays_behind_spaces : (seen : Seen) (s y : List ℕ) → AreSpaces s → filtered Items seen (s ++ y) ≡ s ++ y → filtered Items seen y ≡ y
 stays_behind_spaces seen s y h e = subst (λ n. filtered Items n y ≡ y) (space_seen seen s h) (stays_behind seen s y e)
 
--- a quote behind a comma doesn't
-no_quote : (d : List ℕ) → filtered Items Comma (0x22 ∷ d) ≡ 0x22 ∷ d → ⊥
-no_quote d e = absurd (cc)
-
+-- a quote behind a comma doesn't stay
 never_from : (seen : Seen) (s t u d : List ℕ) → AreSpaces s → AreSpaces t → AreSpaces u → filtered Items seen (0x7D ∷ (s ++ (0x5D ∷ (t ++ (0x2C ∷ (u ++ (0x22 ∷ d))))))) ≡ 0x7D ∷ (s ++ (0x5D ∷ (t ++ (0x2C ∷ (u ++ (0x22 ∷ d)))))) → ⊥
 never_from seen s t u d hs ht hu e =
     let object = stays_behind_spaces Object s (0x5D ∷ (t ++ (0x2C ∷ (u ++ (0x22 ∷ d))))) hs (stays_behind seen (0x7D ∷ []) (s ++ (0x5D ∷ (t ++ (0x2C ∷ (u ++ (0x22 ∷ d)))))) e) in
     let array = stays_behind_spaces Array t (0x2C ∷ (u ++ (0x22 ∷ d))) ht (stays_behind Object (0x5D ∷ []) (t ++ (0x2C ∷ (u ++ (0x22 ∷ d)))) object) in
     let comma = stays_behind_spaces Comma u (0x22 ∷ d) hu (stays_behind Array (0x2C ∷ []) (u ++ (0x22 ∷ d)) array) in
-    no_quote d comma
-
-spelled : (s t u d : List ℕ) → (0x7D ∷ (s ++ (0x5D ∷ (t ++ (0x2C ∷ (u ++ (0x22 ∷ []))))))) ++ d ≡ 0x7D ∷ (s ++ (0x5D ∷ (t ++ (0x2C ∷ (u ++ (0x22 ∷ d))))))
-spelled s t u d = ap (λ o. 0x7D ∷ o) (append_assoc s (0x5D ∷ (t ++ (0x2C ∷ (u ++ (0x22 ∷ []))))) d ∙ ap (λ o. s ++ (0x5D ∷ o)) (append_assoc t (0x2C ∷ (u ++ (0x22 ∷ []))) d ∙ ap (λ o. t ++ (0x2C ∷ o)) (append_assoc u (0x22 ∷ []) d)))
+    absurd (cc)
 
 -- bytes that stay as they are nowhere seem to leave an array
 never_leaves : (w : List ℕ) → filtered Items Nothing w ≡ w → SeemsToLeave w → ⊥
 never_leaves w e (a, r, d, split, (o, x, e1, is_o, (s, y, e2, hs, (c, z, e3, is_c, (t, v, e4, ht, (m, q, e5, is_m, (u, k, e6, hu, is_k))))))) =
-    let last : q ≡ u ++ (0x22 ∷ []) = e6 ∙ ap (λ p. u ++ p) is_k in
-    let third : v ≡ 0x2C ∷ (u ++ (0x22 ∷ [])) = e5 ∙ ap (λ p. p ++ q) is_m ∙ ap (λ p. 0x2C ∷ p) last in
-    let second : y ≡ 0x5D ∷ (t ++ (0x2C ∷ (u ++ (0x22 ∷ [])))) = e3 ∙ ap (λ p. p ++ z) is_c ∙ ap (λ p. 0x5D ∷ p) (e4 ∙ ap (λ p. t ++ p) third) in
-    let first : r ≡ 0x7D ∷ (s ++ (0x5D ∷ (t ++ (0x2C ∷ (u ++ (0x22 ∷ [])))))) = e1 ∙ ap (λ p. p ++ x) is_o ∙ ap (λ p. 0x7D ∷ p) (e2 ∙ ap (λ p. s ++ p) second) in
-    let all : w ≡ a ++ (0x7D ∷ (s ++ (0x5D ∷ (t ++ (0x2C ∷ (u ++ (0x22 ∷ d))))))) = split ∙ ap (λ p. a ++ p) (ap (λ p. p ++ d) first ∙ spelled s t u d) in
+    let first : r ≡ 0x7D ∷ (s ++ (0x5D ∷ (t ++ (0x2C ∷ (u ++ (0x22 ∷ [])))))) = rw (e1, is_o, e2, e3, is_c, e4, e5, is_m, e6, is_k) refl in
+    let all : w ≡ a ++ (0x7D ∷ (s ++ (0x5D ∷ (t ++ (0x2C ∷ (u ++ (0x22 ∷ d))))))) = split ∙ ap (λ p. a ++ p) (ap (λ p. p ++ d) first ∙ (simp append_assoc)) in
     never_from (seen_behind Items Nothing a) s t u d hs ht hu (stays_behind Nothing a (0x7D ∷ (s ++ (0x5D ∷ (t ++ (0x2C ∷ (u ++ (0x22 ∷ d)))))))
     (subst (λ p. filtered Items Nothing p ≡ p) all e))
 
@@ -76,7 +63,7 @@ in_frame text (a, r, d, e, k) = (
   opening ++ a,
   r,
   d ++ closing,
-  ap (λ t. opening ++ (t ++ closing)) e ∙ ap (λ t. opening ++ t) (append_assoc a (r ++ d) closing ∙ ap (λ t. a ++ t) (append_assoc r d closing)) ∙ sym (append_assoc opening a (r ++ (d ++ closing))),
+  rw e (simp append_assoc),
   k,
 )
 
@@ -86,7 +73,7 @@ module _ (digits : ℕ) (how : Coords) where
       let (t, ht, twins, roles) = (whole_file digits how (filtered Items Nothing (0x7B ∷ rest)) none).1 in
       unparted_same Nothing (0x7B ∷ rest) (text_unparted t 0 (filtered Items Nothing (0x7B ∷ rest)) ht)
 
-  pub filtered_alone : (text : List ℕ) (own : List Feature) → IsFiltered digits how text own → IsAlone digits how text own
+  filtered_alone : (text : List ℕ) (own : List Feature) → IsFiltered digits how text own → IsAlone digits how text own
   filtered_alone text own h =
       let e : filtered Items Nothing (framed text) ≡ framed text = accepted_same _ h.no_fault in
       record {
@@ -94,3 +81,9 @@ module _ (digits : ℕ) (how : Coords) where
         has = subst (λ v. AreJsonFeatures digits how v own) e h.has;
         stays = inl (λ seems. never_leaves (framed text) e (in_frame text seems));
       }
+
+  -- so a part is told in two ways
+  pub unfiltered : (text : List ℕ) (own : List Feature) → IsAlone digits how text own ⊎ (IsFiltered digits how text own ⊎ IsListed digits how text own) → IsAlone digits how text own ⊎ IsListed digits how text own
+  unfiltered text own (inl h) = inl h
+  unfiltered text own (inr (inl h)) = inl (filtered_alone text own h)
+  unfiltered text own (inr (inr h)) = inr h

@@ -1,7 +1,8 @@
 -- Behind sound parts the bytes of a part go on as they do in the frame, so their first fault of syntax is the file's.
 -- For `first_syntax_fault`.
-use Rattle.std.proofs.Common.{◌≡◌, ℕ, List, [], ◌∷◌, ◌++◌, Bool, true, false, codes, if◌then◌else◌, nat_lt, refl, sym, ◌∙◌, ap, subst, arith, append_assoc, length-append, ◌+◌, ◌-◌, ◌<◌, ◌≤◌, length, take, drop, take-append-drop, ⊎_elim}
-use Rattle.std.proofs.lemmas.Bool.{lt-ltb, cases_lt}
+use Rattle.std.proofs.Common.{◌≡◌, ℕ, List, [], ◌∷◌, ◌++◌, Bool, codes, if◌then◌else◌, nat_lt, refl, sym, ◌∙◌, ap, subst, arith, append_assoc, length-append, ◌+◌, ◌-◌, ◌<◌, ◌≤◌, length, take, drop, take-append-drop}
+use native.Mathlib.Decide.{dec_lt}
+use Rattle.std.proofs.lemmas.Bool.{lt-ltb}
 use Rattle.std.proofs.lemmas.List.{take-append-le}
 use Rattle.std.proofs.Math.Seq.{take-append_seam, take-append-add}
 use Rattle.at_text.specs.declared.faults.Fault.{Fault}
@@ -16,9 +17,10 @@ use Rattle.at_nest.specs.Syntax.{JsonText}
 use Rattle.at_nest.proofs.TreeParts.{items_made, object_made}
 use Rattle.at_parts.specs.Moved.{fault_moved}
 use Rattle.at_parts.specs.Collections.{joined, opening, FirstSyntaxFaultIsTheWholes}
-use Rattle.at_parts.proofs.MovedTrees.{moved_items, moved_members, items_moved, items_back, further_members_moved, further_members_back}
+use Rattle.at_parts.proofs.MovedTrees.{moved_items, moved_members, items_at, further_members_moved, further_members_back}
 use Rattle.at_parts.proofs.CommaItems.{appended, AreSome, Lined, lined_parts, lined_made}
-use Rattle.at_parts.proofs.Wholes.{Front, Closing, members_of, whole_parts, whole_made}
+use Rattle.at_parts.proofs.Fronts.{Closing, closing_with}
+use Rattle.at_parts.proofs.Wholes.{Front, members_of, whole_parts, whole_made}
 use Rattle.at_parts.proofs.Openings.{front_is, opening_front}
 use Rattle.at_parts.proofs.Stands.{begun_some}
 use Rattle.at_parts.proofs.Joined.{some_moved, some_back, parts_in_row}
@@ -26,17 +28,13 @@ use Rattle.at_parts.proofs.Files.{body_of, same_base}
 
 -- ---- the same bytes behind another front
 
-items_at : (from to : ℕ) (w : List ℕ) (ts : Trees) → SpellsItems from w ts → AreSome ts → (us : Trees) × SpellsItems to w us × AreSome us
-items_at from to w ts h some =
-    let here : from ≡ from + 0 = omega arith in
-    let there : to + 0 ≡ to = omega arith in
-    let (us, k, e) = items_back from 0 w ts (subst (λ o. SpellsItems o w ts) here h) in
-    (moved_items to us, subst (λ o. SpellsItems o w (moved_items to us)) there (items_moved to 0 w us k), some_moved to us (some_back from us ts e some))
+some_at : (from to : ℕ) (w : List ℕ) (ts : Trees) → SpellsItems from w ts → AreSome ts → (us : Trees) × SpellsItems to w us × AreSome us
+some_at from to w ts h some = let (us, e, k) = items_at from to w ts h in (moved_items to us, k, some_moved to us (some_back from us ts e some))
 
 closing_at : (from to : ℕ) (more : Members) (w : List ℕ) → Closing more from w → (others : Members) × Closing others to w
 closing_at from to more w c =
-    let (ms, h, e) = further_members_back from (length c.spaces) c.others more c.further in
-    (moved_members to ms, record { spaces = c.spaces; others = c.others; end = c.end; split = c.split; are_spaces = c.are_spaces; are_end = c.are_end; further = further_members_moved to (length c.spaces) c.others ms h })
+    let (ms, h) = further_members_back from (length c.spaces) c.others more c.further in
+    (moved_members to ms, closing_with more (moved_members to ms) from to w c (further_members_moved to (length c.spaces) c.others ms h))
 
 -- with the bracket of the first feature
 abbrev opened : List ℕ
@@ -56,10 +54,9 @@ module _ (at : ℕ) (w : List ℕ) (f : Front at w) (ts : Trees) (row : List ℕ
   text_there r (t, h) =
       let wh = whole_parts 0 opening opening_front (0x7B ∷ r) t h in
       let some = begun_some wh.items (0 + length opening) wh.features wh.behind r wh.spelled wh.split in
-      let (us, hu, are) = items_at (0 + length opening) (at + length w + length row) wh.features wh.items wh.spelled some in
+      let (us, hu, are) = some_at (0 + length opening) (at + length w + length row) wh.features wh.items wh.spelled some in
       let (more, closes) = closing_at (0 + length opening + length wh.features + 1) (at + length w + length row + length wh.features + 1) wh.more wh.behind wh.closes in
-      let size : length (row ++ wh.features) ≡ length row + length wh.features = length-append row wh.features in
-      let place : at + length w + length row + length wh.features + 1 ≡ at + length w + length (row ++ wh.features) + 1 = omega (arith, size) in
+      let place : at + length w + length row + length wh.features + 1 ≡ at + length w + length (row ++ wh.features) + 1 = omega (arith, length-append row wh.features) in
       let split : row ++ (0x7B ∷ r) ≡ (row ++ wh.features) ++ (0x5D ∷ wh.behind) = ap (λ o. row ++ o) wh.split ∙ sym (append_assoc row wh.features (0x5D ∷ wh.behind)) in
       (object (at + length f.before) (members_of at w f (appended ts us) more), whole_made at w f (row ++ (0x7B ∷ r)) (appended ts us) more (row ++ wh.features) wh.behind split (lined_made ts (at + length w) row wh.features us lined are hu) (subst (λ o. Closing more o wh.behind) place closes))
 
@@ -68,7 +65,7 @@ module _ (at : ℕ) (w : List ℕ) (f : Front at w) (ts : Trees) (row : List ℕ
       let wh = whole_parts at w f (row ++ (0x7B ∷ r)) t h in
       let on = lined_parts ts (at + length w) row (0x7B ∷ r) lined wh.items wh.features wh.behind wh.spelled wh.split in
       let some = begun_some on.behind_them (at + length w + length row) on.bytes wh.behind r on.spelled on.split in
-      let (us, hu, are) = items_at (at + length w + length row) (0 + length opening) on.bytes on.behind_them on.spelled some in
+      let (us, hu, are) = some_at (at + length w + length row) (0 + length opening) on.bytes on.behind_them on.spelled some in
       let (more, closes) = closing_at (at + length w + length wh.features + 1) (0 + length opening + length on.bytes + 1) wh.more wh.behind wh.closes in
       (object (0 + length opening_front.before) (members_of 0 opening opening_front us more), whole_made 0 opening opening_front (0x7B ∷ r) us more on.bytes wh.behind on.split hu closes)
 
@@ -93,17 +90,14 @@ module _ (L K : List ℕ → Type 0) (a b : List ℕ) (there : (r : List ℕ) �
 
   viable_word : (x y : List ℕ) (j : ℕ) → K (b ++ (x ++ y)) → Viable K (b ++ take j x)
   viable_word x y j h =
-      let bytes : b ++ (x ++ y) ≡ (b ++ take j x) ++ (drop j x ++ y) =
-      ap (λ o. b ++ (o ++ y)) (sym (take-append-drop j x)) ∙ (ap (λ o. b ++ o) (append_assoc (take j x) (drop j x) y) ∙ sym (append_assoc b (take j x) (drop j x ++ y))) in
+      let bytes : b ++ (x ++ y) ≡ (b ++ take j x) ++ (drop j x ++ y) = ap (λ o. b ++ (o ++ y)) (sym (take-append-drop j x)) ∙ (simp append_assoc) in
       (drop j x ++ y, subst K bytes h)
 
   stops_on : (x y z : List ℕ) (n j : ℕ) → n ≡ length a + j → j < length x → LongestViable L (a ++ (x ++ z)) n → Stops x y n
   stops_on x y z n j e small h =
-      let size : length (a ++ (x ++ z)) ≡ length a + (length x + length z) = length-append a (x ++ z) ∙ ap (λ o. length a + o) (length-append x z) in
-      let whole : length (b ++ (x ++ y)) ≡ length b + (length x + length y) = length-append b (x ++ y) ∙ ap (λ o. length b + o) (length-append x y) in
       let least : j ≤ length x = omega (arith, small) in
       let next : j + 1 ≤ length x = omega (arith, small) in
-      let within : n < length (a ++ (x ++ z)) = omega (arith, e, small, size) in
+      let within : n < length (a ++ (x ++ z)) = omega (arith, e, small, length-append {A = ℕ}) in
       let further : n + 1 ≡ length a + (j + 1) = omega (arith, e) in
       let behind : length b + j + 1 ≡ length b + (j + 1) = omega arith in
       let never : ¬ Viable K (b ++ take (j + 1) x) = λ v. h.longest within (subst (Viable L) (sym (ap (λ o. take o (a ++ (x ++ z))) further ∙ taken_on a x z (j + 1) next)) (back (take (j + 1) x) v)) in
@@ -111,7 +105,7 @@ module _ (L K : List ℕ → Type 0) (a b : List ℕ) (there : (r : List ℕ) �
         on = j;
         place = e;
         longest = record {
-          fits = omega (arith, whole, small);
+          fits = omega (arith, length-append {A = ℕ}, small);
           front = subst (Viable K) (sym (taken_on b x y j least)) (there (take j x) (subst (Viable L) (ap (λ o. take o (a ++ (x ++ z))) e ∙ taken_on a x z j least) h.front));
           longest = λ _ v. never (subst (Viable K) (ap (λ o. take o (b ++ (x ++ y))) behind ∙ taken_on b x y (j + 1) next) v);
         };
@@ -119,20 +113,18 @@ module _ (L K : List ℕ → Type 0) (a b : List ℕ) (there : (r : List ℕ) �
       }
 
   stops : (x y z : List ℕ) (n : ℕ) → Viable L a → length a ≤ n + 1 → n < length a + length x → LongestViable L (a ++ (x ++ z)) n → Stops x y n
-  stops x y z n lives least most h = ⊎_elim (λ (short : n < length a). absurd (too_short short)) (λ (long : length a ≤ n). stops_on x y z n (n - length a) (omega (arith, long)) (omega (arith, long, most)) h) (cases_lt n (length a))
-    where
-      too_short : n < length a → ⊥
-      too_short short =
-          let size : length (a ++ (x ++ z)) ≡ length a + (length x + length z) = length-append a (x ++ z) ∙ ap (λ o. length a + o) (length-append x z) in
-          let within : n < length (a ++ (x ++ z)) = omega (arith, short, size) in
-          let all : n + 1 ≡ length a = omega (arith, short, least) in
-          h.longest within (subst (Viable L) (sym (ap (λ o. take o (a ++ (x ++ z))) all ∙ take-append_seam a (x ++ z))) lives)
+  stops x y z n lives least most h = elim (dec_lt n (length a)) [
+    | yes short ↦ (
+        let within : n < length (a ++ (x ++ z)) = omega (arith, short, length-append {A = ℕ}) in
+        let all : n + 1 ≡ length a = omega (arith, short, least) in
+        absurd (h.longest within (subst (Viable L) (sym (ap (λ o. take o (a ++ (x ++ z))) all ∙ take-append_seam a (x ++ z))) lives)))
+    | no long ↦ stops_on x y z n (n - length a) (omega (arith, long)) (omega (arith, long, most)) h
+  ]
 
 -- ---- the fault
 
 stop_at : (b : Bool) (i : ℕ) → (if b then fault_at Syntax i else fault_at Ended i).at ≡ i
-stop_at true i = refl
-stop_at false i = refl
+stop_at b i = grind arith
 
 stop_syntax : (at : ℕ) (w : List ℕ) (n : ℕ) → n < length w → stop_fault at w n ≡ fault_at Syntax (at + n)
 stop_syntax at w n h = ap (λ o. if o then fault_at Syntax (at + n) else fault_at Ended (at + n)) (lt-ltb n (length w) h)
@@ -140,14 +132,11 @@ stop_syntax at w n h = ap (λ o. if o then fault_at Syntax (at + n) else fault_a
 -- a feature of no members
 opened_lives : Viable (JsonText 0) opened
 opened_lives =
+    let item : Trees = tree_and (object 40 no_members) no_trees in
     let spelled = items_made (object 40 no_members) no_trees 40 (codes "{}") ([], codes "{}", [], [], refl, tt, tt, object_made no_members 40 40 (codes "{}") (refl, ([], refl, tt)), refl) in
-    let closes : Closing no_members (0 + length opening + 2 + 1) (codes "}") = record { spaces = []; others = []; end = []; split = refl; are_spaces = tt; are_end = tt; further = refl } in (
-      codes "}]}",
-      (
-        object (0 + length opening_front.before) (members_of 0 opening opening_front (tree_and (object 40 no_members) no_trees) no_members),
-        whole_made 0 opening opening_front (codes "{}]}") (tree_and (object 40 no_members) no_trees) no_members (codes "{}") (codes "}") refl spelled closes,
-      ),
-    )
+    let closes : Closing no_members (0 + length opening + 2 + 1) (codes "}") = record { spaces = []; others = []; end = []; split = refl; are_spaces = tt; are_end = tt; further = refl } in
+    let text = whole_made 0 opening opening_front (codes "{}]}") item no_members (codes "{}") (codes "}") refl spelled closes in
+    (codes "}]}", (object (0 + length opening_front.before) (members_of 0 opening opening_front item no_members), text))
 
 pub first_syntax_fault : (digits : ℕ) (how : Coords) → FirstSyntaxFaultIsTheWholes digits how
 first_syntax_fault digits how front parts first rest after behind f (ms, opens) sounds fault low high =

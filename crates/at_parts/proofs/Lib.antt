@@ -1,7 +1,8 @@
+pub mod Moves
 pub mod MovedTrees
 pub mod MovedGeometries
 pub mod MovedReadings
-pub mod MovedSyntax
+pub mod Cuts
 pub mod Firsts
 pub mod LaterFaults
 pub mod Encodings

@@ -1,10 +1,9 @@
 -- The answer over features that are told from another place in the file.
 -- For `answers_move`.
-use Rattle.std.proofs.Common.{◌≡◌, ℕ, ◌+◌, List, [], ◌∷◌, ◌++◌, length, map, refl, sym, ap, ◌∙◌, subst, inl, inr}
+use Rattle.std.proofs.Common.{◌≡◌, ℕ, ◌+◌, List, [], ◌∷◌, length, map, refl, sym, ap, ◌∙◌, subst, inl, inr}
 use Rattle.std.specs.Prelude.{pos}
 use Rattle.std.specs.List.{AllByRecursion}
 use Rattle.std.proofs.lemmas.List.{length-map}
-use Rattle.std.proofs.lemmas.List.Concat.{flat_map-cons}
 use Rattle.at_geom.specs.declared.positions.Pos.{Pos}
 use Rattle.at_geom.specs.declared.shapes.Polygon.{Polygon}
 use Rattle.at_geom.specs.Regions.{doubled_area, sum_of}
@@ -21,6 +20,7 @@ use Rattle.at_query.specs.declared.answer.answers.Answer.TheVariants.{Offsets, N
 use Rattle.at_query.specs.Holding.{TestHolds, Holds}
 use Rattle.at_query.specs.Results.{Keeps, all_positions, all_polygons, IsAskedOf}
 use Rattle.at_parts.specs.Moved.{feature_moved}
+use Rattle.at_parts.proofs.MovedGeometries.{flat_map_same}
 use Rattle.at_parts.specs.Sums.{IsAnswerMoved, AnswersMove}
 
 -- no test looks at the offset
@@ -47,14 +47,10 @@ keeps_moves query from to (f ∷ fs) kept (inr (n, h)) =
     (alone, same, inr (λ p. n (holds_moves query to from f p), k))
 
 positions_stay : (by : ℕ) (fs : List Feature) → all_positions (map (feature_moved by) fs) ≡ all_positions fs
-positions_stay by [] = refl
-positions_stay by (f ∷ fs) = flat_map-cons (λ (f : Feature). positions f.shape) (feature_moved by f) (map (feature_moved by) fs)
-    ∙ ap (λ l. positions f.shape ++ l) (positions_stay by fs) ∙ sym (flat_map-cons (λ (f : Feature). positions f.shape) f fs)
+positions_stay by fs = flat_map_same (λ (f : Feature). positions f.shape) (feature_moved by) (λ f. refl) fs
 
 polygons_stay : (by : ℕ) (fs : List Feature) → all_polygons (map (feature_moved by) fs) ≡ all_polygons fs
-polygons_stay by [] = refl
-polygons_stay by (f ∷ fs) = flat_map-cons (λ (f : Feature). f.shape.polygons) (feature_moved by f) (map (feature_moved by) fs)
-    ∙ ap (λ l. f.shape.polygons ++ l) (polygons_stay by fs) ∙ sym (flat_map-cons (λ (f : Feature). f.shape.polygons) f fs)
+polygons_stay by fs = flat_map_same (λ (f : Feature). f.shape.polygons) (feature_moved by) (λ f. refl) fs
 
 offsets_move : (by : ℕ) (fs : List Feature) → map (λ (f : Feature). f.at) (map (feature_moved by) fs) ≡ map (λ n. by + n) (map (λ (f : Feature). f.at) fs)
 offsets_move by [] = refl

@@ -1,39 +1,52 @@
 -- The geometry with all its offsets moved: its shape is the same, and its faults are moved.
--- For `sequence_features`, `sequence_faults`, `sound_parts` and `first_syntax_fault`.
-use Rattle.std.proofs.Common.{◌≡◌, ℕ, ℤ, ◌+◌, Bool, true, false, not, ◌&&◌, ◌||◌, nat_lt, if◌then◌else◌, List, [], ◌∷◌, ◌++◌, length, map, flat_map, Option, Some, None, option_map, Result, Ok, Err, refl, sym, ◌∙◌, ap}
+-- For `line_features`, `line_faults`, `sequence_features`, `sequence_faults`, `sound_parts` and `first_syntax_fault`, and its lists for `answers_move`.
+use Rattle.std.proofs.Common.{◌≡◌, ℕ, ℤ, ◌+◌, Bool, true, false, not, ◌||◌, nat_lt, if◌then◌else◌, List, [], ◌∷◌, ◌++◌, length, map, flat_map, Option, Some, None, option_map, Result, Ok, Err, refl, sym, ◌∙◌, ap, arith}
 use Rattle.std.specs.Option.{option_to_list}
 use Rattle.std.proofs.lemmas.List.{map-append, length-map}
 use Rattle.at_text.specs.declared.faults.Fault.{Fault}
+use Rattle.at_text.specs.declared.faults.FaultKind.TheVariants.{Short, Ring}
+use Rattle.at_text.specs.Faults.{fault_at}
 use Rattle.at_fixed.specs.declared.rounding.Coords.{Coords}
 use Rattle.at_fixed.specs.declared.rounding.FixedFault.{FixedFault}
 use Rattle.at_fixed.specs.declared.rounding.FixedFault.TheVariants.{Scale, Range}
 use Rattle.at_fixed.specs.Fixed.{fixed_of}
 use Rattle.at_geom.specs.Closed.{last_of}
 use Rattle.at_geom.specs.Shapes.{line_fault, ring_fault}
-use Rattle.at_wkt.specs.Positions.{Position, Positions, faults_in, number_fault, position_faults, pos_of, path_of, items_faults, faults_of_line, is_faultless, are_same, closes_with, is_closed, faults_of_ring}
+use Rattle.at_wkt.specs.Positions.{Position, Positions, faults_in, number_fault, position_faults, pos_of, path_of, items_faults, faults_of_line, is_faultless, closes_with, is_closed, faults_of_ring}
 use Rattle.at_wkt.specs.Geometry.{Geometry, point, line_string, polygon, multi_point, multi_line_string, multi_polygon, collection, Geometries, no_geometries, geometry_and}
 use Rattle.at_wkt.specs.Meaning.{of_points, of_lines, of_polygons, both, present, polygons_of, faults_of_area, shape_of, shape_of_all, faults_of, faults_of_all}
 use Rattle.at_parts.specs.Moved.{fault_moved}
 
+-- the geometry with each of its offsets changed
+module _ (f : ℕ → ℕ) where
+  abbrev pub position_changed : Position → Position
+  position_changed p = record { x = p.x; x_at = f p.x_at; y = p.y; y_at = f p.y_at }
+
+  abbrev pub positions_changed : Positions → Positions
+  positions_changed ps = record { at = f ps.at; items = map position_changed ps.items }
+
+  abbrev mutual
+    pub geometry_changed : Geometry → Geometry
+    geometry_changed (point p) = point (option_map position_changed p)
+    geometry_changed (line_string ps) = line_string (option_map positions_changed ps)
+    geometry_changed (polygon rings) = polygon (map positions_changed rings)
+    geometry_changed (multi_point ps) = multi_point (map (option_map position_changed) ps)
+    geometry_changed (multi_line_string ls) = multi_line_string (map (option_map positions_changed) ls)
+    geometry_changed (multi_polygon areas) = multi_polygon (map (map positions_changed) areas)
+    geometry_changed (collection gs) = collection (geometries_changed gs)
+
+    pub geometries_changed : Geometries → Geometries
+    geometries_changed no_geometries = no_geometries
+    geometries_changed (geometry_and g gs) = geometry_and (geometry_changed g) (geometries_changed gs)
+
 abbrev pub position_moved : ℕ → Position → Position
-position_moved d p = record { x = p.x; x_at = d + p.x_at; y = p.y; y_at = d + p.y_at }
+position_moved d p = position_changed (λ i. d + i) p
 
 abbrev pub positions_moved : ℕ → Positions → Positions
-positions_moved d ps = record { at = d + ps.at; items = map (position_moved d) ps.items }
+positions_moved d ps = positions_changed (λ i. d + i) ps
 
-abbrev mutual
-  pub geometry_moved : ℕ → Geometry → Geometry
-  geometry_moved d (point p) = point (option_map (position_moved d) p)
-  geometry_moved d (line_string ps) = line_string (option_map (positions_moved d) ps)
-  geometry_moved d (polygon rings) = polygon (map (positions_moved d) rings)
-  geometry_moved d (multi_point ps) = multi_point (map (option_map (position_moved d)) ps)
-  geometry_moved d (multi_line_string ls) = multi_line_string (map (option_map (positions_moved d)) ls)
-  geometry_moved d (multi_polygon areas) = multi_polygon (map (map (positions_moved d)) areas)
-  geometry_moved d (collection gs) = collection (geometries_moved d gs)
-
-  pub geometries_moved : ℕ → Geometries → Geometries
-  geometries_moved d no_geometries = no_geometries
-  geometries_moved d (geometry_and g gs) = geometry_and (geometry_moved d g) (geometries_moved d gs)
+abbrev pub geometry_moved : ℕ → Geometry → Geometry
+geometry_moved d g = geometry_changed (λ i. d + i) g
 
 -- ---- lists
 
@@ -71,18 +84,8 @@ module _ (d : ℕ) where
   in_moved (Err Scale) at = refl
   in_moved (Err Range) at = refl
 
-  fault_list_moved : (o p : Option Fault) → p ≡ option_map (fault_moved d) o → option_to_list p ≡ map (fault_moved d) (option_to_list o)
-  fault_list_moved o p e = ap (λ (q : Option Fault). option_to_list q) e ∙ list_moved (fault_moved d) o
-
-  fault_by : (b : Bool) (f : Fault) → (if b then Some (fault_moved d f) else None) ≡ option_map (fault_moved d) (if b then Some f else None)
-  fault_by true f = refl
-  fault_by false f = refl
-
-  line_moved : (n at : ℕ) → line_fault n (d + at) ≡ option_map (fault_moved d) (line_fault n at)
-  line_moved n at = fault_by (nat_lt n 2) _
-
-  ring_moved : (n at : ℕ) (b : Bool) → ring_fault n b (d + at) ≡ option_map (fault_moved d) (ring_fault n b at)
-  ring_moved n at b = fault_by (nat_lt n 4 || not b) _
+  fault_by : (b : Bool) (f : Fault) → option_to_list (if b then Some (fault_moved d f) else None) ≡ map (fault_moved d) (option_to_list (if b then Some f else None))
+  fault_by b f = grind arith
 
   no_faults : (fs : List Fault) → ◌≡◌ {A = Bool} (elim (map (fault_moved d) fs) [ [] ↦ true | f ∷ gs ↦ false ]) (elim fs [ [] ↦ true | f ∷ gs ↦ false ])
   no_faults [] = refl
@@ -90,27 +93,19 @@ module _ (d : ℕ) where
 
 module _ (d digits : ℕ) (how : Coords) where
   pub position_faults_moved : (p : Position) → position_faults digits how (position_moved d p) ≡ map (fault_moved d) (position_faults digits how p)
-  position_faults_moved p =
-      let x = in_moved d (fixed_of p.x digits how) p.x_at in
-      let y = in_moved d (fixed_of p.y digits how) p.y_at in
-      ap (λ z. z ++ number_fault digits how p.y (d + p.y_at)) x ∙ (ap (λ z. map (fault_moved d) (number_fault digits how p.x p.x_at) ++ z) y
-      ∙ sym (map-append (fault_moved d) (number_fault digits how p.x p.x_at) (number_fault digits how p.y p.y_at)))
+  position_faults_moved p = cc (in_moved d (fixed_of p.x digits how) p.x_at, in_moved d (fixed_of p.y digits how) p.y_at, map-append (fault_moved d) (number_fault digits how p.x p.x_at) (number_fault digits how p.y p.y_at))
 
   pub items_faults_moved : (ps : List Position) → items_faults digits how (map (position_moved d) ps) ≡ map (fault_moved d) (items_faults digits how ps)
   items_faults_moved ps = flat_map_moved d (position_faults digits how) (position_moved d) position_faults_moved ps
 
-  pub pos_moved : (p : Position) → pos_of digits how (position_moved d p) ≡ pos_of digits how p
-  pos_moved p = refl
-
   pub path_moved : (ps : Positions) → path_of digits how (positions_moved d ps) ≡ path_of digits how ps
-  path_moved ps = map_same (pos_of digits how) (position_moved d) pos_moved ps.items
+  path_moved ps = map_same (pos_of digits how) (position_moved d) (λ p. refl) ps.items
 
   faultless_moved : (p : Position) → is_faultless digits how (position_moved d p) ≡ is_faultless digits how p
   faultless_moved p = ap {B = Bool} (λ (fs : List Fault). elim fs [ [] ↦ true | f ∷ gs ↦ false ]) (position_faults_moved p) ∙ no_faults d (position_faults digits how p)
 
   closes_moved : (p q : Position) → closes_with digits how (position_moved d p) (position_moved d q) ≡ closes_with digits how p q
-  closes_moved p q = ap (λ b. not (b && is_faultless digits how (position_moved d q)) || are_same digits how p q) (faultless_moved p)
-      ∙ ap (λ b. not (is_faultless digits how p && b) || are_same digits how p q) (faultless_moved q)
+  closes_moved p q = cc (faultless_moved p, faultless_moved q)
 
   closed_moved : (ps : List Position) → is_closed digits how (map (position_moved d) ps) ≡ is_closed digits how ps
   closed_moved [] = refl
@@ -118,21 +113,15 @@ module _ (d digits : ℕ) (how : Coords) where
 
   line_faults_moved : (ps : Positions) → faults_of_line digits how (positions_moved d ps) ≡ map (fault_moved d) (faults_of_line digits how ps)
   line_faults_moved ps =
-      let n = length-map ps.items (position_moved d) in
-      let first = fault_list_moved d (line_fault (length ps.items) ps.at) (line_fault (length (map (position_moved d) ps.items)) (d + ps.at)) (ap (λ k. line_fault k (d + ps.at)) n ∙ line_moved d (length ps.items) ps.at) in
-      ap (λ z. z ++ items_faults digits how (map (position_moved d) ps.items)) first
-      ∙ (ap (λ z. map (fault_moved d) (option_to_list (line_fault (length ps.items) ps.at)) ++ z) (items_faults_moved ps.items)
-      ∙ sym (map-append (fault_moved d) (option_to_list (line_fault (length ps.items) ps.at)) (items_faults digits how ps.items)))
+      let first = fault_by d (nat_lt (length ps.items) 2) (fault_at Short ps.at) in
+      let both = map-append (fault_moved d) (option_to_list (line_fault (length ps.items) ps.at)) (items_faults digits how ps.items) in
+      cc (length-map ps.items (position_moved d), first, items_faults_moved ps.items, both)
 
   ring_faults_moved : (ps : Positions) → faults_of_ring digits how (positions_moved d ps) ≡ map (fault_moved d) (faults_of_ring digits how ps)
   ring_faults_moved ps =
-      let n = length-map ps.items (position_moved d) in
-      let same = ap (λ k. ring_fault k (is_closed digits how (map (position_moved d) ps.items)) (d + ps.at)) n ∙ ap (λ b. ring_fault (length ps.items) b (d + ps.at)) (closed_moved ps.items) in
-      let first = fault_list_moved d (ring_fault (length ps.items) (is_closed digits how ps.items) ps.at) (ring_fault (length (map (position_moved d) ps.items)) (is_closed digits how (map (position_moved d) ps.items)) (d + ps.at))
-      (same ∙ ring_moved d (length ps.items) ps.at (is_closed digits how ps.items)) in
-      ap (λ z. z ++ items_faults digits how (map (position_moved d) ps.items)) first
-      ∙ (ap (λ z. map (fault_moved d) (option_to_list (ring_fault (length ps.items) (is_closed digits how ps.items) ps.at)) ++ z) (items_faults_moved ps.items)
-      ∙ sym (map-append (fault_moved d) (option_to_list (ring_fault (length ps.items) (is_closed digits how ps.items) ps.at)) (items_faults digits how ps.items)))
+      let first = fault_by d (nat_lt (length ps.items) 4 || not (is_closed digits how ps.items)) (fault_at Ring ps.at) in
+      let both = map-append (fault_moved d) (option_to_list (ring_fault (length ps.items) (is_closed digits how ps.items) ps.at)) (items_faults digits how ps.items) in
+      cc (length-map ps.items (position_moved d), closed_moved ps.items, first, items_faults_moved ps.items, both)
 
   area_faults_moved : (rings : List Positions) → faults_of_area digits how (map (positions_moved d) rings) ≡ map (fault_moved d) (faults_of_area digits how rings)
   area_faults_moved rings = flat_map_moved d (faults_of_ring digits how) (positions_moved d) ring_faults_moved rings
@@ -150,14 +139,14 @@ module _ (d digits : ℕ) (how : Coords) where
     shape_moved (line_string None) = refl
     shape_moved (line_string (Some ps)) = ap (λ z. of_lines (z ∷ [])) (path_moved ps)
     shape_moved (polygon rings) = ap of_polygons (polygons_moved rings)
-    shape_moved (multi_point ps) = ap (λ z. of_points (map (pos_of digits how) z)) (present_moved (position_moved d) ps) ∙ ap of_points (map_same (pos_of digits how) (position_moved d) pos_moved (present ps))
+    shape_moved (multi_point ps) = ap (λ z. of_points (map (pos_of digits how) z)) (present_moved (position_moved d) ps) ∙ ap of_points (map_same (pos_of digits how) (position_moved d) (λ p. refl) (present ps))
     shape_moved (multi_line_string ls) = ap (λ z. of_lines (map (path_of digits how) z)) (present_moved (positions_moved d) ls) ∙ ap of_lines (map_same (path_of digits how) (positions_moved d) path_moved (present ls))
     shape_moved (multi_polygon areas) = ap of_polygons (flat_map_same (polygons_of digits how) (map (positions_moved d)) polygons_moved areas)
     shape_moved (collection gs) = shapes_moved gs
 
-    pub shapes_moved : (gs : Geometries) → shape_of_all digits how (geometries_moved d gs) ≡ shape_of_all digits how gs
+    pub shapes_moved : (gs : Geometries) → shape_of_all digits how (geometries_changed (λ i. d + i) gs) ≡ shape_of_all digits how gs
     shapes_moved no_geometries = refl
-    shapes_moved (geometry_and g gs) = ap (λ z. both z (shape_of_all digits how (geometries_moved d gs))) (shape_moved g) ∙ ap (both (shape_of digits how g)) (shapes_moved gs)
+    shapes_moved (geometry_and g gs) = ap (λ z. both z (shape_of_all digits how (geometries_changed (λ i. d + i) gs))) (shape_moved g) ∙ ap (both (shape_of digits how g)) (shapes_moved gs)
 
   mutual
     pub faults_moved : (g : Geometry) → faults_of digits how (geometry_moved d g) ≡ map (fault_moved d) (faults_of digits how g)
@@ -169,7 +158,6 @@ module _ (d digits : ℕ) (how : Coords) where
     faults_moved (multi_polygon areas) = flat_map_moved d (faults_of_area digits how) (map (positions_moved d)) area_faults_moved areas
     faults_moved (collection gs) = all_faults_moved gs
 
-    pub all_faults_moved : (gs : Geometries) → faults_of_all digits how (geometries_moved d gs) ≡ map (fault_moved d) (faults_of_all digits how gs)
+    pub all_faults_moved : (gs : Geometries) → faults_of_all digits how (geometries_changed (λ i. d + i) gs) ≡ map (fault_moved d) (faults_of_all digits how gs)
     all_faults_moved no_geometries = refl
-    all_faults_moved (geometry_and g gs) = ap (λ z. z ++ faults_of_all digits how (geometries_moved d gs)) (faults_moved g)
-        ∙ (ap (λ z. map (fault_moved d) (faults_of digits how g) ++ z) (all_faults_moved gs) ∙ sym (map-append (fault_moved d) (faults_of digits how g) (faults_of_all digits how gs)))
+    all_faults_moved (geometry_and g gs) = cc (faults_moved g, all_faults_moved gs, map-append (fault_moved d) (faults_of digits how g) (faults_of_all digits how gs))

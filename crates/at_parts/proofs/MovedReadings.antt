@@ -1,6 +1,6 @@
 -- What the tree with all its offsets moved says is what the tree says, with the offsets of features and faults moved.
 -- For `sequence_features`, `sequence_faults`, `sound_parts` and `first_syntax_fault`.
-use Rattle.std.proofs.Common.{◌≡◌, ℕ, ◌+◌, Bool, true, false, if◌then◌else◌, List, [], ◌∷◌, ◌++◌, map, Option, Some, None, option_map, option_and_then, codes, refl, sym, ◌∙◌, ap}
+use Rattle.std.proofs.Common.{◌≡◌, ℕ, ◌+◌, Bool, if◌then◌else◌, List, [], ◌∷◌, ◌++◌, map, Option, Some, None, option_map, option_and_then, codes, refl, ◌∙◌, ap, arith}
 use Rattle.std.proofs.lemmas.List.{map-append}
 use Rattle.at_text.specs.declared.faults.Fault.{Fault}
 use Rattle.at_text.specs.declared.faults.FaultKind.TheVariants.{Twin}
@@ -8,18 +8,18 @@ use Rattle.at_text.specs.Faults.{fault_at}
 use Rattle.at_fixed.specs.declared.rounding.Coords.{Coords}
 use Rattle.at_fixed.specs.Numerals.{Numeral}
 use Rattle.at_lex.specs.Strings.{units_of}
-use Rattle.at_lex.specs.Runs.{the_null, the_true, the_false}
+use Rattle.at_lex.specs.Runs.{the_null}
 use Rattle.at_wkt.specs.Positions.{Position, Positions}
 use Rattle.at_wkt.specs.Geometry as wkt
-use Rattle.at_wkt.specs.Meaning.{both, shape_of, faults_of}
-use Rattle.at_nest.specs.Tree.{Tree, literal, number, text, array, object, Trees, no_trees, tree_and, Members, no_members, member_and, offset_of}
+use Rattle.at_wkt.specs.Meaning.{shape_of, faults_of}
+use Rattle.at_nest.specs.Tree.{Tree, literal, text, array, object, Trees, no_trees, tree_and, Members, no_members, member_and, offset_of}
 use Rattle.at_nest.specs.Twins.{is_among, twins_of, twins_of_items, twins_of_members}
 use Rattle.at_scan.specs.declared.kinds.Kind.{Kind}
 use Rattle.at_scan.specs.declared.kinds.Kind.TheVariants as kinds
-use Rattle.at_geojson.specs.Names.{is_named, member_named, units_of_text, kind_of, items_of}
+use Rattle.at_geojson.specs.Names.{member_named, units_of_text, kind_of, items_of}
 use Rattle.at_scan.specs.Names.{kind_of_text}
 use Rattle.at_geojson.specs.Coordinates.{each, array_items, number_at, position_of_numbers, position_of, positions_of, lists_of, if_some_items, area_of, areas_of, geometry_of_form, geometry_of}
-use Rattle.at_geojson.specs.Roles.{GeometryRead, Features, not_geometry, both_read, all_features, texts_of, properties_texts, properties_faults, feature_of, lone_geometry, coordinates_reading, kind_reading, geometry_reading, collection_reading, geometries_reading, items_reading, geometry_member_reading, feature_reading, if_feature, item_reading, features_reading, root_of_kind, root_reading, features_of, role_faults_of}
+use Rattle.at_geojson.specs.Roles.{GeometryRead, Features, not_geometry, both_read, all_features, texts_of, properties_texts, properties_faults, lone_geometry, coordinates_reading, kind_reading, geometry_reading, collection_reading, geometries_reading, items_reading, geometry_member_reading, feature_reading, if_feature, item_reading, features_reading, root_of_kind, root_reading, features_of, role_faults_of}
 use Rattle.at_geojson.specs.Wholes as wholes
 use Rattle.at_parts.specs.Moved.{feature_moved, fault_moved}
 use Rattle.at_parts.proofs.MovedTrees.{moved, moved_items, moved_members}
@@ -36,9 +36,9 @@ reading_moved d r = record { features = map (feature_moved d) r.features; faults
 -- ---- options and lists
 
 -- what f gives of a moved value is what it gives of the value, moved
-into_geometry : {X : Type 0} (d : ℕ) (f : X → wkt.Geometry) (m : X → X) → ((x : X) → f (m x) ≡ geometry_moved d (f x)) → (o : Option X) → option_map f (option_map m o) ≡ option_map (geometry_moved d) (option_map f o)
-into_geometry d f m moves None = refl
-into_geometry d f m moves (Some x) = ap Some (moves x)
+into_geometry : {X : Type 0} {p : Option X} (d : ℕ) (f : X → wkt.Geometry) (m : X → X) → ((x : X) → f (m x) ≡ geometry_moved d (f x)) → (o : Option X) → p ≡ option_map m o → option_map f p ≡ option_map (geometry_moved d) (option_map f o)
+into_geometry d f m moves None e = ap (option_map f) e
+into_geometry d f m moves (Some x) e = ap (option_map f) e ∙ ap Some (moves x)
 
 then_moves : {X Y : Type 0} (f : X → Option Y) (m : X → X) (n : Y → Y) → ((x : X) → f (m x) ≡ option_map n (f x)) → (o : Option X) → option_and_then f (option_map m o) ≡ option_map n (option_and_then f o)
 then_moves f m n moves None = refl
@@ -46,13 +46,7 @@ then_moves f m n moves (Some x) = moves x
 
 each_moves : {X Y : Type 0} (f : X → Option Y) (m : X → X) (n : Y → Y) → ((x : X) → f (m x) ≡ option_map n (f x)) → (xs : List X) → each f (map m xs) ≡ option_map (map n) (each f xs)
 each_moves f m n moves [] = refl
-each_moves {X} {Y} f m n moves (x ∷ xs) = ap (λ o. option_and_then (λ y. option_map (λ ys. y ∷ ys) (each f (map m xs))) o) (moves x)
-    ∙ (ap (λ o. option_and_then (λ y. option_map (λ ys. y ∷ ys) o) (option_map n (f x))) (each_moves f m n moves xs) ∙ first (f x) (each f xs))
-  where
-    first : (o : Option Y) (p : Option (List Y)) → option_and_then (λ y. option_map (λ ys. y ∷ ys) (option_map (map n) p)) (option_map n o) ≡ option_map (map n) (option_and_then (λ y. option_map (λ ys. y ∷ ys) p) o)
-    first None p = refl
-    first (Some y) None = refl
-    first (Some y) (Some ys) = refl
+each_moves f m n moves (x ∷ xs) = grind (arith, moves x, each_moves f m n moves xs)
 
 map_some : {X : Type 0} (m : X → X) (xs : List X) → map (λ x. Some x) (map m xs) ≡ map (option_map m) (map (λ x. Some x) xs)
 map_some m [] = refl
@@ -61,12 +55,11 @@ map_some m (x ∷ xs) = ap (λ z. Some (m x) ∷ z) (map_some m xs)
 module _ (d : ℕ) where
   -- ---- equal names
 
-  twin_by : (b : Bool) (i : ℕ) → (if b then fault_at Twin (d + i) ∷ [] else []) ≡ map (fault_moved d) (if b then fault_at Twin i ∷ [] else [])
-  twin_by true i = refl
-  twin_by false i = refl
-
   joined_moved : (a b u v : List Fault) → u ≡ map (fault_moved d) a → v ≡ map (fault_moved d) b → u ++ v ≡ map (fault_moved d) (a ++ b)
-  joined_moved a b u v e f = ap (λ z. z ++ v) e ∙ (ap (λ z. map (fault_moved d) a ++ z) f ∙ sym (map-append (fault_moved d) a b))
+  joined_moved a b u v e f = cc (map-append (fault_moved d) a b)
+
+  twin_moved : (b : Bool) (i : ℕ) → (if b then fault_at Twin (d + i) ∷ [] else []) ≡ map (fault_moved d) (if b then fault_at Twin i ∷ [] else [])
+  twin_moved b i = grind arith
 
   mutual
     pub twins_moved : (t : Tree) → twins_of (moved d t) ≡ map (fault_moved d) (twins_of t)
@@ -76,13 +69,13 @@ module _ (d : ℕ) where
 
     pub item_twins_moved : (ts : Trees) → twins_of_items (moved_items d ts) ≡ map (fault_moved d) (twins_of_items ts)
     item_twins_moved no_trees = refl
-    item_twins_moved (tree_and t ts) = joined_moved (twins_of t) (twins_of_items ts) (twins_of (moved d t)) (twins_of_items (moved_items d ts)) (twins_moved t) (item_twins_moved ts)
+    item_twins_moved (tree_and t ts) = joined_moved (twins_of t) (twins_of_items ts) _ _ (twins_moved t) (item_twins_moved ts)
 
     pub member_twins_moved : (earlier : List (List ℕ)) (ms : Members) → twins_of_members earlier (moved_members d ms) ≡ map (fault_moved d) (twins_of_members earlier ms)
     member_twins_moved earlier no_members = refl
     member_twins_moved earlier (member_and name i t ms) =
-        joined_moved (if is_among earlier (units_of name) then fault_at Twin i ∷ [] else []) (twins_of t ++ twins_of_members (units_of name ∷ earlier) ms) _ _ (twin_by (is_among earlier (units_of name)) i)
-        (joined_moved (twins_of t) (twins_of_members (units_of name ∷ earlier) ms) (twins_of (moved d t)) (twins_of_members (units_of name ∷ earlier) (moved_members d ms)) (twins_moved t) (member_twins_moved (units_of name ∷ earlier) ms))
+        joined_moved _ (twins_of t ++ twins_of_members (units_of name ∷ earlier) ms) _ _ (twin_moved (is_among earlier (units_of name)) i)
+        (joined_moved (twins_of t) (twins_of_members (units_of name ∷ earlier) ms) _ _ (twins_moved t) (member_twins_moved (units_of name ∷ earlier) ms))
 
   -- ---- members, items and offsets
 
@@ -94,32 +87,21 @@ module _ (d : ℕ) where
   items_of_moved no_trees = refl
   items_of_moved (tree_and t ts) = ap (λ z. moved d t ∷ z) (items_of_moved ts)
 
-  member_by : (b : Bool) (t : Tree) (o p : Option Tree) → p ≡ option_map (moved d) o → (if b then Some (moved d t) else p) ≡ option_map (moved d) (if b then Some t else o)
-  member_by true t o p e = refl
-  member_by false t o p e = e
-
   pub member_named_moved : (name : List ℕ) (ms : Members) → member_named name (moved_members d ms) ≡ option_map (moved d) (member_named name ms)
   member_named_moved name no_members = refl
-  member_named_moved name (member_and n i t ms) = member_by (is_named name n) t (member_named name ms) (member_named name (moved_members d ms)) (member_named_moved name ms)
+  member_named_moved name (member_and n i t ms) = grind (arith, member_named_moved name ms)
 
-  units_moved : (o : Option Tree) → option_and_then units_of_text (option_map (moved d) o) ≡ option_and_then units_of_text o
-  units_moved None = refl
-  units_moved (Some (literal i l)) = refl
-  units_moved (Some (number i n)) = refl
+  pub units_moved : (o : Option Tree) → option_and_then units_of_text (option_map (moved d) o) ≡ option_and_then units_of_text o
   units_moved (Some (text i cs)) = refl
-  units_moved (Some (array i ts)) = refl
-  units_moved (Some (object i ms)) = refl
+  units_moved _ = refl
 
   pub kind_of_moved : (ms : Members) → kind_of (moved_members d ms) ≡ kind_of ms
   kind_of_moved ms = ap (λ o. option_and_then kind_of_text (option_and_then units_of_text o)) (member_named_moved (codes "type") ms) ∙ ap (option_and_then kind_of_text) (units_moved (member_named (codes "type") ms))
 
   pub texts_moved : (ms : Members) → texts_of (moved_members d ms) ≡ texts_of ms
   texts_moved no_members = refl
-  texts_moved (member_and name i (literal j l) ms) = texts_moved ms
-  texts_moved (member_and name i (number j n) ms) = texts_moved ms
   texts_moved (member_and name i (text j cs) ms) = ap (λ z. record { name = units_of name; value = units_of cs } ∷ z) (texts_moved ms)
-  texts_moved (member_and name i (array j ts) ms) = texts_moved ms
-  texts_moved (member_and name i (object j os) ms) = texts_moved ms
+  texts_moved (member_and name i _ ms) = texts_moved ms
 
   -- ---- coordinates
 
@@ -143,18 +125,14 @@ module _ (d : ℕ) where
   position_of_numbers_moved _ = refl
 
   position_of_moved : (t : Tree) → position_of (moved d t) ≡ option_map (position_moved d) (position_of t)
-  position_of_moved t = ap (option_and_then position_of_numbers) (of_each_moved number_at pair_moved number_at_moved t)
-      ∙ then_moves position_of_numbers (map pair_moved) (position_moved d) position_of_numbers_moved (option_and_then (each number_at) (array_items t))
+  position_of_moved t = rw (of_each_moved number_at pair_moved number_at_moved t) (then_moves position_of_numbers (map pair_moved) (position_moved d) position_of_numbers_moved (option_and_then (each number_at) (array_items t)))
 
   list_at_moved : (at : ℕ) (o : Option (List Position))
       → option_map (λ items. record { at = d + at; items = items }) (option_map (map (position_moved d)) o) ≡ option_map (positions_moved d) (option_map (λ items. record { at = at; items = items }) o)
-  list_at_moved at None = refl
-  list_at_moved at (Some ps) = refl
+  list_at_moved at o = grind arith
 
   positions_of_moved : (t : Tree) → positions_of (moved d t) ≡ option_map (positions_moved d) (positions_of t)
-  positions_of_moved t = ap {B = Option Positions} (λ i. option_map (λ items. record { at = i; items = items }) (option_and_then (each position_of) (array_items (moved d t)))) (offset_moved t)
-      ∙ (ap {B = Option Positions} (option_map (λ items. record { at = d + offset_of t; items = items })) (of_each_moved position_of (position_moved d) position_of_moved t)
-      ∙ list_at_moved (offset_of t) (option_and_then (each position_of) (array_items t)))
+  positions_of_moved t = rw (offset_moved t, of_each_moved position_of (position_moved d) position_of_moved t) (list_at_moved (offset_of t) (option_and_then (each position_of) (array_items t)))
 
   lists_of_moved : (t : Tree) → lists_of (moved d t) ≡ option_map (map (positions_moved d)) (lists_of t)
   lists_of_moved t = of_each_moved positions_of (positions_moved d) positions_of_moved t
@@ -170,27 +148,17 @@ module _ (d : ℕ) where
   areas_of_moved t = of_each_moved area_of (map (positions_moved d)) area_of_moved t
 
   pub form_moved : (kind : Kind) (t : Tree) → geometry_of_form kind (moved d t) ≡ option_map (geometry_moved d) (geometry_of_form kind t)
-  form_moved kinds.Point t = ap (option_map (λ p. wkt.point (Some p))) (position_of_moved t)
-      ∙ into_geometry d (λ p. wkt.point (Some p)) (position_moved d) (λ p. refl) (position_of t)
-  form_moved kinds.MultiPoint t = ap (option_map (λ (ps : Positions). wkt.multi_point (map (λ p. Some p) ps.items))) (positions_of_moved t)
-      ∙ into_geometry d (λ (ps : Positions). wkt.multi_point (map (λ p. Some p) ps.items)) (positions_moved d) (λ ps. ap wkt.multi_point (map_some (position_moved d) ps.items)) (positions_of t)
-  form_moved kinds.LineString t = ap (option_map (λ ps. wkt.line_string (Some ps))) (positions_of_moved t)
-      ∙ into_geometry d (λ ps. wkt.line_string (Some ps)) (positions_moved d) (λ ps. refl) (positions_of t)
-  form_moved kinds.MultiLineString t = ap (option_map (λ ls. wkt.multi_line_string (map (λ l. Some l) ls))) (lists_of_moved t)
-      ∙ into_geometry d (λ ls. wkt.multi_line_string (map (λ l. Some l) ls)) (map (positions_moved d)) (λ ls. ap wkt.multi_line_string (map_some (positions_moved d) ls)) (lists_of t)
-  form_moved kinds.Polygon t = ap (option_map (λ rings. wkt.polygon rings)) (lists_of_moved t)
-      ∙ into_geometry d (λ rings. wkt.polygon rings) (map (positions_moved d)) (λ rings. refl) (lists_of t)
-  form_moved kinds.MultiPolygon t = ap (option_map (λ areas. wkt.multi_polygon areas)) (areas_of_moved t)
-      ∙ into_geometry d (λ areas. wkt.multi_polygon areas) (map (map (positions_moved d))) (λ areas. refl) (areas_of t)
+  form_moved kinds.Point t = into_geometry d (λ p. wkt.point (Some p)) (position_moved d) (λ p. refl) (position_of t) (position_of_moved t)
+  form_moved kinds.MultiPoint t = into_geometry d (λ (ps : Positions). wkt.multi_point (map (λ p. Some p) ps.items)) (positions_moved d) (λ ps. ap wkt.multi_point (map_some (position_moved d) ps.items)) (positions_of t) (positions_of_moved t)
+  form_moved kinds.LineString t = into_geometry d (λ ps. wkt.line_string (Some ps)) (positions_moved d) (λ ps. refl) (positions_of t) (positions_of_moved t)
+  form_moved kinds.MultiLineString t = into_geometry d (λ ls. wkt.multi_line_string (map (λ l. Some l) ls)) (map (positions_moved d)) (λ ls. ap wkt.multi_line_string (map_some (positions_moved d) ls)) (lists_of t) (lists_of_moved t)
+  form_moved kinds.Polygon t = into_geometry d (λ rings. wkt.polygon rings) (map (positions_moved d)) (λ rings. refl) (lists_of t) (lists_of_moved t)
+  form_moved kinds.MultiPolygon t = into_geometry d (λ areas. wkt.multi_polygon areas) (map (map (positions_moved d))) (λ areas. refl) (areas_of t) (areas_of_moved t)
   form_moved _ t = refl
 
   pub geometry_of_moved : (kind : Kind) (t : Tree) → geometry_of kind (moved d t) ≡ option_map (geometry_moved d) (geometry_of kind t)
-  geometry_of_moved kind (literal i l) = form_moved kind (literal i l)
-  geometry_of_moved kind (number i n) = form_moved kind (number i n)
-  geometry_of_moved kind (text i cs) = form_moved kind (text i cs)
   geometry_of_moved kind (array i no_trees) = refl
-  geometry_of_moved kind (array i (tree_and t ts)) = form_moved kind (array i (tree_and t ts))
-  geometry_of_moved kind (object i ms) = form_moved kind (object i ms)
+  geometry_of_moved kind t = form_moved kind t
 
 module _ (d digits : ℕ) (how : Coords) where
   -- ---- geometries
@@ -200,20 +168,15 @@ module _ (d digits : ℕ) (how : Coords) where
   by_geometry at (Some g) = record { shape = shape_of digits how g; faults = faults_of digits how g }
 
   by_geometry_is : (at : ℕ) (kind : Kind) (t : Tree) → coordinates_reading digits how at kind (Some t) ≡ by_geometry (offset_of t) (geometry_of kind t)
-  by_geometry_is at kind t = go (geometry_of kind t) where
-    go : (o : Option wkt.Geometry) → ◌≡◌ {A = GeometryRead} (elim o [ None ↦ not_geometry (offset_of t) | Some g ↦ record { shape = shape_of digits how g; faults = faults_of digits how g } ]) (by_geometry (offset_of t) o)
-    go None = refl
-    go (Some g) = refl
+  by_geometry_is at kind t = grind arith
 
   by_geometry_moved : (at : ℕ) (o : Option wkt.Geometry) → by_geometry (d + at) (option_map (geometry_moved d) o) ≡ read_moved d (by_geometry at o)
   by_geometry_moved at None = refl
-  by_geometry_moved at (Some g) = ap {B = GeometryRead} (λ s. record { shape = s; faults = faults_of digits how (geometry_moved d g) }) (shape_moved d digits how g)
-      ∙ ap {B = GeometryRead} (λ fs. record { shape = shape_of digits how g; faults = fs }) (faults_moved d digits how g)
+  by_geometry_moved at (Some g) = cc (shape_moved d digits how g, faults_moved d digits how g)
 
   coordinates_moved : (at : ℕ) (kind : Kind) (o : Option Tree) → coordinates_reading digits how (d + at) kind (option_map (moved d) o) ≡ read_moved d (coordinates_reading digits how at kind o)
   coordinates_moved at kind None = refl
-  coordinates_moved at kind (Some t) = by_geometry_is (d + at) kind (moved d t) ∙ (ap (λ i. by_geometry i (geometry_of kind (moved d t))) (offset_moved d t)
-      ∙ (ap (by_geometry (d + offset_of t)) (geometry_of_moved d kind t) ∙ (by_geometry_moved (offset_of t) (geometry_of kind t) ∙ ap (read_moved d) (sym (by_geometry_is at kind t)))))
+  coordinates_moved at kind (Some t) = cc (by_geometry_is (d + at) kind (moved d t), offset_moved d t, geometry_of_moved d kind t, by_geometry_moved (offset_of t) (geometry_of kind t), by_geometry_is at kind t)
 
   named_coordinates_moved : (at : ℕ) (ms : Members) (kind : Kind) → coordinates_reading digits how (d + at) kind (member_named (codes "coordinates") (moved_members d ms)) ≡ read_moved d (coordinates_reading digits how at kind (member_named (codes "coordinates") ms))
   named_coordinates_moved at ms kind = ap (coordinates_reading digits how (d + at) kind) (member_named_moved d (codes "coordinates") ms) ∙ coordinates_moved at kind (member_named (codes "coordinates") ms)
@@ -223,30 +186,19 @@ module _ (d digits : ℕ) (how : Coords) where
   kind_moved at ms a b e (Some kinds.FeatureCollection) = refl
   kind_moved at ms a b e (Some kinds.Feature) = refl
   kind_moved at ms a b e (Some kinds.GeometryCollection) = e
-  kind_moved at ms a b e (Some kinds.Point) = named_coordinates_moved at ms kinds.Point
-  kind_moved at ms a b e (Some kinds.MultiPoint) = named_coordinates_moved at ms kinds.MultiPoint
-  kind_moved at ms a b e (Some kinds.LineString) = named_coordinates_moved at ms kinds.LineString
-  kind_moved at ms a b e (Some kinds.MultiLineString) = named_coordinates_moved at ms kinds.MultiLineString
-  kind_moved at ms a b e (Some kinds.Polygon) = named_coordinates_moved at ms kinds.Polygon
-  kind_moved at ms a b e (Some kinds.MultiPolygon) = named_coordinates_moved at ms kinds.MultiPolygon
-
-  read_by : (t : Bool) (a b u v : GeometryRead) → u ≡ read_moved d a → v ≡ read_moved d b → (if t then u else v) ≡ read_moved d (if t then a else b)
-  read_by true a b u v e f = e
-  read_by false a b u v e f = f
+  kind_moved at ms a b e (Some kind) = named_coordinates_moved at ms kind
 
   both_moved : (a b : GeometryRead) → both_read (read_moved d a) (read_moved d b) ≡ read_moved d (both_read a b)
-  both_moved a b = ap {B = GeometryRead} (λ fs. record { shape = both a.shape b.shape; faults = fs }) (sym (map-append (fault_moved d) a.faults b.faults))
+  both_moved a b = cc (map-append (fault_moved d) a.faults b.faults)
 
   mutual
     pub geometry_reading_moved : (t : Tree) → geometry_reading digits how (moved d t) ≡ read_moved d (geometry_reading digits how t)
-    geometry_reading_moved (object i ms) = ap (kind_reading digits how (d + i) (moved_members d ms) (collection_reading digits how (d + i) (moved_members d ms))) (kind_of_moved d ms)
-        ∙ kind_moved i ms (collection_reading digits how i ms) (collection_reading digits how (d + i) (moved_members d ms)) (collection_moved i ms) (kind_of ms)
+    geometry_reading_moved (object i ms) = cc (kind_of_moved d ms, kind_moved i ms (collection_reading digits how i ms) (collection_reading digits how (d + i) (moved_members d ms)) (collection_moved i ms) (kind_of ms))
     geometry_reading_moved _ = refl
 
     collection_moved : (at : ℕ) (ms : Members) → collection_reading digits how (d + at) (moved_members d ms) ≡ read_moved d (collection_reading digits how at ms)
     collection_moved at no_members = refl
-    collection_moved at (member_and name i t ms) = read_by (is_named (codes "geometries") name) (geometries_reading digits how at t) (collection_reading digits how at ms)
-        (geometries_reading digits how (d + at) (moved d t)) (collection_reading digits how (d + at) (moved_members d ms)) (geometries_moved at t) (collection_moved at ms)
+    collection_moved at (member_and name i t ms) = grind (arith, geometries_moved at t, collection_moved at ms)
 
     geometries_moved : (at : ℕ) (t : Tree) → geometries_reading digits how (d + at) (moved d t) ≡ read_moved d (geometries_reading digits how at t)
     geometries_moved at (array i ts) = items_reading_moved ts
@@ -254,67 +206,32 @@ module _ (d digits : ℕ) (how : Coords) where
 
     items_reading_moved : (ts : Trees) → items_reading digits how (moved_items d ts) ≡ read_moved d (items_reading digits how ts)
     items_reading_moved no_trees = refl
-    items_reading_moved (tree_and t ts) = ap (λ z. both_read z (items_reading digits how (moved_items d ts))) (geometry_reading_moved t)
-        ∙ (ap (both_read (read_moved d (geometry_reading digits how t))) (items_reading_moved ts) ∙ both_moved (geometry_reading digits how t) (items_reading digits how ts))
+    items_reading_moved (tree_and t ts) = cc (geometry_reading_moved t, items_reading_moved ts, both_moved (geometry_reading digits how t) (items_reading digits how ts))
 
   -- ---- features
 
   geometry_member_moved : (o : Option Tree) → geometry_member_reading digits how (option_map (moved d) o) ≡ read_moved d (geometry_member_reading digits how o)
   geometry_member_moved None = refl
   geometry_member_moved (Some (literal i the_null)) = refl
-  geometry_member_moved (Some (literal i the_true)) = refl
-  geometry_member_moved (Some (literal i the_false)) = refl
-  geometry_member_moved (Some (number i n)) = refl
-  geometry_member_moved (Some (text i cs)) = refl
-  geometry_member_moved (Some (array i ts)) = refl
-  geometry_member_moved (Some (object i ms)) = geometry_reading_moved (object i ms)
+  geometry_member_moved (Some t) = geometry_reading_moved t
 
   properties_texts_moved : (o : Option Tree) → properties_texts (option_map (moved d) o) ≡ properties_texts o
-  properties_texts_moved None = refl
-  properties_texts_moved (Some (literal i l)) = refl
-  properties_texts_moved (Some (number i n)) = refl
-  properties_texts_moved (Some (text i cs)) = refl
-  properties_texts_moved (Some (array i ts)) = refl
   properties_texts_moved (Some (object i ms)) = texts_moved d ms
+  properties_texts_moved _ = refl
 
   properties_faults_moved : (o : Option Tree) → properties_faults (option_map (moved d) o) ≡ map (fault_moved d) (properties_faults o)
-  properties_faults_moved None = refl
   properties_faults_moved (Some (literal i the_null)) = refl
-  properties_faults_moved (Some (literal i the_true)) = refl
-  properties_faults_moved (Some (literal i the_false)) = refl
-  properties_faults_moved (Some (number i n)) = refl
-  properties_faults_moved (Some (text i cs)) = refl
-  properties_faults_moved (Some (array i ts)) = refl
-  properties_faults_moved (Some (object i ms)) = refl
-
-  -- the feature of a geometry and of properties
-  abbrev feature_by : ℕ → GeometryRead → Option Tree → Features
-  feature_by at geometry properties = record { features = feature_of at geometry (properties_texts properties) ∷ []; faults = geometry.faults ++ properties_faults properties }
-
-  feature_by_moved : (at : ℕ) (a : GeometryRead) (o : Option Tree) → feature_by (d + at) (read_moved d a) (option_map (moved d) o) ≡ reading_moved d (feature_by at a o)
-  feature_by_moved at a o =
-      ap {B = Features} (λ z. record { features = feature_of (d + at) (read_moved d a) z ∷ []; faults = map (fault_moved d) a.faults ++ properties_faults (option_map (moved d) o) }) (properties_texts_moved o)
-      ∙ ap {B = Features} (λ fs. record { features = feature_of (d + at) (read_moved d a) (properties_texts o) ∷ []; faults = fs })
-      (ap (λ z. map (fault_moved d) a.faults ++ z) (properties_faults_moved o) ∙ sym (map-append (fault_moved d) a.faults (properties_faults o)))
+  properties_faults_moved _ = refl
 
   pub feature_reading_moved : (at : ℕ) (ms : Members) → feature_reading digits how (d + at) (moved_members d ms) ≡ reading_moved d (feature_reading digits how at ms)
   feature_reading_moved at ms =
-      ap (λ o. feature_by (d + at) (geometry_member_reading digits how o) (member_named (codes "properties") (moved_members d ms))) (member_named_moved d (codes "geometry") ms)
-      ∙ (ap (λ z. feature_by (d + at) z (member_named (codes "properties") (moved_members d ms))) (geometry_member_moved (member_named (codes "geometry") ms))
-      ∙ (ap (feature_by (d + at) (read_moved d (geometry_member_reading digits how (member_named (codes "geometry") ms)))) (member_named_moved d (codes "properties") ms)
-      ∙ feature_by_moved at (geometry_member_reading digits how (member_named (codes "geometry") ms)) (member_named (codes "properties") ms)))
+      let both = map-append (fault_moved d) (geometry_member_reading digits how (member_named (codes "geometry") ms)).faults (properties_faults (member_named (codes "properties") ms)) in
+      rw (member_named_moved d (codes "geometry") ms, member_named_moved d (codes "properties") ms)
+      (cc (geometry_member_moved (member_named (codes "geometry") ms), properties_texts_moved (member_named (codes "properties") ms), properties_faults_moved (member_named (codes "properties") ms), both))
 
   if_feature_moved : (at : ℕ) (ms : Members) (o : Option Kind) → if_feature digits how (d + at) (moved_members d ms) o ≡ reading_moved d (if_feature digits how at ms o)
-  if_feature_moved at ms None = refl
   if_feature_moved at ms (Some kinds.Feature) = feature_reading_moved at ms
-  if_feature_moved at ms (Some kinds.FeatureCollection) = refl
-  if_feature_moved at ms (Some kinds.GeometryCollection) = refl
-  if_feature_moved at ms (Some kinds.Point) = refl
-  if_feature_moved at ms (Some kinds.MultiPoint) = refl
-  if_feature_moved at ms (Some kinds.LineString) = refl
-  if_feature_moved at ms (Some kinds.MultiLineString) = refl
-  if_feature_moved at ms (Some kinds.Polygon) = refl
-  if_feature_moved at ms (Some kinds.MultiPolygon) = refl
+  if_feature_moved at ms _ = refl
 
   pub item_reading_moved : (t : Tree) → item_reading digits how (moved d t) ≡ reading_moved d (item_reading digits how t)
   item_reading_moved (object i ms) = ap (if_feature digits how (d + i) (moved_members d ms)) (kind_of_moved d ms) ∙ if_feature_moved i ms (kind_of ms)
@@ -327,33 +244,17 @@ module _ (d digits : ℕ) (how : Coords) where
 
   pub all_features_moved : (rs : List Features) → all_features (map (reading_moved d) rs) ≡ reading_moved d (all_features rs)
   all_features_moved [] = refl
-  all_features_moved (r ∷ rs) =
-      ap {B = Features} (λ (b : Features). record { features = map (feature_moved d) r.features ++ b.features; faults = map (fault_moved d) r.faults ++ b.faults }) (all_features_moved rs)
-      ∙ (ap {B = Features} (λ z. record { features = z; faults = map (fault_moved d) r.faults ++ map (fault_moved d) (all_features rs).faults }) (sym (map-append (feature_moved d) r.features (all_features rs).features))
-      ∙ ap {B = Features} (λ z. record { features = map (feature_moved d) (r.features ++ (all_features rs).features); faults = z }) (sym (map-append (fault_moved d) r.faults (all_features rs).faults)))
+  all_features_moved (r ∷ rs) = cc (all_features_moved rs, map-append (feature_moved d) r.features (all_features rs).features, map-append (fault_moved d) r.faults (all_features rs).faults)
 
   pub features_reading_moved : (at : ℕ) (o : Option Tree) → features_reading digits how (d + at) (option_map (moved d) o) ≡ reading_moved d (features_reading digits how at o)
-  features_reading_moved at None = refl
-  features_reading_moved at (Some (literal i l)) = refl
-  features_reading_moved at (Some (number i n)) = refl
-  features_reading_moved at (Some (text i cs)) = refl
   features_reading_moved at (Some (array i ts)) = ap all_features (item_readings_moved ts) ∙ all_features_moved (map (item_reading digits how) (items_of ts))
-  features_reading_moved at (Some (object i ms)) = refl
-
-  lone_moved : (at : ℕ) (ms : Members) → lone_geometry (d + at) (geometry_reading digits how (moved d (object at ms))) ≡ reading_moved d (lone_geometry at (geometry_reading digits how (object at ms)))
-  lone_moved at ms = ap (lone_geometry (d + at)) (geometry_reading_moved (object at ms))
+  features_reading_moved at _ = refl
 
   root_of_kind_moved : (at : ℕ) (ms : Members) (o : Option Kind) → root_of_kind digits how (d + at) (moved_members d ms) o ≡ reading_moved d (root_of_kind digits how at ms o)
   root_of_kind_moved at ms None = refl
   root_of_kind_moved at ms (Some kinds.FeatureCollection) = ap (features_reading digits how (d + at)) (member_named_moved d (codes "features") ms) ∙ features_reading_moved at (member_named (codes "features") ms)
   root_of_kind_moved at ms (Some kinds.Feature) = feature_reading_moved at ms
-  root_of_kind_moved at ms (Some kinds.GeometryCollection) = lone_moved at ms
-  root_of_kind_moved at ms (Some kinds.Point) = lone_moved at ms
-  root_of_kind_moved at ms (Some kinds.MultiPoint) = lone_moved at ms
-  root_of_kind_moved at ms (Some kinds.LineString) = lone_moved at ms
-  root_of_kind_moved at ms (Some kinds.MultiLineString) = lone_moved at ms
-  root_of_kind_moved at ms (Some kinds.Polygon) = lone_moved at ms
-  root_of_kind_moved at ms (Some kinds.MultiPolygon) = lone_moved at ms
+  root_of_kind_moved at ms (Some _) = ap (lone_geometry (d + at)) (geometry_reading_moved (object at ms))
 
   pub root_reading_moved : (t : Tree) → root_reading digits how (moved d t) ≡ reading_moved d (root_reading digits how t)
   root_reading_moved (object i ms) = ap (root_of_kind digits how (d + i) (moved_members d ms)) (kind_of_moved d ms) ∙ root_of_kind_moved i ms (kind_of ms)

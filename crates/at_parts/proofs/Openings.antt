@@ -1,65 +1,41 @@
 -- The front of a file, and the opening of the frame, as fronts.
 -- For `sound_parts` and `first_syntax_fault`.
-use Rattle.std.proofs.Common.{◌≡◌, ℕ, List, [], ◌∷◌, ◌++◌, IsTrue, Bool, true, Some, None, map, flat_map, codes, bytes_eq, nat_lt, ◌&&◌, if◌then◌else◌, refl, sym, ◌∙◌, ap, subst, arith, append_assoc, append-nil, length-append, ◌+◌, length}
+use Rattle.std.proofs.Common.{◌≡◌, ℕ, List, [], ◌∷◌, ◌++◌, true, Some, map, flat_map, codes, nat_lt, refl, sym, ◌∙◌, ap, subst, arith, append_assoc, append-nil, length-append, ◌+◌, length}
 use Rattle.std.proofs.lemmas.Bool.{and_parts, ltb-true}
 use Rattle.std.proofs.lemmas.Str.{is_utf8-from_IsUtf8, IsUtf8-from_ascii, chars-IsAscii}
 use Rattle.std.proofs.lemmas.Str.Ascii.{IsAscii-nil, IsAscii-cons}
-use Rattle.std.specs.Str.{is_utf8, chars, IsAscii}
+use Rattle.std.specs.Str.{IsAscii}
 use Rattle.std.specs.Char.Escape.{encode_utf16}
-use Rattle.std.specs.List.{AllByRecursion}
-use Rattle.std.specs.Prelude.{option_and_then}
+use Rattle.std.specs.List.{list_all}
 use Rattle.at_text.specs.Parts.{Exactly, ◌▸◌}
-use Rattle.at_lex.specs.Strings.{Character, plain, is_plain, AreCharacters, units_behind, units_of, stretch_units, broken_units}
+use Rattle.at_lex.specs.Strings.{Character, plain, is_plain, AreCharacters, units_behind, units_of, stretch_units}
 use Rattle.at_nest.specs.Tree.{text, Trees, Members, no_members, member_and, Spells}
 use Rattle.at_nest.proofs.TreeParts.{named_parts, after_parts}
 use Rattle.at_nest.proofs.OneTree.{padded_on}
 use Rattle.at_scan.specs.declared.kinds.Kind.TheVariants.{FeatureCollection}
-use Rattle.at_geojson.specs.Names.{is_named, member_named, units_of_text, kind_of}
-use Rattle.at_scan.specs.Names.{kind_of_text}
+use Rattle.at_geojson.specs.Names.{kind_of}
 use Rattle.at_parts.specs.Collections.{FirstMembers, OpensFeatures, opening}
-use Rattle.at_parts.proofs.Fronts.{FeaturesBegin, Opened, all_members}
+use Rattle.at_parts.proofs.Fronts.{FeaturesBegin, Opened}
 use Rattle.at_parts.proofs.Wholes.{Front, members_of}
-use Rattle.at_parts.proofs.Meanings.{first_if, other_if}
 
 -- ---- ASCII
 
--- each byte passes the test
-abbrev pub all_pass : (ℕ → Bool) → List ℕ → Bool
-all_pass test [] = true
-all_pass test (b ∷ w) = test b && all_pass test w
-
-pub passes : (test : ℕ → Bool) (w : List ℕ) → all_pass test w ≡ true → AllByRecursion (λ b. IsTrue (test b)) w
-passes test [] h = tt
-passes test (b ∷ w) h = let (p, q) = and_parts (test b) (all_pass test w) h in (p, passes test w q)
-
-pub all_ascii : (w : List ℕ) → AllByRecursion (λ b. IsTrue (nat_lt b 128)) w → IsAscii w
+all_ascii : (w : List ℕ) → list_all (λ b. nat_lt b 128) w ≡ true → IsAscii w
 all_ascii [] h = IsAscii-nil
-all_ascii (b ∷ w) (h, hs) = IsAscii-cons b w (ltb-true b 128 h) (all_ascii w hs)
+all_ascii (b ∷ w) h = let (p, q) = and_parts (nat_lt b 128) (list_all (λ c. nat_lt c 128) w) h in IsAscii-cons b w (ltb-true b 128 p) (all_ascii w q)
 
-plain_characters : (w : List ℕ) → AllByRecursion (λ b. IsTrue (is_plain b)) w → AreCharacters (map plain w)
-plain_characters [] h = tt
-plain_characters (b ∷ w) (h, hs) = (h, plain_characters w hs)
+plain_string : (w : List ℕ) → list_all is_plain w ≡ true → AreCharacters (map plain w)
+plain_string [] h = tt
+plain_string (b ∷ w) h = let (p, q) = and_parts (is_plain b) (list_all is_plain w) h in (p, plain_string w q)
 
 plain_units : (s w : List ℕ) → units_behind s (map plain w) ≡ stretch_units (s ++ w)
 plain_units s [] = ap stretch_units (sym (append-nil s))
 plain_units s (b ∷ w) = plain_units (s ++ b ∷ []) w ∙ ap stretch_units (append_assoc s (b ∷ []) w)
 
-units_if : (b : Bool) (x y : List ℕ) → b ≡ true → (if b then x else y) ≡ x
-units_if b x y e = ap (λ o. if o then x else y) e
-
-ascii_units : (w : List ℕ) → all_pass (λ b. nat_lt b 128) w ≡ true → stretch_units w ≡ flat_map encode_utf16 w
+ascii_units : (w : List ℕ) → list_all (λ b. nat_lt b 128) w ≡ true → units_of (map plain w) ≡ flat_map encode_utf16 w
 ascii_units w h =
-    let ascii = all_ascii w (passes (λ b. nat_lt b 128) w h) in
-    units_if (is_utf8 w) (flat_map encode_utf16 (chars w)) (broken_units (length w) w) (is_utf8-from_IsUtf8 w (IsUtf8-from_ascii w ascii)) ∙ ap (flat_map encode_utf16) (chars-IsAscii w ascii)
-
-type_units : units_of (map plain (codes "type")) ≡ codes "type"
-type_units = plain_units [] (codes "type") ∙ ascii_units (codes "type") refl
-
-features_units : units_of (map plain (codes "features")) ≡ codes "features"
-features_units = plain_units [] (codes "features") ∙ ascii_units (codes "features") refl
-
-collection_units : units_of (map plain (codes "FeatureCollection")) ≡ codes "FeatureCollection"
-collection_units = plain_units [] (codes "FeatureCollection") ∙ ascii_units (codes "FeatureCollection") refl
+    let ascii = all_ascii w h in
+    plain_units [] w ∙ rw (is_utf8-from_IsUtf8 w (IsUtf8-from_ascii w ascii)) (ap (flat_map encode_utf16) (chars-IsAscii w ascii))
 
 -- ---- the opening
 
@@ -69,31 +45,8 @@ type_member = member_and (map plain (codes "type")) 1 (text 8 (map plain (codes 
 opening_opens : Opened (map plain (codes "features")) 28 39 type_member 1 (codes "\"type\":\"FeatureCollection\",\"features\":[")
 opening_opens =
     let begins : FeaturesBegin (map plain (codes "features")) 28 39 28 (codes "\"features\":[") =
-    ([], codes "\"features\"", [], codes ":[", refl, tt, tt, (refl, (plain_characters (codes "features") (passes is_plain (codes "features") refl), refl)), (codes "[", refl, ([], refl, tt, refl))) in (
-      [],
-      codes "\"type\"",
-      [],
-      codes ":\"FeatureCollection\",\"features\":[",
-      refl,
-      tt,
-      tt,
-      (refl, (plain_characters (codes "type") (passes is_plain (codes "type") refl), refl)),
-      (
-        codes "\"FeatureCollection\",\"features\":[",
-        refl,
-        (
-          [],
-          codes "\"FeatureCollection\"",
-          [],
-          codes ",\"features\":[",
-          refl,
-          tt,
-          tt,
-          (refl, (plain_characters (codes "FeatureCollection") (passes is_plain (codes "FeatureCollection") refl), refl)),
-          (codes "\"features\":[", refl, begins),
-        ),
-      ),
-    )
+    ([], codes "\"features\"", [], _, refl, tt, tt, (refl, (plain_string (codes "features") refl, refl)), (_, refl, ([], refl, tt, refl))) in
+    ([], codes "\"type\"", [], _, refl, tt, tt, (refl, (plain_string (codes "type") refl, refl)), (_, refl, ([], codes "\"FeatureCollection\"", [], _, refl, tt, tt, (refl, (plain_string (codes "FeatureCollection") refl, refl)), (_, refl, begins))))
 
 pub opening_front : Front 0 opening
 opening_front = record {
@@ -108,24 +61,18 @@ opening_front = record {
   are_before = tt;
   are_last = tt;
   opens = opening_opens;
-  named = ap (λ o. bytes_eq o (codes "features")) features_units;
-  no_features = other_if (is_named (codes "features") (map plain (codes "type"))) (text 8 (map plain (codes "FeatureCollection"))) None (ap (λ o. bytes_eq o (codes "features")) type_units);
+  named = rw (ascii_units (codes "features") refl);
+  no_features = rw (ascii_units (codes "type") refl);
 }
 
 pub opening_kind : (more : Members) (ts : Trees) → kind_of (members_of 0 opening opening_front ts more) ≡ Some FeatureCollection
 unfolding opening_front
-opening_kind more ts =
-    ap (λ o. option_and_then kind_of_text (option_and_then units_of_text o))
-    (first_if (is_named (codes "type") (map plain (codes "type"))) (text 8 (map plain (codes "FeatureCollection"))) (member_named (codes "type") (all_members (map plain (codes "features")) 28 39 no_members ts more)) (ap (λ o. bytes_eq o (codes "type")) type_units))
-    ∙ ap kind_of_text collection_units
+opening_kind more ts = rw (ascii_units (codes "type") refl, ascii_units (codes "FeatureCollection") refl)
 
 -- ---- a file's front
 
 comma_place : (at : ℕ) (f a x b r s c v d q g : List ℕ) → f ≡ a ++ (x ++ (b ++ r)) → r ≡ 0x3A ∷ s → s ≡ c ++ (v ++ (d ++ q)) → q ≡ 0x2C ∷ g → at + length f ≡ at + length a + length x + length b + 1 + length c + length v + length d + 1 + length g
-comma_place at f a x b r s c v d q g e1 e2 e3 e4 =
-    let size : length f ≡ length a + (length x + (length b + (1 + (length c + (length v + (length d + (1 + length g))))))) =
-    ap length (e1 ∙ ap (λ o. a ++ (x ++ (b ++ o))) (e2 ∙ ap (λ o. 0x3A ∷ o) (e3 ∙ ap (λ o. c ++ (v ++ (d ++ o))) e4))) ∙ (simp length-append (omega arith)) in
-    omega (arith, size)
+comma_place at f a x b r s c v d q g e1 e2 e3 e4 = omega (arith, length-append {A = ℕ}, ap length e1, ap length e2, ap length e3, ap length e4)
 
 module _ (n : List Character) (i k : ℕ) where
   opened_from : (ms : Members) (at : ℕ) (f g : List ℕ) → FirstMembers ms at f → FeaturesBegin n i k (at + length f) g → Opened n i k ms at (f ++ g)
@@ -151,7 +98,7 @@ front_is ms at w (none, (a, w1, e1, ha, (c, w2, e2, hc, (f, w3, e3, hf, (p, w4, 
       opened = f ++ (d ++ (v ++ (b ++ (0x3A ∷ (s ++ (0x5B ∷ []))))));
       last = l;
       split = e1 ∙ (ap (λ o. a ++ o) (e2 ∙ ap (λ o. o ++ w2) hc) ∙ (ap (λ o. a ++ (0x7B ∷ o)) (e3 ∙ ap (λ o. f ++ o) (e4 ∙ (ap (λ o. o ++ w4) (e5 ∙ ap (λ o. d ++ o) e6) ∙ ap (λ o. (d ++ (v ++ b)) ++ o) (e7 ∙ (ap (λ o. o ++ w5) hcolon ∙ ap (λ o. 0x3A ∷ o) (e8 ∙ ap (λ o. s ++ o) (e9 ∙ ap (λ o. o ++ l) hbr)))))))
-          ∙ sides a f d v b s l));
+          ∙ (simp append_assoc)));
       are_before = ha;
       are_last = hl;
       opens = opened_from name (at + length a + length c + length f + length d) (at + length a + length c + length f + length d + length v + length b + 1 + length s) ms (at + length a + 1) f (d ++ (v ++ (b ++ (0x3A ∷ (s ++ (0x5B ∷ []))))))
@@ -159,6 +106,3 @@ front_is ms at w (none, (a, w1, e1, ha, (c, w2, e2, hc, (f, w3, e3, hf, (p, w4, 
       named = named;
       no_features = none;
     }
-  where
-    sides : (a f d v b s l : List ℕ) → a ++ (0x7B ∷ (f ++ ((d ++ (v ++ b)) ++ (0x3A ∷ (s ++ (0x5B ∷ l)))))) ≡ a ++ (0x7B ∷ ((f ++ (d ++ (v ++ (b ++ (0x3A ∷ (s ++ (0x5B ∷ []))))))) ++ l))
-    sides a f d v b s l = simp append_assoc refl

@@ -1,18 +1,16 @@
 -- A text sequence that is cut before a separator: its records are those of both parts, and so are its features and its faults.
 -- For `sequence_features` and `sequence_faults`.
-use Rattle.std.proofs.Common.{◌≡◌, inl, inr, ℕ, ◌+◌, ◌<◌, Bool, true, false, not, cond, if◌then◌else◌, List, [], ◌∷◌, ◌++◌, length, drop, map, Option, Some, None, option_map, IfSome, refl, sym, ◌∙◌, ap, subst, arith, append-nil, append_assoc, length-drop}
+use Rattle.std.proofs.Common.{◌≡◌, inl, inr, ℕ, ◌+◌, not, List, [], ◌∷◌, ◌++◌, length, drop, map, Option, Some, None, option_map, refl, sym, ◌∙◌, ap, subst, arith, append_assoc}
 use Rattle.std.specs.List.{slice_split}
-use Rattle.std.proofs.lemmas.List.{map-append, drop-append-le}
+use Rattle.std.proofs.lemmas.List.{map-append}
 use Rattle.std.proofs.lemmas.List.Elements.{filter-append}
 use Rattle.at_text.specs.declared.faults.Fault.{Fault}
-use Rattle.at_text.specs.declared.faults.FaultKind.TheVariants.{Syntax}
-use Rattle.at_text.specs.Faults.{first_fault, first_of, fault_at}
-use Rattle.at_text.specs.Separated.{Piece, placed}
-use Rattle.at_text.specs.Texts.{is_space, base_of, utf8_fault}
-use Rattle.at_text.proofs.Separated.{glued, pieces_joined, pieces_parted, pieces_some}
+use Rattle.at_text.specs.Faults.{first_fault, first_of}
+use Rattle.at_text.specs.Separated.{Piece}
+use Rattle.at_text.specs.Texts.{base_of, utf8_fault}
+use Rattle.at_text.proofs.Separated.{pieces_parted, pieces_some}
 use Rattle.at_fixed.specs.declared.rounding.Coords.{Coords}
 use Rattle.at_wkt.proofs.FaultOrder.{first_of-append}
-use Rattle.at_wkt.proofs.LineMerges.{base_within}
 use Rattle.at_nest.specs.Tree.{Tree}
 use Rattle.at_nest.specs.Twins.{twins_of}
 use Rattle.at_nest.specs.Syntax.{JsonText}
@@ -21,39 +19,22 @@ use Rattle.at_geojson.specs.Roles.{features_of, role_faults_of}
 use Rattle.at_geojson.specs.Wholes.{faults_of}
 use Rattle.at_geojson.proofs.Tiers.{twins_third, roles_fourth}
 use Rattle.at_seq.specs.Records.{is_separator, pieces_from, pieces_of, are_spaces, records_in, records_of}
-use Rattle.at_seq.specs.Sequences.{stray_faults, head_faults, HasRecordFaults, HaveRecordFaults, HasSeqFaultBehind, HasSeqFault, AreRecordFeatures, AreSeqFeatures}
+use Rattle.at_seq.specs.Sequences.{stray_faults, head_faults, HasRecordFaults, HaveRecordFaults, HasSeqFaultBehind, AreRecordFeatures}
 use Rattle.at_parts.specs.Moved.{feature_moved, fault_moved}
-use Rattle.at_parts.specs.Records.{IsCutByAscii, SequencesHaveFeaturesOfParts, SequencesHaveFaultsOfParts}
-use Rattle.at_parts.proofs.MovedTrees.{moved, text_moved}
+use Rattle.at_parts.specs.Records.{SequencesHaveFeaturesOfParts, SequencesHaveFaultsOfParts}
+use Rattle.at_parts.proofs.MovedTrees.{moved, text_moved, json_moved}
 use Rattle.at_parts.proofs.MovedReadings.{features_of_moved, tree_faults_moved}
-use Rattle.at_parts.proofs.MovedSyntax.{syntax_moved}
+use Rattle.at_parts.proofs.Moves.{syntax_moved}
+use Rattle.at_parts.proofs.Cuts.{piece_moved, placed_moved, file_cut}
 use Rattle.at_parts.proofs.Firsts.{first_of_moved}
-use Rattle.at_parts.proofs.LaterFaults.{AreLater, later_append, later_by, syntax_later, IsLater, first_later, encoding_before, encoding_first}
-use Rattle.at_parts.proofs.Encodings.{encoding_fault, encoding_of_both}
+use Rattle.at_parts.proofs.LaterFaults.{AreLater, later_append, later_by, syntax_later, IsLater, first_later}
+use Rattle.at_parts.proofs.Encodings.{first_told, second_told, encoding_of_both}
 
 -- ---- pieces and records
 
-abbrev pub piece_moved : ℕ → Piece → Piece
-piece_moved d p = record { at = d + p.at; text = p.text }
-
-pub placed_moved : (d at : ℕ) (ts : List (List ℕ)) → placed (d + at) ts ≡ map (piece_moved d) (placed at ts)
-placed_moved d at [] = refl
-placed_moved d at (t ∷ ts) =
-    let further : d + at + length t + 1 ≡ d + (at + length t + 1) = omega arith in
-    ap (λ n. record { at = d + at; text = t } ∷ placed n ts) further ∙ ap (λ z. record { at = d + at; text = t } ∷ z) (placed_moved d (at + length t + 1) ts)
-
 records_moved : (d : ℕ) (ps : List Piece) → records_in (map (piece_moved d) ps) ≡ map (piece_moved d) (records_in ps)
 records_moved d [] = refl
-records_moved d (p ∷ ps) = by_test (not (are_spaces p.text)) (records_moved d ps) where
-  by_test : (b : Bool) → records_in (map (piece_moved d) ps) ≡ map (piece_moved d) (records_in ps)
-      → cond b (piece_moved d p ∷ records_in (map (piece_moved d) ps)) (records_in (map (piece_moved d) ps)) ≡ map (piece_moved d) (cond b (p ∷ records_in ps) (records_in ps))
-  by_test true e = ap (λ z. piece_moved d p ∷ z) e
-  by_test false e = e
-
--- an empty piece before further ones leaves the pieces before it as they are
-glued_empty : (p : Piece) (ps : List Piece) (at : ℕ) (qs : List Piece) → glued (p ∷ ps) (record { at = at; text = [] } ∷ qs) ≡ p ∷ (ps ++ qs)
-glued_empty p [] at qs = ap (λ z. record { at = p.at; text = z } ∷ qs) (append-nil p.text)
-glued_empty p (r ∷ ps) at qs = ap (λ z. p ∷ z) (glued_empty r ps at qs)
+records_moved d (p ∷ ps) = grind (arith, records_moved d ps)
 
 -- a separator is no byte of a byte order mark
 base_before : (a rest : List ℕ) → base_of (a ++ 0x1E ∷ rest) ≡ base_of a
@@ -62,19 +43,7 @@ base_before _ rest = refl
 
 module _ (a rest : List ℕ) where
   pieces_both : pieces_of (a ++ 0x1E ∷ rest) ≡ pieces_of a ++ map (piece_moved (length a)) (pieces_from 1 rest)
-  pieces_both =
-      let within = base_within a in
-      let (t, ps, e) = pieces_some is_separator (base_of a) (drop (base_of a) a) in
-      let size : base_of a + length (drop (base_of a) a) ≡ length a = omega (arith, within, length-drop (base_of a) a) in
-      ap (λ n. pieces_from n (drop n (a ++ 0x1E ∷ rest))) (base_before a rest)
-      ∙ (ap (pieces_from (base_of a)) (drop-append-le (base_of a) a (0x1E ∷ rest) within)
-      ∙ (pieces_joined is_separator (base_of a) (drop (base_of a) a) (0x1E ∷ rest)
-      ∙ (ap (λ n. glued (pieces_of a) (pieces_from n (0x1E ∷ rest))) size
-      ∙ (ap (glued (pieces_of a)) (pieces_parted is_separator (length a) 0x1E rest refl)
-      ∙ (ap (λ z. glued z (record { at = length a; text = [] } ∷ pieces_from (length a + 1) rest)) e
-      ∙ (glued_empty (record { at = base_of a; text = t }) ps (length a) (pieces_from (length a + 1) rest)
-      ∙ (sym (ap (λ z. z ++ pieces_from (length a + 1) rest) e)
-      ∙ ap (λ z. pieces_of a ++ z) (placed_moved (length a) 1 (slice_split is_separator rest)))))))))
+  pieces_both = file_cut is_separator 0x1E a rest refl (base_before a rest) ∙ ap (λ z. pieces_of a ++ z) (placed_moved (length a) 1 (slice_split is_separator rest))
 
   records_behind : records_of (0x1E ∷ rest) ≡ records_in (pieces_from 1 rest)
   records_behind = ap (λ z. records_in (drop 1 z)) (pieces_parted is_separator 0 0x1E rest refl)
@@ -87,16 +56,11 @@ module _ (a rest : List ℕ) where
   records_both =
       let (t, ps, e) = pieces_some is_separator (base_of a) (drop (base_of a) a) in
       let further : List Piece = map (piece_moved (length a)) (pieces_from 1 rest) in
-      ap (λ z. records_in (drop 1 z)) (pieces_both ∙ ap (λ z. z ++ further) e)
-      ∙ (filter-append (λ (p : Piece). not (are_spaces p.text)) ps further
-      ∙ (ap (λ z. records_in (drop 1 z) ++ records_in further) (sym e)
-      ∙ ap (λ z. records_of a ++ z) (records_moved (length a) (pieces_from 1 rest) ∙ ap (map (piece_moved (length a))) (sym records_behind))))
+      rw (pieces_both, e) (filter-append (λ (p : Piece). not (are_spaces p.text)) ps further
+      ∙ ap (λ z. records_in ps ++ z) (records_moved (length a) (pieces_from 1 rest) ∙ ap (map (piece_moved (length a))) (sym records_behind)))
 
   heads_both : head_faults (pieces_of (a ++ 0x1E ∷ rest)) ≡ head_faults (pieces_of a)
-  heads_both =
-      let (t, ps, e) = pieces_some is_separator (base_of a) (drop (base_of a) a) in
-      let further : List Piece = map (piece_moved (length a)) (pieces_from 1 rest) in
-      ap head_faults (pieces_both ∙ ap (λ z. z ++ further) e) ∙ sym (ap head_faults e)
+  heads_both = let (t, ps, e) = pieces_some is_separator (base_of a) (drop (base_of a) a) in rw (pieces_both, e)
 
 -- ---- features and faults of records
 
@@ -123,13 +87,11 @@ module _ (digits : ℕ) (how : Coords) where
 
   pub features_of_both : SequencesHaveFeaturesOfParts digits how
   features_of_both a b fs gs (rest, e) h k =
-      let second : AreSeqFeatures digits how (0x1E ∷ rest) gs = subst (λ z. AreSeqFeatures digits how z gs) e k in
-      let both = features_joined (records_of a) (map (piece_moved (length a)) (records_of (0x1E ∷ rest))) fs (map (feature_moved (length a)) gs) h (features_moved (length a) (records_of (0x1E ∷ rest)) gs second) in
-      subst (λ z. AreSeqFeatures digits how (a ++ z) (fs ++ map (feature_moved (length a)) gs)) (sym e)
-      (subst (λ z. AreRecordFeatures digits how z (fs ++ map (feature_moved (length a)) gs)) (sym (records_both a rest)) both)
+      rw (e, records_both a rest) (features_joined (records_of a) (map (piece_moved (length a)) (records_of (0x1E ∷ rest))) fs (map (feature_moved (length a)) gs) h
+      (features_moved (length a) (records_of (0x1E ∷ rest)) gs (rw e at k)))
 
   one_moved : (d : ℕ) (r : Piece) (fs : List Fault) → HasRecordFaults digits how r fs → HasRecordFaults digits how (piece_moved d r) (map (fault_moved d) fs)
-  one_moved d r fs (inl (f, h, e)) = inl (fault_moved d f, syntax_moved d r.at r.text f h, ap (map (fault_moved d)) e)
+  one_moved d r fs (inl (f, h, e)) = inl (fault_moved d f, syntax_moved d r.at (JsonText r.at) (JsonText (d + r.at)) (λ v. (json_moved d r.at v).0) (λ v. (json_moved d r.at v).1) r.text f h, ap (map (fault_moved d)) e)
   one_moved d r fs (inr (t, h, e)) = inr (moved d t, text_moved d r.at r.text t h, ap (map (fault_moved d)) e ∙ sym (tree_faults_moved d digits how t))
 
   faults_moved : (d : ℕ) (rs : List Piece) (fs : List Fault) → HaveRecordFaults digits how rs fs → HaveRecordFaults digits how (map (piece_moved d) rs) (map (fault_moved d) fs)
@@ -159,10 +121,7 @@ tree_later digits how t = later_append (twins_of t) (role_faults_of digits how t
 
 stray_later : (at : ℕ) (w : List ℕ) → AreLater (stray_faults at w)
 stray_later at [] = tt
-stray_later at (b ∷ w) = by_test (is_space b) (stray_later (at + 1) w) where
-  by_test : (t : Bool) → AreLater (stray_faults (at + 1) w) → AreLater (if t then stray_faults (at + 1) w else fault_at Syntax at ∷ [])
-  by_test true h = h
-  by_test false h = (omega arith, tt)
+stray_later at (b ∷ w) = grind (arith, stray_later (at + 1) w)
 
 head_later : (ps : List Piece) → AreLater (head_faults ps)
 head_later [] = tt
@@ -170,10 +129,8 @@ head_later (p ∷ ps) = stray_later p.at p.text
 
 records_later : (digits : ℕ) (how : Coords) (rs : List Piece) (fs : List Fault) → HaveRecordFaults digits how rs fs → AreLater fs
 records_later digits how [] fs e = subst AreLater (sym e) tt
-records_later digits how (r ∷ rs) fs (first, others, h, hs, e) = subst AreLater (sym e) (later_append first others (by_case h) (records_later digits how rs others hs)) where
-  by_case : HasRecordFaults digits how r first → AreLater first
-  by_case (inl (f, s, k)) = subst AreLater (sym k) (syntax_later (JsonText r.at) r.at r.text f s, tt)
-  by_case (inr (t, s, k)) = subst AreLater (sym k) (tree_later digits how t)
+records_later digits how (r ∷ rs) fs (first, others, inl (f, h, k), hs, e) = rw (e, k) (syntax_later (JsonText r.at) r.at r.text f h, records_later digits how rs others hs)
+records_later digits how (r ∷ rs) fs (first, others, inr (t, h, k), hs, e) = rw (e, k) (later_append (faults_of digits how t) others (tree_later digits how t) (records_later digits how rs others hs))
 
 -- ---- the first fault
 
@@ -181,39 +138,21 @@ module _ (digits : ℕ) (how : Coords) (a rest : List ℕ) where
   by_encoding : (o p f g : Option Fault) → utf8_fault a ≡ o → utf8_fault (0x1E ∷ rest) ≡ p → HasSeqFaultBehind digits how o a f → HasSeqFaultBehind digits how p (0x1E ∷ rest) g
       → HasSeqFaultBehind digits how (first_fault o (option_map (fault_moved (length a)) p)) (a ++ 0x1E ∷ rest) (first_fault f (option_map (fault_moved (length a)) g))
   by_encoding (Some x) p f g u v h k =
-      let first : (q : Option Fault) → first_fault (Some x) (option_map (fault_moved (length a)) q) ≡ Some x = before_second x u in
-      subst (λ z. HasSeqFaultBehind digits how z (a ++ 0x1E ∷ rest) (first_fault f (option_map (fault_moved (length a)) g))) (sym (first p))
-      (ap (λ z. first_fault z (option_map (fault_moved (length a)) g)) h ∙ first g)
-    where
-      behind : (n : ℕ) → n < length a → (q : Option Fault) → IfSome (option_map (fault_moved (length a)) q) (λ (y : Fault). n < y.at)
-      behind n inside None = tt
-      behind n inside (Some y) = omega (arith, inside)
-
-      before_second : (x : Fault) → utf8_fault a ≡ Some x → (q : Option Fault) → first_fault (Some x) (option_map (fault_moved (length a)) q) ≡ Some x
-      before_second x u q =
-          let (n, e, inside) = encoding_fault a x u in
-          ap (λ z. first_fault (Some z) (option_map (fault_moved (length a)) q)) e ∙ (encoding_first n (option_map (fault_moved (length a)) q) (behind n inside q) ∙ ap (λ z. Some z) (sym e))
+      subst (λ z. HasSeqFaultBehind digits how z (a ++ 0x1E ∷ rest) (first_fault f (option_map (fault_moved (length a)) g))) (sym (first_told a x p u))
+      (ap (λ z. first_fault z (option_map (fault_moved (length a)) g)) h ∙ first_told a x g u)
   by_encoding None (Some y) f g u v (faults, h, e) k =
-      let (n, m, inside) = encoding_fault (0x1E ∷ rest) y v in
-      let later : IsLater f = subst IsLater (sym e) (first_later (head_faults (pieces_of a) ++ faults) (later_append (head_faults (pieces_of a)) faults (head_later (pieces_of a)) (records_later digits how (records_of a) faults h))) in
-      ap (λ z. first_fault f (option_map (fault_moved (length a)) z)) (k ∙ ap (λ z. Some z) m)
-      ∙ (encoding_before f (length a + n) later ∙ ap (λ z. Some (fault_moved (length a) z)) (sym m))
+      let later : AreLater (head_faults (pieces_of a) ++ faults) = later_append (head_faults (pieces_of a)) faults (head_later (pieces_of a)) (records_later digits how (records_of a) faults h) in
+      ap (λ z. first_fault f (option_map (fault_moved (length a)) z)) k ∙ second_told (0x1E ∷ rest) (length a) y f v (subst IsLater (sym e) (first_later (head_faults (pieces_of a) ++ faults) later))
   by_encoding None None f g u v (fs, h, e) (gs, k, i) =
       let heads : List Fault = head_faults (pieces_of a) in
       let further : List Fault = map (fault_moved (length a)) gs in
       let second : g ≡ first_of gs = i ∙ ap (λ z. first_of (z ++ gs)) (heads_behind a rest) in (
         fs ++ further,
-        subst (λ z. HaveRecordFaults digits how z (fs ++ further)) (sym (records_both a rest))
-            (faults_joined digits how (records_of a) (map (piece_moved (length a)) (records_of (0x1E ∷ rest))) fs further h (faults_moved digits how (length a) (records_of (0x1E ∷ rest)) gs k)),
-        ap (λ z. first_fault z (option_map (fault_moved (length a)) g)) e
-            ∙ (ap (λ z. first_fault (first_of (heads ++ fs)) z) (ap (option_map (fault_moved (length a))) second ∙ sym (first_of_moved (length a) gs))
-            ∙ (sym (first_of-append (heads ++ fs) further) ∙ (ap first_of (append_assoc heads fs further) ∙ ap (λ z. first_of (z ++ (fs ++ further))) (sym (heads_both a rest))))),
+        rw (records_both a rest) (faults_joined digits how (records_of a) (map (piece_moved (length a)) (records_of (0x1E ∷ rest))) fs further h (faults_moved digits how (length a) (records_of (0x1E ∷ rest)) gs k)),
+        cc (e, second, first_of_moved (length a) gs, first_of-append (heads ++ fs) further, append_assoc heads fs further, heads_both a rest),
       )
 
 pub faults_of_both : (digits : ℕ) (how : Coords) → SequencesHaveFaultsOfParts digits how
 faults_of_both digits how a b f g (rest, e) h k =
-    let second : HasSeqFault digits how (0x1E ∷ rest) g = subst (λ z. HasSeqFault digits how z g) e k in
-    let cut : IsCutByAscii a (0x1E ∷ rest) = inr (0x1E, rest, refl, omega arith) in
-    let both = by_encoding digits how a rest (utf8_fault a) (utf8_fault (0x1E ∷ rest)) f g refl refl h second in
-    subst (λ z. HasSeqFault digits how (a ++ z) (first_fault f (option_map (fault_moved (length a)) g))) (sym e)
-    (subst (λ z. HasSeqFaultBehind digits how z (a ++ 0x1E ∷ rest) (first_fault f (option_map (fault_moved (length a)) g))) (sym (encoding_of_both a (0x1E ∷ rest) cut)) both)
+    let both = encoding_of_both a (0x1E ∷ rest) (inr (0x1E, rest, refl, omega arith)) in
+    rw (e, both) (by_encoding digits how a rest (utf8_fault a) (utf8_fault (0x1E ∷ rest)) f g refl refl h (rw e at k))

@@ -1,21 +1,18 @@
 -- The answer over two lists of features, from the answers over each.
 -- For `answers_sum_up`.
-use Rattle.std.proofs.Common.{◌≡◌, ℤ, List, ◌++◌, length, map, Option, Some, None, arith, refl, sym, ap, ◌∙◌, subst, length-append}
-use Rattle.std.specs.Prelude.{pos}
+use Rattle.std.proofs.Common.{◌≡◌, List, ◌++◌, map, Option, Some, None, arith, refl, sym, ap, ◌∙◌, length-append}
 use Rattle.std.proofs.lemmas.Int.{ints}
 use Rattle.std.proofs.lemmas.List.{map-append}
 use Rattle.std.proofs.lemmas.Grind.{flat_map-append}
-use Rattle.at_geom.specs.declared.positions.Pos.{Pos}
 use Rattle.at_geom.specs.declared.rectangles.Extent.{Extent}
 use Rattle.at_geom.specs.Regions.{doubled_area, sum_of}
 use Rattle.at_geom.specs.Shapes.{positions, extent_of}
-use Rattle.at_hull.specs.Hulls.{IsHull}
 use Rattle.at_hull.proofs.Laws.{hull_of_both}
 use Rattle.at_query.specs.declared.query.queries.Verb.{Verb}
 use Rattle.at_query.specs.declared.query.queries.Verb.TheVariants as verbs
 use Rattle.at_query.specs.declared.features.Feature.{Feature}
 use Rattle.at_query.specs.declared.answer.answers.Answer.{Answer}
-use Rattle.at_query.specs.declared.answer.answers.Answer.TheVariants.{Offsets, Number, Spread, Hull}
+use Rattle.at_query.specs.declared.answer.answers.Answer.TheVariants.{Offsets, Number, Spread}
 use Rattle.at_query.specs.Holding.{Holds}
 use Rattle.at_query.specs.Joined.{around_both}
 use Rattle.at_query.specs.Results.{all_positions, all_polygons, IsAskedOf}
@@ -29,35 +26,18 @@ same_extent None e = refl
 same_extent (Some d) None = refl
 same_extent (Some d) (Some e) = refl
 
--- both answers put in place
-put : (a b both x y : Answer) → a ≡ x → b ≡ y → IsOfBoth a b both → IsOfBoth x y both
-put a b both x y p q h = subst (λ z. IsOfBoth z y both) p (subst (λ z. IsOfBoth a z both) q h)
-
 asked_of_both : (verb : Verb) (xs ys : List Feature) (a b both : Answer) → IsAskedOf verb xs a → IsAskedOf verb ys b → IsOfBoth a b both → IsAskedOf verb (xs ++ ys) both
-asked_of_both verbs.Select xs ys a b both e f h =
-    put a b both (Offsets (map (λ (f : Feature). f.at) xs)) (Offsets (map (λ (f : Feature). f.at) ys)) e f h
-    ∙ ap Offsets (sym (map-append (λ (f : Feature). f.at) xs ys))
-asked_of_both verbs.Count xs ys a b both e f h =
-    put a b both (Number (pos (length xs))) (Number (pos (length ys))) e f h ∙ ap Number (omega (arith, ints, length-append xs ys))
+asked_of_both verbs.Select xs ys a b both e f h = (rw (e, f) at h) ∙ ap Offsets (sym (map-append (λ (f : Feature). f.at) xs ys))
+asked_of_both verbs.Count xs ys a b both e f h = (rw (e, f) at h) ∙ ap Number (omega (arith, ints, length-append xs ys))
 asked_of_both verbs.Area xs ys a b both e f h =
-    let m : List ℤ = map doubled_area (all_polygons xs) in
-    let n : List ℤ = map doubled_area (all_polygons ys) in
-    put a b both (Number (sum_of m)) (Number (sum_of n)) e f h
-    ∙ ap Number (sym (sum_of-append m n) ∙ ap sum_of (sym (map-append doubled_area (all_polygons xs) (all_polygons ys)))
+    (rw (e, f) at h) ∙ ap Number (sym (sum_of-append (map doubled_area (all_polygons xs)) (map doubled_area (all_polygons ys))) ∙ ap sum_of (sym (map-append doubled_area (all_polygons xs) (all_polygons ys)))
     ∙ ap (λ l. sum_of (map doubled_area l)) (sym (flat_map-append (λ (f : Feature). f.shape.polygons) xs ys)))
 asked_of_both verbs.Extent xs ys a b both e f h =
-    let ps : List Pos = all_positions xs in
-    let qs : List Pos = all_positions ys in
-    put a b both (Spread (extent_of ps)) (Spread (extent_of qs)) e f h
-    ∙ ap Spread (same_extent (extent_of ps) (extent_of qs) ∙ sym (extent_of-append ps qs)
+    (rw (e, f) at h) ∙ ap Spread (same_extent (extent_of (all_positions xs)) (extent_of (all_positions ys)) ∙ sym (extent_of-append (all_positions xs) (all_positions ys))
     ∙ ap extent_of (sym (flat_map-append (λ (f : Feature). positions f.shape) xs ys)))
 asked_of_both verbs.Hull xs ys a b both (k, e, u) (l, f, v) h =
-    let (m, same, hull) = put a b both (Hull k) (Hull l) e f h in (
-      m,
-      same,
-      subst (λ ps. IsHull ps m) (sym (flat_map-append (λ (f : Feature). positions f.shape) xs ys))
-          (hull_of_both (all_positions xs) (all_positions ys) k l m u v hull),
-    )
+    let (m, same, hull) = rw (e, f) at h in
+    (m, same, rw (flat_map-append (λ (f : Feature). positions f.shape) xs ys) (hull_of_both (all_positions xs) (all_positions ys) k l m u v hull))
 asked_of_both verbs.Join xs ys a b both e f h = absurd e
 
 pub sums_up : AnswersSumUp

@@ -4,11 +4,11 @@ use Rattle.std.proofs.Common.{◌≡◌, ℕ, List, [], ◌∷◌, ◌++◌, IsT
 use Rattle.at_text.specs.Texts.{is_space}
 use Rattle.at_lex.specs.Strings.{Character}
 use Rattle.at_lex.specs.Spans.{AreSpaces}
-use Rattle.at_nest.specs.Tree.{Tree, literal, number, text, array, object, Trees, Members, Spells, SpellsItems, SpellsMembers, SpellsFurtherMembers, IsTextOf}
+use Rattle.at_nest.specs.Tree.{Tree, object, Trees, Members, Spells, SpellsItems, SpellsMembers, SpellsFurtherMembers, IsTextOf}
 use Rattle.at_nest.proofs.TreeParts.{text_parts, text_made, object_parts, object_made}
-use Rattle.at_nest.proofs.OneTree.{tail, clash, same_front, starts, no_space_first, inner}
+use Rattle.at_nest.proofs.OneTree.{kind, tail, clash, same_front, starts, no_space_first, inner}
 use Rattle.at_geojson.specs.Names.{is_named, member_named}
-use Rattle.at_parts.proofs.Fronts.{Opened, Inside, all_members, opened_parts, opened_made, kind_is}
+use Rattle.at_parts.proofs.Fronts.{Opened, Closing, all_members, opened_parts, opened_made, kind_is}
 use Rattle.at_parts.proofs.CommaItems.{spaces_before, spaces_off}
 
 -- white space, the bracket of the object, the members before the features and the name of these, and white space
@@ -31,16 +31,6 @@ pub record Front (at : ℕ) (w : List ℕ) : Type 0 where
 abbrev pub members_of : (at : ℕ) (w : List ℕ) → Front at w → Trees → Members → Members
 members_of at w f ts more = all_members f.name f.name_at f.array_at f.members ts more
 
--- what stands behind the array of the features
-pub record Closing (more : Members) (at : ℕ) (w : List ℕ) : Type 0 where
-  pub spaces : List ℕ
-  pub others : List ℕ
-  pub end : List ℕ
-  pub split : w ≡ spaces ++ (others ++ (0x7D ∷ end))
-  pub are_spaces : AreSpaces spaces
-  pub are_end : AreSpaces end
-  pub further : SpellsFurtherMembers (at + length spaces) others more
-
 -- what stands behind the front, where both are the text of the tree
 pub record Whole (at : ℕ) (w : List ℕ) (f : Front at w) (r : List ℕ) (t : Tree) : Type 0 where
   pub items : Trees
@@ -53,35 +43,15 @@ pub record Whole (at : ℕ) (w : List ℕ) (f : Front at w) (r : List ℕ) (t : 
   pub is : t ≡ object (at + length f.before) (members_of at w f items more)
 
 is_object : (u : Tree) (at : ℕ) (v y r : List ℕ) → Spells at v u → 0x7B ∷ r ≡ v ++ y → (ms : Members) × (w : List ℕ) × (u ≡ object at ms) × (v ≡ 0x7B ∷ (w ++ 0x7D ∷ [])) × SpellsMembers (at + 1) w ms × (r ≡ w ++ (0x7D ∷ y))
-is_object (literal i l) at v y r h e = clash 3 4 refl (kind_is (literal i l) at 0x7B v y r h e)
-is_object (number i m) at v y r h e = clash 3 4 refl (kind_is (number i m) at 0x7B v y r h e)
-is_object (text i cs) at v y r h e = clash 3 1 refl (kind_is (text i cs) at 0x7B v y r h e)
-is_object (array i ts) at v y r h e = clash 3 2 refl (kind_is (array i ts) at 0x7B v y r h e)
 is_object (object i ms) at v y r h e = let (f, (w, g, k)) = object_parts ms i at v h in (ms, w, ap (λ o. object o ms) f, g, k, ap tail (e ∙ inner 0x7D v w y 0x7B g))
+is_object u at v y r h e = clash 3 (kind u) refl (kind_is u at 0x7B v y r h e)
 
 module _ (at : ℕ) (w : List ℕ) (f : Front at w) where
   front_on : (r : List ℕ) → w ++ r ≡ f.before ++ (0x7B ∷ (f.opened ++ (f.last ++ r)))
-  front_on r = ap (λ o. o ++ r) f.split ∙ (append_assoc f.before (0x7B ∷ (f.opened ++ f.last)) r ∙ ap (λ o. f.before ++ (0x7B ∷ o)) (append_assoc f.opened f.last r))
+  front_on r = rw f.split (simp append_assoc)
 
   front_size : at + length f.before + 1 + length f.opened + length f.last ≡ at + length w
-  front_size = let size : length w ≡ length f.before + (1 + (length f.opened + length f.last)) = ap length f.split ∙ (simp length-append (omega arith)) in omega (arith, size)
-
-  whole_from : (r : List ℕ) (us : Members) (z : List ℕ) (t : Tree) → AreSpaces z → t ≡ object (at + length f.before) us → Inside f.name f.name_at f.array_at f.members (at + length f.before + 1 + length f.opened) (f.last ++ r) us z → Whole at w f r t
-  whole_from r us z t hz e h =
-      let (v, g, k, s) = spaces_off f.last f.are_last (at + length f.before + 1 + length f.opened) r h.features (h.spaces ++ (h.others ++ (0x7D ∷ z))) h.items h.spelled h.split in
-      let size : length h.features ≡ length f.last + length v = ap length g ∙ length-append f.last v in
-      let front : at + length f.before + 1 + length f.opened + length f.last ≡ at + length w = front_size in
-      let place : at + length f.before + 1 + length f.opened + length h.features + 1 ≡ at + length w + length v + 1 = omega (arith, size, front) in
-      record {
-        items = h.items;
-        more = h.more;
-        features = v;
-        behind = h.spaces ++ (h.others ++ (0x7D ∷ z));
-        split = s;
-        spelled = subst (λ o. SpellsItems o v h.items) front k;
-        closes = record { spaces = h.spaces; others = h.others; end = z; split = refl; are_spaces = h.are_spaces; are_end = hz; further = subst (λ o. SpellsFurtherMembers (o + length h.spaces) h.others h.more) place h.further };
-        is = e ∙ ap (object (at + length f.before)) h.is;
-      }
+  front_size = omega (arith, length-append {A = ℕ}, ap length f.split)
 
   pub whole_parts : (r : List ℕ) (t : Tree) → IsTextOf at (w ++ r) t → Whole at w f r t
   whole_parts r t h =
@@ -91,8 +61,19 @@ module _ (at : ℕ) (w : List ℕ) (f : Front at w) where
       let (us, x, et, ev, hx, rest) = is_object t (at + length c) v (d ++ q) (f.opened ++ (f.last ++ r)) hv s.1 in
       let hx2 : SpellsMembers (at + length f.before + 1) x us = subst (λ o. SpellsMembers (at + length o + 1) x us) (sym s.0) hx in
       let ends : d ≡ d ++ q = sym (ap (λ o. d ++ o) hq ∙ append-nil d) in
-      whole_from r us (d ++ q) t (subst AreSpaces ends hd) (et ∙ ap (λ o. object (at + length o) us) (sym s.0))
-      (opened_parts f.name f.name_at f.array_at f.members (at + length f.before + 1) f.opened (f.last ++ r) f.opens us x (d ++ q) hx2 rest)
+      let (items, more, h, is) = opened_parts f.name f.name_at f.array_at f.members (at + length f.before + 1) f.opened (f.last ++ r) f.opens us x (d ++ q) (subst AreSpaces ends hd) hx2 rest in
+      let (z, g, k, behind) = spaces_off f.last f.are_last (at + length f.before + 1 + length f.opened) r h.features h.behind items h.spelled h.split in
+      let place : at + length f.before + 1 + length f.opened + length h.features + 1 ≡ at + length w + length z + 1 = omega (arith, ap length g, length-append f.last z, front_size) in
+      record {
+        items = items;
+        more = more;
+        features = z;
+        behind = h.behind;
+        split = behind;
+        spelled = subst (λ o. SpellsItems o z items) front_size k;
+        closes = subst (λ o. Closing more o h.behind) place h.closes;
+        is = cc (et, s.0, is);
+      }
 
   pub whole_made : (r : List ℕ) (items : Trees) (more : Members) (features behind : List ℕ) → r ≡ features ++ (0x5D ∷ behind) → SpellsItems (at + length w) features items → Closing more (at + length w + length features + 1) behind
       → IsTextOf at (w ++ r) (object (at + length f.before) (members_of at w f items more))
@@ -100,23 +81,10 @@ module _ (at : ℕ) (w : List ℕ) (f : Front at w) where
       let here : ℕ = at + length f.before + 1 + length f.opened in
       let front : here + length f.last ≡ at + length w = front_size in
       let inside : List ℕ = f.last ++ features in
-      let size : length (f.last ++ features) ≡ length f.last + length features = length-append f.last features in
-      let place : at + length w + length features + 1 + length c.spaces ≡ here + length (f.last ++ features) + 1 + length c.spaces = omega (arith, size, front) in
+      let place : at + length w + length features + 1 + length c.spaces ≡ here + length (f.last ++ features) + 1 + length c.spaces = omega (arith, length-append f.last features, front) in
       let body : List ℕ = f.opened ++ (inside ++ (0x5D ∷ (c.spaces ++ c.others))) in
       let members = opened_made f.name f.name_at f.array_at items more inside c.spaces c.others f.members (at + length f.before + 1) f.opened f.opens
       (spaces_before f.last f.are_last here features items (subst (λ o. SpellsItems o features items) (sym front) h)) c.are_spaces (subst (λ o. SpellsFurtherMembers o c.others more) place c.further) in
-      let bytes : w ++ r ≡ f.before ++ ((0x7B ∷ (body ++ 0x7D ∷ [])) ++ (c.end ++ [])) = front_on r ∙ ap (λ o. f.before ++ (0x7B ∷ (f.opened ++ (f.last ++ o)))) (e ∙ ap (λ o. features ++ (0x5D ∷ o)) c.split) ∙ sides f.before f.opened f.last features c.spaces c.others c.end in
-      text_made (object (at + length f.before) (members_of at w f items more)) at (w ++ r) (
-        f.before,
-        0x7B ∷ (body ++ 0x7D ∷ []),
-        c.end,
-        [],
-        bytes,
-        f.are_before,
-        c.are_end,
-        object_made (members_of at w f items more) (at + length f.before) (at + length f.before) (0x7B ∷ (body ++ 0x7D ∷ [])) (refl, (body, refl, members)),
-        refl,
-      )
-    where
-      sides : (a f l v s o z : List ℕ) → a ++ (0x7B ∷ (f ++ (l ++ (v ++ (0x5D ∷ (s ++ (o ++ (0x7D ∷ z)))))))) ≡ a ++ ((0x7B ∷ ((f ++ ((l ++ v) ++ (0x5D ∷ (s ++ o)))) ++ 0x7D ∷ [])) ++ (z ++ []))
-      sides a f l v s o z = simp (append_assoc, append-nil) refl
+      let bytes : w ++ r ≡ f.before ++ ((0x7B ∷ (body ++ 0x7D ∷ [])) ++ (c.end ++ [])) = front_on r ∙ ap (λ o. f.before ++ (0x7B ∷ (f.opened ++ (f.last ++ o)))) (e ∙ ap (λ o. features ++ (0x5D ∷ o)) c.split) ∙ (simp (append_assoc, append-nil)) in
+      let spelled = object_made (members_of at w f items more) (at + length f.before) (at + length f.before) (0x7B ∷ (body ++ 0x7D ∷ [])) (refl, (body, refl, members)) in
+      text_made (object (at + length f.before) (members_of at w f items more)) at (w ++ r) (f.before, 0x7B ∷ (body ++ 0x7D ∷ []), c.end, [], bytes, f.are_before, c.are_end, spelled, refl)

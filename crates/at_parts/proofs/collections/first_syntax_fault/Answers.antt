@@ -1,6 +1,5 @@
 use Rattle.at_parts.proofs.FirstFaults.{first_syntax_fault}
 use Rattle.at_parts.proofs.collections.first_syntax_fault.Goals as goal
 
--- src/collections.rt:16:1
 pub returns : goal.returns
 returns c = first_syntax_fault

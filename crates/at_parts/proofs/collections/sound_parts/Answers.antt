@@ -1,6 +1,5 @@
 use Rattle.at_parts.proofs.Files.{sound_parts}
 use Rattle.at_parts.proofs.collections.sound_parts.Goals as goal
 
--- src/collections.rt:9:1
 pub returns : goal.returns
 returns c = sound_parts
