@@ -7,11 +7,8 @@ use Rattle.at_text.specs.Spans.{StandsAt, AreNeighbours}
 use Rattle.at_run.specs.Places.{first_place, last_place}
 
 -- neighbouring places, and how far they go
-pub place_order : (places : List ℕ) (i j : ℕ) → IsNonDecreasing places → i ≤ j → j < length places → slice_index places i ≤ slice_index places j
-place_order places i j h le inside = h i j 0 le inside
-
 pub place_within : (places : List ℕ) (i size : ℕ) → IsNonDecreasing places → i < length places → last_place places ≤ size → slice_index places i ≤ size
-place_within places i size h inside le = let o = h i (length places - 1) 0 (omega (arith, inside)) (omega (arith, inside)) in omega (arith, o, le)
+place_within places i size h inside le = omega (arith, h i (length places - 1) 0 (omega (arith, inside)) (omega (arith, inside)), le)
 
 -- the blocks so far and the next one are neighbours
 pub next_neighbours : {F : Type 0} (Stands : ℕ → List ℕ → F → Type 0) (bytes places : List ℕ) (i : ℕ) (whole block : F) → IsNonDecreasing places → last_place places ≤ length bytes → i + 1 < length places
@@ -19,8 +16,8 @@ pub next_neighbours : {F : Type 0} (Stands : ℕ → List ℕ → F → Type 0) 
     → StandsAt Stands bytes (slice_index places i) (slice_index places (i + 1)) block
     → AreNeighbours Stands bytes (first_place places) (slice_index places i) (slice_index places (i + 1)) whole block
 next_neighbours Stands bytes places i whole block order within inside h k = record {
-  first = place_order places 0 i order (omega arith) (omega (arith, inside));
-  second = place_order places i (i + 1) order (omega arith) inside;
+  first = order 0 i 0 (omega arith) (omega (arith, inside));
+  second = order i (i + 1) 0 (omega arith) inside;
   within = place_within places (i + 1) (length bytes) order inside within;
   left = h;
   right = k;

@@ -18,9 +18,6 @@ even_rises base len count i j some le =
 
 module _ (base len blocks count : ℕ) (places : List ℕ) (order : base ≤ len) (least : IsLeastCount blocks count) (counted : length places ≡ count + 1)
     (each : (i : ℕ) → i ≤ count → slice_index places i ≡ even_place base len count i) where
-  abbrev some : 0 < count
-  some = (some_blocks count least.is_count).0
-
   rises : (i j : ℕ) → i ≤ j → j < length places → get_or places i 0 ≤ get_or places j 0
   rises i j le inside =
       let last : j ≤ count = omega (arith, counted, inside) in

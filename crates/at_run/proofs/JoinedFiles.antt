@@ -13,7 +13,7 @@ use Rattle.at_query.specs.declared.answer.answers.Answer.TheVariants.{Pairs}
 use Rattle.at_query.specs.Holding.{Holds}
 use Rattle.at_query.specs.Results.{Keeps, pairs_of, Joins, at_pair, IsJoined}
 use Rattle.at_query.specs.Parts.{entry_of, IsPart, AreProper, AreProperFeatures}
-use Rattle.at_query.proofs.KeptLists.{keeps-append}
+use Rattle.at_query.proofs.KeptLists.{keeps-append, keeps_parts}
 use Rattle.at_query.proofs.ProperEntries.{entries_are_proper}
 use Rattle.at_join.specs.Meetings.{Meeting, at_entries, IsAllPairs}
 use Rattle.at_run.specs.declared.forms.Form.{Form}
@@ -30,18 +30,11 @@ unmapped P h [] ks e = ([], refl, e)
 unmapped P h (x ∷ xs) ks (inl (p, (zs, e, r))) = let (js, k, same) = unmapped P h xs zs r in (x ∷ js, inl (p, (js, refl, k)), e ∙ ap (λ l. h x ∷ l) same)
 unmapped P h (x ∷ xs) ks (inr (n, r)) = let (js, k, same) = unmapped P h xs ks r in (js, inr (n, k), same)
 
-kept_apart : {X : Type 0} (P : X → Type 0) (xs ys ks : List X) → Keeps P (xs ++ ys) ks → (us vs : List X) × Keeps P xs us × Keeps P ys vs × (ks ≡ us ++ vs)
-kept_apart P [] ys ks h = ([], ks, refl, h, refl)
-kept_apart P (x ∷ xs) ys ks (inl (p, (zs, e, r))) = let (us, vs, hu, hv, same) = kept_apart P xs ys zs r in (x ∷ us, vs, inl (p, (us, refl, hu)), hv, e ∙ ap (λ l. x ∷ l) same)
-kept_apart P (x ∷ xs) ys ks (inr (n, r)) = let (us, vs, hu, hv, same) = kept_apart P xs ys ks r in (us, vs, inr (n, hu), hv, same)
-
 -- a query without tests holds of each
 all_kept : (query : Query) (fs kept : List Feature) → query.tests ≡ [] → Keeps (Holds query) fs kept → kept ≡ fs
 all_kept query [] kept none h = h
 all_kept query (f ∷ fs) kept none (inl (p, (zs, e, r))) = e ∙ ap (λ l. f ∷ l) (all_kept query fs zs none r)
-all_kept query (f ∷ fs) kept none (inr (n, r)) = absurd (n (holds query f none)) where
-  holds : (query : Query) (f : Feature) → query.tests ≡ [] → Holds query f
-  holds query f none = rw none tt
+all_kept query (f ∷ fs) kept none (inr (n, r)) = absurd (n (rw none tt))
 
 -- ---- pairs of features and of their entries
 
@@ -81,12 +74,10 @@ module _ (query : Query) where
   row_dropped f (g ∷ gs) n = inr (λ j. n j.0, row_dropped f gs n)
 
   pairs_kept : (fs kept gs : List Feature) (ks : List (Feature × Feature)) → Keeps (Holds query) fs kept → Keeps Met (pairs_of kept gs) ks → Keeps (Joins query) (pairs_of fs gs) ks
-  pairs_kept [] kept gs ks e k = let P : List Feature → Type 0 = λ l. Keeps Met (pairs_of l gs) ks in subst P e k
+  pairs_kept [] kept gs ks e k = rw e at k
   pairs_kept (f ∷ fs) kept gs ks (inl (p, (zs, e, r))) k =
-      let P : List Feature → Type 0 = λ l. Keeps Met (pairs_of l gs) ks in
-      let (us, vs, hu, hv, same) = kept_apart Met (row f gs) (pairs_of zs gs) ks (subst P e k) in
-      subst (Keeps (Joins query) (row f gs ++ pairs_of fs gs)) (sym same)
-      (keeps-append (Joins query) (row f gs) (pairs_of fs gs) us vs (row_kept f gs us p hu) (pairs_kept fs zs gs vs r hv))
+      let (us, vs, same, hu, hv) = keeps_parts Met (row f gs) (pairs_of zs gs) ks (rw e at k) in
+      rw same (keeps-append (Joins query) (row f gs) (pairs_of fs gs) us vs (row_kept f gs us p hu) (pairs_kept fs zs gs vs r hv))
   pairs_kept (f ∷ fs) kept gs ks (inr (n, r)) k = keeps-append (Joins query) (row f gs) (pairs_of fs gs) [] ks (row_dropped f gs n) (pairs_kept fs kept gs ks r k)
 
   pub all_pairs_joined : (all : Query) (fs gs : List Feature) (es hs : List Entry) (ps : List Pair) → query.verb ≡ verbs.Join → all.verb ≡ verbs.Join → all.tests ≡ []
@@ -96,9 +87,8 @@ module _ (query : Query) where
       let second : Entries hs ≡ Entries (map entry_of others) = rw join_second at i in
       let same_first : es ≡ map entry_of kept = cc in
       let same_second : hs ≡ map entry_of gs = (let every = all_kept all gs others none also in let h : hs ≡ map entry_of others = cc in h ∙ ap (map entry_of) every) in
-      let P : List (Entry × Entry) → Type 0 = λ l. Keeps Meeting l ks in
       let listed : pairs_of es hs ≡ map both_entries (pairs_of kept gs) = ap (λ l. pairs_of l hs) same_first ∙ (ap (λ l. pairs_of (map entry_of kept) l) same_second ∙ pairs_of_entries kept gs) in
-      let (js, met, mapped) = unmapped Meeting both_entries (pairs_of kept gs) ks (subst P listed found) in
+      let (js, met, mapped) = unmapped Meeting both_entries (pairs_of kept gs) ks (rw listed at found) in
       (js, pairs_kept fs kept gs js keeps met, ap Pairs (is ∙ (ap (map at_entries) mapped ∙ offsets_of_entries js)))
 
 module _ (digits : ℕ) (how : Coords) where

@@ -1,13 +1,11 @@
 -- What a file of GeoJSON ends in, from what its text and its tree end in.
 -- For `answer`, `answer_join`, `finish_json`, `finish_pieces` and `part`.
-use Rattle.std.proofs.Common.{◌≡◌, ℕ, ◌+◌, List, ◌∷◌, [], length, drop, Option, Some, None, Result, Ok, Err, MatchResult, inl, inr, refl, sym, ap, subst, arith, length-drop}
+use Rattle.std.proofs.Common.{◌≡◌, ℕ, ◌+◌, List, ◌∷◌, [], length, drop, Some, None, Result, Ok, Err, MatchResult, inl, inr, refl, sym, ap, arith, length-drop}
 use Rattle.at_text.specs.Faults.{fault_at, first_of}
 use Rattle.at_text.specs.Texts.{base_of, utf8_fault}
-use Rattle.at_text.specs.declared.faults.Fault.{Fault}
 use Rattle.at_text.specs.declared.faults.FaultKind.TheVariants as kinds
 use Rattle.at_nest.specs.Tree.{Tree}
 use Rattle.at_nest.specs.TextAnswers.{Answers, IsEnd}
-use Rattle.at_nest.specs.Syntax.{HasJsonFault}
 use Rattle.at_nest.specs.declared.finishing.NestEnd.{NestEnd}
 use Rattle.at_nest.specs.declared.finishing.NestEnd.TheVariants as texts
 use Rattle.at_query.specs.declared.answer.parts.Part.{Part}
@@ -23,42 +21,29 @@ use Rattle.at_run.specs.declared.faults.RunFault.{RunFault}
 use Rattle.at_run.specs.declared.faults.RunFault.TheVariants.{Found, Memory}
 use Rattle.at_run.specs.declared.forms.Form.TheVariants.{GeoJson}
 use Rattle.at_run.specs.Answers.{IfFound, IsFilePart}
-use Rattle.at_run.specs.JsonFiles.{HasJsonFaultBehind, HasJsonFileFault, EndsJson, text_end, root_end}
+use Rattle.at_run.specs.JsonFiles.{HasJsonFileFault, EndsJson, text_end, root_end}
 
 module _ (asked : Asked) (bytes : List ℕ) where
-  abbrev Ends : Result Part RunFault → Type 0
-  Ends end = EndsJson asked.digits asked.how asked.query bytes end
-
   pub tree_answered : (atom : GeoAtom) (end : Result Part RootEnd) → Answers (IsGeoAtom asked) (base_of bytes) (drop (base_of bytes) bytes) (Ok atom)
       → ((t : Tree) → IsFold asked atom t → IsAnswer asked t end) → EndsJson asked.digits asked.how asked.query bytes (root_end end)
   tree_answered atom (Ok part) (t, (is, only), (own, fold)) h = let (none, part_is) = h t fold in (t, is, none, part_is)
   tree_answered atom (Err (roots.Found fault)) (t, (is, only), (own, fold)) h = (faults_of asked.digits asked.how t, inr (t, is, refl), sym (h t fold))
   tree_answered atom (Err roots.Memory) a h = tt
 
-  one_fault : (fault : Fault) → HasJsonFault bytes (Some fault) → EndsJson asked.digits asked.how asked.query bytes (Err (Found fault))
-  one_fault fault h = (fault ∷ [], inl (fault, h, refl), refl)
-
   pub text_ended : (end : NestEnd) (len : ℕ) → len ≡ length bytes → IsEnd (base_of bytes) (drop (base_of bytes) bytes) end → EndsJson asked.digits asked.how asked.query bytes (Err (text_end len end))
-  text_ended (texts.Syntax place) len same h = one_fault (fault_at kinds.Syntax place) h
+  text_ended (texts.Syntax place) len same h = (fault_at kinds.Syntax place ∷ [], inl (fault_at kinds.Syntax place, h, refl), refl)
   text_ended texts.Ended len same h =
-      let within = base_within bytes in
-      let left = length-drop (base_of bytes) bytes in
-      let place : base_of bytes + length (drop (base_of bytes) bytes) ≡ len = omega (arith, within, left, same) in
-      let P : ℕ → Type 0 = λ n. HasJsonFault bytes (Some (fault_at kinds.Ended n)) in
-      one_fault (fault_at kinds.Ended len) (subst P place h)
+      let place : base_of bytes + length (drop (base_of bytes) bytes) ≡ len = omega (arith, base_within bytes, length-drop (base_of bytes) bytes, same) in
+      (fault_at kinds.Ended len ∷ [], inl (fault_at kinds.Ended len, rw place at h, refl), refl)
   text_ended texts.Memory len same h = tt
 
   pub json_ended : (end : Result Part RunFault) → utf8_fault bytes ≡ None → EndsJson asked.digits asked.how asked.query bytes end
       → MatchResult end (IsFilePart GeoJson asked.digits asked.how asked.query bytes) (λ run. IfFound run (λ fault. HasJsonFileFault asked.digits asked.how bytes (Some fault)))
-  json_ended (Ok part) valid (t, is, none, part_is) =
-      let P : Option Fault → Type 0 = λ o. HasJsonFaultBehind asked.digits asked.how o bytes None in
-      record {
-        faultless = subst P (sym valid) (faults_of asked.digits asked.how t, inr (t, is, refl), sym (ap first_of none));
-        features = features_of asked.digits asked.how t;
-        are_features = (t, is, refl);
-        is_part = part_is;
-      }
-  json_ended (Err (Found fault)) valid h =
-      let P : Option Fault → Type 0 = λ o. HasJsonFaultBehind asked.digits asked.how o bytes (Some fault) in
-      subst P (sym valid) h
+  json_ended (Ok part) valid (t, is, none, part_is) = record {
+    faultless = rw valid (faults_of asked.digits asked.how t, inr (t, is, refl), sym (ap first_of none));
+    features = features_of asked.digits asked.how t;
+    are_features = (t, is, refl);
+    is_part = part_is;
+  }
+  json_ended (Err (Found fault)) valid h = rw valid h
   json_ended (Err Memory) valid h = tt

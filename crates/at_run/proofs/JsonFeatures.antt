@@ -11,15 +11,15 @@ use Rattle.at_text.specs.declared.faults.FaultKind.TheVariants.{Form}
 use Rattle.at_text.specs.Faults.{fault_at}
 use Rattle.at_text.specs.Texts.{utf8_fault}
 use Rattle.at_fixed.specs.declared.rounding.Coords.{Coords}
-use Rattle.at_geom.specs.Segments.{IsInRange}
 use Rattle.at_geom.specs.Shapes.{IsShapeInRange}
-use Rattle.at_lex.specs.Runs.{the_null, the_true, the_false}
+use Rattle.at_lex.specs.Runs.{the_null}
+use Rattle.at_lex.specs.Strings.{Character}
 use Rattle.at_wkt.specs.Geometry as wkt
-use Rattle.at_wkt.specs.Meaning.{empty_shape, shape_of, faults_of as geometry_faults}
-use Rattle.at_nest.specs.Tree.{Tree, literal, number, text, array, object, Trees, no_trees, tree_and, Members, no_members, member_and, offset_of, Spells, SpellsItems, SpellsFurtherItems, SpellsMembers, SpellsFurtherMembers, IsTextOf}
+use Rattle.at_wkt.specs.Meaning.{shape_of, faults_of as geometry_faults}
+use Rattle.at_nest.specs.Tree.{Tree, literal, array, object, Trees, no_trees, tree_and, Members, no_members, member_and, offset_of, Spells, SpellsItems, SpellsFurtherItems, SpellsMembers, SpellsFurtherMembers, IsTextOf}
 use Rattle.at_nest.specs.Syntax.{IsFileOf}
 use Rattle.at_nest.specs.Twins.{twins_of}
-use Rattle.at_nest.proofs.TreeParts.{items_parts, further_items_parts, members_parts, further_members_parts, array_parts, object_parts, text_parts}
+use Rattle.at_nest.proofs.TreeParts.{items_parts, members_parts, after_parts, array_parts, object_parts, text_parts}
 use Rattle.at_nest.proofs.OneTree.{one_tree}
 use Rattle.at_query.specs.declared.features.Feature.{Feature}
 use Rattle.at_query.specs.Ranges.{IsFeatureInRange, AreFeaturesInRange}
@@ -29,7 +29,7 @@ use Rattle.at_scan.specs.declared.kinds.Kind.{Kind}
 use Rattle.at_scan.specs.declared.kinds.Kind.TheVariants as kinds
 use Rattle.at_geojson.specs.Names.{is_named, member_named, kind_of, items_of}
 use Rattle.at_geojson.specs.Coordinates.{geometry_of}
-use Rattle.at_geojson.specs.Roles.{GeometryRead, not_geometry, both_read, Features, not_features, all_features, feature_of, properties_texts, properties_faults, coordinates_reading, kind_reading, geometry_reading, collection_reading, geometries_reading, items_reading, geometry_member_reading, feature_reading, if_feature, item_reading, features_reading, root_of_kind, root_reading, features_of, role_faults_of}
+use Rattle.at_geojson.specs.Roles.{GeometryRead, not_geometry, both_read, Features, not_features, all_features, coordinates_reading, kind_reading, geometry_reading, collection_reading, geometries_reading, items_reading, geometry_member_reading, feature_reading, if_feature, item_reading, features_reading, root_of_kind, root_reading, features_of, role_faults_of}
 use Rattle.at_geojson.specs.Wholes.{faults_of}
 use Rattle.at_run.specs.JsonFiles.{HasJsonFaultBehind, HasJsonFileFault}
 use Rattle.at_run.proofs.ProperFeatures.{empties, not_empty, no_first, HasClosedRings, geometry_closed, at_of}
@@ -67,20 +67,12 @@ module _ (digits : ℕ) (how : Coords) where
   kind_proper at ms collected (Some kinds.FeatureCollection) h = no_geometry at
   kind_proper at ms collected (Some kinds.Feature) h = no_geometry at
   kind_proper at ms collected (Some kinds.GeometryCollection) h = h
-  kind_proper at ms collected (Some kinds.Point) h = coordinates_proper at kinds.Point (member_named (codes "coordinates") ms)
-  kind_proper at ms collected (Some kinds.MultiPoint) h = coordinates_proper at kinds.MultiPoint (member_named (codes "coordinates") ms)
-  kind_proper at ms collected (Some kinds.LineString) h = coordinates_proper at kinds.LineString (member_named (codes "coordinates") ms)
-  kind_proper at ms collected (Some kinds.MultiLineString) h = coordinates_proper at kinds.MultiLineString (member_named (codes "coordinates") ms)
-  kind_proper at ms collected (Some kinds.Polygon) h = coordinates_proper at kinds.Polygon (member_named (codes "coordinates") ms)
-  kind_proper at ms collected (Some kinds.MultiPolygon) h = coordinates_proper at kinds.MultiPolygon (member_named (codes "coordinates") ms)
+  kind_proper at ms collected (Some kind) h = coordinates_proper at kind (member_named (codes "coordinates") ms)
 
   mutual
     reading_proper : (t : Tree) → IsProper (geometry_reading digits how t)
     reading_proper (object at ms) = kind_proper at ms (collection_reading digits how at ms) (kind_of ms) (collection_proper at ms)
-    reading_proper (array at ts) = no_geometry at
-    reading_proper (text at cs) = no_geometry at
-    reading_proper (number at n) = no_geometry at
-    reading_proper (literal at l) = no_geometry at
+    reading_proper t = no_geometry (offset_of t)
 
     collection_proper : (at : ℕ) (ms : Members) → IsProper (collection_reading digits how at ms)
     collection_proper at no_members = no_geometry at
@@ -97,12 +89,7 @@ module _ (digits : ℕ) (how : Coords) where
   member_proper : (o : Option Tree) → IsProper (geometry_member_reading digits how o)
   member_proper None = (nothing_in, λ e. tt)
   member_proper (Some (literal i the_null)) = (nothing_in, λ e. tt)
-  member_proper (Some (literal i the_true)) = no_geometry i
-  member_proper (Some (literal i the_false)) = no_geometry i
-  member_proper (Some (number i n)) = no_geometry i
-  member_proper (Some (text i cs)) = no_geometry i
-  member_proper (Some (array i ts)) = no_geometry i
-  member_proper (Some (object i ms)) = reading_proper (object i ms)
+  member_proper (Some t) = reading_proper t
 
   -- ---- features
 
@@ -123,28 +110,15 @@ module _ (digits : ℕ) (how : Coords) where
   feature_proper : (at : ℕ) (ms : Members) → AreProper (feature_reading digits how at ms)
   feature_proper at ms =
       let geometry = geometry_member_reading digits how (member_named (codes "geometry") ms) in
-      let properties = member_named (codes "properties") ms in
-      one_proper (feature_of at geometry (properties_texts properties)) geometry (geometry.faults ++ properties_faults properties) refl (member_proper (member_named (codes "geometry") ms))
-      (λ e. (empties geometry.faults (properties_faults properties) e).0)
+      one_proper _ geometry _ refl (member_proper (member_named (codes "geometry") ms)) (λ e. (empties geometry.faults _ e).0)
 
   if_feature_proper : (at : ℕ) (ms : Members) (kind : Option Kind) → AreProper (if_feature digits how at ms kind)
-  if_feature_proper at ms None = no_features at
   if_feature_proper at ms (Some kinds.Feature) = feature_proper at ms
-  if_feature_proper at ms (Some kinds.FeatureCollection) = no_features at
-  if_feature_proper at ms (Some kinds.Point) = no_features at
-  if_feature_proper at ms (Some kinds.MultiPoint) = no_features at
-  if_feature_proper at ms (Some kinds.LineString) = no_features at
-  if_feature_proper at ms (Some kinds.MultiLineString) = no_features at
-  if_feature_proper at ms (Some kinds.Polygon) = no_features at
-  if_feature_proper at ms (Some kinds.MultiPolygon) = no_features at
-  if_feature_proper at ms (Some kinds.GeometryCollection) = no_features at
+  if_feature_proper at ms _ = no_features at
 
   item_proper : (t : Tree) → AreProper (item_reading digits how t)
   item_proper (object at ms) = if_feature_proper at ms (kind_of ms)
-  item_proper (literal i l) = no_features i
-  item_proper (number i n) = no_features i
-  item_proper (text i cs) = no_features i
-  item_proper (array i ts) = no_features i
+  item_proper t = no_features (offset_of t)
 
   all_proper : (ts : Trees) → AreProper (all_features (map (item_reading digits how) (items_of ts)))
   all_proper no_trees = (All-nil IsFeatureInRange, λ e. tt)
@@ -158,34 +132,18 @@ module _ (digits : ℕ) (how : Coords) where
       )
 
   listed_proper : (at : ℕ) (o : Option Tree) → AreProper (features_reading digits how at o)
-  listed_proper at None = no_features at
-  listed_proper at (Some (literal i l)) = no_features at
-  listed_proper at (Some (number i n)) = no_features at
-  listed_proper at (Some (text i cs)) = no_features at
-  listed_proper at (Some (object i ms)) = no_features at
   listed_proper at (Some (array i ts)) = all_proper ts
-
-  lone_proper : (at : ℕ) (r : GeometryRead) → IsProper r → AreProper (record { features = feature_of at r [] ∷ []; faults = r.faults })
-  lone_proper at r h = one_proper (feature_of at r []) r r.faults refl h (λ e. e)
+  listed_proper at _ = no_features at
 
   root_proper : (at : ℕ) (ms : Members) (kind : Option Kind) → AreProper (root_of_kind digits how at ms kind)
   root_proper at ms None = no_features at
   root_proper at ms (Some kinds.FeatureCollection) = listed_proper at (member_named (codes "features") ms)
   root_proper at ms (Some kinds.Feature) = feature_proper at ms
-  root_proper at ms (Some kinds.Point) = lone_proper at (geometry_reading digits how (object at ms)) (reading_proper (object at ms))
-  root_proper at ms (Some kinds.MultiPoint) = lone_proper at (geometry_reading digits how (object at ms)) (reading_proper (object at ms))
-  root_proper at ms (Some kinds.LineString) = lone_proper at (geometry_reading digits how (object at ms)) (reading_proper (object at ms))
-  root_proper at ms (Some kinds.MultiLineString) = lone_proper at (geometry_reading digits how (object at ms)) (reading_proper (object at ms))
-  root_proper at ms (Some kinds.Polygon) = lone_proper at (geometry_reading digits how (object at ms)) (reading_proper (object at ms))
-  root_proper at ms (Some kinds.MultiPolygon) = lone_proper at (geometry_reading digits how (object at ms)) (reading_proper (object at ms))
-  root_proper at ms (Some kinds.GeometryCollection) = lone_proper at (geometry_reading digits how (object at ms)) (reading_proper (object at ms))
+  root_proper at ms (Some kind) = one_proper _ (geometry_reading digits how (object at ms)) _ refl (reading_proper (object at ms)) (λ e. e)
 
   features_proper : (t : Tree) → AreProper (root_reading digits how t)
   features_proper (object at ms) = root_proper at ms (kind_of ms)
-  features_proper (literal i l) = no_features i
-  features_proper (number i n) = no_features i
-  features_proper (text i cs) = no_features i
-  features_proper (array i ts) = no_features i
+  features_proper t = no_features (offset_of t)
 
   pub json_features_in_range : (t : Tree) → AreFeaturesInRange (features_of digits how t)
   json_features_in_range t = (features_proper t).0
@@ -212,14 +170,6 @@ pub climbs_on : (low mid high : ℕ) (xs ys : List ℕ) → low ≤ mid + 1 → 
 climbs_on low mid high [] ys le ge h k = climbs_wider (mid + 1) high low high ys le (omega arith) k
 climbs_on low mid high (n ∷ xs) ys le ge (a, b, c) k = (a, (omega (arith, b, ge)), climbs_on (n + 1) mid high xs ys (omega (arith, b)) ge c k)
 
--- how long are four parts, one behind another
-four_parts : (w a v b r : List ℕ) → w ≡ a ++ (v ++ (b ++ r)) → length w ≡ length a + (length v + (length b + length r))
-four_parts w a v b r e =
-    let s = ap length e ∙ length-append a (v ++ (b ++ r)) in
-    let u = length-append v (b ++ r) in
-    let k = length-append b r in
-    omega (arith, s, u, k)
-
 -- a value that is spelled somewhere from one place up to another
 abbrev IsSpelled : ℕ → ℕ → Option Tree → Type 0
 IsSpelled low high None = Unit {0}
@@ -234,80 +184,61 @@ either_spelled low high true o p h k = h
 either_spelled low high false o p h k = k
 
 module _ (name : List ℕ) (low high : ℕ) where
-  further_spelled : (ms : Members) (at : ℕ) (w : List ℕ) → low ≤ at → at + length w ≤ high → SpellsFurtherMembers at w ms → IsSpelled low high (member_named name ms)
+  abbrev AreSpelled : Members → (ℕ → List ℕ → Members → Type 0) → Type 0
+  AreSpelled ms Spelled = (at : ℕ) (w : List ℕ) → low ≤ at → at + length w ≤ high → Spelled at w ms → IsSpelled low high (member_named name ms)
+
+  -- a member before others
+  one_spelled : (n : List Character) (i : ℕ) (t : Tree) (ms : Members) → AreSpelled ms SpellsFurtherMembers → AreSpelled (member_and n i t ms) SpellsMembers
+  one_spelled n i t ms further at w le ge h =
+      let (a, v, b, r, e, ha, hb, hv, (w2, e2, (c, x, d, q, f, hc, hd, hx, hq))) = members_parts n i t ms at w h in
+      let whole : length w ≡ length a + length v + length b + 1 + length c + length x + length d + length q = omega (arith, ap length e, ap length e2, ap length f, length-append {A = ℕ}) in
+      either_spelled low high (is_named name n) (Some t) (member_named name ms)
+      (at + length a + length v + length b + 1 + length c, x, (omega (arith, le)), (omega (arith, ge, whole)), hx)
+      (further (at + length a + length v + length b + 1 + length c + length x + length d) q (omega (arith, le)) (omega (arith, ge, whole)) hq)
+
+  further_spelled : (ms : Members) → AreSpelled ms SpellsFurtherMembers
   further_spelled no_members at w le ge h = tt
   further_spelled (member_and n i t ms) at w le ge h =
-      let (w1, e1, (a, v, b, r, e, ha, hb, hv, (w2, e2, (c, x, d, q, f, hc, hd, hx, hq)))) = further_members_parts n i t ms at w h in
-      let whole = ap length e1 in
-      let front = four_parts w1 a v b r e in
-      let behind = ap length e2 in
-      let value = four_parts w2 c x d q f in
-      either_spelled low high (is_named name n) (Some t) (member_named name ms)
-      (at + 1 + length a + length v + length b + 1 + length c, x, (omega (arith, le)), (omega (arith, ge, whole, front, behind, value)), hx)
-      (further_spelled ms (at + 1 + length a + length v + length b + 1 + length c + length x + length d) q (omega (arith, le)) (omega (arith, ge, whole, front, behind, value)) hq)
+      let (v, e, k) = after_parts 0x2C (λ j v. SpellsMembers j v (member_and n i t ms)) at w h in
+      one_spelled n i t ms (further_spelled ms) (at + 1) v (omega (arith, le)) (omega (arith, ge, ap length e)) k
 
-  member_spelled : (ms : Members) (at : ℕ) (w : List ℕ) → low ≤ at → at + length w ≤ high → SpellsMembers at w ms → IsSpelled low high (member_named name ms)
+  member_spelled : (ms : Members) → AreSpelled ms SpellsMembers
   member_spelled no_members at w le ge h = tt
-  member_spelled (member_and n i t ms) at w le ge h =
-      let (a, v, b, r, e, ha, hb, hv, (w2, e2, (c, x, d, q, f, hc, hd, hx, hq))) = members_parts n i t ms at w h in
-      let front = four_parts w a v b r e in
-      let behind = ap length e2 in
-      let value = four_parts w2 c x d q f in
-      either_spelled low high (is_named name n) (Some t) (member_named name ms)
-      (at + length a + length v + length b + 1 + length c, x, (omega (arith, le)), (omega (arith, ge, front, behind, value)), hx)
-      (further_spelled ms (at + length a + length v + length b + 1 + length c + length x + length d) q (omega (arith, le)) (omega (arith, ge, front, behind, value)) hq)
+  member_spelled (member_and n i t ms) at w le ge h = one_spelled n i t ms (further_spelled ms) at w le ge h
 
 -- items lie one behind another
-further_climb : (ts : Trees) (at : ℕ) (w : List ℕ) (low high : ℕ) → low ≤ at + 1 → at + length w ≤ high → SpellsFurtherItems at w ts → Climbs low high (map offset_of (items_of ts))
-further_climb no_trees at w low high le ge h = tt
-further_climb (tree_and t ts) at w low high le ge h =
-    let (w1, e1, (a, v, b, r, e, ha, hb, hv, hr)) = further_items_parts t ts at w h in
-    let o = spelled_at t (at + 1 + length a) v hv in
-    let whole = ap length e1 in
-    let parts = four_parts w1 a v b r e in (
-      (omega (arith, le, o)),
-      (omega (arith, ge, o, whole, parts)),
-      further_climb ts (at + 1 + length a + length v + length b) r (offset_of t + 1) high (omega (arith, o)) (omega (arith, ge, whole, parts)) hr,
-    )
+abbrev AreClimbing : ℕ → ℕ → Trees → (ℕ → List ℕ → Trees → Type 0) → Type 0
+AreClimbing before high ts Spelled = (at : ℕ) (w : List ℕ) (low : ℕ) → low ≤ at + before → at + length w ≤ high → Spelled at w ts → Climbs low high (map offset_of (items_of ts))
 
-items_climb : (ts : Trees) (at : ℕ) (w : List ℕ) (low high : ℕ) → low ≤ at → at + length w ≤ high → SpellsItems at w ts → Climbs low high (map offset_of (items_of ts))
-items_climb no_trees at w low high le ge h = tt
-items_climb (tree_and t ts) at w low high le ge h =
+one_climbs : (t : Tree) (ts : Trees) (high : ℕ) → AreClimbing 1 high ts SpellsFurtherItems → AreClimbing 0 high (tree_and t ts) SpellsItems
+one_climbs t ts high further at w low le ge h =
     let (a, v, b, r, e, ha, hb, hv, hr) = items_parts t ts at w h in
     let o = spelled_at t (at + length a) v hv in
-    let parts = four_parts w a v b r e in (
-      (omega (arith, le, o)),
-      (omega (arith, ge, o, parts)),
-      further_climb ts (at + length a + length v + length b) r (offset_of t + 1) high (omega (arith, o)) (omega (arith, ge, parts)) hr,
-    )
+    let parts : length w ≡ length a + length v + length b + length r = omega (arith, ap length e, length-append {A = ℕ}) in
+    ((omega (arith, le, o)), (omega (arith, ge, o, parts)), further (at + length a + length v + length b) r (offset_of t + 1) (omega (arith, o)) (omega (arith, ge, parts)) hr)
 
--- what stands between brackets, one byte behind the first
-between_brackets : (w v : List ℕ) (opener closer at high : ℕ) → w ≡ opener ∷ (v ++ closer ∷ []) → at + length w ≤ high → at + 1 + length v ≤ high
-between_brackets w v opener closer at high e ge = let s = ap length e in let j = length-append v (closer ∷ []) in omega (arith, ge, s, j)
+further_climb : (ts : Trees) (high : ℕ) → AreClimbing 1 high ts SpellsFurtherItems
+further_climb no_trees high at w low le ge h = tt
+further_climb (tree_and t ts) high at w low le ge h =
+    let (v, e, k) = after_parts 0x2C (λ j v. SpellsItems j v (tree_and t ts)) at w h in
+    one_climbs t ts high (further_climb ts high) (at + 1) v low (omega (arith, le)) (omega (arith, ge, ap length e)) k
+
+items_climb : (ts : Trees) (high : ℕ) → AreClimbing 0 high ts SpellsItems
+items_climb no_trees high at w low le ge h = tt
+items_climb (tree_and t ts) high at w low le ge h = one_climbs t ts high (further_climb ts high) at w low le ge h
 
 module _ (digits : ℕ) (how : Coords) where
   no_feature_at : (at : ℕ) (xs : List ℕ) → fault_at Form at ∷ [] ≡ [] → [] ≡ xs
   no_feature_at at xs e = absurd (not_empty (fault_at Form at) [] e)
 
   kind_at : (at : ℕ) (ms : Members) (kind : Option Kind) → (if_feature digits how at ms kind).faults ≡ [] → map at_of (if_feature digits how at ms kind).features ≡ at ∷ []
-  kind_at at ms None e = no_feature_at at (at ∷ []) e
   kind_at at ms (Some kinds.Feature) e = refl
-  kind_at at ms (Some kinds.FeatureCollection) e = no_feature_at at (at ∷ []) e
-  kind_at at ms (Some kinds.Point) e = no_feature_at at (at ∷ []) e
-  kind_at at ms (Some kinds.MultiPoint) e = no_feature_at at (at ∷ []) e
-  kind_at at ms (Some kinds.LineString) e = no_feature_at at (at ∷ []) e
-  kind_at at ms (Some kinds.MultiLineString) e = no_feature_at at (at ∷ []) e
-  kind_at at ms (Some kinds.Polygon) e = no_feature_at at (at ∷ []) e
-  kind_at at ms (Some kinds.MultiPolygon) e = no_feature_at at (at ∷ []) e
-  kind_at at ms (Some kinds.GeometryCollection) e = no_feature_at at (at ∷ []) e
+  kind_at at ms _ e = no_feature_at at (at ∷ []) e
 
   -- an item that is a feature lies where the item does
   item_at : (t : Tree) → (item_reading digits how t).faults ≡ [] → map at_of (item_reading digits how t).features ≡ offset_of t ∷ []
   item_at (object at ms) e = kind_at at ms (kind_of ms) e
-  item_at (literal i l) e = no_feature_at i (i ∷ []) e
-  item_at (number i n) e = no_feature_at i (i ∷ []) e
-  item_at (text i cs) e = no_feature_at i (i ∷ []) e
-  item_at (array i ts) e = no_feature_at i (i ∷ []) e
+  item_at t e = no_feature_at (offset_of t) (offset_of t ∷ []) e
 
   items_at : (ts : Trees) → (all_features (map (item_reading digits how) (items_of ts))).faults ≡ [] → map at_of (all_features (map (item_reading digits how) (items_of ts))).features ≡ map offset_of (items_of ts)
   items_at no_trees e = refl
@@ -318,32 +249,22 @@ module _ (digits : ℕ) (how : Coords) where
       map-append at_of a.features b.features ∙ (ap (λ z. z ++ map at_of b.features) (item_at t x) ∙ ap (λ z. offset_of t ∷ z) (items_at ts y))
 
   listed_climbs : (at low high : ℕ) (o : Option Tree) → IsSpelled low high o → (features_reading digits how at o).faults ≡ [] → Climbs low high (map at_of (features_reading digits how at o).features)
-  listed_climbs at low high None h e = tt
-  listed_climbs at low high (Some (literal i l)) h e = tt
-  listed_climbs at low high (Some (number i n)) h e = tt
-  listed_climbs at low high (Some (text i cs)) h e = tt
-  listed_climbs at low high (Some (object i ms)) h e = tt
   listed_climbs at low high (Some (array i ts)) (j, w, le, ge, k) e =
       let (o, (v, same, h)) = array_parts ts i j w k in
-      subst (Climbs low high) (sym (items_at ts e)) (items_climb ts (j + 1) v low high (omega (arith, le)) (between_brackets w v 0x5B 0x5D j high same ge) h)
+      subst (Climbs low high) (sym (items_at ts e)) (items_climb ts high (j + 1) v low (omega (arith, le)) (omega (arith, ge, ap length same, length-append v (0x5D ∷ []))) h)
+  listed_climbs at low high _ h e = tt
 
   module _ (at low high : ℕ) (ms : Members) (le : low ≤ at) (ge : at ≤ high) where
     root_climbs : (kind : Option Kind) → IsSpelled low high (member_named (codes "features") ms) → (root_of_kind digits how at ms kind).faults ≡ [] → Climbs low high (map at_of (root_of_kind digits how at ms kind).features)
     root_climbs None h e = tt
     root_climbs (Some kinds.FeatureCollection) h e = listed_climbs at low high (member_named (codes "features") ms) h e
     root_climbs (Some kinds.Feature) h e = (le, ge, tt)
-    root_climbs (Some kinds.Point) h e = (le, ge, tt)
-    root_climbs (Some kinds.MultiPoint) h e = (le, ge, tt)
-    root_climbs (Some kinds.LineString) h e = (le, ge, tt)
-    root_climbs (Some kinds.MultiLineString) h e = (le, ge, tt)
-    root_climbs (Some kinds.Polygon) h e = (le, ge, tt)
-    root_climbs (Some kinds.MultiPolygon) h e = (le, ge, tt)
-    root_climbs (Some kinds.GeometryCollection) h e = (le, ge, tt)
+    root_climbs (Some kind) h e = (le, ge, tt)
 
   tree_climbs : (t : Tree) (at low high : ℕ) (w : List ℕ) → low ≤ at → at + length w ≤ high → Spells at w t → role_faults_of digits how t ≡ [] → Climbs low high (map at_of (features_of digits how t))
   tree_climbs (object i ms) at low high w le ge k e =
       let (o, (v, same, h)) = object_parts ms i at w k in
-      let inside = between_brackets w v 0x7B 0x7D at high same ge in
+      let inside : at + 1 + length v ≤ high = omega (arith, ge, ap length same, length-append v (0x7D ∷ [])) in
       root_climbs i low high ms (omega (arith, le, o)) (omega (arith, ge, o)) (kind_of ms) (member_spelled (codes "features") low high ms (at + 1) v (omega (arith, le)) inside h) e
   tree_climbs _ at low high w le ge h e = tt
 
@@ -353,8 +274,7 @@ module _ (digits : ℕ) (how : Coords) where
   pub text_climbs : (t : Tree) (at : ℕ) (w : List ℕ) → IsTextOf at w t → faults_of digits how t ≡ [] → Climbs at (at + length w) (map at_of (features_of digits how t))
   text_climbs t at w h none =
       let (a, v, b, r, e, ha, hb, hv, hr) = text_parts t at w h in
-      let parts = four_parts w a v b r e in
-      tree_climbs t (at + length a) at (at + length w) v (omega arith) (omega (arith, parts)) hv (empties (twins_of t) (role_faults_of digits how t) none).1
+      tree_climbs t (at + length a) at (at + length w) v (omega arith) (omega (arith, ap length e, length-append {A = ℕ})) hv (empties (twins_of t) (role_faults_of digits how t) none).1
 
   -- and each is proper
   pub text_features_proper : (t : Tree) → faults_of digits how t ≡ [] → AllByRecursion IsProperFeature (features_of digits how t)

@@ -6,7 +6,6 @@ use Rattle.std.proofs.lemmas.List.{map-append}
 use Rattle.std.proofs.lemmas.Grind.{flat_map-append}
 use Rattle.std.specs.List.{AllByRecursion, list_any}
 use Rattle.std.proofs.lemmas.List.Concat.{flat_map-cons}
-use Rattle.std.proofs.lemmas.Slice.Eq.{bytes_eq-Decides}
 use Rattle.std.proofs.lemmas.Bool.{or_parts}
 use Rattle.at_lex.specs.Strings.{Character, units_of}
 use Rattle.at_geom.specs.declared.shapes.Shape.{Shape}
@@ -25,21 +24,18 @@ use Rattle.at_query.specs.declared.answer.accumulators.Accumulator.TheVariants.{
 use Rattle.at_query.specs.Holding.{TestHolds, Holds}
 use Rattle.at_query.specs.Parts.{entry_of, wrapped_sum, IsHullInRange, IsKeptOf}
 use Rattle.at_query.specs.Accumulators.{IsKeptIn, IsAccumulated}
-use Rattle.at_query.specs.Results.{Keeps, all_positions, all_polygons}
+use Rattle.at_query.specs.Results.{Keeps, all_positions}
+use Rattle.at_query.proofs.TextCounts.{same_eq}
 use Rattle.at_query.proofs.Accumulating.{same_hull}
 use Rattle.at_query.proofs.KeptLists.{keeps-append, keeps_parts, keeps_one, drops_one}
 use Rattle.at_run.specs.Labels.{label_name, texts_of}
 use Rattle.at_run.specs.Labelling.{asks_label}
 
-other_name : (name : List ℕ) (t : Bool) → bytes_eq label_name name ≡ t → bytes_eq name label_name ≡ false → t ≡ false
-other_name name false e h = refl
-other_name name true e h =
-    let same : label_name ≡ name = (bytes_eq-Decides label_name name).0 e in
-    absurd (true≢false (sym ((bytes_eq-Decides name label_name).1 (sym same)) ∙ h))
-
 -- what is listed of features, where the last one is another
-all_of_last : {Y : Type 0} (f : Feature → List Y) (before : List Feature) (a b : Feature) → flat_map f (a ∷ []) ≡ flat_map f (b ∷ []) → flat_map f (before ++ a ∷ []) ≡ flat_map f (before ++ b ∷ [])
-all_of_last f before a b e = flat_map-append f before (a ∷ []) ∙ ap (λ z. flat_map f before ++ z) e ∙ sym (flat_map-append f before (b ∷ []))
+all_of_last : {Y : Type 0} (f : Feature → List Y) (before : List Feature) (a b : Feature) → f a ≡ f b → flat_map f (before ++ a ∷ []) ≡ flat_map f (before ++ b ∷ [])
+all_of_last f before a b e =
+    let last = flat_map-cons f a [] ∙ (ap (λ z. z ++ flat_map f []) e ∙ sym (flat_map-cons f b [])) in
+    flat_map-append f before (a ∷ []) ∙ ap (λ z. flat_map f before ++ z) last ∙ sym (flat_map-append f before (b ∷ []))
 
 module _ (query : Query) (at : ℕ) (shape : Shape) (cs : List Character) where
   abbrev full : Feature
@@ -51,8 +47,7 @@ module _ (query : Query) (at : ℕ) (shape : Shape) (cs : List Character) where
   -- a test that doesn't ask for labels holds of both or of neither
   one_test : (t : Test) → asks_label t ≡ false → (TestHolds t full → TestHolds t bare) × (TestHolds t bare → TestHolds t full)
   one_test (Has name value) h =
-      let no : bytes_eq label_name name ≡ false = other_name name (bytes_eq label_name name) refl h in
-      (λ k. absurd (true≢false (sym (ap (λ b. (b && bytes_eq (units_of cs) value) || false) (sym no) ∙ k))), λ k. absurd (true≢false (sym k)))
+      let no = same_eq label_name name ∙ h in (λ k. absurd (true≢false (sym (ap (λ b. (b && bytes_eq (units_of cs) value) || false) (sym no) ∙ k))), λ k. absurd (true≢false (sym k)))
   one_test _ h = (λ k. k, λ k. k)
 
   all_tests : (ts : List Test) → list_any asks_label ts ≡ false
@@ -63,20 +58,14 @@ module _ (query : Query) (at : ℕ) (shape : Shape) (cs : List Character) where
       let one = one_test t a in let more = all_tests ts b in
       (λ k. (one.0 k.0, more.0 k.1), λ k. (one.1 k.0, more.1 k.1))
 
-  one_positions : all_positions (bare ∷ []) ≡ all_positions (full ∷ [])
-  one_positions = flat_map-cons (λ (x : Feature). positions x.shape) bare [] ∙ sym (flat_map-cons (λ (x : Feature). positions x.shape) full [])
-
-  one_polygons : all_polygons (bare ∷ []) ≡ all_polygons (full ∷ [])
-  one_polygons = flat_map-cons (λ (x : Feature). x.shape.polygons) bare [] ∙ sym (flat_map-cons (λ (x : Feature). x.shape.polygons) full [])
-
   module _ (before : List Feature) where
     same_positions : all_positions (before ++ bare ∷ []) ≡ all_positions (before ++ full ∷ [])
-    same_positions = all_of_last (λ (x : Feature). positions x.shape) before bare full (one_positions)
+    same_positions = all_of_last (λ (x : Feature). positions x.shape) before bare full refl
 
     last_kept : (v : Verb) (part : Part) → IsKeptOf v (before ++ bare ∷ []) part → IsKeptOf v (before ++ full ∷ []) part
     last_kept verbs.Select part p = p ∙ ap Offsets (map-append (λ (x : Feature). x.at) before (bare ∷ []) ∙ sym (map-append (λ (x : Feature). x.at) before (full ∷ [])))
     last_kept verbs.Count part p = p ∙ ap (λ n. Count (n % 2 ^ 64)) (length-append before (bare ∷ []) ∙ sym (length-append before (full ∷ [])))
-    last_kept verbs.Area part p = p ∙ ap (λ z. Area (wrapped_sum z)) (all_of_last (λ (x : Feature). x.shape.polygons) before bare full one_polygons)
+    last_kept verbs.Area part p = p ∙ ap (λ z. Area (wrapped_sum z)) (all_of_last (λ (x : Feature). x.shape.polygons) before bare full refl)
     last_kept verbs.Extent part p = p ∙ ap (λ z. Spread (extent_of z)) same_positions
     last_kept verbs.Hull part (hull, e, k) = (hull, e, subst (λ z. IsHullInRange z hull) same_positions k)
     last_kept verbs.Join part p = p ∙ ap Entries (map-append entry_of before (bare ∷ []) ∙ sym (map-append entry_of before (full ∷ [])))
@@ -88,18 +77,15 @@ module _ (query : Query) (at : ℕ) (shape : Shape) (cs : List Character) where
   without_label : (before : List Feature) (kept : Accumulator) → list_any asks_label query.tests ≡ false → IsAccumulated query (before ++ bare ∷ []) kept → IsAccumulated query (before ++ full ∷ []) kept
   without_label before kept h (left, keeps, is) =
       let (xs, ys, same, here, last) = keeps_parts (Holds query) before (bare ∷ []) left keeps in
-      let K : List Feature → Type 0 = λ l. IsKeptIn query.verb l kept in
-      of_last xs ys here last (subst K same is) where
+      of_last xs ys here last (rw same at is) where
         of_last : (xs ys : List Feature) → Keeps (Holds query) before xs → Keeps (Holds query) (bare ∷ []) ys → IsKeptIn query.verb (xs ++ ys) kept → IsAccumulated query (before ++ full ∷ []) kept
-        of_last xs ys here (inl (p, (zs, e, k))) is =
-            let K : List Feature → Type 0 = λ l. IsKeptIn query.verb (xs ++ l) kept in (
-              xs ++ full ∷ [],
-              keeps-append (Holds query) before (full ∷ []) xs (full ∷ []) here (keeps_one (Holds query) full ((all_tests query.tests h).1 p)),
-              last_accumulated xs query.verb kept (subst K (e ∙ ap (λ z. bare ∷ z) k) is),
-            )
+        of_last xs ys here (inl (p, (zs, e, k))) is = (
+          xs ++ full ∷ [],
+          keeps-append (Holds query) before (full ∷ []) xs (full ∷ []) here (keeps_one (Holds query) full ((all_tests query.tests h).1 p)),
+          last_accumulated xs query.verb kept (rw (e, k) at is),
+        )
         of_last xs ys here (inr (n, k)) is =
-            let K : List Feature → Type 0 = λ l. IsKeptIn query.verb (xs ++ l) kept in
-            (xs ++ [], keeps-append (Holds query) before (full ∷ []) xs [] here (drops_one (Holds query) full (λ p. n ((all_tests query.tests h).0 p))), subst K k is)
+            (xs ++ [], keeps-append (Holds query) before (full ∷ []) xs [] here (drops_one (Holds query) full (λ p. n ((all_tests query.tests h).0 p))), rw k at is)
 
   pub kept_label : (before : List Feature) (texts : List TextPair) (kept : Accumulator) → texts ≡ (if list_any asks_label query.tests then texts_of (Some cs) else [])
       → IsAccumulated query (before ++ record { at = at; shape = shape; texts = texts } ∷ []) kept → IsAccumulated query (before ++ full ∷ []) kept

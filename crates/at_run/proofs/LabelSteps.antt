@@ -1,10 +1,11 @@
 -- What the reader of a label finds of a line: where a label stands, and that no line goes on where none does.
 -- For `answer`, `answer_join`, `finish_pieces`, `join_into` and `part`.
-use Rattle.std.proofs.Common.{◌≡◌, ℕ, zero, suc, ◌+◌, ◌-◌, ◌<◌, ◌≤◌, inl, inr, List, [], ◌∷◌, ◌++◌, length, take, drop, slice_index, flat_map, codes, Option, Some, None, refl, sym, ◌∙◌, ap, subst, arith, append-nil, append_assoc, length-append, length-take, length-drop, take-append-drop, take-take, drop-drop, lit≤}
+use Rattle.std.proofs.Common.{IsTrue, ◌≡◌, ℕ, suc, ◌+◌, ◌-◌, ◌<◌, ◌≤◌, inl, inr, List, [], ◌∷◌, ◌++◌, length, take, drop, slice_index, flat_map, codes, Option, Some, None, refl, sym, ◌∙◌, ap, subst, arith, append-nil, append_assoc, length-append, length-take, length-drop, take-append-drop, take-take, drop-drop, lit≤}
 use native.Mathlib.Decide.{dec_lt}
-use Rattle.std.proofs.Math.Seq.{take-length}
-use Rattle.std.proofs.lemmas.List.{drop_more, drop-take}
+use Rattle.std.proofs.Math.Seq.{take-length, take-append_seam, take-append-add, get_or-append_seam}
+use Rattle.std.proofs.lemmas.List.{drop_more, drop-take, length-take-le}
 use Rattle.std.specs.Str.{IsUtf8}
+use Rattle.std.proofs.ByRecursion.{All-take}
 use Rattle.std.proofs.lemmas.Str.{IsUtf8-take, IsUtf8-drop, IsCharBoundary-before_ascii, IsCharBoundary-after_ascii}
 use Rattle.at_text.specs.declared.faults.Fault.{Fault}
 use Rattle.at_text.specs.Prefix.{Viable, LongestViable}
@@ -12,41 +13,22 @@ use Rattle.at_text.specs.Spans.{span_of}
 use Rattle.at_text.specs.Syntax.{IsSyntaxFault, stop_fault}
 use Rattle.at_lex.specs.Strings.{Character, character_text, SpellsString}
 use Rattle.at_lex.proofs.FrontLemmas.{suffix_is}
-use Rattle.at_wkt.specs.Geometry.{Geometry, point, SpellsGeometry, IsLineOf, WktLine}
+use Rattle.at_wkt.specs.Geometry.{Geometry, point, SpellsGeometry, IsLineOf, WktLine, is_blank}
 use Rattle.at_wkt.proofs.Leads.{append_cases}
 use Rattle.at_fixed.specs.NumberSoFar.{between}
 use Rattle.at_query.specs.Readers.{Text, Stops, past, over}
 use Rattle.at_run.specs.Labels.{SpellsLabelled, LabelledLine}
 use Rattle.at_run.specs.declared.labels.Behind.{Behind}
 use Rattle.at_run.specs.Labelling.{QuoteStands, QuoteIs, LabelStands, IsBehind}
-use Rattle.at_run.proofs.LabelledLines.{AreBlanks, BeginsQuoted, string_begins, quoted_on, quoted_front, same_blanks, quote_stops, quoted_not_plain, label_added, line_with_label, label_taken, taken_on, longest_behind, stop_behind}
+use Rattle.at_run.proofs.LabelledLines.{AreBlanks, BeginsQuoted, string_begins, quoted_front, same_blanks, quote_stops, quoted_not_plain, label_added, line_with_label, label_taken, longest_behind, stop_behind}
 
 -- ---- lists
-
-pub front_of : (a v : List ℕ) → take (length a) (a ++ v) ≡ a
-front_of [] v = refl
-front_of (b ∷ a) v = ap (λ z. b ∷ z) (front_of a v)
-
-pub byte_behind : (a t : List ℕ) (b : ℕ) → slice_index (a ++ b ∷ t) (length a) ≡ b
-byte_behind [] t b = refl
-byte_behind (c ∷ a) t b = byte_behind a t b
-
-front_blanks : (a u : List ℕ) → AreBlanks (a ++ u) → AreBlanks a
-front_blanks [] u h = tt
-front_blanks (b ∷ a) u h = (h.0, front_blanks a u h.1)
 
 rest_split : (text : List ℕ) (i j : ℕ) → i ≤ j → span_of text i j ++ drop j text ≡ drop i text
 rest_split text i j h =
     let e : i + (j - i) ≡ j = omega arith in
     let rest : drop (j - i) (drop i text) ≡ drop j text = drop-drop (j - i) i text ∙ ap (λ z. drop z text) e in
     ap (λ z. take (j - i) (drop i text) ++ z) (sym rest) ∙ take-append-drop (j - i) (drop i text)
-
--- a text up to a place, from there up to another, and from there on
-split_text : (text : List ℕ) (i j : ℕ) → i ≤ j → text ≡ take i text ++ (span_of text i j ++ drop j text)
-split_text text i j h = sym (ap (λ z. take i text ++ z) (rest_split text i j h) ∙ take-append-drop i text)
-
-front_length : (text : List ℕ) (i : ℕ) → i ≤ length text → length (take i text) ≡ i
-front_length text i h = omega (arith, length-take i text, h)
 
 -- a line behind a place, as it is taken of the bytes ahead
 pub rest_is : (w : List ℕ) (len end : ℕ) → end ≤ len → take (len - end) (take (length w - end) (drop end w)) ≡ drop end (take len w)
@@ -62,7 +44,7 @@ part_front w len i j h k =
     sym (ap (take (j - i)) cut ∙ take-take (j - i) (len - i) (drop i w) (omega arith))
 
 pub line_end : (w : List ℕ) (len quote end : ℕ) → len ≤ length w → LabelStands (take len w) quote end → end ≤ len
-line_end w len quote end h label = let e = front_length w len h in let k = label.within in omega (arith, e, k)
+line_end w len quote end h label = omega (arith, length-take-le len w h, label.within)
 
 -- ---- the quote
 
@@ -74,21 +56,12 @@ pub without_quote : (text : List ℕ) → QuoteIs text None → Unquoted text
 without_quote text none a v ha (t, q) e =
     let whole : text ≡ a ++ 0x22 ∷ t = e ∙ ap (λ z. a ++ z) q in
     none (length a) (record {
-      inside = (let n = ap length whole ∙ length-append a (0x22 ∷ t) in omega (arith, n));
-      blanks = subst AreBlanks (sym (ap (take (length a)) whole ∙ front_of a (0x22 ∷ t))) ha;
-      byte = ap (λ z. slice_index z (length a)) whole ∙ byte_behind a t 0x22;
+      inside = omega (arith, ap length whole, length-append a (0x22 ∷ t));
+      blanks = subst AreBlanks (sym (ap (take (length a)) whole ∙ take-append_seam a (0x22 ∷ t))) ha;
+      byte = ap (λ z. slice_index z (length a)) whole ∙ get_or-append_seam a 0x22 t 0;
     })
 
--- nor does one begin a front of bytes that begin with a letter
-pub plain_front : (b : ℕ) (t : List ℕ) (n : ℕ) → 0x22 < b → QuoteIs (take n (b ∷ t)) None
-plain_front b t zero h quote q = let i = q.inside in omega (arith, i)
-plain_front b t (suc n) h zero q = let e = q.byte in omega (arith, e, h)
-plain_front b t (suc n) h (suc quote) q = let blank = q.blanks.0 in absurd (grind (arith, blank, h))
-
 -- ---- a line without a label
-
-no_label : (text : List ℕ) (at : ℕ) (cs : List Character) (g : Geometry) → Unquoted text → SpellsLabelled (Some cs) g at text → ⊥
-no_label text at cs g none (a, v, e, ha, (s, r, f, hs, hr)) = none a v ha (quoted_front s r v (string_begins cs (at + length a) s hs) f) e
 
 some_geometry : (at : ℕ) → SpellsGeometry at (codes "POINTEMPTY") (point None)
 some_geometry at = (2, (codes "POINT", codes "EMPTY", refl, refl, ([], codes "EMPTY", refl, tt, ([], codes "EMPTY", refl, inl (refl, lit≤ tt, lit≤ tt), ([], codes "EMPTY", refl, tt, refl)))))
@@ -110,13 +83,13 @@ plain_syntax at text fault none h = record {
 } where
   by_label : (l : Option (List Character)) (g : Geometry) → SpellsLabelled l g at text → ⊥
   by_label None g p = h.no_word (g, p)
-  by_label (Some cs) g p = no_label text at cs g none p
+  by_label (Some cs) g (a, v, e, ha, (s, r, f, hs, hr)) = none a v ha (quoted_front s r v (string_begins cs (at + length a) s hs) f) e
 
   by_front : (u rest more : List ℕ) → text ≡ u ++ rest → (l : Option (List Character)) (g : Geometry) → SpellsLabelled l g at (u ++ more) → Viable (WktLine at) u
   by_front u rest more whole None g p = (more, (g, p))
   by_front u rest more whole (Some cs) g (a, v, e, ha, (s, r, f, hs, hr)) = elim (append_cases u more a v e) [
     | inl (same, behind) ↦ (codes "POINTEMPTY", some_line at u (subst AreBlanks (sym same) ha))
-    | inr (inl (m, ms, i, j)) ↦ (codes "POINTEMPTY", some_line at u (front_blanks u (m ∷ ms) (subst AreBlanks i ha)))
+    | inr (inl (m, ms, i, j)) ↦ (codes "POINTEMPTY", some_line at u (subst AreBlanks (take-append_seam u (m ∷ ms)) (All-take (λ b. IsTrue (is_blank b)) (length u) (u ++ (m ∷ ms)) (subst AreBlanks i ha))))
     | inr (inr (m, ms, i, j)) ↦ absurd (
         let (t, q) = quoted_front s r v (string_begins cs (at + length a) s hs) f in
         let first : m ≡ 0x22 = (let both_are : m ∷ (ms ++ more) ≡ 0x22 ∷ t = sym j ∙ q in cc) in
@@ -134,10 +107,9 @@ module _ (at : ℕ) (text : List ℕ) (quote n : ℕ) (q : QuoteStands text quot
 
   quoted_rest : (m : ℕ) → quote < m → BeginsQuoted (between text quote m)
   quoted_rest m h =
-      let i = q.inside in
       let size : m ≡ quote + suc (m - quote - 1) = omega (arith, h) in
       let cut : between text quote m ≡ take (suc (m - quote - 1)) (drop quote text) = ap (between text quote) size ∙ drop-take quote (suc (m - quote - 1)) text in
-      let byte : drop quote text ≡ 0x22 ∷ drop (quote + 1) text = drop_more text quote 0 i ∙ ap (λ z. z ∷ drop (quote + 1) text) q.byte in
+      let byte : drop quote text ≡ 0x22 ∷ drop (quote + 1) text = drop_more text quote 0 q.inside ∙ ap (λ z. z ∷ drop (quote + 1) text) q.byte in
       (take (m - quote - 1) (drop (quote + 1) text), cut ∙ ap (take (suc (m - quote - 1))) byte)
 
   -- the words of lines that go on with a beginning of the text beyond the quote begin with a label
@@ -147,9 +119,9 @@ module _ (at : ℕ) (text : List ℕ) (quote n : ℕ) (q : QuoteStands text quot
     whole = ap (λ z. z ++ more) (front_is m (omega (arith, h))) ∙ append_assoc (take quote text) (between text quote m) more
 
     go : (l : Option (List Character)) (g : Geometry) → SpellsLabelled l g at (take quote text ++ (between text quote m ++ more)) → (cs : List Character) × (v r : List ℕ) × SpellsString cs quote v × (v ++ r ≡ between text quote m ++ more)
-    go None g p = absurd (quoted_not_plain (take quote text) (between text quote m ++ more) at (take quote text ++ (between text quote m ++ more)) g q.blanks (quoted_on (between text quote m) more (quoted_rest m h)) refl p)
+    go None g p = absurd (quoted_not_plain (take quote text) (between text quote m ++ more) at (take quote text ++ (between text quote m ++ more)) g q.blanks (quoted_front (between text quote m) more _ (quoted_rest m h) refl) refl p)
     go (Some cs) g (a, v, e, ha, (s, r, f, hs, hr)) =
-        let (same, behind) = same_blanks (take quote text) a (between text quote m ++ more) v q.blanks ha (quote_stops (between text quote m ++ more) (quoted_on (between text quote m) more (quoted_rest m h)))
+        let (same, behind) = same_blanks (take quote text) a (between text quote m ++ more) v q.blanks ha (quote_stops (between text quote m ++ more) (quoted_front (between text quote m) more _ (quoted_rest m h) refl))
         (quote_stops v (quoted_front s r v (string_begins cs (at + length a) s hs) f)) e in
         (cs, s, r, hs, sym f ∙ sym behind)
 
@@ -158,8 +130,7 @@ module _ (at : ℕ) (text : List ℕ) (quote n : ℕ) (q : QuoteStands text quot
     no_word = λ word. (elim (dec_lt n (length text)) [
       | yes below ↦ no_further below (drop (n + 1) text) (subst (LabelledLine at) (sym (take-append-drop (n + 1) text)) word)
       | no f ↦ (
-          let within = stops.within in
-          let end : n ≡ length text = omega (arith, f, within) in
+          let end : n ≡ length text = omega (arith, f, stops.within) in
           let all : take n text ++ [] ≡ text = append-nil (take n text) ∙ (ap (λ z. take z text) end ∙ take-length text) in
           let (cs, v, r, hs, e) = beyond n [] (omega (arith, end, q.inside)) (subst (LabelledLine at) (sym all) word) in
           stops.dead _ v r (cs, refl, hs) (over end (e ∙ append-nil (between text quote n))))
@@ -179,8 +150,7 @@ module _ (at : ℕ) (text : List ℕ) (quote n : ℕ) (q : QuoteStands text quot
   } where
     no_further : n < length text → (more : List ℕ) → LabelledLine at (take (n + 1) text ++ more) → ⊥
     no_further below more word =
-        let order = stops.order in
-        let (cs, v, r, hs, e) = beyond (n + 1) more (omega (arith, order)) word in
+        let (cs, v, r, hs, e) = beyond (n + 1) more (omega (arith, stops.order)) word in
         stops.dead _ v r (cs, refl, hs) (past below more e)
 
 -- ---- a label, and the text behind it
@@ -190,30 +160,24 @@ valid_label : (w r front : List ℕ) → w ≡ front ++ 0x22 ∷ [] → IsUtf8 (
 valid_label w r front e valid =
     let whole : w ++ r ≡ front ++ 0x22 ∷ r = ap (λ z. z ++ r) e ∙ append_assoc front (0x22 ∷ []) r in
     let h : IsUtf8 (front ++ 0x22 ∷ r) = subst IsUtf8 whole valid in
-    let size = length-append front (0x22 ∷ r) in
-    let small : slice_index (front ++ 0x22 ∷ r) (length front) < 128 = subst (λ z. z < 128) (sym (byte_behind front r 0x22)) (omega arith) in
-    let boundary = IsCharBoundary-after_ascii (front ++ 0x22 ∷ r) (length front) h (omega (arith, size)) small in
-    subst IsUtf8 (taken_on front (0x22 ∷ r) 1 ∙ sym e) (IsUtf8-take (front ++ 0x22 ∷ r) (length front + 1) h boundary)
+    let small : slice_index (front ++ 0x22 ∷ r) (length front) < 128 = subst (λ z. z < 128) (sym (get_or-append_seam front 0x22 r 0)) (omega arith) in
+    let boundary = IsCharBoundary-after_ascii (front ++ 0x22 ∷ r) (length front) h (omega (arith, length-append front (0x22 ∷ r))) small in
+    subst IsUtf8 (take-append-add front (0x22 ∷ r) 1 ∙ sym e) (IsUtf8-take (front ++ 0x22 ∷ r) (length front + 1) h boundary)
 
 module _ (at : ℕ) (text : List ℕ) (quote end : ℕ) (label : LabelStands text quote end) where
   pub label_front : text ≡ take quote text ++ (span_of text quote end ++ drop end text)
-  label_front = split_text text quote end label.order
+  label_front = sym (ap (λ z. take quote text ++ z) (rest_split text quote end label.order) ∙ take-append-drop quote text)
 
   pub label_place : (at + length (take quote text)) + length (span_of text quote end) ≡ at + end
   label_place =
-      let order = label.order in let within = label.within in
-      let m = front_length text quote (omega (arith, order, within)) in
-      let n = length-take (end - quote) (drop quote text) in
-      let k = length-drop quote text in
-      omega (arith, m, n, k, order, within)
+      omega (arith, length-take-le quote text (omega (arith, label.order, label.within)), length-take (end - quote) (drop quote text), length-drop quote text, label.order, label.within)
 
   -- the label of a line that is UTF-8 is
   pub label_valid : IsUtf8 text → IsUtf8 (span_of text quote end)
   label_valid valid =
-      let inside = label.begins.inside in
       let (cs, are, same) = label.string in
       let small : slice_index text quote < 128 = subst (λ z. z < 128) (sym label.begins.byte) (omega arith) in
-      let rest : IsUtf8 (span_of text quote end ++ drop end text) = subst IsUtf8 (sym (rest_split text quote end label.order)) (IsUtf8-drop text quote valid (IsCharBoundary-before_ascii text quote inside small)) in
+      let rest : IsUtf8 (span_of text quote end ++ drop end text) = subst IsUtf8 (sym (rest_split text quote end label.order)) (IsUtf8-drop text quote valid (IsCharBoundary-before_ascii text quote label.begins.inside small)) in
       valid_label (span_of text quote end) (drop end text) (0x22 ∷ flat_map character_text cs) same rest
 
   module _ (cs : List Character) (hs : SpellsString cs quote (span_of text quote end)) where
@@ -237,7 +201,7 @@ module _ (at : ℕ) (text : List ℕ) (quote end : ℕ) (label : LabelStands tex
       whole = label_front ∙ sym (append_assoc (take quote text) (span_of text quote end) (drop end text))
 
       size : at + end ≡ at + length front
-      size = let e = label_place in let n = length-append (take quote text) (span_of text quote end) in omega (arith, e, n)
+      size = omega (arith, label_place, length-append (take quote text) (span_of text quote end))
 
       put : (u : List ℕ) → WktLine (at + end) u → LabelledLine at (take quote text ++ (span_of text quote end ++ u))
       put u m = line_with_label at (take quote text) (span_of text quote end) cs label.begins.blanks hs u (subst (λ i. WktLine i u) (sym label_place) m)
@@ -253,7 +217,7 @@ pub is_behind : (ahead : List ℕ) (len at quote end : ℕ) (line : Behind) → 
 is_behind ahead len at quote end line inside stands valid label rest size place =
     let near = line_end ahead len quote end inside stands in
     let same = label ∙ part_front ahead len quote end stands.order near in
-    let left : length line.ahead.now ≡ length ahead - end = ap length (rest ∙ suffix_is ahead end) ∙ length-drop end ahead in
+    let left = ap length (rest ∙ suffix_is ahead end) ∙ length-drop end ahead in
     record {
       end = end;
       front = inr (quote, stands, subst IsUtf8 (sym label) valid, same);

@@ -1,11 +1,11 @@
 -- Lines with labels: a line spells one label or none and one geometry, and where reading one stops, no line goes on.
 -- For `answer`, `answer_join`, `finish_pieces`, `join_into` and `part`.
-use Rattle.std.proofs.Common.{◌≡◌, ℕ, suc, ◌+◌, ◌≤◌, ◌==◌, false, IsTrue, nat_lt, List, [], ◌∷◌, ◌++◌, length, take, codes, flat_map, Option, Some, None, refl, sym, ◌∙◌, ap, subst, arith, append_assoc, length-append, true≢false}
+use Rattle.std.proofs.Common.{◌≡◌, ℕ, ◌+◌, ◌≤◌, ◌==◌, false, IsTrue, nat_lt, List, [], ◌∷◌, ◌++◌, length, take, codes, flat_map, Option, Some, None, refl, sym, ◌∙◌, ap, subst, arith, append_assoc, length-append, true≢false}
 use Rattle.std.specs.List.{AllByRecursion}
 use Rattle.std.specs.Char.{to_ascii_uppercase}
 use Rattle.std.specs.Str.{str_to_ascii_uppercase}
+use Rattle.std.proofs.Math.Seq.{take-append-add}
 use Rattle.std.proofs.lemmas.List.{append_cancel_left}
-use Rattle.at_text.specs.Parts.{Many, ◌▸◌}
 use Rattle.at_text.specs.Prefix.{LongestViable}
 use Rattle.at_text.specs.Syntax.{stop_fault}
 use Rattle.at_lex.specs.Strings.{Character, character_text, SpellsString}
@@ -20,17 +20,12 @@ AreBlanks w = AllByRecursion (λ b. IsTrue (is_blank b)) w
 
 -- ---- what begins behind the first blanks
 
-first_byte : (b letter : ℕ) → to_ascii_uppercase b ≡ letter → 0x41 ≤ letter → (is_blank b ≡ false) × ((b == 0x22) ≡ false)
-first_byte b letter e h = (grind (arith, e, h), grind (arith, e, h))
-
 abbrev BeginsPlain : List ℕ → Type 0
 BeginsPlain v = (b : ℕ) × (t : List ℕ) × (v ≡ b ∷ t) × (is_blank b ≡ false) × ((b == 0x22) ≡ false)
 
 by_letter : (a r v : List ℕ) (letter : ℕ) (rest : List ℕ) → v ≡ a ++ r → str_to_ascii_uppercase a ≡ letter ∷ rest → 0x41 ≤ letter → BeginsPlain v
 by_letter [] r v letter rest e u h = absurd (let none : [] ≡ letter ∷ rest = u in cc)
-by_letter (b ∷ a) r v letter rest e u h =
-    let upper : to_ascii_uppercase b ≡ letter = cc in
-    let (p, q) = first_byte b letter upper h in (b, a ++ r, e, p, q)
+by_letter (b ∷ a) r v letter rest e u h = let upper : to_ascii_uppercase b ≡ letter = cc in (b, a ++ r, e, grind (arith, upper, h), grind (arith, upper, h))
 
 geometry_begins : (g : Geometry) (at : ℕ) (v : List ℕ) → SpellsGeometry at v g → BeginsPlain v
 geometry_begins (point p) at v (d, (a, r, e, h, q)) = by_letter a r v 0x50 (codes "OINT") e h (omega arith)
@@ -41,10 +36,6 @@ geometry_begins (multi_line_string p) at v (d, (a, r, e, h, q)) = by_letter a r 
 geometry_begins (multi_polygon p) at v (d, (a, r, e, h, q)) = by_letter a r v 0x4D (codes "ULTIPOLYGON") e h (omega arith)
 geometry_begins (collection p) at v (d, (a, r, e, h, q)) = by_letter a r v 0x47 (codes "EOMETRYCOLLECTION") e h (omega arith)
 
--- what stands behind the blanks of a line
-plain_begins : (g : Geometry) (at : ℕ) (v : List ℕ) → ((λ i u. SpellsGeometry i u g) ▸ Many is_blank) at v → BeginsPlain v
-plain_begins g at v (x, y, e, h, k) = let (b, t, f, p, q) = geometry_begins g at x h in (b, t ++ y, e ∙ ap (λ z. z ++ y) f, p, q)
-
 -- the bytes begin with a quote
 abbrev pub BeginsQuoted : List ℕ → Type 0
 BeginsQuoted v = (t : List ℕ) × (v ≡ 0x22 ∷ t)
@@ -52,14 +43,8 @@ BeginsQuoted v = (t : List ℕ) × (v ≡ 0x22 ∷ t)
 pub string_begins : (cs : List Character) (at : ℕ) (v : List ℕ) → SpellsString cs at v → BeginsQuoted v
 string_begins cs at v h = (flat_map character_text cs ++ 0x22 ∷ [], h.1)
 
-pub quoted_on : (v r : List ℕ) → BeginsQuoted v → BeginsQuoted (v ++ r)
-quoted_on v r (t, e) = (t ++ r, ap (λ z. z ++ r) e)
-
 pub quoted_front : (s r v : List ℕ) → BeginsQuoted s → v ≡ s ++ r → BeginsQuoted v
-quoted_front s r v h e = subst BeginsQuoted (sym e) (quoted_on s r h)
-
-not_both : (b : ℕ) (t u : List ℕ) → b ∷ t ≡ 0x22 ∷ u → (b == 0x22) ≡ false → ⊥
-not_both b t u e h = let same : b ≡ 0x22 = cc in let no : (0x22 == 0x22) ≡ false = ap (λ z. z == 0x22) (sym same) ∙ h in true≢false no
+quoted_front s r v (t, e) f = (t ++ r, f ∙ ap (λ z. z ++ r) e)
 
 -- blanks are all blanks where what stands behind them isn't one
 pub same_blanks : (a c x y : List ℕ) → AreBlanks a → AreBlanks c → (b : ℕ) × (t : List ℕ) × (x ≡ b ∷ t) × (is_blank b ≡ false) → (b : ℕ) × (t : List ℕ) × (y ≡ b ∷ t) × (is_blank b ≡ false)
@@ -71,29 +56,27 @@ same_blanks a c x y ha hc (b, t, e, p) (d, u, f, q) line =
 pub quote_stops : (v : List ℕ) → BeginsQuoted v → (b : ℕ) × (t : List ℕ) × (v ≡ b ∷ t) × (is_blank b ≡ false)
 quote_stops v (t, e) = (0x22, t, e, refl)
 
-plain_stops : (v : List ℕ) → BeginsPlain v → (b : ℕ) × (t : List ℕ) × (v ≡ b ∷ t) × (is_blank b ≡ false)
-plain_stops v (b, t, e, p, q) = (b, t, e, p)
-
 -- a text that a quote begins past its blanks is no line without a label
 pub quoted_not_plain : (a v : List ℕ) (at : ℕ) (w : List ℕ) (g : Geometry) → AreBlanks a → BeginsQuoted v → w ≡ a ++ v → IsLineOf at w g → ⊥
-quoted_not_plain a v at w g ha hv e (c, y, f, hc, hy) =
-    let plain = plain_begins g (at + length c) y hy in
-    let (same, rest) = same_blanks a c v y ha hc (quote_stops v hv) (plain_stops y plain) (sym e ∙ f) in
+quoted_not_plain a v at w g ha hv e (c, y, f, hc, (x, z, k, hx, hz)) =
+    let (b, u, i, p, n) = geometry_begins g (at + length c) x hx in
+    let begin : y ≡ b ∷ (u ++ z) = k ∙ ap (λ s. s ++ z) i in
+    let (same, rest) = same_blanks a c v y ha hc (quote_stops v hv) (b, u ++ z, begin, p) (sym e ∙ f) in
     let (t, q) = hv in
-    let (b, u, i, p, n) = plain in
-    not_both b u t (sym i ∙ (sym rest ∙ q)) n
+    let quote : b ≡ 0x22 = (let both : b ∷ (u ++ z) ≡ 0x22 ∷ t = sym begin ∙ (sym rest ∙ q) in cc) in
+    true≢false (ap (λ z. z == 0x22) (sym quote) ∙ n)
 
 -- ---- a line spells one label or none, and one geometry
 
 pub one_labelled : (at : ℕ) (w : List ℕ) (l m : Option (List Character)) (g h : Geometry) → SpellsLabelled l g at w → SpellsLabelled m h at w → (l ≡ m) × (g ≡ h)
 one_labelled at w None None g h p q = (refl, one_line at w g h p q)
 one_labelled at w None (Some ds) g h p (a, v, e, ha, (s, r, f, hs, hr)) =
-    absurd (quoted_not_plain a v at w g ha (subst BeginsQuoted (sym f) (quoted_on s r (string_begins ds (at + length a) s hs))) e p)
+    absurd (quoted_not_plain a v at w g ha (quoted_front s r v (string_begins ds (at + length a) s hs) f) e p)
 one_labelled at w (Some cs) None g h (a, v, e, ha, (s, r, f, hs, hr)) q =
-    absurd (quoted_not_plain a v at w h ha (subst BeginsQuoted (sym f) (quoted_on s r (string_begins cs (at + length a) s hs))) e q)
+    absurd (quoted_not_plain a v at w h ha (quoted_front s r v (string_begins cs (at + length a) s hs) f) e q)
 one_labelled at w (Some cs) (Some ds) g h (a, v, e, ha, (s, r, f, hs, hr)) (c, y, i, hc, (t, x, j, ht, hx)) =
-    let (same, rest) = same_blanks a c v y ha hc (quote_stops v (subst BeginsQuoted (sym f) (quoted_on s r (string_begins cs (at + length a) s hs))))
-    (quote_stops y (subst BeginsQuoted (sym j) (quoted_on t x (string_begins ds (at + length c) t ht)))) (sym e ∙ i) in
+    let (same, rest) = same_blanks a c v y ha hc (quote_stops v (quoted_front s r v (string_begins cs (at + length a) s hs) f))
+    (quote_stops y (quoted_front t x y (string_begins ds (at + length c) t ht) j)) (sym e ∙ i) in
     let line : s ++ r ≡ t ++ x = sym f ∙ (rest ∙ j) in
     let (label, text) = one_string cs ds (at + length c) s t r x hs ht line in
     let behind : r ≡ x = append_cancel_left t r x (ap (λ z. z ++ r) (sym text) ∙ line) in
@@ -110,10 +93,10 @@ module _ (at : ℕ) (a s : List ℕ) (cs : List Character) (blanks : AreBlanks a
   line_with_label v (g, h) = (Some cs, g, label_added g v h)
 
   pub label_taken : (v : List ℕ) → LabelledLine at (a ++ (s ++ v)) → WktLine ((at + length a) + length s) v
-  label_taken v (None, g, h) = absurd (quoted_not_plain a (s ++ v) at (a ++ (s ++ v)) g blanks (quoted_on s v (string_begins cs (at + length a) s label)) refl h)
+  label_taken v (None, g, h) = absurd (quoted_not_plain a (s ++ v) at (a ++ (s ++ v)) g blanks (quoted_front s v (s ++ v) (string_begins cs (at + length a) s label) refl) refl h)
   label_taken v (Some ds, g, (c, y, i, hc, (t, x, j, ht, hx))) =
-      let (same, rest) = same_blanks a c (s ++ v) y blanks hc (quote_stops (s ++ v) (quoted_on s v (string_begins cs (at + length a) s label)))
-      (quote_stops y (subst BeginsQuoted (sym j) (quoted_on t x (string_begins ds (at + length c) t ht)))) i in
+      let (same, rest) = same_blanks a c (s ++ v) y blanks hc (quote_stops (s ++ v) (quoted_front s v (s ++ v) (string_begins cs (at + length a) s label) refl))
+      (quote_stops y (quoted_front t x y (string_begins ds (at + length c) t ht) j)) i in
       let line : s ++ v ≡ t ++ x = rest ∙ j in
       let (which, text) = one_string cs ds (at + length c) s t v x (subst (λ z. SpellsString cs (at + length z) s) same label) ht line in
       let behind : v ≡ x = append_cancel_left t v x (ap (λ z. z ++ v) (sym text) ∙ line) in
@@ -122,21 +105,16 @@ module _ (at : ℕ) (a s : List ℕ) (cs : List Character) (blanks : AreBlanks a
 
 -- ---- the longest beginning of a line
 
-pub taken_on : (f v : List ℕ) (n : ℕ) → take (length f + n) (f ++ v) ≡ f ++ take n v
-taken_on [] v n = let e : length {A = ℕ} [] + n ≡ n = omega arith in ap (λ z. take z v) e
-taken_on (b ∷ f) v n = let e : length (b ∷ f) + n ≡ suc (length f + n) = omega arith in ap (λ z. take z ((b ∷ f) ++ v)) e ∙ ap (λ z. b ∷ z) (taken_on f v n)
-
 -- where the words of L that begin so are those of M behind some bytes
 pub longest_behind : (L M : List ℕ → Type 0) (f v : List ℕ) (n : ℕ) → ((u : List ℕ) → M u → L (f ++ u)) → ((more : List ℕ) → L (f ++ (take (n + 1) v ++ more)) → M (take (n + 1) v ++ more))
     → LongestViable M v n → LongestViable L (f ++ v) (length f + n)
 longest_behind L M f v n up down h = record {
-  fits = (let e = length-append f v in let k = h.fits in omega (arith, e, k));
-  front = (let (more, m) = h.front in (more, subst L (sym (ap (λ z. z ++ more) (taken_on f v n) ∙ append_assoc f (take n v) more)) (up (take n v ++ more) m)));
+  fits = omega (arith, length-append f v, h.fits);
+  front = (let (more, m) = h.front in (more, subst L (sym (ap (λ z. z ++ more) (take-append-add f v n) ∙ append_assoc f (take n v) more)) (up (take n v ++ more) m)));
   longest = λ below (more, l).
       let size : (length f + n) + 1 ≡ length f + (n + 1) = omega arith in
-      let e = length-append f v in
-      let text : take ((length f + n) + 1) (f ++ v) ++ more ≡ f ++ (take (n + 1) v ++ more) = ap (λ z. take z (f ++ v) ++ more) size ∙ (ap (λ z. z ++ more) (taken_on f v (n + 1)) ∙ append_assoc f (take (n + 1) v) more) in
-      h.longest (omega (arith, e, below)) (more, down more (subst L text l));
+      let text : take ((length f + n) + 1) (f ++ v) ++ more ≡ f ++ (take (n + 1) v ++ more) = ap (λ z. take z (f ++ v) ++ more) size ∙ (ap (λ z. z ++ more) (take-append-add f v (n + 1)) ∙ append_assoc f (take (n + 1) v) more) in
+      h.longest (omega (arith, length-append f v, below)) (more, down more (subst L text l));
 }
 
 lt_moved : (k m n : ℕ) → nat_lt (k + m) (k + n) ≡ nat_lt m n

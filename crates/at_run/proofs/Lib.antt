@@ -1,4 +1,3 @@
-pub mod Falls
 pub mod Powers
 pub mod EvenPlaces
 pub mod LabelledLines
@@ -8,8 +7,7 @@ pub mod KeptLabels
 pub mod LineParts
 pub mod Covered
 pub mod BlockParts
-pub mod LineSizes
-pub mod AsciiLines
+pub mod LineBytes
 pub mod FileSizes
 pub mod ProperFeatures
 pub mod JsonSizes
@@ -17,7 +15,6 @@ pub mod JsonFeatures
 pub mod Results
 pub mod ValidSpans
 pub mod ValidLines
-pub mod JsonMerges
 pub mod FormMerges
 pub mod JsonEnds
 pub mod OneAnswer

@@ -30,7 +30,7 @@ use Rattle.at_run.specs.Features.{IsLineFeature, AreLineFeatures, AreFileFeature
 use Rattle.at_wkt.specs.Meaning.{shape_of}
 use Rattle.at_run.specs.Labels.{texts_of}
 use Rattle.at_run.proofs.LabelledLines.{one_labelled}
-use Rattle.at_run.proofs.FaultLists.{one_lines_fault}
+use Rattle.at_run.proofs.FaultLists.{one_behind}
 use Rattle.at_run.specs.JsonFiles.{HaveJsonFaults, HasJsonFaultBehind}
 use Rattle.at_run.specs.Files.{HasFileFaultIn, TheFileFaultIn, AreJsonFeatures, AreFileFeaturesIn}
 use Rattle.at_run.specs.Joins.{first_end}
@@ -74,23 +74,19 @@ module _ (digits : ℕ) (how : Coords) where
 
 -- ---- a file of either form
 
+-- at most one first fault, or none, and not both
+pub one_file_fault_in : (form : Form) (digits : ℕ) (how : Coords) (bytes : List ℕ) (f g : Option Fault) → HasFileFaultIn form digits how bytes f → HasFileFaultIn form digits how bytes g → f ≡ g
+one_file_fault_in Wkt digits how bytes f g h k = one_behind digits how (utf8_fault bytes) bytes f g h k
+one_file_fault_in GeoJson digits how bytes f g h k = one_json_behind digits how (utf8_fault bytes) bytes f g h k
+
+pub one_file_features_in : (form : Form) (digits : ℕ) (how : Coords) (bytes : List ℕ) (fs gs : List Feature) → AreFileFeaturesIn form digits how bytes fs → AreFileFeaturesIn form digits how bytes gs → fs ≡ gs
+one_file_features_in Wkt digits how bytes fs gs h k = one_file_features digits how bytes fs gs h k
+one_file_features_in GeoJson digits how bytes fs gs h k = one_json_features digits how bytes fs gs h k
+
 module _ (form : Form) (digits : ℕ) (how : Coords) where
-  -- at most one first fault, or none, and not both
-  pub one_file_fault_in : (bytes : List ℕ) (f g : Option Fault) → HasFileFaultIn form digits how bytes f → HasFileFaultIn form digits how bytes g → f ≡ g
-  one_file_fault_in bytes f g p q = by_form form p q where
-    by_form : (form : Form) → HasFileFaultIn form digits how bytes f → HasFileFaultIn form digits how bytes g → f ≡ g
-    by_form Wkt h k = one_lines_fault digits how bytes f g h k
-    by_form GeoJson h k = one_json_behind digits how (utf8_fault bytes) bytes f g h k
-
-  pub one_file_features_in : (bytes : List ℕ) (fs gs : List Feature) → AreFileFeaturesIn form digits how bytes fs → AreFileFeaturesIn form digits how bytes gs → fs ≡ gs
-  one_file_features_in bytes fs gs p q = by_form form p q where
-    by_form : (form : Form) → AreFileFeaturesIn form digits how bytes fs → AreFileFeaturesIn form digits how bytes gs → fs ≡ gs
-    by_form Wkt h k = one_file_features digits how bytes fs gs h k
-    by_form GeoJson h k = one_json_features digits how bytes fs gs h k
-
   -- so the first fault of a file is the only one
   pub the_file_fault_in : (bytes : List ℕ) (f : Option Fault) → HasFileFaultIn form digits how bytes f → TheFileFaultIn form digits how bytes f
-  the_file_fault_in bytes f p other q = one_file_fault_in bytes other f q p
+  the_file_fault_in bytes f p other q = one_file_fault_in form digits how bytes other f q p
 
   -- the fault that is found is the only first one
   pub found_only : (bytes : List ℕ) (end : RunFault) → IfFound end (λ fault. HasFileFaultIn form digits how bytes (Some fault)) → IfFound end (λ fault. TheFileFaultIn form digits how bytes (Some fault))
@@ -100,21 +96,18 @@ module _ (form : Form) (digits : ℕ) (how : Coords) where
   module _ (query : Query) (bytes : List ℕ) where
     pub one_file_part : (a b : Part) → IsFilePart form digits how query bytes a → IsFilePart form digits how query bytes b → a ≡ b
     one_file_part a b h k =
-        let same : h.features ≡ k.features = one_file_features_in bytes h.features k.features h.are_features k.are_features in
+        let same : h.features ≡ k.features = one_file_features_in form digits how bytes h.features k.features h.are_features k.are_features in
         one_part query k.features a b (subst (λ fs. IsPart query fs a) same h.is_part) k.is_part
 
     -- a file has one answer to a query
     pub one_file_answer : (a b : Answer) → IsFileAnswer form digits how query bytes a → IsFileAnswer form digits how query bytes b → a ≡ b
     one_file_answer a b h k =
-        let same : h.features ≡ k.features = one_file_features_in bytes h.features k.features h.are_features k.are_features in
+        let same : h.features ≡ k.features = one_file_features_in form digits how bytes h.features k.features h.are_features k.are_features in
         one_result query k.features a b (subst (λ fs. IsResult query fs a) same h.is_result) k.is_result
 
     -- an answer, or a fault
     pub answer_or_fault : (a : Answer) (f : Fault) → IsFileAnswer form digits how query bytes a → HasFileFaultIn form digits how bytes (Some f) → ⊥
-    answer_or_fault a f h k = none-some f (one_file_fault_in bytes None (Some f) h.faultless k)
-
-    pub part_or_fault : (a : Part) (f : Fault) → IsFilePart form digits how query bytes a → HasFileFaultIn form digits how bytes (Some f) → ⊥
-    part_or_fault a f h k = none-some f (one_file_fault_in bytes None (Some f) h.faultless k)
+    answer_or_fault a f h k = none-some f (one_file_fault_in form digits how bytes None (Some f) h.faultless k)
 
 -- two files have one join, or a fault
 module _ (form_a form_b : Form) (digits : ℕ) (how : Coords) (query : Query) (first second : List ℕ) where
@@ -140,5 +133,5 @@ module _ (form_a form_b : Form) (digits : ℕ) (how : Coords) (query : Query) (f
 
   -- where the first file's fault is why there is no join, no other one is its first
   pub only_first_fault : (end : RunFault) (fault : JoinFault) → fault ≡ first_end end → IfFound end (λ f. HasFileFaultIn form_a digits how first (Some f)) → IsTheJoinFault form_a form_b digits how first second fault
-  only_first_fault (Found f) fault e h = let P : JoinFault → Type 0 = λ z. IsTheJoinFault form_a form_b digits how first second z in subst P (sym e) (the_file_fault_in form_a digits how first (Some f) h)
-  only_first_fault Memory fault e h = let P : JoinFault → Type 0 = λ z. IsTheJoinFault form_a form_b digits how first second z in subst P (sym e) tt
+  only_first_fault (Found f) fault e h = rw e (the_file_fault_in form_a digits how first (Some f) h)
+  only_first_fault Memory fault e h = rw e tt

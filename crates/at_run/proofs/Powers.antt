@@ -1,6 +1,6 @@
 -- Counts of blocks are the powers of two up to 4,096.
 -- For `even` and `from_places`.
-use Rattle.std.proofs.Common.{◌≡◌, ℕ, zero, suc, ◌/◌, ◌%◌, ◌^◌, ◌<◌, ◌≤◌, ◌⊎◌, inl, inr, max, true, count_ones, eq-eqb, ap, ◌∙◌, subst, arith}
+use Rattle.std.proofs.Common.{◌≡◌, ℕ, zero, suc, ◌/◌, ◌%◌, ◌^◌, ◌<◌, ◌≤◌, inl, inr, max, true, count_ones, eq-eqb, ap, ◌∙◌, subst, arith}
 use Rattle.std.specs.Int.{is_power_of_two, IsPowerOfTwo}
 use Rattle.std.specs.Int.Count.{ones_step}
 use Rattle.std.proofs.Math.Nat.{pow-le-pow_right}
@@ -16,13 +16,10 @@ pow_le i j h = pow-le-pow_right {n = 2} (omega arith) h
 
 -- a power that is less has a lesser exponent
 less_power : (i j : ℕ) → 2 ^ i < 2 ^ j → i < j
-less_power i j h = by_cases (cases_lt i j) where
-  by_cases : (i < j) ⊎ (j ≤ i) → i < j
-  by_cases (inl lt) = lt
-  by_cases (inr le) = absurd (let p = pow_le j i le in omega (arith, p, h))
+less_power i j h = elim (cases_lt i j) [ inl lt ↦ lt | inr le ↦ absurd (let p = pow_le j i le in omega (arith, p, h)) ]
 
 pub some_blocks : (count : ℕ) → IsBlockCount count → (0 < count) × (count ≤ 4096)
-some_blocks count is = let power = power_of count is in let p = pow_pos power.0 in (omega (arith, p, power.1), power.2)
+some_blocks count is = let power = power_of count is in (omega (arith, pow_pos power.0, power.1), power.2)
 
 ones_power : (k : ℕ) → count_ones (2 ^ k) ≡ 1
 ones_power zero = let s = ones_step 1 in let z = ones_le_self 0 in omega (arith, s, z)
@@ -40,24 +37,16 @@ power_tested n (k, e) = eq-eqb (count_ones n) 1 (ap count_ones e ∙ ones_power 
 -- ---- the least count
 
 least_power : (blocks d k : ℕ) → 1 ≤ blocks → 2 ^ k / 2 < max 1 blocks → blocks ≤ 2 ^ d → 2 ^ k ≤ 2 ^ d
-least_power blocks d k some upper le = by_cases (cases_lt (2 ^ d) (2 ^ k)) where
-  by_cases : (2 ^ d < 2 ^ k) ⊎ (2 ^ k ≤ 2 ^ d) → 2 ^ k ≤ 2 ^ d
-  by_cases (inl lt) = absurd (let m = pow_le (suc d) k (let l = less_power d k lt in omega (arith, l)) in let t = two_suc d in omega (arith, m, t, upper, le, some))
-  by_cases (inr small) = small
+least_power blocks d k some upper le = elim (cases_lt (2 ^ d) (2 ^ k)) [
+    | inl lt ↦ absurd (let m = pow_le (suc d) k (let l = less_power d k lt in omega (arith, l)) in let t = two_suc d in omega (arith, m, t, upper, le, some))
+    | inr small ↦ small
+  ]
 
 pub least_count : (blocks result : ℕ) → 1 ≤ blocks → blocks ≤ 4096 → IsPowerOfTwo result → blocks ≤ result → result / 2 < max 1 blocks → IsLeastCount blocks result
-least_count blocks result some few (k, e) lower upper = record {
-  is_count = block_count result (k, e) (let le = at_most 12 few in omega (arith, le, e));
-  enough = lower;
-  least = λ other is le. at_most_of other is le;
-} where
-  upper_power : 2 ^ k / 2 < max 1 blocks
-  upper_power = subst (λ x. x / 2 < max 1 blocks) e upper
-
-  at_most : (d : ℕ) → blocks ≤ 2 ^ d → 2 ^ k ≤ 2 ^ d
-  at_most d le = least_power blocks d k some upper_power le
-
-  at_most_of : (other : ℕ) → IsBlockCount other → blocks ≤ other → result ≤ other
-  at_most_of other is le =
-      let power = power_of other is in let m = at_most power.0 (subst (λ x. blocks ≤ x) power.1 le) in
-      omega (arith, m, e, power.1)
+least_count blocks result some few (k, e) lower upper =
+    let bound : 2 ^ k / 2 < max 1 blocks = subst (λ x. x / 2 < max 1 blocks) e upper in
+    record {
+      is_count = block_count result (k, e) (omega (arith, least_power blocks 12 k some bound few, e));
+      enough = lower;
+      least = λ other is le. let power = power_of other is in omega (arith, least_power blocks power.0 k some bound (subst (λ x. blocks ≤ x) power.1 le), e, power.1);
+    }

@@ -1,6 +1,6 @@
 -- The features of a file without a fault are proper: their rings are closed, their coordinates are in range, and their offsets rise.
 -- For `answer` and `answer_join`.
-use Rattle.std.proofs.Common.{◌≡◌, ℕ, ◌+◌, ◌≤◌, inl, inr, Bool, true, false, not, ◌&&◌, ◌||◌, cond, if◌then◌else◌, nat_lt, List, [], ◌∷◌, ◌++◌, length, map, filter, flat_map, drop, Option, Some, None, option_to_list, refl, sym, ap, ◌∙◌, subst, arith}
+use Rattle.std.proofs.Common.{◌≡◌, ℕ, ◌+◌, ◌≤◌, inl, inr, Bool, true, false, not, ◌&&◌, ◌||◌, cond, if◌then◌else◌, nat_lt, List, [], ◌∷◌, ◌++◌, length, map, filter, flat_map, drop, Option, Some, None, option_to_list, refl, sym, ap, ◌∙◌, arith}
 use Rattle.std.specs.List.{AllByRecursion, slice_split}
 use Rattle.std.proofs.lemmas.Option.{none-some}
 use Rattle.std.proofs.ByRecursion.{All-append}
@@ -12,7 +12,7 @@ use Rattle.at_text.specs.Separated.{placed}
 use Rattle.at_fixed.specs.declared.rounding.Coords.{Coords}
 use Rattle.at_geom.specs.declared.shapes.Polygon.{Polygon}
 use Rattle.at_geom.specs.Closed.{last_of, IsClosed}
-use Rattle.at_geom.specs.Shapes.{ring_fault, IsShapeInRange}
+use Rattle.at_geom.specs.Shapes.{ring_fault}
 use Rattle.at_geom.proofs.ClosedRings.{same_position}
 use Rattle.at_wkt.specs.Positions.{Position, Positions, position_faults, is_faultless, are_same, is_closed, items_faults, faults_of_ring, pos_of, path_of}
 use Rattle.at_wkt.specs.Geometry.{Geometry, polygon, multi_polygon, collection, Geometries, no_geometries, geometry_and}
@@ -34,28 +34,26 @@ empties (x ∷ xs) ys e = absurd (let n = ap length e in omega (arith, n))
 pub not_empty : {X : Type 0} (x : X) (xs : List X) → x ∷ xs ≡ [] → ⊥
 not_empty x xs e = let n = ap length e in omega (arith, n)
 
-first_is_some : (a : Fault) (b : Option Fault) → first_fault (Some a) b ≡ None → ⊥
-first_is_some a None e = none-some a (sym e)
-first_is_some a (Some b) e = go (comes_first a b) e where
-  go : (t : Bool) → (if t then Some a else Some b) ≡ None → ⊥
-  go true h = none-some a (sym h)
-  go false h = none-some b (sym h)
+either_first : (a b : Fault) (t : Bool) → None ≡ (if t then Some a else Some b) → ⊥
+either_first a b true e = cc
+either_first a b false e = cc
 
 pub no_first : (fs : List Fault) → None ≡ first_of fs → fs ≡ []
 no_first [] e = refl
-no_first (f ∷ fs) e = absurd (first_is_some f (first_of fs) (sym e))
+no_first (f ∷ fs) e = absurd (go (first_of fs) e) where
+  go : (b : Option Fault) → None ≡ first_fault (Some f) b → ⊥
+  go None e = cc
+  go (Some b) e = either_first f b (comes_first f b) e
 
 -- ---- rings
 
 closed_of : (short closed : Bool) (at : ℕ) → option_to_list (if short || not closed then Some (fault_at Ring at) else None) ≡ [] → closed ≡ true
-closed_of true closed at e = absurd (not_empty (fault_at Ring at) [] e)
 closed_of false true at e = refl
-closed_of false false at e = absurd (not_empty (fault_at Ring at) [] e)
+closed_of _ _ at e = absurd (not_empty (fault_at Ring at) [] e)
 
 same_of : (first last same : Bool) → first ≡ true → last ≡ true → (not (first && last) || same) ≡ true → same ≡ true
 same_of true true same e f h = h
-same_of true false same e f h = absurd (cc)
-same_of false last same e f h = absurd (cc)
+same_of _ _ same e f h = absurd (cc)
 
 abbrev pub HasClosedRings : Polygon → Type 0
 HasClosedRings area = AllByRecursion IsClosed area.rings
@@ -64,9 +62,6 @@ module _ (digits : ℕ) (how : Coords) where
   faultless_by : (fs : List Fault) → fs ≡ [] → elim fs [ [] ↦ true | f ∷ more ↦ false ] ≡ true
   faultless_by [] e = refl
   faultless_by (f ∷ fs) e = absurd (not_empty f fs e)
-
-  faultless : (p : Position) → position_faults digits how p ≡ [] → is_faultless digits how p ≡ true
-  faultless p e = faultless_by (position_faults digits how p) e
 
   last_faultless : (p : Position) (rest : List Position) → position_faults digits how p ≡ [] → items_faults digits how rest ≡ [] → position_faults digits how (last_of p rest) ≡ []
   last_faultless p [] e h = e
@@ -81,7 +76,7 @@ module _ (digits : ℕ) (how : Coords) where
   items_closed (p ∷ rest) e h =
       let (a, b) = empties (position_faults digits how p) (items_faults digits how rest) h in
       let last = last_of p rest in
-      let same = same_of (is_faultless digits how p) (is_faultless digits how last) (are_same digits how p last) (faultless p a) (faultless last (last_faultless p rest a b)) e in
+      let same = same_of (is_faultless digits how p) (is_faultless digits how last) (are_same digits how p last) (faultless_by _ a) (faultless_by _ (last_faultless p rest a b)) e in
       last_of_path p rest ∙ sym (same_position (pos_of digits how p) (pos_of digits how last) same)
 
   ring_closed : (ps : Positions) → faults_of_ring digits how ps ≡ [] → IsClosed (path_of digits how ps)
@@ -140,7 +135,7 @@ kept_from p n [] h = tt
 kept_from p n (l ∷ ls) h = go (p l) (kept_from p (l.at + 1) ls h.1) where
   go : (t : Bool) → AreFrom (l.at + 1) (filter p ls) → AreFrom n (cond t (l ∷ filter p ls) (filter p ls))
   go true k = (h.0, k)
-  go false k = from_less n (l.at + 1) (filter p ls) (let le = h.0 in omega (arith, le)) k
+  go false k = from_less n (l.at + 1) (filter p ls) (omega (arith, h.0)) k
 
 lines_from : (bytes : List ℕ) → AreFrom 0 (lines_of bytes)
 lines_from bytes =
@@ -154,19 +149,12 @@ at_of f = f.at
 
 module _ (digits : ℕ) (how : Coords) where
   rising_behind : (n : ℕ) (ls : List FileLine) (fs : List Feature) → AreFrom (n + 1) ls → AreLineFeatures digits how ls fs → AreRising (n ∷ map at_of fs)
-  rising_behind n [] fs h e = let P : List Feature → Type 0 = λ z. AreRising (n ∷ map at_of z) in subst P (sym e) tt
-  rising_behind n (l ∷ ls) fs h (f, rest, e, is, more) =
-      let at : f.at ≡ l.at = is.at in
-      let P : List Feature → Type 0 = λ z. AreRising (n ∷ map at_of z) in
-      let le = h.0 in
-      subst P (sym e) ((omega (arith, le, at)), rising_behind f.at ls rest (let Q : ℕ → Type 0 = λ z. AreFrom (z + 1) ls in subst Q (sym at) h.1) more)
+  rising_behind n [] fs h e = rw e tt
+  rising_behind n (l ∷ ls) fs h (f, rest, e, is, more) = rw e ((omega (arith, h.0, is.at)), rising_behind f.at ls rest (rw is.at h.1) more)
 
   rising : (n : ℕ) (ls : List FileLine) (fs : List Feature) → AreFrom n ls → AreLineFeatures digits how ls fs → AreRising (map at_of fs)
-  rising n [] fs h e = let P : List Feature → Type 0 = λ z. AreRising (map at_of z) in subst P (sym e) tt
-  rising n (l ∷ ls) fs h (f, rest, e, is, more) =
-      let at : f.at ≡ l.at = is.at in
-      let P : List Feature → Type 0 = λ z. AreRising (map at_of z) in
-      subst P (sym e) (rising_behind f.at ls rest (let Q : ℕ → Type 0 = λ z. AreFrom (z + 1) ls in subst Q (sym at) h.1) more)
+  rising n [] fs h e = rw e tt
+  rising n (l ∷ ls) fs h (f, rest, e, is, more) = rw e (rising_behind f.at ls rest (rw is.at h.1) more)
 
   -- ---- features
 
@@ -174,16 +162,13 @@ module _ (digits : ℕ) (how : Coords) where
   proper_feature l f faults is (inl (fault, h, e)) none = absurd (not_empty fault [] (sym e ∙ none))
   proper_feature l f faults is (inr (label, g, p, e)) none =
       let same : f.shape ≡ shape_of digits how g = is.shape ∙ ap (shape_of digits how) (one_labelled l.at l.text is.label label is.geometry g is.spelled p).1 in
-      record {
-        closed = subst AreRingsClosed (sym same) (geometry_closed digits how g (sym e ∙ none));
-        in_range = subst IsShapeInRange (sym same) (shape_in digits how g);
-      }
+      record { closed = rw same (geometry_closed digits how g (sym e ∙ none)); in_range = rw same (shape_in digits how g) }
 
   proper_lines : (ls : List FileLine) (fs : List Feature) (faults : List Fault) → AreLineFeatures digits how ls fs → HaveFaults digits how ls faults → faults ≡ [] → AllByRecursion IsProperFeature fs
-  proper_lines [] fs faults e have none = subst (AllByRecursion IsProperFeature) (sym e) tt
+  proper_lines [] fs faults e have none = rw e tt
   proper_lines (l ∷ ls) fs faults (f, rest, e, is, more) (first, others, h, hs, j) none =
       let (a, b) = empties first others (sym j ∙ none) in
-      subst (AllByRecursion IsProperFeature) (sym e) (proper_feature l f first is h a, proper_lines ls rest others more hs b)
+      rw e (proper_feature l f first is h a, proper_lines ls rest others more hs b)
 
   proper_behind : (encoding : Option Fault) (bytes : List ℕ) (fs : List Feature) → HasLinesFaultBehind digits how encoding bytes None → AreFileFeatures digits how bytes fs → AllByRecursion IsProperFeature fs
   proper_behind (Some fault) bytes fs h are = absurd (none-some fault h)

@@ -6,6 +6,7 @@ use Rattle.at_query.specs.declared.query.queries.Query.{Query}
 use Rattle.at_query.specs.declared.features.Feature.{Feature}
 use Rattle.at_query.specs.declared.answer.parts.Part.{Part}
 use Rattle.at_query.specs.declared.answer.answers.Answer.{Answer}
+use Rattle.at_wkt.specs.Lines.{lines_of}
 use Rattle.at_query.specs.Ranges.{AreFeaturesInRange}
 use Rattle.at_query.specs.Results.{IsResult}
 use Rattle.at_query.specs.Parts.{IsPart, AreFew}
@@ -14,7 +15,7 @@ use Rattle.at_run.specs.declared.forms.Form.{Form}
 use Rattle.at_run.specs.declared.forms.Form.TheVariants.{GeoJson, Wkt}
 use Rattle.at_run.specs.Files.{AreFileFeaturesIn}
 use Rattle.at_run.specs.Answers.{IsFilePart, IsFileAnswer}
-use Rattle.at_run.proofs.FileSizes.{few_of_size, file_features_few, file_features_in_range}
+use Rattle.at_run.proofs.FileSizes.{few_of_size, file_features_few, features_in_range as lines_in_range}
 use Rattle.at_run.proofs.JsonSizes.{json_features_size}
 use Rattle.at_run.proofs.JsonFeatures.{json_features_in_range}
 
@@ -25,7 +26,7 @@ module _ (digits : ℕ) (how : Coords) (bytes : List ℕ) (fs : List Feature) wh
   features_few GeoJson short (t, is, same) = subst AreFew (sym same) (few_of_size digits how (features_of digits how t) (length bytes) (json_features_size digits how bytes t is) short)
 
   pub features_in_range : (form : Form) → AreFileFeaturesIn form digits how bytes fs → AreFeaturesInRange fs
-  features_in_range Wkt are = file_features_in_range digits how bytes fs are
+  features_in_range Wkt are = lines_in_range digits how (lines_of bytes) fs are
   features_in_range GeoJson (t, is, same) = subst AreFeaturesInRange (sym same) (json_features_in_range digits how t)
 
 module _ (form : Form) (digits : ℕ) (how : Coords) (query : Query) (bytes : List ℕ) (part : Part) (h : IsFilePart form digits how query bytes part) where

@@ -57,7 +57,7 @@ pub fault_place : (bytes : List ℕ) (fault : Fault) → Some fault ≡ utf8_fau
 fault_place bytes fault some = sym (ap (λ (f : Fault). f.at) (some_by (is_utf8 bytes) (fault_at NotUtf8 (utf8_valid_len bytes)) fault some))
 
 pub fault_within : (bytes : List ℕ) (fault : Fault) → Some fault ≡ utf8_fault bytes → fault.at ≤ length bytes
-fault_within bytes fault some = let e = fault_place bytes fault some in let h = utf8_valid_len_le bytes in omega (arith, e, h)
+fault_within bytes fault some = omega (arith, fault_place bytes fault some, utf8_valid_len_le bytes)
 
 -- ---- a part of a part
 
@@ -108,19 +108,16 @@ module _ (bytes : List ℕ) where
 
   pub spans_joined : (left right : Span) → IsUtf8 (span_of bytes left.to right.from) → IsMerged IsValidIn bytes left right (record { from = left.from; to = right.to })
   spans_joined left right between i j k n =
-      let ij = n.first in let jk = n.second in let end = n.within in let l = n.left in let r = n.right in
-      let l_ends : left.to ≤ j = ends_in i j left ij (omega (arith, jk, end)) l in
-      let r_ends : right.to ≤ k = ends_in j k right jk end r in
-      let l_order = l.order in let r_begins = r.begins in let r_order = r.order in
-      let front : IsUtf8 (span_of bytes left.from right.from) = utf8_joined left.from left.to right.from l_order (omega (arith, l_ends, r_begins)) (utf8_in i j left ij (omega (arith, jk, end)) l) between in
-      stands_in i k (record { from = left.from; to = right.to }) end l.begins (omega (arith, l_order, l_ends, r_begins, r_order)) r_ends
-      (utf8_joined left.from right.from right.to (omega (arith, l_order, l_ends, r_begins)) r_order front (utf8_in j k right jk end r))
+      let l_ends : left.to ≤ j = ends_in i j left n.first (omega arith) n.left in
+      let r_ends : right.to ≤ k = ends_in j k right n.second n.within n.right in
+      let begins = n.right.begins in let order = n.right.order in let l_order = n.left.order in
+      let front : IsUtf8 (span_of bytes left.from right.from) = utf8_joined left.from left.to right.from l_order (omega arith) (utf8_in i j left n.first (omega arith) n.left) between in
+      stands_in i k (record { from = left.from; to = right.to }) n.within n.left.begins (omega arith) r_ends (utf8_joined left.from right.from right.to (omega arith) order front (utf8_in j k right n.second n.within n.right))
 
   pub left_alone : (left right : Span) → IsMerged IsValidIn bytes left right left
   left_alone left right i j k n =
-      let ij = n.first in let jk = n.second in let end = n.within in let l = n.left in let r = n.right in
-      let l_ends : left.to ≤ j = ends_in i j left ij (omega (arith, jk, end)) l in
-      stands_in i k left end l.begins l.order (omega (arith, l_ends, jk)) (utf8_in i j left ij (omega (arith, jk, end)) l)
+      let l_ends : left.to ≤ j = ends_in i j left n.first (omega arith) n.left in
+      stands_in i k left n.within n.left.begins n.left.order (omega arith) (utf8_in i j left n.first (omega arith) n.left)
 
   -- ---- the whole file
 
@@ -129,9 +126,7 @@ module _ (bytes : List ℕ) where
 
   pub valid_around : (at : ℕ) (valid : Span) → at ≤ length bytes → IsValidIn at (drop at bytes) valid → IsUtf8 (take valid.from bytes) → IsUtf8 (span_of bytes valid.to (length bytes)) → utf8_fault bytes ≡ None
   valid_around at valid within h front back =
-      let P : List ℕ → Type 0 = λ w. IsValidIn at w valid in
-      let own : IsUtf8 (span_of bytes valid.from valid.to) = utf8_in at (length bytes) valid within (omega arith) (subst P (sym (take_rest bytes at)) h) in
+      let own : IsUtf8 (span_of bytes valid.from valid.to) = utf8_in at (length bytes) valid within (omega arith) (rw take_rest h) in
       let rest : IsUtf8 (span_of bytes valid.from (length bytes)) = utf8_joined valid.from valid.to (length bytes) h.order (span_ends at valid within h) own back in
       let split : take valid.from bytes ++ span_of bytes valid.from (length bytes) ≡ bytes = ap (λ z. take valid.from bytes ++ z) (take_rest bytes valid.from) ∙ take-append-drop valid.from bytes in
-      let whole : IsUtf8 bytes = subst IsUtf8 split (IsUtf8-append (take valid.from bytes) (span_of bytes valid.from (length bytes)) front rest) in
-      valid_faultless bytes whole
+      valid_faultless bytes (subst IsUtf8 split (IsUtf8-append (take valid.from bytes) (span_of bytes valid.from (length bytes)) front rest))

@@ -1,9 +1,5 @@
-use Rattle.std.proofs.Common.{None, Some, Err, Result, MatchResult, subst, sym, ap, ◌∙◌}
+use Rattle.std.proofs.Common.{None}
 use Rattle.std.proofs.lemmas.Result.{err_from_is_err_and}
-use Rattle.at_query.specs.declared.answer.answers.Answer.{Answer}
-use Rattle.at_run.specs.declared.faults.RunFault.{RunFault}
-use Rattle.at_run.specs.Answers.{IfFound}
-use Rattle.at_run.specs.Files.{TheFileFaultIn}
 use Rattle.at_run.proofs.Results.{file_result}
 use Rattle.at_run.proofs.OneAnswer.{the_file_fault_in, found_only}
 use Rattle.at_run.proofs.answers.answer.Goals as goal
@@ -18,6 +14,4 @@ returns-clause-only g c = the_file_fault_in c.args.form c.args.digits c.args.how
 pub returns-in_err-part-clause-only : goal.returns-in_err-part-clause-only
 returns-in_err-part-clause-only g c =
     let (end, is_end, same) = err_from_is_err_and c.from_residual.result c.from_residual.ensures.1 in
-    let only = TheFileFaultIn c.args.form c.args.digits c.args.how c.args.bytes.now in
-    let P : Result Answer RunFault → Type 0 = λ z. MatchResult z (λ answer. only None) (λ e. IfFound e (λ fault. only (Some fault))) in
-    subst P (sym (is_end ∙ ap Err same)) (found_only c.args.form c.args.digits c.args.how c.args.bytes.now c.in_err-part.field-0.0 c.in_err-part.ensures.answer)
+    rw (is_end, same) (found_only c.args.form c.args.digits c.args.how c.args.bytes.now c.in_err-part.field-0.0 c.in_err-part.ensures.answer)

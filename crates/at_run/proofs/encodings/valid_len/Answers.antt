@@ -1,4 +1,4 @@
-use Rattle.at_run.proofs.ValidSpans.{faultless_len, fault_place, fault_within}
+use Rattle.at_run.proofs.ValidSpans.{faultless_len, fault_within}
 use Rattle.at_run.proofs.encodings.valid_len.Goals as goal
 
 pub returns-in-None-clause-longest : goal.returns-in-None-clause-longest
@@ -6,6 +6,3 @@ returns-in-None-clause-longest c = faultless_len c.args.bytes.now c.in-None.ensu
 
 pub returns-in-Some-clause-within : goal.returns-in-Some-clause-within
 returns-in-Some-clause-within c = fault_within c.args.bytes.now c.in-Some.fault c.in-Some.ensures
-
-pub returns-in-Some-clause-longest : goal.returns-in-Some-clause-longest
-returns-in-Some-clause-longest c = fault_place c.args.bytes.now c.in-Some.fault c.in-Some.ensures

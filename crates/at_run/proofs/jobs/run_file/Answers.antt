@@ -1,17 +1,10 @@
-use Rattle.std.proofs.Common.{ℕ, List, ◌-◌, length, sym, subst}
-use Rattle.at_crew.specs.Nodes.{IsBlockCount}
+use Rattle.std.proofs.Common.{ℕ, List, ◌-◌, length, subst}
 use Rattle.at_run.specs.Blocks.{NoneGivenUp}
 use Rattle.at_run.proofs.BlockParts.{none_given_up}
 use Rattle.at_run.proofs.jobs.run_file.Goals as goal
 
-pub run_crew-requires-clause-size : goal.run_crew-requires-clause-size
-run_crew-requires-clause-size g c κs within =
-    let P : List ℕ → Type 0 = λ w. IsBlockCount (length w - 1) in
-    subst P (sym c.as_slice-places.ensures.places) c.as_slice-places.ensures.are_cuts.counted
-
 pub returns-in-Read-clause-given_up : goal.returns-in-Read-clause-given_up
 returns-in-Read-clause-given_up g c =
     let places = c.as_slice-places.result.now in
-    let P : List ℕ → Type 0 = λ w. NoneGivenUp (g.G.Gate.given_up c.args.gate.now) 0 (length w - 1) in
-    subst P c.as_slice-places.ensures.places
+    subst (λ (w : List ℕ). NoneGivenUp (g.G.Gate.given_up c.args.gate.now) 0 (length w - 1)) c.as_slice-places.ensures.places
     (none_given_up (g.P.Pieces.stands c.args.reader.now) c.args.bytes.now places (g.G.Gate.given_up c.args.gate.now) c.in_ok-run_crew.field-0 c.in-Read.whole c.in-Read.is 0 (length places - 1) c.in_ok-run_crew.ensures)

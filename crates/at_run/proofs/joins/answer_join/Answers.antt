@@ -1,12 +1,11 @@
 -- The second file is read where the first has entries, and both are joined where the second has entries too.
-use Rattle.std.proofs.Common.{◌-◌, List, length, Result, Some, MatchResult, IfOk, subst}
+use Rattle.std.proofs.Common.{List, Result, Some, MatchResult, subst}
 use Rattle.at_query.specs.declared.answer.parts.Entry.{Entry}
 use Rattle.at_query.specs.declared.answer.parts.Part.TheVariants.{Entries}
 use Rattle.at_run.specs.declared.faults.RunFault.{RunFault}
-use Rattle.at_run.specs.Blocks.{NoneGivenUp}
 use Rattle.at_run.specs.Files.{HasFileFaultIn}
 use Rattle.at_run.specs.Answers.{IfFound, IsFilePart, IsJoinAnswer, IsJoinFault}
-use Rattle.at_run.proofs.JoinEnds.{joins_by, joins_ok}
+use Rattle.at_run.proofs.JoinEnds.{joins_by}
 use Rattle.at_run.proofs.JoinedFiles.{files_joined}
 use Rattle.at_run.proofs.OneAnswer.{only_join_fault, only_first_fault}
 use Rattle.at_run.proofs.joins.answer_join.Goals as goal
@@ -26,9 +25,3 @@ returns-clause-only g c =
 pub returns-in-Err-clause-only : goal.returns-in-Err-clause-only
 returns-in-Err-clause-only g c =
     only_first_fault c.args.form_a c.args.form_b c.args.digits c.args.how c.args.query.now c.args.a.now c.args.b.now c.in-Err.end c.of_first.result c.of_first.ensures c.in-Err.ensures.part
-
-pub returns-clause-gate_b : goal.returns-clause-gate_b
-returns-clause-gate_b g c =
-    let none = NoneGivenUp (g.G.Gate.given_up c.args.gate.now) 0 (length c.args.cuts_b.now - 1) in
-    let M : Result (List Entry) RunFault → Type 0 = λ z. IfOk z (λ _. none) in
-    joins_ok c.in-Ok.entries c.entries-second.result c.join_with.result none c.join_with.ensures.answer (λ entries e. subst M e c.entries-second.ensures.given_up)

@@ -1,4 +1,4 @@
-use Rattle.std.proofs.Common.{◌≡◌, List, ℕ, Option, Some, None, Result, Ok, Err, MatchResult, refl, sym, subst}
+use Rattle.std.proofs.Common.{◌≡◌, List, ℕ, Option, Some, None, Result, Ok, Err, MatchResult, refl}
 use Rattle.std.specs.Option.{unwrap_or}
 use Rattle.at_text.specs.declared.faults.Fault.{Fault}
 use Rattle.at_text.specs.Texts.{utf8_fault}
@@ -12,9 +12,8 @@ use Rattle.at_query.specs.Accumulators.{IsAccumulated}
 use Rattle.at_run.specs.declared.faults.RunFault.{RunFault}
 use Rattle.at_run.specs.declared.faults.RunFault.TheVariants.{Memory}
 use Rattle.at_run.specs.declared.forms.Form.TheVariants.{Wkt}
-use Rattle.at_run.specs.declared.gathered.Gathered.{Gathered}
 use Rattle.at_run.specs.declared.gathered.Gathered.TheVariants.{Kept, Failed}
-use Rattle.at_run.specs.LineFaults.{HasLinesFaultBehind, HasLinesFault}
+use Rattle.at_run.specs.LineFaults.{HasLinesFault}
 use Rattle.at_run.specs.Gathering.{Asked, IsGathered}
 use Rattle.at_run.specs.Answers.{IfFound, IsFilePart}
 use Rattle.at_run.proofs.ValidLines.{file_valid, lines_valid}
@@ -24,30 +23,24 @@ lines_end : (asked : Asked) (bytes : List ℕ) (kept : Accumulator) (end : Resul
     → MatchResult end (λ part. (query : Query) (fs : List Feature) → IsAccumulated query fs kept → IsPart query fs part) (λ e. e ≡ Memory)
     → MatchResult end (IsFilePart Wkt asked.digits asked.how asked.query bytes) (λ e. IfFound e (λ fault. HasLinesFault asked.digits asked.how bytes (Some fault)))
 lines_end asked bytes kept (Ok part) (valid, first, (features, are, is)) becomes =
-    let Behind : Option Fault → Type 0 = λ encoding. HasLinesFaultBehind asked.digits asked.how encoding bytes None in
     record {
-      faultless = subst Behind (sym (file_valid bytes valid)) (first.faults, first.have, first.first_is);
+      faultless = rw (file_valid bytes valid) (first.faults, first.have, first.first_is);
       features = features;
       are_features = are;
       is_part = becomes asked.query features is;
     }
-lines_end asked bytes kept (Err end) h e = let P : RunFault → Type 0 = λ z. IfFound z (λ fault. HasLinesFault asked.digits asked.how bytes (Some fault)) in subst P (sym e) tt
+lines_end asked bytes kept (Err end) h e = rw e tt
 
 lines_fault : (asked : Asked) (bytes : List ℕ) (fault : Fault) (found : Option Fault) → found ≡ utf8_fault bytes → IsGathered asked (Failed fault) (lines_of bytes) → HasLinesFault asked.digits asked.how bytes (Some (unwrap_or found fault))
 lines_fault asked bytes fault None e h =
     let first = h (lines_valid bytes e) in
-    let Behind : Option Fault → Type 0 = λ encoding. HasLinesFaultBehind asked.digits asked.how encoding bytes (Some fault) in
-    subst Behind e (first.faults, first.have, first.first_is)
-lines_fault asked bytes fault (Some encoding) e h =
-    let Behind : Option Fault → Type 0 = λ o. HasLinesFaultBehind asked.digits asked.how o bytes (Some encoding) in subst Behind e refl
+    rw (← e) (first.faults, first.have, first.first_is)
+lines_fault asked bytes fault (Some encoding) e h = rw (← e) refl
 
 pub returns-in-Kept : goal.returns-in-Kept
 returns-in-Kept c asked h =
-    let P : Gathered → Type 0 = λ gathered. IsGathered asked gathered (lines_of c.args.bytes.now) in
-    lines_end asked c.args.bytes.now c.in-Kept.kept c.part_of_kept.result (subst P c.in-Kept.is h) c.part_of_kept.ensures
+    lines_end asked c.args.bytes.now c.in-Kept.kept c.part_of_kept.result (rw c.in-Kept.is at h) c.part_of_kept.ensures
 
 pub returns-in-Failed : goal.returns-in-Failed
 returns-in-Failed c asked h =
-    let P : Gathered → Type 0 = λ gathered. IsGathered asked gathered (lines_of c.args.bytes.now) in
-    let Q : Fault → Type 0 = λ first. HasLinesFault asked.digits asked.how c.args.bytes.now (Some first) in
-    subst Q (sym c.unwrap_or.ensures) (lines_fault asked c.args.bytes.now c.in-Failed.fault c.utf8_fault.result c.utf8_fault.ensures (subst P c.in-Failed.is h))
+    rw c.unwrap_or.ensures (lines_fault asked c.args.bytes.now c.in-Failed.fault c.utf8_fault.result c.utf8_fault.ensures (rw c.in-Failed.is at h))

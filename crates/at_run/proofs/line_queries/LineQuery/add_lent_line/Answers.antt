@@ -1,5 +1,7 @@
-use Rattle.std.proofs.Common.{List, [], ◌∷◌, take, subst}
+use Rattle.std.proofs.Common.{List, [], ◌∷◌, take, sym, subst}
 use Rattle.std.proofs.lemmas.Result.{IfOk-weaker}
+use Rattle.at_geom.specs.Shapes.{IsShapeInRange}
+use Rattle.at_query.proofs.ShapeRanges.{shape_in}
 use Rattle.at_query.specs.declared.features.Feature.{Feature}
 use Rattle.at_query.specs.declared.query.queries.Test.{Test}
 use Rattle.at_wkt.specs.declared.answers.LineFault.{LineFault}
@@ -11,9 +13,6 @@ use Rattle.at_run.specs.Labelling.{AreFrontTexts}
 use Rattle.at_run.proofs.LineParts.{read_shape, read_fault, gathered_syntax, found_weaker, owns_feature, adds_feature}
 use Rattle.at_run.proofs.line_queries.LineQuery.add_lent_line.Goals as goal
 
-pub returns-in-Err-clause-own : goal.returns-in-Err-clause-own
-returns-in-Err-clause-own c = c.add_fault.ensures.own c.args.self.now c.requires.own tt
-
 pub returns-in-Err-clause-fold : goal.returns-in-Err-clause-fold
 returns-in-Err-clause-fold c lines before =
     let text = take c.args.len c.args.ahead.now in
@@ -21,12 +20,7 @@ returns-in-Err-clause-fold c lines before =
 
 pub add_lent-requires-clause-feature_in_range : goal.add_lent-requires-clause-feature_in_range
 add_lent-requires-clause-feature_in_range c =
-    let line = c.in-Ok.line in
-    let shape = c.in-Ok-read_line.shape.now in let texts = c.in_ok-texts.texts in
-    let P : Asked → Type 0 = λ asked. HasLineShape asked.digits asked.how line.at (take line.len line.ahead.now) shape in
-    let K : List Test → Type 0 = λ tests. AreFrontTexts tests line.label.now texts in
-    let A : Asked → Type 0 = λ asked. AreFrontTexts asked.query.tests line.label.now texts in
-    (read_shape c.args.self.now c.args.ahead.now c.args.len c.args.at line c.in-Ok.ensures shape texts (subst P c.self.view_is c.in-Ok-read_line.ensures) (subst A c.self.view_is (subst K c.as_slice.ensures c.in_ok-texts.ensures))).in_range
+    subst IsShapeInRange (sym c.in-Ok-read_line.ensures.shape_is) (shape_in c.self.inside.digits c.self.inside.how c.in-Ok-read_line.ensures.geometry)
 
 pub returns-in-Ok-read_line-clause-own : goal.returns-in-Ok-read_line-clause-own
 returns-in-Ok-read_line-clause-own c =
@@ -40,10 +34,9 @@ returns-in-Ok-read_line-clause-fold c =
     let shape = c.in-Ok-read_line.shape.now in let texts = c.in_ok-texts.texts in
     let read : Feature = record { at = c.args.at; shape = shape; texts = texts } in
     let text : FileLine = record { at = c.args.at; text = take c.args.len c.args.ahead.now } in
-    let P : Asked → Type 0 = λ asked. HasLineShape asked.digits asked.how line.at (take line.len line.ahead.now) shape in
-    let K : List Test → Type 0 = λ tests. AreFrontTexts tests line.label.now texts in
-    let A : Asked → Type 0 = λ asked. AreFrontTexts asked.query.tests line.label.now texts in
-    let is = read_shape c.args.self.now c.args.ahead.now c.args.len c.args.at line c.in-Ok.ensures shape texts (subst P c.self.view_is c.in-Ok-read_line.ensures) (subst A c.self.view_is (subst K c.as_slice.ensures c.in_ok-texts.ensures)) in
+    let is = read_shape c.args.self.now c.args.ahead.now c.args.len c.args.at line c.in-Ok.ensures shape texts
+        (subst (λ (a : Asked). HasLineShape a.digits a.how line.at (take line.len line.ahead.now) shape) c.self.view_is c.in-Ok-read_line.ensures)
+        (subst (λ (a : Asked). AreFrontTexts a.query.tests line.label.now texts) c.self.view_is (subst (λ (ts : List Test). AreFrontTexts ts line.label.now texts) c.as_slice.ensures c.in_ok-texts.ensures)) in
     let Q : Asked → Type 0 = λ asked. AddsFeature asked.query read c.args.gathered.now c.add_lent.new.gathered in
     IfOk-weaker c.add_lent.result _ _ (λ u adds. adds_feature c.args.self.now text read c.args.gathered.now c.add_lent.new.gathered is (subst Q c.self.view_is adds)) c.add_lent.ensures
 

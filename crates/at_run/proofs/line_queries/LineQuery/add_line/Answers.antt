@@ -1,18 +1,9 @@
-use Rattle.std.proofs.Common.{[], ◌∷◌, subst, sym}
+use Rattle.std.proofs.Common.{subst}
 use Rattle.std.proofs.lemmas.Result.{IfOk-weaker}
-use Rattle.at_wkt.specs.declared.answers.LineFault.{LineFault}
-use Rattle.at_wkt.specs.Answers.{IfFound}
 use Rattle.at_wkt.specs.Lines.{FileLine}
-use Rattle.at_run.specs.declared.gathered.Gathered.TheVariants.{Failed}
-use Rattle.at_run.specs.Gathering.{Asked, IsOwnOf, IsGathered, AddsFeature}
+use Rattle.at_run.specs.Gathering.{Asked, AddsFeature}
 use Rattle.at_run.proofs.LineParts.{owns_feature, adds_feature}
 use Rattle.at_run.proofs.line_queries.LineQuery.add_line.Goals as goal
-
-pub add_feature-requires-clause-own : goal.add_feature-requires-clause-own
-add_feature-requires-clause-own c = subst (λ (asked : Asked). IsOwnOf asked.query c.args.gathered.now) (sym c.self.view_is) c.requires.own
-
-pub add_feature-requires-clause-feature_in_range : goal.add_feature-requires-clause-feature_in_range
-add_feature-requires-clause-feature_in_range c = c.in-Ok.ensures.in_range
 
 pub returns-in-Ok-clause-own : goal.returns-in-Ok-clause-own
 returns-in-Ok-clause-own c =
@@ -27,9 +18,3 @@ returns-in-Ok-clause-fold c =
 
 pub returns-in-Err-clause-own : goal.returns-in-Err-clause-own
 returns-in-Err-clause-own c = IfOk-weaker c.add_end.result _ _ (λ u (fault, e, owns, joins). owns c.args.self.now c.requires.own tt) c.add_end.ensures
-
-pub returns-in-Err-clause-fold : goal.returns-in-Err-clause-fold
-returns-in-Err-clause-fold c =
-    let line : FileLine = record { at = c.args.at; text = c.args.text.now } in
-    let P : LineFault → Type 0 = λ end. IfFound end (λ fault. IsGathered c.args.self.now (Failed fault) (line ∷ [])) in
-    IfOk-weaker c.add_end.result _ _ (λ u (fault, e, owns, joins) lines before. joins c.args.self.now lines (line ∷ []) before (subst P e c.in-Err.ensures)) c.add_end.ensures
