@@ -1,33 +1,20 @@
 -- An item that is only begun: where the machine goes in it, and where it stops at its first byte.
 -- For `finish`, `finish_span`, `merge` and `run_block`.
-use Rattle.std.proofs.Common.{◌≡◌, ℕ, inl, inr, List, [], ◌∷◌, ◌++◌, Some, None, option_map, option_and_then, Bool, true, false, cond, not, ◌&&◌, ◌==◌, refl, sym, ◌∙◌, ap, true≢false, codes}
+use Rattle.std.proofs.Common.{◌≡◌, ℕ, inl, inr, List, [], ◌∷◌, ◌++◌, Some, None, option_map, option_and_then, true, cond, ◌==◌, refl, sym, ◌∙◌, ap, codes}
 use Rattle.std.proofs.lemmas.Option.{none-some, same_Some, option_and_then_some}
-use Rattle.std.proofs.lemmas.Bool.{eqb-true}
-use Rattle.at_text.specs.Texts.{is_space, is_run, is_one_of}
+use Rattle.at_text.specs.Texts.{is_space, is_run}
 use Rattle.at_text.proofs.Machine.{run}
 use Rattle.at_nest.proofs.JsonNumber as num
 use Rattle.at_lex.specs.Runs.{Literal, literal_text, the_null, the_true, the_false}
 use Rattle.at_lex.proofs.JsonString as str
-use Rattle.at_nest.proofs.JsonMachine.{State, Frame, in_array, in_object, value, items, members, name, colon, after, in_number, in_string, in_name, in_word, step, within, begin_value, after_step, colon_step, same_byte, chosen}
+use Rattle.at_nest.proofs.JsonMachine.{State, Frame, in_array, in_object, value, items, members, name, colon, after, in_number, in_string, in_name, in_word, step, within, begin_value, after_step, colon_step, same_byte, by_last}
 use Rattle.at_nest.proofs.Steps.{IsStill}
+use Rattle.at_nest.proofs.Lexical.{after_off}
 use Rattle.at_nest.proofs.Values.{go, run_byte}
+pub use Rattle.at_nest.proofs.Values.{unlike, run_no_space, pass, number_begins}
 use Rattle.at_nest.specs.Walks.{value_kind, text_kind, next}
 use Rattle.at_nest.proofs.PieceSteps.{Unmarked, unmarked_halts, some_none, first}
 use Rattle.at_nest.proofs.Pushes.{IsRunBegun, IsTextBegun}
-
-pub unlike : (P : ℕ → Bool) (b c : ℕ) → P c ≡ false → P b ≡ true → (b == c) ≡ false
-unlike P b c h e = by_bool (b == c) refl
-  where
-    by_bool : (p : Bool) → (b == c) ≡ p → (b == c) ≡ false
-    by_bool false f = f
-    by_bool true f = absurd (true≢false (sym e ∙ (ap P (eqb-true b c f) ∙ h)))
-
-pub run_no_space : (b : ℕ) → is_run b ≡ true → is_space b ≡ false
-run_no_space b h = by_bool (is_space b) refl
-  where
-    by_bool : (p : Bool) → is_space b ≡ p → is_space b ≡ false
-    by_bool false f = f
-    by_bool true f = absurd (true≢false (sym h ∙ ap (λ p. not p && not (is_one_of (0x7B ∷ 0x7D ∷ 0x5B ∷ 0x5D ∷ 0x2C ∷ 0x3A ∷ 0x22 ∷ []) b)) f))
 
 pub run_unmarked : (b : ℕ) → is_run b ≡ true → Unmarked b
 run_unmarked b h = record { space = run_no_space b h; quote = unlike is_run b 0x22 refl h; comma_byte = unlike is_run b 0x2C refl h; colon_byte = unlike is_run b 0x3A refl h; square = unlike is_run b 0x5D refl h; brace = unlike is_run b 0x7D refl h }
@@ -50,23 +37,6 @@ pub record RunBegins (st : List Frame) (b : ℕ) (v : List ℕ) : Type 0 where
   pub begins : begin_value st b ≡ Some next_state
   pub goes : go next_state v ≡ Some last
   pub is_run_byte : is_run b ≡ true
-
--- a byte that begins a number is none of these
-not_this : (b c : ℕ) (s : num.State) → num.step num.start c ≡ None → num.step num.start b ≡ Some s → (b == c) ≡ false
-not_this b c s h e = by_bool (b == c) refl
-  where
-    by_bool : (p : Bool) → (b == c) ≡ p → (b == c) ≡ false
-    by_bool false f = f
-    by_bool true f = absurd (none-some s (sym h ∙ (ap (num.step num.start) (sym (eqb-true b c f)) ∙ e)))
-
-pub pass : {A : Type 0} (p : Bool) (x y z : A) → p ≡ false → y ≡ z → cond p x y ≡ z
-pass p x y z e f = ap (λ c. cond c x y) e ∙ f
-
-pub number_begins : (st : List Frame) (b : ℕ) (s : num.State) → num.step num.start b ≡ Some s → begin_value st b ≡ Some (in_number s st)
-number_begins st b s e =
-    pass (b == 0x5B) _ _ _ (not_this b 0x5B s refl e) (pass (b == 0x7B) _ _ _ (not_this b 0x7B s refl e) (pass (b == 0x22) _ _ _ (not_this b 0x22 s refl e)
-    (pass (b == 0x6E) _ _ _ (not_this b 0x6E s refl e) (pass (b == 0x74) _ _ _ (not_this b 0x74 s refl e) (pass (b == 0x66) _ _ _ (not_this b 0x66 s refl e)
-    (ap (option_map (λ v. in_number v st)) e))))))
 
 abbrev pub tail_of : List ℕ → List ℕ
 tail_of [] = []
@@ -105,9 +75,7 @@ from_items st b v h = ap (option_and_then (λ x. go x v)) (pass (is_space b) _ _
 pub run_goes : (s t : State) (b : ℕ) (v : List ℕ) → IsRunBegun (b ∷ v) → next s value_kind ≡ Some t → (l : State) × (go s (b ∷ v) ≡ Some l)
 run_goes (value st) t b v h e = let k : RunBegins st b v = run_begins st b v h in (k.last, from_value st b v k)
 run_goes (items st) t b v h e = let k : RunBegins (in_array ∷ st) b v = run_begins (in_array ∷ st) b v h in (k.last, from_items st b v k)
-run_goes (after []) t b v h e = absurd (none-some t e)
 run_goes (after (in_array ∷ st)) t b v h e = absurd (none-some t e)
-run_goes (after (in_object ∷ st)) t b v h e = absurd (none-some t e)
 run_goes _ t b v h e = absurd (none-some t e)
 
 pub run_halts : (s : State) (b : ℕ) (v : List ℕ) → IsStill s → IsRunBegun (b ∷ v) → next s value_kind ≡ None → step s b ≡ None
@@ -126,10 +94,8 @@ name_run s n st (c ∷ u) e = option_and_then_some (λ x. run str.step x u) (str
     ap (option_and_then (λ x. go x u)) (ap (λ o. within (option_map (λ t. in_name t st) o) (str.accepts s) (colon_step st c)) f) ∙ name_run v n st u g)
 
 pub text_first : (b : ℕ) (v : List ℕ) → IsTextBegun (b ∷ v) → (b ≡ 0x22) × (n : str.State) × (run str.step str.inside v ≡ Some n)
-text_first b v (n, e) = option_and_then_some (λ x. run str.step x v) (str.step str.opening b) n e (λ s f g. elim (chosen (b == 0x22) (Some str.inside) None (Some s) f) [
-  | inl q ↦ (eqb-true b 0x22 q.0, n, ap (λ x. run str.step x v) (same_Some str.inside s q.1) ∙ g)
-  | inr q ↦ absurd (none-some s q.1)
-])
+text_first b v (n, e) = option_and_then_some (λ x. run str.step x v) (str.step str.opening b) n e (λ s f g.
+    by_last (λ x. run str.step x v ≡ Some n → (b ≡ 0x22) × (n : str.State) × (run str.step str.inside v ≡ Some n)) b 0x22 str.inside s (λ q h. (q, n, h)) f g)
 
 at_quote : (s t : State) (b : ℕ) (v : List ℕ) → b ≡ 0x22 → go s (0x22 ∷ v) ≡ Some t → go s (b ∷ v) ≡ Some t
 at_quote s t b v e h = ap (λ c. go s (c ∷ v)) e ∙ h
@@ -139,16 +105,12 @@ text_goes_on (value st) t b v h e = let (f, n, g) = text_first b v h in (in_stri
 text_goes_on (items st) t b v h e = let (f, n, g) = text_first b v h in (in_string n (in_array ∷ st), at_quote (items st) (in_string n (in_array ∷ st)) b v f (string_run str.inside n (in_array ∷ st) v g))
 text_goes_on (members st) t b v h e = let (f, n, g) = text_first b v h in (in_name n st, at_quote (members st) (in_name n st) b v f (name_run str.inside n st v g))
 text_goes_on (name st) t b v h e = let (f, n, g) = text_first b v h in (in_name n st, at_quote (name st) (in_name n st) b v f (name_run str.inside n st v g))
-text_goes_on (after []) t b v h e = absurd (none-some t e)
 text_goes_on (after (in_array ∷ st)) t b v h e = absurd (none-some t e)
-text_goes_on (after (in_object ∷ st)) t b v h e = absurd (none-some t e)
 text_goes_on _ t b v h e = absurd (none-some t e)
 
 quote_halts : (s : State) → IsStill s → next s text_kind ≡ None → step s 0x22 ≡ None
 quote_halts (colon st) i e = refl
-quote_halts (after []) i e = refl
-quote_halts (after (in_array ∷ st)) i e = refl
-quote_halts (after (in_object ∷ st)) i e = refl
+quote_halts (after st) i e = after_off 0x22 refl refl refl refl st
 quote_halts (in_number n st) i e = absurd i
 quote_halts (in_string n st) i e = absurd i
 quote_halts (in_name n st) i e = absurd i

@@ -12,7 +12,8 @@ use Rattle.at_lex.specs.Strings.{Character}
 use Rattle.at_nest.specs.Tree.{text}
 use Rattle.at_nest.specs.Syntax.{JsonText}
 use Rattle.at_nest.proofs.TreeParts.{text_made}
-use Rattle.at_nest.proofs.JsonMachine.{State, Frame, in_array, in_object, value, items, members, name, colon, after, in_number, in_string, in_name, in_word, step, accepts, is_nil, text_at, lives, Acc, accepted-JsonText}
+use Rattle.at_nest.proofs.JsonMachine.{State, Frame, in_array, in_object, value, items, members, name, colon, after, in_number, in_string, in_name, in_word, step, accepts, is_nil}
+use Rattle.at_nest.proofs.Accepted.{text_at, lives, Acc, accepted-JsonText}
 use Rattle.at_nest.specs.Forms.{Meaning, Mark, Piece, comma as a_comma, colon as a_colon, quoted, entry, opens, closes, mark, Formed}
 use Rattle.at_nest.proofs.Steps.{Settled, is_clear, settled_step, settled_still}
 use Rattle.at_nest.proofs.Values.{go, run_then}

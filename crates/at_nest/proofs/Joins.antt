@@ -10,7 +10,8 @@ use Rattle.at_lex.specs.declared.tokens.Start.TheVariants.{Out}
 use Rattle.at_lex.specs.declared.tokens.Bracket.TheVariants.{Brace, Square}
 use Rattle.at_lex.specs.Spans.{AreSpaces, begins_run, after_byte, end_of}
 use Rattle.at_nest.specs.Syntax.{JsonText}
-use Rattle.at_nest.proofs.JsonMachine.{State, value, after, step, Acc, accepted-JsonText}
+use Rattle.at_nest.proofs.JsonMachine.{State, value, after, step}
+use Rattle.at_nest.proofs.Accepted.{Acc, accepted-JsonText}
 use Rattle.at_nest.specs.Borders.{ends_run, are_apart}
 use Rattle.at_nest.specs.Forms.{Meaning, Piece, comma as a_comma, colon as a_colon, quoted, entry, opens, closes, mark, IsPiece, Formed}
 use Rattle.at_nest.proofs.Values.{go, Enters, value_enters, value_at, string_enters}

@@ -3,6 +3,7 @@
 use Rattle.std.proofs.Common.{◌≡◌, ℕ, inl, inr, List, [], ◌∷◌, ◌++◌, Option, Some, None, Bool, true, false, Result, Err, refl, sym, ◌∙◌, ap, subst, append-nil, ◌+◌, ◌<◌, length, take, true≢false}
 use Rattle.std.proofs.Math.Seq.{take-length}
 use Rattle.std.proofs.lemmas.Option.{same_Some, none-some}
+use Rattle.std.proofs.lemmas.Bool.{false_from_ne_true}
 use Rattle.at_text.specs.Prefix.{Viable, LongestViable}
 use Rattle.at_text.proofs.Machine.{run, run-rest}
 use Rattle.at_lex.specs.Strings.{JsonString}
@@ -44,6 +45,8 @@ use Rattle.at_nest.proofs.Open as unended
 use Rattle.at_nest.proofs.NextItems.{each_closed, answer_tells, stop_tells, open_tells}
 use Rattle.at_nest.proofs.Told.{told}
 use Rattle.at_nest.proofs.Lexical.{not_out_string}
+use Rattle.at_nest.proofs.PieceSteps.{first}
+use Rattle.at_nest.proofs.Begun.{tail_of}
 
 -- ---- what may go on at the end of a text
 
@@ -71,11 +74,8 @@ stays_front _ [] x h n = tt
 
 -- the reader is in a string that goes on
 unfinished : (v x : List ℕ) (n : str.State) → StaysInText InString (v ++ x) → run str.step str.inside v ≡ Some n → str.accepts n ≡ false
-unfinished v x n h e = by_bool (str.accepts n) refl
-  where
-    by_bool : (p : Bool) → str.accepts n ≡ p → str.accepts n ≡ false
-    by_bool false f = f
-    by_bool true f = absurd (stays_in InString v (stays_front InString v x h (λ e. not_out_string (sym e))) (closed_is n (end_of InString v) (text_run str.inside n v InString refl e) f))
+unfinished v x n h e = false_from_ne_true (str.accepts n)
+    (λ f. stays_in InString v (stays_front InString v x h (λ e. not_out_string (sym e))) (closed_is n (end_of InString v) (text_run str.inside n v InString refl e) f))
 
 -- a string without its closing quote is none
 pub no_string : (u : List ℕ) → StaysInText InString u → ¬ (JsonString (0x22 ∷ u))
@@ -86,14 +86,6 @@ pub text_open : (v : List ℕ) (n : ℕ) → IsPending v → begins_text v ≡ t
 text_open v n p t longest all = let (u, e, k) = pending_text v p t in
     (t, subst (Viable JsonString) (ap (λ z. take z v) all ∙ take-length v) longest.front, λ j. no_string u k (subst JsonString e j))
 
-abbrev head : List ℕ → ℕ
-head [] = 0
-head (b ∷ w) = b
-
-abbrev tail : List ℕ → List ℕ
-tail [] = []
-tail (b ∷ w) = w
-
 pub text_stops : (at : ℕ) (v : List ℕ) (n : ℕ) → IsPending v → begins_text v ≡ true → LongestViable JsonString v n → n < length v → IsStop free at v empty_form (halt_of (stop_within within.Text at n))
 text_stops at v n p t longest below =
     let (u, e, k) = pending_text v p t in
@@ -103,10 +95,10 @@ text_stops at v n p t longest below =
   where
     by_front : (u : List ℕ) → v ≡ 0x22 ∷ u → StaysInText InString u → (a : List ℕ) (byte : ℕ) (o : List ℕ) (q : str.State) → v ≡ a ++ (byte ∷ o) → length a ≡ n → run str.step str.opening a ≡ Some q → str.step q byte ≡ None
         → IsStop free at v empty_form (halt_of (stop_within within.Text at n))
-    by_front u e k [] byte o q s l r c = absurd (none-some str.inside (sym c ∙ (ap (λ z. str.step z byte) (sym (same_Some str.opening q r)) ∙ ap (str.step str.opening) (ap head (sym s ∙ e)))))
+    by_front u e k [] byte o q s l r c = absurd (none-some str.inside (sym c ∙ (ap (λ z. str.step z byte) (sym (same_Some str.opening q r)) ∙ ap (str.step str.opening) (ap first (sym s ∙ e)))))
     by_front u e k (b ∷ z) byte o q s l r c =
-        let is_quote : b ≡ 0x22 = ap head (sym s ∙ e) in
-        let inside : u ≡ z ++ (byte ∷ o) = ap tail (sym e ∙ s) in
+        let is_quote : b ≡ 0x22 = ap first (sym s ∙ e) in
+        let inside : u ≡ z ++ (byte ∷ o) = ap tail_of (sym e ∙ s) in
         let goes : run str.step str.inside z ≡ Some q = ap (λ y. run str.step str.opening (y ∷ z)) (sym is_quote) ∙ r in
         let width : length (b ∷ z) ≡ n = l in
         subst (λ (m : ℕ). IsStop free at v empty_form (halt_of (stop_within within.Text at m))) width
@@ -128,28 +120,17 @@ run_is_open : (v : List ℕ) → IsOpen within.Run v → unended.IsRunOpen v
 run_is_open v (b, viable, none) = by_begun (begun_of v viable)
   where
     by_begun : IsRunBegun v → unended.IsRunOpen v
-    by_begun (inl (n, e)) = inl (n, e, by_bool (num.accepts n) refl)
-      where
-        by_bool : (p : Bool) → num.accepts n ≡ p → num.accepts n ≡ false
-        by_bool false f = f
-        by_bool true f = absurd (none (number_whole v n e f))
+    by_begun (inl (n, e)) = inl (n, e, false_from_ne_true (num.accepts n) (λ f. none (number_whole v n e f)))
     by_begun (inr (l, [], e)) = absurd (none (inl (l, sym (append-nil v) ∙ e)))
     by_begun (inr (l, (c ∷ r), e)) = inr (l, c, r, e)
 
 text_is_open : (v : List ℕ) → IsOpen within.Text v → unended.IsTextOpen v
-text_is_open v (b, (y, j), none) = let (n, e, r) = rest_runs str.machine str.opening v y ((str.opening-JsonString (v ++ y)).1 j) in (n, e, by_bool n e (str.accepts n) refl)
-  where
-    by_bool : (n : str.State) → run str.step str.opening v ≡ Some n → (p : Bool) → str.accepts n ≡ p → str.accepts n ≡ false
-    by_bool n e false f = f
-    by_bool n e true f = absurd (none ((str.opening-JsonString v).0 (subst (str.Rest str.opening) (append-nil v) (run-rest str.machine str.opening n v [] e ((str.machine.ends n).1 f)))))
+text_is_open v (b, (y, j), none) = let (n, e, r) = rest_runs str.machine str.opening v y ((str.opening-JsonString (v ++ y)).1 j) in
+    (n, e, false_from_ne_true (str.accepts n) (λ f. none ((str.opening-JsonString v).0 (subst (str.Rest str.opening) (append-nil v) (run-rest str.machine str.opening n v [] e ((str.machine.ends n).1 f))))))
 
-first_byte : (v : List ℕ) → begins_run v ≡ true → (b : ℕ) × (u : List ℕ) × (v ≡ b ∷ u)
-first_byte [] h = absurd (true≢false (sym h))
-first_byte (b ∷ u) h = (b, u, refl)
-
-first_quote : (v : List ℕ) → begins_text v ≡ true → (b : ℕ) × (u : List ℕ) × (v ≡ b ∷ u)
-first_quote [] h = absurd (true≢false (sym h))
-first_quote (b ∷ u) h = (b, u, refl)
+first_byte : (test : List ℕ → Bool) (v : List ℕ) → test [] ≡ false → test v ≡ true → (b : ℕ) × (u : List ℕ) × (v ≡ b ∷ u)
+first_byte test [] n h = absurd (true≢false (sym h ∙ n))
+first_byte test (b ∷ u) n h = (b, u, refl)
 
 module _ {X : Type 0} (K : X → Content → Type 0) where
   pub ends_nothing : (s : Shown X) (from : ℕ) (v : List ℕ) → v ≡ [] → EndsSo K s from v (answer_of s)
@@ -164,11 +145,11 @@ module _ {X : Type 0} (K : X → Content → Type 0) where
 
   pub ends_open : (s : Shown X) (from : ℕ) (v : List ℕ) (within : CodeWithin) → IsOpen within v → EndsSo K s from v (Err (open_of (next_of s) within from))
   ends_open s from v within.First o at x f h form apart e = absurd o
-  ends_open s from v within.Run o at x f h form apart e = let (b, u, q) = first_byte v o.0 in
+  ends_open s from v within.Run o at x f h form apart e = let (b, u, q) = first_byte begins_run v refl o.0 in
       told K at (x ++ v) _ (Err (open_of (next_of s) within.Run from))
       (last_answer free at x v (further f) (last_open true from) form (each_closed K at (x ++ v) s.outer f.outer h.0) apart (e, b, u, q, subst unended.IsRunOpen q (run_is_open v o)))
       (open_tells K true at (x ++ v) s f within.Run from refl h form.levels)
-  ends_open s from v within.Text o at x f h form apart e = let (b, u, q) = first_quote v o.0 in
+  ends_open s from v within.Text o at x f h form apart e = let (b, u, q) = first_byte begins_text v refl o.0 in
       told K at (x ++ v) _ (Err (open_of (next_of s) within.Text from))
       (last_answer free at x v (further f) (last_open false from) form (each_closed K at (x ++ v) s.outer f.outer h.0) apart (e, b, u, q, subst unended.IsTextOpen q (text_is_open v o)))
       (open_tells K false at (x ++ v) s f within.Text from refl h form.levels)

@@ -5,6 +5,7 @@ pub mod Steps
 pub mod Values
 pub mod PieceSteps
 pub mod Walks
+pub mod Accepted
 pub mod Lexical
 pub mod Joins
 pub mod Spelled

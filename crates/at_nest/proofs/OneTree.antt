@@ -1,25 +1,23 @@
 -- A text spells at most one tree: white space and runs go on as long as they can, and the byte behind them tells what stands there.
 -- For `finish`, `finish_span`, `merge` and `run_block`.
-use Rattle.std.proofs.Common.{◌≡◌, ℕ, List, [], ◌∷◌, ◌++◌, Option, Some, Bool, true, false, cond, ◌==◌, IsTrue, flat_map, refl, sym, ◌∙◌, ap, subst, arith, append_assoc, append-nil, ◌+◌, length, true≢false}
+use Rattle.std.proofs.Common.{◌≡◌, ℕ, inl, inr, List, [], ◌∷◌, ◌++◌, Bool, true, false, cond, ◌==◌, IsTrue, flat_map, codes, refl, sym, ◌∙◌, ap, subst, arith, append_assoc, ◌+◌, length, true≢false}
 use Rattle.std.specs.List.{AllByRecursion}
-use Rattle.std.proofs.lemmas.Option.{none-some, option_and_then_some}
+use Rattle.std.proofs.lemmas.Option.{none-some}
 use Rattle.at_text.specs.Texts.{is_space, is_run}
-use Rattle.at_text.proofs.Machine.{run}
-use Rattle.at_fixed.specs.Numerals.{JsonNumber, numeral_text}
+use Rattle.at_fixed.specs.Numerals.{JsonNumber}
 use Rattle.at_fixed.proofs.NumeralParts.{one_numeral}
 use Rattle.at_fixed.proofs.Spelled.{json_is_wkt}
 use Rattle.at_lex.specs.Strings.{Character, plain, escape, unit, AreCharacters, character_text, string_text, is_plain, IsCharacter}
-use Rattle.at_lex.specs.Runs.{Literal, literal_text, the_null, the_true, the_false}
-use Rattle.at_lex.specs.Spans.{AreSpaces, AreRun}
+use Rattle.at_lex.specs.Runs.{Literal, literal_text, the_null, the_true, the_false, JsonRun}
+use Rattle.at_lex.specs.Spans.{AreSpaces}
+use Rattle.at_lex.proofs.RunBytes.{word_run}
 use Rattle.at_nest.proofs.JsonNumber as num
 use Rattle.at_nest.specs.Tree.{Tree, literal, number, text, array, object, Trees, no_trees, tree_and, Members, no_members, member_and, Spells, SpellsItems, SpellsFurtherItems, SpellsMembers, SpellsFurtherMembers, IsTextOf}
-use Rattle.at_nest.proofs.Values.{run_byte}
 use Rattle.at_nest.proofs.Begun.{unlike, pass, run_no_space}
-use Rattle.at_nest.proofs.Longest.{rest_runs}
-use Rattle.at_nest.proofs.Runs.{literal_runs}
+use Rattle.at_nest.proofs.Runs.{no_nil}
 use Rattle.at_nest.proofs.JsonMachine.{regroup, same_byte}
 use Rattle.at_nest.proofs.Steps.{space_no_run}
-use Rattle.at_nest.proofs.TreeParts.{MemberParts, items_parts, further_items_parts, members_parts, further_members_parts, array_parts, object_parts, text_parts}
+use Rattle.at_nest.proofs.TreeParts.{PaddedParts, MemberParts, items_parts, further_items_parts, members_parts, further_members_parts, array_parts, object_parts, text_parts}
 
 abbrev pub head : List ℕ → ℕ
 head [] = 0
@@ -56,42 +54,19 @@ same_text (unit a b c d ∷ cs) (unit f g i j ∷ ds) y z (h, hs) (k, ks) e =
           ∙ (ap (λ n. unit f g n d ∷ cs) (ap (λ w. head (tail (tail (tail (tail w))))) e) ∙ (ap (λ n. unit f g i n ∷ cs) (ap (λ w. head (tail (tail (tail (tail (tail w)))))) e) ∙ ap (λ n. unit f g i j ∷ n) r.0))),
       r.1,
     )
-same_text [] (plain c ∷ ds) y z h (k, ks) e = absurd (true≢false (sym k ∙ ap is_plain (sym (ap head e))))
-same_text (plain b ∷ cs) [] y z (h, hs) k e = absurd (true≢false (sym h ∙ ap is_plain (ap head e)))
-same_text [] (escape c ∷ ds) y z h k e = clash 0x22 0x5C refl (ap head e)
-same_text (escape b ∷ cs) [] y z h k e = clash 0x5C 0x22 refl (ap head e)
-same_text [] (unit f g i j ∷ ds) y z h k e = clash 0x22 0x5C refl (ap head e)
-same_text (unit a b c d ∷ cs) [] y z h k e = clash 0x5C 0x22 refl (ap head e)
-same_text (plain b ∷ cs) (escape c ∷ ds) y z (h, hs) k e = absurd (true≢false (sym h ∙ ap is_plain (ap head e)))
-same_text (escape b ∷ cs) (plain c ∷ ds) y z h (k, ks) e = absurd (true≢false (sym k ∙ ap is_plain (sym (ap head e))))
-same_text (plain b ∷ cs) (unit f g i j ∷ ds) y z (h, hs) k e = absurd (true≢false (sym h ∙ ap is_plain (ap head e)))
-same_text (unit a b c d ∷ cs) (plain f ∷ ds) y z h (k, ks) e = absurd (true≢false (sym k ∙ ap is_plain (sym (ap head e))))
+same_text _ (plain c ∷ ds) y z h (k, ks) e = absurd (true≢false (sym k ∙ ap is_plain (sym (ap head e))))
+same_text (plain b ∷ cs) _ y z (h, hs) k e = absurd (true≢false (sym h ∙ ap is_plain (ap head e)))
+same_text [] _ y z h k e = clash 0x22 0x5C refl (ap head e)
+same_text _ [] y z h k e = clash 0x5C 0x22 refl (ap head e)
 same_text (escape b ∷ cs) (unit f g i j ∷ ds) y z (h, hs) k e = let P : ℕ → Type 0 = λ n. IsCharacter (escape n) in absurd (true≢false (sym (subst P (ap (λ w. head (tail w)) e) h)))
 same_text (unit a b c d ∷ cs) (escape f ∷ ds) y z h (k, ks) e = let P : ℕ → Type 0 = λ n. IsCharacter (escape n) in absurd (true≢false (sym (subst P (sym (ap (λ w. head (tail w)) e)) k)))
 
 -- ---- runs
 
-goes_run : (s q : num.State) (u : List ℕ) → run num.step s u ≡ Some q → AreRun u
-goes_run s q [] e = tt
-goes_run s q (b ∷ u) e = option_and_then_some (λ x. run num.step x u) (num.step s b) q e (λ t f g. (run_byte s t b f, goes_run t q u g))
-
-number_goes : (w : List ℕ) → JsonNumber w → (q : num.State) × (run num.step num.start w ≡ Some q) × (num.accepts q ≡ true)
-number_goes w h = let (q, e, r) = rest_runs num.machine num.start w [] (subst (num.Rest num.start) (sym (append-nil w)) ((num.start-JsonNumber w).1 h)) in (q, e, (num.machine.ends q).0 r)
-
 no_number : (l : Literal) → ¬ (JsonNumber (literal_text l))
-no_number the_null h = none-some (number_goes (literal_text the_null) h).0 (number_goes (literal_text the_null) h).1
-no_number the_true h = none-some (number_goes (literal_text the_true) h).0 (number_goes (literal_text the_true) h).1
-no_number the_false h = none-some (number_goes (literal_text the_false) h).0 (number_goes (literal_text the_false) h).1
-
-number_first : (w : List ℕ) → JsonNumber w → (b : ℕ) × (r : List ℕ) × (w ≡ b ∷ r) × (is_run b ≡ true)
-number_first [] h = let (q, e, a) = number_goes [] h in absurd (true≢false (sym a ∙ ap num.accepts (sym (start_is q e))))
-  where
-    start_is : (q : num.State) → ◌≡◌ {A = Option num.State} (Some num.start) (Some q) → num.start ≡ q
-    start_is q e = cc
-number_first (b ∷ r) h = let (q, e, a) = number_goes (b ∷ r) h in (b, r, refl, (goes_run num.start q (b ∷ r) e).0)
-
-number_run : (w : List ℕ) → JsonNumber w → AreRun w
-number_run w h = let (q, e, a) = number_goes w h in goes_run num.start q w e
+no_number the_null h = let (t, e, q) = num.machine.goes num.start 0x6E (codes "ull") ((num.start-JsonNumber (literal_text the_null)).1 h) in none-some t e
+no_number the_true h = let (t, e, q) = num.machine.goes num.start 0x74 (codes "rue") ((num.start-JsonNumber (literal_text the_true)).1 h) in none-some t e
+no_number the_false h = let (t, e, q) = num.machine.goes num.start 0x66 (codes "alse") ((num.start-JsonNumber (literal_text the_false)).1 h) in none-some t e
 
 one_literal : (l k : Literal) → literal_text l ≡ literal_text k → l ≡ k
 one_literal the_null the_true e = clash 0x6E 0x74 refl (ap head e)
@@ -124,17 +99,14 @@ pub record Starts (t : Tree) (v : List ℕ) : Type 0 where
 run_looks : (b : ℕ) → is_run b ≡ true → look b ≡ 4
 run_looks b h = pass (b == 0x22) 1 _ _ (unlike is_run b 0x22 refl h) (pass (b == 0x5B) 2 _ _ (unlike is_run b 0x5B refl h) (pass (b == 0x7B) 3 4 _ (unlike is_run b 0x7B refl h) refl))
 
-run_starts : (t : Tree) (v : List ℕ) (b : ℕ) (r : List ℕ) → 4 ≡ kind t → v ≡ b ∷ r → is_run b ≡ true → Starts t v
-run_starts t v b r k e h = record { byte = b; others = r; split = e; looks = run_looks b h ∙ k; space = run_no_space b h; closing = unlike is_run b 0x5D refl h }
-
-literal_first : (l : Literal) → (b : ℕ) × (r : List ℕ) × (literal_text l ≡ b ∷ r) × (is_run b ≡ true)
-literal_first the_null = (0x6E, 0x75 ∷ 0x6C ∷ 0x6C ∷ [], refl, refl)
-literal_first the_true = (0x74, 0x72 ∷ 0x75 ∷ 0x65 ∷ [], refl, refl)
-literal_first the_false = (0x66, 0x61 ∷ 0x6C ∷ 0x73 ∷ 0x65 ∷ [], refl, refl)
+run_starts : (t : Tree) (v : List ℕ) → 4 ≡ kind t → JsonRun v → Starts t v
+run_starts t [] k j = absurd (no_nil j)
+run_starts t (b ∷ r) k j = let h : is_run b ≡ true = (word_run (b ∷ r) j).0 in
+    record { byte = b; others = r; split = refl; looks = run_looks b h ∙ k; space = run_no_space b h; closing = unlike is_run b 0x5D refl h }
 
 pub starts : (t : Tree) (at : ℕ) (v : List ℕ) → Spells at v t → Starts t v
-starts (literal i l) at v (f, e) = let (b, r, g, h) = literal_first l in run_starts (literal i l) v b r refl (e ∙ g) h
-starts (number i n) at v (f, (h, e)) = let (b, r, g, k) = number_first (numeral_text n) (n, h, refl) in run_starts (number i n) v b r refl (e ∙ g) k
+starts (literal i l) at v (f, e) = run_starts (literal i l) v refl (inl (l, e))
+starts (number i n) at v (f, (h, e)) = run_starts (number i n) v refl (inr (n, h, e))
 starts (text i cs) at v (f, (h, e)) = record { byte = 0x22; others = flat_map character_text cs ++ 0x22 ∷ []; split = e; looks = refl; space = refl; closing = refl }
 starts (array i ts) at v g = let (f, (w, e, h)) = array_parts ts i at v g in record { byte = 0x5B; others = w ++ 0x5D ∷ []; split = e; looks = refl; space = refl; closing = refl }
 starts (object i ms) at v g = let (f, (w, e, h)) = object_parts ms i at v g in record { byte = 0x7B; others = w ++ 0x7D ∷ []; split = e; looks = refl; space = refl; closing = refl }
@@ -194,8 +166,8 @@ name_same cs ds v w y z h k e f g =
     let r = same_text cs ds y z h k (sym (append_assoc (flat_map character_text cs) (0x22 ∷ []) y) ∙ (ap tail (ap (λ x. x ++ y) (sym e) ∙ (g ∙ ap (λ x. x ++ z) f)) ∙ append_assoc (flat_map character_text ds) (0x22 ∷ []) z)) in
     record { same = r.0; part = e ∙ (ap string_text r.0 ∙ sym f); rest = r.1 }
 
-run_same : (t u : Tree) (v w y z : List ℕ) → AreRun v → AreRun w → (v ≡ w → t ≡ u) → begins is_run y ≡ false → begins is_run z ≡ false → v ++ y ≡ w ++ z → Same t u v w y z
-run_same t u v w y z h k same p q e = let r = same_front is_run v w y z h k e p q in record { same = same r.0; part = r.0; rest = r.1 }
+run_same : (t u : Tree) (v w y z : List ℕ) → JsonRun v → JsonRun w → (v ≡ w → t ≡ u) → begins is_run y ≡ false → begins is_run z ≡ false → v ++ y ≡ w ++ z → Same t u v w y z
+run_same t u v w y z h k same p q e = let r = same_front is_run v w y z (word_run v h) (word_run w k) e p q in record { same = same r.0; part = r.0; rest = r.1 }
 
 same_offset : (i j at from : ℕ) → i ≡ at → j ≡ from → at ≡ from → i ≡ j
 same_offset i j at from e f g = omega (arith, e, f, g)
@@ -220,13 +192,44 @@ pub not_closed : {P : Type 0} (t : Tree) (v y w z : List ℕ) → Starts t v →
 not_closed t v y [] z h k e = absurd (true≢false (sym (ap (λ b. b == 0x5D) (ap head (ap (λ x. x ++ y) (sym h.split) ∙ sym e))) ∙ h.closing))
 not_closed t v y (c ∷ w) z h (k, ks) e = absurd (true≢false (sym k ∙ (ap is_space (ap head (e ∙ ap (λ x. x ++ y) h.split)) ∙ h.space)))
 
+-- a value between white space, and further items or members up to the byte that closes
+same_then : {A : Type 0} (More : ℕ → List ℕ → A → Type 0) (closer : ℕ) (t u : Tree) (ts us : A) (at from : ℕ) (v y w z : List ℕ) → ((x : A) (i : ℕ) (r y : List ℕ) → More i r x → Ends (r ++ (closer ∷ y)))
+    → ((i n : ℕ) (a r b q : List ℕ) → Spells i a t → Spells n b u → i ≡ n → begins is_run r ≡ false → begins is_run q ≡ false → a ++ r ≡ b ++ q → Same t u a b r q)
+    → ((i n : ℕ) (a r b q : List ℕ) → More i a ts → More n b us → i ≡ n → a ++ (closer ∷ r) ≡ b ++ (closer ∷ q) → Same ts us a b r q)
+    → PaddedParts (λ j v. Spells j v t) (λ j z. More j z ts) at v → PaddedParts (λ j v. Spells j v u) (λ j z. More j z us) from w → at ≡ from → v ++ (closer ∷ y) ≡ w ++ (closer ∷ z)
+    → Same {A = Tree × A} (t, ts) (u, us) v w y z
+same_then More closer t u ts us at from v y w z ends value_same more_same (a, x, b, r, f, ha, hb, hx, hr) (c, g, d, q, i, hc, hd, hg, hq) o e =
+    let st = starts t (at + length a) x hx in let su = starts u (from + length c) g hg in
+    let p = same_padded t u a x b (r ++ (closer ∷ y)) c g d (q ++ (closer ∷ z)) ha hb hc hd (no_space_first x st.byte st.others _ st.split st.space) (no_space_first g su.byte su.others _ su.split su.space)
+    (ends ts (at + length a + length x + length b) r y hr) (ends us (from + length c + length g + length d) q z hq) (sym (padded_on v a x b r (closer ∷ y) f) ∙ (e ∙ padded_on w c g d q (closer ∷ z) i))
+    (λ l m n j. value_same (at + length a) (from + length c) x (b ++ (r ++ (closer ∷ y))) g (d ++ (q ++ (closer ∷ z))) hx hg (behind at from a c o l) m n j) in
+    let s = more_same (at + length a + length x + length b) (from + length c + length g + length d) r y q z hr hq (behind _ _ b d (behind _ _ x g (behind at from a c o p.left) p.part) p.right) p.rest in
+    record {
+      same = ap (λ n. (n, ts)) p.same ∙ ap (λ n. (u, n)) s.same;
+      part = f ∙ (ap (λ n. n ++ (x ++ (b ++ r))) p.left ∙ (ap (λ n. c ++ (n ++ (b ++ r))) p.part ∙ (ap (λ n. c ++ (g ++ (n ++ r))) p.right ∙ (ap (λ n. c ++ (g ++ (d ++ n))) s.part ∙ sym i))));
+      rest = s.rest;
+    }
+
+-- where there is an item, the bracket that closes does not stand
+no_item : (t : Tree) (ts : Trees) (at : ℕ) (v y w z : List ℕ) → AreSpaces v → SpellsItems at w (tree_and t ts) → v ++ (0x5D ∷ y) ≡ w ++ (0x5D ∷ z) → ⊥
+no_item t ts at v y w z h k e =
+    let (c, x, d, q, f, hc, hd, hx, hq) = items_parts t ts at w k in let st = starts t (at + length c) x hx in
+    let r = same_front is_space v c (0x5D ∷ y) (x ++ (d ++ (q ++ (0x5D ∷ z)))) h hc (e ∙ padded_on w c x d q (0x5D ∷ z) f) refl (no_space_first x st.byte st.others _ st.split st.space) in
+    not_closed t x (d ++ (q ++ (0x5D ∷ z))) [] y st tt r.1
+
+no_member : (m : List Character) (j : ℕ) (t : Tree) (ts : Members) (at : ℕ) (v y w z : List ℕ) → AreSpaces v → SpellsMembers at w (member_and m j t ts) → v ++ (0x7D ∷ y) ≡ w ++ (0x7D ∷ z) → ⊥
+no_member m j t ts at v y w z h k e =
+    let (c, x, d, q, f, hc, hd, (g, (hm, hx)), hq) = members_parts m j t ts at w k in
+    let r = same_front is_space v c (0x7D ∷ y) (x ++ (d ++ (q ++ (0x7D ∷ z)))) h hc (e ∙ padded_on w c x d q (0x7D ∷ z) f) refl (no_space_first x 0x22 _ _ hx refl) in
+    clash 0x7D 0x22 refl (ap head (r.1 ∙ ap (λ n. n ++ (d ++ (q ++ (0x7D ∷ z)))) hx))
+
 -- a name, a colon, a value, and further members
 pub same_member : (m l : List Character) (j k : ℕ) (t u : Tree) (ts us : Members) (at from : ℕ) (v y w z : List ℕ)
     → ((i n : ℕ) (a r b q : List ℕ) → Spells i a t → Spells n b u → i ≡ n → begins is_run r ≡ false → begins is_run q ≡ false → a ++ r ≡ b ++ q → Same t u a b r q)
     → ((i n : ℕ) (a r b q : List ℕ) → SpellsFurtherMembers i a ts → SpellsFurtherMembers n b us → i ≡ n → a ++ (0x7D ∷ r) ≡ b ++ (0x7D ∷ q) → Same ts us a b r q)
     → MemberParts m j t ts at v → MemberParts l k u us from w → at ≡ from → v ++ (0x7D ∷ y) ≡ w ++ (0x7D ∷ z)
     → Same (member_and m j t ts) (member_and l k u us) v w y z
-same_member m l j k t u ts us at from v y w z value_same more_same (a, x, b, r, f, ha, hb, (ej, (hm, hx)), (r1, er, (c, v1, d, r2, f2, hc, hd, hv, hr))) (a3, x3, b3, r3, f3, ha3, hb3, (ek, (hl, hx3)), (r4, er4, (c4, v4, d4, r5, f5, hc4, hd4, hv4, hr5))) o e =
+same_member m l j k t u ts us at from v y w z value_same more_same (a, x, b, r, f, ha, hb, (ej, (hm, hx)), (r1, er, parts1)) (a3, x3, b3, r3, f3, ha3, hb3, (ek, (hl, hx3)), (r4, er4, parts4)) o e =
     let colon1 : r ++ (0x7D ∷ y) ≡ 0x3A ∷ (r1 ++ (0x7D ∷ y)) = ap (λ n. n ++ (0x7D ∷ y)) er in
     let colon4 : r3 ++ (0x7D ∷ z) ≡ 0x3A ∷ (r4 ++ (0x7D ∷ z)) = ap (λ n. n ++ (0x7D ∷ z)) er4 in
     let p = same_padded m l a x b (r ++ (0x7D ∷ y)) a3 x3 b3 (r3 ++ (0x7D ∷ z)) ha hb ha3 hb3 (no_space_first x 0x22 _ _ hx refl) (no_space_first x3 0x22 _ _ hx3 refl)
@@ -234,34 +237,26 @@ same_member m l j k t u ts us at from v y w z value_same more_same (a, x, b, r, 
     (λ n1 n2 n3 n4. name_same m l x x3 (b ++ (r ++ (0x7D ∷ y))) (b3 ++ (r3 ++ (0x7D ∷ z))) hm hl hx hx3 n4) in
     let i1 : ℕ = at + length a + length x + length b + 1 in let i4 : ℕ = from + length a3 + length x3 + length b3 + 1 in
     let io : i1 ≡ i4 = next_offset _ _ (behind _ _ b b3 (behind _ _ x x3 (behind at from a a3 o p.left) p.part) p.right) in
-    let inside : r1 ++ (0x7D ∷ y) ≡ r4 ++ (0x7D ∷ z) = ap tail (sym colon1 ∙ (p.rest ∙ colon4)) in
-    let st = starts t (i1 + length c) v1 hv in let su = starts u (i4 + length c4) v4 hv4 in
-    let q = same_padded t u c v1 d (r2 ++ (0x7D ∷ y)) c4 v4 d4 (r5 ++ (0x7D ∷ z)) hc hd hc4 hd4 (no_space_first v1 st.byte st.others _ st.split st.space) (no_space_first v4 su.byte su.others _ su.split su.space)
-    (more_members_end ts (i1 + length c + length v1 + length d) r2 y hr) (more_members_end us (i4 + length c4 + length v4 + length d4) r5 z hr5) (sym (padded_on r1 c v1 d r2 (0x7D ∷ y) f2) ∙ (inside ∙ padded_on r4 c4 v4 d4 r5 (0x7D ∷ z) f5))
-    (λ n1 n2 n3 n4. value_same (i1 + length c) (i4 + length c4) v1 (d ++ (r2 ++ (0x7D ∷ y))) v4 (d4 ++ (r5 ++ (0x7D ∷ z))) hv hv4 (behind i1 i4 c c4 io n1) n2 n3 n4) in
-    let s = more_same (i1 + length c + length v1 + length d) (i4 + length c4 + length v4 + length d4) r2 y r5 z hr hr5 (behind _ _ d d4 (behind _ _ v1 v4 (behind i1 i4 c c4 io q.left) q.part) q.right) q.rest in
-    let inner1 : r1 ≡ r4 = f2 ∙ (ap (λ n. n ++ (v1 ++ (d ++ r2))) q.left ∙ (ap (λ n. c4 ++ (n ++ (d ++ r2))) q.part ∙ (ap (λ n. c4 ++ (v4 ++ (n ++ r2))) q.right ∙ (ap (λ n. c4 ++ (v4 ++ (d4 ++ n))) s.part ∙ sym f5)))) in
-    let whole : r ≡ r3 = er ∙ (ap (λ n. 0x3A ∷ n) inner1 ∙ sym er4) in
+    let q = same_then (λ i r us. SpellsFurtherMembers i r us) 0x7D t u ts us i1 i4 r1 y r4 z more_members_end value_same more_same parts1 parts4 io (ap tail (sym colon1 ∙ (p.rest ∙ colon4))) in
+    let whole : r ≡ r3 = er ∙ (ap (λ n. 0x3A ∷ n) q.part ∙ sym er4) in
     record {
-      same = ap (λ n. member_and n j t ts) p.same ∙ (ap (λ n. member_and l n t ts) (same_offset j k _ _ ej ek (behind at from a a3 o p.left)) ∙ (ap (λ n. member_and l k n ts) q.same ∙ ap (member_and l k u) s.same));
+      same = ap (λ n. member_and n j t ts) p.same ∙ (ap (λ n. member_and l n t ts) (same_offset j k _ _ ej ek (behind at from a a3 o p.left)) ∙ ap (λ (n : Tree × Members). member_and l k n.0 n.1) q.same);
       part = f ∙ (ap (λ n. n ++ (x ++ (b ++ r))) p.left ∙ (ap (λ n. a3 ++ (n ++ (b ++ r))) p.part ∙ (ap (λ n. a3 ++ (x3 ++ (n ++ r))) p.right ∙ (ap (λ n. a3 ++ (x3 ++ (b3 ++ n))) whole ∙ sym f3))));
-      rest = s.rest;
+      rest = q.rest;
     }
 
 -- ---- the tree
 
 mutual
   pub same_value : (t u : Tree) (at from : ℕ) (v y w z : List ℕ) → Spells at v t → Spells from w u → at ≡ from → begins is_run y ≡ false → begins is_run z ≡ false → v ++ y ≡ w ++ z → Same t u v w y z
-  same_value (literal i l) (literal j k) at from v y w z (f, e) (g, d) o p q s =
-      run_same (literal i l) (literal j k) v w y z (subst AreRun (sym e) (literal_runs l)) (subst AreRun (sym d) (literal_runs k))
+  same_value (literal i l) (literal j k) at from v y w z (f, e) (g, d) o p q s = run_same (literal i l) (literal j k) v w y z (inl (l, e)) (inl (k, d))
       (λ r. ap (λ n. literal n l) (same_offset i j at from f g o) ∙ ap (literal j) (one_literal l k (sym e ∙ (r ∙ d)))) p q s
-  same_value (number i n) (number j m) at from v y w z (f, (h, e)) (g, (k, d)) o p q s =
-      run_same (number i n) (number j m) v w y z (number_run v (n, h, e)) (number_run w (m, k, d))
+  same_value (number i n) (number j m) at from v y w z (f, (h, e)) (g, (k, d)) o p q s = run_same (number i n) (number j m) v w y z (inr (n, h, e)) (inr (m, k, d))
       (λ r. ap (λ x. number x n) (same_offset i j at from f g o) ∙ ap (number j) (one_numeral n m (json_is_wkt n h) (json_is_wkt m k) (sym e ∙ (r ∙ d)))) p q s
   same_value (literal i l) (number j m) at from v y w z (f, e) (g, (k, d)) o p q s =
-      run_same (literal i l) (number j m) v w y z (subst AreRun (sym e) (literal_runs l)) (number_run w (m, k, d)) (λ r. absurd (no_number l (m, k, sym e ∙ (r ∙ d)))) p q s
+      run_same (literal i l) (number j m) v w y z (inl (l, e)) (inr (m, k, d)) (λ r. absurd (no_number l (m, k, sym e ∙ (r ∙ d)))) p q s
   same_value (number i n) (literal j k) at from v y w z (f, (h, e)) (g, d) o p q s =
-      run_same (number i n) (literal j k) v w y z (number_run v (n, h, e)) (subst AreRun (sym d) (literal_runs k)) (λ r. absurd (no_number k (n, h, sym d ∙ (sym r ∙ e)))) p q s
+      run_same (number i n) (literal j k) v w y z (inr (n, h, e)) (inl (k, d)) (λ r. absurd (no_number k (n, h, sym d ∙ (sym r ∙ e)))) p q s
   same_value (text i cs) (text j ds) at from v y w z (f, (h, e)) (g, (k, d)) o p q s =
       let r = name_same cs ds v w y z h k e d s in
       record { same = ap (λ n. text n cs) (same_offset i j at from f g o) ∙ ap (text j) r.same; part = r.part; rest = r.rest }
@@ -275,82 +270,30 @@ mutual
       let (g, (w1, d, k)) = object_parts ns j from w hw in
       let r = same_members ms ns (at + 1) (from + 1) v1 y w1 z h k (next_offset at from o) (ap tail (sym (inner 0x7D v v1 y 0x7B e) ∙ (s ∙ inner 0x7D w w1 z 0x7B d))) in
       record { same = ap (λ n. object n ms) (same_offset i j at from f g o) ∙ ap (object j) r.same; part = e ∙ (ap (λ x. 0x7B ∷ (x ++ 0x7D ∷ [])) r.part ∙ sym d); rest = r.rest }
-  same_value (literal i l) (text j ds) at from v y w z h k o p q s = differ (literal i l) (text j ds) v y w z (starts (literal i l) at v h) (starts (text j ds) from w k) s (λ c. clash 4 1 refl c)
-  same_value (literal i l) (array j us) at from v y w z h k o p q s = differ (literal i l) (array j us) v y w z (starts (literal i l) at v h) (starts (array j us) from w k) s (λ c. clash 4 2 refl c)
-  same_value (literal i l) (object j ns) at from v y w z h k o p q s = differ (literal i l) (object j ns) v y w z (starts (literal i l) at v h) (starts (object j ns) from w k) s (λ c. clash 4 3 refl c)
-  same_value (number i n) (text j ds) at from v y w z h k o p q s = differ (number i n) (text j ds) v y w z (starts (number i n) at v h) (starts (text j ds) from w k) s (λ c. clash 4 1 refl c)
-  same_value (number i n) (array j us) at from v y w z h k o p q s = differ (number i n) (array j us) v y w z (starts (number i n) at v h) (starts (array j us) from w k) s (λ c. clash 4 2 refl c)
-  same_value (number i n) (object j ns) at from v y w z h k o p q s = differ (number i n) (object j ns) v y w z (starts (number i n) at v h) (starts (object j ns) from w k) s (λ c. clash 4 3 refl c)
-  same_value (text i cs) (literal j k) at from v y w z h g o p q s = differ (text i cs) (literal j k) v y w z (starts (text i cs) at v h) (starts (literal j k) from w g) s (λ c. clash 1 4 refl c)
-  same_value (text i cs) (number j m) at from v y w z h k o p q s = differ (text i cs) (number j m) v y w z (starts (text i cs) at v h) (starts (number j m) from w k) s (λ c. clash 1 4 refl c)
-  same_value (text i cs) (array j us) at from v y w z h k o p q s = differ (text i cs) (array j us) v y w z (starts (text i cs) at v h) (starts (array j us) from w k) s (λ c. clash 1 2 refl c)
-  same_value (text i cs) (object j ns) at from v y w z h k o p q s = differ (text i cs) (object j ns) v y w z (starts (text i cs) at v h) (starts (object j ns) from w k) s (λ c. clash 1 3 refl c)
-  same_value (array i ts) (literal j k) at from v y w z h g o p q s = differ (array i ts) (literal j k) v y w z (starts (array i ts) at v h) (starts (literal j k) from w g) s (λ c. clash 2 4 refl c)
-  same_value (array i ts) (number j m) at from v y w z h k o p q s = differ (array i ts) (number j m) v y w z (starts (array i ts) at v h) (starts (number j m) from w k) s (λ c. clash 2 4 refl c)
-  same_value (array i ts) (text j ds) at from v y w z h k o p q s = differ (array i ts) (text j ds) v y w z (starts (array i ts) at v h) (starts (text j ds) from w k) s (λ c. clash 2 1 refl c)
-  same_value (array i ts) (object j ns) at from v y w z h k o p q s = differ (array i ts) (object j ns) v y w z (starts (array i ts) at v h) (starts (object j ns) from w k) s (λ c. clash 2 3 refl c)
-  same_value (object i ms) (literal j k) at from v y w z h g o p q s = differ (object i ms) (literal j k) v y w z (starts (object i ms) at v h) (starts (literal j k) from w g) s (λ c. clash 3 4 refl c)
-  same_value (object i ms) (number j m) at from v y w z h k o p q s = differ (object i ms) (number j m) v y w z (starts (object i ms) at v h) (starts (number j m) from w k) s (λ c. clash 3 4 refl c)
-  same_value (object i ms) (text j ds) at from v y w z h k o p q s = differ (object i ms) (text j ds) v y w z (starts (object i ms) at v h) (starts (text j ds) from w k) s (λ c. clash 3 1 refl c)
-  same_value (object i ms) (array j us) at from v y w z h k o p q s = differ (object i ms) (array j us) v y w z (starts (object i ms) at v h) (starts (array j us) from w k) s (λ c. clash 3 2 refl c)
+  same_value t u at from v y w z h k o p q s = differ t u v y w z (starts t at v h) (starts u from w k) s (λ c. clash (kind t) (kind u) refl c)
 
   pub same_items : (ts us : Trees) (at from : ℕ) (v y w z : List ℕ) → SpellsItems at v ts → SpellsItems from w us → at ≡ from → v ++ (0x5D ∷ y) ≡ w ++ (0x5D ∷ z) → Same ts us v w y z
   same_items no_trees no_trees at from v y w z h k o e = let r = same_front is_space v w (0x5D ∷ y) (0x5D ∷ z) h k e refl refl in record { same = refl; part = r.0; rest = ap tail r.1 }
-  same_items no_trees (tree_and u us) at from v y w z h k o e =
-      let (c, x, d, q, f, hc, hd, hx, hq) = items_parts u us from w k in absurd (not_here c x d q v h (starts u (from + length c) x hx) hc (e ∙ padded_on w c x d q (0x5D ∷ z) f))
-    where
-      not_here : (c x d q v : List ℕ) → AreSpaces v → Starts u x → AreSpaces c → v ++ (0x5D ∷ y) ≡ c ++ (x ++ (d ++ (q ++ (0x5D ∷ z)))) → ⊥
-      not_here c x d q v h st hc e = let r = same_front is_space v c (0x5D ∷ y) (x ++ (d ++ (q ++ (0x5D ∷ z)))) h hc e refl (no_space_first x st.byte st.others _ st.split st.space) in
-          not_closed u x (d ++ (q ++ (0x5D ∷ z))) [] y st tt r.1
-  same_items (tree_and t ts) no_trees at from v y w z h k o e =
-      let (a, x, b, r, f, ha, hb, hx, hr) = items_parts t ts at v h in absurd (not_here a x b r w k (starts t (at + length a) x hx) ha (sym e ∙ padded_on v a x b r (0x5D ∷ y) f))
-    where
-      not_here : (a x b r w : List ℕ) → AreSpaces w → Starts t x → AreSpaces a → w ++ (0x5D ∷ z) ≡ a ++ (x ++ (b ++ (r ++ (0x5D ∷ y)))) → ⊥
-      not_here a x b r w k st ha e = let r2 = same_front is_space w a (0x5D ∷ z) (x ++ (b ++ (r ++ (0x5D ∷ y)))) k ha e refl (no_space_first x st.byte st.others _ st.split st.space) in
-          not_closed t x (b ++ (r ++ (0x5D ∷ y))) [] z st tt r2.1
+  same_items no_trees (tree_and u us) at from v y w z h k o e = absurd (no_item u us from v y w z h k e)
+  same_items (tree_and t ts) no_trees at from v y w z h k o e = absurd (no_item t ts at w z v y k h (sym e))
   same_items (tree_and t ts) (tree_and u us) at from v y w z h k o e =
-      let (a, x, b, r, f, ha, hb, hx, hr) = items_parts t ts at v h in
-      let (c, g, d, q, i, hc, hd, hg, hq) = items_parts u us from w k in
-      let st = starts t (at + length a) x hx in let su = starts u (from + length c) g hg in
-      let p = same_padded t u a x b (r ++ (0x5D ∷ y)) c g d (q ++ (0x5D ∷ z)) ha hb hc hd (no_space_first x st.byte st.others _ st.split st.space) (no_space_first g su.byte su.others _ su.split su.space)
-      (more_ends ts (at + length a + length x + length b) r y hr) (more_ends us (from + length c + length g + length d) q z hq) (sym (padded_on v a x b r (0x5D ∷ y) f) ∙ (e ∙ padded_on w c g d q (0x5D ∷ z) i))
-      (λ l m n j. same_value t u (at + length a) (from + length c) x (b ++ (r ++ (0x5D ∷ y))) g (d ++ (q ++ (0x5D ∷ z))) hx hg (behind at from a c o l) m n j) in
-      let s = same_more ts us (at + length a + length x + length b) (from + length c + length g + length d) r y q z hr hq (behind _ _ b d (behind _ _ x g (behind at from a c o p.left) p.part) p.right) p.rest in
-      record {
-        same = ap (λ n. tree_and n ts) p.same ∙ ap (tree_and u) s.same;
-        part = f ∙ (ap (λ n. n ++ (x ++ (b ++ r))) p.left ∙ (ap (λ n. c ++ (n ++ (b ++ r))) p.part ∙ (ap (λ n. c ++ (g ++ (n ++ r))) p.right ∙ (ap (λ n. c ++ (g ++ (d ++ n))) s.part ∙ sym i))));
-        rest = s.rest;
-      }
+      let r = same_then (λ i r us. SpellsFurtherItems i r us) 0x5D t u ts us at from v y w z more_ends (same_value t u) (same_more ts us) (items_parts t ts at v h) (items_parts u us from w k) o e in
+      record { same = ap (λ (n : Tree × Trees). tree_and n.0 n.1) r.same; part = r.part; rest = r.rest }
 
   pub same_more : (ts us : Trees) (at from : ℕ) (v y w z : List ℕ) → SpellsFurtherItems at v ts → SpellsFurtherItems from w us → at ≡ from → v ++ (0x5D ∷ y) ≡ w ++ (0x5D ∷ z) → Same ts us v w y z
   same_more no_trees no_trees at from v y w z h k o e = record { same = refl; part = h ∙ sym k; rest = ap tail (ap (λ n. n ++ (0x5D ∷ y)) (sym h) ∙ (e ∙ ap (λ n. n ++ (0x5D ∷ z)) k)) }
   same_more no_trees (tree_and u us) at from v y w z h hw o e = let (w1, i, k) = further_items_parts u us from w hw in clash 0x5D 0x2C refl (ap head (ap (λ n. n ++ (0x5D ∷ y)) (sym h) ∙ (e ∙ ap (λ n. n ++ (0x5D ∷ z)) i)))
   same_more (tree_and t ts) no_trees at from v y w z hv k o e = let (v1, f, h) = further_items_parts t ts at v hv in clash 0x2C 0x5D refl (ap head (ap (λ n. n ++ (0x5D ∷ y)) (sym f) ∙ (e ∙ ap (λ n. n ++ (0x5D ∷ z)) k)))
-  same_more (tree_and t ts) (tree_and u us) at from v y w z h k o e =
-      let (v1, f, (a, x, b, r, f1, ha, hb, hx, hr)) = further_items_parts t ts at v h in
-      let (w1, i, (c, g, d, q, i1, hc, hd, hg, hq)) = further_items_parts u us from w k in
-      let st = starts t (at + 1 + length a) x hx in let su = starts u (from + 1 + length c) g hg in
-      let inside : v1 ++ (0x5D ∷ y) ≡ w1 ++ (0x5D ∷ z) = ap tail (ap (λ n. n ++ (0x5D ∷ y)) (sym f) ∙ (e ∙ ap (λ n. n ++ (0x5D ∷ z)) i)) in
-      let p = same_padded t u a x b (r ++ (0x5D ∷ y)) c g d (q ++ (0x5D ∷ z)) ha hb hc hd (no_space_first x st.byte st.others _ st.split st.space) (no_space_first g su.byte su.others _ su.split su.space)
-      (more_ends ts (at + 1 + length a + length x + length b) r y hr) (more_ends us (from + 1 + length c + length g + length d) q z hq) (sym (padded_on v1 a x b r (0x5D ∷ y) f1) ∙ (inside ∙ padded_on w1 c g d q (0x5D ∷ z) i1))
-      (λ l m n j. same_value t u (at + 1 + length a) (from + 1 + length c) x (b ++ (r ++ (0x5D ∷ y))) g (d ++ (q ++ (0x5D ∷ z))) hx hg (behind (at + 1) (from + 1) a c (next_offset at from o) l) m n j) in
-      let s = same_more ts us (at + 1 + length a + length x + length b) (from + 1 + length c + length g + length d) r y q z hr hq (behind _ _ b d (behind _ _ x g (behind (at + 1) (from + 1) a c (next_offset at from o) p.left) p.part) p.right) p.rest in
-      record {
-        same = ap (λ n. tree_and n ts) p.same ∙ ap (tree_and u) s.same;
-        part = f ∙ (ap (λ n. 0x2C ∷ n) (f1 ∙ (ap (λ n. n ++ (x ++ (b ++ r))) p.left ∙ (ap (λ n. c ++ (n ++ (b ++ r))) p.part ∙ (ap (λ n. c ++ (g ++ (n ++ r))) p.right ∙ (ap (λ n. c ++ (g ++ (d ++ n))) s.part ∙ sym i1))))) ∙ sym i);
-        rest = s.rest;
-      }
+  same_more (tree_and t ts) (tree_and u us) at from v y w z hv hw o e =
+      let (v1, f, h) = further_items_parts t ts at v hv in
+      let (w1, i, k) = further_items_parts u us from w hw in
+      let r = same_then (λ i r us. SpellsFurtherItems i r us) 0x5D t u ts us (at + 1) (from + 1) v1 y w1 z more_ends (same_value t u) (same_more ts us) h k (next_offset at from o) (ap tail (ap (λ n. n ++ (0x5D ∷ y)) (sym f) ∙ (e ∙ ap (λ n. n ++ (0x5D ∷ z)) i))) in
+      record { same = ap (λ (n : Tree × Trees). tree_and n.0 n.1) r.same; part = f ∙ (ap (λ n. 0x2C ∷ n) r.part ∙ sym i); rest = r.rest }
 
   pub same_members : (ms ns : Members) (at from : ℕ) (v y w z : List ℕ) → SpellsMembers at v ms → SpellsMembers from w ns → at ≡ from → v ++ (0x7D ∷ y) ≡ w ++ (0x7D ∷ z) → Same ms ns v w y z
   same_members no_members no_members at from v y w z h k o e = let r = same_front is_space v w (0x7D ∷ y) (0x7D ∷ z) h k e refl refl in record { same = refl; part = r.0; rest = ap tail r.1 }
-  same_members no_members (member_and m j u us) at from v y w z h k o e =
-      let (c, x, d, q, f, hc, hd, (g, (hm, hx)), hq) = members_parts m j u us from w k in
-      let r = same_front is_space v c (0x7D ∷ y) (x ++ (d ++ (q ++ (0x7D ∷ z)))) h hc (e ∙ padded_on w c x d q (0x7D ∷ z) f) refl (no_space_first x 0x22 _ _ hx refl) in
-      clash 0x7D 0x22 refl (ap head (r.1 ∙ ap (λ n. n ++ (d ++ (q ++ (0x7D ∷ z)))) hx))
-  same_members (member_and m j t ts) no_members at from v y w z h k o e =
-      let (a, x, b, r, f, ha, hb, (g, (hm, hx)), hr) = members_parts m j t ts at v h in
-      let s = same_front is_space w a (0x7D ∷ z) (x ++ (b ++ (r ++ (0x7D ∷ y)))) k ha (sym e ∙ padded_on v a x b r (0x7D ∷ y) f) refl (no_space_first x 0x22 _ _ hx refl) in
-      clash 0x7D 0x22 refl (ap head (s.1 ∙ ap (λ n. n ++ (b ++ (r ++ (0x7D ∷ y)))) hx))
+  same_members no_members (member_and m j u us) at from v y w z h k o e = absurd (no_member m j u us from v y w z h k e)
+  same_members (member_and m j t ts) no_members at from v y w z h k o e = absurd (no_member m j t ts at w z v y k h (sym e))
   same_members (member_and m j t ts) (member_and l k u us) at from v y w z h g o e = same_member m l j k t u ts us at from v y w z (same_value t u) (same_more_members ts us) (members_parts m j t ts at v h) (members_parts l k u us from w g) o e
 
   pub same_more_members : (ms ns : Members) (at from : ℕ) (v y w z : List ℕ) → SpellsFurtherMembers at v ms → SpellsFurtherMembers from w ns → at ≡ from → v ++ (0x7D ∷ y) ≡ w ++ (0x7D ∷ z) → Same ms ns v w y z

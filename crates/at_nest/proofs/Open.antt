@@ -11,7 +11,8 @@ use Rattle.at_nest.proofs.JsonNumber as num
 use Rattle.at_lex.specs.Runs.{Literal, literal_text, the_null, the_true, the_false}
 use Rattle.at_lex.proofs.JsonString as str
 use Rattle.at_nest.specs.Syntax.{JsonText}
-use Rattle.at_nest.proofs.JsonMachine.{State, Frame, in_array, in_object, value, items, members, name, after, in_number, in_string, in_name, in_word, step, accepts, is_nil, begin_value, text_at}
+use Rattle.at_nest.proofs.JsonMachine.{State, Frame, in_array, in_object, value, items, members, name, after, in_number, in_string, in_name, in_word, step, accepts, is_nil, begin_value}
+use Rattle.at_nest.proofs.Accepted.{text_at}
 use Rattle.at_nest.specs.Borders.{are_apart}
 use Rattle.at_nest.specs.Forms.{Meaning}
 use Rattle.at_nest.proofs.Steps.{IsStill, is_clear, settled_step, settled_still}

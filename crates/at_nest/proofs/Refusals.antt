@@ -1,10 +1,8 @@
 -- A token that is refused stands where no bytes before the span make its first byte viable.
 -- For `merge` and `run_block`.
-use Rattle.std.proofs.Common.{◌≡◌, ℕ, ◌⊎◌, inl, inr, List, [], ◌∷◌, ◌++◌, Option, Some, None, option_and_then, Bool, true, false, cond, not, ◌&&◌, refl, sym, ◌∙◌, ap, subst, arith, append_assoc, append-nil, ◌+◌, length, length-append, true≢false}
+use Rattle.std.proofs.Common.{◌≡◌, ℕ, ◌⊎◌, inl, inr, List, [], ◌∷◌, ◌++◌, Option, Some, None, option_and_then, true, false, not, refl, sym, ◌∙◌, ap, subst, arith, append_assoc, append-nil, ◌+◌, length, length-append, true≢false}
 use Rattle.std.proofs.lemmas.Option.{none-some, same_Some, option_and_then_some}
-use Rattle.std.proofs.lemmas.Bool.{not-true, and_right}
-use Rattle.at_text.specs.Texts.{is_run}
-use Rattle.at_lex.proofs.JsonString as str
+use Rattle.std.proofs.lemmas.Bool.{not-true}
 use Rattle.at_lex.specs.Spans.{end_of, IsKind}
 use Rattle.at_lex.specs.Stream.{Left, GivesItem}
 use Rattle.at_lex.specs.declared.tokens.Start.TheVariants.{Out}
@@ -22,7 +20,7 @@ use Rattle.at_nest.specs.declared.pieces.Piece.{Piece as CodePiece}
 use Rattle.at_nest.specs.declared.pieces.Piece.TheVariants.{Comma, Colon, Text, Value, Row as RowPiece, Members as MembersPiece, Closers as ClosersPiece}
 use Rattle.at_nest.specs.declared.variants.Variant.TheVariants.{Broken}
 use Rattle.at_nest.specs.Tree.{Tree}
-use Rattle.at_nest.specs.Borders.{are_apart}
+use Rattle.at_nest.specs.Borders.{ends_run, are_apart}
 use Rattle.at_nest.specs.Forms.{Meaning, Piece, comma, colon, quoted, entry, opens, closes, mark, IsPiece, Formed}
 use Rattle.at_nest.specs.Walks.{Kind, an_opener, a_closer, comma_kind, colon_kind, text_kind, value_kind, kind_of, at_of, next, walk_on, reached}
 use Rattle.at_nest.specs.Levels.{Level, Form, full, marks, opened, pieces_of, plain_halt}
@@ -33,18 +31,16 @@ use Rattle.at_nest.specs.Closers.{turn}
 use Rattle.at_nest.specs.KeptItems.{Content, free, closers, row_marks, IsHeld, EachHeld, IsHeldPiece, ArePieces, EachPiece, IsShown, halt_of}
 use Rattle.at_nest.specs.Refusals.{not_behind_value, not_behind_text, not_behind_mark, not_behind_piece, not_behind_last, last_of, not_in, is_refused}
 use Rattle.at_nest.specs.VariantMeanings.{HoldsBehind}
-use Rattle.at_nest.proofs.JsonNumber as num
-use Rattle.at_nest.proofs.JsonMachine.{State, Frame, in_array, in_object, value, items, members, name, colon as colon_state, after, in_number, in_string, in_name, in_word, step, after_step}
-use Rattle.at_nest.proofs.Steps.{Settled, is_clear, run_ended, settled_step}
+use Rattle.at_nest.proofs.JsonMachine.{State, Frame, in_array, in_object, value, items, members, name, colon as colon_state, after, step}
+use Rattle.at_nest.proofs.Steps.{Settled, is_clear, settled_step}
 use Rattle.at_nest.proofs.Values.{go}
 use Rattle.at_nest.proofs.PieceSteps.{Halts, piece_first, piece_at, piece_halts, next_still}
 use Rattle.at_nest.proofs.Walks.{Reads, Halted, walk_reads, walk_halts, cases, spaces_apart}
-use Rattle.at_nest.proofs.Lexical.{At, at_run, bracket_number, word_off, not_out_string, not_out_escape}
+use Rattle.at_nest.proofs.Lexical.{At, at_run}
 use Rattle.at_nest.proofs.Joins.{Cut, formed_cut, formed_append, formed_out, end_append, run_split, viable_runs, apart_front, apart_nothing, apart_join}
-use Rattle.at_nest.proofs.Ran.{start_ran, ran_settled}
+use Rattle.at_nest.proofs.Ran.{ran_start, goes_settled}
 use Rattle.at_nest.proofs.Pushes.{dead_level, level_more, stop_before, halts_after}
 use Rattle.at_nest.proofs.Merges.{stop_right, apart_both}
-use Rattle.at_nest.proofs.TokenStops.{apart_of_run}
 use Rattle.at_nest.proofs.TokenReads.{run_tree}
 use Rattle.at_nest.proofs.Items.{Consumed}
 use Rattle.at_nest.proofs.Closers.{closers_more}
@@ -54,18 +50,13 @@ use Rattle.at_nest.proofs.Closers.{closers_more}
 value_leads : (s t : State) → next s value_kind ≡ Some t → (st : List Frame) × (t ≡ after st)
 value_leads (value st) t e = (st, sym (same_Some (after st) t e))
 value_leads (items st) t e = (in_array ∷ st, sym (same_Some (after (in_array ∷ st)) t e))
-value_leads (after []) t e = absurd (none-some t e)
 value_leads (after (in_array ∷ st)) t e = absurd (none-some t e)
-value_leads (after (in_object ∷ st)) t e = absurd (none-some t e)
 value_leads _ t e = absurd (none-some t e)
 
 closer_leads : (b : Bracket) (s t : State) → next s (a_closer b) ≡ Some t → (st : List Frame) × (t ≡ after st)
 closer_leads Square (items st) t e = (st, sym (same_Some (after st) t e))
 closer_leads Brace (members st) t e = (st, sym (same_Some (after st) t e))
-closer_leads b (after []) t e = absurd (none-some t e)
 closer_leads Square (after (in_array ∷ st)) t e = (st, sym (same_Some (after st) t e))
-closer_leads Brace (after (in_array ∷ st)) t e = absurd (none-some t e)
-closer_leads Square (after (in_object ∷ st)) t e = absurd (none-some t e)
 closer_leads Brace (after (in_object ∷ st)) t e = (st, sym (same_Some (after st) t e))
 closer_leads _ _ t e = absurd (none-some t e)
 
@@ -74,22 +65,17 @@ text_leads (value st) t e = (st, inl (sym (same_Some (after st) t e)))
 text_leads (items st) t e = (in_array ∷ st, inl (sym (same_Some (after (in_array ∷ st)) t e)))
 text_leads (members st) t e = (st, inr (sym (same_Some (colon_state st) t e)))
 text_leads (name st) t e = (st, inr (sym (same_Some (colon_state st) t e)))
-text_leads (after []) t e = absurd (none-some t e)
 text_leads (after (in_array ∷ st)) t e = absurd (none-some t e)
-text_leads (after (in_object ∷ st)) t e = absurd (none-some t e)
 text_leads _ t e = absurd (none-some t e)
 
 comma_leads : (s t : State) → next s comma_kind ≡ Some t → (st : List Frame) × ((t ≡ value st) ⊎ (t ≡ name st))
-comma_leads (after []) t e = absurd (none-some t e)
 comma_leads (after (in_array ∷ st)) t e = (in_array ∷ st, inl (sym (same_Some (value (in_array ∷ st)) t e)))
 comma_leads (after (in_object ∷ st)) t e = (st, inr (sym (same_Some (name st) t e)))
 comma_leads _ t e = absurd (none-some t e)
 
 colon_leads : (s t : State) → next s colon_kind ≡ Some t → (st : List Frame) × (t ≡ value st)
 colon_leads (colon_state st) t e = (in_object ∷ st, sym (same_Some (value (in_object ∷ st)) t e))
-colon_leads (after []) t e = absurd (none-some t e)
 colon_leads (after (in_array ∷ st)) t e = absurd (none-some t e)
-colon_leads (after (in_object ∷ st)) t e = absurd (none-some t e)
 colon_leads _ t e = absurd (none-some t e)
 
 -- ---- a token behind a piece
@@ -107,38 +93,31 @@ off : {A : Type 0} → false ≡ true → A
 off e = absurd (true≢false (sym e))
 
 value_then : (k : TokenKind) → not_behind_value k ≡ true → (st : List Frame) → next (after st) (token_kind k) ≡ None
-value_then (token.Opens b) e (in_array ∷ st) = refl
-value_then (token.Opens b) e (in_object ∷ st) = refl
-value_then token.Text e (in_array ∷ st) = refl
-value_then token.Text e (in_object ∷ st) = refl
-value_then token.Run e (in_array ∷ st) = refl
-value_then token.Run e (in_object ∷ st) = refl
-value_then token.Colon e (in_array ∷ st) = refl
-value_then token.Colon e (in_object ∷ st) = refl
 value_then (token.Closes b) e st = off e
 value_then token.Comma e st = off e
 value_then (token.Broken n) e st = off e
+value_then _ e (in_array ∷ st) = refl
 value_then _ e _ = refl
 
+text_then_value : (k : TokenKind) → not_behind_text k ≡ true → not_behind_value k ≡ true
+text_then_value (token.Closes b) h = h
+text_then_value token.Comma h = h
+text_then_value token.Colon h = off h
+text_then_value (token.Broken n) h = h
+text_then_value _ h = refl
+
 text_then : (k : TokenKind) → not_behind_text k ≡ true → (st : List Frame) (t : State) → (t ≡ after st) ⊎ (t ≡ colon_state st) → next t (token_kind k) ≡ None
-text_then (token.Opens b) e st t (inl f) = ap (λ z. next z (an_opener b)) f ∙ value_then (token.Opens b) refl st
-text_then (token.Opens b) e st t (inr f) = ap (λ z. next z (an_opener b)) f
-text_then token.Text e st t (inl f) = ap (λ z. next z text_kind) f ∙ value_then token.Text refl st
-text_then token.Text e st t (inr f) = ap (λ z. next z text_kind) f
-text_then token.Run e st t (inl f) = ap (λ z. next z value_kind) f ∙ value_then token.Run refl st
-text_then token.Run e st t (inr f) = ap (λ z. next z value_kind) f
-text_then (token.Closes b) e st t f = off e
-text_then _ e st t f = off e
+text_then token.Colon e st t f = off e
+text_then k e st t (inl f) = ap (λ z. next z (token_kind k)) f ∙ value_then k (text_then_value k e) st
+text_then k e st t (inr f) = ap (λ z. next z (token_kind k)) f
 
 mark_then : (k : TokenKind) → not_behind_mark k ≡ true → (st : List Frame) (t : State) → (t ≡ value st) ⊎ (t ≡ name st) → next t (token_kind k) ≡ None
-mark_then (token.Closes b) e st t (inl f) = ap (λ z. next z (a_closer b)) f
-mark_then (token.Closes b) e st t (inr f) = ap (λ z. next z (a_closer b)) f
-mark_then token.Comma e st t (inl f) = ap (λ z. next z comma_kind) f
-mark_then token.Comma e st t (inr f) = ap (λ z. next z comma_kind) f
-mark_then token.Colon e st t (inl f) = ap (λ z. next z colon_kind) f
-mark_then token.Colon e st t (inr f) = ap (λ z. next z colon_kind) f
 mark_then (token.Opens b) e st t f = off e
-mark_then _ e st t f = off e
+mark_then token.Text e st t f = off e
+mark_then token.Run e st t f = off e
+mark_then (token.Broken n) e st t f = off e
+mark_then k e st t (inl f) = ap (λ z. next z (token_kind k)) f
+mark_then k e st t (inr f) = ap (λ z. next z (token_kind k)) f
 
 -- wherever the first may stand, the second has no place behind it
 abbrev Refuses : Kind → Kind → Type 0
@@ -161,48 +140,12 @@ behind_colon k h s t e = let (st, f) = colon_leads s t e in mark_then k h st t (
 
 -- ---- the machine for bytes, behind any bytes that lead outside text
 
-number_done : (p : Bool) (o : Option State) (t : State) → cond p o None ≡ Some t → p ≡ true
-number_done true o t e = refl
-number_done false o t e = absurd (none-some t e)
-
--- a byte that is in no run has a place only where the machine is settled
-settles : (q t : State) (d : ℕ) → At q Out → is_run d ≡ false → step q d ≡ Some t → (u : State) × Settled q u
-settles (value st) t d h n e = (value st, refl)
-settles (items st) t d h n e = (items st, refl)
-settles (members st) t d h n e = (members st, refl)
-settles (name st) t d h n e = (name st, refl)
-settles (colon_state st) t d h n e = (colon_state st, refl)
-settles (after st) t d h n e = (after st, refl)
-settles (in_number k st) t d h n e = (after st, (number_done (num.accepts k) (after_step st d) t (sym (bracket_number k st d n) ∙ e), refl))
-settles (in_word [] st) t d h n e = (after st, (refl, refl))
-settles (in_word (c ∷ w) st) t d (h, (k, l)) n e = absurd (word_off c d w st t n k e)
-settles (in_string str.closed st) t d h n e = (after st, (refl, refl))
-settles (in_string str.opening st) t d h n e = absurd h
-settles (in_string str.inside st) t d h n e = absurd (not_out_string h)
-settles (in_string str.hex4 st) t d h n e = absurd (not_out_string h)
-settles (in_string str.hex3 st) t d h n e = absurd (not_out_string h)
-settles (in_string str.hex2 st) t d h n e = absurd (not_out_string h)
-settles (in_string str.hex1 st) t d h n e = absurd (not_out_string h)
-settles (in_string str.escaped st) t d h n e = absurd (not_out_escape h)
-settles (in_name str.closed st) t d h n e = (colon_state st, (refl, refl))
-settles (in_name str.opening st) t d h n e = absurd h
-settles (in_name str.inside st) t d h n e = absurd (not_out_string h)
-settles (in_name str.hex4 st) t d h n e = absurd (not_out_string h)
-settles (in_name str.hex3 st) t d h n e = absurd (not_out_string h)
-settles (in_name str.hex2 st) t d h n e = absurd (not_out_string h)
-settles (in_name str.hex1 st) t d h n e = absurd (not_out_string h)
-settles (in_name str.escaped st) t d h n e = absurd (not_out_escape h)
-
 -- where the bytes from d on go on behind the bytes y, the machine is settled before them
 abbrev IsReady : State → List ℕ → Type 0
 IsReady q w = (u : State) × Settled q u × (is_clear q w ≡ true)
 
 ready : (q t : State) (y : List ℕ) (d : ℕ) (w : List ℕ) → go (value []) y ≡ Some q → At q Out → are_apart y (d ∷ w) ≡ true → go q (d ∷ w) ≡ Some t → IsReady q (d ∷ w)
-ready q t y d w e at1 apart g = by_byte (is_run d) refl
-  where
-    by_byte : (p : Bool) → is_run d ≡ p → IsReady q (d ∷ w)
-    by_byte true n = let (u, settled, clear) = ran_settled q at1 (start_ran q y e (apart_of_run y (d ∷ w) n apart)) in (u, settled, ap (λ z. not (z && is_run d)) clear)
-    by_byte false n = option_and_then_some (λ z. go z w) (step q d) t g (λ v f k. let (u, settled) = settles q v d at1 n f in (u, settled, ap (λ z. not (run_ended q && z)) n ∙ ap not (and_right (run_ended q) false refl)))
+ready q t y d w e at1 apart g = option_and_then_some (λ z. go z w) (step q d) t g (λ v f k. goes_settled q v (ends_run y) d w at1 (ran_start q y e) apart f)
 
 -- ---- two pieces of which the second has no place
 
@@ -272,14 +215,8 @@ dead_two {X} m at w front c p refuses f =
 -- ---- what is kept, and the items that it stands for
 
 broken_none : {X : Type 0} (hs : List (Held X)) (o : Option (CodePiece X)) (outer : List (CodePiece X)) (n : ℕ) → last_of outer ≡ o → not_in hs outer (token.Broken n) ≡ true → ⊥
-broken_none [] None outer n e h = true≢false (sym h ∙ ap (λ z. not_behind_last z (token.Broken n)) e)
 broken_none [] (Some (Comma i)) outer n e h = true≢false (sym h ∙ ap (λ z. not_behind_last z (token.Broken n)) e)
-broken_none [] (Some (Colon i)) outer n e h = true≢false (sym h ∙ ap (λ z. not_behind_last z (token.Broken n)) e)
-broken_none [] (Some (Text span x)) outer n e h = true≢false (sym h ∙ ap (λ z. not_behind_last z (token.Broken n)) e)
-broken_none [] (Some (Value i x)) outer n e h = true≢false (sym h ∙ ap (λ z. not_behind_last z (token.Broken n)) e)
-broken_none [] (Some (RowPiece r)) outer n e h = true≢false (sym h ∙ ap (λ z. not_behind_last z (token.Broken n)) e)
-broken_none [] (Some (MembersPiece r)) outer n e h = true≢false (sym h ∙ ap (λ z. not_behind_last z (token.Broken n)) e)
-broken_none [] (Some (ClosersPiece r)) outer n e h = true≢false (sym h ∙ ap (λ z. not_behind_last z (token.Broken n)) e)
+broken_none [] _ outer n e h = true≢false (sym h ∙ ap (λ z. not_behind_last z (token.Broken n)) e)
 broken_none (k ∷ hs) o outer n e h = off h
 
 record PieceOf (at : ℕ) (v : List ℕ) (k : TokenKind) : Type 0 where
@@ -305,13 +242,6 @@ members_last [] e = (mark (comma e.comma_at) ∷ (mark (quoted e.name_at e.chara
 members_last (g ∷ es) e = let q = members_last es g in
     (mark (comma e.comma_at) ∷ (mark (quoted e.name_at e.characters) ∷ (mark (colon e.colon_at) ∷ (mark (mark_of e.value) ∷ q.0))), q.1, ap (λ z. mark (comma e.comma_at) ∷ (mark (quoted e.name_at e.characters) ∷ (mark (colon e.colon_at) ∷ (mark (mark_of e.value) ∷ z)))) q.2)
 
-text_then_value : (k : TokenKind) → not_behind_text k ≡ true → not_behind_value k ≡ true
-text_then_value (token.Closes b) h = h
-text_then_value token.Comma h = h
-text_then_value token.Colon h = off h
-text_then_value (token.Broken n) h = h
-text_then_value _ h = refl
-
 -- behind a member's value, whichever it is
 behind_member : (v : ValueMark) (k : TokenKind) → not_behind_text k ≡ true → Refuses (kind_of (mark (mark_of v))) (token_kind k)
 behind_member (string_value i cs) k h = behind_text k h
@@ -327,22 +257,9 @@ record LastPiece (ps : List (Piece Tree)) (k : TokenKind) : Type 0 where
 module _ {X : Type 0} (IsKept : X → Content → Type 0) where
   piece_refuses : (base : ℕ) (w : List ℕ) (c : CodePiece X) (p : Piece Tree) (k : TokenKind) → IsHeldPiece IsKept base w c p → not_behind_piece c k ≡ true → Refuses (kind_of p) (token_kind k)
   piece_refuses base w (Comma i) (mark (comma j)) k u h = behind_comma k h
-  piece_refuses base w (Comma i) (mark (colon j)) k u h = absurd u
-  piece_refuses base w (Comma i) (mark (quoted j cs)) k u h = absurd u
-  piece_refuses base w (Comma i) (mark (entry j t)) k u h = absurd u
   piece_refuses base w (Colon i) (mark (colon j)) k u h = behind_colon k h
-  piece_refuses base w (Colon i) (mark (comma j)) k u h = absurd u
-  piece_refuses base w (Colon i) (mark (quoted j cs)) k u h = absurd u
-  piece_refuses base w (Colon i) (mark (entry j t)) k u h = absurd u
   piece_refuses base w (Text span x) (mark (quoted j cs)) k u h = behind_text k h
-  piece_refuses base w (Text span x) (mark (comma j)) k u h = absurd u
-  piece_refuses base w (Text span x) (mark (colon j)) k u h = absurd u
-  piece_refuses base w (Text span x) (mark (entry j t)) k u h = absurd u
   piece_refuses base w (Value i x) (mark (entry j t)) k u h = behind_value k h
-  piece_refuses base w (Value i x) (mark (comma j)) k u h = absurd u
-  piece_refuses base w (Value i x) (mark (colon j)) k u h = absurd u
-  piece_refuses base w (Value i x) (mark (quoted j cs)) k u h = absurd u
-  piece_refuses base w (RowPiece r) p k u h = absurd u
   piece_refuses base w _ _ k u h = absurd u
 
   last_is : (base : ℕ) (w : List ℕ) (c : CodePiece X) (us : List (Piece Tree)) (k : TokenKind) → ArePieces IsKept base w c us → not_behind_piece c k ≡ true → LastPiece us k
@@ -359,14 +276,11 @@ module _ {X : Type 0} (IsKept : X → Content → Type 0) where
       record { front = us ++ r.front; last = r.last; split = e ∙ (ap (λ z. us ++ z) r.split ∙ sym (append_assoc us r.front (r.last ∷ []))); refuses = r.refuses }
 
   level_none : (h : Held X) (l : Level Tree) (b : Bracket) → IsHeld IsKept h l → not (takes_value h) ≡ true → (st : List Frame) → next (full l.mode st) (an_opener b) ≡ None
-  level_none (array_level i array.Value xs) l b u e st = ap (λ z. next (full z st) (an_opener b)) u.2
   level_none (array_level i array.Empty xs) l b u e st = off e
   level_none (array_level i array.Comma xs) l b u e st = off e
-  level_none (object_level i object.Empty ms) l b u e st = ap (λ z. next (full z st) (an_opener b)) u.2
-  level_none (object_level i object.Comma ms) l b u e st = ap (λ z. next (full z st) (an_opener b)) u.2
-  level_none (object_level i (object.Named n) ms) l b u e st = ap (λ z. next (full z st) (an_opener b)) u.2
   level_none (object_level i (object.Colon n) ms) l b u e st = off e
-  level_none (object_level i object.Value ms) l b u e st = ap (λ z. next (full z st) (an_opener b)) u.2
+  level_none (array_level i s xs) l b u e st = ap (λ z. next (full z st) (an_opener b)) u.2
+  level_none (object_level i s ms) l b u e st = ap (λ z. next (full z st) (an_opener b)) u.2
 
   dead_token : (base : ℕ) (piece : List ℕ) (s : Shown X) (f : Form Tree) (at : ℕ) (w : List ℕ) (k : TokenKind) (p : Piece Tree) → IsShown IsKept base piece s f → is_refused s k ≡ true → kind_of p ≡ token_kind k → AreLevels f.levels
       → Formed free at w (pieces_of f ++ (p ∷ [])) → IsDeadHere at w (at_of p)

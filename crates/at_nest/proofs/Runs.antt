@@ -1,7 +1,7 @@
 -- A run that is no value: its longest viable prefix, and the byte behind it, stop the machine.
 -- For `finish`, `finish_span`, `merge` and `run_block`.
-use Rattle.std.proofs.Common.{◌≡◌, ℕ, ◌⊎◌, inl, inr, List, [], ◌∷◌, ◌++◌, Option, Some, None, option_map, option_and_then, Bool, true, false, ◌==◌, refl, sym, ◌∙◌, ap, subst, append_assoc, append-nil, codes, ◌+◌, length, true≢false}
-use Rattle.std.proofs.lemmas.Bool.{eqb-true}
+use Rattle.std.proofs.Common.{◌≡◌, ℕ, ◌⊎◌, inl, inr, List, [], ◌∷◌, ◌++◌, Option, Some, None, option_map, option_and_then, true, false, ◌==◌, refl, sym, ◌∙◌, ap, subst, append_assoc, append-nil, codes, ◌+◌, length, true≢false}
+use Rattle.std.proofs.lemmas.Bool.{eqb-true, false_from_ne_true}
 use Rattle.at_text.specs.Prefix.{Viable}
 use Rattle.at_text.specs.Texts.{is_run}
 use Rattle.at_text.proofs.Machine.{run, run-rest, run_more}
@@ -9,6 +9,7 @@ use Rattle.at_nest.proofs.JsonNumber as num
 use Rattle.at_lex.specs.Runs.{Literal, literal_text, the_null, the_true, the_false, JsonRun}
 use Rattle.at_nest.proofs.JsonMachine.{Frame, in_number, begin_value}
 use Rattle.at_lex.specs.Spans.{AreRun}
+use Rattle.at_lex.proofs.RunBytes.{word_run}
 use Rattle.at_nest.specs.Forms.{Meaning}
 use Rattle.at_nest.proofs.Steps.{number_none}
 use Rattle.at_nest.specs.Levels.{plain_halt, in_run}
@@ -31,9 +32,11 @@ begun_of u (v, inr h) = let (n, e, r) = rest_runs num.machine num.start u v ((nu
 abbrev pub IsBehind : List ℕ → ℕ → Type 0
 IsBehind u byte = ((is_run byte ≡ true) × (¬ (Viable JsonRun (u ++ byte ∷ [])))) ⊎ ((is_run byte ≡ false) × (¬ JsonRun u))
 
-pub literal_runs : (l : Literal) → AreRun (literal_text l)
-literal_runs the_false = (refl, (refl, (refl, (refl, (refl, tt)))))
-literal_runs _ = (refl, (refl, (refl, (refl, tt))))
+pub no_nil : JsonRun [] → ⊥
+no_nil (inl (the_null, e)) = cc
+no_nil (inl (the_true, e)) = cc
+no_nil (inl (the_false, e)) = cc
+no_nil (inr h) = (num.start-JsonNumber []).1 h
 
 pub run_there : (u : List ℕ) (c : ℕ) (r : List ℕ) → AreRun (u ++ (c ∷ r)) → is_run c ≡ true
 run_there [] c r (e, h) = e
@@ -45,24 +48,16 @@ step_none u n byte e (inr (h, k)) = number_none n byte h
 
 number_rest : (u : List ℕ) (n : num.State) (byte : ℕ) → run num.step num.start u ≡ Some n → IsBehind u byte → (is_run byte ≡ true) ⊎ (num.accepts n ≡ false)
 number_rest u n byte e (inl (h, k)) = inl h
-number_rest u n byte e (inr (h, k)) = inr (by_bool (num.accepts n) refl)
-  where
-    by_bool : (p : Bool) → num.accepts n ≡ p → num.accepts n ≡ false
-    by_bool false f = f
-    by_bool true f = absurd (k (number_whole u n e f))
+number_rest u n byte e (inr (h, k)) = inr (false_from_ne_true (num.accepts n) (λ f. k (number_whole u n e f)))
 
 word_rest : (l : Literal) (u r : List ℕ) (byte : ℕ) → u ++ r ≡ literal_text l → IsBehind u byte → WordStops r byte
 word_rest l u [] byte e (inl (h, k)) = h
 word_rest l u [] byte e (inr (h, k)) = absurd (k (inl (l, sym (append-nil u) ∙ e)))
-word_rest l u (c ∷ r) byte e b = by_bool (byte == c) refl
+word_rest l u (c ∷ r) byte e b = false_from_ne_true (byte == c) (λ f. not_byte (eqb-true byte c f) b)
   where
     not_byte : byte ≡ c → IsBehind u byte → ⊥
     not_byte f (inl (h, k)) = k (subst (λ z. Viable JsonRun (u ++ z ∷ [])) (sym f) (r, inl (l, append_assoc u (c ∷ []) r ∙ e)))
-    not_byte f (inr (h, k)) = true≢false (sym (run_there u c r (subst AreRun (sym e) (literal_runs l))) ∙ (ap is_run (sym f) ∙ h))
-
-    by_bool : (p : Bool) → (byte == c) ≡ p → (byte == c) ≡ false
-    by_bool false f = f
-    by_bool true f = absurd (not_byte (eqb-true byte c f) b)
+    not_byte f (inr (h, k)) = true≢false (sym (run_there u c r (word_run (u ++ (c ∷ r)) (inl (l, e)))) ∙ (ap is_run (sym f) ∙ h))
 
 pub run_stops : (u : List ℕ) (byte : ℕ) → IsRunBegun u → IsBehind u byte → RunStops u byte
 run_stops u byte (inl (n, e)) b = inl (n, e, step_none u n byte e b, number_rest u n byte e b)
@@ -70,11 +65,7 @@ run_stops u byte (inr (l, r, e)) b = inr (l, r, e, word_rest l u r byte e b)
 
 -- a byte of a run with which no run begins begins no value
 not_letter : (byte c : ℕ) (w : List ℕ) (l : Literal) → c ∷ w ≡ literal_text l → ¬ (Viable JsonRun (byte ∷ [])) → (byte == c) ≡ false
-not_letter byte c w l e h = by_bool (byte == c) refl
-  where
-    by_bool : (p : Bool) → (byte == c) ≡ p → (byte == c) ≡ false
-    by_bool false f = f
-    by_bool true f = absurd (h (w, inl (l, ap (λ z. z ∷ w) (eqb-true byte c f) ∙ e)))
+not_letter byte c w l e h = false_from_ne_true (byte == c) (λ f. h (w, inl (l, ap (λ z. z ∷ w) (eqb-true byte c f) ∙ e)))
 
 pub first_none : (byte : ℕ) → is_run byte ≡ true → ¬ (Viable JsonRun (byte ∷ [])) → (st : List Frame) → begin_value st byte ≡ None
 first_none byte k h st = pass (byte == 0x5B) _ _ _ (unlike is_run byte 0x5B refl k) (pass (byte == 0x7B) _ _ _ (unlike is_run byte 0x7B refl k) (pass (byte == 0x22) _ _ _ (unlike is_run byte 0x22 refl k)

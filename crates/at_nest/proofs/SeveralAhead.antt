@@ -1,28 +1,27 @@
 -- Items of an array that were read at once, as what is read of the bytes from the first one's bracket on.
 -- For `merge` and `run_block`.
-use Rattle.std.proofs.Common.{◌≡◌, ℕ, inl, List, [], ◌∷◌, ◌++◌, Option, true, false, true≢false, not, ◌&&◌, refl, sym, ◌∙◌, ap, subst, arith, append_assoc, append-nil, All, ◌+◌, ◌<◌, ◌≤◌, zero, suc, take, length, length-append}
+use Rattle.std.proofs.Common.{◌≡◌, ℕ, inl, List, [], ◌∷◌, ◌++◌, Option, true, false, not, ◌&&◌, refl, sym, ◌∙◌, ap, subst, arith, append_assoc, append-nil, All, ◌+◌, ◌<◌, ◌≤◌, zero, suc, take, length, length-append}
 use Rattle.std.proofs.lemmas.List.Elements.{All-nil, All-cons, All-head, All-tail}
-use Rattle.at_text.specs.Texts.{is_run, is_space, is_one_of}
+use Rattle.at_text.specs.Texts.{is_space}
 use Rattle.at_lex.specs.Spans.{AreSpaces, opening, begins_run}
 use Rattle.at_lex.specs.declared.tokens.Bracket.{Bracket}
-use Rattle.at_lex.specs.declared.tokens.Bracket.TheVariants.{Brace, Square}
 use Rattle.at_lex.proofs.Unique.{head_same}
 use Rattle.at_nest.specs.declared.pieces.SpanStop.{SpanStop as CodeHalt}
 use Rattle.at_nest.specs.declared.algebra.Attempt.TheVariants.{Whole, Unsaid}
 use Rattle.at_nest.specs.declared.algebra.Attempt.{Attempt}
-use Rattle.at_nest.specs.Tree.{Tree, array, object, no_trees, Spells, SpellsItems, SpellsFurtherItems}
+use Rattle.at_nest.specs.Tree.{Tree, no_trees, Spells, SpellsItems, SpellsFurtherItems}
 use Rattle.at_nest.specs.Borders.{ends_run, are_apart}
-use Rattle.at_nest.specs.Forms.{Piece, entry, mark, IsNoText, Formed}
+use Rattle.at_nest.specs.Forms.{Piece, entry, mark, Formed}
 use Rattle.at_nest.specs.Folds.{trees, Covers, IsAttempt, HasBrackets, IsItemsAttempt}
 use Rattle.at_nest.specs.Levels.{further, marks, push_all}
 use Rattle.at_nest.specs.Shown.{Shown}
 use Rattle.at_nest.specs.KeptItems.{free, row_marks, row_trees, IsPushedAs, PushesItems, OwnAtom}
 use Rattle.at_nest.specs.Reading.{ReadsAhead}
 use Rattle.at_nest.proofs.TreeParts as parts
-use Rattle.at_nest.proofs.Walks.{ends_append}
+use Rattle.at_nest.proofs.Walks.{ends_append, spaces_end}
 use Rattle.at_nest.proofs.Held.{covers_holds}
 use Rattle.at_nest.proofs.Told.{fold_free}
-use Rattle.at_nest.proofs.Ahead.{IsEnded, between, value_brackets}
+use Rattle.at_nest.proofs.Ahead.{IsEnded, no_opening, brackets_ended, brackets_no_text, value_brackets}
 
 -- ---- a value alone is several items, one in number
 
@@ -56,16 +55,6 @@ front_begins (suc n) b w h (more, e) = (b, take n more, ap (take (suc n)) e)
 
 -- ---- an item with brackets
 
-brackets_ended : (at : ℕ) (v : List ℕ) (t : Tree) → HasBrackets t → Spells at v t → IsEnded v
-brackets_ended at v (array i ts) b h = let (f, (u, g, s)) = parts.array_parts ts i at v h in between 0x5B 0x5D u v g refl
-brackets_ended at v (object i ms) b h = let (f, (u, g, s)) = parts.object_parts ms i at v h in between 0x7B 0x7D u v g refl
-brackets_ended at v _ b h = absurd b
-
-brackets_no_text : (t : Tree) → HasBrackets t → IsNoText t
-brackets_no_text (array i ts) b = tt
-brackets_no_text (object i ms) b = tt
-brackets_no_text _ b = absurd b
-
 apart_ended : (v r : List ℕ) → ends_run v ≡ false → are_apart v r ≡ true
 apart_ended v r h = ap (λ p. not (p && begins_run r)) h
 
@@ -90,20 +79,12 @@ further_formed (t ∷ ts) at b r spaces h has =
 
 -- ---- their last byte is of no run
 
-space_no_run : (c : ℕ) → is_space c ≡ true → is_run c ≡ false
-space_no_run c h = ap (λ p. not p && not (is_one_of (0x7B ∷ 0x7D ∷ 0x5B ∷ 0x5D ∷ 0x2C ∷ 0x3A ∷ 0x22 ∷ []) c)) h
-
-spaces_ended : (a : List ℕ) → AreSpaces a → ends_run a ≡ false
-spaces_ended [] h = refl
-spaces_ended (c ∷ []) h = space_no_run c h.0
-spaces_ended (c ∷ (d ∷ a)) h = spaces_ended (d ∷ a) h.1
-
 both_ended : (x y : List ℕ) → ends_run x ≡ false → ends_run y ≡ false → ends_run (x ++ y) ≡ false
 both_ended x [] h k = ap ends_run (append-nil x) ∙ h
 both_ended x (c ∷ y) h k = ends_append x c y ∙ k
 
 item_ended : (at : ℕ) (w a v b r : List ℕ) (t : Tree) → w ≡ a ++ (v ++ (b ++ r)) → AreSpaces a → AreSpaces b → HasBrackets t → Spells at v t → ends_run r ≡ false → ends_run w ≡ false
-item_ended at w a v b r t e before behind has spells h = ap ends_run e ∙ both_ended a (v ++ (b ++ r)) (spaces_ended a before) (both_ended v (b ++ r) (brackets_ended at v t has spells).1 (both_ended b r (spaces_ended b behind) h))
+item_ended at w a v b r t e before behind has spells h = ap ends_run e ∙ both_ended a (v ++ (b ++ r)) (spaces_end a before) (both_ended v (b ++ r) (brackets_ended at v t has spells).1 (both_ended b r (spaces_end b behind) h))
 
 further_ended : (ts : List Tree) (at : ℕ) (r : List ℕ) → SpellsFurtherItems at r (trees ts) → All HasBrackets ts → ends_run r ≡ false
 further_ended [] at r e has = ap ends_run e
@@ -114,13 +95,9 @@ further_ended (t ∷ ts) at r h has =
 
 -- ---- all of them
 
-no_space : (b : Bracket) (c : ℕ) → is_space c ≡ true → c ≡ opening b → ⊥
-no_space Brace c h e = true≢false (sym h ∙ ap is_space e)
-no_space Square c h e = true≢false (sym h ∙ ap is_space e)
-
 no_spaces : (a x more : List ℕ) (b : Bracket) → AreSpaces a → a ++ x ≡ opening b ∷ more → length a ≡ 0
 no_spaces [] x more b h e = refl
-no_spaces (c ∷ a) x more b h e = absurd (no_space b c h.0 (head_same c (opening b) (a ++ x) more e))
+no_spaces (c ∷ a) x more b h e = absurd (no_opening is_space refl refl b c h.0 (head_same c (opening b) (a ++ x) more e))
 
 record AreSeveral (at : ℕ) (v : List ℕ) (t : Tree) (ts : List Tree) : Type 0 where
   others : List (ℕ × ℕ × Tree)

@@ -8,7 +8,7 @@ use Rattle.at_lex.specs.Strings.{Character}
 use Rattle.at_lex.specs.Spans.{AreSpaces, opening, closing}
 use Rattle.at_nest.specs.Tree.{Tree, text, array, object, Trees, no_trees, tree_and, Members, no_members, member_and, Spells, SpellsItems, SpellsFurtherItems, SpellsMembers, SpellsFurtherMembers}
 use Rattle.at_nest.specs.Forms.{Meaning, fold_of, folds_of, folds_of_members, Mark, comma as a_comma, colon as a_colon, quoted, entry, IsMark, Formed}
-use Rattle.at_nest.specs.Walks.{Kind, an_opener, a_closer, comma_kind, colon_kind, text_kind, value_kind, mark_kind}
+use Rattle.at_nest.specs.Walks.{Kind, comma_kind, colon_kind, text_kind, value_kind, mark_kind}
 use Rattle.at_nest.specs.Levels.{Mode, at_items, at_value, at_after, at_members, at_name, at_colon, at_member, at_further, first_mode, move, closes_at, moves, values_in, pairs_in, built, marks}
 use Rattle.at_nest.proofs.JsonMachine.{wrong}
 use Rattle.at_nest.proofs.TreeParts.{PaddedParts, AfterParts, MemberParts, items_made, further_items_made, members_made, further_members_made, array_made, object_made}
@@ -25,12 +25,7 @@ FurtherItems m at r xs = (b y : List ℕ) × (ts : Trees) × (r ≡ b ++ y) × A
 
 further_items : {X : Type 0} (m : Meaning X) (xs : List (Mark X)) (at : ℕ) (r : List ℕ) (n : Mode) → Formed m at r (marks xs) → moves at_after xs ≡ Some n → closes_at n Square ≡ true → FurtherItems m at r xs
 further_items m [] at r n f e h = (r, [], no_trees, sym (append-nil r), f, refl, refl)
-further_items m (a_colon i ∷ xs) at r n f e h = none_put n e
-further_items m (quoted i cs ∷ xs) at r n f e h = none_put n e
-further_items m (entry i x ∷ xs) at r n f e h = none_put n e
 further_items m (a_comma i ∷ []) at r n f e h = wrong (closed_end at_value n Square e h)
-further_items m (a_comma i ∷ (a_comma j ∷ xs)) at r n f e h = none_put n e
-further_items m (a_comma i ∷ (a_colon j ∷ xs)) at r n f e h = none_put n e
 further_items m (a_comma i ∷ (quoted j cs ∷ xs)) at r n (a, v, y, d, ha, (fi, hv), hap, (a2, v2, y2, d2, ha2, hp2, hap2, hf2)) e h =
     let (b3, y3, ts, d3, hb3, s3, q3) = further_items m xs (at + length a + length v + length a2 + length v2) y2 n hf2 e h in
     let width : at + length a + length v ≡ at + length a + 1 = ap (λ z. at + length a + length z) hv in (
@@ -55,16 +50,16 @@ further_items m (a_comma i ∷ (entry j x ∷ xs)) at r n (a, v, y, d, ha, (fi, 
           (y, refl, (a2, v2, b3, y3, d2 ∙ ap (λ z. a2 ++ (v2 ++ z)) d3, ha2, hb3, subst (λ k. Spells (k + length a2) v2 t) width sp, subst (λ k. SpellsFurtherItems (k + length a2 + length v2 + length b3) y3 ts) width s3)),
       ap (λ z. fold_of m t ∷ z) q3 ∙ ap (λ z. z ∷ values_in m xs) (sym ex),
     )
+further_items m _ at r n f e h = none_put n e
 
 items_spelled : {X : Type 0} (m : Meaning X) (xs : List (Mark X)) (at : ℕ) (r : List ℕ) (n : Mode) → Formed m at r (marks xs) → moves at_items xs ≡ Some n → closes_at n Square ≡ true
     → (ts : Trees) × SpellsItems at r ts × (folds_of m ts ≡ values_in m xs)
 items_spelled m [] at r n f e h = (no_trees, f, refl)
-items_spelled m (a_comma i ∷ xs) at r n f e h = none_put n e
-items_spelled m (a_colon i ∷ xs) at r n f e h = none_put n e
 items_spelled m (quoted i cs ∷ xs) at r n (a, v, y, d, ha, hp, hap, hf) e h = let (b, z, ts, d2, hb, s, q) = further_items m xs (at + length a + length v) y n hf e h in
     (tree_and (text i cs) ts, items_made (text i cs) ts at r (a, v, b, z, d ∙ ap (λ k. a ++ (v ++ k)) d2, ha, hb, hp, s), ap (λ k. m.of_text i cs ∷ k) q)
 items_spelled m (entry i x ∷ xs) at r n (a, v, y, d, ha, (fi, t, sp, nt, ex), hap, hf) e h = let (b, z, ts, d2, hb, s, q) = further_items m xs (at + length a + length v) y n hf e h in
     (tree_and t ts, items_made t ts at r (a, v, b, z, d ∙ ap (λ k. a ++ (v ++ k)) d2, ha, hb, sp, s), ap (λ k. fold_of m t ∷ k) q ∙ ap (λ k. k ∷ values_in m xs) (sym ex))
+items_spelled m _ at r n f e h = none_put n e
 
 -- ---- objects
 
@@ -87,9 +82,6 @@ module _ {X : Type 0} (m : Meaning X) where
   mutual
     further_of : (xs : List (Mark X)) (at : ℕ) (r : List ℕ) (n : Mode) → Formed m at r (marks xs) → moves at_further xs ≡ Some n → closes_at n Brace ≡ true → FurtherOf at r xs
     further_of [] at r n f e h = (r, [], no_members, sym (append-nil r), f, refl, refl)
-    further_of (a_colon i ∷ xs) at r n f e h = none_put n e
-    further_of (quoted i cs ∷ xs) at r n f e h = none_put n e
-    further_of (entry i x ∷ xs) at r n f e h = none_put n e
     further_of (a_comma i ∷ xs) at r n (a, v, y, d, ha, (fi, hv), hap, hf) e h =
         let (cs, j, t, ms, s, q) = name_of xs (at + length a + length v) y n hf e h in
         let width : at + length a + length v ≡ at + length a + 1 = ap (λ z. at + length a + length z) hv in (
@@ -101,46 +93,40 @@ module _ {X : Type 0} (m : Meaning X) where
           further_members_made cs j t ms (at + length a) (0x2C ∷ y) (y, refl, subst (λ k. MemberParts cs j t ms k y) width s),
           q,
         )
+    further_of _ at r n f e h = none_put n e
 
     name_of : (xs : List (Mark X)) (at : ℕ) (r : List ℕ) (n : Mode) → Formed m at r (marks xs) → moves at_name xs ≡ Some n → closes_at n Brace ≡ true → NameOf at r xs
     name_of [] at r n f e h = wrong (closed_end at_name n Brace e h)
-    name_of (a_comma i ∷ xs) at r n f e h = none_put n e
-    name_of (a_colon i ∷ xs) at r n f e h = none_put n e
-    name_of (entry i x ∷ xs) at r n f e h = none_put n e
     name_of (quoted i cs ∷ xs) at r n (a, v, y, d, ha, hp, hap, hf) e h =
         let (t, ms, b, z, d2, hb, s, q) = colon_of (cs, i) xs (at + length a + length v) y n hf e h in
         (cs, i, t, ms, (a, v, b, z, d ∙ ap (λ k. a ++ (v ++ k)) d2, ha, hb, hp, s), q)
+    name_of _ at r n f e h = none_put n e
 
     colon_of : (p : List Character × ℕ) (xs : List (Mark X)) (at : ℕ) (r : List ℕ) (n : Mode) → Formed m at r (marks xs) → moves at_colon xs ≡ Some n → closes_at n Brace ≡ true → ColonOf p at r xs
     colon_of p [] at r n f e h = wrong (closed_end at_colon n Brace e h)
-    colon_of p (a_comma i ∷ xs) at r n f e h = none_put n e
-    colon_of p (quoted i cs ∷ xs) at r n f e h = none_put n e
-    colon_of p (entry i x ∷ xs) at r n f e h = none_put n e
     colon_of p (a_colon i ∷ xs) at r n (a, v, y, d, ha, (fi, hv), hap, hf) e h =
         let (t, ms, s, q) = value_behind p xs (at + length a + length v) y n hf e h in
         let width : at + length a + length v ≡ at + length a + 1 = ap (λ z. at + length a + length z) hv in
         (t, ms, a, 0x3A ∷ y, d ∙ ap (λ z. a ++ (z ++ y)) hv, ha, (y, refl, subst (λ k. PaddedParts (λ j v. Spells j v t) (λ j z. SpellsFurtherMembers j z ms) k y) width s), q)
+    colon_of p _ at r n f e h = none_put n e
 
     value_behind : (p : List Character × ℕ) (xs : List (Mark X)) (at : ℕ) (r : List ℕ) (n : Mode) → Formed m at r (marks xs) → moves at_member xs ≡ Some n → closes_at n Brace ≡ true → ValueOf p at r xs
     value_behind p [] at r n f e h = wrong (closed_end at_member n Brace e h)
-    value_behind p (a_comma i ∷ xs) at r n f e h = none_put n e
-    value_behind p (a_colon i ∷ xs) at r n f e h = none_put n e
     value_behind p (quoted i cs ∷ xs) at r n (a, v, y, d, ha, hp, hap, hf) e h =
         let (b, z, ms, d2, hb, s, q) = further_of xs (at + length a + length v) y n hf e h in
         (text i cs, ms, (a, v, b, z, d ∙ ap (λ k. a ++ (v ++ k)) d2, ha, hb, hp, s), ap (λ k. (p.0, p.1, m.of_text i cs) ∷ k) q)
     value_behind p (entry i x ∷ xs) at r n (a, v, y, d, ha, (fi, t, sp, nt, ex), hap, hf) e h =
         let (b, z, ms, d2, hb, s, q) = further_of xs (at + length a + length v) y n hf e h in
         (t, ms, (a, v, b, z, d ∙ ap (λ k. a ++ (v ++ k)) d2, ha, hb, sp, s), ap (λ k. (p.0, p.1, fold_of m t) ∷ k) q ∙ ap (λ k. (p.0, p.1, k) ∷ pairs_in m None xs) (sym ex))
+    value_behind p _ at r n f e h = none_put n e
 
 members_spelled : {X : Type 0} (m : Meaning X) (xs : List (Mark X)) (at : ℕ) (r : List ℕ) (n : Mode) → Formed m at r (marks xs) → moves at_members xs ≡ Some n → closes_at n Brace ≡ true
     → (ms : Members) × SpellsMembers at r ms × (folds_of_members m ms ≡ pairs_in m None xs)
 members_spelled m [] at r n f e h = (no_members, f, refl)
-members_spelled m (a_comma i ∷ xs) at r n f e h = none_put n e
-members_spelled m (a_colon i ∷ xs) at r n f e h = none_put n e
-members_spelled m (entry i x ∷ xs) at r n f e h = none_put n e
 members_spelled m (quoted i cs ∷ xs) at r n (a, v, y, d, ha, hp, hap, hf) e h =
     let (t, ms, b, z, d2, hb, s, q) = colon_of m (cs, i) xs (at + length a + length v) y n hf e h in
     (member_and cs i t ms, members_made cs i t ms at r (a, v, b, z, d ∙ ap (λ k. a ++ (v ++ k)) d2, ha, hb, hp, s), q)
+members_spelled m _ at r n f e h = none_put n e
 
 -- the bracket that a level of the mode has
 abbrev bracket_of : Mode → Bracket
@@ -150,8 +136,6 @@ bracket_of at_after = Square
 bracket_of _ = Brace
 
 move_keeps : (md n : Mode) (k : Kind) → move md k ≡ Some n → bracket_of n ≡ bracket_of md
-move_keeps at_items n (an_opener b) e = none_put n e
-move_keeps at_items n (a_closer b) e = none_put n e
 move_keeps at_items n (text_kind) e = ap bracket_of (sym (same_Some _ n e))
 move_keeps at_items n (value_kind) e = ap bracket_of (sym (same_Some _ n e))
 move_keeps at_value n (text_kind) e = ap bracket_of (sym (same_Some _ n e))
@@ -174,15 +158,11 @@ first_keeps Square = refl
 first_keeps Brace = refl
 
 closer_is : (md : Mode) (c : Bracket) → closes_at md c ≡ true → bracket_of md ≡ c
-closer_is at_items Brace h = wrong h
-closer_is at_value Brace h = wrong h
-closer_is at_after Brace h = wrong h
-closer_is at_members Square h = wrong h
-closer_is at_name Square h = wrong h
-closer_is at_colon Square h = wrong h
-closer_is at_member Square h = wrong h
-closer_is at_further Square h = wrong h
-closer_is _ _ h = refl
+closer_is at_items Square h = refl
+closer_is at_after Square h = refl
+closer_is at_members Brace h = refl
+closer_is at_further Brace h = refl
+closer_is _ _ h = wrong h
 
 same_level : {X : Type 0} (m : Meaning X) (b : Bracket) (xs : List (Mark X)) (at : ℕ) (r : List ℕ) (n : Mode) → Formed m (at + 1) r (marks xs) → moves (first_mode b) xs ≡ Some n → closes_at n b ≡ true
     → IsMark m at (opening b ∷ (r ++ (closing b ∷ []))) (entry at (built m b at xs))

@@ -1,61 +1,29 @@
 -- The machine for JSON texts, token by token: what a token leads to, whatever byte comes next.
 -- For `finish`, `finish_span`, `merge` and `run_block`.
-use Rattle.std.proofs.Common.{◌≡◌, ℕ, ◌⊎◌, inl, inr, List, [], ◌∷◌, ◌++◌, Some, None, option_map, option_and_then, Bool, true, false, cond, not, ◌&&◌, refl, sym, ◌∙◌, ap, subst, arith, true≢false}
+use Rattle.std.proofs.Common.{◌≡◌, ℕ, List, [], ◌∷◌, ◌++◌, Some, None, option_map, option_and_then, Bool, true, false, cond, not, ◌&&◌, ◌==◌, refl, sym, ◌∙◌, ap, subst, arith}
 use Rattle.std.proofs.lemmas.Bool.{not-true, and_right}
 use Rattle.std.specs.Bool.{⊤}
-use Rattle.at_text.specs.Texts.{is_space, is_run, is_one_of}
+use Rattle.at_text.specs.Texts.{is_digit, is_space, is_run, is_one_of}
 use Rattle.at_text.proofs.Machine.{run}
 use Rattle.at_nest.proofs.JsonNumber as num
 use Rattle.at_lex.proofs.JsonString as str
 use Rattle.at_lex.specs.Spans.{AreSpaces, begins_run}
-use Rattle.at_nest.proofs.JsonMachine.{State, Frame, value, items, members, name, colon, after, in_number, in_string, in_name, in_word, step, within, after_step, wrong, chosen_by, space_is}
+use Rattle.at_nest.proofs.JsonMachine.{State, Frame, colon, after, in_number, in_string, in_name, in_word, step, within, after_step, wrong, chosen_by}
 
 -- ---- bytes that are in no run
 
+no_digit : (b : ℕ) → is_run b ≡ false → is_digit b ≡ false
+no_digit b h = grind (arith, h)
+
 -- a number goes on with none of them
-abbrev StopsAll : ℕ → Type 0
-StopsAll b = (num.step num.start b ≡ None) × (num.step num.signed b ≡ None) × (num.step num.zero_digit b ≡ None) × (num.step num.whole b ≡ None) × (num.step num.point b ≡ None) × (num.step num.fraction b ≡ None) × (num.step num.letter b ≡ None) × (num.step num.power_sign b ≡ None) × (num.step num.power b ≡ None)
-
-one_of_marks : (b : ℕ) → is_one_of (0x7B ∷ 0x7D ∷ 0x5B ∷ 0x5D ∷ 0x2C ∷ 0x3A ∷ 0x22 ∷ []) b ≡ true → (b ≡ 0x7B) ⊎ ((b ≡ 0x7D) ⊎ ((b ≡ 0x5B) ⊎ ((b ≡ 0x5D) ⊎ ((b ≡ 0x2C) ⊎ ((b ≡ 0x3A) ⊎ (b ≡ 0x22))))))
-one_of_marks b h = grind (arith, h)
-
-no_run : (b : ℕ) → is_run b ≡ false → (is_space b ≡ true) ⊎ (is_one_of (0x7B ∷ 0x7D ∷ 0x5B ∷ 0x5D ∷ 0x2C ∷ 0x3A ∷ 0x22 ∷ []) b ≡ true)
-no_run b h = go (is_space b) (is_one_of (0x7B ∷ 0x7D ∷ 0x5B ∷ 0x5D ∷ 0x2C ∷ 0x3A ∷ 0x22 ∷ []) b) h
-  where
-    go : (p q : Bool) → (not p && not q) ≡ false → (p ≡ true) ⊎ (q ≡ true)
-    go true q e = inl refl
-    go false true e = inr refl
-    go false false e = absurd (true≢false e)
-
--- what holds of each byte that is in no run
-by_no_run : (P : ℕ → Type 0) → P 0x20 → P 0x09 → P 0x0A → P 0x0D → P 0x7B → P 0x7D → P 0x5B → P 0x5D → P 0x2C → P 0x3A → P 0x22 → (b : ℕ) → is_run b ≡ false → P b
-by_no_run P s1 s2 s3 s4 m1 m2 m3 m4 m5 m6 m7 b h = elim (no_run b h) [
-  | inl s ↦ elim (space_is b s) [ inl e ↦ subst P (sym e) s1 | inr f ↦ elim f [ inl e ↦ subst P (sym e) s2 | inr g ↦ elim g [ inl e ↦ subst P (sym e) s3 | inr e ↦ subst P (sym e) s4 ] ] ]
-  | inr m ↦ elim (one_of_marks b m) [
-    | inl e ↦ subst P (sym e) m1
-    | inr f ↦ elim f [
-      | inl e ↦ subst P (sym e) m2
-      | inr g ↦ elim g [
-        | inl e ↦ subst P (sym e) m3
-        | inr k ↦ elim k [ inl e ↦ subst P (sym e) m4 | inr l ↦ elim l [ inl e ↦ subst P (sym e) m5 | inr n ↦ elim n [ inl e ↦ subst P (sym e) m6 | inr e ↦ subst P (sym e) m7 ] ] ]
-      ]
-    ]
-  ]
-]
-
-pub stops_number : (b : ℕ) → is_run b ≡ false → StopsAll b
-stops_number b h = by_no_run StopsAll (refl, refl, refl, refl, refl, refl, refl, refl, refl) (refl, refl, refl, refl, refl, refl, refl, refl, refl) (refl, refl, refl, refl, refl, refl, refl, refl, refl) (refl, refl, refl, refl, refl, refl, refl, refl, refl) (refl, refl, refl, refl, refl, refl, refl, refl, refl) (refl, refl, refl, refl, refl, refl, refl, refl, refl) (refl, refl, refl, refl, refl, refl, refl, refl, refl) (refl, refl, refl, refl, refl, refl, refl, refl, refl) (refl, refl, refl, refl, refl, refl, refl, refl, refl) (refl, refl, refl, refl, refl, refl, refl, refl, refl) (refl, refl, refl, refl, refl, refl, refl, refl, refl) b h
-
 pub number_none : (s : num.State) (b : ℕ) → is_run b ≡ false → num.step s b ≡ None
-number_none num.start b h = (stops_number b h).0
-number_none num.signed b h = (stops_number b h).1
-number_none num.zero_digit b h = (stops_number b h).2
-number_none num.whole b h = (stops_number b h).3
-number_none num.point b h = (stops_number b h).4
-number_none num.fraction b h = (stops_number b h).5
-number_none num.letter b h = (stops_number b h).6
-number_none num.power_sign b h = (stops_number b h).7
-number_none num.power b h = (stops_number b h).8
+number_none num.start b h = let n : (b == 0x2D) ≡ false = grind (arith, h) in rw n (grind (arith, h))
+number_none num.signed b h = grind (arith, h)
+number_none num.zero_digit b h = grind (arith, h)
+number_none num.whole b h = rw (no_digit b h) (grind (arith, h))
+number_none num.fraction b h = rw (no_digit b h) (grind (arith, h))
+number_none num.letter b h = rw (no_digit b h) (grind (arith, h))
+number_none _ b h = rw (no_digit b h) refl
 
 -- ---- a state that is past a token
 
@@ -93,12 +61,7 @@ settled_still (in_number n st) t (p, e) = subst IsStill (sym e) tt
 settled_still (in_string n st) t (p, e) = subst IsStill (sym e) tt
 settled_still (in_name n st) t (p, e) = subst IsStill (sym e) tt
 settled_still (in_word n st) t (p, e) = subst IsStill (sym e) tt
-settled_still (value st) t e = subst IsStill (sym e) tt
-settled_still (items st) t e = subst IsStill (sym e) tt
-settled_still (members st) t e = subst IsStill (sym e) tt
-settled_still (name st) t e = subst IsStill (sym e) tt
-settled_still (colon st) t e = subst IsStill (sym e) tt
-settled_still (after st) t e = subst IsStill (sym e) tt
+settled_still _ t e = subst IsStill (sym e) tt
 
 pub still_space : (t : State) (b : ℕ) → IsStill t → is_space b ≡ true → step t b ≡ Some t
 still_space (in_number n st) b h e = absurd h
@@ -107,27 +70,19 @@ still_space (in_name n st) b h e = absurd h
 still_space (in_word n st) b h e = absurd h
 still_space _ b h e = chosen_by _ _ b e
 
-closed_string : (s : str.State) (st : List Frame) (b : ℕ) → str.accepts s ≡ true → step (in_string s st) b ≡ step (after st) b
-closed_string str.closed st b p = refl
-closed_string _ st b p = wrong p
-
-closed_name : (s : str.State) (st : List Frame) (b : ℕ) → str.accepts s ≡ true → step (in_name s st) b ≡ step (colon st) b
-closed_name str.closed st b p = refl
-closed_name _ st b p = wrong p
+closed : (s : str.State) → str.accepts s ≡ true → s ≡ str.closed
+closed str.closed p = refl
+closed _ p = wrong p
 
 ended_number : (n : num.State) (st : List Frame) (b : ℕ) → num.accepts n ≡ true → is_run b ≡ false → step (in_number n st) b ≡ step (after st) b
 ended_number n st b p g = ap (λ o. within (option_map (λ v. in_number v st) o) (num.accepts n) (after_step st b)) (number_none n b g) ∙ ap (λ c. cond c (after_step st b) None) p
 
-ended_word : (w : List ℕ) (st : List Frame) (b : ℕ) → w ≡ [] → step (in_word w st) b ≡ step (after st) b
-ended_word w st b e = ap (λ x. step (in_word x st) b) e
-
 -- the next byte does the same in both
 pub settled_step : (s t : State) (b : ℕ) → Settled s t → (run_ended s && is_run b) ≡ false → step s b ≡ step t b
 settled_step (in_number n st) t b (p, e) g = ended_number n st b p g ∙ sym (ap (λ x. step x b) e)
-settled_step (in_string s st) t b (p, e) g = closed_string s st b p ∙ sym (ap (λ x. step x b) e)
-settled_step (in_name s st) t b (p, e) g = closed_name s st b p ∙ sym (ap (λ x. step x b) e)
-settled_step (in_word w st) t b (p, e) g = ended_word w st b p ∙ sym (ap (λ x. step x b) e)
-settled_step (value st) t b e g = sym (ap (λ x. step x b) e)
+settled_step (in_string s st) t b (p, e) g = ap (λ z. step (in_string z st) b) (closed s p) ∙ sym (ap (λ x. step x b) e)
+settled_step (in_name s st) t b (p, e) g = ap (λ z. step (in_name z st) b) (closed s p) ∙ sym (ap (λ x. step x b) e)
+settled_step (in_word w st) t b (p, e) g = ap (λ z. step (in_word z st) b) p ∙ sym (ap (λ x. step x b) e)
 settled_step _ t b e g = sym (ap (λ x. step x b) e)
 
 -- no run goes on from the state into the bytes

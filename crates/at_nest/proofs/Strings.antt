@@ -1,7 +1,8 @@
 -- A string that is cut in two and closed: either its text is a JSON string, or a byte in it stops.
 -- For `finish`, `finish_span`, `merge` and `run_block`.
-use Rattle.std.proofs.Common.{◌≡◌, ℕ, List, [], ◌∷◌, ◌++◌, Some, None, Bool, true, false, refl, sym, ap, subst, ◌+◌, length, true≢false, append-nil}
+use Rattle.std.proofs.Common.{◌≡◌, ℕ, List, [], ◌∷◌, ◌++◌, Some, None, false, refl, ap, subst, ◌+◌, length, append-nil, append_assoc}
 use Rattle.std.proofs.lemmas.Option.{same_Some, option_and_then_some}
+use Rattle.std.proofs.lemmas.Bool.{false_from_ne_true}
 use Rattle.at_text.proofs.Machine.{run, run-rest}
 use Rattle.at_lex.specs.declared.tokens.Start.{Start}
 use Rattle.at_lex.specs.declared.tokens.Start.TheVariants.{Out, InString, InEscape}
@@ -9,7 +10,8 @@ use Rattle.at_lex.specs.Strings.{JsonString}
 use Rattle.at_lex.proofs.JsonString as str
 use Rattle.at_lex.specs.Spans.{after_byte, end_of, ClosesText}
 use Rattle.at_nest.specs.Forms.{Meaning}
-use Rattle.at_nest.proofs.Lexical.{InText, text_step, not_out_escape, not_out_string}
+use Rattle.at_nest.proofs.Lexical.{InText, text_step, text_out}
+pub use Rattle.at_nest.proofs.Lexical.{closed_is}
 use Rattle.at_nest.proofs.Unions.{closes_out}
 use Rattle.at_nest.specs.Levels.{in_text}
 use Rattle.at_nest.proofs.Pushes.{IsStop}
@@ -21,43 +23,22 @@ text_run q n (b ∷ v) s h e = option_and_then_some (λ x. run str.step x v) (st
 
 -- a closed string is outside text nowhere before its end
 closes_once : (s : Start) (v : List ℕ) (c : ℕ) (o : List ℕ) → ClosesText s (v ++ (c ∷ o)) → end_of s v ≡ Out → ⊥
-closes_once Out [] c o h e = h
+closes_once s [] c o h e = subst (λ (z : Start). ClosesText z (c ∷ o)) e h
 closes_once Out (b ∷ v) c o h e = h
-closes_once InString [] c o h e = let P : Start → Type 0 = λ z. ClosesText z (c ∷ o) in subst P e h
 closes_once InString (b ∷ v) c o h e = closes_once (after_byte InString b) v c o h e
-closes_once InEscape [] c o h e = let P : Start → Type 0 = λ z. ClosesText z (c ∷ o) in subst P e h
 closes_once InEscape (b ∷ v) c o h e = closes_once InString v c o h e
-
-pub closed_is : (n : str.State) (s : Start) → InText n s → str.accepts n ≡ true → s ≡ Out
-closed_is str.closed s h a = h
-closed_is str.opening s h a = absurd h
-closed_is _ s h a = absurd (true≢false (sym a))
-
-out_is : (n : str.State) → InText n Out → str.accepts n ≡ true
-out_is str.closed h = refl
-out_is str.opening h = absurd h
-out_is str.escaped h = absurd (not_out_escape h)
-out_is _ h = absurd (not_out_string h)
 
 -- a byte in a closed string stops it before it is whole
 unfinished : (v : List ℕ) (byte : ℕ) (o : List ℕ) (n : str.State) → ClosesText InString (v ++ (byte ∷ o)) → run str.step str.inside v ≡ Some n → str.accepts n ≡ false
-unfinished v byte o n h e = by_bool (str.accepts n) refl
-  where
-    by_bool : (p : Bool) → str.accepts n ≡ p → str.accepts n ≡ false
-    by_bool false f = f
-    by_bool true f = absurd (closes_once InString v byte o h (closed_is n (end_of InString v) (text_run str.inside n v InString refl e) f))
+unfinished v byte o n h e = false_from_ne_true (str.accepts n) (λ f. closes_once InString v byte o h (closed_is n (end_of InString v) (text_run str.inside n v InString refl e) f))
 
 -- the machine goes through a closed string: it is a JSON string
 pub whole_string : (u : List ℕ) (n : str.State) → ClosesText InString u → run str.step str.inside u ≡ Some n → JsonString (0x22 ∷ u)
 whole_string u n h e =
     let out : InText n Out = subst (InText n) (closes_out InString u h) (text_run str.inside n u InString refl e) in
-    (str.opening-JsonString (0x22 ∷ u)).0 (subst (str.Rest str.opening) (append-nil (0x22 ∷ u)) (run-rest str.machine str.opening n (0x22 ∷ u) [] e ((str.machine.ends n).1 (out_is n out))))
+    (str.opening-JsonString (0x22 ∷ u)).0 (subst (str.Rest str.opening) (append-nil (0x22 ∷ u)) (run-rest str.machine str.opening n (0x22 ∷ u) [] e ((str.machine.ends n).1 (ap str.accepts (text_out n out)))))
 
 -- a closed string that stops at a byte
 pub string_token : {X : Type 0} (m : Meaning X) (at : ℕ) (v : List ℕ) (byte : ℕ) (o more : List ℕ) (n : str.State) → ClosesText InString (v ++ (byte ∷ o)) → run str.step str.inside v ≡ Some n → str.step n byte ≡ None
     → IsStop {X = X} m at ((0x22 ∷ (v ++ (byte ∷ o))) ++ more) empty_form (record { kind = in_text; item = at; place = at + length (0x22 ∷ v) })
-string_token m at v byte o more n h e f = text_stops_at m at ((0x22 ∷ (v ++ (byte ∷ o))) ++ more) n 0x22 v byte (o ++ more) (ap (λ z. 0x22 ∷ z) (assoc v)) e f (unfinished v byte o n h e)
-  where
-    assoc : (v : List ℕ) → (v ++ (byte ∷ o)) ++ more ≡ v ++ (byte ∷ (o ++ more))
-    assoc [] = refl
-    assoc (c ∷ v) = ap (λ z. c ∷ z) (assoc v)
+string_token m at v byte o more n h e f = text_stops_at m at ((0x22 ∷ (v ++ (byte ∷ o))) ++ more) n 0x22 v byte (o ++ more) (ap (λ z. 0x22 ∷ z) (append_assoc v (byte ∷ o) more)) e f (unfinished v byte o n h e)

@@ -1,9 +1,8 @@
 -- What the readers of strings and runs find of a token, told as what the token pushes.
 -- For `finish`, `finish_span`, `merge` and `run_block`.
-use Rattle.std.proofs.Common.{◌≡◌, ◌≢◌, ℕ, zero, suc, ◌⊎◌, inl, inr, List, [], ◌∷◌, ◌++◌, Option, Some, None, Bool, true, false, refl, sym, ◌∙◌, ap, subst, arith, append_assoc, append-nil, ◌+◌, ◌-◌, ◌==◌, ◌<◌, ◌≤◌, length, length-append, take, slice_index, true≢false, if◌then◌else◌}
+use Rattle.std.proofs.Common.{◌≡◌, ◌≢◌, ℕ, zero, suc, ◌⊎◌, inl, inr, List, [], ◌∷◌, ◌++◌, Option, Some, None, true, false, refl, sym, ◌∙◌, ap, subst, arith, append_assoc, append-nil, ◌+◌, ◌-◌, ◌==◌, ◌<◌, ◌≤◌, length, length-append, take, slice_index, true≢false, if◌then◌else◌}
 use Rattle.std.proofs.Math.Seq.{take-append_seam, take-length, get_or-append_seam}
 use Rattle.std.proofs.lemmas.Option.{none-some, same_Some}
-use Rattle.std.proofs.lemmas.Bool.{eqb-true}
 use Rattle.at_text.specs.Prefix.{Viable, LongestViable}
 use Rattle.at_text.specs.Texts.{is_run}
 use Rattle.at_text.proofs.Machine.{run}
@@ -33,6 +32,8 @@ use Rattle.at_nest.proofs.Strings.{whole_string}
 use Rattle.at_nest.proofs.Joins.{apart_nothing}
 use Rattle.at_nest.proofs.Readings.{IsReading, string_stops, run_stops, first_stops, reading_ends}
 use Rattle.at_nest.proofs.Runs.{run_there}
+use Rattle.at_nest.proofs.PieceSteps.{first}
+use Rattle.at_nest.proofs.Begun.{tail_of, unlike}
 
 -- ---- lists cut at a place
 
@@ -63,14 +64,6 @@ take_one_more t a byte o n e l =
 below_length : (t a : List ℕ) (byte : ℕ) (o : List ℕ) (n : ℕ) → t ≡ a ++ (byte ∷ o) → length a ≡ n → n < length t
 below_length t a byte o n e l = omega (arith, l, length-append a (byte ∷ o), ap (λ z. length z) e)
 
-abbrev first : List ℕ → ℕ
-first [] = 0
-first (b ∷ w) = b
-
-abbrev rest : List ℕ → List ℕ
-rest [] = []
-rest (b ∷ w) = w
-
 -- ---- strings
 
 no_opening : (q : str.State) (byte : ℕ) → run str.step str.opening [] ≡ Some q → byte ≡ 0x22 → str.step q byte ≡ None → ⊥
@@ -88,7 +81,7 @@ text_refused m at t more u n e ending longest below =
     by_front [] byte o q s l r k = absurd (no_opening q byte r (ap first (sym s ∙ e)) k)
     by_front (c ∷ v) byte o q s l r k =
         let c_is : c ≡ 0x22 = ap first (sym s ∙ e) in
-        let u_is : u ≡ v ++ (byte ∷ o) = ap rest (sym e ∙ s) in (
+        let u_is : u ≡ v ++ (byte ∷ o) = ap tail_of (sym e ∙ s) in (
           omega (arith, l),
           subst (λ z. IsReading m at t more (stopped empty_form (record { kind = in_text; item = at; place = at + z }))) l
               (string_stops v byte o q (e ∙ ap (λ z. 0x22 ∷ z) u_is) (subst (ClosesText InString) u_is ending) (ap (λ z. run str.step str.opening (z ∷ v)) (sym c_is) ∙ r) k),
@@ -185,11 +178,7 @@ some_first [] h = absurd (h refl)
 some_first (b ∷ o) h = (b, o, refl)
 
 pub run_no_quote : (b : ℕ) → is_run b ≡ true → (b == 0x22) ≡ false
-run_no_quote b h = by_test (b == 0x22) refl
-  where
-    by_test : (p : Bool) → (b == 0x22) ≡ p → (b == 0x22) ≡ false
-    by_test false e = e
-    by_test true e = absurd (true≢false (sym h ∙ ap is_run (eqb-true b 0x22 e)))
+run_no_quote b h = unlike is_run b 0x22 refl h
 
 within_run : (v : List ℕ) → begins_run v ≡ true → within_from v ≡ code.Run
 within_run [] h = refl
@@ -267,6 +256,3 @@ lexed_text IsKept old new r t token (cs, ok, e) pushes base w f after h (a, z, d
 pub lexed_run : {X : Type 0} (IsKept : X → Content → Type 0) (old new : Shown X) (r : Option CodeHalt) (t : List ℕ) (token : Token) → JsonRun t → ReadsRun IsKept old new r token.from t → ReadsToken IsKept old new r t token
 lexed_run IsKept old new r t token j pushes base w f after h placed lexed = let (y, spells, no_text, same) = run_tree token.from t j in
     (further (record { outer = mark (entry token.from y) ∷ []; levels = [] }), mark_ends token.from t after (entry token.from y) (refl, y, spells, no_text, same), one_mark IsKept base w new r f (entry token.from y) (pushes base w f y h spells))
-
-abbrev pub kind_at : Token → List ℕ → List ℕ → Type 0
-kind_at token t after = IsKind token.from t after token.kind

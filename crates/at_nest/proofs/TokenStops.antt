@@ -1,7 +1,7 @@
 -- How a token that was cut in two is read: a string or a run that is whole is a mark, one that is not stops.
 -- For `finish`, `finish_span`, `merge` and `run_block`.
 use Rattle.std.proofs.Common.{◌≡◌, ℕ, ◌⊎◌, inl, inr, List, [], ◌∷◌, ◌++◌, Option, Some, None, option_map, option_and_then, Bool, true, false, cond, not, ◌&&◌, ◌==◌, refl, sym, ◌∙◌, ap, subst, arith, append-nil, codes, ◌+◌, length, true≢false}
-use Rattle.std.proofs.lemmas.Bool.{and_left}
+use Rattle.std.proofs.lemmas.Bool.{and_left, false_from_ne_true}
 use Rattle.std.proofs.lemmas.Option.{none-some, same_Some, option_and_then_some}
 use Rattle.at_text.specs.Prefix.{Viable}
 use Rattle.at_text.proofs.Machine.{run}
@@ -26,8 +26,8 @@ use Rattle.at_nest.proofs.Ran.{start_ran, ran_settled}
 use Rattle.at_nest.proofs.Steps.{IsStill, run_ended, settled_step, settled_still}
 use Rattle.at_nest.specs.Walks.{next, value_kind}
 use Rattle.at_nest.proofs.PieceSteps.{unmarked_halts, first}
-use Rattle.at_nest.specs.Levels.{plain_halt, in_text, in_run}
-use Rattle.at_nest.proofs.Pushes.{IsForm, IsStop, IsRunBegun}
+use Rattle.at_nest.specs.Levels.{Within, plain_halt, at_first, in_text, in_run}
+use Rattle.at_nest.proofs.Pushes.{IsForm, IsStop, IsBegun, IsRunBegun}
 pub use Rattle.at_nest.specs.Unions.{empty_form}
 
 pub none_goes : (l t : State) (b : ℕ) → step l b ≡ None → go l (b ∷ []) ≡ Some t → ⊥
@@ -112,77 +112,70 @@ run_stuck st b v byte (inr (the_null, r, e, f)) = (in_word (codes "ull") st, ap 
 run_stuck st b v byte (inr (the_true, r, e, f)) = (in_word (codes "rue") st, ap (begin_value st) (ap first e), stuck_by (in_word (codes "rue") st) (in_word r st) v byte (ap (λ z. go (in_word z st) v) (sym (ap tail_of e)) ∙ word_run v r st) (word_stuck r st byte f))
 run_stuck st b v byte (inr (the_false, r, e, f)) = (in_word (codes "alse") st, ap (begin_value st) (ap first e), stuck_by (in_word (codes "alse") st) (in_word r st) v byte (ap (λ z. go (in_word z st) v) (sym (ap tail_of e)) ∙ word_run v r st) (word_stuck r st byte f))
 
-none_stuck : (s : State) (b : ℕ) (v : List ℕ) (byte : ℕ) → step s b ≡ None → Stuck s (b ∷ v) byte
-none_stuck s b v byte e t g = none-some t (sym (ap (option_and_then (λ z. go z (v ++ (byte ∷ [])))) e) ∙ g)
+-- between tokens a byte of a run begins a value, or has no place
+run_place : (b : ℕ) → is_run b ≡ true → (s : State) → IsStill s → ((st : List Frame) × (step s b ≡ begin_value st b)) ⊎ (step s b ≡ None)
+run_place b k (value st) i = inl (st, pass (is_space b) _ _ _ (run_no_space b k) refl)
+run_place b k (items st) i = inl (in_array ∷ st, pass (is_space b) _ _ _ (run_no_space b k) (pass (b == 0x5D) _ _ _ (unlike is_run b 0x5D refl k) refl))
+run_place b k (after st) i = inr (after_none st b k)
+run_place b k (members st) i = inr (unmarked_halts (members st) b i (run_unmarked b k) refl)
+run_place b k (name st) i = inr (unmarked_halts (name st) b i (run_unmarked b k) refl)
+run_place b k (colon st) i = inr (unmarked_halts (colon st) b i (run_unmarked b k) refl)
+run_place b k _ i = absurd i
 
 run_byte_of : (b : ℕ) (v : List ℕ) (byte : ℕ) → RunStops (b ∷ v) byte → is_run b ≡ true → (s : State) → IsStill s → Stuck s (b ∷ v) byte
-run_byte_of b v byte h k (value st) i = let (s, e, f) = run_stuck st b v byte h in stuck_from (value st) s b v byte (pass (is_space b) _ _ _ (run_no_space b k) e) f
-run_byte_of b v byte h k (items st) i = let (s, e, f) = run_stuck (in_array ∷ st) b v byte h in
-    stuck_from (items st) s b v byte (pass (is_space b) _ _ _ (run_no_space b k) (pass (b == 0x5D) _ _ _ (unlike is_run b 0x5D refl k) e)) f
-run_byte_of b v byte h k (members st) i = none_stuck (members st) b v byte (unmarked_halts (members st) b i (run_unmarked b k) refl)
-run_byte_of b v byte h k (name st) i = none_stuck (name st) b v byte (unmarked_halts (name st) b i (run_unmarked b k) refl)
-run_byte_of b v byte h k (colon st) i = none_stuck (colon st) b v byte (unmarked_halts (colon st) b i (run_unmarked b k) refl)
-run_byte_of b v byte h k (after st) i = none_stuck (after st) b v byte (unmarked_halts (after st) b i (run_unmarked b k) (after_refuses st))
-run_byte_of b v byte h k _ i = absurd i
+run_byte_of b v byte h k s i = elim (run_place b k s i) [
+  | inl (st, e) ↦ (let (l, f, g) = run_stuck st b v byte h in stuck_from s l b v byte (e ∙ f) g)
+  | inr e ↦ λ t g. none-some t (sym (ap (option_and_then (λ z. go z (v ++ (byte ∷ [])))) e) ∙ g)
+]
+
+-- behind bytes that lead outside text and end in no run, the machine goes on as from between tokens
+still_behind : (x : List ℕ) (b : ℕ) (w : List ℕ) → is_run b ≡ true → end_of Out x ≡ Out → ends_run x ≡ false → Viable (JsonText 0) (x ++ (b ∷ w)) → (u t : State) × IsStill u × (go u (b ∷ w) ≡ Some t)
+still_behind x b w k out last viable =
+    let (t, all) = viable_runs (x ++ (b ∷ w)) viable in
+    let (q, e, g) = run_split (value []) t x (b ∷ w) all in
+    let at1 : At q Out = subst (At q) out (at_run (value []) q x Out refl e) in
+    let (u, settled, clear) = ran_settled q at1 (start_ran q x e last) in
+    (u, t, settled_still q u settled, ap (option_and_then (λ z. go z w)) (sym (settled_step q u b settled (and_left (run_ended q) (is_run b) clear))) ∙ g)
 
 -- bytes in a run that a byte stops are dead, whatever is before, if no run goes on in them
 run_dead : (b : ℕ) (v : List ℕ) (byte : ℕ) → RunStops (b ∷ v) byte → is_run b ≡ true → (x : List ℕ) → end_of Out x ≡ Out → ends_run x ≡ false → ¬ (Viable (JsonText 0) (x ++ ((b ∷ v) ++ (byte ∷ []))))
-run_dead b v byte h k x out last viable =
-    let (t, all) = viable_runs (x ++ ((b ∷ v) ++ (byte ∷ []))) viable in
-    let (q, e, g) = run_split (value []) t x ((b ∷ v) ++ (byte ∷ [])) all in
-    let at1 : At q Out = subst (At q) out (at_run (value []) q x Out refl e) in
-    let (u, settled, clear) = ran_settled q at1 (start_ran q x e last) in
-    run_byte_of b v byte h k u (settled_still q u settled) t (ap (option_and_then (λ z. go z (v ++ (byte ∷ [])))) (sym (settled_step q u b settled (and_left (run_ended q) (is_run b) clear))) ∙ g)
+run_dead b v byte h k x out last viable = let (u, t, i, g) = still_behind x b (v ++ (byte ∷ [])) k out last viable in run_byte_of b v byte h k u i t g
 
 -- ---- the token
 
 pub apart_of_run : (x w : List ℕ) → begins_run w ≡ true → are_apart x w ≡ true → ends_run x ≡ false
-apart_of_run x w h k = by_bool (ends_run x) (ap (λ z. not (ends_run x && z)) (sym h) ∙ k)
-  where
-    by_bool : (p : Bool) → not (p && true) ≡ true → p ≡ false
-    by_bool false e = refl
-    by_bool true e = absurd (true≢false (sym e))
+apart_of_run x w h k = false_from_ne_true (ends_run x) (λ f. true≢false (sym k ∙ (ap (λ z. not (z && begins_run w)) f ∙ ap not h)))
 
-no_width : (at : ℕ) → at ≡ at + 0 + 0
-no_width at = omega arith
+-- an item that begins the bytes, and in which or behind which a byte stands that no bytes before make viable
+stop_at : {X : Type 0} (m : Meaning X) (at : ℕ) (w u : List ℕ) (byte : ℕ) (others : List ℕ) (kind : Within) (place : ℕ) → w ≡ u ++ (byte ∷ others) → place ≡ at + length u → IsBegun kind u
+    → ((x : List ℕ) → end_of Out x ≡ Out → are_apart x w ≡ true → ¬ (Viable (JsonText 0) (x ++ (u ++ (byte ∷ []))))) → IsStop {X = X} m at w empty_form (record { kind = kind; item = at; place = place })
+stop_at m at w u byte others kind place e f begun dead = record {
+  front = [];
+  spaces = [];
+  begun = u;
+  byte = byte;
+  others = others;
+  split = e;
+  form = record { formed = tt; levels = tt };
+  are_spaces = tt;
+  item = omega arith;
+  place = f;
+  is_begun = begun;
+  apart = refl;
+  dead = record { before = u; byte = byte; others = others; split = e; place = f; dead = dead };
+}
 
 -- a token that stops in a string
 pub text_stops_at : {X : Type 0} (m : Meaning X) (at : ℕ) (w : List ℕ) (n : str.State) (b : ℕ) (v : List ℕ) (byte : ℕ) (others : List ℕ) → w ≡ (b ∷ v) ++ (byte ∷ others) → run str.step str.opening (b ∷ v) ≡ Some n
     → str.step n byte ≡ None → str.accepts n ≡ false → IsStop {X = X} m at w empty_form (record { kind = in_text; item = at; place = at + length (b ∷ v) })
-text_stops_at m at w n b v byte others e begun stop unfinished = record {
-  front = [];
-  spaces = [];
-  begun = b ∷ v;
-  byte = byte;
-  others = others;
-  split = e;
-  form = record { formed = tt; levels = tt };
-  are_spaces = tt;
-  item = no_width at;
-  place = refl;
-  is_begun = (b, v, refl, (n, begun));
-  apart = refl;
-  dead = record { before = b ∷ v; byte = byte; others = others; split = e; place = refl; dead = λ x out a. text_dead n b v byte begun stop unfinished x out };
-}
+text_stops_at m at w n b v byte others e begun stop unfinished =
+    stop_at m at w (b ∷ v) byte others in_text (at + length (b ∷ v)) e refl (b, v, refl, (n, begun)) (λ x out a. text_dead n b v byte begun stop unfinished x out)
 
 -- a token that stops in a run, or at its end
 pub run_stops_at : {X : Type 0} (m : Meaning X) (at : ℕ) (w : List ℕ) (b : ℕ) (v : List ℕ) (byte : ℕ) (others : List ℕ) → w ≡ (b ∷ v) ++ (byte ∷ others) → is_run b ≡ true → RunStops (b ∷ v) byte
     → IsStop {X = X} m at w empty_form (record { kind = in_run; item = at; place = at + length (b ∷ v) })
-run_stops_at m at w b v byte others e k h = record {
-  front = [];
-  spaces = [];
-  begun = b ∷ v;
-  byte = byte;
-  others = others;
-  split = e;
-  form = record { formed = tt; levels = tt };
-  are_spaces = tt;
-  item = no_width at;
-  place = refl;
-  is_begun = (b, v, refl, run_begun (b ∷ v) byte h);
-  apart = refl;
-  dead = record { before = b ∷ v; byte = byte; others = others; split = e; place = refl; dead = λ x out a. run_dead b v byte h k x out (apart_of_run x w (ap begins_run e ∙ k) a) };
-}
+run_stops_at m at w b v byte others e k h = stop_at m at w (b ∷ v) byte others in_run (at + length (b ∷ v)) e refl (b, v, refl, run_begun (b ∷ v) byte h)
+    (λ x out a. run_dead b v byte h k x out (apart_of_run x w (ap begins_run e ∙ k) a))
 
 -- a token that is a mark
 pub name_is : {X : Type 0} (m : Meaning X) (at : ℕ) (t : List ℕ) (cs : List Character) → StandsAt at (SpellsString cs) at t → IsForm m at t (record { outer = mark (quoted at cs) ∷ []; levels = [] })
@@ -190,42 +183,9 @@ name_is m at t cs h = record { formed = ([], t, [], sym (append-nil t), tt, (let
 
 -- a run whose first byte begins no value
 pub first_stops_at : {X : Type 0} (m : Meaning X) (at : ℕ) (w : List ℕ) (byte : ℕ) (others : List ℕ) → w ≡ byte ∷ others → is_run byte ≡ true → ((st : List Frame) → begin_value st byte ≡ None) → IsStop {X = X} m at w empty_form (plain_halt at)
-first_stops_at m at w byte others e k h = record {
-  front = [];
-  spaces = [];
-  begun = [];
-  byte = byte;
-  others = others;
-  split = e;
-  form = record { formed = tt; levels = tt };
-  are_spaces = tt;
-  item = no_width at;
-  place = (let f : at ≡ at + 0 = omega arith in f);
-  is_begun = refl;
-  apart = refl;
-  dead = record {
-    before = [];
-    byte = byte;
-    others = others;
-    split = e;
-    place = (let f : at ≡ at + 0 = omega arith in f);
-    dead = λ x out a viable.
-        let (t, all) = viable_runs (x ++ (byte ∷ [])) viable in
-        let (q, f, g) = run_split (value []) t x (byte ∷ []) all in
-        let at1 : At q Out = subst (At q) out (at_run (value []) q x Out refl f) in
-        let (u, settled, clear) = ran_settled q at1 (start_ran q x f (apart_of_run x w (ap begins_run e ∙ k) a)) in
-        none_goes q t byte (settled_step q u byte settled (and_left (run_ended q) (is_run byte) clear) ∙ first_stuck u (settled_still q u settled)) g;
-  };
-}
-  where
-    first_stuck : (s : State) → IsStill s → step s byte ≡ None
-    first_stuck (value st) i = pass (is_space byte) _ _ _ (run_no_space byte k) (h st)
-    first_stuck (items st) i = pass (is_space byte) _ _ _ (run_no_space byte k) (pass (byte == 0x5D) _ _ _ (unlike is_run byte 0x5D refl k) (h (in_array ∷ st)))
-    first_stuck (members st) i = unmarked_halts (members st) byte i (run_unmarked byte k) refl
-    first_stuck (name st) i = unmarked_halts (name st) byte i (run_unmarked byte k) refl
-    first_stuck (colon st) i = unmarked_halts (colon st) byte i (run_unmarked byte k) refl
-    first_stuck (after st) i = unmarked_halts (after st) byte i (run_unmarked byte k) (after_refuses st)
-    first_stuck _ i = absurd i
+first_stops_at m at w byte others e k h = stop_at m at w [] byte others at_first at e (omega arith) refl (λ x out a viable.
+    let (u, t, i, g) = still_behind x byte [] k out (apart_of_run x w (ap begins_run e ∙ k) a) viable in
+    none_goes u t byte (elim (run_place byte k u i) [ inl (st, f) ↦ f ∙ h st | inr f ↦ f ]) g)
 
 pub value_is : {X : Type 0} (m : Meaning X) (at : ℕ) (t : List ℕ) (x : X) (y : Tree) → Spells at t y → IsNoText y → x ≡ fold_of m y → IsForm m at t (record { outer = mark (entry at x) ∷ []; levels = [] })
 value_is m at t x y h n e = record { formed = ([], t, [], sym (append-nil t), tt, (let f : at ≡ at + 0 = omega arith in (f, y, subst (λ k. Spells k t y) f h, n, e)), apart_nothing t, tt); levels = tt }

@@ -14,7 +14,7 @@ use Rattle.at_nest.specs.Answers.{Answer, folded, syntax, ended, IsAnswer}
 use Rattle.at_nest.specs.Folds.{trees}
 use Rattle.at_nest.specs.KeptItems.{Content, one, free, tree_members}
 use Rattle.at_nest.specs.TextAnswers.{Answers}
-use Rattle.at_nest.proofs.JsonMachine.{accepted-JsonText}
+use Rattle.at_nest.proofs.Accepted.{accepted-JsonText}
 use Rattle.at_nest.proofs.NextItems.{Tells}
 use Rattle.at_nest.proofs.OneTree.{one_tree}
 

@@ -1,7 +1,7 @@
 -- The machine reads the bytes of a value to their end, and is settled behind it.
 -- For `finish`, `finish_span`, `merge` and `run_block`.
-use Rattle.std.proofs.Common.{◌≡◌, ℕ, inl, inr, List, [], ◌∷◌, ◌++◌, Option, Some, None, option_map, option_and_then, Bool, true, false, cond, not, ◌&&◌, ◌==◌, refl, sym, ◌∙◌, ap, arith, codes, ◌+◌, length}
-use Rattle.std.proofs.lemmas.Bool.{and_right}
+use Rattle.std.proofs.Common.{◌≡◌, ℕ, List, [], ◌∷◌, ◌++◌, Option, Some, None, option_map, option_and_then, Bool, true, false, cond, not, ◌&&◌, ◌==◌, refl, sym, ◌∙◌, ap, codes, true≢false, ◌+◌, length}
+use Rattle.std.proofs.lemmas.Bool.{and_right, eqb-true, false_from_ne_true, true_from_ne_false}
 use Rattle.std.proofs.lemmas.Option.{none-some, same_Some, option_and_then_some}
 use Rattle.at_text.specs.Texts.{is_space, is_run}
 use Rattle.at_text.proofs.Machine.{run}
@@ -12,7 +12,7 @@ use Rattle.at_lex.specs.Runs.{Literal, literal_text, the_null, the_true, the_fal
 use Rattle.at_lex.proofs.JsonString as str
 use Rattle.at_lex.specs.Spans.{AreSpaces, begins_run}
 use Rattle.at_nest.specs.Tree.{Tree, literal, number, text, array, object, Trees, no_trees, tree_and, Members as TreeMembers, no_members as no_tree_members, member_and, Spells, SpellsItems, SpellsFurtherItems, SpellsMembers, SpellsFurtherMembers}
-use Rattle.at_nest.proofs.JsonMachine.{State, Frame, in_array, in_object, value, items, members, name, colon, after, in_number, in_string, in_name, in_word, step, within, begin_value, after_step, colon_step, same_byte, digit_begins, opening_split, regroup, regroup_member}
+use Rattle.at_nest.proofs.JsonMachine.{State, Frame, in_array, in_object, value, items, members, name, colon, after, in_number, in_string, in_name, in_word, step, within, begin_value, after_step, colon_step, same_byte, opening_split, regroup, regroup_member}
 use Rattle.at_nest.specs.Borders.{ends_run, are_apart}
 use Rattle.at_nest.proofs.Steps.{Settled, run_ended, is_clear, settled_run, number_none, still_spaces, space_no_run}
 
@@ -50,17 +50,13 @@ items_at st w z h = ap (λ x. go (items st) (x ++ z)) h.split
 
 -- ---- numbers, words, strings
 
-on_number : (s : num.State) (st : List Frame) (u : List ℕ) → num.Rest s u → (n : num.State) × (go (in_number s st) u ≡ Some (in_number n st)) × (num.accepts n ≡ true)
+pub on_number : (s : num.State) (st : List Frame) (u : List ℕ) → num.Rest s u → (n : num.State) × (go (in_number s st) u ≡ Some (in_number n st)) × (num.accepts n ≡ true)
 on_number s st [] r = (s, refl, (num.machine.ends s).0 r)
 on_number s st (c ∷ u) r = let (v, e, q) = num.machine.goes s c u r in let (n, f, a) = on_number v st u q in
     (n, ap (option_and_then (λ x. go x u)) (ap (λ o. within (option_map (λ t. in_number t st) o) (num.accepts s) (after_step st c)) e) ∙ f, a)
 
 pub run_byte : (s v : num.State) (b : ℕ) → num.step s b ≡ Some v → is_run b ≡ true
-run_byte s v b h = by_bool (is_run b) refl
-  where
-    by_bool : (p : Bool) → is_run b ≡ p → is_run b ≡ true
-    by_bool true e = e
-    by_bool false e = absurd (none-some v (sym (number_none s b e) ∙ h))
+run_byte s v b h = true_from_ne_false (is_run b) (λ e. none-some v (sym (number_none s b e) ∙ h))
 
 number_ends : (s : num.State) (c : ℕ) (u : List ℕ) → num.Rest s (c ∷ u) → ends_run (c ∷ u) ≡ true
 number_ends s c [] r = let (v, e, q) = num.machine.goes s c [] r in run_byte s v c e
@@ -69,100 +65,74 @@ number_ends s c (d ∷ u) r = let (v, e, q) = num.machine.goes s c (d ∷ u) r i
 clear_run : (w x : List ℕ) → ends_run w ≡ true → are_apart w x ≡ true → not (true && begins_run x) ≡ true
 clear_run w x e h = sym (ap (λ c. not (c && begins_run x)) e) ∙ h
 
-on_word : (w : List ℕ) (st : List Frame) → go (in_word w st) w ≡ Some (in_word [] st)
+pub on_word : (w : List ℕ) (st : List Frame) → go (in_word w st) w ≡ Some (in_word [] st)
 on_word [] st = refl
 on_word (c ∷ w) st = ap (option_and_then (λ x. go x w)) (ap (λ t. cond t (Some (in_word w st)) None) (same_byte c)) ∙ on_word w st
 
-on_string : (s : str.State) (st : List Frame) (u : List ℕ) → str.Rest s u → (n : str.State) × (go (in_string s st) u ≡ Some (in_string n st)) × (str.accepts n ≡ true)
+pub on_string : (s : str.State) (st : List Frame) (u : List ℕ) → str.Rest s u → (n : str.State) × (go (in_string s st) u ≡ Some (in_string n st)) × (str.accepts n ≡ true)
 on_string s st [] r = (s, refl, (str.machine.ends s).0 r)
 on_string s st (c ∷ u) r = let (v, e, q) = str.machine.goes s c u r in let (n, f, a) = on_string v st u q in
     (n, ap (option_and_then (λ x. go x u)) (ap (λ o. within (option_map (λ t. in_string t st) o) (str.accepts s) (after_step st c)) e) ∙ f, a)
 
-on_name : (s : str.State) (st : List Frame) (u : List ℕ) → str.Rest s u → (n : str.State) × (go (in_name s st) u ≡ Some (in_name n st)) × (str.accepts n ≡ true)
+pub on_name : (s : str.State) (st : List Frame) (u : List ℕ) → str.Rest s u → (n : str.State) × (go (in_name s st) u ≡ Some (in_name n st)) × (str.accepts n ≡ true)
 on_name s st [] r = (s, refl, (str.machine.ends s).0 r)
 on_name s st (c ∷ u) r = let (v, e, q) = str.machine.goes s c u r in let (n, f, a) = on_name v st u q in
     (n, ap (option_and_then (λ x. go x u)) (ap (λ o. within (option_map (λ t. in_name t st) o) (str.accepts s) (colon_step st c)) e) ∙ f, a)
 
+-- ---- a byte that isn't another
+
+-- a byte that passes a test that c doesn't pass
+pub unlike : (P : ℕ → Bool) (b c : ℕ) → P c ≡ false → P b ≡ true → (b == c) ≡ false
+unlike P b c h e = false_from_ne_true (b == c) (λ f. true≢false (sym e ∙ (ap P (eqb-true b c f) ∙ h)))
+
+pub run_no_space : (b : ℕ) → is_run b ≡ true → is_space b ≡ false
+run_no_space b h = false_from_ne_true (is_space b) (λ f. true≢false (sym h ∙ space_no_run b f))
+
+-- a byte that begins a number is none of these
+not_this : (b c : ℕ) (s : num.State) → num.step num.start c ≡ None → num.step num.start b ≡ Some s → (b == c) ≡ false
+not_this b c s h e = false_from_ne_true (b == c) (λ f. none-some s (sym h ∙ (ap (num.step num.start) (sym (eqb-true b c f)) ∙ e)))
+
+pub pass : {A : Type 0} (p : Bool) (x y z : A) → p ≡ false → y ≡ z → cond p x y ≡ z
+pass p x y z e f = ap (λ c. cond c x y) e ∙ f
+
+pub number_begins : (st : List Frame) (b : ℕ) (s : num.State) → num.step num.start b ≡ Some s → begin_value st b ≡ Some (in_number s st)
+number_begins st b s e =
+    pass (b == 0x5B) _ _ _ (not_this b 0x5B s refl e) (pass (b == 0x7B) _ _ _ (not_this b 0x7B s refl e) (pass (b == 0x22) _ _ _ (not_this b 0x22 s refl e)
+    (pass (b == 0x6E) _ _ _ (not_this b 0x6E s refl e) (pass (b == 0x74) _ _ _ (not_this b 0x74 s refl e) (pass (b == 0x66) _ _ _ (not_this b 0x66 s refl e)
+    (ap (option_map (λ v. in_number v st)) e))))))
+
 -- ---- each kind of value
 
-word_enters : (st : List Frame) (l : Literal) (w : List ℕ) → w ≡ literal_text l → Enters st w
-word_enters st the_null w e = record {
-  byte = 0x6E;
-  others = codes "ull";
-  next = in_word (codes "ull") st;
-  last = in_word [] st;
+enters_at : (st : List Frame) (w : List ℕ) (c : ℕ) (r : List ℕ) (next last : State) → w ≡ c ∷ r → begin_value st c ≡ Some next → go next r ≡ Some last → Settled last (after st)
+    → ((x : List ℕ) → are_apart w x ≡ true → is_clear last x ≡ true) → is_space c ≡ false → (c == 0x5D) ≡ false → Enters st w
+enters_at st w c r next last e b g h k p q = record {
+  byte = c;
+  others = r;
+  next = next;
+  last = last;
   split = e;
-  begins = refl;
-  goes = on_word (codes "ull") st;
-  settled = (refl, refl);
-  clear = λ x h. clear_run w x (ap ends_run e) h;
-  no_space = refl;
-  no_closer = refl;
-}
-word_enters st the_true w e = record {
-  byte = 0x74;
-  others = codes "rue";
-  next = in_word (codes "rue") st;
-  last = in_word [] st;
-  split = e;
-  begins = refl;
-  goes = on_word (codes "rue") st;
-  settled = (refl, refl);
-  clear = λ x h. clear_run w x (ap ends_run e) h;
-  no_space = refl;
-  no_closer = refl;
-}
-word_enters st the_false w e = record {
-  byte = 0x66;
-  others = codes "alse";
-  next = in_word (codes "alse") st;
-  last = in_word [] st;
-  split = e;
-  begins = refl;
-  goes = on_word (codes "alse") st;
-  settled = (refl, refl);
-  clear = λ x h. clear_run w x (ap ends_run e) h;
-  no_space = refl;
-  no_closer = refl;
-}
-
-number_enters_by : (st : List Frame) (c d : ℕ) (u : List ℕ) (s : num.State) → c ≡ d → begin_value st d ≡ Some (in_number s st) → is_space d ≡ false → (d == 0x5D) ≡ false
-    → ends_run (c ∷ u) ≡ true → num.Rest s u → Enters st (c ∷ u)
-number_enters_by st c d u s e b p q f r = let (n, g, a) = on_number s st u r in record {
-  byte = d;
-  others = u;
-  next = in_number s st;
-  last = in_number n st;
-  split = ap (λ x. x ∷ u) e;
   begins = b;
   goes = g;
-  settled = (a, refl);
-  clear = λ x h. clear_run (c ∷ u) x f h;
+  settled = h;
+  clear = k;
   no_space = p;
   no_closer = q;
 }
 
+word_enters : (st : List Frame) (l : Literal) (w : List ℕ) → w ≡ literal_text l → Enters st w
+word_enters st the_null w e = enters_at st w 0x6E (codes "ull") _ (in_word [] st) e refl (on_word (codes "ull") st) (refl, refl) (λ x h. clear_run w x (ap ends_run e) h) refl refl
+word_enters st the_true w e = enters_at st w 0x74 (codes "rue") _ (in_word [] st) e refl (on_word (codes "rue") st) (refl, refl) (λ x h. clear_run w x (ap ends_run e) h) refl refl
+word_enters st the_false w e = enters_at st w 0x66 (codes "alse") _ (in_word [] st) e refl (on_word (codes "alse") st) (refl, refl) (λ x h. clear_run w x (ap ends_run e) h) refl refl
+
 number_enters : (st : List Frame) (w : List ℕ) → num.Rest num.start w → Enters st w
 number_enters st [] r = absurd r
-number_enters st (c ∷ u) (inl (e, r)) = number_enters_by st c 0x2D u num.signed e refl refl refl (number_ends num.start c u (inl (e, r))) r
-number_enters st (c ∷ u) (inr (inl (e, r))) = number_enters_by st c 0x30 u num.zero_digit e refl refl refl (number_ends num.start c u (inr (inl (e, r)))) r
-number_enters st (c ∷ u) (inr (inr (h, r))) = let (s, e, q) = num.machine.goes num.start c u (inr (inr (h, r))) in
-    number_enters_by st c c u s refl (digit_begins st c h s e) (grind (arith, h)) (grind (arith, h)) (number_ends num.start c u (inr (inr (h, r)))) q
+number_enters st (c ∷ u) r = let (s, e, q) = num.machine.goes num.start c u r in let (n, g, a) = on_number s st u q in
+    enters_at st (c ∷ u) c u (in_number s st) (in_number n st) refl (number_begins st c s e) g (a, refl) (λ x h. clear_run (c ∷ u) x (number_ends num.start c u r) h)
+    (run_no_space c (run_byte num.start s c e)) (not_this c 0x5D s refl e)
 
 pub string_enters : (st : List Frame) (w : List ℕ) → JsonString w → Enters st w
-string_enters st w h = let (u, e, r) = opening_split w h in let (n, f, a) = on_string str.inside st u r in record {
-  byte = 0x22;
-  others = u;
-  next = in_string str.inside st;
-  last = in_string n st;
-  split = e;
-  begins = refl;
-  goes = f;
-  settled = (a, refl);
-  clear = λ x k. refl;
-  no_space = refl;
-  no_closer = refl;
-}
+string_enters st w h = let (u, e, r) = opening_split w h in let (n, f, a) = on_string str.inside st u r in
+    enters_at st w 0x22 u (in_string str.inside st) (in_string n st) e refl f (a, refl) (λ x k. refl) refl refl
 
 -- a name leads to where its colon is expected
 pub record Named (st : List Frame) (w : List ℕ) : Type 0 where
@@ -198,32 +168,10 @@ mutual
   value_enters (literal i l) st at w (f, e) = word_enters st l w e
   value_enters (number i n) st at w (f, (h, e)) = number_enters st w ((num.start-JsonNumber w).1 (n, h, e))
   value_enters (text i cs) st at w (f, (h, e)) = string_enters st w (cs, h, e)
-  value_enters (array i ts) st at w h = let (f, (v, e, s)) = parts.array_parts ts i at w h in record {
-    byte = 0x5B;
-    others = v ++ (0x5D ∷ []);
-    next = items st;
-    last = after st;
-    split = e;
-    begins = refl;
-    goes = items_run ts st (at + 1) v s;
-    settled = refl;
-    clear = λ x k. refl;
-    no_space = refl;
-    no_closer = refl;
-  }
-  value_enters (object i ms) st at w h = let (f, (v, e, s)) = parts.object_parts ms i at w h in record {
-    byte = 0x7B;
-    others = v ++ (0x7D ∷ []);
-    next = members st;
-    last = after st;
-    split = e;
-    begins = refl;
-    goes = members_run ms st (at + 1) v s;
-    settled = refl;
-    clear = λ x k. refl;
-    no_space = refl;
-    no_closer = refl;
-  }
+  value_enters (array i ts) st at w h = let (f, (v, e, s)) = parts.array_parts ts i at w h in
+      enters_at st w 0x5B (v ++ (0x5D ∷ [])) (items st) (after st) e refl (items_run ts st (at + 1) v s) refl (λ x k. refl) refl refl
+  value_enters (object i ms) st at w h = let (f, (v, e, s)) = parts.object_parts ms i at w h in
+      enters_at st w 0x7B (v ++ (0x7D ∷ [])) (members st) (after st) e refl (members_run ms st (at + 1) v s) refl (λ x k. refl) refl refl
 
   items_run : (ts : Trees) (st : List Frame) (at : ℕ) (w : List ℕ) → SpellsItems at w ts → go (items st) (w ++ (0x5D ∷ [])) ≡ Some (after st)
   items_run no_trees st at w h = still_spaces (items st) w (0x5D ∷ []) tt h

@@ -83,13 +83,6 @@ reads_more s s1 s2 t a v r c u ha e p q h g more =
       clear = λ x hx cx. let (i, j) = clear_on g.last a v r x c u e g.clear p hx in rest.clear x i j;
     }
 
--- the same bytes, where the record speaks of others that are equal
-Reads_same : (s t : State) (w v : List ℕ) → w ≡ v → Reads s t v → Reads s t w
-Reads_same s t w v e h = subst (Reads s t) (sym e) h
-
-Halted_same : (s : State) (at : ℕ) (w v : List ℕ) (i : ℕ) → w ≡ v → Halted s at v i → Halted s at w i
-Halted_same s at w v i e h = subst (λ z. Halted s at z i) (sym e) h
-
 pub no_walk : (i : ℕ) (t : State) → refused i ≡ reached t → ⊥
 no_walk i t e = let P : Walk → Type 0 = λ x. elim x [ refused j ↦ ⊤ | reached u ↦ ⊥ ] in subst P e tt
 
@@ -143,7 +136,7 @@ cases (Some t) = inr (t, refl)
 -- where the form leads to t, so do its bytes, from each state that is settled as the first one
 pub walk_reads : {X : Type 0} (m : Meaning X) (ps : List (Piece X)) (at : ℕ) (w : List ℕ) (s s1 t : State) → Settled s s1 → is_clear s w ≡ true → Formed m at w ps → walks s1 ps ≡ reached t → Reads s t w
 walk_reads m [] at w s s1 t h q f e = spaces_read s t w (subst (Settled s) (reached_is s1 t e) h) f
-walk_reads m (p ∷ ps) at w s s1 t h q (a, v, r, d, ha, hp, hap, hf) e = Reads_same s t w (a ++ (v ++ r)) d (elim (cases (next s1 (kind_of p))) [
+walk_reads m (p ∷ ps) at w s s1 t h q (a, v, r, d, ha, hp, hap, hf) e = subst (Reads s t) (sym d) (elim (cases (next s1 (kind_of p))) [
   | inl n ↦ absurd (no_walk _ t (sym (ap (λ o. walk_on o (at_of p) (λ x. walks x ps)) n) ∙ e))
   | inr (s2, n) ↦ (let (c, u, k) = piece_first m (at + length a) v p hp in
       reads_more s s1 s2 t a v r c u ha k hap (ap (is_clear s) (sym d) ∙ q) (spaces_read s s1 a h ha) (piece_goes m s1 s2 (at + length a) v p (settled_still s s1 h) hp n)
@@ -153,7 +146,7 @@ walk_reads m (p ∷ ps) at w s s1 t h q (a, v, r, d, ha, hp, hap, hf) e = Reads_
 -- where a piece of the form has no place, the machine stops at its first byte
 pub walk_halts : {X : Type 0} (m : Meaning X) (ps : List (Piece X)) (at : ℕ) (w : List ℕ) (s s1 : State) (i : ℕ) → Settled s s1 → is_clear s w ≡ true → Formed m at w ps → walks s1 ps ≡ refused i → Halted s at w i
 walk_halts m [] at w s s1 i h q f e = absurd (no_refusal i s1 e)
-walk_halts m (p ∷ ps) at w s s1 i h q (a, v, r, d, ha, hp, hap, hf) e = Halted_same s at w (a ++ (v ++ r)) i d (elim (cases (next s1 (kind_of p))) [
+walk_halts m (p ∷ ps) at w s s1 i h q (a, v, r, d, ha, hp, hap, hf) e = subst (λ z. Halted s at z i) (sym d) (elim (cases (next s1 (kind_of p))) [
   | inl n ↦ (let here : at + length a ≡ i = sym (piece_at m (at + length a) v p hp) ∙ refused_is (at_of p) i (sym (ap (λ o. walk_on o (at_of p) (λ x. walks x ps)) n) ∙ e) in
       subst (λ j. Halted s at (a ++ (v ++ r)) j) here
       (halts_here s s1 at a v r ha (ap (is_clear s) (sym d) ∙ q) (spaces_read s s1 a h ha) (piece_halts m s1 (at + length a) v p (settled_still s s1 h) hp n)))
