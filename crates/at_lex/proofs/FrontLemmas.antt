@@ -17,13 +17,6 @@ all_taken test (b ∷ w) (suc n) h f = (f 0 (omega arith), all_taken test w n (o
 pub front_all : (test : ℕ → Bool) (w : List ℕ) (n : ℕ) → IsFront test w n → AllByRecursion (λ b. IsTrue (test b)) (take n w)
 front_all test w n h = all_taken test w n h.fits h.passes
 
--- behind a front of white space stands none
-pub space_stops : (w : List ℕ) (n : ℕ) → (n < length w → is_space (slice_index w n) ≡ false) → begins_space (drop n w) ≡ false
-space_stops [] zero f = refl
-space_stops [] (suc n) f = refl
-space_stops (b ∷ w) zero f = f (omega arith)
-space_stops (b ∷ w) (suc n) f = space_stops w n (λ h. f (omega arith))
-
 -- behind a front of a run stands no byte of one
 pub run_stops : (w : List ℕ) (n : ℕ) → (n < length w → is_run (slice_index w n) ≡ false) → begins_run (drop n w) ≡ false
 run_stops [] zero f = refl

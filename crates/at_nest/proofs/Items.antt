@@ -322,9 +322,6 @@ module _ {X : Type 0} (IsKept : X → Content → Type 0) where
 
 -- ---- the lead
 
-out_is : (s : Start) → s ≡ Out → end_of s [] ≡ Out
-out_is s e = e
-
 pub begun_text : (s : Start) (base : ℕ) (piece : List ℕ) (n : ℕ) (left : Left) → IsBegun s base piece (leads.TextEnds n) left → HasBytes base piece left.at left.rest × (left.state ≡ Out)
 begun_text Out base piece n left (u, e, l, i, q) = absurd l
 begun_text InString base piece n left (u, e, l, i, q) = ((u, e, i), q ∙ closes_out InString u l.1)

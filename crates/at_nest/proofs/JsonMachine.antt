@@ -316,9 +316,6 @@ text_from at w (a, v, y, e, ha, hv, hy) = let (t, s) = spells_value v hv (at + l
 pub chosen_by : (o : Option State) (s : State) (b : ℕ) → is_space b ≡ true → cond (is_space b) (Some s) o ≡ Some s
 chosen_by o s b h = ap (λ c. cond c (Some s) o) h
 
-pub space_is : (b : ℕ) → is_space b ≡ true → (b ≡ 0x20) ⊎ ((b ≡ 0x09) ⊎ ((b ≡ 0x0A) ⊎ (b ≡ 0x0D)))
-space_is b h = grind (arith, h)
-
 pub same_byte : (c : ℕ) → (c == c) ≡ true
 same_byte c = grind arith
 
