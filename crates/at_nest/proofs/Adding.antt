@@ -7,13 +7,12 @@ use Rattle.at_nest.specs.declared.pieces.Piece.{Piece as CodePiece}
 use Rattle.at_nest.specs.declared.pieces.Piece.TheVariants.{Comma, Colon, Text, Value, Row as RowPiece, Closers as ClosersPiece}
 use Rattle.at_nest.specs.declared.pieces.Row.{Row}
 use Rattle.at_nest.specs.declared.pieces.Closers.{Closers}
-use Rattle.at_lex.specs.declared.tokens.Bracket.{Bracket}
 use Rattle.at_nest.specs.declared.pieces.SpanStop.{SpanStop as CodeHalt}
 use Rattle.at_nest.specs.Tree.{Tree, text}
-use Rattle.at_nest.specs.Forms.{Meaning, Piece, opens, closes, mark, comma, colon, quoted, entry}
+use Rattle.at_nest.specs.Forms.{Meaning, Piece, mark, comma, colon, quoted, entry}
 use Rattle.at_nest.specs.Levels.{Level, Form, Pushed, further, stopped, push, push_mark, push_all, push_then}
 use Rattle.at_nest.specs.Shown.{Held, Shown, AreOwn, show_as, comma_added, colon_added}
-use Rattle.at_nest.specs.KeptItems.{free, Content, one, OwnAtom, EachHeld, EachPiece, AreRow, Pushes, PushesValue, PushesRow, PushesClosers, IsHeldPiece, IsShown, IsPushedAs, IsTextAt, IsPartOf, IsOfItems, CanAdd, Adds}
+use Rattle.at_nest.specs.KeptItems.{free, Content, one, OwnAtom, EachHeld, EachPiece, AreRow, PushesValue, PushesRow, PushesClosers, IsHeldPiece, IsShown, IsPushedAs, IsTextAt, IsPartOf, IsOfItems, CanAdd, Adds}
 use Rattle.at_nest.proofs.Held.{held_own}
 use Rattle.at_nest.proofs.Showing.{comma_pushes, colon_pushes}
 
@@ -51,45 +50,15 @@ module _ {X : Type 0} (IsKept : X → Content → Type 0) where
       by_piece : (base : ℕ) (w : List ℕ) (f : Form Tree) → IsShown IsKept base w old f → (p : Piece Tree) → IsHeldPiece IsKept base w (Comma i) p → IsPushedAs IsKept base w new r (push free f p)
       by_piece base w f h (mark (comma j)) u = subst (λ n. IsPushedAs IsKept base w new r (push_mark f.outer f.levels (comma n))) u
           (subst (λ a. IsPushedAs IsKept base w a.0 a.1 (push_mark f.outer f.levels (comma i))) (sym d) (comma_pushes IsKept base w old.outer old.levels f.outer f.levels i h.0 h.1))
-      by_piece base w f h (mark (colon j)) u = absurd u
-      by_piece base w f h (mark (quoted j cs)) u = absurd u
-      by_piece base w f h (mark (entry j t)) u = absurd u
       by_piece base w f h _ u = absurd u
 
   pub adds_colon : (bytes : List ℕ) (old : Shown X) (c : CodePiece X) (new : Shown X) (r : Option CodeHalt) (i : ℕ) → c ≡ Colon i → (new, r) ≡ colon_added i old.outer old.levels → Adds IsKept bytes old c new r
   adds_colon bytes old c new r i e d = adds_one bytes old c new r (λ base w f p part h k. by_piece base w f h p (subst (λ z. IsHeldPiece IsKept base w z p) e k)) (λ base w ps k. subst (λ z. AreRow IsKept base w z ps) e k)
     where
       by_piece : (base : ℕ) (w : List ℕ) (f : Form Tree) → IsShown IsKept base w old f → (p : Piece Tree) → IsHeldPiece IsKept base w (Colon i) p → IsPushedAs IsKept base w new r (push free f p)
-      by_piece base w f h (mark (comma j)) u = absurd u
       by_piece base w f h (mark (colon j)) u = subst (λ n. IsPushedAs IsKept base w new r (push_mark f.outer f.levels (colon n))) u
           (subst (λ a. IsPushedAs IsKept base w a.0 a.1 (push_mark f.outer f.levels (colon i))) (sym d) (colon_pushes IsKept base w old.outer old.levels f.outer f.levels i h.0 h.1))
-      by_piece base w f h (mark (quoted j cs)) u = absurd u
-      by_piece base w f h (mark (entry j t)) u = absurd u
       by_piece base w f h _ u = absurd u
-
-  pub adds_value : (bytes : List ℕ) (old : Shown X) (c : CodePiece X) (new : Shown X) (r : Option CodeHalt) (i : ℕ) (x : X) → c ≡ Value i x → PushesValue IsKept old new r i x → Adds IsKept bytes old c new r
-  adds_value bytes old c new r i x e pushes = adds_one bytes old c new r (λ base w f p part h k. by_piece base w f h p (subst (λ z. IsHeldPiece IsKept base w z p) e k)) (λ base w ps k. subst (λ z. AreRow IsKept base w z ps) e k)
-    where
-      by_piece : (base : ℕ) (w : List ℕ) (f : Form Tree) → IsShown IsKept base w old f → (p : Piece Tree) → IsHeldPiece IsKept base w (Value i x) p → IsPushedAs IsKept base w new r (push free f p)
-      by_piece base w f h (mark (comma j)) u = absurd u
-      by_piece base w f h (mark (colon j)) u = absurd u
-      by_piece base w f h (mark (quoted j cs)) u = absurd u
-      by_piece base w f h (mark (entry j t)) u = subst (λ n. IsPushedAs IsKept base w new r (push_mark f.outer f.levels (entry n t))) u.0 (pushes base w f t h u.1)
-      by_piece base w f h _ u = absurd u
-
-  -- a row
-  pub adds_row : (bytes : List ℕ) (old : Shown X) (c : CodePiece X) (new : Shown X) (r : Option CodeHalt) (row : Row X) → c ≡ RowPiece row → PushesRow IsKept old new r row → Adds IsKept bytes old c new r
-  adds_row bytes old c new r row e pushes base w f ps part h (inl (p, s, k)) = absurd (no_row base w p (subst (λ z. IsHeldPiece IsKept base w z p) e k))
-    where
-      no_row : (base : ℕ) (w : List ℕ) (p : Piece Tree) → IsHeldPiece IsKept base w (RowPiece row) p → ⊥
-      no_row base w (opens b j) u = u
-      no_row base w _ u = u
-  adds_row bytes old c new r row e pushes base w f ps part h (inr k) = pushes base w f ps h (subst (λ z. AreRow IsKept base w z ps) e k)
-
-  -- closing brackets
-  pub adds_closers : (bytes : List ℕ) (old : Shown X) (c : CodePiece X) (new : Shown X) (r : Option CodeHalt) (run : Closers) → c ≡ ClosersPiece run → PushesClosers IsKept old new r run → Adds IsKept bytes old c new r
-  adds_closers bytes old c new r run e pushes base w f ps part h (inl (p, s, k)) = absurd (subst (λ z. IsHeldPiece IsKept base w z p) e k)
-  adds_closers bytes old c new r run e pushes base w f ps part h (inr k) = pushes base w f ps h (subst (λ z. AreRow IsKept base w z ps) e k)
 
   -- a string
   pub adds_text : (bytes : List ℕ) (old new : Shown X) (r : Option CodeHalt) (span : Span) (x : X)
@@ -98,10 +67,7 @@ module _ {X : Type 0} (IsKept : X → Content → Type 0) where
   adds_text bytes old new r span x pushes = adds_one bytes old (Text span x) new r by_piece (λ base w ps k. k)
     where
       by_piece : (base : ℕ) (w : List ℕ) (f : Form Tree) (p : Piece Tree) → IsPartOf bytes base w → IsShown IsKept base w old f → IsHeldPiece IsKept base w (Text span x) p → IsPushedAs IsKept base w new r (push free f p)
-      by_piece base w f (mark (comma j)) part h k = absurd k
-      by_piece base w f (mark (colon j)) part h k = absurd k
       by_piece base w f (mark (quoted j cs)) part h k = subst (λ n. IsPushedAs IsKept base w new r (push free f (mark (quoted n cs)))) k.0 (pushes base w f cs part h k.1 (subst (λ n. IsKept x (one (text n cs))) (sym k.0) k.2))
-      by_piece base w f (mark (entry j t)) part h k = absurd k
       by_piece base w f _ part h k = absurd k
 
   -- the string that is to be put
@@ -116,10 +82,7 @@ module _ {X : Type 0} (IsKept : X → Content → Type 0) where
   has_text bytes old span x (base, w, f, ps, part, h, inl (p, e, k)) = by_piece p k
     where
       by_piece : (p : Piece Tree) → IsHeldPiece IsKept base w (Text span x) p → HasText bytes span
-      by_piece (mark (comma j)) u = absurd u
-      by_piece (mark (colon j)) u = absurd u
       by_piece (mark (quoted j cs)) u = record { base = base; w = w; cs = cs; part = part; at = u.1 }
-      by_piece (mark (entry j t)) u = absurd u
       by_piece _ u = absurd u
   has_text bytes old span x (base, w, f, ps, part, h, inr k) = absurd k
 

@@ -76,38 +76,19 @@ module _ {X : Type 0} (IsKept : X → Content → Type 0) where
   wanted_from : (s : Start) (at : ℕ) (x : List ℕ) (right : Parts X) → HoldsParts IsKept at x right → (q : Slot) × (slot_in right.escape (Some s) ≡ Some q) × HoldsIn IsKept s at x right q
   wanted_from s at x right h = from_state s at x right.from right.to right.out right.string right.escape h.out h.string h.escape h.from h.to
 
-  goes_from : (bytes : List ℕ) (s : Start) (at : ℕ) (w x : List ℕ) (left : Variant X) (right : Parts X) (end : Start) → end ≡ end_of s w → IsPartOf bytes at (w ++ x) → HoldsVariant IsKept s at w left → HoldsParts IsKept (at + length w) x right
-      → GoesOn IsKept bytes s at w x left right (slot_in right.escape (Some end))
-  goes_from bytes s at w x left right end e part h k = let f = wanted_from end (at + length w) x right k in
-      subst (GoesOn IsKept bytes s at w x left right) (sym f.1) (part, h, subst (λ z. HoldsIn IsKept z (at + length w) x right f.0) e f.2)
-
-  pub goes_on : (bytes : List ℕ) (s : Start) (at : ℕ) (w x : List ℕ) (left : Variant X) (right : Parts X) → IsPartOf bytes at (w ++ x) → HoldsVariant IsKept s at w left → HoldsParts IsKept (at + length w) x right
-      → GoesOn IsKept bytes s at w x left right (slot_in right.escape (end_in left))
-  goes_on bytes s at w x (AllLead end) right part h k = goes_from bytes s at w x (AllLead end) right end h.1 part h k
-  goes_on bytes s at w x (Whole lead body pend end) right part h k = goes_from bytes s at w x (Whole lead body pend end) right end h.end_is part h k
-  goes_on bytes s at w x (Broken lead body halt) right part h k = (h, refl)
-
   -- ---- behind another variant that is taken, which is read again where both want it
 
   still_from : (taken : Option Slot) (s : Start) (at : ℕ) (x : List ℕ) (old new : Parts X) (wanted : Slot) → HoldsParts IsKept at x old → Stays taken old new → HoldsIn IsKept s at x old wanted → (q : Slot) × (unless_taken taken (Some wanted) (Some s) ≡ Some q) × HoldsIn IsKept s at x new q
   still_from (Some slot.Out) s at x old new slot.Out held stays h = (slot.Bytes s, refl, (refl, stays.from ∙ held.from, stays.to ∙ held.to))
   still_from (Some slot.String) s at x old new slot.String held stays h = (slot.Bytes s, refl, (refl, stays.from ∙ held.from, stays.to ∙ held.to))
-  still_from None s at x old new slot.Out held stays h = (slot.Out, refl, subst (HoldsVariant IsKept s at x) (sym (stays.out (λ e. absurd (cc)))) h)
-  still_from (Some slot.String) s at x old new slot.Out held stays h = (slot.Out, refl, subst (HoldsVariant IsKept s at x) (sym (stays.out (λ e. absurd (cc)))) h)
-  still_from (Some (slot.Bytes z)) s at x old new slot.Out held stays h = (slot.Out, refl, subst (HoldsVariant IsKept s at x) (sym (stays.out (λ e. absurd (cc)))) h)
-  still_from None s at x old new slot.String held stays h = (slot.String, refl, subst (HoldsVariant IsKept s at x) (sym (stays.string (λ e. absurd (cc)))) h)
-  still_from (Some slot.Out) s at x old new slot.String held stays h = (slot.String, refl, subst (HoldsVariant IsKept s at x) (sym (stays.string (λ e. absurd (cc)))) h)
-  still_from (Some (slot.Bytes z)) s at x old new slot.String held stays h = (slot.String, refl, subst (HoldsVariant IsKept s at x) (sym (stays.string (λ e. absurd (cc)))) h)
-  still_from None s at x old new (slot.Bytes q) held stays h = (slot.Bytes q, refl, (h.0, stays.from ∙ h.1, stays.to ∙ h.2))
+  still_from _ s at x old new slot.Out held stays h = (slot.Out, refl, subst (HoldsVariant IsKept s at x) (sym (stays.out (λ e. absurd (cc)))) h)
+  still_from _ s at x old new slot.String held stays h = (slot.String, refl, subst (HoldsVariant IsKept s at x) (sym (stays.string (λ e. absurd (cc)))) h)
   still_from (Some slot.Out) s at x old new (slot.Bytes q) held stays h = (slot.Bytes q, refl, (h.0, stays.from ∙ h.1, stays.to ∙ h.2))
-  still_from (Some slot.String) s at x old new (slot.Bytes q) held stays h = (slot.Bytes q, refl, (h.0, stays.from ∙ h.1, stays.to ∙ h.2))
-  still_from (Some (slot.Bytes z)) s at x old new (slot.Bytes q) held stays h = (slot.Bytes q, refl, (h.0, stays.from ∙ h.1, stays.to ∙ h.2))
+  still_from _ s at x old new (slot.Bytes q) held stays h = (slot.Bytes q, refl, (h.0, stays.from ∙ h.1, stays.to ∙ h.2))
 
   none_behind : (e : Escape) (taken : Option Slot) → slot_behind e taken None ≡ None
-  none_behind e None = refl
   none_behind e (Some slot.Out) = refl
-  none_behind e (Some slot.String) = refl
-  none_behind e (Some (slot.Bytes z)) = refl
+  none_behind e _ = refl
 
   behind_from : (bytes : List ℕ) (s : Start) (at : ℕ) (w x : List ℕ) (left : Variant X) (old new : Parts X) (taken : Option Slot) (end : Start) → end ≡ end_of s w → IsPartOf bytes at (w ++ x) → HoldsVariant IsKept s at w left → HoldsParts IsKept (at + length w) x old → Stays taken old new
       → GoesOn IsKept bytes s at w x left new (slot_behind old.escape taken (Some end))
@@ -146,7 +127,7 @@ module _ {X : Type 0} (IsKept : X → Content → Type 0) where
   -- ---- the variants of two spans
 
   pub out_goes : (bytes : List ℕ) (at : ℕ) (w x : List ℕ) (left right : Parts X) (end : Option Start) (wanted : Option Slot) → end ≡ end_in left.out → wanted ≡ slot_in right.escape end → AreBeside IsKept bytes at w x left right → GoesOn IsKept bytes Out at w x left.out right wanted
-  out_goes bytes at w x left right end wanted e f b = subst (GoesOn IsKept bytes Out at w x left.out right) (sym (f ∙ ap (slot_in right.escape) e)) (goes_on bytes Out at w x left.out right b.0 b.1.out b.2)
+  out_goes bytes at w x left right end wanted e f b = subst (GoesOn IsKept bytes Out at w x left.out right) (sym (f ∙ ap (slot_in right.escape) e)) (goes_behind bytes Out at w x left.out right right None b.0 b.1.out b.2 (record { from = refl; to = refl; out = λ e. refl; string = λ e. refl }))
 
   pub string_goes : (bytes : List ℕ) (at : ℕ) (w x : List ℕ) (left right new : Parts X) (taken : Option Slot) (end : Option Start) (wanted : Option Slot) → end ≡ end_in left.string → wanted ≡ slot_behind right.escape taken end → AreBeside IsKept bytes at w x left right → Stays taken right new → GoesOn IsKept bytes InString at w x left.string new wanted
   string_goes bytes at w x left right new taken end wanted e f b stays = subst (GoesOn IsKept bytes InString at w x left.string new) (sym (f ∙ ap (slot_behind right.escape taken) e)) (goes_behind bytes InString at w x left.string right new taken b.0 b.1.string b.2 stays)

@@ -1,6 +1,6 @@
 -- Closing brackets one right behind another: one more of them, and all of them put behind what is kept.
 -- For `finish`, `finish_span`, `merge` and `run_block`.
-use Rattle.std.proofs.Common.{◌≡◌, ℕ, ◌+◌, ◌-◌, ◌%◌, ◌<◌, ◌≤◌, zero, suc, Option, Some, None, List, [], ◌∷◌, ◌++◌, inl, inr, is_some, true, false, true≢false, refl, sym, ◌∙◌, ap, subst, append_assoc, append-nil, arith, length, take, slice_set}
+use Rattle.std.proofs.Common.{◌≡◌, ℕ, ◌+◌, ◌-◌, ◌%◌, ◌≤◌, zero, suc, Option, Some, None, List, [], ◌∷◌, ◌++◌, inl, inr, is_some, true, false, true≢false, refl, sym, ◌∙◌, ap, subst, append_assoc, append-nil, arith, length, take, slice_set}
 use Rattle.std.proofs.Math.Nat.{add-mod_right}
 use Rattle.std.proofs.lemmas.Option.{none-some}
 use Rattle.at_lex.specs.declared.tokens.Bracket.{Bracket}
@@ -10,16 +10,15 @@ use Rattle.at_nest.specs.declared.pieces.Piece.{Piece as CodePiece}
 use Rattle.at_nest.specs.declared.pieces.Piece.TheVariants.{Closers as ClosersPiece}
 use Rattle.at_nest.specs.Tree.{Tree}
 use Rattle.at_nest.specs.Forms.{Piece, closes}
-use Rattle.at_nest.specs.Levels.{Level, Form, further, push, push_close, push_all, push_then}
+use Rattle.at_nest.specs.Levels.{Form, further, push, push_all, push_then}
 use Rattle.at_nest.specs.Closers.{IsLonger, turn}
 use Rattle.at_nest.specs.Refusals.{last_of}
 use Rattle.at_nest.specs.Shown.{Shown, show_as, kept_outside}
-use Rattle.at_nest.specs.KeptItems.{Content, free, closers, AreClosers, IsHeldPiece, ArePieces, EachPiece, EachHeld, IsShown, IsPushedAs, IsOfItems, Pushes, PushesClosers}
+use Rattle.at_nest.specs.KeptItems.{Content, free, closers, AreClosers, ArePieces, EachPiece, EachHeld, IsShown, IsPushedAs, IsOfItems, Pushes, PushesClosers}
 use Rattle.at_nest.proofs.Adding.{push_all_append}
 use Rattle.at_nest.proofs.Joining.{went_on, did_stop}
 use Rattle.at_nest.proofs.Nests.{all_but_last}
-use Rattle.at_nest.proofs.Rows.{only_one}
-use Rattle.at_nest.proofs.Showing.{pieces_append, pieces_cut}
+use Rattle.at_nest.proofs.Showing.{pieces_append, pieces_cut, outside_pushes, only_one}
 
 closers_add : (b o : Bracket) (i m n : ℕ) → closers b o i (m + n) ≡ closers b o i m ++ closers (turn b o m) (turn o b m) (i + m) n
 closers_add b o i zero n = let e : i ≡ i + 0 = omega arith in let k : 0 + n ≡ n = omega arith in ap (closers b o i) k ∙ ap (λ z. closers b o z n) e
@@ -79,18 +78,13 @@ module _ {X : Type 0} (IsKept : X → Content → Type 0) where
   are_closers base w q vs (inr k) = k
 
   -- where the brackets have been put behind what is kept before the first open level
-  outside_pushes : (base : ℕ) (w : List ℕ) (f : Form Tree) (new : Shown X) (c : Closers) (ps : List (Piece Tree)) → EachHeld IsKept [] f.levels → new.levels ≡ [] → AreClosers c ps → EachPiece IsKept base w new.outer (f.outer ++ ps) → IsPushedAs IsKept base w new None (push_all free ps f)
-  outside_pushes base w f new c ps h e (n, g, p) kept = here f.levels h
-    where
-      here : (ls : List (Level Tree)) → EachHeld IsKept [] ls → IsPushedAs IsKept base w new None (push_all free ps (record { outer = f.outer; levels = ls }))
-      here [] u = subst (IsPushedAs IsKept base w new None) (sym (ap (λ z. push_all free z (record { outer = f.outer; levels = [] })) p ∙ (closers_outside c.first c.second c.from (suc n) f.outer ∙ ap (λ z. further (record { outer = f.outer ++ z; levels = [] })) (sym p))))
-          (kept, subst (λ z. EachHeld IsKept z []) (sym e) tt)
-      here (l ∷ ls) u = absurd u
+  outside : (c : Closers) (ps fo : List (Piece Tree)) → AreClosers c ps → push_all free ps (record { outer = fo; levels = [] }) ≡ further (record { outer = fo ++ ps; levels = [] })
+  outside c ps fo (n, g, p) = rw p (closers_outside c.first c.second c.from (suc n) fo)
 
   -- the last item has become longer
   pub longer_pushes : (old new : Shown X) (q p r : Closers) → old.levels ≡ [] → last_of old.outer ≡ Some (ClosersPiece q) → IsLonger q p r
       → new ≡ show_as (slice_set old.outer (length old.outer - 1) (ClosersPiece r)) old.levels → PushesClosers IsKept old new None p
-  longer_pushes old new q p r e l longer d base w f ps h are = outside_pushes base w f new p ps (subst (λ z. EachHeld IsKept z f.levels) e h.1) (ap (λ z. z.levels) d ∙ e) are kept
+  longer_pushes old new q p r e l longer d base w f ps h are = outside_pushes IsKept base w old new None new.outer f ps e h.1 (ap (λ z. (show_as new.outer z, None)) (ap (λ z. z.levels) d ∙ e)) (outside p ps f.outer are) kept
     where
       front : List (CodePiece X)
       front = take (length old.outer - 1) old.outer
@@ -103,8 +97,7 @@ module _ {X : Type 0} (IsKept : X → Content → Type 0) where
 
   -- they stand alone
   pub kept_pushes : (old new : Shown X) (r : Option CodeHalt) (c : Closers) → old.levels ≡ [] → (new, r) ≡ kept_outside old.outer (ClosersPiece c) → PushesClosers IsKept old new r c
-  kept_pushes old new r c e d base w f ps h are = subst (λ a. IsPushedAs IsKept base w a.0 a.1 (push_all free ps f)) (sym d)
-      (outside_pushes base w f (show_as (old.outer ++ ClosersPiece c ∷ []) []) c ps (subst (λ z. EachHeld IsKept z f.levels) e h.1) refl are (pieces_append IsKept base w old.outer f.outer (ClosersPiece c) ps h.0 (inr are)))
+  kept_pushes old new r c e d base w f ps h are = outside_pushes IsKept base w old new r (old.outer ++ ClosersPiece c ∷ []) f ps e h.1 d (outside c ps f.outer are) (pieces_append IsKept base w old.outer f.outer (ClosersPiece c) ps h.0 (inr are))
 
   pub one_pushes : (old new : Shown X) (r : Option CodeHalt) (b : Bracket) (at : ℕ) (c : Closers) → c ≡ record { first = b; second = b; from = at; last = at } → PushesClosers IsKept old new r c → Pushes IsKept old new r (closes b at)
   one_pushes old new r b at c e pushes base w f h = only_one IsKept base w new r (push free f (closes b at))
@@ -119,9 +112,6 @@ module _ {X : Type 0} (IsKept : X → Content → Type 0) where
     pub order : c.from ≤ at
     pub items : IsOfItems IsKept new
     pub pushed : (base : ℕ) (w : List ℕ) (f : Form Tree) → IsShown IsKept base w old f → (k : Form Tree) × (push_all free (closers c.first c.second c.from (at - c.from)) f ≡ further k) × IsShown IsKept base w new k
-
-  pub closed_none : (old : Shown X) (c : Closers) → IsOfItems IsKept old → Closed old old c c.from
-  closed_none old c h = record { order = omega arith; items = h; pushed = λ base w f k. (f, (let e : c.from - c.from ≡ 0 = omega arith in ap (λ z. push_all free (closers c.first c.second c.from z) f) e), k) }
 
   -- the bracket b, whose turn it is, was pushed
   pub closed_on : (old new new2 : Shown X) (c : Closers) (b : Bracket) (at : ℕ) (r : Option CodeHalt) → b ≡ turn c.first c.second (at - c.from) → is_some r ≡ false → Closed old new c at → Pushes IsKept new new2 r (closes b at) → Closed old new2 c (at + 1)

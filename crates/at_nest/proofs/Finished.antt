@@ -1,6 +1,6 @@
 -- What the form of a whole text answers: the fold of its tree, or the end of the longest viable prefix.
 -- For `finish`, `finish_span`, `merge` and `run_block`.
-use Rattle.std.proofs.Common.{◌≡◌, ℕ, suc, ◌⊎◌, inl, inr, List, [], ◌∷◌, ◌++◌, Some, None, option_and_then, Bool, true, false, cond, ◌&&◌, refl, sym, ◌∙◌, ap, subst, arith, append_assoc, append-nil, ◌+◌, ◌<◌, ◌≤◌, length, length-append, take, drop, slice_index, take-append-drop, true≢false}
+use Rattle.std.proofs.Common.{◌≡◌, ℕ, ◌⊎◌, inl, inr, List, [], ◌∷◌, ◌++◌, Some, None, option_and_then, Bool, true, false, cond, ◌&&◌, refl, sym, ◌∙◌, ap, subst, arith, append_assoc, append-nil, ◌+◌, ◌<◌, ◌≤◌, length, length-append, take, drop, slice_index, take-append-drop, true≢false}
 use Rattle.std.proofs.lemmas.Bool.{not-true}
 use Rattle.std.proofs.Math.Seq.{take-append_seam, take-length, get_or-append_seam}
 use Rattle.std.proofs.lemmas.Option.{none-some, same_Some}
@@ -12,9 +12,9 @@ use Rattle.at_lex.specs.Strings.{Character}
 use Rattle.at_nest.specs.Tree.{text}
 use Rattle.at_nest.specs.Syntax.{JsonText}
 use Rattle.at_nest.proofs.TreeParts.{text_made}
-use Rattle.at_nest.proofs.JsonMachine.{State, Frame, in_array, in_object, value, items, members, name, colon, after, in_number, in_string, in_name, in_word, step, accepts, is_nil}
+use Rattle.at_nest.proofs.JsonMachine.{State, Frame, in_array, value, items, after, in_number, in_string, in_name, in_word, step, accepts, is_nil}
 use Rattle.at_nest.proofs.Accepted.{text_at, lives, Acc, accepted-JsonText}
-use Rattle.at_nest.specs.Forms.{Meaning, Mark, Piece, comma as a_comma, colon as a_colon, quoted, entry, opens, closes, mark, Formed}
+use Rattle.at_nest.specs.Forms.{Meaning, Mark, Piece, quoted, entry, opens, closes, mark, Formed}
 use Rattle.at_nest.proofs.Steps.{Settled, is_clear, settled_step, settled_still}
 use Rattle.at_nest.proofs.Values.{go, run_then}
 use Rattle.at_nest.specs.Walks.{an_opener, value_kind, text_kind, kind_of, at_of, next, walks, walk_on, Walk, reached, refused}
@@ -30,12 +30,7 @@ settled_accepts (in_number n st) t (p, e) = ap (λ c. c && is_nil st) p ∙ sym 
 settled_accepts (in_string n st) t (p, e) = ap (λ c. c && is_nil st) p ∙ sym (ap accepts e)
 settled_accepts (in_name n st) t (p, e) = sym (ap accepts e)
 settled_accepts (in_word w st) t (p, e) = ap (λ x. is_nil x && is_nil st) p ∙ sym (ap accepts e)
-settled_accepts (value st) t e = sym (ap accepts e)
-settled_accepts (items st) t e = sym (ap accepts e)
-settled_accepts (members st) t e = sym (ap accepts e)
-settled_accepts (name st) t e = sym (ap accepts e)
-settled_accepts (colon st) t e = sym (ap accepts e)
-settled_accepts (after st) t e = sym (ap accepts e)
+settled_accepts _ t e = sym (ap accepts e)
 
 no_word : (w : List ℕ) (n : ℕ) → n < length w → LongestViable (JsonText 0) w n → ¬ (JsonText 0) w
 no_word w n h l word = l.longest h (drop (n + 1) w, subst (JsonText 0) (sym (take-append-drop (n + 1) w)) word)
@@ -47,14 +42,11 @@ halted_answer m at i w h =
     let front : take n w ≡ h.before = ap (take n) h.split ∙ take-append_seam h.before (h.byte ∷ h.others) in
     let there : slice_index w n ≡ h.byte = ap (λ z. slice_index z n) h.split ∙ get_or-append_seam h.before h.byte h.others 0 in
     let size : length w ≡ length h.before + length (h.byte ∷ h.others) = ap (λ z. length z) h.split ∙ length-append h.before (h.byte ∷ h.others) in
-    let below : n < length w = below_of n (length w) (length h.others) size in
+    let below : n < length w = omega (arith, size) in
     let fits : n ≤ length w = omega (arith, below) in
     let t : TakesLongest (JsonText 0) w (record { len = n; whole = accepts h.last }) =
     text_at 0 h.last w n fits (ap (go (value [])) front ∙ h.goes) (λ k. ap (step h.last) there ∙ h.halts) in
     (n, h.place, below, t.longest, no_word w n below t.longest)
-  where
-    below_of : (n l k : ℕ) → l ≡ n + suc k → n < l
-    below_of n l k e = omega (arith, e)
 
 pub read_takes : (w : List ℕ) (t : State) → Reads (value []) t w → TakesLongest (JsonText 0) w (record { len = length w; whole = accepts t })
 read_takes w t h =
@@ -87,9 +79,7 @@ open_full (value st) t Square e = (st, sym (same_Some _ t e))
 open_full (value st) t Brace e = (st, sym (same_Some _ t e))
 open_full (items st) t Square e = (in_array ∷ st, sym (same_Some _ t e))
 open_full (items st) t Brace e = (in_array ∷ st, sym (same_Some _ t e))
-open_full (after []) t b e = absurd (none-some t e)
 open_full (after (in_array ∷ st)) t b e = absurd (none-some t e)
-open_full (after (in_object ∷ st)) t b e = absurd (none-some t e)
 open_full _ t b e = absurd (none-some t e)
 
 full_open : (md : Mode) (st : List Frame) → accepts (full md st) ≡ false
@@ -117,13 +107,11 @@ false_is t h k = absurd (true≢false (sym h ∙ k))
 one_of : {X : Type 0} (m : Meaning X) (outer : List (Piece X)) (t : State) → AreClosed outer → walks (value []) (outer ++ []) ≡ reached t → accepts t ≡ true → IsOne m (outer ++ [])
 one_of m [] t c e h = false_is t h (sym (ap accepts (reached_is (value []) t e)))
 one_of m (opens b i ∷ ps) t c e h = absurd c
-one_of m (closes b i ∷ ps) t c e h = absurd (no_walk i t e)
-one_of m (mark (a_comma i) ∷ ps) t c e h = absurd (no_walk i t e)
-one_of m (mark (a_colon i) ∷ ps) t c e h = absurd (no_walk i t e)
 one_of m (mark (quoted i cs) ∷ []) t c e h = inl (i, cs, refl)
 one_of m (mark (entry i x) ∷ []) t c e h = inr (i, x, refl)
 one_of m (mark (quoted i cs) ∷ (p ∷ ps)) t c e h = absurd (no_walk (at_of p) t e)
 one_of m (mark (entry i x) ∷ (p ∷ ps)) t c e h = absurd (no_walk (at_of p) t e)
+one_of m (p ∷ ps) t c e h = absurd (no_walk (at_of p) t e)
 
 whole_one : {X : Type 0} (m : Meaning X) (outer : List (Piece X)) (ls : List (Level X)) (t : State) → AreClosed outer → AreLevels ls → walks (value []) (outer ++ opened ls) ≡ reached t → accepts t ≡ true → IsOne m (outer ++ opened ls)
 whole_one m outer [] t c l e h = one_of m outer t c e h
@@ -244,7 +232,7 @@ place_halts m at w f i t h b v l e g =
 none_begun : {X : Type 0} (m : Meaning X) (at : ℕ) (w : List ℕ) (f : Form X) (i : SpanStop) (t : State) (h : Behind m at w f i t) → h.begun ≡ [] → Halted (value []) at w i.item
 none_begun m at w f i t h e =
     let split1 : w ≡ h.front ++ (h.byte ∷ h.others) = h.split ∙ ap (λ z. h.front ++ (z ++ (h.byte ∷ h.others))) e in
-    let place1 : i.place ≡ i.item = h.place ∙ (ap (λ z. i.item + length z) e ∙ nothing i.item) in
+    let place1 : i.place ≡ i.item = h.place ∙ (ap (λ z. i.item + length z) e ∙ (let n : i.item + 0 ≡ i.item = omega arith in n)) in
     record {
       before = h.front;
       byte = h.byte;
@@ -255,9 +243,6 @@ none_begun m at w f i t h e =
       goes = h.goes;
       halts = dead_stops at i.place w h.front h.byte h.others h.last h.dead split1 (place1 ∙ h.item) h.goes;
     }
-  where
-    nothing : (n : ℕ) → n + 0 ≡ n
-    nothing n = omega arith
 
 by_kind : {X : Type 0} (m : Meaning X) (at : ℕ) (w : List ℕ) (f : Form X) (i : SpanStop) (t : State) (h : Behind m at w f i t) (k : Within) → i.kind ≡ k → IsBegun k h.begun → Halted (value []) at w (halt_place t k i.item i.place)
 by_kind m at w f i t h at_first e g = none_begun m at w f i t h g

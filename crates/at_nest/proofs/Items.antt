@@ -1,14 +1,13 @@
 -- The items of a piece, read one by one: what has been read stands in a form, and what is left is with the reader.
 -- For `merge` and `run_block`.
-use Rattle.std.proofs.Common.{◌≡◌, ◌≢◌, ℕ, Option, Some, None, List, [], ◌∷◌, ◌++◌, Bool, true, false, not, ◌&&◌, IsTrue, refl, sym, ◌∙◌, ap, subst, arith, append_assoc, append-nil, ◌+◌, ◌-◌, ◌≤◌, ◌<◌, suc, length, length-append, take, drop, if◌then◌else◌}
+use Rattle.std.proofs.Common.{◌≡◌, ◌≢◌, ℕ, Option, Some, None, List, [], ◌∷◌, ◌++◌, true, false, not, ◌&&◌, IsTrue, refl, sym, ◌∙◌, ap, subst, arith, append_assoc, append-nil, ◌+◌, ◌-◌, ◌≤◌, ◌<◌, suc, length, length-append, take, drop, if◌then◌else◌}
 use Rattle.std.proofs.lemmas.Bool.{and_right}
 use Rattle.std.proofs.Math.Seq.{take-append_seam, drop-append_seam}
-use Rattle.std.specs.Bool.{⊤}
 use Rattle.at_text.specs.Texts.{is_run}
 use Rattle.at_lex.specs.Spans.{AreSpaces, opening, closing, end_of, begins_run, is_broken, IsKind, IsToken as IsLexed, IsPend as IsLexedPend}
 use Rattle.at_lex.specs.Stream.{Left, GivesItem, IsBegun}
 use Rattle.at_lex.specs.declared.tokens.Start.{Start}
-use Rattle.at_lex.specs.declared.tokens.Start.TheVariants.{Out, InString, InEscape}
+use Rattle.at_lex.specs.declared.tokens.Start.TheVariants.{Out}
 use Rattle.at_lex.specs.declared.tokens.Bracket.{Bracket}
 use Rattle.at_lex.specs.declared.tokens.Bracket.TheVariants.{Brace, Square}
 use Rattle.at_lex.specs.declared.tokens.Token.{Token}
@@ -34,7 +33,7 @@ use Rattle.at_nest.specs.Shown.{Shown, shown}
 use Rattle.at_nest.specs.KeptItems.{Content, free, IsShown, IsPushedAs, halt_of}
 use Rattle.at_nest.specs.Reading.{IsPlaced, ReadsToken, ReadsAhead, HasBytes, pend_from}
 use Rattle.at_nest.specs.VariantMeanings.{HoldsVariant, HoldsBehind}
-use Rattle.at_nest.proofs.Walks.{ends_append, spaces_apart}
+use Rattle.at_nest.proofs.Walks.{ends_append, spaces_end}
 use Rattle.at_nest.proofs.Joins.{apart_front, formed_append, formed_out, end_append}
 use Rattle.at_nest.proofs.Merges.{apart_last}
 use Rattle.at_nest.proofs.Unions.{ends_token, string_last, lead_out, closes_out}
@@ -55,8 +54,12 @@ one_byte : (v r : List ℕ) (b : ℕ) → v ≡ b ∷ [] → is_run b ≡ false 
 one_byte v r b e n = let f : ends_run v ≡ false = ap ends_run e ∙ n in record { first = b; others = []; some = e; apart = open_end v r f; ended = λ q. f }
 
 run_some : (v : List ℕ) → IsTrue (begins_run v) → (b : ℕ) × (o : List ℕ) × (v ≡ b ∷ o)
-run_some [] h = absurd (let P : Bool → Type 0 = λ z. elim z [ true ↦ ⊥ | false ↦ ⊤ ] in subst P h tt)
+run_some [] h = absurd (cc)
 run_some (b ∷ o) h = (b, o, refl)
+
+first_of : (w : List ℕ) → w ≢ [] → (b : ℕ) × (o : List ℕ) × (w ≡ b ∷ o)
+first_of [] k = absurd (k refl)
+first_of (b ∷ o) k = (b, o, refl)
 
 pub lexed_ends : (at : ℕ) (v r : List ℕ) (k : TokenKind) → is_broken k ≡ false → IsKind at v r k → EndsWell v r
 lexed_ends at v r (kinds.Opens Brace) n h = one_byte v r 0x7B h refl
@@ -68,24 +71,17 @@ lexed_ends at v r kinds.Colon n h = one_byte v r 0x3A h refl
 lexed_ends at v r kinds.Text n h = let (u, e, c) = h.0 in let f : ends_run v ≡ false = ap ends_run e ∙ string_last u c in record { first = 0x22; others = u; some = e; apart = open_end v r f; ended = λ q. f }
 lexed_ends at v r kinds.Run n h = let (b, o, e) = run_some v h.0.0.0 in
     record { first = b; others = o; some = e; apart = ap not (and_right (ends_run v) (begins_run r) (not-false (begins_run r) h.0.2)); ended = λ q. absurd (h.0.1 q) }
-lexed_ends at v r (kinds.Broken place) n h = absurd (let P : Bool → Type 0 = λ z. elim z [ true ↦ ⊤ | false ↦ ⊥ ] in subst P n tt)
+lexed_ends at v r (kinds.Broken place) n h = absurd (cc)
 
 -- ---- white space
 
-spaces_no_run : (a : List ℕ) (c : ℕ) (o : List ℕ) → a ≡ c ∷ o → AreSpaces a → ends_run a ≡ false
-spaces_no_run a c o e h = by_apart (ends_run a) (spaces_apart a (0x30 ∷ []) h)
-  where
-    by_apart : (b : Bool) → not (b && true) ≡ true → b ≡ false
-    by_apart false k = refl
-    by_apart true k = absurd (let P : Bool → Type 0 = λ z. elim z [ true ↦ ⊥ | false ↦ ⊤ ] in subst P k tt)
-
 apart_spaces : (x a y : List ℕ) → are_apart x (a ++ y) ≡ true → AreSpaces a → are_apart (x ++ a) y ≡ true
 apart_spaces x [] y h k = ap (λ z. are_apart z y) (append-nil x) ∙ h
-apart_spaces x (c ∷ a) y h k = open_end (x ++ (c ∷ a)) y (ends_append x c a ∙ spaces_no_run (c ∷ a) c a refl k)
+apart_spaces x (c ∷ a) y h k = open_end (x ++ (c ∷ a)) y (ends_append x c a ∙ spaces_end (c ∷ a) k)
 
 ended_spaces : (x a y : List ℕ) → (a ++ y ≡ [] → ends_run x ≡ false) → AreSpaces a → y ≡ [] → ends_run (x ++ a) ≡ false
 ended_spaces x [] y h k n = ap ends_run (append-nil x) ∙ h n
-ended_spaces x (c ∷ a) y h k n = ends_append x c a ∙ spaces_no_run (c ∷ a) c a refl k
+ended_spaces x (c ∷ a) y h k n = ends_append x c a ∙ spaces_end (c ∷ a) k
 
 spaces_form : (at : ℕ) (x a : List ℕ) (f : Form Tree) → IsForm free at x f → AreSpaces a → are_apart x a ≡ true → IsForm free at (x ++ a) f
 spaces_form at x a f h k e = record { formed = subst (Formed free at (x ++ a)) (append-nil (pieces_of f)) (formed_append free at x a (pieces_of f) [] h.formed k e); levels = h.levels }
@@ -174,25 +170,23 @@ module _ {X : Type 0} (IsKept : X → Content → Type 0) where
         out = ap (λ z. z.state) g.7;
       }
 
-  did_break : (base : ℕ) (w : List ℕ) (at : ℕ) (x r : List ℕ) (kept : Shown X) (i : CodeHalt) (o : Pushed Tree) → IsPushedAs IsKept base w kept (Some i) o → Ends free at x r o
-      → (k : Form Tree) × IsStop free at (x ++ r) k (halt_of i) × IsShown IsKept base w kept k
-  did_break base w at x r kept i (further k) h e = absurd h
-  did_break base w at x r kept i (stopped k j) h e = (k, subst (IsStop free at (x ++ r) k) (sym h.1) e, h.0)
+  did_break : (base : ℕ) (piece : List ℕ) (from lead : ℕ) (bytes x r : List ℕ) (body : Body X) (i : CodeHalt) (o : Pushed Tree) → IsPushedAs IsKept base piece (shown body) (Some i) o → Ends free from x r o → x ++ r ≡ bytes → HoldsBehind IsKept base piece from bytes lead (Broken lead body i)
+  did_break base piece from lead bytes x r body i (further k) h e all s u split l at at2 = absurd h
+  did_break base piece from lead bytes x r body i (stopped k j) h e all s u split l at at2 = record {
+    first = u;
+    form = k;
+    is_broken = record { more = bytes; split = split; lead = l; stop = subst (λ n. IsStop free n bytes k (halt_of i)) at (subst (λ z. IsStop free from z k (halt_of i)) all (subst (IsStop free from (x ++ r) k) (sym h.1) e)) };
+    is_shown = h.0;
+    lead_at = at2;
+  }
 
   -- a token at which the piece stops
   pub consumed_stop : (base : ℕ) (piece : List ℕ) (from lead : ℕ) (bytes : List ℕ) (body : Body X) (kept : Shown X) (old new : Left) (t : Token) (i : CodeHalt) → HasBytes base piece from bytes → Consumed base piece from bytes kept old → (g : GivesItem old (WholeItem t) new)
       → ReadsToken IsKept kept (shown body) (Some i) g.1 t → HoldsBehind IsKept base piece from bytes lead (Broken lead body i)
-  consumed_stop base piece from lead bytes body kept old new t i hb h g reads s u e l at at2 =
+  consumed_stop base piece from lead bytes body kept old new t i hb h g reads =
       let q = token_pushed base piece from bytes kept (shown body) old new t (Some i) hb h g reads in
-      let k = did_break base piece from ((h.read ++ g.0) ++ g.1) g.2 (shown body) i (merged free (further h.form) q.0) q.2 q.1 in
       let all : ((h.read ++ g.0) ++ g.1) ++ g.2 ≡ bytes = append_assoc (h.read ++ g.0) g.1 g.2 ∙ (append_assoc h.read g.0 (g.1 ++ g.2) ∙ (ap (λ z. h.read ++ z) (sym g.4) ∙ sym h.split)) in
-      record {
-        first = u;
-        form = k.0;
-        is_broken = record { more = bytes; split = e; lead = l; stop = subst (λ n. IsStop free n bytes k.0 (halt_of i)) at (subst (λ z. IsStop free from z k.0 (halt_of i)) all k.1) };
-        is_shown = k.2;
-        lead_at = at2;
-      }
+      did_break base piece from lead bytes ((h.read ++ g.0) ++ g.1) g.2 body i (merged free (further h.form) q.0) q.2 q.1 all
 
   -- ---- from a bracket on
 
@@ -222,10 +216,7 @@ module _ {X : Type 0} (IsKept : X → Content → Type 0) where
 
   behind_first : (v r w : List ℕ) (b : ℕ) → 0 < length v → b ∷ w ≡ v ++ r → (u : List ℕ) × (v ≡ b ∷ u) × (w ≡ u ++ r)
   behind_first [] r w b h e = absurd (omega (arith, h))
-  behind_first (c ∷ u) r w b h e = let (same, more) = heads c b w (u ++ r) e in (u, ap (λ z. z ∷ u) (sym same), more)
-    where
-      heads : (c b : ℕ) (w x : List ℕ) → b ∷ w ≡ c ∷ x → (b ≡ c) × (w ≡ x)
-      heads c b w x e = (cc, cc)
+  behind_first (c ∷ u) r w b h e = let same : b ≡ c = cc in (u, ap (λ z. z ∷ u) (sym same), cc)
 
   pub opens_byte : (old mid : Left) (t : Token) (b : Bracket) → t.kind ≡ kinds.Opens b → (g : GivesItem old (WholeItem t) mid) → g.1 ≡ opening b ∷ []
   opens_byte old mid t b k g = subst (IsKind (old.at + length g.0) g.1 g.2) k g.6.2
@@ -252,7 +243,7 @@ module _ {X : Type 0} (IsKept : X → Content → Type 0) where
       let f = whole_further base piece from ((h.read ++ g.0) ++ q.0) q.1 kept2 (merged free (further h.form) p.0) p.2 p.1 in
       let (out, low, high, dropped) = ahead_left old mid t b q.0 q.1 to k g one q.2 q.3 q.4 in
       let left : new.rest ≡ q.1 = ap (λ z. z.rest) n ∙ dropped in
-      let (c, u, some) = first_of q.0 q.4 in
+      let (c, u, some) = first_of q.0 (λ e. absurd (omega (arith, q.4, ap (λ z. length z) e))) in
       let last : ends_run ((h.read ++ g.0) ++ q.0) ≡ false = ap (λ z. ends_run ((h.read ++ g.0) ++ z)) some ∙ (ends_append (h.read ++ g.0) c u ∙ (ap ends_run (sym some) ∙ q.5)) in
       record {
         read = (h.read ++ g.0) ++ q.0;
@@ -265,24 +256,13 @@ module _ {X : Type 0} (IsKept : X → Content → Type 0) where
         place = ap (λ z. z.at) n ∙ omega (arith, q.3, g.6.0, h.place, length-append (h.read ++ g.0) q.0, length-append h.read g.0);
         out = ap (λ z. z.state) n;
       }
-    where
-      first_of : (v : List ℕ) → 0 < length v → (c : ℕ) × (u : List ℕ) × (v ≡ c ∷ u)
-      first_of [] i = absurd (omega (arith, i))
-      first_of (c ∷ u) i = (c, u, refl)
 
   pub consumed_ahead_stop : (base : ℕ) (piece : List ℕ) (from lead : ℕ) (bytes : List ℕ) (body : Body X) (kept : Shown X) (old mid : Left) (t : Token) (i : CodeHalt) (to : ℕ) → Consumed base piece from bytes kept old → (g : GivesItem old (WholeItem t) mid)
       → ReadsAhead IsKept kept (shown body) (Some i) t.from (g.1 ++ g.2) to → HoldsBehind IsKept base piece from bytes lead (Broken lead body i)
-  consumed_ahead_stop base piece from lead bytes body kept old mid t i to h g q s u e l at at2 =
+  consumed_ahead_stop base piece from lead bytes body kept old mid t i to h g q =
       let p = ahead_pushed base piece from bytes kept (shown body) old mid t (Some i) to h g q in
-      let k = did_break base piece from ((h.read ++ g.0) ++ q.0) q.1 (shown body) i (merged free (further h.form) p.0) p.2 p.1 in
       let all : ((h.read ++ g.0) ++ q.0) ++ q.1 ≡ bytes = append_assoc (h.read ++ g.0) q.0 q.1 ∙ (append_assoc h.read g.0 (q.0 ++ q.1) ∙ (ap (λ z. h.read ++ z) (sym (g.4 ∙ ap (λ z. g.0 ++ z) q.2)) ∙ sym h.split)) in
-      record {
-        first = u;
-        form = k.0;
-        is_broken = record { more = bytes; split = e; lead = l; stop = subst (λ n. IsStop free n bytes k.0 (halt_of i)) at (subst (λ z. IsStop free from z k.0 (halt_of i)) all k.1) };
-        is_shown = k.2;
-        lead_at = at2;
-      }
+      did_break base piece from lead bytes ((h.read ++ g.0) ++ q.0) q.1 body i (merged free (further h.form) p.0) p.2 p.1 all
 
   pending_is : (at : ℕ) (v : List ℕ) (p : Pend) → IsLexedPend at v p → IsPending v
   pending_is at v pends.Nothing h = none_pending h
@@ -324,8 +304,7 @@ module _ {X : Type 0} (IsKept : X → Content → Type 0) where
 
 pub begun_text : (s : Start) (base : ℕ) (piece : List ℕ) (n : ℕ) (left : Left) → IsBegun s base piece (leads.TextEnds n) left → HasBytes base piece left.at left.rest × (left.state ≡ Out)
 begun_text Out base piece n left (u, e, l, i, q) = absurd l
-begun_text InString base piece n left (u, e, l, i, q) = ((u, e, i), q ∙ closes_out InString u l.1)
-begun_text InEscape base piece n left (u, e, l, i, q) = ((u, e, i), q ∙ closes_out InEscape u l.1)
+begun_text s base piece n left (u, e, l, i, q) = ((u, e, i), q ∙ closes_out s u l.1)
 
 -- ---- the variants
 
@@ -337,19 +316,12 @@ module _ {X : Type 0} (IsKept : X → Content → Type 0) where
       ends_here : (rest : List ℕ) → IsTrue (not (begins_run rest)) → rest ≢ [] → IsLeadEnd Out [] rest
       ends_here [] k m = absurd (m refl)
       ends_here (b ∷ o) k m = (tt, not-false (begins_run (b ∷ o)) k, b, o, refl)
-  behind_nothing InString base piece left v (u, e, l, i, q) n h = absurd l
-  behind_nothing InEscape base piece left v (u, e, l, i, q) n h = absurd l
+  behind_nothing _ base piece left v (u, e, l, i, q) n h = absurd l
 
   pub behind_run : (s : Start) (base : ℕ) (piece : List ℕ) (n : ℕ) (left : Left) (v : Variant X) → IsBegun s base piece (leads.RunEnds n) left → HoldsBehind IsKept base piece left.at left.rest n v → HoldsVariant IsKept s base piece v
-  behind_run Out base piece n left v (u, e, l, i, q) h = let c = some_left left.rest l.1.1 in h Out u e (l.1.0.1, not-false (begins_run left.rest) l.1.2, c.0, c.1, c.2) i l.0
-    where
-      some_left : (w : List ℕ) → w ≢ [] → (b : ℕ) × (o : List ℕ) × (w ≡ b ∷ o)
-      some_left [] k = absurd (k refl)
-      some_left (b ∷ o) k = (b, o, refl)
-  behind_run InString base piece n left v (u, e, l, i, q) h = absurd l
-  behind_run InEscape base piece n left v (u, e, l, i, q) h = absurd l
+  behind_run Out base piece n left v (u, e, l, i, q) h = let c = first_of left.rest l.1.1 in h Out u e (l.1.0.1, not-false (begins_run left.rest) l.1.2, c.0, c.1, c.2) i l.0
+  behind_run _ base piece n left v (u, e, l, i, q) h = absurd l
 
   pub behind_text : (s : Start) (base : ℕ) (piece : List ℕ) (n : ℕ) (left : Left) (v : Variant X) → IsBegun s base piece (leads.TextEnds n) left → HoldsBehind IsKept base piece left.at left.rest n v → HoldsVariant IsKept s base piece v
   behind_text Out base piece n left v (u, e, l, i, q) h = absurd l
-  behind_text InString base piece n left v (u, e, l, i, q) h = h InString u e l.1 i l.0
-  behind_text InEscape base piece n left v (u, e, l, i, q) h = h InEscape u e l.1 i l.0
+  behind_text s base piece n left v (u, e, l, i, q) h = h s u e l.1 i l.0

@@ -7,13 +7,13 @@ use Rattle.at_text.specs.Prefix.{Viable}
 use Rattle.at_text.specs.Texts.{is_space}
 use Rattle.at_lex.specs.declared.tokens.Start.{Start}
 use Rattle.at_lex.specs.declared.tokens.Start.TheVariants.{Out}
-use Rattle.at_lex.specs.declared.tokens.Bracket.TheVariants.{Brace, Square}
+use Rattle.at_lex.specs.declared.tokens.Bracket.TheVariants.{Square}
 use Rattle.at_lex.specs.Spans.{AreSpaces, begins_run, after_byte, end_of}
 use Rattle.at_nest.specs.Syntax.{JsonText}
 use Rattle.at_nest.proofs.JsonMachine.{State, value, after, step}
 use Rattle.at_nest.proofs.Accepted.{Acc, accepted-JsonText}
 use Rattle.at_nest.specs.Borders.{ends_run, are_apart}
-use Rattle.at_nest.specs.Forms.{Meaning, Piece, comma as a_comma, colon as a_colon, quoted, entry, opens, closes, mark, IsPiece, Formed}
+use Rattle.at_nest.specs.Forms.{Meaning, Piece, quoted, entry, opens, closes, mark, IsPiece, Formed}
 use Rattle.at_nest.proofs.Values.{go, Enters, value_enters, value_at, string_enters}
 use Rattle.at_nest.proofs.Walks.{ends_append, apart_more}
 use Rattle.at_nest.proofs.PieceSteps.{piece_first}
@@ -118,14 +118,11 @@ enters_out : (v : List ℕ) → Enters [] v → end_of Out v ≡ Out
 enters_out v h = settled_out h.last (after []) h.settled (end_of Out v) (at_run (value []) h.last v Out refl (ap (go (value [])) (sym (append-nil v)) ∙ value_at [] v [] h))
 
 piece_out : {X : Type 0} (m : Meaning X) (at : ℕ) (v : List ℕ) (p : Piece X) → IsPiece m at v p → end_of Out v ≡ Out
-piece_out m at v (opens Square i) (f, e) = ap (end_of Out) e
-piece_out m at v (opens Brace i) (f, e) = ap (end_of Out) e
-piece_out m at v (closes Square i) (f, e) = ap (end_of Out) e
-piece_out m at v (closes Brace i) (f, e) = ap (end_of Out) e
-piece_out m at v (mark (a_comma i)) (f, e) = ap (end_of Out) e
-piece_out m at v (mark (a_colon i)) (f, e) = ap (end_of Out) e
 piece_out m at v (mark (quoted i cs)) (f, (k, e)) = enters_out v (string_enters [] v (cs, k, e))
 piece_out m at v (mark (entry i x)) (f, y, sp, n, e) = enters_out v (value_enters y [] at v sp)
+piece_out m at v (opens Square i) h = ap (end_of Out) h.1
+piece_out m at v (closes Square i) h = ap (end_of Out) h.1
+piece_out m at v _ h = ap (end_of Out) h.1
 
 pub formed_out : {X : Type 0} (m : Meaning X) (at : ℕ) (w : List ℕ) (ps : List (Piece X)) → Formed m at w ps → end_of Out w ≡ Out
 formed_out m at w [] f = spaces_out w f
@@ -148,17 +145,7 @@ viable_runs w (v, h) = let (t, e, k) = accepted_run (value []) w v ((accepted-Js
 
 -- ---- two splits at one place
 
-tail_or : List ℕ → List ℕ
-tail_or [] = []
-tail_or (b ∷ w) = w
-
-head_or : List ℕ → ℕ
-head_or [] = 0
-head_or (b ∷ w) = b
-
 pub same_split : (x y : List ℕ) (a b : ℕ) (u v : List ℕ) → x ++ (a ∷ u) ≡ y ++ (b ∷ v) → length x ≡ length y → (x ≡ y) × (a ≡ b)
-unfolding tail_or head_or
-same_split [] [] a b u v e h = (refl, ap head_or e)
-same_split [] (d ∷ y) a b u v e h = absurd (omega (arith, h))
-same_split (c ∷ x) [] a b u v e h = absurd (omega (arith, h))
-same_split (c ∷ x) (d ∷ y) a b u v e h = let (f, g) = same_split x y a b u v (ap tail_or e) (omega (arith, h)) in (ap (λ z. z ∷ x) (ap head_or e) ∙ ap (λ z. d ∷ z) f, g)
+same_split [] [] a b u v e h = (refl, cc)
+same_split (c ∷ x) (d ∷ y) a b u v e h = let rest : x ++ (a ∷ u) ≡ y ++ (b ∷ v) = cc in let (f, g) = same_split x y a b u v rest (omega (arith, h)) in (cc, g)
+same_split _ _ a b u v e h = absurd (omega (arith, h))

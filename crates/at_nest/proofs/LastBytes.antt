@@ -172,9 +172,5 @@ module _ {X : Type 0} (K : X → Content → Type 0) where
           (told K at (x ++ v) (finished free (stopped k (halt_of i))) (Err (stop_of (next_of new) i)) (subst (λ m. IsAnswer free at (x ++ v) (finished free (stopped k m))) (sym z.1) answer) (stop_tells K at (x ++ v) new k i z.0 q.form.levels))
       by_result _ _ q z answer on off = absurd z
 
-  -- want of memory says nothing
-  pub ends_refused : (s : Shown X) (from : ℕ) (v : List ℕ) (r : Result X NestEnd) (end : NestEnd) → r ≡ Err end → end ≡ Memory → EndsSo K s from v r
-  ends_refused s from v r end e f at x g h form apart place = subst (Answers K at (x ++ v)) (sym (e ∙ ap Err f)) tt
-
 pub same_halt : (h i : CodeHalt) → ◌≡◌ {A = Option CodeHalt} (Some h) (Some i) → h ≡ i
 same_halt h i e = same_Some h i e

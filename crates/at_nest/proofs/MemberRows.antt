@@ -20,17 +20,17 @@ use Rattle.at_nest.specs.declared.pieces.MemberRow.{MemberRow}
 use Rattle.at_nest.specs.declared.pieces.Awaited.{Awaited}
 use Rattle.at_nest.specs.declared.pieces.SpanStop.{SpanStop as CodeHalt}
 use Rattle.at_nest.specs.Tree.{Tree, text}
-use Rattle.at_nest.specs.Forms.{Mark, Piece, opens, mark, comma, colon, quoted, entry}
-use Rattle.at_nest.specs.Walks.{comma_kind, colon_kind, text_kind}
+use Rattle.at_nest.specs.Forms.{Mark, Piece, mark, comma, colon, quoted}
+use Rattle.at_nest.specs.Walks.{colon_kind, text_kind}
 use Rattle.at_nest.specs.Levels.{Mode, at_name, at_member, at_further, Level, pairs_in, marks, move, moves, further, with_mark, push_mark, push_all, push_then}
 use Rattle.at_nest.specs.Shown.{Held, held_of, array_level, object_level, Shown, show_as, kept_outside, put_back, comma_next, stop_at}
 use Rattle.at_nest.specs.MemberMarks.{ValueMark, string_value, other_value, mark_of, tree_of, MemberMarks, marks_behind_comma, member_marks, member_pairs, Awaits}
-use Rattle.at_nest.specs.KeptItems.{Content, one, free, pending_in, EachMember, IsNamed, IsHeld, EachHeld, IsHeldPiece, EachNamed, AreMembers, ArePieces, EachPiece, IsPushedAs, IsTextAt, IsPartOf, AddsTo, CanAdd, Adds, PushesKeptText, PushesMember, PushesAwaited, PushesMembers, BeginsMembers, LengthensMembers, HasMembers, HasName, NamesMember, GainsMembers, IsBehindComma, PutsMembers}
-use Rattle.at_nest.proofs.Held.{with_one, IsMoved, comma_moves, text_moves, pairs_append, pending_append, each_member_append}
+use Rattle.at_nest.specs.KeptItems.{Content, one, free, pending_in, EachMember, IsNamed, IsHeld, EachHeld, EachNamed, AreMembers, ArePieces, EachPiece, IsPushedAs, IsTextAt, IsPartOf, AddsTo, CanAdd, Adds, PushesKeptText, PushesMember, PushesAwaited, PushesMembers, BeginsMembers, LengthensMembers, HasMembers, HasName, NamesMember, GainsMembers, IsBehindComma, PutsMembers}
+use Rattle.at_nest.proofs.Held.{with_one, IsMoved, text_moves, none_of, value_pairs, value_pending, pairs_append, pending_append, each_member_append}
 use Rattle.at_nest.proofs.Pushes.{marks_append}
 use Rattle.at_nest.proofs.Joining.{push_marks}
-use Rattle.at_nest.proofs.Showing.{pieces_append, pieces_cut}
-use Rattle.at_nest.proofs.Rows.{push_outside, is_comma}
+use Rattle.at_nest.proofs.Showing.{pieces_append, pieces_cut, outside_pushes}
+use Rattle.at_nest.proofs.Rows.{push_outside, marks_outside, is_comma, comma_put, comma_refused}
 use Rattle.at_nest.proofs.OwnItems.{named_cut, named_append}
 
 -- ---- the marks of members
@@ -43,17 +43,9 @@ behind_moves : (e : MemberMarks) (es : List MemberMarks) → moves at_name (mark
 behind_moves e [] = value_moves_on e.value []
 behind_moves e (g ∷ es) = value_moves_on e.value (member_marks (g ∷ es)) ∙ behind_moves g es
 
-value_pairs : (v : ValueMark) (p : List Character × ℕ) (xs : List (Mark Tree)) → pairs_in free (Some p) (mark_of v ∷ xs) ≡ (p.0, p.1, tree_of v) ∷ pairs_in free None xs
-value_pairs (string_value i cs) p xs = refl
-value_pairs (other_value i t) p xs = refl
-
 behind_pairs : (e : MemberMarks) (es : List MemberMarks) → pairs_in free None (marks_behind_comma e (member_marks es)) ≡ member_pairs (e ∷ es)
 behind_pairs e [] = value_pairs e.value (e.characters, e.name_at) []
 behind_pairs e (g ∷ es) = value_pairs e.value (e.characters, e.name_at) (member_marks (g ∷ es)) ∙ ap (λ z. (e.characters, e.name_at, tree_of e.value) ∷ z) (behind_pairs g es)
-
-value_pending : (v : ValueMark) (p : List Character × ℕ) (xs : List (Mark Tree)) → pending_in (Some p) (mark_of v ∷ xs) ≡ pending_in None xs
-value_pending (string_value i cs) p xs = refl
-value_pending (other_value i t) p xs = refl
 
 behind_pending : (e : MemberMarks) (es : List MemberMarks) → pending_in None (marks_behind_comma e (member_marks es)) ≡ None
 behind_pending e [] = value_pending e.value (e.characters, e.name_at) []
@@ -68,34 +60,19 @@ pairs_more [] gs = refl
 pairs_more (e ∷ es) gs = ap (λ z. (e.characters, e.name_at, tree_of e.value) ∷ z) (pairs_more es gs)
 
 module _ {X : Type 0} (IsKept : X → Content → Type 0) where
-  no_members : (r : MemberRow X) (base : ℕ) (w : List ℕ) (p : Piece Tree) → IsHeldPiece IsKept base w (MembersPiece r) p → ⊥
-  no_members r base w (opens b j) u = u
-  no_members r base w _ u = u
 
   are_members : (r : MemberRow X) (base : ℕ) (w : List ℕ) (ps : List (Piece Tree)) → ArePieces IsKept base w (MembersPiece r) ps → AreMembers IsKept base w r ps
-  are_members r base w ps (inl (p, e, h)) = absurd (no_members r base w p h)
+  are_members r base w ps (inl (p, e, h)) = absurd h
   are_members r base w ps (inr h) = h
 
   is_colon : (c : ℕ) (base : ℕ) (w : List ℕ) (ps : List (Piece Tree)) → ArePieces IsKept base w (Colon c) ps → ps ≡ mark (colon c) ∷ []
-  is_colon c base w ps (inl (p, e, h)) = e ∙ ap (λ z. z ∷ []) (one_colon p h)
-    where
-      one_colon : (p : Piece Tree) → IsHeldPiece IsKept base w (Colon c) p → p ≡ mark (colon c)
-      one_colon (mark (colon j)) h = ap (λ n. mark (colon n)) (sym h)
-      one_colon (mark (comma j)) h = absurd h
-      one_colon (mark (quoted j cs)) h = absurd h
-      one_colon (mark (entry j t)) h = absurd h
-      one_colon _ h = absurd h
+  is_colon c base w ps (inl (mark (colon j), e, h)) = e ∙ ap (λ n. mark (colon n) ∷ []) (sym h)
+  is_colon c base w ps (inl (_, e, h)) = absurd h
   is_colon c base w ps (inr h) = absurd h
 
   is_text : (span : Span) (x : X) (base : ℕ) (w : List ℕ) (ps : List (Piece Tree)) → ArePieces IsKept base w (Text span x) ps → (cs : List Character) × (ps ≡ mark (quoted span.from cs) ∷ []) × IsTextAt base w span cs
-  is_text span x base w ps (inl (p, e, h)) = one_text p e h
-    where
-      one_text : (p : Piece Tree) → ps ≡ p ∷ [] → IsHeldPiece IsKept base w (Text span x) p → (cs : List Character) × (ps ≡ mark (quoted span.from cs) ∷ []) × IsTextAt base w span cs
-      one_text (mark (quoted j cs)) e h = (cs, e ∙ ap (λ n. mark (quoted n cs) ∷ []) (sym h.0), h.1)
-      one_text (mark (comma j)) e h = absurd h
-      one_text (mark (colon j)) e h = absurd h
-      one_text (mark (entry j t)) e h = absurd h
-      one_text _ e h = absurd h
+  is_text span x base w ps (inl (mark (quoted j cs), e, h)) = (cs, e ∙ ap (λ n. mark (quoted n cs) ∷ []) (sym h.0), h.1)
+  is_text span x base w ps (inl (_, e, h)) = absurd h
   is_text span x base w ps (inr h) = absurd h
 
   -- ---- before the first open level
@@ -104,21 +81,19 @@ module _ {X : Type 0} (IsKept : X → Content → Type 0) where
   marks_of m cs v = record { comma_at = m.comma; name_at = m.name.from; characters = cs; colon_at = m.colon; value = v }
 
   pub members_begun : (old old2 new : Shown X) (r : Option CodeHalt) (m : Awaited) (x : X) → old.levels ≡ [] → old2.outer ≡ old.outer → BeginsMembers old2 (new, r) m x → PushesMember IsKept old new r m x
-  members_begun old old2 new r m x e e2 (s, ec, ek, es, d) base w f cs v h t k = subst (λ a. IsPushedAs IsKept base w a.0 a.1 (push_all free (marks (member_marks (marks_of m cs v ∷ []))) f)) (sym d) (here f.levels (subst (λ z. EachHeld IsKept z f.levels) e h.1))
-    where
-      named : EachNamed IsKept base w s.items.items (marks_of m cs v ∷ [])
-      named = subst (λ z. EachNamed IsKept base w z (marks_of m cs v ∷ [])) (sym es) (refl, t, k, tt)
-
-      here : (ls : List (Level Tree)) → EachHeld IsKept [] ls → IsPushedAs IsKept base w (show_as (old2.outer ++ MembersPiece s ∷ []) []) None (push_all free (marks (member_marks (marks_of m cs v ∷ []))) (record { outer = f.outer; levels = ls }))
-      here [] u = subst (IsPushedAs IsKept base w (show_as (old2.outer ++ MembersPiece s ∷ []) []) None) (sym (push_outside (member_marks (marks_of m cs v ∷ [])) f.outer)) (
-        pieces_append IsKept base w old2.outer f.outer (MembersPiece s) (marks (member_marks (marks_of m cs v ∷ []))) (subst (λ z. EachPiece IsKept base w z f.outer) (sym e2) h.0)
-            (inr (record { first = marks_of m cs v; others = []; split = refl; comma_is = ec; colon_is = ek; items = named })),
-        tt,
-      )
-      here (l ∷ ls) u = absurd u
+  members_begun old old2 new r m x e e2 (s, ec, ek, es, d) base w f cs v h t k = let xs : List (Mark Tree) = member_marks (marks_of m cs v ∷ []) in
+      outside_pushes IsKept base w old new r (old2.outer ++ MembersPiece s ∷ []) f (marks xs) e h.1 d (push_outside xs f.outer)
+      (pieces_append IsKept base w old2.outer f.outer (MembersPiece s) (marks xs) (subst (λ z. EachPiece IsKept base w z f.outer) (sym e2) h.0) (inr (record {
+        first = marks_of m cs v;
+        others = [];
+        split = refl;
+        comma_is = ec;
+        colon_is = ek;
+        items = subst (λ z. EachNamed IsKept base w z (marks_of m cs v ∷ [])) (sym es) (refl, t, k, tt);
+      })))
 
   pub members_longer : (old old2 new : Shown X) (r : Option CodeHalt) (before : MemberRow X) (m : Awaited) (x : X) → old.levels ≡ [] → old.outer ≡ old2.outer ++ MembersPiece before ∷ [] → LengthensMembers old2 (new, r) before (record { name = m.name; value = x }) → PushesMember IsKept old new r m x
-  members_longer old old2 new r before m x e e2 (row, ec, ek, es, d) base w f cs v h t k = subst (λ a. IsPushedAs IsKept base w a.0 a.1 (push_all free more f)) (sym d) (here f.levels (subst (λ z. EachHeld IsKept z f.levels) e h.1))
+  members_longer old old2 new r before m x e e2 (row, ec, ek, es, d) base w f cs v h t k = outside_pushes IsKept base w old new r (old2.outer ++ MembersPiece row ∷ []) f more e h.1 d (push_outside (member_marks (marks_of m cs v ∷ [])) f.outer) kept
     where
       more : List (Piece Tree)
       more = marks (member_marks (marks_of m cs v ∷ []))
@@ -135,10 +110,6 @@ module _ {X : Type 0} (IsKept : X → Content → Type 0) where
             colon_is = ek ∙ q.colon_is;
             items = subst (λ z. EachNamed IsKept base w z (q.first ∷ (q.others ++ marks_of m cs v ∷ []))) (sym es) (named_append IsKept base w before.items.items (record { name = m.name; value = x }) (q.first ∷ q.others) (marks_of m cs v) q.items (refl, t, k, tt));
           })))
-
-      here : (ls : List (Level Tree)) → EachHeld IsKept [] ls → IsPushedAs IsKept base w (show_as (old2.outer ++ MembersPiece row ∷ []) []) None (push_all free more (record { outer = f.outer; levels = ls }))
-      here [] u = subst (IsPushedAs IsKept base w (show_as (old2.outer ++ MembersPiece row ∷ []) []) None) (sym (push_outside (member_marks (marks_of m cs v ∷ [])) f.outer)) (kept, tt)
-      here (l ∷ ls) u = absurd u
 
   -- a value, where a comma, a name and a colon were the last
   pub member_behind : (old old2 new : Shown X) (r : Option CodeHalt) (m : Awaited) (y x : X) → old.levels ≡ [] → old2.levels ≡ [] → old.outer ≡ old2.outer ++ (Comma m.comma ∷ (Text m.name y ∷ (Colon m.colon ∷ []))) → PushesMember IsKept old2 new r m x → PushesAwaited IsKept old new r x
@@ -168,26 +139,17 @@ module _ {X : Type 0} (IsKept : X → Content → Type 0) where
       here (l ∷ ls) u = absurd u
 
   pub members_outside : (bytes : List ℕ) (old new : Shown X) (r : Option CodeHalt) (row : MemberRow X) (outer : List (CodePiece X)) → old.levels ≡ [] → old.outer ≡ outer → (new, r) ≡ kept_outside outer (MembersPiece row) → PushesMembers IsKept bytes old new r row
-  members_outside bytes old new r row outer e e2 d base w f ps part h k = subst (λ a. IsPushedAs IsKept base w a.0 a.1 (push_all free ps f)) (sym d) (here f.levels (subst (λ z. EachHeld IsKept z f.levels) e h.1))
-    where
-      here : (ls : List (Level Tree)) → EachHeld IsKept [] ls → IsPushedAs IsKept base w (show_as (outer ++ MembersPiece row ∷ []) []) None (push_all free ps (record { outer = f.outer; levels = ls }))
-      here [] u = let xs : List (Mark Tree) = member_marks (k.first ∷ k.others) in
-          subst (IsPushedAs IsKept base w (show_as (outer ++ MembersPiece row ∷ []) []) None) (sym (ap (λ z. push_all free z (record { outer = f.outer; levels = [] })) k.split ∙ (push_outside xs f.outer ∙ ap (λ z. further (record { outer = f.outer ++ z; levels = [] })) (sym k.split))))
-          (pieces_append IsKept base w outer f.outer (MembersPiece row) ps (subst (λ z. EachPiece IsKept base w z f.outer) e2 h.0) (inr k), tt)
-      here (l ∷ ls) u = absurd u
+  members_outside bytes old new r row outer e e2 d base w f ps part h k = outside_pushes IsKept base w old new r (outer ++ MembersPiece row ∷ []) f ps e h.1 d (marks_outside ps (member_marks (k.first ∷ k.others)) f.outer k.split)
+      (pieces_append IsKept base w outer f.outer (MembersPiece row) ps (subst (λ z. EachPiece IsKept base w z f.outer) e2 h.0) (inr k))
 
   -- ---- in a level
-
-  named_comma : (o : Option (List Character × ℕ)) → IsNamed IsKept object.Comma o → o ≡ None
-  named_comma None h = refl
-  named_comma (Some p) h = absurd h
 
   -- an object goes on with all of them
   pub members_in_object : (bytes : List ℕ) (old new : Shown X) (r : Option CodeHalt) (j at : ℕ) (s : ObjectState) (ms all : List (Member X)) (row : MemberRow X) → IsBehindComma (object_level j s ms) → GainsMembers IsKept bytes ms row.items.items all
       → (new, r) ≡ put_back old.outer old.levels at (object_level j s ms) (Some (object_level j object.Value all)) → PutsMembers IsKept bytes old new r (object_level j s ms) row
   members_in_object bytes old new r j at object.Comma ms all row b gains d base w fo l ls e es part ho k hl ek named =
       let xs : List (Mark Tree) = marks_behind_comma e (member_marks es) in
-      let none : pending_in None l.inside ≡ None = named_comma (pending_in None l.inside) k.4 in
+      let none : pending_in None l.inside ≡ None = none_of IsKept object.Comma (pending_in None l.inside) refl k.4 in
       let on : moves l.mode xs ≡ Some at_further = ap (λ z. moves z xs) k.2 ∙ behind_moves e es in
       let pairs : pairs_in free None (l.inside ++ xs) ≡ pairs_in free None l.inside ++ member_pairs (e ∷ es) = pairs_append None l.inside xs ∙ ap (λ z. pairs_in free None l.inside ++ z) (ap (λ o. pairs_in free o xs) none ∙ behind_pairs e es) in
       let pending : pending_in None (l.inside ++ xs) ≡ None = pending_append None l.inside xs ∙ (ap (λ o. pending_in o xs) none ∙ behind_pending e es) in
@@ -223,55 +185,22 @@ module _ {X : Type 0} (IsKept : X → Content → Type 0) where
           → IsPushedAs IsKept base w (show_as old.outer (array_level j array.Value ys ∷ old.levels)) (Some (stop_at row.colon)) (push_then (push_all free (mark (colon row.colon) ∷ rest)) (with_mark fo ls l (quoted m.name.from e.characters) o))
       by_move rest None v = absurd v
       by_move rest (Some md) v = colon_stops base w old.outer old.levels fo ls j row.colon ys (with_one l (quoted m.name.from e.characters) md) rest ho hl v
-  members_in_array bytes old new r j array.Empty xs x m row l2 b first is adds d base w fo l ls e es part ho k hl ek named = absurd b
-  members_in_array bytes old new r j array.Value xs x m row l2 b first is adds d base w fo l ls e es part ho k hl ek named = absurd b
+  members_in_array bytes old new r j _ xs x m row l2 b first is adds d base w fo l ls e es part ho k hl ek named = absurd b
+
+  behind_comma : (base : ℕ) (w : List ℕ) (row : MemberRow X) (ps : List (Piece Tree)) (q : AreMembers IsKept base w row ps) → ps ≡ mark (comma row.comma) ∷ marks (marks_behind_comma q.first (member_marks q.others))
+  behind_comma base w row ps q = q.split ∙ ap (λ n. mark (comma n) ∷ marks (marks_behind_comma q.first (member_marks q.others))) (sym q.comma_is)
 
   -- a level that takes no comma
   pub members_refused : (bytes : List ℕ) (old new : Shown X) (r : Option CodeHalt) (outer : List (CodePiece X)) (hs : List (Held X)) (h : Held X) (row : MemberRow X) → old.levels ≡ h ∷ hs → old.outer ≡ outer → comma_next h ≡ None → (new, r) ≡ put_back outer hs row.comma h None → PushesMembers IsKept bytes old new r row
-  members_refused bytes old new r outer hs h row e e2 c d base w f ps part k q = subst (λ a. IsPushedAs IsKept base w a.0 a.1 (push_all free ps f)) (sym d) (here f.levels (subst (λ z. EachHeld IsKept z f.levels) e k.1))
-    where
-      rest : List (Piece Tree)
-      rest = marks (marks_behind_comma q.first (member_marks q.others))
-
-      here : (ls : List (Level Tree)) → EachHeld IsKept (h ∷ hs) ls → IsPushedAs IsKept base w (show_as outer (h ∷ hs)) (Some (stop_at row.comma)) (push_all free ps (record { outer = f.outer; levels = ls }))
-      here [] u = absurd u
-      here (l ∷ ls) u = subst (λ z. IsPushedAs IsKept base w (show_as outer (h ∷ hs)) (Some (stop_at row.comma)) (push_all free z (record { outer = f.outer; levels = l ∷ ls }))) (sym (q.split ∙ ap (λ n. mark (comma n) ∷ rest) (sym q.comma_is)))
-          (by_move (move l.mode comma_kind) (subst (λ z. IsMoved IsKept z (move l.mode comma_kind) l (comma row.comma)) c (comma_moves IsKept h l row.comma u.0)))
-        where
-          by_move : (m : Option Mode) → IsMoved IsKept None m l (comma row.comma) → IsPushedAs IsKept base w (show_as outer (h ∷ hs)) (Some (stop_at row.comma)) (push_then (push_all free rest) (with_mark f.outer ls l (comma row.comma) m))
-          by_move None v = ((subst (λ z. EachPiece IsKept base w z f.outer) e2 k.0, u), refl)
-          by_move (Some md) v = absurd v
+  members_refused bytes old new r outer hs h row e e2 c d base w f ps part k q = subst (λ z. IsPushedAs IsKept base w new r (push_all free z f)) (sym (behind_comma base w row ps q))
+      (comma_refused IsKept base w old new r outer hs h row.comma f (marks (marks_behind_comma q.first (member_marks q.others))) e e2 c d k)
 
   -- a level that has the comma behind it
   pub members_put : (bytes : List ℕ) (old old2 new : Shown X) (r : Option CodeHalt) (h h2 : Held X) (row : MemberRow X) → old.levels ≡ h ∷ old2.levels → old2.outer ≡ old.outer → comma_next h ≡ Some h2 → PutsMembers IsKept bytes old2 new r h2 row → PushesMembers IsKept bytes old new r row
-  members_put bytes old old2 new r h h2 row e e2 c puts base w f ps part k q = here f.levels (subst (λ z. EachHeld IsKept z f.levels) e k.1)
-    where
-      rest : List (Piece Tree)
-      rest = marks (marks_behind_comma q.first (member_marks q.others))
-
-      here : (ls : List (Level Tree)) → EachHeld IsKept (h ∷ old2.levels) ls → IsPushedAs IsKept base w new r (push_all free ps (record { outer = f.outer; levels = ls }))
-      here [] u = absurd u
-      here (l ∷ ls) u = subst (λ z. IsPushedAs IsKept base w new r (push_all free z (record { outer = f.outer; levels = l ∷ ls }))) (sym (q.split ∙ ap (λ n. mark (comma n) ∷ rest) (sym q.comma_is)))
-          (by_move (move l.mode comma_kind) (subst (λ z. IsMoved IsKept z (move l.mode comma_kind) l (comma row.comma)) c (comma_moves IsKept h l row.comma u.0)))
-        where
-          by_move : (m : Option Mode) → IsMoved IsKept (Some h2) m l (comma row.comma) → IsPushedAs IsKept base w new r (push_then (push_all free rest) (with_mark f.outer ls l (comma row.comma) m))
-          by_move None v = absurd v
-          by_move (Some md) v = puts base w f.outer (with_one l (comma row.comma) md) ls q.first q.others part (subst (λ z. EachPiece IsKept base w z f.outer) (sym e2) k.0) v u.1 q.colon_is q.items
-
-  pub comma_behind : (h h2 : Held X) → comma_next h ≡ Some h2 → IsBehindComma h2
-  comma_behind (array_level j array.Value xs) h2 e = subst IsBehindComma (same_Some (array_level j array.Comma xs) h2 e) tt
-  comma_behind (object_level j object.Value ms) h2 e = subst IsBehindComma (same_Some (object_level j object.Comma ms) h2 e) tt
-  comma_behind (array_level j array.Empty xs) h2 e = absurd (none-some h2 e)
-  comma_behind (array_level j array.Comma xs) h2 e = absurd (none-some h2 e)
-  comma_behind (object_level j object.Empty ms) h2 e = absurd (none-some h2 e)
-  comma_behind (object_level j object.Comma ms) h2 e = absurd (none-some h2 e)
-  comma_behind (object_level j (object.Named q) ms) h2 e = absurd (none-some h2 e)
-  comma_behind (object_level j (object.Colon q) ms) h2 e = absurd (none-some h2 e)
+  members_put bytes old old2 new r h h2 row e e2 c puts base w f ps part k q = subst (λ z. IsPushedAs IsKept base w new r (push_all free z f)) (sym (behind_comma base w row ps q))
+      (comma_put IsKept base w old new r old2.outer old2.levels h h2 row.comma f (marks (marks_behind_comma q.first (member_marks q.others))) e (sym e2) c k (λ fo l ls ho u v. puts base w fo l ls q.first q.others part ho u v q.colon_is q.items))
 
   -- ---- names in all bytes
-
-  pub has_members : (bytes : List ℕ) (old : Shown X) (r : MemberRow X) → CanAdd IsKept bytes old (MembersPiece r) → HasMembers IsKept bytes r
-  has_members bytes old r (base, w, f, ps, part, h, k) = let q = are_members r base w ps k in (base, w, q.first, q.others, part, q.items)
 
   pub each_has_name : (bytes : List ℕ) (r : MemberRow X) → HasMembers IsKept bytes r → All (HasName bytes) r.items.items
   each_has_name bytes r (base, w, e, es, part, named) = each r.items.items (e ∷ es) named
@@ -287,13 +216,6 @@ module _ {X : Type 0} (IsKept : X → Content → Type 0) where
       subst (λ z. EachMember IsKept z (ps ++ member_pairs es)) (sym e)
       (subst (EachMember IsKept (all ++ n ∷ [])) (append_assoc ps (member_pairs c.0) (p ∷ []) ∙ ap (λ z. ps ++ z) (sym (ap member_pairs c.2.0 ∙ pairs_more c.0 (c.1 ∷ []))))
       (each_member_append IsKept all (ps ++ member_pairs c.0) n p (gains base w ps c.0 part h c.2.1) (name base w c.1.characters part c.2.2.1) (at ∙ c.2.2.0) (subst (λ z. IsKept z (one (tree_of c.1.value))) (sym same) c.2.2.2)))
-
-  -- the same is kept before a string
-  pub text_same : (old s new : Shown X) (r : Option CodeHalt) (span : Span) (x : X) → s.outer ≡ old.outer → s.levels ≡ old.levels → PushesKeptText IsKept s new r span x → PushesKeptText IsKept old new r span x
-  text_same old s new r span x e e2 pushes base w f cs h t k = pushes base w f cs (subst (λ z. EachPiece IsKept base w z f.outer) (sym e) h.0, subst (λ z. EachHeld IsKept z f.levels) (sym e2) h.1) t k
-
-  pub adds_members : (bytes : List ℕ) (old : Shown X) (c : CodePiece X) (new : Shown X) (r : Option CodeHalt) (row : MemberRow X) → c ≡ MembersPiece row → PushesMembers IsKept bytes old new r row → Adds IsKept bytes old c new r
-  adds_members bytes old c new r row e pushes base w f ps part h k = pushes base w f ps part h (are_members row base w ps (subst (λ z. ArePieces IsKept base w z ps) e k))
 
   -- what stands before the member that waits for its value
   pub without_awaited : (outer new : List (CodePiece X)) (m : Awaited) (n : ℕ) → Awaits outer m → n ≡ length outer - 3 → new ≡ take n outer → (y : X) × (outer ≡ new ++ (Comma m.comma ∷ (Text m.name y ∷ (Colon m.colon ∷ []))))

@@ -81,9 +81,6 @@ regroup w x a v r e = append_assoc w (a ++ v) r ∙ ap (λ z. w ++ z) (append_as
 apart_piece : (w x a v r : List ℕ) → x ≡ a ++ (v ++ r) → are_apart w x ≡ true → are_apart w (a ++ v) ≡ true
 apart_piece w x a v r e h = apart_front w (a ++ v) r (ap (are_apart w) (append_assoc a v r ∙ sym e) ∙ h)
 
-length_piece : (at : ℕ) (w a v : List ℕ) → at + length w + length a + length v ≡ at + length (w ++ (a ++ v))
-length_piece at w a v = sym (at_end3 at w a v)
-
 one_piece : {X : Type 0} (m : Meaning X) (at : ℕ) (a v : List ℕ) (p : Piece X) → AreSpaces a → IsPiece m (at + length a) v p → Formed m at (a ++ v) (p ∷ [])
 one_piece m at a v p ha hp = (a, v, [], ap (λ z. a ++ z) (sym (append-nil v)), ha, hp, apart_nothing v, tt)
 
@@ -95,7 +92,7 @@ push_all_ok m (p ∷ ps) at w x f h (a, v, r, d, ha, hp, hap, hf) ap1 =
     let here : IsPushed m at (w ++ (a ++ v)) (push m f p) = push_ok m at (w ++ (a ++ v)) f p (formed_append m at w (a ++ v) (pieces_of f) (p ∷ []) h.formed (one_piece m (at + length w) a v p ha hp) (apart_piece w x a v r d ap1)) h.levels in
     subst (λ z. IsPushed m at z (push_then (push_all m ps) (push m f p))) (regroup w x a v r d)
     (pushed_then m at (w ++ (a ++ v)) r (push m f p) (push_all m ps) here
-    (λ g k. push_all_ok m ps at (w ++ (a ++ v)) r g k (subst (λ n. Formed m n r ps) (length_piece at w a v) hf) (apart_last w a v r c u e hap)))
+    (λ g k. push_all_ok m ps at (w ++ (a ++ v)) r g k (subst (λ n. Formed m n r ps) (sym (at_end3 at w a v)) hf) (apart_last w a v r c u e hap)))
 
 -- ---- the merge
 

@@ -7,11 +7,11 @@ use Rattle.at_lex.specs.Strings.{Character, string_text}
 use Rattle.at_lex.specs.Spans.{end_of}
 use Rattle.at_lex.specs.declared.tokens.Start.{Start}
 use Rattle.at_nest.specs.declared.pieces.Piece.{Piece as CodePiece}
-use Rattle.at_nest.specs.declared.pieces.Piece.TheVariants.{Comma, Colon, Text, Value, Row, Members as MembersPiece, Closers as ClosersPiece}
+use Rattle.at_nest.specs.declared.pieces.Piece.TheVariants.{Comma, Colon, Text, Value, Members as MembersPiece}
 use Rattle.at_nest.specs.declared.pieces.SpanStop.{SpanStop as CodeHalt}
 use Rattle.at_nest.specs.Tree.{Tree}
 use Rattle.at_nest.specs.Borders.{are_apart}
-use Rattle.at_nest.specs.Forms.{Piece, opens, closes, mark, comma, colon, quoted, entry}
+use Rattle.at_nest.specs.Forms.{Piece, mark, comma, colon, quoted, entry}
 use Rattle.at_nest.specs.Levels.{Form, Pushed, further, stopped, SpanStop, push_then}
 use Rattle.at_nest.specs.Stops.{IsForm, IsStop}
 use Rattle.at_nest.specs.Unions.{IsToken, Ends, merged, variant_of}
@@ -22,6 +22,7 @@ use Rattle.at_nest.specs.MemberMarks.{MemberMarks}
 use Rattle.at_nest.specs.KeptItems.{Content, EachNamed, AreRow, free, EachPiece, ArePieces, IsHeldPiece, IsShown, IsPushedAs, IsTextAt, IsPartOf, Joins}
 use Rattle.at_nest.specs.Reading.{IsPlaced, Reads}
 use Rattle.at_nest.specs.VariantMeanings.{Meets}
+use Rattle.at_nest.proofs.Joining.{went_on, did_stop}
 use Rattle.at_nest.proofs.Joins.{apart_front}
 use Rattle.at_nest.proofs.Unions.{whole_end, token_of, token_apart, joined_apart, right_place, ends_variant, ends_right, ends_token, apart_pending, union_split, lead_more, lead_bytes, ended_by, pending_on, left_nil, ends_broken, right_stops}
 use Rattle.at_nest.proofs.Merges.{apart_both}
@@ -44,19 +45,6 @@ module _ {X : Type 0} (IsKept : X → Content → Type 0) where
   piece_within base w y z b (Colon i) (mark (colon j)) e h = h
   piece_within base w y z b (Text span x) (mark (quoted j cs)) e h = (h.0, text_within base w y z b span cs e h.1, h.2)
   piece_within base w y z b (Value i x) (mark (entry j t)) e h = h
-  piece_within base w y z b (Comma i) (mark (colon j)) e h = absurd h
-  piece_within base w y z b (Comma i) (mark (quoted j cs)) e h = absurd h
-  piece_within base w y z b (Comma i) (mark (entry j t)) e h = absurd h
-  piece_within base w y z b (Colon i) (mark (comma j)) e h = absurd h
-  piece_within base w y z b (Colon i) (mark (quoted j cs)) e h = absurd h
-  piece_within base w y z b (Colon i) (mark (entry j t)) e h = absurd h
-  piece_within base w y z b (Text span x) (mark (comma j)) e h = absurd h
-  piece_within base w y z b (Text span x) (mark (colon j)) e h = absurd h
-  piece_within base w y z b (Text span x) (mark (entry j t)) e h = absurd h
-  piece_within base w y z b (Value i x) (mark (comma j)) e h = absurd h
-  piece_within base w y z b (Value i x) (mark (colon j)) e h = absurd h
-  piece_within base w y z b (Value i x) (mark (quoted j cs)) e h = absurd h
-  piece_within base w y z b (Row r) p e h = absurd h
   piece_within base w y z b _ _ e h = absurd h
 
   named_within : (base : ℕ) (w y z : List ℕ) (b : ℕ) (ms : List (NamedValue X)) (es : List MemberMarks) → base ≡ b + length y → EachNamed IsKept base w ms es → EachNamed IsKept b (y ++ (w ++ z)) ms es
@@ -65,10 +53,8 @@ module _ {X : Type 0} (IsKept : X → Content → Type 0) where
   named_within base w y z b _ _ e h = absurd h
 
   row_within : (base : ℕ) (w y z : List ℕ) (b : ℕ) (c : CodePiece X) (ps : List (Piece Tree)) → base ≡ b + length y → AreRow IsKept base w c ps → AreRow IsKept b (y ++ (w ++ z)) c ps
-  row_within base w y z b (Row r) ps e h = h
   row_within base w y z b (MembersPiece r) ps e h = record { first = h.first; others = h.others; split = h.split; comma_is = h.comma_is; colon_is = h.colon_is; items = named_within base w y z b r.items.items (h.first ∷ h.others) e h.items }
-  row_within base w y z b (ClosersPiece r) ps e h = h
-  row_within base w y z b _ ps e h = absurd h
+  row_within base w y z b _ ps e h = h
 
   are_within : (base : ℕ) (w y z : List ℕ) (b : ℕ) (c : CodePiece X) (ps : List (Piece Tree)) → base ≡ b + length y → ArePieces IsKept base w c ps → ArePieces IsKept b (y ++ (w ++ z)) c ps
   are_within base w y z b c ps e (inl (p, s, h)) = inl (p, s, piece_within base w y z b c p e h)
@@ -89,32 +75,21 @@ module _ {X : Type 0} (IsKept : X → Content → Type 0) where
 
   -- ---- the token between them, and the items of the right one
 
-  stop_keeps : (base : ℕ) (w : List ℕ) (new : Shown X) (i : CodeHalt) (o : Pushed Tree) (more : Form Tree → Pushed Tree) → IsPushedAs IsKept base w new (Some i) o → IsPushedAs IsKept base w new (Some i) (push_then more o)
-  stop_keeps base w new i (further k) more h = absurd h
-  stop_keeps base w new i (stopped k j) more h = h
-
   pub meets_stop : (bytes : List ℕ) (old behind new : Shown X) (i : CodeHalt) (at : ℕ) (v : List ℕ) → Reads IsKept old new (Some i) at v → Meets IsKept bytes old behind new (Some i) at v
   meets_stop bytes old behind new i at v reads base w f g more part hf hg levels placed token = let q = reads base w f more hf placed token in
-      (q.0, q.1, stop_keeps base w new i (merged free (further f) q.0) (λ k. merged free (further k) (further g)) q.2)
-
-  goes_on : (base : ℕ) (w : List ℕ) (mid : Shown X) (o : Pushed Tree) → IsPushedAs IsKept base w mid None o → (k : Form Tree) × (o ≡ further k) × IsShown IsKept base w mid k
-  goes_on base w mid (further k) h = (k, refl, h)
-  goes_on base w mid (stopped k i) h = absurd h
+      (q.0, q.1, did_stop IsKept base w new i (merged free (further f) q.0) (λ k. merged free (further k) (further g)) q.2)
 
   pub meets_on : (bytes : List ℕ) (old mid behind new : Shown X) (r : Option CodeHalt) (at : ℕ) (v : List ℕ) → Reads IsKept old mid None at v → Joins IsKept bytes mid behind new r → Meets IsKept bytes old behind new r at v
   meets_on bytes old mid behind new r at v reads joins base w f g more part hf hg levels placed token =
       let q = reads base w f more hf placed token in
-      let k = goes_on base w mid (merged free (further f) q.0) q.2 in
+      let k = went_on IsKept base w mid (merged free (further f) q.0) q.2 in
       (q.0, q.1, subst (λ o. IsPushedAs IsKept base w new r (push_then (λ z. merged free (further z) (further g)) o)) (sym k.1) (joins base w k.0 g part k.2 hg levels))
 
   -- ---- the bytes of the token
 
   -- all bytes, around the token
   around : (bytes b0 b1 w x u a v y c : List ℕ) → bytes ≡ b0 ++ ((w ++ x) ++ b1) → w ≡ u ++ (a ++ v) → x ≡ y ++ c → bytes ≡ (b0 ++ (u ++ a)) ++ ((v ++ y) ++ (c ++ b1))
-  around bytes b0 b1 w x u a v y c e f k = e ∙ (ap (λ z. b0 ++ (z ++ b1)) (ap (λ z. z ++ x) f ∙ ap (λ z. (u ++ (a ++ v)) ++ z) k) ∙ (ap (λ z. b0 ++ z) (regroup u a v y c b1) ∙ sym (append_assoc b0 (u ++ a) ((v ++ y) ++ (c ++ b1)))))
-    where
-      regroup : (u a v y c b : List ℕ) → ((u ++ (a ++ v)) ++ (y ++ c)) ++ b ≡ (u ++ a) ++ ((v ++ y) ++ (c ++ b))
-      regroup u a v y c b = (simp append_assoc)
+  around bytes b0 b1 w x u a v y c e f k = rw (e, f, k) (simp append_assoc)
 
   pub joint_bytes : (bytes : List ℕ) (at : ℕ) (w x u a v y c : List ℕ) (from to : ℕ) → IsPartOf bytes at (w ++ x) → w ≡ u ++ (a ++ v) → x ≡ y ++ c → from + length v ≡ at + length w → to ≡ at + length w + length y
       → (take (to - from) (drop from bytes) ≡ v ++ y) × (from ≤ to) × (to ≤ length bytes)
@@ -133,10 +108,7 @@ module _ {X : Type 0} (IsKept : X → Content → Type 0) where
   pub joint_placed : (at : ℕ) (w x u a v y c : List ℕ) (from : ℕ) → w ≡ u ++ (a ++ v) → x ≡ y ++ c → from + length v ≡ at + length w → IsPlaced at (w ++ x) from (v ++ y)
   joint_placed at w x u a v y c from f k p =
       let wide : length w ≡ length u + (length a + length v) = ap (λ z. length z) f ∙ (length-append u (a ++ v) ∙ ap (λ n. length u + n) (length-append a v)) in
-      (u ++ a, c, ap (λ z. z ++ x) f ∙ (ap (λ z. (u ++ (a ++ v)) ++ z) k ∙ regroup u a v y c), omega (arith, p, wide, length-append u a))
-    where
-      regroup : (u a v y c : List ℕ) → (u ++ (a ++ v)) ++ (y ++ c) ≡ (u ++ a) ++ ((v ++ y) ++ c)
-      regroup u a v y c = (simp append_assoc)
+      (u ++ a, c, rw (f, k) (simp append_assoc), omega (arith, p, wide, length-append u a))
 
 -- ---- the union of two spans
 

@@ -1,6 +1,6 @@
 -- The last of what is open, and arrays with nothing in them that are it.
 -- For `finish`, `finish_span`, `merge` and `run_block`.
-use Rattle.std.proofs.Common.{◌≡◌, ℕ, ◌-◌, zero, suc, Option, Some, None, List, [], ◌∷◌, ◌++◌, option_to_list, refl, sym, ◌∙◌, ap, append-nil, append_assoc, arith, length, take, Ok, Err, MatchOption}
+use Rattle.std.proofs.Common.{◌≡◌, ℕ, ◌-◌, zero, suc, Option, Some, None, List, [], ◌∷◌, ◌++◌, refl, sym, ◌∙◌, ap, append-nil, append_assoc, arith, length, take, Ok, Err, MatchOption}
 use Rattle.std.proofs.lemmas.Option.{none-some, same_Some}
 use Rattle.std.specs.List.{slice_get, slice_set}
 use Rattle.at_nest.specs.declared.finishing.Next.{Next}
@@ -34,11 +34,7 @@ open_top (k ∷ (m ∷ os)) o e = let (hs, f) = open_top (m ∷ os) o e in (hs +
 pub open_none : {X : Type 0} (os : List (Open X)) → None ≡ last_of os → os ≡ []
 open_none [] e = refl
 open_none (k ∷ []) e = absurd (none-some k e)
-open_none (k ∷ (m ∷ os)) e = absurd (no_last m os e)
-  where
-    no_last : {A : Type 0} (x : A) (xs : List A) → None ≡ last_of (x ∷ xs) → ⊥
-    no_last x [] e = none-some x e
-    no_last x (y ∷ xs) e = no_last y xs e
+open_none (k ∷ (m ∷ os)) e = let f : m ∷ os ≡ [] = open_none (m ∷ os) e in cc
 
 pub puts_last : {X : Type 0} (os : List (Open X)) (o : Open X) → PutsLast os (slice_set os (length os - 1) o) o
 puts_last [] o x e = absurd (none-some x e)
@@ -69,10 +65,6 @@ less_nested old new last more m n e f g h i puts = let (hs, p, q) = puts (Nested
     p ∙ (ap (λ z. nested z (suc m.more) ++ hs) e ∙ (ap (λ z. array_level last array.Empty [] ∷ (nested (last - 1) z ++ hs)) f
     ∙ (ap (λ z. array_level last array.Empty [] ∷ (nested (last - 1) (suc z) ++ hs)) (sym h) ∙ (ap (λ z. array_level last array.Empty [] ∷ (nested z (suc n.more) ++ hs)) (sym g) ∙ ap (λ z. array_level last array.Empty [] ∷ z) (sym q)))))
 
--- the last of what is open was taken out
-pub popped : {X : Type 0} (old new : List (Open X)) (o : Option (Open X)) (x : Open X) → o ≡ Some x → old ≡ new ++ option_to_list o → open_levels old ≡ helds_of x ++ open_levels new
-popped old new o x e f = ap open_levels (f ∙ ap (λ z. new ++ option_to_list z) e) ∙ open_last new x
-
 -- it was a level, since it was no nest
 pub popped_level : {X : Type 0} (old new : List (Open X)) (o : Open X) (r : Option (CodeLevel X)) → nest_in (last_of old) ≡ None → old ≡ new ++ o ∷ [] → MatchOption r ((n : Nest) × (o ≡ Nested n)) (λ l. helds_of o ≡ held_of l ∷ [])
     → MatchOption r ((open_levels old ≡ []) × (open_levels new ≡ [])) (λ l. open_levels old ≡ held_of l ∷ open_levels new)
@@ -98,7 +90,3 @@ pub round_next : {X : Type 0} (o : Open X) → levels_next (Ok next.Value) (roun
 round_next {X} (Nested n) = nested_next X (n.last - 1) n.more
 round_next (placed.Array l) = refl
 round_next _ = refl
-
-pub no_round : {X : Type 0} (o : Open X) → ((n : Nest) → o ≡ Nested n → ⊥) → round_of o ≡ []
-no_round (Nested n) h = absurd (h n refl)
-no_round _ h = refl

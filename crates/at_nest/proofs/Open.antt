@@ -11,7 +11,7 @@ use Rattle.at_nest.proofs.JsonNumber as num
 use Rattle.at_lex.specs.Runs.{Literal, literal_text, the_null, the_true, the_false}
 use Rattle.at_lex.proofs.JsonString as str
 use Rattle.at_nest.specs.Syntax.{JsonText}
-use Rattle.at_nest.proofs.JsonMachine.{State, Frame, in_array, in_object, value, items, members, name, after, in_number, in_string, in_name, in_word, step, accepts, is_nil, begin_value}
+use Rattle.at_nest.proofs.JsonMachine.{State, Frame, in_array, value, items, members, name, after, in_number, in_string, in_name, in_word, step, accepts, is_nil, begin_value}
 use Rattle.at_nest.proofs.Accepted.{text_at}
 use Rattle.at_nest.specs.Borders.{are_apart}
 use Rattle.at_nest.specs.Forms.{Meaning}
@@ -70,9 +70,7 @@ run_goes_open : (s t : State) (b : ℕ) (v : List ℕ) → IsRunOpen (b ∷ v) �
 run_goes_open (value st) t b v h e = let k : BeginsOpen st b v = run_open st b v h in from_step (value st) k.next_state b v (pass (is_space b) _ _ _ (run_no_space b k.is_run_byte) k.begins) k.more
 run_goes_open (items st) t b v h e = let k : BeginsOpen (in_array ∷ st) b v = run_open (in_array ∷ st) b v h in
     from_step (items st) k.next_state b v (pass (is_space b) _ _ _ (run_no_space b k.is_run_byte) (pass (b == 0x5D) _ _ _ (unlike is_run b 0x5D refl k.is_run_byte) k.begins)) k.more
-run_goes_open (after []) t b v h e = absurd (none-some t e)
 run_goes_open (after (in_array ∷ st)) t b v h e = absurd (none-some t e)
-run_goes_open (after (in_object ∷ st)) t b v h e = absurd (none-some t e)
 run_goes_open _ t b v h e = absurd (none-some t e)
 
 text_inside : (b : ℕ) (v : List ℕ) → IsTextOpen (b ∷ v) → (b ≡ 0x22) × (n : str.State) × (run str.step str.inside v ≡ Some n) × (str.accepts n ≡ false)
@@ -95,9 +93,7 @@ text_goes_open (value st) t b v h e = as_string (value st) st b v refl h
 text_goes_open (items st) t b v h e = as_string (items st) (in_array ∷ st) b v refl h
 text_goes_open (members st) t b v h e = as_name (members st) st b v refl h
 text_goes_open (name st) t b v h e = as_name (name st) st b v refl h
-text_goes_open (after []) t b v h e = absurd (none-some t e)
 text_goes_open (after (in_array ∷ st)) t b v h e = absurd (none-some t e)
-text_goes_open (after (in_object ∷ st)) t b v h e = absurd (none-some t e)
 text_goes_open _ t b v h e = absurd (none-some t e)
 
 -- ---- the answer

@@ -11,11 +11,11 @@ use Rattle.at_lex.specs.Spans.{AreSpaces, begins_run, end_of, opening, closing}
 use Rattle.at_nest.specs.Syntax.{JsonText}
 use Rattle.at_nest.proofs.JsonMachine.{State, Frame, value, after, step}
 use Rattle.at_nest.specs.Borders.{ends_run, are_apart}
-use Rattle.at_nest.specs.Forms.{Meaning, Mark, Piece, comma as a_comma, colon as a_colon, quoted, entry, opens, closes, mark, IsPiece, IsMark, Formed}
+use Rattle.at_nest.specs.Forms.{Meaning, Mark, Piece, comma as a_comma, entry, opens, closes, mark, IsMark, Formed}
 use Rattle.at_nest.proofs.Steps.{IsStill, still_settled}
 use Rattle.at_nest.proofs.Values.{go}
 use Rattle.at_nest.specs.Walks.{a_closer, mark_kind, mark_at, kind_of, at_of, next, walks, walk_on, refused}
-use Rattle.at_nest.proofs.PieceSteps.{piece_first, still_clear}
+use Rattle.at_nest.proofs.PieceSteps.{piece_first, piece_at, still_clear}
 use Rattle.at_nest.proofs.Walks.{Halted, walk_halts, ends_append}
 use Rattle.at_nest.proofs.Lexical.{At, at_run, opens_square, opens_brace}
 use Rattle.at_nest.proofs.Joins.{Cut, formed_cut, formed_append, formed_out, end_append, run_split, viable_runs, same_split, apart_front, spaces_out}
@@ -27,9 +27,6 @@ pub use Rattle.at_nest.specs.Stops.{IsDeadHere, AreLevels, IsForm, IsRunBegun, I
 
 full_next : {X : Type 0} (md : Mode) (st : List Frame) (x : Mark X) → next (full md st) (mark_kind x) ≡ option_map (λ n. full n st) (move md (mark_kind x))
 full_next at_items st (a_comma i) = refl
-full_next at_items st (a_colon i) = refl
-full_next at_items st (quoted i cs) = refl
-full_next at_items st (entry i y) = refl
 full_next at_value st (a_comma i) = refl
 full_next at_after st (a_comma i) = refl
 full_next at_members st (a_comma i) = refl
@@ -41,7 +38,6 @@ full_next _ st _ = refl
 
 full_closes : (md : Mode) (st : List Frame) (b : Bracket) → next (full md st) (a_closer b) ≡ cond (closes_at md b) (Some (after st)) None
 full_closes at_items st Square = refl
-full_closes at_items st Brace = refl
 full_closes at_value st Square = refl
 full_closes at_after st Square = refl
 full_closes at_members st Square = refl
@@ -171,20 +167,12 @@ stop_before m at w f p levels formed dead =
       split = c.split ∙ ap (λ z. c.front ++ z) split1;
       form = record { formed = c.first; levels = levels };
       are_spaces = ha;
-      item = place_of m p v hp;
+      item = piece_at m (at + length c.front + length a) v p hp;
       place = (let e : at_of p ≡ at_of p + 0 = omega arith in e);
       is_begun = refl;
       apart = ap (are_apart c.front) (sym split1) ∙ c.apart;
       dead = dead;
     }
-  where
-    place_of : {X : Type 0} (m : Meaning X) {at : ℕ} (p : Piece X) (v : List ℕ) → IsPiece m at v p → at_of p ≡ at
-    place_of m (opens b i) v (f, e) = f
-    place_of m (closes b i) v (f, e) = f
-    place_of m (mark (a_comma i)) v (f, e) = f
-    place_of m (mark (a_colon i)) v (f, e) = f
-    place_of m (mark (quoted i cs)) v (f, (k, e)) = f
-    place_of m (mark (entry i x)) v (f, y, sp, n, e) = f
 
 none_next : {X : Type 0} (md : Mode) (x : Mark X) → move md (mark_kind x) ≡ None → (st : List Frame) → next (full md st) (mark_kind x) ≡ None
 none_next md x e st = full_next md st x ∙ ap (option_map (λ n. full n st)) e

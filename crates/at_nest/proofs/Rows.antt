@@ -12,17 +12,17 @@ use Rattle.at_nest.specs.declared.pieces.Piece.TheVariants.{Comma, Row as RowPie
 use Rattle.at_nest.specs.declared.pieces.Row.{Row}
 use Rattle.at_nest.specs.declared.pieces.SpanStop.{SpanStop as CodeHalt}
 use Rattle.at_nest.specs.Tree.{Tree}
-use Rattle.at_nest.specs.Forms.{Mark, Piece, opens, mark, comma, colon, quoted, entry}
-use Rattle.at_nest.specs.Walks.{comma_kind, value_kind}
-use Rattle.at_nest.specs.Levels.{Mode, at_after, at_name, Level, values_in, marks, move, moves, Pushed, further, stopped, with_mark, push, push_all, push_then}
+use Rattle.at_nest.specs.Forms.{Mark, Piece, mark, comma, entry}
+use Rattle.at_nest.specs.Walks.{value_kind}
+use Rattle.at_nest.specs.Levels.{at_after, at_name, Level, Form, values_in, marks, move, moves, further, with_mark, push, push_all, push_then}
 use Rattle.at_nest.specs.Shown.{Held, held_of, AreOwn, IsStep, array_level, object_level, Shown, show_as, kept_outside, put_back, comma_next, value_next, stop_at}
-use Rattle.at_nest.specs.KeptItems.{Content, free, array_mode, row_marks, row_trees, Each, Gains, GainsAll, IsHeld, EachHeld, IsHeldPiece, IsRow, ArePieces, EachPiece, IsOfItems, IsPushedAs, PushesValue, PushesItems, PushesBehind, PushesRow, LongerRow, IsRowNext}
+use Rattle.at_nest.specs.KeptItems.{Content, free, array_mode, row_marks, row_trees, Each, Gains, GainsAll, IsHeld, EachHeld, IsRow, ArePieces, EachPiece, IsShown, IsOfItems, IsPushedAs, PushesValue, PushesItems, PushesBehind, PushesRow, LongerRow, IsRowNext}
 use Rattle.at_nest.specs.Refusals.{last_of, is_comma as comma_piece, is_comma_last}
 use Rattle.at_nest.proofs.Nests.{last_behind}
-use Rattle.at_nest.proofs.Held.{values_append, with_one, IsMoved, comma_moves, each_cut}
+use Rattle.at_nest.proofs.Held.{values_append, each_cut}
 use Rattle.at_nest.proofs.Pushes.{marks_append}
-use Rattle.at_nest.proofs.Joining.{push_marks}
-use Rattle.at_nest.proofs.Showing.{pieces_append, pieces_cut}
+use Rattle.at_nest.proofs.Joining.{push_marks, went_on, did_stop}
+use Rattle.at_nest.proofs.Showing.{pieces_append, pieces_cut, comma_pushes, outside_pushes, only_one}
 
 -- ---- the marks of a row
 
@@ -47,24 +47,18 @@ pub push_outside : (xs : List (Mark Tree)) (fo : List (Piece Tree)) → push_all
 push_outside [] fo = ap (λ z. further (record { outer = z; levels = [] })) (sym (append-nil fo))
 push_outside (x ∷ xs) fo = push_outside xs (fo ++ mark x ∷ []) ∙ ap (λ z. further (record { outer = z; levels = [] })) (append_assoc fo (mark x ∷ []) (marks xs))
 
+pub marks_outside : (ps : List (Piece Tree)) (xs : List (Mark Tree)) (fo : List (Piece Tree)) → ps ≡ marks xs → push_all free ps (record { outer = fo; levels = [] }) ≡ further (record { outer = fo ++ ps; levels = [] })
+marks_outside ps xs fo e = rw e (push_outside xs fo)
+
 module _ {X : Type 0} (IsKept : X → Content → Type 0) where
-  no_row : (r : Row X) (base : ℕ) (w : List ℕ) (p : Piece Tree) → IsHeldPiece IsKept base w (RowPiece r) p → ⊥
-  no_row r base w (opens b j) u = u
-  no_row r base w _ u = u
 
   is_row : (r : Row X) (base : ℕ) (w : List ℕ) (ps : List (Piece Tree)) → ArePieces IsKept base w (RowPiece r) ps → IsRow IsKept r ps
-  is_row r base w ps (inl (p, e, h)) = absurd (no_row r base w p h)
+  is_row r base w ps (inl (p, e, h)) = absurd h
   is_row r base w ps (inr h) = h
 
   pub is_comma : (c : ℕ) (base : ℕ) (w : List ℕ) (ps : List (Piece Tree)) → ArePieces IsKept base w (Comma c) ps → ps ≡ mark (comma c) ∷ []
-  is_comma c base w ps (inl (p, e, h)) = e ∙ ap (λ z. z ∷ []) (one_comma p h)
-    where
-      one_comma : (p : Piece Tree) → IsHeldPiece IsKept base w (Comma c) p → p ≡ mark (comma c)
-      one_comma (mark (comma j)) h = ap (λ n. mark (comma n)) (sym h)
-      one_comma (mark (colon j)) h = absurd h
-      one_comma (mark (quoted j cs)) h = absurd h
-      one_comma (mark (entry j t)) h = absurd h
-      one_comma _ h = absurd h
+  is_comma c base w ps (inl (mark (comma j), e, h)) = e ∙ ap (λ n. mark (comma n) ∷ []) (sym h)
+  is_comma c base w ps (inl (_, e, h)) = absurd h
   is_comma c base w ps (inr h) = absurd h
 
   -- what is kept before the last of what stands before the first open level
@@ -82,12 +76,8 @@ module _ {X : Type 0} (IsKept : X → Content → Type 0) where
 
   pub row_begun : (old new : Shown X) (r : Option CodeHalt) (row : Row X) (x : X) → old.levels ≡ [] → Gains IsKept [] x row.items.items → (new, r) ≡ kept_outside old.outer (RowPiece row) → PushesBehind IsKept old new r row.comma row.first x
   row_begun old new r row x e more d base w f t others h k = let xs : List (Mark Tree) = row_marks ((row.comma, row.first, t) ∷ others) in
-      subst (λ a. IsPushedAs IsKept base w a.0 a.1 (push_all free (marks xs) f)) (sym d) (here f.levels (subst (λ z. EachHeld IsKept z f.levels) e h.1))
-    where
-      here : (ls : List (Level Tree)) → EachHeld IsKept [] ls → IsPushedAs IsKept base w (show_as (old.outer ++ RowPiece row ∷ []) []) None (push_all free (marks (row_marks ((row.comma, row.first, t) ∷ others))) (record { outer = f.outer; levels = ls }))
-      here [] u = subst (IsPushedAs IsKept base w (show_as (old.outer ++ RowPiece row ∷ []) []) None) (sym (push_outside (row_marks ((row.comma, row.first, t) ∷ others)) f.outer))
-          (pieces_append IsKept base w old.outer f.outer (RowPiece row) (marks (row_marks ((row.comma, row.first, t) ∷ others))) h.0 (inr (record { tree = t; others = others; split = refl; items = more [] (t ∷ row_trees others) refl k })), tt)
-      here (l ∷ ls) u = absurd u
+      outside_pushes IsKept base w old new r (old.outer ++ RowPiece row ∷ []) f (marks xs) e h.1 d (push_outside xs f.outer)
+      (pieces_append IsKept base w old.outer f.outer (RowPiece row) (marks xs) h.0 (inr (record { tree = t; others = others; split = refl; items = more [] (t ∷ row_trees others) refl k })))
 
   longer_split : (before row : Row X) (tree : Tree) (others gs : List (ℕ × ℕ × Tree)) (vs : List (Piece Tree)) → row.comma ≡ before.comma → row.first ≡ before.first → vs ≡ marks (row_marks ((before.comma, before.first, tree) ∷ others))
       → vs ++ marks (row_marks gs) ≡ marks (row_marks ((row.comma, row.first, tree) ∷ (others ++ gs)))
@@ -96,7 +86,7 @@ module _ {X : Type 0} (IsKept : X → Content → Type 0) where
       ∙ (ap (λ n. marks (row_marks ((n, before.first, tree) ∷ (others ++ gs)))) (sym ec) ∙ ap (λ n. marks (row_marks ((row.comma, n, tree) ∷ (others ++ gs)))) (sym ei))))
 
   pub row_longer : (old new : Shown X) (r : Option CodeHalt) (front : List (CodePiece X)) (before row : Row X) (c i : ℕ) (x : X) → old.levels ≡ [] → old.outer ≡ front ++ RowPiece before ∷ [] → LongerRow IsKept before row x → (new, r) ≡ kept_outside front (RowPiece row) → PushesBehind IsKept old new r c i x
-  row_longer old new r front before row c i x e e2 (ec, ei, more) d base w f t others h k = subst (λ a. IsPushedAs IsKept base w a.0 a.1 (push_all free (marks (row_marks gs)) f)) (sym d) (here f.levels (subst (λ z. EachHeld IsKept z f.levels) e h.1))
+  row_longer old new r front before row c i x e e2 (ec, ei, more) d base w f t others h k = outside_pushes IsKept base w old new r (front ++ RowPiece row ∷ []) f (marks (row_marks gs)) e h.1 d (push_outside (row_marks gs) f.outer) kept
     where
       gs : List (ℕ × ℕ × Tree)
       gs = (c, i, t) ∷ others
@@ -111,10 +101,6 @@ module _ {X : Type 0} (IsKept : X → Content → Type 0) where
             split = longer_split before row q.tree q.others gs s.1 ec ei q.split;
             items = subst (λ z. Each IsKept row.items.items (q.tree ∷ z)) (sym (row_trees_append q.others gs)) (more (q.tree ∷ row_trees q.others) (t ∷ row_trees others) q.items k);
           })))
-
-      here : (ls : List (Level Tree)) → EachHeld IsKept [] ls → IsPushedAs IsKept base w (show_as (front ++ RowPiece row ∷ []) []) None (push_all free (marks (row_marks gs)) (record { outer = f.outer; levels = ls }))
-      here [] u = subst (IsPushedAs IsKept base w (show_as (front ++ RowPiece row ∷ []) []) None) (sym (push_outside (row_marks gs) f.outer)) (kept, tt)
-      here (l ∷ ls) u = absurd u
 
   -- values, where a comma was the last
   pub items_behind : (old new : Shown X) (r : Option CodeHalt) (front : List (CodePiece X)) (c i : ℕ) (x : X) → old.levels ≡ [] → old.outer ≡ front ++ Comma c ∷ [] → PushesBehind IsKept (show_as front old.levels) new r c i x → PushesItems IsKept old new r i x
@@ -131,22 +117,13 @@ module _ {X : Type 0} (IsKept : X → Content → Type 0) where
           (pushes base w (record { outer = s.0; levels = [] }) t others (s.3, subst (λ z. EachHeld IsKept z []) (sym e) tt) k)
       here (l ∷ ls) u = absurd u
 
-  pub only_one : (base : ℕ) (w : List ℕ) (new : Shown X) (r : Option CodeHalt) (o : Pushed Tree) → IsPushedAs IsKept base w new r (push_then (push_all free []) o) → IsPushedAs IsKept base w new r o
-  only_one base w new r (further g) h = h
-  only_one base w new r (stopped g i) h = h
-
   -- a value
   pub value_behind : (old new : Shown X) (r : Option CodeHalt) (front : List (CodePiece X)) (c i : ℕ) (x : X) → old.levels ≡ [] → old.outer ≡ front ++ Comma c ∷ [] → PushesBehind IsKept (show_as front old.levels) new r c i x → PushesValue IsKept old new r i x
-  value_behind old new r front c i x e e2 pushes base w f t h k = only_one base w new r (push free f (mark (entry i t))) (items_behind old new r front c i x e e2 pushes base w f t [] h (inl (t, refl, k)))
+  value_behind old new r front c i x e e2 pushes base w f t h k = only_one IsKept base w new r (push free f (mark (entry i t))) (items_behind old new r front c i x e e2 pushes base w f t [] h (inl (t, refl, k)))
 
   pub row_outside : (old new : Shown X) (r : Option CodeHalt) (row : Row X) (outer : List (CodePiece X)) → old.levels ≡ [] → old.outer ≡ outer → (new, r) ≡ kept_outside outer (RowPiece row) → PushesRow IsKept old new r row
-  row_outside old new r row outer e e2 d base w f ps h k = subst (λ a. IsPushedAs IsKept base w a.0 a.1 (push_all free ps f)) (sym d) (here f.levels (subst (λ z. EachHeld IsKept z f.levels) e h.1))
-    where
-      here : (ls : List (Level Tree)) → EachHeld IsKept [] ls → IsPushedAs IsKept base w (show_as (outer ++ RowPiece row ∷ []) []) None (push_all free ps (record { outer = f.outer; levels = ls }))
-      here [] u = let xs : List (Mark Tree) = row_marks ((row.comma, row.first, k.tree) ∷ k.others) in
-          subst (IsPushedAs IsKept base w (show_as (outer ++ RowPiece row ∷ []) []) None) (sym (ap (λ z. push_all free z (record { outer = f.outer; levels = [] })) k.split ∙ (push_outside xs f.outer ∙ ap (λ z. further (record { outer = f.outer ++ z; levels = [] })) (sym k.split))))
-          (pieces_append IsKept base w outer f.outer (RowPiece row) ps (subst (λ z. EachPiece IsKept base w z f.outer) e2 h.0) (inr k), tt)
-      here (l ∷ ls) u = absurd u
+  row_outside old new r row outer e e2 d base w f ps h k = outside_pushes IsKept base w old new r (outer ++ RowPiece row ∷ []) f ps e h.1 d (marks_outside ps (row_marks ((row.comma, row.first, k.tree) ∷ k.others)) f.outer k.split)
+      (pieces_append IsKept base w outer f.outer (RowPiece row) ps (subst (λ z. EachPiece IsKept base w z f.outer) e2 h.0) (inr k))
 
   -- ---- in a level
 
@@ -211,40 +188,38 @@ module _ {X : Type 0} (IsKept : X → Content → Type 0) where
           → IsPushedAs IsKept base w (put_back outer hs row.first h2 o).0 (put_back outer hs row.first h2 o).1 (push_all free (marks (entry row.first t ∷ row_marks es)) (record { outer = fo; levels = l ∷ ls }))
       by_next None u q = row_in_object base w outer hs fo ls h2 l row t es ho hl k q.2
       by_next (Some g) u q = absurd u
-  row_behind base w outer hs fo ls (array_level j array.Empty xs) h2 l row t es o ho hl k e items n = absurd (none-some h2 e)
-  row_behind base w outer hs fo ls (array_level j array.Comma xs) h2 l row t es o ho hl k e items n = absurd (none-some h2 e)
-  row_behind base w outer hs fo ls (object_level j object.Empty ms) h2 l row t es o ho hl k e items n = absurd (none-some h2 e)
-  row_behind base w outer hs fo ls (object_level j object.Comma ms) h2 l row t es o ho hl k e items n = absurd (none-some h2 e)
-  row_behind base w outer hs fo ls (object_level j (object.Named q) ms) h2 l row t es o ho hl k e items n = absurd (none-some h2 e)
-  row_behind base w outer hs fo ls (object_level j (object.Colon q) ms) h2 l row t es o ho hl k e items n = absurd (none-some h2 e)
+  row_behind base w outer hs fo ls _ h2 l row t es o ho hl k e items n = absurd (none-some h2 e)
+
+  -- a comma put into the innermost level, as the first of several items
+  comma_pushed : (base : ℕ) (w : List ℕ) (old : Shown X) (outer : List (CodePiece X)) (hs : List (Held X)) (h : Held X) (o : Option (Held X)) (c : ℕ) (f : Form Tree) → old.levels ≡ h ∷ hs → old.outer ≡ outer → comma_next h ≡ o → IsShown IsKept base w old f
+      → IsPushedAs IsKept base w (put_back outer hs c h o).0 (put_back outer hs c h o).1 (push free f (mark (comma c)))
+  comma_pushed base w old outer hs h o c f e e2 n k = subst (λ o. IsPushedAs IsKept base w (put_back outer hs c h o).0 (put_back outer hs c h o).1 (push free f (mark (comma c)))) n
+      (comma_pushes IsKept base w outer (h ∷ hs) f.outer f.levels c (subst (λ z. EachPiece IsKept base w z f.outer) e2 k.0) (subst (λ z. EachHeld IsKept z f.levels) e k.1))
+
+  pub comma_put : (base : ℕ) (w : List ℕ) (old new : Shown X) (r : Option CodeHalt) (outer : List (CodePiece X)) (hs : List (Held X)) (h h2 : Held X) (c : ℕ) (f : Form Tree) (rest : List (Piece Tree)) → old.levels ≡ h ∷ hs → old.outer ≡ outer → comma_next h ≡ Some h2 → IsShown IsKept base w old f
+      → ((fo : List (Piece Tree)) (l : Level Tree) (ls : List (Level Tree)) → EachPiece IsKept base w outer fo → IsHeld IsKept h2 l → EachHeld IsKept hs ls → IsPushedAs IsKept base w new r (push_all free rest (record { outer = fo; levels = l ∷ ls })))
+      → IsPushedAs IsKept base w new r (push_all free (mark (comma c) ∷ rest) f)
+  comma_put base w old new r outer hs h h2 c f rest e e2 n k more = let p = went_on IsKept base w (show_as outer (h2 ∷ hs)) (push free f (mark (comma c))) (comma_pushed base w old outer hs h (Some h2) c f e e2 n k) in
+      subst (λ o. IsPushedAs IsKept base w new r (push_then (push_all free rest) o)) (sym p.1) (on p.0.outer p.0.levels p.2.0 p.2.1)
+    where
+      on : (fo : List (Piece Tree)) (ls : List (Level Tree)) → EachPiece IsKept base w outer fo → EachHeld IsKept (h2 ∷ hs) ls → IsPushedAs IsKept base w new r (push_all free rest (record { outer = fo; levels = ls }))
+      on fo [] ho u = absurd u
+      on fo (l ∷ ls) ho u = more fo l ls ho u.0 u.1
+
+  -- a level that takes no comma
+  pub comma_refused : (base : ℕ) (w : List ℕ) (old new : Shown X) (r : Option CodeHalt) (outer : List (CodePiece X)) (hs : List (Held X)) (h : Held X) (c : ℕ) (f : Form Tree) (rest : List (Piece Tree)) → old.levels ≡ h ∷ hs → old.outer ≡ outer → comma_next h ≡ None
+      → (new, r) ≡ put_back outer hs c h None → IsShown IsKept base w old f → IsPushedAs IsKept base w new r (push_all free (mark (comma c) ∷ rest) f)
+  comma_refused base w old new r outer hs h c f rest e e2 n d k = subst (λ a. IsPushedAs IsKept base w a.0 a.1 (push_all free (mark (comma c) ∷ rest) f)) (sym d)
+      (did_stop IsKept base w (show_as outer (h ∷ hs)) (stop_at c) (push free f (mark (comma c))) (push_all free rest) (comma_pushed base w old outer hs h None c f e e2 n k))
 
   pub row_put : (old new : Shown X) (r : Option CodeHalt) (outer : List (CodePiece X)) (hs : List (Held X)) (h h2 : Held X) (o : Option (Held X)) (row : Row X) → old.levels ≡ h ∷ hs → old.outer ≡ outer → comma_next h ≡ Some h2 → IsRowNext IsKept h2 row.items.items o → (new, r) ≡ put_back outer hs row.first h2 o
       → PushesRow IsKept old new r row
-  row_put old new r outer hs h h2 o row e e2 c n d base w f ps k q = subst (λ a. IsPushedAs IsKept base w a.0 a.1 (push_all free ps f)) (sym d) (here f.levels (subst (λ z. EachHeld IsKept z f.levels) e k.1))
-    where
-      here : (ls : List (Level Tree)) → EachHeld IsKept (h ∷ hs) ls → IsPushedAs IsKept base w (put_back outer hs row.first h2 o).0 (put_back outer hs row.first h2 o).1 (push_all free ps (record { outer = f.outer; levels = ls }))
-      here [] u = absurd u
-      here (l ∷ ls) u = subst (λ z. IsPushedAs IsKept base w (put_back outer hs row.first h2 o).0 (put_back outer hs row.first h2 o).1 (push_all free z (record { outer = f.outer; levels = l ∷ ls }))) (sym q.split)
-          (by_move (move l.mode comma_kind) (subst (λ z. IsMoved IsKept z (move l.mode comma_kind) l (comma row.comma)) c (comma_moves IsKept h l row.comma u.0)))
-        where
-          by_move : (m : Option Mode) → IsMoved IsKept (Some h2) m l (comma row.comma)
-              → IsPushedAs IsKept base w (put_back outer hs row.first h2 o).0 (put_back outer hs row.first h2 o).1 (push_then (push_all free (marks (entry row.first q.tree ∷ row_marks q.others))) (with_mark f.outer ls l (comma row.comma) m))
-          by_move None v = absurd v
-          by_move (Some md) v = row_behind base w outer hs f.outer ls h h2 (with_one l (comma row.comma) md) row q.tree q.others o (subst (λ z. EachPiece IsKept base w z f.outer) e2 k.0) u.1 v c q.items n
+  row_put old new r outer hs h h2 o row e e2 c n d base w f ps k q = subst (λ z. IsPushedAs IsKept base w new r (push_all free z f)) (sym q.split)
+      (comma_put base w old new r outer hs h h2 row.comma f (marks (entry row.first q.tree ∷ row_marks q.others)) e e2 c k
+      (λ fo l ls ho u v. subst (λ a. IsPushedAs IsKept base w a.0 a.1 (push_all free (marks (entry row.first q.tree ∷ row_marks q.others)) (record { outer = fo; levels = l ∷ ls }))) (sym d) (row_behind base w outer hs fo ls h h2 l row q.tree q.others o ho v u c q.items n)))
 
-  -- a level that takes no comma
   pub row_refused : (old new : Shown X) (r : Option CodeHalt) (outer : List (CodePiece X)) (hs : List (Held X)) (h : Held X) (row : Row X) → old.levels ≡ h ∷ hs → old.outer ≡ outer → comma_next h ≡ None → (new, r) ≡ put_back outer hs row.comma h None → PushesRow IsKept old new r row
-  row_refused old new r outer hs h row e e2 c d base w f ps k q = subst (λ a. IsPushedAs IsKept base w a.0 a.1 (push_all free ps f)) (sym d) (here f.levels (subst (λ z. EachHeld IsKept z f.levels) e k.1))
-    where
-      here : (ls : List (Level Tree)) → EachHeld IsKept (h ∷ hs) ls → IsPushedAs IsKept base w (show_as outer (h ∷ hs)) (Some (stop_at row.comma)) (push_all free ps (record { outer = f.outer; levels = ls }))
-      here [] u = absurd u
-      here (l ∷ ls) u = subst (λ z. IsPushedAs IsKept base w (show_as outer (h ∷ hs)) (Some (stop_at row.comma)) (push_all free z (record { outer = f.outer; levels = l ∷ ls }))) (sym q.split)
-          (by_move (move l.mode comma_kind) (subst (λ z. IsMoved IsKept z (move l.mode comma_kind) l (comma row.comma)) c (comma_moves IsKept h l row.comma u.0)))
-        where
-          by_move : (m : Option Mode) → IsMoved IsKept None m l (comma row.comma)
-              → IsPushedAs IsKept base w (show_as outer (h ∷ hs)) (Some (stop_at row.comma)) (push_then (push_all free (marks (entry row.first q.tree ∷ row_marks q.others))) (with_mark f.outer ls l (comma row.comma) m))
-          by_move None v = ((subst (λ z. EachPiece IsKept base w z f.outer) e2 k.0, u), refl)
-          by_move (Some md) v = absurd v
+  row_refused old new r outer hs h row e e2 c d base w f ps k q = subst (λ z. IsPushedAs IsKept base w new r (push_all free z f)) (sym q.split) (comma_refused base w old new r outer hs h row.comma f (marks (entry row.first q.tree ∷ row_marks q.others)) e e2 c d k)
 
 pub no_comma_last : {X : Type 0} (xs front : List (CodePiece X)) (p : CodePiece X) → xs ≡ front ++ p ∷ [] → is_comma_last (last_of xs) ≡ true → ((c : ℕ) → p ≡ Comma c → ⊥) → ⊥
 no_comma_last {X = X} xs front p e h none = by_piece p (sym (ap is_comma_last (ap last_of e ∙ last_behind front p)) ∙ h) none
@@ -266,12 +241,7 @@ step_refused old (Some h) l k = absurd k
 pub comma_own : {X : Type 0} (IsOwn : X → Type 0) (h h2 : Held X) → AreOwn IsOwn h → comma_next h ≡ Some h2 → AreOwn IsOwn h2
 comma_own IsOwn (array_level j array.Value xs) h2 own e = subst (AreOwn IsOwn) (same_Some _ h2 e) own
 comma_own IsOwn (object_level j object.Value ms) h2 own e = subst (AreOwn IsOwn) (same_Some _ h2 e) own
-comma_own IsOwn (array_level j array.Empty xs) h2 own e = absurd (none-some h2 e)
-comma_own IsOwn (array_level j array.Comma xs) h2 own e = absurd (none-some h2 e)
-comma_own IsOwn (object_level j object.Empty ms) h2 own e = absurd (none-some h2 e)
-comma_own IsOwn (object_level j object.Comma ms) h2 own e = absurd (none-some h2 e)
-comma_own IsOwn (object_level j (object.Named q) ms) h2 own e = absurd (none-some h2 e)
-comma_own IsOwn (object_level j (object.Colon q) ms) h2 own e = absurd (none-some h2 e)
+comma_own IsOwn _ h2 own e = absurd (none-some h2 e)
 
 -- ---- an array's atoms, and further ones behind them
 

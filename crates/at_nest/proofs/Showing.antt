@@ -12,11 +12,10 @@ use Rattle.at_nest.specs.declared.pieces.SpanStop.{SpanStop as CodeHalt}
 use Rattle.at_nest.specs.Tree.{Tree, text}
 use Rattle.at_nest.specs.Forms.{Mark, Piece, opens, closes, mark, comma, colon, quoted, entry}
 use Rattle.at_nest.specs.Walks.{mark_kind, mark_at}
-use Rattle.at_nest.specs.Levels.{Mode, Level, Form, built, move, with_mark, push_mark, push_close, close_level, push}
-use Rattle.at_nest.specs.Shown.{Held, Shown, helds_of, open_levels, show_as, put_back, kept_outside, comma_added, colon_added, comma_next, colon_next, value_next, closes_with, from_of, opened_as, stop_at}
-use Rattle.at_nest.specs.KeptItems.{free, Content, one, IsHeld, GainsIn, PushesValue, EachHeld, EachPiece, ArePieces, IsHeldPiece, IsShown, IsPushedAs, IsTextAt, IsPartOf, halt_of}
-use Rattle.at_nest.specs.Shown.{array_level, object_level}
-use Rattle.at_nest.proofs.Held.{IsMoved, comma_moves, colon_moves, value_moves, closes_same, opened_is}
+use Rattle.at_nest.specs.Levels.{Mode, Level, Form, built, move, with_mark, push_mark, push_close, close_level, push, push_all, push_then, Pushed, further, stopped}
+use Rattle.at_nest.specs.Shown.{Held, Shown, Added, helds_of, open_levels, show_as, put_back, kept_outside, comma_added, colon_added, comma_next, colon_next, value_next, closes_with, from_of, opened_as, stop_at}
+use Rattle.at_nest.specs.KeptItems.{free, Content, one, IsHeld, GainsIn, PushesValue, EachHeld, EachPiece, ArePieces, IsHeldPiece, IsShown, IsPushedAs, IsTextAt, IsPartOf}
+use Rattle.at_nest.proofs.Held.{IsMoved, comma_moves, colon_moves, value_moves, closes_same, held_from, opened_is}
 
 pub open_last : {X : Type 0} (os : List (Open X)) (o : Open X) → open_levels (os ++ o ∷ []) ≡ helds_of o ++ open_levels os
 open_last [] o = sym (append-nil (helds_of o))
@@ -42,59 +41,71 @@ module _ {X : Type 0} (IsKept : X → Content → Type 0) (base : ℕ) (w : List
   pieces_cut (d ∷ cs) c ps (us, vs, e, h, hs) = let r = pieces_cut cs c vs hs in (us ++ r.0, r.1, e ∙ (ap (λ z. us ++ z) r.2 ∙ sym (append_assoc us r.0 r.1)), (us, r.0, refl, h, r.3), r.4)
 
   -- a mark, put into the innermost level
-  pub put_pushes : (outer : List (CodePiece X)) (fo : List (Piece Tree)) (hs : List (Held X)) (ls : List (Level Tree)) (h : Held X) (l : Level Tree) (x : Mark Tree) (i : ℕ) (o : Option (Held X)) (n : Option Mode) → EachPiece IsKept base w outer fo
-      → EachHeld IsKept hs ls → IsHeld IsKept h l → i ≡ mark_at x → IsMoved IsKept o n l x → IsPushedAs IsKept base w (put_back outer hs i h o).0 (put_back outer hs i h o).1 (with_mark fo ls l x n)
-  put_pushes outer fo hs ls h l x i (Some k) (Some n) ho hl hh e m = (ho, (m, hl))
-  put_pushes outer fo hs ls h l x i None None ho hl hh e m = ((ho, (hh, hl)), ap (λ j. halt_of (stop_at j)) e)
-  put_pushes outer fo hs ls h l x i _ _ ho hl hh e m = absurd m
+  put_pushes : (outer : List (CodePiece X)) (fo : List (Piece Tree)) (hs : List (Held X)) (ls : List (Level Tree)) (h : Held X) (l : Level Tree) (x : Mark Tree) (o : Option (Held X)) (n : Option Mode) → EachPiece IsKept base w outer fo
+      → EachHeld IsKept hs ls → IsHeld IsKept h l → IsMoved IsKept o n l x → IsPushedAs IsKept base w (put_back outer hs (mark_at x) h o).0 (put_back outer hs (mark_at x) h o).1 (with_mark fo ls l x n)
+  put_pushes outer fo hs ls h l x (Some k) (Some n) ho hl hh m = (ho, (m, hl))
+  put_pushes outer fo hs ls h l x None None ho hl hh m = ((ho, (hh, hl)), refl)
+  put_pushes outer fo hs ls h l x _ _ ho hl hh m = absurd m
 
   pub comma_pushes : (outer : List (CodePiece X)) (hs : List (Held X)) (fo : List (Piece Tree)) (ls : List (Level Tree)) (i : ℕ) → EachPiece IsKept base w outer fo → EachHeld IsKept hs ls
       → IsPushedAs IsKept base w (comma_added i outer hs).0 (comma_added i outer hs).1 (push_mark fo ls (comma i))
   comma_pushes outer [] fo [] i ho hl = (piece_append outer fo (Comma i) (mark (comma i)) ho refl, tt)
-  comma_pushes outer (h ∷ hs) fo (l ∷ ls) i ho hl = put_pushes outer fo hs ls h l (comma i) i (comma_next h) (move l.mode (mark_kind {X = Tree} (comma i))) ho hl.1 hl.0 refl (comma_moves IsKept h l i hl.0)
+  comma_pushes outer (h ∷ hs) fo (l ∷ ls) i ho hl = put_pushes outer fo hs ls h l (comma i) (comma_next h) (move l.mode (mark_kind {X = Tree} (comma i))) ho hl.1 hl.0 (comma_moves IsKept h l i hl.0)
   comma_pushes outer _ fo _ i ho hl = absurd hl
 
   pub colon_pushes : (outer : List (CodePiece X)) (hs : List (Held X)) (fo : List (Piece Tree)) (ls : List (Level Tree)) (i : ℕ) → EachPiece IsKept base w outer fo → EachHeld IsKept hs ls
       → IsPushedAs IsKept base w (colon_added i outer hs).0 (colon_added i outer hs).1 (push_mark fo ls (colon i))
   colon_pushes outer [] fo [] i ho hl = (piece_append outer fo (Colon i) (mark (colon i)) ho refl, tt)
-  colon_pushes outer (h ∷ hs) fo (l ∷ ls) i ho hl = put_pushes outer fo hs ls h l (colon i) i (colon_next h) (move l.mode (mark_kind {X = Tree} (colon i))) ho hl.1 hl.0 refl (colon_moves IsKept h l i hl.0)
+  colon_pushes outer (h ∷ hs) fo (l ∷ ls) i ho hl = put_pushes outer fo hs ls h l (colon i) (colon_next h) (move l.mode (mark_kind {X = Tree} (colon i))) ho hl.1 hl.0 (colon_moves IsKept h l i hl.0)
   colon_pushes outer _ fo _ i ho hl = absurd hl
+
+  -- one item pushed alone
+  pub only_one : (new : Shown X) (r : Option CodeHalt) (o : Pushed Tree) → IsPushedAs IsKept base w new r (push_then (push_all free []) o) → IsPushedAs IsKept base w new r o
+  only_one new r (further g) h = h
+  only_one new r (stopped g i) h = h
+
+  -- items put behind what stands before the first open level, where none is open
+  pub outside_pushes : (old new : Shown X) (r : Option CodeHalt) (outer : List (CodePiece X)) (f : Form Tree) (ps : List (Piece Tree)) → old.levels ≡ [] → EachHeld IsKept old.levels f.levels → ◌≡◌ {A = Added X} (new, r) (show_as outer [], None)
+      → push_all free ps (record { outer = f.outer; levels = [] }) ≡ further (record { outer = f.outer ++ ps; levels = [] }) → EachPiece IsKept base w outer (f.outer ++ ps) → IsPushedAs IsKept base w new r (push_all free ps f)
+  outside_pushes old new r outer f ps e h d pushed k = subst (λ a. IsPushedAs IsKept base w a.0 a.1 (push_all free ps f)) (sym d) (here f.levels (subst (λ z. EachHeld IsKept z f.levels) e h))
+    where
+      here : (ls : List (Level Tree)) → EachHeld IsKept [] ls → IsPushedAs IsKept base w (show_as outer []) None (push_all free ps (record { outer = f.outer; levels = ls }))
+      here [] u = subst (IsPushedAs IsKept base w (show_as outer []) None) (sym pushed) (k, tt)
+      here (l ∷ ls) u = absurd u
+
+  -- a mark before the first open level
+  mark_outside : (old : Shown X) (outer : List (CodePiece X)) (new : Shown X) (r : Option CodeHalt) (c : CodePiece X) (x : Mark Tree) (f : Form Tree) → old.levels ≡ [] → old.outer ≡ outer → (new, r) ≡ kept_outside outer c → IsShown IsKept base w old f → IsHeldPiece IsKept base w c (mark x)
+      → IsPushedAs IsKept base w new r (push free f (mark x))
+  mark_outside old outer new r c x f e e2 d h k = only_one new r (push free f (mark x)) (outside_pushes old new r (outer ++ c ∷ []) f (mark x ∷ []) e h.1 d refl (piece_append outer f.outer c (mark x) (subst (λ z. EachPiece IsKept base w z f.outer) e2 h.0) k))
+
+  -- a mark put into the innermost level
+  mark_put : (old : Shown X) (outer : List (CodePiece X)) (hs : List (Held X)) (new : Shown X) (r : Option CodeHalt) (h : Held X) (x : Mark Tree) (o : Option (Held X)) (f : Form Tree) → old.levels ≡ h ∷ hs → old.outer ≡ outer → (new, r) ≡ put_back outer hs (mark_at x) h o
+      → IsShown IsKept base w old f → ((l : Level Tree) → IsHeld IsKept h l → IsMoved IsKept o (move l.mode (mark_kind x)) l x) → IsPushedAs IsKept base w new r (push free f (mark x))
+  mark_put old outer hs new r h x o f e e2 d k moves = subst (λ a. IsPushedAs IsKept base w a.0 a.1 (push free f (mark x))) (sym d) (here f.levels (subst (λ z. EachHeld IsKept z f.levels) e k.1))
+    where
+      here : (ls : List (Level Tree)) → EachHeld IsKept (h ∷ hs) ls → IsPushedAs IsKept base w (put_back outer hs (mark_at x) h o).0 (put_back outer hs (mark_at x) h o).1 (push_mark f.outer ls x)
+      here [] u = absurd u
+      here (l ∷ ls) u = put_pushes outer f.outer hs ls h l x o (move l.mode (mark_kind x)) (subst (λ z. EachPiece IsKept base w z f.outer) e2 k.0) u.1 u.0 (moves l u.0)
 
   -- a value that is no string, before the first open level
   pub value_outside : (old : Shown X) (outer : List (CodePiece X)) (new : Shown X) (r : Option CodeHalt) (i : ℕ) (x : X) (t : Tree) (f : Form Tree) → old.levels ≡ [] → old.outer ≡ outer → (new, r) ≡ kept_outside outer (Value i x) → IsShown IsKept base w old f → IsKept x (one t)
       → IsPushedAs IsKept base w new r (push free f (mark (entry i t)))
-  value_outside old outer new r i x t f e e2 d h k = subst (λ a. IsPushedAs IsKept base w a.0 a.1 (push free f (mark (entry i t)))) (sym d) (here f.levels (subst (λ z. EachHeld IsKept z f.levels) e h.1))
-    where
-      here : (ls : List (Level Tree)) → EachHeld IsKept [] ls → IsPushedAs IsKept base w (show_as (outer ++ Value i x ∷ []) []) None (push_mark f.outer ls (entry i t))
-      here [] u = (piece_append outer f.outer (Value i x) (mark (entry i t)) (subst (λ z. EachPiece IsKept base w z f.outer) e2 h.0) (refl, k), tt)
-      here (l ∷ ls) u = absurd u
+  value_outside old outer new r i x t f e e2 d h k = mark_outside old outer new r (Value i x) (entry i t) f e e2 d h (refl, k)
 
   -- a value put into the innermost level
   pub value_put : (old : Shown X) (outer : List (CodePiece X)) (hs : List (Held X)) (new : Shown X) (r : Option CodeHalt) (h : Held X) (i : ℕ) (x : X) (ys : List X) (t : Tree) (f : Form Tree) → old.levels ≡ h ∷ hs → old.outer ≡ outer → (new, r) ≡ put_back outer hs i h (value_next h x ys)
       → GainsIn IsKept h x ys → IsShown IsKept base w old f → IsKept x (one t) → IsPushedAs IsKept base w new r (push free f (mark (entry i t)))
-  value_put old outer hs new r h i x ys t f e e2 d more k own = subst (λ a. IsPushedAs IsKept base w a.0 a.1 (push free f (mark (entry i t)))) (sym d) (here f.levels (subst (λ z. EachHeld IsKept z f.levels) e k.1))
-    where
-      here : (ls : List (Level Tree)) → EachHeld IsKept (h ∷ hs) ls → IsPushedAs IsKept base w (put_back outer hs i h (value_next h x ys)).0 (put_back outer hs i h (value_next h x ys)).1 (push_mark f.outer ls (entry i t))
-      here [] u = absurd u
-      here (l ∷ ls) u = put_pushes outer f.outer hs ls h l (entry i t) i (value_next h x ys) (move l.mode (mark_kind (entry i t))) (subst (λ z. EachPiece IsKept base w z f.outer) e2 k.0) u.1 u.0 refl (value_moves IsKept h l i x ys t u.0 own more)
+  value_put old outer hs new r h i x ys t f e e2 d more k own = mark_put old outer hs new r h (entry i t) (value_next h x ys) f e e2 d k (λ l u. value_moves IsKept h l i x ys t u own more)
 
   -- a string before the first open level
   pub text_outside : (old : Shown X) (outer : List (CodePiece X)) (new : Shown X) (r : Option CodeHalt) (span : Span) (cs : List Character) (x : X) (f : Form Tree) → old.levels ≡ [] → old.outer ≡ outer → (new, r) ≡ kept_outside outer (Text span x) → IsShown IsKept base w old f → IsTextAt base w span cs
       → IsKept x (one (text span.from cs)) → IsPushedAs IsKept base w new r (push free f (mark (quoted span.from cs)))
-  text_outside old outer new r span cs x f e e2 d h t k = subst (λ a. IsPushedAs IsKept base w a.0 a.1 (push free f (mark (quoted span.from cs)))) (sym d) (here f.levels (subst (λ z. EachHeld IsKept z f.levels) e h.1))
-    where
-      here : (ls : List (Level Tree)) → EachHeld IsKept [] ls → IsPushedAs IsKept base w (show_as (outer ++ Text span x ∷ []) []) None (push_mark f.outer ls (quoted span.from cs))
-      here [] u = (piece_append outer f.outer (Text span x) (mark (quoted span.from cs)) (subst (λ z. EachPiece IsKept base w z f.outer) e2 h.0) (refl, t, k), tt)
-      here (l ∷ ls) u = absurd u
+  text_outside old outer new r span cs x f e e2 d h t k = mark_outside old outer new r (Text span x) (quoted span.from cs) f e e2 d h (refl, t, k)
 
   -- a string put into the innermost level
   pub text_put : (old : Shown X) (outer : List (CodePiece X)) (hs : List (Held X)) (new : Shown X) (r : Option CodeHalt) (h : Held X) (i : ℕ) (o : Option (Held X)) (cs : List Character) (f : Form Tree) → old.levels ≡ h ∷ hs → old.outer ≡ outer → (new, r) ≡ put_back outer hs i h o
       → IsShown IsKept base w old f → ((l : Level Tree) → IsHeld IsKept h l → IsMoved IsKept o (move l.mode (mark_kind {X = Tree} (quoted i cs))) l (quoted i cs)) → IsPushedAs IsKept base w new r (push free f (mark (quoted i cs)))
-  text_put old outer hs new r h i o cs f e e2 d k moves = subst (λ a. IsPushedAs IsKept base w a.0 a.1 (push free f (mark (quoted i cs)))) (sym d) (here f.levels (subst (λ z. EachHeld IsKept z f.levels) e k.1))
-    where
-      here : (ls : List (Level Tree)) → EachHeld IsKept (h ∷ hs) ls → IsPushedAs IsKept base w (put_back outer hs i h o).0 (put_back outer hs i h o).1 (push_mark f.outer ls (quoted i cs))
-      here [] u = absurd u
-      here (l ∷ ls) u = put_pushes outer f.outer hs ls h l (quoted i cs) i o (move l.mode (mark_kind {X = Tree} (quoted i cs))) (subst (λ z. EachPiece IsKept base w z f.outer) e2 k.0) u.1 u.0 refl (moves l u.0)
+  text_put old outer hs new r h i o cs f e e2 d k moves = mark_put old outer hs new r h (quoted i cs) o f e e2 d k moves
 
   -- a closing bracket before the first open level
   -- one that may not stand where it does
@@ -106,10 +117,6 @@ module _ {X : Type 0} (IsKept : X → Content → Type 0) (base : ℕ) (w : List
       here [] u = absurd u
       here (l ∷ ls) u = subst (λ z. IsPushedAs IsKept base w (show_as outer (h ∷ hs)) (Some (stop_at i)) (close_level free f.outer ls l i z)) (sym n ∙ closes_same IsKept h l b u.0) ((subst (λ z. EachPiece IsKept base w z f.outer) e2 k.0, u), refl)
 
-  held_from : (h : Held X) (l : Level Tree) → IsHeld IsKept h l → l.from ≡ from_of h
-  held_from (array_level i s xs) l k = k.1
-  held_from (object_level i s xs) l k = k.1
-
   -- one that closes the innermost level, which has become an atom
   pub close_closes : (old : Shown X) (outer : List (CodePiece X)) (hs : List (Held X)) (new : Shown X) (r : Option CodeHalt) (h : Held X) (b : Bracket) (i : ℕ) (x : X) (f : Form Tree) → old.levels ≡ h ∷ hs → old.outer ≡ outer → closes_with h b ≡ true
       → PushesValue IsKept (show_as outer hs) new r (from_of h) x → IsShown IsKept base w old f → ((l : Level Tree) → IsHeld IsKept h l → IsKept x (one (built free l.bracket l.from l.inside))) → IsPushedAs IsKept base w new r (push free f (closes b i))
@@ -118,7 +125,7 @@ module _ {X : Type 0} (IsKept : X → Content → Type 0) (base : ℕ) (w : List
       here : (ls : List (Level Tree)) → EachHeld IsKept (h ∷ hs) ls → IsPushedAs IsKept base w new r (push_close free f.outer ls b i)
       here [] u = absurd u
       here (l ∷ ls) u = subst (λ z. IsPushedAs IsKept base w new r (close_level free f.outer ls l i z)) (sym n ∙ closes_same IsKept h l b u.0)
-          (subst (λ j. IsPushedAs IsKept base w new r (push_mark f.outer ls (entry j (built free l.bracket l.from l.inside)))) (sym (held_from h l u.0))
+          (subst (λ j. IsPushedAs IsKept base w new r (push_mark f.outer ls (entry j (built free l.bracket l.from l.inside)))) (sym (held_from IsKept h l u.0))
           (pushes base w (record { outer = f.outer; levels = ls }) (built free l.bracket l.from l.inside) (subst (λ z. EachPiece IsKept base w z f.outer) e2 k.0, u.1) (folds l u.0)))
 
   -- an opening bracket

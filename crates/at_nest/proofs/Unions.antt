@@ -52,56 +52,34 @@ closes_out _ _ h = absurd h
 -- a string that goes on doesn't end outside text
 pub stays_in : (s : Start) (u : List ℕ) → StaysInText s u → end_of s u ≡ Out → ⊥
 stays_in Out u h e = absurd h
-stays_in InString [] h e = no_out e
-  where
-    no_out : InString ≡ Out → ⊥
-    no_out e = let P : Start → Type 0 = λ x. elim x [ Out ↦ ⊥ | InString ↦ ⊤ | InEscape ↦ ⊤ ] in subst P e tt
 stays_in InString (b ∷ u) h e = stays_in (after_byte InString b) u h e
-stays_in InEscape [] h e = no_out e
-  where
-    no_out : InEscape ≡ Out → ⊥
-    no_out e = let P : Start → Type 0 = λ x. elim x [ Out ↦ ⊥ | InString ↦ ⊤ | InEscape ↦ ⊤ ] in subst P e tt
 stays_in InEscape (b ∷ u) h e = stays_in InString u h e
+stays_in _ [] h e = cc
+
+text_lead : (s : Start) (x : List ℕ) → (s ≡ Out → ⊥) → IsAllLead s x → StaysInText s x
+text_lead Out x n h = absurd (n refl)
+text_lead _ x n h = h
+
+text_end : (s : Start) (x more : List ℕ) → (s ≡ Out → ⊥) → IsLeadEnd s x more → ClosesText s x
+text_end Out x more n h = absurd (n refl)
+text_end _ x more n h = h
 
 -- text states are the same for what stays and closes
 pub lead_goes_on : (s : Start) (w x : List ℕ) → IsAllLead s w → IsAllLead (end_of s w) x → IsAllLead s (w ++ x)
 lead_goes_on Out w x h k = run_append w x h (subst (λ t. IsAllLead t x) (run_out w h) k)
-lead_goes_on InString w x h k = stays_stays InString w x h (as_stays (end_of InString w) (stays_in InString w h) k)
-  where
-    as_stays : (t : Start) → (t ≡ Out → ⊥) → IsAllLead t x → StaysInText t x
-    as_stays Out n k = absurd (n refl)
-    as_stays _ n k = k
-lead_goes_on InEscape w x h k = stays_stays InEscape w x h (as_stays (end_of InEscape w) (stays_in InEscape w h) k)
-  where
-    as_stays : (t : Start) → (t ≡ Out → ⊥) → IsAllLead t x → StaysInText t x
-    as_stays Out n k = absurd (n refl)
-    as_stays _ n k = k
+lead_goes_on s w x h k = stays_stays s w x h (text_lead (end_of s w) x (stays_in s w h) k)
 
 pub lead_ends_on : (s : Start) (w u more : List ℕ) → IsAllLead s w → IsLeadEnd (end_of s w) u more → IsLeadEnd s (w ++ u) more
 lead_ends_on Out w u more h k = let (r, e, b, o, c) = subst (λ t. IsLeadEnd t u more) (run_out w h) k in (run_append w u h r, e, b, o, c)
-lead_ends_on InString w u more h k = stays_closes InString w u h (as_closes (end_of InString w) (stays_in InString w h) k)
-  where
-    as_closes : (t : Start) → (t ≡ Out → ⊥) → IsLeadEnd t u more → ClosesText t u
-    as_closes Out n k = absurd (n refl)
-    as_closes _ n k = k
-lead_ends_on InEscape w u more h k = stays_closes InEscape w u h (as_closes (end_of InEscape w) (stays_in InEscape w h) k)
-  where
-    as_closes : (t : Start) → (t ≡ Out → ⊥) → IsLeadEnd t u more → ClosesText t u
-    as_closes Out n k = absurd (n refl)
-    as_closes _ n k = k
+lead_ends_on s w u more h k = stays_closes s w u h (text_end (end_of s w) u more (stays_in s w h) k)
 
 pub lead_more : (s : Start) (u more y : List ℕ) → IsLeadEnd s u more → IsLeadEnd s u (more ++ y)
-lead_more Out u more y (h, k, b, o, e) = (h, begins_on more b o e k, b, o ++ y, ap (λ z. z ++ y) e)
-  where
-    begins_on : (more : List ℕ) (b : ℕ) (o : List ℕ) → more ≡ b ∷ o → begins_run more ≡ false → begins_run (more ++ y) ≡ false
-    begins_on more b o e k = ap (λ z. begins_run (z ++ y)) e ∙ (ap begins_run (sym e) ∙ k)
-lead_more InString u more y h = h
-lead_more InEscape u more y h = h
+lead_more Out u more y (h, k, b, o, e) = (h, ap (λ z. begins_run (z ++ y)) e ∙ (ap begins_run (sym e) ∙ k), b, o ++ y, ap (λ z. z ++ y) e)
+lead_more _ u more y h = h
 
 pub lead_out : (s : Start) (u more : List ℕ) → IsLeadEnd s u more → end_of s u ≡ Out
 lead_out Out u more (h, k, b, o, e) = run_out u h
-lead_out InString u more h = closes_out InString u h
-lead_out InEscape u more h = closes_out InEscape u h
+lead_out s u more h = closes_out s u h
 
 -- ---- the lead of the union
 
@@ -138,28 +116,20 @@ pub apart_pending : (middle v x : List ℕ) → are_apart middle v ≡ true → 
 apart_pending middle [] x h k = ap (λ b. not (b && begins_run x)) (k refl)
 apart_pending middle (b ∷ v) x h k = h
 
-text_lead : (s : Start) (x : List ℕ) → (s ≡ Out → ⊥) → IsAllLead s x → StaysInText s x
-text_lead Out x n h = absurd (n refl)
-text_lead _ x n h = h
-
-text_end : (s : Start) (x more : List ℕ) → (s ≡ Out → ⊥) → IsLeadEnd s x more → ClosesText s x
-text_end Out x more n h = absurd (n refl)
-text_end _ x more n h = h
-
 pub run_begins_or : (x : List ℕ) → AreRun x → (x ≡ []) ⊎ (begins_run x ≡ true)
 run_begins_or [] h = inl refl
 run_begins_or (b ∷ x) (e, h) = inr e
+
+begins_more : (v x : List ℕ) → begins_run v ≡ true → begins_run (v ++ x) ≡ true
+begins_more [] x b = absurd (true≢false (sym b))
+begins_more (c ∷ v) x b = b
 
 pub pending_on : (v x : List ℕ) → IsPending v → IsAllLead (end_of Out v) x → IsPending (v ++ x)
 pending_on v x (none_pending e) h = let r : AreRun x = subst (λ z. IsAllLead (end_of Out z) x) e h in elim (run_begins_or x r) [
   | inl n ↦ none_pending (ap (λ z. z ++ x) e ∙ n)
   | inr b ↦ run_pending (subst (λ z. AreRun (z ++ x)) (sym e) r) (ap (λ z. begins_run (z ++ x)) e ∙ b)
 ]
-pending_on v x (run_pending r b) h = run_pending (run_append v x r (subst (λ t. IsAllLead t x) (run_out v r) h)) (begins_more v b)
-  where
-    begins_more : (v : List ℕ) → begins_run v ≡ true → begins_run (v ++ x) ≡ true
-    begins_more [] b = absurd (true≢false (sym b))
-    begins_more (c ∷ v) b = b
+pending_on v x (run_pending r b) h = run_pending (run_append v x r (subst (λ t. IsAllLead t x) (run_out v r) h)) (begins_more v x b)
 pending_on v x (text_pending u e k) h = text_pending (u ++ x) (ap (λ z. z ++ x) e) (stays_stays InString u x k (text_lead (end_of InString u) x (stays_in InString u k) (subst (λ z. IsAllLead (end_of Out z) x) e h)))
 
 pub token_of : (v x more : List ℕ) → IsPending v → IsLeadEnd (end_of Out v) x more → IsToken (v ++ x) more
@@ -167,11 +137,7 @@ token_of v x more (none_pending e) h = let (r, k, b, o, f) = subst (λ z. IsLead
   | inl n ↦ no_token (ap (λ z. z ++ x) e ∙ n) b o f
   | inr c ↦ a_run (subst (λ z. AreRun (z ++ x)) (sym e) r) (ap (λ z. begins_run (z ++ x)) e ∙ c) k b o f
 ]
-token_of v x more (run_pending r c) h = let (q, k, b, o, f) = subst (λ t. IsLeadEnd t x more) (run_out v r) h in a_run (run_append v x r q) (begins_more v c) k b o f
-  where
-    begins_more : (v : List ℕ) → begins_run v ≡ true → begins_run (v ++ x) ≡ true
-    begins_more [] b = absurd (true≢false (sym b))
-    begins_more (c ∷ v) b = b
+token_of v x more (run_pending r c) h = let (q, k, b, o, f) = subst (λ t. IsLeadEnd t x more) (run_out v r) h in a_run (run_append v x r q) (begins_more v x c) k b o f
 token_of v x more (text_pending u e k) h = a_text (u ++ x) (ap (λ z. z ++ x) e) (stays_closes InString u x k (text_end (end_of InString u) x more (stays_in InString u k) (subst (λ z. IsLeadEnd (end_of Out z) x more) e h)))
 
 -- ---- the merge of two variants
@@ -184,9 +150,8 @@ last_quote : (b : ℕ) → ClosesText (after_byte InString b) [] → is_run b �
 last_quote b h = by_tests (b == 0x5C) (b == 0x22) refl h
   where
     by_tests : (p q : Bool) → (b == 0x22) ≡ q → ClosesText (cond p InEscape (cond q Out InString)) [] → is_run b ≡ false
-    by_tests true q e h = absurd h
-    by_tests false false e h = absurd h
     by_tests false true e h = ap is_run (eqb-true b 0x22 e)
+    by_tests _ _ e h = absurd h
 
 -- a string's last byte is in no run
 pub closes_last : (s : Start) (u : List ℕ) → (s ≡ Out → ⊥) → ClosesText s u → ends_run u ≡ false
@@ -208,14 +173,8 @@ token_apart t more (a_text u e k) = ap (λ z. not (z && begins_run more)) (ap en
 
 -- where nothing is behind the token, it is a string
 token_last : (x t more : List ℕ) → IsToken t more → more ≡ [] → ends_run (x ++ t) ≡ false
-token_last x t more (no_token e b o f) n = absurd (not_nil b o (sym f ∙ n))
-  where
-    not_nil : (b : ℕ) (o : List ℕ) → b ∷ o ≡ [] → ⊥
-    not_nil b o e = let P : List ℕ → Type 0 = λ z. elim z [ [] ↦ ⊥ | c ∷ v ↦ ⊤ ] in subst P e tt
-token_last x t more (a_run r b k c o e) n = absurd (not_nil c o (sym e ∙ n))
-  where
-    not_nil : (b : ℕ) (o : List ℕ) → b ∷ o ≡ [] → ⊥
-    not_nil b o e = let P : List ℕ → Type 0 = λ z. elim z [ [] ↦ ⊥ | c ∷ v ↦ ⊤ ] in subst P e tt
+token_last x t more (no_token e b o f) n = absurd (cc)
+token_last x t more (a_run r b k c o e) n = absurd (cc)
 token_last x t more (a_text u e k) n = ap (λ z. ends_run (x ++ z)) e ∙ (ends_append x 0x22 u ∙ string_last u k)
 
 pub stop_ends : {X : Type 0} (m : Meaning X) (at : ℕ) (x t more : List ℕ) (h : SpanStop) (o : Pushed X) → IsPushed m at (x ++ (t ++ more)) (push_then (λ z. stopped z h) o) → Ends m at (x ++ t) more (push_then (λ z. stopped z h) o)
@@ -269,10 +228,7 @@ ended_by a t (d ∷ c) y k h n = ends_append (a ++ t) d c ∙ h
 
 pub left_nil : (v x : List ℕ) → v ++ x ≡ [] → v ≡ []
 left_nil [] x n = refl
-left_nil (b ∷ v) x n = absurd (not_nil b (v ++ x) n)
-  where
-    not_nil : (b : ℕ) (o : List ℕ) → b ∷ o ≡ [] → ⊥
-    not_nil b o e = let P : List ℕ → Type 0 = λ z. elim z [ [] ↦ ⊥ | c ∷ v ↦ ⊤ ] in subst P e tt
+left_nil (b ∷ v) x n = cc
 
 abbrev pub IsStopped : {X : Type 0} → Pushed X → Type 0
 IsStopped (further k) = ⊥

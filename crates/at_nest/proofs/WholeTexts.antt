@@ -1,6 +1,7 @@
 -- A span that is read as a whole text: its lead is a run of its own, and behind it stand the items that are kept.
 -- For `finish` and `finish_span`.
-use Rattle.std.proofs.Common.{◌≡◌, ℕ, inl, inr, Option, Some, None, List, [], ◌++◌, true, Result, Err, refl, sym, ◌∙◌, ap, subst, arith, append_assoc, append-nil, ◌+◌, ◌-◌, ◌≤◌, length, length-append, length-drop, length-take, take, drop, take-append-drop}
+use Rattle.std.proofs.Common.{◌≡◌, ℕ, inl, inr, Option, Some, None, List, [], ◌++◌, true, Result, Err, refl, sym, ◌∙◌, ap, subst, arith, append_assoc, append-nil, ◌+◌, ◌-◌, ◌≤◌, length, length-append, length-drop, take, drop, take-append-drop}
+use Rattle.std.proofs.lemmas.List.{length-take-le}
 use Rattle.std.proofs.Math.Seq.{take-append_seam, take-length, drop-append_seam}
 use Rattle.at_text.specs.Spans.{span_of}
 use Rattle.at_lex.specs.Spans.{AreRun}
@@ -21,6 +22,7 @@ use Rattle.at_nest.specs.VariantMeanings.{HoldsWhole, HoldsBroken, CanMeet, Meet
 use Rattle.at_nest.specs.NextItems.{next_of, stop_of}
 use Rattle.at_nest.specs.LastBytes.{EndsSo}
 use Rattle.at_nest.specs.TextAnswers.{Answers}
+use Rattle.at_nest.proofs.Joining.{went_on}
 use Rattle.at_nest.proofs.Joins.{apart_front}
 use Rattle.at_nest.proofs.Unions.{ends_token, ends_right, token_apart, run_begins_or}
 use Rattle.at_nest.proofs.UnionsHeld.{stops_behind}
@@ -35,17 +37,14 @@ use Rattle.at_nest.proofs.Merges.{apart_both}
 pub part_is : (bytes : List ℕ) (from to : ℕ) → from ≤ to → to ≤ length bytes → (y z : List ℕ) × (bytes ≡ y ++ (span_of bytes from to ++ z)) × (from ≡ length y) × (to ≡ length y + length (span_of bytes from to))
 part_is bytes from to h k =
     let long : length (drop from bytes) ≡ length bytes - from = length-drop from bytes in
-    let wide : length (take (to - from) (drop from bytes)) ≡ to - from = length-taken (to - from) (drop from bytes) (omega (arith, long, h, k)) in
-    let front : length (take from bytes) ≡ from = length-taken from bytes (omega (arith, h, k)) in (
+    let wide : length (take (to - from) (drop from bytes)) ≡ to - from = length-take-le (to - from) (drop from bytes) (omega (arith, long, h, k)) in
+    let front : length (take from bytes) ≡ from = length-take-le from bytes (omega (arith, h, k)) in (
       take from bytes,
       drop (to - from) (drop from bytes),
       sym (take-append-drop from bytes) ∙ ap (λ v. take from bytes ++ v) (sym (take-append-drop (to - from) (drop from bytes))),
       sym front,
       omega (arith, wide, front, h),
     )
-  where
-    length-taken : (n : ℕ) (w : List ℕ) → n ≤ length w → length (take n w) ≡ n
-    length-taken n w h = grind (arith, h, length-take n w)
 
 pub part_part : (bytes : List ℕ) (from to : ℕ) → from ≤ to → to ≤ length bytes → IsPartOf bytes from (span_of bytes from to)
 part_part bytes from to h k = let (y, z, e, i, j) = part_is bytes from to h k in (y, z, e, i)
@@ -55,21 +54,21 @@ pub inside_part : (bytes : List ℕ) (from to : ℕ) (a v z : List ℕ) (i j : �
 inside_part bytes from to a v z i j h k e p q =
     let (y, o, all, f, t) = part_is bytes from to h k in
     let wide : length (span_of bytes from to) ≡ length a + (length v + length z) = ap (λ x. length x) e ∙ (length-append a (v ++ z) ∙ ap (λ n. length a + n) (length-append v z)) in
-    let split : bytes ≡ (y ++ a) ++ (v ++ (z ++ o)) = all ∙ (ap (λ x. y ++ (x ++ o)) e ∙ regroup y a v z o) in
+    let split : bytes ≡ (y ++ a) ++ (v ++ (z ++ o)) = all ∙ (ap (λ x. y ++ (x ++ o)) e ∙ simp append_assoc) in
     let front : i ≡ length (y ++ a) = omega (arith, p, f, length-append y a) in
     let size : j - i ≡ length v = omega (arith, q) in (
       ap (λ n. take n (drop i bytes)) size ∙ (ap (take (length v)) (ap (λ n. drop n bytes) front ∙ (ap (drop (length (y ++ a))) split ∙ drop-append_seam (y ++ a) (v ++ (z ++ o)))) ∙ take-append_seam v (z ++ o)),
       omega (arith, q),
       omega (arith, q, p, f, t, wide),
     )
-  where
-    regroup : (y a v z o : List ℕ) → y ++ ((a ++ (v ++ z)) ++ o) ≡ (y ++ a) ++ (v ++ (z ++ o))
-    regroup y a v z o = (simp append_assoc)
 
 -- ---- the lead
 
 lead_token : (u more : List ℕ) → IsLeadEnd Out u more → IsToken u more
 lead_token u more (r, k, b, o, e) = elim (run_begins_or u r) [ inl n ↦ no_token n b o e | inr c ↦ a_run r c k b o e ]
+
+lead_apart : (u more : List ℕ) → IsLeadEnd Out u more → are_apart u more ≡ true
+lead_apart u more l = token_apart u more (lead_token u more l)
 
 pub lead_pends : (w : List ℕ) → AreRun w → IsPending w
 lead_pends w r = elim (run_begins_or w r) [ inl n ↦ none_pending n | inr b ↦ run_pending r b ]
@@ -160,49 +159,50 @@ module _ {X : Type 0} (K : X → Content → Type 0) where
   stop_answers : (at : ℕ) (w : List ℕ) (s : Shown X) (f : Form Tree) (halt : CodeHalt) → IsShown K at w s f → IsStop free at w f (halt_of halt) → Answers K at w (Err (stop_of (next_of s) halt))
   stop_answers at w s f halt h stop = told K at w (finished free (stopped f (halt_of halt))) (Err (stop_of (next_of s) halt)) (finished_ok free at w (stopped f (halt_of halt)) stop tt) (stop_tells K at w s f halt h stop.form.levels)
 
+  -- the lead and the items, up to what is pending
+  whole_met : (bytes : List ℕ) (from to lead : ℕ) (old behind new : Shown X) (r : Option CodeHalt) (pend : ℕ) (end : Start) → from ≤ to → to ≤ length bytes → old ≡ show_as [] [] → (w : HoldsWhole K Out from (span_of bytes from to) lead behind pend end)
+      → Meets K bytes old behind new r from (take (lead - from) (drop from bytes)) → (o : Pushed Tree) × Ends free from (w.first ++ w.is_whole.middle) w.last o × IsPushedAs K from (span_of bytes from to) new r o
+  whole_met bytes from to lead old behind new r pend end h k n w meets =
+      let more : List ℕ = w.is_whole.middle ++ w.last in
+      let m = met bytes from to lead old behind new r w.form w.first more h k n w.is_whole.split w.is_whole.lead w.lead_at w.is_shown w.is_whole.form.levels meets in
+      let q : Pushed Tree = merged free (further empty_form) m.0 in (
+        push_then (λ z. merged free (further z) (further w.form)) q,
+        ends_right free from w.first w.is_whole.middle w.last q (further w.form) (first_token from w.first more m.0 m.1) w.is_whole.form (apart_front w.first w.is_whole.middle w.last (lead_apart w.first more w.is_whole.lead)),
+        m.2,
+      )
+
   -- the items go on to what is pending
   pub whole_goes : (bytes : List ℕ) (from to lead : ℕ) (old behind new : Shown X) (r : Option CodeHalt) (pend : ℕ) (end : Start) (result : Result X NestEnd) → from ≤ to → to ≤ length bytes → old ≡ show_as [] [] → HoldsWhole K Out from (span_of bytes from to) lead behind pend end
       → Meets K bytes old behind new r from (take (lead - from) (drop from bytes)) → r ≡ None → EndsSo K new pend (take (to - pend) (drop pend bytes)) result → Answers K from (span_of bytes from to) result
   whole_goes bytes from to lead old behind new r pend end result h k n w meets none ends =
       let l = last_is bytes from to lead behind pend end h k w in
-      let more : List ℕ = w.is_whole.middle ++ w.last in
-      let m = met bytes from to lead old behind new r w.form w.first more h k n w.is_whole.split w.is_whole.lead w.lead_at w.is_shown w.is_whole.form.levels meets in
-      let t : are_apart w.first more ≡ true = token_apart w.first more (lead_token w.first more w.is_whole.lead) in
-      let q : Pushed Tree = merged free (further empty_form) m.0 in
-      let all : span_of bytes from to ≡ (w.first ++ w.is_whole.middle) ++ w.last = w.is_whole.split ∙ sym (append_assoc w.first w.is_whole.middle w.last) in
-      by_form (push_then (λ z. merged free (further z) (further w.form)) q)
-      (ends_right free from w.first w.is_whole.middle w.last q (further w.form) (first_token from w.first more m.0 m.1) w.is_whole.form (apart_front w.first w.is_whole.middle w.last t))
-      (subst (λ z. IsPushedAs K from (span_of bytes from to) new z (push_then (λ z. merged free (further z) (further w.form)) q)) none m.2) all
-      (apart_both w.first w.is_whole.middle w.last t w.is_whole.apart) w.last (w.first ++ w.is_whole.middle) l.2 (subst (λ z. EndsSo K new pend z result) l.0 ends)
+      let o = whole_met bytes from to lead old behind new r pend end h k n w meets in
+      by_form o.0 o.1 (subst (λ z. IsPushedAs K from (span_of bytes from to) new z o.0) none o.2) l.2 (subst (λ z. EndsSo K new pend z result) l.0 ends)
     where
-      by_form : (o : Pushed Tree) → Ends free from (w.first ++ w.is_whole.middle) w.last o → IsPushedAs K from (span_of bytes from to) new None o → span_of bytes from to ≡ (w.first ++ w.is_whole.middle) ++ w.last → are_apart (w.first ++ w.is_whole.middle) w.last ≡ true
-          → (v x : List ℕ) → pend ≡ from + length (w.first ++ w.is_whole.middle) → EndsSo K new pend w.last result → Answers K from (span_of bytes from to) result
-      by_form (further f) form kept all apart v x place ends = subst (λ z. Answers K from z result) (sym all) (ends from (w.first ++ w.is_whole.middle) f (subst (λ z. IsShown K from z new f) all kept) form apart place)
-      by_form (stopped f y) form kept all apart v x place ends = absurd kept
+      all : span_of bytes from to ≡ (w.first ++ w.is_whole.middle) ++ w.last
+      all = w.is_whole.split ∙ sym (append_assoc w.first w.is_whole.middle w.last)
+
+      apart : are_apart (w.first ++ w.is_whole.middle) w.last ≡ true
+      apart = apart_both w.first w.is_whole.middle w.last (lead_apart w.first (w.is_whole.middle ++ w.last) w.is_whole.lead) w.is_whole.apart
+
+      by_form : (o : Pushed Tree) → Ends free from (w.first ++ w.is_whole.middle) w.last o → IsPushedAs K from (span_of bytes from to) new None o → pend ≡ from + length (w.first ++ w.is_whole.middle) → EndsSo K new pend w.last result → Answers K from (span_of bytes from to) result
+      by_form (further f) form kept place ends = subst (λ z. Answers K from z result) (sym all) (ends from (w.first ++ w.is_whole.middle) f (subst (λ z. IsShown K from z new f) all kept) form apart place)
+      by_form (stopped f y) form kept place ends = absurd kept
 
   -- what is kept then stands for items
   pub items_whole : (bytes : List ℕ) (from to lead : ℕ) (old behind new : Shown X) (r : Option CodeHalt) (pend : ℕ) (end : Start) → from ≤ to → to ≤ length bytes → old ≡ show_as [] [] → HoldsWhole K Out from (span_of bytes from to) lead behind pend end
       → Meets K bytes old behind new r from (take (lead - from) (drop from bytes)) → r ≡ None → IsOfItems K new
   items_whole bytes from to lead old behind new r pend end h k n w meets none =
-      let m = met bytes from to lead old behind new r w.form w.first (w.is_whole.middle ++ w.last) h k n w.is_whole.split w.is_whole.lead w.lead_at w.is_shown w.is_whole.form.levels meets in
-      by_form (push_then (λ z. merged free (further z) (further w.form)) (merged free (further empty_form) m.0)) (subst (λ z. IsPushedAs K from (span_of bytes from to) new z (push_then (λ z. merged free (further z) (further w.form)) (merged free (further empty_form) m.0))) none m.2)
-    where
-      by_form : (o : Pushed Tree) → IsPushedAs K from (span_of bytes from to) new None o → IsOfItems K new
-      by_form (further f) kept = (from, span_of bytes from to, f, kept)
-      by_form (stopped f y) kept = absurd kept
+      let o = whole_met bytes from to lead old behind new r pend end h k n w meets in
+      let q = went_on K from (span_of bytes from to) new o.0 (subst (λ z. IsPushedAs K from (span_of bytes from to) new z o.0) none o.2) in
+      (from, span_of bytes from to, q.0, q.2)
 
   -- the lead stops, or an item behind it
   pub whole_stops : (bytes : List ℕ) (from to lead : ℕ) (old behind new : Shown X) (r : Option CodeHalt) (pend : ℕ) (end : Start) (halt : CodeHalt) → from ≤ to → to ≤ length bytes → old ≡ show_as [] [] → HoldsWhole K Out from (span_of bytes from to) lead behind pend end
       → Meets K bytes old behind new r from (take (lead - from) (drop from bytes)) → r ≡ Some halt → Answers K from (span_of bytes from to) (Err (stop_of (next_of new) halt))
   whole_stops bytes from to lead old behind new r pend end halt h k n w meets some =
-      let more : List ℕ = w.is_whole.middle ++ w.last in
-      let m = met bytes from to lead old behind new r w.form w.first more h k n w.is_whole.split w.is_whole.lead w.lead_at w.is_shown w.is_whole.form.levels meets in
-      let t : are_apart w.first more ≡ true = token_apart w.first more (lead_token w.first more w.is_whole.lead) in
-      let q : Pushed Tree = merged free (further empty_form) m.0 in
-      let all : span_of bytes from to ≡ (w.first ++ w.is_whole.middle) ++ w.last = w.is_whole.split ∙ sym (append_assoc w.first w.is_whole.middle w.last) in
-      by_stop (push_then (λ z. merged free (further z) (further w.form)) q)
-      (ends_right free from w.first w.is_whole.middle w.last q (further w.form) (first_token from w.first more m.0 m.1) w.is_whole.form (apart_front w.first w.is_whole.middle w.last t))
-      (subst (λ z. IsPushedAs K from (span_of bytes from to) new z (push_then (λ z. merged free (further z) (further w.form)) q)) some m.2) all
+      let o = whole_met bytes from to lead old behind new r pend end h k n w meets in
+      by_stop o.0 o.1 (subst (λ z. IsPushedAs K from (span_of bytes from to) new z o.0) some o.2) (w.is_whole.split ∙ sym (append_assoc w.first w.is_whole.middle w.last))
     where
       by_stop : (o : Pushed Tree) → Ends free from (w.first ++ w.is_whole.middle) w.last o → IsPushedAs K from (span_of bytes from to) new (Some halt) o → span_of bytes from to ≡ (w.first ++ w.is_whole.middle) ++ w.last → Answers K from (span_of bytes from to) (Err (stop_of (next_of new) halt))
       by_stop (further f) stop kept all = absurd kept
@@ -214,9 +214,8 @@ module _ {X : Type 0} (K : X → Content → Type 0) where
   broken_stops bytes from to lead old behind new r last halt h k n w meets first =
       let more : List ℕ = w.is_broken.more in
       let m = met bytes from to lead old behind new r w.form w.first more h k n w.is_broken.split w.is_broken.lead w.lead_at w.is_shown w.is_broken.stop.form.levels meets in
-      let t : are_apart w.first more ≡ true = token_apart w.first more (lead_token w.first more w.is_broken.lead) in
       let q : Pushed Tree = merged free (further empty_form) m.0 in
-      let ends : Ends free from (w.first ++ more) [] (push_then (λ z. merged free (further z) (stopped w.form (halt_of last))) q) = ends_right free from w.first more [] q (stopped w.form (halt_of last)) (subst (λ z. Ends free from w.first z q) (sym (append-nil more)) (first_token from w.first more m.0 m.1)) w.is_broken.stop t in
+      let ends : Ends free from (w.first ++ more) [] (push_then (λ z. merged free (further z) (stopped w.form (halt_of last))) q) = ends_right free from w.first more [] q (stopped w.form (halt_of last)) (subst (λ z. Ends free from w.first z q) (sym (append-nil more)) (first_token from w.first more m.0 m.1)) w.is_broken.stop (lead_apart w.first more w.is_broken.lead) in
       subst (λ z. Answers K from (span_of bytes from to) (Err (stop_of (next_of new) z))) (sym first)
       (by_stop r (push_then (λ z. merged free (further z) (further w.form)) q) m.2 (subst (λ z. Ends free from (w.first ++ more) [] z) (stops_behind K w.form (halt_of last) q) ends) w.is_broken.split)
     where

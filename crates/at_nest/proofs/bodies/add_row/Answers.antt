@@ -2,15 +2,13 @@
 use Rattle.std.proofs.Common.{None, sym}
 use Rattle.std.proofs.lemmas.Result.{IfOk-weaker}
 use Rattle.at_nest.specs.Shown.{shown, held_of, comma_next}
-use Rattle.at_nest.specs.KeptItems.{OwnAtom}
 use Rattle.at_nest.proofs.Adding.{innermost_own}
 use Rattle.at_nest.proofs.Rows.{row_outside, row_refused, row_put, step_on, step_refused, comma_own}
 use Rattle.at_nest.proofs.bodies.add_row.Goals as goal
 
 pub returns-in-None : goal.returns-in-None
-returns-in-None g c = let own = g.A.Algebra.is_own c.args.algebra.now in let fold = g.A.Algebra.is_fold c.args.algebra.now in let run = g.A.Algebra.is_run c.args.algebra.now in
-    IfOk-weaker c.keep.result _ _
-    (λ r d. row_outside (OwnAtom own fold run) (shown c.args.body.now) (shown c.keep.new.self) r c.args.row (shown c.innermost.new.self).outer c.in-None.ensures.levels.0 (sym c.innermost.ensures.outer) d)
+returns-in-None g c = IfOk-weaker c.keep.result _ _
+    (λ r d. row_outside _ (shown c.args.body.now) (shown c.keep.new.self) r c.args.row (shown c.innermost.new.self).outer c.in-None.ensures.levels.0 (sym c.innermost.ensures.outer) d)
     c.keep.ensures
 
 pub put_row-requires-clause-level : goal.put_row-requires-clause-level
@@ -18,15 +16,13 @@ put_row-requires-clause-level g c κs within = let own = g.A.Algebra.is_own c.ar
     comma_own own (held_of c.in-Some.level) (held_of c.in-On.level) (innermost_own own fold run (shown c.args.body.now) (held_of c.in-Some.level) (shown c.innermost.new.self).levels c.requires.held c.in-Some.ensures.levels) (step_on (held_of c.in-Some.level) (comma_next (held_of c.in-Some.level)) c.in-On.level c.in-On.ensures)
 
 pub returns-in-Refused : goal.returns-in-Refused
-returns-in-Refused g c = let own = g.A.Algebra.is_own c.args.algebra.now in let fold = g.A.Algebra.is_fold c.args.algebra.now in let run = g.A.Algebra.is_run c.args.algebra.now in
-    let step = step_refused (held_of c.in-Some.level) (comma_next (held_of c.in-Some.level)) c.in-Refused.level c.in-Refused.ensures in
+returns-in-Refused g c = let step = step_refused (held_of c.in-Some.level) (comma_next (held_of c.in-Some.level)) c.in-Refused.level c.in-Refused.ensures in
     IfOk-weaker c.put.result _ _
-    (λ r d. row_refused (OwnAtom own fold run) (shown c.args.body.now) (shown c.put.new.self) r (shown c.innermost.new.self).outer (shown c.innermost.new.self).levels (held_of c.in-Some.level) c.args.row c.in-Some.ensures.levels (sym c.innermost.ensures.outer) step.0 (d (held_of c.in-Some.level) None step.1))
+    (λ r d. row_refused _ (shown c.args.body.now) (shown c.put.new.self) r (shown c.innermost.new.self).outer (shown c.innermost.new.self).levels (held_of c.in-Some.level) c.args.row c.in-Some.ensures.levels (sym c.innermost.ensures.outer) step.0 (d (held_of c.in-Some.level) None step.1))
     c.put.ensures
 
 pub returns-in-On : goal.returns-in-On
-returns-in-On g c = let own = g.A.Algebra.is_own c.args.algebra.now in let fold = g.A.Algebra.is_fold c.args.algebra.now in let run = g.A.Algebra.is_run c.args.algebra.now in
-    IfOk-weaker c.put_row.result _ _
-    (λ r p. row_put (OwnAtom own fold run) (shown c.args.body.now) (shown c.put_row.new.body) r (shown c.innermost.new.self).outer (shown c.innermost.new.self).levels (held_of c.in-Some.level) (held_of c.in-On.level) p.0 c.args.row c.in-Some.ensures.levels (sym c.innermost.ensures.outer)
+returns-in-On g c = IfOk-weaker c.put_row.result _ _
+    (λ r p. row_put _ (shown c.args.body.now) (shown c.put_row.new.body) r (shown c.innermost.new.self).outer (shown c.innermost.new.self).levels (held_of c.in-Some.level) (held_of c.in-On.level) p.0 c.args.row c.in-Some.ensures.levels (sym c.innermost.ensures.outer)
     (step_on (held_of c.in-Some.level) (comma_next (held_of c.in-Some.level)) c.in-On.level c.in-On.ensures) p.1 p.2)
     c.put_row.ensures

@@ -4,25 +4,15 @@ use Rattle.std.proofs.lemmas.Result.{IfOk-weaker}
 use Rattle.at_nest.specs.declared.levels.MemberName.{MemberName}
 use Rattle.at_nest.specs.declared.pieces.Piece.TheVariants.{Text}
 use Rattle.at_nest.specs.Shown.{shown, held_of, name_next, value_next}
-use Rattle.at_nest.specs.KeptItems.{OwnAtom}
+use Rattle.at_nest.specs.KeptItems.{IsAtomOf, OwnAtom}
 use Rattle.at_nest.proofs.Held.{name_moves, text_moves}
-use Rattle.at_nest.proofs.MemberRows.{text_same}
 use Rattle.at_nest.proofs.Showing.{text_put, text_bytes}
 use Rattle.at_nest.proofs.Adding.{adds_text, has_text, innermost_own, some_items}
-use Rattle.at_nest.proofs.OwnItems.{can_add_own}
 use Rattle.at_nest.proofs.bodies.add_text.Goals as goal
 
 pub units-requires-clause-whole : goal.units-requires-clause-whole
-units-requires-clause-whole g c = let own = g.A.Algebra.is_own c.args.algebra.now in let fold = g.A.Algebra.is_fold c.args.algebra.now in let run = g.A.Algebra.is_run c.args.algebra.now in
-    let t = has_text (OwnAtom own fold run) c.args.bytes.now (shown c.args.body.now) c.args.span c.args.atom c.requires.held in
+units-requires-clause-whole g c = let t = has_text (IsAtomOf g.A.Algebra c.args.algebra.now) c.args.bytes.now (shown c.args.body.now) c.args.span c.args.atom c.requires.held in
     (t.cs, t.at.0, text_bytes c.args.bytes.now t.base t.w c.args.span t.cs t.part t.at)
-
-pub returns-in-None : goal.returns-in-None
-returns-in-None g c = let own = g.A.Algebra.is_own c.args.algebra.now in let fold = g.A.Algebra.is_fold c.args.algebra.now in let run = g.A.Algebra.is_run c.args.algebra.now in
-    IfOk-weaker c.keep_text.result _ _
-    (λ r d. adds_text (OwnAtom own fold run) c.args.bytes.now (shown c.args.body.now) (shown c.keep_text.new.body) r c.args.span c.args.atom
-    (λ base w f cs part h t k. text_same (OwnAtom own fold run) (shown c.args.body.now) (shown c.innermost.new.self) (shown c.keep_text.new.body) r c.args.span c.args.atom c.innermost.ensures.outer (c.in-None.ensures.levels.1 ∙ sym c.in-None.ensures.levels.0) d base w f cs h t k))
-    c.keep_text.ensures
 
 pub returns-in_ok-units-in-Some : goal.returns-in_ok-units-in-Some
 returns-in_ok-units-in-Some g c = let own = g.A.Algebra.is_own c.args.algebra.now in let fold = g.A.Algebra.is_fold c.args.algebra.now in let run = g.A.Algebra.is_run c.args.algebra.now in
@@ -38,10 +28,6 @@ returns-in_ok-units-in-Some g c = let own = g.A.Algebra.is_own c.args.algebra.no
 pub with_value-requires-clause-level : goal.with_value-requires-clause-level
 with_value-requires-clause-level g c κs within = let own = g.A.Algebra.is_own c.args.algebra.now in let fold = g.A.Algebra.is_fold c.args.algebra.now in let run = g.A.Algebra.is_run c.args.algebra.now in
     innermost_own own fold run (shown c.args.body.now) (held_of c.in-Some.level) (shown c.innermost.new.self).levels (some_items (OwnAtom own fold run) c.args.bytes.now (shown c.args.body.now) (Text c.args.span c.args.atom) c.requires.held) c.in-Some.ensures.levels
-
-pub with_value-requires-clause-atom : goal.with_value-requires-clause-atom
-with_value-requires-clause-atom g c κs within = let own = g.A.Algebra.is_own c.args.algebra.now in let fold = g.A.Algebra.is_fold c.args.algebra.now in let run = g.A.Algebra.is_run c.args.algebra.now in
-    can_add_own own fold run c.args.bytes.now (shown c.args.body.now) (Text c.args.span c.args.atom) c.requires.held
 
 pub returns-in_ok-with_value-in-Some : goal.returns-in_ok-with_value-in-Some
 returns-in_ok-with_value-in-Some g c = let own = g.A.Algebra.is_own c.args.algebra.now in let fold = g.A.Algebra.is_fold c.args.algebra.now in let run = g.A.Algebra.is_run c.args.algebra.now in

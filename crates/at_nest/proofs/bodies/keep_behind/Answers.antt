@@ -9,8 +9,8 @@ use Rattle.at_nest.proofs.Rows.{row_longer}
 use Rattle.at_nest.proofs.bodies.keep_behind.Goals as goal
 
 pub lengthen_row-requires-clause-items : goal.lengthen_row-requires-clause-items
-lengthen_row-requires-clause-items g c κs within = let own = g.A.Algebra.is_own c.args.algebra.now in let fold = g.A.Algebra.is_fold c.args.algebra.now in let run = g.A.Algebra.is_run c.args.algebra.now in
-    row_own own fold run (shown c.args.body.now) c.pop.new.self.items c.in-Some-Row.row c.requires.held (c.in-Some-Row.ensures.items ∙ ap (λ (z : Piece g.row.A-Atom.Denot). c.pop.new.self.items ++ z ∷ []) c.in-Some-Row.field-0-is)
+lengthen_row-requires-clause-items g c κs within =
+    row_own _ _ _ (shown c.args.body.now) c.pop.new.self.items c.in-Some-Row.row c.requires.held (c.in-Some-Row.ensures.items ∙ ap (λ (z : Piece g.row.A-Atom.Denot). c.pop.new.self.items ++ z ∷ []) c.in-Some-Row.field-0-is)
 
 pub returns-in-Some-Row : goal.returns-in-Some-Row
 returns-in-Some-Row g c = let own = g.A.Algebra.is_own c.args.algebra.now in let fold = g.A.Algebra.is_fold c.args.algebra.now in let run = g.A.Algebra.is_run c.args.algebra.now in

@@ -7,16 +7,8 @@ use Rattle.at_nest.specs.Shown.{shown, held_of, name_next, value_next}
 use Rattle.at_nest.specs.KeptItems.{OwnAtom}
 use Rattle.at_nest.proofs.Held.{name_moves, text_moves}
 use Rattle.at_nest.proofs.Adding.{innermost_own}
-use Rattle.at_nest.proofs.MemberRows.{text_same}
 use Rattle.at_nest.proofs.Showing.{text_put}
 use Rattle.at_nest.proofs.bodies.read_text.Goals as goal
-
-pub returns-in_ok-atom-in-None : goal.returns-in_ok-atom-in-None
-returns-in_ok-atom-in-None g c = let own = g.A.Algebra.is_own c.args.algebra.now in let fold = g.A.Algebra.is_fold c.args.algebra.now in let run = g.A.Algebra.is_run c.args.algebra.now in
-    IfOk-weaker c.keep_text.result _ _
-    (λ r d cs ok e base w f h t. text_same (OwnAtom own fold run) (shown c.args.body.now) (shown c.innermost.new.self) (shown c.keep_text.new.body) r _ c.in_ok-atom-in-None.atom c.innermost.ensures.outer (c.in-None.ensures.levels.1 ∙ sym c.in-None.ensures.levels.0) d base w f cs h t
-    (c.in_ok-atom-in-None.ensures.own, c.in_ok-atom-in-None.ensures.fold (text c.args.at cs) (refl, (ok, e))))
-    c.keep_text.ensures
 
 pub returns-in_ok-units-in-Some : goal.returns-in_ok-units-in-Some
 returns-in_ok-units-in-Some g c = let own = g.A.Algebra.is_own c.args.algebra.now in let fold = g.A.Algebra.is_fold c.args.algebra.now in let run = g.A.Algebra.is_run c.args.algebra.now in

@@ -1,25 +1,14 @@
 -- The value stands before the first open level, or goes into the innermost one.
-use Rattle.std.proofs.Common.{sym, ◌∙◌}
+use Rattle.std.proofs.Common.{sym}
 use Rattle.std.proofs.lemmas.Result.{IfOk-weaker}
 use Rattle.at_nest.specs.Shown.{shown, held_of, value_next}
 use Rattle.at_nest.specs.KeptItems.{OwnAtom}
 use Rattle.at_nest.proofs.Adding.{innermost_own}
 use Rattle.at_nest.proofs.Showing.{value_put}
-use Rattle.at_nest.proofs.Rows.{items_same, value_same}
 use Rattle.at_nest.proofs.bodies.read_value.Goals as goal
 
 pub with_value-requires-clause-level : goal.with_value-requires-clause-level
 with_value-requires-clause-level g c κs within = innermost_own (g.A.Algebra.is_own c.args.algebra.now) (g.A.Algebra.is_fold c.args.algebra.now) (g.A.Algebra.is_run c.args.algebra.now) (shown c.args.body.now) (held_of c.in-Some.level) (shown c.innermost.new.self).levels c.requires.held c.in-Some.ensures.levels
-
-pub keep_value-requires-clause-held : goal.keep_value-requires-clause-held
-keep_value-requires-clause-held g c κs within = let own = g.A.Algebra.is_own c.args.algebra.now in let fold = g.A.Algebra.is_fold c.args.algebra.now in let run = g.A.Algebra.is_run c.args.algebra.now in
-    items_same (OwnAtom own fold run) (shown c.args.body.now) (shown c.innermost.new.self) c.innermost.ensures.outer (c.in-None.ensures.levels.1 ∙ sym c.in-None.ensures.levels.0) c.requires.held
-
-pub returns-in-None : goal.returns-in-None
-returns-in-None g c = let own = g.A.Algebra.is_own c.args.algebra.now in let fold = g.A.Algebra.is_fold c.args.algebra.now in let run = g.A.Algebra.is_run c.args.algebra.now in
-    IfOk-weaker c.keep_value.result _ _
-    (λ r d. value_same (OwnAtom own fold run) (shown c.args.body.now) (shown c.innermost.new.self) (shown c.keep_value.new.body) r c.args.from c.args.atom c.innermost.ensures.outer (c.in-None.ensures.levels.1 ∙ sym c.in-None.ensures.levels.0) d)
-    c.keep_value.ensures
 
 pub returns-in_ok-with_value-in-Some : goal.returns-in_ok-with_value-in-Some
 returns-in_ok-with_value-in-Some g c = let own = g.A.Algebra.is_own c.args.algebra.now in let fold = g.A.Algebra.is_fold c.args.algebra.now in let run = g.A.Algebra.is_run c.args.algebra.now in

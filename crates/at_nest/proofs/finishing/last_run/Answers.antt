@@ -1,20 +1,11 @@
 -- The value may stand behind the items, or the text stops at it.
 use Rattle.std.proofs.Common.{sym, ◌∙◌, ap, Err}
 use Rattle.std.proofs.lemmas.Option.{none-some}
-use Rattle.std.proofs.lemmas.Result.{err_from_is_err_and}
 use Rattle.at_nest.specs.Shown.{shown}
 use Rattle.at_nest.specs.KeptItems.{OwnAtom}
 use Rattle.at_nest.specs.NextItems.{next_of, stop_of}
-use Rattle.at_nest.proofs.LastBytes.{ends_run, ends_refused, same_halt}
+use Rattle.at_nest.proofs.LastBytes.{ends_run, same_halt}
 use Rattle.at_nest.proofs.finishing.last_run.Goals as goal
-
-pub returns-in_err-atom : goal.returns-in_err-atom
-returns-in_err-atom g c = let own = g.A.Algebra.is_own c.args.algebra.now in let fold = g.A.Algebra.is_fold c.args.algebra.now in let run = g.A.Algebra.is_run c.args.algebra.now in
-    let p = err_from_is_err_and c.from_residual.result c.from_residual.ensures.1 in ends_refused (OwnAtom own fold run) (shown c.args.body) c.args.from c.args.text.now c.from_residual.result _ p.1 p.2
-
-pub returns-in_err-read_value : goal.returns-in_err-read_value
-returns-in_err-read_value g c = let own = g.A.Algebra.is_own c.args.algebra.now in let fold = g.A.Algebra.is_fold c.args.algebra.now in let run = g.A.Algebra.is_run c.args.algebra.now in
-    let p = err_from_is_err_and c.from_residual-in_err-read_value.result c.from_residual-in_err-read_value.ensures.1 in ends_refused (OwnAtom own fold run) (shown c.args.body) c.args.from c.args.text.now c.from_residual-in_err-read_value.result _ p.1 p.2
 
 pub returns-in-None : goal.returns-in-None
 returns-in-None g c = let own = g.A.Algebra.is_own c.args.algebra.now in let fold = g.A.Algebra.is_fold c.args.algebra.now in let run = g.A.Algebra.is_run c.args.algebra.now in

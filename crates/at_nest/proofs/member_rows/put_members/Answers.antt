@@ -3,13 +3,12 @@ use Rattle.std.proofs.Common.{◌≡◌, Some, sym, ◌∙◌, ap, subst}
 use Rattle.std.proofs.lemmas.Result.{IfOk-weaker}
 use Rattle.at_nest.specs.declared.levels.ObjectState.TheVariants as object
 use Rattle.at_nest.specs.Shown.{Held, shown, held_of, object_held, object_level}
-use Rattle.at_nest.specs.KeptItems.{OwnAtom, IsBehindComma, PutsMembers}
+use Rattle.at_nest.specs.KeptItems.{IsAtomOf, OwnAtom, IsBehindComma, PutsMembers}
 use Rattle.at_nest.proofs.MemberRows.{each_has_name, members_in_object}
 use Rattle.at_nest.proofs.member_rows.put_members.Goals as goal
 
 pub with_members-requires-clause-names : goal.with_members-requires-clause-names
-with_members-requires-clause-names g c κs within = let own = g.A.Algebra.is_own c.args.algebra.now in let fold = g.A.Algebra.is_fold c.args.algebra.now in let run = g.A.Algebra.is_run c.args.algebra.now in
-    each_has_name (OwnAtom own fold run) c.args.bytes.now c.args.row c.requires.row
+with_members-requires-clause-names g c κs within = each_has_name (IsAtomOf g.A.Algebra c.args.algebra.now) c.args.bytes.now c.args.row c.requires.row
 
 pub returns-in_ok-new-in-Object : goal.returns-in_ok-new-in-Object
 returns-in_ok-new-in-Object g c = let own = g.A.Algebra.is_own c.args.algebra.now in let fold = g.A.Algebra.is_fold c.args.algebra.now in let run = g.A.Algebra.is_run c.args.algebra.now in

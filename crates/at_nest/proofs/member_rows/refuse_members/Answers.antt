@@ -5,14 +5,14 @@ use Rattle.at_nest.specs.declared.levels.Level.TheVariants.{Array}
 use Rattle.at_nest.specs.declared.levels.Step.{Step}
 use Rattle.at_nest.specs.Tree.{text}
 use Rattle.at_nest.specs.Shown.{shown, held_of}
-use Rattle.at_nest.specs.KeptItems.{OwnAtom, AddsTo}
+use Rattle.at_nest.specs.KeptItems.{IsAtomOf, OwnAtom, AddsTo}
 use Rattle.at_nest.proofs.Showing.{text_bytes}
 use Rattle.at_nest.proofs.MemberRows.{first_name, members_in_array}
 use Rattle.at_nest.proofs.member_rows.refuse_members.Goals as goal
 
 pub scalar-requires-clause-whole : goal.scalar-requires-clause-whole
-scalar-requires-clause-whole g c = let own = g.A.Algebra.is_own c.args.algebra.now in let fold = g.A.Algebra.is_fold c.args.algebra.now in let run = g.A.Algebra.is_run c.args.algebra.now in
-    let (base, w, cs, part, at) = first_name (OwnAtom own fold run) c.args.bytes.now c.args.row c.index.result.now c.index.ensures c.requires.row in
+scalar-requires-clause-whole g c =
+    let (base, w, cs, part, at) = first_name (IsAtomOf g.A.Algebra c.args.algebra.now) c.args.bytes.now c.args.row c.index.result.now c.index.ensures c.requires.row in
     inl (cs, at.0, text_bytes c.args.bytes.now base w c.index.result.now.name cs part at)
 
 pub returns-in-On : goal.returns-in-On

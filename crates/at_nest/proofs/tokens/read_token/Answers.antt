@@ -3,15 +3,15 @@ use Rattle.std.proofs.Common.{sym, ◌∙◌, ap, subst, Some, ◌-◌}
 use Rattle.std.proofs.lemmas.Result.{IfOk-weaker}
 use Rattle.at_nest.specs.declared.pieces.SpanStop.{SpanStop}
 use Rattle.at_nest.specs.Shown.{shown}
-use Rattle.at_nest.specs.KeptItems.{OwnAtom}
+use Rattle.at_nest.specs.KeptItems.{IsAtomOf, OwnAtom}
 use Rattle.at_nest.specs.Reading.{ReadsToken, stop_within}
 use Rattle.at_nest.proofs.TokenReads.{lexed_text, lexed_run, broken_reads}
 use Rattle.at_nest.proofs.TokenMarks.{lexed_open, lexed_close, lexed_comma, lexed_colon, text_of_lexed, run_of_lexed}
 use Rattle.at_nest.proofs.tokens.read_token.Goals as goal
 
 pub returns-in_ok-open-in-Opens-clause-reads : goal.returns-in_ok-open-in-Opens-clause-reads
-returns-in_ok-open-in-Opens-clause-reads g c = let own = g.A.Algebra.is_own c.args.algebra.now in let fold = g.A.Algebra.is_fold c.args.algebra.now in let run = g.A.Algebra.is_run c.args.algebra.now in
-    lexed_open (OwnAtom own fold run) (shown c.args.body.now) (shown c.open.new.self) c.in-Opens.bracket c.args.text.now c.args.token c.in-Opens.is c.in_ok-open-in-Opens.ensures
+returns-in_ok-open-in-Opens-clause-reads g c =
+    lexed_open (IsAtomOf g.A.Algebra c.args.algebra.now) (shown c.args.body.now) (shown c.open.new.self) c.in-Opens.bracket c.args.text.now c.args.token c.in-Opens.is c.in_ok-open-in-Opens.ensures
 
 pub returns-in-Closes-clause-reads : goal.returns-in-Closes-clause-reads
 returns-in-Closes-clause-reads g c = let own = g.A.Algebra.is_own c.args.algebra.now in let fold = g.A.Algebra.is_fold c.args.algebra.now in let run = g.A.Algebra.is_run c.args.algebra.now in
@@ -34,7 +34,7 @@ returns-in-Run-clause-reads g c = let own = g.A.Algebra.is_own c.args.algebra.no
     IfOk-weaker c.read_run.result _ _ (λ r d. lexed_run (OwnAtom own fold run) (shown c.args.body.now) (shown c.read_run.new.body) r c.args.text.now c.args.token (run_of_lexed c.args.token c.args.text.now c.in-Run.is c.requires.token) d) c.read_run.ensures
 
 pub returns-in-Broken-clause-reads : goal.returns-in-Broken-clause-reads
-returns-in-Broken-clause-reads g c = let own = g.A.Algebra.is_own c.args.algebra.now in let fold = g.A.Algebra.is_fold c.args.algebra.now in let run = g.A.Algebra.is_run c.args.algebra.now in
-    subst (λ (z : SpanStop). ReadsToken (OwnAtom own fold run) (shown c.args.body.now) (shown c.args.body.now) (Some z) c.args.text.now c.args.token)
+returns-in-Broken-clause-reads g c =
+    subst (λ (z : SpanStop). ReadsToken (IsAtomOf g.A.Algebra c.args.algebra.now) (shown c.args.body.now) (shown c.args.body.now) (Some z) c.args.text.now c.args.token)
     (sym (c.stop_in.ensures ∙ ap (λ z. stop_within z c.args.token.from (c.in-Broken.place - c.args.token.from)) c.within_of.ensures))
-    (broken_reads (OwnAtom own fold run) (shown c.args.body.now) c.args.text.now c.args.token c.in-Broken.place c.in-Broken.is)
+    (broken_reads (IsAtomOf g.A.Algebra c.args.algebra.now) (shown c.args.body.now) c.args.text.now c.args.token c.in-Broken.place c.in-Broken.is)

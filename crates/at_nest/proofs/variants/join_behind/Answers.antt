@@ -7,28 +7,23 @@ use Rattle.at_nest.proofs.UnionsHeld.{put_whole, put_broken, union_all, union_wh
 use Rattle.at_nest.proofs.variants.join_behind.Goals as goal
 
 pub join_items-requires-clause-end : goal.join_items-requires-clause-end
-join_items-requires-clause-end g c κs within = let own = g.A.Algebra.is_own c.args.algebra.now in let fold = g.A.Algebra.is_fold c.args.algebra.now in let run = g.A.Algebra.is_run c.args.algebra.now in
-    let h = c.requires.held in
-    (put_whole (OwnAtom own fold run) c.args.bytes.now h.0 h.1 h.2 h.3 c.args.lead (shown c.args.body) c.args.from c.in-Whole.to c.in-Whole.behind c.in-Whole.pend c.in-Whole.end (right_is (OwnAtom own fold run) c.args.bytes.now h.0 h.1 h.2 h.3 c.args.lead (shown c.args.body) c.args.from c.args.right _ c.in-Whole.is h.4)).fits
+join_items-requires-clause-end g c κs within = let h = c.requires.held in
+    (put_whole _ c.args.bytes.now h.0 h.1 h.2 h.3 c.args.lead (shown c.args.body) c.args.from c.in-Whole.to c.in-Whole.behind c.in-Whole.pend c.in-Whole.end (right_is _ c.args.bytes.now h.0 h.1 h.2 h.3 c.args.lead (shown c.args.body) c.args.from c.args.right _ c.in-Whole.is h.4)).fits
 
 pub join_items-requires-clause-held : goal.join_items-requires-clause-held
-join_items-requires-clause-held g c κs within = let own = g.A.Algebra.is_own c.args.algebra.now in let fold = g.A.Algebra.is_fold c.args.algebra.now in let run = g.A.Algebra.is_run c.args.algebra.now in
-    let h = c.requires.held in
-    (put_whole (OwnAtom own fold run) c.args.bytes.now h.0 h.1 h.2 h.3 c.args.lead (shown c.args.body) c.args.from c.in-Whole.to c.in-Whole.behind c.in-Whole.pend c.in-Whole.end (right_is (OwnAtom own fold run) c.args.bytes.now h.0 h.1 h.2 h.3 c.args.lead (shown c.args.body) c.args.from c.args.right _ c.in-Whole.is h.4)).meets
+join_items-requires-clause-held g c κs within = let h = c.requires.held in
+    (put_whole _ c.args.bytes.now h.0 h.1 h.2 h.3 c.args.lead (shown c.args.body) c.args.from c.in-Whole.to c.in-Whole.behind c.in-Whole.pend c.in-Whole.end (right_is _ c.args.bytes.now h.0 h.1 h.2 h.3 c.args.lead (shown c.args.body) c.args.from c.args.right _ c.in-Whole.is h.4)).meets
 
 pub join_items-requires-in-Broken-clause-end : goal.join_items-requires-in-Broken-clause-end
-join_items-requires-in-Broken-clause-end g c κs within = let own = g.A.Algebra.is_own c.args.algebra.now in let fold = g.A.Algebra.is_fold c.args.algebra.now in let run = g.A.Algebra.is_run c.args.algebra.now in
-    let h = c.requires.held in
-    (put_broken (OwnAtom own fold run) c.args.bytes.now h.0 h.1 h.2 h.3 c.args.lead (shown c.args.body) c.args.from c.in-Broken.to c.in-Broken.behind c.in-Broken.last (right_is (OwnAtom own fold run) c.args.bytes.now h.0 h.1 h.2 h.3 c.args.lead (shown c.args.body) c.args.from c.args.right _ c.in-Broken.is h.4)).fits
+join_items-requires-in-Broken-clause-end g c κs within = let h = c.requires.held in
+    (put_broken _ c.args.bytes.now h.0 h.1 h.2 h.3 c.args.lead (shown c.args.body) c.args.from c.in-Broken.to c.in-Broken.behind c.in-Broken.last (right_is _ c.args.bytes.now h.0 h.1 h.2 h.3 c.args.lead (shown c.args.body) c.args.from c.args.right _ c.in-Broken.is h.4)).fits
 
 pub join_items-requires-in-Broken-clause-held : goal.join_items-requires-in-Broken-clause-held
-join_items-requires-in-Broken-clause-held g c κs within = let own = g.A.Algebra.is_own c.args.algebra.now in let fold = g.A.Algebra.is_fold c.args.algebra.now in let run = g.A.Algebra.is_run c.args.algebra.now in
-    let h = c.requires.held in
-    (put_broken (OwnAtom own fold run) c.args.bytes.now h.0 h.1 h.2 h.3 c.args.lead (shown c.args.body) c.args.from c.in-Broken.to c.in-Broken.behind c.in-Broken.last (right_is (OwnAtom own fold run) c.args.bytes.now h.0 h.1 h.2 h.3 c.args.lead (shown c.args.body) c.args.from c.args.right _ c.in-Broken.is h.4)).meets
+join_items-requires-in-Broken-clause-held g c κs within = let h = c.requires.held in
+    (put_broken _ c.args.bytes.now h.0 h.1 h.2 h.3 c.args.lead (shown c.args.body) c.args.from c.in-Broken.to c.in-Broken.behind c.in-Broken.last (right_is _ c.args.bytes.now h.0 h.1 h.2 h.3 c.args.lead (shown c.args.body) c.args.from c.args.right _ c.in-Broken.is h.4)).meets
 
 pub returns-in-AllLead : goal.returns-in-AllLead
-returns-in-AllLead g c = let own = g.A.Algebra.is_own c.args.algebra.now in let fold = g.A.Algebra.is_fold c.args.algebra.now in let run = g.A.Algebra.is_run c.args.algebra.now in
-    λ s at w x n. union_all (OwnAtom own fold run) c.args.bytes.now s at w x c.args.lead (shown c.args.body) c.args.from c.in-AllLead.end (right_is (OwnAtom own fold run) c.args.bytes.now s at w x c.args.lead (shown c.args.body) c.args.from c.args.right _ c.in-AllLead.is n)
+returns-in-AllLead g c = λ s at w x n. union_all _ c.args.bytes.now s at w x c.args.lead (shown c.args.body) c.args.from c.in-AllLead.end (right_is _ c.args.bytes.now s at w x c.args.lead (shown c.args.body) c.args.from c.args.right _ c.in-AllLead.is n)
 
 pub returns-in-None : goal.returns-in-None
 returns-in-None g c = let own = g.A.Algebra.is_own c.args.algebra.now in let fold = g.A.Algebra.is_fold c.args.algebra.now in let run = g.A.Algebra.is_run c.args.algebra.now in

@@ -18,9 +18,8 @@ loop-token-init g c = let own = g.A.Algebra.is_own c.args.algebra.now in let fol
     (subst (λ (z : Shown g.row.A-Atom.Denot). IsShown (OwnAtom own fold run) c.args.base c.args.piece.now z empty_form) (sym c.new-body.ensures) (refl, tt)) c.requires.out
 
 pub read_token-requires-clause-token : goal.read_token-requires-clause-token
-read_token-requires-clause-token g c κs within = let own = g.A.Algebra.is_own c.args.algebra.now in let fold = g.A.Algebra.is_fold c.args.algebra.now in let run = g.A.Algebra.is_run c.args.algebra.now in
-    let gives = c.in-Whole.ensures.gives in
-    let bytes = token_bytes (OwnAtom own fold run) c.args.base c.args.piece.now c.args.lexer.at c.args.lexer.rest (shown c.loop-token.body) c.loop-token.lexer c.next_item.new.self c.in-Whole.token c.requires.behind c.loop-token.invariant gives in
+read_token-requires-clause-token g c κs within = let gives = c.in-Whole.ensures.gives in
+    let bytes = token_bytes _ c.args.base c.args.piece.now c.args.lexer.at c.args.lexer.rest (shown c.loop-token.body) c.loop-token.lexer c.next_item.new.self c.in-Whole.token c.requires.behind c.loop-token.invariant gives in
     (gives.2, subst (λ v. IsLexed c.in-Whole.token.from v gives.2 c.in-Whole.token) (sym (c.part-text.ensures ∙ bytes.0)) (subst (λ n. IsLexed n gives.1 gives.2 c.in-Whole.token) (sym gives.6.0) gives.6))
 
 pub returns-in-Some-2 : goal.returns-in-Some-2
