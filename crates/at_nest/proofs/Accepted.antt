@@ -40,7 +40,7 @@ text_accepted at w (t, h) =
     let enter : Enters [] v = value_enters t [] (at + length a) v s in
     let end : Reads enter.last (after []) b = spaces_read enter.last (after []) b enter.settled hb in
     let goes : go (value []) w ≡ Some end.last = ap (go (value [])) (e ∙ ap (λ z. a ++ (v ++ (b ++ z))) f) ∙ (still_spaces (value []) a (v ++ (b ++ [])) tt ha
-        ∙ (value_at [] v (b ++ []) enter ∙ (ap (go enter.last) (append-nil b) ∙ end.goes))) in
+    ∙ (value_at [] v (b ++ []) enter ∙ (ap (go enter.last) (append-nil b) ∙ end.goes))) in
     subst (Acc (value [])) (append-nil w) (run_accepted (value []) end.last w [] goes (settled_accepts end.last (after []) end.settled refl))
 
 -- ---- each state has an end

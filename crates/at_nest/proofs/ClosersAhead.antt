@@ -36,19 +36,19 @@ module _ {X : Type 0} (IsKept : X → Content → Type 0) (old new : Shown X) (r
   several_ahead n ahead c (more, e) same made pushes = let size : length (replicate (suc n) (closing b)) ≡ suc n = length-replicate (suc n) (closing b) in
       let whole : length (closing b ∷ more) - 1 ≡ length more = omega arith in
       let all : take n more ≡ replicate n (closing b) = ap (take n) (sym (ap (λ k. take k more) whole ∙ take-length more)) ∙ subst (λ z. take n (take (length z - 1) (drop 1 z)) ≡ replicate n (get_or z 0 0)) e same in (
-    replicate (suc n) (closing b),
-    drop n more,
-    e ∙ ap (λ z. closing b ∷ z) (sym (take-append-drop n more) ∙ ap (λ z. z ++ drop n more) all),
-    omega (arith, size),
-    omega (arith, size),
-    closing_ended b n,
-    λ base w f h. (
-      further (record { outer = closers b b at (suc n); levels = [] }),
-      record { formed = subst (Formed free at (replicate (suc n) (closing b))) (sym (append-nil (closers b b at (suc n)))) (closers_formed b (suc n) at); levels = tt },
-      subst (IsPushedAs IsKept base w new r) (ap (λ z. push_all free z f) (sym (append-nil (closers b b at (suc n)))))
-          (subst (λ z. PushesClosers IsKept old new r z) made pushes base w f (closers b b at (suc n)) h (n, refl, refl)),
-    ),
-  )
+        replicate (suc n) (closing b),
+        drop n more,
+        e ∙ ap (λ z. closing b ∷ z) (sym (take-append-drop n more) ∙ ap (λ z. z ++ drop n more) all),
+        omega (arith, size),
+        omega (arith, size),
+        closing_ended b n,
+        λ base w f h. (
+          further (record { outer = closers b b at (suc n); levels = [] }),
+          record { formed = subst (Formed free at (replicate (suc n) (closing b))) (sym (append-nil (closers b b at (suc n)))) (closers_formed b (suc n) at); levels = tt },
+          subst (IsPushedAs IsKept base w new r) (ap (λ z. push_all free z f) (sym (append-nil (closers b b at (suc n)))))
+              (subst (λ z. PushesClosers IsKept old new r z) made pushes base w f (closers b b at (suc n)) h (n, refl, refl)),
+        ),
+      )
 
   pub closing_ahead : (ahead : List ℕ) → (more : List ℕ) × (ahead ≡ closing b ∷ more) → Pushes IsKept old new r (closes b at) → ReadsAhead IsKept old new r at ahead (at + 1)
   closing_ahead ahead (more, e) pushes = (

@@ -214,7 +214,7 @@ after_byte_comes (in_array ∷ st) t b w e = by_byte (Comes w (After (in_array �
     (by_last (Comes w (After (in_array ∷ st) (b ∷ w))) b 0x5D (after st) t (λ g k. ([], [], w, ap (λ z. z ∷ w) g, tt, no_more refl, k))) e
 after_byte_comes (in_object ∷ st) t b w e = by_byte (Comes w (After (in_object ∷ st) (b ∷ w))) b 0x2C (name st) t _
     (λ q h. (let (a, n, c, d, v, p, x, y, f, ha, hn, hc, hd, hv, hp, hx, k) = object_parts st w h in
-      ([], 0x2C ∷ (a ++ (n ++ (c ++ (0x3A ∷ (d ++ (v ++ (p ++ x))))))), y, ap (λ z. z ∷ w) q ∙ ap (λ z. 0x2C ∷ z) f, tt, one_more_member a n c d v p x refl ha hn hc hd hv hp hx, k)))
+    ([], 0x2C ∷ (a ++ (n ++ (c ++ (0x3A ∷ (d ++ (v ++ (p ++ x))))))), y, ap (λ z. z ∷ w) q ∙ ap (λ z. 0x2C ∷ z) f, tt, one_more_member a n c d v p x refl ha hn hc hd hv hp hx, k)))
     (by_last (Comes w (After (in_object ∷ st) (b ∷ w))) b 0x7D (after st) t (λ g k. ([], [], w, ap (λ z. z ∷ w) g, tt, no_more_members refl, k))) e
 
 after_comes : (st : List Frame) (t : State) (b : ℕ) (w : List ℕ) → after_step st b ≡ Some t → Suffix t w → After st (b ∷ w)

@@ -60,7 +60,6 @@ pairs_more [] gs = refl
 pairs_more (e ∷ es) gs = ap (λ z. (e.characters, e.name_at, tree_of e.value) ∷ z) (pairs_more es gs)
 
 module _ {X : Type 0} (IsKept : X → Content → Type 0) where
-
   are_members : (r : MemberRow X) (base : ℕ) (w : List ℕ) (ps : List (Piece Tree)) → ArePieces IsKept base w (MembersPiece r) ps → AreMembers IsKept base w r ps
   are_members r base w ps (inl (p, e, h)) = absurd h
   are_members r base w ps (inr h) = h

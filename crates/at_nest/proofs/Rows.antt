@@ -51,7 +51,6 @@ pub marks_outside : (ps : List (Piece Tree)) (xs : List (Mark Tree)) (fo : List 
 marks_outside ps xs fo e = rw e (push_outside xs fo)
 
 module _ {X : Type 0} (IsKept : X → Content → Type 0) where
-
   is_row : (r : Row X) (base : ℕ) (w : List ℕ) (ps : List (Piece Tree)) → ArePieces IsKept base w (RowPiece r) ps → IsRow IsKept r ps
   is_row r base w ps (inl (p, e, h)) = absurd h
   is_row r base w ps (inr h) = h

@@ -35,8 +35,12 @@ pub positions_size : (s : Shape) → length (positions s) ≡ size s
 positions_size s = omega (arith, length-append {A = Pos})
 
 pub both_size : (s u : Shape) → size (both s u) ≡ size s + size u
-both_size s u = omega (arith, length-append {A = Pos}, ap length (flat_map-append (λ (path : List Pos). path) s.lines u.lines),
-    ap length (flat_map-append (λ (polygon : Polygon). joined polygon.rings) s.polygons u.polygons))
+both_size s u = omega (
+  arith,
+  length-append {A = Pos},
+  ap length (flat_map-append (λ (path : List Pos). path) s.lines u.lines),
+  ap length (flat_map-append (λ (polygon : Polygon). joined polygon.rings) s.polygons u.polygons),
+)
 
 module _ (digits : ℕ) (how : Coords) where
   points_size : (ps : List (Option Position)) → length (map (pos_of digits how) (present ps)) ≡ total one_of ps
@@ -62,8 +66,13 @@ module _ (digits : ℕ) (how : Coords) where
 
   areas_size : (areas : List (List Positions)) → length (positions_of_polygons (flat_map (polygons_of digits how) areas)) ≡ total rings_of areas
   areas_size [] = refl
-  areas_size (rings ∷ areas) = omega (arith, ap length (flat_map-append (λ (polygon : Polygon). joined polygon.rings) (polygons_of digits how rings) (flat_map (polygons_of digits how) areas)),
-      length-append {A = Pos}, areas_size areas, area_size rings)
+  areas_size (rings ∷ areas) = omega (
+    arith,
+    ap length (flat_map-append (λ (polygon : Polygon). joined polygon.rings) (polygons_of digits how rings) (flat_map (polygons_of digits how) areas)),
+    length-append {A = Pos},
+    areas_size areas,
+    area_size rings,
+  )
 
   mutual
     pub shape_size : (g : Geometry) → size (shape_of digits how g) ≡ weight_of g

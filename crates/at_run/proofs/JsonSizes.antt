@@ -109,7 +109,7 @@ each_size : {Y : Type 0} (f : Tree → Option Y) (c : Y → ℕ) → ((t : Tree)
 each_size f c h [] ys e = subst (λ z. total c z ≤ 0) (same_Some [] ys e) (omega arith)
 each_size f c h (x ∷ xs) ys e =
     then_some (λ z. total c z ≤ weight x + total weight xs) (λ y. option_map (λ zs. y ∷ zs) (each f xs)) (f x) (λ y one.
-      mapped_some (λ z. total c z ≤ weight x + total weight xs) (λ zs. y ∷ zs) (each f xs) (λ zs more. omega (arith, h x y one, each_size f c h xs zs more))) ys e
+    mapped_some (λ z. total c z ≤ weight x + total weight xs) (λ zs. y ∷ zs) (each f xs) (λ zs more. omega (arith, h x y one, each_size f c h xs zs more))) ys e
 
 four_times : {X : Type 0} (c : X → ℕ) (xs : List X) → total (λ x. 4 * c x) xs ≡ 4 * total c xs
 four_times c [] = refl

@@ -114,7 +114,7 @@ number n at w (is, e) =
     let behind = joined_ascii (fraction_text n.fraction) (exponent_text n.exponent) fraction (power_ascii n.exponent is.exponent) in (
       (omega (arith, some, ap length e, length-append {A = ℕ})),
       subst AreAscii (sym e) (joined_ascii n.sign (n.whole ++ (fraction_text n.fraction ++ exponent_text n.exponent)) (one_sign n.sign is.sign)
-      (joined_ascii n.whole (fraction_text n.fraction ++ exponent_text n.exponent) whole behind)),
+          (joined_ascii n.whole (fraction_text n.fraction ++ exponent_text n.exponent) whole behind)),
     )
 
 pub number_size : (n : Numeral) (at : ℕ) (w : List ℕ) → SpellsNumber n at w → 1 ≤ length w

@@ -15,9 +15,9 @@ Moved xs i y k = ((k ≡ i) × (get_or (set xs i y) k 0 ≡ y)) ⊎ ((k ≢ i) �
 
 moved_or_not : (xs : List ℕ) (i y k : ℕ) → i < length xs → Moved xs i y k
 moved_or_not xs i y k inside = elim (cases_eq k i) [
-    | inl e ↦ inl (e, ap (λ k. get_or (set xs i y) k 0) e ∙ get_or-set_same xs i y 0 inside)
-    | inr n ↦ inr (n, get_or-set_other xs i k y 0 n)
-  ]
+  | inl e ↦ inl (e, ap (λ k. get_or (set xs i y) k 0) e ∙ get_or-set_same xs i y 0 inside)
+  | inr n ↦ inr (n, get_or-set_other xs i k y 0 n)
+]
 
 moved_places : (xs : List ℕ) (i y a b : ℕ) → IsNonDecreasing xs → i + 1 < length xs → slice_index xs i ≤ y → y ≤ slice_index xs (i + 1) → a ≤ b → b < length xs → Moved xs i y a → Moved xs i y b → get_or (set xs i y) a 0 ≤ get_or (set xs i y) b 0
 moved_places xs i y a b h inside low high order within (inl (e, p)) (inl (f, q)) = omega (arith, p, q)

@@ -38,9 +38,9 @@ power_tested n (k, e) = eq-eqb (count_ones n) 1 (ap count_ones e ∙ ones_power 
 
 least_power : (blocks d k : ℕ) → 1 ≤ blocks → 2 ^ k / 2 < max 1 blocks → blocks ≤ 2 ^ d → 2 ^ k ≤ 2 ^ d
 least_power blocks d k some upper le = elim (cases_lt (2 ^ d) (2 ^ k)) [
-    | inl lt ↦ absurd (let m = pow_le (suc d) k (let l = less_power d k lt in omega (arith, l)) in let t = two_suc d in omega (arith, m, t, upper, le, some))
-    | inr small ↦ small
-  ]
+  | inl lt ↦ absurd (let m = pow_le (suc d) k (let l = less_power d k lt in omega (arith, l)) in let t = two_suc d in omega (arith, m, t, upper, le, some))
+  | inr small ↦ small
+]
 
 pub least_count : (blocks result : ℕ) → 1 ≤ blocks → blocks ≤ 4096 → IsPowerOfTwo result → blocks ≤ result → result / 2 < max 1 blocks → IsLeastCount blocks result
 least_count blocks result some few (k, e) lower upper =

@@ -35,8 +35,8 @@ returns-in-Ok-read_line-clause-fold c =
     let read : Feature = record { at = c.args.at; shape = shape; texts = texts } in
     let text : FileLine = record { at = c.args.at; text = take c.args.len c.args.ahead.now } in
     let is = read_shape c.args.self.now c.args.ahead.now c.args.len c.args.at line c.in-Ok.ensures shape texts
-        (subst (λ (a : Asked). HasLineShape a.digits a.how line.at (take line.len line.ahead.now) shape) c.self.view_is c.in-Ok-read_line.ensures)
-        (subst (λ (a : Asked). AreFrontTexts a.query.tests line.label.now texts) c.self.view_is (subst (λ (ts : List Test). AreFrontTexts ts line.label.now texts) c.as_slice.ensures c.in_ok-texts.ensures)) in
+    (subst (λ (a : Asked). HasLineShape a.digits a.how line.at (take line.len line.ahead.now) shape) c.self.view_is c.in-Ok-read_line.ensures)
+    (subst (λ (a : Asked). AreFrontTexts a.query.tests line.label.now texts) c.self.view_is (subst (λ (ts : List Test). AreFrontTexts ts line.label.now texts) c.as_slice.ensures c.in_ok-texts.ensures)) in
     let Q : Asked → Type 0 = λ asked. AddsFeature asked.query read c.args.gathered.now c.add_lent.new.gathered in
     IfOk-weaker c.add_lent.result _ _ (λ u adds. adds_feature c.args.self.now text read c.args.gathered.now c.add_lent.new.gathered is (subst Q c.self.view_is adds)) c.add_lent.ensures
 
