@@ -1,13 +1,16 @@
 -- A whole value, and an opening bracket alone, as what is read of the bytes from the bracket on.
 -- For `merge` and `run_block`.
-use Rattle.std.proofs.Common.{◌≡◌, ℕ, inl, inr, List, [], ◌∷◌, ◌++◌, Option, None, Bool, true, false, true≢false, refl, sym, ◌∙◌, ap, arith, append_assoc, ◌+◌, ◌<◌, ◌≤◌, suc, ◌==◌, length, length-append}
+use Rattle.std.proofs.Common.{◌≡◌, ℕ, inl, inr, List, [], ◌∷◌, ◌++◌, Option, None, Result, Ok, Err, IfOk, Bool, true, false, true≢false, refl, sym, ◌∙◌, ap, subst, arith, append_assoc, ◌+◌, ◌<◌, ◌≤◌, suc, ◌==◌, length, length-append, take, drop, take-append-drop}
 use Rattle.at_text.specs.Texts.{is_run}
 use Rattle.at_lex.specs.Runs.{JsonRun}
-use Rattle.at_lex.specs.Spans.{opening}
+use Rattle.at_lex.specs.Spans.{opening, IsKind, IsToken}
 use Rattle.at_lex.specs.declared.tokens.Bracket.{Bracket}
 use Rattle.at_lex.specs.declared.tokens.Bracket.TheVariants.{Brace, Square}
+use Rattle.at_lex.specs.declared.tokens.Token.{Token}
+use Rattle.at_lex.specs.declared.tokens.TokenKind.TheVariants.{Opens}
 use Rattle.at_lex.proofs.RunBytes.{word_run}
 use Rattle.at_lex.proofs.Unique.{head_same}
+use Rattle.at_nest.specs.declared.brackets.Read.{Read}
 use Rattle.at_nest.specs.declared.pieces.SpanStop.{SpanStop as CodeHalt}
 use Rattle.at_nest.specs.declared.algebra.Attempt.TheVariants.{Whole, Unsaid}
 use Rattle.at_nest.specs.declared.algebra.Attempt.{Attempt}
@@ -26,6 +29,10 @@ use Rattle.at_nest.proofs.Showing.{open_pushes}
 use Rattle.at_nest.proofs.TokenReads.{open_ends, mark_ends, one_mark}
 use Rattle.at_nest.proofs.Told.{fold_free}
 
+-- the token is the first byte
+pub opens_ahead : (ahead : List ℕ) (t : Token) (b : Bracket) → t.kind ≡ Opens b → (v after : List ℕ) × (ahead ≡ v ++ after) × IsToken t.from v after t → (more : List ℕ) × (ahead ≡ opening b ∷ more)
+opens_ahead ahead t b k (v, after, e, h) = (after, e ∙ ap (λ z. z ++ after) (subst (IsKind t.from v after) k h.2))
+
 pub opened_ahead : {X : Type 0} (IsKept : X → Content → Type 0) (old new : Shown X) (b : Bracket) (at : ℕ) (ahead : List ℕ) → (more : List ℕ) × (ahead ≡ opening b ∷ more) → new ≡ show_as old.outer (opened_as b at ∷ old.levels) → ReadsAhead IsKept old new None at ahead (at + 1)
 opened_ahead IsKept old new b at ahead (more, e) d = (
   opening b ∷ [],
@@ -40,6 +47,12 @@ opened_ahead IsKept old new b at ahead (more, e) d = (
     no_run : (b : Bracket) → ends_run (opening b ∷ []) ≡ false
     no_run Brace = refl
     no_run Square = refl
+
+-- what `opened` gives
+pub opened_reads : {X E : Type 0} (IsKept : X → Content → Type 0) (old new : Shown X) (b : Bracket) (at : ℕ) (ahead : List ℕ) (result : Result Read E) → (more : List ℕ) × (ahead ≡ opening b ∷ more) → IfOk result (λ r. r ≡ record { to = at + 1; halt = None })
+    → IfOk result (λ r. new ≡ show_as old.outer (opened_as b at ∷ old.levels)) → IfOk result (λ r. ReadsAhead IsKept old new r.halt at ahead r.to)
+opened_reads IsKept old new b at ahead (Ok r) begins e d = subst (λ z. ReadsAhead IsKept old new z.halt at ahead z.to) (sym e) (opened_ahead IsKept old new b at ahead begins d)
+opened_reads IsKept old new b at ahead (Err x) begins e d = tt
 
 -- ---- a value that begins with an opening bracket
 
@@ -98,3 +111,7 @@ whole_fits IsOwn IsFold at w len x (v, r, split, size, t, spells, own, fold) = l
 pub attempt_front : {X : Type 0} (IsOwn : X → Type 0) (IsFold : X → Tree → Type 0) (at : ℕ) (front back w : List ℕ) (a : Attempt X) → front ++ back ≡ w → IsAttempt IsOwn IsFold at front a → IsAttempt IsOwn IsFold at w a
 attempt_front IsOwn IsFold at front back w (Whole len x) e (v, r, split, size, t, spells, own, fold) = (v, r ++ back, sym e ∙ (ap (λ z. z ++ back) split ∙ append_assoc v r back), size, t, spells, own, fold)
 attempt_front IsOwn IsFold at front back w (Unsaid looked) e h = tt
+
+-- the attempt saw the first n bytes
+pub attempt_seen : {X : Type 0} (IsOwn : X → Type 0) (IsFold : X → Tree → Type 0) (at n : ℕ) (w : List ℕ) (len : ℕ) (x : X) (a : Attempt X) → a ≡ Whole len x → IsAttempt IsOwn IsFold at (take n w) a → IsAttempt IsOwn IsFold at w (Whole len x)
+attempt_seen IsOwn IsFold at n w len x a e h = subst (λ z. IsAttempt IsOwn IsFold at w z) e (attempt_front IsOwn IsFold at (take n w) (drop n w) w a (take-append-drop n w) h)

@@ -3,9 +3,11 @@
 use Rattle.std.proofs.Common.{◌≡◌, ℕ, Option, List, [], ◌∷◌, ◌++◌, false, true, refl, sym, ◌∙◌, ap, subst, arith, append-nil, ◌+◌, ◌-◌, ◌<◌, ◌≤◌, zero, suc, length, take, drop, get_or, replicate}
 use Rattle.std.proofs.Math.Seq.{take-length}
 use Rattle.std.proofs.lemmas.List.{take-append-drop, length-replicate}
-use Rattle.at_lex.specs.Spans.{closing}
+use Rattle.at_lex.specs.Spans.{closing, IsKind, IsToken}
 use Rattle.at_lex.specs.declared.tokens.Bracket.{Bracket}
 use Rattle.at_lex.specs.declared.tokens.Bracket.TheVariants.{Brace, Square}
+use Rattle.at_lex.specs.declared.tokens.Token.{Token}
+use Rattle.at_lex.specs.declared.tokens.TokenKind.TheVariants.{Closes}
 use Rattle.at_nest.specs.declared.pieces.Closers.{Closers}
 use Rattle.at_nest.specs.declared.pieces.SpanStop.{SpanStop as CodeHalt}
 use Rattle.at_nest.specs.Borders.{ends_run, are_apart}
@@ -30,10 +32,14 @@ closing_ended Brace zero = refl
 closing_ended Square zero = refl
 closing_ended b (suc n) = closing_ended b n
 
+-- the token is the first byte
+pub closes_ahead : (ahead : List ℕ) (t : Token) (b : Bracket) → t.kind ≡ Closes b → (v after : List ℕ) × (ahead ≡ v ++ after) × IsToken t.from v after t → (more : List ℕ) × (ahead ≡ closing b ∷ more)
+closes_ahead ahead t b k (v, after, e, h) = (after, e ∙ ap (λ z. z ++ after) (subst (IsKind t.from v after) k h.2))
+
 module _ {X : Type 0} (IsKept : X → Content → Type 0) (old new : Shown X) (r : Option CodeHalt) (b : Bracket) (at : ℕ) where
-  pub several_ahead : (n : ℕ) (ahead : List ℕ) (c : Closers) → (more : List ℕ) × (ahead ≡ closing b ∷ more) → take n (take (length ahead - 1) (drop 1 ahead)) ≡ replicate n (get_or ahead 0 0) → c ≡ record { first = b; second = b; from = at; last = at + n } → PushesClosers IsKept old new r c
+  pub closers_ahead : (n : ℕ) (ahead : List ℕ) (c : Closers) → (more : List ℕ) × (ahead ≡ closing b ∷ more) → take n (take (length ahead - 1) (drop 1 ahead)) ≡ replicate n (get_or ahead 0 0) → c ≡ record { first = b; second = b; from = at; last = at + n } → PushesClosers IsKept old new r c
       → ReadsAhead IsKept old new r at ahead (at + n + 1)
-  several_ahead n ahead c (more, e) same made pushes = let size : length (replicate (suc n) (closing b)) ≡ suc n = length-replicate (suc n) (closing b) in
+  closers_ahead n ahead c (more, e) same made pushes = let size : length (replicate (suc n) (closing b)) ≡ suc n = length-replicate (suc n) (closing b) in
       let whole : length (closing b ∷ more) - 1 ≡ length more = omega arith in
       let all : take n more ≡ replicate n (closing b) = ap (take n) (sym (ap (λ k. take k more) whole ∙ take-length more)) ∙ subst (λ z. take n (take (length z - 1) (drop 1 z)) ≡ replicate n (get_or z 0 0)) e same in (
         replicate (suc n) (closing b),

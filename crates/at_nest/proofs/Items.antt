@@ -31,7 +31,7 @@ use Rattle.at_nest.specs.Unions.{Ends, merged, empty_form}
 use Rattle.at_nest.specs.Variants.{IsLeadEnd, IsPending, none_pending, run_pending, text_pending}
 use Rattle.at_nest.specs.Shown.{Shown, shown}
 use Rattle.at_nest.specs.KeptItems.{Content, free, IsShown, IsPushedAs, halt_of}
-use Rattle.at_nest.specs.Reading.{IsPlaced, ReadsToken, ReadsAhead, HasBytes, pend_from}
+use Rattle.at_nest.specs.Reading.{IsPlaced, is_bracket, ReadsToken, ReadsAhead, HasBytes, pend_from}
 use Rattle.at_nest.specs.VariantMeanings.{HoldsVariant, HoldsBehind}
 use Rattle.at_nest.proofs.Walks.{ends_append, spaces_end}
 use Rattle.at_nest.proofs.Joins.{apart_front, formed_append, formed_out, end_append}
@@ -72,6 +72,12 @@ lexed_ends at v r kinds.Text n h = let (u, e, c) = h.0 in let f : ends_run v ≡
 lexed_ends at v r kinds.Run n h = let (b, o, e) = run_some v h.0.0.0 in
     record { first = b; others = o; some = e; apart = ap not (and_right (ends_run v) (begins_run r) (not-false (begins_run r) h.0.2)); ended = λ q. absurd (h.0.1 q) }
 lexed_ends at v r (kinds.Broken place) n h = absurd (cc)
+
+-- a bracket is one byte
+bracket_byte : (at : ℕ) (v r : List ℕ) (k : TokenKind) → is_bracket k ≡ true → IsKind at v r k → (is_broken k ≡ false) × (b : ℕ) × (v ≡ b ∷ [])
+bracket_byte at v r (kinds.Opens b) n h = (refl, opening b, h)
+bracket_byte at v r (kinds.Closes b) n h = (refl, closing b, h)
+bracket_byte at v r _ n h = absurd (cc)
 
 -- ---- white space
 
@@ -218,16 +224,11 @@ module _ {X : Type 0} (IsKept : X → Content → Type 0) where
   behind_first [] r w b h e = absurd (omega (arith, h))
   behind_first (c ∷ u) r w b h e = let same : b ≡ c = cc in (u, ap (λ z. z ∷ u) (sym same), cc)
 
-  pub opens_byte : (old mid : Left) (t : Token) (b : Bracket) → t.kind ≡ kinds.Opens b → (g : GivesItem old (WholeItem t) mid) → g.1 ≡ opening b ∷ []
-  opens_byte old mid t b k g = subst (IsKind (old.at + length g.0) g.1 g.2) k g.6.2
-
-  pub closes_byte : (old mid : Left) (t : Token) (b : Bracket) → t.kind ≡ kinds.Closes b → (g : GivesItem old (WholeItem t) mid) → g.1 ≡ closing b ∷ []
-  closes_byte old mid t b k g = subst (IsKind (old.at + length g.0) g.1 g.2) k g.6.2
-
   -- what is left behind the bytes that were read
-  pub ahead_left : (old mid : Left) (t : Token) (b : ℕ) (v r : List ℕ) (to : ℕ) → is_broken t.kind ≡ false → (g : GivesItem old (WholeItem t) mid) → g.1 ≡ b ∷ [] → g.1 ++ g.2 ≡ v ++ r → to ≡ t.from + length v → 0 < length v
+  pub ahead_left : (old mid : Left) (t : Token) (v r : List ℕ) (to : ℕ) → is_bracket t.kind ≡ true → (g : GivesItem old (WholeItem t) mid) → g.1 ++ g.2 ≡ v ++ r → to ≡ t.from + length v → 0 < length v
       → (mid.state ≡ Out) × (mid.at ≤ to) × (to ≤ mid.at + length mid.rest) × (drop (to - mid.at) mid.rest ≡ r)
-  ahead_left old mid t b v r to k g one e i some =
+  ahead_left old mid t v r to is g e i some =
+      let (k, b, one) = bracket_byte (old.at + length g.0) g.1 g.2 t.kind is g.6.2 in
       let (u, first, more) = behind_first v r g.2 b some (ap (λ z. z ++ g.2) (sym one) ∙ e) in
       let rest : mid.rest ≡ g.2 = next_left old mid t g k in
       let at : mid.at ≡ t.from + 1 = ap (λ z. z.at) g.7 ∙ omega (arith, g.6.1, g.6.0, ap (λ z. length z) one) in
@@ -236,12 +237,12 @@ module _ {X : Type 0} (IsKept : X → Content → Type 0) where
       let left : length mid.rest ≡ length u + length r = ap (λ z. length z) (rest ∙ more) ∙ length-append u r in
       (ap (λ z. z.state) g.7, omega (arith, i, at, size), omega (arith, i, at, size, left), ap (λ n. drop n mid.rest) off ∙ (ap (drop (length u)) (rest ∙ more) ∙ drop-append_seam u r))
 
-  pub consumed_ahead : (base : ℕ) (piece : List ℕ) (from : ℕ) (bytes : List ℕ) (kept kept2 : Shown X) (old mid new : Left) (t : Token) (b : ℕ) (to : ℕ) → Consumed base piece from bytes kept old → is_broken t.kind ≡ false → (g : GivesItem old (WholeItem t) mid)
-      → g.1 ≡ b ∷ [] → ReadsAhead IsKept kept kept2 None t.from (g.1 ++ g.2) to → new ≡ record { at = to; rest = drop (to - mid.at) mid.rest; state = Out } → Consumed base piece from bytes kept2 new
-  consumed_ahead base piece from bytes kept kept2 old mid new t b to h k g one q n =
+  pub consumed_ahead : (base : ℕ) (piece : List ℕ) (from : ℕ) (bytes : List ℕ) (kept kept2 : Shown X) (old mid new : Left) (t : Token) (to : ℕ) → Consumed base piece from bytes kept old → is_bracket t.kind ≡ true → (g : GivesItem old (WholeItem t) mid)
+      → ReadsAhead IsKept kept kept2 None t.from (g.1 ++ g.2) to → new ≡ record { at = to; rest = drop (to - mid.at) mid.rest; state = Out } → Consumed base piece from bytes kept2 new
+  consumed_ahead base piece from bytes kept kept2 old mid new t to h is g q n =
       let p = ahead_pushed base piece from bytes kept kept2 old mid t None to h g q in
       let f = whole_further base piece from ((h.read ++ g.0) ++ q.0) q.1 kept2 (merged free (further h.form) p.0) p.2 p.1 in
-      let (out, low, high, dropped) = ahead_left old mid t b q.0 q.1 to k g one q.2 q.3 q.4 in
+      let (out, low, high, dropped) = ahead_left old mid t q.0 q.1 to is g q.2 q.3 q.4 in
       let left : new.rest ≡ q.1 = ap (λ z. z.rest) n ∙ dropped in
       let (c, u, some) = first_of q.0 (λ e. absurd (omega (arith, q.4, ap (λ z. length z) e))) in
       let last : ends_run ((h.read ++ g.0) ++ q.0) ≡ false = ap (λ z. ends_run ((h.read ++ g.0) ++ z)) some ∙ (ends_append (h.read ++ g.0) c u ∙ (ap ends_run (sym some) ∙ q.5)) in

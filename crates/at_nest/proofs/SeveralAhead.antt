@@ -1,6 +1,6 @@
 -- Items of an array that were read at once, as what is read of the bytes from the first one's bracket on.
 -- For `merge` and `run_block`.
-use Rattle.std.proofs.Common.{◌≡◌, ℕ, inl, List, [], ◌∷◌, ◌++◌, Option, true, false, not, ◌&&◌, refl, sym, ◌∙◌, ap, subst, arith, append_assoc, append-nil, All, ◌+◌, ◌<◌, ◌≤◌, zero, suc, take, length, length-append}
+use Rattle.std.proofs.Common.{◌≡◌, ℕ, inl, List, [], ◌∷◌, ◌++◌, Option, true, false, not, ◌&&◌, refl, sym, ◌∙◌, ap, subst, arith, append_assoc, append-nil, All, ◌+◌, ◌<◌, ◌≤◌, zero, suc, take, drop, take-append-drop, length, length-append}
 use Rattle.std.proofs.lemmas.List.Elements.{All-nil, All-cons, All-head, All-tail}
 use Rattle.at_text.specs.Texts.{is_space}
 use Rattle.at_lex.specs.Spans.{AreSpaces, opening, begins_run}
@@ -44,6 +44,10 @@ attempt_items IsOwn IsFold IsRun at w (Unsaid looked) begins h = tt
 pub items_front : {X : Type 0} (IsOwn : X → Type 0) (IsFold : X → Tree → Type 0) (IsRun : X → List Tree → Type 0) (at : ℕ) (front back w : List ℕ) (a : Attempt X) → front ++ back ≡ w → IsItemsAttempt IsOwn IsFold IsRun at front a → IsItemsAttempt IsOwn IsFold IsRun at w a
 items_front IsOwn IsFold IsRun at front back w (Whole len x) e (v, r, split, size, t, ts, spells, has, own, covers) = (v, r ++ back, sym e ∙ (ap (λ z. z ++ back) split ∙ append_assoc v r back), size, t, ts, spells, has, own, covers)
 items_front IsOwn IsFold IsRun at front back w (Unsaid looked) e h = tt
+
+-- the attempt saw the first n bytes
+pub items_seen : {X : Type 0} (IsOwn : X → Type 0) (IsFold : X → Tree → Type 0) (IsRun : X → List Tree → Type 0) (at n : ℕ) (w : List ℕ) (len : ℕ) (x : X) (a : Attempt X) → a ≡ Whole len x → IsItemsAttempt IsOwn IsFold IsRun at (take n w) a → IsItemsAttempt IsOwn IsFold IsRun at w (Whole len x)
+items_seen IsOwn IsFold IsRun at n w len x a e h = subst (λ z. IsItemsAttempt IsOwn IsFold IsRun at w z) e (items_front IsOwn IsFold IsRun at (take n w) (drop n w) w a (take-append-drop n w) h)
 
 pub items_fit : {X : Type 0} (IsOwn : X → Type 0) (IsFold : X → Tree → Type 0) (IsRun : X → List Tree → Type 0) (at : ℕ) (w : List ℕ) (len : ℕ) (x : X) → IsItemsAttempt IsOwn IsFold IsRun at w (Whole len x) → len ≤ length w
 items_fit IsOwn IsFold IsRun at w len x (v, r, split, size, t, ts, spells, has, own, covers) = let e : length w ≡ length (v ++ r) = ap (λ z. length z) split in omega (arith, size, e, length-append v r)

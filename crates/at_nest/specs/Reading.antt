@@ -1,8 +1,11 @@
 -- What a token makes of what is kept.
 use Rattle.std.specs.Prelude.{◌≡◌, ℕ, ◌+◌, ◌<◌, ◌==◌, false, zero, suc, if◌then◌else◌, Option, List, [], ◌∷◌, ◌++◌}
+use Rattle.std.specs.Prelude.{Bool, true}
 use Rattle.std.specs.Prelude.{length}
 use Rattle.at_lex.specs.Spans.{IsToken as IsLexed}
 use Rattle.at_lex.specs.declared.tokens.Token.{Token}
+use Rattle.at_lex.specs.declared.tokens.TokenKind.{TokenKind}
+use Rattle.at_lex.specs.declared.tokens.TokenKind.TheVariants.{Opens, Closes}
 use Rattle.at_lex.specs.declared.tokens.Pend.{Pend}
 use Rattle.at_lex.specs.declared.tokens.Pend.TheVariants.{Nothing, Run as RunPends, Text as TextPends}
 use Rattle.at_nest.specs.declared.pieces.Within.{Within}
@@ -23,6 +26,12 @@ IsPlaced base w at v = (a z : List ℕ) × (w ≡ a ++ (v ++ z)) × (at ≡ base
 -- the piece, which stands at `base`, and its bytes from the offset `from` on
 abbrev pub HasBytes : ℕ → List ℕ → ℕ → List ℕ → Type 0
 HasBytes base piece from bytes = (u : List ℕ) × (piece ≡ u ++ bytes) × (from ≡ base + length u)
+
+-- a token of the kind is a bracket
+abbrev pub is_bracket : TokenKind → Bool
+is_bracket (Opens b) = true
+is_bracket (Closes b) = true
+is_bracket _ = false
 
 -- where what may go on begins, in a piece with this end
 abbrev pub pend_from : Pend → ℕ → ℕ

@@ -18,15 +18,15 @@
 
 mod algebra;
 mod bodies;
-mod closings;
+mod brackets;
 mod finishing;
 mod fragments;
 mod levels;
 mod member_rows;
 mod open_levels;
-mod openings;
 mod pieces;
 mod tokens;
+mod tries;
 mod variants;
 
 pub use algebra::{Algebra, Attempt, Member};

@@ -10,11 +10,11 @@ ghost use Rattle.at_nest.specs.VariantMeanings.{HoldsVariant, HoldsBehind, CanMe
 
 use crate::algebra::Algebra;
 use crate::bodies::{Body, join};
-use crate::closings::read_closing;
-use crate::openings::{Tries, read_opening};
+use crate::brackets::{is_bracket, read_bracket};
 use crate::pieces::{SpanStop, first_byte};
 use crate::tokens::{cut_token, read_token};
-use at_lex::{Item, Lead, Lexer, Pend, Start, TokenKind};
+use crate::tries::Tries;
+use at_lex::{Item, Lead, Lexer, Pend, Start};
 use at_text::Memory;
 use std::alloc::Global;
 
@@ -98,34 +98,19 @@ fn read_items<A: Algebra>(
                     let halt = first_byte(token.from);
                     return Ok(Variant::Broken { lead, body, halt });
                 }
-                match token.kind {
-                    TokenKind::Opens(bracket) => {
-                        let ahead = from_place(piece, base, token.from);
-                        let read = read_opening(
-                            &mut body, alloc, algebra, &mut tries, ahead, bracket, token.from,
-                        )?;
-                        match read.halt {
-                            None => lexer.skip_to(read.to),
-                            Some(halt) => return Ok(Variant::Broken { lead, body, halt }),
-                        }
+                if is_bracket(token.kind) {
+                    let ahead = from_place(piece, base, token.from);
+                    let read = read_bracket(&mut body, alloc, algebra, &mut tries, ahead, token)?;
+                    match read.halt {
+                        None => lexer.skip_to(read.to),
+                        Some(halt) => return Ok(Variant::Broken { lead, body, halt }),
                     }
-                    TokenKind::Closes(bracket) => {
-                        let ahead = from_place(piece, base, token.from);
-                        let read = read_closing(
-                            &mut body, alloc, algebra, ahead, bracket, token.from,
-                        )?;
-                        match read.halt {
-                            None => lexer.skip_to(read.to),
-                            Some(halt) => return Ok(Variant::Broken { lead, body, halt }),
-                        }
-                    }
-                    _ => {
-                        let text = part(piece, base, token.from, token.to);
-                        match read_token(&mut body, alloc, algebra, text, token)? {
-                            None => {}
-                            Some(halt) => return Ok(Variant::Broken { lead, body, halt }),
-                        }
-                    }
+                    continue;
+                }
+                let text = part(piece, base, token.from, token.to);
+                match read_token(&mut body, alloc, algebra, text, token)? {
+                    None => {}
+                    Some(halt) => return Ok(Variant::Broken { lead, body, halt }),
                 }
             }
             Item::End { pend, end } => {

@@ -2,7 +2,7 @@
 use Rattle.std.proofs.Common.{◌≡◌, ◌∙◌, ap, arith, refl, ◌+◌, suc, [], ◌∷◌, ◌++◌, get_or, take, replicate}
 use Rattle.std.proofs.Math.Seq.{take-suc}
 use Rattle.std.proofs.lemmas.List.{replicate-append-replicate}
-use Rattle.at_nest.proofs.closings.leading.Goals as goal
+use Rattle.at_nest.proofs.brackets.leading.Goals as goal
 
 pub loop-count-init : goal.loop-count-init
 loop-count-init c = (omega arith, refl)
