@@ -13,7 +13,7 @@ use Rattle.at_scan.specs.declared.members.OtherNames.{OtherNames}
 use Rattle.at_scan.specs.declared.members.TableNames.{TableNames}
 use Rattle.at_scan.specs.Hashes.{tail_hash}
 use Rattle.at_scan.specs.Places.{IsSimpleTextAt}
-use Rattle.at_scan.specs.Fields.{is_no_field}
+use Rattle.at_scan.specs.Fields.{field_of, is_no_field}
 
 -- the bytes between the quotes
 abbrev pub name_in : List ℕ → NamePlace → List ℕ
@@ -26,10 +26,11 @@ pub record IsPlainName (w : List ℕ) (n : NamePlace) : Type 0 where
   pub within : n.end ≤ length w
   pub units : AreUnitsOf (between w n.first n.end) (name_in w n)
 
--- a plain name with the hash of its last bytes
+-- a plain name with the hash of its last bytes, and which member it is
 pub record IsOtherName (w : List ℕ) (n : OtherName) : Type 0 where
   pub plain : IsPlainName w n.place
   pub hash : n.hash ≡ tail_hash (name_in w n.place)
+  pub field : n.field ≡ field_of (name_in w n.place)
 
 -- the bit that marks a name: the highest bits of its hash
 abbrev pub name_mark : OtherName → ℕ

@@ -29,11 +29,12 @@ const MOST: usize = 248;
 /// So many words of bits mark the names that are known.
 const MARKS: usize = 64;
 
-/// The name of a member for which no kind asks, with the hash of its last bytes.
+/// The name of a member, with the hash of its last bytes, and which member it is.
 #[derive(Clone, Copy)]
 pub struct OtherName {
     pub place: NamePlace,
     pub hash: u64,
+    pub field: Field,
 }
 
 /// The names of an object's members for which no kind asks: the first of those that are known. Those behind them are
@@ -217,6 +218,7 @@ impl OtherNames {
             near: [OtherName {
                 place: nowhere,
                 hash: 0,
+                field: Field::Other,
             }; NEAR],
             far: Vec::new(alloc),
             marks: [0; MARKS],
@@ -361,16 +363,18 @@ impl TableNames {
     }
 }
 
-/// A name with its hash.
+/// A name with its hash and its field.
 #[inline(always)]
 fn other_name(text: &[u8], place: NamePlace) -> OtherName
     requires { IsPlainName text.now place }
     ensures name { IsOtherName text.now result }
     ensures place { result.place ≡ place }
 {
+    let name = name_bytes(text, place);
     OtherName {
         place,
-        hash: hash_of_tail(&text[place.first + 1..place.end - 1]),
+        hash: hash_of_tail(name),
+        field: field_named(name),
     }
 }
 
@@ -491,16 +495,17 @@ fn name_again(text: &[u8], others: &OtherNames, at: usize, first: usize) -> Opti
     ensures next { IfSome result (λ name. IsNextName text.now others.now name.place) }
 {
     let known = others.expected()?;
+    if !is_other(known.field) {
+        return None;
+    }
     let end = behind_again(text, known.place, first)?;
     let Ok(place) = short_name(text, at, first, end) else {
         return None;
     };
-    let field = field_named(name_bytes(text, place));
-    if is_other(field) {
-        Some(FieldName { place, field })
-    } else {
-        None
-    }
+    Some(FieldName {
+        place,
+        field: known.field,
+    })
 }
 
 /// The name of a member, like `field_name`. It is none of the others, and is put to them if no kind asks for the member.
